@@ -1,0 +1,82 @@
+-- The law at the start.
+use Rattle.std.proofs.Common.{◌≡◌, ◌≢◌, ℕ, ◌<◌, ◌≤◌, Bool, true, false, cond, Some, refl, arith, sym, ap, ◌∙◌, List, get_or, inl, inr, zero}
+use Rattle.std.specs.Prelude.{replicate, nat_lt}
+use Rattle.std.proofs.lemmas.Bool.{false≢true, cases_lt}
+use Rattle.std.proofs.lemmas.Bool.Decides.{nat_tests}
+use Rattle.std.proofs.lemmas.List.{get_or-replicate, get_or_past, length-replicate}
+use Rattle.far_word.specs.declared.pointer.PtrWord.TheVariants as pointer
+use Rattle.far_word.specs.declared.pointer.PtrWord.TheVariants.{Near, Far}
+use Rattle.far_word.specs.declared.scope.ScopeWord.TheVariants as scoped
+use Rattle.far_word.specs.declared.sizes.TheConstants.{MOST_LOGS, MOST_MUTATORS}
+use Rattle.far_word.specs.Scope.{epoch_end}
+use Rattle.far_core.specs.declared.event.Kind.TheVariants.{Free, Open}
+use Rattle.far_core.specs.declared.shape.Shape.{Shape}
+use Rattle.far_core.specs.Law.{Law}
+use Rattle.far_core.specs.Opening.{opening}
+use Rattle.far_core.specs.Shape.{is_shape}
+use Rattle.far_core.proofs.Cells.{unused}
+use Rattle.far_core.proofs.KeepOwner.{closed_word}
+use Rattle.far_core.proofs.Put.{put_both}
+
+-- a row of one value has it everywhere
+pub row_of : {X : Type 0} (xs : List X) (n : ℕ) (d : X) → xs ≡ replicate n d → (q : ℕ) → get_or xs q d ≡ d
+row_of xs n d e q = ap (λ ys. get_or ys q d) e ∙ elim (cases_lt q n) [ inl lt ↦ get_or-replicate n q d d lt | inr le ↦ get_or_past (replicate n d) q d (omega (arith, length-replicate n d)) ]
+
+-- what the test of a shape says
+pub record InRange (shape : Shape) : Type 0 where
+  pub two_logs : 2 ≤ shape.logs
+  pub few_logs : shape.logs ≤ MOST_LOGS
+  pub some_mutators : 1 ≤ shape.mutators
+  pub few_mutators : shape.mutators ≤ MOST_MUTATORS
+  pub epoch : shape.epoch < epoch_end
+
+pub in_range : (shape : Shape) → is_shape shape ≡ true → InRange shape
+in_range shape h = record { two_logs = grind (arith, nat_tests); few_logs = grind (arith, nat_tests); some_mutators = grind (arith, nat_tests); few_mutators = grind (arith, nat_tests); epoch = grind (arith, nat_tests) }
+
+pub begins : (shape : Shape) (honest : Bool) → is_shape shape ≡ true → Law (opening shape honest)
+begins shape honest fits = let range = in_range shape fits in record {
+  shape = record { two_logs = range.two_logs; few_logs = range.few_logs; some_mutators = range.some_mutators; few_mutators = range.few_mutators };
+  cells = record {
+    cell_read = λ p. (omega arith, rw unused refl);
+    cell_range = λ p ne. absurd (ne refl);
+    cell_near = λ p len ds place m e. let f : Some pointer.Free ≡ Some (Near len ds place m) = sym unused ∙ e in absurd cc;
+    none_far = λ p len ds m e. let f : Some pointer.Free ≡ Some (Far len ds m) = sym unused ∙ e in cc;
+  };
+  spans = record {
+    word_fits = λ a. omega arith;
+    first_span = λ l h. absurd (omega arith);
+    span = λ a h. absurd (false≢true h);
+    span_header = λ a head h e. absurd (false≢true h);
+    span_padding = λ a h. absurd (false≢true h);
+  };
+  logs = record {
+    tail_end = λ l. omega arith;
+    free_tail = λ l h. refl;
+    log_range = λ l. put_both (λ k. k ≢ Free → l < shape.logs) (λ _. Free) 0 Open l (λ e _. omega (arith, range.two_logs)) (λ _ ne. absurd (ne refl));
+    is_open = refl;
+    one_open = λ l h. put_both (λ k. k ≡ Open → l ≡ 0) (λ _. Free) 0 Open l (λ e _. e) (λ _ is. absurd cc) h;
+  };
+  scopes = record {
+    scope_read = λ m. rw closed_word refl;
+    scope_range = λ m ne. absurd (ne refl);
+    epoch_below = range.epoch;
+    open_bound = λ m e h. let f : Some scoped.Closed ≡ Some (scoped.Open e) = sym closed_word ∙ h in absurd cc;
+    remembered_bound = λ m e h. absurd cc;
+  };
+  views = record {
+    held_open = λ p h. absurd (false≢true h);
+    held_names = λ p place h. absurd cc;
+    held_used = λ p h. absurd (false≢true h);
+    used_cell = λ p h. absurd (false≢true h);
+  };
+  rounds = record { none_chosen = λ l. refl; none_clear = λ m. refl; own_epoch = refl };
+  unadopted = λ _ p _ len ds place m e. let f : Some pointer.Free ≡ Some (Near len ds place m) = sym unused ∙ e in absurd cc;
+}
+
+same : (b : Bool) → cond b zero zero ≡ zero
+same true = refl
+same false = refl
+
+-- a mask of zeros
+pub masked : (j n x : ℕ) → x ≡ 0 → cond (nat_lt j n) x 0 ≡ 0
+masked j n x e = ap (λ y. cond (nat_lt j n) y 0) e ∙ same (nat_lt j n)

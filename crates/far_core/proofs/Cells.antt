@@ -1,0 +1,118 @@
+-- What a cell says, what its marks leave as it is, and what a header says.
+use Rattle.std.proofs.Common.{◌≡◌, ℕ, ◌+◌, ◌<◌, ◌^◌, Bool, true, false, arith, sym, refl, ap, ◌∙◌, Option, Some, None, bit_or}
+use Rattle.std.specs.Prelude.{IsSome}
+use Rattle.std.proofs.lemmas.Bool.{false≢true}
+use Rattle.std.proofs.lemmas.Bool.Decides.{nat_tests}
+use Rattle.far_word.specs.declared.mark.Mark.{Mark}
+use Rattle.far_word.specs.declared.mark.Mark.TheVariants.{Hot}
+use Rattle.far_word.specs.declared.mark.Marks.{Marks}
+use Rattle.far_word.specs.declared.pointer.Place.{Place}
+use Rattle.far_word.specs.declared.pointer.PtrWord.{PtrWord}
+use Rattle.far_word.specs.declared.pointer.PtrWord.TheVariants.{Free, Near, Far}
+use Rattle.far_word.specs.Header.{head_word}
+use Rattle.far_word.specs.Mark.{position}
+use Rattle.far_word.specs.Pointer.{read_of, takes, marked}
+use Rattle.far_word.proofs.PointerLaws.{marked_read, marked_fits}
+use Rattle.far_core.specs.Law.{Heads, NamesBack, held_place, in_use, IsBlank, Blank}
+use Rattle.far_core.specs.State.{addr}
+use Rattle.far_core.specs.Step.{viewable}
+
+pub unused : read_of 0 ≡ Some Free
+unfolding read_of
+unused = refl
+
+-- ---- a cell with one mark more
+abbrev pub with_mark : Mark → Option PtrWord → Option PtrWord
+with_mark k None = None
+with_mark k (Some v) = Some (marked k v)
+
+takes_hot : (v : PtrWord) → in_use (Some v) ≡ true → takes Hot v ≡ true
+takes_hot Free u = absurd (false≢true u)
+takes_hot (Near len ds place m) u = refl
+takes_hot (Far len ds m) u = refl
+
+at_hot : (w : ℕ) (o : Option PtrWord) → w < 2 ^ 64 → read_of w ≡ o → in_use o ≡ true →
+    (read_of (bit_or w (2 ^ position Hot)) ≡ with_mark Hot o) × (bit_or w (2 ^ position Hot) < 2 ^ 64)
+at_hot w None fits e u = absurd (false≢true u)
+at_hot w (Some v) fits e u = (marked_read Hot w v fits e (takes_hot v u), marked_fits Hot w v fits e (takes_hot v u))
+
+pub read_hot : (w : ℕ) → w < 2 ^ 64 → in_use (read_of w) ≡ true →
+    (read_of (bit_or w (2 ^ position Hot)) ≡ with_mark Hot (read_of w)) × (bit_or w (2 ^ position Hot) < 2 ^ 64)
+read_hot w fits u = at_hot w (read_of w) fits refl u
+
+-- ---- what HOT leaves as it is
+pub held_place-hot : (o : Option PtrWord) → held_place (with_mark Hot o) ≡ held_place o
+held_place-hot None = refl
+held_place-hot (Some Free) = refl
+held_place-hot (Some (Near len ds place m)) = refl
+held_place-hot (Some (Far len ds m)) = refl
+
+pub in_use-hot : (o : Option PtrWord) → in_use (with_mark Hot o) ≡ in_use o
+in_use-hot None = refl
+in_use-hot (Some Free) = refl
+in_use-hot (Some (Near len ds place m)) = refl
+in_use-hot (Some (Far len ds m)) = refl
+
+pub IsSome-hot : (o : Option PtrWord) → in_use o ≡ true → IsSome (with_mark Hot o)
+IsSome-hot None h = absurd (false≢true h)
+IsSome-hot (Some v) h = refl
+
+-- two spans of one pointer, length, data structure and place are one
+pub Heads-same : (word : ℕ → ℕ) (starts : ℕ → Bool) (p len ds n d : ℕ) (place other : Place) → len ≡ n → ds ≡ d → place ≡ other →
+    Heads word starts p len ds place → Heads word starts p n d other
+Heads-same word starts p len ds n d place other a b c h = record {
+  placed = ap (λ x. starts (addr x)) (sym c) ∙ h.placed;
+  head = ap (λ x. word (addr x)) (sym c) ∙ h.head ∙ ap (λ x. head_word p x ds) a ∙ ap (λ x. head_word p n x) b;
+}
+
+pub NamesBack-hot : (word : ℕ → ℕ) (starts : ℕ → Bool) (p : ℕ) (o : Option PtrWord) → NamesBack word starts p o → NamesBack word starts p (with_mark Hot o)
+NamesBack-hot word starts p None h n d q k e = absurd cc
+NamesBack-hot word starts p (Some Free) h n d q k e = absurd cc
+NamesBack-hot word starts p (Some (Near len ds place m)) h n d q k e = Heads-same word starts p len ds n d place q (cc) (cc) (cc) (h len ds place m refl)
+NamesBack-hot word starts p (Some (Far len ds m)) h n d q k e = absurd cc
+
+pub no_far-hot : (o : Option PtrWord) → ((len ds : ℕ) (m : Marks) → o ≡ Some (Far len ds m) → ⊥) → (len ds : ℕ) (m : Marks) → with_mark Hot o ≡ Some (Far len ds m) → ⊥
+no_far-hot None h n d k e = cc
+no_far-hot (Some Free) h n d k e = cc
+no_far-hot (Some (Near len ds place m)) h n d k e = cc
+no_far-hot (Some (Far len ds m)) h n d k e = h len ds m refl
+
+Blank-same : (word : ℕ → ℕ) (len n : ℕ) (place other : Place) → len ≡ n → place ≡ other → Blank word len place → Blank word n other
+Blank-same word len n place other a b h i lt = ap (λ x. word (addr x + 1 + i)) (sym b) ∙ h i (omega arith)
+
+pub IsBlank-hot : (word : ℕ → ℕ) (o : Option PtrWord) → IsBlank word o → IsBlank word (with_mark Hot o)
+IsBlank-hot word None h n d q k e kept = absurd cc
+IsBlank-hot word (Some Free) h n d q k e kept = absurd cc
+IsBlank-hot word (Some (Near len ds place m)) h n d q k e kept =
+    let drop : m.dropped ≡ k.dropped = cc in
+    Blank-same word len n place q (cc) (cc) (h len ds place m refl (drop ∙ kept))
+IsBlank-hot word (Some (Far len ds m)) h n d q k e kept = absurd cc
+
+-- ---- what a look-up implies
+pub held_place-viewable : (o : Option PtrWord) (place : Place) → viewable o ≡ Some place → held_place o ≡ Some place
+held_place-viewable None place e = e
+held_place-viewable (Some Free) place e = e
+held_place-viewable (Some (Near len ds at m)) place e = grind (arith, nat_tests)
+held_place-viewable (Some (Far len ds m)) place e = e
+
+pub viewable-used : (o : Option PtrWord) (place : Place) → viewable o ≡ Some place → in_use o ≡ true
+viewable-used None place e = absurd cc
+viewable-used (Some Free) place e = absurd cc
+viewable-used (Some (Near len ds at m)) place e = grind (arith, nat_tests)
+viewable-used (Some (Far len ds m)) place e = absurd cc
+
+-- what is held is near, with neither MOVE nor DROP
+pub record IsHeld (o : Option PtrWord) (place : Place) : Type 0 where
+  pub len : ℕ
+  pub ds : ℕ
+  pub marks : Marks
+  pub near : o ≡ Some (Near len ds place marks)
+  pub unmoved : marks.moved ≡ false
+  pub kept : marks.dropped ≡ false
+
+pub held_near : (o : Option PtrWord) (place : Place) → held_place o ≡ Some place → IsHeld o place
+held_near None place e = absurd cc
+held_near (Some Free) place e = absurd cc
+held_near (Some (Near len ds at m)) place e =
+    record { len = len; ds = ds; marks = m; near = (let same : at ≡ place = grind (arith, nat_tests) in ap (λ x. Some (Near len ds x m)) same); unmoved = grind (arith, nat_tests); kept = grind (arith, nat_tests) }
+held_near (Some (Far len ds m)) place e = absurd cc

@@ -1,0 +1,158 @@
+-- A new place is named, and the law stays.
+use Rattle.std.proofs.Common.{◌≡◌, ◌≢◌, ℕ, ◌+◌, ◌*◌, ◌/◌, ◌%◌, ◌<◌, ◌≤◌, ◌^◌, Bool, true, false, arith, sym, refl, ap, subst, ◌∙◌, Option, Some, inl, inr}
+use Rattle.std.specs.Prelude.{IsSome}
+use Rattle.std.proofs.lemmas.Bool.{false≢true, cases_lt, cases_eq, false_from_ne_true}
+use Rattle.std.proofs.lemmas.Nat.{pow_pos}
+use Rattle.far_word.specs.declared.header.HeadWord.{HeadWord}
+use Rattle.far_word.specs.declared.mark.Marks.{Marks}
+use Rattle.far_word.specs.declared.pointer.Place.{Place}
+use Rattle.far_word.specs.declared.pointer.PtrWord.{PtrWord}
+use Rattle.far_word.specs.declared.pointer.PtrWord.TheVariants.{Near, Far}
+use Rattle.far_word.specs.declared.sizes.TheConstants.{CELLS, LOG_WORDS, LONGEST}
+use Rattle.far_word.specs.Header.{head_of, head_word}
+use Rattle.far_word.specs.Pointer.{read_of}
+use Rattle.far_word.specs.Sizes.{size_of}
+use Rattle.far_core.specs.declared.event.Kind.TheVariants.{Free, Open, Sealed}
+use Rattle.far_core.specs.Law.{Law, Span, Padded, NamesBack, IsBlank, Blank, held_place, in_use, head_len}
+use Rattle.far_core.specs.State.{State, put, addr}
+use Rattle.far_core.specs.Step.{taken}
+use Rattle.far_core.proofs.Cells.{unused, Heads-same}
+use Rattle.far_core.proofs.Put.{put_both, put_same, put_other}
+
+-- ---- the spans with one more at the tail of its log
+module _ (s : State) (law : Law s) (len : ℕ) (place : Place)
+    (some : 0 < len) (most : len ≤ LONGEST) (room : place.at + size_of len ≤ LOG_WORDS) (here : place.at ≡ s.tail place.log) where
+  abbrev tail : ℕ → ℕ
+  tail = put s.tail place.log (place.at + size_of len)
+
+  abbrev starts : ℕ → Bool
+  starts = put s.starts (addr place) true
+
+  in_log : (k : ℕ) → k < size_of len → ((addr place + k) / LOG_WORDS ≡ place.log) × ((addr place + k) % LOG_WORDS ≡ place.at + k)
+  in_log k lt = (omega arith, omega arith)
+
+  -- no span begins at the tail or behind it
+  none_past : (k : ℕ) → k < size_of len → s.starts (addr place + k) ≡ false
+  none_past k lt = false_from_ne_true _ (λ h.
+      let span = law.spans.span (addr place + k) h in
+      let q = in_log k lt in
+      let fits : (addr place + k) % LOG_WORDS + size_of (head_len (s.word (addr place + k))) ≤ s.tail place.log =
+      subst (λ l. (addr place + k) % LOG_WORDS + size_of (head_len (s.word (addr place + k))) ≤ s.tail l) q.0 span.fits in
+      omega arith)
+
+  pub new_span : Span tail starts (addr place) len
+  new_span =
+      let l : addr place / LOG_WORDS ≡ place.log = omega arith in
+      record {
+        some = some;
+        most = most;
+        fits = rw (put_same s.tail place.log (place.at + size_of len) (addr place / LOG_WORDS) l) (omega arith);
+        alone = λ k low high. put_other s.starts (addr place) true (addr place + k) (λ e. omega arith) ∙ none_past k high;
+        next = λ more. absurd (omega (arith, put_same s.tail place.log (place.at + size_of len) (addr place / LOG_WORDS) l));
+      }
+
+  -- an old span ends before the new one
+  below_new : (a n k : ℕ) → Span s.tail s.starts a n → k < size_of n → a + k ≢ addr place
+  below_new a n k span lt e =
+      let l : a / LOG_WORDS ≡ place.log = omega (arith, span.fits, law.logs.tail_end (a / LOG_WORDS)) in
+      let fits : a % LOG_WORDS + size_of n ≤ s.tail place.log = subst (λ l. a % LOG_WORDS + size_of n ≤ s.tail l) l span.fits in
+      omega arith
+
+  next_after : (a n : ℕ) → a % LOG_WORDS + size_of n ≤ s.tail (a / LOG_WORDS) → (a % LOG_WORDS + size_of n < s.tail (a / LOG_WORDS) → s.starts (a + size_of n) ≡ true) →
+      a % LOG_WORDS + size_of n < tail (a / LOG_WORDS) → starts (a + size_of n) ≡ true
+  next_after a n fits next more = put_both (λ b. b ≡ true) s.starts (addr place) true (a + size_of n) (λ _. refl) (λ other. next
+      (put_both (λ t. a % LOG_WORDS + size_of n < t → a % LOG_WORDS + size_of n < s.tail (a / LOG_WORDS)) s.tail place.log _ (a / LOG_WORDS)
+      (λ e lt. let old : s.tail (a / LOG_WORDS) ≡ s.tail place.log = ap s.tail e in let apart : a + size_of n ≢ addr place = other in omega arith)
+      (λ _ lt. lt) more))
+
+  pub old_span : (a n : ℕ) → Span s.tail s.starts a n → Span tail starts a n
+  old_span a n span = record {
+    some = span.some;
+    most = span.most;
+    fits = put_both (λ t. a % LOG_WORDS + size_of n ≤ t) s.tail place.log _ (a / LOG_WORDS)
+        (λ e. let old : s.tail (a / LOG_WORDS) ≡ s.tail place.log = ap s.tail e in omega (arith, span.fits)) (λ _. span.fits);
+    alone = λ k low high. put_other s.starts (addr place) true (a + k) (below_new a n k span high) ∙ span.alone k low high;
+    next = next_after a n span.fits span.next;
+  }
+
+-- with more spans begun, each pointer is named back as it was
+NamesBack-more : (word : ℕ → ℕ) (old new : ℕ → Bool) → ((a : ℕ) → old a ≡ true → new a ≡ true) → (p : ℕ) (o : Option PtrWord) → NamesBack word old p o → NamesBack word new p o
+NamesBack-more word old new more p o h = λ len ds place m e. record { placed = more _ (h len ds place m e).placed; head = (h len ds place m e).head }
+
+-- a header that is written stands for its pointer
+abbrev pub header : ℕ → ℕ → ℕ → HeadWord
+header p len ds = record { pointer = p; len = len; ds = ds }
+
+module _ (s : State) (law : Law s) (p len ds : ℕ) (place : Place) (m : Marks) (new : ℕ)
+    (says : read_of new ≡ Some (Near len ds place m)) (fits : new < 2 ^ 64) (cell : p < CELLS * s.mutators) (empty : s.cell p ≡ 0) (kept : m.dropped ≡ false)
+    (some : 0 < len) (most : len ≤ LONGEST) (room : place.at + size_of len ≤ LOG_WORDS) (log : place.log < s.logs)
+    (here : place.at ≡ s.tail place.log) (named : s.word (addr place) ≡ head_word p len ds) (head : head_of (s.word (addr place)) ≡ Some (header p len ds))
+    (clear : Blank s.word len place) where
+  size : head_len (s.word (addr place)) ≡ len
+  size = rw head refl
+
+  not_used : (q : ℕ) → s.used q ≡ true → q ≢ p
+  not_used q h e = false≢true (sym (ap in_use (ap (λ r. read_of (s.cell r)) e ∙ ap read_of empty ∙ unused)) ∙ law.views.used_cell q h)
+
+  more : (a : ℕ) → s.starts a ≡ true → put s.starts (addr place) true a ≡ true
+  more a h = put_both (λ b. b ≡ true) s.starts (addr place) true a (λ _. refl) (λ _. h)
+
+  pub keeps_place : Law (taken s p new len place)
+  keeps_place = record {
+    shape = law.shape;
+    cells = record {
+      cell_read = λ q. put_both (λ w. (w < 2 ^ 64) × IsSome (read_of w)) s.cell p new q (λ _. (fits, rw says refl)) (λ _. law.cells.cell_read q);
+      cell_range = λ q. put_both (λ w. w ≢ 0 → q < CELLS * s.mutators) s.cell p new q (λ e _. rw e cell) (λ _. law.cells.cell_range q);
+      cell_near = λ q. put_both (λ w. NamesBack s.word (put s.starts (addr place) true) q (read_of w)) s.cell p new q
+          (λ e n d at k is. let is2 : Some (Near len ds place m) ≡ Some (Near n d at k) = sym says ∙ is in
+          Heads-same s.word (put s.starts (addr place) true) q len ds n d place at (cc) (cc) (cc) (record { placed = put_same s.starts (addr place) true (addr place) refl; head = rw e named }))
+          (λ _. NamesBack-more s.word s.starts _ more q _ (law.cells.cell_near q));
+      none_far = λ q n d k. put_both (λ w. read_of w ≡ Some (Far n d k) → ⊥) s.cell p new q
+          (λ _ is. let odd : Some (Near len ds place m) ≡ Some (Far n d k) = sym says ∙ is in cc) (λ _. law.cells.none_far q n d k);
+    };
+    spans = record {
+      word_fits = law.spans.word_fits;
+      first_span = λ l some. elim (cases_eq l place.log) [
+        | inl e ↦ elim (cases_lt 0 (s.tail l)) [
+          | inl old ↦ more (l * LOG_WORDS) (law.spans.first_span l old)
+          | inr none ↦ put_same s.starts (addr place) true (l * LOG_WORDS) (let old : s.tail l ≡ s.tail place.log = ap s.tail e in omega arith)
+        ]
+        | inr ne ↦ more (l * LOG_WORDS) (law.spans.first_span l (rw (put_other s.tail place.log (place.at + size_of len) l ne) at some))
+      ];
+      span = λ a. put_both (λ b. b ≡ true → Span (put s.tail place.log (place.at + size_of len)) (put s.starts (addr place) true) a (head_len (s.word a))) s.starts (addr place) true a
+          (λ e _. rw (e, size) (new_span s law len place some most room here))
+          (λ _ h. old_span s law len place some most room here a _ (law.spans.span a h));
+      span_header = λ a h. put_both (λ b. b ≡ true → head_of (s.word a) ≡ Some h → h.pointer < CELLS * s.mutators) s.starts (addr place) true a
+          (λ e _ is. let is2 : Some (header p len ds) ≡ Some h = sym head ∙ ap (λ x. head_of (s.word x)) (sym e) ∙ is in let same : header p len ds ≡ h = cc in subst (λ (x : HeadWord). x.pointer < CELLS * s.mutators) same cell)
+          (λ _. law.spans.span_header a h);
+      span_padding = λ a. put_both (λ b. b ≡ true → Padded s.word a (head_len (s.word a))) s.starts (addr place) true a
+          (λ e _ i lt. let n : head_len (s.word a) ≡ len = ap (λ x. head_len (s.word x)) e ∙ size in
+          let z : s.word (a + 1 + i) ≡ 0 = (let at : a + 1 + i ≡ addr place + 1 + i = omega arith in ap s.word at ∙ clear i (omega (arith, n))) in rw z (pow_pos _))
+          (λ _. law.spans.span_padding a);
+    };
+    logs = record {
+      tail_end = λ l. put_both (λ t. t ≤ LOG_WORDS) s.tail place.log _ l (λ _. room) (λ _. law.logs.tail_end l);
+      free_tail = λ l. put_both (λ k. k ≡ Free → put s.tail place.log (place.at + size_of len) l ≡ 0) (put s.kind s.current Sealed) place.log Open l (λ _ is. absurd cc)
+          (λ ne. put_both (λ k. k ≡ Free → put s.tail place.log (place.at + size_of len) l ≡ 0) s.kind s.current Sealed l (λ _ is. absurd cc) (λ _ is. put_other s.tail place.log _ l ne ∙ law.logs.free_tail l is));
+      log_range = λ l. put_both (λ k. k ≢ Free → l < s.logs) (put s.kind s.current Sealed) place.log Open l (λ e _. rw e log)
+          (λ _. put_both (λ k. k ≢ Free → l < s.logs) s.kind s.current Sealed l
+          (λ e _. rw e (law.logs.log_range s.current (λ f. let odd : Open ≡ Free = sym law.logs.is_open ∙ f in cc))) (λ _. law.logs.log_range l));
+      is_open = put_same (put s.kind s.current Sealed) place.log Open place.log refl;
+      one_open = λ l. put_both (λ k. k ≡ Open → l ≡ place.log) (put s.kind s.current Sealed) place.log Open l (λ e _. e)
+          (λ _. put_both (λ k. k ≡ Open → l ≡ place.log) s.kind s.current Sealed l (λ _ is. absurd cc) (λ ne is. absurd (ne (law.logs.one_open l is))));
+    };
+    scopes = law.scopes;
+    views = record {
+      held_open = law.views.held_open;
+      held_names = λ q at h. put_both (λ w. held_place (read_of w) ≡ Some at) s.cell p new q
+          (λ e. absurd (not_used q (law.views.held_used q (rw h refl)) e)) (λ _. law.views.held_names q at h);
+      held_used = law.views.held_used;
+      used_cell = λ q h. put_both (λ w. in_use (read_of w) ≡ true) s.cell p new q (λ e. absurd (not_used q h e)) (λ _. law.views.used_cell q h);
+    };
+    rounds = law.rounds;
+    unadopted = λ honest q free. put_both (λ w. IsBlank s.word (read_of w)) s.cell p new q
+        (λ _ n d at k is _ i lt. let is2 : Some (Near len ds place m) ≡ Some (Near n d at k) = sym says ∙ is in
+        let there : place ≡ at = cc in let long : len ≡ n = cc in
+        ap (λ x. s.word (addr x + 1 + i)) (sym there) ∙ clear i (omega arith))
+        (λ _. law.unadopted honest q free);
+  }

@@ -1,0 +1,83 @@
+-- A word that is no header changes, and the law stays.
+use Rattle.std.proofs.Common.{◌≡◌, ◌≢◌, ℕ, ◌+◌, ◌-◌, ◌*◌, ◌<◌, ◌≤◌, ◌^◌, Bool, true, arith, sym, ap, subst, ◌∙◌, Option}
+use Rattle.far_word.specs.declared.pointer.PtrWord.{PtrWord}
+use Rattle.far_word.specs.declared.sizes.TheConstants.{LOG_WORDS}
+use Rattle.far_word.specs.Header.{head_of}
+use Rattle.far_word.specs.Sizes.{size_of, words_for}
+use Rattle.far_core.specs.Law.{Law, Span, Padded, NamesBack, BlankLaw, head_len}
+use Rattle.far_core.specs.State.{State, put}
+use Rattle.far_core.proofs.Put.{put_both, put_other}
+use Rattle.far_core.proofs.SpanFrames.{spans_apart, past_tail}
+
+module _ (word : ℕ → ℕ) (starts : ℕ → Bool) (new : ℕ → ℕ) (same : (a : ℕ) → starts a ≡ true → new a ≡ word a) where
+  -- where no header changes, each pointer is named back as it was
+  pub NamesBack-same_heads : (p : ℕ) (o : Option PtrWord) → NamesBack word starts p o → NamesBack new starts p o
+  NamesBack-same_heads p o h = λ len ds place m e. record { placed = (h len ds place m e).placed; head = same _ (h len ds place m e).placed ∙ (h len ds place m e).head }
+
+module _ (s : State) (law : Law s) (new : ℕ → ℕ)
+    (fits : (a : ℕ) → new a < 2 ^ 64)
+    (heads : (a : ℕ) → s.starts a ≡ true → new a ≡ s.word a)
+    (pads : (a : ℕ) → s.starts a ≡ true → Padded new a (head_len (s.word a)))
+    (blanks : BlankLaw s.honest s.cell new s.used) where
+  pub keeps_words : Law record s { word = new }
+  keeps_words = record {
+    shape = law.shape;
+    cells = record {
+      cell_read = law.cells.cell_read;
+      cell_range = law.cells.cell_range;
+      cell_near = λ p. NamesBack-same_heads s.word s.starts new heads p _ (law.cells.cell_near p);
+      none_far = law.cells.none_far;
+    };
+    spans = record {
+      word_fits = fits;
+      first_span = law.spans.first_span;
+      span = λ a h. subst (Span s.tail s.starts a) (ap head_len (sym (heads a h))) (law.spans.span a h);
+      span_header = λ a h st e. law.spans.span_header a h st (ap head_of (sym (heads a st)) ∙ e);
+      span_padding = λ a h. subst (Padded new a) (ap head_len (sym (heads a h))) (pads a h);
+    };
+    logs = law.logs;
+    scopes = law.scopes;
+    views = law.views;
+    rounds = law.rounds;
+    unadopted = blanks;
+  }
+
+-- ---- a data word of a span
+module _ (s : State) (law : Law s) (a : ℕ) (placed : s.starts a ≡ true) (i : ℕ) (inside : i < words_for (head_len (s.word a)))
+    (w : ℕ) (wide : w < 2 ^ 64) (pad : w < 2 ^ (8 * (head_len (s.word a) - 8 * i))) where
+  abbrev stored : ℕ → ℕ
+  stored = put s.word (a + 1 + i) w
+
+  pub head_stays : (b : ℕ) → s.starts b ≡ true → stored b ≡ s.word b
+  head_stays b h = put_other s.word (a + 1 + i) w b (λ e.
+      let same : a ≡ b = spans_apart s law a b (1 + i) 0 placed h (omega arith) (omega arith) (omega arith) in omega arith)
+
+  -- a data word of another span stays
+  pub data_stays : (b : ℕ) → s.starts b ≡ true → b ≢ a → (j : ℕ) → j < words_for (head_len (s.word b)) → stored (b + 1 + j) ≡ s.word (b + 1 + j)
+  data_stays b h other j lt = put_other s.word (a + 1 + i) w (b + 1 + j) (λ e.
+      other (spans_apart s law b a (1 + j) (1 + i) h placed (omega arith) (omega arith) (omega arith)))
+
+  padded_at : (b : ℕ) → s.starts b ≡ true → Padded stored b (head_len (s.word b))
+  padded_at b h j lt = put_both (λ x. x < 2 ^ (8 * (head_len (s.word b) - 8 * j))) s.word (a + 1 + i) w (b + 1 + j)
+      (λ e. let same : b ≡ a = spans_apart s law b a (1 + j) (1 + i) h placed (omega arith) (omega arith) (omega arith) in
+      let at : j ≡ i = omega arith in rw (same, at) pad)
+      (λ _. law.spans.span_padding b h j lt)
+
+  pub keeps_store : BlankLaw s.honest s.cell stored s.used → Law record s { word = stored }
+  keeps_store blanks = keeps_words s law stored
+      (λ b. put_both (λ x. x < 2 ^ 64) s.word (a + 1 + i) w b (λ _. wide) (λ _. law.spans.word_fits b)) head_stays padded_at blanks
+
+-- ---- a word past a tail
+module _ (s : State) (law : Law s) (l at w : ℕ) (past : s.tail l ≤ at) (inside : at < LOG_WORDS) (wide : w < 2 ^ 64) where
+  abbrev written : ℕ → ℕ
+  written = put s.word (l * LOG_WORDS + at) w
+
+  -- every word of a span stays
+  pub span_stays : (b j : ℕ) → s.starts b ≡ true → j < size_of (head_len (s.word b)) → written (b + j) ≡ s.word (b + j)
+  span_stays b j h lt = put_other s.word (l * LOG_WORDS + at) w (b + j) (past_tail s law l at b j past inside h lt)
+
+  pub head_kept : (b : ℕ) → s.starts b ≡ true → written b ≡ s.word b
+  head_kept b h = put_other s.word (l * LOG_WORDS + at) w b (λ e. past_tail s law l at b 0 past inside h (omega arith) (omega arith))
+
+  pub data_kept : (b j : ℕ) → s.starts b ≡ true → j < words_for (head_len (s.word b)) → written (b + 1 + j) ≡ s.word (b + 1 + j)
+  data_kept b j h lt = put_other s.word (l * LOG_WORDS + at) w (b + 1 + j) (λ e. past_tail s law l at b (1 + j) past inside h (omega arith) (omega arith))

@@ -1,0 +1,15 @@
+pub mod Begins
+pub mod Bounds
+pub mod Cells
+pub mod KeepOwner
+pub mod KeepPlace
+pub mod KeepWords
+pub mod Keeps
+pub mod LegalTest
+pub mod Observations
+pub mod Put
+pub mod SpanFrames
+pub mod Steps
+pub mod WorldFacts
+pub mod Worlds
+pub mod Zeros

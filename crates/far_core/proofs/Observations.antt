@@ -1,0 +1,311 @@
+-- The spans of a log, as a list: they fill it, each object has one, and each word is of one.
+use Rattle.std.proofs.Common.{◌≡◌, ℕ, ◌+◌, ◌-◌, ◌*◌, ◌/◌, ◌%◌, ◌^◌, ◌<◌, ◌≤◌, Bool, true, false, cond, arith, zero, suc, sym, refl, ap, subst, ◌∙◌, Option, Some, None, List, [], ◌∷◌, inl, inr, length}
+use Rattle.std.specs.Prelude.{nat_lt, not, ◌⊎◌, All, Contains, slice_index_or}
+use Rattle.std.proofs.lemmas.Bool.{cond_both, cases_lt, ltb-true, ltb-false, eq-eqb, false≢true}
+use Rattle.std.proofs.lemmas.Bool.Decides.{nat_tests}
+use Rattle.far_word.specs.declared.header.HeadWord.{HeadWord}
+use Rattle.far_word.specs.declared.mark.Marks.{Marks}
+use Rattle.far_word.specs.declared.pointer.Place.{Place}
+use Rattle.far_word.specs.declared.pointer.PtrWord.{PtrWord}
+use Rattle.far_word.specs.declared.pointer.PtrWord.TheVariants.{Free, Near, Far}
+use Rattle.far_word.specs.declared.sizes.TheConstants.{CELLS, LOG_WORDS}
+use Rattle.far_word.specs.Header.{head_of, head_word}
+use Rattle.far_word.specs.Pointer.{read_of}
+use Rattle.far_word.specs.Sizes.{size_of, bytes_taken}
+use Rattle.far_word.proofs.HeaderLaws.{head_says}
+use Rattle.far_word.proofs.PointerLaws.{read_says}
+use Rattle.far_core.specs.declared.event.Kind.TheVariants as kinds
+use Rattle.far_core.specs.Law.{Law, head_len, len_in, in_use}
+use Rattle.far_core.specs.Observed.{Tile, Stands, Fills, live_bytes, dead_bytes, unused_bytes, span_for, OneLive, HasOneLive, NamesOnce, IsWordOf, HasOneSpan, HasNoSpan, LogsStand, NearHasOneLive, PlacedExactly}
+use Rattle.far_core.specs.Spans.{Placed, span_at, spans_from, spans_of, is_live, names_place, taken_by, pointer_in, ds_in}
+use Rattle.far_core.specs.State.{State, addr}
+use Rattle.far_core.proofs.Bounds.{span_len}
+use Rattle.far_core.proofs.KeepPlace.{header}
+use Rattle.far_core.proofs.Keeps.{one_name}
+use Rattle.far_core.proofs.SpanFrames.{spans_apart}
+
+-- ---- membership by the head and the rest
+pub here : {X : Type 0} (x : X) (xs : List X) → Contains (x ∷ xs) x
+here x xs = (0, omega arith, refl)
+
+pub there : {X : Type 0} (x y : X) (xs : List X) → Contains xs x → Contains (y ∷ xs) x
+there x y xs (k, lt, e) = (suc k, omega arith, e)
+
+pub split : {X : Type 0} (x y : X) (xs : List X) → Contains (y ∷ xs) x → (y ≡ x) ⊎ Contains xs x
+split x y xs (zero, lt, e) = inl e
+split x y xs (suc k, lt, e) = inr (k, omega arith, e)
+
+pub none_in : {X : Type 0} (x : X) → Contains [] x → ⊥
+none_in x (k, lt, e) = omega arith
+
+pub All-from : {X : Type 0} (P : X → Type 0) (xs : List X) → ((x : X) → Contains xs x → P x) → All P xs
+All-from P xs h k d lt = h (slice_index_or xs k d) (k, lt, index_same xs k d lt) where
+  index_same : {Y : Type 0} (ys : List Y) (j : ℕ) (e : Y) → j < length ys → slice_index_or ys j (slice_index_or ys j e) ≡ slice_index_or ys j e
+  index_same [] j e lt = absurd (omega arith)
+  index_same (y ∷ ys) zero e lt = refl
+  index_same (y ∷ ys) (suc j) e lt = index_same ys j e (omega arith)
+
+-- ---- from one header to the next
+module _ (s : State) (law : Law s) (l : ℕ) where
+  abbrev word : ℕ → ℕ
+  word i = s.word (l * LOG_WORDS + i)
+
+  -- at is the tail or a span's header
+  abbrev pub IsEdge : ℕ → Type 0
+  IsEdge at = (at ≡ s.tail l) ⊎ (s.starts (l * LOG_WORDS + at) ≡ true)
+
+  in_log : (at : ℕ) → at < s.tail l → ((l * LOG_WORDS + at) / LOG_WORDS ≡ l) × ((l * LOG_WORDS + at) % LOG_WORDS ≡ at)
+  in_log at lt = (omega (arith, law.logs.tail_end l), omega (arith, law.logs.tail_end l))
+
+  span_fits : (at : ℕ) → at < s.tail l → s.starts (l * LOG_WORDS + at) ≡ true → at + size_of (head_len (word at)) ≤ s.tail l
+  span_fits at lt start =
+      let q = in_log at lt in
+      let same : s.tail ((l * LOG_WORDS + at) / LOG_WORDS) ≡ s.tail l = ap s.tail q.0 in
+      omega (arith, (law.spans.span (l * LOG_WORDS + at) start).fits, q.1)
+
+  next_edge : (at : ℕ) → at < s.tail l → s.starts (l * LOG_WORDS + at) ≡ true → IsEdge (at + size_of (head_len (word at)))
+  next_edge at lt start =
+      let q = in_log at lt in
+      let same : s.tail ((l * LOG_WORDS + at) / LOG_WORDS) ≡ s.tail l = ap s.tail q.0 in
+      let fits : at + size_of (head_len (word at)) ≤ s.tail l = span_fits at lt start in
+      elim (cases_lt (at + size_of (head_len (word at))) (s.tail l)) [
+        | inl inside ↦ inr (let e : l * LOG_WORDS + at + size_of (head_len (word at)) ≡ l * LOG_WORDS + (at + size_of (head_len (word at))) = omega arith in
+            sym (ap s.starts e) ∙ (law.spans.span (l * LOG_WORDS + at) start).next (omega (arith, q.1)))
+        | inr end ↦ inl (omega arith)
+      ]
+
+  at_edge : (at : ℕ) → IsEdge at → at < s.tail l → s.starts (l * LOG_WORDS + at) ≡ true
+  at_edge at (inl e) lt = absurd (omega arith)
+  at_edge at (inr start) lt = start
+
+  first_edge : IsEdge 0
+  first_edge = elim (cases_lt 0 (s.tail l)) [
+    | inl some ↦ inr (let e : l * LOG_WORDS + 0 ≡ l * LOG_WORDS = omega arith in ap s.starts e ∙ law.spans.first_span l some)
+    | inr none ↦ inl (omega arith)
+  ]
+
+  -- ---- the walk fills what is left of the log
+  tile_from : (fuel at : ℕ) → IsEdge at → at ≤ s.tail l → s.tail l ≤ at + fuel → Tile at (spans_from word (s.tail l) at fuel) (s.tail l)
+  tile_from zero at edge low high = omega arith
+  tile_from (suc fuel) at edge low high = cond_both (nat_lt at (s.tail l)) _ _ (λ xs. Tile at xs (s.tail l))
+      (λ t. let lt : at < s.tail l = ltb-true at (s.tail l) t in
+      let start : s.starts (l * LOG_WORDS + at) ≡ true = at_edge at edge lt in
+      (refl, tile_from fuel (at + size_of (head_len (word at))) (next_edge at lt start) (span_fits at lt start) (omega arith)))
+      (λ f. let le : s.tail l ≤ at = ltb-false at (s.tail l) f in omega arith)
+
+  total_from : (live : Placed → Bool) (fuel at : ℕ) → IsEdge at → at ≤ s.tail l → s.tail l ≤ at + fuel →
+      taken_by live (spans_from word (s.tail l) at fuel) + taken_by (λ x. not (live x)) (spans_from word (s.tail l) at fuel) + 8 * at ≡ 8 * s.tail l
+  total_from live zero at edge low high = omega arith
+  total_from live (suc fuel) at edge low high = cond_both (nat_lt at (s.tail l)) _ _ (λ xs. taken_by live xs + taken_by (λ x. not (live x)) xs + 8 * at ≡ 8 * s.tail l)
+      (λ t. let lt : at < s.tail l = ltb-true at (s.tail l) t in
+      let start : s.starts (l * LOG_WORDS + at) ≡ true = at_edge at edge lt in
+      let rest = total_from live fuel (at + size_of (head_len (word at))) (next_edge at lt start) (span_fits at lt start) (omega arith) in
+      let both : cond (live (span_at word at)) (bytes_taken (head_len (word at))) 0 + cond (not (live (span_at word at))) (bytes_taken (head_len (word at))) 0 ≡ bytes_taken (head_len (word at)) = either (live (span_at word at)) (bytes_taken (head_len (word at))) in
+      omega (arith, rest, both))
+      (λ f. let le : s.tail l ≤ at = ltb-false at (s.tail l) f in omega arith) where
+        either : (b : Bool) (n : ℕ) → cond b n 0 + cond (not b) n 0 ≡ n
+        either true n = omega arith
+        either false n = omega arith
+
+  -- ---- who is in the list
+  -- a span in the list starts where a header stands, and is what the header says
+  abbrev FoundFrom : ℕ → Placed → Type 0
+  FoundFrom at x = (at ≤ x.at) × (x.at < s.tail l) × (s.starts (l * LOG_WORDS + x.at) ≡ true) × (x ≡ span_at word x.at)
+
+  found_first : (at : ℕ) (x : Placed) → at < s.tail l → s.starts (l * LOG_WORDS + at) ≡ true → span_at word at ≡ x → FoundFrom at x
+  found_first at x lt start e = let same : at ≡ x.at = ap (λ (y : Placed). y.at) e in (omega arith, omega arith, rw (← same) start, sym e ∙ ap (span_at word) same)
+
+  found_later : (at next : ℕ) (x : Placed) → at ≤ next → FoundFrom next x → FoundFrom at x
+  found_later at next x le r = (omega (arith, r.0), r.1, r.2, r.3)
+
+  found_from : (fuel at : ℕ) (x : Placed) → IsEdge at → at ≤ s.tail l → s.tail l ≤ at + fuel → Contains (spans_from word (s.tail l) at fuel) x → FoundFrom at x
+  found_from zero at x edge low high h = absurd (none_in x h)
+  found_from (suc fuel) at x edge low high h = cond_both (nat_lt at (s.tail l)) (span_at word at ∷ spans_from word (s.tail l) (at + size_of (head_len (word at))) fuel) [] (λ (xs : List Placed). Contains xs x → FoundFrom at x)
+      (λ t some. let lt : at < s.tail l = ltb-true at (s.tail l) t in
+      let start : s.starts (l * LOG_WORDS + at) ≡ true = at_edge at edge lt in
+      elim (split x (span_at word at) (spans_from word (s.tail l) (at + size_of (head_len (word at))) fuel) some) [
+        | inl e ↦ found_first at x lt start e
+        | inr more ↦ found_later at (at + size_of (head_len (word at))) x (omega arith) (found_from fuel (at + size_of (head_len (word at))) x (next_edge at lt start) (span_fits at lt start) (omega arith) more)
+      ])
+      (λ f none. absurd (none_in x none)) h
+
+  -- where a header stands, its span is in the list
+  listed_from : (fuel at k : ℕ) → IsEdge at → at ≤ s.tail l → s.tail l ≤ at + fuel → at ≤ k → k < s.tail l → s.starts (l * LOG_WORDS + k) ≡ true → Contains (spans_from word (s.tail l) at fuel) (span_at word k)
+  listed_from zero at k edge low high from to start = absurd (omega arith)
+  listed_from (suc fuel) at k edge low high from to start = cond_both (nat_lt at (s.tail l)) _ _ (λ xs. Contains xs (span_at word k))
+      (λ t. let lt : at < s.tail l = ltb-true at (s.tail l) t in
+      let first : s.starts (l * LOG_WORDS + at) ≡ true = at_edge at edge lt in
+      elim (cases_lt at k) [
+        | inl below ↦ there (span_at word k) (span_at word at) _ (listed_from fuel (at + size_of (head_len (word at))) k (next_edge at lt first) (span_fits at lt first) (omega arith) (past at k lt first below start) to start)
+        | inr above ↦ (let same : at ≡ k = omega arith in subst (λ j. Contains (span_at word at ∷ spans_from word (s.tail l) (at + size_of (head_len (word at))) fuel) (span_at word j)) same (here (span_at word at) _))
+      ])
+      (λ f. let le : s.tail l ≤ at = ltb-false at (s.tail l) f in absurd (omega arith)) where
+        past : (i j : ℕ) → i < s.tail l → s.starts (l * LOG_WORDS + i) ≡ true → i < j → s.starts (l * LOG_WORDS + j) ≡ true → i + size_of (head_len (word i)) ≤ j
+        past i j lt first below second = elim (cases_lt j (i + size_of (head_len (word i)))) [
+          | inl inside ↦ (let e : l * LOG_WORDS + i + (j - i) ≡ l * LOG_WORDS + j = omega arith in
+              absurd (false≢true (sym ((law.spans.span (l * LOG_WORDS + i) first).alone (j - i) (omega arith) (omega arith)) ∙ ap s.starts e ∙ second)))
+          | inr le ↦ le
+        ]
+
+  pub found : (x : Placed) → Contains (spans_of s l) x → (x.at < s.tail l) × (s.starts (l * LOG_WORDS + x.at) ≡ true) × (x ≡ span_at word x.at)
+  unfolding spans_of
+  found x h = let r = found_from LOG_WORDS 0 x first_edge (omega arith) (law.logs.tail_end l) h in (r.1, r.2, r.3)
+
+  pub listed : (k : ℕ) → k < s.tail l → s.starts (l * LOG_WORDS + k) ≡ true → Contains (spans_of s l) (span_at word k)
+  unfolding spans_of
+  listed k lt start = listed_from LOG_WORDS 0 k first_edge (omega arith) (law.logs.tail_end l) (omega arith) lt start
+
+  -- ---- the spans fill the log
+  stands : (x : Placed) → Contains (spans_of s l) x → Stands s l x
+  stands x h =
+      let r = found x h in
+      let span = law.spans.span (l * LOG_WORDS + x.at) r.1 in
+      let head = some_head (s.word (l * LOG_WORDS + x.at)) span.some in
+      let says = head_says (s.word (l * LOG_WORDS + x.at)) head.0 (law.spans.word_fits _) head.1 in
+      let p : x.pointer ≡ head.0.pointer = ap (λ (y : Placed). y.pointer) r.2 ∙ ap pointer_in head.1 in
+      let n : x.len ≡ head.0.len = ap (λ (y : Placed). y.len) r.2 ∙ ap len_in head.1 in
+      let d : x.ds ≡ head.0.ds = ap (λ (y : Placed). y.ds) r.2 ∙ ap ds_in head.1 in
+      let size : head_len (s.word (l * LOG_WORDS + x.at)) ≡ x.len = ap len_in head.1 ∙ sym n in
+      record {
+        header = sym says.1 ∙ (λ i. head_word (sym p i) (sym n i) (sym d i));
+        pointer = subst (λ q. q < CELLS * s.mutators) (sym p) (law.spans.span_header (l * LOG_WORDS + x.at) head.0 r.1 head.1);
+        some = omega (arith, says.0.some);
+        most = omega (arith, says.0.most);
+        structure = omega (arith, says.0.structure);
+        padding = λ i lt. subst (λ k. s.word (l * LOG_WORDS + x.at + 1 + i) < 2 ^ (8 * (k - 8 * i))) size (law.spans.span_padding (l * LOG_WORDS + x.at) r.1 i (omega (arith, size)));
+      } where
+        some_head : (w : ℕ) → 0 < head_len w → (h : HeadWord) × (head_of w ≡ Some h)
+        some_head w some = at_head (head_of w) some refl where
+          at_head : (o : Option HeadWord) → 0 < len_in o → head_of w ≡ o → (h : HeadWord) × (head_of w ≡ Some h)
+          at_head None some e = absurd (omega arith)
+          at_head (Some h) some e = (h, e)
+
+  pub fills : Fills s l
+  unfolding spans_of
+  fills = record {
+    tile = tile_from LOG_WORDS 0 first_edge (omega arith) (law.logs.tail_end l);
+    stand = All-from (Stands s l) (spans_of s l) stands;
+    tail_end = law.logs.tail_end l;
+  }
+
+  pub bytes_make_log : live_bytes s l + dead_bytes s l + unused_bytes s l ≡ 8 * LOG_WORDS
+  unfolding spans_of
+  bytes_make_log = omega (arith, total_from (is_live s l) LOG_WORDS 0 first_edge (omega arith) (law.logs.tail_end l), law.logs.tail_end l)
+
+-- ---- one span for each object
+Placed-ext : (a b : Placed) → a.at ≡ b.at → a.pointer ≡ b.pointer → a.len ≡ b.len → a.ds ≡ b.ds → a ≡ b
+Placed-ext a b h k m n = λ i. record { at = h i; pointer = k i; len = m i; ds = n i }
+
+-- two spans of one log that have a word in common are one
+pub one_span : (s : State) (law : Law s) (l i : ℕ) (x y : Placed) → Contains (spans_of s l) x → Contains (spans_of s l) y → IsWordOf i x → IsWordOf i y → x ≡ y
+one_span s law l i x y hx hy wx wy =
+    let a = found s law l x hx in
+    let b = found s law l y hy in
+    let n : x.len ≡ head_len (s.word (l * LOG_WORDS + x.at)) = ap (λ (z : Placed). z.len) a.2 in
+    let m : y.len ≡ head_len (s.word (l * LOG_WORDS + y.at)) = ap (λ (z : Placed). z.len) b.2 in
+    let same : l * LOG_WORDS + x.at ≡ l * LOG_WORDS + y.at = spans_apart s law (l * LOG_WORDS + x.at) (l * LOG_WORDS + y.at) (i - x.at) (i - y.at) a.1 b.1 (omega arith) (omega arith) (omega arith) in
+    let at : x.at ≡ y.at = omega arith in
+    a.2 ∙ ap (span_at (λ j. s.word (l * LOG_WORDS + j))) at ∙ sym b.2
+
+-- what a live span says: its pointer's cell names it
+live_names : (o : Option PtrWord) (l at : ℕ) → names_place o l at ≡ true → (len ds : ℕ) × (place : Place) × (m : Marks) × (o ≡ Some (Near len ds place m)) × (place.log ≡ l) × (place.at ≡ at)
+live_names None l at h = absurd (false≢true h)
+live_names (Some Free) l at h = absurd (false≢true h)
+live_names (Some (Near len ds place m)) l at h = (len, ds, place, m, refl, grind (arith, nat_tests), grind (arith, nat_tests))
+live_names (Some (Far len ds m)) l at h = absurd (false≢true h)
+
+module _ (s : State) (law : Law s) (p len ds : ℕ) (place : Place) (m : Marks) (e : read_of (s.cell p) ≡ Some (Near len ds place m)) where
+  head_here : head_of (s.word (addr place)) ≡ Some (header p len ds)
+  head_here = span_len s law p len ds place m e
+
+  pub in_range : (place.at + size_of len ≤ s.tail place.log) × (s.starts (place.log * LOG_WORDS + place.at) ≡ true)
+  in_range =
+      let x = read_says (s.cell p) (Near len ds place m) (law.cells.cell_read p).0 e in
+      let start = (law.cells.cell_near p len ds place m e).placed in
+      let span = law.spans.span (addr place) start in
+      let size : head_len (s.word (addr place)) ≡ len = rw head_here refl in
+      let log : addr place / LOG_WORDS ≡ place.log = omega (arith, x.0) in
+      let same : s.tail (addr place / LOG_WORDS) ≡ s.tail place.log = ap s.tail log in
+      (omega (arith, span.fits, x.0), start)
+
+  here_is : span_at (λ j. s.word (place.log * LOG_WORDS + j)) place.at ≡ span_for p len ds place.at
+  here_is = rw head_here refl
+
+  pub one_live : OneLive s p len ds place
+  one_live = record {
+    placed = subst (Contains (spans_of s place.log)) here_is (listed s law place.log place.at (omega (arith, in_range)) in_range.1);
+    live = rw (e, eq-eqb place.log place.log refl, eq-eqb place.at place.at refl) refl;
+    only = λ l span listed_there live is.
+        let names = live_names (read_of (s.cell span.pointer)) l span.at live in
+        let both : Some (Near len ds place m) ≡ Some (Near names.0 names.1 names.2 names.3) = sym e ∙ ap (λ q. read_of (s.cell q)) (sym is) ∙ names.4 in
+        let there : place ≡ names.2 = cc in
+        let log : l ≡ place.log = sym names.5 ∙ ap (λ (q : Place). q.log) (sym there) in
+        let at : span.at ≡ place.at = sym names.6 ∙ ap (λ (q : Place). q.at) (sym there) in
+        (log, (found s law l span listed_there).2 ∙ (λ i. span_at (λ j. s.word (log i * LOG_WORDS + j)) (at i)) ∙ here_is);
+  }
+
+pub has_one_live : (s : State) → Law s → (p : ℕ) → HasOneLive s p
+has_one_live s law p used = at_cell (read_of (s.cell p)) refl used where
+  at_cell : (o : Option PtrWord) → read_of (s.cell p) ≡ o → in_use o ≡ true →
+      (len ds : ℕ) × (place : Place) × (m : Marks) × (read_of (s.cell p) ≡ Some (Near len ds place m)) × OneLive s p len ds place
+  at_cell None e u = absurd (false≢true u)
+  at_cell (Some Free) e u = absurd (false≢true u)
+  at_cell (Some (Near len ds place m)) e u = (len, ds, place, m, e, one_live s law p len ds place m e)
+  at_cell (Some (Far len ds m)) e u = absurd (law.cells.none_far p len ds m e)
+
+pub names_once : (s : State) → Law s → NamesOnce s
+names_once s law p q len n ds d place m k e f =
+    let a = law.cells.cell_near p len ds place m e in
+    let b = law.cells.cell_near q n d place k f in
+    let x = read_says (s.cell p) (Near len ds place m) (law.cells.cell_read p).0 e in
+    let y = read_says (s.cell q) (Near n d place k) (law.cells.cell_read q).0 f in
+    one_name s.word p q len n ds d (addr place) a.head b.head (omega (arith, x.0)) (omega (arith, y.0)) (omega (arith, x.0)) (omega (arith, y.0))
+
+-- ---- each word of a log
+-- some span of a tiling has each word of it
+covers : (xs : List Placed) (at tail i : ℕ) → Tile at xs tail → at ≤ i → i < tail → (x : Placed) × Contains xs x × IsWordOf i x
+covers [] at tail i h low high = absurd (omega arith)
+covers (x ∷ xs) at tail i h low high = elim (cases_lt i (at + size_of x.len)) [
+  | inl inside ↦ (x, here x xs, (omega (arith, h.0), omega (arith, h.0)))
+  | inr past ↦ (let r = covers xs (at + size_of x.len) tail i h.1 past high in (r.0, there r.0 x xs r.1, r.2))
+]
+
+pub has_one_span : (s : State) → Law s → (l i : ℕ) → i < s.tail l → HasOneSpan s l i
+has_one_span s law l i lt =
+    let r = covers (spans_of s l) 0 (s.tail l) i (fills s law l).tile (omega arith) lt in
+    (r.0, r.1, r.2, λ other h w. one_span s law l i other r.0 h r.1 w r.2)
+
+pub has_no_span : (s : State) → Law s → (l i : ℕ) → s.tail l ≤ i → HasNoSpan s l i
+has_no_span s law l i past x h w =
+    let a = found s law l x h in
+    let n : x.len ≡ head_len (s.word (l * LOG_WORDS + x.at)) = ap (λ (z : Placed). z.len) a.2 in
+    let q : ((l * LOG_WORDS + x.at) / LOG_WORDS ≡ l) × ((l * LOG_WORDS + x.at) % LOG_WORDS ≡ x.at) = (omega (arith, law.logs.tail_end l), omega (arith, law.logs.tail_end l)) in
+    let same : s.tail ((l * LOG_WORDS + x.at) / LOG_WORDS) ≡ s.tail l = ap s.tail q.0 in
+    omega (arith, (law.spans.span (l * LOG_WORDS + x.at) a.1).fits, q.1)
+
+pub near_has_one_live : (s : State) → Law s → (p : ℕ) → NearHasOneLive s p
+near_has_one_live s law p len ds place m e = one_live s law p len ds place m e
+
+-- ---- the logs
+-- a header stands below the tail of its log
+below_tail : (s : State) → Law s → (l at : ℕ) → at < LOG_WORDS → s.starts (l * LOG_WORDS + at) ≡ true → at < s.tail l
+below_tail s law l at lt start =
+    let q : ((l * LOG_WORDS + at) / LOG_WORDS ≡ l) × ((l * LOG_WORDS + at) % LOG_WORDS ≡ at) = (omega arith, omega arith) in
+    let same : s.tail ((l * LOG_WORDS + at) / LOG_WORDS) ≡ s.tail l = ap s.tail q.0 in
+    omega (arith, (law.spans.span (l * LOG_WORDS + at) start).fits, q.1)
+
+pub placed_exactly : (s : State) → Law s → (l at : ℕ) → PlacedExactly s l at
+placed_exactly s law l at lt = (
+  λ start. (span_at (λ i. s.word (l * LOG_WORDS + i)) at, listed s law l at (below_tail s law l at lt start) start, refl),
+  λ h. rw h.2 at (found s law l h.0 h.1).1,
+)
+
+no_spans : (s : State) (l : ℕ) → s.tail l ≡ 0 → spans_of s l ≡ []
+unfolding spans_of
+no_spans s l e = cond_both (nat_lt 0 (s.tail l)) _ _ (λ (xs : List Placed). xs ≡ []) (λ t. absurd (omega (arith, ltb-true 0 (s.tail l) t))) (λ _. refl)
+
+pub logs_stand : (s : State) → Law s → LogsStand s
+logs_stand s law = record {
+  free_empty = λ l free. let none = law.logs.free_tail l free in (none, no_spans s l none);
+  one_open = (s.current, law.logs.log_range s.current (λ f. let odd : kinds.Open ≡ kinds.Free = sym law.logs.is_open ∙ f in cc), law.logs.is_open, law.logs.one_open);
+}

@@ -1,0 +1,15 @@
+use Rattle.std.proofs.Common.{◌≡◌, take, vec_len, vec_capacity, length, List}
+use Rattle.std.specs.Prelude.{map}
+use Rattle.far_core.specs.CoreState.{core_state}
+use Rattle.far_core.specs.Runs.{Leads, Runs}
+use Rattle.far_core.specs.State.{State}
+use Rattle.far_core.specs.WorldOf.{world_of}
+use Rattle.far_core.proofs.machine.Core.run.Given as goal
+
+abbrev pub invariant-loop-event : goal.invariant-loop-event
+invariant-loop-event l = record {
+  room : vec_capacity l.replies ≡ length l.events;
+  count : vec_len l.replies ≡ l.event-index;
+  leads : (states : List State) × Leads (core_state l.fn.self) (take l.event-index l.events) l.replies.items states (core_state l.self)
+      × Runs (world_of (core_state l.fn.self)) (take l.event-index l.events) l.replies.items (map world_of states);
+}

@@ -1,0 +1,41 @@
+-- The state of a core: the shared words, and what each owner and the book know of them.
+use Rattle.std.specs.Prelude.{ℕ, Bool, cond, ◌==◌, ◌+◌, ◌*◌, Option}
+use Rattle.far_word.specs.declared.pointer.Place.{Place}
+use Rattle.far_word.specs.declared.sizes.TheConstants.{LOG_WORDS}
+use Rattle.far_core.specs.declared.event.Kind.{Kind}
+
+-- A state says what stands where, by functions. Owners have numbers below mutators, logs below logs; pointer p is of
+-- the owner p / CELLS; word i of log l is the word l * LOG_WORDS + i
+pub record State : Type 0 where
+  -- the shape, and whether the far side gives back what it was given
+  pub mutators : ℕ
+  pub logs : ℕ
+  pub honest : Bool
+  -- the shared words: the epoch, an owner's scope, a pointer's cell, the words of the logs
+  pub epoch : ℕ
+  pub scope : ℕ → ℕ
+  pub cell : ℕ → ℕ
+  pub word : ℕ → ℕ
+  -- an owner's view: the epoch that it has read, the cells that it uses, the places that it holds
+  pub remembered : ℕ → Option ℕ
+  pub used : ℕ → Bool
+  pub held : ℕ → Option Place
+  -- the book's view: the kind and the tail of each log, the open log, where a span's header stands
+  pub kind : ℕ → Kind
+  pub tail : ℕ → ℕ
+  pub current : ℕ
+  pub starts : ℕ → Bool
+  -- the round: its logs, its epoch, the owners that were seen clear in it
+  pub round : ℕ → Bool
+  pub round_epoch : ℕ
+  pub clear : ℕ → Bool
+  -- the words of each far object, as they were stored: word i of pointer p
+  pub stored : ℕ → ℕ → ℕ
+
+-- a function with v at k
+abbrev pub put : {X : Type 0} → (ℕ → X) → ℕ → X → ℕ → X
+put f k v q = cond (q == k) v (f q)
+
+-- the word where a place's header stands
+abbrev pub addr : Place → ℕ
+addr place = place.log * LOG_WORDS + place.at

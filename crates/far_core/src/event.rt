@@ -1,0 +1,84 @@
+//! The atomic steps and what they answer.
+
+use far_word::Place;
+
+/// One atomic step on one word. An event whose guard is false is refused and changes nothing.
+///
+/// Owners are numbered below the shape's mutators, pointers below 128 times that (pointer `p` belongs to owner
+/// `p / 128`), logs below the shape's logs, the words of a log below 128. Any other number is out of range, and the
+/// event is refused.
+#[derive(Clone, Copy, Debug, PartialEq, Eq)]
+pub enum Event {
+    /// A closed owner remembers the epoch. Answers `Epoch`.
+    ReadEpoch {
+        owner: u8,
+    },
+    /// A closed owner that has read an epoch since its last close opens its scope at it. Answers `Done`.
+    Open {
+        owner: u8,
+    },
+    /// An open owner sets HOT on a pointer that it uses and doesn't hold. It holds the object's place where the old
+    /// word is present with none of EVAC, MOVE and DROP. Answers `Held` then, and `Word` with the old word else.
+    Pin {
+        owner: u8,
+        pointer: u16,
+    },
+    /// Data word `index` of an object that the owner holds. Answers `Word`.
+    Load {
+        owner: u8,
+        pointer: u16,
+        index: u16,
+    },
+    /// Data word `index` of an object that the owner holds becomes `word`, which keeps the padding 0. Answers `Done`.
+    Store {
+        owner: u8,
+        pointer: u16,
+        index: u16,
+        word: u64,
+    },
+    /// An open owner closes its scope; it holds nothing and remembers no epoch from then on. Answers `Done`.
+    Close {
+        owner: u8,
+    },
+    /// An owner uses a pointer of its own that it doesn't use yet, whose word is used and not dropped. Answers `Word`.
+    Adopt {
+        owner: u8,
+        pointer: u16,
+    },
+    /// The word `at` of a log that is open or free, at or past its tail, becomes `word`. Answers `Done`.
+    Put {
+        log: u8,
+        at: u16,
+        word: u64,
+    },
+    /// The cell of a pointer goes from `old` to `new`, where it is `old`. Answers `Done` then, and `Word` with the
+    /// cell, which stays, else. A new place alone is named so far: `old` is 0, `new` is near without marks, and
+    /// where the next span may stand a header for the pointer is written with data words of 0 behind it.
+    Name {
+        pointer: u16,
+        old: u64,
+        new: u64,
+    },
+}
+
+/// What an event answers.
+#[derive(Clone, Copy, Debug, PartialEq, Eq)]
+pub enum Reply {
+    /// The event's guard was false, and nothing has changed.
+    Refused,
+    Done,
+    Epoch(u64),
+    Word(u64),
+    Held(Place),
+}
+
+/// What a log is.
+#[derive(Clone, Copy, Debug, PartialEq, Eq)]
+pub enum Kind {
+    /// It has no span.
+    Free,
+    /// New spans go to its end. There is always exactly one.
+    Open,
+    /// It takes no more spans.
+    Sealed,
+}

@@ -1,0 +1,88 @@
+//! What is true of every core, as contracts. No function here does anything when it runs.
+
+ghost use Rattle.std.specs.Prelude.{◌≡◌, ◌≢◌, ◌↔◌, ◌+◌, ◌*◌, ◌<◌, ◌≤◌, ◌||◌, ℕ, Bool, true, false, Some, IsSome};
+ghost use Rattle.far_word.specs.declared.mark.Marks.{Marks};
+ghost use Rattle.far_word.specs.Pointer.{read_of};
+ghost use Rattle.far_core.specs.Agrees.{Agrees};
+ghost use Rattle.far_core.specs.CoreState.{core_state};
+ghost use Rattle.far_core.specs.Law.{Law};
+ghost use Rattle.far_core.specs.Legal.{Legal};
+ghost use Rattle.far_core.specs.Observed.{Fills, live_bytes, dead_bytes, unused_bytes, HasOneLive, NamesOnce, HasOneSpan, HasNoSpan, LogsStand, NearHasOneLive, PlacedExactly};
+ghost use Rattle.far_core.specs.Opening.{opening};
+ghost use Rattle.far_core.specs.Shape.{is_shape};
+ghost use Rattle.far_core.specs.State.{State};
+ghost use Rattle.far_core.specs.Step.{is_legal};
+ghost use Rattle.far_core.specs.World.{start};
+ghost use Rattle.far_core.specs.WorldAgrees.{ViewRests, MarksAgree, MarksExist};
+ghost use Rattle.far_core.specs.WorldOf.{world_of};
+
+use crate::event::Event;
+use crate::machine::Core;
+use crate::shape::Shape;
+
+impl Core {
+    /// Every core keeps the law, and its views rest on words that it says they may.
+    pub fn keeps_law(&self)
+        ensures law { Law (core_state self.now) }
+        ensures agrees { Agrees (core_state self.now) }
+    {
+        let _memory = &self.memory;
+    }
+
+    /// The spans of each log follow each other from its first word to its tail, each with its header and padding; free
+    /// logs have none, and exactly one log is open.
+    pub fn spans_fill_logs(&self)
+        ensures fills { (l : ℕ) → Fills (core_state self.now) l }
+        ensures stand { LogsStand (core_state self.now) }
+        ensures placed { (l at : ℕ) → PlacedExactly (core_state self.now) l at }
+    {
+        let _memory = &self.memory;
+    }
+
+    /// Live, dead and unused bytes of each log make its 1,024.
+    pub fn bytes_make_log(&self)
+        ensures { (l : ℕ) → live_bytes (core_state self.now) l + dead_bytes (core_state self.now) l + unused_bytes (core_state self.now) l ≡ 1024 }
+    {
+        let _memory = &self.memory;
+    }
+
+    /// Each used cell without DROP has exactly one live span, of its length and data structure; so has each near cell
+    /// with DROP; and two cells never name one place.
+    pub fn objects_have_one_span(&self)
+        ensures one { (p : ℕ) → HasOneLive (core_state self.now) p }
+        ensures near { (p : ℕ) → NearHasOneLive (core_state self.now) p }
+        ensures once { NamesOnce (core_state self.now) }
+    {
+        let _memory = &self.memory;
+    }
+
+    /// Each word of a log is header or data of exactly one span, or lies past the tail and is of none.
+    pub fn words_have_one_span(&self)
+        ensures below { (l i : ℕ) → i < (core_state self.now).tail l → HasOneSpan (core_state self.now) l i }
+        ensures past { (l i : ℕ) → (core_state self.now).tail l ≤ i → HasNoSpan (core_state self.now) l i }
+    {
+        let _memory = &self.memory;
+    }
+
+    /// A view is of a near object in a held group, under an open scope; an object is marked exactly where its word has
+    /// EVAC or MOVE, and nothing else is marked.
+    pub fn views_and_marks_agree(&self)
+        ensures views { (p : ℕ) → (world_of (core_state self.now)).viewed p ≡ true → ViewRests (world_of (core_state self.now)) p }
+        ensures marks { (p : ℕ) → MarksAgree (core_state self.now) p }
+        ensures exist { (p : ℕ) → MarksExist (core_state self.now) p }
+    {
+        let _memory = &self.memory;
+    }
+
+    /// An event passes the test of a step exactly where it is legal.
+    pub fn legal_is_tested(&self, event: Event)
+        ensures { Legal (core_state self.now) event ↔ (is_legal (core_state self.now) event ≡ true) }
+    {
+        let _memory = &self.memory;
+    }
+}
+
+/// The state at the start means the world at the start.
+pub fn opening_is_start(shape: Shape, honest: bool)
+    ensures { world_of (opening shape honest) ≡ start honest }
+{}

@@ -1,0 +1,44 @@
+//! The words of a core and what each seat knows of them, as plain data.
+
+ghost use Rattle.std.specs.Prelude.{◌≡◌, ◌*◌, ◌<◌, ◌≤◌};
+ghost use Rattle.std.specs.Vec.{vec_len};
+
+use crate::event::Kind;
+use far_word::Place;
+
+/// The words and views. All its room is taken when it is made.
+#[derive(Debug, Drop)]
+pub(crate) struct Memory {
+    pub(crate) honest: bool,
+    // The shared words.
+    pub(crate) epoch: u64,
+    pub(crate) scopes: Vec<u64>,
+    pub(crate) cells: Vec<u64>,
+    pub(crate) words: Vec<u64>,
+    // The owners' views.
+    pub(crate) remembered: Vec<Option<u64>>,
+    pub(crate) used: Vec<bool>,
+    pub(crate) held: Vec<Option<Place>>,
+    // The book's view.
+    pub(crate) kinds: Vec<Kind>,
+    pub(crate) tails: Vec<u16>,
+    pub(crate) current: u8,
+    pub(crate) starts: Vec<bool>,
+    pub(crate) round: Vec<bool>,
+    pub(crate) round_epoch: u64,
+    pub(crate) clear: Vec<bool>,
+    pub(crate) stored: Vec<u64>,
+    ghost remembered_sized: { vec_len remembered ≡ vec_len scopes },
+    ghost kinds_sized: { vec_len kinds ≡ vec_len tails },
+    ghost current_within: { current < vec_len tails },
+    ghost few_logs: { vec_len tails ≤ 64 },
+    ghost few_mutators: { vec_len scopes ≤ 8 },
+    ghost cells_sized: { vec_len cells ≡ 128 * vec_len scopes },
+    ghost words_sized: { vec_len words ≡ 128 * vec_len tails },
+    ghost starts_sized: { vec_len starts ≡ 128 * vec_len tails },
+    ghost used_sized: { vec_len used ≡ 128 * vec_len scopes },
+    ghost held_sized: { vec_len held ≡ 128 * vec_len scopes },
+    ghost round_sized: { vec_len round ≡ vec_len tails },
+    ghost clear_sized: { vec_len clear ≡ vec_len scopes },
+    ghost stored_sized: { vec_len stored ≡ 127 * vec_len cells },
+}

@@ -1,0 +1,31 @@
+//! How large a heap is, and where its epochs begin.
+
+ghost use Rattle.std.specs.Prelude.{◌≡◌};
+ghost use Rattle.far_core.specs.Shape.{is_shape};
+
+use far_word::{MOST_LOGS, MOST_MUTATORS};
+
+/// How large a heap is: 2 to 64 logs of 1,024 bytes, 1 to 8 mutators of 128 pointer cells each, and the first epoch,
+/// below 2^62. A shape out of these ranges may be written, and is refused where a heap is made of it.
+#[derive(Clone, Copy, Debug, PartialEq, Eq)]
+pub struct Shape {
+    pub logs: u64,
+    pub mutators: u64,
+    pub epoch: u64,
+}
+
+/// Epochs stay below this.
+const EPOCH_END: u64 = 1 << 62;
+
+impl Shape {
+    /// Whether a heap can be made of the shape.
+    pub fn is_in_range(self) -> bool
+        ensures { result ≡ is_shape self }
+    {
+        2 <= self.logs
+            && self.logs <= MOST_LOGS as u64
+            && 1 <= self.mutators
+            && self.mutators <= MOST_MUTATORS as u64
+            && self.epoch < EPOCH_END
+    }
+}

@@ -1,0 +1,7 @@
+pub mod ByteLaws
+pub mod HeaderLaws
+pub mod MaskLaws
+pub mod PointerLaws
+pub mod ScopeLaws
+pub mod WordBytes
+pub mod Words

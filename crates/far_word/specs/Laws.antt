@@ -1,0 +1,64 @@
+-- What holds of every pointer, header and scope word, and of bytes in words.
+use Rattle.std.specs.Prelude.{◌≡◌, ℕ, ◌-◌, ◌*◌, ◌^◌, ◌<◌, ◌≤◌, true, Some, IfSome, bit_or, bit_and, List, length, slice_index}
+use Rattle.far_word.specs.Bytes.{bytes_of, words_of, packed_word}
+use Rattle.far_word.specs.Header.{IsHead, head_word, head_of}
+use Rattle.far_word.specs.Mark.{position}
+use Rattle.far_word.specs.Pointer.{IsPtr, word_of, read_of, takes, marked, calmed}
+use Rattle.far_word.specs.Scope.{IsScope, scope_word, scope_of}
+use Rattle.far_word.specs.Sizes.{size_of, words_for}
+use Rattle.far_word.specs.declared.header.HeadWord.{HeadWord}
+use Rattle.far_word.specs.declared.mark.Mark.{Mark}
+use Rattle.far_word.specs.declared.mark.Marks.{Marks}
+use Rattle.far_word.specs.declared.pointer.Place.{Place}
+use Rattle.far_word.specs.declared.pointer.PtrWord.{PtrWord}
+use Rattle.far_word.specs.declared.pointer.PtrWord.TheVariants.{Near}
+use Rattle.far_word.specs.declared.scope.ScopeWord.{ScopeWord}
+use Rattle.far_word.specs.declared.sizes.TheConstants.{LONGEST, LOG_WORDS}
+
+-- a mark is set by or-ing its bit in
+abbrev pub MarkIsSet : Type 0
+MarkIsSet = (k : Mark) (v : PtrWord) → IsPtr v → takes k v ≡ true → (bit_or (word_of v) (2 ^ position k) ≡ word_of (marked k v)) × IsPtr (marked k v)
+
+-- the same, said of a word by what it reads as
+abbrev pub MarkIsRead : Type 0
+MarkIsRead = (k : Mark) (w : ℕ) (v : PtrWord) → w < 2 ^ 64 → read_of w ≡ Some v → takes k v ≡ true →
+    (read_of (bit_or w (2 ^ position k)) ≡ Some (marked k v)) × (bit_or w (2 ^ position k) < 2 ^ 64)
+
+-- EVAC is cleared by and-ing its bit out
+abbrev pub EvacIsCleared : Type 0
+EvacIsCleared = (len ds : ℕ) (place : Place) (marks : Marks) → IsPtr (Near len ds place marks) →
+    (bit_and (word_of (Near len ds place marks)) (2 ^ 64 - 1 - 2 ^ 61) ≡ word_of (calmed (Near len ds place marks))) × IsPtr (calmed (Near len ds place marks))
+
+-- a pointer's word is read as that pointer, and what is read of a word has that word
+abbrev pub PointerBack : Type 0
+PointerBack = (v : PtrWord) → IsPtr v → (read_of (word_of v) ≡ Some v) × (word_of v < 2 ^ 64)
+
+abbrev pub PointerFound : Type 0
+PointerFound = (w : ℕ) → w < 2 ^ 64 → IfSome (read_of w) (λ v. IsPtr v × (word_of v ≡ w))
+
+-- the same of headers
+abbrev pub HeaderBack : Type 0
+HeaderBack = (h : HeadWord) → IsHead h → (head_of (head_word h.pointer h.len h.ds) ≡ Some h) × (head_word h.pointer h.len h.ds < 2 ^ 64)
+
+abbrev pub HeaderFound : Type 0
+HeaderFound = (w : ℕ) → w < 2 ^ 64 → IfSome (head_of w) (λ h. IsHead h × (head_word h.pointer h.len h.ds ≡ w))
+
+-- and of scopes
+abbrev pub ScopeBack : Type 0
+ScopeBack = (s : ScopeWord) → IsScope s → (scope_of (scope_word s) ≡ Some s) × (scope_word s < 2 ^ 63)
+
+abbrev pub ScopeFound : Type 0
+ScopeFound = (w : ℕ) → IfSome (scope_of w) (λ s. IsScope s × (scope_word s ≡ w))
+
+-- an object takes a header and at least one word more, and fits a log
+abbrev pub SizesFit : Type 0
+SizesFit = (len : ℕ) → 1 ≤ len → len ≤ LONGEST → (2 ≤ size_of len) × (size_of len ≤ LOG_WORDS)
+
+-- bytes that were packed are unpacked as they were
+abbrev pub BytesBack : Type 0
+BytesBack = (bytes : List ℕ) → ((k : ℕ) → slice_index bytes k < 256) → bytes_of (λ i. slice_index (words_of bytes) i) (length bytes) ≡ bytes
+
+-- words whose padding is zero are packed again as they were
+abbrev pub WordsBack : Type 0
+WordsBack = (word : ℕ → ℕ) (n i : ℕ) → i < words_for n → word i < 2 ^ 64 → word i < 2 ^ (8 * (n - 8 * i)) →
+    (slice_index (words_of (bytes_of word n)) i ≡ word i) × (packed_word (bytes_of word n) i ≡ word i)

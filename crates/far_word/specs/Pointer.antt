@@ -1,0 +1,75 @@
+-- The pointer word: its layout, the one word of a pointer, and what a word says.
+use Rattle.std.specs.Prelude.{◌≡◌, ℕ, ◌+◌, ◌*◌, ◌^◌, ◌<◌, ◌≤◌, Bool, true, false, ◌&&◌, ◌||◌, ◌==◌, nat_lt, nat_le, Option, Some, None, not, if◌then◌else◌}
+use Rattle.far_word.specs.declared.mark.Mark.{Mark}
+use Rattle.far_word.specs.declared.mark.Mark.TheVariants.{Hot, Evac, Moved, Dropped}
+use Rattle.far_word.specs.declared.pointer.Place.{Place}
+use Rattle.far_word.specs.declared.pointer.PtrWord.{PtrWord}
+use Rattle.far_word.specs.declared.pointer.PtrWord.TheVariants.{Free, Near, Far}
+use Rattle.far_word.specs.declared.sizes.TheConstants.{LONGEST, LOG_WORDS, MOST_LOGS}
+use Rattle.far_word.specs.Mark.{field, is_set, marks_number, marks_at, with}
+use Rattle.far_word.specs.Sizes.{size_of}
+
+-- a pointer that lies on the layout
+abbrev pub IsPtr : PtrWord → Type 0
+IsPtr Free = Unit {0}
+IsPtr (Near len ds place marks) = (0 < len) × (len ≤ LONGEST) × (ds < 256) × (place.log < MOST_LOGS) × (place.at + size_of len ≤ LOG_WORDS)
+IsPtr (Far len ds marks) = (0 < len) × (len ≤ LONGEST) × (ds < 256) × (marks.evac ≡ false)
+
+-- the one word of a pointer: length, data structure, offset, log, USED, the marks, PRESENT
+abbrev pub word_of : PtrWord → ℕ
+word_of Free = 0
+word_of (Near len ds place marks) = len + ds * 2 ^ 16 + place.at * 2 ^ 24 + place.log * 2 ^ 34 + 2 ^ 58 + marks_number marks * 2 ^ 59 + 2 ^ 63
+word_of (Far len ds marks) = len + ds * 2 ^ 16 + 2 ^ 58 + marks_number marks * 2 ^ 59
+
+-- the tests by which a word is read, in their order
+abbrev pub is_used : ℕ → Bool
+is_used w = is_set w 58 && (field w 42 16 == 0) && nat_lt 0 (field w 0 16) && nat_le (field w 0 16) LONGEST
+
+abbrev pub near_fits : ℕ → Bool
+near_fits w = nat_lt (field w 34 8) MOST_LOGS && nat_le (field w 24 10 + size_of (field w 0 16)) LOG_WORDS
+
+abbrev pub near_at : ℕ → Option PtrWord
+near_at w = if near_fits w then Some (Near (field w 0 16) (field w 16 8) record { log = field w 34 8; at = field w 24 10 } (marks_at w)) else None
+
+abbrev pub far_fits : ℕ → Bool
+far_fits w = (field w 34 8 == 0) && (field w 24 10 == 0) && not (is_set w 61)
+
+abbrev pub far_at : ℕ → Option PtrWord
+far_at w = if far_fits w then Some (Far (field w 0 16) (field w 16 8) (marks_at w)) else None
+
+-- what a word says; None off the layout
+unfoldable pub read_of : ℕ → Option PtrWord
+read_of w = if w == 0 then Some Free else (if is_used w then (if is_set w 63 then near_at w else far_at w) else None)
+
+-- whether a pointer may take a mark: a free cell takes none, a far one no EVAC
+abbrev pub takes : Mark → PtrWord → Bool
+takes k Free = false
+takes k (Near len ds place marks) = true
+takes Evac (Far len ds marks) = false
+takes Hot (Far len ds marks) = true
+takes Moved (Far len ds marks) = true
+takes Dropped (Far len ds marks) = true
+
+-- the pointer with one mark set, all else as it was
+abbrev pub marked : Mark → PtrWord → PtrWord
+marked k Free = Free
+marked k (Near len ds place marks) = Near len ds place (with k marks)
+marked k (Far len ds marks) = Far len ds (with k marks)
+
+-- the pointer without EVAC, all else as it was
+abbrev pub calmed : PtrWord → PtrWord
+calmed Free = Free
+calmed (Near len ds place marks) = Near len ds place record { hot = marks.hot; evac = false; moved = marks.moved; dropped = marks.dropped }
+calmed (Far len ds marks) = Far len ds marks
+
+-- the pointer without the marks that an owner may add at any moment: HOT, MOVE and DROP
+abbrev pub settled : PtrWord → PtrWord
+settled Free = Free
+settled (Near len ds place marks) = Near len ds place record { hot = false; evac = marks.evac; moved = false; dropped = false }
+settled (Far len ds marks) = Far len ds record { hot = false; evac = marks.evac; moved = false; dropped = false }
+
+-- where a new view may rest: the place of a near pointer with none of EVAC, MOVE and DROP
+abbrev pub view_place : PtrWord → Option Place
+view_place Free = None
+view_place (Near len ds place marks) = if marks.evac || marks.moved || marks.dropped then None else Some place
+view_place (Far len ds marks) = None

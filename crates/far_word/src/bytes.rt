@@ -1,0 +1,56 @@
+//! Bytes in words: eight to a word, little end first, zeros behind the last byte.
+
+ghost use Rattle.std.specs.Prelude.{◌≡◌, ◌*◌, ◌<◌, length, slice_index};
+ghost use Rattle.far_word.specs.Sizes.{words_for};
+ghost use Rattle.far_word.specs.Bytes.{bytes_of, words_of, packed_word, overwritten};
+
+use byteorder::{ByteOrder, LittleEndian};
+
+/// Packs bytes, as many as there are, into the words that hold them. The last word's spare bytes are zero.
+pub fn pack_bytes(bytes: &[u8], words: &mut [u64])
+    requires { length words.old ≡ words_for (length bytes.now) }
+    ensures { words.new ≡ words_of bytes.now }
+{
+    for (i, word) in words.iter_mut().enumerate() {
+        *word = packed_word(bytes, i);
+    }
+}
+
+/// Unpacks as many bytes as there is room for, from the words that hold them.
+pub fn unpack_bytes(words: &[u64], bytes: &mut [u8])
+    requires { length words.now ≡ words_for (length bytes.old) }
+    ensures { bytes.new ≡ bytes_of (λ i. slice_index words.now i) (length bytes.old) }
+{
+    for (i, word) in words.iter().enumerate() {
+        overwrite(bytes, i, *word);
+    }
+}
+
+// The word of the eight bytes from 8i on, or of those that are left.
+fn packed_word(bytes: &[u8], i: usize) -> u64
+    requires { 8 * i < length bytes.now }
+    ensures { result ≡ packed_word bytes.now i }
+{
+    let rest = &bytes[8 * i..];
+    if rest.len() >= 8 {
+        return LittleEndian::read_u64(rest);
+    }
+    let mut last = [0; 8];
+    last[..rest.len()].copy_from_slice(rest);
+    LittleEndian::read_u64(&last)
+}
+
+// Writes the bytes of a word over those from 8i on, as many as are left.
+fn overwrite(bytes: &mut [u8], i: usize, word: u64)
+    requires { 8 * i < length bytes.old }
+    ensures { bytes.new ≡ overwritten bytes.old i word }
+{
+    let rest = &mut bytes[8 * i..];
+    if rest.len() >= 8 {
+        LittleEndian::write_u64(rest, word);
+    } else {
+        let mut last = [0; 8];
+        LittleEndian::write_u64(&mut last, word);
+        rest.copy_from_slice(&last[..rest.len()]);
+    }
+}

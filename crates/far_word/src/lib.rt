@@ -1,0 +1,30 @@
+//! The words of a far memory heap: a pointer cell, an object's header, a mutator's scope.
+//!
+//! This crate alone knows where a bit stands. It takes no memory.
+#![tactic(auto)]
+
+mod bytes;
+mod field;
+mod header;
+mod laws;
+mod mark;
+mod pointer;
+mod refused;
+mod scope;
+mod sizes;
+#[cfg(test)]
+mod tests;
+
+pub use bytes::{pack_bytes, unpack_bytes};
+pub use header::HeadWord;
+pub use laws::{
+    bytes_back, evac_cleared, head_round_trip, mark_read, mark_set, pointer_round_trip,
+    scope_round_trip, sizes_fit, words_back,
+};
+pub use mark::{Mark, Marks};
+pub use pointer::{Place, PtrWord, rests_view, without_owner_marks};
+pub use refused::Refused;
+pub use scope::ScopeWord;
+pub use sizes::{
+    CELLS, LOG_WORDS, LONGEST, MOST_LOGS, MOST_MUTATORS, POINTERS, size_of, words_for,
+};

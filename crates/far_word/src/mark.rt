@@ -1,0 +1,84 @@
+//! The marks of a pointer word.
+
+ghost use Rattle.std.specs.Prelude.{◌≡◌, ◌*◌, ◌^◌};
+ghost use Rattle.far_word.specs.Mark.{position, marks_at, marks_number};
+
+use crate::field::is_set;
+
+const DROP: u32 = 59;
+
+const MOVE: u32 = 60;
+
+const EVAC: u32 = 61;
+
+const HOT: u32 = 62;
+
+/// A mark of a pointer word.
+#[derive(Clone, Copy, Debug, PartialEq, Eq)]
+pub enum Mark {
+    /// The object was dereferenced since it last moved.
+    Hot,
+    /// The object's log was chosen to be emptied.
+    Evac,
+    /// The owner asks for the object to be moved.
+    Moved,
+    /// The owner dropped the object.
+    Dropped,
+}
+
+impl Mark {
+    /// The mark's bit in a pointer word.
+    pub fn mask(self) -> u64
+        ensures { result ≡ 2 ^ position self }
+    {
+        match self {
+            Mark::Hot => 1 << HOT,
+            Mark::Evac => 1 << EVAC,
+            Mark::Moved => 1 << MOVE,
+            Mark::Dropped => 1 << DROP,
+        }
+    }
+}
+
+/// The marks that a pointer word has.
+#[derive(Clone, Copy, Debug, PartialEq, Eq)]
+pub struct Marks {
+    pub hot: bool,
+    pub evac: bool,
+    pub moved: bool,
+    pub dropped: bool,
+}
+
+impl Marks {
+    /// The marks of a word.
+    pub(crate) fn read(word: u64) -> Marks
+        ensures { result ≡ marks_at word }
+    {
+        Marks {
+            hot: is_set(word, HOT),
+            evac: is_set(word, EVAC),
+            moved: is_set(word, MOVE),
+            dropped: is_set(word, DROP),
+        }
+    }
+
+    /// The marks where they stand in a word, all other bits zero.
+    pub(crate) fn pack(self) -> u64
+        ensures { result ≡ marks_number self * 2 ^ 59 }
+    {
+        let mut word = 0;
+        if self.dropped {
+            word |= 1 << DROP;
+        }
+        if self.moved {
+            word |= 1 << MOVE;
+        }
+        if self.evac {
+            word |= 1 << EVAC;
+        }
+        if self.hot {
+            word |= 1 << HOT;
+        }
+        word
+    }
+}

@@ -1,0 +1,37 @@
+//! The sizes of a heap, named once.
+
+ghost use Rattle.std.specs.Prelude.{◌≡◌, ◌≤◌};
+ghost use Rattle.far_word.specs.Sizes.{size_of, words_for};
+
+/// The words of a log, eight bytes each.
+pub const LOG_WORDS: u16 = 128;
+
+/// The most data bytes of an object.
+pub const LONGEST: u16 = 1016;
+
+/// The most logs of a heap.
+pub const MOST_LOGS: u8 = 64;
+
+/// The most mutators of a heap.
+pub const MOST_MUTATORS: u8 = 8;
+
+/// The pointer cells of each mutator.
+pub const CELLS: u16 = 128;
+
+/// The pointer cells of the largest heap.
+pub const POINTERS: u16 = 1024;
+
+/// The words that hold `len` bytes.
+pub fn words_for(len: u16) -> u16
+    ensures { result ≡ words_for len }
+{
+    len.div_ceil(8)
+}
+
+/// The words that an object of `len` data bytes takes, its header included.
+pub fn size_of(len: u16) -> u16
+    requires { len ≤ LONGEST }
+    ensures { result ≡ size_of len }
+{
+    1 + words_for(len)
+}
