@@ -36,7 +36,7 @@ fn start_shows_nothing(rt: HostRuntime) -> Result<(), Fail> {
         words: [Reply::Refused; 3],
     };
     assert_eq!(rt; observed(&rt, &mut core), start);
-    assert_eq!(rt; core.logs(), 4);
+    assert_eq!(rt; (core.logs(), core.mutators()), (4, 1));
     Ok(())
 }
 
@@ -148,7 +148,10 @@ fn shapes_end_where_they_should(rt: HostRuntime) -> Result<(), Fail> {
         };
         assert!(rt; shape.is_in_range(), "at {shape:?}");
         let mut core = Core::new(rt.alloc(), shape, true)?;
-        assert_eq!(rt; core.logs() as u64, logs);
+        assert_eq!(rt;
+            (core.logs() as u64, core.mutators() as u64),
+            (logs, mutators)
+        );
         let reply = core.step(Event::ReadEpoch { owner: 0 });
         assert_eq!(rt; reply, Reply::Epoch(epoch), "at {shape:?}");
     }
