@@ -1,0 +1,52 @@
+#!/usr/bin/env python3
+"""Writes the texts that bench/run.sh measures to a folder: each in whole, 1 MiB, and in half.
+
+access: writes and reads of 8 bytes over a heap of 64 logs and 8 mutators.
+lines:  empty lines and comments alone.
+"""
+import random
+import sys
+from pathlib import Path
+
+LIMIT = 1_048_576
+OBJECTS = 56  # for each mutator
+
+
+def access(limit: int) -> str:
+    """Every mutator places its objects and opens its scope; then writes and reads follow one another."""
+    choice = random.Random(1)
+    lines = ["heap 64 8"]
+    for mutator in range(8):
+        lines += [f"new {mutator} 64 {mutator}"] * OBJECTS
+    lines += [f"open {mutator}" for mutator in range(8)]
+    size = sum(len(line) + 1 for line in lines)
+    while True:
+        mutator = choice.randrange(8)
+        pointer = 128 * mutator + choice.randrange(OBJECTS)
+        start = 8 * choice.randrange(8)
+        pair = [
+            f"write {mutator} {pointer} {start} {choice.getrandbits(64):016x}",
+            f"read {mutator} {pointer} {start} 8",
+        ]
+        more = sum(len(line) + 1 for line in pair)
+        if size + more > limit:
+            return "\n".join(lines) + "\n"
+        lines += pair
+        size += more
+
+
+def skipped(limit: int) -> str:
+    """Empty lines and comments in turn, up to the limit."""
+    pair = "\n# a comment of some words, as people write them\n"
+    return (pair * (limit // len(pair) + 1))[:limit]
+
+
+def main() -> None:
+    folder = Path(sys.argv[1])
+    folder.mkdir(parents=True, exist_ok=True)
+    for name, limit in (("half", LIMIT // 2), ("whole", LIMIT)):
+        (folder / f"access.{name}").write_text(access(limit), encoding="ascii")
+        (folder / f"lines.{name}").write_text(skipped(limit), encoding="ascii")
+
+
+main()

@@ -1,0 +1,94 @@
+-- The replies to one mutator's lines are what its own lines alone say.
+use Rattle.std.proofs.Common.{◌≡◌, ℕ, ◌<◌, Bool, true, false, nat_eq, sym, refl, ap, subst, ◌∙◌, Option, Some, None, List, [], ◌∷◌}
+use Rattle.std.specs.Bool.{MatchBool}
+use Rattle.std.proofs.lemmas.Bool.{cond_both, eqb-true, eqb-false}
+use Rattle.far_word.specs.declared.pointer.PtrWord.{PtrWord}
+use Rattle.far_word.specs.declared.pointer.PtrWord.TheVariants as pointer
+use Rattle.far_word.specs.declared.pointer.PtrWord.TheVariants.{Near, Far}
+use Rattle.far_word.specs.Pointer.{read_of}
+use Rattle.far_core.specs.declared.event.Event.{Event}
+use Rattle.far_core.specs.declared.event.Event.TheVariants.{ReadEpoch as ReadsEpoch, Open as Opens, Pin as Pins, Load as Loads, Store as Stores, Close as Closes, Adopt as Adopts, Put as Puts, Name as Names}
+use Rattle.far_core.specs.declared.event.Reply.{Reply as Answer}
+use Rattle.far_core.specs.Law.{Law}
+use Rattle.far_core.specs.State.{State}
+use Rattle.far_core.specs.Step.{step_of, after, is_legal, named}
+use Rattle.far_core.specs.WorldOf.{world_of}
+use Rattle.far_trace.specs.Alone.{Own, Knows, Alone, own_of, is_by, speaker}
+use Rattle.far_trace.specs.Answers.{Answered, Commanded}
+use Rattle.far_trace.specs.Command.{Command, Heap, New, Open, Write, Read, Close, Logs}
+use Rattle.far_trace.specs.Later.{IsLater, AreLater}
+use Rattle.far_trace.specs.Made.{made, AllAtHand}
+use Rattle.far_trace.specs.Reply.{Reply}
+use Rattle.far_trace.specs.Turn.{events_for, refusal}
+use Rattle.far_trace.proofs.AloneNew.{turns_new}
+use Rattle.far_trace.proofs.AloneTurns.{Tells, Turns, turns_open, turns_close, turns_read, turns_write}
+
+-- ---- no event changes how many mutators there are
+named_mutators : (s : State) (p new : ℕ) (o : Option PtrWord) → (named s p new o).mutators ≡ s.mutators
+named_mutators s p new None = refl
+named_mutators s p new (Some pointer.Free) = refl
+named_mutators s p new (Some (Near len ds place m)) = refl
+named_mutators s p new (Some (Far len ds m)) = refl
+
+after_mutators : (s : State) (e : Event) → (after s e).mutators ≡ s.mutators
+after_mutators s (ReadsEpoch m) = refl
+after_mutators s (Opens m) = refl
+after_mutators s (Pins m p) = refl
+after_mutators s (Loads m p i) = refl
+after_mutators s (Stores m p i w) = refl
+after_mutators s (Closes m) = refl
+after_mutators s (Adopts m p) = refl
+after_mutators s (Puts l at w) = refl
+after_mutators s (Names p old new) = cond_both (nat_eq (s.cell p) old) (named s p new (read_of new)) s (λ (x : State). x.mutators ≡ s.mutators) (λ _. named_mutators s p new (read_of new)) (λ _. refl)
+
+step_mutators : (s : State) (e : Event) → (step_of s e).0.mutators ≡ s.mutators
+step_mutators s e = cond_both (is_legal s e) _ _ (λ (x : State × Answer). x.0.mutators ≡ s.mutators) (λ _. after_mutators s e) (λ _. refl)
+
+pub made_mutators : (s : State) (es : List Event) → (made s es).mutators ≡ s.mutators
+made_mutators s [] = refl
+made_mutators s (e ∷ es) = made_mutators (step_of s e).0 es ∙ step_mutators s e
+
+-- ---- one command
+-- what the mutator m learns of a command: its reply, where it is its own; nothing else
+abbrev Learns : State → ℕ → Command → Reply → State → Type 0
+Learns s m c r t = MatchBool (is_by m (speaker c)) (Knows m (own_of (world_of s) m) c r (own_of (world_of t) m)) (own_of (world_of t) m ≡ own_of (world_of s) m)
+
+-- a command that was made, by what its turn tells
+told : (s : State) (k : ℕ) (c : Command) (r : Reply) (t : State) → Commanded s c r t → Turns s k c (refusal s c) → Tells s k c r t
+told s k c r t h turns = subst (λ (x : Reply × State). Tells s k c x.0 x.1) (λ i. (sym h.reply i, sym h.state i)) (turns h.succeed)
+
+-- by the mutator itself, or by another
+at_speaker : (s : State) (k m : ℕ) (c : Command) (r : Reply) (t : State) (b : Bool) → nat_eq k m ≡ b → m < s.mutators → Tells s k c r t →
+    MatchBool b (Knows m (own_of (world_of s) m) c r (own_of (world_of t) m)) (own_of (world_of t) m ≡ own_of (world_of s) m)
+at_speaker s k m c r t true e within tells = subst (λ x. x < s.mutators → Knows x (own_of (world_of s) x) c r (own_of (world_of t) x)) (eqb-true k m e) tells.0 within
+at_speaker s k m c r t false e within tells = tells.1 m (eqb-false k m e)
+
+learns : (s : State) (m : ℕ) (c : Command) (r : Reply) (t : State) → Law s → AllAtHand s → m < s.mutators → IsLater c → Commanded s c r t → Learns s m c r t
+learns s m (Heap logs mutators) r t law hand within later h = absurd later
+learns s m (New k len ds) r t law hand within later h = at_speaker s k m (New k len ds) r t (nat_eq k m) refl within (told s k (New k len ds) r t h (turns_new s k len ds law))
+learns s m (Open k) r t law hand within later h = at_speaker s k m (Open k) r t (nat_eq k m) refl within (told s k (Open k) r t h (turns_open s k law))
+learns s m (Write k p from bytes) r t law hand within later h =
+    at_speaker s k m (Write k p from bytes) r t (nat_eq k m) refl within (told s k (Write k p from bytes) r t h (turns_write s k p from bytes law hand later))
+learns s m (Read k p from len) r t law hand within later h =
+    at_speaker s k m (Read k p from len) r t (nat_eq k m) refl within (told s k (Read k p from len) r t h (turns_read s k p from len law hand))
+learns s m (Close k) r t law hand within later h = at_speaker s k m (Close k) r t (nat_eq k m) refl within (told s k (Close k) r t h (turns_close s k law))
+learns s m Logs r t law hand within later h = ap (λ x. own_of (world_of x) m) h.state
+
+-- ---- all commands
+-- one line before others
+one_more : (m : ℕ) (o q : Own) (c : Command) (r : Reply) (cs : List Command) (rs : List Reply) (b : Bool) → MatchBool b (Knows m o c r q) (q ≡ o) → Alone m q cs rs →
+    MatchBool b ((x : Own) × Knows m o c r x × Alone m x cs rs) (Alone m o cs rs)
+one_more m o q c r cs rs true h rest = (q, h, rest)
+one_more m o q c r cs rs false h rest = subst (λ x. Alone m x cs rs) h rest
+
+-- the replies to a mutator's own lines are what they say by themselves
+pub alone : (s : State) (cs : List Command) (rs : List Reply) (ts : List State) (m : ℕ) → Law s → AllAtHand s → m < s.mutators → AreLater cs → Answered s cs rs ts → Alone m (own_of (world_of s) m) cs rs
+alone s [] [] [] m law hand within later h = tt
+alone s [] [] (t ∷ ts) m law hand within later h = absurd h
+alone s [] (r ∷ rs) ts m law hand within later h = absurd h
+alone s (c ∷ cs) [] ts m law hand within later h = absurd h
+alone s (c ∷ cs) (r ∷ rs) [] m law hand within later h = absurd h
+alone s (c ∷ cs) (r ∷ rs) (t ∷ ts) m law hand within later h =
+    let same : t.mutators ≡ s.mutators = ap (λ (x : State). x.mutators) h.0.state ∙ made_mutators s (events_for s c) in
+    one_more m (own_of (world_of s) m) (own_of (world_of t) m) c r cs rs (is_by m (speaker c)) (learns s m c r t law hand within later.0 h.0)
+    (alone t cs rs ts m h.0.law h.0.at_hand (subst (λ n. m < n) (sym same) within) later.1 h.1)

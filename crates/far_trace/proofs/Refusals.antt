@@ -1,0 +1,52 @@
+-- Which refusals a command may have.
+use Rattle.std.proofs.Common.{◌≡◌, ℕ, Bool, sym, ap, ◌∙◌, subst, Option, Some, None, List, [], ◌∷◌}
+use Rattle.std.proofs.lemmas.Bool.{cond_both}
+use Rattle.far_word.specs.declared.refused.Refused.{Refused as Refusal}
+use Rattle.far_core.specs.State.{State}
+use Rattle.far_trace.specs.Answers.{Commanded}
+use Rattle.far_trace.specs.Command.{Command, Heap, New, Open, Write, Read, Close, Logs}
+use Rattle.far_trace.specs.Headline.{MayRefuse}
+use Rattle.far_trace.specs.Reply.{Reply, Refused}
+use Rattle.far_trace.specs.Turn.{causes, first_cause, refusal, unless, turn_reply, pointer_reply, lowest_cell}
+
+abbrev Each : (Refusal → Type 0) → List (Bool × Refusal) → Type 0
+Each P [] = Unit {0}
+Each P (c ∷ cs) = P c.1 × Each P cs
+
+-- the first cause that holds is one of the causes
+among : (P : Refusal → Type 0) (cs : List (Bool × Refusal)) (why : Refusal) → Each P cs → first_cause cs ≡ Some why → P why
+among P [] why h = λ e. absurd cc
+among P (c ∷ cs) why h = cond_both c.0 (Some c.1) (first_cause cs) (λ (x : Option Refusal). x ≡ Some why → P why)
+    (λ _ e. let same : c.1 ≡ why = cc in subst P same h.0)
+    (λ _ e. among P cs why h.1 e)
+
+-- the causes of each command are those that it may be refused for
+listed : (s : State) (c : Command) → Each (MayRefuse c) (causes s c)
+listed s (Heap logs mutators) = tt
+listed s (New m len ds) = (tt, (tt, (tt, (tt, tt))))
+listed s (Open m) = (tt, (tt, tt))
+listed s (Write m p from bytes) = (tt, (tt, (tt, (tt, tt))))
+listed s (Read m p from len) = (tt, (tt, (tt, (tt, tt))))
+listed s (Close m) = (tt, (tt, tt))
+listed s Logs = tt
+
+-- what isn't refused is no refusal
+pointer_is_no_refusal : (o : Option ℕ) (why : Refusal) → pointer_reply o ≡ Refused why → ⊥
+pointer_is_no_refusal None why e = cc
+pointer_is_no_refusal (Some p) why e = cc
+
+turn_is_no_refusal : (s : State) (c : Command) (why : Refusal) → turn_reply s c ≡ Refused why → ⊥
+turn_is_no_refusal s (Heap logs mutators) why e = cc
+turn_is_no_refusal s (New m len ds) why e = pointer_is_no_refusal (lowest_cell s m) why e
+turn_is_no_refusal s (Open m) why e = cc
+turn_is_no_refusal s (Write m p from bytes) why e = cc
+turn_is_no_refusal s (Read m p from len) why e = cc
+turn_is_no_refusal s (Close m) why e = cc
+turn_is_no_refusal s Logs why e = cc
+
+from_cause : (o : Option Refusal) (r : Reply) (why : Refusal) → (r ≡ Refused why → ⊥) → unless o Refused r ≡ Refused why → o ≡ Some why
+from_cause None r why none e = absurd (none e)
+from_cause (Some cause) r why none e = let same : cause ≡ why = cc in ap Some same
+
+pub near_refusals : (s : State) (c : Command) (r : Reply) (t : State) (why : Refusal) → Commanded s c r t → r ≡ Refused why → MayRefuse c why
+near_refusals s c r t why h e = among (MayRefuse c) (causes s c) why (listed s c) (from_cause (refusal s c) (turn_reply s c) why (turn_is_no_refusal s c why) (sym h.reply ∙ e))

@@ -1,0 +1,141 @@
+-- Stores into an object that is held: each is made, and the heap stays tidy.
+use Rattle.std.proofs.Common.{◌≡◌, ℕ, zero, suc, ◌+◌, ◌-◌, ◌*◌, ◌^◌, ◌<◌, ◌≤◌, true, refl, sym, ap, subst, ◌∙◌, arith, List, ◌++◌, map, length, get_or, take, drop, inl, inr}
+use Rattle.std.specs.List.{range_with_len}
+use Rattle.std.proofs.lemmas.Bool.{cases_lt}
+use Rattle.std.proofs.lemmas.List.{get_or_past, get_or-take, get_or-drop, get_or_append_left, get_or-append_right, length-take, length-append, length-drop}
+use lib.Pow.{pow_mono}
+use Rattle.far_word.specs.declared.pointer.Place.{Place}
+use Rattle.far_word.specs.Bytes.{word_at, packed_word}
+use Rattle.far_word.specs.Header.{head_of}
+use Rattle.far_word.specs.Sizes.{words_for}
+use Rattle.far_core.specs.declared.event.Event.{Event}
+use Rattle.far_core.specs.declared.event.Event.TheVariants.{Store}
+use Rattle.far_core.specs.Law.{Law, head_len}
+use Rattle.far_core.specs.Legal.{Legal, Holds}
+use Rattle.far_core.specs.State.{State, put, addr}
+use Rattle.far_core.specs.Step.{is_legal, after, data_word, near_data}
+use Rattle.far_core.proofs.Bounds.{span_len}
+use Rattle.far_core.proofs.Keeps.{keeps}
+use Rattle.far_core.proofs.KeepWords.{head_stays}
+use Rattle.far_core.proofs.LegalTest.{is_test}
+use Rattle.far_trace.specs.Made.{made, AllSucceed}
+use Rattle.far_trace.specs.Tidy.{Tidy}
+use Rattle.far_trace.specs.Turn.{spliced}
+use Rattle.far_trace.proofs.MadeLemmas.{made_first, first_succeeds}
+
+-- other words leave the heap tidy, if the headers stay
+pub tidy_words : (s : State) (next : ℕ → ℕ) (word : ℕ → ℕ) → Tidy s next → ((a : ℕ) → s.starts a ≡ true → word a ≡ s.word a) → Tidy record s { word = word } next
+tidy_words s next word tidy same = record {
+  at_hand = λ p ne. let h = tidy.at_hand p ne in record { len = h.len; ds = h.ds; place = h.place; marks = h.marks; near = h.near; unchosen = h.unchosen; unmoved = h.unmoved; kept = h.kept; used = h.used };
+  most = tidy.most;
+  named = tidy.named;
+  unnamed = tidy.unnamed;
+  sealed = tidy.sealed;
+  free = tidy.free;
+  live = λ a h start head. tidy.live a h start (sym (ap head_of (same a start)) ∙ head);
+  unread = tidy.unread;
+}
+
+-- ---- a row of stores
+module _ (next : ℕ → ℕ) (m p len : ℕ) (place : Place) (w : ℕ → ℕ) (wide : (i : ℕ) → w i < 2 ^ 64)
+    (pad : (i : ℕ) → i < words_for len → w i < 2 ^ (8 * (len - 8 * i))) where
+  -- a store is legal
+  store_fact : (u : State) → Holds u m p len place → (i : ℕ) → i < words_for len → Legal u (Store m p i (w i))
+  store_fact u h i lt = (len, (place, h, lt), pad i lt)
+
+  -- a store leaves each header
+  store_heads : (u : State) → Law u → Holds u m p len place → (i : ℕ) → i < words_for len → (a : ℕ) → u.starts a ≡ true → put u.word (data_word u p i) (w i) a ≡ u.word a
+  store_heads u law h i lt a start =
+      let near = h.near.2 in
+      let heads = law.cells.cell_near p len h.near.0 place h.near.1 near in
+      let long : head_len (u.word (addr place)) ≡ len = rw (span_len u law p len h.near.0 place h.near.1 near) refl in
+      let at : data_word u p i ≡ addr place + 1 + i = ap (λ o. near_data o + i) near in
+      subst (λ b. put u.word b (w i) a ≡ u.word a) (sym at)
+      (head_stays u law (addr place) heads.placed i (subst (λ n. i < words_for n) (sym long) lt) (w i) (wide i) (subst (λ n. w i < 2 ^ (8 * (n - 8 * i))) (sym long) (pad i lt)) a start)
+
+  -- a store leaves the object held
+  store_holds : (u : State) → Holds u m p len place → (i : ℕ) → Holds (after u (Store m p i (w i))) m p len place
+  store_holds u h i = record { own = h.own; rests = h.rests; near = h.near }
+
+  -- a store keeps the heap tidy
+  store_tidy : (u : State) → Law u → Tidy u next → Holds u m p len place → (i : ℕ) → i < words_for len → Tidy (after u (Store m p i (w i))) next
+  store_tidy u law tidy h i lt = tidy_words u next (put u.word (data_word u p i) (w i)) tidy (store_heads u law h i lt)
+
+  -- the stores succeed and keep the heap tidy
+  pub stores_go : (count first : ℕ) (u : State) → Law u → Tidy u next → Holds u m p len place → ((i : ℕ) → i < count → first + i < words_for len) →
+      AllSucceed u (map (λ i. Store m p i (w i)) (range_with_len first count)) × Tidy (made u (map (λ i. Store m p i (w i)) (range_with_len first count))) next
+  stores_go zero first u law tidy h inside = (tt, tidy)
+  stores_go (suc count) first u law tidy h inside =
+      let at : first + 0 ≡ first = omega arith in
+      let lt : first < words_for len = subst (λ i. i < words_for len) at (inside 0 (omega arith)) in
+      let fact = store_fact u h first lt in
+      let legal : is_legal u (Store m p first (w first)) ≡ true = is_test u (Store m p first (w first)) fact in
+      let rest = stores_go count (first + 1) (after u (Store m p first (w first))) (keeps u (Store m p first (w first)) law (wide first) fact)
+      (store_tidy u law tidy h first lt) (store_holds u h first)
+      (λ i less. let e : first + suc i ≡ first + 1 + i = omega arith in subst (λ k. k < words_for len) e (inside (suc i) (omega arith))) in
+      let row : List Event = map (λ i. Store m p i (w i)) (range_with_len (first + 1) count) in
+      (first_succeeds u (Store m p first (w first)) row legal tt rest.0, subst (λ t. Tidy t next) (sym (made_first u (Store m p first (w first)) row legal)) rest.1)
+
+-- ---- the words of bytes
+-- each of the bytes is below 256
+abbrev pub AreBytes : List ℕ → Type 0
+AreBytes bytes = (k : ℕ) → get_or bytes k 0 < 256
+
+-- a word of eight bytes is 64 bits wide
+pub word_wide : (byte : ℕ → ℕ) (i : ℕ) → ((k : ℕ) → byte k < 256) → word_at byte i < 2 ^ 64
+word_wide byte i small = omega (arith, small (8 * i), small (8 * i + 1), small (8 * i + 2), small (8 * i + 3), small (8 * i + 4), small (8 * i + 5), small (8 * i + 6), small (8 * i + 7))
+
+-- a word of r bytes and zeros is 8 * r bits wide
+part_wide : (byte : ℕ → ℕ) (i r : ℕ) → ((k : ℕ) → byte k < 256) → ((k : ℕ) → 8 * i + r ≤ k → byte k ≡ 0) → 0 < r → word_at byte i < 2 ^ (8 * r)
+part_wide byte i zero small none some = absurd (omega arith)
+part_wide byte i (suc zero) small none some = omega (arith, small (8 * i), none (8 * i + 1) (omega arith), none (8 * i + 2) (omega arith), none (8 * i + 3) (omega arith), none (8 * i + 4) (omega arith), none (8 * i + 5) (omega arith), none (8 * i + 6) (omega arith), none (8 * i + 7) (omega arith))
+part_wide byte i (suc (suc zero)) small none some = omega (arith, small (8 * i), small (8 * i + 1), none (8 * i + 2) (omega arith), none (8 * i + 3) (omega arith), none (8 * i + 4) (omega arith), none (8 * i + 5) (omega arith), none (8 * i + 6) (omega arith), none (8 * i + 7) (omega arith))
+part_wide byte i (suc (suc (suc zero))) small none some = omega (arith, small (8 * i), small (8 * i + 1), small (8 * i + 2), none (8 * i + 3) (omega arith), none (8 * i + 4) (omega arith), none (8 * i + 5) (omega arith), none (8 * i + 6) (omega arith), none (8 * i + 7) (omega arith))
+part_wide byte i (suc (suc (suc (suc zero)))) small none some = omega (arith, small (8 * i), small (8 * i + 1), small (8 * i + 2), small (8 * i + 3), none (8 * i + 4) (omega arith), none (8 * i + 5) (omega arith), none (8 * i + 6) (omega arith), none (8 * i + 7) (omega arith))
+part_wide byte i (suc (suc (suc (suc (suc zero))))) small none some = omega (arith, small (8 * i), small (8 * i + 1), small (8 * i + 2), small (8 * i + 3), small (8 * i + 4), none (8 * i + 5) (omega arith), none (8 * i + 6) (omega arith), none (8 * i + 7) (omega arith))
+part_wide byte i (suc (suc (suc (suc (suc (suc zero)))))) small none some = omega (arith, small (8 * i), small (8 * i + 1), small (8 * i + 2), small (8 * i + 3), small (8 * i + 4), small (8 * i + 5), none (8 * i + 6) (omega arith), none (8 * i + 7) (omega arith))
+part_wide byte i (suc (suc (suc (suc (suc (suc (suc zero))))))) small none some = omega (arith, small (8 * i), small (8 * i + 1), small (8 * i + 2), small (8 * i + 3), small (8 * i + 4), small (8 * i + 5), small (8 * i + 6), none (8 * i + 7) (omega arith))
+part_wide byte i (suc (suc (suc (suc (suc (suc (suc (suc r)))))))) small none some =
+    let more : 2 ^ 64 ≤ 2 ^ (8 * suc (suc (suc (suc (suc (suc (suc (suc r)))))))) = (let h : 64 ≤ 8 * suc (suc (suc (suc (suc (suc (suc (suc r))))))) = omega arith in pow_mono h) in
+    let low : word_at byte i < 2 ^ 64 = word_wide byte i small in
+    omega (arith, more, low)
+
+-- a word of bytes leaves zeros behind their end
+pub packed_padded : (bytes : List ℕ) (len i : ℕ) → AreBytes bytes → length bytes ≡ len → i < words_for len → packed_word bytes i < 2 ^ (8 * (len - 8 * i))
+packed_padded bytes len i small long lt =
+    part_wide (λ k. get_or bytes k 0) i (len - 8 * i) small (λ k past. get_or_past bytes k 0 (omega arith)) (omega arith)
+
+-- ---- parts of bytes are bytes
+-- the first of them
+pub AreBytes-take : (n : ℕ) (bytes : List ℕ) → AreBytes bytes → AreBytes (take n bytes)
+AreBytes-take n bytes small k = elim (cases_lt k n) [
+  | inl lt ↦ omega (arith, get_or-take n bytes k 0 lt, small k)
+  | inr le ↦ omega (arith, get_or_past (take n bytes) k 0 (omega (arith, length-take n bytes)))
+]
+
+-- those behind
+pub AreBytes-drop : (n : ℕ) (bytes : List ℕ) → AreBytes bytes → AreBytes (drop n bytes)
+AreBytes-drop n bytes small k = omega (arith, get_or-drop n bytes k 0, small (n + k))
+
+-- two rows of them
+pub AreBytes-append : (xs ys : List ℕ) → AreBytes xs → AreBytes ys → AreBytes (xs ++ ys)
+AreBytes-append xs ys a b k = elim (cases_lt k (length xs)) [
+  | inl lt ↦ omega (arith, get_or_append_left xs ys 0 k lt, a k)
+  | inr le ↦ omega (arith, get_or-append_right xs ys (length xs) k 0 refl le, b (k - length xs))
+]
+
+-- bytes with others in their place are bytes, and as many
+pub AreBytes-spliced : (bytes : List ℕ) (from : ℕ) (new : List ℕ) → AreBytes bytes → AreBytes new → AreBytes (spliced bytes from new)
+AreBytes-spliced bytes from new a b =
+    AreBytes-append (take from bytes ++ new) (drop (from + length new) bytes) (AreBytes-append (take from bytes) new (AreBytes-take from bytes a) b)
+    (AreBytes-drop (from + length new) bytes a)
+
+-- and they are as many
+pub length-spliced : (bytes : List ℕ) (from : ℕ) (new : List ℕ) → from + length new ≤ length bytes → length (spliced bytes from new) ≡ length bytes
+length-spliced bytes from new le = omega (
+  arith,
+  length-append (take from bytes ++ new) (drop (from + length new) bytes),
+  length-append (take from bytes) new,
+  length-take from bytes,
+  length-drop (from + length new) bytes,
+)

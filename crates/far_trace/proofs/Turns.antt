@@ -1,0 +1,400 @@
+-- The events of each command succeed, and keep the law and the heap tidy.
+use Rattle.std.proofs.Common.{◌≡◌, ◌≢◌, ℕ, ◌+◌, ◌*◌, ◌/◌, ◌%◌, ◌^◌, ◌<◌, ◌≤◌, ◌⊎◌, Bool, true, false, cond, not, ◌&&◌, nat_lt, nat_le, nat_eq, refl, sym, ap, subst, ◌∙◌, arith, Option, Some, None, List, [], ◌∷◌, ◌++◌, length, get_or, is_some, if◌then◌else◌, inl, inr}
+use Rattle.std.proofs.lemmas.Bool.{false≢true, cond_both, ltb-true, leb-true}
+use Rattle.std.proofs.lemmas.Bool.Decides.{nat_tests}
+use Rattle.far_word.specs.declared.mark.Marks.{Marks}
+use Rattle.far_word.specs.declared.pointer.Place.{Place}
+use Rattle.far_word.specs.declared.pointer.PtrWord.TheVariants.{Near}
+use Rattle.far_word.specs.declared.refused.Refused.{Refused as Refusal}
+use Rattle.far_word.specs.declared.refused.Refused.TheVariants.{NoRoom, NoPointer, Length, Closed, AlreadyOpen, NotHeld, Range}
+use Rattle.far_word.specs.declared.sizes.TheConstants.{CELLS, LOG_WORDS, LONGEST}
+use Rattle.far_word.specs.Bytes.{packed_word}
+use Rattle.far_word.specs.Header.{head_word}
+use Rattle.far_word.specs.Pointer.{IsPtr, read_of}
+use Rattle.far_word.specs.Sizes.{size_of, words_for}
+use Rattle.far_word.proofs.ByteLaws.{bytes_of-small, length-bytes_of}
+use Rattle.far_word.proofs.HeaderLaws.{head_fits}
+use Rattle.far_word.proofs.PointerLaws.{read_back, word_fits}
+use Rattle.far_core.specs.declared.event.Event.{Event}
+use Rattle.far_core.specs.declared.event.Event.TheVariants.{ReadEpoch as ReadsEpoch, Open as Opens, Load as Loads, Store as Stores, Close as Closes, Adopt as Adopts, Put as Puts, Name as Names}
+use Rattle.far_core.specs.declared.event.Kind.TheVariants as kinds
+use Rattle.far_core.specs.Law.{Law}
+use Rattle.far_core.specs.Legal.{Unmarked}
+use Rattle.far_core.specs.Room.{room}
+use Rattle.far_core.specs.State.{State, put}
+use Rattle.far_core.specs.Step.{is_legal, is_opened, data_len, near_data, closed, opened_at}
+use Rattle.far_core.proofs.KeepPlace.{header}
+use Rattle.far_core.proofs.LegalTest.{is_test}
+use Rattle.far_core.proofs.Put.{put_both, put_same, put_other}
+use Rattle.far_trace.specs.Command.{Command, Heap, New, Open, Write, Read, Close, Logs}
+use Rattle.far_trace.specs.Interpreter.{AllBytes, named_by, next_after}
+use Rattle.far_trace.specs.Made.{made, AllSucceed, AtHand}
+use Rattle.far_trace.specs.Tidy.{Tidy}
+use Rattle.far_trace.specs.Turn.{uses, data_of, spliced, lowest_cell, is_range, access_causes, first_cause, refusal, new_word, new_events, zero_puts, open_events, view_events, first_word, words_touched, load_events, starts_inside, ends_inside, part_events, store_events, turn_events, unless, events_for}
+use Rattle.far_trace.proofs.LoadWords.{loads_stay, load_legal, loads_succeed}
+use Rattle.far_trace.proofs.Lowest.{lowest_is}
+use Rattle.far_trace.proofs.MadeLemmas.{made-append, AllSucceed-append, made_first, first_succeeds, AllFit, AllFit-append, AllFit-row, made_law, load_stays}
+use Rattle.far_trace.proofs.NewTurns.{new_succeeds, new_tidy}
+use Rattle.far_trace.proofs.Rooms.{room_is, current_inside}
+use Rattle.far_trace.proofs.StoreTurns.{stores_go, AreBytes, AreBytes-spliced, length-spliced, packed_padded, word_wide}
+use Rattle.far_trace.proofs.Views.{Viewed, viewed, view_succeeds, view_law, view_tidy}
+
+-- ---- what no refusal says
+-- four causes that aren't there
+pub four : (a b c d : Bool) (w x y z : Refusal) → first_cause ((not a, w) ∷ (not b, x) ∷ (not c, y) ∷ (not d, z) ∷ []) ≡ None → (a ≡ true) × (b ≡ true) × (c ≡ true) × (d ≡ true)
+four true true true true w x y z e = (refl, refl, refl, refl)
+four true true true false w x y z e = absurd cc
+four true true false d w x y z e = absurd cc
+four true false c d w x y z e = absurd cc
+four false b c d w x y z e = absurd cc
+
+-- two of them
+pub two : (a b : Bool) (w x : Refusal) → first_cause ((not a, w) ∷ (b, x) ∷ []) ≡ None → (a ≡ true) × (b ≡ false)
+two true true w x e = absurd cc
+two true false w x e = (refl, refl)
+two false b w x e = absurd cc
+
+-- what a command that may read or write an object has
+pub record Access (s : State) (m p from count : ℕ) : Type 0 where
+  pub opened : is_opened s m ≡ true
+  pub ours : uses s m p ≡ true
+  pub some : 0 < count
+  pub within : from + count ≤ data_len s p
+
+-- what a read or a write that isn't refused has
+pub access_fact : (s : State) (m p from count : ℕ) → first_cause (access_causes s m p from count) ≡ None → Access s m p from count
+access_fact s m p from count e =
+    let h = four (nat_lt m s.mutators) (is_opened s m) (uses s m p) (is_range (data_len s p) from count) Range Closed NotHeld Range e in
+    let range : is_range (data_len s p) from count ≡ true = h.3 in
+    let some : 0 < count = grind (arith, nat_tests, range) in
+    let within : from + count ≤ data_len s p = grind (arith, nat_tests, range) in
+    record { opened = h.1; ours = h.2; some = some; within = within }
+
+-- ---- reads
+-- a read of an object's words
+module _ (s : State) (next : ℕ → ℕ) (m p from count : ℕ) (law : Law s) (tidy : Tidy s next) (access : Access s m p from count) where
+  -- the object is held after the view
+  viewing : Viewed s (made s (view_events s m p)) m p
+  viewing = viewed s next m p law tidy access.opened access.ours
+
+  -- the words that are touched are the object's
+  touched_inside : (i : ℕ) → i < words_touched from count → first_word from + i < words_for (data_len s p)
+  touched_inside i lt = omega (arith, access.within, access.some)
+
+  -- the events of a read
+  abbrev read_events : List Event
+  read_events = view_events s m p ++ load_events m p (first_word from) (words_touched from count)
+
+  -- they succeed
+  pub read_succeeds : AllSucceed s read_events
+  read_succeeds = AllSucceed-append s (view_events s m p) (load_events m p (first_word from) (words_touched from count)) (view_succeeds s next m p law tidy access.opened access.ours)
+      (loads_succeed s (made s (view_events s m p)) m p viewing (first_word from) (words_touched from count) touched_inside)
+
+  -- they end where the view does
+  read_end : made s read_events ≡ made s (view_events s m p)
+  read_end = made-append s (view_events s m p) (load_events m p (first_word from) (words_touched from count))
+      ∙ loads_stay (made s (view_events s m p)) m p (first_word from) (words_touched from count)
+
+  -- they keep the heap tidy
+  pub read_tidy : Tidy (made s read_events) next
+  read_tidy = subst (λ t. Tidy t next) (sym read_end) (view_tidy s next m p law tidy access.opened access.ours)
+
+  -- and the law
+  pub read_law : Law (made s read_events)
+  read_law = subst Law (sym read_end) (view_law s next m p law tidy access.opened access.ours)
+
+  -- ---- writes
+  -- a load that is made or not
+  part_loads : (b : Bool) (i : ℕ) → (b ≡ true → i < words_for (data_len s p)) →
+      AllSucceed (made s (view_events s m p)) (if b then Loads m p i ∷ [] else []) × (made (made s (view_events s m p)) (if b then Loads m p i ∷ [] else []) ≡ made s (view_events s m p))
+  part_loads true i inside =
+      (first_succeeds (made s (view_events s m p)) (Loads m p i) [] (load_legal s (made s (view_events s m p)) m p viewing i (inside refl)) tt tt, load_stays (made s (view_events s m p)) m p i)
+  part_loads false i inside = (tt, refl)
+
+  -- the first word that is changed in part is the object's
+  first_part_inside : starts_inside from count ≡ true → from / 8 < words_for (data_len s p)
+  first_part_inside _ = omega (arith, access.within, access.some)
+
+  -- so is the last one
+  last_part_inside : ends_inside from count ≡ true → (from + count) / 8 < words_for (data_len s p)
+  last_part_inside h =
+      let part : (from + count) % 8 ≢ 0 = grind (arith, nat_tests) in
+      omega (arith, access.within, access.some)
+
+  -- the loads of words that are changed in part succeed, and leave the state
+  parts : AllSucceed (made s (view_events s m p)) (part_events m p from count) × (made (made s (view_events s m p)) (part_events m p from count) ≡ made s (view_events s m p))
+  parts =
+      let a = part_loads (starts_inside from count) (from / 8) first_part_inside in
+      let b = part_loads (ends_inside from count) ((from + count) / 8) last_part_inside in
+      let one : List Event = if starts_inside from count then Loads m p (from / 8) ∷ [] else [] in
+      let two : List Event = if ends_inside from count then Loads m p ((from + count) / 8) ∷ [] else [] in (
+        AllSucceed-append (made s (view_events s m p)) one two a.0 (subst (λ t. AllSucceed t two) (sym a.1) b.0),
+        made-append (made s (view_events s m p)) one two ∙ ap (λ t. made t two) a.1 ∙ b.1,
+      )
+
+-- a write of bytes
+module _ (s : State) (next : ℕ → ℕ) (m p from : ℕ) (bytes : List ℕ) (law : Law s) (tidy : Tidy s next) (access : Access s m p from (length bytes))
+    (small : (k : ℕ) → get_or bytes k 0 < 256) where
+  -- the state after the view
+  abbrev view : State
+  view = made s (view_events s m p)
+
+  -- the bytes after the write
+  abbrev changed : List ℕ
+  changed = spliced (data_of s p) from bytes
+
+  -- they are bytes
+  changed_bytes : AreBytes changed
+  changed_bytes = AreBytes-spliced (data_of s p) from bytes (bytes_of-small (λ i. s.word (near_data (read_of (s.cell p)) + i)) (data_len s p)) small
+
+  -- as many as before
+  changed_long : length changed ≡ data_len s p
+  changed_long =
+      let long : length (data_of s p) ≡ data_len s p = length-bytes_of (λ i. s.word (near_data (read_of (s.cell p)) + i)) (data_len s p) in
+      length-spliced (data_of s p) from bytes (omega (arith, long, access.within)) ∙ long
+
+  -- the object is held
+  held : Viewed s view m p
+  held = viewed s next m p law tidy access.opened access.ours
+
+  -- the stores
+  abbrev stores : List Event
+  stores = store_events m p (first_word from) (words_touched from (length bytes)) changed
+
+  -- each carries a word
+  wide : (i : ℕ) → packed_word changed i < 2 ^ 64
+  wide i = word_wide (λ k. get_or changed k 0) i changed_bytes
+
+  -- they succeed, and keep the heap tidy
+  stored : AllSucceed view stores × Tidy (made view stores) next
+  stored = stores_go next m p held.len held.place (packed_word changed) wide
+      (λ i lt. packed_padded changed held.len i changed_bytes (changed_long ∙ held.long) lt)
+      (words_touched from (length bytes)) (first_word from) view
+      (view_law s next m p law tidy access.opened access.ours) (view_tidy s next m p law tidy access.opened access.ours) held.holds
+      (λ i lt. subst (λ n. first_word from + i < words_for n) held.long (touched_inside s next m p from (length bytes) law tidy access i lt))
+
+  -- what is made before the stores
+  abbrev looks : List Event
+  looks = view_events s m p ++ part_events m p from (length bytes)
+
+  -- it ends where the view does
+  looked : made s looks ≡ view
+  looked = made-append s (view_events s m p) (part_events m p from (length bytes)) ∙ (parts s next m p from (length bytes) law tidy access).1
+
+  -- the events of a write succeed
+  pub write_succeeds : AllSucceed s (looks ++ stores)
+  write_succeeds = AllSucceed-append s looks stores
+      (AllSucceed-append s (view_events s m p) (part_events m p from (length bytes)) (view_succeeds s next m p law tidy access.opened access.ours) (parts s next m p from (length bytes) law tidy access).0)
+      (subst (λ t. AllSucceed t stores) (sym looked) stored.0)
+
+  -- they end where the stores do
+  write_end : made s (looks ++ stores) ≡ made view stores
+  write_end = made-append s looks stores ∙ ap (λ t. made t stores) looked
+
+  -- they keep the heap tidy
+  pub write_tidy : Tidy (made s (looks ++ stores)) next
+  write_tidy = subst (λ t. Tidy t next) (sym write_end) stored.1
+
+  -- and the law
+  pub write_law : Law (made s (looks ++ stores))
+  write_law = subst Law (sym write_end) (made_law view stores (view_law s next m p law tidy access.opened access.ours)
+      (AllFit-row (λ i. Stores m p i (packed_word changed i)) (first_word from) (words_touched from (length bytes)) (λ i lt. wide (first_word from + i))))
+
+-- ---- a new object
+-- where a new span may stand
+pub record NewRoom (s : State) (size : ℕ) (place : Place) : Type 0 where
+  pub log : place.log < s.logs
+  pub fits : place.at + size ≤ LOG_WORDS
+  pub here : place.at ≡ s.tail place.log
+  pub stands : ((s.kind place.log ≡ kinds.Open) × (place.at ≡ s.tail place.log)) ⊎ ((s.kind place.log ≡ kinds.Free) × (place.at ≡ 0))
+  pub order : (place.log ≡ s.current) ⊎ (place.log ≡ s.current + 1)
+
+-- the room that is found is such a place
+pub new_room : (s : State) (next : ℕ → ℕ) (size : ℕ) → Law s → Tidy s next → size ≤ LOG_WORDS → is_some (room s size true) ≡ true → (place : Place) × (room s size true ≡ Some place) × NewRoom s size place
+new_room s next size law tidy short found =
+    subst (λ (o : Option Place). is_some o ≡ true → (place : Place) × (o ≡ Some place) × NewRoom s size place) (sym (room_is s next size law tidy))
+    (cond_both (nat_le (s.tail s.current + size) LOG_WORDS) _ _ (λ (o : Option Place). is_some o ≡ true → (place : Place) × (o ≡ Some place) × NewRoom s size place)
+    (λ t _. let at : Place = record { log = s.current; at = s.tail s.current } in
+    (at, refl, record { log = current_inside s next law tidy; fits = leb-true (s.tail s.current + size) LOG_WORDS t; here = refl; stands = inl (law.logs.is_open, refl); order = inl refl }))
+    (λ _. cond_both (nat_lt (s.current + 2) s.logs) _ _ (λ (o : Option Place). is_some o ≡ true → (place : Place) × (o ≡ Some place) × NewRoom s size place)
+    (λ t _. let lt : s.current + 2 < s.logs = ltb-true (s.current + 2) s.logs t in
+    let empty : s.kind (s.current + 1) ≡ kinds.Free = tidy.free (s.current + 1) (omega arith) in
+    let at : Place = record { log = s.current + 1; at = 0 } in
+    (at, refl, record { log = omega arith; fits = omega arith; here = sym (law.logs.free_tail (s.current + 1) empty); stands = inr (empty, refl); order = inr refl }))
+    (λ _ h. absurd (false≢true h))))
+    found
+
+-- the cell that is found is the next one
+pub new_cell : (s : State) (next : ℕ → ℕ) (m : ℕ) → Tidy s next → is_some (lowest_cell s m) ≡ true → (next m < CELLS) × (lowest_cell s m ≡ Some (m * CELLS + next m))
+new_cell s next m tidy found =
+    subst (λ (o : Option ℕ). is_some o ≡ true → (next m < CELLS) × (o ≡ Some (m * CELLS + next m))) (sym (lowest_is s next m tidy))
+    (cond_both (nat_lt (next m) CELLS) _ _ (λ (o : Option ℕ). is_some o ≡ true → (next m < CELLS) × (o ≡ Some (m * CELLS + next m)))
+    (λ t _. (ltb-true (next m) CELLS t, refl)) (λ _ h. absurd (false≢true h)))
+    found
+
+-- no marks
+abbrev clean : Marks
+clean = record { hot = false; evac = false; moved = false; dropped = false }
+
+-- what the events of a command do: they succeed, and keep the heap tidy and the law
+abbrev pub Turned : State → (ℕ → ℕ) → List Event → Type 0
+Turned s next es = AllSucceed s es × Tidy (made s es) next × Law (made s es)
+
+-- what the tests of a new object say
+pub new_sizes : (m mutators len ds : ℕ) → (nat_lt m mutators && nat_lt ds 256) ≡ true → (nat_lt 0 len && nat_le len LONGEST) ≡ true → (m < mutators) × (ds < 256) × (0 < len) × (len ≤ LONGEST)
+new_sizes m mutators len ds a b = (grind (arith, nat_tests), grind (arith, nat_tests), grind (arith, nat_tests), grind (arith, nat_tests))
+
+-- the events of a new object
+new_turned : (s : State) (next : ℕ → ℕ) (m len ds : ℕ) → Law s → Tidy s next → refusal s (New m len ds) ≡ None → Turned s (put next m (next m + 1)) (turn_events s (New m len ds))
+new_turned s next m len ds law tidy e =
+    let h = four (nat_lt m s.mutators && nat_lt ds 256) (nat_lt 0 len && nat_le len LONGEST) (is_some (lowest_cell s m)) (is_some (room s (size_of len) true)) Range Length NoPointer NoRoom e in
+    let sizes = new_sizes m s.mutators len ds h.0 h.1 in
+    let cell = new_cell s next m tidy h.2 in
+    let found = new_room s next (size_of len) law tidy (omega (arith, sizes.3)) h.3 in
+    let p : ℕ = m * CELLS + next m in
+    let new : ℕ = new_word len ds found.0 in
+    let row : List Event = (Puts found.0.log found.0.at (head_word (m * CELLS + next m) len ds) ∷ zero_puts found.0 (words_for len)) ++ Names (m * CELLS + next m) 0 (new_word len ds found.0) ∷ Adopts m (m * CELLS + next m) ∷ [] in
+    let same : new_events m len ds (lowest_cell s m) (room s (size_of len) true) ≡ row =
+    ap (λ o. new_events m len ds o (room s (size_of len) true)) cell.1 ∙ ap (new_events m len ds (Some (m * CELLS + next m))) found.1 in
+    let lies : IsPtr (Near len ds found.0 clean) = (sizes.2, sizes.3, sizes.1, omega (arith, found.2.log, law.shape.few_logs), found.2.fits) in
+    let reads : read_of new ≡ Some (Near len ds found.0 clean) = read_back (Near len ds found.0 clean) lies in
+    let unmarked : Unmarked clean = record { hot = refl; evac = refl; moved = refl; dropped = refl } in
+    let within : m * CELLS + next m < CELLS * s.mutators = omega (arith, sizes.0, cell.0) in
+    let fit : AllFit row = AllFit-append (Puts found.0.log found.0.at (head_word (m * CELLS + next m) len ds) ∷ zero_puts found.0 (words_for len)) (Names (m * CELLS + next m) 0 (new_word len ds found.0) ∷ Adopts m (m * CELLS + next m) ∷ []) (
+      head_fits (header (m * CELLS + next m) len ds) (record { some = sizes.2; most = sizes.3; structure = sizes.1; cell = omega (arith, law.shape.few_mutators) }),
+      AllFit-row (λ i. Puts found.0.log (found.0.at + 1 + i) 0) 0 (words_for len) (λ i lt. omega arith),
+    )
+    ((omega arith, word_fits (Near len ds found.0 clean) lies), (tt, tt)) in
+    subst (λ es. Turned s (put next m (next m + 1)) es) (sym same) (
+      new_succeeds s next law tidy m p len ds new found.0 clean sizes.0 cell.0 refl sizes.2 sizes.3 sizes.1 found.2.log found.2.fits found.2.here found.2.stands found.2.order reads unmarked,
+      new_tidy s next law tidy m p len ds new found.0 clean sizes.0 cell.0 refl sizes.2 sizes.3 sizes.1 found.2.log found.2.fits found.2.here found.2.stands found.2.order reads unmarked,
+      made_law s row law fit,
+    )
+
+-- ---- scopes
+-- each named cell stays at hand where cells and their use stay
+same_hands : (s t : State) → s.cell ≡ t.cell → s.used ≡ t.used → ((p : ℕ) → s.cell p ≢ 0 → AtHand s p) → (p : ℕ) → t.cell p ≢ 0 → AtHand t p
+same_hands s t cells uses_same hands p ne =
+    let h = hands p (λ z. ne (sym (ap (λ (f : ℕ → ℕ). f p) cells) ∙ z)) in
+    record {
+      len = h.len;
+      ds = h.ds;
+      place = h.place;
+      marks = h.marks;
+      near = sym (ap (λ (f : ℕ → ℕ). read_of (f p)) cells) ∙ h.near;
+      unchosen = h.unchosen;
+      unmoved = h.unmoved;
+      kept = h.kept;
+      used = sym (ap (λ (f : ℕ → Bool). f p) uses_same) ∙ h.used;
+    }
+
+-- other scopes leave the heap tidy, if no closed owner remembers an epoch
+tidy_scopes : (s : State) (next : ℕ → ℕ) (scope : ℕ → ℕ) (remembered : ℕ → Option ℕ) (held : ℕ → Option Place) → Tidy s next → ((m : ℕ) → scope m ≡ 0 → remembered m ≡ None) →
+    Tidy record s { scope = scope; remembered = remembered; held = held } next
+tidy_scopes s next scope remembered held tidy unread = record {
+  at_hand = same_hands s (record s { scope = scope; remembered = remembered; held = held }) refl refl tidy.at_hand;
+  most = tidy.most;
+  named = tidy.named;
+  unnamed = tidy.unnamed;
+  sealed = tidy.sealed;
+  free = tidy.free;
+  live = tidy.live;
+  unread = unread;
+}
+
+-- a scope that isn't open is closed
+pub shut : (s : State) (m : ℕ) → nat_lt m s.mutators ≡ true → is_opened s m ≡ false → (m < s.mutators) × (s.scope m ≡ 0)
+shut s m within opened = (grind (arith, nat_tests), grind (arith, nat_tests))
+
+module _ (s : State) (next : ℕ → ℕ) (m : ℕ) (law : Law s) (tidy : Tidy s next) (closed_now : (m < s.mutators) × (s.scope m ≡ 0)) where
+  -- the state after the epoch is read
+  abbrev read : State
+  read = record s { remembered = put s.remembered m (Some s.epoch) }
+
+  -- the state after the opening
+  abbrev begun : State
+  begun = record read { scope = put s.scope m (opened_at (read.remembered m)) }
+
+  -- the epoch is remembered
+  read_now : read.remembered m ≡ Some s.epoch
+  read_now = put_same s.remembered m (Some s.epoch) m refl
+
+  -- the epoch may be read
+  read_legal : is_legal s (ReadsEpoch m) ≡ true
+  read_legal = is_test s (ReadsEpoch m) closed_now
+
+  -- the scope may be opened
+  open_legal : is_legal read (Opens m) ≡ true
+  open_legal = is_test read (Opens m) (closed_now, ap is_some read_now)
+
+  -- the heap stays tidy
+  begun_tidy : Tidy begun next
+  begun_tidy = tidy_scopes s next (put s.scope m (opened_at (read.remembered m))) (put s.remembered m (Some s.epoch)) s.held tidy
+      (λ k z. put_other s.remembered m (Some s.epoch) k (λ e. odd k e z) ∙ tidy.unread k (sym (put_other s.scope m (opened_at (read.remembered m)) k (λ e. odd k e z)) ∙ z)) where
+        odd : (k : ℕ) → k ≡ m → put s.scope m (opened_at (read.remembered m)) k ≡ 0 → ⊥
+        odd k e z =
+            let one : 2 * s.epoch + 1 ≡ 0 = sym (ap opened_at read_now) ∙ sym (put_same s.scope m (opened_at (read.remembered m)) k e) ∙ z in
+            omega arith
+
+  -- the events of an opening
+  pub open_turned : Turned s next (open_events s m)
+  open_turned =
+      let none : s.remembered m ≡ None = tidy.unread m closed_now.1 in
+      let same : open_events s m ≡ ReadsEpoch m ∷ Opens m ∷ [] = ap (λ (o : Option ℕ). if is_some o then Opens m ∷ [] else ReadsEpoch m ∷ Opens m ∷ []) none in
+      let end : made s (ReadsEpoch m ∷ Opens m ∷ []) ≡ begun = made_first s (ReadsEpoch m) (Opens m ∷ []) read_legal ∙ made_first read (Opens m) [] open_legal in
+      subst (λ es. Turned s next es) (sym same) (
+        first_succeeds s (ReadsEpoch m) (Opens m ∷ []) read_legal tt (first_succeeds read (Opens m) [] open_legal tt tt),
+        subst (λ t. Tidy t next) (sym end) begun_tidy,
+        made_law s (ReadsEpoch m ∷ Opens m ∷ []) law (tt, (tt, tt)),
+      )
+
+-- the event of a closing
+close_turned : (s : State) (next : ℕ → ℕ) (m : ℕ) → Law s → Tidy s next → is_opened s m ≡ true → Turned s next (Closes m ∷ [])
+close_turned s next m law tidy opened =
+    let legal : is_legal s (Closes m) ≡ true = opened in
+    let end : made s (Closes m ∷ []) ≡ closed s m = made_first s (Closes m) [] legal in
+    let held : ℕ → Option Place = λ p. cond (nat_eq (p / CELLS) m) None (s.held p) in (
+      first_succeeds s (Closes m) [] legal tt tt,
+      subst (λ t. Tidy t next) (sym end) (tidy_scopes s next (put s.scope m 0) (put s.remembered m None) (λ p. cond (nat_eq (p / CELLS) m) None (s.held p)) tidy
+          (λ k z. put_both (λ (o : Option ℕ). o ≡ None) s.remembered m None k (λ _. refl) (λ ne. tidy.unread k (sym (put_other s.scope m 0 k ne) ∙ z)))),
+      made_law s (Closes m ∷ []) law (tt, tt),
+    )
+
+-- ---- all commands
+-- a command that isn't refused
+turned : (s : State) (next : ℕ → ℕ) (c : Command) → Law s → Tidy s next → AllBytes c → refusal s c ≡ None → Turned s (named_by c next) (turn_events s c)
+turned s next (Heap logs mutators) law tidy small e = (tt, tidy, law)
+turned s next (New m len ds) law tidy small e = new_turned s next m len ds law tidy e
+turned s next (Open m) law tidy small e =
+    let h = two (nat_lt m s.mutators) (is_opened s m) Range AlreadyOpen e in
+    open_turned s next m law tidy (shut s m h.0 h.1)
+turned s next (Write m p from bytes) law tidy small e =
+    let access = access_fact s m p from (length bytes) e in
+    (write_succeeds s next m p from bytes law tidy access small, write_tidy s next m p from bytes law tidy access small, write_law s next m p from bytes law tidy access small)
+turned s next (Read m p from len) law tidy small e =
+    let access = access_fact s m p from len e in
+    (read_succeeds s next m p from len law tidy access, read_tidy s next m p from len law tidy access, read_law s next m p from len law tidy access)
+turned s next (Close m) law tidy small e = close_turned s next m law tidy (two_open (nat_lt m s.mutators) (is_opened s m) e) where
+  two_open : (a b : Bool) → first_cause ((not a, Range) ∷ (not b, Closed) ∷ []) ≡ None → b ≡ true
+  two_open true true f = refl
+  two_open true false f = absurd cc
+  two_open false b f = absurd cc
+turned s next Logs law tidy small e = (tt, tidy, law)
+
+-- each command: a refused one does nothing
+turn_at : (s : State) (next : ℕ → ℕ) (c : Command) (o : Option Refusal) → refusal s c ≡ o → Law s → Tidy s next → AllBytes c →
+    Turned s (unless o (λ _. next) (named_by c next)) (unless o (λ _. []) (turn_events s c))
+turn_at s next c None e law tidy small = turned s next c law tidy small e
+turn_at s next c (Some why) e law tidy small = (tt, tidy, law)
+
+-- the events of a command succeed
+pub turn_succeeds : (s : State) (next : ℕ → ℕ) (c : Command) → Law s → Tidy s next → AllBytes c → AllSucceed s (events_for s c)
+turn_succeeds s next c law tidy small = (turn_at s next c (refusal s c) refl law tidy small).0
+
+-- they keep the heap tidy
+pub turn_keeps_tidy : (s : State) (next : ℕ → ℕ) (c : Command) → Law s → Tidy s next → AllBytes c → Tidy (made s (events_for s c)) (next_after s c next)
+turn_keeps_tidy s next c law tidy small = (turn_at s next c (refusal s c) refl law tidy small).1
+
+-- and the law
+pub turn_law : (s : State) (next : ℕ → ℕ) (c : Command) → Law s → Tidy s next → AllBytes c → Law (made s (events_for s c))
+turn_law s next c law tidy small = (turn_at s next c (refusal s c) refl law tidy small).2

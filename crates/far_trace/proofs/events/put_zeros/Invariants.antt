@@ -1,0 +1,8 @@
+use Rattle.std.proofs.Common.{◌≡◌}
+use Rattle.far_core.specs.CoreState.{core_state}
+use Rattle.far_trace.specs.Made.{made}
+use Rattle.far_trace.specs.Turn.{zero_puts}
+use Rattle.far_trace.proofs.events.put_zeros.Given as goal
+
+abbrev pub invariant-loop-i : goal.invariant-loop-i
+invariant-loop-i l = core_state l.core ≡ made (core_state l.fn.core) (zero_puts l.place l.i)

@@ -1,0 +1,5 @@
+use Rattle.far_trace.proofs.AloneFirst.{alone_first}
+use Rattle.far_trace.proofs.headline.mutators_are_alone.Goals as goal
+
+pub returns : goal.returns
+returns c = alone_first

@@ -1,0 +1,75 @@
+-- The replies to one mutator's lines, by its own lines alone.
+use Rattle.std.specs.Prelude.{◌≡◌, ℕ, ◌+◌, ◌/◌, ◌<◌, ◌≤◌, ◌⊎◌, Bool, true, false, cond, ◌==◌, Option, Some, None, List, [], ◌∷◌, length, replicate, slice_range}
+use Rattle.std.specs.Bool.{MatchBool}
+use Rattle.far_word.specs.declared.refused.Refused.TheVariants.{NoRoom, NoPointer, Length, Closed, AlreadyOpen, NotHeld, Range}
+use Rattle.far_word.specs.declared.sizes.TheConstants.{CELLS, LONGEST}
+use Rattle.far_core.specs.State.{put}
+use Rattle.far_core.specs.World.{World, Object}
+use Rattle.far_trace.specs.Command.{Command, Heap, New, Open, Write, Read, Close, Logs}
+use Rattle.far_trace.specs.Reply.{Reply, Done, Pointer, Data, Refused}
+use Rattle.far_trace.specs.Turn.{spliced}
+
+-- what a mutator knows of itself: whether its scope is open, and the bytes of its objects
+pub record Own : Type 0 where
+  pub opened : Bool
+  pub object : ℕ → Option (List ℕ)
+
+-- at the start its scope is closed and it has no object
+abbrev pub nothing : Own
+nothing = record { opened = false; object = λ _. None }
+
+-- the range is empty, or passes the end
+abbrev pub IsOut : List ℕ → ℕ → ℕ → Type 0
+IsOut bytes from count = (count ≡ 0) ⊎ (length bytes < from + count)
+
+abbrev pub IsIn : List ℕ → ℕ → ℕ → Type 0
+IsIn bytes from count = (0 < count) × (from + count ≤ length bytes)
+
+-- a command of the mutator m with its reply takes what it knows from o to q
+abbrev pub Knows : ℕ → Own → Command → Reply → Own → Type 0
+Knows m o (New _ len ds) (Pointer p) q = (ds < 256) × (0 < len) × (len ≤ LONGEST) × (p / CELLS ≡ m) × (o.object p ≡ None) × (q ≡ record o { object = put o.object p (Some (replicate len 0)) })
+Knows m o (New _ len ds) (Refused Range) q = (256 ≤ ds) × (q ≡ o)
+Knows m o (New _ len ds) (Refused Length) q = (ds < 256) × ((len ≡ 0) ⊎ (LONGEST < len)) × (q ≡ o)
+Knows m o (New _ len ds) (Refused NoPointer) q = (ds < 256) × (0 < len) × (len ≤ LONGEST) × (q ≡ o)
+Knows m o (New _ len ds) (Refused NoRoom) q = (ds < 256) × (0 < len) × (len ≤ LONGEST) × (q ≡ o)
+Knows m o (Open _) Done q = (o.opened ≡ false) × (q ≡ record o { opened = true })
+Knows m o (Open _) (Refused AlreadyOpen) q = (o.opened ≡ true) × (q ≡ o)
+Knows m o (Close _) Done q = (o.opened ≡ true) × (q ≡ record o { opened = false })
+Knows m o (Close _) (Refused Closed) q = (o.opened ≡ false) × (q ≡ o)
+Knows m o (Read _ p from len) (Data bytes) q = (o.opened ≡ true) × (q ≡ o) × ((all : List ℕ) × (o.object p ≡ Some all) × IsIn all from len × (bytes ≡ slice_range all from (from + len)))
+Knows m o (Read _ p from len) (Refused Closed) q = (o.opened ≡ false) × (q ≡ o)
+Knows m o (Read _ p from len) (Refused NotHeld) q = (o.opened ≡ true) × (o.object p ≡ None) × (q ≡ o)
+Knows m o (Read _ p from len) (Refused Range) q = (o.opened ≡ true) × (q ≡ o) × ((all : List ℕ) × (o.object p ≡ Some all) × IsOut all from len)
+Knows m o (Write _ p from new) Done q = (o.opened ≡ true) × ((all : List ℕ) × (o.object p ≡ Some all) × IsIn all from (length new) × (q ≡ record o { object = put o.object p (Some (spliced all from new)) }))
+Knows m o (Write _ p from new) (Refused Closed) q = (o.opened ≡ false) × (q ≡ o)
+Knows m o (Write _ p from new) (Refused NotHeld) q = (o.opened ≡ true) × (o.object p ≡ None) × (q ≡ o)
+Knows m o (Write _ p from new) (Refused Range) q = (o.opened ≡ true) × (q ≡ o) × ((all : List ℕ) × (o.object p ≡ Some all) × IsOut all from (length new))
+Knows m o _ _ q = ⊥
+
+-- whose command it is, none's for the heap and the logs
+abbrev pub speaker : Command → Option ℕ
+speaker (Heap logs mutators) = None
+speaker (New m len ds) = Some m
+speaker (Open m) = Some m
+speaker (Write m p from bytes) = Some m
+speaker (Read m p from len) = Some m
+speaker (Close m) = Some m
+speaker Logs = None
+
+abbrev pub is_by : ℕ → Option ℕ → Bool
+is_by m None = false
+is_by m (Some k) = k == m
+
+-- the replies to the mutator's own lines, from what it knows on; lines of others change nothing
+abbrev pub Alone : ℕ → Own → List Command → List Reply → Type 0
+Alone m o [] [] = Unit {0}
+Alone m o (c ∷ cs) (r ∷ rs) = MatchBool (is_by m (speaker c)) ((q : Own) × Knows m o c r q × Alone m q cs rs) (Alone m o cs rs)
+Alone m o _ _ = ⊥
+
+-- what a world says of a mutator
+abbrev pub bytes_in_world : Option Object → Option (List ℕ)
+bytes_in_world None = None
+bytes_in_world (Some o) = Some o.bytes
+
+abbrev pub own_of : World → ℕ → Own
+own_of w m = record { opened = w.opened m; object = λ p. cond (p / CELLS == m) (bytes_in_world (w.object p)) None }

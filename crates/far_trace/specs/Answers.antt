@@ -1,0 +1,95 @@
+-- What is written for a text.
+use Rattle.std.specs.Prelude.{◌≡◌, ◌⊎◌, ℕ, true, Option, List, [], ◌∷◌, Result, Ok, Err, if◌then◌else◌}
+use Rattle.std.specs.Bool.{MatchBool}
+use Rattle.std.specs.List.{flat_map}
+use Rattle.std.specs.Io.KnownBytes.{Appends, Keeps}
+use Rattle.far_word.specs.declared.refused.Refused.TheVariants.{Memory, Shape, Syntax}
+use Rattle.far_core.specs.declared.shape.Shape.{Shape as Size}
+use Rattle.far_core.specs.Law.{Law}
+use Rattle.far_core.specs.Opening.{opening}
+use Rattle.far_core.specs.Shape.{is_shape}
+use Rattle.far_core.specs.State.{State}
+use Rattle.far_trace.specs.Command.{Command, Heap}
+use Rattle.far_trace.specs.Grammar.{commands_of}
+use Rattle.far_trace.specs.Made.{made, AllSucceed, AllAtHand}
+use Rattle.far_trace.specs.Reply.{Reply, Done, Refused, printed}
+use Rattle.far_trace.specs.declared.run.End.{End}
+use Rattle.far_trace.specs.declared.run.End.TheVariants.{Ran, Refused as Turned}
+use Rattle.far_trace.specs.declared.run.RunFault.{RunFault}
+use Rattle.far_trace.specs.declared.run.RunFault.TheVariants as faults
+use Rattle.far_trace.specs.Later.{AreLater}
+use Rattle.far_trace.specs.Stream.{AppendsFront}
+use Rattle.far_trace.specs.Turn.{events_for, reply_to}
+
+-- one command, from a state to the next: its reply, its events, which all succeed, and what the state then keeps
+pub record Commanded (s : State) (c : Command) (r : Reply) (t : State) : Type 0 where
+  pub reply : r ≡ reply_to s c
+  pub state : t ≡ made s (events_for s c)
+  pub succeed : AllSucceed s (events_for s c)
+  pub law : Law t
+  pub at_hand : AllAtHand t
+
+-- one reply a command, and a list of states from s on, each reached from the one before by its command's events
+abbrev pub Answered : State → List Command → List Reply → List State → Type 0
+Answered s [] [] [] = Unit {0}
+Answered s (c ∷ cs) (r ∷ rs) (t ∷ ts) = Commanded s c r t × Answered t cs rs ts
+Answered s _ _ _ = ⊥
+
+-- the shape that a heap line says: the first epoch is 0
+abbrev pub shape_of : ℕ → ℕ → Size
+shape_of logs mutators = record { logs = logs; mutators = mutators; epoch = 0 }
+
+-- the first state of a heap
+abbrev pub first_state : ℕ → ℕ → State
+first_state logs mutators = opening (shape_of logs mutators) true
+
+-- the output of the commands that a text is read as
+abbrev pub IsOutput : Result (List Command) ℕ → List ℕ → Type 0
+IsOutput (Err line) output = output ≡ printed (Refused (Syntax line))
+IsOutput (Ok []) output = output ≡ []
+IsOutput (Ok (Heap logs mutators ∷ commands)) output =
+    MatchBool (is_shape (shape_of logs mutators))
+    ((replies : List Reply) × (states : List State) × Answered (first_state logs mutators) commands replies states × (output ≡ flat_map printed (Done ∷ replies)))
+    (output ≡ printed (Refused Shape))
+IsOutput (Ok (_ ∷ commands)) output = output ≡ printed (Refused Shape)
+
+-- the first command, if there is one, is a heap, and those behind it are not
+abbrev pub BeginsWithHeap : List Command → Type 0
+BeginsWithHeap [] = Unit {0}
+BeginsWithHeap (Heap logs mutators ∷ commands) = AreLater commands
+BeginsWithHeap (_ ∷ commands) = ⊥
+
+-- how a text ends whose commands are read so
+abbrev pub end_of : Result (List Command) ℕ → End
+end_of (Ok []) = Ran
+end_of (Ok (Heap logs mutators ∷ commands)) = if is_shape (shape_of logs mutators) then Ran else Turned
+end_of (Ok (_ ∷ commands)) = Turned
+end_of (Err line) = Turned
+
+-- what was written is the output of these commands
+abbrev pub WritesOutput : Option (List ℕ) → Option (List ℕ) → Result (List Command) ℕ → Type 0
+WritesOutput old new commands = (output : List ℕ) × IsOutput commands output × Appends old new output
+
+-- a heap of this shape may be refused memory
+abbrev pub MayMakeHeap : Result (List Command) ℕ → Type 0
+MayMakeHeap (Ok (Heap logs mutators ∷ commands)) = is_shape (shape_of logs mutators) ≡ true
+MayMakeHeap _ = ⊥
+
+-- what a fault leaves: a failed write, a front of the output; want of memory, nothing, or the one line that says so where
+-- the heap was refused; a failed read, nothing
+abbrev pub LeavesBehind : RunFault → Option (List ℕ) → Option (List ℕ) → Result (List Command) ℕ → Type 0
+LeavesBehind faults.Write old new commands = (output : List ℕ) × IsOutput commands output × AppendsFront old new output
+LeavesBehind faults.Memory old new commands = Keeps old new ⊎ (MayMakeHeap commands × AppendsFront old new (printed (Refused Memory)))
+LeavesBehind faults.Read old new commands = Keeps old new
+
+-- this is the output for the text
+abbrev pub Answers : List ℕ → List ℕ → Type 0
+Answers text output = IsOutput (commands_of text) output
+
+-- what was written is the output for the text
+abbrev pub WritesAnswer : Option (List ℕ) → Option (List ℕ) → List ℕ → Type 0
+WritesAnswer old new text = WritesOutput old new (commands_of text)
+
+-- what a fault leaves of it
+abbrev pub Leaves : RunFault → Option (List ℕ) → Option (List ℕ) → List ℕ → Type 0
+Leaves fault old new text = LeavesBehind fault old new (commands_of text)

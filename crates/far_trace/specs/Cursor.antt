@@ -1,0 +1,52 @@
+-- How far a text is read: what the words and the lines are that are left of it.
+use Rattle.std.specs.Prelude.{ℕ, Bool, ◌||◌, ◌==◌, List, [], ◌∷◌, Option, Some, None}
+use Rattle.std.specs.Borrow.{Bor}
+use Rattle.far_trace.specs.Command.{said}
+use Rattle.far_trace.specs.Grammar.{Line, Skipped, Saying, words_of, lines_of}
+use Rattle.far_trace.specs.declared.cursor.Rest.{Rest}
+use Rattle.far_trace.specs.declared.cursor.Rest.TheVariants.{Words, Lines}
+use Rattle.far_trace.specs.declared.line.Line.{Line as Spelled}
+use Rattle.far_trace.specs.declared.line.Line.TheVariants.{Skipped as SpelledSkipped, Said as SpelledSaid}
+
+-- a space or a newline ends a word
+abbrev pub is_end : ℕ → Bool
+is_end b = (b == 32) || (b == 10)
+
+abbrev pub first_part : List (List ℕ) → List ℕ
+first_part [] = []
+first_part (part ∷ parts) = part
+
+abbrev pub other_parts : List (List ℕ) → List (List ℕ)
+other_parts [] = []
+other_parts (part ∷ parts) = parts
+
+abbrev pub first_line : List ℕ → List ℕ
+first_line text = first_part (lines_of text)
+
+-- the lines behind the first
+abbrev pub lines_behind : List ℕ → List (List ℕ)
+lines_behind text = other_parts (lines_of text)
+
+-- the words of the first line
+abbrev pub words_in : List ℕ → List (List ℕ)
+words_in text = words_of (first_line text)
+
+-- the lines that are left
+abbrev pub lines_left : Option (Bor (List ℕ)) → List (List ℕ)
+lines_left None = []
+lines_left (Some text) = lines_of text.now
+
+-- the words that are left of the line
+abbrev pub words_left : Rest → List (List ℕ)
+words_left (Words text) = words_in text.now
+words_left (Lines lines) = []
+
+-- the lines behind it
+abbrev pub lines_after : Rest → List (List ℕ)
+lines_after (Words text) = lines_behind text.now
+lines_after (Lines lines) = lines_left lines
+
+-- the line that is spelled so
+abbrev pub said_line : Spelled → Line
+said_line SpelledSkipped = Skipped
+said_line (SpelledSaid command) = Saying (said command)

@@ -1,0 +1,92 @@
+-- The words that the interpreter's own contracts need.
+use Rattle.std.specs.Prelude.{◌≡◌, ℕ, ◌+◌, ◌/◌, ◌<◌, ◌≤◌, true, List, map, slice_index, Option, Some, None, Result, Ok, Err, nat_le, nat_lt, if◌then◌else◌}
+use Rattle.std.specs.List.{range_with_len}
+use Rattle.far_word.specs.declared.refused.Refused.{Refused as Refusal}
+use Rattle.far_word.specs.declared.sizes.TheConstants.{CELLS, LOG_WORDS, LONGEST, MOST_LOGS, POINTERS}
+use Rattle.far_core.specs.declared.event.Event.{Event}
+use Rattle.far_core.specs.declared.event.Event.TheVariants.{Load as Loads, Store as Stores}
+use Rattle.far_core.specs.declared.event.Reply.{Reply as Answer}
+use Rattle.far_core.specs.declared.event.Reply.TheVariants as answers
+use Rattle.far_core.specs.State.{State, put}
+use Rattle.far_core.specs.Step.{step_of, data_len, is_opened}
+use Rattle.far_trace.specs.Command.{Command, New, Write}
+use Rattle.far_trace.specs.declared.turn.Access.{Access}
+use Rattle.far_trace.specs.Outcome.{told_by}
+use Rattle.far_trace.specs.Reply.{Reply, LogLine}
+use Rattle.far_trace.specs.declared.outcome.Outcome.{Outcome}
+use Rattle.far_trace.specs.declared.turn.NewObject.{NewObject}
+use Rattle.far_trace.specs.Turn.{lowest_cell, refusal, unless}
+use Rattle.far_word.specs.declared.pointer.Place.{Place}
+use Rattle.far_word.specs.Sizes.{size_of}
+use Rattle.far_core.specs.Room.{room}
+
+-- the word that an event answers, 0 where it answers none
+abbrev pub word_in : Answer → ℕ
+word_in answers.Refused = 0
+word_in answers.Done = 0
+word_in (answers.Epoch e) = 0
+word_in (answers.Word w) = w
+word_in (answers.Held place) = 0
+
+-- the word that a load answers
+abbrev pub loaded : State → ℕ → ℕ → ℕ → ℕ
+loaded s m p i = word_in (step_of s (Loads m p i)).1
+
+-- the stores of some words, from the word first on
+abbrev pub stores_of : ℕ → ℕ → ℕ → List ℕ → ℕ → List Event
+stores_of m p first words count = map (λ i. Stores m p (first + i) (slice_index words i)) (range_with_len 0 count)
+
+-- why a call was refused, if it was
+abbrev pub refused_in : {X : Type 0} → Result X Refusal → Option Refusal
+refused_in (Ok x) = None
+refused_in (Err why) = Some why
+
+-- an access is of the numbers that were said, all in range
+pub record IsAccess (s : State) (mutator pointer from count : ℕ) (a : Access) : Type 0 where
+  pub owner : a.owner ≡ mutator
+  pub pointed : a.pointer ≡ pointer
+  pub starts : a.from ≡ from
+  pub counts : a.count ≡ count
+  pub some : 0 < count
+  pub inside : from + count ≤ data_len s pointer
+  pub most : data_len s pointer ≤ LONGEST
+  pub own : pointer / CELLS ≡ mutator
+  pub used : s.used pointer ≡ true
+  pub opened : is_opened s mutator ≡ true
+
+-- every byte of a write is a byte
+abbrev pub AllBytes : Command → Type 0
+AllBytes (Write m p from bytes) = (k : ℕ) → slice_index bytes k < 256
+AllBytes c = Unit {0}
+
+-- how many cells of each mutator are named after a command that isn't refused
+abbrev pub named_by : Command → (ℕ → ℕ) → ℕ → ℕ
+named_by (New m len ds) next = put next m (next m + 1)
+named_by c next = next
+
+-- and after any command
+abbrev pub next_after : State → Command → (ℕ → ℕ) → ℕ → ℕ
+next_after s c next = unless (refusal s c) (λ _. next) (named_by c next)
+
+-- a new object that may be made: all its numbers are in range, and its cell and its place are the next ones
+pub record IsNew (s : State) (mutator len ds : ℕ) (object : NewObject) : Type 0 where
+  pub owner : object.owner ≡ mutator
+  pub measured : object.len ≡ len
+  pub structure : object.ds ≡ ds
+  pub some : 0 < len
+  pub most : len ≤ LONGEST
+  pub inside : mutator < s.mutators
+  pub numbered : object.pointer < POINTERS
+  pub placed : object.place.log < MOST_LOGS
+  pub cell : lowest_cell s mutator ≡ Some object.pointer
+  pub goes : room s (size_of len) true ≡ Some object.place
+
+-- the outcome tells the reply, whatever stands in the room
+abbrev pub Tells : Outcome → Reply → Type 0
+Tells outcome reply = (bytes : List ℕ) (lines : List LogLine) → told_by bytes lines outcome ≡ reply
+
+-- the end of the open log, if the span fits, or else the log behind it, unless that is the last one
+abbrev pub next_of : ℕ → ℕ → ℕ → ℕ → Option Place
+next_of log tail logs size =
+    if nat_le (tail + size) LOG_WORDS then Some record { log = log; at = tail }
+    else (if nat_lt (log + 2) logs then Some record { log = log + 1; at = 0 } else None)

@@ -1,0 +1,16 @@
+pub mod Alone
+pub mod Answers
+pub mod Command
+pub mod Cursor
+pub mod Grammar
+pub mod Headline
+pub mod HexWord
+pub mod Interpreter
+pub mod Later
+pub mod Made
+pub mod Outcome
+pub mod Reply
+pub mod Says
+pub mod Stream
+pub mod Tidy
+pub mod Turn

@@ -1,0 +1,44 @@
+-- Events made from a state, one after the other.
+use Rattle.std.specs.Prelude.{◌≡◌, ◌≢◌, ℕ, true, false, List, [], ◌∷◌, Some}
+use Rattle.far_word.specs.declared.mark.Marks.{Marks}
+use Rattle.far_word.specs.declared.pointer.Place.{Place}
+use Rattle.far_word.specs.declared.pointer.PtrWord.TheVariants.{Near}
+use Rattle.far_word.specs.Pointer.{read_of}
+use Rattle.far_core.specs.declared.event.Event.{Event}
+use Rattle.far_core.specs.declared.event.Event.TheVariants.{Pin, Name}
+use Rattle.far_core.specs.declared.event.Reply.{Reply}
+use Rattle.far_core.specs.declared.event.Reply.TheVariants.{Refused, Word}
+use Rattle.far_core.specs.State.{State}
+use Rattle.far_core.specs.Step.{step_of}
+
+-- the state after these events
+abbrev pub made : State → List Event → State
+made s [] = s
+made s (e ∷ es) = made (step_of s e).0 es
+
+-- what an event is for comes to pass: none is refused, a pin gives a view, and a naming wins
+abbrev pub Succeeds : Event → Reply → Type 0
+Succeeds e Refused = ⊥
+Succeeds (Pin m p) (Word w) = ⊥
+Succeeds (Name p old new) (Word w) = ⊥
+Succeeds e r = Unit {0}
+
+abbrev pub AllSucceed : State → List Event → Type 0
+AllSucceed s [] = Unit {0}
+AllSucceed s (e ∷ es) = Succeeds e (step_of s e).1 × AllSucceed (step_of s e).0 es
+
+-- a near pointer whose object may be dereferenced at once: it has none of EVAC, MOVE and DROP
+pub record AtHand (s : State) (p : ℕ) : Type 0 where
+  pub len : ℕ
+  pub ds : ℕ
+  pub place : Place
+  pub marks : Marks
+  pub near : read_of (s.cell p) ≡ Some (Near len ds place marks)
+  pub unchosen : marks.evac ≡ false
+  pub unmoved : marks.moved ≡ false
+  pub kept : marks.dropped ≡ false
+  pub used : s.used p ≡ true
+
+-- each pointer that is named is used by its owner, near, and may be dereferenced at once
+abbrev pub AllAtHand : State → Type 0
+AllAtHand s = (p : ℕ) → s.cell p ≢ 0 → AtHand s p

@@ -1,0 +1,25 @@
+-- Which words say which command: its name, its numbers as they are printed, its bytes in hex.
+use Rattle.std.specs.Prelude.{◌≡◌, ℕ, ◌<◌, ◌≤◌, ◌^◌, List, [], ◌∷◌, length, codes, decimal, Ok}
+use Rattle.hex.specs.Hex.{decode_of}
+use Rattle.far_trace.specs.Command.{Command, Heap, New, Open, Write, Read, Close, Logs}
+
+-- A word in hex stands for these bytes, one at least; a word is no longer than a line.
+abbrev pub Spells : List ℕ → List ℕ → Type 0
+Spells word bytes = (decode_of word ≡ Ok bytes) × (0 < length bytes) × (length word ≤ 4096)
+
+-- These words say the command.
+abbrev pub Says : List (List ℕ) → Command → Type 0
+Says words (Heap logs mutators) =
+    (words ≡ codes "heap" ∷ decimal logs ∷ decimal mutators ∷ []) × (logs < 2 ^ 64) × (mutators < 2 ^ 64)
+Says words (New mutator len structure) =
+    (words ≡ codes "new" ∷ decimal mutator ∷ decimal len ∷ decimal structure ∷ [])
+    × (mutator < 2 ^ 64) × (len < 2 ^ 64) × (structure < 2 ^ 64)
+Says words (Open mutator) = (words ≡ codes "open" ∷ decimal mutator ∷ []) × (mutator < 2 ^ 64)
+Says words (Write mutator pointer from bytes) = (word : List ℕ)
+    × (words ≡ codes "write" ∷ decimal mutator ∷ decimal pointer ∷ decimal from ∷ word ∷ [])
+    × (mutator < 2 ^ 64) × (pointer < 2 ^ 64) × (from < 2 ^ 64) × Spells word bytes
+Says words (Read mutator pointer from len) =
+    (words ≡ codes "read" ∷ decimal mutator ∷ decimal pointer ∷ decimal from ∷ decimal len ∷ [])
+    × (mutator < 2 ^ 64) × (pointer < 2 ^ 64) × (from < 2 ^ 64) × (len < 2 ^ 64)
+Says words (Close mutator) = (words ≡ codes "close" ∷ decimal mutator ∷ []) × (mutator < 2 ^ 64)
+Says words Logs = words ≡ codes "logs" ∷ []

@@ -1,0 +1,193 @@
+//! Commands, and which words spell one.
+
+ghost use Rattle.std.specs.Prelude.{◌≡◌, ◌∷◌, IfSome};
+ghost use Rattle.std.specs.Option.{option_map};
+ghost use Rattle.std.specs.Str.{bytes_eq};
+ghost use Rattle.far_trace.specs.Command.{said};
+ghost use Rattle.far_trace.specs.Grammar.{heap_of, new_of, open_of, write_of, read_of, close_of, logs_of, command_of, ended};
+ghost use Rattle.far_trace.specs.Cursor.{words_in, words_left, lines_behind, lines_after, lines_left};
+
+use crate::cursor::{Rest, next_bytes_of, next_number_of, word_first};
+use crate::hex_word::HexWord;
+
+/// One command of a trace.
+#[derive(Clone, Copy)]
+pub enum Command<'a> {
+    Heap {
+        logs: u64,
+        mutators: u64,
+    },
+    New {
+        mutator: u64,
+        len: u64,
+        structure: u64,
+    },
+    Open {
+        mutator: u64,
+    },
+    Write {
+        mutator: u64,
+        pointer: u64,
+        from: u64,
+        bytes: HexWord<'a>,
+    },
+    Read {
+        mutator: u64,
+        pointer: u64,
+        from: u64,
+        len: u64,
+    },
+    Close {
+        mutator: u64,
+    },
+    Logs,
+}
+
+/// A command, and the lines behind its line, if any.
+pub type Spelled<'a> = (Command<'a>, Option<&'a [u8]>);
+
+// The command, if its line ends here.
+fn at_end<'a>(command: Command<'a>, rest: Rest<'a>) -> Option<Spelled<'a>>
+    ensures value { option_map (λ found. said found.0) result ≡ ended (words_left rest.entry) (said command.entry) }
+    ensures lines { IfSome result (λ found. lines_left found.1 ≡ lines_after rest.entry) }
+{
+    match rest {
+        Rest::Lines(lines) => Some((command, lines)),
+        Rest::Words(_) => None,
+    }
+}
+
+fn heap_spelled(rest: Rest<'_>) -> Option<Spelled<'_>>
+    ensures value { option_map (λ found. said found.0) result ≡ heap_of (words_left rest.entry) }
+    ensures lines { IfSome result (λ found. lines_left found.1 ≡ lines_after rest.entry) }
+{
+    let (logs, rest) = next_number_of(rest)?;
+    let (mutators, rest) = next_number_of(rest)?;
+    let command = Command::Heap { logs, mutators };
+    at_end(command, rest)
+}
+
+fn new_spelled(rest: Rest<'_>) -> Option<Spelled<'_>>
+    ensures value { option_map (λ found. said found.0) result ≡ new_of (words_left rest.entry) }
+    ensures lines { IfSome result (λ found. lines_left found.1 ≡ lines_after rest.entry) }
+{
+    let (mutator, rest) = next_number_of(rest)?;
+    let (len, rest) = next_number_of(rest)?;
+    let (structure, rest) = next_number_of(rest)?;
+    let command = Command::New {
+        mutator,
+        len,
+        structure,
+    };
+    at_end(command, rest)
+}
+
+fn open_spelled(rest: Rest<'_>) -> Option<Spelled<'_>>
+    ensures value { option_map (λ found. said found.0) result ≡ open_of (words_left rest.entry) }
+    ensures lines { IfSome result (λ found. lines_left found.1 ≡ lines_after rest.entry) }
+{
+    let (mutator, rest) = next_number_of(rest)?;
+    let command = Command::Open { mutator };
+    at_end(command, rest)
+}
+
+fn write_spelled(rest: Rest<'_>) -> Option<Spelled<'_>>
+    ensures value { option_map (λ found. said found.0) result ≡ write_of (words_left rest.entry) }
+    ensures lines { IfSome result (λ found. lines_left found.1 ≡ lines_after rest.entry) }
+{
+    let (mutator, rest) = next_number_of(rest)?;
+    let (pointer, rest) = next_number_of(rest)?;
+    let (from, rest) = next_number_of(rest)?;
+    let (bytes, rest) = next_bytes_of(rest)?;
+    let command = Command::Write {
+        mutator,
+        pointer,
+        from,
+        bytes,
+    };
+    at_end(command, rest)
+}
+
+fn read_spelled(rest: Rest<'_>) -> Option<Spelled<'_>>
+    ensures value { option_map (λ found. said found.0) result ≡ read_of (words_left rest.entry) }
+    ensures lines { IfSome result (λ found. lines_left found.1 ≡ lines_after rest.entry) }
+{
+    let (mutator, rest) = next_number_of(rest)?;
+    let (pointer, rest) = next_number_of(rest)?;
+    let (from, rest) = next_number_of(rest)?;
+    let (len, rest) = next_number_of(rest)?;
+    let command = Command::Read {
+        mutator,
+        pointer,
+        from,
+        len,
+    };
+    at_end(command, rest)
+}
+
+fn close_spelled(rest: Rest<'_>) -> Option<Spelled<'_>>
+    ensures value { option_map (λ found. said found.0) result ≡ close_of (words_left rest.entry) }
+    ensures lines { IfSome result (λ found. lines_left found.1 ≡ lines_after rest.entry) }
+{
+    let (mutator, rest) = next_number_of(rest)?;
+    let command = Command::Close { mutator };
+    at_end(command, rest)
+}
+
+fn is_name(word: &[u8], name: &[u8]) -> bool
+    ensures { result ≡ bytes_eq word.now name.now }
+{
+    word == name
+}
+
+// The command of this name, by the words behind it.
+fn named<'a>(name: &[u8], rest: Rest<'a>) -> Option<Spelled<'a>>
+    ensures value { option_map (λ found. said found.0) result ≡ command_of (name.now ∷ words_left rest.entry) }
+    ensures lines { IfSome result (λ found. lines_left found.1 ≡ lines_after rest.entry) }
+{
+    if is_name(name, b"read") {
+        return read_spelled(rest);
+    }
+    if is_name(name, b"write") {
+        return write_spelled(rest);
+    }
+    if is_name(name, b"open") {
+        return open_spelled(rest);
+    }
+    if is_name(name, b"close") {
+        return close_spelled(rest);
+    }
+    if is_name(name, b"new") {
+        return new_spelled(rest);
+    }
+    if is_name(name, b"heap") {
+        return heap_spelled(rest);
+    }
+    if is_name(name, b"logs") {
+        return at_end(Command::Logs, rest);
+    }
+    None
+}
+
+// The command that the first line of a text spells, by its first word.
+fn named_first(text: &[u8]) -> Option<Spelled<'_>>
+    ensures value { option_map (λ found. said found.0) result ≡ command_of (words_in text.now) }
+    ensures lines { IfSome result (λ found. lines_left found.1 ≡ lines_behind text.now) }
+{
+    let (name, rest) = word_first(text);
+    named(name, rest)
+}
+
+/// The command that the first line of a text spells. The two that traces are full of are told by their first bytes.
+pub fn command_first(text: &[u8]) -> Option<Spelled<'_>>
+    ensures value { option_map (λ found. said found.0) result ≡ command_of (words_in text.now) }
+    ensures lines { IfSome result (λ found. lines_left found.1 ≡ lines_behind text.now) }
+{
+    if let [b'r', b'e', b'a', b'd', b' ', rest @ ..] = text {
+        return read_spelled(Rest::Words(rest));
+    }
+    if let [b'w', b'r', b'i', b't', b'e', b' ', rest @ ..] = text {
+        return write_spelled(Rest::Words(rest));
+    }
+    named_first(text)
+}

@@ -1,0 +1,131 @@
+//! A text that is read word by word, each byte once.
+
+ghost use Rattle.std.specs.Prelude.{◌≡◌, ◌≤◌, ◌<◌, ◌∷◌, ℕ, [], length, drop, true, false, slice_index, IfSome, IfNone};
+ghost use Rattle.std.specs.Option.{option_map};
+ghost use Rattle.hex.specs.Hex.{is_hex_digit};
+ghost use Rattle.far_trace.specs.HexWord.{bytes_of};
+ghost use Rattle.far_trace.specs.Grammar.{next_number, next_bytes};
+ghost use Rattle.far_trace.specs.Cursor.{is_end, words_in, words_left, lines_behind, lines_after, lines_left};
+
+use crate::hex_word::{HexWord, is_digit};
+
+/// What is left of a text behind a word of one of its lines.
+#[derive(Clone, Copy)]
+pub enum Rest<'a> {
+    /// More words of the line, and the lines behind it.
+    Words(&'a [u8]),
+    /// The lines behind the line, if any.
+    Lines(Option<&'a [u8]>),
+}
+
+fn ends_word(byte: u8) -> bool
+    ensures { result ≡ is_end byte }
+{
+    byte == b' ' || byte == b'\n'
+}
+
+// What is left behind a word that ends before this byte, or None where it goes on.
+fn rest_at(text: &[u8], at: usize) -> Option<Rest<'_>>
+    requires { at ≤ length text.now }
+    ensures words { IfSome result (λ rest. words_in (drop at text.now) ≡ [] ∷ words_left rest) }
+    ensures lines { IfSome result (λ rest. lines_behind (drop at text.now) ≡ lines_after rest) }
+    ensures longer { IfNone result ((at < length text.now) × (is_end (slice_index text.now at) ≡ false)) }
+{
+    if at == text.len() {
+        return Some(Rest::Lines(None));
+    }
+    match text[at] {
+        b' ' => Some(Rest::Words(&text[at + 1..])),
+        b'\n' => Some(Rest::Lines(Some(&text[at + 1..]))),
+        _ => None,
+    }
+}
+
+fn word_len(text: &[u8]) -> usize
+    ensures bound { result ≤ length text.now }
+    ensures inside { (k : ℕ) → k < result → is_end (slice_index text.now k) ≡ false }
+    ensures ends { result < length text.now → is_end (slice_index text.now result) ≡ true }
+{
+    for (i, byte) in text.iter().enumerate() {
+        if ends_word(*byte) {
+            return i;
+        }
+    }
+    text.len()
+}
+
+/// The first word of a text, and what is left behind it.
+pub fn word_first(text: &[u8]) -> (&[u8], Rest<'_>)
+    ensures words { words_in text.now ≡ result.0.now ∷ words_left result.1 }
+    ensures lines { lines_behind text.now ≡ lines_after result.1 }
+{
+    let len = word_len(text);
+    (&text[..len], rest_at(text, len).unwrap())
+}
+
+/// The number that the first word of a text prints, and what is left behind it.
+pub fn number_first(text: &[u8]) -> Option<(u64, Rest<'_>)>
+    ensures number { option_map (λ found. (found.0, words_left found.1)) result ≡ next_number (words_in text.now) }
+    ensures lines { IfSome result (λ found. lines_behind text.now ≡ lines_after found.1) }
+{
+    let mut n = 0u64;
+    let mut len = 0;
+    while len < text.len() && text[len].is_ascii_digit() {
+        n = n.checked_mul(10)?.checked_add(u64::from(text[len] - b'0'))?;
+        len += 1;
+    }
+    let rest = rest_at(text, len)?;
+    if len == 0 {
+        return None;
+    }
+    if text[0] == b'0' && len > 1 {
+        return None;
+    }
+    Some((n, rest))
+}
+
+/// The number that the next word prints, and what is left behind it.
+pub fn next_number_of(rest: Rest<'_>) -> Option<(u64, Rest<'_>)>
+    ensures number { option_map (λ found. (found.0, words_left found.1)) result ≡ next_number (words_left rest.entry) }
+    ensures lines { IfSome result (λ found. lines_after found.1 ≡ lines_after rest.entry) }
+{
+    match rest {
+        Rest::Words(text) => number_first(text),
+        Rest::Lines(_) => None,
+    }
+}
+
+// How many digits in hex a text begins with.
+fn digits_len(text: &[u8]) -> usize
+    ensures bound { result ≤ length text.now }
+    ensures digits { (k : ℕ) → k < result → is_hex_digit (slice_index text.now k) ≡ true }
+    ensures ends { result < length text.now → is_hex_digit (slice_index text.now result) ≡ false }
+{
+    for (i, byte) in text.iter().enumerate() {
+        if !is_digit(*byte) {
+            return i;
+        }
+    }
+    text.len()
+}
+
+fn bytes_first(text: &[u8]) -> Option<(HexWord<'_>, Rest<'_>)>
+    ensures bytes { option_map (λ found. (bytes_of found.0.digits.now, words_left found.1)) result ≡ next_bytes (words_in text.now) }
+    ensures lines { IfSome result (λ found. lines_behind text.now ≡ lines_after found.1) }
+{
+    let len = digits_len(text);
+    let rest = rest_at(text, len)?;
+    let bytes = HexWord::from_digits(&text[..len])?;
+    Some((bytes, rest))
+}
+
+/// The bytes that the next word spells, and what is left behind it.
+pub fn next_bytes_of(rest: Rest<'_>) -> Option<(HexWord<'_>, Rest<'_>)>
+    ensures bytes { option_map (λ found. (bytes_of found.0.digits.now, words_left found.1)) result ≡ next_bytes (words_left rest.entry) }
+    ensures lines { IfSome result (λ found. lines_after found.1 ≡ lines_after rest.entry) }
+{
+    match rest {
+        Rest::Words(text) => bytes_first(text),
+        Rest::Lines(_) => None,
+    }
+}

@@ -1,0 +1,65 @@
+//! Words in hex.
+
+ghost use Rattle.std.specs.Prelude.{◌≡◌, ◌≤◌, ◌%◌, ◌==◌, ◌&&◌, nat_lt, nat_le, IsTrue, length};
+ghost use Rattle.hex.specs.Hex.{is_hex_digit};
+ghost use Rattle.far_trace.specs.HexWord.{is_hex_word};
+
+/// The most bytes that a line has, its newline not counted.
+pub const LONGEST_LINE: usize = 4096;
+
+/// A word in hex, as it is spelled: some bytes, by two digits each.
+#[derive(Clone, Copy)]
+pub struct HexWord<'a> {
+    digits: &'a [u8],
+    ghost is_hex: { IsTrue (is_hex_word digits.now) },
+}
+
+impl<'a> HexWord<'a> {
+    ghost use Rattle.std.specs.Prelude.{◌≡◌, ◌≤◌, length, true, Option};
+    ghost use Rattle.std.specs.List.{list_all};
+    ghost use Rattle.hex.specs.Hex.{is_hex_digit};
+    ghost use Rattle.std.specs.Option.{option_map};
+    ghost use Rattle.far_trace.specs.HexWord.{bytes_of};
+    ghost use Rattle.far_trace.specs.Grammar.{bytes_in};
+
+    /// The bytes that digits spell, or None where they are no word in hex.
+    pub fn from_digits(digits: &'a [u8]) -> Option<HexWord<'a>>
+        requires { list_all is_hex_digit digits.now ≡ true }
+        ensures { option_map (λ found. bytes_of found.digits.now) result ≡ bytes_in digits.now }
+    {
+        if is_hex_len(digits.len()) {
+            Some(HexWord { digits })
+        } else {
+            None
+        }
+    }
+
+    /// How many bytes the word spells.
+    pub fn len(&self) -> usize
+        ensures value { result ≡ length (bytes_of self.now.digits.now) }
+        ensures short { result ≤ 2048 }
+    {
+        self.digits.len() / 2
+    }
+
+    /// Fills the room, which is as long as the bytes, with them.
+    pub fn decode_into(&self, room: &mut [u8])
+        requires { length room.old ≡ length (bytes_of self.now.digits.now) }
+        ensures { room.new ≡ bytes_of self.now.digits.now }
+    {
+        hex::decode_to_slice(self.digits, room).unwrap();
+    }
+}
+
+/// Whether a byte is a digit in hex, in either case.
+pub fn is_digit(byte: u8) -> bool
+    ensures { result ≡ is_hex_digit byte }
+{
+    matches!(byte, b'0'..=b'9' | b'a'..=b'f' | b'A'..=b'F')
+}
+
+fn is_hex_len(len: usize) -> bool
+    ensures { result ≡ (nat_lt 0 len && nat_le len 4096 && (len % 2 == 0)) }
+{
+    len > 0 && len <= LONGEST_LINE && len % 2 == 0
+}

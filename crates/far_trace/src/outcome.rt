@@ -1,0 +1,64 @@
+//! What a command comes to, and the room that its reply is told from.
+
+ghost use Rattle.std.specs.Prelude.{◌≡◌};
+ghost use Rattle.far_trace.specs.Reply.{reply_of, IsShort};
+ghost use Rattle.far_trace.specs.Outcome.{told_by, Fits};
+
+use crate::reply::{LogKind, LogLine, Reply};
+use far_word::Refused;
+
+/// What a command comes to. The bytes and the log lines of a reply stand in the room.
+#[derive(Clone, Copy)]
+pub enum Outcome {
+    Done,
+    Pointer(u16),
+    /// Bytes of the room, from one on, so many.
+    Data { from: u16, count: u16 },
+    /// The first log lines of the room, so many.
+    Logs(u8),
+    Refused(Refused),
+}
+
+/// Room for the words and bytes of an object and for a line of each log.
+#[derive(Clone, Copy)]
+pub struct Room {
+    pub words: [u64; 128],
+    pub bytes: [u8; 1024],
+    pub lines: [LogLine; 64],
+}
+
+impl Room {
+    /// All the room that commands need.
+    pub fn new() -> Room {
+        let line = LogLine {
+            log: 0,
+            kind: LogKind::Free,
+            live: 0,
+            dead: 0,
+            unused: 0,
+        };
+        Room {
+            words: [0; 128],
+            bytes: [0; 1024],
+            lines: [line; 64],
+        }
+    }
+
+    /// The reply to a command.
+    pub fn reply(&self, outcome: Outcome) -> Reply<'_>
+        requires { Fits outcome }
+        ensures value { reply_of result ≡ told_by self.now.bytes self.now.lines outcome }
+        ensures short { IsShort (reply_of result) }
+    {
+        match outcome {
+            Outcome::Done => Reply::Done,
+            Outcome::Pointer(pointer) => Reply::Pointer(pointer),
+            Outcome::Data { from, count } => {
+                let from = usize::from(from);
+                Reply::Data(&self.bytes[from..from + usize::from(count)])
+            }
+            Outcome::Logs(count) => Reply::Logs(&self.lines[..usize::from(count)]),
+            Outcome::Refused(why) => Reply::Refused(why),
+        }
+    }
+}

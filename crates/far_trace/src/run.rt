@@ -1,0 +1,220 @@
+//! A whole run: a text in, replies out.
+
+ghost use Rattle.std.specs.Prelude.{◌≡◌, ◌≢◌, ◌∷◌, List, length, map, slice_index, take, Ok, Err, IfOk, IfErr, IfSome, OnOk};
+ghost use Rattle.far_trace.specs.Reply.{refused_printed};
+ghost use Rattle.far_trace.specs.Stream.{Writes};
+ghost use Rattle.std.specs.List.{flat_map};
+ghost use Rattle.far_core.specs.CoreState.{core_state};
+ghost use Rattle.far_core.specs.State.{State};
+ghost use Rattle.far_trace.specs.Answers.{Answered, BeginsWithHeap, WritesOutput, WritesAnswer, LeavesBehind, Leaves, end_of};
+ghost use Rattle.far_trace.specs.Grammar.{commands_of};
+ghost use Rattle.far_trace.specs.Command.{said, Heap};
+ghost use Rattle.far_trace.specs.Later.{AreLater};
+ghost use Rattle.far_trace.specs.Reply.{Reply as Answer, Done, printed};
+ghost use Rattle.far_trace.specs.Tidy.{Tidy};
+
+use crate::command::Command;
+use crate::gather::{add_reply, write_waiting};
+use crate::outcome::Room;
+use crate::output::{Output, zeros};
+use crate::reply::Reply;
+use crate::stream::{WriteFault, read_text};
+use crate::text::{LONGEST_TEXT, ParseError, parse};
+use crate::turn::turn;
+use far_core::{Core, Shape};
+use far_word::Refused;
+use std::alloc::{AllocError, Global};
+use std::io::{Read, Write};
+use thiserror::Error;
+
+/// How a run ended.
+#[derive(Clone, Copy, Debug, PartialEq, Eq)]
+pub enum End {
+    /// Each command ran.
+    Ran,
+    /// The text or the heap's shape was refused, and nothing ran.
+    Refused,
+}
+
+/// Why a run did not end.
+#[derive(Clone, Copy, Debug, PartialEq, Eq, Error)]
+pub enum RunFault {
+    #[error("read fault")]
+    Read,
+    #[error("write fault")]
+    Write,
+    #[error("memory")]
+    Memory,
+}
+
+impl From<WriteFault> for RunFault {
+    ghost use Rattle.std.specs.Prelude.{◌≡◌};
+    ghost use Rattle.far_trace.specs.declared.run.RunFault.TheVariants.{Write};
+
+    ghost from_gives = { λ _ e. e ≡ Write };
+
+    fn from(_e: WriteFault) -> RunFault {
+        RunFault::Write
+    }
+}
+
+impl From<AllocError> for RunFault {
+    ghost use Rattle.std.specs.Prelude.{◌≡◌};
+    ghost use Rattle.far_trace.specs.declared.run.RunFault.TheVariants.{Memory};
+
+    ghost from_gives = { λ _ e. e ≡ Memory };
+
+    fn from(_e: AllocError) -> RunFault {
+        RunFault::Memory
+    }
+}
+
+// All that the reader has, as far as `most` bytes. All room is taken before the first read.
+fn read_whole<R: Read>(alloc: Global, reader: &mut R, most: usize) -> Result<Vec<u8>, RunFault>
+    ensures read { IfOk result (λ v. IfSome (R.remaining reader.old) (λ text. v.items ≡ take most text)) }
+    ensures fault { result ≢ Err RunFault.Write }
+{
+    let mut room = zeros(alloc, most)?;
+    match read_text(reader, &mut room) {
+        Ok(len) => {
+            room.truncate(len);
+            Ok(room)
+        }
+        Err(_) => Err(RunFault::Read),
+    }
+}
+
+// Writes one refusal, and nothing else.
+fn refuse<W: Write>(writer: &mut W, out: &mut Output, why: Refused) -> Result<(), WriteFault>
+    ensures { Writes (W.contents writer.old) (W.contents writer.new) result (refused_printed why) }
+{
+    out.clear();
+    let written = add_reply(writer, out, &Reply::Refused(why), Ok(()));
+    write_waiting(writer, out, written)
+}
+
+// Makes the commands behind the heap, and writes their replies. Once a write has failed it makes them without writing.
+fn answer_commands<W: Write>(
+    writer: &mut W,
+    out: &mut Output,
+    core: Core,
+    named: &mut [u16],
+    room: &mut Room,
+    commands: &[Command],
+) -> Result<(), WriteFault>
+    requires tidy { Tidy (core_state core) (λ m. slice_index named.old m) }
+    requires sized { length named.old ≡ 8 }
+    requires later { AreLater (map said commands.now) }
+    ensures { (replies : List Answer) × (states : List State) × Answered (core_state core) (map said commands.now) replies states
+        × Writes (W.contents writer.old) (W.contents writer.new) result (flat_map printed (Done ∷ replies)) }
+{
+    let mut core = core;
+    out.clear();
+    let mut written = add_reply(writer, out, &Reply::Done, Ok(()));
+    for command in commands {
+        let outcome = turn(&mut core, named, room, command);
+        written = add_reply(writer, out, &room.reply(outcome), written);
+    }
+    write_waiting(writer, out, written)
+}
+
+// Makes a heap and the commands behind it, and writes their replies. Refused want of memory, it writes that line alone.
+fn answer_heap<W: Write>(
+    alloc: Global,
+    writer: &mut W,
+    out: &mut Output,
+    shape: Shape,
+    commands: &[Command],
+) -> Result<End, RunFault>
+    requires first { shape.epoch ≡ 0 }
+    requires later { AreLater (map said commands.now) }
+    ensures answered { OnOk result (WritesOutput (W.contents writer.old) (W.contents writer.new) (Ok (Heap shape.logs shape.mutators ∷ map said commands.now))) }
+    ensures end { IfOk result (λ end. end ≡ end_of (Ok (Heap shape.logs shape.mutators ∷ map said commands.now))) }
+    ensures fault { IfErr result (λ fault. LeavesBehind fault (W.contents writer.old) (W.contents writer.new) (Ok (Heap shape.logs shape.mutators ∷ map said commands.now))) }
+{
+    match Core::new(alloc, shape, true) {
+        Ok(core) => {
+            let mut named = [0u16; 8];
+            let mut room = Room::new();
+            answer_commands(writer, out, core, &mut named, &mut room, commands)?;
+            Ok(End::Ran)
+        }
+        Err(Refused::Memory) => {
+            let _ = refuse(writer, out, Refused::Memory);
+            Err(RunFault::Memory)
+        }
+        Err(_) => {
+            refuse(writer, out, Refused::Shape)?;
+            Ok(End::Refused)
+        }
+    }
+}
+
+// Answers the commands that a text is read as: none, or a heap and those behind it.
+fn answer<W: Write>(
+    alloc: Global,
+    writer: &mut W,
+    out: &mut Output,
+    commands: &[Command],
+) -> Result<End, RunFault>
+    requires heap { BeginsWithHeap (map said commands.now) }
+    ensures answered { OnOk result (WritesOutput (W.contents writer.old) (W.contents writer.new) (Ok (map said commands.now))) }
+    ensures end { IfOk result (λ end. end ≡ end_of (Ok (map said commands.now))) }
+    ensures fault { IfErr result (λ fault. LeavesBehind fault (W.contents writer.old) (W.contents writer.new) (Ok (map said commands.now))) }
+{
+    let [first, rest @ ..] = commands else {
+        return Ok(End::Ran);
+    };
+    let Command::Heap { logs, mutators } = *first else {
+        unreachable!();
+    };
+    let shape = Shape {
+        logs,
+        mutators,
+        epoch: 0,
+    };
+    answer_heap(alloc, writer, out, shape, rest)
+}
+
+// Answers a text in memory.
+fn answer_text<W: Write>(
+    alloc: Global,
+    writer: &mut W,
+    out: &mut Output,
+    text: &[u8],
+) -> Result<End, RunFault>
+    ensures answered { OnOk result (WritesOutput (W.contents writer.old) (W.contents writer.new) (commands_of text.now)) }
+    ensures end { IfOk result (λ end. end ≡ end_of (commands_of text.now)) }
+    ensures fault { IfErr result (λ fault. LeavesBehind fault (W.contents writer.old) (W.contents writer.new) (commands_of text.now)) }
+{
+    match parse(alloc, text) {
+        Ok(commands) => answer(alloc, writer, out, &commands),
+        Err(ParseError::Syntax(line)) => {
+            refuse(writer, out, Refused::Syntax(line))?;
+            Ok(End::Refused)
+        }
+        Err(ParseError::Memory) => Err(RunFault::Memory),
+    }
+}
+
+/// Reads a text, runs its commands, and writes their replies.
+///
+/// All room but the heap's is taken before the first command is made. A text that is off the grammar, or whose heap's
+/// shape is out of range, is answered by that one refusal, and nothing else is run.
+///
+/// Faults: [`RunFault::Read`] where the reader fails, any error of it; [`RunFault::Memory`] where room is refused: then
+/// nothing was written, but `refused 1` where it was the heap's; [`RunFault::Write`] where the writer fails or takes
+/// nothing: what was written is a front of the output.
+pub fn run<R: Read, W: Write>(
+    alloc: Global,
+    reader: &mut R,
+    writer: &mut W,
+) -> Result<End, RunFault>
+    ensures answered { OnOk result (IfSome (R.remaining reader.old) (WritesAnswer (W.contents writer.old) (W.contents writer.new))) }
+    ensures end { IfOk result (λ end. IfSome (R.remaining reader.old) (λ text. end ≡ end_of (commands_of text))) }
+    ensures fault { IfErr result (λ fault. IfSome (R.remaining reader.old) (Leaves fault (W.contents writer.old) (W.contents writer.new))) }
+{
+    let mut out = Output::new(alloc)?;
+    let text = read_whole(alloc, reader, LONGEST_TEXT + 1)?;
+    answer_text(alloc, writer, &mut out, &text)
+}

@@ -1,0 +1,493 @@
+//! Commands, each made as the events of a core that it stands for.
+
+ghost use Rattle.std.specs.Prelude.{◌≡◌, ◌≢◌, ◌+◌, ◌*◌, ◌<◌, ◌≤◌, ◌-◌, ◌/◌, ℕ, true, List, Some, None, Ok, map, take, drop, length, slice_index, slice_range, cond, nat_lt, nat_le, IfOk, IfErr, IfSome, MatchResult};
+ghost use Rattle.std.specs.List.{range_with_len};
+ghost use Rattle.far_word.specs.Sizes.{size_of};
+ghost use Rattle.far_word.specs.Bytes.{bytes_of, words_of};
+ghost use Rattle.far_word.specs.Pointer.{read_of};
+ghost use Rattle.far_core.specs.CoreState.{core_state};
+ghost use Rattle.far_core.specs.Law.{Law};
+ghost use Rattle.far_core.specs.Room.{room};
+ghost use Rattle.far_core.specs.Step.{step_of, data_len, near_len};
+ghost use Rattle.far_core.specs.declared.event.Event.{Event};
+ghost use Rattle.far_trace.specs.Command.{said};
+ghost use Rattle.far_trace.specs.Interpreter.{loaded, stores_of, word_in, refused_in, IsAccess, IsNew, Tells, next_after, next_of};
+ghost use Rattle.far_trace.specs.HexWord.{bytes_of as spelled};
+ghost use Rattle.far_trace.specs.Made.{made, AtHand};
+ghost use Rattle.far_trace.specs.Command.{Heap, New, Open, Write, Read, Close, Logs};
+ghost use Rattle.far_trace.specs.Outcome.{told_by, Fits};
+ghost use Rattle.far_trace.specs.Reply.{IsShort};
+ghost use Rattle.far_trace.specs.Tidy.{Tidy};
+ghost use Rattle.far_trace.specs.Turn.{access_causes, first_cause, events_for, reply_to, turn_events, turn_reply, kind_told, refusal, first_word, words_touched, starts_inside, ends_inside, first_part, last_part, log_line, lowest_cell};
+
+use crate::command::Command;
+use crate::events::{load, load_words, make_new, open, store_words, view};
+use crate::hex_word::HexWord;
+use crate::outcome::{Outcome, Room};
+use crate::reply::{LogKind, LogLine};
+use far_core::{Core, Event, Kind};
+use far_word::{
+    CELLS, LOG_WORDS, LONGEST, MOST_LOGS, POINTERS, Place, PtrWord, Refused, pack_bytes, size_of,
+    unpack_bytes,
+};
+
+/// Some bytes of an object that its mutator may reach: the numbers of the mutator and the pointer, and the range.
+#[derive(Clone, Copy)]
+pub struct Access {
+    owner: u8,
+    pointer: u16,
+    from: u16,
+    count: u16,
+}
+
+// The length of a cell's object; 0 where it is not near.
+fn near_len(cell: u64) -> u16
+    ensures value { result ≡ near_len (read_of cell) }
+    ensures most { result ≤ LONGEST }
+{
+    match PtrWord::read(cell) {
+        Some(PtrWord::Near { len, .. }) => len,
+        _ => 0,
+    }
+}
+
+/// Whether a mutator may reach some bytes of a pointer's object, or why not.
+pub fn reach(
+    core: &Core,
+    mutator: u64,
+    pointer: u64,
+    from: u64,
+    count: u64,
+) -> Result<Access, Refused>
+    ensures refusal { refused_in result ≡ first_cause (access_causes (core_state core.now) mutator pointer from count) }
+    ensures access { IfOk result (λ a. IsAccess (core_state core.now) mutator pointer from count a) }
+{
+    if mutator >= u64::from(core.mutators()) {
+        return Err(Refused::Range);
+    }
+    let owner = mutator as u8;
+    if !core.is_open(owner) {
+        return Err(Refused::Closed);
+    }
+    if pointer / u64::from(CELLS) != mutator || !core.is_used(pointer as u16) {
+        return Err(Refused::NotHeld);
+    }
+    let pointer = pointer as u16;
+    let len = u64::from(near_len(core.cell(pointer)));
+    if count == 0 || from > len || count > len - from {
+        return Err(Refused::Range);
+    }
+    Ok(Access {
+        owner,
+        pointer,
+        from: from as u16,
+        count: count as u16,
+    })
+}
+
+// The bytes of the first words, in front of the room for them.
+fn unpack_front(words: &[u64], count: usize, bytes: &mut [u8])
+    requires words { count ≤ length words.now }
+    requires bytes { 8 * count ≤ length bytes.old }
+    ensures front { take (8 * count) bytes.new ≡ bytes_of (λ i. slice_index words.now i) (8 * count) }
+{
+    unpack_bytes(&words[..count], &mut bytes[..8 * count]);
+}
+
+// The words of the bytes in front, in front of the room for them.
+fn pack_front(bytes: &[u8], count: usize, words: &mut [u64])
+    requires words { count ≤ length words.old }
+    requires bytes { 8 * count ≤ length bytes.now }
+    ensures front { take count words.new ≡ words_of (take (8 * count) bytes.now) }
+{
+    pack_bytes(&bytes[..8 * count], &mut words[..count]);
+}
+
+impl Access {
+    // The first word that the range touches.
+    fn first(self) -> u16
+        ensures { result ≡ first_word self.from }
+    {
+        self.from / 8
+    }
+
+    // How many words the range touches.
+    fn touched(self) -> u16
+        requires { self.from + self.count ≤ LONGEST }
+        ensures { result ≡ words_touched self.from self.count }
+    {
+        (self.from + self.count).div_ceil(8) - self.from / 8
+    }
+}
+
+// Reads a range of bytes.
+fn read(core: &mut Core, room: &mut Room, access: Access) -> Outcome
+    requires access { IsAccess (core_state core.old) access.owner access.pointer access.from access.count access }
+    requires tidy { (next : ℕ → ℕ) × Tidy (core_state core.old) next }
+    requires law { Law (core_state core.old) }
+    ensures state { core_state core.new ≡ made (core_state core.old) (turn_events (core_state core.old) (Read access.owner access.pointer access.from access.count)) }
+    ensures reply { told_by room.new.bytes room.new.lines result ≡ turn_reply (core_state core.old) (Read access.owner access.pointer access.from access.count) }
+    ensures fits { Fits result }
+{
+    view(core, access.owner, access.pointer);
+    let count = access.touched();
+    load_words(
+        core,
+        access.owner,
+        access.pointer,
+        access.first(),
+        count,
+        &mut room.words,
+    );
+    unpack_front(&room.words, count as usize, &mut room.bytes);
+    Outcome::Data {
+        from: access.from - 8 * access.first(),
+        count: access.count,
+    }
+}
+
+impl Access {
+    // Whether the range is a part alone of the first word that it touches.
+    fn starts_inside(self) -> bool
+        requires { self.from + self.count ≤ LONGEST }
+        ensures { result ≡ starts_inside self.from self.count }
+    {
+        self.from % 8 != 0 || self.from + self.count < 8 * (self.from / 8) + 8
+    }
+
+    // Whether it touches more words than one, and is a part alone of the last.
+    fn ends_inside(self) -> bool
+        requires { self.from + self.count ≤ LONGEST }
+        ensures { result ≡ ends_inside self.from self.count }
+    {
+        self.touched() > 1 && (self.from + self.count) % 8 != 0
+    }
+}
+
+// Loads the first word that a range touches, if the range is a part of it alone.
+fn load_first(core: &mut Core, access: Access, words: &mut [u64])
+    requires most { access.from + access.count ≤ LONGEST }
+    requires room { length words.old ≡ 128 }
+    ensures state { core_state core.new ≡ made (core_state core.old) (first_part access.owner access.pointer access.from access.count) }
+    ensures first { starts_inside access.from access.count ≡ true → slice_index words.new 0 ≡ loaded (core_state core.old) access.owner access.pointer (access.from / 8) }
+{
+    if access.starts_inside() {
+        words[0] = load(core, access.owner, access.pointer, access.first());
+    }
+}
+
+// Loads the last word that a range touches, if it touches others and is a part of it alone.
+fn load_last(core: &mut Core, access: Access, words: &mut [u64])
+    requires most { access.from + access.count ≤ LONGEST }
+    requires room { length words.old ≡ 128 }
+    ensures state { core_state core.new ≡ made (core_state core.old) (last_part access.owner access.pointer access.from access.count) }
+    ensures first { slice_index words.new 0 ≡ slice_index words.old 0 }
+    ensures last { ends_inside access.from access.count ≡ true → slice_index words.new ((access.from + access.count) / 8 - access.from / 8) ≡ loaded (core_state core.old) access.owner access.pointer ((access.from + access.count) / 8) }
+{
+    if access.ends_inside() {
+        let last = (access.from + access.count) / 8;
+        words[(last - access.first()) as usize] = load(core, access.owner, access.pointer, last);
+    }
+}
+
+// Writes bytes over a range.
+fn write(core: &mut Core, room: &mut Room, access: Access, bytes: HexWord) -> Outcome
+    requires access { IsAccess (core_state core.old) access.owner access.pointer access.from access.count access }
+    requires tidy { (next : ℕ → ℕ) × Tidy (core_state core.old) next }
+    requires law { Law (core_state core.old) }
+    requires bytes { length (spelled bytes.digits.now) ≡ access.count }
+    ensures state { core_state core.new ≡ made (core_state core.old) (turn_events (core_state core.old) (Write access.owner access.pointer access.from (spelled bytes.entry.digits.now))) }
+    ensures done { result ≡ Outcome.Done }
+{
+    let first = access.first();
+    let touched = access.touched();
+    view(core, access.owner, access.pointer);
+    load_first(core, access, &mut room.words);
+    load_last(core, access, &mut room.words);
+    unpack_front(&room.words, touched as usize, &mut room.bytes);
+    let at = (access.from - 8 * first) as usize;
+    bytes.decode_into(&mut room.bytes[at..at + access.count as usize]);
+    pack_front(&room.bytes, touched as usize, &mut room.words);
+    store_words(
+        core,
+        access.owner,
+        access.pointer,
+        first,
+        touched,
+        &room.words,
+    );
+    Outcome::Done
+}
+
+/// A new object that may be made, at its place.
+#[derive(Clone, Copy)]
+pub struct NewObject {
+    owner: u8,
+    pointer: u16,
+    len: u16,
+    ds: u8,
+    place: Place,
+}
+
+// The end of the open log, if the span fits, or else the log behind it, unless that is the last one.
+fn next_place(log: u8, tail: u16, logs: u8, size: u16) -> Option<Place>
+    requires { (log < logs) × (logs ≤ 64) × (tail ≤ 128) × (size ≤ 128) }
+    ensures value { result ≡ next_of log tail logs size }
+    ensures log { IfSome result (λ place. place.log < MOST_LOGS) }
+{
+    if tail + size <= LOG_WORDS {
+        return Some(Place { log, at: tail });
+    }
+    if log + 2 < logs {
+        return Some(Place {
+            log: log + 1,
+            at: 0,
+        });
+    }
+    None
+}
+
+// Where the next object goes. Logs are taken in order.
+fn room_for(core: &Core, size: u16) -> Option<Place>
+    requires tidy { (next : ℕ → ℕ) × Tidy (core_state core.now) next }
+    requires law { Law (core_state core.now) }
+    requires size { size ≤ 128 }
+    ensures value { result ≡ room (core_state core.now) size true }
+    ensures log { IfSome result (λ place. place.log < MOST_LOGS) }
+{
+    let log = core.open_log();
+    next_place(log, core.tail(log), core.logs(), size)
+}
+
+// The next cell of an owner of which some are named.
+fn next_cell(owner: u8, named: u16) -> Option<u16>
+    requires { owner < 8 }
+    ensures value { result ≡ cond (nat_lt named CELLS) (Some (owner * CELLS + named)) None }
+    ensures number { IfSome result (λ pointer. pointer < POINTERS) }
+{
+    if named < CELLS {
+        return Some(owner as u16 * CELLS + named);
+    }
+    None
+}
+
+// The lowest cell of an owner that is free. Cells are named in order.
+fn lowest(core: &Core, named: &[u16], owner: u8) -> Option<u16>
+    requires tidy { Tidy (core_state core.now) (λ m. slice_index named.now m) }
+    requires owner { owner < 8 }
+    requires sized { length named.now ≡ 8 }
+    ensures value { result ≡ lowest_cell (core_state core.now) owner }
+    ensures number { IfSome result (λ pointer. pointer < POINTERS) }
+{
+    next_cell(owner, named[owner as usize])
+}
+
+// Whether a new object may be made, or why not.
+fn design(core: &Core, named: &[u16], mutator: u64, len: u64, ds: u64) -> Result<NewObject, Refused>
+    requires tidy { Tidy (core_state core.now) (λ m. slice_index named.now m) }
+    requires law { Law (core_state core.now) }
+    requires sized { length named.now ≡ 8 }
+    ensures refusal { refused_in result ≡ refusal (core_state core.now) (New mutator len ds) }
+    ensures object { IfOk result (IsNew (core_state core.now) mutator len ds) }
+{
+    if mutator >= u64::from(core.mutators()) || ds >= 256 {
+        return Err(Refused::Range);
+    }
+    if len == 0 || len > u64::from(LONGEST) {
+        return Err(Refused::Length);
+    }
+    let (owner, len, ds) = (mutator as u8, len as u16, ds as u8);
+    let Some(pointer) = lowest(core, named, owner) else {
+        return Err(Refused::NoPointer);
+    };
+    let Some(place) = room_for(core, size_of(len)) else {
+        return Err(Refused::NoRoom);
+    };
+    Ok(NewObject {
+        owner,
+        pointer,
+        len,
+        ds,
+        place,
+    })
+}
+
+// Makes a new object.
+fn make_object(core: &mut Core, named: &mut [u16], mutator: u64, len: u64, ds: u64) -> Outcome
+    requires tidy { Tidy (core_state core.old) (λ m. slice_index named.old m) }
+    requires law { Law (core_state core.old) }
+    requires sized { length named.old ≡ 8 }
+    ensures state { core_state core.new ≡ made (core_state core.old) (events_for (core_state core.old) (New mutator len ds)) }
+    ensures reply { Tells result (reply_to (core_state core.old) (New mutator len ds)) }
+    ensures named { (m : ℕ) → slice_index named.new m ≡ next_after (core_state core.old) (New mutator len ds) (λ k. slice_index named.old k) m }
+    ensures fits { Fits result }
+{
+    match design(core, named, mutator, len, ds) {
+        Ok(object) => {
+            make_new(
+                core,
+                object.owner,
+                object.pointer,
+                object.len,
+                object.ds,
+                object.place,
+            );
+            named[object.owner as usize] += 1;
+            Outcome::Pointer(object.pointer)
+        }
+        Err(why) => Outcome::Refused(why),
+    }
+}
+
+// Opens a mutator's scope.
+fn open_scope(core: &mut Core, mutator: u64) -> Outcome
+    ensures state { core_state core.new ≡ made (core_state core.old) (events_for (core_state core.old) (Open mutator)) }
+    ensures reply { Tells result (reply_to (core_state core.old) (Open mutator)) }
+    ensures fits { Fits result }
+{
+    if mutator >= u64::from(core.mutators()) {
+        return Outcome::Refused(Refused::Range);
+    }
+    let owner = mutator as u8;
+    if core.is_open(owner) {
+        return Outcome::Refused(Refused::AlreadyOpen);
+    }
+    open(core, owner);
+    Outcome::Done
+}
+
+// Closes a mutator's scope.
+fn close_scope(core: &mut Core, mutator: u64) -> Outcome
+    ensures state { core_state core.new ≡ made (core_state core.old) (events_for (core_state core.old) (Close mutator)) }
+    ensures reply { Tells result (reply_to (core_state core.old) (Close mutator)) }
+    ensures fits { Fits result }
+{
+    if mutator >= u64::from(core.mutators()) {
+        return Outcome::Refused(Refused::Range);
+    }
+    let owner = mutator as u8;
+    if !core.is_open(owner) {
+        return Outcome::Refused(Refused::Closed);
+    }
+    core.step(Event::Close { owner });
+    Outcome::Done
+}
+
+// Reads a range of a mutator's object.
+fn read_range(
+    core: &mut Core,
+    room: &mut Room,
+    mutator: u64,
+    pointer: u64,
+    from: u64,
+    len: u64,
+) -> Outcome
+    requires tidy { (next : ℕ → ℕ) × Tidy (core_state core.old) next }
+    requires law { Law (core_state core.old) }
+    ensures state { core_state core.new ≡ made (core_state core.old) (events_for (core_state core.old) (Read mutator pointer from len)) }
+    ensures reply { told_by room.new.bytes room.new.lines result ≡ reply_to (core_state core.old) (Read mutator pointer from len) }
+    ensures fits { Fits result }
+{
+    match reach(core, mutator, pointer, from, len) {
+        Ok(access) => read(core, room, access),
+        Err(why) => Outcome::Refused(why),
+    }
+}
+
+// Writes bytes over a range of a mutator's object.
+fn write_range(
+    core: &mut Core,
+    room: &mut Room,
+    mutator: u64,
+    pointer: u64,
+    from: u64,
+    bytes: HexWord,
+) -> Outcome
+    requires tidy { (next : ℕ → ℕ) × Tidy (core_state core.old) next }
+    requires law { Law (core_state core.old) }
+    ensures state { core_state core.new ≡ made (core_state core.old) (events_for (core_state core.old) (Write mutator pointer from (spelled bytes.entry.digits.now))) }
+    ensures reply { Tells result (reply_to (core_state core.old) (Write mutator pointer from (spelled bytes.entry.digits.now))) }
+    ensures fits { Fits result }
+{
+    match reach(core, mutator, pointer, from, bytes.len() as u64) {
+        Ok(access) => write(core, room, access, bytes),
+        Err(why) => Outcome::Refused(why),
+    }
+}
+
+fn kind_told(kind: Kind) -> LogKind
+    ensures { result ≡ kind_told kind }
+{
+    match kind {
+        Kind::Free => LogKind::Free,
+        Kind::Open => LogKind::Open,
+        Kind::Sealed => LogKind::Sealed,
+    }
+}
+
+// What `logs` says of a log. All its spans are live.
+fn log_told(core: &Core, log: u8) -> LogLine
+    requires tidy { (next : ℕ → ℕ) × Tidy (core_state core.now) next }
+    requires law { Law (core_state core.now) }
+    requires log { log < (core_state core.now).logs }
+    ensures { result ≡ log_line (core_state core.now) log }
+{
+    let live = 8 * u64::from(core.tail(log));
+    LogLine {
+        log,
+        kind: kind_told(core.kind(log)),
+        live,
+        dead: 0,
+        unused: 1024 - live,
+    }
+}
+
+// Fills the room with a line of each log, by number.
+fn tell_logs(core: &Core, lines: &mut [LogLine])
+    requires tidy { (next : ℕ → ℕ) × Tidy (core_state core.now) next }
+    requires law { Law (core_state core.now) }
+    requires room { length lines.old ≡ 64 }
+    ensures { take (core_state core.now).logs lines.new ≡ map (log_line (core_state core.now)) (range_with_len 0 (core_state core.now).logs) }
+{
+    for log in 0..core.logs() {
+        lines[log as usize] = log_told(core, log);
+    }
+}
+
+/// Makes one command, and answers what it comes to.
+pub fn turn(core: &mut Core, named: &mut [u16], room: &mut Room, command: &Command) -> Outcome
+    requires tidy { Tidy (core_state core.old) (λ m. slice_index named.old m) }
+    requires law { Law (core_state core.old) }
+    requires sized { length named.old ≡ 8 }
+    ensures state { core_state core.new ≡ made (core_state core.old) (events_for (core_state core.old) (said command.now)) }
+    ensures reply { told_by room.new.bytes room.new.lines result ≡ reply_to (core_state core.old) (said command.now) }
+    ensures named { (m : ℕ) → slice_index named.new m ≡ next_after (core_state core.old) (said command.now) (λ k. slice_index named.old k) m }
+    ensures fits { Fits result }
+{
+    match *command {
+        Command::Heap { .. } => Outcome::Done,
+        Command::New {
+            mutator,
+            len,
+            structure,
+        } => make_object(core, named, mutator, len, structure),
+        Command::Open { mutator } => open_scope(core, mutator),
+        Command::Write {
+            mutator,
+            pointer,
+            from,
+            bytes,
+        } => write_range(core, room, mutator, pointer, from, bytes),
+        Command::Read {
+            mutator,
+            pointer,
+            from,
+            len,
+        } => read_range(core, room, mutator, pointer, from, len),
+        Command::Close { mutator } => close_scope(core, mutator),
+        Command::Logs => {
+            tell_logs(core, &mut room.lines);
+            Outcome::Logs(core.logs())
+        }
+    }
+}

@@ -1,0 +1,199 @@
+#!/usr/bin/env python3
+"""Holds far_trace against a second, plain interpreter of the trace language, on random traces.
+
+usage: differ.py PROGRAM SEED TRACES
+Prints nothing and ends with 0 where output and status always agree; else prints the first difference and ends with 1.
+"""
+import random
+import re
+import subprocess
+import sys
+
+TEXT_LIMIT, LINE_LIMIT, LOG_BYTES, CELLS, MOST = 1_048_576, 4_096, 1_024, 128, 1_016
+NUMBER = re.compile(rb"0|[1-9][0-9]{0,19}")
+HEX = re.compile(rb"([0-9a-fA-F]{2})+")
+COMMANDS = {b"heap": "nn", b"new": "nnn", b"open": "n", b"close": "n", b"read": "nnnn", b"write": "nnnh", b"logs": ""}
+
+
+def operand(kind: str, word: bytes):
+    """A number or a run of bytes; None where the word is neither."""
+    if kind == "h":
+        return bytes.fromhex(word.decode()) if HEX.fullmatch(word) else None
+    return int(word) if NUMBER.fullmatch(word) and int(word) < 2**64 else None
+
+
+def command(line: bytes):
+    """A line as a name and its operands; None where the line is off the grammar."""
+    name, *words = line.split(b" ")
+    kinds = COMMANDS.get(name)
+    if kinds is None or len(kinds) != len(words):
+        return None
+    operands = [operand(kind, word) for kind, word in zip(kinds, words)]
+    return None if None in operands else (name.decode(), operands)
+
+
+def parse(text: bytes):
+    """The commands of a text, or the number of its first line off the grammar, 0 for a text that is too long."""
+    found, lines = [], text.split(b"\n")
+    if len(text) > TEXT_LIMIT:
+        return 0
+    for number, line in enumerate(lines, 1):
+        if len(line) > LINE_LIMIT or not line.isascii():
+            return number
+        if line and not line.startswith(b"#"):
+            made = command(line)
+            if made is None or (made[0] == "heap") == bool(found):
+                return number
+            found.append(made)
+    return found
+
+
+class Heap:
+    """Objects as bytes, logs as the number of bytes placed in them. Nothing is ever dropped, so nothing is ever dead."""
+
+    def __init__(self, logs: int, mutators: int):
+        self.placed, self.newest = [0] + [None] * (logs - 1), 0
+        self.objects, self.scopes = [[] for _ in range(mutators)], [False] * mutators
+
+    def room(self, size: int) -> bool:
+        """Takes so many bytes behind what was placed last, or in a new log; the last free log is kept."""
+        if self.placed[self.newest] + size > LOG_BYTES:
+            if self.placed.count(None) < 2:
+                return False
+            self.newest = self.placed.index(None)
+            self.placed[self.newest] = 0
+        self.placed[self.newest] += size
+        return True
+
+    def new(self, m: int, length: int, ds: int) -> str:
+        if m >= len(self.scopes) or ds > 255:
+            return "refused 8"
+        if not 1 <= length <= MOST:
+            return "refused 4"
+        if len(self.objects[m]) == CELLS:
+            return "refused 3"
+        if not self.room(8 * (1 + (length + 7) // 8)):
+            return "refused 2"
+        self.objects[m].append(bytearray(length))
+        return f"pointer {CELLS * m + len(self.objects[m]) - 1}"
+
+    def scope(self, m: int, wanted: bool, then: bool) -> str:
+        """Asks for a scope that is open or closed, and leaves it open or closed."""
+        if m >= len(self.scopes):
+            return "refused 8"
+        if self.scopes[m] != wanted:
+            return "refused 5" if wanted else "refused 6"
+        self.scopes[m] = then
+        return "ok"
+
+    def access(self, m: int, p: int, start: int, data) -> str:
+        """A write of bytes, or a read of so many."""
+        if (said := self.scope(m, True, True)) != "ok":
+            return said
+        if p // CELLS != m or p % CELLS >= len(self.objects[m]):
+            return "refused 7"
+        found = self.objects[m][p % CELLS]
+        end = start + (data if isinstance(data, int) else len(data))
+        if end == start or end > len(found):
+            return "refused 8"
+        if isinstance(data, int):
+            return "data " + found[start:end].hex()
+        found[start:end] = data
+        return "ok"
+
+    def logs(self) -> str:
+        kinds = ["free" if used is None else "open" if log == self.newest else "sealed" for log, used in enumerate(self.placed)]
+        rows = enumerate(zip(kinds, [used or 0 for used in self.placed]))
+        return "\n".join(f"log {log} {kind} live {used} dead 0 unused {LOG_BYTES - used}" for log, (kind, used) in rows)
+
+    def answer(self, name: str, operands: list) -> str:
+        if name in ("open", "close"):
+            return self.scope(*operands, name == "close", name == "open")
+        return {"new": self.new, "read": self.access, "write": self.access, "logs": self.logs}[name](*operands)
+
+
+def interpret(text: bytes) -> tuple[int, bytes]:
+    """The status and the output that a text must have."""
+    commands = parse(text)
+    if isinstance(commands, int):
+        return 2, b"refused 16 %d\n" % commands
+    if not commands:
+        return 0, b""
+    logs, mutators = commands[0][1]
+    if not (2 <= logs <= 64 and 1 <= mutators <= 8):
+        return 2, b"refused 15\n"
+    heap = Heap(logs, mutators)
+    return 0, "\n".join(["ok", *(heap.answer(*made) for made in commands[1:]), ""]).encode()
+
+
+class Writer:
+    """Makes one random trace; most of its numbers are good, as a heap of its own tells it."""
+
+    def __init__(self, seed: str):
+        self.choice = random.Random(seed)
+        self.shape = (self.choice.choice((2, 3, 3, 4, 64)), self.choice.randint(1, 8))
+        self.heap = Heap(*self.shape)
+        if self.choice.random() < 0.05:
+            self.shape = (self.choice.choice((0, 1, 2, 64, 65, 2**64 - 1)), self.choice.choice((0, 1, 8, 9, 2**32 + 1)))
+        self.largest = self.choice.choice((1, 9, 40, 300, MOST))
+
+    def odd(self, good: int) -> int:
+        """The number, or now and then one that is seldom good."""
+        return good if self.choice.random() > 0.04 else self.choice.choice((0, 8, 255, 256, MOST, MOST + 1, 2**32, 2**63, 2**64 - 1))
+
+    def access(self, m: int) -> str:
+        lengths = [len(found) for found in self.heap.objects[m]] + [9]
+        index = self.choice.randrange(len(lengths))
+        start = self.choice.randint(0, lengths[index])
+        rest = lengths[index] - start
+        size = self.choice.choice((0, 1, 8, rest, rest, rest, rest + 1, self.choice.randrange(20)))
+        place = f"{self.odd(m)} {self.odd(CELLS * m + index)} {self.odd(start)}"
+        if self.choice.random() < 0.5:
+            return f"read {place} {self.odd(size)}"
+        return f"write {place} " + "".join(self.choice.choice("0123456789abcdefABCDEF") for _ in range(2 * max(size, 1)))
+
+    def line(self) -> str:
+        m = self.choice.randrange(len(self.heap.scopes))
+        kind = self.choice.choices(("new", "access", "open", "close", "logs", "", "# words"), (10, 30, 8, 2, 1, 1, 1))[0]
+        if kind in ("", "# words"):
+            return kind
+        made = self.access(m) if kind == "access" else kind if kind == "logs" else f"{kind} {self.odd(m)}"
+        if kind == "new":
+            made += f" {self.odd(self.choice.randint(1, self.largest))} {self.odd(self.choice.randrange(256))}"
+        self.heap.answer(*command(made.encode()))
+        return made
+
+    def spoiled(self, text: bytes) -> bytes:
+        """The text with one line changed as a person or a fault may change it."""
+        lines = text.split(b"\n")
+        at = self.choice.randrange(len(lines))
+        line, wide, byte = lines[at], LINE_LIMIT + self.choice.randrange(2), bytes([self.choice.randrange(256)])
+        signs = [line.replace(b" ", sign, 1) for sign in (b"  ", b"\t", b" 0", b" +", b" -", b" 0x")]
+        ends = [line + end for end in (b" ", b"\r", b"0", b" 1", b"\t", byte)]
+        others = b"heap 4 1|drop 0 0|log 0|# \xc3\xa9|#\0\t\r|\0|write 0 0 0 0g|write 0 0 0 |open %d|open %d" % (2**64, 10**20)
+        long = [b"#" * wide, (b"write 0 0 0 " + b"ab" * LINE_LIMIT)[: wide + self.choice.randrange(2)]]
+        lines[at] = self.choice.choice([b" " + line, byte + line, line[:-1], line.upper(), *signs, *ends, *others.split(b"|"), *long])
+        return b"\n".join(lines)
+
+    def text(self) -> bytes:
+        lines = [*self.choice.choice(([], [], ["# first", ""])), "heap {} {}".format(*self.shape)]
+        lines += [self.line() for _ in range(self.choice.choice((4, 40, 200, 1_000)))]
+        text = ("\n".join(lines) + self.choice.choice(("\n", "\n", "", "\n\n"))).encode()
+        if self.choice.random() < 0.02:
+            text += b"\n" * (TEXT_LIMIT - len(text) + self.choice.randrange(2))
+        return self.spoiled(text) if self.choice.random() < 0.4 else text
+
+
+def main() -> int:
+    program, seed, count = sys.argv[1], sys.argv[2], int(sys.argv[3])
+    for number in range(count):
+        text = Writer(f"{seed} {number}").text()
+        ran = subprocess.run([program], input=text, capture_output=True, timeout=60, check=False)
+        expected = (*interpret(text), b"")
+        if (got := (ran.returncode, ran.stdout, ran.stderr)) != expected:
+            print(f"trace {number} of seed {seed}:\n{text!r}\nexpected: {expected!r}\ngot:      {got!r}")
+            return 1
+    return 0
+
+
+sys.exit(main())

@@ -1,0 +1,55 @@
+// Preloaded into a program, makes its allocation number FAIL_ALLOC fail (counted from 1; 0 or no such variable: none)
+// and writes how many were asked for to the file that COUNT_ALLOC names.
+//
+//   cc -O2 -shared -fPIC -o fail_malloc.so fail_malloc.c -ldl
+#define _GNU_SOURCE
+#include <dlfcn.h>
+#include <stddef.h>
+#include <stdio.h>
+#include <stdlib.h>
+
+static long count;
+static long nth = -1;
+
+static int refused(void) {
+    if (nth < 0) {
+        const char *value = getenv("FAIL_ALLOC");
+        nth = value ? atol(value) : 0;
+    }
+    count += 1;
+    return count == nth;
+}
+
+void *malloc(size_t size) {
+    static void *(*real)(size_t);
+    if (!real) real = (void *(*)(size_t))dlsym(RTLD_NEXT, "malloc");
+    return refused() ? NULL : real(size);
+}
+
+void *realloc(void *old, size_t size) {
+    static void *(*real)(void *, size_t);
+    if (!real) real = (void *(*)(void *, size_t))dlsym(RTLD_NEXT, "realloc");
+    return refused() ? NULL : real(old, size);
+}
+
+void *calloc(size_t items, size_t size) {
+    static void *(*real)(size_t, size_t);
+    if (!real) real = (void *(*)(size_t, size_t))dlsym(RTLD_NEXT, "calloc");
+    return refused() ? NULL : real(items, size);
+}
+
+void *aligned_alloc(size_t to, size_t size) {
+    static void *(*real)(size_t, size_t);
+    if (!real) real = (void *(*)(size_t, size_t))dlsym(RTLD_NEXT, "aligned_alloc");
+    return refused() ? NULL : real(to, size);
+}
+
+__attribute__((destructor)) static void tell(void) {
+    const char *name = getenv("COUNT_ALLOC");
+    long asked = count;
+    FILE *file = name ? fopen(name, "w") : NULL;
+    if (file) {
+        fprintf(file, "%ld\n", asked);
+        fclose(file);
+    }
+}
