@@ -24,6 +24,7 @@ use crate::turn::turn;
 use far_core::{Core, Shape};
 use far_word::Refused;
 use std::alloc::{AllocError, Global};
+use std::io;
 use std::io::{Read, Write};
 use thiserror::Error;
 
@@ -58,6 +59,17 @@ impl From<WriteFault> for RunFault {
     }
 }
 
+impl From<io::Error> for RunFault {
+    ghost use Rattle.std.specs.Prelude.{◌≡◌};
+    ghost use Rattle.far_trace.specs.declared.run.RunFault.TheVariants.{Read};
+
+    ghost from_gives = { λ _ e. e ≡ Read };
+
+    fn from(_e: io::Error) -> RunFault {
+        RunFault::Read
+    }
+}
+
 impl From<AllocError> for RunFault {
     ghost use Rattle.std.specs.Prelude.{◌≡◌};
     ghost use Rattle.far_trace.specs.declared.run.RunFault.TheVariants.{Memory};
@@ -75,13 +87,9 @@ fn read_whole<R: Read>(alloc: Global, reader: &mut R, most: usize) -> Result<Vec
     ensures fault { result ≢ Err RunFault.Write }
 {
     let mut room = zeros(alloc, most)?;
-    match read_text(reader, &mut room) {
-        Ok(len) => {
-            room.truncate(len);
-            Ok(room)
-        }
-        Err(_) => Err(RunFault::Read),
-    }
+    let len = read_text(reader, &mut room)?;
+    room.truncate(len);
+    Ok(room)
 }
 
 // Writes one refusal, and nothing else.
@@ -131,6 +139,7 @@ fn answer_heap<W: Write>(
     ensures answered { OnOk result (WritesOutput (W.contents writer.old) (W.contents writer.new) (Ok (Heap shape.logs shape.mutators ∷ map said commands.now))) }
     ensures end { IfOk result (λ end. end ≡ end_of (Ok (Heap shape.logs shape.mutators ∷ map said commands.now))) }
     ensures fault { IfErr result (λ fault. LeavesBehind fault (W.contents writer.old) (W.contents writer.new) (Ok (Heap shape.logs shape.mutators ∷ map said commands.now))) }
+    ensures unread { result ≢ Err RunFault.Read }
 {
     match Core::new(alloc, shape, true) {
         Ok(core) => {
@@ -161,6 +170,7 @@ fn answer<W: Write>(
     ensures answered { OnOk result (WritesOutput (W.contents writer.old) (W.contents writer.new) (Ok (map said commands.now))) }
     ensures end { IfOk result (λ end. end ≡ end_of (Ok (map said commands.now))) }
     ensures fault { IfErr result (λ fault. LeavesBehind fault (W.contents writer.old) (W.contents writer.new) (Ok (map said commands.now))) }
+    ensures unread { result ≢ Err RunFault.Read }
 {
     let [first, rest @ ..] = commands else {
         return Ok(End::Ran);
@@ -186,6 +196,7 @@ fn answer_text<W: Write>(
     ensures answered { OnOk result (WritesOutput (W.contents writer.old) (W.contents writer.new) (commands_of text.now)) }
     ensures end { IfOk result (λ end. end ≡ end_of (commands_of text.now)) }
     ensures fault { IfErr result (λ fault. LeavesBehind fault (W.contents writer.old) (W.contents writer.new) (commands_of text.now)) }
+    ensures unread { result ≢ Err RunFault.Read }
 {
     match parse(alloc, text) {
         Ok(commands) => answer(alloc, writer, out, &commands),

@@ -1,5 +1,13 @@
 // Texts on and off the grammar, printed replies, and readers and writers that fail.
 
+mod filling;
+mod longest;
+mod object_bytes;
+mod refusing;
+mod running;
+mod streaming;
+mod talk;
+
 use crate::command::Command;
 use crate::gather::{add_reply, write_waiting};
 use crate::output::Output;
