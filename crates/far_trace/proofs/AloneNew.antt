@@ -24,13 +24,13 @@ use Rattle.far_core.specs.World.{World, Object}
 use Rattle.far_core.specs.WorldOf.{world_of}
 use Rattle.far_core.specs.WorldSteps.{Makes}
 use Rattle.far_core.proofs.Keeps.{step_keeps}
-use Rattle.far_trace.specs.Alone.{own_of, bytes_in_world}
+use Rattle.far_trace.specs.Alone.{own_of, bytes_in_world, HasLeft}
 use Rattle.far_trace.specs.Command.{New}
 use Rattle.far_trace.specs.Made.{made, AllSucceed}
 use Rattle.far_trace.specs.Reply.{Refused}
 use Rattle.far_trace.specs.Turn.{lowest_cell, refusal, first_cause, unless, new_events, new_word, zero_puts, pointer_reply}
 use Rattle.far_trace.proofs.AloneRuns.{Same, own_other, own_here, quiet_map, quiet_run, made-append, succeed-append, name_step, new_object, makes_object, was_legal}
-use Rattle.far_trace.proofs.AloneStates.{lowest_own}
+use Rattle.far_trace.proofs.AloneStates.{lowest_own, lowest_unknown}
 use Rattle.far_trace.proofs.AloneTurns.{Tells, Turns, four_causes}
 
 -- ---- the words of a new object
@@ -121,6 +121,11 @@ not_length len h = elim (cases_eq len 0) [
 is_length : (len : ℕ) → not (nat_lt 0 len && nat_le len LONGEST) ≡ false → (0 < len) × (len ≤ LONGEST)
 is_length len h = (grind (arith, nat_tests), grind (arith, nat_tests))
 
+-- a mutator that has a free cell has a pointer left
+one_left : (s : State) (k : ℕ) (o : Option ℕ) → lowest_cell s k ≡ o → not (is_some o) ≡ false → HasLeft k (own_of (world_of s) k)
+one_left s k None e h = absurd (true≢false h)
+one_left s k (Some p) e h = (p, lowest_own s k p e, lowest_unknown s k p e)
+
 module _ (s : State) (k len ds : ℕ) (law : Law s) where
   -- with this cell and this place, turned down for this cause or for none
   abbrev NewTurns : Option ℕ → Option Place → Option Refusal → Type 0
@@ -137,7 +142,7 @@ module _ (s : State) (k len ds : ℕ) (law : Law s) where
       (λ off _. (λ within. (not_structure s k ds within off, refl), λ m ne. refl))
       (λ structure off _. (λ within. ((is_structure s k ds structure).1, not_length len off, refl), λ m ne. refl))
       (λ structure long off _. (λ within. ((is_structure s k ds structure).1, (is_length len long).0, (is_length len long).1, refl), λ m ne. refl))
-      (λ structure long cell off _. (λ within. ((is_structure s k ds structure).1, (is_length len long).0, (is_length len long).1, refl), λ m ne. refl))
+      (λ structure long cell off _. (λ within. ((is_structure s k ds structure).1, (is_length len long).0, (is_length len long).1, one_left s k o e cell, refl), λ m ne. refl))
       (λ structure long cell space ok. at_cell o r e (is_structure s k ds structure).0 (is_structure s k ds structure).1 (is_length len long).0 (is_length len long).1 cell space ok)
 
   pub turns_new : Turns s k (New k len ds) (refusal s (New k len ds))

@@ -103,3 +103,23 @@ found_between test a (suc n) p e = cond_both (test a) (Some a) (find test (range
 pub lowest_own : (s : State) (m p : ℕ) → lowest_cell s m ≡ Some p → p / CELLS ≡ m
 unfolding lowest_cell
 lowest_own s m p e = let x = found_between (λ q. nat_eq (s.cell q) 0) (m * CELLS) CELLS p e in omega (arith, x.0, x.1)
+
+-- and it is free
+found_passes : (test : ℕ → Bool) (a n p : ℕ) → find test (range_with_len a n) ≡ Some p → test p ≡ true
+found_passes test a zero p e = absurd cc
+found_passes test a (suc n) p e = cond_both (test a) (Some a) (find test (range_with_len (a + 1) n)) (λ (o : Option ℕ). o ≡ Some p → test p ≡ true)
+    (λ pass here. let same : a ≡ p = cc in ap test (sym same) ∙ pass)
+    (λ _ later. found_passes test (a + 1) n p later) e
+
+lowest_free : (s : State) (m p : ℕ) → lowest_cell s m ≡ Some p → s.cell p ≡ 0
+unfolding lowest_cell
+lowest_free s m p e = let free = found_passes (λ q. nat_eq (s.cell q) 0) (m * CELLS) CELLS p e in grind (arith, nat_tests)
+
+-- so its mutator knows of no object there
+no_object : (s : State) (p : ℕ) → s.cell p ≡ 0 → (world_of s).object p ≡ None
+unfolding world_of read_of
+no_object s p e = ap (λ w. object_of s.word (s.stored p) p (read_of w)) e
+
+pub lowest_unknown : (s : State) (m p : ℕ) → lowest_cell s m ≡ Some p → (own_of (world_of s) m).object p ≡ None
+lowest_unknown s m p e = cond_both (nat_eq (p / CELLS) m) (bytes_in_world ((world_of s).object p)) None (λ (x : Option (List ℕ)). x ≡ None)
+    (λ _. ap bytes_in_world (no_object s p (lowest_free s m p e))) (λ _. refl)

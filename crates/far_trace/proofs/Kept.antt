@@ -1,5 +1,5 @@
 -- What stays through a list of commands: the law, the pointers at hand, and the logs that views rest in.
-use Rattle.std.proofs.Common.{◌≡◌, ℕ, arith, nat_eq, sym, ◌∙◌, ap, subst, Some, None, Option, List, [], ◌∷◌, inl, inr}
+use Rattle.std.proofs.Common.{◌≡◌, ℕ, arith, nat_eq, subst, Some, None, Option, List, [], ◌∷◌, inl, inr}
 use Rattle.std.specs.Prelude.{All, Contains}
 use Rattle.std.proofs.lemmas.Bool.{cond_both}
 use Rattle.far_word.specs.declared.pointer.Place.{Place}
@@ -23,7 +23,6 @@ use Rattle.far_trace.specs.Command.{Command}
 use Rattle.far_trace.specs.Headline.{LogsStay, IsWhole}
 use Rattle.far_trace.specs.Made.{made, AllAtHand}
 use Rattle.far_trace.specs.Reply.{Reply}
-use Rattle.far_trace.specs.Turn.{events_for}
 
 -- ---- no event gives a log back
 -- a new place leaves no log free that wasn't
@@ -85,17 +84,17 @@ held_log s law p place h free =
     omega (arith, span.0)
 
 -- the logs in which views rest are not given back by the next command
-pub logs_stay : (s : State) (cs : List Command) (rs : List Reply) (ts : List State) → Law s → Answered s cs rs ts → LogsStay s ts
+pub logs_stay : (s : State) (cs : List Command) (rs : List Reply) (ts : List State) → Law s → Answered s cs rs ts → LogsStay s cs ts
 logs_stay s [] [] [] law h = tt
 logs_stay s [] [] (u ∷ ts) law h = absurd h
 logs_stay s [] (r ∷ rs) ts law h = absurd h
 logs_stay s (d ∷ cs) [] ts law h = absurd h
 logs_stay s (d ∷ cs) (r ∷ rs) [] law h = absurd h
 logs_stay s (d ∷ cs) (r ∷ rs) (t ∷ ts) law h =
-    (λ p place rests free. held_log s law p place rests (never_freed s (events_for s d) place.log (ap (λ (x : State). x.kind place.log) (sym h.0.state) ∙ free)), logs_stay t cs rs ts h.0.law h.1)
+    (λ es rest front p place rests free. held_log s law p place rests (never_freed s es place.log free), logs_stay t cs rs ts h.0.law h.1)
 
 -- a state with the law is whole
-whole : (s : State) → Law s → IsWhole s
+pub whole : (s : State) → Law s → IsWhole s
 whole s law = (has_one_live s law, bytes_make_log s law, names_once s law)
 
 -- each state of a list of commands is whole

@@ -25,13 +25,17 @@ IsOut bytes from count = (count ≡ 0) ⊎ (length bytes < from + count)
 abbrev pub IsIn : List ℕ → ℕ → ℕ → Type 0
 IsIn bytes from count = (0 < count) × (from + count ≤ length bytes)
 
+-- one of its pointers has no object
+abbrev pub HasLeft : ℕ → Own → Type 0
+HasLeft m o = (p : ℕ) × (p / CELLS ≡ m) × (o.object p ≡ None)
+
 -- a command of the mutator m with its reply takes what it knows from o to q
 abbrev pub Knows : ℕ → Own → Command → Reply → Own → Type 0
 Knows m o (New _ len ds) (Pointer p) q = (ds < 256) × (0 < len) × (len ≤ LONGEST) × (p / CELLS ≡ m) × (o.object p ≡ None) × (q ≡ record o { object = put o.object p (Some (replicate len 0)) })
 Knows m o (New _ len ds) (Refused Range) q = (256 ≤ ds) × (q ≡ o)
 Knows m o (New _ len ds) (Refused Length) q = (ds < 256) × ((len ≡ 0) ⊎ (LONGEST < len)) × (q ≡ o)
 Knows m o (New _ len ds) (Refused NoPointer) q = (ds < 256) × (0 < len) × (len ≤ LONGEST) × (q ≡ o)
-Knows m o (New _ len ds) (Refused NoRoom) q = (ds < 256) × (0 < len) × (len ≤ LONGEST) × (q ≡ o)
+Knows m o (New _ len ds) (Refused NoRoom) q = (ds < 256) × (0 < len) × (len ≤ LONGEST) × HasLeft m o × (q ≡ o)
 Knows m o (Open _) Done q = (o.opened ≡ false) × (q ≡ record o { opened = true })
 Knows m o (Open _) (Refused AlreadyOpen) q = (o.opened ≡ true) × (q ≡ o)
 Knows m o (Close _) Done q = (o.opened ≡ true) × (q ≡ record o { opened = false })

@@ -1,5 +1,5 @@
 -- What is written for a text.
-use Rattle.std.specs.Prelude.{◌≡◌, ◌⊎◌, ℕ, true, Option, List, [], ◌∷◌, Result, Ok, Err, if◌then◌else◌}
+use Rattle.std.specs.Prelude.{◌≡◌, ◌≢◌, ◌⊎◌, ℕ, true, Option, List, [], ◌∷◌, Result, Ok, Err, if◌then◌else◌}
 use Rattle.std.specs.Bool.{MatchBool}
 use Rattle.std.specs.List.{flat_map}
 use Rattle.std.specs.Io.KnownBytes.{Appends, Keeps}
@@ -78,7 +78,7 @@ MayMakeHeap _ = ⊥
 -- what a fault leaves: a failed write, a front of the output; want of memory, nothing, or the one line that says so where
 -- the heap was refused; a failed read, nothing
 abbrev pub LeavesBehind : RunFault → Option (List ℕ) → Option (List ℕ) → Result (List Command) ℕ → Type 0
-LeavesBehind faults.Write old new commands = (output : List ℕ) × IsOutput commands output × AppendsFront old new output
+LeavesBehind faults.Write old new commands = (output : List ℕ) × IsOutput commands output × (output ≢ []) × AppendsFront old new output
 LeavesBehind faults.Memory old new commands = Keeps old new ⊎ (MayMakeHeap commands × AppendsFront old new (printed (Refused Memory)))
 LeavesBehind faults.Read old new commands = Keeps old new
 

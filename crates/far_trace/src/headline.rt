@@ -1,6 +1,6 @@
 //! What outputs say, over whole texts and whole lists of commands. No function here does anything when it runs.
 
-ghost use Rattle.far_trace.specs.Headline.{OneOutput, ObjectsStayWhole, ViewedLogsStay, MutatorsAreAlone, LinesAreLater, NearRefusals};
+ghost use Rattle.far_trace.specs.Headline.{OneOutput, ObjectsStayWhole, ViewedLogsStay, MutatorsAreAlone, LinesAreLater, NearRefusals, HeapsBeginLawful};
 
 /// A text has one output.
 pub fn outputs_are_one()
@@ -13,7 +13,7 @@ pub fn objects_stay_whole()
     ensures { ObjectsStayWhole }
 {}
 
-/// A log in which an object lies that its mutator views isn't given back by the next command.
+/// A log in which an object lies that its mutator views isn't given back by the next command, after any of its events.
 pub fn viewed_logs_stay()
     ensures { ViewedLogsStay }
 {}
@@ -32,4 +32,9 @@ pub fn mutators_are_alone()
 /// a new object alone is refused.
 pub fn near_refusals()
     ensures { NearRefusals }
+{}
+
+/// The first state of a heap in range has the law, and is whole.
+pub fn heaps_begin_lawful()
+    ensures { HeapsBeginLawful }
 {}
