@@ -21,7 +21,8 @@ use Rattle.far_core.specs.Step.{holds, data_len, data_word, near_len, near_data}
 use Rattle.far_core.proofs.Cells.{held_near}
 use Rattle.far_core.proofs.KeepPlace.{header}
 
-some_of : {X : Type 0} (o : Option X) → is_some o ≡ true → (x : X) × (o ≡ Some x)
+-- an option that isn't empty has a value
+pub some_of : {X : Type 0} (o : Option X) → is_some o ≡ true → (x : X) × (o ≡ Some x)
 some_of None h = absurd (false≢true h)
 some_of (Some x) h = (x, refl)
 

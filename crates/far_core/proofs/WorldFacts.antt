@@ -1,6 +1,6 @@
 -- The world of a state that has the law.
 use Rattle.std.proofs.Common.{◌≡◌, ◌≢◌, ℕ, ◌+◌, ◌/◌, Bool, true, false, cond, arith, sym, refl, ap, ◌∙◌, Option, Some, None, inl, inr}
-use Rattle.std.specs.Prelude.{◌||◌, ◌&&◌, not, is_some}
+use Rattle.std.specs.Prelude.{◌||◌, ◌&&◌, not}
 use Rattle.std.proofs.lemmas.Bool.{false≢true, cases_eq, eq-eqb, ne_eqb}
 use Rattle.std.proofs.lemmas.Bool.Decides.{nat_tests}
 use mathlib.Core.Path.{fun_ext}
@@ -18,14 +18,11 @@ use Rattle.far_core.specs.State.{State, put, addr}
 use Rattle.far_core.specs.World.{Object, Group, FarSide, start}
 use Rattle.far_core.specs.WorldAgrees.{ViewRests, MarksAgree, MarksExist}
 use Rattle.far_core.specs.WorldOf.{world_of, object_of, is_marked, is_group}
+use Rattle.far_core.proofs.Bounds.{some_of}
 use Rattle.far_core.proofs.Cells.{unused, held_near}
 use Rattle.far_core.proofs.Observations.{in_range}
 use Rattle.far_core.proofs.Put.{put_same}
 use Rattle.far_core.proofs.Worlds.{World-ext}
-
-some_of : {X : Type 0} (o : Option X) → is_some o ≡ true → (x : X) × (o ≡ Some x)
-some_of None h = absurd (false≢true h)
-some_of (Some x) h = (x, refl)
 
 held_group : (k : Kind) → (k ≡ kinds.Free → ⊥) → is_group k ≡ true
 held_group kinds.Free h = absurd (h refl)

@@ -1,7 +1,6 @@
 -- What a new object tells its mutator.
 use Rattle.std.proofs.Common.{◌≡◌, ℕ, ◌+◌, ◌/◌, ◌<◌, ◌≤◌, ◌^◌, true, false, cond, nat_lt, nat_le, arith, sym, refl, ap, ◌∙◌, Option, Some, None, List, [], ◌∷◌, ◌++◌, inl, inr}
 use Rattle.std.specs.Prelude.{not, ◌&&◌, ◌⊎◌, is_some, replicate}
-use Rattle.std.specs.List.{range_with_len}
 use Rattle.std.proofs.lemmas.Bool.{true≢false, cases_eq, cases_lt, eq-eqb}
 use Rattle.std.proofs.lemmas.Bool.Decides.{nat_tests}
 use Rattle.far_word.specs.declared.mark.Marks.{Marks}
@@ -29,7 +28,9 @@ use Rattle.far_trace.specs.Command.{New}
 use Rattle.far_trace.specs.Made.{made, AllSucceed}
 use Rattle.far_trace.specs.Reply.{Refused}
 use Rattle.far_trace.specs.Turn.{lowest_cell, refusal, first_cause, unless, new_events, new_word, zero_puts, pointer_reply}
-use Rattle.far_trace.proofs.AloneRuns.{Same, own_other, own_here, quiet_map, quiet_run, made-append, succeed-append, name_step, new_object, makes_object, was_legal}
+use Rattle.far_trace.proofs.Each.{Each-row}
+use Rattle.far_trace.proofs.MadeLemmas.{made-append, AllSucceed-parts}
+use Rattle.far_trace.proofs.AloneRuns.{Same, own_other, own_here, IsQuiet, quiet_run, name_step, new_object, makes_object, was_legal}
 use Rattle.far_trace.proofs.AloneStates.{lowest_own, lowest_unknown}
 use Rattle.far_trace.proofs.AloneTurns.{Tells, Turns, four_causes}
 
@@ -74,7 +75,7 @@ module _ (s : State) (k len ds p : ℕ) (place : Place) (law : Law s) (within : 
   -- the puts leave the objects as they are
   put_run : ((world_of u).object ≡ (world_of s).object) × ((world_of u).opened ≡ (world_of s).opened) × Law u
   put_run =
-      let run = quiet_run s puts law (wide, quiet_map (λ i. Puts place.log (place.at + 1 + i) 0) (range_with_len 0 (words_for len)) (λ i. omega arith)) in
+      let run = quiet_run s puts law (wide, Each-row IsQuiet (λ i. Puts place.log (place.at + 1 + i) 0) 0 (words_for len) (λ i _. omega arith)) in
       (run.0.0, run.0.1, run.1)
 
   -- the object that the events make
@@ -82,7 +83,7 @@ module _ (s : State) (k len ds p : ℕ) (place : Place) (law : Law s) (within : 
       (o : Object) × ((world_of s).object p ≡ None) × ((world_of (made s (puts ++ names))).object ≡ put (world_of s).object p (Some o))
       × ((world_of (made s (puts ++ names))).opened ≡ (world_of s).opened) × (o.bytes ≡ replicate len 0)
   new_run ok =
-      let parts = succeed-append s puts names ok in
+      let parts = AllSucceed-parts s puts names ok in
       let legal = was_legal s (Puts place.log place.at (head_word p len ds)) law parts.0.0 in
       let first = put_run in
       let word : new_word len ds place < 2 ^ 64 = new_fits len ds place (omega (arith, legal.0, law.shape.few_logs)) legal.3 most structure in

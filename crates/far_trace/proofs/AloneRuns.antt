@@ -1,5 +1,5 @@
 -- What the world does at a list of events.
-use Rattle.std.proofs.Common.{◌≡◌, ◌≢◌, ℕ, zero, suc, ◌+◌, ◌/◌, ◌<◌, ◌^◌, Bool, true, false, cond, nat_eq, sym, refl, ap, ◌∙◌, Option, Some, None, List, [], ◌∷◌, ◌++◌, map, inl, inr}
+use Rattle.std.proofs.Common.{◌≡◌, ◌≢◌, ℕ, zero, suc, ◌+◌, ◌/◌, ◌<◌, ◌^◌, Bool, true, false, cond, nat_eq, sym, refl, ap, ◌∙◌, Option, Some, None, List, [], ◌∷◌, inl, inr}
 use Rattle.std.specs.Prelude.{replicate}
 use Rattle.std.proofs.lemmas.Bool.{cases_eq, cond_both, eq-eqb, ne_eqb}
 use mathlib.Core.Path.{fun_ext}
@@ -29,6 +29,7 @@ use Rattle.far_core.proofs.Steps.{step_does}
 use Rattle.far_trace.specs.Alone.{Own, own_of, bytes_in_world}
 use Rattle.far_trace.specs.Made.{made, Succeeds, AllSucceed}
 use Rattle.far_trace.specs.Turn.{store_events}
+use Rattle.far_trace.proofs.Each.{Each}
 
 -- ---- what a mutator knows of a world
 pub Own-ext : (a b : Own) → a.opened ≡ b.opened → a.object ≡ b.object → a ≡ b
@@ -120,16 +121,7 @@ quiet_happens w v (Put l at x) r q h = absurd h
 quiet_happens w v (Name p old new) r q h = absurd q
 
 abbrev pub Quiet : List Event → Type 0
-Quiet [] = Unit {0}
-Quiet (e ∷ es) = IsQuiet e × Quiet es
-
-pub quiet_append : (es ds : List Event) → Quiet es → Quiet ds → Quiet (es ++ ds)
-quiet_append [] ds h k = k
-quiet_append (e ∷ es) ds h k = (h.0, quiet_append es ds h.1 k)
-
-pub quiet_map : (f : ℕ → Event) (ns : List ℕ) → ((i : ℕ) → IsQuiet (f i)) → Quiet (map f ns)
-quiet_map f [] h = tt
-quiet_map f (n ∷ ns) h = (h n, quiet_map f ns h)
+Quiet = Each IsQuiet
 
 -- quiet events keep the law, the objects and the scopes
 pub quiet_run : (s : State) (es : List Event) → Law s → Quiet es → Same (world_of s) (world_of (made s es)) × Law (made s es)
@@ -138,15 +130,6 @@ quiet_run s (e ∷ es) law q =
     let one : Same (world_of s) (world_of (step_of s e).0) = quiet_happens (world_of s) (world_of (step_of s e).0) e (step_of s e).1 q.0 (step_does s e law (quiet_fits e q.0)) in
     let rest = quiet_run (step_of s e).0 es (step_keeps s e law (quiet_fits e q.0)) q.1 in
     ((rest.0.0 ∙ one.0, rest.0.1 ∙ one.1), rest.1)
-
--- ---- lists of events, one behind the other
-pub made-append : (s : State) (es ds : List Event) → made s (es ++ ds) ≡ made (made s es) ds
-made-append s [] ds = refl
-made-append s (e ∷ es) ds = made-append (step_of s e).0 es ds
-
-pub succeed-append : (s : State) (es ds : List Event) → AllSucceed s (es ++ ds) → AllSucceed s es × AllSucceed (made s es) ds
-succeed-append s [] ds h = (tt, h)
-succeed-append s (e ∷ es) ds h = let rest = succeed-append (step_of s e).0 es ds h.1 in ((h.0, rest.0), rest.1)
 
 -- ---- stores
 -- words from first on of some bytes in the place of those of others

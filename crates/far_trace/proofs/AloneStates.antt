@@ -1,24 +1,25 @@
 -- What a mutator knows of a state: its scope, and the bytes of the pointers that it uses.
-use Rattle.std.proofs.Common.{◌≡◌, ◌≢◌, ℕ, zero, suc, ◌+◌, ◌*◌, ◌/◌, ◌<◌, ◌≤◌, Bool, true, false, cond, nat_eq, nat_lt, arith, sym, refl, ap, ◌∙◌, Option, Some, None, List, length, inl, inr}
+use Rattle.std.proofs.Common.{◌≡◌, ℕ, zero, suc, ◌+◌, ◌*◌, ◌/◌, ◌<◌, ◌≤◌, Bool, true, false, cond, nat_eq, nat_lt, arith, sym, refl, ap, ◌∙◌, Option, Some, None, List, length, inl, inr}
 use Rattle.std.specs.Prelude.{not, ◌⊎◌, find}
 use Rattle.std.specs.List.{range_with_len}
-use Rattle.std.proofs.lemmas.Bool.{and_parts, and_cases, cases_eq, cond_both, false≢true, true≢false, cases_lt}
+use Rattle.std.proofs.lemmas.Bool.{and_parts, and_cases, cases_eq, cond_both, true≢false, cases_lt}
 use Rattle.std.proofs.lemmas.Bool.Decides.{nat_tests}
 use Rattle.far_word.specs.declared.pointer.PtrWord.{PtrWord}
 use Rattle.far_word.specs.declared.sizes.TheConstants.{CELLS}
 use Rattle.far_word.specs.Bytes.{bytes_of}
 use Rattle.far_word.specs.Pointer.{read_of}
 use Rattle.far_word.proofs.ByteLaws.{length-bytes_of, bytes_of-small}
-use Rattle.far_core.specs.Law.{Law, in_use}
+use Rattle.far_core.specs.Law.{Law}
 use Rattle.far_core.specs.State.{State, addr}
 use Rattle.far_core.specs.Step.{is_opened, near_data, near_len, data_len}
 use Rattle.far_core.specs.World.{Object, Group}
 use Rattle.far_core.specs.WorldOf.{world_of, object_of}
 use Rattle.far_core.proofs.Cells.{unused}
+use Rattle.far_core.proofs.KeepOwner.{nonzero}
 use Rattle.far_trace.specs.Alone.{own_of, bytes_in_world}
 use Rattle.far_trace.specs.Made.{AllAtHand, AtHand}
 use Rattle.far_trace.specs.Turn.{uses, data_of, is_range, lowest_cell}
-use Rattle.far_trace.proofs.AloneBytes.{AreBytes}
+use Rattle.far_trace.proofs.Spliced.{AreBytes}
 
 -- ---- tests
 pub outside : (k n : ℕ) → k < n → not (nat_lt k n) ≡ true → ⊥
@@ -49,15 +50,11 @@ range_out n from count h = elim (cases_eq count 0) [
 
 -- ---- objects
 module _ (s : State) (law : Law s) (hand : AllAtHand s) where
-  -- a cell that is used isn't 0
-  used_cell : (p : ℕ) → s.used p ≡ true → s.cell p ≢ 0
-  used_cell p u e = false≢true (sym (ap (λ w. in_use (read_of w)) e ∙ ap in_use unused) ∙ law.views.used_cell p u)
-
   -- a used pointer has an object with the bytes of its data
   pub object_used : (p : ℕ) → s.used p ≡ true → (o : Object) × ((world_of s).object p ≡ Some o) × (o.bytes ≡ data_of s p)
   unfolding world_of
   object_used p u =
-      let a : AtHand s p = hand p (used_cell p u) in
+      let a : AtHand s p = hand p (nonzero s law p u) in
       let o : Object = record { owner = p / CELLS; ds = a.ds; bytes = bytes_of (λ i. s.word (addr a.place + 1 + i)) a.len; home = Group a.place.log } in (
         o,
         ap (object_of s.word (s.stored p) p) a.near ∙ ap (λ b. cond b None (Some o)) a.kept,

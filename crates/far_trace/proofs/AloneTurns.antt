@@ -1,7 +1,6 @@
 -- What each command's reply tells its mutator, and that it changes nothing of what others know.
 use Rattle.std.proofs.Common.{◌≡◌, ◌≢◌, ℕ, ◌+◌, ◌/◌, ◌<◌, ◌≤◌, Bool, true, false, cond, nat_eq, nat_lt, sym, refl, ap, subst, ◌∙◌, Option, Some, None, List, [], ◌∷◌, ◌++◌, length}
 use Rattle.std.specs.Prelude.{not, ◌⊎◌, is_some}
-use Rattle.std.specs.List.{range_with_len}
 use Rattle.std.proofs.lemmas.Bool.{and_parts, cond_both, eqb-true, not-true, not-false}
 use Rattle.far_word.specs.declared.refused.Refused.{Refused as Refusal}
 use Rattle.far_word.specs.declared.refused.Refused.TheVariants.{Closed, AlreadyOpen, NotHeld, Range}
@@ -19,8 +18,11 @@ use Rattle.far_trace.specs.Command.{Command, Open, Write, Read, Close}
 use Rattle.far_trace.specs.Made.{made, AllSucceed, AllAtHand}
 use Rattle.far_trace.specs.Reply.{Reply, Done, Refused}
 use Rattle.far_trace.specs.Turn.{uses, data_of, spliced, is_range, refusal, first_cause, unless, turn_events, turn_reply, open_events, view_events, part_events, load_events, store_events, starts_inside, ends_inside, first_word, words_touched}
-use Rattle.far_trace.proofs.AloneBytes.{AreBytes, packed_fits, over_spliced, spliced_small}
-use Rattle.far_trace.proofs.AloneRuns.{Scoped, own_same, own_other, own_here, own_scope, own_scope_other, Quiet, quiet_append, quiet_map, quiet_run, made-append, succeed-append, over_all, stores_run, open_step, close_step}
+use Rattle.far_trace.proofs.AloneBytes.{over_spliced}
+use Rattle.far_trace.proofs.Each.{Each-append, Each-row}
+use Rattle.far_trace.proofs.MadeLemmas.{made-append, AllSucceed-parts}
+use Rattle.far_trace.proofs.Spliced.{AreBytes, packed_wide, spliced_bytes}
+use Rattle.far_trace.proofs.AloneRuns.{Scoped, own_same, own_other, own_here, own_scope, own_scope_other, IsQuiet, Quiet, quiet_run, over_all, stores_run, open_step, close_step}
 use Rattle.far_trace.proofs.AloneStates.{outside, open_world, shut_world, range_in, range_out, object_used, own_used, own_unused, length-data, data_small}
 
 -- the reply tells the mutator what it says, and no other mutator learns anything
@@ -75,7 +77,7 @@ quiet_view s k p = cond_both (is_some (s.held p)) [] (Pins k p ∷ []) Quiet (λ
 
 quiet_part : (k p from count : ℕ) → Quiet (part_events k p from count)
 quiet_part k p from count =
-    quiet_append (cond (starts_inside from count) (Loads k p (from / 8) ∷ []) []) (cond (ends_inside from count) (Loads k p ((from + count) / 8) ∷ []) [])
+    Each-append IsQuiet (cond (starts_inside from count) (Loads k p (from / 8) ∷ []) []) (cond (ends_inside from count) (Loads k p ((from + count) / 8) ∷ []) [])
     (cond_both (starts_inside from count) (Loads k p (from / 8) ∷ []) [] Quiet (λ _. (tt, tt)) (λ _. tt))
     (cond_both (ends_inside from count) (Loads k p ((from + count) / 8) ∷ []) [] Quiet (λ _. (tt, tt)) (λ _. tt))
 
@@ -97,7 +99,7 @@ turns_read s k p from len law hand =
       λ m ne. own_same (world_of s) t m run.0,
     )) where
       quiet : Quiet (turn_events s (Read k p from len))
-      quiet = quiet_append (view_events s k p) (load_events k p (first_word from) (words_touched from len)) (quiet_view s k p) (quiet_map (λ i. Loads k p i) (range_with_len (first_word from) (words_touched from len)) (λ _. tt))
+      quiet = Each-append IsQuiet (view_events s k p) (load_events k p (first_word from) (words_touched from len)) (quiet_view s k p) (Each-row IsQuiet (λ i. Loads k p i) (first_word from) (words_touched from len) (λ _ _. tt))
 
       out_of : not (is_range (data_len s p) from len) ≡ true → IsOut (data_of s p) from len
       out_of h = subst (λ n. (len ≡ 0) ⊎ (n < from + len)) (sym (length-data s p)) (range_out (data_len s p) from len h)
@@ -120,12 +122,12 @@ module _ (s : State) (k p from : ℕ) (bytes : List ℕ) (law : Law s) (hand : A
   write_run : s.used p ≡ true → 0 < length bytes → from + length bytes ≤ length (data_of s p) → AllSucceed s (loads ++ stores) →
       (o : Object) × ((world_of (made s (loads ++ stores))).object ≡ put (world_of s).object p (Some o)) × ((world_of (made s (loads ++ stores))).opened ≡ (world_of s).opened) × (o.bytes ≡ new)
   write_run used some fits ok =
-      let parts = succeed-append s loads stores ok in
-      let first = quiet_run s loads law (quiet_append (view_events s k p) (part_events k p from (length bytes)) (quiet_view s k p) (quiet_part k p from (length bytes))) in
+      let parts = AllSucceed-parts s loads stores ok in
+      let first = quiet_run s loads law (Each-append IsQuiet (view_events s k p) (part_events k p from (length bytes)) (quiet_view s k p) (quiet_part k p from (length bytes))) in
       let u : State = made s loads in
       let x = object_used s law hand p used in
       let there : (world_of u).object p ≡ Some x.0 = ap (λ (f : ℕ → Option Object). f p) first.0.0 ∙ x.1 in
-      let run = stores_run u k p (first_word from) (words_touched from (length bytes)) new x.0 first.1 (packed_fits new (spliced_small (data_of s p) from bytes fits (data_small s p) small)) there parts.1 in
+      let run = stores_run u k p (first_word from) (words_touched from (length bytes)) new x.0 first.1 (packed_wide new (spliced_bytes (data_of s p) from bytes fits (data_small s p) small)) there parts.1 in
       let over : List ℕ = over_all x.0.bytes (first_word from) (words_touched from (length bytes)) new in
       let joined : world_of (made s (loads ++ stores)) ≡ world_of (made u stores) = ap world_of (made-append s loads stores) in (
         with_bytes x.0 over,

@@ -8,6 +8,7 @@ pub mod AloneTurns
 pub mod Answering
 pub mod Cuts
 pub mod Determined
+pub mod Each
 pub mod Fronts
 pub mod HexAtLemmas
 pub mod HexLemmas
@@ -29,6 +30,7 @@ pub mod Refusals
 pub mod Rooms
 pub mod Runs
 pub mod SaysLemmas
+pub mod Spliced
 pub mod StoreTurns
 pub mod Streams
 pub mod Turns

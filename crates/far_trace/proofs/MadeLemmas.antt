@@ -1,6 +1,5 @@
 -- Events made one after the other: parts put together, and the law that they keep.
-use Rattle.std.proofs.Common.{◌≡◌, ℕ, ◌+◌, ◌<◌, true, cond, refl, sym, ap, subst, List, [], ◌∷◌, ◌++◌, map, zero, suc, arith}
-use Rattle.std.specs.List.{range_with_len}
+use Rattle.std.proofs.Common.{◌≡◌, ℕ, true, cond, refl, sym, ap, subst, List, [], ◌∷◌, ◌++◌}
 use Rattle.std.proofs.lemmas.Bool.{cond_both}
 use Rattle.far_core.specs.declared.event.Event.{Event}
 use Rattle.far_core.specs.declared.event.Event.TheVariants.{Load}
@@ -11,6 +10,7 @@ use Rattle.far_core.specs.State.{State}
 use Rattle.far_core.specs.Step.{step_of, is_legal, after, answer, Fits}
 use Rattle.far_core.proofs.Keeps.{step_keeps}
 use Rattle.far_trace.specs.Made.{made, Succeeds, AllSucceed}
+use Rattle.far_trace.proofs.Each.{Each}
 
 -- the state after two rows of events
 pub made-append : (s : State) (es fs : List Event) → made s (es ++ fs) ≡ made (made s es) fs
@@ -21,6 +21,11 @@ made-append s (e ∷ es) fs = made-append (step_of s e).0 es fs
 pub AllSucceed-append : (s : State) (es fs : List Event) → AllSucceed s es → AllSucceed (made s es) fs → AllSucceed s (es ++ fs)
 AllSucceed-append s [] fs a b = b
 AllSucceed-append s (e ∷ es) fs a b = (a.0, AllSucceed-append (step_of s e).0 es fs a.1 b)
+
+-- what two rows succeed in, each does
+pub AllSucceed-parts : (s : State) (es fs : List Event) → AllSucceed s (es ++ fs) → AllSucceed s es × AllSucceed (made s es) fs
+AllSucceed-parts s [] fs h = (tt, h)
+AllSucceed-parts s (e ∷ es) fs h = let rest = AllSucceed-parts (step_of s e).0 es fs h.1 in ((h.0, rest.0), rest.1)
 
 -- a legal event is made
 pub legal_step : (s : State) (e : Event) → is_legal s e ≡ true → step_of s e ≡ (after s e, answer s e)
@@ -34,27 +39,8 @@ made_first s e es h = ap (λ (x : State × Reply). made x.0 es) (legal_step s e 
 pub first_succeeds : (s : State) (e : Event) (es : List Event) → is_legal s e ≡ true → Succeeds e (answer s e) → AllSucceed (after s e) es → AllSucceed s (e ∷ es)
 first_succeeds s e es h here rest = subst (λ (x : State × Reply). Succeeds e x.1 × AllSucceed x.0 es) (sym (legal_step s e h)) (here, rest)
 
--- each word that is carried is 64 bits wide
-abbrev pub AllFit : List Event → Type 0
-AllFit [] = Unit {0}
-AllFit (e ∷ es) = Fits e × AllFit es
-
--- so it is with two rows
-pub AllFit-append : (es fs : List Event) → AllFit es → AllFit fs → AllFit (es ++ fs)
-AllFit-append [] fs a b = b
-AllFit-append (e ∷ es) fs a b = (a.0, AllFit-append es fs a.1 b)
-
--- events of a row of numbers carry words of 64 bits, if each does
-pub AllFit-row : (f : ℕ → Event) (a n : ℕ) → ((i : ℕ) → i < n → Fits (f (a + i))) → AllFit (map f (range_with_len a n))
-AllFit-row f a zero h = tt
-AllFit-row f a (suc n) h =
-    let at : a + 0 ≡ a = omega arith in (
-      subst (λ x. Fits (f x)) at (h 0 (omega arith)),
-      AllFit-row f (a + 1) n (λ i lt. let e : a + suc i ≡ a + 1 + i = omega arith in subst (λ x. Fits (f x)) e (h (suc i) (omega arith))),
-    )
-
 -- events keep the law
-pub made_law : (s : State) (es : List Event) → Law s → AllFit es → Law (made s es)
+pub made_law : (s : State) (es : List Event) → Law s → Each Fits es → Law (made s es)
 made_law s [] law fit = law
 made_law s (e ∷ es) law fit = made_law (step_of s e).0 es (step_keeps s e law fit.0) fit.1
 

@@ -1,5 +1,5 @@
 -- Events made one by one.
-use Rattle.std.proofs.Common.{◌≡◌, ℕ, ◌+◌, List, [], ◌∷◌, ◌++◌, refl, ap, sym, ◌∙◌, Some}
+use Rattle.std.proofs.Common.{◌≡◌, ℕ, ◌+◌, List, [], ◌∷◌, ap, sym, ◌∙◌, Some}
 use Rattle.std.specs.Prelude.{map}
 use Rattle.std.specs.List.{range_with_len}
 use Rattle.std.proofs.lemmas.List.FromFn.{map-range_with_len_more}
@@ -13,15 +13,11 @@ use Rattle.far_core.specs.State.{State}
 use Rattle.far_core.specs.Step.{step_of}
 use Rattle.far_trace.specs.Made.{made}
 use Rattle.far_trace.specs.Turn.{zero_puts, new_events, new_word}
-
--- more events behind some
-pub made_more : (s : State) (es fs : List Event) → made s (es ++ fs) ≡ made (made s es) fs
-made_more s [] fs = refl
-made_more s (e ∷ es) fs = made_more (step_of s e).0 es fs
+use Rattle.far_trace.proofs.MadeLemmas.{made-append}
 
 -- one event more of a row
 pub made_next : (s : State) (f : ℕ → Event) (a n j : ℕ) → a + n ≡ j → made s (map f (range_with_len a (n + 1))) ≡ (step_of (made s (map f (range_with_len a n))) (f j)).0
-made_next s f a n j e = ap (made s) (map-range_with_len_more f a n j e) ∙ made_more s (map f (range_with_len a n)) (f j ∷ [])
+made_next s f a n j e = ap (made s) (map-range_with_len_more f a n j e) ∙ made-append s (map f (range_with_len a n)) (f j ∷ [])
 
 -- a step that was made after some events
 pub stepped : (s t u : State) (r : Reply) (e : Event) (es : List Event) → t ≡ made s es → (u, r) ≡ step_of t e → u ≡ (step_of (made s es) e).0
@@ -38,4 +34,4 @@ new_made s a b c d q r t m p len ds place head new count counts heads news first
     let then : c ≡ (step_of (made (step_of s (Puts place.log place.at (head_word p len ds))).0 (zero_puts place (words_for len))) (Names p 0 (new_word len ds place))).0 =
     ap (λ (x : State × Reply). x.0) second ∙ ap (λ w. (step_of b (Names p 0 w)).0) news ∙ ap (λ x. (step_of x (Names p 0 (new_word len ds place))).0) (zeros ∙ ap (λ n. made a (zero_puts place n)) counts ∙ ap (λ x. made x (zero_puts place (words_for len))) at) in
     ap (λ (x : State × Reply). x.0) third ∙ ap (λ x. (step_of x (Adopts m p)).0) then
-    ∙ sym (made_more (step_of s (Puts place.log place.at (head_word p len ds))).0 (zero_puts place (words_for len)) (Names p 0 (new_word len ds place) ∷ Adopts m p ∷ []))
+    ∙ sym (made-append (step_of s (Puts place.log place.at (head_word p len ds))).0 (zero_puts place (words_for len)) (Names p 0 (new_word len ds place) ∷ Adopts m p ∷ []))

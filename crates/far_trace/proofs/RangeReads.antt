@@ -8,12 +8,13 @@ use Rattle.far_core.specs.declared.event.Event.{Event}
 use Rattle.far_core.specs.declared.event.Event.TheVariants.{Load}
 use Rattle.far_core.specs.Law.{Law}
 use Rattle.far_core.specs.State.{State}
-use Rattle.far_core.specs.Step.{near_data, data_len, is_opened, step_of}
+use Rattle.far_core.specs.Step.{near_data, data_len, is_opened}
 use Rattle.far_trace.specs.Interpreter.{loaded, word_in}
 use Rattle.far_trace.specs.Made.{made}
 use Rattle.far_trace.specs.Tidy.{Tidy}
 use Rattle.far_trace.specs.Turn.{view_events, load_events, uses, first_part, starts_inside}
 use Rattle.far_trace.proofs.LoadWords.{loads_stay, load_word}
+use Rattle.far_trace.proofs.MadeLemmas.{load_stays}
 
 pub uses_own : (s : State) (m p : ℕ) → p / CELLS ≡ m → s.used p ≡ true → uses s m p ≡ true
 uses_own s m p own used = rw (eq-eqb (p / CELLS) m own, used) refl
@@ -28,10 +29,6 @@ pub loaded_words : (s : State) (next : ℕ → ℕ) (m p first k : ℕ) → Law 
 loaded_words s next m p first k law tidy opened ours inside =
     ap (λ t. loaded t m p (first + k)) (loads_stay (made s (view_events s m p)) m p first k) ∙ loaded_word s next m p (first + k) law tidy opened ours inside
 
--- a load changes no state
-load_stays : (t : State) (m p i : ℕ) → (step_of t (Load m p i)).0 ≡ t
-load_stays t m p i = loads_stay t m p i 1
-
--- nor do those of the first word
+-- a load of the first word changes no state
 pub first_stays : (t : State) (m p from count : ℕ) → made t (first_part m p from count) ≡ t
 first_stays t m p from count = cond_both (starts_inside from count) (Load m p (from / 8) ∷ []) [] (λ (es : List Event). made t es ≡ t) (λ _. load_stays t m p (from / 8)) (λ _. refl)

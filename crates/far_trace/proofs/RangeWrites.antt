@@ -25,7 +25,8 @@ use Rattle.far_core.proofs.Bounds.{span_len}
 use Rattle.far_trace.specs.Interpreter.{stores_of}
 use Rattle.far_trace.specs.Made.{made}
 use Rattle.far_trace.specs.Turn.{spliced, starts_inside, ends_inside, words_touched, store_events}
-use Rattle.far_trace.proofs.Making.{made_more}
+use Rattle.far_trace.proofs.MadeLemmas.{made-append}
+use Rattle.far_trace.proofs.Spliced.{spliced_before, spliced_inside, spliced_behind}
 use Rattle.far_trace.proofs.Fronts.{shifted_byte}
 
 -- ---- bytes over others
@@ -48,25 +49,6 @@ put_behind a k xs ys q fits same low =
     ∙ ap (λ n. get_or (ys ++ post_of a k xs) (q - n) 0) long
     ∙ get_or-append_right ys (post_of a k xs) (q - a) 0 (omega arith)
     ∙ get_or-drop k (drop a xs) (q - a - length ys) 0 ∙ get_or-drop a xs (k + (q - a - length ys)) 0 ∙ ap (λ n. get_or xs n 0) there
-
-pub spliced_before : (xs new : List ℕ) (from k : ℕ) → from ≤ length xs → k < from → get_or (spliced xs from new) k 0 ≡ get_or xs k 0
-spliced_before xs new from k fits lt =
-    let long : length (take from xs) ≡ from = length-take-le from xs fits in
-    get_or_append_left (take from xs ++ new) (drop (from + length new) xs) 0 k (omega (arith, length-append (take from xs) new))
-    ∙ get_or_append_left (take from xs) new 0 k (omega arith) ∙ get_or-take from xs k 0 lt
-
-pub spliced_inside : (xs new : List ℕ) (from k : ℕ) → from ≤ length xs → from ≤ k → k < from + length new → get_or (spliced xs from new) k 0 ≡ get_or new (k - from) 0
-spliced_inside xs new from k fits low high =
-    let long : length (take from xs) ≡ from = length-take-le from xs fits in
-    get_or_append_left (take from xs ++ new) (drop (from + length new) xs) 0 k (omega (arith, length-append (take from xs) new))
-    ∙ get_or-append_right (take from xs) new k 0 (omega arith) ∙ ap (λ n. get_or new (k - n) 0) long
-
-pub spliced_behind : (xs new : List ℕ) (from k : ℕ) → from ≤ length xs → from + length new ≤ k → get_or (spliced xs from new) k 0 ≡ get_or xs k 0
-spliced_behind xs new from k fits low =
-    let long : length (take from xs ++ new) ≡ from + length new = omega (arith, length-append (take from xs) new, length-take-le from xs fits) in
-    let there : from + length new + (k - (from + length new)) ≡ k = omega arith in
-    get_or-append_right (take from xs ++ new) (drop (from + length new) xs) k 0 (omega arith)
-    ∙ ap (λ n. get_or (drop (from + length new) xs) (k - n) 0) long ∙ get_or-drop (from + length new) xs (k - (from + length new)) 0 ∙ ap (λ n. get_or xs n 0) there
 
 -- two words are one where their eight bytes are
 pub word_same : (f g : ℕ → ℕ) (i h : ℕ) → ((j : ℕ) → j < 8 → f (8 * i + j) ≡ g (8 * h + j)) → word_at f i ≡ word_at g h
@@ -93,6 +75,10 @@ module _ (f : ℕ → ℕ) (len from count first touched at room : ℕ) (new loa
     (pads : (i : ℕ) → i < words_for len → f i < 2 ^ (8 * (len - 8 * i))) where
   abbrev old : List ℕ
   old = bytes_of f len
+
+  -- the range is a part of the object
+  within : from + length new ≤ length old
+  within = omega (arith, long, length-bytes_of f len)
 
   -- a byte of the front, by the word that was loaded there
   loaded_byte : (q : ℕ) → q < 8 * touched → get_or loads (q / 8) 0 ≡ f (first + q / 8) → get_or bytes q 0 ≡ byte_at f (8 * first + q)
@@ -131,11 +117,11 @@ module _ (f : ℕ → ℕ) (len from count first touched at room : ℕ) (new loa
   -- each byte of the front with the new ones in place is the object's with the new ones in place
   new_byte : (q : ℕ) → q < 8 * touched → get_or (put_mid at count bytes new) q 0 ≡ get_or (spliced old from new) (8 * first + q) 0
   new_byte q lt = elim (cases_lt q at) [
-    | inl low ↦ put_before at count bytes new q (omega arith) low ∙ before q low ∙ old_byte q lt ∙ sym (spliced_before old new from (8 * first + q) (omega (arith, length-bytes_of f len)) (omega arith))
+    | inl low ↦ put_before at count bytes new q (omega arith) low ∙ before q low ∙ old_byte q lt ∙ sym (spliced_before old from new within (8 * first + q) (omega arith))
     | inr from_here ↦ elim (cases_lt q (at + count)) [
       | inl here ↦ (let same : q - at ≡ 8 * first + q - from = omega arith in
-          put_inside at count bytes new q (omega arith) from_here (omega arith) ∙ ap (λ n. get_or new n 0) same ∙ sym (spliced_inside old new from (8 * first + q) (omega (arith, length-bytes_of f len)) (omega arith) (omega arith)))
-      | inr past ↦ put_behind at count bytes new q (omega arith) long past ∙ behind q past lt ∙ old_byte q lt ∙ sym (spliced_behind old new from (8 * first + q) (omega (arith, length-bytes_of f len)) (omega arith))
+          put_inside at count bytes new q (omega arith) from_here (omega arith) ∙ ap (λ n. get_or new n 0) same ∙ sym (spliced_inside old from new within (8 * first + q) (omega arith) (omega arith)))
+      | inr past ↦ put_behind at count bytes new q (omega arith) long past ∙ behind q past lt ∙ old_byte q lt ∙ sym (spliced_behind old from new within (8 * first + q) (omega arith))
     ]
   ]
 
@@ -179,7 +165,7 @@ pub write_made : (s a b c d : State) (view first last stores : List Event) → a
     d ≡ made s (view ++ (first ++ last) ++ stores)
 write_made s a b c d view first last stores e f g h =
     h ∙ ap (λ t. made t stores) (g ∙ ap (λ t. made t last) (f ∙ ap (λ t. made t first) e))
-    ∙ ap (λ t. made t stores) (sym (made_more (made s view) first last)) ∙ ap (λ t. made t stores) (sym (made_more s view (first ++ last))) ∙ sym (made_more s (view ++ (first ++ last)) stores)
+    ∙ ap (λ t. made t stores) (sym (made-append (made s view) first last)) ∙ ap (λ t. made t stores) (sym (made-append s view (first ++ last))) ∙ sym (made-append s (view ++ (first ++ last)) stores)
 
 -- the word in which a range ends is a word of the object
 pub past_word : (from count len : ℕ) → from + count ≤ len → ends_inside from count ≡ true → (from + count) / 8 < words_for len

@@ -8,20 +8,21 @@ use Rattle.far_trace.specs.Command.{Command, Heap, New, Open, Write, Read, Close
 use Rattle.far_trace.specs.Headline.{MayRefuse}
 use Rattle.far_trace.specs.Reply.{Reply, Refused}
 use Rattle.far_trace.specs.Turn.{causes, first_cause, refusal, unless, turn_reply, pointer_reply, lowest_cell}
+use Rattle.far_trace.proofs.Each.{Each}
 
-abbrev Each : (Refusal → Type 0) → List (Bool × Refusal) → Type 0
-Each P [] = Unit {0}
-Each P (c ∷ cs) = P c.1 × Each P cs
+-- P holds of the refusal of each cause
+abbrev EachCause : (Refusal → Type 0) → List (Bool × Refusal) → Type 0
+EachCause P = Each (λ (c : Bool × Refusal). P c.1)
 
 -- the first cause that holds is one of the causes
-among : (P : Refusal → Type 0) (cs : List (Bool × Refusal)) (why : Refusal) → Each P cs → first_cause cs ≡ Some why → P why
+among : (P : Refusal → Type 0) (cs : List (Bool × Refusal)) (why : Refusal) → EachCause P cs → first_cause cs ≡ Some why → P why
 among P [] why h = λ e. absurd cc
 among P (c ∷ cs) why h = cond_both c.0 (Some c.1) (first_cause cs) (λ (x : Option Refusal). x ≡ Some why → P why)
     (λ _ e. let same : c.1 ≡ why = cc in subst P same h.0)
     (λ _ e. among P cs why h.1 e)
 
 -- the causes of each command are those that it may be refused for
-listed : (s : State) (c : Command) → Each (MayRefuse c) (causes s c)
+listed : (s : State) (c : Command) → EachCause (MayRefuse c) (causes s c)
 listed s (Heap logs mutators) = tt
 listed s (New m len ds) = (tt, (tt, (tt, (tt, tt))))
 listed s (Open m) = (tt, (tt, tt))

@@ -1,11 +1,7 @@
 -- Stores into an object that is held: each is made, and the heap stays tidy.
-use Rattle.std.proofs.Common.{◌≡◌, ℕ, zero, suc, ◌+◌, ◌-◌, ◌*◌, ◌^◌, ◌<◌, ◌≤◌, true, refl, sym, ap, subst, ◌∙◌, arith, List, ◌++◌, map, length, get_or, take, drop, inl, inr}
+use Rattle.std.proofs.Common.{◌≡◌, ℕ, zero, suc, ◌+◌, ◌-◌, ◌*◌, ◌^◌, ◌<◌, true, refl, sym, ap, subst, ◌∙◌, arith, List, map}
 use Rattle.std.specs.List.{range_with_len}
-use Rattle.std.proofs.lemmas.Bool.{cases_lt}
-use Rattle.std.proofs.lemmas.List.{get_or_past, get_or-take, get_or-drop, get_or_append_left, get_or-append_right, length-take, length-append, length-drop}
-use lib.Pow.{pow_mono}
 use Rattle.far_word.specs.declared.pointer.Place.{Place}
-use Rattle.far_word.specs.Bytes.{word_at, packed_word}
 use Rattle.far_word.specs.Header.{head_of}
 use Rattle.far_word.specs.Sizes.{words_for}
 use Rattle.far_core.specs.declared.event.Event.{Event}
@@ -20,7 +16,6 @@ use Rattle.far_core.proofs.KeepWords.{head_stays}
 use Rattle.far_core.proofs.LegalTest.{is_test}
 use Rattle.far_trace.specs.Made.{made, AllSucceed}
 use Rattle.far_trace.specs.Tidy.{Tidy}
-use Rattle.far_trace.specs.Turn.{spliced}
 use Rattle.far_trace.proofs.MadeLemmas.{made_first, first_succeeds}
 
 -- other words leave the heap tidy, if the headers stay
@@ -75,67 +70,3 @@ module _ (next : ℕ → ℕ) (m p len : ℕ) (place : Place) (w : ℕ → ℕ) 
       (λ i less. let e : first + suc i ≡ first + 1 + i = omega arith in subst (λ k. k < words_for len) e (inside (suc i) (omega arith))) in
       let row : List Event = map (λ i. Store m p i (w i)) (range_with_len (first + 1) count) in
       (first_succeeds u (Store m p first (w first)) row legal tt rest.0, subst (λ t. Tidy t next) (sym (made_first u (Store m p first (w first)) row legal)) rest.1)
-
--- ---- the words of bytes
--- each of the bytes is below 256
-abbrev pub AreBytes : List ℕ → Type 0
-AreBytes bytes = (k : ℕ) → get_or bytes k 0 < 256
-
--- a word of eight bytes is 64 bits wide
-pub word_wide : (byte : ℕ → ℕ) (i : ℕ) → ((k : ℕ) → byte k < 256) → word_at byte i < 2 ^ 64
-word_wide byte i small = omega (arith, small (8 * i), small (8 * i + 1), small (8 * i + 2), small (8 * i + 3), small (8 * i + 4), small (8 * i + 5), small (8 * i + 6), small (8 * i + 7))
-
--- a word of r bytes and zeros is 8 * r bits wide
-part_wide : (byte : ℕ → ℕ) (i r : ℕ) → ((k : ℕ) → byte k < 256) → ((k : ℕ) → 8 * i + r ≤ k → byte k ≡ 0) → 0 < r → word_at byte i < 2 ^ (8 * r)
-part_wide byte i zero small none some = absurd (omega arith)
-part_wide byte i (suc zero) small none some = omega (arith, small (8 * i), none (8 * i + 1) (omega arith), none (8 * i + 2) (omega arith), none (8 * i + 3) (omega arith), none (8 * i + 4) (omega arith), none (8 * i + 5) (omega arith), none (8 * i + 6) (omega arith), none (8 * i + 7) (omega arith))
-part_wide byte i (suc (suc zero)) small none some = omega (arith, small (8 * i), small (8 * i + 1), none (8 * i + 2) (omega arith), none (8 * i + 3) (omega arith), none (8 * i + 4) (omega arith), none (8 * i + 5) (omega arith), none (8 * i + 6) (omega arith), none (8 * i + 7) (omega arith))
-part_wide byte i (suc (suc (suc zero))) small none some = omega (arith, small (8 * i), small (8 * i + 1), small (8 * i + 2), none (8 * i + 3) (omega arith), none (8 * i + 4) (omega arith), none (8 * i + 5) (omega arith), none (8 * i + 6) (omega arith), none (8 * i + 7) (omega arith))
-part_wide byte i (suc (suc (suc (suc zero)))) small none some = omega (arith, small (8 * i), small (8 * i + 1), small (8 * i + 2), small (8 * i + 3), none (8 * i + 4) (omega arith), none (8 * i + 5) (omega arith), none (8 * i + 6) (omega arith), none (8 * i + 7) (omega arith))
-part_wide byte i (suc (suc (suc (suc (suc zero))))) small none some = omega (arith, small (8 * i), small (8 * i + 1), small (8 * i + 2), small (8 * i + 3), small (8 * i + 4), none (8 * i + 5) (omega arith), none (8 * i + 6) (omega arith), none (8 * i + 7) (omega arith))
-part_wide byte i (suc (suc (suc (suc (suc (suc zero)))))) small none some = omega (arith, small (8 * i), small (8 * i + 1), small (8 * i + 2), small (8 * i + 3), small (8 * i + 4), small (8 * i + 5), none (8 * i + 6) (omega arith), none (8 * i + 7) (omega arith))
-part_wide byte i (suc (suc (suc (suc (suc (suc (suc zero))))))) small none some = omega (arith, small (8 * i), small (8 * i + 1), small (8 * i + 2), small (8 * i + 3), small (8 * i + 4), small (8 * i + 5), small (8 * i + 6), none (8 * i + 7) (omega arith))
-part_wide byte i (suc (suc (suc (suc (suc (suc (suc (suc r)))))))) small none some =
-    let more : 2 ^ 64 ≤ 2 ^ (8 * suc (suc (suc (suc (suc (suc (suc (suc r)))))))) = (let h : 64 ≤ 8 * suc (suc (suc (suc (suc (suc (suc (suc r))))))) = omega arith in pow_mono h) in
-    let low : word_at byte i < 2 ^ 64 = word_wide byte i small in
-    omega (arith, more, low)
-
--- a word of bytes leaves zeros behind their end
-pub packed_padded : (bytes : List ℕ) (len i : ℕ) → AreBytes bytes → length bytes ≡ len → i < words_for len → packed_word bytes i < 2 ^ (8 * (len - 8 * i))
-packed_padded bytes len i small long lt =
-    part_wide (λ k. get_or bytes k 0) i (len - 8 * i) small (λ k past. get_or_past bytes k 0 (omega arith)) (omega arith)
-
--- ---- parts of bytes are bytes
--- the first of them
-pub AreBytes-take : (n : ℕ) (bytes : List ℕ) → AreBytes bytes → AreBytes (take n bytes)
-AreBytes-take n bytes small k = elim (cases_lt k n) [
-  | inl lt ↦ omega (arith, get_or-take n bytes k 0 lt, small k)
-  | inr le ↦ omega (arith, get_or_past (take n bytes) k 0 (omega (arith, length-take n bytes)))
-]
-
--- those behind
-pub AreBytes-drop : (n : ℕ) (bytes : List ℕ) → AreBytes bytes → AreBytes (drop n bytes)
-AreBytes-drop n bytes small k = omega (arith, get_or-drop n bytes k 0, small (n + k))
-
--- two rows of them
-pub AreBytes-append : (xs ys : List ℕ) → AreBytes xs → AreBytes ys → AreBytes (xs ++ ys)
-AreBytes-append xs ys a b k = elim (cases_lt k (length xs)) [
-  | inl lt ↦ omega (arith, get_or_append_left xs ys 0 k lt, a k)
-  | inr le ↦ omega (arith, get_or-append_right xs ys (length xs) k 0 refl le, b (k - length xs))
-]
-
--- bytes with others in their place are bytes, and as many
-pub AreBytes-spliced : (bytes : List ℕ) (from : ℕ) (new : List ℕ) → AreBytes bytes → AreBytes new → AreBytes (spliced bytes from new)
-AreBytes-spliced bytes from new a b =
-    AreBytes-append (take from bytes ++ new) (drop (from + length new) bytes) (AreBytes-append (take from bytes) new (AreBytes-take from bytes a) b)
-    (AreBytes-drop (from + length new) bytes a)
-
--- and they are as many
-pub length-spliced : (bytes : List ℕ) (from : ℕ) (new : List ℕ) → from + length new ≤ length bytes → length (spliced bytes from new) ≡ length bytes
-length-spliced bytes from new le = omega (
-  arith,
-  length-append (take from bytes ++ new) (drop (from + length new) bytes),
-  length-append (take from bytes) new,
-  length-take from bytes,
-  length-drop (from + length new) bytes,
-)

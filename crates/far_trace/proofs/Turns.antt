@@ -22,7 +22,7 @@ use Rattle.far_core.specs.Law.{Law}
 use Rattle.far_core.specs.Legal.{Unmarked}
 use Rattle.far_core.specs.Room.{room}
 use Rattle.far_core.specs.State.{State, put}
-use Rattle.far_core.specs.Step.{is_legal, is_opened, data_len, near_data, closed, opened_at}
+use Rattle.far_core.specs.Step.{Fits, is_legal, is_opened, data_len, near_data, closed, opened_at}
 use Rattle.far_core.proofs.KeepPlace.{header}
 use Rattle.far_core.proofs.LegalTest.{is_test}
 use Rattle.far_core.proofs.Put.{put_both, put_same, put_other}
@@ -33,10 +33,12 @@ use Rattle.far_trace.specs.Tidy.{Tidy}
 use Rattle.far_trace.specs.Turn.{uses, data_of, spliced, lowest_cell, is_range, access_causes, first_cause, refusal, new_word, new_events, zero_puts, open_events, view_events, first_word, words_touched, load_events, starts_inside, ends_inside, part_events, store_events, turn_events, unless, events_for}
 use Rattle.far_trace.proofs.LoadWords.{loads_stay, load_legal, loads_succeed}
 use Rattle.far_trace.proofs.Lowest.{lowest_is}
-use Rattle.far_trace.proofs.MadeLemmas.{made-append, AllSucceed-append, made_first, first_succeeds, AllFit, AllFit-append, AllFit-row, made_law, load_stays}
+use Rattle.far_trace.proofs.MadeLemmas.{made-append, AllSucceed-append, made_first, first_succeeds, made_law, load_stays}
 use Rattle.far_trace.proofs.NewTurns.{new_succeeds, new_tidy}
 use Rattle.far_trace.proofs.Rooms.{room_is, current_inside}
-use Rattle.far_trace.proofs.StoreTurns.{stores_go, AreBytes, AreBytes-spliced, length-spliced, packed_padded, word_wide}
+use Rattle.far_trace.proofs.Each.{Each, Each-append, Each-row}
+use Rattle.far_trace.proofs.Spliced.{AreBytes, spliced_bytes, length-spliced, packed_padded, packed_wide}
+use Rattle.far_trace.proofs.StoreTurns.{stores_go}
 use Rattle.far_trace.proofs.Views.{Viewed, viewed, view_succeeds, view_law, view_tidy}
 
 -- ---- what no refusal says
@@ -143,15 +145,21 @@ module _ (s : State) (next : ℕ → ℕ) (m p from : ℕ) (bytes : List ℕ) (l
   abbrev changed : List ℕ
   changed = spliced (data_of s p) from bytes
 
+  -- as many as the object has
+  data_long : length (data_of s p) ≡ data_len s p
+  data_long = length-bytes_of (λ i. s.word (near_data (read_of (s.cell p)) + i)) (data_len s p)
+
+  -- the range is a part of it
+  within : from + length bytes ≤ length (data_of s p)
+  within = omega (arith, data_long, access.within)
+
   -- they are bytes
   changed_bytes : AreBytes changed
-  changed_bytes = AreBytes-spliced (data_of s p) from bytes (bytes_of-small (λ i. s.word (near_data (read_of (s.cell p)) + i)) (data_len s p)) small
+  changed_bytes = spliced_bytes (data_of s p) from bytes within (bytes_of-small (λ i. s.word (near_data (read_of (s.cell p)) + i)) (data_len s p)) small
 
   -- as many as before
   changed_long : length changed ≡ data_len s p
-  changed_long =
-      let long : length (data_of s p) ≡ data_len s p = length-bytes_of (λ i. s.word (near_data (read_of (s.cell p)) + i)) (data_len s p) in
-      length-spliced (data_of s p) from bytes (omega (arith, long, access.within)) ∙ long
+  changed_long = length-spliced (data_of s p) from bytes within ∙ data_long
 
   -- the object is held
   held : Viewed s view m p
@@ -163,7 +171,7 @@ module _ (s : State) (next : ℕ → ℕ) (m p from : ℕ) (bytes : List ℕ) (l
 
   -- each carries a word
   wide : (i : ℕ) → packed_word changed i < 2 ^ 64
-  wide i = word_wide (λ k. get_or changed k 0) i changed_bytes
+  wide = packed_wide changed changed_bytes
 
   -- they succeed, and keep the heap tidy
   stored : AllSucceed view stores × Tidy (made view stores) next
@@ -198,7 +206,7 @@ module _ (s : State) (next : ℕ → ℕ) (m p from : ℕ) (bytes : List ℕ) (l
   -- and the law
   pub write_law : Law (made s (looks ++ stores))
   write_law = subst Law (sym write_end) (made_law view stores (view_law s next m p law tidy access.opened access.ours)
-      (AllFit-row (λ i. Stores m p i (packed_word changed i)) (first_word from) (words_touched from (length bytes)) (λ i lt. wide (first_word from + i))))
+      (Each-row Fits (λ i. Stores m p i (packed_word changed i)) (first_word from) (words_touched from (length bytes)) (λ i lt. wide (first_word from + i))))
 
 -- ---- a new object
 -- where a new span may stand
@@ -260,9 +268,9 @@ new_turned s next m len ds law tidy e =
     let reads : read_of new ≡ Some (Near len ds found.0 clean) = read_back (Near len ds found.0 clean) lies in
     let unmarked : Unmarked clean = record { hot = refl; evac = refl; moved = refl; dropped = refl } in
     let within : m * CELLS + next m < CELLS * s.mutators = omega (arith, sizes.0, cell.0) in
-    let fit : AllFit row = AllFit-append (Puts found.0.log found.0.at (head_word (m * CELLS + next m) len ds) ∷ zero_puts found.0 (words_for len)) (Names (m * CELLS + next m) 0 (new_word len ds found.0) ∷ Adopts m (m * CELLS + next m) ∷ []) (
+    let fit : Each Fits row = Each-append Fits (Puts found.0.log found.0.at (head_word (m * CELLS + next m) len ds) ∷ zero_puts found.0 (words_for len)) (Names (m * CELLS + next m) 0 (new_word len ds found.0) ∷ Adopts m (m * CELLS + next m) ∷ []) (
       head_fits (header (m * CELLS + next m) len ds) (record { some = sizes.2; most = sizes.3; structure = sizes.1; cell = omega (arith, law.shape.few_mutators) }),
-      AllFit-row (λ i. Puts found.0.log (found.0.at + 1 + i) 0) 0 (words_for len) (λ i lt. omega arith),
+      Each-row Fits (λ i. Puts found.0.log (found.0.at + 1 + i) 0) 0 (words_for len) (λ i lt. omega arith),
     )
     ((omega arith, word_fits (Near len ds found.0 clean) lies), (tt, tt)) in
     subst (λ es. Turned s (put next m (next m + 1)) es) (sym same) (
