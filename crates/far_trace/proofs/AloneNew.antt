@@ -45,6 +45,14 @@ new_fits len ds place a b c d = omega arith
 one_length : (len n ds d : ℕ) (place other : Place) (m k : Marks) → len < 2 ^ 16 → n < 2 ^ 16 → word_of (Near len ds place m) ≡ word_of (Near n d other k) → len ≡ n
 one_length len n ds d place other m k a b e = omega arith
 
+-- and of one data structure and one log
+one_structure : (len n ds d : ℕ) (place other : Place) (m k : Marks) → len < 2 ^ 16 → n < 2 ^ 16 → ds < 2 ^ 8 → d < 2 ^ 8 → word_of (Near len ds place m) ≡ word_of (Near n d other k) → ds ≡ d
+one_structure len n ds d place other m k a b f g e = omega arith
+
+one_log : (len n ds d : ℕ) (place other : Place) (m k : Marks) → len < 2 ^ 16 → n < 2 ^ 16 → ds < 2 ^ 8 → d < 2 ^ 8 → place.at < 2 ^ 10 → other.at < 2 ^ 10 → place.log < 2 ^ 8 → other.log < 2 ^ 8
+    → word_of (Near len ds place m) ≡ word_of (Near n d other k) → place.log ≡ other.log
+one_log len n ds d place other m k a b f g x y v w e = omega arith
+
 -- an object is made between steps that leave the objects and the scopes as they are
 made_between : (w u v t z : World) (p len ds group : ℕ) → Same w u → Makes u p len ds group v → Same v t → z ≡ t →
     (w.object p ≡ None) × (z.object ≡ put w.object p (Some (new_object p len ds group))) × (z.opened ≡ w.opened)
@@ -79,9 +87,9 @@ module _ (s : State) (k len ds p : ℕ) (place : Place) (law : Law s) (within : 
       (run.0.0, run.0.1, run.1)
 
   -- the object that the events make
-  new_run : AllSucceed s (puts ++ names) →
+  pub new_run : AllSucceed s (puts ++ names) →
       (o : Object) × ((world_of s).object p ≡ None) × ((world_of (made s (puts ++ names))).object ≡ put (world_of s).object p (Some o))
-      × ((world_of (made s (puts ++ names))).opened ≡ (world_of s).opened) × (o.bytes ≡ replicate len 0)
+      × ((world_of (made s (puts ++ names))).opened ≡ (world_of s).opened) × (o.bytes ≡ replicate len 0) × (o ≡ new_object p len ds place.log)
   new_run ok =
       let parts = AllSucceed-parts s puts names ok in
       let legal = was_legal s (Puts place.log place.at (head_word p len ds)) law parts.0.0 in
@@ -94,7 +102,11 @@ module _ (s : State) (k len ds p : ℕ) (place : Place) (law : Law s) (within : 
       let last = quiet_run v (Adopts k p ∷ []) law_v (tt, tt) in
       let joined : world_of (made s (puts ++ names)) ≡ world_of (made v (Adopts k p ∷ [])) = ap world_of (made-append s puts names) in
       let between = made_between (world_of s) (world_of u) (world_of v) (world_of (made v (Adopts k p ∷ []))) (world_of (made s (puts ++ names))) p named.0 named.1 named.2.log (first.0, first.1) named.5 last.0 joined in
-      (new_object p named.0 named.1 named.2.log, between.0, between.1, between.2, ap (λ n. replicate n 0) long)
+      let kind : named.1 ≡ ds = one_structure named.0 len named.1 ds named.2 place named.3 (record { hot = false; evac = false; moved = false; dropped = false }) (omega (arith, says.0)) (omega arith) (omega (arith, says.0)) structure says.1 in
+      let group : named.2.log ≡ place.log = one_log named.0 len named.1 ds named.2 place named.3 (record { hot = false; evac = false; moved = false; dropped = false }) (omega (arith, says.0)) (omega arith) (omega (arith, says.0)) structure
+      (omega (arith, says.0)) (omega (arith, legal.3)) (omega (arith, says.0)) (omega (arith, legal.0, law.shape.few_logs)) says.1 in
+      let whole : new_object p named.0 named.1 named.2.log ≡ new_object p len ds place.log = λ i. new_object p (long i) (kind i) (group i) in
+      (new_object p named.0 named.1 named.2.log, between.0, between.1, between.2, ap (λ n. replicate n 0) long, whole)
 
   -- a new object that isn't turned down
   makes_new : 0 < len → AllSucceed s (new_events k len ds (Some p) (Some place)) → Tells s k (New k len ds) (pointer_reply (Some p)) (made s (new_events k len ds (Some p) (Some place)))
@@ -110,7 +122,7 @@ module _ (s : State) (k len ds p : ℕ) (place : Place) (law : Law s) (within : 
 not_structure : (s : State) (k ds : ℕ) → k < s.mutators → not (nat_lt k s.mutators && nat_lt ds 256) ≡ true → 256 ≤ ds
 not_structure s k ds within h = elim (cases_lt ds 256) [ inl lt ↦ absurd (grind (arith, nat_tests)) | inr le ↦ le ]
 
-is_structure : (s : State) (k ds : ℕ) → not (nat_lt k s.mutators && nat_lt ds 256) ≡ false → (k < s.mutators) × (ds < 256)
+pub is_structure : (s : State) (k ds : ℕ) → not (nat_lt k s.mutators && nat_lt ds 256) ≡ false → (k < s.mutators) × (ds < 256)
 is_structure s k ds h = (grind (arith, nat_tests), grind (arith, nat_tests))
 
 not_length : (len : ℕ) → not (nat_lt 0 len && nat_le len LONGEST) ≡ true → (len ≡ 0) ⊎ (LONGEST < len)
@@ -119,7 +131,7 @@ not_length len h = elim (cases_eq len 0) [
   | inr ne ↦ inr (elim (cases_lt LONGEST len) [ inl lt ↦ lt | inr le ↦ (let some : 0 < len = omega arith in absurd (grind (arith, nat_tests))) ])
 ]
 
-is_length : (len : ℕ) → not (nat_lt 0 len && nat_le len LONGEST) ≡ false → (0 < len) × (len ≤ LONGEST)
+pub is_length : (len : ℕ) → not (nat_lt 0 len && nat_le len LONGEST) ≡ false → (0 < len) × (len ≤ LONGEST)
 is_length len h = (grind (arith, nat_tests), grind (arith, nat_tests))
 
 -- a mutator that has a free cell has a pointer left

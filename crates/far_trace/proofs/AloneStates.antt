@@ -1,7 +1,6 @@
 -- What a mutator knows of a state: its scope, and the bytes of the pointers that it uses.
-use Rattle.std.proofs.Common.{◌≡◌, ℕ, zero, suc, ◌+◌, ◌*◌, ◌/◌, ◌<◌, ◌≤◌, Bool, true, false, cond, nat_eq, nat_lt, arith, sym, refl, ap, ◌∙◌, Option, Some, None, List, length, inl, inr}
-use Rattle.std.specs.Prelude.{not, ◌⊎◌, find}
-use Rattle.std.specs.List.{range_with_len}
+use Rattle.std.proofs.Common.{◌≡◌, ℕ, ◌+◌, ◌*◌, ◌/◌, ◌<◌, ◌≤◌, true, false, cond, nat_eq, nat_lt, arith, sym, refl, ap, ◌∙◌, Option, Some, None, List, length, inl, inr}
+use Rattle.std.specs.Prelude.{not, ◌⊎◌}
 use Rattle.std.proofs.lemmas.Bool.{and_parts, and_cases, cases_eq, cond_both, true≢false, cases_lt}
 use Rattle.std.proofs.lemmas.Bool.Decides.{nat_tests}
 use Rattle.far_word.specs.declared.pointer.PtrWord.{PtrWord}
@@ -19,6 +18,7 @@ use Rattle.far_core.proofs.KeepOwner.{nonzero}
 use Rattle.far_trace.specs.Alone.{own_of, bytes_in_world}
 use Rattle.far_trace.specs.Made.{AllAtHand, AtHand}
 use Rattle.far_trace.specs.Turn.{uses, data_of, is_range, lowest_cell}
+use Rattle.far_trace.proofs.Lowest.{lowest_found}
 use Rattle.far_trace.proofs.Spliced.{AreBytes}
 
 -- ---- tests
@@ -91,26 +91,14 @@ pub data_small : (s : State) (p : ℕ) → AreBytes (data_of s p)
 data_small s p = bytes_of-small (λ i. s.word (near_data (read_of (s.cell p)) + i)) (data_len s p)
 
 -- ---- the lowest cell of a mutator is its own
-found_between : (test : ℕ → Bool) (a n p : ℕ) → find test (range_with_len a n) ≡ Some p → (a ≤ p) × (p < a + n)
-found_between test a zero p e = absurd cc
-found_between test a (suc n) p e = cond_both (test a) (Some a) (find test (range_with_len (a + 1) n)) (λ (o : Option ℕ). o ≡ Some p → (a ≤ p) × (p < a + suc n))
-    (λ _ here. let same : a ≡ p = cc in (omega arith, omega arith))
-    (λ _ later. let rest = found_between test (a + 1) n p later in (omega (arith, rest.0), omega (arith, rest.1))) e
-
 pub lowest_own : (s : State) (m p : ℕ) → lowest_cell s m ≡ Some p → p / CELLS ≡ m
 unfolding lowest_cell
-lowest_own s m p e = let x = found_between (λ q. nat_eq (s.cell q) 0) (m * CELLS) CELLS p e in omega (arith, x.0, x.1)
+lowest_own s m p e = let x = lowest_found s.cell (m * CELLS) CELLS p e in omega (arith, x.0, x.1)
 
 -- and it is free
-found_passes : (test : ℕ → Bool) (a n p : ℕ) → find test (range_with_len a n) ≡ Some p → test p ≡ true
-found_passes test a zero p e = absurd cc
-found_passes test a (suc n) p e = cond_both (test a) (Some a) (find test (range_with_len (a + 1) n)) (λ (o : Option ℕ). o ≡ Some p → test p ≡ true)
-    (λ pass here. let same : a ≡ p = cc in ap test (sym same) ∙ pass)
-    (λ _ later. found_passes test (a + 1) n p later) e
-
 lowest_free : (s : State) (m p : ℕ) → lowest_cell s m ≡ Some p → s.cell p ≡ 0
 unfolding lowest_cell
-lowest_free s m p e = let free = found_passes (λ q. nat_eq (s.cell q) 0) (m * CELLS) CELLS p e in grind (arith, nat_tests)
+lowest_free s m p e = (lowest_found s.cell (m * CELLS) CELLS p e).2
 
 -- so its mutator knows of no object there
 no_object : (s : State) (p : ℕ) → s.cell p ≡ 0 → (world_of s).object p ≡ None

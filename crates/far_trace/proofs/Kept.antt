@@ -85,7 +85,7 @@ held_log s law p place h free =
 
 -- the logs in which views rest are not given back by the next command
 pub logs_stay : (s : State) (cs : List Command) (rs : List Reply) (ts : List State) → Law s → Answered s cs rs ts → LogsStay s cs ts
-logs_stay s [] [] [] law h = tt
+logs_stay s [] [] [] law h = λ p place rests free. held_log s law p place rests free
 logs_stay s [] [] (u ∷ ts) law h = absurd h
 logs_stay s [] (r ∷ rs) ts law h = absurd h
 logs_stay s (d ∷ cs) [] ts law h = absurd h

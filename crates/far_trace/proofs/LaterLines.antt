@@ -11,7 +11,7 @@ use Rattle.far_trace.specs.Says.{Says}
 use Rattle.far_trace.proofs.SaysLemmas.{read_is_said}
 
 -- what a line says is what its words are read as
-at_saying : (o : Option Command) (c : Command) → saying o ≡ Saying c → o ≡ Some c
+pub at_saying : (o : Option Command) (c : Command) → saying o ≡ Saying c → o ≡ Some c
 at_saying None c e = absurd cc
 at_saying (Some d) c e = let same : d ≡ c = cc in ap Some same
 

@@ -23,6 +23,7 @@ pub mod Making
 pub mod NewTurns
 pub mod Numbers
 pub mod Opened
+pub mod OutputLaws
 pub mod RangeReads
 pub mod RangeWrites
 pub mod Reading
@@ -33,6 +34,7 @@ pub mod SaysLemmas
 pub mod Spliced
 pub mod StoreTurns
 pub mod Streams
+pub mod TextLaws
 pub mod Turns
 pub mod Views
 pub mod WordLemmas

@@ -18,11 +18,11 @@ use Rattle.far_trace.specs.Cursor.{first_part, first_line, lines_behind, words_i
 use Rattle.far_trace.proofs.Cuts.{split_on, line_at}
 use Rattle.far_trace.proofs.SaysLemmas.{read_is_said}
 
-abbrev is_ascii : ℕ → Bool
+abbrev pub is_ascii : ℕ → Bool
 is_ascii b = nat_lt b 128
 
 -- ASCII by each place
-ascii_list : (xs : List ℕ) → ((k : ℕ) → k < length xs → get_or xs k 0 < 128) → list_all is_ascii xs ≡ true
+pub ascii_list : (xs : List ℕ) → ((k : ℕ) → k < length xs → get_or xs k 0 < 128) → list_all is_ascii xs ≡ true
 ascii_list [] h = refl
 ascii_list (x ∷ xs) h =
     let first = (Decides-ltb x 128).1 (h 0 (omega arith)) in
@@ -64,7 +64,7 @@ joined_ascii (x ∷ y ∷ xs) e =
     list_all-append is_ascii x (32 ∷ join_with_byte 32 (y ∷ xs)) ∙ rw (parts.0, joined_ascii (y ∷ xs) parts.1) refl
 
 -- a command is ASCII
-command_ascii : (line : List ℕ) (c : Command) → command_of (words_of line) ≡ Some c → list_all is_ascii line ≡ true
+pub command_ascii : (line : List ℕ) (c : Command) → command_of (words_of line) ≡ Some c → list_all is_ascii line ≡ true
 command_ascii line c e =
     ap (list_all is_ascii) (sym (join_with_byte-slice_split 32 line)) ∙ joined_ascii (words_of line) (said_ascii (words_of line) c (read_is_said (words_of line) c e))
 

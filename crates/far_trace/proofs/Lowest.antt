@@ -1,7 +1,9 @@
--- The lowest free cell of a mutator whose cells are named in order.
-use Rattle.std.proofs.Common.{◌≡◌, ℕ, zero, suc, ◌+◌, ◌*◌, ◌<◌, ◌≤◌, Bool, true, false, cond, nat_eq, nat_lt, arith, refl, sym, ap, ◌∙◌, inl, inr, Some, None, find}
+-- The lowest free cell of a mutator, and which it is where cells are named in order.
+use Rattle.std.proofs.Common.{◌≡◌, ◌≢◌, ℕ, zero, suc, ◌+◌, ◌*◌, ◌<◌, ◌≤◌, Bool, true, false, cond, nat_eq, nat_lt, arith, refl, sym, ap, subst, ◌∙◌, inl, inr, Some, None, find}
 use Rattle.std.specs.List.{range_with_len}
-use Rattle.std.proofs.lemmas.Bool.{ne_eqb, eq-eqb, lt-ltb, le-ltb, cases_lt}
+use Rattle.std.specs.Prelude.{Option}
+use Rattle.std.proofs.lemmas.Bool.{ne_eqb, eq-eqb, lt-ltb, le-ltb, cases_lt, cases_eq, cond_both}
+use Rattle.std.proofs.lemmas.Bool.Decides.{nat_tests}
 use Rattle.far_word.specs.declared.sizes.TheConstants.{CELLS}
 use Rattle.far_core.specs.State.{State}
 use Rattle.far_trace.specs.Tidy.{Tidy}
@@ -39,3 +41,36 @@ unfolding lowest_cell
 lowest_is s next m tidy = find_at (λ p. nat_eq (s.cell p) 0) (m * CELLS) CELLS (next m) (tidy.most m)
     (λ i lt. ne_eqb (s.cell (m * CELLS + i)) 0 (tidy.named m i lt))
     (λ lt. eq-eqb (s.cell (m * CELLS + next m)) 0 (tidy.unnamed m (next m) (omega arith) lt))
+
+-- ---- what the search for a number at which f is 0 finds, and what it passes over
+busy_cell : (c : ℕ) → nat_eq c 0 ≡ false → c ≡ 0 → ⊥
+busy_cell c test z = grind (arith, nat_tests)
+
+-- it finds the first
+pub lowest_found : (f : ℕ → ℕ) (a n p : ℕ) → find (λ q. nat_eq (f q) 0) (range_with_len a n) ≡ Some p →
+    (a ≤ p) × (p < a + n) × (f p ≡ 0) × ((q : ℕ) → a ≤ q → q < p → f q ≢ 0)
+lowest_found f a zero p e = absurd cc
+lowest_found f a (suc n) p e = cond_both (nat_eq (f a) 0) (Some a) (find (λ q. nat_eq (f q) 0) (range_with_len (a + 1) n))
+    (λ (x : Option ℕ). x ≡ Some p → (a ≤ p) × (p < a + suc n) × (f p ≡ 0) × ((q : ℕ) → a ≤ q → q < p → f q ≢ 0))
+    (λ here e. let same : a ≡ p = cc in let free : f a ≡ 0 = grind (arith, nat_tests) in
+    (omega (arith, same), omega (arith, same), subst (λ q. f q ≡ 0) same free, (λ q low high. absurd (omega (arith, same)))))
+    (λ taken e. let rest = lowest_found f (a + 1) n p e in let busy : f a ≢ 0 = λ z. absurd (busy_cell (f a) taken z) in (
+      omega (arith, rest.0),
+      omega (arith, rest.1),
+      rest.2,
+      (λ q low high. elim (cases_eq q a) [
+        | inl at ↦ subst (λ k. f k ≢ 0) (sym at) busy
+        | inr other ↦ rest.3 q (omega arith) high
+      ]),
+    ))
+    e
+
+-- it finds none where there is none
+pub none_found : (f : ℕ → ℕ) (a n : ℕ) → find (λ q. nat_eq (f q) 0) (range_with_len a n) ≡ None → (q : ℕ) → a ≤ q → q < a + n → f q ≢ 0
+none_found f a zero e q low high = absurd (omega arith)
+none_found f a (suc n) e q low high = cond_both (nat_eq (f a) 0) (Some a) (find (λ q. nat_eq (f q) 0) (range_with_len (a + 1) n)) (λ (x : Option ℕ). x ≡ None → f q ≢ 0)
+    (λ here e. absurd cc)
+    (λ taken e. elim (cases_eq q a) [
+      | inl at ↦ subst (λ k. f k ≢ 0) (sym at) (λ z. busy_cell (f a) taken z)
+      | inr other ↦ none_found f (a + 1) n e q (omega arith) (omega arith)
+    ]) e

@@ -36,7 +36,7 @@ pointer_is_no_refusal : (o : Option ℕ) (why : Refusal) → pointer_reply o ≡
 pointer_is_no_refusal None why e = cc
 pointer_is_no_refusal (Some p) why e = cc
 
-turn_is_no_refusal : (s : State) (c : Command) (why : Refusal) → turn_reply s c ≡ Refused why → ⊥
+pub turn_is_no_refusal : (s : State) (c : Command) (why : Refusal) → turn_reply s c ≡ Refused why → ⊥
 turn_is_no_refusal s (Heap logs mutators) why e = cc
 turn_is_no_refusal s (New m len ds) why e = pointer_is_no_refusal (lowest_cell s m) why e
 turn_is_no_refusal s (Open m) why e = cc
@@ -45,7 +45,7 @@ turn_is_no_refusal s (Read m p from len) why e = cc
 turn_is_no_refusal s (Close m) why e = cc
 turn_is_no_refusal s Logs why e = cc
 
-from_cause : (o : Option Refusal) (r : Reply) (why : Refusal) → (r ≡ Refused why → ⊥) → unless o Refused r ≡ Refused why → o ≡ Some why
+pub from_cause : (o : Option Refusal) (r : Reply) (why : Refusal) → (r ≡ Refused why → ⊥) → unless o Refused r ≡ Refused why → o ≡ Some why
 from_cause None r why none e = absurd (none e)
 from_cause (Some cause) r why none e = let same : cause ≡ why = cc in ap Some same
 

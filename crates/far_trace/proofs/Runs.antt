@@ -23,7 +23,7 @@ in_range why b is e = memory_is_refused b (sym is ∙ e)
 -- bytes that were written, all or a front of them, are a front of them
 pub written_front : {A E : Type 0} (old new : Option (List ℕ)) (r : Result A E) (bytes : List ℕ) → Writes old new r bytes → AppendsFront old new bytes
 written_front old new (Ok a) bytes h = (length bytes, subst (Appends old new) (sym (take-length bytes)) h)
-written_front old new (Err e) bytes h = h
+written_front old new (Err e) bytes h = (h.0, h.2)
 
 -- a text that is too long stays so where it is cut one byte behind its limit
 cut_long : (most : ℕ) (text : List ℕ) → nat_lt most (length (take (most + 1) text)) ≡ nat_lt most (length text)

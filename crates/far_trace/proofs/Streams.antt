@@ -1,11 +1,11 @@
 -- One more read or write.
-use Rattle.std.proofs.Common.{◌≡◌, ℕ, ◌≤◌, ◌+◌, ◌-◌, List, ◌++◌, Result, Ok, Err, MatchResult, min, length, take, drop, Option, sym, ◌∙◌, ap, refl, arith, subst, append_assoc, append-nil, []}
+use Rattle.std.proofs.Common.{◌≡◌, ℕ, ◌≤◌, ◌+◌, ◌-◌, List, ◌++◌, Result, Ok, Err, MatchResult, length, take, drop, Option, sym, ◌∙◌, ap, refl, arith, subst, append_assoc, append-nil, []}
 use Rattle.std.specs.Io.KnownBytes.{Appends, Consumes}
 use Rattle.std.proofs.KnownBytes.{Appends-trans, Consumes-trans}
 use Rattle.std.proofs.Math.Seq.{take-add, take-append-add, take-length}
 use Rattle.std.proofs.Common.{length-drop, length-take, length-take-le, length-append}
-use Rattle.std.proofs.lemmas.List.{take-append-le, take_min}
-use Rattle.far_trace.specs.Stream.{AppendsFront, Writes, Holds}
+use Rattle.std.proofs.lemmas.List.{take-append-le}
+use Rattle.far_trace.specs.Stream.{AppendsPart, Writes, Holds}
 use borrow.Rule.Slice.PartMut.{put_mid, post_of}
 
 pub wrote_more : (a b c : Option (List ℕ)) (bs : List ℕ) (d n : ℕ) → Appends a b (take d bs) → Appends b c (take n (take (length bs - d) (drop d bs))) → Appends a c (take (d + n) bs)
@@ -31,15 +31,15 @@ read_fits a k n xs ys h m = omega (arith, length-append (take a xs) (ys ++ post_
 pub write_fits : (d n : ℕ) (bs : List ℕ) → d ≤ length bs → n ≤ length (take (length bs - d) (drop d bs)) → d + n ≤ length bs
 write_fits d n bs h m = omega (arith, length-take (length bs - d) (drop d bs), length-drop d bs)
 
--- more bytes behind a front leave it one
-front_longer : (a b : Option (List ℕ)) (xs ys : List ℕ) → AppendsFront a b xs → AppendsFront a b (xs ++ ys)
+-- more bytes behind a part leave it one
+front_longer : (a b : Option (List ℕ)) (xs ys : List ℕ) → AppendsPart a b xs → AppendsPart a b (xs ++ ys)
 front_longer a b xs ys f =
-    let n = min f.0 (length xs) in
-    let same : take f.0 xs ≡ take n (xs ++ ys) = sym (take_min f.0 xs) ∙ sym (take-append-le n xs ys (omega arith)) in
-    (n, subst (Appends a b) same f.1)
+    let same : take f.0 xs ≡ take f.0 (xs ++ ys) = sym (take-append-le f.0 xs ys (omega (arith, f.1))) in
+    (f.0, omega (arith, f.1, length-append xs ys), subst (Appends a b) same f.2)
 
-front_behind : (a b c : Option (List ℕ)) (xs ys : List ℕ) → Appends a b xs → AppendsFront b c ys → AppendsFront a c (xs ++ ys)
-front_behind a b c xs ys h f = (length xs + f.0, subst (Appends a c) (sym (take-append-add xs ys f.0)) (Appends-trans a b c xs (take f.0 ys) h f.1))
+front_behind : (a b c : Option (List ℕ)) (xs ys : List ℕ) → Appends a b xs → AppendsPart b c ys → AppendsPart a c (xs ++ ys)
+front_behind a b c xs ys h f =
+    (length xs + f.0, omega (arith, f.1, length-append xs ys), subst (Appends a c) (sym (take-append-add xs ys f.0)) (Appends-trans a b c xs (take f.0 ys) h f.2))
 
 -- one more piece, unless an earlier one failed
 pub writes_more : {A E : Type 0} (a b c : Option (List ℕ)) (earlier result : Result A E) (xs ys : List ℕ) → Writes a b earlier xs
@@ -47,12 +47,12 @@ pub writes_more : {A E : Type 0} (a b c : Option (List ℕ)) (earlier result : R
 writes_more a b c (Ok u) (Ok v) xs ys h m = Appends-trans a b c xs ys h m
 writes_more a b c (Ok u) (Err e) xs ys h m = front_behind a b c xs ys h m
 writes_more a b c (Err d) (Ok v) xs ys h m = absurd (cc m.0)
-writes_more a b c (Err d) (Err e) xs ys h m = subst (λ o. AppendsFront a o (xs ++ ys)) (sym m.1) (front_longer a b xs ys h)
+writes_more a b c (Err d) (Err e) xs ys h m = subst (λ o. AppendsPart a o (xs ++ ys)) (sym m.1) (front_longer a b xs ys h)
 
 -- what waited is written
 pub held_written : {A E : Type 0} (start old now : Option (List ℕ)) (waiting bytes : List ℕ) (earlier result : Result A E) → ((d : E) → earlier ≡ Err d → ⊥) → Writes old now result waiting → Holds start old waiting earlier bytes → Holds start now [] result bytes
 held_written start old now waiting bytes (Ok v) (Ok w) none h k = (k.0 ++ waiting, Appends-trans start old now k.0 waiting k.1 h, append-nil (k.0 ++ waiting) ∙ k.2)
-held_written start old now waiting bytes (Ok v) (Err d) none h k = let f = front_behind start old now k.0 waiting k.1 h in (f.0, subst (λ l. Appends start now (take f.0 l)) k.2 f.1)
+held_written start old now waiting bytes (Ok v) (Err d) none h k = let f = front_behind start old now k.0 waiting k.1 h in subst (λ l. AppendsPart start now l) k.2 f
 held_written start old now waiting bytes (Err d) result none h k = absurd (none d refl)
 
 -- one more piece waits

@@ -1,5 +1,5 @@
 -- What is written for a text.
-use Rattle.std.specs.Prelude.{◌≡◌, ◌≢◌, ◌⊎◌, ℕ, true, Option, List, [], ◌∷◌, Result, Ok, Err, if◌then◌else◌}
+use Rattle.std.specs.Prelude.{◌≡◌, ◌⊎◌, ℕ, true, Option, List, [], ◌∷◌, Result, Ok, Err, if◌then◌else◌}
 use Rattle.std.specs.Bool.{MatchBool}
 use Rattle.std.specs.List.{flat_map}
 use Rattle.std.specs.Io.KnownBytes.{Appends, Keeps}
@@ -18,7 +18,7 @@ use Rattle.far_trace.specs.declared.run.End.TheVariants.{Ran, Refused as Turned}
 use Rattle.far_trace.specs.declared.run.RunFault.{RunFault}
 use Rattle.far_trace.specs.declared.run.RunFault.TheVariants as faults
 use Rattle.far_trace.specs.Later.{AreLater}
-use Rattle.far_trace.specs.Stream.{AppendsFront}
+use Rattle.far_trace.specs.Stream.{AppendsFront, AppendsPart}
 use Rattle.far_trace.specs.Turn.{events_for, reply_to}
 
 -- one command, from a state to the next: its reply, its events, which all succeed, and what the state then keeps
@@ -75,10 +75,10 @@ abbrev pub MayMakeHeap : Result (List Command) ℕ → Type 0
 MayMakeHeap (Ok (Heap logs mutators ∷ commands)) = is_shape (shape_of logs mutators) ≡ true
 MayMakeHeap _ = ⊥
 
--- what a fault leaves: a failed write, a front of the output; want of memory, nothing, or the one line that says so where
+-- what a fault leaves: a failed write, a front of the output that lacks its end; want of memory, nothing, or the one line that says so where
 -- the heap was refused; a failed read, nothing
 abbrev pub LeavesBehind : RunFault → Option (List ℕ) → Option (List ℕ) → Result (List Command) ℕ → Type 0
-LeavesBehind faults.Write old new commands = (output : List ℕ) × IsOutput commands output × (output ≢ []) × AppendsFront old new output
+LeavesBehind faults.Write old new commands = (output : List ℕ) × IsOutput commands output × AppendsPart old new output
 LeavesBehind faults.Memory old new commands = Keeps old new ⊎ (MayMakeHeap commands × AppendsFront old new (printed (Refused Memory)))
 LeavesBehind faults.Read old new commands = Keeps old new
 

@@ -1,22 +1,28 @@
 -- What a trace program's outputs say: the laws over whole texts and whole lists of commands.
-use Rattle.std.specs.Prelude.{◌≡◌, ℕ, ◌+◌, ◌<◌, true, Some, Ok, List, [], ◌∷◌, ◌++◌, All}
+use Rattle.std.specs.Prelude.{◌≡◌, ◌≢◌, ℕ, ◌+◌, ◌*◌, ◌<◌, ◌≤◌, true, Some, None, Ok, List, [], ◌∷◌, ◌++◌, length, replicate, slice_index, map, All, Contains}
+use Rattle.std.specs.List.{range_with_len}
 use Rattle.far_word.specs.declared.pointer.Place.{Place}
 use Rattle.far_word.specs.declared.refused.Refused.{Refused as Refusal}
 use Rattle.far_word.specs.declared.refused.Refused.TheVariants.{NoRoom, NoPointer, Length, Closed, AlreadyOpen, NotHeld, Range}
+use Rattle.far_word.specs.declared.sizes.TheConstants.{CELLS}
+use Rattle.far_word.specs.Sizes.{size_of}
 use Rattle.far_core.specs.declared.event.Kind.TheVariants as kinds
 use Rattle.far_core.specs.declared.event.Event.{Event}
 use Rattle.far_core.specs.Law.{Law}
 use Rattle.far_core.specs.Observed.{live_bytes, dead_bytes, unused_bytes, HasOneLive, NamesOnce}
+use Rattle.far_core.specs.Room.{room}
 use Rattle.far_core.specs.Shape.{is_shape}
-use Rattle.far_core.specs.State.{State}
-use Rattle.far_trace.specs.Alone.{Alone, nothing}
-use Rattle.far_trace.specs.Answers.{Answered, Answers, Commanded, shape_of, first_state}
-use Rattle.far_trace.specs.Command.{Command, New, Open, Write, Read, Close}
+use Rattle.far_core.specs.State.{State, put}
+use Rattle.far_core.specs.World.{Group}
+use Rattle.far_core.specs.WorldOf.{world_of}
+use Rattle.far_trace.specs.Alone.{Alone, nothing, speaker}
+use Rattle.far_trace.specs.Answers.{Answered, Answers, BeginsWithHeap, Commanded, shape_of, first_state}
+use Rattle.far_trace.specs.Command.{Command, New, Open, Write, Read, Close, Logs as AsksLogs}
 use Rattle.far_trace.specs.Grammar.{commands_of}
-use Rattle.far_trace.specs.Later.{AreLater}
+use Rattle.far_trace.specs.Later.{IsLater, AreLater}
 use Rattle.far_trace.specs.Made.{made}
-use Rattle.far_trace.specs.Turn.{events_for}
-use Rattle.far_trace.specs.Reply.{Reply, Refused}
+use Rattle.far_trace.specs.Turn.{events_for, spliced}
+use Rattle.far_trace.specs.Reply.{Reply, Done, Pointer, Data, Logs, Refused, LogLine}
 
 -- a log in which a view rests in s isn't free in t
 abbrev pub LogStays : State → State → Type 0
@@ -26,10 +32,10 @@ LogStays s t = (p : ℕ) (place : Place) → s.held p ≡ Some place → t.kind 
 abbrev pub StayThrough : State → Command → Type 0
 StayThrough s c = (es rest : List Event) → es ++ rest ≡ events_for s c → LogStays s (made s es)
 
--- through each command of a list
+-- through each command of a list; and in the last state no view rests in a free log
 abbrev pub LogsStay : State → List Command → List State → Type 0
-LogsStay s [] ts = Unit {0}
-LogsStay s (c ∷ cs) [] = Unit {0}
+LogsStay s [] ts = LogStays s s
+LogsStay s (c ∷ cs) [] = ⊥
 LogsStay s (c ∷ cs) (t ∷ ts) = StayThrough s c × LogsStay t cs ts
 
 -- each object that is in use has one live span, each log's bytes are 1,024, and no two cells name one place
@@ -54,7 +60,35 @@ MayRefuse (Write m p from bytes) Closed = Unit {0}
 MayRefuse (Write m p from bytes) NotHeld = Unit {0}
 MayRefuse c why = ⊥
 
+-- where logs are told: one line for each log, by number, each of which makes 1,024
+abbrev pub TellsAll : State → Reply → Type 0
+TellsAll s (Logs lines) = (map (λ line. line.log) lines ≡ range_with_len 0 s.logs) × ((line : LogLine) → Contains lines line → line.live + line.dead + line.unused ≡ 1024)
+TellsAll s Done = Unit {0}
+TellsAll s (Pointer pointer) = Unit {0}
+TellsAll s (Data bytes) = Unit {0}
+TellsAll s (Refused why) = Unit {0}
+
 -- ---- the laws
+-- each text has an output
+abbrev pub EachTextIsAnswered : Type 0
+EachTextIsAnswered = (text : List ℕ) → (output : List ℕ) × Answers text output
+
+-- a text without a bad line has no command, or a heap first and then no other
+abbrev pub TextsBeginWithHeap : Type 0
+TextsBeginWithHeap = (text : List ℕ) (cs : List Command) → commands_of text ≡ Ok cs → BeginsWithHeap cs
+
+-- a refused command leaves the state as it is
+abbrev pub RefusalsChangeNothing : Type 0
+RefusalsChangeNothing = (s : State) (c : Command) (r : Reply) (t : State) (why : Refusal) → Commanded s c r t → r ≡ Refused why → t ≡ s
+
+-- a line of a mutator that the heap hasn't is refused 8
+abbrev pub StrangersAreRefused : Type 0
+StrangersAreRefused = (s : State) (c : Command) (r : Reply) (t : State) (m : ℕ) → speaker c ≡ Some m → s.mutators ≤ m → Commanded s c r t → r ≡ Refused Range
+
+-- what `logs` tells
+abbrev pub LogsAreTold : Type 0
+LogsAreTold = (s : State) (c : Command) (r : Reply) (t : State) → Law s → Commanded s c r t → TellsAll s r
+
 -- two outputs of one text are equal
 abbrev pub OneOutput : Type 0
 OneOutput = (text a b : List ℕ) → Answers text a → Answers text b → a ≡ b
@@ -83,3 +117,31 @@ NearRefusals = (s : State) (c : Command) (r : Reply) (t : State) (why : Refusal)
 -- a heap in range begins with the law, so that the laws above hold from its first state on
 abbrev pub HeapsBeginLawful : Type 0
 HeapsBeginLawful = (logs mutators : ℕ) → is_shape (shape_of logs mutators) ≡ true → Law (first_state logs mutators) × IsWhole (first_state logs mutators)
+
+-- a new object's pointer is its owner's lowest cell that is 0
+abbrev pub NewTakesTheLowest : Type 0
+NewTakesTheLowest = (s : State) (m len ds p : ℕ) (t : State) → Commanded s (New m len ds) (Pointer p) t →
+    (m * CELLS ≤ p) × (p < m * CELLS + CELLS) × (s.cell p ≡ 0) × ((q : ℕ) → m * CELLS ≤ q → q < p → s.cell q ≢ 0)
+
+-- refused 3 only where none of the owner's cells is 0, and 2 only where there is no room
+abbrev pub NoneIsLeft : Type 0
+NoneIsLeft = (s : State) (m len ds : ℕ) (t : State) →
+    (Commanded s (New m len ds) (Refused NoPointer) t → (q : ℕ) → m * CELLS ≤ q → q < m * CELLS + CELLS → s.cell q ≢ 0)
+    × (Commanded s (New m len ds) (Refused NoRoom) t → room s (size_of len) true ≡ None)
+
+-- a write changes the bytes of its range to the new ones, and no others
+abbrev pub WritesChangeTheirRange : Type 0
+WritesChangeTheirRange = (bytes new : List ℕ) (from : ℕ) → from + length new ≤ length bytes →
+    (length (spliced bytes from new) ≡ length bytes)
+    × ((k : ℕ) → k < from → slice_index (spliced bytes from new) k ≡ slice_index bytes k)
+    × ((k : ℕ) → k < length new → slice_index (spliced bytes from new) (from + k) ≡ slice_index new k)
+    × ((k : ℕ) → from + length new ≤ k → slice_index (spliced bytes from new) k ≡ slice_index bytes k)
+
+-- each line behind the heap but `logs` is some mutator's
+abbrev pub LinesHaveSpeakers : Type 0
+LinesHaveSpeakers = (c : Command) → IsLater c → speaker c ≡ None → c ≡ AsksLogs
+
+-- a new object has its owner, its data structure and so many zeros, in the log of the place that room says; all other objects stay
+abbrev pub NewMakesItsObject : Type 0
+NewMakesItsObject = (s : State) (m len ds p : ℕ) (t : State) → Law s → Commanded s (New m len ds) (Pointer p) t → (place : Place) × (room s (size_of len) true ≡ Some place)
+    × ((world_of t).object ≡ put (world_of s).object p (Some record { owner = m; ds = ds; bytes = replicate len 0; home = Group place.log }))

@@ -13,4 +13,5 @@ pub mod Reply
 pub mod Says
 pub mod Stream
 pub mod Tidy
+pub mod TraceText
 pub mod Turn

@@ -1,6 +1,6 @@
 //! What outputs say, over whole texts and whole lists of commands. No function here does anything when it runs.
 
-ghost use Rattle.far_trace.specs.Headline.{OneOutput, ObjectsStayWhole, ViewedLogsStay, MutatorsAreAlone, LinesAreLater, NearRefusals, HeapsBeginLawful};
+ghost use Rattle.far_trace.specs.Headline.{OneOutput, ObjectsStayWhole, ViewedLogsStay, MutatorsAreAlone, LinesAreLater, NearRefusals, HeapsBeginLawful, EachTextIsAnswered, TextsBeginWithHeap, RefusalsChangeNothing, StrangersAreRefused, LogsAreTold, NewTakesTheLowest, NoneIsLeft, WritesChangeTheirRange, LinesHaveSpeakers, NewMakesItsObject};
 
 /// A text has one output.
 pub fn outputs_are_one()
@@ -37,4 +37,54 @@ pub fn near_refusals()
 /// The first state of a heap in range has the law, and is whole.
 pub fn heaps_begin_lawful()
     ensures { HeapsBeginLawful }
+{}
+
+/// Each text has an output.
+pub fn each_text_is_answered()
+    ensures { EachTextIsAnswered }
+{}
+
+/// A text that is read has no command, or a heap first and no heap behind it.
+pub fn texts_begin_with_heap()
+    ensures { TextsBeginWithHeap }
+{}
+
+/// A refused command leaves the state as it is.
+pub fn refusals_change_nothing()
+    ensures { RefusalsChangeNothing }
+{}
+
+/// A line of a mutator that the heap hasn't is refused 8.
+pub fn strangers_are_refused()
+    ensures { StrangersAreRefused }
+{}
+
+/// `logs` tells each log once, by number, and each line makes 1,024.
+pub fn logs_are_told()
+    ensures { LogsAreTold }
+{}
+
+/// A new object's pointer is the lowest of its mutator's that is free.
+pub fn new_takes_the_lowest()
+    ensures { NewTakesTheLowest }
+{}
+
+/// A new object is refused 3 only where no pointer is free, and 2 only where there is no room.
+pub fn none_is_left()
+    ensures { NoneIsLeft }
+{}
+
+/// A write changes the bytes of its range, and no others.
+pub fn writes_change_their_range()
+    ensures { WritesChangeTheirRange }
+{}
+
+/// Each line but `logs` is some mutator's.
+pub fn lines_have_speakers()
+    ensures { LinesHaveSpeakers }
+{}
+
+/// A new object has its owner, its data structure and zeros, in the log that `room` says; all other objects stay.
+pub fn new_makes_its_object()
+    ensures { NewMakesItsObject }
 {}

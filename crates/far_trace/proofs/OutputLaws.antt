@@ -1,0 +1,220 @@
+-- Each text has an output; refused commands change nothing; strangers are refused; what logs tell makes 1,024.
+use Rattle.std.proofs.Common.{◌≡◌, ◌≢◌, ℕ, ◌+◌, ◌-◌, ◌*◌, ◌<◌, ◌≤◌, Bool, true, false, cond, not, ◌&&◌, nat_lt, length, get_or, is_some, sym, ap, refl, subst, ◌∙◌, arith, suc, Option, Some, None, Result, Ok, Err, List, [], ◌∷◌, inl, inr}
+use Rattle.std.specs.Prelude.{map, replicate, nat_le, ◌/◌, Contains}
+use Rattle.std.specs.Bool.{MatchBool}
+use Rattle.std.specs.List.{flat_map, range_with_len}
+use Rattle.std.proofs.lemmas.Bool.{lt-leb}
+use Rattle.far_word.specs.declared.refused.Refused.{Refused as Refusal}
+use Rattle.far_word.specs.declared.refused.Refused.TheVariants.{Range, Length, NoPointer, NoRoom, Shape, Syntax}
+use Rattle.far_word.specs.declared.sizes.TheConstants.{CELLS, LONGEST}
+use Rattle.far_word.specs.Sizes.{size_of}
+use Rattle.far_core.specs.Law.{Law}
+use Rattle.far_word.specs.declared.pointer.Place.{Place}
+use Rattle.far_core.specs.Room.{room}
+use Rattle.far_core.specs.Shape.{is_shape}
+use Rattle.far_core.specs.State.{State, put}
+use Rattle.far_core.specs.World.{Object, Group}
+use Rattle.far_core.specs.WorldOf.{world_of}
+use Rattle.far_core.proofs.Bounds.{some_of}
+use Rattle.far_core.proofs.Observations.{split, none_in, bytes_make_log}
+use Rattle.far_trace.specs.Alone.{speaker}
+use Rattle.far_trace.specs.Answers.{Answered, Answers, BeginsWithHeap, Commanded, IsOutput, shape_of, first_state}
+use Rattle.far_trace.specs.Command.{Command, Heap, New, Open, Write, Read, Close, Logs}
+use Rattle.far_trace.specs.Grammar.{commands_of}
+use Rattle.far_trace.specs.Headline.{TellsAll}
+use Rattle.far_trace.specs.Interpreter.{next_after}
+use Rattle.far_trace.specs.Later.{IsLater, AreLater}
+use Rattle.far_trace.specs.Made.{made, AllSucceed}
+use Rattle.far_trace.specs.Reply.{Reply, Done, Pointer, Refused, LogLine, printed}
+use Rattle.far_trace.specs.Tidy.{Tidy}
+use Rattle.far_trace.specs.Turn.{causes, first_cause, refusal, unless, turn_reply, turn_events, events_for, reply_to, log_line, pointer_reply, lowest_cell, spliced, new_events}
+use Rattle.far_trace.proofs.AloneNew.{new_run, is_structure, is_length}
+use Rattle.far_trace.proofs.Answering.{later_bytes, commanded}
+use Rattle.far_trace.proofs.LaterLines.{text_begins}
+use Rattle.far_trace.proofs.Lowest.{lowest_found, none_found}
+use Rattle.far_trace.proofs.Opened.{opening_law, opening_tidy}
+use Rattle.far_trace.proofs.Refusals.{turn_is_no_refusal, from_cause}
+use Rattle.far_trace.proofs.Spliced.{length-spliced, spliced_before, spliced_inside, spliced_behind}
+use Rattle.far_trace.proofs.Turns.{four, turn_law, turn_keeps_tidy}
+
+-- ---- each text has an output
+-- each list of later commands is answered
+answers_all : (s : State) (next : ℕ → ℕ) (cs : List Command) → Law s → Tidy s next → AreLater cs → (rs : List Reply) × (ts : List State) × Answered s cs rs ts
+answers_all s next [] law tidy later = ([], [], tt)
+answers_all s next (c ∷ cs) law tidy later =
+    let t : State = made s (events_for s c) in
+    let small = later_bytes c later.0 in
+    let rest = answers_all t (next_after s c next) cs (turn_law s next c law tidy small) (turn_keeps_tidy s next c law tidy small) later.1 in
+    (reply_to s c ∷ rest.0, t ∷ rest.1, (commanded s t next c law tidy small refl (reply_to s c) refl, rest.2))
+
+heap_answered : (logs mutators : ℕ) (cs : List Command) → AreLater cs → (b : Bool) → is_shape (shape_of logs mutators) ≡ b →
+    (output : List ℕ) × MatchBool b ((rs : List Reply) × (ts : List State) × Answered (first_state logs mutators) cs rs ts × (output ≡ flat_map printed (Done ∷ rs))) (output ≡ printed (Refused Shape))
+heap_answered logs mutators cs later true e =
+    let x = answers_all (first_state logs mutators) (λ _. 0) cs (opening_law logs mutators e) (opening_tidy logs mutators e) later in
+    (flat_map printed (Done ∷ x.0), (x.0, x.1, x.2, refl))
+heap_answered logs mutators cs later false e = (printed (Refused Shape), refl)
+
+read_answered : (read : Result (List Command) ℕ) → ((cs : List Command) → read ≡ Ok cs → BeginsWithHeap cs) → (output : List ℕ) × IsOutput read output
+read_answered (Err line) h = (printed (Refused (Syntax line)), refl)
+read_answered (Ok []) h = ([], refl)
+read_answered (Ok (Heap logs mutators ∷ cs)) h = heap_answered logs mutators cs (h (Heap logs mutators ∷ cs) refl) (is_shape (shape_of logs mutators)) refl
+read_answered (Ok (New m len ds ∷ cs)) h = absurd (h (New m len ds ∷ cs) refl)
+read_answered (Ok (Open m ∷ cs)) h = absurd (h (Open m ∷ cs) refl)
+read_answered (Ok (Write m p from bytes ∷ cs)) h = absurd (h (Write m p from bytes ∷ cs) refl)
+read_answered (Ok (Read m p from len ∷ cs)) h = absurd (h (Read m p from len ∷ cs) refl)
+read_answered (Ok (Close m ∷ cs)) h = absurd (h (Close m ∷ cs) refl)
+read_answered (Ok (Logs ∷ cs)) h = absurd (h (Logs ∷ cs) refl)
+
+pub each_answered : (text : List ℕ) → (output : List ℕ) × Answers text output
+each_answered text = read_answered (commands_of text) (text_begins text)
+
+-- ---- a refused command makes no event
+pub refused_stays : (s : State) (c : Command) (r : Reply) (t : State) (why : Refusal) → Commanded s c r t → r ≡ Refused why → t ≡ s
+refused_stays s c r t why h e =
+    let cause : refusal s c ≡ Some why = from_cause (refusal s c) (turn_reply s c) why (turn_is_no_refusal s c why) (sym h.reply ∙ e) in
+    h.state ∙ ap (λ o. made s (unless o (λ _. []) (turn_events s c))) cause
+
+-- ---- a mutator that the heap hasn't
+-- the first cause holds
+first_holds : (s : State) (c : Command) (b : Bool) (rest : List (Bool × Refusal)) → causes s c ≡ (b, Range) ∷ rest → b ≡ true → reply_to s c ≡ Refused Range
+first_holds s c b rest is holds =
+    let cause : refusal s c ≡ Some Range = ap first_cause is ∙ ap (λ x. cond x (Some Range) (first_cause rest)) holds in
+    ap (λ o. unless o Refused (turn_reply s c)) cause
+
+-- a number past the last mutator isn't one
+past : (s : State) (m k : ℕ) → Some k ≡ Some m → s.mutators ≤ m → nat_lt k s.mutators ≡ false
+past s m k e h = let same : k ≡ m = cc in lt-leb (suc k) s.mutators (omega (arith, same, h))
+
+strange : (s : State) (c : Command) (m : ℕ) → speaker c ≡ Some m → s.mutators ≤ m → reply_to s c ≡ Refused Range
+strange s (Heap logs mutators) m e h = absurd cc
+strange s (New k len ds) m e h = first_holds s (New k len ds) (not (nat_lt k s.mutators && nat_lt ds 256)) _ refl (ap (λ b. not (b && nat_lt ds 256)) (past s m k e h))
+strange s (Open k) m e h = first_holds s (Open k) (not (nat_lt k s.mutators)) _ refl (ap not (past s m k e h))
+strange s (Write k p from bytes) m e h = first_holds s (Write k p from bytes) (not (nat_lt k s.mutators)) _ refl (ap not (past s m k e h))
+strange s (Read k p from len) m e h = first_holds s (Read k p from len) (not (nat_lt k s.mutators)) _ refl (ap not (past s m k e h))
+strange s (Close k) m e h = first_holds s (Close k) (not (nat_lt k s.mutators)) _ refl (ap not (past s m k e h))
+strange s Logs m e h = absurd cc
+
+pub stranger : (s : State) (c : Command) (r : Reply) (t : State) (m : ℕ) → speaker c ≡ Some m → s.mutators ≤ m → Commanded s c r t → r ≡ Refused Range
+stranger s c r t m e h k = k.reply ∙ strange s c m e h
+
+-- ---- what logs tell
+numbered : (s : State) (ls : List ℕ) → map (λ (line : LogLine). line.log) (map (log_line s) ls) ≡ ls
+numbered s [] = refl
+numbered s (l ∷ ls) = ap (λ xs. l ∷ xs) (numbered s ls)
+
+full : (s : State) → Law s → (ls : List ℕ) (line : LogLine) → Contains (map (log_line s) ls) line → line.live + line.dead + line.unused ≡ 1024
+full s law [] line c = absurd (none_in line c)
+full s law (l ∷ ls) line c = elim (split line (log_line s l) (map (log_line s) ls) c) [
+  | inl e ↦ subst (λ (x : LogLine). x.live + x.dead + x.unused ≡ 1024) e (bytes_make_log s law l)
+  | inr later ↦ full s law ls line later
+]
+
+pointer_tells : (s : State) (o : Option ℕ) → TellsAll s (pointer_reply o)
+pointer_tells s None = tt
+pointer_tells s (Some p) = tt
+
+turn_tells : (s : State) (c : Command) → Law s → TellsAll s (turn_reply s c)
+turn_tells s (Heap logs mutators) law = tt
+turn_tells s (New m len ds) law = pointer_tells s (lowest_cell s m)
+turn_tells s (Open m) law = tt
+turn_tells s (Write m p from bytes) law = tt
+turn_tells s (Read m p from len) law = tt
+turn_tells s (Close m) law = tt
+turn_tells s Logs law = (numbered s (range_with_len 0 s.logs), full s law (range_with_len 0 s.logs))
+
+unless_tells : (s : State) (o : Option Refusal) (r : Reply) → TellsAll s r → TellsAll s (unless o Refused r)
+unless_tells s None r h = h
+unless_tells s (Some why) r h = tt
+
+pub told : (s : State) (c : Command) (r : Reply) (t : State) → Law s → Commanded s c r t → TellsAll s r
+told s c r t law h = subst (TellsAll s) (sym h.reply) (unless_tells s (refusal s c) (turn_reply s c) (turn_tells s c law))
+
+-- ---- the lowest cell that is free
+told_pointer : (o : Option Refusal) (x : Option ℕ) (p : ℕ) → Pointer p ≡ unless o Refused (pointer_reply x) → x ≡ Some p
+told_pointer None None p e = absurd cc
+told_pointer None (Some q) p e = let same : p ≡ q = cc in ap Some (sym same)
+told_pointer (Some why) x p e = absurd cc
+
+pub takes_lowest : (s : State) (m len ds p : ℕ) (t : State) → Commanded s (New m len ds) (Pointer p) t →
+    (m * CELLS ≤ p) × (p < m * CELLS + CELLS) × (s.cell p ≡ 0) × ((q : ℕ) → m * CELLS ≤ q → q < p → s.cell q ≢ 0)
+unfolding lowest_cell
+takes_lowest s m len ds p t h = lowest_found s.cell (m * CELLS) CELLS p (told_pointer (refusal s (New m len ds)) (lowest_cell s m) p h.reply)
+
+third : (a b c d : Bool) → first_cause ((a, Range) ∷ (b, Length) ∷ (c, NoPointer) ∷ (d, NoRoom) ∷ []) ≡ Some NoPointer → c ≡ true
+third true b c d e = absurd cc
+third false true c d e = absurd cc
+third false false true d e = refl
+third false false false true e = absurd cc
+third false false false false e = absurd cc
+
+fourth : (a b c d : Bool) → first_cause ((a, Range) ∷ (b, Length) ∷ (c, NoPointer) ∷ (d, NoRoom) ∷ []) ≡ Some NoRoom → d ≡ true
+fourth true b c d e = absurd cc
+fourth false true c d e = absurd cc
+fourth false false true d e = absurd cc
+fourth false false false true e = refl
+fourth false false false false e = absurd cc
+
+is_nothing : {X : Type 0} (o : Option X) → not (is_some o) ≡ true → o ≡ None
+is_nothing None e = refl
+is_nothing (Some x) e = absurd cc
+
+why_refused : (s : State) (c : Command) (why : Refusal) (t : State) → Commanded s c (Refused why) t → refusal s c ≡ Some why
+why_refused s c why t h = from_cause (refusal s c) (turn_reply s c) why (turn_is_no_refusal s c why) (sym h.reply)
+
+no_cell : (s : State) (m : ℕ) → lowest_cell s m ≡ None → (q : ℕ) → m * CELLS ≤ q → q < m * CELLS + CELLS → s.cell q ≢ 0
+unfolding lowest_cell
+no_cell s m e = none_found s.cell (m * CELLS) CELLS e
+
+pub none_left : (s : State) (m len ds : ℕ) (t : State) →
+    (Commanded s (New m len ds) (Refused NoPointer) t → (q : ℕ) → m * CELLS ≤ q → q < m * CELLS + CELLS → s.cell q ≢ 0)
+    × (Commanded s (New m len ds) (Refused NoRoom) t → room s (size_of len) true ≡ None)
+none_left s m len ds t = (
+  (λ h. no_cell s m (is_nothing (lowest_cell s m) (third _ _ _ _ (why_refused s (New m len ds) NoPointer t h)))),
+  (λ h. is_nothing (room s (size_of len) true) (fourth _ _ _ _ (why_refused s (New m len ds) NoRoom t h))),
+)
+
+-- ---- writes
+pub changes_range : (bytes new : List ℕ) (from : ℕ) → from + length new ≤ length bytes →
+    (length (spliced bytes from new) ≡ length bytes)
+    × ((k : ℕ) → k < from → get_or (spliced bytes from new) k 0 ≡ get_or bytes k 0)
+    × ((k : ℕ) → k < length new → get_or (spliced bytes from new) (from + k) 0 ≡ get_or new k 0)
+    × ((k : ℕ) → from + length new ≤ k → get_or (spliced bytes from new) k 0 ≡ get_or bytes k 0)
+changes_range bytes new from fits = (
+  length-spliced bytes from new fits,
+  spliced_before bytes from new fits,
+  (λ k lt. let same : from + k - from ≡ k = omega arith in spliced_inside bytes from new fits (from + k) (omega arith) (omega arith) ∙ ap (λ j. get_or new j 0) same),
+  spliced_behind bytes from new fits,
+)
+
+-- ---- speakers
+pub speakers : (c : Command) → IsLater c → speaker c ≡ None → c ≡ Logs
+speakers (Heap logs mutators) h e = absurd h
+speakers (New m len ds) h e = absurd cc
+speakers (Open m) h e = absurd cc
+speakers (Write m p from bytes) h e = absurd cc
+speakers (Read m p from len) h e = absurd cc
+speakers (Close m) h e = absurd cc
+speakers Logs h e = refl
+
+-- ---- what a new object is
+not_refused : (o : Option Refusal) (x : Option ℕ) (p : ℕ) → Pointer p ≡ unless o Refused (pointer_reply x) → o ≡ None
+not_refused None x p e = refl
+not_refused (Some why) x p e = absurd cc
+
+pub makes_its_object : (s : State) (m len ds p : ℕ) (t : State) → Law s → Commanded s (New m len ds) (Pointer p) t → (place : Place) × (room s (size_of len) true ≡ Some place)
+    × ((world_of t).object ≡ put (world_of s).object p (Some record { owner = m; ds = ds; bytes = replicate len 0; home = Group place.log }))
+makes_its_object s m len ds p t law h =
+    let none : refusal s (New m len ds) ≡ None = not_refused (refusal s (New m len ds)) (lowest_cell s m) p h.reply in
+    let parts = four (nat_lt m s.mutators && nat_lt ds 256) (nat_lt 0 len && nat_le len LONGEST) (is_some (lowest_cell s m)) (is_some (room s (size_of len) true)) Range Length NoPointer NoRoom none in
+    let low : lowest_cell s m ≡ Some p = told_pointer (refusal s (New m len ds)) (lowest_cell s m) p h.reply in
+    let at = some_of (room s (size_of len) true) parts.3 in
+    let numbers = is_structure s m ds (ap not parts.0) in
+    let sized = is_length len (ap not parts.1) in
+    let where_it_is = takes_lowest s m len ds p t h in
+    let own : p / CELLS ≡ m = omega (arith, where_it_is.0, where_it_is.1) in
+    let events : events_for s (New m len ds) ≡ new_events m len ds (Some p) (Some at.0) =
+    ap (λ o. unless o (λ _. []) (turn_events s (New m len ds))) none ∙ ap (λ o. new_events m len ds o (room s (size_of len) true)) low ∙ ap (λ r. new_events m len ds (Some p) r) at.1 in
+    let run = new_run s m len ds p at.0 law numbers.0 own sized.1 numbers.1 (subst (AllSucceed s) events h.succeed) in
+    let whole : run.0 ≡ record { owner = m; ds = ds; bytes = replicate len 0; home = Group at.0.log } =
+    run.5 ∙ ap (λ (o : ℕ). record { owner = o; ds = ds; bytes = replicate len 0; home = Group at.0.log }) own in
+    (at.0, at.1, ap (λ (x : State). (world_of x).object) (h.state ∙ ap (made s) events) ∙ run.2 ∙ ap (λ (o : Object). put (world_of s).object p (Some o)) whole)
