@@ -5,11 +5,15 @@ pub mod KeepOwner
 pub mod KeepPlace
 pub mod KeepWords
 pub mod Keeps
+pub mod Left
 pub mod LegalTest
 pub mod Observations
 pub mod Put
+pub mod RoomLaws
 pub mod SpanFrames
 pub mod Steps
+pub mod Told
 pub mod WorldFacts
+pub mod WorldLaws
 pub mod Worlds
 pub mod Zeros

@@ -6,14 +6,18 @@ ghost use Rattle.far_word.specs.Pointer.{read_of};
 ghost use Rattle.far_core.specs.Agrees.{Agrees};
 ghost use Rattle.far_core.specs.CoreState.{core_state};
 ghost use Rattle.far_core.specs.Law.{Law};
+ghost use Rattle.far_core.specs.Left.{EventsLeave};
 ghost use Rattle.far_core.specs.Legal.{Legal};
 ghost use Rattle.far_core.specs.Observed.{Fills, live_bytes, dead_bytes, unused_bytes, HasOneLive, NamesOnce, HasOneSpan, HasNoSpan, LogsStand, NearHasOneLive, PlacedExactly};
 ghost use Rattle.far_core.specs.Opening.{opening};
 ghost use Rattle.far_core.specs.Shape.{is_shape};
 ghost use Rattle.far_core.specs.State.{State};
 ghost use Rattle.far_core.specs.Step.{is_legal};
+ghost use Rattle.far_core.specs.Told.{AnswersTell};
 ghost use Rattle.far_core.specs.World.{start};
 ghost use Rattle.far_core.specs.WorldAgrees.{ViewRests, MarksAgree, MarksExist};
+ghost use Rattle.far_core.specs.RoomLaws.{RoomIsRight};
+ghost use Rattle.far_core.specs.WorldLaws.{ObjectsStand, StepsKeep, StepsAreOne};
 ghost use Rattle.far_core.specs.WorldOf.{world_of};
 
 use crate::event::Event;
@@ -74,6 +78,27 @@ impl Core {
         let _memory = &self.memory;
     }
 
+    /// Each object of the world has its number's owner and 1 to 1,016 bytes, and a near one lies in a held group.
+    pub fn objects_stand(&self)
+        ensures { ObjectsStand (world_of (core_state self.now)) }
+    {
+        let _memory = &self.memory;
+    }
+
+    /// Room is where the next span may stand, the lowest such, and none exactly where there is none.
+    pub fn room_is_right(&self)
+        ensures { RoomIsRight (core_state self.now) }
+    {
+        let _memory = &self.memory;
+    }
+
+    /// What an answer tells is so: the epoch that was remembered, the place that is held, the word that keeps a view away.
+    pub fn answers_tell(&self)
+        ensures { AnswersTell (core_state self.now) }
+    {
+        let _memory = &self.memory;
+    }
+
     /// An event passes the test of a step exactly where it is legal.
     pub fn legal_is_tested(&self, event: Event)
         ensures { Legal (core_state self.now) event ↔ (is_legal (core_state self.now) event ≡ true) }
@@ -85,4 +110,16 @@ impl Core {
 /// The state at the start means the world at the start.
 pub fn opening_is_start(shape: Shape, honest: bool)
     ensures { world_of (opening shape honest) ≡ start honest }
+{}
+
+/// No step of a world changes honesty, moves or changes what is viewed but by its owner's store, or gives back a group
+/// in which an object lies; and an event with its reply makes one step.
+pub fn steps_keep_views()
+    ensures keep { StepsKeep }
+    ensures one { StepsAreOne }
+{}
+
+/// Whatever an event changes of the words and views, it says so: one shared word at most, and one seat's view.
+pub fn events_leave_others()
+    ensures { EventsLeave }
 {}

@@ -21,6 +21,6 @@ mod tests;
 mod writing;
 
 pub use event::{Event, Kind, Reply};
-pub use laws::opening_is_start;
+pub use laws::{events_leave_others, opening_is_start, steps_keep_views};
 pub use machine::Core;
 pub use shape::Shape;

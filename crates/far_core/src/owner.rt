@@ -34,7 +34,7 @@ impl Memory {
         let Some(epoch) = self.remembered(owner) else {
             return Reply::Refused;
         };
-        self.set_scope(owner, 2 * epoch + 1);
+        self.set_scope(owner, ScopeWord::Open { epoch }.pack());
         Reply::Done
     }
 

@@ -36,5 +36,6 @@ pub mod StoreTurns
 pub mod Streams
 pub mod TextLaws
 pub mod Turns
+pub mod ViewLaws
 pub mod Views
 pub mod WordLemmas

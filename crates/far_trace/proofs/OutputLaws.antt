@@ -4,6 +4,7 @@ use Rattle.std.specs.Prelude.{map, replicate, nat_le, ◌/◌, Contains}
 use Rattle.std.specs.Bool.{MatchBool}
 use Rattle.std.specs.List.{flat_map, range_with_len}
 use Rattle.std.proofs.lemmas.Bool.{lt-leb}
+use Rattle.std.proofs.lemmas.Bool.Decides.{nat_tests}
 use Rattle.far_word.specs.declared.refused.Refused.{Refused as Refusal}
 use Rattle.far_word.specs.declared.refused.Refused.TheVariants.{Range, Length, NoPointer, NoRoom, Shape, Syntax}
 use Rattle.far_word.specs.declared.sizes.TheConstants.{CELLS, LONGEST}
@@ -21,7 +22,7 @@ use Rattle.far_trace.specs.Alone.{speaker}
 use Rattle.far_trace.specs.Answers.{Answered, Answers, BeginsWithHeap, Commanded, IsOutput, shape_of, first_state}
 use Rattle.far_trace.specs.Command.{Command, Heap, New, Open, Write, Read, Close, Logs}
 use Rattle.far_trace.specs.Grammar.{commands_of}
-use Rattle.far_trace.specs.Headline.{TellsAll}
+use Rattle.far_trace.specs.Headline.{TellsAll, TellsLog}
 use Rattle.far_trace.specs.Interpreter.{next_after}
 use Rattle.far_trace.specs.Later.{IsLater, AreLater}
 use Rattle.far_trace.specs.Made.{made, AllSucceed}
@@ -102,32 +103,19 @@ numbered : (s : State) (ls : List ℕ) → map (λ (line : LogLine). line.log) (
 numbered s [] = refl
 numbered s (l ∷ ls) = ap (λ xs. l ∷ xs) (numbered s ls)
 
-full : (s : State) → Law s → (ls : List ℕ) (line : LogLine) → Contains (map (log_line s) ls) line → line.live + line.dead + line.unused ≡ 1024
-full s law [] line c = absurd (none_in line c)
-full s law (l ∷ ls) line c = elim (split line (log_line s l) (map (log_line s) ls) c) [
-  | inl e ↦ subst (λ (x : LogLine). x.live + x.dead + x.unused ≡ 1024) e (bytes_make_log s law l)
-  | inr later ↦ full s law ls line later
+-- what is so of each log's line is so of each line that is told
+of_each : (P : LogLine → Type 0) (s : State) → ((l : ℕ) → P (log_line s l)) → (ls : List ℕ) (line : LogLine) → Contains (map (log_line s) ls) line → P line
+of_each P s h [] line c = absurd (none_in line c)
+of_each P s h (l ∷ ls) line c = elim (split line (log_line s l) (map (log_line s) ls) c) [
+  | inl e ↦ subst P e (h l)
+  | inr later ↦ of_each P s h ls line later
 ]
 
-pointer_tells : (s : State) (o : Option ℕ) → TellsAll s (pointer_reply o)
-pointer_tells s None = tt
-pointer_tells s (Some p) = tt
+tells_log : (s : State) → Law s → (l : ℕ) → TellsLog s (log_line s l)
+tells_log s law l = record { kind = refl; live = refl; dead = refl; unused = refl; whole = bytes_make_log s law l }
 
-turn_tells : (s : State) (c : Command) → Law s → TellsAll s (turn_reply s c)
-turn_tells s (Heap logs mutators) law = tt
-turn_tells s (New m len ds) law = pointer_tells s (lowest_cell s m)
-turn_tells s (Open m) law = tt
-turn_tells s (Write m p from bytes) law = tt
-turn_tells s (Read m p from len) law = tt
-turn_tells s (Close m) law = tt
-turn_tells s Logs law = (numbered s (range_with_len 0 s.logs), full s law (range_with_len 0 s.logs))
-
-unless_tells : (s : State) (o : Option Refusal) (r : Reply) → TellsAll s r → TellsAll s (unless o Refused r)
-unless_tells s None r h = h
-unless_tells s (Some why) r h = tt
-
-pub told : (s : State) (c : Command) (r : Reply) (t : State) → Law s → Commanded s c r t → TellsAll s r
-told s c r t law h = subst (TellsAll s) (sym h.reply) (unless_tells s (refusal s c) (turn_reply s c) (turn_tells s c law))
+pub told : (s : State) (r : Reply) (t : State) → Law s → Commanded s Logs r t → TellsAll s r
+told s r t law h = subst (TellsAll s) (sym h.reply) (numbered s (range_with_len 0 s.logs), of_each (TellsLog s) s (tells_log s law) (range_with_len 0 s.logs))
 
 -- ---- the lowest cell that is free
 told_pointer : (o : Option Refusal) (x : Option ℕ) (p : ℕ) → Pointer p ≡ unless o Refused (pointer_reply x) → x ≡ Some p
@@ -172,6 +160,55 @@ none_left s m len ds t = (
   (λ h. no_cell s m (is_nothing (lowest_cell s m) (third _ _ _ _ (why_refused s (New m len ds) NoPointer t h)))),
   (λ h. is_nothing (room s (size_of len) true) (fourth _ _ _ _ (why_refused s (New m len ds) NoRoom t h))),
 )
+
+-- what a new object in range is answered, by the lowest free cell and the room
+abbrev new_answer : Option ℕ → Option Place → Reply
+new_answer None y = Refused NoPointer
+new_answer (Some p) None = Refused NoRoom
+new_answer (Some p) (Some place) = Pointer p
+
+in_range : (a b : Bool) (x : Option ℕ) (y : Option Place) → a ≡ false → b ≡ false →
+    unless (first_cause ((a, Range) ∷ (b, Length) ∷ (not (is_some x), NoPointer) ∷ (not (is_some y), NoRoom) ∷ [])) Refused (pointer_reply x) ≡ new_answer x y
+in_range true b x y e f = absurd cc
+in_range false true x y e f = absurd cc
+in_range false false None y e f = refl
+in_range false false (Some p) None e f = refl
+in_range false false (Some p) (Some place) e f = refl
+
+no_lowest : (x : Option ℕ) (y : Option Place) → ((p : ℕ) → x ≡ Some p → ⊥) → new_answer x y ≡ Refused NoPointer
+no_lowest None y h = refl
+no_lowest (Some p) y h = absurd (h p refl)
+
+some_lowest : (x : Option ℕ) (y : Option Place) → (x ≡ None → ⊥) → (y ≡ None → new_answer x y ≡ Refused NoRoom) × ((place : Place) → y ≡ Some place → (p : ℕ) × (new_answer x y ≡ Pointer p))
+some_lowest None y h = absurd (h refl)
+some_lowest (Some p) None h = (λ _. refl, λ place e. absurd cc)
+some_lowest (Some p) (Some place) h = (λ e. absurd cc, λ _ _. (p, refl))
+
+lowest_is_free : (s : State) (m p : ℕ) → lowest_cell s m ≡ Some p → (m * CELLS ≤ p) × (p < m * CELLS + CELLS) × (s.cell p ≡ 0)
+unfolding lowest_cell
+lowest_is_free s m p e = let x = lowest_found s.cell (m * CELLS) CELLS p e in (x.0, x.1, x.2)
+
+pub is_made : (s : State) (m len ds : ℕ) (r : Reply) (t : State) → m < s.mutators → ds < 256 → 0 < len → len ≤ LONGEST → Commanded s (New m len ds) r t →
+    (((q : ℕ) → m * CELLS ≤ q → q < m * CELLS + CELLS → s.cell q ≢ 0) → r ≡ Refused NoPointer)
+    × ((q : ℕ) → m * CELLS ≤ q → q < m * CELLS + CELLS → s.cell q ≡ 0 →
+    (room s (size_of len) true ≡ None → r ≡ Refused NoRoom) × ((place : Place) → room s (size_of len) true ≡ Some place → (p : ℕ) × (r ≡ Pointer p)))
+is_made s m len ds r t own structure some most h =
+    let x : Option ℕ = lowest_cell s m in
+    let y : Option Place = room s (size_of len) true in
+    let a : not (nat_lt m s.mutators && nat_lt ds 256) ≡ false = numbers_fit m s.mutators ds own structure in
+    let b : not (nat_lt 0 len && nat_le len LONGEST) ≡ false = length_fits len some most in
+    let is : r ≡ new_answer x y = h.reply ∙ in_range (not (nat_lt m s.mutators && nat_lt ds 256)) (not (nat_lt 0 len && nat_le len LONGEST)) x y a b in (
+      (λ taken. is ∙ no_lowest x y (λ p e. let free = lowest_is_free s m p e in taken p free.0 free.1 free.2)),
+      (λ q low high free.
+          let found = some_lowest x y (λ none. no_cell s m none q low high free) in
+          ((λ e. is ∙ found.0 e), (λ place e. let made_at = found.1 place e in (made_at.0, is ∙ made_at.1)))),
+    )
+  where
+    numbers_fit : (m mutators ds : ℕ) → m < mutators → ds < 256 → not (nat_lt m mutators && nat_lt ds 256) ≡ false
+    numbers_fit m mutators ds a b = grind (arith, nat_tests)
+
+    length_fits : (len : ℕ) → 0 < len → len ≤ LONGEST → not (nat_lt 0 len && nat_le len LONGEST) ≡ false
+    length_fits len a b = grind (arith, nat_tests)
 
 -- ---- writes
 pub changes_range : (bytes new : List ℕ) (from : ℕ) → from + length new ≤ length bytes →

@@ -1,10 +1,10 @@
 -- What a trace program's outputs say: the laws over whole texts and whole lists of commands.
-use Rattle.std.specs.Prelude.{◌≡◌, ◌≢◌, ℕ, ◌+◌, ◌*◌, ◌<◌, ◌≤◌, true, Some, None, Ok, List, [], ◌∷◌, ◌++◌, length, replicate, slice_index, map, All, Contains}
+use Rattle.std.specs.Prelude.{◌≡◌, ◌≢◌, ℕ, ◌+◌, ◌*◌, ◌/◌, ◌<◌, ◌≤◌, true, is_some, Some, None, Ok, List, [], ◌∷◌, ◌++◌, length, replicate, slice_index, map, All, Contains}
 use Rattle.std.specs.List.{range_with_len}
 use Rattle.far_word.specs.declared.pointer.Place.{Place}
 use Rattle.far_word.specs.declared.refused.Refused.{Refused as Refusal}
 use Rattle.far_word.specs.declared.refused.Refused.TheVariants.{NoRoom, NoPointer, Length, Closed, AlreadyOpen, NotHeld, Range}
-use Rattle.far_word.specs.declared.sizes.TheConstants.{CELLS}
+use Rattle.far_word.specs.declared.sizes.TheConstants.{CELLS, LONGEST}
 use Rattle.far_word.specs.Sizes.{size_of}
 use Rattle.far_core.specs.declared.event.Kind.TheVariants as kinds
 use Rattle.far_core.specs.declared.event.Event.{Event}
@@ -21,7 +21,7 @@ use Rattle.far_trace.specs.Command.{Command, New, Open, Write, Read, Close, Logs
 use Rattle.far_trace.specs.Grammar.{commands_of}
 use Rattle.far_trace.specs.Later.{IsLater, AreLater}
 use Rattle.far_trace.specs.Made.{made}
-use Rattle.far_trace.specs.Turn.{events_for, spliced}
+use Rattle.far_trace.specs.Turn.{events_for, kind_told, spliced}
 use Rattle.far_trace.specs.Reply.{Reply, Done, Pointer, Data, Logs, Refused, LogLine}
 
 -- a log in which a view rests in s isn't free in t
@@ -60,13 +60,36 @@ MayRefuse (Write m p from bytes) Closed = Unit {0}
 MayRefuse (Write m p from bytes) NotHeld = Unit {0}
 MayRefuse c why = ⊥
 
--- where logs are told: one line for each log, by number, each of which makes 1,024
+-- a line tells a log's kind and its live, dead and unused bytes, which make 1,024
+pub record TellsLog (s : State) (line : LogLine) : Type 0 where
+  pub kind : line.kind ≡ kind_told (s.kind line.log)
+  pub live : line.live ≡ live_bytes s line.log
+  pub dead : line.dead ≡ dead_bytes s line.log
+  pub unused : line.unused ≡ unused_bytes s line.log
+  pub whole : line.live + line.dead + line.unused ≡ 1024
+
+-- the logs are told: one line for each, by number
 abbrev pub TellsAll : State → Reply → Type 0
-TellsAll s (Logs lines) = (map (λ line. line.log) lines ≡ range_with_len 0 s.logs) × ((line : LogLine) → Contains lines line → line.live + line.dead + line.unused ≡ 1024)
-TellsAll s Done = Unit {0}
-TellsAll s (Pointer pointer) = Unit {0}
-TellsAll s (Data bytes) = Unit {0}
-TellsAll s (Refused why) = Unit {0}
+TellsAll s (Logs lines) = (map (λ line. line.log) lines ≡ range_with_len 0 s.logs) × ((line : LogLine) → Contains lines line → TellsLog s line)
+TellsAll s _ = ⊥
+
+-- a command views an object: it is viewed then, where it was already if it was, and all other views stay
+pub record ViewsObject (s t : State) (p : ℕ) : Type 0 where
+  pub viewed : is_some (t.held p) ≡ true
+  pub kept : (place : Place) → s.held p ≡ Some place → t.held p ≡ Some place
+  pub others : (q : ℕ) → q ≢ p → t.held q ≡ s.held q
+
+-- a mutator views nothing any more, and all others view what they did
+pub record ViewsNothing (s t : State) (m : ℕ) : Type 0 where
+  pub none : (q : ℕ) → q / CELLS ≡ m → t.held q ≡ None
+  pub others : (q : ℕ) → q / CELLS ≢ m → t.held q ≡ s.held q
+
+-- what a command with its reply does to the views
+abbrev pub ViewsAfter : State → Command → Reply → State → Type 0
+ViewsAfter s (Read m p from len) (Data bytes) t = ViewsObject s t p
+ViewsAfter s (Write m p from bytes) Done t = ViewsObject s t p
+ViewsAfter s (Close m) Done t = ViewsNothing s t m
+ViewsAfter s c r t = t.held ≡ s.held
 
 -- ---- the laws
 -- each text has an output
@@ -87,7 +110,7 @@ StrangersAreRefused = (s : State) (c : Command) (r : Reply) (t : State) (m : ℕ
 
 -- what `logs` tells
 abbrev pub LogsAreTold : Type 0
-LogsAreTold = (s : State) (c : Command) (r : Reply) (t : State) → Law s → Commanded s c r t → TellsAll s r
+LogsAreTold = (s : State) (r : Reply) (t : State) → Law s → Commanded s AsksLogs r t → TellsAll s r
 
 -- two outputs of one text are equal
 abbrev pub OneOutput : Type 0
@@ -128,6 +151,17 @@ abbrev pub NoneIsLeft : Type 0
 NoneIsLeft = (s : State) (m len ds : ℕ) (t : State) →
     (Commanded s (New m len ds) (Refused NoPointer) t → (q : ℕ) → m * CELLS ≤ q → q < m * CELLS + CELLS → s.cell q ≢ 0)
     × (Commanded s (New m len ds) (Refused NoRoom) t → room s (size_of len) true ≡ None)
+
+-- a new object in range is refused 3 exactly where each of the owner's cells is taken, else 2 exactly where there is no room, and else made
+abbrev pub NewIsMade : Type 0
+NewIsMade = (s : State) (m len ds : ℕ) (r : Reply) (t : State) → m < s.mutators → ds < 256 → 0 < len → len ≤ LONGEST → Commanded s (New m len ds) r t →
+    (((q : ℕ) → m * CELLS ≤ q → q < m * CELLS + CELLS → s.cell q ≢ 0) → r ≡ Refused NoPointer)
+    × ((q : ℕ) → m * CELLS ≤ q → q < m * CELLS + CELLS → s.cell q ≡ 0 →
+    (room s (size_of len) true ≡ None → r ≡ Refused NoRoom) × ((place : Place) → room s (size_of len) true ≡ Some place → (p : ℕ) × (r ≡ Pointer p)))
+
+-- what is read or written is viewed until its mutator closes its scope; nothing else makes a view or takes one away
+abbrev pub ViewsLast : Type 0
+ViewsLast = (s : State) (c : Command) (r : Reply) (t : State) → Commanded s c r t → ViewsAfter s c r t
 
 -- a write changes the bytes of its range to the new ones, and no others
 abbrev pub WritesChangeTheirRange : Type 0

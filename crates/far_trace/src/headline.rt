@@ -1,6 +1,6 @@
 //! What outputs say, over whole texts and whole lists of commands. No function here does anything when it runs.
 
-ghost use Rattle.far_trace.specs.Headline.{OneOutput, ObjectsStayWhole, ViewedLogsStay, MutatorsAreAlone, LinesAreLater, NearRefusals, HeapsBeginLawful, EachTextIsAnswered, TextsBeginWithHeap, RefusalsChangeNothing, StrangersAreRefused, LogsAreTold, NewTakesTheLowest, NoneIsLeft, WritesChangeTheirRange, LinesHaveSpeakers, NewMakesItsObject};
+ghost use Rattle.far_trace.specs.Headline.{OneOutput, ObjectsStayWhole, ViewedLogsStay, MutatorsAreAlone, LinesAreLater, NearRefusals, HeapsBeginLawful, EachTextIsAnswered, TextsBeginWithHeap, RefusalsChangeNothing, StrangersAreRefused, ViewsLast, LogsAreTold, NewTakesTheLowest, NoneIsLeft, WritesChangeTheirRange, LinesHaveSpeakers, NewIsMade, NewMakesItsObject};
 
 /// A text has one output.
 pub fn outputs_are_one()
@@ -59,7 +59,12 @@ pub fn strangers_are_refused()
     ensures { StrangersAreRefused }
 {}
 
-/// `logs` tells each log once, by number, and each line makes 1,024.
+/// What a command reads or writes is viewed until its mutator closes its scope; no other command makes or ends a view.
+pub fn views_last()
+    ensures { ViewsLast }
+{}
+
+/// `logs` tells each log once, by number: its kind and its bytes, which make 1,024.
 pub fn logs_are_told()
     ensures { LogsAreTold }
 {}
@@ -72,6 +77,11 @@ pub fn new_takes_the_lowest()
 /// A new object is refused 3 only where no pointer is free, and 2 only where there is no room.
 pub fn none_is_left()
     ensures { NoneIsLeft }
+{}
+
+/// A new object in range is made where a pointer is free and there is room; else it is refused, 3 before 2.
+pub fn new_is_made()
+    ensures { NewIsMade }
 {}
 
 /// A write changes the bytes of its range, and no others.

@@ -1,10 +1,10 @@
 -- Bytes in words: the bytes of equal words, of zeros, of a row with one word written, and the words of bytes.
 use Rattle.std.proofs.Common.{◌≡◌, ℕ, zero, suc, ◌+◌, ◌-◌, ◌*◌, ◌/◌, ◌%◌, ◌<◌, ◌≤◌, ◌^◌, Bool, true, false, cond, nat_eq, arith, sym, refl, ap, ◌∙◌, List, length, get_or, map, inl, inr}
-use Rattle.std.specs.Prelude.{replicate, ◌==◌}
+use Rattle.std.specs.Prelude.{replicate, ◌==◌, ◌≢◌}
 use Rattle.std.specs.List.{range_with_len}
 use Rattle.std.proofs.lemmas.List.FromFn.{length-map-range_with_len, get_or-map-range_with_len}
 use Rattle.std.proofs.lemmas.List.{ext_get_or, length-replicate, get_or-replicate, get_or_past}
-use Rattle.std.proofs.lemmas.Bool.{cases_lt}
+use Rattle.std.proofs.lemmas.Bool.{cases_lt, eq-eqb, ne_eqb}
 use native.Mathlib.Nat.{zero-div, div-eq_of_lt}
 use lib.Pow.{pow_mono}
 use Rattle.far_word.specs.Bytes.{byte_at, bytes_of, packed_word, words_of, overwritten}
@@ -135,3 +135,41 @@ bytes_of-words_of bs small = ext_get_or 0 _ _ (length-bytes_of (λ i. get_or (wo
     let at : 8 * (k / 8) + k % 8 ≡ k = omega arith in
     bytes_of-get (λ i. get_or (words_of bs) i 0) (length bs) k below ∙ ap (λ x. x / 2 ^ (8 * (k % 8)) % 256) (words_of-get bs (k / 8) (omega arith))
     ∙ packed_byte bs (k / 8) (k % 8) small (omega arith) ∙ ap (λ q. get_or bs q 0) at)
+
+-- ---- bytes written over, read again
+pub length-overwritten : (bs : List ℕ) (i w : ℕ) → length (overwritten bs i w) ≡ length bs
+unfolding overwritten
+length-overwritten bs i w = length-map-range_with_len _ 0 (length bs)
+
+overwritten-get : (bs : List ℕ) (i w k : ℕ) → k < length bs → get_or (overwritten bs i w) k 0 ≡ cond (nat_eq (k / 8) i) (w / 2 ^ (8 * (k % 8)) % 256) (get_or bs k 0)
+unfolding overwritten
+overwritten-get bs i w k lt = get_or-map-range_with_len (λ q. cond (nat_eq (q / 8) i) (w / 2 ^ (8 * (q % 8)) % 256) (get_or bs q 0)) 0 (length bs) k k 0 lt (omega arith)
+
+overwritten-other : (bs : List ℕ) (i w k : ℕ) → (k / 8 ≢ i) → get_or (overwritten bs i w) k 0 ≡ get_or bs k 0
+overwritten-other bs i w k ne = elim (cases_lt k (length bs)) [
+  | inl lt ↦ overwritten-get bs i w k lt ∙ ap (λ b. cond b (w / 2 ^ (8 * (k % 8)) % 256) (get_or bs k 0)) (ne_eqb (k / 8) i ne)
+  | inr le ↦ get_or_past (overwritten bs i w) k 0 (omega (arith, length-overwritten bs i w)) ∙ sym (get_or_past bs k 0 le)
+]
+
+-- the bytes as the bytes of their words, with one word put
+overwritten-as : (bs : List ℕ) (i w : ℕ) → ((k : ℕ) → get_or bs k 0 < 256) → overwritten bs i w ≡ bytes_of (λ q. cond (q == i) w (get_or (words_of bs) q 0)) (length bs)
+overwritten-as bs i w small = sym (bytes_of-put (λ q. get_or (words_of bs) q 0) (length bs) i w ∙ ap (λ b. overwritten b i w) (bytes_of-words_of bs small))
+
+pub read_written : (bs : List ℕ) (i w : ℕ) → ((k : ℕ) → get_or bs k 0 < 256) → w < 2 ^ 64 → w < 2 ^ (8 * (length bs - 8 * i)) → packed_word (overwritten bs i w) i ≡ w
+read_written bs i w small fits pad =
+    let f : ℕ → ℕ = λ q. cond (nat_eq q i) w (get_or (words_of bs) q 0) in
+    let at : f i ≡ w = ap (λ b. cond b w (get_or (words_of bs) i 0)) (eq-eqb i i refl) in
+    ap (λ b. packed_word b i) (overwritten-as bs i w small) ∙ packs_back f (length bs) i (omega (arith, at)) (omega (arith, at)) ∙ at
+
+pub read_other : (bs : List ℕ) (i w j : ℕ) → j ≢ i → packed_word (overwritten bs i w) j ≡ packed_word bs j
+read_other bs i w j ne =
+    rw (
+      overwritten-other bs i w (8 * j) (λ e. ne (omega arith)),
+      overwritten-other bs i w (8 * j + 1) (λ e. ne (omega arith)),
+      overwritten-other bs i w (8 * j + 2) (λ e. ne (omega arith)),
+      overwritten-other bs i w (8 * j + 3) (λ e. ne (omega arith)),
+      overwritten-other bs i w (8 * j + 4) (λ e. ne (omega arith)),
+      overwritten-other bs i w (8 * j + 5) (λ e. ne (omega arith)),
+      overwritten-other bs i w (8 * j + 6) (λ e. ne (omega arith)),
+      overwritten-other bs i w (8 * j + 7) (λ e. ne (omega arith)),
+    ) refl

@@ -1,5 +1,5 @@
 -- The pointer word: what a word says, the word that says it, and marks set and cleared.
-use Rattle.std.proofs.Common.{◌≡◌, ℕ, ◌+◌, ◌-◌, ◌*◌, ◌/◌, ◌^◌, ◌<◌, ◌≤◌, true, false, nat_eq, sym, ◌∙◌, ap, subst, refl, arith, Option, Some, bit_or, bit_and, IfSome}
+use Rattle.std.proofs.Common.{◌≡◌, ℕ, ◌+◌, ◌-◌, ◌*◌, ◌/◌, ◌^◌, ◌<◌, ◌≤◌, true, false, nat_eq, sym, ◌∙◌, ap, subst, refl, arith, Option, Some, None, bit_or, bit_and, IfSome}
 use Rattle.std.proofs.lemmas.Bool.Decides.{nat_tests}
 use Rattle.far_word.specs.Mark.{position, field, is_set, bit_of, marks_number, marks_at, with}
 use Rattle.far_word.specs.Pointer.{IsPtr, word_of, read_of, near_at, far_at, near_fits, far_fits, is_used, takes, marked, calmed}
@@ -243,3 +243,34 @@ pub calmed_read : (w : ℕ) (v : PtrWord) → w < 2 ^ 64 → read_of w ≡ Some 
 calmed_read w v fits e =
     let s = read_says w v fits e in
     read_only _ (calmed v) (IsPtr-calmed v s.0) (sym (calmed_word v s.0) ∙ ap (λ x. bit_and x (2 ^ 64 - 1 - 2 ^ 61)) s.1)
+
+-- a mark that isn't taken puts the word off the layout
+far_evac : (w len ds : ℕ) (m : Marks) → len < 2 ^ 16 → 0 < len → len ≤ 1016 → ds < 2 ^ 8 → w ≡ word_of (Far len ds (with Evac m)) → read_of w ≡ None
+unfolding read_of
+far_evac w len ds m p some most q e =
+    let f = far_fields len ds (with Evac m) p q w e in
+    let ms = far_marks len ds (with Evac m) p q w e in
+    let used : is_used w ≡ true = used_back w f.5 f.4 (omega (arith, f.0)) (omega (arith, f.0)) in
+    let free : nat_eq w 0 ≡ false = grind (arith, nat_tests) in
+    let top : is_set w 63 ≡ false = grind (arith, nat_tests) in
+    let set : is_set w 61 ≡ true = set_from w 61 true ms.2 in
+    let fit : far_fits w ≡ false = grind (arith, nat_tests) in
+    rw (free, used, top, fit) refl
+
+free_marked : (k : Mark) → read_of (bit_or 0 (2 ^ position k)) ≡ None
+unfolding read_of
+free_marked Hot = refl
+free_marked Evac = refl
+free_marked Moved = refl
+free_marked Dropped = refl
+
+pub refused_mark : (k : Mark) (v : PtrWord) → IsPtr v → takes k v ≡ false → read_of (bit_or (word_of v) (2 ^ position k)) ≡ None
+refused_mark k Free ok t = free_marked k
+refused_mark Hot (Near len ds place m) ok t = absurd cc
+refused_mark Evac (Near len ds place m) ok t = absurd cc
+refused_mark Moved (Near len ds place m) ok t = absurd cc
+refused_mark Dropped (Near len ds place m) ok t = absurd cc
+refused_mark Hot (Far len ds m) ok t = absurd cc
+refused_mark Moved (Far len ds m) ok t = absurd cc
+refused_mark Dropped (Far len ds m) ok t = absurd cc
+refused_mark Evac (Far len ds m) ok t = far_evac _ len ds m (omega arith) (omega arith) (omega arith) (omega arith) (far_marked Evac len ds m ok)

@@ -1,6 +1,6 @@
 -- What holds of every pointer, header and scope word, and of bytes in words.
-use Rattle.std.specs.Prelude.{◌≡◌, ℕ, ◌-◌, ◌*◌, ◌^◌, ◌<◌, ◌≤◌, true, Some, IfSome, bit_or, bit_and, List, length, slice_index}
-use Rattle.far_word.specs.Bytes.{bytes_of, words_of, packed_word}
+use Rattle.std.specs.Prelude.{◌≡◌, ◌≢◌, ℕ, ◌-◌, ◌*◌, ◌^◌, ◌<◌, ◌≤◌, true, false, Some, None, IfSome, bit_or, bit_and, List, length, slice_index}
+use Rattle.far_word.specs.Bytes.{bytes_of, words_of, packed_word, overwritten}
 use Rattle.far_word.specs.Header.{IsHead, head_word, head_of}
 use Rattle.far_word.specs.Mark.{position}
 use Rattle.far_word.specs.Pointer.{IsPtr, word_of, read_of, takes, marked, calmed}
@@ -23,6 +23,10 @@ MarkIsSet = (k : Mark) (v : PtrWord) → IsPtr v → takes k v ≡ true → (bit
 abbrev pub MarkIsRead : Type 0
 MarkIsRead = (k : Mark) (w : ℕ) (v : PtrWord) → w < 2 ^ 64 → read_of w ≡ Some v → takes k v ≡ true →
     (read_of (bit_or w (2 ^ position k)) ≡ Some (marked k v)) × (bit_or w (2 ^ position k) < 2 ^ 64)
+
+-- a mark that a pointer doesn't take would put its word off the layout
+abbrev pub MarkIsRefused : Type 0
+MarkIsRefused = (k : Mark) (v : PtrWord) → IsPtr v → takes k v ≡ false → read_of (bit_or (word_of v) (2 ^ position k)) ≡ None
 
 -- EVAC is cleared by and-ing its bit out
 abbrev pub EvacIsCleared : Type 0
@@ -62,3 +66,9 @@ BytesBack = (bytes : List ℕ) → ((k : ℕ) → slice_index bytes k < 256) →
 abbrev pub WordsBack : Type 0
 WordsBack = (word : ℕ → ℕ) (n i : ℕ) → i < words_for n → word i < 2 ^ 64 → word i < 2 ^ (8 * (n - 8 * i)) →
     (slice_index (words_of (bytes_of word n)) i ≡ word i) × (packed_word (bytes_of word n) i ≡ word i)
+
+-- bytes that were written over are read as they were written, and all others as they were
+abbrev pub WrittenIsRead : Type 0
+WrittenIsRead = (bytes : List ℕ) (i w : ℕ) → ((k : ℕ) → slice_index bytes k < 256) → 8 * i < length bytes → w < 2 ^ 64 → w < 2 ^ (8 * (length bytes - 8 * i)) →
+    (packed_word (overwritten bytes i w) i ≡ w) × ((j : ℕ) → j ≢ i → packed_word (overwritten bytes i w) j ≡ packed_word bytes j)
+    × (length (overwritten bytes i w) ≡ length bytes)

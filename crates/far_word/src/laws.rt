@@ -1,6 +1,6 @@
 //! What holds of every word, as contracts of functions that do nothing.
 
-ghost use Rattle.far_word.specs.Laws.{MarkIsSet, MarkIsRead, EvacIsCleared, PointerBack, PointerFound, HeaderBack, HeaderFound, ScopeBack, ScopeFound, SizesFit, BytesBack, WordsBack};
+ghost use Rattle.far_word.specs.Laws.{MarkIsSet, MarkIsRead, MarkIsRefused, EvacIsCleared, PointerBack, PointerFound, HeaderBack, HeaderFound, ScopeBack, ScopeFound, SizesFit, BytesBack, WordsBack, WrittenIsRead};
 
 /// Or-ing a mark's bit into the word of a pointer that takes the mark gives the word of the pointer with that mark.
 pub fn mark_set()
@@ -10,6 +10,11 @@ pub fn mark_set()
 /// A word that reads as a pointer reads, with a mark's bit or-ed in, as the pointer with that mark.
 pub fn mark_read()
     ensures { MarkIsRead }
+{}
+
+/// A mark that a pointer doesn't take would put its word off the layout.
+pub fn mark_refused()
+    ensures { MarkIsRefused }
 {}
 
 /// And-ing EVAC's bit out of the word of a near pointer gives the word of the pointer without EVAC.
@@ -48,4 +53,9 @@ pub fn bytes_back()
 /// Words that were unpacked are packed as they were, where the bits behind the last byte are zero.
 pub fn words_back()
     ensures { WordsBack }
+{}
+
+/// Bytes that were written over are read as they were written, and all others as they were.
+pub fn written_is_read()
+    ensures { WrittenIsRead }
 {}

@@ -1,7 +1,8 @@
 use crate::{
     HeadWord, Mark, Marks, Place, PtrWord, Refused, ScopeWord, bytes_back, evac_cleared,
-    head_round_trip, mark_read, mark_set, pack_bytes, pointer_round_trip, rests_view,
+    head_round_trip, mark_read, mark_refused, mark_set, pack_bytes, pointer_round_trip, rests_view,
     scope_round_trip, size_of, sizes_fit, unpack_bytes, without_owner_marks, words_back,
+    written_is_read,
 };
 use std::test::*;
 
@@ -228,6 +229,7 @@ fn refusals(rt: HostRuntime) -> Result<(), Fail> {
 fn laws() {
     mark_set();
     mark_read();
+    mark_refused();
     evac_cleared();
     pointer_round_trip();
     head_round_trip();
@@ -235,4 +237,5 @@ fn laws() {
     sizes_fit();
     bytes_back();
     words_back();
+    written_is_read();
 }

@@ -1,7 +1,7 @@
 //! Whole lists of events, scopes, bytes, shapes, laws.
 
 use super::*;
-use crate::opening_is_start;
+use crate::{events_leave_others, opening_is_start, steps_keep_views};
 use std::test::Fail;
 
 #[test]
@@ -185,7 +185,12 @@ fn laws_can_be_called(rt: HostRuntime) -> Result<(), Fail> {
     core.objects_have_one_span();
     core.words_have_one_span();
     core.views_and_marks_agree();
+    core.objects_stand();
+    core.room_is_right();
+    core.answers_tell();
     core.legal_is_tested(Event::Close { owner: 0 });
     opening_is_start(SMALL, true);
+    steps_keep_views();
+    events_leave_others();
     Ok(())
 }
