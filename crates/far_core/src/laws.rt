@@ -2,6 +2,7 @@
 
 ghost use Rattle.std.specs.Prelude.{◌≡◌, ◌≢◌, ◌↔◌, ◌+◌, ◌*◌, ◌<◌, ◌≤◌, ◌||◌, ℕ, Bool, true, false, Some, IsSome};
 ghost use Rattle.far_word.specs.declared.mark.Marks.{Marks};
+ghost use Rattle.far_word.specs.declared.sizes.TheConstants.{LOG_WORDS};
 ghost use Rattle.far_word.specs.Pointer.{read_of};
 ghost use Rattle.far_core.specs.Agrees.{Agrees};
 ghost use Rattle.far_core.specs.CoreState.{core_state};
@@ -45,7 +46,7 @@ impl Core {
 
     /// Live, dead and unused bytes of each log make its 1,024.
     pub fn bytes_make_log(&self)
-        ensures { (l : ℕ) → live_bytes (core_state self.now) l + dead_bytes (core_state self.now) l + unused_bytes (core_state self.now) l ≡ 1024 }
+        ensures { (l : ℕ) → live_bytes (core_state self.now) l + dead_bytes (core_state self.now) l + unused_bytes (core_state self.now) l ≡ 8 * LOG_WORDS }
     {
         let _memory = &self.memory;
     }

@@ -1,7 +1,8 @@
 //! The words of a core and what each seat knows of them, as plain data.
 
-ghost use Rattle.std.specs.Prelude.{◌≡◌, ◌*◌, ◌<◌, ◌≤◌};
+ghost use Rattle.std.specs.Prelude.{◌≡◌, ◌*◌, ◌-◌, ◌<◌, ◌≤◌};
 ghost use Rattle.std.specs.Vec.{vec_len};
+ghost use Rattle.far_word.specs.declared.sizes.TheConstants.{CELLS, LOG_WORDS, MOST_LOGS, MOST_MUTATORS};
 
 use crate::event::Kind;
 use far_word::Place;
@@ -31,14 +32,14 @@ pub(crate) struct Memory {
     ghost remembered_sized: { vec_len remembered ≡ vec_len scopes },
     ghost kinds_sized: { vec_len kinds ≡ vec_len tails },
     ghost current_within: { current < vec_len tails },
-    ghost few_logs: { vec_len tails ≤ 64 },
-    ghost few_mutators: { vec_len scopes ≤ 8 },
-    ghost cells_sized: { vec_len cells ≡ 128 * vec_len scopes },
-    ghost words_sized: { vec_len words ≡ 128 * vec_len tails },
-    ghost starts_sized: { vec_len starts ≡ 128 * vec_len tails },
-    ghost used_sized: { vec_len used ≡ 128 * vec_len scopes },
-    ghost held_sized: { vec_len held ≡ 128 * vec_len scopes },
+    ghost few_logs: { vec_len tails ≤ MOST_LOGS },
+    ghost few_mutators: { vec_len scopes ≤ MOST_MUTATORS },
+    ghost cells_sized: { vec_len cells ≡ CELLS * vec_len scopes },
+    ghost words_sized: { vec_len words ≡ LOG_WORDS * vec_len tails },
+    ghost starts_sized: { vec_len starts ≡ LOG_WORDS * vec_len tails },
+    ghost used_sized: { vec_len used ≡ CELLS * vec_len scopes },
+    ghost held_sized: { vec_len held ≡ CELLS * vec_len scopes },
     ghost round_sized: { vec_len round ≡ vec_len tails },
     ghost clear_sized: { vec_len clear ≡ vec_len scopes },
-    ghost stored_sized: { vec_len stored ≡ 127 * vec_len cells },
+    ghost stored_sized: { vec_len stored ≡ (LOG_WORDS - 1) * vec_len cells },
 }

@@ -4,7 +4,7 @@ use Rattle.std.specs.List.{range_with_len}
 use Rattle.far_word.specs.declared.pointer.Place.{Place}
 use Rattle.far_word.specs.declared.refused.Refused.{Refused as Refusal}
 use Rattle.far_word.specs.declared.refused.Refused.TheVariants.{NoRoom, NoPointer, Length, Closed, AlreadyOpen, NotHeld, Range}
-use Rattle.far_word.specs.declared.sizes.TheConstants.{CELLS, LONGEST}
+use Rattle.far_word.specs.declared.sizes.TheConstants.{CELLS, LOG_WORDS, LONGEST}
 use Rattle.far_word.specs.Sizes.{size_of}
 use Rattle.far_core.specs.declared.event.Kind.TheVariants as kinds
 use Rattle.far_core.specs.declared.event.Event.{Event}
@@ -40,7 +40,7 @@ LogsStay s (c ∷ cs) (t ∷ ts) = StayThrough s c × LogsStay t cs ts
 
 -- each object that is in use has one live span, each log's bytes are 1,024, and no two cells name one place
 abbrev pub IsWhole : State → Type 0
-IsWhole t = ((p : ℕ) → HasOneLive t p) × ((l : ℕ) → live_bytes t l + dead_bytes t l + unused_bytes t l ≡ 1024) × NamesOnce t
+IsWhole t = ((p : ℕ) → HasOneLive t p) × ((l : ℕ) → live_bytes t l + dead_bytes t l + unused_bytes t l ≡ 8 * LOG_WORDS) × NamesOnce t
 
 -- the refusals that a command may have where all objects are near: none for want of memory, none of a device, none that tells a mark
 abbrev pub MayRefuse : Command → Refusal → Type 0
@@ -66,7 +66,7 @@ pub record TellsLog (s : State) (line : LogLine) : Type 0 where
   pub live : line.live ≡ live_bytes s line.log
   pub dead : line.dead ≡ dead_bytes s line.log
   pub unused : line.unused ≡ unused_bytes s line.log
-  pub whole : line.live + line.dead + line.unused ≡ 1024
+  pub whole : line.live + line.dead + line.unused ≡ 8 * LOG_WORDS
 
 -- the logs are told: one line for each, by number
 abbrev pub TellsAll : State → Reply → Type 0

@@ -1,5 +1,6 @@
 -- The reply that an outcome is told by.
-use Rattle.std.specs.Prelude.{ℕ, ◌+◌, ◌≤◌, List, take, slice_range}
+use Rattle.std.specs.Prelude.{ℕ, ◌+◌, ◌*◌, ◌≤◌, List, take, slice_range}
+use Rattle.far_word.specs.declared.sizes.TheConstants.{LOG_WORDS, LONGEST, MOST_LOGS}
 use Rattle.far_trace.specs.declared.outcome.Outcome.{Outcome}
 use Rattle.far_trace.specs.declared.outcome.Outcome.TheVariants as outcomes
 use Rattle.far_trace.specs.Reply.{Reply, Done, Pointer, Data, Logs, Refused, LogLine}
@@ -15,6 +16,6 @@ told_by bytes lines (outcomes.Refused why) = Refused why
 abbrev pub Fits : Outcome → Type 0
 Fits outcomes.Done = Unit {0}
 Fits (outcomes.Pointer pointer) = Unit {0}
-Fits (outcomes.Data from count) = (from + count ≤ 1024) × (count ≤ 1016)
-Fits (outcomes.Logs count) = count ≤ 64
+Fits (outcomes.Data from count) = (from + count ≤ 8 * LOG_WORDS) × (count ≤ LONGEST)
+Fits (outcomes.Logs count) = count ≤ MOST_LOGS
 Fits (outcomes.Refused why) = Unit {0}

@@ -5,6 +5,7 @@ use Rattle.hex.specs.Hex.{encode_lower}
 use Rattle.far_word.specs.declared.refused.Refused.{Refused as Refusal}
 use Rattle.far_word.specs.declared.refused.Refused.TheVariants.{Syntax}
 use Rattle.far_word.specs.Refused.{refusal_number}
+use Rattle.far_word.specs.declared.sizes.TheConstants.{LONGEST, MOST_LOGS}
 use Rattle.far_trace.specs.declared.reply.LogKind.{LogKind}
 use Rattle.far_trace.specs.declared.reply.LogKind.TheVariants.{Free, Open, Sealed}
 pub use Rattle.far_trace.specs.declared.reply.LogLine.{LogLine}
@@ -58,6 +59,6 @@ reply_of (GivenRefused why) = Refused why
 abbrev pub IsShort : Reply → Type 0
 IsShort Done = Unit {0}
 IsShort (Pointer pointer) = Unit {0}
-IsShort (Data bytes) = length bytes ≤ 1016
-IsShort (Logs lines) = length lines ≤ 64
+IsShort (Data bytes) = length bytes ≤ LONGEST
+IsShort (Logs lines) = length lines ≤ MOST_LOGS
 IsShort (Refused why) = Unit {0}

@@ -2,6 +2,7 @@
 
 ghost use Rattle.std.specs.Prelude.{◌≡◌, ◌+◌, ◌*◌, ◌<◌, ◌≤◌, ◌-◌, ◌/◌, ℕ, Some, map, length, slice_index};
 ghost use Rattle.std.specs.List.{range_with_len};
+ghost use Rattle.far_word.specs.declared.sizes.TheConstants.{LOG_WORDS, LONGEST, MOST_LOGS, POINTERS};
 ghost use Rattle.far_core.specs.CoreState.{core_state};
 ghost use Rattle.far_core.specs.Step.{step_of};
 ghost use Rattle.far_core.specs.declared.event.Event.{Event};
@@ -14,7 +15,7 @@ use far_word::{HeadWord, Marks, Place, PtrWord, words_for};
 
 // Zeros behind a header.
 fn put_zeros(core: &mut Core, place: Place, count: u16)
-    requires { place.at + 1 + count ≤ 128 }
+    requires { place.at + 1 + count ≤ LOG_WORDS }
     ensures { core_state core.new ≡ made (core_state core.old) (zero_puts place count) }
 {
     for i in 0..count {
@@ -29,10 +30,10 @@ fn put_zeros(core: &mut Core, place: Place, count: u16)
 /// A new object of `len` zeros at a place: its header and zeros are put, its cell is named, and its owner adopts it.
 pub fn make_new(core: &mut Core, owner: u8, pointer: u16, len: u16, ds: u8, place: Place)
     requires some { 0 < len }
-    requires most { len ≤ 1016 }
-    requires cell { pointer < 1024 }
-    requires log { place.log < 64 }
-    requires room { place.at + 1 + (len + 7) / 8 ≤ 128 }
+    requires most { len ≤ LONGEST }
+    requires cell { pointer < POINTERS }
+    requires log { place.log < MOST_LOGS }
+    requires room { place.at + 1 + (len + 7) / 8 ≤ LOG_WORDS }
     ensures { core_state core.new ≡ made (core_state core.old) (new_events owner len ds (Some pointer) (Some place)) }
 {
     let header = HeadWord { pointer, len, ds };
@@ -105,7 +106,7 @@ pub fn load_words(
     count: u16,
     words: &mut [u64],
 )
-    requires inside { first + count ≤ 128 }
+    requires inside { first + count ≤ LOG_WORDS }
     requires room { count ≤ length words.old }
     ensures state { core_state core.new ≡ made (core_state core.old) (load_events owner pointer first count) }
     ensures words { (k : ℕ) → k < count → slice_index words.new k ≡ loaded (made (core_state core.old) (load_events owner pointer first k)) owner pointer (first + k) }
@@ -117,7 +118,7 @@ pub fn load_words(
 
 /// Stores the first `count` words into an object that the owner holds, from its word `first` on.
 pub fn store_words(core: &mut Core, owner: u8, pointer: u16, first: u16, count: u16, words: &[u64])
-    requires inside { first + count ≤ 128 }
+    requires inside { first + count ≤ LOG_WORDS }
     requires room { count ≤ length words.now }
     ensures { core_state core.new ≡ made (core_state core.old) (stores_of owner pointer first words.now count) }
 {

@@ -5,7 +5,7 @@ ghost use Rattle.far_trace.specs.Reply.{reply_of, IsShort};
 ghost use Rattle.far_trace.specs.Outcome.{told_by, Fits};
 
 use crate::reply::{LogKind, LogLine, Reply};
-use far_word::Refused;
+use far_word::{LOG_WORDS, MOST_LOGS, Refused};
 
 /// What a command comes to. The bytes and the log lines of a reply stand in the room.
 #[derive(Clone, Copy)]
@@ -22,9 +22,9 @@ pub enum Outcome {
 /// Room for the words and bytes of an object and for a line of each log.
 #[derive(Clone, Copy)]
 pub struct Room {
-    pub words: [u64; 128],
-    pub bytes: [u8; 1024],
-    pub lines: [LogLine; 64],
+    pub words: [u64; LOG_WORDS as usize],
+    pub bytes: [u8; 8 * LOG_WORDS as usize],
+    pub lines: [LogLine; MOST_LOGS as usize],
 }
 
 impl Room {
@@ -38,9 +38,9 @@ impl Room {
             unused: 0,
         };
         Room {
-            words: [0; 128],
-            bytes: [0; 1024],
-            lines: [line; 64],
+            words: [0; LOG_WORDS as usize],
+            bytes: [0; 8 * LOG_WORDS as usize],
+            lines: [line; MOST_LOGS as usize],
         }
     }
 

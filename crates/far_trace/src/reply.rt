@@ -2,6 +2,7 @@
 
 ghost use Rattle.std.specs.Prelude.{◌≡◌, ◌≤◌, ◌+◌, ◌*◌, ◌++◌, length};
 ghost use Rattle.std.specs.List.{flat_map};
+ghost use Rattle.far_word.specs.declared.sizes.TheConstants.{MOST_LOGS};
 ghost use Rattle.far_word.specs.Refused.{refusal_number};
 ghost use Rattle.far_trace.specs.Reply.{IsShort, detail, kind_word, log_printed, printed, refused_printed, reply_of};
 
@@ -70,7 +71,7 @@ fn push_log(line: &LogLine, out: &mut Output)
 }
 
 fn push_logs(lines: &[LogLine], out: &mut Output)
-    requires few { length lines.now ≤ 64 }
+    requires few { length lines.now ≤ MOST_LOGS }
     requires room { length out.old + 16384 ≤ Output.ROOM }
     ensures { out.new ≡ out.old ++ flat_map log_printed lines.now }
 {

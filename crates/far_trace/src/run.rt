@@ -22,7 +22,7 @@ use crate::stream::{WriteFault, read_text};
 use crate::text::{LONGEST_TEXT, ParseError, parse};
 use crate::turn::turn;
 use far_core::{Core, Shape};
-use far_word::Refused;
+use far_word::{MOST_MUTATORS, Refused};
 use std::alloc::{AllocError, Global};
 use std::io;
 use std::io::{Read, Write};
@@ -111,7 +111,7 @@ fn answer_commands<W: Write>(
     commands: &[Command],
 ) -> Result<(), WriteFault>
     requires tidy { Tidy (core_state core) (λ m. slice_index named.old m) }
-    requires sized { length named.old ≡ 8 }
+    requires sized { length named.old ≡ MOST_MUTATORS }
     requires later { AreLater (map said commands.now) }
     ensures { (replies : List Answer) × (states : List State) × Answered (core_state core) (map said commands.now) replies states
         × Writes (W.contents writer.old) (W.contents writer.new) result (flat_map printed (Done ∷ replies)) }
@@ -143,7 +143,7 @@ fn answer_heap<W: Write>(
 {
     match Core::new(alloc, shape, true) {
         Ok(core) => {
-            let mut named = [0u16; 8];
+            let mut named = [0u16; MOST_MUTATORS as usize];
             let mut room = Room::new();
             answer_commands(writer, out, core, &mut named, &mut room, commands)?;
             Ok(End::Ran)

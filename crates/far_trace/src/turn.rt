@@ -27,8 +27,8 @@ use crate::outcome::{Outcome, Room};
 use crate::reply::{LogKind, LogLine};
 use far_core::{Core, Event, Kind};
 use far_word::{
-    CELLS, LOG_WORDS, LONGEST, MOST_LOGS, POINTERS, Place, PtrWord, Refused, pack_bytes, size_of,
-    unpack_bytes,
+    CELLS, LOG_WORDS, LONGEST, MOST_LOGS, MOST_MUTATORS, POINTERS, Place, PtrWord, Refused,
+    pack_bytes, size_of, unpack_bytes,
 };
 
 /// Some bytes of an object that its mutator may reach: the numbers of the mutator and the pointer, and the range.
@@ -167,7 +167,7 @@ impl Access {
 // Loads the first word that a range touches, if the range is a part of it alone.
 fn load_first(core: &mut Core, access: Access, words: &mut [u64])
     requires most { access.from + access.count ≤ LONGEST }
-    requires room { length words.old ≡ 128 }
+    requires room { length words.old ≡ LOG_WORDS }
     ensures state { core_state core.new ≡ made (core_state core.old) (first_part access.owner access.pointer access.from access.count) }
     ensures first { starts_inside access.from access.count ≡ true → slice_index words.new 0 ≡ loaded (core_state core.old) access.owner access.pointer (access.from / 8) }
 {
@@ -179,7 +179,7 @@ fn load_first(core: &mut Core, access: Access, words: &mut [u64])
 // Loads the last word that a range touches, if it touches others and is a part of it alone.
 fn load_last(core: &mut Core, access: Access, words: &mut [u64])
     requires most { access.from + access.count ≤ LONGEST }
-    requires room { length words.old ≡ 128 }
+    requires room { length words.old ≡ LOG_WORDS }
     ensures state { core_state core.new ≡ made (core_state core.old) (last_part access.owner access.pointer access.from access.count) }
     ensures first { slice_index words.new 0 ≡ slice_index words.old 0 }
     ensures last { ends_inside access.from access.count ≡ true → slice_index words.new ((access.from + access.count) / 8 - access.from / 8) ≡ loaded (core_state core.old) access.owner access.pointer ((access.from + access.count) / 8) }
@@ -231,7 +231,7 @@ pub struct NewObject {
 
 // The end of the open log, if the span fits, or else the log behind it, unless that is the last one.
 fn next_place(log: u8, tail: u16, logs: u8, size: u16) -> Option<Place>
-    requires { (log < logs) × (logs ≤ 64) × (tail ≤ 128) × (size ≤ 128) }
+    requires { (log < logs) × (logs ≤ MOST_LOGS) × (tail ≤ LOG_WORDS) × (size ≤ LOG_WORDS) }
     ensures value { result ≡ next_of log tail logs size }
     ensures log { IfSome result (λ place. place.log < MOST_LOGS) }
 {
@@ -251,7 +251,7 @@ fn next_place(log: u8, tail: u16, logs: u8, size: u16) -> Option<Place>
 fn room_for(core: &Core, size: u16) -> Option<Place>
     requires tidy { (next : ℕ → ℕ) × Tidy (core_state core.now) next }
     requires law { Law (core_state core.now) }
-    requires size { size ≤ 128 }
+    requires size { size ≤ LOG_WORDS }
     ensures value { result ≡ room (core_state core.now) size true }
     ensures log { IfSome result (λ place. place.log < MOST_LOGS) }
 {
@@ -261,7 +261,7 @@ fn room_for(core: &Core, size: u16) -> Option<Place>
 
 // The next cell of an owner of which some are named.
 fn next_cell(owner: u8, named: u16) -> Option<u16>
-    requires { owner < 8 }
+    requires { owner < MOST_MUTATORS }
     ensures value { result ≡ cond (nat_lt named CELLS) (Some (owner * CELLS + named)) None }
     ensures number { IfSome result (λ pointer. pointer < POINTERS) }
 {
@@ -274,8 +274,8 @@ fn next_cell(owner: u8, named: u16) -> Option<u16>
 // The lowest cell of an owner that is free. Cells are named in order.
 fn lowest(core: &Core, named: &[u16], owner: u8) -> Option<u16>
     requires tidy { Tidy (core_state core.now) (λ m. slice_index named.now m) }
-    requires owner { owner < 8 }
-    requires sized { length named.now ≡ 8 }
+    requires owner { owner < MOST_MUTATORS }
+    requires sized { length named.now ≡ MOST_MUTATORS }
     ensures value { result ≡ lowest_cell (core_state core.now) owner }
     ensures number { IfSome result (λ pointer. pointer < POINTERS) }
 {
@@ -286,7 +286,7 @@ fn lowest(core: &Core, named: &[u16], owner: u8) -> Option<u16>
 fn design(core: &Core, named: &[u16], mutator: u64, len: u64, ds: u64) -> Result<NewObject, Refused>
     requires tidy { Tidy (core_state core.now) (λ m. slice_index named.now m) }
     requires law { Law (core_state core.now) }
-    requires sized { length named.now ≡ 8 }
+    requires sized { length named.now ≡ MOST_MUTATORS }
     ensures refusal { refused_in result ≡ refusal (core_state core.now) (New mutator len ds) }
     ensures object { IfOk result (IsNew (core_state core.now) mutator len ds) }
 {
@@ -316,7 +316,7 @@ fn design(core: &Core, named: &[u16], mutator: u64, len: u64, ds: u64) -> Result
 fn make_object(core: &mut Core, named: &mut [u16], mutator: u64, len: u64, ds: u64) -> Outcome
     requires tidy { Tidy (core_state core.old) (λ m. slice_index named.old m) }
     requires law { Law (core_state core.old) }
-    requires sized { length named.old ≡ 8 }
+    requires sized { length named.old ≡ MOST_MUTATORS }
     ensures state { core_state core.new ≡ made (core_state core.old) (events_for (core_state core.old) (New mutator len ds)) }
     ensures reply { Tells result (reply_to (core_state core.old) (New mutator len ds)) }
     ensures named { (m : ℕ) → slice_index named.new m ≡ next_after (core_state core.old) (New mutator len ds) (λ k. slice_index named.old k) m }
@@ -438,7 +438,7 @@ fn log_told(core: &Core, log: u8) -> LogLine
         kind: kind_told(core.kind(log)),
         live,
         dead: 0,
-        unused: 1024 - live,
+        unused: 8 * LOG_WORDS as u64 - live,
     }
 }
 
@@ -446,7 +446,7 @@ fn log_told(core: &Core, log: u8) -> LogLine
 fn tell_logs(core: &Core, lines: &mut [LogLine])
     requires tidy { (next : ℕ → ℕ) × Tidy (core_state core.now) next }
     requires law { Law (core_state core.now) }
-    requires room { length lines.old ≡ 64 }
+    requires room { length lines.old ≡ MOST_LOGS }
     ensures { take (core_state core.now).logs lines.new ≡ map (log_line (core_state core.now)) (range_with_len 0 (core_state core.now).logs) }
 {
     for log in 0..core.logs() {
@@ -458,7 +458,7 @@ fn tell_logs(core: &Core, lines: &mut [LogLine])
 pub fn turn(core: &mut Core, named: &mut [u16], room: &mut Room, command: &Command) -> Outcome
     requires tidy { Tidy (core_state core.old) (λ m. slice_index named.old m) }
     requires law { Law (core_state core.old) }
-    requires sized { length named.old ≡ 8 }
+    requires sized { length named.old ≡ MOST_MUTATORS }
     ensures state { core_state core.new ≡ made (core_state core.old) (events_for (core_state core.old) (said command.now)) }
     ensures reply { told_by room.new.bytes room.new.lines result ≡ reply_to (core_state core.old) (said command.now) }
     ensures named { (m : ℕ) → slice_index named.new m ≡ next_after (core_state core.old) (said command.now) (λ k. slice_index named.old k) m }
