@@ -16,12 +16,12 @@ use Rattle.far_core.specs.Legal.{Legal}
 use Rattle.far_core.specs.State.{State}
 use Rattle.far_core.specs.Step.{after, answer}
 
--- an epoch that is told is the epoch, and remembered; a place that is told is held; a word that is told is the cell's,
--- and keeps a view away, or isn't the one that was to be replaced
 -- HOT is set on what was read
 abbrev pub GotHot : ℕ → ℕ → Type 0
 GotHot old new = (v : PtrWord) → read_of old ≡ Some v → read_of new ≡ Some (marked Hot v)
 
+-- an epoch that is told is the epoch, and remembered; a place that is told is held; a word that is told is the cell's,
+-- and keeps a view away, or isn't the one that was to be replaced
 abbrev pub Tells : State → Event → Reply → State → Type 0
 Tells s (ReadEpoch m) (Epoch e) t = (e ≡ s.epoch) × (t.remembered m ≡ Some e)
 Tells s (Open m) Done t = (e : ℕ) × (s.remembered m ≡ Some e) × (t.scope m ≡ scope_word (scoped.Open e))

@@ -20,7 +20,7 @@ use Rattle.far_core.proofs.Observations.{All-from, split, none_in, in_range, has
 use Rattle.far_core.proofs.Put.{put_both}
 use Rattle.far_trace.specs.Answers.{Answered}
 use Rattle.far_trace.specs.Command.{Command}
-use Rattle.far_trace.specs.Headline.{LogsStay, IsWhole}
+use Rattle.far_trace.specs.Headline.{IsWhole}
 use Rattle.far_trace.specs.Made.{made, AllAtHand}
 use Rattle.far_trace.specs.Reply.{Reply}
 
@@ -76,22 +76,12 @@ pub states_keep : (s : State) (cs : List Command) (rs : List Reply) (ts : List S
 states_keep s cs rs ts h = All-from (λ (t : State). Law t × AllAtHand t) ts (each_keeps s cs rs ts h)
 
 -- a log in which a view rests isn't free
-held_log : (s : State) (law : Law s) (p : ℕ) (place : Place) → s.held p ≡ Some place → s.kind place.log ≡ kinds.Free → ⊥
+pub held_log : (s : State) (law : Law s) (p : ℕ) (place : Place) → s.held p ≡ Some place → s.kind place.log ≡ kinds.Free → ⊥
 held_log s law p place h free =
     let near = held_near _ place (law.views.held_names p place h) in
     let span = in_range s law p near.len near.ds place near.marks near.near in
     let none : s.tail place.log ≡ 0 = law.logs.free_tail place.log free in
     omega (arith, span.0)
-
--- the logs in which views rest are not given back by the next command
-pub logs_stay : (s : State) (cs : List Command) (rs : List Reply) (ts : List State) → Law s → Answered s cs rs ts → LogsStay s cs ts
-logs_stay s [] [] [] law h = λ p place rests free. held_log s law p place rests free
-logs_stay s [] [] (u ∷ ts) law h = absurd h
-logs_stay s [] (r ∷ rs) ts law h = absurd h
-logs_stay s (d ∷ cs) [] ts law h = absurd h
-logs_stay s (d ∷ cs) (r ∷ rs) [] law h = absurd h
-logs_stay s (d ∷ cs) (r ∷ rs) (t ∷ ts) law h =
-    (λ es rest front p place rests free. held_log s law p place rests (never_freed s es place.log free), logs_stay t cs rs ts h.0.law h.1)
 
 -- a state with the law is whole
 pub whole : (s : State) → Law s → IsWhole s

@@ -1,9 +1,9 @@
 -- Each text has an output; refused commands change nothing; strangers are refused; what logs tell makes 1,024.
-use Rattle.std.proofs.Common.{◌≡◌, ◌≢◌, ℕ, ◌+◌, ◌-◌, ◌*◌, ◌<◌, ◌≤◌, Bool, true, false, cond, not, ◌&&◌, nat_lt, length, get_or, is_some, sym, ap, refl, subst, ◌∙◌, arith, suc, Option, Some, None, Result, Ok, Err, List, [], ◌∷◌, inl, inr}
+use Rattle.std.proofs.Common.{◌≡◌, ◌≢◌, ℕ, nat_eq, ◌+◌, ◌-◌, ◌*◌, ◌<◌, ◌≤◌, Bool, true, false, cond, not, ◌&&◌, nat_lt, length, get_or, is_some, sym, ap, refl, subst, ◌∙◌, arith, suc, Option, Some, None, Result, Ok, Err, List, [], ◌∷◌, inl, inr}
 use Rattle.std.specs.Prelude.{map, replicate, nat_le, ◌/◌, Contains}
 use Rattle.std.specs.Bool.{MatchBool}
 use Rattle.std.specs.List.{flat_map, range_with_len}
-use Rattle.std.proofs.lemmas.Bool.{lt-leb}
+use Rattle.std.proofs.lemmas.Bool.{lt-leb, eqb-true, eqb-false}
 use Rattle.std.proofs.lemmas.Bool.Decides.{nat_tests}
 use Rattle.far_word.specs.declared.refused.Refused.{Refused as Refusal}
 use Rattle.far_word.specs.declared.refused.Refused.TheVariants.{Range, Length, NoPointer, NoRoom, Shape, Syntax}
@@ -18,13 +18,13 @@ use Rattle.far_core.specs.World.{Object, Group}
 use Rattle.far_core.specs.WorldOf.{world_of}
 use Rattle.far_core.proofs.Bounds.{some_of}
 use Rattle.far_core.proofs.Observations.{split, none_in, bytes_make_log}
-use Rattle.far_trace.specs.Alone.{speaker}
+use Rattle.far_trace.specs.Alone.{Alone, Knows, Own}
 use Rattle.far_trace.specs.Answers.{Answered, Answers, BeginsWithHeap, Commanded, IsOutput, shape_of, first_state}
 use Rattle.far_trace.specs.Command.{Command, Heap, New, Open, Write, Read, Close, Logs}
 use Rattle.far_trace.specs.Grammar.{commands_of}
-use Rattle.far_trace.specs.Headline.{TellsAll, TellsLog}
+use Rattle.far_trace.specs.Headline.{IsSaidBy, TellsAll, TellsLog}
 use Rattle.far_trace.specs.Interpreter.{next_after}
-use Rattle.far_trace.specs.Later.{IsLater, AreLater}
+use Rattle.far_trace.specs.Later.{AreLater}
 use Rattle.far_trace.specs.Made.{made, AllSucceed}
 use Rattle.far_trace.specs.Reply.{Reply, Done, Pointer, Refused, LogLine, printed}
 use Rattle.far_trace.specs.Tidy.{Tidy}
@@ -83,19 +83,19 @@ first_holds s c b rest is holds =
     ap (λ o. unless o Refused (turn_reply s c)) cause
 
 -- a number past the last mutator isn't one
-past : (s : State) (m k : ℕ) → Some k ≡ Some m → s.mutators ≤ m → nat_lt k s.mutators ≡ false
-past s m k e h = let same : k ≡ m = cc in lt-leb (suc k) s.mutators (omega (arith, same, h))
+past : (s : State) (m k : ℕ) → m ≡ k → s.mutators ≤ m → nat_lt k s.mutators ≡ false
+past s m k e h = lt-leb (suc k) s.mutators (omega (arith, e, h))
 
-strange : (s : State) (c : Command) (m : ℕ) → speaker c ≡ Some m → s.mutators ≤ m → reply_to s c ≡ Refused Range
-strange s (Heap logs mutators) m e h = absurd cc
+strange : (s : State) (c : Command) (m : ℕ) → IsSaidBy m c → s.mutators ≤ m → reply_to s c ≡ Refused Range
+strange s (Heap logs mutators) m e h = absurd e
 strange s (New k len ds) m e h = first_holds s (New k len ds) (not (nat_lt k s.mutators && nat_lt ds 256)) _ refl (ap (λ b. not (b && nat_lt ds 256)) (past s m k e h))
 strange s (Open k) m e h = first_holds s (Open k) (not (nat_lt k s.mutators)) _ refl (ap not (past s m k e h))
 strange s (Write k p from bytes) m e h = first_holds s (Write k p from bytes) (not (nat_lt k s.mutators)) _ refl (ap not (past s m k e h))
 strange s (Read k p from len) m e h = first_holds s (Read k p from len) (not (nat_lt k s.mutators)) _ refl (ap not (past s m k e h))
 strange s (Close k) m e h = first_holds s (Close k) (not (nat_lt k s.mutators)) _ refl (ap not (past s m k e h))
-strange s Logs m e h = absurd cc
+strange s Logs m e h = absurd e
 
-pub stranger : (s : State) (c : Command) (r : Reply) (t : State) (m : ℕ) → speaker c ≡ Some m → s.mutators ≤ m → Commanded s c r t → r ≡ Refused Range
+pub stranger : (s : State) (c : Command) (r : Reply) (t : State) (m : ℕ) → IsSaidBy m c → s.mutators ≤ m → Commanded s c r t → r ≡ Refused Range
 stranger s c r t m e h k = k.reply ∙ strange s c m e h
 
 -- ---- what logs tell
@@ -223,15 +223,20 @@ changes_range bytes new from fits = (
   spliced_behind bytes from new fits,
 )
 
--- ---- speakers
-pub speakers : (c : Command) → IsLater c → speaker c ≡ None → c ≡ Logs
-speakers (Heap logs mutators) h e = absurd h
-speakers (New m len ds) h e = absurd cc
-speakers (Open m) h e = absurd cc
-speakers (Write m p from bytes) h e = absurd cc
-speakers (Read m p from len) h e = absurd cc
-speakers (Close m) h e = absurd cc
-speakers Logs h e = refl
+-- ---- whose line it is
+at_number : (k m : ℕ) (A B : Type 0) (b : Bool) → nat_eq k m ≡ b → MatchBool b A B → (m ≡ k → A) × ((m ≡ k → ⊥) → B)
+at_number k m A B true e x = ((λ _. x), (λ ne. absurd (ne (sym (eqb-true k m e)))))
+at_number k m A B false e x = ((λ same. absurd (eqb-false k m e (sym same))), (λ _. x))
+
+pub own_lines : (m : ℕ) (o : Own) (c : Command) (r : Reply) (cs : List Command) (rs : List Reply) → Alone m o (c ∷ cs) (r ∷ rs) →
+    (IsSaidBy m c → (q : Own) × Knows m o c r q × Alone m q cs rs) × ((IsSaidBy m c → ⊥) → Alone m o cs rs)
+own_lines m o (Heap logs mutators) r cs rs h = ((λ no. absurd no), (λ _. h))
+own_lines m o (New k len ds) r cs rs h = at_number k m _ _ (nat_eq k m) refl h
+own_lines m o (Open k) r cs rs h = at_number k m _ _ (nat_eq k m) refl h
+own_lines m o (Write k p from bytes) r cs rs h = at_number k m _ _ (nat_eq k m) refl h
+own_lines m o (Read k p from len) r cs rs h = at_number k m _ _ (nat_eq k m) refl h
+own_lines m o (Close k) r cs rs h = at_number k m _ _ (nat_eq k m) refl h
+own_lines m o Logs r cs rs h = ((λ no. absurd no), (λ _. h))
 
 -- ---- what a new object is
 not_refused : (o : Option Refusal) (x : Option ℕ) (p : ℕ) → Pointer p ≡ unless o Refused (pointer_reply x) → o ≡ None

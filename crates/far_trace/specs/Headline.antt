@@ -15,11 +15,11 @@ use Rattle.far_core.specs.Shape.{is_shape}
 use Rattle.far_core.specs.State.{State, put}
 use Rattle.far_core.specs.World.{Group}
 use Rattle.far_core.specs.WorldOf.{world_of}
-use Rattle.far_trace.specs.Alone.{Alone, nothing, speaker}
+use Rattle.far_trace.specs.Alone.{Alone, Knows, Own, nothing}
 use Rattle.far_trace.specs.Answers.{Answered, Answers, BeginsWithHeap, Commanded, shape_of, first_state}
 use Rattle.far_trace.specs.Command.{Command, New, Open, Write, Read, Close, Logs as AsksLogs}
 use Rattle.far_trace.specs.Grammar.{commands_of}
-use Rattle.far_trace.specs.Later.{IsLater, AreLater}
+use Rattle.far_trace.specs.Later.{AreLater}
 use Rattle.far_trace.specs.Made.{made}
 use Rattle.far_trace.specs.Turn.{events_for, kind_told, spliced}
 use Rattle.far_trace.specs.Reply.{Reply, Done, Pointer, Data, Logs, Refused, LogLine}
@@ -28,9 +28,9 @@ use Rattle.far_trace.specs.Reply.{Reply, Done, Pointer, Data, Logs, Refused, Log
 abbrev pub LogStays : State → State → Type 0
 LogStays s t = (p : ℕ) (place : Place) → s.held p ≡ Some place → t.kind place.log ≡ kinds.Free → ⊥
 
--- nor after any of the command's events
+-- through a command: a log in which a view rests after any front of its events isn't free after any longer front
 abbrev pub StayThrough : State → Command → Type 0
-StayThrough s c = (es rest : List Event) → es ++ rest ≡ events_for s c → LogStays s (made s es)
+StayThrough s c = (es mid rest : List Event) → es ++ mid ++ rest ≡ events_for s c → LogStays (made s es) (made s (es ++ mid))
 
 -- through each command of a list; and in the last state no view rests in a free log
 abbrev pub LogsStay : State → List Command → List State → Type 0
@@ -91,6 +91,15 @@ ViewsAfter s (Write m p from bytes) Done t = ViewsObject s t p
 ViewsAfter s (Close m) Done t = ViewsNothing s t m
 ViewsAfter s c r t = t.held ≡ s.held
 
+-- the line has the mutator's number
+abbrev pub IsSaidBy : ℕ → Command → Type 0
+IsSaidBy m (New k len ds) = m ≡ k
+IsSaidBy m (Open k) = m ≡ k
+IsSaidBy m (Write k p from bytes) = m ≡ k
+IsSaidBy m (Read k p from len) = m ≡ k
+IsSaidBy m (Close k) = m ≡ k
+IsSaidBy m c = ⊥
+
 -- ---- the laws
 -- each text has an output
 abbrev pub EachTextIsAnswered : Type 0
@@ -106,7 +115,7 @@ RefusalsChangeNothing = (s : State) (c : Command) (r : Reply) (t : State) (why :
 
 -- a line of a mutator that the heap hasn't is refused 8
 abbrev pub StrangersAreRefused : Type 0
-StrangersAreRefused = (s : State) (c : Command) (r : Reply) (t : State) (m : ℕ) → speaker c ≡ Some m → s.mutators ≤ m → Commanded s c r t → r ≡ Refused Range
+StrangersAreRefused = (s : State) (c : Command) (r : Reply) (t : State) (m : ℕ) → IsSaidBy m c → s.mutators ≤ m → Commanded s c r t → r ≡ Refused Range
 
 -- what `logs` tells
 abbrev pub LogsAreTold : Type 0
@@ -137,9 +146,10 @@ LinesAreLater = (text : List ℕ) (c : Command) (cs : List Command) → commands
 abbrev pub NearRefusals : Type 0
 NearRefusals = (s : State) (c : Command) (r : Reply) (t : State) (why : Refusal) → Commanded s c r t → r ≡ Refused why → MayRefuse c why
 
--- a heap in range begins with the law, so that the laws above hold from its first state on
+-- a heap in range begins with the numbers on its line and with the law, so that the laws above hold from its first state on
 abbrev pub HeapsBeginLawful : Type 0
-HeapsBeginLawful = (logs mutators : ℕ) → is_shape (shape_of logs mutators) ≡ true → Law (first_state logs mutators) × IsWhole (first_state logs mutators)
+HeapsBeginLawful = (logs mutators : ℕ) → is_shape (shape_of logs mutators) ≡ true →
+    ((first_state logs mutators).logs ≡ logs) × ((first_state logs mutators).mutators ≡ mutators) × Law (first_state logs mutators) × IsWhole (first_state logs mutators)
 
 -- a new object's pointer is its owner's lowest cell that is 0
 abbrev pub NewTakesTheLowest : Type 0
@@ -171,9 +181,10 @@ WritesChangeTheirRange = (bytes new : List ℕ) (from : ℕ) → from + length n
     × ((k : ℕ) → k < length new → slice_index (spliced bytes from new) (from + k) ≡ slice_index new k)
     × ((k : ℕ) → from + length new ≤ k → slice_index (spliced bytes from new) k ≡ slice_index bytes k)
 
--- each line behind the heap but `logs` is some mutator's
-abbrev pub LinesHaveSpeakers : Type 0
-LinesHaveSpeakers = (c : Command) → IsLater c → speaker c ≡ None → c ≡ AsksLogs
+-- of replies that are a mutator's alone, the reply to a line with its number says what it then knows, and the others say nothing of it
+abbrev pub OwnLinesCount : Type 0
+OwnLinesCount = (m : ℕ) (o : Own) (c : Command) (r : Reply) (cs : List Command) (rs : List Reply) → Alone m o (c ∷ cs) (r ∷ rs) →
+    (IsSaidBy m c → (q : Own) × Knows m o c r q × Alone m q cs rs) × ((IsSaidBy m c → ⊥) → Alone m o cs rs)
 
 -- a new object has its owner, its data structure and so many zeros, in the log of the place that room says; all other objects stay
 abbrev pub NewMakesItsObject : Type 0

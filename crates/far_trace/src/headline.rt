@@ -1,6 +1,6 @@
 //! What outputs say, over whole texts and whole lists of commands. No function here does anything when it runs.
 
-ghost use Rattle.far_trace.specs.Headline.{OneOutput, ObjectsStayWhole, ViewedLogsStay, MutatorsAreAlone, LinesAreLater, NearRefusals, HeapsBeginLawful, EachTextIsAnswered, TextsBeginWithHeap, RefusalsChangeNothing, StrangersAreRefused, ViewsLast, LogsAreTold, NewTakesTheLowest, NoneIsLeft, WritesChangeTheirRange, LinesHaveSpeakers, NewIsMade, NewMakesItsObject};
+ghost use Rattle.far_trace.specs.Headline.{OneOutput, ObjectsStayWhole, ViewedLogsStay, MutatorsAreAlone, LinesAreLater, NearRefusals, HeapsBeginLawful, EachTextIsAnswered, TextsBeginWithHeap, RefusalsChangeNothing, StrangersAreRefused, ViewsLast, LogsAreTold, NewTakesTheLowest, NoneIsLeft, WritesChangeTheirRange, OwnLinesCount, NewIsMade, NewMakesItsObject};
 
 /// A text has one output.
 pub fn outputs_are_one()
@@ -89,9 +89,9 @@ pub fn writes_change_their_range()
     ensures { WritesChangeTheirRange }
 {}
 
-/// Each line but `logs` is some mutator's.
-pub fn lines_have_speakers()
-    ensures { LinesHaveSpeakers }
+/// A mutator's own lines, and no others, say what it knows.
+pub fn own_lines_count()
+    ensures { OwnLinesCount }
 {}
 
 /// A new object has its owner, its data structure and zeros, in the log that `room` says; all other objects stay.

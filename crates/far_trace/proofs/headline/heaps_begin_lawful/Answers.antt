@@ -1,4 +1,4 @@
-use Rattle.std.proofs.Common.{true}
+use Rattle.std.proofs.Common.{true, refl}
 use Rattle.far_core.proofs.Begins.{begins}
 use Rattle.far_trace.specs.Answers.{shape_of, first_state}
 use Rattle.far_trace.proofs.Kept.{whole}
@@ -7,4 +7,4 @@ use Rattle.far_trace.proofs.headline.heaps_begin_lawful.Goals as goal
 pub returns : goal.returns
 returns c logs mutators shape =
     let law = begins (shape_of logs mutators) true shape in
-    (law, whole (first_state logs mutators) law)
+    (refl, refl, law, whole (first_state logs mutators) law)
