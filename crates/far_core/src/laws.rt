@@ -120,7 +120,8 @@ pub fn steps_keep_views()
     ensures one { StepsAreOne }
 {}
 
-/// Whatever an event changes of the words and views, it says so: one shared word at most, and one seat's view.
+/// Whatever an event changes of the words and views, it says so: one shared word at most, and the view of its own mutator
+/// alone, or of the book.
 pub fn events_leave_others()
     ensures { EventsLeave }
 {}

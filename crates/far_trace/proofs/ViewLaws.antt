@@ -39,7 +39,7 @@ LeavesViews e = ((m p : ℕ) → e ≡ Pins m p → ⊥) × ((m : ℕ) → e ≡
 -- a row of them leaves the views
 row_stays : (s : State) (es : List Event) → Each LeavesViews es → (made s es).held ≡ s.held
 row_stays s [] q = refl
-row_stays s (e ∷ es) q = row_stays (step_of s e).0 es q.1 ∙ fun_ext (λ p. (events_leave s e).held p (λ m. q.0.0 m p) (q.0.1 (p / CELLS)))
+row_stays s (e ∷ es) q = row_stays (step_of s e).0 es q.1 ∙ fun_ext (λ p. (events_leave s e).held p (q.0.0 (p / CELLS) p) (q.0.1 (p / CELLS)))
 
 load : (m p i : ℕ) → LeavesViews (Loads m p i)
 load m p i = ((λ _ _ e. absurd cc), (λ _ e. absurd cc))
@@ -180,7 +180,7 @@ close_back s m p place = cond_both (is_legal s (Closes m)) (after s (Closes m), 
 step_back : (s : State) (e : Event) → NoPin e → (p : ℕ) (place : Place) → (step_of s e).0.held p ≡ Some place → s.held p ≡ Some place
 step_back s e none p place h = elim (close_or_not e) [
   | inl close ↦ close_back s close.0 p place (ap (λ x. (step_of s x).0.held p) (sym close.1) ∙ h)
-  | inr other ↦ sym ((events_leave s e).held p (λ m. none m p) (other (p / CELLS))) ∙ h
+  | inr other ↦ sym ((events_leave s e).held p (none (p / CELLS) p) (other (p / CELLS))) ∙ h
 ]
 
 row_back : (s : State) (es : List Event) → Each NoPin es → (p : ℕ) (place : Place) → (made s es).held p ≡ Some place → s.held p ≡ Some place
