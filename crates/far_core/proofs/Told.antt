@@ -1,9 +1,10 @@
 -- What answers tell.
-use Rattle.std.proofs.Common.{◌≡◌, ℕ, Bool, true, false, cond, nat_eq, bit_or, ◌^◌, sym, refl, ap, ◌∙◌, Option, Some, None}
+use Rattle.std.proofs.Common.{◌≡◌, ℕ, Bool, true, false, cond, nat_eq, bit_or, ◌+◌, ◌*◌, ◌^◌, sym, refl, ap, ◌∙◌, Option, Some, None}
 use Rattle.std.specs.Prelude.{◌||◌, IsSome}
 use Rattle.std.proofs.lemmas.Bool.{false≢true, eqb-true, eqb-false}
 use Rattle.far_word.specs.declared.pointer.Place.{Place}
 use Rattle.far_word.specs.declared.mark.Mark.TheVariants.{Hot}
+use Rattle.far_word.specs.declared.sizes.TheConstants.{LOG_WORDS}
 use Rattle.far_word.specs.Mark.{position}
 use Rattle.far_word.specs.Pointer.{read_of}
 use Rattle.far_core.specs.declared.event.Event.TheVariants.{ReadEpoch, Open, Pin, Load, Store, Close, Adopt, Put, Name}
@@ -47,5 +48,5 @@ answers_tell s law (Load m p i) h = tt
 answers_tell s law (Store m p i w) h = tt
 answers_tell s law (Close m) h = (put_same s.scope m 0 m refl, put_same s.remembered m None m refl)
 answers_tell s law (Adopt m p) h = (refl, put_same s.used p true p refl)
-answers_tell s law (Put l at w) h = tt
+answers_tell s law (Put l at w) h = put_same s.word (l * LOG_WORDS + at) w (l * LOG_WORDS + at) refl
 answers_tell s law (Name p old new) h = tells_name s p old new h.2 (nat_eq (s.cell p) old) refl

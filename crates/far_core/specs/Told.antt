@@ -1,15 +1,16 @@
 -- What an answer tells of the words and views, beside what it tells of the world.
-use Rattle.std.specs.Prelude.{◌≡◌, ◌≢◌, ℕ, ◌||◌, true, Some, None}
+use Rattle.std.specs.Prelude.{◌≡◌, ◌≢◌, ℕ, ◌+◌, ◌*◌, ◌||◌, true, Some, None}
 use Rattle.far_word.specs.declared.mark.Marks.{Marks}
 use Rattle.far_word.specs.declared.pointer.Place.{Place}
 use Rattle.far_word.specs.declared.pointer.PtrWord.TheVariants.{Near}
 use Rattle.far_word.specs.declared.mark.Mark.TheVariants.{Hot}
 use Rattle.far_word.specs.declared.pointer.PtrWord.{PtrWord}
+use Rattle.far_word.specs.declared.sizes.TheConstants.{LOG_WORDS}
 use Rattle.far_word.specs.Pointer.{read_of, marked}
 use Rattle.far_word.specs.Scope.{scope_word}
 use Rattle.far_word.specs.declared.scope.ScopeWord.TheVariants as scoped
 use Rattle.far_core.specs.declared.event.Event.{Event}
-use Rattle.far_core.specs.declared.event.Event.TheVariants.{ReadEpoch, Open, Pin, Close, Adopt, Name}
+use Rattle.far_core.specs.declared.event.Event.TheVariants.{ReadEpoch, Open, Pin, Close, Adopt, Put, Name}
 use Rattle.far_core.specs.declared.event.Reply.{Reply}
 use Rattle.far_core.specs.declared.event.Reply.TheVariants.{Done, Epoch, Word, Held}
 use Rattle.far_core.specs.Legal.{Legal}
@@ -21,7 +22,7 @@ abbrev pub GotHot : ℕ → ℕ → Type 0
 GotHot old new = (v : PtrWord) → read_of old ≡ Some v → read_of new ≡ Some (marked Hot v)
 
 -- an epoch that is told is the epoch, and remembered; a place that is told is held; a word that is told is the cell's,
--- and keeps a view away, or isn't the one that was to be replaced
+-- and keeps a view away, or isn't the one that was to be replaced; a word that is put stands there
 abbrev pub Tells : State → Event → Reply → State → Type 0
 Tells s (ReadEpoch m) (Epoch e) t = (e ≡ s.epoch) × (t.remembered m ≡ Some e)
 Tells s (Open m) Done t = (e : ℕ) × (s.remembered m ≡ Some e) × (t.scope m ≡ scope_word (scoped.Open e))
@@ -30,6 +31,7 @@ Tells s (Pin m p) (Word w) t = (w ≡ s.cell p) × (t.held p ≡ None) × GotHot
     × ((len ds : ℕ) (place : Place) (k : Marks) → read_of w ≡ Some (Near len ds place k) → (k.evac || k.moved || k.dropped) ≡ true)
 Tells s (Close m) Done t = (t.scope m ≡ 0) × (t.remembered m ≡ None)
 Tells s (Adopt m p) (Word w) t = (w ≡ t.cell p) × (t.used p ≡ true)
+Tells s (Put l at w) Done t = t.word (l * LOG_WORDS + at) ≡ w
 Tells s (Name p old new) Done t = (s.cell p ≡ old) × (t.cell p ≡ new)
 Tells s (Name p old new) (Word w) t = (w ≡ t.cell p) × (w ≢ old)
 Tells s e r t = Unit {0}
