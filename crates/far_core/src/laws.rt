@@ -93,7 +93,8 @@ impl Core {
         let _memory = &self.memory;
     }
 
-    /// What an answer tells is so: the epoch that was remembered, the place that is held, the word that keeps a view away.
+    /// What an answer tells is so: the epoch that was remembered, the place that is held, the word that keeps a view away,
+    /// the word that was put, the span that a won naming takes; a lost naming changes nothing.
     pub fn answers_tell(&self)
         ensures { AnswersTell (core_state self.now) }
     {
