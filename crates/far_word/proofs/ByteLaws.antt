@@ -151,6 +151,17 @@ overwritten-other bs i w k ne = elim (cases_lt k (length bs)) [
   | inr le ↦ get_or_past (overwritten bs i w) k 0 (omega (arith, length-overwritten bs i w)) ∙ sym (get_or_past bs k 0 le)
 ]
 
+-- each is below 256
+new_byte : (b : Bool) (w n x : ℕ) → x < 256 → cond b (w / n % 256) x < 256
+new_byte true w n x small = omega arith
+new_byte false w n x small = small
+
+pub overwritten-small : (bs : List ℕ) (i w : ℕ) → ((k : ℕ) → get_or bs k 0 < 256) → (k : ℕ) → get_or (overwritten bs i w) k 0 < 256
+overwritten-small bs i w small k = elim (cases_lt k (length bs)) [
+  | inl lt ↦ omega (arith, overwritten-get bs i w k lt, new_byte (nat_eq (k / 8) i) w (2 ^ (8 * (k % 8))) (get_or bs k 0) (small k))
+  | inr le ↦ omega (arith, get_or_past (overwritten bs i w) k 0 (omega (arith, length-overwritten bs i w)))
+]
+
 -- the bytes as the bytes of their words, with one word put
 overwritten-as : (bs : List ℕ) (i w : ℕ) → ((k : ℕ) → get_or bs k 0 < 256) → overwritten bs i w ≡ bytes_of (λ q. cond (q == i) w (get_or (words_of bs) q 0)) (length bs)
 overwritten-as bs i w small = sym (bytes_of-put (λ q. get_or (words_of bs) q 0) (length bs) i w ∙ ap (λ b. overwritten b i w) (bytes_of-words_of bs small))

@@ -67,8 +67,8 @@ abbrev pub WordsBack : Type 0
 WordsBack = (word : ℕ → ℕ) (n i : ℕ) → i < words_for n → word i < 2 ^ 64 → word i < 2 ^ (8 * (n - 8 * i)) →
     (slice_index (words_of (bytes_of word n)) i ≡ word i) × (packed_word (bytes_of word n) i ≡ word i)
 
--- bytes that were written over are read as they were written, and all others as they were
+-- bytes that were written over are read as they were written, and all others as they were; each is a byte still
 abbrev pub WrittenIsRead : Type 0
 WrittenIsRead = (bytes : List ℕ) (i w : ℕ) → ((k : ℕ) → slice_index bytes k < 256) → 8 * i < length bytes → w < 2 ^ 64 → w < 2 ^ (8 * (length bytes - 8 * i)) →
     (packed_word (overwritten bytes i w) i ≡ w) × ((j : ℕ) → j ≢ i → packed_word (overwritten bytes i w) j ≡ packed_word bytes j)
-    × (length (overwritten bytes i w) ≡ length bytes)
+    × (length (overwritten bytes i w) ≡ length bytes) × ((k : ℕ) → slice_index (overwritten bytes i w) k < 256)
