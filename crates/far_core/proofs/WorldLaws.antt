@@ -1,6 +1,7 @@
 -- What every step of a world keeps, and what the objects of a core's world are.
-use Rattle.std.proofs.Common.{◌≡◌, ℕ, ◌+◌, ◌/◌, Bool, true, false, cond, arith, sym, refl, ap, subst, ◌∙◌, Option, Some, None, length}
+use Rattle.std.proofs.Common.{◌≡◌, ℕ, ◌+◌, ◌/◌, Bool, true, false, cond, nat_eq, arith, sym, refl, ap, subst, ◌∙◌, Option, Some, None, length}
 use Rattle.std.specs.Prelude.{replicate}
+use Rattle.std.proofs.lemmas.Bool.{cond_both, eqb-true, false≢true}
 use Rattle.far_word.specs.declared.pointer.PtrWord.{PtrWord}
 use Rattle.far_word.specs.declared.pointer.PtrWord.TheVariants.{Free, Near, Far}
 use Rattle.far_word.specs.declared.sizes.TheConstants.{CELLS}
@@ -30,6 +31,8 @@ stays w v e h = subst (λ (x : World). StepKeeps w e x) (sym h) record {
   groups = λ p g o there home held. held;
   bytes = λ p o seen there no. there;
   rests = λ p o seen there. (o, there, refl, refl, refl, refl);
+  views = λ p seen no. seen;
+  new_views = λ p seen no. seen;
 }
 
 opens : (w : World) (m : ℕ) (v : World) → Opens w m v → StepKeeps w (Open m) v
@@ -38,6 +41,8 @@ opens w m v h = subst (λ (x : World). StepKeeps w (Open m) x) (sym h.after) rec
   groups = λ p g o there home held. held;
   bytes = λ p o seen there no. there;
   rests = λ p o seen there. (o, there, refl, refl, refl, refl);
+  views = λ p seen no. seen;
+  new_views = λ p seen no. seen;
 }
 
 closes : (w : World) (m : ℕ) (v : World) → Closes w m v → StepKeeps w (Close m) v
@@ -46,6 +51,8 @@ closes w m v h = subst (λ (x : World). StepKeeps w (Close m) x) (sym h.after) r
   groups = λ p g o there home held. held;
   bytes = λ p o seen there no. there;
   rests = λ p o seen there. (o, there, refl, refl, refl, refl);
+  views = λ p seen no. cond_both (nat_eq (p / CELLS) m) false (w.viewed p) (λ (b : Bool). b ≡ true) (λ t. absurd (no (ap Close (sym (eqb-true (p / CELLS) m t))))) (λ _. seen);
+  new_views = λ p seen no. cond_both (nat_eq (p / CELLS) m) false (w.viewed p) (λ (b : Bool). b ≡ true → w.viewed p ≡ true) (λ _ odd. absurd (false≢true odd)) (λ _ held. held) seen;
 }
 
 views : (w : World) (m p : ℕ) (v : World) → Views w m p v → StepKeeps w (Pin m p) v
@@ -54,6 +61,10 @@ views w m p v h = subst (λ (x : World). StepKeeps w (Pin m p) x) (sym h.after) 
   groups = λ p g o there home held. held;
   bytes = λ p o seen there no. there;
   rests = λ p o seen there. (o, there, refl, refl, refl, refl);
+  views = λ q seen no. put_both (λ (b : Bool). b ≡ true) w.viewed p true q (λ _. refl) (λ _. seen);
+  new_views = λ q seen no. put_both (λ (b : Bool). b ≡ true → w.viewed q ≡ true) w.viewed p true q
+      (λ e _. absurd (no (ap (λ k. Pin k p) (sym h.own ∙ ap (λ k. k / CELLS) (sym e)) ∙ ap (λ k. Pin (q / CELLS) k) (sym e))))
+      (λ _ held. held) seen;
 }
 
 -- ---- a write and a new object change one object
@@ -81,6 +92,8 @@ writes w m p i x v h =
             length-overwritten old.bytes i x ∙ ap (λ (z : Object). length z.bytes) is,
           ))
           (λ ne. (o, there, refl, refl, refl, refl));
+      views = λ q seen no. seen;
+      new_views = λ q seen no. seen;
     }
 
 makes : (w : World) (p len ds g old new : ℕ) (v : World) → Makes w p len ds g v → StepKeeps w (Name p old new) v
@@ -95,6 +108,8 @@ makes w p len ds g old new v h =
           w.object p (Some made) q
           (λ e. absurd (new_one o (ap w.object (sym e) ∙ there)))
           (λ ne. (o, there, refl, refl, refl, refl));
+      views = λ q seen no. seen;
+      new_views = λ q seen no. seen;
     } where
       new_one : (o : Object) → w.object p ≡ Some o → ⊥
       new_one o e = let none : None ≡ Some o = sym h.fresh ∙ e in cc

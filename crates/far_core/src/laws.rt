@@ -114,8 +114,9 @@ pub fn opening_is_start(shape: Shape, honest: bool)
     ensures { world_of (opening shape honest) ≡ start honest }
 {}
 
-/// No step of a world changes honesty, moves or changes what is viewed but by its owner's store, or gives back a group
-/// in which an object lies; and an event with its reply makes one step.
+/// No step of a world changes honesty, moves or changes what is viewed but by its owner's store, ends a view but by its
+/// owner's close or begins one but by its owner's pin, or gives back a group in which an object lies; and an event with
+/// its reply makes one step.
 pub fn steps_keep_views()
     ensures keep { StepsKeep }
     ensures one { StepsAreOne }
