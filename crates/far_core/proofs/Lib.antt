@@ -7,6 +7,7 @@ pub mod KeepWords
 pub mod Keeps
 pub mod Left
 pub mod LegalTest
+pub mod LiveLaws
 pub mod Observations
 pub mod Put
 pub mod RoomLaws

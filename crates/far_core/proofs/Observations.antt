@@ -208,7 +208,7 @@ one_span s law l i x y hx hy wx wy =
     a.2 ∙ ap (span_at (λ j. s.word (l * LOG_WORDS + j))) at ∙ sym b.2
 
 -- what a live span says: its pointer's cell names it
-live_names : (o : Option PtrWord) (l at : ℕ) → names_place o l at ≡ true → (len ds : ℕ) × (place : Place) × (m : Marks) × (o ≡ Some (Near len ds place m)) × (place.log ≡ l) × (place.at ≡ at)
+pub live_names : (o : Option PtrWord) (l at : ℕ) → names_place o l at ≡ true → (len ds : ℕ) × (place : Place) × (m : Marks) × (o ≡ Some (Near len ds place m)) × (place.log ≡ l) × (place.at ≡ at)
 live_names None l at h = absurd (false≢true h)
 live_names (Some Free) l at h = absurd (false≢true h)
 live_names (Some (Near len ds place m)) l at h = (len, ds, place, m, refl, grind (arith, nat_tests), grind (arith, nat_tests))

@@ -4,6 +4,7 @@ pub mod Happens
 pub mod Law
 pub mod Left
 pub mod Legal
+pub mod LiveLaws
 pub mod Memory
 pub mod Observed
 pub mod Opening

@@ -9,9 +9,11 @@ ghost use Rattle.far_core.specs.CoreState.{core_state};
 ghost use Rattle.far_core.specs.Law.{Law};
 ghost use Rattle.far_core.specs.Left.{EventsLeave};
 ghost use Rattle.far_core.specs.Legal.{Legal};
+ghost use Rattle.far_core.specs.LiveLaws.{LiveIs, LiveBytesAre};
 ghost use Rattle.far_core.specs.Observed.{Fills, live_bytes, dead_bytes, unused_bytes, HasOneLive, NamesOnce, HasOneSpan, HasNoSpan, LogsStand, NearHasOneLive, PlacedExactly};
 ghost use Rattle.far_core.specs.Opening.{opening};
 ghost use Rattle.far_core.specs.Shape.{is_shape};
+ghost use Rattle.far_core.specs.Spans.{Placed};
 ghost use Rattle.far_core.specs.State.{State};
 ghost use Rattle.far_core.specs.Step.{is_legal};
 ghost use Rattle.far_core.specs.Told.{AnswersTell};
@@ -47,6 +49,15 @@ impl Core {
     /// Live, dead and unused bytes of each log make its 1,024.
     pub fn bytes_make_log(&self)
         ensures { (l : ℕ) → live_bytes (core_state self.now) l + dead_bytes (core_state self.now) l + unused_bytes (core_state self.now) l ≡ 8 * LOG_WORDS }
+    {
+        let _memory = &self.memory;
+    }
+
+    /// A span is live exactly where the cell of the pointer that its header names says near, at its place; live bytes are
+    /// what the live spans take, and dead bytes what all others take.
+    pub fn live_is_named(&self)
+        ensures live { (l : ℕ) (span : Placed) → LiveIs (core_state self.now) l span }
+        ensures bytes { (l : ℕ) → LiveBytesAre (core_state self.now) l }
     {
         let _memory = &self.memory;
     }

@@ -182,6 +182,7 @@ fn laws_can_be_called(rt: HostRuntime) -> Result<(), Fail> {
     core.keeps_law();
     core.spans_fill_logs();
     core.bytes_make_log();
+    core.live_is_named();
     core.objects_have_one_span();
     core.words_have_one_span();
     core.views_and_marks_agree();
