@@ -1,6 +1,6 @@
 //! What is true of every core, as contracts. No function here does anything when it runs.
 
-ghost use Rattle.std.specs.Prelude.{◌≡◌, ◌≢◌, ◌↔◌, ◌+◌, ◌*◌, ◌<◌, ◌≤◌, ◌||◌, ℕ, Bool, true, false, Some, IsSome};
+ghost use Rattle.std.specs.Prelude.{◌≡◌, ◌≢◌, ◌↔◌, ◌+◌, ◌*◌, ◌<◌, ◌≤◌, ◌||◌, ℕ, Bool, true, false, Some, None, IsSome};
 ghost use Rattle.far_word.specs.declared.mark.Marks.{Marks};
 ghost use Rattle.far_word.specs.declared.sizes.TheConstants.{LOG_WORDS};
 ghost use Rattle.far_word.specs.Pointer.{read_of};
@@ -120,9 +120,14 @@ impl Core {
     }
 }
 
-/// The state at the start means the world at the start.
+/// The state at the start means the world at the start, and has what its shape says; nothing is remembered, and all
+/// words of the logs are 0.
 pub fn opening_is_start(shape: Shape, honest: bool)
-    ensures { world_of (opening shape honest) ≡ start honest }
+    ensures world { world_of (opening shape honest) ≡ start honest }
+    ensures shape { ((opening shape honest).logs ≡ shape.logs) × ((opening shape honest).mutators ≡ shape.mutators) × ((opening shape honest).epoch ≡ shape.epoch) }
+    ensures honesty { (opening shape honest).honest ≡ honest }
+    ensures memory { (m : ℕ) → (opening shape honest).remembered m ≡ None }
+    ensures words { (a : ℕ) → (opening shape honest).word a ≡ 0 }
 {}
 
 /// No step of a world changes honesty, moves or changes what is viewed but by its owner's store, ends a view but by its
