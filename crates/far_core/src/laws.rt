@@ -97,7 +97,8 @@ impl Core {
         let _memory = &self.memory;
     }
 
-    /// Room is where the next span may stand, the lowest such, and none exactly where there is none.
+    /// Room is the end of the open log where the span fits there, else the start of the lowest free log, but not of the
+    /// only one where the reserve is kept; none only where neither may be had. For sizes to 128 words.
     pub fn room_is_right(&self)
         ensures { RoomIsRight (core_state self.now) }
     {

@@ -84,7 +84,7 @@ pub fn new_is_made()
     ensures { NewIsMade }
 {}
 
-/// A write changes the bytes of its range, and no others.
+/// Splicing, by which a write is defined, changes the bytes of its range, and no others.
 pub fn writes_change_their_range()
     ensures { WritesChangeTheirRange }
 {}
