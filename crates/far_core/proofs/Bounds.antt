@@ -11,7 +11,7 @@ use Rattle.far_word.specs.declared.pointer.Place.{Place}
 use Rattle.far_word.specs.declared.pointer.PtrWord.TheVariants.{Near}
 use Rattle.far_word.specs.declared.sizes.TheConstants.{CELLS, LOG_WORDS}
 use Rattle.far_word.specs.Sizes.{words_for}
-use Rattle.far_word.specs.Header.{head_of}
+use Rattle.far_word.specs.Header.{head_of, head_word}
 use Rattle.far_word.specs.Pointer.{read_of}
 use Rattle.far_word.proofs.PointerLaws.{read_says}
 use Rattle.far_word.proofs.HeaderLaws.{head_back}
@@ -68,3 +68,7 @@ shifted_out w n h = elim (cases_lt w n) [
 
 pub all_fit : (w left : ℕ) → w < 2 ^ 64 → 8 ≤ left → true ≡ nat_lt w (2 ^ (8 * left))
 all_fit w left fits le = let more : 2 ^ 64 ≤ 2 ^ (8 * left) = (let h : 64 ≤ 8 * left = omega arith in pow_mono h) in sym (lt-ltb w _ (omega arith))
+
+-- two pointers that are named back by one span are one
+pub one_name : (word : ℕ → ℕ) (p q len n ds d a : ℕ) → word a ≡ head_word p len ds → word a ≡ head_word q n d → len < 2 ^ 16 → n < 2 ^ 16 → ds < 2 ^ 8 → d < 2 ^ 8 → p ≡ q
+one_name word p q len n ds d a e f k l m o = omega arith

@@ -1,6 +1,5 @@
 -- What a cell says, what its marks leave as it is, and what a header says.
 use Rattle.std.proofs.Common.{◌≡◌, ℕ, ◌+◌, ◌<◌, ◌^◌, Bool, true, false, arith, sym, refl, ap, ◌∙◌, Option, Some, None, bit_or}
-use Rattle.std.specs.Prelude.{IsSome}
 use Rattle.std.proofs.lemmas.Bool.{false≢true}
 use Rattle.std.proofs.lemmas.Bool.Decides.{nat_tests}
 use Rattle.far_word.specs.declared.mark.Mark.{Mark}
@@ -13,7 +12,7 @@ use Rattle.far_word.specs.Header.{head_word}
 use Rattle.far_word.specs.Mark.{position}
 use Rattle.far_word.specs.Pointer.{read_of, takes, marked}
 use Rattle.far_word.proofs.PointerLaws.{marked_read, marked_fits}
-use Rattle.far_core.specs.Law.{Heads, NamesBack, held_place, in_use, IsBlank, Blank}
+use Rattle.far_core.specs.Law.{Heads, held_place, in_use, Blank}
 use Rattle.far_core.specs.State.{addr}
 use Rattle.far_core.specs.Step.{viewable}
 
@@ -53,10 +52,6 @@ in_use-hot (Some Free) = refl
 in_use-hot (Some (Near len ds place m)) = refl
 in_use-hot (Some (Far len ds m)) = refl
 
-pub IsSome-hot : (o : Option PtrWord) → in_use o ≡ true → IsSome (with_mark Hot o)
-IsSome-hot None h = absurd (false≢true h)
-IsSome-hot (Some v) h = refl
-
 -- two spans of one pointer, length, data structure and place are one
 pub Heads-same : (word : ℕ → ℕ) (starts : ℕ → Bool) (p len ds n d : ℕ) (place other : Place) → len ≡ n → ds ≡ d → place ≡ other →
     Heads word starts p len ds place → Heads word starts p n d other
@@ -65,28 +60,8 @@ Heads-same word starts p len ds n d place other a b c h = record {
   head = ap (λ x. word (addr x)) (sym c) ∙ h.head ∙ ap (λ x. head_word p x ds) a ∙ ap (λ x. head_word p n x) b;
 }
 
-pub NamesBack-hot : (word : ℕ → ℕ) (starts : ℕ → Bool) (p : ℕ) (o : Option PtrWord) → NamesBack word starts p o → NamesBack word starts p (with_mark Hot o)
-NamesBack-hot word starts p None h n d q k e = absurd cc
-NamesBack-hot word starts p (Some Free) h n d q k e = absurd cc
-NamesBack-hot word starts p (Some (Near len ds place m)) h n d q k e = Heads-same word starts p len ds n d place q (cc) (cc) (cc) (h len ds place m refl)
-NamesBack-hot word starts p (Some (Far len ds m)) h n d q k e = absurd cc
-
-pub no_far-hot : (o : Option PtrWord) → ((len ds : ℕ) (m : Marks) → o ≡ Some (Far len ds m) → ⊥) → (len ds : ℕ) (m : Marks) → with_mark Hot o ≡ Some (Far len ds m) → ⊥
-no_far-hot None h n d k e = cc
-no_far-hot (Some Free) h n d k e = cc
-no_far-hot (Some (Near len ds place m)) h n d k e = cc
-no_far-hot (Some (Far len ds m)) h n d k e = h len ds m refl
-
-Blank-same : (word : ℕ → ℕ) (len n : ℕ) (place other : Place) → len ≡ n → place ≡ other → Blank word len place → Blank word n other
+pub Blank-same : (word : ℕ → ℕ) (len n : ℕ) (place other : Place) → len ≡ n → place ≡ other → Blank word len place → Blank word n other
 Blank-same word len n place other a b h i lt = ap (λ x. word (addr x + 1 + i)) (sym b) ∙ h i (omega arith)
-
-pub IsBlank-hot : (word : ℕ → ℕ) (o : Option PtrWord) → IsBlank word o → IsBlank word (with_mark Hot o)
-IsBlank-hot word None h n d q k e kept = absurd cc
-IsBlank-hot word (Some Free) h n d q k e kept = absurd cc
-IsBlank-hot word (Some (Near len ds place m)) h n d q k e kept =
-    let drop : m.dropped ≡ k.dropped = cc in
-    Blank-same word len n place q (cc) (cc) (h len ds place m refl (drop ∙ kept))
-IsBlank-hot word (Some (Far len ds m)) h n d q k e kept = absurd cc
 
 -- ---- what a look-up implies
 pub held_place-viewable : (o : Option PtrWord) (place : Place) → viewable o ≡ Some place → held_place o ≡ Some place

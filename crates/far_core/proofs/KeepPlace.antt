@@ -1,8 +1,7 @@
 -- A new place is named, and the law stays.
-use Rattle.std.proofs.Common.{◌≡◌, ◌≢◌, ℕ, ◌+◌, ◌*◌, ◌/◌, ◌%◌, ◌<◌, ◌≤◌, ◌^◌, Bool, true, false, arith, sym, refl, ap, subst, ◌∙◌, Option, Some, inl, inr}
+use Rattle.std.proofs.Common.{◌≡◌, ◌≢◌, ℕ, ◌+◌, ◌*◌, ◌/◌, ◌%◌, ◌<◌, ◌≤◌, ◌^◌, Bool, true, false, arith, sym, refl, ap, subst, ◌∙◌, Option, Some, None, inl, inr}
 use Rattle.std.specs.Prelude.{IsSome}
-use Rattle.std.proofs.lemmas.Bool.{false≢true, cases_lt, cases_eq, false_from_ne_true}
-use Rattle.std.proofs.lemmas.Nat.{pow_pos}
+use Rattle.std.proofs.lemmas.Bool.{cases_lt, cases_eq, false_from_ne_true}
 use Rattle.far_word.specs.declared.header.HeadWord.{HeadWord}
 use Rattle.far_word.specs.declared.mark.Marks.{Marks}
 use Rattle.far_word.specs.declared.pointer.Place.{Place}
@@ -16,7 +15,7 @@ use Rattle.far_core.specs.declared.event.Kind.TheVariants.{Free, Open, Sealed}
 use Rattle.far_core.specs.Law.{Law, Span, Padded, NamesBack, IsBlank, Blank, held_place, in_use, head_len}
 use Rattle.far_core.specs.State.{State, put, addr}
 use Rattle.far_core.specs.Step.{taken}
-use Rattle.far_core.proofs.Cells.{unused, Heads-same}
+use Rattle.far_core.proofs.Cells.{Heads-same}
 use Rattle.far_core.proofs.Put.{put_both, put_same, put_other}
 
 -- ---- the spans with one more at the tail of its log
@@ -84,21 +83,18 @@ abbrev pub header : ℕ → ℕ → ℕ → HeadWord
 header p len ds = record { pointer = p; len = len; ds = ds }
 
 module _ (s : State) (law : Law s) (p len ds : ℕ) (place : Place) (m : Marks) (new : ℕ)
-    (says : read_of new ≡ Some (Near len ds place m)) (fits : new < 2 ^ 64) (cell : p < CELLS * s.mutators) (empty : s.cell p ≡ 0) (kept : m.dropped ≡ false)
+    (says : read_of new ≡ Some (Near len ds place m)) (fits : new < 2 ^ 64) (cell : p < CELLS * s.mutators) (unheld : s.held p ≡ None) (live : s.used p ≡ true → in_use (read_of new) ≡ true)
     (some : 0 < len) (most : len ≤ LONGEST) (room : place.at + size_of len ≤ LOG_WORDS) (log : place.log < s.logs)
     (here : place.at ≡ s.tail place.log) (named : s.word (addr place) ≡ head_word p len ds) (head : head_of (s.word (addr place)) ≡ Some (header p len ds))
-    (clear : Blank s.word len place) where
+    (pads : Padded s.word (addr place) len) (blank : s.honest ≡ true → s.used p ≡ false → Blank s.word len place) where
   size : head_len (s.word (addr place)) ≡ len
   size = rw head refl
-
-  not_used : (q : ℕ) → s.used q ≡ true → q ≢ p
-  not_used q h e = false≢true (sym (ap in_use (ap (λ r. read_of (s.cell r)) e ∙ ap read_of empty ∙ unused)) ∙ law.views.used_cell q h)
 
   more : (a : ℕ) → s.starts a ≡ true → put s.starts (addr place) true a ≡ true
   more a h = put_both (λ b. b ≡ true) s.starts (addr place) true a (λ _. refl) (λ _. h)
 
-  pub keeps_place : Law (taken s p new len place)
-  keeps_place = record {
+  pub law_with_span : Law (taken s p new len place)
+  law_with_span = record {
     shape = law.shape;
     cells = record {
       cell_read = λ q. put_both (λ w. (w < 2 ^ 64) × IsSome (read_of w)) s.cell p new q (λ _. (fits, rw says refl)) (λ _. law.cells.cell_read q);
@@ -126,8 +122,7 @@ module _ (s : State) (law : Law s) (p len ds : ℕ) (place : Place) (m : Marks) 
           (λ e _ is. let is2 : Some (header p len ds) ≡ Some h = sym head ∙ ap (λ x. head_of (s.word x)) (sym e) ∙ is in let same : header p len ds ≡ h = cc in subst (λ (x : HeadWord). x.pointer < CELLS * s.mutators) same cell)
           (λ _. law.spans.span_header a h);
       span_padding = λ a. put_both (λ b. b ≡ true → Padded s.word a (head_len (s.word a))) s.starts (addr place) true a
-          (λ e _ i lt. let n : head_len (s.word a) ≡ len = ap (λ x. head_len (s.word x)) e ∙ size in
-          let z : s.word (a + 1 + i) ≡ 0 = (let at : a + 1 + i ≡ addr place + 1 + i = omega arith in ap s.word at ∙ clear i (omega (arith, n))) in rw z (pow_pos _))
+          (λ e _. rw (e, size) pads)
           (λ _. law.spans.span_padding a);
     };
     logs = record {
@@ -145,14 +140,14 @@ module _ (s : State) (law : Law s) (p len ds : ℕ) (place : Place) (m : Marks) 
     views = record {
       held_open = law.views.held_open;
       held_names = λ q at h. put_both (λ w. held_place (read_of w) ≡ Some at) s.cell p new q
-          (λ e. absurd (not_used q (law.views.held_used q (rw h refl)) e)) (λ _. law.views.held_names q at h);
+          (λ e. let odd : None ≡ Some at = sym unheld ∙ ap s.held (sym e) ∙ h in absurd cc) (λ _. law.views.held_names q at h);
       held_used = law.views.held_used;
-      used_cell = λ q h. put_both (λ w. in_use (read_of w) ≡ true) s.cell p new q (λ e. absurd (not_used q h e)) (λ _. law.views.used_cell q h);
+      used_cell = λ q h. put_both (λ w. in_use (read_of w) ≡ true) s.cell p new q (λ e. live (ap s.used (sym e) ∙ h)) (λ _. law.views.used_cell q h);
     };
     rounds = law.rounds;
     unadopted = λ honest q free. put_both (λ w. IsBlank s.word (read_of w)) s.cell p new q
-        (λ _ n d at k is _ i lt. let is2 : Some (Near len ds place m) ≡ Some (Near n d at k) = sym says ∙ is in
+        (λ e n d at k is _ i lt. let is2 : Some (Near len ds place m) ≡ Some (Near n d at k) = sym says ∙ is in
         let there : place ≡ at = cc in let long : len ≡ n = cc in
-        ap (λ x. s.word (addr x + 1 + i)) (sym there) ∙ clear i (omega arith))
+        ap (λ x. s.word (addr x + 1 + i)) (sym there) ∙ blank honest (ap s.used (sym e) ∙ free) i (omega arith))
         (λ _. law.unadopted honest q free);
   }

@@ -1,6 +1,8 @@
 pub mod Begins
 pub mod Bounds
 pub mod Cells
+pub mod Frames
+pub mod Guards
 pub mod KeepOwner
 pub mod KeepPlace
 pub mod KeepWords
@@ -9,12 +11,16 @@ pub mod Left
 pub mod LegalTest
 pub mod LiveLaws
 pub mod Observations
+pub mod Owed
+pub mod Owing
 pub mod Put
 pub mod RoomLaws
 pub mod SpanFrames
 pub mod Steps
 pub mod Told
+pub mod Touching
 pub mod WorldFacts
 pub mod WorldLaws
 pub mod Worlds
 pub mod Zeros
+pub mod events

@@ -1,6 +1,5 @@
 -- What every step of a world keeps, and what the objects of a core's world are.
-use Rattle.std.proofs.Common.{◌≡◌, ℕ, ◌+◌, ◌/◌, Bool, true, false, cond, nat_eq, arith, sym, refl, ap, subst, ◌∙◌, Option, Some, None, length}
-use Rattle.std.specs.Prelude.{replicate}
+use Rattle.std.proofs.Common.{◌≡◌, ℕ, ◌+◌, ◌/◌, Bool, true, false, cond, nat_eq, arith, sym, refl, ap, subst, ◌∙◌, Option, Some, None, List, length}
 use Rattle.std.proofs.lemmas.Bool.{cond_both, eqb-true, false≢true}
 use Rattle.far_word.specs.declared.pointer.PtrWord.{PtrWord}
 use Rattle.far_word.specs.declared.pointer.PtrWord.TheVariants.{Free, Near, Far}
@@ -10,77 +9,71 @@ use Rattle.far_word.specs.Pointer.{read_of}
 use Rattle.far_word.proofs.ByteLaws.{length-bytes_of, bytes_of-small, length-overwritten}
 use Rattle.far_word.proofs.PointerLaws.{read_says}
 use Rattle.far_core.specs.declared.event.Event.{Event}
-use Rattle.far_core.specs.declared.event.Event.TheVariants.{ReadEpoch, Open, Pin, Load, Store, Close, Adopt, Put, Name}
-use Rattle.far_core.specs.declared.event.Reply.TheVariants.{Refused, Done, Epoch, Word, Held}
 use Rattle.far_core.specs.declared.event.Kind.{Kind}
 use Rattle.far_core.specs.declared.event.Kind.TheVariants as kinds
-use Rattle.far_core.specs.Happens.{Names}
+use Rattle.far_core.specs.Changes.{Change, Step, StepOf}
+use Rattle.far_core.specs.Changes as change
+use Rattle.far_core.specs.Step.{change_of}
+use Rattle.far_core.proofs.Owing.{owed}
 use Rattle.far_core.specs.Law.{Law}
 use Rattle.far_core.specs.State.{State, put, addr}
-use Rattle.far_core.specs.World.{World, Object, Group}
-use Rattle.far_core.specs.WorldLaws.{ObjectStands, ObjectsStand, StepKeeps, StepsKeep, StepsAreOne}
+use Rattle.far_core.specs.World.{World, Object, Group, FarSide}
+use Rattle.far_core.specs.WorldLaws.{ChangeKeeps, ChangesKeep, ChangesAreOne, Causes, Caused, EventsCause, SureOf, ObjectStands, ObjectsStand, StepKeeps, StepsKeep, StepsAreOne}
 use Rattle.far_core.specs.WorldOf.{world_of, object_of, is_group}
-use Rattle.far_core.specs.WorldSteps.{Makes, Opens, Closes, Views, Writes, with_bytes}
+use Rattle.far_core.specs.WorldSteps.{Writes, with_bytes, with_home}
 use Rattle.far_core.proofs.Observations.{in_range}
 use Rattle.far_core.proofs.Put.{put_both}
 
--- ---- steps that leave objects and groups as they are
-stays : (w v : World) (e : Event) → v ≡ w → StepKeeps w e v
-stays w v e h = subst (λ (x : World). StepKeeps w e x) (sym h) record {
+-- ---- what each change keeps
+-- objects and views stay
+still : (w : World) (c : Change) (opened marked group : ℕ → Bool) → ((p g : ℕ) (o : Object) → w.object p ≡ Some o → o.home ≡ Group g → w.group g ≡ true → group g ≡ true) →
+    ChangeKeeps w c record w { opened = opened; marked = marked; group = group }
+still w c opened marked group held = record {
   honesty = refl;
-  groups = λ p g o there home held. held;
-  bytes = λ p o seen there no. there;
+  groups = held;
+  bytes = λ p o seen there out. there;
   rests = λ p o seen there. (o, there, refl, refl, refl, refl);
-  views = λ p seen no. seen;
-  new_views = λ p seen no. seen;
+  views = λ p seen out. seen;
+  new_views = λ p seen out. seen;
 }
 
-opens : (w : World) (m : ℕ) (v : World) → Opens w m v → StepKeeps w (Open m) v
-opens w m v h = subst (λ (x : World). StepKeeps w (Open m) x) (sym h.after) record {
+-- one object changes, which nobody views
+unseen : (w : World) (c : Change) (p : ℕ) (x : Option Object) (marked group : ℕ → Bool) → ((o : Object) → w.viewed p ≡ true → w.object p ≡ Some o → ⊥) →
+    ((q g : ℕ) (o : Object) → w.object q ≡ Some o → o.home ≡ Group g → w.group g ≡ true → group g ≡ true) → ChangeKeeps w c record w { object = put w.object p x; marked = marked; group = group }
+unseen w c p x marked group away held = record {
   honesty = refl;
-  groups = λ p g o there home held. held;
-  bytes = λ p o seen there no. there;
-  rests = λ p o seen there. (o, there, refl, refl, refl, refl);
-  views = λ p seen no. seen;
-  new_views = λ p seen no. seen;
+  groups = held;
+  bytes = λ q o seen there out. put_both (λ (z : Option Object). z ≡ Some o) w.object p x q (λ e. absurd (away o (ap w.viewed (sym e) ∙ seen) (ap w.object (sym e) ∙ there))) (λ _. there);
+  rests = λ q o seen there. put_both (λ (z : Option Object). (u : Object) × (z ≡ Some u) × (u.owner ≡ o.owner) × (u.ds ≡ o.ds) × (u.home ≡ o.home) × (length u.bytes ≡ length o.bytes))
+      w.object p x q (λ e. absurd (away o (ap w.viewed (sym e) ∙ seen) (ap w.object (sym e) ∙ there))) (λ _. (o, there, refl, refl, refl, refl));
+  views = λ q seen out. seen;
+  new_views = λ q seen out. seen;
 }
 
-closes : (w : World) (m : ℕ) (v : World) → Closes w m v → StepKeeps w (Close m) v
-closes w m v h = subst (λ (x : World). StepKeeps w (Close m) x) (sym h.after) record {
-  honesty = refl;
-  groups = λ p g o there home held. held;
-  bytes = λ p o seen there no. there;
-  rests = λ p o seen there. (o, there, refl, refl, refl, refl);
-  views = λ p seen no. cond_both (nat_eq (p / CELLS) m) false (w.viewed p) (λ (b : Bool). b ≡ true) (λ t. absurd (no (ap Close (sym (eqb-true (p / CELLS) m t))))) (λ _. seen);
-  new_views = λ p seen no. cond_both (nat_eq (p / CELLS) m) false (w.viewed p) (λ (b : Bool). b ≡ true → w.viewed p ≡ true) (λ _ odd. absurd (false≢true odd)) (λ _ held. held) seen;
-}
-
-views : (w : World) (m p : ℕ) (v : World) → Views w m p v → StepKeeps w (Pin m p) v
-views w m p v h = subst (λ (x : World). StepKeeps w (Pin m p) x) (sym h.after) record {
-  honesty = refl;
-  groups = λ p g o there home held. held;
-  bytes = λ p o seen there no. there;
-  rests = λ p o seen there. (o, there, refl, refl, refl, refl);
-  views = λ q seen no. put_both (λ (b : Bool). b ≡ true) w.viewed p true q (λ _. refl) (λ _. seen);
-  new_views = λ q seen no. put_both (λ (b : Bool). b ≡ true → w.viewed q ≡ true) w.viewed p true q
-      (λ e _. absurd (no (ap (λ k. Pin k p) (sym h.own ∙ ap (λ k. k / CELLS) (sym e)) ∙ ap (λ k. Pin (q / CELLS) k) (sym e))))
-      (λ _ held. held) seen;
-}
-
--- ---- a write and a new object change one object
 one_of : {X : Type 0} (x y : X) (o : Option X) → o ≡ Some x → o ≡ Some y → x ≡ y
 one_of x y o a b = let both : Some x ≡ Some y = sym a ∙ b in cc
 
-writes : (w : World) (m p i x : ℕ) (v : World) → Writes w m p i x v → StepKeeps w (Store m p i x) v
-writes w m p i x v h =
+-- a group more
+module _ (w : World) (g : ℕ) where
+  more : (q k : ℕ) (o : Object) → w.object q ≡ Some o → o.home ≡ Group k → w.group k ≡ true → put w.group g true k ≡ true
+  more q k o there home held = put_both (λ (b : Bool). b ≡ true) w.group g true k (λ _. refl) (λ _. held)
+
+nobody : (w : World) (p : ℕ) → w.viewed p ≡ false → (o : Object) → w.viewed p ≡ true → w.object p ≡ Some o → ⊥
+nobody w p out o seen there = false≢true (sym out ∙ seen)
+
+abbrev near_again : Object → List ℕ → ℕ → Object
+near_again o bytes g = record { owner = o.owner; ds = o.ds; bytes = bytes; home = Group g }
+
+keeps_writes : (w : World) (m p i x : ℕ) (v : World) → Writes w m p i x v → ChangeKeeps w (change.Writes m p i x) v
+keeps_writes w m p i x v h =
     let old : Object = h.changed.0 in
     let now : Object = with_bytes old (overwritten old.bytes i x) in
-    subst (λ (z : World). StepKeeps w (Store m p i x) z) (sym h.changed.3) record {
+    subst (λ (z : World). ChangeKeeps w (change.Writes m p i x) z) (sym h.changed.3) record {
       honesty = refl;
       groups = λ q g o there home held. held;
-      bytes = λ q o seen there no. put_both (λ (z : Option Object). z ≡ Some o) w.object p (Some now) q
-          (λ e. absurd (no i x (ap (λ k. Store k p i x) (sym h.own ∙ ap (λ k. k / CELLS) (sym e)) ∙ ap (λ k. Store (q / CELLS) k i x) (sym e))))
-          (λ ne. there);
+      bytes = λ q o seen there out. put_both (λ (z : Option Object). z ≡ Some o) w.object p (Some now) q
+          (λ e. absurd (out i x (ap (λ k. change.Writes k p i x) (sym h.own ∙ ap (λ k. k / CELLS) (sym e)) ∙ ap (λ k. change.Writes (q / CELLS) k i x) (sym e))))
+          (λ _. there);
       rests = λ q o seen there. put_both (λ (z : Option Object). (u : Object) × (z ≡ Some u) × (u.owner ≡ o.owner) × (u.ds ≡ o.ds) × (u.home ≡ o.home) × (length u.bytes ≡ length o.bytes))
           w.object p (Some now) q
           (λ e. let is : old ≡ o = one_of old o (w.object p) h.changed.1 (ap w.object (sym e) ∙ there) in (
@@ -91,164 +84,113 @@ writes w m p i x v h =
             ap (λ (z : Object). z.home) is,
             length-overwritten old.bytes i x ∙ ap (λ (z : Object). length z.bytes) is,
           ))
-          (λ ne. (o, there, refl, refl, refl, refl));
-      views = λ q seen no. seen;
-      new_views = λ q seen no. seen;
+          (λ _. (o, there, refl, refl, refl, refl));
+      views = λ q seen out. seen;
+      new_views = λ q seen out. seen;
     }
 
-makes : (w : World) (p len ds g old new : ℕ) (v : World) → Makes w p len ds g v → StepKeeps w (Name p old new) v
-makes w p len ds g old new v h =
-    let made : Object = record { owner = p / CELLS; ds = ds; bytes = replicate len 0; home = Group g } in
-    subst (λ (z : World). StepKeeps w (Name p old new) z) (sym h.after) record {
-      honesty = refl;
-      groups = λ q k o there home held. put_both (λ (b : Bool). b ≡ true) w.group g true k (λ _. refl) (λ _. held);
-      bytes = λ q o seen there no. put_both (λ (z : Option Object). z ≡ Some o) w.object p (Some made) q
-          (λ e. absurd (new_one o (ap w.object (sym e) ∙ there))) (λ ne. there);
-      rests = λ q o seen there. put_both (λ (z : Option Object). (u : Object) × (z ≡ Some u) × (u.owner ≡ o.owner) × (u.ds ≡ o.ds) × (u.home ≡ o.home) × (length u.bytes ≡ length o.bytes))
-          w.object p (Some made) q
-          (λ e. absurd (new_one o (ap w.object (sym e) ∙ there)))
-          (λ ne. (o, there, refl, refl, refl, refl));
-      views = λ q seen no. seen;
-      new_views = λ q seen no. seen;
-    } where
-      new_one : (o : Object) → w.object p ≡ Some o → ⊥
-      new_one o e = let none : None ≡ Some o = sym h.fresh ∙ e in cc
+keeps_closes : (w : World) (m : ℕ) → ChangeKeeps w (change.Closes m) record w { opened = put w.opened m false; viewed = λ p. cond (nat_eq (p / CELLS) m) false (w.viewed p) }
+keeps_closes w m = record {
+  honesty = refl;
+  groups = λ p g o there home held. held;
+  bytes = λ p o seen there out. there;
+  rests = λ p o seen there. (o, there, refl, refl, refl, refl);
+  views = λ p seen out. cond_both (nat_eq (p / CELLS) m) false (w.viewed p) (λ (b : Bool). b ≡ true) (λ t. absurd (out (ap (λ k. change.Closes k) (sym (eqb-true (p / CELLS) m t))))) (λ _. seen);
+  new_views = λ p seen out. cond_both (nat_eq (p / CELLS) m) false (w.viewed p) (λ (b : Bool). b ≡ true → w.viewed p ≡ true) (λ _ odd. absurd (false≢true odd)) (λ _ held. held) seen;
+}
 
-names : (w : World) (p old new : ℕ) (a b : Option PtrWord) (v : World) → Names w p a b v → StepKeeps w (Name p old new) v
-names w p old new None None v h = absurd h
-names w p old new None (Some Free) v h = absurd h
-names w p old new None (Some (Near len2 ds2 place2 m2)) v h = absurd h
-names w p old new None (Some (Far len2 ds2 m2)) v h = absurd h
-names w p old new (Some Free) None v h = absurd h
-names w p old new (Some Free) (Some Free) v h = absurd h
-names w p old new (Some Free) (Some (Near len2 ds2 place2 m2)) v h = makes w p len2 ds2 place2.log old new v h
-names w p old new (Some Free) (Some (Far len2 ds2 m2)) v h = absurd h
-names w p old new (Some (Near len ds place m)) None v h = absurd h
-names w p old new (Some (Near len ds place m)) (Some Free) v h = absurd h
-names w p old new (Some (Near len ds place m)) (Some (Near len2 ds2 place2 m2)) v h = absurd h
-names w p old new (Some (Near len ds place m)) (Some (Far len2 ds2 m2)) v h = absurd h
-names w p old new (Some (Far len ds m)) None v h = absurd h
-names w p old new (Some (Far len ds m)) (Some Free) v h = absurd h
-names w p old new (Some (Far len ds m)) (Some (Near len2 ds2 place2 m2)) v h = absurd h
-names w p old new (Some (Far len ds m)) (Some (Far len2 ds2 m2)) v h = absurd h
+keeps_views : (w : World) (m p : ℕ) → p / CELLS ≡ m → ChangeKeeps w (change.Views m p) record w { viewed = put w.viewed p true }
+keeps_views w m p own = record {
+  honesty = refl;
+  groups = λ q g o there home held. held;
+  bytes = λ q o seen there out. there;
+  rests = λ q o seen there. (o, there, refl, refl, refl, refl);
+  views = λ q seen out. put_both (λ (b : Bool). b ≡ true) w.viewed p true q (λ _. refl) (λ _. seen);
+  new_views = λ q seen out. put_both (λ (b : Bool). b ≡ true → w.viewed q ≡ true) w.viewed p true q
+      (λ e _. absurd (out (ap (λ k. change.Views k p) (sym own ∙ ap (λ k. k / CELLS) (sym e)) ∙ ap (λ k. change.Views (q / CELLS) k) (sym e))))
+      (λ _ held. held) seen;
+}
+
+pub changes_keep : ChangesKeep
+changes_keep w v c h = at c h where
+  from : (d : Change) (x : World) → v ≡ x → ChangeKeeps w d x → ChangeKeeps w d v
+  from d x e k = subst (λ (z : World). ChangeKeeps w d z) (sym e) k
+
+  old : (p g : ℕ) (o : Object) → w.object p ≡ Some o → o.home ≡ Group g → w.group g ≡ true → w.group g ≡ true
+  old p g o there home held = held
+
+  at : (d : Change) → Step d w v → ChangeKeeps w d v
+  at change.Stays k = from _ w k (still w _ w.opened w.marked w.group old)
+  at (change.Opens m) k = from _ _ k.after (still w _ _ w.marked w.group old)
+  at (change.Closes m) k = from _ _ k.after (keeps_closes w m)
+  at (change.Views m p) k = from _ _ k.after (keeps_views w m p k.own)
+  at (change.Reads m p i x) k = from _ w k.after (still w _ w.opened w.marked w.group old)
+  at (change.Writes m p i x) k = keeps_writes w m p i x v k
+  at (change.Makes p len ds g) k = from _ _ k.after (unseen w _ p _ _ _ (λ o seen there. let odd : None ≡ Some o = sym k.fresh ∙ there in cc) (more w g))
+  at (change.Marks p) k = from _ _ k (still w _ w.opened _ w.group old)
+  at (change.Unmarks p) k = from _ _ k (still w _ w.opened _ w.group old)
+  at (change.Moves p g) k = from _ _ k.moved.4 (unseen w _ p _ _ _ (nobody w p k.unviewed) (more w g))
+  at (change.GoesFar p) k = from _ _ k.gone.4 (unseen w _ p _ _ _ (nobody w p k.unviewed) old)
+  at (change.ComesNear p g) k = from _ _ k.come.7 (unseen w _ p _ _ _ (nobody w p k.unviewed) (more w g))
+  at (change.Drops m p) k = from _ _ k.after (unseen w _ p _ _ _ (nobody w p k.unviewed) old)
+  at (change.Releases g) k = from _ _ k.after (still w _ w.opened w.marked _
+      (λ q j o there home held. put_both (λ (b : Bool). b ≡ true) w.group g false j (λ e. absurd (k.empty q o there (home ∙ ap Group e))) (λ _. held)))
+  at (change.Holds g) k = from _ _ k (still w _ w.opened w.marked _ (more w g))
+
+-- ---- which event makes a change
+pub events_cause : EventsCause
+events_cause e = (owed e).causes
+
+keeps_event : (w v : World) (e : Event) (o : Option Change) → Caused e o → StepOf o w v → StepKeeps w e v
+keeps_event w v e None is h = absurd h
+keeps_event w v e (Some c) is h =
+    let k = changes_keep w v c h in
+    record {
+      honesty = k.honesty;
+      groups = k.groups;
+      bytes = λ p o seen there out. k.bytes p o seen there (λ i x same. out i x (subst (λ d. Causes e d) same is));
+      rests = k.rests;
+      views = λ p seen out. k.views p seen (λ same. out (subst (λ d. Causes e d) same is));
+      new_views = λ p seen out. k.new_views p seen (λ same. out (subst (λ d. Causes e d) same is));
+    }
 
 pub steps_keep : StepsKeep
-steps_keep w v (ReadEpoch m) Refused h = stays w v (ReadEpoch m) h
-steps_keep w v (ReadEpoch m) Done h = absurd h
-steps_keep w v (ReadEpoch m) (Epoch n) h = stays w v (ReadEpoch m) h
-steps_keep w v (ReadEpoch m) (Word y) h = absurd h
-steps_keep w v (ReadEpoch m) (Held place) h = absurd h
-steps_keep w v (Open m) Refused h = stays w v (Open m) h
-steps_keep w v (Open m) Done h = opens w m v h
-steps_keep w v (Open m) (Epoch n) h = absurd h
-steps_keep w v (Open m) (Word y) h = absurd h
-steps_keep w v (Open m) (Held place) h = absurd h
-steps_keep w v (Pin m p) Refused h = stays w v (Pin m p) h
-steps_keep w v (Pin m p) Done h = absurd h
-steps_keep w v (Pin m p) (Epoch n) h = absurd h
-steps_keep w v (Pin m p) (Word y) h = stays w v (Pin m p) h
-steps_keep w v (Pin m p) (Held place) h = views w m p v h
-steps_keep w v (Load m p i) Refused h = stays w v (Load m p i) h
-steps_keep w v (Load m p i) Done h = absurd h
-steps_keep w v (Load m p i) (Epoch n) h = absurd h
-steps_keep w v (Load m p i) (Word y) h = stays w v (Load m p i) h.after
-steps_keep w v (Load m p i) (Held place) h = absurd h
-steps_keep w v (Store m p i x) Refused h = stays w v (Store m p i x) h
-steps_keep w v (Store m p i x) Done h = writes w m p i x v h
-steps_keep w v (Store m p i x) (Epoch n) h = absurd h
-steps_keep w v (Store m p i x) (Word y) h = absurd h
-steps_keep w v (Store m p i x) (Held place) h = absurd h
-steps_keep w v (Close m) Refused h = stays w v (Close m) h
-steps_keep w v (Close m) Done h = closes w m v h
-steps_keep w v (Close m) (Epoch n) h = absurd h
-steps_keep w v (Close m) (Word y) h = absurd h
-steps_keep w v (Close m) (Held place) h = absurd h
-steps_keep w v (Adopt m p) Refused h = stays w v (Adopt m p) h
-steps_keep w v (Adopt m p) Done h = absurd h
-steps_keep w v (Adopt m p) (Epoch n) h = absurd h
-steps_keep w v (Adopt m p) (Word y) h = stays w v (Adopt m p) h
-steps_keep w v (Adopt m p) (Held place) h = absurd h
-steps_keep w v (Put l at x) Refused h = stays w v (Put l at x) h
-steps_keep w v (Put l at x) Done h = stays w v (Put l at x) h
-steps_keep w v (Put l at x) (Epoch n) h = absurd h
-steps_keep w v (Put l at x) (Word y) h = absurd h
-steps_keep w v (Put l at x) (Held place) h = absurd h
-steps_keep w v (Name p old new) Refused h = stays w v (Name p old new) h
-steps_keep w v (Name p old new) Done h = names w p old new (read_of old) (read_of new) v h
-steps_keep w v (Name p old new) (Epoch n) h = absurd h
-steps_keep w v (Name p old new) (Word y) h = stays w v (Name p old new) h
-steps_keep w v (Name p old new) (Held place) h = absurd h
+steps_keep w v e r h = keeps_event w v e (change_of e r) (events_cause e r) h
 
 -- ---- one step
-one_write : (w : World) (m p i x : ℕ) (v u : World) → Writes w m p i x v → Writes w m p i x u → v ≡ u
-one_write w m p i x v u h k =
+pub changes_are_one : ChangesAreOne
+changes_are_one w v u change.Stays sure h k = h ∙ sym k
+changes_are_one w v u (change.Opens m) sure h k = h.after ∙ sym k.after
+changes_are_one w v u (change.Closes m) sure h k = h.after ∙ sym k.after
+changes_are_one w v u (change.Views m p) sure h k = h.after ∙ sym k.after
+changes_are_one w v u (change.Reads m p i x) sure h k = h.after ∙ sym k.after
+changes_are_one w v u (change.Writes m p i x) sure h k =
     let is : h.changed.0 ≡ k.changed.0 = one_of h.changed.0 k.changed.0 (w.object p) h.changed.1 k.changed.1 in
     h.changed.3 ∙ ap (λ (o : Object). record w { object = put w.object p (Some (with_bytes o (overwritten o.bytes i x))) }) is ∙ sym k.changed.3
+changes_are_one w v u (change.Makes p len ds g) sure h k = h.after ∙ sym k.after
+changes_are_one w v u (change.Marks p) sure h k = h ∙ sym k
+changes_are_one w v u (change.Unmarks p) sure h k = h ∙ sym k
+changes_are_one w v u (change.Moves p g) sure h k =
+    let is : h.moved.0 ≡ k.moved.0 = one_of h.moved.0 k.moved.0 (w.object p) h.moved.2 k.moved.2 in
+    h.moved.4 ∙ ap (λ (o : Object). record w { object = put w.object p (Some (with_home o (Group g))); marked = put w.marked p false; group = put w.group g true }) is ∙ sym k.moved.4
+changes_are_one w v u (change.GoesFar p) sure h k =
+    let is : h.gone.0 ≡ k.gone.0 = one_of h.gone.0 k.gone.0 (w.object p) h.gone.2 k.gone.2 in
+    h.gone.4 ∙ ap (λ (o : Object). record w { object = put w.object p (Some (with_home o FarSide)); marked = put w.marked p false }) is ∙ sym k.gone.4
+changes_are_one w v u (change.ComesNear p g) sure h k =
+    let is : h.come.0 ≡ k.come.0 = one_of h.come.0 k.come.0 (w.object p) h.come.2 k.come.2 in
+    let bytes : h.come.1 ≡ k.come.1 = h.come.6 sure ∙ ap (λ (o : Object). o.bytes) is ∙ sym (k.come.6 sure) in
+    h.come.7 ∙ ap (λ (o : Object). record w { object = put w.object p (Some (near_again o h.come.1 g)); marked = put w.marked p false; group = put w.group g true }) is
+    ∙ ap (λ b. record w { object = put w.object p (Some (near_again k.come.0 b g)); marked = put w.marked p false; group = put w.group g true }) bytes ∙ sym k.come.7
+changes_are_one w v u (change.Drops m p) sure h k = h.after ∙ sym k.after
+changes_are_one w v u (change.Releases g) sure h k = h.after ∙ sym k.after
+changes_are_one w v u (change.Holds g) sure h k = h ∙ sym k
 
-one_name : (w : World) (p : ℕ) (a b : Option PtrWord) (v u : World) → Names w p a b v → Names w p a b u → v ≡ u
-one_name w p None None v u h k = absurd h
-one_name w p None (Some Free) v u h k = absurd h
-one_name w p None (Some (Near len2 ds2 place2 m2)) v u h k = absurd h
-one_name w p None (Some (Far len2 ds2 m2)) v u h k = absurd h
-one_name w p (Some Free) None v u h k = absurd h
-one_name w p (Some Free) (Some Free) v u h k = absurd h
-one_name w p (Some Free) (Some (Near len2 ds2 place2 m2)) v u h k = h.after ∙ sym k.after
-one_name w p (Some Free) (Some (Far len2 ds2 m2)) v u h k = absurd h
-one_name w p (Some (Near len ds place m)) None v u h k = absurd h
-one_name w p (Some (Near len ds place m)) (Some Free) v u h k = absurd h
-one_name w p (Some (Near len ds place m)) (Some (Near len2 ds2 place2 m2)) v u h k = absurd h
-one_name w p (Some (Near len ds place m)) (Some (Far len2 ds2 m2)) v u h k = absurd h
-one_name w p (Some (Far len ds m)) None v u h k = absurd h
-one_name w p (Some (Far len ds m)) (Some Free) v u h k = absurd h
-one_name w p (Some (Far len ds m)) (Some (Near len2 ds2 place2 m2)) v u h k = absurd h
-one_name w p (Some (Far len ds m)) (Some (Far len2 ds2 m2)) v u h k = absurd h
+one_event : (w v u : World) (o : Option Change) → SureOf w o → StepOf o w v → StepOf o w u → v ≡ u
+one_event w v u None sure h k = absurd h
+one_event w v u (Some c) sure h k = changes_are_one w v u c sure h k
 
 pub steps_are_one : StepsAreOne
-steps_are_one w v u (ReadEpoch m) Refused h k = h ∙ sym k
-steps_are_one w v u (ReadEpoch m) Done h k = absurd h
-steps_are_one w v u (ReadEpoch m) (Epoch n) h k = h ∙ sym k
-steps_are_one w v u (ReadEpoch m) (Word y) h k = absurd h
-steps_are_one w v u (ReadEpoch m) (Held place) h k = absurd h
-steps_are_one w v u (Open m) Refused h k = h ∙ sym k
-steps_are_one w v u (Open m) Done h k = h.after ∙ sym k.after
-steps_are_one w v u (Open m) (Epoch n) h k = absurd h
-steps_are_one w v u (Open m) (Word y) h k = absurd h
-steps_are_one w v u (Open m) (Held place) h k = absurd h
-steps_are_one w v u (Pin m p) Refused h k = h ∙ sym k
-steps_are_one w v u (Pin m p) Done h k = absurd h
-steps_are_one w v u (Pin m p) (Epoch n) h k = absurd h
-steps_are_one w v u (Pin m p) (Word y) h k = h ∙ sym k
-steps_are_one w v u (Pin m p) (Held place) h k = h.after ∙ sym k.after
-steps_are_one w v u (Load m p i) Refused h k = h ∙ sym k
-steps_are_one w v u (Load m p i) Done h k = absurd h
-steps_are_one w v u (Load m p i) (Epoch n) h k = absurd h
-steps_are_one w v u (Load m p i) (Word y) h k = h.after ∙ sym k.after
-steps_are_one w v u (Load m p i) (Held place) h k = absurd h
-steps_are_one w v u (Store m p i x) Refused h k = h ∙ sym k
-steps_are_one w v u (Store m p i x) Done h k = one_write w m p i x v u h k
-steps_are_one w v u (Store m p i x) (Epoch n) h k = absurd h
-steps_are_one w v u (Store m p i x) (Word y) h k = absurd h
-steps_are_one w v u (Store m p i x) (Held place) h k = absurd h
-steps_are_one w v u (Close m) Refused h k = h ∙ sym k
-steps_are_one w v u (Close m) Done h k = h.after ∙ sym k.after
-steps_are_one w v u (Close m) (Epoch n) h k = absurd h
-steps_are_one w v u (Close m) (Word y) h k = absurd h
-steps_are_one w v u (Close m) (Held place) h k = absurd h
-steps_are_one w v u (Adopt m p) Refused h k = h ∙ sym k
-steps_are_one w v u (Adopt m p) Done h k = absurd h
-steps_are_one w v u (Adopt m p) (Epoch n) h k = absurd h
-steps_are_one w v u (Adopt m p) (Word y) h k = h ∙ sym k
-steps_are_one w v u (Adopt m p) (Held place) h k = absurd h
-steps_are_one w v u (Put l at x) Refused h k = h ∙ sym k
-steps_are_one w v u (Put l at x) Done h k = h ∙ sym k
-steps_are_one w v u (Put l at x) (Epoch n) h k = absurd h
-steps_are_one w v u (Put l at x) (Word y) h k = absurd h
-steps_are_one w v u (Put l at x) (Held place) h k = absurd h
-steps_are_one w v u (Name p old new) Refused h k = h ∙ sym k
-steps_are_one w v u (Name p old new) Done h k = one_name w p (read_of old) (read_of new) v u h k
-steps_are_one w v u (Name p old new) (Epoch n) h k = absurd h
-steps_are_one w v u (Name p old new) (Word y) h k = h ∙ sym k
-steps_are_one w v u (Name p old new) (Held place) h k = absurd h
+steps_are_one w v u e r sure h k = one_event w v u (change_of e r) sure h k
 
 -- ---- the objects of a core
 held_group : (k : Kind) → (k ≡ kinds.Free → ⊥) → is_group k ≡ true

@@ -1,4 +1,5 @@
 pub mod Agrees
+pub mod Changes
 pub mod CoreState
 pub mod Happens
 pub mod Law
@@ -8,16 +9,20 @@ pub mod LiveLaws
 pub mod Memory
 pub mod Observed
 pub mod Opening
+pub mod Owners
 pub mod Room
 pub mod RoomLaws
+pub mod Rule
 pub mod Runs
 pub mod Shape
 pub mod Spans
 pub mod State
 pub mod Step
 pub mod Told
+pub mod Touch
 pub mod World
 pub mod WorldAgrees
 pub mod WorldLaws
 pub mod WorldOf
 pub mod WorldSteps
+pub mod events

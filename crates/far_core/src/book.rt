@@ -5,14 +5,15 @@ ghost use Rattle.far_core.specs.State.{State};
 ghost use Rattle.far_core.specs.declared.event.Event.{Event};
 ghost use Rattle.far_core.specs.Law.{Law};
 ghost use Rattle.far_core.specs.Step.{step_of, may_stand, goes_at, is_past, taken};
+ghost use Rattle.far_core.specs.events.Mark.{may_mark, is_sealed};
 ghost use Rattle.far_core.specs.Memory.{state_of};
-ghost use Rattle.far_word.specs.Pointer.{IsPtr};
+ghost use Rattle.far_word.specs.Pointer.{IsPtr, read_of};
 ghost use Rattle.far_word.specs.Sizes.{size_of};
 
 use crate::event::{Kind, Reply};
 use crate::memory::Memory;
 use crate::reading::first_word;
-use far_word::{CELLS, HeadWord, LOG_WORDS, Marks, Place, PtrWord, size_of};
+use far_word::{CELLS, HeadWord, LOG_WORDS, Mark, Marks, Place, PtrWord, size_of};
 
 impl Memory {
     pub(crate) fn put(&mut self, log: u8, at: u16, word: u64) -> Reply
@@ -49,6 +50,38 @@ impl Memory {
         }
         self.take(pointer, new, len, place);
         Reply::Done
+    }
+
+    pub(crate) fn see(&self, pointer: u16) -> Reply
+        ensures { (state_of self.now, result) ≡ step_of (state_of self.now) (Event.See pointer) }
+    {
+        if !self.has_pointer(pointer) {
+            return Reply::Refused;
+        }
+        Reply::Word(self.cell(pointer))
+    }
+
+    pub(crate) fn mark(&mut self, pointer: u16) -> Reply
+        ensures { (state_of self.new, result) ≡ step_of (state_of self.old) (Event.Mark pointer) }
+    {
+        let old = self.cell(pointer);
+        if !self.has_pointer(pointer) || !self.may_mark(old) {
+            return Reply::Refused;
+        }
+        self.set_cell(pointer, old | Mark::Evac.mask());
+        Reply::Word(old)
+    }
+
+    /// Whether a cell is near in a sealed log.
+    fn may_mark(&self, cell: u64) -> bool
+        ensures { result ≡ may_mark (state_of self.now) (read_of cell) }
+    {
+        match PtrWord::read(cell) {
+            Some(PtrWord::Near { place, .. }) => {
+                self.has_log(place.log) && is_sealed(self.kind(place.log))
+            }
+            _ => false,
+        }
     }
 
     /// The span at a new place is taken: it ends its log, and its log is the open one.
@@ -93,6 +126,16 @@ fn goes_at(kind: Kind, at: u16, tail: u16) -> bool
         Kind::Free => at == 0,
         Kind::Open => at == tail,
         Kind::Sealed => false,
+    }
+}
+
+/// Whether a log takes no more spans.
+fn is_sealed(kind: Kind) -> bool
+    ensures { result ≡ is_sealed kind }
+{
+    match kind {
+        Kind::Free | Kind::Open => false,
+        Kind::Sealed => true,
     }
 }
 

@@ -59,6 +59,14 @@ pub enum Event {
         old: u64,
         new: u64,
     },
+    /// The cell of a pointer is read. Answers `Word`.
+    See {
+        pointer: u16,
+    },
+    /// A near pointer whose place lies in a sealed log gets EVAC. Answers `Word` with the old word.
+    Mark {
+        pointer: u16,
+    },
 }
 
 /// What an event answers.

@@ -20,7 +20,7 @@ ghost use Rattle.far_core.specs.Told.{AnswersTell};
 ghost use Rattle.far_core.specs.World.{start};
 ghost use Rattle.far_core.specs.WorldAgrees.{ViewRests, MarksAgree, MarksExist};
 ghost use Rattle.far_core.specs.RoomLaws.{RoomIsRight};
-ghost use Rattle.far_core.specs.WorldLaws.{ObjectsStand, StepsKeep, StepsAreOne};
+ghost use Rattle.far_core.specs.WorldLaws.{ObjectsStand, StepsKeep, StepsAreOne, ChangesKeep, ChangesAreOne, EventsCause};
 ghost use Rattle.far_core.specs.WorldOf.{world_of};
 
 use crate::event::Event;
@@ -137,6 +137,9 @@ pub fn opening_is_start(shape: Shape, honest: bool)
 pub fn steps_keep_views()
     ensures keep { StepsKeep }
     ensures one { StepsAreOne }
+    ensures changes { ChangesKeep }
+    ensures one_change { ChangesAreOne }
+    ensures causes { EventsCause }
 {}
 
 /// Whatever an event changes of the words and views, it says so: one shared word at most, and the view of its own mutator

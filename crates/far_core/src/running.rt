@@ -43,6 +43,8 @@ impl Memory {
             Event::Adopt { owner, pointer } => self.adopt(owner, pointer),
             Event::Put { log, at, word } => self.put(log, at, word),
             Event::Name { pointer, old, new } => self.name(pointer, old, new),
+            Event::See { pointer } => self.see(pointer),
+            Event::Mark { pointer } => self.mark(pointer),
         }
     }
 }

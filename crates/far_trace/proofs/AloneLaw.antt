@@ -13,6 +13,7 @@ use Rattle.far_core.specs.Law.{Law}
 use Rattle.far_core.specs.State.{State}
 use Rattle.far_core.specs.Step.{step_of, after, is_legal, named}
 use Rattle.far_core.specs.WorldOf.{world_of}
+use Rattle.far_core.proofs.Left.{events_leave}
 use Rattle.far_trace.specs.Alone.{Own, Knows, Alone, own_of, is_by, speaker}
 use Rattle.far_trace.specs.Answers.{Answered, Commanded}
 use Rattle.far_trace.specs.Command.{Command, Heap, New, Open, Write, Read, Close, Logs}
@@ -24,25 +25,8 @@ use Rattle.far_trace.proofs.AloneNew.{turns_new}
 use Rattle.far_trace.proofs.AloneTurns.{Tells, Turns, turns_open, turns_close, turns_read, turns_write}
 
 -- ---- no event changes how many mutators there are
-named_mutators : (s : State) (p new : ℕ) (o : Option PtrWord) → (named s p new o).mutators ≡ s.mutators
-named_mutators s p new None = refl
-named_mutators s p new (Some pointer.Free) = refl
-named_mutators s p new (Some (Near len ds place m)) = refl
-named_mutators s p new (Some (Far len ds m)) = refl
-
-after_mutators : (s : State) (e : Event) → (after s e).mutators ≡ s.mutators
-after_mutators s (ReadsEpoch m) = refl
-after_mutators s (Opens m) = refl
-after_mutators s (Pins m p) = refl
-after_mutators s (Loads m p i) = refl
-after_mutators s (Stores m p i w) = refl
-after_mutators s (Closes m) = refl
-after_mutators s (Adopts m p) = refl
-after_mutators s (Puts l at w) = refl
-after_mutators s (Names p old new) = cond_both (nat_eq (s.cell p) old) (named s p new (read_of new)) s (λ (x : State). x.mutators ≡ s.mutators) (λ _. named_mutators s p new (read_of new)) (λ _. refl)
-
 step_mutators : (s : State) (e : Event) → (step_of s e).0.mutators ≡ s.mutators
-step_mutators s e = cond_both (is_legal s e) _ _ (λ (x : State × Answer). x.0.mutators ≡ s.mutators) (λ _. after_mutators s e) (λ _. refl)
+step_mutators s e = (events_leave s e).within.rest.0
 
 pub made_mutators : (s : State) (es : List Event) → (made s es).mutators ≡ s.mutators
 made_mutators s [] = refl

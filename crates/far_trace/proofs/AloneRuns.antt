@@ -11,7 +11,7 @@ use Rattle.far_word.specs.declared.pointer.PtrWord.{PtrWord}
 use Rattle.far_word.specs.declared.pointer.PtrWord.TheVariants.{Free, Near, Far}
 use Rattle.far_word.specs.declared.sizes.TheConstants.{CELLS}
 use Rattle.far_core.specs.declared.event.Event.{Event}
-use Rattle.far_core.specs.declared.event.Event.TheVariants.{ReadEpoch, Open, Pin, Load, Store, Close, Adopt, Put, Name}
+use Rattle.far_core.specs.declared.event.Event.TheVariants.{ReadEpoch, Open, Pin, Load, Store, Close, Adopt, Put, Name, See, Mark}
 use Rattle.far_core.specs.declared.event.Reply.{Reply as Answer}
 use Rattle.far_core.specs.declared.event.Reply.TheVariants.{Refused, Done, Epoch, Word, Held}
 use Rattle.far_core.specs.Happens.{Happens, Names}
@@ -82,6 +82,8 @@ IsQuiet (Close m) = ⊥
 IsQuiet (Adopt m p) = Unit {0}
 IsQuiet (Put l at w) = w < 2 ^ 64
 IsQuiet (Name p old new) = ⊥
+IsQuiet (See p) = Unit {0}
+IsQuiet (Mark p) = ⊥
 
 quiet_fits : (e : Event) → IsQuiet e → Fits e
 quiet_fits (ReadEpoch m) q = tt
@@ -93,6 +95,8 @@ quiet_fits (Close m) q = absurd q
 quiet_fits (Adopt m p) q = tt
 quiet_fits (Put l at w) q = q
 quiet_fits (Name p old new) q = absurd q
+quiet_fits (See p) q = tt
+quiet_fits (Mark p) q = absurd q
 
 pub stays_same : (w v : World) → v ≡ w → Same w v
 stays_same w v e = (ap (λ (x : World). x.object) e, ap (λ (x : World). x.opened) e)
@@ -119,6 +123,10 @@ quiet_happens w v (Put l at x) Refused q h = stays_same w v h
 quiet_happens w v (Put l at x) Done q h = stays_same w v h
 quiet_happens w v (Put l at x) r q h = absurd h
 quiet_happens w v (Name p old new) r q h = absurd q
+quiet_happens w v (See p) Refused q h = stays_same w v h
+quiet_happens w v (See p) (Word x) q h = stays_same w v h
+quiet_happens w v (See p) r q h = absurd h
+quiet_happens w v (Mark p) r q h = absurd q
 
 abbrev pub Quiet : List Event → Type 0
 Quiet = Each IsQuiet
@@ -245,3 +253,5 @@ was_legal s e law = cond_both (is_legal s e) (after s e, answer s e) (s, Refused
   no_refusal (Adopt m p) h = h
   no_refusal (Put l at w) h = h
   no_refusal (Name p old new) h = h
+  no_refusal (See p) h = h
+  no_refusal (Mark p) h = h

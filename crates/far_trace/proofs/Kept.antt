@@ -8,7 +8,7 @@ use Rattle.far_word.specs.declared.pointer.PtrWord.TheVariants as pointer
 use Rattle.far_word.specs.declared.pointer.PtrWord.TheVariants.{Near, Far}
 use Rattle.far_word.specs.Pointer.{read_of}
 use Rattle.far_core.specs.declared.event.Event.{Event}
-use Rattle.far_core.specs.declared.event.Event.TheVariants.{ReadEpoch, Open, Pin, Load, Store, Close, Adopt, Put, Name}
+use Rattle.far_core.specs.declared.event.Event.TheVariants.{ReadEpoch, Open, Pin, Load, Store, Close, Adopt, Put, Name, See, Mark}
 use Rattle.far_core.specs.declared.event.Kind.{Kind}
 use Rattle.far_core.specs.declared.event.Kind.TheVariants as kinds
 use Rattle.far_core.specs.declared.event.Reply.{Reply as Answer}
@@ -49,6 +49,8 @@ after_free s (Adopt m p) l h = h
 after_free s (Put k at w) l h = h
 after_free s (Name p old new) l h = cond_both (nat_eq (s.cell p) old) (named s p new (read_of new)) s (λ (x : State). x.kind l ≡ kinds.Free → s.kind l ≡ kinds.Free)
     (λ _ k. named_free s p new (read_of new) l k) (λ _ k. k) h
+after_free s (See p) l h = h
+after_free s (Mark p) l h = h
 
 -- a step leaves no log free that wasn't
 step_free : (s : State) (e : Event) (l : ℕ) → (step_of s e).0.kind l ≡ kinds.Free → s.kind l ≡ kinds.Free

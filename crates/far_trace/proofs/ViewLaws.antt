@@ -11,7 +11,7 @@ use Rattle.far_word.specs.Header.{head_word}
 use Rattle.far_word.specs.Pointer.{read_of}
 use Rattle.far_word.specs.Sizes.{size_of, words_for}
 use Rattle.far_core.specs.declared.event.Event.{Event}
-use Rattle.far_core.specs.declared.event.Event.TheVariants.{ReadEpoch as ReadsEpoch, Open as Opens, Pin as Pins, Load as Loads, Store as Stores, Close as Closes, Adopt as Adopts, Put as Puts, Name as Names}
+use Rattle.far_core.specs.declared.event.Event.TheVariants.{ReadEpoch as ReadsEpoch, Open as Opens, Pin as Pins, Load as Loads, Store as Stores, Close as Closes, Adopt as Adopts, Put as Puts, Name as Names, See as Sees, Mark as Marks}
 use Rattle.far_core.specs.declared.event.Reply.{Reply as Answer}
 use Rattle.far_core.specs.declared.event.Reply.TheVariants.{Refused as Failed}
 use Rattle.far_core.specs.declared.event.Kind.TheVariants as kinds
@@ -20,7 +20,7 @@ use Rattle.far_core.specs.Room.{room}
 use Rattle.far_core.specs.State.{State, put}
 use Rattle.far_core.specs.Step.{step_of, is_legal, after, answer, holding, viewable, pin_answer, Fits}
 use Rattle.far_core.proofs.Keeps.{step_keeps}
-use Rattle.far_core.proofs.Left.{events_leave}
+use Rattle.far_core.proofs.Left.{held_stays}
 use Rattle.far_core.proofs.Put.{put_same, put_other}
 use Rattle.far_trace.specs.Answers.{Answered, Commanded}
 use Rattle.far_trace.specs.Command.{Command, Heap, New, Open, Write, Read, Close, Logs}
@@ -39,7 +39,7 @@ LeavesViews e = ((m p : ℕ) → e ≡ Pins m p → ⊥) × ((m : ℕ) → e ≡
 -- a row of them leaves the views
 row_stays : (s : State) (es : List Event) → Each LeavesViews es → (made s es).held ≡ s.held
 row_stays s [] q = refl
-row_stays s (e ∷ es) q = row_stays (step_of s e).0 es q.1 ∙ fun_ext (λ p. (events_leave s e).held p (q.0.0 (p / CELLS) p) (q.0.1 (p / CELLS)))
+row_stays s (e ∷ es) q = row_stays (step_of s e).0 es q.1 ∙ fun_ext (λ p. held_stays s e p (q.0.0 (p / CELLS) p) (q.0.1 (p / CELLS)))
 
 load : (m p i : ℕ) → LeavesViews (Loads m p i)
 load m p i = ((λ _ _ e. absurd cc), (λ _ e. absurd cc))
@@ -159,6 +159,8 @@ pin_or_not (Closes m) = inr (λ _ _ e. absurd cc)
 pin_or_not (Adopts m p) = inr (λ _ _ e. absurd cc)
 pin_or_not (Puts l at w) = inr (λ _ _ e. absurd cc)
 pin_or_not (Names p old new) = inr (λ _ _ e. absurd cc)
+pin_or_not (Sees p) = inr (λ _ _ e. absurd cc)
+pin_or_not (Marks p) = inr (λ _ _ e. absurd cc)
 
 close_or_not : (e : Event) → ((m : ℕ) × (e ≡ Closes m)) ⊎ ((m : ℕ) → e ≡ Closes m → ⊥)
 close_or_not (ReadsEpoch m) = inr (λ _ e. absurd cc)
@@ -170,6 +172,8 @@ close_or_not (Closes m) = inl (m, refl)
 close_or_not (Adopts m p) = inr (λ _ e. absurd cc)
 close_or_not (Puts l at w) = inr (λ _ e. absurd cc)
 close_or_not (Names p old new) = inr (λ _ e. absurd cc)
+close_or_not (Sees p) = inr (λ _ e. absurd cc)
+close_or_not (Marks p) = inr (λ _ e. absurd cc)
 
 -- what is viewed after a close was viewed before it
 close_back : (s : State) (m p : ℕ) (place : Place) → (step_of s (Closes m)).0.held p ≡ Some place → s.held p ≡ Some place
@@ -180,7 +184,7 @@ close_back s m p place = cond_both (is_legal s (Closes m)) (after s (Closes m), 
 step_back : (s : State) (e : Event) → NoPin e → (p : ℕ) (place : Place) → (step_of s e).0.held p ≡ Some place → s.held p ≡ Some place
 step_back s e none p place h = elim (close_or_not e) [
   | inl close ↦ close_back s close.0 p place (ap (λ x. (step_of s x).0.held p) (sym close.1) ∙ h)
-  | inr other ↦ sym ((events_leave s e).held p (none (p / CELLS) p) (other (p / CELLS))) ∙ h
+  | inr other ↦ sym (held_stays s e p (none (p / CELLS) p) (other (p / CELLS))) ∙ h
 ]
 
 row_back : (s : State) (es : List Event) → Each NoPin es → (p : ℕ) (place : Place) → (made s es).held p ≡ Some place → s.held p ≡ Some place

@@ -18,7 +18,8 @@ use Rattle.far_core.specs.Spans.{names_place}
 use Rattle.far_core.specs.State.{State}
 use Rattle.far_core.specs.Step.{is_legal, is_opened, near_data, near_len, data_len, viewable, pinned, holding, pin_answer}
 use Rattle.far_core.proofs.Cells.{with_mark, held_near, unused}
-use Rattle.far_core.proofs.KeepOwner.{hot_read, nonzero, keeps_pin, at_cell}
+use Rattle.far_core.proofs.KeepOwner.{hot_read, nonzero, at_cell}
+use Rattle.far_core.proofs.events.Pin.{keeps_pin}
 use Rattle.far_core.proofs.LegalTest.{is_test, open_fact}
 use Rattle.far_core.proofs.Put.{put_both, put_same}
 use Rattle.far_trace.specs.Made.{made, Succeeds, AllSucceed, AtHand}

@@ -1,0 +1,83 @@
+-- The law where some functions of a state change and no others: what is left to show.
+use Rattle.std.proofs.Common.{◌≡◌, ◌≢◌, ℕ, ◌*◌, ◌/◌, ◌<◌, ◌≤◌, ◌^◌, Bool, true, false, sym, refl, ap, ◌∙◌, Option, Some}
+use Rattle.std.specs.Prelude.{IsSome}
+use Rattle.far_word.specs.declared.mark.Marks.{Marks}
+use Rattle.far_word.specs.declared.pointer.Place.{Place}
+use Rattle.far_word.specs.declared.pointer.PtrWord.{PtrWord}
+use Rattle.far_word.specs.declared.pointer.PtrWord.TheVariants.{Free, Near, Far}
+use Rattle.far_word.specs.declared.sizes.TheConstants.{CELLS}
+use Rattle.far_word.specs.Pointer.{read_of}
+use Rattle.far_core.specs.Law.{Law, ScopeLaw, ViewLaw, BlankLaw, NamesBack, IsBlank, held_place, in_use}
+use Rattle.far_core.specs.State.{State, put}
+use Rattle.far_core.proofs.Cells.{unused, Heads-same, Blank-same}
+use Rattle.far_core.proofs.Put.{put_both}
+
+-- scopes and owners' views
+pub law_with_owners : (s : State) (scope : ℕ → ℕ) (remembered : ℕ → Option ℕ) (used : ℕ → Bool) (held : ℕ → Option Place) → Law s →
+    ScopeLaw s.mutators s.epoch scope remembered → ViewLaw s.cell scope used held → BlankLaw s.honest s.cell s.word used →
+    Law record s { scope = scope; remembered = remembered; used = used; held = held }
+law_with_owners s scope remembered used held law scopes views blanks =
+    record { shape = law.shape; cells = law.cells; spans = law.spans; logs = law.logs; scopes = scopes; views = views; rounds = law.rounds; unadopted = blanks }
+
+-- what owners remember
+pub law_with_remembered : (s : State) (remembered : ℕ → Option ℕ) → Law s → ((m e : ℕ) → remembered m ≡ Some e → e ≤ s.epoch) → Law record s { remembered = remembered }
+law_with_remembered s remembered law bound =
+    let c = law.scopes in
+    law_with_owners s s.scope remembered s.used s.held law
+    (record { scope_read = c.scope_read; scope_range = c.scope_range; epoch_below = c.epoch_below; open_bound = c.open_bound; remembered_bound = bound }) law.views law.unadopted
+
+-- what owners hold
+pub law_with_held : (s : State) (held : ℕ → Option Place) → Law s → ((p : ℕ) → IsSome (held p) → (s.scope (p / CELLS) ≢ 0) × (s.used p ≡ true)) →
+    ((p : ℕ) (place : Place) → held p ≡ Some place → held_place (read_of (s.cell p)) ≡ Some place) → Law record s { held = held }
+law_with_held s held law ready names = law_with_owners s s.scope s.remembered s.used held law law.scopes
+    (record { held_open = λ p h. (ready p h).0; held_names = names; held_used = λ p h. (ready p h).1; used_cell = law.views.used_cell }) law.unadopted
+
+-- a near cell with other marks: DROP may come, and doesn't go
+pub record Remarked (o n : Option PtrWord) : Type 0 where
+  pub len : ℕ
+  pub ds : ℕ
+  pub place : Place
+  pub old : Marks
+  pub new : Marks
+  pub before : o ≡ Some (Near len ds place old)
+  pub now : n ≡ Some (Near len ds place new)
+  pub kept : new.dropped ≡ false → old.dropped ≡ false
+
+module _ (s : State) (law : Law s) (p w : ℕ) (fits : w < 2 ^ 64) (r : Remarked (read_of (s.cell p)) (read_of w))
+    (held : (place : Place) → s.held p ≡ Some place → held_place (read_of w) ≡ Some place) (live : s.used p ≡ true → in_use (read_of w) ≡ true) where
+  nonzero : s.cell p ≢ 0
+  nonzero e = let odd : Some Free ≡ Some (Near r.len r.ds r.place r.old) = sym unused ∙ ap read_of (sym e) ∙ r.before in cc
+
+  named : (q : ℕ) → q ≡ p → NamesBack s.word s.starts q (read_of w)
+  named q e n d at k is =
+      let same : Some (Near r.len r.ds r.place r.new) ≡ Some (Near n d at k) = sym r.now ∙ is in
+      Heads-same s.word s.starts q r.len r.ds n d r.place at (cc) (cc) (cc) (law.cells.cell_near q r.len r.ds r.place r.old (ap (λ x. read_of (s.cell x)) e ∙ r.before))
+
+  blank : s.honest ≡ true → s.used p ≡ false → IsBlank s.word (read_of w)
+  blank honest free n d at k is whole =
+      let same : Some (Near r.len r.ds r.place r.new) ≡ Some (Near n d at k) = sym r.now ∙ is in
+      let drop : r.new.dropped ≡ k.dropped = cc in
+      Blank-same s.word r.len n r.place at (cc) (cc) (law.unadopted honest p free r.len r.ds r.place r.old r.before (r.kept (drop ∙ whole)))
+
+  pub law_with_cell_marks : Law record s { cell = put s.cell p w }
+  law_with_cell_marks = record {
+    shape = law.shape;
+    cells = record {
+      cell_read = λ q. put_both (λ x. (x < 2 ^ 64) × IsSome (read_of x)) s.cell p w q (λ _. (fits, rw r.now refl)) (λ _. law.cells.cell_read q);
+      cell_range = λ q. put_both (λ x. x ≢ 0 → q < CELLS * s.mutators) s.cell p w q (λ e _. rw e (law.cells.cell_range p nonzero)) (λ _. law.cells.cell_range q);
+      cell_near = λ q. put_both (λ x. NamesBack s.word s.starts q (read_of x)) s.cell p w q (named q) (λ _. law.cells.cell_near q);
+      none_far = λ q n d k. put_both (λ x. read_of x ≡ Some (Far n d k) → ⊥) s.cell p w q
+          (λ _ is. let odd : Some (Near r.len r.ds r.place r.new) ≡ Some (Far n d k) = sym r.now ∙ is in cc) (λ _. law.cells.none_far q n d k);
+    };
+    spans = law.spans;
+    logs = law.logs;
+    scopes = law.scopes;
+    views = record {
+      held_open = law.views.held_open;
+      held_names = λ q at h. put_both (λ x. held_place (read_of x) ≡ Some at) s.cell p w q (λ e. held at (ap s.held (sym e) ∙ h)) (λ _. law.views.held_names q at h);
+      held_used = law.views.held_used;
+      used_cell = λ q h. put_both (λ x. in_use (read_of x) ≡ true) s.cell p w q (λ e. live (ap s.used (sym e) ∙ h)) (λ _. law.views.used_cell q h);
+    };
+    rounds = law.rounds;
+    unadopted = λ honest q free. put_both (λ x. IsBlank s.word (read_of x)) s.cell p w q (λ e. blank honest (ap s.used (sym e) ∙ free)) (λ _. law.unadopted honest q free);
+  }

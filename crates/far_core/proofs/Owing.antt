@@ -1,0 +1,59 @@
+-- What every event owes, by its own file; and what follows of any event.
+use Rattle.std.proofs.Common.{◌≡◌, true}
+use Rattle.far_core.specs.declared.event.Event.{Event}
+use Rattle.far_core.specs.declared.event.Event.TheVariants.{ReadEpoch, Open, Pin, Load, Store, Close, Adopt, Put, Name, See, Mark}
+use Rattle.far_core.specs.declared.event.Reply.TheVariants.{Refused}
+use Rattle.far_core.specs.Happens.{Happens}
+use Rattle.far_core.specs.Law.{Law}
+use Rattle.far_core.specs.Legal.{Legal}
+use Rattle.far_core.specs.State.{State}
+use Rattle.far_core.specs.Step.{is_legal, after, answer, Fits}
+use Rattle.far_core.specs.Told.{AnswersTell}
+use Rattle.far_core.specs.WorldOf.{world_of}
+use Rattle.far_core.proofs.Owed.{Owed}
+use Rattle.far_core.proofs.events.ReadEpoch.{read_epoch_owed}
+use Rattle.far_core.proofs.events.Open.{open_owed}
+use Rattle.far_core.proofs.events.Pin.{pin_owed}
+use Rattle.far_core.proofs.events.Load.{load_owed}
+use Rattle.far_core.proofs.events.Store.{store_owed}
+use Rattle.far_core.proofs.events.Close.{close_owed}
+use Rattle.far_core.proofs.events.Adopt.{adopt_owed}
+use Rattle.far_core.proofs.events.Put.{put_owed}
+use Rattle.far_core.proofs.events.Name.{name_owed}
+use Rattle.far_core.proofs.events.See.{see_owed}
+use Rattle.far_core.proofs.events.Mark.{mark_owed}
+
+pub owed : (e : Event) → Owed e
+owed (ReadEpoch m) = read_epoch_owed m
+owed (Open m) = open_owed m
+owed (Pin m p) = pin_owed m p
+owed (Load m p i) = load_owed m p i
+owed (Store m p i w) = store_owed m p i w
+owed (Close m) = close_owed m
+owed (Adopt m p) = adopt_owed m p
+owed (Put l at w) = put_owed l at w
+owed (Name p old new) = name_owed p old new
+owed (See p) = see_owed p
+owed (Mark p) = mark_owed p
+
+-- what passes the test is legal
+pub is_fact : (s : State) (e : Event) → Law s → is_legal s e ≡ true → Legal s e
+is_fact s e = (owed e).fact s
+
+-- what is legal passes the test
+pub is_test : (s : State) (e : Event) → Legal s e → is_legal s e ≡ true
+is_test s e = (owed e).test s
+
+-- every legal event keeps the law
+pub keeps : (s : State) (e : Event) → Law s → Fits e → Legal s e → Law (after s e)
+keeps s e = (owed e).keeps s
+
+pub does : (s : State) (e : Event) → Law s → Fits e → Legal s e → Happens (world_of s) e (answer s e) (world_of (after s e))
+does s e = (owed e).does s
+
+pub answers_tell : (s : State) → Law s → AnswersTell s
+answers_tell s law e = (owed e).tells s law
+
+-- a legal event isn't answered Refused
+pub never_refused : (s : State) (e : Event) → answer s e ≡ Refused → ⊥
+never_refused s e = (owed e).answers s

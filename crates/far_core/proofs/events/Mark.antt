@@ -1,0 +1,125 @@
+-- What the event Mark owes.
+use Rattle.std.proofs.Common.{inl, inr, ◌≡◌, ◌*◌, ◌<◌, ◌^◌, ◌∙◌, ℕ, Bool, true, false, cond, arith, ap, refl, sym, subst, nat_lt, bit_or, Option, Some, None}
+use Rattle.std.specs.Prelude.{◌||◌, ◌&&◌, not, is_some}
+use Rattle.std.proofs.lemmas.Bool.{false≢true}
+use Rattle.std.proofs.lemmas.Bool.Decides.{nat_tests}
+use mathlib.Core.Path.{fun_ext}
+use Rattle.far_word.specs.declared.mark.Mark.TheVariants.{Evac}
+use Rattle.far_word.specs.declared.pointer.PtrWord.{PtrWord}
+use Rattle.far_word.specs.declared.pointer.PtrWord.TheVariants.{Free, Near, Far}
+use Rattle.far_word.specs.declared.sizes.TheConstants.{CELLS}
+use Rattle.far_word.specs.Mark.{position, with}
+use Rattle.far_word.specs.Pointer.{read_of}
+use Rattle.far_word.proofs.PointerLaws.{marked_read, marked_fits}
+use Rattle.far_core.specs.declared.event.Event.TheVariants.{Mark}
+use Rattle.far_core.specs.declared.event.Kind.{Kind}
+use Rattle.far_core.specs.declared.event.Kind.TheVariants as kinds
+use Rattle.far_core.specs.events.Mark.{may_mark, is_sealed, IsSealedNear}
+use Rattle.far_core.specs.Law.{Law, held_place, in_use}
+use Rattle.far_core.specs.State.{State, put}
+use Rattle.far_core.specs.Step.{change_of}
+use Rattle.far_core.specs.World.{Object}
+use Rattle.far_core.specs.WorldLaws.{Caused}
+use Rattle.far_core.specs.WorldOf.{world_of, object_of, is_marked}
+use Rattle.far_core.specs.WorldSteps as world
+use Rattle.far_core.proofs.Cells.{with_mark}
+use Rattle.far_core.proofs.Frames.{Remarked, law_with_cell_marks}
+use Rattle.far_core.proofs.Owed.{Owed, replies}
+use Rattle.far_core.proofs.Put.{put_both, put_same}
+use Rattle.far_core.proofs.Touching.{touched, one_cell}
+use Rattle.far_core.proofs.Worlds.{World-ext}
+
+abbrev evac : ℕ → ℕ
+evac w = bit_or w (2 ^ position Evac)
+
+-- ---- the guard
+sealed_fact : (k : Kind) → is_sealed k ≡ true → k ≡ kinds.Sealed
+sealed_fact kinds.Free h = absurd (false≢true h)
+sealed_fact kinds.Open h = absurd (false≢true h)
+sealed_fact kinds.Sealed h = refl
+
+near_fact : (s : State) (p : ℕ) (o : Option PtrWord) → read_of (s.cell p) ≡ o → may_mark s o ≡ true → IsSealedNear s p
+near_fact s p None e h = absurd (false≢true h)
+near_fact s p (Some Free) e h = absurd (false≢true h)
+near_fact s p (Some (Near len ds place m)) e h = (len, ds, place, m, e, grind (arith, nat_tests), sealed_fact _ (grind (arith, nat_tests)))
+near_fact s p (Some (Far len ds m)) e h = absurd (false≢true h)
+
+near_test : (s : State) (p : ℕ) → IsSealedNear s p → may_mark s (read_of (s.cell p)) ≡ true
+near_test s p (len, ds, place, m, e, low, shut) =
+    let a : nat_lt place.log s.logs ≡ true = grind (arith, nat_tests) in
+    rw (e, a, shut) refl
+
+-- ---- what EVAC leaves as it is
+read_evac : (s : State) (w : ℕ) (o : Option PtrWord) → w < 2 ^ 64 → read_of w ≡ o → may_mark s o ≡ true → (read_of (evac w) ≡ with_mark Evac o) × (evac w < 2 ^ 64) × Remarked o (with_mark Evac o)
+read_evac s w None fits e h = absurd (false≢true h)
+read_evac s w (Some Free) fits e h = absurd (false≢true h)
+read_evac s w (Some (Near len ds place m)) fits e h = (
+  marked_read Evac w (Near len ds place m) fits e refl,
+  marked_fits Evac w (Near len ds place m) fits e refl,
+  record { len = len; ds = ds; place = place; old = m; new = with Evac m; before = refl; now = refl; kept = λ x. x },
+)
+read_evac s w (Some (Far len ds m)) fits e h = absurd (false≢true h)
+
+held_place-evac : (o : Option PtrWord) → held_place (with_mark Evac o) ≡ held_place o
+held_place-evac None = refl
+held_place-evac (Some Free) = refl
+held_place-evac (Some (Near len ds place m)) = refl
+held_place-evac (Some (Far len ds m)) = refl
+
+in_use-evac : (o : Option PtrWord) → in_use (with_mark Evac o) ≡ in_use o
+in_use-evac None = refl
+in_use-evac (Some Free) = refl
+in_use-evac (Some (Near len ds place m)) = refl
+in_use-evac (Some (Far len ds m)) = refl
+
+-- ---- the world
+object_of-evac : (f g : ℕ → ℕ) (p : ℕ) (o : Option PtrWord) → object_of f g p (with_mark Evac o) ≡ object_of f g p o
+object_of-evac f g p None = refl
+object_of-evac f g p (Some Free) = refl
+object_of-evac f g p (Some (Near len ds place m)) = refl
+object_of-evac f g p (Some (Far len ds m)) = refl
+
+at_drop : (d e v : Bool) (x : Object) → (not d && (true || v)) ≡ (is_some (cond d None (Some x)) || (not d && (e || v)))
+at_drop true e v x = refl
+at_drop false e v x = refl
+
+is_marked-evac : (s : State) (f g : ℕ → ℕ) (p : ℕ) (o : Option PtrWord) → may_mark s o ≡ true → is_marked (with_mark Evac o) ≡ (is_some (object_of f g p o) || is_marked o)
+is_marked-evac s f g p None h = absurd (false≢true h)
+is_marked-evac s f g p (Some Free) h = absurd (false≢true h)
+is_marked-evac s f g p (Some (Near len ds place m)) h = at_drop m.dropped m.evac m.moved _
+is_marked-evac s f g p (Some (Far len ds m)) h = absurd (false≢true h)
+
+chosen : (b : Bool) (new old : ℕ) (x : Bool) → is_marked (read_of new) ≡ x → is_marked (read_of (cond b new old)) ≡ cond b x (is_marked (read_of old))
+chosen true new old x e = e
+chosen false new old x e = refl
+
+mark_marks : (s : State) (p new : ℕ) → read_of new ≡ with_mark Evac (read_of (s.cell p)) → may_mark s (read_of (s.cell p)) ≡ true → world.Marks (world_of s) p (world_of record s { cell = put s.cell p new })
+unfolding world_of
+mark_marks s p new says h = World-ext _ _
+    (fun_ext (λ q. put_both (λ w. object_of s.word (s.stored q) q (read_of w) ≡ object_of s.word (s.stored q) q (read_of (s.cell q))) s.cell p new q
+    (λ e. ap (object_of s.word (s.stored q) q) says ∙ object_of-evac s.word (s.stored q) q _ ∙ ap (λ r. object_of s.word (s.stored q) q (read_of (s.cell r))) (sym e)) (λ _. refl)))
+    refl refl
+    (fun_ext (λ q. chosen _ new (s.cell q) _ (ap is_marked says ∙ is_marked-evac s s.word (s.stored p) p _ h)))
+    refl refl
+
+-- ---- what the event owes
+module _ (p : ℕ) where
+  keeps_mark : (s : State) → Law s → may_mark s (read_of (s.cell p)) ≡ true → Law record s { cell = put s.cell p (evac (s.cell p)) }
+  keeps_mark s law h =
+      let x = read_evac s (s.cell p) _ (law.cells.cell_read p).0 refl h in
+      law_with_cell_marks s law p _ x.1 (subst (λ o. Remarked (read_of (s.cell p)) o) (sym x.0) x.2)
+      (λ place k. ap held_place x.0 ∙ held_place-evac _ ∙ law.views.held_names p place k) (λ k. ap in_use x.0 ∙ in_use-evac _ ∙ law.views.used_cell p k)
+
+  pub mark_owed : Owed (Mark p)
+  mark_owed = record {
+    fact = λ s law h. (grind (arith, nat_tests), near_fact s p (read_of (s.cell p)) refl (grind (arith, nat_tests)));
+    test = λ s h. let low : p < CELLS * s.mutators = h.0 in let a : nat_lt p (CELLS * s.mutators) ≡ true = grind (arith, nat_tests) in rw (a, near_test s p h.1) refl;
+    keeps = λ s law fits h. keeps_mark s law (near_test s p h.1);
+    does = λ s law fits h. mark_marks s p _ (read_evac s (s.cell p) _ (law.cells.cell_read p).0 refl (near_test s p h.1)).0 (near_test s p h.1);
+    within = λ s. touched (one_cell s.epoch s.scope s.cell s.word p _) (λ k a b. refl) (λ q a. refl) (λ q a b. refl);
+    part = λ s h. tt;
+    word = λ s h. inr (inl refl);
+    tells = λ s law h. (refl, λ v e. ap read_of (put_same s.cell p (evac (s.cell p)) p refl) ∙ (read_evac s (s.cell p) _ (law.cells.cell_read p).0 refl (near_test s p h.1)).0 ∙ ap (with_mark Evac) e);
+    answers = λ s x. cc;
+    causes = replies (λ r. Caused (Mark p) (change_of (Mark p) r)) tt tt (λ n. tt) (λ x. refl) (λ place. tt);
+  }

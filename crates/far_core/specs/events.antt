@@ -1,0 +1,11 @@
+pub mod Adopt
+pub mod Close
+pub mod Load
+pub mod Mark
+pub mod Name
+pub mod Open
+pub mod Pin
+pub mod Put
+pub mod ReadEpoch
+pub mod See
+pub mod Store

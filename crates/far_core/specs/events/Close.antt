@@ -1,0 +1,39 @@
+-- An open owner closes its scope.
+use Rattle.std.specs.Prelude.{◌≡◌, ◌/◌, ◌==◌, ℕ, cond, None, Some, Option}
+use Rattle.far_word.specs.declared.sizes.TheConstants.{CELLS}
+use Rattle.far_core.specs.declared.event.Reply.{Reply}
+use Rattle.far_core.specs.declared.event.Reply.TheVariants.{Done}
+use Rattle.far_core.specs.State.{State, put}
+use Rattle.far_core.specs.Touch.{ScopeAt, LetsGo}
+use Rattle.far_core.specs.Changes.{Change}
+use Rattle.far_core.specs.Changes as change
+use Rattle.far_core.specs.Rule.{Form, Rule}
+use Rattle.far_core.specs.Owners.{is_opened, IsOpen}
+
+abbrev pub closed : State → ℕ → State
+closed s m = record s {
+  scope = put s.scope m 0;
+  remembered = put s.remembered m None;
+  held = λ p. cond (p / CELLS == m) None (s.held p);
+}
+
+abbrev pub CloseTells : State → ℕ → Reply → State → Type 0
+CloseTells s m Done t = (t.scope m ≡ 0) × (t.remembered m ≡ None)
+CloseTells s m r t = Unit {0}
+
+abbrev pub close_rule : State → ℕ → Rule
+close_rule s m = record {
+  test = is_opened s m;
+  after = closed s m;
+  answer = Done;
+  Legal = IsOpen s m;
+  Tells = CloseTells s m;
+  touches = record { word = Some (ScopeAt m); part = LetsGo m };
+}
+
+abbrev pub close_change : ℕ → Reply → Option Change
+close_change m Done = Some (change.Closes m)
+close_change m r = None
+
+abbrev pub close_form : ℕ → Form
+close_form m = record { Fits = Unit {0}; change = close_change m }

@@ -1,0 +1,28 @@
+-- An owner reads a word of an object that it holds.
+use Rattle.std.specs.Prelude.{◌&&◌, ℕ, nat_lt, None, Option, Some}
+use Rattle.far_word.specs.Sizes.{words_for}
+use Rattle.far_core.specs.declared.event.Reply.TheVariants.{Word}
+use Rattle.far_core.specs.declared.event.Reply.{Reply}
+use Rattle.far_core.specs.State.{State}
+use Rattle.far_core.specs.Touch.{NoPart}
+use Rattle.far_core.specs.Changes.{Change}
+use Rattle.far_core.specs.Changes as change
+use Rattle.far_core.specs.Rule.{Form, Rule, Nothing}
+use Rattle.far_core.specs.Owners.{holds, data_len, data_word, HoldsWord}
+
+abbrev pub load_rule : State → ℕ → ℕ → ℕ → Rule
+load_rule s m p i = record {
+  test = holds s m p && nat_lt i (words_for (data_len s p));
+  after = s;
+  answer = Word (s.word (data_word s p i));
+  Legal = (len : ℕ) × HoldsWord s m p i len;
+  Tells = Nothing;
+  touches = record { word = None; part = NoPart };
+}
+
+abbrev pub load_change : ℕ → ℕ → ℕ → Reply → Option Change
+load_change m p i (Word x) = Some (change.Reads m p i x)
+load_change m p i r = None
+
+abbrev pub load_form : ℕ → ℕ → ℕ → Form
+load_form m p i = record { Fits = Unit {0}; change = load_change m p i }

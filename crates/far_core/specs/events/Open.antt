@@ -1,0 +1,39 @@
+-- A closed owner that has read an epoch opens its scope at it.
+use Rattle.std.specs.Prelude.{◌≡◌, ◌+◌, ◌*◌, ◌&&◌, ℕ, Option, Some, None, is_some, IsSome}
+use Rattle.far_word.specs.Scope.{scope_word}
+use Rattle.far_core.specs.declared.event.Reply.{Reply}
+use Rattle.far_core.specs.declared.event.Reply.TheVariants.{Done}
+use Rattle.far_core.specs.State.{State, put}
+use Rattle.far_core.specs.Touch.{ScopeAt, NoPart}
+use Rattle.far_core.specs.Changes.{Change}
+use Rattle.far_core.specs.Changes as change
+use Rattle.far_core.specs.Rule.{Form, Rule}
+use Rattle.far_core.specs.Owners.{is_closed, IsClosed}
+use Rattle.far_word.specs.declared.scope.ScopeWord.TheVariants as scoped
+
+-- the state after a legal event
+-- the scope word at the epoch that was read
+abbrev pub opened_at : Option ℕ → ℕ
+opened_at None = 0
+opened_at (Some e) = 2 * e + 1
+
+abbrev pub OpenTells : State → ℕ → Reply → State → Type 0
+OpenTells s m Done t = (e : ℕ) × (s.remembered m ≡ Some e) × (t.scope m ≡ scope_word (scoped.Open e))
+OpenTells s m r t = Unit {0}
+
+abbrev pub open_rule : State → ℕ → Rule
+open_rule s m = record {
+  test = is_closed s m && is_some (s.remembered m);
+  after = record s { scope = put s.scope m (opened_at (s.remembered m)) };
+  answer = Done;
+  Legal = IsClosed s m × IsSome (s.remembered m);
+  Tells = OpenTells s m;
+  touches = record { word = Some (ScopeAt m); part = NoPart };
+}
+
+abbrev pub open_change : ℕ → Reply → Option Change
+open_change m Done = Some (change.Opens m)
+open_change m r = None
+
+abbrev pub open_form : ℕ → Form
+open_form m = record { Fits = Unit {0}; change = open_change m }

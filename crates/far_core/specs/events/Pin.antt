@@ -1,0 +1,67 @@
+-- An owner sets HOT, and holds the place where it may.
+use Rattle.std.specs.Prelude.{◌≡◌, ◌/◌, ◌^◌, ◌==◌, ◌&&◌, ◌||◌, ℕ, true, not, Option, Some, None, bit_or, is_some}
+use Rattle.far_word.specs.declared.mark.Marks.{Marks}
+use Rattle.far_word.specs.declared.pointer.Place.{Place}
+use Rattle.far_word.specs.declared.pointer.PtrWord.{PtrWord}
+use Rattle.far_word.specs.declared.pointer.PtrWord.TheVariants.{Near}
+use Rattle.far_word.specs.declared.mark.Mark.TheVariants.{Hot}
+use Rattle.far_word.specs.declared.sizes.TheConstants.{CELLS}
+use Rattle.far_word.specs.Mark.{position}
+use Rattle.far_word.specs.Pointer.{read_of, view_place, marked}
+use Rattle.far_core.specs.declared.event.Reply.{Reply}
+use Rattle.far_core.specs.declared.event.Reply.TheVariants.{Word, Held}
+use Rattle.far_core.specs.State.{State, put}
+use Rattle.far_core.specs.Touch.{CellAt, Rests}
+use Rattle.far_core.specs.Changes.{Change}
+use Rattle.far_core.specs.Changes as change
+use Rattle.far_core.specs.Rule.{Form, Rule}
+use Rattle.far_core.specs.Owners.{is_opened, IsOpen}
+
+-- where a view may rest, it is held from then on
+abbrev pub holding : (ℕ → Option Place) → ℕ → Option Place → ℕ → Option Place
+holding held p None = held
+holding held p (Some place) = put held p (Some place)
+
+-- where a new view of a cell may rest
+abbrev pub viewable : Option PtrWord → Option Place
+viewable None = None
+viewable (Some v) = view_place v
+
+abbrev pub pinned : State → ℕ → State
+pinned s p = record s {
+  cell = put s.cell p (bit_or (s.cell p) (2 ^ position Hot));
+  held = holding s.held p (viewable (read_of (s.cell p)));
+}
+
+-- what a legal event answers
+abbrev pub pin_answer : ℕ → Option Place → Reply
+pin_answer w None = Word w
+pin_answer w (Some place) = Held place
+
+-- HOT is set on what was read
+abbrev pub GotHot : ℕ → ℕ → Type 0
+GotHot old new = (v : PtrWord) → read_of old ≡ Some v → read_of new ≡ Some (marked Hot v)
+
+abbrev pub PinTells : State → ℕ → ℕ → Reply → State → Type 0
+PinTells s m p (Held place) t = (t.held p ≡ Some place) × GotHot (s.cell p) (t.cell p)
+PinTells s m p (Word w) t = (w ≡ s.cell p) × (t.held p ≡ None) × GotHot (s.cell p) (t.cell p)
+    × ((len ds : ℕ) (place : Place) (k : Marks) → read_of w ≡ Some (Near len ds place k) → (k.evac || k.moved || k.dropped) ≡ true)
+PinTells s m p r t = Unit {0}
+
+abbrev pub pin_rule : State → ℕ → ℕ → Rule
+pin_rule s m p = record {
+  test = is_opened s m && (p / CELLS == m) && s.used p && not (is_some (s.held p));
+  after = pinned s p;
+  answer = pin_answer (s.cell p) (viewable (read_of (s.cell p)));
+  Legal = IsOpen s m × (p / CELLS ≡ m) × (s.used p ≡ true) × (s.held p ≡ None);
+  Tells = PinTells s m p;
+  touches = record { word = Some (CellAt p); part = Rests p };
+}
+
+abbrev pub pin_change : ℕ → ℕ → Reply → Option Change
+pin_change m p (Held place) = Some (change.Views m p)
+pin_change m p (Word x) = Some change.Stays
+pin_change m p r = None
+
+abbrev pub pin_form : ℕ → ℕ → Form
+pin_form m p = record { Fits = Unit {0}; change = pin_change m p }

@@ -1,0 +1,28 @@
+-- An owner writes a word of an object that it holds.
+use Rattle.std.specs.Prelude.{◌-◌, ◌*◌, ◌^◌, ◌<◌, ◌&&◌, ℕ, nat_lt, Some, Option, None}
+use Rattle.far_word.specs.Sizes.{words_for}
+use Rattle.far_core.specs.declared.event.Reply.TheVariants.{Done}
+use Rattle.far_core.specs.declared.event.Reply.{Reply}
+use Rattle.far_core.specs.State.{State, put}
+use Rattle.far_core.specs.Touch.{WordAt, NoPart}
+use Rattle.far_core.specs.Changes.{Change}
+use Rattle.far_core.specs.Changes as change
+use Rattle.far_core.specs.Rule.{Form, Rule, Nothing}
+use Rattle.far_core.specs.Owners.{holds, data_len, data_word, keeps_padding, HoldsWord}
+
+abbrev pub store_rule : State → ℕ → ℕ → ℕ → ℕ → Rule
+store_rule s m p i w = record {
+  test = holds s m p && nat_lt i (words_for (data_len s p)) && keeps_padding (data_len s p) i w;
+  after = record s { word = put s.word (data_word s p i) w };
+  answer = Done;
+  Legal = (len : ℕ) × HoldsWord s m p i len × (w < 2 ^ (8 * (len - 8 * i)));
+  Tells = Nothing;
+  touches = record { word = Some (WordAt (data_word s p i)); part = NoPart };
+}
+
+abbrev pub store_change : ℕ → ℕ → ℕ → ℕ → Reply → Option Change
+store_change m p i w Done = Some (change.Writes m p i w)
+store_change m p i w r = None
+
+abbrev pub store_form : ℕ → ℕ → ℕ → ℕ → Form
+store_form m p i w = record { Fits = w < 2 ^ 64; change = store_change m p i w }
