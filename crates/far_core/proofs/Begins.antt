@@ -11,9 +11,9 @@ use Rattle.far_word.specs.declared.sizes.TheConstants.{MOST_LOGS, MOST_MUTATORS}
 use Rattle.far_word.specs.Scope.{epoch_end}
 use Rattle.far_core.specs.declared.event.Kind.TheVariants.{Free, Open}
 use Rattle.far_core.specs.declared.shape.Shape.{Shape}
-use Rattle.far_core.specs.Law.{Law}
-use Rattle.far_core.specs.Opening.{opening}
-use Rattle.far_core.specs.Shape.{is_shape}
+use Rattle.far_core.specs.state.Law.{Law}
+use Rattle.far_core.specs.state.Opening.{opening}
+use Rattle.far_core.specs.state.Shape.{is_shape}
 use Rattle.far_core.proofs.Cells.{unused}
 use Rattle.far_core.proofs.KeepOwner.{closed_word}
 use Rattle.far_core.proofs.Put.{put_both}

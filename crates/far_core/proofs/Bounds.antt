@@ -15,9 +15,9 @@ use Rattle.far_word.specs.Header.{head_of, head_word}
 use Rattle.far_word.specs.Pointer.{read_of}
 use Rattle.far_word.proofs.PointerLaws.{read_says}
 use Rattle.far_word.proofs.HeaderLaws.{head_back}
-use Rattle.far_core.specs.Law.{Law, head_len}
-use Rattle.far_core.specs.State.{State, addr}
-use Rattle.far_core.specs.Step.{holds, data_len, data_word, near_len, near_data}
+use Rattle.far_core.specs.state.Law.{Law, head_len}
+use Rattle.far_core.specs.state.State.{State, addr}
+use Rattle.far_core.specs.events.Step.{holds, data_len, data_word, near_len, near_data}
 use Rattle.far_core.proofs.Cells.{held_near}
 use Rattle.far_core.proofs.KeepPlace.{header}
 

@@ -12,9 +12,9 @@ use Rattle.far_word.specs.Header.{head_word}
 use Rattle.far_word.specs.Mark.{position}
 use Rattle.far_word.specs.Pointer.{read_of, takes, marked}
 use Rattle.far_word.proofs.PointerLaws.{marked_read, marked_fits}
-use Rattle.far_core.specs.Law.{Heads, held_place, in_use, Blank}
-use Rattle.far_core.specs.State.{addr}
-use Rattle.far_core.specs.Step.{viewable}
+use Rattle.far_core.specs.state.Law.{Heads, held_place, in_use, Blank}
+use Rattle.far_core.specs.state.State.{addr}
+use Rattle.far_core.specs.events.Step.{viewable}
 
 pub unused : read_of 0 ≡ Some Free
 unfolding read_of

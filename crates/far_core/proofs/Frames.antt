@@ -7,8 +7,8 @@ use Rattle.far_word.specs.declared.pointer.PtrWord.{PtrWord}
 use Rattle.far_word.specs.declared.pointer.PtrWord.TheVariants.{Free, Near, Far}
 use Rattle.far_word.specs.declared.sizes.TheConstants.{CELLS}
 use Rattle.far_word.specs.Pointer.{read_of}
-use Rattle.far_core.specs.Law.{Law, ScopeLaw, ViewLaw, BlankLaw, NamesBack, IsBlank, held_place, in_use}
-use Rattle.far_core.specs.State.{State, put}
+use Rattle.far_core.specs.state.Law.{Law, ScopeLaw, ViewLaw, BlankLaw, NamesBack, IsBlank, held_place, in_use}
+use Rattle.far_core.specs.state.State.{State, put}
 use Rattle.far_core.proofs.Cells.{unused, Heads-same, Blank-same}
 use Rattle.far_core.proofs.Put.{put_both}
 

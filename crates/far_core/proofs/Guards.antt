@@ -5,10 +5,10 @@ use Rattle.std.proofs.lemmas.Bool.Decides.{nat_tests}
 use Rattle.std.specs.Prelude.{is_some, not}
 use Rattle.far_core.proofs.Bounds.{held_of}
 use Rattle.far_core.proofs.Cells.{held_near}
-use Rattle.far_core.specs.Law.{Law}
-use Rattle.far_core.specs.Legal.{HoldsWord, IsClosed, IsOpen}
-use Rattle.far_core.specs.State.{State}
-use Rattle.far_core.specs.Step.{data_len, holds, is_closed, is_opened, near_len}
+use Rattle.far_core.specs.state.Law.{Law}
+use Rattle.far_core.specs.events.Legal.{HoldsWord, IsClosed, IsOpen}
+use Rattle.far_core.specs.state.State.{State}
+use Rattle.far_core.specs.events.Step.{data_len, holds, is_closed, is_opened, near_len}
 use Rattle.far_word.specs.Sizes.{words_for}
 use Rattle.far_word.specs.declared.sizes.TheConstants.{CELLS}
 

@@ -4,8 +4,8 @@ use Rattle.std.proofs.lemmas.Bool.{false≢true}
 use Rattle.far_core.proofs.Cells.{unused, with_mark, read_hot, held_place-hot, in_use-hot}
 use Rattle.far_core.proofs.Frames.{Remarked, law_with_cell_marks}
 use Rattle.far_core.proofs.Put.{put_both}
-use Rattle.far_core.specs.Law.{Law, held_place, in_use}
-use Rattle.far_core.specs.State.{State, put}
+use Rattle.far_core.specs.state.Law.{Law, held_place, in_use}
+use Rattle.far_core.specs.state.State.{State, put}
 use Rattle.far_word.specs.Mark.{position}
 use Rattle.far_word.specs.Pointer.{read_of}
 use Rattle.far_word.specs.Scope.{scope_of}

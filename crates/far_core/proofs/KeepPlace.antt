@@ -12,9 +12,9 @@ use Rattle.far_word.specs.Header.{head_of, head_word}
 use Rattle.far_word.specs.Pointer.{read_of}
 use Rattle.far_word.specs.Sizes.{size_of}
 use Rattle.far_core.specs.declared.event.Kind.TheVariants.{Free, Open, Sealed}
-use Rattle.far_core.specs.Law.{Law, Span, Padded, NamesBack, IsBlank, Blank, held_place, in_use, head_len}
-use Rattle.far_core.specs.State.{State, put, addr}
-use Rattle.far_core.specs.Step.{taken}
+use Rattle.far_core.specs.state.Law.{Law, Span, Padded, NamesBack, IsBlank, Blank, held_place, in_use, head_len}
+use Rattle.far_core.specs.state.State.{State, put, addr}
+use Rattle.far_core.specs.events.Step.{taken}
 use Rattle.far_core.proofs.Cells.{Heads-same}
 use Rattle.far_core.proofs.Put.{put_both, put_same, put_other}
 

@@ -4,8 +4,8 @@ use Rattle.far_word.specs.declared.pointer.PtrWord.{PtrWord}
 use Rattle.far_word.specs.declared.sizes.TheConstants.{LOG_WORDS}
 use Rattle.far_word.specs.Header.{head_of}
 use Rattle.far_word.specs.Sizes.{size_of, words_for}
-use Rattle.far_core.specs.Law.{Law, Span, Padded, NamesBack, BlankLaw, head_len}
-use Rattle.far_core.specs.State.{State, put}
+use Rattle.far_core.specs.state.Law.{Law, Span, Padded, NamesBack, BlankLaw, head_len}
+use Rattle.far_core.specs.state.State.{State, put}
 use Rattle.far_core.proofs.Put.{put_both, put_other}
 use Rattle.far_core.proofs.SpanFrames.{spans_apart, past_tail}
 

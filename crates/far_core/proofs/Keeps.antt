@@ -1,9 +1,9 @@
 -- Each legal event keeps the law.
 use Rattle.std.proofs.lemmas.Bool.{cond_both}
 use Rattle.far_core.proofs.LegalTest.{is_fact}
-use Rattle.far_core.specs.Law.{Law}
-use Rattle.far_core.specs.State.{State}
-use Rattle.far_core.specs.Step.{Fits, is_legal, step_of}
+use Rattle.far_core.specs.state.Law.{Law}
+use Rattle.far_core.specs.state.State.{State}
+use Rattle.far_core.specs.events.Step.{Fits, is_legal, step_of}
 use Rattle.far_core.specs.declared.event.Event.{Event}
 use Rattle.far_core.specs.declared.event.Reply.{Reply}
 pub use Rattle.far_core.proofs.Bounds.{one_name}

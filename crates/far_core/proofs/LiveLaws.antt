@@ -8,9 +8,9 @@ use Rattle.far_word.specs.declared.pointer.PtrWord.TheVariants.{Near}
 use Rattle.far_word.specs.declared.pointer.Place.{Place}
 use Rattle.far_word.specs.Pointer.{read_of}
 use Rattle.far_word.specs.Sizes.{bytes_taken}
-use Rattle.far_core.specs.LiveLaws.{place_in, LiveIs, LiveBytesAre}
-use Rattle.far_core.specs.Spans.{Placed, spans_of, is_live, taken_by}
-use Rattle.far_core.specs.State.{State}
+use Rattle.far_core.specs.laws.Live.{place_in, LiveIs, LiveBytesAre}
+use Rattle.far_core.specs.state.Spans.{Placed, spans_of, is_live, taken_by}
+use Rattle.far_core.specs.state.State.{State}
 use Rattle.far_core.proofs.Observations.{live_names}
 
 pub live_is : (s : State) (l : ℕ) (span : Placed) → LiveIs s l span

@@ -15,10 +15,10 @@ use Rattle.far_word.specs.Sizes.{size_of, bytes_taken}
 use Rattle.far_word.proofs.HeaderLaws.{head_says}
 use Rattle.far_word.proofs.PointerLaws.{read_says}
 use Rattle.far_core.specs.declared.event.Kind.TheVariants as kinds
-use Rattle.far_core.specs.Law.{Law, head_len, len_in, in_use}
-use Rattle.far_core.specs.Observed.{Tile, Stands, Fills, live_bytes, dead_bytes, unused_bytes, span_for, OneLive, HasOneLive, NamesOnce, IsWordOf, HasOneSpan, HasNoSpan, LogsStand, NearHasOneLive, PlacedExactly}
-use Rattle.far_core.specs.Spans.{Placed, span_at, spans_from, spans_of, is_live, names_place, taken_by, pointer_in, ds_in}
-use Rattle.far_core.specs.State.{State, addr}
+use Rattle.far_core.specs.state.Law.{Law, head_len, len_in, in_use}
+use Rattle.far_core.specs.laws.Observed.{Tile, Stands, Fills, live_bytes, dead_bytes, unused_bytes, span_for, OneLive, HasOneLive, NamesOnce, IsWordOf, HasOneSpan, HasNoSpan, LogsStand, NearHasOneLive, PlacedExactly}
+use Rattle.far_core.specs.state.Spans.{Placed, span_at, spans_from, spans_of, is_live, names_place, taken_by, pointer_in, ds_in}
+use Rattle.far_core.specs.state.State.{State, addr}
 use Rattle.far_core.proofs.Bounds.{span_len}
 use Rattle.far_core.proofs.KeepPlace.{header}
 use Rattle.far_core.proofs.Keeps.{one_name}

@@ -4,16 +4,16 @@ use Rattle.far_core.specs.declared.event.Event.{Event}
 use Rattle.far_core.specs.declared.event.Reply.{Reply}
 use Rattle.far_core.specs.declared.event.Reply.TheVariants.{Refused, Done, Epoch, Word, Held}
 use Rattle.far_word.specs.declared.pointer.Place.{Place}
-use Rattle.far_core.specs.Happens.{Happens}
-use Rattle.far_core.specs.Law.{Law}
-use Rattle.far_core.specs.Left.{PartBy, WordBy}
-use Rattle.far_core.specs.Legal.{Legal}
-use Rattle.far_core.specs.State.{State}
-use Rattle.far_core.specs.Step.{is_legal, after, answer, touches, change_of, Fits}
-use Rattle.far_core.specs.Touch.{Touches}
-use Rattle.far_core.specs.Told.{Tells}
-use Rattle.far_core.specs.WorldLaws.{Caused}
-use Rattle.far_core.specs.WorldOf.{world_of}
+use Rattle.far_core.specs.world.Happens.{Happens}
+use Rattle.far_core.specs.state.Law.{Law}
+use Rattle.far_core.specs.events.Left.{PartBy, WordBy}
+use Rattle.far_core.specs.events.Legal.{Legal}
+use Rattle.far_core.specs.state.State.{State}
+use Rattle.far_core.specs.events.Step.{is_legal, after, answer, touches, change_of, Fits}
+use Rattle.far_core.specs.events.Touch.{Touches}
+use Rattle.far_core.specs.events.Told.{Tells}
+use Rattle.far_core.specs.laws.Worlds.{Caused}
+use Rattle.far_core.specs.world.WorldOf.{world_of}
 
 pub record Owed (e : Event) : Type 0 where
   pub fact : (s : State) → Law s → is_legal s e ≡ true → Legal s e

@@ -3,13 +3,13 @@ use Rattle.std.proofs.Common.{◌≡◌, true}
 use Rattle.far_core.specs.declared.event.Event.{Event}
 use Rattle.far_core.specs.declared.event.Event.TheVariants.{ReadEpoch, Open, Pin, Load, Store, Close, Adopt, Put, Name, See, Mark}
 use Rattle.far_core.specs.declared.event.Reply.TheVariants.{Refused}
-use Rattle.far_core.specs.Happens.{Happens}
-use Rattle.far_core.specs.Law.{Law}
-use Rattle.far_core.specs.Legal.{Legal}
-use Rattle.far_core.specs.State.{State}
-use Rattle.far_core.specs.Step.{is_legal, after, answer, Fits}
-use Rattle.far_core.specs.Told.{AnswersTell}
-use Rattle.far_core.specs.WorldOf.{world_of}
+use Rattle.far_core.specs.world.Happens.{Happens}
+use Rattle.far_core.specs.state.Law.{Law}
+use Rattle.far_core.specs.events.Legal.{Legal}
+use Rattle.far_core.specs.state.State.{State}
+use Rattle.far_core.specs.events.Step.{is_legal, after, answer, Fits}
+use Rattle.far_core.specs.events.Told.{AnswersTell}
+use Rattle.far_core.specs.world.WorldOf.{world_of}
 use Rattle.far_core.proofs.Owed.{Owed}
 use Rattle.far_core.proofs.events.ReadEpoch.{read_epoch_owed}
 use Rattle.far_core.proofs.events.Open.{open_owed}

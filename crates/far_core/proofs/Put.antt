@@ -2,7 +2,7 @@
 use Rattle.std.proofs.Common.{◌≡◌, ◌≢◌, ℕ, cond, nat_eq, sym, refl, ap, ◌∙◌}
 use Rattle.std.proofs.lemmas.Bool.{cond_both, eqb-true, eqb-false, ne_eqb, eq-eqb}
 use mathlib.Core.Path.{fun_ext}
-use Rattle.far_core.specs.State.{put}
+use Rattle.far_core.specs.state.State.{put}
 
 module _ {X : Type 0} where
   -- what holds of the new value at k, and of the old values elsewhere

@@ -3,8 +3,8 @@ use Rattle.std.proofs.Common.{◌≡◌, ◌≢◌, ℕ, ◌+◌, ◌-◌, ◌*�
 use Rattle.std.proofs.lemmas.Bool.{false≢true, cases_order, cases_lt}
 use Rattle.far_word.specs.declared.sizes.TheConstants.{LOG_WORDS}
 use Rattle.far_word.specs.Sizes.{size_of}
-use Rattle.far_core.specs.Law.{Law, Span, head_len}
-use Rattle.far_core.specs.State.{State}
+use Rattle.far_core.specs.state.Law.{Law, Span, head_len}
+use Rattle.far_core.specs.state.State.{State}
 
 pub words_is : LOG_WORDS ≡ 128
 words_is = refl

@@ -5,14 +5,14 @@ use Rattle.std.specs.Prelude.{map}
 use Rattle.far_core.proofs.Cells.{held_near}
 use Rattle.far_core.proofs.Keeps.{step_keeps}
 use Rattle.far_core.proofs.LegalTest.{is_fact, is_test}
-use Rattle.far_core.specs.Agrees.{Agrees}
-use Rattle.far_core.specs.Happens.{Happens}
-use Rattle.far_core.specs.Law.{Law}
-use Rattle.far_core.specs.Legal.{Legal}
-use Rattle.far_core.specs.Runs.{Leads, Passes, Runs}
-use Rattle.far_core.specs.State.{State}
-use Rattle.far_core.specs.Step.{Fits, after, answer, is_legal, step_of}
-use Rattle.far_core.specs.WorldOf.{world_of}
+use Rattle.far_core.specs.state.Agrees.{Agrees}
+use Rattle.far_core.specs.world.Happens.{Happens}
+use Rattle.far_core.specs.state.Law.{Law}
+use Rattle.far_core.specs.events.Legal.{Legal}
+use Rattle.far_core.specs.world.Runs.{Leads, Passes, Runs}
+use Rattle.far_core.specs.state.State.{State}
+use Rattle.far_core.specs.events.Step.{Fits, after, answer, is_legal, step_of}
+use Rattle.far_core.specs.world.WorldOf.{world_of}
 use Rattle.far_core.specs.declared.event.Event.{Event}
 use Rattle.far_core.specs.declared.event.Reply.{Reply}
 use Rattle.far_core.specs.declared.event.Reply.TheVariants.{Refused}

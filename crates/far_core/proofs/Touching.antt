@@ -3,8 +3,8 @@ use Rattle.std.proofs.Common.{◌≡◌, ◌≢◌, ℕ, Bool, ◌/◌, refl, sy
 use Rattle.far_word.specs.declared.pointer.Place.{Place}
 use Rattle.far_word.specs.declared.sizes.TheConstants.{CELLS}
 use Rattle.far_core.specs.declared.event.Event.{Event}
-use Rattle.far_core.specs.State.{State, put}
-use Rattle.far_core.specs.Touch.{Spot, EpochAt, ScopeAt, CellAt, WordAt, Remembers, Uses, Rests, LetsGo, Touch, Touches, word_at}
+use Rattle.far_core.specs.state.State.{State, put}
+use Rattle.far_core.specs.events.Touch.{Spot, EpochAt, ScopeAt, CellAt, WordAt, Remembers, Uses, Rests, LetsGo, Touch, Touches, word_at}
 use Rattle.far_core.proofs.Put.{put_other}
 
 -- one word changes

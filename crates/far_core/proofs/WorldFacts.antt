@@ -12,12 +12,12 @@ use Rattle.far_word.specs.Pointer.{read_of}
 use Rattle.far_core.specs.declared.event.Kind.{Kind}
 use Rattle.far_core.specs.declared.event.Kind.TheVariants as kinds
 use Rattle.far_core.specs.declared.shape.Shape.{Shape}
-use Rattle.far_core.specs.Law.{Law}
-use Rattle.far_core.specs.Opening.{opening}
-use Rattle.far_core.specs.State.{State, put, addr}
-use Rattle.far_core.specs.World.{Object, Group, FarSide, start}
-use Rattle.far_core.specs.WorldAgrees.{ViewRests, MarksAgree, MarksExist}
-use Rattle.far_core.specs.WorldOf.{world_of, object_of, is_marked, is_group}
+use Rattle.far_core.specs.state.Law.{Law}
+use Rattle.far_core.specs.state.Opening.{opening}
+use Rattle.far_core.specs.state.State.{State, put, addr}
+use Rattle.far_core.specs.world.World.{Object, Group, FarSide, start}
+use Rattle.far_core.specs.laws.Agreement.{ViewRests, MarksAgree, MarksExist}
+use Rattle.far_core.specs.world.WorldOf.{world_of, object_of, is_marked, is_group}
 use Rattle.far_core.proofs.Bounds.{some_of}
 use Rattle.far_core.proofs.Cells.{unused, held_near}
 use Rattle.far_core.proofs.Observations.{in_range}

@@ -11,16 +11,16 @@ use Rattle.far_word.proofs.PointerLaws.{read_says}
 use Rattle.far_core.specs.declared.event.Event.{Event}
 use Rattle.far_core.specs.declared.event.Kind.{Kind}
 use Rattle.far_core.specs.declared.event.Kind.TheVariants as kinds
-use Rattle.far_core.specs.Changes.{Change, Step, StepOf}
-use Rattle.far_core.specs.Changes as change
-use Rattle.far_core.specs.Step.{change_of}
+use Rattle.far_core.specs.world.Changes.{Change, Step, StepOf}
+use Rattle.far_core.specs.world.Changes as change
+use Rattle.far_core.specs.events.Step.{change_of}
 use Rattle.far_core.proofs.Owing.{owed}
-use Rattle.far_core.specs.Law.{Law}
-use Rattle.far_core.specs.State.{State, put, addr}
-use Rattle.far_core.specs.World.{World, Object, Group, FarSide}
-use Rattle.far_core.specs.WorldLaws.{ChangeKeeps, ChangesKeep, ChangesAreOne, Causes, Caused, EventsCause, SureOf, ObjectStands, ObjectsStand, StepKeeps, StepsKeep, StepsAreOne}
-use Rattle.far_core.specs.WorldOf.{world_of, object_of, is_group}
-use Rattle.far_core.specs.WorldSteps.{Writes, with_bytes, with_home}
+use Rattle.far_core.specs.state.Law.{Law}
+use Rattle.far_core.specs.state.State.{State, put, addr}
+use Rattle.far_core.specs.world.World.{World, Object, Group, FarSide}
+use Rattle.far_core.specs.laws.Worlds.{ChangeKeeps, ChangesKeep, ChangesAreOne, Causes, Caused, EventsCause, SureOf, ObjectStands, ObjectsStand, StepKeeps, StepsKeep, StepsAreOne}
+use Rattle.far_core.specs.world.WorldOf.{world_of, object_of, is_group}
+use Rattle.far_core.specs.world.Steps.{Writes, with_bytes, with_home}
 use Rattle.far_core.proofs.Observations.{in_range}
 use Rattle.far_core.proofs.Put.{put_both}
 

@@ -7,11 +7,11 @@ use Rattle.far_core.proofs.Bounds.{one_name, span_len}
 use Rattle.far_core.proofs.Cells.{held_near}
 use Rattle.far_core.proofs.KeepWords.{data_stays}
 use Rattle.far_core.proofs.Put.{put_other, put_same}
-use Rattle.far_core.specs.Law.{Heads, Law, head_len}
-use Rattle.far_core.specs.State.{State, addr, put}
-use Rattle.far_core.specs.World.{Group, Object, World}
-use Rattle.far_core.specs.WorldOf.{object_of, world_of}
-use Rattle.far_core.specs.WorldSteps.{Reads, Writes, with_bytes}
+use Rattle.far_core.specs.state.Law.{Heads, Law, head_len}
+use Rattle.far_core.specs.state.State.{State, addr, put}
+use Rattle.far_core.specs.world.World.{Group, Object, World}
+use Rattle.far_core.specs.world.WorldOf.{object_of, world_of}
+use Rattle.far_core.specs.world.Steps.{Reads, Writes, with_bytes}
 use Rattle.far_word.proofs.ByteLaws.{bytes_of-put, bytes_of-same, length-bytes_of, packs_back}
 use Rattle.far_word.proofs.PointerLaws.{read_says}
 use Rattle.far_word.specs.Bytes.{bytes_of, overwritten}

@@ -2,7 +2,7 @@
 use Rattle.std.proofs.Common.{◌≡◌, ◌≢◌, ℕ, ◌+◌, ◌<◌, true, false, arith, nat_eq, zero, suc, inl, inr, ap, ◌∙◌, refl}
 use Rattle.std.proofs.lemmas.Bool.Decides.{nat_tests}
 use Rattle.std.proofs.lemmas.Bool.{cases_eq, ne_eqb, eq-eqb, and_right, and_left}
-use Rattle.far_core.specs.Step.{zeros}
+use Rattle.far_core.specs.events.Step.{zeros}
 
 pub zeros_not : (f : ℕ → ℕ) (a n k : ℕ) → k < n → f (a + k) ≢ 0 → zeros f a n ≡ false
 zeros_not f a zero k lt ne = absurd (omega arith)

@@ -1,7 +1,12 @@
 //! The core as its callers hold it.
 
-ghost use Rattle.far_core.specs.Law.{Law};
-ghost use Rattle.far_core.specs.Memory.{state_of};
+ghost use Rattle.far_core.specs.state.Law.{Law};
+ghost use Rattle.far_core.specs.state.Memory.{state_of};
+
+pub mod laws;
+mod observing;
+mod opening;
+mod running;
 
 use crate::memory::Memory;
 

@@ -1,7 +1,7 @@
 //! How large a heap is, and where its epochs begin.
 
 ghost use Rattle.std.specs.Prelude.{◌≡◌};
-ghost use Rattle.far_core.specs.Shape.{is_shape};
+ghost use Rattle.far_core.specs.state.Shape.{is_shape};
 
 use far_word::{MOST_LOGS, MOST_MUTATORS};
 

@@ -3,10 +3,10 @@ use Rattle.std.proofs.Common.{◌≡◌, ℕ, ◌/◌, ◌<◌, true, nat_eq, re
 use Rattle.std.proofs.lemmas.Bool.{cond_both}
 use mathlib.Core.Path.{fun_ext}
 use Rattle.far_word.specs.declared.sizes.TheConstants.{CELLS}
-use Rattle.far_core.specs.Shape.{is_shape}
-use Rattle.far_core.specs.State.{State}
-use Rattle.far_core.specs.World.{start}
-use Rattle.far_core.specs.WorldOf.{world_of}
+use Rattle.far_core.specs.state.Shape.{is_shape}
+use Rattle.far_core.specs.state.State.{State}
+use Rattle.far_core.specs.world.World.{start}
+use Rattle.far_core.specs.world.WorldOf.{world_of}
 use Rattle.far_core.proofs.Begins.{begins}
 use Rattle.far_core.proofs.WorldFacts.{opening_world}
 use Rattle.far_trace.specs.Alone.{Alone, nothing, own_of}

@@ -9,10 +9,10 @@ use Rattle.far_word.specs.Pointer.{read_of}
 use Rattle.far_core.specs.declared.event.Event.{Event}
 use Rattle.far_core.specs.declared.event.Event.TheVariants.{ReadEpoch as ReadsEpoch, Open as Opens, Pin as Pins, Load as Loads, Store as Stores, Close as Closes, Adopt as Adopts, Put as Puts, Name as Names}
 use Rattle.far_core.specs.declared.event.Reply.{Reply as Answer}
-use Rattle.far_core.specs.Law.{Law}
-use Rattle.far_core.specs.State.{State}
-use Rattle.far_core.specs.Step.{step_of, after, is_legal, named}
-use Rattle.far_core.specs.WorldOf.{world_of}
+use Rattle.far_core.specs.state.Law.{Law}
+use Rattle.far_core.specs.state.State.{State}
+use Rattle.far_core.specs.events.Step.{step_of, after, is_legal, named}
+use Rattle.far_core.specs.world.WorldOf.{world_of}
 use Rattle.far_core.proofs.Left.{events_leave}
 use Rattle.far_trace.specs.Alone.{Own, Knows, Alone, own_of, is_by, speaker}
 use Rattle.far_trace.specs.Answers.{Answered, Commanded}

@@ -15,13 +15,13 @@ use Rattle.far_word.specs.Sizes.{size_of, words_for}
 use Rattle.far_word.proofs.PointerLaws.{read_says}
 use Rattle.far_core.specs.declared.event.Event.{Event}
 use Rattle.far_core.specs.declared.event.Event.TheVariants.{Adopt as Adopts, Put as Puts, Name as Names}
-use Rattle.far_core.specs.Law.{Law}
-use Rattle.far_core.specs.Room.{room}
-use Rattle.far_core.specs.State.{State, put}
-use Rattle.far_core.specs.Step.{step_of}
-use Rattle.far_core.specs.World.{World, Object}
-use Rattle.far_core.specs.WorldOf.{world_of}
-use Rattle.far_core.specs.WorldSteps.{Makes}
+use Rattle.far_core.specs.state.Law.{Law}
+use Rattle.far_core.specs.state.Room.{room}
+use Rattle.far_core.specs.state.State.{State, put}
+use Rattle.far_core.specs.events.Step.{step_of}
+use Rattle.far_core.specs.world.World.{World, Object}
+use Rattle.far_core.specs.world.WorldOf.{world_of}
+use Rattle.far_core.specs.world.Steps.{Makes}
 use Rattle.far_core.proofs.Keeps.{step_keeps}
 use Rattle.far_trace.specs.Alone.{own_of, bytes_in_world, HasLeft}
 use Rattle.far_trace.specs.Command.{New}

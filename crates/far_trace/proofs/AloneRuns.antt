@@ -14,14 +14,14 @@ use Rattle.far_core.specs.declared.event.Event.{Event}
 use Rattle.far_core.specs.declared.event.Event.TheVariants.{ReadEpoch, Open, Pin, Load, Store, Close, Adopt, Put, Name, See, Mark}
 use Rattle.far_core.specs.declared.event.Reply.{Reply as Answer}
 use Rattle.far_core.specs.declared.event.Reply.TheVariants.{Refused, Done, Epoch, Word, Held}
-use Rattle.far_core.specs.Happens.{Happens, Names}
-use Rattle.far_core.specs.Law.{Law}
-use Rattle.far_core.specs.Legal.{Legal}
-use Rattle.far_core.specs.State.{State, put}
-use Rattle.far_core.specs.Step.{step_of, Fits, is_legal, after, answer}
-use Rattle.far_core.specs.World.{World, Object, Group}
-use Rattle.far_core.specs.WorldOf.{world_of}
-use Rattle.far_core.specs.WorldSteps.{Makes, Writes, with_bytes}
+use Rattle.far_core.specs.world.Happens.{Happens, Names}
+use Rattle.far_core.specs.state.Law.{Law}
+use Rattle.far_core.specs.events.Legal.{Legal}
+use Rattle.far_core.specs.state.State.{State, put}
+use Rattle.far_core.specs.events.Step.{step_of, Fits, is_legal, after, answer}
+use Rattle.far_core.specs.world.World.{World, Object, Group}
+use Rattle.far_core.specs.world.WorldOf.{world_of}
+use Rattle.far_core.specs.world.Steps.{Makes, Writes, with_bytes}
 use Rattle.far_core.proofs.Keeps.{step_keeps}
 use Rattle.far_core.proofs.LegalTest.{is_fact}
 use Rattle.far_core.proofs.Put.{put_same, put_other, put_old}

@@ -8,11 +8,11 @@ use Rattle.far_word.specs.declared.sizes.TheConstants.{CELLS}
 use Rattle.far_word.specs.Bytes.{bytes_of}
 use Rattle.far_word.specs.Pointer.{read_of}
 use Rattle.far_word.proofs.ByteLaws.{length-bytes_of, bytes_of-small}
-use Rattle.far_core.specs.Law.{Law}
-use Rattle.far_core.specs.State.{State, addr}
-use Rattle.far_core.specs.Step.{is_opened, near_data, near_len, data_len}
-use Rattle.far_core.specs.World.{Object, Group}
-use Rattle.far_core.specs.WorldOf.{world_of, object_of}
+use Rattle.far_core.specs.state.Law.{Law}
+use Rattle.far_core.specs.state.State.{State, addr}
+use Rattle.far_core.specs.events.Step.{is_opened, near_data, near_len, data_len}
+use Rattle.far_core.specs.world.World.{Object, Group}
+use Rattle.far_core.specs.world.WorldOf.{world_of, object_of}
 use Rattle.far_core.proofs.Cells.{unused}
 use Rattle.far_core.proofs.KeepOwner.{nonzero}
 use Rattle.far_trace.specs.Alone.{own_of, bytes_in_world}

@@ -7,12 +7,12 @@ use Rattle.far_word.specs.declared.refused.Refused.TheVariants.{Closed, AlreadyO
 use Rattle.far_word.specs.declared.sizes.TheConstants.{CELLS}
 use Rattle.far_core.specs.declared.event.Event.{Event}
 use Rattle.far_core.specs.declared.event.Event.TheVariants.{ReadEpoch as ReadsEpoch, Open as Opens, Pin as Pins, Load as Loads, Close as Closes}
-use Rattle.far_core.specs.Law.{Law}
-use Rattle.far_core.specs.State.{State, put}
-use Rattle.far_core.specs.Step.{is_opened, data_len, step_of}
-use Rattle.far_core.specs.World.{World, Object}
-use Rattle.far_core.specs.WorldOf.{world_of}
-use Rattle.far_core.specs.WorldSteps.{with_bytes}
+use Rattle.far_core.specs.state.Law.{Law}
+use Rattle.far_core.specs.state.State.{State, put}
+use Rattle.far_core.specs.events.Step.{is_opened, data_len, step_of}
+use Rattle.far_core.specs.world.World.{World, Object}
+use Rattle.far_core.specs.world.WorldOf.{world_of}
+use Rattle.far_core.specs.world.Steps.{with_bytes}
 use Rattle.far_trace.specs.Alone.{Knows, own_of, IsOut, IsIn}
 use Rattle.far_trace.specs.Command.{Command, Open, Write, Read, Close}
 use Rattle.far_trace.specs.Made.{made, AllSucceed, AllAtHand}

@@ -4,8 +4,8 @@ use Rattle.std.specs.Prelude.{map}
 use Rattle.std.specs.List.{flat_map}
 use Rattle.std.proofs.lemmas.Grind.{flat_map-append}
 use mathlib.Core.Path.{fun_ext}
-use Rattle.far_core.specs.Law.{Law}
-use Rattle.far_core.specs.State.{State}
+use Rattle.far_core.specs.state.Law.{Law}
+use Rattle.far_core.specs.state.State.{State}
 use Rattle.far_trace.specs.Answers.{Answered, Commanded}
 use Rattle.far_trace.specs.Command.{Command, Heap, New, Open, Write, Read, Close, Logs}
 use Rattle.far_trace.specs.Later.{IsLater, AreLater}

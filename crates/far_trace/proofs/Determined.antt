@@ -3,8 +3,8 @@ use Rattle.std.proofs.Common.{◌≡◌, ℕ, Bool, true, false, sym, ◌∙◌,
 use Rattle.std.specs.Bool.{MatchBool}
 use Rattle.std.specs.List.{flat_map}
 use Rattle.far_word.specs.declared.refused.Refused.TheVariants.{Shape}
-use Rattle.far_core.specs.Shape.{is_shape}
-use Rattle.far_core.specs.State.{State}
+use Rattle.far_core.specs.state.Shape.{is_shape}
+use Rattle.far_core.specs.state.State.{State}
 use Rattle.far_trace.specs.Answers.{Answered, Commanded, Answers, IsOutput, shape_of, first_state}
 use Rattle.far_trace.specs.Command.{Command, Heap, New, Open, Write, Read, Close, Logs}
 use Rattle.far_trace.specs.Grammar.{commands_of}

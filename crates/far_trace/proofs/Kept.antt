@@ -12,9 +12,9 @@ use Rattle.far_core.specs.declared.event.Event.TheVariants.{ReadEpoch, Open, Pin
 use Rattle.far_core.specs.declared.event.Kind.{Kind}
 use Rattle.far_core.specs.declared.event.Kind.TheVariants as kinds
 use Rattle.far_core.specs.declared.event.Reply.{Reply as Answer}
-use Rattle.far_core.specs.Law.{Law}
-use Rattle.far_core.specs.State.{State, put}
-use Rattle.far_core.specs.Step.{step_of, after, is_legal, named}
+use Rattle.far_core.specs.state.Law.{Law}
+use Rattle.far_core.specs.state.State.{State, put}
+use Rattle.far_core.specs.events.Step.{step_of, after, is_legal, named}
 use Rattle.far_core.proofs.Cells.{held_near}
 use Rattle.far_core.proofs.Observations.{All-from, split, none_in, in_range, has_one_live, bytes_make_log, names_once}
 use Rattle.far_core.proofs.Put.{put_both}

@@ -5,9 +5,9 @@ use Rattle.far_word.specs.Sizes.{words_for}
 use Rattle.far_core.specs.declared.event.Event.TheVariants.{Load}
 use Rattle.far_core.specs.declared.event.Reply.{Reply}
 use Rattle.far_core.specs.declared.event.Reply.TheVariants.{Word}
-use Rattle.far_core.specs.Law.{Law}
-use Rattle.far_core.specs.State.{State}
-use Rattle.far_core.specs.Step.{step_of, is_legal, is_opened, near_data, near_len, data_len}
+use Rattle.far_core.specs.state.Law.{Law}
+use Rattle.far_core.specs.state.State.{State}
+use Rattle.far_core.specs.events.Step.{step_of, is_legal, is_opened, near_data, near_len, data_len}
 use Rattle.far_core.proofs.LegalTest.{is_test}
 use Rattle.far_trace.specs.Made.{made, AllSucceed}
 use Rattle.far_trace.specs.Tidy.{Tidy}

@@ -4,10 +4,10 @@ use Rattle.far_word.specs.declared.header.HeadWord.{HeadWord}
 use Rattle.far_word.specs.declared.sizes.TheConstants.{LOG_WORDS}
 use Rattle.far_word.specs.Header.{head_of}
 use Rattle.far_word.specs.Pointer.{read_of}
-use Rattle.far_core.specs.Law.{Law, len_in}
-use Rattle.far_core.specs.Observed.{live_bytes, dead_bytes}
-use Rattle.far_core.specs.Spans.{Placed, spans_of, is_live, names_place, taken_by, pointer_in}
-use Rattle.far_core.specs.State.{State}
+use Rattle.far_core.specs.state.Law.{Law, len_in}
+use Rattle.far_core.specs.laws.Observed.{live_bytes, dead_bytes}
+use Rattle.far_core.specs.state.Spans.{Placed, spans_of, is_live, names_place, taken_by, pointer_in}
+use Rattle.far_core.specs.state.State.{State}
 use Rattle.far_core.proofs.Observations.{found, bytes_make_log, here, there}
 use Rattle.far_trace.specs.Tidy.{Tidy}
 use Rattle.far_trace.specs.Turn.{log_line, kind_told}

@@ -5,9 +5,9 @@ use Rattle.far_core.specs.declared.event.Event.{Event}
 use Rattle.far_core.specs.declared.event.Event.TheVariants.{Load}
 use Rattle.far_core.specs.declared.event.Reply.{Reply}
 use Rattle.far_core.specs.declared.event.Reply.TheVariants.{Refused}
-use Rattle.far_core.specs.Law.{Law}
-use Rattle.far_core.specs.State.{State}
-use Rattle.far_core.specs.Step.{step_of, is_legal, after, answer, Fits}
+use Rattle.far_core.specs.state.Law.{Law}
+use Rattle.far_core.specs.state.State.{State}
+use Rattle.far_core.specs.events.Step.{step_of, is_legal, after, answer, Fits}
 use Rattle.far_core.proofs.Keeps.{step_keeps}
 use Rattle.far_trace.specs.Made.{made, Succeeds, AllSucceed}
 use Rattle.far_trace.proofs.Each.{Each}

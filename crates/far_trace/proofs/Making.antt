@@ -9,8 +9,8 @@ use Rattle.far_word.specs.Sizes.{words_for}
 use Rattle.far_core.specs.declared.event.Event.{Event}
 use Rattle.far_core.specs.declared.event.Event.TheVariants.{Adopt as Adopts, Put as Puts, Name as Names}
 use Rattle.far_core.specs.declared.event.Reply.{Reply}
-use Rattle.far_core.specs.State.{State}
-use Rattle.far_core.specs.Step.{step_of}
+use Rattle.far_core.specs.state.State.{State}
+use Rattle.far_core.specs.events.Step.{step_of}
 use Rattle.far_trace.specs.Made.{made}
 use Rattle.far_trace.specs.Turn.{zero_puts, new_events, new_word}
 use Rattle.far_trace.proofs.MadeLemmas.{made-append}

@@ -16,11 +16,11 @@ use Rattle.far_core.specs.declared.event.Event.{Event}
 use Rattle.far_core.specs.declared.event.Event.TheVariants.{Put, Name, Adopt}
 use Rattle.far_core.specs.declared.event.Kind.TheVariants.{Free, Open, Sealed}
 use Rattle.far_core.specs.declared.event.Reply.TheVariants.{Done, Word}
-use Rattle.far_core.specs.Law.{Law, in_use}
-use Rattle.far_core.specs.Legal.{Unmarked}
-use Rattle.far_core.specs.Spans.{names_place}
-use Rattle.far_core.specs.State.{State, put, addr}
-use Rattle.far_core.specs.Step.{is_legal, after, answer, named, taken}
+use Rattle.far_core.specs.state.Law.{Law, in_use}
+use Rattle.far_core.specs.events.Legal.{Unmarked}
+use Rattle.far_core.specs.state.Spans.{names_place}
+use Rattle.far_core.specs.state.State.{State, put, addr}
+use Rattle.far_core.specs.events.Step.{is_legal, after, answer, named, taken}
 use Rattle.far_core.proofs.Cells.{unused}
 use Rattle.far_core.proofs.KeepPlace.{header}
 use Rattle.far_core.proofs.LegalTest.{is_test}

@@ -9,13 +9,13 @@ use Rattle.far_word.specs.declared.refused.Refused.{Refused as Refusal}
 use Rattle.far_word.specs.declared.refused.Refused.TheVariants.{Range, Length, NoPointer, NoRoom, Shape, Syntax}
 use Rattle.far_word.specs.declared.sizes.TheConstants.{CELLS, LONGEST}
 use Rattle.far_word.specs.Sizes.{size_of}
-use Rattle.far_core.specs.Law.{Law}
+use Rattle.far_core.specs.state.Law.{Law}
 use Rattle.far_word.specs.declared.pointer.Place.{Place}
-use Rattle.far_core.specs.Room.{room}
-use Rattle.far_core.specs.Shape.{is_shape}
-use Rattle.far_core.specs.State.{State, put}
-use Rattle.far_core.specs.World.{Object, Group}
-use Rattle.far_core.specs.WorldOf.{world_of}
+use Rattle.far_core.specs.state.Room.{room}
+use Rattle.far_core.specs.state.Shape.{is_shape}
+use Rattle.far_core.specs.state.State.{State, put}
+use Rattle.far_core.specs.world.World.{Object, Group}
+use Rattle.far_core.specs.world.WorldOf.{world_of}
 use Rattle.far_core.proofs.Bounds.{some_of}
 use Rattle.far_core.proofs.Observations.{split, none_in, bytes_make_log}
 use Rattle.far_trace.specs.Alone.{Alone, Knows, Own}

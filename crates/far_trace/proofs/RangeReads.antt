@@ -6,9 +6,9 @@ use Rattle.far_word.specs.Pointer.{read_of}
 use Rattle.far_word.specs.Sizes.{words_for}
 use Rattle.far_core.specs.declared.event.Event.{Event}
 use Rattle.far_core.specs.declared.event.Event.TheVariants.{Load}
-use Rattle.far_core.specs.Law.{Law}
-use Rattle.far_core.specs.State.{State}
-use Rattle.far_core.specs.Step.{near_data, data_len, is_opened}
+use Rattle.far_core.specs.state.Law.{Law}
+use Rattle.far_core.specs.state.State.{State}
+use Rattle.far_core.specs.events.Step.{near_data, data_len, is_opened}
 use Rattle.far_trace.specs.Interpreter.{loaded, word_in}
 use Rattle.far_trace.specs.Made.{made}
 use Rattle.far_trace.specs.Tidy.{Tidy}

@@ -18,9 +18,9 @@ use Rattle.far_word.specs.declared.pointer.PtrWord.TheVariants.{Free, Near, Far}
 use Rattle.far_word.specs.Pointer.{read_of}
 use Rattle.far_core.specs.declared.event.Event.{Event}
 use Rattle.far_core.specs.declared.event.Event.TheVariants.{Load as Loads, Store as Stores}
-use Rattle.far_core.specs.Law.{Law, head_len}
-use Rattle.far_core.specs.State.{State, addr}
-use Rattle.far_core.specs.Step.{near_len, near_data, data_len}
+use Rattle.far_core.specs.state.Law.{Law, head_len}
+use Rattle.far_core.specs.state.State.{State, addr}
+use Rattle.far_core.specs.events.Step.{near_len, near_data, data_len}
 use Rattle.far_core.proofs.Bounds.{span_len}
 use Rattle.far_trace.specs.Interpreter.{stores_of}
 use Rattle.far_trace.specs.Made.{made}

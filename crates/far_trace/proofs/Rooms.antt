@@ -5,9 +5,9 @@ use Rattle.std.proofs.lemmas.Bool.{lt-ltb, le-ltb, cases_lt}
 use Rattle.far_word.specs.declared.pointer.Place.{Place}
 use Rattle.far_word.specs.declared.sizes.TheConstants.{LOG_WORDS}
 use Rattle.far_core.specs.declared.event.Kind.TheVariants.{Free, Open}
-use Rattle.far_core.specs.Law.{Law}
-use Rattle.far_core.specs.Room.{is_free, free_logs, lowest, room}
-use Rattle.far_core.specs.State.{State}
+use Rattle.far_core.specs.state.Law.{Law}
+use Rattle.far_core.specs.state.Room.{is_free, free_logs, lowest, room}
+use Rattle.far_core.specs.state.State.{State}
 use Rattle.far_trace.specs.Tidy.{Tidy}
 
 -- of numbers in a row, those that pass a test that fails up to one and passes from there on

@@ -6,10 +6,10 @@ use Rattle.far_word.specs.Header.{head_of}
 use Rattle.far_word.specs.Sizes.{words_for}
 use Rattle.far_core.specs.declared.event.Event.{Event}
 use Rattle.far_core.specs.declared.event.Event.TheVariants.{Store}
-use Rattle.far_core.specs.Law.{Law, head_len}
-use Rattle.far_core.specs.Legal.{Legal, Holds}
-use Rattle.far_core.specs.State.{State, put, addr}
-use Rattle.far_core.specs.Step.{is_legal, after, data_word, near_data}
+use Rattle.far_core.specs.state.Law.{Law, head_len}
+use Rattle.far_core.specs.events.Legal.{Legal, Holds}
+use Rattle.far_core.specs.state.State.{State, put, addr}
+use Rattle.far_core.specs.events.Step.{is_legal, after, data_word, near_data}
 use Rattle.far_core.proofs.Bounds.{span_len}
 use Rattle.far_core.proofs.Keeps.{keeps}
 use Rattle.far_core.proofs.KeepWords.{head_stays}

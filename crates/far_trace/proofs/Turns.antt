@@ -18,11 +18,11 @@ use Rattle.far_word.proofs.PointerLaws.{read_back, word_fits}
 use Rattle.far_core.specs.declared.event.Event.{Event}
 use Rattle.far_core.specs.declared.event.Event.TheVariants.{ReadEpoch as ReadsEpoch, Open as Opens, Load as Loads, Store as Stores, Close as Closes, Adopt as Adopts, Put as Puts, Name as Names}
 use Rattle.far_core.specs.declared.event.Kind.TheVariants as kinds
-use Rattle.far_core.specs.Law.{Law}
-use Rattle.far_core.specs.Legal.{Unmarked}
-use Rattle.far_core.specs.Room.{room}
-use Rattle.far_core.specs.State.{State, put}
-use Rattle.far_core.specs.Step.{Fits, is_legal, is_opened, data_len, near_data, closed, opened_at}
+use Rattle.far_core.specs.state.Law.{Law}
+use Rattle.far_core.specs.events.Legal.{Unmarked}
+use Rattle.far_core.specs.state.Room.{room}
+use Rattle.far_core.specs.state.State.{State, put}
+use Rattle.far_core.specs.events.Step.{Fits, is_legal, is_opened, data_len, near_data, closed, opened_at}
 use Rattle.far_core.proofs.KeepPlace.{header}
 use Rattle.far_core.proofs.LegalTest.{is_test}
 use Rattle.far_core.proofs.Put.{put_both, put_same, put_other}

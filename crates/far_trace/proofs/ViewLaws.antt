@@ -15,10 +15,10 @@ use Rattle.far_core.specs.declared.event.Event.TheVariants.{ReadEpoch as ReadsEp
 use Rattle.far_core.specs.declared.event.Reply.{Reply as Answer}
 use Rattle.far_core.specs.declared.event.Reply.TheVariants.{Refused as Failed}
 use Rattle.far_core.specs.declared.event.Kind.TheVariants as kinds
-use Rattle.far_core.specs.Law.{Law}
-use Rattle.far_core.specs.Room.{room}
-use Rattle.far_core.specs.State.{State, put}
-use Rattle.far_core.specs.Step.{step_of, is_legal, after, answer, holding, viewable, pin_answer, Fits}
+use Rattle.far_core.specs.state.Law.{Law}
+use Rattle.far_core.specs.state.Room.{room}
+use Rattle.far_core.specs.state.State.{State, put}
+use Rattle.far_core.specs.events.Step.{step_of, is_legal, after, answer, holding, viewable, pin_answer, Fits}
 use Rattle.far_core.proofs.Keeps.{step_keeps}
 use Rattle.far_core.proofs.Left.{held_stays}
 use Rattle.far_core.proofs.Put.{put_same, put_other}

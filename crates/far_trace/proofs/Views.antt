@@ -12,11 +12,11 @@ use Rattle.far_word.specs.Mark.{position, with}
 use Rattle.far_word.specs.Pointer.{read_of}
 use Rattle.far_core.specs.declared.event.Event.TheVariants.{Pin}
 use Rattle.far_core.specs.declared.event.Reply.TheVariants.{Held}
-use Rattle.far_core.specs.Law.{Law}
-use Rattle.far_core.specs.Legal.{Holds}
-use Rattle.far_core.specs.Spans.{names_place}
-use Rattle.far_core.specs.State.{State}
-use Rattle.far_core.specs.Step.{is_legal, is_opened, near_data, near_len, data_len, viewable, pinned, holding, pin_answer}
+use Rattle.far_core.specs.state.Law.{Law}
+use Rattle.far_core.specs.events.Legal.{Holds}
+use Rattle.far_core.specs.state.Spans.{names_place}
+use Rattle.far_core.specs.state.State.{State}
+use Rattle.far_core.specs.events.Step.{is_legal, is_opened, near_data, near_len, data_len, viewable, pinned, holding, pin_answer}
 use Rattle.far_core.proofs.Cells.{with_mark, held_near, unused}
 use Rattle.far_core.proofs.KeepOwner.{hot_read, nonzero, at_cell}
 use Rattle.far_core.proofs.events.Pin.{keeps_pin}

@@ -3,8 +3,8 @@ use Rattle.std.specs.Prelude.{◌≡◌, ℕ, ◌+◌, ◌/◌, ◌<◌, ◌≤�
 use Rattle.std.specs.Bool.{MatchBool}
 use Rattle.far_word.specs.declared.refused.Refused.TheVariants.{NoRoom, NoPointer, Length, Closed, AlreadyOpen, NotHeld, Range}
 use Rattle.far_word.specs.declared.sizes.TheConstants.{CELLS, LONGEST}
-use Rattle.far_core.specs.State.{put}
-use Rattle.far_core.specs.World.{World, Object}
+use Rattle.far_core.specs.state.State.{put}
+use Rattle.far_core.specs.world.World.{World, Object}
 use Rattle.far_trace.specs.Command.{Command, Heap, New, Open, Write, Read, Close, Logs}
 use Rattle.far_trace.specs.Reply.{Reply, Done, Pointer, Data, Refused}
 use Rattle.far_trace.specs.Turn.{spliced}

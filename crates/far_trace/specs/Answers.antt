@@ -5,10 +5,10 @@ use Rattle.std.specs.List.{flat_map}
 use Rattle.std.specs.Io.KnownBytes.{Appends, Keeps}
 use Rattle.far_word.specs.declared.refused.Refused.TheVariants.{Memory, Shape, Syntax}
 use Rattle.far_core.specs.declared.shape.Shape.{Shape as Size}
-use Rattle.far_core.specs.Law.{Law}
-use Rattle.far_core.specs.Opening.{opening}
-use Rattle.far_core.specs.Shape.{is_shape}
-use Rattle.far_core.specs.State.{State}
+use Rattle.far_core.specs.state.Law.{Law}
+use Rattle.far_core.specs.state.Opening.{opening}
+use Rattle.far_core.specs.state.Shape.{is_shape}
+use Rattle.far_core.specs.state.State.{State}
 use Rattle.far_trace.specs.Command.{Command, Heap}
 use Rattle.far_trace.specs.Grammar.{commands_of}
 use Rattle.far_trace.specs.Made.{made, AllSucceed, AllAtHand}

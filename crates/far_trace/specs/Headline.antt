@@ -8,13 +8,13 @@ use Rattle.far_word.specs.declared.sizes.TheConstants.{CELLS, LOG_WORDS, LONGEST
 use Rattle.far_word.specs.Sizes.{size_of}
 use Rattle.far_core.specs.declared.event.Kind.TheVariants as kinds
 use Rattle.far_core.specs.declared.event.Event.{Event}
-use Rattle.far_core.specs.Law.{Law}
-use Rattle.far_core.specs.Observed.{live_bytes, dead_bytes, unused_bytes, HasOneLive, NamesOnce}
-use Rattle.far_core.specs.Room.{room}
-use Rattle.far_core.specs.Shape.{is_shape}
-use Rattle.far_core.specs.State.{State, put}
-use Rattle.far_core.specs.World.{Group}
-use Rattle.far_core.specs.WorldOf.{world_of}
+use Rattle.far_core.specs.state.Law.{Law}
+use Rattle.far_core.specs.laws.Observed.{live_bytes, dead_bytes, unused_bytes, HasOneLive, NamesOnce}
+use Rattle.far_core.specs.state.Room.{room}
+use Rattle.far_core.specs.state.Shape.{is_shape}
+use Rattle.far_core.specs.state.State.{State, put}
+use Rattle.far_core.specs.world.World.{Group}
+use Rattle.far_core.specs.world.WorldOf.{world_of}
 use Rattle.far_trace.specs.Alone.{Alone, Knows, Own, nothing}
 use Rattle.far_trace.specs.Answers.{Answered, Answers, BeginsWithHeap, Commanded, shape_of, first_state}
 use Rattle.far_trace.specs.Command.{Command, New, Open, Write, Read, Close, Logs as AsksLogs}

@@ -7,8 +7,8 @@ use Rattle.far_core.specs.declared.event.Event.{Event}
 use Rattle.far_core.specs.declared.event.Event.TheVariants.{Load as Loads, Store as Stores}
 use Rattle.far_core.specs.declared.event.Reply.{Reply as Answer}
 use Rattle.far_core.specs.declared.event.Reply.TheVariants as answers
-use Rattle.far_core.specs.State.{State, put}
-use Rattle.far_core.specs.Step.{step_of, data_len, is_opened}
+use Rattle.far_core.specs.state.State.{State, put}
+use Rattle.far_core.specs.events.Step.{step_of, data_len, is_opened}
 use Rattle.far_trace.specs.Command.{Command, New, Write}
 use Rattle.far_trace.specs.declared.turn.Access.{Access}
 use Rattle.far_trace.specs.Outcome.{told_by}
@@ -18,7 +18,7 @@ use Rattle.far_trace.specs.declared.turn.NewObject.{NewObject}
 use Rattle.far_trace.specs.Turn.{lowest_cell, refusal, unless}
 use Rattle.far_word.specs.declared.pointer.Place.{Place}
 use Rattle.far_word.specs.Sizes.{size_of}
-use Rattle.far_core.specs.Room.{room}
+use Rattle.far_core.specs.state.Room.{room}
 
 -- the word that an event answers, 0 where it answers none
 abbrev pub word_in : Answer → ℕ

@@ -8,8 +8,8 @@ use Rattle.far_core.specs.declared.event.Event.{Event}
 use Rattle.far_core.specs.declared.event.Event.TheVariants.{Pin, Name}
 use Rattle.far_core.specs.declared.event.Reply.{Reply}
 use Rattle.far_core.specs.declared.event.Reply.TheVariants.{Refused, Word}
-use Rattle.far_core.specs.State.{State}
-use Rattle.far_core.specs.Step.{step_of}
+use Rattle.far_core.specs.state.State.{State}
+use Rattle.far_core.specs.events.Step.{step_of}
 
 -- the state after these events
 abbrev pub made : State → List Event → State

@@ -6,8 +6,8 @@ use Rattle.far_word.specs.declared.sizes.TheConstants.{CELLS, LOG_WORDS}
 use Rattle.far_word.specs.Header.{head_of}
 use Rattle.far_word.specs.Pointer.{read_of}
 use Rattle.far_core.specs.declared.event.Kind.TheVariants.{Free, Sealed}
-use Rattle.far_core.specs.Spans.{names_place}
-use Rattle.far_core.specs.State.{State}
+use Rattle.far_core.specs.state.Spans.{names_place}
+use Rattle.far_core.specs.state.State.{State}
 use Rattle.far_trace.specs.Made.{AllAtHand}
 
 -- next m is how many cells of the mutator m are named: its first ones

@@ -14,10 +14,10 @@ use Rattle.far_core.specs.declared.event.Event.{Event}
 use Rattle.far_core.specs.declared.event.Event.TheVariants.{ReadEpoch as ReadsEpoch, Open as Opens, Pin as Pins, Load as Loads, Store as Stores, Close as Closes, Adopt as Adopts, Put as Puts, Name as Names}
 use Rattle.far_core.specs.declared.event.Kind.{Kind}
 use Rattle.far_core.specs.declared.event.Kind.TheVariants as kinds
-use Rattle.far_core.specs.Room.{room}
-use Rattle.far_core.specs.Observed.{live_bytes, dead_bytes, unused_bytes}
-use Rattle.far_core.specs.State.{State}
-use Rattle.far_core.specs.Step.{is_opened, near_data, data_len}
+use Rattle.far_core.specs.state.Room.{room}
+use Rattle.far_core.specs.laws.Observed.{live_bytes, dead_bytes, unused_bytes}
+use Rattle.far_core.specs.state.State.{State}
+use Rattle.far_core.specs.events.Step.{is_opened, near_data, data_len}
 use Rattle.far_trace.specs.Command.{Command, Heap, New, Open, Write, Read, Close, Logs}
 use Rattle.far_trace.specs.Reply.{Reply, Done, Pointer, Data, Logs as Told, Refused, LogLine}
 use Rattle.far_trace.specs.declared.reply.LogKind.{LogKind}

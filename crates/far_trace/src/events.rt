@@ -3,8 +3,8 @@
 ghost use Rattle.std.specs.Prelude.{◌≡◌, ◌+◌, ◌*◌, ◌<◌, ◌≤◌, ◌-◌, ◌/◌, ℕ, Some, map, length, slice_index};
 ghost use Rattle.std.specs.List.{range_with_len};
 ghost use Rattle.far_word.specs.declared.sizes.TheConstants.{LOG_WORDS, LONGEST, MOST_LOGS, POINTERS};
-ghost use Rattle.far_core.specs.CoreState.{core_state};
-ghost use Rattle.far_core.specs.Step.{step_of};
+ghost use Rattle.far_core.specs.state.CoreState.{core_state};
+ghost use Rattle.far_core.specs.events.Step.{step_of};
 ghost use Rattle.far_core.specs.declared.event.Event.{Event};
 ghost use Rattle.far_trace.specs.Made.{made};
 ghost use Rattle.far_trace.specs.Turn.{new_events, zero_puts, open_events, view_events, load_events};

@@ -4,8 +4,8 @@ ghost use Rattle.std.specs.Prelude.{◌≡◌, ◌≢◌, ◌∷◌, List, lengt
 ghost use Rattle.far_trace.specs.Reply.{refused_printed};
 ghost use Rattle.far_trace.specs.Stream.{Writes};
 ghost use Rattle.std.specs.List.{flat_map};
-ghost use Rattle.far_core.specs.CoreState.{core_state};
-ghost use Rattle.far_core.specs.State.{State};
+ghost use Rattle.far_core.specs.state.CoreState.{core_state};
+ghost use Rattle.far_core.specs.state.State.{State};
 ghost use Rattle.far_trace.specs.Answers.{Answered, BeginsWithHeap, WritesOutput, WritesAnswer, LeavesBehind, Leaves, end_of};
 ghost use Rattle.far_trace.specs.Grammar.{commands_of};
 ghost use Rattle.far_trace.specs.Command.{said, Heap};

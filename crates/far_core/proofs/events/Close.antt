@@ -6,17 +6,17 @@ use Rattle.far_core.proofs.Frames.{law_with_owners}
 use Rattle.far_core.proofs.Guards.{open_fact, open_test}
 use Rattle.far_core.proofs.KeepOwner.{closed_word}
 use Rattle.far_core.proofs.Touching.{touched, one_scope}
-use Rattle.far_core.specs.Touch.{LetsGo}
+use Rattle.far_core.specs.events.Touch.{LetsGo}
 use Rattle.far_core.proofs.Owed.{Owed, replies}
-use Rattle.far_core.specs.WorldLaws.{Caused}
-use Rattle.far_core.specs.Step.{change_of}
+use Rattle.far_core.specs.laws.Worlds.{Caused}
+use Rattle.far_core.specs.events.Step.{change_of}
 use Rattle.far_core.proofs.Put.{put_both, put_other, put_same}
 use Rattle.far_core.proofs.Worlds.{World-ext, opened_is}
-use Rattle.far_core.specs.Law.{Law, held_place}
-use Rattle.far_core.specs.State.{State, put}
-use Rattle.far_core.specs.Step.{closed}
-use Rattle.far_core.specs.WorldOf.{world_of}
-use Rattle.far_core.specs.WorldSteps.{Closes}
+use Rattle.far_core.specs.state.Law.{Law, held_place}
+use Rattle.far_core.specs.state.State.{State, put}
+use Rattle.far_core.specs.events.Step.{closed}
+use Rattle.far_core.specs.world.WorldOf.{world_of}
+use Rattle.far_core.specs.world.Steps.{Closes}
 use Rattle.far_core.specs.declared.event.Event.TheVariants.{Close}
 use Rattle.far_word.specs.Pointer.{read_of}
 use Rattle.far_word.specs.Scope.{scope_of}

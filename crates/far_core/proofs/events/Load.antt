@@ -4,11 +4,11 @@ use Rattle.std.proofs.lemmas.Bool.Decides.{nat_tests}
 use Rattle.far_core.proofs.Guards.{word_fact, word_test}
 use Rattle.far_core.proofs.Touching.{untouched}
 use Rattle.far_core.proofs.Owed.{Owed, replies}
-use Rattle.far_core.specs.WorldLaws.{Caused}
-use Rattle.far_core.specs.Step.{change_of}
+use Rattle.far_core.specs.laws.Worlds.{Caused}
+use Rattle.far_core.specs.events.Step.{change_of}
 use Rattle.far_core.proofs.Worlds.{load_reads}
-use Rattle.far_core.specs.State.{addr}
-use Rattle.far_core.specs.Step.{data_len, data_word, holds, near_data}
+use Rattle.far_core.specs.state.State.{addr}
+use Rattle.far_core.specs.events.Step.{data_len, data_word, holds, near_data}
 use Rattle.far_core.specs.declared.event.Event.TheVariants.{Load}
 use Rattle.far_word.specs.Sizes.{words_for}
 

@@ -15,13 +15,13 @@ use Rattle.far_core.specs.declared.event.Event.TheVariants.{Mark}
 use Rattle.far_core.specs.declared.event.Kind.{Kind}
 use Rattle.far_core.specs.declared.event.Kind.TheVariants as kinds
 use Rattle.far_core.specs.events.Mark.{may_mark, is_sealed, IsSealedNear}
-use Rattle.far_core.specs.Law.{Law, held_place, in_use}
-use Rattle.far_core.specs.State.{State, put}
-use Rattle.far_core.specs.Step.{change_of}
-use Rattle.far_core.specs.World.{Object}
-use Rattle.far_core.specs.WorldLaws.{Caused}
-use Rattle.far_core.specs.WorldOf.{world_of, object_of, is_marked}
-use Rattle.far_core.specs.WorldSteps as world
+use Rattle.far_core.specs.state.Law.{Law, held_place, in_use}
+use Rattle.far_core.specs.state.State.{State, put}
+use Rattle.far_core.specs.events.Step.{change_of}
+use Rattle.far_core.specs.world.World.{Object}
+use Rattle.far_core.specs.laws.Worlds.{Caused}
+use Rattle.far_core.specs.world.WorldOf.{world_of, object_of, is_marked}
+use Rattle.far_core.specs.world.Steps as world
 use Rattle.far_core.proofs.Cells.{with_mark}
 use Rattle.far_core.proofs.Frames.{Remarked, law_with_cell_marks}
 use Rattle.far_core.proofs.Owed.{Owed, replies}

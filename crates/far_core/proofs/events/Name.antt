@@ -6,25 +6,25 @@ use Rattle.std.specs.Prelude.{replicate, ◌⊎◌}
 use Rattle.far_core.proofs.Cells.{unused}
 use Rattle.far_core.proofs.KeepPlace.{header, law_with_span}
 use Rattle.far_core.proofs.Touching.{untouched, one_cell}
-use Rattle.far_core.specs.Touch.{CellAt, BookView, Touches}
-use Rattle.far_core.specs.Step.{touches}
+use Rattle.far_core.specs.events.Touch.{CellAt, BookView, Touches}
+use Rattle.far_core.specs.events.Step.{touches}
 use Rattle.far_core.proofs.Owed.{Owed, replies}
-use Rattle.far_core.specs.WorldLaws.{Caused}
-use Rattle.far_core.specs.Step.{change_of}
+use Rattle.far_core.specs.laws.Worlds.{Caused}
+use Rattle.far_core.specs.events.Step.{change_of}
 use Rattle.far_core.proofs.Put.{put_both, put_other, put_same}
 use Rattle.far_core.proofs.Worlds.{World-ext}
 use Rattle.far_core.proofs.Zeros.{zeros_all, zeros_below}
 use Rattle.far_core.specs.events.Name.{naming}
-use Rattle.far_core.specs.Happens.{Happens, Names}
+use Rattle.far_core.specs.world.Happens.{Happens, Names}
 use Rattle.std.proofs.lemmas.Nat.{pow_pos}
-use Rattle.far_core.specs.Law.{in_use, Blank, Law}
-use Rattle.far_core.specs.Legal.{IsNewPlace, IsNext, Legal, Unmarked}
-use Rattle.far_core.specs.State.{State, addr, put}
-use Rattle.far_core.specs.Step.{goes_at, is_unmarked, may_name, may_stand, named, taken, zeros}
-use Rattle.far_core.specs.Told.{Takes, Tells}
-use Rattle.far_core.specs.World.{Group, Object}
-use Rattle.far_core.specs.WorldOf.{is_group, is_marked, object_of, world_of}
-use Rattle.far_core.specs.WorldSteps.{Makes}
+use Rattle.far_core.specs.state.Law.{in_use, Blank, Law}
+use Rattle.far_core.specs.events.Legal.{IsNewPlace, IsNext, Legal, Unmarked}
+use Rattle.far_core.specs.state.State.{State, addr, put}
+use Rattle.far_core.specs.events.Step.{goes_at, is_unmarked, may_name, may_stand, named, taken, zeros}
+use Rattle.far_core.specs.events.Told.{Takes, Tells}
+use Rattle.far_core.specs.world.World.{Group, Object}
+use Rattle.far_core.specs.world.WorldOf.{is_group, is_marked, object_of, world_of}
+use Rattle.far_core.specs.world.Steps.{Makes}
 use Rattle.far_core.specs.declared.event.Event.TheVariants.{Name}
 use Rattle.far_core.specs.declared.event.Kind.{Kind}
 use Rattle.far_core.specs.declared.event.Reply.{Reply}

@@ -7,17 +7,17 @@ use Rattle.far_core.proofs.Frames.{law_with_owners}
 use Rattle.far_core.proofs.Guards.{closed_fact, closed_test}
 use Rattle.far_core.proofs.Touching.{touched, one_scope}
 use Rattle.far_core.proofs.Owed.{Owed, replies}
-use Rattle.far_core.specs.WorldLaws.{Caused}
-use Rattle.far_core.specs.Step.{change_of}
+use Rattle.far_core.specs.laws.Worlds.{Caused}
+use Rattle.far_core.specs.events.Step.{change_of}
 use Rattle.far_core.proofs.Put.{put_both, put_other, put_same}
 use Rattle.far_core.proofs.Worlds.{World-ext, closed_is}
-use Rattle.far_core.specs.Happens.{Happens}
-use Rattle.far_core.specs.Law.{Law}
-use Rattle.far_core.specs.State.{State, put}
-use Rattle.far_core.specs.Step.{opened_at}
-use Rattle.far_core.specs.Told.{Tells}
-use Rattle.far_core.specs.WorldOf.{world_of}
-use Rattle.far_core.specs.WorldSteps.{Opens}
+use Rattle.far_core.specs.world.Happens.{Happens}
+use Rattle.far_core.specs.state.Law.{Law}
+use Rattle.far_core.specs.state.State.{State, put}
+use Rattle.far_core.specs.events.Step.{opened_at}
+use Rattle.far_core.specs.events.Told.{Tells}
+use Rattle.far_core.specs.world.WorldOf.{world_of}
+use Rattle.far_core.specs.world.Steps.{Opens}
 use Rattle.far_core.specs.declared.event.Event.TheVariants.{Open}
 use Rattle.far_core.specs.declared.event.Reply.TheVariants.{Done}
 use Rattle.far_word.specs.Scope.{epoch_end, scope_of}

@@ -8,20 +8,20 @@ use Rattle.far_core.proofs.Frames.{law_with_held}
 use Rattle.far_core.proofs.Guards.{none_from, open_fact, open_test}
 use Rattle.far_core.proofs.KeepOwner.{at_cell, hot_cell, hot_read, keeps_hot}
 use Rattle.far_core.proofs.Touching.{by_owner, touched, one_cell}
-use Rattle.far_core.specs.Touch.{CellAt, Rests, Touches}
+use Rattle.far_core.specs.events.Touch.{CellAt, Rests, Touches}
 use Rattle.far_core.proofs.Owed.{Owed, replies}
-use Rattle.far_core.specs.WorldLaws.{Caused}
-use Rattle.far_core.specs.Step.{change_of}
+use Rattle.far_core.specs.laws.Worlds.{Caused}
+use Rattle.far_core.specs.events.Step.{change_of}
 use Rattle.far_core.proofs.Put.{put_both, put_other, put_same}
 use Rattle.far_core.proofs.Worlds.{World-ext, opened_is}
-use Rattle.far_core.specs.Happens.{Happens}
-use Rattle.far_core.specs.Law.{Law, held_place}
-use Rattle.far_core.specs.State.{State, addr, put}
-use Rattle.far_core.specs.Step.{holding, pin_answer, pinned, viewable}
-use Rattle.far_core.specs.Told.{GotHot, Tells}
-use Rattle.far_core.specs.World.{Group, Object, World}
-use Rattle.far_core.specs.WorldOf.{is_marked, object_of, world_of}
-use Rattle.far_core.specs.WorldSteps.{Views}
+use Rattle.far_core.specs.world.Happens.{Happens}
+use Rattle.far_core.specs.state.Law.{Law, held_place}
+use Rattle.far_core.specs.state.State.{State, addr, put}
+use Rattle.far_core.specs.events.Step.{holding, pin_answer, pinned, viewable}
+use Rattle.far_core.specs.events.Told.{GotHot, Tells}
+use Rattle.far_core.specs.world.World.{Group, Object, World}
+use Rattle.far_core.specs.world.WorldOf.{is_marked, object_of, world_of}
+use Rattle.far_core.specs.world.Steps.{Views}
 use Rattle.far_core.specs.declared.event.Event.TheVariants.{Pin}
 use Rattle.far_core.specs.declared.event.Reply.TheVariants.{Refused}
 use Rattle.far_word.specs.Bytes.{bytes_of}

@@ -6,14 +6,14 @@ use Rattle.far_core.proofs.Bounds.{span_len}
 use Rattle.far_core.proofs.KeepWords.{data_kept, head_kept, keeps_words}
 use Rattle.far_core.proofs.Touching.{touched, one_word}
 use Rattle.far_core.proofs.Owed.{Owed, replies}
-use Rattle.far_core.specs.WorldLaws.{Caused}
-use Rattle.far_core.specs.Step.{change_of}
+use Rattle.far_core.specs.laws.Worlds.{Caused}
+use Rattle.far_core.specs.events.Step.{change_of}
 use Rattle.far_core.proofs.Put.{put_both, put_same}
 use Rattle.far_core.proofs.Worlds.{World-ext, object_same}
-use Rattle.far_core.specs.Law.{Law, head_len}
-use Rattle.far_core.specs.State.{State, addr, put}
-use Rattle.far_core.specs.Step.{is_past}
-use Rattle.far_core.specs.WorldOf.{world_of}
+use Rattle.far_core.specs.state.Law.{Law, head_len}
+use Rattle.far_core.specs.state.State.{State, addr, put}
+use Rattle.far_core.specs.events.Step.{is_past}
+use Rattle.far_core.specs.world.WorldOf.{world_of}
 use Rattle.far_core.specs.declared.event.Event.TheVariants.{Put}
 use Rattle.far_core.specs.declared.event.Kind.{Kind}
 use Rattle.far_word.specs.declared.sizes.TheConstants.{LOG_WORDS}

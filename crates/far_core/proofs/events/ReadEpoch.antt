@@ -3,14 +3,14 @@ use Rattle.std.proofs.Common.{Option, Some, ap, arith, refl, sym, ℕ, ◌≡◌
 use Rattle.far_core.proofs.Frames.{law_with_remembered}
 use Rattle.far_core.proofs.Guards.{closed_fact, closed_test}
 use Rattle.far_core.proofs.Touching.{touched}
-use Rattle.far_core.specs.Touch.{Remembers}
+use Rattle.far_core.specs.events.Touch.{Remembers}
 use Rattle.far_core.proofs.Owed.{Owed, replies}
-use Rattle.far_core.specs.WorldLaws.{Caused}
-use Rattle.far_core.specs.Step.{change_of}
+use Rattle.far_core.specs.laws.Worlds.{Caused}
+use Rattle.far_core.specs.events.Step.{change_of}
 use Rattle.far_core.proofs.Put.{put_both, put_other, put_same}
-use Rattle.far_core.specs.Law.{Law}
-use Rattle.far_core.specs.State.{State, put}
-use Rattle.far_core.specs.WorldOf.{world_of}
+use Rattle.far_core.specs.state.Law.{Law}
+use Rattle.far_core.specs.state.State.{State, put}
+use Rattle.far_core.specs.world.WorldOf.{world_of}
 use Rattle.far_core.specs.declared.event.Event.TheVariants.{ReadEpoch}
 
 pub keeps_read_epoch : (s : State) (m : ℕ) → Law s → Law record s { remembered = put s.remembered m (Some s.epoch) }

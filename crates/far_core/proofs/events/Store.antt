@@ -7,13 +7,13 @@ use Rattle.far_core.proofs.Guards.{word_fact, word_test}
 use Rattle.far_core.proofs.KeepWords.{data_stays, keeps_store}
 use Rattle.far_core.proofs.Touching.{touched, one_word}
 use Rattle.far_core.proofs.Owed.{Owed, replies}
-use Rattle.far_core.specs.WorldLaws.{Caused}
-use Rattle.far_core.specs.Step.{change_of}
+use Rattle.far_core.specs.laws.Worlds.{Caused}
+use Rattle.far_core.specs.events.Step.{change_of}
 use Rattle.far_core.proofs.Worlds.{store_writes}
-use Rattle.far_core.specs.Law.{Heads, Law, head_len}
-use Rattle.far_core.specs.Legal.{HoldsWord}
-use Rattle.far_core.specs.State.{State, addr, put}
-use Rattle.far_core.specs.Step.{data_len, data_word, holds, keeps_padding, near_data}
+use Rattle.far_core.specs.state.Law.{Heads, Law, head_len}
+use Rattle.far_core.specs.events.Legal.{HoldsWord}
+use Rattle.far_core.specs.state.State.{State, addr, put}
+use Rattle.far_core.specs.events.Step.{data_len, data_word, holds, keeps_padding, near_data}
 use Rattle.far_core.specs.declared.event.Event.TheVariants.{Store}
 use Rattle.far_word.proofs.PointerLaws.{read_says}
 use Rattle.far_word.specs.Pointer.{read_of}

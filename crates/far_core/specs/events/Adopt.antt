@@ -4,10 +4,10 @@ use Rattle.far_word.specs.declared.sizes.TheConstants.{CELLS}
 use Rattle.far_word.specs.Pointer.{read_of}
 use Rattle.far_core.specs.declared.event.Reply.{Reply}
 use Rattle.far_core.specs.declared.event.Reply.TheVariants.{Word}
-use Rattle.far_core.specs.State.{State, put}
-use Rattle.far_core.specs.Law.{in_use}
-use Rattle.far_core.specs.Touch.{Uses}
-use Rattle.far_core.specs.Rule.{Form, only_word, Rule}
+use Rattle.far_core.specs.state.State.{State, put}
+use Rattle.far_core.specs.state.Law.{in_use}
+use Rattle.far_core.specs.events.Touch.{Uses}
+use Rattle.far_core.specs.events.Rule.{Form, only_word, Rule}
 
 abbrev pub AdoptTells : State → ℕ → ℕ → Reply → State → Type 0
 AdoptTells s m p (Word w) t = (w ≡ t.cell p) × (t.used p ≡ true)

@@ -3,12 +3,12 @@ use Rattle.std.specs.Prelude.{◌≡◌, ◌/◌, ◌==◌, ℕ, cond, None, Som
 use Rattle.far_word.specs.declared.sizes.TheConstants.{CELLS}
 use Rattle.far_core.specs.declared.event.Reply.{Reply}
 use Rattle.far_core.specs.declared.event.Reply.TheVariants.{Done}
-use Rattle.far_core.specs.State.{State, put}
-use Rattle.far_core.specs.Touch.{ScopeAt, LetsGo}
-use Rattle.far_core.specs.Changes.{Change}
-use Rattle.far_core.specs.Changes as change
-use Rattle.far_core.specs.Rule.{Form, Rule}
-use Rattle.far_core.specs.Owners.{is_opened, IsOpen}
+use Rattle.far_core.specs.state.State.{State, put}
+use Rattle.far_core.specs.events.Touch.{ScopeAt, LetsGo}
+use Rattle.far_core.specs.world.Changes.{Change}
+use Rattle.far_core.specs.world.Changes as change
+use Rattle.far_core.specs.events.Rule.{Form, Rule}
+use Rattle.far_core.specs.events.Owners.{is_opened, IsOpen}
 
 abbrev pub closed : State → ℕ → State
 closed s m = record s {

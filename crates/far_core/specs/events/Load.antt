@@ -3,12 +3,12 @@ use Rattle.std.specs.Prelude.{◌&&◌, ℕ, nat_lt, None, Option, Some}
 use Rattle.far_word.specs.Sizes.{words_for}
 use Rattle.far_core.specs.declared.event.Reply.TheVariants.{Word}
 use Rattle.far_core.specs.declared.event.Reply.{Reply}
-use Rattle.far_core.specs.State.{State}
-use Rattle.far_core.specs.Touch.{NoPart}
-use Rattle.far_core.specs.Changes.{Change}
-use Rattle.far_core.specs.Changes as change
-use Rattle.far_core.specs.Rule.{Form, Rule, Nothing}
-use Rattle.far_core.specs.Owners.{holds, data_len, data_word, HoldsWord}
+use Rattle.far_core.specs.state.State.{State}
+use Rattle.far_core.specs.events.Touch.{NoPart}
+use Rattle.far_core.specs.world.Changes.{Change}
+use Rattle.far_core.specs.world.Changes as change
+use Rattle.far_core.specs.events.Rule.{Form, Rule, Nothing}
+use Rattle.far_core.specs.events.Owners.{holds, data_len, data_word, HoldsWord}
 
 abbrev pub load_rule : State → ℕ → ℕ → ℕ → Rule
 load_rule s m p i = record {

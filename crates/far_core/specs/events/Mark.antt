@@ -12,11 +12,11 @@ use Rattle.far_core.specs.declared.event.Kind.{Kind}
 use Rattle.far_core.specs.declared.event.Kind.TheVariants as kinds
 use Rattle.far_core.specs.declared.event.Reply.{Reply}
 use Rattle.far_core.specs.declared.event.Reply.TheVariants.{Word}
-use Rattle.far_core.specs.Changes.{Change}
-use Rattle.far_core.specs.Changes as change
-use Rattle.far_core.specs.State.{State, put}
-use Rattle.far_core.specs.Touch.{CellAt, NoPart}
-use Rattle.far_core.specs.Rule.{Rule, Form}
+use Rattle.far_core.specs.world.Changes.{Change}
+use Rattle.far_core.specs.world.Changes as change
+use Rattle.far_core.specs.state.State.{State, put}
+use Rattle.far_core.specs.events.Touch.{CellAt, NoPart}
+use Rattle.far_core.specs.events.Rule.{Rule, Form}
 
 abbrev pub is_sealed : Kind → Bool
 is_sealed kinds.Free = false

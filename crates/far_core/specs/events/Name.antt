@@ -11,12 +11,12 @@ use Rattle.far_word.specs.Sizes.{size_of, words_for}
 use Rattle.far_core.specs.declared.event.Kind.{Kind}
 use Rattle.far_core.specs.declared.event.Reply.{Reply}
 use Rattle.far_core.specs.declared.event.Reply.TheVariants.{Done, Word}
-use Rattle.far_core.specs.State.{State, put, addr}
-use Rattle.far_core.specs.Law.{Blank}
-use Rattle.far_core.specs.Touch.{CellAt, BookView}
-use Rattle.far_core.specs.Changes.{Change}
-use Rattle.far_core.specs.Changes as change
-use Rattle.far_core.specs.Rule.{Form, Rule}
+use Rattle.far_core.specs.state.State.{State, put, addr}
+use Rattle.far_core.specs.state.Law.{Blank}
+use Rattle.far_core.specs.events.Touch.{CellAt, BookView}
+use Rattle.far_core.specs.world.Changes.{Change}
+use Rattle.far_core.specs.world.Changes as change
+use Rattle.far_core.specs.events.Rule.{Form, Rule}
 use Rattle.far_word.specs.declared.pointer.PtrWord.TheVariants as pointer
 use Rattle.far_core.specs.declared.event.Kind.TheVariants as kinds
 

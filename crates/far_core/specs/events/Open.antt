@@ -3,12 +3,12 @@ use Rattle.std.specs.Prelude.{◌≡◌, ◌+◌, ◌*◌, ◌&&◌, ℕ, Option
 use Rattle.far_word.specs.Scope.{scope_word}
 use Rattle.far_core.specs.declared.event.Reply.{Reply}
 use Rattle.far_core.specs.declared.event.Reply.TheVariants.{Done}
-use Rattle.far_core.specs.State.{State, put}
-use Rattle.far_core.specs.Touch.{ScopeAt, NoPart}
-use Rattle.far_core.specs.Changes.{Change}
-use Rattle.far_core.specs.Changes as change
-use Rattle.far_core.specs.Rule.{Form, Rule}
-use Rattle.far_core.specs.Owners.{is_closed, IsClosed}
+use Rattle.far_core.specs.state.State.{State, put}
+use Rattle.far_core.specs.events.Touch.{ScopeAt, NoPart}
+use Rattle.far_core.specs.world.Changes.{Change}
+use Rattle.far_core.specs.world.Changes as change
+use Rattle.far_core.specs.events.Rule.{Form, Rule}
+use Rattle.far_core.specs.events.Owners.{is_closed, IsClosed}
 use Rattle.far_word.specs.declared.scope.ScopeWord.TheVariants as scoped
 
 -- the state after a legal event

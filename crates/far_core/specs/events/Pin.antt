@@ -10,12 +10,12 @@ use Rattle.far_word.specs.Mark.{position}
 use Rattle.far_word.specs.Pointer.{read_of, view_place, marked}
 use Rattle.far_core.specs.declared.event.Reply.{Reply}
 use Rattle.far_core.specs.declared.event.Reply.TheVariants.{Word, Held}
-use Rattle.far_core.specs.State.{State, put}
-use Rattle.far_core.specs.Touch.{CellAt, Rests}
-use Rattle.far_core.specs.Changes.{Change}
-use Rattle.far_core.specs.Changes as change
-use Rattle.far_core.specs.Rule.{Form, Rule}
-use Rattle.far_core.specs.Owners.{is_opened, IsOpen}
+use Rattle.far_core.specs.state.State.{State, put}
+use Rattle.far_core.specs.events.Touch.{CellAt, Rests}
+use Rattle.far_core.specs.world.Changes.{Change}
+use Rattle.far_core.specs.world.Changes as change
+use Rattle.far_core.specs.events.Rule.{Form, Rule}
+use Rattle.far_core.specs.events.Owners.{is_opened, IsOpen}
 
 -- where a view may rest, it is held from then on
 abbrev pub holding : (ℕ → Option Place) → ℕ → Option Place → ℕ → Option Place

@@ -4,11 +4,11 @@ use Rattle.far_word.specs.declared.sizes.TheConstants.{LOG_WORDS}
 use Rattle.far_core.specs.declared.event.Kind.{Kind}
 use Rattle.far_core.specs.declared.event.Reply.{Reply}
 use Rattle.far_core.specs.declared.event.Reply.TheVariants.{Done}
-use Rattle.far_core.specs.State.{State, put}
-use Rattle.far_core.specs.Touch.{WordAt, NoPart}
-use Rattle.far_core.specs.Changes.{Change}
-use Rattle.far_core.specs.Changes as change
-use Rattle.far_core.specs.Rule.{Form, Rule}
+use Rattle.far_core.specs.state.State.{State, put}
+use Rattle.far_core.specs.events.Touch.{WordAt, NoPart}
+use Rattle.far_core.specs.world.Changes.{Change}
+use Rattle.far_core.specs.world.Changes as change
+use Rattle.far_core.specs.events.Rule.{Form, Rule}
 use Rattle.far_core.specs.declared.event.Kind.TheVariants as kinds
 
 -- past the tail of a log that isn't sealed

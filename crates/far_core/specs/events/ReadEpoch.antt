@@ -2,12 +2,12 @@
 use Rattle.std.specs.Prelude.{◌≡◌, ℕ, Some, None, Option}
 use Rattle.far_core.specs.declared.event.Reply.{Reply}
 use Rattle.far_core.specs.declared.event.Reply.TheVariants.{Epoch}
-use Rattle.far_core.specs.State.{State, put}
-use Rattle.far_core.specs.Touch.{Remembers}
-use Rattle.far_core.specs.Changes.{Change}
-use Rattle.far_core.specs.Changes as change
-use Rattle.far_core.specs.Rule.{Form, Rule}
-use Rattle.far_core.specs.Owners.{is_closed, IsClosed}
+use Rattle.far_core.specs.state.State.{State, put}
+use Rattle.far_core.specs.events.Touch.{Remembers}
+use Rattle.far_core.specs.world.Changes.{Change}
+use Rattle.far_core.specs.world.Changes as change
+use Rattle.far_core.specs.events.Rule.{Form, Rule}
+use Rattle.far_core.specs.events.Owners.{is_closed, IsClosed}
 
 abbrev pub ReadEpochTells : State → ℕ → Reply → State → Type 0
 ReadEpochTells s m (Epoch e) t = (e ≡ s.epoch) × (t.remembered m ≡ Some e)

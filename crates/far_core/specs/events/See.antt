@@ -3,9 +3,9 @@ use Rattle.std.specs.Prelude.{◌≡◌, ◌*◌, ◌<◌, ℕ, nat_lt, None}
 use Rattle.far_word.specs.declared.sizes.TheConstants.{CELLS}
 use Rattle.far_core.specs.declared.event.Reply.{Reply}
 use Rattle.far_core.specs.declared.event.Reply.TheVariants.{Word}
-use Rattle.far_core.specs.State.{State}
-use Rattle.far_core.specs.Touch.{NoPart}
-use Rattle.far_core.specs.Rule.{Rule, Form, only_word}
+use Rattle.far_core.specs.state.State.{State}
+use Rattle.far_core.specs.events.Touch.{NoPart}
+use Rattle.far_core.specs.events.Rule.{Rule, Form, only_word}
 
 abbrev pub SeeTells : State → ℕ → Reply → State → Type 0
 SeeTells s p (Word w) t = w ≡ s.cell p

@@ -3,12 +3,12 @@ use Rattle.std.specs.Prelude.{◌-◌, ◌*◌, ◌^◌, ◌<◌, ◌&&◌, ℕ,
 use Rattle.far_word.specs.Sizes.{words_for}
 use Rattle.far_core.specs.declared.event.Reply.TheVariants.{Done}
 use Rattle.far_core.specs.declared.event.Reply.{Reply}
-use Rattle.far_core.specs.State.{State, put}
-use Rattle.far_core.specs.Touch.{WordAt, NoPart}
-use Rattle.far_core.specs.Changes.{Change}
-use Rattle.far_core.specs.Changes as change
-use Rattle.far_core.specs.Rule.{Form, Rule, Nothing}
-use Rattle.far_core.specs.Owners.{holds, data_len, data_word, keeps_padding, HoldsWord}
+use Rattle.far_core.specs.state.State.{State, put}
+use Rattle.far_core.specs.events.Touch.{WordAt, NoPart}
+use Rattle.far_core.specs.world.Changes.{Change}
+use Rattle.far_core.specs.world.Changes as change
+use Rattle.far_core.specs.events.Rule.{Form, Rule, Nothing}
+use Rattle.far_core.specs.events.Owners.{holds, data_len, data_word, keeps_padding, HoldsWord}
 
 abbrev pub store_rule : State → ℕ → ℕ → ℕ → ℕ → Rule
 store_rule s m p i w = record {

@@ -1,7 +1,7 @@
 use Rattle.std.proofs.Common.{◌+◌, ◌<◌, sym, ap, ◌∙◌, arith}
-use Rattle.far_core.specs.CoreState.{core_state}
-use Rattle.far_core.specs.State.{State}
-use Rattle.far_core.specs.Step.{step_of}
+use Rattle.far_core.specs.state.CoreState.{core_state}
+use Rattle.far_core.specs.state.State.{State}
+use Rattle.far_core.specs.events.Step.{step_of}
 use Rattle.far_core.specs.declared.event.Event.TheVariants.{Load as Loads}
 use Rattle.far_trace.specs.Interpreter.{loaded}
 use Rattle.far_trace.proofs.Making.{made_next}

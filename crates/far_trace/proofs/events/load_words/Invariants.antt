@@ -1,5 +1,5 @@
 use Rattle.std.proofs.Common.{◌≡◌, ℕ, ◌<◌, ◌+◌, get_or}
-use Rattle.far_core.specs.CoreState.{core_state}
+use Rattle.far_core.specs.state.CoreState.{core_state}
 use Rattle.far_trace.specs.Interpreter.{loaded}
 use Rattle.far_trace.specs.Made.{made}
 use Rattle.far_trace.specs.Turn.{load_events}

@@ -1,4 +1,4 @@
-use Rattle.far_core.specs.CoreState.{core_state}
+use Rattle.far_core.specs.state.CoreState.{core_state}
 use Rattle.far_trace.proofs.Making.{new_made}
 use Rattle.far_trace.proofs.events.make_new.Goals as goal
 

@@ -1,5 +1,5 @@
 use Rattle.std.proofs.Common.{◌+◌, sym, ◌∙◌, arith}
-use Rattle.far_core.specs.CoreState.{core_state}
+use Rattle.far_core.specs.state.CoreState.{core_state}
 use Rattle.far_core.specs.declared.event.Event.TheVariants.{Store as Stores}
 use Rattle.far_trace.specs.Interpreter.{stores_of}
 use Rattle.far_trace.proofs.Making.{made_next, stepped}

@@ -3,8 +3,8 @@ use Rattle.std.specs.Prelude.{map}
 use Rattle.std.specs.List.{flat_map}
 use Rattle.std.proofs.lemmas.List.{length-map, drop_all}
 use Rattle.std.proofs.KnownBytes.{Appends-nil}
-use Rattle.far_core.specs.CoreState.{core_state}
-use Rattle.far_core.specs.State.{State}
+use Rattle.far_core.specs.state.CoreState.{core_state}
+use Rattle.far_core.specs.state.State.{State}
 use Rattle.far_trace.specs.Answers.{Answered}
 use Rattle.far_trace.specs.Command.{Command, said}
 use Rattle.far_trace.specs.Interpreter.{AllBytes}

@@ -1,8 +1,8 @@
 use Rattle.std.proofs.Common.{List, ◌∷◌, ◌++◌, drop, get_or}
 use Rattle.std.specs.Prelude.{map}
 use Rattle.std.specs.List.{flat_map}
-use Rattle.far_core.specs.CoreState.{core_state}
-use Rattle.far_core.specs.State.{State}
+use Rattle.far_core.specs.state.CoreState.{core_state}
+use Rattle.far_core.specs.state.State.{State}
 use Rattle.far_trace.specs.Answers.{Answered}
 use Rattle.far_trace.specs.Command.{said}
 use Rattle.far_trace.specs.Reply.{Reply, Done, printed}

@@ -1,5 +1,5 @@
 use Rattle.std.proofs.Common.{◌≡◌, inr, ap, sym, ◌∙◌}
-use Rattle.far_core.specs.Shape.{is_shape}
+use Rattle.far_core.specs.state.Shape.{is_shape}
 use Rattle.far_trace.specs.Answers.{shape_of}
 use Rattle.far_trace.proofs.Runs.{in_range, written_front}
 use Rattle.far_trace.proofs.run.answer_heap.Goals as goal

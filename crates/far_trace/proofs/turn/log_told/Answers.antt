@@ -1,6 +1,6 @@
 use Rattle.std.proofs.Common.{◌≡◌, ◌*◌, ◌-◌, sym, ◌∙◌, ap, ℕ}
-use Rattle.far_core.specs.CoreState.{core_state}
-use Rattle.far_core.specs.State.{State}
+use Rattle.far_core.specs.state.CoreState.{core_state}
+use Rattle.far_core.specs.state.State.{State}
 use Rattle.far_trace.specs.Reply.{LogLine}
 use Rattle.far_trace.specs.Turn.{kind_told}
 use Rattle.far_trace.specs.declared.reply.LogKind.{LogKind}

@@ -1,5 +1,5 @@
 use Rattle.std.proofs.Common.{sym, ◌∙◌, get_or}
-use Rattle.far_core.specs.CoreState.{core_state}
+use Rattle.far_core.specs.state.CoreState.{core_state}
 use Rattle.far_trace.proofs.Lowest.{lowest_is}
 use Rattle.far_trace.proofs.turn.lowest.Goals as goal
 

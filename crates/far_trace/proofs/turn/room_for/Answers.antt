@@ -1,6 +1,6 @@
 use Rattle.std.proofs.Common.{◌≡◌, sym, ◌∙◌, ap}
-use Rattle.far_core.specs.CoreState.{core_state}
-use Rattle.far_core.specs.State.{State}
+use Rattle.far_core.specs.state.CoreState.{core_state}
+use Rattle.far_core.specs.state.State.{State}
 use Rattle.far_trace.specs.Interpreter.{next_of}
 use Rattle.far_trace.proofs.Rooms.{room_is}
 use Rattle.far_trace.proofs.turn.room_for.Goals as goal

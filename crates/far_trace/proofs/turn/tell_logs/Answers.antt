@@ -1,6 +1,6 @@
 use Rattle.std.proofs.Common.{◌++◌, ◌∷◌, [], sym, ◌∙◌, arith}
 use Rattle.std.proofs.lemmas.List.FromFn.{map-range_with_len_more}
-use Rattle.far_core.specs.CoreState.{core_state}
+use Rattle.far_core.specs.state.CoreState.{core_state}
 use Rattle.far_trace.specs.Turn.{log_line}
 use Rattle.std.proofs.lemmas.List.{take_more_set}
 use Rattle.far_trace.proofs.turn.tell_logs.Goals as goal

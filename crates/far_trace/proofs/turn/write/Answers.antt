@@ -1,9 +1,9 @@
 use Rattle.std.proofs.Common.{◌≡◌, ◌+◌, ◌*◌, ◌-◌, ◌/◌, ◌<◌, ◌≤◌, ℕ, true, length, get_or, List, ap, sym, ◌∙◌, arith, refl}
 use Rattle.far_word.specs.Pointer.{read_of}
 use Rattle.far_word.specs.Sizes.{words_for}
-use Rattle.far_core.specs.CoreState.{core_state}
-use Rattle.far_core.specs.State.{State}
-use Rattle.far_core.specs.Step.{near_data, data_len}
+use Rattle.far_core.specs.state.CoreState.{core_state}
+use Rattle.far_core.specs.state.State.{State}
+use Rattle.far_core.specs.events.Step.{near_data, data_len}
 use Rattle.far_trace.specs.HexWord.{bytes_of as spelled}
 use Rattle.far_trace.specs.Interpreter.{loaded, stores_of}
 use Rattle.far_trace.specs.Made.{made}

@@ -1,4 +1,4 @@
-use Rattle.far_core.specs.Memory.{state_of}
+use Rattle.far_core.specs.state.Memory.{state_of}
 use Rattle.far_core.proofs.Told.{answers_tell}
 use Rattle.far_core.proofs.machine.Core.answers_tell.Goals as goal
 

@@ -1,4 +1,4 @@
-use Rattle.far_core.specs.Memory.{state_of}
+use Rattle.far_core.specs.state.Memory.{state_of}
 use Rattle.far_core.proofs.LegalTest.{is_fact, is_test}
 use Rattle.far_core.proofs.machine.Core.legal_is_tested.Goals as goal
 

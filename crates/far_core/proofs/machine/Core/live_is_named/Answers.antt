@@ -1,4 +1,4 @@
-use Rattle.far_core.specs.Memory.{state_of}
+use Rattle.far_core.specs.state.Memory.{state_of}
 use Rattle.far_core.proofs.LiveLaws.{live_is, live_bytes_are}
 use Rattle.far_core.proofs.machine.Core.live_is_named.Goals as goal
 

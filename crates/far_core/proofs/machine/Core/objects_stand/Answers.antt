@@ -1,4 +1,4 @@
-use Rattle.far_core.specs.Memory.{state_of}
+use Rattle.far_core.specs.state.Memory.{state_of}
 use Rattle.far_core.proofs.WorldLaws.{objects_stand}
 use Rattle.far_core.proofs.machine.Core.objects_stand.Goals as goal
 

@@ -1,7 +1,7 @@
 use Rattle.std.proofs.Common.{◌++◌, [], ◌∷◌, arith}
 use Rattle.std.proofs.lemmas.List.{take_more}
 use Rattle.far_core.specs.declared.event.Event.TheVariants.{ReadEpoch}
-use Rattle.far_core.specs.CoreState.{core_state}
+use Rattle.far_core.specs.state.CoreState.{core_state}
 use Rattle.far_core.proofs.Steps.{leads_more, runs_more}
 use Rattle.far_core.proofs.machine.Core.run.Goals as goal
 

@@ -1,9 +1,9 @@
 use Rattle.std.proofs.Common.{◌≡◌, take, vec_len, vec_capacity, length, List}
 use Rattle.std.specs.Prelude.{map}
-use Rattle.far_core.specs.CoreState.{core_state}
-use Rattle.far_core.specs.Runs.{Leads, Runs}
-use Rattle.far_core.specs.State.{State}
-use Rattle.far_core.specs.WorldOf.{world_of}
+use Rattle.far_core.specs.state.CoreState.{core_state}
+use Rattle.far_core.specs.world.Runs.{Leads, Runs}
+use Rattle.far_core.specs.state.State.{State}
+use Rattle.far_core.specs.world.WorldOf.{world_of}
 use Rattle.far_core.proofs.machine.Core.run.Given as goal
 
 abbrev pub invariant-loop-event : goal.invariant-loop-event

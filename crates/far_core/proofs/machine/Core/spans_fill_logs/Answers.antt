@@ -1,4 +1,4 @@
-use Rattle.far_core.specs.Memory.{state_of}
+use Rattle.far_core.specs.state.Memory.{state_of}
 use Rattle.far_core.proofs.Observations.{fills, logs_stand, placed_exactly}
 use Rattle.far_core.proofs.machine.Core.spans_fill_logs.Goals as goal
 

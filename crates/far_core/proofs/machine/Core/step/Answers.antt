@@ -1,4 +1,4 @@
-use Rattle.far_core.specs.Memory.{state_of}
+use Rattle.far_core.specs.state.Memory.{state_of}
 use Rattle.far_core.proofs.Steps.{made, turned, made_only, passes, happens}
 use Rattle.far_core.proofs.machine.Core.step.Goals as goal
 

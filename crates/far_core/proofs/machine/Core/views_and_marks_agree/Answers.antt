@@ -1,4 +1,4 @@
-use Rattle.far_core.specs.Memory.{state_of}
+use Rattle.far_core.specs.state.Memory.{state_of}
 use Rattle.far_core.proofs.WorldFacts.{view_rests, marks_agree, marks_exist}
 use Rattle.far_core.proofs.machine.Core.views_and_marks_agree.Goals as goal
 

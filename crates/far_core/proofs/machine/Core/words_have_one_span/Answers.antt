@@ -1,4 +1,4 @@
-use Rattle.far_core.specs.Memory.{state_of}
+use Rattle.far_core.specs.state.Memory.{state_of}
 use Rattle.far_core.proofs.Observations.{has_one_span, has_no_span}
 use Rattle.far_core.proofs.machine.Core.words_have_one_span.Goals as goal
 

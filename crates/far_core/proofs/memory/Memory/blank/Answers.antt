@@ -1,7 +1,7 @@
 use Rattle.std.proofs.Common.{◌+◌, ◌-◌, ◌*◌, false, None, rules}
 use Rattle.far_core.specs.declared.event.Kind.TheVariants.{Free}
 use Rattle.far_word.specs.declared.sizes.TheConstants.{LOG_WORDS}
-use Rattle.far_core.specs.Memory.{state_of}
+use Rattle.far_core.specs.state.Memory.{state_of}
 use Rattle.far_core.proofs.Begins.{row_of, masked}
 use Rattle.far_core.proofs.memory.Memory.blank.Goals as goal
 

@@ -1,6 +1,6 @@
 use Rattle.std.proofs.Common.{◌≡◌, None, cond, nat_lt}
 use Rattle.std.specs.Prelude.{nat_le, ◌&&◌}
-use Rattle.far_core.specs.Memory.{state_of}
+use Rattle.far_core.specs.state.Memory.{state_of}
 use Rattle.far_core.proofs.memory.Memory.let_go.Given as goal
 
 abbrev pub invariant-loop-pointer : goal.invariant-loop-pointer

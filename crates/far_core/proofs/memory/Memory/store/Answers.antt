@@ -1,8 +1,8 @@
 use Rattle.std.proofs.Common.{◌≡◌, ◌<◌, ◌+◌, arith, ap, sym, ◌∙◌}
 use Rattle.far_word.specs.Pointer.{read_of}
 use Rattle.far_word.specs.Sizes.{words_for}
-use Rattle.far_core.specs.Memory.{state_of}
-use Rattle.far_core.specs.Step.{data_len, data_word, near_len, near_data}
+use Rattle.far_core.specs.state.Memory.{state_of}
+use Rattle.far_core.specs.events.Step.{data_len, data_word, near_len, near_data}
 use Rattle.far_core.proofs.Bounds.{in_memory}
 use Rattle.far_core.proofs.memory.Memory.store.Goals as goal
 

@@ -1,5 +1,5 @@
 use Rattle.std.proofs.Common.{sym, ◌∙◌}
-use Rattle.far_core.specs.Memory.{state_of}
+use Rattle.far_core.specs.state.Memory.{state_of}
 use Rattle.far_core.proofs.Zeros.{zeros_not}
 use Rattle.far_core.proofs.memory.Memory.zeros.Goals as goal
 

@@ -1,6 +1,6 @@
 use Rattle.std.proofs.Common.{◌≡◌, true}
-use Rattle.far_core.specs.Step.{zeros}
-use Rattle.far_core.specs.Memory.{state_of}
+use Rattle.far_core.specs.events.Step.{zeros}
+use Rattle.far_core.specs.state.Memory.{state_of}
 use Rattle.far_core.proofs.memory.Memory.zeros.Given as goal
 
 abbrev pub invariant-loop-k : goal.invariant-loop-k

@@ -1,5 +1,0 @@
-use Rattle.far_core.proofs.Left.{events_leave}
-use Rattle.far_core.proofs.laws.events_leave_others.Goals as goal
-
-pub returns : goal.returns
-returns c = events_leave

@@ -1,0 +1,5 @@
+use Rattle.far_core.proofs.Left.{events_leave}
+use Rattle.far_core.proofs.machine.laws.events_leave_others.Goals as goal
+
+pub returns : goal.returns
+returns c = events_leave

@@ -1,0 +1,34 @@
+-- What an event leaves as it is: whatever changed, the event says so.
+use Rattle.std.specs.Prelude.{◌≡◌, ℕ, ◌+◌, ◌*◌, ◌/◌, ◌⊎◌, true, Option, Some, None}
+use Rattle.far_word.specs.declared.sizes.TheConstants.{CELLS, LOG_WORDS}
+use Rattle.far_core.specs.declared.event.Event.{Event}
+use Rattle.far_core.specs.declared.event.Event.TheVariants.{ReadEpoch, Open, Pin, Store, Close, Adopt, Put, Name, Mark}
+use Rattle.far_core.specs.state.State.{State}
+use Rattle.far_core.specs.events.Step.{data_word, is_legal, step_of, touches}
+use Rattle.far_core.specs.events.Touch.{Spot, EpochAt, ScopeAt, CellAt, WordAt, Part, NoPart, Remembers, Uses, Rests, LetsGo, BookView, Touches}
+
+-- what an owner remembers, uses and holds changes by an event of this owner alone; the book's view by a naming
+abbrev pub PartBy : Event → Part → Type 0
+PartBy e NoPart = Unit {0}
+PartBy e (Remembers m) = e ≡ ReadEpoch m
+PartBy e (Uses p) = e ≡ Adopt (p / CELLS) p
+PartBy e (Rests p) = e ≡ Pin (p / CELLS) p
+PartBy e (LetsGo m) = e ≡ Close m
+PartBy e BookView = (p old new : ℕ) × (e ≡ Name p old new)
+
+-- a scope word changes by its owner's Open or Close; a cell by its owner's pin, a mark, or a naming of it; a data word by
+-- its owner's Store or a Put of just this word
+abbrev pub WordBy : State → Event → Option Spot → Type 0
+WordBy s e None = Unit {0}
+WordBy s e (Some EpochAt) = ⊥
+WordBy s e (Some (ScopeAt m)) = (e ≡ Open m) ⊎ (e ≡ Close m)
+WordBy s e (Some (CellAt p)) = (e ≡ Pin (p / CELLS) p) ⊎ ((e ≡ Mark p) ⊎ ((old new : ℕ) × (e ≡ Name p old new)))
+WordBy s e (Some (WordAt a)) = ((p i w : ℕ) × (e ≡ Store (p / CELLS) p i w) × (a ≡ data_word s p i)) ⊎ ((l at w : ℕ) × (e ≡ Put l at w) × (a ≡ l * LOG_WORDS + at))
+
+pub record Leaves (s : State) (e : Event) : Type 0 where
+  pub within : Touches s (touches s e) (step_of s e).0
+  pub part : is_legal s e ≡ true → PartBy e (touches s e).part
+  pub word : is_legal s e ≡ true → WordBy s e (touches s e).word
+
+abbrev pub EventsLeave : Type 0
+EventsLeave = (s : State) (e : Event) → Leaves s e

@@ -1,0 +1,78 @@
+-- What each event does: its rule; the step that it makes. Each event stands in its own file.
+use Rattle.std.specs.Prelude.{Option, Some, Bool, if◌then◌else◌}
+use Rattle.far_core.specs.declared.event.Event.{Event}
+use Rattle.far_core.specs.declared.event.Event.TheVariants.{ReadEpoch, Open, Pin, Load, Store, Close, Adopt, Put, Name, See, Mark}
+use Rattle.far_core.specs.declared.event.Reply.{Reply}
+use Rattle.far_core.specs.declared.event.Reply.TheVariants.{Refused}
+use Rattle.far_core.specs.state.State.{State}
+use Rattle.far_core.specs.events.Rule.{Rule, Form}
+use Rattle.far_core.specs.world.Changes.{Change, Stays}
+use Rattle.far_core.specs.events.Touch.{Touch}
+use Rattle.far_core.specs.events.ReadEpoch.{read_epoch_rule, read_epoch_form}
+use Rattle.far_core.specs.events.Open.{open_rule, open_form}
+use Rattle.far_core.specs.events.Pin.{pin_rule, pin_form}
+use Rattle.far_core.specs.events.Load.{load_rule, load_form}
+use Rattle.far_core.specs.events.Store.{store_rule, store_form}
+use Rattle.far_core.specs.events.Close.{close_rule, close_form}
+use Rattle.far_core.specs.events.Adopt.{adopt_rule, adopt_form}
+use Rattle.far_core.specs.events.Put.{put_rule, put_form}
+use Rattle.far_core.specs.events.Name.{name_rule, name_form}
+use Rattle.far_core.specs.events.See.{see_rule, see_form}
+use Rattle.far_core.specs.events.Mark.{mark_rule, mark_form}
+pub use Rattle.far_core.specs.events.Owners.{is_closed, is_opened, holds, near_len, near_data, data_len, data_word, keeps_padding}
+pub use Rattle.far_core.specs.events.Open.{opened_at}
+pub use Rattle.far_core.specs.events.Pin.{holding, viewable, pinned, pin_answer}
+pub use Rattle.far_core.specs.events.Close.{closed}
+pub use Rattle.far_core.specs.events.Put.{is_past}
+pub use Rattle.far_core.specs.events.Name.{goes_at, zeros, is_unmarked, may_stand, may_name, taken, named}
+
+abbrev pub rule : State → Event → Rule
+rule s (ReadEpoch m) = read_epoch_rule s m
+rule s (Open m) = open_rule s m
+rule s (Pin m p) = pin_rule s m p
+rule s (Load m p i) = load_rule s m p i
+rule s (Store m p i w) = store_rule s m p i w
+rule s (Close m) = close_rule s m
+rule s (Adopt m p) = adopt_rule s m p
+rule s (Put l at w) = put_rule s l at w
+rule s (Name p old new) = name_rule s p old new
+rule s (See p) = see_rule s p
+rule s (Mark p) = mark_rule s p
+
+abbrev pub is_legal : State → Event → Bool
+is_legal s e = (rule s e).test
+
+abbrev pub after : State → Event → State
+after s e = (rule s e).after
+
+abbrev pub answer : State → Event → Reply
+answer s e = (rule s e).answer
+
+abbrev pub touches : State → Event → Touch
+touches s e = (rule s e).touches
+
+-- ---- the step: a legal event is made, any other is refused and changes nothing
+abbrev pub step_of : State → Event → State × Reply
+step_of s e = if is_legal s e then (after s e, answer s e) else (s, Refused)
+
+abbrev pub form : Event → Form
+form (ReadEpoch m) = read_epoch_form m
+form (Open m) = open_form m
+form (Pin m p) = pin_form m p
+form (Load m p i) = load_form m p i
+form (Store m p i w) = store_form m p i w
+form (Close m) = close_form m
+form (Adopt m p) = adopt_form m p
+form (Put l at w) = put_form l at w
+form (Name p old new) = name_form p old new
+form (See p) = see_form p
+form (Mark p) = mark_form p
+
+-- a word that an event carries is 64 bits wide
+abbrev pub Fits : Event → Type 0
+Fits e = (form e).Fits
+
+-- what an event and its reply do to the world; no other reply comes
+abbrev pub change_of : Event → Reply → Option Change
+change_of e Refused = Some Stays
+change_of e r = (form e).change r

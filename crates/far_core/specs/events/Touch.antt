@@ -1,0 +1,44 @@
+-- What an event may touch: one shared word at most, and a part of one view.
+use Rattle.std.specs.Prelude.{◌≡◌, ◌≢◌, ℕ, ◌/◌, Option, Some}
+use Rattle.far_word.specs.declared.sizes.TheConstants.{CELLS}
+use Rattle.far_core.specs.state.State.{State}
+
+-- a shared word
+pub data Spot : Type 0 where
+  EpochAt : Spot
+  ScopeAt : ℕ → Spot
+  CellAt : ℕ → Spot
+  WordAt : ℕ → Spot
+
+-- a part of a view: what an owner remembers; a cell that it uses; a place that it holds; what it remembers and all that it
+-- holds; and the book's view
+pub data Part : Type 0 where
+  NoPart : Part
+  Remembers : ℕ → Part
+  Uses : ℕ → Part
+  Rests : ℕ → Part
+  LetsGo : ℕ → Part
+  BookView : Part
+
+pub record Touch : Type 0 where
+  pub word : Option Spot
+  pub part : Part
+
+-- the word at a spot
+abbrev pub word_at : ℕ → (ℕ → ℕ) → (ℕ → ℕ) → (ℕ → ℕ) → Spot → ℕ
+word_at epoch scope cell word EpochAt = epoch
+word_at epoch scope cell word (ScopeAt m) = scope m
+word_at epoch scope cell word (CellAt p) = cell p
+word_at epoch scope cell word (WordAt a) = word a
+
+abbrev pub shared : State → Spot → ℕ
+shared s a = word_at s.epoch s.scope s.cell s.word a
+
+-- from s to t nothing changes but what is touched
+pub record Touches (s : State) (x : Touch) (t : State) : Type 0 where
+  pub words : (a : Spot) → (x.word ≡ Some a → ⊥) → shared t a ≡ shared s a
+  pub remembered : (m : ℕ) → x.part ≢ Remembers m → x.part ≢ LetsGo m → t.remembered m ≡ s.remembered m
+  pub used : (p : ℕ) → x.part ≢ Uses p → t.used p ≡ s.used p
+  pub held : (p : ℕ) → x.part ≢ Rests p → x.part ≢ LetsGo (p / CELLS) → t.held p ≡ s.held p
+  pub book : x.part ≢ BookView → (t.kind ≡ s.kind) × (t.tail ≡ s.tail) × (t.current ≡ s.current) × (t.starts ≡ s.starts)
+  pub rest : (t.mutators ≡ s.mutators) × (t.logs ≡ s.logs) × (t.honest ≡ s.honest) × (t.round ≡ s.round) × (t.round_epoch ≡ s.round_epoch) × (t.clear ≡ s.clear) × (t.stored ≡ s.stored)

@@ -1,0 +1,5 @@
+pub mod Agreement
+pub mod Live
+pub mod Observed
+pub mod Rooms
+pub mod Worlds

@@ -1,0 +1,86 @@
+-- What holds of the objects of a core's world, and of every step that a world makes.
+use Rattle.std.specs.Prelude.{◌≡◌, ℕ, ◌/◌, ◌<◌, ◌≤◌, true, Option, Some, None, length, slice_index}
+use Rattle.far_word.specs.declared.sizes.TheConstants.{CELLS, LONGEST}
+use Rattle.far_core.specs.declared.event.Event.{Event}
+use Rattle.far_core.specs.declared.event.Event.TheVariants.{Open, Pin, Load, Store, Close, Name, Mark}
+use Rattle.far_core.specs.declared.event.Reply.{Reply}
+use Rattle.far_core.specs.world.Changes.{Change, Step}
+use Rattle.far_core.specs.world.Changes as change
+use Rattle.far_core.specs.events.Step.{change_of}
+use Rattle.far_core.specs.world.Happens.{Happens}
+use Rattle.far_core.specs.world.World.{World, Object, Group}
+
+-- an object has its number's owner and 1 to 1,016 bytes; if it is near, its group is held, viewed or not
+pub record ObjectStands (w : World) (p : ℕ) (o : Object) : Type 0 where
+  pub owner : o.owner ≡ p / CELLS
+  pub structure : o.ds < 256
+  pub some : 0 < length o.bytes
+  pub most : length o.bytes ≤ LONGEST
+  pub small : (k : ℕ) → slice_index o.bytes k < 256
+  pub held : (g : ℕ) → o.home ≡ Group g → w.group g ≡ true
+
+abbrev pub ObjectsStand : World → Type 0
+ObjectsStand w = (p : ℕ) (o : Object) → w.object p ≡ Some o → ObjectStands w p o
+
+-- a step leaves honesty as it is, and gives no group back in which an object lies; an object that its owner views
+-- stays where it is, with as many bytes, and with those bytes, but for its owner's writes; a view ends as its owner closes
+-- alone, and begins as its owner views it alone
+pub record ChangeKeeps (w : World) (c : Change) (v : World) : Type 0 where
+  pub honesty : v.honest ≡ w.honest
+  pub groups : (p g : ℕ) (o : Object) → w.object p ≡ Some o → o.home ≡ Group g → w.group g ≡ true → v.group g ≡ true
+  pub bytes : (p : ℕ) (o : Object) → w.viewed p ≡ true → w.object p ≡ Some o → ((i x : ℕ) → c ≡ change.Writes (p / CELLS) p i x → ⊥) → v.object p ≡ Some o
+  pub rests : (p : ℕ) (o : Object) → w.viewed p ≡ true → w.object p ≡ Some o →
+      (u : Object) × (v.object p ≡ Some u) × (u.owner ≡ o.owner) × (u.ds ≡ o.ds) × (u.home ≡ o.home) × (length u.bytes ≡ length o.bytes)
+  pub views : (p : ℕ) → w.viewed p ≡ true → (c ≡ change.Closes (p / CELLS) → ⊥) → v.viewed p ≡ true
+  pub new_views : (p : ℕ) → v.viewed p ≡ true → (c ≡ change.Views (p / CELLS) p → ⊥) → w.viewed p ≡ true
+
+abbrev pub ChangesKeep : Type 0
+ChangesKeep = (w v : World) (c : Change) → Step c w v → ChangeKeeps w c v
+
+-- which event makes a change; the others come with no event yet
+abbrev pub Causes : Event → Change → Type 0
+Causes e change.Stays = Unit {0}
+Causes e (change.Opens m) = e ≡ Open m
+Causes e (change.Closes m) = e ≡ Close m
+Causes e (change.Views m p) = e ≡ Pin m p
+Causes e (change.Reads m p i x) = e ≡ Load m p i
+Causes e (change.Writes m p i x) = e ≡ Store m p i x
+Causes e (change.Makes p len ds g) = (old new : ℕ) × (e ≡ Name p old new)
+Causes e (change.Marks p) = e ≡ Mark p
+Causes e c = ⊥
+
+abbrev pub Caused : Event → Option Change → Type 0
+Caused e None = Unit {0}
+Caused e (Some c) = Causes e c
+
+abbrev pub EventsCause : Type 0
+EventsCause = (e : Event) (r : Reply) → Caused e (change_of e r)
+
+-- a change is determined, but for the bytes that a far side gives back that isn't honest
+abbrev pub Sure : World → Change → Type 0
+Sure w (change.ComesNear p g) = w.honest ≡ true
+Sure w c = Unit {0}
+
+abbrev pub SureOf : World → Option Change → Type 0
+SureOf w None = Unit {0}
+SureOf w (Some c) = Sure w c
+
+abbrev pub ChangesAreOne : Type 0
+ChangesAreOne = (w v u : World) (c : Change) → Sure w c → Step c w v → Step c w u → v ≡ u
+
+-- the same of an event: its stores, its close, its pin
+pub record StepKeeps (w : World) (e : Event) (v : World) : Type 0 where
+  pub honesty : v.honest ≡ w.honest
+  pub groups : (p g : ℕ) (o : Object) → w.object p ≡ Some o → o.home ≡ Group g → w.group g ≡ true → v.group g ≡ true
+  pub bytes : (p : ℕ) (o : Object) → w.viewed p ≡ true → w.object p ≡ Some o → ((i x : ℕ) → e ≡ Store (p / CELLS) p i x → ⊥) → v.object p ≡ Some o
+  pub rests : (p : ℕ) (o : Object) → w.viewed p ≡ true → w.object p ≡ Some o →
+      (u : Object) × (v.object p ≡ Some u) × (u.owner ≡ o.owner) × (u.ds ≡ o.ds) × (u.home ≡ o.home) × (length u.bytes ≡ length o.bytes)
+  pub views : (p : ℕ) → w.viewed p ≡ true → (e ≡ Close (p / CELLS) → ⊥) → v.viewed p ≡ true
+  pub new_views : (p : ℕ) → v.viewed p ≡ true → (e ≡ Pin (p / CELLS) p → ⊥) → w.viewed p ≡ true
+
+abbrev pub StepsKeep : Type 0
+StepsKeep = (w v : World) (e : Event) (r : Reply) → Happens w e r v → StepKeeps w e v
+
+-- an event and its reply make one step
+abbrev pub StepsAreOne : Type 0
+StepsAreOne = (w v u : World) (e : Event) (r : Reply) → SureOf w (change_of e r) → Happens w e r v → Happens w e r u → v ≡ u

@@ -1,0 +1,9 @@
+pub mod Agrees
+pub mod CoreState
+pub mod Law
+pub mod Memory
+pub mod Opening
+pub mod Room
+pub mod Shape
+pub mod Spans
+pub mod State

@@ -1,0 +1,29 @@
+-- The state that a core's memory has.
+use Rattle.std.specs.Prelude.{false, cond, nat_lt, None, slice_index, slice_index_or, ◌*◌, ◌+◌, ◌-◌}
+use Rattle.std.specs.Vec.{vec_len}
+use Rattle.far_word.specs.declared.sizes.TheConstants.{LOG_WORDS}
+use Rattle.far_core.specs.declared.event.Kind.TheVariants.{Free}
+use Rattle.far_core.specs.declared.memory.Memory.{Memory}
+use Rattle.far_core.specs.state.State.{State}
+
+unfoldable pub state_of : Memory → State
+state_of c = record {
+  mutators = vec_len c.scopes;
+  logs = vec_len c.tails;
+  honest = c.honest;
+  epoch = c.epoch;
+  scope = λ m. slice_index c.scopes.items m;
+  cell = λ p. slice_index c.cells.items p;
+  word = λ a. slice_index c.words.items a;
+  remembered = λ m. slice_index_or c.remembered.items m None;
+  used = λ p. slice_index_or c.used.items p false;
+  held = λ p. slice_index_or c.held.items p None;
+  kind = λ l. slice_index_or c.kinds.items l Free;
+  tail = λ l. slice_index c.tails.items l;
+  current = c.current;
+  starts = λ a. slice_index_or c.starts.items a false;
+  round = λ l. slice_index_or c.round.items l false;
+  round_epoch = c.round_epoch;
+  clear = λ m. slice_index_or c.clear.items m false;
+  stored = λ p i. cond (nat_lt i (LOG_WORDS - 1)) (slice_index c.stored.items (p * (LOG_WORDS - 1) + i)) 0;
+}

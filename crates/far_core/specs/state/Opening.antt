@@ -1,0 +1,33 @@
+-- The state at the start.
+use Rattle.std.specs.Prelude.{Bool, false, None}
+use Rattle.far_core.specs.declared.event.Kind.TheVariants.{Free, Open}
+use Rattle.far_core.specs.declared.shape.Shape.{Shape}
+use Rattle.far_core.specs.state.State.{State, put}
+
+-- all words but the epoch are 0; all logs are free; nothing is used, held or remembered; the round is empty, with the
+-- first epoch as its own
+abbrev pub blank : Shape → Bool → State
+blank shape honest = record {
+  mutators = shape.mutators;
+  logs = shape.logs;
+  honest = honest;
+  epoch = shape.epoch;
+  scope = λ _. 0;
+  cell = λ _. 0;
+  word = λ _. 0;
+  remembered = λ _. None;
+  used = λ _. false;
+  held = λ _. None;
+  kind = λ _. Free;
+  tail = λ _. 0;
+  current = 0;
+  starts = λ _. false;
+  round = λ _. false;
+  round_epoch = shape.epoch;
+  clear = λ _. false;
+  stored = λ _ _. 0;
+}
+
+-- the same with log 0 open
+abbrev pub opening : Shape → Bool → State
+opening shape honest = record (blank shape honest) { kind = put (λ _. Free) 0 Open }

@@ -1,0 +1,149 @@
+//! What is true of every core, as contracts. No function here does anything when it runs.
+
+ghost use Rattle.std.specs.Prelude.{◌≡◌, ◌≢◌, ◌↔◌, ◌+◌, ◌*◌, ◌<◌, ◌≤◌, ◌||◌, ℕ, Bool, true, false, Some, None, IsSome};
+ghost use Rattle.far_word.specs.declared.mark.Marks.{Marks};
+ghost use Rattle.far_word.specs.declared.sizes.TheConstants.{LOG_WORDS};
+ghost use Rattle.far_word.specs.Pointer.{read_of};
+ghost use Rattle.far_core.specs.state.Agrees.{Agrees};
+ghost use Rattle.far_core.specs.state.CoreState.{core_state};
+ghost use Rattle.far_core.specs.state.Law.{Law};
+ghost use Rattle.far_core.specs.events.Left.{EventsLeave};
+ghost use Rattle.far_core.specs.events.Legal.{Legal};
+ghost use Rattle.far_core.specs.laws.Live.{LiveIs, LiveBytesAre};
+ghost use Rattle.far_core.specs.laws.Observed.{Fills, live_bytes, dead_bytes, unused_bytes, HasOneLive, NamesOnce, HasOneSpan, HasNoSpan, LogsStand, NearHasOneLive, PlacedExactly};
+ghost use Rattle.far_core.specs.state.Opening.{opening};
+ghost use Rattle.far_core.specs.state.Shape.{is_shape};
+ghost use Rattle.far_core.specs.state.Spans.{Placed};
+ghost use Rattle.far_core.specs.state.State.{State};
+ghost use Rattle.far_core.specs.events.Step.{is_legal};
+ghost use Rattle.far_core.specs.events.Told.{AnswersTell};
+ghost use Rattle.far_core.specs.world.World.{start};
+ghost use Rattle.far_core.specs.laws.Agreement.{ViewRests, MarksAgree, MarksExist};
+ghost use Rattle.far_core.specs.laws.Rooms.{RoomIsRight};
+ghost use Rattle.far_core.specs.laws.Worlds.{ObjectsStand, StepsKeep, StepsAreOne, ChangesKeep, ChangesAreOne, EventsCause};
+ghost use Rattle.far_core.specs.world.WorldOf.{world_of};
+
+use crate::event::Event;
+use crate::machine::Core;
+use crate::shape::Shape;
+
+impl Core {
+    /// Every core keeps the law, and its views rest on words that it says they may.
+    pub fn keeps_law(&self)
+        ensures law { Law (core_state self.now) }
+        ensures agrees { Agrees (core_state self.now) }
+    {
+        let _memory = &self.memory;
+    }
+
+    /// The spans of each log follow each other from its first word to its tail, each with its header and padding; free
+    /// logs have none, and exactly one log is open.
+    pub fn spans_fill_logs(&self)
+        ensures fills { (l : ℕ) → Fills (core_state self.now) l }
+        ensures stand { LogsStand (core_state self.now) }
+        ensures placed { (l at : ℕ) → PlacedExactly (core_state self.now) l at }
+    {
+        let _memory = &self.memory;
+    }
+
+    /// Live, dead and unused bytes of each log make its 1,024.
+    pub fn bytes_make_log(&self)
+        ensures { (l : ℕ) → live_bytes (core_state self.now) l + dead_bytes (core_state self.now) l + unused_bytes (core_state self.now) l ≡ 8 * LOG_WORDS }
+    {
+        let _memory = &self.memory;
+    }
+
+    /// A span is live exactly where the cell of the pointer that its header names says near, at its place; live bytes are
+    /// what the live spans take, and dead bytes what all others take.
+    pub fn live_is_named(&self)
+        ensures live { (l : ℕ) (span : Placed) → LiveIs (core_state self.now) l span }
+        ensures bytes { (l : ℕ) → LiveBytesAre (core_state self.now) l }
+    {
+        let _memory = &self.memory;
+    }
+
+    /// Each used cell without DROP has exactly one live span, of its length and data structure; so has each near cell
+    /// with DROP; and two cells never name one place.
+    pub fn objects_have_one_span(&self)
+        ensures one { (p : ℕ) → HasOneLive (core_state self.now) p }
+        ensures near { (p : ℕ) → NearHasOneLive (core_state self.now) p }
+        ensures once { NamesOnce (core_state self.now) }
+    {
+        let _memory = &self.memory;
+    }
+
+    /// Each word of a log is header or data of exactly one span, or lies past the tail and is of none.
+    pub fn words_have_one_span(&self)
+        ensures below { (l i : ℕ) → i < (core_state self.now).tail l → HasOneSpan (core_state self.now) l i }
+        ensures past { (l i : ℕ) → (core_state self.now).tail l ≤ i → HasNoSpan (core_state self.now) l i }
+    {
+        let _memory = &self.memory;
+    }
+
+    /// A view is of a near object in a held group, under an open scope; an object is marked exactly where its word has
+    /// EVAC or MOVE, and nothing else is marked.
+    pub fn views_and_marks_agree(&self)
+        ensures views { (p : ℕ) → (world_of (core_state self.now)).viewed p ≡ true → ViewRests (world_of (core_state self.now)) p }
+        ensures marks { (p : ℕ) → MarksAgree (core_state self.now) p }
+        ensures exist { (p : ℕ) → MarksExist (core_state self.now) p }
+    {
+        let _memory = &self.memory;
+    }
+
+    /// Each object of the world has its number's owner and 1 to 1,016 bytes, and a near one lies in a held group.
+    pub fn objects_stand(&self)
+        ensures { ObjectsStand (world_of (core_state self.now)) }
+    {
+        let _memory = &self.memory;
+    }
+
+    /// Room is the end of the open log where the span fits there, else the start of the lowest free log, but not of the
+    /// only one where the reserve is kept; none only where neither may be had. For sizes to 128 words.
+    pub fn room_is_right(&self)
+        ensures { RoomIsRight (core_state self.now) }
+    {
+        let _memory = &self.memory;
+    }
+
+    /// What an answer tells is so: the epoch that was remembered, the place that is held, the word that keeps a view away,
+    /// the word that was put, the span that a won naming takes; a lost naming changes nothing.
+    pub fn answers_tell(&self)
+        ensures { AnswersTell (core_state self.now) }
+    {
+        let _memory = &self.memory;
+    }
+
+    /// An event passes the test of a step exactly where it is legal.
+    pub fn legal_is_tested(&self, event: Event)
+        ensures { Legal (core_state self.now) event ↔ (is_legal (core_state self.now) event ≡ true) }
+    {
+        let _memory = &self.memory;
+    }
+}
+
+/// The state at the start means the world at the start, and has what its shape says; nothing is remembered, and all
+/// words of the logs are 0.
+pub fn opening_is_start(shape: Shape, honest: bool)
+    ensures world { world_of (opening shape honest) ≡ start honest }
+    ensures shape { ((opening shape honest).logs ≡ shape.logs) × ((opening shape honest).mutators ≡ shape.mutators) × ((opening shape honest).epoch ≡ shape.epoch) }
+    ensures honesty { (opening shape honest).honest ≡ honest }
+    ensures memory { (m : ℕ) → (opening shape honest).remembered m ≡ None }
+    ensures words { (a : ℕ) → (opening shape honest).word a ≡ 0 }
+{}
+
+/// No step of a world changes honesty, moves or changes what is viewed but by its owner's store, ends a view but by its
+/// owner's close or begins one but by its owner's pin, or gives back a group in which an object lies; and an event with
+/// its reply makes one step.
+pub fn steps_keep_views()
+    ensures keep { StepsKeep }
+    ensures one { StepsAreOne }
+    ensures changes { ChangesKeep }
+    ensures one_change { ChangesAreOne }
+    ensures causes { EventsCause }
+{}
+
+/// Whatever an event changes of the words and views, it says so: one shared word at most, and the view of its own mutator
+/// alone, or of the book.
+pub fn events_leave_others()
+    ensures { EventsLeave }
+{}

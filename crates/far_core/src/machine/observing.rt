@@ -1,0 +1,84 @@
+//! What a core shows: shape, words and views, one at a time.
+
+ghost use Rattle.std.specs.Prelude.{◌≡◌, ◌<◌, not, ◌==◌, is_some};
+ghost use Rattle.far_core.specs.state.CoreState.{core_state};
+ghost use Rattle.far_core.specs.state.Memory.{state_of};
+ghost use Rattle.far_core.specs.events.Step.{is_opened};
+
+use crate::event::Kind;
+use crate::machine::Core;
+
+impl Core {
+    /// The logs of the heap, 2 to 64.
+    pub fn logs(&self) -> u8
+        ensures { result ≡ (core_state self.now).logs }
+    {
+        self.memory.logs()
+    }
+
+    /// The mutators of the heap, 1 to 8.
+    pub fn mutators(&self) -> u8
+        ensures { result ≡ (core_state self.now).mutators }
+    {
+        self.memory.mutators()
+    }
+
+    /// What a log is.
+    pub fn kind(&self, log: u8) -> Kind
+        requires { log < (core_state self.now).logs }
+        ensures { result ≡ (core_state self.now).kind log }
+    {
+        self.memory.kind(log)
+    }
+
+    /// Where the spans of a log end, in words, 0 to 128.
+    pub fn tail(&self, log: u8) -> u16
+        requires { log < (core_state self.now).logs }
+        ensures { result ≡ (core_state self.now).tail log }
+    {
+        self.memory.tail(log)
+    }
+
+    /// The open log.
+    pub fn open_log(&self) -> u8
+        ensures is { result ≡ (core_state self.now).current }
+        ensures within { result < (core_state self.now).logs }
+    {
+        self.memory.current()
+    }
+
+    /// Whether an owner's scope is open; false for a number that is no owner's.
+    pub fn is_open(&self, owner: u8) -> bool
+        ensures { result ≡ is_opened (core_state self.now) owner }
+    {
+        self.memory.is_opened(owner)
+    }
+
+    /// Whether an owner has read an epoch since its last close.
+    pub fn has_epoch(&self, owner: u8) -> bool
+        ensures { result ≡ is_some ((core_state self.now).remembered owner) }
+    {
+        self.memory.remembered(owner).is_some()
+    }
+
+    /// Whether its owner uses a pointer; false for a number that is no pointer's.
+    pub fn is_used(&self, pointer: u16) -> bool
+        ensures { result ≡ (core_state self.now).used pointer }
+    {
+        self.memory.uses(pointer)
+    }
+
+    /// Whether its owner holds a pointer's object; false for a number that is no pointer's.
+    pub fn is_held(&self, pointer: u16) -> bool
+        ensures { result ≡ is_some ((core_state self.now).held pointer) }
+    {
+        self.memory.held(pointer).is_some()
+    }
+
+    /// The cell of a pointer; 0 for a number that is no pointer's.
+    pub fn cell(&self, pointer: u16) -> u64
+        ensures { result ≡ (core_state self.now).cell pointer }
+    {
+        self.memory.cell(pointer)
+    }
+}

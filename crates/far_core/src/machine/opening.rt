@@ -1,0 +1,74 @@
+//! A core at the start.
+
+ghost use Rattle.std.specs.Prelude.{◌≡◌, ◌↔◌, ◌≤◌, ◌<◌, false, true, cond, IfOk, IfErr, None};
+ghost use Rattle.far_core.specs.state.Agrees.{Agrees};
+ghost use Rattle.far_core.specs.world.World.{start};
+ghost use Rattle.far_core.specs.world.WorldOf.{world_of};
+ghost use Rattle.far_core.specs.state.CoreState.{core_state};
+ghost use Rattle.far_core.specs.state.Law.{Law};
+ghost use Rattle.far_core.specs.state.Memory.{state_of};
+ghost use Rattle.far_core.specs.state.Opening.{opening, blank};
+ghost use Rattle.far_core.specs.state.Shape.{is_shape};
+
+use crate::event::Kind;
+use crate::machine::Core;
+use crate::memory::Memory;
+use crate::shape::Shape;
+use far_word::{CELLS, LOG_WORDS, Refused};
+use std::alloc::{AllocError, Global};
+
+impl Memory {
+    /// All words but the epoch are 0 and all logs are free.
+    #[tactic(auto, unfolding(crate::specs::state::Memory::state_of))]
+    fn blank(alloc: Global, shape: Shape, honest: bool) -> Result<Memory, AllocError>
+        requires { is_shape shape ≡ true }
+        ensures { IfOk result (λ memory. state_of memory ≡ blank shape honest) }
+    {
+        let logs = shape.logs as usize;
+        let mutators = shape.mutators as usize;
+        let cells = CELLS as usize * mutators;
+        let words = LOG_WORDS as usize * logs;
+        Ok(Memory {
+            honest,
+            epoch: shape.epoch,
+            scopes: vec![in alloc; 0; mutators]?,
+            cells: vec![in alloc; 0; cells]?,
+            words: vec![in alloc; 0; words]?,
+            remembered: vec![in alloc; None; mutators]?,
+            used: vec![in alloc; false; cells]?,
+            held: vec![in alloc; None; cells]?,
+            kinds: vec![in alloc; Kind::Free; logs]?,
+            tails: vec![in alloc; 0; logs]?,
+            current: 0,
+            starts: vec![in alloc; false; words]?,
+            round: vec![in alloc; false; logs]?,
+            round_epoch: shape.epoch,
+            clear: vec![in alloc; false; mutators]?,
+            stored: vec![in alloc; 0; (LOG_WORDS as usize - 1) * cells]?,
+        })
+    }
+}
+
+impl Core {
+    /// A core at the start: log 0 is open and all others are free, nothing is used, and the epoch is the shape's.
+    /// `honest` says whether the far side gives back what it was given, for good.
+    ///
+    /// Refused, in this order: [`Refused::Shape`] exactly where the shape is out of range, [`Refused::Memory`].
+    pub fn new(alloc: Global, shape: Shape, honest: bool) -> Result<Core, Refused>
+        ensures opening { IfOk result (λ core. core_state core ≡ opening shape honest) }
+        ensures law { IfOk result (λ core. Law (core_state core)) }
+        ensures agrees { IfOk result (λ core. Agrees (core_state core)) }
+        ensures world { IfOk result (λ core. world_of (core_state core) ≡ start honest) }
+        ensures shape { (result ≡ Err Refused.Shape) ↔ (is_shape shape ≡ false) }
+        ensures refused { IfErr result (λ why. why ≡ cond (is_shape shape) Refused.Memory Refused.Shape) }
+    {
+        if !shape.is_in_range() {
+            return Err(Refused::Shape);
+        }
+        let Ok(mut memory) = Memory::blank(alloc, shape, honest) else {
+            return Err(Refused::Memory);
+        };
+        memory.set_kind(0, Kind::Open);
+        Ok(Core { memory })
+    }
+}

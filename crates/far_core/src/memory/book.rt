@@ -1,0 +1,150 @@
+//! The events of the book.
+
+ghost use Rattle.std.specs.Prelude.{◌≡◌, ◌<◌, ◌≤◌, ◌+◌, ◌*◌};
+ghost use Rattle.far_core.specs.state.State.{State};
+ghost use Rattle.far_core.specs.declared.event.Event.{Event};
+ghost use Rattle.far_core.specs.state.Law.{Law};
+ghost use Rattle.far_core.specs.events.Step.{step_of, may_stand, goes_at, is_past, taken};
+ghost use Rattle.far_core.specs.events.Mark.{may_mark, is_sealed};
+ghost use Rattle.far_core.specs.state.Memory.{state_of};
+ghost use Rattle.far_word.specs.Pointer.{IsPtr, read_of};
+ghost use Rattle.far_word.specs.Sizes.{size_of};
+
+use crate::event::{Kind, Reply};
+use crate::memory::Memory;
+use crate::memory::reading::first_word;
+use far_word::{CELLS, HeadWord, LOG_WORDS, Mark, Marks, Place, PtrWord, size_of};
+
+impl Memory {
+    pub(crate) fn put(&mut self, log: u8, at: u16, word: u64) -> Reply
+        ensures { (state_of self.new, result) ≡ step_of (state_of self.old) (Event.Put log at word) }
+    {
+        if !self.has_log(log) || at >= LOG_WORDS || !is_past(self.kind(log), at, self.tail(log)) {
+            return Reply::Refused;
+        }
+        self.set_word(first_word(Place { log, at }), word);
+        Reply::Done
+    }
+
+    pub(crate) fn name(&mut self, pointer: u16, old: u64, new: u64) -> Reply
+        requires { Law (state_of self.old) }
+        ensures { (state_of self.new, result) ≡ step_of (state_of self.old) (Event.Name pointer old new) }
+    {
+        let Some(
+            PtrWord::Near {
+                len,
+                ds,
+                place,
+                marks,
+            },
+        ) = PtrWord::read(new)
+        else {
+            return Reply::Refused;
+        };
+        if old != 0 || !self.may_stand(pointer, len, ds, place, marks) {
+            return Reply::Refused;
+        }
+        let cell = self.cell(pointer);
+        if cell != old {
+            return Reply::Word(cell);
+        }
+        self.take(pointer, new, len, place);
+        Reply::Done
+    }
+
+    pub(crate) fn see(&self, pointer: u16) -> Reply
+        ensures { (state_of self.now, result) ≡ step_of (state_of self.now) (Event.See pointer) }
+    {
+        if !self.has_pointer(pointer) {
+            return Reply::Refused;
+        }
+        Reply::Word(self.cell(pointer))
+    }
+
+    pub(crate) fn mark(&mut self, pointer: u16) -> Reply
+        ensures { (state_of self.new, result) ≡ step_of (state_of self.old) (Event.Mark pointer) }
+    {
+        let old = self.cell(pointer);
+        if !self.has_pointer(pointer) || !self.may_mark(old) {
+            return Reply::Refused;
+        }
+        self.set_cell(pointer, old | Mark::Evac.mask());
+        Reply::Word(old)
+    }
+
+    /// Whether a cell is near in a sealed log.
+    fn may_mark(&self, cell: u64) -> bool
+        ensures { result ≡ may_mark (state_of self.now) (read_of cell) }
+    {
+        match PtrWord::read(cell) {
+            Some(PtrWord::Near { place, .. }) => {
+                self.has_log(place.log) && is_sealed(self.kind(place.log))
+            }
+            _ => false,
+        }
+    }
+
+    /// The span at a new place is taken: it ends its log, and its log is the open one.
+    fn take(&mut self, pointer: u16, new: u64, len: u16, place: Place)
+        requires pointer { pointer < CELLS * (state_of self.old).mutators }
+        requires log { place.log < (state_of self.old).logs }
+        requires room { place.at + size_of len ≤ LOG_WORDS }
+        ensures { state_of self.new ≡ taken (state_of self.old) pointer new len place }
+    {
+        self.set_cell(pointer, new);
+        self.begin_span(place.log, first_word(place), place.at + size_of(len));
+        self.set_kind(self.current(), Kind::Sealed);
+        self.set_kind(place.log, Kind::Open);
+        self.set_current(place.log);
+    }
+
+    /// Whether a header for the pointer and data words of 0 are written at the next span's place.
+    fn may_stand(&self, pointer: u16, len: u16, ds: u8, place: Place, marks: Marks) -> bool
+        requires layout { IsPtr (PtrWord.Near len ds place marks) }
+        requires law { Law (state_of self.now) }
+        ensures { result ≡ may_stand (state_of self.now) pointer len ds place marks }
+    {
+        if !self.has_pointer(pointer)
+            || !self.has_log(place.log)
+            || !goes_at(self.kind(place.log), place.at, self.tail(place.log))
+        {
+            return false;
+        }
+        let at = first_word(place);
+        let header = HeadWord { pointer, len, ds };
+        self.word(at) == header.pack()
+            && !(marks.hot || marks.evac || marks.moved || marks.dropped)
+            && self.zeros(at + 1, size_of(len) as usize - 1)
+    }
+}
+
+/// Whether a new span may stand there: at the end of the open log, or at the start of a free one.
+fn goes_at(kind: Kind, at: u16, tail: u16) -> bool
+    ensures { result ≡ goes_at kind at tail }
+{
+    match kind {
+        Kind::Free => at == 0,
+        Kind::Open => at == tail,
+        Kind::Sealed => false,
+    }
+}
+
+/// Whether a log takes no more spans.
+fn is_sealed(kind: Kind) -> bool
+    ensures { result ≡ is_sealed kind }
+{
+    match kind {
+        Kind::Free | Kind::Open => false,
+        Kind::Sealed => true,
+    }
+}
+
+/// Whether a word lies past the tail of a log that isn't sealed.
+fn is_past(kind: Kind, at: u16, tail: u16) -> bool
+    ensures { result ≡ is_past kind at tail }
+{
+    match kind {
+        Kind::Free | Kind::Open => tail <= at,
+        Kind::Sealed => false,
+    }
+}

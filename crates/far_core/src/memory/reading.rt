@@ -1,0 +1,189 @@
+//! One place of the memory read.
+
+ghost use Rattle.std.specs.Prelude.{◌≡◌, ◌*◌, ◌<◌, ◌≤◌, ◌+◌, nat_lt};
+ghost use Rattle.far_core.specs.state.State.{State, addr};
+ghost use Rattle.far_core.specs.state.Law.{in_use};
+ghost use Rattle.far_core.specs.events.Step.{is_closed, is_opened, holds, viewable, zeros, near_data, near_len};
+ghost use Rattle.far_core.specs.state.Memory.{state_of};
+ghost use Rattle.far_word.specs.Pointer.{read_of};
+
+use crate::event::Kind;
+use crate::memory::Memory;
+use far_word::{CELLS, LOG_WORDS, Place, PtrWord};
+
+impl Memory {
+    #[tactic(auto, unfolding(crate::specs::state::Memory::state_of))]
+    pub(crate) fn epoch(&self) -> u64
+        ensures { result ≡ (state_of self.now).epoch }
+    {
+        self.epoch
+    }
+
+    #[tactic(auto, unfolding(crate::specs::state::Memory::state_of))]
+    pub(crate) fn mutators(&self) -> u8
+        ensures { result ≡ (state_of self.now).mutators }
+    {
+        self.scopes.len() as u8
+    }
+
+    #[tactic(auto, unfolding(crate::specs::state::Memory::state_of))]
+    pub(crate) fn logs(&self) -> u8
+        ensures { result ≡ (state_of self.now).logs }
+    {
+        self.tails.len() as u8
+    }
+
+    #[tactic(auto, unfolding(crate::specs::state::Memory::state_of))]
+    pub(crate) fn is_closed(&self, owner: u8) -> bool
+        ensures { result ≡ is_closed (state_of self.now) owner }
+    {
+        (owner as usize) < self.scopes.len() && self.scopes[owner as usize] == 0
+    }
+
+    #[tactic(auto, unfolding(crate::specs::state::Memory::state_of))]
+    pub(crate) fn is_opened(&self, owner: u8) -> bool
+        ensures { result ≡ is_opened (state_of self.now) owner }
+    {
+        (owner as usize) < self.scopes.len() && self.scopes[owner as usize] != 0
+    }
+
+    #[tactic(auto, unfolding(crate::specs::state::Memory::state_of))]
+    pub(crate) fn has_owner(&self, owner: u8) -> bool
+        ensures { result ≡ nat_lt owner (state_of self.now).mutators }
+    {
+        (owner as usize) < self.scopes.len()
+    }
+
+    #[tactic(auto, unfolding(crate::specs::state::Memory::state_of))]
+    pub(crate) fn has_pointer(&self, pointer: u16) -> bool
+        ensures { result ≡ nat_lt pointer (CELLS * (state_of self.now).mutators) }
+    {
+        (pointer as usize) < self.cells.len()
+    }
+
+    #[tactic(auto, unfolding(crate::specs::state::Memory::state_of))]
+    pub(crate) fn has_log(&self, log: u8) -> bool
+        ensures { result ≡ nat_lt log (state_of self.now).logs }
+    {
+        (log as usize) < self.tails.len()
+    }
+
+    #[tactic(auto, unfolding(crate::specs::state::Memory::state_of))]
+    pub(crate) fn remembered(&self, owner: u8) -> Option<u64>
+        ensures { result ≡ (state_of self.now).remembered owner }
+    {
+        self.remembered.get(owner as usize).copied().flatten()
+    }
+
+    #[tactic(auto, unfolding(crate::specs::state::Memory::state_of))]
+    pub(crate) fn uses(&self, pointer: u16) -> bool
+        ensures { result ≡ (state_of self.now).used pointer }
+    {
+        self.used.get(pointer as usize).copied().unwrap_or(false)
+    }
+
+    #[tactic(auto, unfolding(crate::specs::state::Memory::state_of))]
+    pub(crate) fn held(&self, pointer: u16) -> Option<Place>
+        ensures { result ≡ (state_of self.now).held pointer }
+    {
+        self.held.get(pointer as usize).copied().flatten()
+    }
+
+    #[tactic(auto, unfolding(crate::specs::state::Memory::state_of))]
+    pub(crate) fn cell(&self, pointer: u16) -> u64
+        ensures { result ≡ (state_of self.now).cell pointer }
+    {
+        self.cells.get(pointer as usize).copied().unwrap_or(0)
+    }
+
+    #[tactic(auto, unfolding(crate::specs::state::Memory::state_of))]
+    pub(crate) fn word(&self, at: usize) -> u64
+        requires { at < LOG_WORDS * (state_of self.now).logs }
+        ensures { result ≡ (state_of self.now).word at }
+    {
+        self.words[at]
+    }
+
+    #[tactic(auto, unfolding(crate::specs::state::Memory::state_of))]
+    pub(crate) fn kind(&self, log: u8) -> Kind
+        requires { log < (state_of self.now).logs }
+        ensures { result ≡ (state_of self.now).kind log }
+    {
+        self.kinds[log as usize]
+    }
+
+    #[tactic(auto, unfolding(crate::specs::state::Memory::state_of))]
+    pub(crate) fn tail(&self, log: u8) -> u16
+        requires { log < (state_of self.now).logs }
+        ensures { result ≡ (state_of self.now).tail log }
+    {
+        self.tails[log as usize]
+    }
+
+    #[tactic(auto, unfolding(crate::specs::state::Memory::state_of))]
+    pub(crate) fn current(&self) -> u8
+        ensures is { result ≡ (state_of self.now).current }
+        ensures within { result < (state_of self.now).logs }
+    {
+        self.current
+    }
+
+    /// Whether the owner holds its pointer's object.
+    pub(crate) fn holds(&self, owner: u8, pointer: u16) -> bool
+        ensures { result ≡ holds (state_of self.now) owner pointer }
+    {
+        pointer / CELLS == owner as u16 && self.held(pointer).is_some()
+    }
+
+    /// Whether `n` words from `from` on are 0.
+    #[tactic(auto, unfolding(crate::specs::state::Memory::state_of))]
+    pub(crate) fn zeros(&self, from: usize, n: usize) -> bool
+        requires { from + n ≤ LOG_WORDS * (state_of self.now).logs }
+        ensures { result ≡ zeros (state_of self.now).word from n }
+    {
+        for k in 0..n {
+            if self.word(from + k) != 0 {
+                return false;
+            }
+        }
+        true
+    }
+}
+
+/// Where a new view of a cell may rest.
+pub(crate) fn viewable(cell: u64) -> Option<Place>
+    ensures { result ≡ viewable (read_of cell) }
+{
+    match PtrWord::read(cell) {
+        Some(pointer) => pointer.view_place(),
+        None => None,
+    }
+}
+
+/// The length of a near cell's object and its first data word; zeros for any other cell.
+pub(crate) fn near_data(cell: u64) -> (u16, usize)
+    ensures len { result.0 ≡ near_len (read_of cell) }
+    ensures data { result.1 ≡ near_data (read_of cell) }
+{
+    match PtrWord::read(cell) {
+        Some(PtrWord::Near { len, place, .. }) => (len, first_word(place) + 1),
+        _ => (0, 0),
+    }
+}
+
+/// The word where a place's header stands.
+pub(crate) fn first_word(place: Place) -> usize
+    ensures { result ≡ addr place }
+{
+    place.log as usize * LOG_WORDS as usize + place.at as usize
+}
+
+/// Whether a cell is used and not dropped.
+pub(crate) fn in_use(cell: u64) -> bool
+    ensures { result ≡ in_use (read_of cell) }
+{
+    match PtrWord::read(cell) {
+        Some(PtrWord::Near { marks, .. } | PtrWord::Far { marks, .. }) => !marks.dropped,
+        _ => false,
+    }
+}

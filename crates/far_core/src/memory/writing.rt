@@ -1,0 +1,96 @@
+//! One place of the memory written.
+
+ghost use Rattle.std.specs.Prelude.{◌≡◌, ◌*◌, ◌<◌, ◌/◌, ◌==◌, cond, Some, None, true};
+ghost use Rattle.far_core.specs.state.State.{State, put};
+ghost use Rattle.far_core.specs.state.Memory.{state_of};
+
+use crate::event::Kind;
+use crate::memory::Memory;
+use far_word::{CELLS, LOG_WORDS, Place};
+
+impl Memory {
+    #[tactic(auto, unfolding(crate::specs::state::Memory::state_of))]
+    pub(crate) fn set_scope(&mut self, owner: u8, word: u64)
+        requires { owner < (state_of self.old).mutators }
+        ensures { state_of self.new ≡ record (state_of self.old) { scope = put (state_of self.old).scope owner word } }
+    {
+        self.scopes[owner as usize] = word;
+    }
+
+    #[tactic(auto, unfolding(crate::specs::state::Memory::state_of))]
+    pub(crate) fn remember(&mut self, owner: u8, epoch: Option<u64>)
+        requires { owner < (state_of self.old).mutators }
+        ensures { state_of self.new ≡ record (state_of self.old) { remembered = put (state_of self.old).remembered owner epoch } }
+    {
+        self.remembered[owner as usize] = epoch;
+    }
+
+    #[tactic(auto, unfolding(crate::specs::state::Memory::state_of))]
+    pub(crate) fn set_cell(&mut self, pointer: u16, word: u64)
+        requires { pointer < CELLS * (state_of self.old).mutators }
+        ensures { state_of self.new ≡ record (state_of self.old) { cell = put (state_of self.old).cell pointer word } }
+    {
+        self.cells[pointer as usize] = word;
+    }
+
+    #[tactic(auto, unfolding(crate::specs::state::Memory::state_of))]
+    pub(crate) fn use_cell(&mut self, pointer: u16)
+        requires { pointer < CELLS * (state_of self.old).mutators }
+        ensures { state_of self.new ≡ record (state_of self.old) { used = put (state_of self.old).used pointer true } }
+    {
+        self.used[pointer as usize] = true;
+    }
+
+    #[tactic(auto, unfolding(crate::specs::state::Memory::state_of))]
+    pub(crate) fn hold(&mut self, pointer: usize, place: Option<Place>)
+        requires { pointer < CELLS * (state_of self.old).mutators }
+        ensures { state_of self.new ≡ record (state_of self.old) { held = put (state_of self.old).held pointer place } }
+    {
+        self.held[pointer] = place;
+    }
+
+    #[tactic(auto, unfolding(crate::specs::state::Memory::state_of))]
+    pub(crate) fn set_word(&mut self, at: usize, word: u64)
+        requires { at < LOG_WORDS * (state_of self.old).logs }
+        ensures { state_of self.new ≡ record (state_of self.old) { word = put (state_of self.old).word at word } }
+    {
+        self.words[at] = word;
+    }
+
+    #[tactic(auto, unfolding(crate::specs::state::Memory::state_of))]
+    pub(crate) fn begin_span(&mut self, log: u8, at: usize, tail: u16)
+        requires log { log < (state_of self.old).logs }
+        requires at { at < LOG_WORDS * (state_of self.old).logs }
+        ensures { state_of self.new ≡ record (state_of self.old) { tail = put (state_of self.old).tail log tail; starts = put (state_of self.old).starts at true } }
+    {
+        self.tails[log as usize] = tail;
+        self.starts[at] = true;
+    }
+
+    #[tactic(auto, unfolding(crate::specs::state::Memory::state_of))]
+    pub(crate) fn set_kind(&mut self, log: u8, kind: Kind)
+        requires { log < (state_of self.old).logs }
+        ensures { state_of self.new ≡ record (state_of self.old) { kind = put (state_of self.old).kind log kind } }
+    {
+        self.kinds[log as usize] = kind;
+    }
+
+    #[tactic(auto, unfolding(crate::specs::state::Memory::state_of))]
+    pub(crate) fn set_current(&mut self, log: u8)
+        requires { log < (state_of self.old).logs }
+        ensures { state_of self.new ≡ record (state_of self.old) { current = log } }
+    {
+        self.current = log;
+    }
+
+    /// The owner holds nothing from now on.
+    pub(crate) fn let_go(&mut self, owner: u8)
+        requires { owner < (state_of self.old).mutators }
+        ensures { state_of self.new ≡ record (state_of self.old) { held = λ p. cond (p / CELLS == owner) None ((state_of self.old).held p) } }
+    {
+        let from = owner as usize * CELLS as usize;
+        for pointer in from..from + CELLS as usize {
+            self.hold(pointer, None);
+        }
+    }
+}
