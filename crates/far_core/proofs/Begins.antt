@@ -40,7 +40,7 @@ begins shape honest fits = let range = in_range shape fits in record {
     cell_read = λ p. (omega arith, rw unused refl);
     cell_range = λ p ne. absurd (ne refl);
     cell_near = λ p len ds place m e. let f : Some pointer.Free ≡ Some (Near len ds place m) = sym unused ∙ e in absurd cc;
-    none_far = λ p len ds m e. let f : Some pointer.Free ≡ Some (Far len ds m) = sym unused ∙ e in cc;
+    cell_far = λ p len ds m e. let f : Some pointer.Free ≡ Some (Far len ds m) = sym unused ∙ e in absurd cc;
   };
   spans = record {
     word_fits = λ a. omega arith;
@@ -70,7 +70,10 @@ begins shape honest fits = let range = in_range shape fits in record {
     used_cell = λ p h. absurd (false≢true h);
   };
   rounds = record { none_chosen = λ l. refl; none_clear = λ m. refl; own_epoch = refl };
-  unadopted = λ _ p _ len ds place m e. let f : Some pointer.Free ≡ Some (Near len ds place m) = sym unused ∙ e in absurd cc;
+  unadopted = λ _ p _. record {
+    near = λ len ds place m e. let f : Some pointer.Free ≡ Some (Near len ds place m) = sym unused ∙ e in absurd cc;
+    far = λ len ds m e. let f : Some pointer.Free ≡ Some (Far len ds m) = sym unused ∙ e in absurd cc;
+  };
 }
 
 same : (b : Bool) → cond b zero zero ≡ zero

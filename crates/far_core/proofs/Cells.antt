@@ -1,15 +1,16 @@
 -- What a cell says, what its marks leave as it is, and what a header says.
 use Rattle.std.proofs.Common.{◌≡◌, ℕ, ◌+◌, ◌<◌, ◌^◌, Bool, true, false, arith, sym, refl, ap, ◌∙◌, Option, Some, None, bit_or}
+use Rattle.std.specs.Prelude.{IsSome}
 use Rattle.std.proofs.lemmas.Bool.{false≢true}
 use Rattle.std.proofs.lemmas.Bool.Decides.{nat_tests}
 use Rattle.far_word.specs.declared.mark.Mark.{Mark}
-use Rattle.far_word.specs.declared.mark.Mark.TheVariants.{Hot}
+use Rattle.far_word.specs.declared.mark.Mark.TheVariants.{Hot, Evac, Moved, Dropped}
 use Rattle.far_word.specs.declared.mark.Marks.{Marks}
 use Rattle.far_word.specs.declared.pointer.Place.{Place}
 use Rattle.far_word.specs.declared.pointer.PtrWord.{PtrWord}
 use Rattle.far_word.specs.declared.pointer.PtrWord.TheVariants.{Free, Near, Far}
 use Rattle.far_word.specs.Header.{head_word}
-use Rattle.far_word.specs.Mark.{position}
+use Rattle.far_word.specs.Mark.{position, with}
 use Rattle.far_word.specs.Pointer.{read_of, takes, marked}
 use Rattle.far_word.proofs.PointerLaws.{marked_read, marked_fits}
 use Rattle.far_core.specs.state.Law.{Heads, held_place, in_use, Blank}
@@ -38,6 +39,68 @@ at_hot w (Some v) fits e u = (marked_read Hot w v fits e (takes_hot v u), marked
 pub read_hot : (w : ℕ) → w < 2 ^ 64 → in_use (read_of w) ≡ true →
     (read_of (bit_or w (2 ^ position Hot)) ≡ with_mark Hot (read_of w)) × (bit_or w (2 ^ position Hot) < 2 ^ 64)
 read_hot w fits u = at_hot w (read_of w) fits refl u
+
+-- ---- what a cell says but for its marks
+pub data Body : Type 0 where
+  NoBody : Body
+  FreeBody : Body
+  NearBody : ℕ → ℕ → Place → Body
+  FarBody : ℕ → ℕ → Body
+
+abbrev pub body : Option PtrWord → Body
+body None = NoBody
+body (Some Free) = FreeBody
+body (Some (Near len ds place m)) = NearBody len ds place
+body (Some (Far len ds m)) = FarBody len ds
+
+abbrev pub is_dropped : Option PtrWord → Bool
+is_dropped None = false
+is_dropped (Some Free) = false
+is_dropped (Some (Near len ds place m)) = m.dropped
+is_dropped (Some (Far len ds m)) = m.dropped
+
+-- a cell with other marks: DROP may come, and doesn't go
+pub record Remarked (o n : Option PtrWord) : Type 0 where
+  pub same : body n ≡ body o
+  pub kept : is_dropped n ≡ false → is_dropped o ≡ false
+
+pub near_of : (o : Option PtrWord) (len ds : ℕ) (place : Place) → body o ≡ NearBody len ds place → (m : Marks) × (o ≡ Some (Near len ds place m))
+near_of None len ds place e = absurd cc
+near_of (Some Free) len ds place e = absurd cc
+near_of (Some (Near n d at m)) len ds place e = (m, cc)
+near_of (Some (Far n d m)) len ds place e = absurd cc
+
+pub far_of : (o : Option PtrWord) (len ds : ℕ) → body o ≡ FarBody len ds → (m : Marks) × (o ≡ Some (Far len ds m))
+far_of None len ds e = absurd cc
+far_of (Some Free) len ds e = absurd cc
+far_of (Some (Near n d at m)) len ds e = absurd cc
+far_of (Some (Far n d m)) len ds e = (m, cc)
+
+abbrev no_pointer : Option PtrWord
+no_pointer = None
+
+none_body : (o : Option PtrWord) → NoBody ≡ body o → IsSome o → IsSome no_pointer
+none_body None e h = h
+none_body (Some Free) e h = absurd cc
+none_body (Some (Near len ds place m)) e h = absurd cc
+none_body (Some (Far len ds m)) e h = absurd cc
+
+pub is_some-remarked : (o n : Option PtrWord) → Remarked o n → IsSome o → IsSome n
+is_some-remarked o None r h = none_body o r.same h
+is_some-remarked o (Some v) r h = refl
+
+with_kept : (k : Mark) (m : Marks) → (with k m).dropped ≡ false → m.dropped ≡ false
+with_kept Hot m e = e
+with_kept Evac m e = e
+with_kept Moved m e = e
+with_kept Dropped m e = absurd (false≢true (sym e))
+
+-- a mark more
+pub Remarked-with_mark : (k : Mark) (o : Option PtrWord) → Remarked o (with_mark k o)
+Remarked-with_mark k None = record { same = refl; kept = λ e. e }
+Remarked-with_mark k (Some Free) = record { same = refl; kept = λ e. e }
+Remarked-with_mark k (Some (Near len ds place m)) = record { same = refl; kept = with_kept k m }
+Remarked-with_mark k (Some (Far len ds m)) = record { same = refl; kept = with_kept k m }
 
 -- ---- what HOT leaves as it is
 pub held_place-hot : (o : Option PtrWord) → held_place (with_mark Hot o) ≡ held_place o

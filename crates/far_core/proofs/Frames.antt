@@ -7,14 +7,14 @@ use Rattle.far_word.specs.declared.pointer.PtrWord.{PtrWord}
 use Rattle.far_word.specs.declared.pointer.PtrWord.TheVariants.{Free, Near, Far}
 use Rattle.far_word.specs.declared.sizes.TheConstants.{CELLS}
 use Rattle.far_word.specs.Pointer.{read_of}
-use Rattle.far_core.specs.state.Law.{Law, ScopeLaw, ViewLaw, BlankLaw, NamesBack, IsBlank, held_place, in_use}
+use Rattle.far_core.specs.state.Law.{Law, ScopeLaw, ViewLaw, BlankLaw, NamesBack, StoresBack, IsBlank, held_place, in_use}
 use Rattle.far_core.specs.state.State.{State, put}
-use Rattle.far_core.proofs.Cells.{unused, Heads-same, Blank-same}
+use Rattle.far_core.proofs.Cells.{Remarked, body, is_dropped, is_some-remarked, near_of, far_of}
 use Rattle.far_core.proofs.Put.{put_both}
 
 -- scopes and owners' views
 pub law_with_owners : (s : State) (scope : ℕ → ℕ) (remembered : ℕ → Option ℕ) (used : ℕ → Bool) (held : ℕ → Option Place) → Law s →
-    ScopeLaw s.mutators s.epoch scope remembered → ViewLaw s.cell scope used held → BlankLaw s.honest s.cell s.word used →
+    ScopeLaw s.mutators s.epoch scope remembered → ViewLaw s.cell scope used held → BlankLaw s.honest s.cell s.word s.stored used →
     Law record s { scope = scope; remembered = remembered; used = used; held = held }
 law_with_owners s scope remembered used held law scopes views blanks =
     record { shape = law.shape; cells = law.cells; spans = law.spans; logs = law.logs; scopes = scopes; views = views; rounds = law.rounds; unadopted = blanks }
@@ -32,42 +32,39 @@ pub law_with_held : (s : State) (held : ℕ → Option Place) → Law s → ((p 
 law_with_held s held law ready names = law_with_owners s s.scope s.remembered s.used held law law.scopes
     (record { held_open = λ p h. (ready p h).0; held_names = names; held_used = λ p h. (ready p h).1; used_cell = law.views.used_cell }) law.unadopted
 
--- a near cell with other marks: DROP may come, and doesn't go
-pub record Remarked (o n : Option PtrWord) : Type 0 where
-  pub len : ℕ
-  pub ds : ℕ
-  pub place : Place
-  pub old : Marks
-  pub new : Marks
-  pub before : o ≡ Some (Near len ds place old)
-  pub now : n ≡ Some (Near len ds place new)
-  pub kept : new.dropped ≡ false → old.dropped ≡ false
-
-module _ (s : State) (law : Law s) (p w : ℕ) (fits : w < 2 ^ 64) (r : Remarked (read_of (s.cell p)) (read_of w))
+-- a cell with other marks
+module _ (s : State) (law : Law s) (p w : ℕ) (fits : w < 2 ^ 64) (r : Remarked (read_of (s.cell p)) (read_of w)) (nonzero : s.cell p ≢ 0)
     (held : (place : Place) → s.held p ≡ Some place → held_place (read_of w) ≡ Some place) (live : s.used p ≡ true → in_use (read_of w) ≡ true) where
-  nonzero : s.cell p ≢ 0
-  nonzero e = let odd : Some Free ≡ Some (Near r.len r.ds r.place r.old) = sym unused ∙ ap read_of (sym e) ∙ r.before in cc
+  near_before : (q : ℕ) → q ≡ p → (n d : ℕ) (at : Place) (k : Marks) → read_of w ≡ Some (Near n d at k) → (m : Marks) × (read_of (s.cell q) ≡ Some (Near n d at m))
+  near_before q e n d at k is = near_of _ n d at (ap (λ x. body (read_of (s.cell x))) e ∙ sym r.same ∙ ap body is)
 
-  named : (q : ℕ) → q ≡ p → NamesBack s.word s.starts q (read_of w)
-  named q e n d at k is =
-      let same : Some (Near r.len r.ds r.place r.new) ≡ Some (Near n d at k) = sym r.now ∙ is in
-      Heads-same s.word s.starts q r.len r.ds n d r.place at (cc) (cc) (cc) (law.cells.cell_near q r.len r.ds r.place r.old (ap (λ x. read_of (s.cell x)) e ∙ r.before))
+  far_before : (q : ℕ) → q ≡ p → (n d : ℕ) (k : Marks) → read_of w ≡ Some (Far n d k) → (m : Marks) × (read_of (s.cell q) ≡ Some (Far n d m))
+  far_before q e n d k is = far_of _ n d (ap (λ x. body (read_of (s.cell x))) e ∙ sym r.same ∙ ap body is)
 
-  blank : s.honest ≡ true → s.used p ≡ false → IsBlank s.word (read_of w)
-  blank honest free n d at k is whole =
-      let same : Some (Near r.len r.ds r.place r.new) ≡ Some (Near n d at k) = sym r.now ∙ is in
-      let drop : r.new.dropped ≡ k.dropped = cc in
-      Blank-same s.word r.len n r.place at (cc) (cc) (law.unadopted honest p free r.len r.ds r.place r.old r.before (r.kept (drop ∙ whole)))
+  named_back : (q : ℕ) → q ≡ p → NamesBack s.word s.starts q (read_of w)
+  named_back q e n d at k is = let b = near_before q e n d at k is in law.cells.cell_near q n d at b.0 b.1
+
+  stored_back : (q : ℕ) → q ≡ p → StoresBack (s.stored q) (read_of w)
+  stored_back q e n d k is = let b = far_before q e n d k is in law.cells.cell_far q n d b.0 b.1
+
+  blank : (q : ℕ) → q ≡ p → s.honest ≡ true → s.used q ≡ false → IsBlank s.word (s.stored q) (read_of w)
+  blank q e honest free = record {
+    near = λ n d at k is whole.
+        let b = near_before q e n d at k is in
+        (law.unadopted honest q free).near n d at b.0 b.1 (sym (ap is_dropped b.1) ∙ ap (λ x. is_dropped (read_of (s.cell x))) e ∙ r.kept (ap is_dropped is ∙ whole));
+    far = λ n d k is whole.
+        let b = far_before q e n d k is in
+        (law.unadopted honest q free).far n d b.0 b.1 (sym (ap is_dropped b.1) ∙ ap (λ x. is_dropped (read_of (s.cell x))) e ∙ r.kept (ap is_dropped is ∙ whole));
+  }
 
   pub law_with_cell_marks : Law record s { cell = put s.cell p w }
   law_with_cell_marks = record {
     shape = law.shape;
     cells = record {
-      cell_read = λ q. put_both (λ x. (x < 2 ^ 64) × IsSome (read_of x)) s.cell p w q (λ _. (fits, rw r.now refl)) (λ _. law.cells.cell_read q);
+      cell_read = λ q. put_both (λ x. (x < 2 ^ 64) × IsSome (read_of x)) s.cell p w q (λ _. (fits, is_some-remarked _ _ r (law.cells.cell_read p).1)) (λ _. law.cells.cell_read q);
       cell_range = λ q. put_both (λ x. x ≢ 0 → q < CELLS * s.mutators) s.cell p w q (λ e _. rw e (law.cells.cell_range p nonzero)) (λ _. law.cells.cell_range q);
-      cell_near = λ q. put_both (λ x. NamesBack s.word s.starts q (read_of x)) s.cell p w q (named q) (λ _. law.cells.cell_near q);
-      none_far = λ q n d k. put_both (λ x. read_of x ≡ Some (Far n d k) → ⊥) s.cell p w q
-          (λ _ is. let odd : Some (Near r.len r.ds r.place r.new) ≡ Some (Far n d k) = sym r.now ∙ is in cc) (λ _. law.cells.none_far q n d k);
+      cell_near = λ q. put_both (λ x. NamesBack s.word s.starts q (read_of x)) s.cell p w q (named_back q) (λ _. law.cells.cell_near q);
+      cell_far = λ q. put_both (λ x. StoresBack (s.stored q) (read_of x)) s.cell p w q (stored_back q) (λ _. law.cells.cell_far q);
     };
     spans = law.spans;
     logs = law.logs;
@@ -79,5 +76,5 @@ module _ (s : State) (law : Law s) (p w : ℕ) (fits : w < 2 ^ 64) (r : Remarked
       used_cell = λ q h. put_both (λ x. in_use (read_of x) ≡ true) s.cell p w q (λ e. live (ap s.used (sym e) ∙ h)) (λ _. law.views.used_cell q h);
     };
     rounds = law.rounds;
-    unadopted = λ honest q free. put_both (λ x. IsBlank s.word (read_of x)) s.cell p w q (λ e. blank honest (ap s.used (sym e) ∙ free)) (λ _. law.unadopted honest q free);
+    unadopted = λ honest q free. put_both (λ x. IsBlank s.word (s.stored q) (read_of x)) s.cell p w q (λ e. blank q e honest free) (λ _. law.unadopted honest q free);
   }

@@ -1,8 +1,8 @@
 -- Each event of an owner keeps the law.
 use Rattle.std.proofs.Common.{Option, None, Some, ap, bit_or, refl, subst, sym, true, ℕ, ◌^◌, ◌∙◌, ◌≡◌, ◌≢◌}
 use Rattle.std.proofs.lemmas.Bool.{false≢true}
-use Rattle.far_core.proofs.Cells.{unused, with_mark, read_hot, held_place-hot, in_use-hot}
-use Rattle.far_core.proofs.Frames.{Remarked, law_with_cell_marks}
+use Rattle.far_core.proofs.Cells.{Remarked, Remarked-with_mark, unused, with_mark, read_hot, held_place-hot, in_use-hot}
+use Rattle.far_core.proofs.Frames.{law_with_cell_marks}
 use Rattle.far_core.proofs.Put.{put_both}
 use Rattle.far_core.specs.state.Law.{Law, held_place, in_use}
 use Rattle.far_core.specs.state.State.{State, put}
@@ -24,12 +24,6 @@ closed_word = refl
 abbrev pub hot_cell : State → ℕ → State
 hot_cell s p = record s { cell = put s.cell p (bit_or (s.cell p) (2 ^ position Hot)) }
 
-hot_marks : (o : Option PtrWord) → in_use o ≡ true → ((len ds : ℕ) (m : Marks) → o ≡ Some (Far len ds m) → ⊥) → Remarked o (with_mark Hot o)
-hot_marks None u far = absurd (false≢true u)
-hot_marks (Some Free) u far = absurd (false≢true u)
-hot_marks (Some (Near len ds place m)) u far = record { len = len; ds = ds; place = place; old = m; new = record { hot = true; evac = m.evac; moved = m.moved; dropped = m.dropped }; before = refl; now = refl; kept = λ e. e }
-hot_marks (Some (Far len ds m)) u far = absurd (far len ds m refl)
-
 module _ (s : State) (law : Law s) (p : ℕ) (used : s.used p ≡ true) where
   live : in_use (read_of (s.cell p)) ≡ true
   live = law.views.used_cell p used
@@ -46,5 +40,5 @@ module _ (s : State) (law : Law s) (p : ℕ) (used : s.used p ≡ true) where
   nonzero z = false≢true (sym (ap in_use (ap read_of z ∙ unused)) ∙ live)
 
   pub keeps_hot : Law (hot_cell s p)
-  keeps_hot = law_with_cell_marks s law p _ (read_hot (s.cell p) (law.cells.cell_read p).0 live).1 (subst (λ o. Remarked (read_of (s.cell p)) o) (sym hot_read) (hot_marks _ live (law.cells.none_far p)))
+  keeps_hot = law_with_cell_marks s law p _ (read_hot (s.cell p) (law.cells.cell_read p).0 live).1 (subst (λ o. Remarked (read_of (s.cell p)) o) (sym hot_read) (Remarked-with_mark Hot _)) nonzero
       (λ place h. ap held_place hot_read ∙ held_place-hot _ ∙ law.views.held_names p place h) (λ _. ap in_use hot_read ∙ in_use-hot _ ∙ live)

@@ -12,7 +12,7 @@ use Rattle.far_word.specs.Header.{head_of, head_word}
 use Rattle.far_word.specs.Pointer.{read_of}
 use Rattle.far_word.specs.Sizes.{size_of}
 use Rattle.far_core.specs.declared.event.Kind.TheVariants.{Free, Open, Sealed}
-use Rattle.far_core.specs.state.Law.{Law, Span, Padded, NamesBack, IsBlank, Blank, held_place, in_use, head_len}
+use Rattle.far_core.specs.state.Law.{Law, Span, Padded, NamesBack, StoresBack, IsBlank, Blank, held_place, in_use, head_len}
 use Rattle.far_core.specs.state.State.{State, put, addr}
 use Rattle.far_core.specs.events.Step.{taken}
 use Rattle.far_core.proofs.Cells.{Heads-same}
@@ -103,8 +103,8 @@ module _ (s : State) (law : Law s) (p len ds : ℕ) (place : Place) (m : Marks) 
           (λ e n d at k is. let is2 : Some (Near len ds place m) ≡ Some (Near n d at k) = sym says ∙ is in
           Heads-same s.word (put s.starts (addr place) true) q len ds n d place at (cc) (cc) (cc) (record { placed = put_same s.starts (addr place) true (addr place) refl; head = rw e named }))
           (λ _. NamesBack-more s.word s.starts _ more q _ (law.cells.cell_near q));
-      none_far = λ q n d k. put_both (λ w. read_of w ≡ Some (Far n d k) → ⊥) s.cell p new q
-          (λ _ is. let odd : Some (Near len ds place m) ≡ Some (Far n d k) = sym says ∙ is in cc) (λ _. law.cells.none_far q n d k);
+      cell_far = λ q. put_both (λ w. StoresBack (s.stored q) (read_of w)) s.cell p new q
+          (λ _ n d k is. let odd : Some (Near len ds place m) ≡ Some (Far n d k) = sym says ∙ is in absurd cc) (λ _. law.cells.cell_far q);
     };
     spans = record {
       word_fits = law.spans.word_fits;
@@ -145,9 +145,12 @@ module _ (s : State) (law : Law s) (p len ds : ℕ) (place : Place) (m : Marks) 
       used_cell = λ q h. put_both (λ w. in_use (read_of w) ≡ true) s.cell p new q (λ e. live (ap s.used (sym e) ∙ h)) (λ _. law.views.used_cell q h);
     };
     rounds = law.rounds;
-    unadopted = λ honest q free. put_both (λ w. IsBlank s.word (read_of w)) s.cell p new q
-        (λ e n d at k is _ i lt. let is2 : Some (Near len ds place m) ≡ Some (Near n d at k) = sym says ∙ is in
-        let there : place ≡ at = cc in let long : len ≡ n = cc in
-        ap (λ x. s.word (addr x + 1 + i)) (sym there) ∙ blank honest (ap s.used (sym e) ∙ free) i (omega arith))
+    unadopted = λ honest q free. put_both (λ w. IsBlank s.word (s.stored q) (read_of w)) s.cell p new q
+        (λ e. record {
+          near = λ n d at k is _ i lt. let is2 : Some (Near len ds place m) ≡ Some (Near n d at k) = sym says ∙ is in
+              let there : place ≡ at = cc in let long : len ≡ n = cc in
+              ap (λ x. s.word (addr x + 1 + i)) (sym there) ∙ blank honest (ap s.used (sym e) ∙ free) i (omega arith);
+          far = λ n d k is. let odd : Some (Near len ds place m) ≡ Some (Far n d k) = sym says ∙ is in absurd cc;
+        })
         (λ _. law.unadopted honest q free);
   }

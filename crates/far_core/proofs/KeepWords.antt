@@ -18,7 +18,7 @@ module _ (s : State) (law : Law s) (new : ℕ → ℕ)
     (fits : (a : ℕ) → new a < 2 ^ 64)
     (heads : (a : ℕ) → s.starts a ≡ true → new a ≡ s.word a)
     (pads : (a : ℕ) → s.starts a ≡ true → Padded new a (head_len (s.word a)))
-    (blanks : BlankLaw s.honest s.cell new s.used) where
+    (blanks : BlankLaw s.honest s.cell new s.stored s.used) where
   pub keeps_words : Law record s { word = new }
   keeps_words = record {
     shape = law.shape;
@@ -26,7 +26,7 @@ module _ (s : State) (law : Law s) (new : ℕ → ℕ)
       cell_read = law.cells.cell_read;
       cell_range = law.cells.cell_range;
       cell_near = λ p. NamesBack-same_heads s.word s.starts new heads p _ (law.cells.cell_near p);
-      none_far = law.cells.none_far;
+      cell_far = law.cells.cell_far;
     };
     spans = record {
       word_fits = fits;
@@ -45,26 +45,26 @@ module _ (s : State) (law : Law s) (new : ℕ → ℕ)
 -- ---- a data word of a span
 module _ (s : State) (law : Law s) (a : ℕ) (placed : s.starts a ≡ true) (i : ℕ) (inside : i < words_for (head_len (s.word a)))
     (w : ℕ) (wide : w < 2 ^ 64) (pad : w < 2 ^ (8 * (head_len (s.word a) - 8 * i))) where
-  abbrev stored : ℕ → ℕ
-  stored = put s.word (a + 1 + i) w
+  abbrev replaced : ℕ → ℕ
+  replaced = put s.word (a + 1 + i) w
 
-  pub head_stays : (b : ℕ) → s.starts b ≡ true → stored b ≡ s.word b
+  pub head_stays : (b : ℕ) → s.starts b ≡ true → replaced b ≡ s.word b
   head_stays b h = put_other s.word (a + 1 + i) w b (λ e.
       let same : a ≡ b = spans_apart s law a b (1 + i) 0 placed h (omega arith) (omega arith) (omega arith) in omega arith)
 
   -- a data word of another span stays
-  pub data_stays : (b : ℕ) → s.starts b ≡ true → b ≢ a → (j : ℕ) → j < words_for (head_len (s.word b)) → stored (b + 1 + j) ≡ s.word (b + 1 + j)
+  pub data_stays : (b : ℕ) → s.starts b ≡ true → b ≢ a → (j : ℕ) → j < words_for (head_len (s.word b)) → replaced (b + 1 + j) ≡ s.word (b + 1 + j)
   data_stays b h other j lt = put_other s.word (a + 1 + i) w (b + 1 + j) (λ e.
       other (spans_apart s law b a (1 + j) (1 + i) h placed (omega arith) (omega arith) (omega arith)))
 
-  padded_at : (b : ℕ) → s.starts b ≡ true → Padded stored b (head_len (s.word b))
+  padded_at : (b : ℕ) → s.starts b ≡ true → Padded replaced b (head_len (s.word b))
   padded_at b h j lt = put_both (λ x. x < 2 ^ (8 * (head_len (s.word b) - 8 * j))) s.word (a + 1 + i) w (b + 1 + j)
       (λ e. let same : b ≡ a = spans_apart s law b a (1 + j) (1 + i) h placed (omega arith) (omega arith) (omega arith) in
       let at : j ≡ i = omega arith in rw (same, at) pad)
       (λ _. law.spans.span_padding b h j lt)
 
-  pub keeps_store : BlankLaw s.honest s.cell stored s.used → Law record s { word = stored }
-  keeps_store blanks = keeps_words s law stored
+  pub keeps_store : BlankLaw s.honest s.cell replaced s.stored s.used → Law record s { word = replaced }
+  keeps_store blanks = keeps_words s law replaced
       (λ b. put_both (λ x. x < 2 ^ 64) s.word (a + 1 + i) w b (λ _. wide) (λ _. law.spans.word_fits b)) head_stays padded_at blanks
 
 -- ---- a word past a tail

@@ -1,5 +1,5 @@
 -- The spans of a log, as a list: they fill it, each object has one, and each word is of one.
-use Rattle.std.proofs.Common.{◌≡◌, ℕ, ◌+◌, ◌-◌, ◌*◌, ◌/◌, ◌%◌, ◌^◌, ◌<◌, ◌≤◌, Bool, true, false, cond, arith, zero, suc, sym, refl, ap, subst, ◌∙◌, Option, Some, None, List, [], ◌∷◌, inl, inr, length}
+use Rattle.std.proofs.Common.{◌≡◌, ◌≢◌, ℕ, ◌+◌, ◌-◌, ◌*◌, ◌/◌, ◌%◌, ◌^◌, ◌<◌, ◌≤◌, Bool, true, false, cond, arith, zero, suc, sym, refl, ap, subst, ◌∙◌, Option, Some, None, List, [], ◌∷◌, inl, inr, length}
 use Rattle.std.specs.Prelude.{nat_lt, not, ◌⊎◌, All, Contains, slice_index_or}
 use Rattle.std.proofs.lemmas.Bool.{cond_both, cases_lt, ltb-true, ltb-false, eq-eqb, false≢true}
 use Rattle.std.proofs.lemmas.Bool.Decides.{nat_tests}
@@ -16,7 +16,7 @@ use Rattle.far_word.proofs.HeaderLaws.{head_says}
 use Rattle.far_word.proofs.PointerLaws.{read_says}
 use Rattle.far_core.specs.declared.event.Kind.TheVariants as kinds
 use Rattle.far_core.specs.state.Law.{Law, head_len, len_in, in_use}
-use Rattle.far_core.specs.laws.Observed.{Tile, Stands, Fills, live_bytes, dead_bytes, unused_bytes, span_for, OneLive, HasOneLive, NamesOnce, IsWordOf, HasOneSpan, HasNoSpan, LogsStand, NearHasOneLive, PlacedExactly}
+use Rattle.far_core.specs.laws.Observed.{Tile, Stands, Fills, live_bytes, dead_bytes, unused_bytes, span_for, OneLive, LiesNear, LiesFar, HasOnePlace, NamesOnce, IsWordOf, HasOneSpan, HasNoSpan, LogsStand, NearHasOneLive, PlacedExactly}
 use Rattle.far_core.specs.state.Spans.{Placed, span_at, spans_from, spans_of, is_live, names_place, taken_by, pointer_in, ds_in}
 use Rattle.far_core.specs.state.State.{State, addr}
 use Rattle.far_core.proofs.Bounds.{span_len}
@@ -244,14 +244,20 @@ module _ (s : State) (law : Law s) (p len ds : ℕ) (place : Place) (m : Marks) 
         (log, (found s law l span listed_there).2 ∙ (λ i. span_at (λ j. s.word (log i * LOG_WORDS + j)) (at i)) ∙ here_is);
   }
 
-pub has_one_live : (s : State) → Law s → (p : ℕ) → HasOneLive s p
-has_one_live s law p used = at_cell (read_of (s.cell p)) refl used where
-  at_cell : (o : Option PtrWord) → read_of (s.cell p) ≡ o → in_use o ≡ true →
-      (len ds : ℕ) × (place : Place) × (m : Marks) × (read_of (s.cell p) ≡ Some (Near len ds place m)) × OneLive s p len ds place
+-- a live span's pointer is near
+far_is_dead : (s : State) (p len ds : ℕ) (m : Marks) → read_of (s.cell p) ≡ Some (Far len ds m) → (l : ℕ) (span : Placed) → is_live s l span ≡ true → span.pointer ≢ p
+far_is_dead s p len ds m e l span live is =
+    let names = live_names (read_of (s.cell span.pointer)) l span.at live in
+    let odd : Some (Far len ds m) ≡ Some (Near names.0 names.1 names.2 names.3) = sym e ∙ ap (λ q. read_of (s.cell q)) (sym is) ∙ names.4 in
+    cc
+
+pub has_one_place : (s : State) → Law s → (p : ℕ) → HasOnePlace s p
+has_one_place s law p used = at_cell (read_of (s.cell p)) refl used where
+  at_cell : (o : Option PtrWord) → read_of (s.cell p) ≡ o → in_use o ≡ true → LiesNear s p ⊎ LiesFar s p
   at_cell None e u = absurd (false≢true u)
   at_cell (Some Free) e u = absurd (false≢true u)
-  at_cell (Some (Near len ds place m)) e u = (len, ds, place, m, e, one_live s law p len ds place m e)
-  at_cell (Some (Far len ds m)) e u = absurd (law.cells.none_far p len ds m e)
+  at_cell (Some (Near len ds place m)) e u = inl (len, ds, place, m, e, one_live s law p len ds place m e)
+  at_cell (Some (Far len ds m)) e u = inr (len, ds, m, e, law.cells.cell_far p len ds m e, λ l span _. far_is_dead s p len ds m e l span)
 
 pub names_once : (s : State) → Law s → NamesOnce s
 names_once s law p q len n ds d place m k e f =

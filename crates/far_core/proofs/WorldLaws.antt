@@ -1,9 +1,9 @@
 -- What every step of a world keeps, and what the objects of a core's world are.
-use Rattle.std.proofs.Common.{◌≡◌, ℕ, ◌+◌, ◌/◌, Bool, true, false, cond, nat_eq, arith, sym, refl, ap, subst, ◌∙◌, Option, Some, None, List, length}
+use Rattle.std.proofs.Common.{◌≡◌, ◌≢◌, ◌<◌, ◌*◌, ℕ, ◌+◌, ◌/◌, Bool, true, false, cond, nat_eq, arith, sym, refl, ap, subst, ◌∙◌, Option, Some, None, List, length}
 use Rattle.std.proofs.lemmas.Bool.{cond_both, eqb-true, false≢true}
 use Rattle.far_word.specs.declared.pointer.PtrWord.{PtrWord}
 use Rattle.far_word.specs.declared.pointer.PtrWord.TheVariants.{Free, Near, Far}
-use Rattle.far_word.specs.declared.sizes.TheConstants.{CELLS}
+use Rattle.far_word.specs.declared.sizes.TheConstants.{CELLS, POINTERS}
 use Rattle.far_word.specs.Bytes.{bytes_of, overwritten}
 use Rattle.far_word.specs.Pointer.{read_of}
 use Rattle.far_word.proofs.ByteLaws.{length-bytes_of, bytes_of-small, length-overwritten}
@@ -21,6 +21,7 @@ use Rattle.far_core.specs.world.World.{World, Object, Group, FarSide}
 use Rattle.far_core.specs.laws.Worlds.{ChangeKeeps, ChangesKeep, ChangesAreOne, Causes, Caused, EventsCause, SureOf, ObjectStands, ObjectsStand, StepKeeps, StepsKeep, StepsAreOne}
 use Rattle.far_core.specs.world.WorldOf.{world_of, object_of, is_group}
 use Rattle.far_core.specs.world.Steps.{Writes, with_bytes, with_home}
+use Rattle.far_core.proofs.Cells.{unused}
 use Rattle.far_core.proofs.Observations.{in_range}
 use Rattle.far_core.proofs.Put.{put_both}
 
@@ -202,11 +203,27 @@ kept_object : (b : Bool) (x o : Object) → cond b None (Some x) ≡ Some o → 
 kept_object true x o e = absurd cc
 kept_object false x o e = cc
 
+-- a cell that isn't 0 has a number of the largest heap's
+object_number : (s : State) → Law s → (p : ℕ) → s.cell p ≢ 0 → p < POINTERS
+object_number s law p some = omega (arith, law.cells.cell_range p some, law.shape.few_mutators)
+
 object_stands : (s : State) → Law s → (p : ℕ) (c : Option PtrWord) → read_of (s.cell p) ≡ c → (o : Object) → object_of s.word (s.stored p) p c ≡ Some o → ObjectStands (world_of s) p o
 unfolding world_of
 object_stands s law p None e o h = absurd cc
 object_stands s law p (Some Free) e o h = absurd cc
-object_stands s law p (Some (Far len ds m)) e o h = absurd (law.cells.none_far p len ds m e)
+object_stands s law p (Some (Far len ds m)) e o h =
+    let says = read_says (s.cell p) (Far len ds m) (law.cells.cell_read p).0 e in
+    let x : Object = record { owner = p / CELLS; ds = ds; bytes = bytes_of (s.stored p) len; home = FarSide } in
+    let long : length (bytes_of (s.stored p) len) ≡ len = length-bytes_of (s.stored p) len in
+    subst (λ (z : Object). ObjectStands (world_of s) p z) (kept_object m.dropped x o h) record {
+      number = object_number s law p (λ z. let odd : Some Free ≡ Some (Far len ds m) = sym unused ∙ ap read_of (sym z) ∙ e in cc);
+      owner = refl;
+      structure = says.0.2;
+      some = omega (arith, long, says.0.0);
+      most = omega (arith, long, says.0.1);
+      small = λ k. bytes_of-small (s.stored p) len k;
+      held = λ g home. absurd cc;
+    }
 object_stands s law p (Some (Near len ds place m)) e o h =
     let says = read_says (s.cell p) (Near len ds place m) (law.cells.cell_read p).0 e in
     let span = in_range s law p len ds place m e in
@@ -215,6 +232,7 @@ object_stands s law p (Some (Near len ds place m)) e o h =
     let long : length (bytes_of f len) ≡ len = length-bytes_of f len in
     let there : is_group (s.kind place.log) ≡ true = held_group (s.kind place.log) (λ free. let none : s.tail place.log ≡ 0 = law.logs.free_tail place.log free in omega (arith, span.0)) in
     subst (λ (z : Object). ObjectStands (world_of s) p z) (kept_object m.dropped x o h) record {
+      number = object_number s law p (λ z. let odd : Some Free ≡ Some (Near len ds place m) = sym unused ∙ ap read_of (sym z) ∙ e in cc);
       owner = refl;
       structure = says.0.2;
       some = omega (arith, long, says.0.0);

@@ -24,7 +24,7 @@ keeps_adopt s p law live = law_with_owners s s.scope s.remembered (put s.used p 
       held_used = λ q h. put_both (λ b. b ≡ true) s.used p true q (λ _. refl) (λ _. law.views.held_used q h);
       used_cell = λ q. put_both (λ b. b ≡ true → in_use (read_of (s.cell q)) ≡ true) s.used p true q (λ e _. rw e live) (λ _. law.views.used_cell q);
     })
-    (λ honest q. put_both (λ b. b ≡ false → IsBlank s.word (read_of (s.cell q))) s.used p true q (λ _ h. absurd (true≢false h)) (λ _. law.unadopted honest q))
+    (λ honest q. put_both (λ b. b ≡ false → IsBlank s.word (s.stored q) (read_of (s.cell q))) s.used p true q (λ _ h. absurd (true≢false h)) (λ _. law.unadopted honest q))
 
 pub adopt_stays : (s : State) (p : ℕ) → world_of record s { used = put s.used p true } ≡ world_of s
 unfolding world_of
@@ -44,7 +44,7 @@ module _ (m p : ℕ) where
     within = λ s. touched (λ a ne. refl) (λ k a b. refl) (λ q a. put_other s.used p true q (λ e. a (ap Uses (sym e)))) (λ q a b. refl);
     part = λ s h. by_owner Adopt m p p (grind (arith, nat_tests)) refl;
     word = λ s h. tt;
-    tells = λ s law h. (refl, put_same s.used p true p refl);
+    tells = λ s law h. (refl, refl, put_same s.used p true p refl);
     answers = λ s x. cc;
     causes = replies (λ r. Caused (Adopt m p) (change_of (Adopt m p) r)) tt tt (λ n. tt) (λ x. tt) (λ place. tt);
   }

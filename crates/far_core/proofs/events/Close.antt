@@ -1,6 +1,6 @@
 -- What the event Close owes.
 use Rattle.std.proofs.Common.{inr, None, Option, Some, ap, cond, false, nat_eq, refl, sym, true, ℕ, ◌/◌, ◌<◌, ◌∙◌, ◌≡◌, ◌≢◌, ◌≤◌}
-use Rattle.std.proofs.lemmas.Bool.{cond_both, eqb-false, eqb-true, false≢true}
+use Rattle.std.proofs.lemmas.Bool.{cond_both, eq-eqb, eqb-false, eqb-true, false≢true}
 use Rattle.std.specs.Prelude.{IsSome, is_some, not}
 use Rattle.far_core.proofs.Frames.{law_with_owners}
 use Rattle.far_core.proofs.Guards.{open_fact, open_test}
@@ -72,7 +72,7 @@ module _ (m : ℕ) where
         (λ q a b. cond_both (nat_eq (q / CELLS) m) None (s.held q) (λ x. x ≡ s.held q) (λ e. absurd (b (ap LetsGo (sym (eqb-true (q / CELLS) m e))))) (λ _. refl));
     part = λ s h. refl;
     word = λ s h. inr refl;
-    tells = λ s law h. (put_same s.scope m 0 m refl, put_same s.remembered m None m refl);
+    tells = λ s law h. (put_same s.scope m 0 m refl, put_same s.remembered m None m refl, λ q own. ap (λ b. cond b None (s.held q)) (eq-eqb (q / CELLS) m own));
     answers = λ s x. cc;
     causes = replies (λ r. Caused (Close m) (change_of (Close m) r)) tt refl (λ n. tt) (λ x. tt) (λ place. tt);
   }

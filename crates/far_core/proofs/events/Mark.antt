@@ -1,5 +1,5 @@
 -- What the event Mark owes.
-use Rattle.std.proofs.Common.{inl, inr, ◌≡◌, ◌*◌, ◌<◌, ◌^◌, ◌∙◌, ℕ, Bool, true, false, cond, arith, ap, refl, sym, subst, nat_lt, bit_or, Option, Some, None}
+use Rattle.std.proofs.Common.{inl, inr, ◌≡◌, ◌≢◌, ◌*◌, ◌<◌, ◌^◌, ◌∙◌, ℕ, Bool, true, false, cond, arith, ap, refl, sym, subst, nat_lt, bit_or, Option, Some, None}
 use Rattle.std.specs.Prelude.{◌||◌, ◌&&◌, not, is_some}
 use Rattle.std.proofs.lemmas.Bool.{false≢true}
 use Rattle.std.proofs.lemmas.Bool.Decides.{nat_tests}
@@ -22,8 +22,8 @@ use Rattle.far_core.specs.world.World.{Object}
 use Rattle.far_core.specs.laws.Worlds.{Caused}
 use Rattle.far_core.specs.world.WorldOf.{world_of, object_of, is_marked}
 use Rattle.far_core.specs.world.Steps as world
-use Rattle.far_core.proofs.Cells.{with_mark}
-use Rattle.far_core.proofs.Frames.{Remarked, law_with_cell_marks}
+use Rattle.far_core.proofs.Cells.{Remarked, Remarked-with_mark, unused, with_mark}
+use Rattle.far_core.proofs.Frames.{law_with_cell_marks}
 use Rattle.far_core.proofs.Owed.{Owed, replies}
 use Rattle.far_core.proofs.Put.{put_both, put_same}
 use Rattle.far_core.proofs.Touching.{touched, one_cell}
@@ -50,13 +50,12 @@ near_test s p (len, ds, place, m, e, low, shut) =
     rw (e, a, shut) refl
 
 -- ---- what EVAC leaves as it is
-read_evac : (s : State) (w : ℕ) (o : Option PtrWord) → w < 2 ^ 64 → read_of w ≡ o → may_mark s o ≡ true → (read_of (evac w) ≡ with_mark Evac o) × (evac w < 2 ^ 64) × Remarked o (with_mark Evac o)
+read_evac : (s : State) (w : ℕ) (o : Option PtrWord) → w < 2 ^ 64 → read_of w ≡ o → may_mark s o ≡ true → (read_of (evac w) ≡ with_mark Evac o) × (evac w < 2 ^ 64)
 read_evac s w None fits e h = absurd (false≢true h)
 read_evac s w (Some Free) fits e h = absurd (false≢true h)
 read_evac s w (Some (Near len ds place m)) fits e h = (
   marked_read Evac w (Near len ds place m) fits e refl,
   marked_fits Evac w (Near len ds place m) fits e refl,
-  record { len = len; ds = ds; place = place; old = m; new = with Evac m; before = refl; now = refl; kept = λ x. x },
 )
 read_evac s w (Some (Far len ds m)) fits e h = absurd (false≢true h)
 
@@ -102,12 +101,16 @@ mark_marks s p new says h = World-ext _ _
     (fun_ext (λ q. chosen _ new (s.cell q) _ (ap is_marked says ∙ is_marked-evac s s.word (s.stored p) p _ h)))
     refl refl
 
+-- a near cell isn't 0
+nonzero : (s : State) (p : ℕ) → may_mark s (read_of (s.cell p)) ≡ true → s.cell p ≢ 0
+nonzero s p h z = false≢true (sym (ap (λ w. may_mark s (read_of w)) z ∙ ap (may_mark s) unused) ∙ h)
+
 -- ---- what the event owes
 module _ (p : ℕ) where
   keeps_mark : (s : State) → Law s → may_mark s (read_of (s.cell p)) ≡ true → Law record s { cell = put s.cell p (evac (s.cell p)) }
   keeps_mark s law h =
       let x = read_evac s (s.cell p) _ (law.cells.cell_read p).0 refl h in
-      law_with_cell_marks s law p _ x.1 (subst (λ o. Remarked (read_of (s.cell p)) o) (sym x.0) x.2)
+      law_with_cell_marks s law p _ x.1 (subst (λ o. Remarked (read_of (s.cell p)) o) (sym x.0) (Remarked-with_mark Evac _)) (nonzero s p h)
       (λ place k. ap held_place x.0 ∙ held_place-evac _ ∙ law.views.held_names p place k) (λ k. ap in_use x.0 ∙ in_use-evac _ ∙ law.views.used_cell p k)
 
   pub mark_owed : Owed (Mark p)

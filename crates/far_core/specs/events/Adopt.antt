@@ -10,8 +10,8 @@ use Rattle.far_core.specs.events.Touch.{Uses}
 use Rattle.far_core.specs.events.Rule.{Form, only_word, Rule}
 
 abbrev pub AdoptTells : State → ℕ → ℕ → Reply → State → Type 0
-AdoptTells s m p (Word w) t = (w ≡ t.cell p) × (t.used p ≡ true)
-AdoptTells s m p r t = Unit {0}
+AdoptTells s m p (Word w) t = (w ≡ s.cell p) × (t.cell p ≡ s.cell p) × (t.used p ≡ true)
+AdoptTells s m p r t = ⊥
 
 abbrev pub adopt_rule : State → ℕ → ℕ → Rule
 adopt_rule s m p = record {

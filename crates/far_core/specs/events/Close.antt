@@ -18,8 +18,8 @@ closed s m = record s {
 }
 
 abbrev pub CloseTells : State → ℕ → Reply → State → Type 0
-CloseTells s m Done t = (t.scope m ≡ 0) × (t.remembered m ≡ None)
-CloseTells s m r t = Unit {0}
+CloseTells s m Done t = (t.scope m ≡ 0) × (t.remembered m ≡ None) × ((p : ℕ) → p / CELLS ≡ m → t.held p ≡ None)
+CloseTells s m r t = ⊥
 
 abbrev pub close_rule : State → ℕ → Rule
 close_rule s m = record {

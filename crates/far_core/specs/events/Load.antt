@@ -1,14 +1,20 @@
 -- An owner reads a word of an object that it holds.
-use Rattle.std.specs.Prelude.{◌&&◌, ℕ, nat_lt, None, Option, Some}
+use Rattle.std.specs.Prelude.{◌≡◌, ◌+◌, ◌&&◌, ℕ, nat_lt, None, Option, Some}
+use Rattle.far_word.specs.declared.pointer.Place.{Place}
 use Rattle.far_word.specs.Sizes.{words_for}
 use Rattle.far_core.specs.declared.event.Reply.TheVariants.{Word}
 use Rattle.far_core.specs.declared.event.Reply.{Reply}
-use Rattle.far_core.specs.state.State.{State}
+use Rattle.far_core.specs.state.State.{State, addr}
 use Rattle.far_core.specs.events.Touch.{NoPart}
 use Rattle.far_core.specs.world.Changes.{Change}
 use Rattle.far_core.specs.world.Changes as change
-use Rattle.far_core.specs.events.Rule.{Form, Rule, Nothing}
+use Rattle.far_core.specs.events.Rule.{Form, Rule}
 use Rattle.far_core.specs.events.Owners.{holds, data_len, data_word, HoldsWord}
+
+-- the word is word i of the data behind the header of the object that is held
+abbrev pub LoadTells : State → ℕ → ℕ → ℕ → Reply → State → Type 0
+LoadTells s m p i (Word w) t = (place : Place) × (s.held p ≡ Some place) × (w ≡ s.word (addr place + 1 + i)) × (t ≡ s)
+LoadTells s m p i r t = ⊥
 
 abbrev pub load_rule : State → ℕ → ℕ → ℕ → Rule
 load_rule s m p i = record {
@@ -16,7 +22,7 @@ load_rule s m p i = record {
   after = s;
   answer = Word (s.word (data_word s p i));
   Legal = (len : ℕ) × HoldsWord s m p i len;
-  Tells = Nothing;
+  Tells = LoadTells s m p i;
   touches = record { word = None; part = NoPart };
 }
 

@@ -35,7 +35,7 @@ IsSealedNear s p = (len ds : ℕ) × (place : Place) × (m : Marks) × (read_of 
 
 abbrev pub MarkTells : State → ℕ → Reply → State → Type 0
 MarkTells s p (Word w) t = (w ≡ s.cell p) × ((v : PtrWord) → read_of w ≡ Some v → read_of (t.cell p) ≡ Some (marked Evac v))
-MarkTells s p r t = Unit {0}
+MarkTells s p r t = ⊥
 
 abbrev pub mark_rule : State → ℕ → Rule
 mark_rule s p = record {

@@ -94,7 +94,7 @@ abbrev pub NameTells : State → ℕ → ℕ → ℕ → Reply → State → Typ
 NameTells s p old new Done t = (s.cell p ≡ old) × (t.cell p ≡ new)
     × ((len ds : ℕ) (place : Place) (k : Marks) → read_of new ≡ Some (Near len ds place k) → Takes s len place t)
 NameTells s p old new (Word w) t = (w ≡ s.cell p) × (w ≢ old) × (t ≡ s)
-NameTells s p old new r t = Unit {0}
+NameTells s p old new r t = ⊥
 
 abbrev pub name_rule : State → ℕ → ℕ → ℕ → Rule
 name_rule s p old new = record {

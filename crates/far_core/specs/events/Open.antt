@@ -19,7 +19,7 @@ opened_at (Some e) = 2 * e + 1
 
 abbrev pub OpenTells : State → ℕ → Reply → State → Type 0
 OpenTells s m Done t = (e : ℕ) × (s.remembered m ≡ Some e) × (t.scope m ≡ scope_word (scoped.Open e))
-OpenTells s m r t = Unit {0}
+OpenTells s m r t = ⊥
 
 abbrev pub open_rule : State → ℕ → Rule
 open_rule s m = record {

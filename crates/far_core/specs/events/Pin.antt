@@ -46,7 +46,7 @@ abbrev pub PinTells : State → ℕ → ℕ → Reply → State → Type 0
 PinTells s m p (Held place) t = (t.held p ≡ Some place) × GotHot (s.cell p) (t.cell p)
 PinTells s m p (Word w) t = (w ≡ s.cell p) × (t.held p ≡ None) × GotHot (s.cell p) (t.cell p)
     × ((len ds : ℕ) (place : Place) (k : Marks) → read_of w ≡ Some (Near len ds place k) → (k.evac || k.moved || k.dropped) ≡ true)
-PinTells s m p r t = Unit {0}
+PinTells s m p r t = ⊥
 
 abbrev pub pin_rule : State → ℕ → ℕ → Rule
 pin_rule s m p = record {

@@ -19,7 +19,7 @@ is_past kinds.Sealed at tail = false
 
 abbrev pub PutTells : State → ℕ → ℕ → ℕ → Reply → State → Type 0
 PutTells s l at w Done t = t.word (l * LOG_WORDS + at) ≡ w
-PutTells s l at w r t = Unit {0}
+PutTells s l at w r t = ⊥
 
 abbrev pub put_rule : State → ℕ → ℕ → ℕ → Rule
 put_rule s l at w = record {

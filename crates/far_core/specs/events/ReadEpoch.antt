@@ -11,7 +11,7 @@ use Rattle.far_core.specs.events.Owners.{is_closed, IsClosed}
 
 abbrev pub ReadEpochTells : State → ℕ → Reply → State → Type 0
 ReadEpochTells s m (Epoch e) t = (e ≡ s.epoch) × (t.remembered m ≡ Some e)
-ReadEpochTells s m r t = Unit {0}
+ReadEpochTells s m r t = ⊥
 
 abbrev pub read_epoch_rule : State → ℕ → Rule
 read_epoch_rule s m = record {

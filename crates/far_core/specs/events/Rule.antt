@@ -26,7 +26,3 @@ pub record Form : Type 1 where
 abbrev pub only_word : Reply → Option Change
 only_word (Word x) = Some Stays
 only_word r = None
-
--- a reply that tells nothing
-abbrev pub Nothing : Reply → State → Type 0
-Nothing r t = Unit {0}

@@ -8,8 +8,8 @@ use Rattle.far_core.specs.events.Touch.{NoPart}
 use Rattle.far_core.specs.events.Rule.{Rule, Form, only_word}
 
 abbrev pub SeeTells : State → ℕ → Reply → State → Type 0
-SeeTells s p (Word w) t = w ≡ s.cell p
-SeeTells s p r t = Unit {0}
+SeeTells s p (Word w) t = (w ≡ s.cell p) × (t ≡ s)
+SeeTells s p r t = ⊥
 
 abbrev pub see_rule : State → ℕ → Rule
 see_rule s p = record {

@@ -1,14 +1,20 @@
 -- An owner writes a word of an object that it holds.
-use Rattle.std.specs.Prelude.{◌-◌, ◌*◌, ◌^◌, ◌<◌, ◌&&◌, ℕ, nat_lt, Some, Option, None}
+use Rattle.std.specs.Prelude.{◌≡◌, ◌+◌, ◌-◌, ◌*◌, ◌^◌, ◌<◌, ◌&&◌, ℕ, nat_lt, Some, Option, None}
+use Rattle.far_word.specs.declared.pointer.Place.{Place}
 use Rattle.far_word.specs.Sizes.{words_for}
 use Rattle.far_core.specs.declared.event.Reply.TheVariants.{Done}
 use Rattle.far_core.specs.declared.event.Reply.{Reply}
-use Rattle.far_core.specs.state.State.{State, put}
+use Rattle.far_core.specs.state.State.{State, put, addr}
 use Rattle.far_core.specs.events.Touch.{WordAt, NoPart}
 use Rattle.far_core.specs.world.Changes.{Change}
 use Rattle.far_core.specs.world.Changes as change
-use Rattle.far_core.specs.events.Rule.{Form, Rule, Nothing}
+use Rattle.far_core.specs.events.Rule.{Form, Rule}
 use Rattle.far_core.specs.events.Owners.{holds, data_len, data_word, keeps_padding, HoldsWord}
+
+-- word i of the data behind the header of the object that is held is the word from now on
+abbrev pub StoreTells : State → ℕ → ℕ → ℕ → ℕ → Reply → State → Type 0
+StoreTells s m p i w Done t = (place : Place) × (s.held p ≡ Some place) × (t.word (addr place + 1 + i) ≡ w)
+StoreTells s m p i w r t = ⊥
 
 abbrev pub store_rule : State → ℕ → ℕ → ℕ → ℕ → Rule
 store_rule s m p i w = record {
@@ -16,7 +22,7 @@ store_rule s m p i w = record {
   after = record s { word = put s.word (data_word s p i) w };
   answer = Done;
   Legal = (len : ℕ) × HoldsWord s m p i len × (w < 2 ^ (8 * (len - 8 * i)));
-  Tells = Nothing;
+  Tells = StoreTells s m p i w;
   touches = record { word = Some (WordAt (data_word s p i)); part = NoPart };
 }
 

@@ -1,14 +1,14 @@
 -- What the law means for a log and for an object, in the subject's words.
-use Rattle.std.specs.Prelude.{◌≡◌, ℕ, ◌+◌, ◌-◌, ◌*◌, ◌^◌, ◌<◌, ◌≤◌, ◌↔◌, true, not, Some, List, [], ◌∷◌, All, Contains}
+use Rattle.std.specs.Prelude.{◌≡◌, ◌≢◌, ◌⊎◌, ℕ, ◌+◌, ◌-◌, ◌*◌, ◌^◌, ◌<◌, ◌≤◌, ◌↔◌, true, not, Some, List, [], ◌∷◌, All, Contains}
 use Rattle.far_word.specs.declared.mark.Marks.{Marks}
 use Rattle.far_word.specs.declared.pointer.Place.{Place}
-use Rattle.far_word.specs.declared.pointer.PtrWord.TheVariants.{Near}
+use Rattle.far_word.specs.declared.pointer.PtrWord.TheVariants.{Near, Far}
 use Rattle.far_word.specs.declared.sizes.TheConstants.{CELLS, LOG_WORDS, LONGEST}
 use Rattle.far_word.specs.Header.{head_word}
 use Rattle.far_word.specs.Pointer.{read_of}
 use Rattle.far_word.specs.Sizes.{size_of, words_for}
 use Rattle.far_core.specs.declared.event.Kind.TheVariants.{Free, Open}
-use Rattle.far_core.specs.state.Law.{in_use}
+use Rattle.far_core.specs.state.Law.{in_use, IsStored}
 use Rattle.far_core.specs.state.Spans.{Placed, spans_of, is_live, taken_by}
 use Rattle.far_core.specs.state.State.{State}
 
@@ -53,10 +53,18 @@ pub record OneLive (s : State) (p len ds : ℕ) (place : Place) : Type 0 where
   pub only : (l : ℕ) (span : Placed) → Contains (spans_of s l) span → is_live s l span ≡ true → span.pointer ≡ p →
       (l ≡ place.log) × (span ≡ span_for p len ds place.at)
 
--- an object that is used and not dropped lies near, and has exactly one live span
-abbrev pub HasOneLive : State → ℕ → Type 0
-HasOneLive s p = in_use (read_of (s.cell p)) ≡ true →
-    (len ds : ℕ) × (place : Place) × (m : Marks) × (read_of (s.cell p) ≡ Some (Near len ds place m)) × OneLive s p len ds place
+-- p lies near: its one live span has the length and the data structure that its cell says
+abbrev pub LiesNear : State → ℕ → Type 0
+LiesNear s p = (len ds : ℕ) × (place : Place) × (m : Marks) × (read_of (s.cell p) ≡ Some (Near len ds place m)) × OneLive s p len ds place
+
+-- p lies far: words of its length are stored for it, and no span is live that names it
+abbrev pub LiesFar : State → ℕ → Type 0
+LiesFar s p = (len ds : ℕ) × (m : Marks) × (read_of (s.cell p) ≡ Some (Far len ds m)) × IsStored (s.stored p) len
+    × ((l : ℕ) (span : Placed) → Contains (spans_of s l) span → is_live s l span ≡ true → span.pointer ≢ p)
+
+-- an object that is used and not dropped has one place, near or far
+abbrev pub HasOnePlace : State → ℕ → Type 0
+HasOnePlace s p = in_use (read_of (s.cell p)) ≡ true → LiesNear s p ⊎ LiesFar s p
 
 -- a near cell has exactly one live span, dropped or not
 abbrev pub NearHasOneLive : State → ℕ → Type 0

@@ -1,6 +1,6 @@
 -- What holds of the objects of a core's world, and of every step that a world makes.
 use Rattle.std.specs.Prelude.{◌≡◌, ℕ, ◌/◌, ◌<◌, ◌≤◌, true, Option, Some, None, length, slice_index}
-use Rattle.far_word.specs.declared.sizes.TheConstants.{CELLS, LONGEST}
+use Rattle.far_word.specs.declared.sizes.TheConstants.{CELLS, LONGEST, POINTERS}
 use Rattle.far_core.specs.declared.event.Event.{Event}
 use Rattle.far_core.specs.declared.event.Event.TheVariants.{Open, Pin, Load, Store, Close, Name, Mark}
 use Rattle.far_core.specs.declared.event.Reply.{Reply}
@@ -10,8 +10,9 @@ use Rattle.far_core.specs.events.Step.{change_of}
 use Rattle.far_core.specs.world.Happens.{Happens}
 use Rattle.far_core.specs.world.World.{World, Object, Group}
 
--- an object has its number's owner and 1 to 1,016 bytes; if it is near, its group is held, viewed or not
+-- an object has a number of the largest heap's, that number's owner and 1 to 1,016 bytes; if it is near, its group is held
 pub record ObjectStands (w : World) (p : ℕ) (o : Object) : Type 0 where
+  pub number : p < POINTERS
   pub owner : o.owner ≡ p / CELLS
   pub structure : o.ds < 256
   pub some : 0 < length o.bytes

@@ -63,9 +63,18 @@ in_use (Some (Far len ds m)) = not m.dropped
 abbrev pub Blank : (ℕ → ℕ) → ℕ → Place → Type 0
 Blank word len place = (i : ℕ) → i < words_for len → word (addr place + 1 + i) ≡ 0
 
--- an object that no owner has used yet holds zeros
-abbrev pub IsBlank : (ℕ → ℕ) → Option PtrWord → Type 0
-IsBlank word cell = (len ds : ℕ) (place : Place) (m : Marks) → cell ≡ Some (Near len ds place m) → m.dropped ≡ false → Blank word len place
+-- stored words of an object of this length: words of 64 bits, with zeros behind the last byte
+abbrev pub IsStored : (ℕ → ℕ) → ℕ → Type 0
+IsStored stored len = (i : ℕ) → i < words_for len → (stored i < 2 ^ 64) × (stored i < 2 ^ (8 * (len - 8 * i)))
+
+-- where a cell says far, words of its length are stored
+abbrev pub StoresBack : (ℕ → ℕ) → Option PtrWord → Type 0
+StoresBack stored cell = (len ds : ℕ) (m : Marks) → cell ≡ Some (Far len ds m) → IsStored stored len
+
+-- an object that no owner has used yet holds zeros, near or far
+pub record IsBlank (word stored : ℕ → ℕ) (cell : Option PtrWord) : Type 0 where
+  pub near : (len ds : ℕ) (place : Place) (m : Marks) → cell ≡ Some (Near len ds place m) → m.dropped ≡ false → Blank word len place
+  pub far : (len ds : ℕ) (m : Marks) → cell ≡ Some (Far len ds m) → m.dropped ≡ false → (i : ℕ) → i < words_for len → stored i ≡ 0
 
 -- Each part of the law speaks of the functions that it reads, and of no others.
 
@@ -76,12 +85,12 @@ pub record IsShape (mutators logs : ℕ) : Type 0 where
   pub some_mutators : 1 ≤ mutators
   pub few_mutators : mutators ≤ MOST_MUTATORS
 
--- each cell is on the layout; a near one is named back by the span at its place; none is far yet
-pub record CellLaw (mutators : ℕ) (cell word : ℕ → ℕ) (starts : ℕ → Bool) : Type 0 where
+-- each cell is on the layout; a near one is named back by the span at its place; of a far one words are stored
+pub record CellLaw (mutators : ℕ) (cell word : ℕ → ℕ) (starts : ℕ → Bool) (stored : ℕ → ℕ → ℕ) : Type 0 where
   pub cell_read : (p : ℕ) → (cell p < 2 ^ 64) × IsSome (read_of (cell p))
   pub cell_range : (p : ℕ) → cell p ≢ 0 → p < CELLS * mutators
   pub cell_near : (p : ℕ) → NamesBack word starts p (read_of (cell p))
-  pub none_far : (p len ds : ℕ) (m : Marks) → read_of (cell p) ≡ Some (Far len ds m) → ⊥
+  pub cell_far : (p : ℕ) → StoresBack (stored p) (read_of (cell p))
 
 -- the spans of a log follow each other from its word 0 to its tail, with headers and padding, dead ones too
 pub record SpanLaw (mutators : ℕ) (tail word : ℕ → ℕ) (starts : ℕ → Bool) : Type 0 where
@@ -115,8 +124,8 @@ pub record ViewLaw (cell scope : ℕ → ℕ) (used : ℕ → Bool) (held : ℕ 
   pub used_cell : (p : ℕ) → used p ≡ true → in_use (read_of (cell p)) ≡ true
 
 -- where the far side is honest, an object that its owner doesn't use yet holds zeros
-abbrev pub BlankLaw : Bool → (ℕ → ℕ) → (ℕ → ℕ) → (ℕ → Bool) → Type 0
-BlankLaw honest cell word used = honest ≡ true → (p : ℕ) → used p ≡ false → IsBlank word (read_of (cell p))
+abbrev pub BlankLaw : Bool → (ℕ → ℕ) → (ℕ → ℕ) → (ℕ → ℕ → ℕ) → (ℕ → Bool) → Type 0
+BlankLaw honest cell word stored used = honest ≡ true → (p : ℕ) → used p ≡ false → IsBlank word (stored p) (read_of (cell p))
 
 -- the round is empty, nobody was seen clear in it, and its epoch is the epoch: no event of this stage chooses a log
 pub record RoundLaw (epoch : ℕ) (round : ℕ → Bool) (round_epoch : ℕ) (clear : ℕ → Bool) : Type 0 where
@@ -126,10 +135,10 @@ pub record RoundLaw (epoch : ℕ) (round : ℕ → Bool) (round_epoch : ℕ) (cl
 
 pub record Law (s : State) : Type 0 where
   pub shape : IsShape s.mutators s.logs
-  pub cells : CellLaw s.mutators s.cell s.word s.starts
+  pub cells : CellLaw s.mutators s.cell s.word s.starts s.stored
   pub spans : SpanLaw s.mutators s.tail s.word s.starts
   pub logs : LogLaw s.logs s.kind s.tail s.current
   pub scopes : ScopeLaw s.mutators s.epoch s.scope s.remembered
   pub views : ViewLaw s.cell s.scope s.used s.held
   pub rounds : RoundLaw s.epoch s.round s.round_epoch s.clear
-  pub unadopted : BlankLaw s.honest s.cell s.word s.used
+  pub unadopted : BlankLaw s.honest s.cell s.word s.stored s.used

@@ -10,7 +10,7 @@ ghost use Rattle.far_core.specs.state.Law.{Law};
 ghost use Rattle.far_core.specs.events.Left.{EventsLeave};
 ghost use Rattle.far_core.specs.events.Legal.{Legal};
 ghost use Rattle.far_core.specs.laws.Live.{LiveIs, LiveBytesAre};
-ghost use Rattle.far_core.specs.laws.Observed.{Fills, live_bytes, dead_bytes, unused_bytes, HasOneLive, NamesOnce, HasOneSpan, HasNoSpan, LogsStand, NearHasOneLive, PlacedExactly};
+ghost use Rattle.far_core.specs.laws.Observed.{Fills, live_bytes, dead_bytes, unused_bytes, HasOnePlace, NamesOnce, HasOneSpan, HasNoSpan, LogsStand, NearHasOneLive, PlacedExactly};
 ghost use Rattle.far_core.specs.state.Opening.{opening};
 ghost use Rattle.far_core.specs.state.Shape.{is_shape};
 ghost use Rattle.far_core.specs.state.Spans.{Placed};
@@ -62,10 +62,11 @@ impl Core {
         let _memory = &self.memory;
     }
 
-    /// Each used cell without DROP has exactly one live span, of its length and data structure; so has each near cell
-    /// with DROP; and two cells never name one place.
+    /// Each used cell without DROP has one place: exactly one live span, of its length and data structure, or, far,
+    /// stored words of its length and no live span. A near cell with DROP has its one live span too, and two cells never
+    /// name one place.
     pub fn objects_have_one_span(&self)
-        ensures one { (p : ℕ) → HasOneLive (core_state self.now) p }
+        ensures one { (p : ℕ) → HasOnePlace (core_state self.now) p }
         ensures near { (p : ℕ) → NearHasOneLive (core_state self.now) p }
         ensures once { NamesOnce (core_state self.now) }
     {
