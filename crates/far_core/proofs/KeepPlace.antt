@@ -14,7 +14,7 @@ use Rattle.far_word.specs.Sizes.{size_of}
 use Rattle.far_core.specs.declared.event.Kind.TheVariants.{Free, Open, Sealed}
 use Rattle.far_core.specs.state.Law.{Law, Span, Padded, NamesBack, StoresBack, IsBlank, Blank, held_place, in_use, head_len}
 use Rattle.far_core.specs.state.State.{State, put, addr}
-use Rattle.far_core.specs.events.Step.{taken}
+use Rattle.far_core.specs.events.NewSpans.{with_span}
 use Rattle.far_core.proofs.Cells.{Heads-same}
 use Rattle.far_core.proofs.Put.{put_both, put_same, put_other}
 
@@ -93,7 +93,7 @@ module _ (s : State) (law : Law s) (p len ds : ℕ) (place : Place) (m : Marks) 
   more : (a : ℕ) → s.starts a ≡ true → put s.starts (addr place) true a ≡ true
   more a h = put_both (λ b. b ≡ true) s.starts (addr place) true a (λ _. refl) (λ _. h)
 
-  pub law_with_span : Law (taken s p new len place)
+  pub law_with_span : Law (with_span s p new len place)
   law_with_span = record {
     shape = law.shape;
     cells = record {

@@ -10,6 +10,9 @@ pub mod Keeps
 pub mod Left
 pub mod LegalTest
 pub mod LiveLaws
+pub mod NamingOwed
+pub mod Namings
+pub mod NewSpans
 pub mod Observations
 pub mod Owed
 pub mod Owing

@@ -9,3 +9,4 @@ pub mod Put
 pub mod ReadEpoch
 pub mod See
 pub mod Store
+pub mod namings

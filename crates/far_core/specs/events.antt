@@ -5,6 +5,9 @@ pub mod Legal
 pub mod Load
 pub mod Mark
 pub mod Name
+pub mod Naming
+pub mod NamingRow
+pub mod NewSpans
 pub mod Open
 pub mod Owners
 pub mod Pin
@@ -16,3 +19,4 @@ pub mod Step
 pub mod Store
 pub mod Told
 pub mod Touch
+pub mod namings

@@ -8,6 +8,7 @@
 mod event;
 mod machine;
 mod memory;
+mod naming;
 mod shape;
 #[cfg(test)]
 mod tests;
@@ -15,4 +16,5 @@ mod tests;
 pub use event::{Event, Kind, Reply};
 pub use machine::Core;
 pub use machine::laws::{events_leave_others, opening_is_start, steps_keep_views};
+pub use naming::Naming;
 pub use shape::Shape;

@@ -24,7 +24,7 @@ pub use Rattle.far_core.specs.events.Open.{opened_at}
 pub use Rattle.far_core.specs.events.Pin.{holding, viewable, pinned, pin_answer}
 pub use Rattle.far_core.specs.events.Close.{closed}
 pub use Rattle.far_core.specs.events.Put.{is_past}
-pub use Rattle.far_core.specs.events.Name.{goes_at, zeros, is_unmarked, may_stand, may_name, taken, named}
+pub use Rattle.far_core.specs.events.NewSpans.{goes_at, zeros, with_span}
 
 abbrev pub rule : State → Event → Rule
 rule s (ReadEpoch m) = read_epoch_rule s m

@@ -4,7 +4,7 @@ use Rattle.far_core.specs.declared.event.Reply.{Reply}
 use Rattle.far_core.specs.events.Legal.{Legal}
 use Rattle.far_core.specs.state.State.{State}
 use Rattle.far_core.specs.events.Step.{rule, after, answer}
-pub use Rattle.far_core.specs.events.Name.{Takes}
+pub use Rattle.far_core.specs.events.NewSpans.{Takes}
 pub use Rattle.far_core.specs.events.Pin.{GotHot}
 
 abbrev pub Tells : State → Event → Reply → State → Type 0

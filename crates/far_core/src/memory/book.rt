@@ -1,10 +1,12 @@
 //! The events of the book.
 
-ghost use Rattle.std.specs.Prelude.{◌≡◌, ◌<◌, ◌≤◌, ◌+◌, ◌*◌};
+ghost use Rattle.std.specs.Prelude.{◌≡◌, ◌<◌, ◌≤◌, ◌+◌, ◌*◌, ℕ, true};
 ghost use Rattle.far_core.specs.state.State.{State};
 ghost use Rattle.far_core.specs.declared.event.Event.{Event};
 ghost use Rattle.far_core.specs.state.Law.{Law};
-ghost use Rattle.far_core.specs.events.Step.{step_of, may_stand, goes_at, is_past, taken};
+ghost use Rattle.far_core.specs.events.Naming.{IsOnLayout, naming_row, no_marks};
+ghost use Rattle.far_core.specs.events.NewSpans.{goes_at, is_new_span, with_span};
+ghost use Rattle.far_core.specs.events.Step.{step_of, is_past};
 ghost use Rattle.far_core.specs.events.Mark.{may_mark, is_sealed};
 ghost use Rattle.far_core.specs.state.Memory.{state_of};
 ghost use Rattle.far_word.specs.Pointer.{IsPtr, read_of};
@@ -13,7 +15,8 @@ ghost use Rattle.far_word.specs.Sizes.{size_of};
 use crate::event::{Kind, Reply};
 use crate::memory::Memory;
 use crate::memory::reading::first_word;
-use far_word::{CELLS, HeadWord, LOG_WORDS, Mark, Marks, Place, PtrWord, size_of};
+use crate::naming::Naming;
+use far_word::{CELLS, HeadWord, LOG_WORDS, Mark, Place, PtrWord, size_of, words_for};
 
 impl Memory {
     pub(crate) fn put(&mut self, log: u8, at: u16, word: u64) -> Reply
@@ -30,26 +33,45 @@ impl Memory {
         requires { Law (state_of self.old) }
         ensures { (state_of self.new, result) ≡ step_of (state_of self.old) (Event.Name pointer old new) }
     {
-        let Some(
-            PtrWord::Near {
-                len,
-                ds,
-                place,
-                marks,
-            },
-        ) = PtrWord::read(new)
-        else {
+        let Some(form) = Naming::of(old, new) else {
             return Reply::Refused;
         };
-        if old != 0 || !self.may_stand(pointer, len, ds, place, marks) {
+        if !self.has_pointer(pointer) || !self.may_name(pointer, form) {
             return Reply::Refused;
         }
         let cell = self.cell(pointer);
         if cell != old {
             return Reply::Word(cell);
         }
-        self.take(pointer, new, len, place);
+        self.make_naming(pointer, new, form);
         Reply::Done
+    }
+
+    /// Whether a form may be made of a pointer.
+    fn may_name(&self, pointer: u16, form: Naming) -> bool
+        requires pointer { pointer < CELLS * (state_of self.now).mutators }
+        requires layout { IsOnLayout form }
+        requires law { Law (state_of self.now) }
+        ensures { (new : ℕ) → result ≡ (naming_row (state_of self.now) pointer new form).test }
+    {
+        match form {
+            Naming::Places { len, ds, place } => {
+                self.is_new_span(pointer, len, ds, place)
+                    && self.zeros(first_word(place) + 1, words_for(len) as usize)
+            }
+        }
+    }
+
+    /// Makes a form that may be made, where the pointer's cell is the old word.
+    fn make_naming(&mut self, pointer: u16, new: u64, form: Naming)
+        requires pointer { pointer < CELLS * (state_of self.old).mutators }
+        requires layout { IsOnLayout form }
+        requires test { (naming_row (state_of self.old) pointer new form).test ≡ true }
+        ensures { state_of self.new ≡ (naming_row (state_of self.old) pointer new form).after }
+    {
+        match form {
+            Naming::Places { len, place, .. } => self.take(pointer, new, len, place),
+        }
     }
 
     pub(crate) fn see(&self, pointer: u16) -> Reply
@@ -84,12 +106,12 @@ impl Memory {
         }
     }
 
-    /// The span at a new place is taken: it ends its log, and its log is the open one.
+    /// Takes the span at a new place: it ends its log, and its log is the open one.
     fn take(&mut self, pointer: u16, new: u64, len: u16, place: Place)
         requires pointer { pointer < CELLS * (state_of self.old).mutators }
         requires log { place.log < (state_of self.old).logs }
-        requires room { place.at + size_of len ≤ LOG_WORDS }
-        ensures { state_of self.new ≡ taken (state_of self.old) pointer new len place }
+        requires fits { place.at + size_of len ≤ LOG_WORDS }
+        ensures { state_of self.new ≡ with_span (state_of self.old) pointer new len place }
     {
         self.set_cell(pointer, new);
         self.begin_span(place.log, first_word(place), place.at + size_of(len));
@@ -98,23 +120,17 @@ impl Memory {
         self.set_current(place.log);
     }
 
-    /// Whether a header for the pointer and data words of 0 are written at the next span's place.
-    fn may_stand(&self, pointer: u16, len: u16, ds: u8, place: Place, marks: Marks) -> bool
-        requires layout { IsPtr (PtrWord.Near len ds place marks) }
+    /// Whether a header for the pointer is written where the next span of a log may stand.
+    fn is_new_span(&self, pointer: u16, len: u16, ds: u8, place: Place) -> bool
+        requires layout { IsPtr (PtrWord.Near len ds place no_marks) }
+        requires pointer { pointer < CELLS * (state_of self.now).mutators }
         requires law { Law (state_of self.now) }
-        ensures { result ≡ may_stand (state_of self.now) pointer len ds place marks }
+        ensures { result ≡ is_new_span (state_of self.now) pointer len ds place }
     {
-        if !self.has_pointer(pointer)
-            || !self.has_log(place.log)
-            || !goes_at(self.kind(place.log), place.at, self.tail(place.log))
-        {
-            return false;
-        }
-        let at = first_word(place);
         let header = HeadWord { pointer, len, ds };
-        self.word(at) == header.pack()
-            && !(marks.hot || marks.evac || marks.moved || marks.dropped)
-            && self.zeros(at + 1, size_of(len) as usize - 1)
+        self.has_log(place.log)
+            && goes_at(self.kind(place.log), place.at, self.tail(place.log))
+            && self.word(first_word(place)) == header.pack()
     }
 }
 

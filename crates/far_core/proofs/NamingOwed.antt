@@ -1,0 +1,31 @@
+-- What each form of naming owes.
+use Rattle.std.proofs.Common.{◌≡◌, ℕ, ◌*◌, ◌<◌, ◌^◌, true, Some}
+use Rattle.far_word.specs.declared.sizes.TheConstants.{CELLS}
+use Rattle.far_word.specs.Pointer.{read_of}
+use Rattle.far_core.specs.declared.event.Event.TheVariants.{Name}
+use Rattle.far_core.specs.declared.naming.Naming.{Naming}
+use Rattle.far_core.specs.events.Naming.{IsNaming, naming_row, naming_change}
+use Rattle.far_core.specs.events.Touch.{CellAt, BookView, Touches}
+use Rattle.far_core.specs.laws.Worlds.{Causes}
+use Rattle.far_core.specs.state.Law.{Law}
+use Rattle.far_core.specs.state.State.{State}
+use Rattle.far_core.specs.world.Changes.{Step}
+use Rattle.far_core.specs.world.WorldOf.{world_of}
+
+-- the form is made on a cell: its words say it, and it is legal
+pub record Made (s : State) (p new : ℕ) (form : Naming) : Type 0 where
+  pub law : Law s
+  pub fits : new < 2 ^ 64
+  pub cell : p < CELLS * s.mutators
+  pub naming : IsNaming form (read_of (s.cell p)) (read_of new)
+  pub legal : (naming_row s p new form).Legal
+
+pub record NamingOwed (p new : ℕ) (form : Naming) : Type 0 where
+  pub fact : (s : State) → (naming_row s p new form).test ≡ true → (naming_row s p new form).Legal
+  pub test : (s : State) → (naming_row s p new form).Legal → (naming_row s p new form).test ≡ true
+  pub keeps : (s : State) → Made s p new form → Law (naming_row s p new form).after
+  pub does : (s : State) → Made s p new form → Step (naming_change p form) (world_of s) (world_of (naming_row s p new form).after)
+  pub within : (s : State) → Touches s (record { word = Some (CellAt p); part = BookView }) (naming_row s p new form).after
+  pub names : (s : State) → (naming_row s p new form).after.cell p ≡ new
+  pub tells : (s : State) → Law s → (naming_row s p new form).Tells (naming_row s p new form).after
+  pub causes : (old : ℕ) → Causes (Name p old new) (naming_change p form)

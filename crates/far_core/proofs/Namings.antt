@@ -1,0 +1,35 @@
+-- The form of an old and a new word is the one that they say.
+use Rattle.std.proofs.Common.{◌≡◌, ℕ, ◌<◌, ◌^◌, Bool, true, false, cond, arith, refl, sym, ap, subst, ◌∙◌, Option, Some, None, IfSome}
+use Rattle.std.proofs.lemmas.Bool.Decides.{nat_tests}
+use Rattle.far_word.specs.declared.mark.Marks.{Marks}
+use Rattle.far_word.specs.declared.pointer.PtrWord.{PtrWord}
+use Rattle.far_word.specs.declared.pointer.PtrWord.TheVariants.{Free, Near, Far}
+use Rattle.far_core.specs.declared.naming.Naming.{Naming}
+use Rattle.far_core.specs.declared.naming.Naming.TheVariants.{Places}
+use Rattle.far_core.specs.events.Naming.{naming_of, IsNaming, no_marks, is_unmarked}
+
+at_test : (b : Bool) (f g : Naming) → cond b (Some f) None ≡ Some g → (b ≡ true) × (f ≡ g)
+at_test true f g e = (refl, cc)
+at_test false f g e = absurd cc
+
+unmarked_is : (m : Marks) → is_unmarked m ≡ true → m ≡ no_marks
+unmarked_is m h =
+    let a : m.hot ≡ false = grind (arith, nat_tests) in
+    let b : m.evac ≡ false = grind (arith, nat_tests) in
+    let c : m.moved ≡ false = grind (arith, nat_tests) in
+    let d : m.dropped ≡ false = grind (arith, nat_tests) in
+    λ i. record { hot = a i; evac = b i; moved = c i; dropped = d i }
+
+pub naming_says : (a b : Option PtrWord) (form : Naming) → naming_of a b ≡ Some form → IsNaming form a b
+naming_says None b form e = absurd cc
+naming_says (Some (Near len ds place m)) b form e = absurd cc
+naming_says (Some (Far len ds m)) b form e = absurd cc
+naming_says (Some Free) None form e = absurd cc
+naming_says (Some Free) (Some Free) form e = absurd cc
+naming_says (Some Free) (Some (Far len ds m)) form e = absurd cc
+naming_says (Some Free) (Some (Near len ds place m)) form e =
+    let x = at_test (is_unmarked m) (Places len ds place) form e in
+    subst (λ f. IsNaming f (Some Free) (Some (Near len ds place m))) x.1 (refl, ap (λ k. Some (Near len ds place k)) (unmarked_is m x.0))
+
+pub naming_only : (form : Naming) (a b : Option PtrWord) → IsNaming form a b → naming_of a b ≡ Some form
+naming_only (Places len ds place) a b (free, near) = rw (free, near) refl

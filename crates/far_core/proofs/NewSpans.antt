@@ -1,0 +1,73 @@
+-- What a new span's tests say, what taking it changes, and the groups after it.
+use Rattle.std.proofs.Common.{◌≡◌, ℕ, ◌+◌, ◌*◌, ◌<◌, Bool, true, arith, nat_lt, nat_eq, inl, inr, refl, sym, ap, ◌∙◌, Option, Some}
+use Rattle.std.specs.Prelude.{◌⊎◌}
+use Rattle.std.proofs.lemmas.Bool.{eq-eqb, eqb-true, false≢true}
+use Rattle.std.proofs.lemmas.Bool.Decides.{nat_tests}
+use Rattle.far_word.specs.declared.pointer.Place.{Place}
+use Rattle.far_word.specs.Header.{head_word}
+use Rattle.far_word.specs.Sizes.{size_of}
+use Rattle.far_core.specs.declared.event.Kind.{Kind}
+use Rattle.far_core.specs.declared.event.Kind.TheVariants.{Free, Open, Sealed}
+use Rattle.far_core.specs.events.NewSpans.{IsNext, IsNewSpan, goes_at, is_new_span, with_span, Takes}
+use Rattle.far_core.specs.events.Touch.{CellAt, BookView, Touches}
+use Rattle.far_core.specs.state.Law.{Law}
+use Rattle.far_core.specs.state.State.{State, put, addr}
+use Rattle.far_core.specs.world.WorldOf.{is_group}
+use Rattle.far_core.proofs.Put.{put_both, put_same, put_other}
+use Rattle.far_core.proofs.Touching.{one_cell}
+
+next_fact : (k : Kind) (at tail : ℕ) → goes_at k at tail ≡ true → ((k ≡ Open) × (at ≡ tail)) ⊎ ((k ≡ Free) × (at ≡ 0))
+next_fact Free at tail h = inr (refl, eqb-true at 0 h)
+next_fact Open at tail h = inl (refl, eqb-true at tail h)
+next_fact Sealed at tail h = absurd (false≢true h)
+
+next_test : (k : Kind) (at tail : ℕ) → ((k ≡ Open) × (at ≡ tail)) ⊎ ((k ≡ Free) × (at ≡ 0)) → goes_at k at tail ≡ true
+next_test k at tail (inl h) = rw h.0 (eq-eqb at tail h.1)
+next_test k at tail (inr h) = rw h.0 (eq-eqb at 0 h.1)
+
+pub new_span_fact : (s : State) (p len ds : ℕ) (place : Place) → is_new_span s p len ds place ≡ true → IsNewSpan s p len ds place
+new_span_fact s p len ds place h =
+    record { next = (grind (arith, nat_tests), next_fact _ _ _ (grind (arith, nat_tests))); head = grind (arith, nat_tests) }
+
+pub new_span_test : (s : State) (p len ds : ℕ) (place : Place) → IsNewSpan s p len ds place → is_new_span s p len ds place ≡ true
+new_span_test s p len ds place h =
+    let low : place.log < s.logs = h.next.0 in
+    let a : nat_lt place.log s.logs ≡ true = grind (arith, nat_tests) in
+    rw (a, next_test _ _ _ h.next.1, eq-eqb _ _ h.head) refl
+
+-- where a new span stands is the tail of its log
+pub at_tail : (s : State) → Law s → (place : Place) → IsNext s place → place.at ≡ s.tail place.log
+at_tail s law at (log, inl h) = h.1
+at_tail s law at (log, inr h) = h.1 ∙ sym (law.logs.free_tail at.log h.0)
+
+-- ---- what taking a span changes
+pub takes_span : (s : State) → Law s → (p new len : ℕ) (place : Place) → Takes s len place (with_span s p new len place)
+takes_span s law p new len place = record {
+  ends = put_same s.tail place.log (place.at + size_of len) place.log refl;
+  opens = (put_same (put s.kind s.current Sealed) place.log Open place.log refl, refl);
+  seals = λ l ne is. put_other (put s.kind s.current Sealed) place.log Open l ne ∙ put_same s.kind s.current Sealed l (law.logs.one_open l is);
+  others = λ l ne. (
+    put_other s.tail place.log (place.at + size_of len) l ne,
+    λ shut. put_other (put s.kind s.current Sealed) place.log Open l ne ∙ put_other s.kind s.current Sealed l (λ e. shut (ap s.kind e ∙ law.logs.is_open)),
+  );
+  begins = put_same s.starts (addr place) true (addr place) refl;
+  starts = λ a ne. put_other s.starts (addr place) true a ne;
+}
+
+pub touch_span : (s : State) (p new len : ℕ) (place : Place) → Touches s (record { word = Some (CellAt p); part = BookView }) (with_span s p new len place)
+touch_span s p new len place = record {
+  words = one_cell s.epoch s.scope s.cell s.word p new;
+  remembered = λ k a b. refl;
+  used = λ q a. refl;
+  held = λ q a b. refl;
+  book = λ ne. absurd (ne refl);
+  rest = (refl, refl, refl, refl, refl, refl, refl);
+}
+
+-- the groups, where one log is sealed that was open and another is open
+pub groups_then : (kind : ℕ → Kind) (current log : ℕ) → kind current ≡ Open → (l : ℕ) → is_group (put (put kind current Sealed) log Open l) ≡ put (λ k. is_group (kind k)) log true l
+groups_then kind current log is l = put_both (λ k. is_group k ≡ put (λ k. is_group (kind k)) log true l) (put kind current Sealed) log Open l
+    (λ e. sym (put_same (λ k. is_group (kind k)) log true l e))
+    (λ ne. put_both (λ k. is_group k ≡ put (λ k. is_group (kind k)) log true l) kind current Sealed l
+    (λ e. sym (put_other (λ k. is_group (kind k)) log true l ne ∙ ap (λ k. is_group (kind k)) e ∙ ap is_group is))
+    (λ _. sym (put_other (λ k. is_group (kind k)) log true l ne)))

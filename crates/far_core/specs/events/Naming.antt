@@ -1,0 +1,39 @@
+-- The forms of a naming: by what the old and the new word say. Each form stands in its own file.
+use Rattle.std.specs.Prelude.{◌≡◌, ℕ, Bool, true, false, cond, not, ◌||◌, Option, Some, None}
+use Rattle.far_word.specs.declared.mark.Marks.{Marks}
+use Rattle.far_word.specs.declared.pointer.PtrWord.{PtrWord}
+use Rattle.far_word.specs.declared.pointer.PtrWord.TheVariants.{Free, Near, Far}
+use Rattle.far_word.specs.Pointer.{IsPtr}
+use Rattle.far_core.specs.declared.naming.Naming.{Naming}
+use Rattle.far_core.specs.declared.naming.Naming.TheVariants.{Places}
+use Rattle.far_core.specs.state.State.{State}
+use Rattle.far_core.specs.world.Changes.{Change}
+use Rattle.far_core.specs.events.NamingRow.{NamingRow}
+use Rattle.far_core.specs.events.namings.Places.{places_row, places_change}
+
+abbrev pub no_marks : Marks
+no_marks = record { hot = false; evac = false; moved = false; dropped = false }
+
+abbrev pub is_unmarked : Marks → Bool
+is_unmarked m = not (m.hot || m.evac || m.moved || m.dropped)
+
+-- the form of an old and a new word
+abbrev pub naming_of : Option PtrWord → Option PtrWord → Option Naming
+naming_of (Some Free) (Some (Near len ds place m)) = cond (is_unmarked m) (Some (Places len ds place)) None
+naming_of a b = None
+
+-- the same, said of each form: what the old and the new word say
+abbrev pub IsNaming : Naming → Option PtrWord → Option PtrWord → Type 0
+IsNaming (Places len ds place) a b = (a ≡ Some Free) × (b ≡ Some (Near len ds place no_marks))
+
+-- what a form takes from a word on the layout
+abbrev pub IsOnLayout : Naming → Type 0
+IsOnLayout (Places len ds place) = IsPtr (Near len ds place no_marks)
+
+-- what a form is in a state, where the pointer's new word is new
+abbrev pub naming_row : State → ℕ → ℕ → Naming → NamingRow
+naming_row s p new (Places len ds place) = places_row s p new len ds place
+
+-- what a form does to the world
+abbrev pub naming_change : ℕ → Naming → Change
+naming_change p (Places len ds place) = places_change p len ds place
