@@ -14,7 +14,13 @@ use Rattle.far_core.specs.declared.event.Event.{Event}
 use Rattle.far_core.specs.declared.event.Event.TheVariants.{ReadEpoch, Open, Pin, Load, Store, Close, Adopt, Put, Name, See, Mark}
 use Rattle.far_core.specs.declared.event.Reply.{Reply as Answer}
 use Rattle.far_core.specs.declared.event.Reply.TheVariants.{Refused, Done, Epoch, Word, Held}
-use Rattle.far_core.specs.world.Happens.{Happens, Names}
+use Rattle.far_core.specs.declared.naming.Naming.{Naming}
+use Rattle.far_core.specs.declared.naming.Naming.TheVariants.{Places}
+use Rattle.far_core.specs.events.Name.{change_by}
+use Rattle.far_core.specs.events.Naming.{naming_of, no_marks}
+use Rattle.far_core.specs.world.Changes.{StepOf}
+use Rattle.far_core.specs.world.Happens.{Happens}
+use Rattle.far_core.proofs.Namings.{naming_says}
 use Rattle.far_core.specs.state.Law.{Law}
 use Rattle.far_core.specs.events.Legal.{Legal}
 use Rattle.far_core.specs.state.State.{State, put}
@@ -211,16 +217,12 @@ pub close_step : (s : State) (m : ℕ) → Law s → Succeeds (Close m) (step_of
 close_step s m law ok = closes_scope (world_of s) (world_of (step_of s (Close m)).0) m _ ok (step_does s (Close m) law tt)
 
 -- a naming that succeeds names a place for a new object
-named_near : (w v : World) (p : ℕ) (a b : Option PtrWord) → Names w p a b v → (len ds : ℕ) × (place : Place) × (marks : Marks) × (b ≡ Some (Near len ds place marks)) × Makes w p len ds place.log v
-named_near w v p None b h = absurd h
-named_near w v p (Some Free) None h = absurd h
-named_near w v p (Some Free) (Some Free) h = absurd h
-named_near w v p (Some Free) (Some (Near len ds place marks)) h = (len, ds, place, marks, refl, h)
-named_near w v p (Some Free) (Some (Far len ds marks)) h = absurd h
-named_near w v p (Some (Near len ds place marks)) b h = absurd h
-named_near w v p (Some (Far len ds marks)) b h = absurd h
+makes_new : (w v : World) (p : ℕ) (a b : Option PtrWord) (form : Option Naming) → naming_of a b ≡ form → StepOf (change_by p form) w v →
+    (len ds : ℕ) × (place : Place) × (marks : Marks) × (b ≡ Some (Near len ds place marks)) × Makes w p len ds place.log v
+makes_new w v p a b None e h = absurd h
+makes_new w v p a b (Some (Places len ds place)) e h = (len, ds, place, no_marks, (naming_says a b (Places len ds place) e).1, h)
 
-names_place : (w v : World) (p old new : ℕ) (r : Answer) → Succeeds (Name p old new) r → Happens w (Name p old new) r v → Names w p (read_of old) (read_of new) v
+names_place : (w v : World) (p old new : ℕ) (r : Answer) → Succeeds (Name p old new) r → Happens w (Name p old new) r v → StepOf (change_by p (naming_of (read_of old) (read_of new))) w v
 names_place w v p old new Refused ok h = absurd ok
 names_place w v p old new Done ok h = h
 names_place w v p old new (Epoch e) ok h = absurd h
@@ -231,7 +233,7 @@ pub name_step : (s : State) (p old new : ℕ) → Law s → old < 2 ^ 64 → new
     (len ds : ℕ) × (place : Place) × (marks : Marks) × (read_of new ≡ Some (Near len ds place marks)) × Makes (world_of s) p len ds place.log (world_of (step_of s (Name p old new)).0)
 name_step s p old new law before after ok =
     let v : World = world_of (step_of s (Name p old new)).0 in
-    named_near (world_of s) v p (read_of old) (read_of new) (names_place (world_of s) v p old new (step_of s (Name p old new)).1 ok (step_does s (Name p old new) law (before, after)))
+    makes_new (world_of s) v p (read_of old) (read_of new) _ refl (names_place (world_of s) v p old new (step_of s (Name p old new)).1 ok (step_does s (Name p old new) law (before, after)))
 
 -- the object that is new
 abbrev pub new_object : ℕ → ℕ → ℕ → ℕ → Object

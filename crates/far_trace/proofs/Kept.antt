@@ -14,9 +14,13 @@ use Rattle.far_core.specs.declared.event.Kind.TheVariants as kinds
 use Rattle.far_core.specs.declared.event.Reply.{Reply as Answer}
 use Rattle.far_core.specs.state.Law.{Law}
 use Rattle.far_core.specs.state.State.{State, put}
-use Rattle.far_core.specs.events.Step.{step_of, after, is_legal, named}
+use Rattle.far_core.specs.events.Step.{step_of, after, is_legal}
+use Rattle.far_core.specs.declared.naming.Naming.{Naming}
+use Rattle.far_core.specs.declared.naming.Naming.TheVariants.{Places}
+use Rattle.far_core.specs.events.Name.{after_naming}
+use Rattle.far_core.specs.events.Naming.{naming_of}
 use Rattle.far_core.proofs.Cells.{held_near}
-use Rattle.far_core.proofs.Observations.{All-from, split, none_in, in_range, has_one_live, bytes_make_log, names_once}
+use Rattle.far_core.proofs.Observations.{All-from, split, none_in, in_range, has_one_place, bytes_make_log, names_once}
 use Rattle.far_core.proofs.Put.{put_both}
 use Rattle.far_trace.specs.Answers.{Answered}
 use Rattle.far_trace.specs.Command.{Command}
@@ -31,11 +35,9 @@ taken_free kind current log l = put_both (λ x. x ≡ kinds.Free → kind l ≡ 
     (λ _. put_both (λ x. x ≡ kinds.Free → kind l ≡ kinds.Free) kind current kinds.Sealed l (λ _ x. absurd cc) (λ _ x. x))
 
 -- a naming leaves no log free that wasn't
-named_free : (s : State) (p new : ℕ) (o : Option PtrWord) (l : ℕ) → (named s p new o).kind l ≡ kinds.Free → s.kind l ≡ kinds.Free
-named_free s p new None l h = h
-named_free s p new (Some pointer.Free) l h = h
-named_free s p new (Some (Near len ds place m)) l h = taken_free s.kind s.current place.log l h
-named_free s p new (Some (Far len ds m)) l h = h
+naming_free : (s : State) (p new : ℕ) (form : Option Naming) (l : ℕ) → (after_naming s p new form).kind l ≡ kinds.Free → s.kind l ≡ kinds.Free
+naming_free s p new None l h = h
+naming_free s p new (Some (Places len ds place)) l h = taken_free s.kind s.current place.log l h
 
 -- a legal event leaves no log free that wasn't
 after_free : (s : State) (e : Event) (l : ℕ) → (after s e).kind l ≡ kinds.Free → s.kind l ≡ kinds.Free
@@ -47,8 +49,8 @@ after_free s (Store m p i w) l h = h
 after_free s (Close m) l h = h
 after_free s (Adopt m p) l h = h
 after_free s (Put k at w) l h = h
-after_free s (Name p old new) l h = cond_both (nat_eq (s.cell p) old) (named s p new (read_of new)) s (λ (x : State). x.kind l ≡ kinds.Free → s.kind l ≡ kinds.Free)
-    (λ _ k. named_free s p new (read_of new) l k) (λ _ k. k) h
+after_free s (Name p old new) l h = cond_both (nat_eq (s.cell p) old) (after_naming s p new (naming_of (read_of old) (read_of new))) s (λ (x : State). x.kind l ≡ kinds.Free → s.kind l ≡ kinds.Free)
+    (λ _ k. naming_free s p new (naming_of (read_of old) (read_of new)) l k) (λ _ k. k) h
 after_free s (See p) l h = h
 after_free s (Mark p) l h = h
 
@@ -87,7 +89,7 @@ held_log s law p place h free =
 
 -- a state with the law is whole
 pub whole : (s : State) → Law s → IsWhole s
-whole s law = (has_one_live s law, bytes_make_log s law, names_once s law)
+whole s law = (has_one_place s law, bytes_make_log s law, names_once s law)
 
 -- each state of a list of commands is whole
 pub stay_whole : (s : State) (cs : List Command) (rs : List Reply) (ts : List State) → Law s → Answered s cs rs ts → IsWhole s × All IsWhole ts

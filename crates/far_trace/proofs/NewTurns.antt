@@ -17,10 +17,14 @@ use Rattle.far_core.specs.declared.event.Event.TheVariants.{Put, Name, Adopt}
 use Rattle.far_core.specs.declared.event.Kind.TheVariants.{Free, Open, Sealed}
 use Rattle.far_core.specs.declared.event.Reply.TheVariants.{Done, Word}
 use Rattle.far_core.specs.state.Law.{Law, in_use}
-use Rattle.far_core.specs.events.Legal.{Unmarked}
+use Rattle.far_core.specs.declared.naming.Naming.{Naming}
+use Rattle.far_core.specs.declared.naming.Naming.TheVariants.{Places}
+use Rattle.far_core.specs.events.Name.{after_naming}
+use Rattle.far_core.specs.events.Naming.{naming_of, no_marks}
+use Rattle.far_core.proofs.Namings.{naming_only}
 use Rattle.far_core.specs.state.Spans.{names_place}
 use Rattle.far_core.specs.state.State.{State, put, addr}
-use Rattle.far_core.specs.events.Step.{is_legal, after, answer, named, taken}
+use Rattle.far_core.specs.events.Step.{is_legal, after, answer, with_span}
 use Rattle.far_core.proofs.Cells.{unused}
 use Rattle.far_core.proofs.KeepPlace.{header}
 use Rattle.far_core.proofs.LegalTest.{is_test}
@@ -68,13 +72,13 @@ zero_row l base (suc n) a s log kind past fits =
       apart q (inr le) e = omega arith
 
 -- ---- the object
-module _ (s : State) (next : ℕ → ℕ) (law : Law s) (tidy : Tidy s next) (m p len ds new : ℕ) (place : Place) (marks : Marks)
+module _ (s : State) (next : ℕ → ℕ) (law : Law s) (tidy : Tidy s next) (m p len ds new : ℕ) (place : Place)
     (mutator : m < s.mutators) (free : next m < CELLS) (cell : p ≡ m * CELLS + next m)
     (some : 0 < len) (most : len ≤ LONGEST) (structure : ds < 256)
     (log : place.log < s.logs) (fits : place.at + size_of len ≤ LOG_WORDS) (here : place.at ≡ s.tail place.log)
     (stands : ((s.kind place.log ≡ Open) × (place.at ≡ s.tail place.log)) ⊎ ((s.kind place.log ≡ Free) × (place.at ≡ 0)))
     (order : (place.log ≡ s.current) ⊎ (place.log ≡ s.current + 1))
-    (says : read_of new ≡ Some (Near len ds place marks)) (clean : Unmarked marks) where
+    (says : read_of new ≡ Some (Near len ds place no_marks)) where
   -- the log isn't sealed
   not_sealed : s.kind place.log ≡ Sealed → ⊥
   not_sealed e = shut stands where
@@ -160,7 +164,7 @@ module _ (s : State) (next : ℕ → ℕ) (law : Law s) (tidy : Tidy s next) (m 
 
     -- the state after the naming
     abbrev placed : State
-    placed = taken filled p new len place
+    placed = with_span filled p new len place
 
     -- the state after the adoption
     abbrev adopted : State
@@ -168,23 +172,25 @@ module _ (s : State) (next : ℕ → ℕ) (law : Law s) (tidy : Tidy s next) (m 
 
     -- the naming is legal
     name_legal : is_legal filled (Name p 0 new) ≡ true
-    name_legal = is_test filled (Name p 0 new) (in_range, refl, (len, ds, place, marks, says, clean, (log, stands), head_is, blank))
+    name_legal = is_test filled (Name p 0 new) (in_range, (Places len ds place, (unused, says), (record { next = (log, stands); head = head_is }, blank)))
 
     -- it takes the span
     named_so : after filled (Name p 0 new) ≡ placed
-    named_so = ap (λ b. cond b (named filled p new (read_of new)) filled) (eq-eqb (s.cell p) 0 empty) ∙ ap (named filled p new) says
+    named_so =
+        ap (λ b. cond b (after_naming filled p new (naming_of (read_of 0) (read_of new))) filled) (eq-eqb (s.cell p) 0 empty)
+        ∙ ap (after_naming filled p new) (naming_only (Places len ds place) (read_of 0) (read_of new) (unused, says))
 
     -- it wins
     name_done : answer filled (Name p 0 new) ≡ Done
     name_done = ap (λ b. cond b Done (Word (s.cell p))) (eq-eqb (s.cell p) 0 empty)
 
     -- the cell says where the object lies
-    new_read : read_of (placed.cell p) ≡ Some (Near len ds place marks)
+    new_read : read_of (placed.cell p) ≡ Some (Near len ds place no_marks)
     new_read = ap read_of (put_same s.cell p new p refl) ∙ says
 
     -- the adoption is legal
     adopt_legal : is_legal placed (Adopt m p) ≡ true
-    adopt_legal = is_test placed (Adopt m p) (mutator, owner, not_used, ap in_use new_read ∙ ap not clean.dropped)
+    adopt_legal = is_test placed (Adopt m p) (mutator, owner, not_used, ap in_use new_read)
 
     -- the state after both
     pub taking_made : made filled (Name p 0 new ∷ Adopt m p ∷ []) ≡ adopted
@@ -197,7 +203,7 @@ module _ (s : State) (next : ℕ → ℕ) (law : Law s) (tidy : Tidy s next) (m 
 
     -- the cell isn't 0
     new_some : new ≢ 0
-    new_some z = let odd : Some (Near len ds place marks) ≡ Some pointer.Free = sym says ∙ ap read_of z ∙ unused in cc
+    new_some z = let odd : Some (Near len ds place no_marks) ≡ Some pointer.Free = sym says ∙ ap read_of z ∙ unused in cc
 
     -- the new object is at hand
     hand_new : (q : ℕ) → q ≡ p → AtHand adopted q
@@ -205,11 +211,11 @@ module _ (s : State) (next : ℕ → ℕ) (law : Law s) (tidy : Tidy s next) (m 
       len = len;
       ds = ds;
       place = place;
-      marks = marks;
+      marks = no_marks;
       near = ap read_of (put_same s.cell p new q e) ∙ says;
-      unchosen = clean.evac;
-      unmoved = clean.moved;
-      kept = clean.dropped;
+      unchosen = refl;
+      unmoved = refl;
+      kept = refl;
       used = put_same s.used p true q e;
     }
 
@@ -286,7 +292,7 @@ module _ (s : State) (next : ℕ → ℕ) (law : Law s) (tidy : Tidy s next) (m 
         let both : Some h ≡ Some (header p len ds) = sym head ∙ ap (λ b. head_of (word b)) e ∙ ap head_of head_is ∙ back in
         let same : h ≡ header p len ds = cc in
         let pointer_is : h.pointer ≡ p = ap (λ (x : HeadWord). x.pointer) same in
-        let reads : read_of (adopted.cell h.pointer) ≡ Some (Near len ds place marks) = ap read_of (put_same s.cell p new h.pointer pointer_is) ∙ says in
+        let reads : read_of (adopted.cell h.pointer) ≡ Some (Near len ds place no_marks) = ap read_of (put_same s.cell p new h.pointer pointer_is) ∙ says in
         let l : place.log ≡ a / LOG_WORDS = omega arith in
         let i : place.at ≡ a % LOG_WORDS = omega arith in
         rw (reads, eq-eqb place.log (a / LOG_WORDS) l, eq-eqb place.at (a % LOG_WORDS) i) refl
@@ -330,7 +336,7 @@ module _ (s : State) (next : ℕ → ℕ) (law : Law s) (tidy : Tidy s next) (m 
   -- and they keep the heap tidy, with one cell more
   pub new_tidy : Tidy (made s row) (put next m (next m + 1))
   new_tidy =
-      let end : made s row ≡ record (taken record s { word = zeros_put.word } p new len place) { used = put s.used p true } =
+      let end : made s row ≡ record (with_span record s { word = zeros_put.word } p new len place) { used = put s.used p true } =
       made-append s (first ∷ zero_puts place (words_for len)) (Name p 0 new ∷ Adopt m p ∷ []) ∙ ap (λ t. made t (Name p 0 new ∷ Adopt m p ∷ [])) puts_made
       ∙ taking_made zeros_put.word head_put zeros_there heads_stay in
       subst (λ t. Tidy t (put next m (next m + 1))) (sym end) (taking_tidy zeros_put.word head_put zeros_there heads_stay)

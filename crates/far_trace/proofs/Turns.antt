@@ -19,7 +19,6 @@ use Rattle.far_core.specs.declared.event.Event.{Event}
 use Rattle.far_core.specs.declared.event.Event.TheVariants.{ReadEpoch as ReadsEpoch, Open as Opens, Load as Loads, Store as Stores, Close as Closes, Adopt as Adopts, Put as Puts, Name as Names}
 use Rattle.far_core.specs.declared.event.Kind.TheVariants as kinds
 use Rattle.far_core.specs.state.Law.{Law}
-use Rattle.far_core.specs.events.Legal.{Unmarked}
 use Rattle.far_core.specs.state.Room.{room}
 use Rattle.far_core.specs.state.State.{State, put}
 use Rattle.far_core.specs.events.Step.{Fits, is_legal, is_opened, data_len, near_data, closed, opened_at}
@@ -266,7 +265,6 @@ new_turned s next m len ds law tidy e =
     ap (λ o. new_events m len ds o (room s (size_of len) true)) cell.1 ∙ ap (new_events m len ds (Some (m * CELLS + next m))) found.1 in
     let lies : IsPtr (Near len ds found.0 clean) = (sizes.2, sizes.3, sizes.1, omega (arith, found.2.log, law.shape.few_logs), found.2.fits) in
     let reads : read_of new ≡ Some (Near len ds found.0 clean) = read_back (Near len ds found.0 clean) lies in
-    let unmarked : Unmarked clean = record { hot = refl; evac = refl; moved = refl; dropped = refl } in
     let within : m * CELLS + next m < CELLS * s.mutators = omega (arith, sizes.0, cell.0) in
     let fit : Each Fits row = Each-append Fits (Puts found.0.log found.0.at (head_word (m * CELLS + next m) len ds) ∷ zero_puts found.0 (words_for len)) (Names (m * CELLS + next m) 0 (new_word len ds found.0) ∷ Adopts m (m * CELLS + next m) ∷ []) (
       head_fits (header (m * CELLS + next m) len ds) (record { some = sizes.2; most = sizes.3; structure = sizes.1; cell = omega (arith, law.shape.few_mutators) }),
@@ -274,8 +272,8 @@ new_turned s next m len ds law tidy e =
     )
     ((omega arith, word_fits (Near len ds found.0 clean) lies), (tt, tt)) in
     subst (λ es. Turned s (put next m (next m + 1)) es) (sym same) (
-      new_succeeds s next law tidy m p len ds new found.0 clean sizes.0 cell.0 refl sizes.2 sizes.3 sizes.1 found.2.log found.2.fits found.2.here found.2.stands found.2.order reads unmarked,
-      new_tidy s next law tidy m p len ds new found.0 clean sizes.0 cell.0 refl sizes.2 sizes.3 sizes.1 found.2.log found.2.fits found.2.here found.2.stands found.2.order reads unmarked,
+      new_succeeds s next law tidy m p len ds new found.0 sizes.0 cell.0 refl sizes.2 sizes.3 sizes.1 found.2.log found.2.fits found.2.here found.2.stands found.2.order reads,
+      new_tidy s next law tidy m p len ds new found.0 sizes.0 cell.0 refl sizes.2 sizes.3 sizes.1 found.2.log found.2.fits found.2.here found.2.stands found.2.order reads,
       made_law s row law fit,
     )
 
