@@ -15,16 +15,16 @@ use Rattle.far_word.specs.Pointer.{read_of, takes, marked}
 use Rattle.far_word.proofs.PointerLaws.{marked_read, marked_fits}
 use Rattle.far_core.specs.state.Law.{Heads, held_place, in_use, Blank}
 use Rattle.far_core.specs.state.State.{addr}
-use Rattle.far_core.specs.events.Step.{viewable}
+use Rattle.far_core.specs.events.Step.{place_to_view}
 
 pub unused : read_of 0 ≡ Some Free
 unfolding read_of
 unused = refl
 
 -- ---- a cell with one mark more
-abbrev pub with_mark : Mark → Option PtrWord → Option PtrWord
-with_mark k None = None
-with_mark k (Some v) = Some (marked k v)
+abbrev pub map_mark : Mark → Option PtrWord → Option PtrWord
+map_mark k None = None
+map_mark k (Some v) = Some (marked k v)
 
 takes_hot : (v : PtrWord) → in_use (Some v) ≡ true → takes Hot v ≡ true
 takes_hot Free u = absurd (false≢true u)
@@ -32,12 +32,12 @@ takes_hot (Near len ds place m) u = refl
 takes_hot (Far len ds m) u = refl
 
 at_hot : (w : ℕ) (o : Option PtrWord) → w < 2 ^ 64 → read_of w ≡ o → in_use o ≡ true →
-    (read_of (bit_or w (2 ^ position Hot)) ≡ with_mark Hot o) × (bit_or w (2 ^ position Hot) < 2 ^ 64)
+    (read_of (bit_or w (2 ^ position Hot)) ≡ map_mark Hot o) × (bit_or w (2 ^ position Hot) < 2 ^ 64)
 at_hot w None fits e u = absurd (false≢true u)
 at_hot w (Some v) fits e u = (marked_read Hot w v fits e (takes_hot v u), marked_fits Hot w v fits e (takes_hot v u))
 
 pub read_hot : (w : ℕ) → w < 2 ^ 64 → in_use (read_of w) ≡ true →
-    (read_of (bit_or w (2 ^ position Hot)) ≡ with_mark Hot (read_of w)) × (bit_or w (2 ^ position Hot) < 2 ^ 64)
+    (read_of (bit_or w (2 ^ position Hot)) ≡ map_mark Hot (read_of w)) × (bit_or w (2 ^ position Hot) < 2 ^ 64)
 read_hot w fits u = at_hot w (read_of w) fits refl u
 
 -- ---- what a cell says but for its marks
@@ -96,20 +96,20 @@ with_kept Moved m e = e
 with_kept Dropped m e = absurd (false≢true (sym e))
 
 -- a mark more
-pub Remarked-with_mark : (k : Mark) (o : Option PtrWord) → Remarked o (with_mark k o)
-Remarked-with_mark k None = record { same = refl; kept = λ e. e }
-Remarked-with_mark k (Some Free) = record { same = refl; kept = λ e. e }
-Remarked-with_mark k (Some (Near len ds place m)) = record { same = refl; kept = with_kept k m }
-Remarked-with_mark k (Some (Far len ds m)) = record { same = refl; kept = with_kept k m }
+pub Remarked-map_mark : (k : Mark) (o : Option PtrWord) → Remarked o (map_mark k o)
+Remarked-map_mark k None = record { same = refl; kept = λ e. e }
+Remarked-map_mark k (Some Free) = record { same = refl; kept = λ e. e }
+Remarked-map_mark k (Some (Near len ds place m)) = record { same = refl; kept = with_kept k m }
+Remarked-map_mark k (Some (Far len ds m)) = record { same = refl; kept = with_kept k m }
 
 -- ---- what HOT leaves as it is
-pub held_place-hot : (o : Option PtrWord) → held_place (with_mark Hot o) ≡ held_place o
+pub held_place-hot : (o : Option PtrWord) → held_place (map_mark Hot o) ≡ held_place o
 held_place-hot None = refl
 held_place-hot (Some Free) = refl
 held_place-hot (Some (Near len ds place m)) = refl
 held_place-hot (Some (Far len ds m)) = refl
 
-pub in_use-hot : (o : Option PtrWord) → in_use (with_mark Hot o) ≡ in_use o
+pub in_use-hot : (o : Option PtrWord) → in_use (map_mark Hot o) ≡ in_use o
 in_use-hot None = refl
 in_use-hot (Some Free) = refl
 in_use-hot (Some (Near len ds place m)) = refl
@@ -127,17 +127,17 @@ pub Blank-same : (word : ℕ → ℕ) (len n : ℕ) (place other : Place) → le
 Blank-same word len n place other a b h i lt = ap (λ x. word (addr x + 1 + i)) (sym b) ∙ h i (omega arith)
 
 -- ---- what a look-up implies
-pub held_place-viewable : (o : Option PtrWord) (place : Place) → viewable o ≡ Some place → held_place o ≡ Some place
-held_place-viewable None place e = e
-held_place-viewable (Some Free) place e = e
-held_place-viewable (Some (Near len ds at m)) place e = grind (arith, nat_tests)
-held_place-viewable (Some (Far len ds m)) place e = e
+pub held_place-place_to_view : (o : Option PtrWord) (place : Place) → place_to_view o ≡ Some place → held_place o ≡ Some place
+held_place-place_to_view None place e = e
+held_place-place_to_view (Some Free) place e = e
+held_place-place_to_view (Some (Near len ds at m)) place e = grind (arith, nat_tests)
+held_place-place_to_view (Some (Far len ds m)) place e = e
 
-pub viewable-used : (o : Option PtrWord) (place : Place) → viewable o ≡ Some place → in_use o ≡ true
-viewable-used None place e = absurd cc
-viewable-used (Some Free) place e = absurd cc
-viewable-used (Some (Near len ds at m)) place e = grind (arith, nat_tests)
-viewable-used (Some (Far len ds m)) place e = absurd cc
+pub place_to_view-used : (o : Option PtrWord) (place : Place) → place_to_view o ≡ Some place → in_use o ≡ true
+place_to_view-used None place e = absurd cc
+place_to_view-used (Some Free) place e = absurd cc
+place_to_view-used (Some (Near len ds at m)) place e = grind (arith, nat_tests)
+place_to_view-used (Some (Far len ds m)) place e = absurd cc
 
 -- what is held is near, with neither MOVE nor DROP
 pub record IsHeld (o : Option PtrWord) (place : Place) : Type 0 where

@@ -1,7 +1,7 @@
 -- Each event of an owner keeps the law.
 use Rattle.std.proofs.Common.{Option, None, Some, ap, bit_or, refl, subst, sym, true, ℕ, ◌^◌, ◌∙◌, ◌≡◌, ◌≢◌}
 use Rattle.std.proofs.lemmas.Bool.{false≢true}
-use Rattle.far_core.proofs.Cells.{Remarked, Remarked-with_mark, unused, with_mark, read_hot, held_place-hot, in_use-hot}
+use Rattle.far_core.proofs.Cells.{Remarked, Remarked-map_mark, unused, map_mark, read_hot, held_place-hot, in_use-hot}
 use Rattle.far_core.proofs.Frames.{law_with_cell_marks}
 use Rattle.far_core.proofs.Put.{put_both}
 use Rattle.far_core.specs.state.Law.{Law, held_place, in_use}
@@ -28,17 +28,17 @@ module _ (s : State) (law : Law s) (p : ℕ) (used : s.used p ≡ true) where
   live : in_use (read_of (s.cell p)) ≡ true
   live = law.views.used_cell p used
 
-  pub hot_read : read_of (bit_or (s.cell p) (2 ^ position Hot)) ≡ with_mark Hot (read_of (s.cell p))
+  pub hot_read : read_of (bit_or (s.cell p) (2 ^ position Hot)) ≡ map_mark Hot (read_of (s.cell p))
   hot_read = (read_hot (s.cell p) (law.cells.cell_read p).0 live).0
 
   -- what is true of what each cell says, and of that with HOT, is true of what the new cell says
-  pub at_cell : (P : Option PtrWord → Type 0) (q : ℕ) → (P (read_of (s.cell q)) → P (with_mark Hot (read_of (s.cell q)))) → P (read_of (s.cell q)) → P (read_of (put s.cell p (bit_or (s.cell p) (2 ^ position Hot)) q))
-  at_cell P q step h = put_both (λ w. P (read_of w)) s.cell p _ q (λ e. subst P (sym hot_read) (subst (λ r. P (with_mark Hot (read_of (s.cell r)))) e (step h))) (λ _. h)
+  pub at_cell : (P : Option PtrWord → Type 0) (q : ℕ) → (P (read_of (s.cell q)) → P (map_mark Hot (read_of (s.cell q)))) → P (read_of (s.cell q)) → P (read_of (put s.cell p (bit_or (s.cell p) (2 ^ position Hot)) q))
+  at_cell P q step h = put_both (λ w. P (read_of w)) s.cell p _ q (λ e. subst P (sym hot_read) (subst (λ r. P (map_mark Hot (read_of (s.cell r)))) e (step h))) (λ _. h)
 
   -- a cell that is used isn't 0
   pub nonzero : s.cell p ≢ 0
   nonzero z = false≢true (sym (ap in_use (ap read_of z ∙ unused)) ∙ live)
 
   pub keeps_hot : Law (hot_cell s p)
-  keeps_hot = law_with_cell_marks s law p _ (read_hot (s.cell p) (law.cells.cell_read p).0 live).1 (subst (λ o. Remarked (read_of (s.cell p)) o) (sym hot_read) (Remarked-with_mark Hot _)) nonzero
+  keeps_hot = law_with_cell_marks s law p _ (read_hot (s.cell p) (law.cells.cell_read p).0 live).1 (subst (λ o. Remarked (read_of (s.cell p)) o) (sym hot_read) (Remarked-map_mark Hot _)) nonzero
       (λ place h. ap held_place hot_read ∙ held_place-hot _ ∙ law.views.held_names p place h) (λ _. ap in_use hot_read ∙ in_use-hot _ ∙ live)

@@ -1,6 +1,6 @@
 -- Each legal event keeps the law.
 use Rattle.std.proofs.lemmas.Bool.{cond_both}
-use Rattle.far_core.proofs.LegalTest.{is_fact}
+use Rattle.far_core.proofs.Owing.{is_fact}
 use Rattle.far_core.specs.state.Law.{Law}
 use Rattle.far_core.specs.state.State.{State}
 use Rattle.far_core.specs.events.Step.{Fits, is_legal, step_of}

@@ -7,8 +7,7 @@ pub mod KeepOwner
 pub mod KeepPlace
 pub mod KeepWords
 pub mod Keeps
-pub mod Left
-pub mod LegalTest
+pub mod Leaving
 pub mod LiveLaws
 pub mod NamingOwed
 pub mod Namings
@@ -20,7 +19,6 @@ pub mod Put
 pub mod RoomLaws
 pub mod SpanFrames
 pub mod Steps
-pub mod Told
 pub mod Touching
 pub mod WorldFacts
 pub mod WorldLaws

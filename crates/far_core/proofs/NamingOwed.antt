@@ -13,7 +13,7 @@ use Rattle.far_core.specs.world.Changes.{Step}
 use Rattle.far_core.specs.world.WorldOf.{world_of}
 
 -- the form is made on a cell: its words say it, and it is legal
-pub record Made (s : State) (p new : ℕ) (form : Naming) : Type 0 where
+pub record IsMade (s : State) (p new : ℕ) (form : Naming) : Type 0 where
   pub law : Law s
   pub fits : new < 2 ^ 64
   pub cell : p < CELLS * s.mutators
@@ -23,9 +23,9 @@ pub record Made (s : State) (p new : ℕ) (form : Naming) : Type 0 where
 pub record NamingOwed (p new : ℕ) (form : Naming) : Type 0 where
   pub fact : (s : State) → (naming_row s p new form).test ≡ true → (naming_row s p new form).Legal
   pub test : (s : State) → (naming_row s p new form).Legal → (naming_row s p new form).test ≡ true
-  pub keeps : (s : State) → Made s p new form → Law (naming_row s p new form).after
-  pub does : (s : State) → Made s p new form → Step (naming_change p form) (world_of s) (world_of (naming_row s p new form).after)
+  pub keeps : (s : State) → IsMade s p new form → Law (naming_row s p new form).after
+  pub does : (s : State) → IsMade s p new form → Step (naming_change p form) (world_of s) (world_of (naming_row s p new form).after)
   pub within : (s : State) → Touches s (record { word = Some (CellAt p); part = BookView }) (naming_row s p new form).after
   pub names : (s : State) → (naming_row s p new form).after.cell p ≡ new
-  pub tells : (s : State) → Law s → (naming_row s p new form).Tells (naming_row s p new form).after
+  pub reports : (s : State) → Law s → (naming_row s p new form).Reports (naming_row s p new form).after
   pub causes : (old : ℕ) → Causes (Name p old new) (naming_change p form)

@@ -6,12 +6,12 @@ use Rattle.far_core.specs.declared.event.Reply.TheVariants.{Refused, Done, Epoch
 use Rattle.far_word.specs.declared.pointer.Place.{Place}
 use Rattle.far_core.specs.world.Happens.{Happens}
 use Rattle.far_core.specs.state.Law.{Law}
-use Rattle.far_core.specs.events.Left.{PartBy, WordBy}
+use Rattle.far_core.specs.events.Leaves.{PartBy, WordBy}
 use Rattle.far_core.specs.events.Legal.{Legal}
 use Rattle.far_core.specs.state.State.{State}
 use Rattle.far_core.specs.events.Step.{is_legal, after, answer, touches, change_of, Fits}
 use Rattle.far_core.specs.events.Touch.{Touches}
-use Rattle.far_core.specs.events.Told.{Tells}
+use Rattle.far_core.specs.events.Reports.{Reports}
 use Rattle.far_core.specs.laws.Worlds.{Caused}
 use Rattle.far_core.specs.world.WorldOf.{world_of}
 
@@ -23,7 +23,7 @@ pub record Owed (e : Event) : Type 0 where
   pub within : (s : State) → Touches s (touches s e) (after s e)
   pub part : (s : State) → is_legal s e ≡ true → PartBy e (touches s e).part
   pub word : (s : State) → is_legal s e ≡ true → WordBy s e (touches s e).word
-  pub tells : (s : State) → Law s → Legal s e → Tells s e (answer s e) (after s e)
+  pub reports : (s : State) → Law s → Legal s e → Reports s e (answer s e) (after s e)
   pub answers : (s : State) → answer s e ≡ Refused → ⊥
   pub causes : (r : Reply) → Caused e (change_of e r)
 

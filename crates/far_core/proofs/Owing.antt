@@ -8,7 +8,7 @@ use Rattle.far_core.specs.state.Law.{Law}
 use Rattle.far_core.specs.events.Legal.{Legal}
 use Rattle.far_core.specs.state.State.{State}
 use Rattle.far_core.specs.events.Step.{is_legal, after, answer, Fits}
-use Rattle.far_core.specs.events.Told.{AnswersTell}
+use Rattle.far_core.specs.events.Reports.{RepliesReport}
 use Rattle.far_core.specs.world.WorldOf.{world_of}
 use Rattle.far_core.proofs.Owed.{Owed}
 use Rattle.far_core.proofs.events.ReadEpoch.{read_epoch_owed}
@@ -51,8 +51,8 @@ keeps s e = (owed e).keeps s
 pub does : (s : State) (e : Event) → Law s → Fits e → Legal s e → Happens (world_of s) e (answer s e) (world_of (after s e))
 does s e = (owed e).does s
 
-pub answers_tell : (s : State) → Law s → AnswersTell s
-answers_tell s law e = (owed e).tells s law
+pub replies_report : (s : State) → Law s → RepliesReport s
+replies_report s law e = (owed e).reports s law
 
 -- a legal event isn't answered Refused
 pub never_refused : (s : State) (e : Event) → answer s e ≡ Refused → ⊥

@@ -4,7 +4,7 @@ use Rattle.std.proofs.lemmas.Bool.{cond_both, false_from_ne_true}
 use Rattle.std.specs.Prelude.{map}
 use Rattle.far_core.proofs.Cells.{held_near}
 use Rattle.far_core.proofs.Keeps.{step_keeps}
-use Rattle.far_core.proofs.LegalTest.{is_fact, is_test}
+use Rattle.far_core.proofs.Owing.{is_fact, is_test}
 use Rattle.far_core.specs.state.Agrees.{Agrees}
 use Rattle.far_core.specs.world.Happens.{Happens}
 use Rattle.far_core.specs.state.Law.{Law}

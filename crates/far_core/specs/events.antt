@@ -1,6 +1,6 @@
 pub mod Adopt
 pub mod Close
-pub mod Left
+pub mod Leaves
 pub mod Legal
 pub mod Load
 pub mod Mark
@@ -13,10 +13,10 @@ pub mod Owners
 pub mod Pin
 pub mod Put
 pub mod ReadEpoch
+pub mod Reports
 pub mod Rule
 pub mod See
 pub mod Step
 pub mod Store
-pub mod Told
 pub mod Touch
 pub mod namings

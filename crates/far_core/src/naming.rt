@@ -10,11 +10,7 @@ use far_word::{Marks, Place, PtrWord};
 #[derive(Clone, Copy, Debug, PartialEq, Eq)]
 pub enum Naming {
     /// A free cell gets an object of `len` bytes of a data structure, near at a place, without marks.
-    Places {
-        len: u16,
-        ds: u8,
-        place: Place,
-    },
+    Places { len: u16, ds: u8, place: Place },
 }
 
 impl Naming {

@@ -29,7 +29,7 @@ use Rattle.far_core.specs.world.World.{World, Object, Group}
 use Rattle.far_core.specs.world.WorldOf.{world_of}
 use Rattle.far_core.specs.world.Steps.{Makes, Writes, with_bytes}
 use Rattle.far_core.proofs.Keeps.{step_keeps}
-use Rattle.far_core.proofs.LegalTest.{is_fact}
+use Rattle.far_core.proofs.Owing.{is_fact}
 use Rattle.far_core.proofs.Put.{put_same, put_other, put_old}
 use Rattle.far_core.proofs.Steps.{step_does}
 use Rattle.far_trace.specs.Alone.{Own, own_of, bytes_in_world}

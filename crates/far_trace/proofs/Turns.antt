@@ -21,9 +21,9 @@ use Rattle.far_core.specs.declared.event.Kind.TheVariants as kinds
 use Rattle.far_core.specs.state.Law.{Law}
 use Rattle.far_core.specs.state.Room.{room}
 use Rattle.far_core.specs.state.State.{State, put}
-use Rattle.far_core.specs.events.Step.{Fits, is_legal, is_opened, data_len, near_data, closed, opened_at}
+use Rattle.far_core.specs.events.Step.{Fits, is_legal, is_opened, data_len, near_data, after_close, scope_word_of}
 use Rattle.far_core.proofs.KeepPlace.{header}
-use Rattle.far_core.proofs.LegalTest.{is_test}
+use Rattle.far_core.proofs.Owing.{is_test}
 use Rattle.far_core.proofs.Put.{put_both, put_same, put_other}
 use Rattle.far_trace.specs.Command.{Command, Heap, New, Open, Write, Read, Close, Logs}
 use Rattle.far_trace.specs.Interpreter.{AllBytes, named_by, next_after}
@@ -319,7 +319,7 @@ module _ (s : State) (next : ℕ → ℕ) (m : ℕ) (law : Law s) (tidy : Tidy s
 
   -- the state after the opening
   abbrev begun : State
-  begun = record read { scope = put s.scope m (opened_at (read.remembered m)) }
+  begun = record read { scope = put s.scope m (scope_word_of (read.remembered m)) }
 
   -- the epoch is remembered
   read_now : read.remembered m ≡ Some s.epoch
@@ -335,11 +335,11 @@ module _ (s : State) (next : ℕ → ℕ) (m : ℕ) (law : Law s) (tidy : Tidy s
 
   -- the heap stays tidy
   begun_tidy : Tidy begun next
-  begun_tidy = tidy_scopes s next (put s.scope m (opened_at (read.remembered m))) (put s.remembered m (Some s.epoch)) s.held tidy
-      (λ k z. put_other s.remembered m (Some s.epoch) k (λ e. odd k e z) ∙ tidy.unread k (sym (put_other s.scope m (opened_at (read.remembered m)) k (λ e. odd k e z)) ∙ z)) where
-        odd : (k : ℕ) → k ≡ m → put s.scope m (opened_at (read.remembered m)) k ≡ 0 → ⊥
+  begun_tidy = tidy_scopes s next (put s.scope m (scope_word_of (read.remembered m))) (put s.remembered m (Some s.epoch)) s.held tidy
+      (λ k z. put_other s.remembered m (Some s.epoch) k (λ e. odd k e z) ∙ tidy.unread k (sym (put_other s.scope m (scope_word_of (read.remembered m)) k (λ e. odd k e z)) ∙ z)) where
+        odd : (k : ℕ) → k ≡ m → put s.scope m (scope_word_of (read.remembered m)) k ≡ 0 → ⊥
         odd k e z =
-            let one : 2 * s.epoch + 1 ≡ 0 = sym (ap opened_at read_now) ∙ sym (put_same s.scope m (opened_at (read.remembered m)) k e) ∙ z in
+            let one : 2 * s.epoch + 1 ≡ 0 = sym (ap scope_word_of read_now) ∙ sym (put_same s.scope m (scope_word_of (read.remembered m)) k e) ∙ z in
             omega arith
 
   -- the events of an opening
@@ -358,7 +358,7 @@ module _ (s : State) (next : ℕ → ℕ) (m : ℕ) (law : Law s) (tidy : Tidy s
 close_turned : (s : State) (next : ℕ → ℕ) (m : ℕ) → Law s → Tidy s next → is_opened s m ≡ true → Turned s next (Closes m ∷ [])
 close_turned s next m law tidy opened =
     let legal : is_legal s (Closes m) ≡ true = opened in
-    let end : made s (Closes m ∷ []) ≡ closed s m = made_first s (Closes m) [] legal in
+    let end : made s (Closes m ∷ []) ≡ after_close s m = made_first s (Closes m) [] legal in
     let held : ℕ → Option Place = λ p. cond (nat_eq (p / CELLS) m) None (s.held p) in (
       first_succeeds s (Closes m) [] legal tt tt,
       subst (λ t. Tidy t next) (sym end) (tidy_scopes s next (put s.scope m 0) (put s.remembered m None) (λ p. cond (nat_eq (p / CELLS) m) None (s.held p)) tidy

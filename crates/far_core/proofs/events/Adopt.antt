@@ -44,7 +44,7 @@ module _ (m p : ℕ) where
     within = λ s. touched (λ a ne. refl) (λ k a b. refl) (λ q a. put_other s.used p true q (λ e. a (ap Uses (sym e)))) (λ q a b. refl);
     part = λ s h. by_owner Adopt m p p (grind (arith, nat_tests)) refl;
     word = λ s h. tt;
-    tells = λ s law h. (refl, refl, put_same s.used p true p refl);
+    reports = λ s law h. (refl, refl, put_same s.used p true p refl);
     answers = λ s x. cc;
     causes = replies (λ r. Caused (Adopt m p) (change_of (Adopt m p) r)) tt tt (λ n. tt) (λ x. tt) (λ place. tt);
   }

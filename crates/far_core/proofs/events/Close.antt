@@ -14,7 +14,7 @@ use Rattle.far_core.proofs.Put.{put_both, put_other, put_same}
 use Rattle.far_core.proofs.Worlds.{World-ext, opened_is}
 use Rattle.far_core.specs.state.Law.{Law, held_place}
 use Rattle.far_core.specs.state.State.{State, put}
-use Rattle.far_core.specs.events.Step.{closed}
+use Rattle.far_core.specs.events.Step.{after_close}
 use Rattle.far_core.specs.world.WorldOf.{world_of}
 use Rattle.far_core.specs.world.Steps.{Closes}
 use Rattle.far_core.specs.declared.event.Event.TheVariants.{Close}
@@ -29,8 +29,8 @@ use Rattle.far_word.specs.declared.scope.ScopeWord.TheVariants as scoped
 left_over : (s : State) (m p : ℕ) (P : Option Place → Type 0) → ((o : Option Place) → o ≡ None → P o) → (nat_eq (p / CELLS) m ≡ false → P (s.held p)) → P (cond (nat_eq (p / CELLS) m) None (s.held p))
 left_over s m p P none other = cond_both (nat_eq (p / CELLS) m) None (s.held p) P (λ _. none None refl) other
 
-pub keeps_close : (s : State) (m : ℕ) → Law s → Law (closed s m)
-keeps_close s m law = law_with_owners s (put s.scope m 0) (put s.remembered m None) s.used (closed s m).held law
+pub keeps_close : (s : State) (m : ℕ) → Law s → Law (after_close s m)
+keeps_close s m law = law_with_owners s (put s.scope m 0) (put s.remembered m None) s.used (after_close s m).held law
     (record {
       scope_read = λ k. put_both (λ w. IsSome (scope_of w)) s.scope m 0 k (λ _. rw closed_word refl) (λ _. law.scopes.scope_read k);
       scope_range = λ k. put_both (λ w. w ≢ 0 → k < s.mutators) s.scope m 0 k (λ _ ne. absurd (ne refl)) (λ _. law.scopes.scope_range k);
@@ -48,7 +48,7 @@ keeps_close s m law = law_with_owners s (put s.scope m 0) (put s.remembered m No
     })
     (law.unadopted)
 
-pub close_closes : (s : State) (m : ℕ) → s.scope m ≢ 0 → Closes (world_of s) m (world_of (closed s m))
+pub close_closes : (s : State) (m : ℕ) → s.scope m ≢ 0 → Closes (world_of s) m (world_of (after_close s m))
 unfolding world_of
 close_closes s m opened = record {
   open_before = opened_is s m opened;
@@ -72,7 +72,7 @@ module _ (m : ℕ) where
         (λ q a b. cond_both (nat_eq (q / CELLS) m) None (s.held q) (λ x. x ≡ s.held q) (λ e. absurd (b (ap LetsGo (sym (eqb-true (q / CELLS) m e))))) (λ _. refl));
     part = λ s h. refl;
     word = λ s h. inr refl;
-    tells = λ s law h. (put_same s.scope m 0 m refl, put_same s.remembered m None m refl, λ q own. ap (λ b. cond b None (s.held q)) (eq-eqb (q / CELLS) m own));
+    reports = λ s law h. (put_same s.scope m 0 m refl, put_same s.remembered m None m refl, λ q own. ap (λ b. cond b None (s.held q)) (eq-eqb (q / CELLS) m own));
     answers = λ s x. cc;
     causes = replies (λ r. Caused (Close m) (change_of (Close m) r)) tt refl (λ n. tt) (λ x. tt) (λ place. tt);
   }

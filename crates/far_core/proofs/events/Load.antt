@@ -29,7 +29,7 @@ module _ (m p i : ℕ) where
     within = λ s. untouched s _;
     part = λ s h. tt;
     word = λ s h. tt;
-    tells = λ s law h. (h.1.0, h.1.1.rests, ap (λ o. s.word (near_data o + i)) h.1.1.near.2, refl);
+    reports = λ s law h. (h.1.0, h.1.1.rests, ap (λ o. s.word (near_data o + i)) h.1.1.near.2, refl);
     answers = λ s x. cc;
     causes = replies (λ r. Caused (Load m p i) (change_of (Load m p i) r)) tt tt (λ n. tt) (λ x. refl) (λ place. tt);
   }

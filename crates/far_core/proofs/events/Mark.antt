@@ -22,7 +22,7 @@ use Rattle.far_core.specs.world.World.{Object}
 use Rattle.far_core.specs.laws.Worlds.{Caused}
 use Rattle.far_core.specs.world.WorldOf.{world_of, object_of, is_marked}
 use Rattle.far_core.specs.world.Steps as world
-use Rattle.far_core.proofs.Cells.{Remarked, Remarked-with_mark, unused, with_mark}
+use Rattle.far_core.proofs.Cells.{Remarked, Remarked-map_mark, unused, map_mark}
 use Rattle.far_core.proofs.Frames.{law_with_cell_marks}
 use Rattle.far_core.proofs.Owed.{Owed, replies}
 use Rattle.far_core.proofs.Put.{put_both, put_same}
@@ -50,7 +50,7 @@ near_test s p (len, ds, place, m, e, low, shut) =
     rw (e, a, shut) refl
 
 -- ---- what EVAC leaves as it is
-read_evac : (s : State) (w : ℕ) (o : Option PtrWord) → w < 2 ^ 64 → read_of w ≡ o → may_mark s o ≡ true → (read_of (evac w) ≡ with_mark Evac o) × (evac w < 2 ^ 64)
+read_evac : (s : State) (w : ℕ) (o : Option PtrWord) → w < 2 ^ 64 → read_of w ≡ o → may_mark s o ≡ true → (read_of (evac w) ≡ map_mark Evac o) × (evac w < 2 ^ 64)
 read_evac s w None fits e h = absurd (false≢true h)
 read_evac s w (Some Free) fits e h = absurd (false≢true h)
 read_evac s w (Some (Near len ds place m)) fits e h = (
@@ -59,20 +59,20 @@ read_evac s w (Some (Near len ds place m)) fits e h = (
 )
 read_evac s w (Some (Far len ds m)) fits e h = absurd (false≢true h)
 
-held_place-evac : (o : Option PtrWord) → held_place (with_mark Evac o) ≡ held_place o
+held_place-evac : (o : Option PtrWord) → held_place (map_mark Evac o) ≡ held_place o
 held_place-evac None = refl
 held_place-evac (Some Free) = refl
 held_place-evac (Some (Near len ds place m)) = refl
 held_place-evac (Some (Far len ds m)) = refl
 
-in_use-evac : (o : Option PtrWord) → in_use (with_mark Evac o) ≡ in_use o
+in_use-evac : (o : Option PtrWord) → in_use (map_mark Evac o) ≡ in_use o
 in_use-evac None = refl
 in_use-evac (Some Free) = refl
 in_use-evac (Some (Near len ds place m)) = refl
 in_use-evac (Some (Far len ds m)) = refl
 
 -- ---- the world
-object_of-evac : (f g : ℕ → ℕ) (p : ℕ) (o : Option PtrWord) → object_of f g p (with_mark Evac o) ≡ object_of f g p o
+object_of-evac : (f g : ℕ → ℕ) (p : ℕ) (o : Option PtrWord) → object_of f g p (map_mark Evac o) ≡ object_of f g p o
 object_of-evac f g p None = refl
 object_of-evac f g p (Some Free) = refl
 object_of-evac f g p (Some (Near len ds place m)) = refl
@@ -82,7 +82,7 @@ at_drop : (d e v : Bool) (x : Object) → (not d && (true || v)) ≡ (is_some (c
 at_drop true e v x = refl
 at_drop false e v x = refl
 
-is_marked-evac : (s : State) (f g : ℕ → ℕ) (p : ℕ) (o : Option PtrWord) → may_mark s o ≡ true → is_marked (with_mark Evac o) ≡ (is_some (object_of f g p o) || is_marked o)
+is_marked-evac : (s : State) (f g : ℕ → ℕ) (p : ℕ) (o : Option PtrWord) → may_mark s o ≡ true → is_marked (map_mark Evac o) ≡ (is_some (object_of f g p o) || is_marked o)
 is_marked-evac s f g p None h = absurd (false≢true h)
 is_marked-evac s f g p (Some Free) h = absurd (false≢true h)
 is_marked-evac s f g p (Some (Near len ds place m)) h = at_drop m.dropped m.evac m.moved _
@@ -92,7 +92,7 @@ chosen : (b : Bool) (new old : ℕ) (x : Bool) → is_marked (read_of new) ≡ x
 chosen true new old x e = e
 chosen false new old x e = refl
 
-mark_marks : (s : State) (p new : ℕ) → read_of new ≡ with_mark Evac (read_of (s.cell p)) → may_mark s (read_of (s.cell p)) ≡ true → world.Marks (world_of s) p (world_of record s { cell = put s.cell p new })
+mark_marks : (s : State) (p new : ℕ) → read_of new ≡ map_mark Evac (read_of (s.cell p)) → may_mark s (read_of (s.cell p)) ≡ true → world.Marks (world_of s) p (world_of record s { cell = put s.cell p new })
 unfolding world_of
 mark_marks s p new says h = World-ext _ _
     (fun_ext (λ q. put_both (λ w. object_of s.word (s.stored q) q (read_of w) ≡ object_of s.word (s.stored q) q (read_of (s.cell q))) s.cell p new q
@@ -110,7 +110,7 @@ module _ (p : ℕ) where
   keeps_mark : (s : State) → Law s → may_mark s (read_of (s.cell p)) ≡ true → Law record s { cell = put s.cell p (evac (s.cell p)) }
   keeps_mark s law h =
       let x = read_evac s (s.cell p) _ (law.cells.cell_read p).0 refl h in
-      law_with_cell_marks s law p _ x.1 (subst (λ o. Remarked (read_of (s.cell p)) o) (sym x.0) (Remarked-with_mark Evac _)) (nonzero s p h)
+      law_with_cell_marks s law p _ x.1 (subst (λ o. Remarked (read_of (s.cell p)) o) (sym x.0) (Remarked-map_mark Evac _)) (nonzero s p h)
       (λ place k. ap held_place x.0 ∙ held_place-evac _ ∙ law.views.held_names p place k) (λ k. ap in_use x.0 ∙ in_use-evac _ ∙ law.views.used_cell p k)
 
   pub mark_owed : Owed (Mark p)
@@ -122,7 +122,7 @@ module _ (p : ℕ) where
     within = λ s. touched (one_cell s.epoch s.scope s.cell s.word p _) (λ k a b. refl) (λ q a. refl) (λ q a b. refl);
     part = λ s h. tt;
     word = λ s h. inr (inl refl);
-    tells = λ s law h. (refl, λ v e. ap read_of (put_same s.cell p (evac (s.cell p)) p refl) ∙ (read_evac s (s.cell p) _ (law.cells.cell_read p).0 refl (near_test s p h.1)).0 ∙ ap (with_mark Evac) e);
+    reports = λ s law h. (refl, λ v e. ap read_of (put_same s.cell p (evac (s.cell p)) p refl) ∙ (read_evac s (s.cell p) _ (law.cells.cell_read p).0 refl (near_test s p h.1)).0 ∙ ap (map_mark Evac) e);
     answers = λ s x. cc;
     causes = replies (λ r. Caused (Mark p) (change_of (Mark p) r)) tt tt (λ n. tt) (λ x. refl) (λ place. tt);
   }

@@ -10,10 +10,10 @@ use Rattle.far_core.specs.declared.event.Reply.TheVariants.{Done, Refused, Word}
 use Rattle.far_core.specs.declared.naming.Naming.{Naming}
 use Rattle.far_core.specs.declared.naming.Naming.TheVariants.{Places}
 use Rattle.far_core.specs.events.Legal.{Legal}
-use Rattle.far_core.specs.events.Name.{IsLegalNaming, may_name, after_naming, NamingTells, change_by}
+use Rattle.far_core.specs.events.Name.{IsLegalNaming, may_name, after_naming, NamingReports, change_by}
 use Rattle.far_core.specs.events.Naming.{naming_of, naming_row}
 use Rattle.far_core.specs.events.Step.{change_of, touches}
-use Rattle.far_core.specs.events.Told.{Tells}
+use Rattle.far_core.specs.events.Reports.{Reports}
 use Rattle.far_core.specs.events.Touch.{CellAt, BookView, Touches}
 use Rattle.far_core.specs.laws.Worlds.{Caused}
 use Rattle.far_core.specs.state.Law.{Law}
@@ -21,7 +21,7 @@ use Rattle.far_core.specs.state.State.{State}
 use Rattle.far_core.specs.world.Changes.{StepOf}
 use Rattle.far_core.specs.world.Happens.{Happens}
 use Rattle.far_core.specs.world.WorldOf.{world_of}
-use Rattle.far_core.proofs.NamingOwed.{Made, NamingOwed}
+use Rattle.far_core.proofs.NamingOwed.{IsMade, NamingOwed}
 use Rattle.far_core.proofs.Namings.{naming_says, naming_only}
 use Rattle.far_core.proofs.Owed.{Owed, replies}
 use Rattle.far_core.proofs.Touching.{untouched}
@@ -43,7 +43,7 @@ module _ (p old new : ℕ) where
   name_test s (f, says, legal) = ap (may_name s p new) (naming_only f _ _ says) ∙ (naming_owed p new f).test s legal
 
   -- the form is made where the cell is the old word
-  made : (s : State) (law : Law s) → new < 2 ^ 64 → (h : Legal s (Name p old new)) → s.cell p ≡ old → Made s p new h.1.0
+  made : (s : State) (law : Law s) → new < 2 ^ 64 → (h : Legal s (Name p old new)) → s.cell p ≡ old → IsMade s p new h.1.0
   made s law fits (cell, (f, says, legal)) is = record { law = law; fits = fits; cell = cell; naming = rw is says; legal = legal }
 
   keeps_name : (s : State) → Law s → new < 2 ^ 64 → Legal s (Name p old new) → s.cell p ≡ old → Law (after_naming s p new form)
@@ -57,12 +57,12 @@ module _ (p old new : ℕ) where
   do_exchange s law fits h true e = do_name s law fits h (eqb-true (s.cell p) old e)
   do_exchange s law fits h false e = refl
 
-  tells_name : (s : State) → Law s → Legal s (Name p old new) → (b : Bool) → nat_eq (s.cell p) old ≡ b →
-      Tells s (Name p old new) (cond b Done (Word (s.cell p))) (cond b (after_naming s p new form) s)
-  tells_name s law h true is =
+  reports_name : (s : State) → Law s → Legal s (Name p old new) → (b : Bool) → nat_eq (s.cell p) old ≡ b →
+      Reports s (Name p old new) (cond b Done (Word (s.cell p))) (cond b (after_naming s p new form) s)
+  reports_name s law h true is =
       let owed = naming_owed p new h.1.0 in
-      (eqb-true (s.cell p) old is, rw (naming_only h.1.0 _ _ h.1.1) (owed.names s), rw (naming_only h.1.0 _ _ h.1.1) (owed.tells s law))
-  tells_name s law h false is = (refl, eqb-false (s.cell p) old is, refl)
+      (eqb-true (s.cell p) old is, rw (naming_only h.1.0 _ _ h.1.1) (owed.names s), rw (naming_only h.1.0 _ _ h.1.1) (owed.reports s law))
+  reports_name s law h false is = (refl, eqb-false (s.cell p) old is, refl)
 
   touch_name : (s : State) (o : Option Naming) → Touches s (record { word = Some (CellAt p); part = BookView }) (after_naming s p new o)
   touch_name s None = untouched s _
@@ -81,7 +81,7 @@ module _ (p old new : ℕ) where
     within = λ s. cond_both (nat_eq (s.cell p) old) (after_naming s p new form) s (Touches s (touches s (Name p old new))) (λ _. touch_name s form) (λ _. untouched s _);
     part = λ s h. (p, old, new, refl);
     word = λ s h. inr (inr (old, new, refl));
-    tells = λ s law h. tells_name s law h (nat_eq (s.cell p) old) refl;
+    reports = λ s law h. reports_name s law h (nat_eq (s.cell p) old) refl;
     answers = λ s x. cond_both (nat_eq (s.cell p) old) Done (Word (s.cell p)) (λ (r : Reply). r ≡ Refused → ⊥) (λ _ y. cc) (λ _ y. cc) x;
     causes = replies (λ r. Caused (Name p old new) (change_of (Name p old new) r)) tt (name_causes form) (λ n. tt) (λ x. tt) (λ place. tt);
   }

@@ -14,8 +14,8 @@ use Rattle.far_core.proofs.Worlds.{World-ext, closed_is}
 use Rattle.far_core.specs.world.Happens.{Happens}
 use Rattle.far_core.specs.state.Law.{Law}
 use Rattle.far_core.specs.state.State.{State, put}
-use Rattle.far_core.specs.events.Step.{opened_at}
-use Rattle.far_core.specs.events.Told.{Tells}
+use Rattle.far_core.specs.events.Step.{scope_word_of}
+use Rattle.far_core.specs.events.Reports.{Reports}
 use Rattle.far_core.specs.world.WorldOf.{world_of}
 use Rattle.far_core.specs.world.Steps.{Opens}
 use Rattle.far_core.specs.declared.event.Event.TheVariants.{Open}
@@ -55,7 +55,7 @@ keeps_open s m e law within read =
     })
     (law.unadopted)
 
-at_remembered : (s : State) (m : ℕ) (o : Option ℕ) → Law s → m < s.mutators → s.remembered m ≡ o → IsSome o → Law record s { scope = put s.scope m (opened_at o) }
+at_remembered : (s : State) (m : ℕ) (o : Option ℕ) → Law s → m < s.mutators → s.remembered m ≡ o → IsSome o → Law record s { scope = put s.scope m (scope_word_of o) }
 at_remembered s m None law within e h = absurd (false≢true h)
 at_remembered s m (Some e) law within is h = keeps_open s m e law within is
 
@@ -70,13 +70,13 @@ open_opens s m e shut = record {
       refl refl refl refl;
 }
 
-do_open : (s : State) (m : ℕ) (o : Option ℕ) → s.scope m ≡ 0 → IsSome o → Happens (world_of s) (Open m) Done (world_of record s { scope = put s.scope m (opened_at o) })
+do_open : (s : State) (m : ℕ) (o : Option ℕ) → s.scope m ≡ 0 → IsSome o → Happens (world_of s) (Open m) Done (world_of record s { scope = put s.scope m (scope_word_of o) })
 do_open s m None shut h = absurd (false≢true h)
 do_open s m (Some e) shut h = open_opens s m e shut
 
-tells_open : (s : State) (m : ℕ) (o : Option ℕ) → s.remembered m ≡ o → IsSome o → Tells s (Open m) Done record s { scope = put s.scope m (opened_at o) }
-tells_open s m None e h = absurd (false≢true h)
-tells_open s m (Some x) e h = (x, e, put_same s.scope m (opened_at (Some x)) m refl)
+reports_open : (s : State) (m : ℕ) (o : Option ℕ) → s.remembered m ≡ o → IsSome o → Reports s (Open m) Done record s { scope = put s.scope m (scope_word_of o) }
+reports_open s m None e h = absurd (false≢true h)
+reports_open s m (Some x) e h = (x, e, put_same s.scope m (scope_word_of (Some x)) m refl)
 
 -- what the event owes
 module _ (m : ℕ) where
@@ -89,7 +89,7 @@ module _ (m : ℕ) where
     within = λ s. touched (one_scope s.epoch s.scope s.cell s.word m _) (λ k a b. refl) (λ q a. refl) (λ q a b. refl);
     part = λ s h. tt;
     word = λ s h. inl refl;
-    tells = λ s law h. tells_open s m (s.remembered m) refl h.1;
+    reports = λ s law h. reports_open s m (s.remembered m) refl h.1;
     answers = λ s x. cc;
     causes = replies (λ r. Caused (Open m) (change_of (Open m) r)) tt refl (λ n. tt) (λ x. tt) (λ place. tt);
   }

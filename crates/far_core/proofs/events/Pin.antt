@@ -3,7 +3,7 @@ use Rattle.std.proofs.Common.{inl, Bool, None, Option, Some, ap, arith, bit_or, 
 use Rattle.std.proofs.lemmas.Bool.{eq-eqb}
 use Rattle.std.proofs.lemmas.Bool.Decides.{nat_tests}
 use Rattle.std.specs.Prelude.{IsSome, is_some, ◌||◌}
-use Rattle.far_core.proofs.Cells.{held_place-hot, held_place-viewable, read_hot, with_mark}
+use Rattle.far_core.proofs.Cells.{held_place-hot, held_place-place_to_view, read_hot, map_mark}
 use Rattle.far_core.proofs.Frames.{law_with_held}
 use Rattle.far_core.proofs.Guards.{none_from, open_fact, open_test}
 use Rattle.far_core.proofs.KeepOwner.{at_cell, hot_cell, hot_read, keeps_hot}
@@ -17,8 +17,8 @@ use Rattle.far_core.proofs.Worlds.{World-ext, opened_is}
 use Rattle.far_core.specs.world.Happens.{Happens}
 use Rattle.far_core.specs.state.Law.{Law, held_place}
 use Rattle.far_core.specs.state.State.{State, addr, put}
-use Rattle.far_core.specs.events.Step.{holding, pin_answer, pinned, viewable}
-use Rattle.far_core.specs.events.Told.{GotHot, Tells}
+use Rattle.far_core.specs.events.Step.{with_hold, pin_answer, after_pin, place_to_view}
+use Rattle.far_core.specs.events.Reports.{SetsHot, Reports}
 use Rattle.far_core.specs.world.World.{Group, Object, World}
 use Rattle.far_core.specs.world.WorldOf.{is_marked, object_of, world_of}
 use Rattle.far_core.specs.world.Steps.{Views}
@@ -39,28 +39,28 @@ keeps_hold s law p place ok used opened = law_with_held s (put s.held p (Some pl
     (λ q. put_both (λ (o : Option Place). IsSome o → (s.scope (q / CELLS) ≢ 0) × (s.used q ≡ true)) s.held p (Some place) q (λ e _. (rw e opened, rw e used)) (λ _ h. (law.views.held_open q h, law.views.held_used q h)))
     (λ q at. put_both (λ (o : Option Place). o ≡ Some at → held_place (read_of (s.cell q)) ≡ Some at) s.held p (Some place) q (λ e h. rw e (ok ∙ h)) (λ _. law.views.held_names q at))
 
-at_view : (s : State) (p : ℕ) (o : Option Place) → Law s → s.used p ≡ true → s.scope (p / CELLS) ≢ 0 → viewable (read_of (s.cell p)) ≡ o → Law record (hot_cell s p) { held = holding s.held p o }
+at_view : (s : State) (p : ℕ) (o : Option Place) → Law s → s.used p ≡ true → s.scope (p / CELLS) ≢ 0 → place_to_view (read_of (s.cell p)) ≡ o → Law record (hot_cell s p) { held = with_hold s.held p o }
 at_view s p None law used opened e = keeps_hot s law p used
 at_view s p (Some place) law used opened e = keeps_hold (hot_cell s p) (keeps_hot s law p used) p place
-    (ap (λ w. held_place (read_of w)) (put_same s.cell p _ p refl) ∙ ap held_place (hot_read s law p used) ∙ held_place-hot _ ∙ held_place-viewable _ place e) used opened
+    (ap (λ w. held_place (read_of w)) (put_same s.cell p _ p refl) ∙ ap held_place (hot_read s law p used) ∙ held_place-hot _ ∙ held_place-place_to_view _ place e) used opened
 
-pub keeps_pin : (s : State) (p : ℕ) → Law s → s.used p ≡ true → s.scope (p / CELLS) ≢ 0 → Law (pinned s p)
+pub keeps_pin : (s : State) (p : ℕ) → Law s → s.used p ≡ true → s.scope (p / CELLS) ≢ 0 → Law (after_pin s p)
 keeps_pin s p law used opened = at_view s p _ law used opened refl
 
-object_of-hot : (f g : ℕ → ℕ) (p : ℕ) (o : Option PtrWord) → object_of f g p (with_mark Hot o) ≡ object_of f g p o
+object_of-hot : (f g : ℕ → ℕ) (p : ℕ) (o : Option PtrWord) → object_of f g p (map_mark Hot o) ≡ object_of f g p o
 object_of-hot f g p None = refl
 object_of-hot f g p (Some Free) = refl
 object_of-hot f g p (Some (Near len ds place m)) = refl
 object_of-hot f g p (Some (Far len ds m)) = refl
 
-is_marked-hot : (o : Option PtrWord) → is_marked (with_mark Hot o) ≡ is_marked o
+is_marked-hot : (o : Option PtrWord) → is_marked (map_mark Hot o) ≡ is_marked o
 is_marked-hot None = refl
 is_marked-hot (Some Free) = refl
 is_marked-hot (Some (Near len ds place m)) = refl
 is_marked-hot (Some (Far len ds m)) = refl
 
 -- what may be viewed is near and unmarked
-viewable_object : (f g : ℕ → ℕ) (p : ℕ) (o : Option PtrWord) (place : Place) → viewable o ≡ Some place →
+viewable_object : (f g : ℕ → ℕ) (p : ℕ) (o : Option PtrWord) (place : Place) → place_to_view o ≡ Some place →
     ((x : Object) × (l : ℕ) × (object_of f g p o ≡ Some x) × (x.owner ≡ p / CELLS) × (x.home ≡ Group l)) × (is_marked o ≡ false)
 viewable_object f g p None place e = absurd cc
 viewable_object f g p (Some Free) place e = absurd cc
@@ -86,7 +86,7 @@ hold_world s p place = World-ext _ _ refl refl
     (λ e. sym (put_same (λ r. is_some (s.held r)) p true q e)) (λ ne. sym (put_other (λ r. is_some (s.held r)) p true q ne))))
     refl refl refl
 
-pub pin_views : (s : State) (law : Law s) (m p : ℕ) (place : Place) → s.used p ≡ true → s.scope m ≢ 0 → p / CELLS ≡ m → viewable (read_of (s.cell p)) ≡ Some place →
+pub pin_views : (s : State) (law : Law s) (m p : ℕ) (place : Place) → s.used p ≡ true → s.scope m ≢ 0 → p / CELLS ≡ m → place_to_view (read_of (s.cell p)) ≡ Some place →
     Views (world_of s) m p (world_of record (hot_cell s p) { held = put s.held p (Some place) })
 unfolding world_of
 pin_views s law m p place used opened own e =
@@ -99,8 +99,8 @@ pin_views s law m p place used opened own e =
       after = hold_world (hot_cell s p) p place ∙ ap (λ (w : World). record w { viewed = put w.viewed p true }) (hot_world s law p used);
     }
 
-do_pin : (s : State) (law : Law s) (m p : ℕ) (o : Option Place) → s.used p ≡ true → s.scope m ≢ 0 → p / CELLS ≡ m → viewable (read_of (s.cell p)) ≡ o →
-    Happens (world_of s) (Pin m p) (pin_answer (s.cell p) o) (world_of record (hot_cell s p) { held = holding s.held p o })
+do_pin : (s : State) (law : Law s) (m p : ℕ) (o : Option Place) → s.used p ≡ true → s.scope m ≢ 0 → p / CELLS ≡ m → place_to_view (read_of (s.cell p)) ≡ o →
+    Happens (world_of s) (Pin m p) (pin_answer (s.cell p) o) (world_of record (hot_cell s p) { held = with_hold s.held p o })
 do_pin s law m p None used opened own e = hot_world s law p used
 do_pin s law m p (Some place) used opened own e = pin_views s law m p place used opened own e
 
@@ -108,21 +108,21 @@ kept_away : (b : Bool) (place : Place) → cond b None (Some place) ≡ None →
 kept_away true place e = refl
 kept_away false place e = absurd cc
 
-got_hot : (s : State) → Law s → (p : ℕ) → s.used p ≡ true → GotHot (s.cell p) (put s.cell p (bit_or (s.cell p) (2 ^ position Hot)) p)
+got_hot : (s : State) → Law s → (p : ℕ) → s.used p ≡ true → SetsHot (s.cell p) (put s.cell p (bit_or (s.cell p) (2 ^ position Hot)) p)
 got_hot s law p used v e =
-    ap read_of (put_same s.cell p (bit_or (s.cell p) (2 ^ position Hot)) p refl) ∙ (read_hot (s.cell p) (law.cells.cell_read p).0 (law.views.used_cell p used)).0 ∙ ap (with_mark Hot) e
+    ap read_of (put_same s.cell p (bit_or (s.cell p) (2 ^ position Hot)) p refl) ∙ (read_hot (s.cell p) (law.cells.cell_read p).0 (law.views.used_cell p used)).0 ∙ ap (map_mark Hot) e
 
-tells_pin : (s : State) → Law s → (m p : ℕ) (o : Option Place) → s.used p ≡ true → s.held p ≡ None → viewable (read_of (s.cell p)) ≡ o →
-    Tells s (Pin m p) (pin_answer (s.cell p) o) record (hot_cell s p) { held = holding s.held p o }
-tells_pin s law m p None used none e = (refl, none, got_hot s law p used, λ len ds place k is. kept_away (k.evac || k.moved || k.dropped) place (sym (ap viewable is) ∙ e))
-tells_pin s law m p (Some place) used none e = (put_same s.held p (Some place) p refl, got_hot s law p used)
+reports_pin : (s : State) → Law s → (m p : ℕ) (o : Option Place) → s.used p ≡ true → s.held p ≡ None → place_to_view (read_of (s.cell p)) ≡ o →
+    Reports s (Pin m p) (pin_answer (s.cell p) o) record (hot_cell s p) { held = with_hold s.held p o }
+reports_pin s law m p None used none e = (refl, none, got_hot s law p used, λ len ds place k is. kept_away (k.evac || k.moved || k.dropped) place (sym (ap place_to_view is) ∙ e))
+reports_pin s law m p (Some place) used none e = (put_same s.held p (Some place) p refl, got_hot s law p used)
 
 -- a pin isn't answered Refused
 pin_told : (w : ℕ) (o : Option Place) → pin_answer w o ≡ Refused → ⊥
 pin_told w None y = cc
 pin_told w (Some place) y = cc
 
-touch_pin : (s : State) (p : ℕ) (o : Option Place) → Touches s (record { word = Some (CellAt p); part = Rests p }) record s { cell = put s.cell p (bit_or (s.cell p) (2 ^ position Hot)); held = holding s.held p o }
+touch_pin : (s : State) (p : ℕ) (o : Option Place) → Touches s (record { word = Some (CellAt p); part = Rests p }) record s { cell = put s.cell p (bit_or (s.cell p) (2 ^ position Hot)); held = with_hold s.held p o }
 touch_pin s p None = touched (one_cell s.epoch s.scope s.cell s.word p _) (λ k a b. refl) (λ q a. refl) (λ q a b. refl)
 touch_pin s p (Some place) = touched (one_cell s.epoch s.scope s.cell s.word p _) (λ k a b. refl) (λ q a. refl) (λ q a b. put_other s.held p (Some place) q (λ e. a (ap Rests (sym e))))
 
@@ -134,10 +134,10 @@ module _ (m p : ℕ) where
     test = λ s h. rw (open_test s m h.0, eq-eqb _ _ h.1, h.2, h.3) refl;
     keeps = λ s law fits h. keeps_pin s p law h.2 (subst (λ k. s.scope k ≢ 0) (sym h.1) h.0.1);
     does = λ s law fits h. do_pin s law m p _ h.2 h.0.1 h.1 refl;
-    within = λ s. touch_pin s p (viewable (read_of (s.cell p)));
+    within = λ s. touch_pin s p (place_to_view (read_of (s.cell p)));
     part = λ s h. by_owner Pin m p p (grind (arith, nat_tests)) refl;
     word = λ s h. inl (by_owner Pin m p p (grind (arith, nat_tests)) refl);
-    tells = λ s law h. tells_pin s law m p (viewable (read_of (s.cell p))) h.2 h.3 refl;
-    answers = λ s x. pin_told (s.cell p) (viewable (read_of (s.cell p))) x;
+    reports = λ s law h. reports_pin s law m p (place_to_view (read_of (s.cell p))) h.2 h.3 refl;
+    answers = λ s x. pin_told (s.cell p) (place_to_view (read_of (s.cell p))) x;
     causes = replies (λ r. Caused (Pin m p) (change_of (Pin m p) r)) tt tt (λ n. tt) (λ x. tt) (λ place. refl);
   }

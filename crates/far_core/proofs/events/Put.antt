@@ -36,10 +36,13 @@ keeps_put s law l at w past inside wide = keeps_words s law (put s.word (l * LOG
     (λ b. put_both (λ x. x < 2 ^ 64) s.word (l * LOG_WORDS + at) w b (λ _. wide) (λ _. law.spans.word_fits b))
     (head_kept s law l at w past inside wide)
     (λ b h j lt. rw (data_kept s law l at w past inside wide b j h lt) (law.spans.span_padding b h j lt))
-    (λ honest q free. record { far = (law.unadopted honest q free).far; near = λ n d place k e kept j lt.
-    let there = law.cells.cell_near q n d place k e in
-    let size : head_len (s.word (addr place)) ≡ n = rw (span_len s law q n d place k e) refl in
-    data_kept s law l at w past inside wide (addr place) j there.placed (omega (arith, size)) ∙ (law.unadopted honest q free).near n d place k e kept j lt })
+    (λ honest q free. record {
+      far = (law.unadopted honest q free).far;
+      near = λ n d place k e kept j lt.
+          let there = law.cells.cell_near q n d place k e in
+          let size : head_len (s.word (addr place)) ≡ n = rw (span_len s law q n d place k e) refl in
+          data_kept s law l at w past inside wide (addr place) j there.placed (omega (arith, size)) ∙ (law.unadopted honest q free).near n d place k e kept j lt;
+    })
 
 pub put_stays : (s : State) (law : Law s) (l at w : ℕ) → s.tail l ≤ at → at < LOG_WORDS → w < 2 ^ 64 → world_of record s { word = put s.word (l * LOG_WORDS + at) w } ≡ world_of s
 unfolding world_of
@@ -67,7 +70,7 @@ module _ (l at w : ℕ) where
     within = λ s. touched (one_word s.epoch s.scope s.cell s.word (l * LOG_WORDS + at) w) (λ k a b. refl) (λ q a. refl) (λ q a b. refl);
     part = λ s h. tt;
     word = λ s h. inr (l, at, w, refl, refl);
-    tells = λ s law h. put_same s.word (l * LOG_WORDS + at) w (l * LOG_WORDS + at) refl;
+    reports = λ s law h. put_same s.word (l * LOG_WORDS + at) w (l * LOG_WORDS + at) refl;
     answers = λ s x. cc;
     causes = replies (λ r. Caused (Put l at w) (change_of (Put l at w) r)) tt tt (λ n. tt) (λ x. tt) (λ place. tt);
   }

@@ -32,7 +32,7 @@ module _ (m : ℕ) where
     within = λ s. touched (λ a ne. refl) (λ k a b. put_other s.remembered m _ k (λ e. a (ap Remembers (sym e)))) (λ q a. refl) (λ q a b. refl);
     part = λ s h. refl;
     word = λ s h. tt;
-    tells = λ s law h. (refl, put_same s.remembered m (Some s.epoch) m refl);
+    reports = λ s law h. (refl, put_same s.remembered m (Some s.epoch) m refl);
     answers = λ s x. cc;
     causes = replies (λ r. Caused (ReadEpoch m) (change_of (ReadEpoch m) r)) tt tt (λ n. tt) (λ x. tt) (λ place. tt);
   }

@@ -17,7 +17,7 @@ module _ (p : ℕ) where
     within = λ s. untouched s _;
     part = λ s h. tt;
     word = λ s h. tt;
-    tells = λ s law h. (refl, refl);
+    reports = λ s law h. (refl, refl);
     answers = λ s x. cc;
     causes = replies (λ r. Caused (See p) (change_of (See p) r)) tt tt (λ n. tt) (λ x. tt) (λ place. tt);
   }

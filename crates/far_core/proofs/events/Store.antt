@@ -42,13 +42,16 @@ module _ (s : State) (law : Law s) (m p i w len : ℕ) (held : HoldsWord s m p i
 
   pub keeps_held_store : Law record s { word = put s.word (addr place + 1 + i) w }
   keeps_held_store = keeps_store s law (addr place) heads.placed i (omega (arith, held.2, long)) w wide (rw long pad)
-      (λ honest q free. record { far = (law.unadopted honest q free).far; near = λ n d at k e kept j lt.
-      let there = law.cells.cell_near q n d at k e in
-      let x = read_says (s.cell q) (Near n d at k) (law.cells.cell_read q).0 e in
-      let y = read_says (s.cell p) (Near len held.1.near.0 place held.1.near.1) (law.cells.cell_read p).0 near in
-      let size : head_len (s.word (addr at)) ≡ n = rw (span_len s law q n d at k e) refl in
-      let apart : addr at ≢ addr place = (λ same. true≢false (sym used ∙ ap s.used (one_name s.word p q len n held.1.near.0 d (addr place) heads.head (ap s.word (sym same) ∙ there.head) (omega (arith, y.0)) (omega (arith, x.0)) (omega (arith, y.0)) (omega (arith, x.0))) ∙ free)) in
-      data_stays s law (addr place) heads.placed i (omega (arith, held.2, long)) w wide (rw long pad) (addr at) there.placed apart j (omega (arith, size)) ∙ (law.unadopted honest q free).near n d at k e kept j lt })
+      (λ honest q free. record {
+        far = (law.unadopted honest q free).far;
+        near = λ n d at k e kept j lt.
+            let there = law.cells.cell_near q n d at k e in
+            let x = read_says (s.cell q) (Near n d at k) (law.cells.cell_read q).0 e in
+            let y = read_says (s.cell p) (Near len held.1.near.0 place held.1.near.1) (law.cells.cell_read p).0 near in
+            let size : head_len (s.word (addr at)) ≡ n = rw (span_len s law q n d at k e) refl in
+            let apart : addr at ≢ addr place = (λ same. true≢false (sym used ∙ ap s.used (one_name s.word p q len n held.1.near.0 d (addr place) heads.head (ap s.word (sym same) ∙ there.head) (omega (arith, y.0)) (omega (arith, x.0)) (omega (arith, y.0)) (omega (arith, x.0))) ∙ free)) in
+            data_stays s law (addr place) heads.placed i (omega (arith, held.2, long)) w wide (rw long pad) (addr at) there.placed apart j (omega (arith, size)) ∙ (law.unadopted honest q free).near n d at k e kept j lt;
+      })
 
 -- what the event owes
 module _ (m p i w : ℕ) where
@@ -73,7 +76,7 @@ module _ (m p i w : ℕ) where
     within = λ s. touched (one_word s.epoch s.scope s.cell s.word (data_word s p i) w) (λ k a b. refl) (λ q a. refl) (λ q a b. refl);
     part = λ s h. tt;
     word = λ s h. let mine : p / CELLS ≡ m = grind (arith, nat_tests) in inl (p, i, w, ap (λ k. Store k p i w) (sym mine), refl);
-    tells = λ s law h. (h.1.0, h.1.1.rests, put_same s.word (data_word s p i) w (addr h.1.0 + 1 + i) (sym (ap (λ o. near_data o + i) h.1.1.near.2)));
+    reports = λ s law h. (h.1.0, h.1.1.rests, put_same s.word (data_word s p i) w (addr h.1.0 + 1 + i) (sym (ap (λ o. near_data o + i) h.1.1.near.2)));
     answers = λ s x. cc;
     causes = replies (λ r. Caused (Store m p i w) (change_of (Store m p i w) r)) tt refl (λ n. tt) (λ x. tt) (λ place. tt);
   }

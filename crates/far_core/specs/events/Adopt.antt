@@ -9,9 +9,9 @@ use Rattle.far_core.specs.state.Law.{in_use}
 use Rattle.far_core.specs.events.Touch.{Uses}
 use Rattle.far_core.specs.events.Rule.{Form, only_word, Rule}
 
-abbrev pub AdoptTells : State → ℕ → ℕ → Reply → State → Type 0
-AdoptTells s m p (Word w) t = (w ≡ s.cell p) × (t.cell p ≡ s.cell p) × (t.used p ≡ true)
-AdoptTells s m p r t = ⊥
+abbrev pub AdoptReports : State → ℕ → ℕ → Reply → State → Type 0
+AdoptReports s m p (Word w) t = (w ≡ s.cell p) × (t.cell p ≡ s.cell p) × (t.used p ≡ true)
+AdoptReports s m p r t = ⊥
 
 abbrev pub adopt_rule : State → ℕ → ℕ → Rule
 adopt_rule s m p = record {
@@ -19,7 +19,7 @@ adopt_rule s m p = record {
   after = record s { used = put s.used p true };
   answer = Word (s.cell p);
   Legal = (m < s.mutators) × (p / CELLS ≡ m) × (s.used p ≡ false) × (in_use (read_of (s.cell p)) ≡ true);
-  Tells = AdoptTells s m p;
+  Reports = AdoptReports s m p;
   touches = record { word = None; part = Uses p };
 }
 

@@ -10,24 +10,24 @@ use Rattle.far_core.specs.world.Changes as change
 use Rattle.far_core.specs.events.Rule.{Form, Rule}
 use Rattle.far_core.specs.events.Owners.{is_opened, IsOpen}
 
-abbrev pub closed : State → ℕ → State
-closed s m = record s {
+abbrev pub after_close : State → ℕ → State
+after_close s m = record s {
   scope = put s.scope m 0;
   remembered = put s.remembered m None;
   held = λ p. cond (p / CELLS == m) None (s.held p);
 }
 
-abbrev pub CloseTells : State → ℕ → Reply → State → Type 0
-CloseTells s m Done t = (t.scope m ≡ 0) × (t.remembered m ≡ None) × ((p : ℕ) → p / CELLS ≡ m → t.held p ≡ None)
-CloseTells s m r t = ⊥
+abbrev pub CloseReports : State → ℕ → Reply → State → Type 0
+CloseReports s m Done t = (t.scope m ≡ 0) × (t.remembered m ≡ None) × ((p : ℕ) → p / CELLS ≡ m → t.held p ≡ None)
+CloseReports s m r t = ⊥
 
 abbrev pub close_rule : State → ℕ → Rule
 close_rule s m = record {
   test = is_opened s m;
-  after = closed s m;
+  after = after_close s m;
   answer = Done;
   Legal = IsOpen s m;
-  Tells = CloseTells s m;
+  Reports = CloseReports s m;
   touches = record { word = Some (ScopeAt m); part = LetsGo m };
 }
 

@@ -2,7 +2,7 @@
 use Rattle.far_core.specs.declared.event.Event.{Event}
 use Rattle.far_core.specs.state.State.{State}
 use Rattle.far_core.specs.events.Step.{rule}
-pub use Rattle.far_core.specs.events.Owners.{IsClosed, IsOpen, Holds, HoldsWord}
+pub use Rattle.far_core.specs.events.Owners.{IsClosed, IsOpen, HoldsObject, HoldsWord}
 pub use Rattle.far_core.specs.events.NewSpans.{IsNext, IsNewSpan}
 
 abbrev pub Legal : State → Event → Type 0

@@ -12,9 +12,9 @@ use Rattle.far_core.specs.events.Rule.{Form, Rule}
 use Rattle.far_core.specs.events.Owners.{holds, data_len, data_word, HoldsWord}
 
 -- the word is word i of the data behind the header of the object that is held
-abbrev pub LoadTells : State → ℕ → ℕ → ℕ → Reply → State → Type 0
-LoadTells s m p i (Word w) t = (place : Place) × (s.held p ≡ Some place) × (w ≡ s.word (addr place + 1 + i)) × (t ≡ s)
-LoadTells s m p i r t = ⊥
+abbrev pub LoadReports : State → ℕ → ℕ → ℕ → Reply → State → Type 0
+LoadReports s m p i (Word w) t = (place : Place) × (s.held p ≡ Some place) × (w ≡ s.word (addr place + 1 + i)) × (t ≡ s)
+LoadReports s m p i r t = ⊥
 
 abbrev pub load_rule : State → ℕ → ℕ → ℕ → Rule
 load_rule s m p i = record {
@@ -22,7 +22,7 @@ load_rule s m p i = record {
   after = s;
   answer = Word (s.word (data_word s p i));
   Legal = (len : ℕ) × HoldsWord s m p i len;
-  Tells = LoadTells s m p i;
+  Reports = LoadReports s m p i;
   touches = record { word = None; part = NoPart };
 }
 

@@ -33,9 +33,9 @@ may_mark s (Some (Far len ds m)) = false
 abbrev pub IsSealedNear : State → ℕ → Type 0
 IsSealedNear s p = (len ds : ℕ) × (place : Place) × (m : Marks) × (read_of (s.cell p) ≡ Some (Near len ds place m)) × (place.log < s.logs) × (s.kind place.log ≡ kinds.Sealed)
 
-abbrev pub MarkTells : State → ℕ → Reply → State → Type 0
-MarkTells s p (Word w) t = (w ≡ s.cell p) × ((v : PtrWord) → read_of w ≡ Some v → read_of (t.cell p) ≡ Some (marked Evac v))
-MarkTells s p r t = ⊥
+abbrev pub MarkReports : State → ℕ → Reply → State → Type 0
+MarkReports s p (Word w) t = (w ≡ s.cell p) × ((v : PtrWord) → read_of w ≡ Some v → read_of (t.cell p) ≡ Some (marked Evac v))
+MarkReports s p r t = ⊥
 
 abbrev pub mark_rule : State → ℕ → Rule
 mark_rule s p = record {
@@ -43,7 +43,7 @@ mark_rule s p = record {
   after = record s { cell = put s.cell p (bit_or (s.cell p) (2 ^ position Evac)) };
   answer = Word (s.cell p);
   Legal = (p < CELLS * s.mutators) × IsSealedNear s p;
-  Tells = MarkTells s p;
+  Reports = MarkReports s p;
   touches = record { word = Some (CellAt p); part = NoPart };
 }
 

@@ -25,15 +25,15 @@ abbrev pub after_naming : State → ℕ → ℕ → Option Naming → State
 after_naming s p new None = s
 after_naming s p new (Some form) = (naming_row s p new form).after
 
-abbrev pub NamingTells : State → ℕ → ℕ → Option Naming → State → Type 0
-NamingTells s p new None t = ⊥
-NamingTells s p new (Some form) t = (naming_row s p new form).Tells t
+abbrev pub NamingReports : State → ℕ → ℕ → Option Naming → State → Type 0
+NamingReports s p new None t = ⊥
+NamingReports s p new (Some form) t = (naming_row s p new form).Reports t
 
 -- a naming that wins found the old word, and the cell is the new one; one that loses found another word, and changes nothing
-abbrev pub NameTells : State → ℕ → ℕ → ℕ → Reply → State → Type 0
-NameTells s p old new Done t = (s.cell p ≡ old) × (t.cell p ≡ new) × NamingTells s p new (naming_of (read_of old) (read_of new)) t
-NameTells s p old new (Word w) t = (w ≡ s.cell p) × (w ≢ old) × (t ≡ s)
-NameTells s p old new r t = ⊥
+abbrev pub NameReports : State → ℕ → ℕ → ℕ → Reply → State → Type 0
+NameReports s p old new Done t = (s.cell p ≡ old) × (t.cell p ≡ new) × NamingReports s p new (naming_of (read_of old) (read_of new)) t
+NameReports s p old new (Word w) t = (w ≡ s.cell p) × (w ≢ old) × (t ≡ s)
+NameReports s p old new r t = ⊥
 
 abbrev pub name_rule : State → ℕ → ℕ → ℕ → Rule
 name_rule s p old new = record {
@@ -41,7 +41,7 @@ name_rule s p old new = record {
   after = if s.cell p == old then after_naming s p new (naming_of (read_of old) (read_of new)) else s;
   answer = if s.cell p == old then Done else Word (s.cell p);
   Legal = (p < CELLS * s.mutators) × IsLegalNaming s p old new;
-  Tells = NameTells s p old new;
+  Reports = NameReports s p old new;
   touches = record { word = Some (CellAt p); part = BookView };
 }
 

@@ -8,4 +8,4 @@ pub record NamingRow : Type 1 where
   pub test : Bool
   pub after : State
   pub Legal : Type 0
-  pub Tells : State → Type 0
+  pub Reports : State → Type 0

@@ -13,21 +13,21 @@ use Rattle.far_word.specs.declared.scope.ScopeWord.TheVariants as scoped
 
 -- the state after a legal event
 -- the scope word at the epoch that was read
-abbrev pub opened_at : Option ℕ → ℕ
-opened_at None = 0
-opened_at (Some e) = 2 * e + 1
+abbrev pub scope_word_of : Option ℕ → ℕ
+scope_word_of None = 0
+scope_word_of (Some e) = 2 * e + 1
 
-abbrev pub OpenTells : State → ℕ → Reply → State → Type 0
-OpenTells s m Done t = (e : ℕ) × (s.remembered m ≡ Some e) × (t.scope m ≡ scope_word (scoped.Open e))
-OpenTells s m r t = ⊥
+abbrev pub OpenReports : State → ℕ → Reply → State → Type 0
+OpenReports s m Done t = (e : ℕ) × (s.remembered m ≡ Some e) × (t.scope m ≡ scope_word (scoped.Open e))
+OpenReports s m r t = ⊥
 
 abbrev pub open_rule : State → ℕ → Rule
 open_rule s m = record {
   test = is_closed s m && is_some (s.remembered m);
-  after = record s { scope = put s.scope m (opened_at (s.remembered m)) };
+  after = record s { scope = put s.scope m (scope_word_of (s.remembered m)) };
   answer = Done;
   Legal = IsClosed s m × IsSome (s.remembered m);
-  Tells = OpenTells s m;
+  Reports = OpenReports s m;
   touches = record { word = Some (ScopeAt m); part = NoPart };
 }
 

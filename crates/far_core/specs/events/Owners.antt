@@ -1,5 +1,5 @@
 -- What the guards of owners' events say, as tests and as facts.
-use Rattle.std.specs.Prelude.{◌≡◌, ◌+◌, ◌-◌, ◌*◌, ◌/◌, ◌^◌, ◌<◌, ◌==◌, ◌&&◌, ℕ, Bool, not, nat_lt, Option, Some, None, is_some}
+use Rattle.std.specs.Prelude.{◌≡◌, ◌≢◌, ◌+◌, ◌-◌, ◌*◌, ◌/◌, ◌^◌, ◌<◌, ◌==◌, ◌&&◌, ℕ, Bool, not, nat_lt, Option, Some, None, is_some}
 use Rattle.far_word.specs.declared.mark.Marks.{Marks}
 use Rattle.far_word.specs.declared.pointer.Place.{Place}
 use Rattle.far_word.specs.declared.pointer.PtrWord.{PtrWord}
@@ -48,14 +48,14 @@ abbrev pub IsClosed : State → ℕ → Type 0
 IsClosed s m = (m < s.mutators) × (s.scope m ≡ 0)
 
 abbrev pub IsOpen : State → ℕ → Type 0
-IsOpen s m = (m < s.mutators) × (s.scope m ≡ 0 → ⊥)
+IsOpen s m = (m < s.mutators) × (s.scope m ≢ 0)
 
 -- the owner holds its pointer's object, which has this length, at this place
-pub record Holds (s : State) (m p len : ℕ) (place : Place) : Type 0 where
+pub record HoldsObject (s : State) (m p len : ℕ) (place : Place) : Type 0 where
   pub own : p / CELLS ≡ m
   pub rests : s.held p ≡ Some place
   pub near : (ds : ℕ) × (marks : Marks) × (read_of (s.cell p) ≡ Some (Near len ds place marks))
 
 -- the word is one of the object's data words
 abbrev pub HoldsWord : State → ℕ → ℕ → ℕ → ℕ → Type 0
-HoldsWord s m p i len = (place : Place) × Holds s m p len place × (i < words_for len)
+HoldsWord s m p i len = (place : Place) × HoldsObject s m p len place × (i < words_for len)

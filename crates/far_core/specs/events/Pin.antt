@@ -18,19 +18,19 @@ use Rattle.far_core.specs.events.Rule.{Form, Rule}
 use Rattle.far_core.specs.events.Owners.{is_opened, IsOpen}
 
 -- where a view may rest, it is held from then on
-abbrev pub holding : (ℕ → Option Place) → ℕ → Option Place → ℕ → Option Place
-holding held p None = held
-holding held p (Some place) = put held p (Some place)
+abbrev pub with_hold : (ℕ → Option Place) → ℕ → Option Place → ℕ → Option Place
+with_hold held p None = held
+with_hold held p (Some place) = put held p (Some place)
 
 -- where a new view of a cell may rest
-abbrev pub viewable : Option PtrWord → Option Place
-viewable None = None
-viewable (Some v) = view_place v
+abbrev pub place_to_view : Option PtrWord → Option Place
+place_to_view None = None
+place_to_view (Some v) = view_place v
 
-abbrev pub pinned : State → ℕ → State
-pinned s p = record s {
+abbrev pub after_pin : State → ℕ → State
+after_pin s p = record s {
   cell = put s.cell p (bit_or (s.cell p) (2 ^ position Hot));
-  held = holding s.held p (viewable (read_of (s.cell p)));
+  held = with_hold s.held p (place_to_view (read_of (s.cell p)));
 }
 
 -- what a legal event answers
@@ -39,22 +39,22 @@ pin_answer w None = Word w
 pin_answer w (Some place) = Held place
 
 -- HOT is set on what was read
-abbrev pub GotHot : ℕ → ℕ → Type 0
-GotHot old new = (v : PtrWord) → read_of old ≡ Some v → read_of new ≡ Some (marked Hot v)
+abbrev pub SetsHot : ℕ → ℕ → Type 0
+SetsHot old new = (v : PtrWord) → read_of old ≡ Some v → read_of new ≡ Some (marked Hot v)
 
-abbrev pub PinTells : State → ℕ → ℕ → Reply → State → Type 0
-PinTells s m p (Held place) t = (t.held p ≡ Some place) × GotHot (s.cell p) (t.cell p)
-PinTells s m p (Word w) t = (w ≡ s.cell p) × (t.held p ≡ None) × GotHot (s.cell p) (t.cell p)
+abbrev pub PinReports : State → ℕ → ℕ → Reply → State → Type 0
+PinReports s m p (Held place) t = (t.held p ≡ Some place) × SetsHot (s.cell p) (t.cell p)
+PinReports s m p (Word w) t = (w ≡ s.cell p) × (t.held p ≡ None) × SetsHot (s.cell p) (t.cell p)
     × ((len ds : ℕ) (place : Place) (k : Marks) → read_of w ≡ Some (Near len ds place k) → (k.evac || k.moved || k.dropped) ≡ true)
-PinTells s m p r t = ⊥
+PinReports s m p r t = ⊥
 
 abbrev pub pin_rule : State → ℕ → ℕ → Rule
 pin_rule s m p = record {
   test = is_opened s m && (p / CELLS == m) && s.used p && not (is_some (s.held p));
-  after = pinned s p;
-  answer = pin_answer (s.cell p) (viewable (read_of (s.cell p)));
+  after = after_pin s p;
+  answer = pin_answer (s.cell p) (place_to_view (read_of (s.cell p)));
   Legal = IsOpen s m × (p / CELLS ≡ m) × (s.used p ≡ true) × (s.held p ≡ None);
-  Tells = PinTells s m p;
+  Reports = PinReports s m p;
   touches = record { word = Some (CellAt p); part = Rests p };
 }
 

@@ -1,5 +1,5 @@
 -- A word past the tail of a log that isn't sealed is written.
-use Rattle.std.specs.Prelude.{◌≡◌, ◌+◌, ◌*◌, ◌<◌, ◌≤◌, ◌&&◌, ℕ, Bool, false, nat_lt, nat_le, Some, Option, None, ◌^◌}
+use Rattle.std.specs.Prelude.{◌≡◌, ◌≢◌, ◌+◌, ◌*◌, ◌<◌, ◌≤◌, ◌&&◌, ℕ, Bool, false, nat_lt, nat_le, Some, Option, None, ◌^◌}
 use Rattle.far_word.specs.declared.sizes.TheConstants.{LOG_WORDS}
 use Rattle.far_core.specs.declared.event.Kind.{Kind}
 use Rattle.far_core.specs.declared.event.Reply.{Reply}
@@ -17,17 +17,17 @@ is_past kinds.Free at tail = nat_le tail at
 is_past kinds.Open at tail = nat_le tail at
 is_past kinds.Sealed at tail = false
 
-abbrev pub PutTells : State → ℕ → ℕ → ℕ → Reply → State → Type 0
-PutTells s l at w Done t = t.word (l * LOG_WORDS + at) ≡ w
-PutTells s l at w r t = ⊥
+abbrev pub PutReports : State → ℕ → ℕ → ℕ → Reply → State → Type 0
+PutReports s l at w Done t = t.word (l * LOG_WORDS + at) ≡ w
+PutReports s l at w r t = ⊥
 
 abbrev pub put_rule : State → ℕ → ℕ → ℕ → Rule
 put_rule s l at w = record {
   test = nat_lt l s.logs && nat_lt at LOG_WORDS && is_past (s.kind l) at (s.tail l);
   after = record s { word = put s.word (l * LOG_WORDS + at) w };
   answer = Done;
-  Legal = (l < s.logs) × ((s.kind l ≡ kinds.Sealed) → ⊥) × (s.tail l ≤ at) × (at < LOG_WORDS);
-  Tells = PutTells s l at w;
+  Legal = (l < s.logs) × (s.kind l ≢ kinds.Sealed) × (s.tail l ≤ at) × (at < LOG_WORDS);
+  Reports = PutReports s l at w;
   touches = record { word = Some (WordAt (l * LOG_WORDS + at)); part = NoPart };
 }
 

@@ -9,9 +9,9 @@ use Rattle.far_core.specs.world.Changes as change
 use Rattle.far_core.specs.events.Rule.{Form, Rule}
 use Rattle.far_core.specs.events.Owners.{is_closed, IsClosed}
 
-abbrev pub ReadEpochTells : State → ℕ → Reply → State → Type 0
-ReadEpochTells s m (Epoch e) t = (e ≡ s.epoch) × (t.remembered m ≡ Some e)
-ReadEpochTells s m r t = ⊥
+abbrev pub ReadEpochReports : State → ℕ → Reply → State → Type 0
+ReadEpochReports s m (Epoch e) t = (e ≡ s.epoch) × (t.remembered m ≡ Some e)
+ReadEpochReports s m r t = ⊥
 
 abbrev pub read_epoch_rule : State → ℕ → Rule
 read_epoch_rule s m = record {
@@ -19,7 +19,7 @@ read_epoch_rule s m = record {
   after = record s { remembered = put s.remembered m (Some s.epoch) };
   answer = Epoch s.epoch;
   Legal = IsClosed s m;
-  Tells = ReadEpochTells s m;
+  Reports = ReadEpochReports s m;
   touches = record { word = None; part = Remembers m };
 }
 

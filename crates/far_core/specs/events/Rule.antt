@@ -13,7 +13,7 @@ pub record Rule : Type 1 where
   pub after : State
   pub answer : Reply
   pub Legal : Type 0
-  pub Tells : Reply → State → Type 0
+  pub Reports : Reply → State → Type 0
   pub touches : Touch
 
 -- what an event is without a state: the words that it carries are 64 bits wide; what it does to the world, by its reply,

@@ -7,9 +7,9 @@ use Rattle.far_core.specs.state.State.{State}
 use Rattle.far_core.specs.events.Touch.{NoPart}
 use Rattle.far_core.specs.events.Rule.{Rule, Form, only_word}
 
-abbrev pub SeeTells : State → ℕ → Reply → State → Type 0
-SeeTells s p (Word w) t = (w ≡ s.cell p) × (t ≡ s)
-SeeTells s p r t = ⊥
+abbrev pub SeeReports : State → ℕ → Reply → State → Type 0
+SeeReports s p (Word w) t = (w ≡ s.cell p) × (t ≡ s)
+SeeReports s p r t = ⊥
 
 abbrev pub see_rule : State → ℕ → Rule
 see_rule s p = record {
@@ -17,7 +17,7 @@ see_rule s p = record {
   after = s;
   answer = Word (s.cell p);
   Legal = p < CELLS * s.mutators;
-  Tells = SeeTells s p;
+  Reports = SeeReports s p;
   touches = record { word = None; part = NoPart };
 }
 

@@ -20,9 +20,9 @@ use Rattle.far_core.specs.events.Name.{name_rule, name_form}
 use Rattle.far_core.specs.events.See.{see_rule, see_form}
 use Rattle.far_core.specs.events.Mark.{mark_rule, mark_form}
 pub use Rattle.far_core.specs.events.Owners.{is_closed, is_opened, holds, near_len, near_data, data_len, data_word, keeps_padding}
-pub use Rattle.far_core.specs.events.Open.{opened_at}
-pub use Rattle.far_core.specs.events.Pin.{holding, viewable, pinned, pin_answer}
-pub use Rattle.far_core.specs.events.Close.{closed}
+pub use Rattle.far_core.specs.events.Open.{scope_word_of}
+pub use Rattle.far_core.specs.events.Pin.{with_hold, place_to_view, after_pin, pin_answer}
+pub use Rattle.far_core.specs.events.Close.{after_close}
 pub use Rattle.far_core.specs.events.Put.{is_past}
 pub use Rattle.far_core.specs.events.NewSpans.{goes_at, zeros, with_span}
 

@@ -12,9 +12,9 @@ use Rattle.far_core.specs.events.Rule.{Form, Rule}
 use Rattle.far_core.specs.events.Owners.{holds, data_len, data_word, keeps_padding, HoldsWord}
 
 -- word i of the data behind the header of the object that is held is the word from now on
-abbrev pub StoreTells : State → ℕ → ℕ → ℕ → ℕ → Reply → State → Type 0
-StoreTells s m p i w Done t = (place : Place) × (s.held p ≡ Some place) × (t.word (addr place + 1 + i) ≡ w)
-StoreTells s m p i w r t = ⊥
+abbrev pub StoreReports : State → ℕ → ℕ → ℕ → ℕ → Reply → State → Type 0
+StoreReports s m p i w Done t = (place : Place) × (s.held p ≡ Some place) × (t.word (addr place + 1 + i) ≡ w)
+StoreReports s m p i w r t = ⊥
 
 abbrev pub store_rule : State → ℕ → ℕ → ℕ → ℕ → Rule
 store_rule s m p i w = record {
@@ -22,7 +22,7 @@ store_rule s m p i w = record {
   after = record s { word = put s.word (data_word s p i) w };
   answer = Done;
   Legal = (len : ℕ) × HoldsWord s m p i len × (w < 2 ^ (8 * (len - 8 * i)));
-  Tells = StoreTells s m p i w;
+  Reports = StoreReports s m p i w;
   touches = record { word = Some (WordAt (data_word s p i)); part = NoPart };
 }
 

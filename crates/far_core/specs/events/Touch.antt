@@ -25,18 +25,18 @@ pub record Touch : Type 0 where
   pub part : Part
 
 -- the word at a spot
-abbrev pub word_at : ℕ → (ℕ → ℕ) → (ℕ → ℕ) → (ℕ → ℕ) → Spot → ℕ
-word_at epoch scope cell word EpochAt = epoch
-word_at epoch scope cell word (ScopeAt m) = scope m
-word_at epoch scope cell word (CellAt p) = cell p
-word_at epoch scope cell word (WordAt a) = word a
+abbrev pub spot_word : ℕ → (ℕ → ℕ) → (ℕ → ℕ) → (ℕ → ℕ) → Spot → ℕ
+spot_word epoch scope cell word EpochAt = epoch
+spot_word epoch scope cell word (ScopeAt m) = scope m
+spot_word epoch scope cell word (CellAt p) = cell p
+spot_word epoch scope cell word (WordAt a) = word a
 
-abbrev pub shared : State → Spot → ℕ
-shared s a = word_at s.epoch s.scope s.cell s.word a
+abbrev pub shared_word : State → Spot → ℕ
+shared_word s a = spot_word s.epoch s.scope s.cell s.word a
 
 -- from s to t nothing changes but what is touched
 pub record Touches (s : State) (x : Touch) (t : State) : Type 0 where
-  pub words : (a : Spot) → (x.word ≡ Some a → ⊥) → shared t a ≡ shared s a
+  pub words : (a : Spot) → x.word ≢ Some a → shared_word t a ≡ shared_word s a
   pub remembered : (m : ℕ) → x.part ≢ Remembers m → x.part ≢ LetsGo m → t.remembered m ≡ s.remembered m
   pub used : (p : ℕ) → x.part ≢ Uses p → t.used p ≡ s.used p
   pub held : (p : ℕ) → x.part ≢ Rests p → x.part ≢ LetsGo (p / CELLS) → t.held p ≡ s.held p

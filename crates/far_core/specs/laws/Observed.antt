@@ -95,4 +95,4 @@ HasOneSpan s l i = (span : Placed) × Contains (spans_of s l) span × IsWordOf i
 
 -- a word at or past the tail is a word of none
 abbrev pub HasNoSpan : State → ℕ → ℕ → Type 0
-HasNoSpan s l i = (span : Placed) → Contains (spans_of s l) span → IsWordOf i span → ⊥
+HasNoSpan s l i = (span : Placed) → Contains (spans_of s l) span → ¬ IsWordOf i span

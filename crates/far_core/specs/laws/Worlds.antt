@@ -1,5 +1,5 @@
 -- What holds of the objects of a core's world, and of every step that a world makes.
-use Rattle.std.specs.Prelude.{◌≡◌, ℕ, ◌/◌, ◌<◌, ◌≤◌, true, Option, Some, None, length, slice_index}
+use Rattle.std.specs.Prelude.{◌≡◌, ◌≢◌, ℕ, ◌/◌, ◌<◌, ◌≤◌, true, Option, Some, None, length, slice_index}
 use Rattle.far_word.specs.declared.sizes.TheConstants.{CELLS, LONGEST, POINTERS}
 use Rattle.far_core.specs.declared.event.Event.{Event}
 use Rattle.far_core.specs.declared.event.Event.TheVariants.{Open, Pin, Load, Store, Close, Name, Mark}
@@ -29,11 +29,11 @@ ObjectsStand w = (p : ℕ) (o : Object) → w.object p ≡ Some o → ObjectStan
 pub record ChangeKeeps (w : World) (c : Change) (v : World) : Type 0 where
   pub honesty : v.honest ≡ w.honest
   pub groups : (p g : ℕ) (o : Object) → w.object p ≡ Some o → o.home ≡ Group g → w.group g ≡ true → v.group g ≡ true
-  pub bytes : (p : ℕ) (o : Object) → w.viewed p ≡ true → w.object p ≡ Some o → ((i x : ℕ) → c ≡ change.Writes (p / CELLS) p i x → ⊥) → v.object p ≡ Some o
+  pub bytes : (p : ℕ) (o : Object) → w.viewed p ≡ true → w.object p ≡ Some o → ((i x : ℕ) → c ≢ change.Writes (p / CELLS) p i x) → v.object p ≡ Some o
   pub rests : (p : ℕ) (o : Object) → w.viewed p ≡ true → w.object p ≡ Some o →
       (u : Object) × (v.object p ≡ Some u) × (u.owner ≡ o.owner) × (u.ds ≡ o.ds) × (u.home ≡ o.home) × (length u.bytes ≡ length o.bytes)
-  pub views : (p : ℕ) → w.viewed p ≡ true → (c ≡ change.Closes (p / CELLS) → ⊥) → v.viewed p ≡ true
-  pub new_views : (p : ℕ) → v.viewed p ≡ true → (c ≡ change.Views (p / CELLS) p → ⊥) → w.viewed p ≡ true
+  pub views : (p : ℕ) → w.viewed p ≡ true → c ≢ change.Closes (p / CELLS) → v.viewed p ≡ true
+  pub new_views : (p : ℕ) → v.viewed p ≡ true → c ≢ change.Views (p / CELLS) p → w.viewed p ≡ true
 
 abbrev pub ChangesKeep : Type 0
 ChangesKeep = (w v : World) (c : Change) → Step c w v → ChangeKeeps w c v
@@ -73,11 +73,11 @@ ChangesAreOne = (w v u : World) (c : Change) → Sure w c → Step c w v → Ste
 pub record StepKeeps (w : World) (e : Event) (v : World) : Type 0 where
   pub honesty : v.honest ≡ w.honest
   pub groups : (p g : ℕ) (o : Object) → w.object p ≡ Some o → o.home ≡ Group g → w.group g ≡ true → v.group g ≡ true
-  pub bytes : (p : ℕ) (o : Object) → w.viewed p ≡ true → w.object p ≡ Some o → ((i x : ℕ) → e ≡ Store (p / CELLS) p i x → ⊥) → v.object p ≡ Some o
+  pub bytes : (p : ℕ) (o : Object) → w.viewed p ≡ true → w.object p ≡ Some o → ((i x : ℕ) → e ≢ Store (p / CELLS) p i x) → v.object p ≡ Some o
   pub rests : (p : ℕ) (o : Object) → w.viewed p ≡ true → w.object p ≡ Some o →
       (u : Object) × (v.object p ≡ Some u) × (u.owner ≡ o.owner) × (u.ds ≡ o.ds) × (u.home ≡ o.home) × (length u.bytes ≡ length o.bytes)
-  pub views : (p : ℕ) → w.viewed p ≡ true → (e ≡ Close (p / CELLS) → ⊥) → v.viewed p ≡ true
-  pub new_views : (p : ℕ) → v.viewed p ≡ true → (e ≡ Pin (p / CELLS) p → ⊥) → w.viewed p ≡ true
+  pub views : (p : ℕ) → w.viewed p ≡ true → e ≢ Close (p / CELLS) → v.viewed p ≡ true
+  pub new_views : (p : ℕ) → v.viewed p ≡ true → e ≢ Pin (p / CELLS) p → w.viewed p ≡ true
 
 abbrev pub StepsKeep : Type 0
 StepsKeep = (w v : World) (e : Event) (r : Reply) → Happens w e r v → StepKeeps w e v

@@ -7,7 +7,7 @@ ghost use Rattle.far_word.specs.Pointer.{read_of};
 ghost use Rattle.far_core.specs.state.Agrees.{Agrees};
 ghost use Rattle.far_core.specs.state.CoreState.{core_state};
 ghost use Rattle.far_core.specs.state.Law.{Law};
-ghost use Rattle.far_core.specs.events.Left.{EventsLeave};
+ghost use Rattle.far_core.specs.events.Leaves.{EventsLeave};
 ghost use Rattle.far_core.specs.events.Legal.{Legal};
 ghost use Rattle.far_core.specs.laws.Live.{LiveIs, LiveBytesAre};
 ghost use Rattle.far_core.specs.laws.Observed.{Fills, live_bytes, dead_bytes, unused_bytes, HasOnePlace, NamesOnce, HasOneSpan, HasNoSpan, LogsStand, NearHasOneLive, PlacedExactly};
@@ -16,7 +16,7 @@ ghost use Rattle.far_core.specs.state.Shape.{is_shape};
 ghost use Rattle.far_core.specs.state.Spans.{Placed};
 ghost use Rattle.far_core.specs.state.State.{State};
 ghost use Rattle.far_core.specs.events.Step.{is_legal};
-ghost use Rattle.far_core.specs.events.Told.{AnswersTell};
+ghost use Rattle.far_core.specs.events.Reports.{RepliesReport};
 ghost use Rattle.far_core.specs.world.World.{start};
 ghost use Rattle.far_core.specs.laws.Agreement.{ViewRests, MarksAgree, MarksExist};
 ghost use Rattle.far_core.specs.laws.Rooms.{RoomIsRight};
@@ -36,26 +36,23 @@ impl Core {
         let _memory = &self.memory;
     }
 
-    /// The spans of each log follow each other from its first word to its tail, each with its header and padding; free
-    /// logs have none, and exactly one log is open.
+    /// The spans of each log follow each other from its first word to its tail, each with its header and padding; so each
+    /// word below the tail is header or data of exactly one span, and each word past it of none. Free logs have no span,
+    /// and exactly one log is open.
     pub fn spans_fill_logs(&self)
         ensures fills { (l : ℕ) → Fills (core_state self.now) l }
-        ensures stand { LogsStand (core_state self.now) }
         ensures placed { (l at : ℕ) → PlacedExactly (core_state self.now) l at }
+        ensures below { (l i : ℕ) → i < (core_state self.now).tail l → HasOneSpan (core_state self.now) l i }
+        ensures past { (l i : ℕ) → (core_state self.now).tail l ≤ i → HasNoSpan (core_state self.now) l i }
+        ensures stand { LogsStand (core_state self.now) }
     {
         let _memory = &self.memory;
     }
 
-    /// Live, dead and unused bytes of each log make its 1,024.
+    /// Live, dead and unused bytes of each log make its 1,024. A span is live exactly where the cell of the pointer that its
+    /// header names says near, at its place; live bytes are what the live spans take, and dead bytes what all others take.
     pub fn bytes_make_log(&self)
-        ensures { (l : ℕ) → live_bytes (core_state self.now) l + dead_bytes (core_state self.now) l + unused_bytes (core_state self.now) l ≡ 8 * LOG_WORDS }
-    {
-        let _memory = &self.memory;
-    }
-
-    /// A span is live exactly where the cell of the pointer that its header names says near, at its place; live bytes are
-    /// what the live spans take, and dead bytes what all others take.
-    pub fn live_is_named(&self)
+        ensures sum { (l : ℕ) → live_bytes (core_state self.now) l + dead_bytes (core_state self.now) l + unused_bytes (core_state self.now) l ≡ 8 * LOG_WORDS }
         ensures live { (l : ℕ) (span : Placed) → LiveIs (core_state self.now) l span }
         ensures bytes { (l : ℕ) → LiveBytesAre (core_state self.now) l }
     {
@@ -64,26 +61,14 @@ impl Core {
 
     /// Each used cell without DROP has one place: exactly one live span, of its length and data structure, or, far,
     /// stored words of its length and no live span. A near cell with DROP has its one live span too, and two cells never
-    /// name one place.
-    pub fn objects_have_one_span(&self)
+    /// name one place. Each object of the world has a number below 1,024, that number's owner and 1 to 1,016 bytes, and a
+    /// near one lies in a held group. A view is of a near object in a held group, under an open scope; an object is marked
+    /// exactly where its word has EVAC or MOVE, and nothing else is marked.
+    pub fn objects_have_one_place(&self)
         ensures one { (p : ℕ) → HasOnePlace (core_state self.now) p }
         ensures near { (p : ℕ) → NearHasOneLive (core_state self.now) p }
         ensures once { NamesOnce (core_state self.now) }
-    {
-        let _memory = &self.memory;
-    }
-
-    /// Each word of a log is header or data of exactly one span, or lies past the tail and is of none.
-    pub fn words_have_one_span(&self)
-        ensures below { (l i : ℕ) → i < (core_state self.now).tail l → HasOneSpan (core_state self.now) l i }
-        ensures past { (l i : ℕ) → (core_state self.now).tail l ≤ i → HasNoSpan (core_state self.now) l i }
-    {
-        let _memory = &self.memory;
-    }
-
-    /// A view is of a near object in a held group, under an open scope; an object is marked exactly where its word has
-    /// EVAC or MOVE, and nothing else is marked.
-    pub fn views_and_marks_agree(&self)
+        ensures stand { ObjectsStand (world_of (core_state self.now)) }
         ensures views { (p : ℕ) → (world_of (core_state self.now)).viewed p ≡ true → ViewRests (world_of (core_state self.now)) p }
         ensures marks { (p : ℕ) → MarksAgree (core_state self.now) p }
         ensures exist { (p : ℕ) → MarksExist (core_state self.now) p }
@@ -91,32 +76,20 @@ impl Core {
         let _memory = &self.memory;
     }
 
-    /// Each object of the world has its number's owner and 1 to 1,016 bytes, and a near one lies in a held group.
-    pub fn objects_stand(&self)
-        ensures { ObjectsStand (world_of (core_state self.now)) }
-    {
-        let _memory = &self.memory;
-    }
-
-    /// Room is the end of the open log where the span fits there, else the start of the lowest free log, but not of the
-    /// only one where the reserve is kept; none only where neither may be had. For sizes to 128 words.
+    /// Room for a span of at most 128 words is the end of the open log where the span fits there, else the start of the
+    /// lowest free log, but not of the only one where the reserve is kept; none only where neither may be had.
     pub fn room_is_right(&self)
         ensures { RoomIsRight (core_state self.now) }
     {
         let _memory = &self.memory;
     }
 
-    /// What an answer tells is so: the epoch that was remembered, the place that is held, the word that keeps a view away,
-    /// the word that was put, the span that a won naming takes; a lost naming changes nothing.
-    pub fn answers_tell(&self)
-        ensures { AnswersTell (core_state self.now) }
-    {
-        let _memory = &self.memory;
-    }
-
-    /// An event passes the test of a step exactly where it is legal.
-    pub fn legal_is_tested(&self, event: Event)
-        ensures { Legal (core_state self.now) event ↔ (is_legal (core_state self.now) event ≡ true) }
+    /// An event passes the test of a step exactly where it is legal, and what its reply reports is so: the epoch that was
+    /// remembered, the place that is held, the word that keeps a view away, the word that is read or put, the span that a
+    /// won naming takes; a lost naming changes nothing.
+    pub fn replies_report(&self)
+        ensures test { (event : Event) → Legal (core_state self.now) event ↔ (is_legal (core_state self.now) event ≡ true) }
+        ensures report { RepliesReport (core_state self.now) }
     {
         let _memory = &self.memory;
     }
@@ -134,13 +107,14 @@ pub fn opening_is_start(shape: Shape, honest: bool)
 
 /// No step of a world changes honesty, moves or changes what is viewed but by its owner's store, ends a view but by its
 /// owner's close or begins one but by its owner's pin, or gives back a group in which an object lies; and an event with
-/// its reply makes one step.
+/// its reply makes one step, but for the bytes that a far side gives back that isn't honest. Said of changes, and so of
+/// the events that cause them.
 pub fn steps_keep_views()
-    ensures keep { StepsKeep }
-    ensures one { StepsAreOne }
     ensures changes { ChangesKeep }
     ensures one_change { ChangesAreOne }
     ensures causes { EventsCause }
+    ensures keep { StepsKeep }
+    ensures one { StepsAreOne }
 {}
 
 /// Whatever an event changes of the words and views, it says so: one shared word at most, and the view of its own mutator

@@ -54,8 +54,8 @@ impl Core {
     pub fn step(&mut self, event: Event) -> Reply
         ensures step { (core_state self.new, result) ≡ step_of (core_state self.old) event }
         ensures legal { Legal (core_state self.old) event → (core_state self.new ≡ after (core_state self.old) event) × (result ≡ answer (core_state self.old) event) }
-        ensures refused { (Legal (core_state self.old) event → ⊥) → (core_state self.new ≡ core_state self.old) × (result ≡ Reply.Refused) }
-        ensures refused_only { result ≡ Reply.Refused → Legal (core_state self.old) event → ⊥ }
+        ensures refused { ¬ (Legal (core_state self.old) event) → (core_state self.new ≡ core_state self.old) × (result ≡ Reply.Refused) }
+        ensures refused_only { result ≡ Reply.Refused → ¬ (Legal (core_state self.old) event) }
         ensures law { Law (core_state self.new) }
         ensures agrees { Agrees (core_state self.new) }
         ensures world { Happens (world_of (core_state self.old)) event result (world_of (core_state self.new)) }

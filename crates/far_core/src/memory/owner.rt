@@ -9,7 +9,7 @@ ghost use Rattle.far_core.specs.state.Memory.{state_of};
 
 use crate::event::Reply;
 use crate::memory::Memory;
-use crate::memory::reading::{in_use, near_data, viewable};
+use crate::memory::reading::{in_use, near_data, place_to_view};
 use far_word::{CELLS, Mark, ScopeWord, words_for};
 
 impl Memory {
@@ -46,7 +46,7 @@ impl Memory {
         }
         let old = self.cell(pointer);
         self.set_cell(pointer, old | Mark::Hot.mask());
-        match viewable(old) {
+        match place_to_view(old) {
             Some(place) => {
                 self.hold(pointer as usize, Some(place));
                 Reply::Held(place)

@@ -3,7 +3,7 @@
 ghost use Rattle.std.specs.Prelude.{◌≡◌, ◌*◌, ◌<◌, ◌≤◌, ◌+◌, nat_lt};
 ghost use Rattle.far_core.specs.state.State.{State, addr};
 ghost use Rattle.far_core.specs.state.Law.{in_use};
-ghost use Rattle.far_core.specs.events.Step.{is_closed, is_opened, holds, viewable, zeros, near_data, near_len};
+ghost use Rattle.far_core.specs.events.Step.{is_closed, is_opened, holds, place_to_view, zeros, near_data, near_len};
 ghost use Rattle.far_core.specs.state.Memory.{state_of};
 ghost use Rattle.far_word.specs.Pointer.{read_of};
 
@@ -151,8 +151,8 @@ impl Memory {
 }
 
 /// Where a new view of a cell may rest.
-pub(crate) fn viewable(cell: u64) -> Option<Place>
-    ensures { result ≡ viewable (read_of cell) }
+pub(crate) fn place_to_view(cell: u64) -> Option<Place>
+    ensures { result ≡ place_to_view (read_of cell) }
 {
     match PtrWord::read(cell) {
         Some(pointer) => pointer.view_place(),

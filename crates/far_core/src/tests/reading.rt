@@ -182,14 +182,9 @@ fn laws_can_be_called(rt: HostRuntime) -> Result<(), Fail> {
     core.keeps_law();
     core.spans_fill_logs();
     core.bytes_make_log();
-    core.live_is_named();
-    core.objects_have_one_span();
-    core.words_have_one_span();
-    core.views_and_marks_agree();
-    core.objects_stand();
+    core.objects_have_one_place();
     core.room_is_right();
-    core.answers_tell();
-    core.legal_is_tested(Event::Close { owner: 0 });
+    core.replies_report();
     opening_is_start(SMALL, true);
     steps_keep_views();
     events_leave_others();

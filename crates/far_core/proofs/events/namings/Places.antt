@@ -24,7 +24,7 @@ use Rattle.far_core.specs.world.Steps.{Makes}
 use Rattle.far_core.specs.world.World.{Object, Group}
 use Rattle.far_core.specs.world.WorldOf.{world_of, object_of, is_marked, is_group}
 use Rattle.far_core.proofs.KeepPlace.{header, law_with_span}
-use Rattle.far_core.proofs.NamingOwed.{Made, NamingOwed}
+use Rattle.far_core.proofs.NamingOwed.{IsMade, NamingOwed}
 use Rattle.far_core.proofs.NewSpans.{new_span_fact, new_span_test, at_tail, takes_span, touch_span, groups_then}
 use Rattle.far_core.proofs.Put.{put_both, put_same, put_other}
 use Rattle.far_core.proofs.Worlds.{World-ext}
@@ -66,13 +66,13 @@ module _ (s : State) (law : Law s) (p len ds : ℕ) (place : Place) (new : ℕ) 
   }
 
 module _ (p new len ds : ℕ) (place : Place) where
-  keeps_place : (s : State) → Made s p new (Places len ds place) → Law (with_span s p new len place)
+  keeps_place : (s : State) → IsMade s p new (Places len ds place) → Law (with_span s p new len place)
   keeps_place s made =
       let law = made.law in
       let x = read_says new (Near len ds place no_marks) made.fits made.naming.1 in
       let head = made.legal.0.head in
       let back : head_of (s.word (addr place)) ≡ Some (header p len ds) =
-          ap head_of head ∙ head_back (header p len ds) (record { some = omega (arith, x.0); most = omega (arith, x.0); structure = omega (arith, x.0); cell = omega (arith, made.cell, law.shape.few_mutators) }) in
+      ap head_of head ∙ head_back (header p len ds) (record { some = omega (arith, x.0); most = omega (arith, x.0); structure = omega (arith, x.0); cell = omega (arith, made.cell, law.shape.few_mutators) }) in
       let unused : s.used p ≡ true → ⊥ = λ used. false≢true (sym (ap in_use made.naming.0) ∙ law.views.used_cell p used) in
       law_with_span s law p len ds place no_marks new made.naming.1 made.fits made.cell (none_held s law p unused (s.held p) refl) (λ used. absurd (unused used))
       (omega (arith, x.0)) (omega (arith, x.0)) (omega (arith, x.0)) made.legal.0.next.0 (at_tail s law place made.legal.0.next) head back
@@ -80,8 +80,10 @@ module _ (p new len ds : ℕ) (place : Place) where
 
   pub places_owed : NamingOwed p new (Places len ds place)
   places_owed = record {
-    fact = λ s h. (new_span_fact s p len ds place (grind (arith, nat_tests)),
-        λ i lt. zeros_below s.word (addr place + 1) (words_for len) i (grind (arith, nat_tests)) lt);
+    fact = λ s h. (
+      new_span_fact s p len ds place (grind (arith, nat_tests)),
+      λ i lt. zeros_below s.word (addr place + 1) (words_for len) i (grind (arith, nat_tests)) lt,
+    );
     test = λ s h. rw (new_span_test s p len ds place h.0, zeros_all s.word (addr place + 1) (words_for len) h.1) refl;
     keeps = λ s made. keeps_place s made;
     does = λ s made.
@@ -89,6 +91,6 @@ module _ (p new len ds : ℕ) (place : Place) where
         place_makes s made.law p len ds place new made.naming.1 made.naming.0 made.legal.1 (omega (arith, x.0)) (omega (arith, x.0));
     within = λ s. touch_span s p new len place;
     names = λ s. put_same s.cell p new p refl;
-    tells = λ s law. takes_span s law p new len place;
+    reports = λ s law. takes_span s law p new len place;
     causes = λ old. (old, new, refl);
   }

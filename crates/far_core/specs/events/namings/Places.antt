@@ -13,7 +13,7 @@ places_row s p new len ds place = record {
   test = is_new_span s p len ds place && zeros s.word (addr place + 1) (words_for len);
   after = with_span s p new len place;
   Legal = IsNewSpan s p len ds place × Blank s.word len place;
-  Tells = Takes s len place;
+  Reports = Takes s len place;
 }
 
 abbrev pub places_change : ℕ → ℕ → ℕ → Place → Change

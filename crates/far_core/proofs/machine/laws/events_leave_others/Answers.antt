@@ -1,4 +1,4 @@
-use Rattle.far_core.proofs.Left.{events_leave}
+use Rattle.far_core.proofs.Leaving.{events_leave}
 use Rattle.far_core.proofs.machine.laws.events_leave_others.Goals as goal
 
 pub returns : goal.returns

@@ -6,7 +6,7 @@ use Rattle.far_core.specs.declared.event.Event.{Event}
 use Rattle.far_core.specs.declared.event.Event.TheVariants.{Pin, Close}
 use Rattle.far_core.specs.declared.event.Reply.{Reply}
 use Rattle.far_core.specs.declared.event.Reply.TheVariants.{Refused}
-use Rattle.far_core.specs.events.Left.{PartBy, EventsLeave}
+use Rattle.far_core.specs.events.Leaves.{PartBy, EventsLeave}
 use Rattle.far_core.specs.state.State.{State}
 use Rattle.far_core.specs.events.Step.{after, answer, is_legal, step_of, touches}
 use Rattle.far_core.specs.events.Touch.{Touches}

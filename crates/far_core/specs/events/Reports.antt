@@ -5,10 +5,10 @@ use Rattle.far_core.specs.events.Legal.{Legal}
 use Rattle.far_core.specs.state.State.{State}
 use Rattle.far_core.specs.events.Step.{rule, after, answer}
 pub use Rattle.far_core.specs.events.NewSpans.{Takes}
-pub use Rattle.far_core.specs.events.Pin.{GotHot}
+pub use Rattle.far_core.specs.events.Pin.{SetsHot}
 
-abbrev pub Tells : State → Event → Reply → State → Type 0
-Tells s e r t = (rule s e).Tells r t
+abbrev pub Reports : State → Event → Reply → State → Type 0
+Reports s e r t = (rule s e).Reports r t
 
-abbrev pub AnswersTell : State → Type 0
-AnswersTell s = (e : Event) → Legal s e → Tells s e (answer s e) (after s e)
+abbrev pub RepliesReport : State → Type 0
+RepliesReport s = (e : Event) → Legal s e → Reports s e (answer s e) (after s e)

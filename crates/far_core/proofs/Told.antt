@@ -1,2 +1,0 @@
--- What answers tell.
-pub use Rattle.far_core.proofs.Owing.{answers_tell}
