@@ -1,5 +1,6 @@
 -- What every step of a world keeps, and what the objects of a core's world are.
-use Rattle.std.proofs.Common.{◌≡◌, ◌≢◌, ◌<◌, ◌*◌, ℕ, ◌+◌, ◌/◌, Bool, true, false, cond, nat_eq, arith, sym, refl, ap, subst, ◌∙◌, Option, Some, None, List, length}
+use Rattle.std.proofs.Common.{◌≡◌, ◌≢◌, ◌<◌, ◌*◌, ℕ, ◌+◌, ◌/◌, Bool, true, false, cond, nat_eq, arith, sym, refl, ap, subst, ◌∙◌, Option, Some, None, List, [], ◌∷◌, length, zero, suc}
+use Rattle.std.specs.Prelude.{slice_index}
 use Rattle.std.proofs.lemmas.Bool.{cond_both, eqb-true, false≢true}
 use Rattle.far_word.specs.declared.pointer.PtrWord.{PtrWord}
 use Rattle.far_word.specs.declared.pointer.PtrWord.TheVariants.{Free, Near, Far}
@@ -17,10 +18,10 @@ use Rattle.far_core.specs.events.Step.{change_of}
 use Rattle.far_core.proofs.Owing.{owed}
 use Rattle.far_core.specs.state.Law.{Law}
 use Rattle.far_core.specs.state.State.{State, put, addr}
-use Rattle.far_core.specs.world.World.{World, Object, Group, FarSide}
-use Rattle.far_core.specs.laws.Worlds.{ChangeKeeps, ChangesKeep, ChangesAreOne, Causes, Caused, EventsCause, SureOf, ObjectStands, ObjectsStand, StepKeeps, StepsKeep, StepsAreOne}
+use Rattle.far_core.specs.world.World.{World, Object, Group, FarSide, start}
+use Rattle.far_core.specs.laws.Worlds.{ChangeKeeps, ChangesKeep, ChangesAreOne, Causes, Caused, EventsCause, SureOf, ObjectStands, ObjectsStand, StepKeeps, StepsKeep, StepsAreOne, LyingIsOpen}
 use Rattle.far_core.specs.world.WorldOf.{world_of, object_of, is_group}
-use Rattle.far_core.specs.world.Steps.{Writes, with_bytes, with_home}
+use Rattle.far_core.specs.world.Steps.{Writes, ComesNear, with_bytes, with_home}
 use Rattle.far_core.proofs.Cells.{unused}
 use Rattle.far_core.proofs.Observations.{in_range}
 use Rattle.far_core.proofs.Put.{put_both}
@@ -192,6 +193,48 @@ one_event w v u (Some c) sure h k = changes_are_one w v u c sure h k
 
 pub steps_are_one : StepsAreOne
 steps_are_one w v u e r sure h k = one_event w v u (change_of e r) sure h k
+
+-- ---- a far side that isn't honest
+one_byte : (b : ℕ) → b < 256 → (k : ℕ) → slice_index (b ∷ []) k < 256
+one_byte b small zero = small
+one_byte b small (suc k) = omega arith
+
+-- a world whose one object, of one byte, is far
+abbrev far_world : World
+far_world = record (start false) { object = put (λ _. None) 0 (Some record { owner = 0; ds = 0; bytes = 0 ∷ []; home = FarSide }) }
+
+-- the same with the object near, and this byte in it
+abbrev near_world : ℕ → World
+near_world b = record far_world {
+  object = put far_world.object 0 (Some record { owner = 0; ds = 0; bytes = b ∷ []; home = Group 0 });
+  marked = put far_world.marked 0 false;
+  group = put far_world.group 0 true;
+}
+
+comes : (b : ℕ) → b < 256 → ComesNear far_world 0 0 (near_world b)
+comes b small = record {
+  unviewed = refl;
+  come = (record { owner = 0; ds = 0; bytes = 0 ∷ []; home = FarSide }, b ∷ [], refl, refl, refl, one_byte b small, λ odd. absurd (false≢true odd), refl);
+}
+
+abbrev first_byte : Option Object → ℕ
+first_byte None = 0
+first_byte (Some o) = slice_index o.bytes 0
+
+pub lying_is_open : LyingIsOpen
+lying_is_open = (
+  far_world,
+  near_world 0,
+  near_world 255,
+  0,
+  0,
+  refl,
+  comes 0 (omega arith),
+  comes 255 (omega arith),
+  λ same.
+      let bytes : 0 ≡ 255 = ap (λ (x : World). first_byte (x.object 0)) same in
+      omega arith,
+)
 
 -- ---- the objects of a core
 held_group : (k : Kind) → (k ≡ kinds.Free → ⊥) → is_group k ≡ true

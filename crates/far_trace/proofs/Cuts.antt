@@ -40,7 +40,7 @@ abbrev pub NoEnds : List ℕ → ℕ → Type 0
 NoEnds text i = (k : ℕ) → k < i → is_end (get_or text k 0) ≡ false
 
 -- the first word goes on behind bytes that do not end it
-pub spot_word : (text : List ℕ) (i : ℕ) → i ≤ length text → NoEnds text i
+pub word_at : (text : List ℕ) (i : ℕ) → i ≤ length text → NoEnds text i
     → (words_in text ≡ (take i text ++ first_part (words_in (drop i text))) ∷ other_parts (words_in (drop i text))) × (lines_behind text ≡ lines_behind (drop i text))
 word_at text zero h n = (split_some (λ c. c == 32) (first_line text), refl)
 word_at [] (suc i) h n = absurd (omega arith)

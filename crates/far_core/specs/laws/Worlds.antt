@@ -1,5 +1,5 @@
 -- What holds of the objects of a core's world, and of every step that a world makes.
-use Rattle.std.specs.Prelude.{◌≡◌, ◌≢◌, ℕ, ◌/◌, ◌<◌, ◌≤◌, true, Option, Some, None, length, slice_index}
+use Rattle.std.specs.Prelude.{◌≡◌, ◌≢◌, ℕ, ◌/◌, ◌<◌, ◌≤◌, true, false, Option, Some, None, length, slice_index}
 use Rattle.far_word.specs.declared.sizes.TheConstants.{CELLS, LONGEST, POINTERS}
 use Rattle.far_core.specs.declared.event.Event.{Event}
 use Rattle.far_core.specs.declared.event.Event.TheVariants.{Open, Pin, Load, Store, Close, Name, Mark}
@@ -68,6 +68,10 @@ SureOf w (Some c) = Sure w c
 
 abbrev pub ChangesAreOne : Type 0
 ChangesAreOne = (w v u : World) (c : Change) → Sure w c → Step c w v → Step c w u → v ≡ u
+
+-- where the far side isn't honest, one coming near leads to different worlds
+abbrev pub LyingIsOpen : Type 0
+LyingIsOpen = (w v u : World) × (p g : ℕ) × (w.honest ≡ false) × Step (change.ComesNear p g) w v × Step (change.ComesNear p g) w u × (v ≢ u)
 
 -- the same of an event: its stores, its close, its pin
 pub record StepKeeps (w : World) (e : Event) (v : World) : Type 0 where

@@ -20,7 +20,7 @@ ghost use Rattle.far_core.specs.events.Reports.{RepliesReport};
 ghost use Rattle.far_core.specs.world.World.{start};
 ghost use Rattle.far_core.specs.laws.Agreement.{ViewRests, MarksAgree, MarksExist};
 ghost use Rattle.far_core.specs.laws.Rooms.{RoomIsRight};
-ghost use Rattle.far_core.specs.laws.Worlds.{ObjectsStand, StepsKeep, StepsAreOne, ChangesKeep, ChangesAreOne, EventsCause};
+ghost use Rattle.far_core.specs.laws.Worlds.{ObjectsStand, StepsKeep, StepsAreOne, LyingIsOpen, ChangesKeep, ChangesAreOne, EventsCause};
 ghost use Rattle.far_core.specs.world.WorldOf.{world_of};
 
 use crate::event::Event;
@@ -115,6 +115,7 @@ pub fn steps_keep_views()
     ensures causes { EventsCause }
     ensures keep { StepsKeep }
     ensures one { StepsAreOne }
+    ensures lying { LyingIsOpen }
 {}
 
 /// Whatever an event changes of the words and views, it says so: one shared word at most, and the view of its own mutator

@@ -1,4 +1,4 @@
-use Rattle.far_core.proofs.WorldLaws.{steps_keep, steps_are_one, changes_keep, changes_are_one, events_cause}
+use Rattle.far_core.proofs.WorldLaws.{lying_is_open, steps_keep, steps_are_one, changes_keep, changes_are_one, events_cause}
 use Rattle.far_core.proofs.machine.laws.steps_keep_views.Goals as goal
 
 pub returns-clause-keep : goal.returns-clause-keep
@@ -15,3 +15,6 @@ returns-clause-one_change c = changes_are_one
 
 pub returns-clause-causes : goal.returns-clause-causes
 returns-clause-causes c = events_cause
+
+pub returns-clause-lying : goal.returns-clause-lying
+returns-clause-lying c = lying_is_open
