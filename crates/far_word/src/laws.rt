@@ -1,5 +1,9 @@
 //! What holds of every word, as contracts of functions that do nothing.
 
+ghost use Rattle.std.specs.Prelude.{◌≡◌, ◌*◌};
+ghost use Rattle.far_word.specs.declared.sizes.TheConstants.{LOG_WORDS, LONGEST, MOST_LOGS, MOST_MUTATORS, CELLS, POINTERS};
+ghost use Rattle.far_word.specs.Rows.{NearWords, MarkedWords, FarWords, FreeWord, PointersRefused, MarkBits, HeaderWords, HeadersRefused, ScopeWords, ScopesRefused, NineBytes};
+ghost use Rattle.far_word.specs.Sizes.{size_of};
 ghost use Rattle.far_word.specs.Laws.{MarkIsSet, MarkIsRead, MarkIsRefused, EvacIsCleared, PointerBack, PointerFound, HeaderBack, HeaderFound, ScopeBack, ScopeFound, SizesFit, BytesBack, WordsBack, WrittenIsRead};
 
 /// Or-ing a mark's bit into the word of a pointer that takes the mark gives the word of the pointer with that mark.
@@ -58,4 +62,34 @@ pub fn words_back()
 /// Bytes that were written over are read as they were written, and all others as they were.
 pub fn written_is_read()
     ensures { WrittenIsRead }
+{}
+
+/// The sizes of a heap in numerals, and what ties them.
+pub fn sizes_are()
+    ensures log_words { LOG_WORDS ≡ 128 }
+    ensures longest { LONGEST ≡ 1016 }
+    ensures most_logs { MOST_LOGS ≡ 64 }
+    ensures most_mutators { MOST_MUTATORS ≡ 8 }
+    ensures cells { CELLS ≡ 128 }
+    ensures pointers { POINTERS ≡ 1024 }
+    ensures cells_of_all { POINTERS ≡ CELLS * MOST_MUTATORS }
+    ensures longest_fills_log { size_of LONGEST ≡ LOG_WORDS }
+    ensures log_bytes { 8 * LOG_WORDS ≡ 1024 }
+{}
+
+/// Worked words of each layout in hexadecimal, and words off it: with the laws that a word is read as what it was
+/// packed from, they fix where each field stands.
+#[tactic(auto, unfolding(crate::specs::Pointer::read_of, crate::specs::Header::head_of, crate::specs::Scope::scope_of, crate::specs::Bytes::words_of, crate::specs::Bytes::bytes_of))]
+pub fn words_are()
+    ensures near { NearWords }
+    ensures marked { MarkedWords }
+    ensures far { FarWords }
+    ensures free { FreeWord }
+    ensures no_pointer { PointersRefused }
+    ensures mark_bits { MarkBits }
+    ensures header { HeaderWords }
+    ensures no_header { HeadersRefused }
+    ensures scope { ScopeWords }
+    ensures no_scope { ScopesRefused }
+    ensures bytes { NineBytes }
 {}

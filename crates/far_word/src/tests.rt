@@ -1,8 +1,8 @@
 use crate::{
     HeadWord, Mark, Marks, Place, PtrWord, Refused, ScopeWord, bytes_back, evac_cleared,
     head_round_trip, mark_read, mark_refused, mark_set, pack_bytes, pointer_round_trip, rests_view,
-    scope_round_trip, size_of, sizes_fit, unpack_bytes, without_owner_marks, words_back,
-    written_is_read,
+    scope_round_trip, size_of, sizes_are, sizes_fit, unpack_bytes, without_owner_marks, words_are,
+    words_back, written_is_read,
 };
 use std::test::*;
 
@@ -234,8 +234,10 @@ fn laws() {
     pointer_round_trip();
     head_round_trip();
     scope_round_trip();
+    sizes_are();
     sizes_fit();
     bytes_back();
+    words_are();
     words_back();
     written_is_read();
 }
