@@ -14,14 +14,14 @@ use Rattle.far_word.specs.declared.scope.ScopeWord.{ScopeWord}
 use Rattle.far_word.specs.declared.scope.ScopeWord.TheVariants.{Closed, Open}
 
 -- a word is packed from what it says, and is read as that
-abbrev pub SaysPointer : ℕ → PtrWord → Type 0
-SaysPointer w v = (word_of v ≡ w) × (read_of w ≡ Some v)
+abbrev pub IsPointerWord : ℕ → PtrWord → Type 0
+IsPointerWord w v = (word_of v ≡ w) × (read_of w ≡ Some v)
 
-abbrev pub SaysHeader : ℕ → HeadWord → Type 0
-SaysHeader w h = (head_word h.pointer h.len h.ds ≡ w) × (head_of w ≡ Some h)
+abbrev pub IsHeaderWord : ℕ → HeadWord → Type 0
+IsHeaderWord w h = (head_word h.pointer h.len h.ds ≡ w) × (head_of w ≡ Some h)
 
-abbrev pub SaysScope : ℕ → ScopeWord → Type 0
-SaysScope w s = (scope_word s ≡ w) × (scope_of w ≡ Some s)
+abbrev pub IsScopeWord : ℕ → ScopeWord → Type 0
+IsScopeWord w s = (scope_word s ≡ w) × (scope_of w ≡ Some s)
 
 -- ---- pointer words
 abbrev pub no_marks : Marks
@@ -33,27 +33,27 @@ near_eight log at marks = Near 8 1 record { log = log; at = at } marks
 
 -- each field by itself, and as small and as large as it may be
 abbrev pub NearWords : Type 0
-NearWords = SaysPointer 0x8400_0000_0001_0008 (near_eight 0 0 no_marks)
-    × SaysPointer 0x8400_0000_0201_0008 (near_eight 0 2 no_marks)
-    × SaysPointer 0x8400_0000_7e01_0008 (near_eight 0 126 no_marks)
-    × SaysPointer 0x8400_0004_0001_0008 (near_eight 1 0 no_marks)
-    × SaysPointer 0x8400_00fc_0001_0008 (near_eight 63 0 no_marks)
-    × SaysPointer 0x8400_0000_0000_0001 (Near 1 0 record { log = 0; at = 0 } no_marks)
-    × SaysPointer 0x8400_0000_00ff_03f8 (Near 1016 255 record { log = 0; at = 0 } no_marks)
+NearWords = IsPointerWord 0x8400_0000_0001_0008 (near_eight 0 0 no_marks)
+    × IsPointerWord 0x8400_0000_0201_0008 (near_eight 0 2 no_marks)
+    × IsPointerWord 0x8400_0000_7e01_0008 (near_eight 0 126 no_marks)
+    × IsPointerWord 0x8400_0004_0001_0008 (near_eight 1 0 no_marks)
+    × IsPointerWord 0x8400_00fc_0001_0008 (near_eight 63 0 no_marks)
+    × IsPointerWord 0x8400_0000_0000_0001 (Near 1 0 record { log = 0; at = 0 } no_marks)
+    × IsPointerWord 0x8400_0000_00ff_03f8 (Near 1016 255 record { log = 0; at = 0 } no_marks)
 
 abbrev pub MarkedWords : Type 0
-MarkedWords = SaysPointer 0xc400_0000_0001_0008 (near_eight 0 0 record { hot = true; evac = false; moved = false; dropped = false })
-    × SaysPointer 0xa400_0000_0001_0008 (near_eight 0 0 record { hot = false; evac = true; moved = false; dropped = false })
-    × SaysPointer 0x9400_0000_0001_0008 (near_eight 0 0 record { hot = false; evac = false; moved = true; dropped = false })
-    × SaysPointer 0x8c00_0000_0001_0008 (near_eight 0 0 record { hot = false; evac = false; moved = false; dropped = true })
-    × SaysPointer 0xe400_0000_0001_0008 (near_eight 0 0 record { hot = true; evac = true; moved = false; dropped = false })
+MarkedWords = IsPointerWord 0xc400_0000_0001_0008 (near_eight 0 0 record { hot = true; evac = false; moved = false; dropped = false })
+    × IsPointerWord 0xa400_0000_0001_0008 (near_eight 0 0 record { hot = false; evac = true; moved = false; dropped = false })
+    × IsPointerWord 0x9400_0000_0001_0008 (near_eight 0 0 record { hot = false; evac = false; moved = true; dropped = false })
+    × IsPointerWord 0x8c00_0000_0001_0008 (near_eight 0 0 record { hot = false; evac = false; moved = false; dropped = true })
+    × IsPointerWord 0xe400_0000_0001_0008 (near_eight 0 0 record { hot = true; evac = true; moved = false; dropped = false })
 
 abbrev pub FarWords : Type 0
-FarWords = SaysPointer 0x0400_0000_0001_0008 (Far 8 1 no_marks)
-    × SaysPointer 0x5c00_0000_00ff_03f8 (Far 1016 255 record { hot = true; evac = false; moved = true; dropped = true })
+FarWords = IsPointerWord 0x0400_0000_0001_0008 (Far 8 1 no_marks)
+    × IsPointerWord 0x5c00_0000_00ff_03f8 (Far 1016 255 record { hot = true; evac = false; moved = true; dropped = true })
 
 abbrev pub FreeWord : Type 0
-FreeWord = SaysPointer 0 Free
+FreeWord = IsPointerWord 0 Free
 
 -- no USED; lengths 0 and 1,017; a span past the log's end; far at an offset, in a log, with EVAC; log 64; the lowest and the highest of the bits that are zero
 abbrev pub PointersRefused : Type 0
@@ -76,9 +76,9 @@ MarkBits = (2 ^ position Hot ≡ 0x4000_0000_0000_0000)
 
 -- ---- header words
 abbrev pub HeaderWords : Type 0
-HeaderWords = SaysHeader 0xa100_0000_0001_0008 record { pointer = 0; len = 8; ds = 1 }
-    × SaysHeader 0xa100_0000_0101_0008 record { pointer = 1; len = 8; ds = 1 }
-    × SaysHeader 0xa100_0003_ffff_03f8 record { pointer = 1023; len = 1016; ds = 255 }
+HeaderWords = IsHeaderWord 0xa100_0000_0001_0008 record { pointer = 0; len = 8; ds = 1 }
+    × IsHeaderWord 0xa100_0000_0101_0008 record { pointer = 1; len = 8; ds = 1 }
+    × IsHeaderWord 0xa100_0003_ffff_03f8 record { pointer = 1023; len = 1016; ds = 255 }
 
 -- a pointer's word; other top bytes; lengths 0 and 1,017; pointer 1,024
 abbrev pub HeadersRefused : Type 0
@@ -91,9 +91,9 @@ HeadersRefused = (head_of 0x8400_0000_0001_0008 ≡ None)
 
 -- ---- scope words
 abbrev pub ScopeWords : Type 0
-ScopeWords = SaysScope 0 Closed
-    × SaysScope 1 (Open 0)
-    × SaysScope 0x7fff_ffff_ffff_ffff (Open (2 ^ 62 - 1))
+ScopeWords = IsScopeWord 0 Closed
+    × IsScopeWord 1 (Open 0)
+    × IsScopeWord 0x7fff_ffff_ffff_ffff (Open (2 ^ 62 - 1))
 
 -- an even word; an epoch of 2^62
 abbrev pub ScopesRefused : Type 0

@@ -5,9 +5,8 @@ mod values;
 mod words;
 
 use crate::{
-    Marks, bytes_back, evac_cleared, head_round_trip, mark_read, mark_refused, mark_set,
-    pointer_round_trip, scope_round_trip, sizes_are, sizes_fit, words_are, words_back,
-    written_is_read,
+    Marks, header_words, packed_bytes, pointer_marks, pointer_words, refusal_numbers, scope_words,
+    sizes_are, words_are,
 };
 
 const NO_MARKS: Marks = Marks {
@@ -33,17 +32,12 @@ const HOT_EVAC: Marks = Marks {
 
 #[test]
 fn laws() {
-    mark_set();
-    mark_read();
-    mark_refused();
-    evac_cleared();
-    pointer_round_trip();
-    head_round_trip();
-    scope_round_trip();
+    pointer_words();
+    pointer_marks();
+    header_words();
+    scope_words();
+    packed_bytes();
     sizes_are();
-    sizes_fit();
-    bytes_back();
     words_are();
-    words_back();
-    written_is_read();
+    refusal_numbers();
 }

@@ -159,7 +159,7 @@ fn marks_and_masks(rt: HostRuntime) {
 #[test]
 fn refusals(rt: HostRuntime) -> Result<(), Fail> {
     for (refused, number, text) in [
-        (Refused::Memory, 1, "a growth was refused"),
+        (Refused::Memory, 1, "out of memory"),
         (Refused::NoRoom, 2, "no log has room"),
         (
             Refused::NoPointer,
@@ -179,7 +179,7 @@ fn refusals(rt: HostRuntime) -> Result<(), Fail> {
             "the device gave bytes of another length",
         ),
         (Refused::Phase, 12, "the call does not belong to the phase"),
-        (Refused::EpochsSpent, 13, "the epochs are spent"),
+        (Refused::EpochsSpent, 13, "no epoch is left"),
         (
             Refused::Marked(0x0400_0000_0001_0008),
             14,
@@ -195,7 +195,7 @@ fn refusals(rt: HostRuntime) -> Result<(), Fail> {
         (
             Refused::StillOpen(2, 5),
             18,
-            "mutator 2 is open since epoch 5",
+            "mutator 2 has been open since epoch 5",
         ),
     ] {
         assert_eq!(rt; refused.number(), number, "at {refused:?}");
