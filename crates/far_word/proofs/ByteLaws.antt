@@ -7,13 +7,13 @@ use Rattle.std.proofs.lemmas.List.{ext_get_or, length-replicate, get_or-replicat
 use Rattle.std.proofs.lemmas.Bool.{cases_lt, eq-eqb, ne_eqb}
 use native.Mathlib.Nat.{zero-div, div-eq_of_lt}
 use lib.Pow.{pow_mono}
-use Rattle.far_word.specs.Bytes.{byte_at, bytes_of, packed_word, words_of, overwritten}
+use Rattle.far_word.specs.Bytes.{byte_at, bytes_of, packed_word, words_of, with_word}
 use Rattle.far_word.specs.Sizes.{words_for}
 use Rattle.far_word.proofs.Words.{split_at}
 
 -- ---- lists that a function of the index gives
-pub tabulated : (f g : ℕ → ℕ) (n : ℕ) → ((k : ℕ) → k < n → f k ≡ g k) → map f (range_with_len 0 n) ≡ map g (range_with_len 0 n)
-tabulated f g n h = ext_get_or 0 _ _ (length-map-range_with_len f 0 n ∙ sym (length-map-range_with_len g 0 n))
+pub map-range_with_len-same : (f g : ℕ → ℕ) (n : ℕ) → ((k : ℕ) → k < n → f k ≡ g k) → map f (range_with_len 0 n) ≡ map g (range_with_len 0 n)
+map-range_with_len-same f g n h = ext_get_or 0 _ _ (length-map-range_with_len f 0 n ∙ sym (length-map-range_with_len g 0 n))
     (λ k lt. let below : k < n = omega (arith, length-map-range_with_len f 0 n) in
     get_or-map-range_with_len f 0 n k k 0 below (omega arith) ∙ h k below ∙ sym (get_or-map-range_with_len g 0 n k k 0 below (omega arith)))
 
@@ -37,7 +37,7 @@ bytes_of-small f n k = elim (cases_lt k n) [
 -- equal words have equal bytes
 pub bytes_of-same : (f g : ℕ → ℕ) (n : ℕ) → ((i : ℕ) → i < words_for n → f i ≡ g i) → bytes_of f n ≡ bytes_of g n
 unfolding bytes_of
-bytes_of-same f g n h = tabulated (byte_at f) (byte_at g) n (λ k lt. ap (λ x. x / 2 ^ (8 * (k % 8)) % 256) (h (k / 8) (omega arith)))
+bytes_of-same f g n h = map-range_with_len-same (byte_at f) (byte_at g) n (λ k lt. ap (λ x. x / 2 ^ (8 * (k % 8)) % 256) (h (k / 8) (omega arith)))
 
 zero_byte : (n : ℕ) → 0 / n % 256 ≡ 0
 zero_byte n = rw (zero-div n) refl
@@ -54,11 +54,11 @@ put_byte : (f : ℕ → ℕ) (n i w k : ℕ) (b : Bool) → k < n →
 put_byte f n i w k true lt = refl
 put_byte f n i w k false lt = sym (bytes_of-get f n k lt)
 
-pub bytes_of-put : (f : ℕ → ℕ) (n i w : ℕ) → bytes_of (λ q. cond (q == i) w (f q)) n ≡ overwritten (bytes_of f n) i w
-unfolding bytes_of overwritten
+pub bytes_of-put : (f : ℕ → ℕ) (n i w : ℕ) → bytes_of (λ q. cond (q == i) w (f q)) n ≡ with_word (bytes_of f n) i w
+unfolding bytes_of with_word
 bytes_of-put f n i w =
     let new : ℕ → ℕ = λ k. cond (nat_eq (k / 8) i) (w / 2 ^ (8 * (k % 8)) % 256) (get_or (bytes_of f n) k 0) in
-    tabulated (byte_at (λ q. cond (nat_eq q i) w (f q))) new n (λ k lt. put_byte f n i w k (nat_eq (k / 8) i) lt)
+    map-range_with_len-same (byte_at (λ q. cond (nat_eq q i) w (f q))) new n (λ k lt. put_byte f n i w k (nat_eq (k / 8) i) lt)
     ∙ ap (λ m. map new (range_with_len 0 m)) (sym (length-bytes_of f n))
 
 -- ---- the bytes of words, packed again
@@ -137,18 +137,19 @@ bytes_of-words_of bs small = ext_get_or 0 _ _ (length-bytes_of (λ i. get_or (wo
     ∙ packed_byte bs (k / 8) (k % 8) small (omega arith) ∙ ap (λ q. get_or bs q 0) at)
 
 -- ---- bytes written over, read again
-pub length-overwritten : (bs : List ℕ) (i w : ℕ) → length (overwritten bs i w) ≡ length bs
-unfolding overwritten
-length-overwritten bs i w = length-map-range_with_len _ 0 (length bs)
+pub length-with_word : (bs : List ℕ) (i w : ℕ) → length (with_word bs i w) ≡ length bs
+unfolding with_word
+length-with_word bs i w = length-map-range_with_len _ 0 (length bs)
 
-overwritten-get : (bs : List ℕ) (i w k : ℕ) → k < length bs → get_or (overwritten bs i w) k 0 ≡ cond (nat_eq (k / 8) i) (w / 2 ^ (8 * (k % 8)) % 256) (get_or bs k 0)
-unfolding overwritten
-overwritten-get bs i w k lt = get_or-map-range_with_len (λ q. cond (nat_eq (q / 8) i) (w / 2 ^ (8 * (q % 8)) % 256) (get_or bs q 0)) 0 (length bs) k k 0 lt (omega arith)
+-- one byte of them
+pub with_word-get : (bs : List ℕ) (i w k : ℕ) → k < length bs → get_or (with_word bs i w) k 0 ≡ cond (nat_eq (k / 8) i) (w / 2 ^ (8 * (k % 8)) % 256) (get_or bs k 0)
+unfolding with_word
+with_word-get bs i w k lt = get_or-map-range_with_len (λ q. cond (nat_eq (q / 8) i) (w / 2 ^ (8 * (q % 8)) % 256) (get_or bs q 0)) 0 (length bs) k k 0 lt (omega arith)
 
-overwritten-other : (bs : List ℕ) (i w k : ℕ) → (k / 8 ≢ i) → get_or (overwritten bs i w) k 0 ≡ get_or bs k 0
-overwritten-other bs i w k ne = elim (cases_lt k (length bs)) [
-  | inl lt ↦ overwritten-get bs i w k lt ∙ ap (λ b. cond b (w / 2 ^ (8 * (k % 8)) % 256) (get_or bs k 0)) (ne_eqb (k / 8) i ne)
-  | inr le ↦ get_or_past (overwritten bs i w) k 0 (omega (arith, length-overwritten bs i w)) ∙ sym (get_or_past bs k 0 le)
+with_word-other : (bs : List ℕ) (i w k : ℕ) → (k / 8 ≢ i) → get_or (with_word bs i w) k 0 ≡ get_or bs k 0
+with_word-other bs i w k ne = elim (cases_lt k (length bs)) [
+  | inl lt ↦ with_word-get bs i w k lt ∙ ap (λ b. cond b (w / 2 ^ (8 * (k % 8)) % 256) (get_or bs k 0)) (ne_eqb (k / 8) i ne)
+  | inr le ↦ get_or_past (with_word bs i w) k 0 (omega (arith, length-with_word bs i w)) ∙ sym (get_or_past bs k 0 le)
 ]
 
 -- each is below 256
@@ -156,31 +157,31 @@ new_byte : (b : Bool) (w n x : ℕ) → x < 256 → cond b (w / n % 256) x < 256
 new_byte true w n x small = omega arith
 new_byte false w n x small = small
 
-pub overwritten-small : (bs : List ℕ) (i w : ℕ) → ((k : ℕ) → get_or bs k 0 < 256) → (k : ℕ) → get_or (overwritten bs i w) k 0 < 256
-overwritten-small bs i w small k = elim (cases_lt k (length bs)) [
-  | inl lt ↦ omega (arith, overwritten-get bs i w k lt, new_byte (nat_eq (k / 8) i) w (2 ^ (8 * (k % 8))) (get_or bs k 0) (small k))
-  | inr le ↦ omega (arith, get_or_past (overwritten bs i w) k 0 (omega (arith, length-overwritten bs i w)))
+pub with_word-small : (bs : List ℕ) (i w : ℕ) → ((k : ℕ) → get_or bs k 0 < 256) → (k : ℕ) → get_or (with_word bs i w) k 0 < 256
+with_word-small bs i w small k = elim (cases_lt k (length bs)) [
+  | inl lt ↦ omega (arith, with_word-get bs i w k lt, new_byte (nat_eq (k / 8) i) w (2 ^ (8 * (k % 8))) (get_or bs k 0) (small k))
+  | inr le ↦ omega (arith, get_or_past (with_word bs i w) k 0 (omega (arith, length-with_word bs i w)))
 ]
 
 -- the bytes as the bytes of their words, with one word put
-overwritten-as : (bs : List ℕ) (i w : ℕ) → ((k : ℕ) → get_or bs k 0 < 256) → overwritten bs i w ≡ bytes_of (λ q. cond (q == i) w (get_or (words_of bs) q 0)) (length bs)
-overwritten-as bs i w small = sym (bytes_of-put (λ q. get_or (words_of bs) q 0) (length bs) i w ∙ ap (λ b. overwritten b i w) (bytes_of-words_of bs small))
+with_word-as : (bs : List ℕ) (i w : ℕ) → ((k : ℕ) → get_or bs k 0 < 256) → with_word bs i w ≡ bytes_of (λ q. cond (q == i) w (get_or (words_of bs) q 0)) (length bs)
+with_word-as bs i w small = sym (bytes_of-put (λ q. get_or (words_of bs) q 0) (length bs) i w ∙ ap (λ b. with_word b i w) (bytes_of-words_of bs small))
 
-pub read_written : (bs : List ℕ) (i w : ℕ) → ((k : ℕ) → get_or bs k 0 < 256) → w < 2 ^ 64 → w < 2 ^ (8 * (length bs - 8 * i)) → packed_word (overwritten bs i w) i ≡ w
+pub read_written : (bs : List ℕ) (i w : ℕ) → ((k : ℕ) → get_or bs k 0 < 256) → w < 2 ^ 64 → w < 2 ^ (8 * (length bs - 8 * i)) → packed_word (with_word bs i w) i ≡ w
 read_written bs i w small fits pad =
     let f : ℕ → ℕ = λ q. cond (nat_eq q i) w (get_or (words_of bs) q 0) in
     let at : f i ≡ w = ap (λ b. cond b w (get_or (words_of bs) i 0)) (eq-eqb i i refl) in
-    ap (λ b. packed_word b i) (overwritten-as bs i w small) ∙ packs_back f (length bs) i (omega (arith, at)) (omega (arith, at)) ∙ at
+    ap (λ b. packed_word b i) (with_word-as bs i w small) ∙ packs_back f (length bs) i (omega (arith, at)) (omega (arith, at)) ∙ at
 
-pub read_other : (bs : List ℕ) (i w j : ℕ) → j ≢ i → packed_word (overwritten bs i w) j ≡ packed_word bs j
+pub read_other : (bs : List ℕ) (i w j : ℕ) → j ≢ i → packed_word (with_word bs i w) j ≡ packed_word bs j
 read_other bs i w j ne =
     rw (
-      overwritten-other bs i w (8 * j) (λ e. ne (omega arith)),
-      overwritten-other bs i w (8 * j + 1) (λ e. ne (omega arith)),
-      overwritten-other bs i w (8 * j + 2) (λ e. ne (omega arith)),
-      overwritten-other bs i w (8 * j + 3) (λ e. ne (omega arith)),
-      overwritten-other bs i w (8 * j + 4) (λ e. ne (omega arith)),
-      overwritten-other bs i w (8 * j + 5) (λ e. ne (omega arith)),
-      overwritten-other bs i w (8 * j + 6) (λ e. ne (omega arith)),
-      overwritten-other bs i w (8 * j + 7) (λ e. ne (omega arith)),
+      with_word-other bs i w (8 * j) (λ e. ne (omega arith)),
+      with_word-other bs i w (8 * j + 1) (λ e. ne (omega arith)),
+      with_word-other bs i w (8 * j + 2) (λ e. ne (omega arith)),
+      with_word-other bs i w (8 * j + 3) (λ e. ne (omega arith)),
+      with_word-other bs i w (8 * j + 4) (λ e. ne (omega arith)),
+      with_word-other bs i w (8 * j + 5) (λ e. ne (omega arith)),
+      with_word-other bs i w (8 * j + 6) (λ e. ne (omega arith)),
+      with_word-other bs i w (8 * j + 7) (λ e. ne (omega arith)),
     ) refl

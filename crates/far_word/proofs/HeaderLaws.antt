@@ -4,6 +4,7 @@ use Rattle.std.proofs.lemmas.Bool.Decides.{nat_tests}
 use Rattle.far_word.specs.Header.{IsHead, head_word, is_head, head_of}
 use Rattle.far_word.specs.Mark.{field}
 use Rattle.far_word.specs.declared.header.HeadWord.{HeadWord}
+use Rattle.far_word.specs.declared.sizes.TheConstants.{LONGEST, POINTERS}
 use Rattle.far_word.proofs.Words.{split_at, at_guard}
 
 -- what is read stands in the word
@@ -18,8 +19,8 @@ unfolding head_of
 head_found w fits = at_guard (SaysHead w) _ _ (λ (h : is_head w ≡ true).
     let top : field w 56 8 ≡ 161 = grind (arith, nat_tests) in
     let some : 0 < field w 0 16 = grind (arith, nat_tests) in
-    let most : field w 0 16 ≤ 1016 = grind (arith, nat_tests) in
-    let cell : field w 24 32 < 1024 = grind (arith, nat_tests) in
+    let most : field w 0 16 ≤ LONGEST = grind (arith, nat_tests) in
+    let cell : field w 24 32 < POINTERS = grind (arith, nat_tests) in
     let structure : field w 16 8 < 256 = omega arith in
     (record { some = some; most = most; structure = structure; cell = cell }, omega (arith, head_fields w fits)))
 
@@ -27,7 +28,7 @@ head_found w fits = at_guard (SaysHead w) _ _ (λ (h : is_head w ≡ true).
 pub head_says : (w : ℕ) (h : HeadWord) → w < 2 ^ 64 → head_of w ≡ Some h → IsHead h × (head_word h.pointer h.len h.ds ≡ w)
 head_says w h fits e = subst (λ (o : Option HeadWord). IfSome o (SaysHead w)) e (head_found w fits)
 
-is_head_back : (w : ℕ) → field w 56 8 ≡ 161 → 0 < field w 0 16 → field w 0 16 ≤ 1016 → field w 24 32 < 1024 → is_head w ≡ true
+is_head_back : (w : ℕ) → field w 56 8 ≡ 161 → 0 < field w 0 16 → field w 0 16 ≤ LONGEST → field w 24 32 < POINTERS → is_head w ≡ true
 is_head_back w a b c d = grind (arith, nat_tests)
 
 -- the word of a header on the layout is read as that header
@@ -35,9 +36,9 @@ pub head_only : (w : ℕ) (h : HeadWord) → IsHead h → head_word h.pointer h.
 unfolding head_of
 head_only w h ok e =
     let some : 0 < h.len = ok.some in
-    let most : h.len ≤ 1016 = ok.most in
+    let most : h.len ≤ LONGEST = ok.most in
     let structure : h.ds < 256 = ok.structure in
-    let cell : h.pointer < 1024 = ok.cell in
+    let cell : h.pointer < POINTERS = ok.cell in
     let a : field w 0 16 ≡ h.len = omega arith in
     let b : field w 16 8 ≡ h.ds = omega arith in
     let p : field w 24 32 ≡ h.pointer = omega arith in
@@ -51,7 +52,7 @@ head_back h ok = head_only _ h ok refl
 -- the word of a header fits
 pub head_fits : (h : HeadWord) → IsHead h → head_word h.pointer h.len h.ds < 2 ^ 64
 head_fits h ok =
-    let most : h.len ≤ 1016 = ok.most in
+    let most : h.len ≤ LONGEST = ok.most in
     let structure : h.ds < 256 = ok.structure in
-    let cell : h.pointer < 1024 = ok.cell in
+    let cell : h.pointer < POINTERS = ok.cell in
     omega arith

@@ -11,7 +11,8 @@ use borrow.Rule.Slice.PartMut.{put_mid}
 use Rattle.byteorder.specs.Endian.{little_number}
 use Rattle.byteorder.specs.Numbers.{length-bytes_low_first}
 use Rattle.byteorder.proofs.Bytes.{pow256}
-use Rattle.far_word.specs.Bytes.{byte_at, packed_word, overwritten}
+use Rattle.far_word.specs.Bytes.{byte_at, packed_word, with_word}
+use Rattle.far_word.proofs.ByteLaws.{with_word-get, length-with_word}
 
 place : (k x : ℕ) → Rattle.std.specs.Int.byte_at k x ≡ x / 256 ^ k % 256
 place zero x = ap (λ (y : ℕ). y % 256) (sym (div-one x))
@@ -48,34 +49,25 @@ module _ (bs ys : List ℕ) (i w : ℕ) (within : 8 * i < length bs) (long : len
         ]
       ]
 
-  pub write_word : take (8 * i) bs ++ ys ≡ overwritten bs i w
-  unfolding overwritten
+  pub write_word : take (8 * i) bs ++ ys ≡ with_word bs i w
+  unfolding with_word
   write_word = fill_by_all (λ k. cond (nat_eq (k / 8) i) (w / 2 ^ (8 * (k % 8)) % 256) (get_or bs k 0)) (take (8 * i) bs ++ ys) (length bs) 0
       (omega (arith, length-append (take (8 * i) bs) ys, length-take-le (8 * i) bs (omega arith))) over_byte
 
--- one byte after such a write
-pub overwritten-get : (bs : List ℕ) (i w k : ℕ) → k < length bs → get_or (overwritten bs i w) k 0 ≡ cond (nat_eq (k / 8) i) (w / 2 ^ (8 * (k % 8)) % 256) (get_or bs k 0)
-unfolding overwritten
-overwritten-get bs i w k lt = get_or-map-range_with_len (λ k. cond (nat_eq (k / 8) i) (w / 2 ^ (8 * (k % 8)) % 256) (get_or bs k 0)) 0 (length bs) k k 0 lt (omega arith)
-
-pub length-overwritten : (bs : List ℕ) (i w : ℕ) → length (overwritten bs i w) ≡ length bs
-unfolding overwritten
-length-overwritten bs i w = length-map-range_with_len (λ k. cond (nat_eq (k / 8) i) (w / 2 ^ (8 * (k % 8)) % 256) (get_or bs k 0)) 0 (length bs)
-
 -- one more word unpacked
 unpack_more : (f : ℕ → ℕ) (bs : List ℕ) (i k : ℕ) → ((q : ℕ) → q < 8 * i → q < length bs → get_or bs q 0 ≡ byte_at f q) → k < 8 * (i + 1) → k < length bs →
-    get_or (overwritten bs i (f i)) k 0 ≡ byte_at f k
-unpack_more f bs i k before more lt = overwritten-get bs i (f i) k lt ∙ elim (cases_lt k (8 * i)) [
+    get_or (with_word bs i (f i)) k 0 ≡ byte_at f k
+unpack_more f bs i k before more lt = with_word-get bs i (f i) k lt ∙ elim (cases_lt k (8 * i)) [
   | inl below ↦ (let other : k / 8 ≢ i = (λ e. absurd (omega arith)) in
       ap (λ b. cond b (f i / 2 ^ (8 * (k % 8)) % 256) (get_or bs k 0)) (ne_eqb (k / 8) i other) ∙ before k below lt)
   | inr above ↦ (let same : k / 8 ≡ i = omega arith in
       ap (λ b. cond b (f i / 2 ^ (8 * (k % 8)) % 256) (get_or bs k 0)) (eq-eqb (k / 8) i same) ∙ ap (λ q. f q / 2 ^ (8 * (k % 8)) % 256) (sym same))
 ]
 
-pub unpack_step : (f : ℕ → ℕ) (bs new : List ℕ) (i : ℕ) → new ≡ overwritten bs i (f i) → ((q : ℕ) → q < 8 * i → q < length bs → get_or bs q 0 ≡ byte_at f q) →
+pub unpack_step : (f : ℕ → ℕ) (bs new : List ℕ) (i : ℕ) → new ≡ with_word bs i (f i) → ((q : ℕ) → q < 8 * i → q < length bs → get_or bs q 0 ≡ byte_at f q) →
     (k : ℕ) → k < 8 * (i + 1) → k < length new → get_or new k 0 ≡ byte_at f k
 unpack_step f bs new i e before k more lt =
-    ap (λ xs. get_or xs k 0) e ∙ unpack_more f bs i k before more (omega (arith, ap length e, length-overwritten bs i (f i)))
+    ap (λ xs. get_or xs k 0) e ∙ unpack_more f bs i k before more (omega (arith, ap length e, length-with_word bs i (f i)))
 
 -- ---- the end of a list, as code slices it
 length-rest : (bs : List ℕ) (a : ℕ) → length (take (length bs - a) (drop a bs)) ≡ length bs - a
@@ -92,9 +84,9 @@ low_first w k more lt =
     let e : 0 + k ≡ k = omega arith in
     get_or_append_left (bytes_low_first 0 8 w) more 0 k (omega (arith, length-bytes_low_first 0 8 w)) ∙ low_byte 0 8 w k lt ∙ ap (λ q. w / 2 ^ (8 * q) % 256) e
 
--- a whole word written at the end, what lies behind it left as it was
+-- a whole word written at the end, what lies after it left as it was
 pub write_whole : (bs buf : List ℕ) (i w : ℕ) → 8 * i < length bs → 8 ≤ length (take (length bs - 8 * i) (drop (8 * i) bs)) →
-    buf ≡ bytes_low_first 0 8 w ++ drop 8 (take (length bs - 8 * i) (drop (8 * i) bs)) → put_mid (8 * i) (length bs - 8 * i) bs buf ≡ overwritten bs i w
+    buf ≡ bytes_low_first 0 8 w ++ drop 8 (take (length bs - 8 * i) (drop (8 * i) bs)) → put_mid (8 * i) (length bs - 8 * i) bs buf ≡ with_word bs i w
 write_whole bs buf i w within room e =
     let left : List ℕ = take (length bs - 8 * i) (drop (8 * i) bs) in
     let long : length left ≡ length bs - 8 * i = length-rest bs (8 * i) in
@@ -108,7 +100,7 @@ write_whole bs buf i w within room e =
 
 -- the first bytes of a word written at the end
 pub write_part : (bs buf ys : List ℕ) (i w n : ℕ) → 8 * i < length bs → n < 8 → n ≡ length (take (length bs - 8 * i) (drop (8 * i) bs)) →
-    buf ≡ bytes_low_first 0 8 w ++ [] → ys ≡ take n buf → put_mid (8 * i) (length bs - 8 * i) bs ys ≡ overwritten bs i w
+    buf ≡ bytes_low_first 0 8 w ++ [] → ys ≡ take n buf → put_mid (8 * i) (length bs - 8 * i) bs ys ≡ with_word bs i w
 write_part bs buf ys i w n within short len e f =
     let long : n ≡ length bs - 8 * i = len ∙ length-rest bs (8 * i) in
     let eight : length buf ≡ 8 = ap length e ∙ length-bytes_low_first 0 8 w in
@@ -118,8 +110,8 @@ write_part bs buf ys i w n within short len e f =
     (λ k le lt. absurd (omega arith))
 
 -- ---- a buffer of zeros that begins with the end of a list
-zeros_behind : (new : List ℕ) (n k : ℕ) → length new ≡ n → n ≤ k → k < 8 → get_or (new ++ drop n (replicate 8 0)) k 0 ≡ 0
-zeros_behind new n k long le lt =
+zeros_after : (new : List ℕ) (n k : ℕ) → length new ≡ n → n ≤ k → k < 8 → get_or (new ++ drop n (replicate 8 0)) k 0 ≡ 0
+zeros_after new n k long le lt =
     let at : n + (k - n) ≡ k = omega arith in
     get_or-append_right new (drop n (replicate 8 0)) n k 0 long le ∙ get_or-drop n (replicate 8 0) (k - n) 0 ∙ ap (λ q. get_or (replicate 8 0) q 0) at ∙ get_or-replicate 8 k 0 0 lt
 
@@ -131,5 +123,5 @@ read_part bs new i n r short len e read =
     let left : n ≡ length bs - 8 * i = len ∙ length-rest bs (8 * i) in
     read ∙ read_word bs (new ++ drop n (replicate 8 0)) i (λ k lt. elim (cases_lt k n) [
       | inl below ↦ (get_or_append_left new (drop n (replicate 8 0)) 0 k (omega arith) ∙ ap (λ xs. get_or xs k 0) e ∙ rest-get bs (8 * i) k (omega arith))
-      | inr above ↦ (zeros_behind new n k long above lt ∙ sym (get_or_past bs (8 * i + k) 0 (omega arith)))
+      | inr above ↦ (zeros_after new n k long above lt ∙ sym (get_or_past bs (8 * i + k) 0 (omega arith)))
     ])

@@ -1,4 +1,4 @@
--- Bytes in words: eight to a word, little end first, and zeros behind the last byte.
+-- Bytes in words: eight to a word, little end first, and zeros after the last byte.
 use Rattle.std.specs.Prelude.{ℕ, ◌+◌, ◌*◌, ◌/◌, ◌%◌, ◌^◌, ◌==◌, cond, List, map, length, slice_index}
 use Rattle.std.specs.List.{range_with_len}
 use Rattle.far_word.specs.Sizes.{words_for}
@@ -25,5 +25,5 @@ unfoldable pub words_of : List ℕ → List ℕ
 words_of bytes = map (packed_word bytes) (range_with_len 0 (words_for (length bytes)))
 
 -- the bytes with the eight of word i written over, as many as there are
-unfoldable pub overwritten : List ℕ → ℕ → ℕ → List ℕ
-overwritten bytes i w = map (λ k. cond (k / 8 == i) (w / 2 ^ (8 * (k % 8)) % 256) (slice_index bytes k)) (range_with_len 0 (length bytes))
+unfoldable pub with_word : List ℕ → ℕ → ℕ → List ℕ
+with_word bytes i w = map (λ k. cond (k / 8 == i) (w / 2 ^ (8 * (k % 8)) % 256) (slice_index bytes k)) (range_with_len 0 (length bytes))

@@ -4,5 +4,6 @@ pub mod Laws
 pub mod Mark
 pub mod Pointer
 pub mod Refused
+pub mod Rows
 pub mod Scope
 pub mod Sizes

@@ -28,12 +28,12 @@ abbrev pub marks_number : Marks → ℕ
 marks_number m = bit_of m.dropped + bit_of m.moved * 2 + bit_of m.evac * 4 + bit_of m.hot * 8
 
 -- the marks of a word
-abbrev pub marks_at : ℕ → Marks
-marks_at word = record { hot = is_set word 62; evac = is_set word 61; moved = is_set word 60; dropped = is_set word 59 }
+abbrev pub marks_of : ℕ → Marks
+marks_of word = record { hot = is_set word 62; evac = is_set word 61; moved = is_set word 60; dropped = is_set word 59 }
 
 -- marks with one more set
-abbrev pub with : Mark → Marks → Marks
-with Hot m = record { hot = true; evac = m.evac; moved = m.moved; dropped = m.dropped }
-with Evac m = record { hot = m.hot; evac = true; moved = m.moved; dropped = m.dropped }
-with Moved m = record { hot = m.hot; evac = m.evac; moved = true; dropped = m.dropped }
-with Dropped m = record { hot = m.hot; evac = m.evac; moved = m.moved; dropped = true }
+abbrev pub marks_with : Mark → Marks → Marks
+marks_with Hot m = record { hot = true; evac = m.evac; moved = m.moved; dropped = m.dropped }
+marks_with Evac m = record { hot = m.hot; evac = true; moved = m.moved; dropped = m.dropped }
+marks_with Moved m = record { hot = m.hot; evac = m.evac; moved = true; dropped = m.dropped }
+marks_with Dropped m = record { hot = m.hot; evac = m.evac; moved = m.moved; dropped = true }

@@ -6,7 +6,7 @@ use Rattle.far_word.specs.declared.pointer.Place.{Place}
 use Rattle.far_word.specs.declared.pointer.PtrWord.{PtrWord}
 use Rattle.far_word.specs.declared.pointer.PtrWord.TheVariants.{Free, Near, Far}
 use Rattle.far_word.specs.declared.sizes.TheConstants.{LONGEST, LOG_WORDS, MOST_LOGS}
-use Rattle.far_word.specs.Mark.{field, is_set, marks_number, marks_at, with}
+use Rattle.far_word.specs.Mark.{field, is_set, marks_number, marks_of, marks_with}
 use Rattle.far_word.specs.Sizes.{size_of}
 
 -- a pointer that lies on the layout
@@ -22,51 +22,51 @@ word_of (Near len ds place marks) = len + ds * 2 ^ 16 + place.at * 2 ^ 24 + plac
 word_of (Far len ds marks) = len + ds * 2 ^ 16 + 2 ^ 58 + marks_number marks * 2 ^ 59
 
 -- the tests by which a word is read, in their order
-abbrev pub is_used : ℕ → Bool
-is_used w = is_set w 58 && (field w 42 16 == 0) && nat_lt 0 (field w 0 16) && nat_le (field w 0 16) LONGEST
+abbrev pub names_object : ℕ → Bool
+names_object w = is_set w 58 && (field w 42 16 == 0) && nat_lt 0 (field w 0 16) && nat_le (field w 0 16) LONGEST
 
 abbrev pub near_fits : ℕ → Bool
 near_fits w = nat_lt (field w 34 8) MOST_LOGS && nat_le (field w 24 10 + size_of (field w 0 16)) LOG_WORDS
 
-abbrev pub near_at : ℕ → Option PtrWord
-near_at w = if near_fits w then Some (Near (field w 0 16) (field w 16 8) record { log = field w 34 8; at = field w 24 10 } (marks_at w)) else None
+abbrev pub near_of : ℕ → Option PtrWord
+near_of w = if near_fits w then Some (Near (field w 0 16) (field w 16 8) record { log = field w 34 8; at = field w 24 10 } (marks_of w)) else None
 
 abbrev pub far_fits : ℕ → Bool
 far_fits w = (field w 34 8 == 0) && (field w 24 10 == 0) && not (is_set w 61)
 
-abbrev pub far_at : ℕ → Option PtrWord
-far_at w = if far_fits w then Some (Far (field w 0 16) (field w 16 8) (marks_at w)) else None
+abbrev pub far_of : ℕ → Option PtrWord
+far_of w = if far_fits w then Some (Far (field w 0 16) (field w 16 8) (marks_of w)) else None
 
 -- what a word says; None off the layout
 unfoldable pub read_of : ℕ → Option PtrWord
-read_of w = if w == 0 then Some Free else (if is_used w then (if is_set w 63 then near_at w else far_at w) else None)
+read_of w = if w == 0 then Some Free else (if names_object w then (if is_set w 63 then near_of w else far_of w) else None)
 
 -- whether a pointer may take a mark: a free cell takes none, a far one no EVAC
-abbrev pub takes : Mark → PtrWord → Bool
-takes k Free = false
-takes k (Near len ds place marks) = true
-takes Evac (Far len ds marks) = false
-takes Hot (Far len ds marks) = true
-takes Moved (Far len ds marks) = true
-takes Dropped (Far len ds marks) = true
+abbrev pub takes_mark : Mark → PtrWord → Bool
+takes_mark k Free = false
+takes_mark k (Near len ds place marks) = true
+takes_mark Evac (Far len ds marks) = false
+takes_mark Hot (Far len ds marks) = true
+takes_mark Moved (Far len ds marks) = true
+takes_mark Dropped (Far len ds marks) = true
 
 -- the pointer with one mark set, all else as it was
-abbrev pub marked : Mark → PtrWord → PtrWord
-marked k Free = Free
-marked k (Near len ds place marks) = Near len ds place (with k marks)
-marked k (Far len ds marks) = Far len ds (with k marks)
+abbrev pub with_mark : Mark → PtrWord → PtrWord
+with_mark k Free = Free
+with_mark k (Near len ds place marks) = Near len ds place (marks_with k marks)
+with_mark k (Far len ds marks) = Far len ds (marks_with k marks)
 
 -- the pointer without EVAC, all else as it was
-abbrev pub calmed : PtrWord → PtrWord
-calmed Free = Free
-calmed (Near len ds place marks) = Near len ds place record { hot = marks.hot; evac = false; moved = marks.moved; dropped = marks.dropped }
-calmed (Far len ds marks) = Far len ds marks
+abbrev pub without_evac : PtrWord → PtrWord
+without_evac Free = Free
+without_evac (Near len ds place marks) = Near len ds place record { hot = marks.hot; evac = false; moved = marks.moved; dropped = marks.dropped }
+without_evac (Far len ds marks) = Far len ds marks
 
 -- the pointer without the marks that an owner may add at any moment: HOT, MOVE and DROP
-abbrev pub settled : PtrWord → PtrWord
-settled Free = Free
-settled (Near len ds place marks) = Near len ds place record { hot = false; evac = marks.evac; moved = false; dropped = false }
-settled (Far len ds marks) = Far len ds record { hot = false; evac = marks.evac; moved = false; dropped = false }
+abbrev pub without_owner_marks : PtrWord → PtrWord
+without_owner_marks Free = Free
+without_owner_marks (Near len ds place marks) = Near len ds place record { hot = false; evac = marks.evac; moved = false; dropped = false }
+without_owner_marks (Far len ds marks) = Far len ds record { hot = false; evac = marks.evac; moved = false; dropped = false }
 
 -- where a new view may rest: the place of a near pointer with none of EVAC, MOVE and DROP
 abbrev pub view_place : PtrWord → Option Place

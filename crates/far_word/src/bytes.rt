@@ -1,12 +1,13 @@
-//! Bytes in words: eight to a word, little end first, zeros behind the last byte.
+//! Bytes in words: eight to a word, little end first, zeros after the last byte.
 
 ghost use Rattle.std.specs.Prelude.{◌≡◌, ◌*◌, ◌<◌, length, slice_index};
 ghost use Rattle.far_word.specs.Sizes.{words_for};
-ghost use Rattle.far_word.specs.Bytes.{bytes_of, words_of, packed_word, overwritten};
+ghost use Rattle.far_word.specs.Bytes.{bytes_of, words_of, packed_word, with_word};
 
 use byteorder::{ByteOrder, LittleEndian};
 
-/// Packs bytes, as many as there are, into the words that hold them. The last word's spare bytes are zero.
+/// Packs bytes into the words that hold them, eight to a word, the first byte lowest. The spare bytes of the last word
+/// are zero. No bytes take no words.
 pub fn pack_bytes(bytes: &[u8], words: &mut [u64])
     requires { length words.old ≡ words_for (length bytes.now) }
     ensures { words.new ≡ words_of bytes.now }
@@ -16,7 +17,7 @@ pub fn pack_bytes(bytes: &[u8], words: &mut [u64])
     }
 }
 
-/// Unpacks as many bytes as there is room for, from the words that hold them.
+/// Unpacks as many bytes as there is room for, from the words that hold them: what [`pack_bytes`] packed.
 pub fn unpack_bytes(words: &[u64], bytes: &mut [u8])
     requires { length words.now ≡ words_for (length bytes.old) }
     ensures { bytes.new ≡ bytes_of (λ i. slice_index words.now i) (length bytes.old) }
@@ -43,7 +44,7 @@ fn packed_word(bytes: &[u8], i: usize) -> u64
 // Writes the bytes of a word over those from 8i on, as many as are left.
 fn overwrite(bytes: &mut [u8], i: usize, word: u64)
     requires { 8 * i < length bytes.old }
-    ensures { bytes.new ≡ overwritten bytes.old i word }
+    ensures { bytes.new ≡ with_word bytes.old i word }
 {
     let rest = &mut bytes[8 * i..];
     if rest.len() >= 8 {

@@ -43,11 +43,11 @@ impl HeadWord {
         ensures found { IfSome result (λ h. IsHead h × (head_word h.pointer h.len h.ds ≡ word)) }
         ensures only { (h : HeadWord) → IsHead h → head_word h.pointer h.len h.ds ≡ word → result ≡ Some h }
     {
-        HeadWord::fields(word)
+        HeadWord::decode(word)
     }
 
     #[tactic(auto, unfolding(crate::specs::Header::head_of))]
-    fn fields(word: u64) -> Option<HeadWord>
+    fn decode(word: u64) -> Option<HeadWord>
         ensures { result ≡ head_of word }
     {
         let len = field(word, 0, 16);

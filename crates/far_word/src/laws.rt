@@ -1,61 +1,92 @@
-//! What holds of every word, as contracts of functions that do nothing.
+//! What holds of every word, and what the numbers are, as contracts of functions that do nothing.
 
-ghost use Rattle.far_word.specs.Laws.{MarkIsSet, MarkIsRead, MarkIsRefused, EvacIsCleared, PointerBack, PointerFound, HeaderBack, HeaderFound, ScopeBack, ScopeFound, SizesFit, BytesBack, WordsBack, WrittenIsRead};
+ghost use Rattle.std.specs.Prelude.{◌≡◌, ◌*◌};
+ghost use Rattle.far_word.specs.declared.sizes.TheConstants.{LOG_WORDS, LONGEST, MOST_LOGS, MOST_MUTATORS, CELLS, POINTERS};
+ghost use Rattle.far_word.specs.Laws.{MarkIsSet, MarkIsRead, MarkIsRefused, EvacIsCleared, OwnerMarksAreCleared, ViewsRest, PointerBack, PointerFound, HeaderBack, HeaderFound, ScopeBack, ScopeFound, WordsHoldBytes, HeaderIsAdded, ObjectsFit, BytesBack, WordsBack, WrittenIsRead, RefusalsAreNumbered};
+ghost use Rattle.far_word.specs.Rows.{NearWords, MarkedWords, FarWords, FreeWord, PointersRefused, MarkBits, HeaderWords, HeadersRefused, ScopeWords, ScopesRefused, NineBytes};
+ghost use Rattle.far_word.specs.Sizes.{size_of};
 
-/// Or-ing a mark's bit into the word of a pointer that takes the mark gives the word of the pointer with that mark.
-pub fn mark_set()
-    ensures { MarkIsSet }
-{}
-
-/// A word that reads as a pointer reads, with a mark's bit or-ed in, as the pointer with that mark.
-pub fn mark_read()
-    ensures { MarkIsRead }
-{}
-
-/// A mark that a pointer doesn't take would put its word off the layout.
-pub fn mark_refused()
-    ensures { MarkIsRefused }
-{}
-
-/// And-ing EVAC's bit out of the word of a near pointer gives the word of the pointer without EVAC.
-pub fn evac_cleared()
-    ensures { EvacIsCleared }
-{}
-
-/// The word of a pointer reads as that pointer, and what a word reads as has that word.
-pub fn pointer_round_trip()
+/// The word of a pointer on the layout reads as that pointer, and what a word reads as has that word.
+pub fn pointer_words()
     ensures back { PointerBack }
     ensures found { PointerFound }
 {}
 
-/// The word of a header reads as that header, and what a word reads as has that word.
-pub fn head_round_trip()
+/// Marks are set and cleared by one mask each, which changes nothing else:
+///
+/// - or-ing a mark's bit into the word of a pointer that takes the mark gives the word of the pointer with that mark,
+///   said of the pointer and of what the word reads as; a mark that it doesn't take would put the word off the layout;
+/// - and-ing EVAC's bit out, or those of HOT, MOVE and DROP, gives the word of the pointer without them;
+/// - a new view may rest on a near object that has no mark but HOT, and nowhere else.
+pub fn pointer_marks()
+    ensures set { MarkIsSet }
+    ensures read { MarkIsRead }
+    ensures refused { MarkIsRefused }
+    ensures evac_cleared { EvacIsCleared }
+    ensures owner_marks_cleared { OwnerMarksAreCleared }
+    ensures views { ViewsRest }
+{}
+
+/// The word of a header on the layout reads as that header, and what a word reads as has that word.
+pub fn header_words()
     ensures back { HeaderBack }
     ensures found { HeaderFound }
 {}
 
-/// The word of a scope reads as that scope, and what a word reads as has that word.
-pub fn scope_round_trip()
+/// The word of a scope on the layout reads as that scope, and what a word reads as has that word.
+pub fn scope_words()
     ensures back { ScopeBack }
     ensures found { ScopeFound }
 {}
 
-/// An object takes two words at least, and fits a log.
-pub fn sizes_fit()
-    ensures { SizesFit }
+/// Bytes that were packed are unpacked as they were, and words as well, where the bits after the last byte are zero;
+/// bytes that were written over are read as they were written, and all others as they were.
+pub fn packed_bytes()
+    ensures bytes_back { BytesBack }
+    ensures words_back { WordsBack }
+    ensures written { WrittenIsRead }
 {}
 
-/// Bytes that were packed are unpacked as they were.
-pub fn bytes_back()
-    ensures { BytesBack }
+/// The sizes of a heap in numerals, what ties them, and what an object takes: as few words as hold its data bytes, and
+/// one for its header.
+pub fn sizes_are()
+    ensures log_words { LOG_WORDS ≡ 128 }
+    ensures longest { LONGEST ≡ 1016 }
+    ensures most_logs { MOST_LOGS ≡ 64 }
+    ensures most_mutators { MOST_MUTATORS ≡ 8 }
+    ensures cells { CELLS ≡ 128 }
+    ensures pointers { POINTERS ≡ 1024 }
+
+    ensures cells_of_all { POINTERS ≡ CELLS * MOST_MUTATORS }
+    ensures longest_fills_log { size_of LONGEST ≡ LOG_WORDS }
+    ensures log_bytes { 8 * LOG_WORDS ≡ 1024 }
+
+    ensures words_hold_bytes { WordsHoldBytes }
+    ensures header_is_added { HeaderIsAdded }
+    ensures objects_fit { ObjectsFit }
 {}
 
-/// Words that were unpacked are packed as they were, where the bits behind the last byte are zero.
-pub fn words_back()
-    ensures { WordsBack }
+/// Worked words in hexadecimal, each packed from what it says and read as that, and words off the layout. Beside the
+/// laws of words they fix where each field stands.
+#[tactic(auto, unfolding(crate::specs::Pointer::read_of, crate::specs::Header::head_of, crate::specs::Scope::scope_of, crate::specs::Bytes::words_of, crate::specs::Bytes::bytes_of))]
+pub fn words_are()
+    ensures near { NearWords }
+    ensures marked { MarkedWords }
+    ensures far { FarWords }
+    ensures free { FreeWord }
+    ensures no_pointer { PointersRefused }
+    ensures mark_bits { MarkBits }
+
+    ensures header { HeaderWords }
+    ensures no_header { HeadersRefused }
+
+    ensures scope { ScopeWords }
+    ensures no_scope { ScopesRefused }
+
+    ensures bytes { NineBytes }
 {}
 
-/// Bytes that were written over are read as they were written, and all others as they were.
-pub fn written_is_read()
-    ensures { WrittenIsRead }
+/// The refusals in the order of their declaration have the numbers 1 to 18.
+pub fn refusal_numbers()
+    ensures { RefusalsAreNumbered }
 {}

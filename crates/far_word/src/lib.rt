@@ -18,8 +18,8 @@ mod tests;
 pub use bytes::{pack_bytes, unpack_bytes};
 pub use header::HeadWord;
 pub use laws::{
-    bytes_back, evac_cleared, head_round_trip, mark_read, mark_refused, mark_set,
-    pointer_round_trip, scope_round_trip, sizes_fit, words_back, written_is_read,
+    header_words, packed_bytes, pointer_marks, pointer_words, refusal_numbers, scope_words,
+    sizes_are, words_are,
 };
 pub use mark::{Mark, Marks};
 pub use pointer::{Place, PtrWord, rests_view, without_owner_marks};

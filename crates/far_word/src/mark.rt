@@ -1,7 +1,7 @@
 //! The marks of a pointer word.
 
 ghost use Rattle.std.specs.Prelude.{◌≡◌, ◌*◌, ◌^◌};
-ghost use Rattle.far_word.specs.Mark.{position, marks_at, marks_number};
+ghost use Rattle.far_word.specs.Mark.{position, marks_of, marks_number};
 
 use crate::field::is_set;
 
@@ -52,7 +52,7 @@ pub struct Marks {
 impl Marks {
     /// The marks of a word.
     pub(crate) fn read(word: u64) -> Marks
-        ensures { result ≡ marks_at word }
+        ensures { result ≡ marks_of word }
     {
         Marks {
             hot: is_set(word, HOT),

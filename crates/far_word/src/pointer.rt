@@ -2,7 +2,7 @@
 
 ghost use Rattle.std.specs.Prelude.{◌≡◌, IfSome, is_some};
 ghost use Rattle.far_word.specs.declared.pointer.PtrWord.{PtrWord};
-ghost use Rattle.far_word.specs.Pointer.{IsPtr, word_of, read_of, view_place, settled};
+ghost use Rattle.far_word.specs.Pointer.{IsPtr, word_of, read_of, view_place, without_owner_marks};
 
 use crate::field::{field, is_set};
 use crate::mark::Marks;
@@ -25,8 +25,8 @@ const PRESENT_MASK: u64 = 0x8000_0000_0000_0000;
 
 const VIEW_MASK: u64 = 0xb800_0000_0000_0000;
 
-// all bits but those of HOT, MOVE and DROP
-const SETTLED_MASK: u64 = 0xa7ff_ffff_ffff_ffff;
+// all bits but those of HOT, MOVE and DROP, the marks that an owner may add
+const ALL_BUT_OWNER_MARKS: u64 = 0xa7ff_ffff_ffff_ffff;
 
 /// A log, and the word in it where an object's header stands.
 #[derive(Clone, Copy, Debug, PartialEq, Eq)]
@@ -87,11 +87,11 @@ impl PtrWord {
         ensures found { IfSome result (λ v. IsPtr v × (word_of v ≡ word)) }
         ensures only { (v : PtrWord) → IsPtr v → word_of v ≡ word → result ≡ Some v }
     {
-        PtrWord::fields(word)
+        PtrWord::decode(word)
     }
 
     #[tactic(auto, unfolding(crate::specs::Pointer::read_of))]
-    fn fields(word: u64) -> Option<PtrWord>
+    fn decode(word: u64) -> Option<PtrWord>
         ensures { result ≡ read_of word }
     {
         if word == 0 {
@@ -146,7 +146,7 @@ pub fn rests_view(word: u64) -> bool
 
 /// A pointer's word without the marks that its owner may add at any moment: HOT, MOVE and DROP.
 pub fn without_owner_marks(word: u64) -> u64
-    ensures { (v : PtrWord) → IsPtr v → word_of v ≡ word → result ≡ word_of (settled v) }
+    ensures { (v : PtrWord) → IsPtr v → word_of v ≡ word → result ≡ word_of (without_owner_marks v) }
 {
-    word & SETTLED_MASK
+    word & ALL_BUT_OWNER_MARKS
 }

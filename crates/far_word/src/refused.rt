@@ -8,7 +8,7 @@ use thiserror::Error;
 /// Why a call was refused. Each refusal has its number, and its cause alone.
 #[derive(Clone, Copy, Debug, PartialEq, Eq, Error)]
 pub enum Refused {
-    #[error("a growth was refused")]
+    #[error("out of memory")]
     Memory,
     #[error("no log has room")]
     NoRoom,
@@ -32,7 +32,7 @@ pub enum Refused {
     Damaged,
     #[error("the call does not belong to the phase")]
     Phase,
-    #[error("the epochs are spent")]
+    #[error("no epoch is left")]
     EpochsSpent,
     #[error("the pointer word is {0:016x}")]
     Marked(u64),
@@ -42,7 +42,7 @@ pub enum Refused {
     Syntax(u64),
     #[error("log {0} may not be chosen")]
     BadChoice(u8),
-    #[error("mutator {0} is open since epoch {1}")]
+    #[error("mutator {0} has been open since epoch {1}")]
     StillOpen(u8, u64),
 }
 

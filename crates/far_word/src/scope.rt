@@ -34,11 +34,11 @@ impl ScopeWord {
         ensures found { IfSome result (λ s. IsScope s × (scope_word s ≡ word)) }
         ensures only { (s : ScopeWord) → IsScope s → scope_word s ≡ word → result ≡ Some s }
     {
-        ScopeWord::decoded(word)
+        ScopeWord::decode(word)
     }
 
     #[tactic(auto, unfolding(crate::specs::Scope::scope_of))]
-    fn decoded(word: u64) -> Option<ScopeWord>
+    fn decode(word: u64) -> Option<ScopeWord>
         ensures { result ≡ scope_of word }
     {
         if word == 0 {

@@ -1,5 +1,5 @@
 use Rattle.far_word.proofs.ScopeLaws.{scope_back, scope_fits, scope_found}
-use Rattle.far_word.proofs.laws.scope_round_trip.Goals as goal
+use Rattle.far_word.proofs.laws.scope_words.Goals as goal
 
 pub returns-clause-back : goal.returns-clause-back
 returns-clause-back c = λ s ok. (scope_back s ok, scope_fits s ok)

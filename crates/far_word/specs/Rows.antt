@@ -1,0 +1,110 @@
+-- Worked words of each layout, in hexadecimal: what each says, and which are refused.
+use Rattle.std.specs.Prelude.{◌≡◌, ℕ, ◌-◌, ◌^◌, true, false, Some, None, List, [], ◌∷◌, slice_index}
+use Rattle.far_word.specs.Bytes.{bytes_of, words_of}
+use Rattle.far_word.specs.Header.{head_word, head_of}
+use Rattle.far_word.specs.Mark.{position}
+use Rattle.far_word.specs.Pointer.{word_of, read_of}
+use Rattle.far_word.specs.Scope.{scope_word, scope_of}
+use Rattle.far_word.specs.declared.header.HeadWord.{HeadWord}
+use Rattle.far_word.specs.declared.mark.Mark.TheVariants.{Hot, Evac, Moved, Dropped}
+use Rattle.far_word.specs.declared.mark.Marks.{Marks}
+use Rattle.far_word.specs.declared.pointer.PtrWord.{PtrWord}
+use Rattle.far_word.specs.declared.pointer.PtrWord.TheVariants.{Free, Near, Far}
+use Rattle.far_word.specs.declared.scope.ScopeWord.{ScopeWord}
+use Rattle.far_word.specs.declared.scope.ScopeWord.TheVariants.{Closed, Open}
+
+-- a word is packed from what it says, and is read as that
+abbrev pub IsPointerWord : ℕ → PtrWord → Type 0
+IsPointerWord w v = (word_of v ≡ w) × (read_of w ≡ Some v)
+
+abbrev pub IsHeaderWord : ℕ → HeadWord → Type 0
+IsHeaderWord w h = (head_word h.pointer h.len h.ds ≡ w) × (head_of w ≡ Some h)
+
+abbrev pub IsScopeWord : ℕ → ScopeWord → Type 0
+IsScopeWord w s = (scope_word s ≡ w) × (scope_of w ≡ Some s)
+
+-- ---- pointer words
+abbrev pub no_marks : Marks
+no_marks = record { hot = false; evac = false; moved = false; dropped = false }
+
+-- a near object of 8 bytes and data structure 1, at word `at` of a log
+abbrev pub near_eight : ℕ → ℕ → Marks → PtrWord
+near_eight log at marks = Near 8 1 record { log = log; at = at } marks
+
+-- each field by itself, and as small and as large as it may be
+abbrev pub NearWords : Type 0
+NearWords = IsPointerWord 0x8400_0000_0001_0008 (near_eight 0 0 no_marks)
+    × IsPointerWord 0x8400_0000_0201_0008 (near_eight 0 2 no_marks)
+    × IsPointerWord 0x8400_0000_7e01_0008 (near_eight 0 126 no_marks)
+    × IsPointerWord 0x8400_0004_0001_0008 (near_eight 1 0 no_marks)
+    × IsPointerWord 0x8400_00fc_0001_0008 (near_eight 63 0 no_marks)
+    × IsPointerWord 0x8400_0000_0000_0001 (Near 1 0 record { log = 0; at = 0 } no_marks)
+    × IsPointerWord 0x8400_0000_00ff_03f8 (Near 1016 255 record { log = 0; at = 0 } no_marks)
+
+abbrev pub MarkedWords : Type 0
+MarkedWords = IsPointerWord 0xc400_0000_0001_0008 (near_eight 0 0 record { hot = true; evac = false; moved = false; dropped = false })
+    × IsPointerWord 0xa400_0000_0001_0008 (near_eight 0 0 record { hot = false; evac = true; moved = false; dropped = false })
+    × IsPointerWord 0x9400_0000_0001_0008 (near_eight 0 0 record { hot = false; evac = false; moved = true; dropped = false })
+    × IsPointerWord 0x8c00_0000_0001_0008 (near_eight 0 0 record { hot = false; evac = false; moved = false; dropped = true })
+    × IsPointerWord 0xe400_0000_0001_0008 (near_eight 0 0 record { hot = true; evac = true; moved = false; dropped = false })
+
+abbrev pub FarWords : Type 0
+FarWords = IsPointerWord 0x0400_0000_0001_0008 (Far 8 1 no_marks)
+    × IsPointerWord 0x5c00_0000_00ff_03f8 (Far 1016 255 record { hot = true; evac = false; moved = true; dropped = true })
+
+abbrev pub FreeWord : Type 0
+FreeWord = IsPointerWord 0 Free
+
+-- no USED; lengths 0 and 1,017; a span past the log's end; far at an offset, in a log, with EVAC; log 64; the lowest and the highest of the bits that are zero
+abbrev pub PointersRefused : Type 0
+PointersRefused = (read_of 0x0000_0000_0001_0008 ≡ None)
+    × (read_of 0x8400_0000_0001_0000 ≡ None)
+    × (read_of 0x8400_0000_0001_03f9 ≡ None)
+    × (read_of 0x8400_0000_7f01_0008 ≡ None)
+    × (read_of 0x0400_0000_0101_0008 ≡ None)
+    × (read_of 0x0400_0004_0001_0008 ≡ None)
+    × (read_of 0x2400_0000_0001_0008 ≡ None)
+    × (read_of 0x8400_0100_0001_0008 ≡ None)
+    × (read_of 0x8400_0400_0001_0008 ≡ None)
+    × (read_of 0x8600_0000_0001_0008 ≡ None)
+
+abbrev pub MarkBits : Type 0
+MarkBits = (2 ^ position Hot ≡ 0x4000_0000_0000_0000)
+    × (2 ^ position Evac ≡ 0x2000_0000_0000_0000)
+    × (2 ^ position Moved ≡ 0x1000_0000_0000_0000)
+    × (2 ^ position Dropped ≡ 0x0800_0000_0000_0000)
+
+-- ---- header words
+abbrev pub HeaderWords : Type 0
+HeaderWords = IsHeaderWord 0xa100_0000_0001_0008 record { pointer = 0; len = 8; ds = 1 }
+    × IsHeaderWord 0xa100_0000_0101_0008 record { pointer = 1; len = 8; ds = 1 }
+    × IsHeaderWord 0xa100_0003_ffff_03f8 record { pointer = 1023; len = 1016; ds = 255 }
+
+-- a pointer's word; other top bytes; lengths 0 and 1,017; pointer 1,024
+abbrev pub HeadersRefused : Type 0
+HeadersRefused = (head_of 0x8400_0000_0001_0008 ≡ None)
+    × (head_of 0xa000_0000_0001_0008 ≡ None)
+    × (head_of 0xa200_0000_0001_0008 ≡ None)
+    × (head_of 0xa100_0000_0001_0000 ≡ None)
+    × (head_of 0xa100_0000_0001_03f9 ≡ None)
+    × (head_of 0xa100_0004_0001_0008 ≡ None)
+
+-- ---- scope words
+abbrev pub ScopeWords : Type 0
+ScopeWords = IsScopeWord 0 Closed
+    × IsScopeWord 1 (Open 0)
+    × IsScopeWord 0x7fff_ffff_ffff_ffff (Open (2 ^ 62 - 1))
+
+-- an even word; an epoch of 2^62
+abbrev pub ScopesRefused : Type 0
+ScopesRefused = (scope_of 2 ≡ None) × (scope_of 0x8000_0000_0000_0001 ≡ None)
+
+-- ---- bytes
+abbrev pub one_to_nine : List ℕ
+one_to_nine = 1 ∷ 2 ∷ 3 ∷ 4 ∷ 5 ∷ 6 ∷ 7 ∷ 8 ∷ 9 ∷ []
+
+abbrev pub nine_packed : List ℕ
+nine_packed = 0x0807_0605_0403_0201 ∷ 0x0000_0000_0000_0009 ∷ []
+
+abbrev pub NineBytes : Type 0
+NineBytes = (words_of one_to_nine ≡ nine_packed) × (bytes_of (λ i. slice_index nine_packed i) 9 ≡ one_to_nine)
