@@ -10,9 +10,9 @@ use Rattle.far_word.specs.declared.pointer.Place.{Place}
 use Rattle.far_word.specs.declared.pointer.PtrWord.{PtrWord}
 use Rattle.far_word.specs.declared.pointer.PtrWord.TheVariants.{Free, Near, Far}
 use Rattle.far_word.specs.Header.{head_word}
-use Rattle.far_word.specs.Mark.{position, with}
-use Rattle.far_word.specs.Pointer.{read_of, takes, marked}
-use Rattle.far_word.proofs.PointerLaws.{marked_read, marked_fits}
+use Rattle.far_word.specs.Mark.{position, marks_with}
+use Rattle.far_word.specs.Pointer.{read_of, takes_mark, with_mark}
+use Rattle.far_word.proofs.PointerLaws.{with_mark_read, with_mark_fits}
 use Rattle.far_core.specs.state.Law.{Heads, held_place, in_use, Blank}
 use Rattle.far_core.specs.state.State.{addr}
 use Rattle.far_core.specs.events.Step.{place_to_view}
@@ -24,9 +24,9 @@ unused = refl
 -- ---- a cell with one mark more
 abbrev pub map_mark : Mark → Option PtrWord → Option PtrWord
 map_mark k None = None
-map_mark k (Some v) = Some (marked k v)
+map_mark k (Some v) = Some (with_mark k v)
 
-takes_hot : (v : PtrWord) → in_use (Some v) ≡ true → takes Hot v ≡ true
+takes_hot : (v : PtrWord) → in_use (Some v) ≡ true → takes_mark Hot v ≡ true
 takes_hot Free u = absurd (false≢true u)
 takes_hot (Near len ds place m) u = refl
 takes_hot (Far len ds m) u = refl
@@ -34,7 +34,7 @@ takes_hot (Far len ds m) u = refl
 at_hot : (w : ℕ) (o : Option PtrWord) → w < 2 ^ 64 → read_of w ≡ o → in_use o ≡ true →
     (read_of (bit_or w (2 ^ position Hot)) ≡ map_mark Hot o) × (bit_or w (2 ^ position Hot) < 2 ^ 64)
 at_hot w None fits e u = absurd (false≢true u)
-at_hot w (Some v) fits e u = (marked_read Hot w v fits e (takes_hot v u), marked_fits Hot w v fits e (takes_hot v u))
+at_hot w (Some v) fits e u = (with_mark_read Hot w v fits e (takes_hot v u), with_mark_fits Hot w v fits e (takes_hot v u))
 
 pub read_hot : (w : ℕ) → w < 2 ^ 64 → in_use (read_of w) ≡ true →
     (read_of (bit_or w (2 ^ position Hot)) ≡ map_mark Hot (read_of w)) × (bit_or w (2 ^ position Hot) < 2 ^ 64)
@@ -89,7 +89,7 @@ pub is_some-remarked : (o n : Option PtrWord) → Remarked o n → IsSome o → 
 is_some-remarked o None r h = none_body o r.same h
 is_some-remarked o (Some v) r h = refl
 
-with_kept : (k : Mark) (m : Marks) → (with k m).dropped ≡ false → m.dropped ≡ false
+with_kept : (k : Mark) (m : Marks) → (marks_with k m).dropped ≡ false → m.dropped ≡ false
 with_kept Hot m e = e
 with_kept Evac m e = e
 with_kept Moved m e = e

@@ -5,9 +5,9 @@ use Rattle.std.proofs.lemmas.Bool.{cond_both, eqb-true, false≢true}
 use Rattle.far_word.specs.declared.pointer.PtrWord.{PtrWord}
 use Rattle.far_word.specs.declared.pointer.PtrWord.TheVariants.{Free, Near, Far}
 use Rattle.far_word.specs.declared.sizes.TheConstants.{CELLS, POINTERS}
-use Rattle.far_word.specs.Bytes.{bytes_of, overwritten}
+use Rattle.far_word.specs.Bytes.{bytes_of, with_word}
 use Rattle.far_word.specs.Pointer.{read_of}
-use Rattle.far_word.proofs.ByteLaws.{length-bytes_of, bytes_of-small, length-overwritten}
+use Rattle.far_word.proofs.ByteLaws.{length-bytes_of, bytes_of-small, length-with_word}
 use Rattle.far_word.proofs.PointerLaws.{read_says}
 use Rattle.far_core.specs.declared.event.Event.{Event}
 use Rattle.far_core.specs.declared.event.Kind.{Kind}
@@ -69,7 +69,7 @@ near_again o bytes g = record { owner = o.owner; ds = o.ds; bytes = bytes; home 
 keeps_writes : (w : World) (m p i x : ℕ) (v : World) → Writes w m p i x v → ChangeKeeps w (change.Writes m p i x) v
 keeps_writes w m p i x v h =
     let old : Object = h.changed.0 in
-    let now : Object = with_bytes old (overwritten old.bytes i x) in
+    let now : Object = with_bytes old (with_word old.bytes i x) in
     subst (λ (z : World). ChangeKeeps w (change.Writes m p i x) z) (sym h.changed.3) record {
       honesty = refl;
       groups = λ q g o there home held. held;
@@ -84,7 +84,7 @@ keeps_writes w m p i x v h =
             ap (λ (z : Object). z.owner) is,
             ap (λ (z : Object). z.ds) is,
             ap (λ (z : Object). z.home) is,
-            length-overwritten old.bytes i x ∙ ap (λ (z : Object). length z.bytes) is,
+            length-with_word old.bytes i x ∙ ap (λ (z : Object). length z.bytes) is,
           ))
           (λ _. (o, there, refl, refl, refl, refl));
       views = λ q seen out. seen;
@@ -168,7 +168,7 @@ changes_are_one w v u (change.Views m p) sure h k = h.after ∙ sym k.after
 changes_are_one w v u (change.Reads m p i x) sure h k = h.after ∙ sym k.after
 changes_are_one w v u (change.Writes m p i x) sure h k =
     let is : h.changed.0 ≡ k.changed.0 = one_of h.changed.0 k.changed.0 (w.object p) h.changed.1 k.changed.1 in
-    h.changed.3 ∙ ap (λ (o : Object). record w { object = put w.object p (Some (with_bytes o (overwritten o.bytes i x))) }) is ∙ sym k.changed.3
+    h.changed.3 ∙ ap (λ (o : Object). record w { object = put w.object p (Some (with_bytes o (with_word o.bytes i x))) }) is ∙ sym k.changed.3
 changes_are_one w v u (change.Makes p len ds g) sure h k = h.after ∙ sym k.after
 changes_are_one w v u (change.Marks p) sure h k = h ∙ sym k
 changes_are_one w v u (change.Unmarks p) sure h k = h ∙ sym k

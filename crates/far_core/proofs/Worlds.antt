@@ -14,7 +14,7 @@ use Rattle.far_core.specs.world.WorldOf.{object_of, world_of}
 use Rattle.far_core.specs.world.Steps.{Reads, Writes, with_bytes}
 use Rattle.far_word.proofs.ByteLaws.{bytes_of-put, bytes_of-same, length-bytes_of, packs_back}
 use Rattle.far_word.proofs.PointerLaws.{read_says}
-use Rattle.far_word.specs.Bytes.{bytes_of, overwritten}
+use Rattle.far_word.specs.Bytes.{bytes_of, with_word}
 use Rattle.far_word.specs.Pointer.{read_of}
 use Rattle.far_word.specs.Sizes.{words_for}
 use Rattle.far_word.specs.declared.mark.Marks.{Marks}
@@ -85,14 +85,14 @@ module _ (s : State) (law : Law s) (m p i len ds : ℕ) (place : Place) (marks :
     abbrev new : ℕ → ℕ
     new = put s.word (addr place + 1 + i) w
 
-    bytes_then : bytes_of (λ k. new (addr place + 1 + k)) len ≡ overwritten (bytes_of (λ k. s.word (addr place + 1 + k)) len) i w
+    bytes_then : bytes_of (λ k. new (addr place + 1 + k)) len ≡ with_word (bytes_of (λ k. s.word (addr place + 1 + k)) len) i w
     bytes_then = bytes_of-same (λ k. new (addr place + 1 + k)) (λ k. cond (nat_eq k i) w (s.word (addr place + 1 + k))) len
         (λ k lt. elim (cases_eq k i) [
           | inl e ↦ put_same s.word (addr place + 1 + i) w (addr place + 1 + k) (omega arith) ∙ sym (ap (λ b. cond b w (s.word (addr place + 1 + k))) (eq-eqb k i e))
           | inr ne ↦ put_other s.word (addr place + 1 + i) w (addr place + 1 + k) (λ e. ne (omega arith)) ∙ sym (ap (λ b. cond b w (s.word (addr place + 1 + k))) (ne_eqb k i ne))
         ]) ∙ bytes_of-put (λ k. s.word (addr place + 1 + k)) len i w
 
-    here_then : object_of new (s.stored p) p (read_of (s.cell p)) ≡ Some (with_bytes object (overwritten (bytes_of (λ k. s.word (addr place + 1 + k)) len) i w))
+    here_then : object_of new (s.stored p) p (read_of (s.cell p)) ≡ Some (with_bytes object (with_word (bytes_of (λ k. s.word (addr place + 1 + k)) len) i w))
     here_then = rw near (rw (kept, bytes_then) refl)
 
     other_stays : (q : ℕ) → q ≢ p → object_of new (s.stored q) q (read_of (s.cell q)) ≡ object_of s.word (s.stored q) q (read_of (s.cell q))

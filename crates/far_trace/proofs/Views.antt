@@ -8,7 +8,7 @@ use Rattle.far_word.specs.declared.pointer.PtrWord.{PtrWord}
 use Rattle.far_word.specs.declared.pointer.PtrWord.TheVariants as pointer
 use Rattle.far_word.specs.declared.pointer.PtrWord.TheVariants.{Near, Far}
 use Rattle.far_word.specs.declared.sizes.TheConstants.{CELLS, LOG_WORDS}
-use Rattle.far_word.specs.Mark.{position, with}
+use Rattle.far_word.specs.Mark.{position, marks_with}
 use Rattle.far_word.specs.Pointer.{read_of}
 use Rattle.far_core.specs.declared.event.Event.TheVariants.{Pin}
 use Rattle.far_core.specs.declared.event.Reply.TheVariants.{Held}
@@ -71,7 +71,7 @@ hand_of s p h used = record { len = h.len; ds = h.ds; place = h.place; marks = h
 
 -- HOT leaves it so
 Ready-hot : (o : Option PtrWord) → Ready o → Ready (map_mark Hot o)
-Ready-hot o h = record { len = h.len; ds = h.ds; place = h.place; marks = with Hot h.marks; near = ap (map_mark Hot) h.near; unchosen = h.unchosen; unmoved = h.unmoved; kept = h.kept }
+Ready-hot o h = record { len = h.len; ds = h.ds; place = h.place; marks = marks_with Hot h.marks; near = ap (map_mark Hot) h.near; unchosen = h.unchosen; unmoved = h.unmoved; kept = h.kept }
 
 -- a view of it may rest there
 Ready-view : (o : Option PtrWord) (h : Ready o) → place_to_view o ≡ Some h.place
@@ -146,7 +146,7 @@ module _ (s : State) (next : ℕ → ℕ) (m p : ℕ) (law : Law s) (tidy : Tidy
   pin_viewed = record {
     len = ready.len;
     place = ready.place;
-    holds = record { own = own; rests = pin_held; near = (ready.ds, with Hot ready.marks, pin_read ∙ ap (map_mark Hot) ready.near) };
+    holds = record { own = own; rests = pin_held; near = (ready.ds, marks_with Hot ready.marks, pin_read ∙ ap (map_mark Hot) ready.near) };
     words = refl;
     same_data = ap near_data pin_read ∙ near_data-hot (read_of (s.cell p));
     same_len = ap near_len pin_read ∙ near_len-hot (read_of (s.cell p));
@@ -176,7 +176,7 @@ module _ (s : State) (next : ℕ → ℕ) (m p : ℕ) (law : Law s) (tidy : Tidy
   pin_named q some = put_both (λ w. w ≢ 0) s.cell p (bit_or (s.cell p) (2 ^ position Hot)) q
       (λ _ z. absurd (hot_some z)) (λ _. some) where
         hot_some : bit_or (s.cell p) (2 ^ position Hot) ≡ 0 → ⊥
-        hot_some z = let odd : Some (Near ready.len ready.ds ready.place (with Hot ready.marks)) ≡ Some pointer.Free = sym (hot_read s law p used ∙ ap (map_mark Hot) ready.near) ∙ ap read_of z ∙ unused in cc
+        hot_some z = let odd : Some (Near ready.len ready.ds ready.place (marks_with Hot ready.marks)) ≡ Some pointer.Free = sym (hot_read s law p used ∙ ap (map_mark Hot) ready.near) ∙ ap read_of z ∙ unused in cc
 
   -- and cells that are 0
   pin_unnamed : (q : ℕ) → s.cell q ≡ 0 → (after_pin s p).cell q ≡ 0

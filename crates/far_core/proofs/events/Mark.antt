@@ -8,9 +8,9 @@ use Rattle.far_word.specs.declared.mark.Mark.TheVariants.{Evac}
 use Rattle.far_word.specs.declared.pointer.PtrWord.{PtrWord}
 use Rattle.far_word.specs.declared.pointer.PtrWord.TheVariants.{Free, Near, Far}
 use Rattle.far_word.specs.declared.sizes.TheConstants.{CELLS}
-use Rattle.far_word.specs.Mark.{position, with}
+use Rattle.far_word.specs.Mark.{position, marks_with}
 use Rattle.far_word.specs.Pointer.{read_of}
-use Rattle.far_word.proofs.PointerLaws.{marked_read, marked_fits}
+use Rattle.far_word.proofs.PointerLaws.{with_mark_read, with_mark_fits}
 use Rattle.far_core.specs.declared.event.Event.TheVariants.{Mark}
 use Rattle.far_core.specs.declared.event.Kind.{Kind}
 use Rattle.far_core.specs.declared.event.Kind.TheVariants as kinds
@@ -54,8 +54,8 @@ read_evac : (s : State) (w : ℕ) (o : Option PtrWord) → w < 2 ^ 64 → read_o
 read_evac s w None fits e h = absurd (false≢true h)
 read_evac s w (Some Free) fits e h = absurd (false≢true h)
 read_evac s w (Some (Near len ds place m)) fits e h = (
-  marked_read Evac w (Near len ds place m) fits e refl,
-  marked_fits Evac w (Near len ds place m) fits e refl,
+  with_mark_read Evac w (Near len ds place m) fits e refl,
+  with_mark_fits Evac w (Near len ds place m) fits e refl,
 )
 read_evac s w (Some (Far len ds m)) fits e h = absurd (false≢true h)
 

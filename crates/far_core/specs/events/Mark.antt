@@ -7,7 +7,7 @@ use Rattle.far_word.specs.declared.pointer.PtrWord.{PtrWord}
 use Rattle.far_word.specs.declared.pointer.PtrWord.TheVariants.{Free, Near, Far}
 use Rattle.far_word.specs.declared.sizes.TheConstants.{CELLS}
 use Rattle.far_word.specs.Mark.{position}
-use Rattle.far_word.specs.Pointer.{read_of, marked}
+use Rattle.far_word.specs.Pointer.{read_of, with_mark}
 use Rattle.far_core.specs.declared.event.Kind.{Kind}
 use Rattle.far_core.specs.declared.event.Kind.TheVariants as kinds
 use Rattle.far_core.specs.declared.event.Reply.{Reply}
@@ -34,7 +34,7 @@ abbrev pub IsSealedNear : State → ℕ → Type 0
 IsSealedNear s p = (len ds : ℕ) × (place : Place) × (m : Marks) × (read_of (s.cell p) ≡ Some (Near len ds place m)) × (place.log < s.logs) × (s.kind place.log ≡ kinds.Sealed)
 
 abbrev pub MarkReports : State → ℕ → Reply → State → Type 0
-MarkReports s p (Word w) t = (w ≡ s.cell p) × ((v : PtrWord) → read_of w ≡ Some v → read_of (t.cell p) ≡ Some (marked Evac v))
+MarkReports s p (Word w) t = (w ≡ s.cell p) × ((v : PtrWord) → read_of w ≡ Some v → read_of (t.cell p) ≡ Some (with_mark Evac v))
 MarkReports s p r t = ⊥
 
 abbrev pub mark_rule : State → ℕ → Rule

@@ -7,7 +7,7 @@ use Rattle.far_word.specs.declared.pointer.PtrWord.TheVariants.{Near}
 use Rattle.far_word.specs.declared.mark.Mark.TheVariants.{Hot}
 use Rattle.far_word.specs.declared.sizes.TheConstants.{CELLS}
 use Rattle.far_word.specs.Mark.{position}
-use Rattle.far_word.specs.Pointer.{read_of, view_place, marked}
+use Rattle.far_word.specs.Pointer.{read_of, view_place, with_mark}
 use Rattle.far_core.specs.declared.event.Reply.{Reply}
 use Rattle.far_core.specs.declared.event.Reply.TheVariants.{Word, Held}
 use Rattle.far_core.specs.state.State.{State, put}
@@ -40,7 +40,7 @@ pin_answer w (Some place) = Held place
 
 -- HOT is set on what was read
 abbrev pub SetsHot : ℕ → ℕ → Type 0
-SetsHot old new = (v : PtrWord) → read_of old ≡ Some v → read_of new ≡ Some (marked Hot v)
+SetsHot old new = (v : PtrWord) → read_of old ≡ Some v → read_of new ≡ Some (with_mark Hot v)
 
 abbrev pub PinReports : State → ℕ → ℕ → Reply → State → Type 0
 PinReports s m p (Held place) t = (t.held p ≡ Some place) × SetsHot (s.cell p) (t.cell p)

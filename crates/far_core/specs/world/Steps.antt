@@ -2,7 +2,7 @@
 -- but for the bytes that a far side that isn't honest gives back.
 use Rattle.std.specs.Prelude.{◌≡◌, ◌≢◌, ℕ, ◌*◌, ◌/◌, ◌<◌, ◌≤◌, true, false, cond, ◌==◌, ◌||◌, Some, None, List, length, replicate, is_some, slice_index}
 use Rattle.far_word.specs.declared.sizes.TheConstants.{CELLS, LONGEST}
-use Rattle.far_word.specs.Bytes.{packed_word, overwritten}
+use Rattle.far_word.specs.Bytes.{packed_word, with_word}
 use Rattle.far_core.specs.state.State.{put}
 use Rattle.far_core.specs.world.World.{World, Object, Home, Group, FarSide}
 
@@ -54,7 +54,7 @@ pub record Writes (w : World) (m p i word : ℕ) (v : World) : Type 0 where
   pub own : p / CELLS ≡ m
   pub viewed : w.viewed p ≡ true
   pub changed : (o : Object) × (w.object p ≡ Some o) × (8 * i < length o.bytes)
-      × (v ≡ record w { object = put w.object p (Some (with_bytes o (overwritten o.bytes i word))) })
+      × (v ≡ record w { object = put w.object p (Some (with_bytes o (with_word o.bytes i word))) })
 
 -- an object is marked, or its mark is taken away; a number that isn't in the map stays as it is
 abbrev pub Marks : World → ℕ → World → Type 0
