@@ -13,7 +13,7 @@ use Rattle.far_core.specs.state.Law.{Law}
 use Rattle.far_core.specs.state.State.{State}
 use Rattle.far_core.specs.events.Step.{step_of, after, is_legal, named}
 use Rattle.far_core.specs.world.WorldOf.{world_of}
-use Rattle.far_core.proofs.Left.{events_leave}
+use Rattle.far_core.proofs.Leaving.{events_leave}
 use Rattle.far_trace.specs.Moment.{Moment, moment_of}
 use Rattle.far_trace.specs.Alone.{Own, Knows, Alone, own_of, is_by, speaker}
 use Rattle.far_trace.specs.Answers.{Answered}

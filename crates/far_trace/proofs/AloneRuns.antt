@@ -3,7 +3,7 @@ use Rattle.std.proofs.Common.{◌≡◌, ◌≢◌, ℕ, zero, suc, ◌+◌, ◌
 use Rattle.std.specs.Prelude.{replicate}
 use Rattle.std.proofs.lemmas.Bool.{cases_eq, cond_both, eq-eqb, ne_eqb}
 use mathlib.Core.Path.{fun_ext}
-use Rattle.far_word.specs.Bytes.{packed_word, overwritten}
+use Rattle.far_word.specs.Bytes.{packed_word, with_word}
 use Rattle.far_word.specs.Pointer.{read_of}
 use Rattle.far_word.specs.declared.mark.Marks.{Marks}
 use Rattle.far_word.specs.declared.pointer.Place.{Place}
@@ -23,7 +23,7 @@ use Rattle.far_core.specs.world.World.{World, Object, Group}
 use Rattle.far_core.specs.world.WorldOf.{world_of}
 use Rattle.far_core.specs.world.Steps.{Makes, Writes, with_bytes}
 use Rattle.far_core.proofs.Keeps.{step_keeps}
-use Rattle.far_core.proofs.LegalTest.{is_fact}
+use Rattle.far_core.proofs.Owing.{is_fact}
 use Rattle.far_core.proofs.Put.{put_same, put_other, put_old}
 use Rattle.far_core.proofs.Steps.{step_does}
 use Rattle.far_trace.specs.Alone.{Own, own_of, bytes_in_world}
@@ -143,7 +143,7 @@ quiet_run s (e ∷ es) law q =
 -- words from first on of some bytes in the place of those of others
 abbrev pub over_all : List ℕ → ℕ → ℕ → List ℕ → List ℕ
 over_all bytes first zero new = bytes
-over_all bytes first (suc n) new = over_all (overwritten bytes first (packed_word new first)) (first + 1) n new
+over_all bytes first (suc n) new = over_all (with_word bytes first (packed_word new first)) (first + 1) n new
 
 -- a store that succeeds
 store_writes : (w v : World) (m p i x : ℕ) (r : Answer) → Succeeds (Store m p i x) r → Happens w (Store m p i x) r v → Writes w m p i x v
@@ -161,11 +161,11 @@ put_twice {X = X} f p x y = fun_ext (λ q. elim (cases_eq q p) [
 
 -- the bytes of one object after a write
 wrote : (w v : World) (m p i x : ℕ) (o : Object) → w.object p ≡ Some o → Writes w m p i x v →
-    (v.object ≡ put w.object p (Some (with_bytes o (overwritten o.bytes i x)))) × (v.opened ≡ w.opened)
+    (v.object ≡ put w.object p (Some (with_bytes o (with_word o.bytes i x)))) × (v.opened ≡ w.opened)
 wrote w v m p i x o e h =
     let same : Some h.changed.0 ≡ Some o = sym h.changed.1 ∙ e in
     let is : h.changed.0 ≡ o = cc in
-    (ap (λ (y : World). y.object) h.changed.3 ∙ ap (λ (y : Object). put w.object p (Some (with_bytes y (overwritten y.bytes i x)))) is, ap (λ (y : World). y.opened) h.changed.3)
+    (ap (λ (y : World). y.object) h.changed.3 ∙ ap (λ (y : Object). put w.object p (Some (with_bytes y (with_word y.bytes i x)))) is, ap (λ (y : World). y.opened) h.changed.3)
 
 -- stores into one object that all succeed write its bytes over, and nothing else
 pub stores_run : (s : State) (m p first n : ℕ) (new : List ℕ) (o : Object) → Law s → ((i : ℕ) → packed_word new i < 2 ^ 64) → (world_of s).object p ≡ Some o →
@@ -178,7 +178,7 @@ stores_run s m p first (suc n) new o law wide at ok =
     let t : State = (step_of s (Store m p first x)).0 in
     let h : Happens (world_of s) (Store m p first x) (step_of s (Store m p first x)).1 (world_of t) = step_does s (Store m p first x) law (wide first) in
     let one = wrote (world_of s) (world_of t) m p first x o at (store_writes (world_of s) (world_of t) m p first x _ ok.0 h) in
-    let then : Object = with_bytes o (overwritten o.bytes first x) in
+    let then : Object = with_bytes o (with_word o.bytes first x) in
     let there : (world_of t).object p ≡ Some then = ap (λ (f : ℕ → Option Object). f p) one.0 ∙ put_same (world_of s).object p (Some then) p refl in
     let rest = stores_run t m p (first + 1) n new then (step_keeps s (Store m p first x) law (wide first)) wide there ok.1 in
     (rest.0 ∙ ap (λ (f : ℕ → Option Object). put f p (Some (with_bytes o (over_all then.bytes (first + 1) n new)))) one.0 ∙ put_twice (world_of s).object p (Some then) _, rest.1 ∙ one.1)

@@ -8,7 +8,7 @@ use Rattle.far_core.specs.declared.event.Reply.TheVariants.{Word}
 use Rattle.far_core.specs.state.Law.{Law}
 use Rattle.far_core.specs.state.State.{State}
 use Rattle.far_core.specs.events.Step.{step_of, is_legal, is_opened, near_data, near_len, data_len}
-use Rattle.far_core.proofs.LegalTest.{is_test}
+use Rattle.far_core.proofs.Owing.{is_test}
 use Rattle.far_trace.specs.Made.{made, AllSucceed}
 use Rattle.far_trace.specs.Tidy.{Tidy}
 use Rattle.far_trace.specs.Events.{view_events, load_events}

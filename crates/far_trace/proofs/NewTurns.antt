@@ -23,7 +23,7 @@ use Rattle.far_core.specs.state.State.{State, put, addr}
 use Rattle.far_core.specs.events.Step.{is_legal, after, answer, named, taken}
 use Rattle.far_core.proofs.Cells.{unused}
 use Rattle.far_core.proofs.KeepPlace.{header}
-use Rattle.far_core.proofs.LegalTest.{is_test}
+use Rattle.far_core.proofs.Owing.{is_test}
 use Rattle.far_core.proofs.Put.{put_both, put_same, put_other}
 use Rattle.far_core.proofs.SpanFrames.{past_tail}
 use Rattle.far_trace.specs.Effects.{with_row}

@@ -8,14 +8,14 @@ use Rattle.far_word.specs.Sizes.{words_for}
 use Rattle.far_core.specs.declared.event.Event.{Event}
 use Rattle.far_core.specs.declared.event.Event.TheVariants.{Store}
 use Rattle.far_core.specs.state.Law.{Law, head_len}
-use Rattle.far_core.specs.events.Legal.{Legal, Holds}
+use Rattle.far_core.specs.events.Legal.{Legal, HoldsObject}
 use Rattle.far_core.specs.state.State.{State, put, addr}
 use Rattle.far_word.specs.Pointer.{read_of}
 use Rattle.far_core.specs.events.Step.{is_legal, after, data_word, near_data}
 use Rattle.far_core.proofs.Bounds.{span_len}
 use Rattle.far_core.proofs.Keeps.{keeps}
 use Rattle.far_core.proofs.KeepWords.{head_stays}
-use Rattle.far_core.proofs.LegalTest.{is_test}
+use Rattle.far_core.proofs.Owing.{is_test}
 use Rattle.far_trace.specs.Effects.{with_row}
 use Rattle.far_trace.specs.Made.{made, AllSucceed}
 use Rattle.far_trace.specs.Tidy.{Tidy}
@@ -39,11 +39,11 @@ tidy_words s next word tidy same = record {
 module _ (next : ℕ → ℕ) (m p len : ℕ) (place : Place) (w : ℕ → ℕ) (wide : (i : ℕ) → w i < 2 ^ 64)
     (pad : (i : ℕ) → i < words_for len → w i < 2 ^ (8 * (len - 8 * i))) where
   -- a store is legal
-  store_fact : (u : State) → Holds u m p len place → (i : ℕ) → i < words_for len → Legal u (Store m p i (w i))
+  store_fact : (u : State) → HoldsObject u m p len place → (i : ℕ) → i < words_for len → Legal u (Store m p i (w i))
   store_fact u h i lt = (len, (place, h, lt), pad i lt)
 
   -- a store leaves each header
-  store_heads : (u : State) → Law u → Holds u m p len place → (i : ℕ) → i < words_for len → (a : ℕ) → u.starts a ≡ true → put u.word (data_word u p i) (w i) a ≡ u.word a
+  store_heads : (u : State) → Law u → HoldsObject u m p len place → (i : ℕ) → i < words_for len → (a : ℕ) → u.starts a ≡ true → put u.word (data_word u p i) (w i) a ≡ u.word a
   store_heads u law h i lt a start =
       let near = h.near.2 in
       let heads = law.cells.cell_near p len h.near.0 place h.near.1 near in
@@ -53,15 +53,15 @@ module _ (next : ℕ → ℕ) (m p len : ℕ) (place : Place) (w : ℕ → ℕ) 
       (head_stays u law (addr place) heads.placed i (subst (λ n. i < words_for n) (sym long) lt) (w i) (wide i) (subst (λ n. w i < 2 ^ (8 * (n - 8 * i))) (sym long) (pad i lt)) a start)
 
   -- a store leaves the object held
-  store_holds : (u : State) → Holds u m p len place → (i : ℕ) → Holds (after u (Store m p i (w i))) m p len place
+  store_holds : (u : State) → HoldsObject u m p len place → (i : ℕ) → HoldsObject (after u (Store m p i (w i))) m p len place
   store_holds u h i = record { own = h.own; rests = h.rests; near = h.near }
 
   -- a store keeps the heap tidy
-  store_tidy : (u : State) → Law u → Tidy u next → Holds u m p len place → (i : ℕ) → i < words_for len → Tidy (after u (Store m p i (w i))) next
+  store_tidy : (u : State) → Law u → Tidy u next → HoldsObject u m p len place → (i : ℕ) → i < words_for len → Tidy (after u (Store m p i (w i))) next
   store_tidy u law tidy h i lt = tidy_words u next (put u.word (data_word u p i) (w i)) tidy (store_heads u law h i lt)
 
   -- the stores succeed and keep the heap tidy
-  pub stores_go : (count first : ℕ) (u : State) → Law u → Tidy u next → Holds u m p len place → ((i : ℕ) → i < count → first + i < words_for len) →
+  pub stores_go : (count first : ℕ) (u : State) → Law u → Tidy u next → HoldsObject u m p len place → ((i : ℕ) → i < count → first + i < words_for len) →
       AllSucceed u (map (λ i. Store m p i (w i)) (range_with_len first count)) × Tidy (made u (map (λ i. Store m p i (w i)) (range_with_len first count))) next
   stores_go zero first u law tidy h inside = (tt, tidy)
   stores_go (suc count) first u law tidy h inside =
@@ -76,7 +76,7 @@ module _ (next : ℕ → ℕ) (m p len : ℕ) (place : Place) (w : ℕ → ℕ) 
       (first_succeeds u (Store m p first (w first)) row legal tt rest.0, subst (λ t. Tidy t next) (sym (made_first u (Store m p first (w first)) row legal)) rest.1)
 
   -- they make a row of words
-  pub stores_end : (count first : ℕ) (u : State) → Law u → Holds u m p len place → ((i : ℕ) → i < count → first + i < words_for len) →
+  pub stores_end : (count first : ℕ) (u : State) → Law u → HoldsObject u m p len place → ((i : ℕ) → i < count → first + i < words_for len) →
       made u (map (λ i. Store m p i (w i)) (range_with_len first count)) ≡ record u { word = with_row u.word (near_data (read_of (u.cell p)) + first) count (λ i. w (first + i)) }
   stores_end zero first u law h inside = ap (λ (f : ℕ → ℕ). record u { word = f }) (row_none u.word (near_data (read_of (u.cell p)) + first) (λ i. w (first + i)))
   stores_end (suc count) first u law h inside =

@@ -22,9 +22,9 @@ use Rattle.far_core.specs.state.Law.{Law}
 use Rattle.far_core.specs.events.Legal.{Unmarked}
 use Rattle.far_core.specs.state.Room.{room}
 use Rattle.far_core.specs.state.State.{State, put}
-use Rattle.far_core.specs.events.Step.{Fits, is_legal, is_opened, data_len, near_data, closed, opened_at}
+use Rattle.far_core.specs.events.Step.{Fits, is_legal, is_opened, data_len, near_data, after_close, scope_word_of}
 use Rattle.far_core.proofs.KeepPlace.{header}
-use Rattle.far_core.proofs.LegalTest.{is_test}
+use Rattle.far_core.proofs.Owing.{is_test}
 use Rattle.far_core.proofs.Put.{put_both, put_same, put_other}
 use Rattle.far_trace.specs.Moment.{moment_of}
 use Rattle.far_trace.specs.Command.{Command, Heap, New, Open, Write, Read, Close, Logs}
@@ -379,7 +379,7 @@ module _ (s : State) (next : ℕ → ℕ) (m : ℕ) (law : Law s) (tidy : Tidy s
 
   -- the state after the opening
   abbrev begun : State
-  begun = record read { scope = put s.scope m (opened_at (read.remembered m)) }
+  begun = record read { scope = put s.scope m (scope_word_of (read.remembered m)) }
 
   -- the epoch is remembered
   read_now : read.remembered m ≡ Some s.epoch
@@ -395,11 +395,11 @@ module _ (s : State) (next : ℕ → ℕ) (m : ℕ) (law : Law s) (tidy : Tidy s
 
   -- the heap stays tidy
   begun_tidy : Tidy begun next
-  begun_tidy = tidy_scopes s next (put s.scope m (opened_at (read.remembered m))) (put s.remembered m (Some s.epoch)) s.held tidy
-      (λ k z. put_other s.remembered m (Some s.epoch) k (λ e. odd k e z) ∙ tidy.unread k (sym (put_other s.scope m (opened_at (read.remembered m)) k (λ e. odd k e z)) ∙ z)) where
-        odd : (k : ℕ) → k ≡ m → put s.scope m (opened_at (read.remembered m)) k ≡ 0 → ⊥
+  begun_tidy = tidy_scopes s next (put s.scope m (scope_word_of (read.remembered m))) (put s.remembered m (Some s.epoch)) s.held tidy
+      (λ k z. put_other s.remembered m (Some s.epoch) k (λ e. odd k e z) ∙ tidy.unread k (sym (put_other s.scope m (scope_word_of (read.remembered m)) k (λ e. odd k e z)) ∙ z)) where
+        odd : (k : ℕ) → k ≡ m → put s.scope m (scope_word_of (read.remembered m)) k ≡ 0 → ⊥
         odd k e z =
-            let one : 2 * s.epoch + 1 ≡ 0 = sym (ap opened_at read_now) ∙ sym (put_same s.scope m (opened_at (read.remembered m)) k e) ∙ z in
+            let one : 2 * s.epoch + 1 ≡ 0 = sym (ap scope_word_of read_now) ∙ sym (put_same s.scope m (scope_word_of (read.remembered m)) k e) ∙ z in
             omega arith
 
   -- the events of an opening
@@ -409,8 +409,8 @@ module _ (s : State) (next : ℕ → ℕ) (m : ℕ) (law : Law s) (tidy : Tidy s
       let same : open_events s m ≡ ReadsEpoch m ∷ Opens m ∷ [] = ap (λ (o : Option ℕ). if is_some o then Opens m ∷ [] else ReadsEpoch m ∷ Opens m ∷ []) none in
       let end : made s (ReadsEpoch m ∷ Opens m ∷ []) ≡ begun = made_first s (ReadsEpoch m) (Opens m ∷ []) read_legal ∙ made_first read (Opens m) [] open_legal in
       let begins : begun ≡ with_scope s m =
-      ap (λ (o : Option ℕ). record read { scope = put s.scope m (opened_at o) }) read_now
-      ∙ ap (λ (o : Option ℕ). record s { remembered = put s.remembered m (Some (epoch_for o s.epoch)); scope = put s.scope m (opened_at (Some (epoch_for o s.epoch))) }) (sym none) in
+      ap (λ (o : Option ℕ). record read { scope = put s.scope m (scope_word_of o) }) read_now
+      ∙ ap (λ (o : Option ℕ). record s { remembered = put s.remembered m (Some (epoch_for o s.epoch)); scope = put s.scope m (scope_word_of (Some (epoch_for o s.epoch))) }) (sym none) in
       subst (λ es. Turned s next es (with_scope s m)) (sym same) record {
         succeed = first_succeeds s (ReadsEpoch m) (Opens m ∷ []) read_legal tt (first_succeeds read (Opens m) [] open_legal tt tt);
         tidy = subst (λ t. Tidy t next) (sym end) begun_tidy;
@@ -420,10 +420,10 @@ module _ (s : State) (next : ℕ → ℕ) (m : ℕ) (law : Law s) (tidy : Tidy s
       }
 
 -- the event of a closing
-close_turned : (s : State) (next : ℕ → ℕ) (m : ℕ) → Law s → Tidy s next → is_opened s m ≡ true → Turned s next (Closes m ∷ []) (closed s m)
+close_turned : (s : State) (next : ℕ → ℕ) (m : ℕ) → Law s → Tidy s next → is_opened s m ≡ true → Turned s next (Closes m ∷ []) (after_close s m)
 close_turned s next m law tidy opened =
     let legal : is_legal s (Closes m) ≡ true = opened in
-    let end : made s (Closes m ∷ []) ≡ closed s m = made_first s (Closes m) [] legal in
+    let end : made s (Closes m ∷ []) ≡ after_close s m = made_first s (Closes m) [] legal in
     let held : ℕ → Option Place = λ p. cond (nat_eq (p / CELLS) m) None (s.held p) in
     record {
       succeed = first_succeeds s (Closes m) [] legal tt tt;

@@ -15,8 +15,8 @@ use Rattle.far_core.specs.declared.event.Reply.{Reply as Answer}
 use Rattle.far_core.specs.declared.event.Reply.TheVariants.{Refused as Failed}
 use Rattle.far_core.specs.state.Room.{room}
 use Rattle.far_core.specs.state.State.{State, put}
-use Rattle.far_core.specs.events.Step.{step_of, is_legal, after, answer, holding, viewable, pin_answer, Fits}
-use Rattle.far_core.proofs.Left.{held_stays}
+use Rattle.far_core.specs.events.Step.{step_of, is_legal, after, answer, with_hold, place_to_view, pin_answer, Fits}
+use Rattle.far_core.proofs.Leaving.{held_stays}
 use Rattle.far_core.proofs.Put.{put_same, put_other}
 use Rattle.far_trace.specs.Moment.{Moment, moment_of}
 use Rattle.far_trace.specs.Answers.{Answered, Commanded, IsMoment}
@@ -74,14 +74,14 @@ news m len ds (Some p) (Some place) =
 
 -- ---- the view of a read or a write
 -- a pin that succeeds views its object
-pin_gives : (held : ℕ → Option Place) (p w : ℕ) (m : ℕ) (o : Option Place) → Succeeds (Pins m p) (pin_answer w o) → (place : Place) × (holding held p o ≡ put held p (Some place))
+pin_gives : (held : ℕ → Option Place) (p w : ℕ) (m : ℕ) (o : Option Place) → Succeeds (Pins m p) (pin_answer w o) → (place : Place) × (with_hold held p o ≡ put held p (Some place))
 pin_gives held p w m None ok = absurd ok
 pin_gives held p w m (Some place) ok = (place, refl)
 
 pin_views : (s : State) (m p : ℕ) → Succeeds (Pins m p) (step_of s (Pins m p)).1 → (place : Place) × ((step_of s (Pins m p)).0.held ≡ put s.held p (Some place))
 pin_views s m p = cond_both (is_legal s (Pins m p)) (after s (Pins m p), answer s (Pins m p)) (s, Failed)
     (λ (x : State × Answer). Succeeds (Pins m p) x.1 → (place : Place) × (x.0.held ≡ put s.held p (Some place)))
-    (λ _ ok. pin_gives s.held p (s.cell p) m (viewable (read_of (s.cell p))) ok) (λ _ ok. absurd ok)
+    (λ _ ok. pin_gives s.held p (s.cell p) m (place_to_view (read_of (s.cell p))) ok) (λ _ ok. absurd ok)
 
 view_made : (s : State) (m p : ℕ) (o : Option Place) → s.held p ≡ o → AllSucceed s (if is_some o then [] else Pins m p ∷ []) → ViewsObject s (made s (if is_some o then [] else Pins m p ∷ [])) p
 view_made s m p (Some place) e ok = record { viewed = ap is_some e; kept = λ place h. h; others = λ q ne. refl }

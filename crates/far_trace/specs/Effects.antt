@@ -6,7 +6,7 @@ use Rattle.far_word.specs.Bytes.{packed_word}
 use Rattle.far_word.specs.Header.{head_word}
 use Rattle.far_word.specs.Pointer.{read_of, word_of}
 use Rattle.far_word.specs.Sizes.{words_for}
-use Rattle.far_core.specs.events.Step.{pinned, taken, opened_at, near_data, data_len}
+use Rattle.far_core.specs.events.Step.{after_pin, taken, scope_word_of, near_data, data_len}
 use Rattle.far_core.specs.state.State.{State, put, addr}
 use Rattle.far_trace.specs.Objects.{data_of, spliced}
 
@@ -33,11 +33,11 @@ epoch_for (Some e) epoch = e
 -- an owner's scope is open
 abbrev pub with_scope : State → ℕ → State
 with_scope s m = let e : Option ℕ = Some (epoch_for (s.remembered m) s.epoch) in
-    record s { remembered = put s.remembered m e; scope = put s.scope m (opened_at e) }
+    record s { remembered = put s.remembered m e; scope = put s.scope m (scope_word_of e) }
 
--- an object is viewed by its owner: pinned, unless it is held already
+-- an object is viewed by its owner: after_pin, unless it is held already
 abbrev pub with_view : State → ℕ → State
-with_view s p = if is_some (s.held p) then s else pinned s p
+with_view s p = if is_some (s.held p) then s else after_pin s p
 
 -- an object has other bytes in the place of those from here on
 abbrev pub with_data : State → ℕ → ℕ → List ℕ → State

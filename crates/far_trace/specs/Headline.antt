@@ -9,7 +9,7 @@ use Rattle.far_word.specs.Sizes.{size_of}
 use Rattle.far_core.specs.declared.event.Kind.TheVariants as kinds
 use Rattle.far_core.specs.declared.event.Event.{Event}
 use Rattle.far_core.specs.state.Law.{Law}
-use Rattle.far_core.specs.laws.Observed.{live_bytes, dead_bytes, unused_bytes, HasOneLive, NamesOnce}
+use Rattle.far_core.specs.laws.Observed.{live_bytes, dead_bytes, unused_bytes, HasOnePlace, NamesOnce}
 use Rattle.far_core.specs.state.Room.{room}
 use Rattle.far_core.specs.state.Shape.{is_shape}
 use Rattle.far_core.specs.state.State.{State, put}
@@ -55,7 +55,7 @@ pub record Lawful (now : Moment) : Type 0 where
 
 -- each object that is in use has one live span, each log's bytes are 1,024, and no two cells name one place
 abbrev pub IsWhole : State → Type 0
-IsWhole t = ((p : ℕ) → HasOneLive t p) × ((l : ℕ) → live_bytes t l + dead_bytes t l + unused_bytes t l ≡ 8 * LOG_WORDS) × NamesOnce t
+IsWhole t = ((p : ℕ) → HasOnePlace t p) × ((l : ℕ) → live_bytes t l + dead_bytes t l + unused_bytes t l ≡ 8 * LOG_WORDS) × NamesOnce t
 
 -- the refusals that a command may have where all objects are near: none for want of memory, none of a device, none that tells a mark
 abbrev pub MayRefuse : Command → Refusal → Type 0

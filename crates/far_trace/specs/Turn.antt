@@ -8,7 +8,7 @@ use Rattle.far_word.specs.declared.sizes.TheConstants.{LONGEST}
 use Rattle.far_word.specs.Sizes.{size_of}
 use Rattle.far_core.specs.declared.event.Kind.{Kind}
 use Rattle.far_core.specs.declared.event.Kind.TheVariants as kinds
-use Rattle.far_core.specs.events.Step.{is_opened, closed, data_len}
+use Rattle.far_core.specs.events.Step.{is_opened, after_close, data_len}
 use Rattle.far_core.specs.laws.Observed.{live_bytes, dead_bytes, unused_bytes}
 use Rattle.far_core.specs.state.Room.{room}
 use Rattle.far_core.specs.state.State.{State}
