@@ -5,7 +5,8 @@ use Rattle.std.proofs.lemmas.List.{ext_get_or}
 use Rattle.far_word.specs.Bytes.{packed_word, with_word, words_of}
 use Rattle.far_word.proofs.ByteLaws.{bytes_of-get, bytes_of-words_of, words_of-get}
 use Rattle.far_word.proofs.ByteLaws.{with_word-get, length-with_word}
-use Rattle.far_trace.specs.Turn.{spliced, first_word, words_touched}
+use Rattle.far_trace.specs.Events.{first_word, words_touched}
+use Rattle.far_trace.specs.Objects.{spliced}
 use Rattle.far_trace.proofs.AloneRuns.{over_all}
 use Rattle.far_trace.proofs.Spliced.{AreBytes, length-spliced, spliced_before, spliced_behind, spliced_bytes}
 

@@ -4,34 +4,28 @@ use Rattle.std.proofs.lemmas.Bool.{cond_both}
 use mathlib.Core.Path.{fun_ext}
 use Rattle.far_word.specs.declared.sizes.TheConstants.{CELLS}
 use Rattle.far_core.specs.state.Shape.{is_shape}
-use Rattle.far_core.specs.state.State.{State}
 use Rattle.far_core.specs.world.World.{start}
 use Rattle.far_core.specs.world.WorldOf.{world_of}
-use Rattle.far_core.proofs.Begins.{begins}
 use Rattle.far_core.proofs.WorldFacts.{opening_world}
 use Rattle.far_trace.specs.Alone.{Alone, nothing, own_of}
-use Rattle.far_trace.specs.Answers.{Answered, shape_of, first_state}
+use Rattle.far_trace.specs.Answers.{Answered, shape_of, first_moment}
 use Rattle.far_trace.specs.Command.{Command}
 use Rattle.far_trace.specs.Later.{AreLater}
-use Rattle.far_trace.specs.Made.{AllAtHand}
+use Rattle.far_trace.specs.Moment.{Moment}
 use Rattle.far_trace.specs.Reply.{Reply}
 use Rattle.far_trace.proofs.AloneLaw.{alone}
+use Rattle.far_trace.proofs.Lasting.{first_lasts}
 use Rattle.far_trace.proofs.AloneRuns.{Own-ext}
 
 -- at the start a mutator knows of nothing
 start_nothing : (m : ℕ) → own_of (start true) m ≡ nothing
 start_nothing m = Own-ext (own_of (start true) m) nothing refl (fun_ext (λ p. cond_both (nat_eq (p / CELLS) m) None None (λ (x : Option (List ℕ)). x ≡ None) (λ _. refl) (λ _. refl)))
 
-pub first_nothing : (logs mutators m : ℕ) → own_of (world_of (first_state logs mutators)) m ≡ nothing
+pub first_nothing : (logs mutators m : ℕ) → own_of (world_of (first_moment logs mutators).core) m ≡ nothing
 first_nothing logs mutators m = ap (λ w. own_of w m) (opening_world (shape_of logs mutators) true) ∙ start_nothing m
 
--- no pointer is named at the start
-pub first_at_hand : (logs mutators : ℕ) → AllAtHand (first_state logs mutators)
-first_at_hand logs mutators p named = absurd (named refl)
-
--- from the first state on, the replies to a mutator's lines are what they say by themselves
-pub alone_first : (logs mutators m : ℕ) (cs : List Command) (rs : List Reply) (ts : List State) → is_shape (shape_of logs mutators) ≡ true → m < mutators → AreLater cs →
-    Answered (first_state logs mutators) cs rs ts → Alone m nothing cs rs
-alone_first logs mutators m cs rs ts shape within later h =
-    subst (λ o. Alone m o cs rs) (first_nothing logs mutators m)
-    (alone (first_state logs mutators) cs rs ts m (begins (shape_of logs mutators) true shape) (first_at_hand logs mutators) within later h)
+-- from the first moment on, the replies to a mutator's lines are what they say by themselves
+pub alone_first : (logs mutators m : ℕ) (cs : List Command) (rs : List Reply) (moments : List Moment) → is_shape (shape_of logs mutators) ≡ true → m < mutators → AreLater cs →
+    Answered (first_moment logs mutators) cs rs moments → Alone m nothing cs rs
+alone_first logs mutators m cs rs moments shape within later h =
+    subst (λ o. Alone m o cs rs) (first_nothing logs mutators m) (alone (first_moment logs mutators) cs rs moments m (first_lasts logs mutators shape) within later h)

@@ -14,13 +14,16 @@ use Rattle.far_core.specs.state.State.{State}
 use Rattle.far_core.specs.events.Step.{step_of, after, is_legal}
 use Rattle.far_core.specs.world.WorldOf.{world_of}
 use Rattle.far_core.proofs.Leaving.{events_leave}
+use Rattle.far_trace.specs.Moment.{Moment, moment_of}
 use Rattle.far_trace.specs.Alone.{Own, Knows, Alone, own_of, is_by, speaker}
-use Rattle.far_trace.specs.Answers.{Answered, Commanded}
+use Rattle.far_trace.specs.Answers.{Answered}
 use Rattle.far_trace.specs.Command.{Command, Heap, New, Open, Write, Read, Close, Logs}
 use Rattle.far_trace.specs.Later.{IsLater, AreLater}
 use Rattle.far_trace.specs.Made.{made, AllAtHand}
 use Rattle.far_trace.specs.Reply.{Reply}
-use Rattle.far_trace.specs.Turn.{events_for, refusal}
+use Rattle.far_trace.specs.Events.{events_for}
+use Rattle.far_trace.specs.Turn.{refusal}
+use Rattle.far_trace.proofs.Lasting.{Lasts, IsCarriedOut, carried, still_lasts}
 use Rattle.far_trace.proofs.AloneNew.{turns_new}
 use Rattle.far_trace.proofs.AloneTurns.{Tells, Turns, turns_open, turns_close, turns_read, turns_write}
 
@@ -38,7 +41,7 @@ abbrev Learns : State → ℕ → Command → Reply → State → Type 0
 Learns s m c r t = MatchBool (is_by m (speaker c)) (Knows m (own_of (world_of s) m) c r (own_of (world_of t) m)) (own_of (world_of t) m ≡ own_of (world_of s) m)
 
 -- a command that was made, by what its turn tells
-told : (s : State) (k : ℕ) (c : Command) (r : Reply) (t : State) → Commanded s c r t → Turns s k c (refusal s c) → Tells s k c r t
+told : (s : State) (k : ℕ) (c : Command) (r : Reply) (t : State) → IsCarriedOut s c r t → Turns s k c (refusal (moment_of s) c) → Tells s k c r t
 told s k c r t h turns = subst (λ (x : Reply × State). Tells s k c x.0 x.1) (λ i. (sym h.reply i, sym h.state i)) (turns h.succeed)
 
 -- by the mutator itself, or by another
@@ -47,7 +50,7 @@ at_speaker : (s : State) (k m : ℕ) (c : Command) (r : Reply) (t : State) (b : 
 at_speaker s k m c r t true e within tells = subst (λ x. x < s.mutators → Knows x (own_of (world_of s) x) c r (own_of (world_of t) x)) (eqb-true k m e) tells.0 within
 at_speaker s k m c r t false e within tells = tells.1 m (eqb-false k m e)
 
-learns : (s : State) (m : ℕ) (c : Command) (r : Reply) (t : State) → Law s → AllAtHand s → m < s.mutators → IsLater c → Commanded s c r t → Learns s m c r t
+learns : (s : State) (m : ℕ) (c : Command) (r : Reply) (t : State) → Law s → AllAtHand s → m < s.mutators → IsLater c → IsCarriedOut s c r t → Learns s m c r t
 learns s m (Heap logs mutators) r t law hand within later h = absurd later
 learns s m (New k len ds) r t law hand within later h = at_speaker s k m (New k len ds) r t (nat_eq k m) refl within (told s k (New k len ds) r t h (turns_new s k len ds law))
 learns s m (Open k) r t law hand within later h = at_speaker s k m (Open k) r t (nat_eq k m) refl within (told s k (Open k) r t h (turns_open s k law))
@@ -66,13 +69,15 @@ one_more m o q c r cs rs true h rest = (q, h, rest)
 one_more m o q c r cs rs false h rest = subst (λ x. Alone m x cs rs) h rest
 
 -- the replies to a mutator's own lines are what they say by themselves
-pub alone : (s : State) (cs : List Command) (rs : List Reply) (ts : List State) (m : ℕ) → Law s → AllAtHand s → m < s.mutators → AreLater cs → Answered s cs rs ts → Alone m (own_of (world_of s) m) cs rs
-alone s [] [] [] m law hand within later h = tt
-alone s [] [] (t ∷ ts) m law hand within later h = absurd h
-alone s [] (r ∷ rs) ts m law hand within later h = absurd h
-alone s (c ∷ cs) [] ts m law hand within later h = absurd h
-alone s (c ∷ cs) (r ∷ rs) [] m law hand within later h = absurd h
-alone s (c ∷ cs) (r ∷ rs) (t ∷ ts) m law hand within later h =
-    let same : t.mutators ≡ s.mutators = ap (λ (x : State). x.mutators) h.0.state ∙ made_mutators s (events_for s c) in
-    one_more m (own_of (world_of s) m) (own_of (world_of t) m) c r cs rs (is_by m (speaker c)) (learns s m c r t law hand within later.0 h.0)
-    (alone t cs rs ts m h.0.law h.0.at_hand (subst (λ n. m < n) (sym same) within) later.1 h.1)
+pub alone : (now : Moment) (cs : List Command) (rs : List Reply) (moments : List Moment) (m : ℕ) → Lasts now → m < now.core.mutators → AreLater cs → Answered now cs rs moments →
+    Alone m (own_of (world_of now.core) m) cs rs
+alone now [] [] [] m lasts within later h = tt
+alone now [] [] (x ∷ xs) m lasts within later h = absurd h
+alone now [] (r ∷ rs) xs m lasts within later h = absurd h
+alone now (c ∷ cs) [] xs m lasts within later h = absurd h
+alone now (c ∷ cs) (r ∷ rs) [] m lasts within later h = absurd h
+alone now (c ∷ cs) (r ∷ rs) (next ∷ xs) m lasts within later h =
+    let x = carried now c r next lasts later.0 h.0 in
+    let same : next.core.mutators ≡ now.core.mutators = ap (λ (t : State). t.mutators) x.state ∙ made_mutators now.core (events_for now c) in
+    one_more m (own_of (world_of now.core) m) (own_of (world_of next.core) m) c r cs rs (is_by m (speaker c)) (learns now.core m c r next.core lasts.law lasts.tidy.at_hand within later.0 x)
+    (alone next cs rs xs m (still_lasts now c r next lasts later.0 h.0) (subst (λ n. m < n) (sym same) within) later.1 h.1)

@@ -23,11 +23,15 @@ use Rattle.far_core.specs.world.World.{World, Object}
 use Rattle.far_core.specs.world.WorldOf.{world_of}
 use Rattle.far_core.specs.world.Steps.{Makes}
 use Rattle.far_core.proofs.Keeps.{step_keeps}
+use Rattle.far_trace.specs.Moment.{moment_of}
 use Rattle.far_trace.specs.Alone.{own_of, bytes_in_world, HasLeft}
 use Rattle.far_trace.specs.Command.{New}
 use Rattle.far_trace.specs.Made.{made, AllSucceed}
 use Rattle.far_trace.specs.Reply.{Refused}
-use Rattle.far_trace.specs.Turn.{lowest_cell, refusal, first_cause, unless, new_events, new_word, zero_puts, pointer_reply}
+use Rattle.far_trace.specs.Events.{new_events, zero_puts}
+use Rattle.far_trace.specs.Objects.{lowest_cell}
+use Rattle.far_trace.specs.Effects.{new_word}
+use Rattle.far_trace.specs.Turn.{refusal, first_cause, unless, pointer_reply}
 use Rattle.far_trace.proofs.Each.{Each-row}
 use Rattle.far_trace.proofs.MadeLemmas.{made-append, AllSucceed-parts}
 use Rattle.far_trace.proofs.AloneRuns.{Same, own_other, own_here, IsQuiet, quiet_run, name_step, new_object, makes_object, was_legal}
@@ -158,5 +162,5 @@ module _ (s : State) (k len ds : ℕ) (law : Law s) where
       (λ structure long cell off _. (λ within. ((is_structure s k ds structure).1, (is_length len long).0, (is_length len long).1, one_left s k o e cell, refl), λ m ne. refl))
       (λ structure long cell space ok. at_cell o r e (is_structure s k ds structure).0 (is_structure s k ds structure).1 (is_length len long).0 (is_length len long).1 cell space ok)
 
-  pub turns_new : Turns s k (New k len ds) (refusal s (New k len ds))
+  pub turns_new : Turns s k (New k len ds) (refusal (moment_of s) (New k len ds))
   turns_new = at_causes (lowest_cell s k) (room s (size_of len) true) refl

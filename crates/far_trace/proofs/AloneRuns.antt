@@ -34,7 +34,7 @@ use Rattle.far_core.proofs.Put.{put_same, put_other, put_old}
 use Rattle.far_core.proofs.Steps.{step_does}
 use Rattle.far_trace.specs.Alone.{Own, own_of, bytes_in_world}
 use Rattle.far_trace.specs.Made.{made, Succeeds, AllSucceed}
-use Rattle.far_trace.specs.Turn.{store_events}
+use Rattle.far_trace.specs.Events.{store_events}
 use Rattle.far_trace.proofs.Each.{Each}
 
 -- ---- what a mutator knows of a world

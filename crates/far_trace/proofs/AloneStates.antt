@@ -17,7 +17,7 @@ use Rattle.far_core.proofs.Cells.{unused}
 use Rattle.far_core.proofs.KeepOwner.{nonzero}
 use Rattle.far_trace.specs.Alone.{own_of, bytes_in_world}
 use Rattle.far_trace.specs.Made.{AllAtHand, AtHand}
-use Rattle.far_trace.specs.Turn.{uses, data_of, is_range, lowest_cell}
+use Rattle.far_trace.specs.Objects.{uses, data_of, is_range, lowest_cell}
 use Rattle.far_trace.proofs.Lowest.{lowest_found}
 use Rattle.far_trace.proofs.Spliced.{AreBytes}
 

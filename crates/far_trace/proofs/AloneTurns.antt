@@ -13,11 +13,14 @@ use Rattle.far_core.specs.events.Step.{is_opened, data_len, step_of}
 use Rattle.far_core.specs.world.World.{World, Object}
 use Rattle.far_core.specs.world.WorldOf.{world_of}
 use Rattle.far_core.specs.world.Steps.{with_bytes}
+use Rattle.far_trace.specs.Moment.{moment_of}
 use Rattle.far_trace.specs.Alone.{Knows, own_of, IsOut, IsIn}
 use Rattle.far_trace.specs.Command.{Command, Open, Write, Read, Close}
 use Rattle.far_trace.specs.Made.{made, AllSucceed, AllAtHand}
 use Rattle.far_trace.specs.Reply.{Reply, Done, Refused}
-use Rattle.far_trace.specs.Turn.{uses, data_of, spliced, is_range, refusal, first_cause, unless, turn_events, turn_reply, open_events, view_events, part_events, load_events, store_events, starts_inside, ends_inside, first_word, words_touched}
+use Rattle.far_trace.specs.Events.{turn_events, open_events, view_events, part_events, load_events, store_events, starts_inside, ends_inside, first_word, words_touched}
+use Rattle.far_trace.specs.Objects.{uses, data_of, spliced, is_range}
+use Rattle.far_trace.specs.Turn.{refusal, first_cause, unless, turn_reply}
 use Rattle.far_trace.proofs.AloneBytes.{over_spliced}
 use Rattle.far_trace.proofs.Each.{Each-append, Each-row}
 use Rattle.far_trace.proofs.MadeLemmas.{made-append, AllSucceed-parts}
@@ -31,7 +34,7 @@ Tells s k c r t = (k < s.mutators → Knows k (own_of (world_of s) k) c r (own_o
 
 -- so it is with the command turned down for this cause, or with none
 abbrev pub Turns : State → ℕ → Command → Option Refusal → Type 0
-Turns s k c o = AllSucceed s (unless o (λ _. []) (turn_events s c)) → Tells s k c (unless o Refused (turn_reply s c)) (made s (unless o (λ _. []) (turn_events s c)))
+Turns s k c o = AllSucceed s (unless o (λ _. []) (turn_events (moment_of s) c)) → Tells s k c (unless o Refused (turn_reply (moment_of s) c)) (made s (unless o (λ _. []) (turn_events (moment_of s) c)))
 
 -- ---- which cause comes first
 pub two_causes : (P : Option Refusal → Type 0) (a b : Bool) (x y : Refusal) → (a ≡ true → P (Some x)) → (a ≡ false → b ≡ true → P (Some y)) → (a ≡ false → b ≡ false → P None) →
@@ -57,14 +60,14 @@ open_run s k law = cond_both (is_some (s.remembered k)) (Opens k ∷ []) (ReadsE
     let next = open_step (made s (ReadsEpoch k ∷ [])) k first.1 ok.1.0 in
     (next.0 ∙ first.0.0, next.1 ∙ ap (λ (f : ℕ → Bool). put f k true) first.0.1))
 
-pub turns_open : (s : State) (k : ℕ) → Law s → Turns s k (Open k) (refusal s (Open k))
+pub turns_open : (s : State) (k : ℕ) → Law s → Turns s k (Open k) (refusal (moment_of s) (Open k))
 turns_open s k law = two_causes (Turns s k (Open k)) (not (nat_lt k s.mutators)) (is_opened s k) Range AlreadyOpen
     (λ off _. (λ within. absurd (outside k s.mutators within off), λ m ne. refl))
     (λ _ opened _. (λ within. (open_world s k opened, refl), λ m ne. refl))
     (λ _ shut ok. let run = open_run s k law ok in let t : World = world_of (made s (open_events s k)) in
     (λ within. (shut_world s k within shut, own_scope (world_of s) t k true run.0 run.1), λ m ne. own_scope_other (world_of s) t m k true run.0 run.1 ne))
 
-pub turns_close : (s : State) (k : ℕ) → Law s → Turns s k (Close k) (refusal s (Close k))
+pub turns_close : (s : State) (k : ℕ) → Law s → Turns s k (Close k) (refusal (moment_of s) (Close k))
 turns_close s k law = two_causes (Turns s k (Close k)) (not (nat_lt k s.mutators)) (not (is_opened s k)) Range Closed
     (λ off _. (λ within. absurd (outside k s.mutators within off), λ m ne. refl))
     (λ _ shut _. (λ within. (shut_world s k within (not-true (is_opened s k) shut), refl), λ m ne. refl))
@@ -81,7 +84,7 @@ quiet_part k p from count =
     (cond_both (starts_inside from count) (Loads k p (from / 8) ∷ []) [] Quiet (λ _. (tt, tt)) (λ _. tt))
     (cond_both (ends_inside from count) (Loads k p ((from + count) / 8) ∷ []) [] Quiet (λ _. (tt, tt)) (λ _. tt))
 
-pub turns_read : (s : State) (k p from len : ℕ) → Law s → AllAtHand s → Turns s k (Read k p from len) (refusal s (Read k p from len))
+pub turns_read : (s : State) (k p from len : ℕ) → Law s → AllAtHand s → Turns s k (Read k p from len) (refusal (moment_of s) (Read k p from len))
 turns_read s k p from len law hand =
     four_causes (Turns s k (Read k p from len)) (not (nat_lt k s.mutators)) (not (is_opened s k)) (not (uses s k p)) (not (is_range (data_len s p) from len)) Range Closed NotHeld Range
     (λ off _. (λ within. absurd (outside k s.mutators within off), λ m ne. refl))
@@ -89,8 +92,8 @@ turns_read s k p from len law hand =
     (λ _ opened unused _. (λ within. (open_world s k (not-false (is_opened s k) opened), own_unused s law hand k p (not-true (uses s k p) unused), refl), λ m ne. refl))
     (λ _ opened used out _. (λ within. (open_world s k (not-false (is_opened s k) opened), refl, (data_of s p, own_used s law hand k p (not-false (uses s k p) used), out_of out)), λ m ne. refl))
     (λ _ opened used inside ok.
-    let run = quiet_run s (turn_events s (Read k p from len)) law quiet in
-    let t : World = world_of (made s (turn_events s (Read k p from len))) in (
+    let run = quiet_run s (turn_events (moment_of s) (Read k p from len)) law quiet in
+    let t : World = world_of (made s (turn_events (moment_of s) (Read k p from len))) in (
       λ within. (
         open_world s k (not-false (is_opened s k) opened),
         own_same (world_of s) t k run.0,
@@ -98,7 +101,7 @@ turns_read s k p from len law hand =
       ),
       λ m ne. own_same (world_of s) t m run.0,
     )) where
-      quiet : Quiet (turn_events s (Read k p from len))
+      quiet : Quiet (turn_events (moment_of s) (Read k p from len))
       quiet = Each-append IsQuiet (view_events s k p) (load_events k p (first_word from) (words_touched from len)) (quiet_view s k p) (Each-row IsQuiet (λ i. Loads k p i) (first_word from) (words_touched from len) (λ _ _. tt))
 
       out_of : not (is_range (data_len s p) from len) ≡ true → IsOut (data_of s p) from len
@@ -156,7 +159,7 @@ module _ (s : State) (k p from : ℕ) (bytes : List ℕ) (law : Law s) (hand : A
         λ m ne. own_other (world_of s) t m p run.0 run.1 run.2 (λ e. ne (sym own ∙ e)),
       )
 
-  pub turns_write : Turns s k (Write k p from bytes) (refusal s (Write k p from bytes))
+  pub turns_write : Turns s k (Write k p from bytes) (refusal (moment_of s) (Write k p from bytes))
   turns_write =
       four_causes (Turns s k (Write k p from bytes)) (not (nat_lt k s.mutators)) (not (is_opened s k)) (not (uses s k p)) (not (is_range (data_len s p) from (length bytes))) Range Closed NotHeld Range
       (λ off _. (λ within. absurd (outside k s.mutators within off), λ m ne. refl))

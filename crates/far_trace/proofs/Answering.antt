@@ -1,20 +1,21 @@
 -- One command more that was answered.
-use Rattle.std.proofs.Common.{◌≡◌, ℕ, ◌+◌, ◌<◌, List, [], ◌∷◌, ◌++◌, length, get_or, drop, refl, ap, sym, ◌∙◌, subst, arith, append_assoc, append-nil, zero, suc}
+use Rattle.std.proofs.Common.{◌≡◌, ℕ, ◌+◌, ◌<◌, List, [], ◌∷◌, ◌++◌, Option, Some, None, length, get_or, drop, refl, ap, sym, ◌∙◌, subst, arith, append_assoc, append-nil, zero, suc}
 use Rattle.std.specs.Prelude.{map}
 use Rattle.std.specs.List.{flat_map}
 use Rattle.std.proofs.lemmas.Grind.{flat_map-append}
 use mathlib.Core.Path.{fun_ext}
+use Rattle.far_word.specs.declared.refused.Refused.{Refused as Refusal}
 use Rattle.far_core.specs.state.Law.{Law}
 use Rattle.far_core.specs.state.State.{State}
+use Rattle.far_trace.specs.Moment.{Moment, moment_of}
 use Rattle.far_trace.specs.Answers.{Answered, Commanded}
 use Rattle.far_trace.specs.Command.{Command, Heap, New, Open, Write, Read, Close, Logs}
 use Rattle.far_trace.specs.Later.{IsLater, AreLater}
 use Rattle.far_trace.specs.Interpreter.{AllBytes, next_after}
-use Rattle.far_trace.specs.Made.{made}
 use Rattle.far_trace.specs.Reply.{Reply, printed}
 use Rattle.far_trace.specs.Tidy.{Tidy}
-use Rattle.far_trace.specs.Turn.{events_for, reply_to}
-use Rattle.far_trace.proofs.Turns.{turn_succeeds, turn_keeps_tidy, turn_law}
+use Rattle.far_trace.specs.Turn.{effect, refusal, unless}
+use Rattle.far_trace.proofs.Turns.{turns}
 
 -- what a later command writes is bytes
 pub later_bytes : (c : Command) → IsLater c → AllBytes c
@@ -37,34 +38,35 @@ drop_here f [] i x lt e = absurd (omega arith)
 drop_here f (y ∷ xs) zero x lt e = ap (λ z. f z ∷ map f xs) (sym e)
 drop_here f (y ∷ xs) (suc i) x lt e = let there : suc (i + 1) ≡ suc i + 1 = omega arith in drop_here f xs i x (omega arith) e ∙ ap (λ n. f x ∷ drop n (f y ∷ map f xs)) there
 
--- a command that was made
-module _ (s t : State) (next : ℕ → ℕ) (c : Command) (law : Law s) (tidy : Tidy s next) (small : AllBytes c) (state : t ≡ made s (events_for s c)) where
-  pub still_tidy : (then : ℕ → ℕ) → ((m : ℕ) → then m ≡ next_after s c next m) → Tidy t then
-  still_tidy then e = subst (λ f. Tidy t f) (sym (fun_ext e)) (subst (λ u. Tidy u (next_after s c next)) (sym state) (turn_keeps_tidy s next c law tidy small))
+-- the heap stays tidy behind a command
+pub still_tidy : (s t : State) (next counts : ℕ → ℕ) (c : Command) → Law s → Tidy s next → AllBytes c → moment_of t ≡ effect (moment_of s) c →
+    ((m : ℕ) → counts m ≡ next_after (moment_of s) c next m) → Tidy t counts
+still_tidy s t next counts c law tidy small is e =
+    let x = turns s next c law tidy small in
+    subst (λ f. Tidy t f) (sym (fun_ext e)) (subst (λ u. Tidy u (next_after (moment_of s) c next)) (x.ends ∙ ap (λ (m : Moment). m.core) (sym is)) x.tidy)
 
-  pub commanded : (r : Reply) → r ≡ reply_to s c → Commanded s c r t
-  commanded r reply = record {
-    reply = reply;
-    state = state;
-    succeed = turn_succeeds s next c law tidy small;
-    law = subst Law (sym state) (turn_law s next c law tidy small);
-    at_hand = (still_tidy (next_after s c next) (λ m. refl)).at_hand;
-  }
+-- a read names no cell
+same_counts : (o : Option Refusal) (next : ℕ → ℕ) (k : ℕ) → next k ≡ unless o (λ _. next) next k
+same_counts None next k = refl
+same_counts (Some why) next k = refl
+
+pub reads_name_none : (now : Moment) (c : Command) (next : ℕ → ℕ) (k m p from len : ℕ) → c ≡ Read m p from len → next k ≡ next_after now c next k
+reads_name_none now c next k m p from len e = same_counts (refusal now (Read m p from len)) next k ∙ ap (λ d. next_after now d next k) (sym e)
 
 -- the run goes on by one command
-pub answered_more : (s t : State) (cs later : List Command) (replies : List Reply) (states : List State) (c : Command) (r : Reply) (u : State) →
-    ((rest : List Reply) (more : List State) → Answered t (c ∷ later) rest more → Answered s cs (replies ++ rest) (states ++ more)) →
+pub answered_more : (s t : Moment) (cs later : List Command) (replies : List Reply) (moments : List Moment) (c : Command) (r : Reply) (u : Moment) →
+    ((rest : List Reply) (more : List Moment) → Answered t (c ∷ later) rest more → Answered s cs (replies ++ rest) (moments ++ more)) →
     Commanded t c r u →
-    (rest : List Reply) (more : List State) → Answered u later rest more → Answered s cs ((replies ++ r ∷ []) ++ rest) ((states ++ u ∷ []) ++ more)
-answered_more s t cs later replies states c r u go made rest more h =
-    subst (λ xs. Answered s cs xs ((states ++ u ∷ []) ++ more)) (sym (append_assoc replies (r ∷ []) rest))
-    (subst (λ us. Answered s cs (replies ++ r ∷ rest) us) (sym (append_assoc states (u ∷ []) more)) (go (r ∷ rest) (u ∷ more) (made, h)))
+    (rest : List Reply) (more : List Moment) → Answered u later rest more → Answered s cs ((replies ++ r ∷ []) ++ rest) ((moments ++ u ∷ []) ++ more)
+answered_more s t cs later replies moments c r u go made rest more h =
+    subst (λ xs. Answered s cs xs ((moments ++ u ∷ []) ++ more)) (sym (append_assoc replies (r ∷ []) rest))
+    (subst (λ us. Answered s cs (replies ++ r ∷ rest) us) (sym (append_assoc moments (u ∷ []) more)) (go (r ∷ rest) (u ∷ more) (made, h)))
 
 -- the run is over
-pub answered_all : (s t : State) (cs : List Command) (replies : List Reply) (states : List State) (none : List Command) → none ≡ [] →
-    ((rest : List Reply) (more : List State) → Answered t none rest more → Answered s cs (replies ++ rest) (states ++ more)) → Answered s cs replies states
-answered_all s t cs replies states none e go =
-    subst (λ xs. Answered s cs xs states) (append-nil replies) (subst (λ us. Answered s cs (replies ++ []) us) (append-nil states) (go [] [] (subst (λ cs. Answered t cs [] []) (sym e) tt)))
+pub answered_all : (s t : Moment) (cs : List Command) (replies : List Reply) (moments : List Moment) (none : List Command) → none ≡ [] →
+    ((rest : List Reply) (more : List Moment) → Answered t none rest more → Answered s cs (replies ++ rest) (moments ++ more)) → Answered s cs replies moments
+answered_all s t cs replies moments none e go =
+    subst (λ xs. Answered s cs xs moments) (append-nil replies) (subst (λ us. Answered s cs (replies ++ []) us) (append-nil moments) (go [] [] (subst (λ cs. Answered t cs [] []) (sym e) tt)))
 
 -- what is printed of one reply more
 pub printed_more : (first : Reply) (replies : List Reply) (r : Reply) → flat_map printed (first ∷ (replies ++ r ∷ [])) ≡ flat_map printed (first ∷ replies) ++ printed r

@@ -4,18 +4,18 @@ use Rattle.std.specs.Bool.{MatchBool}
 use Rattle.std.specs.List.{flat_map}
 use Rattle.far_word.specs.declared.refused.Refused.TheVariants.{Shape}
 use Rattle.far_core.specs.state.Shape.{is_shape}
-use Rattle.far_core.specs.state.State.{State}
-use Rattle.far_trace.specs.Answers.{Answered, Commanded, Answers, IsOutput, shape_of, first_state}
+use Rattle.far_trace.specs.Answers.{Answered, Commanded, Answers, IsOutput, shape_of, first_moment}
 use Rattle.far_trace.specs.Command.{Command, Heap, New, Open, Write, Read, Close, Logs}
 use Rattle.far_trace.specs.Grammar.{commands_of}
+use Rattle.far_trace.specs.Moment.{Moment}
 use Rattle.far_trace.specs.Reply.{Reply, Done, Refused, printed}
 
--- one command has one reply and one state behind it
-one_reply : (s : State) (c : Command) (r q : Reply) (t u : State) → Commanded s c r t → Commanded s c q u → (r ≡ q) × (t ≡ u)
-one_reply s c r q t u h k = (h.reply ∙ sym k.reply, h.state ∙ sym k.state)
+-- one command has one reply and one moment behind it
+one_reply : (s : Moment) (c : Command) (r q : Reply) (t u : Moment) → Commanded s c r t → Commanded s c q u → (r ≡ q) × (t ≡ u)
+one_reply s c r q t u h k = (h.reply ∙ sym k.reply, h.moment ∙ sym k.moment)
 
--- the replies and the states of a list of commands are determined by the first state
-pub determined : (s : State) (cs : List Command) (rs qs : List Reply) (ts us : List State) → Answered s cs rs ts → Answered s cs qs us → (rs ≡ qs) × (ts ≡ us)
+-- the replies and the moments of a list of commands are determined by the first moment
+pub determined : (s : Moment) (cs : List Command) (rs qs : List Reply) (ts us : List Moment) → Answered s cs rs ts → Answered s cs qs us → (rs ≡ qs) × (ts ≡ us)
 determined s [] [] [] [] [] h k = (refl, refl)
 determined s [] [] [] [] (u ∷ us) h k = absurd k
 determined s [] [] (q ∷ qs) [] us h k = absurd k
@@ -31,9 +31,9 @@ determined s (c ∷ cs) (r ∷ rs) (q ∷ qs) (t ∷ ts) (u ∷ us) h k =
     (λ i. one.0 i ∷ rest.0 i, λ i. one.1 i ∷ rest.1 i)
 
 -- what is written for a shape, with a heap or refused
-heap_once : (s : State) (cs : List Command) (b : Bool) (x y : List ℕ) →
-    MatchBool b ((rs : List Reply) × (ts : List State) × Answered s cs rs ts × (x ≡ flat_map printed (Done ∷ rs))) (x ≡ printed (Refused Shape)) →
-    MatchBool b ((rs : List Reply) × (ts : List State) × Answered s cs rs ts × (y ≡ flat_map printed (Done ∷ rs))) (y ≡ printed (Refused Shape)) → x ≡ y
+heap_once : (s : Moment) (cs : List Command) (b : Bool) (x y : List ℕ) →
+    MatchBool b ((rs : List Reply) × (ts : List Moment) × Answered s cs rs ts × (x ≡ flat_map printed (Done ∷ rs))) (x ≡ printed (Refused Shape)) →
+    MatchBool b ((rs : List Reply) × (ts : List Moment) × Answered s cs rs ts × (y ≡ flat_map printed (Done ∷ rs))) (y ≡ printed (Refused Shape)) → x ≡ y
 heap_once s cs true x y (rs, ts, h, e) (qs, us, k, f) = e ∙ ap (λ l. flat_map printed (Done ∷ l)) (determined s cs rs qs ts us h k).0 ∙ sym f
 heap_once s cs false x y e f = e ∙ sym f
 
@@ -41,7 +41,7 @@ heap_once s cs false x y e f = e ∙ sym f
 output_once : (read : Result (List Command) ℕ) (x y : List ℕ) → IsOutput read x → IsOutput read y → x ≡ y
 output_once (Err line) x y h k = h ∙ sym k
 output_once (Ok []) x y h k = h ∙ sym k
-output_once (Ok (Heap logs mutators ∷ cs)) x y h k = heap_once (first_state logs mutators) cs (is_shape (shape_of logs mutators)) x y h k
+output_once (Ok (Heap logs mutators ∷ cs)) x y h k = heap_once (first_moment logs mutators) cs (is_shape (shape_of logs mutators)) x y h k
 output_once (Ok (New m len ds ∷ cs)) x y h k = h ∙ sym k
 output_once (Ok (Open m ∷ cs)) x y h k = h ∙ sym k
 output_once (Ok (Write m p from bytes ∷ cs)) x y h k = h ∙ sym k

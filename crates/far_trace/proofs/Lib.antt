@@ -13,6 +13,7 @@ pub mod Fronts
 pub mod HexAtLemmas
 pub mod HexLemmas
 pub mod Kept
+pub mod Lasting
 pub mod LaterLines
 pub mod LineLemmas
 pub mod LoadWords
@@ -29,6 +30,7 @@ pub mod RangeWrites
 pub mod Reading
 pub mod Refusals
 pub mod Rooms
+pub mod Rows
 pub mod Runs
 pub mod SaysLemmas
 pub mod Spliced
@@ -38,4 +40,6 @@ pub mod TextLaws
 pub mod Turns
 pub mod ViewLaws
 pub mod Views
+pub mod ViewsRest
 pub mod WordLemmas
+pub mod WriteEnds

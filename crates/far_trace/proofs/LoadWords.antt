@@ -11,7 +11,8 @@ use Rattle.far_core.specs.events.Step.{step_of, is_legal, is_opened, near_data, 
 use Rattle.far_core.proofs.Owing.{is_test}
 use Rattle.far_trace.specs.Made.{made, AllSucceed}
 use Rattle.far_trace.specs.Tidy.{Tidy}
-use Rattle.far_trace.specs.Turn.{uses, view_events, load_events}
+use Rattle.far_trace.specs.Events.{view_events, load_events}
+use Rattle.far_trace.specs.Objects.{uses}
 use Rattle.far_trace.proofs.MadeLemmas.{legal_step, load_stays, first_succeeds}
 use Rattle.far_trace.proofs.Views.{Viewed, viewed}
 

@@ -7,7 +7,7 @@ use Rattle.std.proofs.lemmas.Bool.Decides.{nat_tests}
 use Rattle.far_word.specs.declared.sizes.TheConstants.{CELLS}
 use Rattle.far_core.specs.state.State.{State}
 use Rattle.far_trace.specs.Tidy.{Tidy}
-use Rattle.far_trace.specs.Turn.{lowest_cell}
+use Rattle.far_trace.specs.Objects.{lowest_cell}
 
 -- one test fewer before the first that passes
 later : (a k n : ℕ) → cond (nat_lt k n) (Some (a + 1 + k)) None ≡ cond (nat_lt (suc k) (suc n)) (Some (a + suc k)) None

@@ -12,7 +12,8 @@ use Rattle.far_core.specs.declared.event.Reply.{Reply}
 use Rattle.far_core.specs.state.State.{State}
 use Rattle.far_core.specs.events.Step.{step_of}
 use Rattle.far_trace.specs.Made.{made}
-use Rattle.far_trace.specs.Turn.{zero_puts, new_events, new_word}
+use Rattle.far_trace.specs.Events.{zero_puts, new_events}
+use Rattle.far_trace.specs.Effects.{new_word}
 use Rattle.far_trace.proofs.MadeLemmas.{made-append}
 
 -- one event more of a row

@@ -30,9 +30,11 @@ use Rattle.far_core.proofs.KeepPlace.{header}
 use Rattle.far_core.proofs.Owing.{is_test}
 use Rattle.far_core.proofs.Put.{put_both, put_same, put_other}
 use Rattle.far_core.proofs.SpanFrames.{past_tail}
+use Rattle.far_trace.specs.Effects.{with_row}
 use Rattle.far_trace.specs.Made.{made, Succeeds, AllSucceed, AtHand}
 use Rattle.far_trace.specs.Tidy.{Tidy}
-use Rattle.far_trace.specs.Turn.{zero_puts}
+use Rattle.far_trace.specs.Events.{zero_puts}
+use Rattle.far_trace.proofs.Rows.{row_is}
 use Rattle.far_trace.proofs.MadeLemmas.{made-append, AllSucceed-append, made_first, first_succeeds}
 
 -- ---- a row of zeros
@@ -332,6 +334,20 @@ module _ (s : State) (next : ℕ → ℕ) (law : Law s) (tidy : Tidy s next) (m 
   pub new_succeeds : AllSucceed s row
   new_succeeds = AllSucceed-append s (first ∷ zero_puts place (words_for len)) (Name p 0 new ∷ Adopt m p ∷ []) puts_succeed
       (subst (λ t. AllSucceed t (Name p 0 new ∷ Adopt m p ∷ [])) (sym puts_made) (taking_succeeds zeros_put.word head_put zeros_there heads_stay))
+
+  -- the puts make a header and a row of zeros
+  puts_row : zeros_put.word ≡ with_row (put s.word (addr place) (head_word p len ds)) (addr place + 1) (words_for len) (λ _. 0)
+  puts_row = row_is (put s.word (addr place) (head_word p len ds)) zeros_put.word (addr place + 1) (words_for len) (λ _. 0)
+      (λ k low high. zeros_put.zeroed k (omega arith) (omega arith)) (λ k out. zeros_put.same k (outside k out)) where
+        outside : (k : ℕ) → (k < addr place + 1) ⊎ (addr place + 1 + words_for len ≤ k) →
+            (k < place.log * LOG_WORDS + (place.at + 1 + 0)) ⊎ (place.log * LOG_WORDS + (place.at + 1 + 0) + words_for len ≤ k)
+        outside k (inl low) = inl (omega arith)
+        outside k (inr high) = inr (omega arith)
+
+  -- the events of a new object end in the state that has it
+  pub new_end : made s row ≡ record (with_span record s { word = with_row (put s.word (addr place) (head_word p len ds)) (addr place + 1) (words_for len) (λ _. 0) } p new len place) { used = put s.used p true }
+  new_end = made-append s (first ∷ zero_puts place (words_for len)) (Name p 0 new ∷ Adopt m p ∷ []) ∙ ap (λ t. made t (Name p 0 new ∷ Adopt m p ∷ [])) puts_made
+      ∙ taking_made zeros_put.word head_put zeros_there heads_stay ∙ ap (λ (f : ℕ → ℕ). record (with_span record s { word = f } p new len place) { used = put s.used p true }) puts_row
 
   -- and they keep the heap tidy, with one cell more
   pub new_tidy : Tidy (made s row) (put next m (next m + 1))

@@ -6,15 +6,15 @@ use Rattle.far_core.specs.state.Law.{Law}
 use Rattle.far_core.specs.state.Shape.{is_shape}
 use Rattle.far_core.proofs.Begins.{begins}
 use Rattle.far_core.proofs.Put.{put_other}
-use Rattle.far_trace.specs.Answers.{shape_of, first_state}
+use Rattle.far_trace.specs.Answers.{shape_of, first_moment}
 use Rattle.far_trace.specs.Tidy.{Tidy}
 
 -- the law holds of the first state
-pub opening_law : (logs mutators : ℕ) → is_shape (shape_of logs mutators) ≡ true → Law (first_state logs mutators)
+pub opening_law : (logs mutators : ℕ) → is_shape (shape_of logs mutators) ≡ true → Law (first_moment logs mutators).core
 opening_law logs mutators fits = begins (shape_of logs mutators) true fits
 
 -- in the first state no cell is named and log 0 is open
-pub opening_tidy : (logs mutators : ℕ) → is_shape (shape_of logs mutators) ≡ true → Tidy (first_state logs mutators) (λ _. 0)
+pub opening_tidy : (logs mutators : ℕ) → is_shape (shape_of logs mutators) ≡ true → Tidy (first_moment logs mutators).core (λ _. 0)
 opening_tidy logs mutators fits = record {
   at_hand = λ p ne. absurd (ne refl);
   most = λ m. omega arith;

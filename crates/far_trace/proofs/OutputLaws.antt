@@ -1,6 +1,6 @@
 -- Each text has an output; refused commands change nothing; strangers are refused; what logs tell makes 1,024.
 use Rattle.std.proofs.Common.{◌≡◌, ◌≢◌, ℕ, nat_eq, ◌+◌, ◌-◌, ◌*◌, ◌<◌, ◌≤◌, Bool, true, false, cond, not, ◌&&◌, nat_lt, length, get_or, is_some, sym, ap, refl, subst, ◌∙◌, arith, suc, Option, Some, None, Result, Ok, Err, List, [], ◌∷◌, inl, inr}
-use Rattle.std.specs.Prelude.{map, replicate, nat_le, ◌/◌, Contains}
+use Rattle.std.specs.Prelude.{map, replicate, nat_le, ◌/◌, All, Contains}
 use Rattle.std.specs.Bool.{MatchBool}
 use Rattle.std.specs.List.{flat_map, range_with_len}
 use Rattle.std.proofs.lemmas.Bool.{lt-leb, eqb-true, eqb-false}
@@ -17,48 +17,47 @@ use Rattle.far_core.specs.state.State.{State, put}
 use Rattle.far_core.specs.world.World.{Object, Group}
 use Rattle.far_core.specs.world.WorldOf.{world_of}
 use Rattle.far_core.proofs.Bounds.{some_of}
-use Rattle.far_core.proofs.Observations.{split, none_in, bytes_make_log}
+use Rattle.far_core.proofs.Observations.{All-from, split, none_in, bytes_make_log}
+use Rattle.far_trace.specs.Moment.{Moment, moment_of}
 use Rattle.far_trace.specs.Alone.{Alone, Knows, Own}
-use Rattle.far_trace.specs.Answers.{Answered, Answers, BeginsWithHeap, Commanded, IsOutput, shape_of, first_state}
+use Rattle.far_trace.specs.Answers.{Answered, Answers, BeginsWithHeap, Commanded, IsMoment, IsOutput, shape_of, first_moment}
 use Rattle.far_trace.specs.Command.{Command, Heap, New, Open, Write, Read, Close, Logs}
 use Rattle.far_trace.specs.Grammar.{commands_of}
-use Rattle.far_trace.specs.Headline.{IsSaidBy, TellsAll, TellsLog}
-use Rattle.far_trace.specs.Interpreter.{next_after}
+use Rattle.far_trace.specs.Headline.{IsSound, IsWhole, IsSaidBy, TellsAll, TellsLog}
 use Rattle.far_trace.specs.Later.{AreLater}
 use Rattle.far_trace.specs.Made.{made, AllSucceed}
 use Rattle.far_trace.specs.Reply.{Reply, Done, Pointer, Refused, LogLine, printed}
-use Rattle.far_trace.specs.Tidy.{Tidy}
-use Rattle.far_trace.specs.Turn.{causes, first_cause, refusal, unless, turn_reply, turn_events, events_for, reply_to, log_line, pointer_reply, lowest_cell, spliced, new_events}
+use Rattle.far_trace.specs.Events.{turn_events, events_for, new_events}
+use Rattle.far_trace.specs.Objects.{lowest_cell, spliced}
+use Rattle.far_trace.specs.Turn.{turn_effect, effect, causes, first_cause, refusal, unless, turn_reply, reply_to, log_line, pointer_reply}
 use Rattle.far_trace.proofs.AloneNew.{new_run, is_structure, is_length}
-use Rattle.far_trace.proofs.Answering.{later_bytes, commanded}
+use Rattle.far_trace.proofs.AloneFirst.{alone_first}
+use Rattle.far_trace.proofs.Kept.{whole}
+use Rattle.far_trace.proofs.Lasting.{carried, moment_lasts, each_is_moment, first_is_moment}
+use Rattle.far_trace.proofs.ViewLaws.{logs_stay}
 use Rattle.far_trace.proofs.LaterLines.{text_begins}
 use Rattle.far_trace.proofs.Lowest.{lowest_found, none_found}
-use Rattle.far_trace.proofs.Opened.{opening_law, opening_tidy}
 use Rattle.far_trace.proofs.Refusals.{turn_is_no_refusal, from_cause}
 use Rattle.far_trace.proofs.Spliced.{length-spliced, spliced_before, spliced_inside, spliced_behind}
-use Rattle.far_trace.proofs.Turns.{four, turn_law, turn_keeps_tidy}
+use Rattle.far_trace.proofs.Turns.{four}
 
 -- ---- each text has an output
--- each list of later commands is answered
-answers_all : (s : State) (next : ℕ → ℕ) (cs : List Command) → Law s → Tidy s next → AreLater cs → (rs : List Reply) × (ts : List State) × Answered s cs rs ts
-answers_all s next [] law tidy later = ([], [], tt)
-answers_all s next (c ∷ cs) law tidy later =
-    let t : State = made s (events_for s c) in
-    let small = later_bytes c later.0 in
-    let rest = answers_all t (next_after s c next) cs (turn_law s next c law tidy small) (turn_keeps_tidy s next c law tidy small) later.1 in
-    (reply_to s c ∷ rest.0, t ∷ rest.1, (commanded s t next c law tidy small refl (reply_to s c) refl, rest.2))
+-- each list of commands is answered
+answers_all : (now : Moment) (cs : List Command) → (rs : List Reply) × (moments : List Moment) × Answered now cs rs moments
+answers_all now [] = ([], [], tt)
+answers_all now (c ∷ cs) =
+    let rest = answers_all (effect now c) cs in
+    (reply_to now c ∷ rest.0, effect now c ∷ rest.1, (record { reply = refl; moment = refl }, rest.2))
 
-heap_answered : (logs mutators : ℕ) (cs : List Command) → AreLater cs → (b : Bool) → is_shape (shape_of logs mutators) ≡ b →
-    (output : List ℕ) × MatchBool b ((rs : List Reply) × (ts : List State) × Answered (first_state logs mutators) cs rs ts × (output ≡ flat_map printed (Done ∷ rs))) (output ≡ printed (Refused Shape))
-heap_answered logs mutators cs later true e =
-    let x = answers_all (first_state logs mutators) (λ _. 0) cs (opening_law logs mutators e) (opening_tidy logs mutators e) later in
-    (flat_map printed (Done ∷ x.0), (x.0, x.1, x.2, refl))
-heap_answered logs mutators cs later false e = (printed (Refused Shape), refl)
+heap_answered : (logs mutators : ℕ) (cs : List Command) (b : Bool) →
+    (output : List ℕ) × MatchBool b ((rs : List Reply) × (moments : List Moment) × Answered (first_moment logs mutators) cs rs moments × (output ≡ flat_map printed (Done ∷ rs))) (output ≡ printed (Refused Shape))
+heap_answered logs mutators cs true = let x = answers_all (first_moment logs mutators) cs in (flat_map printed (Done ∷ x.0), (x.0, x.1, x.2, refl))
+heap_answered logs mutators cs false = (printed (Refused Shape), refl)
 
 read_answered : (read : Result (List Command) ℕ) → ((cs : List Command) → read ≡ Ok cs → BeginsWithHeap cs) → (output : List ℕ) × IsOutput read output
 read_answered (Err line) h = (printed (Refused (Syntax line)), refl)
 read_answered (Ok []) h = ([], refl)
-read_answered (Ok (Heap logs mutators ∷ cs)) h = heap_answered logs mutators cs (h (Heap logs mutators ∷ cs) refl) (is_shape (shape_of logs mutators)) refl
+read_answered (Ok (Heap logs mutators ∷ cs)) h = heap_answered logs mutators cs (is_shape (shape_of logs mutators))
 read_answered (Ok (New m len ds ∷ cs)) h = absurd (h (New m len ds ∷ cs) refl)
 read_answered (Ok (Open m ∷ cs)) h = absurd (h (Open m ∷ cs) refl)
 read_answered (Ok (Write m p from bytes ∷ cs)) h = absurd (h (Write m p from bytes ∷ cs) refl)
@@ -70,23 +69,23 @@ pub each_answered : (text : List ℕ) → (output : List ℕ) × Answers text ou
 each_answered text = read_answered (commands_of text) (text_begins text)
 
 -- ---- a refused command makes no event
-pub refused_stays : (s : State) (c : Command) (r : Reply) (t : State) (why : Refusal) → Commanded s c r t → r ≡ Refused why → t ≡ s
-refused_stays s c r t why h e =
-    let cause : refusal s c ≡ Some why = from_cause (refusal s c) (turn_reply s c) why (turn_is_no_refusal s c why) (sym h.reply ∙ e) in
-    h.state ∙ ap (λ o. made s (unless o (λ _. []) (turn_events s c))) cause
+pub refused_stays : (now : Moment) (c : Command) (r : Reply) (next : Moment) (why : Refusal) → Commanded now c r next → r ≡ Refused why → next ≡ now
+refused_stays now c r next why h e =
+    let cause : refusal now c ≡ Some why = from_cause (refusal now c) (turn_reply now c) why (turn_is_no_refusal now.core c why) (sym h.reply ∙ e) in
+    h.moment ∙ ap (λ o. unless o (λ _. now) (turn_effect now c)) cause
 
 -- ---- a mutator that the heap hasn't
 -- the first cause holds
-first_holds : (s : State) (c : Command) (b : Bool) (rest : List (Bool × Refusal)) → causes s c ≡ (b, Range) ∷ rest → b ≡ true → reply_to s c ≡ Refused Range
+first_holds : (s : State) (c : Command) (b : Bool) (rest : List (Bool × Refusal)) → causes (moment_of s) c ≡ (b, Range) ∷ rest → b ≡ true → reply_to (moment_of s) c ≡ Refused Range
 first_holds s c b rest is holds =
-    let cause : refusal s c ≡ Some Range = ap first_cause is ∙ ap (λ x. cond x (Some Range) (first_cause rest)) holds in
-    ap (λ o. unless o Refused (turn_reply s c)) cause
+    let cause : refusal (moment_of s) c ≡ Some Range = ap first_cause is ∙ ap (λ x. cond x (Some Range) (first_cause rest)) holds in
+    ap (λ o. unless o Refused (turn_reply (moment_of s) c)) cause
 
 -- a number past the last mutator isn't one
 past : (s : State) (m k : ℕ) → m ≡ k → s.mutators ≤ m → nat_lt k s.mutators ≡ false
 past s m k e h = lt-leb (suc k) s.mutators (omega (arith, e, h))
 
-strange : (s : State) (c : Command) (m : ℕ) → IsSaidBy m c → s.mutators ≤ m → reply_to s c ≡ Refused Range
+strange : (s : State) (c : Command) (m : ℕ) → IsSaidBy m c → s.mutators ≤ m → reply_to (moment_of s) c ≡ Refused Range
 strange s (Heap logs mutators) m e h = absurd e
 strange s (New k len ds) m e h = first_holds s (New k len ds) (not (nat_lt k s.mutators && nat_lt ds 256)) _ refl (ap (λ b. not (b && nat_lt ds 256)) (past s m k e h))
 strange s (Open k) m e h = first_holds s (Open k) (not (nat_lt k s.mutators)) _ refl (ap not (past s m k e h))
@@ -95,27 +94,28 @@ strange s (Read k p from len) m e h = first_holds s (Read k p from len) (not (na
 strange s (Close k) m e h = first_holds s (Close k) (not (nat_lt k s.mutators)) _ refl (ap not (past s m k e h))
 strange s Logs m e h = absurd e
 
-pub stranger : (s : State) (c : Command) (r : Reply) (t : State) (m : ℕ) → IsSaidBy m c → s.mutators ≤ m → Commanded s c r t → r ≡ Refused Range
-stranger s c r t m e h k = k.reply ∙ strange s c m e h
+pub stranger : (now : Moment) (c : Command) (r : Reply) (next : Moment) (m : ℕ) → IsSaidBy m c → now.core.mutators ≤ m → Commanded now c r next → r ≡ Refused Range
+stranger now c r next m e h k = k.reply ∙ strange now.core c m e h
 
 -- ---- what logs tell
-numbered : (s : State) (ls : List ℕ) → map (λ (line : LogLine). line.log) (map (log_line s) ls) ≡ ls
+numbered : (s : State) (ls : List ℕ) → map (λ (line : LogLine). line.log) (map (log_line (moment_of s)) ls) ≡ ls
 numbered s [] = refl
 numbered s (l ∷ ls) = ap (λ xs. l ∷ xs) (numbered s ls)
 
 -- what is so of each log's line is so of each line that is told
-of_each : (P : LogLine → Type 0) (s : State) → ((l : ℕ) → P (log_line s l)) → (ls : List ℕ) (line : LogLine) → Contains (map (log_line s) ls) line → P line
+of_each : (P : LogLine → Type 0) (s : State) → ((l : ℕ) → P (log_line (moment_of s) l)) → (ls : List ℕ) (line : LogLine) → Contains (map (log_line (moment_of s)) ls) line → P line
 of_each P s h [] line c = absurd (none_in line c)
-of_each P s h (l ∷ ls) line c = elim (split line (log_line s l) (map (log_line s) ls) c) [
+of_each P s h (l ∷ ls) line c = elim (split line (log_line (moment_of s) l) (map (log_line (moment_of s)) ls) c) [
   | inl e ↦ subst P e (h l)
   | inr later ↦ of_each P s h ls line later
 ]
 
-tells_log : (s : State) → Law s → (l : ℕ) → TellsLog s (log_line s l)
+tells_log : (s : State) → Law s → (l : ℕ) → TellsLog (moment_of s) (log_line (moment_of s) l)
 tells_log s law l = record { kind = refl; live = refl; dead = refl; unused = refl; whole = bytes_make_log s law l }
 
-pub told : (s : State) (r : Reply) (t : State) → Law s → Commanded s Logs r t → TellsAll s r
-told s r t law h = subst (TellsAll s) (sym h.reply) (numbered s (range_with_len 0 s.logs), of_each (TellsLog s) s (tells_log s law) (range_with_len 0 s.logs))
+pub told : (now : Moment) (r : Reply) (next : Moment) → Law now.core → Commanded now Logs r next → TellsAll now r
+told now r next law h =
+    subst (TellsAll now) (sym h.reply) (numbered now.core (range_with_len 0 now.core.logs), of_each (TellsLog now) now.core (tells_log now.core law) (range_with_len 0 now.core.logs))
 
 -- ---- the lowest cell that is free
 told_pointer : (o : Option Refusal) (x : Option ℕ) (p : ℕ) → Pointer p ≡ unless o Refused (pointer_reply x) → x ≡ Some p
@@ -123,10 +123,10 @@ told_pointer None None p e = absurd cc
 told_pointer None (Some q) p e = let same : p ≡ q = cc in ap Some (sym same)
 told_pointer (Some why) x p e = absurd cc
 
-pub takes_lowest : (s : State) (m len ds p : ℕ) (t : State) → Commanded s (New m len ds) (Pointer p) t →
-    (m * CELLS ≤ p) × (p < m * CELLS + CELLS) × (s.cell p ≡ 0) × ((q : ℕ) → m * CELLS ≤ q → q < p → s.cell q ≢ 0)
+pub takes_lowest : (now : Moment) (m len ds p : ℕ) (next : Moment) → Commanded now (New m len ds) (Pointer p) next →
+    (m * CELLS ≤ p) × (p < m * CELLS + CELLS) × (now.core.cell p ≡ 0) × ((q : ℕ) → m * CELLS ≤ q → q < p → now.core.cell q ≢ 0)
 unfolding lowest_cell
-takes_lowest s m len ds p t h = lowest_found s.cell (m * CELLS) CELLS p (told_pointer (refusal s (New m len ds)) (lowest_cell s m) p h.reply)
+takes_lowest now m len ds p next h = lowest_found now.core.cell (m * CELLS) CELLS p (told_pointer (refusal now (New m len ds)) (lowest_cell now.core m) p h.reply)
 
 third : (a b c d : Bool) → first_cause ((a, Range) ∷ (b, Length) ∷ (c, NoPointer) ∷ (d, NoRoom) ∷ []) ≡ Some NoPointer → c ≡ true
 third true b c d e = absurd cc
@@ -146,19 +146,19 @@ is_nothing : {X : Type 0} (o : Option X) → not (is_some o) ≡ true → o ≡ 
 is_nothing None e = refl
 is_nothing (Some x) e = absurd cc
 
-why_refused : (s : State) (c : Command) (why : Refusal) (t : State) → Commanded s c (Refused why) t → refusal s c ≡ Some why
-why_refused s c why t h = from_cause (refusal s c) (turn_reply s c) why (turn_is_no_refusal s c why) (sym h.reply)
+why_refused : (now : Moment) (c : Command) (why : Refusal) (next : Moment) → Commanded now c (Refused why) next → refusal now c ≡ Some why
+why_refused now c why next h = from_cause (refusal now c) (turn_reply now c) why (turn_is_no_refusal now.core c why) (sym h.reply)
 
 no_cell : (s : State) (m : ℕ) → lowest_cell s m ≡ None → (q : ℕ) → m * CELLS ≤ q → q < m * CELLS + CELLS → s.cell q ≢ 0
 unfolding lowest_cell
 no_cell s m e = none_found s.cell (m * CELLS) CELLS e
 
-pub none_left : (s : State) (m len ds : ℕ) (t : State) →
-    (Commanded s (New m len ds) (Refused NoPointer) t → (q : ℕ) → m * CELLS ≤ q → q < m * CELLS + CELLS → s.cell q ≢ 0)
-    × (Commanded s (New m len ds) (Refused NoRoom) t → room s (size_of len) true ≡ None)
-none_left s m len ds t = (
-  (λ h. no_cell s m (is_nothing (lowest_cell s m) (third _ _ _ _ (why_refused s (New m len ds) NoPointer t h)))),
-  (λ h. is_nothing (room s (size_of len) true) (fourth _ _ _ _ (why_refused s (New m len ds) NoRoom t h))),
+pub none_left : (now : Moment) (m len ds : ℕ) (next : Moment) →
+    (Commanded now (New m len ds) (Refused NoPointer) next → (q : ℕ) → m * CELLS ≤ q → q < m * CELLS + CELLS → now.core.cell q ≢ 0)
+    × (Commanded now (New m len ds) (Refused NoRoom) next → room now.core (size_of len) true ≡ None)
+none_left now m len ds next = (
+  (λ h. no_cell now.core m (is_nothing (lowest_cell now.core m) (third _ _ _ _ (why_refused now (New m len ds) NoPointer next h)))),
+  (λ h. is_nothing (room now.core (size_of len) true) (fourth _ _ _ _ (why_refused now (New m len ds) NoRoom next h))),
 )
 
 -- what a new object in range is answered, by the lowest free cell and the room
@@ -188,19 +188,19 @@ lowest_is_free : (s : State) (m p : ℕ) → lowest_cell s m ≡ Some p → (m *
 unfolding lowest_cell
 lowest_is_free s m p e = let x = lowest_found s.cell (m * CELLS) CELLS p e in (x.0, x.1, x.2)
 
-pub is_made : (s : State) (m len ds : ℕ) (r : Reply) (t : State) → m < s.mutators → ds < 256 → 0 < len → len ≤ LONGEST → Commanded s (New m len ds) r t →
-    (((q : ℕ) → m * CELLS ≤ q → q < m * CELLS + CELLS → s.cell q ≢ 0) → r ≡ Refused NoPointer)
-    × ((q : ℕ) → m * CELLS ≤ q → q < m * CELLS + CELLS → s.cell q ≡ 0 →
-    (room s (size_of len) true ≡ None → r ≡ Refused NoRoom) × ((place : Place) → room s (size_of len) true ≡ Some place → (p : ℕ) × (r ≡ Pointer p)))
-is_made s m len ds r t own structure some most h =
-    let x : Option ℕ = lowest_cell s m in
-    let y : Option Place = room s (size_of len) true in
-    let a : not (nat_lt m s.mutators && nat_lt ds 256) ≡ false = numbers_fit m s.mutators ds own structure in
+pub is_made : (now : Moment) (m len ds : ℕ) (r : Reply) (next : Moment) → m < now.core.mutators → ds < 256 → 0 < len → len ≤ LONGEST → Commanded now (New m len ds) r next →
+    (((q : ℕ) → m * CELLS ≤ q → q < m * CELLS + CELLS → now.core.cell q ≢ 0) → r ≡ Refused NoPointer)
+    × ((q : ℕ) → m * CELLS ≤ q → q < m * CELLS + CELLS → now.core.cell q ≡ 0 →
+    (room now.core (size_of len) true ≡ None → r ≡ Refused NoRoom) × ((place : Place) → room now.core (size_of len) true ≡ Some place → (p : ℕ) × (r ≡ Pointer p)))
+is_made now m len ds r next own structure some most h =
+    let x : Option ℕ = lowest_cell now.core m in
+    let y : Option Place = room now.core (size_of len) true in
+    let a : not (nat_lt m now.core.mutators && nat_lt ds 256) ≡ false = numbers_fit m now.core.mutators ds own structure in
     let b : not (nat_lt 0 len && nat_le len LONGEST) ≡ false = length_fits len some most in
-    let is : r ≡ new_answer x y = h.reply ∙ in_range (not (nat_lt m s.mutators && nat_lt ds 256)) (not (nat_lt 0 len && nat_le len LONGEST)) x y a b in (
-      (λ taken. is ∙ no_lowest x y (λ p e. let free = lowest_is_free s m p e in taken p free.0 free.1 free.2)),
+    let is : r ≡ new_answer x y = h.reply ∙ in_range (not (nat_lt m now.core.mutators && nat_lt ds 256)) (not (nat_lt 0 len && nat_le len LONGEST)) x y a b in (
+      (λ taken. is ∙ no_lowest x y (λ p e. let free = lowest_is_free now.core m p e in taken p free.0 free.1 free.2)),
       (λ q low high free.
-          let found = some_lowest x y (λ none. no_cell s m none q low high free) in
+          let found = some_lowest x y (λ none. no_cell now.core m none q low high free) in
           ((λ e. is ∙ found.0 e), (λ place e. let made_at = found.1 place e in (made_at.0, is ∙ made_at.1)))),
     )
   where
@@ -243,20 +243,51 @@ not_refused : (o : Option Refusal) (x : Option ℕ) (p : ℕ) → Pointer p ≡ 
 not_refused None x p e = refl
 not_refused (Some why) x p e = absurd cc
 
-pub makes_its_object : (s : State) (m len ds p : ℕ) (t : State) → Law s → Commanded s (New m len ds) (Pointer p) t → (place : Place) × (room s (size_of len) true ≡ Some place)
-    × ((world_of t).object ≡ put (world_of s).object p (Some record { owner = m; ds = ds; bytes = replicate len 0; home = Group place.log }))
-makes_its_object s m len ds p t law h =
-    let none : refusal s (New m len ds) ≡ None = not_refused (refusal s (New m len ds)) (lowest_cell s m) p h.reply in
+pub makes_its_object : (now : Moment) (m len ds p : ℕ) (next : Moment) → IsMoment now → Commanded now (New m len ds) (Pointer p) next → (place : Place) × (room now.core (size_of len) true ≡ Some place)
+    × ((world_of next.core).object ≡ put (world_of now.core).object p (Some record { owner = m; ds = ds; bytes = replicate len 0; home = Group place.log }))
+makes_its_object now m len ds p next is c =
+    let s : State = now.core in
+    let lasts = moment_lasts now is in
+    let h = carried now (New m len ds) (Pointer p) next lasts tt c in
+    let none : refusal now (New m len ds) ≡ None = not_refused (refusal now (New m len ds)) (lowest_cell s m) p h.reply in
     let parts = four (nat_lt m s.mutators && nat_lt ds 256) (nat_lt 0 len && nat_le len LONGEST) (is_some (lowest_cell s m)) (is_some (room s (size_of len) true)) Range Length NoPointer NoRoom none in
-    let low : lowest_cell s m ≡ Some p = told_pointer (refusal s (New m len ds)) (lowest_cell s m) p h.reply in
+    let low : lowest_cell s m ≡ Some p = told_pointer (refusal now (New m len ds)) (lowest_cell s m) p h.reply in
     let at = some_of (room s (size_of len) true) parts.3 in
     let numbers = is_structure s m ds (ap not parts.0) in
     let sized = is_length len (ap not parts.1) in
-    let where_it_is = takes_lowest s m len ds p t h in
+    let where_it_is = takes_lowest now m len ds p next c in
     let own : p / CELLS ≡ m = omega (arith, where_it_is.0, where_it_is.1) in
-    let events : events_for s (New m len ds) ≡ new_events m len ds (Some p) (Some at.0) =
-    ap (λ o. unless o (λ _. []) (turn_events s (New m len ds))) none ∙ ap (λ o. new_events m len ds o (room s (size_of len) true)) low ∙ ap (λ r. new_events m len ds (Some p) r) at.1 in
-    let run = new_run s m len ds p at.0 law numbers.0 own sized.1 numbers.1 (subst (AllSucceed s) events h.succeed) in
+    let events : events_for now (New m len ds) ≡ new_events m len ds (Some p) (Some at.0) =
+    ap (λ o. unless o (λ _. []) (turn_events now (New m len ds))) none ∙ ap (λ o. new_events m len ds o (room s (size_of len) true)) low ∙ ap (λ r. new_events m len ds (Some p) r) at.1 in
+    let run = new_run s m len ds p at.0 lasts.law numbers.0 own sized.1 numbers.1 (subst (AllSucceed s) events h.succeed) in
     let whole : run.0 ≡ record { owner = m; ds = ds; bytes = replicate len 0; home = Group at.0.log } =
     run.5 ∙ ap (λ (o : ℕ). record { owner = o; ds = ds; bytes = replicate len 0; home = Group at.0.log }) own in
     (at.0, at.1, ap (λ (x : State). (world_of x).object) (h.state ∙ ap (made s) events) ∙ run.2 ∙ ap (λ (o : Object). put (world_of s).object p (Some o)) whole)
+
+-- ---- one law from the text
+pub objects_whole : (now : Moment) (cs : List Command) (rs : List Reply) (moments : List Moment) → IsMoment now → AreLater cs → Answered now cs rs moments →
+    All (λ (x : Moment). IsWhole x.core) (now ∷ moments)
+objects_whole now cs rs moments is later h =
+    All-from (λ (x : Moment). IsWhole x.core) (now ∷ moments) (λ x c. whole x.core (moment_lasts x (each_is_moment now cs rs moments is later h x c)).law)
+
+in_shape : (logs mutators : ℕ) (cs : List Command) (output : List ℕ) (b : Bool) → b ≡ true →
+    MatchBool b ((rs : List Reply) × (moments : List Moment) × Answered (first_moment logs mutators) cs rs moments × (output ≡ flat_map printed (Done ∷ rs))) (output ≡ printed (Refused Shape)) →
+    (rs : List Reply) × (moments : List Moment) × Answered (first_moment logs mutators) cs rs moments × (output ≡ flat_map printed (Done ∷ rs))
+in_shape logs mutators cs output true e h = h
+in_shape logs mutators cs output false e h = absurd cc
+
+pub outputs_sound : (text output : List ℕ) (logs mutators : ℕ) (cs : List Command) → Answers text output → commands_of text ≡ Ok (Heap logs mutators ∷ cs) →
+    is_shape (shape_of logs mutators) ≡ true → IsSound logs mutators cs output
+outputs_sound text output logs mutators cs answers reads fits =
+    let later : AreLater cs = text_begins text (Heap logs mutators ∷ cs) reads in
+    let is : IsMoment (first_moment logs mutators) = first_is_moment logs mutators fits in
+    let (rs, moments, h, e) = in_shape logs mutators cs output (is_shape (shape_of logs mutators)) fits (subst (λ (x : Result (List Command) ℕ). IsOutput x output) reads answers) in
+    record {
+      replies = rs;
+      moments = moments;
+      answered = h;
+      printed_so = e;
+      whole = objects_whole (first_moment logs mutators) cs rs moments is later h;
+      stay = logs_stay (first_moment logs mutators) cs rs moments is later h;
+      alone = λ m within. alone_first logs mutators m cs rs moments fits within later h;
+    }

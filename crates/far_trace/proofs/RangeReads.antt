@@ -12,7 +12,8 @@ use Rattle.far_core.specs.events.Step.{near_data, data_len, is_opened}
 use Rattle.far_trace.specs.Interpreter.{loaded, word_in}
 use Rattle.far_trace.specs.Made.{made}
 use Rattle.far_trace.specs.Tidy.{Tidy}
-use Rattle.far_trace.specs.Turn.{view_events, load_events, uses, first_part, starts_inside}
+use Rattle.far_trace.specs.Events.{view_events, load_events, first_part, starts_inside}
+use Rattle.far_trace.specs.Objects.{uses}
 use Rattle.far_trace.proofs.LoadWords.{loads_stay, load_word}
 use Rattle.far_trace.proofs.MadeLemmas.{load_stays}
 

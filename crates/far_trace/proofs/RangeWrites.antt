@@ -24,7 +24,8 @@ use Rattle.far_core.specs.events.Step.{near_len, near_data, data_len}
 use Rattle.far_core.proofs.Bounds.{span_len}
 use Rattle.far_trace.specs.Interpreter.{stores_of}
 use Rattle.far_trace.specs.Made.{made}
-use Rattle.far_trace.specs.Turn.{spliced, starts_inside, ends_inside, words_touched, store_events}
+use Rattle.far_trace.specs.Events.{starts_inside, ends_inside, words_touched, store_events}
+use Rattle.far_trace.specs.Objects.{spliced}
 use Rattle.far_trace.proofs.MadeLemmas.{made-append}
 use Rattle.far_trace.proofs.Spliced.{spliced_before, spliced_inside, spliced_behind}
 use Rattle.far_trace.proofs.Fronts.{shifted_byte}

@@ -3,14 +3,17 @@ use Rattle.std.proofs.Common.{◌≡◌, ℕ, Bool, sym, ap, ◌∙◌, subst, O
 use Rattle.std.proofs.lemmas.Bool.{cond_both}
 use Rattle.far_word.specs.declared.refused.Refused.{Refused as Refusal}
 use Rattle.far_core.specs.state.State.{State}
+use Rattle.far_trace.specs.Made.{AllAtHand}
+use Rattle.far_trace.specs.Moment.{Moment, moment_of}
 use Rattle.far_trace.specs.Answers.{Commanded}
 use Rattle.far_trace.specs.Command.{Command, Heap, New, Open, Write, Read, Close, Logs}
 use Rattle.far_trace.specs.Headline.{MayRefuse}
 use Rattle.far_trace.specs.Reply.{Reply, Refused}
-use Rattle.far_trace.specs.Turn.{causes, first_cause, refusal, unless, turn_reply, pointer_reply, lowest_cell}
+use Rattle.far_trace.specs.Objects.{lowest_cell}
+use Rattle.far_trace.specs.Turn.{causes, first_cause, refusal, unless, turn_reply, pointer_reply}
 use Rattle.far_trace.proofs.Each.{Each}
 
--- P holds of the refusal of each cause
+-- P holds of the refusal (moment_of of) each cause
 abbrev EachCause : (Refusal → Type 0) → List (Bool × Refusal) → Type 0
 EachCause P = Each (λ (c : Bool × Refusal). P c.1)
 
@@ -21,8 +24,8 @@ among P (c ∷ cs) why h = cond_both c.0 (Some c.1) (first_cause cs) (λ (x : Op
     (λ _ e. let same : c.1 ≡ why = cc in subst P same h.0)
     (λ _ e. among P cs why h.1 e)
 
--- the causes of each command are those that it may be refused for
-listed : (s : State) (c : Command) → EachCause (MayRefuse c) (causes s c)
+-- the causes (moment_of of) each command are those that it may be refused for
+listed : (s : State) (c : Command) → EachCause (MayRefuse c) (causes (moment_of s) c)
 listed s (Heap logs mutators) = tt
 listed s (New m len ds) = (tt, (tt, (tt, (tt, tt))))
 listed s (Open m) = (tt, (tt, tt))
@@ -36,7 +39,7 @@ pointer_is_no_refusal : (o : Option ℕ) (why : Refusal) → pointer_reply o ≡
 pointer_is_no_refusal None why e = cc
 pointer_is_no_refusal (Some p) why e = cc
 
-pub turn_is_no_refusal : (s : State) (c : Command) (why : Refusal) → turn_reply s c ≡ Refused why → ⊥
+pub turn_is_no_refusal : (s : State) (c : Command) (why : Refusal) → turn_reply (moment_of s) c ≡ Refused why → ⊥
 turn_is_no_refusal s (Heap logs mutators) why e = cc
 turn_is_no_refusal s (New m len ds) why e = pointer_is_no_refusal (lowest_cell s m) why e
 turn_is_no_refusal s (Open m) why e = cc
@@ -49,5 +52,6 @@ pub from_cause : (o : Option Refusal) (r : Reply) (why : Refusal) → (r ≡ Ref
 from_cause None r why none e = absurd (none e)
 from_cause (Some cause) r why none e = let same : cause ≡ why = cc in ap Some same
 
-pub near_refusals : (s : State) (c : Command) (r : Reply) (t : State) (why : Refusal) → Commanded s c r t → r ≡ Refused why → MayRefuse c why
-near_refusals s c r t why h e = among (MayRefuse c) (causes s c) why (listed s c) (from_cause (refusal s c) (turn_reply s c) why (turn_is_no_refusal s c why) (sym h.reply ∙ e))
+pub near_refusals : (now : Moment) (c : Command) (r : Reply) (next : Moment) (why : Refusal) → AllAtHand now.core → Commanded now c r next → r ≡ Refused why → MayRefuse c why
+near_refusals now c r next why hand h e =
+    among (MayRefuse c) (causes now c) why (listed now.core c) (from_cause (refusal now c) (turn_reply now c) why (turn_is_no_refusal now.core c why) (sym h.reply ∙ e))

@@ -5,7 +5,7 @@ use Rattle.std.proofs.lemmas.List.{get_or_past, get_or-take, get_or-drop, get_or
 use lib.Pow.{pow_mono}
 use Rattle.far_word.specs.Bytes.{word_at, packed_word}
 use Rattle.far_word.specs.Sizes.{words_for}
-use Rattle.far_trace.specs.Turn.{spliced}
+use Rattle.far_trace.specs.Objects.{spliced}
 
 -- ---- the words of bytes
 -- each of the bytes is below 256

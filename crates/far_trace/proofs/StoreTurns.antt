@@ -1,4 +1,5 @@
 -- Stores into an object that is held: each is made, and the heap stays tidy.
+use mathlib.Core.Path.{fun_ext}
 use Rattle.std.proofs.Common.{◌≡◌, ℕ, zero, suc, ◌+◌, ◌-◌, ◌*◌, ◌^◌, ◌<◌, true, refl, sym, ap, subst, ◌∙◌, arith, List, map}
 use Rattle.std.specs.List.{range_with_len}
 use Rattle.far_word.specs.declared.pointer.Place.{Place}
@@ -9,14 +10,17 @@ use Rattle.far_core.specs.declared.event.Event.TheVariants.{Store}
 use Rattle.far_core.specs.state.Law.{Law, head_len}
 use Rattle.far_core.specs.events.Legal.{Legal, HoldsObject}
 use Rattle.far_core.specs.state.State.{State, put, addr}
+use Rattle.far_word.specs.Pointer.{read_of}
 use Rattle.far_core.specs.events.Step.{is_legal, after, data_word, near_data}
 use Rattle.far_core.proofs.Bounds.{span_len}
 use Rattle.far_core.proofs.Keeps.{keeps}
 use Rattle.far_core.proofs.KeepWords.{head_stays}
 use Rattle.far_core.proofs.Owing.{is_test}
+use Rattle.far_trace.specs.Effects.{with_row}
 use Rattle.far_trace.specs.Made.{made, AllSucceed}
 use Rattle.far_trace.specs.Tidy.{Tidy}
 use Rattle.far_trace.proofs.MadeLemmas.{made_first, first_succeeds}
+use Rattle.far_trace.proofs.Rows.{row_none, row_first}
 
 -- other words leave the heap tidy, if the headers stay
 pub tidy_words : (s : State) (next : ℕ → ℕ) (word : ℕ → ℕ) → Tidy s next → ((a : ℕ) → s.starts a ≡ true → word a ≡ s.word a) → Tidy record s { word = word } next
@@ -70,3 +74,22 @@ module _ (next : ℕ → ℕ) (m p len : ℕ) (place : Place) (w : ℕ → ℕ) 
       (λ i less. let e : first + suc i ≡ first + 1 + i = omega arith in subst (λ k. k < words_for len) e (inside (suc i) (omega arith))) in
       let row : List Event = map (λ i. Store m p i (w i)) (range_with_len (first + 1) count) in
       (first_succeeds u (Store m p first (w first)) row legal tt rest.0, subst (λ t. Tidy t next) (sym (made_first u (Store m p first (w first)) row legal)) rest.1)
+
+  -- they make a row of words
+  pub stores_end : (count first : ℕ) (u : State) → Law u → HoldsObject u m p len place → ((i : ℕ) → i < count → first + i < words_for len) →
+      made u (map (λ i. Store m p i (w i)) (range_with_len first count)) ≡ record u { word = with_row u.word (near_data (read_of (u.cell p)) + first) count (λ i. w (first + i)) }
+  stores_end zero first u law h inside = ap (λ (f : ℕ → ℕ). record u { word = f }) (row_none u.word (near_data (read_of (u.cell p)) + first) (λ i. w (first + i)))
+  stores_end (suc count) first u law h inside =
+      let at : first + 0 ≡ first = omega arith in
+      let lt : first < words_for len = subst (λ i. i < words_for len) at (inside 0 (omega arith)) in
+      let fact = store_fact u h first lt in
+      let legal : is_legal u (Store m p first (w first)) ≡ true = is_test u (Store m p first (w first)) fact in
+      let row : List Event = map (λ i. Store m p i (w i)) (range_with_len (first + 1) count) in
+      let d : ℕ = near_data (read_of (u.cell p)) in
+      let one : d + (first + 1) ≡ d + first + 1 = omega arith in
+      let next : (λ (i : ℕ). w (first + 1 + i)) ≡ (λ i. w (first + (i + 1))) = fun_ext (λ i. let e : first + 1 + i ≡ first + (i + 1) = omega arith in ap w e) in
+      made_first u (Store m p first (w first)) row legal
+      ∙ stores_end count (first + 1) (after u (Store m p first (w first))) (keeps u (Store m p first (w first)) law (wide first) fact) (store_holds u h first)
+      (λ i less. let e : first + suc i ≡ first + 1 + i = omega arith in subst (λ k. k < words_for len) e (inside (suc i) (omega arith)))
+      ∙ ap (λ (f : ℕ → ℕ). record u { word = f })
+      ((λ j. with_row (put u.word (d + first) (w first)) (one j) count (next j)) ∙ row_first u.word (d + first) count (w first) (λ i. w (first + i)) (ap w (sym at)))

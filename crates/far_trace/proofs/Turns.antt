@@ -8,7 +8,7 @@ use Rattle.far_word.specs.declared.pointer.PtrWord.TheVariants.{Near}
 use Rattle.far_word.specs.declared.refused.Refused.{Refused as Refusal}
 use Rattle.far_word.specs.declared.refused.Refused.TheVariants.{NoRoom, NoPointer, Length, Closed, AlreadyOpen, NotHeld, Range}
 use Rattle.far_word.specs.declared.sizes.TheConstants.{CELLS, LOG_WORDS, LONGEST}
-use Rattle.far_word.specs.Bytes.{packed_word}
+use Rattle.far_word.specs.Bytes.{bytes_of, packed_word}
 use Rattle.far_word.specs.Header.{head_word}
 use Rattle.far_word.specs.Pointer.{IsPtr, read_of}
 use Rattle.far_word.specs.Sizes.{size_of, words_for}
@@ -16,7 +16,7 @@ use Rattle.far_word.proofs.ByteLaws.{bytes_of-small, length-bytes_of}
 use Rattle.far_word.proofs.HeaderLaws.{head_fits}
 use Rattle.far_word.proofs.PointerLaws.{read_back, word_fits}
 use Rattle.far_core.specs.declared.event.Event.{Event}
-use Rattle.far_core.specs.declared.event.Event.TheVariants.{ReadEpoch as ReadsEpoch, Open as Opens, Load as Loads, Store as Stores, Close as Closes, Adopt as Adopts, Put as Puts, Name as Names}
+use Rattle.far_core.specs.declared.event.Event.TheVariants.{ReadEpoch as ReadsEpoch, Open as Opens, Pin as Pins, Load as Loads, Store as Stores, Close as Closes, Adopt as Adopts, Put as Puts, Name as Names}
 use Rattle.far_core.specs.declared.event.Kind.TheVariants as kinds
 use Rattle.far_core.specs.state.Law.{Law}
 use Rattle.far_core.specs.state.Room.{room}
@@ -25,23 +25,30 @@ use Rattle.far_core.specs.events.Step.{Fits, is_legal, is_opened, data_len, near
 use Rattle.far_core.proofs.KeepPlace.{header}
 use Rattle.far_core.proofs.Owing.{is_test}
 use Rattle.far_core.proofs.Put.{put_both, put_same, put_other}
+use Rattle.far_trace.specs.Moment.{moment_of}
 use Rattle.far_trace.specs.Command.{Command, Heap, New, Open, Write, Read, Close, Logs}
 use Rattle.far_trace.specs.Interpreter.{AllBytes, named_by, next_after}
 use Rattle.far_trace.specs.Made.{made, AllSucceed, AtHand}
 use Rattle.far_trace.specs.Tidy.{Tidy}
-use Rattle.far_trace.specs.Turn.{uses, data_of, spliced, lowest_cell, is_range, access_causes, first_cause, refusal, new_word, new_events, zero_puts, open_events, view_events, first_word, words_touched, load_events, starts_inside, ends_inside, part_events, store_events, turn_events, unless, events_for}
+use Rattle.far_trace.specs.Events.{new_events, zero_puts, open_events, view_events, first_word, words_touched, load_events, starts_inside, ends_inside, part_events, store_events, turn_events, events_for}
+use Rattle.far_trace.specs.Objects.{uses, data_of, spliced, lowest_cell, is_range}
+use Rattle.far_trace.specs.Effects.{new_word}
+use Rattle.far_trace.specs.Effects.{with_row, with_object, with_view, with_data, with_scope, epoch_for}
+use Rattle.far_trace.specs.Turn.{turn_effect, effect, with_new, access_causes, first_cause, refusal, unless}
 use Rattle.far_trace.proofs.LoadWords.{loads_stay, load_legal, loads_succeed}
 use Rattle.far_trace.proofs.Lowest.{lowest_is}
 use Rattle.far_trace.proofs.MadeLemmas.{made-append, AllSucceed-append, made_first, first_succeeds, made_law, load_stays}
-use Rattle.far_trace.proofs.NewTurns.{new_succeeds, new_tidy}
+use Rattle.far_trace.proofs.NewTurns.{new_succeeds, new_tidy, new_end}
 use Rattle.far_trace.proofs.Rooms.{room_is, current_inside}
 use Rattle.far_trace.proofs.Each.{Each, Each-append, Each-row}
 use Rattle.far_trace.proofs.Spliced.{AreBytes, spliced_bytes, length-spliced, packed_padded, packed_wide}
-use Rattle.far_trace.proofs.StoreTurns.{stores_go}
-use Rattle.far_trace.proofs.Views.{Viewed, viewed, view_succeeds, view_law, view_tidy}
+use Rattle.far_trace.proofs.StoreTurns.{stores_go, stores_end}
+use Rattle.far_trace.proofs.RangeWrites.{object_padded}
+use Rattle.far_trace.proofs.WriteEnds.{row_whole}
+use Rattle.far_trace.proofs.Views.{Viewed, viewed, view_is, view_succeeds, view_law, view_tidy}
 
--- ---- what no refusal says
--- four causes that aren't there
+-- ---- what no refusal (moment_of says)
+-- four causes (moment_of that) aren't there
 pub four : (a b c d : Bool) (w x y z : Refusal) → first_cause ((not a, w) ∷ (not b, x) ∷ (not c, y) ∷ (not d, z) ∷ []) ≡ None → (a ≡ true) × (b ≡ true) × (c ≡ true) × (d ≡ true)
 four true true true true w x y z e = (refl, refl, refl, refl)
 four true true true false w x y z e = absurd cc
@@ -63,7 +70,7 @@ pub record Access (s : State) (m p from count : ℕ) : Type 0 where
   pub within : from + count ≤ data_len s p
 
 -- what a read or a write that isn't refused has
-pub access_fact : (s : State) (m p from count : ℕ) → first_cause (access_causes s m p from count) ≡ None → Access s m p from count
+pub access_fact : (s : State) (m p from count : ℕ) → first_cause (access_causes (moment_of s) m p from count) ≡ None → Access s m p from count
 access_fact s m p from count e =
     let h = four (nat_lt m s.mutators) (is_opened s m) (uses s m p) (is_range (data_len s p) from count) Range Closed NotHeld Range e in
     let range : is_range (data_len s p) from count ≡ true = h.3 in
@@ -103,6 +110,17 @@ module _ (s : State) (next : ℕ → ℕ) (m p from count : ℕ) (law : Law s) (
   -- and the law
   pub read_law : Law (made s read_events)
   read_law = subst Law (sym read_end) (view_law s next m p law tidy access.opened access.ours)
+
+  -- the words that they carry are 64 bits wide
+  pub view_fits : Each Fits (view_events s m p)
+  view_fits = cond_both (is_some (s.held p)) [] (Pins m p ∷ []) (Each Fits) (λ _. tt) (λ _. (tt, tt))
+
+  pub read_fits : Each Fits read_events
+  read_fits = Each-append Fits (view_events s m p) (load_events m p (first_word from) (words_touched from count)) view_fits (Each-row Fits (λ i. Loads m p i) (first_word from) (words_touched from count) (λ _ _. tt))
+
+  -- they make a view
+  pub read_is : made s read_events ≡ with_view s p
+  read_is = read_end ∙ view_is s next m p law tidy access.opened access.ours
 
   -- ---- writes
   -- a load that is made or not
@@ -202,6 +220,37 @@ module _ (s : State) (next : ℕ → ℕ) (m p from : ℕ) (bytes : List ℕ) (l
   pub write_tidy : Tidy (made s (looks ++ stores)) next
   write_tidy = subst (λ t. Tidy t next) (sym write_end) stored.1
 
+  -- the words that they carry are 64 bits wide
+  pub write_fits : Each Fits (looks ++ stores)
+  write_fits = Each-append Fits looks stores
+      (Each-append Fits (view_events s m p) (part_events m p from (length bytes)) (view_fits s next m p from (length bytes) law tidy access) part_fits)
+      (Each-row Fits (λ i. Stores m p i (packed_word changed i)) (first_word from) (words_touched from (length bytes)) (λ i _. wide (first_word from + i))) where
+        part_fits : Each Fits (part_events m p from (length bytes))
+        part_fits = Each-append Fits (if starts_inside from (length bytes) then Loads m p (from / 8) ∷ [] else []) (if ends_inside from (length bytes) then Loads m p ((from + length bytes) / 8) ∷ [] else [])
+            (cond_both (starts_inside from (length bytes)) (Loads m p (from / 8) ∷ []) [] (Each Fits) (λ _. (tt, tt)) (λ _. tt))
+            (cond_both (ends_inside from (length bytes)) (Loads m p ((from + length bytes) / 8) ∷ []) [] (Each Fits) (λ _. (tt, tt)) (λ _. tt))
+
+  -- the object's bytes are the same behind the view
+  data_same : data_of view p ≡ data_of s p
+  data_same i = bytes_of (λ k. held.words i (held.same_data i + k)) (held.same_len i)
+
+  -- the stores make its words those of the new bytes
+  stores_is : made view stores ≡ with_data view p from bytes
+  stores_is =
+      let d : ℕ = near_data (read_of (view.cell p)) in
+      let lawful = view_law s next m p law tidy access.opened access.ours in
+      stores_end next m p held.len held.place (packed_word changed) wide
+      (λ i lt. packed_padded changed held.len i changed_bytes (changed_long ∙ held.long) lt)
+      (words_touched from (length bytes)) (first_word from) view lawful held.holds
+      (λ i lt. subst (λ n. first_word from + i < words_for n) held.long (touched_inside s next m p from (length bytes) law tidy access i lt))
+      ∙ ap (λ (old : List ℕ). record view { word = with_row view.word (d + first_word from) (words_touched from (length bytes)) (λ i. packed_word (spliced old from bytes) (first_word from + i)) }) (sym data_same)
+      ∙ ap (λ (f : ℕ → ℕ). record view { word = f })
+      (row_whole view.word d (data_len view p) from bytes (omega (arith, access.within, held.same_len)) access.some lawful.spans.word_fits (object_padded view lawful p))
+
+  -- so a write makes its object's bytes new, behind a view
+  pub write_is : made s (looks ++ stores) ≡ with_data (with_view s p) p from bytes
+  write_is = write_end ∙ stores_is ∙ ap (λ (t : State). with_data t p from bytes) (view_is s next m p law tidy access.opened access.ours)
+
   -- and the law
   pub write_law : Law (made s (looks ++ stores))
   write_law = subst Law (sym write_end) (made_law view stores (view_law s next m p law tidy access.opened access.ours)
@@ -243,16 +292,21 @@ new_cell s next m tidy found =
 abbrev clean : Marks
 clean = record { hot = false; evac = false; moved = false; dropped = false }
 
--- what the events of a command do: they succeed, and keep the heap tidy and the law
-abbrev pub Turned : State → (ℕ → ℕ) → List Event → Type 0
-Turned s next es = AllSucceed s es × Tidy (made s es) next × Law (made s es)
+-- what the events of a command do: they succeed, keep the heap tidy and the law, and end in this state
+pub record Turned (s : State) (next : ℕ → ℕ) (es : List Event) (t : State) : Type 0 where
+  pub succeed : AllSucceed s es
+  pub tidy : Tidy (made s es) next
+  pub law : Law (made s es)
+  pub fit : Each Fits es
+  pub ends : made s es ≡ t
 
 -- what the tests of a new object say
 pub new_sizes : (m mutators len ds : ℕ) → (nat_lt m mutators && nat_lt ds 256) ≡ true → (nat_lt 0 len && nat_le len LONGEST) ≡ true → (m < mutators) × (ds < 256) × (0 < len) × (len ≤ LONGEST)
 new_sizes m mutators len ds a b = (grind (arith, nat_tests), grind (arith, nat_tests), grind (arith, nat_tests), grind (arith, nat_tests))
 
 -- the events of a new object
-new_turned : (s : State) (next : ℕ → ℕ) (m len ds : ℕ) → Law s → Tidy s next → refusal s (New m len ds) ≡ None → Turned s (put next m (next m + 1)) (turn_events s (New m len ds))
+new_turned : (s : State) (next : ℕ → ℕ) (m len ds : ℕ) → Law s → Tidy s next → refusal (moment_of s) (New m len ds) ≡ None →
+    Turned s (put next m (next m + 1)) (turn_events (moment_of s) (New m len ds)) (turn_effect (moment_of s) (New m len ds)).core
 new_turned s next m len ds law tidy e =
     let h = four (nat_lt m s.mutators && nat_lt ds 256) (nat_lt 0 len && nat_le len LONGEST) (is_some (lowest_cell s m)) (is_some (room s (size_of len) true)) Range Length NoPointer NoRoom e in
     let sizes = new_sizes m s.mutators len ds h.0 h.1 in
@@ -271,11 +325,15 @@ new_turned s next m len ds law tidy e =
       Each-row Fits (λ i. Puts found.0.log (found.0.at + 1 + i) 0) 0 (words_for len) (λ i lt. omega arith),
     )
     ((omega arith, word_fits (Near len ds found.0 clean) lies), (tt, tt)) in
-    subst (λ es. Turned s (put next m (next m + 1)) es) (sym same) (
-      new_succeeds s next law tidy m p len ds new found.0 sizes.0 cell.0 refl sizes.2 sizes.3 sizes.1 found.2.log found.2.fits found.2.here found.2.stands found.2.order reads,
-      new_tidy s next law tidy m p len ds new found.0 sizes.0 cell.0 refl sizes.2 sizes.3 sizes.1 found.2.log found.2.fits found.2.here found.2.stands found.2.order reads,
-      made_law s row law fit,
-    )
+    let result : with_new s len ds (lowest_cell s m) (room s (size_of len) true) ≡ with_object s p len ds found.0 =
+    ap (λ o. with_new s len ds o (room s (size_of len) true)) cell.1 ∙ ap (with_new s len ds (Some (m * CELLS + next m))) found.1 in
+    subst (λ (x : List Event × State). Turned s (put next m (next m + 1)) x.0 x.1) (λ i. (sym same i, sym result i)) record {
+      succeed = new_succeeds s next law tidy m p len ds new found.0 sizes.0 cell.0 refl sizes.2 sizes.3 sizes.1 found.2.log found.2.fits found.2.here found.2.stands found.2.order reads;
+      tidy = new_tidy s next law tidy m p len ds new found.0 sizes.0 cell.0 refl sizes.2 sizes.3 sizes.1 found.2.log found.2.fits found.2.here found.2.stands found.2.order reads;
+      law = made_law s row law fit;
+      fit = fit;
+      ends = new_end s next law tidy m p len ds new found.0 sizes.0 cell.0 refl sizes.2 sizes.3 sizes.1 found.2.log found.2.fits found.2.here found.2.stands found.2.order reads;
+    }
 
 -- ---- scopes
 -- each named cell stays at hand where cells and their use stay
@@ -343,64 +401,81 @@ module _ (s : State) (next : ℕ → ℕ) (m : ℕ) (law : Law s) (tidy : Tidy s
             omega arith
 
   -- the events of an opening
-  pub open_turned : Turned s next (open_events s m)
+  pub open_turned : Turned s next (open_events s m) (with_scope s m)
   open_turned =
       let none : s.remembered m ≡ None = tidy.unread m closed_now.1 in
       let same : open_events s m ≡ ReadsEpoch m ∷ Opens m ∷ [] = ap (λ (o : Option ℕ). if is_some o then Opens m ∷ [] else ReadsEpoch m ∷ Opens m ∷ []) none in
       let end : made s (ReadsEpoch m ∷ Opens m ∷ []) ≡ begun = made_first s (ReadsEpoch m) (Opens m ∷ []) read_legal ∙ made_first read (Opens m) [] open_legal in
-      subst (λ es. Turned s next es) (sym same) (
-        first_succeeds s (ReadsEpoch m) (Opens m ∷ []) read_legal tt (first_succeeds read (Opens m) [] open_legal tt tt),
-        subst (λ t. Tidy t next) (sym end) begun_tidy,
-        made_law s (ReadsEpoch m ∷ Opens m ∷ []) law (tt, (tt, tt)),
-      )
+      let begins : begun ≡ with_scope s m =
+      ap (λ (o : Option ℕ). record read { scope = put s.scope m (scope_word_of o) }) read_now
+      ∙ ap (λ (o : Option ℕ). record s { remembered = put s.remembered m (Some (epoch_for o s.epoch)); scope = put s.scope m (scope_word_of (Some (epoch_for o s.epoch))) }) (sym none) in
+      subst (λ es. Turned s next es (with_scope s m)) (sym same) record {
+        succeed = first_succeeds s (ReadsEpoch m) (Opens m ∷ []) read_legal tt (first_succeeds read (Opens m) [] open_legal tt tt);
+        tidy = subst (λ t. Tidy t next) (sym end) begun_tidy;
+        law = made_law s (ReadsEpoch m ∷ Opens m ∷ []) law (tt, (tt, tt));
+        fit = (tt, (tt, tt));
+        ends = end ∙ begins;
+      }
 
 -- the event of a closing
-close_turned : (s : State) (next : ℕ → ℕ) (m : ℕ) → Law s → Tidy s next → is_opened s m ≡ true → Turned s next (Closes m ∷ [])
+close_turned : (s : State) (next : ℕ → ℕ) (m : ℕ) → Law s → Tidy s next → is_opened s m ≡ true → Turned s next (Closes m ∷ []) (after_close s m)
 close_turned s next m law tidy opened =
     let legal : is_legal s (Closes m) ≡ true = opened in
     let end : made s (Closes m ∷ []) ≡ after_close s m = made_first s (Closes m) [] legal in
-    let held : ℕ → Option Place = λ p. cond (nat_eq (p / CELLS) m) None (s.held p) in (
-      first_succeeds s (Closes m) [] legal tt tt,
-      subst (λ t. Tidy t next) (sym end) (tidy_scopes s next (put s.scope m 0) (put s.remembered m None) (λ p. cond (nat_eq (p / CELLS) m) None (s.held p)) tidy
-          (λ k z. put_both (λ (o : Option ℕ). o ≡ None) s.remembered m None k (λ _. refl) (λ ne. tidy.unread k (sym (put_other s.scope m 0 k ne) ∙ z)))),
-      made_law s (Closes m ∷ []) law (tt, tt),
-    )
+    let held : ℕ → Option Place = λ p. cond (nat_eq (p / CELLS) m) None (s.held p) in
+    record {
+      succeed = first_succeeds s (Closes m) [] legal tt tt;
+      tidy = subst (λ t. Tidy t next) (sym end) (tidy_scopes s next (put s.scope m 0) (put s.remembered m None) (λ p. cond (nat_eq (p / CELLS) m) None (s.held p)) tidy
+          (λ k z. put_both (λ (o : Option ℕ). o ≡ None) s.remembered m None k (λ _. refl) (λ ne. tidy.unread k (sym (put_other s.scope m 0 k ne) ∙ z))));
+      law = made_law s (Closes m ∷ []) law (tt, tt);
+      fit = (tt, tt);
+      ends = end;
+    }
 
 -- ---- all commands
+-- a command that makes no event
+none_turned : (s : State) (next : ℕ → ℕ) → Law s → Tidy s next → Turned s next [] s
+none_turned s next law tidy = record { succeed = tt; tidy = tidy; law = law; fit = tt; ends = refl }
+
 -- a command that isn't refused
-turned : (s : State) (next : ℕ → ℕ) (c : Command) → Law s → Tidy s next → AllBytes c → refusal s c ≡ None → Turned s (named_by c next) (turn_events s c)
-turned s next (Heap logs mutators) law tidy small e = (tt, tidy, law)
+turned : (s : State) (next : ℕ → ℕ) (c : Command) → Law s → Tidy s next → AllBytes c → refusal (moment_of s) c ≡ None →
+    Turned s (named_by c next) (turn_events (moment_of s) c) (turn_effect (moment_of s) c).core
+turned s next (Heap logs mutators) law tidy small e = none_turned s next law tidy
 turned s next (New m len ds) law tidy small e = new_turned s next m len ds law tidy e
 turned s next (Open m) law tidy small e =
     let h = two (nat_lt m s.mutators) (is_opened s m) Range AlreadyOpen e in
     open_turned s next m law tidy (shut s m h.0 h.1)
 turned s next (Write m p from bytes) law tidy small e =
     let access = access_fact s m p from (length bytes) e in
-    (write_succeeds s next m p from bytes law tidy access small, write_tidy s next m p from bytes law tidy access small, write_law s next m p from bytes law tidy access small)
+    record {
+      succeed = write_succeeds s next m p from bytes law tidy access small;
+      tidy = write_tidy s next m p from bytes law tidy access small;
+      law = write_law s next m p from bytes law tidy access small;
+      fit = write_fits s next m p from bytes law tidy access small;
+      ends = write_is s next m p from bytes law tidy access small;
+    }
 turned s next (Read m p from len) law tidy small e =
     let access = access_fact s m p from len e in
-    (read_succeeds s next m p from len law tidy access, read_tidy s next m p from len law tidy access, read_law s next m p from len law tidy access)
+    record {
+      succeed = read_succeeds s next m p from len law tidy access;
+      tidy = read_tidy s next m p from len law tidy access;
+      law = read_law s next m p from len law tidy access;
+      fit = read_fits s next m p from len law tidy access;
+      ends = read_is s next m p from len law tidy access;
+    }
 turned s next (Close m) law tidy small e = close_turned s next m law tidy (two_open (nat_lt m s.mutators) (is_opened s m) e) where
   two_open : (a b : Bool) → first_cause ((not a, Range) ∷ (not b, Closed) ∷ []) ≡ None → b ≡ true
   two_open true true f = refl
   two_open true false f = absurd cc
   two_open false b f = absurd cc
-turned s next Logs law tidy small e = (tt, tidy, law)
+turned s next Logs law tidy small e = none_turned s next law tidy
 
 -- each command: a refused one does nothing
-turn_at : (s : State) (next : ℕ → ℕ) (c : Command) (o : Option Refusal) → refusal s c ≡ o → Law s → Tidy s next → AllBytes c →
-    Turned s (unless o (λ _. next) (named_by c next)) (unless o (λ _. []) (turn_events s c))
+turn_at : (s : State) (next : ℕ → ℕ) (c : Command) (o : Option Refusal) → refusal (moment_of s) c ≡ o → Law s → Tidy s next → AllBytes c →
+    Turned s (unless o (λ _. next) (named_by c next)) (unless o (λ _. []) (turn_events (moment_of s) c)) (unless o (λ _. moment_of s) (turn_effect (moment_of s) c)).core
 turn_at s next c None e law tidy small = turned s next c law tidy small e
-turn_at s next c (Some why) e law tidy small = (tt, tidy, law)
+turn_at s next c (Some why) e law tidy small = none_turned s next law tidy
 
--- the events of a command succeed
-pub turn_succeeds : (s : State) (next : ℕ → ℕ) (c : Command) → Law s → Tidy s next → AllBytes c → AllSucceed s (events_for s c)
-turn_succeeds s next c law tidy small = (turn_at s next c (refusal s c) refl law tidy small).0
-
--- they keep the heap tidy
-pub turn_keeps_tidy : (s : State) (next : ℕ → ℕ) (c : Command) → Law s → Tidy s next → AllBytes c → Tidy (made s (events_for s c)) (next_after s c next)
-turn_keeps_tidy s next c law tidy small = (turn_at s next c (refusal s c) refl law tidy small).1
-
--- and the law
-pub turn_law : (s : State) (next : ℕ → ℕ) (c : Command) → Law s → Tidy s next → AllBytes c → Law (made s (events_for s c))
-turn_law s next c law tidy small = (turn_at s next c (refusal s c) refl law tidy small).2
+-- the events of a command lead to the moment behind it
+pub turns : (s : State) (next : ℕ → ℕ) (c : Command) → Law s → Tidy s next → AllBytes c → Turned s (next_after (moment_of s) c next) (events_for (moment_of s) c) (effect (moment_of s) c).core
+turns s next c law tidy small = turn_at s next c (refusal (moment_of s) c) refl law tidy small

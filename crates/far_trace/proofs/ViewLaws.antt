@@ -1,5 +1,4 @@
 -- What commands do to views: a read or a write views its object, a close ends its mutator's views, all else leaves them; and the logs of views stay.
-use Rattle.std.specs.Prelude.{◌⊎◌}
 use Rattle.std.proofs.Common.{◌≡◌, ℕ, ◌+◌, ◌/◌, true, cond, is_some, nat_eq, inl, inr, refl, sym, ap, subst, ◌∙◌, Option, Some, None, List, [], ◌∷◌, ◌++◌, length, if◌then◌else◌}
 use Rattle.std.proofs.lemmas.Bool.{cond_both, eq-eqb, ne_eqb}
 use Rattle.far_word.specs.declared.pointer.Place.{Place}
@@ -11,24 +10,29 @@ use Rattle.far_word.specs.Header.{head_word}
 use Rattle.far_word.specs.Pointer.{read_of}
 use Rattle.far_word.specs.Sizes.{size_of, words_for}
 use Rattle.far_core.specs.declared.event.Event.{Event}
-use Rattle.far_core.specs.declared.event.Event.TheVariants.{ReadEpoch as ReadsEpoch, Open as Opens, Pin as Pins, Load as Loads, Store as Stores, Close as Closes, Adopt as Adopts, Put as Puts, Name as Names, See as Sees, Mark as Marks}
+use Rattle.far_core.specs.declared.event.Event.TheVariants.{ReadEpoch as ReadsEpoch, Open as Opens, Pin as Pins, Load as Loads, Store as Stores, Close as Closes, Adopt as Adopts, Put as Puts, Name as Names}
 use Rattle.far_core.specs.declared.event.Reply.{Reply as Answer}
 use Rattle.far_core.specs.declared.event.Reply.TheVariants.{Refused as Failed}
-use Rattle.far_core.specs.declared.event.Kind.TheVariants as kinds
-use Rattle.far_core.specs.state.Law.{Law}
 use Rattle.far_core.specs.state.Room.{room}
 use Rattle.far_core.specs.state.State.{State, put}
 use Rattle.far_core.specs.events.Step.{step_of, is_legal, after, answer, with_hold, place_to_view, pin_answer, Fits}
-use Rattle.far_core.proofs.Keeps.{step_keeps}
 use Rattle.far_core.proofs.Leaving.{held_stays}
 use Rattle.far_core.proofs.Put.{put_same, put_other}
-use Rattle.far_trace.specs.Answers.{Answered, Commanded}
+use Rattle.far_trace.specs.Moment.{Moment, moment_of}
+use Rattle.far_trace.specs.Answers.{Answered, Commanded, IsMoment}
 use Rattle.far_trace.specs.Command.{Command, Heap, New, Open, Write, Read, Close, Logs}
-use Rattle.far_trace.specs.Headline.{LogsStay, ViewsObject, ViewsNothing, ViewsAfter}
+use Rattle.far_trace.specs.Later.{IsLater, AreLater}
+use Rattle.far_trace.specs.Headline.{LogsStay, StayThrough, ViewsObject, ViewsNothing, ViewsAfter}
 use Rattle.far_trace.specs.Made.{made, Succeeds, AllSucceed}
 use Rattle.far_trace.specs.Reply.{Reply, Refused}
-use Rattle.far_trace.specs.Turn.{refusal, unless, turn_events, turn_reply, reply_to, lowest_cell, spliced, data_of, zero_puts, new_events, new_word, open_events, view_events, load_events, store_events, first_part, last_part, part_events, first_word, words_touched, starts_inside, ends_inside}
-use Rattle.far_trace.proofs.Kept.{held_log, never_freed}
+use Rattle.far_trace.specs.Events.{turn_events, zero_puts, new_events, open_events, view_events, load_events, store_events, first_part, last_part, part_events, first_word, words_touched, starts_inside, ends_inside}
+use Rattle.far_trace.specs.Objects.{lowest_cell, spliced, data_of}
+use Rattle.far_trace.specs.Effects.{new_word}
+use Rattle.far_trace.specs.Turn.{refusal, unless, turn_reply, reply_to}
+use Rattle.far_trace.proofs.Answering.{later_bytes}
+use Rattle.far_trace.proofs.Lasting.{Lasts, carried, moment_lasts, still_lasts}
+use Rattle.far_trace.proofs.Turns.{turns}
+use Rattle.far_trace.proofs.ViewsRest.{NoClose, ClosesLast, none_closes, fronts_stay, held_now}
 use Rattle.far_trace.proofs.Each.{Each, Each-append, Each-row}
 use Rattle.far_trace.proofs.MadeLemmas.{made-append, AllSucceed-parts}
 
@@ -119,10 +123,11 @@ close_views s m = cond_both (is_legal s (Closes m)) (after s (Closes m), answer 
     (λ _ ok. absurd ok)
 
 -- ---- each command
--- what a refusal leaves, and what its events leave where there is none
-pub views_after : (s : State) (c : Command) (o : Option Refusal) → AllSucceed s (unless o (λ _. []) (turn_events s c)) → ViewsAfter s c (unless o Refused (turn_reply s c)) (made s (unless o (λ _. []) (turn_events s c)))
+-- what a refusal (moment_of leaves), and what its events leave where there is none
+pub views_after : (s : State) (c : Command) (o : Option Refusal) → AllSucceed s (unless o (λ _. []) (turn_events (moment_of s) c)) →
+    ViewsAfter (moment_of s) c (unless o Refused (turn_reply (moment_of s) c)) (moment_of (made s (unless o (λ _. []) (turn_events (moment_of s) c))))
 views_after s c (Some why) ok = refused_views s c why where
-  refused_views : (s : State) (c : Command) (why : Refusal) → ViewsAfter s c (Refused why) s
+  refused_views : (s : State) (c : Command) (why : Refusal) → ViewsAfter (moment_of s) c (Refused why) (moment_of s)
   refused_views s (Heap logs mutators) why = refl
   refused_views s (New m len ds) why = refl
   refused_views s (Open m) why = refl
@@ -131,7 +136,7 @@ views_after s c (Some why) ok = refused_views s c why where
   refused_views s (Close m) why = refl
   refused_views s Logs why = refl
 views_after s (Heap logs mutators) None ok = refl
-views_after s (New m len ds) None ok = row_stays s (turn_events s (New m len ds)) (news m len ds (lowest_cell s m) (room s (size_of len) true))
+views_after s (New m len ds) None ok = row_stays s (turn_events (moment_of s) (New m len ds)) (news m len ds (lowest_cell s m) (room s (size_of len) true))
 views_after s (Open m) None ok = row_stays s (open_events s m) (opens s m)
 views_after s (Write m p from bytes) None ok =
     let new : List ℕ = spliced (data_of s p) from bytes in
@@ -141,119 +146,55 @@ views_after s (Read m p from len) None ok = viewed_behind s m p (load_events m p
 views_after s (Close m) None ok = close_views s m ok.0
 views_after s Logs None ok = refl
 
-pub views_last : (s : State) (c : Command) (r : Reply) (t : State) → Commanded s c r t → ViewsAfter s c r t
-views_last s c r t h = subst (λ x. ViewsAfter s c x t) (sym h.reply) (subst (ViewsAfter s c (reply_to s c)) (sym h.state) (views_after s c (refusal s c) h.succeed))
+pub views_last : (now : Moment) (c : Command) (r : Reply) (next : Moment) → IsMoment now → IsLater c → Commanded now c r next → ViewsAfter now c r next
+views_last now c r next is later h =
+    let x = carried now c r next (moment_lasts now is) later h in
+    subst (λ y. ViewsAfter now c y next) (sym x.reply)
+    (subst (λ (t : State). ViewsAfter now c (reply_to now c) (moment_of t)) (sym x.state) (views_after now.core c (refusal now c) x.succeed))
 
 -- ---- the logs in which views rest stay
--- an event that is no pin
-abbrev NoPin : Event → Type 0
-NoPin e = (m p : ℕ) → e ≡ Pins m p → ⊥
+-- a close is the last event of its command
+no_close : (es : List Event) → Each LeavesViews es → Each NoClose es
+no_close [] q = tt
+no_close (e ∷ es) q = (q.0.1, no_close es q.1)
 
-pin_or_not : (e : Event) → ((m : ℕ) × (p : ℕ) × (e ≡ Pins m p)) ⊎ NoPin e
-pin_or_not (ReadsEpoch m) = inr (λ _ _ e. absurd cc)
-pin_or_not (Opens m) = inr (λ _ _ e. absurd cc)
-pin_or_not (Pins m p) = inl (m, p, refl)
-pin_or_not (Loads m p i) = inr (λ _ _ e. absurd cc)
-pin_or_not (Stores m p i w) = inr (λ _ _ e. absurd cc)
-pin_or_not (Closes m) = inr (λ _ _ e. absurd cc)
-pin_or_not (Adopts m p) = inr (λ _ _ e. absurd cc)
-pin_or_not (Puts l at w) = inr (λ _ _ e. absurd cc)
-pin_or_not (Names p old new) = inr (λ _ _ e. absurd cc)
-pin_or_not (Sees p) = inr (λ _ _ e. absurd cc)
-pin_or_not (Marks p) = inr (λ _ _ e. absurd cc)
+view_no_close : (s : State) (m p : ℕ) (es : List Event) → Each NoClose es → Each NoClose (view_events s m p ++ es)
+view_no_close s m p es q = cond_both (is_some (s.held p)) [] (Pins m p ∷ []) (λ (x : List Event). Each NoClose (x ++ es)) (λ _. q) (λ _. ((λ _ e. absurd cc), q))
 
-close_or_not : (e : Event) → ((m : ℕ) × (e ≡ Closes m)) ⊎ ((m : ℕ) → e ≡ Closes m → ⊥)
-close_or_not (ReadsEpoch m) = inr (λ _ e. absurd cc)
-close_or_not (Opens m) = inr (λ _ e. absurd cc)
-close_or_not (Pins m p) = inr (λ _ e. absurd cc)
-close_or_not (Loads m p i) = inr (λ _ e. absurd cc)
-close_or_not (Stores m p i w) = inr (λ _ e. absurd cc)
-close_or_not (Closes m) = inl (m, refl)
-close_or_not (Adopts m p) = inr (λ _ e. absurd cc)
-close_or_not (Puts l at w) = inr (λ _ e. absurd cc)
-close_or_not (Names p old new) = inr (λ _ e. absurd cc)
-close_or_not (Sees p) = inr (λ _ e. absurd cc)
-close_or_not (Marks p) = inr (λ _ e. absurd cc)
-
--- what is viewed after a close was viewed before it
-close_back : (s : State) (m p : ℕ) (place : Place) → (step_of s (Closes m)).0.held p ≡ Some place → s.held p ≡ Some place
-close_back s m p place = cond_both (is_legal s (Closes m)) (after s (Closes m), answer s (Closes m)) (s, Failed) (λ (x : State × Answer). x.0.held p ≡ Some place → s.held p ≡ Some place)
-    (λ _. cond_both (nat_eq (p / CELLS) m) None (s.held p) (λ (x : Option Place). x ≡ Some place → s.held p ≡ Some place) (λ _ h. absurd cc) (λ _ h. h)) (λ _ h. h)
-
--- and so after any event that is no pin
-step_back : (s : State) (e : Event) → NoPin e → (p : ℕ) (place : Place) → (step_of s e).0.held p ≡ Some place → s.held p ≡ Some place
-step_back s e none p place h = elim (close_or_not e) [
-  | inl close ↦ close_back s close.0 p place (ap (λ x. (step_of s x).0.held p) (sym close.1) ∙ h)
-  | inr other ↦ sym (held_stays s e p (none (p / CELLS) p) (other (p / CELLS))) ∙ h
-]
-
-row_back : (s : State) (es : List Event) → Each NoPin es → (p : ℕ) (place : Place) → (made s es).held p ≡ Some place → s.held p ≡ Some place
-row_back s [] q p place h = h
-row_back s (e ∷ es) q p place h = step_back s e q.0 p place (row_back (step_of s e).0 es q.1 p place h)
-
--- of these events the first alone may be a pin
-abbrev PinsFirst : List Event → Type 0
-PinsFirst [] = Unit {0}
-PinsFirst (e ∷ es) = Each NoPin es
-
--- a log in which a view rests behind them isn't free behind more events
-log_stays : (s : State) (es more : List Event) → Law s → PinsFirst es → (p : ℕ) (place : Place) → (made s es).held p ≡ Some place → (made s (es ++ more)).kind place.log ≡ kinds.Free → ⊥
-log_stays s [] more law first p place h free = held_log s law p place h (never_freed s more place.log free)
-log_stays s (e ∷ es) more law first p place h free = elim (pin_or_not e) [
-  | inl pin ↦ (let next = step_keeps s e law (subst Fits (sym pin.2) tt) in
-      held_log (step_of s e).0 next p place (row_back (step_of s e).0 es first p place h) (never_freed (step_of s e).0 (es ++ more) place.log free))
-  | inr none ↦ held_log s law p place (row_back s (e ∷ es) (none, first) p place h) (never_freed s (e ∷ (es ++ more)) place.log free)
-]
-
--- so are the events of a command
-no_pins : (es : List Event) → Each LeavesViews es → Each NoPin es
-no_pins [] q = tt
-no_pins (e ∷ es) q = (q.0.0, no_pins es q.1)
-
-pins_first : (es : List Event) → Each LeavesViews es → PinsFirst es
-pins_first [] q = tt
-pins_first (e ∷ es) q = no_pins es q.1
-
-view_first : (s : State) (m p : ℕ) (es : List Event) → Each LeavesViews es → PinsFirst (view_events s m p ++ es)
-view_first s m p es q = cond_both (is_some (s.held p)) [] (Pins m p ∷ []) (λ (x : List Event). PinsFirst (x ++ es)) (λ _. pins_first es q) (λ _. no_pins es q)
-
-view_twice_first : (s : State) (m p : ℕ) (es fs : List Event) → Each LeavesViews es → Each LeavesViews fs → PinsFirst (view_events s m p ++ es ++ fs)
-view_twice_first s m p es fs q r = cond_both (is_some (s.held p)) [] (Pins m p ∷ []) (λ (x : List Event). PinsFirst (x ++ es ++ fs))
-    (λ _. pins_first (es ++ fs) (Each-append LeavesViews es fs q r)) (λ _. no_pins (es ++ fs) (Each-append LeavesViews es fs q r))
-
-turn_pins_first : (s : State) (c : Command) → PinsFirst (turn_events s c)
-turn_pins_first s (Heap logs mutators) = tt
-turn_pins_first s (New m len ds) = pins_first (turn_events s (New m len ds)) (news m len ds (lowest_cell s m) (room s (size_of len) true))
-turn_pins_first s (Open m) = pins_first (open_events s m) (opens s m)
-turn_pins_first s (Write m p from bytes) =
+closes_last : (s : State) (c : Command) → ClosesLast (turn_events (moment_of s) c)
+closes_last s (Heap logs mutators) = tt
+closes_last s (New m len ds) = none_closes (turn_events (moment_of s) (New m len ds)) (no_close (turn_events (moment_of s) (New m len ds)) (news m len ds (lowest_cell s m) (room s (size_of len) true)))
+closes_last s (Open m) = none_closes (open_events s m) (no_close (open_events s m) (opens s m))
+closes_last s (Write m p from bytes) =
     let new : List ℕ = spliced (data_of s p) from bytes in
-    view_twice_first s m p (part_events m p from (length bytes)) (store_events m p (first_word from) (words_touched from (length bytes)) new)
-    (parts m p from (length bytes)) (stores m p (first_word from) (words_touched from (length bytes)) new)
-turn_pins_first s (Read m p from len) = view_first s m p (load_events m p (first_word from) (words_touched from len)) (loads m p (first_word from) (words_touched from len))
-turn_pins_first s (Close m) = tt
-turn_pins_first s Logs = tt
+    let part : List Event = part_events m p from (length bytes) in
+    let stored : List Event = store_events m p (first_word from) (words_touched from (length bytes)) new in
+    none_closes (view_events s m p ++ part ++ stored) (Each-append NoClose (view_events s m p ++ part) stored
+    (view_no_close s m p part (no_close part (parts m p from (length bytes)))) (no_close stored (stores m p (first_word from) (words_touched from (length bytes)) new)))
+closes_last s (Read m p from len) =
+    let loaded : List Event = load_events m p (first_word from) (words_touched from len) in
+    none_closes (view_events s m p ++ loaded) (view_no_close s m p loaded (no_close loaded (loads m p (first_word from) (words_touched from len))))
+closes_last s (Close m) = tt
+closes_last s Logs = tt
 
-command_pins_first : (s : State) (c : Command) (o : Option Refusal) → PinsFirst (unless o (λ _. []) (turn_events s c))
-command_pins_first s c None = turn_pins_first s c
-command_pins_first s c (Some why) = tt
+command_closes_last : (s : State) (c : Command) (o : Option Refusal) → ClosesLast (unless o (λ _. []) (turn_events (moment_of s) c))
+command_closes_last s c None = closes_last s c
+command_closes_last s c (Some why) = tt
 
--- and so each front of them
-front_no_pins : (es fs : List Event) → Each NoPin (es ++ fs) → Each NoPin es
-front_no_pins [] fs q = tt
-front_no_pins (e ∷ es) fs q = (q.0, front_no_pins es fs q.1)
-
-front_pins_first : (es fs : List Event) → PinsFirst (es ++ fs) → PinsFirst es
-front_pins_first [] fs q = tt
-front_pins_first (e ∷ es) fs q = front_no_pins es fs q
+stay_through : (now : Moment) (c : Command) → Lasts now → IsLater c → StayThrough now c
+stay_through now c lasts later es mid rest front p place =
+    fronts_stay now.core es mid rest lasts.law (subst (Each Fits) (sym front) (turns now.core lasts.next c lasts.law lasts.tidy (later_bytes c later)).fit)
+    (subst ClosesLast (sym front) (command_closes_last now.core c (refusal now c))) p place
 
 -- the logs in which views rest stay through each command
-pub logs_stay : (s : State) (cs : List Command) (rs : List Reply) (ts : List State) → Law s → Answered s cs rs ts → LogsStay s cs ts
-logs_stay s [] [] [] law h = λ p place rests free. held_log s law p place rests free
-logs_stay s [] [] (u ∷ ts) law h = absurd h
-logs_stay s [] (r ∷ rs) ts law h = absurd h
-logs_stay s (d ∷ cs) [] ts law h = absurd h
-logs_stay s (d ∷ cs) (r ∷ rs) [] law h = absurd h
-logs_stay s (d ∷ cs) (r ∷ rs) (t ∷ ts) law h = (
-  (λ es mid rest front. log_stays s es mid law (front_pins_first es mid (front_pins_first (es ++ mid) rest (subst PinsFirst (sym front) (command_pins_first s d (refusal s d)))))),
-  logs_stay t cs rs ts h.0.law h.1,
-)
+stay_all : (now : Moment) (cs : List Command) (rs : List Reply) (moments : List Moment) → Lasts now → AreLater cs → Answered now cs rs moments → LogsStay now cs moments
+stay_all now [] [] [] lasts later h = held_now now.core lasts.law
+stay_all now [] [] (m ∷ ms) lasts later h = absurd h
+stay_all now [] (r ∷ rs) ms lasts later h = absurd h
+stay_all now (c ∷ cs) [] ms lasts later h = absurd h
+stay_all now (c ∷ cs) (r ∷ rs) [] lasts later h = absurd h
+stay_all now (c ∷ cs) (r ∷ rs) (next ∷ ms) lasts later h =
+    (stay_through now c lasts later.0, stay_all next cs rs ms (still_lasts now c r next lasts later.0 h.0) later.1 h.1)
+
+pub logs_stay : (now : Moment) (cs : List Command) (rs : List Reply) (moments : List Moment) → IsMoment now → AreLater cs → Answered now cs rs moments → LogsStay now cs moments
+logs_stay now cs rs moments is later h = stay_all now cs rs moments (moment_lasts now is) later h

@@ -23,9 +23,11 @@ use Rattle.far_core.proofs.events.Pin.{keeps_pin}
 use Rattle.far_core.proofs.Guards.{open_fact}
 use Rattle.far_core.proofs.Owing.{is_test}
 use Rattle.far_core.proofs.Put.{put_both, put_same}
+use Rattle.far_trace.specs.Effects.{with_view}
 use Rattle.far_trace.specs.Made.{made, Succeeds, AllSucceed, AtHand}
 use Rattle.far_trace.specs.Tidy.{Tidy}
-use Rattle.far_trace.specs.Turn.{uses, view_events}
+use Rattle.far_trace.specs.Events.{view_events}
+use Rattle.far_trace.specs.Objects.{uses}
 use Rattle.far_trace.proofs.MadeLemmas.{made_first, first_succeeds}
 
 -- ---- what HOT leaves as it is
@@ -117,6 +119,14 @@ module _ (s : State) (next : ℕ → ℕ) (m p : ℕ) (law : Law s) (tidy : Tidy
   -- what is true of a state that holds the object, and after a pin, is true after the view
   pub at_view : (P : State → Type 0) → ((place : Place) → s.held p ≡ Some place → P s) → P (after_pin s p) → P (made s (view_events s m p))
   at_view P already fresh = at_held P (s.held p) refl already fresh
+
+  -- the view is the pin, unless the object is held
+  view_at : (o : Option Place) → s.held p ≡ o → made s (if is_some o then [] else Pin m p ∷ []) ≡ (if is_some o then s else after_pin s p)
+  view_at None e = made_first s (Pin m p) [] (pin_legal e)
+  view_at (Some place) e = refl
+
+  pub view_is : made s (view_events s m p) ≡ with_view s p
+  view_is = view_at (s.held p) refl
 
   -- the view succeeds either way
   succeeds_at : (o : Option Place) → s.held p ≡ o → AllSucceed s (if is_some o then [] else Pin m p ∷ [])

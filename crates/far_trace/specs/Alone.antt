@@ -7,7 +7,7 @@ use Rattle.far_core.specs.state.State.{put}
 use Rattle.far_core.specs.world.World.{World, Object}
 use Rattle.far_trace.specs.Command.{Command, Heap, New, Open, Write, Read, Close, Logs}
 use Rattle.far_trace.specs.Reply.{Reply, Done, Pointer, Data, Refused}
-use Rattle.far_trace.specs.Turn.{spliced}
+use Rattle.far_trace.specs.Objects.{spliced}
 
 -- what a mutator knows of itself: whether its scope is open, and the bytes of its objects
 pub record Own : Type 0 where

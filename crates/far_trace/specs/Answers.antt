@@ -5,13 +5,11 @@ use Rattle.std.specs.List.{flat_map}
 use Rattle.std.specs.Io.KnownBytes.{Appends, Keeps}
 use Rattle.far_word.specs.declared.refused.Refused.TheVariants.{Memory, Shape, Syntax}
 use Rattle.far_core.specs.declared.shape.Shape.{Shape as Size}
-use Rattle.far_core.specs.state.Law.{Law}
 use Rattle.far_core.specs.state.Opening.{opening}
 use Rattle.far_core.specs.state.Shape.{is_shape}
-use Rattle.far_core.specs.state.State.{State}
 use Rattle.far_trace.specs.Command.{Command, Heap}
 use Rattle.far_trace.specs.Grammar.{commands_of}
-use Rattle.far_trace.specs.Made.{made, AllSucceed, AllAtHand}
+use Rattle.far_trace.specs.Moment.{Moment, moment_of}
 use Rattle.far_trace.specs.Reply.{Reply, Done, Refused, printed}
 use Rattle.far_trace.specs.declared.run.End.{End}
 use Rattle.far_trace.specs.declared.run.End.TheVariants.{Ran, Refused as Turned}
@@ -19,29 +17,35 @@ use Rattle.far_trace.specs.declared.run.RunFault.{RunFault}
 use Rattle.far_trace.specs.declared.run.RunFault.TheVariants as faults
 use Rattle.far_trace.specs.Later.{AreLater}
 use Rattle.far_trace.specs.Stream.{AppendsFront, AppendsPart}
-use Rattle.far_trace.specs.Turn.{events_for, reply_to}
+use Rattle.far_trace.specs.Turn.{effect, reply_to}
 
--- one command, from a state to the next: its reply, its events, which all succeed, and what the state then keeps
-pub record Commanded (s : State) (c : Command) (r : Reply) (t : State) : Type 0 where
-  pub reply : r ≡ reply_to s c
-  pub state : t ≡ made s (events_for s c)
-  pub succeed : AllSucceed s (events_for s c)
-  pub law : Law t
-  pub at_hand : AllAtHand t
+-- one command, from a moment to the next, with its reply
+pub record Commanded (now : Moment) (c : Command) (r : Reply) (after : Moment) : Type 0 where
+  pub reply : r ≡ reply_to now c
+  pub moment : after ≡ effect now c
 
--- one reply a command, and a list of states from s on, each reached from the one before by its command's events
-abbrev pub Answered : State → List Command → List Reply → List State → Type 0
-Answered s [] [] [] = Unit {0}
-Answered s (c ∷ cs) (r ∷ rs) (t ∷ ts) = Commanded s c r t × Answered t cs rs ts
-Answered s _ _ _ = ⊥
+-- one reply a command, and a list of moments, each behind its command from the one before
+abbrev pub Answered : Moment → List Command → List Reply → List Moment → Type 0
+Answered now [] [] [] = Unit {0}
+Answered now (c ∷ cs) (r ∷ rs) (after ∷ moments) = Commanded now c r after × Answered after cs rs moments
+Answered now _ _ _ = ⊥
 
 -- the shape that a heap line says: the first epoch is 0
 abbrev pub shape_of : ℕ → ℕ → Size
 shape_of logs mutators = record { logs = logs; mutators = mutators; epoch = 0 }
 
--- the first state of a heap
-abbrev pub first_state : ℕ → ℕ → State
-first_state logs mutators = opening (shape_of logs mutators) true
+-- the first moment of a heap
+abbrev pub first_moment : ℕ → ℕ → Moment
+first_moment logs mutators = moment_of (opening (shape_of logs mutators) true)
+
+-- the moment behind these commands
+abbrev pub moment_behind : Moment → List Command → Moment
+moment_behind now [] = now
+moment_behind now (c ∷ cs) = moment_behind (effect now c) cs
+
+-- a moment to which a heap in range comes by commands
+abbrev pub IsMoment : Moment → Type 0
+IsMoment now = (logs mutators : ℕ) × (cs : List Command) × (is_shape (shape_of logs mutators) ≡ true) × AreLater cs × (now ≡ moment_behind (first_moment logs mutators) cs)
 
 -- the output of the commands that a text is read as
 abbrev pub IsOutput : Result (List Command) ℕ → List ℕ → Type 0
@@ -49,7 +53,7 @@ IsOutput (Err line) output = output ≡ printed (Refused (Syntax line))
 IsOutput (Ok []) output = output ≡ []
 IsOutput (Ok (Heap logs mutators ∷ commands)) output =
     MatchBool (is_shape (shape_of logs mutators))
-    ((replies : List Reply) × (states : List State) × Answered (first_state logs mutators) commands replies states × (output ≡ flat_map printed (Done ∷ replies)))
+    ((replies : List Reply) × (moments : List Moment) × Answered (first_moment logs mutators) commands replies moments × (output ≡ flat_map printed (Done ∷ replies)))
     (output ≡ printed (Refused Shape))
 IsOutput (Ok (_ ∷ commands)) output = output ≡ printed (Refused Shape)
 

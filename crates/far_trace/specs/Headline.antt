@@ -1,6 +1,6 @@
 -- What a trace program's outputs say: the laws over whole texts and whole lists of commands.
 use Rattle.std.specs.Prelude.{◌≡◌, ◌≢◌, ℕ, ◌+◌, ◌*◌, ◌/◌, ◌<◌, ◌≤◌, true, is_some, Some, None, Ok, List, [], ◌∷◌, ◌++◌, length, replicate, slice_index, map, All, Contains}
-use Rattle.std.specs.List.{range_with_len}
+use Rattle.std.specs.List.{flat_map, range_with_len}
 use Rattle.far_word.specs.declared.pointer.Place.{Place}
 use Rattle.far_word.specs.declared.refused.Refused.{Refused as Refusal}
 use Rattle.far_word.specs.declared.refused.Refused.TheVariants.{NoRoom, NoPointer, Length, Closed, AlreadyOpen, NotHeld, Range}
@@ -16,27 +16,42 @@ use Rattle.far_core.specs.state.State.{State, put}
 use Rattle.far_core.specs.world.World.{Group}
 use Rattle.far_core.specs.world.WorldOf.{world_of}
 use Rattle.far_trace.specs.Alone.{Alone, Knows, Own, nothing}
-use Rattle.far_trace.specs.Answers.{Answered, Answers, BeginsWithHeap, Commanded, shape_of, first_state}
-use Rattle.far_trace.specs.Command.{Command, New, Open, Write, Read, Close, Logs as AsksLogs}
+use Rattle.far_trace.specs.Answers.{Answered, Answers, BeginsWithHeap, Commanded, IsMoment, shape_of, first_moment}
+use Rattle.far_trace.specs.Command.{Command, Heap as HeapLine, New, Open, Write, Read, Close, Logs as AsksLogs}
 use Rattle.far_trace.specs.Grammar.{commands_of}
-use Rattle.far_trace.specs.Later.{AreLater}
-use Rattle.far_trace.specs.Made.{made}
-use Rattle.far_trace.specs.Turn.{events_for, kind_told, spliced}
-use Rattle.far_trace.specs.Reply.{Reply, Done, Pointer, Data, Logs, Refused, LogLine}
+use Rattle.far_trace.specs.Moment.{Moment}
+use Rattle.far_trace.specs.Later.{IsLater, AreLater}
+use Rattle.far_trace.specs.Made.{made, AllPass, AllSucceed, AllAtHand}
+use Rattle.far_trace.specs.Events.{events_for}
+use Rattle.far_trace.specs.Objects.{spliced}
+use Rattle.far_trace.specs.Turn.{kind_told}
+use Rattle.far_trace.specs.Reply.{Reply, Done, Pointer, Data, Logs, Refused, LogLine, printed}
 
 -- a log in which a view rests in s isn't free in t
 abbrev pub LogStays : State → State → Type 0
-LogStays s t = (p : ℕ) (place : Place) → s.held p ≡ Some place → t.kind place.log ≡ kinds.Free → ⊥
+LogStays s t = (p : ℕ) (place : Place) → s.held p ≡ Some place → t.kind place.log ≢ kinds.Free
 
 -- through a command: a log in which a view rests after any front of its events isn't free after any longer front
-abbrev pub StayThrough : State → Command → Type 0
-StayThrough s c = (es mid rest : List Event) → es ++ mid ++ rest ≡ events_for s c → LogStays (made s es) (made s (es ++ mid))
+abbrev pub StayThrough : Moment → Command → Type 0
+StayThrough now c = (es mid rest : List Event) → es ++ mid ++ rest ≡ events_for now c → LogStays (made now.core es) (made now.core (es ++ mid))
 
--- through each command of a list; and in the last state no view rests in a free log
-abbrev pub LogsStay : State → List Command → List State → Type 0
-LogsStay s [] ts = LogStays s s
-LogsStay s (c ∷ cs) [] = ⊥
-LogsStay s (c ∷ cs) (t ∷ ts) = StayThrough s c × LogsStay t cs ts
+-- through each command of a list; and in the last moment no view rests in a free log
+abbrev pub LogsStay : Moment → List Command → List Moment → Type 0
+LogsStay now [] moments = LogStays now.core now.core
+LogsStay now (c ∷ cs) [] = ⊥
+LogsStay now (c ∷ cs) (after ∷ moments) = StayThrough now c × LogsStay after cs moments
+
+-- the events of a command lead from a moment to the next: each is legal, and keeps the law and agreement; where all is at hand each comes to pass
+pub record Reaches (now : Moment) (c : Command) (after : Moment) : Type 0 where
+  pub ends : after.core ≡ made now.core (events_for now c)
+  pub pass : AllPass now.core (events_for now c)
+  pub succeed : AllAtHand now.core → AllSucceed now.core (events_for now c)
+
+-- what is true of each moment of an output
+pub record Lawful (now : Moment) : Type 0 where
+  pub reached : IsMoment now
+  pub law : Law now.core
+  pub at_hand : AllAtHand now.core
 
 -- each object that is in use has one live span, each log's bytes are 1,024, and no two cells name one place
 abbrev pub IsWhole : State → Type 0
@@ -61,17 +76,17 @@ MayRefuse (Write m p from bytes) NotHeld = Unit {0}
 MayRefuse c why = ⊥
 
 -- a line tells a log's kind and its live, dead and unused bytes, which make 1,024
-pub record TellsLog (s : State) (line : LogLine) : Type 0 where
-  pub kind : line.kind ≡ kind_told (s.kind line.log)
-  pub live : line.live ≡ live_bytes s line.log
-  pub dead : line.dead ≡ dead_bytes s line.log
-  pub unused : line.unused ≡ unused_bytes s line.log
+pub record TellsLog (now : Moment) (line : LogLine) : Type 0 where
+  pub kind : line.kind ≡ kind_told (now.core.kind line.log)
+  pub live : line.live ≡ live_bytes now.core line.log
+  pub dead : line.dead ≡ dead_bytes now.core line.log
+  pub unused : line.unused ≡ unused_bytes now.core line.log
   pub whole : line.live + line.dead + line.unused ≡ 8 * LOG_WORDS
 
 -- the logs are told: one line for each, by number
-abbrev pub TellsAll : State → Reply → Type 0
-TellsAll s (Logs lines) = (map (λ line. line.log) lines ≡ range_with_len 0 s.logs) × ((line : LogLine) → Contains lines line → TellsLog s line)
-TellsAll s _ = ⊥
+abbrev pub TellsAll : Moment → Reply → Type 0
+TellsAll now (Logs lines) = (map (λ line. line.log) lines ≡ range_with_len 0 now.core.logs) × ((line : LogLine) → Contains lines line → TellsLog now line)
+TellsAll now _ = ⊥
 
 -- a command views an object: it is viewed then, where it was already if it was, and all other views stay
 pub record ViewsObject (s t : State) (p : ℕ) : Type 0 where
@@ -85,22 +100,38 @@ pub record ViewsNothing (s t : State) (m : ℕ) : Type 0 where
   pub others : (q : ℕ) → q / CELLS ≢ m → t.held q ≡ s.held q
 
 -- what a command with its reply does to the views
-abbrev pub ViewsAfter : State → Command → Reply → State → Type 0
-ViewsAfter s (Read m p from len) (Data bytes) t = ViewsObject s t p
-ViewsAfter s (Write m p from bytes) Done t = ViewsObject s t p
-ViewsAfter s (Close m) Done t = ViewsNothing s t m
-ViewsAfter s c r t = t.held ≡ s.held
+abbrev pub ViewsAfter : Moment → Command → Reply → Moment → Type 0
+ViewsAfter now (Read m p from len) (Data bytes) after = ViewsObject now.core after.core p
+ViewsAfter now (Write m p from bytes) Done after = ViewsObject now.core after.core p
+ViewsAfter now (Close m) Done after = ViewsNothing now.core after.core m
+ViewsAfter now c r after = after.core.held ≡ now.core.held
 
 -- the line has the mutator's number
 abbrev pub IsSaidBy : ℕ → Command → Type 0
+IsSaidBy m (HeapLine logs mutators) = ⊥
 IsSaidBy m (New k len ds) = m ≡ k
 IsSaidBy m (Open k) = m ≡ k
 IsSaidBy m (Write k p from bytes) = m ≡ k
 IsSaidBy m (Read k p from len) = m ≡ k
 IsSaidBy m (Close k) = m ≡ k
-IsSaidBy m c = ⊥
+IsSaidBy m AsksLogs = ⊥
 
 -- ---- the laws
+-- what an output says, from its text on: where the text is read as a heap in range and commands, there are the replies and the moments of this output; in each moment
+-- objects are whole, the logs in which views rest stay, and the replies to each mutator's lines are what its own lines alone say
+pub record IsSound (logs mutators : ℕ) (cs : List Command) (output : List ℕ) : Type 0 where
+  pub replies : List Reply
+  pub moments : List Moment
+  pub answered : Answered (first_moment logs mutators) cs replies moments
+  pub printed_so : output ≡ flat_map printed (Done ∷ replies)
+  pub whole : All (λ (now : Moment). IsWhole now.core) (first_moment logs mutators ∷ moments)
+  pub stay : LogsStay (first_moment logs mutators) cs moments
+  pub alone : (m : ℕ) → m < mutators → Alone m nothing cs replies
+
+abbrev pub OutputsAreSound : Type 0
+OutputsAreSound = (text output : List ℕ) (logs mutators : ℕ) (cs : List Command) → Answers text output → commands_of text ≡ Ok (HeapLine logs mutators ∷ cs) →
+    is_shape (shape_of logs mutators) ≡ true → IsSound logs mutators cs output
+
 -- each text has an output
 abbrev pub EachTextIsAnswered : Type 0
 EachTextIsAnswered = (text : List ℕ) → (output : List ℕ) × Answers text output
@@ -109,69 +140,78 @@ EachTextIsAnswered = (text : List ℕ) → (output : List ℕ) × Answers text o
 abbrev pub TextsBeginWithHeap : Type 0
 TextsBeginWithHeap = (text : List ℕ) (cs : List Command) → commands_of text ≡ Ok cs → BeginsWithHeap cs
 
--- a refused command leaves the state as it is
-abbrev pub RefusalsChangeNothing : Type 0
-RefusalsChangeNothing = (s : State) (c : Command) (r : Reply) (t : State) (why : Refusal) → Commanded s c r t → r ≡ Refused why → t ≡ s
-
--- a line of a mutator that the heap hasn't is refused 8
-abbrev pub StrangersAreRefused : Type 0
-StrangersAreRefused = (s : State) (c : Command) (r : Reply) (t : State) (m : ℕ) → IsSaidBy m c → s.mutators ≤ m → Commanded s c r t → r ≡ Refused Range
-
--- what `logs` tells
-abbrev pub LogsAreTold : Type 0
-LogsAreTold = (s : State) (r : Reply) (t : State) → Law s → Commanded s AsksLogs r t → TellsAll s r
-
 -- two outputs of one text are equal
 abbrev pub OneOutput : Type 0
 OneOutput = (text a b : List ℕ) → Answers text a → Answers text b → a ≡ b
-
--- objects stay whole through commands
-abbrev pub ObjectsStayWhole : Type 0
-ObjectsStayWhole = (s : State) (cs : List Command) (rs : List Reply) (ts : List State) → Law s → Answered s cs rs ts → IsWhole s × All IsWhole ts
-
--- the logs in which views rest stay
-abbrev pub ViewedLogsStay : Type 0
-ViewedLogsStay = (s : State) (cs : List Command) (rs : List Reply) (ts : List State) → Law s → Answered s cs rs ts → LogsStay s cs ts
-
--- the replies to one mutator's lines are what its own lines alone say
-abbrev pub MutatorsAreAlone : Type 0
-MutatorsAreAlone = (logs mutators m : ℕ) (cs : List Command) (rs : List Reply) (ts : List State) → is_shape (shape_of logs mutators) ≡ true → m < mutators → AreLater cs →
-    Answered (first_state logs mutators) cs rs ts → Alone m nothing cs rs
 
 -- in a text that is read, the commands behind the first are such
 abbrev pub LinesAreLater : Type 0
 LinesAreLater = (text : List ℕ) (c : Command) (cs : List Command) → commands_of text ≡ Ok (c ∷ cs) → AreLater cs
 
--- near objects are refused so alone
-abbrev pub NearRefusals : Type 0
-NearRefusals = (s : State) (c : Command) (r : Reply) (t : State) (why : Refusal) → Commanded s c r t → r ≡ Refused why → MayRefuse c why
+-- what lasts: each moment behind a heap and commands has the law, and its pointers at hand
+abbrev pub MomentsLast : Type 0
+MomentsLast = (now : Moment) (cs : List Command) (rs : List Reply) (moments : List Moment) → IsMoment now → AreLater cs → Answered now cs rs moments → All Lawful (now ∷ moments)
 
--- a heap in range begins with the numbers on its line and with the law, so that the laws above hold from its first state on
+-- each command is carried out by its events
+abbrev pub EventsReach : Type 0
+EventsReach = (now : Moment) (c : Command) (r : Reply) (after : Moment) → IsMoment now → IsLater c → Commanded now c r after → Reaches now c after
+
+-- a refused command leaves the moment as it is
+abbrev pub RefusalsChangeNothing : Type 0
+RefusalsChangeNothing = (now : Moment) (c : Command) (r : Reply) (after : Moment) (why : Refusal) → Commanded now c r after → r ≡ Refused why → after ≡ now
+
+-- a line of a mutator that the heap hasn't is refused 8
+abbrev pub StrangersAreRefused : Type 0
+StrangersAreRefused = (now : Moment) (c : Command) (r : Reply) (after : Moment) (m : ℕ) → IsSaidBy m c → now.core.mutators ≤ m → Commanded now c r after → r ≡ Refused Range
+
+-- what `logs` tells
+abbrev pub LogsAreTold : Type 0
+LogsAreTold = (now : Moment) (r : Reply) (after : Moment) → Law now.core → Commanded now AsksLogs r after → TellsAll now r
+
+-- objects stay whole through commands
+abbrev pub ObjectsStayWhole : Type 0
+ObjectsStayWhole = (now : Moment) (cs : List Command) (rs : List Reply) (moments : List Moment) → IsMoment now → AreLater cs → Answered now cs rs moments →
+    All (λ (x : Moment). IsWhole x.core) (now ∷ moments)
+
+-- the logs in which views rest stay
+abbrev pub ViewedLogsStay : Type 0
+ViewedLogsStay = (now : Moment) (cs : List Command) (rs : List Reply) (moments : List Moment) → IsMoment now → AreLater cs → Answered now cs rs moments → LogsStay now cs moments
+
+-- the replies to one mutator's lines are what its own lines alone say
+abbrev pub MutatorsAreAlone : Type 0
+MutatorsAreAlone = (logs mutators m : ℕ) (cs : List Command) (rs : List Reply) (moments : List Moment) → is_shape (shape_of logs mutators) ≡ true → m < mutators → AreLater cs →
+    Answered (first_moment logs mutators) cs rs moments → Alone m nothing cs rs
+
+-- where all objects are near and at hand, commands are refused so alone
+abbrev pub NearRefusals : Type 0
+NearRefusals = (now : Moment) (c : Command) (r : Reply) (after : Moment) (why : Refusal) → AllAtHand now.core → Commanded now c r after → r ≡ Refused why → MayRefuse c why
+
+-- a heap in range begins with the numbers on its line and with the law, so that the laws above hold from its first moment on
 abbrev pub HeapsBeginLawful : Type 0
 HeapsBeginLawful = (logs mutators : ℕ) → is_shape (shape_of logs mutators) ≡ true →
-    ((first_state logs mutators).logs ≡ logs) × ((first_state logs mutators).mutators ≡ mutators) × Law (first_state logs mutators) × IsWhole (first_state logs mutators)
+    ((first_moment logs mutators).core.logs ≡ logs) × ((first_moment logs mutators).core.mutators ≡ mutators) × Lawful (first_moment logs mutators) × IsWhole (first_moment logs mutators).core
 
 -- a new object's pointer is its owner's lowest cell that is 0
 abbrev pub NewTakesTheLowest : Type 0
-NewTakesTheLowest = (s : State) (m len ds p : ℕ) (t : State) → Commanded s (New m len ds) (Pointer p) t →
-    (m * CELLS ≤ p) × (p < m * CELLS + CELLS) × (s.cell p ≡ 0) × ((q : ℕ) → m * CELLS ≤ q → q < p → s.cell q ≢ 0)
+NewTakesTheLowest = (now : Moment) (m len ds p : ℕ) (after : Moment) → Commanded now (New m len ds) (Pointer p) after →
+    (m * CELLS ≤ p) × (p < m * CELLS + CELLS) × (now.core.cell p ≡ 0) × ((q : ℕ) → m * CELLS ≤ q → q < p → now.core.cell q ≢ 0)
 
 -- refused 3 only where none of the owner's cells is 0, and 2 only where there is no room
 abbrev pub NoneIsLeft : Type 0
-NoneIsLeft = (s : State) (m len ds : ℕ) (t : State) →
-    (Commanded s (New m len ds) (Refused NoPointer) t → (q : ℕ) → m * CELLS ≤ q → q < m * CELLS + CELLS → s.cell q ≢ 0)
-    × (Commanded s (New m len ds) (Refused NoRoom) t → room s (size_of len) true ≡ None)
+NoneIsLeft = (now : Moment) (m len ds : ℕ) (after : Moment) →
+    (Commanded now (New m len ds) (Refused NoPointer) after → (q : ℕ) → m * CELLS ≤ q → q < m * CELLS + CELLS → now.core.cell q ≢ 0)
+    × (Commanded now (New m len ds) (Refused NoRoom) after → room now.core (size_of len) true ≡ None)
 
 -- a new object in range is refused 3 exactly where each of the owner's cells is taken, else 2 exactly where there is no room, and else made
 abbrev pub NewIsMade : Type 0
-NewIsMade = (s : State) (m len ds : ℕ) (r : Reply) (t : State) → m < s.mutators → ds < 256 → 0 < len → len ≤ LONGEST → Commanded s (New m len ds) r t →
-    (((q : ℕ) → m * CELLS ≤ q → q < m * CELLS + CELLS → s.cell q ≢ 0) → r ≡ Refused NoPointer)
-    × ((q : ℕ) → m * CELLS ≤ q → q < m * CELLS + CELLS → s.cell q ≡ 0 →
-    (room s (size_of len) true ≡ None → r ≡ Refused NoRoom) × ((place : Place) → room s (size_of len) true ≡ Some place → (p : ℕ) × (r ≡ Pointer p)))
+NewIsMade = (now : Moment) (m len ds : ℕ) (r : Reply) (after : Moment) → m < now.core.mutators → ds < 256 → 0 < len → len ≤ LONGEST → Commanded now (New m len ds) r after →
+    (((q : ℕ) → m * CELLS ≤ q → q < m * CELLS + CELLS → now.core.cell q ≢ 0) → r ≡ Refused NoPointer)
+    × ((q : ℕ) → m * CELLS ≤ q → q < m * CELLS + CELLS → now.core.cell q ≡ 0 →
+    (room now.core (size_of len) true ≡ None → r ≡ Refused NoRoom) × ((place : Place) → room now.core (size_of len) true ≡ Some place → (p : ℕ) × (r ≡ Pointer p)))
 
 -- what is read or written is viewed until its mutator closes its scope; nothing else makes a view or takes one away
 abbrev pub ViewsLast : Type 0
-ViewsLast = (s : State) (c : Command) (r : Reply) (t : State) → Commanded s c r t → ViewsAfter s c r t
+ViewsLast = (now : Moment) (c : Command) (r : Reply) (after : Moment) → IsMoment now → IsLater c → Commanded now c r after → ViewsAfter now c r after
 
 -- a write changes the bytes of its range to the new ones, and no others
 abbrev pub WritesChangeTheirRange : Type 0
@@ -184,9 +224,9 @@ WritesChangeTheirRange = (bytes new : List ℕ) (from : ℕ) → from + length n
 -- of replies that are a mutator's alone, the reply to a line with its number says what it then knows, and the others say nothing of it
 abbrev pub OwnLinesCount : Type 0
 OwnLinesCount = (m : ℕ) (o : Own) (c : Command) (r : Reply) (cs : List Command) (rs : List Reply) → Alone m o (c ∷ cs) (r ∷ rs) →
-    (IsSaidBy m c → (q : Own) × Knows m o c r q × Alone m q cs rs) × ((IsSaidBy m c → ⊥) → Alone m o cs rs)
+    (IsSaidBy m c → (q : Own) × Knows m o c r q × Alone m q cs rs) × (¬ IsSaidBy m c → Alone m o cs rs)
 
 -- a new object has its owner, its data structure and so many zeros, in the log of the place that room says; all other objects stay
 abbrev pub NewMakesItsObject : Type 0
-NewMakesItsObject = (s : State) (m len ds p : ℕ) (t : State) → Law s → Commanded s (New m len ds) (Pointer p) t → (place : Place) × (room s (size_of len) true ≡ Some place)
-    × ((world_of t).object ≡ put (world_of s).object p (Some record { owner = m; ds = ds; bytes = replicate len 0; home = Group place.log }))
+NewMakesItsObject = (now : Moment) (m len ds p : ℕ) (after : Moment) → IsMoment now → Commanded now (New m len ds) (Pointer p) after → (place : Place) × (room now.core (size_of len) true ≡ Some place)
+    × ((world_of after.core).object ≡ put (world_of now.core).object p (Some record { owner = m; ds = ds; bytes = replicate len 0; home = Group place.log }))

@@ -9,13 +9,15 @@ use Rattle.far_core.specs.declared.event.Reply.{Reply as Answer}
 use Rattle.far_core.specs.declared.event.Reply.TheVariants as answers
 use Rattle.far_core.specs.state.State.{State, put}
 use Rattle.far_core.specs.events.Step.{step_of, data_len, is_opened}
+use Rattle.far_trace.specs.Moment.{Moment}
 use Rattle.far_trace.specs.Command.{Command, New, Write}
 use Rattle.far_trace.specs.declared.turn.Access.{Access}
 use Rattle.far_trace.specs.Outcome.{told_by}
 use Rattle.far_trace.specs.Reply.{Reply, LogLine}
 use Rattle.far_trace.specs.declared.outcome.Outcome.{Outcome}
 use Rattle.far_trace.specs.declared.turn.NewObject.{NewObject}
-use Rattle.far_trace.specs.Turn.{lowest_cell, refusal, unless}
+use Rattle.far_trace.specs.Objects.{lowest_cell}
+use Rattle.far_trace.specs.Turn.{refusal, unless}
 use Rattle.far_word.specs.declared.pointer.Place.{Place}
 use Rattle.far_word.specs.Sizes.{size_of}
 use Rattle.far_core.specs.state.Room.{room}
@@ -65,8 +67,8 @@ named_by (New m len ds) next = put next m (next m + 1)
 named_by c next = next
 
 -- and after any command
-abbrev pub next_after : State → Command → (ℕ → ℕ) → ℕ → ℕ
-next_after s c next = unless (refusal s c) (λ _. next) (named_by c next)
+abbrev pub next_after : Moment → Command → (ℕ → ℕ) → ℕ → ℕ
+next_after now c next = unless (refusal now c) (λ _. next) (named_by c next)
 
 -- a new object that may be made: all its numbers are in range, and its cell and its place are the next ones
 pub record IsNew (s : State) (mutator len ds : ℕ) (object : NewObject) : Type 0 where

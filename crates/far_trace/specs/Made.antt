@@ -9,7 +9,8 @@ use Rattle.far_core.specs.declared.event.Event.TheVariants.{Pin, Name}
 use Rattle.far_core.specs.declared.event.Reply.{Reply}
 use Rattle.far_core.specs.declared.event.Reply.TheVariants.{Refused, Word}
 use Rattle.far_core.specs.state.State.{State}
-use Rattle.far_core.specs.events.Step.{step_of}
+use Rattle.far_core.specs.events.Step.{step_of, is_legal}
+use Rattle.far_core.specs.world.Runs.{Passes}
 
 -- the state after these events
 abbrev pub made : State → List Event → State
@@ -26,6 +27,11 @@ Succeeds e r = Unit {0}
 abbrev pub AllSucceed : State → List Event → Type 0
 AllSucceed s [] = Unit {0}
 AllSucceed s (e ∷ es) = Succeeds e (step_of s e).1 × AllSucceed (step_of s e).0 es
+
+-- each event of a row is legal, and behind it the state has the law, and agrees with what its owners view
+abbrev pub AllPass : State → List Event → Type 0
+AllPass s [] = Unit {0}
+AllPass s (e ∷ es) = (is_legal s e ≡ true) × Passes s e (step_of s e).1 (step_of s e).0 × AllPass (step_of s e).0 es
 
 -- a near pointer whose object may be dereferenced at once: it has none of EVAC, MOVE and DROP
 pub record AtHand (s : State) (p : ℕ) : Type 0 where

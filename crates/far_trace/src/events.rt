@@ -7,7 +7,7 @@ ghost use Rattle.far_core.specs.state.CoreState.{core_state};
 ghost use Rattle.far_core.specs.events.Step.{step_of};
 ghost use Rattle.far_core.specs.declared.event.Event.{Event};
 ghost use Rattle.far_trace.specs.Made.{made};
-ghost use Rattle.far_trace.specs.Turn.{new_events, zero_puts, open_events, view_events, load_events};
+ghost use Rattle.far_trace.specs.Events.{new_events, zero_puts, open_events, view_events, load_events};
 ghost use Rattle.far_trace.specs.Interpreter.{loaded, stores_of, word_in};
 
 use far_core::{Core, Event, Reply};

@@ -1,13 +1,31 @@
 //! What outputs say, over whole texts and whole lists of commands. No function here does anything when it runs.
 
-ghost use Rattle.far_trace.specs.Headline.{OneOutput, ObjectsStayWhole, ViewedLogsStay, MutatorsAreAlone, LinesAreLater, NearRefusals, HeapsBeginLawful, EachTextIsAnswered, TextsBeginWithHeap, RefusalsChangeNothing, StrangersAreRefused, ViewsLast, LogsAreTold, NewTakesTheLowest, NoneIsLeft, WritesChangeTheirRange, OwnLinesCount, NewIsMade, NewMakesItsObject};
+ghost use Rattle.far_trace.specs.Headline.{OneOutput, ObjectsStayWhole, ViewedLogsStay, MutatorsAreAlone, LinesAreLater, OutputsAreSound, MomentsLast, EventsReach, NearRefusals, HeapsBeginLawful, EachTextIsAnswered, TextsBeginWithHeap, RefusalsChangeNothing, StrangersAreRefused, ViewsLast, LogsAreTold, NewTakesTheLowest, NoneIsLeft, WritesChangeTheirRange, OwnLinesCount, NewIsMade, NewMakesItsObject};
+
+/// From a text on: its output, where it is read as a heap in range and commands, has a reply and a moment for each
+/// command; in each moment objects are whole, through them the logs in which views rest stay, and each mutator's replies
+/// are what its own lines alone say.
+pub fn outputs_are_sound()
+    ensures { OutputsAreSound }
+{}
+
+/// Each moment behind a heap and commands has the law, and its pointers at hand.
+pub fn moments_last()
+    ensures { MomentsLast }
+{}
+
+/// Each command is carried out by its events: they are legal, keep the law and what views rest on, and end in the moment
+/// behind the command.
+pub fn events_reach()
+    ensures { EventsReach }
+{}
 
 /// A text has one output.
 pub fn outputs_are_one()
     ensures { OneOutput }
 {}
 
-/// In each state each object in use has exactly one live span, each log's bytes are 1,024 in all, and no two pointers
+/// In each moment each object in use has exactly one live span, each log's bytes are 1,024 in all, and no two pointers
 /// name one place.
 pub fn objects_stay_whole()
     ensures { ObjectsStayWhole }
@@ -28,13 +46,13 @@ pub fn mutators_are_alone()
     ensures { MutatorsAreAlone }
 {}
 
-/// No command behind the heap is refused for want of memory, by a device or for a mark; for want of a pointer or of room
+/// Where all objects are near and at hand, no command behind the heap is refused for want of memory, by a device or for a mark; for want of a pointer or of room
 /// a new object alone is refused.
 pub fn near_refusals()
     ensures { NearRefusals }
 {}
 
-/// The first state of a heap in range has the law, and is whole.
+/// The first moment of a heap in range has the law, and is whole.
 pub fn heaps_begin_lawful()
     ensures { HeapsBeginLawful }
 {}
@@ -49,7 +67,7 @@ pub fn texts_begin_with_heap()
     ensures { TextsBeginWithHeap }
 {}
 
-/// A refused command leaves the state as it is.
+/// A refused command leaves the moment as it is.
 pub fn refusals_change_nothing()
     ensures { RefusalsChangeNothing }
 {}

@@ -5,7 +5,7 @@ ghost use Rattle.far_trace.specs.Reply.{refused_printed};
 ghost use Rattle.far_trace.specs.Stream.{Writes};
 ghost use Rattle.std.specs.List.{flat_map};
 ghost use Rattle.far_core.specs.state.CoreState.{core_state};
-ghost use Rattle.far_core.specs.state.State.{State};
+ghost use Rattle.far_trace.specs.Moment.{Moment, moment_of};
 ghost use Rattle.far_trace.specs.Answers.{Answered, BeginsWithHeap, WritesOutput, WritesAnswer, LeavesBehind, Leaves, end_of};
 ghost use Rattle.far_trace.specs.Grammar.{commands_of};
 ghost use Rattle.far_trace.specs.Command.{said, Heap};
@@ -113,7 +113,7 @@ fn answer_commands<W: Write>(
     requires tidy { Tidy (core_state core) (λ m. slice_index named.old m) }
     requires sized { length named.old ≡ MOST_MUTATORS }
     requires later { AreLater (map said commands.now) }
-    ensures { (replies : List Answer) × (states : List State) × Answered (core_state core) (map said commands.now) replies states
+    ensures { (replies : List Answer) × (moments : List Moment) × Answered (moment_of (core_state core)) (map said commands.now) replies moments
         × Writes (W.contents writer.old) (W.contents writer.new) result (flat_map printed (Done ∷ replies)) }
 {
     let mut core = core;

@@ -18,7 +18,11 @@ ghost use Rattle.far_trace.specs.Command.{Heap, New, Open, Write, Read, Close, L
 ghost use Rattle.far_trace.specs.Outcome.{told_by, Fits};
 ghost use Rattle.far_trace.specs.Reply.{IsShort};
 ghost use Rattle.far_trace.specs.Tidy.{Tidy};
-ghost use Rattle.far_trace.specs.Turn.{access_causes, first_cause, events_for, reply_to, turn_events, turn_reply, kind_told, refusal, first_word, words_touched, starts_inside, ends_inside, first_part, last_part, log_line, lowest_cell};
+ghost use Rattle.far_trace.specs.Events.{events_for, turn_events, first_word, words_touched, starts_inside, ends_inside, first_part, last_part};
+ghost use Rattle.far_trace.specs.Objects.{lowest_cell};
+ghost use Rattle.far_trace.specs.Moment.{moment_of};
+ghost use Rattle.far_trace.specs.Later.{IsLater};
+ghost use Rattle.far_trace.specs.Turn.{effect, access_causes, first_cause, reply_to, turn_reply, kind_told, refusal, log_line};
 
 use crate::command::Command;
 use crate::events::{load, load_words, make_new, open, store_words, view};
@@ -59,7 +63,7 @@ pub fn reach(
     from: u64,
     count: u64,
 ) -> Result<Access, Refused>
-    ensures refusal { refused_in result ≡ first_cause (access_causes (core_state core.now) mutator pointer from count) }
+    ensures refusal { refused_in result ≡ first_cause (access_causes (moment_of (core_state core.now)) mutator pointer from count) }
     ensures access { IfOk result (λ a. IsAccess (core_state core.now) mutator pointer from count a) }
 {
     if mutator >= u64::from(core.mutators()) {
@@ -125,8 +129,8 @@ fn read(core: &mut Core, room: &mut Room, access: Access) -> Outcome
     requires access { IsAccess (core_state core.old) access.owner access.pointer access.from access.count access }
     requires tidy { (next : ℕ → ℕ) × Tidy (core_state core.old) next }
     requires law { Law (core_state core.old) }
-    ensures state { core_state core.new ≡ made (core_state core.old) (turn_events (core_state core.old) (Read access.owner access.pointer access.from access.count)) }
-    ensures reply { told_by room.new.bytes room.new.lines result ≡ turn_reply (core_state core.old) (Read access.owner access.pointer access.from access.count) }
+    ensures state { core_state core.new ≡ made (core_state core.old) (turn_events (moment_of (core_state core.old)) (Read access.owner access.pointer access.from access.count)) }
+    ensures reply { told_by room.new.bytes room.new.lines result ≡ turn_reply (moment_of (core_state core.old)) (Read access.owner access.pointer access.from access.count) }
     ensures fits { Fits result }
 {
     view(core, access.owner, access.pointer);
@@ -196,7 +200,7 @@ fn write(core: &mut Core, room: &mut Room, access: Access, bytes: HexWord) -> Ou
     requires tidy { (next : ℕ → ℕ) × Tidy (core_state core.old) next }
     requires law { Law (core_state core.old) }
     requires bytes { length (spelled bytes.digits.now) ≡ access.count }
-    ensures state { core_state core.new ≡ made (core_state core.old) (turn_events (core_state core.old) (Write access.owner access.pointer access.from (spelled bytes.entry.digits.now))) }
+    ensures state { core_state core.new ≡ made (core_state core.old) (turn_events (moment_of (core_state core.old)) (Write access.owner access.pointer access.from (spelled bytes.entry.digits.now))) }
     ensures done { result ≡ Outcome.Done }
 {
     let first = access.first();
@@ -287,7 +291,7 @@ fn design(core: &Core, named: &[u16], mutator: u64, len: u64, ds: u64) -> Result
     requires tidy { Tidy (core_state core.now) (λ m. slice_index named.now m) }
     requires law { Law (core_state core.now) }
     requires sized { length named.now ≡ MOST_MUTATORS }
-    ensures refusal { refused_in result ≡ refusal (core_state core.now) (New mutator len ds) }
+    ensures refusal { refused_in result ≡ refusal (moment_of (core_state core.now)) (New mutator len ds) }
     ensures object { IfOk result (IsNew (core_state core.now) mutator len ds) }
 {
     if mutator >= u64::from(core.mutators()) || ds >= 256 {
@@ -317,9 +321,9 @@ fn make_object(core: &mut Core, named: &mut [u16], mutator: u64, len: u64, ds: u
     requires tidy { Tidy (core_state core.old) (λ m. slice_index named.old m) }
     requires law { Law (core_state core.old) }
     requires sized { length named.old ≡ MOST_MUTATORS }
-    ensures state { core_state core.new ≡ made (core_state core.old) (events_for (core_state core.old) (New mutator len ds)) }
-    ensures reply { Tells result (reply_to (core_state core.old) (New mutator len ds)) }
-    ensures named { (m : ℕ) → slice_index named.new m ≡ next_after (core_state core.old) (New mutator len ds) (λ k. slice_index named.old k) m }
+    ensures state { core_state core.new ≡ made (core_state core.old) (events_for (moment_of (core_state core.old)) (New mutator len ds)) }
+    ensures reply { Tells result (reply_to (moment_of (core_state core.old)) (New mutator len ds)) }
+    ensures named { (m : ℕ) → slice_index named.new m ≡ next_after (moment_of (core_state core.old)) (New mutator len ds) (λ k. slice_index named.old k) m }
     ensures fits { Fits result }
 {
     match design(core, named, mutator, len, ds) {
@@ -341,8 +345,8 @@ fn make_object(core: &mut Core, named: &mut [u16], mutator: u64, len: u64, ds: u
 
 // Opens a mutator's scope.
 fn open_scope(core: &mut Core, mutator: u64) -> Outcome
-    ensures state { core_state core.new ≡ made (core_state core.old) (events_for (core_state core.old) (Open mutator)) }
-    ensures reply { Tells result (reply_to (core_state core.old) (Open mutator)) }
+    ensures state { core_state core.new ≡ made (core_state core.old) (events_for (moment_of (core_state core.old)) (Open mutator)) }
+    ensures reply { Tells result (reply_to (moment_of (core_state core.old)) (Open mutator)) }
     ensures fits { Fits result }
 {
     if mutator >= u64::from(core.mutators()) {
@@ -358,8 +362,8 @@ fn open_scope(core: &mut Core, mutator: u64) -> Outcome
 
 // Closes a mutator's scope.
 fn close_scope(core: &mut Core, mutator: u64) -> Outcome
-    ensures state { core_state core.new ≡ made (core_state core.old) (events_for (core_state core.old) (Close mutator)) }
-    ensures reply { Tells result (reply_to (core_state core.old) (Close mutator)) }
+    ensures state { core_state core.new ≡ made (core_state core.old) (events_for (moment_of (core_state core.old)) (Close mutator)) }
+    ensures reply { Tells result (reply_to (moment_of (core_state core.old)) (Close mutator)) }
     ensures fits { Fits result }
 {
     if mutator >= u64::from(core.mutators()) {
@@ -384,8 +388,8 @@ fn read_range(
 ) -> Outcome
     requires tidy { (next : ℕ → ℕ) × Tidy (core_state core.old) next }
     requires law { Law (core_state core.old) }
-    ensures state { core_state core.new ≡ made (core_state core.old) (events_for (core_state core.old) (Read mutator pointer from len)) }
-    ensures reply { told_by room.new.bytes room.new.lines result ≡ reply_to (core_state core.old) (Read mutator pointer from len) }
+    ensures state { core_state core.new ≡ made (core_state core.old) (events_for (moment_of (core_state core.old)) (Read mutator pointer from len)) }
+    ensures reply { told_by room.new.bytes room.new.lines result ≡ reply_to (moment_of (core_state core.old)) (Read mutator pointer from len) }
     ensures fits { Fits result }
 {
     match reach(core, mutator, pointer, from, len) {
@@ -405,8 +409,8 @@ fn write_range(
 ) -> Outcome
     requires tidy { (next : ℕ → ℕ) × Tidy (core_state core.old) next }
     requires law { Law (core_state core.old) }
-    ensures state { core_state core.new ≡ made (core_state core.old) (events_for (core_state core.old) (Write mutator pointer from (spelled bytes.entry.digits.now))) }
-    ensures reply { Tells result (reply_to (core_state core.old) (Write mutator pointer from (spelled bytes.entry.digits.now))) }
+    ensures state { core_state core.new ≡ made (core_state core.old) (events_for (moment_of (core_state core.old)) (Write mutator pointer from (spelled bytes.entry.digits.now))) }
+    ensures reply { Tells result (reply_to (moment_of (core_state core.old)) (Write mutator pointer from (spelled bytes.entry.digits.now))) }
     ensures fits { Fits result }
 {
     match reach(core, mutator, pointer, from, bytes.len() as u64) {
@@ -430,7 +434,7 @@ fn log_told(core: &Core, log: u8) -> LogLine
     requires tidy { (next : ℕ → ℕ) × Tidy (core_state core.now) next }
     requires law { Law (core_state core.now) }
     requires log { log < (core_state core.now).logs }
-    ensures { result ≡ log_line (core_state core.now) log }
+    ensures { result ≡ log_line (moment_of (core_state core.now)) log }
 {
     let live = 8 * u64::from(core.tail(log));
     LogLine {
@@ -447,21 +451,21 @@ fn tell_logs(core: &Core, lines: &mut [LogLine])
     requires tidy { (next : ℕ → ℕ) × Tidy (core_state core.now) next }
     requires law { Law (core_state core.now) }
     requires room { length lines.old ≡ MOST_LOGS }
-    ensures { take (core_state core.now).logs lines.new ≡ map (log_line (core_state core.now)) (range_with_len 0 (core_state core.now).logs) }
+    ensures { take (core_state core.now).logs lines.new ≡ map (log_line (moment_of (core_state core.now))) (range_with_len 0 (core_state core.now).logs) }
 {
     for log in 0..core.logs() {
         lines[log as usize] = log_told(core, log);
     }
 }
 
-/// Makes one command, and answers what it comes to.
-pub fn turn(core: &mut Core, named: &mut [u16], room: &mut Room, command: &Command) -> Outcome
+// Makes the events of one command, and answers what it comes to.
+fn make_events(core: &mut Core, named: &mut [u16], room: &mut Room, command: &Command) -> Outcome
     requires tidy { Tidy (core_state core.old) (λ m. slice_index named.old m) }
     requires law { Law (core_state core.old) }
     requires sized { length named.old ≡ MOST_MUTATORS }
-    ensures state { core_state core.new ≡ made (core_state core.old) (events_for (core_state core.old) (said command.now)) }
-    ensures reply { told_by room.new.bytes room.new.lines result ≡ reply_to (core_state core.old) (said command.now) }
-    ensures named { (m : ℕ) → slice_index named.new m ≡ next_after (core_state core.old) (said command.now) (λ k. slice_index named.old k) m }
+    ensures state { core_state core.new ≡ made (core_state core.old) (events_for (moment_of (core_state core.old)) (said command.now)) }
+    ensures reply { told_by room.new.bytes room.new.lines result ≡ reply_to (moment_of (core_state core.old)) (said command.now) }
+    ensures named { (m : ℕ) → slice_index named.new m ≡ next_after (moment_of (core_state core.old)) (said command.now) (λ k. slice_index named.old k) m }
     ensures fits { Fits result }
 {
     match *command {
@@ -490,4 +494,18 @@ pub fn turn(core: &mut Core, named: &mut [u16], room: &mut Room, command: &Comma
             Outcome::Logs(core.logs())
         }
     }
+}
+
+/// Makes one command, and answers what it comes to.
+pub fn turn(core: &mut Core, named: &mut [u16], room: &mut Room, command: &Command) -> Outcome
+    requires tidy { Tidy (core_state core.old) (λ m. slice_index named.old m) }
+    requires law { Law (core_state core.old) }
+    requires sized { length named.old ≡ MOST_MUTATORS }
+    requires later { IsLater (said command.now) }
+    ensures moment { moment_of (core_state core.new) ≡ effect (moment_of (core_state core.old)) (said command.now) }
+    ensures reply { told_by room.new.bytes room.new.lines result ≡ reply_to (moment_of (core_state core.old)) (said command.now) }
+    ensures named { (m : ℕ) → slice_index named.new m ≡ next_after (moment_of (core_state core.old)) (said command.now) (λ k. slice_index named.old k) m }
+    ensures fits { Fits result }
+{
+    make_events(core, named, room, command)
 }

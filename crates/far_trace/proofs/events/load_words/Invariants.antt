@@ -2,7 +2,7 @@ use Rattle.std.proofs.Common.{◌≡◌, ℕ, ◌<◌, ◌+◌, get_or}
 use Rattle.far_core.specs.state.CoreState.{core_state}
 use Rattle.far_trace.specs.Interpreter.{loaded}
 use Rattle.far_trace.specs.Made.{made}
-use Rattle.far_trace.specs.Turn.{load_events}
+use Rattle.far_trace.specs.Events.{load_events}
 use Rattle.far_trace.proofs.events.load_words.Given as goal
 
 abbrev pub invariant-loop-i : goal.invariant-loop-i

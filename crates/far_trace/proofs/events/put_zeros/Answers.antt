@@ -1,7 +1,7 @@
 use Rattle.std.proofs.Common.{◌+◌, sym, ◌∙◌, arith}
 use Rattle.far_core.specs.state.CoreState.{core_state}
 use Rattle.far_core.specs.declared.event.Event.TheVariants.{Put as Puts}
-use Rattle.far_trace.specs.Turn.{zero_puts}
+use Rattle.far_trace.specs.Events.{zero_puts}
 use Rattle.far_trace.proofs.Making.{made_next, stepped}
 use Rattle.far_trace.proofs.events.put_zeros.Goals as goal
 

@@ -1,7 +1,7 @@
 use Rattle.std.proofs.Common.{◌≡◌}
 use Rattle.far_core.specs.state.CoreState.{core_state}
 use Rattle.far_trace.specs.Made.{made}
-use Rattle.far_trace.specs.Turn.{zero_puts}
+use Rattle.far_trace.specs.Events.{zero_puts}
 use Rattle.far_trace.proofs.events.put_zeros.Given as goal
 
 abbrev pub invariant-loop-i : goal.invariant-loop-i

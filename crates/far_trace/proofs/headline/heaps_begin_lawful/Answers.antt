@@ -1,10 +1,10 @@
-use Rattle.std.proofs.Common.{true, refl}
-use Rattle.far_core.proofs.Begins.{begins}
-use Rattle.far_trace.specs.Answers.{shape_of, first_state}
+use Rattle.std.proofs.Common.{refl}
+use Rattle.far_trace.specs.Answers.{first_moment}
 use Rattle.far_trace.proofs.Kept.{whole}
+use Rattle.far_trace.proofs.Lasting.{first_lawful}
 use Rattle.far_trace.proofs.headline.heaps_begin_lawful.Goals as goal
 
 pub returns : goal.returns
 returns c logs mutators shape =
-    let law = begins (shape_of logs mutators) true shape in
-    (refl, refl, law, whole (first_state logs mutators) law)
+    let lawful = first_lawful logs mutators shape in
+    (refl, refl, lawful, whole (first_moment logs mutators).core lawful.law)

@@ -5,13 +5,14 @@ use Rattle.std.proofs.lemmas.List.{length-map, drop_all}
 use Rattle.std.proofs.KnownBytes.{Appends-nil}
 use Rattle.far_core.specs.state.CoreState.{core_state}
 use Rattle.far_core.specs.state.State.{State}
+use Rattle.far_trace.specs.Moment.{moment_of}
 use Rattle.far_trace.specs.Answers.{Answered}
 use Rattle.far_trace.specs.Command.{Command, said}
-use Rattle.far_trace.specs.Interpreter.{AllBytes}
+use Rattle.far_trace.specs.Later.{IsLater}
 use Rattle.far_trace.specs.Reply.{Reply, Done, printed}
 use Rattle.far_trace.specs.Stream.{Holds}
 use Rattle.far_trace.specs.Turn.{reply_to}
-use Rattle.far_trace.proofs.Answering.{later_at, later_bytes, drop_here, still_tidy, commanded, answered_more, answered_all, printed_more}
+use Rattle.far_trace.proofs.Answering.{later_at, later_bytes, drop_here, still_tidy, answered_more, answered_all, printed_more}
 use Rattle.far_trace.proofs.Streams.{held_all}
 use Rattle.far_trace.proofs.run.answer_commands.Goals as goal
 
@@ -26,6 +27,10 @@ loop-command-init g c =
       ran = ([], [], (λ rest more h. h), c.add_reply-written.ensures start [] ([], Appends-nil start, c.clear.ensures));
     }
 
+pub turn-outcome-requires-clause-later : goal.turn-outcome-requires-clause-later
+turn-outcome-requires-clause-later g c =
+    later_at said c.args.commands.now c.loop-command.command-index c.command-item.result c.requires.later c.loop-command-test.true c.command-item.is
+
 pub loop-command-preserved : goal.loop-command-preserved
 loop-command-preserved g c =
     let start = g.W.Write.contents c.args.writer.now in
@@ -35,20 +40,20 @@ loop-command-preserved g c =
     let command : Command = said c.command-item.result in
     let next : ℕ → ℕ = λ m. get_or c.loop-command.named m 0 in
     let known = c.loop-command.invariant.ran in
-    let r : Reply = reply_to s command in
-    let small : AllBytes command = later_bytes command (later_at said c.args.commands.now c.loop-command.command-index c.command-item.result c.requires.later c.loop-command-test.true c.command-item.is) in
+    let r : Reply = reply_to (moment_of s) command in
+    let later : IsLater command = later_at said c.args.commands.now c.loop-command.command-index c.command-item.result c.requires.later c.loop-command-test.true c.command-item.is in
     let here : drop c.loop-command.command-index (map said c.args.commands.now) ≡ command ∷ drop (c.loop-command.command-index + 1) (map said c.args.commands.now) =
     drop_here said c.args.commands.now c.loop-command.command-index c.command-item.result c.loop-command-test.true c.command-item.is in
     let reply = c.reply.ensures.value ∙ c.turn-outcome.ensures.reply in
     let held = c.add_reply-written-in-loop-command.ensures start (flat_map printed (Done ∷ known.0)) known.3 in
     record {
-      tidy = still_tidy s t next command c.loop-command.core.law c.loop-command.invariant.tidy small c.turn-outcome.ensures.state _ c.turn-outcome.ensures.named;
+      tidy = still_tidy s t next _ command c.loop-command.core.law c.loop-command.invariant.tidy (later_bytes command later) c.turn-outcome.ensures.moment c.turn-outcome.ensures.named;
       ran = (
         known.0 ++ r ∷ [],
-        known.1 ++ t ∷ [],
-        answered_more (core_state c.args.core) s (map said c.args.commands.now) (drop (c.loop-command.command-index + 1) (map said c.args.commands.now)) known.0 known.1 command r t
-            (λ rest more h. known.2 rest more (subst (λ cs. Answered s cs rest more) (sym here) h))
-            (commanded s t next command c.loop-command.core.law c.loop-command.invariant.tidy small c.turn-outcome.ensures.state r refl),
+        known.1 ++ moment_of t ∷ [],
+        answered_more (moment_of (core_state c.args.core)) (moment_of s) (map said c.args.commands.now) (drop (c.loop-command.command-index + 1) (map said c.args.commands.now)) known.0 known.1 command r (moment_of t)
+            (λ rest more h. known.2 rest more (subst (λ cs. Answered (moment_of s) cs rest more) (sym here) h))
+            (record { reply = refl; moment = c.turn-outcome.ensures.moment }),
         subst (λ bytes. Holds start now c.add_reply-written-in-loop-command.new.out c.add_reply-written-in-loop-command.result bytes)
             (ap (λ x. flat_map printed (Done ∷ known.0) ++ printed x) reply ∙ sym (printed_more Done known.0 r)) held,
       );
@@ -63,6 +68,6 @@ returns g c =
     let held = c.write_waiting.ensures.held start (flat_map printed (Done ∷ known.0)) known.3 in (
       known.0,
       known.1,
-      answered_all (core_state c.args.core) (core_state c.loop-command.core) (map said c.args.commands.now) known.0 known.1 (drop c.loop-command.command-index (map said c.args.commands.now)) none known.2,
+      answered_all (moment_of (core_state c.args.core)) (moment_of (core_state c.loop-command.core)) (map said c.args.commands.now) known.0 known.1 (drop c.loop-command.command-index (map said c.args.commands.now)) none known.2,
       held_all start now c.write_waiting.new.out (flat_map printed (Done ∷ known.0)) c.write_waiting.result c.write_waiting.ensures.empty held,
     )

@@ -7,7 +7,8 @@ use Rattle.far_core.specs.events.Step.{near_data, data_len}
 use Rattle.far_trace.specs.Interpreter.{loaded}
 use Rattle.far_trace.specs.Made.{made}
 use Rattle.far_trace.specs.Reply.{Data}
-use Rattle.far_trace.specs.Turn.{load_events, uses}
+use Rattle.far_trace.specs.Events.{load_events}
+use Rattle.far_trace.specs.Objects.{uses}
 use Rattle.far_trace.proofs.Fronts.{read_range}
 use Rattle.far_trace.proofs.RangeReads.{loaded_words, uses_own}
 use Rattle.far_trace.proofs.turn.read.Goals as goal

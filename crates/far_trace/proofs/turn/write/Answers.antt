@@ -7,7 +7,8 @@ use Rattle.far_core.specs.events.Step.{near_data, data_len}
 use Rattle.far_trace.specs.HexWord.{bytes_of as spelled}
 use Rattle.far_trace.specs.Interpreter.{loaded, stores_of}
 use Rattle.far_trace.specs.Made.{made}
-use Rattle.far_trace.specs.Turn.{view_events, first_part, last_part, store_events, spliced, data_of, starts_inside, ends_inside, uses, words_touched, first_word}
+use Rattle.far_trace.specs.Events.{view_events, first_part, last_part, store_events, starts_inside, ends_inside, words_touched, first_word}
+use Rattle.far_trace.specs.Objects.{spliced, data_of, uses}
 use Rattle.far_trace.proofs.RangeReads.{loaded_word, uses_own, first_stays}
 use Rattle.far_trace.proofs.RangeWrites.{packed_words, object_padded, stores_same, write_made, past_word, put_length}
 use borrow.Rule.Slice.PartMut.{put_mid}
