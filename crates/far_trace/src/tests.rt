@@ -7,6 +7,7 @@ mod refusing;
 mod running;
 mod streaming;
 mod talk;
+mod values;
 
 use crate::command::Command;
 use crate::gather::{add_reply, write_waiting};
