@@ -1,5 +1,5 @@
 -- A mutator by itself, from the first state of a heap on.
-use Rattle.std.proofs.Common.{◌≡◌, ℕ, ◌/◌, ◌<◌, true, nat_eq, refl, ap, subst, ◌∙◌, Option, None, List}
+use Rattle.std.proofs.Common.{◌≡◌, ℕ, ◌/◌, ◌<◌, Bool, true, false, ◌&&◌, nat_eq, refl, ap, subst, ◌∙◌, Option, None, List}
 use Rattle.std.proofs.lemmas.Bool.{cond_both}
 use mathlib.Core.Path.{fun_ext}
 use Rattle.far_word.specs.declared.sizes.TheConstants.{CELLS}
@@ -17,9 +17,14 @@ use Rattle.far_trace.proofs.AloneLaw.{alone}
 use Rattle.far_trace.proofs.Lasting.{first_lasts}
 use Rattle.far_trace.proofs.AloneRuns.{Own-ext}
 
+none_seen : (b : Bool) → (b && false) ≡ false
+none_seen true = refl
+none_seen false = refl
+
 -- at the start a mutator knows of nothing
 start_nothing : (m : ℕ) → own_of (start true) m ≡ nothing
 start_nothing m = Own-ext (own_of (start true) m) nothing refl (fun_ext (λ p. cond_both (nat_eq (p / CELLS) m) None None (λ (x : Option (List ℕ)). x ≡ None) (λ _. refl) (λ _. refl)))
+    (fun_ext (λ p. none_seen (nat_eq (p / CELLS) m)))
 
 pub first_nothing : (logs mutators m : ℕ) → own_of (world_of (first_moment logs mutators).core) m ≡ nothing
 first_nothing logs mutators m = ap (λ w. own_of w m) (opening_world (shape_of logs mutators) true) ∙ start_nothing m

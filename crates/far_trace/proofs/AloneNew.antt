@@ -34,7 +34,9 @@ use Rattle.far_trace.specs.Effects.{new_word}
 use Rattle.far_trace.specs.Turn.{refusal, first_cause, unless, pointer_reply}
 use Rattle.far_trace.proofs.Each.{Each-row}
 use Rattle.far_trace.proofs.MadeLemmas.{made-append, AllSucceed-parts}
-use Rattle.far_trace.proofs.AloneRuns.{Same, own_other, own_here, IsQuiet, quiet_run, name_step, new_object, makes_object, was_legal}
+use Rattle.far_trace.proofs.AloneViews.{views_still}
+use Rattle.far_trace.proofs.ViewLaws.{row_stays, news}
+use Rattle.far_trace.proofs.AloneRuns.{views_of, Same, own_other, own_here, IsQuiet, quiet_run, name_step, new_object, makes_object, was_legal}
 use Rattle.far_trace.proofs.AloneStates.{lowest_own, lowest_unknown}
 use Rattle.far_trace.proofs.AloneTurns.{Tells, Turns, four_causes}
 
@@ -116,10 +118,12 @@ module _ (s : State) (k len ds p : ℕ) (place : Place) (law : Law s) (within : 
   makes_new : 0 < len → AllSucceed s (new_events k len ds (Some p) (Some place)) → Tells s k (New k len ds) (pointer_reply (Some p)) (made s (new_events k len ds (Some p) (Some place)))
   makes_new some ok =
       let run = new_run ok in
-      let t : World = world_of (made s (new_events k len ds (Some p) (Some place))) in
+      let u : State = made s (new_events k len ds (Some p) (Some place)) in
+      let t : World = world_of u in
+      let same : u.held ≡ s.held = row_stays s (new_events k len ds (Some p) (Some place)) (news k len ds (Some p) (Some place)) in
       let fresh : (own_of (world_of s) k).object p ≡ None = ap (λ b. cond b (bytes_in_world ((world_of s).object p)) None) (eq-eqb (p / CELLS) k own) ∙ ap bytes_in_world run.1 in (
-        λ _. (structure, some, most, own, fresh, own_here (world_of s) t k p run.0 run.2 run.3 own ∙ ap (λ b. record (own_of (world_of s) k) { object = put (own_of (world_of s) k).object p (Some b) }) run.4),
-        λ m ne. own_other (world_of s) t m p run.0 run.2 run.3 (λ e. ne (sym own ∙ e)),
+        λ _. (structure, some, most, own, fresh, own_here (world_of s) t k p run.0 (views_of (world_of s) k) run.2 run.3 own (views_still s u k same) ∙ ap (λ b. record (own_of (world_of s) k) { object = put (own_of (world_of s) k).object p (Some b) }) run.4),
+        λ m ne. own_other (world_of s) t m p run.0 run.2 run.3 (λ e. ne (sym own ∙ e)) (views_still s u m same),
       )
 
 -- ---- when it is turned down

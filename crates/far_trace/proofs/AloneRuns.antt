@@ -38,44 +38,51 @@ use Rattle.far_trace.specs.Events.{store_events}
 use Rattle.far_trace.proofs.Each.{Each}
 
 -- ---- what a mutator knows of a world
-pub Own-ext : (a b : Own) → a.opened ≡ b.opened → a.object ≡ b.object → a ≡ b
-Own-ext a b h k = λ i. record { opened = h i; object = k i }
+pub Own-ext : (a b : Own) → a.opened ≡ b.opened → a.object ≡ b.object → a.viewed ≡ b.viewed → a ≡ b
+Own-ext a b h k l = λ i. record { opened = h i; object = k i; viewed = l i }
+
+-- which objects of a mutator a world says are viewed
+abbrev pub views_of : World → ℕ → ℕ → Bool
+views_of w m = (own_of w m).viewed
 
 -- the objects and the open scopes of two worlds are the same
 abbrev pub Same : World → World → Type 0
 Same w v = (v.object ≡ w.object) × (v.opened ≡ w.opened)
 
-pub own_same : (w v : World) (m : ℕ) → Same w v → own_of v m ≡ own_of w m
-own_same w v m h = Own-ext (own_of v m) (own_of w m) (ap (λ (f : ℕ → Bool). f m) h.1) (ap {B = ℕ → Option (List ℕ)} (λ (f : ℕ → Option Object) p. cond (nat_eq (p / CELLS) m) (bytes_in_world (f p)) None) h.0)
+pub own_same : (w v : World) (m : ℕ) (views : ℕ → Bool) → Same w v → views_of v m ≡ views → own_of v m ≡ record (own_of w m) { viewed = views }
+own_same w v m views h e = Own-ext (own_of v m) (record (own_of w m) { viewed = views }) (ap (λ (f : ℕ → Bool). f m) h.1) (ap {B = ℕ → Option (List ℕ)} (λ (f : ℕ → Option Object) p. cond (nat_eq (p / CELLS) m) (bytes_in_world (f p)) None) h.0) e
 
 -- an object of another mutator is changed
-pub own_other : (w v : World) (m p : ℕ) (x : Object) → v.object ≡ put w.object p (Some x) → v.opened ≡ w.opened → p / CELLS ≢ m → own_of v m ≡ own_of w m
-own_other w v m p x h k ne = Own-ext (own_of v m) (own_of w m) (ap (λ (f : ℕ → Bool). f m) k) (fun_ext (λ q.
+pub own_other : (w v : World) (m p : ℕ) (x : Object) → v.object ≡ put w.object p (Some x) → v.opened ≡ w.opened → p / CELLS ≢ m → views_of v m ≡ views_of w m → own_of v m ≡ own_of w m
+own_other w v m p x h k ne seen = Own-ext (own_of v m) (own_of w m) (ap (λ (f : ℕ → Bool). f m) k) (fun_ext (λ q.
     ap (λ (f : ℕ → Option Object). cond (nat_eq (q / CELLS) m) (bytes_in_world (f q)) None) h ∙ elim (cases_eq q p) [
       | inl e ↦ (let off : nat_eq (q / CELLS) m ≡ false = ne_eqb (q / CELLS) m (λ same. ne (ap (λ y. y / CELLS) (sym e) ∙ same)) in
           ap (λ b. cond b (bytes_in_world (put w.object p (Some x) q)) None) off ∙ sym (ap (λ b. cond b (bytes_in_world (w.object q)) None) off))
       | inr apart ↦ ap (λ o. cond (nat_eq (q / CELLS) m) (bytes_in_world o) None) (put_other w.object p (Some x) q apart)
-    ]))
+    ])) seen
 
 -- an object of the mutator is changed
-pub own_here : (w v : World) (m p : ℕ) (x : Object) → v.object ≡ put w.object p (Some x) → v.opened ≡ w.opened → p / CELLS ≡ m →
-    own_of v m ≡ record (own_of w m) { object = put (own_of w m).object p (Some x.bytes) }
-own_here w v m p x h k own = Own-ext (own_of v m) (record (own_of w m) { object = put (own_of w m).object p (Some x.bytes) }) (ap (λ (f : ℕ → Bool). f m) k) (fun_ext (λ q.
+pub own_here : (w v : World) (m p : ℕ) (x : Object) (views : ℕ → Bool) → v.object ≡ put w.object p (Some x) → v.opened ≡ w.opened → p / CELLS ≡ m → views_of v m ≡ views →
+    own_of v m ≡ record (own_of w m) { object = put (own_of w m).object p (Some x.bytes); viewed = views }
+own_here w v m p x views h k own seen = Own-ext (own_of v m) (record (own_of w m) { object = put (own_of w m).object p (Some x.bytes); viewed = views }) (ap (λ (f : ℕ → Bool). f m) k) (fun_ext (λ q.
     ap (λ (f : ℕ → Option Object). cond (nat_eq (q / CELLS) m) (bytes_in_world (f q)) None) h ∙ elim (cases_eq q p) [
       | inl e ↦ (let here : nat_eq (q / CELLS) m ≡ true = eq-eqb (q / CELLS) m (ap (λ y. y / CELLS) e ∙ own) in
           ap (λ b. cond b (bytes_in_world (put w.object p (Some x) q)) None) here ∙ ap bytes_in_world (put_same w.object p (Some x) q e)
           ∙ sym (put_same (own_of w m).object p (Some x.bytes) q e))
       | inr apart ↦ (ap (λ o. cond (nat_eq (q / CELLS) m) (bytes_in_world o) None) (put_other w.object p (Some x) q apart)
           ∙ sym (put_other (own_of w m).object p (Some x.bytes) q apart))
-    ]))
+    ])) seen
 
 -- a scope of another mutator is changed
-pub own_scope_other : (w v : World) (m k : ℕ) (b : Bool) → v.object ≡ w.object → v.opened ≡ put w.opened k b → k ≢ m → own_of v m ≡ own_of w m
-own_scope_other w v m k b h e ne = Own-ext (own_of v m) (own_of w m) (ap (λ (f : ℕ → Bool). f m) e ∙ put_other w.opened k b m (λ x. ne (sym x))) (ap {B = ℕ → Option (List ℕ)} (λ (f : ℕ → Option Object) p. cond (nat_eq (p / CELLS) m) (bytes_in_world (f p)) None) h)
+pub own_scope_other : (w v : World) (m k : ℕ) (b : Bool) → v.object ≡ w.object → v.opened ≡ put w.opened k b → k ≢ m → views_of v m ≡ views_of w m → own_of v m ≡ own_of w m
+own_scope_other w v m k b h e ne seen = Own-ext (own_of v m) (own_of w m) (ap (λ (f : ℕ → Bool). f m) e ∙ put_other w.opened k b m (λ x. ne (sym x)))
+    (ap {B = ℕ → Option (List ℕ)} (λ (f : ℕ → Option Object) p. cond (nat_eq (p / CELLS) m) (bytes_in_world (f p)) None) h) seen
 
 -- the scope of the mutator is changed
-pub own_scope : (w v : World) (m : ℕ) (b : Bool) → v.object ≡ w.object → v.opened ≡ put w.opened m b → own_of v m ≡ record (own_of w m) { opened = b }
-own_scope w v m b h e = Own-ext (own_of v m) (record (own_of w m) { opened = b }) (ap (λ (f : ℕ → Bool). f m) e ∙ put_same w.opened m b m refl) (ap {B = ℕ → Option (List ℕ)} (λ (f : ℕ → Option Object) p. cond (nat_eq (p / CELLS) m) (bytes_in_world (f p)) None) h)
+pub own_scope : (w v : World) (m : ℕ) (b : Bool) (views : ℕ → Bool) → v.object ≡ w.object → v.opened ≡ put w.opened m b → views_of v m ≡ views →
+    own_of v m ≡ record (own_of w m) { opened = b; viewed = views }
+own_scope w v m b views h e seen = Own-ext (own_of v m) (record (own_of w m) { opened = b; viewed = views }) (ap (λ (f : ℕ → Bool). f m) e ∙ put_same w.opened m b m refl)
+    (ap {B = ℕ → Option (List ℕ)} (λ (f : ℕ → Option Object) p. cond (nat_eq (p / CELLS) m) (bytes_in_world (f p)) None) h) seen
 
 -- ---- events that leave the objects and the scopes as they are
 abbrev pub IsQuiet : Event → Type 0

@@ -17,8 +17,9 @@ use Rattle.far_core.proofs.Cells.{unused}
 use Rattle.far_core.proofs.KeepOwner.{nonzero}
 use Rattle.far_trace.specs.Alone.{own_of, bytes_in_world}
 use Rattle.far_trace.specs.Made.{AllAtHand, AtHand}
-use Rattle.far_trace.specs.Objects.{uses, data_of, is_range, lowest_cell}
+use Rattle.far_trace.specs.Objects.{uses, object_len, data_of, is_range, lowest_cell}
 use Rattle.far_trace.proofs.Lowest.{lowest_found}
+use Rattle.far_trace.proofs.Views.{len_near}
 use Rattle.far_trace.proofs.Spliced.{AreBytes}
 
 -- ---- tests
@@ -86,6 +87,10 @@ module _ (s : State) (law : Law s) (hand : AllAtHand s) where
 -- the bytes of an object are as many as its length says, and they are bytes
 pub length-data : (s : State) (p : ℕ) → length (data_of s p) ≡ data_len s p
 length-data s p = length-bytes_of (λ i. s.word (near_data (read_of (s.cell p)) + i)) (data_len s p)
+
+-- a pointer that the mutator uses has an object of as many bytes as its cell says
+pub len_used : (s : State) → Law s → AllAtHand s → (m p : ℕ) → uses s m p ≡ true → object_len s p ≡ length (data_of s p)
+len_used s law hand m p h = len_near s law hand p (and_parts (nat_eq (p / CELLS) m) (s.used p) h).1 ∙ sym (length-data s p)
 
 pub data_small : (s : State) (p : ℕ) → AreBytes (data_of s p)
 data_small s p = bytes_of-small (λ i. s.word (near_data (read_of (s.cell p)) + i)) (data_len s p)

@@ -9,7 +9,7 @@ use Rattle.far_core.specs.declared.event.Event.{Event}
 use Rattle.far_core.specs.declared.event.Event.TheVariants.{ReadEpoch as ReadsEpoch, Open as Opens, Pin as Pins, Load as Loads, Close as Closes}
 use Rattle.far_core.specs.state.Law.{Law}
 use Rattle.far_core.specs.state.State.{State, put}
-use Rattle.far_core.specs.events.Step.{is_opened, data_len, step_of}
+use Rattle.far_core.specs.events.Step.{is_opened, step_of}
 use Rattle.far_core.specs.world.World.{World, Object}
 use Rattle.far_core.specs.world.WorldOf.{world_of}
 use Rattle.far_core.specs.world.Steps.{with_bytes}
@@ -19,14 +19,17 @@ use Rattle.far_trace.specs.Command.{Command, Open, Write, Read, Close}
 use Rattle.far_trace.specs.Made.{made, AllSucceed, AllAtHand}
 use Rattle.far_trace.specs.Reply.{Reply, Done, Refused}
 use Rattle.far_trace.specs.Events.{turn_events, open_events, view_events, part_events, load_events, store_events, starts_inside, ends_inside, first_word, words_touched}
-use Rattle.far_trace.specs.Objects.{uses, data_of, spliced, is_range}
+use Rattle.far_trace.specs.Objects.{uses, object_len, data_of, spliced, is_range}
 use Rattle.far_trace.specs.Turn.{refusal, first_cause, unless, turn_reply}
+use Rattle.far_trace.specs.Headline.{ViewsObject, ViewsNothing}
+use Rattle.far_trace.proofs.AloneViews.{views_still, views_mine, views_others, views_gone, views_left}
+use Rattle.far_trace.proofs.ViewLaws.{views_after}
 use Rattle.far_trace.proofs.AloneBytes.{over_spliced}
 use Rattle.far_trace.proofs.Each.{Each-append, Each-row}
 use Rattle.far_trace.proofs.MadeLemmas.{made-append, AllSucceed-parts}
 use Rattle.far_trace.proofs.Spliced.{AreBytes, packed_wide, spliced_bytes}
-use Rattle.far_trace.proofs.AloneRuns.{Scoped, own_same, own_other, own_here, own_scope, own_scope_other, IsQuiet, Quiet, quiet_run, over_all, stores_run, open_step, close_step}
-use Rattle.far_trace.proofs.AloneStates.{outside, open_world, shut_world, range_in, range_out, object_used, own_used, own_unused, length-data, data_small}
+use Rattle.far_trace.proofs.AloneRuns.{views_of, Scoped, own_same, own_other, own_here, own_scope, own_scope_other, IsQuiet, Quiet, quiet_run, over_all, stores_run, open_step, close_step}
+use Rattle.far_trace.proofs.AloneStates.{outside, open_world, shut_world, range_in, range_out, object_used, own_used, own_unused, len_used, data_small}
 
 -- the reply tells the mutator what it says, and no other mutator learns anything
 abbrev pub Tells : State → ℕ → Command → Reply → State → Type 0
@@ -64,17 +67,28 @@ pub turns_open : (s : State) (k : ℕ) → Law s → Turns s k (Open k) (refusal
 turns_open s k law = two_causes (Turns s k (Open k)) (not (nat_lt k s.mutators)) (is_opened s k) Range AlreadyOpen
     (λ off _. (λ within. absurd (outside k s.mutators within off), λ m ne. refl))
     (λ _ opened _. (λ within. (open_world s k opened, refl), λ m ne. refl))
-    (λ _ shut ok. let run = open_run s k law ok in let t : World = world_of (made s (open_events s k)) in
-    (λ within. (shut_world s k within shut, own_scope (world_of s) t k true run.0 run.1), λ m ne. own_scope_other (world_of s) t m k true run.0 run.1 ne))
+    (λ _ shut ok. let run = open_run s k law ok in
+    let u : State = made s (open_events s k) in
+    let same : u.held ≡ s.held = views_after s (Open k) None ok in (
+      λ within. (shut_world s k within shut, own_scope (world_of s) (world_of u) k true (views_of (world_of s) k) run.0 run.1 (views_still s u k same)),
+      λ m ne. own_scope_other (world_of s) (world_of u) m k true run.0 run.1 ne (views_still s u m same),
+    ))
 
 pub turns_close : (s : State) (k : ℕ) → Law s → Turns s k (Close k) (refusal (moment_of s) (Close k))
 turns_close s k law = two_causes (Turns s k (Close k)) (not (nat_lt k s.mutators)) (not (is_opened s k)) Range Closed
     (λ off _. (λ within. absurd (outside k s.mutators within off), λ m ne. refl))
     (λ _ shut _. (λ within. (shut_world s k within (not-true (is_opened s k) shut), refl), λ m ne. refl))
-    (λ _ opened ok. let run = close_step s k law ok.0 in let t : World = world_of (step_of s (Closes k)).0 in
-    (λ within. (open_world s k (not-false (is_opened s k) opened), own_scope (world_of s) t k false run.0 run.1), λ m ne. own_scope_other (world_of s) t m k false run.0 run.1 ne))
+    (λ _ opened ok. let run = close_step s k law ok.0 in
+    let u : State = (step_of s (Closes k)).0 in
+    let gone : ViewsNothing s u k = views_after s (Close k) None ok in (
+      λ within. (open_world s k (not-false (is_opened s k) opened), own_scope (world_of s) (world_of u) k false (λ _. false) run.0 run.1 (views_gone s u k gone)),
+      λ m ne. own_scope_other (world_of s) (world_of u) m k false run.0 run.1 ne (views_left s u k m gone ne),
+    ))
 
 -- ---- reads
+owned : (s : State) (k p : ℕ) → uses s k p ≡ true → p / CELLS ≡ k
+owned s k p h = eqb-true (p / CELLS) k (and_parts (nat_eq (p / CELLS) k) (s.used p) h).0
+
 quiet_view : (s : State) (k p : ℕ) → Quiet (view_events s k p)
 quiet_view s k p = cond_both (is_some (s.held p)) [] (Pins k p ∷ []) Quiet (λ _. tt) (λ _. (tt, tt))
 
@@ -86,29 +100,34 @@ quiet_part k p from count =
 
 pub turns_read : (s : State) (k p from len : ℕ) → Law s → AllAtHand s → Turns s k (Read k p from len) (refusal (moment_of s) (Read k p from len))
 turns_read s k p from len law hand =
-    four_causes (Turns s k (Read k p from len)) (not (nat_lt k s.mutators)) (not (is_opened s k)) (not (uses s k p)) (not (is_range (data_len s p) from len)) Range Closed NotHeld Range
+    four_causes (Turns s k (Read k p from len)) (not (nat_lt k s.mutators)) (not (is_opened s k)) (not (uses s k p)) (not (is_range (object_len s p) from len)) Range Closed NotHeld Range
     (λ off _. (λ within. absurd (outside k s.mutators within off), λ m ne. refl))
     (λ _ shut _. (λ within. (shut_world s k within (not-true (is_opened s k) shut), refl), λ m ne. refl))
     (λ _ opened unused _. (λ within. (open_world s k (not-false (is_opened s k) opened), own_unused s law hand k p (not-true (uses s k p) unused), refl), λ m ne. refl))
-    (λ _ opened used out _. (λ within. (open_world s k (not-false (is_opened s k) opened), refl, (data_of s p, own_used s law hand k p (not-false (uses s k p) used), out_of out)), λ m ne. refl))
+    (λ _ opened used out _. (λ within. (open_world s k (not-false (is_opened s k) opened), refl, (data_of s p, own_used s law hand k p (not-false (uses s k p) used), out_of (near used) out)), λ m ne. refl))
     (λ _ opened used inside ok.
     let run = quiet_run s (turn_events (moment_of s) (Read k p from len)) law quiet in
-    let t : World = world_of (made s (turn_events (moment_of s) (Read k p from len))) in (
+    let u : State = made s (turn_events (moment_of s) (Read k p from len)) in
+    let view : ViewsObject s u p = views_after s (Read k p from len) None ok in
+    let own : p / CELLS ≡ k = owned s k p (not-false (uses s k p) used) in (
       λ within. (
         open_world s k (not-false (is_opened s k) opened),
-        own_same (world_of s) t k run.0,
-        (data_of s p, own_used s law hand k p (not-false (uses s k p) used), in_of inside, refl),
+        own_same (world_of s) (world_of u) k (put (views_of (world_of s) k) p true) run.0 (views_mine s u k p view own),
+        (data_of s p, own_used s law hand k p (not-false (uses s k p) used), in_of (near used) inside, refl),
       ),
-      λ m ne. own_same (world_of s) t m run.0,
+      λ m ne. own_same (world_of s) (world_of u) m (views_of (world_of s) m) run.0 (views_others s u k m p view own ne),
     )) where
       quiet : Quiet (turn_events (moment_of s) (Read k p from len))
       quiet = Each-append IsQuiet (view_events s k p) (load_events k p (first_word from) (words_touched from len)) (quiet_view s k p) (Each-row IsQuiet (λ i. Loads k p i) (first_word from) (words_touched from len) (λ _ _. tt))
 
-      out_of : not (is_range (data_len s p) from len) ≡ true → IsOut (data_of s p) from len
-      out_of h = subst (λ n. (len ≡ 0) ⊎ (n < from + len)) (sym (length-data s p)) (range_out (data_len s p) from len h)
+      near : not (uses s k p) ≡ false → object_len s p ≡ length (data_of s p)
+      near used = len_used s law hand k p (not-false (uses s k p) used)
 
-      in_of : not (is_range (data_len s p) from len) ≡ false → IsIn (data_of s p) from len
-      in_of h = subst (λ n. (0 < len) × (from + len ≤ n)) (sym (length-data s p)) (range_in (data_len s p) from len h)
+      out_of : object_len s p ≡ length (data_of s p) → not (is_range (object_len s p) from len) ≡ true → IsOut (data_of s p) from len
+      out_of e h = subst (λ n. (len ≡ 0) ⊎ (n < from + len)) e (range_out (object_len s p) from len h)
+
+      in_of : object_len s p ≡ length (data_of s p) → not (is_range (object_len s p) from len) ≡ false → IsIn (data_of s p) from len
+      in_of e h = subst (λ n. (0 < len) × (from + len ≤ n)) e (range_in (object_len s p) from len h)
 
 -- ---- writes
 module _ (s : State) (k p from : ℕ) (bytes : List ℕ) (law : Law s) (hand : AllAtHand s) (small : AreBytes bytes) where
@@ -139,31 +158,43 @@ module _ (s : State) (k p from : ℕ) (bytes : List ℕ) (law : Law s) (hand : A
         ap (λ b. over_all b (first_word from) (words_touched from (length bytes)) new) x.2 ∙ over_spliced (data_of s p) from bytes fits (data_small s p) small some,
       )
 
-  write_out : not (is_range (data_len s p) from (length bytes)) ≡ true → IsOut (data_of s p) from (length bytes)
-  write_out h = subst (λ n. (length bytes ≡ 0) ⊎ (n < from + length bytes)) (sym (length-data s p)) (range_out (data_len s p) from (length bytes) h)
+  near : not (uses s k p) ≡ false → object_len s p ≡ length (data_of s p)
+  near used = len_used s law hand k p (not-false (uses s k p) used)
 
-  write_in : not (is_range (data_len s p) from (length bytes)) ≡ false → IsIn (data_of s p) from (length bytes)
-  write_in h = subst (λ n. (0 < length bytes) × (from + length bytes ≤ n)) (sym (length-data s p)) (range_in (data_len s p) from (length bytes) h)
+  write_out : object_len s p ≡ length (data_of s p) → not (is_range (object_len s p) from (length bytes)) ≡ true → IsOut (data_of s p) from (length bytes)
+  write_out e h = subst (λ n. (length bytes ≡ 0) ⊎ (n < from + length bytes)) e (range_out (object_len s p) from (length bytes) h)
+
+  write_in : object_len s p ≡ length (data_of s p) → not (is_range (object_len s p) from (length bytes)) ≡ false → IsIn (data_of s p) from (length bytes)
+  write_in e h = subst (λ n. (0 < length bytes) × (from + length bytes ≤ n)) e (range_in (object_len s p) from (length bytes) h)
 
   -- a write that isn't turned down
   wrote : is_opened s k ≡ true → uses s k p ≡ true → IsIn (data_of s p) from (length bytes) → AllSucceed s (loads ++ stores) → Tells s k (Write k p from bytes) Done (made s (loads ++ stores))
   wrote opened used inside ok =
       let both = and_parts (nat_eq (p / CELLS) k) (s.used p) used in
       let own : p / CELLS ≡ k = eqb-true (p / CELLS) k both.0 in
-      let t : World = world_of (made s (loads ++ stores)) in
+      let u : State = made s (loads ++ stores) in
+      let t : World = world_of u in
+      let view : ViewsObject s u p = views_after s (Write k p from bytes) None ok in
+      let seen : ℕ → Bool = put (views_of (world_of s) k) p true in
       let run = write_run both.1 inside.0 inside.1 ok in (
         λ within. (
           open_world s k opened,
-          (data_of s p, own_used s law hand k p used, inside, own_here (world_of s) t k p run.0 run.1 run.2 own ∙ ap (λ b. record (own_of (world_of s) k) { object = put (own_of (world_of s) k).object p (Some b) }) run.3),
+          (
+            data_of s p,
+            own_used s law hand k p used,
+            inside,
+            own_here (world_of s) t k p run.0 seen run.1 run.2 own (views_mine s u k p view own)
+                ∙ ap (λ b. record (own_of (world_of s) k) { object = put (own_of (world_of s) k).object p (Some b); viewed = seen }) run.3,
+          ),
         ),
-        λ m ne. own_other (world_of s) t m p run.0 run.1 run.2 (λ e. ne (sym own ∙ e)),
+        λ m ne. own_other (world_of s) t m p run.0 run.1 run.2 (λ e. ne (sym own ∙ e)) (views_others s u k m p view own ne),
       )
 
   pub turns_write : Turns s k (Write k p from bytes) (refusal (moment_of s) (Write k p from bytes))
   turns_write =
-      four_causes (Turns s k (Write k p from bytes)) (not (nat_lt k s.mutators)) (not (is_opened s k)) (not (uses s k p)) (not (is_range (data_len s p) from (length bytes))) Range Closed NotHeld Range
+      four_causes (Turns s k (Write k p from bytes)) (not (nat_lt k s.mutators)) (not (is_opened s k)) (not (uses s k p)) (not (is_range (object_len s p) from (length bytes))) Range Closed NotHeld Range
       (λ off _. (λ within. absurd (outside k s.mutators within off), λ m ne. refl))
       (λ _ shut _. (λ within. (shut_world s k within (not-true (is_opened s k) shut), refl), λ m ne. refl))
       (λ _ opened unused _. (λ within. (open_world s k (not-false (is_opened s k) opened), own_unused s law hand k p (not-true (uses s k p) unused), refl), λ m ne. refl))
-      (λ _ opened used out _. (λ within. (open_world s k (not-false (is_opened s k) opened), refl, (data_of s p, own_used s law hand k p (not-false (uses s k p) used), write_out out)), λ m ne. refl))
-      (λ _ opened used inside ok. wrote (not-false (is_opened s k) opened) (not-false (uses s k p) used) (write_in inside) ok)
+      (λ _ opened used out _. (λ within. (open_world s k (not-false (is_opened s k) opened), refl, (data_of s p, own_used s law hand k p (not-false (uses s k p) used), write_out (near used) out)), λ m ne. refl))
+      (λ _ opened used inside ok. wrote (not-false (is_opened s k) opened) (not-false (uses s k p) used) (write_in (near used) inside) ok)

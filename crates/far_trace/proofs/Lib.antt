@@ -5,6 +5,7 @@ pub mod AloneNew
 pub mod AloneRuns
 pub mod AloneStates
 pub mod AloneTurns
+pub mod AloneViews
 pub mod Answering
 pub mod Cuts
 pub mod Determined
@@ -32,6 +33,7 @@ pub mod Refusals
 pub mod Rooms
 pub mod Rows
 pub mod Runs
+pub mod SaidBy
 pub mod SaysLemmas
 pub mod Spliced
 pub mod StoreTurns

@@ -29,6 +29,11 @@ use Rattle.far_trace.specs.Made.{made, AllSucceed}
 use Rattle.far_trace.specs.Reply.{Reply, Done, Pointer, Refused, LogLine, printed}
 use Rattle.far_trace.specs.Events.{turn_events, events_for, new_events}
 use Rattle.far_trace.specs.Objects.{lowest_cell, spliced}
+use Rattle.far_word.specs.declared.mark.Marks.{Marks}
+use Rattle.far_word.specs.declared.pointer.PtrWord.{PtrWord}
+use Rattle.far_word.specs.declared.pointer.PtrWord.TheVariants.{Free, Near, Far}
+use Rattle.far_word.specs.Pointer.{read_of}
+use Rattle.far_trace.specs.Stays.{MayGain, CellStays, Stays}
 use Rattle.far_trace.specs.Turn.{turn_effect, effect, causes, first_cause, refusal, unless, turn_reply, reply_to, log_line, pointer_reply}
 use Rattle.far_trace.proofs.AloneNew.{new_run, is_structure, is_length}
 use Rattle.far_trace.proofs.AloneFirst.{alone_first}
@@ -73,6 +78,21 @@ pub refused_stays : (now : Moment) (c : Command) (r : Reply) (next : Moment) (wh
 refused_stays now c r next why h e =
     let cause : refusal now c ≡ Some why = from_cause (refusal now c) (turn_reply now c) why (turn_is_no_refusal now.core c why) (sym h.reply ∙ e) in
     h.moment ∙ ap (λ o. unless o (λ _. now) (turn_effect now c)) cause
+
+gains_none : (a : Marks) → MayGain a a
+gains_none a = record { hot = λ h. h; moved = λ h. h; evac = refl; dropped = refl }
+
+cell_same : (o : Option PtrWord) → CellStays o o
+cell_same None = tt
+cell_same (Some Free) = tt
+cell_same (Some (Near len ds place marks)) = (refl, refl, refl, gains_none marks)
+cell_same (Some (Far len ds marks)) = (refl, refl, gains_none marks)
+
+stays_same : (now : Moment) → Stays now now
+stays_same now = record { objects = refl; cells = λ p. cell_same (read_of (now.core.cell p)); rest = refl }
+
+pub refusals_stay : (now : Moment) (c : Command) (r : Reply) (next : Moment) (why : Refusal) → Commanded now c r next → r ≡ Refused why → Stays now next
+refusals_stay now c r next why h e = subst (Stays now) (sym (refused_stays now c r next why h e)) (stays_same now)
 
 -- ---- a mutator that the heap hasn't
 -- the first cause holds

@@ -1,6 +1,6 @@
 -- The events of each command succeed, and keep the law and the heap tidy.
 use Rattle.std.proofs.Common.{◌≡◌, ◌≢◌, ℕ, ◌+◌, ◌*◌, ◌/◌, ◌%◌, ◌^◌, ◌<◌, ◌≤◌, ◌⊎◌, Bool, true, false, cond, not, ◌&&◌, nat_lt, nat_le, nat_eq, refl, sym, ap, subst, ◌∙◌, arith, Option, Some, None, List, [], ◌∷◌, ◌++◌, length, get_or, is_some, if◌then◌else◌, inl, inr}
-use Rattle.std.proofs.lemmas.Bool.{false≢true, cond_both, ltb-true, leb-true}
+use Rattle.std.proofs.lemmas.Bool.{and_parts, false≢true, cond_both, ltb-true, leb-true}
 use Rattle.std.proofs.lemmas.Bool.Decides.{nat_tests}
 use Rattle.far_word.specs.declared.mark.Marks.{Marks}
 use Rattle.far_word.specs.declared.pointer.Place.{Place}
@@ -31,7 +31,7 @@ use Rattle.far_trace.specs.Interpreter.{AllBytes, named_by, next_after}
 use Rattle.far_trace.specs.Made.{made, AllSucceed, AtHand}
 use Rattle.far_trace.specs.Tidy.{Tidy}
 use Rattle.far_trace.specs.Events.{new_events, zero_puts, open_events, view_events, first_word, words_touched, load_events, starts_inside, ends_inside, part_events, store_events, turn_events, events_for}
-use Rattle.far_trace.specs.Objects.{uses, data_of, spliced, lowest_cell, is_range}
+use Rattle.far_trace.specs.Objects.{uses, object_len, data_of, spliced, lowest_cell, is_range}
 use Rattle.far_trace.specs.Effects.{new_word}
 use Rattle.far_trace.specs.Effects.{with_row, with_object, with_view, with_data, with_scope, epoch_for}
 use Rattle.far_trace.specs.Turn.{turn_effect, effect, with_new, access_causes, first_cause, refusal, unless}
@@ -45,7 +45,7 @@ use Rattle.far_trace.proofs.Spliced.{AreBytes, spliced_bytes, length-spliced, pa
 use Rattle.far_trace.proofs.StoreTurns.{stores_go, stores_end}
 use Rattle.far_trace.proofs.RangeWrites.{object_padded}
 use Rattle.far_trace.proofs.WriteEnds.{row_whole}
-use Rattle.far_trace.proofs.Views.{Viewed, viewed, view_is, view_succeeds, view_law, view_tidy}
+use Rattle.far_trace.proofs.Views.{len_near, Viewed, viewed, view_is, view_succeeds, view_law, view_tidy}
 
 -- ---- what no refusal (moment_of says)
 -- four causes (moment_of that) aren't there
@@ -70,10 +70,11 @@ pub record Access (s : State) (m p from count : ℕ) : Type 0 where
   pub within : from + count ≤ data_len s p
 
 -- what a read or a write that isn't refused has
-pub access_fact : (s : State) (m p from count : ℕ) → first_cause (access_causes (moment_of s) m p from count) ≡ None → Access s m p from count
-access_fact s m p from count e =
-    let h = four (nat_lt m s.mutators) (is_opened s m) (uses s m p) (is_range (data_len s p) from count) Range Closed NotHeld Range e in
-    let range : is_range (data_len s p) from count ≡ true = h.3 in
+pub access_fact : (s : State) (next : ℕ → ℕ) (m p from count : ℕ) → Law s → Tidy s next → first_cause (access_causes (moment_of s) m p from count) ≡ None → Access s m p from count
+access_fact s next m p from count law tidy e =
+    let h = four (nat_lt m s.mutators) (is_opened s m) (uses s m p) (is_range (object_len s p) from count) Range Closed NotHeld Range e in
+    let used = and_parts (nat_eq (p / CELLS) m) (s.used p) h.2 in
+    let range : is_range (data_len s p) from count ≡ true = ap (λ n. is_range n from count) (sym (len_near s law tidy.at_hand p used.1)) ∙ h.3 in
     let some : 0 < count = grind (arith, nat_tests, range) in
     let within : from + count ≤ data_len s p = grind (arith, nat_tests, range) in
     record { opened = h.1; ours = h.2; some = some; within = within }
@@ -446,7 +447,7 @@ turned s next (Open m) law tidy small e =
     let h = two (nat_lt m s.mutators) (is_opened s m) Range AlreadyOpen e in
     open_turned s next m law tidy (shut s m h.0 h.1)
 turned s next (Write m p from bytes) law tidy small e =
-    let access = access_fact s m p from (length bytes) e in
+    let access = access_fact s next m p from (length bytes) law tidy e in
     record {
       succeed = write_succeeds s next m p from bytes law tidy access small;
       tidy = write_tidy s next m p from bytes law tidy access small;
@@ -455,7 +456,7 @@ turned s next (Write m p from bytes) law tidy small e =
       ends = write_is s next m p from bytes law tidy access small;
     }
 turned s next (Read m p from len) law tidy small e =
-    let access = access_fact s m p from len e in
+    let access = access_fact s next m p from len law tidy e in
     record {
       succeed = read_succeeds s next m p from len law tidy access;
       tidy = read_tidy s next m p from len law tidy access;

@@ -41,7 +41,7 @@ abbrev LeavesViews : Event → Type 0
 LeavesViews e = ((m p : ℕ) → e ≡ Pins m p → ⊥) × ((m : ℕ) → e ≡ Closes m → ⊥)
 
 -- a row of them leaves the views
-row_stays : (s : State) (es : List Event) → Each LeavesViews es → (made s es).held ≡ s.held
+pub row_stays : (s : State) (es : List Event) → Each LeavesViews es → (made s es).held ≡ s.held
 row_stays s [] q = refl
 row_stays s (e ∷ es) q = row_stays (step_of s e).0 es q.1 ∙ fun_ext (λ p. held_stays s e p (q.0.0 (p / CELLS) p) (q.0.1 (p / CELLS)))
 
@@ -64,7 +64,7 @@ opens : (s : State) (m : ℕ) → Each LeavesViews (open_events s m)
 opens s m = cond_both (is_some (s.remembered m)) (Opens m ∷ []) (ReadsEpoch m ∷ Opens m ∷ []) (Each LeavesViews)
     (λ _. (((λ _ _ e. absurd cc), (λ _ e. absurd cc)), tt)) (λ _. (((λ _ _ e. absurd cc), (λ _ e. absurd cc)), (((λ _ _ e. absurd cc), (λ _ e. absurd cc)), tt)))
 
-news : (m len ds : ℕ) (x : Option ℕ) (y : Option Place) → Each LeavesViews (new_events m len ds x y)
+pub news : (m len ds : ℕ) (x : Option ℕ) (y : Option Place) → Each LeavesViews (new_events m len ds x y)
 news m len ds None y = tt
 news m len ds (Some p) None = tt
 news m len ds (Some p) (Some place) =

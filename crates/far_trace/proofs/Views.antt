@@ -24,10 +24,10 @@ use Rattle.far_core.proofs.Guards.{open_fact}
 use Rattle.far_core.proofs.Owing.{is_test}
 use Rattle.far_core.proofs.Put.{put_both, put_same}
 use Rattle.far_trace.specs.Effects.{with_view}
-use Rattle.far_trace.specs.Made.{made, Succeeds, AllSucceed, AtHand}
+use Rattle.far_trace.specs.Made.{made, Succeeds, AllSucceed, AtHand, AllAtHand}
 use Rattle.far_trace.specs.Tidy.{Tidy}
 use Rattle.far_trace.specs.Events.{view_events}
-use Rattle.far_trace.specs.Objects.{uses}
+use Rattle.far_trace.specs.Objects.{uses, object_len, named_len}
 use Rattle.far_trace.proofs.MadeLemmas.{made_first, first_succeeds}
 
 -- ---- what HOT leaves as it is
@@ -70,6 +70,10 @@ ready_of s p h = record { len = h.len; ds = h.ds; place = h.place; marks = h.mar
 -- and so does a cell that is used
 pub hand_of : (s : State) (p : ℕ) → Ready (read_of (s.cell p)) → s.used p ≡ true → AtHand s p
 hand_of s p h used = record { len = h.len; ds = h.ds; place = h.place; marks = h.marks; near = h.near; unchosen = h.unchosen; unmoved = h.unmoved; kept = h.kept; used = used }
+
+-- an object at hand has the length that its cell says near
+pub len_near : (s : State) → Law s → AllAtHand s → (p : ℕ) → s.used p ≡ true → object_len s p ≡ data_len s p
+len_near s law hand p used = let h = hand p (nonzero s law p used) in ap named_len h.near ∙ sym (ap near_len h.near)
 
 -- HOT leaves it so
 Ready-hot : (o : Option PtrWord) → Ready o → Ready (map_mark Hot o)

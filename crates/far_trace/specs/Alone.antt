@@ -1,5 +1,5 @@
 -- The replies to one mutator's lines, by its own lines alone.
-use Rattle.std.specs.Prelude.{◌≡◌, ℕ, ◌+◌, ◌/◌, ◌<◌, ◌≤◌, ◌⊎◌, Bool, true, false, cond, ◌==◌, Option, Some, None, List, [], ◌∷◌, length, replicate, slice_range}
+use Rattle.std.specs.Prelude.{◌≡◌, ℕ, ◌+◌, ◌/◌, ◌<◌, ◌≤◌, ◌⊎◌, Bool, true, false, cond, ◌==◌, ◌&&◌, Option, Some, None, List, [], ◌∷◌, length, replicate, slice_range}
 use Rattle.std.specs.Bool.{MatchBool}
 use Rattle.far_word.specs.declared.refused.Refused.TheVariants.{NoRoom, NoPointer, Length, Closed, AlreadyOpen, NotHeld, Range}
 use Rattle.far_word.specs.declared.sizes.TheConstants.{CELLS, LONGEST}
@@ -9,14 +9,15 @@ use Rattle.far_trace.specs.Command.{Command, Heap, New, Open, Write, Read, Close
 use Rattle.far_trace.specs.Reply.{Reply, Done, Pointer, Data, Refused}
 use Rattle.far_trace.specs.Objects.{spliced}
 
--- what a mutator knows of itself: whether its scope is open, and the bytes of its objects
+-- what a mutator knows of itself: whether its scope is open, the bytes of its objects, and which of them it views
 pub record Own : Type 0 where
   pub opened : Bool
   pub object : ℕ → Option (List ℕ)
+  pub viewed : ℕ → Bool
 
--- at the start its scope is closed and it has no object
+-- at the start its scope is closed, and it has no object and no view
 abbrev pub nothing : Own
-nothing = record { opened = false; object = λ _. None }
+nothing = record { opened = false; object = λ _. None; viewed = λ _. false }
 
 -- the range is empty, or passes the end
 abbrev pub IsOut : List ℕ → ℕ → ℕ → Type 0
@@ -38,13 +39,13 @@ Knows m o (New _ len ds) (Refused NoPointer) q = (ds < 256) × (0 < len) × (len
 Knows m o (New _ len ds) (Refused NoRoom) q = (ds < 256) × (0 < len) × (len ≤ LONGEST) × HasLeft m o × (q ≡ o)
 Knows m o (Open _) Done q = (o.opened ≡ false) × (q ≡ record o { opened = true })
 Knows m o (Open _) (Refused AlreadyOpen) q = (o.opened ≡ true) × (q ≡ o)
-Knows m o (Close _) Done q = (o.opened ≡ true) × (q ≡ record o { opened = false })
+Knows m o (Close _) Done q = (o.opened ≡ true) × (q ≡ record o { opened = false; viewed = λ _. false })
 Knows m o (Close _) (Refused Closed) q = (o.opened ≡ false) × (q ≡ o)
-Knows m o (Read _ p from len) (Data bytes) q = (o.opened ≡ true) × (q ≡ o) × ((all : List ℕ) × (o.object p ≡ Some all) × IsIn all from len × (bytes ≡ slice_range all from (from + len)))
+Knows m o (Read _ p from len) (Data bytes) q = (o.opened ≡ true) × (q ≡ record o { viewed = put o.viewed p true }) × ((all : List ℕ) × (o.object p ≡ Some all) × IsIn all from len × (bytes ≡ slice_range all from (from + len)))
 Knows m o (Read _ p from len) (Refused Closed) q = (o.opened ≡ false) × (q ≡ o)
 Knows m o (Read _ p from len) (Refused NotHeld) q = (o.opened ≡ true) × (o.object p ≡ None) × (q ≡ o)
 Knows m o (Read _ p from len) (Refused Range) q = (o.opened ≡ true) × (q ≡ o) × ((all : List ℕ) × (o.object p ≡ Some all) × IsOut all from len)
-Knows m o (Write _ p from new) Done q = (o.opened ≡ true) × ((all : List ℕ) × (o.object p ≡ Some all) × IsIn all from (length new) × (q ≡ record o { object = put o.object p (Some (spliced all from new)) }))
+Knows m o (Write _ p from new) Done q = (o.opened ≡ true) × ((all : List ℕ) × (o.object p ≡ Some all) × IsIn all from (length new) × (q ≡ record o { object = put o.object p (Some (spliced all from new)); viewed = put o.viewed p true }))
 Knows m o (Write _ p from new) (Refused Closed) q = (o.opened ≡ false) × (q ≡ o)
 Knows m o (Write _ p from new) (Refused NotHeld) q = (o.opened ≡ true) × (o.object p ≡ None) × (q ≡ o)
 Knows m o (Write _ p from new) (Refused Range) q = (o.opened ≡ true) × (q ≡ o) × ((all : List ℕ) × (o.object p ≡ Some all) × IsOut all from (length new))
@@ -76,4 +77,8 @@ bytes_in_world None = None
 bytes_in_world (Some o) = Some o.bytes
 
 abbrev pub own_of : World → ℕ → Own
-own_of w m = record { opened = w.opened m; object = λ p. cond (p / CELLS == m) (bytes_in_world (w.object p)) None }
+own_of w m = record {
+  opened = w.opened m;
+  object = λ p. cond (p / CELLS == m) (bytes_in_world (w.object p)) None;
+  viewed = λ p. (p / CELLS == m) && w.viewed p;
+}

@@ -1,5 +1,5 @@
 -- What a trace program's outputs say: the laws over whole texts and whole lists of commands.
-use Rattle.std.specs.Prelude.{◌≡◌, ◌≢◌, ℕ, ◌+◌, ◌*◌, ◌/◌, ◌<◌, ◌≤◌, true, is_some, Some, None, Ok, List, [], ◌∷◌, ◌++◌, length, replicate, slice_index, map, All, Contains}
+use Rattle.std.specs.Prelude.{◌≡◌, ◌≢◌, ℕ, ◌+◌, ◌*◌, ◌/◌, ◌^◌, ◌<◌, ◌≤◌, true, is_some, codes, decimal, Some, None, Ok, List, [], ◌∷◌, ◌++◌, length, replicate, slice_index, map, All, Contains}
 use Rattle.std.specs.List.{flat_map, range_with_len}
 use Rattle.far_word.specs.declared.pointer.Place.{Place}
 use Rattle.far_word.specs.declared.refused.Refused.{Refused as Refusal}
@@ -24,6 +24,8 @@ use Rattle.far_trace.specs.Later.{IsLater, AreLater}
 use Rattle.far_trace.specs.Made.{made, AllPass, AllSucceed, AllAtHand}
 use Rattle.far_trace.specs.Events.{events_for}
 use Rattle.far_trace.specs.Objects.{spliced}
+use Rattle.far_trace.specs.Says.{Says}
+use Rattle.far_trace.specs.Stays.{Stays}
 use Rattle.far_trace.specs.Turn.{kind_told}
 use Rattle.far_trace.specs.Reply.{Reply, Done, Pointer, Data, Logs, Refused, LogLine, printed}
 
@@ -117,6 +119,12 @@ IsSaidBy m (Close k) = m ≡ k
 IsSaidBy m AsksLogs = ⊥
 
 -- ---- the laws
+-- a line that says a mutator's command has its number behind the name, and a line with a mutator's number there says its command, unless it is the heap's
+abbrev pub LinesAreNumbered : Type 0
+LinesAreNumbered = (words : List (List ℕ)) (c : Command) (m : ℕ) → m < 2 ^ 64 → Says words c →
+    (IsSaidBy m c → (name : List ℕ) × (rest : List (List ℕ)) × (words ≡ name ∷ decimal m ∷ rest))
+    × ((name : List ℕ) (rest : List (List ℕ)) → words ≡ name ∷ decimal m ∷ rest → name ≢ codes "heap" → IsSaidBy m c)
+
 -- what an output says, from its text on: where the text is read as a heap in range and commands, there are the replies and the moments of this output; in each moment
 -- objects are whole, the logs in which views rest stay, and the replies to each mutator's lines are what its own lines alone say
 pub record IsSound (logs mutators : ℕ) (cs : List Command) (output : List ℕ) : Type 0 where
@@ -156,7 +164,11 @@ MomentsLast = (now : Moment) (cs : List Command) (rs : List Reply) (moments : Li
 abbrev pub EventsReach : Type 0
 EventsReach = (now : Moment) (c : Command) (r : Reply) (after : Moment) → IsMoment now → IsLater c → Commanded now c r after → Reaches now c after
 
--- a refused command leaves the moment as it is
+-- a refused command leaves objects, bytes, places and all else as they were, but for marks that it may add
+abbrev pub RefusalsStay : Type 0
+RefusalsStay = (now : Moment) (c : Command) (r : Reply) (after : Moment) (why : Refusal) → Commanded now c r after → r ≡ Refused why → Stays now after
+
+-- with these commands it adds none
 abbrev pub RefusalsChangeNothing : Type 0
 RefusalsChangeNothing = (now : Moment) (c : Command) (r : Reply) (after : Moment) (why : Refusal) → Commanded now c r after → r ≡ Refused why → after ≡ now
 

@@ -8,7 +8,7 @@ use Rattle.far_core.specs.declared.event.Event.TheVariants.{Load as Loads, Store
 use Rattle.far_core.specs.declared.event.Reply.{Reply as Answer}
 use Rattle.far_core.specs.declared.event.Reply.TheVariants as answers
 use Rattle.far_core.specs.state.State.{State, put}
-use Rattle.far_core.specs.events.Step.{step_of, data_len, is_opened}
+use Rattle.far_core.specs.events.Step.{step_of, is_opened}
 use Rattle.far_trace.specs.Moment.{Moment}
 use Rattle.far_trace.specs.Command.{Command, New, Write}
 use Rattle.far_trace.specs.declared.turn.Access.{Access}
@@ -16,7 +16,7 @@ use Rattle.far_trace.specs.Outcome.{told_by}
 use Rattle.far_trace.specs.Reply.{Reply, LogLine}
 use Rattle.far_trace.specs.declared.outcome.Outcome.{Outcome}
 use Rattle.far_trace.specs.declared.turn.NewObject.{NewObject}
-use Rattle.far_trace.specs.Objects.{lowest_cell}
+use Rattle.far_trace.specs.Objects.{lowest_cell, object_len}
 use Rattle.far_trace.specs.Turn.{refusal, unless}
 use Rattle.far_word.specs.declared.pointer.Place.{Place}
 use Rattle.far_word.specs.Sizes.{size_of}
@@ -50,8 +50,8 @@ pub record IsAccess (s : State) (mutator pointer from count : ℕ) (a : Access) 
   pub starts : a.from ≡ from
   pub counts : a.count ≡ count
   pub some : 0 < count
-  pub inside : from + count ≤ data_len s pointer
-  pub most : data_len s pointer ≤ LONGEST
+  pub inside : from + count ≤ object_len s pointer
+  pub most : object_len s pointer ≤ LONGEST
   pub own : pointer / CELLS ≡ mutator
   pub used : s.used pointer ≡ true
   pub opened : is_opened s mutator ≡ true

@@ -15,6 +15,7 @@ pub mod Objects
 pub mod Outcome
 pub mod Reply
 pub mod Says
+pub mod Stays
 pub mod Stream
 pub mod Tidy
 pub mod TraceText

@@ -8,14 +8,14 @@ use Rattle.far_word.specs.declared.sizes.TheConstants.{LONGEST}
 use Rattle.far_word.specs.Sizes.{size_of}
 use Rattle.far_core.specs.declared.event.Kind.{Kind}
 use Rattle.far_core.specs.declared.event.Kind.TheVariants as kinds
-use Rattle.far_core.specs.events.Step.{is_opened, after_close, data_len}
+use Rattle.far_core.specs.events.Step.{is_opened, after_close}
 use Rattle.far_core.specs.laws.Observed.{live_bytes, dead_bytes, unused_bytes}
 use Rattle.far_core.specs.state.Room.{room}
 use Rattle.far_core.specs.state.State.{State}
 use Rattle.far_trace.specs.Command.{Command, Heap, New, Open, Write, Read, Close, Logs}
 use Rattle.far_trace.specs.Effects.{with_object, with_scope, with_view, with_data}
 use Rattle.far_trace.specs.Moment.{Moment}
-use Rattle.far_trace.specs.Objects.{uses, data_of, lowest_cell, is_range}
+use Rattle.far_trace.specs.Objects.{uses, object_len, data_of, lowest_cell, is_range}
 use Rattle.far_trace.specs.Reply.{Reply, Done, Pointer, Data, Logs as Told, Refused, LogLine}
 use Rattle.far_trace.specs.declared.reply.LogKind.{LogKind}
 use Rattle.far_trace.specs.declared.reply.LogKind.TheVariants as told
@@ -24,7 +24,7 @@ use Rattle.far_trace.specs.declared.reply.LogKind.TheVariants as told
 -- the causes by which it may be refused, in their order, each with its test
 abbrev pub access_causes : Moment → ℕ → ℕ → ℕ → ℕ → List (Bool × Refusal)
 access_causes now m p from count =
-    (not (nat_lt m now.core.mutators), Range) ∷ (not (is_opened now.core m), Closed) ∷ (not (uses now.core m p), NotHeld) ∷ (not (is_range (data_len now.core p) from count), Range) ∷ []
+    (not (nat_lt m now.core.mutators), Range) ∷ (not (is_opened now.core m), Closed) ∷ (not (uses now.core m p), NotHeld) ∷ (not (is_range (object_len now.core p) from count), Range) ∷ []
 
 abbrev pub causes : Moment → Command → List (Bool × Refusal)
 causes now (Heap logs mutators) = []

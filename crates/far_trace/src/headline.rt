@@ -1,6 +1,6 @@
 //! What outputs say, over whole texts and whole lists of commands. No function here does anything when it runs.
 
-ghost use Rattle.far_trace.specs.Headline.{OneOutput, ObjectsStayWhole, ViewedLogsStay, MutatorsAreAlone, LinesAreLater, OutputsAreSound, MomentsLast, EventsReach, NearRefusals, HeapsBeginLawful, EachTextIsAnswered, TextsBeginWithHeap, RefusalsChangeNothing, StrangersAreRefused, ViewsLast, LogsAreTold, NewTakesTheLowest, NoneIsLeft, WritesChangeTheirRange, OwnLinesCount, NewIsMade, NewMakesItsObject};
+ghost use Rattle.far_trace.specs.Headline.{OneOutput, ObjectsStayWhole, ViewedLogsStay, MutatorsAreAlone, LinesAreLater, OutputsAreSound, MomentsLast, EventsReach, NearRefusals, HeapsBeginLawful, EachTextIsAnswered, TextsBeginWithHeap, RefusalsStay, RefusalsChangeNothing, StrangersAreRefused, ViewsLast, LogsAreTold, NewTakesTheLowest, NoneIsLeft, WritesChangeTheirRange, OwnLinesCount, LinesAreNumbered, NewIsMade, NewMakesItsObject};
 
 /// From a text on: its output, where it is read as a heap in range and commands, has a reply and a moment for each
 /// command; in each moment objects are whole, through them the logs in which views rest stay, and each mutator's replies
@@ -67,9 +67,11 @@ pub fn texts_begin_with_heap()
     ensures { TextsBeginWithHeap }
 {}
 
-/// A refused command leaves the moment as it is.
+/// A refused command leaves objects, bytes, places and all else as they were, but for HOT and MOVE in cells, which it may
+/// add; the commands of today add none, and leave the moment as it is.
 pub fn refusals_change_nothing()
-    ensures { RefusalsChangeNothing }
+    ensures stay { RefusalsStay }
+    ensures nothing { RefusalsChangeNothing }
 {}
 
 /// A line of a mutator that the heap hasn't is refused 8.
@@ -105,6 +107,11 @@ pub fn new_is_made()
 /// Splicing, by which a write is defined, changes the bytes of its range, and no others.
 pub fn writes_change_their_range()
     ensures { WritesChangeTheirRange }
+{}
+
+/// A line that says a mutator's command says its number, behind the name; and so does no other line but the heap's.
+pub fn lines_are_numbered()
+    ensures { LinesAreNumbered }
 {}
 
 /// A mutator's own lines, and no others, say what it knows.

@@ -1,10 +1,11 @@
 //! A whole run: a text in, replies out.
 
-ghost use Rattle.std.specs.Prelude.{◌≡◌, ◌≢◌, ◌∷◌, List, length, map, slice_index, take, Ok, Err, IfOk, IfErr, IfSome, OnOk};
+ghost use Rattle.std.specs.Prelude.{◌≡◌, ◌≢◌, ◌<◌, ◌∷◌, true, List, length, map, slice_index, take, Ok, Err, IfOk, IfErr, IfSome, OnOk};
 ghost use Rattle.far_trace.specs.Reply.{refused_printed};
 ghost use Rattle.far_trace.specs.Stream.{Writes};
 ghost use Rattle.std.specs.List.{flat_map};
 ghost use Rattle.far_core.specs.state.CoreState.{core_state};
+ghost use Rattle.far_core.specs.state.Shape.{is_shape};
 ghost use Rattle.far_trace.specs.Moment.{Moment, moment_of};
 ghost use Rattle.far_trace.specs.Answers.{Answered, BeginsWithHeap, WritesOutput, WritesAnswer, LeavesBehind, Leaves, end_of};
 ghost use Rattle.far_trace.specs.Grammar.{commands_of};
@@ -140,6 +141,7 @@ fn answer_heap<W: Write>(
     ensures end { IfOk result (λ end. end ≡ end_of (Ok (Heap shape.logs shape.mutators ∷ map said commands.now))) }
     ensures fault { IfErr result (λ fault. LeavesBehind fault (W.contents writer.old) (W.contents writer.new) (Ok (Heap shape.logs shape.mutators ∷ map said commands.now))) }
     ensures unread { result ≢ Err RunFault.Read }
+    ensures memory { result ≡ Err RunFault.Memory → is_shape shape ≡ true }
 {
     match Core::new(alloc, shape, true) {
         Ok(core) => {

@@ -1,7 +1,8 @@
 //! A whole text of commands.
 
-ghost use Rattle.std.specs.Prelude.{◌≡◌, map, Ok, Err, IfOk, IfErr};
+ghost use Rattle.std.specs.Prelude.{◌≡◌, ◌<◌, length, map, Ok, Err, IfOk, IfErr};
 ghost use Rattle.far_trace.specs.Command.{said};
+ghost use Rattle.far_trace.specs.declared.text.TheConstants.{LONGEST_TEXT};
 ghost use Rattle.far_trace.specs.Grammar.{commands_of, IsFault, may_stand};
 
 use crate::command::Command;
@@ -55,6 +56,7 @@ fn stands(is_first: bool, command: &Command) -> bool
 pub fn parse(alloc: Global, text: &[u8]) -> Result<Vec<Command<'_>>, ParseError>
     ensures commands { IfOk result (λ commands. commands_of text.now ≡ Ok (map said commands.items)) }
     ensures fault { IfErr result (λ e. IsFault e (commands_of text.now)) }
+    ensures long { LONGEST_TEXT < length text.now → result ≡ Err (ParseError.Syntax 0) }
 {
     if text.len() > LONGEST_TEXT {
         return Err(ParseError::Syntax(0));

@@ -8,7 +8,7 @@ ghost use Rattle.far_word.specs.Pointer.{read_of};
 ghost use Rattle.far_core.specs.state.CoreState.{core_state};
 ghost use Rattle.far_core.specs.state.Law.{Law};
 ghost use Rattle.far_core.specs.state.Room.{room};
-ghost use Rattle.far_core.specs.events.Step.{step_of, data_len, near_len};
+ghost use Rattle.far_core.specs.events.Step.{step_of, data_len};
 ghost use Rattle.far_core.specs.declared.event.Event.{Event};
 ghost use Rattle.far_trace.specs.Command.{said};
 ghost use Rattle.far_trace.specs.Interpreter.{loaded, stores_of, word_in, refused_in, IsAccess, IsNew, Tells, next_after, next_of};
@@ -19,7 +19,7 @@ ghost use Rattle.far_trace.specs.Outcome.{told_by, Fits};
 ghost use Rattle.far_trace.specs.Reply.{IsShort};
 ghost use Rattle.far_trace.specs.Tidy.{Tidy};
 ghost use Rattle.far_trace.specs.Events.{events_for, turn_events, first_word, words_touched, starts_inside, ends_inside, first_part, last_part};
-ghost use Rattle.far_trace.specs.Objects.{lowest_cell};
+ghost use Rattle.far_trace.specs.Objects.{lowest_cell, named_len};
 ghost use Rattle.far_trace.specs.Moment.{moment_of};
 ghost use Rattle.far_trace.specs.Later.{IsLater};
 ghost use Rattle.far_trace.specs.Turn.{effect, access_causes, first_cause, reply_to, turn_reply, kind_told, refusal, log_line};
@@ -44,13 +44,13 @@ pub struct Access {
     count: u16,
 }
 
-// The length of a cell's object; 0 where it is not near.
-fn near_len(cell: u64) -> u16
-    ensures value { result ≡ near_len (read_of cell) }
+// The length of the object that a cell names, near or far.
+fn object_len(cell: u64) -> u16
+    ensures value { result ≡ named_len (read_of cell) }
     ensures most { result ≤ LONGEST }
 {
     match PtrWord::read(cell) {
-        Some(PtrWord::Near { len, .. }) => len,
+        Some(PtrWord::Near { len, .. } | PtrWord::Far { len, .. }) => len,
         _ => 0,
     }
 }
@@ -77,7 +77,7 @@ pub fn reach(
         return Err(Refused::NotHeld);
     }
     let pointer = pointer as u16;
-    let len = u64::from(near_len(core.cell(pointer)));
+    let len = u64::from(object_len(core.cell(pointer)));
     if count == 0 || from > len || count > len - from {
         return Err(Refused::Range);
     }

@@ -8,7 +8,8 @@ use Rattle.far_trace.specs.HexWord.{bytes_of as spelled}
 use Rattle.far_trace.specs.Interpreter.{loaded, stores_of}
 use Rattle.far_trace.specs.Made.{made}
 use Rattle.far_trace.specs.Events.{view_events, first_part, last_part, store_events, starts_inside, ends_inside, words_touched, first_word}
-use Rattle.far_trace.specs.Objects.{spliced, data_of, uses}
+use Rattle.far_trace.proofs.Views.{len_near}
+use Rattle.far_trace.specs.Objects.{object_len, spliced, data_of, uses}
 use Rattle.far_trace.proofs.RangeReads.{loaded_word, uses_own, first_stays}
 use Rattle.far_trace.proofs.RangeWrites.{packed_words, object_padded, stores_same, write_made, past_word, put_length}
 use borrow.Rule.Slice.PartMut.{put_mid}
@@ -27,8 +28,9 @@ returns-clause-state c =
     let touched : ℕ = c.touched-touched.result in
     let f : ℕ → ℕ = λ i. s.word (near_data (read_of (s.cell p)) + i) in
     let len : ℕ = data_len s p in
-    let inside : from + n ≤ len = omega (arith, c.requires.access.inside) in
-    let most : len ≤ 1016 = c.requires.access.most in
+    let near : object_len s p ≡ len = len_near s c.requires.law c.requires.tidy.1.at_hand p c.requires.access.used in
+    let inside : from + n ≤ len = omega (arith, near, c.requires.access.inside) in
+    let most : len ≤ 1016 = omega (arith, near, c.requires.access.most) in
     let ours : uses s m p ≡ true = uses_own s m p c.requires.access.own c.requires.access.used in
     let firsts : first ≡ from / 8 = c.first-first.ensures in
     let counts : touched ≡ (from + n + 7) / 8 - from / 8 = c.touched-touched.ensures ∙ ap (λ k. (from + k + 7) / 8 - from / 8) (sym long) in
