@@ -1,6 +1,6 @@
 -- The spans of a log, as a list: they fill it, each object has one, and each word is of one.
-use Rattle.std.proofs.Common.{◌≡◌, ◌≢◌, ℕ, ◌+◌, ◌-◌, ◌*◌, ◌/◌, ◌%◌, ◌^◌, ◌<◌, ◌≤◌, Bool, true, false, cond, arith, zero, suc, sym, refl, ap, subst, ◌∙◌, Option, Some, None, List, [], ◌∷◌, inl, inr, length}
-use Rattle.std.specs.Prelude.{nat_lt, not, ◌⊎◌, All, Contains, slice_index_or}
+use Rattle.std.proofs.Common.{◌≡◌, ◌≢◌, ℕ, ◌+◌, ◌-◌, ◌*◌, ◌/◌, ◌%◌, ◌^◌, ◌<◌, ◌≤◌, true, arith, zero, suc, sym, refl, ap, subst, ◌∙◌, Option, Some, None, List, [], ◌∷◌, inl, inr}
+use Rattle.std.specs.Prelude.{nat_lt, ◌⊎◌, All, Contains}
 use Rattle.std.proofs.lemmas.Bool.{cond_both, cases_lt, ltb-true, ltb-false, eq-eqb, false≢true}
 use Rattle.std.proofs.lemmas.Bool.Decides.{nat_tests}
 use Rattle.far_word.specs.declared.header.HeadWord.{HeadWord}
@@ -8,47 +8,30 @@ use Rattle.far_word.specs.declared.mark.Marks.{Marks}
 use Rattle.far_word.specs.declared.pointer.Place.{Place}
 use Rattle.far_word.specs.declared.pointer.PtrWord.{PtrWord}
 use Rattle.far_word.specs.declared.pointer.PtrWord.TheVariants.{Free, Near, Far}
-use Rattle.far_word.specs.declared.sizes.TheConstants.{CELLS, LOG_WORDS}
-use Rattle.far_word.specs.Header.{head_of, head_word}
+use Rattle.far_word.specs.declared.sizes.TheConstants.{LOG_WORDS}
+use Rattle.far_word.specs.Header.{head_of}
 use Rattle.far_word.specs.Pointer.{read_of}
-use Rattle.far_word.specs.Sizes.{size_of, bytes_taken}
+use Rattle.far_word.specs.Sizes.{size_of}
 use Rattle.far_word.proofs.HeaderLaws.{head_says}
 use Rattle.far_word.proofs.PointerLaws.{read_says}
+use Rattle.far_log.specs.declared.span.Span.{Span}
+use Rattle.far_log.specs.Spans.{Stands, Tile, HasOneSpan, HasNoSpan, span_at, spans_from, spans_in, pointer_in, len_in, ds_in, head_len}
+use Rattle.far_log.specs.Walk.{IsWalk}
+use Rattle.far_log.proofs.Members.{here, there, split, none_in, All-from}
+use Rattle.far_log.proofs.SpanLaws.{has_one_span, has_no_span, spans_take}
 use Rattle.far_core.specs.declared.event.Kind.TheVariants as kinds
-use Rattle.far_core.specs.state.Law.{Law, head_len, len_in, in_use}
-use Rattle.far_core.specs.laws.Observed.{Tile, Stands, Fills, live_bytes, dead_bytes, unused_bytes, span_for, OneLive, LiesNear, LiesFar, HasOnePlace, NamesOnce, IsWordOf, HasOneSpan, HasNoSpan, LogsStand, NearHasOneLive, PlacedExactly}
-use Rattle.far_core.specs.state.Spans.{Placed, span_at, spans_from, spans_of, is_live, names_place, taken_by, pointer_in, ds_in}
+use Rattle.far_core.specs.state.Law.{Law, Padded, in_use}
+use Rattle.far_core.specs.laws.Observed.{live_bytes, dead_bytes, unused_bytes, span_for, OneLive, LiesNear, LiesFar, HasOnePlace, NamesOnce, LogsStand, NearHasOneLive, PlacedExactly}
+use Rattle.far_core.specs.state.Spans.{IsOfHeap, word_in, spans_of, is_live, names_place}
 use Rattle.far_core.specs.state.State.{State, addr}
 use Rattle.far_core.proofs.Bounds.{span_len}
 use Rattle.far_core.proofs.KeepPlace.{header}
 use Rattle.far_core.proofs.Keeps.{one_name}
-use Rattle.far_core.proofs.SpanFrames.{spans_apart}
-
--- ---- membership by the head and the rest
-pub here : {X : Type 0} (x : X) (xs : List X) → Contains (x ∷ xs) x
-here x xs = (0, omega arith, refl)
-
-pub there : {X : Type 0} (x y : X) (xs : List X) → Contains xs x → Contains (y ∷ xs) x
-there x y xs (k, lt, e) = (suc k, omega arith, e)
-
-pub split : {X : Type 0} (x y : X) (xs : List X) → Contains (y ∷ xs) x → (y ≡ x) ⊎ Contains xs x
-split x y xs (zero, lt, e) = inl e
-split x y xs (suc k, lt, e) = inr (k, omega arith, e)
-
-pub none_in : {X : Type 0} (x : X) → Contains [] x → ⊥
-none_in x (k, lt, e) = omega arith
-
-pub All-from : {X : Type 0} (P : X → Type 0) (xs : List X) → ((x : X) → Contains xs x → P x) → All P xs
-All-from P xs h k d lt = h (slice_index_or xs k d) (k, lt, index_same xs k d lt) where
-  index_same : {Y : Type 0} (ys : List Y) (j : ℕ) (e : Y) → j < length ys → slice_index_or ys j (slice_index_or ys j e) ≡ slice_index_or ys j e
-  index_same [] j e lt = absurd (omega arith)
-  index_same (y ∷ ys) zero e lt = refl
-  index_same (y ∷ ys) (suc j) e lt = index_same ys j e (omega arith)
 
 -- ---- from one header to the next
 module _ (s : State) (law : Law s) (l : ℕ) where
   abbrev word : ℕ → ℕ
-  word i = s.word (l * LOG_WORDS + i)
+  word = word_in s l
 
   -- at is the tail or a span's header
   abbrev pub IsEdge : ℕ → Type 0
@@ -93,34 +76,20 @@ module _ (s : State) (law : Law s) (l : ℕ) where
       (refl, tile_from fuel (at + size_of (head_len (word at))) (next_edge at lt start) (span_fits at lt start) (omega arith)))
       (λ f. let le : s.tail l ≤ at = ltb-false at (s.tail l) f in omega arith)
 
-  total_from : (live : Placed → Bool) (fuel at : ℕ) → IsEdge at → at ≤ s.tail l → s.tail l ≤ at + fuel →
-      taken_by live (spans_from word (s.tail l) at fuel) + taken_by (λ x. not (live x)) (spans_from word (s.tail l) at fuel) + 8 * at ≡ 8 * s.tail l
-  total_from live zero at edge low high = omega arith
-  total_from live (suc fuel) at edge low high = cond_both (nat_lt at (s.tail l)) _ _ (λ xs. taken_by live xs + taken_by (λ x. not (live x)) xs + 8 * at ≡ 8 * s.tail l)
-      (λ t. let lt : at < s.tail l = ltb-true at (s.tail l) t in
-      let start : s.starts (l * LOG_WORDS + at) ≡ true = at_edge at edge lt in
-      let rest = total_from live fuel (at + size_of (head_len (word at))) (next_edge at lt start) (span_fits at lt start) (omega arith) in
-      let both : cond (live (span_at word at)) (bytes_taken (head_len (word at))) 0 + cond (not (live (span_at word at))) (bytes_taken (head_len (word at))) 0 ≡ bytes_taken (head_len (word at)) = either (live (span_at word at)) (bytes_taken (head_len (word at))) in
-      omega (arith, rest, both))
-      (λ f. let le : s.tail l ≤ at = ltb-false at (s.tail l) f in omega arith) where
-        either : (b : Bool) (n : ℕ) → cond b n 0 + cond (not b) n 0 ≡ n
-        either true n = omega arith
-        either false n = omega arith
-
   -- ---- who is in the list
   -- a span in the list starts where a header stands, and is what the header says
-  abbrev FoundFrom : ℕ → Placed → Type 0
+  abbrev FoundFrom : ℕ → Span → Type 0
   FoundFrom at x = (at ≤ x.at) × (x.at < s.tail l) × (s.starts (l * LOG_WORDS + x.at) ≡ true) × (x ≡ span_at word x.at)
 
-  found_first : (at : ℕ) (x : Placed) → at < s.tail l → s.starts (l * LOG_WORDS + at) ≡ true → span_at word at ≡ x → FoundFrom at x
-  found_first at x lt start e = let same : at ≡ x.at = ap (λ (y : Placed). y.at) e in (omega arith, omega arith, rw (← same) start, sym e ∙ ap (span_at word) same)
+  found_first : (at : ℕ) (x : Span) → at < s.tail l → s.starts (l * LOG_WORDS + at) ≡ true → span_at word at ≡ x → FoundFrom at x
+  found_first at x lt start e = let same : at ≡ x.at = ap (λ (y : Span). y.at) e in (omega arith, omega arith, rw (← same) start, sym e ∙ ap (span_at word) same)
 
-  found_later : (at next : ℕ) (x : Placed) → at ≤ next → FoundFrom next x → FoundFrom at x
+  found_later : (at next : ℕ) (x : Span) → at ≤ next → FoundFrom next x → FoundFrom at x
   found_later at next x le r = (omega (arith, r.0), r.1, r.2, r.3)
 
-  found_from : (fuel at : ℕ) (x : Placed) → IsEdge at → at ≤ s.tail l → s.tail l ≤ at + fuel → Contains (spans_from word (s.tail l) at fuel) x → FoundFrom at x
+  found_from : (fuel at : ℕ) (x : Span) → IsEdge at → at ≤ s.tail l → s.tail l ≤ at + fuel → Contains (spans_from word (s.tail l) at fuel) x → FoundFrom at x
   found_from zero at x edge low high h = absurd (none_in x h)
-  found_from (suc fuel) at x edge low high h = cond_both (nat_lt at (s.tail l)) (span_at word at ∷ spans_from word (s.tail l) (at + size_of (head_len (word at))) fuel) [] (λ (xs : List Placed). Contains xs x → FoundFrom at x)
+  found_from (suc fuel) at x edge low high h = cond_both (nat_lt at (s.tail l)) (span_at word at ∷ spans_from word (s.tail l) (at + size_of (head_len (word at))) fuel) [] (λ (xs : List Span). Contains xs x → FoundFrom at x)
       (λ t some. let lt : at < s.tail l = ltb-true at (s.tail l) t in
       let start : s.starts (l * LOG_WORDS + at) ≡ true = at_edge at edge lt in
       elim (split x (span_at word at) (spans_from word (s.tail l) (at + size_of (head_len (word at))) fuel) some) [
@@ -147,66 +116,54 @@ module _ (s : State) (law : Law s) (l : ℕ) where
           | inr le ↦ le
         ]
 
-  pub found : (x : Placed) → Contains (spans_of s l) x → (x.at < s.tail l) × (s.starts (l * LOG_WORDS + x.at) ≡ true) × (x ≡ span_at word x.at)
-  unfolding spans_of
-  found x h = let r = found_from LOG_WORDS 0 x first_edge (omega arith) (law.logs.tail_end l) h in (r.1, r.2, r.3)
+  pub found : (x : Span) → Contains (spans_of s l) x → (x.at < s.tail l) × (s.starts (l * LOG_WORDS + x.at) ≡ true) × (x ≡ span_at word x.at)
+  unfolding spans_of spans_in
+  found x h = let r = found_from (s.tail l) 0 x first_edge (omega arith) (omega arith) h in (r.1, r.2, r.3)
 
   pub listed : (k : ℕ) → k < s.tail l → s.starts (l * LOG_WORDS + k) ≡ true → Contains (spans_of s l) (span_at word k)
-  unfolding spans_of
-  listed k lt start = listed_from LOG_WORDS 0 k first_edge (omega arith) (law.logs.tail_end l) (omega arith) lt start
+  unfolding spans_of spans_in
+  listed k lt start = listed_from (s.tail l) 0 k first_edge (omega arith) (omega arith) (omega arith) lt start
 
-  -- ---- the spans fill the log
-  stands : (x : Placed) → Contains (spans_of s l) x → Stands s l x
-  stands x h =
-      let r = found x h in
-      let span = law.spans.span (l * LOG_WORDS + x.at) r.1 in
-      let head = some_head (s.word (l * LOG_WORDS + x.at)) span.some in
-      let says = head_says (s.word (l * LOG_WORDS + x.at)) head.0 (law.spans.word_fits _) head.1 in
-      let p : x.pointer ≡ head.0.pointer = ap (λ (y : Placed). y.pointer) r.2 ∙ ap pointer_in head.1 in
-      let n : x.len ≡ head.0.len = ap (λ (y : Placed). y.len) r.2 ∙ ap len_in head.1 in
-      let d : x.ds ≡ head.0.ds = ap (λ (y : Placed). y.ds) r.2 ∙ ap ds_in head.1 in
-      let size : head_len (s.word (l * LOG_WORDS + x.at)) ≡ x.len = ap len_in head.1 ∙ sym n in
-      record {
-        header = sym says.1 ∙ (λ i. head_word (sym p i) (sym n i) (sym d i));
-        pointer = subst (λ q. q < CELLS * s.mutators) (sym p) (law.spans.span_header (l * LOG_WORDS + x.at) head.0 r.1 head.1);
-        some = omega (arith, says.0.some);
-        most = omega (arith, says.0.most);
-        structure = omega (arith, says.0.structure);
-        padding = λ i lt. subst (λ k. s.word (l * LOG_WORDS + x.at + 1 + i) < 2 ^ (8 * (k - 8 * i))) size (law.spans.span_padding (l * LOG_WORDS + x.at) r.1 i (omega (arith, size)));
-      } where
+  -- ---- the words of the log walk to its spans
+  -- the header of a span is read, as what the span says
+  header_found : (x : Span) → Contains (spans_of s l) x → (h : HeadWord) × (head_of (word x.at) ≡ Some h) × (x ≡ record { at = x.at; p = h.pointer; len = h.len; ds = h.ds })
+  header_found x member =
+      let r = found x member in
+      let head = some_head (word x.at) (law.spans.span (l * LOG_WORDS + x.at) r.1).some in
+      (head.0, head.1, r.2 ∙ (λ i. record { at = x.at; p = pointer_in (head.1 i); len = len_in (head.1 i); ds = ds_in (head.1 i) })) where
         some_head : (w : ℕ) → 0 < head_len w → (h : HeadWord) × (head_of w ≡ Some h)
         some_head w some = at_head (head_of w) some refl where
           at_head : (o : Option HeadWord) → 0 < len_in o → head_of w ≡ o → (h : HeadWord) × (head_of w ≡ Some h)
           at_head None some e = absurd (omega arith)
           at_head (Some h) some e = (h, e)
 
-  pub fills : Fills s l
-  unfolding spans_of
-  fills = record {
-    tile = tile_from LOG_WORDS 0 first_edge (omega arith) (law.logs.tail_end l);
-    stand = All-from (Stands s l) (spans_of s l) stands;
-    tail_end = law.logs.tail_end l;
+  stands : (x : Span) → Contains (spans_of s l) x → Stands word x
+  stands x member =
+      let start = (found x member).1 in
+      let head = header_found x member in
+      let says = head_says (word x.at) head.0 (law.spans.word_fits _) head.1 in
+      let padded : Padded s.word (l * LOG_WORDS + x.at) head.0.len = subst (Padded s.word (l * LOG_WORDS + x.at)) (ap len_in head.1) (law.spans.span_padding (l * LOG_WORDS + x.at) start) in
+      subst (Stands word) (sym head.2) record {
+        header = record { layout = says.0; header = sym says.1 };
+        padding = λ i lt. let place : l * LOG_WORDS + x.at + 1 + i ≡ l * LOG_WORDS + (x.at + 1 + i) = omega arith in
+            subst (λ k. s.word k < 2 ^ (8 * (head.0.len - 8 * i))) place (padded i lt);
+      }
+
+  pub walks : IsWalk word (s.tail l) (spans_of s l)
+  unfolding spans_of spans_in
+  walks = record {
+    tile = tile_from (s.tail l) 0 first_edge (omega arith) (omega arith);
+    stand = All-from (Stands word) (spans_of s l) stands;
   }
 
+  pub of_heap : All (IsOfHeap s) (spans_of s l)
+  of_heap = All-from (IsOfHeap s) (spans_of s l) (λ x member. let head = header_found x member in
+      subst (IsOfHeap s) (sym head.2) (law.spans.span_header (l * LOG_WORDS + x.at) head.0 (found x member).1 head.1))
+
   pub bytes_make_log : live_bytes s l + dead_bytes s l + unused_bytes s l ≡ 8 * LOG_WORDS
-  unfolding spans_of
-  bytes_make_log = omega (arith, total_from (is_live s l) LOG_WORDS 0 first_edge (omega arith) (law.logs.tail_end l), law.logs.tail_end l)
+  bytes_make_log = omega (arith, spans_take (is_live s l) (spans_of s l) (s.tail l) walks.tile, law.logs.tail_end l)
 
 -- ---- one span for each object
-Placed-ext : (a b : Placed) → a.at ≡ b.at → a.pointer ≡ b.pointer → a.len ≡ b.len → a.ds ≡ b.ds → a ≡ b
-Placed-ext a b h k m n = λ i. record { at = h i; pointer = k i; len = m i; ds = n i }
-
--- two spans of one log that have a word in common are one
-pub one_span : (s : State) (law : Law s) (l i : ℕ) (x y : Placed) → Contains (spans_of s l) x → Contains (spans_of s l) y → IsWordOf i x → IsWordOf i y → x ≡ y
-one_span s law l i x y hx hy wx wy =
-    let a = found s law l x hx in
-    let b = found s law l y hy in
-    let n : x.len ≡ head_len (s.word (l * LOG_WORDS + x.at)) = ap (λ (z : Placed). z.len) a.2 in
-    let m : y.len ≡ head_len (s.word (l * LOG_WORDS + y.at)) = ap (λ (z : Placed). z.len) b.2 in
-    let same : l * LOG_WORDS + x.at ≡ l * LOG_WORDS + y.at = spans_apart s law (l * LOG_WORDS + x.at) (l * LOG_WORDS + y.at) (i - x.at) (i - y.at) a.1 b.1 (omega arith) (omega arith) (omega arith) in
-    let at : x.at ≡ y.at = omega arith in
-    a.2 ∙ ap (span_at (λ j. s.word (l * LOG_WORDS + j))) at ∙ sym b.2
-
 -- what a live span says: its pointer's cell names it
 pub live_names : (o : Option PtrWord) (l at : ℕ) → names_place o l at ≡ true → (len ds : ℕ) × (place : Place) × (m : Marks) × (o ≡ Some (Near len ds place m)) × (place.log ≡ l) × (place.at ≡ at)
 live_names None l at h = absurd (false≢true h)
@@ -236,7 +193,7 @@ module _ (s : State) (law : Law s) (p len ds : ℕ) (place : Place) (m : Marks) 
     placed = subst (Contains (spans_of s place.log)) here_is (listed s law place.log place.at (omega (arith, in_range)) in_range.1);
     live = rw (e, eq-eqb place.log place.log refl, eq-eqb place.at place.at refl) refl;
     only = λ l span listed_there live is.
-        let names = live_names (read_of (s.cell span.pointer)) l span.at live in
+        let names = live_names (read_of (s.cell span.p)) l span.at live in
         let both : Some (Near len ds place m) ≡ Some (Near names.0 names.1 names.2 names.3) = sym e ∙ ap (λ q. read_of (s.cell q)) (sym is) ∙ names.4 in
         let there : place ≡ names.2 = cc in
         let log : l ≡ place.log = sym names.5 ∙ ap (λ (q : Place). q.log) (sym there) in
@@ -245,9 +202,9 @@ module _ (s : State) (law : Law s) (p len ds : ℕ) (place : Place) (m : Marks) 
   }
 
 -- a live span's pointer is near
-far_is_dead : (s : State) (p len ds : ℕ) (m : Marks) → read_of (s.cell p) ≡ Some (Far len ds m) → (l : ℕ) (span : Placed) → is_live s l span ≡ true → span.pointer ≢ p
+far_is_dead : (s : State) (p len ds : ℕ) (m : Marks) → read_of (s.cell p) ≡ Some (Far len ds m) → (l : ℕ) (span : Span) → is_live s l span ≡ true → span.p ≢ p
 far_is_dead s p len ds m e l span live is =
-    let names = live_names (read_of (s.cell span.pointer)) l span.at live in
+    let names = live_names (read_of (s.cell span.p)) l span.at live in
     let odd : Some (Far len ds m) ≡ Some (Near names.0 names.1 names.2 names.3) = sym e ∙ ap (λ q. read_of (s.cell q)) (sym is) ∙ names.4 in
     cc
 
@@ -268,26 +225,11 @@ names_once s law p q len n ds d place m k e f =
     one_name s.word p q len n ds d (addr place) a.head b.head (omega (arith, x.0)) (omega (arith, y.0)) (omega (arith, x.0)) (omega (arith, y.0))
 
 -- ---- each word of a log
--- some span of a tiling has each word of it
-covers : (xs : List Placed) (at tail i : ℕ) → Tile at xs tail → at ≤ i → i < tail → (x : Placed) × Contains xs x × IsWordOf i x
-covers [] at tail i h low high = absurd (omega arith)
-covers (x ∷ xs) at tail i h low high = elim (cases_lt i (at + size_of x.len)) [
-  | inl inside ↦ (x, here x xs, (omega (arith, h.0), omega (arith, h.0)))
-  | inr past ↦ (let r = covers xs (at + size_of x.len) tail i h.1 past high in (r.0, there r.0 x xs r.1, r.2))
-]
+pub word_has_one_span : (s : State) → Law s → (l i : ℕ) → i < s.tail l → HasOneSpan (spans_of s l) i
+word_has_one_span s law l i lt = has_one_span (spans_of s l) (s.tail l) i (walks s law l).tile lt
 
-pub has_one_span : (s : State) → Law s → (l i : ℕ) → i < s.tail l → HasOneSpan s l i
-has_one_span s law l i lt =
-    let r = covers (spans_of s l) 0 (s.tail l) i (fills s law l).tile (omega arith) lt in
-    (r.0, r.1, r.2, λ other h w. one_span s law l i other r.0 h r.1 w r.2)
-
-pub has_no_span : (s : State) → Law s → (l i : ℕ) → s.tail l ≤ i → HasNoSpan s l i
-has_no_span s law l i past x h w =
-    let a = found s law l x h in
-    let n : x.len ≡ head_len (s.word (l * LOG_WORDS + x.at)) = ap (λ (z : Placed). z.len) a.2 in
-    let q : ((l * LOG_WORDS + x.at) / LOG_WORDS ≡ l) × ((l * LOG_WORDS + x.at) % LOG_WORDS ≡ x.at) = (omega (arith, law.logs.tail_end l), omega (arith, law.logs.tail_end l)) in
-    let same : s.tail ((l * LOG_WORDS + x.at) / LOG_WORDS) ≡ s.tail l = ap s.tail q.0 in
-    omega (arith, (law.spans.span (l * LOG_WORDS + x.at) a.1).fits, q.1)
+pub word_has_no_span : (s : State) → Law s → (l i : ℕ) → s.tail l ≤ i → HasNoSpan (spans_of s l) i
+word_has_no_span s law l i past = has_no_span (spans_of s l) (s.tail l) i (walks s law l).tile past
 
 pub near_has_one_live : (s : State) → Law s → (p : ℕ) → NearHasOneLive s p
 near_has_one_live s law p len ds place m e = one_live s law p len ds place m e
@@ -307,8 +249,8 @@ placed_exactly s law l at lt = (
 )
 
 no_spans : (s : State) (l : ℕ) → s.tail l ≡ 0 → spans_of s l ≡ []
-unfolding spans_of
-no_spans s l e = cond_both (nat_lt 0 (s.tail l)) _ _ (λ (xs : List Placed). xs ≡ []) (λ t. absurd (omega (arith, ltb-true 0 (s.tail l) t))) (λ _. refl)
+unfolding spans_of spans_in
+no_spans s l e = ap (λ n. spans_from (word_in s l) n 0 n) e
 
 pub logs_stand : (s : State) → Law s → LogsStand s
 logs_stand s law = record {

@@ -10,7 +10,7 @@ use Rattle.far_core.specs.state.Shape.{is_shape}
 use Rattle.far_core.specs.state.State.{State}
 use Rattle.far_core.specs.events.Step.{step_of, is_legal, after, answer, Fits}
 use Rattle.far_core.proofs.Keeps.{step_keeps}
-use Rattle.far_core.proofs.Observations.{split, none_in, All-from}
+use Rattle.far_log.proofs.Members.{split, none_in, All-from}
 use Rattle.far_core.proofs.Steps.{agrees}
 use Rattle.far_trace.specs.Answers.{Answered, Commanded, IsMoment, moment_behind, shape_of, first_moment}
 use Rattle.far_trace.specs.Command.{Command}

@@ -4,17 +4,20 @@ use Rattle.far_word.specs.declared.header.HeadWord.{HeadWord}
 use Rattle.far_word.specs.declared.sizes.TheConstants.{LOG_WORDS}
 use Rattle.far_word.specs.Header.{head_of}
 use Rattle.far_word.specs.Pointer.{read_of}
-use Rattle.far_core.specs.state.Law.{Law, len_in}
+use Rattle.far_log.specs.declared.span.Span.{Span}
+use Rattle.far_log.specs.Spans.{taken_by, pointer_in, len_in}
+use Rattle.far_log.proofs.Members.{here, there}
+use Rattle.far_core.specs.state.Law.{Law}
 use Rattle.far_core.specs.laws.Observed.{live_bytes, dead_bytes}
-use Rattle.far_core.specs.state.Spans.{Placed, spans_of, is_live, names_place, taken_by, pointer_in}
+use Rattle.far_core.specs.state.Spans.{spans_of, is_live, names_place}
 use Rattle.far_core.specs.state.State.{State}
-use Rattle.far_core.proofs.Observations.{found, bytes_make_log, here, there}
+use Rattle.far_core.proofs.Observations.{found, bytes_make_log}
 use Rattle.far_trace.specs.Moment.{moment_of}
 use Rattle.far_trace.specs.Tidy.{Tidy}
 use Rattle.far_trace.specs.Turn.{log_line, kind_told}
 
 -- spans of which none passes a test take nothing
-none_taken : (test : Placed → Bool) (spans : List Placed) → ((x : Placed) → Contains spans x → test x ≡ false) → taken_by test spans ≡ 0
+none_taken : (test : Span → Bool) (spans : List Span) → ((x : Span) → Contains spans x → test x ≡ false) → taken_by test spans ≡ 0
 none_taken test [] h = refl
 none_taken test (span ∷ spans) h =
     let rest : taken_by test spans ≡ 0 = none_taken test spans (λ x k. h x (there x span spans k)) in
@@ -28,12 +31,12 @@ some_head (Some h) some = (h, refl)
 
 module _ (s : State) (next : ℕ → ℕ) (l : ℕ) (law : Law s) (tidy : Tidy s next) where
   -- each span of the log is live
-  pub span_live : (x : Placed) → Contains (spans_of s l) x → is_live s l x ≡ true
+  pub span_live : (x : Span) → Contains (spans_of s l) x → is_live s l x ≡ true
   span_live x h =
       let r = found s law l x h in
       let span = law.spans.span (l * LOG_WORDS + x.at) r.1 in
       let head = some_head (head_of (s.word (l * LOG_WORDS + x.at))) span.some in
-      let p : head.0.pointer ≡ x.pointer = sym (ap (λ (y : Placed). y.pointer) r.2 ∙ ap pointer_in head.1) in
+      let p : head.0.pointer ≡ x.p = sym (ap (λ (y : Span). y.p) r.2 ∙ ap pointer_in head.1) in
       let low : x.at < LOG_WORDS = omega (arith, r.0, law.logs.tail_end l) in
       let log : (l * LOG_WORDS + x.at) / LOG_WORDS ≡ l = omega arith in
       let at : (l * LOG_WORDS + x.at) % LOG_WORDS ≡ x.at = omega arith in

@@ -9,6 +9,7 @@ use Rattle.far_word.specs.declared.refused.Refused.{Refused as Refusal}
 use Rattle.far_word.specs.declared.refused.Refused.TheVariants.{Range, Length, NoPointer, NoRoom, Shape, Syntax}
 use Rattle.far_word.specs.declared.sizes.TheConstants.{CELLS, LONGEST}
 use Rattle.far_word.specs.Sizes.{size_of}
+use Rattle.far_log.proofs.Members.{split, none_in, All-from}
 use Rattle.far_core.specs.state.Law.{Law}
 use Rattle.far_word.specs.declared.pointer.Place.{Place}
 use Rattle.far_core.specs.state.Room.{room}
@@ -17,7 +18,7 @@ use Rattle.far_core.specs.state.State.{State, put}
 use Rattle.far_core.specs.world.World.{Object, Group}
 use Rattle.far_core.specs.world.WorldOf.{world_of}
 use Rattle.far_core.proofs.Bounds.{some_of}
-use Rattle.far_core.proofs.Observations.{All-from, split, none_in, bytes_make_log}
+use Rattle.far_core.proofs.Observations.{bytes_make_log}
 use Rattle.far_trace.specs.Moment.{Moment, moment_of}
 use Rattle.far_trace.specs.Alone.{Alone, Knows, Own}
 use Rattle.far_trace.specs.Answers.{Answered, Answers, BeginsWithHeap, Commanded, IsMoment, IsOutput, shape_of, first_moment}

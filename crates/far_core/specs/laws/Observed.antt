@@ -1,36 +1,16 @@
 -- What the law means for a log and for an object, in the subject's words.
-use Rattle.std.specs.Prelude.{◌≡◌, ◌≢◌, ◌⊎◌, ℕ, ◌+◌, ◌-◌, ◌*◌, ◌^◌, ◌<◌, ◌≤◌, ◌↔◌, true, not, Some, List, [], ◌∷◌, All, Contains}
+use Rattle.std.specs.Prelude.{◌≡◌, ◌≢◌, ◌⊎◌, ℕ, ◌+◌, ◌-◌, ◌*◌, ◌<◌, ◌↔◌, true, not, Some, [], Contains}
 use Rattle.far_word.specs.declared.mark.Marks.{Marks}
 use Rattle.far_word.specs.declared.pointer.Place.{Place}
 use Rattle.far_word.specs.declared.pointer.PtrWord.TheVariants.{Near, Far}
-use Rattle.far_word.specs.declared.sizes.TheConstants.{CELLS, LOG_WORDS, LONGEST}
-use Rattle.far_word.specs.Header.{head_word}
+use Rattle.far_word.specs.declared.sizes.TheConstants.{LOG_WORDS}
 use Rattle.far_word.specs.Pointer.{read_of}
-use Rattle.far_word.specs.Sizes.{size_of, words_for}
+use Rattle.far_log.specs.declared.span.Span.{Span}
+use Rattle.far_log.specs.Spans.{taken_by}
 use Rattle.far_core.specs.declared.event.Kind.TheVariants.{Free, Open}
 use Rattle.far_core.specs.state.Law.{in_use, IsStored}
-use Rattle.far_core.specs.state.Spans.{Placed, spans_of, is_live, taken_by}
+use Rattle.far_core.specs.state.Spans.{spans_of, is_live}
 use Rattle.far_core.specs.state.State.{State}
-
--- the spans follow each other from at on and end at the tail
-abbrev pub Tile : ℕ → List Placed → ℕ → Type 0
-Tile at [] tail = at ≡ tail
-Tile at (span ∷ spans) tail = (span.at ≡ at) × Tile (at + size_of span.len) spans tail
-
--- a span as it stands in its log: its header says whose it is, and its data words have zeros behind the last byte
-pub record Stands (s : State) (l : ℕ) (span : Placed) : Type 0 where
-  pub header : s.word (l * LOG_WORDS + span.at) ≡ head_word span.pointer span.len span.ds
-  pub pointer : span.pointer < CELLS * s.mutators
-  pub some : 0 < span.len
-  pub most : span.len ≤ LONGEST
-  pub structure : span.ds < 256
-  pub padding : (i : ℕ) → i < words_for span.len → s.word (l * LOG_WORDS + span.at + 1 + i) < 2 ^ (8 * (span.len - 8 * i))
-
--- the spans of a log fill it from its word 0 to its tail
-pub record Fills (s : State) (l : ℕ) : Type 0 where
-  pub tile : Tile 0 (spans_of s l) (s.tail l)
-  pub stand : All (Stands s l) (spans_of s l)
-  pub tail_end : s.tail l ≤ LOG_WORDS
 
 -- the bytes of a log that live spans take, that other spans take, and that none takes
 abbrev pub live_bytes : State → ℕ → ℕ
@@ -43,14 +23,14 @@ abbrev pub unused_bytes : State → ℕ → ℕ
 unused_bytes s l = 8 * LOG_WORDS - 8 * s.tail l
 
 -- what a span of p would be
-abbrev pub span_for : ℕ → ℕ → ℕ → ℕ → Placed
-span_for p len ds at = record { at = at; pointer = p; len = len; ds = ds }
+abbrev pub span_for : ℕ → ℕ → ℕ → ℕ → Span
+span_for p len ds at = record { at = at; p = p; len = len; ds = ds }
 
 -- p has exactly one live span in all logs, of this length and data structure: the one at the place that its cell names
 pub record OneLive (s : State) (p len ds : ℕ) (place : Place) : Type 0 where
   pub placed : Contains (spans_of s place.log) (span_for p len ds place.at)
   pub live : is_live s place.log (span_for p len ds place.at) ≡ true
-  pub only : (l : ℕ) (span : Placed) → Contains (spans_of s l) span → is_live s l span ≡ true → span.pointer ≡ p →
+  pub only : (l : ℕ) (span : Span) → Contains (spans_of s l) span → is_live s l span ≡ true → span.p ≡ p →
       (l ≡ place.log) × (span ≡ span_for p len ds place.at)
 
 -- p lies near: its one live span has the length and the data structure that its cell says
@@ -60,7 +40,7 @@ LiesNear s p = (len ds : ℕ) × (place : Place) × (m : Marks) × (read_of (s.c
 -- p lies far: words of its length are stored for it, and no span is live that names it
 abbrev pub LiesFar : State → ℕ → Type 0
 LiesFar s p = (len ds : ℕ) × (m : Marks) × (read_of (s.cell p) ≡ Some (Far len ds m)) × IsStored (s.stored p) len
-    × ((l : ℕ) (span : Placed) → Contains (spans_of s l) span → is_live s l span ≡ true → span.pointer ≢ p)
+    × ((l : ℕ) (span : Span) → Contains (spans_of s l) span → is_live s l span ≡ true → span.p ≢ p)
 
 -- an object that is used and not dropped has one place, near or far
 abbrev pub HasOnePlace : State → ℕ → Type 0
@@ -72,7 +52,7 @@ NearHasOneLive s p = (len ds : ℕ) (place : Place) (m : Marks) → read_of (s.c
 
 -- the spans that the book keeps are those of the list
 abbrev pub PlacedExactly : State → ℕ → ℕ → Type 0
-PlacedExactly s l at = at < LOG_WORDS → (s.starts (l * LOG_WORDS + at) ≡ true) ↔ ((span : Placed) × Contains (spans_of s l) span × (span.at ≡ at))
+PlacedExactly s l at = at < LOG_WORDS → (s.starts (l * LOG_WORDS + at) ≡ true) ↔ ((span : Span) × Contains (spans_of s l) span × (span.at ≡ at))
 
 -- a free log has no spans, and exactly one log is open
 pub record LogsStand (s : State) : Type 0 where
@@ -83,16 +63,3 @@ pub record LogsStand (s : State) : Type 0 where
 abbrev pub NamesOnce : State → Type 0
 NamesOnce s = (p q len n ds d : ℕ) (place : Place) (m k : Marks) →
     read_of (s.cell p) ≡ Some (Near len ds place m) → read_of (s.cell q) ≡ Some (Near n d place k) → p ≡ q
-
--- word i of a log is a word of this span, its header or its data
-abbrev pub IsWordOf : ℕ → Placed → Type 0
-IsWordOf i span = (span.at ≤ i) × (i < span.at + size_of span.len)
-
--- word i of a log is a word of exactly one of its spans
-abbrev pub HasOneSpan : State → ℕ → ℕ → Type 0
-HasOneSpan s l i = (span : Placed) × Contains (spans_of s l) span × IsWordOf i span
-    × ((other : Placed) → Contains (spans_of s l) other → IsWordOf i other → other ≡ span)
-
--- a word at or past the tail is a word of none
-abbrev pub HasNoSpan : State → ℕ → ℕ → Type 0
-HasNoSpan s l i = (span : Placed) → Contains (spans_of s l) span → ¬ IsWordOf i span

@@ -12,17 +12,10 @@ use Rattle.far_word.specs.Header.{head_of, head_word}
 use Rattle.far_word.specs.Pointer.{read_of}
 use Rattle.far_word.specs.Scope.{scope_of, epoch_end}
 use Rattle.far_word.specs.Sizes.{size_of, words_for}
+pub use Rattle.far_log.specs.Spans.{head_len, len_in}
 use Rattle.far_core.specs.declared.event.Kind.{Kind}
 use Rattle.far_core.specs.declared.event.Kind.TheVariants.{Free, Open}
 use Rattle.far_core.specs.state.State.{State, addr}
-
--- the length that a header word says, 0 where it is no header
-abbrev pub len_in : Option HeadWord → ℕ
-len_in None = 0
-len_in (Some h) = h.len
-
-abbrev pub head_len : ℕ → ℕ
-head_len w = len_in (head_of w)
 
 -- a span of this length stands at a: it ends below its log's tail, no other span begins in it, and the next follows it
 pub record Span (tail : ℕ → ℕ) (starts : ℕ → Bool) (a len : ℕ) : Type 0 where

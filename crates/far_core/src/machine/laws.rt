@@ -1,19 +1,22 @@
 //! What is true of every core, as contracts. No function here does anything when it runs.
 
-ghost use Rattle.std.specs.Prelude.{◌≡◌, ◌≢◌, ◌↔◌, ◌+◌, ◌*◌, ◌<◌, ◌≤◌, ◌||◌, ℕ, Bool, true, false, Some, None, IsSome};
+ghost use Rattle.std.specs.Prelude.{◌≡◌, ◌≢◌, ◌↔◌, ◌+◌, ◌*◌, ◌<◌, ◌≤◌, ◌||◌, ℕ, Bool, true, false, Some, None, IsSome, All};
 ghost use Rattle.far_word.specs.declared.mark.Marks.{Marks};
 ghost use Rattle.far_word.specs.declared.sizes.TheConstants.{LOG_WORDS};
 ghost use Rattle.far_word.specs.Pointer.{read_of};
+ghost use Rattle.far_log.specs.declared.span.Span.{Span};
+ghost use Rattle.far_log.specs.Spans.{HasOneSpan, HasNoSpan};
+ghost use Rattle.far_log.specs.Walk.{IsWalk};
 ghost use Rattle.far_core.specs.state.Agrees.{Agrees};
 ghost use Rattle.far_core.specs.state.CoreState.{core_state};
 ghost use Rattle.far_core.specs.state.Law.{Law};
 ghost use Rattle.far_core.specs.events.Leaves.{EventsLeave};
 ghost use Rattle.far_core.specs.events.Legal.{Legal};
 ghost use Rattle.far_core.specs.laws.Live.{LiveIs, LiveBytesAre};
-ghost use Rattle.far_core.specs.laws.Observed.{Fills, live_bytes, dead_bytes, unused_bytes, HasOnePlace, NamesOnce, HasOneSpan, HasNoSpan, LogsStand, NearHasOneLive, PlacedExactly};
+ghost use Rattle.far_core.specs.laws.Observed.{live_bytes, dead_bytes, unused_bytes, HasOnePlace, NamesOnce, LogsStand, NearHasOneLive, PlacedExactly};
 ghost use Rattle.far_core.specs.state.Opening.{opening};
 ghost use Rattle.far_core.specs.state.Shape.{is_shape};
-ghost use Rattle.far_core.specs.state.Spans.{Placed};
+ghost use Rattle.far_core.specs.state.Spans.{IsOfHeap, spans_of, word_in};
 ghost use Rattle.far_core.specs.state.State.{State};
 ghost use Rattle.far_core.specs.events.Step.{is_legal};
 ghost use Rattle.far_core.specs.events.Reports.{RepliesReport};
@@ -36,14 +39,17 @@ impl Core {
         let _memory = &self.memory;
     }
 
-    /// The spans of each log follow each other from its first word to its tail, each with its header and padding; so each
-    /// word below the tail is header or data of exactly one span, and each word past it of none. Free logs have no span,
-    /// and exactly one log is open.
+    /// The words of each log below its tail walk to exactly its spans: they follow each other from its first word to its
+    /// tail, each with its header and padding, and each header names a pointer of the heap. So each word below the tail is
+    /// header or data of exactly one span, and each word past it of none. Free logs have no span, and exactly one log is
+    /// open.
     pub fn spans_fill_logs(&self)
-        ensures fills { (l : ℕ) → Fills (core_state self.now) l }
+        ensures walk { (l : ℕ) → IsWalk (word_in (core_state self.now) l) ((core_state self.now).tail l) (spans_of (core_state self.now) l) }
+        ensures pointers { (l : ℕ) → All (IsOfHeap (core_state self.now)) (spans_of (core_state self.now) l) }
+        ensures tails { (l : ℕ) → (core_state self.now).tail l ≤ LOG_WORDS }
         ensures placed { (l at : ℕ) → PlacedExactly (core_state self.now) l at }
-        ensures below { (l i : ℕ) → i < (core_state self.now).tail l → HasOneSpan (core_state self.now) l i }
-        ensures past { (l i : ℕ) → (core_state self.now).tail l ≤ i → HasNoSpan (core_state self.now) l i }
+        ensures below { (l i : ℕ) → i < (core_state self.now).tail l → HasOneSpan (spans_of (core_state self.now) l) i }
+        ensures past { (l i : ℕ) → (core_state self.now).tail l ≤ i → HasNoSpan (spans_of (core_state self.now) l) i }
         ensures stand { LogsStand (core_state self.now) }
     {
         let _memory = &self.memory;
@@ -53,7 +59,7 @@ impl Core {
     /// header names says near, at its place; live bytes are what the live spans take, and dead bytes what all others take.
     pub fn bytes_make_log(&self)
         ensures sum { (l : ℕ) → live_bytes (core_state self.now) l + dead_bytes (core_state self.now) l + unused_bytes (core_state self.now) l ≡ 8 * LOG_WORDS }
-        ensures live { (l : ℕ) (span : Placed) → LiveIs (core_state self.now) l span }
+        ensures live { (l : ℕ) (span : Span) → LiveIs (core_state self.now) l span }
         ensures bytes { (l : ℕ) → LiveBytesAre (core_state self.now) l }
     {
         let _memory = &self.memory;

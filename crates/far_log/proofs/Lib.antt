@@ -1,0 +1,4 @@
+pub mod Members
+pub mod Padding
+pub mod SpanLaws
+pub mod WalkLaws

@@ -1,0 +1,37 @@
+//! What holds of the words of any log, as contracts of functions that do nothing.
+
+ghost use Rattle.far_log.specs.Laws.{WalksAreOne, WalksOrBad, NeverBoth, FirstBadIsOne, SpansAreListed, TailEndsWalk, BadEndsWalk, WordsHaveOneSpan, WordsPastHaveNone, SpansHoldBytes, SpansTakeAll, TakenIsSum};
+
+/// The words below a tail have one list of spans, or a first bad word, never both and never two; and the list is the one
+/// that the headers spell.
+pub fn walks_are_one()
+    ensures one { WalksAreOne }
+    ensures either { WalksOrBad }
+    ensures never { NeverBoth }
+    ensures first { FirstBadIsOne }
+    ensures listed { SpansAreListed }
+{}
+
+/// What lies past the tail changes no list of spans, and what lies behind the first bad word mends none.
+pub fn later_words_say_nothing()
+    ensures tail { TailEndsWalk }
+    ensures bad { BadEndsWalk }
+{}
+
+/// Each word below the tail is header or data of exactly one span, and a word at or past it of none.
+pub fn words_have_one_span()
+    ensures below { WordsHaveOneSpan }
+    ensures past { WordsPastHaveNone }
+{}
+
+/// A span stands where its header is read so, and its data words are those that its bytes pack into.
+pub fn spans_hold_bytes()
+    ensures { SpansHoldBytes }
+{}
+
+/// The spans that pass a test and those that don't take all bytes below the tail; what some spans take is the sum of
+/// what each takes.
+pub fn spans_take_all()
+    ensures all { SpansTakeAll }
+    ensures sum { TakenIsSum }
+{}

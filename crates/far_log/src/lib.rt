@@ -1,0 +1,18 @@
+//! What the words of one log say: a list of spans, each a header and the data words of one object.
+//!
+//! [`walk`] reads that list, or names the first word that belongs to none.
+#![tactic(auto)]
+
+mod laws;
+mod row;
+mod span;
+#[cfg(test)]
+mod tests;
+mod walking;
+
+pub use laws::{
+    later_words_say_nothing, spans_hold_bytes, spans_take_all, walks_are_one, words_have_one_span,
+};
+pub use row::LogRow;
+pub use span::{Span, size_of};
+pub use walking::{BadWord, WalkFault, walk};
