@@ -5,6 +5,7 @@ pub mod Legal
 pub mod Load
 pub mod Mark
 pub mod Name
+pub mod Next
 pub mod Open
 pub mod Owners
 pub mod Pin

@@ -1,9 +1,9 @@
 //! One place of the memory read.
 
-ghost use Rattle.std.specs.Prelude.{◌≡◌, ◌*◌, ◌<◌, ◌≤◌, ◌+◌, nat_lt};
+ghost use Rattle.std.specs.Prelude.{◌≡◌, ◌*◌, ◌<◌, ◌≤◌, ◌+◌, nat_lt, IsSome, Some};
 ghost use Rattle.far_core.specs.state.State.{State, addr};
 ghost use Rattle.far_core.specs.state.Law.{in_use};
-ghost use Rattle.far_core.specs.events.Step.{is_closed, is_opened, holds, viewable, zeros, near_data, near_len};
+ghost use Rattle.far_core.specs.events.Step.{is_closed, is_opened, holds, viewable, zeros, near_len};
 ghost use Rattle.far_core.specs.state.Memory.{state_of};
 ghost use Rattle.far_word.specs.Pointer.{read_of};
 
@@ -76,6 +76,14 @@ impl Memory {
     }
 
     #[tactic(auto, unfolding(crate::specs::state::Memory::state_of))]
+    pub(crate) fn remembered_epoch(&self, owner: u8) -> u64
+        requires { IsSome ((state_of self.now).remembered owner) }
+        ensures { (state_of self.now).remembered owner ≡ Some result }
+    {
+        self.remembered[owner as usize].unwrap()
+    }
+
+    #[tactic(auto, unfolding(crate::specs::state::Memory::state_of))]
     pub(crate) fn uses(&self, pointer: u16) -> bool
         ensures { result ≡ (state_of self.now).used pointer }
     {
@@ -90,10 +98,26 @@ impl Memory {
     }
 
     #[tactic(auto, unfolding(crate::specs::state::Memory::state_of))]
+    pub(crate) fn held_place(&self, pointer: u16) -> Place
+        requires { IsSome ((state_of self.now).held pointer) }
+        ensures { (state_of self.now).held pointer ≡ Some result }
+    {
+        self.held[pointer as usize].unwrap()
+    }
+
+    #[tactic(auto, unfolding(crate::specs::state::Memory::state_of))]
     pub(crate) fn cell(&self, pointer: u16) -> u64
         ensures { result ≡ (state_of self.now).cell pointer }
     {
         self.cells.get(pointer as usize).copied().unwrap_or(0)
+    }
+
+    #[tactic(auto, unfolding(crate::specs::state::Memory::state_of))]
+    pub(crate) fn cell_at(&self, pointer: u16) -> u64
+        requires { pointer < CELLS * (state_of self.now).mutators }
+        ensures { result ≡ (state_of self.now).cell pointer }
+    {
+        self.cells[pointer as usize]
     }
 
     #[tactic(auto, unfolding(crate::specs::state::Memory::state_of))]
@@ -160,14 +184,13 @@ pub(crate) fn viewable(cell: u64) -> Option<Place>
     }
 }
 
-/// The length of a near cell's object and its first data word; zeros for any other cell.
-pub(crate) fn near_data(cell: u64) -> (u16, usize)
-    ensures len { result.0 ≡ near_len (read_of cell) }
-    ensures data { result.1 ≡ near_data (read_of cell) }
+/// The length of a near cell's object; 0 for any other cell.
+pub(crate) fn near_len(cell: u64) -> u16
+    ensures { result ≡ near_len (read_of cell) }
 {
     match PtrWord::read(cell) {
-        Some(PtrWord::Near { len, place, .. }) => (len, first_word(place) + 1),
-        _ => (0, 0),
+        Some(PtrWord::Near { len, .. }) => len,
+        _ => 0,
     }
 }
 
