@@ -13,6 +13,13 @@ use far_word::{CELLS, LOG_WORDS, Place, PtrWord};
 
 impl Memory {
     #[tactic(auto, unfolding(crate::specs::state::Memory::state_of))]
+    pub(crate) fn is_honest(&self) -> bool
+        ensures { result ≡ (state_of self.now).honest }
+    {
+        self.honest
+    }
+
+    #[tactic(auto, unfolding(crate::specs::state::Memory::state_of))]
     pub(crate) fn epoch(&self) -> u64
         ensures { result ≡ (state_of self.now).epoch }
     {
@@ -31,6 +38,13 @@ impl Memory {
         ensures { result ≡ (state_of self.now).logs }
     {
         self.tails.len() as u8
+    }
+
+    #[tactic(auto, unfolding(crate::specs::state::Memory::state_of))]
+    pub(crate) fn scope(&self, owner: u8) -> u64
+        ensures { result ≡ (state_of self.now).scope owner }
+    {
+        self.scopes.get(owner as usize).copied().unwrap_or(0)
     }
 
     #[tactic(auto, unfolding(crate::specs::state::Memory::state_of))]
@@ -126,6 +140,14 @@ impl Memory {
         ensures { result ≡ (state_of self.now).word at }
     {
         self.words[at]
+    }
+
+    #[tactic(auto, unfolding(crate::specs::state::Memory::state_of))]
+    pub(crate) fn starts(&self, at: usize) -> bool
+        requires { at < LOG_WORDS * (state_of self.now).logs }
+        ensures { result ≡ (state_of self.now).starts at }
+    {
+        self.starts[at]
     }
 
     #[tactic(auto, unfolding(crate::specs::state::Memory::state_of))]
