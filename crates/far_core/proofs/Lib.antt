@@ -1,5 +1,6 @@
 pub mod Begins
 pub mod Bounds
+pub mod Calls
 pub mod Cells
 pub mod Frames
 pub mod Guards

@@ -8,6 +8,7 @@ pub mod Name
 pub mod Naming
 pub mod NamingRow
 pub mod NewSpans
+pub mod Next
 pub mod Open
 pub mod Owners
 pub mod Pin

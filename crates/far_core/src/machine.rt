@@ -3,10 +3,10 @@
 ghost use Rattle.far_core.specs.state.Law.{Law};
 ghost use Rattle.far_core.specs.state.Memory.{state_of};
 
+mod calls;
 pub mod laws;
 mod observing;
 mod opening;
-mod running;
 
 use crate::memory::Memory;
 

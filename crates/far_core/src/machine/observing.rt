@@ -1,12 +1,16 @@
 //! What a core shows: shape, words and views, one at a time.
 
-ghost use Rattle.std.specs.Prelude.{◌≡◌, ◌<◌, not, ◌==◌, is_some};
+ghost use Rattle.std.specs.Prelude.{◌≡◌, ◌+◌, ◌*◌, ◌<◌, not, ◌==◌, is_some};
+ghost use Rattle.far_word.specs.Scope.{epoch_end};
+ghost use Rattle.far_word.specs.declared.sizes.TheConstants.{LOG_WORDS};
 ghost use Rattle.far_core.specs.state.CoreState.{core_state};
 ghost use Rattle.far_core.specs.state.Memory.{state_of};
 ghost use Rattle.far_core.specs.events.Step.{is_opened};
 
 use crate::event::Kind;
 use crate::machine::Core;
+use crate::memory::reading::first_word;
+use far_word::Place;
 
 impl Core {
     /// The logs of the heap, 2 to 64.
@@ -21,6 +25,21 @@ impl Core {
         ensures { result ≡ (core_state self.now).mutators }
     {
         self.memory.mutators()
+    }
+
+    /// Whether the far side gives back what it was given, for good. No event changes it.
+    pub fn is_honest(&self) -> bool
+        ensures { result ≡ (core_state self.now).honest }
+    {
+        self.memory.is_honest()
+    }
+
+    /// The epoch, below 2^62.
+    pub fn epoch(&self) -> u64
+        ensures is { result ≡ (core_state self.now).epoch }
+        ensures below { result < epoch_end }
+    {
+        self.memory.epoch()
     }
 
     /// What a log is.
@@ -47,11 +66,44 @@ impl Core {
         self.memory.current()
     }
 
+    /// The word `at` of a log, 0 to 127.
+    pub fn word(&self, log: u8, at: u16) -> u64
+        requires log { log < (core_state self.now).logs }
+        requires at { at < LOG_WORDS }
+        ensures { result ≡ (core_state self.now).word (log * LOG_WORDS + at) }
+    {
+        self.memory.word(first_word(Place { log, at }))
+    }
+
+    /// Whether a span begins at the word `at` of a log, 0 to 127: a header stands there.
+    pub fn starts(&self, log: u8, at: u16) -> bool
+        requires log { log < (core_state self.now).logs }
+        requires at { at < LOG_WORDS }
+        ensures { result ≡ (core_state self.now).starts (log * LOG_WORDS + at) }
+    {
+        self.memory.starts(first_word(Place { log, at }))
+    }
+
+    /// The scope word of an owner: 0 where it is closed, `2 * e + 1` where it is open at epoch `e`; 0 for a number that is
+    /// no owner's.
+    pub fn scope(&self, owner: u8) -> u64
+        ensures { result ≡ (core_state self.now).scope owner }
+    {
+        self.memory.scope(owner)
+    }
+
     /// Whether an owner's scope is open; false for a number that is no owner's.
     pub fn is_open(&self, owner: u8) -> bool
         ensures { result ≡ is_opened (core_state self.now) owner }
     {
         self.memory.is_opened(owner)
+    }
+
+    /// The epoch that an owner has read since its last close, the latest; `None` for a number that is no owner's.
+    pub fn remembered(&self, owner: u8) -> Option<u64>
+        ensures { result ≡ (core_state self.now).remembered owner }
+    {
+        self.memory.remembered(owner)
     }
 
     /// Whether an owner has read an epoch since its last close.
@@ -66,6 +118,13 @@ impl Core {
         ensures { result ≡ (core_state self.now).used pointer }
     {
         self.memory.uses(pointer)
+    }
+
+    /// Where a pointer's object lies, if its owner holds it; `None` for a number that is no pointer's.
+    pub fn held(&self, pointer: u16) -> Option<Place>
+        ensures { result ≡ (core_state self.now).held pointer }
+    {
+        self.memory.held(pointer)
     }
 
     /// Whether its owner holds a pointer's object; false for a number that is no pointer's.

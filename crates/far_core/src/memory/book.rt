@@ -6,7 +6,8 @@ ghost use Rattle.far_core.specs.declared.event.Event.{Event};
 ghost use Rattle.far_core.specs.state.Law.{Law};
 ghost use Rattle.far_core.specs.events.Naming.{IsOnLayout, naming_row, no_marks};
 ghost use Rattle.far_core.specs.events.NewSpans.{goes_at, is_new_span, with_span};
-ghost use Rattle.far_core.specs.events.Step.{step_of, is_past};
+ghost use Rattle.far_core.specs.events.Next.{next_state};
+ghost use Rattle.far_core.specs.events.Step.{answer, is_legal, step_of, is_past};
 ghost use Rattle.far_core.specs.events.Mark.{may_mark, is_sealed};
 ghost use Rattle.far_core.specs.state.Memory.{state_of};
 ghost use Rattle.far_word.specs.Pointer.{IsPtr, read_of};
@@ -18,15 +19,20 @@ use crate::memory::reading::first_word;
 use crate::naming::Naming;
 use far_word::{CELLS, HeadWord, LOG_WORDS, Mark, Place, PtrWord, size_of, words_for};
 
+#[tactic(auto, unfolding(crate::specs::events::Next::next_state))]
 impl Memory {
-    pub(crate) fn put(&mut self, log: u8, at: u16, word: u64) -> Reply
-        ensures { (state_of self.new, result) ≡ step_of (state_of self.old) (Event.Put log at word) }
+    pub(crate) fn may_put(&self, log: u8, at: u16, word: u64) -> bool
+        ensures { result ≡ is_legal (state_of self.now) (Event.Put log at word) }
     {
-        if !self.has_log(log) || at >= LOG_WORDS || !is_past(self.kind(log), at, self.tail(log)) {
-            return Reply::Refused;
-        }
+        self.has_log(log) && at < LOG_WORDS && is_past(self.kind(log), at, self.tail(log))
+    }
+
+    pub(crate) fn put(&mut self, log: u8, at: u16, word: u64)
+        requires log { log < (state_of self.old).logs }
+        requires at { at < LOG_WORDS }
+        ensures { state_of self.new ≡ next_state (state_of self.old) (Event.Put log at word) }
+    {
         self.set_word(first_word(Place { log, at }), word);
-        Reply::Done
     }
 
     pub(crate) fn name(&mut self, pointer: u16, old: u64, new: u64) -> Reply
@@ -74,28 +80,24 @@ impl Memory {
         }
     }
 
-    pub(crate) fn see(&self, pointer: u16) -> Reply
-        ensures { (state_of self.now, result) ≡ step_of (state_of self.now) (Event.See pointer) }
+    pub(crate) fn may_mark(&self, pointer: u16) -> bool
+        ensures { result ≡ is_legal (state_of self.now) (Event.Mark pointer) }
     {
-        if !self.has_pointer(pointer) {
-            return Reply::Refused;
-        }
-        Reply::Word(self.cell(pointer))
+        self.has_pointer(pointer) && self.is_sealed_near(self.cell_at(pointer))
     }
 
-    pub(crate) fn mark(&mut self, pointer: u16) -> Reply
-        ensures { (state_of self.new, result) ≡ step_of (state_of self.old) (Event.Mark pointer) }
+    pub(crate) fn mark(&mut self, pointer: u16) -> u64
+        requires { pointer < CELLS * (state_of self.old).mutators }
+        ensures state { state_of self.new ≡ next_state (state_of self.old) (Event.Mark pointer) }
+        ensures word { answer (state_of self.old) (Event.Mark pointer) ≡ Reply.Word result }
     {
-        let old = self.cell(pointer);
-        if !self.has_pointer(pointer) || !self.may_mark(old) {
-            return Reply::Refused;
-        }
+        let old = self.cell_at(pointer);
         self.set_cell(pointer, old | Mark::Evac.mask());
-        Reply::Word(old)
+        old
     }
 
     /// Whether a cell is near in a sealed log.
-    fn may_mark(&self, cell: u64) -> bool
+    fn is_sealed_near(&self, cell: u64) -> bool
         ensures { result ≡ may_mark (state_of self.now) (read_of cell) }
     {
         match PtrWord::read(cell) {

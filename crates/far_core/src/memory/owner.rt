@@ -1,61 +1,49 @@
 //! The events of an owner.
 
-ghost use Rattle.std.specs.Prelude.{◌≡◌, ◌≢◌, ◌/◌, ◌^◌, ◌<◌, ◌*◌};
-ghost use Rattle.far_core.specs.state.State.{State};
+ghost use Rattle.std.specs.Prelude.{◌≡◌, ◌*◌, ◌/◌, ◌<◌, IfOk, IfErr, IsSome};
 ghost use Rattle.far_core.specs.declared.event.Event.{Event};
+ghost use Rattle.far_core.specs.declared.event.Reply.{Reply};
+ghost use Rattle.far_core.specs.events.Next.{next_state};
+ghost use Rattle.far_core.specs.events.Step.{answer, data_len, data_word, is_legal, keeps_padding};
 ghost use Rattle.far_core.specs.state.Law.{Law};
-ghost use Rattle.far_core.specs.events.Step.{step_of, is_legal, keeps_padding};
 ghost use Rattle.far_core.specs.state.Memory.{state_of};
+ghost use Rattle.far_core.specs.state.State.{State};
+ghost use Rattle.far_word.specs.Sizes.{words_for};
+ghost use Rattle.far_word.specs.declared.sizes.TheConstants.{LOG_WORDS};
 
-use crate::event::Reply;
 use crate::memory::Memory;
-use crate::memory::reading::{in_use, near_data, place_to_view};
-use far_word::{CELLS, Mark, ScopeWord, words_for};
+use crate::memory::reading::{first_word, in_use, near_len, place_to_view};
+use far_word::{CELLS, Mark, Place, ScopeWord, words_for};
 
+#[tactic(auto, unfolding(crate::specs::events::Next::next_state))]
 impl Memory {
-    pub(crate) fn read_epoch(&mut self, owner: u8) -> Reply
-        ensures { (state_of self.new, result) ≡ step_of (state_of self.old) (Event.ReadEpoch owner) }
+    pub(crate) fn read_epoch(&mut self, owner: u8) -> u64
+        requires { owner < (state_of self.old).mutators }
+        ensures state { state_of self.new ≡ next_state (state_of self.old) (Event.ReadEpoch owner) }
+        ensures epoch { answer (state_of self.old) (Event.ReadEpoch owner) ≡ Reply.Epoch result }
     {
-        if !self.is_closed(owner) {
-            return Reply::Refused;
-        }
         let epoch = self.epoch();
         self.remember(owner, Some(epoch));
-        Reply::Epoch(epoch)
+        epoch
     }
 
-    pub(crate) fn open(&mut self, owner: u8) -> Reply
-        requires { Law (state_of self.old) }
-        ensures { (state_of self.new, result) ≡ step_of (state_of self.old) (Event.Open owner) }
+    pub(crate) fn may_open(&self, owner: u8) -> bool
+        ensures { result ≡ is_legal (state_of self.now) (Event.Open owner) }
     {
-        if !self.is_closed(owner) {
-            return Reply::Refused;
-        }
-        let Some(epoch) = self.remembered(owner) else {
-            return Reply::Refused;
-        };
+        self.is_closed(owner) && self.remembered(owner).is_some()
+    }
+
+    pub(crate) fn open(&mut self, owner: u8)
+        requires law { Law (state_of self.old) }
+        requires owner { owner < (state_of self.old).mutators }
+        requires remembered { IsSome ((state_of self.old).remembered owner) }
+        ensures { state_of self.new ≡ next_state (state_of self.old) (Event.Open owner) }
+    {
+        let epoch = self.remembered_epoch(owner);
         self.set_scope(owner, ScopeWord::Open { epoch }.pack());
-        Reply::Done
     }
 
-    pub(crate) fn pin(&mut self, owner: u8, pointer: u16) -> Reply
-        ensures { (state_of self.new, result) ≡ step_of (state_of self.old) (Event.Pin owner pointer) }
-    {
-        if !self.may_pin(owner, pointer) {
-            return Reply::Refused;
-        }
-        let old = self.cell(pointer);
-        self.set_cell(pointer, old | Mark::Hot.mask());
-        match place_to_view(old) {
-            Some(place) => {
-                self.hold(pointer as usize, Some(place));
-                Reply::Held(place)
-            }
-            None => Reply::Word(old),
-        }
-    }
-
-    fn may_pin(&self, owner: u8, pointer: u16) -> bool
+    pub(crate) fn may_pin(&self, owner: u8, pointer: u16) -> bool
         ensures { result ≡ is_legal (state_of self.now) (Event.Pin owner pointer) }
     {
         self.is_opened(owner)
@@ -64,57 +52,93 @@ impl Memory {
             && self.held(pointer).is_none()
     }
 
-    pub(crate) fn load(&self, owner: u8, pointer: u16, index: u16) -> Reply
-        requires { Law (state_of self.now) }
-        ensures { (state_of self.now, result) ≡ step_of (state_of self.now) (Event.Load owner pointer index) }
+    pub(crate) fn pin(&mut self, owner: u8, pointer: u16) -> Result<Place, u64>
+        requires { pointer < CELLS * (state_of self.old).mutators }
+        ensures state { state_of self.new ≡ next_state (state_of self.old) (Event.Pin owner pointer) }
+        ensures held { IfOk result (λ place. answer (state_of self.old) (Event.Pin owner pointer) ≡ Reply.Held place) }
+        ensures word { IfErr result (λ word. answer (state_of self.old) (Event.Pin owner pointer) ≡ Reply.Word word) }
     {
-        let (len, data) = near_data(self.cell(pointer));
-        if !self.holds(owner, pointer) || index >= words_for(len) {
-            return Reply::Refused;
+        let old = self.cell_at(pointer);
+        self.set_cell(pointer, old | Mark::Hot.mask());
+        match place_to_view(old) {
+            Some(place) => {
+                self.hold(pointer as usize, Some(place));
+                Ok(place)
+            }
+            None => Err(old),
         }
-        Reply::Word(self.word(data + index as usize))
     }
 
-    pub(crate) fn store(&mut self, owner: u8, pointer: u16, index: u16, word: u64) -> Reply
-        requires { Law (state_of self.old) }
-        ensures { (state_of self.new, result) ≡ step_of (state_of self.old) (Event.Store owner pointer index word) }
+    pub(crate) fn may_load(&self, owner: u8, pointer: u16, index: u16) -> bool
+        ensures { result ≡ is_legal (state_of self.now) (Event.Load owner pointer index) }
     {
-        let (len, data) = near_data(self.cell(pointer));
-        if !self.holds(owner, pointer)
-            || index >= words_for(len)
-            || !keeps_padding(len, index, word)
-        {
-            return Reply::Refused;
-        }
-        self.set_word(data + index as usize, word);
-        Reply::Done
+        self.holds(owner, pointer) && index < words_for(near_len(self.cell(pointer)))
     }
 
-    pub(crate) fn close(&mut self, owner: u8) -> Reply
-        ensures { (state_of self.new, result) ≡ step_of (state_of self.old) (Event.Close owner) }
+    pub(crate) fn load(&self, pointer: u16, index: u16) -> u64
+        requires law { Law (state_of self.now) }
+        requires held { IsSome ((state_of self.now).held pointer) }
+        requires index { index < words_for (data_len (state_of self.now) pointer) }
+        ensures { result ≡ (state_of self.now).word (data_word (state_of self.now) pointer index) }
     {
-        if !self.is_opened(owner) {
-            return Reply::Refused;
+        self.word(self.data_word(pointer, index))
+    }
+
+    pub(crate) fn may_store(&self, owner: u8, pointer: u16, index: u16, word: u64) -> bool
+        ensures { result ≡ is_legal (state_of self.now) (Event.Store owner pointer index word) }
+    {
+        if !self.holds(owner, pointer) {
+            return false;
         }
+        let len = near_len(self.cell(pointer));
+        index < words_for(len) && keeps_padding(len, index, word)
+    }
+
+    pub(crate) fn store(&mut self, owner: u8, pointer: u16, index: u16, word: u64)
+        requires law { Law (state_of self.old) }
+        requires held { IsSome ((state_of self.old).held pointer) }
+        requires index { index < words_for (data_len (state_of self.old) pointer) }
+        ensures { state_of self.new ≡ next_state (state_of self.old) (Event.Store owner pointer index word) }
+    {
+        self.set_word(self.data_word(pointer, index), word);
+    }
+
+    /// Where a data word of an object that is held stands.
+    fn data_word(&self, pointer: u16, index: u16) -> usize
+        requires law { Law (state_of self.now) }
+        requires held { IsSome ((state_of self.now).held pointer) }
+        requires index { index < words_for (data_len (state_of self.now) pointer) }
+        ensures is { result ≡ data_word (state_of self.now) pointer index }
+        ensures within { result < LOG_WORDS * (state_of self.now).logs }
+    {
+        first_word(self.held_place(pointer)) + 1 + index as usize
+    }
+
+    pub(crate) fn close(&mut self, owner: u8)
+        requires { owner < (state_of self.old).mutators }
+        ensures { state_of self.new ≡ next_state (state_of self.old) (Event.Close owner) }
+    {
         self.set_scope(owner, 0);
         self.remember(owner, None);
         self.let_go(owner);
-        Reply::Done
     }
 
-    pub(crate) fn adopt(&mut self, owner: u8, pointer: u16) -> Reply
-        ensures { (state_of self.new, result) ≡ step_of (state_of self.old) (Event.Adopt owner pointer) }
+    pub(crate) fn may_adopt(&self, owner: u8, pointer: u16) -> bool
+        ensures { result ≡ is_legal (state_of self.now) (Event.Adopt owner pointer) }
     {
-        let cell = self.cell(pointer);
-        if !self.has_owner(owner)
-            || pointer / CELLS != owner as u16
-            || self.uses(pointer)
-            || !in_use(cell)
-        {
-            return Reply::Refused;
+        if !self.has_owner(owner) || pointer / CELLS != owner as u16 {
+            return false;
         }
+        !self.uses(pointer) && in_use(self.cell_at(pointer))
+    }
+
+    pub(crate) fn adopt(&mut self, owner: u8, pointer: u16) -> u64
+        requires { pointer < CELLS * (state_of self.old).mutators }
+        ensures state { state_of self.new ≡ next_state (state_of self.old) (Event.Adopt owner pointer) }
+        ensures word { answer (state_of self.old) (Event.Adopt owner pointer) ≡ Reply.Word result }
+    {
         self.use_cell(pointer);
-        Reply::Word(cell)
+        self.cell_at(pointer)
     }
 }
 

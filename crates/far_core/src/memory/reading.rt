@@ -1,9 +1,9 @@
 //! One place of the memory read.
 
-ghost use Rattle.std.specs.Prelude.{◌≡◌, ◌*◌, ◌<◌, ◌≤◌, ◌+◌, nat_lt};
+ghost use Rattle.std.specs.Prelude.{◌≡◌, ◌*◌, ◌<◌, ◌≤◌, ◌+◌, nat_lt, IsSome, Some};
 ghost use Rattle.far_core.specs.state.State.{State, addr};
 ghost use Rattle.far_core.specs.state.Law.{in_use};
-ghost use Rattle.far_core.specs.events.Step.{is_closed, is_opened, holds, place_to_view, zeros, near_data, near_len};
+ghost use Rattle.far_core.specs.events.Step.{is_closed, is_opened, holds, place_to_view, zeros, near_len};
 ghost use Rattle.far_core.specs.state.Memory.{state_of};
 ghost use Rattle.far_word.specs.Pointer.{read_of};
 
@@ -12,6 +12,13 @@ use crate::memory::Memory;
 use far_word::{CELLS, LOG_WORDS, Place, PtrWord};
 
 impl Memory {
+    #[tactic(auto, unfolding(crate::specs::state::Memory::state_of))]
+    pub(crate) fn is_honest(&self) -> bool
+        ensures { result ≡ (state_of self.now).honest }
+    {
+        self.honest
+    }
+
     #[tactic(auto, unfolding(crate::specs::state::Memory::state_of))]
     pub(crate) fn epoch(&self) -> u64
         ensures { result ≡ (state_of self.now).epoch }
@@ -31,6 +38,13 @@ impl Memory {
         ensures { result ≡ (state_of self.now).logs }
     {
         self.tails.len() as u8
+    }
+
+    #[tactic(auto, unfolding(crate::specs::state::Memory::state_of))]
+    pub(crate) fn scope(&self, owner: u8) -> u64
+        ensures { result ≡ (state_of self.now).scope owner }
+    {
+        self.scopes.get(owner as usize).copied().unwrap_or(0)
     }
 
     #[tactic(auto, unfolding(crate::specs::state::Memory::state_of))]
@@ -76,6 +90,14 @@ impl Memory {
     }
 
     #[tactic(auto, unfolding(crate::specs::state::Memory::state_of))]
+    pub(crate) fn remembered_epoch(&self, owner: u8) -> u64
+        requires { IsSome ((state_of self.now).remembered owner) }
+        ensures { (state_of self.now).remembered owner ≡ Some result }
+    {
+        self.remembered[owner as usize].unwrap()
+    }
+
+    #[tactic(auto, unfolding(crate::specs::state::Memory::state_of))]
     pub(crate) fn uses(&self, pointer: u16) -> bool
         ensures { result ≡ (state_of self.now).used pointer }
     {
@@ -90,10 +112,26 @@ impl Memory {
     }
 
     #[tactic(auto, unfolding(crate::specs::state::Memory::state_of))]
+    pub(crate) fn held_place(&self, pointer: u16) -> Place
+        requires { IsSome ((state_of self.now).held pointer) }
+        ensures { (state_of self.now).held pointer ≡ Some result }
+    {
+        self.held[pointer as usize].unwrap()
+    }
+
+    #[tactic(auto, unfolding(crate::specs::state::Memory::state_of))]
     pub(crate) fn cell(&self, pointer: u16) -> u64
         ensures { result ≡ (state_of self.now).cell pointer }
     {
         self.cells.get(pointer as usize).copied().unwrap_or(0)
+    }
+
+    #[tactic(auto, unfolding(crate::specs::state::Memory::state_of))]
+    pub(crate) fn cell_at(&self, pointer: u16) -> u64
+        requires { pointer < CELLS * (state_of self.now).mutators }
+        ensures { result ≡ (state_of self.now).cell pointer }
+    {
+        self.cells[pointer as usize]
     }
 
     #[tactic(auto, unfolding(crate::specs::state::Memory::state_of))]
@@ -102,6 +140,14 @@ impl Memory {
         ensures { result ≡ (state_of self.now).word at }
     {
         self.words[at]
+    }
+
+    #[tactic(auto, unfolding(crate::specs::state::Memory::state_of))]
+    pub(crate) fn starts(&self, at: usize) -> bool
+        requires { at < LOG_WORDS * (state_of self.now).logs }
+        ensures { result ≡ (state_of self.now).starts at }
+    {
+        self.starts[at]
     }
 
     #[tactic(auto, unfolding(crate::specs::state::Memory::state_of))]
@@ -160,14 +206,13 @@ pub(crate) fn place_to_view(cell: u64) -> Option<Place>
     }
 }
 
-/// The length of a near cell's object and its first data word; zeros for any other cell.
-pub(crate) fn near_data(cell: u64) -> (u16, usize)
-    ensures len { result.0 ≡ near_len (read_of cell) }
-    ensures data { result.1 ≡ near_data (read_of cell) }
+/// The length of a near cell's object; 0 for any other cell.
+pub(crate) fn near_len(cell: u64) -> u16
+    ensures { result ≡ near_len (read_of cell) }
 {
     match PtrWord::read(cell) {
-        Some(PtrWord::Near { len, place, .. }) => (len, first_word(place) + 1),
-        _ => (0, 0),
+        Some(PtrWord::Near { len, .. }) => len,
+        _ => 0,
     }
 }
 

@@ -1,0 +1,52 @@
+-- What a typed call leaves: the state after its event, which keeps the law.
+use Rattle.std.proofs.Common.{◌≡◌, ℕ, ◌+◌, ◌-◌, ◌*◌, ◌^◌, ◌/◌, ◌<◌, Some, ap, arith, refl, true}
+use Rattle.std.proofs.lemmas.Bool.{cond_both}
+use Rattle.std.proofs.lemmas.Bool.Decides.{nat_tests}
+use Rattle.std.specs.Prelude.{is_some, IsSome, ◌==◌}
+use Rattle.far_word.specs.declared.sizes.TheConstants.{CELLS, LOG_WORDS}
+use Rattle.far_word.specs.Sizes.{words_for}
+use Rattle.far_word.specs.declared.pointer.Place.{Place}
+use Rattle.far_core.specs.declared.event.Event.{Event}
+use Rattle.far_core.specs.declared.event.Event.TheVariants.{Name, Store}
+use Rattle.far_core.specs.declared.event.Reply.{Reply}
+use Rattle.far_core.specs.declared.event.Reply.TheVariants.{Done, Word}
+use Rattle.far_core.specs.events.Legal.{Legal}
+use Rattle.far_core.specs.events.Next.{next_state}
+use Rattle.far_core.specs.events.Step.{Fits, after, answer, data_len, data_word, holds, is_legal, near_data}
+use Rattle.far_core.specs.state.Law.{Law}
+use Rattle.far_core.specs.state.State.{State, addr}
+use Rattle.far_core.proofs.Cells.{held_near}
+use Rattle.far_core.proofs.Owing.{keeps, is_fact}
+use Rattle.far_core.proofs.Bounds.{in_memory}
+
+pub next_is_after : (s : State) (e : Event) → next_state s e ≡ after s e
+unfolding next_state
+next_is_after s e = refl
+
+pub next_keeps_law : (s : State) (e : Event) → Law s → Legal s e → Fits e → Law (next_state s e)
+unfolding next_state
+next_keeps_law s e law legal fits = keeps s e law fits legal
+
+-- a data word of an object that is held stands behind its place's header, and is a word of the heap
+pub word_behind : (s : State) → Law s → (p i : ℕ) (place : Place) → s.held p ≡ Some place → data_word s p i ≡ addr place + 1 + i
+word_behind s law p i place held = ap (λ o. near_data o + i) (held_near _ place (law.views.held_names p place held)).near
+
+pub word_inside : (s : State) → Law s → (p i : ℕ) (place : Place) → s.held p ≡ Some place → i < words_for (data_len s p) → addr place + 1 + i < LOG_WORDS * s.logs
+word_inside s law p i place held inside =
+    let some : is_some (s.held p) ≡ true = ap is_some held in
+    let own : (p / CELLS == p / CELLS) ≡ true = grind (arith, nat_tests) in
+    let holds_it : holds s (p / CELLS) p ≡ true = rw (own, some) refl in
+    omega (arith, word_behind s law p i place held, in_memory s law (p / CELLS) p i holds_it inside)
+
+-- a legal naming wins or finds another word
+pub name_replies : (s : State) (p old new : ℕ) (r : Reply) → r ≡ answer s (Name p old new) → (r ≡ Done → ⊥) → ((x : ℕ) → r ≡ Word x → ⊥) → ⊥
+name_replies s p old new r is done word = cond_both (s.cell p == old) Done (Word (s.cell p)) (λ a. r ≡ a → ⊥) (λ _ e. done e) (λ _ e. word (s.cell p) e) is
+
+-- the guard of a store by what its caller knows
+pub store_keeps_law : (s : State) (m p i w : ℕ) → Law s → p / CELLS ≡ m → IsSome (s.held p) → i < words_for (data_len s p) → w < 2 ^ (8 * (data_len s p - 8 * i)) → w < 2 ^ 64 → Law (next_state s (Store m p i w))
+unfolding next_state
+store_keeps_law s m p i w law own held inside padding fits =
+    let some : is_some (s.held p) ≡ true = held in
+    let h : holds s m p ≡ true = grind (arith, nat_tests) in
+    let legal : is_legal s (Store m p i w) ≡ true = grind (arith, nat_tests) in
+    keeps s (Store m p i w) law fits (is_fact s (Store m p i w) law legal)

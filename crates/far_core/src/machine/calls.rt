@@ -1,0 +1,219 @@
+//! Events made: one by one, each by a call of its own or as data, and lists of them.
+
+ghost use Rattle.std.specs.Prelude.{◌≡◌, ◌↔◌, ◌-◌, ◌*◌, ◌/◌, ◌^◌, ◌<◌, false, List, map, IsSome, IfOk, IfErr, IfSome, IfNone};
+ghost use Rattle.far_word.specs.declared.sizes.TheConstants.{CELLS};
+ghost use Rattle.far_word.specs.Sizes.{words_for};
+ghost use Rattle.far_core.specs.events.Legal.{Legal};
+ghost use Rattle.far_core.specs.events.Step.{step_of, after, answer, data_len, Fits};
+ghost use Rattle.far_core.specs.state.Agrees.{Agrees};
+ghost use Rattle.far_core.specs.state.CoreState.{core_state};
+ghost use Rattle.far_core.specs.state.Law.{Law};
+ghost use Rattle.far_core.specs.state.Memory.{state_of};
+ghost use Rattle.far_core.specs.state.State.{State};
+ghost use Rattle.far_core.specs.world.Happens.{Happens};
+ghost use Rattle.far_core.specs.world.Runs.{Leads, Passes, Runs};
+ghost use Rattle.far_core.specs.world.WorldOf.{world_of};
+
+use crate::event::{Event, Reply};
+use crate::machine::Core;
+use crate::memory::Memory;
+use crate::memory::reading::in_use;
+use far_word::{Place, Refused};
+use std::alloc::Global;
+
+/// An event each, with its guard as the condition. Owners, pointers, logs and words are numbered as in [`Event`]. No call
+/// here takes memory.
+#[tactic(auto, using(crate::proofs::Calls::next_is_after, crate::proofs::Calls::next_keeps_law))]
+impl Core {
+    /// A closed owner remembers the epoch: this one, below 2^62.
+    #[inline]
+    pub fn read_epoch(&mut self, owner: u8) -> u64
+        requires legal { Legal (core_state self.old) (Event.ReadEpoch owner) }
+        ensures state { core_state self.new ≡ after (core_state self.old) (Event.ReadEpoch owner) }
+        ensures epoch { answer (core_state self.old) (Event.ReadEpoch owner) ≡ Reply.Epoch result }
+    {
+        self.memory.read_epoch(owner)
+    }
+
+    /// A closed owner opens its scope at the epoch that it remembers.
+    #[inline]
+    pub fn open(&mut self, owner: u8)
+        requires legal { Legal (core_state self.old) (Event.Open owner) }
+        ensures state { core_state self.new ≡ after (core_state self.old) (Event.Open owner) }
+    {
+        self.memory.open(owner);
+    }
+
+    /// An open owner sets HOT on a pointer that it uses and doesn't hold. `Ok` with the object's place, which it holds
+    /// from then on; `Err` with the old word, where that isn't present or has EVAC, MOVE or DROP.
+    #[inline]
+    pub fn pin(&mut self, owner: u8, pointer: u16) -> Result<Place, u64>
+        requires legal { Legal (core_state self.old) (Event.Pin owner pointer) }
+        ensures state { core_state self.new ≡ after (core_state self.old) (Event.Pin owner pointer) }
+        ensures held { IfOk result (λ place. answer (core_state self.old) (Event.Pin owner pointer) ≡ Reply.Held place) }
+        ensures word { IfErr result (λ word. answer (core_state self.old) (Event.Pin owner pointer) ≡ Reply.Word word) }
+    {
+        self.memory.pin(owner, pointer)
+    }
+
+    /// Data word `index` of an object that its owner holds: bytes `8 * index` to `8 * index + 7`, little end first, zeros
+    /// past the object's end.
+    #[inline]
+    pub fn load(&self, owner: u8, pointer: u16, index: u16) -> u64
+        // the guard, in what its owner knows
+        requires own { pointer / CELLS ≡ owner }
+        requires held { IsSome ((core_state self.now).held pointer) }
+        requires inside { index < words_for (data_len (core_state self.now) pointer) }
+        ensures word { answer (core_state self.now) (Event.Load owner pointer index) ≡ Reply.Word result }
+    {
+        self.memory.load(pointer, index)
+    }
+
+    /// Data word `index` of an object that its owner holds becomes `word`, whose bytes past the object's end are 0.
+    #[inline]
+    #[tactic(auto, using(crate::proofs::Calls::next_is_after, crate::proofs::Calls::store_keeps_law))]
+    pub fn store(&mut self, owner: u8, pointer: u16, index: u16, word: u64)
+        // the guard, in what its owner knows
+        requires own { pointer / CELLS ≡ owner }
+        requires held { IsSome ((core_state self.old).held pointer) }
+        requires inside { index < words_for (data_len (core_state self.old) pointer) }
+        requires padding { word < 2 ^ (8 * (data_len (core_state self.old) pointer - 8 * index)) }
+        ensures state { core_state self.new ≡ after (core_state self.old) (Event.Store owner pointer index word) }
+    {
+        self.memory.store(owner, pointer, index, word);
+    }
+
+    /// An open owner closes its scope, and holds and remembers nothing from then on.
+    #[inline]
+    pub fn close(&mut self, owner: u8)
+        requires legal { Legal (core_state self.old) (Event.Close owner) }
+        ensures state { core_state self.new ≡ after (core_state self.old) (Event.Close owner) }
+    {
+        self.memory.close(owner);
+    }
+
+    /// An owner uses a pointer of its own that it doesn't use yet: `Some` with the pointer's word. The word's part of the
+    /// guard, which no owner knows, is tested: `None`, and nothing has changed, where the word is free or has DROP.
+    #[inline]
+    pub fn adopt(&mut self, owner: u8, pointer: u16) -> Option<u64>
+        requires owner { owner < (core_state self.old).mutators }
+        requires own { pointer / CELLS ≡ owner }
+        requires unused { (core_state self.old).used pointer ≡ false }
+        ensures legal { IsSome result ↔ Legal (core_state self.old) (Event.Adopt owner pointer) }
+        ensures state { IfSome result (λ _. core_state self.new ≡ after (core_state self.old) (Event.Adopt owner pointer)) }
+        ensures word { IfSome result (λ word. answer (core_state self.old) (Event.Adopt owner pointer) ≡ Reply.Word word) }
+        ensures refused { IfNone result (core_state self.new ≡ core_state self.old) }
+    {
+        if !in_use(self.memory.cell_at(pointer)) {
+            return None;
+        }
+        Some(self.memory.adopt(owner, pointer))
+    }
+
+    /// The word `at` of a log that is open or free, at or past its tail, becomes `word`.
+    #[inline]
+    pub fn put(&mut self, log: u8, at: u16, word: u64)
+        requires legal { Legal (core_state self.old) (Event.Put log at word) }
+        ensures state { core_state self.new ≡ after (core_state self.old) (Event.Put log at word) }
+    {
+        self.memory.put(log, at, word);
+    }
+
+    /// The cell of a pointer goes from `old` to `new`, where it is `old`; else `Err` with the cell that was found, and
+    /// nothing has changed.
+    #[inline]
+    pub fn name(&mut self, pointer: u16, old: u64, new: u64) -> Result<(), u64>
+        requires legal { Legal (core_state self.old) (Event.Name pointer old new) }
+        ensures state { core_state self.new ≡ after (core_state self.old) (Event.Name pointer old new) }
+        ensures won { IfOk result (λ _. answer (core_state self.old) (Event.Name pointer old new) ≡ Reply.Done) }
+        ensures found { IfErr result (λ cell. answer (core_state self.old) (Event.Name pointer old new) ≡ Reply.Word cell) }
+    {
+        match self.memory.name(pointer, old, new) {
+            Reply::Done => Ok(()),
+            Reply::Word(cell) => Err(cell),
+            _ => unreachable!(),
+        }
+    }
+
+    /// The cell of a pointer.
+    #[inline]
+    pub fn see(&self, pointer: u16) -> u64
+        requires legal { Legal (core_state self.now) (Event.See pointer) }
+        ensures word { answer (core_state self.now) (Event.See pointer) ≡ Reply.Word result }
+    {
+        self.memory.cell_at(pointer)
+    }
+
+    /// A near pointer whose place lies in a sealed log gets EVAC: its word before.
+    #[inline]
+    pub fn mark(&mut self, pointer: u16) -> u64
+        requires legal { Legal (core_state self.old) (Event.Mark pointer) }
+        ensures state { core_state self.new ≡ after (core_state self.old) (Event.Mark pointer) }
+        ensures word { answer (core_state self.old) (Event.Mark pointer) ≡ Reply.Word result }
+    {
+        self.memory.mark(pointer)
+    }
+}
+
+#[tactic(auto, using(crate::proofs::Calls::next_is_after))]
+impl Memory {
+    /// A row an event: its test, its call and the reply.
+    #[inline]
+    #[rattlefmt::skip]
+    fn apply(&mut self, event: Event) -> Reply
+        requires { Law (state_of self.old) }
+        ensures step { (state_of self.new, result) ≡ step_of (state_of self.old) event }
+        ensures fits { Fits event }
+    {
+        match event {
+            Event::ReadEpoch { owner } if self.is_closed(owner) => Reply::Epoch(self.read_epoch(owner)),
+            Event::Open { owner } if self.may_open(owner) => { self.open(owner); Reply::Done }
+            Event::Pin { owner, pointer } if self.may_pin(owner, pointer) =>
+                self.pin(owner, pointer).map_or_else(Reply::Word, Reply::Held),
+            Event::Load { owner, pointer, index } if self.may_load(owner, pointer, index) =>
+                Reply::Word(self.load(pointer, index)),
+            Event::Store { owner, pointer, index, word } if self.may_store(owner, pointer, index, word) =>
+                { self.store(owner, pointer, index, word); Reply::Done }
+            Event::Close { owner } if self.is_opened(owner) => { self.close(owner); Reply::Done }
+            Event::Adopt { owner, pointer } if self.may_adopt(owner, pointer) =>
+                Reply::Word(self.adopt(owner, pointer)),
+            Event::Put { log, at, word } if self.may_put(log, at, word) => { self.put(log, at, word); Reply::Done }
+            Event::Name { pointer, old, new } => self.name(pointer, old, new),
+            Event::See { pointer } if self.has_pointer(pointer) => Reply::Word(self.cell_at(pointer)),
+            Event::Mark { pointer } if self.may_mark(pointer) => Reply::Word(self.mark(pointer)),
+            _ => Reply::Refused,
+        }
+    }
+}
+
+impl Core {
+    /// Makes one event. One that isn't legal is answered [`Reply::Refused`] and changes nothing at all. Takes no memory.
+    pub fn step(&mut self, event: Event) -> Reply
+        ensures step { (core_state self.new, result) ≡ step_of (core_state self.old) event }
+        ensures legal { Legal (core_state self.old) event → (core_state self.new ≡ after (core_state self.old) event) × (result ≡ answer (core_state self.old) event) }
+        ensures refused { ¬ (Legal (core_state self.old) event) → (core_state self.new ≡ core_state self.old) × (result ≡ Reply.Refused) }
+        ensures refused_only { result ≡ Reply.Refused → ¬ (Legal (core_state self.old) event) }
+        ensures law { Law (core_state self.new) }
+        ensures agrees { Agrees (core_state self.new) }
+        ensures world { Happens (world_of (core_state self.old)) event result (world_of (core_state self.new)) }
+    {
+        self.memory.apply(event)
+    }
+
+    /// Makes events in order, and answers the reply to each. The room for all replies is taken first: refused
+    /// [`Refused::Memory`], no event was made. Refused so alone.
+    pub fn run(&mut self, alloc: Global, events: &[Event]) -> Result<Vec<Reply>, Refused>
+        ensures runs { IfOk result (λ replies. (states : List State) × Leads (core_state self.old) events.now replies.items states (core_state self.new)
+            × Runs (world_of (core_state self.old)) events.now replies.items (map world_of states)) }
+        ensures refused { IfErr result (λ why. (why ≡ Refused.Memory) × (core_state self.new ≡ core_state self.old)) }
+    {
+        let Ok(mut replies) = Vec::with_capacity(alloc, events.len()) else {
+            return Err(Refused::Memory);
+        };
+        for event in events {
+            let reply = self.step(*event);
+            replies.push_reserved(reply);
+        }
+        Ok(replies)
+    }
+}
