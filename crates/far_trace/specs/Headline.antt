@@ -42,7 +42,7 @@ LogsStay s (c ∷ cs) (t ∷ ts) = StayThrough s c × LogsStay t cs ts
 abbrev pub IsWhole : State → Type 0
 IsWhole t = ((p : ℕ) → HasOnePlace t p) × ((l : ℕ) → live_bytes t l + dead_bytes t l + unused_bytes t l ≡ 8 * LOG_WORDS) × NamesOnce t
 
--- the refusals that a command may have where all objects are near: none for want of memory, none of a device, none that tells a mark
+-- the refusals that a command may have where all objects are near: none as out of memory, none of a device, none for a mark
 abbrev pub MayRefuse : Command → Refusal → Type 0
 MayRefuse (New m len ds) Range = Unit {0}
 MayRefuse (New m len ds) Length = Unit {0}
@@ -60,7 +60,7 @@ MayRefuse (Write m p from bytes) Closed = Unit {0}
 MayRefuse (Write m p from bytes) NotHeld = Unit {0}
 MayRefuse c why = ⊥
 
--- a line tells a log's kind and its live, dead and unused bytes, which make 1,024
+-- a line reports a log's kind and its live, dead and unused bytes, which make 1,024
 pub record TellsLog (s : State) (line : LogLine) : Type 0 where
   pub kind : line.kind ≡ kind_told (s.kind line.log)
   pub live : line.live ≡ live_bytes s line.log
@@ -68,7 +68,7 @@ pub record TellsLog (s : State) (line : LogLine) : Type 0 where
   pub unused : line.unused ≡ unused_bytes s line.log
   pub whole : line.live + line.dead + line.unused ≡ 8 * LOG_WORDS
 
--- the logs are told: one line for each, by number
+-- the logs are reported: one line for each, by number
 abbrev pub TellsAll : State → Reply → Type 0
 TellsAll s (Logs lines) = (map (λ line. line.log) lines ≡ range_with_len 0 s.logs) × ((line : LogLine) → Contains lines line → TellsLog s line)
 TellsAll s _ = ⊥
@@ -113,11 +113,11 @@ TextsBeginWithHeap = (text : List ℕ) (cs : List Command) → commands_of text 
 abbrev pub RefusalsChangeNothing : Type 0
 RefusalsChangeNothing = (s : State) (c : Command) (r : Reply) (t : State) (why : Refusal) → Commanded s c r t → r ≡ Refused why → t ≡ s
 
--- a line of a mutator that the heap hasn't is refused 8
+-- a line of an unknown mutator, one that the heap hasn't, is refused 8
 abbrev pub StrangersAreRefused : Type 0
 StrangersAreRefused = (s : State) (c : Command) (r : Reply) (t : State) (m : ℕ) → IsSaidBy m c → s.mutators ≤ m → Commanded s c r t → r ≡ Refused Range
 
--- what `logs` tells
+-- what `logs` reports
 abbrev pub LogsAreTold : Type 0
 LogsAreTold = (s : State) (r : Reply) (t : State) → Law s → Commanded s AsksLogs r t → TellsAll s r
 
@@ -138,7 +138,7 @@ abbrev pub MutatorsAreAlone : Type 0
 MutatorsAreAlone = (logs mutators m : ℕ) (cs : List Command) (rs : List Reply) (ts : List State) → is_shape (shape_of logs mutators) ≡ true → m < mutators → AreLater cs →
     Answered (first_state logs mutators) cs rs ts → Alone m nothing cs rs
 
--- in a text that is read, the commands behind the first are such
+-- in a text that is read, the commands after the first are such
 abbrev pub LinesAreLater : Type 0
 LinesAreLater = (text : List ℕ) (c : Command) (cs : List Command) → commands_of text ≡ Ok (c ∷ cs) → AreLater cs
 

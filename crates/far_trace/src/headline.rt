@@ -18,7 +18,7 @@ pub fn viewed_logs_stay()
     ensures { ViewedLogsStay }
 {}
 
-/// In a text that is read, the commands behind the first are no heap, and those that write, write bytes.
+/// In a text that is read, the commands after the first are no heap, and those that write, write bytes.
 pub fn lines_are_later()
     ensures { LinesAreLater }
 {}
@@ -28,8 +28,8 @@ pub fn mutators_are_alone()
     ensures { MutatorsAreAlone }
 {}
 
-/// No command behind the heap is refused for want of memory, by a device or for a mark; for want of a pointer or of room
-/// a new object alone is refused.
+/// No command after the heap is refused as out of memory, by a device or for a mark; a new object alone is refused since no
+/// pointer or no room is left.
 pub fn near_refusals()
     ensures { NearRefusals }
 {}
@@ -44,7 +44,7 @@ pub fn each_text_is_answered()
     ensures { EachTextIsAnswered }
 {}
 
-/// A text that is read has no command, or a heap first and no heap behind it.
+/// A text that is read has no command, or a heap first and no heap after it.
 pub fn texts_begin_with_heap()
     ensures { TextsBeginWithHeap }
 {}
@@ -54,7 +54,7 @@ pub fn refusals_change_nothing()
     ensures { RefusalsChangeNothing }
 {}
 
-/// A line of a mutator that the heap hasn't is refused 8.
+/// A line of an unknown mutator, one that the heap hasn't, is refused 8.
 pub fn strangers_are_refused()
     ensures { StrangersAreRefused }
 {}
@@ -64,7 +64,7 @@ pub fn views_last()
     ensures { ViewsLast }
 {}
 
-/// `logs` tells each log once, by number: its kind and its bytes, which make 1,024.
+/// `logs` reports each log once, by number: its kind and its bytes, which make 1,024.
 pub fn logs_are_told()
     ensures { LogsAreTold }
 {}

@@ -17,7 +17,7 @@ abbrev pub Tile : ℕ → List Placed → ℕ → Type 0
 Tile at [] tail = at ≡ tail
 Tile at (span ∷ spans) tail = (span.at ≡ at) × Tile (at + size_of span.len) spans tail
 
--- a span as it stands in its log: its header says whose it is, and its data words have zeros behind the last byte
+-- a span as it stands in its log: its header says whose it is, and its data words have zeros after the last byte
 pub record Stands (s : State) (l : ℕ) (span : Placed) : Type 0 where
   pub header : s.word (l * LOG_WORDS + span.at) ≡ head_word span.pointer span.len span.ds
   pub pointer : span.pointer < CELLS * s.mutators
