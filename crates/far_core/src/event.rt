@@ -53,7 +53,7 @@ pub enum Event {
     },
     /// The cell of a pointer goes from `old` to `new`, where it is `old`. Answers `Done` then, and `Word` with the
     /// cell, which stays, else. A new place alone is named so far: `old` is 0, `new` is near without marks, and
-    /// where the next span may stand a header for the pointer is written with data words of 0 behind it.
+    /// where the next span may stand a header for the pointer is written with data words of 0 after it.
     Name {
         pointer: u16,
         old: u64,

@@ -30,7 +30,8 @@ IsIn bytes from count = (0 < count) × (from + count ≤ length bytes)
 abbrev pub HasLeft : ℕ → Own → Type 0
 HasLeft m o = (p : ℕ) × (p / CELLS ≡ m) × (o.object p ≡ None)
 
--- a command of the mutator m with its reply takes what it knows from o to q
+-- a command of the mutator m with its reply takes what it knows from o to q. A refusal is the first of its row that applies; which of its own
+-- numbers a new object gets, and whether 2 or 3 comes where nothing earlier applies, depends on cells and logs, which it doesn't know
 abbrev pub Knows : ℕ → Own → Command → Reply → Own → Type 0
 Knows m o (New _ len ds) (Pointer p) q = (ds < 256) × (0 < len) × (len ≤ LONGEST) × (p / CELLS ≡ m) × (o.object p ≡ None) × (q ≡ record o { object = put o.object p (Some (replicate len 0)) })
 Knows m o (New _ len ds) (Refused Range) q = (256 ≤ ds) × (q ≡ o)

@@ -47,7 +47,8 @@ moment_behind now (c ∷ cs) = moment_behind (effect now c) cs
 abbrev pub IsMoment : Moment → Type 0
 IsMoment now = (logs mutators : ℕ) × (cs : List Command) × (is_shape (shape_of logs mutators) ≡ true) × AreLater cs × (now ≡ moment_behind (first_moment logs mutators) cs)
 
--- the output of the commands that a text is read as
+-- the output of the commands that a text is read as: off the grammar that refusal alone; for no commands nothing; for a heap out of range its
+-- refusal alone; else `ok` and the lines of the replies, from the heap's first state on
 abbrev pub IsOutput : Result (List Command) ℕ → List ℕ → Type 0
 IsOutput (Err line) output = output ≡ printed (Refused (Syntax line))
 IsOutput (Ok []) output = output ≡ []
@@ -57,13 +58,13 @@ IsOutput (Ok (Heap logs mutators ∷ commands)) output =
     (output ≡ printed (Refused Shape))
 IsOutput (Ok (_ ∷ commands)) output = output ≡ printed (Refused Shape)
 
--- the first command, if there is one, is a heap, and those behind it are not
+-- the first command, if there is one, is a heap, and those after it are not
 abbrev pub BeginsWithHeap : List Command → Type 0
 BeginsWithHeap [] = Unit {0}
 BeginsWithHeap (Heap logs mutators ∷ commands) = AreLater commands
 BeginsWithHeap (_ ∷ commands) = ⊥
 
--- how a text ends whose commands are read so
+-- how a text ends whose commands are read so: `Ran` for none and for a heap in range
 abbrev pub end_of : Result (List Command) ℕ → End
 end_of (Ok []) = Ran
 end_of (Ok (Heap logs mutators ∷ commands)) = if is_shape (shape_of logs mutators) then Ran else Turned
@@ -79,7 +80,7 @@ abbrev pub MayMakeHeap : Result (List Command) ℕ → Type 0
 MayMakeHeap (Ok (Heap logs mutators ∷ commands)) = is_shape (shape_of logs mutators) ≡ true
 MayMakeHeap _ = ⊥
 
--- what a fault leaves: a failed write, a front of the output that lacks its end; want of memory, nothing, or the one line that says so where
+-- what a fault leaves: a failed write, a front of the output that lacks its end; out of memory, nothing, or the one line that says so where
 -- the heap was refused; a failed read, nothing
 abbrev pub LeavesBehind : RunFault → Option (List ℕ) → Option (List ℕ) → Result (List Command) ℕ → Type 0
 LeavesBehind faults.Write old new commands = (output : List ℕ) × IsOutput commands output × AppendsPart old new output

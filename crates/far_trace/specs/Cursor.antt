@@ -23,7 +23,7 @@ other_parts (part ∷ parts) = parts
 abbrev pub first_line : List ℕ → List ℕ
 first_line text = first_part (lines_of text)
 
--- the lines behind the first
+-- the lines after the first
 abbrev pub lines_behind : List ℕ → List (List ℕ)
 lines_behind text = other_parts (lines_of text)
 
@@ -41,7 +41,7 @@ abbrev pub words_left : Rest → List (List ℕ)
 words_left (Words text) = words_in text.now
 words_left (Lines lines) = []
 
--- the lines behind it
+-- the lines after it
 abbrev pub lines_after : Rest → List (List ℕ)
 lines_after (Words text) = lines_behind text.now
 lines_after (Lines lines) = lines_left lines

@@ -22,12 +22,12 @@ abbrev pub ◌>>=◌ : {A B : Type 0} → Option A → (A → Option B) → Opti
 (Some x) >>= f = f x
 None >>= f = None
 
--- the number that the first word prints, and the words behind it
+-- the number that the first word prints, and the words after it
 abbrev pub next_number : List (List ℕ) → Option (ℕ × List (List ℕ))
 next_number [] = None
 next_number (word ∷ words) = number_of word >>= λ n. Some (n, words)
 
--- the bytes that the first word spells, and the words behind it
+-- the bytes that the first word spells, and the words after it
 abbrev pub next_bytes : List (List ℕ) → Option (List ℕ × List (List ℕ))
 next_bytes [] = None
 next_bytes (word ∷ words) = bytes_in word >>= λ bytes. Some (bytes, words)
@@ -154,7 +154,7 @@ lines_of text = slice_split (λ b. b == 10) text
 abbrev pub commands_of : List ℕ → Result (List Command) ℕ
 commands_of text = if nat_lt 1048576 (length text) then Err 0 else read_lines 1 true (lines_of text)
 
--- an error is want of memory, or what reading gives
+-- an error is out of memory, or what reading gives
 abbrev pub IsFault : ParseError → Result (List Command) ℕ → Type 0
 IsFault Memory read = Unit {0}
 IsFault (Syntax number) read = read ≡ Err number

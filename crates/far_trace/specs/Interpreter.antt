@@ -83,11 +83,11 @@ pub record IsNew (s : State) (mutator len ds : ℕ) (object : NewObject) : Type 
   pub cell : lowest_cell s mutator ≡ Some object.pointer
   pub goes : room s (size_of len) true ≡ Some object.place
 
--- the outcome tells the reply, whatever stands in the room
+-- the outcome reports the reply, whatever stands in the room
 abbrev pub Tells : Outcome → Reply → Type 0
 Tells outcome reply = (bytes : List ℕ) (lines : List LogLine) → told_by bytes lines outcome ≡ reply
 
--- the end of the open log, if the span fits, or else the log behind it, unless that is the last one
+-- the end of the open log, if the span fits, or else the log after it, unless that is the last one
 abbrev pub next_of : ℕ → ℕ → ℕ → ℕ → Option Place
 next_of log tail logs size =
     if nat_le (tail + size) LOG_WORDS then Some record { log = log; at = tail }

@@ -1,4 +1,4 @@
--- The commands that stand behind a heap.
+-- The commands that stand after a heap.
 use Rattle.std.specs.Prelude.{List, [], ◌∷◌}
 use Rattle.hex.specs.Hex.{IsBytes}
 use Rattle.far_trace.specs.Command.{Command, Heap, New, Open, Write, Read, Close, Logs}

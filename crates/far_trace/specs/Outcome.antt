@@ -1,4 +1,4 @@
--- The reply that an outcome is told by.
+-- The reply that an outcome reports, read from the room.
 use Rattle.std.specs.Prelude.{ℕ, ◌+◌, ◌*◌, ◌≤◌, List, take, slice_range}
 use Rattle.far_word.specs.declared.sizes.TheConstants.{LOG_WORDS, LONGEST, MOST_LOGS}
 use Rattle.far_trace.specs.declared.outcome.Outcome.{Outcome}

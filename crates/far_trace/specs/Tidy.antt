@@ -1,5 +1,5 @@
 -- What holds between two commands of this stage, beside the law: cells are named in order, logs are taken in order,
--- and every span is live.
+-- and every span is live. `turn` asks for it; neither `run` nor the laws of outputs speak of it.
 use Rattle.std.specs.Prelude.{◌≡◌, ◌≢◌, ℕ, ◌+◌, ◌*◌, ◌/◌, ◌%◌, ◌<◌, ◌≤◌, true, Some, None}
 use Rattle.far_word.specs.declared.header.HeadWord.{HeadWord}
 use Rattle.far_word.specs.declared.sizes.TheConstants.{CELLS, LOG_WORDS}

@@ -43,7 +43,7 @@ pub enum Command<'a> {
     Logs,
 }
 
-/// A command, and the lines behind its line, if any.
+/// A command, and the lines after its line, if any.
 pub type Spelled<'a> = (Command<'a>, Option<&'a [u8]>);
 
 // The command, if its line ends here.
@@ -140,7 +140,7 @@ fn is_name(word: &[u8], name: &[u8]) -> bool
     word == name
 }
 
-// The command of this name, by the words behind it.
+// The command of this name, by the words after it.
 fn named<'a>(name: &[u8], rest: Rest<'a>) -> Option<Spelled<'a>>
     ensures value { option_map (λ found. said found.0) result ≡ command_of (name.now ∷ words_left rest.entry) }
     ensures lines { IfSome result (λ found. lines_left found.1 ≡ lines_after rest.entry) }
@@ -178,7 +178,7 @@ fn named_first(text: &[u8]) -> Option<Spelled<'_>>
     named(name, rest)
 }
 
-/// The command that the first line of a text spells. The two that traces are full of are told by their first bytes.
+/// The command that the first line of a text spells. The two that traces are full of are known by their first bytes.
 pub fn command_first(text: &[u8]) -> Option<Spelled<'_>>
     ensures value { option_map (λ found. said found.0) result ≡ command_of (words_in text.now) }
     ensures lines { IfSome result (λ found. lines_left found.1 ≡ lines_behind text.now) }

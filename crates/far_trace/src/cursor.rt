@@ -9,12 +9,12 @@ ghost use Rattle.far_trace.specs.Cursor.{is_end, words_in, words_left, lines_beh
 
 use crate::hex_word::{HexWord, is_digit};
 
-/// What is left of a text behind a word of one of its lines.
+/// What is left of a text after a word of one of its lines.
 #[derive(Clone, Copy)]
 pub enum Rest<'a> {
-    /// More words of the line, and the lines behind it.
+    /// More words of the line, and the lines after it.
     Words(&'a [u8]),
-    /// The lines behind the line, if any.
+    /// The lines after the line, if any.
     Lines(Option<&'a [u8]>),
 }
 
@@ -24,7 +24,7 @@ fn ends_word(byte: u8) -> bool
     byte == b' ' || byte == b'\n'
 }
 
-// What is left behind a word that ends before this byte, or None where it goes on.
+// What is left after a word that ends before this byte, or None where it goes on.
 fn rest_at(text: &[u8], at: usize) -> Option<Rest<'_>>
     requires { at ≤ length text.now }
     ensures words { IfSome result (λ rest. words_in (drop at text.now) ≡ [] ∷ words_left rest) }
@@ -54,7 +54,7 @@ fn word_len(text: &[u8]) -> usize
     text.len()
 }
 
-/// The first word of a text, and what is left behind it.
+/// The first word of a text, and what is left after it.
 pub fn word_first(text: &[u8]) -> (&[u8], Rest<'_>)
     ensures words { words_in text.now ≡ result.0.now ∷ words_left result.1 }
     ensures lines { lines_behind text.now ≡ lines_after result.1 }
@@ -63,7 +63,7 @@ pub fn word_first(text: &[u8]) -> (&[u8], Rest<'_>)
     (&text[..len], rest_at(text, len).unwrap())
 }
 
-/// The number that the first word of a text prints, and what is left behind it.
+/// The number that the first word of a text prints, and what is left after it.
 pub fn number_first(text: &[u8]) -> Option<(u64, Rest<'_>)>
     ensures number { option_map (λ found. (found.0, words_left found.1)) result ≡ next_number (words_in text.now) }
     ensures lines { IfSome result (λ found. lines_behind text.now ≡ lines_after found.1) }
@@ -84,7 +84,7 @@ pub fn number_first(text: &[u8]) -> Option<(u64, Rest<'_>)>
     Some((n, rest))
 }
 
-/// The number that the next word prints, and what is left behind it.
+/// The number that the next word prints, and what is left after it.
 pub fn next_number_of(rest: Rest<'_>) -> Option<(u64, Rest<'_>)>
     ensures number { option_map (λ found. (found.0, words_left found.1)) result ≡ next_number (words_left rest.entry) }
     ensures lines { IfSome result (λ found. lines_after found.1 ≡ lines_after rest.entry) }
@@ -119,7 +119,7 @@ fn bytes_first(text: &[u8]) -> Option<(HexWord<'_>, Rest<'_>)>
     Some((bytes, rest))
 }
 
-/// The bytes that the next word spells, and what is left behind it.
+/// The bytes that the next word spells, and what is left after it.
 pub fn next_bytes_of(rest: Rest<'_>) -> Option<(HexWord<'_>, Rest<'_>)>
     ensures bytes { option_map (λ found. (bytes_of found.0.digits.now, words_left found.1)) result ≡ next_bytes (words_left rest.entry) }
     ensures lines { IfSome result (λ found. lines_after found.1 ≡ lines_after rest.entry) }

@@ -13,7 +13,7 @@ ghost use Rattle.far_trace.specs.Interpreter.{loaded, stores_of, word_in};
 use far_core::{Core, Event, Reply};
 use far_word::{HeadWord, Marks, Place, PtrWord, words_for};
 
-// Zeros behind a header.
+// Zeros after a header.
 fn put_zeros(core: &mut Core, place: Place, count: u16)
     requires { place.at + 1 + count ≤ LOG_WORDS }
     ensures { core_state core.new ≡ made (core_state core.old) (zero_puts place count) }

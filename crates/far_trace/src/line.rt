@@ -52,7 +52,7 @@ fn comment_first(text: &[u8]) -> Option<(Line<'_>, Option<&[u8]>)>
     Some((Line::Skipped, Some(&text[len + 1..])))
 }
 
-// How many bytes the first line of a text has, where these are the lines behind it.
+// How many bytes the first line of a text has, where these are the lines after it.
 fn line_len(text: &[u8], lines: Option<&[u8]>) -> usize
     requires { lines_left lines ≡ lines_behind text.now }
     ensures { result ≡ length (first_line text.now) }
@@ -79,7 +79,7 @@ fn said_first(text: &[u8]) -> Option<(Line<'_>, Option<&[u8]>)>
     Some((Line::Said(command), lines))
 }
 
-/// What the first line of a text says, and the lines behind it; None where it is off the grammar.
+/// What the first line of a text says, and the lines after it; None where it is off the grammar.
 pub fn line_first(text: &[u8]) -> Option<(Line<'_>, Option<&[u8]>)>
     ensures bad { IfNone result (line_of (first_line text.now) ≡ Bad) }
     ensures line { IfSome result (λ found. said_line found.0 ≡ line_of (first_line text.now)) }

@@ -1,4 +1,4 @@
-//! What a command comes to, and the room that its reply is told from.
+//! What a command comes to, and the room that its reply is read from.
 
 ghost use Rattle.std.specs.Prelude.{◌≡◌};
 ghost use Rattle.far_trace.specs.Reply.{reply_of, IsShort};

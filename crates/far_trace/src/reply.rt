@@ -20,7 +20,7 @@ pub enum LogKind {
     Sealed,
 }
 
-/// What is told of one log: its number, its kind, and its bytes.
+/// What is reported of one log: its number, its kind, and its bytes.
 #[derive(Clone, Copy, Debug, PartialEq, Eq)]
 pub struct LogLine {
     pub log: u8,

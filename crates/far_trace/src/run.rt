@@ -102,7 +102,7 @@ fn refuse<W: Write>(writer: &mut W, out: &mut Output, why: Refused) -> Result<()
     write_waiting(writer, out, written)
 }
 
-// Makes the commands behind the heap, and writes their replies. Once a write has failed it makes them without writing.
+// Makes the commands after the heap, and writes their replies. Once a write has failed it makes them without writing.
 fn answer_commands<W: Write>(
     writer: &mut W,
     out: &mut Output,
@@ -127,7 +127,7 @@ fn answer_commands<W: Write>(
     write_waiting(writer, out, written)
 }
 
-// Makes a heap and the commands behind it, and writes their replies. Refused want of memory, it writes that line alone.
+// Makes a heap and the commands after it, and writes their replies. Out of memory for the heap, it writes that line alone.
 fn answer_heap<W: Write>(
     alloc: Global,
     writer: &mut W,
@@ -161,7 +161,7 @@ fn answer_heap<W: Write>(
     }
 }
 
-// Answers the commands that a text is read as: none, or a heap and those behind it.
+// Answers the commands that a text is read as: none, or a heap and those after it.
 fn answer<W: Write>(
     alloc: Global,
     writer: &mut W,

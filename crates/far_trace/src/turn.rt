@@ -233,7 +233,7 @@ pub struct NewObject {
     place: Place,
 }
 
-// The end of the open log, if the span fits, or else the log behind it, unless that is the last one.
+// The end of the open log, if the span fits, or else the log after it, unless that is the last one.
 fn next_place(log: u8, tail: u16, logs: u8, size: u16) -> Option<Place>
     requires { (log < logs) × (logs ≤ MOST_LOGS) × (tail ≤ LOG_WORDS) × (size ≤ LOG_WORDS) }
     ensures value { result ≡ next_of log tail logs size }

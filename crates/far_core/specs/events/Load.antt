@@ -11,7 +11,7 @@ use Rattle.far_core.specs.world.Changes as change
 use Rattle.far_core.specs.events.Rule.{Form, Rule}
 use Rattle.far_core.specs.events.Owners.{holds, data_len, data_word, HoldsWord}
 
--- the word is word i of the data behind the header of the object that is held
+-- the word is word i of the data after the header of the object that is held
 abbrev pub LoadReports : State → ℕ → ℕ → ℕ → Reply → State → Type 0
 LoadReports s m p i (Word w) t = (place : Place) × (s.held p ≡ Some place) × (w ≡ s.word (addr place + 1 + i)) × (t ≡ s)
 LoadReports s m p i r t = ⊥

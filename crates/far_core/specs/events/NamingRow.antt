@@ -2,8 +2,8 @@
 use Rattle.std.specs.Prelude.{Bool}
 use Rattle.far_core.specs.state.State.{State}
 
--- whether it may be made, as a test and as a fact; the state after it, where the cell was the old word; and what this tells of the
--- state after, beside that the cell is the new word
+-- whether it may be made, as a test and as a fact; the state after it, where the cell was the old word; and what this reports
+-- of the state after, beside that the cell is the new word
 pub record NamingRow : Type 1 where
   pub test : Bool
   pub after : State

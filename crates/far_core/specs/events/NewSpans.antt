@@ -40,7 +40,7 @@ with_span s p new len place = record s {
   starts = put s.starts (addr place) true;
 }
 
--- a span is taken: its log ends behind it and is the open one; the log that was open is sealed, if it is another; no other log
+-- a span is taken: its log ends after it and is the open one; the log that was open is sealed, if it is another; no other log
 -- and no other beginning changes
 pub record Takes (s : State) (len : ℕ) (place : Place) (t : State) : Type 0 where
   pub ends : t.tail place.log ≡ place.at + size_of len

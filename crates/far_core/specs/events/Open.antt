@@ -11,8 +11,7 @@ use Rattle.far_core.specs.events.Rule.{Form, Rule}
 use Rattle.far_core.specs.events.Owners.{is_closed, IsClosed}
 use Rattle.far_word.specs.declared.scope.ScopeWord.TheVariants as scoped
 
--- the state after a legal event
--- the scope word at the epoch that was read
+-- the scope word at the epoch that was read, which may have risen since
 abbrev pub scope_word_of : Option ℕ → ℕ
 scope_word_of None = 0
 scope_word_of (Some e) = 2 * e + 1

@@ -40,7 +40,7 @@ data_len s p = near_len (read_of (s.cell p))
 abbrev pub data_word : State → ℕ → ℕ → ℕ
 data_word s p i = near_data (read_of (s.cell p)) + i
 
--- a word that leaves the bytes behind an object's end 0
+-- a word that leaves the bytes after an object's end 0
 abbrev pub keeps_padding : ℕ → ℕ → ℕ → Bool
 keeps_padding len i w = nat_lt w (2 ^ (8 * (len - 8 * i)))
 

@@ -1,4 +1,4 @@
--- What an answer tells of the words and views, beside what it tells of the world.
+-- What an answer reports of the words and views, beside what it says of the world.
 use Rattle.far_core.specs.declared.event.Event.{Event}
 use Rattle.far_core.specs.declared.event.Reply.{Reply}
 use Rattle.far_core.specs.events.Legal.{Legal}

@@ -7,7 +7,8 @@ use Rattle.far_core.specs.world.Changes.{Change, Stays}
 use Rattle.far_core.specs.events.Touch.{Touch}
 
 -- what an event is in a state: whether it is legal, as a test and as a fact; the state after it where it is, and what it
--- answers then; what its reply tells of the words and views, and what it touches
+-- answers then; what its reply reports of the words and views, and what it touches. Each `Reports` ends in
+-- a row that nothing meets: no other reply comes
 pub record Rule : Type 1 where
   pub test : Bool
   pub after : State

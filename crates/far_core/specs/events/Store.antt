@@ -11,7 +11,7 @@ use Rattle.far_core.specs.world.Changes as change
 use Rattle.far_core.specs.events.Rule.{Form, Rule}
 use Rattle.far_core.specs.events.Owners.{holds, data_len, data_word, keeps_padding, HoldsWord}
 
--- word i of the data behind the header of the object that is held is the word from now on
+-- word i of the data after the header of the object that is held is the word from now on
 abbrev pub StoreReports : State → ℕ → ℕ → ℕ → ℕ → Reply → State → Type 0
 StoreReports s m p i w Done t = (place : Place) × (s.held p ≡ Some place) × (t.word (addr place + 1 + i) ≡ w)
 StoreReports s m p i w r t = ⊥

@@ -11,7 +11,7 @@ use Rattle.far_core.specs.state.State.{State}
 abbrev pub IsFree : State → ℕ → Type 0
 IsFree s l = (l < s.logs) × (s.kind l ≡ Free)
 
--- a span of this size doesn't fit behind the tail of the open log
+-- a span of this size doesn't fit after the tail of the open log
 abbrev pub IsFull : State → ℕ → Type 0
 IsFull s size = ¬ (s.tail s.current + size ≤ LOG_WORDS)
 

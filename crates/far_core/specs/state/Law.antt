@@ -25,7 +25,7 @@ pub record Span (tail : ℕ → ℕ) (starts : ℕ → Bool) (a len : ℕ) : Typ
   pub alone : (k : ℕ) → 0 < k → k < size_of len → starts (a + k) ≡ false
   pub next : a % LOG_WORDS + size_of len < tail (a / LOG_WORDS) → starts (a + size_of len) ≡ true
 
--- the data words of a span have zeros behind the last byte
+-- the data words of a span have zeros after the last byte
 abbrev pub Padded : (ℕ → ℕ) → ℕ → ℕ → Type 0
 Padded word a len = (i : ℕ) → i < words_for len → word (a + 1 + i) < 2 ^ (8 * (len - 8 * i))
 
@@ -56,7 +56,7 @@ in_use (Some (Far len ds m)) = not m.dropped
 abbrev pub Blank : (ℕ → ℕ) → ℕ → Place → Type 0
 Blank word len place = (i : ℕ) → i < words_for len → word (addr place + 1 + i) ≡ 0
 
--- stored words of an object of this length: words of 64 bits, with zeros behind the last byte
+-- stored words of an object of this length: words of 64 bits, with zeros after the last byte
 abbrev pub IsStored : (ℕ → ℕ) → ℕ → Type 0
 IsStored stored len = (i : ℕ) → i < words_for len → (stored i < 2 ^ 64) × (stored i < 2 ^ (8 * (len - 8 * i)))
 
@@ -78,7 +78,8 @@ pub record IsShape (mutators logs : ℕ) : Type 0 where
   pub some_mutators : 1 ≤ mutators
   pub few_mutators : mutators ≤ MOST_MUTATORS
 
--- each cell is on the layout; a near one is named back by the span at its place; of a far one words are stored
+-- each cell is on the layout; a near one is named back by the span at its place, with DROP too, since a dropped cell keeps its span until it is
+-- retired; of a far one words are stored
 pub record CellLaw (mutators : ℕ) (cell word : ℕ → ℕ) (starts : ℕ → Bool) (stored : ℕ → ℕ → ℕ) : Type 0 where
   pub cell_read : (p : ℕ) → (cell p < 2 ^ 64) × IsSome (read_of (cell p))
   pub cell_range : (p : ℕ) → cell p ≢ 0 → p < CELLS * mutators
@@ -93,7 +94,7 @@ pub record SpanLaw (mutators : ℕ) (tail word : ℕ → ℕ) (starts : ℕ → 
   pub span_header : (a : ℕ) (h : HeadWord) → starts a ≡ true → head_of (word a) ≡ Some h → h.pointer < CELLS * mutators
   pub span_padding : (a : ℕ) → starts a ≡ true → Padded word a (head_len (word a))
 
--- a free log has tail 0, and exactly one log is open
+-- a free log has tail 0, exactly one log is open, and what isn't free is a log of the heap
 pub record LogLaw (logs : ℕ) (kind : ℕ → Kind) (tail : ℕ → ℕ) (current : ℕ) : Type 0 where
   pub tail_end : (l : ℕ) → tail l ≤ LOG_WORDS
   pub free_tail : (l : ℕ) → kind l ≡ Free → tail l ≡ 0
@@ -101,7 +102,7 @@ pub record LogLaw (logs : ℕ) (kind : ℕ → Kind) (tail : ℕ → ℕ) (curre
   pub is_open : kind current ≡ Open
   pub one_open : (l : ℕ) → kind l ≡ Open → l ≡ current
 
--- no open or remembered epoch is above the epoch
+-- each scope word is on the layout, and only mutators' aren't 0; no open or remembered epoch is above the epoch
 pub record ScopeLaw (mutators epoch : ℕ) (scope : ℕ → ℕ) (remembered : ℕ → Option ℕ) : Type 0 where
   pub scope_read : (m : ℕ) → IsSome (scope_of (scope m))
   pub scope_range : (m : ℕ) → scope m ≢ 0 → m < mutators
@@ -126,6 +127,7 @@ pub record RoundLaw (epoch : ℕ) (round : ℕ → Bool) (round_epoch : ℕ) (cl
   pub none_clear : (m : ℕ) → clear m ≡ false
   pub own_epoch : round_epoch ≡ epoch
 
+-- what every event keeps. It is a ghost field of `Core`, so it is so of every core at every moment
 pub record Law (s : State) : Type 0 where
   pub shape : IsShape s.mutators s.logs
   pub cells : CellLaw s.mutators s.cell s.word s.starts s.stored

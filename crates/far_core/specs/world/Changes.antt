@@ -1,4 +1,4 @@
--- The steps of the world as data, and what each is.
+-- The steps of the world as data, and what each is: a relation of Steps.antt, by the same name.
 use Rattle.std.specs.Prelude.{◌≡◌, ℕ, Option, Some, None}
 use Rattle.far_core.specs.world.World.{World}
 use Rattle.far_core.specs.world.Steps as world
@@ -37,6 +37,7 @@ Step (Drops m p) w v = world.Drops w m p v
 Step (Releases g) w v = world.Releases w g v
 Step (Holds g) w v = world.Holds w g v
 
+-- none is what nothing does: an event and a reply that don't go together
 abbrev pub StepOf : Option Change → World → World → Type 0
 StepOf None w v = ⊥
 StepOf (Some c) w v = Step c w v

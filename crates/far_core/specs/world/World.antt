@@ -14,7 +14,7 @@ pub record Object : Type 0 where
 
 -- objects by their numbers; the owners whose scope is open; the numbers that their owner views; the marked
 -- numbers; the groups that are held; and whether the far side gives back what it was given, which no step changes.
--- A number tells its owner, so a view is a number
+-- A number gives its owner, so a view is a number
 pub record World : Type 0 where
   pub object : ℕ → Option Object
   pub opened : ℕ → Bool

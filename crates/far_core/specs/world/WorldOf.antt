@@ -32,6 +32,7 @@ is_group kinds.Free = false
 is_group kinds.Open = true
 is_group kinds.Sealed = true
 
+-- open are the owners whose scope word isn't 0, and viewed is what is held
 unfoldable pub world_of : State → World
 world_of s = record {
   object = λ p. object_of s.word (s.stored p) p (read_of (s.cell p));

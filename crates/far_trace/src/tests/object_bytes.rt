@@ -76,7 +76,7 @@ fn spelled(rt: &(impl Abort + AllocGlobal), bytes: &[u8]) -> Result<String, Fail
     Ok(text)
 }
 
-// Adds a write of some bytes from one on, and a read of the whole object behind it. The model is what the object has.
+// Adds a write of some bytes from one on, and a read of the whole object after it. The model is what the object has.
 fn add_write(
     rt: &(impl Abort + AllocGlobal),
     talk: &mut Talk,

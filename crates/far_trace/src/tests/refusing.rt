@@ -41,7 +41,7 @@ const REST: [(&str, &str); 6] = [
     ("read 1 129 0 1", "data 00"),
 ];
 
-// Each command is refused by its number, and the heap is the same behind it.
+// Each command is refused by its number, and the heap is the same after it.
 fn refuses(rt: &(impl Abort + AllocGlobal), cases: &[(&str, &str)]) -> Result<(), Fail> {
     let mut talk = Talk::new(rt);
     talk.add_all(&START)?;

@@ -6,7 +6,7 @@ use std::io;
 use std::io::{ErrorKind, Read, Write};
 use std::test::Fail;
 
-/// Gives a few bytes a read. The read of one number fails, and those behind it do not.
+/// Gives a few bytes a read. The read of one number fails, and those after it do not.
 #[derive(Drop)]
 pub struct OnceFailing<'a> {
     pub rest: &'a [u8],
@@ -36,7 +36,7 @@ pub enum Failure {
     Is(ErrorKind),
 }
 
-/// Takes a few bytes a write. The write of one number fails, and those behind it do not.
+/// Takes a few bytes a write. The write of one number fails, and those after it do not.
 #[derive(Drop)]
 pub struct OnceRefusing {
     pub taken: Vec<u8>,
