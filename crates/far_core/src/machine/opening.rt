@@ -44,7 +44,6 @@ impl Memory {
             round: vec![in alloc; false; logs]?,
             round_epoch: shape.epoch,
             clear: vec![in alloc; false; mutators]?,
-            stored: vec![in alloc; 0; (LOG_WORDS as usize - 1) * cells]?,
         })
     }
 }

@@ -1,8 +1,7 @@
-use Rattle.std.proofs.Common.{◌+◌, ◌-◌, ◌*◌, false, None, rules}
+use Rattle.std.proofs.Common.{false, None, rules}
 use Rattle.far_core.specs.declared.event.Kind.TheVariants.{Free}
-use Rattle.far_word.specs.declared.sizes.TheConstants.{LOG_WORDS}
 use Rattle.far_core.specs.state.Memory.{state_of}
-use Rattle.far_core.proofs.Begins.{row_of, masked}
+use Rattle.far_core.proofs.Begins.{row_of}
 use Rattle.far_core.proofs.memory.Memory.blank.Goals as goal
 
 pub returns : goal.returns
@@ -25,5 +24,5 @@ returns c = λ i. record {
   round = λ q. row_of _ _ false (c.in_ok-vec-10.ensures.items_if_clones_equal (λ y e. e)) q i;
   round_epoch = c.args.shape.epoch;
   clear = λ q. row_of _ _ false (c.in_ok-vec-11.ensures.items_if_clones_equal (λ y e. e)) q i;
-  stored = λ p j. masked j (LOG_WORDS - 1) _ (row_of _ _ 0 (c.in_ok-vec-12.ensures.items_if_clones_equal (λ y e. e)) (p * (LOG_WORDS - 1) + j)) i;
+  stored = λ _ _. 0;
 }
