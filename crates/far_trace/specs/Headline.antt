@@ -26,7 +26,6 @@ use Rattle.far_trace.specs.Events.{events_for}
 use Rattle.far_trace.specs.Objects.{spliced}
 use Rattle.far_trace.specs.Says.{Says}
 use Rattle.far_trace.specs.Stays.{Stays}
-use Rattle.far_trace.specs.Turn.{kind_told}
 use Rattle.far_trace.specs.Reply.{Reply, Done, Pointer, Data, Logs, Refused, LogLine, printed}
 
 -- a log in which a view rests in s isn't free in t
@@ -79,7 +78,7 @@ MayRefuse c why = ⊥
 
 -- a line tells a log's kind and its live, dead and unused bytes, which make 1,024
 pub record TellsLog (now : Moment) (line : LogLine) : Type 0 where
-  pub kind : line.kind ≡ kind_told (now.core.kind line.log)
+  pub kind : line.kind ≡ now.core.kind line.log
   pub live : line.live ≡ live_bytes now.core line.log
   pub dead : line.dead ≡ dead_bytes now.core line.log
   pub unused : line.unused ≡ unused_bytes now.core line.log

@@ -4,7 +4,7 @@ ghost use Rattle.std.specs.Prelude.{◌≡◌, ◌↔◌, ℕ, List, Some};
 ghost use Rattle.far_trace.specs.Command.{Command};
 ghost use Rattle.far_trace.specs.Grammar.{command_of};
 ghost use Rattle.far_trace.specs.Says.{Says};
-ghost use Rattle.far_trace.specs.TraceText.{TextsAreRead, FirstBadLines, CutsJoin};
+ghost use Rattle.far_trace.specs.TraceText.{TextsAreRead, FirstBadLines, CutsJoin, LimitsAre};
 
 /// Words are read as a command exactly where they say it.
 pub fn read_as_said()
@@ -24,4 +24,9 @@ pub fn bad_lines_are_first()
 /// Lines joined by newlines are the text, and words joined by spaces the line.
 pub fn cuts_join()
     ensures { CutsJoin }
+{}
+
+/// A line has at most 4,096 bytes, its newline not counted, and a text at most 1,048,576.
+pub fn limits_are()
+    ensures { LimitsAre }
 {}

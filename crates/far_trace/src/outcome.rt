@@ -4,7 +4,8 @@ ghost use Rattle.std.specs.Prelude.{◌≡◌};
 ghost use Rattle.far_trace.specs.Reply.{reply_of, IsShort};
 ghost use Rattle.far_trace.specs.Outcome.{told_by, Fits};
 
-use crate::reply::{LogKind, LogLine, Reply};
+use crate::reply::{LogLine, Reply};
+use far_core::Kind;
 use far_word::{LOG_WORDS, MOST_LOGS, Refused};
 
 /// What a command comes to. The bytes and the log lines of a reply stand in the room.
@@ -32,7 +33,7 @@ impl Room {
     pub fn new() -> Room {
         let line = LogLine {
             log: 0,
-            kind: LogKind::Free,
+            kind: Kind::Free,
             live: 0,
             dead: 0,
             unused: 0,

@@ -25,7 +25,6 @@ use crate::turn::turn;
 use far_core::{Core, Shape};
 use far_word::{MOST_MUTATORS, Refused};
 use std::alloc::{AllocError, Global};
-use std::io;
 use std::io::{Read, Write};
 use thiserror::Error;
 
@@ -60,17 +59,6 @@ impl From<WriteFault> for RunFault {
     }
 }
 
-impl From<io::Error> for RunFault {
-    ghost use Rattle.std.specs.Prelude.{◌≡◌};
-    ghost use Rattle.far_trace.specs.declared.run.RunFault.TheVariants.{Read};
-
-    ghost from_gives = { λ _ e. e ≡ Read };
-
-    fn from(_e: io::Error) -> RunFault {
-        RunFault::Read
-    }
-}
-
 impl From<AllocError> for RunFault {
     ghost use Rattle.std.specs.Prelude.{◌≡◌};
     ghost use Rattle.far_trace.specs.declared.run.RunFault.TheVariants.{Memory};
@@ -88,7 +76,7 @@ fn read_whole<R: Read>(alloc: Global, reader: &mut R, most: usize) -> Result<Vec
     ensures fault { result ≢ Err RunFault.Write }
 {
     let mut room = zeros(alloc, most)?;
-    let len = read_text(reader, &mut room)?;
+    let len = read_text(reader, &mut room).map_err(|_| RunFault::Read)?;
     room.truncate(len);
     Ok(room)
 }

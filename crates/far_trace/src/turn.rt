@@ -22,14 +22,14 @@ ghost use Rattle.far_trace.specs.Events.{events_for, turn_events, first_word, wo
 ghost use Rattle.far_trace.specs.Objects.{lowest_cell, named_len};
 ghost use Rattle.far_trace.specs.Moment.{moment_of};
 ghost use Rattle.far_trace.specs.Later.{IsLater};
-ghost use Rattle.far_trace.specs.Turn.{effect, access_causes, first_cause, reply_to, turn_reply, kind_told, refusal, log_line};
+ghost use Rattle.far_trace.specs.Turn.{effect, access_causes, first_cause, reply_to, turn_reply, refusal, log_line};
 
 use crate::command::Command;
 use crate::events::{load, load_words, make_new, open, store_words, view};
 use crate::hex_word::HexWord;
 use crate::outcome::{Outcome, Room};
-use crate::reply::{LogKind, LogLine};
-use far_core::{Core, Event, Kind};
+use crate::reply::LogLine;
+use far_core::{Core, Event};
 use far_word::{
     CELLS, LOG_WORDS, LONGEST, MOST_LOGS, MOST_MUTATORS, POINTERS, Place, PtrWord, Refused,
     pack_bytes, size_of, unpack_bytes,
@@ -419,16 +419,6 @@ fn write_range(
     }
 }
 
-fn kind_told(kind: Kind) -> LogKind
-    ensures { result ≡ kind_told kind }
-{
-    match kind {
-        Kind::Free => LogKind::Free,
-        Kind::Open => LogKind::Open,
-        Kind::Sealed => LogKind::Sealed,
-    }
-}
-
 // What `logs` says of a log. All its spans are live.
 fn log_told(core: &Core, log: u8) -> LogLine
     requires tidy { (next : ℕ → ℕ) × Tidy (core_state core.now) next }
@@ -439,7 +429,7 @@ fn log_told(core: &Core, log: u8) -> LogLine
     let live = 8 * u64::from(core.tail(log));
     LogLine {
         log,
-        kind: kind_told(core.kind(log)),
+        kind: core.kind(log),
         live,
         dead: 0,
         unused: 8 * LOG_WORDS as u64 - live,
