@@ -4,7 +4,7 @@ use Rattle.std.specs.Str.{bytes_eq}
 use Rattle.std.specs.Str.Parse.{digits_value}
 use Rattle.std.specs.List.{slice_split, list_all}
 use Rattle.far_trace.specs.Command.{Command, Heap, New, Open, Write, Read, Close, Logs}
-use Rattle.far_trace.specs.HexWord.{is_hex_word, bytes_of}
+use Rattle.far_trace.specs.HexWord.{is_hex_word, hex_bytes}
 use Rattle.far_trace.specs.declared.hex_word.TheConstants.{LONGEST_LINE}
 use Rattle.far_trace.specs.declared.text.TheConstants.{LONGEST_TEXT}
 use Rattle.far_trace.specs.declared.text.ParseError.{ParseError}
@@ -17,7 +17,7 @@ number_of word =
 
 -- the bytes that a word spells in hex
 abbrev pub bytes_in : List ℕ → Option (List ℕ)
-bytes_in word = if is_hex_word word then Some (bytes_of word) else None
+bytes_in word = if is_hex_word word then Some (hex_bytes word) else None
 
 infixl 10 ◌>>=◌
 abbrev pub ◌>>=◌ : {A B : Type 0} → Option A → (A → Option B) → Option B
@@ -82,8 +82,8 @@ command_of [] = None
 command_of (name ∷ words) = found_in table name words
 
 -- the words of a line, between single spaces
-abbrev pub words_of : List ℕ → List (List ℕ)
-words_of line = slice_split (λ b. b == 32) line
+abbrev pub line_words : List ℕ → List (List ℕ)
+line_words line = slice_split (λ b. b == 32) line
 
 -- not too long, and each byte ASCII
 abbrev pub is_plain : List ℕ → Bool
@@ -107,17 +107,17 @@ saying (Some command) = Saying command
 -- what a line says on its own
 unfoldable pub line_of : List ℕ → Line
 line_of line =
-    if is_plain line then (if is_skipped line then Skipped else saying (command_of (words_of line))) else Bad
+    if is_plain line then (if is_skipped line then Skipped else saying (command_of (line_words line))) else Bad
 
 -- whether a command may stand where it does: `heap` first, and nowhere else
-abbrev pub may_stand : Bool → Command → Bool
-may_stand is_first (Heap _ _) = is_first
-may_stand is_first (New _ _ _) = not is_first
-may_stand is_first (Open _) = not is_first
-may_stand is_first (Write _ _ _ _) = not is_first
-may_stand is_first (Read _ _ _ _) = not is_first
-may_stand is_first (Close _) = not is_first
-may_stand is_first Logs = not is_first
+abbrev pub is_in_place : Bool → Command → Bool
+is_in_place is_first (Heap _ _) = is_first
+is_in_place is_first (New _ _ _) = not is_first
+is_in_place is_first (Open _) = not is_first
+is_in_place is_first (Write _ _ _ _) = not is_first
+is_in_place is_first (Read _ _ _ _) = not is_first
+is_in_place is_first (Close _) = not is_first
+is_in_place is_first Logs = not is_first
 
 abbrev pub onto : Command → Result (List Command) ℕ → Result (List Command) ℕ
 onto command (Ok commands) = Ok (command ∷ commands)
@@ -126,7 +126,7 @@ onto command (Err number) = Err number
 -- what a line makes of what the lines after it are read as, with no command before them but the earlier ones, and with this one
 abbrev pub read_line : ℕ → Bool → Line → Result (List Command) ℕ → Result (List Command) ℕ → Result (List Command) ℕ
 read_line number is_first Skipped same later = same
-read_line number is_first (Saying command) same later = if may_stand is_first command then onto command later else Err number
+read_line number is_first (Saying command) same later = if is_in_place is_first command then onto command later else Err number
 read_line number is_first Bad same later = Err number
 
 -- the commands of the lines from this number on, or the number of the first that is off the grammar

@@ -2,7 +2,7 @@
 use Rattle.std.specs.Prelude.{◌≡◌, ◌⊎◌, ◌↔◌, ℕ, ◌+◌, ◌<◌, ◌≤◌, ◌==◌, not, Bool, true, false, Ok, Err, List, [], ◌∷◌, ◌++◌, length, slice_index}
 use Rattle.std.specs.List.{join_with_byte, list_all}
 use Rattle.far_trace.specs.Command.{Command}
-use Rattle.far_trace.specs.Grammar.{words_of, lines_of, may_stand, commands_of}
+use Rattle.far_trace.specs.Grammar.{line_words, lines_of, is_in_place, commands_of}
 use Rattle.far_trace.specs.Says.{Says}
 use Rattle.far_trace.specs.declared.hex_word.TheConstants.{LONGEST_LINE}
 use Rattle.far_trace.specs.declared.text.TheConstants.{LONGEST_TEXT}
@@ -13,7 +13,7 @@ IsPassed line = (length line ≤ LONGEST_LINE) × ((k : ℕ) → k < length line
 
 -- a line that says a command, not too long
 abbrev pub Speaks : List ℕ → Command → Type 0
-Speaks line c = (length line ≤ LONGEST_LINE) × Says (words_of line) c
+Speaks line c = (length line ≤ LONGEST_LINE) × Says (line_words line) c
 
 -- these lines say these commands and no others, in order, each where it may stand
 abbrev pub LinesSay : Bool → List (List ℕ) → List Command → Type 0
@@ -21,7 +21,7 @@ LinesSay first [] [] = Unit {0}
 LinesSay first [] (c ∷ cs) = ⊥
 LinesSay first (line ∷ lines) cs =
     (IsPassed line × LinesSay first lines cs)
-    ⊎ ((c : Command) × (later : List Command) × (cs ≡ c ∷ later) × Speaks line c × (may_stand first c ≡ true) × LinesSay false lines later)
+    ⊎ ((c : Command) × (later : List Command) × (cs ≡ c ∷ later) × Speaks line c × (is_in_place first c ≡ true) × LinesSay false lines later)
 
 -- a text that is not too long and whose lines say these commands
 abbrev pub TextSays : List ℕ → List Command → Type 0
@@ -29,7 +29,7 @@ TextSays text cs = (length text ≤ LONGEST_TEXT) × LinesSay true (lines_of tex
 
 -- a line that is neither passed over nor says a command that may stand here
 abbrev pub SaysNothing : Bool → List ℕ → Type 0
-SaysNothing first line = (IsPassed line → ⊥) × ((c : Command) → Speaks line c → may_stand first c ≡ false)
+SaysNothing first line = (¬ IsPassed line) × ((c : Command) → Speaks line c → is_in_place first c ≡ false)
 
 -- no command has come yet
 abbrev pub none_yet : Bool → List Command → Bool
@@ -56,7 +56,7 @@ HaveNone byte parts = list_all (list_all (λ b. not (b == byte))) parts ≡ true
 
 -- lines have no newline, and joined by newlines they are the text; words have no space, and joined by spaces they are the line
 abbrev pub CutsJoin : Type 0
-CutsJoin = (bytes : List ℕ) → HaveNone 10 (lines_of bytes) × (join_with_byte 10 (lines_of bytes) ≡ bytes) × HaveNone 32 (words_of bytes) × (join_with_byte 32 (words_of bytes) ≡ bytes)
+CutsJoin = (bytes : List ℕ) → HaveNone 10 (lines_of bytes) × (join_with_byte 10 (lines_of bytes) ≡ bytes) × HaveNone 32 (line_words bytes) × (join_with_byte 32 (line_words bytes) ≡ bytes)
 
 -- how long lines and texts may be, in numbers
 abbrev pub LimitsAre : Type 0

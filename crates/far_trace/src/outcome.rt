@@ -2,7 +2,7 @@
 
 ghost use Rattle.std.specs.Prelude.{◌≡◌};
 ghost use Rattle.far_trace.specs.Reply.{reply_of, IsShort};
-ghost use Rattle.far_trace.specs.Outcome.{told_by, Fits};
+ghost use Rattle.far_trace.specs.Outcome.{reply_by, IsInRoom};
 
 use crate::reply::{LogLine, Reply};
 use far_core::Kind;
@@ -22,15 +22,15 @@ pub enum Outcome {
 
 /// Room for the words and bytes of an object and for a line of each log.
 #[derive(Clone, Copy)]
-pub struct Room {
+pub struct Scratch {
     pub words: [u64; LOG_WORDS as usize],
     pub bytes: [u8; 8 * LOG_WORDS as usize],
     pub lines: [LogLine; MOST_LOGS as usize],
 }
 
-impl Room {
+impl Scratch {
     /// All the room that commands need.
-    pub fn new() -> Room {
+    pub fn new() -> Scratch {
         let line = LogLine {
             log: 0,
             kind: Kind::Free,
@@ -38,7 +38,7 @@ impl Room {
             dead: 0,
             unused: 0,
         };
-        Room {
+        Scratch {
             words: [0; LOG_WORDS as usize],
             bytes: [0; 8 * LOG_WORDS as usize],
             lines: [line; MOST_LOGS as usize],
@@ -47,8 +47,8 @@ impl Room {
 
     /// The reply to a command.
     pub fn reply(&self, outcome: Outcome) -> Reply<'_>
-        requires { Fits outcome }
-        ensures value { reply_of result ≡ told_by self.now.bytes self.now.lines outcome }
+        requires { IsInRoom outcome }
+        ensures value { reply_of result ≡ reply_by self.now.bytes self.now.lines outcome }
         ensures short { IsShort (reply_of result) }
     {
         match outcome {

@@ -16,7 +16,7 @@ ghost use Rattle.far_trace.specs.Tidy.{Tidy};
 
 use crate::command::Command;
 use crate::gather::{add_reply, write_waiting};
-use crate::outcome::Room;
+use crate::outcome::Scratch;
 use crate::output::{Output, zeros};
 use crate::reply::Reply;
 use crate::stream::{WriteFault, read_text};
@@ -96,7 +96,7 @@ fn answer_commands<W: Write>(
     out: &mut Output,
     core: Core,
     named: &mut [u16],
-    room: &mut Room,
+    scratch: &mut Scratch,
     commands: &[Command],
 ) -> Result<(), WriteFault>
     requires tidy { Tidy (core_state core) (λ m. slice_index named.old m) }
@@ -109,8 +109,8 @@ fn answer_commands<W: Write>(
     out.clear();
     let mut written = add_reply(writer, out, &Reply::Done, Ok(()));
     for command in commands {
-        let outcome = turn(&mut core, named, room, command);
-        written = add_reply(writer, out, &room.reply(outcome), written);
+        let outcome = turn(&mut core, named, scratch, command);
+        written = add_reply(writer, out, &scratch.reply(outcome), written);
     }
     write_waiting(writer, out, written)
 }
@@ -134,8 +134,8 @@ fn answer_heap<W: Write>(
     match Core::new(alloc, shape, true) {
         Ok(core) => {
             let mut named = [0u16; MOST_MUTATORS as usize];
-            let mut room = Room::new();
-            answer_commands(writer, out, core, &mut named, &mut room, commands)?;
+            let mut scratch = Scratch::new();
+            answer_commands(writer, out, core, &mut named, &mut scratch, commands)?;
             Ok(End::Ran)
         }
         Err(Refused::Memory) => {

@@ -1,5 +1,6 @@
 // Texts on and off the grammar, printed replies, and readers and writers that fail.
 
+mod differing;
 mod filling;
 mod longest;
 mod object_bytes;
