@@ -19,19 +19,19 @@ use Rattle.far_trace.specs.Alone.{Own, Knows, Alone, own_of, is_by, speaker}
 use Rattle.far_trace.specs.Answers.{Answered}
 use Rattle.far_trace.specs.Command.{Command, Heap, New, Open, Write, Read, Close, Logs}
 use Rattle.far_trace.specs.Later.{IsLater, AreLater}
-use Rattle.far_trace.specs.Made.{made, AllAtHand}
+use Rattle.far_trace.specs.EventRows.{after_events, AllAtHand}
 use Rattle.far_trace.specs.Reply.{Reply}
 use Rattle.far_trace.specs.Events.{events_for}
 use Rattle.far_trace.specs.Turn.{refusal}
 use Rattle.far_trace.proofs.Lasting.{Lasts, IsCarriedOut, carried, still_lasts}
 use Rattle.far_trace.proofs.AloneNew.{turns_new}
-use Rattle.far_trace.proofs.AloneTurns.{Tells, Turns, turns_open, turns_close, turns_read, turns_write}
+use Rattle.far_trace.proofs.AloneTurns.{Teaches, Turns, turns_open, turns_close, turns_read, turns_write}
 
 -- ---- no event changes how many mutators there are
 step_mutators : (s : State) (e : Event) → (step_of s e).0.mutators ≡ s.mutators
 step_mutators s e = (events_leave s e).within.rest.0
 
-pub made_mutators : (s : State) (es : List Event) → (made s es).mutators ≡ s.mutators
+pub made_mutators : (s : State) (es : List Event) → (after_events s es).mutators ≡ s.mutators
 made_mutators s [] = refl
 made_mutators s (e ∷ es) = made_mutators (step_of s e).0 es ∙ step_mutators s e
 
@@ -41,24 +41,24 @@ abbrev Learns : State → ℕ → Command → Reply → State → Type 0
 Learns s m c r t = MatchBool (is_by m (speaker c)) (Knows m (own_of (world_of s) m) c r (own_of (world_of t) m)) (own_of (world_of t) m ≡ own_of (world_of s) m)
 
 -- a command that was made, by what its turn tells
-told : (s : State) (k : ℕ) (c : Command) (r : Reply) (t : State) → IsCarriedOut s c r t → Turns s k c (refusal (moment_of s) c) → Tells s k c r t
-told s k c r t h turns = subst (λ (x : Reply × State). Tells s k c x.0 x.1) (λ i. (sym h.reply i, sym h.state i)) (turns h.succeed)
+teaches : (s : State) (k : ℕ) (c : Command) (r : Reply) (t : State) → IsCarriedOut s c r t → Turns s k c (refusal (moment_of s) c) → Teaches s k c r t
+teaches s k c r t h turns = subst (λ (x : Reply × State). Teaches s k c x.0 x.1) (λ i. (sym h.reply i, sym h.state i)) (turns h.succeed)
 
 -- by the mutator itself, or by another
-at_speaker : (s : State) (k m : ℕ) (c : Command) (r : Reply) (t : State) (b : Bool) → nat_eq k m ≡ b → m < s.mutators → Tells s k c r t →
+at_speaker : (s : State) (k m : ℕ) (c : Command) (r : Reply) (t : State) (b : Bool) → nat_eq k m ≡ b → m < s.mutators → Teaches s k c r t →
     MatchBool b (Knows m (own_of (world_of s) m) c r (own_of (world_of t) m)) (own_of (world_of t) m ≡ own_of (world_of s) m)
 at_speaker s k m c r t true e within tells = subst (λ x. x < s.mutators → Knows x (own_of (world_of s) x) c r (own_of (world_of t) x)) (eqb-true k m e) tells.0 within
 at_speaker s k m c r t false e within tells = tells.1 m (eqb-false k m e)
 
 learns : (s : State) (m : ℕ) (c : Command) (r : Reply) (t : State) → Law s → AllAtHand s → m < s.mutators → IsLater c → IsCarriedOut s c r t → Learns s m c r t
 learns s m (Heap logs mutators) r t law hand within later h = absurd later
-learns s m (New k len ds) r t law hand within later h = at_speaker s k m (New k len ds) r t (nat_eq k m) refl within (told s k (New k len ds) r t h (turns_new s k len ds law))
-learns s m (Open k) r t law hand within later h = at_speaker s k m (Open k) r t (nat_eq k m) refl within (told s k (Open k) r t h (turns_open s k law))
+learns s m (New k len ds) r t law hand within later h = at_speaker s k m (New k len ds) r t (nat_eq k m) refl within (teaches s k (New k len ds) r t h (turns_new s k len ds law))
+learns s m (Open k) r t law hand within later h = at_speaker s k m (Open k) r t (nat_eq k m) refl within (teaches s k (Open k) r t h (turns_open s k law))
 learns s m (Write k p from bytes) r t law hand within later h =
-    at_speaker s k m (Write k p from bytes) r t (nat_eq k m) refl within (told s k (Write k p from bytes) r t h (turns_write s k p from bytes law hand later))
+    at_speaker s k m (Write k p from bytes) r t (nat_eq k m) refl within (teaches s k (Write k p from bytes) r t h (turns_write s k p from bytes law hand later))
 learns s m (Read k p from len) r t law hand within later h =
-    at_speaker s k m (Read k p from len) r t (nat_eq k m) refl within (told s k (Read k p from len) r t h (turns_read s k p from len law hand))
-learns s m (Close k) r t law hand within later h = at_speaker s k m (Close k) r t (nat_eq k m) refl within (told s k (Close k) r t h (turns_close s k law))
+    at_speaker s k m (Read k p from len) r t (nat_eq k m) refl within (teaches s k (Read k p from len) r t h (turns_read s k p from len law hand))
+learns s m (Close k) r t law hand within later h = at_speaker s k m (Close k) r t (nat_eq k m) refl within (teaches s k (Close k) r t h (turns_close s k law))
 learns s m Logs r t law hand within later h = ap (λ x. own_of (world_of x) m) h.state
 
 -- ---- all commands

@@ -26,7 +26,7 @@ use Rattle.far_core.proofs.Keeps.{step_keeps}
 use Rattle.far_trace.specs.Moment.{moment_of}
 use Rattle.far_trace.specs.Alone.{own_of, bytes_in_world, HasLeft}
 use Rattle.far_trace.specs.Command.{New}
-use Rattle.far_trace.specs.Made.{made, AllSucceed}
+use Rattle.far_trace.specs.EventRows.{after_events, AllSucceed}
 use Rattle.far_trace.specs.Reply.{Refused}
 use Rattle.far_trace.specs.Events.{new_events, zero_puts}
 use Rattle.far_trace.specs.Objects.{lowest_cell}
@@ -38,7 +38,7 @@ use Rattle.far_trace.proofs.AloneViews.{views_still}
 use Rattle.far_trace.proofs.ViewLaws.{row_stays, news}
 use Rattle.far_trace.proofs.AloneRuns.{views_of, Same, own_other, own_here, IsQuiet, quiet_run, name_step, new_object, makes_object, was_legal}
 use Rattle.far_trace.proofs.AloneStates.{lowest_own, lowest_unknown}
-use Rattle.far_trace.proofs.AloneTurns.{Tells, Turns, four_causes}
+use Rattle.far_trace.proofs.AloneTurns.{Teaches, Turns, four_causes}
 
 -- ---- the words of a new object
 head_fits : (p len ds : ℕ) → p < 1024 → len ≤ LONGEST → ds < 256 → head_word p len ds < 2 ^ 64
@@ -78,7 +78,7 @@ module _ (s : State) (k len ds p : ℕ) (place : Place) (law : Law s) (within : 
   names = Names p 0 (new_word len ds place) ∷ Adopts k p ∷ []
 
   abbrev u : State
-  u = made s puts
+  u = after_events s puts
 
   abbrev v : State
   v = (step_of u (Names p 0 (new_word len ds place))).0
@@ -94,8 +94,8 @@ module _ (s : State) (k len ds p : ℕ) (place : Place) (law : Law s) (within : 
 
   -- the object that the events make
   pub new_run : AllSucceed s (puts ++ names) →
-      (o : Object) × ((world_of s).object p ≡ None) × ((world_of (made s (puts ++ names))).object ≡ put (world_of s).object p (Some o))
-      × ((world_of (made s (puts ++ names))).opened ≡ (world_of s).opened) × (o.bytes ≡ replicate len 0) × (o ≡ new_object p len ds place.log)
+      (o : Object) × ((world_of s).object p ≡ None) × ((world_of (after_events s (puts ++ names))).object ≡ put (world_of s).object p (Some o))
+      × ((world_of (after_events s (puts ++ names))).opened ≡ (world_of s).opened) × (o.bytes ≡ replicate len 0) × (o ≡ new_object p len ds place.log)
   new_run ok =
       let parts = AllSucceed-parts s puts names ok in
       let legal = was_legal s (Puts place.log place.at (head_word p len ds)) law parts.0.0 in
@@ -106,8 +106,8 @@ module _ (s : State) (k len ds p : ℕ) (place : Place) (law : Law s) (within : 
       let long : named.0 ≡ len = one_length named.0 len named.1 ds named.2 place named.3 (record { hot = false; evac = false; moved = false; dropped = false }) (omega (arith, says.0)) (omega arith) says.1 in
       let law_v : Law v = step_keeps u (Names p 0 (new_word len ds place)) first.2 (omega arith, word) in
       let last = quiet_run v (Adopts k p ∷ []) law_v (tt, tt) in
-      let joined : world_of (made s (puts ++ names)) ≡ world_of (made v (Adopts k p ∷ [])) = ap world_of (made-append s puts names) in
-      let between = made_between (world_of s) (world_of u) (world_of v) (world_of (made v (Adopts k p ∷ []))) (world_of (made s (puts ++ names))) p named.0 named.1 named.2.log (first.0, first.1) named.5 last.0 joined in
+      let joined : world_of (after_events s (puts ++ names)) ≡ world_of (after_events v (Adopts k p ∷ [])) = ap world_of (made-append s puts names) in
+      let between = made_between (world_of s) (world_of u) (world_of v) (world_of (after_events v (Adopts k p ∷ []))) (world_of (after_events s (puts ++ names))) p named.0 named.1 named.2.log (first.0, first.1) named.5 last.0 joined in
       let kind : named.1 ≡ ds = one_structure named.0 len named.1 ds named.2 place named.3 (record { hot = false; evac = false; moved = false; dropped = false }) (omega (arith, says.0)) (omega arith) (omega (arith, says.0)) structure says.1 in
       let group : named.2.log ≡ place.log = one_log named.0 len named.1 ds named.2 place named.3 (record { hot = false; evac = false; moved = false; dropped = false }) (omega (arith, says.0)) (omega arith) (omega (arith, says.0)) structure
       (omega (arith, says.0)) (omega (arith, legal.3)) (omega (arith, says.0)) (omega (arith, legal.0, law.shape.few_logs)) says.1 in
@@ -115,10 +115,10 @@ module _ (s : State) (k len ds p : ℕ) (place : Place) (law : Law s) (within : 
       (new_object p named.0 named.1 named.2.log, between.0, between.1, between.2, ap (λ n. replicate n 0) long, whole)
 
   -- a new object that isn't turned down
-  makes_new : 0 < len → AllSucceed s (new_events k len ds (Some p) (Some place)) → Tells s k (New k len ds) (pointer_reply (Some p)) (made s (new_events k len ds (Some p) (Some place)))
+  makes_new : 0 < len → AllSucceed s (new_events k len ds (Some p) (Some place)) → Teaches s k (New k len ds) (pointer_reply (Some p)) (after_events s (new_events k len ds (Some p) (Some place)))
   makes_new some ok =
       let run = new_run ok in
-      let u : State = made s (new_events k len ds (Some p) (Some place)) in
+      let u : State = after_events s (new_events k len ds (Some p) (Some place)) in
       let t : World = world_of u in
       let same : u.held ≡ s.held = row_stays s (new_events k len ds (Some p) (Some place)) (news k len ds (Some p) (Some place)) in
       let fresh : (own_of (world_of s) k).object p ≡ None = ap (λ b. cond b (bytes_in_world ((world_of s).object p)) None) (eq-eqb (p / CELLS) k own) ∙ ap bytes_in_world run.1 in (
@@ -150,7 +150,7 @@ one_left s k (Some p) e h = (p, lowest_own s k p e, lowest_unknown s k p e)
 module _ (s : State) (k len ds : ℕ) (law : Law s) where
   -- with this cell and this place, turned down for this cause or for none
   abbrev NewTurns : Option ℕ → Option Place → Option Refusal → Type 0
-  NewTurns o r x = AllSucceed s (unless x (λ _. []) (new_events k len ds o r)) → Tells s k (New k len ds) (unless x Refused (pointer_reply o)) (made s (unless x (λ _. []) (new_events k len ds o r)))
+  NewTurns o r x = AllSucceed s (unless x (λ _. []) (new_events k len ds o r)) → Teaches s k (New k len ds) (unless x Refused (pointer_reply o)) (after_events s (unless x (λ _. []) (new_events k len ds o r)))
 
   at_cell : (o : Option ℕ) (r : Option Place) → lowest_cell s k ≡ o → k < s.mutators → ds < 256 → 0 < len → len ≤ LONGEST → not (is_some o) ≡ false → not (is_some r) ≡ false → NewTurns o r None
   at_cell None r e within structure some most h i ok = absurd (true≢false h)

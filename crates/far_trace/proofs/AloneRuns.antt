@@ -33,7 +33,7 @@ use Rattle.far_core.proofs.Owing.{is_fact}
 use Rattle.far_core.proofs.Put.{put_same, put_other, put_old}
 use Rattle.far_core.proofs.Steps.{step_does}
 use Rattle.far_trace.specs.Alone.{Own, own_of, bytes_in_world}
-use Rattle.far_trace.specs.Made.{made, Succeeds, AllSucceed}
+use Rattle.far_trace.specs.EventRows.{after_events, Succeeds, AllSucceed}
 use Rattle.far_trace.specs.Events.{store_events}
 use Rattle.far_trace.proofs.Each.{Each}
 
@@ -145,7 +145,7 @@ abbrev pub Quiet : List Event → Type 0
 Quiet = Each IsQuiet
 
 -- quiet events keep the law, the objects and the scopes
-pub quiet_run : (s : State) (es : List Event) → Law s → Quiet es → Same (world_of s) (world_of (made s es)) × Law (made s es)
+pub quiet_run : (s : State) (es : List Event) → Law s → Quiet es → Same (world_of s) (world_of (after_events s es)) × Law (after_events s es)
 quiet_run s [] law q = ((refl, refl), law)
 quiet_run s (e ∷ es) law q =
     let one : Same (world_of s) (world_of (step_of s e).0) = quiet_happens (world_of s) (world_of (step_of s e).0) e (step_of s e).1 q.0 (step_does s e law (quiet_fits e q.0)) in
@@ -183,8 +183,8 @@ wrote w v m p i x o e h =
 -- stores into one object that all succeed write its bytes over, and nothing else
 pub stores_run : (s : State) (m p first n : ℕ) (new : List ℕ) (o : Object) → Law s → ((i : ℕ) → packed_word new i < 2 ^ 64) → (world_of s).object p ≡ Some o →
     AllSucceed s (store_events m p first n new) →
-    ((world_of (made s (store_events m p first n new))).object ≡ put (world_of s).object p (Some (with_bytes o (over_all o.bytes first n new))))
-    × ((world_of (made s (store_events m p first n new))).opened ≡ (world_of s).opened)
+    ((world_of (after_events s (store_events m p first n new))).object ≡ put (world_of s).object p (Some (with_bytes o (over_all o.bytes first n new))))
+    × ((world_of (after_events s (store_events m p first n new))).opened ≡ (world_of s).opened)
 stores_run s m p first zero new o law wide at ok = (sym (put_old (world_of s).object p (Some o) at), refl)
 stores_run s m p first (suc n) new o law wide at ok =
     let x : ℕ = packed_word new first in

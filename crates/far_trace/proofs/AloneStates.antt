@@ -16,7 +16,7 @@ use Rattle.far_core.specs.world.WorldOf.{world_of, object_of}
 use Rattle.far_core.proofs.Cells.{unused}
 use Rattle.far_core.proofs.KeepOwner.{nonzero}
 use Rattle.far_trace.specs.Alone.{own_of, bytes_in_world}
-use Rattle.far_trace.specs.Made.{AllAtHand, AtHand}
+use Rattle.far_trace.specs.EventRows.{AllAtHand, AtHand}
 use Rattle.far_trace.specs.Objects.{uses, object_len, data_of, is_range, lowest_cell}
 use Rattle.far_trace.proofs.Lowest.{lowest_found}
 use Rattle.far_trace.proofs.Views.{len_near}

@@ -16,7 +16,7 @@ use Rattle.far_core.specs.world.Steps.{with_bytes}
 use Rattle.far_trace.specs.Moment.{moment_of}
 use Rattle.far_trace.specs.Alone.{Knows, own_of, IsOut, IsIn}
 use Rattle.far_trace.specs.Command.{Command, Open, Write, Read, Close}
-use Rattle.far_trace.specs.Made.{made, AllSucceed, AllAtHand}
+use Rattle.far_trace.specs.EventRows.{after_events, AllSucceed, AllAtHand}
 use Rattle.far_trace.specs.Reply.{Reply, Done, Refused}
 use Rattle.far_trace.specs.Events.{turn_events, open_events, view_events, part_events, load_events, store_events, starts_inside, ends_inside, first_word, words_touched}
 use Rattle.far_trace.specs.Objects.{uses, object_len, data_of, spliced, is_range}
@@ -32,12 +32,12 @@ use Rattle.far_trace.proofs.AloneRuns.{views_of, Scoped, own_same, own_other, ow
 use Rattle.far_trace.proofs.AloneStates.{outside, open_world, shut_world, range_in, range_out, object_used, own_used, own_unused, len_used, data_small}
 
 -- the reply tells the mutator what it says, and no other mutator learns anything
-abbrev pub Tells : State → ℕ → Command → Reply → State → Type 0
-Tells s k c r t = (k < s.mutators → Knows k (own_of (world_of s) k) c r (own_of (world_of t) k)) × ((m : ℕ) → k ≢ m → own_of (world_of t) m ≡ own_of (world_of s) m)
+abbrev pub Teaches : State → ℕ → Command → Reply → State → Type 0
+Teaches s k c r t = (k < s.mutators → Knows k (own_of (world_of s) k) c r (own_of (world_of t) k)) × ((m : ℕ) → k ≢ m → own_of (world_of t) m ≡ own_of (world_of s) m)
 
 -- so it is with the command turned down for this cause, or with none
 abbrev pub Turns : State → ℕ → Command → Option Refusal → Type 0
-Turns s k c o = AllSucceed s (unless o (λ _. []) (turn_events (moment_of s) c)) → Tells s k c (unless o Refused (turn_reply (moment_of s) c)) (made s (unless o (λ _. []) (turn_events (moment_of s) c)))
+Turns s k c o = AllSucceed s (unless o (λ _. []) (turn_events (moment_of s) c)) → Teaches s k c (unless o Refused (turn_reply (moment_of s) c)) (after_events s (unless o (λ _. []) (turn_events (moment_of s) c)))
 
 -- ---- which cause comes first
 pub two_causes : (P : Option Refusal → Type 0) (a b : Bool) (x y : Refusal) → (a ≡ true → P (Some x)) → (a ≡ false → b ≡ true → P (Some y)) → (a ≡ false → b ≡ false → P None) →
@@ -56,11 +56,11 @@ four_causes P false false false true x y z w h k l m n = m refl refl refl refl
 four_causes P false false false false x y z w h k l m n = n refl refl refl refl
 
 -- ---- scopes
-open_run : (s : State) (k : ℕ) → Law s → AllSucceed s (open_events s k) → Scoped (world_of s) (world_of (made s (open_events s k))) k true
-open_run s k law = cond_both (is_some (s.remembered k)) (Opens k ∷ []) (ReadsEpoch k ∷ Opens k ∷ []) (λ es. AllSucceed s es → Scoped (world_of s) (world_of (made s es)) k true)
+open_run : (s : State) (k : ℕ) → Law s → AllSucceed s (open_events s k) → Scoped (world_of s) (world_of (after_events s (open_events s k))) k true
+open_run s k law = cond_both (is_some (s.remembered k)) (Opens k ∷ []) (ReadsEpoch k ∷ Opens k ∷ []) (λ es. AllSucceed s es → Scoped (world_of s) (world_of (after_events s es)) k true)
     (λ _ ok. open_step s k law ok.0)
     (λ _ ok. let first = quiet_run s (ReadsEpoch k ∷ []) law (tt, tt) in
-    let next = open_step (made s (ReadsEpoch k ∷ [])) k first.1 ok.1.0 in
+    let next = open_step (after_events s (ReadsEpoch k ∷ [])) k first.1 ok.1.0 in
     (next.0 ∙ first.0.0, next.1 ∙ ap (λ (f : ℕ → Bool). put f k true) first.0.1))
 
 pub turns_open : (s : State) (k : ℕ) → Law s → Turns s k (Open k) (refusal (moment_of s) (Open k))
@@ -68,7 +68,7 @@ turns_open s k law = two_causes (Turns s k (Open k)) (not (nat_lt k s.mutators))
     (λ off _. (λ within. absurd (outside k s.mutators within off), λ m ne. refl))
     (λ _ opened _. (λ within. (open_world s k opened, refl), λ m ne. refl))
     (λ _ shut ok. let run = open_run s k law ok in
-    let u : State = made s (open_events s k) in
+    let u : State = after_events s (open_events s k) in
     let same : u.held ≡ s.held = views_after s (Open k) None ok in (
       λ within. (shut_world s k within shut, own_scope (world_of s) (world_of u) k true (views_of (world_of s) k) run.0 run.1 (views_still s u k same)),
       λ m ne. own_scope_other (world_of s) (world_of u) m k true run.0 run.1 ne (views_still s u m same),
@@ -107,7 +107,7 @@ turns_read s k p from len law hand =
     (λ _ opened used out _. (λ within. (open_world s k (not-false (is_opened s k) opened), refl, (data_of s p, own_used s law hand k p (not-false (uses s k p) used), out_of (near used) out)), λ m ne. refl))
     (λ _ opened used inside ok.
     let run = quiet_run s (turn_events (moment_of s) (Read k p from len)) law quiet in
-    let u : State = made s (turn_events (moment_of s) (Read k p from len)) in
+    let u : State = after_events s (turn_events (moment_of s) (Read k p from len)) in
     let view : ViewsObject s u p = views_after s (Read k p from len) None ok in
     let own : p / CELLS ≡ k = owned s k p (not-false (uses s k p) used) in (
       λ within. (
@@ -142,16 +142,16 @@ module _ (s : State) (k p from : ℕ) (bytes : List ℕ) (law : Law s) (hand : A
 
   -- the object has the new bytes behind the write
   write_run : s.used p ≡ true → 0 < length bytes → from + length bytes ≤ length (data_of s p) → AllSucceed s (loads ++ stores) →
-      (o : Object) × ((world_of (made s (loads ++ stores))).object ≡ put (world_of s).object p (Some o)) × ((world_of (made s (loads ++ stores))).opened ≡ (world_of s).opened) × (o.bytes ≡ new)
+      (o : Object) × ((world_of (after_events s (loads ++ stores))).object ≡ put (world_of s).object p (Some o)) × ((world_of (after_events s (loads ++ stores))).opened ≡ (world_of s).opened) × (o.bytes ≡ new)
   write_run used some fits ok =
       let parts = AllSucceed-parts s loads stores ok in
       let first = quiet_run s loads law (Each-append IsQuiet (view_events s k p) (part_events k p from (length bytes)) (quiet_view s k p) (quiet_part k p from (length bytes))) in
-      let u : State = made s loads in
+      let u : State = after_events s loads in
       let x = object_used s law hand p used in
       let there : (world_of u).object p ≡ Some x.0 = ap (λ (f : ℕ → Option Object). f p) first.0.0 ∙ x.1 in
       let run = stores_run u k p (first_word from) (words_touched from (length bytes)) new x.0 first.1 (packed_wide new (spliced_bytes (data_of s p) from bytes fits (data_small s p) small)) there parts.1 in
       let over : List ℕ = over_all x.0.bytes (first_word from) (words_touched from (length bytes)) new in
-      let joined : world_of (made s (loads ++ stores)) ≡ world_of (made u stores) = ap world_of (made-append s loads stores) in (
+      let joined : world_of (after_events s (loads ++ stores)) ≡ world_of (after_events u stores) = ap world_of (made-append s loads stores) in (
         with_bytes x.0 over,
         ap (λ (w : World). w.object) joined ∙ run.0 ∙ ap (λ (f : ℕ → Option Object). put f p (Some (with_bytes x.0 over))) first.0.0,
         ap (λ (w : World). w.opened) joined ∙ run.1 ∙ first.0.1,
@@ -168,11 +168,11 @@ module _ (s : State) (k p from : ℕ) (bytes : List ℕ) (law : Law s) (hand : A
   write_in e h = subst (λ n. (0 < length bytes) × (from + length bytes ≤ n)) e (range_in (object_len s p) from (length bytes) h)
 
   -- a write that isn't turned down
-  wrote : is_opened s k ≡ true → uses s k p ≡ true → IsIn (data_of s p) from (length bytes) → AllSucceed s (loads ++ stores) → Tells s k (Write k p from bytes) Done (made s (loads ++ stores))
+  wrote : is_opened s k ≡ true → uses s k p ≡ true → IsIn (data_of s p) from (length bytes) → AllSucceed s (loads ++ stores) → Teaches s k (Write k p from bytes) Done (after_events s (loads ++ stores))
   wrote opened used inside ok =
       let both = and_parts (nat_eq (p / CELLS) k) (s.used p) used in
       let own : p / CELLS ≡ k = eqb-true (p / CELLS) k both.0 in
-      let u : State = made s (loads ++ stores) in
+      let u : State = after_events s (loads ++ stores) in
       let t : World = world_of u in
       let view : ViewsObject s u p = views_after s (Write k p from bytes) None ok in
       let seen : ℕ → Bool = put (views_of (world_of s) k) p true in

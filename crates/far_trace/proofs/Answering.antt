@@ -58,9 +58,9 @@ pub answered_more : (s t : Moment) (cs later : List Command) (replies : List Rep
     ((rest : List Reply) (more : List Moment) → Answered t (c ∷ later) rest more → Answered s cs (replies ++ rest) (moments ++ more)) →
     Commanded t c r u →
     (rest : List Reply) (more : List Moment) → Answered u later rest more → Answered s cs ((replies ++ r ∷ []) ++ rest) ((moments ++ u ∷ []) ++ more)
-answered_more s t cs later replies moments c r u go made rest more h =
+answered_more s t cs later replies moments c r u go after_events rest more h =
     subst (λ xs. Answered s cs xs ((moments ++ u ∷ []) ++ more)) (sym (append_assoc replies (r ∷ []) rest))
-    (subst (λ us. Answered s cs (replies ++ r ∷ rest) us) (sym (append_assoc moments (u ∷ []) more)) (go (r ∷ rest) (u ∷ more) (made, h)))
+    (subst (λ us. Answered s cs (replies ++ r ∷ rest) us) (sym (append_assoc moments (u ∷ []) more)) (go (r ∷ rest) (u ∷ more) (after_events, h)))
 
 -- the run is over
 pub answered_all : (s t : Moment) (cs : List Command) (replies : List Reply) (moments : List Moment) (none : List Command) → none ≡ [] →

@@ -7,7 +7,7 @@ use Rattle.std.proofs.lemmas.List.{get_or-take, get_or_append_left, length-appen
 use Rattle.std.proofs.lemmas.List.Folds.{list_all_at}
 use Rattle.hex.specs.Hex.{is_hex_digit}
 use Rattle.far_trace.specs.Grammar.{bytes_in, next_bytes}
-use Rattle.far_trace.specs.Cursor.{is_end, first_part, words_in}
+use Rattle.far_trace.specs.Cursor.{is_end, front_of, words_in}
 use Rattle.far_trace.proofs.Cuts.{NoEnds, word_at, word_stops}
 
 abbrev pub HexDigits : List ℕ → ℕ → Type 0
@@ -39,7 +39,7 @@ pub other_at : (text : List ℕ) (i : ℕ) → i < length text → HexDigits tex
 other_at text i inside digits other on =
     let ends = below_more (λ k. is_end (get_or text k 0) ≡ false) i (no_ends text i digits) on in
     let at = word_at text (i + 1) (omega arith) ends in
-    let more = first_part (words_in (drop (i + 1) text)) in
+    let more = front_of (words_in (drop (i + 1) text)) in
     let front = take (i + 1) text in
     let len : length front ≡ i + 1 = length-take-le (i + 1) text (omega arith) in
     let sum = length-append front more in

@@ -18,7 +18,7 @@ use Rattle.far_trace.specs.Events.{events_for}
 use Rattle.far_trace.specs.Headline.{Lawful, Reaches}
 use Rattle.far_trace.specs.Interpreter.{next_after}
 use Rattle.far_trace.specs.Later.{IsLater, AreLater}
-use Rattle.far_trace.specs.Made.{made, AllSucceed, AllPass, Succeeds}
+use Rattle.far_trace.specs.EventRows.{after_events, AllSucceed, AllPass, Succeeds}
 use Rattle.far_trace.specs.Moment.{Moment, moment_of}
 use Rattle.far_trace.specs.Reply.{Reply}
 use Rattle.far_trace.specs.Tidy.{Tidy}
@@ -36,7 +36,7 @@ pub record Lasts (now : Moment) : Type 0 where
 -- a command that is carried out by its events, from a state to the next
 pub record IsCarriedOut (s : State) (c : Command) (r : Reply) (t : State) : Type 0 where
   pub reply : r ≡ reply_to (moment_of s) c
-  pub state : t ≡ made s (events_for (moment_of s) c)
+  pub state : t ≡ after_events s (events_for (moment_of s) c)
   pub succeed : AllSucceed s (events_for (moment_of s) c)
   pub fit : Each Fits (events_for (moment_of s) c)
   pub law : Law t
@@ -44,11 +44,11 @@ pub record IsCarriedOut (s : State) (c : Command) (r : Reply) (t : State) : Type
 pub carried : (now : Moment) (c : Command) (r : Reply) (next : Moment) → Lasts now → IsLater c → Commanded now c r next → IsCarriedOut now.core c r next.core
 carried now c r next lasts later h =
     let x = turns now.core lasts.next c lasts.law lasts.tidy (later_bytes c later) in
-    let ends : next.core ≡ made now.core (events_for (moment_of now.core) c) = ap (λ (m : Moment). m.core) h.moment ∙ sym x.ends in
+    let ends : next.core ≡ after_events now.core (events_for (moment_of now.core) c) = ap (λ (m : Moment). m.core) h.moment ∙ sym x.ends in
     record { reply = h.reply; state = ends; succeed = x.succeed; fit = x.fit; law = subst Law (sym ends) x.law }
 
 -- where its events lead, there is the moment behind it
-pub moment_reached : (s t : State) (next : ℕ → ℕ) (c : Command) → Law s → Tidy s next → IsLater c → t ≡ made s (events_for (moment_of s) c) → moment_of t ≡ effect (moment_of s) c
+pub moment_reached : (s t : State) (next : ℕ → ℕ) (c : Command) → Law s → Tidy s next → IsLater c → t ≡ after_events s (events_for (moment_of s) c) → moment_of t ≡ effect (moment_of s) c
 moment_reached s t next c law tidy later e = ap moment_of (e ∙ (turns s next c law tidy (later_bytes c later)).ends)
 
 -- it lasts through a command

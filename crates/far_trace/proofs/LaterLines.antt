@@ -5,7 +5,7 @@ use Rattle.std.proofs.lemmas.Bool.{cond_both, false≢true}
 use Rattle.hex.proofs.HexLemmas.{decode_of-ok}
 use Rattle.far_trace.specs.Answers.{BeginsWithHeap}
 use Rattle.far_trace.specs.Command.{Command, Heap, New, Open, Write, Read, Close, Logs}
-use Rattle.far_trace.specs.Grammar.{Line, Skipped, Saying, Bad, line_of, lines_of, words_of, is_plain, is_skipped, saying, command_of, commands_of, may_stand, onto, read_line, read_lines}
+use Rattle.far_trace.specs.Grammar.{Line, Skipped, Saying, Bad, line_of, lines_of, line_words, is_plain, is_skipped, saying, command_of, commands_of, is_in_place, onto, read_line, read_lines}
 use Rattle.far_trace.specs.Later.{IsLater, AreLater}
 use Rattle.far_trace.specs.Says.{Says}
 use Rattle.far_trace.proofs.SaysLemmas.{read_is_said}
@@ -15,14 +15,14 @@ pub at_saying : (o : Option Command) (c : Command) → saying o ≡ Saying c →
 at_saying None c e = absurd cc
 at_saying (Some d) c e = let same : d ≡ c = cc in ap Some same
 
-line_command : (line : List ℕ) (c : Command) → line_of line ≡ Saying c → command_of (words_of line) ≡ Some c
+line_command : (line : List ℕ) (c : Command) → line_of line ≡ Saying c → command_of (line_words line) ≡ Some c
 unfolding line_of
-line_command line c = cond_both (is_plain line) (cond (is_skipped line) Skipped (saying (command_of (words_of line)))) Bad (λ (x : Line). x ≡ Saying c → command_of (words_of line) ≡ Some c)
-    (λ _. cond_both (is_skipped line) Skipped (saying (command_of (words_of line))) (λ (x : Line). x ≡ Saying c → command_of (words_of line) ≡ Some c) (λ _ e. absurd cc) (λ _ e. at_saying (command_of (words_of line)) c e))
+line_command line c = cond_both (is_plain line) (cond (is_skipped line) Skipped (saying (command_of (line_words line)))) Bad (λ (x : Line). x ≡ Saying c → command_of (line_words line) ≡ Some c)
+    (λ _. cond_both (is_skipped line) Skipped (saying (command_of (line_words line))) (λ (x : Line). x ≡ Saying c → command_of (line_words line) ≡ Some c) (λ _ e. absurd cc) (λ _ e. at_saying (command_of (line_words line)) c e))
     (λ _ e. absurd cc)
 
 -- what words say behind the first command
-said_later : (words : List (List ℕ)) (c : Command) → may_stand false c ≡ true → Says words c → IsLater c
+said_later : (words : List (List ℕ)) (c : Command) → is_in_place false c ≡ true → Says words c → IsLater c
 said_later words (Heap logs mutators) stands h = absurd (false≢true stands)
 said_later words (New m len ds) stands h = tt
 said_later words (Open m) stands h = tt
@@ -41,9 +41,9 @@ not_empty c (Ok es) e = cc
 not_empty c (Err n) e = cc
 
 -- a line that is said, at its place
-at_line : (number : ℕ) (first : Bool) (c d : Command) (later : Result (List Command) ℕ) (cs : List Command) → cond (may_stand first c) (onto c later) (Err number) ≡ Ok (d ∷ cs) →
-    (may_stand first c ≡ true) × (c ≡ d) × (later ≡ Ok cs)
-at_line number first c d later cs = cond_both (may_stand first c) (onto c later) (Err number) (λ (x : Result (List Command) ℕ). x ≡ Ok (d ∷ cs) → (may_stand first c ≡ true) × (c ≡ d) × (later ≡ Ok cs))
+at_line : (number : ℕ) (first : Bool) (c d : Command) (later : Result (List Command) ℕ) (cs : List Command) → cond (is_in_place first c) (onto c later) (Err number) ≡ Ok (d ∷ cs) →
+    (is_in_place first c ≡ true) × (c ≡ d) × (later ≡ Ok cs)
+at_line number first c d later cs = cond_both (is_in_place first c) (onto c later) (Err number) (λ (x : Result (List Command) ℕ). x ≡ Ok (d ∷ cs) → (is_in_place first c ≡ true) × (c ≡ d) × (later ≡ Ok cs))
     (λ stands e. let x = at_onto c d later cs e in (stands, x.0, x.1)) (λ _ e. absurd cc)
 
 -- one line behind the first command, where those behind it are as they are to be
@@ -52,7 +52,7 @@ at_later : (number : ℕ) (line : List ℕ) (l : Line) (later : Result (List Com
 at_later number line Skipped later c cs is rest h = rest (c ∷ cs) h
 at_later number line (Saying d) later c cs is rest h =
     let x = at_line number false d c later cs h in
-    (subst IsLater x.1 (said_later (words_of line) d x.0 (read_is_said (words_of line) d (line_command line d is))), rest cs x.2)
+    (subst IsLater x.1 (said_later (line_words line) d x.0 (read_is_said (line_words line) d (line_command line d is))), rest cs x.2)
 at_later number line Bad later c cs is rest h = absurd cc
 
 -- the lines behind the first command
@@ -62,7 +62,7 @@ read_later number [] (c ∷ cs) e = absurd cc
 read_later number (line ∷ lines) (c ∷ cs) e = at_later number line (line_of line) (read_lines (number + 1) false lines) c cs refl (λ ds h. read_later (number + 1) lines ds h) e
 
 -- what may stand first is a heap
-begins : (c : Command) (cs : List Command) → may_stand true c ≡ true → AreLater cs → BeginsWithHeap (c ∷ cs)
+begins : (c : Command) (cs : List Command) → is_in_place true c ≡ true → AreLater cs → BeginsWithHeap (c ∷ cs)
 begins (Heap logs mutators) cs stands h = h
 begins (New m len ds) cs stands h = absurd (false≢true stands)
 begins (Open m) cs stands h = absurd (false≢true stands)
@@ -86,7 +86,7 @@ at_first : (number : ℕ) (l : Line) (same later : Result (List Command) ℕ) (c
 at_first number Skipped same later c cs skipped rest h = skipped h
 at_first number (Saying d) same later c cs skipped rest h =
     let x = at_line number true d c later cs h in
-    begins c cs (subst (λ d. may_stand true d ≡ true) x.1 x.0) (rest x.2)
+    begins c cs (subst (λ d. is_in_place true d ≡ true) x.1 x.0) (rest x.2)
 at_first number Bad same later c cs skipped rest h = absurd cc
 
 -- the lines from the first on

@@ -13,8 +13,8 @@ use Rattle.hex.specs.Hex.{is_hex_digit}
 use Rattle.hex.proofs.HexLemmas.{decode_of-ok}
 use Rattle.far_trace.specs.Command.{Command, Heap, New, Open, Write, Read, Close, Logs}
 use Rattle.far_trace.specs.Says.{Says, Spells}
-use Rattle.far_trace.specs.Grammar.{Line, Skipped, Saying, Bad, line_of, is_plain, is_skipped, command_of, lines_of, words_of}
-use Rattle.far_trace.specs.Cursor.{first_part, first_line, lines_behind, words_in}
+use Rattle.far_trace.specs.Grammar.{Line, Skipped, Saying, Bad, line_of, is_plain, is_skipped, command_of, lines_of, line_words}
+use Rattle.far_trace.specs.Cursor.{front_of, first_line, lines_behind, words_in}
 use Rattle.far_trace.proofs.Cuts.{split_on, line_at}
 use Rattle.far_trace.proofs.SaysLemmas.{read_is_said}
 
@@ -64,14 +64,14 @@ joined_ascii (x ∷ y ∷ xs) e =
     list_all-append is_ascii x (32 ∷ join_with_byte 32 (y ∷ xs)) ∙ rw (parts.0, joined_ascii (y ∷ xs) parts.1) refl
 
 -- a command is ASCII
-pub command_ascii : (line : List ℕ) (c : Command) → command_of (words_of line) ≡ Some c → list_all is_ascii line ≡ true
+pub command_ascii : (line : List ℕ) (c : Command) → command_of (line_words line) ≡ Some c → list_all is_ascii line ≡ true
 command_ascii line c e =
-    ap (list_all is_ascii) (sym (join_with_byte-slice_split 32 line)) ∙ joined_ascii (words_of line) (said_ascii (words_of line) c (read_is_said (words_of line) c e))
+    ap (list_all is_ascii) (sym (join_with_byte-slice_split 32 line)) ∙ joined_ascii (line_words line) (said_ascii (line_words line) c (read_is_said (line_words line) c e))
 
 -- the first line of a text that begins with another byte than a newline begins with it
 first_byte : (text : List ℕ) → 0 < length text → (get_or text 0 0 == 10) ≡ false → is_skipped (first_line text) ≡ (get_or text 0 0 == 35)
 first_byte [] h e = absurd (omega arith)
-first_byte (b ∷ text) h e = ap (λ l. is_skipped (first_part l)) (split_on (λ c. c == 10) b text e)
+first_byte (b ∷ text) h e = ap (λ l. is_skipped (front_of l)) (split_on (λ c. c == 10) b text e)
 
 pub said_command : (text : List ℕ) (c : Command) → 0 < length text → (get_or text 0 0 == 10) ≡ false → (get_or text 0 0 == 35) ≡ false
     → Some c ≡ command_of (words_in text) → length (first_line text) ≤ 4096 → Saying c ≡ line_of (first_line text)
@@ -105,7 +105,7 @@ other_line text i inside high none =
     let at = line_at text (i + 1) (omega arith) (below_more (λ k. (get_or text k 0 == 10) ≡ false) i none here) in
     let front = take (i + 1) text in
     let more = first_line (drop (i + 1) text) in
-    let line : first_line text ≡ front ++ more = ap first_part at in
+    let line : first_line text ≡ front ++ more = ap front_of at in
     let len : length front ≡ i + 1 = length-take-le (i + 1) text (omega arith) in
     let sum = length-append front more in
     let same : get_or (front ++ more) i 0 ≡ get_or text i 0 = get_or_append_left front more 0 i (omega arith) ∙ get_or-take (i + 1) text i 0 (omega arith) in
@@ -127,7 +127,7 @@ line_all text none =
 
 pub long_comment : (text : List ℕ) (i : ℕ) → i ≤ length text → ((k : ℕ) → k < i → (get_or text k 0 == 10) ≡ false) → 4096 < i → line_of (first_line text) ≡ Bad
 long_comment text i h none long =
-    let line : first_line text ≡ take i text ++ first_line (drop i text) = ap first_part (line_at text i h none) in
+    let line : first_line text ≡ take i text ++ first_line (drop i text) = ap front_of (line_at text i h none) in
     let len = ap length line in
     let sum = length-append (take i text) (first_line (drop i text)) in
     let front = length-take-le i text h in

@@ -9,7 +9,7 @@ use Rattle.far_core.specs.state.Law.{Law}
 use Rattle.far_core.specs.state.State.{State}
 use Rattle.far_core.specs.events.Step.{step_of, is_legal, is_opened, near_data, near_len, data_len}
 use Rattle.far_core.proofs.Owing.{is_test}
-use Rattle.far_trace.specs.Made.{made, AllSucceed}
+use Rattle.far_trace.specs.EventRows.{after_events, AllSucceed}
 use Rattle.far_trace.specs.Tidy.{Tidy}
 use Rattle.far_trace.specs.Events.{view_events, load_events}
 use Rattle.far_trace.specs.Objects.{uses}
@@ -17,9 +17,9 @@ use Rattle.far_trace.proofs.MadeLemmas.{legal_step, load_stays, first_succeeds}
 use Rattle.far_trace.proofs.Views.{Viewed, viewed}
 
 -- loads leave the state
-pub loads_stay : (t : State) (m p first count : ℕ) → made t (load_events m p first count) ≡ t
+pub loads_stay : (t : State) (m p first count : ℕ) → after_events t (load_events m p first count) ≡ t
 loads_stay t m p first zero = refl
-loads_stay t m p first (suc count) = ap (λ u. made u (load_events m p (first + 1) count)) (load_stays t m p first) ∙ loads_stay t m p (first + 1) count
+loads_stay t m p first (suc count) = ap (λ u. after_events u (load_events m p (first + 1) count)) (load_stays t m p first) ∙ loads_stay t m p (first + 1) count
 
 module _ (s t : State) (m p : ℕ) (view : Viewed s t m p) where
   -- a load of a word of a held object is legal
@@ -42,27 +42,27 @@ module _ (s t : State) (m p : ℕ) (view : Viewed s t m p) where
 
 module _ (s : State) (next : ℕ → ℕ) (m p : ℕ) (law : Law s) (tidy : Tidy s next) (opened : is_opened s m ≡ true) (ours : uses s m p ≡ true) where
   -- after the view the object is held
-  pub view_held : is_some ((made s (view_events s m p)).held p) ≡ true
+  pub view_held : is_some ((after_events s (view_events s m p)).held p) ≡ true
   view_held = ap is_some (viewed s next m p law tidy opened ours).holds.rests
 
   -- the words are as before
-  pub view_words : (made s (view_events s m p)).word ≡ s.word
+  pub view_words : (after_events s (view_events s m p)).word ≡ s.word
   view_words = (viewed s next m p law tidy opened ours).words
 
   -- so is the object's first data word
-  pub view_data : near_data (read_of ((made s (view_events s m p)).cell p)) ≡ near_data (read_of (s.cell p))
+  pub view_data : near_data (read_of ((after_events s (view_events s m p)).cell p)) ≡ near_data (read_of (s.cell p))
   view_data = (viewed s next m p law tidy opened ours).same_data
 
   -- and its length
-  pub view_len : near_len (read_of ((made s (view_events s m p)).cell p)) ≡ near_len (read_of (s.cell p))
+  pub view_len : near_len (read_of ((after_events s (view_events s m p)).cell p)) ≡ near_len (read_of (s.cell p))
   view_len = (viewed s next m p law tidy opened ours).same_len
 
   -- a load after the view answers the word that stood there before it
-  pub load_word : (i : ℕ) → i < words_for (data_len s p) → (step_of (made s (view_events s m p)) (Load m p i)).1 ≡ Word (s.word (near_data (read_of (s.cell p)) + i))
-  load_word i lt = load_gives s (made s (view_events s m p)) m p (viewed s next m p law tidy opened ours) i lt
+  pub load_word : (i : ℕ) → i < words_for (data_len s p) → (step_of (after_events s (view_events s m p)) (Load m p i)).1 ≡ Word (s.word (near_data (read_of (s.cell p)) + i))
+  load_word i lt = load_gives s (after_events s (view_events s m p)) m p (viewed s next m p law tidy opened ours) i lt
 
   -- the k-th load of a row of them is made from the view and answers the k-th word from the first on
   pub loads_answer : (first count k : ℕ) → k < count → first + count ≤ words_for (data_len s p) →
-      (step_of (made (made s (view_events s m p)) (load_events m p first k)) (Load m p (first + k))).1 ≡ Word (s.word (near_data (read_of (s.cell p)) + (first + k)))
+      (step_of (after_events (after_events s (view_events s m p)) (load_events m p first k)) (Load m p (first + k))).1 ≡ Word (s.word (near_data (read_of (s.cell p)) + (first + k)))
   loads_answer first count k lt inside =
-      ap (λ t. (step_of t (Load m p (first + k))).1) (loads_stay (made s (view_events s m p)) m p first k) ∙ load_word (first + k) (omega arith)
+      ap (λ t. (step_of t (Load m p (first + k))).1) (loads_stay (after_events s (view_events s m p)) m p first k) ∙ load_word (first + k) (omega arith)

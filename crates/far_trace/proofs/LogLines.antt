@@ -14,7 +14,7 @@ use Rattle.far_core.specs.state.State.{State}
 use Rattle.far_core.proofs.Observations.{found, bytes_make_log}
 use Rattle.far_trace.specs.Moment.{moment_of}
 use Rattle.far_trace.specs.Tidy.{Tidy}
-use Rattle.far_trace.specs.Turn.{log_line, kind_told}
+use Rattle.far_trace.specs.Turn.{log_line}
 
 -- spans of which none passes a test take nothing
 none_taken : (test : Span → Bool) (spans : List Span) → ((x : Span) → Contains spans x → test x ≡ false) → taken_by test spans ≡ 0
@@ -55,5 +55,5 @@ module _ (s : State) (next : ℕ → ℕ) (l : ℕ) (law : Law s) (tidy : Tidy s
 
 -- what is said of a log: all up to its tail is live
 pub log_line_is : (s : State) (next : ℕ → ℕ) (l : ℕ) → Law s → Tidy s next →
-    log_line (moment_of s) l ≡ record { log = l; kind = kind_told (s.kind l); live = 8 * s.tail l; dead = 0; unused = 1024 - 8 * s.tail l }
-log_line_is s next l law tidy = λ i. record { log = l; kind = kind_told (s.kind l); live = all_live s next l law tidy i; dead = none_dead s next l law tidy i; unused = 1024 - 8 * s.tail l }
+    log_line (moment_of s) l ≡ record { log = l; kind = s.kind l; live = 8 * s.tail l; dead = 0; unused = 1024 - 8 * s.tail l }
+log_line_is s next l law tidy = λ i. record { log = l; kind = s.kind l; live = all_live s next l law tidy i; dead = none_dead s next l law tidy i; unused = 1024 - 8 * s.tail l }

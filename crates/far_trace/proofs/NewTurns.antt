@@ -31,7 +31,7 @@ use Rattle.far_core.proofs.Owing.{is_test}
 use Rattle.far_core.proofs.Put.{put_both, put_same, put_other}
 use Rattle.far_core.proofs.SpanFrames.{past_tail}
 use Rattle.far_trace.specs.Effects.{with_row}
-use Rattle.far_trace.specs.Made.{made, Succeeds, AllSucceed, AtHand}
+use Rattle.far_trace.specs.EventRows.{after_events, Succeeds, AllSucceed, AtHand}
 use Rattle.far_trace.specs.Tidy.{Tidy}
 use Rattle.far_trace.specs.Events.{zero_puts}
 use Rattle.far_trace.proofs.Rows.{row_is}
@@ -41,7 +41,7 @@ use Rattle.far_trace.proofs.MadeLemmas.{made-append, AllSucceed-append, made_fir
 -- events that change words alone, to zeros from low up to high
 pub record Zeroed (s : State) (es : List Event) (low high : ℕ) : Type 0 where
   pub word : ℕ → ℕ
-  pub state : made s es ≡ record s { word = word }
+  pub state : after_events s es ≡ record s { word = word }
   pub succeed : AllSucceed s es
   pub zeroed : (q : ℕ) → low ≤ q → q < high → word q ≡ 0
   pub same : (q : ℕ) → (q < low) ⊎ (high ≤ q) → word q ≡ s.word q
@@ -125,7 +125,7 @@ module _ (s : State) (next : ℕ → ℕ) (law : Law s) (tidy : Tidy s next) (m 
   zeros_put = zero_row place.log (place.at + 1) (words_for len) 0 headed log not_sealed (omega arith) (omega arith)
 
   -- the state after the puts
-  puts_made : made s (first ∷ zero_puts place (words_for len)) ≡ record s { word = zeros_put.word }
+  puts_made : after_events s (first ∷ zero_puts place (words_for len)) ≡ record s { word = zeros_put.word }
   puts_made = made_first s first (zero_puts place (words_for len)) first_legal ∙ zeros_put.state
 
   -- they succeed
@@ -195,8 +195,8 @@ module _ (s : State) (next : ℕ → ℕ) (law : Law s) (tidy : Tidy s next) (m 
     adopt_legal = is_test placed (Adopt m p) (mutator, owner, not_used, ap in_use new_read)
 
     -- the state after both
-    pub taking_made : made filled (Name p 0 new ∷ Adopt m p ∷ []) ≡ adopted
-    taking_made = made_first filled (Name p 0 new) (Adopt m p ∷ []) name_legal ∙ ap (λ t. made t (Adopt m p ∷ [])) named_so ∙ made_first placed (Adopt m p) [] adopt_legal
+    pub taking_made : after_events filled (Name p 0 new ∷ Adopt m p ∷ []) ≡ adopted
+    taking_made = made_first filled (Name p 0 new) (Adopt m p ∷ []) name_legal ∙ ap (λ t. after_events t (Adopt m p ∷ [])) named_so ∙ made_first placed (Adopt m p) [] adopt_legal
 
     -- the naming and the adoption succeed
     pub taking_succeeds : AllSucceed filled (Name p 0 new ∷ Adopt m p ∷ [])
@@ -345,14 +345,14 @@ module _ (s : State) (next : ℕ → ℕ) (law : Law s) (tidy : Tidy s next) (m 
         outside k (inr high) = inr (omega arith)
 
   -- the events of a new object end in the state that has it
-  pub new_end : made s row ≡ record (with_span record s { word = with_row (put s.word (addr place) (head_word p len ds)) (addr place + 1) (words_for len) (λ _. 0) } p new len place) { used = put s.used p true }
-  new_end = made-append s (first ∷ zero_puts place (words_for len)) (Name p 0 new ∷ Adopt m p ∷ []) ∙ ap (λ t. made t (Name p 0 new ∷ Adopt m p ∷ [])) puts_made
+  pub new_end : after_events s row ≡ record (with_span record s { word = with_row (put s.word (addr place) (head_word p len ds)) (addr place + 1) (words_for len) (λ _. 0) } p new len place) { used = put s.used p true }
+  new_end = made-append s (first ∷ zero_puts place (words_for len)) (Name p 0 new ∷ Adopt m p ∷ []) ∙ ap (λ t. after_events t (Name p 0 new ∷ Adopt m p ∷ [])) puts_made
       ∙ taking_made zeros_put.word head_put zeros_there heads_stay ∙ ap (λ (f : ℕ → ℕ). record (with_span record s { word = f } p new len place) { used = put s.used p true }) puts_row
 
   -- and they keep the heap tidy, with one cell more
-  pub new_tidy : Tidy (made s row) (put next m (next m + 1))
+  pub new_tidy : Tidy (after_events s row) (put next m (next m + 1))
   new_tidy =
-      let end : made s row ≡ record (with_span record s { word = zeros_put.word } p new len place) { used = put s.used p true } =
-      made-append s (first ∷ zero_puts place (words_for len)) (Name p 0 new ∷ Adopt m p ∷ []) ∙ ap (λ t. made t (Name p 0 new ∷ Adopt m p ∷ [])) puts_made
+      let end : after_events s row ≡ record (with_span record s { word = zeros_put.word } p new len place) { used = put s.used p true } =
+      made-append s (first ∷ zero_puts place (words_for len)) (Name p 0 new ∷ Adopt m p ∷ []) ∙ ap (λ t. after_events t (Name p 0 new ∷ Adopt m p ∷ [])) puts_made
       ∙ taking_made zeros_put.word head_put zeros_there heads_stay in
       subst (λ t. Tidy t (put next m (next m + 1))) (sym end) (taking_tidy zeros_put.word head_put zeros_there heads_stay)

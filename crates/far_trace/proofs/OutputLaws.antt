@@ -24,9 +24,9 @@ use Rattle.far_trace.specs.Alone.{Alone, Knows, Own}
 use Rattle.far_trace.specs.Answers.{Answered, Answers, BeginsWithHeap, Commanded, IsMoment, IsOutput, shape_of, first_moment}
 use Rattle.far_trace.specs.Command.{Command, Heap, New, Open, Write, Read, Close, Logs}
 use Rattle.far_trace.specs.Grammar.{commands_of}
-use Rattle.far_trace.specs.Headline.{IsSound, IsWhole, IsSaidBy, TellsAll, TellsLog}
+use Rattle.far_trace.specs.Headline.{IsSound, IsWhole, Lawful, IsSaidBy, TellsAll, TellsLog}
 use Rattle.far_trace.specs.Later.{AreLater}
-use Rattle.far_trace.specs.Made.{made, AllSucceed}
+use Rattle.far_trace.specs.EventRows.{after_events, AllSucceed}
 use Rattle.far_trace.specs.Reply.{Reply, Done, Pointer, Refused, LogLine, printed}
 use Rattle.far_trace.specs.Events.{turn_events, events_for, new_events}
 use Rattle.far_trace.specs.Objects.{lowest_cell, spliced}
@@ -39,7 +39,7 @@ use Rattle.far_trace.specs.Turn.{turn_effect, effect, causes, first_cause, refus
 use Rattle.far_trace.proofs.AloneNew.{new_run, is_structure, is_length}
 use Rattle.far_trace.proofs.AloneFirst.{alone_first}
 use Rattle.far_trace.proofs.Kept.{whole}
-use Rattle.far_trace.proofs.Lasting.{carried, moment_lasts, each_is_moment, first_is_moment}
+use Rattle.far_trace.proofs.Lasting.{first_lawful, carried, moment_lasts, each_is_moment, first_is_moment}
 use Rattle.far_trace.proofs.ViewLaws.{logs_stay}
 use Rattle.far_trace.proofs.LaterLines.{text_begins}
 use Rattle.far_trace.proofs.Lowest.{lowest_found, none_found}
@@ -134,8 +134,8 @@ of_each P s h (l ∷ ls) line c = elim (split line (log_line (moment_of s) l) (m
 tells_log : (s : State) → Law s → (l : ℕ) → TellsLog (moment_of s) (log_line (moment_of s) l)
 tells_log s law l = record { kind = refl; live = refl; dead = refl; unused = refl; whole = bytes_make_log s law l }
 
-pub told : (now : Moment) (r : Reply) (next : Moment) → Law now.core → Commanded now Logs r next → TellsAll now r
-told now r next law h =
+pub logs_tell : (now : Moment) (r : Reply) (next : Moment) → Law now.core → Commanded now Logs r next → TellsAll now r
+logs_tell now r next law h =
     subst (TellsAll now) (sym h.reply) (numbered now.core (range_with_len 0 now.core.logs), of_each (TellsLog now) now.core (tells_log now.core law) (range_with_len 0 now.core.logs))
 
 -- ---- the lowest cell that is free
@@ -283,7 +283,12 @@ makes_its_object now m len ds p next is c =
     let run = new_run s m len ds p at.0 lasts.law numbers.0 own sized.1 numbers.1 (subst (AllSucceed s) events h.succeed) in
     let whole : run.0 ≡ record { owner = m; ds = ds; bytes = replicate len 0; home = Group at.0.log } =
     run.5 ∙ ap (λ (o : ℕ). record { owner = o; ds = ds; bytes = replicate len 0; home = Group at.0.log }) own in
-    (at.0, at.1, ap (λ (x : State). (world_of x).object) (h.state ∙ ap (made s) events) ∙ run.2 ∙ ap (λ (o : Object). put (world_of s).object p (Some o)) whole)
+    (at.0, at.1, ap (λ (x : State). (world_of x).object) (h.state ∙ ap (after_events s) events) ∙ run.2 ∙ ap (λ (o : Object). put (world_of s).object p (Some o)) whole)
+
+-- ---- the first moment
+pub heap_lawful : (logs mutators : ℕ) → is_shape (shape_of logs mutators) ≡ true →
+    ((first_moment logs mutators).core.logs ≡ logs) × ((first_moment logs mutators).core.mutators ≡ mutators) × Lawful (first_moment logs mutators) × IsWhole (first_moment logs mutators).core
+heap_lawful logs mutators fits = let lawful = first_lawful logs mutators fits in (refl, refl, lawful, whole (first_moment logs mutators).core lawful.law)
 
 -- ---- one law from the text
 pub objects_whole : (now : Moment) (cs : List Command) (rs : List Reply) (moments : List Moment) → IsMoment now → AreLater cs → Answered now cs rs moments →

@@ -23,7 +23,7 @@ use Rattle.far_core.specs.state.State.{State, addr}
 use Rattle.far_core.specs.events.Step.{near_len, near_data, data_len}
 use Rattle.far_core.proofs.Bounds.{span_len}
 use Rattle.far_trace.specs.Interpreter.{stores_of}
-use Rattle.far_trace.specs.Made.{made}
+use Rattle.far_trace.specs.EventRows.{after_events}
 use Rattle.far_trace.specs.Events.{starts_inside, ends_inside, words_touched, store_events}
 use Rattle.far_trace.specs.Objects.{spliced}
 use Rattle.far_trace.proofs.MadeLemmas.{made-append}
@@ -162,11 +162,11 @@ stores_same m p first count words after h = rows_same (Loads 0 0 0) (λ i. Store
     (λ i lt. let here : 0 + i ≡ i = omega arith in ap (λ k. Stores m p (first + k) (slice_index words k)) here ∙ ap (Stores m p (first + i)) (h i lt))
 
 -- a write that was made part by part
-pub write_made : (s a b c d : State) (view first last stores : List Event) → a ≡ made s view → b ≡ made a first → c ≡ made b last → d ≡ made c stores →
-    d ≡ made s (view ++ (first ++ last) ++ stores)
+pub write_made : (s a b c d : State) (view first last stores : List Event) → a ≡ after_events s view → b ≡ after_events a first → c ≡ after_events b last → d ≡ after_events c stores →
+    d ≡ after_events s (view ++ (first ++ last) ++ stores)
 write_made s a b c d view first last stores e f g h =
-    h ∙ ap (λ t. made t stores) (g ∙ ap (λ t. made t last) (f ∙ ap (λ t. made t first) e))
-    ∙ ap (λ t. made t stores) (sym (made-append (made s view) first last)) ∙ ap (λ t. made t stores) (sym (made-append s view (first ++ last))) ∙ sym (made-append s (view ++ (first ++ last)) stores)
+    h ∙ ap (λ t. after_events t stores) (g ∙ ap (λ t. after_events t last) (f ∙ ap (λ t. after_events t first) e))
+    ∙ ap (λ t. after_events t stores) (sym (made-append (after_events s view) first last)) ∙ ap (λ t. after_events t stores) (sym (made-append s view (first ++ last))) ∙ sym (made-append s (view ++ (first ++ last)) stores)
 
 -- the word in which a range ends is a word of the object
 pub past_word : (from count len : ℕ) → from + count ≤ len → ends_inside from count ≡ true → (from + count) / 8 < words_for len

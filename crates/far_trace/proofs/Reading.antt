@@ -6,7 +6,7 @@ use Rattle.std.proofs.lemmas.List.Sums.{count_by-le-length}
 use Rattle.std.proofs.lemmas.List.Splits.{length-slice_split}
 use Rattle.far_trace.specs.Command.{Command}
 use Rattle.far_trace.specs.Cursor.{first_line, lines_behind}
-use Rattle.far_trace.specs.Grammar.{Skipped, Saying, Bad, onto, line_of, lines_of, may_stand, read_line, read_lines, commands_of}
+use Rattle.far_trace.specs.Grammar.{Skipped, Saying, Bad, onto, line_of, lines_of, is_in_place, read_line, read_lines, commands_of}
 use Rattle.far_trace.proofs.Cuts.{split_some}
 
 abbrev pub onto_all : List Command → Result (List Command) ℕ → Result (List Command) ℕ
@@ -43,11 +43,11 @@ pub reads_skipped : (number : ℕ) (is_first : Bool) (text : List ℕ) (lines : 
     → read_lines number is_first (lines_of text) ≡ read_lines (number + 1) is_first lines
 reads_skipped number is_first text lines e same = reads_on number is_first text ∙ rw (sym e, sym same) refl
 
-pub reads_misplaced : (number : ℕ) (is_first : Bool) (text : List ℕ) (command : Command) → Saying command ≡ line_of (first_line text) → may_stand is_first command ≡ false
+pub reads_misplaced : (number : ℕ) (is_first : Bool) (text : List ℕ) (command : Command) → Saying command ≡ line_of (first_line text) → is_in_place is_first command ≡ false
     → read_lines number is_first (lines_of text) ≡ Err number
 reads_misplaced number is_first text command e stands = reads_on number is_first text ∙ rw (sym e, stands) refl
 
-pub reads_said : (number : ℕ) (is_first : Bool) (text : List ℕ) (command : Command) (lines : List (List ℕ)) → Saying command ≡ line_of (first_line text) → may_stand is_first command ≡ true
+pub reads_said : (number : ℕ) (is_first : Bool) (text : List ℕ) (command : Command) (lines : List (List ℕ)) → Saying command ≡ line_of (first_line text) → is_in_place is_first command ≡ true
     → lines ≡ lines_behind text → read_lines number is_first (lines_of text) ≡ onto command (read_lines (number + 1) false lines)
 reads_said number is_first text command lines e stands same = reads_on number is_first text ∙ rw (sym e, stands, sym same) refl
 

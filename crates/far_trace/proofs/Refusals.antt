@@ -3,7 +3,7 @@ use Rattle.std.proofs.Common.{◌≡◌, ℕ, Bool, sym, ap, ◌∙◌, subst, O
 use Rattle.std.proofs.lemmas.Bool.{cond_both}
 use Rattle.far_word.specs.declared.refused.Refused.{Refused as Refusal}
 use Rattle.far_core.specs.state.State.{State}
-use Rattle.far_trace.specs.Made.{AllAtHand}
+use Rattle.far_trace.specs.EventRows.{AllAtHand}
 use Rattle.far_trace.specs.Moment.{Moment, moment_of}
 use Rattle.far_trace.specs.Answers.{Commanded}
 use Rattle.far_trace.specs.Command.{Command, Heap, New, Open, Write, Read, Close, Logs}

@@ -1,10 +1,11 @@
 -- What words say, and what they are read as.
-use Rattle.std.proofs.Common.{◌≡◌, ◌⊎◌, inl, inr, ℕ, ◌<◌, ◌^◌, Bool, true, false, cond, List, [], ◌∷◌, Option, Some, None, codes, decimal, sym, ◌∙◌, ap, refl, subst}
+use Rattle.std.proofs.Common.{◌≡◌, ◌⊎◌, inl, inr, ℕ, zero, suc, ◌<◌, ◌^◌, Bool, true, false, cond, List, [], ◌∷◌, Option, Some, None, codes, decimal, sym, ◌∙◌, ap, refl, subst}
 use Rattle.std.specs.Str.{bytes_eq}
 use Rattle.std.proofs.lemmas.Slice.Eq.{bytes_eq-Decides}
 use Rattle.far_trace.specs.Command.{Command, Heap, New, Open, Write, Read, Close, Logs}
 use Rattle.far_trace.specs.Says.{Says, Spells}
-use Rattle.far_trace.specs.Grammar.{number_of, bytes_in, next_number, next_bytes, ended, command_of, heap_of, new_of, open_of, write_of, read_of, close_of, logs_of, ◌>>=◌}
+use Rattle.far_trace.specs.Grammar.{From, Operands, Numbers, NumbersAndBytes, number_of, bytes_in, next_number, next_bytes, numbers_then, ended, command_from, table, found_in, command_of, ◌>>=◌}
+use Rattle.far_trace.proofs.Each.{Each}
 use Rattle.far_trace.proofs.HexLemmas.{spelled_is_hex, hex_is_spelled}
 use Rattle.far_trace.proofs.Numbers.{number_is, number_only}
 
@@ -21,9 +22,24 @@ chosen : {X : Type 0} (b : Bool) (x y z : X) → cond b x y ≡ z → ((b ≡ tr
 chosen true x y z e = inl (refl, e)
 chosen false x y z e = inr (refl, e)
 
-bind_some : {A B : Type 0} (o : Option A) (f : A → Option B) (y : B) → (o >>= f) ≡ Some y → (x : A) × (o ≡ Some x) × (f x ≡ Some y)
-bind_some (Some x) f y e = (x, refl, e)
-bind_some None f y e = absurd (cc e)
+-- ---- numbers in front of words
+abbrev Several : ℕ → Type 0
+Several zero = Unit {0}
+Several (suc n) = ℕ × Several n
+
+abbrev Below : (n : ℕ) → Several n → Type 0
+Below zero t = Unit {0}
+Below (suc n) t = (t.0 < 2 ^ 64) × Below n t.1
+
+-- what is made of them
+abbrev made_of : {X : Type 0} → (n : ℕ) → From n X → Several n → X
+made_of zero make t = make
+made_of (suc n) make t = made_of n (make t.0) t.1
+
+-- as they are printed, a word each, before others
+abbrev in_front : (n : ℕ) → Several n → List (List ℕ) → List (List ℕ)
+in_front zero t behind = behind
+in_front (suc n) t behind = decimal t.0 ∷ in_front n t.1 behind
 
 -- what is read as a number, and what is made of it and of the words behind it
 number_then : {B : Type 0} (words : List (List ℕ)) (f : ℕ × List (List ℕ) → Option B) (y : B) → (next_number words >>= f) ≡ Some y
@@ -34,6 +50,15 @@ number_then (w ∷ rest) f y e =
       | Some n ↦ λ is k. let only = number_only w n is in (n, rest, only.0, ap (λ v. v ∷ rest) only.1, k)
       | None ↦ λ is k. absurd (cc k)
     ] refl e
+
+-- so it is with several
+several_then : {X : Type 0} (n : ℕ) (make : From n X) (rest : X → List (List ℕ) → Option Command) (words : List (List ℕ)) (c : Command) → numbers_then n make rest words ≡ Some c →
+    (t : Several n) × (behind : List (List ℕ)) × Below n t × (words ≡ in_front n t behind) × (rest (made_of n make t) behind ≡ Some c)
+several_then zero make rest words c e = (tt, words, tt, refl, e)
+several_then (suc n) make rest words c e =
+    let (m, others, small, is, more) = number_then words (λ first. numbers_then n (make first.0) rest first.1) c e in
+    let (t, behind, below, so, last) = several_then n (make m) rest others c more in
+    ((m, t), behind, (small, below), is ∙ ap (λ ws. decimal m ∷ ws) so, last)
 
 -- what is read as bytes, and what is made of them and of the words behind them
 bytes_then : {B : Type 0} (words : List (List ℕ)) (f : List ℕ × List (List ℕ) → Option B) (y : B) → (next_bytes words >>= f) ≡ Some y
@@ -49,93 +74,76 @@ ended_then : (words : List (List ℕ)) (c d : Command) → ended words c ≡ Som
 ended_then [] c d e = (refl, cc e)
 ended_then (w ∷ words) c d e = absurd (cc e)
 
-read_read : (args : List (List ℕ)) (c : Command) → read_of args ≡ Some c → Says (codes "read" ∷ args) c
-read_read args c e =
-    let m = number_then args (λ m. next_number m.1 >>= λ p. next_number p.1 >>= λ f. next_number f.1 >>= λ l. ended l.1 (Read m.0 p.0 f.0 l.0)) c e in
-    let p = number_then m.1 (λ p. next_number p.1 >>= λ f. next_number f.1 >>= λ l. ended l.1 (Read m.0 p.0 f.0 l.0)) c m.4 in
-    let f = number_then p.1 (λ f. next_number f.1 >>= λ l. ended l.1 (Read m.0 p.0 f.0 l.0)) c p.4 in
-    let l = number_then f.1 (λ l. ended l.1 (Read m.0 p.0 f.0 l.0)) c f.4 in
-    let z = ended_then l.1 (Read m.0 p.0 f.0 l.0) c l.4 in
-    let is : args ≡ decimal m.0 ∷ decimal p.0 ∷ decimal f.0 ∷ decimal l.0 ∷ [] = cc (m.3, p.3, f.3, l.3, z.0) in
-    subst (Says (codes "read" ∷ args)) z.1 (ap (λ l. codes "read" ∷ l) is, m.2, p.2, f.2, l.2)
+-- ---- the operands of a command
+numbers_only : (n : ℕ) (make : From n Command) (words : List (List ℕ)) (c : Command) → command_from (Numbers n make) words ≡ Some c →
+    (t : Several n) × Below n t × (words ≡ in_front n t []) × (made_of n make t ≡ c)
+numbers_only n make words c e =
+    let (t, behind, below, is, last) = several_then n make (λ command behind. ended behind command) words c e in
+    let (none, same) = ended_then behind (made_of n make t) c last in
+    (t, below, is ∙ ap (in_front n t) none, same)
 
-write_read : (args : List (List ℕ)) (c : Command) → write_of args ≡ Some c → Says (codes "write" ∷ args) c
-write_read args c e =
-    let m = number_then args (λ m. next_number m.1 >>= λ p. next_number p.1 >>= λ f. next_bytes f.1 >>= λ b. ended b.1 (Write m.0 p.0 f.0 b.0)) c e in
-    let p = number_then m.1 (λ p. next_number p.1 >>= λ f. next_bytes f.1 >>= λ b. ended b.1 (Write m.0 p.0 f.0 b.0)) c m.4 in
-    let f = number_then p.1 (λ f. next_bytes f.1 >>= λ b. ended b.1 (Write m.0 p.0 f.0 b.0)) c p.4 in
-    let b = bytes_then f.1 (λ b. ended b.1 (Write m.0 p.0 f.0 b.0)) c f.4 in
-    let z = ended_then b.1 (Write m.0 p.0 f.0 b.0) c b.5 in
-    let is : args ≡ decimal m.0 ∷ decimal p.0 ∷ decimal f.0 ∷ b.2 ∷ [] = cc (m.3, p.3, f.3, b.4, z.0) in
-    subst (Says (codes "write" ∷ args)) z.1 (b.2, ap (λ l. codes "write" ∷ l) is, m.2, p.2, f.2, b.3)
+numbers_and_bytes : (n : ℕ) (make : From n (List ℕ → Command)) (words : List (List ℕ)) (c : Command) → command_from (NumbersAndBytes n make) words ≡ Some c →
+    (t : Several n) × (word bytes : List ℕ) × Below n t × Spells word bytes × (words ≡ in_front n t (word ∷ [])) × (made_of n make t bytes ≡ c)
+numbers_and_bytes n make words c e =
+    let (t, behind, below, is, last) = several_then n make (λ command behind. next_bytes behind >>= λ bytes. ended bytes.1 (command bytes.0)) words c e in
+    let (bytes, rest, word, spells, so, end) = bytes_then behind (λ bytes. ended bytes.1 (made_of n make t bytes.0)) c last in
+    let (none, same) = ended_then rest (made_of n make t bytes) c end in
+    (t, word, bytes, below, spells, is ∙ ap (in_front n t) (so ∙ ap (λ ws. word ∷ ws) none), same)
 
-open_read : (args : List (List ℕ)) (c : Command) → open_of args ≡ Some c → Says (codes "open" ∷ args) c
-open_read args c e =
-    let m = number_then args (λ m. ended m.1 (Open m.0)) c e in
-    let z = ended_then m.1 (Open m.0) c m.4 in
-    let is : args ≡ decimal m.0 ∷ [] = cc (m.3, z.0) in
-    subst (Says (codes "open" ∷ args)) z.1 (ap (λ l. codes "open" ∷ l) is, m.2)
+-- ---- each row of the table: what is read so says the command
+abbrev IsSaid : List ℕ × Operands → Type 0
+IsSaid row = (words : List (List ℕ)) (c : Command) → command_from row.1 words ≡ Some c → Says (row.0 ∷ words) c
 
-close_read : (args : List (List ℕ)) (c : Command) → close_of args ≡ Some c → Says (codes "close" ∷ args) c
-close_read args c e =
-    let m = number_then args (λ m. ended m.1 (Close m.0)) c e in
-    let z = ended_then m.1 (Close m.0) c m.4 in
-    let is : args ≡ decimal m.0 ∷ [] = cc (m.3, z.0) in
-    subst (Says (codes "close" ∷ args)) z.1 (ap (λ l. codes "close" ∷ l) is, m.2)
+read_said : IsSaid (codes "read", Numbers 4 Read)
+read_said words c e =
+    let (t, b, is, same) = numbers_only 4 Read words c e in
+    subst (Says (codes "read" ∷ words)) same (ap (λ ws. codes "read" ∷ ws) is, b.0, b.1.0, b.1.1.0, b.1.1.1.0)
 
-new_read : (args : List (List ℕ)) (c : Command) → new_of args ≡ Some c → Says (codes "new" ∷ args) c
-new_read args c e =
-    let m = number_then args (λ m. next_number m.1 >>= λ l. next_number l.1 >>= λ k. ended k.1 (New m.0 l.0 k.0)) c e in
-    let l = number_then m.1 (λ l. next_number l.1 >>= λ k. ended k.1 (New m.0 l.0 k.0)) c m.4 in
-    let k = number_then l.1 (λ k. ended k.1 (New m.0 l.0 k.0)) c l.4 in
-    let z = ended_then k.1 (New m.0 l.0 k.0) c k.4 in
-    let is : args ≡ decimal m.0 ∷ decimal l.0 ∷ decimal k.0 ∷ [] = cc (m.3, l.3, k.3, z.0) in
-    subst (Says (codes "new" ∷ args)) z.1 (ap (λ l. codes "new" ∷ l) is, m.2, l.2, k.2)
+write_said : IsSaid (codes "write", NumbersAndBytes 3 Write)
+write_said words c e =
+    let (t, word, bytes, b, spells, is, same) = numbers_and_bytes 3 Write words c e in
+    subst (Says (codes "write" ∷ words)) same (word, ap (λ ws. codes "write" ∷ ws) is, b.0, b.1.0, b.1.1.0, spells)
 
-heap_read : (args : List (List ℕ)) (c : Command) → heap_of args ≡ Some c → Says (codes "heap" ∷ args) c
-heap_read args c e =
-    let l = number_then args (λ l. next_number l.1 >>= λ m. ended m.1 (Heap l.0 m.0)) c e in
-    let m = number_then l.1 (λ m. ended m.1 (Heap l.0 m.0)) c l.4 in
-    let z = ended_then m.1 (Heap l.0 m.0) c m.4 in
-    let is : args ≡ decimal l.0 ∷ decimal m.0 ∷ [] = cc (l.3, m.3, z.0) in
-    subst (Says (codes "heap" ∷ args)) z.1 (ap (λ l. codes "heap" ∷ l) is, l.2, m.2)
+open_said : IsSaid (codes "open", Numbers 1 Open)
+open_said words c e =
+    let (t, b, is, same) = numbers_only 1 Open words c e in
+    subst (Says (codes "open" ∷ words)) same (ap (λ ws. codes "open" ∷ ws) is, b.0)
 
-logs_read : (args : List (List ℕ)) (c : Command) → logs_of args ≡ Some c → Says (codes "logs" ∷ args) c
-logs_read args c e = let z = ended_then args Logs c e in subst (Says (codes "logs" ∷ args)) z.1 (ap (λ l. codes "logs" ∷ l) z.0)
+close_said : IsSaid (codes "close", Numbers 1 Close)
+close_said words c e =
+    let (t, b, is, same) = numbers_only 1 Close words c e in
+    subst (Says (codes "close" ∷ words)) same (ap (λ ws. codes "close" ∷ ws) is, b.0)
+
+new_said : IsSaid (codes "new", Numbers 3 New)
+new_said words c e =
+    let (t, b, is, same) = numbers_only 3 New words c e in
+    subst (Says (codes "new" ∷ words)) same (ap (λ ws. codes "new" ∷ ws) is, b.0, b.1.0, b.1.1.0)
+
+heap_said : IsSaid (codes "heap", Numbers 2 Heap)
+heap_said words c e =
+    let (t, b, is, same) = numbers_only 2 Heap words c e in
+    subst (Says (codes "heap" ∷ words)) same (ap (λ ws. codes "heap" ∷ ws) is, b.0, b.1.0)
+
+logs_said : IsSaid (codes "logs", Numbers 0 Logs)
+logs_said words c e =
+    let (t, b, is, same) = numbers_only 0 Logs words c e in
+    subst (Says (codes "logs" ∷ words)) same (ap (λ ws. codes "logs" ∷ ws) is)
+
+rows_said : Each IsSaid table
+rows_said = (read_said, (write_said, (open_said, (close_said, (new_said, (heap_said, (logs_said, tt)))))))
 
 -- words that begin with a command's name
 named : (name word : List ℕ) (args : List (List ℕ)) (c : Command) → bytes_eq name word ≡ true → Says (word ∷ args) c → Says (name ∷ args) c
 named name word args c e h = subst (λ w. Says (w ∷ args) c) (sym ((bytes_eq-Decides name word).0 e)) h
 
+-- what is found in a table whose rows are read so
+found_said : (rows : List (List ℕ × Operands)) → Each IsSaid rows → (name : List ℕ) (words : List (List ℕ)) (c : Command) → found_in rows name words ≡ Some c → Says (name ∷ words) c
+found_said [] h name words c e = absurd (cc e)
+found_said (row ∷ rows) h name words c e = elim (chosen (bytes_eq name row.0) _ _ (Some c) e) [
+  | inl k ↦ named name row.0 words c k.0 (h.0 words c k.1)
+  | inr k ↦ found_said rows h.1 name words c k.1
+]
+
 pub read_is_said : (words : List (List ℕ)) (c : Command) → command_of words ≡ Some c → Says words c
 read_is_said [] c e = absurd (cc e)
-read_is_said (name ∷ args) c e =
-    elim (chosen (bytes_eq name (codes "read")) _ _ (Some c) e) [
-      | inl k ↦ named name (codes "read") args c k.0 (read_read args c k.1)
-      | inr h0 ↦
-          elim (chosen (bytes_eq name (codes "write")) _ _ (Some c) h0.1) [
-            | inl k ↦ named name (codes "write") args c k.0 (write_read args c k.1)
-            | inr h1 ↦
-                elim (chosen (bytes_eq name (codes "open")) _ _ (Some c) h1.1) [
-                  | inl k ↦ named name (codes "open") args c k.0 (open_read args c k.1)
-                  | inr h2 ↦
-                      elim (chosen (bytes_eq name (codes "close")) _ _ (Some c) h2.1) [
-                        | inl k ↦ named name (codes "close") args c k.0 (close_read args c k.1)
-                        | inr h3 ↦
-                            elim (chosen (bytes_eq name (codes "new")) _ _ (Some c) h3.1) [
-                              | inl k ↦ named name (codes "new") args c k.0 (new_read args c k.1)
-                              | inr h4 ↦
-                                  elim (chosen (bytes_eq name (codes "heap")) _ _ (Some c) h4.1) [
-                                    | inl k ↦ named name (codes "heap") args c k.0 (heap_read args c k.1)
-                                    | inr h5 ↦
-                                        elim (chosen (bytes_eq name (codes "logs")) _ _ (Some c) h5.1) [
-                                          | inl k ↦ named name (codes "logs") args c k.0 (logs_read args c k.1)
-                                          | inr h6 ↦
-                                              absurd (cc h6.1)
-                                        ]
-                                  ]
-                            ]
-                      ]
-                ]
-          ]
-    ]
+read_is_said (name ∷ words) c e = found_said table rows_said name words c e

@@ -17,7 +17,7 @@ use Rattle.far_core.proofs.Keeps.{keeps}
 use Rattle.far_core.proofs.KeepWords.{head_stays}
 use Rattle.far_core.proofs.Owing.{is_test}
 use Rattle.far_trace.specs.Effects.{with_row}
-use Rattle.far_trace.specs.Made.{made, AllSucceed}
+use Rattle.far_trace.specs.EventRows.{after_events, AllSucceed}
 use Rattle.far_trace.specs.Tidy.{Tidy}
 use Rattle.far_trace.proofs.MadeLemmas.{made_first, first_succeeds}
 use Rattle.far_trace.proofs.Rows.{row_none, row_first}
@@ -62,7 +62,7 @@ module _ (next : ℕ → ℕ) (m p len : ℕ) (place : Place) (w : ℕ → ℕ) 
 
   -- the stores succeed and keep the heap tidy
   pub stores_go : (count first : ℕ) (u : State) → Law u → Tidy u next → HoldsObject u m p len place → ((i : ℕ) → i < count → first + i < words_for len) →
-      AllSucceed u (map (λ i. Store m p i (w i)) (range_with_len first count)) × Tidy (made u (map (λ i. Store m p i (w i)) (range_with_len first count))) next
+      AllSucceed u (map (λ i. Store m p i (w i)) (range_with_len first count)) × Tidy (after_events u (map (λ i. Store m p i (w i)) (range_with_len first count))) next
   stores_go zero first u law tidy h inside = (tt, tidy)
   stores_go (suc count) first u law tidy h inside =
       let at : first + 0 ≡ first = omega arith in
@@ -77,7 +77,7 @@ module _ (next : ℕ → ℕ) (m p len : ℕ) (place : Place) (w : ℕ → ℕ) 
 
   -- they make a row of words
   pub stores_end : (count first : ℕ) (u : State) → Law u → HoldsObject u m p len place → ((i : ℕ) → i < count → first + i < words_for len) →
-      made u (map (λ i. Store m p i (w i)) (range_with_len first count)) ≡ record u { word = with_row u.word (near_data (read_of (u.cell p)) + first) count (λ i. w (first + i)) }
+      after_events u (map (λ i. Store m p i (w i)) (range_with_len first count)) ≡ record u { word = with_row u.word (near_data (read_of (u.cell p)) + first) count (λ i. w (first + i)) }
   stores_end zero first u law h inside = ap (λ (f : ℕ → ℕ). record u { word = f }) (row_none u.word (near_data (read_of (u.cell p)) + first) (λ i. w (first + i)))
   stores_end (suc count) first u law h inside =
       let at : first + 0 ≡ first = omega arith in

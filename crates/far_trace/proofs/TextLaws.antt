@@ -6,7 +6,7 @@ use Rattle.std.proofs.lemmas.Bool.{and_parts, le-leb, lt-leb, cond_both}
 use Rattle.std.proofs.lemmas.Bool.Decides.{nat_tests}
 use Rattle.std.proofs.lemmas.List.Splits.{join_with_byte-slice_split}
 use Rattle.far_trace.specs.Command.{Command}
-use Rattle.far_trace.specs.Grammar.{Line, Skipped, Saying, Bad, line_of, lines_of, words_of, is_plain, is_skipped, saying, command_of, commands_of, may_stand, onto, read_line, read_lines}
+use Rattle.far_trace.specs.Grammar.{Line, Skipped, Saying, Bad, line_of, lines_of, line_words, is_plain, is_skipped, saying, command_of, commands_of, is_in_place, onto, read_line, read_lines}
 use Rattle.far_trace.specs.TraceText.{IsPassed, Speaks, LinesSay, TextSays, SaysNothing, none_yet, FirstBad, HaveNone}
 use Rattle.far_trace.proofs.Cuts.{split_on}
 use Rattle.far_trace.proofs.LaterLines.{at_saying}
@@ -39,16 +39,16 @@ skipped line (inl e) = ap is_skipped e
 skipped line (inr h) = ap is_skipped h.1
 
 -- words that say a command don't begin with a #
-hash_says : (rest : List ℕ) (c : Command) → command_of (words_of (35 ∷ rest)) ≡ Some c → ⊥
+hash_says : (rest : List ℕ) (c : Command) → command_of (line_words (35 ∷ rest)) ≡ Some c → ⊥
 hash_says rest c e =
-    let none : command_of (words_of (35 ∷ rest)) ≡ None = ap command_of (split_on (λ b. b == 32) 35 rest refl) in
+    let none : command_of (line_words (35 ∷ rest)) ≡ None = ap command_of (split_on (λ b. b == 32) 35 rest refl) in
     let odd : None ≡ Some c = sym none ∙ e in cc
 
-not_skipped : (line : List ℕ) (c : Command) → command_of (words_of line) ≡ Some c → is_skipped line ≡ false
+not_skipped : (line : List ℕ) (c : Command) → command_of (line_words line) ≡ Some c → is_skipped line ≡ false
 not_skipped [] c e = absurd cc
 not_skipped (b ∷ rest) c e =
     elim (b == 35) as (λ t. (b == 35) ≡ t → t ≡ false) [
-      | true ↦ λ h. let same : b ≡ 35 = grind (arith, nat_tests) in absurd (hash_says rest c (subst (λ x. command_of (words_of (x ∷ rest)) ≡ Some c) same e))
+      | true ↦ λ h. let same : b ≡ 35 = grind (arith, nat_tests) in absurd (hash_says rest c (subst (λ x. command_of (line_words (x ∷ rest)) ≡ Some c) same e))
       | false ↦ λ h. refl
     ] refl
 
@@ -58,9 +58,9 @@ passed_is line h = rw (is_plain_line line h.0 (ascii_list line h.1), skipped lin
 
 is_passed : (line : List ℕ) → line_of line ≡ Skipped → IsPassed line
 unfolding line_of
-is_passed line = cond_both (is_plain line) (cond (is_skipped line) Skipped (saying (command_of (words_of line)))) Bad (λ (x : Line). x ≡ Skipped → IsPassed line)
-    (λ plain. cond_both (is_skipped line) Skipped (saying (command_of (words_of line))) (λ (x : Line). x ≡ Skipped → IsPassed line)
-    (λ skips _. let h = plain_parts line plain in (h.0, h.1, begins line skips)) (λ _ e. absurd (not_silent (command_of (words_of line)) e)))
+is_passed line = cond_both (is_plain line) (cond (is_skipped line) Skipped (saying (command_of (line_words line)))) Bad (λ (x : Line). x ≡ Skipped → IsPassed line)
+    (λ plain. cond_both (is_skipped line) Skipped (saying (command_of (line_words line))) (λ (x : Line). x ≡ Skipped → IsPassed line)
+    (λ skips _. let h = plain_parts line plain in (h.0, h.1, begins line skips)) (λ _ e. absurd (not_silent (command_of (line_words line)) e)))
     (λ _ e. absurd cc)
   where
     not_silent : (o : Option Command) → saying o ≡ Skipped → ⊥
@@ -70,14 +70,14 @@ is_passed line = cond_both (is_plain line) (cond (is_skipped line) Skipped (sayi
 speaks_is : (line : List ℕ) (c : Command) → Speaks line c → line_of line ≡ Saying c
 unfolding line_of
 speaks_is line c h =
-    let e = said_is_read (words_of line) c h.1 in
+    let e = said_is_read (line_words line) c h.1 in
     rw (is_plain_line line h.0 (command_ascii line c e), not_skipped line c e, e) refl
 
 is_speaks : (line : List ℕ) (c : Command) → line_of line ≡ Saying c → Speaks line c
 unfolding line_of
-is_speaks line c = cond_both (is_plain line) (cond (is_skipped line) Skipped (saying (command_of (words_of line)))) Bad (λ (x : Line). x ≡ Saying c → Speaks line c)
-    (λ plain. cond_both (is_skipped line) Skipped (saying (command_of (words_of line))) (λ (x : Line). x ≡ Saying c → Speaks line c)
-    (λ _ e. absurd cc) (λ _ e. ((plain_parts line plain).0, read_is_said (words_of line) c (at_saying (command_of (words_of line)) c e))))
+is_speaks line c = cond_both (is_plain line) (cond (is_skipped line) Skipped (saying (command_of (line_words line)))) Bad (λ (x : Line). x ≡ Saying c → Speaks line c)
+    (λ plain. cond_both (is_skipped line) Skipped (saying (command_of (line_words line))) (λ (x : Line). x ≡ Saying c → Speaks line c)
+    (λ _ e. absurd cc) (λ _ e. ((plain_parts line plain).0, read_is_said (line_words line) c (at_saying (command_of (line_words line)) c e))))
     (λ _ e. absurd cc)
 
 -- ---- lines in order
@@ -108,7 +108,7 @@ read_one : (number : ℕ) (first : Bool) (line : List ℕ) (lines : List (List �
     read_line number first l (read_lines (number + 1) first lines) (read_lines (number + 1) false lines) ≡ Ok cs → LinesSay first (line ∷ lines) cs
 read_one number first line lines cs Skipped is rest e = inl (is_passed line is, rest first cs e)
 read_one number first line lines cs (Saying c) is rest e =
-    cond_both (may_stand first c) (onto c (read_lines (number + 1) false lines)) (Err number) (λ (x : Result (List Command) ℕ). x ≡ Ok cs → LinesSay first (line ∷ lines) cs)
+    cond_both (is_in_place first c) (onto c (read_lines (number + 1) false lines)) (Err number) (λ (x : Result (List Command) ℕ). x ≡ Ok cs → LinesSay first (line ∷ lines) cs)
     (λ stands e. let x = onto_ok c (read_lines (number + 1) false lines) cs e in inr (c, x.0, x.1, is_speaks line c is, stands, rest false x.0 x.2))
     (λ _ e. absurd cc) e
 read_one number first line lines cs Bad is rest e = absurd cc
@@ -144,7 +144,7 @@ none_later [] = refl
 none_later (c ∷ cs) = refl
 
 -- one line more in front, with a command
-bad_later : (number : ℕ) (first : Bool) (line : List ℕ) (lines : List (List ℕ)) (n : ℕ) (c : Command) → Speaks line c → may_stand first c ≡ true → FirstBad (number + 1) false lines n → FirstBad number first (line ∷ lines) n
+bad_later : (number : ℕ) (first : Bool) (line : List ℕ) (lines : List (List ℕ)) (n : ℕ) (c : Command) → Speaks line c → is_in_place first c ≡ true → FirstBad (number + 1) false lines n → FirstBad number first (line ∷ lines) n
 bad_later number first line lines n c speaks stands (front, bad, rest, cs, whole, at, says, nothing) =
     (line ∷ front, bad, rest, c ∷ cs, ap (λ ls. line ∷ ls) whole, omega (arith, at), inr (c, cs, refl, speaks, stands, says), subst (λ b. SaysNothing b bad) (none_later cs) nothing)
 
@@ -157,11 +157,11 @@ bad_one : (number : ℕ) (first : Bool) (line : List ℕ) (lines : List (List �
     read_line number first l (read_lines (number + 1) first lines) (read_lines (number + 1) false lines) ≡ Err n → FirstBad number first (line ∷ lines) n
 bad_one number first line lines n Skipped is rest e = bad_behind number first line lines n (is_passed line is) (rest first e)
 bad_one number first line lines n (Saying c) is rest e =
-    cond_both (may_stand first c) (onto c (read_lines (number + 1) false lines)) (Err number) (λ (x : Result (List Command) ℕ). x ≡ Err n → FirstBad number first (line ∷ lines) n)
+    cond_both (is_in_place first c) (onto c (read_lines (number + 1) false lines)) (Err number) (λ (x : Result (List Command) ℕ). x ≡ Err n → FirstBad number first (line ∷ lines) n)
     (λ stands e. bad_later number first line lines n c (is_speaks line c is) stands (rest false (onto_err c (read_lines (number + 1) false lines) n e)))
     (λ fails e. let at : number ≡ n = cc in bad_here number first line lines n at (
       (λ p. let odd : Saying c ≡ Skipped = sym is ∙ passed_is line p in cc),
-      (λ d s. let same : Saying c ≡ Saying d = sym is ∙ speaks_is line d s in let one : c ≡ d = cc in subst (λ x. may_stand first x ≡ false) one fails),
+      (λ d s. let same : Saying c ≡ Saying d = sym is ∙ speaks_is line d s in let one : c ≡ d = cc in subst (λ x. is_in_place first x ≡ false) one fails),
     )) e
 bad_one number first line lines n Bad is rest e = let at : number ≡ n = cc in bad_here number first line lines n at (
   (λ p. let odd : Bad ≡ Skipped = sym is ∙ passed_is line p in cc),
@@ -194,5 +194,5 @@ uncut p [] = refl
 uncut p (x ∷ xs) = cond_both (p x) ([] ∷ slice_split p xs) (onto_first x (slice_split p xs)) (λ (parts : List (List ℕ)). list_all (list_all (λ b. not (p b))) parts ≡ true)
     (λ _. uncut p xs) (λ e. first_uncut p x (slice_split p xs) e (uncut p xs))
 
-pub cuts : (bytes : List ℕ) → HaveNone 10 (lines_of bytes) × (join_with_byte 10 (lines_of bytes) ≡ bytes) × HaveNone 32 (words_of bytes) × (join_with_byte 32 (words_of bytes) ≡ bytes)
+pub cuts : (bytes : List ℕ) → HaveNone 10 (lines_of bytes) × (join_with_byte 10 (lines_of bytes) ≡ bytes) × HaveNone 32 (line_words bytes) × (join_with_byte 32 (line_words bytes) ≡ bytes)
 cuts bytes = (uncut (λ b. b == 10) bytes, join_with_byte-slice_split 10 bytes, uncut (λ b. b == 32) bytes, join_with_byte-slice_split 32 bytes)

@@ -28,7 +28,7 @@ use Rattle.far_core.proofs.Put.{put_both, put_same, put_other}
 use Rattle.far_trace.specs.Moment.{moment_of}
 use Rattle.far_trace.specs.Command.{Command, Heap, New, Open, Write, Read, Close, Logs}
 use Rattle.far_trace.specs.Interpreter.{AllBytes, named_by, next_after}
-use Rattle.far_trace.specs.Made.{made, AllSucceed, AtHand}
+use Rattle.far_trace.specs.EventRows.{after_events, AllSucceed, AtHand}
 use Rattle.far_trace.specs.Tidy.{Tidy}
 use Rattle.far_trace.specs.Events.{new_events, zero_puts, open_events, view_events, first_word, words_touched, load_events, starts_inside, ends_inside, part_events, store_events, turn_events, events_for}
 use Rattle.far_trace.specs.Objects.{uses, object_len, data_of, spliced, lowest_cell, is_range}
@@ -83,7 +83,7 @@ access_fact s next m p from count law tidy e =
 -- a read of an object's words
 module _ (s : State) (next : ℕ → ℕ) (m p from count : ℕ) (law : Law s) (tidy : Tidy s next) (access : Access s m p from count) where
   -- the object is held after the view
-  viewing : Viewed s (made s (view_events s m p)) m p
+  viewing : Viewed s (after_events s (view_events s m p)) m p
   viewing = viewed s next m p law tidy access.opened access.ours
 
   -- the words that are touched are the object's
@@ -97,19 +97,19 @@ module _ (s : State) (next : ℕ → ℕ) (m p from count : ℕ) (law : Law s) (
   -- they succeed
   pub read_succeeds : AllSucceed s read_events
   read_succeeds = AllSucceed-append s (view_events s m p) (load_events m p (first_word from) (words_touched from count)) (view_succeeds s next m p law tidy access.opened access.ours)
-      (loads_succeed s (made s (view_events s m p)) m p viewing (first_word from) (words_touched from count) touched_inside)
+      (loads_succeed s (after_events s (view_events s m p)) m p viewing (first_word from) (words_touched from count) touched_inside)
 
   -- they end where the view does
-  read_end : made s read_events ≡ made s (view_events s m p)
+  read_end : after_events s read_events ≡ after_events s (view_events s m p)
   read_end = made-append s (view_events s m p) (load_events m p (first_word from) (words_touched from count))
-      ∙ loads_stay (made s (view_events s m p)) m p (first_word from) (words_touched from count)
+      ∙ loads_stay (after_events s (view_events s m p)) m p (first_word from) (words_touched from count)
 
   -- they keep the heap tidy
-  pub read_tidy : Tidy (made s read_events) next
+  pub read_tidy : Tidy (after_events s read_events) next
   read_tidy = subst (λ t. Tidy t next) (sym read_end) (view_tidy s next m p law tidy access.opened access.ours)
 
   -- and the law
-  pub read_law : Law (made s read_events)
+  pub read_law : Law (after_events s read_events)
   read_law = subst Law (sym read_end) (view_law s next m p law tidy access.opened access.ours)
 
   -- the words that they carry are 64 bits wide
@@ -120,15 +120,15 @@ module _ (s : State) (next : ℕ → ℕ) (m p from count : ℕ) (law : Law s) (
   read_fits = Each-append Fits (view_events s m p) (load_events m p (first_word from) (words_touched from count)) view_fits (Each-row Fits (λ i. Loads m p i) (first_word from) (words_touched from count) (λ _ _. tt))
 
   -- they make a view
-  pub read_is : made s read_events ≡ with_view s p
+  pub read_is : after_events s read_events ≡ with_view s p
   read_is = read_end ∙ view_is s next m p law tidy access.opened access.ours
 
   -- ---- writes
   -- a load that is made or not
   part_loads : (b : Bool) (i : ℕ) → (b ≡ true → i < words_for (data_len s p)) →
-      AllSucceed (made s (view_events s m p)) (if b then Loads m p i ∷ [] else []) × (made (made s (view_events s m p)) (if b then Loads m p i ∷ [] else []) ≡ made s (view_events s m p))
+      AllSucceed (after_events s (view_events s m p)) (if b then Loads m p i ∷ [] else []) × (after_events (after_events s (view_events s m p)) (if b then Loads m p i ∷ [] else []) ≡ after_events s (view_events s m p))
   part_loads true i inside =
-      (first_succeeds (made s (view_events s m p)) (Loads m p i) [] (load_legal s (made s (view_events s m p)) m p viewing i (inside refl)) tt tt, load_stays (made s (view_events s m p)) m p i)
+      (first_succeeds (after_events s (view_events s m p)) (Loads m p i) [] (load_legal s (after_events s (view_events s m p)) m p viewing i (inside refl)) tt tt, load_stays (after_events s (view_events s m p)) m p i)
   part_loads false i inside = (tt, refl)
 
   -- the first word that is changed in part is the object's
@@ -142,14 +142,14 @@ module _ (s : State) (next : ℕ → ℕ) (m p from count : ℕ) (law : Law s) (
       omega (arith, access.within, access.some)
 
   -- the loads of words that are changed in part succeed, and leave the state
-  parts : AllSucceed (made s (view_events s m p)) (part_events m p from count) × (made (made s (view_events s m p)) (part_events m p from count) ≡ made s (view_events s m p))
+  parts : AllSucceed (after_events s (view_events s m p)) (part_events m p from count) × (after_events (after_events s (view_events s m p)) (part_events m p from count) ≡ after_events s (view_events s m p))
   parts =
       let a = part_loads (starts_inside from count) (from / 8) first_part_inside in
       let b = part_loads (ends_inside from count) ((from + count) / 8) last_part_inside in
       let one : List Event = if starts_inside from count then Loads m p (from / 8) ∷ [] else [] in
       let two : List Event = if ends_inside from count then Loads m p ((from + count) / 8) ∷ [] else [] in (
-        AllSucceed-append (made s (view_events s m p)) one two a.0 (subst (λ t. AllSucceed t two) (sym a.1) b.0),
-        made-append (made s (view_events s m p)) one two ∙ ap (λ t. made t two) a.1 ∙ b.1,
+        AllSucceed-append (after_events s (view_events s m p)) one two a.0 (subst (λ t. AllSucceed t two) (sym a.1) b.0),
+        made-append (after_events s (view_events s m p)) one two ∙ ap (λ t. after_events t two) a.1 ∙ b.1,
       )
 
 -- a write of bytes
@@ -157,7 +157,7 @@ module _ (s : State) (next : ℕ → ℕ) (m p from : ℕ) (bytes : List ℕ) (l
     (small : (k : ℕ) → get_or bytes k 0 < 256) where
   -- the state after the view
   abbrev view : State
-  view = made s (view_events s m p)
+  view = after_events s (view_events s m p)
 
   -- the bytes after the write
   abbrev changed : List ℕ
@@ -192,7 +192,7 @@ module _ (s : State) (next : ℕ → ℕ) (m p from : ℕ) (bytes : List ℕ) (l
   wide = packed_wide changed changed_bytes
 
   -- they succeed, and keep the heap tidy
-  stored : AllSucceed view stores × Tidy (made view stores) next
+  stored : AllSucceed view stores × Tidy (after_events view stores) next
   stored = stores_go next m p held.len held.place (packed_word changed) wide
       (λ i lt. packed_padded changed held.len i changed_bytes (changed_long ∙ held.long) lt)
       (words_touched from (length bytes)) (first_word from) view
@@ -204,7 +204,7 @@ module _ (s : State) (next : ℕ → ℕ) (m p from : ℕ) (bytes : List ℕ) (l
   looks = view_events s m p ++ part_events m p from (length bytes)
 
   -- it ends where the view does
-  looked : made s looks ≡ view
+  looked : after_events s looks ≡ view
   looked = made-append s (view_events s m p) (part_events m p from (length bytes)) ∙ (parts s next m p from (length bytes) law tidy access).1
 
   -- the events of a write succeed
@@ -214,11 +214,11 @@ module _ (s : State) (next : ℕ → ℕ) (m p from : ℕ) (bytes : List ℕ) (l
       (subst (λ t. AllSucceed t stores) (sym looked) stored.0)
 
   -- they end where the stores do
-  write_end : made s (looks ++ stores) ≡ made view stores
-  write_end = made-append s looks stores ∙ ap (λ t. made t stores) looked
+  write_end : after_events s (looks ++ stores) ≡ after_events view stores
+  write_end = made-append s looks stores ∙ ap (λ t. after_events t stores) looked
 
   -- they keep the heap tidy
-  pub write_tidy : Tidy (made s (looks ++ stores)) next
+  pub write_tidy : Tidy (after_events s (looks ++ stores)) next
   write_tidy = subst (λ t. Tidy t next) (sym write_end) stored.1
 
   -- the words that they carry are 64 bits wide
@@ -236,7 +236,7 @@ module _ (s : State) (next : ℕ → ℕ) (m p from : ℕ) (bytes : List ℕ) (l
   data_same i = bytes_of (λ k. held.words i (held.same_data i + k)) (held.same_len i)
 
   -- the stores make its words those of the new bytes
-  stores_is : made view stores ≡ with_data view p from bytes
+  stores_is : after_events view stores ≡ with_data view p from bytes
   stores_is =
       let d : ℕ = near_data (read_of (view.cell p)) in
       let lawful = view_law s next m p law tidy access.opened access.ours in
@@ -249,11 +249,11 @@ module _ (s : State) (next : ℕ → ℕ) (m p from : ℕ) (bytes : List ℕ) (l
       (row_whole view.word d (data_len view p) from bytes (omega (arith, access.within, held.same_len)) access.some lawful.spans.word_fits (object_padded view lawful p))
 
   -- so a write makes its object's bytes new, behind a view
-  pub write_is : made s (looks ++ stores) ≡ with_data (with_view s p) p from bytes
+  pub write_is : after_events s (looks ++ stores) ≡ with_data (with_view s p) p from bytes
   write_is = write_end ∙ stores_is ∙ ap (λ (t : State). with_data t p from bytes) (view_is s next m p law tidy access.opened access.ours)
 
   -- and the law
-  pub write_law : Law (made s (looks ++ stores))
+  pub write_law : Law (after_events s (looks ++ stores))
   write_law = subst Law (sym write_end) (made_law view stores (view_law s next m p law tidy access.opened access.ours)
       (Each-row Fits (λ i. Stores m p i (packed_word changed i)) (first_word from) (words_touched from (length bytes)) (λ i lt. wide (first_word from + i))))
 
@@ -296,10 +296,10 @@ clean = record { hot = false; evac = false; moved = false; dropped = false }
 -- what the events of a command do: they succeed, keep the heap tidy and the law, and end in this state
 pub record Turned (s : State) (next : ℕ → ℕ) (es : List Event) (t : State) : Type 0 where
   pub succeed : AllSucceed s es
-  pub tidy : Tidy (made s es) next
-  pub law : Law (made s es)
+  pub tidy : Tidy (after_events s es) next
+  pub law : Law (after_events s es)
   pub fit : Each Fits es
-  pub ends : made s es ≡ t
+  pub ends : after_events s es ≡ t
 
 -- what the tests of a new object say
 pub new_sizes : (m mutators len ds : ℕ) → (nat_lt m mutators && nat_lt ds 256) ≡ true → (nat_lt 0 len && nat_le len LONGEST) ≡ true → (m < mutators) × (ds < 256) × (0 < len) × (len ≤ LONGEST)
@@ -406,7 +406,7 @@ module _ (s : State) (next : ℕ → ℕ) (m : ℕ) (law : Law s) (tidy : Tidy s
   open_turned =
       let none : s.remembered m ≡ None = tidy.unread m closed_now.1 in
       let same : open_events s m ≡ ReadsEpoch m ∷ Opens m ∷ [] = ap (λ (o : Option ℕ). if is_some o then Opens m ∷ [] else ReadsEpoch m ∷ Opens m ∷ []) none in
-      let end : made s (ReadsEpoch m ∷ Opens m ∷ []) ≡ begun = made_first s (ReadsEpoch m) (Opens m ∷ []) read_legal ∙ made_first read (Opens m) [] open_legal in
+      let end : after_events s (ReadsEpoch m ∷ Opens m ∷ []) ≡ begun = made_first s (ReadsEpoch m) (Opens m ∷ []) read_legal ∙ made_first read (Opens m) [] open_legal in
       let begins : begun ≡ with_scope s m =
       ap (λ (o : Option ℕ). record read { scope = put s.scope m (scope_word_of o) }) read_now
       ∙ ap (λ (o : Option ℕ). record s { remembered = put s.remembered m (Some (epoch_for o s.epoch)); scope = put s.scope m (scope_word_of (Some (epoch_for o s.epoch))) }) (sym none) in
@@ -422,7 +422,7 @@ module _ (s : State) (next : ℕ → ℕ) (m : ℕ) (law : Law s) (tidy : Tidy s
 close_turned : (s : State) (next : ℕ → ℕ) (m : ℕ) → Law s → Tidy s next → is_opened s m ≡ true → Turned s next (Closes m ∷ []) (after_close s m)
 close_turned s next m law tidy opened =
     let legal : is_legal s (Closes m) ≡ true = opened in
-    let end : made s (Closes m ∷ []) ≡ after_close s m = made_first s (Closes m) [] legal in
+    let end : after_events s (Closes m ∷ []) ≡ after_close s m = made_first s (Closes m) [] legal in
     let held : ℕ → Option Place = λ p. cond (nat_eq (p / CELLS) m) None (s.held p) in
     record {
       succeed = first_succeeds s (Closes m) [] legal tt tt;

@@ -23,9 +23,9 @@ use Rattle.far_trace.specs.Answers.{Answered, Commanded, IsMoment}
 use Rattle.far_trace.specs.Command.{Command, Heap, New, Open, Write, Read, Close, Logs}
 use Rattle.far_trace.specs.Later.{IsLater, AreLater}
 use Rattle.far_trace.specs.Headline.{LogsStay, StayThrough, ViewsObject, ViewsNothing, ViewsAfter}
-use Rattle.far_trace.specs.Made.{made, Succeeds, AllSucceed}
+use Rattle.far_trace.specs.EventRows.{after_events, Succeeds, AllSucceed}
 use Rattle.far_trace.specs.Reply.{Reply, Refused}
-use Rattle.far_trace.specs.Events.{turn_events, zero_puts, new_events, open_events, view_events, load_events, store_events, first_part, last_part, part_events, first_word, words_touched, starts_inside, ends_inside}
+use Rattle.far_trace.specs.Events.{turn_events, zero_puts, new_events, open_events, view_events, load_events, store_events, first_loads, last_loads, part_events, first_word, words_touched, starts_inside, ends_inside}
 use Rattle.far_trace.specs.Objects.{lowest_cell, spliced, data_of}
 use Rattle.far_trace.specs.Effects.{new_word}
 use Rattle.far_trace.specs.Turn.{refusal, unless, turn_reply, reply_to}
@@ -41,7 +41,7 @@ abbrev LeavesViews : Event → Type 0
 LeavesViews e = ((m p : ℕ) → e ≡ Pins m p → ⊥) × ((m : ℕ) → e ≡ Closes m → ⊥)
 
 -- a row of them leaves the views
-pub row_stays : (s : State) (es : List Event) → Each LeavesViews es → (made s es).held ≡ s.held
+pub row_stays : (s : State) (es : List Event) → Each LeavesViews es → (after_events s es).held ≡ s.held
 row_stays s [] q = refl
 row_stays s (e ∷ es) q = row_stays (step_of s e).0 es q.1 ∙ fun_ext (λ p. held_stays s e p (q.0.0 (p / CELLS) p) (q.0.1 (p / CELLS)))
 
@@ -53,7 +53,7 @@ loads m p first count = Each-row LeavesViews (λ i. Loads m p i) first count (λ
 
 parts : (m p from count : ℕ) → Each LeavesViews (part_events m p from count)
 parts m p from count =
-    Each-append LeavesViews (first_part m p from count) (last_part m p from count)
+    Each-append LeavesViews (first_loads m p from count) (last_loads m p from count)
     (cond_both (starts_inside from count) (Loads m p (from / 8) ∷ []) [] (Each LeavesViews) (λ _. (load m p (from / 8), tt)) (λ _. tt))
     (cond_both (ends_inside from count) (Loads m p ((from + count) / 8) ∷ []) [] (Each LeavesViews) (λ _. (load m p ((from + count) / 8), tt)) (λ _. tt))
 
@@ -83,7 +83,7 @@ pin_views s m p = cond_both (is_legal s (Pins m p)) (after s (Pins m p), answer 
     (λ (x : State × Answer). Succeeds (Pins m p) x.1 → (place : Place) × (x.0.held ≡ put s.held p (Some place)))
     (λ _ ok. pin_gives s.held p (s.cell p) m (place_to_view (read_of (s.cell p))) ok) (λ _ ok. absurd ok)
 
-view_made : (s : State) (m p : ℕ) (o : Option Place) → s.held p ≡ o → AllSucceed s (if is_some o then [] else Pins m p ∷ []) → ViewsObject s (made s (if is_some o then [] else Pins m p ∷ [])) p
+view_made : (s : State) (m p : ℕ) (o : Option Place) → s.held p ≡ o → AllSucceed s (if is_some o then [] else Pins m p ∷ []) → ViewsObject s (after_events s (if is_some o then [] else Pins m p ∷ [])) p
 view_made s m p (Some place) e ok = record { viewed = ap is_some e; kept = λ place h. h; others = λ q ne. refl }
 view_made s m p None e ok =
     let x = pin_views s m p ok.0 in
@@ -94,24 +94,24 @@ view_made s m p None e ok =
     }
 
 -- events behind the view leave it
-behind : (s t : State) (p : ℕ) (es : List Event) → ViewsObject s t p → Each LeavesViews es → ViewsObject s (made t es) p
+behind : (s t : State) (p : ℕ) (es : List Event) → ViewsObject s t p → Each LeavesViews es → ViewsObject s (after_events t es) p
 behind s t p es view q =
-    let same : (made t es).held ≡ t.held = row_stays t es q in
+    let same : (after_events t es).held ≡ t.held = row_stays t es q in
     record {
       viewed = ap (λ (f : ℕ → Option Place). is_some (f p)) same ∙ view.viewed;
       kept = λ place h. ap (λ (f : ℕ → Option Place). f p) same ∙ view.kept place h;
       others = λ r ne. ap (λ (f : ℕ → Option Place). f r) same ∙ view.others r ne;
     }
 
-viewed_behind : (s : State) (m p : ℕ) (es : List Event) → AllSucceed s (view_events s m p ++ es) → Each LeavesViews es → ViewsObject s (made s (view_events s m p ++ es)) p
+viewed_behind : (s : State) (m p : ℕ) (es : List Event) → AllSucceed s (view_events s m p ++ es) → Each LeavesViews es → ViewsObject s (after_events s (view_events s m p ++ es)) p
 viewed_behind s m p es ok q =
     let view = view_made s m p (s.held p) refl (AllSucceed-parts s (view_events s m p) es ok).0 in
-    subst (λ t. ViewsObject s t p) (sym (made-append s (view_events s m p) es)) (behind s (made s (view_events s m p)) p es view q)
+    subst (λ t. ViewsObject s t p) (sym (made-append s (view_events s m p) es)) (behind s (after_events s (view_events s m p)) p es view q)
 
-viewed_twice_behind : (s : State) (m p : ℕ) (es fs : List Event) → AllSucceed s (view_events s m p ++ es ++ fs) → Each LeavesViews es → Each LeavesViews fs → ViewsObject s (made s (view_events s m p ++ es ++ fs)) p
+viewed_twice_behind : (s : State) (m p : ℕ) (es fs : List Event) → AllSucceed s (view_events s m p ++ es ++ fs) → Each LeavesViews es → Each LeavesViews fs → ViewsObject s (after_events s (view_events s m p ++ es ++ fs)) p
 viewed_twice_behind s m p es fs ok q r =
     let first = viewed_behind s m p es (AllSucceed-parts s (view_events s m p ++ es) fs ok).0 q in
-    subst (λ t. ViewsObject s t p) (sym (made-append s (view_events s m p ++ es) fs)) (behind s (made s (view_events s m p ++ es)) p fs first r)
+    subst (λ t. ViewsObject s t p) (sym (made-append s (view_events s m p ++ es) fs)) (behind s (after_events s (view_events s m p ++ es)) p fs first r)
 
 -- a close that succeeds ends its mutator's views
 close_views : (s : State) (m : ℕ) → Succeeds (Closes m) (step_of s (Closes m)).1 → ViewsNothing s (step_of s (Closes m)).0 m
@@ -125,7 +125,7 @@ close_views s m = cond_both (is_legal s (Closes m)) (after s (Closes m), answer 
 -- ---- each command
 -- what a refusal (moment_of leaves), and what its events leave where there is none
 pub views_after : (s : State) (c : Command) (o : Option Refusal) → AllSucceed s (unless o (λ _. []) (turn_events (moment_of s) c)) →
-    ViewsAfter (moment_of s) c (unless o Refused (turn_reply (moment_of s) c)) (moment_of (made s (unless o (λ _. []) (turn_events (moment_of s) c))))
+    ViewsAfter (moment_of s) c (unless o Refused (turn_reply (moment_of s) c)) (moment_of (after_events s (unless o (λ _. []) (turn_events (moment_of s) c))))
 views_after s c (Some why) ok = refused_views s c why where
   refused_views : (s : State) (c : Command) (why : Refusal) → ViewsAfter (moment_of s) c (Refused why) (moment_of s)
   refused_views s (Heap logs mutators) why = refl

@@ -24,7 +24,7 @@ use Rattle.far_core.proofs.Guards.{open_fact}
 use Rattle.far_core.proofs.Owing.{is_test}
 use Rattle.far_core.proofs.Put.{put_both, put_same}
 use Rattle.far_trace.specs.Effects.{with_view}
-use Rattle.far_trace.specs.Made.{made, Succeeds, AllSucceed, AtHand, AllAtHand}
+use Rattle.far_trace.specs.EventRows.{after_events, Succeeds, AllSucceed, AtHand, AllAtHand}
 use Rattle.far_trace.specs.Tidy.{Tidy}
 use Rattle.far_trace.specs.Events.{view_events}
 use Rattle.far_trace.specs.Objects.{uses, object_len, named_len}
@@ -116,20 +116,20 @@ module _ (s : State) (next : ℕ → ℕ) (m p : ℕ) (law : Law s) (tidy : Tidy
 
   -- a state after the view is the one before it, or that after a pin
   at_held : (P : State → Type 0) (o : Option Place) → s.held p ≡ o → ((place : Place) → s.held p ≡ Some place → P s) → P (after_pin s p) →
-      P (made s (if is_some o then [] else Pin m p ∷ []))
+      P (after_events s (if is_some o then [] else Pin m p ∷ []))
   at_held P None e already fresh = subst P (sym (made_first s (Pin m p) [] (pin_legal e))) fresh
   at_held P (Some place) e already fresh = already place e
 
   -- what is true of a state that holds the object, and after a pin, is true after the view
-  pub at_view : (P : State → Type 0) → ((place : Place) → s.held p ≡ Some place → P s) → P (after_pin s p) → P (made s (view_events s m p))
+  pub at_view : (P : State → Type 0) → ((place : Place) → s.held p ≡ Some place → P s) → P (after_pin s p) → P (after_events s (view_events s m p))
   at_view P already fresh = at_held P (s.held p) refl already fresh
 
   -- the view is the pin, unless the object is held
-  view_at : (o : Option Place) → s.held p ≡ o → made s (if is_some o then [] else Pin m p ∷ []) ≡ (if is_some o then s else after_pin s p)
+  view_at : (o : Option Place) → s.held p ≡ o → after_events s (if is_some o then [] else Pin m p ∷ []) ≡ (if is_some o then s else after_pin s p)
   view_at None e = made_first s (Pin m p) [] (pin_legal e)
   view_at (Some place) e = refl
 
-  pub view_is : made s (view_events s m p) ≡ with_view s p
+  pub view_is : after_events s (view_events s m p) ≡ with_view s p
   view_is = view_at (s.held p) refl
 
   -- the view succeeds either way
@@ -144,7 +144,7 @@ module _ (s : State) (next : ℕ → ℕ) (m p : ℕ) (law : Law s) (tidy : Tidy
   view_succeeds = succeeds_at (s.held p) refl
 
   -- the view keeps the law
-  pub view_law : Law (made s (view_events s m p))
+  pub view_law : Law (after_events s (view_events s m p))
   view_law = at_view Law (λ _ _. law) (keeps_pin s p law used (subst (λ k. s.scope k ≢ 0) (sym own) (open_fact s m opened).1))
 
   -- the cell after a pin
@@ -182,7 +182,7 @@ module _ (s : State) (next : ℕ → ℕ) (m p : ℕ) (law : Law s) (tidy : Tidy
       }
 
   -- after the view the object is held, and the words, its place and its length are as before
-  pub viewed : Viewed s (made s (view_events s m p)) m p
+  pub viewed : Viewed s (after_events s (view_events s m p)) m p
   viewed = at_view (λ t. Viewed s t m p) old_viewed pin_viewed
 
   -- a pin leaves cells that are 0 and cells that aren't
@@ -224,5 +224,5 @@ module _ (s : State) (next : ℕ → ℕ) (m p : ℕ) (law : Law s) (tidy : Tidy
   }
 
   -- the view keeps the heap tidy
-  pub view_tidy : Tidy (made s (view_events s m p)) next
+  pub view_tidy : Tidy (after_events s (view_events s m p)) next
   view_tidy = at_view (λ t. Tidy t next) (λ _ _. tidy) pin_tidy

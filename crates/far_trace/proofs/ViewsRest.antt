@@ -18,7 +18,7 @@ use Rattle.far_core.proofs.Keeps.{step_keeps}
 use Rattle.far_core.proofs.Steps.{agrees, step_does}
 use Rattle.far_core.proofs.WorldFacts.{view_rests}
 use Rattle.far_core.proofs.WorldLaws.{steps_keep}
-use Rattle.far_trace.specs.Made.{made}
+use Rattle.far_trace.specs.EventRows.{after_events}
 use Rattle.far_trace.proofs.Each.{Each}
 use Rattle.far_trace.proofs.MadeLemmas.{made-append, made_law}
 
@@ -87,7 +87,7 @@ rests_on s e law fit none p g h =
     record { viewed = k.views p h.viewed (none (p / CELLS)); object = u.0; there = u.1; home = u.4 ∙ h.home }
 
 -- its group is held behind a row in which a close comes last
-row_held : (s : State) (es : List Event) → Law s → Each Fits es → ClosesLast es → (p g : ℕ) → RestsIn (world_of s) p g → (world_of (made s es)).group g ≡ true
+row_held : (s : State) (es : List Event) → Law s → Each Fits es → ClosesLast es → (p g : ℕ) → RestsIn (world_of s) p g → (world_of (after_events s es)).group g ≡ true
 row_held s [] law fit last p g h = rests_held s law p g h
 row_held s (e ∷ []) law fit last p g h = (kept s e law fit.0).groups p g h.object h.there h.home (rests_held s law p g h)
 row_held s (e ∷ f ∷ es) law fit last p g h =
@@ -113,15 +113,15 @@ unfolding world_of
 not_free s l h e = true≢false (sym h ∙ ap is_group e)
 
 -- a log in which a view rests isn't free behind a row in which a close comes last
-held_stays_on : (s : State) (es : List Event) → Law s → Each Fits es → ClosesLast es → (p : ℕ) (place : Place) → s.held p ≡ Some place → (made s es).kind place.log ≢ kinds.Free
-held_stays_on s es law fit last p place e = not_free (made s es) place.log (row_held s es law fit last p place.log (held_rests s law p place e))
+held_stays_on : (s : State) (es : List Event) → Law s → Each Fits es → ClosesLast es → (p : ℕ) (place : Place) → s.held p ≡ Some place → (after_events s es).kind place.log ≢ kinds.Free
+held_stays_on s es law fit last p place e = not_free (after_events s es) place.log (row_held s es law fit last p place.log (held_rests s law p place e))
 
 -- so it is between any two fronts of such a row
 pub fronts_stay : (s : State) (es mid rest : List Event) → Law s → Each Fits ((es ++ mid) ++ rest) → ClosesLast ((es ++ mid) ++ rest) →
-    (p : ℕ) (place : Place) → (made s es).held p ≡ Some place → (made s (es ++ mid)).kind place.log ≢ kinds.Free
+    (p : ℕ) (place : Place) → (after_events s es).held p ≡ Some place → (after_events s (es ++ mid)).kind place.log ≢ kinds.Free
 fronts_stay s es mid rest law fit last p place e free =
     let fits = fits_front (es ++ mid) rest fit in
-    held_stays_on (made s es) mid (made_law s es law (fits_front es mid fits)) (fits_back es mid fits) (closes_back es mid (closes_front (es ++ mid) rest last)) p place e
+    held_stays_on (after_events s es) mid (made_law s es law (fits_front es mid fits)) (fits_back es mid fits) (closes_back es mid (closes_front (es ++ mid) rest last)) p place e
     (sym (ap (λ (t : State). t.kind place.log) (made-append s es mid)) ∙ free)
 
 pub held_now : (s : State) → Law s → (p : ℕ) (place : Place) → s.held p ≡ Some place → s.kind place.log ≢ kinds.Free

@@ -7,7 +7,7 @@ use Rattle.std.proofs.lemmas.Int.Digits.{digits_value_more}
 use Rattle.std.proofs.lemmas.List.{get_or-take, get_or_append_left, take-append-le, length-append, length-take-le}
 use Rattle.std.proofs.Math.Seq.{take-length}
 use Rattle.far_trace.specs.Grammar.{number_of, next_number}
-use Rattle.far_trace.specs.Cursor.{is_end, first_part, words_in}
+use Rattle.far_trace.specs.Cursor.{is_end, front_of, words_in}
 use Rattle.far_trace.proofs.Cuts.{NoEnds, word_at, word_stops}
 use Rattle.far_trace.proofs.Numbers.{number_empty, number_zero, number_other, number_large, number_by_digits, digit_value_is}
 
@@ -32,7 +32,7 @@ pub over_at : (text : List ℕ) (i n : ℕ) → i < length text → Digits text 
 over_at text i n inside digits digit value large =
     let ends = no_ends text (i + 1) (below_more (λ k. IsInRange 48 57 (get_or text k 0)) i digits digit) in
     let at = word_at text (i + 1) (omega arith) ends in
-    let more = first_part (words_in (drop (i + 1) text)) in
+    let more = front_of (words_in (drop (i + 1) text)) in
     let front = take (i + 1) text in
     let len : length front ≡ i + 1 = length-take-le (i + 1) text (omega arith) in
     let same : take (i + 1) (front ++ more) ≡ front = take-append-le (i + 1) front more (omega arith) ∙ ap (λ m. take m front) (sym len) ∙ take-length front in
@@ -47,7 +47,7 @@ pub other_at : (text : List ℕ) (i : ℕ) → i < length text → Digits text i
 other_at text i inside digits other on =
     let ends = below_more (λ k. is_end (get_or text k 0) ≡ false) i (no_ends text i digits) on in
     let at = word_at text (i + 1) (omega arith) ends in
-    let more = first_part (words_in (drop (i + 1) text)) in
+    let more = front_of (words_in (drop (i + 1) text)) in
     let front = take (i + 1) text in
     let len : length front ≡ i + 1 = length-take-le (i + 1) text (omega arith) in
     let sum = length-append front more in

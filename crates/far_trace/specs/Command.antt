@@ -1,6 +1,6 @@
 -- The commands of a trace, with the bytes of a write as they are stored.
 use Rattle.std.specs.Prelude.{ℕ, List}
-use Rattle.far_trace.specs.HexWord.{bytes_of}
+use Rattle.far_trace.specs.HexWord.{hex_bytes}
 use Rattle.far_trace.specs.declared.command.Command.{Command as Spelled}
 use Rattle.far_trace.specs.declared.command.Command.TheVariants.{Heap as SpelledHeap, New as SpelledNew, Open as SpelledOpen, Write as SpelledWrite, Read as SpelledRead, Close as SpelledClose, Logs as SpelledLogs}
 
@@ -18,7 +18,7 @@ abbrev pub said : Spelled → Command
 said (SpelledHeap logs mutators) = Heap logs mutators
 said (SpelledNew mutator len structure) = New mutator len structure
 said (SpelledOpen mutator) = Open mutator
-said (SpelledWrite mutator pointer from bytes) = Write mutator pointer from (bytes_of bytes.digits.now)
+said (SpelledWrite mutator pointer from bytes) = Write mutator pointer from (hex_bytes bytes.digits.now)
 said (SpelledRead mutator pointer from len) = Read mutator pointer from len
 said (SpelledClose mutator) = Close mutator
 said SpelledLogs = Logs

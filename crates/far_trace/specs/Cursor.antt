@@ -2,7 +2,7 @@
 use Rattle.std.specs.Prelude.{ℕ, Bool, ◌||◌, ◌==◌, List, [], ◌∷◌, Option, Some, None}
 use Rattle.std.specs.Borrow.{Bor}
 use Rattle.far_trace.specs.Command.{said}
-use Rattle.far_trace.specs.Grammar.{Line, Skipped, Saying, words_of, lines_of}
+use Rattle.far_trace.specs.Grammar.{Line, Skipped, Saying, line_words, lines_of}
 use Rattle.far_trace.specs.declared.cursor.Rest.{Rest}
 use Rattle.far_trace.specs.declared.cursor.Rest.TheVariants.{Words, Lines}
 use Rattle.far_trace.specs.declared.line.Line.{Line as Spelled}
@@ -12,24 +12,24 @@ use Rattle.far_trace.specs.declared.line.Line.TheVariants.{Skipped as SpelledSki
 abbrev pub is_end : ℕ → Bool
 is_end b = (b == 32) || (b == 10)
 
-abbrev pub first_part : List (List ℕ) → List ℕ
-first_part [] = []
-first_part (part ∷ parts) = part
+abbrev pub front_of : List (List ℕ) → List ℕ
+front_of [] = []
+front_of (part ∷ parts) = part
 
-abbrev pub other_parts : List (List ℕ) → List (List ℕ)
-other_parts [] = []
-other_parts (part ∷ parts) = parts
+abbrev pub rest_of : List (List ℕ) → List (List ℕ)
+rest_of [] = []
+rest_of (part ∷ parts) = parts
 
 abbrev pub first_line : List ℕ → List ℕ
-first_line text = first_part (lines_of text)
+first_line text = front_of (lines_of text)
 
 -- the lines after the first
 abbrev pub lines_behind : List ℕ → List (List ℕ)
-lines_behind text = other_parts (lines_of text)
+lines_behind text = rest_of (lines_of text)
 
 -- the words of the first line
 abbrev pub words_in : List ℕ → List (List ℕ)
-words_in text = words_of (first_line text)
+words_in text = line_words (first_line text)
 
 -- the lines that are left
 abbrev pub lines_left : Option (Bor (List ℕ)) → List (List ℕ)

@@ -50,14 +50,14 @@ starts_inside from count = not (from % 8 == 0) || nat_lt (from + count) (8 * (fr
 abbrev pub ends_inside : ℕ → ℕ → Bool
 ends_inside from count = nat_lt 1 (words_touched from count) && not ((from + count) % 8 == 0)
 
-abbrev pub first_part : ℕ → ℕ → ℕ → ℕ → List Event
-first_part m p from count = if starts_inside from count then Loads m p (from / 8) ∷ [] else []
+abbrev pub first_loads : ℕ → ℕ → ℕ → ℕ → List Event
+first_loads m p from count = if starts_inside from count then Loads m p (from / 8) ∷ [] else []
 
-abbrev pub last_part : ℕ → ℕ → ℕ → ℕ → List Event
-last_part m p from count = if ends_inside from count then Loads m p ((from + count) / 8) ∷ [] else []
+abbrev pub last_loads : ℕ → ℕ → ℕ → ℕ → List Event
+last_loads m p from count = if ends_inside from count then Loads m p ((from + count) / 8) ∷ [] else []
 
 abbrev pub part_events : ℕ → ℕ → ℕ → ℕ → List Event
-part_events m p from count = first_part m p from count ++ last_part m p from count
+part_events m p from count = first_loads m p from count ++ last_loads m p from count
 
 abbrev pub store_events : ℕ → ℕ → ℕ → ℕ → List ℕ → List Event
 store_events m p first count after = map (λ i. Stores m p i (packed_word after i)) (range_with_len first count)

@@ -1,10 +1,12 @@
 -- The grammar of a trace: what its words, its lines and its text say.
-use Rattle.std.specs.Prelude.{◌≡◌, ℕ, Bool, ◌&&◌, ◌^◌, nat_lt, nat_le, ◌==◌, ◌+◌, true, false, not, Result, Ok, Err, List, [], ◌∷◌, length, codes, decimal, Option, Some, None, if◌then◌else◌}
+use Rattle.std.specs.Prelude.{◌≡◌, ℕ, Bool, ◌&&◌, ◌^◌, nat_lt, nat_le, ◌==◌, ◌+◌, true, false, not, Result, Ok, Err, List, [], ◌∷◌, length, codes, decimal, zero, suc, Option, Some, None, if◌then◌else◌}
 use Rattle.std.specs.Str.{bytes_eq}
 use Rattle.std.specs.Str.Parse.{digits_value}
 use Rattle.std.specs.List.{slice_split, list_all}
 use Rattle.far_trace.specs.Command.{Command, Heap, New, Open, Write, Read, Close, Logs}
-use Rattle.far_trace.specs.HexWord.{is_hex_word, bytes_of}
+use Rattle.far_trace.specs.HexWord.{is_hex_word, hex_bytes}
+use Rattle.far_trace.specs.declared.hex_word.TheConstants.{LONGEST_LINE}
+use Rattle.far_trace.specs.declared.text.TheConstants.{LONGEST_TEXT}
 use Rattle.far_trace.specs.declared.text.ParseError.{ParseError}
 use Rattle.far_trace.specs.declared.text.ParseError.TheVariants.{Memory, Syntax}
 
@@ -15,7 +17,7 @@ number_of word =
 
 -- the bytes that a word spells in hex
 abbrev pub bytes_in : List ℕ → Option (List ℕ)
-bytes_in word = if is_hex_word word then Some (bytes_of word) else None
+bytes_in word = if is_hex_word word then Some (hex_bytes word) else None
 
 infixl 10 ◌>>=◌
 abbrev pub ◌>>=◌ : {A B : Type 0} → Option A → (A → Option B) → Option B
@@ -37,68 +39,55 @@ abbrev pub ended : List (List ℕ) → Command → Option Command
 ended [] command = Some command
 ended (word ∷ words) command = None
 
-abbrev pub heap_of : List (List ℕ) → Option Command
-heap_of words = do
-  logs ← next_number words
-  mutators ← next_number logs.1
-  ended mutators.1 (Heap logs.0 mutators.0)
+-- ---- what stands behind a command's name
+-- what is made of n numbers
+abbrev pub From : ℕ → Type 0 → Type 0
+From zero X = X
+From (suc n) X = ℕ → From n X
 
-abbrev pub new_of : List (List ℕ) → Option Command
-new_of words = do
-  mutator ← next_number words
-  len ← next_number mutator.1
-  structure ← next_number len.1
-  ended structure.1 (New mutator.0 len.0 structure.0)
+-- so many numbers and no more; or so many, a word in hex, and no more
+pub data Operands : Type 0 where
+  Numbers : (n : ℕ) (make : From n Command) → Operands
+  NumbersAndBytes : (n : ℕ) (make : From n (List ℕ → Command)) → Operands
 
-abbrev pub open_of : List (List ℕ) → Option Command
-open_of words = do
-  mutator ← next_number words
-  ended mutator.1 (Open mutator.0)
+-- what is made of n numbers and of the words behind them
+abbrev pub numbers_then : {X : Type 0} → (n : ℕ) → From n X → (X → List (List ℕ) → Option Command) → List (List ℕ) → Option Command
+numbers_then zero make rest words = rest make words
+numbers_then (suc n) make rest words = next_number words >>= λ first. numbers_then n (make first.0) rest first.1
 
-abbrev pub write_of : List (List ℕ) → Option Command
-write_of words = do
-  mutator ← next_number words
-  pointer ← next_number mutator.1
-  from ← next_number pointer.1
-  bytes ← next_bytes from.1
-  ended bytes.1 (Write mutator.0 pointer.0 from.0 bytes.0)
+abbrev pub command_from : Operands → List (List ℕ) → Option Command
+command_from (Numbers n make) words = numbers_then n make (λ command behind. ended behind command) words
+command_from (NumbersAndBytes n make) words = numbers_then n make (λ command behind. next_bytes behind >>= λ bytes. ended bytes.1 (command bytes.0)) words
 
-abbrev pub read_of : List (List ℕ) → Option Command
-read_of words = do
-  mutator ← next_number words
-  pointer ← next_number mutator.1
-  from ← next_number pointer.1
-  len ← next_number from.1
-  ended len.1 (Read mutator.0 pointer.0 from.0 len.0)
+-- ---- the commands by their names
+abbrev pub table : List (List ℕ × Operands)
+table =
+    (codes "read", Numbers 4 Read)
+    ∷ (codes "write", NumbersAndBytes 3 Write)
+    ∷ (codes "open", Numbers 1 Open)
+    ∷ (codes "close", Numbers 1 Close)
+    ∷ (codes "new", Numbers 3 New)
+    ∷ (codes "heap", Numbers 2 Heap)
+    ∷ (codes "logs", Numbers 0 Logs)
+    ∷ []
 
-abbrev pub close_of : List (List ℕ) → Option Command
-close_of words = do
-  mutator ← next_number words
-  ended mutator.1 (Close mutator.0)
+-- the command of this name in a table, by the words behind the name
+abbrev pub found_in : List (List ℕ × Operands) → List ℕ → List (List ℕ) → Option Command
+found_in [] name words = None
+found_in (row ∷ rows) name words = if bytes_eq name row.0 then command_from row.1 words else found_in rows name words
 
-abbrev pub logs_of : List (List ℕ) → Option Command
-logs_of words = ended words Logs
-
--- the command that the words say, by its name
+-- the command that the words say
 abbrev pub command_of : List (List ℕ) → Option Command
 command_of [] = None
-command_of (name ∷ args) =
-    if bytes_eq name (codes "read") then read_of args
-    else if bytes_eq name (codes "write") then write_of args
-    else if bytes_eq name (codes "open") then open_of args
-    else if bytes_eq name (codes "close") then close_of args
-    else if bytes_eq name (codes "new") then new_of args
-    else if bytes_eq name (codes "heap") then heap_of args
-    else if bytes_eq name (codes "logs") then logs_of args
-    else None
+command_of (name ∷ words) = found_in table name words
 
 -- the words of a line, between single spaces
-abbrev pub words_of : List ℕ → List (List ℕ)
-words_of line = slice_split (λ b. b == 32) line
+abbrev pub line_words : List ℕ → List (List ℕ)
+line_words line = slice_split (λ b. b == 32) line
 
--- at most 4096 bytes, each of them ASCII
+-- not too long, and each byte ASCII
 abbrev pub is_plain : List ℕ → Bool
-is_plain line = nat_le (length line) 4096 && list_all (λ b. nat_lt b 128) line
+is_plain line = nat_le (length line) LONGEST_LINE && list_all (λ b. nat_lt b 128) line
 
 -- empty, or a comment
 abbrev pub is_skipped : List ℕ → Bool
@@ -118,17 +107,17 @@ saying (Some command) = Saying command
 -- what a line says on its own
 unfoldable pub line_of : List ℕ → Line
 line_of line =
-    if is_plain line then (if is_skipped line then Skipped else saying (command_of (words_of line))) else Bad
+    if is_plain line then (if is_skipped line then Skipped else saying (command_of (line_words line))) else Bad
 
 -- whether a command may stand where it does: `heap` first, and nowhere else
-abbrev pub may_stand : Bool → Command → Bool
-may_stand is_first (Heap _ _) = is_first
-may_stand is_first (New _ _ _) = not is_first
-may_stand is_first (Open _) = not is_first
-may_stand is_first (Write _ _ _ _) = not is_first
-may_stand is_first (Read _ _ _ _) = not is_first
-may_stand is_first (Close _) = not is_first
-may_stand is_first Logs = not is_first
+abbrev pub is_in_place : Bool → Command → Bool
+is_in_place is_first (Heap _ _) = is_first
+is_in_place is_first (New _ _ _) = not is_first
+is_in_place is_first (Open _) = not is_first
+is_in_place is_first (Write _ _ _ _) = not is_first
+is_in_place is_first (Read _ _ _ _) = not is_first
+is_in_place is_first (Close _) = not is_first
+is_in_place is_first Logs = not is_first
 
 abbrev pub onto : Command → Result (List Command) ℕ → Result (List Command) ℕ
 onto command (Ok commands) = Ok (command ∷ commands)
@@ -137,7 +126,7 @@ onto command (Err number) = Err number
 -- what a line makes of what the lines after it are read as, with no command before them but the earlier ones, and with this one
 abbrev pub read_line : ℕ → Bool → Line → Result (List Command) ℕ → Result (List Command) ℕ → Result (List Command) ℕ
 read_line number is_first Skipped same later = same
-read_line number is_first (Saying command) same later = if may_stand is_first command then onto command later else Err number
+read_line number is_first (Saying command) same later = if is_in_place is_first command then onto command later else Err number
 read_line number is_first Bad same later = Err number
 
 -- the commands of the lines from this number on, or the number of the first that is off the grammar
@@ -152,7 +141,7 @@ lines_of text = slice_split (λ b. b == 10) text
 
 -- the commands of a text, or the number of its first line off the grammar, 0 where it is too long
 abbrev pub commands_of : List ℕ → Result (List Command) ℕ
-commands_of text = if nat_lt 1048576 (length text) then Err 0 else read_lines 1 true (lines_of text)
+commands_of text = if nat_lt LONGEST_TEXT (length text) then Err 0 else read_lines 1 true (lines_of text)
 
 -- an error is out of memory, or what reading gives
 abbrev pub IsFault : ParseError → Result (List Command) ℕ → Type 0

@@ -21,12 +21,11 @@ use Rattle.far_trace.specs.Command.{Command, Heap as HeapLine, New, Open, Write,
 use Rattle.far_trace.specs.Grammar.{commands_of}
 use Rattle.far_trace.specs.Moment.{Moment}
 use Rattle.far_trace.specs.Later.{IsLater, AreLater}
-use Rattle.far_trace.specs.Made.{made, AllPass, AllSucceed, AllAtHand}
+use Rattle.far_trace.specs.EventRows.{after_events, AllPass, AllSucceed, AllAtHand}
 use Rattle.far_trace.specs.Events.{events_for}
 use Rattle.far_trace.specs.Objects.{spliced}
 use Rattle.far_trace.specs.Says.{Says}
 use Rattle.far_trace.specs.Stays.{Stays}
-use Rattle.far_trace.specs.Turn.{kind_told}
 use Rattle.far_trace.specs.Reply.{Reply, Done, Pointer, Data, Logs, Refused, LogLine, printed}
 
 -- a log in which a view rests in s isn't free in t
@@ -35,7 +34,7 @@ LogStays s t = (p : ℕ) (place : Place) → s.held p ≡ Some place → t.kind 
 
 -- through a command: a log in which a view rests after any front of its events isn't free after any longer front
 abbrev pub StayThrough : Moment → Command → Type 0
-StayThrough now c = (es mid rest : List Event) → es ++ mid ++ rest ≡ events_for now c → LogStays (made now.core es) (made now.core (es ++ mid))
+StayThrough now c = (es mid rest : List Event) → es ++ mid ++ rest ≡ events_for now c → LogStays (after_events now.core es) (after_events now.core (es ++ mid))
 
 -- through each command of a list; and in the last moment no view rests in a free log
 abbrev pub LogsStay : Moment → List Command → List Moment → Type 0
@@ -45,7 +44,7 @@ LogsStay now (c ∷ cs) (after ∷ moments) = StayThrough now c × LogsStay afte
 
 -- the events of a command lead from a moment to the next: each is legal, and keeps the law and agreement; where all is at hand each comes to pass
 pub record Reaches (now : Moment) (c : Command) (after : Moment) : Type 0 where
-  pub ends : after.core ≡ made now.core (events_for now c)
+  pub ends : after.core ≡ after_events now.core (events_for now c)
   pub pass : AllPass now.core (events_for now c)
   pub succeed : AllAtHand now.core → AllSucceed now.core (events_for now c)
 
@@ -79,7 +78,7 @@ MayRefuse c why = ⊥
 
 -- a line tells a log's kind and its live, dead and unused bytes, which make 1,024
 pub record TellsLog (now : Moment) (line : LogLine) : Type 0 where
-  pub kind : line.kind ≡ kind_told (now.core.kind line.log)
+  pub kind : line.kind ≡ now.core.kind line.log
   pub live : line.live ≡ live_bytes now.core line.log
   pub dead : line.dead ≡ dead_bytes now.core line.log
   pub unused : line.unused ≡ unused_bytes now.core line.log

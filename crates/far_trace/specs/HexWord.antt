@@ -8,5 +8,5 @@ abbrev pub is_hex_word : List ℕ → Bool
 is_hex_word word = nat_lt 0 (length word) && nat_le (length word) 4096 && (length word % 2 == 0) && list_all is_hex_digit word
 
 -- the bytes that a word in hex stands for
-unfoldable pub bytes_of : List ℕ → List ℕ
-bytes_of word = result_unwrap_or (decode_of word) []
+unfoldable pub hex_bytes : List ℕ → List ℕ
+hex_bytes word = result_unwrap_or (decode_of word) []

@@ -12,7 +12,7 @@ use Rattle.far_core.specs.events.Step.{step_of, is_opened}
 use Rattle.far_trace.specs.Moment.{Moment}
 use Rattle.far_trace.specs.Command.{Command, New, Write}
 use Rattle.far_trace.specs.declared.turn.Access.{Access}
-use Rattle.far_trace.specs.Outcome.{told_by}
+use Rattle.far_trace.specs.Outcome.{reply_by}
 use Rattle.far_trace.specs.Reply.{Reply, LogLine}
 use Rattle.far_trace.specs.declared.outcome.Outcome.{Outcome}
 use Rattle.far_trace.specs.declared.turn.NewObject.{NewObject}
@@ -83,9 +83,9 @@ pub record IsNew (s : State) (mutator len ds : ℕ) (object : NewObject) : Type 
   pub cell : lowest_cell s mutator ≡ Some object.pointer
   pub goes : room s (size_of len) true ≡ Some object.place
 
--- the outcome reports the reply, whatever stands in the room
-abbrev pub Tells : Outcome → Reply → Type 0
-Tells outcome reply = (bytes : List ℕ) (lines : List LogLine) → told_by bytes lines outcome ≡ reply
+-- the outcome tells the reply, whatever stands in the room
+abbrev pub StandsFor : Outcome → Reply → Type 0
+StandsFor outcome reply = (bytes : List ℕ) (lines : List LogLine) → reply_by bytes lines outcome ≡ reply
 
 -- the end of the open log, if the span fits, or else the log after it, unless that is the last one
 abbrev pub next_of : ℕ → ℕ → ℕ → ℕ → Option Place

@@ -3,13 +3,13 @@ pub mod Answers
 pub mod Command
 pub mod Cursor
 pub mod Effects
+pub mod EventRows
 pub mod Events
 pub mod Grammar
 pub mod Headline
 pub mod HexWord
 pub mod Interpreter
 pub mod Later
-pub mod Made
 pub mod Moment
 pub mod Objects
 pub mod Outcome

@@ -6,8 +6,8 @@ use Rattle.far_word.specs.declared.refused.Refused.{Refused as Refusal}
 use Rattle.far_word.specs.declared.refused.Refused.TheVariants.{Syntax}
 use Rattle.far_word.specs.Refused.{refusal_number}
 use Rattle.far_word.specs.declared.sizes.TheConstants.{LONGEST, MOST_LOGS}
-use Rattle.far_trace.specs.declared.reply.LogKind.{LogKind}
-use Rattle.far_trace.specs.declared.reply.LogKind.TheVariants.{Free, Open, Sealed}
+use Rattle.far_core.specs.declared.event.Kind.{Kind}
+use Rattle.far_core.specs.declared.event.Kind.TheVariants.{Free, Open, Sealed}
 pub use Rattle.far_trace.specs.declared.reply.LogLine.{LogLine}
 use Rattle.far_trace.specs.declared.reply.Reply.{Reply as Given}
 use Rattle.far_trace.specs.declared.reply.Reply.TheVariants.{Done as GivenDone, Pointer as GivenPointer, Data as GivenData, Logs as GivenLogs, Refused as GivenRefused}
@@ -19,7 +19,7 @@ pub data Reply : Type 0 where
   Logs : (lines : List LogLine) → Reply
   Refused : (why : Refusal) → Reply
 
-abbrev pub kind_word : LogKind → List ℕ
+abbrev pub kind_word : Kind → List ℕ
 kind_word Free = codes "free"
 kind_word Open = codes "open"
 kind_word Sealed = codes "sealed"

@@ -1,11 +1,12 @@
 -- Which words say which command: its name, its numbers as they are printed, its bytes in hex.
 use Rattle.std.specs.Prelude.{◌≡◌, ℕ, ◌<◌, ◌≤◌, ◌^◌, List, [], ◌∷◌, length, codes, decimal, Ok}
 use Rattle.hex.specs.Hex.{decode_of}
+use Rattle.far_trace.specs.declared.hex_word.TheConstants.{LONGEST_LINE}
 use Rattle.far_trace.specs.Command.{Command, Heap, New, Open, Write, Read, Close, Logs}
 
 -- A word in hex stands for these bytes, one at least; a word is no longer than a line.
 abbrev pub Spells : List ℕ → List ℕ → Type 0
-Spells word bytes = (decode_of word ≡ Ok bytes) × (0 < length bytes) × (length word ≤ 4096)
+Spells word bytes = (decode_of word ≡ Ok bytes) × (0 < length bytes) × (length word ≤ LONGEST_LINE)
 
 -- These words say the command.
 abbrev pub Says : List (List ℕ) → Command → Type 0

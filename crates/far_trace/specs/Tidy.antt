@@ -8,7 +8,7 @@ use Rattle.far_word.specs.Pointer.{read_of}
 use Rattle.far_core.specs.declared.event.Kind.TheVariants.{Free, Sealed}
 use Rattle.far_core.specs.state.Spans.{names_place}
 use Rattle.far_core.specs.state.State.{State}
-use Rattle.far_trace.specs.Made.{AllAtHand}
+use Rattle.far_trace.specs.EventRows.{AllAtHand}
 
 -- next m is how many cells of the mutator m are named: its first ones
 pub record Tidy (s : State) (next : ℕ → ℕ) : Type 0 where

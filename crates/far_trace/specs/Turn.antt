@@ -6,8 +6,6 @@ use Rattle.far_word.specs.declared.refused.Refused.{Refused as Refusal}
 use Rattle.far_word.specs.declared.refused.Refused.TheVariants.{NoRoom, NoPointer, Length, Closed, AlreadyOpen, NotHeld, Range}
 use Rattle.far_word.specs.declared.sizes.TheConstants.{LONGEST}
 use Rattle.far_word.specs.Sizes.{size_of}
-use Rattle.far_core.specs.declared.event.Kind.{Kind}
-use Rattle.far_core.specs.declared.event.Kind.TheVariants as kinds
 use Rattle.far_core.specs.events.Step.{is_opened, after_close}
 use Rattle.far_core.specs.laws.Observed.{live_bytes, dead_bytes, unused_bytes}
 use Rattle.far_core.specs.state.Room.{room}
@@ -17,8 +15,6 @@ use Rattle.far_trace.specs.Effects.{with_object, with_scope, with_view, with_dat
 use Rattle.far_trace.specs.Moment.{Moment}
 use Rattle.far_trace.specs.Objects.{uses, object_len, data_of, lowest_cell, is_range}
 use Rattle.far_trace.specs.Reply.{Reply, Done, Pointer, Data, Logs as Told, Refused, LogLine}
-use Rattle.far_trace.specs.declared.reply.LogKind.{LogKind}
-use Rattle.far_trace.specs.declared.reply.LogKind.TheVariants as told
 
 -- ---- when a command is refused
 -- the causes by which it may be refused, in their order, each with its test
@@ -62,14 +58,9 @@ turn_effect now (Close m) = record now { core = after_close now.core m }
 turn_effect now Logs = now
 
 -- ---- the reply of a command that isn't refused
-abbrev pub kind_told : Kind → LogKind
-kind_told kinds.Free = told.Free
-kind_told kinds.Open = told.Open
-kind_told kinds.Sealed = told.Sealed
-
 abbrev pub log_line : Moment → ℕ → LogLine
 log_line now l =
-    record { log = l; kind = kind_told (now.core.kind l); live = live_bytes now.core l; dead = dead_bytes now.core l; unused = unused_bytes now.core l }
+    record { log = l; kind = now.core.kind l; live = live_bytes now.core l; dead = dead_bytes now.core l; unused = unused_bytes now.core l }
 
 abbrev pub pointer_reply : Option ℕ → Reply
 pointer_reply None = Done

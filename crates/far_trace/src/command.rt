@@ -3,8 +3,8 @@
 ghost use Rattle.std.specs.Prelude.{◌≡◌, ◌∷◌, IfSome};
 ghost use Rattle.std.specs.Option.{option_map};
 ghost use Rattle.std.specs.Str.{bytes_eq};
-ghost use Rattle.far_trace.specs.Command.{said};
-ghost use Rattle.far_trace.specs.Grammar.{heap_of, new_of, open_of, write_of, read_of, close_of, logs_of, command_of, ended};
+ghost use Rattle.far_trace.specs.Command.{said, Heap, New, Open, Write, Read, Close};
+ghost use Rattle.far_trace.specs.Grammar.{Numbers, NumbersAndBytes, command_from, command_of, ended};
 ghost use Rattle.far_trace.specs.Cursor.{words_in, words_left, lines_behind, lines_after, lines_left};
 
 use crate::cursor::{Rest, next_bytes_of, next_number_of, word_first};
@@ -58,7 +58,7 @@ fn at_end<'a>(command: Command<'a>, rest: Rest<'a>) -> Option<Spelled<'a>>
 }
 
 fn heap_spelled(rest: Rest<'_>) -> Option<Spelled<'_>>
-    ensures value { option_map (λ found. said found.0) result ≡ heap_of (words_left rest.entry) }
+    ensures value { option_map (λ found. said found.0) result ≡ command_from (Numbers 2 Heap) (words_left rest.entry) }
     ensures lines { IfSome result (λ found. lines_left found.1 ≡ lines_after rest.entry) }
 {
     let (logs, rest) = next_number_of(rest)?;
@@ -68,7 +68,7 @@ fn heap_spelled(rest: Rest<'_>) -> Option<Spelled<'_>>
 }
 
 fn new_spelled(rest: Rest<'_>) -> Option<Spelled<'_>>
-    ensures value { option_map (λ found. said found.0) result ≡ new_of (words_left rest.entry) }
+    ensures value { option_map (λ found. said found.0) result ≡ command_from (Numbers 3 New) (words_left rest.entry) }
     ensures lines { IfSome result (λ found. lines_left found.1 ≡ lines_after rest.entry) }
 {
     let (mutator, rest) = next_number_of(rest)?;
@@ -83,7 +83,7 @@ fn new_spelled(rest: Rest<'_>) -> Option<Spelled<'_>>
 }
 
 fn open_spelled(rest: Rest<'_>) -> Option<Spelled<'_>>
-    ensures value { option_map (λ found. said found.0) result ≡ open_of (words_left rest.entry) }
+    ensures value { option_map (λ found. said found.0) result ≡ command_from (Numbers 1 Open) (words_left rest.entry) }
     ensures lines { IfSome result (λ found. lines_left found.1 ≡ lines_after rest.entry) }
 {
     let (mutator, rest) = next_number_of(rest)?;
@@ -92,7 +92,7 @@ fn open_spelled(rest: Rest<'_>) -> Option<Spelled<'_>>
 }
 
 fn write_spelled(rest: Rest<'_>) -> Option<Spelled<'_>>
-    ensures value { option_map (λ found. said found.0) result ≡ write_of (words_left rest.entry) }
+    ensures value { option_map (λ found. said found.0) result ≡ command_from (NumbersAndBytes 3 Write) (words_left rest.entry) }
     ensures lines { IfSome result (λ found. lines_left found.1 ≡ lines_after rest.entry) }
 {
     let (mutator, rest) = next_number_of(rest)?;
@@ -109,7 +109,7 @@ fn write_spelled(rest: Rest<'_>) -> Option<Spelled<'_>>
 }
 
 fn read_spelled(rest: Rest<'_>) -> Option<Spelled<'_>>
-    ensures value { option_map (λ found. said found.0) result ≡ read_of (words_left rest.entry) }
+    ensures value { option_map (λ found. said found.0) result ≡ command_from (Numbers 4 Read) (words_left rest.entry) }
     ensures lines { IfSome result (λ found. lines_left found.1 ≡ lines_after rest.entry) }
 {
     let (mutator, rest) = next_number_of(rest)?;
@@ -126,7 +126,7 @@ fn read_spelled(rest: Rest<'_>) -> Option<Spelled<'_>>
 }
 
 fn close_spelled(rest: Rest<'_>) -> Option<Spelled<'_>>
-    ensures value { option_map (λ found. said found.0) result ≡ close_of (words_left rest.entry) }
+    ensures value { option_map (λ found. said found.0) result ≡ command_from (Numbers 1 Close) (words_left rest.entry) }
     ensures lines { IfSome result (λ found. lines_left found.1 ≡ lines_after rest.entry) }
 {
     let (mutator, rest) = next_number_of(rest)?;

@@ -3,7 +3,7 @@
 ghost use Rattle.std.specs.Prelude.{◌≡◌, ◌≤◌, ◌<◌, ◌∷◌, ℕ, [], length, drop, true, false, slice_index, IfSome, IfNone};
 ghost use Rattle.std.specs.Option.{option_map};
 ghost use Rattle.hex.specs.Hex.{is_hex_digit};
-ghost use Rattle.far_trace.specs.HexWord.{bytes_of};
+ghost use Rattle.far_trace.specs.HexWord.{hex_bytes};
 ghost use Rattle.far_trace.specs.Grammar.{next_number, next_bytes};
 ghost use Rattle.far_trace.specs.Cursor.{is_end, words_in, words_left, lines_behind, lines_after, lines_left};
 
@@ -110,7 +110,7 @@ fn digits_len(text: &[u8]) -> usize
 }
 
 fn bytes_first(text: &[u8]) -> Option<(HexWord<'_>, Rest<'_>)>
-    ensures bytes { option_map (λ found. (bytes_of found.0.digits.now, words_left found.1)) result ≡ next_bytes (words_in text.now) }
+    ensures bytes { option_map (λ found. (hex_bytes found.0.digits.now, words_left found.1)) result ≡ next_bytes (words_in text.now) }
     ensures lines { IfSome result (λ found. lines_behind text.now ≡ lines_after found.1) }
 {
     let len = digits_len(text);
@@ -121,7 +121,7 @@ fn bytes_first(text: &[u8]) -> Option<(HexWord<'_>, Rest<'_>)>
 
 /// The bytes that the next word spells, and what is left after it.
 pub fn next_bytes_of(rest: Rest<'_>) -> Option<(HexWord<'_>, Rest<'_>)>
-    ensures bytes { option_map (λ found. (bytes_of found.0.digits.now, words_left found.1)) result ≡ next_bytes (words_left rest.entry) }
+    ensures bytes { option_map (λ found. (hex_bytes found.0.digits.now, words_left found.1)) result ≡ next_bytes (words_left rest.entry) }
     ensures lines { IfSome result (λ found. lines_after found.1 ≡ lines_after rest.entry) }
 {
     match rest {

@@ -6,7 +6,7 @@ ghost use Rattle.far_word.specs.declared.sizes.TheConstants.{LOG_WORDS, LONGEST,
 ghost use Rattle.far_core.specs.state.CoreState.{core_state};
 ghost use Rattle.far_core.specs.events.Step.{step_of};
 ghost use Rattle.far_core.specs.declared.event.Event.{Event};
-ghost use Rattle.far_trace.specs.Made.{made};
+ghost use Rattle.far_trace.specs.EventRows.{after_events};
 ghost use Rattle.far_trace.specs.Events.{new_events, zero_puts, open_events, view_events, load_events};
 ghost use Rattle.far_trace.specs.Interpreter.{loaded, stores_of, word_in};
 
@@ -16,7 +16,7 @@ use far_word::{HeadWord, Marks, Place, PtrWord, words_for};
 // Zeros after a header.
 fn put_zeros(core: &mut Core, place: Place, count: u16)
     requires { place.at + 1 + count ≤ LOG_WORDS }
-    ensures { core_state core.new ≡ made (core_state core.old) (zero_puts place count) }
+    ensures { core_state core.new ≡ after_events (core_state core.old) (zero_puts place count) }
 {
     for i in 0..count {
         core.step(Event::Put {
@@ -34,7 +34,7 @@ pub fn make_new(core: &mut Core, owner: u8, pointer: u16, len: u16, ds: u8, plac
     requires cell { pointer < POINTERS }
     requires log { place.log < MOST_LOGS }
     requires room { place.at + 1 + (len + 7) / 8 ≤ LOG_WORDS }
-    ensures { core_state core.new ≡ made (core_state core.old) (new_events owner len ds (Some pointer) (Some place)) }
+    ensures { core_state core.new ≡ after_events (core_state core.old) (new_events owner len ds (Some pointer) (Some place)) }
 {
     let header = HeadWord { pointer, len, ds };
     core.step(Event::Put {
@@ -65,7 +65,7 @@ pub fn make_new(core: &mut Core, owner: u8, pointer: u16, len: u16, ds: u8, plac
 
 /// Opens an owner's scope, at the epoch that it reads unless it has read one already.
 pub fn open(core: &mut Core, owner: u8)
-    ensures { core_state core.new ≡ made (core_state core.old) (open_events (core_state core.old) owner) }
+    ensures { core_state core.new ≡ after_events (core_state core.old) (open_events (core_state core.old) owner) }
 {
     if !core.has_epoch(owner) {
         core.step(Event::ReadEpoch { owner });
@@ -75,7 +75,7 @@ pub fn open(core: &mut Core, owner: u8)
 
 /// Pins an owner's object, unless it is held already.
 pub fn view(core: &mut Core, owner: u8, pointer: u16)
-    ensures { core_state core.new ≡ made (core_state core.old) (view_events (core_state core.old) owner pointer) }
+    ensures { core_state core.new ≡ after_events (core_state core.old) (view_events (core_state core.old) owner pointer) }
 {
     if !core.is_held(pointer) {
         core.step(Event::Pin { owner, pointer });
@@ -108,8 +108,8 @@ pub fn load_words(
 )
     requires inside { first + count ≤ LOG_WORDS }
     requires room { count ≤ length words.old }
-    ensures state { core_state core.new ≡ made (core_state core.old) (load_events owner pointer first count) }
-    ensures words { (k : ℕ) → k < count → slice_index words.new k ≡ loaded (made (core_state core.old) (load_events owner pointer first k)) owner pointer (first + k) }
+    ensures state { core_state core.new ≡ after_events (core_state core.old) (load_events owner pointer first count) }
+    ensures words { (k : ℕ) → k < count → slice_index words.new k ≡ loaded (after_events (core_state core.old) (load_events owner pointer first k)) owner pointer (first + k) }
 {
     for i in 0..count {
         words[i as usize] = load(core, owner, pointer, first + i);
@@ -120,7 +120,7 @@ pub fn load_words(
 pub fn store_words(core: &mut Core, owner: u8, pointer: u16, first: u16, count: u16, words: &[u64])
     requires inside { first + count ≤ LOG_WORDS }
     requires room { count ≤ length words.now }
-    ensures { core_state core.new ≡ made (core_state core.old) (stores_of owner pointer first words.now count) }
+    ensures { core_state core.new ≡ after_events (core_state core.old) (stores_of owner pointer first words.now count) }
 {
     for i in 0..count {
         core.step(Event::Store {

@@ -1,6 +1,6 @@
 //! What outputs say, over whole texts and whole lists of commands. No function here does anything when it runs.
 
-ghost use Rattle.far_trace.specs.Headline.{OneOutput, ObjectsStayWhole, ViewedLogsStay, MutatorsAreAlone, LinesAreLater, OutputsAreSound, MomentsLast, EventsReach, NearRefusals, HeapsBeginLawful, EachTextIsAnswered, TextsBeginWithHeap, RefusalsStay, RefusalsChangeNothing, StrangersAreRefused, ViewsLast, LogsAreTold, NewTakesTheLowest, NoneIsLeft, WritesChangeTheirRange, OwnLinesCount, LinesAreNumbered, NewIsMade, NewMakesItsObject};
+ghost use Rattle.far_trace.specs.Headline.{OutputsAreSound, OneOutput, EachTextIsAnswered, TextsBeginWithHeap, LinesAreLater, LinesAreNumbered, MomentsLast, EventsReach, HeapsBeginLawful, ObjectsStayWhole, ViewedLogsStay, ViewsLast, RefusalsStay, RefusalsChangeNothing, StrangersAreRefused, NearRefusals, MutatorsAreAlone, OwnLinesCount, NewTakesTheLowest, NoneIsLeft, NewIsMade, NewMakesItsObject, WritesChangeTheirRange, LogsAreTold};
 
 /// From a text on: its output, where it is read as a heap in range and commands, has a reply and a moment for each
 /// command; in each moment objects are whole, through them the logs in which views rest stay, and each mutator's replies
@@ -9,99 +9,60 @@ pub fn outputs_are_sound()
     ensures { OutputsAreSound }
 {}
 
-/// Each moment behind a heap and commands has the law, and its pointers at hand.
-pub fn moments_last()
-    ensures { MomentsLast }
+/// Each text has an output, and one alone. A text that is read has no command, or a heap first and no heap behind it;
+/// those that write, write bytes. A line that says a mutator's command has its number behind the name, and no other line
+/// but the heap's has.
+pub fn texts_are_answered()
+    ensures answered { EachTextIsAnswered }
+    ensures once { OneOutput }
+    ensures heap { TextsBeginWithHeap }
+    ensures later { LinesAreLater }
+    ensures numbered { LinesAreNumbered }
 {}
 
-/// Each command is carried out by its events: they are legal, keep the law and what views rest on, and end in the moment
-/// behind the command.
-pub fn events_reach()
-    ensures { EventsReach }
-{}
-
-/// A text has one output.
-pub fn outputs_are_one()
-    ensures { OneOutput }
-{}
-
-/// In each moment each object in use has exactly one live span, each log's bytes are 1,024 in all, and no two pointers
-/// name one place.
-pub fn objects_stay_whole()
-    ensures { ObjectsStayWhole }
-{}
-
-/// A log in which an object lies that its mutator views isn't given back by the next command, after any of its events.
-pub fn viewed_logs_stay()
-    ensures { ViewedLogsStay }
-{}
-
-/// In a text that is read, the commands behind the first are no heap, and those that write, write bytes.
-pub fn lines_are_later()
-    ensures { LinesAreLater }
-{}
-
-/// The replies to one mutator's lines are what its own lines alone say.
-pub fn mutators_are_alone()
-    ensures { MutatorsAreAlone }
-{}
-
-/// Where all objects are near and at hand, no command behind the heap is refused for want of memory, by a device or for a mark; for want of a pointer or of room
-/// a new object alone is refused.
-pub fn near_refusals()
-    ensures { NearRefusals }
-{}
-
-/// The first moment of a heap in range has the law, and is whole.
-pub fn heaps_begin_lawful()
-    ensures { HeapsBeginLawful }
-{}
-
-/// Each text has an output.
-pub fn each_text_is_answered()
-    ensures { EachTextIsAnswered }
-{}
-
-/// A text that is read has no command, or a heap first and no heap behind it.
-pub fn texts_begin_with_heap()
-    ensures { TextsBeginWithHeap }
-{}
-
-/// A refused command leaves objects, bytes, places and all else as they were, but for HOT and MOVE in cells, which it may
-/// add; the commands of today add none, and leave the moment as it is.
-pub fn refusals_change_nothing()
-    ensures stay { RefusalsStay }
-    ensures nothing { RefusalsChangeNothing }
-{}
-
-/// A line of a mutator that the heap hasn't is refused 8.
-pub fn strangers_are_refused()
-    ensures { StrangersAreRefused }
+/// A heap in range begins with the numbers of its line, the law and nothing in it. Behind commands each moment has the
+/// law, its pointers at hand and its objects whole: each in use has exactly one live span, each log's bytes are 1,024 in
+/// all, and no two pointers name one place. Each command is carried out by its events: they are legal, keep the law and
+/// what views rest on, and end in the moment behind it.
+pub fn moments_are_lawful()
+    ensures begin { HeapsBeginLawful }
+    ensures last { MomentsLast }
+    ensures whole { ObjectsStayWhole }
+    ensures reach { EventsReach }
 {}
 
 /// What a command reads or writes is viewed until its mutator closes its scope; no other command makes or ends a view.
+/// A log in which an object lies that its mutator views isn't given back by the next command, after any of its events.
 pub fn views_last()
-    ensures { ViewsLast }
+    ensures last { ViewsLast }
+    ensures stay { ViewedLogsStay }
 {}
 
-/// `logs` tells each log once, by number: its kind and its bytes, which make 1,024.
-pub fn logs_are_told()
-    ensures { LogsAreTold }
+/// A refused command leaves objects, bytes, places and all else as they were, but for HOT and MOVE in cells, which it may
+/// add; the commands of today add none, and leave the moment as it is. A line of a mutator that the heap hasn't is
+/// refused 8. Where all objects are near and at hand, no command behind the heap is refused for want of memory, by a
+/// device or for a mark; for want of a pointer or of room a new object alone is refused.
+pub fn refusals_leave_all()
+    ensures stay { RefusalsStay }
+    ensures nothing { RefusalsChangeNothing }
+    ensures strangers { StrangersAreRefused }
+    ensures near { NearRefusals }
 {}
 
-/// A new object's pointer is the lowest of its mutator's that is free.
-pub fn new_takes_the_lowest()
-    ensures { NewTakesTheLowest }
+/// The replies to one mutator's lines are what its own lines alone say: its own, and no others, say what it knows.
+pub fn mutators_are_alone()
+    ensures alone { MutatorsAreAlone }
+    ensures own { OwnLinesCount }
 {}
 
-/// A new object is refused 3 only where no pointer is free, and 2 only where there is no room.
-pub fn none_is_left()
-    ensures { NoneIsLeft }
-{}
-
-/// A new object in range is made where a pointer is free and there is room; else it is refused, 3 before 2.
+/// A new object in range is made where a pointer is free and there is room, else it is refused, 3 before 2, and so only
+/// where there is none; its pointer is the lowest of its mutator's that is free; it has its owner, its data structure and
+/// zeros, in the log that `room` says; all other objects stay.
 pub fn new_is_made()
-    ensures { NewIsMade }
+    ensures answer { NewIsMade }
+    ensures none { NoneIsLeft }
+    ensures lowest { NewTakesTheLowest }
+    ensures object { NewMakesItsObject }
 {}
 
 /// Splicing, by which a write is defined, changes the bytes of its range, and no others.
@@ -109,17 +70,7 @@ pub fn writes_change_their_range()
     ensures { WritesChangeTheirRange }
 {}
 
-/// A line that says a mutator's command says its number, behind the name; and so does no other line but the heap's.
-pub fn lines_are_numbered()
-    ensures { LinesAreNumbered }
-{}
-
-/// A mutator's own lines, and no others, say what it knows.
-pub fn own_lines_count()
-    ensures { OwnLinesCount }
-{}
-
-/// A new object has its owner, its data structure and zeros, in the log that `room` says; all other objects stay.
-pub fn new_makes_its_object()
-    ensures { NewMakesItsObject }
+/// `logs` tells each log once, by number: its kind and its bytes, which make 1,024.
+pub fn logs_are_told()
+    ensures { LogsAreTold }
 {}

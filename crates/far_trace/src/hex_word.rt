@@ -19,13 +19,13 @@ impl<'a> HexWord<'a> {
     ghost use Rattle.std.specs.List.{list_all};
     ghost use Rattle.hex.specs.Hex.{is_hex_digit};
     ghost use Rattle.std.specs.Option.{option_map};
-    ghost use Rattle.far_trace.specs.HexWord.{bytes_of};
+    ghost use Rattle.far_trace.specs.HexWord.{hex_bytes};
     ghost use Rattle.far_trace.specs.Grammar.{bytes_in};
 
     /// The bytes that digits spell, or None where they are no word in hex.
     pub fn from_digits(digits: &'a [u8]) -> Option<HexWord<'a>>
         requires { list_all is_hex_digit digits.now ≡ true }
-        ensures { option_map (λ found. bytes_of found.digits.now) result ≡ bytes_in digits.now }
+        ensures { option_map (λ found. hex_bytes found.digits.now) result ≡ bytes_in digits.now }
     {
         if is_hex_len(digits.len()) {
             Some(HexWord { digits })
@@ -36,7 +36,7 @@ impl<'a> HexWord<'a> {
 
     /// How many bytes the word spells.
     pub fn len(&self) -> usize
-        ensures value { result ≡ length (bytes_of self.now.digits.now) }
+        ensures value { result ≡ length (hex_bytes self.now.digits.now) }
         ensures short { result ≤ 2048 }
     {
         self.digits.len() / 2
@@ -44,8 +44,8 @@ impl<'a> HexWord<'a> {
 
     /// Fills the room, which is as long as the bytes, with them.
     pub fn decode_into(&self, room: &mut [u8])
-        requires { length room.old ≡ length (bytes_of self.now.digits.now) }
-        ensures { room.new ≡ bytes_of self.now.digits.now }
+        requires { length room.old ≡ length (hex_bytes self.now.digits.now) }
+        ensures { room.new ≡ hex_bytes self.now.digits.now }
     {
         hex::decode_to_slice(self.digits, room).unwrap();
     }

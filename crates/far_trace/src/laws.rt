@@ -7,26 +7,18 @@ ghost use Rattle.far_trace.specs.declared.reply.TheConstants.{LONGEST_REPLY};
 ghost use Rattle.far_trace.specs.Command.{Command};
 ghost use Rattle.far_trace.specs.Grammar.{command_of};
 ghost use Rattle.far_trace.specs.Says.{Says};
-ghost use Rattle.far_trace.specs.TraceText.{TextsAreRead, FirstBadLines, CutsJoin};
+ghost use Rattle.far_trace.specs.TraceText.{TextsAreRead, FirstBadLines, CutsJoin, LimitsAre};
 
-/// Words are read as a command exactly where they say it.
-pub fn read_as_said()
-    ensures { (words : List (List ℕ)) (c : Command) → Says words c ↔ (command_of words ≡ Some c) }
-{}
-
-/// A text is read as commands exactly where its lines say them: all its lines, in order, comments and empty lines passed over.
-pub fn texts_are_read()
-    ensures { TextsAreRead }
-{}
-
-/// The number that is refused is that of the first line that says nothing, from 1; 0 where the text is too long.
-pub fn bad_lines_are_first()
-    ensures { FirstBadLines }
-{}
-
-/// Lines joined by newlines are the text, and words joined by spaces the line.
-pub fn cuts_join()
-    ensures { CutsJoin }
+/// Words are read as a command exactly where they say it, and a text as commands exactly where its lines say them: all its
+/// lines, in order, comments and empty lines passed over. The number that is refused is that of the first line that says
+/// nothing, from 1; 0 where the text is too long. Lines joined by newlines are the text, and words joined by spaces the
+/// line. A line has at most 4,096 bytes, its newline not counted, and a text at most 1,048,576.
+pub fn grammar_is_said()
+    ensures words { (words : List (List ℕ)) (c : Command) → Says words c ↔ (command_of words ≡ Some c) }
+    ensures texts { TextsAreRead }
+    ensures bad { FirstBadLines }
+    ensures cuts { CutsJoin }
+    ensures limits { LimitsAre }
 {}
 
 /// A text has at most 1,048,576 bytes, a line 4,096; room is kept for a reply of 16,384.

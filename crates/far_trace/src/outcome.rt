@@ -2,9 +2,10 @@
 
 ghost use Rattle.std.specs.Prelude.{◌≡◌};
 ghost use Rattle.far_trace.specs.Reply.{reply_of, IsShort};
-ghost use Rattle.far_trace.specs.Outcome.{told_by, Fits};
+ghost use Rattle.far_trace.specs.Outcome.{reply_by, IsInRoom};
 
-use crate::reply::{LogKind, LogLine, Reply};
+use crate::reply::{LogLine, Reply};
+use far_core::Kind;
 use far_word::{LOG_WORDS, MOST_LOGS, Refused};
 
 /// What a command comes to. The bytes and the log lines of a reply stand in the room.
@@ -21,23 +22,23 @@ pub enum Outcome {
 
 /// Room for the words and bytes of an object and for a line of each log.
 #[derive(Clone, Copy)]
-pub struct Room {
+pub struct Scratch {
     pub words: [u64; LOG_WORDS as usize],
     pub bytes: [u8; 8 * LOG_WORDS as usize],
     pub lines: [LogLine; MOST_LOGS as usize],
 }
 
-impl Room {
+impl Scratch {
     /// All the room that commands need.
-    pub fn new() -> Room {
+    pub fn new() -> Scratch {
         let line = LogLine {
             log: 0,
-            kind: LogKind::Free,
+            kind: Kind::Free,
             live: 0,
             dead: 0,
             unused: 0,
         };
-        Room {
+        Scratch {
             words: [0; LOG_WORDS as usize],
             bytes: [0; 8 * LOG_WORDS as usize],
             lines: [line; MOST_LOGS as usize],
@@ -46,8 +47,8 @@ impl Room {
 
     /// The reply to a command.
     pub fn reply(&self, outcome: Outcome) -> Reply<'_>
-        requires { Fits outcome }
-        ensures value { reply_of result ≡ told_by self.now.bytes self.now.lines outcome }
+        requires { IsInRoom outcome }
+        ensures value { reply_of result ≡ reply_by self.now.bytes self.now.lines outcome }
         ensures short { IsShort (reply_of result) }
     {
         match outcome {

@@ -3,28 +3,22 @@
 ghost use Rattle.std.specs.Prelude.{◌≡◌, ◌≤◌, ◌+◌, ◌*◌, ◌++◌, length};
 ghost use Rattle.std.specs.List.{flat_map};
 ghost use Rattle.far_word.specs.declared.sizes.TheConstants.{MOST_LOGS};
+ghost use Rattle.far_trace.specs.declared.reply.TheConstants.{LONGEST_REPLY};
 ghost use Rattle.far_word.specs.Refused.{refusal_number};
 ghost use Rattle.far_trace.specs.Reply.{IsShort, detail, kind_word, log_printed, printed, refused_printed, reply_of};
 
 use crate::output::Output;
+use far_core::Kind;
 use far_word::Refused;
 
 /// Room for any reply.
 pub const LONGEST_REPLY: usize = 16_384;
 
-/// The kinds of a log.
-#[derive(Clone, Copy, Debug, PartialEq, Eq)]
-pub enum LogKind {
-    Free,
-    Open,
-    Sealed,
-}
-
-/// What is reported of one log: its number, its kind, and its bytes.
+/// What is told of one log: its number, its kind, and its bytes.
 #[derive(Clone, Copy, Debug, PartialEq, Eq)]
 pub struct LogLine {
     pub log: u8,
-    pub kind: LogKind,
+    pub kind: Kind,
     pub live: u64,
     pub dead: u64,
     pub unused: u64,
@@ -40,15 +34,15 @@ pub enum Reply<'a> {
     Refused(Refused),
 }
 
-fn push_kind(kind: LogKind, out: &mut Output)
+fn push_kind(kind: Kind, out: &mut Output)
     requires { length out.old + 10 ≤ Output.ROOM }
     ensures grown { out.new ≡ out.old ++ kind_word kind }
     ensures short { length out.new ≤ length out.old + 6 }
 {
     match kind {
-        LogKind::Free => out.push(b"free"),
-        LogKind::Open => out.push(b"open"),
-        LogKind::Sealed => out.push(b"sealed"),
+        Kind::Free => out.push(b"free"),
+        Kind::Open => out.push(b"open"),
+        Kind::Sealed => out.push(b"sealed"),
     }
 }
 
@@ -72,7 +66,7 @@ fn push_log(line: &LogLine, out: &mut Output)
 
 fn push_logs(lines: &[LogLine], out: &mut Output)
     requires few { length lines.now ≤ MOST_LOGS }
-    requires room { length out.old + 16384 ≤ Output.ROOM }
+    requires room { length out.old + LONGEST_REPLY ≤ Output.ROOM }
     ensures { out.new ≡ out.old ++ flat_map log_printed lines.now }
 {
     for line in lines {
@@ -97,7 +91,7 @@ impl Reply<'_> {
     /// Adds the reply's lines to the output.
     pub fn print_behind(&self, out: &mut Output)
         requires short { IsShort (reply_of self.now) }
-        requires room { length out.old + 16384 ≤ Output.ROOM }
+        requires room { length out.old + LONGEST_REPLY ≤ Output.ROOM }
         ensures { out.new ≡ out.old ++ printed (reply_of self.now) }
     {
         match self {

@@ -16,7 +16,7 @@ ghost use Rattle.far_trace.specs.Tidy.{Tidy};
 
 use crate::command::Command;
 use crate::gather::{add_reply, write_waiting};
-use crate::outcome::Room;
+use crate::outcome::Scratch;
 use crate::output::{Output, zeros};
 use crate::reply::Reply;
 use crate::stream::{WriteFault, read_text};
@@ -25,7 +25,6 @@ use crate::turn::turn;
 use far_core::{Core, Shape};
 use far_word::{MOST_MUTATORS, Refused};
 use std::alloc::{AllocError, Global};
-use std::io;
 use std::io::{Read, Write};
 use thiserror::Error;
 
@@ -60,17 +59,6 @@ impl From<WriteFault> for RunFault {
     }
 }
 
-impl From<io::Error> for RunFault {
-    ghost use Rattle.std.specs.Prelude.{◌≡◌};
-    ghost use Rattle.far_trace.specs.declared.run.RunFault.TheVariants.{Read};
-
-    ghost from_gives = { λ _ e. e ≡ Read };
-
-    fn from(_e: io::Error) -> RunFault {
-        RunFault::Read
-    }
-}
-
 impl From<AllocError> for RunFault {
     ghost use Rattle.std.specs.Prelude.{◌≡◌};
     ghost use Rattle.far_trace.specs.declared.run.RunFault.TheVariants.{Memory};
@@ -88,7 +76,7 @@ fn read_whole<R: Read>(alloc: Global, reader: &mut R, most: usize) -> Result<Vec
     ensures fault { result ≢ Err RunFault.Write }
 {
     let mut room = zeros(alloc, most)?;
-    let len = read_text(reader, &mut room)?;
+    let len = read_text(reader, &mut room).map_err(|_| RunFault::Read)?;
     room.truncate(len);
     Ok(room)
 }
@@ -108,7 +96,7 @@ fn answer_commands<W: Write>(
     out: &mut Output,
     core: Core,
     named: &mut [u16],
-    room: &mut Room,
+    scratch: &mut Scratch,
     commands: &[Command],
 ) -> Result<(), WriteFault>
     requires tidy { Tidy (core_state core) (λ m. slice_index named.old m) }
@@ -121,8 +109,8 @@ fn answer_commands<W: Write>(
     out.clear();
     let mut written = add_reply(writer, out, &Reply::Done, Ok(()));
     for command in commands {
-        let outcome = turn(&mut core, named, room, command);
-        written = add_reply(writer, out, &room.reply(outcome), written);
+        let outcome = turn(&mut core, named, scratch, command);
+        written = add_reply(writer, out, &scratch.reply(outcome), written);
     }
     write_waiting(writer, out, written)
 }
@@ -146,8 +134,8 @@ fn answer_heap<W: Write>(
     match Core::new(alloc, shape, true) {
         Ok(core) => {
             let mut named = [0u16; MOST_MUTATORS as usize];
-            let mut room = Room::new();
-            answer_commands(writer, out, core, &mut named, &mut room, commands)?;
+            let mut scratch = Scratch::new();
+            answer_commands(writer, out, core, &mut named, &mut scratch, commands)?;
             Ok(End::Ran)
         }
         Err(Refused::Memory) => {

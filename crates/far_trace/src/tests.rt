@@ -1,5 +1,6 @@
 // Texts on and off the grammar, printed replies, and readers and writers that fail.
 
+mod differing;
 mod filling;
 mod longest;
 mod object_bytes;
@@ -12,10 +13,11 @@ mod values;
 use crate::command::Command;
 use crate::gather::{add_reply, write_waiting};
 use crate::output::Output;
-use crate::reply::{LogKind, LogLine, Reply};
+use crate::reply::{LogLine, Reply};
 use crate::run::{End, RunFault, run};
 use crate::stream::{WriteFault, read_text};
 use crate::text::{ParseError, parse};
+use far_core::Kind;
 use far_word::Refused;
 use std::io;
 use std::io::{ErrorKind, Read, Write};
@@ -168,21 +170,21 @@ fn replies_as_printed(rt: HostRuntime) -> Result<(), Fail> {
     let lines = [
         LogLine {
             log: 0,
-            kind: LogKind::Open,
+            kind: Kind::Open,
             live: 16,
             dead: 0,
             unused: 1008,
         },
         LogLine {
             log: 1,
-            kind: LogKind::Sealed,
+            kind: Kind::Sealed,
             live: 1000,
             dead: 24,
             unused: 0,
         },
         LogLine {
             log: 63,
-            kind: LogKind::Free,
+            kind: Kind::Free,
             live: 0,
             dead: 0,
             unused: 1024,

@@ -3,7 +3,7 @@
 ghost use Rattle.std.specs.Prelude.{◌≡◌, ◌<◌, length, map, Ok, Err, IfOk, IfErr};
 ghost use Rattle.far_trace.specs.Command.{said};
 ghost use Rattle.far_trace.specs.declared.text.TheConstants.{LONGEST_TEXT};
-ghost use Rattle.far_trace.specs.Grammar.{commands_of, IsFault, may_stand};
+ghost use Rattle.far_trace.specs.Grammar.{commands_of, IsFault, is_in_place};
 
 use crate::command::Command;
 use crate::line::{Line, line_first};
@@ -47,7 +47,7 @@ impl<T: Drop> From<AllocFailed<T>> for ParseError {
 
 // Whether a command may stand where it does: `heap` first, and nowhere else.
 fn stands(is_first: bool, command: &Command) -> bool
-    ensures { result ≡ may_stand is_first (said command.now) }
+    ensures { result ≡ is_in_place is_first (said command.now) }
 {
     matches!(command, Command::Heap { .. }) == is_first
 }

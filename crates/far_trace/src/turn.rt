@@ -11,25 +11,25 @@ ghost use Rattle.far_core.specs.state.Room.{room};
 ghost use Rattle.far_core.specs.events.Step.{step_of, data_len};
 ghost use Rattle.far_core.specs.declared.event.Event.{Event};
 ghost use Rattle.far_trace.specs.Command.{said};
-ghost use Rattle.far_trace.specs.Interpreter.{loaded, stores_of, word_in, refused_in, IsAccess, IsNew, Tells, next_after, next_of};
-ghost use Rattle.far_trace.specs.HexWord.{bytes_of as spelled};
-ghost use Rattle.far_trace.specs.Made.{made, AtHand};
+ghost use Rattle.far_trace.specs.Interpreter.{loaded, stores_of, word_in, refused_in, IsAccess, IsNew, StandsFor, next_after, next_of};
+ghost use Rattle.far_trace.specs.HexWord.{hex_bytes as spelled};
+ghost use Rattle.far_trace.specs.EventRows.{after_events, AtHand};
 ghost use Rattle.far_trace.specs.Command.{Heap, New, Open, Write, Read, Close, Logs};
-ghost use Rattle.far_trace.specs.Outcome.{told_by, Fits};
+ghost use Rattle.far_trace.specs.Outcome.{reply_by, IsInRoom};
 ghost use Rattle.far_trace.specs.Reply.{IsShort};
 ghost use Rattle.far_trace.specs.Tidy.{Tidy};
-ghost use Rattle.far_trace.specs.Events.{events_for, turn_events, first_word, words_touched, starts_inside, ends_inside, first_part, last_part};
+ghost use Rattle.far_trace.specs.Events.{events_for, turn_events, first_word, words_touched, starts_inside, ends_inside, first_loads, last_loads};
 ghost use Rattle.far_trace.specs.Objects.{lowest_cell, named_len};
 ghost use Rattle.far_trace.specs.Moment.{moment_of};
 ghost use Rattle.far_trace.specs.Later.{IsLater};
-ghost use Rattle.far_trace.specs.Turn.{effect, access_causes, first_cause, reply_to, turn_reply, kind_told, refusal, log_line};
+ghost use Rattle.far_trace.specs.Turn.{effect, access_causes, first_cause, reply_to, turn_reply, refusal, log_line};
 
 use crate::command::Command;
 use crate::events::{load, load_words, make_new, open, store_words, view};
 use crate::hex_word::HexWord;
-use crate::outcome::{Outcome, Room};
-use crate::reply::{LogKind, LogLine};
-use far_core::{Core, Event, Kind};
+use crate::outcome::{Outcome, Scratch};
+use crate::reply::LogLine;
+use far_core::{Core, Event};
 use far_word::{
     CELLS, LOG_WORDS, LONGEST, MOST_LOGS, MOST_MUTATORS, POINTERS, Place, PtrWord, Refused,
     pack_bytes, size_of, unpack_bytes,
@@ -125,13 +125,13 @@ impl Access {
 }
 
 // Reads a range of bytes.
-fn read(core: &mut Core, room: &mut Room, access: Access) -> Outcome
+fn read(core: &mut Core, scratch: &mut Scratch, access: Access) -> Outcome
     requires access { IsAccess (core_state core.old) access.owner access.pointer access.from access.count access }
     requires tidy { (next : ℕ → ℕ) × Tidy (core_state core.old) next }
     requires law { Law (core_state core.old) }
-    ensures state { core_state core.new ≡ made (core_state core.old) (turn_events (moment_of (core_state core.old)) (Read access.owner access.pointer access.from access.count)) }
-    ensures reply { told_by room.new.bytes room.new.lines result ≡ turn_reply (moment_of (core_state core.old)) (Read access.owner access.pointer access.from access.count) }
-    ensures fits { Fits result }
+    ensures state { core_state core.new ≡ after_events (core_state core.old) (turn_events (moment_of (core_state core.old)) (Read access.owner access.pointer access.from access.count)) }
+    ensures reply { reply_by scratch.new.bytes scratch.new.lines result ≡ turn_reply (moment_of (core_state core.old)) (Read access.owner access.pointer access.from access.count) }
+    ensures fits { IsInRoom result }
 {
     view(core, access.owner, access.pointer);
     let count = access.touched();
@@ -141,9 +141,9 @@ fn read(core: &mut Core, room: &mut Room, access: Access) -> Outcome
         access.pointer,
         access.first(),
         count,
-        &mut room.words,
+        &mut scratch.words,
     );
-    unpack_front(&room.words, count as usize, &mut room.bytes);
+    unpack_front(&scratch.words, count as usize, &mut scratch.bytes);
     Outcome::Data {
         from: access.from - 8 * access.first(),
         count: access.count,
@@ -172,7 +172,7 @@ impl Access {
 fn load_first(core: &mut Core, access: Access, words: &mut [u64])
     requires most { access.from + access.count ≤ LONGEST }
     requires room { length words.old ≡ LOG_WORDS }
-    ensures state { core_state core.new ≡ made (core_state core.old) (first_part access.owner access.pointer access.from access.count) }
+    ensures state { core_state core.new ≡ after_events (core_state core.old) (first_loads access.owner access.pointer access.from access.count) }
     ensures first { starts_inside access.from access.count ≡ true → slice_index words.new 0 ≡ loaded (core_state core.old) access.owner access.pointer (access.from / 8) }
 {
     if access.starts_inside() {
@@ -184,7 +184,7 @@ fn load_first(core: &mut Core, access: Access, words: &mut [u64])
 fn load_last(core: &mut Core, access: Access, words: &mut [u64])
     requires most { access.from + access.count ≤ LONGEST }
     requires room { length words.old ≡ LOG_WORDS }
-    ensures state { core_state core.new ≡ made (core_state core.old) (last_part access.owner access.pointer access.from access.count) }
+    ensures state { core_state core.new ≡ after_events (core_state core.old) (last_loads access.owner access.pointer access.from access.count) }
     ensures first { slice_index words.new 0 ≡ slice_index words.old 0 }
     ensures last { ends_inside access.from access.count ≡ true → slice_index words.new ((access.from + access.count) / 8 - access.from / 8) ≡ loaded (core_state core.old) access.owner access.pointer ((access.from + access.count) / 8) }
 {
@@ -195,30 +195,30 @@ fn load_last(core: &mut Core, access: Access, words: &mut [u64])
 }
 
 // Writes bytes over a range.
-fn write(core: &mut Core, room: &mut Room, access: Access, bytes: HexWord) -> Outcome
+fn write(core: &mut Core, scratch: &mut Scratch, access: Access, bytes: HexWord) -> Outcome
     requires access { IsAccess (core_state core.old) access.owner access.pointer access.from access.count access }
     requires tidy { (next : ℕ → ℕ) × Tidy (core_state core.old) next }
     requires law { Law (core_state core.old) }
     requires bytes { length (spelled bytes.digits.now) ≡ access.count }
-    ensures state { core_state core.new ≡ made (core_state core.old) (turn_events (moment_of (core_state core.old)) (Write access.owner access.pointer access.from (spelled bytes.entry.digits.now))) }
+    ensures state { core_state core.new ≡ after_events (core_state core.old) (turn_events (moment_of (core_state core.old)) (Write access.owner access.pointer access.from (spelled bytes.entry.digits.now))) }
     ensures done { result ≡ Outcome.Done }
 {
     let first = access.first();
     let touched = access.touched();
     view(core, access.owner, access.pointer);
-    load_first(core, access, &mut room.words);
-    load_last(core, access, &mut room.words);
-    unpack_front(&room.words, touched as usize, &mut room.bytes);
+    load_first(core, access, &mut scratch.words);
+    load_last(core, access, &mut scratch.words);
+    unpack_front(&scratch.words, touched as usize, &mut scratch.bytes);
     let at = (access.from - 8 * first) as usize;
-    bytes.decode_into(&mut room.bytes[at..at + access.count as usize]);
-    pack_front(&room.bytes, touched as usize, &mut room.words);
+    bytes.decode_into(&mut scratch.bytes[at..at + access.count as usize]);
+    pack_front(&scratch.bytes, touched as usize, &mut scratch.words);
     store_words(
         core,
         access.owner,
         access.pointer,
         first,
         touched,
-        &room.words,
+        &scratch.words,
     );
     Outcome::Done
 }
@@ -321,10 +321,10 @@ fn make_object(core: &mut Core, named: &mut [u16], mutator: u64, len: u64, ds: u
     requires tidy { Tidy (core_state core.old) (λ m. slice_index named.old m) }
     requires law { Law (core_state core.old) }
     requires sized { length named.old ≡ MOST_MUTATORS }
-    ensures state { core_state core.new ≡ made (core_state core.old) (events_for (moment_of (core_state core.old)) (New mutator len ds)) }
-    ensures reply { Tells result (reply_to (moment_of (core_state core.old)) (New mutator len ds)) }
+    ensures state { core_state core.new ≡ after_events (core_state core.old) (events_for (moment_of (core_state core.old)) (New mutator len ds)) }
+    ensures reply { StandsFor result (reply_to (moment_of (core_state core.old)) (New mutator len ds)) }
     ensures named { (m : ℕ) → slice_index named.new m ≡ next_after (moment_of (core_state core.old)) (New mutator len ds) (λ k. slice_index named.old k) m }
-    ensures fits { Fits result }
+    ensures fits { IsInRoom result }
 {
     match design(core, named, mutator, len, ds) {
         Ok(object) => {
@@ -345,9 +345,9 @@ fn make_object(core: &mut Core, named: &mut [u16], mutator: u64, len: u64, ds: u
 
 // Opens a mutator's scope.
 fn open_scope(core: &mut Core, mutator: u64) -> Outcome
-    ensures state { core_state core.new ≡ made (core_state core.old) (events_for (moment_of (core_state core.old)) (Open mutator)) }
-    ensures reply { Tells result (reply_to (moment_of (core_state core.old)) (Open mutator)) }
-    ensures fits { Fits result }
+    ensures state { core_state core.new ≡ after_events (core_state core.old) (events_for (moment_of (core_state core.old)) (Open mutator)) }
+    ensures reply { StandsFor result (reply_to (moment_of (core_state core.old)) (Open mutator)) }
+    ensures fits { IsInRoom result }
 {
     if mutator >= u64::from(core.mutators()) {
         return Outcome::Refused(Refused::Range);
@@ -362,9 +362,9 @@ fn open_scope(core: &mut Core, mutator: u64) -> Outcome
 
 // Closes a mutator's scope.
 fn close_scope(core: &mut Core, mutator: u64) -> Outcome
-    ensures state { core_state core.new ≡ made (core_state core.old) (events_for (moment_of (core_state core.old)) (Close mutator)) }
-    ensures reply { Tells result (reply_to (moment_of (core_state core.old)) (Close mutator)) }
-    ensures fits { Fits result }
+    ensures state { core_state core.new ≡ after_events (core_state core.old) (events_for (moment_of (core_state core.old)) (Close mutator)) }
+    ensures reply { StandsFor result (reply_to (moment_of (core_state core.old)) (Close mutator)) }
+    ensures fits { IsInRoom result }
 {
     if mutator >= u64::from(core.mutators()) {
         return Outcome::Refused(Refused::Range);
@@ -380,7 +380,7 @@ fn close_scope(core: &mut Core, mutator: u64) -> Outcome
 // Reads a range of a mutator's object.
 fn read_range(
     core: &mut Core,
-    room: &mut Room,
+    scratch: &mut Scratch,
     mutator: u64,
     pointer: u64,
     from: u64,
@@ -388,12 +388,12 @@ fn read_range(
 ) -> Outcome
     requires tidy { (next : ℕ → ℕ) × Tidy (core_state core.old) next }
     requires law { Law (core_state core.old) }
-    ensures state { core_state core.new ≡ made (core_state core.old) (events_for (moment_of (core_state core.old)) (Read mutator pointer from len)) }
-    ensures reply { told_by room.new.bytes room.new.lines result ≡ reply_to (moment_of (core_state core.old)) (Read mutator pointer from len) }
-    ensures fits { Fits result }
+    ensures state { core_state core.new ≡ after_events (core_state core.old) (events_for (moment_of (core_state core.old)) (Read mutator pointer from len)) }
+    ensures reply { reply_by scratch.new.bytes scratch.new.lines result ≡ reply_to (moment_of (core_state core.old)) (Read mutator pointer from len) }
+    ensures fits { IsInRoom result }
 {
     match reach(core, mutator, pointer, from, len) {
-        Ok(access) => read(core, room, access),
+        Ok(access) => read(core, scratch, access),
         Err(why) => Outcome::Refused(why),
     }
 }
@@ -401,7 +401,7 @@ fn read_range(
 // Writes bytes over a range of a mutator's object.
 fn write_range(
     core: &mut Core,
-    room: &mut Room,
+    scratch: &mut Scratch,
     mutator: u64,
     pointer: u64,
     from: u64,
@@ -409,23 +409,13 @@ fn write_range(
 ) -> Outcome
     requires tidy { (next : ℕ → ℕ) × Tidy (core_state core.old) next }
     requires law { Law (core_state core.old) }
-    ensures state { core_state core.new ≡ made (core_state core.old) (events_for (moment_of (core_state core.old)) (Write mutator pointer from (spelled bytes.entry.digits.now))) }
-    ensures reply { Tells result (reply_to (moment_of (core_state core.old)) (Write mutator pointer from (spelled bytes.entry.digits.now))) }
-    ensures fits { Fits result }
+    ensures state { core_state core.new ≡ after_events (core_state core.old) (events_for (moment_of (core_state core.old)) (Write mutator pointer from (spelled bytes.entry.digits.now))) }
+    ensures reply { StandsFor result (reply_to (moment_of (core_state core.old)) (Write mutator pointer from (spelled bytes.entry.digits.now))) }
+    ensures fits { IsInRoom result }
 {
     match reach(core, mutator, pointer, from, bytes.len() as u64) {
-        Ok(access) => write(core, room, access, bytes),
+        Ok(access) => write(core, scratch, access, bytes),
         Err(why) => Outcome::Refused(why),
-    }
-}
-
-fn kind_told(kind: Kind) -> LogKind
-    ensures { result ≡ kind_told kind }
-{
-    match kind {
-        Kind::Free => LogKind::Free,
-        Kind::Open => LogKind::Open,
-        Kind::Sealed => LogKind::Sealed,
     }
 }
 
@@ -439,7 +429,7 @@ fn log_told(core: &Core, log: u8) -> LogLine
     let live = 8 * u64::from(core.tail(log));
     LogLine {
         log,
-        kind: kind_told(core.kind(log)),
+        kind: core.kind(log),
         live,
         dead: 0,
         unused: 8 * LOG_WORDS as u64 - live,
@@ -459,14 +449,19 @@ fn tell_logs(core: &Core, lines: &mut [LogLine])
 }
 
 // Makes the events of one command, and answers what it comes to.
-fn make_events(core: &mut Core, named: &mut [u16], room: &mut Room, command: &Command) -> Outcome
+fn make_events(
+    core: &mut Core,
+    named: &mut [u16],
+    scratch: &mut Scratch,
+    command: &Command,
+) -> Outcome
     requires tidy { Tidy (core_state core.old) (λ m. slice_index named.old m) }
     requires law { Law (core_state core.old) }
     requires sized { length named.old ≡ MOST_MUTATORS }
-    ensures state { core_state core.new ≡ made (core_state core.old) (events_for (moment_of (core_state core.old)) (said command.now)) }
-    ensures reply { told_by room.new.bytes room.new.lines result ≡ reply_to (moment_of (core_state core.old)) (said command.now) }
+    ensures state { core_state core.new ≡ after_events (core_state core.old) (events_for (moment_of (core_state core.old)) (said command.now)) }
+    ensures reply { reply_by scratch.new.bytes scratch.new.lines result ≡ reply_to (moment_of (core_state core.old)) (said command.now) }
     ensures named { (m : ℕ) → slice_index named.new m ≡ next_after (moment_of (core_state core.old)) (said command.now) (λ k. slice_index named.old k) m }
-    ensures fits { Fits result }
+    ensures fits { IsInRoom result }
 {
     match *command {
         Command::Heap { .. } => Outcome::Done,
@@ -481,31 +476,31 @@ fn make_events(core: &mut Core, named: &mut [u16], room: &mut Room, command: &Co
             pointer,
             from,
             bytes,
-        } => write_range(core, room, mutator, pointer, from, bytes),
+        } => write_range(core, scratch, mutator, pointer, from, bytes),
         Command::Read {
             mutator,
             pointer,
             from,
             len,
-        } => read_range(core, room, mutator, pointer, from, len),
+        } => read_range(core, scratch, mutator, pointer, from, len),
         Command::Close { mutator } => close_scope(core, mutator),
         Command::Logs => {
-            tell_logs(core, &mut room.lines);
+            tell_logs(core, &mut scratch.lines);
             Outcome::Logs(core.logs())
         }
     }
 }
 
 /// Makes one command, and answers what it comes to.
-pub fn turn(core: &mut Core, named: &mut [u16], room: &mut Room, command: &Command) -> Outcome
+pub fn turn(core: &mut Core, named: &mut [u16], scratch: &mut Scratch, command: &Command) -> Outcome
     requires tidy { Tidy (core_state core.old) (λ m. slice_index named.old m) }
     requires law { Law (core_state core.old) }
     requires sized { length named.old ≡ MOST_MUTATORS }
     requires later { IsLater (said command.now) }
     ensures moment { moment_of (core_state core.new) ≡ effect (moment_of (core_state core.old)) (said command.now) }
-    ensures reply { told_by room.new.bytes room.new.lines result ≡ reply_to (moment_of (core_state core.old)) (said command.now) }
+    ensures reply { reply_by scratch.new.bytes scratch.new.lines result ≡ reply_to (moment_of (core_state core.old)) (said command.now) }
     ensures named { (m : ℕ) → slice_index named.new m ≡ next_after (moment_of (core_state core.old)) (said command.now) (λ k. slice_index named.old k) m }
-    ensures fits { Fits result }
+    ensures fits { IsInRoom result }
 {
-    make_events(core, named, room, command)
+    make_events(core, named, scratch, command)
 }

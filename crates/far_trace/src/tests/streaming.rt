@@ -163,11 +163,31 @@ fn writes_of_a_few_bytes(rt: HostRuntime) -> Result<(), Fail> {
     Ok(())
 }
 
+// The writes at which a run is made to fail: the first ones, some behind them, and the last ones.
+fn some_writes(count: usize) -> [usize; 12] {
+    let third = count / 3;
+    let last = count.saturating_sub(1);
+    [
+        0,
+        1,
+        2,
+        3,
+        4,
+        third,
+        third.saturating_add(1),
+        third.saturating_mul(2),
+        last.saturating_sub(3),
+        last.saturating_sub(2),
+        last.saturating_sub(1),
+        last,
+    ]
+}
+
 #[test]
 fn each_write_may_fail(rt: HostRuntime) -> Result<(), Fail> {
     let answer = ANSWER.as_bytes();
     for failure in [Failure::TakesNone, Failure::Is(ErrorKind::Other)] {
-        for before in 0..answer.len() {
+        for before in some_writes(answer.len()) {
             let fails_at = (before as u64).saturating_add(1);
             let (ended, written) = run_written(&rt, 1, fails_at, failure);
             assert_eq!(rt; ended, Err(RunFault::Write), "at {fails_at}");

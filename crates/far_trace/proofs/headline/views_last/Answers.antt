@@ -1,5 +1,5 @@
-use Rattle.far_trace.proofs.ViewLaws.{views_last}
+use Rattle.far_trace.proofs.ViewLaws.{views_last, logs_stay}
 use Rattle.far_trace.proofs.headline.views_last.Goals as goal
 
 pub returns : goal.returns
-returns c = views_last
+returns c = record { last = views_last; stay = logs_stay }

@@ -1,7 +1,7 @@
 use Rattle.std.proofs.Common.{arith, sym, ap, ◌∙◌, ◌≡◌, ◌<◌, ◌+◌, ◌-◌, length, take, drop, length-drop}
 use Rattle.std.proofs.Math.Seq.{take-length}
 use Rattle.far_trace.specs.Grammar.{line_of, lines_of}
-use Rattle.far_trace.specs.Cursor.{first_part, other_parts}
+use Rattle.far_trace.specs.Cursor.{front_of, rest_of}
 use Rattle.far_trace.proofs.LineLemmas.{other_line, long_comment, good_comment, line_ends, line_all, comment_some}
 use Rattle.far_trace.proofs.line.comment_first.Goals as goal
 
@@ -19,11 +19,11 @@ returns-then-len-text-clause-line c =
     let text = c.args.text.now in
     let all = line_all text (λ k less. c.in_ok-len.ensures.inside k (omega arith)) in
     good_comment text c.in_ok-len.len (omega arith) c.in_ok-len.ensures.bound c.if-len-gt-LONGEST_LINE.false c.requires.comment c.in_ok-len.ensures.ascii
-    ∙ ap line_of (ap (λ m. take m text) c.if-len-text.true ∙ take-length text ∙ sym (ap first_part all))
+    ∙ ap line_of (ap (λ m. take m text) c.if-len-text.true ∙ take-length text ∙ sym (ap front_of all))
 
 pub returns-then-len-text-clause-lines : goal.returns-then-len-text-clause-lines
 returns-then-len-text-clause-lines c =
-    sym (ap other_parts (line_all c.args.text.now (λ k less. c.in_ok-len.ensures.inside k (omega arith))))
+    sym (ap rest_of (line_all c.args.text.now (λ k less. c.in_ok-len.ensures.inside k (omega arith))))
 
 pub returns-clause-line : goal.returns-clause-line
 returns-clause-line c =
@@ -32,7 +32,7 @@ returns-clause-line c =
     let newline = c.in_ok-len.ensures.ends less in
     let some = comment_some text c.in_ok-len.len c.requires.comment newline in
     good_comment text c.in_ok-len.len some c.in_ok-len.ensures.bound c.if-len-gt-LONGEST_LINE.false c.requires.comment c.in_ok-len.ensures.ascii
-    ∙ ap line_of (sym (ap first_part (line_ends text c.in_ok-len.len less newline c.in_ok-len.ensures.inside)))
+    ∙ ap line_of (sym (ap front_of (line_ends text c.in_ok-len.len less newline c.in_ok-len.ensures.inside)))
 
 pub returns-clause-lines : goal.returns-clause-lines
 returns-clause-lines c =
@@ -41,4 +41,4 @@ returns-clause-lines c =
     let less : len < length text = omega (arith, c.in_ok-len.ensures.bound) in
     let rest : take (length text - (len + 1)) (drop (len + 1) text) ≡ drop (len + 1) text =
     ap (λ m. take m (drop (len + 1) text)) (sym (length-drop (len + 1) text)) ∙ take-length (drop (len + 1) text) in
-    ap lines_of rest ∙ sym (ap other_parts (line_ends text len less (c.in_ok-len.ensures.ends less) c.in_ok-len.ensures.inside))
+    ap lines_of rest ∙ sym (ap rest_of (line_ends text len less (c.in_ok-len.ensures.ends less) c.in_ok-len.ensures.inside))

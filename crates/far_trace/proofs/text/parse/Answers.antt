@@ -1,7 +1,7 @@
 use Rattle.std.proofs.Common.{arith, true, false, ◌≡◌, ◌+◌, ◌<◌, ◌==◌, ap, sym, subst, ◌∙◌, map, [], ◌∷◌, ◌++◌, length, vec_len}
 use Rattle.far_trace.specs.Command.{said}
 use Rattle.far_trace.specs.Cursor.{lines_left}
-use Rattle.far_trace.specs.Grammar.{lines_of, may_stand, read_lines}
+use Rattle.far_trace.specs.Grammar.{lines_of, is_in_place, read_lines}
 use Rattle.far_trace.proofs.Reading.{onto_all, onto_none, onto_one_more, few_lines, commands_short, reads_bad, reads_skipped, reads_misplaced, reads_said, fewer_lines, not_none, map_append}
 use Rattle.far_trace.proofs.text.parse.Goals as goal
 
@@ -25,7 +25,7 @@ returns-then-not-stands-clause-fault c =
     let front = map said c.loop-lines.commands.items in
     let reads = rw c.in-Some.is at c.loop-lines.invariant.reads in
     let line = rw c.in-Said.is at c.in-Some-line_first.ensures.line in
-    let stands = ap (λ b. may_stand b (said c.in-Said.command)) (sym c.is_empty.ensures) ∙ sym c.stands.ensures ∙ c.if-not-stands.true in
+    let stands = ap (λ b. is_in_place b (said c.in-Said.command)) (sym c.is_empty.ensures) ∙ sym c.stands.ensures ∙ c.if-not-stands.true in
     commands_short c.args.text.now c.if-text-gt-LONGEST_TEXT.false ∙ sym reads
     ∙ ap (onto_all front) (reads_misplaced (c.loop-lines.number + 1) _ c.in-Some.text.now (said c.in-Said.command) line stands)
 
@@ -44,7 +44,7 @@ loop-lines-preserved-in_ok-push c =
     let reads = rw c.in-Some.is at c.loop-lines.invariant.reads in
     let counted = rw c.in-Some.is at c.loop-lines.invariant.counted in
     let line = rw c.in-Said.is at c.in-Some-line_first.ensures.line in
-    let stands = ap (λ b. may_stand b command) (sym c.is_empty.ensures) ∙ sym c.stands.ensures ∙ c.if-not-stands.false in
+    let stands = ap (λ b. is_in_place b command) (sym c.is_empty.ensures) ∙ sym c.stands.ensures ∙ c.if-not-stands.false in
     let fewer = fewer_lines c.in-Some.text.now behind c.in-Some-line_first.ensures.lines in
     let items : map said c.push.new.self.items ≡ old ++ command ∷ [] = ap (map said) c.in_ok-push.ensures.items ∙ map_append said c.loop-lines.commands.items (c.in-Said.command ∷ []) in
     let more : (vec_len c.push.new.self == 0) ≡ false = not_none _ _ c.in_ok-push.ensures.len in

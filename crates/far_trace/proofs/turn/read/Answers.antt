@@ -5,7 +5,7 @@ use Rattle.far_core.specs.state.CoreState.{core_state}
 use Rattle.far_core.specs.state.State.{State}
 use Rattle.far_core.specs.events.Step.{near_data, data_len}
 use Rattle.far_trace.specs.Interpreter.{loaded}
-use Rattle.far_trace.specs.Made.{made}
+use Rattle.far_trace.specs.EventRows.{after_events}
 use Rattle.far_trace.specs.Reply.{Data}
 use Rattle.far_trace.specs.Events.{load_events}
 use Rattle.far_trace.specs.Objects.{uses, object_len}
@@ -29,7 +29,7 @@ returns-clause-reply c =
     let inside : first + k < words_for (data_len s p) = omega (arith, within, c.first.ensures, c.touched-count.ensures) in
     let again : c.first-2.result ≡ first = omega (arith, c.first.ensures, c.first-2.ensures) in
     c.load_words.ensures.words k lt
-    ∙ ap (λ t. loaded (made t (load_events m p first k)) m p (first + k)) c.view.ensures
+    ∙ ap (λ t. loaded (after_events t (load_events m p first k)) m p (first + k)) c.view.ensures
     ∙ loaded_words s c.requires.tidy.0 m p first k c.requires.law c.requires.tidy.1 c.requires.access.opened ours inside
     ∙ ap (λ f. s.word (near_data (read_of (s.cell p)) + (f + k))) (sym again)) in
     ap Data (read_range c.load_words.new.words c.unpack_front.new.bytes (λ i. s.word (near_data (read_of (s.cell p)) + i)) (data_len s p) from count _ _ _

@@ -4,10 +4,10 @@ use Rattle.far_word.specs.Sizes.{words_for}
 use Rattle.far_core.specs.state.CoreState.{core_state}
 use Rattle.far_core.specs.state.State.{State}
 use Rattle.far_core.specs.events.Step.{near_data, data_len}
-use Rattle.far_trace.specs.HexWord.{bytes_of as spelled}
+use Rattle.far_trace.specs.HexWord.{hex_bytes as spelled}
 use Rattle.far_trace.specs.Interpreter.{loaded, stores_of}
-use Rattle.far_trace.specs.Made.{made}
-use Rattle.far_trace.specs.Events.{view_events, first_part, last_part, store_events, starts_inside, ends_inside, words_touched, first_word}
+use Rattle.far_trace.specs.EventRows.{after_events}
+use Rattle.far_trace.specs.Events.{view_events, first_loads, last_loads, store_events, starts_inside, ends_inside, words_touched, first_word}
 use Rattle.far_trace.proofs.Views.{len_near}
 use Rattle.far_trace.specs.Objects.{object_len, spliced, data_of, uses}
 use Rattle.far_trace.proofs.RangeReads.{loaded_word, uses_own, first_stays}
@@ -52,8 +52,8 @@ returns-clause-state c =
     stores_same m p first touched c.pack_front.new.words (spliced (data_of s p) from new) words
     ∙ ap (λ k. store_events m p k touched (spliced (data_of s p) from new)) firsts ∙ ap (λ k. store_events m p (from / 8) k (spliced (data_of s p) from new)) counts in
     write_made s (core_state c.view.new.core) (core_state c.load_first.new.core) (core_state c.load_last.new.core) (core_state c.store_words.new.core)
-    (view_events s m p) (first_part m p from n) (last_part m p from n) (store_events m p (first_word from) (words_touched from n) (spliced (data_of s p) from new))
+    (view_events s m p) (first_loads m p from n) (last_loads m p from n) (store_events m p (first_word from) (words_touched from n) (spliced (data_of s p) from new))
     c.view.ensures
-    (c.load_first.ensures.state ∙ ap (λ k. made (core_state c.view.new.core) (first_part m p from k)) (sym long))
-    (c.load_last.ensures.state ∙ ap (λ k. made (core_state c.load_first.new.core) (last_part m p from k)) (sym long))
-    (c.store_words.ensures ∙ ap (made (core_state c.load_last.new.core)) stores)
+    (c.load_first.ensures.state ∙ ap (λ k. after_events (core_state c.view.new.core) (first_loads m p from k)) (sym long))
+    (c.load_last.ensures.state ∙ ap (λ k. after_events (core_state c.load_first.new.core) (last_loads m p from k)) (sym long))
+    (c.store_words.ensures ∙ ap (after_events (core_state c.load_last.new.core)) stores)
