@@ -20,11 +20,11 @@ use Rattle.far_word.specs.declared.scope.ScopeWord.{ScopeWord}
 use Rattle.far_word.specs.declared.sizes.TheConstants.{LONGEST, LOG_WORDS}
 
 -- ---- pointer words: a pointer's word is read as that pointer, and what is read of a word has that word
-abbrev pub PointerBack : Type 0
-PointerBack = (v : PtrWord) → IsPtr v → (read_of (word_of v) ≡ Some v) × (word_of v < 2 ^ 64)
+abbrev pub PointersReadBack : Type 0
+PointersReadBack = (v : PtrWord) → IsPtr v → (read_of (word_of v) ≡ Some v) × (word_of v < 2 ^ 64)
 
-abbrev pub PointerFound : Type 0
-PointerFound = (w : ℕ) → w < 2 ^ 64 → IfSome (read_of w) (λ v. IsPtr v × (word_of v ≡ w))
+abbrev pub PointersPackBack : Type 0
+PointersPackBack = (w : ℕ) → w < 2 ^ 64 → IfSome (read_of w) (λ v. IsPtr v × (word_of v ≡ w))
 
 -- ---- marks
 -- a mark is set by or-ing its bit in
@@ -57,18 +57,18 @@ pub record ViewsRest : Type 0 where
   pub free : view_place Free ≡ None
 
 -- ---- header words
-abbrev pub HeaderBack : Type 0
-HeaderBack = (h : HeadWord) → IsHead h → (head_of (head_word h.pointer h.len h.ds) ≡ Some h) × (head_word h.pointer h.len h.ds < 2 ^ 64)
+abbrev pub HeadersReadBack : Type 0
+HeadersReadBack = (h : HeadWord) → IsHead h → (head_of (head_word h.pointer h.len h.ds) ≡ Some h) × (head_word h.pointer h.len h.ds < 2 ^ 64)
 
-abbrev pub HeaderFound : Type 0
-HeaderFound = (w : ℕ) → w < 2 ^ 64 → IfSome (head_of w) (λ h. IsHead h × (head_word h.pointer h.len h.ds ≡ w))
+abbrev pub HeadersPackBack : Type 0
+HeadersPackBack = (w : ℕ) → w < 2 ^ 64 → IfSome (head_of w) (λ h. IsHead h × (head_word h.pointer h.len h.ds ≡ w))
 
 -- ---- scope words
-abbrev pub ScopeBack : Type 0
-ScopeBack = (s : ScopeWord) → IsScope s → (scope_of (scope_word s) ≡ Some s) × (scope_word s < 2 ^ 63)
+abbrev pub ScopesReadBack : Type 0
+ScopesReadBack = (s : ScopeWord) → IsScope s → (scope_of (scope_word s) ≡ Some s) × (scope_word s < 2 ^ 63)
 
-abbrev pub ScopeFound : Type 0
-ScopeFound = (w : ℕ) → IfSome (scope_of w) (λ s. IsScope s × (scope_word s ≡ w))
+abbrev pub ScopesPackBack : Type 0
+ScopesPackBack = (w : ℕ) → IfSome (scope_of w) (λ s. IsScope s × (scope_word s ≡ w))
 
 -- ---- sizes
 -- as few words as hold the bytes, eight to a word
@@ -85,12 +85,12 @@ ObjectsFit = (len : ℕ) → 1 ≤ len → len ≤ LONGEST → (2 ≤ size_of le
 
 -- ---- bytes
 -- bytes that were packed are unpacked as they were
-abbrev pub BytesBack : Type 0
-BytesBack = (bytes : List ℕ) → ((k : ℕ) → slice_index bytes k < 256) → bytes_of (λ i. slice_index (words_of bytes) i) (length bytes) ≡ bytes
+abbrev pub BytesUnpackBack : Type 0
+BytesUnpackBack = (bytes : List ℕ) → ((k : ℕ) → slice_index bytes k < 256) → bytes_of (λ i. slice_index (words_of bytes) i) (length bytes) ≡ bytes
 
 -- words whose padding is zero are packed again as they were
-abbrev pub WordsBack : Type 0
-WordsBack = (word : ℕ → ℕ) (n i : ℕ) → i < words_for n → word i < 2 ^ 64 → word i < 2 ^ (8 * (n - 8 * i)) →
+abbrev pub WordsPackBack : Type 0
+WordsPackBack = (word : ℕ → ℕ) (n i : ℕ) → i < words_for n → word i < 2 ^ 64 → word i < 2 ^ (8 * (n - 8 * i)) →
     (slice_index (words_of (bytes_of word n)) i ≡ word i) × (packed_word (bytes_of word n) i ≡ word i)
 
 -- bytes that were written over are read as they were written, and all others as they were; each is a byte still

@@ -32,8 +32,8 @@ abbrev pub near_eight : ℕ → ℕ → Marks → PtrWord
 near_eight log at marks = Near 8 1 record { log = log; at = at } marks
 
 -- each field by itself, and as small and as large as it may be
-abbrev pub NearWords : Type 0
-NearWords = IsPointerWord 0x8400_0000_0001_0008 (near_eight 0 0 no_marks)
+abbrev pub NearRowsHold : Type 0
+NearRowsHold = IsPointerWord 0x8400_0000_0001_0008 (near_eight 0 0 no_marks)
     × IsPointerWord 0x8400_0000_0201_0008 (near_eight 0 2 no_marks)
     × IsPointerWord 0x8400_0000_7e01_0008 (near_eight 0 126 no_marks)
     × IsPointerWord 0x8400_0004_0001_0008 (near_eight 1 0 no_marks)
@@ -41,23 +41,23 @@ NearWords = IsPointerWord 0x8400_0000_0001_0008 (near_eight 0 0 no_marks)
     × IsPointerWord 0x8400_0000_0000_0001 (Near 1 0 record { log = 0; at = 0 } no_marks)
     × IsPointerWord 0x8400_0000_00ff_03f8 (Near 1016 255 record { log = 0; at = 0 } no_marks)
 
-abbrev pub MarkedWords : Type 0
-MarkedWords = IsPointerWord 0xc400_0000_0001_0008 (near_eight 0 0 record { hot = true; evac = false; moved = false; dropped = false })
+abbrev pub MarkedRowsHold : Type 0
+MarkedRowsHold = IsPointerWord 0xc400_0000_0001_0008 (near_eight 0 0 record { hot = true; evac = false; moved = false; dropped = false })
     × IsPointerWord 0xa400_0000_0001_0008 (near_eight 0 0 record { hot = false; evac = true; moved = false; dropped = false })
     × IsPointerWord 0x9400_0000_0001_0008 (near_eight 0 0 record { hot = false; evac = false; moved = true; dropped = false })
     × IsPointerWord 0x8c00_0000_0001_0008 (near_eight 0 0 record { hot = false; evac = false; moved = false; dropped = true })
     × IsPointerWord 0xe400_0000_0001_0008 (near_eight 0 0 record { hot = true; evac = true; moved = false; dropped = false })
 
-abbrev pub FarWords : Type 0
-FarWords = IsPointerWord 0x0400_0000_0001_0008 (Far 8 1 no_marks)
+abbrev pub FarRowsHold : Type 0
+FarRowsHold = IsPointerWord 0x0400_0000_0001_0008 (Far 8 1 no_marks)
     × IsPointerWord 0x5c00_0000_00ff_03f8 (Far 1016 255 record { hot = true; evac = false; moved = true; dropped = true })
 
-abbrev pub FreeWord : Type 0
-FreeWord = IsPointerWord 0 Free
+abbrev pub FreeRowHolds : Type 0
+FreeRowHolds = IsPointerWord 0 Free
 
 -- no USED; lengths 0 and 1,017; a span past the log's end; far at an offset, in a log, with EVAC; log 64; the lowest and the highest of the bits that are zero
-abbrev pub PointersRefused : Type 0
-PointersRefused = (read_of 0x0000_0000_0001_0008 ≡ None)
+abbrev pub PointersAreRefused : Type 0
+PointersAreRefused = (read_of 0x0000_0000_0001_0008 ≡ None)
     × (read_of 0x8400_0000_0001_0000 ≡ None)
     × (read_of 0x8400_0000_0001_03f9 ≡ None)
     × (read_of 0x8400_0000_7f01_0008 ≡ None)
@@ -68,21 +68,21 @@ PointersRefused = (read_of 0x0000_0000_0001_0008 ≡ None)
     × (read_of 0x8400_0400_0001_0008 ≡ None)
     × (read_of 0x8600_0000_0001_0008 ≡ None)
 
-abbrev pub MarkBits : Type 0
-MarkBits = (2 ^ position Hot ≡ 0x4000_0000_0000_0000)
+abbrev pub MarkBitsStand : Type 0
+MarkBitsStand = (2 ^ position Hot ≡ 0x4000_0000_0000_0000)
     × (2 ^ position Evac ≡ 0x2000_0000_0000_0000)
     × (2 ^ position Moved ≡ 0x1000_0000_0000_0000)
     × (2 ^ position Dropped ≡ 0x0800_0000_0000_0000)
 
 -- ---- header words
-abbrev pub HeaderWords : Type 0
-HeaderWords = IsHeaderWord 0xa100_0000_0001_0008 record { pointer = 0; len = 8; ds = 1 }
+abbrev pub HeaderRowsHold : Type 0
+HeaderRowsHold = IsHeaderWord 0xa100_0000_0001_0008 record { pointer = 0; len = 8; ds = 1 }
     × IsHeaderWord 0xa100_0000_0101_0008 record { pointer = 1; len = 8; ds = 1 }
     × IsHeaderWord 0xa100_0003_ffff_03f8 record { pointer = 1023; len = 1016; ds = 255 }
 
 -- a pointer's word; other top bytes; lengths 0 and 1,017; pointer 1,024
-abbrev pub HeadersRefused : Type 0
-HeadersRefused = (head_of 0x8400_0000_0001_0008 ≡ None)
+abbrev pub HeadersAreRefused : Type 0
+HeadersAreRefused = (head_of 0x8400_0000_0001_0008 ≡ None)
     × (head_of 0xa000_0000_0001_0008 ≡ None)
     × (head_of 0xa200_0000_0001_0008 ≡ None)
     × (head_of 0xa100_0000_0001_0000 ≡ None)
@@ -90,14 +90,14 @@ HeadersRefused = (head_of 0x8400_0000_0001_0008 ≡ None)
     × (head_of 0xa100_0004_0001_0008 ≡ None)
 
 -- ---- scope words
-abbrev pub ScopeWords : Type 0
-ScopeWords = IsScopeWord 0 Closed
+abbrev pub ScopeRowsHold : Type 0
+ScopeRowsHold = IsScopeWord 0 Closed
     × IsScopeWord 1 (Open 0)
     × IsScopeWord 0x7fff_ffff_ffff_ffff (Open (2 ^ 62 - 1))
 
 -- an even word; an epoch of 2^62
-abbrev pub ScopesRefused : Type 0
-ScopesRefused = (scope_of 2 ≡ None) × (scope_of 0x8000_0000_0000_0001 ≡ None)
+abbrev pub ScopesAreRefused : Type 0
+ScopesAreRefused = (scope_of 2 ≡ None) × (scope_of 0x8000_0000_0000_0001 ≡ None)
 
 -- ---- bytes
 abbrev pub one_to_nine : List ℕ
@@ -106,5 +106,5 @@ one_to_nine = 1 ∷ 2 ∷ 3 ∷ 4 ∷ 5 ∷ 6 ∷ 7 ∷ 8 ∷ 9 ∷ []
 abbrev pub nine_packed : List ℕ
 nine_packed = 0x0807_0605_0403_0201 ∷ 0x0000_0000_0000_0009 ∷ []
 
-abbrev pub NineBytes : Type 0
-NineBytes = (words_of one_to_nine ≡ nine_packed) × (bytes_of (λ i. slice_index nine_packed i) 9 ≡ one_to_nine)
+abbrev pub NineBytesPack : Type 0
+NineBytesPack = (words_of one_to_nine ≡ nine_packed) × (bytes_of (λ i. slice_index nine_packed i) 9 ≡ one_to_nine)

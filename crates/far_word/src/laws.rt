@@ -2,14 +2,14 @@
 
 ghost use Rattle.std.specs.Prelude.{◌≡◌, ◌*◌};
 ghost use Rattle.far_word.specs.declared.sizes.TheConstants.{LOG_WORDS, LONGEST, MOST_LOGS, MOST_MUTATORS, CELLS, POINTERS};
-ghost use Rattle.far_word.specs.Laws.{MarkIsSet, MarkIsRead, MarkIsRefused, EvacIsCleared, OwnerMarksAreCleared, ViewsRest, PointerBack, PointerFound, HeaderBack, HeaderFound, ScopeBack, ScopeFound, WordsHoldBytes, HeaderIsAdded, ObjectsFit, BytesBack, WordsBack, WrittenIsRead, RefusalsAreNumbered};
-ghost use Rattle.far_word.specs.Rows.{NearWords, MarkedWords, FarWords, FreeWord, PointersRefused, MarkBits, HeaderWords, HeadersRefused, ScopeWords, ScopesRefused, NineBytes};
+ghost use Rattle.far_word.specs.Laws.{MarkIsSet, MarkIsRead, MarkIsRefused, EvacIsCleared, OwnerMarksAreCleared, ViewsRest, PointersReadBack, PointersPackBack, HeadersReadBack, HeadersPackBack, ScopesReadBack, ScopesPackBack, WordsHoldBytes, HeaderIsAdded, ObjectsFit, BytesUnpackBack, WordsPackBack, WrittenIsRead, RefusalsAreNumbered};
+ghost use Rattle.far_word.specs.Rows.{NearRowsHold, MarkedRowsHold, FarRowsHold, FreeRowHolds, PointersAreRefused, MarkBitsStand, HeaderRowsHold, HeadersAreRefused, ScopeRowsHold, ScopesAreRefused, NineBytesPack};
 ghost use Rattle.far_word.specs.Sizes.{size_of};
 
 /// The word of a pointer on the layout reads as that pointer, and what a word reads as has that word.
 pub fn pointer_words()
-    ensures back { PointerBack }
-    ensures found { PointerFound }
+    ensures back { PointersReadBack }
+    ensures found { PointersPackBack }
 {}
 
 /// Marks are set and cleared by one mask each, which changes nothing else:
@@ -29,21 +29,21 @@ pub fn pointer_marks()
 
 /// The word of a header on the layout reads as that header, and what a word reads as has that word.
 pub fn header_words()
-    ensures back { HeaderBack }
-    ensures found { HeaderFound }
+    ensures back { HeadersReadBack }
+    ensures found { HeadersPackBack }
 {}
 
 /// The word of a scope on the layout reads as that scope, and what a word reads as has that word.
 pub fn scope_words()
-    ensures back { ScopeBack }
-    ensures found { ScopeFound }
+    ensures back { ScopesReadBack }
+    ensures found { ScopesPackBack }
 {}
 
 /// Bytes that were packed are unpacked as they were, and words as well, where the bits after the last byte are zero;
 /// bytes that were written over are read as they were written, and all others as they were.
 pub fn packed_bytes()
-    ensures bytes_back { BytesBack }
-    ensures words_back { WordsBack }
+    ensures bytes_back { BytesUnpackBack }
+    ensures words_back { WordsPackBack }
     ensures written { WrittenIsRead }
 {}
 
@@ -70,20 +70,20 @@ pub fn sizes_are()
 /// laws of words they fix where each field stands.
 #[tactic(auto, unfolding(crate::specs::Pointer::read_of, crate::specs::Header::head_of, crate::specs::Scope::scope_of, crate::specs::Bytes::words_of, crate::specs::Bytes::bytes_of))]
 pub fn words_are()
-    ensures near { NearWords }
-    ensures marked { MarkedWords }
-    ensures far { FarWords }
-    ensures free { FreeWord }
-    ensures no_pointer { PointersRefused }
-    ensures mark_bits { MarkBits }
+    ensures near { NearRowsHold }
+    ensures marked { MarkedRowsHold }
+    ensures far { FarRowsHold }
+    ensures free { FreeRowHolds }
+    ensures no_pointer { PointersAreRefused }
+    ensures mark_bits { MarkBitsStand }
 
-    ensures header { HeaderWords }
-    ensures no_header { HeadersRefused }
+    ensures header { HeaderRowsHold }
+    ensures no_header { HeadersAreRefused }
 
-    ensures scope { ScopeWords }
-    ensures no_scope { ScopesRefused }
+    ensures scope { ScopeRowsHold }
+    ensures no_scope { ScopesAreRefused }
 
-    ensures bytes { NineBytes }
+    ensures bytes { NineBytesPack }
 {}
 
 /// The refusals in the order of their declaration have the numbers 1 to 18.

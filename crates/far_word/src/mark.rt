@@ -16,13 +16,13 @@ const HOT: u32 = 62;
 /// A mark of a pointer word.
 #[derive(Clone, Copy, Debug, PartialEq, Eq)]
 pub enum Mark {
-    /// The object was dereferenced since it last moved.
+    /// HOT: the object was dereferenced since it was last placed.
     Hot,
-    /// The object's log was chosen to be emptied.
+    /// EVAC: the object's log was chosen to be emptied.
     Evac,
-    /// The owner asks for the object to be moved.
+    /// MOVE: the owner asks for the object to be moved.
     Moved,
-    /// The owner dropped the object.
+    /// DROP: the owner dropped the object.
     Dropped,
 }
 
@@ -43,9 +43,13 @@ impl Mark {
 /// The marks that a pointer word has.
 #[derive(Clone, Copy, Debug, PartialEq, Eq)]
 pub struct Marks {
+    /// Whether it has [`Mark::Hot`].
     pub hot: bool,
+    /// Whether it has [`Mark::Evac`].
     pub evac: bool,
+    /// Whether it has [`Mark::Moved`].
     pub moved: bool,
+    /// Whether it has [`Mark::Dropped`].
     pub dropped: bool,
 }
 

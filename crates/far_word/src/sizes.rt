@@ -1,6 +1,6 @@
 //! The sizes of a heap, named once.
 
-ghost use Rattle.std.specs.Prelude.{◌≡◌, ◌≤◌};
+ghost use Rattle.std.specs.Prelude.{◌≡◌};
 ghost use Rattle.far_word.specs.Sizes.{size_of, words_for};
 
 /// The words of a log, eight bytes each.
@@ -30,7 +30,6 @@ pub fn words_for(len: u16) -> u16
 
 /// The words that an object of `len` data bytes takes, its header included.
 pub fn size_of(len: u16) -> u16
-    requires { len ≤ LONGEST }
     ensures { result ≡ size_of len }
 {
     1 + words_for(len)

@@ -1,51 +1,36 @@
-//! How to call the crate: the example of its README.
+//! How to call the crate: the example of README.md.
 
-use crate::{HeadWord, Mark, Marks, Place, PtrWord, pack_bytes, rests_view, size_of, unpack_bytes};
+use crate::{HeadWord, Mark, Place, PtrWord, pack_bytes, rests_view, size_of, unpack_bytes};
 use std::test::*;
 
 #[test]
 fn an_object_in_words(rt: HostRuntime) -> Result<(), Fail> {
-    // nine data bytes take two words, so the object takes three with its header
-    let bytes = *b"far away!";
-    let mut data = [0; 2];
-    pack_bytes(&bytes, &mut data);
-    let head = HeadWord {
+    // what a cell says: an object of 9 bytes and data structure 2, at word 0 of log 1, without marks
+    let cell = 0x8400_0004_0002_0009;
+    let pointer = PtrWord::read(cell).ok_or("off the layout")?;
+    assert_eq!(rt; pointer.view_place(), Some(Place { log: 1, at: 0 }));
+    assert_eq!(rt; pointer.pack(), cell);
+
+    // its owner dereferences it, which sets HOT: a new view may rest there still, but not once it has EVAC
+    let hot = cell | Mark::Hot.mask();
+    assert_eq!(rt; rests_view(hot), true);
+    assert_eq!(rt; rests_view(hot | Mark::Evac.mask()), false);
+
+    // the object takes three words: a header, which names pointer 5, and two for its bytes
+    let header = HeadWord {
         pointer: 5,
         len: 9,
         ds: 2,
     };
-    let log = [head.pack(), data[0], data[1]];
-    assert_eq!(rt; size_of(head.len), 3);
+    assert_eq!(rt; size_of(header.len), 3);
+    assert_eq!(rt; header.pack(), 0xa100_0000_0502_0009);
+    let mut words = [0; 2];
+    pack_bytes(b"far away!", &mut words);
+    assert_eq!(rt; words, [0x7961_7761_2072_6166, 0x21]);
 
-    // its pointer's cell says that it lies from word 0 of log 1 on, without marks
-    let marks = Marks {
-        hot: false,
-        evac: false,
-        moved: false,
-        dropped: false,
-    };
-    let place = Place { log: 1, at: 0 };
-    let cell = PtrWord::Near {
-        len: 9,
-        ds: 2,
-        place,
-        marks,
-    }
-    .pack();
-
-    // its owner dereferences it: HOT is or-ed into the cell, and a view may rest there
-    let cell = cell | Mark::Hot.mask();
-    assert_eq!(rt; rests_view(cell), true);
-    let pointer = PtrWord::read(cell).ok_or("the word lies on the layout")?;
-    assert_eq!(rt; pointer.view_place(), Some(place));
-
-    // what its words say
-    assert_eq!(rt; HeadWord::read(log[0]), Some(head));
-    let mut back = [0; 9];
-    unpack_bytes(&log[1..], &mut back);
-    assert_eq!(rt; back, bytes);
-
-    // once the object is to be moved, no new view rests on it
-    assert_eq!(rt; rests_view(cell | Mark::Evac.mask()), false);
+    // read again
+    let mut bytes = [0; 9];
+    unpack_bytes(&words, &mut bytes);
+    assert_eq!(rt; bytes, *b"far away!");
     Ok(())
 }
