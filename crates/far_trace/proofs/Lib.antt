@@ -26,6 +26,7 @@ pub mod NewTurns
 pub mod Numbers
 pub mod Opened
 pub mod OutputLaws
+pub mod PrintedAlike
 pub mod RangeReads
 pub mod RangeWrites
 pub mod Reading

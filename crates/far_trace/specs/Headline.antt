@@ -1,9 +1,10 @@
 -- What a trace program's outputs say: the laws over whole texts and whole lists of commands.
 use Rattle.std.specs.Prelude.{◌≡◌, ◌≢◌, ℕ, ◌+◌, ◌*◌, ◌/◌, ◌^◌, ◌<◌, ◌≤◌, true, is_some, codes, decimal, Some, None, Ok, List, [], ◌∷◌, ◌++◌, length, replicate, slice_index, map, All, Contains}
 use Rattle.std.specs.List.{flat_map, range_with_len}
+use Rattle.hex.specs.Hex.{IsBytes}
 use Rattle.far_word.specs.declared.pointer.Place.{Place}
 use Rattle.far_word.specs.declared.refused.Refused.{Refused as Refusal}
-use Rattle.far_word.specs.declared.refused.Refused.TheVariants.{NoRoom, NoPointer, Length, Closed, AlreadyOpen, NotHeld, Range}
+use Rattle.far_word.specs.declared.refused.Refused.TheVariants.{NoRoom, NoPointer, Length, Closed, AlreadyOpen, NotHeld, Range, Marked, Syntax, BadChoice, StillOpen}
 use Rattle.far_word.specs.declared.sizes.TheConstants.{CELLS, LOG_WORDS, LONGEST}
 use Rattle.far_word.specs.Sizes.{size_of}
 use Rattle.far_core.specs.declared.event.Kind.TheVariants as kinds
@@ -117,7 +118,36 @@ IsSaidBy m (Read k p from len) = m ≡ k
 IsSaidBy m (Close k) = m ≡ k
 IsSaidBy m AsksLogs = ⊥
 
+-- a reply that its lines tell in full: its numbers have 64 bits, its bytes are bytes, and behind a refusal's number stands a line alone, or nothing
+pub record IsPlainLine (line : LogLine) : Type 0 where
+  pub log : line.log < 2 ^ 64
+  pub live : line.live < 2 ^ 64
+  pub dead : line.dead < 2 ^ 64
+  pub unused : line.unused < 2 ^ 64
+
+abbrev pub ArePlain : List LogLine → Type 0
+ArePlain [] = Unit {0}
+ArePlain (line ∷ lines) = IsPlainLine line × ArePlain lines
+
+abbrev pub IsPlainRefusal : Refusal → Type 0
+IsPlainRefusal (Marked word) = ⊥
+IsPlainRefusal (BadChoice log) = ⊥
+IsPlainRefusal (StillOpen mutator epoch) = ⊥
+IsPlainRefusal (Syntax line) = line < 2 ^ 64
+IsPlainRefusal why = Unit {0}
+
+abbrev pub IsPlain : Reply → Type 0
+IsPlain Done = Unit {0}
+IsPlain (Pointer pointer) = pointer < 2 ^ 64
+IsPlain (Data bytes) = IsBytes bytes
+IsPlain (Logs lines) = ArePlain lines
+IsPlain (Refused why) = IsPlainRefusal why
+
 -- ---- the laws
+-- replies that are printed alike are equal
+abbrev pub PrintedAlike : Type 0
+PrintedAlike = (r q : Reply) → IsPlain r → IsPlain q → printed r ≡ printed q → r ≡ q
+
 -- a line that says a mutator's command has its number behind the name, and a line with a mutator's number there says its command, unless it is the heap's
 abbrev pub LinesAreNumbered : Type 0
 LinesAreNumbered = (words : List (List ℕ)) (c : Command) (m : ℕ) → m < 2 ^ 64 → Says words c →

@@ -1,6 +1,6 @@
 //! What outputs say, over whole texts and whole lists of commands. No function here does anything when it runs.
 
-ghost use Rattle.far_trace.specs.Headline.{OutputsAreSound, OneOutput, EachTextIsAnswered, TextsBeginWithHeap, LinesAreLater, LinesAreNumbered, MomentsLast, EventsReach, HeapsBeginLawful, ObjectsStayWhole, ViewedLogsStay, ViewsLast, RefusalsStay, RefusalsChangeNothing, StrangersAreRefused, NearRefusals, MutatorsAreAlone, OwnLinesCount, NewTakesTheLowest, NoneIsLeft, NewIsMade, NewMakesItsObject, WritesChangeTheirRange, LogsAreTold};
+ghost use Rattle.far_trace.specs.Headline.{OutputsAreSound, OneOutput, EachTextIsAnswered, TextsBeginWithHeap, LinesAreLater, LinesAreNumbered, MomentsLast, EventsReach, HeapsBeginLawful, ObjectsStayWhole, ViewedLogsStay, ViewsLast, RefusalsStay, RefusalsChangeNothing, StrangersAreRefused, NearRefusals, MutatorsAreAlone, OwnLinesCount, NewTakesTheLowest, NoneIsLeft, NewIsMade, NewMakesItsObject, WritesChangeTheirRange, LogsAreTold, PrintedAlike};
 
 /// From a text on: its output, where it is read as a heap in range and commands, has a reply and a moment for each
 /// command; in each moment objects are whole, through them the logs in which views rest stay, and each mutator's replies
@@ -68,6 +68,11 @@ pub fn new_is_made()
 /// Splicing, by which a write is defined, changes the bytes of its range, and no others.
 pub fn writes_change_their_range()
     ensures { WritesChangeTheirRange }
+{}
+
+/// Replies that are printed alike are equal.
+pub fn lines_tell_replies()
+    ensures { PrintedAlike }
 {}
 
 /// `logs` tells each log once, by number: its kind and its bytes, which make 1,024.
