@@ -33,8 +33,7 @@ law_with_held s held law ready names = law_with_owners s s.scope s.remembered s.
     (record { held_open = λ p h. (ready p h).0; held_names = names; held_used = λ p h. (ready p h).1; used_cell = law.views.used_cell }) law.unadopted
 
 -- a cell with other marks
-module _ (s : State) (law : Law s) (p w : ℕ) (fits : w < 2 ^ 64) (r : Remarked (read_of (s.cell p)) (read_of w)) (nonzero : s.cell p ≢ 0)
-    (held : (place : Place) → s.held p ≡ Some place → held_place (read_of w) ≡ Some place) (live : s.used p ≡ true → in_use (read_of w) ≡ true) where
+module _ (s : State) (law : Law s) (p w : ℕ) (fits : w < 2 ^ 64) (r : Remarked (read_of (s.cell p)) (read_of w)) (nonzero : s.cell p ≢ 0) where
   near_before : (q : ℕ) → q ≡ p → (n d : ℕ) (at : Place) (k : Marks) → read_of w ≡ Some (Near n d at k) → (m : Marks) × (read_of (s.cell q) ≡ Some (Near n d at m))
   near_before q e n d at k is = near_of _ n d at (ap (λ x. body (read_of (s.cell x))) e ∙ sym r.same ∙ ap body is)
 
@@ -47,7 +46,7 @@ module _ (s : State) (law : Law s) (p w : ℕ) (fits : w < 2 ^ 64) (r : Remarked
   stored_back : (q : ℕ) → q ≡ p → StoresBack (s.stored q) (read_of w)
   stored_back q e n d k is = let b = far_before q e n d k is in law.cells.cell_far q n d b.0 b.1
 
-  blank : (q : ℕ) → q ≡ p → s.honest ≡ true → s.used q ≡ false → IsBlank s.word (s.stored q) (read_of w)
+  pub blank : (q : ℕ) → q ≡ p → s.honest ≡ true → s.used q ≡ false → IsBlank s.word (s.stored q) (read_of w)
   blank q e honest free = record {
     near = λ n d at k is whole.
         let b = near_before q e n d at k is in
@@ -57,8 +56,10 @@ module _ (s : State) (law : Law s) (p w : ℕ) (fits : w < 2 ^ 64) (r : Remarked
         (law.unadopted honest q free).far n d b.0 b.1 (sym (ap is_dropped b.1) ∙ ap (λ x. is_dropped (read_of (s.cell x))) e ∙ r.kept (ap is_dropped is ∙ whole));
   }
 
-  pub law_with_cell_marks : Law record s { cell = put s.cell p w }
-  law_with_cell_marks = record {
+  -- the same where what owners use changes too
+  pub law_with_cell : (used : ℕ → Bool) → ViewLaw (put s.cell p w) s.scope used s.held → BlankLaw s.honest (put s.cell p w) s.word s.stored used →
+      Law record s { cell = put s.cell p w; used = used }
+  law_with_cell used views blanks = record {
     shape = law.shape;
     cells = record {
       cell_read = λ q. put_both (λ x. (x < 2 ^ 64) × IsSome (read_of x)) s.cell p w q (λ _. (fits, is_some-remarked _ _ r (law.cells.cell_read p).1)) (λ _. law.cells.cell_read q);
@@ -69,12 +70,19 @@ module _ (s : State) (law : Law s) (p w : ℕ) (fits : w < 2 ^ 64) (r : Remarked
     spans = law.spans;
     logs = law.logs;
     scopes = law.scopes;
-    views = record {
-      held_open = law.views.held_open;
-      held_names = λ q at h. put_both (λ x. held_place (read_of x) ≡ Some at) s.cell p w q (λ e. held at (ap s.held (sym e) ∙ h)) (λ _. law.views.held_names q at h);
-      held_used = law.views.held_used;
-      used_cell = λ q h. put_both (λ x. in_use (read_of x) ≡ true) s.cell p w q (λ e. live (ap s.used (sym e) ∙ h)) (λ _. law.views.used_cell q h);
-    };
+    views = views;
     rounds = law.rounds;
-    unadopted = λ honest q free. put_both (λ x. IsBlank s.word (s.stored q) (read_of x)) s.cell p w q (λ e. blank q e honest free) (λ _. law.unadopted honest q free);
+    unadopted = blanks;
   }
+
+module _ (s : State) (law : Law s) (p w : ℕ) (fits : w < 2 ^ 64) (r : Remarked (read_of (s.cell p)) (read_of w)) (nonzero : s.cell p ≢ 0)
+    (held : (place : Place) → s.held p ≡ Some place → held_place (read_of w) ≡ Some place) (live : s.used p ≡ true → in_use (read_of w) ≡ true) where
+  pub law_with_cell_marks : Law record s { cell = put s.cell p w }
+  law_with_cell_marks = law_with_cell s law p w fits r nonzero s.used
+      (record {
+        held_open = law.views.held_open;
+        held_names = λ q at h. put_both (λ x. held_place (read_of x) ≡ Some at) s.cell p w q (λ e. held at (ap s.held (sym e) ∙ h)) (λ _. law.views.held_names q at h);
+        held_used = law.views.held_used;
+        used_cell = λ q h. put_both (λ x. in_use (read_of x) ≡ true) s.cell p w q (λ e. live (ap s.used (sym e) ∙ h)) (λ _. law.views.used_cell q h);
+      })
+      (λ honest q free. put_both (λ x. IsBlank s.word (s.stored q) (read_of x)) s.cell p w q (λ e. blank s law p w fits r nonzero q e honest free) (λ _. law.unadopted honest q free))

@@ -10,6 +10,7 @@ pub mod KeepWords
 pub mod Keeps
 pub mod Leaving
 pub mod LiveLaws
+pub mod Marking
 pub mod NamingOwed
 pub mod Namings
 pub mod NewSpans

@@ -1,4 +1,5 @@
 pub mod Adopt
+pub mod Ask
 pub mod Close
 pub mod Load
 pub mod Mark

@@ -1,4 +1,5 @@
 pub mod Adopt
+pub mod Ask
 pub mod Close
 pub mod Leaves
 pub mod Legal

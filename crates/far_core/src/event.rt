@@ -1,6 +1,6 @@
 //! The atomic steps and what they answer.
 
-use far_word::Place;
+use far_word::{Mark, Place};
 
 /// One atomic step on one word. An event whose guard is false is refused and changes nothing.
 ///
@@ -62,6 +62,13 @@ pub enum Event {
     /// The cell of a pointer is read. Answers `Word`.
     See {
         pointer: u16,
+    },
+    /// An owner sets MOVE or DROP on a pointer that it uses and doesn't hold; it uses no longer what it drops. Any other
+    /// mark is refused. Answers `Word` with the old word.
+    Ask {
+        owner: u8,
+        pointer: u16,
+        mark: Mark,
     },
     /// A near pointer whose place lies in a sealed log gets EVAC. Answers `Word` with the old word.
     Mark {

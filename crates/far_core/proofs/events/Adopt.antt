@@ -1,5 +1,5 @@
 -- What the event Adopt owes.
-use Rattle.std.proofs.Common.{ap, sym, arith, false, nat_lt, refl, true, ℕ, ◌<◌, ◌≡◌}
+use Rattle.std.proofs.Common.{inl, ap, sym, arith, false, nat_lt, refl, true, ℕ, ◌<◌, ◌≡◌}
 use Rattle.std.proofs.lemmas.Bool.{eq-eqb, true≢false}
 use Rattle.std.proofs.lemmas.Bool.Decides.{nat_tests}
 use Rattle.far_core.proofs.Frames.{law_with_owners}
@@ -42,7 +42,7 @@ module _ (m p : ℕ) where
     keeps = λ s law fits h. keeps_adopt s p law h.3;
     does = λ s law fits h. adopt_stays s p;
     within = λ s. touched (λ a ne. refl) (λ k a b. refl) (λ q a. put_other s.used p true q (λ e. a (ap Uses (sym e)))) (λ q a b. refl);
-    part = λ s h. by_owner Adopt m p p (grind (arith, nat_tests)) refl;
+    part = λ s h. inl (by_owner Adopt m p p (grind (arith, nat_tests)) refl);
     word = λ s h. tt;
     reports = λ s law h. (refl, refl, put_same s.used p true p refl);
     answers = λ s x. cc;

@@ -1,8 +1,9 @@
 -- What holds of the objects of a core's world, and of every step that a world makes.
-use Rattle.std.specs.Prelude.{◌≡◌, ◌≢◌, ℕ, ◌/◌, ◌<◌, ◌≤◌, true, false, Option, Some, None, length, slice_index}
+use Rattle.std.specs.Prelude.{◌≡◌, ◌≢◌, ◌⊎◌, ℕ, ◌/◌, ◌<◌, ◌≤◌, true, false, Option, Some, None, length, slice_index}
+use Rattle.far_word.specs.declared.mark.Mark.TheVariants.{Moved, Dropped}
 use Rattle.far_word.specs.declared.sizes.TheConstants.{CELLS, LONGEST, POINTERS}
 use Rattle.far_core.specs.declared.event.Event.{Event}
-use Rattle.far_core.specs.declared.event.Event.TheVariants.{Open, Pin, Load, Store, Close, Name, Mark}
+use Rattle.far_core.specs.declared.event.Event.TheVariants.{Open, Pin, Load, Store, Close, Name, Mark, Ask}
 use Rattle.far_core.specs.declared.event.Reply.{Reply}
 use Rattle.far_core.specs.world.Changes.{Change, Step}
 use Rattle.far_core.specs.world.Changes as change
@@ -47,7 +48,8 @@ Causes e (change.Views m p) = e ≡ Pin m p
 Causes e (change.Reads m p i x) = e ≡ Load m p i
 Causes e (change.Writes m p i x) = e ≡ Store m p i x
 Causes e (change.Makes p len ds g) = (old new : ℕ) × (e ≡ Name p old new)
-Causes e (change.Marks p) = e ≡ Mark p
+Causes e (change.Marks p) = (e ≡ Mark p) ⊎ ((m : ℕ) × (e ≡ Ask m p Moved))
+Causes e (change.Drops m p) = e ≡ Ask m p Dropped
 Causes e c = ⊥
 
 abbrev pub Caused : Event → Option Change → Type 0

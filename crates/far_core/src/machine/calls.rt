@@ -18,7 +18,7 @@ use crate::event::{Event, Reply};
 use crate::machine::Core;
 use crate::memory::Memory;
 use crate::memory::reading::in_use;
-use far_word::{Place, Refused};
+use far_word::{Mark, Place, Refused};
 use std::alloc::Global;
 
 /// An event each, with its guard as the condition. Owners, pointers, logs and words are numbered as in [`Event`]. No call
@@ -110,6 +110,17 @@ impl Core {
         Some(self.memory.adopt(owner, pointer))
     }
 
+    /// An owner sets MOVE or DROP on a pointer that it uses and doesn't hold, and uses no longer what it drops: the pointer's
+    /// word before.
+    #[inline]
+    pub fn ask(&mut self, owner: u8, pointer: u16, mark: Mark) -> u64
+        requires legal { Legal (core_state self.old) (Event.Ask owner pointer mark) }
+        ensures state { core_state self.new ≡ after (core_state self.old) (Event.Ask owner pointer mark) }
+        ensures word { answer (core_state self.old) (Event.Ask owner pointer mark) ≡ Reply.Word result }
+    {
+        self.memory.ask(owner, pointer, mark)
+    }
+
     /// The word `at` of a log that is open or free, at or past its tail, becomes `word`.
     #[inline]
     pub fn put(&mut self, log: u8, at: u16, word: u64)
@@ -177,6 +188,8 @@ impl Memory {
             Event::Close { owner } if self.is_opened(owner) => { self.close(owner); Reply::Done }
             Event::Adopt { owner, pointer } if self.may_adopt(owner, pointer) =>
                 Reply::Word(self.adopt(owner, pointer)),
+            Event::Ask { owner, pointer, mark } if self.may_ask(owner, pointer, mark) =>
+                Reply::Word(self.ask(owner, pointer, mark)),
             Event::Put { log, at, word } if self.may_put(log, at, word) => { self.put(log, at, word); Reply::Done }
             Event::Name { pointer, old, new } => self.name(pointer, old, new),
             Event::See { pointer } if self.has_pointer(pointer) => Reply::Word(self.cell_at(pointer)),

@@ -5,6 +5,7 @@ ghost use Rattle.far_core.specs.declared.event.Event.{Event};
 ghost use Rattle.far_core.specs.declared.event.Reply.{Reply};
 ghost use Rattle.far_core.specs.events.Next.{next_state};
 ghost use Rattle.far_core.specs.events.Step.{answer, data_len, data_word, is_legal, keeps_padding};
+ghost use Rattle.far_core.specs.events.Ask.{is_request};
 ghost use Rattle.far_core.specs.state.Law.{Law};
 ghost use Rattle.far_core.specs.state.Memory.{state_of};
 ghost use Rattle.far_core.specs.state.State.{State};
@@ -123,6 +124,29 @@ impl Memory {
         self.let_go(owner);
     }
 
+    pub(crate) fn may_ask(&self, owner: u8, pointer: u16, mark: Mark) -> bool
+        ensures { result ≡ is_legal (state_of self.now) (Event.Ask owner pointer mark) }
+    {
+        is_request(mark)
+            && self.has_owner(owner)
+            && pointer / CELLS == owner as u16
+            && self.uses(pointer)
+            && self.held(pointer).is_none()
+    }
+
+    pub(crate) fn ask(&mut self, owner: u8, pointer: u16, mark: Mark) -> u64
+        requires { pointer < CELLS * (state_of self.old).mutators }
+        ensures state { state_of self.new ≡ next_state (state_of self.old) (Event.Ask owner pointer mark) }
+        ensures word { answer (state_of self.old) (Event.Ask owner pointer mark) ≡ Reply.Word result }
+    {
+        let old = self.cell_at(pointer);
+        self.set_cell(pointer, old | mark.mask());
+        if let Mark::Dropped = mark {
+            self.disuse_cell(pointer);
+        }
+        old
+    }
+
     pub(crate) fn may_adopt(&self, owner: u8, pointer: u16) -> bool
         ensures { result ≡ is_legal (state_of self.now) (Event.Adopt owner pointer) }
     {
@@ -140,6 +164,13 @@ impl Memory {
         self.use_cell(pointer);
         self.cell_at(pointer)
     }
+}
+
+/// Whether an owner asks by the mark.
+fn is_request(mark: Mark) -> bool
+    ensures { result ≡ is_request mark }
+{
+    matches!(mark, Mark::Moved | Mark::Dropped)
 }
 
 /// Whether a word leaves the bytes after an object's end 0.

@@ -1,6 +1,6 @@
 //! One place of the memory written.
 
-ghost use Rattle.std.specs.Prelude.{◌≡◌, ◌*◌, ◌<◌, ◌/◌, ◌==◌, cond, Some, None, true};
+ghost use Rattle.std.specs.Prelude.{◌≡◌, ◌*◌, ◌<◌, ◌/◌, ◌==◌, cond, Some, None, true, false};
 ghost use Rattle.far_core.specs.state.State.{State, put};
 ghost use Rattle.far_core.specs.state.Memory.{state_of};
 
@@ -39,6 +39,14 @@ impl Memory {
         ensures { state_of self.new ≡ record (state_of self.old) { used = put (state_of self.old).used pointer true } }
     {
         self.used[pointer as usize] = true;
+    }
+
+    #[tactic(auto, unfolding(crate::specs::state::Memory::state_of))]
+    pub(crate) fn disuse_cell(&mut self, pointer: u16)
+        requires { pointer < CELLS * (state_of self.old).mutators }
+        ensures { state_of self.new ≡ record (state_of self.old) { used = put (state_of self.old).used pointer false } }
+    {
+        self.used[pointer as usize] = false;
     }
 
     #[tactic(auto, unfolding(crate::specs::state::Memory::state_of))]
