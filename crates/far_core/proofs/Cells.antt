@@ -16,6 +16,7 @@ use Rattle.far_word.proofs.PointerLaws.{with_mark_read, with_mark_fits}
 use Rattle.far_core.specs.state.Law.{Heads, held_place, in_use, Blank}
 use Rattle.far_core.specs.state.State.{addr}
 use Rattle.far_core.specs.events.Step.{place_to_view}
+pub use Rattle.far_core.specs.events.Naming.{is_dropped}
 
 pub unused : read_of 0 ≡ Some Free
 unfolding read_of
@@ -52,12 +53,6 @@ body None = NoBody
 body (Some Free) = FreeBody
 body (Some (Near len ds place m)) = NearBody len ds place
 body (Some (Far len ds m)) = FarBody len ds
-
-abbrev pub is_dropped : Option PtrWord → Bool
-is_dropped None = false
-is_dropped (Some Free) = false
-is_dropped (Some (Near len ds place m)) = m.dropped
-is_dropped (Some (Far len ds m)) = m.dropped
 
 -- a cell with other marks: DROP may come, and doesn't go
 pub record Remarked (o n : Option PtrWord) : Type 0 where

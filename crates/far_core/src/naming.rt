@@ -11,6 +11,8 @@ use far_word::{Marks, Place, PtrWord};
 pub enum Naming {
     /// A free cell gets an object of `len` bytes of a data structure, near at a place, without marks.
     Places { len: u16, ds: u8, place: Place },
+    /// The cell of a dropped object is free again.
+    Retires,
 }
 
 impl Naming {
@@ -32,6 +34,13 @@ impl Naming {
             ) => {
                 if is_unmarked(marks) {
                     Some(Naming::Places { len, ds, place })
+                } else {
+                    None
+                }
+            }
+            (PtrWord::Near { marks, .. } | PtrWord::Far { marks, .. }, PtrWord::Free) => {
+                if marks.dropped {
+                    Some(Naming::Retires)
                 } else {
                     None
                 }

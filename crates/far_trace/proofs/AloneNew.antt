@@ -22,6 +22,7 @@ use Rattle.far_core.specs.events.Step.{step_of}
 use Rattle.far_core.specs.world.World.{World, Object}
 use Rattle.far_core.specs.world.WorldOf.{world_of}
 use Rattle.far_core.specs.world.Steps.{Makes}
+use Rattle.far_core.proofs.Cells.{unused}
 use Rattle.far_core.proofs.Keeps.{step_keeps}
 use Rattle.far_trace.specs.Moment.{moment_of}
 use Rattle.far_trace.specs.Alone.{own_of, bytes_in_world, HasLeft}
@@ -101,7 +102,7 @@ module _ (s : State) (k len ds p : ℕ) (place : Place) (law : Law s) (within : 
       let legal = was_legal s (Puts place.log place.at (head_word p len ds)) law parts.0.0 in
       let first = put_run in
       let word : new_word len ds place < 2 ^ 64 = new_fits len ds place (omega (arith, legal.0, law.shape.few_logs)) legal.3 most structure in
-      let named = name_step u p 0 (new_word len ds place) first.2 (omega arith) word parts.1.0 in
+      let named = name_step u p 0 (new_word len ds place) first.2 unused (omega arith) word parts.1.0 in
       let says = read_says (new_word len ds place) (Near named.0 named.1 named.2 named.3) word named.4 in
       let long : named.0 ≡ len = one_length named.0 len named.1 ds named.2 place named.3 (record { hot = false; evac = false; moved = false; dropped = false }) (omega (arith, says.0)) (omega arith) says.1 in
       let law_v : Law v = step_keeps u (Names p 0 (new_word len ds place)) first.2 (omega arith, word) in

@@ -1,7 +1,7 @@
 -- What the world does at a list of events.
 use Rattle.std.proofs.Common.{◌≡◌, ◌≢◌, ℕ, zero, suc, ◌+◌, ◌/◌, ◌<◌, ◌^◌, Bool, true, false, cond, nat_eq, sym, refl, ap, ◌∙◌, Option, Some, None, List, [], ◌∷◌, inl, inr}
 use Rattle.std.specs.Prelude.{replicate}
-use Rattle.std.proofs.lemmas.Bool.{cases_eq, cond_both, eq-eqb, ne_eqb}
+use Rattle.std.proofs.lemmas.Bool.{cases_eq, cond_both, eq-eqb, false≢true, ne_eqb}
 use mathlib.Core.Path.{fun_ext}
 use Rattle.far_word.specs.Bytes.{packed_word, with_word}
 use Rattle.far_word.specs.Pointer.{read_of}
@@ -15,9 +15,9 @@ use Rattle.far_core.specs.declared.event.Event.TheVariants.{ReadEpoch, Open, Pin
 use Rattle.far_core.specs.declared.event.Reply.{Reply as Answer}
 use Rattle.far_core.specs.declared.event.Reply.TheVariants.{Refused, Done, Epoch, Word, Held}
 use Rattle.far_core.specs.declared.naming.Naming.{Naming}
-use Rattle.far_core.specs.declared.naming.Naming.TheVariants.{Places}
+use Rattle.far_core.specs.declared.naming.Naming.TheVariants.{Places, Retires}
 use Rattle.far_core.specs.events.Name.{change_by}
-use Rattle.far_core.specs.events.Naming.{naming_of, no_marks}
+use Rattle.far_core.specs.events.Naming.{is_dropped, naming_of, no_marks}
 use Rattle.far_core.specs.world.Changes.{StepOf}
 use Rattle.far_core.specs.world.Happens.{Happens}
 use Rattle.far_core.proofs.Namings.{naming_says}
@@ -227,10 +227,11 @@ pub close_step : (s : State) (m : ℕ) → Law s → Succeeds (Close m) (step_of
 close_step s m law ok = closes_scope (world_of s) (world_of (step_of s (Close m)).0) m _ ok (step_does s (Close m) law tt)
 
 -- a naming that succeeds names a place for a new object
-makes_new : (w v : World) (p : ℕ) (a b : Option PtrWord) (form : Option Naming) → naming_of a b ≡ form → StepOf (change_by p form) w v →
+makes_new : (w v : World) (p : ℕ) (a b : Option PtrWord) (form : Option Naming) → a ≡ Some Free → naming_of a b ≡ form → StepOf (change_by p form) w v →
     (len ds : ℕ) × (place : Place) × (marks : Marks) × (b ≡ Some (Near len ds place marks)) × Makes w p len ds place.log v
-makes_new w v p a b None e h = absurd h
-makes_new w v p a b (Some (Places len ds place)) e h = (len, ds, place, no_marks, (naming_says a b (Places len ds place) e).1, h)
+makes_new w v p a b None free e h = absurd h
+makes_new w v p a b (Some Retires) free e h = absurd (false≢true (sym (ap is_dropped free) ∙ (naming_says a b Retires e).0))
+makes_new w v p a b (Some (Places len ds place)) free e h = (len, ds, place, no_marks, (naming_says a b (Places len ds place) e).1, h)
 
 names_place : (w v : World) (p old new : ℕ) (r : Answer) → Succeeds (Name p old new) r → Happens w (Name p old new) r v → StepOf (change_by p (naming_of (read_of old) (read_of new))) w v
 names_place w v p old new Refused ok h = absurd ok
@@ -239,11 +240,11 @@ names_place w v p old new (Epoch e) ok h = absurd h
 names_place w v p old new (Word y) ok h = absurd ok
 names_place w v p old new (Held place) ok h = absurd h
 
-pub name_step : (s : State) (p old new : ℕ) → Law s → old < 2 ^ 64 → new < 2 ^ 64 → Succeeds (Name p old new) (step_of s (Name p old new)).1 →
+pub name_step : (s : State) (p old new : ℕ) → Law s → read_of old ≡ Some Free → old < 2 ^ 64 → new < 2 ^ 64 → Succeeds (Name p old new) (step_of s (Name p old new)).1 →
     (len ds : ℕ) × (place : Place) × (marks : Marks) × (read_of new ≡ Some (Near len ds place marks)) × Makes (world_of s) p len ds place.log (world_of (step_of s (Name p old new)).0)
-name_step s p old new law before after ok =
+name_step s p old new law free before after ok =
     let v : World = world_of (step_of s (Name p old new)).0 in
-    makes_new (world_of s) v p (read_of old) (read_of new) _ refl (names_place (world_of s) v p old new (step_of s (Name p old new)).1 ok (step_does s (Name p old new) law (before, after)))
+    makes_new (world_of s) v p (read_of old) (read_of new) _ free refl (names_place (world_of s) v p old new (step_of s (Name p old new)).1 ok (step_does s (Name p old new) law (before, after)))
 
 -- the object that is new
 abbrev pub new_object : ℕ → ℕ → ℕ → ℕ → Object

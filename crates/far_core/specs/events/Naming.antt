@@ -5,11 +5,12 @@ use Rattle.far_word.specs.declared.pointer.PtrWord.{PtrWord}
 use Rattle.far_word.specs.declared.pointer.PtrWord.TheVariants.{Free, Near, Far}
 use Rattle.far_word.specs.Pointer.{IsPtr}
 use Rattle.far_core.specs.declared.naming.Naming.{Naming}
-use Rattle.far_core.specs.declared.naming.Naming.TheVariants.{Places}
+use Rattle.far_core.specs.declared.naming.Naming.TheVariants.{Places, Retires}
 use Rattle.far_core.specs.state.State.{State}
 use Rattle.far_core.specs.world.Changes.{Change}
 use Rattle.far_core.specs.events.NamingRow.{NamingRow}
 use Rattle.far_core.specs.events.namings.Places.{places_row, places_change}
+use Rattle.far_core.specs.events.namings.Retires.{retires_row, retires_change}
 
 abbrev pub no_marks : Marks
 no_marks = record { hot = false; evac = false; moved = false; dropped = false }
@@ -17,23 +18,36 @@ no_marks = record { hot = false; evac = false; moved = false; dropped = false }
 abbrev pub is_unmarked : Marks → Bool
 is_unmarked m = not (m.hot || m.evac || m.moved || m.dropped)
 
+-- a cell whose object its owner dropped
+abbrev pub is_dropped : Option PtrWord → Bool
+is_dropped None = false
+is_dropped (Some Free) = false
+is_dropped (Some (Near len ds place m)) = m.dropped
+is_dropped (Some (Far len ds m)) = m.dropped
+
 -- the form of an old and a new word
 abbrev pub naming_of : Option PtrWord → Option PtrWord → Option Naming
 naming_of (Some Free) (Some (Near len ds place m)) = cond (is_unmarked m) (Some (Places len ds place)) None
+naming_of (Some (Near len ds place m)) (Some Free) = cond m.dropped (Some Retires) None
+naming_of (Some (Far len ds m)) (Some Free) = cond m.dropped (Some Retires) None
 naming_of a b = None
 
 -- the same, said of each form: what the old and the new word say
 abbrev pub IsNaming : Naming → Option PtrWord → Option PtrWord → Type 0
 IsNaming (Places len ds place) a b = (a ≡ Some Free) × (b ≡ Some (Near len ds place no_marks))
+IsNaming Retires a b = (is_dropped a ≡ true) × (b ≡ Some Free)
 
 -- what a form takes from a word on the layout
 abbrev pub IsOnLayout : Naming → Type 0
 IsOnLayout (Places len ds place) = IsPtr (Near len ds place no_marks)
+IsOnLayout Retires = Unit {0}
 
 -- what a form is in a state, where the pointer's new word is new
 abbrev pub naming_row : State → ℕ → ℕ → Naming → NamingRow
 naming_row s p new (Places len ds place) = places_row s p new len ds place
+naming_row s p new Retires = retires_row s p new
 
 -- what a form does to the world
 abbrev pub naming_change : ℕ → Naming → Change
 naming_change p (Places len ds place) = places_change p len ds place
+naming_change p Retires = retires_change

@@ -65,6 +65,7 @@ impl Memory {
                 self.is_new_span(pointer, len, ds, place)
                     && self.zeros(first_word(place) + 1, words_for(len) as usize)
             }
+            Naming::Retires => true,
         }
     }
 
@@ -77,6 +78,7 @@ impl Memory {
     {
         match form {
             Naming::Places { len, place, .. } => self.take(pointer, new, len, place),
+            Naming::Retires => self.set_cell(pointer, new),
         }
     }
 
