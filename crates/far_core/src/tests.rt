@@ -1,9 +1,11 @@
 //! Whether the clauses say what was meant, by worked values. All words come from the layout's own table of examples.
 
+mod calls;
 mod filling;
 mod page;
 mod reading;
 mod refusing;
+mod values;
 
 use crate::{Core, Event, Kind, Reply, Shape};
 use far_word::{Place, Refused};
@@ -98,6 +100,39 @@ fn refuses(rt: &impl Abort, core: &mut Core, events: &[Event]) {
         assert_eq!(rt; answer, Reply::Refused, "at {event:?}");
         assert_eq!(rt; observed(rt, core), before, "at {event:?}");
     }
+}
+
+fn pin(owner: u8, pointer: u16) -> Event {
+    Event::Pin { owner, pointer }
+}
+
+fn load(owner: u8, pointer: u16, index: u16) -> Event {
+    Event::Load {
+        owner,
+        pointer,
+        index,
+    }
+}
+
+fn store(owner: u8, pointer: u16, index: u16, word: u64) -> Event {
+    Event::Store {
+        owner,
+        pointer,
+        index,
+        word,
+    }
+}
+
+fn adopt(owner: u8, pointer: u16) -> Event {
+    Event::Adopt { owner, pointer }
+}
+
+fn write(log: u8, at: u16, word: u64) -> Event {
+    Event::Put { log, at, word }
+}
+
+fn name(pointer: u16, old: u64, new: u64) -> Event {
+    Event::Name { pointer, old, new }
 }
 
 fn put(log: u8, at: u16, word: u64) -> (Event, Reply) {

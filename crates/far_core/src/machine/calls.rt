@@ -17,7 +17,6 @@ ghost use Rattle.far_core.specs.world.WorldOf.{world_of};
 use crate::event::{Event, Reply};
 use crate::machine::Core;
 use crate::memory::Memory;
-use crate::memory::reading::in_use;
 use far_word::{Mark, Place, Refused};
 use std::alloc::Global;
 
@@ -104,7 +103,7 @@ impl Core {
         ensures word { IfSome result (λ word. answer (core_state self.old) (Event.Adopt owner pointer) ≡ Reply.Word word) }
         ensures refused { IfNone result (core_state self.new ≡ core_state self.old) }
     {
-        if !in_use(self.memory.cell_at(pointer)) {
+        if !self.memory.is_in_use(pointer) {
             return None;
         }
         Some(self.memory.adopt(owner, pointer))

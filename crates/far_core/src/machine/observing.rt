@@ -110,7 +110,7 @@ impl Core {
     pub fn has_epoch(&self, owner: u8) -> bool
         ensures { result ≡ is_some ((core_state self.now).remembered owner) }
     {
-        self.memory.remembered(owner).is_some()
+        self.remembered(owner).is_some()
     }
 
     /// Whether its owner uses a pointer; false for a number that is no pointer's.
@@ -131,7 +131,7 @@ impl Core {
     pub fn is_held(&self, pointer: u16) -> bool
         ensures { result ≡ is_some ((core_state self.now).held pointer) }
     {
-        self.memory.held(pointer).is_some()
+        self.held(pointer).is_some()
     }
 
     /// The cell of a pointer; 0 for a number that is no pointer's.

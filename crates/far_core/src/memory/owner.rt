@@ -6,9 +6,10 @@ ghost use Rattle.far_core.specs.declared.event.Reply.{Reply};
 ghost use Rattle.far_core.specs.events.Next.{next_state};
 ghost use Rattle.far_core.specs.events.Step.{answer, data_len, data_word, is_legal, keeps_padding};
 ghost use Rattle.far_core.specs.events.Ask.{is_request};
-ghost use Rattle.far_core.specs.state.Law.{Law};
+ghost use Rattle.far_core.specs.state.Law.{Law, in_use};
 ghost use Rattle.far_core.specs.state.Memory.{state_of};
 ghost use Rattle.far_core.specs.state.State.{State};
+ghost use Rattle.far_word.specs.Pointer.{read_of};
 ghost use Rattle.far_word.specs.Sizes.{words_for};
 ghost use Rattle.far_word.specs.declared.sizes.TheConstants.{LOG_WORDS};
 
@@ -153,7 +154,15 @@ impl Memory {
         if !self.has_owner(owner) || pointer / CELLS != owner as u16 {
             return false;
         }
-        !self.uses(pointer) && in_use(self.cell_at(pointer))
+        !self.uses(pointer) && self.is_in_use(pointer)
+    }
+
+    /// Whether a pointer's word is used and not dropped.
+    pub(crate) fn is_in_use(&self, pointer: u16) -> bool
+        requires { pointer < CELLS * (state_of self.now).mutators }
+        ensures { result ≡ in_use (read_of ((state_of self.now).cell pointer)) }
+    {
+        in_use(self.cell_at(pointer))
     }
 
     pub(crate) fn adopt(&mut self, owner: u8, pointer: u16) -> u64

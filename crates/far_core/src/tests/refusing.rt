@@ -3,39 +3,6 @@
 use super::*;
 use std::test::Fail;
 
-fn pin(owner: u8, pointer: u16) -> Event {
-    Event::Pin { owner, pointer }
-}
-
-fn load(owner: u8, pointer: u16, index: u16) -> Event {
-    Event::Load {
-        owner,
-        pointer,
-        index,
-    }
-}
-
-fn store(owner: u8, pointer: u16, index: u16, word: u64) -> Event {
-    Event::Store {
-        owner,
-        pointer,
-        index,
-        word,
-    }
-}
-
-fn adopt(owner: u8, pointer: u16) -> Event {
-    Event::Adopt { owner, pointer }
-}
-
-fn write(log: u8, at: u16, word: u64) -> Event {
-    Event::Put { log, at, word }
-}
-
-fn name(pointer: u16, old: u64, new: u64) -> Event {
-    Event::Name { pointer, old, new }
-}
-
 #[test]
 fn scopes_refuse(rt: HostRuntime) -> Result<(), Fail> {
     let mut core = peopled(&rt, rt.alloc())?;

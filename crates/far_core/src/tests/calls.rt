@@ -1,0 +1,138 @@
+//! Each event's own call, and what a core shows after it.
+
+use super::*;
+use far_word::{CELLS, HeadWord, LOG_WORDS, PtrWord};
+use std::test::Fail;
+
+const HEADER: u64 = 0xa100_0000_0001_0008;
+
+const NEAR: u64 = 0x8400_0000_0001_0008;
+
+const FIRST: Place = Place { log: 0, at: 0 };
+
+fn put_word(rt: &impl Abort, core: &mut Core, place: Place, word: u64) {
+    let Place { log, at } = place;
+    assert!(rt; log < core.logs() && at < LOG_WORDS);
+    assert!(rt; core.kind(log) != Kind::Sealed && core.tail(log) <= at);
+    core.put(log, at, word);
+    assert_eq!(rt; core.word(log, at), word);
+}
+
+/// Names a place of 8 bytes or less for a pointer of owner 0.
+fn name_place(rt: &impl Abort, core: &mut Core, pointer: u16, new: u64) -> Result<(), u64> {
+    let Some(
+        PtrWord::Near {
+            len,
+            ds,
+            place,
+            marks,
+        },
+    ) = PtrWord::read(new)
+    else {
+        panic!(rt; "{new} isn't near");
+    };
+    assert!(rt; pointer < CELLS && place.log < core.logs());
+    assert!(rt; core.kind(place.log) == Kind::Open && core.tail(place.log) == place.at);
+    let header = HeadWord { pointer, len, ds };
+    assert!(rt; core.word(place.log, place.at) == header.pack());
+    assert!(rt; len <= 8 && core.word(place.log, place.at + 1) == 0);
+    assert!(rt; !marks.hot && !marks.evac && !marks.moved && !marks.dropped);
+    core.name(pointer, 0, new)
+}
+
+fn adopt_own(rt: &impl Abort, core: &mut Core, pointer: u16) -> Option<u64> {
+    assert!(rt; pointer < CELLS && !core.is_used(pointer));
+    core.adopt(0, pointer)
+}
+
+fn open_scope(rt: &impl Abort, core: &mut Core) {
+    assert!(rt; !core.is_open(0));
+    let epoch = core.read_epoch(0);
+    assert_eq!(rt; (epoch, core.remembered(0)), (5, Some(5)));
+    core.open(0);
+    assert_eq!(rt; core.scope(0), 2 * 5 + 1);
+}
+
+fn pin_own(rt: &impl Abort, core: &mut Core, pointer: u16) -> Result<Place, u64> {
+    assert!(rt; core.is_open(0) && pointer < CELLS);
+    assert!(rt; core.is_used(pointer) && !core.is_held(pointer));
+    core.pin(0, pointer)
+}
+
+fn store_and_load(rt: &impl Abort, core: &mut Core, pointer: u16, word: u64) {
+    assert!(rt; pointer < CELLS && core.is_held(pointer));
+    let Some(PtrWord::Near { len: 8, .. }) = PtrWord::read(core.cell(pointer)) else {
+        panic!(rt; "{pointer} isn't near with 8 bytes");
+    };
+    core.store(0, pointer, 0, word);
+    assert_eq!(rt; core.load(0, pointer, 0), word);
+}
+
+fn close_scope(rt: &impl Abort, core: &mut Core) {
+    assert!(rt; core.is_open(0));
+    core.close(0);
+    assert_eq!(rt; (core.scope(0), core.remembered(0)), (0, None));
+}
+
+fn mark_near(rt: &impl Abort, core: &mut Core, pointer: u16) -> u64 {
+    assert!(rt; pointer < CELLS);
+    let Some(PtrWord::Near { place, .. }) = PtrWord::read(core.see(pointer)) else {
+        panic!(rt; "{pointer} isn't near");
+    };
+    assert!(rt; place.log < core.logs() && core.kind(place.log) == Kind::Sealed);
+    core.mark(pointer)
+}
+
+#[test]
+fn object_is_made_and_viewed(rt: HostRuntime) -> Result<(), Fail> {
+    let mut core = Core::new(rt.alloc(), TWO_OWNERS, true)?;
+    put_word(&rt, &mut core, FIRST, HEADER);
+    assert_eq!(rt; name_place(&rt, &mut core, 0, NEAR), Ok(()));
+    assert!(rt; core.starts(0, 0) && !core.starts(0, 1));
+    assert_eq!(rt; core.see(0), NEAR);
+    assert_eq!(rt; adopt_own(&rt, &mut core, 1), None);
+    assert_eq!(rt; adopt_own(&rt, &mut core, 0), Some(NEAR));
+    open_scope(&rt, &mut core);
+    assert_eq!(rt; pin_own(&rt, &mut core, 0), Ok(FIRST));
+    assert_eq!(rt; core.held(0), Some(FIRST));
+    store_and_load(&rt, &mut core, 0, 0x0807_0605_0403_0201);
+    assert_eq!(rt; core.word(0, 1), 0x0807_0605_0403_0201);
+    close_scope(&rt, &mut core);
+    assert_eq!(rt; core.held(0), None);
+    assert_eq!(rt; (core.epoch(), core.is_honest()), (5, true));
+    Ok(())
+}
+
+#[test]
+fn marked_object_is_not_viewed(rt: HostRuntime) -> Result<(), Fail> {
+    let mut core = peopled(&rt, rt.alloc())?;
+    answers(
+        &rt,
+        &mut core,
+        &[
+            put(1, 0, 0xa100_0000_0301_0008),
+            named(3, 0x8400_0004_0001_0008),
+        ],
+    );
+    assert_eq!(rt; mark_near(&rt, &mut core, 2), 0x8400_0000_0701_0008);
+    let marked = 0xa400_0000_0701_0008;
+    assert_eq!(rt; core.see(2), marked);
+    assert_eq!(rt; pin_own(&rt, &mut core, 2), Err(marked));
+    assert_eq!(rt; core.held(2), None);
+    Ok(())
+}
+
+#[test]
+fn named_cell_is_found(rt: HostRuntime) -> Result<(), Fail> {
+    let mut core = peopled(&rt, rt.alloc())?;
+    put_word(
+        &rt,
+        &mut core,
+        Place { log: 0, at: 9 },
+        0xa100_0000_0101_0008,
+    );
+    let lost = name_place(&rt, &mut core, 1, 0x8400_0000_0901_0008);
+    assert_eq!(rt; lost, Err(0x8400_0000_0301_0008));
+    assert!(rt; !core.starts(0, 9));
+    Ok(())
+}
