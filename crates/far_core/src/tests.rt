@@ -1,6 +1,7 @@
 //! Whether the clauses say what was meant, by worked values. All words come from the layout's own table of examples.
 
 mod calls;
+mod dropping;
 mod filling;
 mod page;
 mod reading;
