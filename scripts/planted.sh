@@ -19,6 +19,7 @@ cd "$work"
 edits=("crates/$crate/planted/"*.edit)
 first=$(((${share%/*} - 1) * ${#edits[@]} / ${share#*/}))
 end=$((${share%/*} * ${#edits[@]} / ${share#*/}))
+((first < end)) || exit 0
 rm -rf "crates/$crate/must-fail"
 mkdir "crates/$crate/must-fail"
 mv "${edits[@]:first:end-first}" "crates/$crate/must-fail"
