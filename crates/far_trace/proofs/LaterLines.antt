@@ -3,6 +3,7 @@ use Rattle.std.proofs.Common.{◌≡◌, ℕ, ◌+◌, Bool, true, false, cond, 
 use Rattle.std.specs.Prelude.{nat_lt}
 use Rattle.std.proofs.lemmas.Bool.{cond_both, false≢true}
 use Rattle.hex.proofs.HexLemmas.{decode_of-ok}
+use Rattle.far_trace.specs.declared.text.TheConstants.{LONGEST_TEXT}
 use Rattle.far_trace.specs.Answers.{BeginsWithHeap}
 use Rattle.far_trace.specs.Command.{Command, Heap, New, Open, Write, Read, Close, Logs, Mutator, Book}
 use Rattle.far_trace.specs.Grammar.{Line, Skipped, Saying, Bad, line_of, lines_of, line_words, is_plain, is_skipped, saying, command_of, commands_of, is_in_place, onto, read_line, read_lines}
@@ -64,21 +65,13 @@ read_later number (line ∷ lines) (c ∷ cs) e = at_later number line (line_of 
 -- what may stand first is a heap
 begins : (c : Command) (cs : List Command) → is_in_place true c ≡ true → AreLater cs → BeginsWithHeap (c ∷ cs)
 begins (Heap logs mutators) cs stands h = h
-begins (Mutator m (New len ds)) cs stands h = absurd (false≢true stands)
-begins (Mutator m Open) cs stands h = absurd (false≢true stands)
-begins (Mutator m (Write p from bytes)) cs stands h = absurd (false≢true stands)
-begins (Mutator m (Read p from len)) cs stands h = absurd (false≢true stands)
-begins (Mutator m Close) cs stands h = absurd (false≢true stands)
-begins (Book Logs) cs stands h = absurd (false≢true stands)
+begins (Mutator m request) cs stands h = absurd (false≢true stands)
+begins (Book inquiry) cs stands h = absurd (false≢true stands)
 
 behind : (c : Command) (cs : List Command) → BeginsWithHeap (c ∷ cs) → AreLater cs
 behind (Heap logs mutators) cs h = h
-behind (Mutator m (New len ds)) cs h = absurd h
-behind (Mutator m Open) cs h = absurd h
-behind (Mutator m (Write p from bytes)) cs h = absurd h
-behind (Mutator m (Read p from len)) cs h = absurd h
-behind (Mutator m Close) cs h = absurd h
-behind (Book Logs) cs h = absurd h
+behind (Mutator m request) cs h = absurd h
+behind (Book inquiry) cs h = absurd h
 
 -- one line before or at the first command
 at_first : (number : ℕ) (l : Line) (same later : Result (List Command) ℕ) (c : Command) (cs : List Command) →
@@ -98,7 +91,7 @@ read_first number (line ∷ lines) c cs e =
 
 -- a text's first command is a heap
 first_heap : (text : List ℕ) (c : Command) (cs : List Command) → commands_of text ≡ Ok (c ∷ cs) → BeginsWithHeap (c ∷ cs)
-first_heap text c cs = cond_both (nat_lt 1048576 (length text)) (Err 0) (read_lines 1 true (lines_of text)) (λ (x : Result (List Command) ℕ). x ≡ Ok (c ∷ cs) → BeginsWithHeap (c ∷ cs))
+first_heap text c cs = cond_both (nat_lt LONGEST_TEXT (length text)) (Err 0) (read_lines 1 true (lines_of text)) (λ (x : Result (List Command) ℕ). x ≡ Ok (c ∷ cs) → BeginsWithHeap (c ∷ cs))
     (λ _ e. absurd cc) (λ _ e. read_first 1 (lines_of text) c cs e)
 
 pub text_begins : (text : List ℕ) (cs : List Command) → commands_of text ≡ Ok cs → BeginsWithHeap cs

@@ -63,12 +63,8 @@ read_answered : (read : Result (List Command) ℕ) → ((cs : List Command) → 
 read_answered (Err line) h = (printed (Refused (Syntax line)), refl)
 read_answered (Ok []) h = ([], refl)
 read_answered (Ok (Heap logs mutators ∷ cs)) h = heap_answered logs mutators cs (is_shape (shape_of logs mutators))
-read_answered (Ok (Mutator m (New len ds) ∷ cs)) h = absurd (h (Mutator m (New len ds) ∷ cs) refl)
-read_answered (Ok (Mutator m Open ∷ cs)) h = absurd (h (Mutator m Open ∷ cs) refl)
-read_answered (Ok (Mutator m (Write p from bytes) ∷ cs)) h = absurd (h (Mutator m (Write p from bytes) ∷ cs) refl)
-read_answered (Ok (Mutator m (Read p from len) ∷ cs)) h = absurd (h (Mutator m (Read p from len) ∷ cs) refl)
-read_answered (Ok (Mutator m Close ∷ cs)) h = absurd (h (Mutator m Close ∷ cs) refl)
-read_answered (Ok ((Book Logs) ∷ cs)) h = absurd (h ((Book Logs) ∷ cs) refl)
+read_answered (Ok (Mutator m request ∷ cs)) h = absurd (h (Mutator m request ∷ cs) refl)
+read_answered (Ok (Book inquiry ∷ cs)) h = absurd (h (Book inquiry ∷ cs) refl)
 
 pub each_answered : (text : List ℕ) → (output : List ℕ) × Answers text output
 each_answered text = read_answered (commands_of text) (text_begins text)
@@ -251,12 +247,8 @@ at_number k m A B false e x = ((λ same. absurd (eqb-false k m e (sym same))), (
 pub own_lines : (m : ℕ) (o : Own) (c : Command) (r : Reply) (cs : List Command) (rs : List Reply) → Alone m o (c ∷ cs) (r ∷ rs) →
     (IsSaidBy m c → (q : Own) × Knows m o c r q × Alone m q cs rs) × ((IsSaidBy m c → ⊥) → Alone m o cs rs)
 own_lines m o (Heap logs mutators) r cs rs h = ((λ no. absurd no), (λ _. h))
-own_lines m o (Mutator k (New len ds)) r cs rs h = at_number k m _ _ (nat_eq k m) refl h
-own_lines m o (Mutator k Open) r cs rs h = at_number k m _ _ (nat_eq k m) refl h
-own_lines m o (Mutator k (Write p from bytes)) r cs rs h = at_number k m _ _ (nat_eq k m) refl h
-own_lines m o (Mutator k (Read p from len)) r cs rs h = at_number k m _ _ (nat_eq k m) refl h
-own_lines m o (Mutator k Close) r cs rs h = at_number k m _ _ (nat_eq k m) refl h
-own_lines m o (Book Logs) r cs rs h = ((λ no. absurd no), (λ _. h))
+own_lines m o (Mutator k request) r cs rs h = at_number k m _ _ (nat_eq k m) refl h
+own_lines m o (Book inquiry) r cs rs h = ((λ no. absurd no), (λ _. h))
 
 -- ---- what a new object is
 not_refused : (o : Option Refusal) (x : Option ℕ) (p : ℕ) → Pointer p ≡ unless o Refused (pointer_reply x) → o ≡ None
