@@ -17,7 +17,7 @@ use Rattle.far_core.proofs.Leaving.{events_leave}
 use Rattle.far_trace.specs.Moment.{Moment, moment_of}
 use Rattle.far_trace.specs.Alone.{Own, Knows, Alone, own_of, is_by, speaker}
 use Rattle.far_trace.specs.Answers.{Answered}
-use Rattle.far_trace.specs.Command.{Command, Heap, New, Open, Write, Read, Close, Logs}
+use Rattle.far_trace.specs.Command.{Command, Heap, New, Open, Write, Read, Close, Logs, Mutator, Book}
 use Rattle.far_trace.specs.Later.{IsLater, AreLater}
 use Rattle.far_trace.specs.EventRows.{after_events, AllAtHand}
 use Rattle.far_trace.specs.Reply.{Reply}
@@ -52,14 +52,14 @@ at_speaker s k m c r t false e within tells = tells.1 m (eqb-false k m e)
 
 learns : (s : State) (m : ℕ) (c : Command) (r : Reply) (t : State) → Law s → AllAtHand s → m < s.mutators → IsLater c → IsCarriedOut s c r t → Learns s m c r t
 learns s m (Heap logs mutators) r t law hand within later h = absurd later
-learns s m (New k len ds) r t law hand within later h = at_speaker s k m (New k len ds) r t (nat_eq k m) refl within (teaches s k (New k len ds) r t h (turns_new s k len ds law))
-learns s m (Open k) r t law hand within later h = at_speaker s k m (Open k) r t (nat_eq k m) refl within (teaches s k (Open k) r t h (turns_open s k law))
-learns s m (Write k p from bytes) r t law hand within later h =
-    at_speaker s k m (Write k p from bytes) r t (nat_eq k m) refl within (teaches s k (Write k p from bytes) r t h (turns_write s k p from bytes law hand later))
-learns s m (Read k p from len) r t law hand within later h =
-    at_speaker s k m (Read k p from len) r t (nat_eq k m) refl within (teaches s k (Read k p from len) r t h (turns_read s k p from len law hand))
-learns s m (Close k) r t law hand within later h = at_speaker s k m (Close k) r t (nat_eq k m) refl within (teaches s k (Close k) r t h (turns_close s k law))
-learns s m Logs r t law hand within later h = ap (λ x. own_of (world_of x) m) h.state
+learns s m (Mutator k (New len ds)) r t law hand within later h = at_speaker s k m (Mutator k (New len ds)) r t (nat_eq k m) refl within (teaches s k (Mutator k (New len ds)) r t h (turns_new s k len ds law))
+learns s m (Mutator k Open) r t law hand within later h = at_speaker s k m (Mutator k Open) r t (nat_eq k m) refl within (teaches s k (Mutator k Open) r t h (turns_open s k law))
+learns s m (Mutator k (Write p from bytes)) r t law hand within later h =
+    at_speaker s k m (Mutator k (Write p from bytes)) r t (nat_eq k m) refl within (teaches s k (Mutator k (Write p from bytes)) r t h (turns_write s k p from bytes law hand later))
+learns s m (Mutator k (Read p from len)) r t law hand within later h =
+    at_speaker s k m (Mutator k (Read p from len)) r t (nat_eq k m) refl within (teaches s k (Mutator k (Read p from len)) r t h (turns_read s k p from len law hand))
+learns s m (Mutator k Close) r t law hand within later h = at_speaker s k m (Mutator k Close) r t (nat_eq k m) refl within (teaches s k (Mutator k Close) r t h (turns_close s k law))
+learns s m (Book Logs) r t law hand within later h = ap (λ x. own_of (world_of x) m) h.state
 
 -- ---- all commands
 -- one line before others

@@ -26,7 +26,7 @@ use Rattle.far_core.proofs.Cells.{unused}
 use Rattle.far_core.proofs.Keeps.{step_keeps}
 use Rattle.far_trace.specs.Moment.{moment_of}
 use Rattle.far_trace.specs.Alone.{own_of, bytes_in_world, HasLeft}
-use Rattle.far_trace.specs.Command.{New}
+use Rattle.far_trace.specs.Command.{New, Mutator}
 use Rattle.far_trace.specs.EventRows.{after_events, AllSucceed}
 use Rattle.far_trace.specs.Reply.{Refused}
 use Rattle.far_trace.specs.Events.{new_events, zero_puts}
@@ -116,7 +116,7 @@ module _ (s : State) (k len ds p : ℕ) (place : Place) (law : Law s) (within : 
       (new_object p named.0 named.1 named.2.log, between.0, between.1, between.2, ap (λ n. replicate n 0) long, whole)
 
   -- a new object that isn't turned down
-  makes_new : 0 < len → AllSucceed s (new_events k len ds (Some p) (Some place)) → Teaches s k (New k len ds) (pointer_reply (Some p)) (after_events s (new_events k len ds (Some p) (Some place)))
+  makes_new : 0 < len → AllSucceed s (new_events k len ds (Some p) (Some place)) → Teaches s k (Mutator k (New len ds)) (pointer_reply (Some p)) (after_events s (new_events k len ds (Some p) (Some place)))
   makes_new some ok =
       let run = new_run ok in
       let u : State = after_events s (new_events k len ds (Some p) (Some place)) in
@@ -151,7 +151,7 @@ one_left s k (Some p) e h = (p, lowest_own s k p e, lowest_unknown s k p e)
 module _ (s : State) (k len ds : ℕ) (law : Law s) where
   -- with this cell and this place, turned down for this cause or for none
   abbrev NewTurns : Option ℕ → Option Place → Option Refusal → Type 0
-  NewTurns o r x = AllSucceed s (unless x (λ _. []) (new_events k len ds o r)) → Teaches s k (New k len ds) (unless x Refused (pointer_reply o)) (after_events s (unless x (λ _. []) (new_events k len ds o r)))
+  NewTurns o r x = AllSucceed s (unless x (λ _. []) (new_events k len ds o r)) → Teaches s k (Mutator k (New len ds)) (unless x Refused (pointer_reply o)) (after_events s (unless x (λ _. []) (new_events k len ds o r)))
 
   at_cell : (o : Option ℕ) (r : Option Place) → lowest_cell s k ≡ o → k < s.mutators → ds < 256 → 0 < len → len ≤ LONGEST → not (is_some o) ≡ false → not (is_some r) ≡ false → NewTurns o r None
   at_cell None r e within structure some most h i ok = absurd (true≢false h)
@@ -167,5 +167,5 @@ module _ (s : State) (k len ds : ℕ) (law : Law s) where
       (λ structure long cell off _. (λ within. ((is_structure s k ds structure).1, (is_length len long).0, (is_length len long).1, one_left s k o e cell, refl), λ m ne. refl))
       (λ structure long cell space ok. at_cell o r e (is_structure s k ds structure).0 (is_structure s k ds structure).1 (is_length len long).0 (is_length len long).1 cell space ok)
 
-  pub turns_new : Turns s k (New k len ds) (refusal (moment_of s) (New k len ds))
+  pub turns_new : Turns s k (Mutator k (New len ds)) (refusal (moment_of s) (Mutator k (New len ds)))
   turns_new = at_causes (lowest_cell s k) (room s (size_of len) true) refl

@@ -15,7 +15,7 @@ use Rattle.far_core.specs.world.WorldOf.{world_of}
 use Rattle.far_core.specs.world.Steps.{with_bytes}
 use Rattle.far_trace.specs.Moment.{moment_of}
 use Rattle.far_trace.specs.Alone.{Knows, own_of, IsOut, IsIn}
-use Rattle.far_trace.specs.Command.{Command, Open, Write, Read, Close}
+use Rattle.far_trace.specs.Command.{Command, Open, Write, Read, Close, Mutator}
 use Rattle.far_trace.specs.EventRows.{after_events, AllSucceed, AllAtHand}
 use Rattle.far_trace.specs.Reply.{Reply, Done, Refused}
 use Rattle.far_trace.specs.Events.{turn_events, open_events, view_events, part_events, load_events, store_events, starts_inside, ends_inside, first_word, words_touched}
@@ -63,24 +63,24 @@ open_run s k law = cond_both (is_some (s.remembered k)) (Opens k ∷ []) (ReadsE
     let next = open_step (after_events s (ReadsEpoch k ∷ [])) k first.1 ok.1.0 in
     (next.0 ∙ first.0.0, next.1 ∙ ap (λ (f : ℕ → Bool). put f k true) first.0.1))
 
-pub turns_open : (s : State) (k : ℕ) → Law s → Turns s k (Open k) (refusal (moment_of s) (Open k))
-turns_open s k law = two_causes (Turns s k (Open k)) (not (nat_lt k s.mutators)) (is_opened s k) Range AlreadyOpen
+pub turns_open : (s : State) (k : ℕ) → Law s → Turns s k (Mutator k Open) (refusal (moment_of s) (Mutator k Open))
+turns_open s k law = two_causes (Turns s k (Mutator k Open)) (not (nat_lt k s.mutators)) (is_opened s k) Range AlreadyOpen
     (λ off _. (λ within. absurd (outside k s.mutators within off), λ m ne. refl))
     (λ _ opened _. (λ within. (open_world s k opened, refl), λ m ne. refl))
     (λ _ shut ok. let run = open_run s k law ok in
     let u : State = after_events s (open_events s k) in
-    let same : u.held ≡ s.held = views_after s (Open k) None ok in (
+    let same : u.held ≡ s.held = views_after s (Mutator k Open) None ok in (
       λ within. (shut_world s k within shut, own_scope (world_of s) (world_of u) k true (views_of (world_of s) k) run.0 run.1 (views_still s u k same)),
       λ m ne. own_scope_other (world_of s) (world_of u) m k true run.0 run.1 ne (views_still s u m same),
     ))
 
-pub turns_close : (s : State) (k : ℕ) → Law s → Turns s k (Close k) (refusal (moment_of s) (Close k))
-turns_close s k law = two_causes (Turns s k (Close k)) (not (nat_lt k s.mutators)) (not (is_opened s k)) Range Closed
+pub turns_close : (s : State) (k : ℕ) → Law s → Turns s k (Mutator k Close) (refusal (moment_of s) (Mutator k Close))
+turns_close s k law = two_causes (Turns s k (Mutator k Close)) (not (nat_lt k s.mutators)) (not (is_opened s k)) Range Closed
     (λ off _. (λ within. absurd (outside k s.mutators within off), λ m ne. refl))
     (λ _ shut _. (λ within. (shut_world s k within (not-true (is_opened s k) shut), refl), λ m ne. refl))
     (λ _ opened ok. let run = close_step s k law ok.0 in
     let u : State = (step_of s (Closes k)).0 in
-    let gone : ViewsNothing s u k = views_after s (Close k) None ok in (
+    let gone : ViewsNothing s u k = views_after s (Mutator k Close) None ok in (
       λ within. (open_world s k (not-false (is_opened s k) opened), own_scope (world_of s) (world_of u) k false (λ _. false) run.0 run.1 (views_gone s u k gone)),
       λ m ne. own_scope_other (world_of s) (world_of u) m k false run.0 run.1 ne (views_left s u k m gone ne),
     ))
@@ -98,17 +98,17 @@ quiet_part k p from count =
     (cond_both (starts_inside from count) (Loads k p (from / 8) ∷ []) [] Quiet (λ _. (tt, tt)) (λ _. tt))
     (cond_both (ends_inside from count) (Loads k p ((from + count) / 8) ∷ []) [] Quiet (λ _. (tt, tt)) (λ _. tt))
 
-pub turns_read : (s : State) (k p from len : ℕ) → Law s → AllAtHand s → Turns s k (Read k p from len) (refusal (moment_of s) (Read k p from len))
+pub turns_read : (s : State) (k p from len : ℕ) → Law s → AllAtHand s → Turns s k (Mutator k (Read p from len)) (refusal (moment_of s) (Mutator k (Read p from len)))
 turns_read s k p from len law hand =
-    four_causes (Turns s k (Read k p from len)) (not (nat_lt k s.mutators)) (not (is_opened s k)) (not (uses s k p)) (not (is_range (object_len s p) from len)) Range Closed NotHeld Range
+    four_causes (Turns s k (Mutator k (Read p from len))) (not (nat_lt k s.mutators)) (not (is_opened s k)) (not (uses s k p)) (not (is_range (object_len s p) from len)) Range Closed NotHeld Range
     (λ off _. (λ within. absurd (outside k s.mutators within off), λ m ne. refl))
     (λ _ shut _. (λ within. (shut_world s k within (not-true (is_opened s k) shut), refl), λ m ne. refl))
     (λ _ opened unused _. (λ within. (open_world s k (not-false (is_opened s k) opened), own_unused s law hand k p (not-true (uses s k p) unused), refl), λ m ne. refl))
     (λ _ opened used out _. (λ within. (open_world s k (not-false (is_opened s k) opened), refl, (data_of s p, own_used s law hand k p (not-false (uses s k p) used), out_of (near used) out)), λ m ne. refl))
     (λ _ opened used inside ok.
-    let run = quiet_run s (turn_events (moment_of s) (Read k p from len)) law quiet in
-    let u : State = after_events s (turn_events (moment_of s) (Read k p from len)) in
-    let view : ViewsObject s u p = views_after s (Read k p from len) None ok in
+    let run = quiet_run s (turn_events (moment_of s) (Mutator k (Read p from len))) law quiet in
+    let u : State = after_events s (turn_events (moment_of s) (Mutator k (Read p from len))) in
+    let view : ViewsObject s u p = views_after s (Mutator k (Read p from len)) None ok in
     let own : p / CELLS ≡ k = owned s k p (not-false (uses s k p) used) in (
       λ within. (
         open_world s k (not-false (is_opened s k) opened),
@@ -117,7 +117,7 @@ turns_read s k p from len law hand =
       ),
       λ m ne. own_same (world_of s) (world_of u) m (views_of (world_of s) m) run.0 (views_others s u k m p view own ne),
     )) where
-      quiet : Quiet (turn_events (moment_of s) (Read k p from len))
+      quiet : Quiet (turn_events (moment_of s) (Mutator k (Read p from len)))
       quiet = Each-append IsQuiet (view_events s k p) (load_events k p (first_word from) (words_touched from len)) (quiet_view s k p) (Each-row IsQuiet (λ i. Loads k p i) (first_word from) (words_touched from len) (λ _ _. tt))
 
       near : not (uses s k p) ≡ false → object_len s p ≡ length (data_of s p)
@@ -168,13 +168,13 @@ module _ (s : State) (k p from : ℕ) (bytes : List ℕ) (law : Law s) (hand : A
   write_in e h = subst (λ n. (0 < length bytes) × (from + length bytes ≤ n)) e (range_in (object_len s p) from (length bytes) h)
 
   -- a write that isn't turned down
-  wrote : is_opened s k ≡ true → uses s k p ≡ true → IsIn (data_of s p) from (length bytes) → AllSucceed s (loads ++ stores) → Teaches s k (Write k p from bytes) Done (after_events s (loads ++ stores))
+  wrote : is_opened s k ≡ true → uses s k p ≡ true → IsIn (data_of s p) from (length bytes) → AllSucceed s (loads ++ stores) → Teaches s k (Mutator k (Write p from bytes)) Done (after_events s (loads ++ stores))
   wrote opened used inside ok =
       let both = and_parts (nat_eq (p / CELLS) k) (s.used p) used in
       let own : p / CELLS ≡ k = eqb-true (p / CELLS) k both.0 in
       let u : State = after_events s (loads ++ stores) in
       let t : World = world_of u in
-      let view : ViewsObject s u p = views_after s (Write k p from bytes) None ok in
+      let view : ViewsObject s u p = views_after s (Mutator k (Write p from bytes)) None ok in
       let seen : ℕ → Bool = put (views_of (world_of s) k) p true in
       let run = write_run both.1 inside.0 inside.1 ok in (
         λ within. (
@@ -190,9 +190,9 @@ module _ (s : State) (k p from : ℕ) (bytes : List ℕ) (law : Law s) (hand : A
         λ m ne. own_other (world_of s) t m p run.0 run.1 run.2 (λ e. ne (sym own ∙ e)) (views_others s u k m p view own ne),
       )
 
-  pub turns_write : Turns s k (Write k p from bytes) (refusal (moment_of s) (Write k p from bytes))
+  pub turns_write : Turns s k (Mutator k (Write p from bytes)) (refusal (moment_of s) (Mutator k (Write p from bytes)))
   turns_write =
-      four_causes (Turns s k (Write k p from bytes)) (not (nat_lt k s.mutators)) (not (is_opened s k)) (not (uses s k p)) (not (is_range (object_len s p) from (length bytes))) Range Closed NotHeld Range
+      four_causes (Turns s k (Mutator k (Write p from bytes))) (not (nat_lt k s.mutators)) (not (is_opened s k)) (not (uses s k p)) (not (is_range (object_len s p) from (length bytes))) Range Closed NotHeld Range
       (λ off _. (λ within. absurd (outside k s.mutators within off), λ m ne. refl))
       (λ _ shut _. (λ within. (shut_world s k within (not-true (is_opened s k) shut), refl), λ m ne. refl))
       (λ _ opened unused _. (λ within. (open_world s k (not-false (is_opened s k) opened), own_unused s law hand k p (not-true (uses s k p) unused), refl), λ m ne. refl))

@@ -9,7 +9,7 @@ use Rattle.far_core.specs.state.Law.{Law}
 use Rattle.far_core.specs.state.State.{State}
 use Rattle.far_trace.specs.Moment.{Moment, moment_of}
 use Rattle.far_trace.specs.Answers.{Answered, Commanded}
-use Rattle.far_trace.specs.Command.{Command, Heap, New, Open, Write, Read, Close, Logs}
+use Rattle.far_trace.specs.Command.{Command, Heap, New, Open, Write, Read, Close, Logs, Mutator, Book}
 use Rattle.far_trace.specs.Later.{IsLater, AreLater}
 use Rattle.far_trace.specs.Interpreter.{AllBytes, next_after}
 use Rattle.far_trace.specs.Reply.{Reply, printed}
@@ -20,12 +20,12 @@ use Rattle.far_trace.proofs.Turns.{turns}
 -- what a later command writes is bytes
 pub later_bytes : (c : Command) → IsLater c → AllBytes c
 later_bytes (Heap logs mutators) h = tt
-later_bytes (New m len ds) h = tt
-later_bytes (Open m) h = tt
-later_bytes (Write m p from bytes) h = h
-later_bytes (Read m p from len) h = tt
-later_bytes (Close m) h = tt
-later_bytes Logs h = tt
+later_bytes (Mutator m (New len ds)) h = tt
+later_bytes (Mutator m Open) h = tt
+later_bytes (Mutator m (Write p from bytes)) h = h
+later_bytes (Mutator m (Read p from len)) h = tt
+later_bytes (Mutator m Close) h = tt
+later_bytes (Book Logs) h = tt
 
 pub later_at : {X : Type 0} (f : X → Command) (xs : List X) (i : ℕ) (x : X) → AreLater (map f xs) → i < length xs → x ≡ get_or xs i x → IsLater (f x)
 later_at f [] i x h lt e = absurd (omega arith)
@@ -50,8 +50,8 @@ same_counts : (o : Option Refusal) (next : ℕ → ℕ) (k : ℕ) → next k ≡
 same_counts None next k = refl
 same_counts (Some why) next k = refl
 
-pub reads_name_none : (now : Moment) (c : Command) (next : ℕ → ℕ) (k m p from len : ℕ) → c ≡ Read m p from len → next k ≡ next_after now c next k
-reads_name_none now c next k m p from len e = same_counts (refusal now (Read m p from len)) next k ∙ ap (λ d. next_after now d next k) (sym e)
+pub reads_name_none : (now : Moment) (c : Command) (next : ℕ → ℕ) (k m p from len : ℕ) → c ≡ Mutator m (Read p from len) → next k ≡ next_after now c next k
+reads_name_none now c next k m p from len e = same_counts (refusal now (Mutator m (Read p from len))) next k ∙ ap (λ d. next_after now d next k) (sym e)
 
 -- the run goes on by one command
 pub answered_more : (s t : Moment) (cs later : List Command) (replies : List Reply) (moments : List Moment) (c : Command) (r : Reply) (u : Moment) →

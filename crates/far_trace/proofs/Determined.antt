@@ -5,7 +5,7 @@ use Rattle.std.specs.List.{flat_map}
 use Rattle.far_word.specs.declared.refused.Refused.TheVariants.{Shape}
 use Rattle.far_core.specs.state.Shape.{is_shape}
 use Rattle.far_trace.specs.Answers.{Answered, Commanded, Answers, IsOutput, shape_of, first_moment}
-use Rattle.far_trace.specs.Command.{Command, Heap, New, Open, Write, Read, Close, Logs}
+use Rattle.far_trace.specs.Command.{Command, Heap, Mutator, Book}
 use Rattle.far_trace.specs.Grammar.{commands_of}
 use Rattle.far_trace.specs.Moment.{Moment}
 use Rattle.far_trace.specs.Reply.{Reply, Done, Refused, printed}
@@ -42,12 +42,8 @@ output_once : (read : Result (List Command) ℕ) (x y : List ℕ) → IsOutput r
 output_once (Err line) x y h k = h ∙ sym k
 output_once (Ok []) x y h k = h ∙ sym k
 output_once (Ok (Heap logs mutators ∷ cs)) x y h k = heap_once (first_moment logs mutators) cs (is_shape (shape_of logs mutators)) x y h k
-output_once (Ok (New m len ds ∷ cs)) x y h k = h ∙ sym k
-output_once (Ok (Open m ∷ cs)) x y h k = h ∙ sym k
-output_once (Ok (Write m p from bytes ∷ cs)) x y h k = h ∙ sym k
-output_once (Ok (Read m p from len ∷ cs)) x y h k = h ∙ sym k
-output_once (Ok (Close m ∷ cs)) x y h k = h ∙ sym k
-output_once (Ok (Logs ∷ cs)) x y h k = h ∙ sym k
+output_once (Ok (Mutator m request ∷ cs)) x y h k = h ∙ sym k
+output_once (Ok (Book inquiry ∷ cs)) x y h k = h ∙ sym k
 
 -- two outputs of one text are equal
 pub answers_once : (text a b : List ℕ) → Answers text a → Answers text b → a ≡ b

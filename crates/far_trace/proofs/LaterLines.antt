@@ -3,8 +3,9 @@ use Rattle.std.proofs.Common.{◌≡◌, ℕ, ◌+◌, Bool, true, false, cond, 
 use Rattle.std.specs.Prelude.{nat_lt}
 use Rattle.std.proofs.lemmas.Bool.{cond_both, false≢true}
 use Rattle.hex.proofs.HexLemmas.{decode_of-ok}
+use Rattle.far_trace.specs.declared.text.TheConstants.{LONGEST_TEXT}
 use Rattle.far_trace.specs.Answers.{BeginsWithHeap}
-use Rattle.far_trace.specs.Command.{Command, Heap, New, Open, Write, Read, Close, Logs}
+use Rattle.far_trace.specs.Command.{Command, Heap, New, Open, Write, Read, Close, Logs, Mutator, Book}
 use Rattle.far_trace.specs.Grammar.{Line, Skipped, Saying, Bad, line_of, lines_of, line_words, is_plain, is_skipped, saying, command_of, commands_of, is_in_place, onto, read_line, read_lines}
 use Rattle.far_trace.specs.Later.{IsLater, AreLater}
 use Rattle.far_trace.specs.Says.{Says}
@@ -24,12 +25,12 @@ line_command line c = cond_both (is_plain line) (cond (is_skipped line) Skipped 
 -- what words say behind the first command
 said_later : (words : List (List ℕ)) (c : Command) → is_in_place false c ≡ true → Says words c → IsLater c
 said_later words (Heap logs mutators) stands h = absurd (false≢true stands)
-said_later words (New m len ds) stands h = tt
-said_later words (Open m) stands h = tt
-said_later words (Write m p from bytes) stands h = (decode_of-ok h.0 bytes h.5.0).3
-said_later words (Read m p from len) stands h = tt
-said_later words (Close m) stands h = tt
-said_later words Logs stands h = tt
+said_later words (Mutator m (New len ds)) stands h = tt
+said_later words (Mutator m Open) stands h = tt
+said_later words (Mutator m (Write p from bytes)) stands h = (decode_of-ok h.0 bytes h.5.0).3
+said_later words (Mutator m (Read p from len)) stands h = tt
+said_later words (Mutator m Close) stands h = tt
+said_later words (Book Logs) stands h = tt
 
 -- one command in front of those that are read behind it
 at_onto : (c d : Command) (later : Result (List Command) ℕ) (cs : List Command) → onto c later ≡ Ok (d ∷ cs) → (c ≡ d) × (later ≡ Ok cs)
@@ -64,21 +65,13 @@ read_later number (line ∷ lines) (c ∷ cs) e = at_later number line (line_of 
 -- what may stand first is a heap
 begins : (c : Command) (cs : List Command) → is_in_place true c ≡ true → AreLater cs → BeginsWithHeap (c ∷ cs)
 begins (Heap logs mutators) cs stands h = h
-begins (New m len ds) cs stands h = absurd (false≢true stands)
-begins (Open m) cs stands h = absurd (false≢true stands)
-begins (Write m p from bytes) cs stands h = absurd (false≢true stands)
-begins (Read m p from len) cs stands h = absurd (false≢true stands)
-begins (Close m) cs stands h = absurd (false≢true stands)
-begins Logs cs stands h = absurd (false≢true stands)
+begins (Mutator m request) cs stands h = absurd (false≢true stands)
+begins (Book inquiry) cs stands h = absurd (false≢true stands)
 
 behind : (c : Command) (cs : List Command) → BeginsWithHeap (c ∷ cs) → AreLater cs
 behind (Heap logs mutators) cs h = h
-behind (New m len ds) cs h = absurd h
-behind (Open m) cs h = absurd h
-behind (Write m p from bytes) cs h = absurd h
-behind (Read m p from len) cs h = absurd h
-behind (Close m) cs h = absurd h
-behind Logs cs h = absurd h
+behind (Mutator m request) cs h = absurd h
+behind (Book inquiry) cs h = absurd h
 
 -- one line before or at the first command
 at_first : (number : ℕ) (l : Line) (same later : Result (List Command) ℕ) (c : Command) (cs : List Command) →
@@ -98,7 +91,7 @@ read_first number (line ∷ lines) c cs e =
 
 -- a text's first command is a heap
 first_heap : (text : List ℕ) (c : Command) (cs : List Command) → commands_of text ≡ Ok (c ∷ cs) → BeginsWithHeap (c ∷ cs)
-first_heap text c cs = cond_both (nat_lt 1048576 (length text)) (Err 0) (read_lines 1 true (lines_of text)) (λ (x : Result (List Command) ℕ). x ≡ Ok (c ∷ cs) → BeginsWithHeap (c ∷ cs))
+first_heap text c cs = cond_both (nat_lt LONGEST_TEXT (length text)) (Err 0) (read_lines 1 true (lines_of text)) (λ (x : Result (List Command) ℕ). x ≡ Ok (c ∷ cs) → BeginsWithHeap (c ∷ cs))
     (λ _ e. absurd cc) (λ _ e. read_first 1 (lines_of text) c cs e)
 
 pub text_begins : (text : List ℕ) (cs : List Command) → commands_of text ≡ Ok cs → BeginsWithHeap cs

@@ -11,7 +11,7 @@ use Rattle.std.proofs.lemmas.List.Splits.{join_with_byte-slice_split}
 use Rattle.std.proofs.Math.Seq.{drop-cons, drop-length, take-length}
 use Rattle.hex.specs.Hex.{is_hex_digit}
 use Rattle.hex.proofs.HexLemmas.{decode_of-ok}
-use Rattle.far_trace.specs.Command.{Command, Heap, New, Open, Write, Read, Close, Logs}
+use Rattle.far_trace.specs.Command.{Command, Heap, New, Open, Write, Read, Close, Logs, Mutator, Book}
 use Rattle.far_trace.specs.Says.{Says, Spells}
 use Rattle.far_trace.specs.Grammar.{Line, Skipped, Saying, Bad, line_of, is_plain, is_skipped, command_of, lines_of, line_words}
 use Rattle.far_trace.specs.Cursor.{front_of, first_line, lines_behind, words_in}
@@ -48,13 +48,13 @@ spelled_ascii word bytes h = hex_ascii word (list_all-from_AllPass is_hex_digit 
 -- the words of a command are ASCII
 said_ascii : (words : List (List ℕ)) (c : Command) → Says words c → list_all (list_all is_ascii) words ≡ true
 said_ascii words (Heap l m) h = ap (list_all (list_all is_ascii)) h.0 ∙ rw (decimal_ascii l h.1, decimal_ascii m h.2) refl
-said_ascii words (New m l s) h = ap (list_all (list_all is_ascii)) h.0 ∙ rw (decimal_ascii m h.1, decimal_ascii l h.2, decimal_ascii s h.3) refl
-said_ascii words (Open m) h = ap (list_all (list_all is_ascii)) h.0 ∙ rw (decimal_ascii m h.1) refl
-said_ascii words (Write m p f b) h =
+said_ascii words (Mutator m (New l s)) h = ap (list_all (list_all is_ascii)) h.0 ∙ rw (decimal_ascii m h.1, decimal_ascii l h.2, decimal_ascii s h.3) refl
+said_ascii words (Mutator m Open) h = ap (list_all (list_all is_ascii)) h.0 ∙ rw (decimal_ascii m h.1) refl
+said_ascii words (Mutator m (Write p f b)) h =
     ap (list_all (list_all is_ascii)) h.1 ∙ rw (decimal_ascii m h.2, decimal_ascii p h.3, decimal_ascii f h.4, spelled_ascii h.0 b h.5) refl
-said_ascii words (Read m p f l) h = ap (list_all (list_all is_ascii)) h.0 ∙ rw (decimal_ascii m h.1, decimal_ascii p h.2, decimal_ascii f h.3, decimal_ascii l h.4) refl
-said_ascii words (Close m) h = ap (list_all (list_all is_ascii)) h.0 ∙ rw (decimal_ascii m h.1) refl
-said_ascii words Logs h = ap (list_all (list_all is_ascii)) h
+said_ascii words (Mutator m (Read p f l)) h = ap (list_all (list_all is_ascii)) h.0 ∙ rw (decimal_ascii m h.1, decimal_ascii p h.2, decimal_ascii f h.3, decimal_ascii l h.4) refl
+said_ascii words (Mutator m Close) h = ap (list_all (list_all is_ascii)) h.0 ∙ rw (decimal_ascii m h.1) refl
+said_ascii words (Book Logs) h = ap (list_all (list_all is_ascii)) h
 
 joined_ascii : (words : List (List ℕ)) → list_all (list_all is_ascii) words ≡ true → list_all is_ascii (join_with_byte 32 words) ≡ true
 joined_ascii [] e = refl

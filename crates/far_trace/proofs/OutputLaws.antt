@@ -22,7 +22,7 @@ use Rattle.far_core.proofs.Observations.{bytes_make_log}
 use Rattle.far_trace.specs.Moment.{Moment, moment_of}
 use Rattle.far_trace.specs.Alone.{Alone, Knows, Own}
 use Rattle.far_trace.specs.Answers.{Answered, Answers, BeginsWithHeap, Commanded, IsMoment, IsOutput, shape_of, first_moment}
-use Rattle.far_trace.specs.Command.{Command, Heap, New, Open, Write, Read, Close, Logs}
+use Rattle.far_trace.specs.Command.{Command, Heap, New, Open, Write, Read, Close, Logs, Mutator, Book}
 use Rattle.far_trace.specs.Grammar.{commands_of}
 use Rattle.far_trace.specs.Headline.{IsSound, IsWhole, Lawful, IsSaidBy, TellsAll, TellsLog}
 use Rattle.far_trace.specs.Later.{AreLater}
@@ -64,12 +64,8 @@ read_answered : (read : Result (List Command) ℕ) → ((cs : List Command) → 
 read_answered (Err line) h = (printed (Refused (Syntax line)), refl)
 read_answered (Ok []) h = ([], refl)
 read_answered (Ok (Heap logs mutators ∷ cs)) h = heap_answered logs mutators cs (is_shape (shape_of logs mutators))
-read_answered (Ok (New m len ds ∷ cs)) h = absurd (h (New m len ds ∷ cs) refl)
-read_answered (Ok (Open m ∷ cs)) h = absurd (h (Open m ∷ cs) refl)
-read_answered (Ok (Write m p from bytes ∷ cs)) h = absurd (h (Write m p from bytes ∷ cs) refl)
-read_answered (Ok (Read m p from len ∷ cs)) h = absurd (h (Read m p from len ∷ cs) refl)
-read_answered (Ok (Close m ∷ cs)) h = absurd (h (Close m ∷ cs) refl)
-read_answered (Ok (Logs ∷ cs)) h = absurd (h (Logs ∷ cs) refl)
+read_answered (Ok (Mutator m request ∷ cs)) h = absurd (h (Mutator m request ∷ cs) refl)
+read_answered (Ok (Book inquiry ∷ cs)) h = absurd (h (Book inquiry ∷ cs) refl)
 
 pub each_answered : (text : List ℕ) → (output : List ℕ) × Answers text output
 each_answered text = read_answered (commands_of text) (text_begins text)
@@ -108,12 +104,12 @@ past s m k e h = lt-leb (suc k) s.mutators (omega (arith, e, h))
 
 strange : (s : State) (c : Command) (m : ℕ) → IsSaidBy m c → s.mutators ≤ m → reply_to (moment_of s) c ≡ Refused Range
 strange s (Heap logs mutators) m e h = absurd e
-strange s (New k len ds) m e h = first_holds s (New k len ds) (not (nat_lt k s.mutators && nat_lt ds 256)) _ refl (ap (λ b. not (b && nat_lt ds 256)) (past s m k e h))
-strange s (Open k) m e h = first_holds s (Open k) (not (nat_lt k s.mutators)) _ refl (ap not (past s m k e h))
-strange s (Write k p from bytes) m e h = first_holds s (Write k p from bytes) (not (nat_lt k s.mutators)) _ refl (ap not (past s m k e h))
-strange s (Read k p from len) m e h = first_holds s (Read k p from len) (not (nat_lt k s.mutators)) _ refl (ap not (past s m k e h))
-strange s (Close k) m e h = first_holds s (Close k) (not (nat_lt k s.mutators)) _ refl (ap not (past s m k e h))
-strange s Logs m e h = absurd e
+strange s (Mutator k (New len ds)) m e h = first_holds s (Mutator k (New len ds)) (not (nat_lt k s.mutators && nat_lt ds 256)) _ refl (ap (λ b. not (b && nat_lt ds 256)) (past s m k e h))
+strange s (Mutator k Open) m e h = first_holds s (Mutator k Open) (not (nat_lt k s.mutators)) _ refl (ap not (past s m k e h))
+strange s (Mutator k (Write p from bytes)) m e h = first_holds s (Mutator k (Write p from bytes)) (not (nat_lt k s.mutators)) _ refl (ap not (past s m k e h))
+strange s (Mutator k (Read p from len)) m e h = first_holds s (Mutator k (Read p from len)) (not (nat_lt k s.mutators)) _ refl (ap not (past s m k e h))
+strange s (Mutator k Close) m e h = first_holds s (Mutator k Close) (not (nat_lt k s.mutators)) _ refl (ap not (past s m k e h))
+strange s (Book Logs) m e h = absurd e
 
 pub stranger : (now : Moment) (c : Command) (r : Reply) (next : Moment) (m : ℕ) → IsSaidBy m c → now.core.mutators ≤ m → Commanded now c r next → r ≡ Refused Range
 stranger now c r next m e h k = k.reply ∙ strange now.core c m e h
@@ -134,7 +130,7 @@ of_each P s h (l ∷ ls) line c = elim (split line (log_line (moment_of s) l) (m
 tells_log : (s : State) → Law s → (l : ℕ) → TellsLog (moment_of s) (log_line (moment_of s) l)
 tells_log s law l = record { kind = refl; live = refl; dead = refl; unused = refl; whole = bytes_make_log s law l }
 
-pub logs_tell : (now : Moment) (r : Reply) (next : Moment) → Law now.core → Commanded now Logs r next → TellsAll now r
+pub logs_tell : (now : Moment) (r : Reply) (next : Moment) → Law now.core → Commanded now (Book Logs) r next → TellsAll now r
 logs_tell now r next law h =
     subst (TellsAll now) (sym h.reply) (numbered now.core (range_with_len 0 now.core.logs), of_each (TellsLog now) now.core (tells_log now.core law) (range_with_len 0 now.core.logs))
 
@@ -144,10 +140,10 @@ told_pointer None None p e = absurd cc
 told_pointer None (Some q) p e = let same : p ≡ q = cc in ap Some (sym same)
 told_pointer (Some why) x p e = absurd cc
 
-pub takes_lowest : (now : Moment) (m len ds p : ℕ) (next : Moment) → Commanded now (New m len ds) (Pointer p) next →
+pub takes_lowest : (now : Moment) (m len ds p : ℕ) (next : Moment) → Commanded now (Mutator m (New len ds)) (Pointer p) next →
     (m * CELLS ≤ p) × (p < m * CELLS + CELLS) × (now.core.cell p ≡ 0) × ((q : ℕ) → m * CELLS ≤ q → q < p → now.core.cell q ≢ 0)
 unfolding lowest_cell
-takes_lowest now m len ds p next h = lowest_found now.core.cell (m * CELLS) CELLS p (told_pointer (refusal now (New m len ds)) (lowest_cell now.core m) p h.reply)
+takes_lowest now m len ds p next h = lowest_found now.core.cell (m * CELLS) CELLS p (told_pointer (refusal now (Mutator m (New len ds))) (lowest_cell now.core m) p h.reply)
 
 third : (a b c d : Bool) → first_cause ((a, Range) ∷ (b, Length) ∷ (c, NoPointer) ∷ (d, NoRoom) ∷ []) ≡ Some NoPointer → c ≡ true
 third true b c d e = absurd cc
@@ -175,11 +171,11 @@ unfolding lowest_cell
 no_cell s m e = none_found s.cell (m * CELLS) CELLS e
 
 pub none_left : (now : Moment) (m len ds : ℕ) (next : Moment) →
-    (Commanded now (New m len ds) (Refused NoPointer) next → (q : ℕ) → m * CELLS ≤ q → q < m * CELLS + CELLS → now.core.cell q ≢ 0)
-    × (Commanded now (New m len ds) (Refused NoRoom) next → room now.core (size_of len) true ≡ None)
+    (Commanded now (Mutator m (New len ds)) (Refused NoPointer) next → (q : ℕ) → m * CELLS ≤ q → q < m * CELLS + CELLS → now.core.cell q ≢ 0)
+    × (Commanded now (Mutator m (New len ds)) (Refused NoRoom) next → room now.core (size_of len) true ≡ None)
 none_left now m len ds next = (
-  (λ h. no_cell now.core m (is_nothing (lowest_cell now.core m) (third _ _ _ _ (why_refused now (New m len ds) NoPointer next h)))),
-  (λ h. is_nothing (room now.core (size_of len) true) (fourth _ _ _ _ (why_refused now (New m len ds) NoRoom next h))),
+  (λ h. no_cell now.core m (is_nothing (lowest_cell now.core m) (third _ _ _ _ (why_refused now (Mutator m (New len ds)) NoPointer next h)))),
+  (λ h. is_nothing (room now.core (size_of len) true) (fourth _ _ _ _ (why_refused now (Mutator m (New len ds)) NoRoom next h))),
 )
 
 -- what a new object in range is answered, by the lowest free cell and the room
@@ -209,7 +205,7 @@ lowest_is_free : (s : State) (m p : ℕ) → lowest_cell s m ≡ Some p → (m *
 unfolding lowest_cell
 lowest_is_free s m p e = let x = lowest_found s.cell (m * CELLS) CELLS p e in (x.0, x.1, x.2)
 
-pub is_made : (now : Moment) (m len ds : ℕ) (r : Reply) (next : Moment) → m < now.core.mutators → ds < 256 → 0 < len → len ≤ LONGEST → Commanded now (New m len ds) r next →
+pub is_made : (now : Moment) (m len ds : ℕ) (r : Reply) (next : Moment) → m < now.core.mutators → ds < 256 → 0 < len → len ≤ LONGEST → Commanded now (Mutator m (New len ds)) r next →
     (((q : ℕ) → m * CELLS ≤ q → q < m * CELLS + CELLS → now.core.cell q ≢ 0) → r ≡ Refused NoPointer)
     × ((q : ℕ) → m * CELLS ≤ q → q < m * CELLS + CELLS → now.core.cell q ≡ 0 →
     (room now.core (size_of len) true ≡ None → r ≡ Refused NoRoom) × ((place : Place) → room now.core (size_of len) true ≡ Some place → (p : ℕ) × (r ≡ Pointer p)))
@@ -252,34 +248,30 @@ at_number k m A B false e x = ((λ same. absurd (eqb-false k m e (sym same))), (
 pub own_lines : (m : ℕ) (o : Own) (c : Command) (r : Reply) (cs : List Command) (rs : List Reply) → Alone m o (c ∷ cs) (r ∷ rs) →
     (IsSaidBy m c → (q : Own) × Knows m o c r q × Alone m q cs rs) × ((IsSaidBy m c → ⊥) → Alone m o cs rs)
 own_lines m o (Heap logs mutators) r cs rs h = ((λ no. absurd no), (λ _. h))
-own_lines m o (New k len ds) r cs rs h = at_number k m _ _ (nat_eq k m) refl h
-own_lines m o (Open k) r cs rs h = at_number k m _ _ (nat_eq k m) refl h
-own_lines m o (Write k p from bytes) r cs rs h = at_number k m _ _ (nat_eq k m) refl h
-own_lines m o (Read k p from len) r cs rs h = at_number k m _ _ (nat_eq k m) refl h
-own_lines m o (Close k) r cs rs h = at_number k m _ _ (nat_eq k m) refl h
-own_lines m o Logs r cs rs h = ((λ no. absurd no), (λ _. h))
+own_lines m o (Mutator k request) r cs rs h = at_number k m _ _ (nat_eq k m) refl h
+own_lines m o (Book inquiry) r cs rs h = ((λ no. absurd no), (λ _. h))
 
 -- ---- what a new object is
 not_refused : (o : Option Refusal) (x : Option ℕ) (p : ℕ) → Pointer p ≡ unless o Refused (pointer_reply x) → o ≡ None
 not_refused None x p e = refl
 not_refused (Some why) x p e = absurd cc
 
-pub makes_its_object : (now : Moment) (m len ds p : ℕ) (next : Moment) → IsMoment now → Commanded now (New m len ds) (Pointer p) next → (place : Place) × (room now.core (size_of len) true ≡ Some place)
+pub makes_its_object : (now : Moment) (m len ds p : ℕ) (next : Moment) → IsMoment now → Commanded now (Mutator m (New len ds)) (Pointer p) next → (place : Place) × (room now.core (size_of len) true ≡ Some place)
     × ((world_of next.core).object ≡ put (world_of now.core).object p (Some record { owner = m; ds = ds; bytes = replicate len 0; home = Group place.log }))
 makes_its_object now m len ds p next is c =
     let s : State = now.core in
     let lasts = moment_lasts now is in
-    let h = carried now (New m len ds) (Pointer p) next lasts tt c in
-    let none : refusal now (New m len ds) ≡ None = not_refused (refusal now (New m len ds)) (lowest_cell s m) p h.reply in
+    let h = carried now (Mutator m (New len ds)) (Pointer p) next lasts tt c in
+    let none : refusal now (Mutator m (New len ds)) ≡ None = not_refused (refusal now (Mutator m (New len ds))) (lowest_cell s m) p h.reply in
     let parts = four (nat_lt m s.mutators && nat_lt ds 256) (nat_lt 0 len && nat_le len LONGEST) (is_some (lowest_cell s m)) (is_some (room s (size_of len) true)) Range Length NoPointer NoRoom none in
-    let low : lowest_cell s m ≡ Some p = told_pointer (refusal now (New m len ds)) (lowest_cell s m) p h.reply in
+    let low : lowest_cell s m ≡ Some p = told_pointer (refusal now (Mutator m (New len ds))) (lowest_cell s m) p h.reply in
     let at = some_of (room s (size_of len) true) parts.3 in
     let numbers = is_structure s m ds (ap not parts.0) in
     let sized = is_length len (ap not parts.1) in
     let where_it_is = takes_lowest now m len ds p next c in
     let own : p / CELLS ≡ m = omega (arith, where_it_is.0, where_it_is.1) in
-    let events : events_for now (New m len ds) ≡ new_events m len ds (Some p) (Some at.0) =
-    ap (λ o. unless o (λ _. []) (turn_events now (New m len ds))) none ∙ ap (λ o. new_events m len ds o (room s (size_of len) true)) low ∙ ap (λ r. new_events m len ds (Some p) r) at.1 in
+    let events : events_for now (Mutator m (New len ds)) ≡ new_events m len ds (Some p) (Some at.0) =
+    ap (λ o. unless o (λ _. []) (turn_events now (Mutator m (New len ds)))) none ∙ ap (λ o. new_events m len ds o (room s (size_of len) true)) low ∙ ap (λ r. new_events m len ds (Some p) r) at.1 in
     let run = new_run s m len ds p at.0 lasts.law numbers.0 own sized.1 numbers.1 (subst (AllSucceed s) events h.succeed) in
     let whole : run.0 ≡ record { owner = m; ds = ds; bytes = replicate len 0; home = Group at.0.log } =
     run.5 ∙ ap (λ (o : ℕ). record { owner = o; ds = ds; bytes = replicate len 0; home = Group at.0.log }) own in

@@ -4,6 +4,7 @@ use Rattle.std.proofs.lemmas.Bool.{lt-leb}
 use Rattle.std.proofs.lemmas.Bool.Decides.{nat_tests}
 use Rattle.std.proofs.lemmas.List.Sums.{count_by-le-length}
 use Rattle.std.proofs.lemmas.List.Splits.{length-slice_split}
+use Rattle.far_trace.specs.declared.text.TheConstants.{LONGEST_TEXT}
 use Rattle.far_trace.specs.Command.{Command}
 use Rattle.far_trace.specs.Cursor.{first_line, lines_behind}
 use Rattle.far_trace.specs.Grammar.{Skipped, Saying, Bad, onto, line_of, lines_of, is_in_place, read_line, read_lines, commands_of}
@@ -28,8 +29,8 @@ within : (most n : ℕ) → n ≤ most → nat_lt most n ≡ false
 within most n h = lt-leb (suc most) n (omega arith)
 
 -- a text that is not too long is its lines
-pub commands_short : (text : List ℕ) → length text ≤ 1048576 → commands_of text ≡ read_lines 1 true (lines_of text)
-commands_short text h = rw (within 1048576 (length text) h) refl
+pub commands_short : (text : List ℕ) → length text ≤ LONGEST_TEXT → commands_of text ≡ read_lines 1 true (lines_of text)
+commands_short text h = rw (within LONGEST_TEXT (length text) h) refl
 
 -- the first line, and the lines behind it
 pub reads_on : (number : ℕ) (is_first : Bool) (text : List ℕ) → read_lines number is_first (lines_of text)

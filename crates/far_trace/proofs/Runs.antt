@@ -5,6 +5,7 @@ use Rattle.std.proofs.Math.Seq.{take-length}
 use Rattle.std.specs.Io.KnownBytes.{Appends}
 use Rattle.far_word.specs.declared.refused.Refused.{Refused}
 use Rattle.far_word.specs.declared.refused.Refused.TheVariants.{Memory, Shape}
+use Rattle.far_trace.specs.declared.text.TheConstants.{LONGEST_TEXT}
 use Rattle.far_trace.specs.Command.{Command}
 use Rattle.far_trace.specs.declared.run.End.{End}
 use Rattle.far_trace.specs.declared.run.RunFault.{RunFault}
@@ -40,23 +41,23 @@ read_alike most text r =
       | false ↦ λ e. rw (cut_short most text e) refl
     ] refl
 
-commands_alike : (text : List ℕ) → commands_of (take (1048576 + 1) text) ≡ commands_of text
-commands_alike text = read_alike 1048576 text (Err 0)
+commands_alike : (text : List ℕ) → commands_of (take (LONGEST_TEXT + 1) text) ≡ commands_of text
+commands_alike text = read_alike LONGEST_TEXT text (Err 0)
 
-read_same : (text read : List ℕ) → read ≡ take (1048576 + 1) text → commands_of read ≡ commands_of text
+read_same : (text read : List ℕ) → read ≡ take (LONGEST_TEXT + 1) text → commands_of read ≡ commands_of text
 read_same text read e = ap commands_of e ∙ commands_alike text
 
-pub answered_through : {E : Type 0} (known old new : Option (List ℕ)) (read : List ℕ) (r : Result End E) → IfSome known (λ text. read ≡ take (1048576 + 1) text) → OnOk r (WritesAnswer old new read) → OnOk r (IfSome known (WritesAnswer old new))
+pub answered_through : {E : Type 0} (known old new : Option (List ℕ)) (read : List ℕ) (r : Result End E) → IfSome known (λ text. read ≡ take (LONGEST_TEXT + 1) text) → OnOk r (WritesAnswer old new read) → OnOk r (IfSome known (WritesAnswer old new))
 answered_through None old new read (Ok end) k h = tt
 answered_through (Some text) old new read (Ok end) k h = (h.0, subst (λ x. IsOutput x h.0) (read_same text read k) h.1, h.2)
 answered_through known old new read (Err e) k h = tt
 
-pub end_through : {E : Type 0} (known : Option (List ℕ)) (read : List ℕ) (r : Result End E) → IfSome known (λ text. read ≡ take (1048576 + 1) text) → IfOk r (λ end. end ≡ end_of (commands_of read)) → IfOk r (λ end. IfSome known (λ text. end ≡ end_of (commands_of text)))
+pub end_through : {E : Type 0} (known : Option (List ℕ)) (read : List ℕ) (r : Result End E) → IfSome known (λ text. read ≡ take (LONGEST_TEXT + 1) text) → IfOk r (λ end. end ≡ end_of (commands_of read)) → IfOk r (λ end. IfSome known (λ text. end ≡ end_of (commands_of text)))
 end_through None read (Ok end) k h = tt
 end_through (Some text) read (Ok end) k h = h ∙ ap end_of (read_same text read k)
 end_through known read (Err e) k h = tt
 
-pub fault_through : (known old new : Option (List ℕ)) (read : List ℕ) (r : Result End RunFault) → IfSome known (λ text. read ≡ take (1048576 + 1) text) → IfErr r (λ fault. Leaves fault old new read) → IfErr r (λ fault. IfSome known (Leaves fault old new))
+pub fault_through : (known old new : Option (List ℕ)) (read : List ℕ) (r : Result End RunFault) → IfSome known (λ text. read ≡ take (LONGEST_TEXT + 1) text) → IfErr r (λ fault. Leaves fault old new read) → IfErr r (λ fault. IfSome known (Leaves fault old new))
 fault_through known old new read (Ok end) k h = tt
 fault_through None old new read (Err fault) k h = tt
 fault_through (Some text) old new read (Err fault) k h = subst (LeavesBehind fault old new) (read_same text read k) h

@@ -2,21 +2,21 @@
 use Rattle.std.proofs.Common.{◌≡◌, ◌⊎◌, inl, inr, ℕ, zero, suc, ◌<◌, ◌^◌, Bool, true, false, cond, List, [], ◌∷◌, Option, Some, None, codes, decimal, sym, ◌∙◌, ap, refl, subst}
 use Rattle.std.specs.Str.{bytes_eq}
 use Rattle.std.proofs.lemmas.Slice.Eq.{bytes_eq-Decides}
-use Rattle.far_trace.specs.Command.{Command, Heap, New, Open, Write, Read, Close, Logs}
+use Rattle.far_trace.specs.Command.{Command, Heap, New, Open, Write, Read, Close, Logs, Mutator, Book}
 use Rattle.far_trace.specs.Says.{Says, Spells}
-use Rattle.far_trace.specs.Grammar.{From, Operands, Numbers, NumbersAndBytes, number_of, bytes_in, next_number, next_bytes, numbers_then, ended, command_from, table, found_in, command_of, ◌>>=◌}
+use Rattle.far_trace.specs.Grammar.{asks_read, asks_write, asks_open, asks_close, asks_new, From, Operands, Numbers, NumbersAndBytes, number_of, bytes_in, next_number, next_bytes, numbers_then, ended, command_from, table, found_in, command_of, ◌>>=◌}
 use Rattle.far_trace.proofs.Each.{Each}
 use Rattle.far_trace.proofs.HexLemmas.{spelled_is_hex, hex_is_spelled}
 use Rattle.far_trace.proofs.Numbers.{number_is, number_only}
 
 pub said_is_read : (words : List (List ℕ)) (c : Command) → Says words c → command_of words ≡ Some c
-said_is_read words (Read m p f l) h = ap command_of h.0 ∙ rw (number_is (decimal m) m h.1 refl, number_is (decimal p) p h.2 refl, number_is (decimal f) f h.3 refl, number_is (decimal l) l h.4 refl) refl
-said_is_read words (Write m p f b) h = ap command_of h.1 ∙ rw (number_is (decimal m) m h.2 refl, number_is (decimal p) p h.3 refl, number_is (decimal f) f h.4 refl, spelled_is_hex h.0 b h.5) refl
-said_is_read words (Open m) h = ap command_of h.0 ∙ rw (number_is (decimal m) m h.1 refl) refl
-said_is_read words (Close m) h = ap command_of h.0 ∙ rw (number_is (decimal m) m h.1 refl) refl
-said_is_read words (New m l k) h = ap command_of h.0 ∙ rw (number_is (decimal m) m h.1 refl, number_is (decimal l) l h.2 refl, number_is (decimal k) k h.3 refl) refl
+said_is_read words (Mutator m (Read p f l)) h = ap command_of h.0 ∙ rw (number_is (decimal m) m h.1 refl, number_is (decimal p) p h.2 refl, number_is (decimal f) f h.3 refl, number_is (decimal l) l h.4 refl) refl
+said_is_read words (Mutator m (Write p f b)) h = ap command_of h.1 ∙ rw (number_is (decimal m) m h.2 refl, number_is (decimal p) p h.3 refl, number_is (decimal f) f h.4 refl, spelled_is_hex h.0 b h.5) refl
+said_is_read words (Mutator m Open) h = ap command_of h.0 ∙ rw (number_is (decimal m) m h.1 refl) refl
+said_is_read words (Mutator m Close) h = ap command_of h.0 ∙ rw (number_is (decimal m) m h.1 refl) refl
+said_is_read words (Mutator m (New l k)) h = ap command_of h.0 ∙ rw (number_is (decimal m) m h.1 refl, number_is (decimal l) l h.2 refl, number_is (decimal k) k h.3 refl) refl
 said_is_read words (Heap l m) h = ap command_of h.0 ∙ rw (number_is (decimal l) l h.1 refl, number_is (decimal m) m h.2 refl) refl
-said_is_read words Logs h = ap command_of h
+said_is_read words (Book Logs) h = ap command_of h
 
 chosen : {X : Type 0} (b : Bool) (x y z : X) → cond b x y ≡ z → ((b ≡ true) × (x ≡ z)) ⊎ ((b ≡ false) × (y ≡ z))
 chosen true x y z e = inl (refl, e)
@@ -94,29 +94,29 @@ numbers_and_bytes n make words c e =
 abbrev IsSaid : List ℕ × Operands → Type 0
 IsSaid row = (words : List (List ℕ)) (c : Command) → command_from row.1 words ≡ Some c → Says (row.0 ∷ words) c
 
-read_said : IsSaid (codes "read", Numbers 4 Read)
+read_said : IsSaid (codes "read", Numbers 4 asks_read)
 read_said words c e =
-    let (t, b, is, same) = numbers_only 4 Read words c e in
+    let (t, b, is, same) = numbers_only 4 asks_read words c e in
     subst (Says (codes "read" ∷ words)) same (ap (λ ws. codes "read" ∷ ws) is, b.0, b.1.0, b.1.1.0, b.1.1.1.0)
 
-write_said : IsSaid (codes "write", NumbersAndBytes 3 Write)
+write_said : IsSaid (codes "write", NumbersAndBytes 3 asks_write)
 write_said words c e =
-    let (t, word, bytes, b, spells, is, same) = numbers_and_bytes 3 Write words c e in
+    let (t, word, bytes, b, spells, is, same) = numbers_and_bytes 3 asks_write words c e in
     subst (Says (codes "write" ∷ words)) same (word, ap (λ ws. codes "write" ∷ ws) is, b.0, b.1.0, b.1.1.0, spells)
 
-open_said : IsSaid (codes "open", Numbers 1 Open)
+open_said : IsSaid (codes "open", Numbers 1 asks_open)
 open_said words c e =
-    let (t, b, is, same) = numbers_only 1 Open words c e in
+    let (t, b, is, same) = numbers_only 1 asks_open words c e in
     subst (Says (codes "open" ∷ words)) same (ap (λ ws. codes "open" ∷ ws) is, b.0)
 
-close_said : IsSaid (codes "close", Numbers 1 Close)
+close_said : IsSaid (codes "close", Numbers 1 asks_close)
 close_said words c e =
-    let (t, b, is, same) = numbers_only 1 Close words c e in
+    let (t, b, is, same) = numbers_only 1 asks_close words c e in
     subst (Says (codes "close" ∷ words)) same (ap (λ ws. codes "close" ∷ ws) is, b.0)
 
-new_said : IsSaid (codes "new", Numbers 3 New)
+new_said : IsSaid (codes "new", Numbers 3 asks_new)
 new_said words c e =
-    let (t, b, is, same) = numbers_only 3 New words c e in
+    let (t, b, is, same) = numbers_only 3 asks_new words c e in
     subst (Says (codes "new" ∷ words)) same (ap (λ ws. codes "new" ∷ ws) is, b.0, b.1.0, b.1.1.0)
 
 heap_said : IsSaid (codes "heap", Numbers 2 Heap)
@@ -124,9 +124,9 @@ heap_said words c e =
     let (t, b, is, same) = numbers_only 2 Heap words c e in
     subst (Says (codes "heap" ∷ words)) same (ap (λ ws. codes "heap" ∷ ws) is, b.0, b.1.0)
 
-logs_said : IsSaid (codes "logs", Numbers 0 Logs)
+logs_said : IsSaid (codes "logs", Numbers 0 (Book Logs))
 logs_said words c e =
-    let (t, b, is, same) = numbers_only 0 Logs words c e in
+    let (t, b, is, same) = numbers_only 0 (Book Logs) words c e in
     subst (Says (codes "logs" ∷ words)) same (ap (λ ws. codes "logs" ∷ ws) is)
 
 rows_said : Each IsSaid table

@@ -5,6 +5,7 @@ use Rattle.std.specs.List.{list_all, join_with_byte, slice_split, onto_first}
 use Rattle.std.proofs.lemmas.Bool.{and_parts, le-leb, lt-leb, cond_both}
 use Rattle.std.proofs.lemmas.Bool.Decides.{nat_tests}
 use Rattle.std.proofs.lemmas.List.Splits.{join_with_byte-slice_split}
+use Rattle.far_trace.specs.declared.text.TheConstants.{LONGEST_TEXT}
 use Rattle.far_trace.specs.Command.{Command}
 use Rattle.far_trace.specs.Grammar.{Line, Skipped, Saying, Bad, line_of, lines_of, line_words, is_plain, is_skipped, saying, command_of, commands_of, is_in_place, onto, read_line, read_lines}
 use Rattle.far_trace.specs.TraceText.{IsPassed, Speaks, LinesSay, TextSays, SaysNothing, none_yet, FirstBad, HaveNone}
@@ -121,10 +122,10 @@ read_said number first (line ∷ lines) cs e = read_one number first line lines 
 -- ---- whole texts
 pub texts_read : (text : List ℕ) (cs : List Command) → TextSays text cs ↔ (commands_of text ≡ Ok cs)
 texts_read text cs = (
-  (λ h. let short : nat_lt 1048576 (length text) ≡ false = lt_false 1048576 (length text) h.0 in
+  (λ h. let short : nat_lt LONGEST_TEXT (length text) ≡ false = lt_false LONGEST_TEXT (length text) h.0 in
       ap (λ b. cond b (Err 0) (read_lines 1 true (lines_of text))) short ∙ said_read 1 true (lines_of text) cs h.1),
-  cond_both (nat_lt 1048576 (length text)) (Err 0) (read_lines 1 true (lines_of text)) (λ (x : Result (List Command) ℕ). x ≡ Ok cs → TextSays text cs)
-      (λ _ e. absurd cc) (λ within e. (lt_within 1048576 (length text) within, read_said 1 true (lines_of text) cs e)),
+  cond_both (nat_lt LONGEST_TEXT (length text)) (Err 0) (read_lines 1 true (lines_of text)) (λ (x : Result (List Command) ℕ). x ≡ Ok cs → TextSays text cs)
+      (λ _ e. absurd cc) (λ within e. (lt_within LONGEST_TEXT (length text) within, read_said 1 true (lines_of text) cs e)),
 )
   where
     lt_false : (most n : ℕ) → n ≤ most → nat_lt most n ≡ false
@@ -172,10 +173,10 @@ bad_first : (number : ℕ) (first : Bool) (lines : List (List ℕ)) (n : ℕ) �
 bad_first number first [] n e = absurd cc
 bad_first number first (line ∷ lines) n e = bad_one number first line lines n (line_of line) refl (λ f h. bad_first (number + 1) f lines n h) e
 
-pub first_bad : (text : List ℕ) (n : ℕ) → commands_of text ≡ Err n → ((n ≡ 0) × (1048576 < length text)) ⊎ ((length text ≤ 1048576) × FirstBad 1 true (lines_of text) n)
-first_bad text n = cond_both (nat_lt 1048576 (length text)) (Err 0) (read_lines 1 true (lines_of text))
-    (λ (x : Result (List Command) ℕ). x ≡ Err n → ((n ≡ 0) × (1048576 < length text)) ⊎ ((length text ≤ 1048576) × FirstBad 1 true (lines_of text) n))
-    (λ long e. inl (cc, past 1048576 (length text) long)) (λ within e. inr (inside 1048576 (length text) within, bad_first 1 true (lines_of text) n e))
+pub first_bad : (text : List ℕ) (n : ℕ) → commands_of text ≡ Err n → ((n ≡ 0) × (LONGEST_TEXT < length text)) ⊎ ((length text ≤ LONGEST_TEXT) × FirstBad 1 true (lines_of text) n)
+first_bad text n = cond_both (nat_lt LONGEST_TEXT (length text)) (Err 0) (read_lines 1 true (lines_of text))
+    (λ (x : Result (List Command) ℕ). x ≡ Err n → ((n ≡ 0) × (LONGEST_TEXT < length text)) ⊎ ((length text ≤ LONGEST_TEXT) × FirstBad 1 true (lines_of text) n))
+    (λ long e. inl (cc, past LONGEST_TEXT (length text) long)) (λ within e. inr (inside LONGEST_TEXT (length text) within, bad_first 1 true (lines_of text) n e))
   where
     past : (most n : ℕ) → nat_lt most n ≡ true → most < n
     past most n e = grind (arith, nat_tests)

@@ -26,7 +26,7 @@ use Rattle.far_core.proofs.KeepPlace.{header}
 use Rattle.far_core.proofs.Owing.{is_test}
 use Rattle.far_core.proofs.Put.{put_both, put_same, put_other}
 use Rattle.far_trace.specs.Moment.{moment_of}
-use Rattle.far_trace.specs.Command.{Command, Heap, New, Open, Write, Read, Close, Logs}
+use Rattle.far_trace.specs.Command.{Command, Heap, New, Open, Write, Read, Close, Logs, Mutator, Book}
 use Rattle.far_trace.specs.Interpreter.{AllBytes, named_by, next_after}
 use Rattle.far_trace.specs.EventRows.{after_events, AllSucceed, AtHand}
 use Rattle.far_trace.specs.Tidy.{Tidy}
@@ -306,8 +306,8 @@ pub new_sizes : (m mutators len ds : ℕ) → (nat_lt m mutators && nat_lt ds 25
 new_sizes m mutators len ds a b = (grind (arith, nat_tests), grind (arith, nat_tests), grind (arith, nat_tests), grind (arith, nat_tests))
 
 -- the events of a new object
-new_turned : (s : State) (next : ℕ → ℕ) (m len ds : ℕ) → Law s → Tidy s next → refusal (moment_of s) (New m len ds) ≡ None →
-    Turned s (put next m (next m + 1)) (turn_events (moment_of s) (New m len ds)) (turn_effect (moment_of s) (New m len ds)).core
+new_turned : (s : State) (next : ℕ → ℕ) (m len ds : ℕ) → Law s → Tidy s next → refusal (moment_of s) (Mutator m (New len ds)) ≡ None →
+    Turned s (put next m (next m + 1)) (turn_events (moment_of s) (Mutator m (New len ds))) (turn_effect (moment_of s) (Mutator m (New len ds))).core
 new_turned s next m len ds law tidy e =
     let h = four (nat_lt m s.mutators && nat_lt ds 256) (nat_lt 0 len && nat_le len LONGEST) (is_some (lowest_cell s m)) (is_some (room s (size_of len) true)) Range Length NoPointer NoRoom e in
     let sizes = new_sizes m s.mutators len ds h.0 h.1 in
@@ -442,11 +442,11 @@ none_turned s next law tidy = record { succeed = tt; tidy = tidy; law = law; fit
 turned : (s : State) (next : ℕ → ℕ) (c : Command) → Law s → Tidy s next → AllBytes c → refusal (moment_of s) c ≡ None →
     Turned s (named_by c next) (turn_events (moment_of s) c) (turn_effect (moment_of s) c).core
 turned s next (Heap logs mutators) law tidy small e = none_turned s next law tidy
-turned s next (New m len ds) law tidy small e = new_turned s next m len ds law tidy e
-turned s next (Open m) law tidy small e =
+turned s next (Mutator m (New len ds)) law tidy small e = new_turned s next m len ds law tidy e
+turned s next (Mutator m Open) law tidy small e =
     let h = two (nat_lt m s.mutators) (is_opened s m) Range AlreadyOpen e in
     open_turned s next m law tidy (shut s m h.0 h.1)
-turned s next (Write m p from bytes) law tidy small e =
+turned s next (Mutator m (Write p from bytes)) law tidy small e =
     let access = access_fact s next m p from (length bytes) law tidy e in
     record {
       succeed = write_succeeds s next m p from bytes law tidy access small;
@@ -455,7 +455,7 @@ turned s next (Write m p from bytes) law tidy small e =
       fit = write_fits s next m p from bytes law tidy access small;
       ends = write_is s next m p from bytes law tidy access small;
     }
-turned s next (Read m p from len) law tidy small e =
+turned s next (Mutator m (Read p from len)) law tidy small e =
     let access = access_fact s next m p from len law tidy e in
     record {
       succeed = read_succeeds s next m p from len law tidy access;
@@ -464,12 +464,12 @@ turned s next (Read m p from len) law tidy small e =
       fit = read_fits s next m p from len law tidy access;
       ends = read_is s next m p from len law tidy access;
     }
-turned s next (Close m) law tidy small e = close_turned s next m law tidy (two_open (nat_lt m s.mutators) (is_opened s m) e) where
+turned s next (Mutator m Close) law tidy small e = close_turned s next m law tidy (two_open (nat_lt m s.mutators) (is_opened s m) e) where
   two_open : (a b : Bool) → first_cause ((not a, Range) ∷ (not b, Closed) ∷ []) ≡ None → b ≡ true
   two_open true true f = refl
   two_open true false f = absurd cc
   two_open false b f = absurd cc
-turned s next Logs law tidy small e = none_turned s next law tidy
+turned s next (Book Logs) law tidy small e = none_turned s next law tidy
 
 -- each command: a refused one does nothing
 turn_at : (s : State) (next : ℕ → ℕ) (c : Command) (o : Option Refusal) → refusal (moment_of s) c ≡ o → Law s → Tidy s next → AllBytes c →

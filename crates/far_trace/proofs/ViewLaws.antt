@@ -20,7 +20,7 @@ use Rattle.far_core.proofs.Leaving.{held_stays}
 use Rattle.far_core.proofs.Put.{put_same, put_other}
 use Rattle.far_trace.specs.Moment.{Moment, moment_of}
 use Rattle.far_trace.specs.Answers.{Answered, Commanded, IsMoment}
-use Rattle.far_trace.specs.Command.{Command, Heap, New, Open, Write, Read, Close, Logs}
+use Rattle.far_trace.specs.Command.{Command, Heap, New, Open, Write, Read, Close, Logs, Mutator, Book}
 use Rattle.far_trace.specs.Later.{IsLater, AreLater}
 use Rattle.far_trace.specs.Headline.{LogsStay, StayThrough, ViewsObject, ViewsNothing, ViewsAfter}
 use Rattle.far_trace.specs.EventRows.{after_events, Succeeds, AllSucceed}
@@ -129,22 +129,22 @@ pub views_after : (s : State) (c : Command) (o : Option Refusal) → AllSucceed 
 views_after s c (Some why) ok = refused_views s c why where
   refused_views : (s : State) (c : Command) (why : Refusal) → ViewsAfter (moment_of s) c (Refused why) (moment_of s)
   refused_views s (Heap logs mutators) why = refl
-  refused_views s (New m len ds) why = refl
-  refused_views s (Open m) why = refl
-  refused_views s (Write m p from bytes) why = refl
-  refused_views s (Read m p from len) why = refl
-  refused_views s (Close m) why = refl
-  refused_views s Logs why = refl
+  refused_views s (Mutator m (New len ds)) why = refl
+  refused_views s (Mutator m Open) why = refl
+  refused_views s (Mutator m (Write p from bytes)) why = refl
+  refused_views s (Mutator m (Read p from len)) why = refl
+  refused_views s (Mutator m Close) why = refl
+  refused_views s (Book Logs) why = refl
 views_after s (Heap logs mutators) None ok = refl
-views_after s (New m len ds) None ok = row_stays s (turn_events (moment_of s) (New m len ds)) (news m len ds (lowest_cell s m) (room s (size_of len) true))
-views_after s (Open m) None ok = row_stays s (open_events s m) (opens s m)
-views_after s (Write m p from bytes) None ok =
+views_after s (Mutator m (New len ds)) None ok = row_stays s (turn_events (moment_of s) (Mutator m (New len ds))) (news m len ds (lowest_cell s m) (room s (size_of len) true))
+views_after s (Mutator m Open) None ok = row_stays s (open_events s m) (opens s m)
+views_after s (Mutator m (Write p from bytes)) None ok =
     let new : List ℕ = spliced (data_of s p) from bytes in
     viewed_twice_behind s m p (part_events m p from (length bytes)) (store_events m p (first_word from) (words_touched from (length bytes)) new) ok
     (parts m p from (length bytes)) (stores m p (first_word from) (words_touched from (length bytes)) new)
-views_after s (Read m p from len) None ok = viewed_behind s m p (load_events m p (first_word from) (words_touched from len)) ok (loads m p (first_word from) (words_touched from len))
-views_after s (Close m) None ok = close_views s m ok.0
-views_after s Logs None ok = refl
+views_after s (Mutator m (Read p from len)) None ok = viewed_behind s m p (load_events m p (first_word from) (words_touched from len)) ok (loads m p (first_word from) (words_touched from len))
+views_after s (Mutator m Close) None ok = close_views s m ok.0
+views_after s (Book Logs) None ok = refl
 
 pub views_last : (now : Moment) (c : Command) (r : Reply) (next : Moment) → IsMoment now → IsLater c → Commanded now c r next → ViewsAfter now c r next
 views_last now c r next is later h =
@@ -163,19 +163,19 @@ view_no_close s m p es q = cond_both (is_some (s.held p)) [] (Pins m p ∷ []) (
 
 closes_last : (s : State) (c : Command) → ClosesLast (turn_events (moment_of s) c)
 closes_last s (Heap logs mutators) = tt
-closes_last s (New m len ds) = none_closes (turn_events (moment_of s) (New m len ds)) (no_close (turn_events (moment_of s) (New m len ds)) (news m len ds (lowest_cell s m) (room s (size_of len) true)))
-closes_last s (Open m) = none_closes (open_events s m) (no_close (open_events s m) (opens s m))
-closes_last s (Write m p from bytes) =
+closes_last s (Mutator m (New len ds)) = none_closes (turn_events (moment_of s) (Mutator m (New len ds))) (no_close (turn_events (moment_of s) (Mutator m (New len ds))) (news m len ds (lowest_cell s m) (room s (size_of len) true)))
+closes_last s (Mutator m Open) = none_closes (open_events s m) (no_close (open_events s m) (opens s m))
+closes_last s (Mutator m (Write p from bytes)) =
     let new : List ℕ = spliced (data_of s p) from bytes in
     let part : List Event = part_events m p from (length bytes) in
     let stored : List Event = store_events m p (first_word from) (words_touched from (length bytes)) new in
     none_closes (view_events s m p ++ part ++ stored) (Each-append NoClose (view_events s m p ++ part) stored
     (view_no_close s m p part (no_close part (parts m p from (length bytes)))) (no_close stored (stores m p (first_word from) (words_touched from (length bytes)) new)))
-closes_last s (Read m p from len) =
+closes_last s (Mutator m (Read p from len)) =
     let loaded : List Event = load_events m p (first_word from) (words_touched from len) in
     none_closes (view_events s m p ++ loaded) (view_no_close s m p loaded (no_close loaded (loads m p (first_word from) (words_touched from len))))
-closes_last s (Close m) = tt
-closes_last s Logs = tt
+closes_last s (Mutator m Close) = tt
+closes_last s (Book Logs) = tt
 
 command_closes_last : (s : State) (c : Command) (o : Option Refusal) → ClosesLast (unless o (λ _. []) (turn_events (moment_of s) c))
 command_closes_last s c None = closes_last s c

@@ -5,7 +5,7 @@ use Rattle.far_word.specs.declared.refused.Refused.TheVariants.{NoRoom, NoPointe
 use Rattle.far_word.specs.declared.sizes.TheConstants.{CELLS, LONGEST}
 use Rattle.far_core.specs.state.State.{put}
 use Rattle.far_core.specs.world.World.{World, Object}
-use Rattle.far_trace.specs.Command.{Command, Heap, New, Open, Write, Read, Close, Logs}
+use Rattle.far_trace.specs.Command.{Command, Heap, New, Open, Write, Read, Close, Mutator, Book}
 use Rattle.far_trace.specs.Reply.{Reply, Done, Pointer, Data, Refused}
 use Rattle.far_trace.specs.Objects.{spliced}
 
@@ -33,34 +33,30 @@ HasLeft m o = (p : ℕ) × (p / CELLS ≡ m) × (o.object p ≡ None)
 -- a command of the mutator m with its reply takes what it knows from o to q. A refusal is the first of its row that applies; which of its own
 -- numbers a new object gets, and whether 2 or 3 comes where nothing earlier applies, depends on cells and logs, which it doesn't know
 abbrev pub Knows : ℕ → Own → Command → Reply → Own → Type 0
-Knows m o (New _ len ds) (Pointer p) q = (ds < 256) × (0 < len) × (len ≤ LONGEST) × (p / CELLS ≡ m) × (o.object p ≡ None) × (q ≡ record o { object = put o.object p (Some (replicate len 0)) })
-Knows m o (New _ len ds) (Refused Range) q = (256 ≤ ds) × (q ≡ o)
-Knows m o (New _ len ds) (Refused Length) q = (ds < 256) × ((len ≡ 0) ⊎ (LONGEST < len)) × (q ≡ o)
-Knows m o (New _ len ds) (Refused NoPointer) q = (ds < 256) × (0 < len) × (len ≤ LONGEST) × (q ≡ o)
-Knows m o (New _ len ds) (Refused NoRoom) q = (ds < 256) × (0 < len) × (len ≤ LONGEST) × HasLeft m o × (q ≡ o)
-Knows m o (Open _) Done q = (o.opened ≡ false) × (q ≡ record o { opened = true })
-Knows m o (Open _) (Refused AlreadyOpen) q = (o.opened ≡ true) × (q ≡ o)
-Knows m o (Close _) Done q = (o.opened ≡ true) × (q ≡ record o { opened = false; viewed = λ _. false })
-Knows m o (Close _) (Refused Closed) q = (o.opened ≡ false) × (q ≡ o)
-Knows m o (Read _ p from len) (Data bytes) q = (o.opened ≡ true) × (q ≡ record o { viewed = put o.viewed p true }) × ((all : List ℕ) × (o.object p ≡ Some all) × IsIn all from len × (bytes ≡ slice_range all from (from + len)))
-Knows m o (Read _ p from len) (Refused Closed) q = (o.opened ≡ false) × (q ≡ o)
-Knows m o (Read _ p from len) (Refused NotHeld) q = (o.opened ≡ true) × (o.object p ≡ None) × (q ≡ o)
-Knows m o (Read _ p from len) (Refused Range) q = (o.opened ≡ true) × (q ≡ o) × ((all : List ℕ) × (o.object p ≡ Some all) × IsOut all from len)
-Knows m o (Write _ p from new) Done q = (o.opened ≡ true) × ((all : List ℕ) × (o.object p ≡ Some all) × IsIn all from (length new) × (q ≡ record o { object = put o.object p (Some (spliced all from new)); viewed = put o.viewed p true }))
-Knows m o (Write _ p from new) (Refused Closed) q = (o.opened ≡ false) × (q ≡ o)
-Knows m o (Write _ p from new) (Refused NotHeld) q = (o.opened ≡ true) × (o.object p ≡ None) × (q ≡ o)
-Knows m o (Write _ p from new) (Refused Range) q = (o.opened ≡ true) × (q ≡ o) × ((all : List ℕ) × (o.object p ≡ Some all) × IsOut all from (length new))
+Knows m o (Mutator _ (New len ds)) (Pointer p) q = (ds < 256) × (0 < len) × (len ≤ LONGEST) × (p / CELLS ≡ m) × (o.object p ≡ None) × (q ≡ record o { object = put o.object p (Some (replicate len 0)) })
+Knows m o (Mutator _ (New len ds)) (Refused Range) q = (256 ≤ ds) × (q ≡ o)
+Knows m o (Mutator _ (New len ds)) (Refused Length) q = (ds < 256) × ((len ≡ 0) ⊎ (LONGEST < len)) × (q ≡ o)
+Knows m o (Mutator _ (New len ds)) (Refused NoPointer) q = (ds < 256) × (0 < len) × (len ≤ LONGEST) × (q ≡ o)
+Knows m o (Mutator _ (New len ds)) (Refused NoRoom) q = (ds < 256) × (0 < len) × (len ≤ LONGEST) × HasLeft m o × (q ≡ o)
+Knows m o (Mutator _ Open) Done q = (o.opened ≡ false) × (q ≡ record o { opened = true })
+Knows m o (Mutator _ Open) (Refused AlreadyOpen) q = (o.opened ≡ true) × (q ≡ o)
+Knows m o (Mutator _ Close) Done q = (o.opened ≡ true) × (q ≡ record o { opened = false; viewed = λ _. false })
+Knows m o (Mutator _ Close) (Refused Closed) q = (o.opened ≡ false) × (q ≡ o)
+Knows m o (Mutator _ (Read p from len)) (Data bytes) q = (o.opened ≡ true) × (q ≡ record o { viewed = put o.viewed p true }) × ((all : List ℕ) × (o.object p ≡ Some all) × IsIn all from len × (bytes ≡ slice_range all from (from + len)))
+Knows m o (Mutator _ (Read p from len)) (Refused Closed) q = (o.opened ≡ false) × (q ≡ o)
+Knows m o (Mutator _ (Read p from len)) (Refused NotHeld) q = (o.opened ≡ true) × (o.object p ≡ None) × (q ≡ o)
+Knows m o (Mutator _ (Read p from len)) (Refused Range) q = (o.opened ≡ true) × (q ≡ o) × ((all : List ℕ) × (o.object p ≡ Some all) × IsOut all from len)
+Knows m o (Mutator _ (Write p from new)) Done q = (o.opened ≡ true) × ((all : List ℕ) × (o.object p ≡ Some all) × IsIn all from (length new) × (q ≡ record o { object = put o.object p (Some (spliced all from new)); viewed = put o.viewed p true }))
+Knows m o (Mutator _ (Write p from new)) (Refused Closed) q = (o.opened ≡ false) × (q ≡ o)
+Knows m o (Mutator _ (Write p from new)) (Refused NotHeld) q = (o.opened ≡ true) × (o.object p ≡ None) × (q ≡ o)
+Knows m o (Mutator _ (Write p from new)) (Refused Range) q = (o.opened ≡ true) × (q ≡ o) × ((all : List ℕ) × (o.object p ≡ Some all) × IsOut all from (length new))
 Knows m o _ _ q = ⊥
 
 -- whose command it is, none's for the heap and the logs
 abbrev pub speaker : Command → Option ℕ
 speaker (Heap logs mutators) = None
-speaker (New m len ds) = Some m
-speaker (Open m) = Some m
-speaker (Write m p from bytes) = Some m
-speaker (Read m p from len) = Some m
-speaker (Close m) = Some m
-speaker Logs = None
+speaker (Mutator m request) = Some m
+speaker (Book inquiry) = None
 
 abbrev pub is_by : ℕ → Option ℕ → Bool
 is_by m None = false

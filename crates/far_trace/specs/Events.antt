@@ -9,7 +9,7 @@ use Rattle.far_core.specs.declared.event.Event.{Event}
 use Rattle.far_core.specs.declared.event.Event.TheVariants.{ReadEpoch as ReadsEpoch, Open as Opens, Pin as Pins, Load as Loads, Store as Stores, Close as Closes, Adopt as Adopts, Put as Puts, Name as Names}
 use Rattle.far_core.specs.state.Room.{room}
 use Rattle.far_core.specs.state.State.{State}
-use Rattle.far_trace.specs.Command.{Command, Heap, New, Open, Write, Read, Close, Logs}
+use Rattle.far_trace.specs.Command.{Command, Heap, New, Open, Write, Read, Close, Logs, Mutator, Book}
 use Rattle.far_trace.specs.Effects.{new_word}
 use Rattle.far_trace.specs.Moment.{Moment}
 use Rattle.far_trace.specs.Objects.{data_of, spliced, lowest_cell}
@@ -64,14 +64,14 @@ store_events m p first count after = map (λ i. Stores m p i (packed_word after 
 
 abbrev pub turn_events : Moment → Command → List Event
 turn_events now (Heap logs mutators) = []
-turn_events now (New m len ds) = new_events m len ds (lowest_cell now.core m) (room now.core (size_of len) true)
-turn_events now (Open m) = open_events now.core m
-turn_events now (Write m p from bytes) =
+turn_events now (Mutator m (New len ds)) = new_events m len ds (lowest_cell now.core m) (room now.core (size_of len) true)
+turn_events now (Mutator m Open) = open_events now.core m
+turn_events now (Mutator m (Write p from bytes)) =
     view_events now.core m p ++ part_events m p from (length bytes)
     ++ store_events m p (first_word from) (words_touched from (length bytes)) (spliced (data_of now.core p) from bytes)
-turn_events now (Read m p from len) = view_events now.core m p ++ load_events m p (first_word from) (words_touched from len)
-turn_events now (Close m) = Closes m ∷ []
-turn_events now Logs = []
+turn_events now (Mutator m (Read p from len)) = view_events now.core m p ++ load_events m p (first_word from) (words_touched from len)
+turn_events now (Mutator m Close) = Closes m ∷ []
+turn_events now (Book Logs) = []
 
 -- a refused command makes no event
 abbrev pub events_for : Moment → Command → List Event

@@ -3,7 +3,7 @@ use Rattle.std.specs.Prelude.{◌≡◌, ℕ, Bool, ◌&&◌, ◌^◌, nat_lt, n
 use Rattle.std.specs.Str.{bytes_eq}
 use Rattle.std.specs.Str.Parse.{digits_value}
 use Rattle.std.specs.List.{slice_split, list_all}
-use Rattle.far_trace.specs.Command.{Command, Heap, New, Open, Write, Read, Close, Logs}
+use Rattle.far_trace.specs.Command.{Command, Heap, New, Open, Write, Read, Close, Logs, Mutator, Book}
 use Rattle.far_trace.specs.HexWord.{is_hex_word, hex_bytes}
 use Rattle.far_trace.specs.declared.hex_word.TheConstants.{LONGEST_LINE}
 use Rattle.far_trace.specs.declared.text.TheConstants.{LONGEST_TEXT}
@@ -60,15 +60,31 @@ command_from (Numbers n make) words = numbers_then n make (λ command behind. en
 command_from (NumbersAndBytes n make) words = numbers_then n make (λ command behind. next_bytes behind >>= λ bytes. ended bytes.1 (command bytes.0)) words
 
 -- ---- the commands by their names
+-- a mutator's number stands before what it asks for
+abbrev pub asks_read : From 4 Command
+asks_read m p from len = Mutator m (Read p from len)
+
+abbrev pub asks_write : From 3 (List ℕ → Command)
+asks_write m p from bytes = Mutator m (Write p from bytes)
+
+abbrev pub asks_open : From 1 Command
+asks_open m = Mutator m Open
+
+abbrev pub asks_close : From 1 Command
+asks_close m = Mutator m Close
+
+abbrev pub asks_new : From 3 Command
+asks_new m len structure = Mutator m (New len structure)
+
 abbrev pub table : List (List ℕ × Operands)
 table =
-    (codes "read", Numbers 4 Read)
-    ∷ (codes "write", NumbersAndBytes 3 Write)
-    ∷ (codes "open", Numbers 1 Open)
-    ∷ (codes "close", Numbers 1 Close)
-    ∷ (codes "new", Numbers 3 New)
+    (codes "read", Numbers 4 asks_read)
+    ∷ (codes "write", NumbersAndBytes 3 asks_write)
+    ∷ (codes "open", Numbers 1 asks_open)
+    ∷ (codes "close", Numbers 1 asks_close)
+    ∷ (codes "new", Numbers 3 asks_new)
     ∷ (codes "heap", Numbers 2 Heap)
-    ∷ (codes "logs", Numbers 0 Logs)
+    ∷ (codes "logs", Numbers 0 (Book Logs))
     ∷ []
 
 -- the command of this name in a table, by the words behind the name
@@ -112,12 +128,8 @@ line_of line =
 -- whether a command may stand where it does: `heap` first, and nowhere else
 abbrev pub is_in_place : Bool → Command → Bool
 is_in_place is_first (Heap _ _) = is_first
-is_in_place is_first (New _ _ _) = not is_first
-is_in_place is_first (Open _) = not is_first
-is_in_place is_first (Write _ _ _ _) = not is_first
-is_in_place is_first (Read _ _ _ _) = not is_first
-is_in_place is_first (Close _) = not is_first
-is_in_place is_first Logs = not is_first
+is_in_place is_first (Mutator _ _) = not is_first
+is_in_place is_first (Book _) = not is_first
 
 abbrev pub onto : Command → Result (List Command) ℕ → Result (List Command) ℕ
 onto command (Ok commands) = Ok (command ∷ commands)

@@ -18,7 +18,7 @@ use Rattle.far_core.specs.world.World.{Group}
 use Rattle.far_core.specs.world.WorldOf.{world_of}
 use Rattle.far_trace.specs.Alone.{Alone, Knows, Own, nothing}
 use Rattle.far_trace.specs.Answers.{Answered, Answers, BeginsWithHeap, Commanded, IsMoment, shape_of, first_moment}
-use Rattle.far_trace.specs.Command.{Command, Heap as HeapLine, New, Open, Write, Read, Close, Logs as AsksLogs}
+use Rattle.far_trace.specs.Command.{Command, Heap as HeapLine, New, Open, Write, Read, Close, Logs as AsksLogs, Mutator, Book}
 use Rattle.far_trace.specs.Grammar.{commands_of}
 use Rattle.far_trace.specs.Moment.{Moment}
 use Rattle.far_trace.specs.Later.{IsLater, AreLater}
@@ -61,20 +61,20 @@ IsWhole t = ((p : ℕ) → HasOnePlace t p) × ((l : ℕ) → live_bytes t l + d
 
 -- the refusals that a command may have where all objects are near: none for want of memory, none of a device, none that tells a mark
 abbrev pub MayRefuse : Command → Refusal → Type 0
-MayRefuse (New m len ds) Range = Unit {0}
-MayRefuse (New m len ds) Length = Unit {0}
-MayRefuse (New m len ds) NoPointer = Unit {0}
-MayRefuse (New m len ds) NoRoom = Unit {0}
-MayRefuse (Open m) Range = Unit {0}
-MayRefuse (Open m) AlreadyOpen = Unit {0}
-MayRefuse (Close m) Range = Unit {0}
-MayRefuse (Close m) Closed = Unit {0}
-MayRefuse (Read m p from len) Range = Unit {0}
-MayRefuse (Read m p from len) Closed = Unit {0}
-MayRefuse (Read m p from len) NotHeld = Unit {0}
-MayRefuse (Write m p from bytes) Range = Unit {0}
-MayRefuse (Write m p from bytes) Closed = Unit {0}
-MayRefuse (Write m p from bytes) NotHeld = Unit {0}
+MayRefuse (Mutator m (New len ds)) Range = Unit {0}
+MayRefuse (Mutator m (New len ds)) Length = Unit {0}
+MayRefuse (Mutator m (New len ds)) NoPointer = Unit {0}
+MayRefuse (Mutator m (New len ds)) NoRoom = Unit {0}
+MayRefuse (Mutator m Open) Range = Unit {0}
+MayRefuse (Mutator m Open) AlreadyOpen = Unit {0}
+MayRefuse (Mutator m Close) Range = Unit {0}
+MayRefuse (Mutator m Close) Closed = Unit {0}
+MayRefuse (Mutator m (Read p from len)) Range = Unit {0}
+MayRefuse (Mutator m (Read p from len)) Closed = Unit {0}
+MayRefuse (Mutator m (Read p from len)) NotHeld = Unit {0}
+MayRefuse (Mutator m (Write p from bytes)) Range = Unit {0}
+MayRefuse (Mutator m (Write p from bytes)) Closed = Unit {0}
+MayRefuse (Mutator m (Write p from bytes)) NotHeld = Unit {0}
 MayRefuse c why = ⊥
 
 -- a line tells a log's kind and its live, dead and unused bytes, which make 1,024
@@ -103,20 +103,16 @@ pub record ViewsNothing (s t : State) (m : ℕ) : Type 0 where
 
 -- what a command with its reply does to the views
 abbrev pub ViewsAfter : Moment → Command → Reply → Moment → Type 0
-ViewsAfter now (Read m p from len) (Data bytes) after = ViewsObject now.core after.core p
-ViewsAfter now (Write m p from bytes) Done after = ViewsObject now.core after.core p
-ViewsAfter now (Close m) Done after = ViewsNothing now.core after.core m
+ViewsAfter now (Mutator m (Read p from len)) (Data bytes) after = ViewsObject now.core after.core p
+ViewsAfter now (Mutator m (Write p from bytes)) Done after = ViewsObject now.core after.core p
+ViewsAfter now (Mutator m Close) Done after = ViewsNothing now.core after.core m
 ViewsAfter now c r after = after.core.held ≡ now.core.held
 
 -- the line has the mutator's number
 abbrev pub IsSaidBy : ℕ → Command → Type 0
 IsSaidBy m (HeapLine logs mutators) = ⊥
-IsSaidBy m (New k len ds) = m ≡ k
-IsSaidBy m (Open k) = m ≡ k
-IsSaidBy m (Write k p from bytes) = m ≡ k
-IsSaidBy m (Read k p from len) = m ≡ k
-IsSaidBy m (Close k) = m ≡ k
-IsSaidBy m AsksLogs = ⊥
+IsSaidBy m (Mutator k request) = m ≡ k
+IsSaidBy m (Book inquiry) = ⊥
 
 -- a reply that its lines tell in full: its numbers have 64 bits, its bytes are bytes, and behind a refusal's number stands a line alone, or nothing
 pub record IsPlainLine (line : LogLine) : Type 0 where
@@ -207,7 +203,7 @@ StrangersAreRefused = (now : Moment) (c : Command) (r : Reply) (after : Moment) 
 
 -- what `logs` tells
 abbrev pub LogsAreTold : Type 0
-LogsAreTold = (now : Moment) (r : Reply) (after : Moment) → Law now.core → Commanded now AsksLogs r after → TellsAll now r
+LogsAreTold = (now : Moment) (r : Reply) (after : Moment) → Law now.core → Commanded now (Book AsksLogs) r after → TellsAll now r
 
 -- objects stay whole through commands
 abbrev pub ObjectsStayWhole : Type 0
@@ -234,18 +230,18 @@ HeapsBeginLawful = (logs mutators : ℕ) → is_shape (shape_of logs mutators) �
 
 -- a new object's pointer is its owner's lowest cell that is 0
 abbrev pub NewTakesTheLowest : Type 0
-NewTakesTheLowest = (now : Moment) (m len ds p : ℕ) (after : Moment) → Commanded now (New m len ds) (Pointer p) after →
+NewTakesTheLowest = (now : Moment) (m len ds p : ℕ) (after : Moment) → Commanded now (Mutator m (New len ds)) (Pointer p) after →
     (m * CELLS ≤ p) × (p < m * CELLS + CELLS) × (now.core.cell p ≡ 0) × ((q : ℕ) → m * CELLS ≤ q → q < p → now.core.cell q ≢ 0)
 
 -- refused 3 only where none of the owner's cells is 0, and 2 only where there is no room
 abbrev pub NoneIsLeft : Type 0
 NoneIsLeft = (now : Moment) (m len ds : ℕ) (after : Moment) →
-    (Commanded now (New m len ds) (Refused NoPointer) after → (q : ℕ) → m * CELLS ≤ q → q < m * CELLS + CELLS → now.core.cell q ≢ 0)
-    × (Commanded now (New m len ds) (Refused NoRoom) after → room now.core (size_of len) true ≡ None)
+    (Commanded now (Mutator m (New len ds)) (Refused NoPointer) after → (q : ℕ) → m * CELLS ≤ q → q < m * CELLS + CELLS → now.core.cell q ≢ 0)
+    × (Commanded now (Mutator m (New len ds)) (Refused NoRoom) after → room now.core (size_of len) true ≡ None)
 
 -- a new object in range is refused 3 exactly where each of the owner's cells is taken, else 2 exactly where there is no room, and else made
 abbrev pub NewIsMade : Type 0
-NewIsMade = (now : Moment) (m len ds : ℕ) (r : Reply) (after : Moment) → m < now.core.mutators → ds < 256 → 0 < len → len ≤ LONGEST → Commanded now (New m len ds) r after →
+NewIsMade = (now : Moment) (m len ds : ℕ) (r : Reply) (after : Moment) → m < now.core.mutators → ds < 256 → 0 < len → len ≤ LONGEST → Commanded now (Mutator m (New len ds)) r after →
     (((q : ℕ) → m * CELLS ≤ q → q < m * CELLS + CELLS → now.core.cell q ≢ 0) → r ≡ Refused NoPointer)
     × ((q : ℕ) → m * CELLS ≤ q → q < m * CELLS + CELLS → now.core.cell q ≡ 0 →
     (room now.core (size_of len) true ≡ None → r ≡ Refused NoRoom) × ((place : Place) → room now.core (size_of len) true ≡ Some place → (p : ℕ) × (r ≡ Pointer p)))
@@ -269,5 +265,5 @@ OwnLinesCount = (m : ℕ) (o : Own) (c : Command) (r : Reply) (cs : List Command
 
 -- a new object has its owner, its data structure and so many zeros, in the log of the place that room says; all other objects stay
 abbrev pub NewMakesItsObject : Type 0
-NewMakesItsObject = (now : Moment) (m len ds p : ℕ) (after : Moment) → IsMoment now → Commanded now (New m len ds) (Pointer p) after → (place : Place) × (room now.core (size_of len) true ≡ Some place)
+NewMakesItsObject = (now : Moment) (m len ds p : ℕ) (after : Moment) → IsMoment now → Commanded now (Mutator m (New len ds)) (Pointer p) after → (place : Place) × (room now.core (size_of len) true ≡ Some place)
     × ((world_of after.core).object ≡ put (world_of now.core).object p (Some record { owner = m; ds = ds; bytes = replicate len 0; home = Group place.log }))

@@ -2,7 +2,7 @@
 use Rattle.std.specs.Prelude.{◌≡◌, ℕ, ◌<◌, ◌≤◌, ◌^◌, List, [], ◌∷◌, length, codes, decimal, Ok}
 use Rattle.hex.specs.Hex.{decode_of}
 use Rattle.far_trace.specs.declared.hex_word.TheConstants.{LONGEST_LINE}
-use Rattle.far_trace.specs.Command.{Command, Heap, New, Open, Write, Read, Close, Logs}
+use Rattle.far_trace.specs.Command.{Command, Heap, New, Open, Write, Read, Close, Logs, Mutator, Book}
 
 -- A word in hex stands for these bytes, one at least; a word is no longer than a line.
 abbrev pub Spells : List ℕ → List ℕ → Type 0
@@ -12,15 +12,15 @@ Spells word bytes = (decode_of word ≡ Ok bytes) × (0 < length bytes) × (leng
 abbrev pub Says : List (List ℕ) → Command → Type 0
 Says words (Heap logs mutators) =
     (words ≡ codes "heap" ∷ decimal logs ∷ decimal mutators ∷ []) × (logs < 2 ^ 64) × (mutators < 2 ^ 64)
-Says words (New mutator len structure) =
+Says words (Mutator mutator (New len structure)) =
     (words ≡ codes "new" ∷ decimal mutator ∷ decimal len ∷ decimal structure ∷ [])
     × (mutator < 2 ^ 64) × (len < 2 ^ 64) × (structure < 2 ^ 64)
-Says words (Open mutator) = (words ≡ codes "open" ∷ decimal mutator ∷ []) × (mutator < 2 ^ 64)
-Says words (Write mutator pointer from bytes) = (word : List ℕ)
+Says words (Mutator mutator Open) = (words ≡ codes "open" ∷ decimal mutator ∷ []) × (mutator < 2 ^ 64)
+Says words (Mutator mutator (Write pointer from bytes)) = (word : List ℕ)
     × (words ≡ codes "write" ∷ decimal mutator ∷ decimal pointer ∷ decimal from ∷ word ∷ [])
     × (mutator < 2 ^ 64) × (pointer < 2 ^ 64) × (from < 2 ^ 64) × Spells word bytes
-Says words (Read mutator pointer from len) =
+Says words (Mutator mutator (Read pointer from len)) =
     (words ≡ codes "read" ∷ decimal mutator ∷ decimal pointer ∷ decimal from ∷ decimal len ∷ [])
     × (mutator < 2 ^ 64) × (pointer < 2 ^ 64) × (from < 2 ^ 64) × (len < 2 ^ 64)
-Says words (Close mutator) = (words ≡ codes "close" ∷ decimal mutator ∷ []) × (mutator < 2 ^ 64)
-Says words Logs = words ≡ codes "logs" ∷ []
+Says words (Mutator mutator Close) = (words ≡ codes "close" ∷ decimal mutator ∷ []) × (mutator < 2 ^ 64)
+Says words (Book Logs) = words ≡ codes "logs" ∷ []

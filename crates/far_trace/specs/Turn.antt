@@ -10,7 +10,7 @@ use Rattle.far_core.specs.events.Step.{is_opened, after_close}
 use Rattle.far_core.specs.laws.Observed.{live_bytes, dead_bytes, unused_bytes}
 use Rattle.far_core.specs.state.Room.{room}
 use Rattle.far_core.specs.state.State.{State}
-use Rattle.far_trace.specs.Command.{Command, Heap, New, Open, Write, Read, Close, Logs}
+use Rattle.far_trace.specs.Command.{Command, Heap, New, Open, Write, Read, Close, Logs, Mutator, Book}
 use Rattle.far_trace.specs.Effects.{with_object, with_scope, with_view, with_data}
 use Rattle.far_trace.specs.Moment.{Moment}
 use Rattle.far_trace.specs.Objects.{uses, object_len, data_of, lowest_cell, is_range}
@@ -24,14 +24,14 @@ access_causes now m p from count =
 
 abbrev pub causes : Moment → Command → List (Bool × Refusal)
 causes now (Heap logs mutators) = []
-causes now (New m len ds) =
+causes now (Mutator m (New len ds)) =
     (not (nat_lt m now.core.mutators && nat_lt ds 256), Range) ∷ (not (nat_lt 0 len && nat_le len LONGEST), Length)
     ∷ (not (is_some (lowest_cell now.core m)), NoPointer) ∷ (not (is_some (room now.core (size_of len) true)), NoRoom) ∷ []
-causes now (Open m) = (not (nat_lt m now.core.mutators), Range) ∷ (is_opened now.core m, AlreadyOpen) ∷ []
-causes now (Write m p from bytes) = access_causes now m p from (length bytes)
-causes now (Read m p from len) = access_causes now m p from len
-causes now (Close m) = (not (nat_lt m now.core.mutators), Range) ∷ (not (is_opened now.core m), Closed) ∷ []
-causes now Logs = []
+causes now (Mutator m Open) = (not (nat_lt m now.core.mutators), Range) ∷ (is_opened now.core m, AlreadyOpen) ∷ []
+causes now (Mutator m (Write p from bytes)) = access_causes now m p from (length bytes)
+causes now (Mutator m (Read p from len)) = access_causes now m p from len
+causes now (Mutator m Close) = (not (nat_lt m now.core.mutators), Range) ∷ (not (is_opened now.core m), Closed) ∷ []
+causes now (Book Logs) = []
 
 -- the first cause that holds
 abbrev pub first_cause : List (Bool × Refusal) → Option Refusal
@@ -50,12 +50,12 @@ with_new s len ds (Some p) (Some place) = with_object s p len ds place
 
 abbrev pub turn_effect : Moment → Command → Moment
 turn_effect now (Heap logs mutators) = now
-turn_effect now (New m len ds) = record now { core = with_new now.core len ds (lowest_cell now.core m) (room now.core (size_of len) true) }
-turn_effect now (Open m) = record now { core = with_scope now.core m }
-turn_effect now (Write m p from bytes) = record now { core = with_data (with_view now.core p) p from bytes }
-turn_effect now (Read m p from len) = record now { core = with_view now.core p }
-turn_effect now (Close m) = record now { core = after_close now.core m }
-turn_effect now Logs = now
+turn_effect now (Mutator m (New len ds)) = record now { core = with_new now.core len ds (lowest_cell now.core m) (room now.core (size_of len) true) }
+turn_effect now (Mutator m Open) = record now { core = with_scope now.core m }
+turn_effect now (Mutator m (Write p from bytes)) = record now { core = with_data (with_view now.core p) p from bytes }
+turn_effect now (Mutator m (Read p from len)) = record now { core = with_view now.core p }
+turn_effect now (Mutator m Close) = record now { core = after_close now.core m }
+turn_effect now (Book Logs) = now
 
 -- ---- the reply of a command that isn't refused
 abbrev pub log_line : Moment → ℕ → LogLine
@@ -68,12 +68,12 @@ pointer_reply (Some p) = Pointer p
 
 abbrev pub turn_reply : Moment → Command → Reply
 turn_reply now (Heap logs mutators) = Done
-turn_reply now (New m len ds) = pointer_reply (lowest_cell now.core m)
-turn_reply now (Open m) = Done
-turn_reply now (Write m p from bytes) = Done
-turn_reply now (Read m p from len) = Data (slice_range (data_of now.core p) from (from + len))
-turn_reply now (Close m) = Done
-turn_reply now Logs = Told (map (log_line now) (range_with_len 0 now.core.logs))
+turn_reply now (Mutator m (New len ds)) = pointer_reply (lowest_cell now.core m)
+turn_reply now (Mutator m Open) = Done
+turn_reply now (Mutator m (Write p from bytes)) = Done
+turn_reply now (Mutator m (Read p from len)) = Data (slice_range (data_of now.core p) from (from + len))
+turn_reply now (Mutator m Close) = Done
+turn_reply now (Book Logs) = Told (map (log_line now) (range_with_len 0 now.core.logs))
 
 -- ---- all together: a refused command changes nothing
 abbrev pub unless : {X : Type 0} → Option Refusal → (Refusal → X) → X → X

@@ -3,47 +3,49 @@
 ghost use Rattle.std.specs.Prelude.{◌≡◌, ◌∷◌, IfSome};
 ghost use Rattle.std.specs.Option.{option_map};
 ghost use Rattle.std.specs.Str.{bytes_eq};
-ghost use Rattle.far_trace.specs.Command.{said, Heap, New, Open, Write, Read, Close};
-ghost use Rattle.far_trace.specs.Grammar.{Numbers, NumbersAndBytes, command_from, command_of, ended};
+ghost use Rattle.far_trace.specs.Command.{said, Heap};
+ghost use Rattle.far_trace.specs.Grammar.{Numbers, NumbersAndBytes, asks_read, asks_write, asks_open, asks_close, asks_new, command_from, command_of, ended};
 ghost use Rattle.far_trace.specs.Cursor.{words_in, words_left, lines_behind, lines_after, lines_left};
 
 use crate::cursor::{Rest, next_bytes_of, next_number_of, word_first};
 use crate::hex_word::HexWord;
 
-/// One command of a trace.
+/// What a mutator asks for.
 #[derive(Clone, Copy)]
-pub enum Command<'a> {
-    Heap {
-        logs: u64,
-        mutators: u64,
-    },
+pub enum Request<'a> {
     New {
-        mutator: u64,
         len: u64,
         structure: u64,
     },
-    Open {
-        mutator: u64,
-    },
+    Open,
     Write {
-        mutator: u64,
         pointer: u64,
         from: u64,
         bytes: HexWord<'a>,
     },
     Read {
-        mutator: u64,
         pointer: u64,
         from: u64,
         len: u64,
     },
-    Close {
-        mutator: u64,
-    },
+    Close,
+}
+
+/// What the book is asked.
+#[derive(Clone, Copy)]
+pub enum Inquiry {
     Logs,
 }
 
-/// A command, and the lines after its line, if any.
+/// One command of a trace.
+#[derive(Clone, Copy)]
+pub enum Command<'a> {
+    Heap { logs: u64, mutators: u64 },
+    Mutator { mutator: u64, request: Request<'a> },
+    Book(Inquiry),
+}
+
+/// A command, and the lines behind its line, if any.
 pub type Spelled<'a> = (Command<'a>, Option<&'a [u8]>);
 
 // The command, if its line ends here.
@@ -68,70 +70,60 @@ fn heap_spelled(rest: Rest<'_>) -> Option<Spelled<'_>>
 }
 
 fn new_spelled(rest: Rest<'_>) -> Option<Spelled<'_>>
-    ensures value { option_map (λ found. said found.0) result ≡ command_from (Numbers 3 New) (words_left rest.entry) }
+    ensures value { option_map (λ found. said found.0) result ≡ command_from (Numbers 3 asks_new) (words_left rest.entry) }
     ensures lines { IfSome result (λ found. lines_left found.1 ≡ lines_after rest.entry) }
 {
     let (mutator, rest) = next_number_of(rest)?;
     let (len, rest) = next_number_of(rest)?;
     let (structure, rest) = next_number_of(rest)?;
-    let command = Command::New {
-        mutator,
-        len,
-        structure,
-    };
-    at_end(command, rest)
+    let request = Request::New { len, structure };
+    at_end(Command::Mutator { mutator, request }, rest)
 }
 
 fn open_spelled(rest: Rest<'_>) -> Option<Spelled<'_>>
-    ensures value { option_map (λ found. said found.0) result ≡ command_from (Numbers 1 Open) (words_left rest.entry) }
+    ensures value { option_map (λ found. said found.0) result ≡ command_from (Numbers 1 asks_open) (words_left rest.entry) }
     ensures lines { IfSome result (λ found. lines_left found.1 ≡ lines_after rest.entry) }
 {
     let (mutator, rest) = next_number_of(rest)?;
-    let command = Command::Open { mutator };
-    at_end(command, rest)
+    let request = Request::Open;
+    at_end(Command::Mutator { mutator, request }, rest)
 }
 
 fn write_spelled(rest: Rest<'_>) -> Option<Spelled<'_>>
-    ensures value { option_map (λ found. said found.0) result ≡ command_from (NumbersAndBytes 3 Write) (words_left rest.entry) }
+    ensures value { option_map (λ found. said found.0) result ≡ command_from (NumbersAndBytes 3 asks_write) (words_left rest.entry) }
     ensures lines { IfSome result (λ found. lines_left found.1 ≡ lines_after rest.entry) }
 {
     let (mutator, rest) = next_number_of(rest)?;
     let (pointer, rest) = next_number_of(rest)?;
     let (from, rest) = next_number_of(rest)?;
     let (bytes, rest) = next_bytes_of(rest)?;
-    let command = Command::Write {
-        mutator,
+    let request = Request::Write {
         pointer,
         from,
         bytes,
     };
-    at_end(command, rest)
+    at_end(Command::Mutator { mutator, request }, rest)
 }
 
 fn read_spelled(rest: Rest<'_>) -> Option<Spelled<'_>>
-    ensures value { option_map (λ found. said found.0) result ≡ command_from (Numbers 4 Read) (words_left rest.entry) }
+    ensures value { option_map (λ found. said found.0) result ≡ command_from (Numbers 4 asks_read) (words_left rest.entry) }
     ensures lines { IfSome result (λ found. lines_left found.1 ≡ lines_after rest.entry) }
 {
     let (mutator, rest) = next_number_of(rest)?;
     let (pointer, rest) = next_number_of(rest)?;
     let (from, rest) = next_number_of(rest)?;
     let (len, rest) = next_number_of(rest)?;
-    let command = Command::Read {
-        mutator,
-        pointer,
-        from,
-        len,
-    };
-    at_end(command, rest)
+    let request = Request::Read { pointer, from, len };
+    at_end(Command::Mutator { mutator, request }, rest)
 }
 
 fn close_spelled(rest: Rest<'_>) -> Option<Spelled<'_>>
-    ensures value { option_map (λ found. said found.0) result ≡ command_from (Numbers 1 Close) (words_left rest.entry) }
+    ensures value { option_map (λ found. said found.0) result ≡ command_from (Numbers 1 asks_close) (words_left rest.entry) }
     ensures lines { IfSome result (λ found. lines_left found.1 ≡ lines_after rest.entry) }
 {
     let (mutator, rest) = next_number_of(rest)?;
-    let command = Command::Close { mutator };
-    at_end(command, rest)
+    let request = Request::Close;
+    at_end(Command::Mutator { mutator, request }, rest)
 }
 
 fn is_name(word: &[u8], name: &[u8]) -> bool
@@ -164,7 +156,7 @@ fn named<'a>(name: &[u8], rest: Rest<'a>) -> Option<Spelled<'a>>
         return heap_spelled(rest);
     }
     if is_name(name, b"logs") {
-        return at_end(Command::Logs, rest);
+        return at_end(Command::Book(Inquiry::Logs), rest);
     }
     None
 }

@@ -10,7 +10,7 @@ mod streaming;
 mod talk;
 mod values;
 
-use crate::command::Command;
+use crate::command::{Command, Request};
 use crate::gather::{add_reply, write_waiting};
 use crate::output::Output;
 use crate::reply::{LogLine, Reply};
@@ -146,11 +146,13 @@ fn bytes_in_either_case(rt: HostRuntime) -> Result<(), Fail> {
     };
     let mut is_found = false;
     for command in &commands {
-        if let Command::Write {
+        if let Command::Mutator {
             mutator,
-            pointer,
-            from,
-            bytes,
+            request: Request::Write {
+                pointer,
+                from,
+                bytes,
+            },
         } = command
         {
             let mut room = [9u8; 2048];

@@ -10,11 +10,11 @@ ghost use Rattle.far_core.specs.state.Law.{Law};
 ghost use Rattle.far_core.specs.state.Room.{room};
 ghost use Rattle.far_core.specs.events.Step.{step_of, data_len};
 ghost use Rattle.far_core.specs.declared.event.Event.{Event};
-ghost use Rattle.far_trace.specs.Command.{said};
+ghost use Rattle.far_trace.specs.Command.{said, said_request};
 ghost use Rattle.far_trace.specs.Interpreter.{loaded, stores_of, word_in, refused_in, IsAccess, IsNew, StandsFor, next_after, next_of};
 ghost use Rattle.far_trace.specs.HexWord.{hex_bytes as spelled};
 ghost use Rattle.far_trace.specs.EventRows.{after_events, AtHand};
-ghost use Rattle.far_trace.specs.Command.{Heap, New, Open, Write, Read, Close, Logs};
+ghost use Rattle.far_trace.specs.Command.{Heap, Mutator, Book, New, Open, Write, Read, Close, Logs};
 ghost use Rattle.far_trace.specs.Outcome.{reply_by, IsInRoom};
 ghost use Rattle.far_trace.specs.Reply.{IsShort};
 ghost use Rattle.far_trace.specs.Tidy.{Tidy};
@@ -24,7 +24,7 @@ ghost use Rattle.far_trace.specs.Moment.{moment_of};
 ghost use Rattle.far_trace.specs.Later.{IsLater};
 ghost use Rattle.far_trace.specs.Turn.{effect, access_causes, first_cause, reply_to, turn_reply, refusal, log_line};
 
-use crate::command::Command;
+use crate::command::{Command, Inquiry, Request};
 use crate::events::{load, load_words, make_new, open, store_words, view};
 use crate::hex_word::HexWord;
 use crate::outcome::{Outcome, Scratch};
@@ -129,8 +129,8 @@ fn read(core: &mut Core, scratch: &mut Scratch, access: Access) -> Outcome
     requires access { IsAccess (core_state core.old) access.owner access.pointer access.from access.count access }
     requires tidy { (next : ℕ → ℕ) × Tidy (core_state core.old) next }
     requires law { Law (core_state core.old) }
-    ensures state { core_state core.new ≡ after_events (core_state core.old) (turn_events (moment_of (core_state core.old)) (Read access.owner access.pointer access.from access.count)) }
-    ensures reply { reply_by scratch.new.bytes scratch.new.lines result ≡ turn_reply (moment_of (core_state core.old)) (Read access.owner access.pointer access.from access.count) }
+    ensures state { core_state core.new ≡ after_events (core_state core.old) (turn_events (moment_of (core_state core.old)) (Mutator access.owner (Read access.pointer access.from access.count))) }
+    ensures reply { reply_by scratch.new.bytes scratch.new.lines result ≡ turn_reply (moment_of (core_state core.old)) (Mutator access.owner (Read access.pointer access.from access.count)) }
     ensures fits { IsInRoom result }
 {
     view(core, access.owner, access.pointer);
@@ -200,7 +200,7 @@ fn write(core: &mut Core, scratch: &mut Scratch, access: Access, bytes: HexWord)
     requires tidy { (next : ℕ → ℕ) × Tidy (core_state core.old) next }
     requires law { Law (core_state core.old) }
     requires bytes { length (spelled bytes.digits.now) ≡ access.count }
-    ensures state { core_state core.new ≡ after_events (core_state core.old) (turn_events (moment_of (core_state core.old)) (Write access.owner access.pointer access.from (spelled bytes.entry.digits.now))) }
+    ensures state { core_state core.new ≡ after_events (core_state core.old) (turn_events (moment_of (core_state core.old)) (Mutator access.owner (Write access.pointer access.from (spelled bytes.entry.digits.now)))) }
     ensures done { result ≡ Outcome.Done }
 {
     let first = access.first();
@@ -291,7 +291,7 @@ fn design(core: &Core, named: &[u16], mutator: u64, len: u64, ds: u64) -> Result
     requires tidy { Tidy (core_state core.now) (λ m. slice_index named.now m) }
     requires law { Law (core_state core.now) }
     requires sized { length named.now ≡ MOST_MUTATORS }
-    ensures refusal { refused_in result ≡ refusal (moment_of (core_state core.now)) (New mutator len ds) }
+    ensures refusal { refused_in result ≡ refusal (moment_of (core_state core.now)) (Mutator mutator (New len ds)) }
     ensures object { IfOk result (IsNew (core_state core.now) mutator len ds) }
 {
     if mutator >= u64::from(core.mutators()) || ds >= 256 {
@@ -321,9 +321,9 @@ fn make_object(core: &mut Core, named: &mut [u16], mutator: u64, len: u64, ds: u
     requires tidy { Tidy (core_state core.old) (λ m. slice_index named.old m) }
     requires law { Law (core_state core.old) }
     requires sized { length named.old ≡ MOST_MUTATORS }
-    ensures state { core_state core.new ≡ after_events (core_state core.old) (events_for (moment_of (core_state core.old)) (New mutator len ds)) }
-    ensures reply { StandsFor result (reply_to (moment_of (core_state core.old)) (New mutator len ds)) }
-    ensures named { (m : ℕ) → slice_index named.new m ≡ next_after (moment_of (core_state core.old)) (New mutator len ds) (λ k. slice_index named.old k) m }
+    ensures state { core_state core.new ≡ after_events (core_state core.old) (events_for (moment_of (core_state core.old)) (Mutator mutator (New len ds))) }
+    ensures reply { StandsFor result (reply_to (moment_of (core_state core.old)) (Mutator mutator (New len ds))) }
+    ensures named { (m : ℕ) → slice_index named.new m ≡ next_after (moment_of (core_state core.old)) (Mutator mutator (New len ds)) (λ k. slice_index named.old k) m }
     ensures fits { IsInRoom result }
 {
     match design(core, named, mutator, len, ds) {
@@ -345,8 +345,8 @@ fn make_object(core: &mut Core, named: &mut [u16], mutator: u64, len: u64, ds: u
 
 // Opens a mutator's scope.
 fn open_scope(core: &mut Core, mutator: u64) -> Outcome
-    ensures state { core_state core.new ≡ after_events (core_state core.old) (events_for (moment_of (core_state core.old)) (Open mutator)) }
-    ensures reply { StandsFor result (reply_to (moment_of (core_state core.old)) (Open mutator)) }
+    ensures state { core_state core.new ≡ after_events (core_state core.old) (events_for (moment_of (core_state core.old)) (Mutator mutator Open)) }
+    ensures reply { StandsFor result (reply_to (moment_of (core_state core.old)) (Mutator mutator Open)) }
     ensures fits { IsInRoom result }
 {
     if mutator >= u64::from(core.mutators()) {
@@ -362,8 +362,8 @@ fn open_scope(core: &mut Core, mutator: u64) -> Outcome
 
 // Closes a mutator's scope.
 fn close_scope(core: &mut Core, mutator: u64) -> Outcome
-    ensures state { core_state core.new ≡ after_events (core_state core.old) (events_for (moment_of (core_state core.old)) (Close mutator)) }
-    ensures reply { StandsFor result (reply_to (moment_of (core_state core.old)) (Close mutator)) }
+    ensures state { core_state core.new ≡ after_events (core_state core.old) (events_for (moment_of (core_state core.old)) (Mutator mutator Close)) }
+    ensures reply { StandsFor result (reply_to (moment_of (core_state core.old)) (Mutator mutator Close)) }
     ensures fits { IsInRoom result }
 {
     if mutator >= u64::from(core.mutators()) {
@@ -388,8 +388,8 @@ fn read_range(
 ) -> Outcome
     requires tidy { (next : ℕ → ℕ) × Tidy (core_state core.old) next }
     requires law { Law (core_state core.old) }
-    ensures state { core_state core.new ≡ after_events (core_state core.old) (events_for (moment_of (core_state core.old)) (Read mutator pointer from len)) }
-    ensures reply { reply_by scratch.new.bytes scratch.new.lines result ≡ reply_to (moment_of (core_state core.old)) (Read mutator pointer from len) }
+    ensures state { core_state core.new ≡ after_events (core_state core.old) (events_for (moment_of (core_state core.old)) (Mutator mutator (Read pointer from len))) }
+    ensures reply { reply_by scratch.new.bytes scratch.new.lines result ≡ reply_to (moment_of (core_state core.old)) (Mutator mutator (Read pointer from len)) }
     ensures fits { IsInRoom result }
 {
     match reach(core, mutator, pointer, from, len) {
@@ -409,8 +409,8 @@ fn write_range(
 ) -> Outcome
     requires tidy { (next : ℕ → ℕ) × Tidy (core_state core.old) next }
     requires law { Law (core_state core.old) }
-    ensures state { core_state core.new ≡ after_events (core_state core.old) (events_for (moment_of (core_state core.old)) (Write mutator pointer from (spelled bytes.entry.digits.now))) }
-    ensures reply { StandsFor result (reply_to (moment_of (core_state core.old)) (Write mutator pointer from (spelled bytes.entry.digits.now))) }
+    ensures state { core_state core.new ≡ after_events (core_state core.old) (events_for (moment_of (core_state core.old)) (Mutator mutator (Write pointer from (spelled bytes.entry.digits.now)))) }
+    ensures reply { StandsFor result (reply_to (moment_of (core_state core.old)) (Mutator mutator (Write pointer from (spelled bytes.entry.digits.now)))) }
     ensures fits { IsInRoom result }
 {
     match reach(core, mutator, pointer, from, bytes.len() as u64) {
@@ -448,6 +448,37 @@ fn tell_logs(core: &Core, lines: &mut [LogLine])
     }
 }
 
+// Makes the events of a mutator's request, and answers what it comes to.
+fn make_request(
+    core: &mut Core,
+    named: &mut [u16],
+    scratch: &mut Scratch,
+    mutator: u64,
+    request: Request,
+) -> Outcome
+    requires tidy { Tidy (core_state core.old) (λ m. slice_index named.old m) }
+    requires law { Law (core_state core.old) }
+    requires sized { length named.old ≡ MOST_MUTATORS }
+    ensures state { core_state core.new ≡ after_events (core_state core.old) (events_for (moment_of (core_state core.old)) (Mutator mutator (said_request request.entry))) }
+    ensures reply { reply_by scratch.new.bytes scratch.new.lines result ≡ reply_to (moment_of (core_state core.old)) (Mutator mutator (said_request request.entry)) }
+    ensures named { (m : ℕ) → slice_index named.new m ≡ next_after (moment_of (core_state core.old)) (Mutator mutator (said_request request.entry)) (λ k. slice_index named.old k) m }
+    ensures fits { IsInRoom result }
+{
+    match request {
+        Request::New { len, structure } => make_object(core, named, mutator, len, structure),
+        Request::Open => open_scope(core, mutator),
+        Request::Write {
+            pointer,
+            from,
+            bytes,
+        } => write_range(core, scratch, mutator, pointer, from, bytes),
+        Request::Read { pointer, from, len } => {
+            read_range(core, scratch, mutator, pointer, from, len)
+        }
+        Request::Close => close_scope(core, mutator),
+    }
+}
+
 // Makes the events of one command, and answers what it comes to.
 fn make_events(
     core: &mut Core,
@@ -465,26 +496,10 @@ fn make_events(
 {
     match *command {
         Command::Heap { .. } => Outcome::Done,
-        Command::New {
-            mutator,
-            len,
-            structure,
-        } => make_object(core, named, mutator, len, structure),
-        Command::Open { mutator } => open_scope(core, mutator),
-        Command::Write {
-            mutator,
-            pointer,
-            from,
-            bytes,
-        } => write_range(core, scratch, mutator, pointer, from, bytes),
-        Command::Read {
-            mutator,
-            pointer,
-            from,
-            len,
-        } => read_range(core, scratch, mutator, pointer, from, len),
-        Command::Close { mutator } => close_scope(core, mutator),
-        Command::Logs => {
+        Command::Mutator { mutator, request } => {
+            make_request(core, named, scratch, mutator, request)
+        }
+        Command::Book(Inquiry::Logs) => {
             tell_logs(core, &mut scratch.lines);
             Outcome::Logs(core.logs())
         }
