@@ -1,5 +1,5 @@
 -- What is read behind a text's first command: no heap, and bytes where something is written.
-use Rattle.std.proofs.Common.{◌≡◌, ℕ, ◌+◌, Bool, true, false, cond, refl, ap, subst, Option, Some, None, Result, Ok, Err, List, [], ◌∷◌, length}
+use Rattle.std.proofs.Common.{◌≢◌, ◌≡◌, ℕ, ◌+◌, Bool, true, false, cond, refl, ap, subst, Option, Some, None, Result, Ok, Err, List, [], ◌∷◌, length}
 use Rattle.std.specs.Prelude.{nat_lt}
 use Rattle.std.proofs.lemmas.Bool.{cond_both, false≢true}
 use Rattle.hex.proofs.HexLemmas.{decode_of-ok}
@@ -37,7 +37,7 @@ at_onto : (c d : Command) (later : Result (List Command) ℕ) (cs : List Command
 at_onto c d (Ok es) cs e = (cc, let same : es ≡ cs = cc in ap Ok same)
 at_onto c d (Err n) cs e = absurd cc
 
-not_empty : (c : Command) (later : Result (List Command) ℕ) → onto c later ≡ Ok [] → ⊥
+not_empty : (c : Command) (later : Result (List Command) ℕ) → onto c later ≢ Ok []
 not_empty c (Ok es) e = cc
 not_empty c (Err n) e = cc
 

@@ -43,7 +43,7 @@ lowest_is s next m tidy = find_at (λ p. nat_eq (s.cell p) 0) (m * CELLS) CELLS 
     (λ lt. eq-eqb (s.cell (m * CELLS + next m)) 0 (tidy.unnamed m (next m) (omega arith) lt))
 
 -- ---- what the search for a number at which f is 0 finds, and what it passes over
-busy_cell : (c : ℕ) → nat_eq c 0 ≡ false → c ≡ 0 → ⊥
+busy_cell : (c : ℕ) → nat_eq c 0 ≡ false → c ≢ 0
 busy_cell c test z = grind (arith, nat_tests)
 
 -- it finds the first

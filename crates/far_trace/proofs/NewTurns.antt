@@ -47,7 +47,7 @@ pub record Zeroed (s : State) (es : List Event) (low high : ℕ) : Type 0 where
   pub same : (q : ℕ) → (q < low) ⊎ (high ≤ q) → word q ≡ s.word q
 
 -- zeros that are put past a tail
-pub zero_row : (l base n a : ℕ) (s : State) → l < s.logs → (s.kind l ≡ Sealed → ⊥) → s.tail l ≤ base + a → base + a + n ≤ LOG_WORDS →
+pub zero_row : (l base n a : ℕ) (s : State) → l < s.logs → (s.kind l ≢ Sealed) → s.tail l ≤ base + a → base + a + n ≤ LOG_WORDS →
     Zeroed s (map (λ i. Put l (base + i) 0) (range_with_len a n)) (l * LOG_WORDS + (base + a)) (l * LOG_WORDS + (base + a) + n)
 zero_row l base zero a s log kind past fits = record { word = s.word; state = refl; succeed = tt; zeroed = λ q low high. absurd (omega arith); same = λ q out. refl }
 zero_row l base (suc n) a s log kind past fits =
@@ -82,7 +82,7 @@ module _ (s : State) (next : ℕ → ℕ) (law : Law s) (tidy : Tidy s next) (m 
     (order : (place.log ≡ s.current) ⊎ (place.log ≡ s.current + 1))
     (says : read_of new ≡ Some (Near len ds place no_marks)) where
   -- the log isn't sealed
-  not_sealed : s.kind place.log ≡ Sealed → ⊥
+  not_sealed : s.kind place.log ≢ Sealed
   not_sealed e = shut stands where
     shut : ((s.kind place.log ≡ Open) × (place.at ≡ s.tail place.log)) ⊎ ((s.kind place.log ≡ Free) × (place.at ≡ 0)) → ⊥
     shut (inl h) = let odd : Open ≡ Sealed = sym h.0 ∙ e in cc
@@ -283,7 +283,7 @@ module _ (s : State) (next : ℕ → ℕ) (law : Law s) (tidy : Tidy s next) (m 
           behind (inl e) = omega arith
           behind (inr e) = omega arith
 
-          behind_all : (place.log ≡ s.current) ⊎ (place.log ≡ s.current + 1) → l ≡ s.current → ⊥
+          behind_all : (place.log ≡ s.current) ⊎ (place.log ≡ s.current + 1) → l ≢ s.current
           behind_all (inl e) f = omega arith
           behind_all (inr e) f = omega arith
 

@@ -192,11 +192,11 @@ in_range false false None y e f = refl
 in_range false false (Some p) None e f = refl
 in_range false false (Some p) (Some place) e f = refl
 
-no_lowest : (x : Option ℕ) (y : Option Place) → ((p : ℕ) → x ≡ Some p → ⊥) → new_answer x y ≡ Refused NoPointer
+no_lowest : (x : Option ℕ) (y : Option Place) → ((p : ℕ) → x ≢ Some p) → new_answer x y ≡ Refused NoPointer
 no_lowest None y h = refl
 no_lowest (Some p) y h = absurd (h p refl)
 
-some_lowest : (x : Option ℕ) (y : Option Place) → (x ≡ None → ⊥) → (y ≡ None → new_answer x y ≡ Refused NoRoom) × ((place : Place) → y ≡ Some place → (p : ℕ) × (new_answer x y ≡ Pointer p))
+some_lowest : (x : Option ℕ) (y : Option Place) → (x ≢ None) → (y ≡ None → new_answer x y ≡ Refused NoRoom) × ((place : Place) → y ≡ Some place → (p : ℕ) × (new_answer x y ≡ Pointer p))
 some_lowest None y h = absurd (h refl)
 some_lowest (Some p) None h = (λ _. refl, λ place e. absurd cc)
 some_lowest (Some p) (Some place) h = (λ e. absurd cc, λ _ _. (p, refl))
@@ -241,12 +241,12 @@ changes_range bytes new from fits = (
 )
 
 -- ---- whose line it is
-at_number : (k m : ℕ) (A B : Type 0) (b : Bool) → nat_eq k m ≡ b → MatchBool b A B → (m ≡ k → A) × ((m ≡ k → ⊥) → B)
+at_number : (k m : ℕ) (A B : Type 0) (b : Bool) → nat_eq k m ≡ b → MatchBool b A B → (m ≡ k → A) × ((m ≢ k) → B)
 at_number k m A B true e x = ((λ _. x), (λ ne. absurd (ne (sym (eqb-true k m e)))))
 at_number k m A B false e x = ((λ same. absurd (eqb-false k m e (sym same))), (λ _. x))
 
 pub own_lines : (m : ℕ) (o : Own) (c : Command) (r : Reply) (cs : List Command) (rs : List Reply) → Alone m o (c ∷ cs) (r ∷ rs) →
-    (IsSaidBy m c → (q : Own) × Knows m o c r q × Alone m q cs rs) × ((IsSaidBy m c → ⊥) → Alone m o cs rs)
+    (IsSaidBy m c → (q : Own) × Knows m o c r q × Alone m q cs rs) × (¬ IsSaidBy m c → Alone m o cs rs)
 own_lines m o (Heap logs mutators) r cs rs h = ((λ no. absurd no), (λ _. h))
 own_lines m o (Mutator k request) r cs rs h = at_number k m _ _ (nat_eq k m) refl h
 own_lines m o (Book inquiry) r cs rs h = ((λ no. absurd no), (λ _. h))

@@ -36,7 +36,7 @@ cut b (x ∷ xs) (y ∷ ys) us vs f g e =
     let (others, behind) = cut b xs ys us vs f.1 g.1 (ap (drop 1) e) in
     ((λ i. first i ∷ others i), behind)
 
-none_inside : (b : ℕ) (xs ys zs : List ℕ) → Free b xs → xs ≡ ys ++ (b ∷ zs) → ⊥
+none_inside : (b : ℕ) (xs ys zs : List ℕ) → Free b xs → xs ≢ ys ++ (b ∷ zs)
 none_inside b [] [] zs f e = absurd cc
 none_inside b [] (y ∷ ys) zs f e = absurd cc
 none_inside b (x ∷ xs) [] zs f e = f.0 (ap head_of e)

@@ -1,5 +1,5 @@
 -- Which refusals a command may have.
-use Rattle.std.proofs.Common.{◌≡◌, ℕ, Bool, sym, ap, ◌∙◌, subst, Option, Some, None, List, [], ◌∷◌}
+use Rattle.std.proofs.Common.{◌≢◌, ◌≡◌, ℕ, Bool, sym, ap, ◌∙◌, subst, Option, Some, None, List, [], ◌∷◌}
 use Rattle.std.proofs.lemmas.Bool.{cond_both}
 use Rattle.far_word.specs.declared.refused.Refused.{Refused as Refusal}
 use Rattle.far_core.specs.state.State.{State}
@@ -35,11 +35,11 @@ listed s (Mutator m Close) = (tt, (tt, tt))
 listed s (Book Logs) = tt
 
 -- what isn't refused is no refusal
-pointer_is_no_refusal : (o : Option ℕ) (why : Refusal) → pointer_reply o ≡ Refused why → ⊥
+pointer_is_no_refusal : (o : Option ℕ) (why : Refusal) → pointer_reply o ≢ Refused why
 pointer_is_no_refusal None why e = cc
 pointer_is_no_refusal (Some p) why e = cc
 
-pub turn_is_no_refusal : (s : State) (c : Command) (why : Refusal) → turn_reply (moment_of s) c ≡ Refused why → ⊥
+pub turn_is_no_refusal : (s : State) (c : Command) (why : Refusal) → turn_reply (moment_of s) c ≢ Refused why
 turn_is_no_refusal s (Heap logs mutators) why e = cc
 turn_is_no_refusal s (Mutator m (New len ds)) why e = pointer_is_no_refusal (lowest_cell s m) why e
 turn_is_no_refusal s (Mutator m Open) why e = cc
@@ -48,7 +48,7 @@ turn_is_no_refusal s (Mutator m (Read p from len)) why e = cc
 turn_is_no_refusal s (Mutator m Close) why e = cc
 turn_is_no_refusal s (Book Logs) why e = cc
 
-pub from_cause : (o : Option Refusal) (r : Reply) (why : Refusal) → (r ≡ Refused why → ⊥) → unless o Refused r ≡ Refused why → o ≡ Some why
+pub from_cause : (o : Option Refusal) (r : Reply) (why : Refusal) → (r ≢ Refused why) → unless o Refused r ≡ Refused why → o ≡ Some why
 from_cause None r why none e = absurd (none e)
 from_cause (Some cause) r why none e = let same : cause ≡ why = cc in ap Some same
 

@@ -1,5 +1,5 @@
 -- Words of which some are those of a row.
-use Rattle.std.proofs.Common.{◌≡◌, ℕ, zero, suc, ◌+◌, ◌-◌, ◌<◌, ◌≤◌, ◌⊎◌, true, false, cond, ◌&&◌, nat_lt, nat_le, refl, sym, ap, ◌∙◌, arith, inl, inr}
+use Rattle.std.proofs.Common.{◌≢◌, ◌≡◌, ℕ, zero, suc, ◌+◌, ◌-◌, ◌<◌, ◌≤◌, ◌⊎◌, true, false, cond, ◌&&◌, nat_lt, nat_le, refl, sym, ap, ◌∙◌, arith, inl, inr}
 use Rattle.std.proofs.lemmas.Bool.{cases_lt, cases_eq}
 use Rattle.std.proofs.lemmas.Bool.Decides.{nat_tests}
 use mathlib.Core.Path.{fun_ext}
@@ -48,6 +48,6 @@ row_first word a n x row e = row_is word (with_row (put word a x) (a + 1) n (λ 
       behind k (inl low) = inl (omega arith)
       behind k (inr high) = inr (omega arith)
 
-      apart : (k : ℕ) → (k < a) ⊎ (a + suc n ≤ k) → k ≡ a → ⊥
+      apart : (k : ℕ) → (k < a) ⊎ (a + suc n ≤ k) → k ≢ a
       apart k (inl low) h = omega arith
       apart k (inr high) h = omega arith

@@ -33,5 +33,5 @@ lines_numbered words (Mutator k (Read p from len)) m small h = (numbered words _
 lines_numbered words (Mutator k Close) m small h = (numbered words _ k m _ h.0, (λ name rest e other. number_behind words _ k m _ h.1 small h.0 name rest e))
 lines_numbered words (Book Logs) m small h = ((λ no. absurd no), (λ name rest e other. absurd (empty (sym e ∙ h))))
   where
-    empty : {name word : List ℕ} {rest : List (List ℕ)} {head : List ℕ} → name ∷ word ∷ rest ≡ head ∷ [] → ⊥
+    empty : {name word : List ℕ} {rest : List (List ℕ)} {head : List ℕ} → name ∷ word ∷ rest ≢ head ∷ []
     empty e = cc

@@ -1,5 +1,5 @@
 -- A text is read as what its lines say.
-use Rattle.std.proofs.Common.{◌≡◌, ◌⊎◌, inl, inr, ℕ, ◌<◌, ◌≤◌, ◌+◌, ◌==◌, ◌&&◌, suc, zero, nat_lt, nat_le, Bool, true, false, cond, not, List, [], ◌∷◌, length, get_or, Option, Some, None, Result, Ok, Err, sym, ◌∙◌, ap, refl, subst, arith}
+use Rattle.std.proofs.Common.{◌≢◌, ◌≡◌, ◌⊎◌, inl, inr, ℕ, ◌<◌, ◌≤◌, ◌+◌, ◌==◌, ◌&&◌, suc, zero, nat_lt, nat_le, Bool, true, false, cond, not, List, [], ◌∷◌, length, get_or, Option, Some, None, Result, Ok, Err, sym, ◌∙◌, ap, refl, subst, arith}
 use Rattle.std.specs.Prelude.{◌↔◌}
 use Rattle.std.specs.List.{list_all, join_with_byte, slice_split, onto_first}
 use Rattle.std.proofs.lemmas.Bool.{and_parts, le-leb, lt-leb, cond_both}
@@ -40,7 +40,7 @@ skipped line (inl e) = ap is_skipped e
 skipped line (inr h) = ap is_skipped h.1
 
 -- words that say a command don't begin with a #
-hash_says : (rest : List ℕ) (c : Command) → command_of (line_words (35 ∷ rest)) ≡ Some c → ⊥
+hash_says : (rest : List ℕ) (c : Command) → command_of (line_words (35 ∷ rest)) ≢ Some c
 hash_says rest c e =
     let none : command_of (line_words (35 ∷ rest)) ≡ None = ap command_of (split_on (λ b. b == 32) 35 rest refl) in
     let odd : None ≡ Some c = sym none ∙ e in cc
@@ -64,7 +64,7 @@ is_passed line = cond_both (is_plain line) (cond (is_skipped line) Skipped (sayi
     (λ skips _. let h = plain_parts line plain in (h.0, h.1, begins line skips)) (λ _ e. absurd (not_silent (command_of (line_words line)) e)))
     (λ _ e. absurd cc)
   where
-    not_silent : (o : Option Command) → saying o ≡ Skipped → ⊥
+    not_silent : (o : Option Command) → saying o ≢ Skipped
     not_silent None e = cc
     not_silent (Some c) e = cc
 

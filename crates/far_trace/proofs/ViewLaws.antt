@@ -1,5 +1,5 @@
 -- What commands do to views: a read or a write views its object, a close ends its mutator's views, all else leaves them; and the logs of views stay.
-use Rattle.std.proofs.Common.{◌≡◌, ℕ, ◌+◌, ◌/◌, true, cond, is_some, nat_eq, inl, inr, refl, sym, ap, subst, ◌∙◌, Option, Some, None, List, [], ◌∷◌, ◌++◌, length, if◌then◌else◌}
+use Rattle.std.proofs.Common.{◌≢◌, ◌≡◌, ℕ, ◌+◌, ◌/◌, true, cond, is_some, nat_eq, inl, inr, refl, sym, ap, subst, ◌∙◌, Option, Some, None, List, [], ◌∷◌, ◌++◌, length, if◌then◌else◌}
 use Rattle.std.proofs.lemmas.Bool.{cond_both, eq-eqb, ne_eqb}
 use Rattle.far_word.specs.declared.pointer.Place.{Place}
 use Rattle.far_word.specs.declared.refused.Refused.{Refused as Refusal}
@@ -38,7 +38,7 @@ use Rattle.far_trace.proofs.MadeLemmas.{made-append, AllSucceed-parts}
 
 -- ---- events that make no view and end none
 abbrev LeavesViews : Event → Type 0
-LeavesViews e = ((m p : ℕ) → e ≡ Pins m p → ⊥) × ((m : ℕ) → e ≡ Closes m → ⊥)
+LeavesViews e = ((m p : ℕ) → e ≢ Pins m p) × ((m : ℕ) → e ≢ Closes m)
 
 -- a row of them leaves the views
 pub row_stays : (s : State) (es : List Event) → Each LeavesViews es → (after_events s es).held ≡ s.held

@@ -189,7 +189,7 @@ module _ (s : State) (next : ℕ → ℕ) (m p : ℕ) (law : Law s) (tidy : Tidy
   pin_named : (q : ℕ) → s.cell q ≢ 0 → (after_pin s p).cell q ≢ 0
   pin_named q some = put_both (λ w. w ≢ 0) s.cell p (bit_or (s.cell p) (2 ^ position Hot)) q
       (λ _ z. absurd (hot_some z)) (λ _. some) where
-        hot_some : bit_or (s.cell p) (2 ^ position Hot) ≡ 0 → ⊥
+        hot_some : bit_or (s.cell p) (2 ^ position Hot) ≢ 0
         hot_some z = let odd : Some (Near ready.len ready.ds ready.place (marks_with Hot ready.marks)) ≡ Some pointer.Free = sym (hot_read s law p used ∙ ap (map_mark Hot) ready.near) ∙ ap read_of z ∙ unused in cc
 
   -- and cells that are 0

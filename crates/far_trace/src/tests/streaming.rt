@@ -191,7 +191,8 @@ fn each_write_may_fail(rt: HostRuntime) -> Result<(), Fail> {
             let fails_at = (before as u64).saturating_add(1);
             let (ended, written) = run_written(&rt, 1, fails_at, failure);
             assert_eq!(rt; ended, Err(RunFault::Write), "at {fails_at}");
-            assert_eq!(rt; written.as_slice(), &answer[..before]);
+            assert_eq!(rt; written.len(), before);
+            assert!(rt; answer.starts_with(&written));
         }
         let behind = (answer.len() as u64).saturating_add(1);
         let (ended, written) = run_written(&rt, 1, behind, failure);
