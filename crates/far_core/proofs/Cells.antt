@@ -14,6 +14,7 @@ use Rattle.far_word.specs.Mark.{position, marks_with}
 use Rattle.far_word.specs.Pointer.{read_of, takes_mark, with_mark}
 use Rattle.far_word.proofs.PointerLaws.{with_mark_read, with_mark_fits}
 use Rattle.far_core.specs.state.Law.{Heads, held_place, in_use, Blank}
+use Rattle.far_core.specs.state.Spans.{names_place}
 use Rattle.far_core.specs.state.State.{addr}
 use Rattle.far_core.specs.events.Step.{place_to_view}
 pub use Rattle.far_core.specs.events.Naming.{is_dropped}
@@ -149,3 +150,10 @@ held_near (Some Free) place e = absurd cc
 held_near (Some (Near len ds at m)) place e =
     record { len = len; ds = ds; marks = m; near = (let same : at ≡ place = grind (arith, nat_tests) in ap (λ x. Some (Near len ds x m)) same); unmoved = grind (arith, nat_tests); kept = grind (arith, nat_tests) }
 held_near (Some (Far len ds m)) place e = absurd cc
+
+-- what a live span says: its pointer's cell names it
+pub live_names : (o : Option PtrWord) (l at : ℕ) → names_place o l at ≡ true → (len ds : ℕ) × (place : Place) × (m : Marks) × (o ≡ Some (Near len ds place m)) × (place.log ≡ l) × (place.at ≡ at)
+live_names None l at h = absurd (false≢true h)
+live_names (Some Free) l at h = absurd (false≢true h)
+live_names (Some (Near len ds place m)) l at h = (len, ds, place, m, refl, grind (arith, nat_tests), grind (arith, nat_tests))
+live_names (Some (Far len ds m)) l at h = absurd (false≢true h)

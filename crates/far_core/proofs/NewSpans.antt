@@ -61,7 +61,7 @@ touch_span s p new len place = record {
   used = λ q a. refl;
   held = λ q a b. refl;
   book = λ ne. absurd (ne refl);
-  rest = (refl, refl, refl, refl, refl, refl, refl);
+  rest = (refl, refl, refl, refl, refl, refl);
 }
 
 -- the groups, where one log is sealed that was open and another is open

@@ -25,6 +25,7 @@ use Rattle.far_core.specs.laws.Observed.{live_bytes, dead_bytes, unused_bytes, s
 use Rattle.far_core.specs.state.Spans.{IsOfHeap, word_in, spans_of, is_live, names_place}
 use Rattle.far_core.specs.state.State.{State, addr}
 use Rattle.far_core.proofs.Bounds.{span_len}
+pub use Rattle.far_core.proofs.Cells.{live_names}
 use Rattle.far_core.proofs.KeepPlace.{header}
 use Rattle.far_core.proofs.Keeps.{one_name}
 
@@ -164,13 +165,6 @@ module _ (s : State) (law : Law s) (l : ℕ) where
   bytes_make_log = omega (arith, spans_take (is_live s l) (spans_of s l) (s.tail l) walks.tile, law.logs.tail_end l)
 
 -- ---- one span for each object
--- what a live span says: its pointer's cell names it
-pub live_names : (o : Option PtrWord) (l at : ℕ) → names_place o l at ≡ true → (len ds : ℕ) × (place : Place) × (m : Marks) × (o ≡ Some (Near len ds place m)) × (place.log ≡ l) × (place.at ≡ at)
-live_names None l at h = absurd (false≢true h)
-live_names (Some Free) l at h = absurd (false≢true h)
-live_names (Some (Near len ds place m)) l at h = (len, ds, place, m, refl, grind (arith, nat_tests), grind (arith, nat_tests))
-live_names (Some (Far len ds m)) l at h = absurd (false≢true h)
-
 module _ (s : State) (law : Law s) (p len ds : ℕ) (place : Place) (m : Marks) (e : read_of (s.cell p) ≡ Some (Near len ds place m)) where
   head_here : head_of (s.word (addr place)) ≡ Some (header p len ds)
   head_here = span_len s law p len ds place m e

@@ -45,6 +45,13 @@ pub enum Event {
         owner: u8,
         pointer: u16,
     },
+    /// The word `at` of a log is read. With `free` the log, which is sealed and has no live span, is given back too: it is
+    /// free, its tail is 0, and it leaves the round; its words stay. Answers `Word`.
+    Get {
+        log: u8,
+        at: u16,
+        free: bool,
+    },
     /// The word `at` of a log that is open or free, at or past its tail, becomes `word`. Answers `Done`.
     Put {
         log: u8,

@@ -81,7 +81,7 @@ module _ (p old new : ℕ) where
     keeps = λ s law fits h. cond_both (nat_eq (s.cell p) old) (after_naming s p new form) s Law (λ e. keeps_name s law fits.1 h (eqb-true (s.cell p) old e)) (λ _. law);
     does = λ s law fits h. do_exchange s law fits.1 h (nat_eq (s.cell p) old) refl;
     within = λ s. cond_both (nat_eq (s.cell p) old) (after_naming s p new form) s (Touches s (touches s (Name p old new))) (λ _. touch_name s form) (λ _. untouched s _);
-    part = λ s h. (p, old, new, refl);
+    part = λ s h. inl (p, old, new, refl);
     word = λ s h. inr (inr (inl (old, new, refl)));
     reports = λ s law h. reports_name s law h (nat_eq (s.cell p) old) refl;
     answers = λ s x. cond_both (nat_eq (s.cell p) old) Done (Word (s.cell p)) (λ (r : Reply). r ≡ Refused → ⊥) (λ _ y. cc) (λ _ y. cc) x;

@@ -3,7 +3,7 @@ use Rattle.std.specs.Prelude.{◌≡◌, ◌≢◌, ◌⊎◌, ℕ, ◌/◌, ◌
 use Rattle.far_word.specs.declared.mark.Mark.TheVariants.{Moved, Dropped}
 use Rattle.far_word.specs.declared.sizes.TheConstants.{CELLS, LONGEST, POINTERS}
 use Rattle.far_core.specs.declared.event.Event.{Event}
-use Rattle.far_core.specs.declared.event.Event.TheVariants.{Open, Pin, Load, Store, Close, Name, Mark, Ask}
+use Rattle.far_core.specs.declared.event.Event.TheVariants.{Open, Pin, Load, Store, Close, Name, Mark, Ask, Get}
 use Rattle.far_core.specs.declared.event.Reply.{Reply}
 use Rattle.far_core.specs.world.Changes.{Change, Step}
 use Rattle.far_core.specs.world.Changes as change
@@ -50,6 +50,7 @@ Causes e (change.Writes m p i x) = e ≡ Store m p i x
 Causes e (change.Makes p len ds g) = (old new : ℕ) × (e ≡ Name p old new)
 Causes e (change.Marks p) = (e ≡ Mark p) ⊎ ((m : ℕ) × (e ≡ Ask m p Moved))
 Causes e (change.Drops m p) = e ≡ Ask m p Dropped
+Causes e (change.Releases g) = (at : ℕ) × (e ≡ Get g at true)
 Causes e c = ⊥
 
 abbrev pub Caused : Event → Option Change → Type 0

@@ -145,6 +145,17 @@ impl Core {
         }
     }
 
+    /// Word `at` of a log. With `free` the log, which is sealed and has no live span, is given back too; this looks at the
+    /// log's 128 words, once.
+    #[inline]
+    pub fn get(&mut self, log: u8, at: u16, free: bool) -> u64
+        requires legal { Legal (core_state self.old) (Event.Get log at free) }
+        ensures state { core_state self.new ≡ after (core_state self.old) (Event.Get log at free) }
+        ensures word { answer (core_state self.old) (Event.Get log at free) ≡ Reply.Word result }
+    {
+        self.memory.get(log, at, free)
+    }
+
     /// The cell of a pointer.
     #[inline]
     pub fn see(&self, pointer: u16) -> u64
@@ -189,6 +200,7 @@ impl Memory {
                 Reply::Word(self.adopt(owner, pointer)),
             Event::Ask { owner, pointer, mark } if self.may_ask(owner, pointer, mark) =>
                 Reply::Word(self.ask(owner, pointer, mark)),
+            Event::Get { log, at, free } if self.may_get(log, at, free) => Reply::Word(self.get(log, at, free)),
             Event::Put { log, at, word } if self.may_put(log, at, word) => { self.put(log, at, word); Reply::Done }
             Event::Name { pointer, old, new } => self.name(pointer, old, new),
             Event::See { pointer } if self.has_pointer(pointer) => Reply::Word(self.cell_at(pointer)),

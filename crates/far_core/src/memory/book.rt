@@ -8,7 +8,11 @@ ghost use Rattle.far_core.specs.events.Naming.{IsOnLayout, naming_row, no_marks}
 ghost use Rattle.far_core.specs.events.NewSpans.{goes_at, is_new_span, with_span};
 ghost use Rattle.far_core.specs.events.Next.{next_state};
 ghost use Rattle.far_core.specs.events.Step.{answer, is_legal, step_of, is_past};
+ghost use Rattle.far_core.specs.events.Get.{is_live_at, may_free, none_live, with_free_log};
 ghost use Rattle.far_core.specs.events.Mark.{may_mark, is_sealed};
+ghost use Rattle.far_core.specs.state.Spans.{names_place};
+ghost use Rattle.far_log.specs.Spans.{pointer_in};
+ghost use Rattle.far_word.specs.Header.{head_of};
 ghost use Rattle.far_core.specs.state.Memory.{state_of};
 ghost use Rattle.far_word.specs.Pointer.{IsPtr, read_of};
 ghost use Rattle.far_word.specs.Sizes.{size_of};
@@ -21,6 +25,72 @@ use far_word::{CELLS, HeadWord, LOG_WORDS, Mark, Place, PtrWord, size_of, words_
 
 #[tactic(auto, unfolding(crate::specs::events::Next::next_state))]
 impl Memory {
+    pub(crate) fn may_get(&self, log: u8, at: u16, free: bool) -> bool
+        ensures { result ≡ is_legal (state_of self.now) (Event.Get log at free) }
+    {
+        self.has_log(log) && at < LOG_WORDS && self.may_free(log, free)
+    }
+
+    /// Whether a log may be given back, where it is to be.
+    fn may_free(&self, log: u8, free: bool) -> bool
+        requires { log < (state_of self.now).logs }
+        ensures { result ≡ may_free (state_of self.now) log free }
+    {
+        if free {
+            is_sealed(self.kind(log)) && self.none_live(log, LOG_WORDS)
+        } else {
+            true
+        }
+    }
+
+    pub(crate) fn get(&mut self, log: u8, at: u16, free: bool) -> u64
+        requires log { log < (state_of self.old).logs }
+        requires at { at < LOG_WORDS }
+        ensures state { state_of self.new ≡ next_state (state_of self.old) (Event.Get log at free) }
+        ensures word { answer (state_of self.old) (Event.Get log at free) ≡ Reply.Word result }
+    {
+        let word = self.word(first_word(Place { log, at }));
+        if free {
+            self.free_log(log);
+        }
+        word
+    }
+
+    /// Gives a log back: it is free, its tail is 0, no span begins in it, and it leaves the round.
+    fn free_log(&mut self, log: u8)
+        requires { log < (state_of self.old).logs }
+        ensures { state_of self.new ≡ with_free_log (state_of self.old) log }
+    {
+        self.set_kind(log, Kind::Free);
+        self.set_tail(log, 0);
+        self.empty_log(log);
+        self.leave_round(log);
+    }
+
+    /// Whether none of the first words of a log is the header of a live span.
+    fn none_live(&self, log: u8, words: u16) -> bool
+        requires log { log < (state_of self.now).logs }
+        requires words { words ≤ LOG_WORDS }
+        ensures { result ≡ none_live (state_of self.now) log words }
+    {
+        for at in 0..words {
+            if self.is_live_at(log, at) {
+                return false;
+            }
+        }
+        true
+    }
+
+    /// Whether a word of a log is the header of a live span.
+    fn is_live_at(&self, log: u8, at: u16) -> bool
+        requires log { log < (state_of self.now).logs }
+        requires at { at < LOG_WORDS }
+        ensures { result ≡ is_live_at (state_of self.now) log at }
+    {
+        let header = first_word(Place { log, at });
+        self.starts(header) && names_place(self.cell(pointer_in(self.word(header))), log, at)
+    }
+
     pub(crate) fn may_put(&self, log: u8, at: u16, word: u64) -> bool
         ensures { result ≡ is_legal (state_of self.now) (Event.Put log at word) }
     {
@@ -146,6 +216,26 @@ fn goes_at(kind: Kind, at: u16, tail: u16) -> bool
         Kind::Free => at == 0,
         Kind::Open => at == tail,
         Kind::Sealed => false,
+    }
+}
+
+/// The pointer that a header names; 0 where the word is none.
+fn pointer_in(word: u64) -> u16
+    ensures { result ≡ pointer_in (head_of word) }
+{
+    match HeadWord::read(word) {
+        Some(header) => header.pointer,
+        None => 0,
+    }
+}
+
+/// Whether a cell names a place.
+fn names_place(cell: u64, log: u8, at: u16) -> bool
+    ensures { result ≡ names_place (read_of cell) log at }
+{
+    match PtrWord::read(cell) {
+        Some(PtrWord::Near { place, .. }) => place.log == log && place.at == at,
+        _ => false,
     }
 }
 

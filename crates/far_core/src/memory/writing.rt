@@ -91,6 +91,41 @@ impl Memory {
         self.current = log;
     }
 
+    /// No span begins in the log from now on.
+    pub(crate) fn empty_log(&mut self, log: u8)
+        requires { log < (state_of self.old).logs }
+        ensures { state_of self.new ≡ record (state_of self.old) { starts = λ a. cond (a / LOG_WORDS == log) false ((state_of self.old).starts a) } }
+    {
+        let from = log as usize * LOG_WORDS as usize;
+        for at in from..from + LOG_WORDS as usize {
+            self.end_span(at);
+        }
+    }
+
+    #[tactic(auto, unfolding(crate::specs::state::Memory::state_of))]
+    fn end_span(&mut self, at: usize)
+        requires { at < LOG_WORDS * (state_of self.old).logs }
+        ensures { state_of self.new ≡ record (state_of self.old) { starts = put (state_of self.old).starts at false } }
+    {
+        self.starts[at] = false;
+    }
+
+    #[tactic(auto, unfolding(crate::specs::state::Memory::state_of))]
+    pub(crate) fn set_tail(&mut self, log: u8, tail: u16)
+        requires { log < (state_of self.old).logs }
+        ensures { state_of self.new ≡ record (state_of self.old) { tail = put (state_of self.old).tail log tail } }
+    {
+        self.tails[log as usize] = tail;
+    }
+
+    #[tactic(auto, unfolding(crate::specs::state::Memory::state_of))]
+    pub(crate) fn leave_round(&mut self, log: u8)
+        requires { log < (state_of self.old).logs }
+        ensures { state_of self.new ≡ record (state_of self.old) { round = put (state_of self.old).round log false } }
+    {
+        self.round[log as usize] = false;
+    }
+
     /// The owner holds nothing from now on.
     pub(crate) fn let_go(&mut self, owner: u8)
         requires { owner < (state_of self.old).mutators }
