@@ -3,6 +3,7 @@
 mod calls;
 mod dropping;
 mod filling;
+mod freeing;
 mod page;
 mod reading;
 mod refusing;

@@ -11,7 +11,7 @@ use Rattle.far_word.specs.declared.pointer.PtrWord.{PtrWord}
 use Rattle.far_word.specs.declared.pointer.PtrWord.TheVariants.{Free, Near, Far}
 use Rattle.far_word.specs.declared.sizes.TheConstants.{CELLS}
 use Rattle.far_core.specs.declared.event.Event.{Event}
-use Rattle.far_core.specs.declared.event.Event.TheVariants.{ReadEpoch, Open, Pin, Load, Store, Close, Adopt, Put, Name, See, Mark, Ask}
+use Rattle.far_core.specs.declared.event.Event.TheVariants.{ReadEpoch, Open, Pin, Load, Store, Close, Adopt, Put, Name, See, Mark, Ask, Get}
 use Rattle.far_core.specs.declared.event.Reply.{Reply as Answer}
 use Rattle.far_core.specs.declared.event.Reply.TheVariants.{Refused, Done, Epoch, Word, Held}
 use Rattle.far_core.specs.declared.naming.Naming.{Naming}
@@ -98,6 +98,7 @@ IsQuiet (Name p old new) = ⊥
 IsQuiet (See p) = Unit {0}
 IsQuiet (Mark p) = ⊥
 IsQuiet (Ask m p k) = ⊥
+IsQuiet (Get l at free) = ⊥
 
 quiet_fits : (e : Event) → IsQuiet e → Fits e
 quiet_fits (ReadEpoch m) q = tt
@@ -112,6 +113,7 @@ quiet_fits (Name p old new) q = absurd q
 quiet_fits (See p) q = tt
 quiet_fits (Mark p) q = absurd q
 quiet_fits (Ask m p k) q = absurd q
+quiet_fits (Get l at free) q = absurd q
 
 pub stays_same : (w v : World) → v ≡ w → Same w v
 stays_same w v e = (ap (λ (x : World). x.object) e, ap (λ (x : World). x.opened) e)
@@ -143,6 +145,7 @@ quiet_happens w v (See p) (Word x) q h = stays_same w v h
 quiet_happens w v (See p) r q h = absurd h
 quiet_happens w v (Mark p) r q h = absurd q
 quiet_happens w v (Ask m p k) r q h = absurd q
+quiet_happens w v (Get l at free) r q h = absurd q
 
 abbrev pub Quiet : List Event → Type 0
 Quiet = Each IsQuiet
@@ -269,3 +272,4 @@ was_legal s e law = cond_both (is_legal s e) (after s e, answer s e) (s, Refused
   no_refusal (See p) h = h
   no_refusal (Mark p) h = h
   no_refusal (Ask m p k) h = h
+  no_refusal (Get l at free) h = h

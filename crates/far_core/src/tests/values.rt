@@ -3,6 +3,7 @@
 ghost use Rattle.std.specs.Prelude.{◌<◌, length};
 
 use super::*;
+use far_word::Mark;
 use std::fmt::Debug;
 use std::test::Fail;
 
@@ -44,9 +45,21 @@ fn mark(pointer: u16) -> Event {
     Event::Mark { pointer }
 }
 
+fn ask(owner: u8, pointer: u16, mark: Mark) -> Event {
+    Event::Ask {
+        owner,
+        pointer,
+        mark,
+    }
+}
+
+fn get(log: u8, at: u16, free: bool) -> Event {
+    Event::Get { log, at, free }
+}
+
 /// A row an event: zeros, and each field changed.
 #[rattlefmt::skip]
-fn events() -> [Event; 33] {
+fn events() -> [Event; 42] {
     [
         read_epoch(0), read_epoch(1),
         open(0), open(1),
@@ -59,6 +72,9 @@ fn events() -> [Event; 33] {
         name(0, 0, 0), name(1, 0, 0), name(0, 1, 0), name(0, 0, 1),
         see(0), see(1),
         mark(0), mark(1),
+        ask(0, 0, Mark::Moved), ask(1, 0, Mark::Moved), ask(0, 1, Mark::Moved), ask(0, 0, Mark::Dropped),
+        get(0, 0, false), get(1, 0, false), get(0, 1, false), get(0, 0, true),
+        Event::Name { pointer: 0, old: 1, new: 1 },
     ]
 }
 
