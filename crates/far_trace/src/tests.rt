@@ -8,7 +8,6 @@ mod refusing;
 mod running;
 mod streaming;
 mod talk;
-mod values;
 
 use crate::command::{Command, Request};
 use crate::gather::{add_reply, write_waiting};

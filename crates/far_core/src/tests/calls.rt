@@ -1,7 +1,7 @@
 //! Each event's own call, and what a core shows after it.
 
 use super::*;
-use far_word::{CELLS, HeadWord, LOG_WORDS, PtrWord};
+use far_word::{CELLS, LOG_WORDS, PtrWord};
 use std::test::Fail;
 
 const HEADER: u64 = 0xa100_0000_0001_0008;
@@ -18,26 +18,13 @@ fn put_word(rt: &impl Abort, core: &mut Core, place: Place, word: u64) {
     assert_eq!(rt; core.word(log, at), word);
 }
 
-/// Names a place of 8 bytes or less for a pointer of owner 0.
-fn name_place(rt: &impl Abort, core: &mut Core, pointer: u16, new: u64) -> Result<(), u64> {
-    let Some(
-        PtrWord::Near {
-            len,
-            ds,
-            place,
-            marks,
-        },
-    ) = PtrWord::read(new)
-    else {
-        panic!(rt; "{new} isn't near");
-    };
-    assert!(rt; pointer < CELLS && place.log < core.logs());
-    assert!(rt; core.kind(place.log) == Kind::Open && core.tail(place.log) == place.at);
-    let header = HeadWord { pointer, len, ds };
-    assert!(rt; core.word(place.log, place.at) == header.pack());
-    assert!(rt; len <= 8 && core.word(place.log, place.at + 1) == 0);
-    assert!(rt; !marks.hot && !marks.evac && !marks.moved && !marks.dropped);
-    core.name(pointer, 0, new)
+/// Names a place for a pointer whose cell is 0.
+fn name_place(core: &mut Core, pointer: u16, new: u64) -> Reply {
+    core.step(Event::Name {
+        pointer,
+        old: 0,
+        new,
+    })
 }
 
 fn adopt_own(rt: &impl Abort, core: &mut Core, pointer: u16) -> Option<u64> {
@@ -87,7 +74,7 @@ fn mark_near(rt: &impl Abort, core: &mut Core, pointer: u16) -> u64 {
 fn object_is_made_and_viewed(rt: HostRuntime) -> Result<(), Fail> {
     let mut core = Core::new(rt.alloc(), TWO_OWNERS, true)?;
     put_word(&rt, &mut core, FIRST, HEADER);
-    assert_eq!(rt; name_place(&rt, &mut core, 0, NEAR), Ok(()));
+    assert_eq!(rt; name_place(&mut core, 0, NEAR), Reply::Done);
     assert!(rt; core.starts(0, 0) && !core.starts(0, 1));
     assert_eq!(rt; core.see(0), NEAR);
     assert_eq!(rt; adopt_own(&rt, &mut core, 1), None);
@@ -131,8 +118,8 @@ fn named_cell_is_found(rt: HostRuntime) -> Result<(), Fail> {
         Place { log: 0, at: 9 },
         0xa100_0000_0101_0008,
     );
-    let lost = name_place(&rt, &mut core, 1, 0x8400_0000_0901_0008);
-    assert_eq!(rt; lost, Err(0x8400_0000_0301_0008));
+    let lost = name_place(&mut core, 1, 0x8400_0000_0901_0008);
+    assert_eq!(rt; lost, Reply::Word(0x8400_0000_0301_0008));
     assert!(rt; !core.starts(0, 9));
     Ok(())
 }
