@@ -1,6 +1,6 @@
 //! Readers and writers that give or take a few bytes a call, and that fail at one call and at no other.
 
-use super::talk::answers;
+use super::talk::push_times;
 use crate::run::{End, RunFault, run};
 use std::io;
 use std::io::{ErrorKind, Read, Write};
@@ -8,12 +8,12 @@ use std::test::Fail;
 
 /// Gives a few bytes a read. The read of one number fails, and those after it do not.
 #[derive(Drop)]
-pub struct OnceFailing<'a> {
-    pub rest: &'a [u8],
-    pub most: usize,
-    pub reads: u64,
-    pub fails_at: u64,
-    pub kind: ErrorKind,
+struct OnceFailing<'a> {
+    rest: &'a [u8],
+    most: usize,
+    reads: u64,
+    fails_at: u64,
+    kind: ErrorKind,
 }
 
 impl Read for OnceFailing<'_> {
@@ -29,21 +29,14 @@ impl Read for OnceFailing<'_> {
     }
 }
 
-/// How one write fails.
-#[derive(Clone, Copy)]
-pub enum Failure {
-    TakesNone,
-    Is(ErrorKind),
-}
-
-/// Takes a few bytes a write. The write of one number fails, and those after it do not.
+/// Takes a few bytes a write. The write of one number fails, and those after it do not: it takes nothing, or is an error.
 #[derive(Drop)]
-pub struct OnceRefusing {
-    pub taken: Vec<u8>,
-    pub most: usize,
-    pub writes: u64,
-    pub fails_at: u64,
-    pub failure: Failure,
+struct OnceRefusing {
+    taken: Vec<u8>,
+    most: usize,
+    writes: u64,
+    fails_at: u64,
+    failure: Option<ErrorKind>,
 }
 
 impl Write for OnceRefusing {
@@ -51,8 +44,8 @@ impl Write for OnceRefusing {
         self.writes = self.writes.saturating_add(1);
         if self.writes == self.fails_at {
             return match self.failure {
-                Failure::TakesNone => Ok(0),
-                Failure::Is(kind) => Err(io::Error::from(kind)),
+                None => Ok(0),
+                Some(kind) => Err(io::Error::from(kind)),
             };
         }
         let n = buf.len().min(self.most);
@@ -71,68 +64,6 @@ const TEXT: &str =
 const ANSWER: &str =
     "ok\npointer 0\npointer 128\nok\nrefused 6\nok\ndata 0000000aff000000\nlog 0 open live 40 dead 0 unused 984\nlog 1 free live 0 dead 0 unused 1024\nlog 2 free live 0 dead 0 unused 1024\n";
 
-// Runs the text by a reader of which one read fails.
-fn run_read(
-    rt: &impl AllocGlobal,
-    most: usize,
-    fails_at: u64,
-    kind: ErrorKind,
-) -> (Result<End, RunFault>, Vec<u8>) {
-    let mut reader = OnceFailing {
-        rest: TEXT.as_bytes(),
-        most,
-        reads: 0,
-        fails_at,
-        kind,
-    };
-    let mut written = Vec::new(rt.alloc());
-    let ended = run(rt.alloc(), &mut reader, &mut written);
-    (ended, written)
-}
-
-// Runs the text by a writer of which one write fails.
-fn run_written(
-    rt: &impl AllocGlobal,
-    most: usize,
-    fails_at: u64,
-    failure: Failure,
-) -> (Result<End, RunFault>, Vec<u8>) {
-    let mut reader = TEXT.as_bytes();
-    let mut writer = OnceRefusing {
-        taken: Vec::new(rt.alloc()),
-        most,
-        writes: 0,
-        fails_at,
-        failure,
-    };
-    let ended = run(rt.alloc(), &mut reader, &mut writer);
-    (ended, writer.taken)
-}
-
-#[test]
-fn reads_of_a_few_bytes(rt: HostRuntime) -> Result<(), Fail> {
-    answers(&rt, TEXT, ANSWER, End::Ran)?;
-    for most in [1usize, 2, 3, 7, 64, 4096] {
-        let (ended, written) = run_read(&rt, most, 0, ErrorKind::Other);
-        assert_eq!(rt; ended, Ok(End::Ran));
-        assert_eq!(rt; written.as_slice(), ANSWER.as_bytes());
-    }
-    Ok(())
-}
-
-#[test]
-fn each_read_may_fail(rt: HostRuntime) -> Result<(), Fail> {
-    let last = TEXT.len() as u64;
-    for fails_at in 1..last.saturating_add(2) {
-        let (ended, written) = run_read(&rt, 1, fails_at, ErrorKind::Other);
-        assert_eq!(rt; ended, Err(RunFault::Read), "at {fails_at}");
-        assert!(rt; written.is_empty());
-    }
-    let (ended, _) = run_read(&rt, 1, last.saturating_add(2), ErrorKind::Other);
-    assert_eq!(rt; ended, Ok(End::Ran));
-    Ok(())
-}
-
 const KINDS: [ErrorKind; 5] = [
     ErrorKind::Interrupted,
     ErrorKind::WouldBlock,
@@ -141,79 +72,121 @@ const KINDS: [ErrorKind; 5] = [
     ErrorKind::Other,
 ];
 
-#[test]
-fn no_read_is_tried_again(rt: HostRuntime) -> Result<(), Fail> {
-    for kind in KINDS {
-        for fails_at in [1u64, 2, 5] {
-            let (ended, written) = run_read(&rt, 16, fails_at, kind);
-            assert_eq!(rt; ended, Err(RunFault::Read));
-            assert!(rt; written.is_empty());
-        }
-    }
-    Ok(())
+// Runs a text by a reader of which one read fails: the end, what was written, and how often it was read.
+fn run_read(
+    rt: &impl AllocGlobal,
+    text: &str,
+    most: usize,
+    fails_at: u64,
+    kind: ErrorKind,
+) -> (Result<End, RunFault>, Vec<u8>, u64) {
+    let mut reader = OnceFailing {
+        rest: text.as_bytes(),
+        most,
+        reads: 0,
+        fails_at,
+        kind,
+    };
+    let mut written = Vec::new(rt.alloc());
+    let ended = run(rt.alloc(), &mut reader, &mut written);
+    (ended, written, reader.reads)
+}
+
+// Runs a text by a writer of which one write fails.
+fn run_written(
+    rt: &impl AllocGlobal,
+    text: &str,
+    most: usize,
+    fails_at: u64,
+    failure: Option<ErrorKind>,
+) -> (Result<End, RunFault>, OnceRefusing) {
+    let mut reader = text.as_bytes();
+    let mut writer = OnceRefusing {
+        taken: Vec::new(rt.alloc()),
+        most,
+        writes: 0,
+        fails_at,
+        failure,
+    };
+    let ended = run(rt.alloc(), &mut reader, &mut writer);
+    (ended, writer)
 }
 
 #[test]
-fn writes_of_a_few_bytes(rt: HostRuntime) -> Result<(), Fail> {
-    for most in [1usize, 2, 3, 7, 64, 4096] {
-        let (ended, written) = run_written(&rt, most, 0, Failure::TakesNone);
+fn each_read_may_fail(rt: HostRuntime) -> Result<(), Fail> {
+    let end = TEXT.len() as u64 + 1;
+    for fails_at in 1..end + 1 {
+        let kind = KINDS[(fails_at % 5) as usize];
+        let (ended, written, reads) = run_read(&rt, TEXT, 1, fails_at, kind);
+        assert_eq!(rt; ended, Err(RunFault::Read), "at {fails_at}");
+        assert!(rt; written.is_empty());
+        // it is not tried again
+        assert_eq!(rt; reads, fails_at);
+    }
+    for most in [1, 2, 7, 4096] {
+        let (ended, written, reads) = run_read(&rt, TEXT, most, end + 1, ErrorKind::Other);
         assert_eq!(rt; ended, Ok(End::Ran));
         assert_eq!(rt; written.as_slice(), ANSWER.as_bytes());
+        assert!(rt; reads <= end);
     }
     Ok(())
 }
 
-// The writes at which a run is made to fail: the first ones, some behind them, and the last ones.
-fn some_writes(count: usize) -> [usize; 12] {
-    let third = count / 3;
-    let last = count.saturating_sub(1);
-    [
-        0,
-        1,
-        2,
-        3,
-        4,
-        third,
-        third.saturating_add(1),
-        third.saturating_mul(2),
-        last.saturating_sub(3),
-        last.saturating_sub(2),
-        last.saturating_sub(1),
-        last,
-    ]
+#[test]
+fn nothing_is_read_after_the_first_byte_too_many(rt: HostRuntime) -> Result<(), Fail> {
+    let mut text = String::new(rt.alloc());
+    push_times(&mut text, "\n", 1_048_577)?;
+    let (ended, written, reads) = run_read(&rt, &text, 65_536, 18, ErrorKind::Other);
+    assert_eq!(rt; ended, Ok(End::Refused));
+    assert_eq!(rt; written.as_slice(), b"refused 16 0\n".as_slice());
+    assert_eq!(rt; reads, 17);
+    Ok(())
 }
 
 #[test]
 fn each_write_may_fail(rt: HostRuntime) -> Result<(), Fail> {
     let answer = ANSWER.as_bytes();
-    for failure in [Failure::TakesNone, Failure::Is(ErrorKind::Other)] {
-        for before in some_writes(answer.len()) {
-            let fails_at = (before as u64).saturating_add(1);
-            let (ended, written) = run_written(&rt, 1, fails_at, failure);
-            assert_eq!(rt; ended, Err(RunFault::Write), "at {fails_at}");
-            assert_eq!(rt; written.len(), before);
-            assert!(rt; answer.starts_with(&written));
+    let last = answer.len() as u64 - 1;
+    for before in [0, 1, 2, 3, 100, last - 1, last] {
+        for failure in [None, Some(KINDS[(before % 5) as usize])] {
+            let (ended, writer) = run_written(&rt, TEXT, 1, before + 1, failure);
+            assert_eq!(rt; ended, Err(RunFault::Write), "at {before}");
+            assert_eq!(rt; writer.taken.len() as u64, before);
+            // it is not tried again
+            assert_eq!(rt; writer.writes, before + 1);
+            assert!(rt; answer.starts_with(&writer.taken));
         }
-        let behind = (answer.len() as u64).saturating_add(1);
-        let (ended, written) = run_written(&rt, 1, behind, failure);
+    }
+    for most in [1, 2, 7, 4096] {
+        let (ended, writer) = run_written(&rt, TEXT, most, 0, None);
         assert_eq!(rt; ended, Ok(End::Ran));
-        assert_eq!(rt; written.as_slice(), answer);
+        assert_eq!(rt; writer.taken.as_slice(), answer);
     }
     Ok(())
 }
 
+// `logs` of the largest heap, again and again: each time more than 2,500 bytes of answer.
+fn long_text(rt: &impl AllocGlobal) -> Result<String, Fail> {
+    let mut text = String::new(rt.alloc());
+    text.push_str("heap 64 8\n")?;
+    push_times(&mut text, "logs\n", 175)?;
+    Ok(text)
+}
+
 #[test]
-fn no_write_is_tried_again(rt: HostRuntime) -> Result<(), Fail> {
-    for kind in KINDS {
-        for fails_at in [1u64, 2, 5] {
-            let (ended, written) = run_written(&rt, 32, fails_at, Failure::Is(kind));
-            assert_eq!(rt; ended, Err(RunFault::Write));
-            assert!(rt; ANSWER.as_bytes().starts_with(&written));
-            assert_eq!(rt;
-                written.len() as u64,
-                fails_at.saturating_sub(1).saturating_mul(32)
-            );
-        }
+fn long_answers_are_written_in_few_pieces(rt: HostRuntime) -> Result<(), Fail> {
+    let text = long_text(&rt)?;
+    let (ended, whole) = run_written(&rt, &text, usize::MAX, 0, None);
+    assert_eq!(rt; ended, Ok(End::Ran));
+    assert!(rt; whole.taken.len() > 400_000);
+    assert!(rt; whole.writes <= 10, "{} writes", whole.writes);
+    for fails_at in 1..whole.writes.saturating_add(1) {
+        let (ended, writer) = run_written(&rt, &text, usize::MAX, fails_at, None);
+        assert_eq!(rt; ended, Err(RunFault::Write), "at {fails_at}");
+        // nothing is written after a failed piece
+        assert_eq!(rt; writer.writes, fails_at);
+        assert!(rt; whole.taken.starts_with(&writer.taken));
+        assert!(rt; writer.taken.len() < whole.taken.len());
     }
     Ok(())
 }

@@ -1,0 +1,468 @@
+//! Talks: commands of a text, each followed by the lines of its reply, two spaces in.
+
+use super::talk::is_answered;
+use std::test::Fail;
+
+/// The first object is made and read.
+const FIRST_OBJECT: &str = "\
+heap 4 1
+  ok
+new 0 8 1
+  pointer 0
+open 0
+  ok
+read 0 0 0 8
+  data 0000000000000000
+logs
+  log 0 open live 16 dead 0 unused 1008
+  log 1 free live 0 dead 0 unused 1024
+  log 2 free live 0 dead 0 unused 1024
+  log 3 free live 0 dead 0 unused 1024
+";
+
+/// Comments and empty lines change nothing.
+const COMMENTS: &str = "\
+# a heap
+heap 4 1
+  ok
+
+#
+new 0 8 1
+  pointer 0
+#\tany \x7f\r  spaces.
+open 0
+  ok
+# open 0
+
+
+close 0
+  ok
+";
+
+/// Lengths out of range make nothing.
+const LENGTHS: &str = "\
+heap 4 1
+  ok
+new 0 0 1
+  refused 4
+new 0 1017 1
+  refused 4
+logs
+  log 0 open live 0 dead 0 unused 1024
+  log 1 free live 0 dead 0 unused 1024
+  log 2 free live 0 dead 0 unused 1024
+  log 3 free live 0 dead 0 unused 1024
+";
+
+/// The last free log is kept in reserve.
+const RESERVE: &str = "\
+heap 3 1
+  ok
+new 0 1000 1
+  pointer 0
+new 0 1000 1
+  pointer 1
+logs
+  log 0 sealed live 1008 dead 0 unused 16
+  log 1 open live 1008 dead 0 unused 16
+  log 2 free live 0 dead 0 unused 1024
+new 0 1000 1
+  refused 2
+logs
+  log 0 sealed live 1008 dead 0 unused 16
+  log 1 open live 1008 dead 0 unused 16
+  log 2 free live 0 dead 0 unused 1024
+new 0 9 1
+  refused 2
+logs
+  log 0 sealed live 1008 dead 0 unused 16
+  log 1 open live 1008 dead 0 unused 16
+  log 2 free live 0 dead 0 unused 1024
+new 0 8 1
+  pointer 2
+logs
+  log 0 sealed live 1008 dead 0 unused 16
+  log 1 open live 1024 dead 0 unused 0
+  log 2 free live 0 dead 0 unused 1024
+new 0 1 1
+  refused 2
+logs
+  log 0 sealed live 1008 dead 0 unused 16
+  log 1 open live 1024 dead 0 unused 0
+  log 2 free live 0 dead 0 unused 1024
+open 0
+  ok
+read 0 2 0 8
+  data 0000000000000000
+read 0 3 0 1
+  refused 7
+";
+
+/// An object that gets no room seals nothing.
+const REFUSED_OBJECT: &str = "\
+heap 2 1
+  ok
+new 0 496 1
+  pointer 0
+logs
+  log 0 open live 504 dead 0 unused 520
+  log 1 free live 0 dead 0 unused 1024
+new 0 513 1
+  refused 2
+logs
+  log 0 open live 504 dead 0 unused 520
+  log 1 free live 0 dead 0 unused 1024
+new 0 1016 1
+  refused 2
+logs
+  log 0 open live 504 dead 0 unused 520
+  log 1 free live 0 dead 0 unused 1024
+new 0 512 1
+  pointer 1
+logs
+  log 0 open live 1024 dead 0 unused 0
+  log 1 free live 0 dead 0 unused 1024
+new 0 1 1
+  refused 2
+";
+
+/// A log that is passed over is sealed.
+const PASSED_OVER: &str = "\
+heap 4 2
+  ok
+new 0 600 1
+  pointer 0
+logs
+  log 0 open live 608 dead 0 unused 416
+  log 1 free live 0 dead 0 unused 1024
+  log 2 free live 0 dead 0 unused 1024
+  log 3 free live 0 dead 0 unused 1024
+new 1 409 1
+  pointer 128
+logs
+  log 0 sealed live 608 dead 0 unused 416
+  log 1 open live 424 dead 0 unused 600
+  log 2 free live 0 dead 0 unused 1024
+  log 3 free live 0 dead 0 unused 1024
+new 0 592 1
+  pointer 1
+logs
+  log 0 sealed live 608 dead 0 unused 416
+  log 1 open live 1024 dead 0 unused 0
+  log 2 free live 0 dead 0 unused 1024
+  log 3 free live 0 dead 0 unused 1024
+new 1 1 1
+  pointer 129
+logs
+  log 0 sealed live 608 dead 0 unused 416
+  log 1 sealed live 1024 dead 0 unused 0
+  log 2 open live 16 dead 0 unused 1008
+  log 3 free live 0 dead 0 unused 1024
+";
+
+/// An object may end with its log.
+const LAST_WORD: &str = "\
+heap 3 1
+  ok
+new 0 1 1
+  pointer 0
+new 0 1000 1
+  pointer 1
+logs
+  log 0 open live 1024 dead 0 unused 0
+  log 1 free live 0 dead 0 unused 1024
+  log 2 free live 0 dead 0 unused 1024
+new 0 1016 1
+  pointer 2
+logs
+  log 0 sealed live 1024 dead 0 unused 0
+  log 1 open live 1024 dead 0 unused 0
+  log 2 free live 0 dead 0 unused 1024
+new 0 1016 1
+  refused 2
+new 0 1 1
+  refused 2
+open 0
+  ok
+write 0 1 999 77
+  ok
+write 0 2 1015 78
+  ok
+read 0 0 0 1
+  data 00
+read 0 1 998 2
+  data 0077
+read 0 2 1014 2
+  data 0078
+read 0 2 0 1
+  data 00
+";
+
+/// A byte too many goes to the next log.
+const ONE_BYTE_TOO_MANY: &str = "\
+heap 3 1
+  ok
+new 0 1 1
+  pointer 0
+new 0 1001 1
+  pointer 1
+logs
+  log 0 sealed live 16 dead 0 unused 1008
+  log 1 open live 1016 dead 0 unused 8
+  log 2 free live 0 dead 0 unused 1024
+new 0 1 1
+  refused 2
+";
+
+/// An odd length: parts of words, and the padding.
+const NINE_BYTES: &str = "\
+heap 4 1
+  ok
+new 0 9 1
+  pointer 0
+open 0
+  ok
+write 0 0 8 ff
+  ok
+read 0 0 0 9
+  data 0000000000000000ff
+write 0 0 0 0102030405060708
+  ok
+read 0 0 0 9
+  data 0102030405060708ff
+write 0 0 7 a0a1
+  ok
+read 0 0 0 9
+  data 01020304050607a0a1
+read 0 0 6 3
+  data 07a0a1
+read 0 0 8 1
+  data a1
+";
+
+/// Bytes over two words, and neighbours that stay as they are.
+const TWO_WORDS: &str = "\
+heap 4 1
+  ok
+new 0 8 1
+  pointer 0
+new 0 17 1
+  pointer 1
+new 0 8 1
+  pointer 2
+open 0
+  ok
+write 0 0 0 f0f1f2f3f4f5f6f7
+  ok
+write 0 1 0 101112131415161718191a1b1c1d1e1f20
+  ok
+write 0 2 0 e0e1e2e3e4e5e6e7
+  ok
+write 0 1 6 aabbcc
+  ok
+read 0 1 0 17
+  data 101112131415aabbcc191a1b1c1d1e1f20
+write 0 1 15 ddee
+  ok
+read 0 1 0 17
+  data 101112131415aabbcc191a1b1c1d1eddee
+write 0 1 7 00000000000000000000
+  ok
+read 0 1 0 17
+  data 101112131415aa00000000000000000000
+read 0 0 0 8
+  data f0f1f2f3f4f5f6f7
+read 0 2 0 8
+  data e0e1e2e3e4e5e6e7
+logs
+  log 0 open live 64 dead 0 unused 960
+  log 1 free live 0 dead 0 unused 1024
+  log 2 free live 0 dead 0 unused 1024
+  log 3 free live 0 dead 0 unused 1024
+";
+
+/// Digits in either case are answered in small ones.
+const EITHER_CASE: &str = "\
+heap 2 1
+  ok
+new 0 8 1
+  pointer 0
+open 0
+  ok
+write 0 0 0 AbCdEfaBcDeF0990
+  ok
+read 0 0 0 8
+  data abcdefabcdef0990
+";
+
+/// The last mutator, pointer, length and byte that are in range.
+const LAST_IN_RANGE: &str = "\
+heap 4 8
+  ok
+new 7 1 255
+  pointer 896
+new 7 1016 0
+  pointer 897
+new 6 9 0
+  pointer 768
+open 7
+  ok
+open 6
+  ok
+read 7 896 0 1
+  data 00
+write 7 896 0 ab
+  ok
+read 7 896 0 1
+  data ab
+write 7 897 1015 cd
+  ok
+read 7 897 1015 1
+  data cd
+read 7 897 1015 2
+  refused 8
+read 7 897 1016 1
+  refused 8
+write 6 768 8 ef
+  ok
+read 6 768 0 9
+  data 0000000000000000ef
+read 6 768 8 1
+  data ef
+close 7
+  ok
+close 7
+  refused 5
+close 8
+  refused 8
+read 6 768 8 1
+  data ef
+";
+
+/// Closing, reading and writing before any opening.
+const NEVER_OPENED: &str = "\
+heap 2 1
+  ok
+close 0
+  refused 5
+read 0 0 0 1
+  refused 5
+write 0 0 0 ff
+  refused 5
+open 0
+  ok
+read 0 0 0 1
+  refused 7
+write 0 0 0 ff
+  refused 7
+new 0 1 1
+  pointer 0
+write 0 0 0 ff
+  ok
+close 0
+  ok
+close 0
+  refused 5
+";
+
+/// Mutators by turns, each with objects and a scope of its own.
+const BY_TURNS: &str = "\
+heap 4 3
+  ok
+new 1 8 1
+  pointer 128
+open 2
+  ok
+new 0 8 1
+  pointer 0
+open 0
+  ok
+new 2 8 1
+  pointer 256
+open 1
+  ok
+new 1 8 1
+  pointer 129
+new 0 8 1
+  pointer 1
+write 1 128 0 a1a1a1a1a1a1a1a1
+  ok
+write 0 1 0 0101010101010101
+  ok
+write 2 256 0 c0c0c0c0c0c0c0c0
+  ok
+write 1 129 0 b1b1b1b1b1b1b1b1
+  ok
+read 0 0 0 8
+  data 0000000000000000
+close 2
+  ok
+read 0 1 0 8
+  data 0101010101010101
+read 1 128 0 8
+  data a1a1a1a1a1a1a1a1
+read 1 129 0 8
+  data b1b1b1b1b1b1b1b1
+read 2 256 0 8
+  refused 5
+read 1 256 0 8
+  refused 7
+open 2
+  ok
+read 2 256 0 8
+  data c0c0c0c0c0c0c0c0
+";
+
+/// Objects are made with the scope open or closed.
+const SCOPES: &str = "\
+heap 2 1
+  ok
+new 0 1 0
+  pointer 0
+open 0
+  ok
+new 0 2 255
+  pointer 1
+read 0 0 0 1
+  data 00
+read 0 1 0 2
+  data 0000
+close 0
+  ok
+new 0 3 7
+  pointer 2
+read 0 2 0 3
+  refused 5
+open 0
+  ok
+read 0 2 0 3
+  data 000000
+read 0 3 0 3
+  refused 7
+";
+
+const TALKS: [&str; 15] = [
+    FIRST_OBJECT,
+    COMMENTS,
+    LENGTHS,
+    RESERVE,
+    REFUSED_OBJECT,
+    PASSED_OVER,
+    LAST_WORD,
+    ONE_BYTE_TOO_MANY,
+    NINE_BYTES,
+    TWO_WORDS,
+    EITHER_CASE,
+    LAST_IN_RANGE,
+    NEVER_OPENED,
+    BY_TURNS,
+    SCOPES,
+];
+
+#[test]
+fn talks_are_answered(rt: HostRuntime) -> Result<(), Fail> {
+    for talk in TALKS {
+        is_answered(&rt, talk)?;
+    }
+    Ok(())
+}

@@ -1,0 +1,103 @@
+//! Texts that are refused, and texts without a command.
+
+use super::talk::answers;
+use crate::run::End;
+use std::test::Fail;
+
+#[test]
+fn no_commands_get_no_answer(rt: HostRuntime) -> Result<(), Fail> {
+    for text in ["", "\n", "\n\n\n", "#", "# alone\n", "\n# one\n\n#two\n#"] {
+        answers(&rt, text, "", End::Ran)?;
+    }
+    answers(&rt, "heap 4 1", "ok\n", End::Ran)
+}
+
+// The number of the first line off the grammar, and the text, with / for a newline.
+const BAD_TEXTS: &str = "\
+1 heap 4 1\r/
+1 \r/heap 4 1
+1 heap\t4 1
+1 heap  4 1
+1 heap 4 1 
+1  heap 4 1
+1  
+1  # no comment
+1 heap 4
+1 heap 4 1 0
+3 heap 4 1//heap 4 1
+2 # the heap is missing/logs
+1 new 0 8 1/heap 4 1
+1 # \u{e4}
+3 heap 4 1/#/#\u{80}
+2 heap 4 1/logs \u{e4}
+2 heap 4 1/open 00
+2 heap 4 1/open 007
+2 heap 4 1/open +1
+2 heap 4 1/open -1
+2 heap 4 1/open
+2 heap 4 1/open 0 0
+2 heap 4 1/open 0x1
+2 heap 4 1/open 18446744073709551616
+2 heap 4 1/open 99999999999999999999
+2 heap 4 1/open 100000000000000000000000000000000000000000
+2 heap 4 1/write 0 0 0 0
+2 heap 4 1/write 0 0 0 012
+2 heap 4 1/write 0 0 0 
+2 heap 4 1/write 0 0 0
+2 heap 4 1/write 0 0 0 0g
+2 heap 4 1/write 0 0 0 00 00
+2 heap 4 1/read 0 0 0
+2 heap 4 1/read 0 0 0 1 1
+2 heap 4 1/logs 0
+4 heap 4 1/logs//log 0
+2 heap 4 1/LOGS
+2 heap 4 1/log
+2 heap 4 1/logss
+2 heap 4 1/close 0\0
+1 bad
+2 heap 4 1/open/
+3 heap 4 1/new 0 8 1/bad
+3 heap 4 1/new 0 8 1/bad/
+2 heap 4 1/bad/new 0 8 1/worse/
+5 heap 4 1//# here/open 0/logs 1/logs/
+2 heap 65 1/bad/
+1 logs/heap 4 1/
+3 heap 4 1/logs/heap 4 1/
+2 heap 4 1/open 18446744073709551616/
+";
+
+#[test]
+fn one_bad_line_refuses_the_whole_text(rt: HostRuntime) -> Result<(), Fail> {
+    for row in BAD_TEXTS.lines() {
+        let (number, text) = row.split_once(' ').unwrap_or(("", row));
+        let text = text.replace(rt.alloc(), "/", "\n")?;
+        let answer = format!(in rt.alloc(); "refused 16 {number}\n")?;
+        answers(&rt, &text, &answer, End::Refused)?;
+    }
+    Ok(())
+}
+
+const BAD_SHAPES: [&str; 14] = [
+    "heap 0 0",
+    "heap 0 1",
+    "heap 1 1",
+    "heap 65 1",
+    "heap 4 9",
+    "heap 4 0",
+    "heap 65 9",
+    "heap 255 255",
+    "heap 256 1",
+    "heap 260 1",
+    "heap 4 257",
+    "heap 4 18446744073709551615",
+    "heap 18446744073709551615 1",
+    "heap 18446744073709551615 18446744073709551615\nnew 0 8 1\nopen 0\nlogs\n",
+];
+
+#[test]
+fn shapes_out_of_range_are_refused(rt: HostRuntime) -> Result<(), Fail> {
+    for text in BAD_SHAPES {
+        answers(&rt, text, "refused 15\n", End::Refused)?;
+    }
+    Ok(())
+}
