@@ -1,18 +1,20 @@
 -- What a typed call leaves: the state after its event, which keeps the law.
-use Rattle.std.proofs.Common.{◌≡◌, ℕ, ◌+◌, ◌-◌, ◌*◌, ◌^◌, ◌/◌, ◌<◌, Some, ap, arith, refl, true}
+use Rattle.std.proofs.Common.{◌≡◌, ℕ, ◌+◌, ◌-◌, ◌*◌, ◌^◌, ◌/◌, ◌<◌, ◌≤◌, Some, ap, arith, refl, true}
 use Rattle.std.proofs.lemmas.Bool.{cond_both}
 use Rattle.std.proofs.lemmas.Bool.Decides.{nat_tests}
 use Rattle.std.specs.Prelude.{is_some, IsSome, ◌==◌}
 use Rattle.far_word.specs.declared.sizes.TheConstants.{CELLS, LOG_WORDS}
 use Rattle.far_word.specs.Sizes.{words_for}
+use Rattle.far_word.proofs.PointerLaws.{read_says}
 use Rattle.far_word.specs.declared.pointer.Place.{Place}
+use Rattle.far_word.specs.declared.pointer.PtrWord.TheVariants.{Near}
 use Rattle.far_core.specs.declared.event.Event.{Event}
 use Rattle.far_core.specs.declared.event.Event.TheVariants.{Name, Store}
 use Rattle.far_core.specs.declared.event.Reply.{Reply}
 use Rattle.far_core.specs.declared.event.Reply.TheVariants.{Done, Word}
 use Rattle.far_core.specs.events.Legal.{Legal}
 use Rattle.far_core.specs.events.Next.{next_state}
-use Rattle.far_core.specs.events.Step.{Fits, after, answer, data_len, data_word, holds, is_legal, near_data}
+use Rattle.far_core.specs.events.Step.{Fits, after, answer, data_len, data_word, holds, is_legal, near_data, near_len}
 use Rattle.far_core.specs.state.Law.{Law}
 use Rattle.far_core.specs.state.State.{State, addr}
 use Rattle.far_core.proofs.Cells.{held_near}
@@ -38,15 +40,26 @@ word_inside s law p i place held inside =
     let holds_it : holds s (p / CELLS) p ≡ true = rw (own, some) refl in
     omega (arith, word_behind s law p i place held, in_memory s law (p / CELLS) p i holds_it inside)
 
+-- all its data words are words of the heap
+pub data_inside : (s : State) → Law s → (p : ℕ) (place : Place) → s.held p ≡ Some place → addr place + 1 + words_for (data_len s p) ≤ LOG_WORDS * s.logs
+data_inside s law p place held =
+    let near = held_near _ place (law.views.held_names p place held) in
+    let len : data_len s p ≡ near.len = ap near_len near.near in
+    let says = read_says (s.cell p) (Near near.len near.ds place near.marks) (law.cells.cell_read p).0 near.near in
+    omega (arith, word_inside s law p (words_for (data_len s p) - 1) place held (omega (arith, says.0, len)))
+
 -- a legal naming wins or finds another word
 pub name_replies : (s : State) (p old new : ℕ) (r : Reply) → r ≡ answer s (Name p old new) → (r ≡ Done → ⊥) → ((x : ℕ) → r ≡ Word x → ⊥) → ⊥
 name_replies s p old new r is done word = cond_both (s.cell p == old) Done (Word (s.cell p)) (λ a. r ≡ a → ⊥) (λ _ e. done e) (λ _ e. word (s.cell p) e) is
 
 -- the guard of a store by what its caller knows
-pub store_keeps_law : (s : State) (m p i w : ℕ) → Law s → p / CELLS ≡ m → IsSome (s.held p) → i < words_for (data_len s p) → w < 2 ^ (8 * (data_len s p - 8 * i)) → w < 2 ^ 64 → Law (next_state s (Store m p i w))
-unfolding next_state
-store_keeps_law s m p i w law own held inside padding fits =
+pub store_legal : (s : State) (m p i w : ℕ) → Law s → p / CELLS ≡ m → IsSome (s.held p) → i < words_for (data_len s p) → w < 2 ^ (8 * (data_len s p - 8 * i)) → Legal s (Store m p i w)
+store_legal s m p i w law own held inside padding =
     let some : is_some (s.held p) ≡ true = held in
     let h : holds s m p ≡ true = grind (arith, nat_tests) in
     let legal : is_legal s (Store m p i w) ≡ true = grind (arith, nat_tests) in
-    keeps s (Store m p i w) law fits (is_fact s (Store m p i w) law legal)
+    is_fact s (Store m p i w) law legal
+
+pub store_keeps_law : (s : State) (m p i w : ℕ) → Law s → p / CELLS ≡ m → IsSome (s.held p) → i < words_for (data_len s p) → w < 2 ^ (8 * (data_len s p - 8 * i)) → w < 2 ^ 64 → Law (next_state s (Store m p i w))
+unfolding next_state
+store_keeps_law s m p i w law own held inside padding fits = keeps s (Store m p i w) law fits (store_legal s m p i w law own held inside padding)

@@ -18,7 +18,9 @@ pub mod Observations
 pub mod Owed
 pub mod Owing
 pub mod Put
+pub mod Ranges
 pub mod RoomLaws
+pub mod Rows
 pub mod SpanFrames
 pub mod Steps
 pub mod Touching

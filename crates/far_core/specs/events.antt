@@ -15,6 +15,7 @@ pub mod Open
 pub mod Owners
 pub mod Pin
 pub mod Put
+pub mod Ranges
 pub mod ReadEpoch
 pub mod Reports
 pub mod Rule

@@ -7,6 +7,7 @@ mod calls;
 pub mod laws;
 mod observing;
 mod opening;
+mod ranges;
 
 use crate::memory::Memory;
 

@@ -6,6 +6,7 @@ ghost use Rattle.far_word.specs.declared.sizes.TheConstants.{CELLS, LOG_WORDS, M
 
 mod book;
 mod owner;
+mod ranges;
 pub(crate) mod reading;
 mod writing;
 

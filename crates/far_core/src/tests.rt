@@ -5,6 +5,7 @@ mod dropping;
 mod filling;
 mod freeing;
 mod page;
+mod ranges;
 mod reading;
 mod refusing;
 mod values;

@@ -79,7 +79,7 @@ read_says w v fits e = subst (λ (o : Option PtrWord). IfSome o (Says w)) e (poi
 
 -- ---- the fields of the word of a pointer
 module _ (len ds at log : ℕ) (m : Marks) (p : len < 2 ^ 16) (q : ds < 2 ^ 8) (r : at < 2 ^ 10) (s : log < 2 ^ 8) where
-  near_fields : (w : ℕ) → w ≡ len + ds * 2 ^ 16 + at * 2 ^ 24 + log * 2 ^ 34 + 2 ^ 58 + marks_number m * 2 ^ 59 + 2 ^ 63 →
+  pub near_fields : (w : ℕ) → w ≡ len + ds * 2 ^ 16 + at * 2 ^ 24 + log * 2 ^ 34 + 2 ^ 58 + marks_number m * 2 ^ 59 + 2 ^ 63 →
       (field w 0 16 ≡ len) × (field w 16 8 ≡ ds) × (field w 24 10 ≡ at) × (field w 34 8 ≡ log) × (field w 42 16 ≡ 0) × (field w 58 1 ≡ 1) × (field w 63 1 ≡ 1)
   near_fields w e = let t : marks_number m < 2 ^ 4 = marks_small m in (omega arith, omega arith, omega arith, omega arith, omega arith, omega arith, omega arith)
 
@@ -93,7 +93,7 @@ module _ (len ds at log : ℕ) (m : Marks) (p : len < 2 ^ 16) (q : ds < 2 ^ 8) (
       (omega arith, omega arith, omega arith, omega arith)
 
 module _ (len ds : ℕ) (m : Marks) (p : len < 2 ^ 16) (q : ds < 2 ^ 8) where
-  far_fields : (w : ℕ) → w ≡ len + ds * 2 ^ 16 + 2 ^ 58 + marks_number m * 2 ^ 59 →
+  pub far_fields : (w : ℕ) → w ≡ len + ds * 2 ^ 16 + 2 ^ 58 + marks_number m * 2 ^ 59 →
       (field w 0 16 ≡ len) × (field w 16 8 ≡ ds) × (field w 24 10 ≡ 0) × (field w 34 8 ≡ 0) × (field w 42 16 ≡ 0) × (field w 58 1 ≡ 1) × (field w 63 1 ≡ 0)
   far_fields w e = let t : marks_number m < 2 ^ 4 = marks_small m in (omega arith, omega arith, omega arith, omega arith, omega arith, omega arith, omega arith)
 

@@ -73,3 +73,9 @@ abbrev pub view_place : PtrWord → Option Place
 view_place Free = None
 view_place (Near len ds place marks) = if marks.evac || marks.moved || marks.dropped then None else Some place
 view_place (Far len ds marks) = None
+
+-- the length of the object that a pointer names, near or far; a free cell names none
+abbrev pub pointer_len : PtrWord → ℕ
+pointer_len Free = 0
+pointer_len (Near len ds place marks) = len
+pointer_len (Far len ds marks) = len

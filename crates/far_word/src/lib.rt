@@ -22,7 +22,7 @@ pub use laws::{
     sizes_are, words_are,
 };
 pub use mark::{Mark, Marks};
-pub use pointer::{Place, PtrWord, rests_view, without_owner_marks};
+pub use pointer::{Place, PtrWord, pointer_len, resting_place, rests_view, without_owner_marks};
 pub use refused::Refused;
 pub use scope::ScopeWord;
 pub use sizes::{

@@ -2,7 +2,7 @@
 
 ghost use Rattle.std.specs.Prelude.{◌≡◌, IfSome, is_some};
 ghost use Rattle.far_word.specs.declared.pointer.PtrWord.{PtrWord};
-ghost use Rattle.far_word.specs.Pointer.{IsPtr, word_of, read_of, view_place, without_owner_marks};
+ghost use Rattle.far_word.specs.Pointer.{IsPtr, word_of, read_of, pointer_len, view_place, without_owner_marks};
 
 use crate::field::{field, is_set};
 use crate::mark::Marks;
@@ -142,6 +142,30 @@ pub fn rests_view(word: u64) -> bool
     ensures { (v : PtrWord) → IsPtr v → word_of v ≡ word → (result ≡ is_some (view_place v)) }
 {
     word & VIEW_MASK == PRESENT_MASK
+}
+
+/// Where a new view may rest, of a word on the layout, by one mask and two fields: what [`PtrWord::view_place`] answers of
+/// what it reads as.
+#[inline]
+pub fn resting_place(word: u64) -> Option<Place>
+    ensures { (v : PtrWord) → read_of word ≡ Some v → result ≡ view_place v }
+{
+    if !rests_view(word) {
+        return None;
+    }
+    Some(Place {
+        log: field(word, LOG, 8) as u8,
+        at: field(word, AT, 10) as u16,
+    })
+}
+
+/// The length of the object that a word on the layout names, near or far, by one field; 0 where the cell is free.
+#[inline]
+pub fn pointer_len(word: u64) -> u16
+    ensures { (v : PtrWord) → read_of word ≡ Some v → result ≡ pointer_len v }
+{
+    let len = field(word, 0, 16);
+    len as u16
 }
 
 /// A pointer's word without the marks that its owner may add at any moment: HOT, MOVE and DROP.

@@ -55,7 +55,8 @@ impl Memory {
     }
 
     pub(crate) fn pin(&mut self, owner: u8, pointer: u16) -> Result<Place, u64>
-        requires { pointer < CELLS * (state_of self.old).mutators }
+        requires law { Law (state_of self.old) }
+        requires pointer { pointer < CELLS * (state_of self.old).mutators }
         ensures state { state_of self.new ≡ next_state (state_of self.old) (Event.Pin owner pointer) }
         ensures held { IfOk result (λ place. answer (state_of self.old) (Event.Pin owner pointer) ≡ Reply.Held place) }
         ensures word { IfErr result (λ word. answer (state_of self.old) (Event.Pin owner pointer) ≡ Reply.Word word) }

@@ -9,7 +9,7 @@ ghost use Rattle.far_word.specs.Pointer.{read_of};
 
 use crate::event::Kind;
 use crate::memory::Memory;
-use far_word::{CELLS, LOG_WORDS, Place, PtrWord};
+use far_word::{CELLS, LOG_WORDS, Place, PtrWord, resting_place};
 
 impl Memory {
     #[tactic(auto, unfolding(crate::specs::state::Memory::state_of))]
@@ -198,12 +198,10 @@ impl Memory {
 
 /// Where a new view of a cell may rest.
 pub(crate) fn place_to_view(cell: u64) -> Option<Place>
+    requires { IsSome (read_of cell) }
     ensures { result ≡ place_to_view (read_of cell) }
 {
-    match PtrWord::read(cell) {
-        Some(pointer) => pointer.view_place(),
-        None => None,
-    }
+    resting_place(cell)
 }
 
 /// The length of a near cell's object; 0 for any other cell.

@@ -2,8 +2,8 @@
 
 use super::{HOT, HOT_EVAC, NO_MARKS};
 use crate::{
-    HeadWord, Mark, Marks, Place, PtrWord, Refused, ScopeWord, pack_bytes, rests_view, size_of,
-    unpack_bytes, without_owner_marks,
+    HeadWord, Mark, Marks, Place, PtrWord, Refused, ScopeWord, pack_bytes, pointer_len,
+    resting_place, rests_view, size_of, unpack_bytes, without_owner_marks,
 };
 use std::test::*;
 
@@ -154,6 +154,22 @@ fn marks_and_masks(rt: HostRuntime) {
         (size_of(1), size_of(8), size_of(9), size_of(1016)),
         (2, 2, 3, 128)
     );
+}
+
+#[test]
+fn fields_alone(rt: HostRuntime) {
+    let place = Place { log: 3, at: 5 };
+    for (word, len, rests) in [
+        (0, 0, None),
+        (0x8400_000c_0501_0008, 8, Some(place)),
+        (0xc400_000c_05ff_03f8, 1016, Some(place)),
+        (0xe400_000c_0501_0008, 8, None),
+        (0x9400_000c_0501_0001, 1, None),
+        (0x0400_0000_0001_0009, 9, None),
+    ] {
+        assert_eq!(rt; pointer_len(word), len, "at {word:016x}");
+        assert_eq!(rt; resting_place(word), rests, "at {word:016x}");
+    }
 }
 
 #[test]

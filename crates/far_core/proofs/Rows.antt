@@ -1,0 +1,99 @@
+-- Words of which some are those of a row.
+use Rattle.std.proofs.Common.{◌≢◌, ◌≡◌, ℕ, zero, suc, ◌+◌, ◌-◌, ◌<◌, ◌≤◌, ◌⊎◌, true, false, cond, ◌&&◌, nat_lt, nat_le, refl, sym, ap, ◌∙◌, arith, inl, inr, List, ◌++◌, length, take, drop, get_or}
+use Rattle.std.specs.Prelude.{replicate}
+use Rattle.std.proofs.lemmas.List.{get_or-append_right, get_or_append_left, get_or-take, get_or-drop, length-drop, length-replicate, length-take-le, length-append, with_items_is}
+use Rattle.std.specs.Vec.{with_items}
+use Rattle.std.specs.declared.vec.Vec.{Vec}
+use borrow.Rule.Slice.PartMut.{put_mid, post_of, mid_of}
+use Rattle.std.proofs.lemmas.Bool.{cases_lt, cases_eq}
+use Rattle.std.proofs.lemmas.Bool.Decides.{nat_tests}
+use mathlib.Core.Path.{fun_ext}
+use Rattle.far_core.specs.state.State.{put}
+use Rattle.far_core.proofs.Begins.{row_of}
+use Rattle.far_core.proofs.Put.{put_same, put_other}
+use Rattle.far_core.specs.events.Ranges.{with_row}
+
+-- a word of the row
+pub row_in : (word : ℕ → ℕ) (a n : ℕ) (row : ℕ → ℕ) (k : ℕ) → a ≤ k → k < a + n → with_row word a n row k ≡ row (k - a)
+row_in word a n row k low high = ap (λ b. cond b (row (k - a)) (word k)) inside where
+  inside : (nat_le a k && nat_lt k (a + n)) ≡ true
+  inside = grind (arith, nat_tests)
+
+-- a word outside it
+pub row_out : (word : ℕ → ℕ) (a n : ℕ) (row : ℕ → ℕ) (k : ℕ) → (k < a) ⊎ (a + n ≤ k) → with_row word a n row k ≡ word k
+row_out word a n row k out = ap (λ b. cond b (row (k - a)) (word k)) (outside out) where
+  outside : (k < a) ⊎ (a + n ≤ k) → (nat_le a k && nat_lt k (a + n)) ≡ false
+  outside (inl low) = grind (arith, nat_tests)
+  outside (inr high) = grind (arith, nat_tests)
+
+-- what is so of each word in the row, and of each outside
+pub row_is : (word f : ℕ → ℕ) (a n : ℕ) (row : ℕ → ℕ) → ((k : ℕ) → a ≤ k → k < a + n → f k ≡ row (k - a)) → ((k : ℕ) → (k < a) ⊎ (a + n ≤ k) → f k ≡ word k) → f ≡ with_row word a n row
+row_is word f a n row inside outside = fun_ext (λ k. elim (cases_lt k a) [
+  | inl low ↦ outside k (inl low) ∙ sym (row_out word a n row k (inl low))
+  | inr le ↦ elim (cases_lt k (a + n)) [
+    | inl lt ↦ inside k le lt ∙ sym (row_in word a n row k le lt)
+    | inr high ↦ outside k (inr high) ∙ sym (row_out word a n row k (inr high))
+  ]
+])
+
+-- a row of none
+pub row_none : (word : ℕ → ℕ) (a : ℕ) (row : ℕ → ℕ) → word ≡ with_row word a 0 row
+row_none word a row = row_is word word a 0 row (λ k low high. absurd (omega arith)) (λ k out. refl)
+
+-- a row is its first word, and the row behind it
+pub row_first : (word : ℕ → ℕ) (a n x : ℕ) (row : ℕ → ℕ) → x ≡ row 0 → with_row (put word a x) (a + 1) n (λ i. row (i + 1)) ≡ with_row word a (suc n) row
+row_first word a n x row e = row_is word (with_row (put word a x) (a + 1) n (λ i. row (i + 1))) a (suc n) row
+    (λ k low high. elim (cases_eq k a) [
+      | inl here ↦ (let at : 0 ≡ k - a = omega arith in
+          row_out (put word a x) (a + 1) n (λ i. row (i + 1)) k (inl (omega arith)) ∙ put_same word a x k here ∙ e ∙ ap row at)
+      | inr ne ↦ (let at : k - (a + 1) + 1 ≡ k - a = omega arith in
+          row_in (put word a x) (a + 1) n (λ i. row (i + 1)) k (omega arith) (omega arith) ∙ ap row at)
+    ])
+    (λ k out. row_out (put word a x) (a + 1) n (λ i. row (i + 1)) k (behind k out) ∙ put_other word a x k (λ h. apart k out h)) where
+      behind : (k : ℕ) → (k < a) ⊎ (a + suc n ≤ k) → (k < a + 1) ⊎ (a + 1 + n ≤ k)
+      behind k (inl low) = inl (omega arith)
+      behind k (inr high) = inr (omega arith)
+
+      apart : (k : ℕ) → (k < a) ⊎ (a + suc n ≤ k) → k ≢ a
+      apart k (inl low) h = omega arith
+      apart k (inr high) h = omega arith
+
+-- ---- a row written over a part of a list
+written_in : (xs ys : List ℕ) (a k q : ℕ) → k ≡ length ys → a + k ≤ length xs → a ≤ q → q < a + length ys → get_or (put_mid a k xs ys) q 0 ≡ get_or ys (q - a) 0
+written_in xs ys a k q n fits low high =
+    get_or-append_right (take a xs) (ys ++ post_of a k xs) a q 0 (length-take-le a xs (omega arith)) low
+    ∙ get_or_append_left ys (post_of a k xs) 0 (q - a) (omega arith)
+
+written_out : (xs ys : List ℕ) (a k q : ℕ) → k ≡ length ys → a + k ≤ length xs → (q < a) ⊎ (a + length ys ≤ q) → get_or (put_mid a k xs ys) q 0 ≡ get_or xs q 0
+written_out xs ys a k q n fits (inl low) =
+    let long : length (take a xs) ≡ a = length-take-le a xs (omega arith) in
+    get_or_append_left (take a xs) (ys ++ post_of a k xs) 0 q (omega (arith, long)) ∙ get_or-take a xs q 0 low
+written_out xs ys a k q n fits (inr high) =
+    get_or-append_right (take a xs) (ys ++ post_of a k xs) a q 0 (length-take-le a xs (omega arith)) (omega arith)
+    ∙ get_or-append_right ys (post_of a k xs) (length ys) (q - a) 0 refl (omega arith)
+    ∙ get_or-drop k (drop a xs) (q - a - length ys) 0 ∙ get_or-drop a xs (k + (q - a - length ys)) 0
+    ∙ (let at : a + (k + (q - a - length ys)) ≡ q = omega arith in ap (λ i. get_or xs i 0) at)
+
+written_len : (a k : ℕ) (xs ys : List ℕ) → a + k ≤ length xs → length ys ≡ k → length (put_mid a k xs ys) ≡ length xs
+written_len a k xs ys fits same = omega (arith, length-append (take a xs) (ys ++ post_of a k xs), length-append ys (post_of a k xs), length-take-le a xs (omega arith), length-drop k (drop a xs), length-drop a xs)
+
+module _ {Z : Type 0} (v : Vec ℕ Z) (xs ys : List ℕ) (a k : ℕ) (same : xs ≡ v.items) where
+  -- a `Vec` with zs written over its part from a on
+  pub row_written : (zs : List ℕ) → ys ≡ zs → k ≡ length zs → a + length zs ≤ length v.items →
+      (λ (q : ℕ). get_or (with_items v (put_mid a k xs ys)).items q 0) ≡ with_row (λ q. get_or v.items q 0) a (length zs) (λ i. get_or zs i 0)
+  row_written zs is n fits =
+      let long : length (put_mid a k v.items zs) ≡ v.len = written_len a k v.items zs (omega arith) (sym n) ∙ sym v.ok.0 in
+      (λ i q. get_or (with_items v (put_mid a k (same i) (is i))).items q 0)
+      ∙ (λ i q. get_or (with_items_is v (put_mid a k v.items zs) long i) q 0)
+      ∙ row_is (λ q. get_or v.items q 0) (λ q. get_or (put_mid a k v.items zs) q 0) a (length zs) (λ i. get_or zs i 0)
+      (λ q low high. written_in v.items zs a k q n (omega arith) low high) (λ q out. written_out v.items zs a k q n (omega arith) out)
+
+  -- a `Vec` with its part from a on filled with 0
+  pub zeros_written : (n : ℕ) → ys ≡ replicate (length (mid_of a k xs)) 0 → k ≡ n → a + n ≤ length v.items →
+      (λ (q : ℕ). get_or (with_items v (put_mid a k xs ys)).items q 0) ≡ with_row (λ q. get_or v.items q 0) a n (λ _. 0)
+  zeros_written n is size fits =
+      let behind : length (drop a xs) ≡ length v.items - a = length-drop a xs ∙ ap (λ l. length l - a) same in
+      let part : length (mid_of a k xs) ≡ n = length-take-le k (drop a xs) (omega (arith, behind)) ∙ size in
+      let long : length (replicate n 0) ≡ n = length-replicate n 0 in
+      row_written (replicate n 0) (is ∙ ap (λ m. replicate m 0) part) (size ∙ sym long) (omega (arith, long))
+      ∙ (λ i. with_row (λ q. get_or v.items q 0) a (long i) (λ q. row_of (replicate n 0) n 0 refl q i))

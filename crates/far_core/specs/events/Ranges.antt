@@ -1,0 +1,30 @@
+-- Rows of events: the state after them, and the rows that one call stands for.
+use Rattle.std.specs.Prelude.{ℕ, ◌+◌, ◌-◌, ◌&&◌, cond, nat_le, nat_lt, List, [], ◌∷◌, length, map, slice_index}
+use Rattle.std.specs.List.{range_with_len}
+use Rattle.far_core.specs.declared.event.Event.{Event}
+use Rattle.far_core.specs.declared.event.Event.TheVariants.{Store, Put}
+use Rattle.far_core.specs.events.Legal.{Legal}
+use Rattle.far_core.specs.events.Step.{step_of}
+use Rattle.far_core.specs.state.State.{State}
+
+-- the state after these events, a step each
+abbrev pub after_events : State → List Event → State
+after_events s [] = s
+after_events s (e ∷ es) = after_events (step_of s e).0 es
+
+-- each of them is legal when it is made
+abbrev pub AllLegal : State → List Event → Type 0
+AllLegal s [] = Unit {0}
+AllLegal s (e ∷ es) = Legal s e × AllLegal (step_of s e).0 es
+
+-- a store of each of some words, into an object's data words from one on
+abbrev pub stores : ℕ → ℕ → ℕ → List ℕ → List Event
+stores m p first words = map (λ i. Store m p (first + i) (slice_index words i)) (range_with_len 0 (length words))
+
+-- zeros that are put into a log's words from one on
+abbrev pub zero_puts : ℕ → ℕ → ℕ → List Event
+zero_puts l at count = map (λ i. Put l (at + i) 0) (range_with_len 0 count)
+
+-- n words from a on are those of a row
+abbrev pub with_row : (ℕ → ℕ) → ℕ → ℕ → (ℕ → ℕ) → ℕ → ℕ
+with_row word a n row k = cond (nat_le a k && nat_lt k (a + n)) (row (k - a)) (word k)
