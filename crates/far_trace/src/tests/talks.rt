@@ -20,6 +20,31 @@ logs
   log 3 free live 0 dead 0 unused 1024
 ";
 
+/// The example of the crate's page.
+const PAGE: &str = "\
+heap 4 2
+  ok
+# nine bytes, data structure 2
+new 0 9 2
+  pointer 0
+read 0 0 0 9
+  refused 5
+open 0
+  ok
+write 0 0 7 c0ffee
+  refused 8
+write 0 0 7 c0ff
+  ok
+read 0 0 0 9
+  data 00000000000000c0ff
+open 1
+  ok
+read 1 0 0 1
+  refused 7
+close 0
+  ok
+";
+
 /// Comments and empty lines change nothing.
 const COMMENTS: &str = "\
 # a heap
@@ -441,8 +466,9 @@ read 0 3 0 3
   refused 7
 ";
 
-const TALKS: [&str; 15] = [
+const TALKS: [&str; 16] = [
     FIRST_OBJECT,
+    PAGE,
     COMMENTS,
     LENGTHS,
     RESERVE,
