@@ -62,6 +62,7 @@ begins shape honest fits = let range = in_range shape fits in record {
     epoch_below = range.epoch;
     open_bound = λ m e h. let f : Some scoped.Closed ≡ Some (scoped.Open e) = sym closed_word ∙ h in absurd cc;
     remembered_bound = λ m e h. absurd cc;
+    remembered_range = λ m e h. absurd cc;
   };
   views = record {
     held_open = λ p h. absurd (false≢true h);

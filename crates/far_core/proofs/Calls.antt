@@ -1,8 +1,8 @@
 -- What a typed call leaves: the state after its event, which keeps the law.
-use Rattle.std.proofs.Common.{◌≡◌, ℕ, ◌+◌, ◌-◌, ◌*◌, ◌^◌, ◌/◌, ◌<◌, ◌≤◌, Some, ap, arith, refl, true}
+use Rattle.std.proofs.Common.{◌≡◌, ◌∙◌, ℕ, ◌+◌, ◌-◌, ◌*◌, ◌^◌, ◌/◌, ◌<◌, ◌≤◌, Bool, Some, ap, arith, refl, sym, true}
 use Rattle.std.proofs.lemmas.Bool.{cond_both}
 use Rattle.std.proofs.lemmas.Bool.Decides.{nat_tests}
-use Rattle.std.specs.Prelude.{is_some, IsSome, ◌==◌}
+use Rattle.std.specs.Prelude.{is_some, IsSome, IsTrue, ◌==◌, ◌↔◌}
 use Rattle.far_word.specs.declared.sizes.TheConstants.{CELLS, LOG_WORDS}
 use Rattle.far_word.specs.Sizes.{words_for}
 use Rattle.far_word.proofs.PointerLaws.{read_says}
@@ -18,7 +18,7 @@ use Rattle.far_core.specs.events.Step.{Fits, after, answer, data_len, data_word,
 use Rattle.far_core.specs.state.Law.{Law}
 use Rattle.far_core.specs.state.State.{State, addr}
 use Rattle.far_core.proofs.Cells.{held_near}
-use Rattle.far_core.proofs.Owing.{keeps, is_fact}
+use Rattle.far_core.proofs.Owing.{keeps, is_fact, is_test}
 use Rattle.far_core.proofs.Bounds.{in_memory}
 
 pub next_is_after : (s : State) (e : Event) → next_state s e ≡ after s e
@@ -28,6 +28,10 @@ next_is_after s e = refl
 pub next_keeps_law : (s : State) (e : Event) → Law s → Legal s e → Fits e → Law (next_state s e)
 unfolding next_state
 next_keeps_law s e law legal fits = keeps s e law fits legal
+
+-- what the test of a step answers is whether the event is legal
+pub test_is_guard : (s : State) (e : Event) (b : Bool) → Law s → b ≡ is_legal s e → IsTrue b ↔ Legal s e
+test_is_guard s e b law is = (λ h. is_fact s e law (sym is ∙ h), λ h. is ∙ is_test s e h)
 
 -- a data word of an object that is held stands behind its place's header, and is a word of the heap
 pub word_behind : (s : State) → Law s → (p i : ℕ) (place : Place) → s.held p ≡ Some place → data_word s p i ≡ addr place + 1 + i

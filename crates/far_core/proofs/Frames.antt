@@ -20,11 +20,18 @@ law_with_owners s scope remembered used held law scopes views blanks =
     record { shape = law.shape; cells = law.cells; spans = law.spans; logs = law.logs; scopes = scopes; views = views; rounds = law.rounds; unadopted = blanks }
 
 -- what owners remember
-pub law_with_remembered : (s : State) (remembered : ℕ → Option ℕ) → Law s → ((m e : ℕ) → remembered m ≡ Some e → e ≤ s.epoch) → Law record s { remembered = remembered }
+pub law_with_remembered : (s : State) (remembered : ℕ → Option ℕ) → Law s → ((m e : ℕ) → remembered m ≡ Some e → (e ≤ s.epoch) × (m < s.mutators)) → Law record s { remembered = remembered }
 law_with_remembered s remembered law bound =
     let c = law.scopes in
     law_with_owners s s.scope remembered s.used s.held law
-    (record { scope_read = c.scope_read; scope_range = c.scope_range; epoch_below = c.epoch_below; open_bound = c.open_bound; remembered_bound = bound }) law.views law.unadopted
+    (record {
+      scope_read = c.scope_read;
+      scope_range = c.scope_range;
+      epoch_below = c.epoch_below;
+      open_bound = c.open_bound;
+      remembered_bound = λ m e h. (bound m e h).0;
+      remembered_range = λ m e h. (bound m e h).1;
+    }) law.views law.unadopted
 
 -- what owners hold
 pub law_with_held : (s : State) (held : ℕ → Option Place) → Law s → ((p : ℕ) → IsSome (held p) → (s.scope (p / CELLS) ≢ 0) × (s.used p ≡ true)) →

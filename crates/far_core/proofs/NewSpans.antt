@@ -52,6 +52,7 @@ takes_span s law p new len place = record {
   );
   begins = put_same s.starts (addr place) true (addr place) refl;
   starts = λ a ne. put_other s.starts (addr place) true a ne;
+  round = refl;
 }
 
 pub touch_span : (s : State) (p new len : ℕ) (place : Place) → Touches s (record { word = Some (CellAt p); part = BookView }) (with_span s p new len place)

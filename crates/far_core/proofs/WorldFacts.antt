@@ -9,6 +9,7 @@ use Rattle.far_word.specs.declared.pointer.PtrWord.TheVariants.{Free, Near, Far}
 use Rattle.far_word.specs.declared.sizes.TheConstants.{CELLS}
 use Rattle.far_word.specs.Bytes.{bytes_of}
 use Rattle.far_word.specs.Pointer.{read_of}
+use Rattle.far_word.proofs.PointerLaws.{read_says}
 use Rattle.far_core.specs.declared.event.Kind.{Kind}
 use Rattle.far_core.specs.declared.event.Kind.TheVariants as kinds
 use Rattle.far_core.specs.declared.shape.Shape.{Shape}
@@ -49,9 +50,14 @@ view_rests s law p h =
       );
     }
 
-pub marks_agree : (s : State) (p : ℕ) → MarksAgree s p
+pub marks_agree : (s : State) → Law s → (p : ℕ) → MarksAgree s p
 unfolding world_of
-marks_agree s p len ds place m e kept = ap is_marked e ∙ ap (λ b. not b && (m.evac || m.moved)) kept
+marks_agree s law p = (
+  λ len ds place m e kept. ap is_marked e ∙ ap (λ b. not b && (m.evac || m.moved)) kept,
+  λ len ds m e kept.
+      let says = read_says (s.cell p) (Far len ds m) (law.cells.cell_read p).0 e in
+      ap is_marked e ∙ ap (λ b. not b && (m.evac || m.moved)) kept ∙ ap (λ b. b || m.moved) says.0.3,
+)
 
 at_marked : (f g : ℕ → ℕ) (p : ℕ) (c : Option PtrWord) → is_marked c ≡ true → (o : Object) × (object_of f g p c ≡ Some o)
 at_marked f g p None h = absurd (false≢true h)

@@ -19,9 +19,9 @@ use Rattle.far_core.proofs.Owing.{owed}
 use Rattle.far_core.specs.state.Law.{Law}
 use Rattle.far_core.specs.state.State.{State, put, addr}
 use Rattle.far_core.specs.world.World.{World, Object, Group, FarSide, start}
-use Rattle.far_core.specs.laws.Worlds.{ChangeKeeps, ChangesKeep, ChangesAreOne, Causes, Caused, EventsCause, SureOf, ObjectStands, ObjectsStand, StepKeeps, StepsKeep, StepsAreOne, LyingIsOpen}
+use Rattle.far_core.specs.laws.Worlds.{HasSameBytes, ChangeKeeps, ChangesKeep, ChangesAreOne, Causes, Caused, EventsCause, SureOf, ObjectStands, ObjectsStand, StepKeeps, StepsKeep, LoadsRead, StepsAreOne, LyingIsOpen}
 use Rattle.far_core.specs.world.WorldOf.{world_of, object_of, is_group}
-use Rattle.far_core.specs.world.Steps.{Writes, ComesNear, with_bytes, with_home}
+use Rattle.far_core.specs.world.Steps.{Views, Writes, ComesNear, with_bytes, with_home}
 use Rattle.far_core.proofs.Cells.{unused}
 use Rattle.far_core.proofs.Observations.{in_range}
 use Rattle.far_core.proofs.Put.{put_both}
@@ -35,21 +35,27 @@ still w c opened marked group held = record {
   groups = held;
   bytes = λ p o seen there out. there;
   rests = λ p o seen there. (o, there, refl, refl, refl, refl);
+  unchanged = λ p o honest there out kept. (o, there, refl, refl, refl);
   views = λ p seen out. seen;
   new_views = λ p seen out. seen;
+  begins = λ p out seen. absurd (false≢true (sym out ∙ seen));
 }
 
--- one object changes, which nobody views
-unseen : (w : World) (c : Change) (p : ℕ) (x : Option Object) (marked group : ℕ → Bool) → ((o : Object) → w.viewed p ≡ true → w.object p ≡ Some o → ⊥) →
+-- one object changes, which nobody views; in an honest world it keeps its bytes, unless it is dropped
+unseen : (w : World) (c : Change) (p : ℕ) (x : Option Object) (marked group : ℕ → Bool) → ((o : Object) → w.viewed p ≡ true → w.object p ≢ Some o) →
+    ((o : Object) → w.honest ≡ true → w.object p ≡ Some o → c ≢ change.Drops (p / CELLS) p → HasSameBytes o x) →
     ((q g : ℕ) (o : Object) → w.object q ≡ Some o → o.home ≡ Group g → w.group g ≡ true → group g ≡ true) → ChangeKeeps w c record w { object = put w.object p x; marked = marked; group = group }
-unseen w c p x marked group away held = record {
+unseen w c p x marked group away same held = record {
   honesty = refl;
   groups = held;
   bytes = λ q o seen there out. put_both (λ (z : Option Object). z ≡ Some o) w.object p x q (λ e. absurd (away o (ap w.viewed (sym e) ∙ seen) (ap w.object (sym e) ∙ there))) (λ _. there);
   rests = λ q o seen there. put_both (λ (z : Option Object). (u : Object) × (z ≡ Some u) × (u.owner ≡ o.owner) × (u.ds ≡ o.ds) × (u.home ≡ o.home) × (length u.bytes ≡ length o.bytes))
       w.object p x q (λ e. absurd (away o (ap w.viewed (sym e) ∙ seen) (ap w.object (sym e) ∙ there))) (λ _. (o, there, refl, refl, refl, refl));
+  unchanged = λ q o honest there out kept. put_both (λ (z : Option Object). HasSameBytes o z) w.object p x q
+      (λ e. same o honest (ap w.object (sym e) ∙ there) (λ d. kept (d ∙ ap (λ k. change.Drops (k / CELLS) k) (sym e)))) (λ _. (o, there, refl, refl, refl));
   views = λ q seen out. seen;
   new_views = λ q seen out. seen;
+  begins = λ q out seen. absurd (false≢true (sym out ∙ seen));
 }
 
 one_of : {X : Type 0} (x y : X) (o : Option X) → o ≡ Some x → o ≡ Some y → x ≡ y
@@ -60,8 +66,14 @@ module _ (w : World) (g : ℕ) where
   more : (q k : ℕ) (o : Object) → w.object q ≡ Some o → o.home ≡ Group k → w.group k ≡ true → put w.group g true k ≡ true
   more q k o there home held = put_both (λ (b : Bool). b ≡ true) w.group g true k (λ _. refl) (λ _. held)
 
-nobody : (w : World) (p : ℕ) → w.viewed p ≡ false → (o : Object) → w.viewed p ≡ true → w.object p ≡ Some o → ⊥
+nobody : (w : World) (p : ℕ) → w.viewed p ≡ false → (o : Object) → w.viewed p ≡ true → w.object p ≢ Some o
 nobody w p out o seen there = false≢true (sym out ∙ seen)
+
+-- the object that was there, elsewhere
+elsewhere : (w : World) (p : ℕ) (x u o : Object) → w.object p ≡ Some x → w.object p ≡ Some o → u.owner ≡ x.owner → u.ds ≡ x.ds → u.bytes ≡ x.bytes → HasSameBytes o (Some u)
+elsewhere w p x u o found there a b c =
+    let is : x ≡ o = one_of x o (w.object p) found there in
+    (u, refl, a ∙ ap (λ (z : Object). z.owner) is, b ∙ ap (λ (z : Object). z.ds) is, c ∙ ap (λ (z : Object). z.bytes) is)
 
 abbrev near_again : Object → List ℕ → ℕ → Object
 near_again o bytes g = record { owner = o.owner; ds = o.ds; bytes = bytes; home = Group g }
@@ -70,11 +82,13 @@ keeps_writes : (w : World) (m p i x : ℕ) (v : World) → Writes w m p i x v �
 keeps_writes w m p i x v h =
     let old : Object = h.changed.0 in
     let now : Object = with_bytes old (with_word old.bytes i x) in
+    let written : (q : ℕ) → q ≡ p → (j : ℕ) × (y : ℕ) × (change.Writes m p i x ≡ change.Writes (q / CELLS) q j y) =
+    λ q e. (i, x, ap (λ k. change.Writes k p i x) (sym h.own ∙ ap (λ k. k / CELLS) (sym e)) ∙ ap (λ k. change.Writes (q / CELLS) k i x) (sym e)) in
     subst (λ (z : World). ChangeKeeps w (change.Writes m p i x) z) (sym h.changed.3) record {
       honesty = refl;
       groups = λ q g o there home held. held;
       bytes = λ q o seen there out. put_both (λ (z : Option Object). z ≡ Some o) w.object p (Some now) q
-          (λ e. absurd (out i x (ap (λ k. change.Writes k p i x) (sym h.own ∙ ap (λ k. k / CELLS) (sym e)) ∙ ap (λ k. change.Writes (q / CELLS) k i x) (sym e))))
+          (λ e. absurd (out (written q e)))
           (λ _. there);
       rests = λ q o seen there. put_both (λ (z : Option Object). (u : Object) × (z ≡ Some u) × (u.owner ≡ o.owner) × (u.ds ≡ o.ds) × (u.home ≡ o.home) × (length u.bytes ≡ length o.bytes))
           w.object p (Some now) q
@@ -87,8 +101,12 @@ keeps_writes w m p i x v h =
             length-with_word old.bytes i x ∙ ap (λ (z : Object). length z.bytes) is,
           ))
           (λ _. (o, there, refl, refl, refl, refl));
+      unchanged = λ q o honest there out kept. put_both (λ (z : Option Object). HasSameBytes o z) w.object p (Some now) q
+          (λ e. absurd (out (written q e)))
+          (λ _. (o, there, refl, refl, refl));
       views = λ q seen out. seen;
       new_views = λ q seen out. seen;
+      begins = λ q out seen. absurd (false≢true (sym out ∙ seen));
     }
 
 keeps_closes : (w : World) (m : ℕ) → ChangeKeeps w (change.Closes m) record w { opened = put w.opened m false; viewed = λ p. cond (nat_eq (p / CELLS) m) false (w.viewed p) }
@@ -97,20 +115,33 @@ keeps_closes w m = record {
   groups = λ p g o there home held. held;
   bytes = λ p o seen there out. there;
   rests = λ p o seen there. (o, there, refl, refl, refl, refl);
+  unchanged = λ p o honest there out kept. (o, there, refl, refl, refl);
   views = λ p seen out. cond_both (nat_eq (p / CELLS) m) false (w.viewed p) (λ (b : Bool). b ≡ true) (λ t. absurd (out (ap (λ k. change.Closes k) (sym (eqb-true (p / CELLS) m t))))) (λ _. seen);
   new_views = λ p seen out. cond_both (nat_eq (p / CELLS) m) false (w.viewed p) (λ (b : Bool). b ≡ true → w.viewed p ≡ true) (λ _ odd. absurd (false≢true odd)) (λ _ held. held) seen;
+  begins = λ p out seen. absurd (cond_both (nat_eq (p / CELLS) m) false (w.viewed p) (λ (b : Bool). b ≢ true) (λ _. false≢true) (λ _ held. false≢true (sym out ∙ held)) seen);
 }
 
-keeps_views : (w : World) (m p : ℕ) → p / CELLS ≡ m → ChangeKeeps w (change.Views m p) record w { viewed = put w.viewed p true }
-keeps_views w m p own = record {
+-- where a view begins
+abbrev BeginsAt : World → ℕ → Type 0
+BeginsAt w p = (w.opened (p / CELLS) ≡ true) × (w.marked p ≡ false) × ((o : Object) × (g : ℕ) × (w.object p ≡ Some o) × (o.home ≡ Group g))
+
+begins_there : (w : World) (m p : ℕ) (v : World) → Views w m p v → w.viewed p ≡ false → BeginsAt w p
+begins_there w m p v h out = let (o, g, there, owner, home) = h.near out in (ap w.opened h.own ∙ h.open_owner, h.unmarked out, (o, g, there, home))
+
+keeps_views : (w : World) (m p : ℕ) (v : World) → Views w m p v → ChangeKeeps w (change.Views m p) record w { viewed = put w.viewed p true }
+keeps_views w m p v h = record {
   honesty = refl;
   groups = λ q g o there home held. held;
   bytes = λ q o seen there out. there;
   rests = λ q o seen there. (o, there, refl, refl, refl, refl);
+  unchanged = λ q o honest there out kept. (o, there, refl, refl, refl);
   views = λ q seen out. put_both (λ (b : Bool). b ≡ true) w.viewed p true q (λ _. refl) (λ _. seen);
   new_views = λ q seen out. put_both (λ (b : Bool). b ≡ true → w.viewed q ≡ true) w.viewed p true q
-      (λ e _. absurd (out (ap (λ k. change.Views k p) (sym own ∙ ap (λ k. k / CELLS) (sym e)) ∙ ap (λ k. change.Views (q / CELLS) k) (sym e))))
+      (λ e _. absurd (out (ap (λ k. change.Views k p) (sym h.own ∙ ap (λ k. k / CELLS) (sym e)) ∙ ap (λ k. change.Views (q / CELLS) k) (sym e))))
       (λ _ held. held) seen;
+  begins = λ q out seen. put_both (λ (b : Bool). b ≡ true → BeginsAt w q) w.viewed p true q
+      (λ e _. subst (λ k. BeginsAt w k) (sym e) (begins_there w m p v h (ap w.viewed (sym e) ∙ out)))
+      (λ _ held. absurd (false≢true (sym out ∙ held))) seen;
 }
 
 pub changes_keep : ChangesKeep
@@ -125,16 +156,21 @@ changes_keep w v c h = at c h where
   at change.Stays k = from _ w k (still w _ w.opened w.marked w.group old)
   at (change.Opens m) k = from _ _ k.after (still w _ _ w.marked w.group old)
   at (change.Closes m) k = from _ _ k.after (keeps_closes w m)
-  at (change.Views m p) k = from _ _ k.after (keeps_views w m p k.own)
+  at (change.Views m p) k = from _ _ k.after (keeps_views w m p v k)
   at (change.Reads m p i x) k = from _ w k.after (still w _ w.opened w.marked w.group old)
   at (change.Writes m p i x) k = keeps_writes w m p i x v k
-  at (change.Makes p len ds g) k = from _ _ k.after (unseen w _ p _ _ _ (λ o seen there. let odd : None ≡ Some o = sym k.fresh ∙ there in cc) (more w g))
+  at (change.Makes p len ds g) k = from _ _ k.after (unseen w _ p _ _ _ (λ o seen there. let odd : None ≡ Some o = sym k.fresh ∙ there in cc)
+      (λ o honest there kept. let odd : None ≡ Some o = sym k.fresh ∙ there in absurd cc) (more w g))
   at (change.Marks p) k = from _ _ k (still w _ w.opened _ w.group old)
   at (change.Unmarks p) k = from _ _ k (still w _ w.opened _ w.group old)
-  at (change.Moves p g) k = from _ _ k.moved.4 (unseen w _ p _ _ _ (nobody w p k.unviewed) (more w g))
-  at (change.GoesFar p) k = from _ _ k.gone.4 (unseen w _ p _ _ _ (nobody w p k.unviewed) old)
-  at (change.ComesNear p g) k = from _ _ k.come.7 (unseen w _ p _ _ _ (nobody w p k.unviewed) (more w g))
-  at (change.Drops m p) k = from _ _ k.after (unseen w _ p _ _ _ (nobody w p k.unviewed) old)
+  at (change.Moves p g) k = from _ _ k.moved.4 (unseen w _ p _ _ _ (nobody w p k.unviewed)
+      (λ o honest there kept. elsewhere w p k.moved.0 _ o k.moved.2 there refl refl refl) (more w g))
+  at (change.GoesFar p) k = from _ _ k.gone.4 (unseen w _ p _ _ _ (nobody w p k.unviewed)
+      (λ o honest there kept. elsewhere w p k.gone.0 _ o k.gone.2 there refl refl refl) old)
+  at (change.ComesNear p g) k = from _ _ k.come.7 (unseen w _ p _ _ _ (nobody w p k.unviewed)
+      (λ o honest there kept. elsewhere w p k.come.0 _ o k.come.2 there refl refl (k.come.6 honest)) (more w g))
+  at (change.Drops m p) k = from _ _ k.after (unseen w _ p _ _ _ (nobody w p k.unviewed)
+      (λ o honest there kept. absurd (kept (ap (λ n. change.Drops n p) (sym k.own)))) old)
   at (change.Releases g) k = from _ _ k.after (still w _ w.opened w.marked _
       (λ q j o there home held. put_both (λ (b : Bool). b ≡ true) w.group g false j (λ e. absurd (k.empty q o there (home ∙ ap Group e))) (λ _. held)))
   at (change.Holds g) k = from _ _ k (still w _ w.opened w.marked _ (more w g))
@@ -150,14 +186,20 @@ keeps_event w v e (Some c) is h =
     record {
       honesty = k.honesty;
       groups = k.groups;
-      bytes = λ p o seen there out. k.bytes p o seen there (λ i x same. out i x (subst (λ d. Causes e d) same is));
+      bytes = λ p o seen there out. k.bytes p o seen there (λ (i, x, same). out (i, x, subst (λ d. Causes e d) same is));
       rests = k.rests;
+      unchanged = λ p o honest there out kept. k.unchanged p o honest there
+          (λ (i, x, same). out (i, x, subst (λ d. Causes e d) same is)) (λ same. kept (subst (λ d. Causes e d) same is));
       views = λ p seen out. k.views p seen (λ same. out (subst (λ d. Causes e d) same is));
       new_views = λ p seen out. k.new_views p seen (λ same. out (subst (λ d. Causes e d) same is));
+      begins = k.begins;
     }
 
 pub steps_keep : StepsKeep
 steps_keep w v e r h = keeps_event w v e (change_of e r) (events_cause e r) h
+
+pub loads_read : LoadsRead
+loads_read w v m p i x h = (h.viewed, h.own, h.found)
 
 -- ---- one step
 pub changes_are_one : ChangesAreOne

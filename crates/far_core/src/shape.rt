@@ -1,6 +1,6 @@
 //! How large a heap is, and where its epochs begin.
 
-ghost use Rattle.std.specs.Prelude.{◌≡◌};
+ghost use Rattle.std.specs.Prelude.{◌≡◌, ◌↔◌, ◌≤◌, ◌<◌, ◌^◌, IsTrue};
 ghost use Rattle.far_core.specs.state.Shape.{is_shape};
 
 use far_word::{MOST_LOGS, MOST_MUTATORS};
@@ -20,7 +20,8 @@ const EPOCH_END: u64 = 1 << 62;
 impl Shape {
     /// Whether a heap can be made of the shape.
     pub fn is_in_range(self) -> bool
-        ensures { result ≡ is_shape self }
+        ensures is { result ≡ is_shape self }
+        ensures numbers { IsTrue result ↔ ((2 ≤ self.logs) × (self.logs ≤ 64) × (1 ≤ self.mutators) × (self.mutators ≤ 8) × (self.epoch < 2 ^ 62)) }
     {
         2 <= self.logs
             && self.logs <= MOST_LOGS as u64

@@ -38,6 +38,7 @@ keeps_close s m law = law_with_owners s (put s.scope m 0) (put s.remembered m No
       open_bound = λ k f. put_both (λ w. scope_of w ≡ Some (scoped.Open f) → f ≤ s.epoch) s.scope m 0 k
           (λ _ is. let odd : Some scoped.Closed ≡ Some (scoped.Open f) = sym closed_word ∙ is in absurd cc) (λ _. law.scopes.open_bound k f);
       remembered_bound = λ k e. put_both (λ (o : Option ℕ). o ≡ Some e → e ≤ s.epoch) s.remembered m None k (λ _ is. absurd cc) (λ _. law.scopes.remembered_bound k e);
+      remembered_range = λ k e. put_both (λ (o : Option ℕ). o ≡ Some e → k < s.mutators) s.remembered m None k (λ _ is. absurd cc) (λ _. law.scopes.remembered_range k e);
     })
     (record {
       held_open = λ p. left_over s m p (λ o. IsSome o → put s.scope m 0 (p / CELLS) ≢ 0) (λ o e h. absurd (false≢true (sym (ap (λ x. is_some x) e) ∙ h)))

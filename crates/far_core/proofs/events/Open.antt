@@ -46,6 +46,7 @@ keeps_open s m e law within read =
       open_bound = λ k f. put_both (λ w. scope_of w ≡ Some (scoped.Open f) → f ≤ s.epoch) s.scope m (2 * e + 1) k
           (λ _ is. let same : Some (scoped.Open e) ≡ Some (scoped.Open f) = sym word ∙ is in let eq : e ≡ f = cc in omega arith) (λ _. law.scopes.open_bound k f);
       remembered_bound = law.scopes.remembered_bound;
+      remembered_range = law.scopes.remembered_range;
     })
     (record {
       held_open = λ p h. put_both (λ w. w ≢ 0) s.scope m (2 * e + 1) (p / CELLS) (λ _ z. absurd (omega arith)) (λ _. law.views.held_open p h);

@@ -1,10 +1,12 @@
 -- What holds of the objects of a core's world, and of every step that a world makes.
-use Rattle.std.specs.Prelude.{◌≡◌, ◌≢◌, ◌⊎◌, ℕ, ◌/◌, ◌<◌, ◌≤◌, true, false, Option, Some, None, length, slice_index}
+use Rattle.std.specs.Prelude.{◌≡◌, ◌≢◌, ◌⊎◌, ℕ, ◌*◌, ◌/◌, ◌<◌, ◌≤◌, true, false, Option, Some, None, length, slice_index}
 use Rattle.far_word.specs.declared.mark.Mark.TheVariants.{Moved, Dropped}
 use Rattle.far_word.specs.declared.sizes.TheConstants.{CELLS, LONGEST, POINTERS}
+use Rattle.far_word.specs.Bytes.{packed_word}
 use Rattle.far_core.specs.declared.event.Event.{Event}
 use Rattle.far_core.specs.declared.event.Event.TheVariants.{Open, Pin, Load, Store, Close, Name, Mark, Ask, Get}
 use Rattle.far_core.specs.declared.event.Reply.{Reply}
+use Rattle.far_core.specs.declared.event.Reply.TheVariants.{Word}
 use Rattle.far_core.specs.world.Changes.{Change, Step}
 use Rattle.far_core.specs.world.Changes as change
 use Rattle.far_core.specs.events.Step.{change_of}
@@ -24,17 +26,33 @@ pub record ObjectStands (w : World) (p : ℕ) (o : Object) : Type 0 where
 abbrev pub ObjectsStand : World → Type 0
 ObjectsStand w = (p : ℕ) (o : Object) → w.object p ≡ Some o → ObjectStands w p o
 
--- a step leaves honesty as it is, and gives no group back in which an object lies; an object that its owner views
--- stays where it is, with as many bytes, and with those bytes, but for its owner's writes; a view ends as its owner closes
--- alone, and begins as its owner views it alone
-pub record ChangeKeeps (w : World) (c : Change) (v : World) : Type 0 where
+-- the object is there still, wherever it is, with its owner, its data structure and its bytes
+abbrev pub HasSameBytes : Object → Option Object → Type 0
+HasSameBytes o found = (u : Object) × (found ≡ Some u) × (u.owner ≡ o.owner) × (u.ds ≡ o.ds) × (u.bytes ≡ o.bytes)
+
+-- what every step keeps, where it is known of each object whether its owner writes its bytes, drops it, closes its scope
+-- or views it in this step. Honesty stays as it is, and no group is given back in which an object lies. An object that its
+-- owner views stays where it is, with as many bytes, and with those bytes, but for its owner's writes. In an honest world
+-- any object, near or far, keeps its bytes, but for its owner's writes, until its owner drops it. A view ends as its owner
+-- closes alone, and begins as its owner views it alone: an object near and unmarked, under an open scope
+pub record Keeps (w v : World) (written dropped closed seen : ℕ → Type 0) : Type 0 where
   pub honesty : v.honest ≡ w.honest
   pub groups : (p g : ℕ) (o : Object) → w.object p ≡ Some o → o.home ≡ Group g → w.group g ≡ true → v.group g ≡ true
-  pub bytes : (p : ℕ) (o : Object) → w.viewed p ≡ true → w.object p ≡ Some o → ((i x : ℕ) → c ≢ change.Writes (p / CELLS) p i x) → v.object p ≡ Some o
+  pub bytes : (p : ℕ) (o : Object) → w.viewed p ≡ true → w.object p ≡ Some o → ¬ written p → v.object p ≡ Some o
   pub rests : (p : ℕ) (o : Object) → w.viewed p ≡ true → w.object p ≡ Some o →
       (u : Object) × (v.object p ≡ Some u) × (u.owner ≡ o.owner) × (u.ds ≡ o.ds) × (u.home ≡ o.home) × (length u.bytes ≡ length o.bytes)
-  pub views : (p : ℕ) → w.viewed p ≡ true → c ≢ change.Closes (p / CELLS) → v.viewed p ≡ true
-  pub new_views : (p : ℕ) → v.viewed p ≡ true → c ≢ change.Views (p / CELLS) p → w.viewed p ≡ true
+  pub unchanged : (p : ℕ) (o : Object) → w.honest ≡ true → w.object p ≡ Some o → ¬ written p → ¬ dropped p → HasSameBytes o (v.object p)
+  pub views : (p : ℕ) → w.viewed p ≡ true → ¬ closed p → v.viewed p ≡ true
+  pub new_views : (p : ℕ) → v.viewed p ≡ true → ¬ seen p → w.viewed p ≡ true
+  pub begins : (p : ℕ) → w.viewed p ≡ false → v.viewed p ≡ true →
+      (w.opened (p / CELLS) ≡ true) × (w.marked p ≡ false) × ((o : Object) × (g : ℕ) × (w.object p ≡ Some o) × (o.home ≡ Group g))
+
+abbrev pub ChangeKeeps : World → Change → World → Type 0
+ChangeKeeps w c v = Keeps w v
+    (λ p. (i : ℕ) × (x : ℕ) × (c ≡ change.Writes (p / CELLS) p i x))
+    (λ p. c ≡ change.Drops (p / CELLS) p)
+    (λ p. c ≡ change.Closes (p / CELLS))
+    (λ p. c ≡ change.Views (p / CELLS) p)
 
 abbrev pub ChangesKeep : Type 0
 ChangesKeep = (w v : World) (c : Change) → Step c w v → ChangeKeeps w c v
@@ -76,18 +94,21 @@ ChangesAreOne = (w v u : World) (c : Change) → Sure w c → Step c w v → Ste
 abbrev pub LyingIsOpen : Type 0
 LyingIsOpen = (w v u : World) × (p g : ℕ) × (w.honest ≡ false) × Step (change.ComesNear p g) w v × Step (change.ComesNear p g) w u × (v ≢ u)
 
--- the same of an event: its stores, its close, its pin
-pub record StepKeeps (w : World) (e : Event) (v : World) : Type 0 where
-  pub honesty : v.honest ≡ w.honest
-  pub groups : (p g : ℕ) (o : Object) → w.object p ≡ Some o → o.home ≡ Group g → w.group g ≡ true → v.group g ≡ true
-  pub bytes : (p : ℕ) (o : Object) → w.viewed p ≡ true → w.object p ≡ Some o → ((i x : ℕ) → e ≢ Store (p / CELLS) p i x) → v.object p ≡ Some o
-  pub rests : (p : ℕ) (o : Object) → w.viewed p ≡ true → w.object p ≡ Some o →
-      (u : Object) × (v.object p ≡ Some u) × (u.owner ≡ o.owner) × (u.ds ≡ o.ds) × (u.home ≡ o.home) × (length u.bytes ≡ length o.bytes)
-  pub views : (p : ℕ) → w.viewed p ≡ true → e ≢ Close (p / CELLS) → v.viewed p ≡ true
-  pub new_views : (p : ℕ) → v.viewed p ≡ true → e ≢ Pin (p / CELLS) p → w.viewed p ≡ true
+-- the same of an event: its owner's store, request for dropping, close, pin
+abbrev pub StepKeeps : World → Event → World → Type 0
+StepKeeps w e v = Keeps w v
+    (λ p. (i : ℕ) × (x : ℕ) × (e ≡ Store (p / CELLS) p i x))
+    (λ p. e ≡ Ask (p / CELLS) p Dropped)
+    (λ p. e ≡ Close (p / CELLS))
+    (λ p. e ≡ Pin (p / CELLS) p)
 
 abbrev pub StepsKeep : Type 0
 StepsKeep = (w v : World) (e : Event) (r : Reply) → Happens w e r v → StepKeeps w e v
+
+-- a word that is loaded is word i of an object of its owner's, which its owner views
+abbrev pub LoadsRead : Type 0
+LoadsRead = (w v : World) (m p i x : ℕ) → Happens w (Load m p i) (Word x) v →
+    (w.viewed p ≡ true) × (p / CELLS ≡ m) × ((o : Object) × (w.object p ≡ Some o) × (8 * i < length o.bytes) × (x ≡ packed_word o.bytes i))
 
 -- an event and its reply make one step
 abbrev pub StepsAreOne : Type 0

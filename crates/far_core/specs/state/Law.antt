@@ -102,13 +102,15 @@ pub record LogLaw (logs : ℕ) (kind : ℕ → Kind) (tail : ℕ → ℕ) (curre
   pub is_open : kind current ≡ Open
   pub one_open : (l : ℕ) → kind l ≡ Open → l ≡ current
 
--- each scope word is on the layout, and only mutators' aren't 0; no open or remembered epoch is above the epoch
+-- each scope word is on the layout, and only mutators' aren't 0; no open or remembered epoch is above the epoch, and only
+-- mutators remember one
 pub record ScopeLaw (mutators epoch : ℕ) (scope : ℕ → ℕ) (remembered : ℕ → Option ℕ) : Type 0 where
   pub scope_read : (m : ℕ) → IsSome (scope_of (scope m))
   pub scope_range : (m : ℕ) → scope m ≢ 0 → m < mutators
   pub epoch_below : epoch < epoch_end
   pub open_bound : (m e : ℕ) → scope_of (scope m) ≡ Some (scoped.Open e) → e ≤ epoch
   pub remembered_bound : (m e : ℕ) → remembered m ≡ Some e → e ≤ epoch
+  pub remembered_range : (m e : ℕ) → remembered m ≡ Some e → m < mutators
 
 -- a view rests on a near word with neither MOVE nor DROP, under an open scope, of a used cell; a used cell isn't dropped
 pub record ViewLaw (cell scope : ℕ → ℕ) (used : ℕ → Bool) (held : ℕ → Option Place) : Type 0 where

@@ -1,6 +1,6 @@
 //! Events made: one by one, each by a call of its own or as data, and lists of them.
 
-ghost use Rattle.std.specs.Prelude.{◌≡◌, ◌↔◌, ◌-◌, ◌*◌, ◌/◌, ◌^◌, ◌<◌, false, List, map, IsSome, IfOk, IfErr, IfSome, IfNone};
+ghost use Rattle.std.specs.Prelude.{◌≡◌, ◌↔◌, ◌-◌, ◌*◌, ◌/◌, ◌^◌, ◌<◌, false, List, map, IsTrue, IsSome, IfOk, IfErr, IfSome, IfNone};
 ghost use Rattle.far_word.specs.declared.sizes.TheConstants.{CELLS};
 ghost use Rattle.far_word.specs.Sizes.{words_for};
 ghost use Rattle.far_core.specs.events.Legal.{Legal};
@@ -145,8 +145,8 @@ impl Core {
         }
     }
 
-    /// Word `at` of a log. With `free` the log, which is sealed and has no live span, is given back too; this looks at the
-    /// log's 128 words, once.
+    /// Word `at` of a log. With `free` the log, which is sealed and has no live span, is given back too: its spans, at most
+    /// 128, are forgotten.
     #[inline]
     pub fn get(&mut self, log: u8, at: u16, free: bool) -> u64
         requires legal { Legal (core_state self.old) (Event.Get log at free) }
@@ -173,6 +173,26 @@ impl Core {
         ensures word { answer (core_state self.old) (Event.Mark pointer) ≡ Reply.Word result }
     {
         self.memory.mark(pointer)
+    }
+}
+
+/// Guards of the book's, which look at more than a caller can know by one word.
+impl Core {
+    /// Whether a naming is legal: both words are on the layout and make a form that may be made of the pointer now.
+    #[inline]
+    pub fn may_name(&self, pointer: u16, old: u64, new: u64) -> bool
+        ensures { IsTrue result ↔ Legal (core_state self.now) (Event.Name pointer old new) }
+    {
+        self.memory.may_name(pointer, old, new)
+    }
+
+    /// Whether word `at` of a log may be read, and with `free` the log given back. With `free` this looks at the log's
+    /// 128 words.
+    #[inline]
+    pub fn may_get(&self, log: u8, at: u16, free: bool) -> bool
+        ensures { IsTrue result ↔ Legal (core_state self.now) (Event.Get log at free) }
+    {
+        self.memory.may_get(log, at, free)
     }
 }
 

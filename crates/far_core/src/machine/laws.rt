@@ -23,7 +23,7 @@ ghost use Rattle.far_core.specs.events.Reports.{RepliesReport};
 ghost use Rattle.far_core.specs.world.World.{start};
 ghost use Rattle.far_core.specs.laws.Agreement.{ViewRests, MarksAgree, MarksExist};
 ghost use Rattle.far_core.specs.laws.Rooms.{RoomIsRight};
-ghost use Rattle.far_core.specs.laws.Worlds.{ObjectsStand, StepsKeep, StepsAreOne, LyingIsOpen, ChangesKeep, ChangesAreOne, EventsCause};
+ghost use Rattle.far_core.specs.laws.Worlds.{ObjectsStand, StepsKeep, LoadsRead, StepsAreOne, LyingIsOpen, ChangesKeep, ChangesAreOne, EventsCause};
 ghost use Rattle.far_core.specs.world.WorldOf.{world_of};
 
 use crate::event::Event;
@@ -112,14 +112,16 @@ pub fn opening_is_start(shape: Shape, honest: bool)
 {}
 
 /// No step of a world changes honesty, moves or changes what is viewed but by its owner's store, ends a view but by its
-/// owner's close or begins one but by its owner's pin, or gives back a group in which an object lies; and an event with
-/// its reply makes one step, but for the bytes that a far side gives back that isn't honest. Said of changes, and so of
-/// the events that cause them.
+/// owner's close or begins one but by its owner's pin, or gives back a group in which an object lies. In an honest world
+/// each object, viewed or not, near or far, keeps its bytes but for its owner's store, until its owner drops it. What is
+/// loaded is a word of an object that its owner views. An event with its reply makes one step, but for the bytes that a
+/// far side gives back that isn't honest. Said of changes, and so of the events that cause them.
 pub fn steps_keep_views()
     ensures changes { ChangesKeep }
     ensures one_change { ChangesAreOne }
     ensures causes { EventsCause }
     ensures keep { StepsKeep }
+    ensures loads { LoadsRead }
     ensures one { StepsAreOne }
     ensures lying { LyingIsOpen }
 {}

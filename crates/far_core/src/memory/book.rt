@@ -112,7 +112,7 @@ impl Memory {
         let Some(form) = Naming::of(old, new) else {
             return Reply::Refused;
         };
-        if !self.has_pointer(pointer) || !self.may_name(pointer, form) {
+        if !self.has_pointer(pointer) || !self.may_make(pointer, form) {
             return Reply::Refused;
         }
         let cell = self.cell(pointer);
@@ -123,8 +123,18 @@ impl Memory {
         Reply::Done
     }
 
+    pub(crate) fn may_name(&self, pointer: u16, old: u64, new: u64) -> bool
+        requires { Law (state_of self.now) }
+        ensures { result ≡ is_legal (state_of self.now) (Event.Name pointer old new) }
+    {
+        match Naming::of(old, new) {
+            Some(form) => self.has_pointer(pointer) && self.may_make(pointer, form),
+            None => false,
+        }
+    }
+
     /// Whether a form may be made of a pointer.
-    fn may_name(&self, pointer: u16, form: Naming) -> bool
+    fn may_make(&self, pointer: u16, form: Naming) -> bool
         requires pointer { pointer < CELLS * (state_of self.now).mutators }
         requires layout { IsOnLayout form }
         requires law { Law (state_of self.now) }

@@ -1,7 +1,7 @@
 //! Each event's own call, and what a core shows after it.
 
 use super::*;
-use far_word::{CELLS, LOG_WORDS, PtrWord};
+use far_word::{CELLS, LOG_WORDS, Mark, PtrWord};
 use std::test::Fail;
 
 const HEADER: u64 = 0xa100_0000_0001_0008;
@@ -18,13 +18,19 @@ fn put_word(rt: &impl Abort, core: &mut Core, place: Place, word: u64) {
     assert_eq!(rt; core.word(log, at), word);
 }
 
-/// Names a place for a pointer whose cell is 0.
-fn name_place(core: &mut Core, pointer: u16, new: u64) -> Reply {
-    core.step(Event::Name {
-        pointer,
-        old: 0,
-        new,
-    })
+fn name_new(rt: &impl Abort, core: &mut Core, pointer: u16, old: u64, new: u64) -> Result<(), u64> {
+    assert!(rt; core.may_name(pointer, old, new));
+    core.name(pointer, old, new)
+}
+
+fn drop_own(rt: &impl Abort, core: &mut Core, pointer: u16) -> u64 {
+    assert!(rt; pointer < CELLS && core.is_used(pointer) && !core.is_held(pointer));
+    core.ask(0, pointer, Mark::Dropped)
+}
+
+fn give_back(rt: &impl Abort, core: &mut Core, log: u8) -> u64 {
+    assert!(rt; core.may_get(log, 0, true));
+    core.get(log, 0, true)
 }
 
 fn adopt_own(rt: &impl Abort, core: &mut Core, pointer: u16) -> Option<u64> {
@@ -74,7 +80,7 @@ fn mark_near(rt: &impl Abort, core: &mut Core, pointer: u16) -> u64 {
 fn object_is_made_and_viewed(rt: HostRuntime) -> Result<(), Fail> {
     let mut core = Core::new(rt.alloc(), TWO_OWNERS, true)?;
     put_word(&rt, &mut core, FIRST, HEADER);
-    assert_eq!(rt; name_place(&mut core, 0, NEAR), Reply::Done);
+    assert_eq!(rt; name_new(&rt, &mut core, 0, 0, NEAR), Ok(()));
     assert!(rt; core.starts(0, 0) && !core.starts(0, 1));
     assert_eq!(rt; core.see(0), NEAR);
     assert_eq!(rt; adopt_own(&rt, &mut core, 1), None);
@@ -118,8 +124,33 @@ fn named_cell_is_found(rt: HostRuntime) -> Result<(), Fail> {
         Place { log: 0, at: 9 },
         0xa100_0000_0101_0008,
     );
-    let lost = name_place(&mut core, 1, 0x8400_0000_0901_0008);
-    assert_eq!(rt; lost, Reply::Word(0x8400_0000_0301_0008));
+    let lost = name_new(&rt, &mut core, 1, 0, 0x8400_0000_0901_0008);
+    assert_eq!(rt; lost, Err(0x8400_0000_0301_0008));
     assert!(rt; !core.starts(0, 9));
+    Ok(())
+}
+
+#[test]
+fn log_of_a_dropped_object_is_given_back(rt: HostRuntime) -> Result<(), Fail> {
+    let mut core = Core::new(rt.alloc(), SMALL, true)?;
+    let (header, whole) = (0xa100_0000_0001_03f8, 0x8400_0000_0001_03f8);
+    put_word(&rt, &mut core, FIRST, header);
+    assert_eq!(rt; name_new(&rt, &mut core, 0, 0, whole), Ok(()));
+    let next = Place { log: 1, at: 0 };
+    put_word(&rt, &mut core, next, 0xa100_0000_0101_0008);
+    assert_eq!(rt;
+        name_new(&rt, &mut core, 1, 0, 0x8400_0004_0001_0008),
+        Ok(())
+    );
+    assert_eq!(rt; adopt_own(&rt, &mut core, 0), Some(whole));
+    assert_eq!(rt; drop_own(&rt, &mut core, 0), whole);
+    assert!(rt; !core.is_used(0) && !core.may_get(0, 0, true));
+    assert!(rt; !core.may_name(0, whole, 0));
+    assert_eq!(rt;
+        name_new(&rt, &mut core, 0, 0x8c00_0000_0001_03f8, 0),
+        Ok(())
+    );
+    assert_eq!(rt; give_back(&rt, &mut core, 0), header);
+    assert_eq!(rt; log_shown(&rt, &core, 0), (Kind::Free, 0));
     Ok(())
 }

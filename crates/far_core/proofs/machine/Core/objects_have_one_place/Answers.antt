@@ -20,7 +20,7 @@ pub returns-clause-views : goal.returns-clause-views
 returns-clause-views c = λ p h. view_rests (state_of c.args.self.now.memory) c.args.self.now.law p h
 
 pub returns-clause-marks : goal.returns-clause-marks
-returns-clause-marks c = λ p. marks_agree (state_of c.args.self.now.memory) p
+returns-clause-marks c = λ p. marks_agree (state_of c.args.self.now.memory) c.args.self.now.law p
 
 pub returns-clause-exist : goal.returns-clause-exist
 returns-clause-exist c = λ p. marks_exist (state_of c.args.self.now.memory) p
