@@ -1,0 +1,4 @@
+pub mod Finds
+pub mod Known
+pub mod Quiet
+pub mod ShapeOf

@@ -1,0 +1,27 @@
+-- When the bytes of an object stay: its owner has asked for it to be moved, or can't reach it while the round lasts.
+use Rattle.std.specs.Prelude.{◌≡◌, ◌+◌, ◌*◌, ◌/◌, ◌<◌, ◌&&◌, ◌||◌, ℕ, Bool, true, Some}
+use Rattle.far_word.specs.declared.mark.Marks.{Marks}
+use Rattle.far_word.specs.declared.pointer.Place.{Place}
+use Rattle.far_word.specs.declared.pointer.PtrWord.TheVariants.{Near}
+use Rattle.far_word.specs.declared.sizes.TheConstants.{CELLS}
+use Rattle.far_word.specs.Pointer.{read_of}
+use Rattle.far_word.specs.Sizes.{words_for}
+use Rattle.far_core.specs.state.State.{State, addr}
+
+-- a near object is quiet: it has MOVE; or it has EVAC, its log is in the round, and its owner was seen clear in it
+abbrev pub is_quiet : (ℕ → Bool) → (ℕ → Bool) → ℕ → Place → Marks → Bool
+is_quiet round clear p place marks = marks.moved || (marks.evac && round place.log && clear (p / CELLS))
+
+-- the word at an address is a data word of a near object that the state shows to be quiet
+pub record IsQuietAt (s : State) (a : ℕ) : Type 0 where
+  pub p : ℕ
+  pub len : ℕ
+  pub ds : ℕ
+  pub place : Place
+  pub marks : Marks
+  pub index : ℕ
+  pub pointer : p < CELLS * s.mutators
+  pub near : read_of (s.cell p) ≡ Some (Near len ds place marks)
+  pub quiet : is_quiet s.round s.clear p place marks ≡ true
+  pub inside : index < words_for len
+  pub here : a ≡ addr place + 1 + index
