@@ -4,5 +4,7 @@
 #![tactic(auto)]
 
 mod near;
+mod plain;
 
 pub use near::Near;
+pub use plain::Plain;
