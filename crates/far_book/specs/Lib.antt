@@ -1,4 +1,6 @@
 pub mod Finds
 pub mod Known
+pub mod Masked
+pub mod Owners
 pub mod Quiet
 pub mod ShapeOf
