@@ -44,7 +44,7 @@ module _ (s t : State) (law : Law s) (p : ℕ) (k : MarkKind) (own : marking.is_
   marked : (q : ℕ) → Finds (s.cell q) (put s.cell p (bit_or (s.cell p) (2 ^ position k)) q)
   marked q = put_both (λ w. Finds (s.cell q) w) s.cell p (bit_or (s.cell p) (2 ^ position k)) q
       (λ e. subst (λ v. Finds v (bit_or (s.cell p) (2 ^ position k))) (ap s.cell (sym e))
-          (finds_mark k (s.cell p) (bit_or (s.cell p) (2 ^ position k)) own (read_mark k (s.cell p) own (law.cells.cell_read p).0 (law.views.used_cell p used)).0))
+      (finds_mark k (s.cell p) (bit_or (s.cell p) (2 ^ position k)) own (read_mark k (s.cell p) own (law.cells.cell_read p).0 (law.views.used_cell p used)).0))
       (λ _. finds_same (s.cell q))
 
   marks : OwnersChange s t
@@ -109,3 +109,6 @@ change s (Get l at free) law own legal = absurd (false≢true own)
 pub step_changes : (s : State) (e : Event) → Law s → is_owners e ≡ true → OwnersChange s (step_of s e).0
 step_changes s e law own = cond_both (is_legal s e) (after s e, answer s e) (s, Refused) (λ (x : State × Reply). OwnersChange s x.0)
     (λ h. change s e law own (is_fact s e law h)) (λ _. stays s s refl refl refl)
+
+pub made_changes : (s t : State) (e : Event) (r : Reply) → Law s → is_owners e ≡ true → (t, r) ≡ step_of s e → OwnersChange s t
+made_changes s t e r law own is = subst (λ (x : State × Reply). OwnersChange s x.0) (sym is) (step_changes s e law own)

@@ -3,8 +3,11 @@
 //! The book touches words only through [`Near`], a hand that it is lent.
 #![tactic(auto)]
 
+mod beset;
 mod near;
+mod owners;
 mod plain;
 
+pub use beset::Beset;
 pub use near::Near;
 pub use plain::Plain;
