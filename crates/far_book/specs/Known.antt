@@ -1,0 +1,24 @@
+-- Which words of the logs a hand knows. What it doesn't know stands in its view as a number that no word is.
+use Rattle.std.specs.Prelude.{◌≡◌, ◌+◌, ◌-◌, ◌*◌, ◌^◌, ◌<◌, ℕ, true}
+use Rattle.far_word.specs.Sizes.{words_for}
+use Rattle.far_log.specs.Spans.{head_len}
+use Rattle.far_core.specs.state.State.{State}
+
+-- what stands in a view at an address of which nothing is known: no word, and another number at each address, so that two
+-- unknown words are never said to be equal
+abbrev pub unknown : ℕ → ℕ
+unknown a = a + 2 ^ 64
+
+-- a word of a view that is known
+abbrev pub IsKnown : ℕ → Type 0
+IsKnown word = word < 2 ^ 64
+
+-- from s to t some words may have been forgotten; no known word is another, and no header of a span was forgotten
+pub record Forgets (s t : State) : Type 0 where
+  pub known : (a : ℕ) → IsKnown (t.word a) → t.word a ≡ s.word a
+  pub headers : (a : ℕ) → t.starts a ≡ true → t.word a ≡ s.word a
+
+-- a word that was read at an address, where it is a data word of a span, has zeros after the span's last byte
+abbrev pub IsPaddedAt : State → ℕ → ℕ → Type 0
+IsPaddedAt s a word = (b i : ℕ) → s.starts b ≡ true → i < words_for (head_len (s.word b)) → a ≡ b + 1 + i →
+    word < 2 ^ (8 * (head_len (s.word b) - 8 * i))

@@ -1,0 +1,7 @@
+pub mod BesetView
+pub mod Finds
+pub mod Known
+pub mod Masked
+pub mod Owners
+pub mod Quiet
+pub mod ShapeOf

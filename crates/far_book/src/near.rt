@@ -1,0 +1,78 @@
+//! The book's hand on the shared words.
+
+ghost use Rattle.std.specs.Prelude.{◌≡◌, ◌≢◌, ◌+◌, ◌*◌, ℕ, true, false, IfOk, IfErr};
+ghost use Rattle.far_word.specs.declared.sizes.TheConstants.{LOG_WORDS};
+ghost use Rattle.far_core.specs.events.Legal.{Legal};
+ghost use Rattle.far_core.specs.events.Step.{after};
+ghost use Rattle.far_core.specs.state.Shape.{is_shape};
+ghost use Rattle.far_core.specs.state.State.{State, put};
+ghost use Rattle.far_book.specs.Finds.{Finds};
+ghost use Rattle.far_book.specs.Known.{IsKnown, Forgets, IsPaddedAt};
+ghost use Rattle.far_book.specs.Quiet.{IsQuietAt};
+ghost use Rattle.far_book.specs.ShapeOf.{shape_of};
+
+use far_core::{Event, Shape};
+
+/// The book's hand on the shared words. Each call is one event of [`far_core`] on at most one word, takes no memory and
+/// always answers.
+///
+/// Between any two calls, and before each one, owners may add HOT, MOVE or DROP to a cell, change their scope words, and
+/// store into objects that aren't quiet.
+pub trait Near {
+    /// What the book knows of the state. Kinds, tails, spans, the round and the epoch are its own, and exact; of a cell the
+    /// object, its place and EVAC are exact, and HOT, MOVE and DROP a floor: they are there at least where the view has
+    /// them. A word of a log is the word itself or unknown. Nothing may be concluded from the view's scopes, nor from
+    /// what it says that owners use, hold or remember, but where the hand is still.
+    ghost view: { Self → State };
+
+    /// No word changes but by the book's calls, and the view is the state itself.
+    ghost still: { Type 0 };
+
+    /// The cell of a pointer, as it is found. The view has it from then on.
+    fn see(&mut self, pointer: u16) -> u64
+        requires legal { Legal (view self.old) (Event.See pointer) }
+        ensures found { Finds ((view self.old).cell pointer) result }
+        ensures kept { view self.new ≡ record (view self.old) { cell = put (view self.old).cell pointer result } }
+        ensures exact { still → result ≡ (view self.old).cell pointer }
+        ensures set { still → view self.new ≡ after (view self.old) (Event.See pointer) };
+
+    /// Word `at` of a log. With `free` the log, which is sealed and has no live span, is given back too.
+    ///
+    /// The word is known from then on where it was, or where the view shows it to be a data word of a quiet object. As a
+    /// log is given back, words may be forgotten.
+    fn get(&mut self, log: u8, at: u16, free: bool) -> u64
+        requires legal { Legal (view self.old) (Event.Get log at free) }
+        ensures known { IsKnown ((view self.old).word (log * LOG_WORDS + at)) → result ≡ (view self.old).word (log * LOG_WORDS + at) }
+        ensures padding { IsPaddedAt (view self.old) (log * LOG_WORDS + at) result }
+        ensures read { free ≡ false → IsQuietAt (view self.old) (log * LOG_WORDS + at) → view self.new ≡ record (view self.old) { word = put (view self.old).word (log * LOG_WORDS + at) result } }
+        ensures kept { free ≡ false → IsKnown ((view self.old).word (log * LOG_WORDS + at)) → view self.new ≡ view self.old }
+        ensures here { free ≡ false → IsKnown ((view self.new).word (log * LOG_WORDS + at)) → (view self.new).word (log * LOG_WORDS + at) ≡ result }
+        ensures others { free ≡ false → (a : ℕ) → a ≢ log * LOG_WORDS + at → (view self.new).word a ≡ (view self.old).word a }
+        ensures forgot { free ≡ true → Forgets (view self.old) (view self.new) }
+        ensures rest { view self.new ≡ record (after (view self.old) (Event.Get log at free)) { word = (view self.new).word } }
+        ensures exact { still → result ≡ (view self.old).word (log * LOG_WORDS + at) }
+        ensures set { still → view self.new ≡ after (view self.old) (Event.Get log at free) };
+
+    /// Word `at` of a log that is open or free, at or past its tail, becomes `word`, and is known from then on.
+    fn put(&mut self, log: u8, at: u16, word: u64)
+        requires legal { Legal (view self.old) (Event.Put log at word) }
+        ensures set { view self.new ≡ after (view self.old) (Event.Put log at word) };
+
+    /// The cell of a pointer goes from `old`, the word last found there, to `new`, where it still is `old`; words may be
+    /// forgotten then. Else `Err` with the word that was found, and nothing has changed.
+    fn name(&mut self, pointer: u16, old: u64, new: u64) -> Result<(), u64>
+        requires seen { old ≡ (view self.old).cell pointer }
+        requires legal { Legal (view self.old) (Event.Name pointer old new) }
+        ensures done { IfOk result (λ _. view self.new ≡ record (after (view self.old) (Event.Name pointer old new)) { word = (view self.new).word }) }
+        ensures forgot { IfOk result (λ _. Forgets (view self.old) (view self.new)) }
+        ensures other { IfErr result (λ found. found ≢ old) }
+        ensures found { IfErr result (λ found. Finds old found) }
+        ensures kept { IfErr result (λ found. view self.new ≡ record (view self.old) { cell = put (view self.old).cell pointer found }) }
+        ensures won { still → IfErr result (λ _. ⊥) }
+        ensures set { still → view self.new ≡ after (view self.old) (Event.Name pointer old new) };
+
+    /// How large the heap is, and its epoch now.
+    fn shape(&self) -> Shape
+        ensures is { result ≡ shape_of (view self.now) }
+        ensures range { is_shape result ≡ true };
+}
