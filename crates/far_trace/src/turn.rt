@@ -14,14 +14,13 @@ ghost use Rattle.far_trace.specs.Command.{said, said_request};
 ghost use Rattle.far_trace.specs.Interpreter.{loaded, stores_of, word_in, refused_in, IsAccess, IsNew, StandsFor, next_after, next_of};
 ghost use Rattle.far_trace.specs.HexWord.{hex_bytes as spelled};
 ghost use Rattle.far_trace.specs.EventRows.{after_events, AtHand};
-ghost use Rattle.far_trace.specs.Command.{Heap, Mutator, Book, New, Open, Write, Read, Close, Logs};
+ghost use Rattle.far_trace.specs.Command.{Mutator, Book, New, Open, Write, Read, Close, Logs};
 ghost use Rattle.far_trace.specs.Outcome.{reply_by, IsInRoom};
 ghost use Rattle.far_trace.specs.Reply.{IsShort};
 ghost use Rattle.far_trace.specs.Tidy.{Tidy};
 ghost use Rattle.far_trace.specs.Events.{events_for, turn_events, first_word, words_touched, starts_inside, ends_inside, first_loads, last_loads};
 ghost use Rattle.far_trace.specs.Objects.{lowest_cell, named_len};
 ghost use Rattle.far_trace.specs.Moment.{moment_of};
-ghost use Rattle.far_trace.specs.Later.{IsLater};
 ghost use Rattle.far_trace.specs.Turn.{effect, access_causes, first_cause, reply_to, turn_reply, refusal, log_line};
 
 use crate::command::{Command, Inquiry, Request};
@@ -495,7 +494,6 @@ fn make_events(
     ensures fits { IsInRoom result }
 {
     match *command {
-        Command::Heap { .. } => Outcome::Done,
         Command::Mutator { mutator, request } => {
             make_request(core, named, scratch, mutator, request)
         }
@@ -511,7 +509,6 @@ pub fn turn(core: &mut Core, named: &mut [u16], scratch: &mut Scratch, command: 
     requires tidy { Tidy (core_state core.old) (λ m. slice_index named.old m) }
     requires law { Law (core_state core.old) }
     requires sized { length named.old ≡ MOST_MUTATORS }
-    requires later { IsLater (said command.now) }
     ensures moment { moment_of (core_state core.new) ≡ effect (moment_of (core_state core.old)) (said command.now) }
     ensures reply { reply_by scratch.new.bytes scratch.new.lines result ≡ reply_to (moment_of (core_state core.old)) (said command.now) }
     ensures named { (m : ℕ) → slice_index named.new m ≡ next_after (moment_of (core_state core.old)) (said command.now) (λ k. slice_index named.old k) m }
