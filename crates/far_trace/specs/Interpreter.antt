@@ -10,7 +10,7 @@ use Rattle.far_core.specs.declared.event.Reply.TheVariants as answers
 use Rattle.far_core.specs.state.State.{State, put}
 use Rattle.far_core.specs.events.Step.{step_of, is_opened}
 use Rattle.far_trace.specs.Moment.{Moment}
-use Rattle.far_trace.specs.Command.{Command, New, Write, Mutator}
+use Rattle.far_trace.specs.Command.{Command, New, Mutator}
 use Rattle.far_trace.specs.declared.turn.Access.{Access}
 use Rattle.far_trace.specs.Outcome.{reply_by}
 use Rattle.far_trace.specs.Reply.{Reply, LogLine}
@@ -55,11 +55,6 @@ pub record IsAccess (s : State) (mutator pointer from count : ℕ) (a : Access) 
   pub own : pointer / CELLS ≡ mutator
   pub used : s.used pointer ≡ true
   pub opened : is_opened s mutator ≡ true
-
--- every byte of a write is a byte
-abbrev pub AllBytes : Command → Type 0
-AllBytes (Mutator m (Write p from bytes)) = (k : ℕ) → slice_index bytes k < 256
-AllBytes c = Unit {0}
 
 -- how many cells of each mutator are named after a command that isn't refused
 abbrev pub named_by : Command → (ℕ → ℕ) → ℕ → ℕ
