@@ -4,7 +4,6 @@
 mod command;
 mod cursor;
 mod events;
-mod gather;
 mod headline;
 mod hex_word;
 mod laws;
@@ -12,6 +11,7 @@ mod line;
 mod outcome;
 mod output;
 mod reply;
+mod reply_writer;
 mod run;
 mod stream;
 #[cfg(test)]

@@ -14,10 +14,10 @@ ghost use Rattle.far_trace.specs.Reply.{Reply as Answer, Done, printed};
 ghost use Rattle.far_trace.specs.Tidy.{Tidy};
 
 use crate::command::Command;
-use crate::gather::{add_reply, write_waiting};
 use crate::outcome::Scratch;
-use crate::output::{Output, zeros};
+use crate::output::zeros;
 use crate::reply::Reply;
+use crate::reply_writer::ReplyWriter;
 use crate::stream::{WriteFault, read_text};
 use crate::text::{LONGEST_TEXT, ParseError, Trace, parse};
 use crate::turn::turn;
@@ -81,18 +81,22 @@ fn read_whole<R: Read>(alloc: Global, reader: &mut R, most: usize) -> Result<Vec
 }
 
 // Writes one refusal, and nothing else.
-fn refuse<W: Write>(writer: &mut W, out: &mut Output, why: Refused) -> Result<(), WriteFault>
+fn refuse<W: Write>(
+    writer: &mut W,
+    replies: &mut ReplyWriter,
+    why: Refused,
+) -> Result<(), WriteFault>
     ensures { Writes (W.contents writer.old) (W.contents writer.new) result (refused_printed why) }
 {
-    out.clear();
-    let written = add_reply(writer, out, &Reply::Refused(why), Ok(()));
-    write_waiting(writer, out, written)
+    replies.clear();
+    replies.add(writer, &Reply::Refused(why));
+    replies.finish(writer)
 }
 
 // Makes the commands after the heap, and writes their replies. Once a write has failed it makes them without writing.
 fn answer_commands<W: Write>(
     writer: &mut W,
-    out: &mut Output,
+    replies: &mut ReplyWriter,
     core: Core,
     named: &mut [u16],
     scratch: &mut Scratch,
@@ -104,20 +108,20 @@ fn answer_commands<W: Write>(
         × Writes (W.contents writer.old) (W.contents writer.new) result (flat_map printed (Done ∷ replies)) }
 {
     let mut core = core;
-    out.clear();
-    let mut written = add_reply(writer, out, &Reply::Done, Ok(()));
+    replies.clear();
+    replies.add(writer, &Reply::Done);
     for command in commands {
         let outcome = turn(&mut core, named, scratch, command);
-        written = add_reply(writer, out, &scratch.reply(outcome), written);
+        replies.add(writer, &scratch.reply(outcome));
     }
-    write_waiting(writer, out, written)
+    replies.finish(writer)
 }
 
 // Makes a heap and the commands after it, and writes their replies. Out of memory for the heap, it writes that line alone.
 fn answer_heap<W: Write>(
     alloc: Global,
     writer: &mut W,
-    out: &mut Output,
+    replies: &mut ReplyWriter,
     shape: Shape,
     commands: &[Command],
 ) -> Result<End, RunFault>
@@ -132,15 +136,15 @@ fn answer_heap<W: Write>(
         Ok(core) => {
             let mut named = [0u16; MOST_MUTATORS as usize];
             let mut scratch = Scratch::new();
-            answer_commands(writer, out, core, &mut named, &mut scratch, commands)?;
+            answer_commands(writer, replies, core, &mut named, &mut scratch, commands)?;
             Ok(End::Ran)
         }
         Err(Refused::Memory) => {
-            let _ = refuse(writer, out, Refused::Memory);
+            let _ = refuse(writer, replies, Refused::Memory);
             Err(RunFault::Memory)
         }
         Err(_) => {
-            refuse(writer, out, Refused::Shape)?;
+            refuse(writer, replies, Refused::Shape)?;
             Ok(End::Refused)
         }
     }
@@ -150,7 +154,7 @@ fn answer_heap<W: Write>(
 fn answer<W: Write>(
     alloc: Global,
     writer: &mut W,
-    out: &mut Output,
+    replies: &mut ReplyWriter,
     trace: &Trace,
 ) -> Result<End, RunFault>
     ensures answered { OnOk result (WritesOutput (W.contents writer.old) (W.contents writer.new) (Ok (said_trace trace.now))) }
@@ -170,7 +174,7 @@ fn answer<W: Write>(
                 mutators: *mutators,
                 epoch: 0,
             };
-            answer_heap(alloc, writer, out, shape, commands)
+            answer_heap(alloc, writer, replies, shape, commands)
         }
     }
 }
@@ -179,7 +183,7 @@ fn answer<W: Write>(
 fn answer_text<W: Write>(
     alloc: Global,
     writer: &mut W,
-    out: &mut Output,
+    replies: &mut ReplyWriter,
     text: &[u8],
 ) -> Result<End, RunFault>
     ensures answered { OnOk result (WritesOutput (W.contents writer.old) (W.contents writer.new) (trace_of text.now)) }
@@ -188,9 +192,9 @@ fn answer_text<W: Write>(
     ensures unread { result ≢ Err RunFault.Read }
 {
     match parse(alloc, text) {
-        Ok(trace) => answer(alloc, writer, out, &trace),
+        Ok(trace) => answer(alloc, writer, replies, &trace),
         Err(ParseError::Syntax(line)) => {
-            refuse(writer, out, Refused::Syntax(line))?;
+            refuse(writer, replies, Refused::Syntax(line))?;
             Ok(End::Refused)
         }
         Err(ParseError::Memory) => Err(RunFault::Memory),
@@ -214,7 +218,7 @@ pub fn run<R: Read, W: Write>(
     ensures end { IfOk result (λ end. IfSome (R.remaining reader.old) (λ text. end ≡ end_of (trace_of text))) }
     ensures fault { IfErr result (λ fault. IfSome (R.remaining reader.old) (Leaves fault (W.contents writer.old) (W.contents writer.new))) }
 {
-    let mut out = Output::new(alloc)?;
+    let mut replies = ReplyWriter::new(alloc)?;
     let text = read_whole(alloc, reader, LONGEST_TEXT + 1)?;
-    answer_text(alloc, writer, &mut out, &text)
+    answer_text(alloc, writer, &mut replies, &text)
 }

@@ -2,7 +2,6 @@ use Rattle.std.proofs.Common.{◌≡◌, ℕ, ◌+◌, [], ◌∷◌, ◌++◌, 
 use Rattle.std.specs.Prelude.{map}
 use Rattle.std.specs.List.{flat_map}
 use Rattle.std.proofs.lemmas.List.{length-map, drop_all}
-use Rattle.std.proofs.KnownBytes.{Appends-nil}
 use Rattle.far_core.specs.state.CoreState.{core_state}
 use Rattle.far_core.specs.state.State.{State}
 use Rattle.far_trace.specs.Moment.{moment_of}
@@ -12,7 +11,6 @@ use Rattle.far_trace.specs.Reply.{Reply, Done, printed}
 use Rattle.far_trace.specs.Stream.{Holds}
 use Rattle.far_trace.specs.Turn.{reply_to}
 use Rattle.far_trace.proofs.Answering.{said_bytes, drop_here, still_tidy, answered_more, answered_all, printed_more}
-use Rattle.far_trace.proofs.Streams.{held_all}
 use Rattle.far_trace.proofs.run.answer_commands.Goals as goal
 
 pub turn-outcome-requires-clause-law : goal.turn-outcome-requires-clause-law
@@ -23,13 +21,13 @@ loop-command-init g c =
     let start = g.W.Write.contents c.args.writer.now in
     record {
       tidy = c.requires.tidy;
-      ran = ([], [], (λ rest more h. h), c.add_reply-written.ensures start [] ([], Appends-nil start, c.clear.ensures));
+      ran = ([], [], (λ rest more h. h), c.add.ensures start [] (c.clear.ensures start));
     }
 
 pub loop-command-preserved : goal.loop-command-preserved
 loop-command-preserved g c =
     let start = g.W.Write.contents c.args.writer.now in
-    let now = g.W.Write.contents c.add_reply-written-in-loop-command.new.writer in
+    let now = g.W.Write.contents c.add-in-loop-command.new.writer in
     let s : State = core_state c.loop-command.core in
     let t : State = core_state c.turn-outcome.new.core in
     let command : Command = said c.command-item.result in
@@ -39,7 +37,7 @@ loop-command-preserved g c =
     let here : drop c.loop-command.command-index (map said c.args.commands.now) ≡ command ∷ drop (c.loop-command.command-index + 1) (map said c.args.commands.now) =
     drop_here said c.args.commands.now c.loop-command.command-index c.command-item.result c.loop-command-test.true c.command-item.is in
     let reply = c.reply.ensures.value ∙ c.turn-outcome.ensures.reply in
-    let held = c.add_reply-written-in-loop-command.ensures start (flat_map printed (Done ∷ known.0)) known.3 in
+    let held = c.add-in-loop-command.ensures start (flat_map printed (Done ∷ known.0)) known.3 in
     record {
       tidy = still_tidy s t next _ command c.loop-command.core.law c.loop-command.invariant.tidy (said_bytes c.command-item.result) c.turn-outcome.ensures.moment c.turn-outcome.ensures.named;
       ran = (
@@ -48,7 +46,7 @@ loop-command-preserved g c =
         answered_more (moment_of (core_state c.args.core)) (moment_of s) (map said c.args.commands.now) (drop (c.loop-command.command-index + 1) (map said c.args.commands.now)) known.0 known.1 command r (moment_of t)
             (λ rest more h. known.2 rest more (subst (λ cs. Answered (moment_of s) cs rest more) (sym here) h))
             (record { reply = refl; moment = c.turn-outcome.ensures.moment }),
-        subst (λ bytes. Holds start now c.add_reply-written-in-loop-command.new.out c.add_reply-written-in-loop-command.result bytes)
+        subst (λ bytes. Holds start now c.add-in-loop-command.new.self.waiting c.add-in-loop-command.new.self.written bytes)
             (ap (λ x. flat_map printed (Done ∷ known.0) ++ printed x) reply ∙ sym (printed_more Done known.0 r)) held,
       );
     }
@@ -56,12 +54,10 @@ loop-command-preserved g c =
 pub returns : goal.returns
 returns g c =
     let start = g.W.Write.contents c.args.writer.now in
-    let now = g.W.Write.contents c.write_waiting.new.writer in
     let known = c.loop-command.invariant.ran in
-    let none : drop c.loop-command.command-index (map said c.args.commands.now) ≡ [] = drop_all c.loop-command.command-index (map said c.args.commands.now) (omega (arith, c.loop-command-test.false, length-map c.args.commands.now said)) in
-    let held = c.write_waiting.ensures.held start (flat_map printed (Done ∷ known.0)) known.3 in (
+    let none : drop c.loop-command.command-index (map said c.args.commands.now) ≡ [] = drop_all c.loop-command.command-index (map said c.args.commands.now) (omega (arith, c.loop-command-test.false, length-map c.args.commands.now said)) in (
       known.0,
       known.1,
       answered_all (moment_of (core_state c.args.core)) (moment_of (core_state c.loop-command.core)) (map said c.args.commands.now) known.0 known.1 (drop c.loop-command.command-index (map said c.args.commands.now)) none known.2,
-      held_all start now c.write_waiting.new.out (flat_map printed (Done ∷ known.0)) c.write_waiting.result c.write_waiting.ensures.empty held,
+      c.finish.ensures start (flat_map printed (Done ∷ known.0)) known.3,
     )

@@ -16,5 +16,5 @@ invariant-loop-command g l = let contents = g.W.Write.contents in record {
   ran : (replies : List Reply) × (moments : List Moment)
       × ((rest : List Reply) (more : List Moment) → Answered (moment_of (core_state l.core)) (drop l.command-index (map said l.commands)) rest more
       → Answered (moment_of (core_state l.fn.core)) (map said l.commands) (replies ++ rest) (moments ++ more))
-      × Holds (contents l.fn.writer) (contents l.writer) l.out l.written (flat_map printed (Done ∷ replies));
+      × Holds (contents l.fn.writer) (contents l.writer) l.replies.waiting l.replies.written (flat_map printed (Done ∷ replies));
 }
