@@ -169,6 +169,7 @@ module _ (m p : ℕ) (k : Mark) where
       used_dropped s.used p k,
       used_moved s.used p k h.3,
     );
+    silent = λ s t h. h;
     answers = λ s x. cc;
     causes = ask_causes m p k;
   }

@@ -241,6 +241,7 @@ module _ (l at : ℕ) (free : Bool) where
     part = λ s h. part_get l at free;
     word = λ s h. tt;
     reports = λ s law h. (refl, reports_get l at free s);
+    silent = λ s t h. h;
     answers = λ s x. cc;
     causes = get_causes l at free;
   }

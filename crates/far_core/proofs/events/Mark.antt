@@ -123,6 +123,7 @@ module _ (p : ℕ) where
     part = λ s h. tt;
     word = λ s h. inr (inl refl);
     reports = λ s law h. (refl, λ v e. ap read_of (put_same s.cell p (evac (s.cell p)) p refl) ∙ (read_evac s (s.cell p) _ (law.cells.cell_read p).0 refl (near_test s p h.1)).0 ∙ ap (map_mark Evac) e);
+    silent = λ s t h. h;
     answers = λ s x. cc;
     causes = replies (λ r. Caused (Mark p) (change_of (Mark p) r)) tt tt (λ n. tt) (λ x. inl refl) (λ place. tt);
   }

@@ -84,6 +84,7 @@ module _ (p old new : ℕ) where
     part = λ s h. inl (p, old, new, refl);
     word = λ s h. inr (inr (inl (old, new, refl)));
     reports = λ s law h. reports_name s law h (nat_eq (s.cell p) old) refl;
+    silent = λ s t h. h;
     answers = λ s x. cond_both (nat_eq (s.cell p) old) Done (Word (s.cell p)) (λ (r : Reply). r ≡ Refused → ⊥) (λ _ y. cc) (λ _ y. cc) x;
     causes = replies (λ r. Caused (Name p old new) (change_of (Name p old new) r)) tt (name_causes form) (λ n. tt) (λ x. tt) (λ place. tt);
   }

@@ -91,6 +91,7 @@ module _ (m : ℕ) where
     part = λ s h. tt;
     word = λ s h. inl refl;
     reports = λ s law h. reports_open s m (s.remembered m) refl h.1;
+    silent = λ s t h. h;
     answers = λ s x. cc;
     causes = replies (λ r. Caused (Open m) (change_of (Open m) r)) tt refl (λ n. tt) (λ x. tt) (λ place. tt);
   }

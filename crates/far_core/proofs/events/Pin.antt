@@ -138,6 +138,7 @@ module _ (m p : ℕ) where
     part = λ s h. by_owner Pin m p p (grind (arith, nat_tests)) refl;
     word = λ s h. inl (by_owner Pin m p p (grind (arith, nat_tests)) refl);
     reports = λ s law h. reports_pin s law m p (place_to_view (read_of (s.cell p))) h.2 h.3 refl;
+    silent = λ s t h. h;
     answers = λ s x. pin_told (s.cell p) (place_to_view (read_of (s.cell p))) x;
     causes = replies (λ r. Caused (Pin m p) (change_of (Pin m p) r)) tt tt (λ n. tt) (λ x. tt) (λ place. refl);
   }

@@ -71,6 +71,7 @@ module _ (l at w : ℕ) where
     part = λ s h. tt;
     word = λ s h. inr (l, at, w, refl, refl);
     reports = λ s law h. put_same s.word (l * LOG_WORDS + at) w (l * LOG_WORDS + at) refl;
+    silent = λ s t h. h;
     answers = λ s x. cc;
     causes = replies (λ r. Caused (Put l at w) (change_of (Put l at w) r)) tt tt (λ n. tt) (λ x. tt) (λ place. tt);
   }
