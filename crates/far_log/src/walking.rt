@@ -4,7 +4,7 @@ ghost use Rattle.std.specs.Prelude.{◌≡◌, ◌+◌, ◌<◌, ◌≤◌, ◌�
 ghost use Rattle.far_word.specs.declared.sizes.TheConstants.{LOG_WORDS};
 ghost use Rattle.far_word.specs.Sizes.{size_of};
 ghost use Rattle.far_log.specs.Spans.{Stands};
-ghost use Rattle.far_log.specs.Walk.{IsWalk, IsFault, IsBadSpan, last_limit};
+ghost use Rattle.far_log.specs.Walk.{IsWalk, IsWalkFault, IsBadSpan, last_limit};
 
 use crate::span::{Span, size_of};
 use far_word::HeadWord;
@@ -46,12 +46,12 @@ impl From<BadWord> for WalkFault {
 ///
 /// Where the words have no such list the fault names the first that is bad: a word at a header's place that is off the
 /// layout, or whose span passes the tail, or the last data word of a span that hasn't zeros behind its last byte. All
-/// room is taken at once, first: half as many spans as words.
+/// memory is taken at once, first: half as many spans as the tail has words.
 pub fn walk(alloc: Global, words: &[u64], tail: usize) -> Result<Vec<Span>, WalkFault>
     requires within { tail ≤ length words.now }
     requires log { length words.now ≤ LOG_WORDS }
     ensures spans { IfOk result (λ spans. IsWalk (λ i. slice_index words.now i) tail spans.items) }
-    ensures fault { IfErr result (λ fault. IsFault (λ i. slice_index words.now i) tail fault) }
+    ensures fault { IfErr result (λ fault. IsWalkFault (λ i. slice_index words.now i) tail fault) }
 {
     let Ok(mut spans) = Vec::with_capacity(alloc, tail / 2) else {
         return Err(WalkFault::Memory);

@@ -127,8 +127,8 @@ pub fn steps_keep_views()
     ensures lying { LyingIsOpen }
 {}
 
-/// Whatever an event changes of the words and views, it says so: one shared word at most, and the view of its own mutator
-/// alone, or of the book.
+/// What an event changes of the words and views is what its rule says that it touches: one shared word at most, and the
+/// view of its own mutator alone, or of the book.
 pub fn events_leave_others()
     ensures { EventsLeave }
 {}
