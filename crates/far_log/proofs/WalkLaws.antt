@@ -9,7 +9,7 @@ use Rattle.far_word.specs.Sizes.{size_of, words_for}
 use Rattle.far_word.proofs.HeaderLaws.{head_says}
 use Rattle.far_log.specs.declared.span.Span.{Span}
 use Rattle.far_log.specs.Spans.{HasHeader, Stands, Tile, header_of}
-use Rattle.far_log.specs.Walk.{IsWalk, IsBadSpan, FirstBadWord, last_limit}
+use Rattle.far_log.specs.Walk.{IsWalk, IsBadSpan, FirstBad, last_limit}
 use Rattle.far_log.proofs.Members.{All-from}
 use Rattle.far_log.proofs.Padding.{padded_by_last, last_padded}
 use Rattle.far_log.proofs.SpanLaws.{same_span, next_span, reads_as, tile_bounds}
@@ -77,10 +77,10 @@ not_bad word from end tail at spans others walk other lt le bad =
     let y = next_span word spans others 0 from end walk.tile other.tile walk.stand other.stand lt in
     none_stands word tail from at bad y.0 y.1 (omega (arith, y.2)) y.3
 
-pub never_both : (word : ℕ → ℕ) (tail at w : ℕ) (spans : List Span) → IsWalk word tail spans → ¬ FirstBadWord word tail at w
+pub never_both : (word : ℕ → ℕ) (tail at w : ℕ) (spans : List Span) → IsWalk word tail spans → ¬ FirstBad word tail at w
 never_both word tail at w spans walk first = not_bad word first.from tail tail at first.spans spans first.before walk first.below (omega arith) first.bad
 
-pub first_is_one : (word : ℕ → ℕ) (tail at w a v : ℕ) → FirstBadWord word tail at w → FirstBadWord word tail a v → (a ≡ at) × (v ≡ w)
+pub first_is_one : (word : ℕ → ℕ) (tail at w a v : ℕ) → FirstBad word tail at w → FirstBad word tail a v → (a ≡ at) × (v ≡ w)
 first_is_one word tail at w a v first other = elim (cases_order other.from first.from) [
   | inl same ↦ (let place : a ≡ at = one_place word tail first.from a at (subst (λ k. IsBadSpan word tail k a) same other.bad) first.bad in
       (place, other.is ∙ ap word place ∙ sym first.is))
@@ -134,7 +134,7 @@ bad_from word tail from at (inl off) = omega (arith, off.named)
 bad_from word tail from at (inr (inl past)) = omega (arith, past.named)
 bad_from word tail from at (inr (inr ill)) = omega (arith, ill.named)
 
-pub same_first : (word other : ℕ → ℕ) (tail at w : ℕ) → ((i : ℕ) → i < at + 1 → other i ≡ word i) → FirstBadWord word tail at w → FirstBadWord other tail at w
+pub same_first : (word other : ℕ → ℕ) (tail at w : ℕ) → ((i : ℕ) → i < at + 1 → other i ≡ word i) → FirstBad word tail at w → FirstBad other tail at w
 same_first word other tail at w same first = record {
   from = first.from;
   spans = first.spans;
@@ -173,7 +173,7 @@ module _ (word : ℕ → ℕ) (fits : (i : ℕ) → word i < 2 ^ 64) (tail : ℕ
     at_head (Some h) e = let says = head_says (word from) h (fits from) e in
         with_header record { at = from; p = h.pointer; len = h.len; ds = h.ds } record { layout = says.0; header = sym says.1 }
 
-  walk_or_bad : (fuel from : ℕ) (spans : List Span) → IsWalk word from spans → from ≤ tail → tail ≤ from + fuel → ((spans : List Span) × IsWalk word tail spans) ⊎ ((at w : ℕ) × FirstBadWord word tail at w)
+  walk_or_bad : (fuel from : ℕ) (spans : List Span) → IsWalk word from spans → from ≤ tail → tail ≤ from + fuel → ((spans : List Span) × IsWalk word tail spans) ⊎ ((at w : ℕ) × FirstBad word tail at w)
   walk_or_bad zero from spans walk low high = let e : from ≡ tail = omega arith in inl (spans, subst (λ k. IsWalk word k spans) e walk)
   walk_or_bad (suc fuel) from spans walk low high = elim (cases_lt from tail) [
     | inl below ↦ elim (stands_or_bad from) [
@@ -183,5 +183,5 @@ module _ (word : ℕ → ℕ) (fits : (i : ℕ) → word i < 2 ^ 64) (tail : ℕ
     | inr end ↦ (let e : from ≡ tail = omega arith in inl (spans, subst (λ k. IsWalk word k spans) e walk))
   ]
 
-  pub walks_or_bad : ((spans : List Span) × IsWalk word tail spans) ⊎ ((at w : ℕ) × FirstBadWord word tail at w)
+  pub walks_or_bad : ((spans : List Span) × IsWalk word tail spans) ⊎ ((at w : ℕ) × FirstBad word tail at w)
   walks_or_bad = walk_or_bad tail 0 [] (walk_none word) (omega arith) (omega arith)

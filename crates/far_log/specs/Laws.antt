@@ -4,7 +4,7 @@ use Rattle.std.specs.List.{filter, sum_by}
 use Rattle.far_word.specs.Sizes.{bytes_taken}
 use Rattle.far_log.specs.declared.span.Span.{Span}
 use Rattle.far_log.specs.Spans.{Stands, HasOneSpan, HasNoSpan, HoldsBytes, spans_in, taken_by}
-use Rattle.far_log.specs.Walk.{IsWalk, FirstBadWord}
+use Rattle.far_log.specs.Walk.{IsWalk, FirstBad}
 
 -- the words below a tail have at most one list of spans
 abbrev pub WalksAreOne : Type 0
@@ -13,16 +13,16 @@ WalksAreOne = (word : ℕ → ℕ) (tail : ℕ) (spans others : List Span) → I
 -- words of 64 bits have a list of spans or a first bad word
 abbrev pub WalksOrBad : Type 0
 WalksOrBad = (word : ℕ → ℕ) (tail : ℕ) → ((i : ℕ) → word i < 2 ^ 64) →
-    ((spans : List Span) × IsWalk word tail spans) ⊎ ((at w : ℕ) × FirstBadWord word tail at w)
+    ((spans : List Span) × IsWalk word tail spans) ⊎ ((at w : ℕ) × FirstBad word tail at w)
 
 -- and never both
 abbrev pub NeverBoth : Type 0
-NeverBoth = (word : ℕ → ℕ) (tail at w : ℕ) (spans : List Span) → IsWalk word tail spans → ¬ FirstBadWord word tail at w
+NeverBoth = (word : ℕ → ℕ) (tail at w : ℕ) (spans : List Span) → IsWalk word tail spans → ¬ FirstBad word tail at w
 
 -- the first bad word is one, and stands below the tail
 abbrev pub FirstBadIsOne : Type 0
-FirstBadIsOne = (word : ℕ → ℕ) (tail at w : ℕ) → FirstBadWord word tail at w →
-    (at < tail) × (w ≡ word at) × ((a v : ℕ) → FirstBadWord word tail a v → (a ≡ at) × (v ≡ w))
+FirstBadIsOne = (word : ℕ → ℕ) (tail at w : ℕ) → FirstBad word tail at w →
+    (at < tail) × (w ≡ word at) × ((a v : ℕ) → FirstBad word tail a v → (a ≡ at) × (v ≡ w))
 
 -- the list of spans is the one that the headers spell
 abbrev pub SpansAreListed : Type 0
@@ -34,7 +34,7 @@ TailEndsWalk = (word other : ℕ → ℕ) (tail : ℕ) (spans : List Span) → (
 
 -- words behind the first bad one don't mend it
 abbrev pub BadEndsWalk : Type 0
-BadEndsWalk = (word other : ℕ → ℕ) (tail at w : ℕ) → ((i : ℕ) → i ≤ at → other i ≡ word i) → FirstBadWord word tail at w → FirstBadWord other tail at w
+BadEndsWalk = (word other : ℕ → ℕ) (tail at w : ℕ) → ((i : ℕ) → i ≤ at → other i ≡ word i) → FirstBad word tail at w → FirstBad other tail at w
 
 -- a word below the tail is header or data of exactly one span
 abbrev pub WordsHaveOneSpan : Type 0

@@ -42,7 +42,7 @@ abbrev pub IsBadSpan : (ℕ → ℕ) → ℕ → ℕ → ℕ → Type 0
 IsBadSpan word tail from at = IsOffLayout word from at ⊎ (PassesTail word tail from at ⊎ IsIllPadded word tail from at)
 
 -- the first bad word of a log: up to some place below the tail spans follow each other, and none stands there
-pub record FirstBadWord (word : ℕ → ℕ) (tail at w : ℕ) : Type 0 where
+pub record FirstBad (word : ℕ → ℕ) (tail at w : ℕ) : Type 0 where
   pub from : ℕ
   pub spans : List Span
   pub before : IsWalk word from spans
@@ -51,6 +51,6 @@ pub record FirstBadWord (word : ℕ → ℕ) (tail at w : ℕ) : Type 0 where
   pub is : w ≡ word at
 
 -- what a fault says: nothing where a growth was refused, else the first bad word
-abbrev pub IsWalkFault : (ℕ → ℕ) → ℕ → WalkFault → Type 0
-IsWalkFault word tail Memory = Unit {0}
-IsWalkFault word tail (Bad bad) = FirstBadWord word tail bad.at bad.word
+abbrev pub IsFault : (ℕ → ℕ) → ℕ → WalkFault → Type 0
+IsFault word tail Memory = Unit {0}
+IsFault word tail (Bad bad) = FirstBad word tail bad.at bad.word

@@ -4,7 +4,7 @@ ghost use Rattle.std.specs.Prelude.{◌≡◌, ◌+◌, ◌<◌, ◌≤◌, ◌�
 ghost use Rattle.far_word.specs.declared.sizes.TheConstants.{LOG_WORDS};
 ghost use Rattle.far_word.specs.Sizes.{size_of};
 ghost use Rattle.far_log.specs.Spans.{Stands};
-ghost use Rattle.far_log.specs.Walk.{IsWalk, IsWalkFault, IsBadSpan, last_limit};
+ghost use Rattle.far_log.specs.Walk.{IsWalk, IsFault, IsBadSpan, last_limit};
 
 use crate::span::{Span, size_of};
 use far_word::HeadWord;
@@ -51,7 +51,7 @@ pub fn walk(alloc: Global, words: &[u64], tail: usize) -> Result<Vec<Span>, Walk
     requires within { tail ≤ length words.now }
     requires log { length words.now ≤ LOG_WORDS }
     ensures spans { IfOk result (λ spans. IsWalk (λ i. slice_index words.now i) tail spans.items) }
-    ensures fault { IfErr result (λ fault. IsWalkFault (λ i. slice_index words.now i) tail fault) }
+    ensures fault { IfErr result (λ fault. IsFault (λ i. slice_index words.now i) tail fault) }
 {
     let Ok(mut spans) = Vec::with_capacity(alloc, tail / 2) else {
         return Err(WalkFault::Memory);
