@@ -7,8 +7,7 @@ use Rattle.std.proofs.lemmas.List.{get_or-replicate, get_or_past, length-replica
 use Rattle.far_word.specs.declared.pointer.PtrWord.TheVariants as pointer
 use Rattle.far_word.specs.declared.pointer.PtrWord.TheVariants.{Near, Far}
 use Rattle.far_word.specs.declared.scope.ScopeWord.TheVariants as scoped
-use Rattle.far_word.specs.declared.sizes.TheConstants.{MOST_LOGS, MOST_MUTATORS}
-use Rattle.far_word.specs.Scope.{epoch_end}
+use Rattle.far_word.specs.declared.sizes.TheConstants.{EPOCH_END, LEAST_LOGS, LEAST_MUTATORS, MOST_LOGS, MOST_MUTATORS}
 use Rattle.far_core.specs.declared.event.Kind.TheVariants.{Free, Open}
 use Rattle.far_core.specs.declared.shape.Shape.{Shape}
 use Rattle.far_core.specs.state.Law.{Law}
@@ -24,11 +23,11 @@ row_of xs n d e q = ap (λ ys. get_or ys q d) e ∙ elim (cases_lt q n) [ inl lt
 
 -- what the test of a shape says
 pub record InRange (shape : Shape) : Type 0 where
-  pub two_logs : 2 ≤ shape.logs
+  pub two_logs : LEAST_LOGS ≤ shape.logs
   pub few_logs : shape.logs ≤ MOST_LOGS
-  pub some_mutators : 1 ≤ shape.mutators
+  pub some_mutators : LEAST_MUTATORS ≤ shape.mutators
   pub few_mutators : shape.mutators ≤ MOST_MUTATORS
-  pub epoch : shape.epoch < epoch_end
+  pub epoch : shape.epoch < EPOCH_END
 
 pub in_range : (shape : Shape) → is_shape shape ≡ true → InRange shape
 in_range shape h = record { two_logs = grind (arith, nat_tests); few_logs = grind (arith, nat_tests); some_mutators = grind (arith, nat_tests); few_mutators = grind (arith, nat_tests); epoch = grind (arith, nat_tests) }

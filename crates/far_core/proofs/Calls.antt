@@ -1,5 +1,5 @@
 -- What a typed call leaves: the state after its event, which keeps the law.
-use Rattle.std.proofs.Common.{◌≡◌, ◌∙◌, ℕ, ◌+◌, ◌-◌, ◌*◌, ◌^◌, ◌/◌, ◌<◌, ◌≤◌, Bool, Some, ap, arith, refl, sym, true}
+use Rattle.std.proofs.Common.{◌≢◌, ◌≡◌, ◌∙◌, ℕ, ◌+◌, ◌-◌, ◌*◌, ◌^◌, ◌/◌, ◌<◌, ◌≤◌, Bool, Some, ap, arith, refl, sym, true}
 use Rattle.std.proofs.lemmas.Bool.{cond_both}
 use Rattle.std.proofs.lemmas.Bool.Decides.{nat_tests}
 use Rattle.std.specs.Prelude.{is_some, IsSome, IsTrue, ◌==◌, ◌↔◌}
@@ -53,8 +53,8 @@ data_inside s law p place held =
     omega (arith, word_inside s law p (words_for (data_len s p) - 1) place held (omega (arith, says.0, len)))
 
 -- a legal naming wins or finds another word
-pub name_replies : (s : State) (p old new : ℕ) (r : Reply) → r ≡ answer s (Name p old new) → (r ≡ Done → ⊥) → ((x : ℕ) → r ≡ Word x → ⊥) → ⊥
-name_replies s p old new r is done word = cond_both (s.cell p == old) Done (Word (s.cell p)) (λ a. r ≡ a → ⊥) (λ _ e. done e) (λ _ e. word (s.cell p) e) is
+pub name_replies : (s : State) (p old new : ℕ) (r : Reply) → r ≡ answer s (Name p old new) → r ≢ Done → ¬ ((x : ℕ) → r ≢ Word x)
+name_replies s p old new r is done word = cond_both (s.cell p == old) Done (Word (s.cell p)) (λ a. r ≢ a) (λ _ e. done e) (λ _ e. word (s.cell p) e) is
 
 -- the guard of a store by what its caller knows
 pub store_legal : (s : State) (m p i w : ℕ) → Law s → p / CELLS ≡ m → IsSome (s.held p) → i < words_for (data_len s p) → w < 2 ^ (8 * (data_len s p - 8 * i)) → Legal s (Store m p i w)

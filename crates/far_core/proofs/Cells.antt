@@ -1,6 +1,6 @@
 -- What a cell says, what its marks leave as it is, and what a header says.
-use Rattle.std.proofs.Common.{◌≡◌, ℕ, ◌+◌, ◌<◌, ◌^◌, Bool, true, false, arith, sym, refl, ap, ◌∙◌, Option, Some, None, bit_or}
-use Rattle.std.specs.Prelude.{IsSome}
+use Rattle.std.proofs.Common.{◌≡◌, ◌≢◌, ℕ, ◌+◌, ◌/◌, ◌<◌, ◌^◌, Bool, true, false, cond, arith, sym, refl, ap, ◌∙◌, Option, Some, None, bit_or}
+use Rattle.std.specs.Prelude.{IsSome, not, ◌||◌}
 use Rattle.std.proofs.lemmas.Bool.{false≢true}
 use Rattle.std.proofs.lemmas.Bool.Decides.{nat_tests}
 use Rattle.far_word.specs.declared.mark.Mark.{Mark}
@@ -9,6 +9,8 @@ use Rattle.far_word.specs.declared.mark.Marks.{Marks}
 use Rattle.far_word.specs.declared.pointer.Place.{Place}
 use Rattle.far_word.specs.declared.pointer.PtrWord.{PtrWord}
 use Rattle.far_word.specs.declared.pointer.PtrWord.TheVariants.{Free, Near, Far}
+use Rattle.far_word.specs.declared.sizes.TheConstants.{CELLS}
+use Rattle.far_word.specs.Bytes.{bytes_of}
 use Rattle.far_word.specs.Header.{head_word}
 use Rattle.far_word.specs.Mark.{position, marks_with}
 use Rattle.far_word.specs.Pointer.{read_of, takes_mark, with_mark}
@@ -17,6 +19,8 @@ use Rattle.far_core.specs.state.Law.{Heads, held_place, in_use, Blank}
 use Rattle.far_core.specs.state.Spans.{names_place}
 use Rattle.far_core.specs.state.State.{addr}
 use Rattle.far_core.specs.events.Step.{place_to_view}
+use Rattle.far_core.specs.world.World.{Group, FarSide}
+use Rattle.far_core.specs.world.WorldOf.{object_of}
 pub use Rattle.far_core.specs.events.Naming.{is_dropped}
 
 pub unused : read_of 0 ≡ Some Free
@@ -98,18 +102,38 @@ Remarked-map_mark k (Some Free) = record { same = refl; kept = λ e. e }
 Remarked-map_mark k (Some (Near len ds place m)) = record { same = refl; kept = with_kept k m }
 Remarked-map_mark k (Some (Far len ds m)) = record { same = refl; kept = with_kept k m }
 
--- ---- what HOT leaves as it is
-pub held_place-hot : (o : Option PtrWord) → held_place (map_mark Hot o) ≡ held_place o
-held_place-hot None = refl
-held_place-hot (Some Free) = refl
-held_place-hot (Some (Near len ds place m)) = refl
-held_place-hot (Some (Far len ds m)) = refl
+-- ---- what a mark leaves as it is
+same_dropped : (k : Mark) (m : Marks) → k ≢ Dropped → (marks_with k m).dropped ≡ m.dropped
+same_dropped Hot m ne = refl
+same_dropped Evac m ne = refl
+same_dropped Moved m ne = refl
+same_dropped Dropped m ne = absurd (ne refl)
 
-pub in_use-hot : (o : Option PtrWord) → in_use (map_mark Hot o) ≡ in_use o
-in_use-hot None = refl
-in_use-hot (Some Free) = refl
-in_use-hot (Some (Near len ds place m)) = refl
-in_use-hot (Some (Far len ds m)) = refl
+same_moved : (k : Mark) (m : Marks) → k ≢ Moved → (marks_with k m).moved ≡ m.moved
+same_moved Hot m ne = refl
+same_moved Evac m ne = refl
+same_moved Moved m ne = absurd (ne refl)
+same_moved Dropped m ne = refl
+
+pub held_place-mark : (k : Mark) (o : Option PtrWord) → k ≢ Moved → k ≢ Dropped → held_place (map_mark k o) ≡ held_place o
+held_place-mark k None a b = refl
+held_place-mark k (Some Free) a b = refl
+held_place-mark k (Some (Near len ds place m)) a b = ap (λ x. cond (x || (marks_with k m).dropped) None (Some place)) (same_moved k m a) ∙ ap (λ x. cond (m.moved || x) None (Some place)) (same_dropped k m b)
+held_place-mark k (Some (Far len ds m)) a b = refl
+
+pub in_use-mark : (k : Mark) (o : Option PtrWord) → k ≢ Dropped → in_use (map_mark k o) ≡ in_use o
+in_use-mark k None ne = refl
+in_use-mark k (Some Free) ne = refl
+in_use-mark k (Some (Near len ds place m)) ne = ap not (same_dropped k m ne)
+in_use-mark k (Some (Far len ds m)) ne = ap not (same_dropped k m ne)
+
+pub object_of-mark : (k : Mark) (f g : ℕ → ℕ) (p : ℕ) (o : Option PtrWord) → k ≢ Dropped → object_of f g p (map_mark k o) ≡ object_of f g p o
+object_of-mark k f g p None ne = refl
+object_of-mark k f g p (Some Free) ne = refl
+object_of-mark k f g p (Some (Near len ds place m)) ne =
+    ap (λ b. cond b None (Some record { owner = p / CELLS; ds = ds; bytes = bytes_of (λ i. f (addr place + 1 + i)) len; home = Group place.log })) (same_dropped k m ne)
+object_of-mark k f g p (Some (Far len ds m)) ne =
+    ap (λ b. cond b None (Some record { owner = p / CELLS; ds = ds; bytes = bytes_of g len; home = FarSide })) (same_dropped k m ne)
 
 -- two spans of one pointer, length, data structure and place are one
 pub Heads-same : (word : ℕ → ℕ) (starts : ℕ → Bool) (p len ds n d : ℕ) (place other : Place) → len ≡ n → ds ≡ d → place ≡ other →

@@ -1,10 +1,13 @@
--- What owners' guards say, as tests and as facts.
+-- What guards say, as tests and as facts.
 use Rattle.std.proofs.Common.{None, Option, Some, ap, arith, false, refl, subst, sym, true, ℕ, ◌/◌, ◌<◌, ◌∙◌, ◌≡◌, ◌≢◌}
 use Rattle.std.proofs.lemmas.Bool.{false≢true, true≢false}
 use Rattle.std.proofs.lemmas.Bool.Decides.{nat_tests}
 use Rattle.std.specs.Prelude.{is_some, not}
 use Rattle.far_core.proofs.Bounds.{held_of}
 use Rattle.far_core.proofs.Cells.{held_near}
+use Rattle.far_core.specs.declared.event.Kind.{Kind}
+use Rattle.far_core.specs.declared.event.Kind.TheVariants.{Free, Open, Sealed}
+use Rattle.far_core.specs.events.Mark.{is_sealed}
 use Rattle.far_core.specs.state.Law.{Law}
 use Rattle.far_core.specs.events.Legal.{HoldsWord, IsClosed, IsOpen}
 use Rattle.far_core.specs.state.State.{State}
@@ -38,6 +41,11 @@ word_test s m p i len h =
     let some : is_some (s.held p) ≡ true = ap is_some h.1.rests in
     let own : p / CELLS ≡ m = h.1.own in
     (grind (arith, nat_tests), ap near_len h.1.near.2)
+
+pub sealed_fact : (k : Kind) → is_sealed k ≡ true → k ≡ Sealed
+sealed_fact Free h = absurd (false≢true h)
+sealed_fact Open h = absurd (false≢true h)
+sealed_fact Sealed h = refl
 
 pub none_from : {X : Type 0} (o : Option X) → not (is_some o) ≡ true → o ≡ None
 none_from None h = refl

@@ -12,7 +12,7 @@ use Rattle.far_word.specs.Header.{head_of, head_word}
 use Rattle.far_word.specs.Pointer.{read_of}
 use Rattle.far_word.specs.Sizes.{size_of}
 use Rattle.far_core.specs.declared.event.Kind.TheVariants.{Free, Open, Sealed}
-use Rattle.far_core.specs.state.Law.{Law, Span, Padded, NamesBack, StoresBack, IsBlank, Blank, held_place, in_use, head_len}
+use Rattle.far_core.specs.state.Law.{Law, SpanAt, Padded, NamesBack, StoresBack, IsBlank, Blank, held_place, in_use, head_len}
 use Rattle.far_core.specs.state.State.{State, put, addr}
 use Rattle.far_core.specs.events.NewSpans.{with_span}
 use Rattle.far_core.proofs.Cells.{Heads-same}
@@ -39,7 +39,7 @@ module _ (s : State) (law : Law s) (len : ℕ) (place : Place)
       subst (λ l. (addr place + k) % LOG_WORDS + size_of (head_len (s.word (addr place + k))) ≤ s.tail l) q.0 span.fits in
       omega arith)
 
-  pub new_span : Span tail starts (addr place) len
+  pub new_span : SpanAt tail starts (addr place) len
   new_span =
       let l : addr place / LOG_WORDS ≡ place.log = omega arith in
       record {
@@ -51,7 +51,7 @@ module _ (s : State) (law : Law s) (len : ℕ) (place : Place)
       }
 
   -- an old span ends before the new one
-  below_new : (a n k : ℕ) → Span s.tail s.starts a n → k < size_of n → a + k ≢ addr place
+  below_new : (a n k : ℕ) → SpanAt s.tail s.starts a n → k < size_of n → a + k ≢ addr place
   below_new a n k span lt e =
       let l : a / LOG_WORDS ≡ place.log = omega (arith, span.fits, law.logs.tail_end (a / LOG_WORDS)) in
       let fits : a % LOG_WORDS + size_of n ≤ s.tail place.log = subst (λ l. a % LOG_WORDS + size_of n ≤ s.tail l) l span.fits in
@@ -64,7 +64,7 @@ module _ (s : State) (law : Law s) (len : ℕ) (place : Place)
       (λ e lt. let old : s.tail (a / LOG_WORDS) ≡ s.tail place.log = ap s.tail e in let apart : a + size_of n ≢ addr place = other in omega arith)
       (λ _ lt. lt) more))
 
-  pub old_span : (a n : ℕ) → Span s.tail s.starts a n → Span tail starts a n
+  pub old_span : (a n : ℕ) → SpanAt s.tail s.starts a n → SpanAt tail starts a n
   old_span a n span = record {
     some = span.some;
     most = span.most;
@@ -115,7 +115,7 @@ module _ (s : State) (law : Law s) (p len ds : ℕ) (place : Place) (m : Marks) 
         ]
         | inr ne ↦ more (l * LOG_WORDS) (law.spans.first_span l (rw (put_other s.tail place.log (place.at + size_of len) l ne) at some))
       ];
-      span = λ a. put_both (λ b. b ≡ true → Span (put s.tail place.log (place.at + size_of len)) (put s.starts (addr place) true) a (head_len (s.word a))) s.starts (addr place) true a
+      span = λ a. put_both (λ b. b ≡ true → SpanAt (put s.tail place.log (place.at + size_of len)) (put s.starts (addr place) true) a (head_len (s.word a))) s.starts (addr place) true a
           (λ e _. rw (e, size) (new_span s law len place some most room here))
           (λ _ h. old_span s law len place some most room here a _ (law.spans.span a h));
       span_header = λ a h. put_both (λ b. b ≡ true → head_of (s.word a) ≡ Some h → h.pointer < CELLS * s.mutators) s.starts (addr place) true a

@@ -4,7 +4,7 @@ use Rattle.far_word.specs.declared.pointer.PtrWord.{PtrWord}
 use Rattle.far_word.specs.declared.sizes.TheConstants.{LOG_WORDS}
 use Rattle.far_word.specs.Header.{head_of}
 use Rattle.far_word.specs.Sizes.{size_of, words_for}
-use Rattle.far_core.specs.state.Law.{Law, Span, Padded, NamesBack, BlankLaw, head_len}
+use Rattle.far_core.specs.state.Law.{Law, SpanAt, Padded, NamesBack, BlankLaw, head_len}
 use Rattle.far_core.specs.state.State.{State, put}
 use Rattle.far_core.proofs.Put.{put_both, put_other}
 use Rattle.far_core.proofs.SpanFrames.{spans_apart, past_tail}
@@ -31,7 +31,7 @@ module _ (s : State) (law : Law s) (new : ℕ → ℕ)
     spans = record {
       word_fits = fits;
       first_span = law.spans.first_span;
-      span = λ a h. subst (Span s.tail s.starts a) (ap head_len (sym (heads a h))) (law.spans.span a h);
+      span = λ a h. subst (SpanAt s.tail s.starts a) (ap head_len (sym (heads a h))) (law.spans.span a h);
       span_header = λ a h st e. law.spans.span_header a h st (ap head_of (sym (heads a st)) ∙ e);
       span_padding = λ a h. subst (Padded new a) (ap head_len (sym (heads a h))) (pads a h);
     };

@@ -1,5 +1,5 @@
 -- What each event leaves.
-use Rattle.std.proofs.Common.{◌≡◌, ℕ, ◌/◌, refl, subst}
+use Rattle.std.proofs.Common.{◌≢◌, ◌≡◌, ℕ, ◌/◌, refl, subst}
 use Rattle.std.proofs.lemmas.Bool.{cond_both}
 use Rattle.far_word.specs.declared.sizes.TheConstants.{CELLS}
 use Rattle.far_core.specs.declared.event.Event.{Event}
@@ -21,6 +21,6 @@ events_leave s e = record {
 }
 
 -- a place is held on, but for its owner's pin and close
-pub held_stays : (s : State) (e : Event) (p : ℕ) → (e ≡ Pin (p / CELLS) p → ⊥) → (e ≡ Close (p / CELLS) → ⊥) → (step_of s e).0.held p ≡ s.held p
+pub held_stays : (s : State) (e : Event) (p : ℕ) → e ≢ Pin (p / CELLS) p → e ≢ Close (p / CELLS) → (step_of s e).0.held p ≡ s.held p
 held_stays s e p a b = cond_both (is_legal s e) (after s e, answer s e) (s, Refused) (λ (x : State × Reply). x.0.held p ≡ s.held p)
     (λ h. ((owed e).within s).held p (λ is. a (subst (PartBy e) is ((owed e).part s h))) (λ is. b (subst (PartBy e) is ((owed e).part s h)))) (λ _. refl)

@@ -52,19 +52,6 @@ read_mark k w h fits u = at_mark k w (read_of w) h fits refl u
 pub in_use_nonzero : (w : ℕ) → in_use (read_of w) ≡ true → w ≢ 0
 in_use_nonzero w u z = false≢true (sym (ap in_use (ap read_of z ∙ unused)) ∙ u)
 
--- MOVE leaves use as it is
-pub in_use-moved : (o : Option PtrWord) → in_use (map_mark Moved o) ≡ in_use o
-in_use-moved None = refl
-in_use-moved (Some Free) = refl
-in_use-moved (Some (Near len ds place m)) = refl
-in_use-moved (Some (Far len ds m)) = refl
-
-pub object_of-moved : (f g : ℕ → ℕ) (p : ℕ) (o : Option PtrWord) → object_of f g p (map_mark Moved o) ≡ object_of f g p o
-object_of-moved f g p None = refl
-object_of-moved f g p (Some Free) = refl
-object_of-moved f g p (Some (Near len ds place m)) = refl
-object_of-moved f g p (Some (Far len ds m)) = refl
-
 at_moved : (d e v : Bool) (x : Object) → (not d && (e || true)) ≡ (is_some (cond d None (Some x)) || (not d && (e || v)))
 at_moved true e v x = refl
 at_moved false true v x = refl

@@ -1,5 +1,5 @@
 -- What each event owes.
-use Rattle.std.proofs.Common.{◌≡◌, ℕ, true}
+use Rattle.std.proofs.Common.{◌≡◌, ◌≢◌, ℕ, true}
 use Rattle.far_core.specs.declared.event.Event.{Event}
 use Rattle.far_core.specs.declared.event.Reply.{Reply}
 use Rattle.far_core.specs.declared.event.Reply.TheVariants.{Refused, Done, Epoch, Word, Held}
@@ -24,7 +24,8 @@ pub record Owed (e : Event) : Type 0 where
   pub part : (s : State) → is_legal s e ≡ true → PartBy e (touches s e).part
   pub word : (s : State) → is_legal s e ≡ true → WordBy s e (touches s e).word
   pub reports : (s : State) → Law s → Legal s e → Reports s e (answer s e) (after s e)
-  pub answers : (s : State) → answer s e ≡ Refused → ⊥
+  pub silent : (s t : State) → ¬ Reports s e Refused t
+  pub answers : (s : State) → answer s e ≢ Refused
   pub causes : (r : Reply) → Caused e (change_of e r)
 
 -- what holds of each reply

@@ -1,5 +1,5 @@
 -- What every event owes, by its own file; and what follows of any event.
-use Rattle.std.proofs.Common.{◌≡◌, true}
+use Rattle.std.proofs.Common.{◌≡◌, ◌≢◌, true}
 use Rattle.far_core.specs.declared.event.Event.{Event}
 use Rattle.far_core.specs.declared.event.Event.TheVariants.{ReadEpoch, Open, Pin, Load, Store, Close, Adopt, Put, Name, See, Mark, Ask, Get}
 use Rattle.far_core.specs.declared.event.Reply.TheVariants.{Refused}
@@ -8,7 +8,7 @@ use Rattle.far_core.specs.state.Law.{Law}
 use Rattle.far_core.specs.events.Legal.{Legal}
 use Rattle.far_core.specs.state.State.{State}
 use Rattle.far_core.specs.events.Step.{is_legal, after, answer, Fits}
-use Rattle.far_core.specs.events.Reports.{RepliesReport}
+use Rattle.far_core.specs.events.Reports.{RepliesReport, RefusalsReportNothing}
 use Rattle.far_core.specs.world.WorldOf.{world_of}
 use Rattle.far_core.proofs.Owed.{Owed}
 use Rattle.far_core.proofs.events.ReadEpoch.{read_epoch_owed}
@@ -58,6 +58,10 @@ does s e = (owed e).does s
 pub replies_report : (s : State) → Law s → RepliesReport s
 replies_report s law e = (owed e).reports s law
 
+-- no report is of a refusal
+pub refusals_report_nothing : RefusalsReportNothing
+refusals_report_nothing s t e = (owed e).silent s t
+
 -- a legal event isn't answered Refused
-pub never_refused : (s : State) (e : Event) → answer s e ≡ Refused → ⊥
+pub never_refused : (s : State) (e : Event) → answer s e ≢ Refused
 never_refused s e = (owed e).answers s

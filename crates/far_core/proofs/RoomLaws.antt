@@ -1,5 +1,5 @@
 -- Room: the first of the free logs, and what is left behind it.
-use Rattle.std.proofs.Common.{◌≡◌, ℕ, zero, suc, ◌+◌, ◌-◌, ◌<◌, ◌≤◌, Bool, true, false, nat_le, arith, sym, refl, ap, subst, ◌∙◌, Some, List, [], ◌∷◌, filter, inl, inr}
+use Rattle.std.proofs.Common.{◌≢◌, ◌≡◌, ℕ, zero, suc, ◌+◌, ◌-◌, ◌<◌, ◌≤◌, Bool, true, false, nat_le, arith, sym, refl, ap, subst, ◌∙◌, Some, List, [], ◌∷◌, filter, inl, inr}
 use Rattle.std.specs.List.{range_with_len}
 use Rattle.std.proofs.lemmas.Bool.{cond_both, false≢true, cases_lt}
 use Rattle.std.proofs.lemmas.Bool.Decides.{nat_tests}
@@ -51,7 +51,7 @@ free_is Free h = refl
 free_is Open h = absurd (false≢true h)
 free_is Sealed h = absurd (false≢true h)
 
-not_free : (k : Kind) → is_free k ≡ false → k ≡ Free → ⊥
+not_free : (k : Kind) → is_free k ≡ false → k ≢ Free
 not_free Free h e = absurd (false≢true (sym h))
 not_free Open h e = cc
 not_free Sealed h e = cc
@@ -60,7 +60,7 @@ module _ (s : State) (law : Law s) (size : ℕ) (short : size ≤ LOG_WORDS) (fu
   abbrev free : ℕ → Bool
   free l = is_free (s.kind l)
 
-  none_free : (n a : ℕ) → First free a n [] → (l : ℕ) → a ≤ l → l < a + n → s.kind l ≡ Free → ⊥
+  none_free : (n a : ℕ) → First free a n [] → (l : ℕ) → a ≤ l → l < a + n → s.kind l ≢ Free
   none_free n a h l low lt = let e : a + (l - a) ≡ l = omega arith in not_free (s.kind l) (ap free (sym e) ∙ h (l - a) (omega arith))
 
   lowest_right : (reserve : Bool) (xs : List ℕ) → First free 0 s.logs xs → RoomIs s size reserve (lowest reserve xs)
@@ -96,7 +96,7 @@ module _ (s : State) (law : Law s) (size : ℕ) (short : size ≤ LOG_WORDS) (fu
 pub room_right : (s : State) → Law s → RoomIsRight s
 room_right s law size reserve short =
     let inside : s.current < s.logs = law.logs.log_range s.current (λ free. let odd : Open ≡ Free = sym law.logs.is_open ∙ free in cc) in
-    let no : s.kind s.current ≡ Free → ⊥ = (λ free. let odd : Open ≡ Free = sym law.logs.is_open ∙ free in cc) in
+    let no : s.kind s.current ≢ Free = (λ free. let odd : Open ≡ Free = sym law.logs.is_open ∙ free in cc) in
     cond_both (nat_le (s.tail s.current + size) LOG_WORDS) (Some record { log = s.current; at = s.tail s.current }) (lowest reserve (free_logs s)) (RoomIs s size reserve)
     (λ fit. record {
       next = (inside, inl (law.logs.is_open, refl));

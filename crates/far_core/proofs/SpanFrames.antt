@@ -3,7 +3,7 @@ use Rattle.std.proofs.Common.{◌≡◌, ◌≢◌, ℕ, ◌+◌, ◌-◌, ◌*�
 use Rattle.std.proofs.lemmas.Bool.{false≢true, cases_order, cases_lt}
 use Rattle.far_word.specs.declared.sizes.TheConstants.{LOG_WORDS}
 use Rattle.far_word.specs.Sizes.{size_of}
-use Rattle.far_core.specs.state.Law.{Law, Span, head_len}
+use Rattle.far_core.specs.state.Law.{Law, SpanAt, head_len}
 use Rattle.far_core.specs.state.State.{State}
 
 pub words_is : LOG_WORDS ≡ 128
@@ -11,13 +11,13 @@ words_is = refl
 
 module _ (tail : ℕ → ℕ) (starts : ℕ → Bool) where
   -- no span begins inside another
-  pub no_start_inside : (a len b : ℕ) → Span tail starts a len → a < b → b < a + size_of len → starts b ≡ true → ⊥
+  pub no_start_inside : (a len b : ℕ) → SpanAt tail starts a len → a < b → b < a + size_of len → starts b ≢ true
   no_start_inside a len b span low high h =
       let e : a + (b - a) ≡ b = omega arith in
       false≢true (sym (span.alone (b - a) (omega arith) (omega arith)) ∙ ap starts e ∙ h)
 
   -- the next span begins where this one ends, or later
-  pub apart : (a len b : ℕ) → Span tail starts a len → a < b → starts b ≡ true → a + size_of len ≤ b
+  pub apart : (a len b : ℕ) → SpanAt tail starts a len → a < b → starts b ≡ true → a + size_of len ≤ b
   apart a len b span low h = elim (cases_lt b (a + size_of len)) [ inl lt ↦ absurd (no_start_inside a len b span low lt h) | inr le ↦ le ]
 
 module _ (s : State) (law : Law s) where

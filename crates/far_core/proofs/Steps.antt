@@ -43,14 +43,14 @@ module _ (s t : State) (r : Reply) (e : Event) (law : Law s) (fits : Fits e) (is
   pub made : Legal s e → (t ≡ after s e) × (r ≡ answer s e)
   made h = let both : (t, r) ≡ (after s e, answer s e) = is ∙ ap (λ b. cond b (after s e, answer s e) (s, Refused)) (is_test s e h) in (ap (λ x. x.0) both, ap (λ x. x.1) both)
 
-  pub turned : (Legal s e → ⊥) → (t ≡ s) × (r ≡ Refused)
+  pub turned : ¬ (Legal s e) → (t ≡ s) × (r ≡ Refused)
   turned h = let both : (t, r) ≡ (s, Refused) = is ∙ ap (λ b. cond b (after s e, answer s e) (s, Refused)) (not_legal h) in (ap (λ x. x.0) both, ap (λ x. x.1) both) where
-    not_legal : (Legal s e → ⊥) → is_legal s e ≡ false
+    not_legal : ¬ (Legal s e) → is_legal s e ≡ false
     not_legal no_way = false_from_ne_true (is_legal s e) (λ yes. no_way (is_fact s e law yes))
 
 module _ (s t : State) (r : Reply) (e : Event) (law : Law s) (fits : Fits e) (is : (t, r) ≡ step_of s e) where
   -- a reply Refused says that the event wasn't legal
-  pub made_only : r ≡ Refused → Legal s e → ⊥
+  pub made_only : r ≡ Refused → ¬ (Legal s e)
   made_only h legal = never_refused s e (sym (made s t r e law fits is legal).1 ∙ h)
 
 -- ---- whole runs

@@ -9,19 +9,19 @@ use Rattle.far_core.proofs.Put.{put_other}
 
 -- one word changes
 module _ (epoch : ℕ) (scope cell word : ℕ → ℕ) (k w : ℕ) where
-  pub one_scope : (a : Spot) → (Some (ScopeAt k) ≡ Some a → ⊥) → spot_word epoch (put scope k w) cell word a ≡ spot_word epoch scope cell word a
+  pub one_scope : (a : Spot) → Some (ScopeAt k) ≢ Some a → spot_word epoch (put scope k w) cell word a ≡ spot_word epoch scope cell word a
   one_scope EpochAt ne = refl
   one_scope (ScopeAt m) ne = put_other scope k w m (λ e. ne (ap (λ x. Some (ScopeAt x)) (sym e)))
   one_scope (CellAt p) ne = refl
   one_scope (WordAt a) ne = refl
 
-  pub one_cell : (a : Spot) → (Some (CellAt k) ≡ Some a → ⊥) → spot_word epoch scope (put cell k w) word a ≡ spot_word epoch scope cell word a
+  pub one_cell : (a : Spot) → Some (CellAt k) ≢ Some a → spot_word epoch scope (put cell k w) word a ≡ spot_word epoch scope cell word a
   one_cell EpochAt ne = refl
   one_cell (ScopeAt m) ne = refl
   one_cell (CellAt p) ne = put_other cell k w p (λ e. ne (ap (λ x. Some (CellAt x)) (sym e)))
   one_cell (WordAt a) ne = refl
 
-  pub one_word : (a : Spot) → (Some (WordAt k) ≡ Some a → ⊥) → spot_word epoch scope cell (put word k w) a ≡ spot_word epoch scope cell word a
+  pub one_word : (a : Spot) → Some (WordAt k) ≢ Some a → spot_word epoch scope cell (put word k w) a ≡ spot_word epoch scope cell word a
   one_word EpochAt ne = refl
   one_word (ScopeAt m) ne = refl
   one_word (CellAt p) ne = refl
@@ -29,7 +29,7 @@ module _ (epoch : ℕ) (scope cell word : ℕ → ℕ) (k w : ℕ) where
 
 -- what an owner's event touches, function by function
 module _ {s : State} {x : Touch} {scope cell word : ℕ → ℕ} {remembered : ℕ → Option ℕ} {used : ℕ → Bool} {held : ℕ → Option Place} where
-  pub touched : ((a : Spot) → (x.word ≡ Some a → ⊥) → spot_word s.epoch scope cell word a ≡ spot_word s.epoch s.scope s.cell s.word a)
+  pub touched : ((a : Spot) → x.word ≢ Some a → spot_word s.epoch scope cell word a ≡ spot_word s.epoch s.scope s.cell s.word a)
       → ((m : ℕ) → x.part ≢ Remembers m → x.part ≢ LetsGo m → remembered m ≡ s.remembered m)
       → ((p : ℕ) → x.part ≢ Uses p → used p ≡ s.used p)
       → ((p : ℕ) → x.part ≢ Rests p → x.part ≢ LetsGo (p / CELLS) → held p ≡ s.held p)

@@ -25,7 +25,8 @@ use Rattle.far_core.proofs.Observations.{in_range}
 use Rattle.far_core.proofs.Put.{put_same}
 use Rattle.far_core.proofs.Worlds.{World-ext}
 
-held_group : (k : Kind) → (k ≡ kinds.Free → ⊥) → is_group k ≡ true
+-- a log that isn't free is a held group
+pub held_group : (k : Kind) → k ≢ kinds.Free → is_group k ≡ true
 held_group kinds.Free h = absurd (h refl)
 held_group kinds.Open h = refl
 held_group kinds.Sealed h = refl

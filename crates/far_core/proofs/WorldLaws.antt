@@ -25,6 +25,7 @@ use Rattle.far_core.specs.world.Steps.{Views, Writes, ComesNear, with_bytes, wit
 use Rattle.far_core.proofs.Cells.{unused}
 use Rattle.far_core.proofs.Observations.{in_range}
 use Rattle.far_core.proofs.Put.{put_both}
+use Rattle.far_core.proofs.WorldFacts.{held_group}
 
 -- ---- what each change keeps
 -- objects and views stay
@@ -279,11 +280,6 @@ lying_is_open = (
 )
 
 -- ---- the objects of a core
-held_group : (k : Kind) → (k ≡ kinds.Free → ⊥) → is_group k ≡ true
-held_group kinds.Free h = absurd (h refl)
-held_group kinds.Open h = refl
-held_group kinds.Sealed h = refl
-
 kept_object : (b : Bool) (x o : Object) → cond b None (Some x) ≡ Some o → x ≡ o
 kept_object true x o e = absurd cc
 kept_object false x o e = cc

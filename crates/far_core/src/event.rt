@@ -2,7 +2,7 @@
 
 use far_word::{Mark, Place};
 
-/// One atomic step on one word. An event whose guard is false is refused and changes nothing.
+/// One atomic step, which changes one shared word at most. An event whose guard is false is refused and changes nothing.
 ///
 /// Owners are numbered below the shape's mutators, pointers below 128 times that (pointer `p` belongs to owner
 /// `p / 128`), logs below the shape's logs, the words of a log below 128. Any other number is out of range, and the
@@ -59,8 +59,8 @@ pub enum Event {
         word: u64,
     },
     /// The cell of a pointer goes from `old` to `new`, where it is `old`. Answers `Done` then, and `Word` with the
-    /// cell, which stays, else. A new place alone is named so far: `old` is 0, `new` is near without marks, and
-    /// where the next span may stand a header for the pointer is written with data words of 0 after it.
+    /// cell, which stays, else. Two forms so far: `old` is 0 and `new` near without marks, where the next span may
+    /// stand, with a header for the pointer written there before data words of 0; or `old` has DROP and `new` is 0.
     Name {
         pointer: u16,
         old: u64,

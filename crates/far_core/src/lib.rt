@@ -1,4 +1,5 @@
-//! The core of a far memory heap on plain data: a machine whose every event is one atomic step on one word.
+//! The core of a far memory heap on plain data: a machine whose every event is one atomic step, which changes
+//! one shared word at most.
 //!
 //! [`Core::step`] makes one event and [`Core::run`] a list of them. What each event may do is a definition
 //! (`specs/events/`), what a program may believe of a list of events is the world (`specs/world/World.antt`), and what is

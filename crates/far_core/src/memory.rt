@@ -13,7 +13,7 @@ mod writing;
 use crate::event::Kind;
 use far_word::Place;
 
-/// The words and views. All its room is taken when it is made.
+/// The words and views. All its memory is taken when it is made.
 #[derive(Debug, Drop)]
 pub(crate) struct Memory {
     pub(crate) honest: bool,

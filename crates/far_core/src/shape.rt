@@ -3,7 +3,7 @@
 ghost use Rattle.std.specs.Prelude.{◌≡◌, ◌↔◌, ◌≤◌, ◌<◌, ◌^◌, IsTrue};
 ghost use Rattle.far_core.specs.state.Shape.{is_shape};
 
-use far_word::{MOST_LOGS, MOST_MUTATORS};
+use far_word::{EPOCH_END, LEAST_LOGS, LEAST_MUTATORS, MOST_LOGS, MOST_MUTATORS};
 
 /// How large a heap is: 2 to 64 logs of 1,024 bytes, 1 to 8 mutators of 128 pointer cells each, and the first epoch,
 /// below 2^62. A shape out of these ranges may be written, and is refused where a heap is made of it.
@@ -14,18 +14,15 @@ pub struct Shape {
     pub epoch: u64,
 }
 
-/// Epochs stay below this.
-const EPOCH_END: u64 = 1 << 62;
-
 impl Shape {
     /// Whether a heap can be made of the shape.
     pub fn is_in_range(self) -> bool
         ensures is { result ≡ is_shape self }
         ensures numbers { IsTrue result ↔ ((2 ≤ self.logs) × (self.logs ≤ 64) × (1 ≤ self.mutators) × (self.mutators ≤ 8) × (self.epoch < 2 ^ 62)) }
     {
-        2 <= self.logs
+        LEAST_LOGS as u64 <= self.logs
             && self.logs <= MOST_LOGS as u64
-            && 1 <= self.mutators
+            && LEAST_MUTATORS as u64 <= self.mutators
             && self.mutators <= MOST_MUTATORS as u64
             && self.epoch < EPOCH_END
     }

@@ -59,7 +59,7 @@ one_of (z ∷ spans) at tail i x y tile hx hy wx wy = elim (split x z spans hx) 
     | inr my ↦ one_of spans (at + size_of z.len) tail i x y tile.1 mx my wx wy
   ]
 ] where
-  apart : (a b : Span) → z ≡ a → Contains spans b → IsWordOf i a → IsWordOf i b → ⊥
+  apart : (a b : Span) → z ≡ a → Contains spans b → IsWordOf i a → ¬ (IsWordOf i b)
   apart a b e more wa wb =
       let same : z.at + size_of z.len ≡ a.at + size_of a.len = ap (λ (s : Span). s.at + size_of s.len) e in
       omega (arith, tile.0, (tile_bounds spans (at + size_of z.len) tail b tile.1 more).0)

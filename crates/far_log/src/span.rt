@@ -3,8 +3,6 @@
 ghost use Rattle.std.specs.Prelude.{◌≡◌};
 ghost use Rattle.far_word.specs.Sizes.{size_of};
 
-use far_word::words_for;
-
 /// The words of one object in a log: its header, and the data words behind it.
 #[derive(Clone, Copy, Debug, PartialEq, Eq)]
 pub struct Span {
@@ -23,5 +21,5 @@ pub struct Span {
 pub fn size_of(len: u16) -> usize
     ensures { result ≡ size_of len }
 {
-    1 + words_for(len) as usize
+    far_word::size_of(len) as usize
 }

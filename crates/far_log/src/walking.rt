@@ -46,7 +46,7 @@ impl From<BadWord> for WalkFault {
 ///
 /// Where the words have no such list the fault names the first that is bad: a word at a header's place that is off the
 /// layout, or whose span passes the tail, or the last data word of a span that hasn't zeros behind its last byte. All
-/// room is taken at once, first: half as many spans as words.
+/// memory is taken at once, first: half as many spans as the tail has words.
 pub fn walk(alloc: Global, words: &[u64], tail: usize) -> Result<Vec<Span>, WalkFault>
     requires within { tail ≤ length words.now }
     requires log { length words.now ≤ LOG_WORDS }

@@ -1,7 +1,7 @@
 //! What holds of every word, and what the numbers are, as contracts of functions that do nothing.
 
-ghost use Rattle.std.specs.Prelude.{◌≡◌, ◌*◌};
-ghost use Rattle.far_word.specs.declared.sizes.TheConstants.{LOG_WORDS, LONGEST, MOST_LOGS, MOST_MUTATORS, CELLS, POINTERS};
+ghost use Rattle.std.specs.Prelude.{◌≡◌, ◌*◌, ◌^◌};
+ghost use Rattle.far_word.specs.declared.sizes.TheConstants.{LOG_WORDS, LONGEST, LEAST_LOGS, MOST_LOGS, LEAST_MUTATORS, MOST_MUTATORS, CELLS, POINTERS, EPOCH_END};
 ghost use Rattle.far_word.specs.Laws.{MarkIsSet, MarkIsRead, MarkIsRefused, EvacIsCleared, OwnerMarksAreCleared, ViewsRest, PointersReadBack, PointersPackBack, HeadersReadBack, HeadersPackBack, ScopesReadBack, ScopesPackBack, WordsHoldBytes, HeaderIsAdded, ObjectsFit, BytesUnpackBack, WordsPackBack, WrittenIsRead, RefusalsAreNumbered};
 ghost use Rattle.far_word.specs.Rows.{NearRowsHold, MarkedRowsHold, FarRowsHold, FreeRowHolds, PointersAreRefused, MarkBitsStand, HeaderRowsHold, HeadersAreRefused, ScopeRowsHold, ScopesAreRefused, NineBytesPack};
 ghost use Rattle.far_word.specs.Sizes.{size_of};
@@ -52,10 +52,13 @@ pub fn packed_bytes()
 pub fn sizes_are()
     ensures log_words { LOG_WORDS ≡ 128 }
     ensures longest { LONGEST ≡ 1016 }
+    ensures least_logs { LEAST_LOGS ≡ 2 }
     ensures most_logs { MOST_LOGS ≡ 64 }
+    ensures least_mutators { LEAST_MUTATORS ≡ 1 }
     ensures most_mutators { MOST_MUTATORS ≡ 8 }
     ensures cells { CELLS ≡ 128 }
     ensures pointers { POINTERS ≡ 1024 }
+    ensures epoch_end { EPOCH_END ≡ 2 ^ 62 }
 
     ensures cells_of_all { POINTERS ≡ CELLS * MOST_MUTATORS }
     ensures longest_fills_log { size_of LONGEST ≡ LOG_WORDS }

@@ -26,5 +26,6 @@ pub use pointer::{Place, PtrWord, pointer_len, resting_place, rests_view, withou
 pub use refused::Refused;
 pub use scope::ScopeWord;
 pub use sizes::{
-    CELLS, LOG_WORDS, LONGEST, MOST_LOGS, MOST_MUTATORS, POINTERS, size_of, words_for,
+    CELLS, EPOCH_END, LEAST_LOGS, LEAST_MUTATORS, LOG_WORDS, LONGEST, MOST_LOGS, MOST_MUTATORS,
+    POINTERS, size_of, words_for,
 };

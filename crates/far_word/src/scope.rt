@@ -4,8 +4,7 @@ ghost use Rattle.std.specs.Prelude.{◌≡◌, IfSome};
 ghost use Rattle.far_word.specs.declared.scope.ScopeWord.{ScopeWord};
 ghost use Rattle.far_word.specs.Scope.{IsScope, scope_word, scope_of};
 
-// no scope word reaches this
-const SCOPE_END: u64 = 0x8000_0000_0000_0000;
+use crate::sizes::EPOCH_END;
 
 /// Whether a mutator's scope is open, and since which epoch.
 #[derive(Clone, Copy, Debug, PartialEq, Eq)]
@@ -44,7 +43,7 @@ impl ScopeWord {
         if word == 0 {
             return Some(ScopeWord::Closed);
         }
-        if word % 2 == 1 && word < SCOPE_END {
+        if word % 2 == 1 && word < 2 * EPOCH_END {
             return Some(ScopeWord::Open { epoch: word / 2 });
         }
         None

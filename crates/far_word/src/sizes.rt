@@ -9,8 +9,14 @@ pub const LOG_WORDS: u16 = 128;
 /// The most data bytes of an object.
 pub const LONGEST: u16 = 1016;
 
+/// The fewest logs of a heap.
+pub const LEAST_LOGS: u8 = 2;
+
 /// The most logs of a heap.
 pub const MOST_LOGS: u8 = 64;
+
+/// The fewest mutators of a heap.
+pub const LEAST_MUTATORS: u8 = 1;
 
 /// The most mutators of a heap.
 pub const MOST_MUTATORS: u8 = 8;
@@ -20,6 +26,9 @@ pub const CELLS: u16 = 128;
 
 /// The pointer cells of the largest heap.
 pub const POINTERS: u16 = 1024;
+
+/// Epochs stay below this.
+pub const EPOCH_END: u64 = 1 << 62;
 
 /// The words that hold `len` bytes.
 pub fn words_for(len: u16) -> u16

@@ -45,6 +45,7 @@ module _ (m p : ℕ) where
     part = λ s h. inl (by_owner Adopt m p p (grind (arith, nat_tests)) refl);
     word = λ s h. tt;
     reports = λ s law h. (refl, refl, put_same s.used p true p refl);
+    silent = λ s t h. h;
     answers = λ s x. cc;
     causes = replies (λ r. Caused (Adopt m p) (change_of (Adopt m p) r)) tt tt (λ n. tt) (λ x. tt) (λ place. tt);
   }

@@ -25,10 +25,10 @@ use Rattle.far_core.specs.state.State.{State, put}
 use Rattle.far_core.specs.world.Happens.{Happens}
 use Rattle.far_core.specs.world.Steps as world
 use Rattle.far_core.specs.world.WorldOf.{world_of, object_of, is_marked}
-use Rattle.far_core.proofs.Cells.{Remarked, Remarked-map_mark, is_dropped, map_mark}
+use Rattle.far_core.proofs.Cells.{Remarked, Remarked-map_mark, is_dropped, map_mark, in_use-mark, object_of-mark}
 use Rattle.far_core.proofs.Frames.{law_with_cell, law_with_cell_marks}
 use Rattle.far_core.proofs.Guards.{none_from}
-use Rattle.far_core.proofs.Marking.{is_owners, read_mark, in_use_nonzero, in_use-moved, object_of-moved, is_marked-moved, object_of-dropped, is_marked-dropped, in_use_object, marks_world}
+use Rattle.far_core.proofs.Marking.{is_owners, read_mark, in_use_nonzero, is_marked-moved, object_of-dropped, is_marked-dropped, in_use_object, marks_world}
 use Rattle.far_core.proofs.Owed.{Owed, replies}
 use Rattle.far_core.proofs.Put.{put_both, put_same, put_other}
 use Rattle.far_core.proofs.Touching.{by_owner, one_cell, touched}
@@ -81,7 +81,7 @@ module _ (s : State) (law : Law s) (p : ℕ) (used : s.used p ≡ true) (unheld 
   pub keeps_move : Law record s { cell = put s.cell p (cell Moved) }
   keeps_move = law_with_cell_marks s law p (cell Moved) (reads Moved refl).1 (remarked Moved refl) (in_use_nonzero _ live)
       (λ place h. let odd : None ≡ Some place = sym unheld ∙ h in absurd cc)
-      (λ u. ap in_use (reads Moved refl).0 ∙ in_use-moved _ ∙ live)
+      (λ u. ap in_use (reads Moved refl).0 ∙ in_use-mark Moved _ (λ e. cc) ∙ live)
 
   not_held : (q : ℕ) → q ≡ p → ¬ IsSome (s.held q)
   not_held q e h = false≢true (sym (ap (λ x. is_some (s.held x)) e ∙ ap is_some unheld) ∙ h)
@@ -111,7 +111,7 @@ module _ (s : State) (law : Law s) (p : ℕ) (used : s.used p ≡ true) (unheld 
       (λ ne free. rw (put_other s.cell p (cell Dropped) q ne) (law.unadopted honest q free)))
 
   pub move_marks : world.Marks (world_of s) p (world_of record s { cell = put s.cell p (cell Moved) })
-  move_marks = marks_world s p (cell Moved) (λ f g q. ap (object_of f g q) (reads Moved refl).0 ∙ object_of-moved f g q _)
+  move_marks = marks_world s p (cell Moved) (λ f g q. ap (object_of f g q) (reads Moved refl).0 ∙ object_of-mark Moved f g q _ (λ e. cc))
       (ap is_marked (reads Moved refl).0 ∙ is_marked-moved s.word (s.stored p) p _)
 
   pub drop_drops : (m : ℕ) → p / CELLS ≡ m → world.Drops (world_of s) m p (world_of record s { cell = put s.cell p (cell Dropped); used = put s.used p false })
@@ -169,6 +169,7 @@ module _ (m p : ℕ) (k : Mark) where
       used_dropped s.used p k,
       used_moved s.used p k h.3,
     );
+    silent = λ s t h. h;
     answers = λ s x. cc;
     causes = ask_causes m p k;
   }

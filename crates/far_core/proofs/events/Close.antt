@@ -74,6 +74,7 @@ module _ (m : ℕ) where
     part = λ s h. refl;
     word = λ s h. inr refl;
     reports = λ s law h. (put_same s.scope m 0 m refl, put_same s.remembered m None m refl, λ q own. ap (λ b. cond b None (s.held q)) (eq-eqb (q / CELLS) m own));
+    silent = λ s t h. h;
     answers = λ s x. cc;
     causes = replies (λ r. Caused (Close m) (change_of (Close m) r)) tt refl (λ n. tt) (λ x. tt) (λ place. tt);
   }

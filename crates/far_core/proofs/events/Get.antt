@@ -27,7 +27,7 @@ use Rattle.far_core.specs.events.Step.{after, change_of, touches}
 use Rattle.far_core.specs.events.Touch.{Touches, BookView}
 use Rattle.far_core.specs.events.Leaves.{PartBy}
 use Rattle.far_core.specs.laws.Worlds.{Caused}
-use Rattle.far_core.specs.state.Law.{Law, NamesBack, Span, head_len}
+use Rattle.far_core.specs.state.Law.{Law, NamesBack, SpanAt, head_len}
 use Rattle.far_core.specs.state.Spans.{names_place}
 use Rattle.far_core.specs.state.State.{State, put, addr}
 use Rattle.far_core.specs.world.Happens.{Happens}
@@ -36,17 +36,13 @@ use Rattle.far_core.specs.world.World.{World, Object, Group, FarSide}
 use Rattle.far_core.specs.world.WorldOf.{world_of, object_of, is_group}
 use Rattle.far_core.proofs.Bounds.{span_len}
 use Rattle.far_core.proofs.Cells.{live_names}
+use Rattle.far_core.proofs.Guards.{sealed_fact}
 use Rattle.far_core.proofs.Owed.{Owed, replies}
 use Rattle.far_core.proofs.Put.{put_both, put_same, put_other}
 use Rattle.far_core.proofs.Touching.{untouched}
 use Rattle.far_core.proofs.Worlds.{World-ext}
 
 -- ---- the guard
-sealed_fact : (k : Kind) → is_sealed k ≡ true → k ≡ Sealed
-sealed_fact Free h = absurd (false≢true h)
-sealed_fact Open h = absurd (false≢true h)
-sealed_fact Sealed h = refl
-
 none_below : (s : State) (l n i : ℕ) → none_live s l n ≡ true → i < n → is_live_at s l i ≡ false
 none_below s l zero i h lt = absurd (omega arith)
 none_below s l (suc n) i h lt = elim (cases_eq i n) [
@@ -110,7 +106,7 @@ module _ (s : State) (law : Law s) (l : ℕ) (shut : s.kind l ≡ Sealed) (vacan
   tail_is : (a : ℕ) → a / LOG_WORDS ≢ l → put s.tail l 0 (a / LOG_WORDS) ≡ s.tail (a / LOG_WORDS)
   tail_is a ne = put_other s.tail l 0 (a / LOG_WORDS) ne
 
-  span_stays : (a n : ℕ) → a / LOG_WORDS ≢ l → Span s.tail s.starts a n → Span (put s.tail l 0) starts a n
+  span_stays : (a n : ℕ) → a / LOG_WORDS ≢ l → SpanAt s.tail s.starts a n → SpanAt (put s.tail l 0) starts a n
   span_stays a n ne span = record {
     some = span.some;
     most = span.most;
@@ -176,7 +172,7 @@ module _ (s : State) (law : Law s) (l : ℕ) (shut : s.kind l ≡ Sealed) (vacan
     at_object true g x o is h home = absurd cc
     at_object false g x o is h home = let same : Group g ≡ Group l = sym is ∙ ap (λ (y : Object). y.home) (let eq : x ≡ o = cc in eq) ∙ home in cc
   no_object p (Some (Far len ds m)) e o h home = far_away m.dropped _ o refl h home where
-    far_away : (b : Bool) (x o : Object) → x.home ≡ FarSide → cond b None (Some x) ≡ Some o → o.home ≡ Group l → ⊥
+    far_away : (b : Bool) (x o : Object) → x.home ≡ FarSide → cond b None (Some x) ≡ Some o → o.home ≢ Group l
     far_away true x o is h home = absurd cc
     far_away false x o is h home = let same : FarSide ≡ Group l = sym is ∙ ap (λ (y : Object). y.home) (let eq : x ≡ o = cc in eq) ∙ home in cc
 
@@ -241,6 +237,7 @@ module _ (l at : ℕ) (free : Bool) where
     part = λ s h. part_get l at free;
     word = λ s h. tt;
     reports = λ s law h. (refl, reports_get l at free s);
+    silent = λ s t h. h;
     answers = λ s x. cc;
     causes = get_causes l at free;
   }

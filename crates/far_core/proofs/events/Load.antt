@@ -30,6 +30,7 @@ module _ (m p i : ℕ) where
     part = λ s h. tt;
     word = λ s h. tt;
     reports = λ s law h. (h.1.0, h.1.1.rests, ap (λ o. s.word (near_data o + i)) h.1.1.near.2, refl);
+    silent = λ s t h. h;
     answers = λ s x. cc;
     causes = replies (λ r. Caused (Load m p i) (change_of (Load m p i) r)) tt tt (λ n. tt) (λ x. refl) (λ place. tt);
   }

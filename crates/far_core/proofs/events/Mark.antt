@@ -22,8 +22,10 @@ use Rattle.far_core.specs.world.World.{Object}
 use Rattle.far_core.specs.laws.Worlds.{Caused}
 use Rattle.far_core.specs.world.WorldOf.{world_of, object_of, is_marked}
 use Rattle.far_core.specs.world.Steps as world
-use Rattle.far_core.proofs.Cells.{Remarked, Remarked-map_mark, unused, map_mark}
+use Rattle.far_core.proofs.Cells.{Remarked, Remarked-map_mark, unused, map_mark, held_place-mark, in_use-mark, object_of-mark}
 use Rattle.far_core.proofs.Frames.{law_with_cell_marks}
+use Rattle.far_core.proofs.Guards.{sealed_fact}
+use Rattle.far_core.proofs.Marking.{marks_world}
 use Rattle.far_core.proofs.Owed.{Owed, replies}
 use Rattle.far_core.proofs.Put.{put_both, put_same}
 use Rattle.far_core.proofs.Touching.{touched, one_cell}
@@ -33,11 +35,6 @@ abbrev evac : ℕ → ℕ
 evac w = bit_or w (2 ^ position Evac)
 
 -- ---- the guard
-sealed_fact : (k : Kind) → is_sealed k ≡ true → k ≡ kinds.Sealed
-sealed_fact kinds.Free h = absurd (false≢true h)
-sealed_fact kinds.Open h = absurd (false≢true h)
-sealed_fact kinds.Sealed h = refl
-
 near_fact : (s : State) (p : ℕ) (o : Option PtrWord) → read_of (s.cell p) ≡ o → may_mark s o ≡ true → IsSealedNear s p
 near_fact s p None e h = absurd (false≢true h)
 near_fact s p (Some Free) e h = absurd (false≢true h)
@@ -59,25 +56,7 @@ read_evac s w (Some (Near len ds place m)) fits e h = (
 )
 read_evac s w (Some (Far len ds m)) fits e h = absurd (false≢true h)
 
-held_place-evac : (o : Option PtrWord) → held_place (map_mark Evac o) ≡ held_place o
-held_place-evac None = refl
-held_place-evac (Some Free) = refl
-held_place-evac (Some (Near len ds place m)) = refl
-held_place-evac (Some (Far len ds m)) = refl
-
-in_use-evac : (o : Option PtrWord) → in_use (map_mark Evac o) ≡ in_use o
-in_use-evac None = refl
-in_use-evac (Some Free) = refl
-in_use-evac (Some (Near len ds place m)) = refl
-in_use-evac (Some (Far len ds m)) = refl
-
 -- ---- the world
-object_of-evac : (f g : ℕ → ℕ) (p : ℕ) (o : Option PtrWord) → object_of f g p (map_mark Evac o) ≡ object_of f g p o
-object_of-evac f g p None = refl
-object_of-evac f g p (Some Free) = refl
-object_of-evac f g p (Some (Near len ds place m)) = refl
-object_of-evac f g p (Some (Far len ds m)) = refl
-
 at_drop : (d e v : Bool) (x : Object) → (not d && (true || v)) ≡ (is_some (cond d None (Some x)) || (not d && (e || v)))
 at_drop true e v x = refl
 at_drop false e v x = refl
@@ -88,18 +67,9 @@ is_marked-evac s f g p (Some Free) h = absurd (false≢true h)
 is_marked-evac s f g p (Some (Near len ds place m)) h = at_drop m.dropped m.evac m.moved _
 is_marked-evac s f g p (Some (Far len ds m)) h = absurd (false≢true h)
 
-chosen : (b : Bool) (new old : ℕ) (x : Bool) → is_marked (read_of new) ≡ x → is_marked (read_of (cond b new old)) ≡ cond b x (is_marked (read_of old))
-chosen true new old x e = e
-chosen false new old x e = refl
-
 mark_marks : (s : State) (p new : ℕ) → read_of new ≡ map_mark Evac (read_of (s.cell p)) → may_mark s (read_of (s.cell p)) ≡ true → world.Marks (world_of s) p (world_of record s { cell = put s.cell p new })
-unfolding world_of
-mark_marks s p new says h = World-ext _ _
-    (fun_ext (λ q. put_both (λ w. object_of s.word (s.stored q) q (read_of w) ≡ object_of s.word (s.stored q) q (read_of (s.cell q))) s.cell p new q
-    (λ e. ap (object_of s.word (s.stored q) q) says ∙ object_of-evac s.word (s.stored q) q _ ∙ ap (λ r. object_of s.word (s.stored q) q (read_of (s.cell r))) (sym e)) (λ _. refl)))
-    refl refl
-    (fun_ext (λ q. chosen _ new (s.cell q) _ (ap is_marked says ∙ is_marked-evac s s.word (s.stored p) p _ h)))
-    refl refl
+mark_marks s p new says h = marks_world s p new (λ f g q. ap (object_of f g q) says ∙ object_of-mark Evac f g q _ (λ e. cc))
+    (ap is_marked says ∙ is_marked-evac s s.word (s.stored p) p _ h)
 
 -- a near cell isn't 0
 nonzero : (s : State) (p : ℕ) → may_mark s (read_of (s.cell p)) ≡ true → s.cell p ≢ 0
@@ -111,7 +81,7 @@ module _ (p : ℕ) where
   keeps_mark s law h =
       let x = read_evac s (s.cell p) _ (law.cells.cell_read p).0 refl h in
       law_with_cell_marks s law p _ x.1 (subst (λ o. Remarked (read_of (s.cell p)) o) (sym x.0) (Remarked-map_mark Evac _)) (nonzero s p h)
-      (λ place k. ap held_place x.0 ∙ held_place-evac _ ∙ law.views.held_names p place k) (λ k. ap in_use x.0 ∙ in_use-evac _ ∙ law.views.used_cell p k)
+      (λ place k. ap held_place x.0 ∙ held_place-mark Evac _ (λ e. cc) (λ e. cc) ∙ law.views.held_names p place k) (λ k. ap in_use x.0 ∙ in_use-mark Evac _ (λ e. cc) ∙ law.views.used_cell p k)
 
   pub mark_owed : Owed (Mark p)
   mark_owed = record {
@@ -123,6 +93,7 @@ module _ (p : ℕ) where
     part = λ s h. tt;
     word = λ s h. inr (inl refl);
     reports = λ s law h. (refl, λ v e. ap read_of (put_same s.cell p (evac (s.cell p)) p refl) ∙ (read_evac s (s.cell p) _ (law.cells.cell_read p).0 refl (near_test s p h.1)).0 ∙ ap (map_mark Evac) e);
+    silent = λ s t h. h;
     answers = λ s x. cc;
     causes = replies (λ r. Caused (Mark p) (change_of (Mark p) r)) tt tt (λ n. tt) (λ x. inl refl) (λ place. tt);
   }

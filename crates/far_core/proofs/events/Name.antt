@@ -1,5 +1,5 @@
 -- What the event Name owes, by the form of the naming.
-use Rattle.std.proofs.Common.{◌≡◌, ◌<◌, ◌*◌, ◌^◌, ◌∙◌, ℕ, Bool, true, false, cond, nat_eq, nat_lt, arith, inl, inr, refl, sym, ap, subst, Option, Some, None}
+use Rattle.std.proofs.Common.{◌≢◌, ◌≡◌, ◌<◌, ◌*◌, ◌^◌, ◌∙◌, ℕ, Bool, true, false, cond, nat_eq, nat_lt, arith, inl, inr, refl, sym, ap, subst, Option, Some, None}
 use Rattle.std.proofs.lemmas.Bool.{cond_both, eqb-false, eqb-true, false≢true}
 use Rattle.std.proofs.lemmas.Bool.Decides.{nat_tests}
 use Rattle.far_word.specs.declared.sizes.TheConstants.{CELLS}
@@ -84,6 +84,7 @@ module _ (p old new : ℕ) where
     part = λ s h. inl (p, old, new, refl);
     word = λ s h. inr (inr (inl (old, new, refl)));
     reports = λ s law h. reports_name s law h (nat_eq (s.cell p) old) refl;
-    answers = λ s x. cond_both (nat_eq (s.cell p) old) Done (Word (s.cell p)) (λ (r : Reply). r ≡ Refused → ⊥) (λ _ y. cc) (λ _ y. cc) x;
+    silent = λ s t h. h;
+    answers = λ s x. cond_both (nat_eq (s.cell p) old) Done (Word (s.cell p)) (λ (r : Reply). r ≢ Refused) (λ _ y. cc) (λ _ y. cc) x;
     causes = replies (λ r. Caused (Name p old new) (change_of (Name p old new) r)) tt (name_causes form) (λ n. tt) (λ x. tt) (λ place. tt);
   }

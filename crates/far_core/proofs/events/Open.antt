@@ -20,17 +20,17 @@ use Rattle.far_core.specs.world.WorldOf.{world_of}
 use Rattle.far_core.specs.world.Steps.{Opens}
 use Rattle.far_core.specs.declared.event.Event.TheVariants.{Open}
 use Rattle.far_core.specs.declared.event.Reply.TheVariants.{Done}
-use Rattle.far_word.specs.Scope.{epoch_end, scope_of}
-use Rattle.far_word.specs.declared.sizes.TheConstants.{CELLS}
+use Rattle.far_word.specs.Scope.{scope_of}
+use Rattle.far_word.specs.declared.sizes.TheConstants.{CELLS, EPOCH_END}
 use mathlib.Core.Path.{fun_ext}
 use Rattle.far_word.specs.declared.scope.ScopeWord.TheVariants as scoped
 
-pub open_word : (e : ℕ) → e < epoch_end → scope_of (2 * e + 1) ≡ Some (scoped.Open e)
+pub open_word : (e : ℕ) → e < EPOCH_END → scope_of (2 * e + 1) ≡ Some (scoped.Open e)
 unfolding scope_of
 open_word e below =
     let some : nat_eq (2 * e + 1) 0 ≡ false = grind (arith, nat_tests) in
     let odd : nat_eq ((2 * e + 1) % 2) 1 ≡ true = grind (arith, nat_tests) in
-    let fits : nat_lt (2 * e + 1) (2 ^ 63) ≡ true = grind (arith, nat_tests) in
+    let fits : nat_lt (2 * e + 1) (2 * EPOCH_END) ≡ true = grind (arith, nat_tests) in
     let half : (2 * e + 1) / 2 ≡ e = omega arith in
     rw (some, odd, fits, half) refl
 
@@ -91,6 +91,7 @@ module _ (m : ℕ) where
     part = λ s h. tt;
     word = λ s h. inl refl;
     reports = λ s law h. reports_open s m (s.remembered m) refl h.1;
+    silent = λ s t h. h;
     answers = λ s x. cc;
     causes = replies (λ r. Caused (Open m) (change_of (Open m) r)) tt refl (λ n. tt) (λ x. tt) (λ place. tt);
   }

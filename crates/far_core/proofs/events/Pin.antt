@@ -3,7 +3,7 @@ use Rattle.std.proofs.Common.{inl, Bool, None, Option, Some, ap, arith, bit_or, 
 use Rattle.std.proofs.lemmas.Bool.{eq-eqb}
 use Rattle.std.proofs.lemmas.Bool.Decides.{nat_tests}
 use Rattle.std.specs.Prelude.{IsSome, is_some, ◌||◌}
-use Rattle.far_core.proofs.Cells.{held_place-hot, held_place-place_to_view, read_hot, map_mark}
+use Rattle.far_core.proofs.Cells.{held_place-mark, object_of-mark, held_place-place_to_view, read_hot, map_mark}
 use Rattle.far_core.proofs.Frames.{law_with_held}
 use Rattle.far_core.proofs.Guards.{none_from, open_fact, open_test}
 use Rattle.far_core.proofs.KeepOwner.{at_cell, hot_cell, hot_read, keeps_hot}
@@ -42,16 +42,10 @@ keeps_hold s law p place ok used opened = law_with_held s (put s.held p (Some pl
 at_view : (s : State) (p : ℕ) (o : Option Place) → Law s → s.used p ≡ true → s.scope (p / CELLS) ≢ 0 → place_to_view (read_of (s.cell p)) ≡ o → Law record (hot_cell s p) { held = with_hold s.held p o }
 at_view s p None law used opened e = keeps_hot s law p used
 at_view s p (Some place) law used opened e = keeps_hold (hot_cell s p) (keeps_hot s law p used) p place
-    (ap (λ w. held_place (read_of w)) (put_same s.cell p _ p refl) ∙ ap held_place (hot_read s law p used) ∙ held_place-hot _ ∙ held_place-place_to_view _ place e) used opened
+    (ap (λ w. held_place (read_of w)) (put_same s.cell p _ p refl) ∙ ap held_place (hot_read s law p used) ∙ held_place-mark Hot _ (λ e. cc) (λ e. cc) ∙ held_place-place_to_view _ place e) used opened
 
 pub keeps_pin : (s : State) (p : ℕ) → Law s → s.used p ≡ true → s.scope (p / CELLS) ≢ 0 → Law (after_pin s p)
 keeps_pin s p law used opened = at_view s p _ law used opened refl
-
-object_of-hot : (f g : ℕ → ℕ) (p : ℕ) (o : Option PtrWord) → object_of f g p (map_mark Hot o) ≡ object_of f g p o
-object_of-hot f g p None = refl
-object_of-hot f g p (Some Free) = refl
-object_of-hot f g p (Some (Near len ds place m)) = refl
-object_of-hot f g p (Some (Far len ds m)) = refl
 
 is_marked-hot : (o : Option PtrWord) → is_marked (map_mark Hot o) ≡ is_marked o
 is_marked-hot None = refl
@@ -74,7 +68,7 @@ viewable_object f g p (Some (Far len ds m)) place e = absurd cc
 pub hot_world : (s : State) (law : Law s) (p : ℕ) (used : s.used p ≡ true) → world_of (hot_cell s p) ≡ world_of s
 unfolding world_of
 hot_world s law p used = World-ext _ _
-    (fun_ext (λ q. at_cell s law p used (λ o. object_of s.word (s.stored q) q o ≡ object_of s.word (s.stored q) q (read_of (s.cell q))) q (λ _. object_of-hot s.word (s.stored q) q _) refl))
+    (fun_ext (λ q. at_cell s law p used (λ o. object_of s.word (s.stored q) q o ≡ object_of s.word (s.stored q) q (read_of (s.cell q))) q (λ _. object_of-mark Hot s.word (s.stored q) q _ (λ e. cc)) refl))
     refl refl
     (fun_ext (λ q. at_cell s law p used (λ o. is_marked o ≡ is_marked (read_of (s.cell q))) q (λ _. is_marked-hot (read_of (s.cell q))) refl))
     refl refl
@@ -118,7 +112,7 @@ reports_pin s law m p None used none e = (refl, none, got_hot s law p used, λ l
 reports_pin s law m p (Some place) used none e = (put_same s.held p (Some place) p refl, got_hot s law p used)
 
 -- a pin isn't answered Refused
-pin_told : (w : ℕ) (o : Option Place) → pin_answer w o ≡ Refused → ⊥
+pin_told : (w : ℕ) (o : Option Place) → pin_answer w o ≢ Refused
 pin_told w None y = cc
 pin_told w (Some place) y = cc
 
@@ -138,6 +132,7 @@ module _ (m p : ℕ) where
     part = λ s h. by_owner Pin m p p (grind (arith, nat_tests)) refl;
     word = λ s h. inl (by_owner Pin m p p (grind (arith, nat_tests)) refl);
     reports = λ s law h. reports_pin s law m p (place_to_view (read_of (s.cell p))) h.2 h.3 refl;
+    silent = λ s t h. h;
     answers = λ s x. pin_told (s.cell p) (place_to_view (read_of (s.cell p))) x;
     causes = replies (λ r. Caused (Pin m p) (change_of (Pin m p) r)) tt tt (λ n. tt) (λ x. tt) (λ place. refl);
   }

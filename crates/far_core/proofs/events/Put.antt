@@ -1,5 +1,5 @@
 -- What the event Put owes.
-use Rattle.std.proofs.Common.{inr, arith, nat_lt, refl, true, ℕ, ◌*◌, ◌+◌, ◌<◌, ◌^◌, ◌∙◌, ◌≡◌, ◌≤◌}
+use Rattle.std.proofs.Common.{◌≢◌, inr, arith, nat_lt, refl, true, ℕ, ◌*◌, ◌+◌, ◌<◌, ◌^◌, ◌∙◌, ◌≡◌, ◌≤◌}
 use Rattle.std.proofs.lemmas.Bool.{false≢true}
 use Rattle.std.proofs.lemmas.Bool.Decides.{nat_tests}
 use Rattle.far_core.proofs.Bounds.{span_len}
@@ -20,12 +20,12 @@ use Rattle.far_word.specs.declared.sizes.TheConstants.{LOG_WORDS}
 use mathlib.Core.Path.{fun_ext}
 use Rattle.far_core.specs.declared.event.Kind.TheVariants as kinds
 
-past_fact : (k : Kind) (at tail : ℕ) → is_past k at tail ≡ true → (k ≡ kinds.Sealed → ⊥) × (tail ≤ at)
+past_fact : (k : Kind) (at tail : ℕ) → is_past k at tail ≡ true → (k ≢ kinds.Sealed) × (tail ≤ at)
 past_fact kinds.Free at tail h = (λ e. cc, grind (arith, nat_tests))
 past_fact kinds.Open at tail h = (λ e. cc, grind (arith, nat_tests))
 past_fact kinds.Sealed at tail h = absurd (false≢true h)
 
-past_test : (k : Kind) (at tail : ℕ) → (k ≡ kinds.Sealed → ⊥) → tail ≤ at → is_past k at tail ≡ true
+past_test : (k : Kind) (at tail : ℕ) → k ≢ kinds.Sealed → tail ≤ at → is_past k at tail ≡ true
 past_test kinds.Free at tail ne le = grind (arith, nat_tests)
 past_test kinds.Open at tail ne le = grind (arith, nat_tests)
 past_test kinds.Sealed at tail ne le = absurd (ne refl)
@@ -71,6 +71,7 @@ module _ (l at w : ℕ) where
     part = λ s h. tt;
     word = λ s h. inr (l, at, w, refl, refl);
     reports = λ s law h. put_same s.word (l * LOG_WORDS + at) w (l * LOG_WORDS + at) refl;
+    silent = λ s t h. h;
     answers = λ s x. cc;
     causes = replies (λ r. Caused (Put l at w) (change_of (Put l at w) r)) tt tt (λ n. tt) (λ x. tt) (λ place. tt);
   }

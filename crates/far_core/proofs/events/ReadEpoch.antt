@@ -34,6 +34,7 @@ module _ (m : ℕ) where
     part = λ s h. refl;
     word = λ s h. tt;
     reports = λ s law h. (refl, put_same s.remembered m (Some s.epoch) m refl);
+    silent = λ s t h. h;
     answers = λ s x. cc;
     causes = replies (λ r. Caused (ReadEpoch m) (change_of (ReadEpoch m) r)) tt tt (λ n. tt) (λ x. tt) (λ place. tt);
   }

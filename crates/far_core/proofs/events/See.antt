@@ -18,6 +18,7 @@ module _ (p : ℕ) where
     part = λ s h. tt;
     word = λ s h. tt;
     reports = λ s law h. (refl, refl);
+    silent = λ s t h. h;
     answers = λ s x. cc;
     causes = replies (λ r. Caused (See p) (change_of (See p) r)) tt tt (λ n. tt) (λ x. tt) (λ place. tt);
   }

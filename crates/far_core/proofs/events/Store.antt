@@ -77,6 +77,7 @@ module _ (m p i w : ℕ) where
     part = λ s h. tt;
     word = λ s h. let mine : p / CELLS ≡ m = grind (arith, nat_tests) in inl (p, i, w, ap (λ k. Store k p i w) (sym mine), refl);
     reports = λ s law h. (h.1.0, h.1.1.rests, put_same s.word (data_word s p i) w (addr h.1.0 + 1 + i) (sym (ap (λ o. near_data o + i) h.1.1.near.2)));
+    silent = λ s t h. h;
     answers = λ s x. cc;
     causes = replies (λ r. Caused (Store m p i w) (change_of (Store m p i w) r)) tt refl (λ n. tt) (λ x. tt) (λ place. tt);
   }

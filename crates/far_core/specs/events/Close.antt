@@ -3,6 +3,8 @@ use Rattle.std.specs.Prelude.{◌≡◌, ◌/◌, ◌==◌, ℕ, cond, None, Som
 use Rattle.far_word.specs.declared.sizes.TheConstants.{CELLS}
 use Rattle.far_core.specs.declared.event.Reply.{Reply}
 use Rattle.far_core.specs.declared.event.Reply.TheVariants.{Done}
+use Rattle.far_word.specs.Scope.{scope_word}
+use Rattle.far_word.specs.declared.scope.ScopeWord.TheVariants as scoped
 use Rattle.far_core.specs.state.State.{State, put}
 use Rattle.far_core.specs.events.Touch.{ScopeAt, LetsGo}
 use Rattle.far_core.specs.world.Changes.{Change}
@@ -12,7 +14,7 @@ use Rattle.far_core.specs.events.Owners.{is_opened, IsOpen}
 
 abbrev pub after_close : State → ℕ → State
 after_close s m = record s {
-  scope = put s.scope m 0;
+  scope = put s.scope m (scope_word scoped.Closed);
   remembered = put s.remembered m None;
   held = λ p. cond (p / CELLS == m) None (s.held p);
 }

@@ -4,6 +4,7 @@ use Rattle.far_word.specs.declared.mark.Marks.{Marks}
 use Rattle.far_word.specs.declared.pointer.PtrWord.{PtrWord}
 use Rattle.far_word.specs.declared.pointer.PtrWord.TheVariants.{Free, Near, Far}
 use Rattle.far_word.specs.Pointer.{IsPtr}
+pub use Rattle.far_word.specs.Rows.{no_marks}
 use Rattle.far_core.specs.declared.naming.Naming.{Naming}
 use Rattle.far_core.specs.declared.naming.Naming.TheVariants.{Places, Retires}
 use Rattle.far_core.specs.state.State.{State}
@@ -11,9 +12,6 @@ use Rattle.far_core.specs.world.Changes.{Change}
 use Rattle.far_core.specs.events.NamingRow.{NamingRow}
 use Rattle.far_core.specs.events.namings.Places.{places_row, places_change}
 use Rattle.far_core.specs.events.namings.Retires.{retires_row, retires_change}
-
-abbrev pub no_marks : Marks
-no_marks = record { hot = false; evac = false; moved = false; dropped = false }
 
 abbrev pub is_unmarked : Marks → Bool
 is_unmarked m = not (m.hot || m.evac || m.moved || m.dropped)

@@ -13,8 +13,8 @@ use Rattle.far_word.specs.declared.scope.ScopeWord.TheVariants as scoped
 
 -- the scope word at the epoch that was read, which may have risen since
 abbrev pub scope_word_of : Option ℕ → ℕ
-scope_word_of None = 0
-scope_word_of (Some e) = 2 * e + 1
+scope_word_of None = scope_word scoped.Closed
+scope_word_of (Some e) = scope_word (scoped.Open e)
 
 abbrev pub OpenReports : State → ℕ → Reply → State → Type 0
 OpenReports s m Done t = (e : ℕ) × (s.remembered m ≡ Some e) × (t.scope m ≡ scope_word (scoped.Open e))

@@ -7,10 +7,10 @@ use Rattle.far_word.specs.declared.pointer.PtrWord.{PtrWord}
 use Rattle.far_word.specs.declared.pointer.PtrWord.TheVariants as pointer
 use Rattle.far_word.specs.declared.pointer.PtrWord.TheVariants.{Near, Far}
 use Rattle.far_word.specs.declared.scope.ScopeWord.TheVariants as scoped
-use Rattle.far_word.specs.declared.sizes.TheConstants.{CELLS, LOG_WORDS, LONGEST, MOST_LOGS, MOST_MUTATORS}
+use Rattle.far_word.specs.declared.sizes.TheConstants.{CELLS, EPOCH_END, LEAST_LOGS, LEAST_MUTATORS, LOG_WORDS, LONGEST, MOST_LOGS, MOST_MUTATORS}
 use Rattle.far_word.specs.Header.{head_of, head_word}
 use Rattle.far_word.specs.Pointer.{read_of}
-use Rattle.far_word.specs.Scope.{scope_of, epoch_end}
+use Rattle.far_word.specs.Scope.{scope_of}
 use Rattle.far_word.specs.Sizes.{size_of, words_for}
 pub use Rattle.far_log.specs.Spans.{head_len, len_in}
 use Rattle.far_core.specs.declared.event.Kind.{Kind}
@@ -18,7 +18,7 @@ use Rattle.far_core.specs.declared.event.Kind.TheVariants.{Free, Open}
 use Rattle.far_core.specs.state.State.{State, addr}
 
 -- a span of this length stands at a: it ends below its log's tail, no other span begins in it, and the next follows it
-pub record Span (tail : ℕ → ℕ) (starts : ℕ → Bool) (a len : ℕ) : Type 0 where
+pub record SpanAt (tail : ℕ → ℕ) (starts : ℕ → Bool) (a len : ℕ) : Type 0 where
   pub some : 0 < len
   pub most : len ≤ LONGEST
   pub fits : a % LOG_WORDS + size_of len ≤ tail (a / LOG_WORDS)
@@ -73,9 +73,9 @@ pub record IsBlank (word stored : ℕ → ℕ) (cell : Option PtrWord) : Type 0 
 
 -- 2 to 64 logs, 1 to 8 mutators
 pub record IsShape (mutators logs : ℕ) : Type 0 where
-  pub two_logs : 2 ≤ logs
+  pub two_logs : LEAST_LOGS ≤ logs
   pub few_logs : logs ≤ MOST_LOGS
-  pub some_mutators : 1 ≤ mutators
+  pub some_mutators : LEAST_MUTATORS ≤ mutators
   pub few_mutators : mutators ≤ MOST_MUTATORS
 
 -- each cell is on the layout; a near one is named back by the span at its place, with DROP too, since a dropped cell keeps its span until it is
@@ -90,7 +90,7 @@ pub record CellLaw (mutators : ℕ) (cell word : ℕ → ℕ) (starts : ℕ → 
 pub record SpanLaw (mutators : ℕ) (tail word : ℕ → ℕ) (starts : ℕ → Bool) : Type 0 where
   pub word_fits : (a : ℕ) → word a < 2 ^ 64
   pub first_span : (l : ℕ) → 0 < tail l → starts (l * LOG_WORDS) ≡ true
-  pub span : (a : ℕ) → starts a ≡ true → Span tail starts a (head_len (word a))
+  pub span : (a : ℕ) → starts a ≡ true → SpanAt tail starts a (head_len (word a))
   pub span_header : (a : ℕ) (h : HeadWord) → starts a ≡ true → head_of (word a) ≡ Some h → h.pointer < CELLS * mutators
   pub span_padding : (a : ℕ) → starts a ≡ true → Padded word a (head_len (word a))
 
@@ -107,7 +107,7 @@ pub record LogLaw (logs : ℕ) (kind : ℕ → Kind) (tail : ℕ → ℕ) (curre
 pub record ScopeLaw (mutators epoch : ℕ) (scope : ℕ → ℕ) (remembered : ℕ → Option ℕ) : Type 0 where
   pub scope_read : (m : ℕ) → IsSome (scope_of (scope m))
   pub scope_range : (m : ℕ) → scope m ≢ 0 → m < mutators
-  pub epoch_below : epoch < epoch_end
+  pub epoch_below : epoch < EPOCH_END
   pub open_bound : (m e : ℕ) → scope_of (scope m) ≡ Some (scoped.Open e) → e ≤ epoch
   pub remembered_bound : (m e : ℕ) → remembered m ≡ Some e → e ≤ epoch
   pub remembered_range : (m e : ℕ) → remembered m ≡ Some e → m < mutators

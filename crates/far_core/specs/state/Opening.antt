@@ -6,8 +6,8 @@ use Rattle.far_core.specs.state.State.{State, put}
 
 -- all words but the epoch are 0; all logs are free; nothing is used, held or remembered; the round is empty, with the
 -- first epoch as its own
-abbrev pub blank : Shape → Bool → State
-blank shape honest = record {
+abbrev pub unopened : Shape → Bool → State
+unopened shape honest = record {
   mutators = shape.mutators;
   logs = shape.logs;
   honest = honest;
@@ -30,4 +30,4 @@ blank shape honest = record {
 
 -- the same with log 0 open
 abbrev pub opening : Shape → Bool → State
-opening shape honest = record (blank shape honest) { kind = put (λ _. Free) 0 Open }
+opening shape honest = record (unopened shape honest) { kind = put (λ _. Free) 0 Open }

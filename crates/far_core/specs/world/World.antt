@@ -1,4 +1,4 @@
--- The abstract world: what a program that uses a heap may believe, without words, offsets, tails and epochs.
+-- The abstract world: what a program that uses a heap may believe, without shared words, offsets, tails and epochs.
 use Rattle.std.specs.Prelude.{ℕ, Bool, false, ◌==◌, Option, None, List}
 
 -- where an object is: in a group of local memory, or on the far side. Groups are names only

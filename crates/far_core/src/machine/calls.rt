@@ -20,7 +20,7 @@ use crate::memory::Memory;
 use far_word::{Mark, Place, Refused};
 use std::alloc::Global;
 
-/// An event each, with its guard as the condition. Owners, pointers, logs and words are numbered as in [`Event`]. No call
+/// One event by each call, whose guard is the condition. Owners, pointers, logs and words are numbered as in [`Event`]. No call
 /// here takes memory.
 #[tactic(auto, using(crate::proofs::Calls::next_is_after, crate::proofs::Calls::next_keeps_law))]
 impl Core {
@@ -244,7 +244,7 @@ impl Core {
         self.memory.apply(event)
     }
 
-    /// Makes events in order, and answers the reply to each. The room for all replies is taken first: refused
+    /// Makes events in order, and answers the reply to each. Memory for all replies is taken first: refused
     /// [`Refused::Memory`], no event was made. Refused so alone.
     pub fn run(&mut self, alloc: Global, events: &[Event]) -> Result<Vec<Reply>, Refused>
         ensures runs { IfOk result (λ replies. (states : List State) × Leads (core_state self.old) events.now replies.items states (core_state self.new)

@@ -19,7 +19,7 @@ ghost use Rattle.far_core.specs.state.Shape.{is_shape};
 ghost use Rattle.far_core.specs.state.Spans.{IsOfHeap, spans_of, word_in};
 ghost use Rattle.far_core.specs.state.State.{State};
 ghost use Rattle.far_core.specs.events.Step.{is_legal};
-ghost use Rattle.far_core.specs.events.Reports.{RepliesReport};
+ghost use Rattle.far_core.specs.events.Reports.{RepliesReport, RefusalsReportNothing};
 ghost use Rattle.far_core.specs.world.World.{start};
 ghost use Rattle.far_core.specs.laws.Agreement.{ViewRests, MarksAgree, MarksExist};
 ghost use Rattle.far_core.specs.laws.Rooms.{RoomIsRight};
@@ -92,10 +92,11 @@ impl Core {
 
     /// An event passes the test of a step exactly where it is legal, and what its reply reports is so: the epoch that was
     /// remembered, the place that is held, the word that keeps a view away, the word that is read or put, the span that a
-    /// won naming takes; a lost naming changes nothing.
+    /// won naming takes; a lost naming changes nothing. Of a reply that has no row, as a refusal, nothing is reported at all.
     pub fn replies_report(&self)
         ensures test { (event : Event) → Legal (core_state self.now) event ↔ (is_legal (core_state self.now) event ≡ true) }
         ensures report { RepliesReport (core_state self.now) }
+        ensures refusals { RefusalsReportNothing }
     {
         let _memory = &self.memory;
     }
@@ -126,8 +127,8 @@ pub fn steps_keep_views()
     ensures lying { LyingIsOpen }
 {}
 
-/// Whatever an event changes of the words and views, it says so: one shared word at most, and the view of its own mutator
-/// alone, or of the book.
+/// What an event changes of the words and views is what its rule says that it touches: one shared word at most, and the
+/// view of its own mutator alone, or of the book.
 pub fn events_leave_others()
     ensures { EventsLeave }
 {}

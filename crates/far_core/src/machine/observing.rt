@@ -1,8 +1,7 @@
 //! What a core shows: shape, words and views, one at a time.
 
 ghost use Rattle.std.specs.Prelude.{◌≡◌, ◌+◌, ◌*◌, ◌<◌, not, ◌==◌, is_some};
-ghost use Rattle.far_word.specs.Scope.{epoch_end};
-ghost use Rattle.far_word.specs.declared.sizes.TheConstants.{LOG_WORDS};
+ghost use Rattle.far_word.specs.declared.sizes.TheConstants.{EPOCH_END, LOG_WORDS};
 ghost use Rattle.far_core.specs.state.CoreState.{core_state};
 ghost use Rattle.far_core.specs.state.Memory.{state_of};
 ghost use Rattle.far_core.specs.events.Step.{is_opened};
@@ -37,7 +36,7 @@ impl Core {
     /// The epoch, below 2^62.
     pub fn epoch(&self) -> u64
         ensures is { result ≡ (core_state self.now).epoch }
-        ensures below { result < epoch_end }
+        ensures below { result < EPOCH_END }
     {
         self.memory.epoch()
     }

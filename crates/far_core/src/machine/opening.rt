@@ -7,7 +7,7 @@ ghost use Rattle.far_core.specs.world.WorldOf.{world_of};
 ghost use Rattle.far_core.specs.state.CoreState.{core_state};
 ghost use Rattle.far_core.specs.state.Law.{Law};
 ghost use Rattle.far_core.specs.state.Memory.{state_of};
-ghost use Rattle.far_core.specs.state.Opening.{opening, blank};
+ghost use Rattle.far_core.specs.state.Opening.{opening, unopened};
 ghost use Rattle.far_core.specs.state.Shape.{is_shape};
 
 use crate::event::Kind;
@@ -20,9 +20,9 @@ use std::alloc::{AllocError, Global};
 impl Memory {
     /// All words but the epoch are 0 and all logs are free.
     #[tactic(auto, unfolding(crate::specs::state::Memory::state_of))]
-    fn blank(alloc: Global, shape: Shape, honest: bool) -> Result<Memory, AllocError>
+    fn unopened(alloc: Global, shape: Shape, honest: bool) -> Result<Memory, AllocError>
         requires { is_shape shape ≡ true }
-        ensures { IfOk result (λ memory. state_of memory ≡ blank shape honest) }
+        ensures { IfOk result (λ memory. state_of memory ≡ unopened shape honest) }
     {
         let logs = shape.logs as usize;
         let mutators = shape.mutators as usize;
@@ -64,7 +64,7 @@ impl Core {
         if !shape.is_in_range() {
             return Err(Refused::Shape);
         }
-        let Ok(mut memory) = Memory::blank(alloc, shape, honest) else {
+        let Ok(mut memory) = Memory::unopened(alloc, shape, honest) else {
             return Err(Refused::Memory);
         };
         memory.set_kind(0, Kind::Open);

@@ -198,7 +198,8 @@ impl Memory {
         ensures { state_of self.new ≡ with_span (state_of self.old) pointer new len place }
     {
         self.set_cell(pointer, new);
-        self.begin_span(place.log, first_word(place), place.at + size_of(len));
+        self.begin_span(first_word(place));
+        self.set_tail(place.log, place.at + size_of(len));
         self.set_kind(self.current(), Kind::Sealed);
         self.set_kind(place.log, Kind::Open);
         self.set_current(place.log);

@@ -121,7 +121,7 @@ impl Memory {
         requires { owner < (state_of self.old).mutators }
         ensures { state_of self.new ≡ next_state (state_of self.old) (Event.Close owner) }
     {
-        self.set_scope(owner, 0);
+        self.set_scope(owner, ScopeWord::Closed.pack());
         self.remember(owner, None);
         self.let_go(owner);
     }
@@ -144,7 +144,7 @@ impl Memory {
         let old = self.cell_at(pointer);
         self.set_cell(pointer, old | mark.mask());
         if let Mark::Dropped = mark {
-            self.disuse_cell(pointer);
+            self.stop_using_cell(pointer);
         }
         old
     }

@@ -42,7 +42,7 @@ impl Memory {
     }
 
     #[tactic(auto, unfolding(crate::specs::state::Memory::state_of))]
-    pub(crate) fn disuse_cell(&mut self, pointer: u16)
+    pub(crate) fn stop_using_cell(&mut self, pointer: u16)
         requires { pointer < CELLS * (state_of self.old).mutators }
         ensures { state_of self.new ≡ record (state_of self.old) { used = put (state_of self.old).used pointer false } }
     {
@@ -66,12 +66,10 @@ impl Memory {
     }
 
     #[tactic(auto, unfolding(crate::specs::state::Memory::state_of))]
-    pub(crate) fn begin_span(&mut self, log: u8, at: usize, tail: u16)
-        requires log { log < (state_of self.old).logs }
-        requires at { at < LOG_WORDS * (state_of self.old).logs }
-        ensures { state_of self.new ≡ record (state_of self.old) { tail = put (state_of self.old).tail log tail; starts = put (state_of self.old).starts at true } }
+    pub(crate) fn begin_span(&mut self, at: usize)
+        requires { at < LOG_WORDS * (state_of self.old).logs }
+        ensures { state_of self.new ≡ record (state_of self.old) { starts = put (state_of self.old).starts at true } }
     {
-        self.tails[log as usize] = tail;
         self.starts[at] = true;
     }
 

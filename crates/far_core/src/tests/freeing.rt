@@ -50,6 +50,22 @@ fn a_log_that_may_not_be_given_back(rt: HostRuntime) -> Result<(), Fail> {
 }
 
 #[test]
+fn a_pointer_that_may_not_be_marked(rt: HostRuntime) -> Result<(), Fail> {
+    let mut core = sealed(&rt, rt.alloc())?;
+    refuses(
+        &rt,
+        &mut core,
+        &[
+            Event::Mark { pointer: 1 },
+            Event::Mark { pointer: 2 },
+            Event::Mark { pointer: 128 },
+            Event::See { pointer: 128 },
+        ],
+    );
+    Ok(())
+}
+
+#[test]
 fn a_log_is_given_back(rt: HostRuntime) -> Result<(), Fail> {
     let mut core = sealed(&rt, rt.alloc())?;
     let ask = Event::Ask {

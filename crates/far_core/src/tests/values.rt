@@ -3,6 +3,7 @@
 ghost use Rattle.std.specs.Prelude.{◌<◌, length};
 
 use super::*;
+use crate::naming::Naming;
 use far_word::Mark;
 use std::fmt::Debug;
 use std::test::Fail;
@@ -100,6 +101,27 @@ fn replies_differ(rt: HostRuntime) -> Result<(), Fail> {
             Reply::Held(Place { log: 0, at: 0 }),
             Reply::Held(Place { log: 1, at: 0 }),
             Reply::Held(Place { log: 0, at: 1 }),
+        ],
+    );
+    Ok(())
+}
+
+#[test]
+fn namings_differ(rt: HostRuntime) -> Result<(), Fail> {
+    let places = |len, ds, log, at| Naming::Places {
+        len,
+        ds,
+        place: Place { log, at },
+    };
+    all_differ(
+        &rt,
+        &[
+            Naming::Retires,
+            places(8, 1, 0, 0),
+            places(9, 1, 0, 0),
+            places(8, 2, 0, 0),
+            places(8, 1, 1, 0),
+            places(8, 1, 0, 1),
         ],
     );
     Ok(())

@@ -1,5 +1,5 @@
 -- What the form of naming Places owes.
-use Rattle.std.proofs.Common.{◌≡◌, ℕ, ◌+◌, ◌/◌, ◌<◌, ◌≤◌, true, false, arith, refl, sym, ap, ◌∙◌, Option, Some, None}
+use Rattle.std.proofs.Common.{◌≢◌, ◌≡◌, ℕ, ◌+◌, ◌/◌, ◌<◌, ◌≤◌, true, false, arith, refl, sym, ap, ◌∙◌, Option, Some, None}
 use Rattle.std.specs.Prelude.{replicate}
 use Rattle.std.proofs.lemmas.Bool.{false≢true}
 use Rattle.std.proofs.lemmas.Bool.Decides.{nat_tests}
@@ -31,7 +31,7 @@ use Rattle.far_core.proofs.Worlds.{World-ext}
 use Rattle.far_core.proofs.Zeros.{zeros_all, zeros_below}
 
 -- a free cell is held by nobody, and no owner uses it
-none_held : (s : State) → Law s → (p : ℕ) → (s.used p ≡ true → ⊥) → (o : Option Place) → s.held p ≡ o → s.held p ≡ None
+none_held : (s : State) → Law s → (p : ℕ) → s.used p ≢ true → (o : Option Place) → s.held p ≡ o → s.held p ≡ None
 none_held s law p unused None e = e
 none_held s law p unused (Some place) e = absurd (unused (law.views.held_used p (rw e refl)))
 
@@ -73,7 +73,7 @@ module _ (p new len ds : ℕ) (place : Place) where
       let head = made.legal.0.head in
       let back : head_of (s.word (addr place)) ≡ Some (header p len ds) =
       ap head_of head ∙ head_back (header p len ds) (record { some = omega (arith, x.0); most = omega (arith, x.0); structure = omega (arith, x.0); cell = omega (arith, made.cell, law.shape.few_mutators) }) in
-      let unused : s.used p ≡ true → ⊥ = λ used. false≢true (sym (ap in_use made.naming.0) ∙ law.views.used_cell p used) in
+      let unused : s.used p ≢ true = λ used. false≢true (sym (ap in_use made.naming.0) ∙ law.views.used_cell p used) in
       law_with_span s law p len ds place no_marks new made.naming.1 made.fits made.cell (none_held s law p unused (s.held p) refl) (λ used. absurd (unused used))
       (omega (arith, x.0)) (omega (arith, x.0)) (omega (arith, x.0)) made.legal.0.next.0 (at_tail s law place made.legal.0.next) head back
       (λ i lt. rw (made.legal.1 i lt) (pow_pos _)) (λ _ _. made.legal.1)

@@ -1,5 +1,5 @@
 use Rattle.far_core.specs.state.Memory.{state_of}
-use Rattle.far_core.proofs.Owing.{replies_report, is_fact, is_test}
+use Rattle.far_core.proofs.Owing.{refusals_report_nothing, replies_report, is_fact, is_test}
 use Rattle.far_core.proofs.machine.Core.replies_report.Goals as goal
 
 pub returns-clause-test : goal.returns-clause-test
@@ -7,3 +7,6 @@ returns-clause-test c = λ event. (λ h. is_test (state_of c.args.self.now.memor
 
 pub returns-clause-report : goal.returns-clause-report
 returns-clause-report c = replies_report (state_of c.args.self.now.memory) c.args.self.now.law
+
+pub returns-clause-refusals : goal.returns-clause-refusals
+returns-clause-refusals c = refusals_report_nothing

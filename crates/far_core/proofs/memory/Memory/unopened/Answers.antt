@@ -2,7 +2,7 @@ use Rattle.std.proofs.Common.{false, None, rules}
 use Rattle.far_core.specs.declared.event.Kind.TheVariants.{Free}
 use Rattle.far_core.specs.state.Memory.{state_of}
 use Rattle.far_core.proofs.Begins.{row_of}
-use Rattle.far_core.proofs.memory.Memory.blank.Goals as goal
+use Rattle.far_core.proofs.memory.Memory.unopened.Goals as goal
 
 pub returns : goal.returns
 unfolding state_of
