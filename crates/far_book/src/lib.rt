@@ -7,6 +7,8 @@ mod beset;
 mod near;
 mod owners;
 mod plain;
+#[cfg(test)]
+mod tests;
 
 pub use beset::Beset;
 pub use near::Near;
