@@ -2,3 +2,4 @@ pub mod Finds
 pub mod Known
 pub mod Quiet
 pub mod ShapeOf
+pub mod book

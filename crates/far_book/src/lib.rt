@@ -3,6 +3,10 @@
 //! The book touches words only through [`Near`], a hand that it is lent.
 #![tactic(auto)]
 
+mod home;
+mod ledger;
 mod near;
+mod number_set;
 
+pub use home::Home;
 pub use near::Near;
