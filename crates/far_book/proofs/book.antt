@@ -1,3 +1,4 @@
+pub mod NotesKept
 pub mod Notings
 pub mod NumberSets
 pub mod Owns
