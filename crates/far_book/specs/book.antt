@@ -1,3 +1,4 @@
+pub mod BookOf
 pub mod Effects
 pub mod Home
 pub mod Ledger

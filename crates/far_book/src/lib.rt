@@ -3,10 +3,14 @@
 //! The book touches words only through [`Near`], a hand that it is lent.
 #![tactic(auto)]
 
+mod book;
 mod home;
 mod ledger;
 mod near;
 mod number_set;
+mod plain;
 
+pub use book::Book;
 pub use home::Home;
 pub use near::Near;
+pub use plain::Plain;

@@ -1,0 +1,54 @@
+//! The plain hand: a core that nobody else steps.
+
+ghost use Rattle.std.specs.Prelude.{◌≡◌, true};
+ghost use Rattle.far_core.specs.state.CoreState.{core_state};
+ghost use Rattle.far_core.specs.state.Shape.{is_shape};
+ghost use Rattle.far_book.specs.ShapeOf.{shape_of};
+
+use crate::near::Near;
+use far_core::{Core, Shape};
+
+/// A core as the book's hand. It is still: what the view says is the state, whose words change by the book's calls alone.
+#[derive(Debug, Drop)]
+pub struct Plain {
+    pub core: Core,
+}
+
+impl Near for Plain {
+    ghost view = { λ s. core_state s.core };
+
+    ghost still = { Unit {0} };
+
+    fn see(&mut self, pointer: u16) -> u64 {
+        self.core.see(pointer)
+    }
+
+    fn get(&mut self, log: u8, at: u16, free: bool) -> u64 {
+        self.core.get(log, at, free)
+    }
+
+    fn put(&mut self, log: u8, at: u16, word: u64) {
+        self.core.put(log, at, word);
+    }
+
+    fn name(&mut self, pointer: u16, old: u64, new: u64) -> Result<(), u64> {
+        self.core.name(pointer, old, new)
+    }
+
+    fn shape(&self) -> Shape {
+        shape_of(&self.core)
+    }
+}
+
+/// How large a core is, and its epoch.
+pub(crate) fn shape_of(core: &Core) -> Shape
+    ensures is { result ≡ shape_of (core_state core.now) }
+    ensures range { is_shape result ≡ true }
+{
+    core.keeps_law();
+    Shape {
+        logs: core.logs() as u64,
+        mutators: core.mutators() as u64,
+        epoch: core.epoch(),
+    }
+}
