@@ -1,3 +1,3 @@
 pub mod Finding
 pub mod OwnersWork
-pub mod book
+pub mod region

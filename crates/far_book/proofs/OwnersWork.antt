@@ -44,7 +44,7 @@ module _ (s t : State) (law : Law s) (p : ℕ) (k : MarkKind) (own : marking.is_
   marked : (q : ℕ) → Finds (s.cell q) (put s.cell p (bit_or (s.cell p) (2 ^ position k)) q)
   marked q = put_both (λ w. Finds (s.cell q) w) s.cell p (bit_or (s.cell p) (2 ^ position k)) q
       (λ e. subst (λ v. Finds v (bit_or (s.cell p) (2 ^ position k))) (ap s.cell (sym e))
-          (finds_mark k (s.cell p) (bit_or (s.cell p) (2 ^ position k)) own (read_mark k (s.cell p) own (law.cells.cell_read p).0 (law.views.used_cell p used)).0))
+      (finds_mark k (s.cell p) (bit_or (s.cell p) (2 ^ position k)) own (read_mark k (s.cell p) own (law.cells.cell_read p).0 (law.views.used_cell p used)).0))
       (λ _. finds_same (s.cell q))
 
   marks : OwnersChange s t

@@ -5,14 +5,14 @@ ghost use Rattle.far_word.specs.declared.pointer.PtrWord.TheVariants.{Near as ne
 ghost use Rattle.far_word.specs.declared.refused.Refused.TheVariants.{Memory, NoRoom};
 ghost use Rattle.far_word.specs.declared.sizes.TheConstants.{CELLS, LONGEST, LOG_WORDS};
 ghost use Rattle.far_word.specs.Header.{IsHead};
-ghost use Rattle.far_word.specs.Pointer.{IsPtr, read_of};
+ghost use Rattle.far_word.specs.Pointer.{IsPtr, read_of, word_of};
 ghost use Rattle.far_word.specs.Sizes.{size_of};
 ghost use Rattle.far_core.specs.events.Legal.{IsNext};
 ghost use Rattle.far_core.specs.events.Naming.{no_marks, is_dropped};
 ghost use Rattle.far_core.specs.state.Law.{Law};
 ghost use Rattle.far_core.specs.state.Room.{room};
 ghost use Rattle.far_core.specs.state.State.{State, put};
-ghost use Rattle.far_book.specs.Finds.{Finds};
+ghost use Rattle.far_book.specs.Finds.{Finds, body_of};
 ghost use Rattle.far_book.specs.Known.{Forgets};
 ghost use Rattle.far_book.specs.book.Effects.{with_blank_span, placed, retired, order_after};
 ghost use Rattle.far_book.specs.book.Home.{home_of};
@@ -115,10 +115,7 @@ impl<N: Near + Drop> Book<N> {
         ensures order { self.new.order ≡ self.old.order }
     {
         let was = free_cell(&mut self.near, pointer);
-        if let Some(PtrWord::Near { len, place, .. }) = PtrWord::read(was) {
-            self.ledger.lose(place.log, size_of(len));
-        }
-        self.ledger.give(pointer);
+        self.ledger.retire(pointer, was);
     }
 
     /// Where a pointer's object is, with the marks that its cell has now; `None` exactly where the cell is free.
@@ -131,11 +128,7 @@ impl<N: Near + Drop> Book<N> {
         ensures exact { N.still → N.view self.new.near ≡ N.view self.old.near }
         ensures order { self.new.order ≡ self.old.order }
     {
-        match PtrWord::read(self.near.see(pointer)) {
-            Some(PtrWord::Near { place, marks, .. }) => Some(Home::Near { place, marks }),
-            Some(PtrWord::Far { marks, .. }) => Some(Home::Far { marks }),
-            Some(PtrWord::Free) | None => None,
-        }
+        home_in(self.near.see(pointer))
     }
 
     /// What a log is, and what it has.
@@ -159,6 +152,17 @@ impl<N: Near + Drop> Book<N> {
             rows.push_reserved(self.ledger.row(*log));
         }
         Ok(rows)
+    }
+}
+
+// Where the object of a cell is.
+fn home_in(cell: u64) -> Option<Home>
+    ensures { result ≡ home_of (read_of cell) }
+{
+    match PtrWord::read(cell)? {
+        PtrWord::Free => None,
+        PtrWord::Near { place, marks, .. } => Some(Home::Near { place, marks }),
+        PtrWord::Far { marks, .. } => Some(Home::Far { marks }),
     }
 }
 
@@ -208,21 +212,39 @@ fn put_blank<N: Near>(near: &mut N, pointer: u16, len: u16, ds: u8, place: Place
     }
 }
 
-// Frees the cell of a dropped object, by the word that was last found there, and answers that word.
-fn free_cell<N: Near>(near: &mut N, pointer: u16) -> u64
+// Frees the cell of a dropped object, by the word that was last found there, and answers what that word said.
+fn free_cell<N: Near>(near: &mut N, pointer: u16) -> PtrWord
     requires pointer { pointer < CELLS * (N.view near.old).mutators }
     requires dropped { is_dropped (read_of ((N.view near.old).cell pointer)) ≡ true }
-    ensures found { Finds ((N.view near.old).cell pointer) result }
+    ensures was { body_of (Some result) ≡ body_of (read_of ((N.view near.old).cell pointer)) }
     ensures kept { N.view near.new ≡ record (retired (N.view near.old) pointer) { word = (N.view near.new).word } }
     ensures forgot { Forgets (N.view near.old) (N.view near.new) }
     ensures exact { N.still → N.view near.new ≡ retired (N.view near.old) pointer }
 {
     let mut word = near.see(pointer);
+    let mut was = says(word);
     for _ in 0..4u8 {
         match near.name(pointer, word, 0) {
-            Ok(()) => return word,
-            Err(found) => word = found,
+            Ok(()) => return was,
+            Err(found) => {
+                word = found;
+                was = says(found);
+            }
         }
     }
+    // Each try found HOT, MOVE or DROP added, and each of them can be added once.
     unreachable!()
+}
+
+// What a dropped object's cell says.
+fn says(word: u64) -> PtrWord
+    requires { is_dropped (read_of word) ≡ true }
+    ensures is { read_of word ≡ Some result }
+    ensures layout { IsPtr result }
+    ensures word { word_of result ≡ word }
+{
+    let Some(says) = PtrWord::read(word) else {
+        unreachable!()
+    };
+    says
 }

@@ -1,20 +1,21 @@
 //! What the book has written down of logs and cells, so that none of its calls searches.
 
-ghost use Rattle.std.specs.Prelude.{◌≡◌, ◌≢◌, ℕ, ◌+◌, ◌-◌, ◌*◌, ◌/◌, ◌<◌, ◌≤◌, ◌==◌, true, false, Some, None, IfOk, MatchOption};
+ghost use Rattle.std.specs.Prelude.{◌≡◌, ◌≢◌, ℕ, ◌+◌, ◌-◌, ◌*◌, ◌/◌, ◌<◌, ◌≤◌, ◌==◌, true, false, Some, None, List, [], IfOk, MatchOption};
 ghost use Rattle.std.specs.Vec.{vec_len, vec_capacity};
 ghost use Rattle.far_word.specs.declared.sizes.TheConstants.{CELLS, LOG_WORDS};
 ghost use Rattle.far_core.specs.state.Opening.{opening};
 ghost use Rattle.far_core.specs.state.Room.{room};
 ghost use Rattle.far_core.specs.state.Shape.{is_shape};
 ghost use Rattle.far_core.specs.state.State.{State};
-ghost use Rattle.far_book.specs.book.Ledger.{Notes, KnowsLog, filled_of, is_noted_free, MayTake, Takes, Loses, Frees, IsLowestFree};
+ghost use Rattle.far_book.specs.book.Effects.{with_free_cell};
+ghost use Rattle.far_book.specs.book.Ledger.{Notes, KnowsLog, filled_of, is_noted_free, MayTake, MayRetire, Takes, Loses, Frees, IsLowestFree};
 ghost use Rattle.far_book.specs.book.Own.{own_part};
 ghost use Rattle.far_book.specs.book.Rows.{row_of};
 
 use crate::number_set::NumberSet;
 use far_core::{Kind, Shape};
 use far_log::LogRow;
-use far_word::{CELLS, LOG_WORDS, Place};
+use far_word::{CELLS, LOG_WORDS, Place, PtrWord, size_of};
 use std::alloc::{AllocError, Global};
 
 /// What one log has.
@@ -44,7 +45,8 @@ impl Ledger {
     /// The ledger of a heap at the start.
     pub(crate) fn new(alloc: Global, shape: Shape) -> Result<Ledger, AllocError>
         requires { is_shape shape ≡ true }
-        ensures { IfOk result (λ ledger. Notes (own_part (opening shape false)) ledger) }
+        ensures notes { IfOk result (λ ledger. Notes (own_part (opening shape false)) ledger) }
+        ensures order { IfOk result (λ ledger. ledger.order.items ≡ []) }
     {
         let logs = shape.logs as usize;
         let cells = 2 * shape.mutators as usize;
@@ -157,8 +159,22 @@ impl Ledger {
         filled.live += 8 * size;
     }
 
-    /// A live span of so many words is dead.
-    pub(crate) fn lose(&mut self, log: u8, size: u16)
+    /// A dropped object is retired, of which this was known: its cell is free, and its span is dead, if it lay near.
+    pub(crate) fn retire(&mut self, pointer: u16, was: PtrWord)
+        requires known { (s : State) × Notes s self.old × MayRetire s pointer was }
+        ensures notes { (s : State) → Notes s self.old → MayRetire s pointer was → Notes (with_free_cell s pointer) self.new }
+        ensures order { self.new.order ≡ self.old.order }
+    {
+        match was {
+            PtrWord::Near { len, place, .. } => self.lose(place.log, size_of(len)),
+            PtrWord::Far { .. } => {}
+            PtrWord::Free => {}
+        }
+        self.give(pointer);
+    }
+
+    // A live span of so many words is dead.
+    fn lose(&mut self, log: u8, size: u16)
         requires log { log < vec_len self.old.filled }
         requires live { 8 * size ≤ (filled_of self.old log).live }
         requires size { size ≤ LOG_WORDS }
@@ -167,8 +183,8 @@ impl Ledger {
         self.filled[log as usize].live -= 8 * size;
     }
 
-    /// A cell is free.
-    pub(crate) fn give(&mut self, pointer: u16)
+    // A cell is free.
+    fn give(&mut self, pointer: u16)
         requires { pointer / 64 < vec_len self.old.free_cells }
         ensures { Frees self.old self.new pointer }
     {

@@ -15,11 +15,7 @@ impl NumberSet {
         requires { end ≤ 64 }
         ensures { (k : ℕ) → k < 64 → has result k ≡ nat_lt k end }
     {
-        let word = if end == 64 {
-            u64::MAX
-        } else {
-            (1 << end) - 1
-        };
+        let word = if end == 64 { u64::MAX } else { (1 << end) - 1 };
         NumberSet { word }
     }
 

@@ -26,6 +26,10 @@ with_blank_span s p len ds place = record s { word = written (put s.word (addr p
 abbrev pub placed : State → ℕ → ℕ → ℕ → Place → State
 placed s p len ds place = after (with_blank_span s p len ds place) (Name p 0 (near_word len ds place))
 
+-- a cell is free
+abbrev pub with_free_cell : State → ℕ → State
+with_free_cell s p = record s { cell = put s.cell p 0 }
+
 -- the cell of a dropped object is free again, and its span, if it lay near, is dead
 abbrev pub retired : State → ℕ → State
 retired s p = after s (Name p (s.cell p) 0)

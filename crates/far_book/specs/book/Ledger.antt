@@ -1,9 +1,12 @@
 -- What the book has written down of a state, and how that changes.
-use Rattle.std.specs.Prelude.{◌≡◌, ◌≢◌, ℕ, ◌+◌, ◌*◌, ◌/◌, ◌%◌, ◌<◌, ◌≤◌, ◌==◌, ◌&&◌, ◌||◌, Bool, not, eqb, nat_lt, Option, Some, None, List, [], ◌∷◌, ◌++◌, slice_index_or, if◌then◌else◌}
+use Rattle.std.specs.Prelude.{◌≡◌, ◌≢◌, ℕ, ◌+◌, ◌*◌, ◌/◌, ◌%◌, ◌<◌, ◌≤◌, ◌==◌, ◌&&◌, ◌||◌, Bool, true, not, eqb, nat_lt, Option, Some, None, List, [], ◌∷◌, ◌++◌, slice_index_or, if◌then◌else◌}
 use Rattle.std.specs.List.{IsDistinct, list_any}
 use Rattle.std.specs.Vec.{vec_len, vec_capacity}
 use Rattle.far_word.specs.declared.pointer.Place.{Place}
+use Rattle.far_word.specs.declared.pointer.PtrWord.{PtrWord}
 use Rattle.far_word.specs.declared.sizes.TheConstants.{CELLS, LOG_WORDS}
+use Rattle.far_word.specs.Pointer.{read_of}
+use Rattle.far_core.specs.events.Naming.{is_dropped}
 use Rattle.far_core.specs.events.Mark.{is_sealed}
 use Rattle.far_core.specs.laws.Observed.{live_bytes}
 use Rattle.far_core.specs.state.Law.{Law}
@@ -12,6 +15,7 @@ use Rattle.far_core.specs.state.State.{State}
 use Rattle.far_book.specs.declared.ledger.Filled.{Filled}
 use Rattle.far_book.specs.declared.ledger.Ledger.{Ledger}
 use Rattle.far_book.specs.declared.number_set.NumberSet.{NumberSet}
+use Rattle.far_book.specs.Finds.{body_of}
 use Rattle.far_book.specs.book.NumberSet.{has}
 
 -- what is written down of a log
@@ -58,6 +62,12 @@ pub record MayTake (ledger : Ledger) (p size : ℕ) (place : Place) : Type 0 whe
   pub live : (filled_of ledger place.log).live ≤ 8 * (filled_of ledger place.log).tail
   pub order : place.log ≢ ledger.current → vec_len ledger.order < vec_capacity ledger.order
   pub cell : p / 64 < vec_len ledger.free_cells
+
+-- an object may be retired: its cell has DROP, and says this of it but for its owner's marks
+pub record MayRetire (s : State) (p : ℕ) (was : PtrWord) : Type 0 where
+  pub pointer : p < CELLS * s.mutators
+  pub dropped : is_dropped (read_of (s.cell p)) ≡ true
+  pub is : body_of (Some was) ≡ body_of (read_of (s.cell p))
 
 -- a span is taken: its log is the open one, ends later and has more live bytes; a log that was open is sealed, the youngest;
 -- the cell isn't free

@@ -3,7 +3,7 @@ use Rattle.std.proofs.Common.{◌+◌, ◌<◌, arith, ap}
 use Rattle.far_word.specs.declared.sizes.TheConstants.{LOG_WORDS}
 use Rattle.far_book.specs.declared.ledger.Filled.{Filled}
 use Rattle.far_book.specs.book.Ledger.{filled_of}
-use Rattle.far_book.proofs.book.Notings.{room_here, room_free, room_none}
+use Rattle.far_book.proofs.region.Notings.{room_here, room_free, room_none}
 
 pub returns-then-tail-size-le-LOG_WORDS : goal.returns-then-tail-size-le-LOG_WORDS
 returns-then-tail-size-le-LOG_WORDS c s notes =

@@ -1,6 +1,6 @@
 use Rattle.far_book.proofs.number_set.NumberSet.below.Goals as goal
 use Rattle.std.proofs.Common.{sym, ap, ◌∙◌, arith, nat_lt, ◌<◌}
-use Rattle.far_book.proofs.book.NumberSets.{has_below, has_shifted}
+use Rattle.far_book.proofs.region.NumberSets.{has_below, has_shifted}
 
 pub returns-then-end-eq64 : goal.returns-then-end-eq64
 returns-then-end-eq64 c k lt = has_below 64 k ∙ sym (ap (nat_lt k) c.if-end-eq64.true)

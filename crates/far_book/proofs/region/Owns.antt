@@ -13,6 +13,8 @@ use Rattle.far_log.specs.declared.span.Span.{Span}
 use Rattle.far_log.specs.Spans.{Tile, span_at, spans_from, spans_in, taken_by, pointer_in, ds_in}
 use Rattle.far_log.proofs.Members.{here, there}
 use Rattle.far_log.proofs.SpanLaws.{tile_low}
+use Rattle.far_word.specs.Pointer.{read_of}
+use Rattle.far_core.specs.events.Naming.{is_dropped}
 use Rattle.far_core.specs.laws.Observed.{live_bytes, dead_bytes}
 use Rattle.far_core.specs.state.Law.{Law, Heads, head_len}
 use Rattle.far_core.specs.state.Spans.{spans_of, word_in, is_live}
@@ -21,11 +23,12 @@ use Rattle.far_core.proofs.KeepOwner.{closed_word}
 use Rattle.far_core.proofs.Observations.{found, walks}
 use Rattle.far_core.proofs.Put.{put_both, put_same, put_other}
 use Rattle.far_book.specs.Known.{Forgets}
-use Rattle.far_book.specs.book.Effects.{written, near_word, placed, retired, with_blank_span}
+use Rattle.far_book.specs.book.Effects.{written, near_word, placed, retired, with_blank_span, with_free_cell}
 use Rattle.far_book.specs.book.Own.{own_part}
 use Rattle.far_book.specs.book.Placeable.{Placeable, with_object}
-use Rattle.far_book.proofs.book.Places.{named_is, none_past}
-use Rattle.far_book.proofs.book.Written.{written_other}
+use Rattle.far_book.proofs.region.Places.{named_is, none_past}
+use Rattle.far_book.proofs.region.Retires.{retired_is}
+use Rattle.far_book.proofs.region.Written.{written_other}
 
 -- a header is the word itself, and no other word is there
 pub own_header : (s : State) (a : ℕ) → s.starts a ≡ true → (own_part s).word a ≡ s.word a
@@ -131,3 +134,14 @@ module _ (s : State) (law : Law (own_part s)) (p len ds : ℕ) (place : Place) (
 
   pub own_placed : own_part (placed s p len ds place) ≡ with_object (own_part s) p len ds place
   own_placed = ap own_part (named_is (with_blank_span s p len ds place) p len ds place h.free h.layout) ∙ (λ i. record (with_object (own_part s) p len ds place) { word = fun_ext own_word i })
+
+-- a retired object
+pub own_retired : (s t : State) (p : ℕ) → is_dropped (read_of (s.cell p)) ≡ true → t ≡ record (retired s p) { word = t.word } → Forgets s t → own_part t ≡ with_free_cell (own_part s) p
+own_retired s t p dropped is h =
+    let free : retired s p ≡ with_free_cell s p = retired_is s p dropped in
+    own_forgets (with_free_cell s p) t (is ∙ (λ i. record (free i) { word = t.word })) (record { known = h.known; headers = h.headers })
+
+-- a placed one, over a hand that may have forgotten words
+module _ (s t : State) (law : Law (own_part s)) (p len ds : ℕ) (place : Place) (h : Placeable (own_part s) p len ds place) where
+  pub own_named : t ≡ record (placed s p len ds place) { word = t.word } → Forgets (placed s p len ds place) t → own_part t ≡ with_object (own_part s) p len ds place
+  own_named is forgot = own_forgets (placed s p len ds place) t is forgot ∙ own_placed s law p len ds place h

@@ -36,7 +36,7 @@ use Rattle.far_core.proofs.Owing.{keeps}
 use Rattle.far_core.proofs.Put.{put_both, put_same, put_other}
 use Rattle.far_book.specs.book.Effects.{near_word}
 use Rattle.far_book.specs.book.Placeable.{Placeable, with_object}
-use Rattle.far_book.proofs.book.SpanLists.{taken_same, taken_more}
+use Rattle.far_book.proofs.region.SpanLists.{taken_same, taken_more}
 
 -- a free cell is named: the span is taken
 pub named_is : (s : State) (p len ds : ℕ) (place : Place) → s.cell p ≡ 0 → IsPtr (Near len ds place no_marks) → after s (events.Name p 0 (near_word len ds place)) ≡ with_span s p (near_word len ds place) len place

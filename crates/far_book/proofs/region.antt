@@ -1,3 +1,6 @@
+pub mod Calls
+pub mod Founds
+pub mod Leaving
 pub mod NotesKept
 pub mod Notings
 pub mod NumberSets

@@ -1,13 +1,13 @@
 -- A ledger that was right is right again after a span was taken, or a cell freed.
 use Rattle.std.proofs.Common.{◌≡◌, ◌≢◌, ℕ, ◌+◌, ◌-◌, ◌*◌, ◌/◌, ◌<◌, ◌≤◌, Bool, true, false, arith, sym, refl, ap, subst, ◌∙◌, Option, Some, None, List, [], ◌∷◌, ◌++◌, length, inl, inr, nat_lt}
-use Rattle.std.specs.Prelude.{◌⊎◌, ◌&&◌, ◌||◌, ◌==◌, not, eqb}
+use Rattle.std.specs.Prelude.{◌⊎◌, ◌&&◌, ◌||◌, ◌==◌, not, eqb, slice_index_or}
 use Rattle.std.specs.Cmp.{nat_eq_equiv}
 use Rattle.std.specs.List.{IsDistinct, list_any}
 use Rattle.std.specs.Vec.{vec_len, vec_capacity}
 use Rattle.std.proofs.lemmas.Bool.{cases_eq, eq-eqb, ne_eqb, eqb-true, eqb-false, lt-ltb, true≢false, false≢true, cond_both}
 use Rattle.std.proofs.lemmas.Bool.Decides.{nat_tests}
 use Rattle.std.proofs.lemmas.List.{length_push}
-use Rattle.std.proofs.lemmas.List.Folds.{list_any-append}
+use Rattle.std.proofs.lemmas.List.Folds.{list_any-append, list_any_at}
 use Rattle.std.proofs.lemmas.Map.Keys.{IsDistinct-push}
 use Rattle.std.proofs.lemmas.Map.Steps.{length-le_from_distinct_below}
 use Rattle.far_word.specs.declared.mark.Marks.{Marks}
@@ -28,13 +28,12 @@ use Rattle.far_core.specs.state.State.{State, put}
 use Rattle.far_core.proofs.Put.{put_both, put_same, put_other}
 use Rattle.far_book.specs.declared.ledger.Filled.{Filled}
 use Rattle.far_book.specs.declared.ledger.Ledger.{Ledger}
-use Rattle.far_book.specs.book.Effects.{near_word}
+use Rattle.far_book.specs.book.Effects.{near_word, with_free_cell}
 use Rattle.far_book.specs.book.Ledger.{Notes, filled_of, is_noted_free, MayTake, Takes, Loses, Frees}
 use Rattle.far_book.specs.book.NumberSet.{has}
 use Rattle.far_book.specs.book.Placeable.{Placeable, with_object}
-use Rattle.far_book.proofs.book.Places as places
-use Rattle.far_book.proofs.book.Retires as retires
-use Rattle.far_book.proofs.book.Retires.{freed_cell}
+use Rattle.far_book.proofs.region.Places as places
+use Rattle.far_book.proofs.region.Retires as retires
 
 -- ---- the sealed logs are fewer than all
 module _ (s : State) (ledger : Ledger) (notes : Notes s ledger) where
@@ -54,7 +53,7 @@ module _ (s : State) (ledger : Ledger) (notes : Notes s ledger) where
   all_inside q h = elim (cases_eq q s.current) [
     | inl e ↦ (let inside = current_inside in omega arith)
     | inr ne ↦ sealed_inside (s.kind q) q refl (sym (notes.sealed q) ∙ (
-      let both : list_any (eqb q) ledger.order.items ≡ list_any (eqb q) (ledger.order.items ++ s.current ∷ []) = sym (list_any-append (eqb q) ledger.order.items (s.current ∷ []) ∙ last q ne) in both ∙ h))
+        let both : list_any (eqb q) ledger.order.items ≡ list_any (eqb q) (ledger.order.items ++ s.current ∷ []) = sym (list_any-append (eqb q) ledger.order.items (s.current ∷ []) ∙ last q ne) in both ∙ h))
   ] where
     or_false : (b : Bool) → (b || false) ≡ b
     or_false true = refl
@@ -65,6 +64,12 @@ module _ (s : State) (ledger : Ledger) (notes : Notes s ledger) where
 
   pub order_short : vec_len ledger.order < vec_capacity ledger.order
   order_short = omega (arith, length-le_from_distinct_below (ledger.order.items ++ s.current ∷ []) s.logs with_current all_inside, length_push ledger.order.items s.current, notes.room, ledger.order.ok.0)
+
+-- each log of the order is one of the heap's
+pub order_inside : (s : State) (ledger : Ledger) → Notes s ledger → (i : ℕ) → i < length ledger.order.items → slice_index_or ledger.order.items i 0 < s.logs
+order_inside s ledger notes i lt =
+    let l = slice_index_or ledger.order.items i 0 in
+    sealed_inside s ledger notes (s.kind l) l refl (sym (notes.sealed l) ∙ list_any_at (eqb l) ledger.order.items i 0 lt (eq-eqb l l refl))
 
 or_false : (b : Bool) → (b || false) ≡ b
 or_false true = refl
@@ -152,13 +157,13 @@ module _ (s : State) (ledger new : Ledger) (notes : Notes s ledger) (p len ds : 
 
 -- ---- a cell is freed
 module _ (s : State) (ledger new : Ledger) (notes : Notes s ledger) (p : ℕ) (inside : p < CELLS * s.mutators) (dropped : is_dropped (read_of (s.cell p)) ≡ true) where
-  cell_freed : ((q : ℕ) → is_noted_free new q ≡ ((q == p) || is_noted_free ledger q)) → (q : ℕ) → q < CELLS * s.mutators → is_noted_free new q ≡ ((freed_cell s p).cell q == 0)
+  cell_freed : ((q : ℕ) → is_noted_free new q ≡ ((q == p) || is_noted_free ledger q)) → (q : ℕ) → q < CELLS * s.mutators → is_noted_free new q ≡ ((with_free_cell s p).cell q == 0)
   cell_freed gives q lt = gives q ∙ put_both (λ c. ((q == p) || is_noted_free ledger q) ≡ (c == 0)) s.cell p 0 q
       (λ e. rw (eq-eqb q p e) refl)
       (λ ne. rw (ne_eqb q p ne) (notes.cell q lt))
 
   -- the object was far
-  pub notes_far : (len ds : ℕ) (m : Marks) → read_of (s.cell p) ≡ Some (Far len ds m) → Frees ledger new p → Notes (freed_cell s p) new
+  pub notes_far : (len ds : ℕ) (m : Marks) → read_of (s.cell p) ≡ Some (Far len ds m) → Frees ledger new p → Notes (with_free_cell s p) new
   notes_far len ds m e frees =
       let filled : new.filled ≡ ledger.filled = ap (λ (l : Ledger). l.filled) frees.rest in
       let order : new.order ≡ ledger.order = ap (λ (l : Ledger). l.order) frees.rest in
@@ -178,7 +183,7 @@ module _ (s : State) (ledger new : Ledger) (notes : Notes s ledger) (p : ℕ) (i
       }
 
   -- the object was near
-  pub notes_near : (mid : Ledger) (len ds : ℕ) (place : Place) (m : Marks) → read_of (s.cell p) ≡ Some (Near len ds place m) → Loses ledger mid place.log (size_of len) → Frees mid new p → Notes (freed_cell s p) new
+  pub notes_near : (mid : Ledger) (len ds : ℕ) (place : Place) (m : Marks) → read_of (s.cell p) ≡ Some (Near len ds place m) → Loses ledger mid place.log (size_of len) → Frees mid new p → Notes (with_free_cell s p) new
   notes_near mid len ds place m e loses frees =
       let here = retires.live_here s notes.law p len ds place m e in
       let there = retires.live_there s notes.law p len ds place m e in
@@ -195,8 +200,8 @@ module _ (s : State) (ledger new : Ledger) (notes : Notes s ledger) (p : ℕ) (i
         ];
         lives = λ l lt. elim (cases_eq l place.log) [
           | inl same ↦ (let mine : (filled_of ledger place.log).live ≡ live_bytes s place.log = subst (λ k. (filled_of ledger k).live ≡ live_bytes s k) same (notes.lives l lt) in
-              let less : (filled_of mid place.log).live ≡ live_bytes (freed_cell s p) place.log = omega (arith, loses.here, here, mine) in
-              ap (λ (f : Filled). f.live) (filled l) ∙ subst (λ k. (filled_of mid k).live ≡ live_bytes (freed_cell s p) k) (sym same) less)
+              let less : (filled_of mid place.log).live ≡ live_bytes (with_free_cell s p) place.log = omega (arith, loses.here, here, mine) in
+              ap (λ (f : Filled). f.live) (filled l) ∙ subst (λ k. (filled_of mid k).live ≡ live_bytes (with_free_cell s p) k) (sym same) less)
           | inr ne ↦ ap (λ (f : Filled). f.live) (filled l ∙ loses.there l ne) ∙ notes.lives l lt ∙ sym (there l ne)
         ];
         sealed = λ l. ap (λ (n : Ledger). list_any (eqb l) n.order.items) rest ∙ notes.sealed l;

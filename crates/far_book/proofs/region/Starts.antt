@@ -23,7 +23,7 @@ use Rattle.far_book.specs.declared.number_set.NumberSet.{NumberSet}
 use Rattle.far_book.specs.book.Ledger.{Notes}
 use Rattle.far_book.specs.book.NumberSet.{has}
 use Rattle.far_book.specs.book.Own.{own_part}
-use Rattle.far_book.proofs.book.Owns.{own_law}
+use Rattle.far_book.proofs.region.Owns.{own_law}
 
 -- the parts of a ledger as they are made
 pub record Made (shape : Shape) (ledger : Ledger) : Type 0 where

@@ -24,12 +24,8 @@ use Rattle.far_core.proofs.Cells.{unused}
 use Rattle.far_core.proofs.Observations.{walks, one_live}
 use Rattle.far_core.proofs.Owing.{keeps}
 use Rattle.far_core.proofs.Put.{put_both, put_same, put_other}
-use Rattle.far_book.specs.book.Effects.{retired}
-use Rattle.far_book.proofs.book.SpanLists.{taken_same, taken_without}
-
--- the state with a cell free
-abbrev pub freed_cell : State → ℕ → State
-freed_cell s p = record s { cell = put s.cell p 0 }
+use Rattle.far_book.specs.book.Effects.{retired, with_free_cell}
+use Rattle.far_book.proofs.region.SpanLists.{taken_same, taken_without}
 
 retires_form : (o : Option PtrWord) → is_dropped o ≡ true → naming_of o (Some Free) ≡ Some naming.Retires
 retires_form None d = absurd (false≢true d)
@@ -38,10 +34,10 @@ retires_form (Some (Near len ds place m)) d = rw d refl
 retires_form (Some (Far len ds m)) d = rw d refl
 
 -- a dropped cell that is named 0 is free, and nothing else changes
-pub freed_is : (s : State) (p old : ℕ) → s.cell p ≡ old → is_dropped (read_of old) ≡ true → after s (events.Name p old 0) ≡ freed_cell s p
+pub freed_is : (s : State) (p old : ℕ) → s.cell p ≡ old → is_dropped (read_of old) ≡ true → after s (events.Name p old 0) ≡ with_free_cell s p
 freed_is s p old is dropped = rw (eq-eqb (s.cell p) old is, unused, retires_form (read_of old) dropped) refl
 
-pub retired_is : (s : State) (p : ℕ) → is_dropped (read_of (s.cell p)) ≡ true → retired s p ≡ freed_cell s p
+pub retired_is : (s : State) (p : ℕ) → is_dropped (read_of (s.cell p)) ≡ true → retired s p ≡ with_free_cell s p
 retired_is s p dropped = freed_is s p (s.cell p) refl dropped
 
 pub may_retire : (s : State) (p old : ℕ) → p < CELLS * s.mutators → is_dropped (read_of old) ≡ true → Legal s (events.Name p old 0)
@@ -49,7 +45,7 @@ may_retire s p old cell dropped = (cell, (naming.Retires, (dropped, unused), tt)
 
 module _ (s : State) (law : Law s) (p : ℕ) where
   abbrev then : State
-  then = freed_cell s p
+  then = with_free_cell s p
 
   pub law_freed : p < CELLS * s.mutators → is_dropped (read_of (s.cell p)) ≡ true → Law then
   law_freed cell dropped = subst Law (retired_is s p dropped)
@@ -71,14 +67,13 @@ module _ (s : State) (law : Law s) (p : ℕ) where
   live_far len ds m e l = same_bytes l (λ x h. rw e refl)
 
 module _ (s : State) (law : Law s) (p len ds : ℕ) (place : Place) (m : Marks) (e : read_of (s.cell p) ≡ Some (Near len ds place m)) where
-  pub live_there : (l : ℕ) → l ≢ place.log → live_bytes (freed_cell s p) l ≡ live_bytes s l
+  pub live_there : (l : ℕ) → l ≢ place.log → live_bytes (with_free_cell s p) l ≡ live_bytes s l
   live_there l ne = same_bytes s law p l (λ x h. rw (e, ne_eqb place.log l (λ is. ne (sym is))) refl)
 
-  pub live_here : live_bytes (freed_cell s p) place.log + bytes_taken len ≡ live_bytes s place.log
+  pub live_here : live_bytes (with_free_cell s p) place.log + bytes_taken len ≡ live_bytes s place.log
   live_here =
       let one = one_live s law p len ds place m e in
-      let dead : is_live (freed_cell s p) place.log (span_for p len ds place.at) ≡ false = rw (put_same s.cell p 0 p refl, unused) refl in
-      ap (λ n. n + bytes_taken len) (ap (taken_by (is_live (freed_cell s p) place.log)) (spans_freed s law p place.log))
-      ∙ taken_without (is_live s place.log) (is_live (freed_cell s p) place.log) (spans_of s place.log) 0 (s.tail place.log) (span_for p len ds place.at) (walks s law place.log).tile one.placed one.live dead
+      let dead : is_live (with_free_cell s p) place.log (span_for p len ds place.at) ≡ false = rw (put_same s.cell p 0 p refl, unused) refl in
+      ap (λ n. n + bytes_taken len) (ap (taken_by (is_live (with_free_cell s p) place.log)) (spans_freed s law p place.log))
+      ∙ taken_without (is_live s place.log) (is_live (with_free_cell s p) place.log) (spans_of s place.log) 0 (s.tail place.log) (span_for p len ds place.at) (walks s law place.log).tile one.placed one.live dead
       (λ x h ne. as_live s law p place.log x (rw (e, eq-eqb place.log place.log refl) (ne_eqb place.at x.at (λ is. ne (sym is)))))
-
