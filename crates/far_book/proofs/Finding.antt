@@ -1,5 +1,5 @@
 -- What the word found in a cell shares with the word that was known.
-use Rattle.std.proofs.Common.{◌≡◌, ℕ, Bool, true, false, Option, Some, None, refl, sym, ap, ◌∙◌}
+use Rattle.std.proofs.Common.{◌≡◌, ℕ, Bool, true, false, Option, Some, None, refl, sym, ap, ◌∙◌, subst}
 use Rattle.std.proofs.lemmas.Bool.{false≢true}
 use Rattle.far_word.specs.declared.mark.Mark.{Mark}
 use Rattle.far_word.specs.declared.mark.Mark.TheVariants.{Hot, Evac, Moved, Dropped}
@@ -94,3 +94,7 @@ module _ (v w : ℕ) (f : Finds v w) (len ds : ℕ) (place : Place) (m : Marks) 
 
   pub near_known : read_of w ≡ Some (Near len ds place m) → IsNearTo (read_of v) len ds place m.evac
   near_known e = near_from (read_of v) len ds place (record { hot = false; evac = m.evac; moved = false; dropped = false }) (sym f.body ∙ ap body_of e)
+
+-- what a cell has may be found in it
+pub finds_seen : (found cell : ℕ → ℕ) (p w : ℕ) → ((q : ℕ) → Finds (found q) (cell q)) → cell p ≡ w → Finds (found p) w
+finds_seen found cell p w finds e = subst (Finds (found p)) e (finds p)

@@ -109,3 +109,6 @@ change s (Get l at free) law own legal = absurd (false≢true own)
 pub step_changes : (s : State) (e : Event) → Law s → is_owners e ≡ true → OwnersChange s (step_of s e).0
 step_changes s e law own = cond_both (is_legal s e) (after s e, answer s e) (s, Refused) (λ (x : State × Reply). OwnersChange s x.0)
     (λ h. change s e law own (is_fact s e law h)) (λ _. stays s s refl refl refl)
+
+pub made_changes : (s t : State) (e : Event) (r : Reply) → Law s → is_owners e ≡ true → (t, r) ≡ step_of s e → OwnersChange s t
+made_changes s t e r law own is = subst (λ (x : State × Reply). OwnersChange s x.0) (sym is) (step_changes s e law own)

@@ -4,8 +4,11 @@ pub mod Leaving
 pub mod NotesKept
 pub mod Notings
 pub mod NumberSets
+pub mod Owned
 pub mod Owns
 pub mod Places
+pub mod Reaching
+pub mod Readings
 pub mod Retires
 pub mod SpanLists
 pub mod Starts

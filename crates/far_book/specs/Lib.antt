@@ -1,3 +1,4 @@
+pub mod BesetView
 pub mod Finds
 pub mod Known
 pub mod Masked

@@ -1,11 +1,11 @@
 -- What is known of a state by a hand beside which owners are at work.
-use Rattle.std.specs.Prelude.{◌≡◌, ◌+◌, ◌<◌, ◌||◌, ℕ, Bool, false, cond, Option, Some, None}
+use Rattle.std.specs.Prelude.{◌≡◌, ◌+◌, ◌<◌, ◌||◌, ℕ, Bool, true, false, cond, Option, Some, None, List, slice_index, slice_index_or}
 use Rattle.far_word.specs.declared.mark.Marks.{Marks}
 use Rattle.far_word.specs.declared.pointer.Place.{Place}
 use Rattle.far_word.specs.declared.pointer.PtrWord.TheVariants.{Near}
 use Rattle.far_word.specs.Pointer.{read_of}
 use Rattle.far_word.specs.Sizes.{words_for}
-use Rattle.far_core.specs.state.State.{State, addr}
+use Rattle.far_core.specs.state.State.{State, addr, put}
 use Rattle.far_book.specs.Finds.{Finds}
 use Rattle.far_book.specs.Known.{unknown}
 use Rattle.far_book.specs.Quiet.{is_quiet}
@@ -31,6 +31,19 @@ abbrev pub AllFind : (ℕ → ℕ) → (ℕ → ℕ) → Type 0
 AllFind found cell = (p : ℕ) → Finds (found p) (cell p)
 
 -- no word is counted on that its owner may store into: a data word of a near object that wasn't found quiet
-abbrev pub CountsOnQuiet : State → (ℕ → ℕ) → (ℕ → Bool) → Type 0
-CountsOnQuiet s found counted = (p len ds i : ℕ) (place : Place) (marks : Marks) → read_of (found p) ≡ Some (Near len ds place marks) →
-    is_quiet s.round s.clear p place marks ≡ false → i < words_for len → counted (addr place + 1 + i) ≡ false
+abbrev pub CountsOnQuiet : (ℕ → Bool) → (ℕ → Bool) → (ℕ → ℕ) → (ℕ → Bool) → Type 0
+CountsOnQuiet round clear found counted = (p len ds i : ℕ) (place : Place) (marks : Marks) → read_of (found p) ≡ Some (Near len ds place marks) →
+    is_quiet round clear p place marks ≡ false → i < words_for len → counted (addr place + 1 + i) ≡ false
+
+-- what stands at a place of a hand's lists
+abbrev pub word_at : List ℕ → ℕ → ℕ
+word_at found p = slice_index found p
+
+abbrev pub is_counted : List Bool → ℕ → Bool
+is_counted counted a = slice_index_or counted a false
+
+-- what is counted on after a read: nothing, where the log was given back; the word too, where its object is quiet
+abbrev pub recounted : (ℕ → Bool) → Bool → Bool → ℕ → ℕ → Bool
+recounted counted true quiet a = λ _. false
+recounted counted false true a = put counted a true
+recounted counted false false a = counted

@@ -1,8 +1,9 @@
 -- When the bytes of an object stay: its owner has asked for it to be moved, or can't reach it while the round lasts.
-use Rattle.std.specs.Prelude.{◌≡◌, ◌+◌, ◌*◌, ◌/◌, ◌<◌, ◌&&◌, ◌||◌, ℕ, Bool, true, Some}
+use Rattle.std.specs.Prelude.{◌≡◌, ◌+◌, ◌*◌, ◌/◌, ◌<◌, ◌&&◌, ◌||◌, ◌==◌, nat_lt, nat_le, ℕ, Bool, true, false, Option, Some, None}
 use Rattle.far_word.specs.declared.mark.Marks.{Marks}
 use Rattle.far_word.specs.declared.pointer.Place.{Place}
-use Rattle.far_word.specs.declared.pointer.PtrWord.TheVariants.{Near}
+use Rattle.far_word.specs.declared.pointer.PtrWord.{PtrWord}
+use Rattle.far_word.specs.declared.pointer.PtrWord.TheVariants.{Free, Near, Far}
 use Rattle.far_word.specs.declared.sizes.TheConstants.{CELLS}
 use Rattle.far_word.specs.Pointer.{read_of}
 use Rattle.far_word.specs.Sizes.{words_for}
@@ -11,6 +12,13 @@ use Rattle.far_core.specs.state.State.{State, addr}
 -- a near object is quiet: it has MOVE; or it has EVAC, its log is in the round, and its owner was seen clear in it
 abbrev pub is_quiet : (ℕ → Bool) → (ℕ → Bool) → ℕ → Place → Marks → Bool
 is_quiet round clear p place marks = marks.moved || (marks.evac && round place.log && clear (p / CELLS))
+
+-- a word of a log is a data word of the object that a cell names, and the cell has MOVE
+abbrev pub is_moved_word : Option PtrWord → ℕ → ℕ → Bool
+is_moved_word None l at = false
+is_moved_word (Some Free) l at = false
+is_moved_word (Some (Near len ds place marks)) l at = marks.moved && (place.log == l) && nat_lt place.at at && nat_le at (place.at + words_for len)
+is_moved_word (Some (Far len ds marks)) l at = false
 
 -- the word at an address is a data word of a near object that the state shows to be quiet
 pub record IsQuietAt (s : State) (a : ℕ) : Type 0 where

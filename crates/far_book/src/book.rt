@@ -1,31 +1,44 @@
 //! The book: where each object lies, and what each log has.
 
-ghost use Rattle.std.specs.Prelude.{◌≡◌, ◌≢◌, ◌+◌, ◌*◌, ◌<◌, ◌≤◌, ◌↔◌, ℕ, true, List, [], map, Some, None, IfOk, IfErr};
+ghost use Rattle.std.specs.Prelude.{◌≡◌, ◌≢◌, ◌+◌, ◌*◌, ◌<◌, ◌≤◌, ◌↔◌, ℕ, true, false, eqb, List, [], map, length, slice_index, Some, None, IfOk, IfErr};
+ghost use Rattle.std.specs.List.{IsDistinct, list_any};
 ghost use Rattle.far_word.specs.declared.pointer.PtrWord.TheVariants.{Near as near_at};
 ghost use Rattle.far_word.specs.declared.refused.Refused.TheVariants.{Memory, NoRoom};
 ghost use Rattle.far_word.specs.declared.sizes.TheConstants.{CELLS, LONGEST, LOG_WORDS};
 ghost use Rattle.far_word.specs.Header.{IsHead};
 ghost use Rattle.far_word.specs.Pointer.{IsPtr, read_of, word_of};
 ghost use Rattle.far_word.specs.Sizes.{size_of};
+ghost use Rattle.far_log.specs.declared.span.Span.{Span as SpanOf};
+ghost use Rattle.far_log.specs.Walk.{IsWalk};
+ghost use Rattle.far_core.specs.declared.event.Kind.TheVariants.{Sealed};
 ghost use Rattle.far_core.specs.events.Legal.{IsNext};
 ghost use Rattle.far_core.specs.events.Naming.{no_marks, is_dropped};
+ghost use Rattle.far_core.specs.events.Step.{step_of};
+ghost use Rattle.far_core.specs.state.CoreState.{core_state};
 ghost use Rattle.far_core.specs.state.Law.{Law};
 ghost use Rattle.far_core.specs.state.Room.{room};
+ghost use Rattle.far_core.specs.state.Spans.{spans_of};
 ghost use Rattle.far_core.specs.state.State.{State, put};
+ghost use Rattle.far_core.specs.world.Happens.{Happens};
+ghost use Rattle.far_core.specs.world.WorldOf.{world_of};
 ghost use Rattle.far_book.specs.Finds.{Finds, body_of};
 ghost use Rattle.far_book.specs.Known.{Forgets};
 ghost use Rattle.far_book.specs.book.Effects.{with_blank_span, placed, retired, order_after};
 ghost use Rattle.far_book.specs.book.Home.{home_of};
 ghost use Rattle.far_book.specs.book.Ledger.{IsLowestFree};
 ghost use Rattle.far_book.specs.book.Own.{own_part, IsAtStart};
+ghost use Rattle.far_book.specs.Owners.{is_owners};
+ghost use Rattle.far_book.specs.book.Reading.{HeadersKnown, IsReadAt};
 ghost use Rattle.far_book.specs.book.Rows.{row_of};
 
 use crate::home::Home;
 use crate::ledger::Ledger;
 use crate::near::Near;
-use far_core::Kind;
-use far_log::LogRow;
-use far_word::{HeadWord, Marks, Place, PtrWord, Refused, size_of, words_for};
+use crate::owners::is_owners;
+use crate::plain::Plain;
+use far_core::{Event, Kind, Reply};
+use far_log::{LogRow, Span, WalkFault, walk};
+use far_word::{HeadWord, LOG_WORDS, Marks, Place, PtrWord, Refused, size_of, words_for};
 use std::alloc::Global;
 use std::marker::Model;
 
@@ -153,6 +166,46 @@ impl<N: Near + Drop> Book<N> {
         }
         Ok(rows)
     }
+
+    /// The spans of a log, dead ones too, in their order. Refused [`Refused::Memory`] alone.
+    pub fn spans(&mut self, log: u8) -> Result<Vec<Span>, Refused>
+        requires log { log < (N.view self.old.near).logs }
+        ensures spans { IfOk result (λ spans. spans.items ≡ spans_of (N.view self.old.near) log) }
+        ensures refused { IfErr result (λ why. why ≡ Memory) }
+        ensures kept { N.view self.new.near ≡ record (N.view self.old.near) { word = (N.view self.new.near).word } }
+        ensures headers { (a : ℕ) → (N.view self.old.near).starts a ≡ true → (N.view self.new.near).word a ≡ (N.view self.old.near).word a }
+        ensures exact { N.still → N.view self.new.near ≡ N.view self.old.near }
+        ensures order { self.new.order ≡ self.old.order }
+    {
+        let tail = self.ledger.tail(log);
+        let words = read_words(&mut self.near, log, tail);
+        listed(self.alloc, &words, tail)
+    }
+
+    /// What the book knows keeps its part of the law of the core, and its order names each sealed log, once.
+    pub fn keeps_law(&self)
+        ensures law { Law (own_part (N.view self.now.near)) }
+        ensures sealed { (l : ℕ) → (list_any (eqb l) self.now.order ≡ true) ↔ ((N.view self.now.near).kind l ≡ Sealed) }
+        ensures once { IsDistinct eqb self.now.order }
+    {
+        let _ledger = &self.ledger;
+    }
+}
+
+impl Book<Plain> {
+    /// Makes an owner's event. Any other is answered [`Reply::Refused`], and nothing has changed.
+    pub fn owner(&mut self, event: Event) -> Reply
+        ensures made { is_owners event ≡ true → (core_state self.new.near.core, result) ≡ step_of (core_state self.old.near.core) event }
+        ensures refused { is_owners event ≡ false → (result ≡ Reply.Refused) × (self.new.near ≡ self.old.near) }
+        ensures world { Happens (world_of (core_state self.old.near.core)) event result (world_of (core_state self.new.near.core)) }
+        ensures order { self.new.order ≡ self.old.order }
+    {
+        if is_owners(event) {
+            self.near.core.step(event)
+        } else {
+            Reply::Refused
+        }
+    }
 }
 
 // Where the object of a cell is.
@@ -247,4 +300,37 @@ fn says(word: u64) -> PtrWord
         unreachable!()
     };
     says
+}
+
+// The first `tail` words of a log, each as it was when it was read.
+fn read_words<N: Near>(near: &mut N, log: u8, tail: u16) -> [u64; LOG_WORDS as usize]
+    requires log { log < (N.view near.old).logs }
+    requires tail { tail ≤ LOG_WORDS }
+    requires known { HeadersKnown (N.view near.old) }
+    ensures words { (i : ℕ) → i < tail → IsReadAt (N.view near.old) (log * LOG_WORDS + i) (slice_index result i) }
+    ensures length { length result ≡ LOG_WORDS }
+    ensures kept { N.view near.new ≡ record (N.view near.old) { word = (N.view near.new).word } }
+    ensures headers { (a : ℕ) → (N.view near.old).starts a ≡ true → (N.view near.new).word a ≡ (N.view near.old).word a }
+    ensures exact { N.still → N.view near.new ≡ N.view near.old }
+{
+    let mut words = [0; LOG_WORDS as usize];
+    for i in 0..tail {
+        words[i as usize] = near.get(log, i, false);
+    }
+    words
+}
+
+// The spans of words that have a list of them.
+fn listed(alloc: Global, words: &[u64], tail: u16) -> Result<Vec<Span>, Refused>
+    requires within { tail ≤ length words.now }
+    requires log { length words.now ≤ LOG_WORDS }
+    requires walks { (spans : List SpanOf) × IsWalk (λ i. slice_index words.now i) tail spans }
+    ensures spans { (spans : List SpanOf) → IsWalk (λ i. slice_index words.now i) tail spans → IfOk result (λ found. found.items ≡ spans) }
+    ensures refused { IfErr result (λ why. why ≡ Memory) }
+{
+    match walk(alloc, words, tail as usize) {
+        Ok(spans) => Ok(spans),
+        Err(WalkFault::Memory) => Err(Refused::Memory),
+        Err(WalkFault::Bad(_)) => unreachable!(),
+    }
 }

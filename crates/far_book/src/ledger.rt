@@ -88,6 +88,15 @@ impl Ledger {
         }
     }
 
+    /// Where the spans of a log end, in words.
+    pub(crate) fn tail(&self, log: u8) -> u16
+        requires known { (s : State) × KnowsLog s self.now log }
+        ensures is { (s : State) → KnowsLog s self.now log → result ≡ s.tail log }
+        ensures short { result ≤ LOG_WORDS }
+    {
+        self.filled_of(log).tail
+    }
+
     /// What a log is.
     pub(crate) fn kind(&self, log: u8) -> Kind
         requires known { (s : State) × KnowsLog s self.now log }

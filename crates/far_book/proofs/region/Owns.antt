@@ -106,13 +106,16 @@ pub own_dead : (s : State) → Law (own_part s) → (l : ℕ) → dead_bytes s l
 own_dead s law l = ap (taken_by (λ x. not (is_live s l x))) (own_spans s law l)
 
 -- ---- what changes it
+-- words that are no headers
+pub own_headers : (s t : State) → t ≡ record s { word = t.word } → ((a : ℕ) → s.starts a ≡ true → t.word a ≡ s.word a) → own_part t ≡ own_part s
+own_headers s t is same =
+    let words : (λ a. cond (s.starts a) (t.word a) 0) ≡ (λ a. cond (s.starts a) (s.word a) 0) = fun_ext (λ a. cond_both (s.starts a) (t.word a) 0 (λ w. w ≡ cond (s.starts a) (s.word a) 0)
+    (λ begun. same a begun ∙ sym (ap (λ b. cond b (s.word a) 0) begun)) (λ none. sym (ap (λ b. cond b (s.word a) 0) none))) in
+    ap own_part is ∙ (λ i. record (own_part s) { word = words i })
+
 -- words that were forgotten
 pub own_forgets : (s t : State) → t ≡ record s { word = t.word } → Forgets s t → own_part t ≡ own_part s
-own_forgets s t is h =
-    let starts : (a : ℕ) → t.starts a ≡ s.starts a = (λ a. ap (λ (u : State). u.starts a) is) in
-    let words : (λ a. cond (s.starts a) (t.word a) 0) ≡ (λ a. cond (s.starts a) (s.word a) 0) = fun_ext (λ a. cond_both (s.starts a) (t.word a) 0 (λ w. w ≡ cond (s.starts a) (s.word a) 0)
-    (λ begun. h.headers a (starts a ∙ begun) ∙ sym (ap (λ b. cond b (s.word a) 0) begun)) (λ not_begun. sym (ap (λ b. cond b (s.word a) 0) not_begun))) in
-    ap own_part is ∙ (λ i. record (own_part s) { word = words i })
+own_forgets s t is h = own_headers s t is (λ a begun. h.headers a (ap (λ (u : State). u.starts a) is ∙ begun))
 
 -- a new object
 module _ (s : State) (law : Law (own_part s)) (p len ds : ℕ) (place : Place) (h : Placeable (own_part s) p len ds place) where
