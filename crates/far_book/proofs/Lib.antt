@@ -5,3 +5,4 @@ pub mod Naming
 pub mod OwnersWork
 pub mod Quietness
 pub mod Reading
+pub mod region

@@ -5,3 +5,4 @@ pub mod Masked
 pub mod Owners
 pub mod Quiet
 pub mod ShapeOf
+pub mod book

@@ -4,12 +4,20 @@
 #![tactic(auto)]
 
 mod beset;
+mod book;
+mod home;
+mod laws;
+mod ledger;
 mod near;
+mod number_set;
 mod owners;
 mod plain;
 #[cfg(test)]
 mod tests;
 
 pub use beset::Beset;
+pub use book::Book;
+pub use home::Home;
+pub use laws::{placing_is_legal, retiring_is_legal};
 pub use near::Near;
 pub use plain::Plain;

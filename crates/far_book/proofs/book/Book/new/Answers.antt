@@ -1,0 +1,12 @@
+use Rattle.far_book.proofs.book.Book.new.Goals as goal
+use Rattle.std.proofs.Common.{◌≡◌, subst, ap, sym, ◌∙◌}
+use Rattle.std.specs.Prelude.{false}
+use Rattle.far_core.specs.state.Opening.{opening}
+use Rattle.far_core.specs.state.State.{State}
+use Rattle.far_book.specs.book.Ledger.{Notes}
+use Rattle.far_book.specs.book.Own.{own_part}
+
+pub invariant_of-result : goal.invariant_of-result
+invariant_of-result g c =
+    let start : own_part (g.N.Near.view c.args.near) ≡ own_part (opening c.shape-shape.result false) = c.requires.start ∙ ap (λ shape. own_part (opening shape false)) (sym c.shape-shape.ensures.is) in
+    subst (λ s. Notes s c.in-Ok.ledger) (sym start) c.in-Ok.ensures.notes

@@ -1,0 +1,22 @@
+use Rattle.far_book.proofs.book.Book.retire.Goals as goal
+use Rattle.std.proofs.Common.{◌≡◌, ◌<◌, ◌*◌, ap, sym, subst, true}
+use Rattle.far_word.specs.declared.sizes.TheConstants.{CELLS}
+use Rattle.far_word.specs.Pointer.{read_of}
+use Rattle.far_core.specs.events.Naming.{is_dropped}
+use Rattle.far_core.specs.state.State.{State}
+use Rattle.far_book.specs.book.BookOf.{BookOf}
+use Rattle.far_book.specs.book.Ledger.{Notes, MayRetire}
+use Rattle.far_book.specs.book.Own.{own_part}
+use Rattle.far_book.proofs.region.Owns.{own_retired}
+
+pub invariant_of-self : goal.invariant_of-self
+invariant_of-self g c =
+    let same = ap (λ (b : BookOf g.row.N.Denot). g.N.Near.view b.near) c.self.view_is in
+    let dropped : is_dropped (read_of ((g.N.Near.view c.self.inside.near).cell c.args.pointer)) ≡ true = subst (λ (s : State). is_dropped (read_of (s.cell c.args.pointer)) ≡ true) (sym same) c.requires.dropped in
+    let may : MayRetire (own_part (g.N.Near.view c.self.inside.near)) c.args.pointer c.free_cell-was.result = record {
+      pointer = subst (λ (s : State). c.args.pointer < CELLS * s.mutators) (sym same) c.requires.pointer;
+      dropped = dropped;
+      is = c.free_cell-was.ensures.was;
+    } in
+    let own = own_retired (g.N.Near.view c.self.inside.near) (g.N.Near.view c.free_cell-was.new.near) c.args.pointer dropped c.free_cell-was.ensures.kept c.free_cell-was.ensures.forgot in
+    subst (λ (s : State). Notes s c.retire.new.self) (sym own) (c.retire.ensures.notes (own_part (g.N.Near.view c.self.inside.near)) c.self.invariant may)

@@ -1,0 +1,18 @@
+use Rattle.far_book.proofs.book.name_blank.Goals as goal
+use Rattle.std.proofs.Common.{◌≡◌, ◌∙◌, ap, sym, subst, arith, refl, ℕ}
+use Rattle.far_core.specs.declared.event.Event.TheVariants as events
+use Rattle.far_core.specs.events.Legal.{Legal}
+use Rattle.far_core.specs.state.State.{State}
+use Rattle.far_book.specs.book.Effects.{near_word, with_blank_span}
+use Rattle.far_book.proofs.region.Calls.{may_name}
+use Rattle.far_book.proofs.region.Founds.{free_found}
+
+pub name-requires-clause-legal : goal.name-requires-clause-legal
+name-requires-clause-legal g c =
+    let pack : c.pack.result ≡ near_word c.args.len c.args.ds c.args.place = c.pack.ensures in
+    subst (λ (s : State). Legal s (events.Name c.args.pointer 0 c.pack.result)) (sym c.put_blank.ensures)
+    (subst (λ (x : ℕ). Legal (with_blank_span (g.N.Near.view c.args.near.now) c.args.pointer c.args.len c.args.ds c.args.place) (events.Name c.args.pointer 0 x)) (sym pack)
+    (may_name (g.N.Near.view c.args.near.now) c.args.pointer c.args.len c.args.ds c.args.place c.requires.pointer c.requires.layout c.requires.next))
+
+pub unreachable-requires : goal.unreachable-requires
+unreachable-requires g c = c.in_default.ensures.other (free_found 0 c.in_default.field-0 c.in_default.ensures.found refl)

@@ -1,0 +1,19 @@
+use Rattle.far_book.proofs.ledger.Ledger.new.Goals as goal
+use Rattle.std.proofs.Common.{◌≤◌, ◌<◌, ℕ, arith, ap, ◌∙◌, sym, refl}
+use Rattle.std.specs.Prelude.{not, ◌&&◌, ◌==◌}
+use Rattle.std.proofs.lemmas.Bool.{lt-ltb}
+use Rattle.far_book.proofs.region.Starts.{starts}
+
+pub returns-clause-notes : goal.returns-clause-notes
+returns-clause-notes c = starts c.args.shape c.requires _ record {
+  current = refl;
+  free = λ l few. c.remove.ensures l few ∙ ap (λ b. not (l == 0) && b) (c.below-free_logs.ensures l few);
+  filled = c.in_ok-vec.ensures.items_if_clones_equal (λ y e. e);
+  logs = c.in_ok-vec.ensures.len;
+  order = c.in_ok-with_capacity.ensures.items;
+  room = c.in_ok-with_capacity.ensures.capacity;
+  all = c.below.result;
+  every = λ k few. c.below.ensures k few ∙ lt-ltb k 64 few;
+  sets = c.in_ok-vec-2.ensures.items_if_clones_equal (λ y e. e);
+  cells = c.in_ok-vec-2.ensures.len;
+}

@@ -1,0 +1,15 @@
+pub mod Calls
+pub mod Founds
+pub mod Leaving
+pub mod NotesKept
+pub mod Notings
+pub mod NumberSets
+pub mod Owned
+pub mod Owns
+pub mod Places
+pub mod Reaching
+pub mod Readings
+pub mod Retires
+pub mod SpanLists
+pub mod Starts
+pub mod Written

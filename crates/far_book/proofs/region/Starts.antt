@@ -1,0 +1,81 @@
+-- The ledger of a heap at the start is right.
+use Rattle.std.proofs.Common.{inl, inr, ◌≡◌, ℕ, ◌+◌, ◌*◌, ◌/◌, ◌%◌, ◌<◌, ◌≤◌, Bool, true, false, arith, sym, refl, ap, subst, ◌∙◌, List, [], Some, nat_lt}
+use Rattle.std.specs.Prelude.{◌&&◌, ◌==◌, not, replicate, slice_index_or, eqb}
+use Rattle.std.specs.List.{list_any, IsDistinct}
+use Rattle.std.specs.Vec.{vec_len, vec_capacity}
+use Rattle.std.proofs.lemmas.Bool.{lt-ltb, cases_eq, eq-eqb, ne_eqb}
+use Rattle.std.proofs.lemmas.List.{get_or-replicate}
+use Rattle.far_word.specs.declared.sizes.TheConstants.{CELLS, LOG_WORDS}
+use Rattle.far_log.specs.Spans.{spans_in}
+use Rattle.far_core.specs.declared.event.Kind.TheVariants.{Free, Open}
+use Rattle.far_core.specs.declared.shape.Shape.{Shape}
+use Rattle.far_core.specs.events.Mark.{is_sealed}
+use Rattle.far_core.specs.laws.Observed.{live_bytes}
+use Rattle.far_core.specs.state.Opening.{opening}
+use Rattle.far_core.specs.state.Room.{is_free}
+use Rattle.far_core.specs.state.Shape.{is_shape}
+use Rattle.far_core.specs.state.Spans.{spans_of}
+use Rattle.far_core.proofs.Begins.{begins, row_of}
+use Rattle.far_core.proofs.Put.{put_both}
+use Rattle.far_book.specs.declared.ledger.Filled.{Filled}
+use Rattle.far_book.specs.declared.ledger.Ledger.{Ledger}
+use Rattle.far_book.specs.declared.number_set.NumberSet.{NumberSet}
+use Rattle.far_book.specs.book.Ledger.{Notes}
+use Rattle.far_book.specs.book.NumberSet.{has}
+use Rattle.far_book.specs.book.Own.{own_part}
+use Rattle.far_book.proofs.region.Owns.{own_law}
+
+-- the parts of a ledger as they are made
+pub record Made (shape : Shape) (ledger : Ledger) : Type 0 where
+  pub current : ledger.current ≡ 0
+  pub free : (l : ℕ) → l < 64 → has ledger.free_logs l ≡ (not (l == 0) && nat_lt l shape.logs)
+  pub filled : ledger.filled.items ≡ replicate shape.logs record { tail = 0; live = 0 }
+  pub logs : vec_len ledger.filled ≡ shape.logs
+  pub order : ledger.order.items ≡ []
+  pub room : shape.logs ≤ vec_capacity ledger.order
+  pub all : NumberSet
+  pub every : (k : ℕ) → k < 64 → has all k ≡ true
+  pub sets : ledger.free_cells.items ≡ replicate (2 * shape.mutators) all
+  pub cells : vec_len ledger.free_cells ≡ 2 * shape.mutators
+
+none_distinct : IsDistinct eqb []
+unfolding IsDistinct
+none_distinct = tt
+
+and_false : (b : Bool) → (b && false) ≡ false
+and_false true = refl
+and_false false = refl
+
+and_true : (b : Bool) → (b && true) ≡ b
+and_true true = refl
+and_true false = refl
+
+module _ (shape : Shape) (fits : is_shape shape ≡ true) (ledger : Ledger) (made : Made shape ledger) where
+  no_live : (l : ℕ) → live_bytes (own_part (opening shape false)) l ≡ 0
+  unfolding spans_of spans_in
+  no_live l = refl
+
+  free_at : (l : ℕ) → (not (l == 0) && nat_lt l shape.logs) ≡ (nat_lt l shape.logs && is_free ((opening shape false).kind l))
+  free_at l = elim (cases_eq l 0) [
+    | inl e ↦ rw (eq-eqb l 0 e) (sym (and_false (nat_lt l shape.logs)))
+    | inr ne ↦ rw (ne_eqb l 0 ne) (sym (and_true (nat_lt l shape.logs)))
+  ]
+
+  sealed_at : (l : ℕ) → false ≡ is_sealed ((opening shape false).kind l)
+  sealed_at l = put_both (λ k. false ≡ is_sealed k) (λ _. Free) 0 Open l (λ _. refl) (λ _. refl)
+
+  pub starts : Notes (own_part (opening shape false)) ledger
+  starts = record {
+    law = own_law (opening shape false) (begins shape false fits);
+    current = made.current;
+    free = λ l few. made.free l few ∙ free_at l;
+    logs = made.logs;
+    tails = λ l lt. ap (λ (f : Filled). f.tail) (row_of ledger.filled.items shape.logs record { tail = 0; live = 0 } made.filled l);
+    lives = λ l lt. ap (λ (f : Filled). f.live) (row_of ledger.filled.items shape.logs record { tail = 0; live = 0 } made.filled l) ∙ sym (no_live l);
+    sealed = λ l. ap (list_any (eqb l)) made.order ∙ sealed_at l;
+    once = subst (IsDistinct eqb) (sym made.order) none_distinct;
+    room = made.room;
+    cells = made.cells;
+    cell = λ p lt. ap (λ (set : NumberSet). has set (p % 64))
+        (ap (λ sets. slice_index_or sets (p / 64) record { word = 0 }) made.sets ∙ get_or-replicate (2 * shape.mutators) (p / 64) made.all record { word = 0 } (omega arith)) ∙ made.every (p % 64) (omega arith);
+  }

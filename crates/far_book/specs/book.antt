@@ -1,0 +1,11 @@
+pub mod BookOf
+pub mod Effects
+pub mod Home
+pub mod Laws
+pub mod Ledger
+pub mod NumberSet
+pub mod Own
+pub mod Placeable
+pub mod Reached
+pub mod Reading
+pub mod Rows

@@ -1,0 +1,336 @@
+//! The book: where each object lies, and what each log has.
+
+ghost use Rattle.std.specs.Prelude.{◌≡◌, ◌≢◌, ◌+◌, ◌*◌, ◌<◌, ◌≤◌, ◌↔◌, ℕ, true, false, eqb, List, [], map, length, slice_index, Some, None, IfOk, IfErr};
+ghost use Rattle.std.specs.List.{IsDistinct, list_any};
+ghost use Rattle.far_word.specs.declared.pointer.PtrWord.TheVariants.{Near as near_at};
+ghost use Rattle.far_word.specs.declared.refused.Refused.TheVariants.{Memory, NoRoom};
+ghost use Rattle.far_word.specs.declared.sizes.TheConstants.{CELLS, LONGEST, LOG_WORDS};
+ghost use Rattle.far_word.specs.Header.{IsHead};
+ghost use Rattle.far_word.specs.Pointer.{IsPtr, read_of, word_of};
+ghost use Rattle.far_word.specs.Sizes.{size_of};
+ghost use Rattle.far_log.specs.declared.span.Span.{Span as SpanOf};
+ghost use Rattle.far_log.specs.Walk.{IsWalk};
+ghost use Rattle.far_core.specs.declared.event.Kind.TheVariants.{Sealed};
+ghost use Rattle.far_core.specs.events.Legal.{IsNext};
+ghost use Rattle.far_core.specs.events.Naming.{no_marks, is_dropped};
+ghost use Rattle.far_core.specs.events.Step.{step_of};
+ghost use Rattle.far_core.specs.state.CoreState.{core_state};
+ghost use Rattle.far_core.specs.state.Law.{Law};
+ghost use Rattle.far_core.specs.state.Room.{room};
+ghost use Rattle.far_core.specs.state.Spans.{spans_of};
+ghost use Rattle.far_core.specs.state.State.{State, put};
+ghost use Rattle.far_core.specs.world.Happens.{Happens};
+ghost use Rattle.far_core.specs.world.WorldOf.{world_of};
+ghost use Rattle.far_book.specs.Finds.{Finds, body_of};
+ghost use Rattle.far_book.specs.Known.{Forgets};
+ghost use Rattle.far_book.specs.book.Effects.{with_blank_span, placed, retired, order_after};
+ghost use Rattle.far_book.specs.book.Home.{home_of};
+ghost use Rattle.far_book.specs.book.Ledger.{IsLowestFree};
+ghost use Rattle.far_book.specs.book.Own.{own_part, IsAtStart};
+ghost use Rattle.far_book.specs.Owners.{is_owners};
+ghost use Rattle.far_book.specs.book.Reading.{HeadersKnown, IsReadAt};
+ghost use Rattle.far_book.specs.book.Rows.{row_of};
+
+use crate::home::Home;
+use crate::ledger::Ledger;
+use crate::near::Near;
+use crate::owners::is_owners;
+use crate::plain::Plain;
+use far_core::{Event, Kind, Reply};
+use far_log::{LogRow, Span, WalkFault, walk};
+use far_word::{HeadWord, LOG_WORDS, Marks, Place, PtrWord, Refused, size_of, words_for};
+use std::alloc::Global;
+use std::marker::Model;
+
+/// The region book: where each object of a heap lies, and what each of its logs has.
+///
+/// It touches the shared words through the hand that it is lent. All its room is taken when it is made, so that only the
+/// calls that answer lists take memory.
+#[derive(Drop)]
+pub struct Book<N: Near + Drop> {
+    near: N,
+    alloc: Global,
+    ledger: Ledger,
+}
+
+impl<N: Near + Drop> Model for Book<N> {
+    ghost use Rattle.far_book.specs.book.BookOf.{BookOf};
+    ghost use Rattle.far_book.specs.book.Ledger.{Notes};
+    ghost use Rattle.far_book.specs.book.Own.{own_part};
+
+    ghost Value = { BookOf N };
+
+    ghost view = { λ b. record { near = b.near; order = b.ledger.order.items } };
+
+    ghost invariant = { λ b. Notes (own_part (N.view b.near)) b.ledger };
+}
+
+impl<N: Near + Drop> Book<N> {
+    /// A book over a hand on words of which no cell is used yet and the logs are as at the start. Refused
+    /// [`Refused::Memory`] alone, and the hand is dropped then.
+    pub fn new(alloc: Global, near: N) -> Result<Book<N>, Refused>
+        requires start { IsAtStart (N.view near) }
+        ensures near { IfOk result (λ book. book.near ≡ near) }
+        ensures order { IfOk result (λ book. book.order ≡ []) }
+        ensures refused { IfErr result (λ why. why ≡ Memory) }
+    {
+        let shape = near.shape();
+        let Ok(ledger) = Ledger::new(alloc, shape) else {
+            return Err(Refused::Memory);
+        };
+        Ok(Book {
+            near,
+            alloc,
+            ledger,
+        })
+    }
+
+    /// The lowest free cell of a mutator; `None` where it uses all of them.
+    pub fn free_cell(&self, owner: u8) -> Option<u16>
+        requires owner { owner < (N.view self.now.near).mutators }
+        ensures { IsLowestFree (N.view self.now.near) owner result }
+    {
+        self.ledger.free_cell(owner)
+    }
+
+    /// Places a new object of zeros for a pointer whose cell is free, and answers where. A refusal is
+    /// [`Refused::NoRoom`]: nothing has changed then, and no log was sealed.
+    pub fn place(&mut self, pointer: u16, len: u16, ds: u8) -> Result<Place, Refused>
+        requires pointer { pointer < CELLS * (N.view self.old.near).mutators }
+        requires free { (N.view self.old.near).cell pointer ≡ 0 }
+        requires some { 0 < len }
+        requires most { len ≤ LONGEST }
+        ensures room { IfOk result (λ place. room (N.view self.old.near) (size_of len) true ≡ Some place) }
+        ensures kept { IfOk result (λ place. N.view self.new.near ≡ record (placed (N.view self.old.near) pointer len ds place) { word = (N.view self.new.near).word }) }
+        ensures forgot { IfOk result (λ place. Forgets (placed (N.view self.old.near) pointer len ds place) (N.view self.new.near)) }
+        ensures exact { N.still → IfOk result (λ place. N.view self.new.near ≡ placed (N.view self.old.near) pointer len ds place) }
+        ensures order { IfOk result (λ place. self.new.order ≡ order_after (N.view self.old.near) self.old.order place) }
+        ensures refused { IfErr result (λ why. why ≡ NoRoom) }
+        ensures none { IfErr result (λ _. room (N.view self.old.near) (size_of len) true ≡ None) }
+        ensures unchanged { IfErr result (λ _. self.new ≡ self.old) }
+    {
+        let size = size_of(len);
+        let Some(place) = self.ledger.room(size) else {
+            return Err(Refused::NoRoom);
+        };
+        name_blank(&mut self.near, pointer, len, ds, place);
+        self.ledger.take(pointer, size, place);
+        Ok(place)
+    }
+
+    /// Frees the cell of an object that its owner dropped; its span is dead from then on, if it lay near.
+    pub fn retire(&mut self, pointer: u16)
+        requires pointer { pointer < CELLS * (N.view self.old.near).mutators }
+        requires dropped { is_dropped (read_of ((N.view self.old.near).cell pointer)) ≡ true }
+        ensures kept { N.view self.new.near ≡ record (retired (N.view self.old.near) pointer) { word = (N.view self.new.near).word } }
+        ensures forgot { Forgets (N.view self.old.near) (N.view self.new.near) }
+        ensures exact { N.still → N.view self.new.near ≡ retired (N.view self.old.near) pointer }
+        ensures order { self.new.order ≡ self.old.order }
+    {
+        let was = free_cell(&mut self.near, pointer);
+        self.ledger.retire(pointer, was);
+    }
+
+    /// Where a pointer's object is, with the marks that its cell has now; `None` exactly where the cell is free.
+    pub fn locate(&mut self, pointer: u16) -> Option<Home>
+        requires pointer { pointer < CELLS * (N.view self.old.near).mutators }
+        ensures home { result ≡ home_of (read_of ((N.view self.new.near).cell pointer)) }
+        ensures found { Finds ((N.view self.old.near).cell pointer) ((N.view self.new.near).cell pointer) }
+        ensures free { (result ≡ None) ↔ ((N.view self.old.near).cell pointer ≡ 0) }
+        ensures kept { N.view self.new.near ≡ record (N.view self.old.near) { cell = put (N.view self.old.near).cell pointer ((N.view self.new.near).cell pointer) } }
+        ensures exact { N.still → N.view self.new.near ≡ N.view self.old.near }
+        ensures order { self.new.order ≡ self.old.order }
+    {
+        home_in(self.near.see(pointer))
+    }
+
+    /// What a log is, and what it has.
+    pub fn log(&self, log: u8) -> (Kind, LogRow)
+        requires log { log < (N.view self.now.near).logs }
+        ensures kind { result.0 ≡ (N.view self.now.near).kind log }
+        ensures row { result.1 ≡ row_of (N.view self.now.near) log }
+    {
+        (self.ledger.kind(log), self.ledger.row(log))
+    }
+
+    /// What each sealed log has, oldest first. Refused [`Refused::Memory`] alone.
+    pub fn rows(&self) -> Result<Vec<LogRow>, Refused>
+        ensures rows { IfOk result (λ rows. rows.items ≡ map (row_of (N.view self.now.near)) self.now.order) }
+        ensures refused { IfErr result (λ why. why ≡ Memory) }
+    {
+        let Ok(mut rows) = Vec::with_capacity(self.alloc, self.ledger.order.len()) else {
+            return Err(Refused::Memory);
+        };
+        for log in &self.ledger.order {
+            rows.push_reserved(self.ledger.row(*log));
+        }
+        Ok(rows)
+    }
+
+    /// The spans of a log, dead ones too, in their order. Refused [`Refused::Memory`] alone.
+    pub fn spans(&mut self, log: u8) -> Result<Vec<Span>, Refused>
+        requires log { log < (N.view self.old.near).logs }
+        ensures spans { IfOk result (λ spans. spans.items ≡ spans_of (N.view self.old.near) log) }
+        ensures refused { IfErr result (λ why. why ≡ Memory) }
+        ensures kept { N.view self.new.near ≡ record (N.view self.old.near) { word = (N.view self.new.near).word } }
+        ensures headers { (a : ℕ) → (N.view self.old.near).starts a ≡ true → (N.view self.new.near).word a ≡ (N.view self.old.near).word a }
+        ensures exact { N.still → N.view self.new.near ≡ N.view self.old.near }
+        ensures order { self.new.order ≡ self.old.order }
+    {
+        let tail = self.ledger.tail(log);
+        let words = read_words(&mut self.near, log, tail);
+        listed(self.alloc, &words, tail)
+    }
+
+    /// What the book knows keeps its part of the law of the core, and its order names each sealed log, once.
+    pub fn keeps_law(&self)
+        ensures law { Law (own_part (N.view self.now.near)) }
+        ensures sealed { (l : ℕ) → (list_any (eqb l) self.now.order ≡ true) ↔ ((N.view self.now.near).kind l ≡ Sealed) }
+        ensures once { IsDistinct eqb self.now.order }
+    {
+        let _ledger = &self.ledger;
+    }
+}
+
+impl Book<Plain> {
+    /// Makes an owner's event. Any other is answered [`Reply::Refused`], and nothing has changed.
+    pub fn owner(&mut self, event: Event) -> Reply
+        ensures made { is_owners event ≡ true → (core_state self.new.near.core, result) ≡ step_of (core_state self.old.near.core) event }
+        ensures refused { is_owners event ≡ false → (result ≡ Reply.Refused) × (self.new.near ≡ self.old.near) }
+        ensures world { Happens (world_of (core_state self.old.near.core)) event result (world_of (core_state self.new.near.core)) }
+        ensures order { self.new.order ≡ self.old.order }
+    {
+        if is_owners(event) {
+            self.near.core.step(event)
+        } else {
+            Reply::Refused
+        }
+    }
+}
+
+// Where the object of a cell is.
+fn home_in(cell: u64) -> Option<Home>
+    ensures { result ≡ home_of (read_of cell) }
+{
+    match PtrWord::read(cell)? {
+        PtrWord::Free => None,
+        PtrWord::Near { place, marks, .. } => Some(Home::Near { place, marks }),
+        PtrWord::Far { marks, .. } => Some(Home::Far { marks }),
+    }
+}
+
+// Writes a header and zeros where a new object goes, and names the place by its free cell.
+fn name_blank<N: Near>(near: &mut N, pointer: u16, len: u16, ds: u8, place: Place)
+    requires pointer { pointer < CELLS * (N.view near.old).mutators }
+    requires free { (N.view near.old).cell pointer ≡ 0 }
+    requires head { IsHead record { pointer = pointer; len = len; ds = ds } }
+    requires layout { IsPtr (near_at len ds place no_marks) }
+    requires next { IsNext (N.view near.old) place }
+    requires tail { (N.view near.old).tail place.log ≡ place.at }
+    ensures kept { N.view near.new ≡ record (placed (N.view near.old) pointer len ds place) { word = (N.view near.new).word } }
+    ensures forgot { Forgets (placed (N.view near.old) pointer len ds place) (N.view near.new) }
+    ensures exact { N.still → N.view near.new ≡ placed (N.view near.old) pointer len ds place }
+{
+    put_blank(near, pointer, len, ds, place);
+    let marks = Marks {
+        hot: false,
+        evac: false,
+        moved: false,
+        dropped: false,
+    };
+    let word = PtrWord::Near {
+        len,
+        ds,
+        place,
+        marks,
+    };
+    // Nobody but the book changes a free cell.
+    let Ok(()) = near.name(pointer, 0, word.pack()) else {
+        unreachable!()
+    };
+}
+
+// Writes a header and zeros behind it.
+fn put_blank<N: Near>(near: &mut N, pointer: u16, len: u16, ds: u8, place: Place)
+    requires head { IsHead record { pointer = pointer; len = len; ds = ds } }
+    requires layout { IsPtr (near_at len ds place no_marks) }
+    requires next { IsNext (N.view near.old) place }
+    requires tail { (N.view near.old).tail place.log ≡ place.at }
+    ensures { N.view near.new ≡ with_blank_span (N.view near.old) pointer len ds place }
+{
+    let header = HeadWord { pointer, len, ds };
+    near.put(place.log, place.at, header.pack());
+    for i in 0..words_for(len) {
+        near.put(place.log, place.at + 1 + i, 0);
+    }
+}
+
+// Frees the cell of a dropped object, by the word that was last found there, and answers what that word said.
+fn free_cell<N: Near>(near: &mut N, pointer: u16) -> PtrWord
+    requires pointer { pointer < CELLS * (N.view near.old).mutators }
+    requires dropped { is_dropped (read_of ((N.view near.old).cell pointer)) ≡ true }
+    ensures was { body_of (Some result) ≡ body_of (read_of ((N.view near.old).cell pointer)) }
+    ensures kept { N.view near.new ≡ record (retired (N.view near.old) pointer) { word = (N.view near.new).word } }
+    ensures forgot { Forgets (N.view near.old) (N.view near.new) }
+    ensures exact { N.still → N.view near.new ≡ retired (N.view near.old) pointer }
+{
+    let mut word = near.see(pointer);
+    let mut was = says(word);
+    for _ in 0..4u8 {
+        match near.name(pointer, word, 0) {
+            Ok(()) => return was,
+            Err(found) => {
+                word = found;
+                was = says(found);
+            }
+        }
+    }
+    // Each try found HOT, MOVE or DROP added, and each of them can be added once.
+    unreachable!()
+}
+
+// What a dropped object's cell says.
+fn says(word: u64) -> PtrWord
+    requires { is_dropped (read_of word) ≡ true }
+    ensures is { read_of word ≡ Some result }
+    ensures layout { IsPtr result }
+    ensures word { word_of result ≡ word }
+{
+    let Some(says) = PtrWord::read(word) else {
+        unreachable!()
+    };
+    says
+}
+
+// The first `tail` words of a log, each as it was when it was read.
+fn read_words<N: Near>(near: &mut N, log: u8, tail: u16) -> [u64; LOG_WORDS as usize]
+    requires log { log < (N.view near.old).logs }
+    requires tail { tail ≤ LOG_WORDS }
+    requires known { HeadersKnown (N.view near.old) }
+    ensures words { (i : ℕ) → i < tail → IsReadAt (N.view near.old) (log * LOG_WORDS + i) (slice_index result i) }
+    ensures length { length result ≡ LOG_WORDS }
+    ensures kept { N.view near.new ≡ record (N.view near.old) { word = (N.view near.new).word } }
+    ensures headers { (a : ℕ) → (N.view near.old).starts a ≡ true → (N.view near.new).word a ≡ (N.view near.old).word a }
+    ensures exact { N.still → N.view near.new ≡ N.view near.old }
+{
+    let mut words = [0; LOG_WORDS as usize];
+    for i in 0..tail {
+        words[i as usize] = near.get(log, i, false);
+    }
+    words
+}
+
+// The spans of words that have a list of them.
+fn listed(alloc: Global, words: &[u64], tail: u16) -> Result<Vec<Span>, Refused>
+    requires within { tail ≤ length words.now }
+    requires log { length words.now ≤ LOG_WORDS }
+    requires walks { (spans : List SpanOf) × IsWalk (λ i. slice_index words.now i) tail spans }
+    ensures spans { (spans : List SpanOf) → IsWalk (λ i. slice_index words.now i) tail spans → IfOk result (λ found. found.items ≡ spans) }
+    ensures refused { IfErr result (λ why. why ≡ Memory) }
+{
+    match walk(alloc, words, tail as usize) {
+        Ok(spans) => Ok(spans),
+        Err(WalkFault::Memory) => Err(Refused::Memory),
+        Err(WalkFault::Bad(_)) => unreachable!(),
+    }
+}

@@ -1,0 +1,15 @@
+//! What the effects of the book's calls are made of, as contracts of functions that do nothing.
+
+ghost use Rattle.std.specs.Prelude.{◌≡◌, ◌*◌, ◌<◌, ◌≤◌, ℕ, true};
+ghost use Rattle.far_book.specs.book.Laws.{PlacingIsLegal, RetiringIsLegal};
+
+/// Placing a new object where room is leads from a state to the next by legal events of the core: its header and zeros are
+/// put, and its cell is named. So the law of the core is kept.
+pub fn placing_is_legal()
+    ensures { PlacingIsLegal }
+{}
+
+/// Retiring a dropped object is one legal event of the core, and the law of the core is kept.
+pub fn retiring_is_legal()
+    ensures { RetiringIsLegal }
+{}

@@ -1,0 +1,202 @@
+//! What the book has written down of logs and cells, so that none of its calls searches.
+
+ghost use Rattle.std.specs.Prelude.{◌≡◌, ◌≢◌, ℕ, ◌+◌, ◌-◌, ◌*◌, ◌/◌, ◌<◌, ◌≤◌, ◌==◌, true, false, Some, None, List, [], IfOk, MatchOption};
+ghost use Rattle.std.specs.Vec.{vec_len, vec_capacity};
+ghost use Rattle.far_word.specs.declared.sizes.TheConstants.{CELLS, LOG_WORDS};
+ghost use Rattle.far_core.specs.state.Opening.{opening};
+ghost use Rattle.far_core.specs.state.Room.{room};
+ghost use Rattle.far_core.specs.state.Shape.{is_shape};
+ghost use Rattle.far_core.specs.state.State.{State};
+ghost use Rattle.far_book.specs.book.Effects.{with_free_cell};
+ghost use Rattle.far_book.specs.book.Ledger.{Notes, KnowsLog, filled_of, is_noted_free, MayTake, MayRetire, Takes, Loses, Frees, IsLowestFree};
+ghost use Rattle.far_book.specs.book.Own.{own_part};
+ghost use Rattle.far_book.specs.book.Rows.{row_of};
+
+use crate::number_set::NumberSet;
+use far_core::{Kind, Shape};
+use far_log::LogRow;
+use far_word::{CELLS, LOG_WORDS, Place, PtrWord, size_of};
+use std::alloc::{AllocError, Global};
+
+/// What one log has.
+#[derive(Clone, Copy, Debug, PartialEq, Eq)]
+pub(crate) struct Filled {
+    /// Where its spans end, in words.
+    pub(crate) tail: u16,
+    /// The bytes that its live spans take.
+    pub(crate) live: u16,
+}
+
+/// What the book has written down of logs and cells. All its room is taken when it is made.
+#[derive(Debug, Drop)]
+pub(crate) struct Ledger {
+    /// The open log.
+    pub(crate) current: u8,
+    pub(crate) free_logs: NumberSet,
+    /// What each log has.
+    pub(crate) filled: Vec<Filled>,
+    /// The sealed logs, oldest first.
+    pub(crate) order: Vec<u8>,
+    /// The free cells: two sets a mutator, of its first and of its last 64 cells.
+    pub(crate) free_cells: Vec<NumberSet>,
+}
+
+impl Ledger {
+    /// The ledger of a heap at the start.
+    pub(crate) fn new(alloc: Global, shape: Shape) -> Result<Ledger, AllocError>
+        requires { is_shape shape ≡ true }
+        ensures notes { IfOk result (λ ledger. Notes (own_part (opening shape false)) ledger) }
+        ensures order { IfOk result (λ ledger. ledger.order.items ≡ []) }
+    {
+        let logs = shape.logs as usize;
+        let cells = 2 * shape.mutators as usize;
+        let mut free_logs = NumberSet::below(shape.logs as u8);
+        free_logs.remove(0);
+        Ok(Ledger {
+            current: 0,
+            free_logs,
+            filled: vec![in alloc; Filled { tail: 0, live: 0 }; logs]?,
+            order: Vec::with_capacity(alloc, logs)?,
+            free_cells: vec![in alloc; NumberSet::below(64); cells]?,
+        })
+    }
+
+    // What is written down of a log.
+    fn filled_of(&self, log: u8) -> Filled
+        requires { log < vec_len self.now.filled }
+        ensures { result ≡ filled_of self.now log }
+    {
+        self.filled[log as usize]
+    }
+
+    /// Where a new object goes whose span takes so many words.
+    pub(crate) fn room(&self, size: u16) -> Option<Place>
+        requires size { size ≤ LOG_WORDS }
+        requires known { (s : State) × Notes s self.now }
+        ensures { (s : State) → Notes s self.now → result ≡ room s size true }
+    {
+        let tail = self.filled_of(self.current).tail;
+        if tail + size <= LOG_WORDS {
+            return Some(Place {
+                log: self.current,
+                at: tail,
+            });
+        }
+        match self.free_logs.lowest_of_two() {
+            Some(log) => Some(Place { log, at: 0 }),
+            None => None,
+        }
+    }
+
+    /// Where the spans of a log end, in words.
+    pub(crate) fn tail(&self, log: u8) -> u16
+        requires known { (s : State) × KnowsLog s self.now log }
+        ensures is { (s : State) → KnowsLog s self.now log → result ≡ s.tail log }
+        ensures short { result ≤ LOG_WORDS }
+    {
+        self.filled_of(log).tail
+    }
+
+    /// What a log is.
+    pub(crate) fn kind(&self, log: u8) -> Kind
+        requires known { (s : State) × KnowsLog s self.now log }
+        ensures { (s : State) → KnowsLog s self.now log → result ≡ s.kind log }
+    {
+        if self.free_logs.has(log) {
+            Kind::Free
+        } else if log == self.current {
+            Kind::Open
+        } else {
+            Kind::Sealed
+        }
+    }
+
+    /// What a log has in bytes.
+    pub(crate) fn row(&self, log: u8) -> LogRow
+        requires known { (s : State) × KnowsLog s self.now log }
+        ensures { (s : State) → KnowsLog s self.now log → result ≡ row_of s log }
+    {
+        let Filled { tail, live } = self.filled_of(log);
+        LogRow {
+            log,
+            live,
+            dead: 8 * tail - live,
+            unused: 8 * (LOG_WORDS - tail),
+        }
+    }
+
+    /// The lowest free cell of a mutator.
+    pub(crate) fn free_cell(&self, owner: u8) -> Option<u16>
+        requires known { (s : State) × Notes s self.now × (owner < s.mutators) }
+        ensures { (s : State) → Notes s self.now → owner < s.mutators → IsLowestFree s owner result }
+    {
+        let first = 2 * owner as usize;
+        let cells = owner as u16 * CELLS;
+        if let Some(cell) = self.free_cells[first].lowest() {
+            return Some(cells + cell as u16);
+        }
+        let cell = self.free_cells[first + 1].lowest()?;
+        Some(cells + 64 + cell as u16)
+    }
+
+    /// A span of so many words is taken at a place, for a pointer whose cell was free.
+    pub(crate) fn take(&mut self, pointer: u16, size: u16, place: Place)
+        requires { MayTake self.old pointer size place }
+        ensures { Takes self.old self.new pointer size place }
+    {
+        if place.log != self.current {
+            self.order.push_reserved(self.current);
+            self.current = place.log;
+        }
+        self.free_logs.remove(place.log);
+        self.fill(place.log, size);
+        self.free_cells[pointer as usize / 64].remove((pointer % 64) as u8);
+    }
+
+    // A log has one live span of so many words more.
+    fn fill(&mut self, log: u8, size: u16)
+        requires log { log < vec_len self.old.filled }
+        requires tail { (filled_of self.old log).tail + size ≤ LOG_WORDS }
+        requires live { (filled_of self.old log).live ≤ 8 * (filled_of self.old log).tail }
+        ensures here { filled_of self.new log ≡ record { tail = (filled_of self.old log).tail + size; live = (filled_of self.old log).live + 8 * size } }
+        ensures there { (l : ℕ) → l ≢ log → filled_of self.new l ≡ filled_of self.old l }
+        ensures logs { vec_len self.new.filled ≡ vec_len self.old.filled }
+        ensures rest { self.new ≡ record self.old { filled = self.new.filled } }
+    {
+        let filled = &mut self.filled[log as usize];
+        filled.tail += size;
+        filled.live += 8 * size;
+    }
+
+    /// A dropped object is retired, of which this was known: its cell is free, and its span is dead, if it lay near.
+    pub(crate) fn retire(&mut self, pointer: u16, was: PtrWord)
+        requires known { (s : State) × Notes s self.old × MayRetire s pointer was }
+        ensures notes { (s : State) → Notes s self.old → MayRetire s pointer was → Notes (with_free_cell s pointer) self.new }
+        ensures order { self.new.order ≡ self.old.order }
+    {
+        match was {
+            PtrWord::Near { len, place, .. } => self.lose(place.log, size_of(len)),
+            PtrWord::Far { .. } => {}
+            PtrWord::Free => {}
+        }
+        self.give(pointer);
+    }
+
+    // A live span of so many words is dead.
+    fn lose(&mut self, log: u8, size: u16)
+        requires log { log < vec_len self.old.filled }
+        requires live { 8 * size ≤ (filled_of self.old log).live }
+        requires size { size ≤ LOG_WORDS }
+        ensures { Loses self.old self.new log size }
+    {
+        self.filled[log as usize].live -= 8 * size;
+    }
+
+    // A cell is free.
+    fn give(&mut self, pointer: u16)
+        requires { pointer / 64 < vec_len self.old.free_cells }
+        ensures { Frees self.old self.new pointer }
+    {
+        self.free_cells[pointer as usize / 64].insert((pointer % 64) as u8);
+    }
+}
