@@ -38,6 +38,7 @@ pub mod SaysLemmas
 pub mod Spliced
 pub mod StoreTurns
 pub mod Streams
+pub mod TakingRoom
 pub mod TextLaws
 pub mod Turns
 pub mod ViewLaws

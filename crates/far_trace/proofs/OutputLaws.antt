@@ -276,7 +276,8 @@ makes_its_object now m len ds p next is c =
 -- ---- the first moment
 pub heap_lawful : (logs mutators : ℕ) → is_shape (shape_of logs mutators) ≡ true →
     ((first_moment logs mutators).core.logs ≡ logs) × ((first_moment logs mutators).core.mutators ≡ mutators) × Lawful (first_moment logs mutators) × IsWhole (first_moment logs mutators).core
-heap_lawful logs mutators fits = let lawful = first_lawful logs mutators fits in (refl, refl, lawful, whole (first_moment logs mutators).core lawful.law)
+    × ((p : ℕ) → (first_moment logs mutators).core.cell p ≡ 0) × ((l : ℕ) → (first_moment logs mutators).core.tail l ≡ 0)
+heap_lawful logs mutators fits = let lawful = first_lawful logs mutators fits in (refl, refl, lawful, whole (first_moment logs mutators).core lawful.law, (λ p. refl), (λ l. refl))
 
 -- ---- one law from the text
 pub objects_whole : (now : Moment) (cs : List Command) (rs : List Reply) (moments : List Moment) → IsMoment now → AllWriteBytes cs → Answered now cs rs moments →

@@ -1,5 +1,5 @@
 -- What a trace program's outputs say: the laws over whole texts and whole lists of commands.
-use Rattle.std.specs.Prelude.{◌≡◌, ◌≢◌, ℕ, ◌+◌, ◌*◌, ◌/◌, ◌^◌, ◌<◌, ◌≤◌, true, is_some, codes, decimal, Some, None, Ok, List, [], ◌∷◌, ◌++◌, length, replicate, slice_index, map, All, Contains}
+use Rattle.std.specs.Prelude.{◌≡◌, ◌≢◌, ◌↔◌, ℕ, ◌+◌, ◌*◌, ◌/◌, ◌^◌, ◌<◌, ◌≤◌, true, is_some, codes, decimal, Some, None, Ok, List, [], ◌∷◌, ◌++◌, length, replicate, slice_index, map, All, Contains}
 use Rattle.std.specs.List.{flat_map, range_with_len}
 use Rattle.hex.specs.Hex.{IsBytes}
 use Rattle.far_word.specs.declared.pointer.Place.{Place}
@@ -55,7 +55,7 @@ pub record Lawful (now : Moment) : Type 0 where
   pub law : Law now.core
   pub at_hand : AllAtHand now.core
 
--- each object that is in use has one live span, each log's bytes are 1,024, and no two cells name one place
+-- each object that is in use has one place, each log's bytes are 1,024, and no two cells name one place
 abbrev pub IsWhole : State → Type 0
 IsWhole t = ((p : ℕ) → HasOnePlace t p) × ((l : ℕ) → live_bytes t l + dead_bytes t l + unused_bytes t l ≡ 8 * LOG_WORDS) × NamesOnce t
 
@@ -107,6 +107,12 @@ ViewsAfter now (Mutator m (Read p from len)) (Data bytes) after = ViewsObject no
 ViewsAfter now (Mutator m (Write p from bytes)) Done after = ViewsObject now.core after.core p
 ViewsAfter now (Mutator m Close) Done after = ViewsNothing now.core after.core m
 ViewsAfter now c r after = after.core.held ≡ now.core.held
+
+-- what a command with its reply takes of the logs: a new object its span, at the end of the log that room says; anything else nothing
+abbrev pub TakesRoom : Moment → Command → Reply → Moment → Type 0
+TakesRoom now (Mutator m (New len ds)) (Pointer p) after = (place : Place) × (room now.core (size_of len) true ≡ Some place)
+    × (after.core.tail ≡ put now.core.tail place.log (place.at + size_of len))
+TakesRoom now c r after = (after.core.tail ≡ now.core.tail) × (after.core.kind ≡ now.core.kind)
 
 -- the line has the mutator's number
 abbrev pub IsSaidBy : ℕ → Command → Type 0
@@ -218,10 +224,15 @@ MutatorsAreAlone = (logs mutators m : ℕ) (cs : List Command) (rs : List Reply)
 abbrev pub NearRefusals : Type 0
 NearRefusals = (now : Moment) (c : Command) (r : Reply) (after : Moment) (why : Refusal) → AllAtHand now.core → Commanded now c r after → r ≡ Refused why → MayRefuse c why
 
--- a heap in range begins with the numbers on its line and with the law, so that the laws above hold from its first moment on
+-- a heap in range begins with the numbers on its line, with the law, so that the laws above hold from its first moment on, and with nothing in it
 abbrev pub HeapsBeginLawful : Type 0
 HeapsBeginLawful = (logs mutators : ℕ) → is_shape (shape_of logs mutators) ≡ true →
     ((first_moment logs mutators).core.logs ≡ logs) × ((first_moment logs mutators).core.mutators ≡ mutators) × Lawful (first_moment logs mutators) × IsWhole (first_moment logs mutators).core
+    × ((p : ℕ) → (first_moment logs mutators).core.cell p ≡ 0) × ((l : ℕ) → (first_moment logs mutators).core.tail l ≡ 0)
+
+-- the shapes that a heap line may say, in numerals
+abbrev pub ShapesAre : Type 0
+ShapesAre = (logs mutators : ℕ) → (is_shape (shape_of logs mutators) ≡ true) ↔ ((2 ≤ logs) × (logs ≤ 64) × (1 ≤ mutators) × (mutators ≤ 8))
 
 -- a new object's pointer is its owner's lowest cell that is 0
 abbrev pub NewTakesTheLowest : Type 0
@@ -240,6 +251,10 @@ NewIsMade = (now : Moment) (m len ds : ℕ) (r : Reply) (after : Moment) → m <
     (((q : ℕ) → m * CELLS ≤ q → q < m * CELLS + CELLS → now.core.cell q ≢ 0) → r ≡ Refused NoPointer)
     × ((q : ℕ) → m * CELLS ≤ q → q < m * CELLS + CELLS → now.core.cell q ≡ 0 →
     (room now.core (size_of len) true ≡ None → r ≡ Refused NoRoom) × ((place : Place) → room now.core (size_of len) true ≡ Some place → (p : ℕ) × (r ≡ Pointer p)))
+
+-- a new object alone takes room, and no more than its span
+abbrev pub CommandsTakeRoom : Type 0
+CommandsTakeRoom = (now : Moment) (c : Command) (r : Reply) (after : Moment) → Commanded now c r after → TakesRoom now c r after
 
 -- what is read or written is viewed until its mutator closes its scope; nothing else makes a view or takes one away
 abbrev pub ViewsLast : Type 0

@@ -1,6 +1,6 @@
 //! What outputs say, over whole texts and whole lists of commands. No function here does anything when it runs.
 
-ghost use Rattle.far_trace.specs.Headline.{OutputsAreSound, OneOutput, EachTextIsAnswered, TextsWriteBytes, LinesAreNumbered, MomentsLast, EventsReach, HeapsBeginLawful, ObjectsStayWhole, ViewedLogsStay, ViewsLast, RefusalsStay, RefusalsChangeNothing, StrangersAreRefused, NearRefusals, MutatorsAreAlone, OwnLinesCount, NewTakesTheLowest, NoneIsLeft, NewIsMade, NewMakesItsObject, WritesChangeTheirRange, LogsAreTold, PrintedAlike};
+ghost use Rattle.far_trace.specs.Headline.{OutputsAreSound, OneOutput, EachTextIsAnswered, TextsWriteBytes, LinesAreNumbered, MomentsLast, EventsReach, ShapesAre, HeapsBeginLawful, ObjectsStayWhole, ViewedLogsStay, ViewsLast, RefusalsStay, RefusalsChangeNothing, StrangersAreRefused, NearRefusals, MutatorsAreAlone, OwnLinesCount, NewTakesTheLowest, NoneIsLeft, NewIsMade, NewMakesItsObject, CommandsTakeRoom, WritesChangeTheirRange, LogsAreTold, PrintedAlike};
 
 /// From a text on: its output, where it is read as a heap in range and commands, has a reply and a moment for each
 /// command; in each moment objects are whole, through them the logs in which views rest stay, and each mutator's replies
@@ -18,11 +18,12 @@ pub fn texts_are_answered()
     ensures numbered { LinesAreNumbered }
 {}
 
-/// A heap in range begins with the numbers of its line, the law and nothing in it. Behind commands each moment has the
-/// law, its pointers at hand and its objects whole: each in use has exactly one live span, each log's bytes are 1,024 in
-/// all, and no two pointers name one place. Each command is carried out by its events: they are legal, keep the law and
-/// what views rest on, and end in the moment behind it.
+/// A heap line may say 2 to 64 logs and 1 to 8 mutators. The heap begins with them, with the law and with nothing in it.
+/// After commands each moment has the law, its pointers at hand and its objects whole: each in use has exactly one place,
+/// each log's bytes are 1,024 in all, and no two pointers name one place. Each command is carried out by its events: they are legal, keep the law and
+/// what views rest on, and end in the moment after it.
 pub fn moments_are_lawful()
+    ensures shapes { ShapesAre }
     ensures begin { HeapsBeginLawful }
     ensures last { MomentsLast }
     ensures whole { ObjectsStayWhole }
@@ -55,12 +56,13 @@ pub fn mutators_are_alone()
 
 /// A new object in range is made where a pointer is free and there is room, else it is refused, 3 before 2, and so only
 /// where there is none; its pointer is the lowest of its mutator's that is free; it has its owner, its data structure and
-/// zeros, in the log that `room` says; all other objects stay.
+/// zeros, in the log that `room` says; all other objects stay. It takes its span of that log; no other command takes any.
 pub fn new_is_made()
     ensures answer { NewIsMade }
     ensures none { NoneIsLeft }
     ensures lowest { NewTakesTheLowest }
     ensures object { NewMakesItsObject }
+    ensures takes { CommandsTakeRoom }
 {}
 
 /// Splicing, by which a write is defined, changes the bytes of its range, and no others.
