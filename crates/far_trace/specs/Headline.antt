@@ -16,7 +16,7 @@ use Rattle.far_core.specs.state.Shape.{is_shape}
 use Rattle.far_core.specs.state.State.{State, put}
 use Rattle.far_core.specs.world.World.{Group}
 use Rattle.far_core.specs.world.WorldOf.{world_of}
-use Rattle.far_trace.specs.Alone.{Alone, Knows, Own, nothing}
+use Rattle.far_trace.specs.Alone.{Alone, Knows, Learns, Own, nothing}
 use Rattle.far_trace.specs.Answers.{Answered, Answers, Commanded, IsMoment, shape_of, first_moment}
 use Rattle.far_trace.specs.Command.{Command, Heap, CommandLine, New, Open, Write, Read, Close, Logs as AsksLogs, Mutator, Book}
 use Rattle.far_trace.specs.Grammar.{trace_of}
@@ -219,6 +219,10 @@ ViewedLogsStay = (now : Moment) (cs : List Command) (rs : List Reply) (moments :
 abbrev pub MutatorsAreAlone : Type 0
 MutatorsAreAlone = (logs mutators m : ℕ) (cs : List Command) (rs : List Reply) (moments : List Moment) → is_shape (shape_of logs mutators) ≡ true → m < mutators → AllWriteBytes cs →
     Answered (first_moment logs mutators) cs rs moments → Alone m nothing cs rs
+
+-- after each command a mutator knows what the heap says of it; a command of others changes nothing of that
+abbrev pub MutatorsLearn : Type 0
+MutatorsLearn = (now : Moment) (c : Command) (r : Reply) (after : Moment) (m : ℕ) → IsMoment now → WritesBytes c → m < now.core.mutators → Commanded now c r after → Learns now.core m c r after.core
 
 -- where all objects are near and at hand, commands are refused so alone
 abbrev pub NearRefusals : Type 0

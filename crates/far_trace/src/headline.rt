@@ -1,6 +1,6 @@
 //! What outputs say, over whole texts and whole lists of commands. No function here does anything when it runs.
 
-ghost use Rattle.far_trace.specs.Headline.{OutputsAreSound, OneOutput, EachTextIsAnswered, TextsWriteBytes, LinesAreNumbered, MomentsLast, EventsReach, ShapesAre, HeapsBeginLawful, ObjectsStayWhole, ViewedLogsStay, ViewsLast, RefusalsStay, RefusalsChangeNothing, StrangersAreRefused, NearRefusals, MutatorsAreAlone, OwnLinesCount, NewTakesTheLowest, NoneIsLeft, NewIsMade, NewMakesItsObject, CommandsTakeRoom, WritesChangeTheirRange, LogsAreTold, PrintedAlike};
+ghost use Rattle.far_trace.specs.Headline.{OutputsAreSound, OneOutput, EachTextIsAnswered, TextsWriteBytes, LinesAreNumbered, MomentsLast, EventsReach, ShapesAre, HeapsBeginLawful, ObjectsStayWhole, ViewedLogsStay, ViewsLast, RefusalsStay, RefusalsChangeNothing, StrangersAreRefused, NearRefusals, MutatorsAreAlone, OwnLinesCount, MutatorsLearn, NewTakesTheLowest, NoneIsLeft, NewIsMade, NewMakesItsObject, CommandsTakeRoom, WritesChangeTheirRange, LogsAreTold, PrintedAlike};
 
 /// From a text on: its output, where it is read as a heap in range and commands, has a reply and a moment for each
 /// command; in each moment objects are whole, through them the logs in which views rest stay, and each mutator's replies
@@ -48,10 +48,12 @@ pub fn refusals_leave_all()
     ensures near { NearRefusals }
 {}
 
-/// The replies to one mutator's lines are what its own lines alone say: its own, and no others, say what it knows.
+/// The replies to one mutator's lines are what its own lines alone say: its own, and no others, say what it knows. What
+/// it knows then, its scope, its objects' bytes and which of them it views, is so in the heap after each command.
 pub fn mutators_are_alone()
     ensures alone { MutatorsAreAlone }
     ensures own { OwnLinesCount }
+    ensures learn { MutatorsLearn }
 {}
 
 /// A new object in range is made where a pointer is free and there is room, else it is refused, 3 before 2, and so only
