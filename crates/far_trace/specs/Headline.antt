@@ -21,7 +21,7 @@ use Rattle.far_trace.specs.Answers.{Answered, Answers, Commanded, IsMoment, shap
 use Rattle.far_trace.specs.Command.{Command, Heap, CommandLine, New, Open, Write, Read, Close, Logs as AsksLogs, Mutator, Book}
 use Rattle.far_trace.specs.Grammar.{trace_of}
 use Rattle.far_trace.specs.Moment.{Moment}
-use Rattle.far_trace.specs.EventRows.{after_events, AllPass, AllSucceed, AllAtHand}
+use Rattle.far_trace.specs.EventRows.{after_events, AllPass, AllSucceed, AtHand, AllAtHand}
 use Rattle.far_trace.specs.Events.{events_for}
 use Rattle.far_trace.specs.Objects.{spliced}
 use Rattle.far_trace.specs.Says.{Says}
@@ -43,11 +43,17 @@ LogsStay now [] moments = LogStays now.core now.core
 LogsStay now (c ∷ cs) [] = ⊥
 LogsStay now (c ∷ cs) (after ∷ moments) = StayThrough now c × LogsStay after cs moments
 
--- the events of a command lead from a moment to the next: each is legal, and keeps the law and agreement; where all is at hand each comes to pass
+-- the object that a command reads or writes, if there is one, may be dereferenced at once
+abbrev pub IsAtHandFor : Moment → Command → Type 0
+IsAtHandFor now (Mutator m (Write p from bytes)) = now.core.cell p ≢ 0 → AtHand now.core p
+IsAtHandFor now (Mutator m (Read p from len)) = now.core.cell p ≢ 0 → AtHand now.core p
+IsAtHandFor now c = Unit {0}
+
+-- the events of a command lead from a moment to the next: each is legal, and keeps the law and agreement; where its object is at hand each comes to pass
 pub record Reaches (now : Moment) (c : Command) (after : Moment) : Type 0 where
   pub ends : after.core ≡ after_events now.core (events_for now c)
   pub pass : AllPass now.core (events_for now c)
-  pub succeed : AllAtHand now.core → AllSucceed now.core (events_for now c)
+  pub succeed : IsAtHandFor now c → AllSucceed now.core (events_for now c)
 
 -- what is true of each moment of an output
 pub record Lawful (now : Moment) : Type 0 where
@@ -59,7 +65,7 @@ pub record Lawful (now : Moment) : Type 0 where
 abbrev pub IsWhole : State → Type 0
 IsWhole t = ((p : ℕ) → HasOnePlace t p) × ((l : ℕ) → live_bytes t l + dead_bytes t l + unused_bytes t l ≡ 8 * LOG_WORDS) × NamesOnce t
 
--- the refusals that a command may have where all objects are near: none for want of memory, none of a device, none that tells a mark
+-- the refusals that a command may have where its object is at hand: none for want of memory, none of a device, none that tells a mark
 abbrev pub MayRefuse : Command → Refusal → Type 0
 MayRefuse (Mutator m (New len ds)) Range = Unit {0}
 MayRefuse (Mutator m (New len ds)) Length = Unit {0}
@@ -224,9 +230,9 @@ MutatorsAreAlone = (logs mutators m : ℕ) (cs : List Command) (rs : List Reply)
 abbrev pub MutatorsLearn : Type 0
 MutatorsLearn = (now : Moment) (c : Command) (r : Reply) (after : Moment) (m : ℕ) → IsMoment now → WritesBytes c → m < now.core.mutators → Commanded now c r after → Learns now.core m c r after.core
 
--- where all objects are near and at hand, commands are refused so alone
+-- where its object is at hand, a command is refused so alone
 abbrev pub NearRefusals : Type 0
-NearRefusals = (now : Moment) (c : Command) (r : Reply) (after : Moment) (why : Refusal) → AllAtHand now.core → Commanded now c r after → r ≡ Refused why → MayRefuse c why
+NearRefusals = (now : Moment) (c : Command) (r : Reply) (after : Moment) (why : Refusal) → IsAtHandFor now c → Commanded now c r after → r ≡ Refused why → MayRefuse c why
 
 -- a heap in range begins with the numbers on its line, with the law, so that the laws above hold from its first moment on, and with nothing in it
 abbrev pub HeapsBeginLawful : Type 0

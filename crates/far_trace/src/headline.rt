@@ -39,8 +39,8 @@ pub fn views_last()
 
 /// A refused command leaves objects, bytes, places and all else as they were, but for HOT and MOVE in cells, which it may
 /// add; the commands of today add none, and leave the moment as it is. A line of a mutator that the heap hasn't is
-/// refused 8. Where all objects are near and at hand, no command behind the heap is refused for want of memory, by a
-/// device or for a mark; for want of a pointer or of room a new object alone is refused.
+/// refused 8. Where the object that it reads or writes is near and unmarked, no command after the heap is refused for want
+/// of memory, by a device or for a mark; for want of a pointer or of room a new object alone is refused.
 pub fn refusals_leave_all()
     ensures stay { RefusalsStay }
     ensures nothing { RefusalsChangeNothing }
