@@ -83,11 +83,11 @@ cell_same (Some Free) = tt
 cell_same (Some (Near len ds place marks)) = (refl, refl, refl, gains_none marks)
 cell_same (Some (Far len ds marks)) = (refl, refl, gains_none marks)
 
-stays_same : (now : Moment) → Stays now now
-stays_same now = record { objects = refl; cells = λ p. cell_same (read_of (now.core.cell p)); rest = refl }
+stays_same : (c : Command) (why : Refusal) (now : Moment) → Stays c why now now
+stays_same c why now = record { objects = refl; cells = λ p. cell_same (read_of (now.core.cell p)); unmarked = λ p other. refl; rest = refl }
 
-pub refusals_stay : (now : Moment) (c : Command) (r : Reply) (next : Moment) (why : Refusal) → Commanded now c r next → r ≡ Refused why → Stays now next
-refusals_stay now c r next why h e = subst (Stays now) (sym (refused_stays now c r next why h e)) (stays_same now)
+pub refusals_stay : (now : Moment) (c : Command) (r : Reply) (next : Moment) (why : Refusal) → Commanded now c r next → r ≡ Refused why → Stays c why now next
+refusals_stay now c r next why h e = subst (Stays c why now) (sym (refused_stays now c r next why h e)) (stays_same c why now)
 
 -- ---- a mutator that the heap hasn't
 -- the first cause holds

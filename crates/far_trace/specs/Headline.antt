@@ -196,9 +196,9 @@ MomentsLast = (now : Moment) (cs : List Command) (rs : List Reply) (moments : Li
 abbrev pub EventsReach : Type 0
 EventsReach = (now : Moment) (c : Command) (r : Reply) (after : Moment) → IsMoment now → WritesBytes c → Commanded now c r after → Reaches now c after
 
--- a refused command leaves objects, bytes, places and all else as they were, but for marks that it may add
+-- a refused command leaves objects, bytes, places and all else as they were, but for marks that it may add to its object's cell
 abbrev pub RefusalsStay : Type 0
-RefusalsStay = (now : Moment) (c : Command) (r : Reply) (after : Moment) (why : Refusal) → Commanded now c r after → r ≡ Refused why → Stays now after
+RefusalsStay = (now : Moment) (c : Command) (r : Reply) (after : Moment) (why : Refusal) → Commanded now c r after → r ≡ Refused why → Stays c why now after
 
 -- with these commands it adds none
 abbrev pub RefusalsChangeNothing : Type 0

@@ -37,8 +37,8 @@ pub fn views_last()
     ensures stay { ViewedLogsStay }
 {}
 
-/// A refused command leaves objects, bytes, places and all else as they were, but for HOT and MOVE in cells, which it may
-/// add; the commands of today add none, and leave the moment as it is. A line of a mutator that the heap hasn't is
+/// A refused command leaves objects, bytes, places and all else as they were, but for HOT and MOVE in its object's cell,
+/// which it may add for want of room; the commands of today add none, and leave the moment as it is. A line of a mutator that the heap hasn't is
 /// refused 8. Where the object that it reads or writes is near and unmarked, no command after the heap is refused for want
 /// of memory, by a device or for a mark; for want of a pointer or of room a new object alone is refused.
 pub fn refusals_leave_all()
