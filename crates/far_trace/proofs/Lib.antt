@@ -25,6 +25,7 @@ pub mod NewTurns
 pub mod Numbers
 pub mod Opened
 pub mod OutputLaws
+pub mod PlainReplies
 pub mod PrintedAlike
 pub mod RangeReads
 pub mod RangeWrites

@@ -39,7 +39,8 @@ use Rattle.far_trace.specs.Turn.{turn_effect, effect, causes, first_cause, refus
 use Rattle.far_trace.proofs.AloneNew.{new_run, is_structure, is_length}
 use Rattle.far_trace.proofs.AloneFirst.{alone_first}
 use Rattle.far_trace.proofs.Kept.{whole}
-use Rattle.far_trace.proofs.Lasting.{first_lawful, carried, moment_lasts, each_is_moment, first_is_moment}
+use Rattle.far_trace.proofs.Lasting.{first_lasts, first_lawful, carried, moment_lasts, moments_last, each_is_moment, first_is_moment}
+use Rattle.far_trace.proofs.PlainReplies.{replies_plain}
 use Rattle.far_trace.proofs.ViewLaws.{logs_stay}
 use Rattle.far_trace.proofs.TextLaws.{texts_write}
 use Rattle.far_trace.proofs.Lowest.{lowest_found, none_found}
@@ -300,8 +301,11 @@ outputs_sound text output logs mutators cs answers reads fits =
     record {
       replies = rs;
       moments = moments;
+      bytes = bytes;
       answered = h;
       printed_so = e;
+      plain = replies_plain (first_moment logs mutators) cs rs moments (first_lasts logs mutators fits) bytes h;
+      lawful = moments_last (first_moment logs mutators) cs rs moments is bytes h;
       whole = objects_whole (first_moment logs mutators) cs rs moments is bytes h;
       stay = logs_stay (first_moment logs mutators) cs rs moments is bytes h;
       alone = λ m within. alone_first logs mutators m cs rs moments fits within bytes h;

@@ -13,11 +13,11 @@ use Rattle.far_trace.specs.Turn.{causes, first_cause, refusal, unless, turn_repl
 use Rattle.far_trace.proofs.Each.{Each}
 
 -- P holds of the refusal (moment_of of) each cause
-abbrev EachCause : (Refusal → Type 0) → List (Bool × Refusal) → Type 0
+abbrev pub EachCause : (Refusal → Type 0) → List (Bool × Refusal) → Type 0
 EachCause P = Each (λ (c : Bool × Refusal). P c.1)
 
 -- the first cause that holds is one of the causes
-among : (P : Refusal → Type 0) (cs : List (Bool × Refusal)) (why : Refusal) → EachCause P cs → first_cause cs ≡ Some why → P why
+pub among : (P : Refusal → Type 0) (cs : List (Bool × Refusal)) (why : Refusal) → EachCause P cs → first_cause cs ≡ Some why → P why
 among P [] why h = λ e. absurd cc
 among P (c ∷ cs) why h = cond_both c.0 (Some c.1) (first_cause cs) (λ (x : Option Refusal). x ≡ Some why → P why)
     (λ _ e. let same : c.1 ≡ why = cc in subst P same h.0)

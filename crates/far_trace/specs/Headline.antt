@@ -125,7 +125,7 @@ abbrev pub IsSaidBy : ℕ → Command → Type 0
 IsSaidBy m (Mutator k request) = m ≡ k
 IsSaidBy m (Book inquiry) = ⊥
 
--- a reply that its lines tell in full: its numbers have 64 bits, its bytes are bytes, and behind a refusal's number stands a line alone, or nothing
+-- a reply that its lines tell in full: its numbers have 64 bits, its bytes are bytes, and it is no refusal 14, 17 or 18, whose words aren't printed yet
 pub record IsPlainLine (line : LogLine) : Type 0 where
   pub log : line.log < 2 ^ 64
   pub live : line.live < 2 ^ 64
@@ -151,7 +151,7 @@ IsPlain (Logs lines) = ArePlain lines
 IsPlain (Refused why) = IsPlainRefusal why
 
 -- ---- the laws
--- replies that are printed alike are equal
+-- replies that their lines tell in full are equal where they are printed alike
 abbrev pub PrintedAlike : Type 0
 PrintedAlike = (r q : Reply) → IsPlain r → IsPlain q → printed r ≡ printed q → r ≡ q
 
@@ -161,13 +161,17 @@ LinesAreNumbered = (words : List (List ℕ)) (c : Command) (m : ℕ) → m < 2 ^
     (IsSaidBy m c → (name : List ℕ) × (rest : List (List ℕ)) × (words ≡ name ∷ decimal m ∷ rest))
     × ((name : List ℕ) (rest : List (List ℕ)) → words ≡ name ∷ decimal m ∷ rest → IsSaidBy m c)
 
--- what an output says, from its text on: where the text is read as a heap in range and commands, there are the replies and the moments of this output; in each moment
--- objects are whole, the logs in which views rest stay, and the replies to each mutator's lines are what its own lines alone say
+-- what an output says, from its text on: where the text is read as a heap in range and commands, there are the replies and the moments of this output; the lines tell
+-- the replies in full; each moment has the law, and in it objects are whole; the logs in which views rest stay; and the replies to each mutator's lines are what its own
+-- lines alone say
 pub record IsSound (logs mutators : ℕ) (cs : List Command) (output : List ℕ) : Type 0 where
   pub replies : List Reply
   pub moments : List Moment
+  pub bytes : AllWriteBytes cs
   pub answered : Answered (first_moment logs mutators) cs replies moments
   pub printed_so : output ≡ flat_map printed (Done ∷ replies)
+  pub plain : All IsPlain replies
+  pub lawful : All Lawful (first_moment logs mutators ∷ moments)
   pub whole : All (λ (now : Moment). IsWhole now.core) (first_moment logs mutators ∷ moments)
   pub stay : LogsStay (first_moment logs mutators) cs moments
   pub alone : (m : ℕ) → m < mutators → Alone m nothing cs replies

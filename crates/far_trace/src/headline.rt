@@ -2,9 +2,9 @@
 
 ghost use Rattle.far_trace.specs.Headline.{OutputsAreSound, OneOutput, EachTextIsAnswered, TextsWriteBytes, LinesAreNumbered, MomentsLast, EventsReach, ShapesAre, HeapsBeginLawful, ObjectsStayWhole, ViewedLogsStay, ViewsLast, RefusalsStay, RefusalsChangeNothing, StrangersAreRefused, NearRefusals, MutatorsAreAlone, OwnLinesCount, MutatorsLearn, NewTakesTheLowest, NoneIsLeft, NewIsMade, NewMakesItsObject, CommandsTakeRoom, WritesChangeTheirRange, LogsAreTold, PrintedAlike};
 
-/// From a text on: its output, where it is read as a heap in range and commands, has a reply and a moment for each
-/// command; in each moment objects are whole, through them the logs in which views rest stay, and each mutator's replies
-/// are what its own lines alone say.
+/// From a text on: its output, where it is read as a heap in range and commands, has a reply, which its lines tell in full,
+/// and a moment for each command. Each moment has the law, and in it objects are whole; through them the logs in which
+/// views rest stay; and each mutator's replies are what its own lines alone say.
 pub fn outputs_are_sound()
     ensures { OutputsAreSound }
 {}
@@ -72,7 +72,8 @@ pub fn writes_change_their_range()
     ensures { WritesChangeTheirRange }
 {}
 
-/// Replies that are printed alike are equal.
+/// Replies that their lines tell in full (numbers of 64 bits, bytes; not 14, 17 and 18, whose words aren't printed yet) are
+/// equal where they are printed alike.
 pub fn lines_tell_replies()
     ensures { PrintedAlike }
 {}
