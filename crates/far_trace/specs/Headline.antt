@@ -209,8 +209,8 @@ abbrev pub RefusalsChangeNothing : Type 0
 RefusalsChangeNothing = (now : Moment) (c : Command) (r : Reply) (after : Moment) (why : Refusal) → Commanded now c r after → r ≡ Refused why → after ≡ now
 
 -- a line of a mutator that the heap hasn't is refused 8
-abbrev pub StrangersAreRefused : Type 0
-StrangersAreRefused = (now : Moment) (c : Command) (r : Reply) (after : Moment) (m : ℕ) → IsSaidBy m c → now.core.mutators ≤ m → Commanded now c r after → r ≡ Refused Range
+abbrev pub UnknownMutatorsAreRefused : Type 0
+UnknownMutatorsAreRefused = (now : Moment) (c : Command) (r : Reply) (after : Moment) (m : ℕ) → IsSaidBy m c → now.core.mutators ≤ m → Commanded now c r after → r ≡ Refused Range
 
 -- what `logs` tells
 abbrev pub LogsAreTold : Type 0

@@ -1,6 +1,6 @@
 //! What outputs say, over whole texts and whole lists of commands. No function here does anything when it runs.
 
-ghost use Rattle.far_trace.specs.Headline.{OutputsAreSound, OneOutput, EachTextIsAnswered, TextsWriteBytes, LinesAreNumbered, MomentsLast, EventsReach, ShapesAre, HeapsBeginLawful, ObjectsStayWhole, ViewedLogsStay, ViewsLast, RefusalsStay, RefusalsChangeNothing, StrangersAreRefused, NearRefusals, MutatorsAreAlone, OwnLinesCount, MutatorsLearn, NewTakesTheLowest, NoneIsLeft, NewIsMade, NewMakesItsObject, CommandsTakeRoom, WritesChangeTheirRange, LogsAreTold, PrintedAlike};
+ghost use Rattle.far_trace.specs.Headline.{OutputsAreSound, OneOutput, EachTextIsAnswered, TextsWriteBytes, LinesAreNumbered, MomentsLast, EventsReach, ShapesAre, HeapsBeginLawful, ObjectsStayWhole, ViewedLogsStay, ViewsLast, RefusalsStay, RefusalsChangeNothing, UnknownMutatorsAreRefused, NearRefusals, MutatorsAreAlone, OwnLinesCount, MutatorsLearn, NewTakesTheLowest, NoneIsLeft, NewIsMade, NewMakesItsObject, CommandsTakeRoom, WritesChangeTheirRange, LogsAreTold, PrintedAlike};
 
 /// From a text on: its output, where it is read as a heap in range and commands, has a reply, which its lines tell in full,
 /// and a moment for each command. Each moment has the law, and in it objects are whole; through them the logs in which
@@ -20,8 +20,8 @@ pub fn texts_are_answered()
 
 /// A heap line may say 2 to 64 logs and 1 to 8 mutators. The heap begins with them, with the law and with nothing in it.
 /// After commands each moment has the law, its pointers at hand and its objects whole: each in use has exactly one place,
-/// each log's bytes are 1,024 in all, and no two pointers name one place. Each command is carried out by its events: they are legal, keep the law and
-/// what views rest on, and end in the moment after it.
+/// each log's bytes are 1,024 in all, and no two pointers name one place. Each command is carried out by its events: they
+/// are legal, keep the law and what views rest on, and end in the moment after it.
 pub fn moments_are_lawful()
     ensures shapes { ShapesAre }
     ensures begin { HeapsBeginLawful }
@@ -38,13 +38,14 @@ pub fn views_last()
 {}
 
 /// A refused command leaves objects, bytes, places and all else as they were, but for HOT and MOVE in its object's cell,
-/// which it may add for want of room; the commands of today add none, and leave the moment as it is. A line of a mutator that the heap hasn't is
-/// refused 8. Where the object that it reads or writes is near and unmarked, no command after the heap is refused for want
-/// of memory, by a device or for a mark; for want of a pointer or of room a new object alone is refused.
+/// which it may add for want of room; the commands of today add none, and leave the moment as it is. A line of a mutator
+/// that the heap hasn't is refused 8. Where the object that it reads or writes is near and unmarked, no command after the
+/// heap is refused for want of memory, by a device or for a mark; for want of a pointer or of room a new object alone is
+/// refused.
 pub fn refusals_leave_all()
     ensures stay { RefusalsStay }
     ensures nothing { RefusalsChangeNothing }
-    ensures strangers { StrangersAreRefused }
+    ensures unknown { UnknownMutatorsAreRefused }
     ensures near { NearRefusals }
 {}
 
@@ -78,7 +79,7 @@ pub fn lines_tell_replies()
     ensures { PrintedAlike }
 {}
 
-/// `logs` tells each log once, by number: its kind and its bytes, which make 1,024.
+/// `logs` reports each log once, by number: its kind and its bytes, which make 1,024.
 pub fn logs_are_told()
     ensures { LogsAreTold }
 {}
