@@ -9,15 +9,15 @@ use Rattle.far_core.specs.events.Step.{step_of}
 use Rattle.far_core.specs.world.WorldOf.{world_of}
 use Rattle.far_core.proofs.Leaving.{events_leave}
 use Rattle.far_trace.specs.Moment.{Moment, moment_of}
-use Rattle.far_trace.specs.Alone.{Own, Knows, Alone, own_of, is_by, speaker}
-use Rattle.far_trace.specs.Answers.{Answered}
+use Rattle.far_trace.specs.Alone.{Own, Knows, Alone, Learns, own_of, is_by, speaker}
+use Rattle.far_trace.specs.Answers.{Answered, Commanded, IsMoment}
 use Rattle.far_trace.specs.Command.{Command, New, Open, Write, Read, Close, Logs, Mutator, Book}
 use Rattle.far_trace.specs.Written.{WritesBytes, AllWriteBytes}
 use Rattle.far_trace.specs.EventRows.{after_events, AllAtHand}
 use Rattle.far_trace.specs.Reply.{Reply}
 use Rattle.far_trace.specs.Events.{events_for}
 use Rattle.far_trace.specs.Turn.{refusal}
-use Rattle.far_trace.proofs.Lasting.{Lasts, IsCarriedOut, carried, still_lasts}
+use Rattle.far_trace.proofs.Lasting.{Lasts, IsCarriedOut, carried, moment_lasts, still_lasts}
 use Rattle.far_trace.proofs.AloneNew.{turns_new}
 use Rattle.far_trace.proofs.AloneTurns.{Teaches, Turns, turns_open, turns_close, turns_read, turns_write}
 
@@ -30,10 +30,6 @@ made_mutators s [] = refl
 made_mutators s (e ∷ es) = made_mutators (step_of s e).0 es ∙ step_mutators s e
 
 -- ---- one command
--- what the mutator m learns of a command: its reply, where it is its own; nothing else
-abbrev Learns : State → ℕ → Command → Reply → State → Type 0
-Learns s m c r t = MatchBool (is_by m (speaker c)) (Knows m (own_of (world_of s) m) c r (own_of (world_of t) m)) (own_of (world_of t) m ≡ own_of (world_of s) m)
-
 -- a command that was made, by what its turn tells
 teaches : (s : State) (k : ℕ) (c : Command) (r : Reply) (t : State) → IsCarriedOut s c r t → Turns s k c (refusal (moment_of s) c) → Teaches s k c r t
 teaches s k c r t h turns = subst (λ (x : Reply × State). Teaches s k c x.0 x.1) (λ i. (sym h.reply i, sym h.state i)) (turns h.succeed)
@@ -53,6 +49,11 @@ learns s m (Mutator k (Read p from len)) r t law hand within small h =
     at_speaker s k m (Mutator k (Read p from len)) r t (nat_eq k m) refl within (teaches s k (Mutator k (Read p from len)) r t h (turns_read s k p from len law hand))
 learns s m (Mutator k Close) r t law hand within small h = at_speaker s k m (Mutator k Close) r t (nat_eq k m) refl within (teaches s k (Mutator k Close) r t h (turns_close s k law))
 learns s m (Book Logs) r t law hand within small h = ap (λ x. own_of (world_of x) m) h.state
+
+pub mutators_learn : (now : Moment) (c : Command) (r : Reply) (next : Moment) (m : ℕ) → IsMoment now → WritesBytes c → m < now.core.mutators → Commanded now c r next → Learns now.core m c r next.core
+mutators_learn now c r next m is bytes within h =
+    let lasts = moment_lasts now is in
+    learns now.core m c r next.core lasts.law lasts.tidy.at_hand within bytes (carried now c r next lasts bytes h)
 
 -- ---- all commands
 -- one line before others

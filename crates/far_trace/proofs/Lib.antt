@@ -25,6 +25,7 @@ pub mod NewTurns
 pub mod Numbers
 pub mod Opened
 pub mod OutputLaws
+pub mod PlainReplies
 pub mod PrintedAlike
 pub mod RangeReads
 pub mod RangeWrites
@@ -38,6 +39,7 @@ pub mod SaysLemmas
 pub mod Spliced
 pub mod StoreTurns
 pub mod Streams
+pub mod TakingRoom
 pub mod TextLaws
 pub mod Turns
 pub mod ViewLaws

@@ -39,7 +39,8 @@ use Rattle.far_trace.specs.Turn.{turn_effect, effect, causes, first_cause, refus
 use Rattle.far_trace.proofs.AloneNew.{new_run, is_structure, is_length}
 use Rattle.far_trace.proofs.AloneFirst.{alone_first}
 use Rattle.far_trace.proofs.Kept.{whole}
-use Rattle.far_trace.proofs.Lasting.{first_lawful, carried, moment_lasts, each_is_moment, first_is_moment}
+use Rattle.far_trace.proofs.Lasting.{first_lasts, first_lawful, carried, moment_lasts, moments_last, each_is_moment, first_is_moment}
+use Rattle.far_trace.proofs.PlainReplies.{replies_plain}
 use Rattle.far_trace.proofs.ViewLaws.{logs_stay}
 use Rattle.far_trace.proofs.TextLaws.{texts_write}
 use Rattle.far_trace.proofs.Lowest.{lowest_found, none_found}
@@ -83,11 +84,11 @@ cell_same (Some Free) = tt
 cell_same (Some (Near len ds place marks)) = (refl, refl, refl, gains_none marks)
 cell_same (Some (Far len ds marks)) = (refl, refl, gains_none marks)
 
-stays_same : (now : Moment) → Stays now now
-stays_same now = record { objects = refl; cells = λ p. cell_same (read_of (now.core.cell p)); rest = refl }
+stays_same : (c : Command) (why : Refusal) (now : Moment) → Stays c why now now
+stays_same c why now = record { objects = refl; cells = λ p. cell_same (read_of (now.core.cell p)); unmarked = λ p other. refl; rest = refl }
 
-pub refusals_stay : (now : Moment) (c : Command) (r : Reply) (next : Moment) (why : Refusal) → Commanded now c r next → r ≡ Refused why → Stays now next
-refusals_stay now c r next why h e = subst (Stays now) (sym (refused_stays now c r next why h e)) (stays_same now)
+pub refusals_stay : (now : Moment) (c : Command) (r : Reply) (next : Moment) (why : Refusal) → Commanded now c r next → r ≡ Refused why → Stays c why now next
+refusals_stay now c r next why h e = subst (Stays c why now) (sym (refused_stays now c r next why h e)) (stays_same c why now)
 
 -- ---- a mutator that the heap hasn't
 -- the first cause holds
@@ -276,7 +277,8 @@ makes_its_object now m len ds p next is c =
 -- ---- the first moment
 pub heap_lawful : (logs mutators : ℕ) → is_shape (shape_of logs mutators) ≡ true →
     ((first_moment logs mutators).core.logs ≡ logs) × ((first_moment logs mutators).core.mutators ≡ mutators) × Lawful (first_moment logs mutators) × IsWhole (first_moment logs mutators).core
-heap_lawful logs mutators fits = let lawful = first_lawful logs mutators fits in (refl, refl, lawful, whole (first_moment logs mutators).core lawful.law)
+    × ((p : ℕ) → (first_moment logs mutators).core.cell p ≡ 0) × ((l : ℕ) → (first_moment logs mutators).core.tail l ≡ 0)
+heap_lawful logs mutators fits = let lawful = first_lawful logs mutators fits in (refl, refl, lawful, whole (first_moment logs mutators).core lawful.law, (λ p. refl), (λ l. refl))
 
 -- ---- one law from the text
 pub objects_whole : (now : Moment) (cs : List Command) (rs : List Reply) (moments : List Moment) → IsMoment now → AllWriteBytes cs → Answered now cs rs moments →
@@ -299,8 +301,11 @@ outputs_sound text output logs mutators cs answers reads fits =
     record {
       replies = rs;
       moments = moments;
+      bytes = bytes;
       answered = h;
       printed_so = e;
+      plain = replies_plain (first_moment logs mutators) cs rs moments (first_lasts logs mutators fits) bytes h;
+      lawful = moments_last (first_moment logs mutators) cs rs moments is bytes h;
       whole = objects_whole (first_moment logs mutators) cs rs moments is bytes h;
       stay = logs_stay (first_moment logs mutators) cs rs moments is bytes h;
       alone = λ m within. alone_first logs mutators m cs rs moments fits within bytes h;

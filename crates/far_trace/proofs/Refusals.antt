@@ -3,22 +3,21 @@ use Rattle.std.proofs.Common.{◌≢◌, ◌≡◌, ℕ, Bool, sym, ap, ◌∙�
 use Rattle.std.proofs.lemmas.Bool.{cond_both}
 use Rattle.far_word.specs.declared.refused.Refused.{Refused as Refusal}
 use Rattle.far_core.specs.state.State.{State}
-use Rattle.far_trace.specs.EventRows.{AllAtHand}
 use Rattle.far_trace.specs.Moment.{Moment, moment_of}
 use Rattle.far_trace.specs.Answers.{Commanded}
 use Rattle.far_trace.specs.Command.{Command, New, Open, Write, Read, Close, Logs, Mutator, Book}
-use Rattle.far_trace.specs.Headline.{MayRefuse}
+use Rattle.far_trace.specs.Headline.{IsAtHandFor, MayRefuse}
 use Rattle.far_trace.specs.Reply.{Reply, Refused}
 use Rattle.far_trace.specs.Objects.{lowest_cell}
 use Rattle.far_trace.specs.Turn.{causes, first_cause, refusal, unless, turn_reply, pointer_reply}
 use Rattle.far_trace.proofs.Each.{Each}
 
 -- P holds of the refusal (moment_of of) each cause
-abbrev EachCause : (Refusal → Type 0) → List (Bool × Refusal) → Type 0
+abbrev pub EachCause : (Refusal → Type 0) → List (Bool × Refusal) → Type 0
 EachCause P = Each (λ (c : Bool × Refusal). P c.1)
 
 -- the first cause that holds is one of the causes
-among : (P : Refusal → Type 0) (cs : List (Bool × Refusal)) (why : Refusal) → EachCause P cs → first_cause cs ≡ Some why → P why
+pub among : (P : Refusal → Type 0) (cs : List (Bool × Refusal)) (why : Refusal) → EachCause P cs → first_cause cs ≡ Some why → P why
 among P [] why h = λ e. absurd cc
 among P (c ∷ cs) why h = cond_both c.0 (Some c.1) (first_cause cs) (λ (x : Option Refusal). x ≡ Some why → P why)
     (λ _ e. let same : c.1 ≡ why = cc in subst P same h.0)
@@ -50,6 +49,6 @@ pub from_cause : (o : Option Refusal) (r : Reply) (why : Refusal) → (r ≢ Ref
 from_cause None r why none e = absurd (none e)
 from_cause (Some cause) r why none e = let same : cause ≡ why = cc in ap Some same
 
-pub near_refusals : (now : Moment) (c : Command) (r : Reply) (next : Moment) (why : Refusal) → AllAtHand now.core → Commanded now c r next → r ≡ Refused why → MayRefuse c why
+pub near_refusals : (now : Moment) (c : Command) (r : Reply) (next : Moment) (why : Refusal) → IsAtHandFor now c → Commanded now c r next → r ≡ Refused why → MayRefuse c why
 near_refusals now c r next why hand h e =
     among (MayRefuse c) (causes now c) why (listed now.core c) (from_cause (refusal now c) (turn_reply now c) why (turn_is_no_refusal now.core c why) (sym h.reply ∙ e))

@@ -3,8 +3,9 @@ use Rattle.std.specs.Prelude.{◌≡◌, ℕ, ◌+◌, ◌/◌, ◌<◌, ◌≤�
 use Rattle.std.specs.Bool.{MatchBool}
 use Rattle.far_word.specs.declared.refused.Refused.TheVariants.{NoRoom, NoPointer, Length, Closed, AlreadyOpen, NotHeld, Range}
 use Rattle.far_word.specs.declared.sizes.TheConstants.{CELLS, LONGEST}
-use Rattle.far_core.specs.state.State.{put}
+use Rattle.far_core.specs.state.State.{State, put}
 use Rattle.far_core.specs.world.World.{World, Object}
+use Rattle.far_core.specs.world.WorldOf.{world_of}
 use Rattle.far_trace.specs.Command.{Command, New, Open, Write, Read, Close, Mutator, Book}
 use Rattle.far_trace.specs.Reply.{Reply, Done, Pointer, Data, Refused}
 use Rattle.far_trace.specs.Objects.{spliced}
@@ -78,3 +79,7 @@ own_of w m = record {
   object = λ p. cond (p / CELLS == m) (bytes_in_world (w.object p)) None;
   viewed = λ p. (p / CELLS == m) && w.viewed p;
 }
+
+-- what the mutator m learns of a command: what its reply says, where it is its own; else nothing
+abbrev pub Learns : State → ℕ → Command → Reply → State → Type 0
+Learns s m c r t = MatchBool (is_by m (speaker c)) (Knows m (own_of (world_of s) m) c r (own_of (world_of t) m)) (own_of (world_of t) m ≡ own_of (world_of s) m)

@@ -1,5 +1,5 @@
 -- What a trace program's outputs say: the laws over whole texts and whole lists of commands.
-use Rattle.std.specs.Prelude.{◌≡◌, ◌≢◌, ℕ, ◌+◌, ◌*◌, ◌/◌, ◌^◌, ◌<◌, ◌≤◌, true, is_some, decimal, Some, None, Ok, List, [], ◌∷◌, ◌++◌, length, replicate, slice_index, map, All, Contains}
+use Rattle.std.specs.Prelude.{◌≡◌, ◌≢◌, ◌↔◌, ℕ, ◌+◌, ◌*◌, ◌/◌, ◌^◌, ◌<◌, ◌≤◌, true, is_some, decimal, Some, None, Ok, List, [], ◌∷◌, ◌++◌, length, replicate, slice_index, map, All, Contains}
 use Rattle.std.specs.List.{flat_map, range_with_len}
 use Rattle.hex.specs.Hex.{IsBytes}
 use Rattle.far_word.specs.declared.pointer.Place.{Place}
@@ -16,12 +16,12 @@ use Rattle.far_core.specs.state.Shape.{is_shape}
 use Rattle.far_core.specs.state.State.{State, put}
 use Rattle.far_core.specs.world.World.{Group}
 use Rattle.far_core.specs.world.WorldOf.{world_of}
-use Rattle.far_trace.specs.Alone.{Alone, Knows, Own, nothing}
+use Rattle.far_trace.specs.Alone.{Alone, Knows, Learns, Own, nothing}
 use Rattle.far_trace.specs.Answers.{Answered, Answers, Commanded, IsMoment, shape_of, first_moment}
 use Rattle.far_trace.specs.Command.{Command, Heap, CommandLine, New, Open, Write, Read, Close, Logs as AsksLogs, Mutator, Book}
 use Rattle.far_trace.specs.Grammar.{trace_of}
 use Rattle.far_trace.specs.Moment.{Moment}
-use Rattle.far_trace.specs.EventRows.{after_events, AllPass, AllSucceed, AllAtHand}
+use Rattle.far_trace.specs.EventRows.{after_events, AllPass, AllSucceed, AtHand, AllAtHand}
 use Rattle.far_trace.specs.Events.{events_for}
 use Rattle.far_trace.specs.Objects.{spliced}
 use Rattle.far_trace.specs.Says.{Says}
@@ -43,11 +43,17 @@ LogsStay now [] moments = LogStays now.core now.core
 LogsStay now (c ∷ cs) [] = ⊥
 LogsStay now (c ∷ cs) (after ∷ moments) = StayThrough now c × LogsStay after cs moments
 
--- the events of a command lead from a moment to the next: each is legal, and keeps the law and agreement; where all is at hand each comes to pass
+-- the object that a command reads or writes, if there is one, may be dereferenced at once
+abbrev pub IsAtHandFor : Moment → Command → Type 0
+IsAtHandFor now (Mutator m (Write p from bytes)) = now.core.cell p ≢ 0 → AtHand now.core p
+IsAtHandFor now (Mutator m (Read p from len)) = now.core.cell p ≢ 0 → AtHand now.core p
+IsAtHandFor now c = Unit {0}
+
+-- the events of a command lead from a moment to the next: each is legal, and keeps the law and agreement; where its object is at hand each comes to pass
 pub record Reaches (now : Moment) (c : Command) (after : Moment) : Type 0 where
   pub ends : after.core ≡ after_events now.core (events_for now c)
   pub pass : AllPass now.core (events_for now c)
-  pub succeed : AllAtHand now.core → AllSucceed now.core (events_for now c)
+  pub succeed : IsAtHandFor now c → AllSucceed now.core (events_for now c)
 
 -- what is true of each moment of an output
 pub record Lawful (now : Moment) : Type 0 where
@@ -55,11 +61,11 @@ pub record Lawful (now : Moment) : Type 0 where
   pub law : Law now.core
   pub at_hand : AllAtHand now.core
 
--- each object that is in use has one live span, each log's bytes are 1,024, and no two cells name one place
+-- each object that is in use has one place, each log's bytes are 1,024, and no two cells name one place
 abbrev pub IsWhole : State → Type 0
 IsWhole t = ((p : ℕ) → HasOnePlace t p) × ((l : ℕ) → live_bytes t l + dead_bytes t l + unused_bytes t l ≡ 8 * LOG_WORDS) × NamesOnce t
 
--- the refusals that a command may have where all objects are near: none for want of memory, none of a device, none that tells a mark
+-- the refusals that a command may have where its object is at hand: none for want of memory, none of a device, none that tells a mark
 abbrev pub MayRefuse : Command → Refusal → Type 0
 MayRefuse (Mutator m (New len ds)) Range = Unit {0}
 MayRefuse (Mutator m (New len ds)) Length = Unit {0}
@@ -108,12 +114,18 @@ ViewsAfter now (Mutator m (Write p from bytes)) Done after = ViewsObject now.cor
 ViewsAfter now (Mutator m Close) Done after = ViewsNothing now.core after.core m
 ViewsAfter now c r after = after.core.held ≡ now.core.held
 
+-- what a command with its reply takes of the logs: a new object its span, at the end of the log that room says; anything else nothing
+abbrev pub TakesRoom : Moment → Command → Reply → Moment → Type 0
+TakesRoom now (Mutator m (New len ds)) (Pointer p) after = (place : Place) × (room now.core (size_of len) true ≡ Some place)
+    × (after.core.tail ≡ put now.core.tail place.log (place.at + size_of len))
+TakesRoom now c r after = (after.core.tail ≡ now.core.tail) × (after.core.kind ≡ now.core.kind)
+
 -- the line has the mutator's number
 abbrev pub IsSaidBy : ℕ → Command → Type 0
 IsSaidBy m (Mutator k request) = m ≡ k
 IsSaidBy m (Book inquiry) = ⊥
 
--- a reply that its lines tell in full: its numbers have 64 bits, its bytes are bytes, and behind a refusal's number stands a line alone, or nothing
+-- a reply that its lines tell in full: its numbers have 64 bits, its bytes are bytes, and it is no refusal 14, 17 or 18, whose words aren't printed yet
 pub record IsPlainLine (line : LogLine) : Type 0 where
   pub log : line.log < 2 ^ 64
   pub live : line.live < 2 ^ 64
@@ -139,7 +151,7 @@ IsPlain (Logs lines) = ArePlain lines
 IsPlain (Refused why) = IsPlainRefusal why
 
 -- ---- the laws
--- replies that are printed alike are equal
+-- replies that their lines tell in full are equal where they are printed alike
 abbrev pub PrintedAlike : Type 0
 PrintedAlike = (r q : Reply) → IsPlain r → IsPlain q → printed r ≡ printed q → r ≡ q
 
@@ -149,13 +161,17 @@ LinesAreNumbered = (words : List (List ℕ)) (c : Command) (m : ℕ) → m < 2 ^
     (IsSaidBy m c → (name : List ℕ) × (rest : List (List ℕ)) × (words ≡ name ∷ decimal m ∷ rest))
     × ((name : List ℕ) (rest : List (List ℕ)) → words ≡ name ∷ decimal m ∷ rest → IsSaidBy m c)
 
--- what an output says, from its text on: where the text is read as a heap in range and commands, there are the replies and the moments of this output; in each moment
--- objects are whole, the logs in which views rest stay, and the replies to each mutator's lines are what its own lines alone say
+-- what an output says, from its text on: where the text is read as a heap in range and commands, there are the replies and the moments of this output; the lines tell
+-- the replies in full; each moment has the law, and in it objects are whole; the logs in which views rest stay; and the replies to each mutator's lines are what its own
+-- lines alone say
 pub record IsSound (logs mutators : ℕ) (cs : List Command) (output : List ℕ) : Type 0 where
   pub replies : List Reply
   pub moments : List Moment
+  pub bytes : AllWriteBytes cs
   pub answered : Answered (first_moment logs mutators) cs replies moments
   pub printed_so : output ≡ flat_map printed (Done ∷ replies)
+  pub plain : All IsPlain replies
+  pub lawful : All Lawful (first_moment logs mutators ∷ moments)
   pub whole : All (λ (now : Moment). IsWhole now.core) (first_moment logs mutators ∷ moments)
   pub stay : LogsStay (first_moment logs mutators) cs moments
   pub alone : (m : ℕ) → m < mutators → Alone m nothing cs replies
@@ -184,9 +200,9 @@ MomentsLast = (now : Moment) (cs : List Command) (rs : List Reply) (moments : Li
 abbrev pub EventsReach : Type 0
 EventsReach = (now : Moment) (c : Command) (r : Reply) (after : Moment) → IsMoment now → WritesBytes c → Commanded now c r after → Reaches now c after
 
--- a refused command leaves objects, bytes, places and all else as they were, but for marks that it may add
+-- a refused command leaves objects, bytes, places and all else as they were, but for marks that it may add to its object's cell
 abbrev pub RefusalsStay : Type 0
-RefusalsStay = (now : Moment) (c : Command) (r : Reply) (after : Moment) (why : Refusal) → Commanded now c r after → r ≡ Refused why → Stays now after
+RefusalsStay = (now : Moment) (c : Command) (r : Reply) (after : Moment) (why : Refusal) → Commanded now c r after → r ≡ Refused why → Stays c why now after
 
 -- with these commands it adds none
 abbrev pub RefusalsChangeNothing : Type 0
@@ -214,14 +230,23 @@ abbrev pub MutatorsAreAlone : Type 0
 MutatorsAreAlone = (logs mutators m : ℕ) (cs : List Command) (rs : List Reply) (moments : List Moment) → is_shape (shape_of logs mutators) ≡ true → m < mutators → AllWriteBytes cs →
     Answered (first_moment logs mutators) cs rs moments → Alone m nothing cs rs
 
--- where all objects are near and at hand, commands are refused so alone
-abbrev pub NearRefusals : Type 0
-NearRefusals = (now : Moment) (c : Command) (r : Reply) (after : Moment) (why : Refusal) → AllAtHand now.core → Commanded now c r after → r ≡ Refused why → MayRefuse c why
+-- after each command a mutator knows what the heap says of it; a command of others changes nothing of that
+abbrev pub MutatorsLearn : Type 0
+MutatorsLearn = (now : Moment) (c : Command) (r : Reply) (after : Moment) (m : ℕ) → IsMoment now → WritesBytes c → m < now.core.mutators → Commanded now c r after → Learns now.core m c r after.core
 
--- a heap in range begins with the numbers on its line and with the law, so that the laws above hold from its first moment on
+-- where its object is at hand, a command is refused so alone
+abbrev pub NearRefusals : Type 0
+NearRefusals = (now : Moment) (c : Command) (r : Reply) (after : Moment) (why : Refusal) → IsAtHandFor now c → Commanded now c r after → r ≡ Refused why → MayRefuse c why
+
+-- a heap in range begins with the numbers on its line, with the law, so that the laws above hold from its first moment on, and with nothing in it
 abbrev pub HeapsBeginLawful : Type 0
 HeapsBeginLawful = (logs mutators : ℕ) → is_shape (shape_of logs mutators) ≡ true →
     ((first_moment logs mutators).core.logs ≡ logs) × ((first_moment logs mutators).core.mutators ≡ mutators) × Lawful (first_moment logs mutators) × IsWhole (first_moment logs mutators).core
+    × ((p : ℕ) → (first_moment logs mutators).core.cell p ≡ 0) × ((l : ℕ) → (first_moment logs mutators).core.tail l ≡ 0)
+
+-- the shapes that a heap line may say, in numerals
+abbrev pub ShapesAre : Type 0
+ShapesAre = (logs mutators : ℕ) → (is_shape (shape_of logs mutators) ≡ true) ↔ ((2 ≤ logs) × (logs ≤ 64) × (1 ≤ mutators) × (mutators ≤ 8))
 
 -- a new object's pointer is its owner's lowest cell that is 0
 abbrev pub NewTakesTheLowest : Type 0
@@ -240,6 +265,10 @@ NewIsMade = (now : Moment) (m len ds : ℕ) (r : Reply) (after : Moment) → m <
     (((q : ℕ) → m * CELLS ≤ q → q < m * CELLS + CELLS → now.core.cell q ≢ 0) → r ≡ Refused NoPointer)
     × ((q : ℕ) → m * CELLS ≤ q → q < m * CELLS + CELLS → now.core.cell q ≡ 0 →
     (room now.core (size_of len) true ≡ None → r ≡ Refused NoRoom) × ((place : Place) → room now.core (size_of len) true ≡ Some place → (p : ℕ) × (r ≡ Pointer p)))
+
+-- a new object alone takes room, and no more than its span
+abbrev pub CommandsTakeRoom : Type 0
+CommandsTakeRoom = (now : Moment) (c : Command) (r : Reply) (after : Moment) → Commanded now c r after → TakesRoom now c r after
 
 -- what is read or written is viewed until its mutator closes its scope; nothing else makes a view or takes one away
 abbrev pub ViewsLast : Type 0

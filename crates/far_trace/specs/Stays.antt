@@ -1,10 +1,13 @@
--- What a refused call leaves as it was: all but two marks, which its owner's tries may have added.
-use Rattle.std.specs.Prelude.{◌≡◌, ℕ, true, Option, Some, None}
+-- What a refused command leaves as it was: all but two marks of one cell, which it may have added.
+use Rattle.std.specs.Prelude.{◌≡◌, ℕ, List, true, Option, Some, None}
 use Rattle.far_word.specs.declared.mark.Marks.{Marks}
 use Rattle.far_word.specs.declared.pointer.PtrWord.{PtrWord}
 use Rattle.far_word.specs.declared.pointer.PtrWord.TheVariants.{Free, Near, Far}
+use Rattle.far_word.specs.declared.refused.Refused.{Refused as Refusal}
+use Rattle.far_word.specs.declared.refused.Refused.TheVariants.{NoRoom}
 use Rattle.far_word.specs.Pointer.{read_of}
 use Rattle.far_core.specs.world.WorldOf.{world_of}
+use Rattle.far_trace.specs.Command.{Command, Write, Read, Mutator}
 use Rattle.far_trace.specs.Moment.{Moment}
 
 -- HOT and MOVE may have been added; EVAC and DROP are as they were
@@ -22,8 +25,15 @@ CellStays (Some (Near len ds place a)) (Some (Near n d at b)) = (n ≡ len) × (
 CellStays (Some (Far len ds a)) (Some (Far n d b)) = (n ≡ len) × (d ≡ ds) × MayGain a b
 CellStays _ _ = ⊥
 
--- objects, bytes and places are as before, and so is all else but for marks in cells
-pub record Stays (now next : Moment) : Type 0 where
+-- the cell whose marks a refused line may add to: that of the object it reads or writes, and only where the refusal came after the pin
+abbrev pub MayMark : Command → Refusal → ℕ → Type 0
+MayMark (Mutator m (Write p from bytes)) NoRoom q = q ≡ p
+MayMark (Mutator m (Read p from len)) NoRoom q = q ≡ p
+MayMark c why q = ⊥
+
+-- objects, bytes and places are as before, and so is all else of the core but for marks in that cell
+pub record Stays (c : Command) (why : Refusal) (now next : Moment) : Type 0 where
   pub objects : (world_of next.core).object ≡ (world_of now.core).object
   pub cells : (p : ℕ) → CellStays (read_of (now.core.cell p)) (read_of (next.core.cell p))
-  pub rest : next ≡ record now { core = record now.core { cell = next.core.cell } }
+  pub unmarked : (p : ℕ) → ¬ MayMark c why p → next.core.cell p ≡ now.core.cell p
+  pub rest : next.core ≡ record now.core { cell = next.core.cell }

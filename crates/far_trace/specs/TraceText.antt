@@ -59,7 +59,3 @@ HaveNone byte parts = list_all (list_all (λ b. not (b == byte))) parts ≡ true
 -- lines have no newline, and joined by newlines they are the text; words have no space, and joined by spaces they are the line
 abbrev pub CutsJoin : Type 0
 CutsJoin = (bytes : List ℕ) → HaveNone 10 (lines_of bytes) × (join_with_byte 10 (lines_of bytes) ≡ bytes) × HaveNone 32 (line_words bytes) × (join_with_byte 32 (line_words bytes) ≡ bytes)
-
--- how long lines and texts may be, in numbers
-abbrev pub LimitsAre : Type 0
-LimitsAre = (LONGEST_LINE ≡ 4096) × (LONGEST_TEXT ≡ 1048576)

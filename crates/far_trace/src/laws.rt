@@ -7,25 +7,23 @@ ghost use Rattle.far_trace.specs.declared.reply.TheConstants.{LONGEST_REPLY};
 ghost use Rattle.far_trace.specs.Command.{Entry};
 ghost use Rattle.far_trace.specs.Grammar.{entry_of};
 ghost use Rattle.far_trace.specs.Says.{Says};
-ghost use Rattle.far_trace.specs.TraceText.{TextsAreRead, FirstBadLines, CutsJoin, LimitsAre};
+ghost use Rattle.far_trace.specs.TraceText.{TextsAreRead, FirstBadLines, CutsJoin};
 
 use crate::output::Output;
 
 /// Words are read as a heap or a command exactly where they say it, and a text as nothing, or a heap and commands, exactly
 /// where its lines say so: all its lines, in order, comments and empty lines passed over. The number that is refused is
 /// that of the first line that says nothing, from 1; 0 where the text is too long. Lines joined by newlines are the text,
-/// and words joined by spaces the line. A line has at most 4,096 bytes, its newline not counted, and a text at most
-/// 1,048,576.
+/// and words joined by spaces the line.
 pub fn grammar_is_said()
     ensures words { (words : List (List ℕ)) (e : Entry) → Says words e ↔ (entry_of words ≡ Some e) }
     ensures texts { TextsAreRead }
     ensures bad { FirstBadLines }
     ensures cuts { CutsJoin }
-    ensures limits { LimitsAre }
 {}
 
-/// A text has at most 1,048,576 bytes, a line 4,096, what a word in hex spells 2,048; room is kept for a reply of 16,384,
-/// and up to 65,536 bytes of replies wait.
+/// A text has at most 1,048,576 bytes, a line 4,096, its newline not counted, what a word in hex spells 2,048; room is kept
+/// for a reply of 16,384, and up to 65,536 bytes of replies wait.
 pub fn limits_are()
     ensures text { LONGEST_TEXT ≡ 1048576 }
     ensures line { LONGEST_LINE ≡ 4096 }

@@ -7,7 +7,8 @@ ghost use Rattle.std.specs.List.{flat_map};
 ghost use Rattle.far_core.specs.state.CoreState.{core_state};
 ghost use Rattle.far_core.specs.state.Shape.{is_shape};
 ghost use Rattle.far_trace.specs.Moment.{Moment, moment_of};
-ghost use Rattle.far_trace.specs.Answers.{Answered, WritesOutput, WritesAnswer, LeavesBehind, Leaves, end_of};
+ghost use Rattle.far_trace.specs.Answers.{Answered, MayMakeHeap, WritesOutput, WritesAnswer, LeavesBehind, Leaves, end_of};
+ghost use Rattle.far_trace.specs.declared.text.TheConstants.{LONGEST_TEXT};
 ghost use Rattle.far_trace.specs.Grammar.{trace_of};
 ghost use Rattle.far_trace.specs.Command.{said, said_trace, Heap};
 ghost use Rattle.far_trace.specs.Reply.{Reply as Answer, Done, printed};
@@ -161,6 +162,7 @@ fn answer<W: Write>(
     ensures end { IfOk result (λ end. end ≡ end_of (Ok (said_trace trace.now))) }
     ensures fault { IfErr result (λ fault. LeavesBehind fault (W.contents writer.old) (W.contents writer.new) (Ok (said_trace trace.now))) }
     ensures unread { result ≢ Err RunFault.Read }
+    ensures memory { result ≡ Err RunFault.Memory → MayMakeHeap (Ok (said_trace trace.now)) }
 {
     match trace {
         Trace::Nothing => Ok(End::Ran),
@@ -190,6 +192,7 @@ fn answer_text<W: Write>(
     ensures end { IfOk result (λ end. end ≡ end_of (trace_of text.now)) }
     ensures fault { IfErr result (λ fault. LeavesBehind fault (W.contents writer.old) (W.contents writer.new) (trace_of text.now)) }
     ensures unread { result ≢ Err RunFault.Read }
+    ensures long { LONGEST_TEXT < length text.now → result ≢ Err RunFault.Memory }
 {
     match parse(alloc, text) {
         Ok(trace) => answer(alloc, writer, replies, &trace),

@@ -1,4 +1,3 @@
-use Rattle.std.proofs.Common.{refl}
 use Rattle.far_trace.proofs.SaysLemmas.{said_is_read, read_is_said}
 use Rattle.far_trace.proofs.TextLaws.{texts_read, first_bad, cuts}
 use Rattle.far_trace.proofs.laws.grammar_is_said.Goals as goal
@@ -9,5 +8,4 @@ returns c = record {
   texts = texts_read;
   bad = first_bad;
   cuts = cuts;
-  limits = (refl, refl);
 }
