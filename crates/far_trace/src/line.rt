@@ -6,6 +6,7 @@ ghost use Rattle.far_trace.specs.Cursor.{first_line, lines_behind, lines_left, s
 
 use crate::command::{Command, command_first};
 use crate::hex_word::LONGEST_LINE;
+use memchr::memchr;
 
 /// What a line says.
 #[derive(Clone, Copy)]
@@ -13,6 +14,18 @@ pub enum Line<'a> {
     /// An empty line or a comment.
     Skipped,
     Said(Command<'a>),
+}
+
+// Where the first line of a text ends.
+fn line_end(text: &[u8]) -> usize
+    ensures bound { result ≤ length text.now }
+    ensures inside { (k : ℕ) → k < result → (slice_index text.now k == 10) ≡ false }
+    ensures ends { result < length text.now → slice_index text.now result ≡ 10 }
+{
+    match memchr(b'\n', text) {
+        Some(end) => end,
+        None => text.len(),
+    }
 }
 
 // Where the first line of a text ends, if all its bytes are ASCII.
@@ -23,15 +36,12 @@ fn ascii_len(text: &[u8]) -> Option<usize>
     ensures ends { IfSome result (λ len. len < length text.now → slice_index text.now len ≡ 10) }
     ensures other { IfNone result ((at : ℕ) × (at < length text.now) × (128 ≤ slice_index text.now at) × ((k : ℕ) → k < at → (slice_index text.now k == 10) ≡ false)) }
 {
-    for (i, byte) in text.iter().enumerate() {
-        if *byte >= 128 {
-            return None;
-        }
-        if *byte == b'\n' {
-            return Some(i);
-        }
+    let len = line_end(text);
+    if text[..len].is_ascii() {
+        Some(len)
+    } else {
+        None
     }
-    Some(text.len())
 }
 
 // Reads a comment, which a text begins with.
