@@ -10,7 +10,7 @@ use Rattle.far_core.proofs.WorldFacts.{opening_world}
 use Rattle.far_trace.specs.Alone.{Alone, nothing, own_of}
 use Rattle.far_trace.specs.Answers.{Answered, shape_of, first_moment}
 use Rattle.far_trace.specs.Command.{Command}
-use Rattle.far_trace.specs.Later.{AreLater}
+use Rattle.far_trace.specs.Written.{AllWriteBytes}
 use Rattle.far_trace.specs.Moment.{Moment}
 use Rattle.far_trace.specs.Reply.{Reply}
 use Rattle.far_trace.proofs.AloneLaw.{alone}
@@ -30,7 +30,7 @@ pub first_nothing : (logs mutators m : ℕ) → own_of (world_of (first_moment l
 first_nothing logs mutators m = ap (λ w. own_of w m) (opening_world (shape_of logs mutators) true) ∙ start_nothing m
 
 -- from the first moment on, the replies to a mutator's lines are what they say by themselves
-pub alone_first : (logs mutators m : ℕ) (cs : List Command) (rs : List Reply) (moments : List Moment) → is_shape (shape_of logs mutators) ≡ true → m < mutators → AreLater cs →
+pub alone_first : (logs mutators m : ℕ) (cs : List Command) (rs : List Reply) (moments : List Moment) → is_shape (shape_of logs mutators) ≡ true → m < mutators → AllWriteBytes cs →
     Answered (first_moment logs mutators) cs rs moments → Alone m nothing cs rs
-alone_first logs mutators m cs rs moments shape within later h =
-    subst (λ o. Alone m o cs rs) (first_nothing logs mutators m) (alone (first_moment logs mutators) cs rs moments m (first_lasts logs mutators shape) within later h)
+alone_first logs mutators m cs rs moments shape within bytes h =
+    subst (λ o. Alone m o cs rs) (first_nothing logs mutators m) (alone (first_moment logs mutators) cs rs moments m (first_lasts logs mutators shape) within bytes h)

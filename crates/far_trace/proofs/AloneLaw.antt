@@ -17,8 +17,8 @@ use Rattle.far_core.proofs.Leaving.{events_leave}
 use Rattle.far_trace.specs.Moment.{Moment, moment_of}
 use Rattle.far_trace.specs.Alone.{Own, Knows, Alone, own_of, is_by, speaker}
 use Rattle.far_trace.specs.Answers.{Answered}
-use Rattle.far_trace.specs.Command.{Command, Heap, New, Open, Write, Read, Close, Logs, Mutator, Book}
-use Rattle.far_trace.specs.Later.{IsLater, AreLater}
+use Rattle.far_trace.specs.Command.{Command, New, Open, Write, Read, Close, Logs, Mutator, Book}
+use Rattle.far_trace.specs.Written.{WritesBytes, AllWriteBytes}
 use Rattle.far_trace.specs.EventRows.{after_events, AllAtHand}
 use Rattle.far_trace.specs.Reply.{Reply}
 use Rattle.far_trace.specs.Events.{events_for}
@@ -50,16 +50,15 @@ at_speaker : (s : State) (k m : ℕ) (c : Command) (r : Reply) (t : State) (b : 
 at_speaker s k m c r t true e within tells = subst (λ x. x < s.mutators → Knows x (own_of (world_of s) x) c r (own_of (world_of t) x)) (eqb-true k m e) tells.0 within
 at_speaker s k m c r t false e within tells = tells.1 m (eqb-false k m e)
 
-learns : (s : State) (m : ℕ) (c : Command) (r : Reply) (t : State) → Law s → AllAtHand s → m < s.mutators → IsLater c → IsCarriedOut s c r t → Learns s m c r t
-learns s m (Heap logs mutators) r t law hand within later h = absurd later
-learns s m (Mutator k (New len ds)) r t law hand within later h = at_speaker s k m (Mutator k (New len ds)) r t (nat_eq k m) refl within (teaches s k (Mutator k (New len ds)) r t h (turns_new s k len ds law))
-learns s m (Mutator k Open) r t law hand within later h = at_speaker s k m (Mutator k Open) r t (nat_eq k m) refl within (teaches s k (Mutator k Open) r t h (turns_open s k law))
-learns s m (Mutator k (Write p from bytes)) r t law hand within later h =
-    at_speaker s k m (Mutator k (Write p from bytes)) r t (nat_eq k m) refl within (teaches s k (Mutator k (Write p from bytes)) r t h (turns_write s k p from bytes law hand later))
-learns s m (Mutator k (Read p from len)) r t law hand within later h =
+learns : (s : State) (m : ℕ) (c : Command) (r : Reply) (t : State) → Law s → AllAtHand s → m < s.mutators → WritesBytes c → IsCarriedOut s c r t → Learns s m c r t
+learns s m (Mutator k (New len ds)) r t law hand within small h = at_speaker s k m (Mutator k (New len ds)) r t (nat_eq k m) refl within (teaches s k (Mutator k (New len ds)) r t h (turns_new s k len ds law))
+learns s m (Mutator k Open) r t law hand within small h = at_speaker s k m (Mutator k Open) r t (nat_eq k m) refl within (teaches s k (Mutator k Open) r t h (turns_open s k law))
+learns s m (Mutator k (Write p from bytes)) r t law hand within small h =
+    at_speaker s k m (Mutator k (Write p from bytes)) r t (nat_eq k m) refl within (teaches s k (Mutator k (Write p from bytes)) r t h (turns_write s k p from bytes law hand small))
+learns s m (Mutator k (Read p from len)) r t law hand within small h =
     at_speaker s k m (Mutator k (Read p from len)) r t (nat_eq k m) refl within (teaches s k (Mutator k (Read p from len)) r t h (turns_read s k p from len law hand))
-learns s m (Mutator k Close) r t law hand within later h = at_speaker s k m (Mutator k Close) r t (nat_eq k m) refl within (teaches s k (Mutator k Close) r t h (turns_close s k law))
-learns s m (Book Logs) r t law hand within later h = ap (λ x. own_of (world_of x) m) h.state
+learns s m (Mutator k Close) r t law hand within small h = at_speaker s k m (Mutator k Close) r t (nat_eq k m) refl within (teaches s k (Mutator k Close) r t h (turns_close s k law))
+learns s m (Book Logs) r t law hand within small h = ap (λ x. own_of (world_of x) m) h.state
 
 -- ---- all commands
 -- one line before others
@@ -69,15 +68,15 @@ one_more m o q c r cs rs true h rest = (q, h, rest)
 one_more m o q c r cs rs false h rest = subst (λ x. Alone m x cs rs) h rest
 
 -- the replies to a mutator's own lines are what they say by themselves
-pub alone : (now : Moment) (cs : List Command) (rs : List Reply) (moments : List Moment) (m : ℕ) → Lasts now → m < now.core.mutators → AreLater cs → Answered now cs rs moments →
+pub alone : (now : Moment) (cs : List Command) (rs : List Reply) (moments : List Moment) (m : ℕ) → Lasts now → m < now.core.mutators → AllWriteBytes cs → Answered now cs rs moments →
     Alone m (own_of (world_of now.core) m) cs rs
-alone now [] [] [] m lasts within later h = tt
-alone now [] [] (x ∷ xs) m lasts within later h = absurd h
-alone now [] (r ∷ rs) xs m lasts within later h = absurd h
-alone now (c ∷ cs) [] xs m lasts within later h = absurd h
-alone now (c ∷ cs) (r ∷ rs) [] m lasts within later h = absurd h
-alone now (c ∷ cs) (r ∷ rs) (next ∷ xs) m lasts within later h =
-    let x = carried now c r next lasts later.0 h.0 in
+alone now [] [] [] m lasts within small h = tt
+alone now [] [] (x ∷ xs) m lasts within small h = absurd h
+alone now [] (r ∷ rs) xs m lasts within small h = absurd h
+alone now (c ∷ cs) [] xs m lasts within small h = absurd h
+alone now (c ∷ cs) (r ∷ rs) [] m lasts within small h = absurd h
+alone now (c ∷ cs) (r ∷ rs) (next ∷ xs) m lasts within small h =
+    let x = carried now c r next lasts small.0 h.0 in
     let same : next.core.mutators ≡ now.core.mutators = ap (λ (t : State). t.mutators) x.state ∙ made_mutators now.core (events_for now c) in
-    one_more m (own_of (world_of now.core) m) (own_of (world_of next.core) m) c r cs rs (is_by m (speaker c)) (learns now.core m c r next.core lasts.law lasts.tidy.at_hand within later.0 x)
-    (alone next cs rs xs m (still_lasts now c r next lasts later.0 h.0) (subst (λ n. m < n) (sym same) within) later.1 h.1)
+    one_more m (own_of (world_of now.core) m) (own_of (world_of next.core) m) c r cs rs (is_by m (speaker c)) (learns now.core m c r next.core lasts.law lasts.tidy.at_hand within small.0 x)
+    (alone next cs rs xs m (still_lasts now c r next lasts small.0 h.0) (subst (λ n. m < n) (sym same) within) small.1 h.1)

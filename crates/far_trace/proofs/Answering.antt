@@ -1,7 +1,10 @@
 -- One command more that was answered.
-use Rattle.std.proofs.Common.{◌≡◌, ℕ, ◌+◌, ◌<◌, List, [], ◌∷◌, ◌++◌, Option, Some, None, length, get_or, drop, refl, ap, sym, ◌∙◌, subst, arith, append_assoc, append-nil, zero, suc}
+use Rattle.std.proofs.Common.{◌≡◌, ℕ, ◌+◌, ◌<◌, List, [], ◌∷◌, ◌++◌, Option, Some, None, length, get_or, drop, Result, Ok, Err, refl, ap, sym, ◌∙◌, subst, arith, append_assoc, append-nil, zero, suc}
 use Rattle.std.specs.Prelude.{map}
 use Rattle.std.specs.List.{flat_map}
+use Rattle.std.specs.Result.{result_unwrap_or}
+use Rattle.hex.specs.Hex.{IsBytes, decode_of}
+use Rattle.hex.proofs.HexLemmas.{decode_of-ok}
 use Rattle.std.proofs.lemmas.Grind.{flat_map-append}
 use mathlib.Core.Path.{fun_ext}
 use Rattle.far_word.specs.declared.refused.Refused.{Refused as Refusal}
@@ -9,28 +12,35 @@ use Rattle.far_core.specs.state.Law.{Law}
 use Rattle.far_core.specs.state.State.{State}
 use Rattle.far_trace.specs.Moment.{Moment, moment_of}
 use Rattle.far_trace.specs.Answers.{Answered, Commanded}
-use Rattle.far_trace.specs.Command.{Command, Heap, New, Open, Write, Read, Close, Logs, Mutator, Book}
-use Rattle.far_trace.specs.Later.{IsLater, AreLater}
-use Rattle.far_trace.specs.Interpreter.{AllBytes, next_after}
+use Rattle.far_trace.specs.Command.{Command, Read, Mutator, said}
+use Rattle.far_trace.specs.HexWord.{hex_bytes}
+use Rattle.far_trace.specs.Written.{WritesBytes}
+use Rattle.far_trace.specs.declared.command.Command.{Command as Spelled}
+use Rattle.far_trace.specs.declared.command.Command.TheVariants.{Mutator as SpelledMutator, Book as SpelledBook}
+use Rattle.far_trace.specs.declared.command.Request.TheVariants.{New as SpelledNew, Open as SpelledOpen, Write as SpelledWrite, Read as SpelledRead, Close as SpelledClose}
+use Rattle.far_trace.specs.Interpreter.{next_after}
 use Rattle.far_trace.specs.Reply.{Reply, printed}
 use Rattle.far_trace.specs.Tidy.{Tidy}
 use Rattle.far_trace.specs.Turn.{effect, refusal, unless}
 use Rattle.far_trace.proofs.Turns.{turns}
 
--- what a later command writes is bytes
-pub later_bytes : (c : Command) → IsLater c → AllBytes c
-later_bytes (Heap logs mutators) h = tt
-later_bytes (Mutator m (New len ds)) h = tt
-later_bytes (Mutator m Open) h = tt
-later_bytes (Mutator m (Write p from bytes)) h = h
-later_bytes (Mutator m (Read p from len)) h = tt
-later_bytes (Mutator m Close) h = tt
-later_bytes (Book Logs) h = tt
+-- what is decoded is bytes, and nothing is
+unwrapped_bytes : {E : Type 0} (r : Result (List ℕ) E) → ((bytes : List ℕ) → r ≡ Ok bytes → IsBytes bytes) → IsBytes (result_unwrap_or r [])
+unwrapped_bytes (Ok bytes) h = h bytes refl
+unwrapped_bytes (Err e) h = λ k. omega arith
 
-pub later_at : {X : Type 0} (f : X → Command) (xs : List X) (i : ℕ) (x : X) → AreLater (map f xs) → i < length xs → x ≡ get_or xs i x → IsLater (f x)
-later_at f [] i x h lt e = absurd (omega arith)
-later_at f (y ∷ xs) zero x h lt e = subst (λ z. IsLater (f z)) (sym e) h.0
-later_at f (y ∷ xs) (suc i) x h lt e = later_at f xs i x h.1 (omega arith) e
+hex_are_bytes : (word : List ℕ) → IsBytes (hex_bytes word)
+unfolding hex_bytes
+hex_are_bytes word = unwrapped_bytes (decode_of word) (λ bytes e. (decode_of-ok word bytes e).3)
+
+-- what a command that was read writes is bytes
+pub said_bytes : (command : Spelled) → WritesBytes (said command)
+said_bytes (SpelledMutator m (SpelledNew len structure)) = tt
+said_bytes (SpelledMutator m SpelledOpen) = tt
+said_bytes (SpelledMutator m (SpelledWrite p from bytes)) = hex_are_bytes bytes.digits.now
+said_bytes (SpelledMutator m (SpelledRead p from len)) = tt
+said_bytes (SpelledMutator m SpelledClose) = tt
+said_bytes (SpelledBook inquiry) = tt
 
 -- the rest of a list begins with the element at its index
 pub drop_here : {X Y : Type 0} (f : X → Y) (xs : List X) (i : ℕ) (x : X) → i < length xs → x ≡ get_or xs i x → drop i (map f xs) ≡ f x ∷ drop (i + 1) (map f xs)
@@ -38,8 +48,8 @@ drop_here f [] i x lt e = absurd (omega arith)
 drop_here f (y ∷ xs) zero x lt e = ap (λ z. f z ∷ map f xs) (sym e)
 drop_here f (y ∷ xs) (suc i) x lt e = let there : suc (i + 1) ≡ suc i + 1 = omega arith in drop_here f xs i x (omega arith) e ∙ ap (λ n. f x ∷ drop n (f y ∷ map f xs)) there
 
--- the heap stays tidy behind a command
-pub still_tidy : (s t : State) (next counts : ℕ → ℕ) (c : Command) → Law s → Tidy s next → AllBytes c → moment_of t ≡ effect (moment_of s) c →
+-- the heap stays tidy after a command
+pub still_tidy : (s t : State) (next counts : ℕ → ℕ) (c : Command) → Law s → Tidy s next → WritesBytes c → moment_of t ≡ effect (moment_of s) c →
     ((m : ℕ) → counts m ≡ next_after (moment_of s) c next m) → Tidy t counts
 still_tidy s t next counts c law tidy small is e =
     let x = turns s next c law tidy small in

@@ -5,8 +5,8 @@ use Rattle.std.specs.List.{flat_map}
 use Rattle.far_word.specs.declared.refused.Refused.TheVariants.{Shape}
 use Rattle.far_core.specs.state.Shape.{is_shape}
 use Rattle.far_trace.specs.Answers.{Answered, Commanded, Answers, IsOutput, shape_of, first_moment}
-use Rattle.far_trace.specs.Command.{Command, Heap, Mutator, Book}
-use Rattle.far_trace.specs.Grammar.{commands_of}
+use Rattle.far_trace.specs.Command.{Command, Trace, Nothing, Heap}
+use Rattle.far_trace.specs.Grammar.{trace_of}
 use Rattle.far_trace.specs.Moment.{Moment}
 use Rattle.far_trace.specs.Reply.{Reply, Done, Refused, printed}
 
@@ -37,14 +37,12 @@ heap_once : (s : Moment) (cs : List Command) (b : Bool) (x y : List ℕ) →
 heap_once s cs true x y (rs, ts, h, e) (qs, us, k, f) = e ∙ ap (λ l. flat_map printed (Done ∷ l)) (determined s cs rs qs ts us h k).0 ∙ sym f
 heap_once s cs false x y e f = e ∙ sym f
 
--- what is written for the commands that were read
-output_once : (read : Result (List Command) ℕ) (x y : List ℕ) → IsOutput read x → IsOutput read y → x ≡ y
+-- what is written for what was read
+output_once : (read : Result Trace ℕ) (x y : List ℕ) → IsOutput read x → IsOutput read y → x ≡ y
 output_once (Err line) x y h k = h ∙ sym k
-output_once (Ok []) x y h k = h ∙ sym k
-output_once (Ok (Heap logs mutators ∷ cs)) x y h k = heap_once (first_moment logs mutators) cs (is_shape (shape_of logs mutators)) x y h k
-output_once (Ok (Mutator m request ∷ cs)) x y h k = h ∙ sym k
-output_once (Ok (Book inquiry ∷ cs)) x y h k = h ∙ sym k
+output_once (Ok Nothing) x y h k = h ∙ sym k
+output_once (Ok (Heap logs mutators cs)) x y h k = heap_once (first_moment logs mutators) cs (is_shape (shape_of logs mutators)) x y h k
 
 -- two outputs of one text are equal
 pub answers_once : (text a b : List ℕ) → Answers text a → Answers text b → a ≡ b
-answers_once text a b h k = output_once (commands_of text) a b h k
+answers_once text a b h k = output_once (trace_of text) a b h k

@@ -12,18 +12,17 @@ use Rattle.far_core.specs.events.Step.{step_of, is_legal, after, answer, Fits}
 use Rattle.far_core.proofs.Keeps.{step_keeps}
 use Rattle.far_log.proofs.Members.{split, none_in, All-from}
 use Rattle.far_core.proofs.Steps.{agrees}
-use Rattle.far_trace.specs.Answers.{Answered, Commanded, IsMoment, moment_behind, shape_of, first_moment}
+use Rattle.far_trace.specs.Answers.{Answered, Commanded, IsMoment, moment_after, shape_of, first_moment}
 use Rattle.far_trace.specs.Command.{Command}
 use Rattle.far_trace.specs.Events.{events_for}
 use Rattle.far_trace.specs.Headline.{Lawful, Reaches}
 use Rattle.far_trace.specs.Interpreter.{next_after}
-use Rattle.far_trace.specs.Later.{IsLater, AreLater}
+use Rattle.far_trace.specs.Written.{WritesBytes, AllWriteBytes}
 use Rattle.far_trace.specs.EventRows.{after_events, AllSucceed, AllPass, Succeeds}
 use Rattle.far_trace.specs.Moment.{Moment, moment_of}
 use Rattle.far_trace.specs.Reply.{Reply}
 use Rattle.far_trace.specs.Tidy.{Tidy}
 use Rattle.far_trace.specs.Turn.{effect, reply_to}
-use Rattle.far_trace.proofs.Answering.{later_bytes}
 use Rattle.far_trace.proofs.Each.{Each}
 use Rattle.far_trace.proofs.Opened.{opening_law, opening_tidy}
 use Rattle.far_trace.proofs.Turns.{turns}
@@ -41,52 +40,52 @@ pub record IsCarriedOut (s : State) (c : Command) (r : Reply) (t : State) : Type
   pub fit : Each Fits (events_for (moment_of s) c)
   pub law : Law t
 
-pub carried : (now : Moment) (c : Command) (r : Reply) (next : Moment) → Lasts now → IsLater c → Commanded now c r next → IsCarriedOut now.core c r next.core
-carried now c r next lasts later h =
-    let x = turns now.core lasts.next c lasts.law lasts.tidy (later_bytes c later) in
+pub carried : (now : Moment) (c : Command) (r : Reply) (next : Moment) → Lasts now → WritesBytes c → Commanded now c r next → IsCarriedOut now.core c r next.core
+carried now c r next lasts bytes h =
+    let x = turns now.core lasts.next c lasts.law lasts.tidy bytes in
     let ends : next.core ≡ after_events now.core (events_for (moment_of now.core) c) = ap (λ (m : Moment). m.core) h.moment ∙ sym x.ends in
     record { reply = h.reply; state = ends; succeed = x.succeed; fit = x.fit; law = subst Law (sym ends) x.law }
 
 -- where its events lead, there is the moment behind it
-pub moment_reached : (s t : State) (next : ℕ → ℕ) (c : Command) → Law s → Tidy s next → IsLater c → t ≡ after_events s (events_for (moment_of s) c) → moment_of t ≡ effect (moment_of s) c
-moment_reached s t next c law tidy later e = ap moment_of (e ∙ (turns s next c law tidy (later_bytes c later)).ends)
+pub moment_reached : (s t : State) (next : ℕ → ℕ) (c : Command) → Law s → Tidy s next → WritesBytes c → t ≡ after_events s (events_for (moment_of s) c) → moment_of t ≡ effect (moment_of s) c
+moment_reached s t next c law tidy bytes e = ap moment_of (e ∙ (turns s next c law tidy bytes).ends)
 
 -- it lasts through a command
-pub effect_lasts : (now : Moment) (c : Command) → Lasts now → IsLater c → Lasts (effect now c)
-effect_lasts now c lasts later =
-    let x = turns now.core lasts.next c lasts.law lasts.tidy (later_bytes c later) in
+pub effect_lasts : (now : Moment) (c : Command) → Lasts now → WritesBytes c → Lasts (effect now c)
+effect_lasts now c lasts bytes =
+    let x = turns now.core lasts.next c lasts.law lasts.tidy bytes in
     record { next = next_after now c lasts.next; law = subst Law x.ends x.law; tidy = subst (λ t. Tidy t (next_after now c lasts.next)) x.ends x.tidy }
 
-pub still_lasts : (now : Moment) (c : Command) (r : Reply) (next : Moment) → Lasts now → IsLater c → Commanded now c r next → Lasts next
-still_lasts now c r next lasts later h = subst Lasts (sym h.moment) (effect_lasts now c lasts later)
+pub still_lasts : (now : Moment) (c : Command) (r : Reply) (next : Moment) → Lasts now → WritesBytes c → Commanded now c r next → Lasts next
+still_lasts now c r next lasts bytes h = subst Lasts (sym h.moment) (effect_lasts now c lasts bytes)
 
 -- and through commands
-behind_lasts : (now : Moment) (cs : List Command) → Lasts now → AreLater cs → Lasts (moment_behind now cs)
-behind_lasts now [] lasts later = lasts
-behind_lasts now (c ∷ cs) lasts later = behind_lasts (effect now c) cs (effect_lasts now c lasts later.0) later.1
+still_lasts_after : (now : Moment) (cs : List Command) → Lasts now → AllWriteBytes cs → Lasts (moment_after now cs)
+still_lasts_after now [] lasts bytes = lasts
+still_lasts_after now (c ∷ cs) lasts bytes = still_lasts_after (effect now c) cs (effect_lasts now c lasts bytes.0) bytes.1
 
 -- from the first moment on
 pub first_lasts : (logs mutators : ℕ) → is_shape (shape_of logs mutators) ≡ true → Lasts (first_moment logs mutators)
 first_lasts logs mutators fits = record { next = λ _. 0; law = opening_law logs mutators fits; tidy = opening_tidy logs mutators fits }
 
 pub moment_lasts : (now : Moment) → IsMoment now → Lasts now
-moment_lasts now (logs, mutators, cs, fits, later, is) = subst Lasts (sym is) (behind_lasts (first_moment logs mutators) cs (first_lasts logs mutators fits) later)
+moment_lasts now (logs, mutators, cs, fits, bytes, is) = subst Lasts (sym is) (still_lasts_after (first_moment logs mutators) cs (first_lasts logs mutators fits) bytes)
 
 -- ---- which moments there are
 pub first_is_moment : (logs mutators : ℕ) → is_shape (shape_of logs mutators) ≡ true → IsMoment (first_moment logs mutators)
 first_is_moment logs mutators fits = (logs, mutators, [], fits, tt, refl)
 
-behind_more : (now : Moment) (cs : List Command) (c : Command) → moment_behind now (cs ++ c ∷ []) ≡ effect (moment_behind now cs) c
-behind_more now [] c = refl
-behind_more now (d ∷ cs) c = behind_more (effect now d) cs c
+one_after : (now : Moment) (cs : List Command) (c : Command) → moment_after now (cs ++ c ∷ []) ≡ effect (moment_after now cs) c
+one_after now [] c = refl
+one_after now (d ∷ cs) c = one_after (effect now d) cs c
 
-later_more : (cs : List Command) (c : Command) → AreLater cs → IsLater c → AreLater (cs ++ c ∷ [])
-later_more [] c h k = (k, tt)
-later_more (d ∷ cs) c h k = (h.0, later_more cs c h.1 k)
+bytes_more : (cs : List Command) (c : Command) → AllWriteBytes cs → WritesBytes c → AllWriteBytes (cs ++ c ∷ [])
+bytes_more [] c h k = (k, tt)
+bytes_more (d ∷ cs) c h k = (h.0, bytes_more cs c h.1 k)
 
-pub next_is_moment : (now : Moment) (c : Command) (r : Reply) (next : Moment) → IsMoment now → IsLater c → Commanded now c r next → IsMoment next
-next_is_moment now c r next (logs, mutators, cs, fits, later, is) more h =
-    (logs, mutators, cs ++ c ∷ [], fits, later_more cs c later more, h.moment ∙ ap (λ m. effect m c) is ∙ sym (behind_more (first_moment logs mutators) cs c))
+pub next_is_moment : (now : Moment) (c : Command) (r : Reply) (next : Moment) → IsMoment now → WritesBytes c → Commanded now c r next → IsMoment next
+next_is_moment now c r next (logs, mutators, cs, fits, bytes, is) more h =
+    (logs, mutators, cs ++ c ∷ [], fits, bytes_more cs c bytes more, h.moment ∙ ap (λ m. effect m c) is ∙ sym (one_after (first_moment logs mutators) cs c))
 
 first_or : (now : Moment) (moments : List Moment) (x : Moment) → IsMoment now → (Contains moments x → IsMoment x) → Contains (now ∷ moments) x → IsMoment x
 first_or now moments x is there c = elim (split x now moments c) [
@@ -95,15 +94,15 @@ first_or now moments x is there c = elim (split x now moments c) [
 ]
 
 -- each moment of a list of commands is one
-pub each_is_moment : (now : Moment) (cs : List Command) (rs : List Reply) (moments : List Moment) → IsMoment now → AreLater cs → Answered now cs rs moments →
+pub each_is_moment : (now : Moment) (cs : List Command) (rs : List Reply) (moments : List Moment) → IsMoment now → AllWriteBytes cs → Answered now cs rs moments →
     (x : Moment) → Contains (now ∷ moments) x → IsMoment x
-each_is_moment now [] [] [] is later h x c = first_or now [] x is (λ k. absurd (none_in x k)) c
-each_is_moment now [] [] (m ∷ ms) is later h x c = absurd h
-each_is_moment now [] (r ∷ rs) ms is later h x c = absurd h
-each_is_moment now (d ∷ cs) [] ms is later h x c = absurd h
-each_is_moment now (d ∷ cs) (r ∷ rs) [] is later h x c = absurd h
-each_is_moment now (d ∷ cs) (r ∷ rs) (m ∷ ms) is later h x c =
-    first_or now (m ∷ ms) x is (λ k. each_is_moment m cs rs ms (next_is_moment now d r m is later.0 h.0) later.1 h.1 x k) c
+each_is_moment now [] [] [] is bytes h x c = first_or now [] x is (λ k. absurd (none_in x k)) c
+each_is_moment now [] [] (m ∷ ms) is bytes h x c = absurd h
+each_is_moment now [] (r ∷ rs) ms is bytes h x c = absurd h
+each_is_moment now (d ∷ cs) [] ms is bytes h x c = absurd h
+each_is_moment now (d ∷ cs) (r ∷ rs) [] is bytes h x c = absurd h
+each_is_moment now (d ∷ cs) (r ∷ rs) (m ∷ ms) is bytes h x c =
+    first_or now (m ∷ ms) x is (λ k. each_is_moment m cs rs ms (next_is_moment now d r m is bytes.0 h.0) bytes.1 h.1 x k) c
 
 lawful : (now : Moment) → IsMoment now → Lawful now
 lawful now is = let x = moment_lasts now is in record { reached = is; law = x.law; at_hand = x.tidy.at_hand }
@@ -111,8 +110,8 @@ lawful now is = let x = moment_lasts now is in record { reached = is; law = x.la
 pub first_lawful : (logs mutators : ℕ) → is_shape (shape_of logs mutators) ≡ true → Lawful (first_moment logs mutators)
 first_lawful logs mutators fits = lawful (first_moment logs mutators) (first_is_moment logs mutators fits)
 
-pub moments_last : (now : Moment) (cs : List Command) (rs : List Reply) (moments : List Moment) → IsMoment now → AreLater cs → Answered now cs rs moments → All Lawful (now ∷ moments)
-moments_last now cs rs moments is later h = All-from Lawful (now ∷ moments) (λ x c. lawful x (each_is_moment now cs rs moments is later h x c))
+pub moments_last : (now : Moment) (cs : List Command) (rs : List Reply) (moments : List Moment) → IsMoment now → AllWriteBytes cs → Answered now cs rs moments → All Lawful (now ∷ moments)
+moments_last now cs rs moments is bytes h = All-from Lawful (now ∷ moments) (λ x c. lawful x (each_is_moment now cs rs moments is bytes h x c))
 
 -- ---- events
 -- what succeeds was legal
@@ -127,8 +126,8 @@ all_pass s (e ∷ es) law fit ok =
     let next = step_keeps s e law fit.0 in
     (legal s e ok.0, record { step = refl; law = next; agrees = agrees (step_of s e).0 next }, all_pass (step_of s e).0 es next fit.1 ok.1)
 
-pub events_reach : (now : Moment) (c : Command) (r : Reply) (next : Moment) → IsMoment now → IsLater c → Commanded now c r next → Reaches now c next
-events_reach now c r next is later h =
+pub events_reach : (now : Moment) (c : Command) (r : Reply) (next : Moment) → IsMoment now → WritesBytes c → Commanded now c r next → Reaches now c next
+events_reach now c r next is bytes h =
     let lasts = moment_lasts now is in
-    let x = carried now c r next lasts later h in
+    let x = carried now c r next lasts bytes h in
     record { ends = x.state; pass = all_pass now.core (events_for now c) lasts.law x.fit x.succeed; succeed = λ _. x.succeed }

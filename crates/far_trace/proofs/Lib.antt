@@ -15,7 +15,6 @@ pub mod HexAtLemmas
 pub mod HexLemmas
 pub mod Kept
 pub mod Lasting
-pub mod LaterLines
 pub mod LineLemmas
 pub mod LoadWords
 pub mod LogLines

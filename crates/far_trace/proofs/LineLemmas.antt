@@ -11,9 +11,9 @@ use Rattle.std.proofs.lemmas.List.Splits.{join_with_byte-slice_split}
 use Rattle.std.proofs.Math.Seq.{drop-cons, drop-length, take-length}
 use Rattle.hex.specs.Hex.{is_hex_digit}
 use Rattle.hex.proofs.HexLemmas.{decode_of-ok}
-use Rattle.far_trace.specs.Command.{Command, Heap, New, Open, Write, Read, Close, Logs, Mutator, Book}
+use Rattle.far_trace.specs.Command.{Entry, HeapLine, CommandLine, New, Open, Write, Read, Close, Logs, Mutator, Book}
 use Rattle.far_trace.specs.Says.{Says, Spells}
-use Rattle.far_trace.specs.Grammar.{Line, Skipped, Saying, Bad, line_of, is_plain, is_skipped, command_of, lines_of, line_words}
+use Rattle.far_trace.specs.Grammar.{Line, Skipped, Saying, Bad, line_of, is_plain, is_skipped, entry_of, lines_of, line_words}
 use Rattle.far_trace.specs.Cursor.{front_of, first_line, lines_behind, words_in}
 use Rattle.far_trace.proofs.Cuts.{split_on, line_at}
 use Rattle.far_trace.proofs.SaysLemmas.{read_is_said}
@@ -45,16 +45,16 @@ hex_ascii (x ∷ xs) e =
 spelled_ascii : (word bytes : List ℕ) → Spells word bytes → list_all is_ascii word ≡ true
 spelled_ascii word bytes h = hex_ascii word (list_all-from_AllPass is_hex_digit word (decode_of-ok word bytes h.0).1)
 
--- the words of a command are ASCII
-said_ascii : (words : List (List ℕ)) (c : Command) → Says words c → list_all (list_all is_ascii) words ≡ true
-said_ascii words (Heap l m) h = ap (list_all (list_all is_ascii)) h.0 ∙ rw (decimal_ascii l h.1, decimal_ascii m h.2) refl
-said_ascii words (Mutator m (New l s)) h = ap (list_all (list_all is_ascii)) h.0 ∙ rw (decimal_ascii m h.1, decimal_ascii l h.2, decimal_ascii s h.3) refl
-said_ascii words (Mutator m Open) h = ap (list_all (list_all is_ascii)) h.0 ∙ rw (decimal_ascii m h.1) refl
-said_ascii words (Mutator m (Write p f b)) h =
+-- the words of an entry are ASCII
+said_ascii : (words : List (List ℕ)) (c : Entry) → Says words c → list_all (list_all is_ascii) words ≡ true
+said_ascii words (HeapLine l m) h = ap (list_all (list_all is_ascii)) h.0 ∙ rw (decimal_ascii l h.1, decimal_ascii m h.2) refl
+said_ascii words (CommandLine (Mutator m (New l s))) h = ap (list_all (list_all is_ascii)) h.0 ∙ rw (decimal_ascii m h.1, decimal_ascii l h.2, decimal_ascii s h.3) refl
+said_ascii words (CommandLine (Mutator m Open)) h = ap (list_all (list_all is_ascii)) h.0 ∙ rw (decimal_ascii m h.1) refl
+said_ascii words (CommandLine (Mutator m (Write p f b))) h =
     ap (list_all (list_all is_ascii)) h.1 ∙ rw (decimal_ascii m h.2, decimal_ascii p h.3, decimal_ascii f h.4, spelled_ascii h.0 b h.5) refl
-said_ascii words (Mutator m (Read p f l)) h = ap (list_all (list_all is_ascii)) h.0 ∙ rw (decimal_ascii m h.1, decimal_ascii p h.2, decimal_ascii f h.3, decimal_ascii l h.4) refl
-said_ascii words (Mutator m Close) h = ap (list_all (list_all is_ascii)) h.0 ∙ rw (decimal_ascii m h.1) refl
-said_ascii words (Book Logs) h = ap (list_all (list_all is_ascii)) h
+said_ascii words (CommandLine (Mutator m (Read p f l))) h = ap (list_all (list_all is_ascii)) h.0 ∙ rw (decimal_ascii m h.1, decimal_ascii p h.2, decimal_ascii f h.3, decimal_ascii l h.4) refl
+said_ascii words (CommandLine (Mutator m Close)) h = ap (list_all (list_all is_ascii)) h.0 ∙ rw (decimal_ascii m h.1) refl
+said_ascii words (CommandLine (Book Logs)) h = ap (list_all (list_all is_ascii)) h
 
 joined_ascii : (words : List (List ℕ)) → list_all (list_all is_ascii) words ≡ true → list_all is_ascii (join_with_byte 32 words) ≡ true
 joined_ascii [] e = refl
@@ -63,9 +63,9 @@ joined_ascii (x ∷ y ∷ xs) e =
     let parts = and_parts (list_all is_ascii x) (list_all (list_all is_ascii) (y ∷ xs)) e in
     list_all-append is_ascii x (32 ∷ join_with_byte 32 (y ∷ xs)) ∙ rw (parts.0, joined_ascii (y ∷ xs) parts.1) refl
 
--- a command is ASCII
-pub command_ascii : (line : List ℕ) (c : Command) → command_of (line_words line) ≡ Some c → list_all is_ascii line ≡ true
-command_ascii line c e =
+-- an entry is ASCII
+pub entry_ascii : (line : List ℕ) (c : Entry) → entry_of (line_words line) ≡ Some c → list_all is_ascii line ≡ true
+entry_ascii line c e =
     ap (list_all is_ascii) (sym (join_with_byte-slice_split 32 line)) ∙ joined_ascii (line_words line) (said_ascii (line_words line) c (read_is_said (line_words line) c e))
 
 -- the first line of a text that begins with another byte than a newline begins with it
@@ -73,19 +73,19 @@ first_byte : (text : List ℕ) → 0 < length text → (get_or text 0 0 == 10) �
 first_byte [] h e = absurd (omega arith)
 first_byte (b ∷ text) h e = ap (λ l. is_skipped (front_of l)) (split_on (λ c. c == 10) b text e)
 
-pub said_command : (text : List ℕ) (c : Command) → 0 < length text → (get_or text 0 0 == 10) ≡ false → (get_or text 0 0 == 35) ≡ false
-    → Some c ≡ command_of (words_in text) → length (first_line text) ≤ 4096 → Saying c ≡ line_of (first_line text)
+pub said_entry_line : (text : List ℕ) (c : Entry) → 0 < length text → (get_or text 0 0 == 10) ≡ false → (get_or text 0 0 == 35) ≡ false
+    → Some c ≡ entry_of (words_in text) → length (first_line text) ≤ 4096 → Saying c ≡ line_of (first_line text)
 unfolding line_of
-said_command text c some other plain e short =
+said_entry_line text c some other plain e short =
     let skipped : is_skipped (first_line text) ≡ false = first_byte text some other ∙ plain in
-    let ascii = command_ascii (first_line text) c (sym e) in
+    let ascii = entry_ascii (first_line text) c (sym e) in
     let fits = le-leb (length (first_line text)) 4096 short in
     rw (fits, ascii, skipped, sym e) refl
 
-pub bad_command : (text : List ℕ) → 0 < length text → (get_or text 0 0 == 10) ≡ false → (get_or text 0 0 == 35) ≡ false
-    → command_of (words_in text) ≡ None → line_of (first_line text) ≡ Bad
+pub bad_entry : (text : List ℕ) → 0 < length text → (get_or text 0 0 == 10) ≡ false → (get_or text 0 0 == 35) ≡ false
+    → entry_of (words_in text) ≡ None → line_of (first_line text) ≡ Bad
 unfolding line_of
-bad_command text some other plain e =
+bad_entry text some other plain e =
     let skipped : is_skipped (first_line text) ≡ false = first_byte text some other ∙ plain in
     rw (skipped, e) (elim (is_plain (first_line text)) as (λ b. cond b Bad Bad ≡ Bad) [ true ↦ refl | false ↦ refl ])
 

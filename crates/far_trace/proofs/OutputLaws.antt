@@ -21,11 +21,11 @@ use Rattle.far_core.proofs.Bounds.{some_of}
 use Rattle.far_core.proofs.Observations.{bytes_make_log}
 use Rattle.far_trace.specs.Moment.{Moment, moment_of}
 use Rattle.far_trace.specs.Alone.{Alone, Knows, Own}
-use Rattle.far_trace.specs.Answers.{Answered, Answers, BeginsWithHeap, Commanded, IsMoment, IsOutput, shape_of, first_moment}
-use Rattle.far_trace.specs.Command.{Command, Heap, New, Open, Write, Read, Close, Logs, Mutator, Book}
-use Rattle.far_trace.specs.Grammar.{commands_of}
+use Rattle.far_trace.specs.Answers.{Answered, Answers, Commanded, IsMoment, IsOutput, shape_of, first_moment}
+use Rattle.far_trace.specs.Command.{Command, Trace, Nothing, Heap, New, Open, Write, Read, Close, Logs, Mutator, Book}
+use Rattle.far_trace.specs.Grammar.{trace_of}
 use Rattle.far_trace.specs.Headline.{IsSound, IsWhole, Lawful, IsSaidBy, TellsAll, TellsLog}
-use Rattle.far_trace.specs.Later.{AreLater}
+use Rattle.far_trace.specs.Written.{AllWriteBytes}
 use Rattle.far_trace.specs.EventRows.{after_events, AllSucceed}
 use Rattle.far_trace.specs.Reply.{Reply, Done, Pointer, Refused, LogLine, printed}
 use Rattle.far_trace.specs.Events.{turn_events, events_for, new_events}
@@ -41,7 +41,7 @@ use Rattle.far_trace.proofs.AloneFirst.{alone_first}
 use Rattle.far_trace.proofs.Kept.{whole}
 use Rattle.far_trace.proofs.Lasting.{first_lawful, carried, moment_lasts, each_is_moment, first_is_moment}
 use Rattle.far_trace.proofs.ViewLaws.{logs_stay}
-use Rattle.far_trace.proofs.LaterLines.{text_begins}
+use Rattle.far_trace.proofs.TextLaws.{texts_write}
 use Rattle.far_trace.proofs.Lowest.{lowest_found, none_found}
 use Rattle.far_trace.proofs.Refusals.{turn_is_no_refusal, from_cause}
 use Rattle.far_trace.proofs.Spliced.{length-spliced, spliced_before, spliced_inside, spliced_behind}
@@ -60,15 +60,13 @@ heap_answered : (logs mutators : ℕ) (cs : List Command) (b : Bool) →
 heap_answered logs mutators cs true = let x = answers_all (first_moment logs mutators) cs in (flat_map printed (Done ∷ x.0), (x.0, x.1, x.2, refl))
 heap_answered logs mutators cs false = (printed (Refused Shape), refl)
 
-read_answered : (read : Result (List Command) ℕ) → ((cs : List Command) → read ≡ Ok cs → BeginsWithHeap cs) → (output : List ℕ) × IsOutput read output
-read_answered (Err line) h = (printed (Refused (Syntax line)), refl)
-read_answered (Ok []) h = ([], refl)
-read_answered (Ok (Heap logs mutators ∷ cs)) h = heap_answered logs mutators cs (is_shape (shape_of logs mutators))
-read_answered (Ok (Mutator m request ∷ cs)) h = absurd (h (Mutator m request ∷ cs) refl)
-read_answered (Ok (Book inquiry ∷ cs)) h = absurd (h (Book inquiry ∷ cs) refl)
+read_answered : (read : Result Trace ℕ) → (output : List ℕ) × IsOutput read output
+read_answered (Err line) = (printed (Refused (Syntax line)), refl)
+read_answered (Ok Nothing) = ([], refl)
+read_answered (Ok (Heap logs mutators cs)) = heap_answered logs mutators cs (is_shape (shape_of logs mutators))
 
 pub each_answered : (text : List ℕ) → (output : List ℕ) × Answers text output
-each_answered text = read_answered (commands_of text) (text_begins text)
+each_answered text = read_answered (trace_of text)
 
 -- ---- a refused command makes no event
 pub refused_stays : (now : Moment) (c : Command) (r : Reply) (next : Moment) (why : Refusal) → Commanded now c r next → r ≡ Refused why → next ≡ now
@@ -103,7 +101,6 @@ past : (s : State) (m k : ℕ) → m ≡ k → s.mutators ≤ m → nat_lt k s.m
 past s m k e h = lt-leb (suc k) s.mutators (omega (arith, e, h))
 
 strange : (s : State) (c : Command) (m : ℕ) → IsSaidBy m c → s.mutators ≤ m → reply_to (moment_of s) c ≡ Refused Range
-strange s (Heap logs mutators) m e h = absurd e
 strange s (Mutator k (New len ds)) m e h = first_holds s (Mutator k (New len ds)) (not (nat_lt k s.mutators && nat_lt ds 256)) _ refl (ap (λ b. not (b && nat_lt ds 256)) (past s m k e h))
 strange s (Mutator k Open) m e h = first_holds s (Mutator k Open) (not (nat_lt k s.mutators)) _ refl (ap not (past s m k e h))
 strange s (Mutator k (Write p from bytes)) m e h = first_holds s (Mutator k (Write p from bytes)) (not (nat_lt k s.mutators)) _ refl (ap not (past s m k e h))
@@ -124,7 +121,7 @@ of_each : (P : LogLine → Type 0) (s : State) → ((l : ℕ) → P (log_line (m
 of_each P s h [] line c = absurd (none_in line c)
 of_each P s h (l ∷ ls) line c = elim (split line (log_line (moment_of s) l) (map (log_line (moment_of s)) ls) c) [
   | inl e ↦ subst P e (h l)
-  | inr later ↦ of_each P s h ls line later
+  | inr bytes ↦ of_each P s h ls line bytes
 ]
 
 tells_log : (s : State) → Law s → (l : ℕ) → TellsLog (moment_of s) (log_line (moment_of s) l)
@@ -247,7 +244,6 @@ at_number k m A B false e x = ((λ same. absurd (eqb-false k m e (sym same))), (
 
 pub own_lines : (m : ℕ) (o : Own) (c : Command) (r : Reply) (cs : List Command) (rs : List Reply) → Alone m o (c ∷ cs) (r ∷ rs) →
     (IsSaidBy m c → (q : Own) × Knows m o c r q × Alone m q cs rs) × (¬ IsSaidBy m c → Alone m o cs rs)
-own_lines m o (Heap logs mutators) r cs rs h = ((λ no. absurd no), (λ _. h))
 own_lines m o (Mutator k request) r cs rs h = at_number k m _ _ (nat_eq k m) refl h
 own_lines m o (Book inquiry) r cs rs h = ((λ no. absurd no), (λ _. h))
 
@@ -283,10 +279,10 @@ pub heap_lawful : (logs mutators : ℕ) → is_shape (shape_of logs mutators) �
 heap_lawful logs mutators fits = let lawful = first_lawful logs mutators fits in (refl, refl, lawful, whole (first_moment logs mutators).core lawful.law)
 
 -- ---- one law from the text
-pub objects_whole : (now : Moment) (cs : List Command) (rs : List Reply) (moments : List Moment) → IsMoment now → AreLater cs → Answered now cs rs moments →
+pub objects_whole : (now : Moment) (cs : List Command) (rs : List Reply) (moments : List Moment) → IsMoment now → AllWriteBytes cs → Answered now cs rs moments →
     All (λ (x : Moment). IsWhole x.core) (now ∷ moments)
-objects_whole now cs rs moments is later h =
-    All-from (λ (x : Moment). IsWhole x.core) (now ∷ moments) (λ x c. whole x.core (moment_lasts x (each_is_moment now cs rs moments is later h x c)).law)
+objects_whole now cs rs moments is bytes h =
+    All-from (λ (x : Moment). IsWhole x.core) (now ∷ moments) (λ x c. whole x.core (moment_lasts x (each_is_moment now cs rs moments is bytes h x c)).law)
 
 in_shape : (logs mutators : ℕ) (cs : List Command) (output : List ℕ) (b : Bool) → b ≡ true →
     MatchBool b ((rs : List Reply) × (moments : List Moment) × Answered (first_moment logs mutators) cs rs moments × (output ≡ flat_map printed (Done ∷ rs))) (output ≡ printed (Refused Shape)) →
@@ -294,18 +290,18 @@ in_shape : (logs mutators : ℕ) (cs : List Command) (output : List ℕ) (b : Bo
 in_shape logs mutators cs output true e h = h
 in_shape logs mutators cs output false e h = absurd cc
 
-pub outputs_sound : (text output : List ℕ) (logs mutators : ℕ) (cs : List Command) → Answers text output → commands_of text ≡ Ok (Heap logs mutators ∷ cs) →
+pub outputs_sound : (text output : List ℕ) (logs mutators : ℕ) (cs : List Command) → Answers text output → trace_of text ≡ Ok (Heap logs mutators cs) →
     is_shape (shape_of logs mutators) ≡ true → IsSound logs mutators cs output
 outputs_sound text output logs mutators cs answers reads fits =
-    let later : AreLater cs = text_begins text (Heap logs mutators ∷ cs) reads in
+    let bytes : AllWriteBytes cs = texts_write text logs mutators cs reads in
     let is : IsMoment (first_moment logs mutators) = first_is_moment logs mutators fits in
-    let (rs, moments, h, e) = in_shape logs mutators cs output (is_shape (shape_of logs mutators)) fits (subst (λ (x : Result (List Command) ℕ). IsOutput x output) reads answers) in
+    let (rs, moments, h, e) = in_shape logs mutators cs output (is_shape (shape_of logs mutators)) fits (subst (λ (x : Result Trace ℕ). IsOutput x output) reads answers) in
     record {
       replies = rs;
       moments = moments;
       answered = h;
       printed_so = e;
-      whole = objects_whole (first_moment logs mutators) cs rs moments is later h;
-      stay = logs_stay (first_moment logs mutators) cs rs moments is later h;
-      alone = λ m within. alone_first logs mutators m cs rs moments fits within later h;
+      whole = objects_whole (first_moment logs mutators) cs rs moments is bytes h;
+      stay = logs_stay (first_moment logs mutators) cs rs moments is bytes h;
+      alone = λ m within. alone_first logs mutators m cs rs moments fits within bytes h;
     }

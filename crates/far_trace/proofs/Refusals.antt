@@ -6,7 +6,7 @@ use Rattle.far_core.specs.state.State.{State}
 use Rattle.far_trace.specs.EventRows.{AllAtHand}
 use Rattle.far_trace.specs.Moment.{Moment, moment_of}
 use Rattle.far_trace.specs.Answers.{Commanded}
-use Rattle.far_trace.specs.Command.{Command, Heap, New, Open, Write, Read, Close, Logs, Mutator, Book}
+use Rattle.far_trace.specs.Command.{Command, New, Open, Write, Read, Close, Logs, Mutator, Book}
 use Rattle.far_trace.specs.Headline.{MayRefuse}
 use Rattle.far_trace.specs.Reply.{Reply, Refused}
 use Rattle.far_trace.specs.Objects.{lowest_cell}
@@ -26,7 +26,6 @@ among P (c ∷ cs) why h = cond_both c.0 (Some c.1) (first_cause cs) (λ (x : Op
 
 -- the causes (moment_of of) each command are those that it may be refused for
 listed : (s : State) (c : Command) → EachCause (MayRefuse c) (causes (moment_of s) c)
-listed s (Heap logs mutators) = tt
 listed s (Mutator m (New len ds)) = (tt, (tt, (tt, (tt, tt))))
 listed s (Mutator m Open) = (tt, (tt, tt))
 listed s (Mutator m (Write p from bytes)) = (tt, (tt, (tt, (tt, tt))))
@@ -40,7 +39,6 @@ pointer_is_no_refusal None why e = cc
 pointer_is_no_refusal (Some p) why e = cc
 
 pub turn_is_no_refusal : (s : State) (c : Command) (why : Refusal) → turn_reply (moment_of s) c ≢ Refused why
-turn_is_no_refusal s (Heap logs mutators) why e = cc
 turn_is_no_refusal s (Mutator m (New len ds)) why e = pointer_is_no_refusal (lowest_cell s m) why e
 turn_is_no_refusal s (Mutator m Open) why e = cc
 turn_is_no_refusal s (Mutator m (Write p from bytes)) why e = cc

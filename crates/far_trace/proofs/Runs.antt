@@ -6,10 +6,10 @@ use Rattle.std.specs.Io.KnownBytes.{Appends}
 use Rattle.far_word.specs.declared.refused.Refused.{Refused}
 use Rattle.far_word.specs.declared.refused.Refused.TheVariants.{Memory, Shape}
 use Rattle.far_trace.specs.declared.text.TheConstants.{LONGEST_TEXT}
-use Rattle.far_trace.specs.Command.{Command}
+use Rattle.far_trace.specs.Command.{Trace}
 use Rattle.far_trace.specs.declared.run.End.{End}
 use Rattle.far_trace.specs.declared.run.RunFault.{RunFault}
-use Rattle.far_trace.specs.Grammar.{commands_of, read_lines, lines_of}
+use Rattle.far_trace.specs.Grammar.{trace_of, read_lines, lines_of}
 use Rattle.far_trace.specs.Answers.{IsOutput, LeavesBehind, WritesAnswer, Leaves, end_of}
 use Rattle.far_trace.specs.Stream.{AppendsFront, Writes}
 
@@ -34,25 +34,25 @@ cut_short : (most : ℕ) (text : List ℕ) → nat_lt most (length text) ≡ fal
 cut_short most text e = take_all (most + 1) text (omega (arith, Decides-ltb most (length text), not_from_Decides _ (Decides-ltb most (length text)) e))
 
 -- so it is read alike
-read_alike : (most : ℕ) (text : List ℕ) (r : Result (List Command) ℕ) → (if nat_lt most (length (take (most + 1) text)) then r else read_lines 1 true (lines_of (take (most + 1) text))) ≡ (if nat_lt most (length text) then r else read_lines 1 true (lines_of text))
+read_alike : (most : ℕ) (text : List ℕ) (r : Result Trace ℕ) → (if nat_lt most (length (take (most + 1) text)) then r else read_lines 1 (lines_of (take (most + 1) text))) ≡ (if nat_lt most (length text) then r else read_lines 1 (lines_of text))
 read_alike most text r =
-    elim (nat_lt most (length text)) as (λ b. nat_lt most (length text) ≡ b → (if nat_lt most (length (take (most + 1) text)) then r else read_lines 1 true (lines_of (take (most + 1) text))) ≡ (if nat_lt most (length text) then r else read_lines 1 true (lines_of text))) [
+    elim (nat_lt most (length text)) as (λ b. nat_lt most (length text) ≡ b → (if nat_lt most (length (take (most + 1) text)) then r else read_lines 1 (lines_of (take (most + 1) text))) ≡ (if nat_lt most (length text) then r else read_lines 1 (lines_of text))) [
       | true ↦ λ e. rw (cut_long most text, e) refl
       | false ↦ λ e. rw (cut_short most text e) refl
     ] refl
 
-commands_alike : (text : List ℕ) → commands_of (take (LONGEST_TEXT + 1) text) ≡ commands_of text
-commands_alike text = read_alike LONGEST_TEXT text (Err 0)
+trace_alike : (text : List ℕ) → trace_of (take (LONGEST_TEXT + 1) text) ≡ trace_of text
+trace_alike text = read_alike LONGEST_TEXT text (Err 0)
 
-read_same : (text read : List ℕ) → read ≡ take (LONGEST_TEXT + 1) text → commands_of read ≡ commands_of text
-read_same text read e = ap commands_of e ∙ commands_alike text
+read_same : (text read : List ℕ) → read ≡ take (LONGEST_TEXT + 1) text → trace_of read ≡ trace_of text
+read_same text read e = ap trace_of e ∙ trace_alike text
 
 pub answered_through : {E : Type 0} (known old new : Option (List ℕ)) (read : List ℕ) (r : Result End E) → IfSome known (λ text. read ≡ take (LONGEST_TEXT + 1) text) → OnOk r (WritesAnswer old new read) → OnOk r (IfSome known (WritesAnswer old new))
 answered_through None old new read (Ok end) k h = tt
 answered_through (Some text) old new read (Ok end) k h = (h.0, subst (λ x. IsOutput x h.0) (read_same text read k) h.1, h.2)
 answered_through known old new read (Err e) k h = tt
 
-pub end_through : {E : Type 0} (known : Option (List ℕ)) (read : List ℕ) (r : Result End E) → IfSome known (λ text. read ≡ take (LONGEST_TEXT + 1) text) → IfOk r (λ end. end ≡ end_of (commands_of read)) → IfOk r (λ end. IfSome known (λ text. end ≡ end_of (commands_of text)))
+pub end_through : {E : Type 0} (known : Option (List ℕ)) (read : List ℕ) (r : Result End E) → IfSome known (λ text. read ≡ take (LONGEST_TEXT + 1) text) → IfOk r (λ end. end ≡ end_of (trace_of read)) → IfOk r (λ end. IfSome known (λ text. end ≡ end_of (trace_of text)))
 end_through None read (Ok end) k h = tt
 end_through (Some text) read (Ok end) k h = h ∙ ap end_of (read_same text read k)
 end_through known read (Err e) k h = tt

@@ -1,7 +1,7 @@
 -- Whose line it is, by the number behind its name.
 use Rattle.std.proofs.Common.{◌≡◌, ◌≢◌, ℕ, ◌<◌, ◌^◌, List, [], ◌∷◌, codes, decimal, refl, sym, ap, ◌∙◌}
 use Rattle.std.proofs.lemmas.Fmt.{decimal_injective}
-use Rattle.far_trace.specs.Command.{Command, Heap, New, Open, Write, Read, Close, Logs, Mutator, Book}
+use Rattle.far_trace.specs.Command.{Command, CommandLine, New, Open, Write, Read, Close, Logs, Mutator, Book}
 use Rattle.far_trace.specs.Headline.{IsSaidBy}
 use Rattle.far_trace.specs.Says.{Says}
 
@@ -22,16 +22,15 @@ numbered : (words : List (List ℕ)) (head : List ℕ) (k m : ℕ) (after : List
     (name : List ℕ) × (rest : List (List ℕ)) × (words ≡ name ∷ decimal m ∷ rest)
 numbered words head k m after is e = (head, after, is ∙ ap (λ n. head ∷ decimal n ∷ after) (sym e))
 
-pub lines_numbered : (words : List (List ℕ)) (c : Command) (m : ℕ) → m < 2 ^ 64 → Says words c →
+pub lines_numbered : (words : List (List ℕ)) (c : Command) (m : ℕ) → m < 2 ^ 64 → Says words (CommandLine c) →
     (IsSaidBy m c → (name : List ℕ) × (rest : List (List ℕ)) × (words ≡ name ∷ decimal m ∷ rest))
-    × ((name : List ℕ) (rest : List (List ℕ)) → words ≡ name ∷ decimal m ∷ rest → name ≢ codes "heap" → IsSaidBy m c)
-lines_numbered words (Heap logs mutators) m small h = ((λ no. absurd no), (λ name rest e other. other (ap first_of (sym e ∙ h.0))))
-lines_numbered words (Mutator k (New len ds)) m small h = (numbered words _ k m _ h.0, (λ name rest e other. number_behind words _ k m _ h.1 small h.0 name rest e))
-lines_numbered words (Mutator k Open) m small h = (numbered words _ k m _ h.0, (λ name rest e other. number_behind words _ k m _ h.1 small h.0 name rest e))
-lines_numbered words (Mutator k (Write p from bytes)) m small h = (numbered words _ k m _ h.1, (λ name rest e other. number_behind words _ k m _ h.2 small h.1 name rest e))
-lines_numbered words (Mutator k (Read p from len)) m small h = (numbered words _ k m _ h.0, (λ name rest e other. number_behind words _ k m _ h.1 small h.0 name rest e))
-lines_numbered words (Mutator k Close) m small h = (numbered words _ k m _ h.0, (λ name rest e other. number_behind words _ k m _ h.1 small h.0 name rest e))
-lines_numbered words (Book Logs) m small h = ((λ no. absurd no), (λ name rest e other. absurd (empty (sym e ∙ h))))
+    × ((name : List ℕ) (rest : List (List ℕ)) → words ≡ name ∷ decimal m ∷ rest → IsSaidBy m c)
+lines_numbered words (Mutator k (New len ds)) m small h = (numbered words _ k m _ h.0, (λ name rest e. number_behind words _ k m _ h.1 small h.0 name rest e))
+lines_numbered words (Mutator k Open) m small h = (numbered words _ k m _ h.0, (λ name rest e. number_behind words _ k m _ h.1 small h.0 name rest e))
+lines_numbered words (Mutator k (Write p from bytes)) m small h = (numbered words _ k m _ h.1, (λ name rest e. number_behind words _ k m _ h.2 small h.1 name rest e))
+lines_numbered words (Mutator k (Read p from len)) m small h = (numbered words _ k m _ h.0, (λ name rest e. number_behind words _ k m _ h.1 small h.0 name rest e))
+lines_numbered words (Mutator k Close) m small h = (numbered words _ k m _ h.0, (λ name rest e. number_behind words _ k m _ h.1 small h.0 name rest e))
+lines_numbered words (Book Logs) m small h = ((λ no. absurd no), (λ name rest e. absurd (empty (sym e ∙ h))))
   where
     empty : {name word : List ℕ} {rest : List (List ℕ)} {head : List ℕ} → name ∷ word ∷ rest ≢ head ∷ []
     empty e = cc

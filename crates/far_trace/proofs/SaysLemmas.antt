@@ -2,21 +2,21 @@
 use Rattle.std.proofs.Common.{◌≡◌, ◌⊎◌, inl, inr, ℕ, zero, suc, ◌<◌, ◌^◌, Bool, true, false, cond, List, [], ◌∷◌, Option, Some, None, codes, decimal, sym, ◌∙◌, ap, refl, subst}
 use Rattle.std.specs.Str.{bytes_eq}
 use Rattle.std.proofs.lemmas.Slice.Eq.{bytes_eq-Decides}
-use Rattle.far_trace.specs.Command.{Command, Heap, New, Open, Write, Read, Close, Logs, Mutator, Book}
+use Rattle.far_trace.specs.Command.{Entry, HeapLine, CommandLine, New, Open, Write, Read, Close, Logs, Mutator, Book}
 use Rattle.far_trace.specs.Says.{Says, Spells}
-use Rattle.far_trace.specs.Grammar.{asks_read, asks_write, asks_open, asks_close, asks_new, From, Operands, Numbers, NumbersAndBytes, number_of, bytes_in, next_number, next_bytes, numbers_then, ended, command_from, table, found_in, command_of, ◌>>=◌}
+use Rattle.far_trace.specs.Grammar.{asks_read, asks_write, asks_open, asks_close, asks_new, From, Operands, Numbers, NumbersAndBytes, number_of, bytes_in, next_number, next_bytes, numbers_then, ended, entry_from, table, found_in, entry_of, ◌>>=◌}
 use Rattle.far_trace.proofs.Each.{Each}
 use Rattle.far_trace.proofs.HexLemmas.{spelled_is_hex, hex_is_spelled}
 use Rattle.far_trace.proofs.Numbers.{number_is, number_only}
 
-pub said_is_read : (words : List (List ℕ)) (c : Command) → Says words c → command_of words ≡ Some c
-said_is_read words (Mutator m (Read p f l)) h = ap command_of h.0 ∙ rw (number_is (decimal m) m h.1 refl, number_is (decimal p) p h.2 refl, number_is (decimal f) f h.3 refl, number_is (decimal l) l h.4 refl) refl
-said_is_read words (Mutator m (Write p f b)) h = ap command_of h.1 ∙ rw (number_is (decimal m) m h.2 refl, number_is (decimal p) p h.3 refl, number_is (decimal f) f h.4 refl, spelled_is_hex h.0 b h.5) refl
-said_is_read words (Mutator m Open) h = ap command_of h.0 ∙ rw (number_is (decimal m) m h.1 refl) refl
-said_is_read words (Mutator m Close) h = ap command_of h.0 ∙ rw (number_is (decimal m) m h.1 refl) refl
-said_is_read words (Mutator m (New l k)) h = ap command_of h.0 ∙ rw (number_is (decimal m) m h.1 refl, number_is (decimal l) l h.2 refl, number_is (decimal k) k h.3 refl) refl
-said_is_read words (Heap l m) h = ap command_of h.0 ∙ rw (number_is (decimal l) l h.1 refl, number_is (decimal m) m h.2 refl) refl
-said_is_read words (Book Logs) h = ap command_of h
+pub said_is_read : (words : List (List ℕ)) (c : Entry) → Says words c → entry_of words ≡ Some c
+said_is_read words (CommandLine (Mutator m (Read p f l))) h = ap entry_of h.0 ∙ rw (number_is (decimal m) m h.1 refl, number_is (decimal p) p h.2 refl, number_is (decimal f) f h.3 refl, number_is (decimal l) l h.4 refl) refl
+said_is_read words (CommandLine (Mutator m (Write p f b))) h = ap entry_of h.1 ∙ rw (number_is (decimal m) m h.2 refl, number_is (decimal p) p h.3 refl, number_is (decimal f) f h.4 refl, spelled_is_hex h.0 b h.5) refl
+said_is_read words (CommandLine (Mutator m Open)) h = ap entry_of h.0 ∙ rw (number_is (decimal m) m h.1 refl) refl
+said_is_read words (CommandLine (Mutator m Close)) h = ap entry_of h.0 ∙ rw (number_is (decimal m) m h.1 refl) refl
+said_is_read words (CommandLine (Mutator m (New l k))) h = ap entry_of h.0 ∙ rw (number_is (decimal m) m h.1 refl, number_is (decimal l) l h.2 refl, number_is (decimal k) k h.3 refl) refl
+said_is_read words (HeapLine l m) h = ap entry_of h.0 ∙ rw (number_is (decimal l) l h.1 refl, number_is (decimal m) m h.2 refl) refl
+said_is_read words (CommandLine (Book Logs)) h = ap entry_of h
 
 chosen : {X : Type 0} (b : Bool) (x y z : X) → cond b x y ≡ z → ((b ≡ true) × (x ≡ z)) ⊎ ((b ≡ false) × (y ≡ z))
 chosen true x y z e = inl (refl, e)
@@ -52,7 +52,7 @@ number_then (w ∷ rest) f y e =
     ] refl e
 
 -- so it is with several
-several_then : {X : Type 0} (n : ℕ) (make : From n X) (rest : X → List (List ℕ) → Option Command) (words : List (List ℕ)) (c : Command) → numbers_then n make rest words ≡ Some c →
+several_then : {X : Type 0} (n : ℕ) (make : From n X) (rest : X → List (List ℕ) → Option Entry) (words : List (List ℕ)) (c : Entry) → numbers_then n make rest words ≡ Some c →
     (t : Several n) × (behind : List (List ℕ)) × Below n t × (words ≡ in_front n t behind) × (rest (made_of n make t) behind ≡ Some c)
 several_then zero make rest words c e = (tt, words, tt, refl, e)
 several_then (suc n) make rest words c e =
@@ -70,19 +70,19 @@ bytes_then (w ∷ rest) f y e =
       | None ↦ λ is k. absurd (cc k)
     ] refl e
 
-ended_then : (words : List (List ℕ)) (c d : Command) → ended words c ≡ Some d → (words ≡ []) × (c ≡ d)
+ended_then : (words : List (List ℕ)) (c d : Entry) → ended words c ≡ Some d → (words ≡ []) × (c ≡ d)
 ended_then [] c d e = (refl, cc e)
 ended_then (w ∷ words) c d e = absurd (cc e)
 
 -- ---- the operands of a command
-numbers_only : (n : ℕ) (make : From n Command) (words : List (List ℕ)) (c : Command) → command_from (Numbers n make) words ≡ Some c →
+numbers_only : (n : ℕ) (make : From n Entry) (words : List (List ℕ)) (c : Entry) → entry_from (Numbers n make) words ≡ Some c →
     (t : Several n) × Below n t × (words ≡ in_front n t []) × (made_of n make t ≡ c)
 numbers_only n make words c e =
     let (t, behind, below, is, last) = several_then n make (λ command behind. ended behind command) words c e in
     let (none, same) = ended_then behind (made_of n make t) c last in
     (t, below, is ∙ ap (in_front n t) none, same)
 
-numbers_and_bytes : (n : ℕ) (make : From n (List ℕ → Command)) (words : List (List ℕ)) (c : Command) → command_from (NumbersAndBytes n make) words ≡ Some c →
+numbers_and_bytes : (n : ℕ) (make : From n (List ℕ → Entry)) (words : List (List ℕ)) (c : Entry) → entry_from (NumbersAndBytes n make) words ≡ Some c →
     (t : Several n) × (word bytes : List ℕ) × Below n t × Spells word bytes × (words ≡ in_front n t (word ∷ [])) × (made_of n make t bytes ≡ c)
 numbers_and_bytes n make words c e =
     let (t, behind, below, is, last) = several_then n make (λ command behind. next_bytes behind >>= λ bytes. ended bytes.1 (command bytes.0)) words c e in
@@ -92,7 +92,7 @@ numbers_and_bytes n make words c e =
 
 -- ---- each row of the table: what is read so says the command
 abbrev IsSaid : List ℕ × Operands → Type 0
-IsSaid row = (words : List (List ℕ)) (c : Command) → command_from row.1 words ≡ Some c → Says (row.0 ∷ words) c
+IsSaid row = (words : List (List ℕ)) (c : Entry) → entry_from row.1 words ≡ Some c → Says (row.0 ∷ words) c
 
 read_said : IsSaid (codes "read", Numbers 4 asks_read)
 read_said words c e =
@@ -119,31 +119,31 @@ new_said words c e =
     let (t, b, is, same) = numbers_only 3 asks_new words c e in
     subst (Says (codes "new" ∷ words)) same (ap (λ ws. codes "new" ∷ ws) is, b.0, b.1.0, b.1.1.0)
 
-heap_said : IsSaid (codes "heap", Numbers 2 Heap)
+heap_said : IsSaid (codes "heap", Numbers 2 HeapLine)
 heap_said words c e =
-    let (t, b, is, same) = numbers_only 2 Heap words c e in
+    let (t, b, is, same) = numbers_only 2 HeapLine words c e in
     subst (Says (codes "heap" ∷ words)) same (ap (λ ws. codes "heap" ∷ ws) is, b.0, b.1.0)
 
-logs_said : IsSaid (codes "logs", Numbers 0 (Book Logs))
+logs_said : IsSaid (codes "logs", Numbers 0 (CommandLine (Book Logs)))
 logs_said words c e =
-    let (t, b, is, same) = numbers_only 0 (Book Logs) words c e in
+    let (t, b, is, same) = numbers_only 0 (CommandLine (Book Logs)) words c e in
     subst (Says (codes "logs" ∷ words)) same (ap (λ ws. codes "logs" ∷ ws) is)
 
 rows_said : Each IsSaid table
 rows_said = (read_said, (write_said, (open_said, (close_said, (new_said, (heap_said, (logs_said, tt)))))))
 
 -- words that begin with a command's name
-named : (name word : List ℕ) (args : List (List ℕ)) (c : Command) → bytes_eq name word ≡ true → Says (word ∷ args) c → Says (name ∷ args) c
+named : (name word : List ℕ) (args : List (List ℕ)) (c : Entry) → bytes_eq name word ≡ true → Says (word ∷ args) c → Says (name ∷ args) c
 named name word args c e h = subst (λ w. Says (w ∷ args) c) (sym ((bytes_eq-Decides name word).0 e)) h
 
 -- what is found in a table whose rows are read so
-found_said : (rows : List (List ℕ × Operands)) → Each IsSaid rows → (name : List ℕ) (words : List (List ℕ)) (c : Command) → found_in rows name words ≡ Some c → Says (name ∷ words) c
+found_said : (rows : List (List ℕ × Operands)) → Each IsSaid rows → (name : List ℕ) (words : List (List ℕ)) (c : Entry) → found_in rows name words ≡ Some c → Says (name ∷ words) c
 found_said [] h name words c e = absurd (cc e)
 found_said (row ∷ rows) h name words c e = elim (chosen (bytes_eq name row.0) _ _ (Some c) e) [
   | inl k ↦ named name row.0 words c k.0 (h.0 words c k.1)
   | inr k ↦ found_said rows h.1 name words c k.1
 ]
 
-pub read_is_said : (words : List (List ℕ)) (c : Command) → command_of words ≡ Some c → Says words c
+pub read_is_said : (words : List (List ℕ)) (c : Entry) → entry_of words ≡ Some c → Says words c
 read_is_said [] c e = absurd (cc e)
 read_is_said (name ∷ words) c e = found_said table rows_said name words c e

@@ -26,8 +26,8 @@ use Rattle.far_core.proofs.KeepPlace.{header}
 use Rattle.far_core.proofs.Owing.{is_test}
 use Rattle.far_core.proofs.Put.{put_both, put_same, put_other}
 use Rattle.far_trace.specs.Moment.{moment_of}
-use Rattle.far_trace.specs.Command.{Command, Heap, New, Open, Write, Read, Close, Logs, Mutator, Book}
-use Rattle.far_trace.specs.Interpreter.{AllBytes, named_by, next_after}
+use Rattle.far_trace.specs.Command.{Command, New, Open, Write, Read, Close, Logs, Mutator, Book}
+use Rattle.far_trace.specs.Interpreter.{named_by, next_after}
 use Rattle.far_trace.specs.EventRows.{after_events, AllSucceed, AtHand}
 use Rattle.far_trace.specs.Tidy.{Tidy}
 use Rattle.far_trace.specs.Events.{new_events, zero_puts, open_events, view_events, first_word, words_touched, load_events, starts_inside, ends_inside, part_events, store_events, turn_events, events_for}
@@ -35,6 +35,7 @@ use Rattle.far_trace.specs.Objects.{uses, object_len, data_of, spliced, lowest_c
 use Rattle.far_trace.specs.Effects.{new_word}
 use Rattle.far_trace.specs.Effects.{with_row, with_object, with_view, with_data, with_scope, epoch_for}
 use Rattle.far_trace.specs.Turn.{turn_effect, effect, with_new, access_causes, first_cause, refusal, unless}
+use Rattle.far_trace.specs.Written.{WritesBytes}
 use Rattle.far_trace.proofs.LoadWords.{loads_stay, load_legal, loads_succeed}
 use Rattle.far_trace.proofs.Lowest.{lowest_is}
 use Rattle.far_trace.proofs.MadeLemmas.{made-append, AllSucceed-append, made_first, first_succeeds, made_law, load_stays}
@@ -439,9 +440,8 @@ none_turned : (s : State) (next : ℕ → ℕ) → Law s → Tidy s next → Tur
 none_turned s next law tidy = record { succeed = tt; tidy = tidy; law = law; fit = tt; ends = refl }
 
 -- a command that isn't refused
-turned : (s : State) (next : ℕ → ℕ) (c : Command) → Law s → Tidy s next → AllBytes c → refusal (moment_of s) c ≡ None →
+turned : (s : State) (next : ℕ → ℕ) (c : Command) → Law s → Tidy s next → WritesBytes c → refusal (moment_of s) c ≡ None →
     Turned s (named_by c next) (turn_events (moment_of s) c) (turn_effect (moment_of s) c).core
-turned s next (Heap logs mutators) law tidy small e = none_turned s next law tidy
 turned s next (Mutator m (New len ds)) law tidy small e = new_turned s next m len ds law tidy e
 turned s next (Mutator m Open) law tidy small e =
     let h = two (nat_lt m s.mutators) (is_opened s m) Range AlreadyOpen e in
@@ -472,11 +472,11 @@ turned s next (Mutator m Close) law tidy small e = close_turned s next m law tid
 turned s next (Book Logs) law tidy small e = none_turned s next law tidy
 
 -- each command: a refused one does nothing
-turn_at : (s : State) (next : ℕ → ℕ) (c : Command) (o : Option Refusal) → refusal (moment_of s) c ≡ o → Law s → Tidy s next → AllBytes c →
+turn_at : (s : State) (next : ℕ → ℕ) (c : Command) (o : Option Refusal) → refusal (moment_of s) c ≡ o → Law s → Tidy s next → WritesBytes c →
     Turned s (unless o (λ _. next) (named_by c next)) (unless o (λ _. []) (turn_events (moment_of s) c)) (unless o (λ _. moment_of s) (turn_effect (moment_of s) c)).core
 turn_at s next c None e law tidy small = turned s next c law tidy small e
 turn_at s next c (Some why) e law tidy small = none_turned s next law tidy
 
 -- the events of a command lead to the moment behind it
-pub turns : (s : State) (next : ℕ → ℕ) (c : Command) → Law s → Tidy s next → AllBytes c → Turned s (next_after (moment_of s) c next) (events_for (moment_of s) c) (effect (moment_of s) c).core
+pub turns : (s : State) (next : ℕ → ℕ) (c : Command) → Law s → Tidy s next → WritesBytes c → Turned s (next_after (moment_of s) c next) (events_for (moment_of s) c) (effect (moment_of s) c).core
 turns s next c law tidy small = turn_at s next c (refusal (moment_of s) c) refl law tidy small

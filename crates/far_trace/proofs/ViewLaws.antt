@@ -20,8 +20,8 @@ use Rattle.far_core.proofs.Leaving.{held_stays}
 use Rattle.far_core.proofs.Put.{put_same, put_other}
 use Rattle.far_trace.specs.Moment.{Moment, moment_of}
 use Rattle.far_trace.specs.Answers.{Answered, Commanded, IsMoment}
-use Rattle.far_trace.specs.Command.{Command, Heap, New, Open, Write, Read, Close, Logs, Mutator, Book}
-use Rattle.far_trace.specs.Later.{IsLater, AreLater}
+use Rattle.far_trace.specs.Command.{Command, New, Open, Write, Read, Close, Logs, Mutator, Book}
+use Rattle.far_trace.specs.Written.{WritesBytes, AllWriteBytes}
 use Rattle.far_trace.specs.Headline.{LogsStay, StayThrough, ViewsObject, ViewsNothing, ViewsAfter}
 use Rattle.far_trace.specs.EventRows.{after_events, Succeeds, AllSucceed}
 use Rattle.far_trace.specs.Reply.{Reply, Refused}
@@ -29,7 +29,6 @@ use Rattle.far_trace.specs.Events.{turn_events, zero_puts, new_events, open_even
 use Rattle.far_trace.specs.Objects.{lowest_cell, spliced, data_of}
 use Rattle.far_trace.specs.Effects.{new_word}
 use Rattle.far_trace.specs.Turn.{refusal, unless, turn_reply, reply_to}
-use Rattle.far_trace.proofs.Answering.{later_bytes}
 use Rattle.far_trace.proofs.Lasting.{Lasts, carried, moment_lasts, still_lasts}
 use Rattle.far_trace.proofs.Turns.{turns}
 use Rattle.far_trace.proofs.ViewsRest.{NoClose, ClosesLast, none_closes, fronts_stay, held_now}
@@ -128,14 +127,12 @@ pub views_after : (s : State) (c : Command) (o : Option Refusal) → AllSucceed 
     ViewsAfter (moment_of s) c (unless o Refused (turn_reply (moment_of s) c)) (moment_of (after_events s (unless o (λ _. []) (turn_events (moment_of s) c))))
 views_after s c (Some why) ok = refused_views s c why where
   refused_views : (s : State) (c : Command) (why : Refusal) → ViewsAfter (moment_of s) c (Refused why) (moment_of s)
-  refused_views s (Heap logs mutators) why = refl
   refused_views s (Mutator m (New len ds)) why = refl
   refused_views s (Mutator m Open) why = refl
   refused_views s (Mutator m (Write p from bytes)) why = refl
   refused_views s (Mutator m (Read p from len)) why = refl
   refused_views s (Mutator m Close) why = refl
   refused_views s (Book Logs) why = refl
-views_after s (Heap logs mutators) None ok = refl
 views_after s (Mutator m (New len ds)) None ok = row_stays s (turn_events (moment_of s) (Mutator m (New len ds))) (news m len ds (lowest_cell s m) (room s (size_of len) true))
 views_after s (Mutator m Open) None ok = row_stays s (open_events s m) (opens s m)
 views_after s (Mutator m (Write p from bytes)) None ok =
@@ -146,7 +143,7 @@ views_after s (Mutator m (Read p from len)) None ok = viewed_behind s m p (load_
 views_after s (Mutator m Close) None ok = close_views s m ok.0
 views_after s (Book Logs) None ok = refl
 
-pub views_last : (now : Moment) (c : Command) (r : Reply) (next : Moment) → IsMoment now → IsLater c → Commanded now c r next → ViewsAfter now c r next
+pub views_last : (now : Moment) (c : Command) (r : Reply) (next : Moment) → IsMoment now → WritesBytes c → Commanded now c r next → ViewsAfter now c r next
 views_last now c r next is later h =
     let x = carried now c r next (moment_lasts now is) later h in
     subst (λ y. ViewsAfter now c y next) (sym x.reply)
@@ -162,7 +159,6 @@ view_no_close : (s : State) (m p : ℕ) (es : List Event) → Each NoClose es �
 view_no_close s m p es q = cond_both (is_some (s.held p)) [] (Pins m p ∷ []) (λ (x : List Event). Each NoClose (x ++ es)) (λ _. q) (λ _. ((λ _ e. absurd cc), q))
 
 closes_last : (s : State) (c : Command) → ClosesLast (turn_events (moment_of s) c)
-closes_last s (Heap logs mutators) = tt
 closes_last s (Mutator m (New len ds)) = none_closes (turn_events (moment_of s) (Mutator m (New len ds))) (no_close (turn_events (moment_of s) (Mutator m (New len ds))) (news m len ds (lowest_cell s m) (room s (size_of len) true)))
 closes_last s (Mutator m Open) = none_closes (open_events s m) (no_close (open_events s m) (opens s m))
 closes_last s (Mutator m (Write p from bytes)) =
@@ -181,13 +177,13 @@ command_closes_last : (s : State) (c : Command) (o : Option Refusal) → ClosesL
 command_closes_last s c None = closes_last s c
 command_closes_last s c (Some why) = tt
 
-stay_through : (now : Moment) (c : Command) → Lasts now → IsLater c → StayThrough now c
+stay_through : (now : Moment) (c : Command) → Lasts now → WritesBytes c → StayThrough now c
 stay_through now c lasts later es mid rest front p place =
-    fronts_stay now.core es mid rest lasts.law (subst (Each Fits) (sym front) (turns now.core lasts.next c lasts.law lasts.tidy (later_bytes c later)).fit)
+    fronts_stay now.core es mid rest lasts.law (subst (Each Fits) (sym front) (turns now.core lasts.next c lasts.law lasts.tidy later).fit)
     (subst ClosesLast (sym front) (command_closes_last now.core c (refusal now c))) p place
 
 -- the logs in which views rest stay through each command
-stay_all : (now : Moment) (cs : List Command) (rs : List Reply) (moments : List Moment) → Lasts now → AreLater cs → Answered now cs rs moments → LogsStay now cs moments
+stay_all : (now : Moment) (cs : List Command) (rs : List Reply) (moments : List Moment) → Lasts now → AllWriteBytes cs → Answered now cs rs moments → LogsStay now cs moments
 stay_all now [] [] [] lasts later h = held_now now.core lasts.law
 stay_all now [] [] (m ∷ ms) lasts later h = absurd h
 stay_all now [] (r ∷ rs) ms lasts later h = absurd h
@@ -196,5 +192,5 @@ stay_all now (c ∷ cs) (r ∷ rs) [] lasts later h = absurd h
 stay_all now (c ∷ cs) (r ∷ rs) (next ∷ ms) lasts later h =
     (stay_through now c lasts later.0, stay_all next cs rs ms (still_lasts now c r next lasts later.0 h.0) later.1 h.1)
 
-pub logs_stay : (now : Moment) (cs : List Command) (rs : List Reply) (moments : List Moment) → IsMoment now → AreLater cs → Answered now cs rs moments → LogsStay now cs moments
+pub logs_stay : (now : Moment) (cs : List Command) (rs : List Reply) (moments : List Moment) → IsMoment now → AllWriteBytes cs → Answered now cs rs moments → LogsStay now cs moments
 logs_stay now cs rs moments is later h = stay_all now cs rs moments (moment_lasts now is) later h

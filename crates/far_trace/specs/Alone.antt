@@ -5,7 +5,7 @@ use Rattle.far_word.specs.declared.refused.Refused.TheVariants.{NoRoom, NoPointe
 use Rattle.far_word.specs.declared.sizes.TheConstants.{CELLS, LONGEST}
 use Rattle.far_core.specs.state.State.{put}
 use Rattle.far_core.specs.world.World.{World, Object}
-use Rattle.far_trace.specs.Command.{Command, Heap, New, Open, Write, Read, Close, Mutator, Book}
+use Rattle.far_trace.specs.Command.{Command, New, Open, Write, Read, Close, Mutator, Book}
 use Rattle.far_trace.specs.Reply.{Reply, Done, Pointer, Data, Refused}
 use Rattle.far_trace.specs.Objects.{spliced}
 
@@ -52,9 +52,8 @@ Knows m o (Mutator _ (Write p from new)) (Refused NotHeld) q = (o.opened ≡ tru
 Knows m o (Mutator _ (Write p from new)) (Refused Range) q = (o.opened ≡ true) × (q ≡ o) × ((all : List ℕ) × (o.object p ≡ Some all) × IsOut all from (length new))
 Knows m o _ _ q = ⊥
 
--- whose command it is, none's for the heap and the logs
+-- whose command it is, none's for the logs
 abbrev pub speaker : Command → Option ℕ
-speaker (Heap logs mutators) = None
 speaker (Mutator m request) = Some m
 speaker (Book inquiry) = None
 

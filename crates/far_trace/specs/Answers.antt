@@ -7,24 +7,24 @@ use Rattle.far_word.specs.declared.refused.Refused.TheVariants.{Memory, Shape, S
 use Rattle.far_core.specs.declared.shape.Shape.{Shape as Size}
 use Rattle.far_core.specs.state.Opening.{opening}
 use Rattle.far_core.specs.state.Shape.{is_shape}
-use Rattle.far_trace.specs.Command.{Command, Heap}
-use Rattle.far_trace.specs.Grammar.{commands_of}
+use Rattle.far_trace.specs.Command.{Command, Trace, Nothing, Heap}
+use Rattle.far_trace.specs.Grammar.{trace_of}
 use Rattle.far_trace.specs.Moment.{Moment, moment_of}
 use Rattle.far_trace.specs.Reply.{Reply, Done, Refused, printed}
 use Rattle.far_trace.specs.declared.run.End.{End}
 use Rattle.far_trace.specs.declared.run.End.TheVariants.{Ran, Refused as Turned}
 use Rattle.far_trace.specs.declared.run.RunFault.{RunFault}
 use Rattle.far_trace.specs.declared.run.RunFault.TheVariants as faults
-use Rattle.far_trace.specs.Later.{AreLater}
 use Rattle.far_trace.specs.Stream.{AppendsFront, AppendsPart}
 use Rattle.far_trace.specs.Turn.{effect, reply_to}
+use Rattle.far_trace.specs.Written.{AllWriteBytes}
 
 -- one command, from a moment to the next, with its reply
 pub record Commanded (now : Moment) (c : Command) (r : Reply) (after : Moment) : Type 0 where
   pub reply : r ≡ reply_to now c
   pub moment : after ≡ effect now c
 
--- one reply a command, and a list of moments, each behind its command from the one before
+-- one reply a command, and a list of moments, each after its command from the one before
 abbrev pub Answered : Moment → List Command → List Reply → List Moment → Type 0
 Answered now [] [] [] = Unit {0}
 Answered now (c ∷ cs) (r ∷ rs) (after ∷ moments) = Commanded now c r after × Answered after cs rs moments
@@ -38,63 +38,55 @@ shape_of logs mutators = record { logs = logs; mutators = mutators; epoch = 0 }
 abbrev pub first_moment : ℕ → ℕ → Moment
 first_moment logs mutators = moment_of (opening (shape_of logs mutators) true)
 
--- the moment behind these commands
-abbrev pub moment_behind : Moment → List Command → Moment
-moment_behind now [] = now
-moment_behind now (c ∷ cs) = moment_behind (effect now c) cs
+-- the moment after these commands
+abbrev pub moment_after : Moment → List Command → Moment
+moment_after now [] = now
+moment_after now (c ∷ cs) = moment_after (effect now c) cs
 
 -- a moment to which a heap in range comes by commands
 abbrev pub IsMoment : Moment → Type 0
-IsMoment now = (logs mutators : ℕ) × (cs : List Command) × (is_shape (shape_of logs mutators) ≡ true) × AreLater cs × (now ≡ moment_behind (first_moment logs mutators) cs)
+IsMoment now = (logs mutators : ℕ) × (cs : List Command) × (is_shape (shape_of logs mutators) ≡ true) × AllWriteBytes cs × (now ≡ moment_after (first_moment logs mutators) cs)
 
--- the output of the commands that a text is read as: off the grammar that refusal alone; for no commands nothing; for a heap out of range its
--- refusal alone; else `ok` and the lines of the replies, from the heap's first state on
-abbrev pub IsOutput : Result (List Command) ℕ → List ℕ → Type 0
+-- the output of what a text is read as: off the grammar that refusal alone; for nothing nothing; for a heap out of range its
+-- refusal alone; else `ok` and the lines of the replies, from the heap's first moment on
+abbrev pub IsOutput : Result Trace ℕ → List ℕ → Type 0
 IsOutput (Err line) output = output ≡ printed (Refused (Syntax line))
-IsOutput (Ok []) output = output ≡ []
-IsOutput (Ok (Heap logs mutators ∷ commands)) output =
+IsOutput (Ok Nothing) output = output ≡ []
+IsOutput (Ok (Heap logs mutators commands)) output =
     MatchBool (is_shape (shape_of logs mutators))
     ((replies : List Reply) × (moments : List Moment) × Answered (first_moment logs mutators) commands replies moments × (output ≡ flat_map printed (Done ∷ replies)))
     (output ≡ printed (Refused Shape))
-IsOutput (Ok (_ ∷ commands)) output = output ≡ printed (Refused Shape)
 
--- the first command, if there is one, is a heap, and those after it are not
-abbrev pub BeginsWithHeap : List Command → Type 0
-BeginsWithHeap [] = Unit {0}
-BeginsWithHeap (Heap logs mutators ∷ commands) = AreLater commands
-BeginsWithHeap (_ ∷ commands) = ⊥
-
--- how a text ends whose commands are read so: `Ran` for none and for a heap in range
-abbrev pub end_of : Result (List Command) ℕ → End
-end_of (Ok []) = Ran
-end_of (Ok (Heap logs mutators ∷ commands)) = if is_shape (shape_of logs mutators) then Ran else Turned
-end_of (Ok (_ ∷ commands)) = Turned
+-- how a text ends that is read so: `Ran` for nothing and for a heap in range
+abbrev pub end_of : Result Trace ℕ → End
+end_of (Ok Nothing) = Ran
+end_of (Ok (Heap logs mutators commands)) = if is_shape (shape_of logs mutators) then Ran else Turned
 end_of (Err line) = Turned
 
--- what was written is the output of these commands
-abbrev pub WritesOutput : Option (List ℕ) → Option (List ℕ) → Result (List Command) ℕ → Type 0
-WritesOutput old new commands = (output : List ℕ) × IsOutput commands output × Appends old new output
+-- what was written is the output of what was read
+abbrev pub WritesOutput : Option (List ℕ) → Option (List ℕ) → Result Trace ℕ → Type 0
+WritesOutput old new read = (output : List ℕ) × IsOutput read output × Appends old new output
 
 -- a heap of this shape may be refused memory
-abbrev pub MayMakeHeap : Result (List Command) ℕ → Type 0
-MayMakeHeap (Ok (Heap logs mutators ∷ commands)) = is_shape (shape_of logs mutators) ≡ true
+abbrev pub MayMakeHeap : Result Trace ℕ → Type 0
+MayMakeHeap (Ok (Heap logs mutators commands)) = is_shape (shape_of logs mutators) ≡ true
 MayMakeHeap _ = ⊥
 
 -- what a fault leaves: a failed write, a front of the output that lacks its end; out of memory, nothing, or the one line that says so where
 -- the heap was refused; a failed read, nothing
-abbrev pub LeavesBehind : RunFault → Option (List ℕ) → Option (List ℕ) → Result (List Command) ℕ → Type 0
-LeavesBehind faults.Write old new commands = (output : List ℕ) × IsOutput commands output × AppendsPart old new output
-LeavesBehind faults.Memory old new commands = Keeps old new ⊎ (MayMakeHeap commands × AppendsFront old new (printed (Refused Memory)))
-LeavesBehind faults.Read old new commands = Keeps old new
+abbrev pub LeavesBehind : RunFault → Option (List ℕ) → Option (List ℕ) → Result Trace ℕ → Type 0
+LeavesBehind faults.Write old new read = (output : List ℕ) × IsOutput read output × AppendsPart old new output
+LeavesBehind faults.Memory old new read = Keeps old new ⊎ (MayMakeHeap read × AppendsFront old new (printed (Refused Memory)))
+LeavesBehind faults.Read old new read = Keeps old new
 
 -- this is the output for the text
 abbrev pub Answers : List ℕ → List ℕ → Type 0
-Answers text output = IsOutput (commands_of text) output
+Answers text output = IsOutput (trace_of text) output
 
 -- what was written is the output for the text
 abbrev pub WritesAnswer : Option (List ℕ) → Option (List ℕ) → List ℕ → Type 0
-WritesAnswer old new text = WritesOutput old new (commands_of text)
+WritesAnswer old new text = WritesOutput old new (trace_of text)
 
 -- what a fault leaves of it
 abbrev pub Leaves : RunFault → Option (List ℕ) → Option (List ℕ) → List ℕ → Type 0
-Leaves fault old new text = LeavesBehind fault old new (commands_of text)
+Leaves fault old new text = LeavesBehind fault old new (trace_of text)

@@ -1,7 +1,7 @@
 -- How far a text is read: what the words and the lines are that are left of it.
 use Rattle.std.specs.Prelude.{ℕ, Bool, ◌||◌, ◌==◌, List, [], ◌∷◌, Option, Some, None}
 use Rattle.std.specs.Borrow.{Bor}
-use Rattle.far_trace.specs.Command.{said}
+use Rattle.far_trace.specs.Command.{said_entry}
 use Rattle.far_trace.specs.Grammar.{Line, Skipped, Saying, line_words, lines_of}
 use Rattle.far_trace.specs.declared.cursor.Rest.{Rest}
 use Rattle.far_trace.specs.declared.cursor.Rest.TheVariants.{Words, Lines}
@@ -49,4 +49,4 @@ lines_after (Lines lines) = lines_left lines
 -- the line that is spelled so
 abbrev pub said_line : Spelled → Line
 said_line SpelledSkipped = Skipped
-said_line (SpelledSaid command) = Saying (said command)
+said_line (SpelledSaid entry) = Saying (said_entry entry)

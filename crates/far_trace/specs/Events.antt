@@ -9,7 +9,7 @@ use Rattle.far_core.specs.declared.event.Event.{Event}
 use Rattle.far_core.specs.declared.event.Event.TheVariants.{ReadEpoch as ReadsEpoch, Open as Opens, Pin as Pins, Load as Loads, Store as Stores, Close as Closes, Adopt as Adopts, Put as Puts, Name as Names}
 use Rattle.far_core.specs.state.Room.{room}
 use Rattle.far_core.specs.state.State.{State}
-use Rattle.far_trace.specs.Command.{Command, Heap, New, Open, Write, Read, Close, Logs, Mutator, Book}
+use Rattle.far_trace.specs.Command.{Command, New, Open, Write, Read, Close, Logs, Mutator, Book}
 use Rattle.far_trace.specs.Effects.{new_word}
 use Rattle.far_trace.specs.Moment.{Moment}
 use Rattle.far_trace.specs.Objects.{data_of, spliced, lowest_cell}
@@ -63,7 +63,6 @@ abbrev pub store_events : ℕ → ℕ → ℕ → ℕ → List ℕ → List Even
 store_events m p first count after = map (λ i. Stores m p i (packed_word after i)) (range_with_len first count)
 
 abbrev pub turn_events : Moment → Command → List Event
-turn_events now (Heap logs mutators) = []
 turn_events now (Mutator m (New len ds)) = new_events m len ds (lowest_cell now.core m) (room now.core (size_of len) true)
 turn_events now (Mutator m Open) = open_events now.core m
 turn_events now (Mutator m (Write p from bytes)) =

@@ -17,16 +17,16 @@ use Rattle.far_core.specs.state.State.{State, put}
 use Rattle.far_core.specs.world.World.{Group}
 use Rattle.far_core.specs.world.WorldOf.{world_of}
 use Rattle.far_trace.specs.Alone.{Alone, Knows, Own, nothing}
-use Rattle.far_trace.specs.Answers.{Answered, Answers, BeginsWithHeap, Commanded, IsMoment, shape_of, first_moment}
-use Rattle.far_trace.specs.Command.{Command, Heap as HeapLine, New, Open, Write, Read, Close, Logs as AsksLogs, Mutator, Book}
-use Rattle.far_trace.specs.Grammar.{commands_of}
+use Rattle.far_trace.specs.Answers.{Answered, Answers, Commanded, IsMoment, shape_of, first_moment}
+use Rattle.far_trace.specs.Command.{Command, Heap, CommandLine, New, Open, Write, Read, Close, Logs as AsksLogs, Mutator, Book}
+use Rattle.far_trace.specs.Grammar.{trace_of}
 use Rattle.far_trace.specs.Moment.{Moment}
-use Rattle.far_trace.specs.Later.{IsLater, AreLater}
 use Rattle.far_trace.specs.EventRows.{after_events, AllPass, AllSucceed, AllAtHand}
 use Rattle.far_trace.specs.Events.{events_for}
 use Rattle.far_trace.specs.Objects.{spliced}
 use Rattle.far_trace.specs.Says.{Says}
 use Rattle.far_trace.specs.Stays.{Stays}
+use Rattle.far_trace.specs.Written.{WritesBytes, AllWriteBytes}
 use Rattle.far_trace.specs.Reply.{Reply, Done, Pointer, Data, Logs, Refused, LogLine, printed}
 
 -- a log in which a view rests in s isn't free in t
@@ -110,7 +110,6 @@ ViewsAfter now c r after = after.core.held ≡ now.core.held
 
 -- the line has the mutator's number
 abbrev pub IsSaidBy : ℕ → Command → Type 0
-IsSaidBy m (HeapLine logs mutators) = ⊥
 IsSaidBy m (Mutator k request) = m ≡ k
 IsSaidBy m (Book inquiry) = ⊥
 
@@ -144,11 +143,11 @@ IsPlain (Refused why) = IsPlainRefusal why
 abbrev pub PrintedAlike : Type 0
 PrintedAlike = (r q : Reply) → IsPlain r → IsPlain q → printed r ≡ printed q → r ≡ q
 
--- a line that says a mutator's command has its number behind the name, and a line with a mutator's number there says its command, unless it is the heap's
+-- a line says a mutator's command exactly where the word after its name is the mutator's number, among lines that say commands
 abbrev pub LinesAreNumbered : Type 0
-LinesAreNumbered = (words : List (List ℕ)) (c : Command) (m : ℕ) → m < 2 ^ 64 → Says words c →
+LinesAreNumbered = (words : List (List ℕ)) (c : Command) (m : ℕ) → m < 2 ^ 64 → Says words (CommandLine c) →
     (IsSaidBy m c → (name : List ℕ) × (rest : List (List ℕ)) × (words ≡ name ∷ decimal m ∷ rest))
-    × ((name : List ℕ) (rest : List (List ℕ)) → words ≡ name ∷ decimal m ∷ rest → name ≢ codes "heap" → IsSaidBy m c)
+    × ((name : List ℕ) (rest : List (List ℕ)) → words ≡ name ∷ decimal m ∷ rest → IsSaidBy m c)
 
 -- what an output says, from its text on: where the text is read as a heap in range and commands, there are the replies and the moments of this output; in each moment
 -- objects are whole, the logs in which views rest stay, and the replies to each mutator's lines are what its own lines alone say
@@ -162,32 +161,28 @@ pub record IsSound (logs mutators : ℕ) (cs : List Command) (output : List ℕ)
   pub alone : (m : ℕ) → m < mutators → Alone m nothing cs replies
 
 abbrev pub OutputsAreSound : Type 0
-OutputsAreSound = (text output : List ℕ) (logs mutators : ℕ) (cs : List Command) → Answers text output → commands_of text ≡ Ok (HeapLine logs mutators ∷ cs) →
+OutputsAreSound = (text output : List ℕ) (logs mutators : ℕ) (cs : List Command) → Answers text output → trace_of text ≡ Ok (Heap logs mutators cs) →
     is_shape (shape_of logs mutators) ≡ true → IsSound logs mutators cs output
 
 -- each text has an output
 abbrev pub EachTextIsAnswered : Type 0
 EachTextIsAnswered = (text : List ℕ) → (output : List ℕ) × Answers text output
 
--- a text without a bad line has no command, or a heap first and then no other
-abbrev pub TextsBeginWithHeap : Type 0
-TextsBeginWithHeap = (text : List ℕ) (cs : List Command) → commands_of text ≡ Ok cs → BeginsWithHeap cs
-
 -- two outputs of one text are equal
 abbrev pub OneOutput : Type 0
 OneOutput = (text a b : List ℕ) → Answers text a → Answers text b → a ≡ b
 
--- in a text that is read, the commands behind the first are such
-abbrev pub LinesAreLater : Type 0
-LinesAreLater = (text : List ℕ) (c : Command) (cs : List Command) → commands_of text ≡ Ok (c ∷ cs) → AreLater cs
+-- what the commands of a text write is bytes
+abbrev pub TextsWriteBytes : Type 0
+TextsWriteBytes = (text : List ℕ) (logs mutators : ℕ) (cs : List Command) → trace_of text ≡ Ok (Heap logs mutators cs) → AllWriteBytes cs
 
 -- what lasts: each moment behind a heap and commands has the law, and its pointers at hand
 abbrev pub MomentsLast : Type 0
-MomentsLast = (now : Moment) (cs : List Command) (rs : List Reply) (moments : List Moment) → IsMoment now → AreLater cs → Answered now cs rs moments → All Lawful (now ∷ moments)
+MomentsLast = (now : Moment) (cs : List Command) (rs : List Reply) (moments : List Moment) → IsMoment now → AllWriteBytes cs → Answered now cs rs moments → All Lawful (now ∷ moments)
 
 -- each command is carried out by its events
 abbrev pub EventsReach : Type 0
-EventsReach = (now : Moment) (c : Command) (r : Reply) (after : Moment) → IsMoment now → IsLater c → Commanded now c r after → Reaches now c after
+EventsReach = (now : Moment) (c : Command) (r : Reply) (after : Moment) → IsMoment now → WritesBytes c → Commanded now c r after → Reaches now c after
 
 -- a refused command leaves objects, bytes, places and all else as they were, but for marks that it may add
 abbrev pub RefusalsStay : Type 0
@@ -207,16 +202,16 @@ LogsAreTold = (now : Moment) (r : Reply) (after : Moment) → Law now.core → C
 
 -- objects stay whole through commands
 abbrev pub ObjectsStayWhole : Type 0
-ObjectsStayWhole = (now : Moment) (cs : List Command) (rs : List Reply) (moments : List Moment) → IsMoment now → AreLater cs → Answered now cs rs moments →
+ObjectsStayWhole = (now : Moment) (cs : List Command) (rs : List Reply) (moments : List Moment) → IsMoment now → AllWriteBytes cs → Answered now cs rs moments →
     All (λ (x : Moment). IsWhole x.core) (now ∷ moments)
 
 -- the logs in which views rest stay
 abbrev pub ViewedLogsStay : Type 0
-ViewedLogsStay = (now : Moment) (cs : List Command) (rs : List Reply) (moments : List Moment) → IsMoment now → AreLater cs → Answered now cs rs moments → LogsStay now cs moments
+ViewedLogsStay = (now : Moment) (cs : List Command) (rs : List Reply) (moments : List Moment) → IsMoment now → AllWriteBytes cs → Answered now cs rs moments → LogsStay now cs moments
 
 -- the replies to one mutator's lines are what its own lines alone say
 abbrev pub MutatorsAreAlone : Type 0
-MutatorsAreAlone = (logs mutators m : ℕ) (cs : List Command) (rs : List Reply) (moments : List Moment) → is_shape (shape_of logs mutators) ≡ true → m < mutators → AreLater cs →
+MutatorsAreAlone = (logs mutators m : ℕ) (cs : List Command) (rs : List Reply) (moments : List Moment) → is_shape (shape_of logs mutators) ≡ true → m < mutators → AllWriteBytes cs →
     Answered (first_moment logs mutators) cs rs moments → Alone m nothing cs rs
 
 -- where all objects are near and at hand, commands are refused so alone
@@ -248,7 +243,7 @@ NewIsMade = (now : Moment) (m len ds : ℕ) (r : Reply) (after : Moment) → m <
 
 -- what is read or written is viewed until its mutator closes its scope; nothing else makes a view or takes one away
 abbrev pub ViewsLast : Type 0
-ViewsLast = (now : Moment) (c : Command) (r : Reply) (after : Moment) → IsMoment now → IsLater c → Commanded now c r after → ViewsAfter now c r after
+ViewsLast = (now : Moment) (c : Command) (r : Reply) (after : Moment) → IsMoment now → WritesBytes c → Commanded now c r after → ViewsAfter now c r after
 
 -- a write changes the bytes of its range to the new ones, and no others
 abbrev pub WritesChangeTheirRange : Type 0

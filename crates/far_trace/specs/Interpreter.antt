@@ -1,11 +1,11 @@
 -- The words that the interpreter's own contracts need.
-use Rattle.std.specs.Prelude.{◌≡◌, ℕ, ◌+◌, ◌/◌, ◌<◌, ◌≤◌, true, List, slice_index, Option, Some, None, IsSome, Result, Ok, Err, nat_le, nat_lt, if◌then◌else◌}
+use Rattle.std.specs.Prelude.{◌≡◌, ℕ, ◌+◌, ◌/◌, ◌<◌, ◌≤◌, true, List, Option, Some, None, IsSome, Result, Ok, Err, nat_le, nat_lt, if◌then◌else◌}
 use Rattle.far_word.specs.declared.refused.Refused.{Refused as Refusal}
 use Rattle.far_word.specs.declared.sizes.TheConstants.{CELLS, LOG_WORDS, LONGEST, MOST_LOGS, POINTERS}
 use Rattle.far_core.specs.state.State.{State, put}
 use Rattle.far_core.specs.events.Step.{data_len, is_opened}
 use Rattle.far_trace.specs.Moment.{Moment}
-use Rattle.far_trace.specs.Command.{Command, New, Write, Mutator}
+use Rattle.far_trace.specs.Command.{Command, New, Mutator}
 use Rattle.far_trace.specs.declared.turn.Access.{Access}
 use Rattle.far_trace.specs.Outcome.{reply_by}
 use Rattle.far_trace.specs.Reply.{Reply, LogLine}
@@ -42,11 +42,6 @@ pub record IsViewed (s : State) (a : Access) : Type 0 where
   pub some : 0 < a.count
   pub inside : a.from + a.count ≤ data_len s a.pointer
   pub most : a.from + a.count ≤ LONGEST
-
--- every byte of a write is a byte
-abbrev pub AllBytes : Command → Type 0
-AllBytes (Mutator m (Write p from bytes)) = (k : ℕ) → slice_index bytes k < 256
-AllBytes c = Unit {0}
 
 -- how many cells of each mutator are named after a command that isn't refused
 abbrev pub named_by : Command → (ℕ → ℕ) → ℕ → ℕ

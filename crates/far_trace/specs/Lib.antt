@@ -9,7 +9,6 @@ pub mod Grammar
 pub mod Headline
 pub mod HexWord
 pub mod Interpreter
-pub mod Later
 pub mod Moment
 pub mod Objects
 pub mod Outcome
@@ -20,3 +19,4 @@ pub mod Stream
 pub mod Tidy
 pub mod TraceText
 pub mod Turn
+pub mod Written

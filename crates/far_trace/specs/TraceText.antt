@@ -1,8 +1,8 @@
--- What a whole text says: its lines in order, each passed over or a command at its place; and which line is the first that says nothing.
-use Rattle.std.specs.Prelude.{◌≡◌, ◌⊎◌, ◌↔◌, ℕ, ◌+◌, ◌<◌, ◌≤◌, ◌==◌, not, Bool, true, false, Ok, Err, List, [], ◌∷◌, ◌++◌, length, slice_index}
+-- What a whole text says: its lines in order, each passed over, the heap's, or a command; and which line is the first that says nothing.
+use Rattle.std.specs.Prelude.{◌≡◌, ◌⊎◌, ◌↔◌, ℕ, ◌+◌, ◌<◌, ◌≤◌, ◌==◌, not, true, Ok, Err, List, [], ◌∷◌, ◌++◌, length, slice_index}
 use Rattle.std.specs.List.{join_with_byte, list_all}
-use Rattle.far_trace.specs.Command.{Command}
-use Rattle.far_trace.specs.Grammar.{line_words, lines_of, is_in_place, commands_of}
+use Rattle.far_trace.specs.Command.{Command, Entry, HeapLine, CommandLine, Trace, Nothing, Heap}
+use Rattle.far_trace.specs.Grammar.{line_words, lines_of, trace_of}
 use Rattle.far_trace.specs.Says.{Says}
 use Rattle.far_trace.specs.declared.hex_word.TheConstants.{LONGEST_LINE}
 use Rattle.far_trace.specs.declared.text.TheConstants.{LONGEST_TEXT}
@@ -11,44 +11,46 @@ use Rattle.far_trace.specs.declared.text.TheConstants.{LONGEST_TEXT}
 abbrev pub IsPassed : List ℕ → Type 0
 IsPassed line = (length line ≤ LONGEST_LINE) × ((k : ℕ) → k < length line → slice_index line k < 128) × ((line ≡ []) ⊎ ((rest : List ℕ) × (line ≡ 35 ∷ rest)))
 
--- a line that says a command, not too long
-abbrev pub Speaks : List ℕ → Command → Type 0
-Speaks line c = (length line ≤ LONGEST_LINE) × Says (line_words line) c
+-- a line that says a heap or a command, not too long
+abbrev pub Speaks : List ℕ → Entry → Type 0
+Speaks line e = (length line ≤ LONGEST_LINE) × Says (line_words line) e
 
--- these lines say these commands and no others, in order, each where it may stand
-abbrev pub LinesSay : Bool → List (List ℕ) → List Command → Type 0
-LinesSay first [] [] = Unit {0}
-LinesSay first [] (c ∷ cs) = ⊥
-LinesSay first (line ∷ lines) cs =
-    (IsPassed line × LinesSay first lines cs)
-    ⊎ ((c : Command) × (later : List Command) × (cs ≡ c ∷ later) × Speaks line c × (is_in_place first c ≡ true) × LinesSay false lines later)
+-- these lines say these commands and no others, in order
+abbrev pub LinesSay : List (List ℕ) → List Command → Type 0
+LinesSay [] [] = Unit {0}
+LinesSay [] (c ∷ cs) = ⊥
+LinesSay (line ∷ lines) cs =
+    (IsPassed line × LinesSay lines cs)
+    ⊎ ((c : Command) × (later : List Command) × (cs ≡ c ∷ later) × Speaks line (CommandLine c) × LinesSay lines later)
 
--- a text that is not too long and whose lines say these commands
-abbrev pub TextSays : List ℕ → List Command → Type 0
-TextSays text cs = (length text ≤ LONGEST_TEXT) × LinesSay true (lines_of text) cs
+-- these lines say nothing; or one says the heap, those before it say nothing, and those after it say the commands
+abbrev pub LinesAre : List (List ℕ) → Trace → Type 0
+LinesAre lines Nothing = LinesSay lines []
+LinesAre lines (Heap logs mutators cs) = (front : List (List ℕ)) × (line : List ℕ) × (rest : List (List ℕ)) × (lines ≡ front ++ line ∷ rest)
+    × LinesSay front [] × Speaks line (HeapLine logs mutators) × LinesSay rest cs
 
--- a line that is neither passed over nor says a command that may stand here
-abbrev pub SaysNothing : Bool → List ℕ → Type 0
-SaysNothing first line = (¬ IsPassed line) × ((c : Command) → Speaks line c → is_in_place first c ≡ false)
+-- a text that is not too long and whose lines say this
+abbrev pub TextSays : List ℕ → Trace → Type 0
+TextSays text t = (length text ≤ LONGEST_TEXT) × LinesAre (lines_of text) t
 
--- no command has come yet
-abbrev pub none_yet : Bool → List Command → Bool
-none_yet first [] = first
-none_yet first (c ∷ cs) = false
+-- a line that is neither passed over nor says what may stand here: the heap where nothing was said, a command after it
+abbrev pub SaysNothing : Trace → List ℕ → Type 0
+SaysNothing Nothing line = (¬ IsPassed line) × ((logs mutators : ℕ) → ¬ Speaks line (HeapLine logs mutators))
+SaysNothing (Heap logs mutators cs) line = (¬ IsPassed line) × ((c : Command) → ¬ Speaks line (CommandLine c))
 
 -- line n of these, counted from a number on, is the first that says nothing
-abbrev pub FirstBad : ℕ → Bool → List (List ℕ) → ℕ → Type 0
-FirstBad number first lines n = (front : List (List ℕ)) × (bad : List ℕ) × (rest : List (List ℕ)) × (cs : List Command)
-    × (lines ≡ front ++ bad ∷ rest) × (n ≡ number + length front) × LinesSay first front cs × SaysNothing (none_yet first cs) bad
+abbrev pub FirstBad : ℕ → List (List ℕ) → ℕ → Type 0
+FirstBad number lines n = (front : List (List ℕ)) × (bad : List ℕ) × (rest : List (List ℕ)) × (t : Trace)
+    × (lines ≡ front ++ bad ∷ rest) × (n ≡ number + length front) × LinesAre front t × SaysNothing t bad
 
 -- ---- the laws
--- a text is read as some commands exactly where it says them
+-- a text is read as something exactly where it says it
 abbrev pub TextsAreRead : Type 0
-TextsAreRead = (text : List ℕ) (cs : List Command) → TextSays text cs ↔ (commands_of text ≡ Ok cs)
+TextsAreRead = (text : List ℕ) (t : Trace) → TextSays text t ↔ (trace_of text ≡ Ok t)
 
 -- else it is too long, or line n is the first that says nothing
 abbrev pub FirstBadLines : Type 0
-FirstBadLines = (text : List ℕ) (n : ℕ) → commands_of text ≡ Err n → ((n ≡ 0) × (LONGEST_TEXT < length text)) ⊎ ((length text ≤ LONGEST_TEXT) × FirstBad 1 true (lines_of text) n)
+FirstBadLines = (text : List ℕ) (n : ℕ) → trace_of text ≡ Err n → ((n ≡ 0) × (LONGEST_TEXT < length text)) ⊎ ((length text ≤ LONGEST_TEXT) × FirstBad 1 (lines_of text) n)
 
 -- none of the parts has this byte
 abbrev pub HaveNone : ℕ → List (List ℕ) → Type 0

@@ -10,7 +10,7 @@ use Rattle.far_core.specs.events.Step.{is_opened, after_close}
 use Rattle.far_core.specs.laws.Observed.{live_bytes, dead_bytes, unused_bytes}
 use Rattle.far_core.specs.state.Room.{room}
 use Rattle.far_core.specs.state.State.{State}
-use Rattle.far_trace.specs.Command.{Command, Heap, New, Open, Write, Read, Close, Logs, Mutator, Book}
+use Rattle.far_trace.specs.Command.{Command, New, Open, Write, Read, Close, Logs, Mutator, Book}
 use Rattle.far_trace.specs.Effects.{with_object, with_scope, with_view, with_data}
 use Rattle.far_trace.specs.Moment.{Moment}
 use Rattle.far_trace.specs.Objects.{uses, object_len, data_of, lowest_cell, is_range}
@@ -23,7 +23,6 @@ access_causes now m p from count =
     (not (nat_lt m now.core.mutators), Range) ∷ (not (is_opened now.core m), Closed) ∷ (not (uses now.core m p), NotHeld) ∷ (not (is_range (object_len now.core p) from count), Range) ∷ []
 
 abbrev pub causes : Moment → Command → List (Bool × Refusal)
-causes now (Heap logs mutators) = []
 causes now (Mutator m (New len ds)) =
     (not (nat_lt m now.core.mutators && nat_lt ds 256), Range) ∷ (not (nat_lt 0 len && nat_le len LONGEST), Length)
     ∷ (not (is_some (lowest_cell now.core m)), NoPointer) ∷ (not (is_some (room now.core (size_of len) true)), NoRoom) ∷ []
@@ -49,7 +48,6 @@ with_new s len ds (Some p) None = s
 with_new s len ds (Some p) (Some place) = with_object s p len ds place
 
 abbrev pub turn_effect : Moment → Command → Moment
-turn_effect now (Heap logs mutators) = now
 turn_effect now (Mutator m (New len ds)) = record now { core = with_new now.core len ds (lowest_cell now.core m) (room now.core (size_of len) true) }
 turn_effect now (Mutator m Open) = record now { core = with_scope now.core m }
 turn_effect now (Mutator m (Write p from bytes)) = record now { core = with_data (with_view now.core p) p from bytes }
@@ -67,7 +65,6 @@ pointer_reply None = Done
 pointer_reply (Some p) = Pointer p
 
 abbrev pub turn_reply : Moment → Command → Reply
-turn_reply now (Heap logs mutators) = Done
 turn_reply now (Mutator m (New len ds)) = pointer_reply (lowest_cell now.core m)
 turn_reply now (Mutator m Open) = Done
 turn_reply now (Mutator m (Write p from bytes)) = Done

@@ -1,10 +1,10 @@
-//! Commands, and which words spell one.
+//! Commands and the heap's line, and which words spell them.
 
 ghost use Rattle.std.specs.Prelude.{◌≡◌, ◌∷◌, IfSome};
 ghost use Rattle.std.specs.Option.{option_map};
 ghost use Rattle.std.specs.Str.{bytes_eq};
-ghost use Rattle.far_trace.specs.Command.{said, Heap};
-ghost use Rattle.far_trace.specs.Grammar.{Numbers, NumbersAndBytes, asks_read, asks_write, asks_open, asks_close, asks_new, command_from, command_of, ended};
+ghost use Rattle.far_trace.specs.Command.{said_entry, HeapLine, CommandLine, Book, Logs};
+ghost use Rattle.far_trace.specs.Grammar.{Numbers, NumbersAndBytes, asks_read, asks_write, asks_open, asks_close, asks_new, entry_from, entry_of, ended};
 ghost use Rattle.far_trace.specs.Cursor.{words_in, words_left, lines_behind, lines_after, lines_left};
 
 use crate::cursor::{Rest, next_bytes_of, next_number_of, word_first};
@@ -40,57 +40,62 @@ pub enum Inquiry {
 /// One command of a trace.
 #[derive(Clone, Copy)]
 pub enum Command<'a> {
-    Heap { logs: u64, mutators: u64 },
     Mutator { mutator: u64, request: Request<'a> },
     Book(Inquiry),
 }
 
-/// A command, and the lines behind its line, if any.
-pub type Spelled<'a> = (Command<'a>, Option<&'a [u8]>);
+/// What a line of a trace says: the heap's numbers, or a command.
+#[derive(Clone, Copy)]
+pub enum Entry<'a> {
+    Heap { logs: u64, mutators: u64 },
+    Command(Command<'a>),
+}
 
-// The command, if its line ends here.
-fn at_end<'a>(command: Command<'a>, rest: Rest<'a>) -> Option<Spelled<'a>>
-    ensures value { option_map (λ found. said found.0) result ≡ ended (words_left rest.entry) (said command.entry) }
+/// An entry, and the lines after its line, if any.
+pub type Spelled<'a> = (Entry<'a>, Option<&'a [u8]>);
+
+// The entry, if its line ends here.
+fn at_end<'a>(entry: Entry<'a>, rest: Rest<'a>) -> Option<Spelled<'a>>
+    ensures value { option_map (λ found. said_entry found.0) result ≡ ended (words_left rest.entry) (said_entry entry.entry) }
     ensures lines { IfSome result (λ found. lines_left found.1 ≡ lines_after rest.entry) }
 {
     match rest {
-        Rest::Lines(lines) => Some((command, lines)),
+        Rest::Lines(lines) => Some((entry, lines)),
         Rest::Words(_) => None,
     }
 }
 
 fn heap_spelled(rest: Rest<'_>) -> Option<Spelled<'_>>
-    ensures value { option_map (λ found. said found.0) result ≡ command_from (Numbers 2 Heap) (words_left rest.entry) }
+    ensures value { option_map (λ found. said_entry found.0) result ≡ entry_from (Numbers 2 HeapLine) (words_left rest.entry) }
     ensures lines { IfSome result (λ found. lines_left found.1 ≡ lines_after rest.entry) }
 {
     let (logs, rest) = next_number_of(rest)?;
     let (mutators, rest) = next_number_of(rest)?;
-    let command = Command::Heap { logs, mutators };
-    at_end(command, rest)
+    at_end(Entry::Heap { logs, mutators }, rest)
 }
 
 fn new_spelled(rest: Rest<'_>) -> Option<Spelled<'_>>
-    ensures value { option_map (λ found. said found.0) result ≡ command_from (Numbers 3 asks_new) (words_left rest.entry) }
+    ensures value { option_map (λ found. said_entry found.0) result ≡ entry_from (Numbers 3 asks_new) (words_left rest.entry) }
     ensures lines { IfSome result (λ found. lines_left found.1 ≡ lines_after rest.entry) }
 {
     let (mutator, rest) = next_number_of(rest)?;
     let (len, rest) = next_number_of(rest)?;
     let (structure, rest) = next_number_of(rest)?;
     let request = Request::New { len, structure };
-    at_end(Command::Mutator { mutator, request }, rest)
+    at_end(Entry::Command(Command::Mutator { mutator, request }), rest)
 }
 
 fn open_spelled(rest: Rest<'_>) -> Option<Spelled<'_>>
-    ensures value { option_map (λ found. said found.0) result ≡ command_from (Numbers 1 asks_open) (words_left rest.entry) }
+    ensures value { option_map (λ found. said_entry found.0) result ≡ entry_from (Numbers 1 asks_open) (words_left rest.entry) }
     ensures lines { IfSome result (λ found. lines_left found.1 ≡ lines_after rest.entry) }
 {
     let (mutator, rest) = next_number_of(rest)?;
     let request = Request::Open;
-    at_end(Command::Mutator { mutator, request }, rest)
+    at_end(Entry::Command(Command::Mutator { mutator, request }), rest)
 }
 
 fn write_spelled(rest: Rest<'_>) -> Option<Spelled<'_>>
-    ensures value { option_map (λ found. said found.0) result ≡ command_from (NumbersAndBytes 3 asks_write) (words_left rest.entry) }
+    ensures value { option_map (λ found. said_entry found.0) result ≡ entry_from (NumbersAndBytes 3 asks_write) (words_left rest.entry) }
     ensures lines { IfSome result (λ found. lines_left found.1 ≡ lines_after rest.entry) }
 {
     let (mutator, rest) = next_number_of(rest)?;
@@ -102,11 +107,11 @@ fn write_spelled(rest: Rest<'_>) -> Option<Spelled<'_>>
         from,
         bytes,
     };
-    at_end(Command::Mutator { mutator, request }, rest)
+    at_end(Entry::Command(Command::Mutator { mutator, request }), rest)
 }
 
 fn read_spelled(rest: Rest<'_>) -> Option<Spelled<'_>>
-    ensures value { option_map (λ found. said found.0) result ≡ command_from (Numbers 4 asks_read) (words_left rest.entry) }
+    ensures value { option_map (λ found. said_entry found.0) result ≡ entry_from (Numbers 4 asks_read) (words_left rest.entry) }
     ensures lines { IfSome result (λ found. lines_left found.1 ≡ lines_after rest.entry) }
 {
     let (mutator, rest) = next_number_of(rest)?;
@@ -114,16 +119,16 @@ fn read_spelled(rest: Rest<'_>) -> Option<Spelled<'_>>
     let (from, rest) = next_number_of(rest)?;
     let (len, rest) = next_number_of(rest)?;
     let request = Request::Read { pointer, from, len };
-    at_end(Command::Mutator { mutator, request }, rest)
+    at_end(Entry::Command(Command::Mutator { mutator, request }), rest)
 }
 
 fn close_spelled(rest: Rest<'_>) -> Option<Spelled<'_>>
-    ensures value { option_map (λ found. said found.0) result ≡ command_from (Numbers 1 asks_close) (words_left rest.entry) }
+    ensures value { option_map (λ found. said_entry found.0) result ≡ entry_from (Numbers 1 asks_close) (words_left rest.entry) }
     ensures lines { IfSome result (λ found. lines_left found.1 ≡ lines_after rest.entry) }
 {
     let (mutator, rest) = next_number_of(rest)?;
     let request = Request::Close;
-    at_end(Command::Mutator { mutator, request }, rest)
+    at_end(Entry::Command(Command::Mutator { mutator, request }), rest)
 }
 
 fn is_name(word: &[u8], name: &[u8]) -> bool
@@ -132,9 +137,9 @@ fn is_name(word: &[u8], name: &[u8]) -> bool
     word == name
 }
 
-// The command of this name, by the words after it.
+// The entry of this name, by the words after it.
 fn named<'a>(name: &[u8], rest: Rest<'a>) -> Option<Spelled<'a>>
-    ensures value { option_map (λ found. said found.0) result ≡ command_of (name.now ∷ words_left rest.entry) }
+    ensures value { option_map (λ found. said_entry found.0) result ≡ entry_of (name.now ∷ words_left rest.entry) }
     ensures lines { IfSome result (λ found. lines_left found.1 ≡ lines_after rest.entry) }
 {
     if is_name(name, b"read") {
@@ -156,23 +161,23 @@ fn named<'a>(name: &[u8], rest: Rest<'a>) -> Option<Spelled<'a>>
         return heap_spelled(rest);
     }
     if is_name(name, b"logs") {
-        return at_end(Command::Book(Inquiry::Logs), rest);
+        return at_end(Entry::Command(Command::Book(Inquiry::Logs)), rest);
     }
     None
 }
 
-// The command that the first line of a text spells, by its first word.
+// What the first line of a text spells, by its first word.
 fn named_first(text: &[u8]) -> Option<Spelled<'_>>
-    ensures value { option_map (λ found. said found.0) result ≡ command_of (words_in text.now) }
+    ensures value { option_map (λ found. said_entry found.0) result ≡ entry_of (words_in text.now) }
     ensures lines { IfSome result (λ found. lines_left found.1 ≡ lines_behind text.now) }
 {
     let (name, rest) = word_first(text);
     named(name, rest)
 }
 
-/// The command that the first line of a text spells. The two that traces are full of are known by their first bytes.
-pub fn command_first(text: &[u8]) -> Option<Spelled<'_>>
-    ensures value { option_map (λ found. said found.0) result ≡ command_of (words_in text.now) }
+/// What the first line of a text spells. The two commands that traces are full of are known by their first bytes.
+pub fn entry_first(text: &[u8]) -> Option<Spelled<'_>>
+    ensures value { option_map (λ found. said_entry found.0) result ≡ entry_of (words_in text.now) }
     ensures lines { IfSome result (λ found. lines_left found.1 ≡ lines_behind text.now) }
 {
     if let [b'r', b'e', b'a', b'd', b' ', rest @ ..] = text {

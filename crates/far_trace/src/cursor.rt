@@ -2,12 +2,12 @@
 
 ghost use Rattle.std.specs.Prelude.{◌≡◌, ◌≤◌, ◌<◌, ◌∷◌, ℕ, [], length, drop, true, false, slice_index, IfSome, IfNone};
 ghost use Rattle.std.specs.Option.{option_map};
-ghost use Rattle.hex.specs.Hex.{is_hex_digit};
 ghost use Rattle.far_trace.specs.HexWord.{hex_bytes};
 ghost use Rattle.far_trace.specs.Grammar.{next_number, next_bytes};
 ghost use Rattle.far_trace.specs.Cursor.{is_end, words_in, words_left, lines_behind, lines_after, lines_left};
 
-use crate::hex_word::{HexWord, is_digit};
+use crate::hex_word::HexWord;
+use memchr::memchr2;
 
 /// What is left of a text after a word of one of its lines.
 #[derive(Clone, Copy)]
@@ -16,12 +16,6 @@ pub enum Rest<'a> {
     Words(&'a [u8]),
     /// The lines after the line, if any.
     Lines(Option<&'a [u8]>),
-}
-
-fn ends_word(byte: u8) -> bool
-    ensures { result ≡ is_end byte }
-{
-    byte == b' ' || byte == b'\n'
 }
 
 // What is left after a word that ends before this byte, or None where it goes on.
@@ -46,12 +40,10 @@ fn word_len(text: &[u8]) -> usize
     ensures inside { (k : ℕ) → k < result → is_end (slice_index text.now k) ≡ false }
     ensures ends { result < length text.now → is_end (slice_index text.now result) ≡ true }
 {
-    for (i, byte) in text.iter().enumerate() {
-        if ends_word(*byte) {
-            return i;
-        }
+    match memchr2(b' ', b'\n', text) {
+        Some(end) => end,
+        None => text.len(),
     }
-    text.len()
 }
 
 /// The first word of a text, and what is left after it.
@@ -95,27 +87,12 @@ pub fn next_number_of(rest: Rest<'_>) -> Option<(u64, Rest<'_>)>
     }
 }
 
-// How many digits in hex a text begins with.
-fn digits_len(text: &[u8]) -> usize
-    ensures bound { result ≤ length text.now }
-    ensures digits { (k : ℕ) → k < result → is_hex_digit (slice_index text.now k) ≡ true }
-    ensures ends { result < length text.now → is_hex_digit (slice_index text.now result) ≡ false }
-{
-    for (i, byte) in text.iter().enumerate() {
-        if !is_digit(*byte) {
-            return i;
-        }
-    }
-    text.len()
-}
-
 fn bytes_first(text: &[u8]) -> Option<(HexWord<'_>, Rest<'_>)>
     ensures bytes { option_map (λ found. (hex_bytes found.0.digits.now, words_left found.1)) result ≡ next_bytes (words_in text.now) }
     ensures lines { IfSome result (λ found. lines_behind text.now ≡ lines_after found.1) }
 {
-    let len = digits_len(text);
-    let rest = rest_at(text, len)?;
-    let bytes = HexWord::from_digits(&text[..len])?;
+    let (word, rest) = word_first(text);
+    let bytes = HexWord::from_word(word)?;
     Some((bytes, rest))
 }
 

@@ -1,6 +1,6 @@
 //! What outputs say, over whole texts and whole lists of commands. No function here does anything when it runs.
 
-ghost use Rattle.far_trace.specs.Headline.{OutputsAreSound, OneOutput, EachTextIsAnswered, TextsBeginWithHeap, LinesAreLater, LinesAreNumbered, MomentsLast, EventsReach, HeapsBeginLawful, ObjectsStayWhole, ViewedLogsStay, ViewsLast, RefusalsStay, RefusalsChangeNothing, StrangersAreRefused, NearRefusals, MutatorsAreAlone, OwnLinesCount, NewTakesTheLowest, NoneIsLeft, NewIsMade, NewMakesItsObject, WritesChangeTheirRange, LogsAreTold, PrintedAlike};
+ghost use Rattle.far_trace.specs.Headline.{OutputsAreSound, OneOutput, EachTextIsAnswered, TextsWriteBytes, LinesAreNumbered, MomentsLast, EventsReach, HeapsBeginLawful, ObjectsStayWhole, ViewedLogsStay, ViewsLast, RefusalsStay, RefusalsChangeNothing, StrangersAreRefused, NearRefusals, MutatorsAreAlone, OwnLinesCount, NewTakesTheLowest, NoneIsLeft, NewIsMade, NewMakesItsObject, WritesChangeTheirRange, LogsAreTold, PrintedAlike};
 
 /// From a text on: its output, where it is read as a heap in range and commands, has a reply and a moment for each
 /// command; in each moment objects are whole, through them the logs in which views rest stay, and each mutator's replies
@@ -9,14 +9,12 @@ pub fn outputs_are_sound()
     ensures { OutputsAreSound }
 {}
 
-/// Each text has an output, and one alone. A text that is read has no command, or a heap first and no heap behind it;
-/// those that write, write bytes. A line that says a mutator's command has its number behind the name, and no other line
-/// but the heap's has.
+/// Each text has an output, and one alone. Its commands that write, write bytes. Among lines that say commands, a
+/// mutator's are those that have its number after the name.
 pub fn texts_are_answered()
     ensures answered { EachTextIsAnswered }
     ensures once { OneOutput }
-    ensures heap { TextsBeginWithHeap }
-    ensures later { LinesAreLater }
+    ensures bytes { TextsWriteBytes }
     ensures numbered { LinesAreNumbered }
 {}
 

@@ -4,17 +4,17 @@ ghost use Rattle.std.specs.Prelude.{◌≡◌, ◌↔◌, ℕ, List, Some};
 ghost use Rattle.far_trace.specs.declared.text.TheConstants.{LONGEST_TEXT};
 ghost use Rattle.far_trace.specs.declared.hex_word.TheConstants.{LONGEST_LINE};
 ghost use Rattle.far_trace.specs.declared.reply.TheConstants.{LONGEST_REPLY};
-ghost use Rattle.far_trace.specs.Command.{Command};
-ghost use Rattle.far_trace.specs.Grammar.{command_of};
+ghost use Rattle.far_trace.specs.Command.{Entry};
+ghost use Rattle.far_trace.specs.Grammar.{entry_of};
 ghost use Rattle.far_trace.specs.Says.{Says};
 ghost use Rattle.far_trace.specs.TraceText.{TextsAreRead, FirstBadLines, CutsJoin, LimitsAre};
 
-/// Words are read as a command exactly where they say it, and a text as commands exactly where its lines say them: all its
-/// lines, in order, comments and empty lines passed over. The number that is refused is that of the first line that says
+/// Words are read as a heap or a command exactly where they say it, and a text as nothing, or a heap and commands, exactly
+/// where its lines say so: all its lines, in order, comments and empty lines passed over. The number that is refused is that of the first line that says
 /// nothing, from 1; 0 where the text is too long. Lines joined by newlines are the text, and words joined by spaces the
 /// line. A line has at most 4,096 bytes, its newline not counted, and a text at most 1,048,576.
 pub fn grammar_is_said()
-    ensures words { (words : List (List ℕ)) (c : Command) → Says words c ↔ (command_of words ≡ Some c) }
+    ensures words { (words : List (List ℕ)) (e : Entry) → Says words e ↔ (entry_of words ≡ Some e) }
     ensures texts { TextsAreRead }
     ensures bad { FirstBadLines }
     ensures cuts { CutsJoin }

@@ -4,7 +4,7 @@ ghost use Rattle.std.specs.Prelude.{◌≡◌, ◌≤◌, ◌<◌, ◌+◌, ◌=
 ghost use Rattle.far_trace.specs.Grammar.{line_of, Bad};
 ghost use Rattle.far_trace.specs.Cursor.{first_line, lines_behind, lines_left, said_line};
 
-use crate::command::{Command, command_first};
+use crate::command::{Entry, entry_first};
 use crate::hex_word::LONGEST_LINE;
 use memchr::memchr;
 
@@ -13,7 +13,7 @@ use memchr::memchr;
 pub enum Line<'a> {
     /// An empty line or a comment.
     Skipped,
-    Said(Command<'a>),
+    Said(Entry<'a>),
 }
 
 // Where the first line of a text ends.
@@ -73,7 +73,7 @@ fn line_len(text: &[u8], lines: Option<&[u8]>) -> usize
     }
 }
 
-// Reads a command, which a text begins with.
+// Reads a line with an entry, which a text begins with.
 fn said_first(text: &[u8]) -> Option<(Line<'_>, Option<&[u8]>)>
     requires some { 0 < length text.now }
     requires content { (slice_index text.now 0 == 10) ≡ false }
@@ -82,11 +82,11 @@ fn said_first(text: &[u8]) -> Option<(Line<'_>, Option<&[u8]>)>
     ensures line { IfSome result (λ found. said_line found.0 ≡ line_of (first_line text.now)) }
     ensures lines { IfSome result (λ found. lines_left found.1 ≡ lines_behind text.now) }
 {
-    let (command, lines) = command_first(text)?;
+    let (entry, lines) = entry_first(text)?;
     if line_len(text, lines) > LONGEST_LINE {
         return None;
     }
-    Some((Line::Said(command), lines))
+    Some((Line::Said(entry), lines))
 }
 
 /// What the first line of a text says, and the lines after it; None where it is off the grammar.

@@ -7,10 +7,9 @@ ghost use Rattle.std.specs.List.{flat_map};
 ghost use Rattle.far_core.specs.state.CoreState.{core_state};
 ghost use Rattle.far_core.specs.state.Shape.{is_shape};
 ghost use Rattle.far_trace.specs.Moment.{Moment, moment_of};
-ghost use Rattle.far_trace.specs.Answers.{Answered, BeginsWithHeap, WritesOutput, WritesAnswer, LeavesBehind, Leaves, end_of};
-ghost use Rattle.far_trace.specs.Grammar.{commands_of};
-ghost use Rattle.far_trace.specs.Command.{said, Heap};
-ghost use Rattle.far_trace.specs.Later.{AreLater};
+ghost use Rattle.far_trace.specs.Answers.{Answered, WritesOutput, WritesAnswer, LeavesBehind, Leaves, end_of};
+ghost use Rattle.far_trace.specs.Grammar.{trace_of};
+ghost use Rattle.far_trace.specs.Command.{said, said_trace, Heap};
 ghost use Rattle.far_trace.specs.Reply.{Reply as Answer, Done, printed};
 ghost use Rattle.far_trace.specs.Tidy.{Tidy};
 
@@ -20,7 +19,7 @@ use crate::outcome::Scratch;
 use crate::output::{Output, zeros};
 use crate::reply::Reply;
 use crate::stream::{WriteFault, read_text};
-use crate::text::{LONGEST_TEXT, ParseError, parse};
+use crate::text::{LONGEST_TEXT, ParseError, Trace, parse};
 use crate::turn::turn;
 use far_core::{Core, Shape};
 use far_word::{MOST_MUTATORS, Refused};
@@ -101,7 +100,6 @@ fn answer_commands<W: Write>(
 ) -> Result<(), WriteFault>
     requires tidy { Tidy (core_state core) (λ m. slice_index named.old m) }
     requires sized { length named.old ≡ MOST_MUTATORS }
-    requires later { AreLater (map said commands.now) }
     ensures { (replies : List Answer) × (moments : List Moment) × Answered (moment_of (core_state core)) (map said commands.now) replies moments
         × Writes (W.contents writer.old) (W.contents writer.new) result (flat_map printed (Done ∷ replies)) }
 {
@@ -124,10 +122,9 @@ fn answer_heap<W: Write>(
     commands: &[Command],
 ) -> Result<End, RunFault>
     requires first { shape.epoch ≡ 0 }
-    requires later { AreLater (map said commands.now) }
-    ensures answered { OnOk result (WritesOutput (W.contents writer.old) (W.contents writer.new) (Ok (Heap shape.logs shape.mutators ∷ map said commands.now))) }
-    ensures end { IfOk result (λ end. end ≡ end_of (Ok (Heap shape.logs shape.mutators ∷ map said commands.now))) }
-    ensures fault { IfErr result (λ fault. LeavesBehind fault (W.contents writer.old) (W.contents writer.new) (Ok (Heap shape.logs shape.mutators ∷ map said commands.now))) }
+    ensures answered { OnOk result (WritesOutput (W.contents writer.old) (W.contents writer.new) (Ok (Heap shape.logs shape.mutators (map said commands.now)))) }
+    ensures end { IfOk result (λ end. end ≡ end_of (Ok (Heap shape.logs shape.mutators (map said commands.now)))) }
+    ensures fault { IfErr result (λ fault. LeavesBehind fault (W.contents writer.old) (W.contents writer.new) (Ok (Heap shape.logs shape.mutators (map said commands.now)))) }
     ensures unread { result ≢ Err RunFault.Read }
     ensures memory { result ≡ Err RunFault.Memory → is_shape shape ≡ true }
 {
@@ -149,31 +146,33 @@ fn answer_heap<W: Write>(
     }
 }
 
-// Answers the commands that a text is read as: none, or a heap and those after it.
+// Answers what a text says: nothing, or a heap and commands.
 fn answer<W: Write>(
     alloc: Global,
     writer: &mut W,
     out: &mut Output,
-    commands: &[Command],
+    trace: &Trace,
 ) -> Result<End, RunFault>
-    requires heap { BeginsWithHeap (map said commands.now) }
-    ensures answered { OnOk result (WritesOutput (W.contents writer.old) (W.contents writer.new) (Ok (map said commands.now))) }
-    ensures end { IfOk result (λ end. end ≡ end_of (Ok (map said commands.now))) }
-    ensures fault { IfErr result (λ fault. LeavesBehind fault (W.contents writer.old) (W.contents writer.new) (Ok (map said commands.now))) }
+    ensures answered { OnOk result (WritesOutput (W.contents writer.old) (W.contents writer.new) (Ok (said_trace trace.now))) }
+    ensures end { IfOk result (λ end. end ≡ end_of (Ok (said_trace trace.now))) }
+    ensures fault { IfErr result (λ fault. LeavesBehind fault (W.contents writer.old) (W.contents writer.new) (Ok (said_trace trace.now))) }
     ensures unread { result ≢ Err RunFault.Read }
 {
-    let [first, rest @ ..] = commands else {
-        return Ok(End::Ran);
-    };
-    let Command::Heap { logs, mutators } = *first else {
-        unreachable!();
-    };
-    let shape = Shape {
-        logs,
-        mutators,
-        epoch: 0,
-    };
-    answer_heap(alloc, writer, out, shape, rest)
+    match trace {
+        Trace::Nothing => Ok(End::Ran),
+        Trace::Heap {
+            logs,
+            mutators,
+            commands,
+        } => {
+            let shape = Shape {
+                logs: *logs,
+                mutators: *mutators,
+                epoch: 0,
+            };
+            answer_heap(alloc, writer, out, shape, commands)
+        }
+    }
 }
 
 // Answers a text in memory.
@@ -183,13 +182,13 @@ fn answer_text<W: Write>(
     out: &mut Output,
     text: &[u8],
 ) -> Result<End, RunFault>
-    ensures answered { OnOk result (WritesOutput (W.contents writer.old) (W.contents writer.new) (commands_of text.now)) }
-    ensures end { IfOk result (λ end. end ≡ end_of (commands_of text.now)) }
-    ensures fault { IfErr result (λ fault. LeavesBehind fault (W.contents writer.old) (W.contents writer.new) (commands_of text.now)) }
+    ensures answered { OnOk result (WritesOutput (W.contents writer.old) (W.contents writer.new) (trace_of text.now)) }
+    ensures end { IfOk result (λ end. end ≡ end_of (trace_of text.now)) }
+    ensures fault { IfErr result (λ fault. LeavesBehind fault (W.contents writer.old) (W.contents writer.new) (trace_of text.now)) }
     ensures unread { result ≢ Err RunFault.Read }
 {
     match parse(alloc, text) {
-        Ok(commands) => answer(alloc, writer, out, &commands),
+        Ok(trace) => answer(alloc, writer, out, &trace),
         Err(ParseError::Syntax(line)) => {
             refuse(writer, out, Refused::Syntax(line))?;
             Ok(End::Refused)
@@ -212,7 +211,7 @@ pub fn run<R: Read, W: Write>(
     writer: &mut W,
 ) -> Result<End, RunFault>
     ensures answered { OnOk result (IfSome (R.remaining reader.old) (WritesAnswer (W.contents writer.old) (W.contents writer.new))) }
-    ensures end { IfOk result (λ end. IfSome (R.remaining reader.old) (λ text. end ≡ end_of (commands_of text))) }
+    ensures end { IfOk result (λ end. IfSome (R.remaining reader.old) (λ text. end ≡ end_of (trace_of text))) }
     ensures fault { IfErr result (λ fault. IfSome (R.remaining reader.old) (Leaves fault (W.contents writer.old) (W.contents writer.new))) }
 {
     let mut out = Output::new(alloc)?;

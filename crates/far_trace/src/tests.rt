@@ -15,17 +15,18 @@ use crate::output::Output;
 use crate::reply::{LogLine, Reply};
 use crate::run::{End, RunFault, run};
 use crate::stream::{WriteFault, read_text};
-use crate::text::{ParseError, parse};
+use crate::text::{ParseError, Trace, parse};
 use far_core::Kind;
 use far_word::Refused;
 use std::io;
 use std::io::{ErrorKind, Read, Write};
 use std::test::Fail;
 
-// How many commands a text has, or the number of its first line off the grammar.
+// How many lines of a text say something, or the number of its first line off the grammar.
 fn count(rt: &HostRuntime, text: &[u8]) -> Result<usize, ParseError> {
     match parse(rt.alloc(), text) {
-        Ok(commands) => Ok(commands.len()),
+        Ok(Trace::Nothing) => Ok(0),
+        Ok(Trace::Heap { commands, .. }) => Ok(1 + commands.len()),
         Err(fault) => Err(fault),
     }
 }
@@ -140,8 +141,8 @@ fn longest_lines_and_texts(rt: HostRuntime) -> Result<(), Fail> {
 #[test]
 fn bytes_in_either_case(rt: HostRuntime) -> Result<(), Fail> {
     let commands = match parse(rt.alloc(), b"heap 4 1\nwrite 1 2 3 00fFAb7F") {
-        Ok(commands) => commands,
-        Err(_) => Vec::new(rt.alloc()),
+        Ok(Trace::Heap { commands, .. }) => commands,
+        _ => Vec::new(rt.alloc()),
     };
     let mut is_found = false;
     for command in &commands {

@@ -1,6 +1,6 @@
 //! Commands, each made as the events of a core that it stands for.
 
-ghost use Rattle.std.specs.Prelude.{◌≡◌, ◌≢◌, ◌+◌, ◌*◌, ◌<◌, ◌≤◌, ◌-◌, ◌/◌, ◌^◌, ℕ, true, List, Some, None, Ok, map, take, drop, length, slice_index, slice_range, cond, nat_lt, nat_le, IfOk, IfErr, IfSome, IsSome, MatchResult};
+ghost use Rattle.std.specs.Prelude.{◌≡◌, ◌≢◌, ◌+◌, ◌*◌, ◌<◌, ◌≤◌, ◌-◌, ◌/◌, ◌^◌, ℕ, true, List, Some, None, Ok, map, take, drop, length, slice_index, slice_range, cond, nat_lt, nat_le, IfOk, IfErr, IfSome, IfNone, IsSome, MatchResult};
 ghost use Rattle.std.specs.List.{range_with_len};
 ghost use Rattle.far_word.specs.Sizes.{size_of};
 ghost use Rattle.far_word.specs.Bytes.{bytes_of, packed_word, words_of};
@@ -15,14 +15,13 @@ ghost use Rattle.far_trace.specs.Command.{said, said_request};
 ghost use Rattle.far_trace.specs.Interpreter.{refused_in, IsAccess, IsViewed, IsNew, StandsFor, next_after, next_of};
 ghost use Rattle.far_trace.specs.HexWord.{hex_bytes as spelled};
 ghost use Rattle.far_trace.specs.EventRows.{after_events, AtHand};
-ghost use Rattle.far_trace.specs.Command.{Heap, Mutator, Book, New, Open, Write, Read, Close, Logs};
+ghost use Rattle.far_trace.specs.Command.{Mutator, Book, New, Open, Write, Read, Close, Logs};
 ghost use Rattle.far_trace.specs.Outcome.{reply_by, IsInRoom};
 ghost use Rattle.far_trace.specs.Reply.{IsShort};
 ghost use Rattle.far_trace.specs.Tidy.{Tidy};
 ghost use Rattle.far_trace.specs.Events.{events_for, turn_events, first_word, words_touched, starts_inside, ends_inside, first_loads, last_loads};
 ghost use Rattle.far_trace.specs.Objects.{data_of, lowest_cell, named_len, spliced};
 ghost use Rattle.far_trace.specs.Moment.{moment_of};
-ghost use Rattle.far_trace.specs.Later.{IsLater};
 ghost use Rattle.far_trace.specs.Turn.{effect, access_causes, first_cause, reply_to, turn_reply, refusal, log_line};
 
 use crate::command::{Command, Inquiry, Request};
@@ -36,7 +35,7 @@ use far_word::{
     pointer_len, size_of, unpack_bytes,
 };
 
-/// Some bytes of an object that its mutator may reach: the numbers of the mutator and the pointer, and the range.
+/// Some bytes of an object that its owner may reach: the numbers of the owner and the pointer, and the range.
 #[derive(Clone, Copy)]
 pub struct Access {
     owner: u8,
@@ -54,26 +53,28 @@ fn object_len(cell: u64) -> u16
     pointer_len(cell)
 }
 
-/// Whether a mutator may reach some bytes of a pointer's object, or why not.
-pub fn reach(
-    core: &Core,
-    mutator: u64,
-    pointer: u64,
-    from: u64,
-    count: u64,
-) -> Result<Access, Refused>
-    requires law { Law (core_state core.now) }
-    ensures refusal { refused_in result ≡ first_cause (access_causes (moment_of (core_state core.now)) mutator pointer from count) }
-    ensures access { IfOk result (λ a. IsAccess (core_state core.now) mutator pointer from count a) }
+// The owner that a line's number of a mutator is, if the heap has it.
+fn owner_of(core: &Core, mutator: u64) -> Option<u8>
+    ensures owner { IfSome result (λ owner. (owner ≡ mutator) × (mutator < (core_state core.now).mutators)) }
+    ensures unknown { IfNone result ((core_state core.now).mutators ≤ mutator) }
 {
-    if mutator >= u64::from(core.mutators()) {
-        return Err(Refused::Range);
+    if mutator < u64::from(core.mutators()) {
+        return Some(mutator as u8);
     }
-    let owner = mutator as u8;
+    None
+}
+
+// Whether an owner may reach some bytes of a pointer's object, or why not.
+fn reach(core: &Core, owner: u8, pointer: u64, from: u64, count: u64) -> Result<Access, Refused>
+    requires law { Law (core_state core.now) }
+    requires owner { owner < (core_state core.now).mutators }
+    ensures refusal { refused_in result ≡ first_cause (access_causes (moment_of (core_state core.now)) owner pointer from count) }
+    ensures access { IfOk result (λ a. IsAccess (core_state core.now) owner pointer from count a) }
+{
     if !core.is_open(owner) {
         return Err(Refused::Closed);
     }
-    if pointer / u64::from(CELLS) != mutator || !core.is_used(pointer as u16) {
+    if pointer / u64::from(CELLS) != u64::from(owner) || !core.is_used(pointer as u16) {
         return Err(Refused::NotHeld);
     }
     let pointer = pointer as u16;
@@ -312,20 +313,21 @@ fn lowest(core: &Core, named: &[u16], owner: u8) -> Option<u16>
 }
 
 // Whether a new object may be made, or why not.
-fn design(core: &Core, named: &[u16], mutator: u64, len: u64, ds: u64) -> Result<NewObject, Refused>
+fn design(core: &Core, named: &[u16], owner: u8, len: u64, ds: u64) -> Result<NewObject, Refused>
+    requires known { owner < (core_state core.now).mutators }
     requires tidy { Tidy (core_state core.now) (λ m. slice_index named.now m) }
     requires law { Law (core_state core.now) }
     requires sized { length named.now ≡ MOST_MUTATORS }
-    ensures refusal { refused_in result ≡ refusal (moment_of (core_state core.now)) (Mutator mutator (New len ds)) }
-    ensures object { IfOk result (IsNew (core_state core.now) mutator len ds) }
+    ensures refusal { refused_in result ≡ refusal (moment_of (core_state core.now)) (Mutator owner (New len ds)) }
+    ensures object { IfOk result (IsNew (core_state core.now) owner len ds) }
 {
-    if mutator >= u64::from(core.mutators()) || ds >= 256 {
+    if ds >= 256 {
         return Err(Refused::Range);
     }
     if len == 0 || len > u64::from(LONGEST) {
         return Err(Refused::Length);
     }
-    let (owner, len, ds) = (mutator as u8, len as u16, ds as u8);
+    let (len, ds) = (len as u16, ds as u8);
     let Some(pointer) = lowest(core, named, owner) else {
         return Err(Refused::NoPointer);
     };
@@ -342,16 +344,17 @@ fn design(core: &Core, named: &[u16], mutator: u64, len: u64, ds: u64) -> Result
 }
 
 // Makes a new object.
-fn make_object(core: &mut Core, named: &mut [u16], mutator: u64, len: u64, ds: u64) -> Outcome
+fn make_object(core: &mut Core, named: &mut [u16], owner: u8, len: u64, ds: u64) -> Outcome
+    requires known { owner < (core_state core.old).mutators }
     requires tidy { Tidy (core_state core.old) (λ m. slice_index named.old m) }
     requires law { Law (core_state core.old) }
     requires sized { length named.old ≡ MOST_MUTATORS }
-    ensures state { core_state core.new ≡ after_events (core_state core.old) (events_for (moment_of (core_state core.old)) (Mutator mutator (New len ds))) }
-    ensures reply { StandsFor result (reply_to (moment_of (core_state core.old)) (Mutator mutator (New len ds))) }
-    ensures named { (m : ℕ) → slice_index named.new m ≡ next_after (moment_of (core_state core.old)) (Mutator mutator (New len ds)) (λ k. slice_index named.old k) m }
+    ensures state { core_state core.new ≡ after_events (core_state core.old) (events_for (moment_of (core_state core.old)) (Mutator owner (New len ds))) }
+    ensures reply { StandsFor result (reply_to (moment_of (core_state core.old)) (Mutator owner (New len ds))) }
+    ensures named { (m : ℕ) → slice_index named.new m ≡ next_after (moment_of (core_state core.old)) (Mutator owner (New len ds)) (λ k. slice_index named.old k) m }
     ensures fits { IsInRoom result }
 {
-    match design(core, named, mutator, len, ds) {
+    match design(core, named, owner, len, ds) {
         Ok(object) => {
             make_new(
                 core,
@@ -368,16 +371,13 @@ fn make_object(core: &mut Core, named: &mut [u16], mutator: u64, len: u64, ds: u
     }
 }
 
-// Opens a mutator's scope.
-fn open_scope(core: &mut Core, mutator: u64) -> Outcome
-    ensures state { core_state core.new ≡ after_events (core_state core.old) (events_for (moment_of (core_state core.old)) (Mutator mutator Open)) }
-    ensures reply { StandsFor result (reply_to (moment_of (core_state core.old)) (Mutator mutator Open)) }
+// Opens an owner's scope.
+fn open_scope(core: &mut Core, owner: u8) -> Outcome
+    requires known { owner < (core_state core.old).mutators }
+    ensures state { core_state core.new ≡ after_events (core_state core.old) (events_for (moment_of (core_state core.old)) (Mutator owner Open)) }
+    ensures reply { StandsFor result (reply_to (moment_of (core_state core.old)) (Mutator owner Open)) }
     ensures fits { IsInRoom result }
 {
-    if mutator >= u64::from(core.mutators()) {
-        return Outcome::Refused(Refused::Range);
-    }
-    let owner = mutator as u8;
     if core.is_open(owner) {
         return Outcome::Refused(Refused::AlreadyOpen);
     }
@@ -385,16 +385,13 @@ fn open_scope(core: &mut Core, mutator: u64) -> Outcome
     Outcome::Done
 }
 
-// Closes a mutator's scope.
-fn close_scope(core: &mut Core, mutator: u64) -> Outcome
-    ensures state { core_state core.new ≡ after_events (core_state core.old) (events_for (moment_of (core_state core.old)) (Mutator mutator Close)) }
-    ensures reply { StandsFor result (reply_to (moment_of (core_state core.old)) (Mutator mutator Close)) }
+// Closes an owner's scope.
+fn close_scope(core: &mut Core, owner: u8) -> Outcome
+    requires known { owner < (core_state core.old).mutators }
+    ensures state { core_state core.new ≡ after_events (core_state core.old) (events_for (moment_of (core_state core.old)) (Mutator owner Close)) }
+    ensures reply { StandsFor result (reply_to (moment_of (core_state core.old)) (Mutator owner Close)) }
     ensures fits { IsInRoom result }
 {
-    if mutator >= u64::from(core.mutators()) {
-        return Outcome::Refused(Refused::Range);
-    }
-    let owner = mutator as u8;
     if !core.is_open(owner) {
         return Outcome::Refused(Refused::Closed);
     }
@@ -402,43 +399,45 @@ fn close_scope(core: &mut Core, mutator: u64) -> Outcome
     Outcome::Done
 }
 
-// Reads a range of a mutator's object.
+// Reads a range of an owner's object.
 fn read_range(
     core: &mut Core,
     scratch: &mut Scratch,
-    mutator: u64,
+    owner: u8,
     pointer: u64,
     from: u64,
     len: u64,
 ) -> Outcome
+    requires known { owner < (core_state core.old).mutators }
     requires tidy { (next : ℕ → ℕ) × Tidy (core_state core.old) next }
     requires law { Law (core_state core.old) }
-    ensures state { core_state core.new ≡ after_events (core_state core.old) (events_for (moment_of (core_state core.old)) (Mutator mutator (Read pointer from len))) }
-    ensures reply { reply_by scratch.new.bytes scratch.new.lines result ≡ reply_to (moment_of (core_state core.old)) (Mutator mutator (Read pointer from len)) }
+    ensures state { core_state core.new ≡ after_events (core_state core.old) (events_for (moment_of (core_state core.old)) (Mutator owner (Read pointer from len))) }
+    ensures reply { reply_by scratch.new.bytes scratch.new.lines result ≡ reply_to (moment_of (core_state core.old)) (Mutator owner (Read pointer from len)) }
     ensures fits { IsInRoom result }
 {
-    match reach(core, mutator, pointer, from, len) {
+    match reach(core, owner, pointer, from, len) {
         Ok(access) => read(core, scratch, access),
         Err(why) => Outcome::Refused(why),
     }
 }
 
-// Writes bytes over a range of a mutator's object.
+// Writes bytes over a range of an owner's object.
 fn write_range(
     core: &mut Core,
     scratch: &mut Scratch,
-    mutator: u64,
+    owner: u8,
     pointer: u64,
     from: u64,
     bytes: HexWord,
 ) -> Outcome
+    requires known { owner < (core_state core.old).mutators }
     requires tidy { (next : ℕ → ℕ) × Tidy (core_state core.old) next }
     requires law { Law (core_state core.old) }
-    ensures state { core_state core.new ≡ after_events (core_state core.old) (events_for (moment_of (core_state core.old)) (Mutator mutator (Write pointer from (spelled bytes.entry.digits.now)))) }
-    ensures reply { StandsFor result (reply_to (moment_of (core_state core.old)) (Mutator mutator (Write pointer from (spelled bytes.entry.digits.now)))) }
+    ensures state { core_state core.new ≡ after_events (core_state core.old) (events_for (moment_of (core_state core.old)) (Mutator owner (Write pointer from (spelled bytes.entry.digits.now)))) }
+    ensures reply { StandsFor result (reply_to (moment_of (core_state core.old)) (Mutator owner (Write pointer from (spelled bytes.entry.digits.now)))) }
     ensures fits { IsInRoom result }
 {
-    match reach(core, mutator, pointer, from, bytes.len() as u64) {
+    match reach(core, owner, pointer, from, bytes.len() as u64) {
         Ok(access) => write(core, scratch, access, bytes),
         Err(why) => Outcome::Refused(why),
     }
@@ -473,34 +472,35 @@ fn tell_logs(core: &Core, lines: &mut [LogLine])
     }
 }
 
-// Makes the events of a mutator's request, and answers what it comes to.
+// Makes the events of an owner's request, and answers what it comes to.
 fn make_request(
     core: &mut Core,
     named: &mut [u16],
     scratch: &mut Scratch,
-    mutator: u64,
+    owner: u8,
     request: Request,
 ) -> Outcome
+    requires known { owner < (core_state core.old).mutators }
     requires tidy { Tidy (core_state core.old) (λ m. slice_index named.old m) }
     requires law { Law (core_state core.old) }
     requires sized { length named.old ≡ MOST_MUTATORS }
-    ensures state { core_state core.new ≡ after_events (core_state core.old) (events_for (moment_of (core_state core.old)) (Mutator mutator (said_request request.entry))) }
-    ensures reply { reply_by scratch.new.bytes scratch.new.lines result ≡ reply_to (moment_of (core_state core.old)) (Mutator mutator (said_request request.entry)) }
-    ensures named { (m : ℕ) → slice_index named.new m ≡ next_after (moment_of (core_state core.old)) (Mutator mutator (said_request request.entry)) (λ k. slice_index named.old k) m }
+    ensures state { core_state core.new ≡ after_events (core_state core.old) (events_for (moment_of (core_state core.old)) (Mutator owner (said_request request.entry))) }
+    ensures reply { reply_by scratch.new.bytes scratch.new.lines result ≡ reply_to (moment_of (core_state core.old)) (Mutator owner (said_request request.entry)) }
+    ensures named { (m : ℕ) → slice_index named.new m ≡ next_after (moment_of (core_state core.old)) (Mutator owner (said_request request.entry)) (λ k. slice_index named.old k) m }
     ensures fits { IsInRoom result }
 {
     match request {
-        Request::New { len, structure } => make_object(core, named, mutator, len, structure),
-        Request::Open => open_scope(core, mutator),
+        Request::New { len, structure } => make_object(core, named, owner, len, structure),
+        Request::Open => open_scope(core, owner),
         Request::Write {
             pointer,
             from,
             bytes,
-        } => write_range(core, scratch, mutator, pointer, from, bytes),
+        } => write_range(core, scratch, owner, pointer, from, bytes),
         Request::Read { pointer, from, len } => {
-            read_range(core, scratch, mutator, pointer, from, len)
+            read_range(core, scratch, owner, pointer, from, len)
         }
-        Request::Close => close_scope(core, mutator),
+        Request::Close => close_scope(core, owner),
     }
 }
 
@@ -520,9 +520,11 @@ fn make_events(
     ensures fits { IsInRoom result }
 {
     match *command {
-        Command::Heap { .. } => Outcome::Done,
         Command::Mutator { mutator, request } => {
-            make_request(core, named, scratch, mutator, request)
+            let Some(owner) = owner_of(core, mutator) else {
+                return Outcome::Refused(Refused::Range);
+            };
+            make_request(core, named, scratch, owner, request)
         }
         Command::Book(Inquiry::Logs) => {
             tell_logs(core, &mut scratch.lines);
@@ -536,7 +538,6 @@ pub fn turn(core: &mut Core, named: &mut [u16], scratch: &mut Scratch, command: 
     requires tidy { Tidy (core_state core.old) (λ m. slice_index named.old m) }
     requires law { Law (core_state core.old) }
     requires sized { length named.old ≡ MOST_MUTATORS }
-    requires later { IsLater (said command.now) }
     ensures moment { moment_of (core_state core.new) ≡ effect (moment_of (core_state core.old)) (said command.now) }
     ensures reply { reply_by scratch.new.bytes scratch.new.lines result ≡ reply_to (moment_of (core_state core.old)) (said command.now) }
     ensures named { (m : ℕ) → slice_index named.new m ≡ next_after (moment_of (core_state core.old)) (said command.now) (λ k. slice_index named.old k) m }

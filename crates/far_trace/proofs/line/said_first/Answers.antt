@@ -1,12 +1,12 @@
 use Rattle.std.proofs.Common.{arith, sym}
-use Rattle.far_trace.specs.Command.{said}
+use Rattle.far_trace.specs.Command.{said_entry}
 use Rattle.far_trace.specs.Cursor.{first_line}
-use Rattle.far_trace.proofs.LineLemmas.{said_command, bad_command, long_line}
+use Rattle.far_trace.proofs.LineLemmas.{said_entry_line, bad_entry, long_line}
 use Rattle.far_trace.proofs.line.said_first.Goals as goal
 
-pub returns-in_err-command-clause-bad : goal.returns-in_err-command-clause-bad
-returns-in_err-command-clause-bad c =
-    rw c.from_residual.ensures (bad_command c.args.text.now c.requires.some c.requires.content c.requires.other (sym c.in_err-command.ensures.value))
+pub returns-in_err-entry-clause-bad : goal.returns-in_err-entry-clause-bad
+returns-in_err-entry-clause-bad c =
+    rw c.from_residual.ensures (bad_entry c.args.text.now c.requires.some c.requires.content c.requires.other (sym c.in_err-entry.ensures.value))
 
 pub returns-then-line_len-gt-LONGEST_LINE-clause-bad : goal.returns-then-line_len-gt-LONGEST_LINE-clause-bad
 returns-then-line_len-gt-LONGEST_LINE-clause-bad c =
@@ -14,4 +14,4 @@ returns-then-line_len-gt-LONGEST_LINE-clause-bad c =
 
 pub returns-clause-line : goal.returns-clause-line
 returns-clause-line c =
-    said_command c.args.text.now (said c.in_ok-command.command) c.requires.some c.requires.content c.requires.other c.in_ok-command.ensures.value (omega arith)
+    said_entry_line c.args.text.now (said_entry c.in_ok-entry.entry) c.requires.some c.requires.content c.requires.other c.in_ok-entry.ensures.value (omega arith)

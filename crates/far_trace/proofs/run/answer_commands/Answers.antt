@@ -8,11 +8,10 @@ use Rattle.far_core.specs.state.State.{State}
 use Rattle.far_trace.specs.Moment.{moment_of}
 use Rattle.far_trace.specs.Answers.{Answered}
 use Rattle.far_trace.specs.Command.{Command, said}
-use Rattle.far_trace.specs.Later.{IsLater}
 use Rattle.far_trace.specs.Reply.{Reply, Done, printed}
 use Rattle.far_trace.specs.Stream.{Holds}
 use Rattle.far_trace.specs.Turn.{reply_to}
-use Rattle.far_trace.proofs.Answering.{later_at, later_bytes, drop_here, still_tidy, answered_more, answered_all, printed_more}
+use Rattle.far_trace.proofs.Answering.{said_bytes, drop_here, still_tidy, answered_more, answered_all, printed_more}
 use Rattle.far_trace.proofs.Streams.{held_all}
 use Rattle.far_trace.proofs.run.answer_commands.Goals as goal
 
@@ -27,10 +26,6 @@ loop-command-init g c =
       ran = ([], [], (λ rest more h. h), c.add_reply-written.ensures start [] ([], Appends-nil start, c.clear.ensures));
     }
 
-pub turn-outcome-requires-clause-later : goal.turn-outcome-requires-clause-later
-turn-outcome-requires-clause-later g c =
-    later_at said c.args.commands.now c.loop-command.command-index c.command-item.result c.requires.later c.loop-command-test.true c.command-item.is
-
 pub loop-command-preserved : goal.loop-command-preserved
 loop-command-preserved g c =
     let start = g.W.Write.contents c.args.writer.now in
@@ -41,13 +36,12 @@ loop-command-preserved g c =
     let next : ℕ → ℕ = λ m. get_or c.loop-command.named m 0 in
     let known = c.loop-command.invariant.ran in
     let r : Reply = reply_to (moment_of s) command in
-    let later : IsLater command = later_at said c.args.commands.now c.loop-command.command-index c.command-item.result c.requires.later c.loop-command-test.true c.command-item.is in
     let here : drop c.loop-command.command-index (map said c.args.commands.now) ≡ command ∷ drop (c.loop-command.command-index + 1) (map said c.args.commands.now) =
     drop_here said c.args.commands.now c.loop-command.command-index c.command-item.result c.loop-command-test.true c.command-item.is in
     let reply = c.reply.ensures.value ∙ c.turn-outcome.ensures.reply in
     let held = c.add_reply-written-in-loop-command.ensures start (flat_map printed (Done ∷ known.0)) known.3 in
     record {
-      tidy = still_tidy s t next _ command c.loop-command.core.law c.loop-command.invariant.tidy (later_bytes command later) c.turn-outcome.ensures.moment c.turn-outcome.ensures.named;
+      tidy = still_tidy s t next _ command c.loop-command.core.law c.loop-command.invariant.tidy (said_bytes c.command-item.result) c.turn-outcome.ensures.moment c.turn-outcome.ensures.named;
       ran = (
         known.0 ++ r ∷ [],
         known.1 ++ moment_of t ∷ [],
