@@ -56,7 +56,33 @@ pub fn word_first(text: &[u8]) -> (&[u8], Rest<'_>)
 }
 
 /// The number that the first word of a text prints, and what is left after it.
+#[inline]
 pub fn number_first(text: &[u8]) -> Option<(u64, Rest<'_>)>
+    ensures number { option_map (λ found. (found.0, words_left found.1)) result ≡ next_number (words_in text.now) }
+    ensures lines { IfSome result (λ found. lines_behind text.now ≡ lines_after found.1) }
+{
+    let mut n = 0u64;
+    let mut len = 0;
+    while len < 19 && len < text.len() && text[len].is_ascii_digit() {
+        n = n * 10 + u64::from(text[len] - b'0');
+        len += 1;
+    }
+    if len == 19 {
+        return long_number_first(text);
+    }
+    let rest = rest_at(text, len)?;
+    if len == 0 {
+        return None;
+    }
+    if text[0] == b'0' && len > 1 {
+        return None;
+    }
+    Some((n, rest))
+}
+
+// The same of any number of digits.
+#[cold]
+fn long_number_first(text: &[u8]) -> Option<(u64, Rest<'_>)>
     ensures number { option_map (λ found. (found.0, words_left found.1)) result ≡ next_number (words_in text.now) }
     ensures lines { IfSome result (λ found. lines_behind text.now ≡ lines_after found.1) }
 {

@@ -294,9 +294,9 @@ fn reads_as_far_as_the_room(rt: HostRuntime) -> Result<(), Fail> {
         most: 3,
         until_fault: 3,
     };
-    let mut room = [0u8; 8];
-    assert!(rt; matches!(read_text(&mut reader, &mut room), Ok(8)));
-    assert_eq!(rt; &room, b"heap 4 1");
+    let mut room = Vec::with_capacity(rt.alloc(), 8)?;
+    assert!(rt; read_text(&mut reader, &mut room, 8).is_ok());
+    assert_eq!(rt; room.as_slice(), b"heap 4 1");
     Ok(())
 }
 
