@@ -19,6 +19,7 @@ pub enum Rest<'a> {
 }
 
 // What is left after a word that ends before this byte, or None where it goes on.
+#[inline(always)]
 fn rest_at(text: &[u8], at: usize) -> Option<Rest<'_>>
     requires { at ≤ length text.now }
     ensures words { IfSome result (λ rest. words_in (drop at text.now) ≡ [] ∷ words_left rest) }
@@ -35,6 +36,7 @@ fn rest_at(text: &[u8], at: usize) -> Option<Rest<'_>>
     }
 }
 
+#[inline(always)]
 fn word_len(text: &[u8]) -> usize
     ensures bound { result ≤ length text.now }
     ensures inside { (k : ℕ) → k < result → is_end (slice_index text.now k) ≡ false }
@@ -47,6 +49,7 @@ fn word_len(text: &[u8]) -> usize
 }
 
 /// The first word of a text, and what is left after it.
+#[inline(always)]
 pub fn word_first(text: &[u8]) -> (&[u8], Rest<'_>)
     ensures words { words_in text.now ≡ result.0.now ∷ words_left result.1 }
     ensures lines { lines_behind text.now ≡ lines_after result.1 }
@@ -56,7 +59,7 @@ pub fn word_first(text: &[u8]) -> (&[u8], Rest<'_>)
 }
 
 /// The number that the first word of a text prints, and what is left after it.
-#[inline]
+#[inline(always)]
 pub fn number_first(text: &[u8]) -> Option<(u64, Rest<'_>)>
     ensures number { option_map (λ found. (found.0, words_left found.1)) result ≡ next_number (words_in text.now) }
     ensures lines { IfSome result (λ found. lines_behind text.now ≡ lines_after found.1) }
@@ -103,6 +106,7 @@ fn long_number_first(text: &[u8]) -> Option<(u64, Rest<'_>)>
 }
 
 /// The number that the next word prints, and what is left after it.
+#[inline(always)]
 pub fn next_number_of(rest: Rest<'_>) -> Option<(u64, Rest<'_>)>
     ensures number { option_map (λ found. (found.0, words_left found.1)) result ≡ next_number (words_left rest.entry) }
     ensures lines { IfSome result (λ found. lines_after found.1 ≡ lines_after rest.entry) }
@@ -113,6 +117,7 @@ pub fn next_number_of(rest: Rest<'_>) -> Option<(u64, Rest<'_>)>
     }
 }
 
+#[inline(always)]
 fn bytes_first(text: &[u8]) -> Option<(HexWord<'_>, Rest<'_>)>
     ensures bytes { option_map (λ found. (hex_bytes found.0.digits.now, words_left found.1)) result ≡ next_bytes (words_in text.now) }
     ensures lines { IfSome result (λ found. lines_behind text.now ≡ lines_after found.1) }
@@ -123,6 +128,7 @@ fn bytes_first(text: &[u8]) -> Option<(HexWord<'_>, Rest<'_>)>
 }
 
 /// The bytes that the next word spells, and what is left after it.
+#[inline(always)]
 pub fn next_bytes_of(rest: Rest<'_>) -> Option<(HexWord<'_>, Rest<'_>)>
     ensures bytes { option_map (λ found. (hex_bytes found.0.digits.now, words_left found.1)) result ≡ next_bytes (words_left rest.entry) }
     ensures lines { IfSome result (λ found. lines_after found.1 ≡ lines_after rest.entry) }

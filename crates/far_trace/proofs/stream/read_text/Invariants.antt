@@ -1,4 +1,4 @@
-use Rattle.std.proofs.Common.{length, ◌-◌, ◌≤◌, take, vec_len, vec_capacity}
+use Rattle.std.proofs.Common.{length, ◌-◌, ◌+◌, ◌≤◌, take, vec_len, vec_capacity}
 use Rattle.std.specs.Io.KnownBytes.{Consumes}
 use Rattle.far_trace.proofs.stream.read_text.Given as goal
 
@@ -8,6 +8,7 @@ invariant-loop-len g l = record {
   taken : l.most ≤ vec_capacity l.room;
   fits : l.len ≤ vec_len l.room;
   few : vec_len l.room ≤ l.most;
+  near : vec_len l.room ≤ l.len + 65536;
   bytes : Consumes (g.R.Read.remaining l.initial.reader) (g.R.Read.remaining l.reader) (take l.len l.room.items);
 }
 
