@@ -27,15 +27,15 @@ pub mod Opened
 pub mod OutputLaws
 pub mod PlainReplies
 pub mod PrintedAlike
-pub mod RangeReads
+pub mod RangeTurns
 pub mod RangeWrites
 pub mod Reading
 pub mod Refusals
 pub mod Rooms
-pub mod Rows
 pub mod Runs
 pub mod SaidBy
 pub mod SaysLemmas
+pub mod Searches
 pub mod Spliced
 pub mod StoreTurns
 pub mod Streams

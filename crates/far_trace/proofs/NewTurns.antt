@@ -32,7 +32,7 @@ use Rattle.far_trace.specs.Effects.{with_row}
 use Rattle.far_trace.specs.EventRows.{after_events, Succeeds, AllSucceed, AtHand}
 use Rattle.far_trace.specs.Tidy.{Tidy}
 use Rattle.far_trace.specs.Events.{zero_puts}
-use Rattle.far_trace.proofs.Rows.{row_is}
+use Rattle.far_core.proofs.Rows.{row_is}
 use Rattle.far_trace.proofs.MadeLemmas.{made-append, AllSucceed-append, made_first, first_succeeds}
 
 -- ---- a row of zeros

@@ -11,6 +11,8 @@ use Rattle.std.specs.Char.{digit_value, is_ascii_digit}
 use Rattle.std.proofs.lemmas.Fmt.{decimal_is_IsNumeral, decimal-digits_value, decimal_nonempty, first_decimal, decimal_digit}
 use Rattle.std.proofs.lemmas.Str.Parse.{numerals_by_value, tells_by_index, digit_at, digits_value-take-le}
 use Rattle.std.proofs.lemmas.Int.Digits.{digits_value_more}
+use Rattle.std.proofs.Common.{add-one}
+use Rattle.std.proofs.Math.Nat.{pow-suc, pow-le-pow_right}
 use Rattle.far_trace.specs.Grammar.{number_of}
 
 value_is : (w : List ℕ) (n : ℕ) → n < 2 ^ 64 → w ≡ decimal n → digits_value 10 w ≡ n
@@ -96,3 +98,11 @@ other_tells c e h = grind (arith, nat_tests)
 
 pub some_bytes : (n : ℕ) → (n == 0) ≡ false → 0 < n
 some_bytes n e = grind (arith, nat_tests)
+
+-- one more digit takes a number below ten times as much
+pub below_ten : (n d i : ℕ) → n < 10 ^ i → d < 10 → n * 10 + d < 10 ^ (i + 1)
+below_ten n d i h small = let next : 10 ^ (i + 1) ≡ 10 ^ i * 10 = ap (λ k. 10 ^ k) (add-one i) ∙ pow-suc 10 i in omega arith
+
+-- nineteen digits are below 2 ^ 64
+pub ten_most : (i : ℕ) → i ≤ 19 → 10 ^ i < 2 ^ 64
+ten_most i h = let most : 10 ^ i ≤ 10 ^ 19 = pow-le-pow_right (omega arith) h in omega arith

@@ -22,7 +22,6 @@ use Rattle.far_core.specs.state.Law.{Law, head_len}
 use Rattle.far_core.specs.state.State.{State, addr}
 use Rattle.far_core.specs.events.Step.{near_len, near_data, data_len}
 use Rattle.far_core.proofs.Bounds.{span_len}
-use Rattle.far_trace.specs.Interpreter.{stores_of}
 use Rattle.far_trace.specs.EventRows.{after_events}
 use Rattle.far_trace.specs.Events.{starts_inside, ends_inside, words_touched, store_events}
 use Rattle.far_trace.specs.Objects.{spliced}
@@ -155,18 +154,6 @@ at_cell s law p (Some (Far len ds m)) e i lt = absurd (omega arith)
 -- the words of an object have zeros behind its last byte
 pub object_padded : (s : State) → Law s → (p i : ℕ) → i < words_for (data_len s p) → s.word (near_data (read_of (s.cell p)) + i) < 2 ^ (8 * (data_len s p - 8 * i))
 object_padded s law p i lt = at_cell s law p (read_of (s.cell p)) refl i lt
-
--- the stores of some words are those of the object with the new bytes in place
-pub stores_same : (m p first count : ℕ) (words after : List ℕ) → ((i : ℕ) → i < count → get_or words i 0 ≡ packed_word after (first + i)) → stores_of m p first words count ≡ store_events m p first count after
-stores_same m p first count words after h = rows_same (Loads 0 0 0) (λ i. Stores m p (first + i) (slice_index words i)) (λ i. Stores m p i (packed_word after i)) 0 first count
-    (λ i lt. let here : 0 + i ≡ i = omega arith in ap (λ k. Stores m p (first + k) (slice_index words k)) here ∙ ap (Stores m p (first + i)) (h i lt))
-
--- a write that was made part by part
-pub write_made : (s a b c d : State) (view first last stores : List Event) → a ≡ after_events s view → b ≡ after_events a first → c ≡ after_events b last → d ≡ after_events c stores →
-    d ≡ after_events s (view ++ (first ++ last) ++ stores)
-write_made s a b c d view first last stores e f g h =
-    h ∙ ap (λ t. after_events t stores) (g ∙ ap (λ t. after_events t last) (f ∙ ap (λ t. after_events t first) e))
-    ∙ ap (λ t. after_events t stores) (sym (made-append (after_events s view) first last)) ∙ ap (λ t. after_events t stores) (sym (made-append s view (first ++ last))) ∙ sym (made-append s (view ++ (first ++ last)) stores)
 
 -- the word in which a range ends is a word of the object
 pub past_word : (from count len : ℕ) → from + count ≤ len → ends_inside from count ≡ true → (from + count) / 8 < words_for len

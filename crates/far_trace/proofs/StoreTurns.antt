@@ -20,7 +20,7 @@ use Rattle.far_trace.specs.Effects.{with_row}
 use Rattle.far_trace.specs.EventRows.{after_events, AllSucceed}
 use Rattle.far_trace.specs.Tidy.{Tidy}
 use Rattle.far_trace.proofs.MadeLemmas.{made_first, first_succeeds}
-use Rattle.far_trace.proofs.Rows.{row_none, row_first}
+use Rattle.far_core.proofs.Rows.{row_none, row_first}
 
 -- other words leave the heap tidy, if the headers stay
 pub tidy_words : (s : State) (next : ℕ → ℕ) (word : ℕ → ℕ) → Tidy s next → ((a : ℕ) → s.starts a ≡ true → word a ≡ s.word a) → Tidy record s { word = word } next

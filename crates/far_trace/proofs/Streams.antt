@@ -6,6 +6,9 @@ use Rattle.std.proofs.Math.Seq.{take-add, take-append-add, take-length}
 use Rattle.std.proofs.Common.{length-drop, length-take, length-take-le, length-append}
 use Rattle.std.proofs.lemmas.List.{take-append-le}
 use Rattle.far_trace.specs.Stream.{AppendsPart, Writes, Holds}
+use Rattle.std.proofs.lemmas.List.{take-take, take_all, with_items_is}
+use Rattle.std.specs.Vec.{with_items}
+use Rattle.std.specs.declared.vec.Vec.{Vec}
 use borrow.Rule.Slice.PartMut.{put_mid, post_of}
 
 pub wrote_more : (a b c : Option (List ℕ)) (bs : List ℕ) (d n : ℕ) → Appends a b (take d bs) → Appends b c (take n (take (length bs - d) (drop d bs))) → Appends a c (take (d + n) bs)
@@ -24,6 +27,24 @@ read_into a k n xs ys h m =
 
 pub read_more : (x y z : Option (List ℕ)) (a k n : ℕ) (room buf : List ℕ) → a ≤ length room → n ≤ length buf → Consumes x y (take a room) → Consumes y z (take n buf) → Consumes x z (take (a + n) (put_mid a k room buf))
 read_more x y z a k n room buf h m first second = subst (Consumes x z) (sym (read_into a k n room buf h m)) (Consumes-trans x y z (take a room) (take n buf) first second)
+
+-- the same of room that was made larger before the read
+pub read_grown : {Z : Type 0} (v : Vec ℕ Z) (x y z : Option (List ℕ)) (a n : ℕ) (old xs buf : List ℕ) → xs ≡ v.items → take (length old) v.items ≡ old → a ≤ length old
+    → a ≤ length v.items → length buf ≡ length xs - a → n ≤ length buf → Consumes x y (take a old) → Consumes y z (take n buf) → Consumes x z (take (a + n) (with_items v (put_mid a (length xs - a) xs buf)).items)
+read_grown v x y z a n old xs buf same kept inside fits size bound first second =
+    let room : length xs ≡ length v.items = ap length same in
+    let front : take a old ≡ take a xs = ap (take a) (sym kept) ∙ take-take a (length old) v.items inside ∙ ap (take a) (sym same) in
+    let long : length (put_mid a (length xs - a) xs buf) ≡ v.len = put_len a (length xs - a) xs buf (omega arith) size ∙ room ∙ sym v.ok.0 in
+    subst (λ ys. Consumes x z (take (a + n) ys)) (sym (with_items_is v (put_mid a (length xs - a) xs buf) long))
+    (read_more x y z a (length xs - a) n xs buf (omega arith) bound (subst (Consumes x y) front first) second) where
+      put_len : (b k : ℕ) (us vs : List ℕ) → b + k ≤ length us → length vs ≡ k → length (put_mid b k us vs) ≡ length us
+      put_len b k us vs h e = omega (arith, length-append (take b us) (vs ++ post_of b k us), length-append vs (post_of b k us), length-take-le b us (omega arith), length-drop k (drop b us), length-drop b us)
+
+-- what was there stays, as more comes behind it
+pub kept_behind : (first now new tail : List ℕ) (m n : ℕ) → take m now ≡ first → new ≡ take n now ++ tail → m ≤ length now → length now ≤ n → take m new ≡ first
+kept_behind first now new tail m n before is inside whole =
+    let all : take n now ≡ now = take_all n now whole in
+    ap (take m) (is ∙ ap (λ l. l ++ tail) all) ∙ take-append-le m now tail inside ∙ before
 
 pub read_fits : (a k n : ℕ) (xs ys : List ℕ) → a ≤ length xs → n ≤ length ys → a + n ≤ length (put_mid a k xs ys)
 read_fits a k n xs ys h m = omega (arith, length-append (take a xs) (ys ++ post_of a k xs), length-append ys (post_of a k xs), length-take-le a xs h)

@@ -84,7 +84,7 @@ access_fact s next m p from count law tidy e =
 -- a read of an object's words
 module _ (s : State) (next : ℕ → ℕ) (m p from count : ℕ) (law : Law s) (tidy : Tidy s next) (access : Access s m p from count) where
   -- the object is held after the view
-  viewing : Viewed s (after_events s (view_events s m p)) m p
+  pub viewing : Viewed s (after_events s (view_events s m p)) m p
   viewing = viewed s next m p law tidy access.opened access.ours
 
   -- the words that are touched are the object's
@@ -101,7 +101,7 @@ module _ (s : State) (next : ℕ → ℕ) (m p from count : ℕ) (law : Law s) (
       (loads_succeed s (after_events s (view_events s m p)) m p viewing (first_word from) (words_touched from count) touched_inside)
 
   -- they end where the view does
-  read_end : after_events s read_events ≡ after_events s (view_events s m p)
+  pub read_end : after_events s read_events ≡ after_events s (view_events s m p)
   read_end = made-append s (view_events s m p) (load_events m p (first_word from) (words_touched from count))
       ∙ loads_stay (after_events s (view_events s m p)) m p (first_word from) (words_touched from count)
 
@@ -215,7 +215,7 @@ module _ (s : State) (next : ℕ → ℕ) (m p from : ℕ) (bytes : List ℕ) (l
       (subst (λ t. AllSucceed t stores) (sym looked) stored.0)
 
   -- they end where the stores do
-  write_end : after_events s (looks ++ stores) ≡ after_events view stores
+  pub write_end : after_events s (looks ++ stores) ≡ after_events view stores
   write_end = made-append s looks stores ∙ ap (λ t. after_events t stores) looked
 
   -- they keep the heap tidy
@@ -233,7 +233,7 @@ module _ (s : State) (next : ℕ → ℕ) (m p from : ℕ) (bytes : List ℕ) (l
             (cond_both (ends_inside from (length bytes)) (Loads m p ((from + length bytes) / 8) ∷ []) [] (Each Fits) (λ _. (tt, tt)) (λ _. tt))
 
   -- the object's bytes are the same behind the view
-  data_same : data_of view p ≡ data_of s p
+  pub data_same : data_of view p ≡ data_of s p
   data_same i = bytes_of (λ k. held.words i (held.same_data i + k)) (held.same_len i)
 
   -- the stores make its words those of the new bytes

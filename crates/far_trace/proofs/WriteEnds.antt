@@ -8,7 +8,7 @@ use Rattle.far_trace.specs.Effects.{with_row}
 use Rattle.far_trace.specs.Events.{first_word, words_touched}
 use Rattle.far_trace.specs.Objects.{spliced}
 use Rattle.far_trace.proofs.RangeWrites.{word_same}
-use Rattle.far_trace.proofs.Rows.{row_in, row_out, row_is}
+use Rattle.far_core.proofs.Rows.{row_in, row_out, row_is}
 use Rattle.far_trace.proofs.Spliced.{spliced_before, spliced_behind}
 
 module _ (word : ℕ → ℕ) (d len from : ℕ) (bytes : List ℕ) (fits : from + length bytes ≤ len) (some : 0 < length bytes)

@@ -6,13 +6,10 @@ use Rattle.far_word.specs.Bytes.{packed_word}
 use Rattle.far_word.specs.Header.{head_word}
 use Rattle.far_word.specs.Pointer.{read_of, word_of}
 use Rattle.far_word.specs.Sizes.{words_for}
+pub use Rattle.far_core.specs.events.Ranges.{with_row}
 use Rattle.far_core.specs.events.Step.{after_pin, with_span, scope_word_of, near_data, data_len}
 use Rattle.far_core.specs.state.State.{State, put, addr}
 use Rattle.far_trace.specs.Objects.{data_of, spliced}
-
--- n words from a on are those of a row
-abbrev pub with_row : (ℕ → ℕ) → ℕ → ℕ → (ℕ → ℕ) → ℕ → ℕ
-with_row word a n row k = cond (nat_le a k && nat_lt k (a + n)) (row (k - a)) (word k)
 
 -- the word of a cell that names a new place
 abbrev pub new_word : ℕ → ℕ → Place → ℕ

@@ -10,12 +10,8 @@ use Rattle.far_core.specs.declared.event.Reply.{Reply}
 use Rattle.far_core.specs.declared.event.Reply.TheVariants.{Refused, Word}
 use Rattle.far_core.specs.state.State.{State}
 use Rattle.far_core.specs.events.Step.{step_of, is_legal}
+pub use Rattle.far_core.specs.events.Ranges.{after_events}
 use Rattle.far_core.specs.world.Runs.{Passes}
-
--- the state after these events
-abbrev pub after_events : State → List Event → State
-after_events s [] = s
-after_events s (e ∷ es) = after_events (step_of s e).0 es
 
 -- what an event is for comes to pass: none is refused, a pin gives a view, and a naming wins
 abbrev pub Succeeds : Event → Reply → Type 0

@@ -1,14 +1,9 @@
 -- The words that the interpreter's own contracts need.
-use Rattle.std.specs.Prelude.{◌≡◌, ℕ, ◌+◌, ◌/◌, ◌<◌, ◌≤◌, true, List, map, slice_index, Option, Some, None, Result, Ok, Err, nat_le, nat_lt, if◌then◌else◌}
-use Rattle.std.specs.List.{range_with_len}
+use Rattle.std.specs.Prelude.{◌≡◌, ℕ, ◌+◌, ◌/◌, ◌<◌, ◌≤◌, true, List, Option, Some, None, IsSome, Result, Ok, Err, nat_le, nat_lt, if◌then◌else◌}
 use Rattle.far_word.specs.declared.refused.Refused.{Refused as Refusal}
 use Rattle.far_word.specs.declared.sizes.TheConstants.{CELLS, LOG_WORDS, LONGEST, MOST_LOGS, POINTERS}
-use Rattle.far_core.specs.declared.event.Event.{Event}
-use Rattle.far_core.specs.declared.event.Event.TheVariants.{Load as Loads, Store as Stores}
-use Rattle.far_core.specs.declared.event.Reply.{Reply as Answer}
-use Rattle.far_core.specs.declared.event.Reply.TheVariants as answers
 use Rattle.far_core.specs.state.State.{State, put}
-use Rattle.far_core.specs.events.Step.{step_of, is_opened}
+use Rattle.far_core.specs.events.Step.{data_len, is_opened}
 use Rattle.far_trace.specs.Moment.{Moment}
 use Rattle.far_trace.specs.Command.{Command, New, Mutator}
 use Rattle.far_trace.specs.declared.turn.Access.{Access}
@@ -21,22 +16,6 @@ use Rattle.far_trace.specs.Turn.{refusal, unless}
 use Rattle.far_word.specs.declared.pointer.Place.{Place}
 use Rattle.far_word.specs.Sizes.{size_of}
 use Rattle.far_core.specs.state.Room.{room}
-
--- the word that an event answers, 0 where it answers none
-abbrev pub word_in : Answer → ℕ
-word_in answers.Refused = 0
-word_in answers.Done = 0
-word_in (answers.Epoch e) = 0
-word_in (answers.Word w) = w
-word_in (answers.Held place) = 0
-
--- the word that a load answers
-abbrev pub loaded : State → ℕ → ℕ → ℕ → ℕ
-loaded s m p i = word_in (step_of s (Loads m p i)).1
-
--- the stores of some words, from the word first on
-abbrev pub stores_of : ℕ → ℕ → ℕ → List ℕ → ℕ → List Event
-stores_of m p first words count = map (λ i. Stores m p (first + i) (slice_index words i)) (range_with_len 0 count)
 
 -- why a call was refused, if it was
 abbrev pub refused_in : {X : Type 0} → Result X Refusal → Option Refusal
@@ -55,6 +34,14 @@ pub record IsAccess (s : State) (mutator pointer from count : ℕ) (a : Access) 
   pub own : pointer / CELLS ≡ mutator
   pub used : s.used pointer ≡ true
   pub opened : is_opened s mutator ≡ true
+
+-- the range of an access lies in an object that its owner holds
+pub record IsViewed (s : State) (a : Access) : Type 0 where
+  pub own : a.pointer / CELLS ≡ a.owner
+  pub held : IsSome (s.held a.pointer)
+  pub some : 0 < a.count
+  pub inside : a.from + a.count ≤ data_len s a.pointer
+  pub most : a.from + a.count ≤ LONGEST
 
 -- how many cells of each mutator are named after a command that isn't refused
 abbrev pub named_by : Command → (ℕ → ℕ) → ℕ → ℕ

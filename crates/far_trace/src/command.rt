@@ -55,6 +55,7 @@ pub enum Entry<'a> {
 pub type Spelled<'a> = (Entry<'a>, Option<&'a [u8]>);
 
 // The entry, if its line ends here.
+#[inline(always)]
 fn at_end<'a>(entry: Entry<'a>, rest: Rest<'a>) -> Option<Spelled<'a>>
     ensures value { option_map (λ found. said_entry found.0) result ≡ ended (words_left rest.entry) (said_entry entry.entry) }
     ensures lines { IfSome result (λ found. lines_left found.1 ≡ lines_after rest.entry) }
@@ -94,6 +95,7 @@ fn open_spelled(rest: Rest<'_>) -> Option<Spelled<'_>>
     at_end(Entry::Command(Command::Mutator { mutator, request }), rest)
 }
 
+#[inline(always)]
 fn write_spelled(rest: Rest<'_>) -> Option<Spelled<'_>>
     ensures value { option_map (λ found. said_entry found.0) result ≡ entry_from (NumbersAndBytes 3 asks_write) (words_left rest.entry) }
     ensures lines { IfSome result (λ found. lines_left found.1 ≡ lines_after rest.entry) }
@@ -110,6 +112,7 @@ fn write_spelled(rest: Rest<'_>) -> Option<Spelled<'_>>
     at_end(Entry::Command(Command::Mutator { mutator, request }), rest)
 }
 
+#[inline(always)]
 fn read_spelled(rest: Rest<'_>) -> Option<Spelled<'_>>
     ensures value { option_map (λ found. said_entry found.0) result ≡ entry_from (Numbers 4 asks_read) (words_left rest.entry) }
     ensures lines { IfSome result (λ found. lines_left found.1 ≡ lines_after rest.entry) }
@@ -167,6 +170,7 @@ fn named<'a>(name: &[u8], rest: Rest<'a>) -> Option<Spelled<'a>>
 }
 
 // What the first line of a text spells, by its first word.
+#[inline(never)]
 fn named_first(text: &[u8]) -> Option<Spelled<'_>>
     ensures value { option_map (λ found. said_entry found.0) result ≡ entry_of (words_in text.now) }
     ensures lines { IfSome result (λ found. lines_left found.1 ≡ lines_behind text.now) }
@@ -176,6 +180,7 @@ fn named_first(text: &[u8]) -> Option<Spelled<'_>>
 }
 
 /// What the first line of a text spells. The two commands that traces are full of are known by their first bytes.
+#[inline(always)]
 pub fn entry_first(text: &[u8]) -> Option<Spelled<'_>>
     ensures value { option_map (λ found. said_entry found.0) result ≡ entry_of (words_in text.now) }
     ensures lines { IfSome result (λ found. lines_left found.1 ≡ lines_behind text.now) }

@@ -2,12 +2,12 @@
 
 ghost use Rattle.std.specs.Prelude.{◌≡◌, ◌≤◌, ◌<◌, ◌∷◌, ℕ, [], length, drop, true, false, slice_index, IfSome, IfNone};
 ghost use Rattle.std.specs.Option.{option_map};
-ghost use Rattle.hex.specs.Hex.{is_hex_digit};
 ghost use Rattle.far_trace.specs.HexWord.{hex_bytes};
 ghost use Rattle.far_trace.specs.Grammar.{next_number, next_bytes};
 ghost use Rattle.far_trace.specs.Cursor.{is_end, words_in, words_left, lines_behind, lines_after, lines_left};
 
-use crate::hex_word::{HexWord, is_digit};
+use crate::hex_word::HexWord;
+use memchr::memchr2;
 
 /// What is left of a text after a word of one of its lines.
 #[derive(Clone, Copy)]
@@ -18,13 +18,8 @@ pub enum Rest<'a> {
     Lines(Option<&'a [u8]>),
 }
 
-fn ends_word(byte: u8) -> bool
-    ensures { result ≡ is_end byte }
-{
-    byte == b' ' || byte == b'\n'
-}
-
 // What is left after a word that ends before this byte, or None where it goes on.
+#[inline(always)]
 fn rest_at(text: &[u8], at: usize) -> Option<Rest<'_>>
     requires { at ≤ length text.now }
     ensures words { IfSome result (λ rest. words_in (drop at text.now) ≡ [] ∷ words_left rest) }
@@ -41,20 +36,20 @@ fn rest_at(text: &[u8], at: usize) -> Option<Rest<'_>>
     }
 }
 
+#[inline(always)]
 fn word_len(text: &[u8]) -> usize
     ensures bound { result ≤ length text.now }
     ensures inside { (k : ℕ) → k < result → is_end (slice_index text.now k) ≡ false }
     ensures ends { result < length text.now → is_end (slice_index text.now result) ≡ true }
 {
-    for (i, byte) in text.iter().enumerate() {
-        if ends_word(*byte) {
-            return i;
-        }
+    match memchr2(b' ', b'\n', text) {
+        Some(end) => end,
+        None => text.len(),
     }
-    text.len()
 }
 
 /// The first word of a text, and what is left after it.
+#[inline(always)]
 pub fn word_first(text: &[u8]) -> (&[u8], Rest<'_>)
     ensures words { words_in text.now ≡ result.0.now ∷ words_left result.1 }
     ensures lines { lines_behind text.now ≡ lines_after result.1 }
@@ -64,7 +59,33 @@ pub fn word_first(text: &[u8]) -> (&[u8], Rest<'_>)
 }
 
 /// The number that the first word of a text prints, and what is left after it.
+#[inline(always)]
 pub fn number_first(text: &[u8]) -> Option<(u64, Rest<'_>)>
+    ensures number { option_map (λ found. (found.0, words_left found.1)) result ≡ next_number (words_in text.now) }
+    ensures lines { IfSome result (λ found. lines_behind text.now ≡ lines_after found.1) }
+{
+    let mut n = 0u64;
+    let mut len = 0;
+    while len < 19 && len < text.len() && text[len].is_ascii_digit() {
+        n = n * 10 + u64::from(text[len] - b'0');
+        len += 1;
+    }
+    if len == 19 {
+        return long_number_first(text);
+    }
+    let rest = rest_at(text, len)?;
+    if len == 0 {
+        return None;
+    }
+    if text[0] == b'0' && len > 1 {
+        return None;
+    }
+    Some((n, rest))
+}
+
+// The same of any number of digits.
+#[cold]
+fn long_number_first(text: &[u8]) -> Option<(u64, Rest<'_>)>
     ensures number { option_map (λ found. (found.0, words_left found.1)) result ≡ next_number (words_in text.now) }
     ensures lines { IfSome result (λ found. lines_behind text.now ≡ lines_after found.1) }
 {
@@ -85,6 +106,7 @@ pub fn number_first(text: &[u8]) -> Option<(u64, Rest<'_>)>
 }
 
 /// The number that the next word prints, and what is left after it.
+#[inline(always)]
 pub fn next_number_of(rest: Rest<'_>) -> Option<(u64, Rest<'_>)>
     ensures number { option_map (λ found. (found.0, words_left found.1)) result ≡ next_number (words_left rest.entry) }
     ensures lines { IfSome result (λ found. lines_after found.1 ≡ lines_after rest.entry) }
@@ -95,31 +117,18 @@ pub fn next_number_of(rest: Rest<'_>) -> Option<(u64, Rest<'_>)>
     }
 }
 
-// How many digits in hex a text begins with.
-fn digits_len(text: &[u8]) -> usize
-    ensures bound { result ≤ length text.now }
-    ensures digits { (k : ℕ) → k < result → is_hex_digit (slice_index text.now k) ≡ true }
-    ensures ends { result < length text.now → is_hex_digit (slice_index text.now result) ≡ false }
-{
-    for (i, byte) in text.iter().enumerate() {
-        if !is_digit(*byte) {
-            return i;
-        }
-    }
-    text.len()
-}
-
+#[inline(always)]
 fn bytes_first(text: &[u8]) -> Option<(HexWord<'_>, Rest<'_>)>
     ensures bytes { option_map (λ found. (hex_bytes found.0.digits.now, words_left found.1)) result ≡ next_bytes (words_in text.now) }
     ensures lines { IfSome result (λ found. lines_behind text.now ≡ lines_after found.1) }
 {
-    let len = digits_len(text);
-    let rest = rest_at(text, len)?;
-    let bytes = HexWord::from_digits(&text[..len])?;
+    let (word, rest) = word_first(text);
+    let bytes = HexWord::from_word(word)?;
     Some((bytes, rest))
 }
 
 /// The bytes that the next word spells, and what is left after it.
+#[inline(always)]
 pub fn next_bytes_of(rest: Rest<'_>) -> Option<(HexWord<'_>, Rest<'_>)>
     ensures bytes { option_map (λ found. (hex_bytes found.0.digits.now, words_left found.1)) result ≡ next_bytes (words_left rest.entry) }
     ensures lines { IfSome result (λ found. lines_after found.1 ≡ lines_after rest.entry) }

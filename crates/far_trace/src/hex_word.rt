@@ -2,6 +2,7 @@
 
 ghost use Rattle.std.specs.Prelude.{◌≡◌, ◌≤◌, ◌%◌, ◌==◌, ◌&&◌, nat_lt, nat_le, IsTrue, length};
 ghost use Rattle.hex.specs.Hex.{is_hex_digit};
+ghost use Rattle.std.specs.List.{list_all};
 ghost use Rattle.far_trace.specs.HexWord.{is_hex_word};
 ghost use Rattle.far_trace.specs.declared.hex_word.TheConstants.{LONGEST_LINE};
 
@@ -20,20 +21,17 @@ pub struct HexWord<'a> {
 
 impl<'a> HexWord<'a> {
     ghost use Rattle.std.specs.Prelude.{◌≡◌, ◌≤◌, length, true, Option};
-    ghost use Rattle.std.specs.List.{list_all};
-    ghost use Rattle.hex.specs.Hex.{is_hex_digit};
     ghost use Rattle.std.specs.Option.{option_map};
     ghost use Rattle.far_trace.specs.HexWord.{hex_bytes};
     ghost use Rattle.far_trace.specs.declared.hex_word.TheConstants.{LONGEST_BYTES};
     ghost use Rattle.far_trace.specs.Grammar.{bytes_in};
 
-    /// The bytes that digits spell, or None where they are no word in hex.
-    pub fn from_digits(digits: &'a [u8]) -> Option<HexWord<'a>>
-        requires { list_all is_hex_digit digits.now ≡ true }
-        ensures { option_map (λ found. hex_bytes found.digits.now) result ≡ bytes_in digits.now }
+    /// The bytes that a word spells, or None where it is no word in hex.
+    pub fn from_word(word: &'a [u8]) -> Option<HexWord<'a>>
+        ensures { option_map (λ found. hex_bytes found.digits.now) result ≡ bytes_in word.now }
     {
-        if is_hex_len(digits.len()) {
-            Some(HexWord { digits })
+        if is_hex_len(word.len()) && are_digits(word) {
+            Some(HexWord { digits: word })
         } else {
             None
         }
@@ -56,11 +54,22 @@ impl<'a> HexWord<'a> {
     }
 }
 
-/// Whether a byte is a digit in hex, in either case.
-pub fn is_digit(byte: u8) -> bool
+// Whether a byte is a digit in hex, in either case.
+fn is_digit(byte: u8) -> bool
     ensures { result ≡ is_hex_digit byte }
 {
     matches!(byte, b'0'..=b'9' | b'a'..=b'f' | b'A'..=b'F')
+}
+
+// Whether all bytes of a word are digits. No byte ends the search, so that the processor tests many at once.
+fn are_digits(word: &[u8]) -> bool
+    ensures { result ≡ list_all is_hex_digit word.now }
+{
+    let mut all = true;
+    for byte in word {
+        all &= is_digit(*byte);
+    }
+    all
 }
 
 fn is_hex_len(len: usize) -> bool

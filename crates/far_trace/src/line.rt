@@ -6,6 +6,7 @@ ghost use Rattle.far_trace.specs.Cursor.{first_line, lines_behind, lines_left, s
 
 use crate::command::{Entry, entry_first};
 use crate::hex_word::LONGEST_LINE;
+use memchr::memchr;
 
 /// What a line says.
 #[derive(Clone, Copy)]
@@ -15,7 +16,21 @@ pub enum Line<'a> {
     Said(Entry<'a>),
 }
 
+// Where the first line of a text ends.
+#[inline(always)]
+fn line_end(text: &[u8]) -> usize
+    ensures bound { result ≤ length text.now }
+    ensures inside { (k : ℕ) → k < result → (slice_index text.now k == 10) ≡ false }
+    ensures ends { result < length text.now → slice_index text.now result ≡ 10 }
+{
+    match memchr(b'\n', text) {
+        Some(end) => end,
+        None => text.len(),
+    }
+}
+
 // Where the first line of a text ends, if all its bytes are ASCII.
+#[inline(always)]
 fn ascii_len(text: &[u8]) -> Option<usize>
     ensures bound { IfSome result (λ len. len ≤ length text.now) }
     ensures ascii { IfSome result (λ len. (k : ℕ) → k < len → slice_index text.now k < 128) }
@@ -23,18 +38,16 @@ fn ascii_len(text: &[u8]) -> Option<usize>
     ensures ends { IfSome result (λ len. len < length text.now → slice_index text.now len ≡ 10) }
     ensures other { IfNone result ((at : ℕ) × (at < length text.now) × (128 ≤ slice_index text.now at) × ((k : ℕ) → k < at → (slice_index text.now k == 10) ≡ false)) }
 {
-    for (i, byte) in text.iter().enumerate() {
-        if *byte >= 128 {
-            return None;
-        }
-        if *byte == b'\n' {
-            return Some(i);
-        }
+    let len = line_end(text);
+    if text[..len].is_ascii() {
+        Some(len)
+    } else {
+        None
     }
-    Some(text.len())
 }
 
 // Reads a comment, which a text begins with.
+#[inline(always)]
 fn comment_first(text: &[u8]) -> Option<(Line<'_>, Option<&[u8]>)>
     requires some { 0 < length text.now }
     requires comment { slice_index text.now 0 ≡ 35 }
@@ -53,6 +66,7 @@ fn comment_first(text: &[u8]) -> Option<(Line<'_>, Option<&[u8]>)>
 }
 
 // How many bytes the first line of a text has, where these are the lines after it.
+#[inline(always)]
 fn line_len(text: &[u8], lines: Option<&[u8]>) -> usize
     requires { lines_left lines ≡ lines_behind text.now }
     ensures { result ≡ length (first_line text.now) }
@@ -64,6 +78,7 @@ fn line_len(text: &[u8], lines: Option<&[u8]>) -> usize
 }
 
 // Reads a line with an entry, which a text begins with.
+#[inline(always)]
 fn said_first(text: &[u8]) -> Option<(Line<'_>, Option<&[u8]>)>
     requires some { 0 < length text.now }
     requires content { (slice_index text.now 0 == 10) ≡ false }
@@ -80,6 +95,7 @@ fn said_first(text: &[u8]) -> Option<(Line<'_>, Option<&[u8]>)>
 }
 
 /// What the first line of a text says, and the lines after it; None where it is off the grammar.
+#[inline(always)]
 pub fn line_first(text: &[u8]) -> Option<(Line<'_>, Option<&[u8]>)>
     ensures bad { IfNone result (line_of (first_line text.now) ≡ Bad) }
     ensures line { IfSome result (λ found. said_line found.0 ≡ line_of (first_line text.now)) }

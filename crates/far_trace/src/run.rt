@@ -16,7 +16,6 @@ ghost use Rattle.far_trace.specs.Tidy.{Tidy};
 
 use crate::command::Command;
 use crate::outcome::Scratch;
-use crate::output::zeros;
 use crate::reply::Reply;
 use crate::reply_writer::ReplyWriter;
 use crate::stream::{WriteFault, read_text};
@@ -75,9 +74,8 @@ fn read_whole<R: Read>(alloc: Global, reader: &mut R, most: usize) -> Result<Vec
     ensures read { IfOk result (λ v. IfSome (R.remaining reader.old) (λ text. v.items ≡ take most text)) }
     ensures fault { result ≢ Err RunFault.Write }
 {
-    let mut room = zeros(alloc, most)?;
-    let len = read_text(reader, &mut room).map_err(|_| RunFault::Read)?;
-    room.truncate(len);
+    let mut room = Vec::with_capacity(alloc, most)?;
+    read_text(reader, &mut room, most).map_err(|_| RunFault::Read)?;
     Ok(room)
 }
 

@@ -1,17 +1,18 @@
 //! Commands, each made as the events of a core that it stands for.
 
-ghost use Rattle.std.specs.Prelude.{◌≡◌, ◌≢◌, ◌+◌, ◌*◌, ◌<◌, ◌≤◌, ◌-◌, ◌/◌, ℕ, true, List, Some, None, Ok, map, take, drop, length, slice_index, slice_range, cond, nat_lt, nat_le, IfOk, IfErr, IfSome, IfNone, MatchResult};
+ghost use Rattle.std.specs.Prelude.{◌≡◌, ◌≢◌, ◌+◌, ◌*◌, ◌<◌, ◌≤◌, ◌-◌, ◌/◌, ◌^◌, ℕ, true, List, Some, None, Ok, map, take, drop, length, slice_index, slice_range, cond, nat_lt, nat_le, IfOk, IfErr, IfSome, IfNone, IsSome, MatchResult};
 ghost use Rattle.std.specs.List.{range_with_len};
 ghost use Rattle.far_word.specs.Sizes.{size_of};
-ghost use Rattle.far_word.specs.Bytes.{bytes_of, words_of};
+ghost use Rattle.far_word.specs.Bytes.{bytes_of, packed_word, words_of};
 ghost use Rattle.far_word.specs.Pointer.{read_of};
 ghost use Rattle.far_core.specs.state.CoreState.{core_state};
 ghost use Rattle.far_core.specs.state.Law.{Law};
 ghost use Rattle.far_core.specs.state.Room.{room};
-ghost use Rattle.far_core.specs.events.Step.{step_of, data_len};
+ghost use Rattle.far_core.specs.events.Ranges.{stores};
+ghost use Rattle.far_core.specs.events.Step.{data_len, data_word};
 ghost use Rattle.far_core.specs.declared.event.Event.{Event};
 ghost use Rattle.far_trace.specs.Command.{said, said_request};
-ghost use Rattle.far_trace.specs.Interpreter.{loaded, stores_of, word_in, refused_in, IsAccess, IsNew, StandsFor, next_after, next_of};
+ghost use Rattle.far_trace.specs.Interpreter.{refused_in, IsAccess, IsViewed, IsNew, StandsFor, next_after, next_of};
 ghost use Rattle.far_trace.specs.HexWord.{hex_bytes as spelled};
 ghost use Rattle.far_trace.specs.EventRows.{after_events, AtHand};
 ghost use Rattle.far_trace.specs.Command.{Mutator, Book, New, Open, Write, Read, Close, Logs};
@@ -19,19 +20,19 @@ ghost use Rattle.far_trace.specs.Outcome.{reply_by, IsInRoom};
 ghost use Rattle.far_trace.specs.Reply.{IsShort};
 ghost use Rattle.far_trace.specs.Tidy.{Tidy};
 ghost use Rattle.far_trace.specs.Events.{events_for, turn_events, first_word, words_touched, starts_inside, ends_inside, first_loads, last_loads};
-ghost use Rattle.far_trace.specs.Objects.{lowest_cell, named_len};
+ghost use Rattle.far_trace.specs.Objects.{data_of, lowest_cell, named_len, spliced};
 ghost use Rattle.far_trace.specs.Moment.{moment_of};
 ghost use Rattle.far_trace.specs.Turn.{effect, access_causes, first_cause, reply_to, turn_reply, refusal, log_line};
 
 use crate::command::{Command, Inquiry, Request};
-use crate::events::{load, load_words, make_new, open, store_words, view};
+use crate::events::{make_new, open, view};
 use crate::hex_word::HexWord;
 use crate::outcome::{Outcome, Scratch};
 use crate::reply::LogLine;
 use far_core::{Core, Event};
 use far_word::{
-    CELLS, LOG_WORDS, LONGEST, MOST_LOGS, MOST_MUTATORS, POINTERS, Place, PtrWord, Refused,
-    pack_bytes, size_of, unpack_bytes,
+    CELLS, LOG_WORDS, LONGEST, MOST_LOGS, MOST_MUTATORS, POINTERS, Place, Refused, pack_bytes,
+    pointer_len, size_of, unpack_bytes,
 };
 
 /// Some bytes of an object that its owner may reach: the numbers of the owner and the pointer, and the range.
@@ -45,13 +46,11 @@ pub struct Access {
 
 // The length of the object that a cell names, near or far.
 fn object_len(cell: u64) -> u16
+    requires { IsSome (read_of cell) }
     ensures value { result ≡ named_len (read_of cell) }
     ensures most { result ≤ LONGEST }
 {
-    match PtrWord::read(cell) {
-        Some(PtrWord::Near { len, .. } | PtrWord::Far { len, .. }) => len,
-        _ => 0,
-    }
+    pointer_len(cell)
 }
 
 // The owner that a line's number of a mutator is, if the heap has it.
@@ -67,7 +66,8 @@ fn owner_of(core: &Core, mutator: u64) -> Option<u8>
 
 // Whether an owner may reach some bytes of a pointer's object, or why not.
 fn reach(core: &Core, owner: u8, pointer: u64, from: u64, count: u64) -> Result<Access, Refused>
-    requires { owner < (core_state core.now).mutators }
+    requires law { Law (core_state core.now) }
+    requires owner { owner < (core_state core.now).mutators }
     ensures refusal { refused_in result ≡ first_cause (access_causes (moment_of (core_state core.now)) owner pointer from count) }
     ensures access { IfOk result (λ a. IsAccess (core_state core.now) owner pointer from count a) }
 {
@@ -125,6 +125,21 @@ impl Access {
     }
 }
 
+// Loads the words that a range touches, in front of the room for words.
+fn load_front(core: &Core, access: Access, words: &mut [u64])
+    requires viewed { IsViewed (core_state core.now) access }
+    requires room { length words.old ≡ LOG_WORDS }
+    ensures { (k : ℕ) → k < words_touched access.from access.count → slice_index words.new k ≡ (core_state core.now).word (data_word (core_state core.now) access.pointer (first_word access.from + k)) }
+{
+    let count = access.touched() as usize;
+    core.load_all(
+        access.owner,
+        access.pointer,
+        access.first(),
+        &mut words[..count],
+    );
+}
+
 // Reads a range of bytes.
 fn read(core: &mut Core, scratch: &mut Scratch, access: Access) -> Outcome
     requires access { IsAccess (core_state core.old) access.owner access.pointer access.from access.count access }
@@ -135,16 +150,9 @@ fn read(core: &mut Core, scratch: &mut Scratch, access: Access) -> Outcome
     ensures fits { IsInRoom result }
 {
     view(core, access.owner, access.pointer);
-    let count = access.touched();
-    load_words(
-        core,
-        access.owner,
-        access.pointer,
-        access.first(),
-        count,
-        &mut scratch.words,
-    );
-    unpack_front(&scratch.words, count as usize, &mut scratch.bytes);
+    load_front(core, access, &mut scratch.words);
+    let count = access.touched() as usize;
+    unpack_front(&scratch.words, count, &mut scratch.bytes);
     Outcome::Data {
         from: access.from - 8 * access.first(),
         count: access.count,
@@ -170,29 +178,60 @@ impl Access {
 }
 
 // Loads the first word that a range touches, if the range is a part of it alone.
-fn load_first(core: &mut Core, access: Access, words: &mut [u64])
-    requires most { access.from + access.count ≤ LONGEST }
+fn load_first(core: &Core, access: Access, words: &mut [u64])
+    requires viewed { IsViewed (core_state core.now) access }
     requires room { length words.old ≡ LOG_WORDS }
-    ensures state { core_state core.new ≡ after_events (core_state core.old) (first_loads access.owner access.pointer access.from access.count) }
-    ensures first { starts_inside access.from access.count ≡ true → slice_index words.new 0 ≡ loaded (core_state core.old) access.owner access.pointer (access.from / 8) }
+    ensures first { starts_inside access.from access.count ≡ true → slice_index words.new 0 ≡ (core_state core.now).word (data_word (core_state core.now) access.pointer (access.from / 8)) }
 {
     if access.starts_inside() {
-        words[0] = load(core, access.owner, access.pointer, access.first());
+        words[0] = core.load(access.owner, access.pointer, access.first());
     }
 }
 
 // Loads the last word that a range touches, if it touches others and is a part of it alone.
-fn load_last(core: &mut Core, access: Access, words: &mut [u64])
-    requires most { access.from + access.count ≤ LONGEST }
+fn load_last(core: &Core, access: Access, words: &mut [u64])
+    requires viewed { IsViewed (core_state core.now) access }
     requires room { length words.old ≡ LOG_WORDS }
-    ensures state { core_state core.new ≡ after_events (core_state core.old) (last_loads access.owner access.pointer access.from access.count) }
     ensures first { slice_index words.new 0 ≡ slice_index words.old 0 }
-    ensures last { ends_inside access.from access.count ≡ true → slice_index words.new ((access.from + access.count) / 8 - access.from / 8) ≡ loaded (core_state core.old) access.owner access.pointer ((access.from + access.count) / 8) }
+    ensures last { ends_inside access.from access.count ≡ true → slice_index words.new ((access.from + access.count) / 8 - access.from / 8) ≡ (core_state core.now).word (data_word (core_state core.now) access.pointer ((access.from + access.count) / 8)) }
 {
     if access.ends_inside() {
         let last = (access.from + access.count) / 8;
-        words[(last - access.first()) as usize] = load(core, access.owner, access.pointer, last);
+        words[(last - access.first()) as usize] = core.load(access.owner, access.pointer, last);
     }
+}
+
+// Puts bytes over a range in the words that it touches, in front of the room for words.
+fn splice(core: &Core, scratch: &mut Scratch, access: Access, bytes: HexWord)
+    requires law { Law (core_state core.now) }
+    requires viewed { IsViewed (core_state core.now) access }
+    requires bytes { length (spelled bytes.digits.now) ≡ access.count }
+    ensures words { (k : ℕ) → k < words_touched access.from access.count →
+        slice_index scratch.new.words k ≡ packed_word (spliced (data_of (core_state core.now) access.pointer) access.from (spelled bytes.entry.digits.now)) (first_word access.from + k) }
+{
+    let touched = access.touched() as usize;
+    load_first(core, access, &mut scratch.words);
+    load_last(core, access, &mut scratch.words);
+    unpack_front(&scratch.words, touched, &mut scratch.bytes);
+    let at = (access.from - 8 * access.first()) as usize;
+    bytes.decode_into(&mut scratch.bytes[at..at + access.count as usize]);
+    pack_front(&scratch.bytes, touched, &mut scratch.words);
+}
+
+// Stores the words in front over those that a range touches.
+fn store_front(core: &mut Core, access: Access, words: &[u64])
+    requires viewed { IsViewed (core_state core.old) access }
+    requires room { length words.now ≡ LOG_WORDS }
+    requires padding { (k : ℕ) → k < words_touched access.from access.count → slice_index words.now k < 2 ^ (8 * (data_len (core_state core.old) access.pointer - 8 * (first_word access.from + k))) }
+    ensures { core_state core.new ≡ after_events (core_state core.old) (stores access.owner access.pointer (first_word access.from) (take (words_touched access.from access.count) words.now)) }
+{
+    let count = access.touched() as usize;
+    core.store_all(
+        access.owner,
+        access.pointer,
+        access.first(),
+        &words[..count],
+    );
 }
 
 // Writes bytes over a range.
@@ -204,23 +243,9 @@ fn write(core: &mut Core, scratch: &mut Scratch, access: Access, bytes: HexWord)
     ensures state { core_state core.new ≡ after_events (core_state core.old) (turn_events (moment_of (core_state core.old)) (Mutator access.owner (Write access.pointer access.from (spelled bytes.entry.digits.now)))) }
     ensures done { result ≡ Outcome.Done }
 {
-    let first = access.first();
-    let touched = access.touched();
     view(core, access.owner, access.pointer);
-    load_first(core, access, &mut scratch.words);
-    load_last(core, access, &mut scratch.words);
-    unpack_front(&scratch.words, touched as usize, &mut scratch.bytes);
-    let at = (access.from - 8 * first) as usize;
-    bytes.decode_into(&mut scratch.bytes[at..at + access.count as usize]);
-    pack_front(&scratch.bytes, touched as usize, &mut scratch.words);
-    store_words(
-        core,
-        access.owner,
-        access.pointer,
-        first,
-        touched,
-        &scratch.words,
-    );
+    splice(core, scratch, access, bytes);
+    store_front(core, access, &scratch.words);
     Outcome::Done
 }
 

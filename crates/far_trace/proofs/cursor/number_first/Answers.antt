@@ -1,31 +1,27 @@
-use Rattle.std.proofs.Common.{inl, inr, ap, arith, sym, ◌≡◌, ◌∙◌, get_or, ◌<◌, below_more}
+use Rattle.std.proofs.Common.{inl, inr, ap, arith, sym, ◌≡◌, ◌∙◌, get_or, ◌<◌, ◌^◌, ◌*◌, ◌+◌, ◌-◌, below_more}
 use Rattle.std.specs.Int.{IsInRange}
 use Rattle.std.specs.Option.{option_map}
 use Rattle.std.proofs.lemmas.Int.Digits.{digits_value_more}
 use Rattle.far_trace.specs.Cursor.{words_left}
-use Rattle.far_trace.proofs.Numbers.{digit_tells, other_tells, digit_value_is}
+use Rattle.far_trace.proofs.Numbers.{below_ten, digit_tells, other_tells, digit_value_is, ten_most}
 use Rattle.far_trace.proofs.Cuts.{word_at}
-use Rattle.far_trace.proofs.WordLemmas.{over_at, other_at, none_at, zero_at, number_at, no_ends}
+use Rattle.far_trace.proofs.WordLemmas.{other_at, none_at, zero_at, number_at, no_ends}
 use Rattle.far_trace.proofs.cursor.number_first.Goals as goal
-use Rattle.far_trace.proofs.cursor.number_first.Goals.{then-loop-len-test+else-is_ascii_digit, else-loop-len-test}
+use Rattle.far_trace.proofs.cursor.number_first.Goals.{then-loop-len-test+then-len-text+else-is_ascii_digit, then-loop-len-test+else-len-text, else-loop-len-test}
 
-pub returns-in_err-checked_mul-clause-number : goal.returns-in_err-checked_mul-clause-number
-returns-in_err-checked_mul-clause-number c =
-    let byte = get_or c.args.text.now c.loop-len.len 0 in
-    let digit = digit_tells byte (sym c.is_ascii_digit.ensures.value ∙ c.if-is_ascii_digit.true) in
-    let over = c.in_err-checked_mul.ensures in
-    ap (option_map (λ found. (found.0, words_left found.1))) c.from_residual.ensures
-    ∙ sym (over_at c.args.text.now c.loop-len.len c.loop-len.n (omega arith) c.loop-len.invariant.digits digit c.loop-len.invariant.value (omega arith))
+pub overflow_mul-n : goal.overflow_mul-n
+overflow_mul-n c =
+    let next = below_ten c.loop-len.n 0 c.loop-len.len c.loop-len.invariant.small (omega arith) in
+    let most = ten_most (c.loop-len.len + 1) (omega arith) in
+    omega arith
 
-pub returns-in_err-n-clause-number : goal.returns-in_err-n-clause-number
-returns-in_err-n-clause-number c =
-    let byte = get_or c.args.text.now c.loop-len.len 0 in
-    let digit = digit_tells byte (sym c.is_ascii_digit.ensures.value ∙ c.if-is_ascii_digit.true) in
-    let over = c.in_err-n.ensures in
-    let product = c.in_ok-checked_mul.ensures in
+pub overflow_add-n : goal.overflow_add-n
+overflow_add-n c =
+    let digit = digit_tells (get_or c.args.text.now c.loop-len.len 0) (sym c.is_ascii_digit.ensures.value ∙ c.if-is_ascii_digit.true) in
     let from = c.from.ensures in
-    ap (option_map (λ found. (found.0, words_left found.1))) c.from_residual-in_err-n.ensures
-    ∙ sym (over_at c.args.text.now c.loop-len.len c.loop-len.n (omega arith) c.loop-len.invariant.digits digit c.loop-len.invariant.value (omega arith))
+    let next = below_ten c.loop-len.n c.from.result c.loop-len.len c.loop-len.invariant.small (omega arith) in
+    let most = ten_most (c.loop-len.len + 1) (omega arith) in
+    omega arith
 
 pub loop-len-preserved : goal.loop-len-preserved
 loop-len-preserved c =
@@ -33,25 +29,25 @@ loop-len-preserved c =
     let digit = digit_tells byte (sym c.is_ascii_digit.ensures.value ∙ c.if-is_ascii_digit.true) in
     let more = digits_value_more 10 c.args.text.now c.loop-len.len (omega arith) in
     let value = digit_value_is byte digit in
-    let product = c.in_ok-checked_mul.ensures in
     let from = c.from.ensures in
-    let sum = c.in_ok-n.ensures in
     record {
+      short = omega arith;
       fits = omega arith;
       digits = below_more (λ k. IsInRange 48 57 (get_or c.args.text.now k 0)) c.loop-len.len c.loop-len.invariant.digits digit;
       value = omega arith;
-      small = rw sum.1 sum.0;
+      small = below_ten c.loop-len.n c.from.result c.loop-len.len c.loop-len.invariant.small (omega arith);
     }
 
 pub returns-in_err-rest-clause-number : goal.returns-in_err-rest-clause-number
 returns-in_err-rest-clause-number c =
     let byte = get_or c.args.text.now c.loop-len.len 0 in
     let longer = c.in_err-rest.ensures.longer in
-    ap (option_map (λ found. (found.0, words_left found.1))) c.from_residual-in_err-rest.ensures
+    ap (option_map (λ found. (found.0, words_left found.1))) c.from_residual.ensures
     ∙ elim c.loop-len-test.branch [
-      | then-loop-len-test+else-is_ascii_digit w ↦
+      | then-loop-len-test+then-len-text+else-is_ascii_digit w ↦
           sym (other_at c.args.text.now c.loop-len.len longer.0 c.loop-len.invariant.digits
           (other_tells byte (sym w.is_ascii_digit.ensures.value ∙ w.if-is_ascii_digit.false)) longer.1)
+      | then-loop-len-test+else-len-text w ↦ absurd (omega arith)
       | else-loop-len-test w ↦ absurd (omega arith)
     ]
 
@@ -67,10 +63,12 @@ returns-then-len-gt1-clause-number c =
 pub returns-clause-number : goal.returns-clause-number
 returns-clause-number c =
     let some : 0 < c.loop-len.len = omega arith in
+    let most = ten_most c.loop-len.len c.loop-len.invariant.short in
+    let small : c.loop-len.n < 2 ^ 64 = omega (arith, c.loop-len.invariant.small) in
     let lead : get_or c.args.text.now 0 0 ≡ 48 → c.loop-len.len ≡ 1 = λ zero.
     elim c.else-text-eq48.either [ inl short ↦ omega arith | inr other ↦ absurd (omega arith) ] in
     sym (number_at c.args.text.now c.loop-len.len c.loop-len.n (words_left c.in_ok-rest.rest) c.loop-len.invariant.fits c.loop-len.invariant.digits
-    c.in_ok-rest.ensures.words some lead c.loop-len.invariant.value c.loop-len.invariant.small)
+    c.in_ok-rest.ensures.words some lead c.loop-len.invariant.value small)
 
 pub returns-clause-lines : goal.returns-clause-lines
 returns-clause-lines c =
