@@ -1,7 +1,10 @@
 //! A text that is read word by word, each byte once.
 
-ghost use Rattle.std.specs.Prelude.{◌≡◌, ◌≤◌, ◌<◌, ◌∷◌, ℕ, [], length, drop, true, false, slice_index, IfSome, IfNone};
+ghost use Rattle.std.specs.Prelude.{◌≡◌, ◌≤◌, ◌<◌, ◌∷◌, ℕ, [], length, take, drop, true, false, slice_index, IfSome, IfNone};
+ghost use Rattle.std.specs.Char.{is_ascii_digit};
+ghost use Rattle.std.specs.Int.{IsInRange};
 ghost use Rattle.std.specs.Option.{option_map};
+ghost use Rattle.std.specs.Str.Parse.{digits_value};
 ghost use Rattle.far_trace.specs.HexWord.{hex_bytes};
 ghost use Rattle.far_trace.specs.Grammar.{next_number, next_bytes};
 ghost use Rattle.far_trace.specs.Cursor.{is_end, words_in, words_left, lines_behind, lines_after, lines_left};
@@ -58,6 +61,26 @@ pub fn word_first(text: &[u8]) -> (&[u8], Rest<'_>)
     (&text[..len], rest_at(text, len).unwrap())
 }
 
+// The number that the digits in front of a text print, all of them, and what is left after it.
+#[inline(always)]
+fn printed_number(text: &[u8], len: usize, n: u64) -> Option<(u64, Rest<'_>)>
+    requires fits { len ≤ length text.now }
+    requires digits { (k : ℕ) → k < len → IsInRange 48 57 (slice_index text.now k) }
+    requires value { n ≡ digits_value 10 (take len text.now) }
+    requires stops { len < length text.now → is_ascii_digit (slice_index text.now len) ≡ false }
+    ensures number { option_map (λ found. (found.0, words_left found.1)) result ≡ next_number (words_in text.now) }
+    ensures lines { IfSome result (λ found. lines_behind text.now ≡ lines_after found.1) }
+{
+    let rest = rest_at(text, len)?;
+    if len == 0 {
+        return None;
+    }
+    if text[0] == b'0' && len > 1 {
+        return None;
+    }
+    Some((n, rest))
+}
+
 /// The number that the first word of a text prints, and what is left after it.
 #[inline(always)]
 pub fn number_first(text: &[u8]) -> Option<(u64, Rest<'_>)>
@@ -73,14 +96,7 @@ pub fn number_first(text: &[u8]) -> Option<(u64, Rest<'_>)>
     if len == 19 {
         return long_number_first(text);
     }
-    let rest = rest_at(text, len)?;
-    if len == 0 {
-        return None;
-    }
-    if text[0] == b'0' && len > 1 {
-        return None;
-    }
-    Some((n, rest))
+    printed_number(text, len, n)
 }
 
 // The same of any number of digits.
@@ -95,14 +111,7 @@ fn long_number_first(text: &[u8]) -> Option<(u64, Rest<'_>)>
         n = n.checked_mul(10)?.checked_add(u64::from(text[len] - b'0'))?;
         len += 1;
     }
-    let rest = rest_at(text, len)?;
-    if len == 0 {
-        return None;
-    }
-    if text[0] == b'0' && len > 1 {
-        return None;
-    }
-    Some((n, rest))
+    printed_number(text, len, n)
 }
 
 /// The number that the next word prints, and what is left after it.

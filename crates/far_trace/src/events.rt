@@ -1,46 +1,36 @@
 //! The events of a command, made on a core.
 
-ghost use Rattle.std.specs.Prelude.{◌≡◌, ◌+◌, ◌*◌, ◌<◌, ◌≤◌, ◌-◌, ◌/◌, ℕ, true, Some};
+ghost use Rattle.std.specs.Prelude.{◌≡◌, ◌≢◌, ◌+◌, ◌*◌, ◌<◌, ◌≤◌, ◌-◌, ◌/◌, ℕ, true, Some};
 ghost use Rattle.far_word.specs.declared.sizes.TheConstants.{CELLS, LOG_WORDS, LONGEST, MOST_LOGS, POINTERS};
 ghost use Rattle.far_core.specs.state.CoreState.{core_state};
 ghost use Rattle.far_core.specs.events.Step.{is_opened};
 ghost use Rattle.far_core.specs.declared.event.Event.{Event};
+ghost use Rattle.far_core.specs.declared.event.Kind.{Kind};
 ghost use Rattle.far_trace.specs.EventRows.{after_events};
-ghost use Rattle.far_trace.specs.Events.{new_events, zero_puts, open_events, view_events};
+ghost use Rattle.far_trace.specs.Events.{new_events, open_events, view_events};
 
 use far_core::{Core, Event};
 use far_word::{HeadWord, Marks, Place, PtrWord, words_for};
-
-// Zeros after a header.
-fn put_zeros(core: &mut Core, place: Place, count: u16)
-    requires { place.at + 1 + count ≤ LOG_WORDS }
-    ensures { core_state core.new ≡ after_events (core_state core.old) (zero_puts place count) }
-{
-    for i in 0..count {
-        core.step(Event::Put {
-            log: place.log,
-            at: place.at + 1 + i,
-            word: 0,
-        });
-    }
-}
 
 /// A new object of `len` zeros at a place: its header and zeros are put, its cell is named, and its owner adopts it.
 pub fn make_new(core: &mut Core, owner: u8, pointer: u16, len: u16, ds: u8, place: Place)
     requires some { 0 < len }
     requires most { len ≤ LONGEST }
     requires cell { pointer < POINTERS }
-    requires log { place.log < MOST_LOGS }
+    requires few { place.log < MOST_LOGS }
+    requires log { place.log < (core_state core.old).logs }
+    requires unsealed { (core_state core.old).kind place.log ≢ Kind.Sealed }
+    requires past { (core_state core.old).tail place.log ≤ place.at }
     requires room { place.at + 1 + (len + 7) / 8 ≤ LOG_WORDS }
     ensures { core_state core.new ≡ after_events (core_state core.old) (new_events owner len ds (Some pointer) (Some place)) }
 {
     let header = HeadWord { pointer, len, ds };
-    core.step(Event::Put {
+    core.put(place.log, place.at, header.pack());
+    let data = Place {
         log: place.log,
-        at: place.at,
-        word: header.pack(),
-    });
-    put_zeros(core, place, words_for(len));
+        at: place.at + 1,
+    };
+    core.put_zeros(data, words_for(len));
     let marks = Marks {
         hot: false,
         evac: false,

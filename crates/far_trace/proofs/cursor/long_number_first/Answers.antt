@@ -43,36 +43,9 @@ loop-len-preserved c =
       small = rw sum.1 sum.0;
     }
 
-pub returns-in_err-rest-clause-number : goal.returns-in_err-rest-clause-number
-returns-in_err-rest-clause-number c =
-    let byte = get_or c.args.text.now c.loop-len.len 0 in
-    let longer = c.in_err-rest.ensures.longer in
-    ap (option_map (λ found. (found.0, words_left found.1))) c.from_residual-in_err-rest.ensures
-    ∙ elim c.loop-len-test.branch [
-      | then-loop-len-test+else-is_ascii_digit w ↦
-          sym (other_at c.args.text.now c.loop-len.len longer.0 c.loop-len.invariant.digits
-          (other_tells byte (sym w.is_ascii_digit.ensures.value ∙ w.if-is_ascii_digit.false)) longer.1)
+pub printed_number-requires-clause-stops : goal.printed_number-requires-clause-stops
+printed_number-requires-clause-stops c less =
+    elim c.loop-len-test.branch [
+      | then-loop-len-test+else-is_ascii_digit w ↦ sym w.is_ascii_digit.ensures.value ∙ w.if-is_ascii_digit.false
       | else-loop-len-test w ↦ absurd (omega arith)
     ]
-
-pub returns-then-len-eq0-clause-number : goal.returns-then-len-eq0-clause-number
-returns-then-len-eq0-clause-number c =
-    sym (none_at c.args.text.now c.loop-len.len (words_left c.in_ok-rest.rest) c.in_ok-rest.ensures.words c.if-len-eq0.true)
-
-pub returns-then-len-gt1-clause-number : goal.returns-then-len-gt1-clause-number
-returns-then-len-gt1-clause-number c =
-    sym (zero_at c.args.text.now c.loop-len.len (words_left c.in_ok-rest.rest) c.loop-len.invariant.fits c.loop-len.invariant.digits
-    c.in_ok-rest.ensures.words c.if-text-eq48.true c.if-len-gt1.true)
-
-pub returns-clause-number : goal.returns-clause-number
-returns-clause-number c =
-    let some : 0 < c.loop-len.len = omega arith in
-    let lead : get_or c.args.text.now 0 0 ≡ 48 → c.loop-len.len ≡ 1 = λ zero.
-    elim c.else-text-eq48.either [ inl short ↦ omega arith | inr other ↦ absurd (omega arith) ] in
-    sym (number_at c.args.text.now c.loop-len.len c.loop-len.n (words_left c.in_ok-rest.rest) c.loop-len.invariant.fits c.loop-len.invariant.digits
-    c.in_ok-rest.ensures.words some lead c.loop-len.invariant.value c.loop-len.invariant.small)
-
-pub returns-clause-lines : goal.returns-clause-lines
-returns-clause-lines c =
-    (word_at c.args.text.now c.loop-len.len c.loop-len.invariant.fits (no_ends c.args.text.now c.loop-len.len c.loop-len.invariant.digits)).1
-    ∙ c.in_ok-rest.ensures.lines
