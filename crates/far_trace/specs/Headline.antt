@@ -1,5 +1,5 @@
 -- What a trace program's outputs say: the laws over whole texts and whole lists of commands.
-use Rattle.std.specs.Prelude.{◌≡◌, ◌≢◌, ◌↔◌, ℕ, ◌+◌, ◌*◌, ◌/◌, ◌^◌, ◌<◌, ◌≤◌, true, is_some, codes, decimal, Some, None, Ok, List, [], ◌∷◌, ◌++◌, length, replicate, slice_index, map, All, Contains}
+use Rattle.std.specs.Prelude.{◌≡◌, ◌≢◌, ◌↔◌, ℕ, ◌+◌, ◌*◌, ◌/◌, ◌^◌, ◌<◌, ◌≤◌, true, is_some, decimal, Some, None, Ok, List, [], ◌∷◌, ◌++◌, length, replicate, slice_index, map, All, Contains}
 use Rattle.std.specs.List.{flat_map, range_with_len}
 use Rattle.hex.specs.Hex.{IsBytes}
 use Rattle.far_word.specs.declared.pointer.Place.{Place}
