@@ -120,3 +120,9 @@ module _ (s : State) (law : Law s) (found : ℕ → ℕ) (counted : ℕ → Bool
 
     pub same_counts : CountsOnQuiet t.round t.clear found counted
     same_counts = subst (λ (u : State). CountsOnQuiet u.round u.clear found counted) (sym turn.rest) counts
+
+    pub same_mutators : t.mutators ≡ s.mutators
+    same_mutators = ap (λ (u : State). u.mutators) turn.rest
+
+    pub same_logs : t.logs ≡ s.logs
+    same_logs = ap (λ (u : State). u.logs) turn.rest

@@ -1,5 +1,5 @@
 -- What owners may do to a state while the book works.
-use Rattle.std.specs.Prelude.{◌≡◌, ◌≢◌, ◌+◌, ◌<◌, ℕ, Bool, true, false, Some}
+use Rattle.std.specs.Prelude.{◌≡◌, ◌≢◌, ◌+◌, ◌<◌, ℕ, Bool, true, false, Option, Some, None, if◌then◌else◌}
 use Rattle.far_word.specs.declared.mark.Marks.{Marks}
 use Rattle.far_word.specs.declared.pointer.Place.{Place}
 use Rattle.far_word.specs.declared.pointer.PtrWord.TheVariants.{Near}
@@ -7,6 +7,7 @@ use Rattle.far_word.specs.Pointer.{read_of}
 use Rattle.far_word.specs.Sizes.{words_for}
 use Rattle.far_core.specs.declared.event.Event.{Event}
 use Rattle.far_core.specs.declared.event.Event.TheVariants.{ReadEpoch, Open, Pin, Load, Store, Close, Adopt, Put, Name, See, Mark, Ask, Get}
+use Rattle.far_core.specs.events.Step.{step_of}
 use Rattle.far_core.specs.state.State.{State, addr}
 use Rattle.far_book.specs.Finds.{Finds}
 use Rattle.far_book.specs.Quiet.{is_quiet}
@@ -26,6 +27,12 @@ is_owners (Name p old new) = false
 is_owners (See p) = false
 is_owners (Mark p) = false
 is_owners (Get l at free) = false
+
+-- the state once owners had the turn for the next event of a list: an owner's event is made, if it is legal, any other
+-- passed over
+abbrev pub after_turn : State → Option Event → State
+after_turn s None = s
+after_turn s (Some e) = if is_owners e then (step_of s e).0 else s
 
 -- the word at an address is a data word of a near object that isn't quiet
 pub record IsLoudAt (s : State) (a : ℕ) : Type 0 where

@@ -47,9 +47,9 @@ impl Near for Beset {
                 forget(&mut self.counted);
                 Ok(())
             }
-            Err(cell) => {
-                find(&mut self.found, pointer, cell);
-                Err(cell)
+            Err(found) => {
+                find(&mut self.found, pointer, found);
+                Err(found)
             }
         }
     }

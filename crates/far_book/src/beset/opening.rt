@@ -17,7 +17,8 @@ impl Beset {
     /// headers. Refused [`Refused::Memory`] alone.
     pub fn new(alloc: Global, core: Core, events: Vec<Event>) -> Result<Beset, Refused>
         ensures view { IfOk result (λ hand. beset_view hand ≡ masked (core_state core) (core_state core).cell (λ _. false)) }
-        ensures core { IfOk result (λ hand. hand.core ≡ core) }
+        ensures core { IfOk result (λ hand. core_state hand.core ≡ core_state core) }
+        ensures events { IfOk result (λ hand. (hand.events ≡ events) × (hand.made ≡ 0)) }
         ensures refused { IfErr result (λ why. why ≡ Refused.Memory) }
     {
         let words = LOG_WORDS as usize * core.logs() as usize;

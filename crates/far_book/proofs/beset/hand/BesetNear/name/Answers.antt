@@ -53,7 +53,7 @@ invariant_of-self-in-Err c =
     let p = c.args.pointer in
     let old = c.args.old in
     let new = c.args.new in
-    let w = c.in-Err.cell in
+    let w = c.in-Err.found in
     let same : core_state c.name.new.self ≡ s = c.name.ensures.state ∙ lost_state s p old new (lost s p old new w c.in-Err.ensures.found) in
     let is : s.cell p ≡ w = lost_word s p old new w c.in-Err.ensures.found in
     let finds = subst (λ (f : ℕ → ℕ). AllFind f s.cell) (sym c.find-in-Err.ensures.words) (finds_put found s.cell p w hand.finds is) in
@@ -93,4 +93,4 @@ returns-in-Err-clause-found c =
     let found = word_at hand.found.items in
     let p = c.args.pointer in
     let seen : c.args.old ≡ found p = c.requires.seen ∙ ap (λ (u : State). u.cell p) (sym c.turn.ensures.view) in
-    subst (λ v. Finds v c.in-Err.cell) (sym seen) (finds_seen found s.cell p c.in-Err.cell hand.finds (lost_word s p c.args.old c.args.new c.in-Err.cell c.in-Err.ensures.found))
+    subst (λ v. Finds v c.in-Err.found) (sym seen) (finds_seen found s.cell p c.in-Err.found hand.finds (lost_word s p c.args.old c.args.new c.in-Err.found c.in-Err.ensures.found))

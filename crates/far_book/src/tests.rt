@@ -1,0 +1,3 @@
+//! Whether the clauses say what was meant, by worked values.
+
+mod hands;
