@@ -12,4 +12,5 @@ pub mod Readings
 pub mod Retires
 pub mod SpanLists
 pub mod Starts
+pub mod Uses
 pub mod Written

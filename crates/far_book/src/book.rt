@@ -17,6 +17,7 @@ ghost use Rattle.far_core.specs.events.Step.{step_of};
 ghost use Rattle.far_core.specs.state.CoreState.{core_state};
 ghost use Rattle.far_core.specs.state.Law.{Law};
 ghost use Rattle.far_core.specs.state.Room.{room};
+ghost use Rattle.far_core.specs.state.Shape.{is_shape};
 ghost use Rattle.far_core.specs.state.Spans.{spans_of};
 ghost use Rattle.far_core.specs.state.State.{State, put};
 ghost use Rattle.far_core.specs.world.Happens.{Happens};
@@ -28,6 +29,7 @@ ghost use Rattle.far_book.specs.book.Home.{home_of};
 ghost use Rattle.far_book.specs.book.Ledger.{IsLowestFree};
 ghost use Rattle.far_book.specs.book.Own.{own_part, IsAtStart};
 ghost use Rattle.far_book.specs.Owners.{is_owners};
+ghost use Rattle.far_book.specs.ShapeOf.{shape_of};
 ghost use Rattle.far_book.specs.book.Reading.{HeadersKnown, IsReadAt};
 ghost use Rattle.far_book.specs.book.Rows.{row_of};
 
@@ -36,7 +38,7 @@ use crate::ledger::Ledger;
 use crate::near::Near;
 use crate::owners::is_owners;
 use crate::plain::Plain;
-use far_core::{Event, Kind, Reply};
+use far_core::{Core, Event, Kind, Reply, Shape};
 use far_log::{LogRow, Span, WalkFault, walk};
 use far_word::{HeadWord, LOG_WORDS, Marks, Place, PtrWord, Refused, size_of, words_for};
 use std::alloc::Global;
@@ -83,6 +85,14 @@ impl<N: Near + Drop> Book<N> {
             alloc,
             ledger,
         })
+    }
+
+    /// How large the heap is, and its epoch now.
+    pub fn shape(&self) -> Shape
+        ensures is { result ≡ shape_of (N.view self.now.near) }
+        ensures range { is_shape result ≡ true }
+    {
+        self.near.shape()
     }
 
     /// The lowest free cell of a mutator; `None` where it uses all of them.
@@ -193,6 +203,13 @@ impl<N: Near + Drop> Book<N> {
 }
 
 impl Book<Plain> {
+    /// The core, to be read.
+    pub fn core(&self) -> &Core
+        ensures { result.now ≡ self.now.near.core }
+    {
+        &self.near.core
+    }
+
     /// Makes an owner's event. Any other is answered [`Reply::Refused`], and nothing has changed.
     pub fn owner(&mut self, event: Event) -> Reply
         ensures made { is_owners event ≡ true → (core_state self.new.near.core, result) ≡ step_of (core_state self.old.near.core) event }

@@ -1,0 +1,209 @@
+//! The book by worked values: logs that fill up, objects that are dropped, cells that are used again.
+
+ghost use Rattle.std.specs.Prelude.{◌≡◌, ◌<◌, ◌≤◌};
+ghost use Rattle.far_word.specs.declared.sizes.TheConstants.{LONGEST};
+
+use crate::{Beset, Book, Home, Near, Plain};
+use far_core::{Core, Event, Kind, Reply, Shape};
+use far_log::{LogRow, Span};
+use far_word::{Mark, Marks, Place, Refused};
+use std::test::Fail;
+
+const SMALL: Shape = Shape {
+    logs: 4,
+    mutators: 1,
+    epoch: 0,
+};
+
+const NO_MARKS: Marks = Marks {
+    hot: false,
+    evac: false,
+    moved: false,
+    dropped: false,
+};
+
+#[tactic(auto, using(crate::proofs::region::Uses::at_start))]
+fn opened(rt: &HostRuntime, shape: Shape) -> Result<Book<Plain>, Refused> {
+    let core = Core::new(rt.alloc(), shape, true)?;
+    Book::new(rt.alloc(), Plain { core })
+}
+
+// A new object of the first mutator, in its lowest free cell.
+fn place_next<N: Near + Drop>(book: &mut Book<N>, len: u16, ds: u8) -> Result<(u16, Place), Refused>
+    requires some { 0 < len }
+    requires most { len ≤ LONGEST }
+{
+    book.keeps_law();
+    let Some(pointer) = book.free_cell(0) else {
+        return Err(Refused::NoPointer);
+    };
+    let place = book.place(pointer, len, ds)?;
+    Ok((pointer, place))
+}
+
+// What a log is and has; `None` for a number that is no log's.
+fn shown<N: Near + Drop>(book: &Book<N>, log: u8) -> Option<(Kind, LogRow)> {
+    if (log as u64) < book.shape().logs {
+        Some(book.log(log))
+    } else {
+        None
+    }
+}
+
+fn line(kind: Kind, log: u8, live: u16, dead: u16, unused: u16) -> Option<(Kind, LogRow)> {
+    Some((
+        kind,
+        LogRow {
+            log,
+            live,
+            dead,
+            unused,
+        },
+    ))
+}
+
+// Retires a near object whose cell shows DROP, and says whether it did.
+#[tactic(auto, using(crate::proofs::region::Uses::dropped_near))]
+fn retire_dropped<N: Near + Drop>(book: &mut Book<N>, pointer: u16) -> bool {
+    if pointer as u64 >= 128 * book.shape().mutators {
+        return false;
+    }
+    let Some(Home::Near { marks, .. }) = book.locate(pointer) else {
+        return false;
+    };
+    if !marks.dropped {
+        return false;
+    }
+    book.retire(pointer);
+    true
+}
+
+// Its owner takes a pointer over and drops it.
+fn drop_next(book: &mut Book<Plain>, pointer: u16) {
+    let owner = 0;
+    book.owner(Event::Adopt { owner, pointer });
+    let mark = Mark::Dropped;
+    book.owner(Event::Ask {
+        owner,
+        pointer,
+        mark,
+    });
+}
+
+#[test]
+fn the_largest_object_fills_a_log(rt: HostRuntime) -> Result<(), Fail> {
+    let mut book = opened(&rt, SMALL)?;
+    assert_eq!(rt; shown(&book, 0), line(Kind::Open, 0, 0, 0, 1024));
+    let first = Place { log: 0, at: 0 };
+    assert_eq!(rt; place_next(&mut book, 1016, 1), Ok((0, first)));
+    assert_eq!(rt; shown(&book, 0), line(Kind::Open, 0, 1024, 0, 0));
+    let next = Place { log: 1, at: 0 };
+    assert_eq!(rt; place_next(&mut book, 1, 1), Ok((1, next)));
+    assert_eq!(rt; shown(&book, 0), line(Kind::Sealed, 0, 1024, 0, 0));
+    assert_eq!(rt; shown(&book, 1), line(Kind::Open, 1, 16, 0, 1008));
+    assert_eq!(rt; shown(&book, 3), line(Kind::Free, 3, 0, 0, 1024));
+    assert_eq!(rt; shown(&book, 4), None);
+    let sealed = LogRow {
+        log: 0,
+        live: 1024,
+        dead: 0,
+        unused: 0,
+    };
+    assert_eq!(rt; book.rows()?.as_slice(), [sealed].as_slice());
+    Ok(())
+}
+
+#[test]
+fn an_odd_length_takes_whole_words(rt: HostRuntime) -> Result<(), Fail> {
+    let mut book = opened(&rt, SMALL)?;
+    let (pointer, _) = place_next(&mut book, 9, 2)?;
+    assert_eq!(rt; shown(&book, 0), line(Kind::Open, 0, 24, 0, 1000));
+    let owner = 0;
+    let index = 1;
+    book.owner(Event::Adopt { owner, pointer });
+    assert_eq!(rt; book.owner(Event::ReadEpoch { owner }), Reply::Epoch(0));
+    assert_eq!(rt; book.owner(Event::Open { owner }), Reply::Done);
+    book.owner(Event::Pin { owner, pointer });
+    let word = 0xff;
+    let store = Event::Store {
+        owner,
+        pointer,
+        index,
+        word,
+    };
+    assert_eq!(rt; book.owner(store), Reply::Done);
+    let load = Event::Load {
+        owner,
+        pointer,
+        index,
+    };
+    assert_eq!(rt; book.owner(load), Reply::Word(0xff));
+    assert_eq!(rt; book.owner(Event::See { pointer }), Reply::Refused);
+    Ok(())
+}
+
+#[test]
+fn the_last_free_log_is_kept(rt: HostRuntime) -> Result<(), Fail> {
+    let three = Shape { logs: 3, ..SMALL };
+    let mut book = opened(&rt, three)?;
+    place_next(&mut book, 1016, 1)?;
+    place_next(&mut book, 1016, 1)?;
+    assert_eq!(rt; place_next(&mut book, 8, 1), Err(Refused::NoRoom));
+    assert_eq!(rt; shown(&book, 1), line(Kind::Open, 1, 1024, 0, 0));
+    assert_eq!(rt; shown(&book, 2), line(Kind::Free, 2, 0, 0, 1024));
+    Ok(())
+}
+
+#[test]
+fn a_dropped_object_is_dead(rt: HostRuntime) -> Result<(), Fail> {
+    let mut book = opened(&rt, SMALL)?;
+    for _ in 0..3u8 {
+        place_next(&mut book, 328, 7)?;
+    }
+    place_next(&mut book, 8, 1)?;
+    assert_eq!(rt; retire_dropped(&mut book, 1), false);
+    drop_next(&mut book, 1);
+    assert_eq!(rt; shown(&book, 0), line(Kind::Open, 0, 1024, 0, 0));
+    assert_eq!(rt; retire_dropped(&mut book, 1), true);
+    assert_eq!(rt; shown(&book, 0), line(Kind::Open, 0, 688, 336, 0));
+    assert_eq!(rt; book.core().cell(1), 0);
+    if book.shape().logs > 0 {
+        let spans = book.spans(0)?;
+        let span = |at: u16, p: u16| Span {
+            at,
+            p,
+            len: 328,
+            ds: 7,
+        };
+        let last = Span {
+            at: 126,
+            p: 3,
+            len: 8,
+            ds: 1,
+        };
+        assert_eq!(rt;
+            spans.as_slice(),
+            [span(0, 0), span(42, 1), span(84, 2), last].as_slice()
+        );
+    }
+    Ok(())
+}
+
+#[test]
+fn the_lowest_free_cell_is_taken(rt: HostRuntime) -> Result<(), Fail> {
+    let mut book = opened(&rt, SMALL)?;
+    for _ in 0..128u8 {
+        place_next(&mut book, 1, 1)?;
+    }
+    assert_eq!(rt; place_next(&mut book, 1, 1), Err(Refused::NoPointer));
+    for pointer in [100, 64] {
+        drop_next(&mut book, pointer);
+        assert!(rt; retire_dropped(&mut book, pointer));
+    }
+    let place = Place { log: 2, at: 0 };
+    assert_eq!(rt; place_next(&mut book, 1, 1), Ok((64, place)));
+    let after = Place { log: 2, at: 2 };
+    assert_eq!(rt; place_next(&mut book, 1, 1), Ok((100, after)));
+    assert_eq!(rt; shown(&book, 1), line(Kind::Sealed, 1, 992, 32, 0));
+    Ok(())
+}
