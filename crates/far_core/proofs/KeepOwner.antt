@@ -1,5 +1,5 @@
 -- Each event of an owner keeps the law.
-use Rattle.std.proofs.Common.{Option, None, Some, ap, bit_or, refl, subst, sym, true, ℕ, ◌^◌, ◌∙◌, ◌≡◌, ◌≢◌}
+use Rattle.std.proofs.Common.{Option, Some, ap, bit_or, refl, subst, sym, true, ℕ, ◌^◌, ◌∙◌, ◌≡◌, ◌≢◌}
 use Rattle.std.proofs.lemmas.Bool.{false≢true}
 use Rattle.far_core.proofs.Cells.{Remarked, Remarked-map_mark, unused, map_mark, read_hot, held_place-mark, in_use-mark}
 use Rattle.far_core.proofs.Frames.{law_with_cell_marks}
@@ -10,9 +10,7 @@ use Rattle.far_word.specs.Mark.{position}
 use Rattle.far_word.specs.Pointer.{read_of}
 use Rattle.far_word.specs.Scope.{scope_of}
 use Rattle.far_word.specs.declared.mark.Mark.TheVariants.{Hot}
-use Rattle.far_word.specs.declared.mark.Marks.{Marks}
 use Rattle.far_word.specs.declared.pointer.PtrWord.{PtrWord}
-use Rattle.far_word.specs.declared.pointer.PtrWord.TheVariants.{Free, Near, Far}
 use Rattle.far_word.specs.declared.scope.ScopeWord.TheVariants as scoped
 
 -- ---- scopes

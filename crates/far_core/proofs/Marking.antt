@@ -5,13 +5,12 @@ use Rattle.std.proofs.lemmas.Bool.{false≢true}
 use mathlib.Core.Path.{fun_ext}
 use Rattle.far_word.specs.declared.mark.Mark.{Mark}
 use Rattle.far_word.specs.declared.mark.Mark.TheVariants.{Hot, Evac, Moved, Dropped}
-use Rattle.far_word.specs.declared.mark.Marks.{Marks}
 use Rattle.far_word.specs.declared.pointer.PtrWord.{PtrWord}
 use Rattle.far_word.specs.declared.pointer.PtrWord.TheVariants.{Free, Near, Far}
-use Rattle.far_word.specs.Mark.{position, marks_with}
+use Rattle.far_word.specs.Mark.{position}
 use Rattle.far_word.specs.Pointer.{read_of, takes_mark}
 use Rattle.far_word.proofs.PointerLaws.{with_mark_read, with_mark_fits}
-use Rattle.far_core.specs.state.Law.{Law, in_use}
+use Rattle.far_core.specs.state.Law.{in_use}
 use Rattle.far_core.specs.state.State.{State, put}
 use Rattle.far_core.specs.world.World.{Object}
 use Rattle.far_core.specs.world.WorldOf.{world_of, object_of, is_marked}

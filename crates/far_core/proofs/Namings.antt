@@ -1,5 +1,5 @@
 -- The form of an old and a new word is the one that they say.
-use Rattle.std.proofs.Common.{◌≡◌, ℕ, ◌<◌, ◌^◌, Bool, true, false, cond, arith, refl, sym, ap, subst, ◌∙◌, Option, Some, None, IfSome}
+use Rattle.std.proofs.Common.{◌≡◌, Bool, true, false, cond, arith, refl, ap, subst, Option, Some, None}
 use Rattle.std.proofs.lemmas.Bool.{false≢true}
 use Rattle.std.proofs.lemmas.Bool.Decides.{nat_tests}
 use Rattle.far_word.specs.declared.mark.Marks.{Marks}

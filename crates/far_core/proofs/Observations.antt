@@ -2,7 +2,6 @@
 use Rattle.std.proofs.Common.{◌≡◌, ◌≢◌, ℕ, ◌+◌, ◌-◌, ◌*◌, ◌/◌, ◌%◌, ◌^◌, ◌<◌, ◌≤◌, true, arith, zero, suc, sym, refl, ap, subst, ◌∙◌, Option, Some, None, List, [], ◌∷◌, inl, inr}
 use Rattle.std.specs.Prelude.{nat_lt, ◌⊎◌, All, Contains}
 use Rattle.std.proofs.lemmas.Bool.{cond_both, cases_lt, ltb-true, ltb-false, eq-eqb, false≢true}
-use Rattle.std.proofs.lemmas.Bool.Decides.{nat_tests}
 use Rattle.far_word.specs.declared.header.HeadWord.{HeadWord}
 use Rattle.far_word.specs.declared.mark.Marks.{Marks}
 use Rattle.far_word.specs.declared.pointer.Place.{Place}
@@ -22,7 +21,7 @@ use Rattle.far_log.proofs.SpanLaws.{has_one_span, has_no_span, spans_take}
 use Rattle.far_core.specs.declared.event.Kind.TheVariants as kinds
 use Rattle.far_core.specs.state.Law.{Law, Padded, in_use}
 use Rattle.far_core.specs.laws.Observed.{live_bytes, dead_bytes, unused_bytes, span_for, OneLive, LiesNear, LiesFar, HasOnePlace, NamesOnce, LogsStand, NearHasOneLive, PlacedExactly}
-use Rattle.far_core.specs.state.Spans.{IsOfHeap, word_in, spans_of, is_live, names_place}
+use Rattle.far_core.specs.state.Spans.{IsOfHeap, word_in, spans_of, is_live}
 use Rattle.far_core.specs.state.State.{State, addr}
 use Rattle.far_core.proofs.Bounds.{span_len}
 pub use Rattle.far_core.proofs.Cells.{live_names}

@@ -1,5 +1,5 @@
 -- Words of which some are those of a row.
-use Rattle.std.proofs.Common.{◌≢◌, ◌≡◌, ℕ, zero, suc, ◌+◌, ◌-◌, ◌<◌, ◌≤◌, ◌⊎◌, true, false, cond, ◌&&◌, nat_lt, nat_le, refl, sym, ap, ◌∙◌, arith, inl, inr, List, ◌++◌, length, take, drop, get_or}
+use Rattle.std.proofs.Common.{◌≢◌, ◌≡◌, ℕ, suc, ◌+◌, ◌-◌, ◌<◌, ◌≤◌, ◌⊎◌, true, false, cond, ◌&&◌, nat_lt, nat_le, refl, sym, ap, ◌∙◌, arith, inl, inr, List, ◌++◌, length, take, drop, get_or}
 use Rattle.std.specs.Prelude.{replicate}
 use Rattle.std.proofs.lemmas.List.{get_or-append_right, get_or_append_left, get_or-take, get_or-drop, length-drop, length-replicate, length-take-le, length-append, with_items_is}
 use Rattle.std.specs.Vec.{with_items}

@@ -1,5 +1,5 @@
 -- What every step of a world keeps, and what the objects of a core's world are.
-use Rattle.std.proofs.Common.{◌≡◌, ◌≢◌, ◌<◌, ◌*◌, ℕ, ◌+◌, ◌/◌, Bool, true, false, cond, nat_eq, arith, sym, refl, ap, subst, ◌∙◌, Option, Some, None, List, [], ◌∷◌, length, zero, suc}
+use Rattle.std.proofs.Common.{◌≡◌, ◌≢◌, ◌<◌, ℕ, ◌+◌, ◌/◌, Bool, true, false, cond, nat_eq, arith, sym, refl, ap, subst, ◌∙◌, Option, Some, None, List, [], ◌∷◌, length, zero, suc}
 use Rattle.std.specs.Prelude.{slice_index}
 use Rattle.std.proofs.lemmas.Bool.{cond_both, eqb-true, false≢true}
 use Rattle.far_word.specs.declared.pointer.PtrWord.{PtrWord}
@@ -10,8 +10,6 @@ use Rattle.far_word.specs.Pointer.{read_of}
 use Rattle.far_word.proofs.ByteLaws.{length-bytes_of, bytes_of-small, length-with_word}
 use Rattle.far_word.proofs.PointerLaws.{read_says}
 use Rattle.far_core.specs.declared.event.Event.{Event}
-use Rattle.far_core.specs.declared.event.Kind.{Kind}
-use Rattle.far_core.specs.declared.event.Kind.TheVariants as kinds
 use Rattle.far_core.specs.world.Changes.{Change, Step, StepOf}
 use Rattle.far_core.specs.world.Changes as change
 use Rattle.far_core.specs.events.Step.{change_of}

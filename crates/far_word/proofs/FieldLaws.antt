@@ -1,5 +1,5 @@
 -- What one field of a pointer's word says, without the others.
-use Rattle.std.proofs.Common.{◌≡◌, ℕ, ◌<◌, ◌^◌, Bool, true, false, cond, sym, ap, refl, arith, Option, Some, None, is_some}
+use Rattle.std.proofs.Common.{◌≡◌, ℕ, ◌<◌, ◌^◌, Bool, true, false, cond, sym, refl, arith, Option, Some, None, is_some}
 use Rattle.std.proofs.lemmas.Bool.{true≢false}
 use Rattle.far_word.specs.Mark.{field}
 use Rattle.far_word.specs.Pointer.{IsPtr, word_of, read_of, pointer_len, view_place}

@@ -3,18 +3,15 @@ use Rattle.std.proofs.Common.{inl, inr, ◌≡◌, ◌≢◌, ◌*◌, ◌<◌, 
 use Rattle.std.specs.Prelude.{◌||◌, ◌&&◌, not, is_some}
 use Rattle.std.proofs.lemmas.Bool.{false≢true}
 use Rattle.std.proofs.lemmas.Bool.Decides.{nat_tests}
-use mathlib.Core.Path.{fun_ext}
 use Rattle.far_word.specs.declared.mark.Mark.TheVariants.{Evac}
 use Rattle.far_word.specs.declared.pointer.PtrWord.{PtrWord}
 use Rattle.far_word.specs.declared.pointer.PtrWord.TheVariants.{Free, Near, Far}
 use Rattle.far_word.specs.declared.sizes.TheConstants.{CELLS}
-use Rattle.far_word.specs.Mark.{position, marks_with}
+use Rattle.far_word.specs.Mark.{position}
 use Rattle.far_word.specs.Pointer.{read_of}
 use Rattle.far_word.proofs.PointerLaws.{with_mark_read, with_mark_fits}
 use Rattle.far_core.specs.declared.event.Event.TheVariants.{Mark}
-use Rattle.far_core.specs.declared.event.Kind.{Kind}
-use Rattle.far_core.specs.declared.event.Kind.TheVariants as kinds
-use Rattle.far_core.specs.events.Mark.{may_mark, is_sealed, IsSealedNear}
+use Rattle.far_core.specs.events.Mark.{may_mark, IsSealedNear}
 use Rattle.far_core.specs.state.Law.{Law, held_place, in_use}
 use Rattle.far_core.specs.state.State.{State, put}
 use Rattle.far_core.specs.events.Step.{change_of}
@@ -27,9 +24,8 @@ use Rattle.far_core.proofs.Frames.{law_with_cell_marks}
 use Rattle.far_core.proofs.Guards.{sealed_fact}
 use Rattle.far_core.proofs.Marking.{marks_world}
 use Rattle.far_core.proofs.Owed.{Owed, replies}
-use Rattle.far_core.proofs.Put.{put_both, put_same}
+use Rattle.far_core.proofs.Put.{put_same}
 use Rattle.far_core.proofs.Touching.{touched, one_cell}
-use Rattle.far_core.proofs.Worlds.{World-ext}
 
 abbrev evac : ℕ → ℕ
 evac w = bit_or w (2 ^ position Evac)

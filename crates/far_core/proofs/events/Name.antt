@@ -1,5 +1,5 @@
 -- What the event Name owes, by the form of the naming.
-use Rattle.std.proofs.Common.{◌≢◌, ◌≡◌, ◌<◌, ◌*◌, ◌^◌, ◌∙◌, ℕ, Bool, true, false, cond, nat_eq, nat_lt, arith, inl, inr, refl, sym, ap, subst, Option, Some, None}
+use Rattle.std.proofs.Common.{◌≢◌, ◌≡◌, ◌<◌, ◌*◌, ◌^◌, ◌∙◌, ℕ, Bool, true, false, cond, nat_eq, nat_lt, arith, inl, inr, refl, ap, Option, Some, None}
 use Rattle.std.proofs.lemmas.Bool.{cond_both, eqb-false, eqb-true, false≢true}
 use Rattle.std.proofs.lemmas.Bool.Decides.{nat_tests}
 use Rattle.far_word.specs.declared.sizes.TheConstants.{CELLS}
@@ -10,8 +10,8 @@ use Rattle.far_core.specs.declared.event.Reply.TheVariants.{Done, Refused, Word}
 use Rattle.far_core.specs.declared.naming.Naming.{Naming}
 use Rattle.far_core.specs.declared.naming.Naming.TheVariants.{Places, Retires}
 use Rattle.far_core.specs.events.Legal.{Legal}
-use Rattle.far_core.specs.events.Name.{IsLegalNaming, may_name, after_naming, NamingReports, change_by}
-use Rattle.far_core.specs.events.Naming.{naming_of, naming_row}
+use Rattle.far_core.specs.events.Name.{IsLegalNaming, may_name, after_naming, change_by}
+use Rattle.far_core.specs.events.Naming.{naming_of}
 use Rattle.far_core.specs.events.Step.{change_of, touches}
 use Rattle.far_core.specs.events.Reports.{Reports}
 use Rattle.far_core.specs.events.Touch.{CellAt, BookView, Touches}

@@ -82,7 +82,8 @@ impl Core {
         self.memory.store(owner, pointer, index, word);
     }
 
-    /// An open owner closes its scope, and holds and remembers nothing from then on.
+    /// An open owner closes its scope, and holds and remembers nothing from then on. This writes the places of its 128
+    /// cells, whatever it holds.
     #[inline]
     pub fn close(&mut self, owner: u8)
         requires legal { Legal (core_state self.old) (Event.Close owner) }

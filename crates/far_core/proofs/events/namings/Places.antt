@@ -8,7 +8,7 @@ use mathlib.Core.Path.{fun_ext}
 use Rattle.far_word.specs.declared.pointer.Place.{Place}
 use Rattle.far_word.specs.declared.pointer.PtrWord.TheVariants.{Free, Near}
 use Rattle.far_word.specs.declared.sizes.TheConstants.{CELLS, LONGEST}
-use Rattle.far_word.specs.Header.{head_of, head_word}
+use Rattle.far_word.specs.Header.{head_of}
 use Rattle.far_word.specs.Pointer.{read_of}
 use Rattle.far_word.specs.Sizes.{words_for}
 use Rattle.far_word.proofs.ByteLaws.{bytes_of-zeros}
@@ -16,13 +16,12 @@ use Rattle.far_word.proofs.HeaderLaws.{head_back}
 use Rattle.far_word.proofs.PointerLaws.{read_says}
 use Rattle.far_core.specs.declared.naming.Naming.TheVariants.{Places}
 use Rattle.far_core.specs.events.Naming.{no_marks}
-use Rattle.far_core.specs.events.NewSpans.{is_new_span, zeros, with_span}
-use Rattle.far_core.specs.events.namings.Places.{places_row}
+use Rattle.far_core.specs.events.NewSpans.{with_span}
 use Rattle.far_core.specs.state.Law.{Law, Blank, in_use}
 use Rattle.far_core.specs.state.State.{State, put, addr}
 use Rattle.far_core.specs.world.Steps.{Makes}
 use Rattle.far_core.specs.world.World.{Object, Group}
-use Rattle.far_core.specs.world.WorldOf.{world_of, object_of, is_marked, is_group}
+use Rattle.far_core.specs.world.WorldOf.{world_of, object_of, is_marked}
 use Rattle.far_core.proofs.KeepPlace.{header, law_with_span}
 use Rattle.far_core.proofs.NamingOwed.{IsMade, NamingOwed}
 use Rattle.far_core.proofs.NewSpans.{new_span_fact, new_span_test, at_tail, takes_span, touch_span, groups_then}

@@ -1,10 +1,8 @@
 -- What the form of naming Retires owes.
-use Rattle.std.proofs.Common.{◌≡◌, ◌≢◌, ℕ, ◌*◌, ◌<◌, ◌^◌, Bool, true, false, refl, sym, ap, ◌∙◌, Option, Some, None}
+use Rattle.std.proofs.Common.{◌≡◌, ◌≢◌, ℕ, ◌*◌, ◌<◌, ◌^◌, true, false, refl, sym, ap, ◌∙◌, Option, Some, None}
 use Rattle.std.specs.Prelude.{IsSome}
-use Rattle.std.proofs.lemmas.Bool.{false≢true, true≢false}
+use Rattle.std.proofs.lemmas.Bool.{false≢true}
 use mathlib.Core.Path.{fun_ext}
-use Rattle.far_word.specs.declared.mark.Marks.{Marks}
-use Rattle.far_word.specs.declared.pointer.Place.{Place}
 use Rattle.far_word.specs.declared.pointer.PtrWord.{PtrWord}
 use Rattle.far_word.specs.declared.pointer.PtrWord.TheVariants.{Free, Near, Far}
 use Rattle.far_word.specs.declared.sizes.TheConstants.{CELLS}
@@ -14,7 +12,7 @@ use Rattle.far_core.specs.events.Naming.{is_dropped}
 use Rattle.far_core.specs.state.Law.{Law, NamesBack, StoresBack, IsBlank, held_place, in_use}
 use Rattle.far_core.specs.state.State.{State, put}
 use Rattle.far_core.specs.world.WorldOf.{world_of, object_of, is_marked}
-use Rattle.far_core.proofs.NamingOwed.{IsMade, NamingOwed}
+use Rattle.far_core.proofs.NamingOwed.{NamingOwed}
 use Rattle.far_core.proofs.Put.{put_both, put_same}
 use Rattle.far_core.proofs.Touching.{one_cell, touched}
 use Rattle.far_core.proofs.Worlds.{World-ext}

@@ -1,4 +1,3 @@
-use Rattle.std.proofs.Common.{sym, ◌∙◌}
 use Rattle.far_word.proofs.FieldLaws.{place_missing, place_read}
 use Rattle.far_word.proofs.pointer.resting_place.Goals as goal
 

@@ -1,6 +1,4 @@
-use Rattle.std.proofs.Common.{sym, subst, ◌∙◌}
-use Rattle.std.specs.Prelude.{slice_index}
-use Rattle.far_core.specs.state.Law.{Law}
+use Rattle.std.proofs.Common.{sym, ◌∙◌}
 use Rattle.far_core.specs.state.Memory.{state_of}
 use Rattle.far_core.proofs.Ranges.{stores_end, stores_keep, stores_legal}
 use Rattle.far_core.proofs.machine.Core.store_all.Goals as goal

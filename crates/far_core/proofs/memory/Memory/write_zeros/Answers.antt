@@ -1,4 +1,4 @@
-use Rattle.std.proofs.Common.{◌+◌, ◌-◌, ℕ, ap, arith, sym, ◌∙◌}
+use Rattle.std.proofs.Common.{◌+◌, ◌-◌, ℕ, ap, arith}
 use Rattle.far_core.specs.state.Memory.{state_of}
 use Rattle.far_core.proofs.Rows.{zeros_written}
 use Rattle.far_core.proofs.memory.Memory.write_zeros.Goals as goal
