@@ -1,3 +1,4 @@
 //! Whether the clauses say what was meant, by worked values.
 
+mod books;
 mod hands;

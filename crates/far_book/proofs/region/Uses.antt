@@ -1,5 +1,5 @@
 -- What a caller of the book needs: that a new core is at the start, and that a mark shows a drop.
-use Rattle.std.proofs.Common.{◌≡◌, ℕ, Bool, true, sym, refl, ap, subst, ◌∙◌, Option, Some, None}
+use Rattle.std.proofs.Common.{◌≡◌, ℕ, Bool, true, false, sym, refl, ap, subst, ◌∙◌, Option, Some, None}
 use Rattle.std.proofs.lemmas.Bool.{false≢true}
 use Rattle.far_word.specs.declared.mark.Marks.{Marks}
 use Rattle.far_word.specs.declared.pointer.Place.{Place}
@@ -11,6 +11,7 @@ use Rattle.far_core.specs.state.Opening.{opening}
 use Rattle.far_core.specs.state.State.{State}
 use Rattle.far_book.specs.declared.home.Home.{Home}
 use Rattle.far_book.specs.declared.home.Home.TheVariants.{Near, Far}
+use Rattle.far_book.specs.Masked.{masked}
 use Rattle.far_book.specs.book.Home.{home_of}
 use Rattle.far_book.specs.book.Own.{IsAtStart}
 
@@ -22,3 +23,6 @@ dropped_near None place marks e h = absurd cc
 dropped_near (Some pointer.Free) place marks e h = absurd cc
 dropped_near (Some (pointer.Near len ds at m)) place marks e h = let same : marks ≡ m = cc in ap (λ (x : Marks). x.dropped) (sym same) ∙ h
 dropped_near (Some (pointer.Far len ds m)) place marks e h = absurd cc
+
+pub beset_start : (s v : State) (shape : Shape) (honest : Bool) → s ≡ opening shape honest → v ≡ masked s s.cell (λ _. false) → IsAtStart v
+beset_start s v shape honest e is = subst IsAtStart (sym (is ∙ ap (λ (t : State). masked t t.cell (λ _. false)) e)) refl

@@ -28,6 +28,14 @@ fn opened(rt: &HostRuntime, shape: Shape) -> Result<Book<Plain>, Refused> {
     Book::new(rt.alloc(), Plain { core })
 }
 
+// The same beside whose calls owners make these events.
+#[tactic(auto, using(crate::proofs::region::Uses::beset_start))]
+fn beset(rt: &HostRuntime, events: Vec<Event>) -> Result<Book<Beset>, Refused> {
+    let core = Core::new(rt.alloc(), SMALL, true)?;
+    let hand = Beset::new(rt.alloc(), core, events)?;
+    Book::new(rt.alloc(), hand)
+}
+
 // A new object of the first mutator, in its lowest free cell.
 fn place_next<N: Near + Drop>(book: &mut Book<N>, len: u16, ds: u8) -> Result<(u16, Place), Refused>
     requires some { 0 < len }
@@ -60,6 +68,15 @@ fn line(kind: Kind, log: u8, live: u16, dead: u16, unused: u16) -> Option<(Kind,
             unused,
         },
     ))
+}
+
+// Where a pointer's object is; `None` for a number that is no pointer's.
+fn home<N: Near + Drop>(book: &mut Book<N>, pointer: u16) -> Option<Home> {
+    if (pointer as u64) < 128 * book.shape().mutators {
+        book.locate(pointer)
+    } else {
+        None
+    }
 }
 
 // Retires a near object whose cell shows DROP, and says whether it did.
@@ -205,5 +222,40 @@ fn the_lowest_free_cell_is_taken(rt: HostRuntime) -> Result<(), Fail> {
     let after = Place { log: 2, at: 2 };
     assert_eq!(rt; place_next(&mut book, 1, 1), Ok((100, after)));
     assert_eq!(rt; shown(&book, 1), line(Kind::Sealed, 1, 992, 32, 0));
+    Ok(())
+}
+
+#[test]
+fn marks_come_between_calls(rt: HostRuntime) -> Result<(), Fail> {
+    let (owner, pointer) = (0, 0);
+    let mark = Mark::Dropped;
+    let place = Place { log: 0, at: 0 };
+    // The first three are made as the object is placed.
+    let events = vec![in rt.alloc();
+        Event::ReadEpoch { owner },
+        Event::Open { owner },
+        Event::Close { owner: 1 },
+        Event::Adopt { owner, pointer },
+        Event::Pin { owner, pointer },
+        Event::Close { owner },
+        Event::Ask {
+            owner,
+            pointer,
+            mark
+        },
+    ]?;
+    let mut book = beset(&rt, events)?;
+    assert_eq!(rt; place_next(&mut book, 8, 1), Ok((pointer, place)));
+    let marks = NO_MARKS;
+    assert_eq!(rt; home(&mut book, pointer), Some(Home::Near { place, marks }));
+    let marks = Marks {
+        hot: true,
+        ..NO_MARKS
+    };
+    assert_eq!(rt; home(&mut book, pointer), Some(Home::Near { place, marks }));
+    assert_eq!(rt; retire_dropped(&mut book, pointer), false);
+    assert_eq!(rt; retire_dropped(&mut book, pointer), true);
+    assert_eq!(rt; home(&mut book, pointer), None);
+    assert_eq!(rt; shown(&book, 0), line(Kind::Open, 0, 0, 16, 1008));
     Ok(())
 }
