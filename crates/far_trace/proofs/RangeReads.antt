@@ -1,4 +1,4 @@
--- What is loaded behind a view is what the object had before it.
+-- What is loaded after a view is what the object had before it.
 use Rattle.std.proofs.Common.{◌≡◌, ℕ, ◌+◌, ◌/◌, ◌<◌, true, List, [], ◌∷◌, refl, ap, ◌∙◌}
 use Rattle.std.proofs.lemmas.Bool.{eq-eqb, cond_both}
 use Rattle.far_word.specs.declared.sizes.TheConstants.{CELLS}
@@ -9,7 +9,7 @@ use Rattle.far_core.specs.declared.event.Event.TheVariants.{Load}
 use Rattle.far_core.specs.state.Law.{Law}
 use Rattle.far_core.specs.state.State.{State}
 use Rattle.far_core.specs.events.Step.{near_data, data_len, is_opened}
-use Rattle.far_trace.specs.Interpreter.{loaded, word_in}
+use Rattle.far_trace.specs.Interpreter.{loaded, answered_word}
 use Rattle.far_trace.specs.EventRows.{after_events}
 use Rattle.far_trace.specs.Tidy.{Tidy}
 use Rattle.far_trace.specs.Events.{view_events, load_events, first_loads, starts_inside}
@@ -20,10 +20,10 @@ use Rattle.far_trace.proofs.MadeLemmas.{load_stays}
 pub uses_own : (s : State) (m p : ℕ) → p / CELLS ≡ m → s.used p ≡ true → uses s m p ≡ true
 uses_own s m p own used = rw (eq-eqb (p / CELLS) m own, used) refl
 
--- each word that is loaded behind a view is the object's word before it
+-- each word that is loaded after a view is the object's word before it
 pub loaded_word : (s : State) (next : ℕ → ℕ) (m p i : ℕ) → Law s → Tidy s next → is_opened s m ≡ true → uses s m p ≡ true → i < words_for (data_len s p) →
     loaded (after_events s (view_events s m p)) m p i ≡ s.word (near_data (read_of (s.cell p)) + i)
-loaded_word s next m p i law tidy opened ours inside = ap word_in (load_word s next m p law tidy opened ours i inside)
+loaded_word s next m p i law tidy opened ours inside = ap answered_word (load_word s next m p law tidy opened ours i inside)
 
 pub loaded_words : (s : State) (next : ℕ → ℕ) (m p first k : ℕ) → Law s → Tidy s next → is_opened s m ≡ true → uses s m p ≡ true → first + k < words_for (data_len s p) →
     loaded (after_events (after_events s (view_events s m p)) (load_events m p first k)) m p (first + k) ≡ s.word (near_data (read_of (s.cell p)) + (first + k))

@@ -23,16 +23,16 @@ use Rattle.far_word.specs.Sizes.{size_of}
 use Rattle.far_core.specs.state.Room.{room}
 
 -- the word that an event answers, 0 where it answers none
-abbrev pub word_in : Answer → ℕ
-word_in answers.Refused = 0
-word_in answers.Done = 0
-word_in (answers.Epoch e) = 0
-word_in (answers.Word w) = w
-word_in (answers.Held place) = 0
+abbrev pub answered_word : Answer → ℕ
+answered_word answers.Refused = 0
+answered_word answers.Done = 0
+answered_word (answers.Epoch e) = 0
+answered_word (answers.Word w) = w
+answered_word (answers.Held place) = 0
 
 -- the word that a load answers
 abbrev pub loaded : State → ℕ → ℕ → ℕ → ℕ
-loaded s m p i = word_in (step_of s (Loads m p i)).1
+loaded s m p i = answered_word (step_of s (Loads m p i)).1
 
 -- the stores of some words, from the word first on
 abbrev pub stores_of : ℕ → ℕ → ℕ → List ℕ → ℕ → List Event

@@ -5,7 +5,7 @@ ghost use Rattle.std.specs.Option.{option_map};
 ghost use Rattle.hex.specs.Hex.{is_hex_digit};
 ghost use Rattle.far_trace.specs.HexWord.{hex_bytes};
 ghost use Rattle.far_trace.specs.Grammar.{next_number, next_bytes};
-ghost use Rattle.far_trace.specs.Cursor.{is_end, words_in, words_left, lines_behind, lines_after, lines_left};
+ghost use Rattle.far_trace.specs.Cursor.{is_end, words_in, words_left, lines_after_first, lines_after, lines_left};
 
 use crate::hex_word::{HexWord, is_digit};
 
@@ -28,7 +28,7 @@ fn ends_word(byte: u8) -> bool
 fn rest_at(text: &[u8], at: usize) -> Option<Rest<'_>>
     requires { at ≤ length text.now }
     ensures words { IfSome result (λ rest. words_in (drop at text.now) ≡ [] ∷ words_left rest) }
-    ensures lines { IfSome result (λ rest. lines_behind (drop at text.now) ≡ lines_after rest) }
+    ensures lines { IfSome result (λ rest. lines_after_first (drop at text.now) ≡ lines_after rest) }
     ensures longer { IfNone result ((at < length text.now) × (is_end (slice_index text.now at) ≡ false)) }
 {
     if at == text.len() {
@@ -57,7 +57,7 @@ fn word_len(text: &[u8]) -> usize
 /// The first word of a text, and what is left after it.
 pub fn word_first(text: &[u8]) -> (&[u8], Rest<'_>)
     ensures words { words_in text.now ≡ result.0.now ∷ words_left result.1 }
-    ensures lines { lines_behind text.now ≡ lines_after result.1 }
+    ensures lines { lines_after_first text.now ≡ lines_after result.1 }
 {
     let len = word_len(text);
     (&text[..len], rest_at(text, len).unwrap())
@@ -66,7 +66,7 @@ pub fn word_first(text: &[u8]) -> (&[u8], Rest<'_>)
 /// The number that the first word of a text prints, and what is left after it.
 pub fn number_first(text: &[u8]) -> Option<(u64, Rest<'_>)>
     ensures number { option_map (λ found. (found.0, words_left found.1)) result ≡ next_number (words_in text.now) }
-    ensures lines { IfSome result (λ found. lines_behind text.now ≡ lines_after found.1) }
+    ensures lines { IfSome result (λ found. lines_after_first text.now ≡ lines_after found.1) }
 {
     let mut n = 0u64;
     let mut len = 0;
@@ -111,7 +111,7 @@ fn digits_len(text: &[u8]) -> usize
 
 fn bytes_first(text: &[u8]) -> Option<(HexWord<'_>, Rest<'_>)>
     ensures bytes { option_map (λ found. (hex_bytes found.0.digits.now, words_left found.1)) result ≡ next_bytes (words_in text.now) }
-    ensures lines { IfSome result (λ found. lines_behind text.now ≡ lines_after found.1) }
+    ensures lines { IfSome result (λ found. lines_after_first text.now ≡ lines_after found.1) }
 {
     let len = digits_len(text);
     let rest = rest_at(text, len)?;

@@ -8,7 +8,7 @@ ghost use Rattle.far_core.specs.events.Step.{step_of};
 ghost use Rattle.far_core.specs.declared.event.Event.{Event};
 ghost use Rattle.far_trace.specs.EventRows.{after_events};
 ghost use Rattle.far_trace.specs.Events.{new_events, zero_puts, open_events, view_events, load_events};
-ghost use Rattle.far_trace.specs.Interpreter.{loaded, stores_of, word_in};
+ghost use Rattle.far_trace.specs.Interpreter.{loaded, stores_of, answered_word};
 
 use far_core::{Core, Event, Reply};
 use far_word::{HeadWord, Marks, Place, PtrWord, words_for};

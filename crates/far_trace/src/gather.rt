@@ -57,6 +57,6 @@ pub fn add_reply<W: Write>(
         → Holds start (W.contents writer.new) out.new result (bytes ++ printed (reply_of reply.now)) }
 {
     let result = make_room(writer, out, earlier);
-    reply.print_behind(out);
+    reply.print_to(out);
     result
 }

@@ -11,7 +11,7 @@ ghost use Rattle.far_core.specs.state.Room.{room};
 ghost use Rattle.far_core.specs.events.Step.{step_of, data_len};
 ghost use Rattle.far_core.specs.declared.event.Event.{Event};
 ghost use Rattle.far_trace.specs.Command.{said, said_request};
-ghost use Rattle.far_trace.specs.Interpreter.{loaded, stores_of, word_in, refused_in, IsAccess, IsNew, StandsFor, next_after, next_of};
+ghost use Rattle.far_trace.specs.Interpreter.{loaded, stores_of, answered_word, refused_in, IsAccess, IsNew, StandsFor, next_after, next_of};
 ghost use Rattle.far_trace.specs.HexWord.{hex_bytes as spelled};
 ghost use Rattle.far_trace.specs.EventRows.{after_events, AtHand};
 ghost use Rattle.far_trace.specs.Command.{Mutator, Book, New, Open, Write, Read, Close, Logs};
@@ -288,7 +288,7 @@ fn lowest(core: &Core, named: &[u16], owner: u8) -> Option<u16>
 }
 
 // Whether a new object may be made, or why not.
-fn design(core: &Core, named: &[u16], owner: u8, len: u64, ds: u64) -> Result<NewObject, Refused>
+fn plan_new(core: &Core, named: &[u16], owner: u8, len: u64, ds: u64) -> Result<NewObject, Refused>
     requires known { owner < (core_state core.now).mutators }
     requires tidy { Tidy (core_state core.now) (λ m. slice_index named.now m) }
     requires law { Law (core_state core.now) }
@@ -329,7 +329,7 @@ fn make_object(core: &mut Core, named: &mut [u16], owner: u8, len: u64, ds: u64)
     ensures named { (m : ℕ) → slice_index named.new m ≡ next_after (moment_of (core_state core.old)) (Mutator owner (New len ds)) (λ k. slice_index named.old k) m }
     ensures fits { IsInRoom result }
 {
-    match design(core, named, owner, len, ds) {
+    match plan_new(core, named, owner, len, ds) {
         Ok(object) => {
             make_new(
                 core,

@@ -10,5 +10,5 @@ returns g c = λ start bytes k.
     let result = c.make_room-result.result in
     let piece = printed (reply_of c.args.reply.now) in
     let waiting = c.make_room-result.new.out in
-    subst (λ w. Holds start now w result (bytes ++ piece)) (sym c.print_behind.ensures)
+    subst (λ w. Holds start now w result (bytes ++ piece)) (sym c.print_to.ensures)
     (held_more start now waiting piece bytes result (c.make_room-result.ensures.held start bytes k))
