@@ -140,7 +140,7 @@ module _ (s : State) (k p from : ℕ) (bytes : List ℕ) (law : Law s) (hand : A
   abbrev stores : List Event
   stores = store_events k p (first_word from) (words_touched from (length bytes)) new
 
-  -- the object has the new bytes behind the write
+  -- the object has the new bytes after the write
   write_run : s.used p ≡ true → 0 < length bytes → from + length bytes ≤ length (data_of s p) → AllSucceed s (loads ++ stores) →
       (o : Object) × ((world_of (after_events s (loads ++ stores))).object ≡ put (world_of s).object p (Some o)) × ((world_of (after_events s (loads ++ stores))).opened ≡ (world_of s).opened) × (o.bytes ≡ new)
   write_run used some fits ok =

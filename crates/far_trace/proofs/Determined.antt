@@ -10,7 +10,7 @@ use Rattle.far_trace.specs.Grammar.{trace_of}
 use Rattle.far_trace.specs.Moment.{Moment}
 use Rattle.far_trace.specs.Reply.{Reply, Done, Refused, printed}
 
--- one command has one reply and one moment behind it
+-- one command has one reply and one moment after it
 one_reply : (s : Moment) (c : Command) (r q : Reply) (t u : Moment) → Commanded s c r t → Commanded s c q u → (r ≡ q) × (t ≡ u)
 one_reply s c r q t u h k = (h.reply ∙ sym k.reply, h.moment ∙ sym k.moment)
 

@@ -46,7 +46,7 @@ carried now c r next lasts bytes h =
     let ends : next.core ≡ after_events now.core (events_for (moment_of now.core) c) = ap (λ (m : Moment). m.core) h.moment ∙ sym x.ends in
     record { reply = h.reply; state = ends; succeed = x.succeed; fit = x.fit; law = subst Law (sym ends) x.law }
 
--- where its events lead, there is the moment behind it
+-- where its events lead, there is the moment after it
 pub moment_reached : (s t : State) (next : ℕ → ℕ) (c : Command) → Law s → Tidy s next → WritesBytes c → t ≡ after_events s (events_for (moment_of s) c) → moment_of t ≡ effect (moment_of s) c
 moment_reached s t next c law tidy bytes e = ap moment_of (e ∙ (turns s next c law tidy bytes).ends)
 

@@ -14,7 +14,7 @@ use Rattle.hex.proofs.HexLemmas.{decode_of-ok}
 use Rattle.far_trace.specs.Command.{Entry, HeapLine, CommandLine, New, Open, Write, Read, Close, Logs, Mutator, Book}
 use Rattle.far_trace.specs.Says.{Says, Spells}
 use Rattle.far_trace.specs.Grammar.{Line, Skipped, Saying, Bad, line_of, is_plain, is_skipped, entry_of, lines_of, line_words}
-use Rattle.far_trace.specs.Cursor.{front_of, first_line, lines_behind, words_in}
+use Rattle.far_trace.specs.Cursor.{front_of, first_line, lines_after_first, words_in}
 use Rattle.far_trace.proofs.Cuts.{split_on, line_at}
 use Rattle.far_trace.proofs.SaysLemmas.{read_is_said}
 
@@ -118,11 +118,11 @@ pub line_ends : (text : List ℕ) (i : ℕ) → i < length text → get_or text 
     → lines_of text ≡ take i text ∷ lines_of (drop (i + 1) text)
 line_ends text i inside newline none =
     let rest : drop i text ≡ 10 ∷ drop (i + 1) text = rw add-one (drop-cons text i 0 inside ∙ ap (λ b. b ∷ drop (suc i) text) newline) in
-    line_at text i (omega arith) none ∙ ap (λ l. (take i text ++ first_line l) ∷ lines_behind l) rest ∙ ap (λ w. w ∷ lines_of (drop (i + 1) text)) (append-nil (take i text))
+    line_at text i (omega arith) none ∙ ap (λ l. (take i text ++ first_line l) ∷ lines_after_first l) rest ∙ ap (λ w. w ∷ lines_of (drop (i + 1) text)) (append-nil (take i text))
 
 pub line_all : (text : List ℕ) → ((k : ℕ) → k < length text → (get_or text k 0 == 10) ≡ false) → lines_of text ≡ text ∷ []
 line_all text none =
-    line_at text (length text) (omega arith) none ∙ ap (λ l. (take (length text) text ++ first_line l) ∷ lines_behind l) (drop-length text)
+    line_at text (length text) (omega arith) none ∙ ap (λ l. (take (length text) text ++ first_line l) ∷ lines_after_first l) (drop-length text)
     ∙ ap (λ w. w ∷ []) (append-nil (take (length text) text) ∙ take-length text)
 
 pub long_comment : (text : List ℕ) (i : ℕ) → i ≤ length text → ((k : ℕ) → k < i → (get_or text k 0 == 10) ≡ false) → 4096 < i → line_of (first_line text) ≡ Bad

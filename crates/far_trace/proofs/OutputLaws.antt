@@ -18,6 +18,7 @@ use Rattle.far_core.specs.state.State.{State, put}
 use Rattle.far_core.specs.world.World.{Object, Group}
 use Rattle.far_core.specs.world.WorldOf.{world_of}
 use Rattle.far_core.proofs.Bounds.{some_of}
+use Rattle.far_core.proofs.Guards.{none_from}
 use Rattle.far_core.proofs.Observations.{bytes_make_log}
 use Rattle.far_trace.specs.Moment.{Moment, moment_of}
 use Rattle.far_trace.specs.Alone.{Alone, Knows, Own}
@@ -157,10 +158,6 @@ fourth false false true d e = absurd cc
 fourth false false false true e = refl
 fourth false false false false e = absurd cc
 
-is_nothing : {X : Type 0} (o : Option X) → not (is_some o) ≡ true → o ≡ None
-is_nothing None e = refl
-is_nothing (Some x) e = absurd cc
-
 why_refused : (now : Moment) (c : Command) (why : Refusal) (next : Moment) → Commanded now c (Refused why) next → refusal now c ≡ Some why
 why_refused now c why next h = from_cause (refusal now c) (turn_reply now c) why (turn_is_no_refusal now.core c why) (sym h.reply)
 
@@ -172,8 +169,8 @@ pub none_left : (now : Moment) (m len ds : ℕ) (next : Moment) →
     (Commanded now (Mutator m (New len ds)) (Refused NoPointer) next → (q : ℕ) → m * CELLS ≤ q → q < m * CELLS + CELLS → now.core.cell q ≢ 0)
     × (Commanded now (Mutator m (New len ds)) (Refused NoRoom) next → room now.core (size_of len) true ≡ None)
 none_left now m len ds next = (
-  (λ h. no_cell now.core m (is_nothing (lowest_cell now.core m) (third _ _ _ _ (why_refused now (Mutator m (New len ds)) NoPointer next h)))),
-  (λ h. is_nothing (room now.core (size_of len) true) (fourth _ _ _ _ (why_refused now (Mutator m (New len ds)) NoRoom next h))),
+  (λ h. no_cell now.core m (none_from (lowest_cell now.core m) (third _ _ _ _ (why_refused now (Mutator m (New len ds)) NoPointer next h)))),
+  (λ h. none_from (room now.core (size_of len) true) (fourth _ _ _ _ (why_refused now (Mutator m (New len ds)) NoRoom next h))),
 )
 
 -- what a new object in range is answered, by the lowest free cell and the room

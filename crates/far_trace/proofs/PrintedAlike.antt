@@ -11,7 +11,7 @@ use Rattle.far_word.specs.declared.refused.Refused.TheVariants.{Memory, NoRoom, 
 use Rattle.far_word.specs.Refused.{refusal_number}
 use Rattle.far_core.specs.declared.event.Kind.{Kind}
 use Rattle.far_core.specs.declared.event.Kind.TheVariants as kinds
-use Rattle.far_trace.specs.Headline.{IsPlain, IsPlainLine, ArePlain, IsPlainRefusal}
+use Rattle.far_trace.specs.Headline.{IsToldInFull, IsLineToldInFull, AreToldInFull, IsRefusalToldInFull}
 use Rattle.far_trace.specs.Reply.{Reply, Done, Pointer, Data, Logs, Refused, LogLine, kind_word, log_printed, detail, refused_printed, printed}
 use Rattle.std.proofs.lemmas.Str.Parse.{digit_at}
 
@@ -82,7 +82,7 @@ line_right : (l : LogLine) (rest : List ℕ) → log_printed l ++ rest
 line_right l rest = chained (codes "log ")
     (decimal l.log ∷ codes " " ∷ kind_word l.kind ∷ codes " live " ∷ decimal l.live ∷ codes " dead " ∷ decimal l.dead ∷ codes " unused " ∷ decimal l.unused ∷ codes "\n" ∷ []) rest
 
-line_alike : (l k : LogLine) (xs ys : List ℕ) → IsPlainLine l → IsPlainLine k → log_printed l ++ xs ≡ log_printed k ++ ys → (l ≡ k) × (xs ≡ ys)
+line_alike : (l k : LogLine) (xs ys : List ℕ) → IsLineToldInFull l → IsLineToldInFull k → log_printed l ++ xs ≡ log_printed k ++ ys → (l ≡ k) × (xs ≡ ys)
 line_alike l k xs ys p q e =
     let (log, a) = cut 32 (decimal l.log) (decimal k.log) _ _ (decimal_free 32 l.log (omega arith) p.log) (decimal_free 32 k.log (omega arith) q.log)
     (append_cancel_left (codes "log ") _ _ (sym (line_right l xs) ∙ e ∙ line_right k ys)) in
@@ -98,7 +98,7 @@ line_alike l k xs ys p q e =
     let unused_same : l.unused ≡ k.unused = decimal_injective l.unused k.unused p.unused q.unused unused in
     ((λ i. record { log = log_same i; kind = kind_same i; live = live_same i; dead = dead_same i; unused = unused_same i }), end)
 
-lines_alike : (ls ks : List LogLine) → ArePlain ls → ArePlain ks → flat_map log_printed ls ≡ flat_map log_printed ks → ls ≡ ks
+lines_alike : (ls ks : List LogLine) → AreToldInFull ls → AreToldInFull ks → flat_map log_printed ls ≡ flat_map log_printed ks → ls ≡ ks
 lines_alike [] [] p q e = refl
 lines_alike [] (k ∷ ks) p q e = let h : 0 ≡ 108 = ap head_of e in absurd (omega (arith, h))
 lines_alike (l ∷ ls) [] p q e = let h : 108 ≡ 0 = ap head_of e in absurd (omega (arith, h))
@@ -116,7 +116,7 @@ refusal_of n =
     else if n == 11 then Damaged else if n == 12 then Phase else if n == 13 then EpochsSpent else Shape
 
 -- a line stands behind the number, or nothing
-line_or_none : (why : Refusal) → IsPlainRefusal why → ((line : ℕ) × (line < 2 ^ 64) × (why ≡ Syntax line)) ⊎ ((detail why ≡ []) × (refusal_number why < 2 ^ 64) × (refusal_of (refusal_number why) ≡ why))
+line_or_none : (why : Refusal) → IsRefusalToldInFull why → ((line : ℕ) × (line < 2 ^ 64) × (why ≡ Syntax line)) ⊎ ((detail why ≡ []) × (refusal_number why < 2 ^ 64) × (refusal_of (refusal_number why) ≡ why))
 line_or_none Memory p = inr (refl, omega arith, refl)
 line_or_none NoRoom p = inr (refl, omega arith, refl)
 line_or_none NoPointer p = inr (refl, omega arith, refl)
@@ -145,7 +145,7 @@ number_alone why e = ap (λ xs. decimal (refusal_number why) ++ xs) e ∙ append
 line_behind : (why : Refusal) (line : ℕ) → why ≡ Syntax line → behind_refused why ≡ decimal 16 ++ (32 ∷ decimal line)
 line_behind why line e = ap behind_refused e
 
-refused_alike : (a b : Refusal) → IsPlainRefusal a → IsPlainRefusal b → refused_printed a ≡ refused_printed b → a ≡ b
+refused_alike : (a b : Refusal) → IsRefusalToldInFull a → IsRefusalToldInFull b → refused_printed a ≡ refused_printed b → a ≡ b
 refused_alike a b p q e =
     let same : behind_refused a ≡ behind_refused b =
     append_cancel_left (codes "refused ") _ _ (sym (append_assoc (codes "refused ") (decimal (refusal_number a)) (detail a))
@@ -172,7 +172,7 @@ bytes_alike x y a b e =
     let both : Ok x ≡ Ok y = sym (decode_of-encode_lower x a) ∙ ap decode_of same ∙ decode_of-encode_lower y b in
     cc
 
-pub printed_alike : (r q : Reply) → IsPlain r → IsPlain q → printed r ≡ printed q → r ≡ q
+pub printed_alike : (r q : Reply) → IsToldInFull r → IsToldInFull q → printed r ≡ printed q → r ≡ q
 printed_alike Done Done a b e = refl
 printed_alike Done (Pointer p) a b e = let h : 111 ≡ 112 = ap head_of e in absurd (omega (arith, h))
 printed_alike Done (Data x) a b e = let h : 111 ≡ 100 = ap head_of e in absurd (omega (arith, h))

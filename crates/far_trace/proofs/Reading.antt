@@ -5,7 +5,7 @@ use Rattle.std.proofs.lemmas.List.Sums.{count_by-le-length}
 use Rattle.std.proofs.lemmas.List.Splits.{length-slice_split}
 use Rattle.far_trace.specs.declared.text.TheConstants.{LONGEST_TEXT}
 use Rattle.far_trace.specs.Command.{Command}
-use Rattle.far_trace.specs.Cursor.{first_line, lines_behind}
+use Rattle.far_trace.specs.Cursor.{first_line, lines_after_first}
 use Rattle.far_trace.specs.Grammar.{Line, onto, line_of, lines_of, read_command, read_commands, read_heap, read_lines, trace_of}
 use Rattle.far_trace.proofs.Cuts.{split_some}
 
@@ -32,17 +32,17 @@ pub text_short : (text : List ℕ) → length text ≤ LONGEST_TEXT → trace_of
 text_short text h = rw (within LONGEST_TEXT (length text) h) refl
 
 -- a text with a line of this kind first, after the heap
-pub after_line : (number : ℕ) (text : List ℕ) (line : Line) (lines : List (List ℕ)) → line ≡ line_of (first_line text) → lines ≡ lines_behind text
+pub after_line : (number : ℕ) (text : List ℕ) (line : Line) (lines : List (List ℕ)) → line ≡ line_of (first_line text) → lines ≡ lines_after_first text
     → read_commands number (lines_of text) ≡ read_command number line (read_commands (number + 1) lines)
 after_line number text line lines is same = ap (read_commands number) (split_some (λ b. b == 10) text) ∙ rw (is, same) refl
 
 -- and before it
-pub first_one : (number : ℕ) (text : List ℕ) (line : Line) (lines : List (List ℕ)) → line ≡ line_of (first_line text) → lines ≡ lines_behind text
+pub first_one : (number : ℕ) (text : List ℕ) (line : Line) (lines : List (List ℕ)) → line ≡ line_of (first_line text) → lines ≡ lines_after_first text
     → read_lines number (lines_of text) ≡ read_heap number line (read_lines (number + 1) lines) (read_commands (number + 1) lines)
 first_one number text line lines is same = ap (read_lines number) (split_some (λ b. b == 10) text) ∙ rw (is, same) refl
 
 -- fewer lines stand after the first
-pub fewer_lines : (text : List ℕ) (lines : List (List ℕ)) → lines ≡ lines_behind text → length (lines_of text) ≡ length lines + 1
+pub fewer_lines : (text : List ℕ) (lines : List (List ℕ)) → lines ≡ lines_after_first text → length (lines_of text) ≡ length lines + 1
 fewer_lines text lines e = let all = ap length (split_some (λ b. b == 10) text) in let rest = ap length e in omega arith
 
 pub map_append : {A B : Type 0} (f : A → B) (xs ys : List A) → map f (xs ++ ys) ≡ map f xs ++ map f ys

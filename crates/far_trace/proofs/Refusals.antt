@@ -12,7 +12,7 @@ use Rattle.far_trace.specs.Objects.{lowest_cell}
 use Rattle.far_trace.specs.Turn.{causes, first_cause, refusal, unless, turn_reply, pointer_reply}
 use Rattle.far_trace.proofs.Each.{Each}
 
--- P holds of the refusal (moment_of of) each cause
+-- P holds of the refusal of each cause
 abbrev pub EachCause : (Refusal → Type 0) → List (Bool × Refusal) → Type 0
 EachCause P = Each (λ (c : Bool × Refusal). P c.1)
 
@@ -23,7 +23,7 @@ among P (c ∷ cs) why h = cond_both c.0 (Some c.1) (first_cause cs) (λ (x : Op
     (λ _ e. let same : c.1 ≡ why = cc in subst P same h.0)
     (λ _ e. among P cs why h.1 e)
 
--- the causes (moment_of of) each command are those that it may be refused for
+-- the causes of each command are those that it may be refused for
 listed : (s : State) (c : Command) → EachCause (MayRefuse c) (causes (moment_of s) c)
 listed s (Mutator m (New len ds)) = (tt, (tt, (tt, (tt, tt))))
 listed s (Mutator m Open) = (tt, (tt, tt))

@@ -48,8 +48,8 @@ use Rattle.far_trace.proofs.RangeWrites.{object_padded}
 use Rattle.far_trace.proofs.WriteEnds.{row_whole}
 use Rattle.far_trace.proofs.Views.{len_near, Viewed, viewed, view_is, view_succeeds, view_law, view_tidy}
 
--- ---- what no refusal (moment_of says)
--- four causes (moment_of that) aren't there
+-- ---- what no refusal says
+-- four causes that aren't there
 pub four : (a b c d : Bool) (w x y z : Refusal) → first_cause ((not a, w) ∷ (not b, x) ∷ (not c, y) ∷ (not d, z) ∷ []) ≡ None → (a ≡ true) × (b ≡ true) × (c ≡ true) × (d ≡ true)
 four true true true true w x y z e = (refl, refl, refl, refl)
 four true true true false w x y z e = absurd cc
@@ -232,7 +232,7 @@ module _ (s : State) (next : ℕ → ℕ) (m p from : ℕ) (bytes : List ℕ) (l
             (cond_both (starts_inside from (length bytes)) (Loads m p (from / 8) ∷ []) [] (Each Fits) (λ _. (tt, tt)) (λ _. tt))
             (cond_both (ends_inside from (length bytes)) (Loads m p ((from + length bytes) / 8) ∷ []) [] (Each Fits) (λ _. (tt, tt)) (λ _. tt))
 
-  -- the object's bytes are the same behind the view
+  -- the object's bytes are the same after the view
   pub data_same : data_of view p ≡ data_of s p
   data_same i = bytes_of (λ k. held.words i (held.same_data i + k)) (held.same_len i)
 
@@ -249,7 +249,7 @@ module _ (s : State) (next : ℕ → ℕ) (m p from : ℕ) (bytes : List ℕ) (l
       ∙ ap (λ (f : ℕ → ℕ). record view { word = f })
       (row_whole view.word d (data_len view p) from bytes (omega (arith, access.within, held.same_len)) access.some lawful.spans.word_fits (object_padded view lawful p))
 
-  -- so a write makes its object's bytes new, behind a view
+  -- so a write makes its object's bytes new, after a view
   pub write_is : after_events s (looks ++ stores) ≡ with_data (with_view s p) p from bytes
   write_is = write_end ∙ stores_is ∙ ap (λ (t : State). with_data t p from bytes) (view_is s next m p law tidy access.opened access.ours)
 
@@ -477,6 +477,6 @@ turn_at : (s : State) (next : ℕ → ℕ) (c : Command) (o : Option Refusal) �
 turn_at s next c None e law tidy small = turned s next c law tidy small e
 turn_at s next c (Some why) e law tidy small = none_turned s next law tidy
 
--- the events of a command lead to the moment behind it
+-- the events of a command lead to the moment after it
 pub turns : (s : State) (next : ℕ → ℕ) (c : Command) → Law s → Tidy s next → WritesBytes c → Turned s (next_after (moment_of s) c next) (events_for (moment_of s) c) (effect (moment_of s) c).core
 turns s next c law tidy small = turn_at s next c (refusal (moment_of s) c) refl law tidy small

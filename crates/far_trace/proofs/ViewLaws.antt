@@ -92,7 +92,7 @@ view_made s m p None e ok =
       others = λ q ne. ap (λ (f : ℕ → Option Place). f q) x.1 ∙ put_other s.held p (Some x.0) q ne;
     }
 
--- events behind the view leave it
+-- events after the view leave it
 behind : (s t : State) (p : ℕ) (es : List Event) → ViewsObject s t p → Each LeavesViews es → ViewsObject s (after_events t es) p
 behind s t p es view q =
     let same : (after_events t es).held ≡ t.held = row_stays t es q in
@@ -122,7 +122,7 @@ close_views s m = cond_both (is_legal s (Closes m)) (after s (Closes m), answer 
     (λ _ ok. absurd ok)
 
 -- ---- each command
--- what a refusal (moment_of leaves), and what its events leave where there is none
+-- what a refusal leaves, and what its events leave where there is none
 pub views_after : (s : State) (c : Command) (o : Option Refusal) → AllSucceed s (unless o (λ _. []) (turn_events (moment_of s) c)) →
     ViewsAfter (moment_of s) c (unless o Refused (turn_reply (moment_of s) c)) (moment_of (after_events s (unless o (λ _. []) (turn_events (moment_of s) c))))
 views_after s c (Some why) ok = refused_views s c why where

@@ -78,14 +78,14 @@ rests_held s law p g h =
 kept : (s : State) (e : Event) → Law s → Fits e → StepKeeps (world_of s) e (world_of (step_of s e).0)
 kept s e law fit = steps_keep (world_of s) (world_of (step_of s e).0) e (step_of s e).1 (step_does s e law fit)
 
--- a view still rests there behind an event that is no close
+-- a view still rests there after an event that is no close
 rests_on : (s : State) (e : Event) → Law s → Fits e → NoClose e → (p g : ℕ) → RestsIn (world_of s) p g → RestsIn (world_of (step_of s e).0) p g
 rests_on s e law fit none p g h =
     let k = kept s e law fit in
     let u = k.rests p h.object h.viewed h.there in
     record { viewed = k.views p h.viewed (none (p / CELLS)); object = u.0; there = u.1; home = u.4 ∙ h.home }
 
--- its group is held behind a row in which a close comes last
+-- its group is held after a row in which a close comes last
 row_held : (s : State) (es : List Event) → Law s → Each Fits es → ClosesLast es → (p g : ℕ) → RestsIn (world_of s) p g → (world_of (after_events s es)).group g ≡ true
 row_held s [] law fit last p g h = rests_held s law p g h
 row_held s (e ∷ []) law fit last p g h = (kept s e law fit.0).groups p g h.object h.there h.home (rests_held s law p g h)
@@ -111,7 +111,7 @@ not_free : (s : State) (l : ℕ) → (world_of s).group l ≡ true → s.kind l 
 unfolding world_of
 not_free s l h e = true≢false (sym h ∙ ap is_group e)
 
--- a log in which a view rests isn't free behind a row in which a close comes last
+-- a log in which a view rests isn't free after a row in which a close comes last
 held_stays_on : (s : State) (es : List Event) → Law s → Each Fits es → ClosesLast es → (p : ℕ) (place : Place) → s.held p ≡ Some place → (after_events s es).kind place.log ≢ kinds.Free
 held_stays_on s es law fit last p place e = not_free (after_events s es) place.log (row_held s es law fit last p place.log (held_rests s law p place e))
 

@@ -72,7 +72,7 @@ abbrev pub MayMakeHeap : Result Trace ℕ → Type 0
 MayMakeHeap (Ok (Heap logs mutators commands)) = is_shape (shape_of logs mutators) ≡ true
 MayMakeHeap _ = ⊥
 
--- what a fault leaves: a failed write, a front of the output that lacks its end; out of memory, nothing, or the one line that says so where
+-- what a fault leaves: a failed write, a proper prefix of the output; out of memory, nothing, or the one line that says so where
 -- the heap was refused; a failed read, nothing
 abbrev pub LeavesBehind : RunFault → Option (List ℕ) → Option (List ℕ) → Result Trace ℕ → Type 0
 LeavesBehind faults.Write old new read = (output : List ℕ) × IsOutput read output × AppendsPart old new output

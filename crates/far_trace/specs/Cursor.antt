@@ -24,8 +24,8 @@ abbrev pub first_line : List ℕ → List ℕ
 first_line text = front_of (lines_of text)
 
 -- the lines after the first
-abbrev pub lines_behind : List ℕ → List (List ℕ)
-lines_behind text = rest_of (lines_of text)
+abbrev pub lines_after_first : List ℕ → List (List ℕ)
+lines_after_first text = rest_of (lines_of text)
 
 -- the words of the first line
 abbrev pub words_in : List ℕ → List (List ℕ)
@@ -43,7 +43,7 @@ words_left (Lines lines) = []
 
 -- the lines after it
 abbrev pub lines_after : Rest → List (List ℕ)
-lines_after (Words text) = lines_behind text.now
+lines_after (Words text) = lines_after_first text.now
 lines_after (Lines lines) = lines_left lines
 
 -- the line that is spelled so

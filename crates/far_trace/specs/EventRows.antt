@@ -24,7 +24,7 @@ abbrev pub AllSucceed : State → List Event → Type 0
 AllSucceed s [] = Unit {0}
 AllSucceed s (e ∷ es) = Succeeds e (step_of s e).1 × AllSucceed (step_of s e).0 es
 
--- each event of a row is legal, and behind it the state has the law, and agrees with what its owners view
+-- each event of a row is legal, and after it the state has the law, and agrees with what its owners view
 abbrev pub AllPass : State → List Event → Type 0
 AllPass s [] = Unit {0}
 AllPass s (e ∷ es) = (is_legal s e ≡ true) × Passes s e (step_of s e).1 (step_of s e).0 × AllPass (step_of s e).0 es

@@ -33,7 +33,7 @@ use Rattle.far_trace.specs.Reply.{Reply, Done, Pointer, Data, Logs, Refused, Log
 abbrev pub LogStays : State → State → Type 0
 LogStays s t = (p : ℕ) (place : Place) → s.held p ≡ Some place → t.kind place.log ≢ kinds.Free
 
--- through a command: a log in which a view rests after any front of its events isn't free after any longer front
+-- through a command: a log that holds a view after the first i of its events isn't free after its first k, for i ≤ k
 abbrev pub StayThrough : Moment → Command → Type 0
 StayThrough now c = (es mid rest : List Event) → es ++ mid ++ rest ≡ events_for now c → LogStays (after_events now.core es) (after_events now.core (es ++ mid))
 
@@ -126,34 +126,34 @@ IsSaidBy m (Mutator k request) = m ≡ k
 IsSaidBy m (Book inquiry) = ⊥
 
 -- a reply that its lines tell in full: its numbers have 64 bits, its bytes are bytes, and it is no refusal 14, 17 or 18, whose words aren't printed yet
-pub record IsPlainLine (line : LogLine) : Type 0 where
+pub record IsLineToldInFull (line : LogLine) : Type 0 where
   pub log : line.log < 2 ^ 64
   pub live : line.live < 2 ^ 64
   pub dead : line.dead < 2 ^ 64
   pub unused : line.unused < 2 ^ 64
 
-abbrev pub ArePlain : List LogLine → Type 0
-ArePlain [] = Unit {0}
-ArePlain (line ∷ lines) = IsPlainLine line × ArePlain lines
+abbrev pub AreToldInFull : List LogLine → Type 0
+AreToldInFull [] = Unit {0}
+AreToldInFull (line ∷ lines) = IsLineToldInFull line × AreToldInFull lines
 
-abbrev pub IsPlainRefusal : Refusal → Type 0
-IsPlainRefusal (Marked word) = ⊥
-IsPlainRefusal (BadChoice log) = ⊥
-IsPlainRefusal (StillOpen mutator epoch) = ⊥
-IsPlainRefusal (Syntax line) = line < 2 ^ 64
-IsPlainRefusal why = Unit {0}
+abbrev pub IsRefusalToldInFull : Refusal → Type 0
+IsRefusalToldInFull (Marked word) = ⊥
+IsRefusalToldInFull (BadChoice log) = ⊥
+IsRefusalToldInFull (StillOpen mutator epoch) = ⊥
+IsRefusalToldInFull (Syntax line) = line < 2 ^ 64
+IsRefusalToldInFull why = Unit {0}
 
-abbrev pub IsPlain : Reply → Type 0
-IsPlain Done = Unit {0}
-IsPlain (Pointer pointer) = pointer < 2 ^ 64
-IsPlain (Data bytes) = IsBytes bytes
-IsPlain (Logs lines) = ArePlain lines
-IsPlain (Refused why) = IsPlainRefusal why
+abbrev pub IsToldInFull : Reply → Type 0
+IsToldInFull Done = Unit {0}
+IsToldInFull (Pointer pointer) = pointer < 2 ^ 64
+IsToldInFull (Data bytes) = IsBytes bytes
+IsToldInFull (Logs lines) = AreToldInFull lines
+IsToldInFull (Refused why) = IsRefusalToldInFull why
 
 -- ---- the laws
 -- replies that their lines tell in full are equal where they are printed alike
 abbrev pub PrintedAlike : Type 0
-PrintedAlike = (r q : Reply) → IsPlain r → IsPlain q → printed r ≡ printed q → r ≡ q
+PrintedAlike = (r q : Reply) → IsToldInFull r → IsToldInFull q → printed r ≡ printed q → r ≡ q
 
 -- a line says a mutator's command exactly where the word after its name is the mutator's number, among lines that say commands
 abbrev pub LinesAreNumbered : Type 0
@@ -170,7 +170,7 @@ pub record IsSound (logs mutators : ℕ) (cs : List Command) (output : List ℕ)
   pub bytes : AllWriteBytes cs
   pub answered : Answered (first_moment logs mutators) cs replies moments
   pub printed_so : output ≡ flat_map printed (Done ∷ replies)
-  pub plain : All IsPlain replies
+  pub plain : All IsToldInFull replies
   pub lawful : All Lawful (first_moment logs mutators ∷ moments)
   pub whole : All (λ (now : Moment). IsWhole now.core) (first_moment logs mutators ∷ moments)
   pub stay : LogsStay (first_moment logs mutators) cs moments
@@ -192,7 +192,7 @@ OneOutput = (text a b : List ℕ) → Answers text a → Answers text b → a �
 abbrev pub TextsWriteBytes : Type 0
 TextsWriteBytes = (text : List ℕ) (logs mutators : ℕ) (cs : List Command) → trace_of text ≡ Ok (Heap logs mutators cs) → AllWriteBytes cs
 
--- what lasts: each moment behind a heap and commands has the law, and its pointers at hand
+-- what lasts: each moment after a heap and commands has the law, and its pointers at hand
 abbrev pub MomentsLast : Type 0
 MomentsLast = (now : Moment) (cs : List Command) (rs : List Reply) (moments : List Moment) → IsMoment now → AllWriteBytes cs → Answered now cs rs moments → All Lawful (now ∷ moments)
 

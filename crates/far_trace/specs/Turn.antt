@@ -1,4 +1,4 @@
--- What a command makes of a heap: when it is refused, the moment behind it, and its reply.
+-- What a command makes of a heap: when it is refused, the moment after it, and its reply.
 use Rattle.std.specs.Prelude.{ℕ, ◌+◌, Bool, true, ◌&&◌, not, nat_lt, nat_le, Option, Some, None, is_some, List, [], ◌∷◌, length, map, slice_range, if◌then◌else◌}
 use Rattle.std.specs.List.{range_with_len}
 use Rattle.far_word.specs.declared.pointer.Place.{Place}
@@ -40,7 +40,7 @@ first_cause (cause ∷ causes) = if cause.0 then Some cause.1 else first_cause c
 abbrev pub refusal : Moment → Command → Option Refusal
 refusal now c = first_cause (causes now c)
 
--- ---- the moment behind a command that isn't refused
+-- ---- the moment after a command that isn't refused
 -- a new object at the pointer and the place that were found
 abbrev pub with_new : State → ℕ → ℕ → Option ℕ → Option Place → State
 with_new s len ds None place = s

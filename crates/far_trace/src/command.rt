@@ -5,7 +5,7 @@ ghost use Rattle.std.specs.Option.{option_map};
 ghost use Rattle.std.specs.Str.{bytes_eq};
 ghost use Rattle.far_trace.specs.Command.{said_entry, HeapLine, CommandLine, Book, Logs};
 ghost use Rattle.far_trace.specs.Grammar.{Numbers, NumbersAndBytes, asks_read, asks_write, asks_open, asks_close, asks_new, entry_from, entry_of, ended};
-ghost use Rattle.far_trace.specs.Cursor.{words_in, words_left, lines_behind, lines_after, lines_left};
+ghost use Rattle.far_trace.specs.Cursor.{words_in, words_left, lines_after_first, lines_after, lines_left};
 
 use crate::cursor::{Rest, next_bytes_of, next_number_of, word_first};
 use crate::hex_word::HexWord;
@@ -173,7 +173,7 @@ fn named<'a>(name: &[u8], rest: Rest<'a>) -> Option<Spelled<'a>>
 #[inline(never)]
 fn named_first(text: &[u8]) -> Option<Spelled<'_>>
     ensures value { option_map (λ found. said_entry found.0) result ≡ entry_of (words_in text.now) }
-    ensures lines { IfSome result (λ found. lines_left found.1 ≡ lines_behind text.now) }
+    ensures lines { IfSome result (λ found. lines_left found.1 ≡ lines_after_first text.now) }
 {
     let (name, rest) = word_first(text);
     named(name, rest)
@@ -183,7 +183,7 @@ fn named_first(text: &[u8]) -> Option<Spelled<'_>>
 #[inline(always)]
 pub fn entry_first(text: &[u8]) -> Option<Spelled<'_>>
     ensures value { option_map (λ found. said_entry found.0) result ≡ entry_of (words_in text.now) }
-    ensures lines { IfSome result (λ found. lines_left found.1 ≡ lines_behind text.now) }
+    ensures lines { IfSome result (λ found. lines_left found.1 ≡ lines_after_first text.now) }
 {
     if let [b'r', b'e', b'a', b'd', b' ', rest @ ..] = text {
         return read_spelled(Rest::Words(rest));

@@ -7,7 +7,7 @@ ghost use Rattle.std.specs.Option.{option_map};
 ghost use Rattle.std.specs.Str.Parse.{digits_value};
 ghost use Rattle.far_trace.specs.HexWord.{hex_bytes};
 ghost use Rattle.far_trace.specs.Grammar.{next_number, next_bytes};
-ghost use Rattle.far_trace.specs.Cursor.{is_end, words_in, words_left, lines_behind, lines_after, lines_left};
+ghost use Rattle.far_trace.specs.Cursor.{is_end, words_in, words_left, lines_after_first, lines_after, lines_left};
 
 use crate::hex_word::HexWord;
 use memchr::memchr2;
@@ -26,7 +26,7 @@ pub enum Rest<'a> {
 fn rest_at(text: &[u8], at: usize) -> Option<Rest<'_>>
     requires { at ≤ length text.now }
     ensures words { IfSome result (λ rest. words_in (drop at text.now) ≡ [] ∷ words_left rest) }
-    ensures lines { IfSome result (λ rest. lines_behind (drop at text.now) ≡ lines_after rest) }
+    ensures lines { IfSome result (λ rest. lines_after_first (drop at text.now) ≡ lines_after rest) }
     ensures longer { IfNone result ((at < length text.now) × (is_end (slice_index text.now at) ≡ false)) }
 {
     if at == text.len() {
@@ -55,7 +55,7 @@ fn word_len(text: &[u8]) -> usize
 #[inline(always)]
 pub fn word_first(text: &[u8]) -> (&[u8], Rest<'_>)
     ensures words { words_in text.now ≡ result.0.now ∷ words_left result.1 }
-    ensures lines { lines_behind text.now ≡ lines_after result.1 }
+    ensures lines { lines_after_first text.now ≡ lines_after result.1 }
 {
     let len = word_len(text);
     (&text[..len], rest_at(text, len).unwrap())
@@ -69,7 +69,7 @@ fn printed_number(text: &[u8], len: usize, n: u64) -> Option<(u64, Rest<'_>)>
     requires value { n ≡ digits_value 10 (take len text.now) }
     requires stops { len < length text.now → is_ascii_digit (slice_index text.now len) ≡ false }
     ensures number { option_map (λ found. (found.0, words_left found.1)) result ≡ next_number (words_in text.now) }
-    ensures lines { IfSome result (λ found. lines_behind text.now ≡ lines_after found.1) }
+    ensures lines { IfSome result (λ found. lines_after_first text.now ≡ lines_after found.1) }
 {
     let rest = rest_at(text, len)?;
     if len == 0 {
@@ -85,7 +85,7 @@ fn printed_number(text: &[u8], len: usize, n: u64) -> Option<(u64, Rest<'_>)>
 #[inline(always)]
 pub fn number_first(text: &[u8]) -> Option<(u64, Rest<'_>)>
     ensures number { option_map (λ found. (found.0, words_left found.1)) result ≡ next_number (words_in text.now) }
-    ensures lines { IfSome result (λ found. lines_behind text.now ≡ lines_after found.1) }
+    ensures lines { IfSome result (λ found. lines_after_first text.now ≡ lines_after found.1) }
 {
     let mut n = 0u64;
     let mut len = 0;
@@ -103,7 +103,7 @@ pub fn number_first(text: &[u8]) -> Option<(u64, Rest<'_>)>
 #[cold]
 fn long_number_first(text: &[u8]) -> Option<(u64, Rest<'_>)>
     ensures number { option_map (λ found. (found.0, words_left found.1)) result ≡ next_number (words_in text.now) }
-    ensures lines { IfSome result (λ found. lines_behind text.now ≡ lines_after found.1) }
+    ensures lines { IfSome result (λ found. lines_after_first text.now ≡ lines_after found.1) }
 {
     let mut n = 0u64;
     let mut len = 0;
@@ -129,7 +129,7 @@ pub fn next_number_of(rest: Rest<'_>) -> Option<(u64, Rest<'_>)>
 #[inline(always)]
 fn bytes_first(text: &[u8]) -> Option<(HexWord<'_>, Rest<'_>)>
     ensures bytes { option_map (λ found. (hex_bytes found.0.digits.now, words_left found.1)) result ≡ next_bytes (words_in text.now) }
-    ensures lines { IfSome result (λ found. lines_behind text.now ≡ lines_after found.1) }
+    ensures lines { IfSome result (λ found. lines_after_first text.now ≡ lines_after found.1) }
 {
     let (word, rest) = word_first(text);
     let bytes = HexWord::from_word(word)?;

@@ -2,7 +2,7 @@
 
 ghost use Rattle.std.specs.Prelude.{◌≡◌, ◌≤◌, ◌<◌, ◌+◌, ◌==◌, ℕ, length, true, false, slice_index, IfSome, IfNone};
 ghost use Rattle.far_trace.specs.Grammar.{line_of, Bad};
-ghost use Rattle.far_trace.specs.Cursor.{first_line, lines_behind, lines_left, said_line};
+ghost use Rattle.far_trace.specs.Cursor.{first_line, lines_after_first, lines_left, said_line};
 
 use crate::command::{Entry, entry_first};
 use crate::hex_word::LONGEST_LINE;
@@ -53,7 +53,7 @@ fn comment_first(text: &[u8]) -> Option<(Line<'_>, Option<&[u8]>)>
     requires comment { slice_index text.now 0 ≡ 35 }
     ensures bad { IfNone result (line_of (first_line text.now) ≡ Bad) }
     ensures line { IfSome result (λ found. said_line found.0 ≡ line_of (first_line text.now)) }
-    ensures lines { IfSome result (λ found. lines_left found.1 ≡ lines_behind text.now) }
+    ensures lines { IfSome result (λ found. lines_left found.1 ≡ lines_after_first text.now) }
 {
     let len = ascii_len(text)?;
     if len > LONGEST_LINE {
@@ -68,7 +68,7 @@ fn comment_first(text: &[u8]) -> Option<(Line<'_>, Option<&[u8]>)>
 // How many bytes the first line of a text has, where these are the lines after it.
 #[inline(always)]
 fn line_len(text: &[u8], lines: Option<&[u8]>) -> usize
-    requires { lines_left lines ≡ lines_behind text.now }
+    requires { lines_left lines ≡ lines_after_first text.now }
     ensures { result ≡ length (first_line text.now) }
 {
     match lines {
@@ -85,7 +85,7 @@ fn said_first(text: &[u8]) -> Option<(Line<'_>, Option<&[u8]>)>
     requires other { (slice_index text.now 0 == 35) ≡ false }
     ensures bad { IfNone result (line_of (first_line text.now) ≡ Bad) }
     ensures line { IfSome result (λ found. said_line found.0 ≡ line_of (first_line text.now)) }
-    ensures lines { IfSome result (λ found. lines_left found.1 ≡ lines_behind text.now) }
+    ensures lines { IfSome result (λ found. lines_left found.1 ≡ lines_after_first text.now) }
 {
     let (entry, lines) = entry_first(text)?;
     if line_len(text, lines) > LONGEST_LINE {
@@ -99,7 +99,7 @@ fn said_first(text: &[u8]) -> Option<(Line<'_>, Option<&[u8]>)>
 pub fn line_first(text: &[u8]) -> Option<(Line<'_>, Option<&[u8]>)>
     ensures bad { IfNone result (line_of (first_line text.now) ≡ Bad) }
     ensures line { IfSome result (λ found. said_line found.0 ≡ line_of (first_line text.now)) }
-    ensures lines { IfSome result (λ found. lines_left found.1 ≡ lines_behind text.now) }
+    ensures lines { IfSome result (λ found. lines_left found.1 ≡ lines_after_first text.now) }
 {
     if text.is_empty() {
         return Some((Line::Skipped, None));

@@ -29,7 +29,7 @@ pub struct Scratch {
 }
 
 impl Scratch {
-    /// All the room that commands need.
+    /// All the room that commands need; what stands in it at first is nobody's.
     pub fn new() -> Scratch {
         let line = LogLine {
             log: 0,

@@ -23,7 +23,7 @@ impl Model for Output {
     ghost invariant = { λ o. (length o.room.items ≡ ROOM) × (o.len ≤ ROOM) };
 }
 
-/// So many zeros.
+/// A vector of so many bytes.
 pub fn zeros(alloc: Global, len: usize) -> Result<Vec<u8>, AllocError>
     ensures { IfOk result (λ v. length v.items ≡ len) }
 {

@@ -68,7 +68,7 @@ impl ReplyWriter {
             → Holds start (W.contents writer.new) self.new.waiting self.new.written (bytes ++ printed (reply_of reply.now)) }
     {
         self.make_room(writer);
-        reply.print_behind(&mut self.waiting);
+        reply.print_to(&mut self.waiting);
     }
 
     /// Writes what waits. `Err` where a write has failed since the replies began.

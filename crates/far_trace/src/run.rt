@@ -209,7 +209,7 @@ fn answer_text<W: Write>(
 ///
 /// Faults: [`RunFault::Read`] where the reader fails, any error of it; [`RunFault::Memory`] where room is refused: then
 /// nothing was written, but `refused 1` where it was the heap's; [`RunFault::Write`] where the writer fails or takes
-/// nothing: what was written is a front of the output.
+/// nothing: what was written is a proper prefix of the output.
 pub fn run<R: Read, W: Write>(
     alloc: Global,
     reader: &mut R,

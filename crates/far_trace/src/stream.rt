@@ -51,7 +51,7 @@ pub fn read_text<R: Read>(reader: &mut R, room: &mut Vec<u8>, most: usize) -> io
     Ok(())
 }
 
-/// Writes all the bytes. After an `Err` a front of them is written.
+/// Writes all the bytes. After an `Err` a proper prefix of them is written.
 pub fn write_whole<W: Write>(writer: &mut W, bytes: &[u8]) -> Result<(), WriteFault>
     ensures { Writes (W.contents writer.old) (W.contents writer.new) result bytes.now }
 {

@@ -313,7 +313,7 @@ fn lowest(core: &Core, named: &[u16], owner: u8) -> Option<u16>
 }
 
 // Whether a new object may be made, or why not.
-fn design(core: &Core, named: &[u16], owner: u8, len: u64, ds: u64) -> Result<NewObject, Refused>
+fn plan_new(core: &Core, named: &[u16], owner: u8, len: u64, ds: u64) -> Result<NewObject, Refused>
     requires known { owner < (core_state core.now).mutators }
     requires tidy { Tidy (core_state core.now) (λ m. slice_index named.now m) }
     requires law { Law (core_state core.now) }
@@ -354,7 +354,7 @@ fn make_object(core: &mut Core, named: &mut [u16], owner: u8, len: u64, ds: u64)
     ensures named { (m : ℕ) → slice_index named.new m ≡ next_after (moment_of (core_state core.old)) (Mutator owner (New len ds)) (λ k. slice_index named.old k) m }
     ensures fits { IsInRoom result }
 {
-    match design(core, named, owner, len, ds) {
+    match plan_new(core, named, owner, len, ds) {
         Ok(object) => {
             make_new(
                 core,

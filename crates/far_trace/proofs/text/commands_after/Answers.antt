@@ -1,6 +1,6 @@
 use Rattle.std.proofs.Common.{arith, refl, sym, subst, ap, ◌≡◌, ◌+◌, ◌<◌, ◌∙◌, [], ◌∷◌, ◌++◌, length, map}
 use Rattle.far_trace.specs.Command.{said, HeapLine, CommandLine}
-use Rattle.far_trace.specs.Cursor.{lines_left, lines_behind}
+use Rattle.far_trace.specs.Cursor.{lines_left, lines_after_first}
 use Rattle.far_trace.specs.Grammar.{Skipped, Saying, Bad, lines_of, read_commands}
 use Rattle.far_trace.proofs.Reading.{onto_all, onto_one_more, after_line, fewer_lines, map_append}
 use Rattle.far_trace.proofs.text.commands_after.Goals as goal
@@ -9,7 +9,7 @@ pub returns-in_default-line_first-clause-fault : goal.returns-in_default-line_fi
 returns-in_default-line_first-clause-fault c =
     let text = c.in-Some.text.now in
     let reads = rw c.in-Some.is at c.loop-lines.invariant.reads in
-    sym reads ∙ ap (onto_all (map said c.loop-lines.commands.items)) (after_line (c.loop-lines.number + 1) text Bad (lines_behind text) (sym c.in_default-line_first.ensures.bad) refl)
+    sym reads ∙ ap (onto_all (map said c.loop-lines.commands.items)) (after_line (c.loop-lines.number + 1) text Bad (lines_after_first text) (sym c.in_default-line_first.ensures.bad) refl)
 
 pub returns-in-Heap-clause-fault : goal.returns-in-Heap-clause-fault
 returns-in-Heap-clause-fault c =

@@ -1,6 +1,6 @@
 use Rattle.std.proofs.Common.{arith, refl, sym, subst, ◌+◌, ◌<◌, ◌∙◌, length}
 use Rattle.far_trace.specs.Command.{said, HeapLine, CommandLine}
-use Rattle.far_trace.specs.Cursor.{lines_left, lines_behind}
+use Rattle.far_trace.specs.Cursor.{lines_left, lines_after_first}
 use Rattle.far_trace.specs.Grammar.{Skipped, Saying, Bad, lines_of}
 use Rattle.far_trace.proofs.Reading.{few_lines, fewer_lines, first_one}
 use Rattle.far_trace.proofs.text.heap_line.Goals as goal
@@ -12,7 +12,7 @@ pub returns-in_default-line_first-clause-fault : goal.returns-in_default-line_fi
 returns-in_default-line_first-clause-fault c =
     let text = c.in-Some.text.now in
     let reads = rw c.in-Some.is at c.loop-lines.invariant.reads in
-    sym reads ∙ first_one (c.loop-lines.number + 1) text Bad (lines_behind text) (sym c.in_default-line_first.ensures.bad) refl
+    sym reads ∙ first_one (c.loop-lines.number + 1) text Bad (lines_after_first text) (sym c.in_default-line_first.ensures.bad) refl
 
 pub loop-lines-smaller : goal.loop-lines-smaller
 loop-lines-smaller c =

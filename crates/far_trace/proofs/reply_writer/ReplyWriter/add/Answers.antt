@@ -9,5 +9,5 @@ returns g c = λ start bytes k.
     let now = g.W.Write.contents c.make_room.new.writer in
     let room = c.make_room.new.self in
     let piece = printed (reply_of c.args.reply.now) in
-    subst (λ w. Holds start now w room.written (bytes ++ piece)) (sym c.print_behind.ensures)
+    subst (λ w. Holds start now w room.written (bytes ++ piece)) (sym c.print_to.ensures)
     (held_more start now room.waiting piece bytes room.written (c.make_room.ensures.held start bytes k))
