@@ -296,7 +296,7 @@ fn reads_as_far_as_the_room(rt: HostRuntime) -> Result<(), Fail> {
     };
     let mut room = Vec::with_capacity(rt.alloc(), 8)?;
     assert!(rt; read_text(&mut reader, &mut room, 8).is_ok());
-    assert_eq!(rt; room.as_slice(), b"heap 4 1");
+    assert_eq!(rt; room.as_slice(), b"heap 4 1".as_slice());
     Ok(())
 }
 
