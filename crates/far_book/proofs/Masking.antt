@@ -1,12 +1,12 @@
 -- What stays known to a hand while owners are at work.
-use Rattle.std.proofs.Common.{◌≡◌, ◌≢◌, ℕ, ◌+◌, ◌*◌, ◌/◌, ◌^◌, ◌<◌, ◌≤◌, Bool, true, false, cond, Option, Some, None, refl, sym, ap, ◌∙◌, subst, arith}
+use Rattle.std.proofs.Common.{◌≡◌, ℕ, ◌+◌, ◌/◌, ◌^◌, ◌<◌, Bool, true, false, cond, Some, None, refl, sym, ap, ◌∙◌, subst, arith}
 use Rattle.std.specs.Prelude.{◌||◌, ◌&&◌}
-use Rattle.std.proofs.lemmas.Bool.{false≢true, true≢false, cond_both}
+use Rattle.std.proofs.lemmas.Bool.{false≢true, true≢false}
 use mathlib.Core.Path.{fun_ext}
 use Rattle.far_word.specs.declared.mark.Marks.{Marks}
 use Rattle.far_word.specs.declared.pointer.Place.{Place}
 use Rattle.far_word.specs.declared.pointer.PtrWord.TheVariants.{Near}
-use Rattle.far_word.specs.declared.sizes.TheConstants.{CELLS, LOG_WORDS}
+use Rattle.far_word.specs.declared.sizes.TheConstants.{CELLS}
 use Rattle.far_word.specs.Pointer.{read_of}
 use Rattle.far_word.specs.Sizes.{size_of, words_for}
 use Rattle.far_word.proofs.PointerLaws.{read_says}
@@ -19,7 +19,7 @@ use Rattle.far_book.specs.Known.{unknown}
 use Rattle.far_book.specs.Masked.{masked, masked_word, AllFind, CountsOnQuiet}
 use Rattle.far_book.specs.Owners.{IsLoudAt, OwnersChange}
 use Rattle.far_book.specs.Quiet.{is_quiet}
-use Rattle.far_book.proofs.Finding.{finds_more, near_found, near_known}
+use Rattle.far_book.proofs.Finding.{finds_more, near_known}
 
 -- ---- where near objects lie
 pub record Lies (s : State) (p len ds : ℕ) (place : Place) : Type 0 where

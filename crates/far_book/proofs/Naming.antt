@@ -1,14 +1,12 @@
 -- What a beset hand knows after it has named a word, and why what is legal by its view is legal.
-use Rattle.std.proofs.Common.{◌≡◌, ◌≢◌, ℕ, ◌+◌, ◌*◌, ◌^◌, ◌<◌, ◌≤◌, Bool, true, false, cond, nat_eq, Option, Some, None, refl, sym, ap, ◌∙◌, subst, arith}
+use Rattle.std.proofs.Common.{◌≡◌, ◌≢◌, ℕ, ◌+◌, ◌*◌, ◌^◌, ◌<◌, Bool, true, false, cond, Some, refl, sym, ap, ◌∙◌, subst, arith}
 use Rattle.std.specs.Prelude.{◌||◌, ◌==◌}
 use Rattle.std.proofs.lemmas.Bool.{cond_both, eqb-true, eqb-false, eq-eqb, ne_eqb}
-use Rattle.far_word.specs.declared.header.HeadWord.{HeadWord}
 use Rattle.far_word.specs.declared.pointer.Place.{Place}
 use Rattle.far_word.specs.declared.pointer.PtrWord.TheVariants.{Near}
 use Rattle.far_word.specs.declared.sizes.TheConstants.{CELLS}
 use Rattle.far_word.specs.Header.{head_word}
 use Rattle.far_word.specs.Pointer.{read_of}
-use Rattle.far_word.specs.Sizes.{words_for}
 use Rattle.far_word.proofs.HeaderLaws.{head_fits}
 use Rattle.far_word.proofs.PointerLaws.{read_says}
 use Rattle.far_core.specs.declared.event.Event.TheVariants.{Name}
@@ -25,8 +23,8 @@ use Rattle.far_core.specs.state.State.{State, addr, put}
 use Rattle.far_core.proofs.KeepPlace.{header}
 use Rattle.far_core.proofs.Namings.{naming_only}
 use Rattle.far_core.proofs.Put.{put_both}
-use Rattle.far_book.specs.Known.{unknown, IsKnown, Forgets}
-use Rattle.far_book.specs.Masked.{masked, masked_word, AllFind, CountsOnQuiet}
+use Rattle.far_book.specs.Known.{IsKnown, Forgets}
+use Rattle.far_book.specs.Masked.{masked}
 use Rattle.far_book.proofs.Reading.{known_word, header_known, forgets}
 
 -- ---- whether a naming won

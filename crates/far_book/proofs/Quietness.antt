@@ -1,5 +1,5 @@
 -- Which words of the logs are those of a quiet object, by the words found in the cells.
-use Rattle.std.proofs.Common.{◌≡◌, ◌≢◌, ℕ, ◌+◌, ◌-◌, ◌*◌, ◌/◌, ◌^◌, ◌<◌, ◌≤◌, Bool, true, false, Option, Some, None, refl, sym, ap, ◌∙◌, arith}
+use Rattle.std.proofs.Common.{◌≡◌, ℕ, ◌+◌, ◌-◌, ◌*◌, ◌/◌, ◌<◌, ◌≤◌, Bool, true, false, Option, Some, None, refl, ap, ◌∙◌, arith}
 use Rattle.std.specs.Prelude.{◌||◌, ◌&&◌}
 use Rattle.std.proofs.lemmas.Bool.{false≢true}
 use Rattle.std.proofs.lemmas.Bool.Decides.{nat_tests}
@@ -12,9 +12,9 @@ use Rattle.far_word.specs.Pointer.{read_of}
 use Rattle.far_word.specs.Sizes.{words_for}
 use Rattle.far_word.proofs.PointerLaws.{read_says}
 use Rattle.far_core.specs.state.Law.{Law}
-use Rattle.far_core.specs.state.State.{State, addr}
+use Rattle.far_core.specs.state.State.{State}
 use Rattle.far_book.specs.Masked.{masked, AllFind}
-use Rattle.far_book.specs.Quiet.{is_quiet, IsQuietAt, is_moved_word}
+use Rattle.far_book.specs.Quiet.{IsQuietAt, is_moved_word}
 use Rattle.far_book.proofs.Finding.{near_found}
 
 -- what the test says

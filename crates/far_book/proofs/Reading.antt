@@ -1,25 +1,19 @@
 -- What a beset hand knows after it has read a word or written one.
-use Rattle.std.proofs.Common.{◌≡◌, ◌≢◌, ℕ, ◌+◌, ◌-◌, ◌*◌, ◌/◌, ◌^◌, ◌<◌, ◌≤◌, Bool, true, false, cond, nat_eq, Option, Some, None, refl, sym, ap, ◌∙◌, subst, arith}
-use Rattle.std.specs.Prelude.{◌||◌, ◌&&◌}
+use Rattle.std.proofs.Common.{◌≡◌, ◌≢◌, ℕ, ◌+◌, ◌-◌, ◌*◌, ◌/◌, ◌^◌, ◌<◌, Bool, true, false, cond, nat_eq, refl, sym, ap, ◌∙◌, subst, arith}
+use Rattle.std.specs.Prelude.{◌||◌}
 use Rattle.std.proofs.lemmas.Bool.{false≢true, true≢false, cond_both}
-use Rattle.std.proofs.lemmas.Bool.Decides.{nat_tests}
 use mathlib.Core.Path.{fun_ext}
-use Rattle.far_word.specs.declared.mark.Marks.{Marks}
-use Rattle.far_word.specs.declared.pointer.Place.{Place}
-use Rattle.far_word.specs.declared.pointer.PtrWord.TheVariants.{Near}
-use Rattle.far_word.specs.declared.sizes.TheConstants.{CELLS, LOG_WORDS}
-use Rattle.far_word.specs.Pointer.{read_of}
+use Rattle.far_word.specs.declared.sizes.TheConstants.{LOG_WORDS}
 use Rattle.far_word.specs.Sizes.{words_for}
 use Rattle.far_log.specs.Spans.{head_len}
 use Rattle.far_core.specs.declared.event.Event.TheVariants.{Get}
 use Rattle.far_core.specs.events.Get.{after_get, with_free_log, IsVacant, MayFree}
-use Rattle.far_core.specs.events.Legal.{Legal}
 use Rattle.far_core.specs.events.Step.{after}
 use Rattle.far_core.specs.state.Law.{Law}
-use Rattle.far_core.specs.state.State.{State, addr, put}
+use Rattle.far_core.specs.state.State.{State, put}
 use Rattle.far_core.proofs.Put.{put_both, put_same, put_other, put_old}
 use Rattle.far_book.specs.Known.{unknown, IsKnown, IsPaddedAt, Forgets}
-use Rattle.far_book.specs.Masked.{masked, masked_word, AllFind, CountsOnQuiet, recounted}
+use Rattle.far_book.specs.Masked.{masked, masked_word, AllFind, recounted}
 use Rattle.far_book.specs.Quiet.{IsQuietAt}
 use Rattle.far_book.proofs.Finding.{near_known}
 

@@ -8,7 +8,7 @@ ghost use Rattle.far_book.specs.Masked.{AllFind, CountsOnQuiet, word_at, is_coun
 
 mod hand;
 mod opening;
-mod rows;
+pub(crate) mod rows;
 mod turning;
 
 use far_core::{Core, Event};

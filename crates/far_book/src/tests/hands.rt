@@ -1,12 +1,17 @@
 //! The calls of a hand, over a plain core and over one beside which owners are at work.
 
-ghost use Rattle.std.specs.Prelude.{◌≡◌, ◌*◌, ◌<◌, IfOk, true, false};
+ghost use Rattle.std.specs.Prelude.{◌≡◌, ◌≢◌, ◌*◌, ◌<◌, ℕ, IfOk, true, false};
+ghost use Rattle.far_word.specs.declared.mark.Marks.{Marks};
+ghost use Rattle.far_word.specs.declared.pointer.Place.{Place};
+ghost use Rattle.far_word.specs.declared.pointer.PtrWord.TheVariants as near;
 ghost use Rattle.far_word.specs.declared.sizes.TheConstants.{CELLS};
+ghost use Rattle.far_word.specs.Pointer.{read_of};
 ghost use Rattle.far_core.specs.state.CoreState.{core_state};
 ghost use Rattle.far_core.specs.state.Opening.{opening};
 ghost use Rattle.far_book.specs.BesetView.{beset_view};
-ghost use Rattle.far_book.specs.Masked.{masked};
+ghost use Rattle.far_book.specs.Masked.{masked, word_at};
 
+use crate::beset::rows::found_in;
 use crate::{Beset, Near, Plain};
 use far_core::{Core, Event, Kind, Reply, Shape};
 use far_word::{Mark, PtrWord, Refused};
@@ -165,5 +170,88 @@ fn owners_are_at_work(rt: HostRuntime) -> Result<(), Fail> {
         (hand.core.cell(0), counted(&hand)),
         (0, (Some(false), Some(false)))
     );
+    Ok(())
+}
+
+/// Pointer 0 is dropped, and its object fills log 0, which is sealed.
+fn dropped_core(rt: &impl Abort, alloc: Global) -> Result<Core, Refused> {
+    let mut core = Core::new(alloc, SMALL, true)?;
+    let put = |log: u8, word: u64| Event::Put { log, at: 0, word };
+    let name = |pointer: u16, new: u64| Event::Name {
+        pointer,
+        old: 0,
+        new,
+    };
+    let events = [
+        put(0, 0xa100_0000_0001_03f8),
+        name(0, 0x8400_0000_0001_03f8),
+        put(1, 0xa100_0000_0101_0008),
+        name(1, 0x8400_0004_0001_0008),
+        Event::Adopt {
+            owner: 0,
+            pointer: 0,
+        },
+        ask(Mark::Dropped),
+    ];
+    for event in events {
+        let reply = core.step(event);
+        assert!(rt; reply != Reply::Refused, "at {event:?}");
+    }
+    Ok(core)
+}
+
+/// Whether a cell names a place in a log.
+fn lies_in(cell: u64, log: u8) -> bool
+    ensures { result ≡ false → (len ds : ℕ) (place : Place) (marks : Marks) → read_of cell ≡ Some (near.Near len ds place marks) → place.log ≢ log }
+{
+    match PtrWord::read(cell) {
+        Some(PtrWord::Near { place, .. }) => place.log == log,
+        _ => false,
+    }
+}
+
+/// Whether no cell names a place in a log.
+fn is_vacant(found: &Vec<u64>, log: u8) -> bool
+    ensures { result ≡ true → (p len ds : ℕ) (place : Place) (marks : Marks) → read_of (word_at found.now.items p) ≡ Some (near.Near len ds place marks) → place.log ≢ log }
+{
+    for pointer in 0..found.len() {
+        if lies_in(found_in(found, pointer), log) {
+            return false;
+        }
+    }
+    true
+}
+
+fn assert_vacant(rt: &impl Abort, found: &Vec<u64>, log: u8)
+    ensures { (p len ds : ℕ) (place : Place) (marks : Marks) → read_of (word_at found.now.items p) ≡ Some (near.Near len ds place marks) → place.log ≢ log }
+{
+    let vacant = is_vacant(found, log);
+    assert!(rt; vacant);
+}
+
+#[test]
+fn beset_log_is_given_back(rt: HostRuntime) -> Result<(), Fail> {
+    let core = dropped_core(&rt, rt.alloc())?;
+    let events = vec![in rt.alloc();
+        Event::ReadEpoch { owner: 0 },
+        Event::Open { owner: 0 },
+        Event::Adopt {
+            owner: 0,
+            pointer: 1,
+        },
+        Event::Pin {
+            owner: 0,
+            pointer: 1,
+        },
+    ]?;
+    let mut hand = Beset::new(rt.alloc(), core, events)?;
+    assert!(rt; hand.core.mutators() == 1);
+    assert_eq!(rt; retire_first(&mut hand), Some(Ok(())));
+    assert_vacant(&rt, &hand.found, 0);
+    assert!(rt; hand.core.logs() == 4);
+    assert!(rt; hand.core.kind(0) == Kind::Sealed);
+    assert_eq!(rt; hand.get(0, 0, true), 0xa100_0000_0001_03f8);
+    assert!(rt; hand.core.logs() == 4);
+    assert_eq!(rt; (hand.core.kind(0), hand.core.tail(0)), (Kind::Free, 0));
     Ok(())
 }

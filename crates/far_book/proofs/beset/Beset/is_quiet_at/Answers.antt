@@ -1,4 +1,4 @@
-use Rattle.std.proofs.Common.{sym, ap, ◌∙◌, ℕ, ◌<◌, ◌*◌, ◌+◌, arith, subst}
+use Rattle.std.proofs.Common.{sym, ap, ◌∙◌, ◌<◌, ◌*◌, arith}
 use Rattle.std.proofs.lemmas.Bool.{false≢true}
 use Rattle.far_word.specs.Pointer.{read_of}
 use Rattle.far_word.specs.declared.sizes.TheConstants.{CELLS}

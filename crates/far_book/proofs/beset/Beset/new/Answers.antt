@@ -1,7 +1,7 @@
-use Rattle.std.proofs.Common.{sym, subst, ap, ◌∙◌, ◌≡◌, ◌*◌, ℕ, Bool}
+use Rattle.std.proofs.Common.{sym, subst, ap, ◌∙◌, ◌*◌, ℕ, Bool}
 use Rattle.far_word.specs.declared.sizes.TheConstants.{LOG_WORDS}
 use Rattle.far_core.specs.state.CoreState.{core_state}
-use Rattle.far_book.specs.Masked.{word_at, is_counted, CountsOnQuiet}
+use Rattle.far_book.specs.Masked.{word_at, CountsOnQuiet}
 use Rattle.far_book.proofs.Counting.{counts_none}
 use Rattle.far_book.proofs.Finding.{finds_is}
 use Rattle.far_book.proofs.beset.Beset.new.Goals as goal

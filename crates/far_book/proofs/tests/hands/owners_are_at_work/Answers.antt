@@ -1,4 +1,4 @@
-use Rattle.std.proofs.Common.{◌≡◌, ◌*◌, ◌<◌, ℕ, ap, sym, subst, arith}
+use Rattle.std.proofs.Common.{◌*◌, ◌<◌, ap, sym, subst, arith}
 use Rattle.far_word.specs.declared.sizes.TheConstants.{CELLS}
 use Rattle.far_core.specs.state.State.{State}
 use Rattle.far_book.proofs.tests.hands.owners_are_at_work.Goals as goal

@@ -1,9 +1,8 @@
-use Rattle.std.proofs.Common.{sym, subst, ap, ◌∙◌, ◌≡◌, ◌≢◌, ◌*◌, ◌+◌, ℕ, Bool, true, false}
+use Rattle.std.proofs.Common.{sym, subst, ap, ◌∙◌, ◌≡◌, ◌*◌, ℕ, Bool, false}
 use Rattle.far_word.specs.declared.sizes.TheConstants.{CELLS, LOG_WORDS}
 use Rattle.far_core.specs.declared.event.Event.TheVariants.{Name}
-use Rattle.far_core.specs.declared.event.Reply.TheVariants.{Done, Word}
 use Rattle.far_core.specs.events.Legal.{Legal}
-use Rattle.far_core.specs.events.Step.{after, answer}
+use Rattle.far_core.specs.events.Step.{after}
 use Rattle.far_core.specs.state.CoreState.{core_state}
 use Rattle.far_core.specs.state.State.{State, put}
 use Rattle.far_book.specs.BesetView.{beset_view}
