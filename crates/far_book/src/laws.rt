@@ -4,12 +4,12 @@ ghost use Rattle.std.specs.Prelude.{◌≡◌, ◌*◌, ◌<◌, ◌≤◌, ℕ,
 ghost use Rattle.far_book.specs.book.Laws.{PlacingIsLegal, RetiringIsLegal};
 
 /// Placing a new object where room is leads from a state to the next by legal events of the core: its header and zeros are
-/// put, and its cell is named. So the law of the core is kept.
+/// put, and its cell is named. So the law of the core is kept, and the world makes one step: the object.
 pub fn placing_is_legal()
     ensures { PlacingIsLegal }
 {}
 
-/// Retiring a dropped object is one legal event of the core, and the law of the core is kept.
+/// Retiring a dropped object is one legal event of the core; the law of the core is kept, and the world stays.
 pub fn retiring_is_legal()
     ensures { RetiringIsLegal }
 {}

@@ -27,7 +27,7 @@ use Rattle.far_core.proofs.Put.{put_both, put_same, put_other}
 use Rattle.far_book.specs.book.Effects.{retired, with_free_cell}
 use Rattle.far_book.proofs.region.SpanLists.{taken_same, taken_without}
 
-retires_form : (o : Option PtrWord) → is_dropped o ≡ true → naming_of o (Some Free) ≡ Some naming.Retires
+pub retires_form : (o : Option PtrWord) → is_dropped o ≡ true → naming_of o (Some Free) ≡ Some naming.Retires
 retires_form None d = absurd (false≢true d)
 retires_form (Some Free) d = absurd (false≢true d)
 retires_form (Some (Near len ds place m)) d = rw d refl
