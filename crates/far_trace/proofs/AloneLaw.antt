@@ -1,17 +1,11 @@
 -- The replies to one mutator's lines are what its own lines alone say.
-use Rattle.std.proofs.Common.{◌≡◌, ℕ, ◌<◌, Bool, true, false, nat_eq, sym, refl, ap, subst, ◌∙◌, Option, Some, None, List, [], ◌∷◌}
+use Rattle.std.proofs.Common.{◌≡◌, ℕ, ◌<◌, Bool, true, false, nat_eq, sym, refl, ap, subst, ◌∙◌, List, [], ◌∷◌}
 use Rattle.std.specs.Bool.{MatchBool}
-use Rattle.std.proofs.lemmas.Bool.{cond_both, eqb-true, eqb-false}
-use Rattle.far_word.specs.declared.pointer.PtrWord.{PtrWord}
-use Rattle.far_word.specs.declared.pointer.PtrWord.TheVariants as pointer
-use Rattle.far_word.specs.declared.pointer.PtrWord.TheVariants.{Near, Far}
-use Rattle.far_word.specs.Pointer.{read_of}
+use Rattle.std.proofs.lemmas.Bool.{eqb-true, eqb-false}
 use Rattle.far_core.specs.declared.event.Event.{Event}
-use Rattle.far_core.specs.declared.event.Event.TheVariants.{ReadEpoch as ReadsEpoch, Open as Opens, Pin as Pins, Load as Loads, Store as Stores, Close as Closes, Adopt as Adopts, Put as Puts, Name as Names}
-use Rattle.far_core.specs.declared.event.Reply.{Reply as Answer}
 use Rattle.far_core.specs.state.Law.{Law}
 use Rattle.far_core.specs.state.State.{State}
-use Rattle.far_core.specs.events.Step.{step_of, after, is_legal}
+use Rattle.far_core.specs.events.Step.{step_of}
 use Rattle.far_core.specs.world.WorldOf.{world_of}
 use Rattle.far_core.proofs.Leaving.{events_leave}
 use Rattle.far_trace.specs.Moment.{Moment, moment_of}

@@ -1,4 +1,4 @@
--- Each text has an output; refused commands change nothing; strangers are refused; what logs tell makes 1,024.
+-- Each text has an output; refused commands change nothing; unknown mutators are refused; what logs tell makes 1,024.
 use Rattle.std.proofs.Common.{◌≡◌, ◌≢◌, ℕ, nat_eq, ◌+◌, ◌-◌, ◌*◌, ◌<◌, ◌≤◌, Bool, true, false, cond, not, ◌&&◌, nat_lt, length, get_or, is_some, sym, ap, refl, subst, ◌∙◌, arith, suc, Option, Some, None, Result, Ok, Err, List, [], ◌∷◌, inl, inr}
 use Rattle.std.specs.Prelude.{map, replicate, nat_le, ◌/◌, All, Contains}
 use Rattle.std.specs.Bool.{MatchBool}
@@ -100,16 +100,16 @@ first_holds s c b rest is holds =
 past : (s : State) (m k : ℕ) → m ≡ k → s.mutators ≤ m → nat_lt k s.mutators ≡ false
 past s m k e h = lt-leb (suc k) s.mutators (omega (arith, e, h))
 
-strange : (s : State) (c : Command) (m : ℕ) → IsSaidBy m c → s.mutators ≤ m → reply_to (moment_of s) c ≡ Refused Range
-strange s (Mutator k (New len ds)) m e h = first_holds s (Mutator k (New len ds)) (not (nat_lt k s.mutators && nat_lt ds 256)) _ refl (ap (λ b. not (b && nat_lt ds 256)) (past s m k e h))
-strange s (Mutator k Open) m e h = first_holds s (Mutator k Open) (not (nat_lt k s.mutators)) _ refl (ap not (past s m k e h))
-strange s (Mutator k (Write p from bytes)) m e h = first_holds s (Mutator k (Write p from bytes)) (not (nat_lt k s.mutators)) _ refl (ap not (past s m k e h))
-strange s (Mutator k (Read p from len)) m e h = first_holds s (Mutator k (Read p from len)) (not (nat_lt k s.mutators)) _ refl (ap not (past s m k e h))
-strange s (Mutator k Close) m e h = first_holds s (Mutator k Close) (not (nat_lt k s.mutators)) _ refl (ap not (past s m k e h))
-strange s (Book Logs) m e h = absurd e
+unknown : (s : State) (c : Command) (m : ℕ) → IsSaidBy m c → s.mutators ≤ m → reply_to (moment_of s) c ≡ Refused Range
+unknown s (Mutator k (New len ds)) m e h = first_holds s (Mutator k (New len ds)) (not (nat_lt k s.mutators && nat_lt ds 256)) _ refl (ap (λ b. not (b && nat_lt ds 256)) (past s m k e h))
+unknown s (Mutator k Open) m e h = first_holds s (Mutator k Open) (not (nat_lt k s.mutators)) _ refl (ap not (past s m k e h))
+unknown s (Mutator k (Write p from bytes)) m e h = first_holds s (Mutator k (Write p from bytes)) (not (nat_lt k s.mutators)) _ refl (ap not (past s m k e h))
+unknown s (Mutator k (Read p from len)) m e h = first_holds s (Mutator k (Read p from len)) (not (nat_lt k s.mutators)) _ refl (ap not (past s m k e h))
+unknown s (Mutator k Close) m e h = first_holds s (Mutator k Close) (not (nat_lt k s.mutators)) _ refl (ap not (past s m k e h))
+unknown s (Book Logs) m e h = absurd e
 
-pub stranger : (now : Moment) (c : Command) (r : Reply) (next : Moment) (m : ℕ) → IsSaidBy m c → now.core.mutators ≤ m → Commanded now c r next → r ≡ Refused Range
-stranger now c r next m e h k = k.reply ∙ strange now.core c m e h
+pub unknown_refused : (now : Moment) (c : Command) (r : Reply) (next : Moment) (m : ℕ) → IsSaidBy m c → now.core.mutators ≤ m → Commanded now c r next → r ≡ Refused Range
+unknown_refused now c r next m e h k = k.reply ∙ unknown now.core c m e h
 
 -- ---- what logs tell
 numbered : (s : State) (ls : List ℕ) → map (λ (line : LogLine). line.log) (map (log_line (moment_of s)) ls) ≡ ls

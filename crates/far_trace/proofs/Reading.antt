@@ -1,12 +1,12 @@
 -- Commands read so far, in front of those that the rest of the text says.
-use Rattle.std.proofs.Common.{◌≡◌, ℕ, ◌+◌, ◌≤◌, ◌==◌, suc, nat_lt, List, [], ◌∷◌, ◌++◌, length, map, Result, Ok, Err, false, sym, ◌∙◌, ap, refl, append_assoc, arith}
+use Rattle.std.proofs.Common.{◌≡◌, ℕ, ◌+◌, ◌≤◌, ◌==◌, suc, nat_lt, List, [], ◌∷◌, ◌++◌, length, map, Result, Ok, Err, false, ◌∙◌, ap, refl, append_assoc, arith}
 use Rattle.std.proofs.lemmas.Bool.{lt-leb}
 use Rattle.std.proofs.lemmas.List.Sums.{count_by-le-length}
 use Rattle.std.proofs.lemmas.List.Splits.{length-slice_split}
 use Rattle.far_trace.specs.declared.text.TheConstants.{LONGEST_TEXT}
-use Rattle.far_trace.specs.Command.{Command, HeapLine, CommandLine, Trace}
+use Rattle.far_trace.specs.Command.{Command}
 use Rattle.far_trace.specs.Cursor.{first_line, lines_behind}
-use Rattle.far_trace.specs.Grammar.{Line, Skipped, Saying, Bad, onto, line_of, lines_of, with_heap, read_command, read_commands, read_heap, read_lines, trace_of}
+use Rattle.far_trace.specs.Grammar.{Line, onto, line_of, lines_of, read_command, read_commands, read_heap, read_lines, trace_of}
 use Rattle.far_trace.proofs.Cuts.{split_some}
 
 abbrev pub onto_all : List Command → Result (List Command) ℕ → Result (List Command) ℕ

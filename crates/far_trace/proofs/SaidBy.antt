@@ -1,5 +1,5 @@
 -- Whose line it is, by the number behind its name.
-use Rattle.std.proofs.Common.{◌≡◌, ◌≢◌, ℕ, ◌<◌, ◌^◌, List, [], ◌∷◌, codes, decimal, refl, sym, ap, ◌∙◌}
+use Rattle.std.proofs.Common.{◌≡◌, ◌≢◌, ℕ, ◌<◌, ◌^◌, List, [], ◌∷◌, decimal, sym, ap, ◌∙◌}
 use Rattle.std.proofs.lemmas.Fmt.{decimal_injective}
 use Rattle.far_trace.specs.Command.{Command, CommandLine, New, Open, Write, Read, Close, Logs, Mutator, Book}
 use Rattle.far_trace.specs.Headline.{IsSaidBy}

@@ -1,17 +1,16 @@
 -- The logs in which views rest stay: a view lasts until its owner's close, where it rests is held, and no step gives back a group in which an object lies.
-use Rattle.std.proofs.Common.{◌≡◌, ◌≢◌, ℕ, ◌+◌, ◌/◌, true, false, cond, is_some, None, refl, sym, ap, subst, ◌∙◌, Some, List, [], ◌∷◌, ◌++◌}
+use Rattle.std.proofs.Common.{◌≡◌, ◌≢◌, ℕ, ◌+◌, ◌/◌, true, cond, is_some, None, refl, sym, ap, subst, ◌∙◌, Some, List, [], ◌∷◌, ◌++◌}
 use Rattle.std.proofs.lemmas.Bool.{true≢false}
 use Rattle.far_word.specs.declared.pointer.Place.{Place}
 use Rattle.far_word.specs.declared.sizes.TheConstants.{CELLS}
 use Rattle.far_core.specs.declared.event.Event.{Event}
 use Rattle.far_core.specs.declared.event.Event.TheVariants.{Close}
-use Rattle.far_core.specs.declared.event.Kind.{Kind}
 use Rattle.far_core.specs.declared.event.Kind.TheVariants as kinds
 use Rattle.far_core.specs.state.Law.{Law}
 use Rattle.far_word.specs.Bytes.{bytes_of}
 use Rattle.far_core.specs.state.State.{State, addr}
 use Rattle.far_core.specs.events.Step.{step_of, Fits}
-use Rattle.far_core.specs.world.World.{World, Object, Home, Group}
+use Rattle.far_core.specs.world.World.{World, Object, Group}
 use Rattle.far_core.specs.world.WorldOf.{world_of, object_of, is_group}
 use Rattle.far_core.specs.laws.Worlds.{StepKeeps}
 use Rattle.far_core.proofs.Keeps.{step_keeps}

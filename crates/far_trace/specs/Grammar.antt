@@ -1,5 +1,5 @@
 -- The grammar of a trace: what its words, its lines and its text say.
-use Rattle.std.specs.Prelude.{◌≡◌, ℕ, Bool, ◌&&◌, ◌^◌, nat_lt, nat_le, ◌==◌, ◌+◌, true, false, not, Result, Ok, Err, List, [], ◌∷◌, length, codes, decimal, zero, suc, Option, Some, None, if◌then◌else◌}
+use Rattle.std.specs.Prelude.{◌≡◌, ℕ, Bool, ◌&&◌, ◌^◌, nat_lt, nat_le, ◌==◌, ◌+◌, true, Result, Ok, Err, List, [], ◌∷◌, length, codes, decimal, zero, suc, Option, Some, None, if◌then◌else◌}
 use Rattle.std.specs.Str.{bytes_eq}
 use Rattle.std.specs.Str.Parse.{digits_value}
 use Rattle.std.specs.List.{slice_split, list_all}

@@ -1,5 +1,5 @@
 -- What a trace program's outputs say: the laws over whole texts and whole lists of commands.
-use Rattle.std.specs.Prelude.{◌≡◌, ◌≢◌, ℕ, ◌+◌, ◌*◌, ◌/◌, ◌^◌, ◌<◌, ◌≤◌, true, is_some, codes, decimal, Some, None, Ok, List, [], ◌∷◌, ◌++◌, length, replicate, slice_index, map, All, Contains}
+use Rattle.std.specs.Prelude.{◌≡◌, ◌≢◌, ℕ, ◌+◌, ◌*◌, ◌/◌, ◌^◌, ◌<◌, ◌≤◌, true, is_some, decimal, Some, None, Ok, List, [], ◌∷◌, ◌++◌, length, replicate, slice_index, map, All, Contains}
 use Rattle.std.specs.List.{flat_map, range_with_len}
 use Rattle.hex.specs.Hex.{IsBytes}
 use Rattle.far_word.specs.declared.pointer.Place.{Place}
@@ -193,8 +193,8 @@ abbrev pub RefusalsChangeNothing : Type 0
 RefusalsChangeNothing = (now : Moment) (c : Command) (r : Reply) (after : Moment) (why : Refusal) → Commanded now c r after → r ≡ Refused why → after ≡ now
 
 -- a line of a mutator that the heap hasn't is refused 8
-abbrev pub StrangersAreRefused : Type 0
-StrangersAreRefused = (now : Moment) (c : Command) (r : Reply) (after : Moment) (m : ℕ) → IsSaidBy m c → now.core.mutators ≤ m → Commanded now c r after → r ≡ Refused Range
+abbrev pub UnknownMutatorsAreRefused : Type 0
+UnknownMutatorsAreRefused = (now : Moment) (c : Command) (r : Reply) (after : Moment) (m : ℕ) → IsSaidBy m c → now.core.mutators ≤ m → Commanded now c r after → r ≡ Refused Range
 
 -- what `logs` tells
 abbrev pub LogsAreTold : Type 0

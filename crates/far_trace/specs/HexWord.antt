@@ -3,9 +3,10 @@ use Rattle.std.specs.Prelude.{ℕ, ◌%◌, ◌==◌, ◌&&◌, nat_lt, nat_le, 
 use Rattle.std.specs.List.{list_all}
 use Rattle.std.specs.Result.{result_unwrap_or}
 use Rattle.hex.specs.Hex.{decode_of, is_hex_digit}
+use Rattle.far_trace.specs.declared.hex_word.TheConstants.{LONGEST_LINE}
 
 abbrev pub is_hex_word : List ℕ → Bool
-is_hex_word word = nat_lt 0 (length word) && nat_le (length word) 4096 && (length word % 2 == 0) && list_all is_hex_digit word
+is_hex_word word = nat_lt 0 (length word) && nat_le (length word) LONGEST_LINE && (length word % 2 == 0) && list_all is_hex_digit word
 
 -- the bytes that a word in hex stands for
 unfoldable pub hex_bytes : List ℕ → List ℕ

@@ -1,6 +1,7 @@
 //! Replies that wait in the output until there is no room for one more.
 
 ghost use Rattle.std.specs.Prelude.{◌≡◌, ◌≤◌, ◌+◌, length, Option, List, [], ℕ, ◌++◌};
+ghost use Rattle.far_trace.specs.declared.reply.TheConstants.{LONGEST_REPLY};
 ghost use Rattle.far_trace.specs.Reply.{IsShort, printed, reply_of};
 ghost use Rattle.far_trace.specs.Stream.{Holds};
 
@@ -36,7 +37,7 @@ fn make_room<W: Write>(
 ) -> Result<(), WriteFault>
     ensures held { (start : Option (List ℕ)) (bytes : List ℕ) → Holds start (W.contents writer.old) out.old earlier bytes
         → Holds start (W.contents writer.new) out.new result bytes }
-    ensures room { length out.new + 16384 ≤ Output.ROOM }
+    ensures room { length out.new + LONGEST_REPLY ≤ Output.ROOM }
 {
     if out.len() <= Output::ROOM - LONGEST_REPLY {
         return earlier;

@@ -1,6 +1,6 @@
 //! What outputs say, over whole texts and whole lists of commands. No function here does anything when it runs.
 
-ghost use Rattle.far_trace.specs.Headline.{OutputsAreSound, OneOutput, EachTextIsAnswered, TextsWriteBytes, LinesAreNumbered, MomentsLast, EventsReach, HeapsBeginLawful, ObjectsStayWhole, ViewedLogsStay, ViewsLast, RefusalsStay, RefusalsChangeNothing, StrangersAreRefused, NearRefusals, MutatorsAreAlone, OwnLinesCount, NewTakesTheLowest, NoneIsLeft, NewIsMade, NewMakesItsObject, WritesChangeTheirRange, LogsAreTold, PrintedAlike};
+ghost use Rattle.far_trace.specs.Headline.{OutputsAreSound, OneOutput, EachTextIsAnswered, TextsWriteBytes, LinesAreNumbered, MomentsLast, EventsReach, HeapsBeginLawful, ObjectsStayWhole, ViewedLogsStay, ViewsLast, RefusalsStay, RefusalsChangeNothing, UnknownMutatorsAreRefused, NearRefusals, MutatorsAreAlone, OwnLinesCount, NewTakesTheLowest, NoneIsLeft, NewIsMade, NewMakesItsObject, WritesChangeTheirRange, LogsAreTold, PrintedAlike};
 
 /// From a text on: its output, where it is read as a heap in range and commands, has a reply and a moment for each
 /// command; in each moment objects are whole, through them the logs in which views rest stay, and each mutator's replies
@@ -18,10 +18,10 @@ pub fn texts_are_answered()
     ensures numbered { LinesAreNumbered }
 {}
 
-/// A heap in range begins with the numbers of its line, the law and nothing in it. Behind commands each moment has the
+/// A heap in range begins with the numbers of its line, the law and nothing in it. After commands each moment has the
 /// law, its pointers at hand and its objects whole: each in use has exactly one live span, each log's bytes are 1,024 in
 /// all, and no two pointers name one place. Each command is carried out by its events: they are legal, keep the law and
-/// what views rest on, and end in the moment behind it.
+/// what views rest on, and end in the moment after it.
 pub fn moments_are_lawful()
     ensures begin { HeapsBeginLawful }
     ensures last { MomentsLast }
@@ -38,12 +38,12 @@ pub fn views_last()
 
 /// A refused command leaves objects, bytes, places and all else as they were, but for HOT and MOVE in cells, which it may
 /// add; the commands of today add none, and leave the moment as it is. A line of a mutator that the heap hasn't is
-/// refused 8. Where all objects are near and at hand, no command behind the heap is refused for want of memory, by a
+/// refused 8. Where all objects are near and at hand, no command after the heap is refused for want of memory, by a
 /// device or for a mark; for want of a pointer or of room a new object alone is refused.
 pub fn refusals_leave_all()
     ensures stay { RefusalsStay }
     ensures nothing { RefusalsChangeNothing }
-    ensures strangers { StrangersAreRefused }
+    ensures unknown { UnknownMutatorsAreRefused }
     ensures near { NearRefusals }
 {}
 
@@ -73,7 +73,7 @@ pub fn lines_tell_replies()
     ensures { PrintedAlike }
 {}
 
-/// `logs` tells each log once, by number: its kind and its bytes, which make 1,024.
+/// `logs` reports each log once, by number: its kind and its bytes, which make 1,024.
 pub fn logs_are_told()
     ensures { LogsAreTold }
 {}

@@ -4,9 +4,13 @@ ghost use Rattle.std.specs.Prelude.{◌≡◌, ◌≤◌, ◌%◌, ◌==◌, ◌
 ghost use Rattle.hex.specs.Hex.{is_hex_digit};
 ghost use Rattle.std.specs.List.{list_all};
 ghost use Rattle.far_trace.specs.HexWord.{is_hex_word};
+ghost use Rattle.far_trace.specs.declared.hex_word.TheConstants.{LONGEST_LINE};
 
 /// The most bytes that a line has, its newline not counted.
 pub const LONGEST_LINE: usize = 4096;
+
+/// The most bytes that a word in hex spells.
+pub const LONGEST_BYTES: usize = LONGEST_LINE / 2;
 
 /// A word in hex, as it is spelled: some bytes, by two digits each.
 #[derive(Clone, Copy)]
@@ -19,6 +23,7 @@ impl<'a> HexWord<'a> {
     ghost use Rattle.std.specs.Prelude.{◌≡◌, ◌≤◌, length, true, Option};
     ghost use Rattle.std.specs.Option.{option_map};
     ghost use Rattle.far_trace.specs.HexWord.{hex_bytes};
+    ghost use Rattle.far_trace.specs.declared.hex_word.TheConstants.{LONGEST_BYTES};
     ghost use Rattle.far_trace.specs.Grammar.{bytes_in};
 
     /// The bytes that a word spells, or None where it is no word in hex.
@@ -35,7 +40,7 @@ impl<'a> HexWord<'a> {
     /// How many bytes the word spells.
     pub fn len(&self) -> usize
         ensures value { result ≡ length (hex_bytes self.now.digits.now) }
-        ensures short { result ≤ 2048 }
+        ensures short { result ≤ LONGEST_BYTES }
     {
         self.digits.len() / 2
     }
@@ -68,7 +73,7 @@ fn are_digits(word: &[u8]) -> bool
 }
 
 fn is_hex_len(len: usize) -> bool
-    ensures { result ≡ (nat_lt 0 len && nat_le len 4096 && (len % 2 == 0)) }
+    ensures { result ≡ (nat_lt 0 len && nat_le len LONGEST_LINE && (len % 2 == 0)) }
 {
     len > 0 && len <= LONGEST_LINE && len % 2 == 0
 }

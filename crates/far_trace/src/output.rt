@@ -2,6 +2,7 @@
 
 ghost use Rattle.std.specs.Prelude.{◌≡◌, ◌++◌, ◌+◌, ◌*◌, ◌≤◌, ℕ, List, [], length, take, decimal, IfOk};
 ghost use Rattle.hex.specs.Hex.{encode_lower};
+ghost use Rattle.far_trace.specs.declared.output.TheConstants.Output.{ROOM};
 
 use itoa::Buffer;
 use std::alloc::{AllocError, Global};
@@ -19,7 +20,7 @@ impl Model for Output {
 
     ghost view = { λ o. take o.len o.room.items };
 
-    ghost invariant = { λ o. (length o.room.items ≡ 65536) × (o.len ≤ 65536) };
+    ghost invariant = { λ o. (length o.room.items ≡ ROOM) × (o.len ≤ ROOM) };
 }
 
 /// So many zeros.
