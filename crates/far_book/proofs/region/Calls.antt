@@ -1,8 +1,8 @@
 -- What the book's calls are allowed, and what they leave, by a ledger that is right.
-use Rattle.std.proofs.Common.{◌≡◌, ◌≢◌, ℕ, ◌+◌, ◌*◌, ◌/◌, ◌<◌, ◌≤◌, ◌^◌, Bool, true, false, cond, arith, sym, refl, ap, subst, ◌∙◌, Option, Some, None, List, [], ◌∷◌, ◌++◌, map, take, length, inl, inr}
-use Rattle.std.specs.Prelude.{◌==◌, IsSome, slice_index_or}
+use Rattle.std.proofs.Common.{◌≡◌, ◌≢◌, ℕ, ◌+◌, ◌*◌, ◌<◌, ◌≤◌, ◌^◌, Bool, true, false, cond, arith, sym, refl, ap, subst, ◌∙◌, Option, Some, None, List, [], ◌∷◌, ◌++◌, map, take, length, inl, inr}
+use Rattle.std.specs.Prelude.{IsSome, slice_index_or}
 use Rattle.std.proofs.lemmas.List.{take_more, map_push}
-use Rattle.std.proofs.lemmas.Bool.{cases_lt, false≢true, true≢false}
+use Rattle.std.proofs.lemmas.Bool.{cases_lt, false≢true}
 use mathlib.Core.Path.{fun_ext}
 use Rattle.far_word.specs.declared.mark.Marks.{Marks}
 use Rattle.far_word.specs.declared.pointer.Place.{Place}
@@ -10,7 +10,7 @@ use Rattle.far_word.specs.declared.pointer.PtrWord.{PtrWord}
 use Rattle.far_word.specs.declared.pointer.PtrWord.TheVariants.{Free, Near, Far}
 use Rattle.far_word.specs.declared.sizes.TheConstants.{CELLS, LOG_WORDS, LONGEST}
 use Rattle.far_word.specs.Header.{IsHead, head_word}
-use Rattle.far_word.specs.Pointer.{IsPtr, read_of, word_of}
+use Rattle.far_word.specs.Pointer.{IsPtr, read_of}
 use Rattle.far_word.specs.Sizes.{size_of, words_for}
 use Rattle.far_word.proofs.PointerLaws.{read_says, read_back}
 use Rattle.far_log.specs.declared.row.LogRow.{LogRow}
@@ -28,8 +28,8 @@ use Rattle.far_core.proofs.Put.{put_both, put_same, put_other}
 use Rattle.far_core.proofs.RoomLaws.{room_right}
 use Rattle.far_book.specs.declared.ledger.Ledger.{Ledger}
 use Rattle.far_book.specs.Finds.{Finds, body_of, marks_in}
-use Rattle.far_book.specs.book.Effects.{retired, order_after, with_free_cell, with_blank_span, near_word, placed, written}
-use Rattle.far_book.specs.book.Ledger.{Notes, IsLowestFree, MayTake, Takes, filled_of}
+use Rattle.far_book.specs.book.Effects.{retired, order_after, with_free_cell, with_blank_span, near_word, written}
+use Rattle.far_book.specs.book.Ledger.{Notes, IsLowestFree, MayTake, Takes}
 use Rattle.far_book.specs.book.Own.{own_part}
 use Rattle.far_book.specs.book.Placeable.{Placeable}
 use Rattle.far_book.specs.book.Rows.{row_of}

@@ -1,16 +1,11 @@
 -- A word is found in a cell, with marks that its owner may have added: the law stays, and a ledger that was right.
-use Rattle.std.proofs.Common.{◌≡◌, ◌≢◌, ℕ, ◌*◌, ◌<◌, ◌^◌, Bool, true, false, cond, arith, sym, refl, ap, subst, ◌∙◌, Option, Some, None, inl, inr}
-use Rattle.std.specs.Prelude.{◌==◌, Contains, IsSome}
-use Rattle.std.specs.List.{IsDistinct, list_any}
+use Rattle.std.proofs.Common.{◌≡◌, ◌≢◌, ℕ, ◌<◌, ◌^◌, true, cond, sym, refl, ap, subst, ◌∙◌, Option, Some, None, inl, inr}
+use Rattle.std.specs.Prelude.{◌==◌, IsSome}
 use Rattle.std.proofs.lemmas.Bool.{cases_eq, cond_both, eqb-true, eq-eqb, ne_eqb, false≢true, true≢false, false_from_ne_true}
-use Rattle.far_word.specs.declared.mark.Marks.{Marks}
-use Rattle.far_word.specs.declared.pointer.Place.{Place}
 use Rattle.far_word.specs.declared.pointer.PtrWord.{PtrWord}
 use Rattle.far_word.specs.declared.pointer.PtrWord.TheVariants.{Free, Near, Far}
-use Rattle.far_word.specs.declared.sizes.TheConstants.{CELLS}
 use Rattle.far_word.specs.Pointer.{read_of, names_object, near_fits, near_of, far_fits, far_of}
 use Rattle.far_word.specs.Mark.{field, is_set, marks_of}
-use Rattle.far_log.specs.declared.span.Span.{Span}
 use Rattle.far_log.specs.Spans.{taken_by}
 use Rattle.far_core.specs.events.Naming.{is_dropped}
 use Rattle.far_core.specs.laws.Observed.{live_bytes}
@@ -20,10 +15,10 @@ use Rattle.far_core.specs.state.State.{State, put}
 use Rattle.far_core.proofs.Cells.{Remarked, unused}
 use Rattle.far_core.proofs.Cells as cells
 use Rattle.far_core.proofs.Frames.{law_with_cell_marks}
-use Rattle.far_core.proofs.Put.{put_both, put_same, put_old}
+use Rattle.far_core.proofs.Put.{put_both, put_old}
 use Rattle.far_book.specs.declared.ledger.Ledger.{Ledger}
 use Rattle.far_book.specs.Finds.{Finds, body_of, marks_in}
-use Rattle.far_book.specs.book.Ledger.{Notes, is_noted_free}
+use Rattle.far_book.specs.book.Ledger.{Notes}
 use Rattle.far_book.specs.book.Home.{home_of}
 use Rattle.far_book.specs.book.Own.{own_part}
 use Rattle.far_book.proofs.region.SpanLists.{taken_same}

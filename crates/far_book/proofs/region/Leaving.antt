@@ -1,5 +1,5 @@
 -- A dropped object leaves its log: what is asked of the ledger, and what it is then.
-use Rattle.std.proofs.Common.{◌≡◌, ◌≢◌, ℕ, ◌+◌, ◌*◌, ◌<◌, ◌≤◌, Bool, true, false, arith, sym, refl, ap, subst, ◌∙◌, Option, Some, None}
+use Rattle.std.proofs.Common.{◌≡◌, ℕ, ◌*◌, ◌<◌, ◌≤◌, true, arith, Option, Some, None}
 use Rattle.std.proofs.lemmas.Bool.{false≢true}
 use Rattle.std.specs.Vec.{vec_len}
 use Rattle.far_word.specs.declared.mark.Marks.{Marks}

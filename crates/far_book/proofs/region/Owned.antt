@@ -1,18 +1,15 @@
 -- Owners' events leave a right ledger right.
-use Rattle.std.proofs.Common.{◌≡◌, ◌≢◌, ℕ, ◌+◌, ◌*◌, ◌<◌, ◌≤◌, Bool, true, false, cond, arith, sym, refl, ap, subst, ◌∙◌, inl, inr}
+use Rattle.std.proofs.Common.{◌≡◌, ℕ, ◌+◌, true, cond, arith, sym, refl, ap, subst, ◌∙◌, inl, inr}
 use Rattle.std.specs.Prelude.{◌==◌}
 use Rattle.std.proofs.lemmas.Bool.{cond_both, cases_eq, eq-eqb, ne_eqb, false≢true}
-use mathlib.Core.Path.{fun_ext}
-use Rattle.far_word.specs.Pointer.{read_of}
-use Rattle.far_word.specs.Sizes.{size_of, words_for}
 use Rattle.far_log.specs.Spans.{taken_by}
 use Rattle.far_core.specs.laws.Observed.{live_bytes}
 use Rattle.far_core.specs.state.Law.{Law, head_len}
-use Rattle.far_core.specs.state.Spans.{spans_of, is_live, names_place}
+use Rattle.far_core.specs.state.Spans.{spans_of, is_live}
 use Rattle.far_core.specs.state.State.{State, addr}
 use Rattle.far_core.proofs.Bounds.{span_len}
 use Rattle.far_book.specs.declared.ledger.Ledger.{Ledger}
-use Rattle.far_book.specs.Owners.{OwnersChange, IsLoudAt}
+use Rattle.far_book.specs.Owners.{OwnersChange}
 use Rattle.far_book.specs.book.Ledger.{Notes}
 use Rattle.far_book.specs.book.Own.{own_part}
 use Rattle.far_book.proofs.region.Founds.{names_found, free_found, free_known}

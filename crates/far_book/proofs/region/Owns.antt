@@ -1,12 +1,12 @@
 -- The book's own part of a state: it keeps the law, has the same spans, and changes by the book's calls alone.
-use Rattle.std.proofs.Common.{◌≡◌, ◌≢◌, ℕ, ◌+◌, ◌-◌, ◌*◌, ◌/◌, ◌%◌, ◌^◌, ◌<◌, ◌≤◌, Bool, true, false, cond, zero, suc, arith, sym, refl, ap, subst, ◌∙◌, Option, Some, None, List, [], ◌∷◌, inl, inr, nat_lt}
+use Rattle.std.proofs.Common.{◌≡◌, ℕ, ◌+◌, ◌-◌, ◌*◌, ◌^◌, ◌<◌, ◌≤◌, true, false, cond, zero, suc, arith, sym, refl, ap, ◌∙◌, Some, List, [], ◌∷◌, inl, inr, nat_lt}
 use Rattle.std.specs.Prelude.{Contains, not}
 use Rattle.std.proofs.lemmas.Bool.{cond_both, cases_eq, false≢true, ltb-true, ltb-false}
 use Rattle.std.proofs.lemmas.Nat.{pow_pos}
 use mathlib.Core.Path.{fun_ext}
 use Rattle.far_word.specs.declared.pointer.Place.{Place}
 use Rattle.far_word.specs.declared.scope.ScopeWord.TheVariants as scoped
-use Rattle.far_word.specs.declared.sizes.TheConstants.{CELLS, LOG_WORDS}
+use Rattle.far_word.specs.declared.sizes.TheConstants.{LOG_WORDS}
 use Rattle.far_word.specs.Header.{head_of, head_word}
 use Rattle.far_word.specs.Sizes.{size_of, words_for}
 use Rattle.far_log.specs.declared.span.Span.{Span}
@@ -16,14 +16,14 @@ use Rattle.far_log.proofs.SpanLaws.{tile_low}
 use Rattle.far_word.specs.Pointer.{read_of}
 use Rattle.far_core.specs.events.Naming.{is_dropped}
 use Rattle.far_core.specs.laws.Observed.{live_bytes, dead_bytes}
-use Rattle.far_core.specs.state.Law.{Law, Heads, head_len}
+use Rattle.far_core.specs.state.Law.{Law, head_len}
 use Rattle.far_core.specs.state.Spans.{spans_of, word_in, is_live}
 use Rattle.far_core.specs.state.State.{State, put, addr}
 use Rattle.far_core.proofs.KeepOwner.{closed_word}
 use Rattle.far_core.proofs.Observations.{found, walks}
-use Rattle.far_core.proofs.Put.{put_both, put_same, put_other}
+use Rattle.far_core.proofs.Put.{put_same, put_other}
 use Rattle.far_book.specs.Known.{Forgets}
-use Rattle.far_book.specs.book.Effects.{written, near_word, placed, retired, with_blank_span, with_free_cell}
+use Rattle.far_book.specs.book.Effects.{written, placed, retired, with_blank_span, with_free_cell}
 use Rattle.far_book.specs.book.Own.{own_part}
 use Rattle.far_book.specs.book.Placeable.{Placeable, with_object}
 use Rattle.far_book.proofs.region.Places.{named_is, none_past}

@@ -1,5 +1,5 @@
 -- The effects of the book's calls are reached by legal events.
-use Rattle.std.proofs.Common.{◌≡◌, ◌≢◌, ℕ, zero, suc, ◌+◌, ◌*◌, ◌^◌, ◌<◌, ◌≤◌, true, false, cond, arith, sym, refl, ap, subst, ◌∙◌, Some, List, [], ◌∷◌, ◌++◌, inl, inr}
+use Rattle.std.proofs.Common.{◌≡◌, ℕ, zero, suc, ◌+◌, ◌*◌, ◌^◌, ◌<◌, ◌≤◌, true, cond, arith, sym, refl, ap, subst, ◌∙◌, Some, List, [], ◌∷◌, ◌++◌}
 use Rattle.std.proofs.lemmas.Bool.{eq-eqb}
 use Rattle.far_word.specs.declared.pointer.Place.{Place}
 use Rattle.far_word.specs.declared.pointer.PtrWord.TheVariants.{Near}

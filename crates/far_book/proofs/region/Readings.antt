@@ -1,12 +1,12 @@
 -- The words of a log read one after the other, while owners store into their objects, walk to its spans.
-use Rattle.std.proofs.Common.{◌≡◌, ◌≢◌, ℕ, ◌+◌, ◌-◌, ◌*◌, ◌^◌, ◌<◌, ◌≤◌, Bool, true, arith, sym, refl, ap, subst, ◌∙◌, List, length, inl, inr, get_or-set_same, get_or-set_other}
-use Rattle.std.specs.Prelude.{All, Contains, slice_index, slice_set}
+use Rattle.std.proofs.Common.{◌≡◌, ℕ, ◌+◌, ◌-◌, ◌*◌, ◌^◌, ◌<◌, true, arith, sym, refl, ap, subst, ◌∙◌, List, length, inl, inr, get_or-set_same, get_or-set_other}
+use Rattle.std.specs.Prelude.{Contains, slice_index, slice_set}
 use Rattle.std.proofs.lemmas.Bool.{cases_eq}
 use Rattle.std.proofs.lemmas.List.Elements.{All-contains}
 use Rattle.far_word.specs.declared.sizes.TheConstants.{LOG_WORDS}
-use Rattle.far_word.specs.Sizes.{size_of, words_for}
+use Rattle.far_word.specs.Sizes.{words_for}
 use Rattle.far_log.specs.declared.span.Span.{Span}
-use Rattle.far_log.specs.Spans.{Stands, Tile, head_len}
+use Rattle.far_log.specs.Spans.{Stands, head_len}
 use Rattle.far_log.specs.Walk.{IsWalk, FirstBad}
 use Rattle.far_log.proofs.Members.{All-from}
 use Rattle.far_log.proofs.SpanLaws.{one_list, tile_bounds}

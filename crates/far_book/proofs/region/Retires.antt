@@ -1,12 +1,12 @@
 -- A dropped object's cell is freed: the law stays, and its log has one live span less, if the object lay near.
-use Rattle.std.proofs.Common.{◌≡◌, ◌≢◌, ℕ, ◌+◌, ◌*◌, ◌^◌, ◌<◌, Bool, true, false, arith, sym, refl, ap, subst, ◌∙◌, Option, Some, None}
-use Rattle.std.specs.Prelude.{◌==◌, ◌&&◌, Contains}
+use Rattle.std.proofs.Common.{◌≡◌, ◌≢◌, ℕ, ◌+◌, ◌*◌, ◌<◌, true, false, arith, sym, refl, ap, subst, ◌∙◌, Option, Some, None}
+use Rattle.std.specs.Prelude.{Contains}
 use Rattle.std.proofs.lemmas.Bool.{eq-eqb, ne_eqb, false≢true}
 use Rattle.far_word.specs.declared.mark.Marks.{Marks}
 use Rattle.far_word.specs.declared.pointer.Place.{Place}
 use Rattle.far_word.specs.declared.pointer.PtrWord.{PtrWord}
 use Rattle.far_word.specs.declared.pointer.PtrWord.TheVariants.{Free, Near, Far}
-use Rattle.far_word.specs.declared.sizes.TheConstants.{CELLS, LOG_WORDS}
+use Rattle.far_word.specs.declared.sizes.TheConstants.{CELLS}
 use Rattle.far_word.specs.Pointer.{read_of}
 use Rattle.far_word.specs.Sizes.{bytes_taken}
 use Rattle.far_log.specs.declared.span.Span.{Span}
@@ -16,14 +16,14 @@ use Rattle.far_core.specs.declared.naming.Naming.TheVariants as naming
 use Rattle.far_core.specs.events.Legal.{Legal}
 use Rattle.far_core.specs.events.Naming.{is_dropped, naming_of}
 use Rattle.far_core.specs.events.Step.{after}
-use Rattle.far_core.specs.laws.Observed.{live_bytes, span_for, OneLive}
+use Rattle.far_core.specs.laws.Observed.{live_bytes, span_for}
 use Rattle.far_core.specs.state.Law.{Law}
 use Rattle.far_core.specs.state.Spans.{spans_of, is_live, names_place}
-use Rattle.far_core.specs.state.State.{State, put}
+use Rattle.far_core.specs.state.State.{State}
 use Rattle.far_core.proofs.Cells.{unused}
 use Rattle.far_core.proofs.Observations.{walks, one_live}
 use Rattle.far_core.proofs.Owing.{keeps}
-use Rattle.far_core.proofs.Put.{put_both, put_same, put_other}
+use Rattle.far_core.proofs.Put.{put_both, put_same}
 use Rattle.far_book.specs.book.Effects.{retired, with_free_cell}
 use Rattle.far_book.proofs.region.SpanLists.{taken_same, taken_without}
 

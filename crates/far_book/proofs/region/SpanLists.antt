@@ -1,5 +1,5 @@
 -- What the spans of a list take that pass a test.
-use Rattle.std.proofs.Common.{◌≡◌, ◌≢◌, ℕ, ◌+◌, ◌<◌, ◌≤◌, Bool, true, false, cond, arith, sym, refl, ap, ◌∙◌, List, [], ◌∷◌, ◌++◌, inl, inr}
+use Rattle.std.proofs.Common.{◌≡◌, ◌≢◌, ℕ, ◌+◌, Bool, true, false, cond, arith, refl, ap, ◌∙◌, List, [], ◌∷◌, ◌++◌, inl, inr}
 use Rattle.std.specs.Prelude.{Contains}
 use Rattle.far_word.specs.Sizes.{size_of, bytes_taken}
 use Rattle.far_log.specs.declared.span.Span.{Span}

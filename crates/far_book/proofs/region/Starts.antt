@@ -1,11 +1,10 @@
 -- The ledger of a heap at the start is right.
-use Rattle.std.proofs.Common.{inl, inr, ◌≡◌, ℕ, ◌+◌, ◌*◌, ◌/◌, ◌%◌, ◌<◌, ◌≤◌, Bool, true, false, arith, sym, refl, ap, subst, ◌∙◌, List, [], Some, nat_lt}
+use Rattle.std.proofs.Common.{inl, inr, ◌≡◌, ℕ, ◌*◌, ◌/◌, ◌%◌, ◌<◌, ◌≤◌, Bool, true, false, arith, sym, refl, ap, subst, ◌∙◌, [], nat_lt}
 use Rattle.std.specs.Prelude.{◌&&◌, ◌==◌, not, replicate, slice_index_or, eqb}
 use Rattle.std.specs.List.{list_any, IsDistinct}
 use Rattle.std.specs.Vec.{vec_len, vec_capacity}
-use Rattle.std.proofs.lemmas.Bool.{lt-ltb, cases_eq, eq-eqb, ne_eqb}
+use Rattle.std.proofs.lemmas.Bool.{cases_eq, eq-eqb, ne_eqb}
 use Rattle.std.proofs.lemmas.List.{get_or-replicate}
-use Rattle.far_word.specs.declared.sizes.TheConstants.{CELLS, LOG_WORDS}
 use Rattle.far_log.specs.Spans.{spans_in}
 use Rattle.far_core.specs.declared.event.Kind.TheVariants.{Free, Open}
 use Rattle.far_core.specs.declared.shape.Shape.{Shape}

@@ -1,6 +1,5 @@
 -- What a caller of the book needs: that a new core is at the start, and that a mark shows a drop.
-use Rattle.std.proofs.Common.{◌≡◌, ℕ, Bool, true, false, sym, refl, ap, subst, ◌∙◌, Option, Some, None}
-use Rattle.std.proofs.lemmas.Bool.{false≢true}
+use Rattle.std.proofs.Common.{◌≡◌, Bool, true, false, sym, refl, ap, subst, ◌∙◌, Option, Some, None}
 use Rattle.far_word.specs.declared.mark.Marks.{Marks}
 use Rattle.far_word.specs.declared.pointer.Place.{Place}
 use Rattle.far_word.specs.declared.pointer.PtrWord.{PtrWord}
@@ -9,8 +8,7 @@ use Rattle.far_core.specs.declared.shape.Shape.{Shape}
 use Rattle.far_core.specs.events.Naming.{is_dropped}
 use Rattle.far_core.specs.state.Opening.{opening}
 use Rattle.far_core.specs.state.State.{State}
-use Rattle.far_book.specs.declared.home.Home.{Home}
-use Rattle.far_book.specs.declared.home.Home.TheVariants.{Near, Far}
+use Rattle.far_book.specs.declared.home.Home.TheVariants.{Near}
 use Rattle.far_book.specs.Masked.{masked}
 use Rattle.far_book.specs.book.Home.{home_of}
 use Rattle.far_book.specs.book.Own.{IsAtStart}

@@ -1,5 +1,5 @@
 -- What the book has written down of a state, and how that changes.
-use Rattle.std.specs.Prelude.{◌≡◌, ◌≢◌, ℕ, ◌+◌, ◌*◌, ◌/◌, ◌%◌, ◌<◌, ◌≤◌, ◌==◌, ◌&&◌, ◌||◌, Bool, true, not, eqb, nat_lt, Option, Some, None, List, [], ◌∷◌, ◌++◌, slice_index_or, if◌then◌else◌}
+use Rattle.std.specs.Prelude.{◌≡◌, ◌≢◌, ℕ, ◌+◌, ◌*◌, ◌/◌, ◌%◌, ◌<◌, ◌≤◌, ◌==◌, ◌&&◌, ◌||◌, Bool, true, not, eqb, nat_lt, Option, Some, None, [], ◌∷◌, ◌++◌, slice_index_or, if◌then◌else◌}
 use Rattle.std.specs.List.{IsDistinct, list_any}
 use Rattle.std.specs.Vec.{vec_len, vec_capacity}
 use Rattle.far_word.specs.declared.pointer.Place.{Place}
@@ -14,7 +14,6 @@ use Rattle.far_core.specs.state.Room.{is_free}
 use Rattle.far_core.specs.state.State.{State}
 use Rattle.far_book.specs.declared.ledger.Filled.{Filled}
 use Rattle.far_book.specs.declared.ledger.Ledger.{Ledger}
-use Rattle.far_book.specs.declared.number_set.NumberSet.{NumberSet}
 use Rattle.far_book.specs.Finds.{body_of}
 use Rattle.far_book.specs.book.NumberSet.{has}
 

@@ -1,10 +1,8 @@
 use Rattle.far_book.proofs.book.free_cell.Goals as goal
-use Rattle.std.proofs.Common.{◌≡◌, ◌∙◌, ◌*◌, ◌<◌, ◌^◌, ap, sym, subst, arith}
-use Rattle.far_word.specs.Pointer.{read_of}
+use Rattle.std.proofs.Common.{◌∙◌, ◌*◌, ◌<◌, ◌^◌, ap, sym, subst, arith}
 use Rattle.far_word.specs.declared.sizes.TheConstants.{CELLS}
 use Rattle.far_word.proofs.PointerLaws.{word_fits}
 use Rattle.far_core.specs.state.State.{State, put}
-use Rattle.far_book.specs.Finds.{body_of}
 use Rattle.far_book.proofs.Finding.{finds_more}
 use Rattle.far_book.proofs.region.Calls.{after_is, still_dropped, put_put, count_more}
 use Rattle.far_book.proofs.region.Founds.{drop_found}

@@ -1,4 +1,4 @@
-use Rattle.std.proofs.Common.{◌≡◌, ◌≤◌, ◌+◌, true, Some}
+use Rattle.std.proofs.Common.{◌≡◌, ◌≤◌, Some}
 use Rattle.far_word.specs.Pointer.{IsPtr, read_of, word_of}
 use Rattle.far_core.specs.state.State.{put}
 use Rattle.far_book.specs.Finds.{Finds}

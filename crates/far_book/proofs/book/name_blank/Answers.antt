@@ -1,5 +1,5 @@
 use Rattle.far_book.proofs.book.name_blank.Goals as goal
-use Rattle.std.proofs.Common.{◌≡◌, ◌∙◌, ap, sym, subst, arith, refl, ℕ}
+use Rattle.std.proofs.Common.{◌≡◌, sym, subst, refl, ℕ}
 use Rattle.far_core.specs.declared.event.Event.TheVariants as events
 use Rattle.far_core.specs.events.Legal.{Legal}
 use Rattle.far_core.specs.state.State.{State}

@@ -1,10 +1,8 @@
 use Rattle.far_book.proofs.book.read_words.Goals as goal
-use Rattle.std.proofs.Common.{◌≡◌, ◌∙◌, ◌+◌, ◌*◌, ◌<◌, ap, sym, subst, arith, refl, inl, inr, length-set}
-use Rattle.std.specs.Prelude.{slice_index}
-use Rattle.std.proofs.lemmas.Bool.{cases_eq, cases_lt}
+use Rattle.std.proofs.Common.{◌∙◌, ◌+◌, ◌*◌, ◌<◌, ap, sym, subst, arith, refl, inl, inr, length-set}
+use Rattle.std.proofs.lemmas.Bool.{cases_eq}
 use Rattle.far_word.specs.declared.sizes.TheConstants.{LOG_WORDS}
 use Rattle.far_core.specs.state.State.{State}
-use Rattle.far_book.specs.book.Reading.{IsReadAt}
 use Rattle.far_book.proofs.region.Readings.{read_at, read_more, still_known}
 
 pub get-requires : goal.get-requires

@@ -2,7 +2,6 @@ use Rattle.far_book.proofs.book.Book.new.Goals as goal
 use Rattle.std.proofs.Common.{◌≡◌, subst, ap, sym, ◌∙◌}
 use Rattle.std.specs.Prelude.{false}
 use Rattle.far_core.specs.state.Opening.{opening}
-use Rattle.far_core.specs.state.State.{State}
 use Rattle.far_book.specs.book.Ledger.{Notes}
 use Rattle.far_book.specs.book.Own.{own_part}
 

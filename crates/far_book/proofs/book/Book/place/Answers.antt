@@ -1,5 +1,5 @@
 use Rattle.far_book.proofs.book.Book.place.Goals as goal
-use Rattle.std.proofs.Common.{◌≡◌, ◌∙◌, ◌<◌, ◌*◌, ap, sym, subst, arith, ℕ}
+use Rattle.std.proofs.Common.{◌≡◌, ◌∙◌, ◌<◌, ◌*◌, ap, sym, subst}
 use Rattle.std.specs.Prelude.{true, Some}
 use Rattle.far_word.specs.declared.sizes.TheConstants.{CELLS}
 use Rattle.far_word.specs.Sizes.{size_of}
@@ -8,7 +8,7 @@ use Rattle.far_core.specs.state.State.{State}
 use Rattle.far_book.specs.book.BookOf.{BookOf}
 use Rattle.far_book.specs.book.Ledger.{Notes, MayTake, Takes}
 use Rattle.far_book.specs.book.Own.{own_part}
-use Rattle.far_book.proofs.region.Calls.{placeable, ends, may_take, order_taken}
+use Rattle.far_book.proofs.region.Calls.{placeable, ends, may_take}
 use Rattle.far_book.proofs.region.NotesKept.{notes_placed}
 use Rattle.far_book.proofs.region.Owns.{own_named}
 

@@ -1,7 +1,6 @@
 use Rattle.far_book.proofs.book.Book.rows.Goals as goal
-use Rattle.std.proofs.Common.{◌≡◌, ◌<◌, ap, sym, subst, ◌∙◌, arith, length, ℕ, List, map, ◌++◌, ◌∷◌, []}
+use Rattle.std.proofs.Common.{◌≡◌, ◌<◌, ap, sym, subst, ◌∙◌, arith, length, ℕ, List, ◌++◌, ◌∷◌, []}
 use Rattle.std.specs.Prelude.{slice_index_or}
-use Rattle.far_book.specs.book.Ledger.{KnowsLog}
 use Rattle.far_book.specs.book.Own.{own_part}
 use Rattle.far_book.specs.book.Rows.{row_of}
 use Rattle.far_book.proofs.region.Calls.{row_own, rows_more}

@@ -1,14 +1,12 @@
 use Rattle.far_book.proofs.book.Book.spans.Goals as goal
-use Rattle.std.proofs.Common.{◌≡◌, ◌∙◌, ◌<◌, ◌+◌, ◌*◌, ap, sym, subst, arith, ℕ, List, true}
+use Rattle.std.proofs.Common.{◌≡◌, ◌<◌, ap, sym, subst, ℕ, true}
 use Rattle.std.specs.Prelude.{slice_index, IfOk}
-use Rattle.far_word.specs.declared.sizes.TheConstants.{LOG_WORDS}
 use Rattle.far_log.specs.Walk.{IsWalk}
 use Rattle.far_core.specs.state.Spans.{spans_of}
 use Rattle.far_core.specs.state.State.{State}
 use Rattle.far_book.specs.book.BookOf.{BookOf}
 use Rattle.far_book.specs.book.Ledger.{Notes}
 use Rattle.far_book.specs.book.Own.{own_part}
-use Rattle.far_book.specs.book.Reading.{IsReadAt}
 use Rattle.far_book.proofs.region.Owns.{own_headers}
 use Rattle.far_book.proofs.region.Readings.{headers_known, row_walks}
 

@@ -1,5 +1,5 @@
 use Rattle.far_book.proofs.ledger.Ledger.new.Goals as goal
-use Rattle.std.proofs.Common.{◌≤◌, ◌<◌, ℕ, arith, ap, ◌∙◌, sym, refl}
+use Rattle.std.proofs.Common.{ap, ◌∙◌, refl}
 use Rattle.std.specs.Prelude.{not, ◌&&◌, ◌==◌}
 use Rattle.std.proofs.lemmas.Bool.{lt-ltb}
 use Rattle.far_book.proofs.region.Starts.{starts}

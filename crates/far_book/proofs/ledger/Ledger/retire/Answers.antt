@@ -1,7 +1,6 @@
 use Rattle.far_book.proofs.ledger.Ledger.retire.Goals as goal
-use Rattle.std.proofs.Common.{◌≡◌, ◌∙◌, ap, sym, subst, arith}
-use Rattle.far_word.specs.declared.pointer.PtrWord.TheVariants.{Near, Far, Free}
-use Rattle.far_core.specs.state.State.{State}
+use Rattle.std.proofs.Common.{subst}
+use Rattle.far_word.specs.declared.pointer.PtrWord.TheVariants.{Near}
 use Rattle.far_book.specs.declared.ledger.Ledger.{Ledger}
 use Rattle.far_book.specs.book.Ledger.{MayRetire, Loses, Frees}
 use Rattle.far_book.proofs.ledger.Ledger.retire.Goals.{in-Near, in-Far, in-Free}

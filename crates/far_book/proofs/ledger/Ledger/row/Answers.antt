@@ -1,5 +1,4 @@
 use Rattle.far_book.proofs.ledger.Ledger.row.Goals as goal
-use Rattle.std.proofs.Common.{arith}
 use Rattle.far_book.proofs.region.Notings.{row_is, tail_small, live_small}
 
 pub overflow_sub-result : goal.overflow_sub-result

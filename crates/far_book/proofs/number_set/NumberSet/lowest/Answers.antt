@@ -1,7 +1,6 @@
 use Rattle.far_book.proofs.number_set.NumberSet.lowest.Goals as goal
 use Rattle.std.proofs.Common.{arith, ap, ◌∙◌}
 use Rattle.far_book.specs.book.NumberSet.{has}
-use Rattle.far_book.specs.declared.number_set.NumberSet.{NumberSet}
 use Rattle.far_book.proofs.region.NumberSets.{has_none, has_lowest}
 
 pub returns-then-self-eq0 : goal.returns-then-self-eq0
