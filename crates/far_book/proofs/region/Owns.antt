@@ -67,6 +67,7 @@ own_law s law = record {
     epoch_below = law.scopes.epoch_below;
     open_bound = λ m e is. let odd : Some scoped.Closed ≡ Some (scoped.Open e) = sym closed_word ∙ is in absurd cc;
     remembered_bound = λ m e is. absurd cc;
+    remembered_range = λ m e is. absurd cc;
   };
   views = record {
     held_open = λ p h. absurd (false≢true h);
