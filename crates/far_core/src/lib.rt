@@ -11,8 +11,6 @@ mod machine;
 mod memory;
 mod naming;
 mod shape;
-#[cfg(test)]
-mod tests;
 
 pub use event::{Event, Kind, Reply};
 pub use machine::Core;

@@ -1,25 +1,10 @@
 //! Reads a trace of a far memory heap from standard input, and writes the replies to standard output.
 #![tactic(auto)]
 
-mod command;
-mod cursor;
-mod events;
-mod headline;
-mod hex_word;
-mod laws;
-mod line;
-mod outcome;
-mod output;
-mod reply;
-mod reply_writer;
-mod run;
-mod stream;
 #[cfg(test)]
 mod tests;
-mod text;
-mod turn;
 
-use crate::run::{End, RunFault, run};
+use far_replay::{End, RunFault, run};
 use std::process::ExitCode;
 use std::{env, io};
 

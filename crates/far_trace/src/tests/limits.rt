@@ -1,7 +1,7 @@
 //! The longest texts, lines and answers; the smallest and largest heaps; all pointers, and the longest objects.
 
 use super::talk::{answers, is_answered, push_times};
-use crate::run::End;
+use far_replay::End;
 use std::process::Abort;
 use std::test::Fail;
 

@@ -1,7 +1,7 @@
 //! Commands that are refused: the first cause's number comes, and nothing changes.
 
 use super::talk::{answers, is_answered, push_times};
-use crate::run::End;
+use far_replay::End;
 use std::test::Fail;
 
 // Mutator 0 is open and has two objects. Mutator 1 is closed and has one.

@@ -1,7 +1,7 @@
 //! Readers and writers that give or take a few bytes a call, and that fail at one call and at no other.
 
 use super::talk::push_times;
-use crate::run::{End, RunFault, run};
+use far_replay::{End, RunFault, run};
 use std::io;
 use std::io::{ErrorKind, Read, Write};
 use std::test::Fail;

@@ -1,6 +1,6 @@
 //! Texts, and the answers that a run is to give.
 
-use crate::run::{End, run};
+use far_replay::{End, run};
 use std::process::Abort;
 use std::test::Fail;
 

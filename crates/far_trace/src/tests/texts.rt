@@ -1,7 +1,7 @@
 //! Texts that are refused, and texts without a command.
 
 use super::talk::answers;
-use crate::run::End;
+use far_replay::End;
 use std::test::Fail;
 
 #[test]

@@ -1,0 +1,192 @@
+//! Whole lists of events, scopes, bytes, shapes, laws.
+
+use super::*;
+use far_core::{events_leave_others, opening_is_start, steps_keep_views};
+use std::test::Fail;
+
+#[test]
+fn first_object_is_read(rt: HostRuntime) -> Result<(), Fail> {
+    let cases = [
+        put(0, 0, 0xa100_0000_0001_0008),
+        put(0, 1, 0),
+        named(0, 0x8400_0000_0001_0008),
+        adopted(0, 0, 0x8400_0000_0001_0008),
+        (Event::ReadEpoch { owner: 0 }, Reply::Epoch(0)),
+        (Event::Open { owner: 0 }, Reply::Done),
+        pinned(0, 0, 0),
+        loaded(0, 0, 0),
+    ];
+    let mut core = Core::new(rt.alloc(), SMALL, true)?;
+    let replies = core.run(rt.alloc(), &cases.map(|case| case.0))?;
+    assert_eq!(rt; replies.as_slice(), cases.map(|case| case.1).as_slice());
+    assert_eq!(rt; core.cell(0), 0xc400_0000_0001_0008);
+    assert_eq!(rt; log_shown(&rt, &core, 0), (Kind::Open, 2));
+    Ok(())
+}
+
+#[test]
+fn start_shows_nothing(rt: HostRuntime) -> Result<(), Fail> {
+    let mut core = Core::new(rt.alloc(), SMALL, false)?;
+    let free = (Kind::Free, 0);
+    let start = Shown {
+        open_log: 0,
+        logs: [(Kind::Open, 0), free, free, free],
+        owners: [(false, false); 2],
+        pointers: [(0, false, false); 5],
+        words: [Reply::Refused; 3],
+    };
+    assert_eq!(rt; observed(&rt, &mut core), start);
+    assert_eq!(rt; (core.logs(), core.mutators()), (4, 1));
+    Ok(())
+}
+
+#[test]
+fn scope_opens_at_epoch_that_was_read(rt: HostRuntime) -> Result<(), Fail> {
+    let shape = Shape {
+        logs: 2,
+        mutators: 2,
+        epoch: 7,
+    };
+    let mut core = Core::new(rt.alloc(), shape, true)?;
+    answers(
+        &rt,
+        &mut core,
+        &[
+            (Event::Open { owner: 0 }, Reply::Refused),
+            (Event::ReadEpoch { owner: 0 }, Reply::Epoch(7)),
+            (Event::Open { owner: 1 }, Reply::Refused),
+            (Event::Open { owner: 0 }, Reply::Done),
+            (Event::Close { owner: 1 }, Reply::Refused),
+            (Event::ReadEpoch { owner: 1 }, Reply::Epoch(7)),
+            (Event::ReadEpoch { owner: 1 }, Reply::Epoch(7)),
+        ],
+    );
+    assert_eq!(rt; owner_shown(&core, 0), (true, true));
+    assert_eq!(rt; owner_shown(&core, 1), (false, true));
+    answers(
+        &rt,
+        &mut core,
+        &[
+            (Event::Close { owner: 0 }, Reply::Done),
+            (Event::Open { owner: 0 }, Reply::Refused),
+            (Event::Open { owner: 1 }, Reply::Done),
+        ],
+    );
+    assert_eq!(rt; owner_shown(&core, 0), (false, false));
+    assert_eq!(rt; owner_shown(&core, 1), (true, true));
+    Ok(())
+}
+
+#[test]
+fn closed_scope_holds_nothing(rt: HostRuntime) -> Result<(), Fail> {
+    let mut core = peopled(&rt, rt.alloc())?;
+    answers(
+        &rt,
+        &mut core,
+        &[
+            pinned(2, 0, 7),
+            (Event::Close { owner: 0 }, Reply::Done),
+            (Event::ReadEpoch { owner: 0 }, Reply::Epoch(5)),
+            (Event::Open { owner: 0 }, Reply::Done),
+        ],
+    );
+    assert_eq!(rt;
+        pointer_shown(&core, 0),
+        (0xc400_0000_0001_0009, true, false)
+    );
+    assert_eq!(rt;
+        pointer_shown(&core, 2),
+        (0xc400_0000_0701_0008, true, false)
+    );
+    assert_eq!(rt; word_shown(&mut core, 0, 0), Reply::Refused);
+    answers(
+        &rt,
+        &mut core,
+        &[pinned(0, 0, 0), loaded(0, 0, 0x0807_0605_0403_0201)],
+    );
+    Ok(())
+}
+
+#[test]
+fn nine_bytes_keep_their_padding(rt: HostRuntime) -> Result<(), Fail> {
+    let mut core = peopled(&rt, rt.alloc())?;
+    answers(
+        &rt,
+        &mut core,
+        &[
+            loaded(0, 0, 0x0807_0605_0403_0201),
+            loaded(0, 1, 9),
+            stored(0, 0, u64::MAX),
+            (
+                Event::Store {
+                    owner: 0,
+                    pointer: 0,
+                    index: 1,
+                    word: 0x100,
+                },
+                Reply::Refused,
+            ),
+            loaded(0, 1, 9),
+            stored(0, 1, 0xff),
+            loaded(0, 0, u64::MAX),
+            loaded(0, 1, 0xff),
+            pinned(2, 0, 7),
+            loaded(2, 0, 0),
+        ],
+    );
+    Ok(())
+}
+
+#[test]
+fn shapes_end_where_they_should(rt: HostRuntime) -> Result<(), Fail> {
+    let last = (1 << 62) - 1;
+    for (logs, mutators, epoch) in [(2, 1, 0), (64, 8, 0), (2, 8, last), (64, 1, last)] {
+        let shape = Shape {
+            logs,
+            mutators,
+            epoch,
+        };
+        assert!(rt; shape.is_in_range(), "at {shape:?}");
+        let mut core = Core::new(rt.alloc(), shape, true)?;
+        assert_eq!(rt;
+            (core.logs() as u64, core.mutators() as u64),
+            (logs, mutators)
+        );
+        let reply = core.step(Event::ReadEpoch { owner: 0 });
+        assert_eq!(rt; reply, Reply::Epoch(epoch), "at {shape:?}");
+    }
+    for (logs, mutators, epoch) in [
+        (1, 1, 0),
+        (0, 1, 0),
+        (65, 1, 0),
+        (4, 0, 0),
+        (4, 9, 0),
+        (4, 1, 1 << 62),
+        (u64::MAX, u64::MAX, u64::MAX),
+    ] {
+        let shape = Shape {
+            logs,
+            mutators,
+            epoch,
+        };
+        assert!(rt; !shape.is_in_range(), "at {shape:?}");
+        let refused = Core::new(rt.alloc(), shape, true).err();
+        assert_eq!(rt; refused, Some(Refused::Shape), "at {shape:?}");
+    }
+    Ok(())
+}
+
+#[test]
+fn laws_can_be_called(rt: HostRuntime) -> Result<(), Fail> {
+    let core = peopled(&rt, rt.alloc())?;
+    core.keeps_law();
+    core.spans_fill_logs();
+    core.bytes_make_log();
+    core.objects_have_one_place();
+    core.room_is_right();
+    core.replies_report();
+    opening_is_start(SMALL, true);
+    steps_keep_views();
+    events_leave_others();
+    Ok(())
+}

@@ -1,0 +1,153 @@
+//! Whether values of the public types that differ compare as different. All other tests rest on it.
+
+ghost use Rattle.std.specs.Prelude.{◌<◌, length};
+
+use super::*;
+use far_core::Naming;
+use far_word::Mark;
+use std::fmt::Debug;
+use std::test::Fail;
+
+/// The value at `index` equals itself, and no other of these.
+fn equals_itself_alone<T: PartialEq + Debug>(rt: &impl Abort, values: &[T], index: usize)
+    requires { index < length values.now }
+{
+    let one = &values[index];
+    for (at, other) in values.iter().enumerate() {
+        assert!(rt; (one == other) == (at == index), "at {one:?} and {other:?}");
+        assert!(rt; (one != other) == (at != index), "at {one:?} and {other:?}");
+    }
+}
+
+/// No two of these values are equal.
+fn all_differ<T: PartialEq + Debug>(rt: &impl Abort, values: &[T]) {
+    for index in 0..values.len() {
+        equals_itself_alone(rt, values, index);
+    }
+}
+
+fn read_epoch(owner: u8) -> Event {
+    Event::ReadEpoch { owner }
+}
+
+fn open(owner: u8) -> Event {
+    Event::Open { owner }
+}
+
+fn close(owner: u8) -> Event {
+    Event::Close { owner }
+}
+
+fn see(pointer: u16) -> Event {
+    Event::See { pointer }
+}
+
+fn mark(pointer: u16) -> Event {
+    Event::Mark { pointer }
+}
+
+fn ask(owner: u8, pointer: u16, mark: Mark) -> Event {
+    Event::Ask {
+        owner,
+        pointer,
+        mark,
+    }
+}
+
+fn get(log: u8, at: u16, free: bool) -> Event {
+    Event::Get { log, at, free }
+}
+
+/// A row an event: zeros, and each field changed.
+#[rattlefmt::skip]
+fn events() -> [Event; 42] {
+    [
+        read_epoch(0), read_epoch(1),
+        open(0), open(1),
+        pin(0, 0), pin(1, 0), pin(0, 1),
+        load(0, 0, 0), load(1, 0, 0), load(0, 1, 0), load(0, 0, 1),
+        store(0, 0, 0, 0), store(1, 0, 0, 0), store(0, 1, 0, 0), store(0, 0, 1, 0), store(0, 0, 0, 1),
+        close(0), close(1),
+        adopt(0, 0), adopt(1, 0), adopt(0, 1),
+        write(0, 0, 0), write(1, 0, 0), write(0, 1, 0), write(0, 0, 1),
+        name(0, 0, 0), name(1, 0, 0), name(0, 1, 0), name(0, 0, 1),
+        see(0), see(1),
+        mark(0), mark(1),
+        ask(0, 0, Mark::Moved), ask(1, 0, Mark::Moved), ask(0, 1, Mark::Moved), ask(0, 0, Mark::Dropped),
+        get(0, 0, false), get(1, 0, false), get(0, 1, false), get(0, 0, true),
+        Event::Name { pointer: 0, old: 1, new: 1 },
+    ]
+}
+
+#[test]
+fn events_differ(rt: HostRuntime) -> Result<(), Fail> {
+    all_differ(&rt, &events());
+    Ok(())
+}
+
+#[test]
+fn replies_differ(rt: HostRuntime) -> Result<(), Fail> {
+    all_differ(
+        &rt,
+        &[
+            Reply::Refused,
+            Reply::Done,
+            Reply::Epoch(0),
+            Reply::Epoch(1),
+            Reply::Epoch(1 << 63),
+            Reply::Word(0),
+            Reply::Word(1),
+            Reply::Word(1 << 63),
+            Reply::Held(Place { log: 0, at: 0 }),
+            Reply::Held(Place { log: 1, at: 0 }),
+            Reply::Held(Place { log: 0, at: 1 }),
+        ],
+    );
+    Ok(())
+}
+
+#[test]
+fn namings_differ(rt: HostRuntime) -> Result<(), Fail> {
+    let places = |len, ds, log, at| Naming::Places {
+        len,
+        ds,
+        place: Place { log, at },
+    };
+    all_differ(
+        &rt,
+        &[
+            Naming::Retires,
+            places(8, 1, 0, 0),
+            places(9, 1, 0, 0),
+            places(8, 2, 0, 0),
+            places(8, 1, 1, 0),
+            places(8, 1, 0, 1),
+        ],
+    );
+    Ok(())
+}
+
+#[test]
+fn kinds_differ(rt: HostRuntime) -> Result<(), Fail> {
+    all_differ(&rt, &[Kind::Free, Kind::Open, Kind::Sealed]);
+    Ok(())
+}
+
+#[test]
+fn shapes_differ(rt: HostRuntime) -> Result<(), Fail> {
+    let shape = |logs, mutators, epoch| Shape {
+        logs,
+        mutators,
+        epoch,
+    };
+    all_differ(
+        &rt,
+        &[
+            shape(0, 0, 0),
+            shape(1, 0, 0),
+            shape(0, 1, 0),
+            shape(0, 0, 1),
+        ],
+    );
+    Ok(())
+}

@@ -1,0 +1,133 @@
+-- What lasts between two commands: the law, and what the program keeps of it; so each command is carried out by its events.
+use Rattle.std.proofs.Common.{◌≡◌, ℕ, true, sym, ap, subst, ◌∙◌, refl, List, [], ◌∷◌, ◌++◌, inl, inr}
+use Rattle.std.specs.Prelude.{All, Contains}
+use Rattle.std.proofs.lemmas.Bool.{cond_both}
+use Rattle.far_core.specs.declared.event.Event.{Event}
+use Rattle.far_core.specs.declared.event.Reply.{Reply as Answer}
+use Rattle.far_core.specs.declared.event.Reply.TheVariants.{Refused as Failed}
+use Rattle.far_core.specs.state.Law.{Law}
+use Rattle.far_core.specs.state.Shape.{is_shape}
+use Rattle.far_core.specs.state.State.{State}
+use Rattle.far_core.specs.events.Step.{step_of, is_legal, after, answer, Fits}
+use Rattle.far_core.proofs.Keeps.{step_keeps}
+use Rattle.far_log.proofs.Members.{split, none_in, All-from}
+use Rattle.far_core.proofs.Steps.{agrees}
+use Rattle.far_replay.specs.Answers.{Answered, Commanded, IsMoment, moment_after, shape_of, first_moment}
+use Rattle.far_replay.specs.Command.{Command}
+use Rattle.far_replay.specs.Events.{events_for}
+use Rattle.far_replay.specs.Headline.{Lawful, Reaches}
+use Rattle.far_replay.specs.Interpreter.{next_after}
+use Rattle.far_replay.specs.Written.{WritesBytes, AllWriteBytes}
+use Rattle.far_replay.specs.EventRows.{after_events, AllSucceed, AllPass, Succeeds}
+use Rattle.far_replay.specs.Moment.{Moment, moment_of}
+use Rattle.far_replay.specs.Reply.{Reply}
+use Rattle.far_replay.specs.Tidy.{Tidy}
+use Rattle.far_replay.specs.Turn.{effect, reply_to}
+use Rattle.far_replay.proofs.Each.{Each}
+use Rattle.far_replay.proofs.Opened.{opening_law, opening_tidy}
+use Rattle.far_replay.proofs.Turns.{turns}
+
+pub record Lasts (now : Moment) : Type 0 where
+  pub next : ℕ → ℕ
+  pub law : Law now.core
+  pub tidy : Tidy now.core next
+
+-- a command that is carried out by its events, from a state to the next
+pub record IsCarriedOut (s : State) (c : Command) (r : Reply) (t : State) : Type 0 where
+  pub reply : r ≡ reply_to (moment_of s) c
+  pub state : t ≡ after_events s (events_for (moment_of s) c)
+  pub succeed : AllSucceed s (events_for (moment_of s) c)
+  pub fit : Each Fits (events_for (moment_of s) c)
+  pub law : Law t
+
+pub carried : (now : Moment) (c : Command) (r : Reply) (next : Moment) → Lasts now → WritesBytes c → Commanded now c r next → IsCarriedOut now.core c r next.core
+carried now c r next lasts bytes h =
+    let x = turns now.core lasts.next c lasts.law lasts.tidy bytes in
+    let ends : next.core ≡ after_events now.core (events_for (moment_of now.core) c) = ap (λ (m : Moment). m.core) h.moment ∙ sym x.ends in
+    record { reply = h.reply; state = ends; succeed = x.succeed; fit = x.fit; law = subst Law (sym ends) x.law }
+
+-- where its events lead, there is the moment after it
+pub moment_reached : (s t : State) (next : ℕ → ℕ) (c : Command) → Law s → Tidy s next → WritesBytes c → t ≡ after_events s (events_for (moment_of s) c) → moment_of t ≡ effect (moment_of s) c
+moment_reached s t next c law tidy bytes e = ap moment_of (e ∙ (turns s next c law tidy bytes).ends)
+
+-- it lasts through a command
+pub effect_lasts : (now : Moment) (c : Command) → Lasts now → WritesBytes c → Lasts (effect now c)
+effect_lasts now c lasts bytes =
+    let x = turns now.core lasts.next c lasts.law lasts.tidy bytes in
+    record { next = next_after now c lasts.next; law = subst Law x.ends x.law; tidy = subst (λ t. Tidy t (next_after now c lasts.next)) x.ends x.tidy }
+
+pub still_lasts : (now : Moment) (c : Command) (r : Reply) (next : Moment) → Lasts now → WritesBytes c → Commanded now c r next → Lasts next
+still_lasts now c r next lasts bytes h = subst Lasts (sym h.moment) (effect_lasts now c lasts bytes)
+
+-- and through commands
+still_lasts_after : (now : Moment) (cs : List Command) → Lasts now → AllWriteBytes cs → Lasts (moment_after now cs)
+still_lasts_after now [] lasts bytes = lasts
+still_lasts_after now (c ∷ cs) lasts bytes = still_lasts_after (effect now c) cs (effect_lasts now c lasts bytes.0) bytes.1
+
+-- from the first moment on
+pub first_lasts : (logs mutators : ℕ) → is_shape (shape_of logs mutators) ≡ true → Lasts (first_moment logs mutators)
+first_lasts logs mutators fits = record { next = λ _. 0; law = opening_law logs mutators fits; tidy = opening_tidy logs mutators fits }
+
+pub moment_lasts : (now : Moment) → IsMoment now → Lasts now
+moment_lasts now (logs, mutators, cs, fits, bytes, is) = subst Lasts (sym is) (still_lasts_after (first_moment logs mutators) cs (first_lasts logs mutators fits) bytes)
+
+-- ---- which moments there are
+pub first_is_moment : (logs mutators : ℕ) → is_shape (shape_of logs mutators) ≡ true → IsMoment (first_moment logs mutators)
+first_is_moment logs mutators fits = (logs, mutators, [], fits, tt, refl)
+
+one_after : (now : Moment) (cs : List Command) (c : Command) → moment_after now (cs ++ c ∷ []) ≡ effect (moment_after now cs) c
+one_after now [] c = refl
+one_after now (d ∷ cs) c = one_after (effect now d) cs c
+
+bytes_more : (cs : List Command) (c : Command) → AllWriteBytes cs → WritesBytes c → AllWriteBytes (cs ++ c ∷ [])
+bytes_more [] c h k = (k, tt)
+bytes_more (d ∷ cs) c h k = (h.0, bytes_more cs c h.1 k)
+
+pub next_is_moment : (now : Moment) (c : Command) (r : Reply) (next : Moment) → IsMoment now → WritesBytes c → Commanded now c r next → IsMoment next
+next_is_moment now c r next (logs, mutators, cs, fits, bytes, is) more h =
+    (logs, mutators, cs ++ c ∷ [], fits, bytes_more cs c bytes more, h.moment ∙ ap (λ m. effect m c) is ∙ sym (one_after (first_moment logs mutators) cs c))
+
+first_or : (now : Moment) (moments : List Moment) (x : Moment) → IsMoment now → (Contains moments x → IsMoment x) → Contains (now ∷ moments) x → IsMoment x
+first_or now moments x is there c = elim (split x now moments c) [
+  | inl e ↦ subst IsMoment e is
+  | inr k ↦ there k
+]
+
+-- each moment of a list of commands is one
+pub each_is_moment : (now : Moment) (cs : List Command) (rs : List Reply) (moments : List Moment) → IsMoment now → AllWriteBytes cs → Answered now cs rs moments →
+    (x : Moment) → Contains (now ∷ moments) x → IsMoment x
+each_is_moment now [] [] [] is bytes h x c = first_or now [] x is (λ k. absurd (none_in x k)) c
+each_is_moment now [] [] (m ∷ ms) is bytes h x c = absurd h
+each_is_moment now [] (r ∷ rs) ms is bytes h x c = absurd h
+each_is_moment now (d ∷ cs) [] ms is bytes h x c = absurd h
+each_is_moment now (d ∷ cs) (r ∷ rs) [] is bytes h x c = absurd h
+each_is_moment now (d ∷ cs) (r ∷ rs) (m ∷ ms) is bytes h x c =
+    first_or now (m ∷ ms) x is (λ k. each_is_moment m cs rs ms (next_is_moment now d r m is bytes.0 h.0) bytes.1 h.1 x k) c
+
+lawful : (now : Moment) → IsMoment now → Lawful now
+lawful now is = let x = moment_lasts now is in record { reached = is; law = x.law; at_hand = x.tidy.at_hand }
+
+pub first_lawful : (logs mutators : ℕ) → is_shape (shape_of logs mutators) ≡ true → Lawful (first_moment logs mutators)
+first_lawful logs mutators fits = lawful (first_moment logs mutators) (first_is_moment logs mutators fits)
+
+pub moments_last : (now : Moment) (cs : List Command) (rs : List Reply) (moments : List Moment) → IsMoment now → AllWriteBytes cs → Answered now cs rs moments → All Lawful (now ∷ moments)
+moments_last now cs rs moments is bytes h = All-from Lawful (now ∷ moments) (λ x c. lawful x (each_is_moment now cs rs moments is bytes h x c))
+
+-- ---- events
+-- what succeeds was legal
+legal : (s : State) (e : Event) → Succeeds e (step_of s e).1 → is_legal s e ≡ true
+legal s e = cond_both (is_legal s e) (after s e, answer s e) (s, Failed) (λ (x : State × Answer). Succeeds e x.1 → is_legal s e ≡ true) (λ h _. h) (λ _ ok. absurd (failed e ok)) where
+  failed : (e : Event) → Succeeds e Failed → ⊥
+  failed e ok = ok
+
+all_pass : (s : State) (es : List Event) → Law s → Each Fits es → AllSucceed s es → AllPass s es
+all_pass s [] law fit ok = tt
+all_pass s (e ∷ es) law fit ok =
+    let next = step_keeps s e law fit.0 in
+    (legal s e ok.0, record { step = refl; law = next; agrees = agrees (step_of s e).0 next }, all_pass (step_of s e).0 es next fit.1 ok.1)
+
+pub events_reach : (now : Moment) (c : Command) (r : Reply) (next : Moment) → IsMoment now → WritesBytes c → Commanded now c r next → Reaches now c next
+events_reach now c r next is bytes h =
+    let lasts = moment_lasts now is in
+    let x = carried now c r next lasts bytes h in
+    record { ends = x.state; pass = all_pass now.core (events_for now c) lasts.law x.fit x.succeed; succeed = λ _. x.succeed }

@@ -1,0 +1,309 @@
+-- Each text has an output; refused commands change nothing; unknown mutators are refused; what logs tell makes 1,024.
+use Rattle.std.proofs.Common.{◌≡◌, ◌≢◌, ℕ, nat_eq, ◌+◌, ◌-◌, ◌*◌, ◌<◌, ◌≤◌, Bool, true, false, cond, not, ◌&&◌, nat_lt, length, get_or, is_some, sym, ap, refl, subst, ◌∙◌, arith, suc, Option, Some, None, Result, Ok, Err, List, [], ◌∷◌, inl, inr}
+use Rattle.std.specs.Prelude.{map, replicate, nat_le, ◌/◌, All, Contains}
+use Rattle.std.specs.Bool.{MatchBool}
+use Rattle.std.specs.List.{flat_map, range_with_len}
+use Rattle.std.proofs.lemmas.Bool.{lt-leb, eqb-true, eqb-false}
+use Rattle.std.proofs.lemmas.Bool.Decides.{nat_tests}
+use Rattle.far_word.specs.declared.refused.Refused.{Refused as Refusal}
+use Rattle.far_word.specs.declared.refused.Refused.TheVariants.{Range, Length, NoPointer, NoRoom, Shape, Syntax}
+use Rattle.far_word.specs.declared.sizes.TheConstants.{CELLS, LONGEST}
+use Rattle.far_word.specs.Sizes.{size_of}
+use Rattle.far_log.proofs.Members.{split, none_in, All-from}
+use Rattle.far_core.specs.state.Law.{Law}
+use Rattle.far_word.specs.declared.pointer.Place.{Place}
+use Rattle.far_core.specs.state.Room.{room}
+use Rattle.far_core.specs.state.Shape.{is_shape}
+use Rattle.far_core.specs.state.State.{State, put}
+use Rattle.far_core.specs.world.World.{Object, Group}
+use Rattle.far_core.specs.world.WorldOf.{world_of}
+use Rattle.far_core.proofs.Bounds.{some_of}
+use Rattle.far_core.proofs.Guards.{none_from}
+use Rattle.far_core.proofs.Observations.{bytes_make_log}
+use Rattle.far_replay.specs.Moment.{Moment, moment_of}
+use Rattle.far_replay.specs.Alone.{Alone, Knows, Own}
+use Rattle.far_replay.specs.Answers.{Answered, Answers, Commanded, IsMoment, IsOutput, shape_of, first_moment}
+use Rattle.far_replay.specs.Command.{Command, Trace, Nothing, Heap, New, Open, Write, Read, Close, Logs, Mutator, Book}
+use Rattle.far_replay.specs.Grammar.{trace_of}
+use Rattle.far_replay.specs.Headline.{IsSound, IsWhole, Lawful, IsSaidBy, TellsAll, TellsLog}
+use Rattle.far_replay.specs.Written.{AllWriteBytes}
+use Rattle.far_replay.specs.EventRows.{after_events, AllSucceed}
+use Rattle.far_replay.specs.Reply.{Reply, Done, Pointer, Refused, LogLine, printed}
+use Rattle.far_replay.specs.Events.{turn_events, events_for, new_events}
+use Rattle.far_replay.specs.Objects.{lowest_cell, spliced}
+use Rattle.far_word.specs.declared.mark.Marks.{Marks}
+use Rattle.far_word.specs.declared.pointer.PtrWord.{PtrWord}
+use Rattle.far_word.specs.declared.pointer.PtrWord.TheVariants.{Free, Near, Far}
+use Rattle.far_word.specs.Pointer.{read_of}
+use Rattle.far_replay.specs.Stays.{MayGain, CellStays, Stays}
+use Rattle.far_replay.specs.Turn.{turn_effect, effect, causes, first_cause, refusal, unless, turn_reply, reply_to, log_line, pointer_reply}
+use Rattle.far_replay.proofs.AloneNew.{new_run, is_structure, is_length}
+use Rattle.far_replay.proofs.AloneFirst.{alone_first}
+use Rattle.far_replay.proofs.Kept.{whole}
+use Rattle.far_replay.proofs.Lasting.{first_lasts, first_lawful, carried, moment_lasts, moments_last, each_is_moment, first_is_moment}
+use Rattle.far_replay.proofs.PlainReplies.{replies_plain}
+use Rattle.far_replay.proofs.ViewLaws.{logs_stay}
+use Rattle.far_replay.proofs.TextLaws.{texts_write}
+use Rattle.far_replay.proofs.Lowest.{lowest_found, none_found}
+use Rattle.far_replay.proofs.Refusals.{turn_is_no_refusal, from_cause}
+use Rattle.far_replay.proofs.Spliced.{length-spliced, spliced_before, spliced_inside, spliced_behind}
+use Rattle.far_replay.proofs.Turns.{four}
+
+-- ---- each text has an output
+-- each list of commands is answered
+answers_all : (now : Moment) (cs : List Command) → (rs : List Reply) × (moments : List Moment) × Answered now cs rs moments
+answers_all now [] = ([], [], tt)
+answers_all now (c ∷ cs) =
+    let rest = answers_all (effect now c) cs in
+    (reply_to now c ∷ rest.0, effect now c ∷ rest.1, (record { reply = refl; moment = refl }, rest.2))
+
+heap_answered : (logs mutators : ℕ) (cs : List Command) (b : Bool) →
+    (output : List ℕ) × MatchBool b ((rs : List Reply) × (moments : List Moment) × Answered (first_moment logs mutators) cs rs moments × (output ≡ flat_map printed (Done ∷ rs))) (output ≡ printed (Refused Shape))
+heap_answered logs mutators cs true = let x = answers_all (first_moment logs mutators) cs in (flat_map printed (Done ∷ x.0), (x.0, x.1, x.2, refl))
+heap_answered logs mutators cs false = (printed (Refused Shape), refl)
+
+read_answered : (read : Result Trace ℕ) → (output : List ℕ) × IsOutput read output
+read_answered (Err line) = (printed (Refused (Syntax line)), refl)
+read_answered (Ok Nothing) = ([], refl)
+read_answered (Ok (Heap logs mutators cs)) = heap_answered logs mutators cs (is_shape (shape_of logs mutators))
+
+pub each_answered : (text : List ℕ) → (output : List ℕ) × Answers text output
+each_answered text = read_answered (trace_of text)
+
+-- ---- a refused command makes no event
+pub refused_stays : (now : Moment) (c : Command) (r : Reply) (next : Moment) (why : Refusal) → Commanded now c r next → r ≡ Refused why → next ≡ now
+refused_stays now c r next why h e =
+    let cause : refusal now c ≡ Some why = from_cause (refusal now c) (turn_reply now c) why (turn_is_no_refusal now.core c why) (sym h.reply ∙ e) in
+    h.moment ∙ ap (λ o. unless o (λ _. now) (turn_effect now c)) cause
+
+gains_none : (a : Marks) → MayGain a a
+gains_none a = record { hot = λ h. h; moved = λ h. h; evac = refl; dropped = refl }
+
+cell_same : (o : Option PtrWord) → CellStays o o
+cell_same None = tt
+cell_same (Some Free) = tt
+cell_same (Some (Near len ds place marks)) = (refl, refl, refl, gains_none marks)
+cell_same (Some (Far len ds marks)) = (refl, refl, gains_none marks)
+
+stays_same : (c : Command) (why : Refusal) (now : Moment) → Stays c why now now
+stays_same c why now = record { objects = refl; cells = λ p. cell_same (read_of (now.core.cell p)); unmarked = λ p other. refl; rest = refl }
+
+pub refusals_stay : (now : Moment) (c : Command) (r : Reply) (next : Moment) (why : Refusal) → Commanded now c r next → r ≡ Refused why → Stays c why now next
+refusals_stay now c r next why h e = subst (Stays c why now) (sym (refused_stays now c r next why h e)) (stays_same c why now)
+
+-- ---- a mutator that the heap hasn't
+-- the first cause holds
+first_holds : (s : State) (c : Command) (b : Bool) (rest : List (Bool × Refusal)) → causes (moment_of s) c ≡ (b, Range) ∷ rest → b ≡ true → reply_to (moment_of s) c ≡ Refused Range
+first_holds s c b rest is holds =
+    let cause : refusal (moment_of s) c ≡ Some Range = ap first_cause is ∙ ap (λ x. cond x (Some Range) (first_cause rest)) holds in
+    ap (λ o. unless o Refused (turn_reply (moment_of s) c)) cause
+
+-- a number past the last mutator isn't one
+past : (s : State) (m k : ℕ) → m ≡ k → s.mutators ≤ m → nat_lt k s.mutators ≡ false
+past s m k e h = lt-leb (suc k) s.mutators (omega (arith, e, h))
+
+unknown : (s : State) (c : Command) (m : ℕ) → IsSaidBy m c → s.mutators ≤ m → reply_to (moment_of s) c ≡ Refused Range
+unknown s (Mutator k (New len ds)) m e h = first_holds s (Mutator k (New len ds)) (not (nat_lt k s.mutators && nat_lt ds 256)) _ refl (ap (λ b. not (b && nat_lt ds 256)) (past s m k e h))
+unknown s (Mutator k Open) m e h = first_holds s (Mutator k Open) (not (nat_lt k s.mutators)) _ refl (ap not (past s m k e h))
+unknown s (Mutator k (Write p from bytes)) m e h = first_holds s (Mutator k (Write p from bytes)) (not (nat_lt k s.mutators)) _ refl (ap not (past s m k e h))
+unknown s (Mutator k (Read p from len)) m e h = first_holds s (Mutator k (Read p from len)) (not (nat_lt k s.mutators)) _ refl (ap not (past s m k e h))
+unknown s (Mutator k Close) m e h = first_holds s (Mutator k Close) (not (nat_lt k s.mutators)) _ refl (ap not (past s m k e h))
+unknown s (Book Logs) m e h = absurd e
+
+pub unknown_refused : (now : Moment) (c : Command) (r : Reply) (next : Moment) (m : ℕ) → IsSaidBy m c → now.core.mutators ≤ m → Commanded now c r next → r ≡ Refused Range
+unknown_refused now c r next m e h k = k.reply ∙ unknown now.core c m e h
+
+-- ---- what logs tell
+numbered : (s : State) (ls : List ℕ) → map (λ (line : LogLine). line.log) (map (log_line (moment_of s)) ls) ≡ ls
+numbered s [] = refl
+numbered s (l ∷ ls) = ap (λ xs. l ∷ xs) (numbered s ls)
+
+-- what is so of each log's line is so of each line that is told
+of_each : (P : LogLine → Type 0) (s : State) → ((l : ℕ) → P (log_line (moment_of s) l)) → (ls : List ℕ) (line : LogLine) → Contains (map (log_line (moment_of s)) ls) line → P line
+of_each P s h [] line c = absurd (none_in line c)
+of_each P s h (l ∷ ls) line c = elim (split line (log_line (moment_of s) l) (map (log_line (moment_of s)) ls) c) [
+  | inl e ↦ subst P e (h l)
+  | inr bytes ↦ of_each P s h ls line bytes
+]
+
+tells_log : (s : State) → Law s → (l : ℕ) → TellsLog (moment_of s) (log_line (moment_of s) l)
+tells_log s law l = record { kind = refl; live = refl; dead = refl; unused = refl; whole = bytes_make_log s law l }
+
+pub logs_tell : (now : Moment) (r : Reply) (next : Moment) → Law now.core → Commanded now (Book Logs) r next → TellsAll now r
+logs_tell now r next law h =
+    subst (TellsAll now) (sym h.reply) (numbered now.core (range_with_len 0 now.core.logs), of_each (TellsLog now) now.core (tells_log now.core law) (range_with_len 0 now.core.logs))
+
+-- ---- the lowest cell that is free
+told_pointer : (o : Option Refusal) (x : Option ℕ) (p : ℕ) → Pointer p ≡ unless o Refused (pointer_reply x) → x ≡ Some p
+told_pointer None None p e = absurd cc
+told_pointer None (Some q) p e = let same : p ≡ q = cc in ap Some (sym same)
+told_pointer (Some why) x p e = absurd cc
+
+pub takes_lowest : (now : Moment) (m len ds p : ℕ) (next : Moment) → Commanded now (Mutator m (New len ds)) (Pointer p) next →
+    (m * CELLS ≤ p) × (p < m * CELLS + CELLS) × (now.core.cell p ≡ 0) × ((q : ℕ) → m * CELLS ≤ q → q < p → now.core.cell q ≢ 0)
+unfolding lowest_cell
+takes_lowest now m len ds p next h = lowest_found now.core.cell (m * CELLS) CELLS p (told_pointer (refusal now (Mutator m (New len ds))) (lowest_cell now.core m) p h.reply)
+
+third : (a b c d : Bool) → first_cause ((a, Range) ∷ (b, Length) ∷ (c, NoPointer) ∷ (d, NoRoom) ∷ []) ≡ Some NoPointer → c ≡ true
+third true b c d e = absurd cc
+third false true c d e = absurd cc
+third false false true d e = refl
+third false false false true e = absurd cc
+third false false false false e = absurd cc
+
+fourth : (a b c d : Bool) → first_cause ((a, Range) ∷ (b, Length) ∷ (c, NoPointer) ∷ (d, NoRoom) ∷ []) ≡ Some NoRoom → d ≡ true
+fourth true b c d e = absurd cc
+fourth false true c d e = absurd cc
+fourth false false true d e = absurd cc
+fourth false false false true e = refl
+fourth false false false false e = absurd cc
+
+why_refused : (now : Moment) (c : Command) (why : Refusal) (next : Moment) → Commanded now c (Refused why) next → refusal now c ≡ Some why
+why_refused now c why next h = from_cause (refusal now c) (turn_reply now c) why (turn_is_no_refusal now.core c why) (sym h.reply)
+
+no_cell : (s : State) (m : ℕ) → lowest_cell s m ≡ None → (q : ℕ) → m * CELLS ≤ q → q < m * CELLS + CELLS → s.cell q ≢ 0
+unfolding lowest_cell
+no_cell s m e = none_found s.cell (m * CELLS) CELLS e
+
+pub none_left : (now : Moment) (m len ds : ℕ) (next : Moment) →
+    (Commanded now (Mutator m (New len ds)) (Refused NoPointer) next → (q : ℕ) → m * CELLS ≤ q → q < m * CELLS + CELLS → now.core.cell q ≢ 0)
+    × (Commanded now (Mutator m (New len ds)) (Refused NoRoom) next → room now.core (size_of len) true ≡ None)
+none_left now m len ds next = (
+  (λ h. no_cell now.core m (none_from (lowest_cell now.core m) (third _ _ _ _ (why_refused now (Mutator m (New len ds)) NoPointer next h)))),
+  (λ h. none_from (room now.core (size_of len) true) (fourth _ _ _ _ (why_refused now (Mutator m (New len ds)) NoRoom next h))),
+)
+
+-- what a new object in range is answered, by the lowest free cell and the room
+abbrev new_answer : Option ℕ → Option Place → Reply
+new_answer None y = Refused NoPointer
+new_answer (Some p) None = Refused NoRoom
+new_answer (Some p) (Some place) = Pointer p
+
+in_range : (a b : Bool) (x : Option ℕ) (y : Option Place) → a ≡ false → b ≡ false →
+    unless (first_cause ((a, Range) ∷ (b, Length) ∷ (not (is_some x), NoPointer) ∷ (not (is_some y), NoRoom) ∷ [])) Refused (pointer_reply x) ≡ new_answer x y
+in_range true b x y e f = absurd cc
+in_range false true x y e f = absurd cc
+in_range false false None y e f = refl
+in_range false false (Some p) None e f = refl
+in_range false false (Some p) (Some place) e f = refl
+
+no_lowest : (x : Option ℕ) (y : Option Place) → ((p : ℕ) → x ≢ Some p) → new_answer x y ≡ Refused NoPointer
+no_lowest None y h = refl
+no_lowest (Some p) y h = absurd (h p refl)
+
+some_lowest : (x : Option ℕ) (y : Option Place) → (x ≢ None) → (y ≡ None → new_answer x y ≡ Refused NoRoom) × ((place : Place) → y ≡ Some place → (p : ℕ) × (new_answer x y ≡ Pointer p))
+some_lowest None y h = absurd (h refl)
+some_lowest (Some p) None h = (λ _. refl, λ place e. absurd cc)
+some_lowest (Some p) (Some place) h = (λ e. absurd cc, λ _ _. (p, refl))
+
+lowest_is_free : (s : State) (m p : ℕ) → lowest_cell s m ≡ Some p → (m * CELLS ≤ p) × (p < m * CELLS + CELLS) × (s.cell p ≡ 0)
+unfolding lowest_cell
+lowest_is_free s m p e = let x = lowest_found s.cell (m * CELLS) CELLS p e in (x.0, x.1, x.2)
+
+pub is_made : (now : Moment) (m len ds : ℕ) (r : Reply) (next : Moment) → m < now.core.mutators → ds < 256 → 0 < len → len ≤ LONGEST → Commanded now (Mutator m (New len ds)) r next →
+    (((q : ℕ) → m * CELLS ≤ q → q < m * CELLS + CELLS → now.core.cell q ≢ 0) → r ≡ Refused NoPointer)
+    × ((q : ℕ) → m * CELLS ≤ q → q < m * CELLS + CELLS → now.core.cell q ≡ 0 →
+    (room now.core (size_of len) true ≡ None → r ≡ Refused NoRoom) × ((place : Place) → room now.core (size_of len) true ≡ Some place → (p : ℕ) × (r ≡ Pointer p)))
+is_made now m len ds r next own structure some most h =
+    let x : Option ℕ = lowest_cell now.core m in
+    let y : Option Place = room now.core (size_of len) true in
+    let a : not (nat_lt m now.core.mutators && nat_lt ds 256) ≡ false = numbers_fit m now.core.mutators ds own structure in
+    let b : not (nat_lt 0 len && nat_le len LONGEST) ≡ false = length_fits len some most in
+    let is : r ≡ new_answer x y = h.reply ∙ in_range (not (nat_lt m now.core.mutators && nat_lt ds 256)) (not (nat_lt 0 len && nat_le len LONGEST)) x y a b in (
+      (λ taken. is ∙ no_lowest x y (λ p e. let free = lowest_is_free now.core m p e in taken p free.0 free.1 free.2)),
+      (λ q low high free.
+          let found = some_lowest x y (λ none. no_cell now.core m none q low high free) in
+          ((λ e. is ∙ found.0 e), (λ place e. let made_at = found.1 place e in (made_at.0, is ∙ made_at.1)))),
+    )
+  where
+    numbers_fit : (m mutators ds : ℕ) → m < mutators → ds < 256 → not (nat_lt m mutators && nat_lt ds 256) ≡ false
+    numbers_fit m mutators ds a b = grind (arith, nat_tests)
+
+    length_fits : (len : ℕ) → 0 < len → len ≤ LONGEST → not (nat_lt 0 len && nat_le len LONGEST) ≡ false
+    length_fits len a b = grind (arith, nat_tests)
+
+-- ---- writes
+pub changes_range : (bytes new : List ℕ) (from : ℕ) → from + length new ≤ length bytes →
+    (length (spliced bytes from new) ≡ length bytes)
+    × ((k : ℕ) → k < from → get_or (spliced bytes from new) k 0 ≡ get_or bytes k 0)
+    × ((k : ℕ) → k < length new → get_or (spliced bytes from new) (from + k) 0 ≡ get_or new k 0)
+    × ((k : ℕ) → from + length new ≤ k → get_or (spliced bytes from new) k 0 ≡ get_or bytes k 0)
+changes_range bytes new from fits = (
+  length-spliced bytes from new fits,
+  spliced_before bytes from new fits,
+  (λ k lt. let same : from + k - from ≡ k = omega arith in spliced_inside bytes from new fits (from + k) (omega arith) (omega arith) ∙ ap (λ j. get_or new j 0) same),
+  spliced_behind bytes from new fits,
+)
+
+-- ---- whose line it is
+at_number : (k m : ℕ) (A B : Type 0) (b : Bool) → nat_eq k m ≡ b → MatchBool b A B → (m ≡ k → A) × ((m ≢ k) → B)
+at_number k m A B true e x = ((λ _. x), (λ ne. absurd (ne (sym (eqb-true k m e)))))
+at_number k m A B false e x = ((λ same. absurd (eqb-false k m e (sym same))), (λ _. x))
+
+pub own_lines : (m : ℕ) (o : Own) (c : Command) (r : Reply) (cs : List Command) (rs : List Reply) → Alone m o (c ∷ cs) (r ∷ rs) →
+    (IsSaidBy m c → (q : Own) × Knows m o c r q × Alone m q cs rs) × (¬ IsSaidBy m c → Alone m o cs rs)
+own_lines m o (Mutator k request) r cs rs h = at_number k m _ _ (nat_eq k m) refl h
+own_lines m o (Book inquiry) r cs rs h = ((λ no. absurd no), (λ _. h))
+
+-- ---- what a new object is
+not_refused : (o : Option Refusal) (x : Option ℕ) (p : ℕ) → Pointer p ≡ unless o Refused (pointer_reply x) → o ≡ None
+not_refused None x p e = refl
+not_refused (Some why) x p e = absurd cc
+
+pub makes_its_object : (now : Moment) (m len ds p : ℕ) (next : Moment) → IsMoment now → Commanded now (Mutator m (New len ds)) (Pointer p) next → (place : Place) × (room now.core (size_of len) true ≡ Some place)
+    × ((world_of next.core).object ≡ put (world_of now.core).object p (Some record { owner = m; ds = ds; bytes = replicate len 0; home = Group place.log }))
+makes_its_object now m len ds p next is c =
+    let s : State = now.core in
+    let lasts = moment_lasts now is in
+    let h = carried now (Mutator m (New len ds)) (Pointer p) next lasts tt c in
+    let none : refusal now (Mutator m (New len ds)) ≡ None = not_refused (refusal now (Mutator m (New len ds))) (lowest_cell s m) p h.reply in
+    let parts = four (nat_lt m s.mutators && nat_lt ds 256) (nat_lt 0 len && nat_le len LONGEST) (is_some (lowest_cell s m)) (is_some (room s (size_of len) true)) Range Length NoPointer NoRoom none in
+    let low : lowest_cell s m ≡ Some p = told_pointer (refusal now (Mutator m (New len ds))) (lowest_cell s m) p h.reply in
+    let at = some_of (room s (size_of len) true) parts.3 in
+    let numbers = is_structure s m ds (ap not parts.0) in
+    let sized = is_length len (ap not parts.1) in
+    let where_it_is = takes_lowest now m len ds p next c in
+    let own : p / CELLS ≡ m = omega (arith, where_it_is.0, where_it_is.1) in
+    let events : events_for now (Mutator m (New len ds)) ≡ new_events m len ds (Some p) (Some at.0) =
+    ap (λ o. unless o (λ _. []) (turn_events now (Mutator m (New len ds)))) none ∙ ap (λ o. new_events m len ds o (room s (size_of len) true)) low ∙ ap (λ r. new_events m len ds (Some p) r) at.1 in
+    let run = new_run s m len ds p at.0 lasts.law numbers.0 own sized.1 numbers.1 (subst (AllSucceed s) events h.succeed) in
+    let whole : run.0 ≡ record { owner = m; ds = ds; bytes = replicate len 0; home = Group at.0.log } =
+    run.5 ∙ ap (λ (o : ℕ). record { owner = o; ds = ds; bytes = replicate len 0; home = Group at.0.log }) own in
+    (at.0, at.1, ap (λ (x : State). (world_of x).object) (h.state ∙ ap (after_events s) events) ∙ run.2 ∙ ap (λ (o : Object). put (world_of s).object p (Some o)) whole)
+
+-- ---- the first moment
+pub heap_lawful : (logs mutators : ℕ) → is_shape (shape_of logs mutators) ≡ true →
+    ((first_moment logs mutators).core.logs ≡ logs) × ((first_moment logs mutators).core.mutators ≡ mutators) × Lawful (first_moment logs mutators) × IsWhole (first_moment logs mutators).core
+    × ((p : ℕ) → (first_moment logs mutators).core.cell p ≡ 0) × ((l : ℕ) → (first_moment logs mutators).core.tail l ≡ 0)
+heap_lawful logs mutators fits = let lawful = first_lawful logs mutators fits in (refl, refl, lawful, whole (first_moment logs mutators).core lawful.law, (λ p. refl), (λ l. refl))
+
+-- ---- one law from the text
+pub objects_whole : (now : Moment) (cs : List Command) (rs : List Reply) (moments : List Moment) → IsMoment now → AllWriteBytes cs → Answered now cs rs moments →
+    All (λ (x : Moment). IsWhole x.core) (now ∷ moments)
+objects_whole now cs rs moments is bytes h =
+    All-from (λ (x : Moment). IsWhole x.core) (now ∷ moments) (λ x c. whole x.core (moment_lasts x (each_is_moment now cs rs moments is bytes h x c)).law)
+
+in_shape : (logs mutators : ℕ) (cs : List Command) (output : List ℕ) (b : Bool) → b ≡ true →
+    MatchBool b ((rs : List Reply) × (moments : List Moment) × Answered (first_moment logs mutators) cs rs moments × (output ≡ flat_map printed (Done ∷ rs))) (output ≡ printed (Refused Shape)) →
+    (rs : List Reply) × (moments : List Moment) × Answered (first_moment logs mutators) cs rs moments × (output ≡ flat_map printed (Done ∷ rs))
+in_shape logs mutators cs output true e h = h
+in_shape logs mutators cs output false e h = absurd cc
+
+pub outputs_sound : (text output : List ℕ) (logs mutators : ℕ) (cs : List Command) → Answers text output → trace_of text ≡ Ok (Heap logs mutators cs) →
+    is_shape (shape_of logs mutators) ≡ true → IsSound logs mutators cs output
+outputs_sound text output logs mutators cs answers reads fits =
+    let bytes : AllWriteBytes cs = texts_write text logs mutators cs reads in
+    let is : IsMoment (first_moment logs mutators) = first_is_moment logs mutators fits in
+    let (rs, moments, h, e) = in_shape logs mutators cs output (is_shape (shape_of logs mutators)) fits (subst (λ (x : Result Trace ℕ). IsOutput x output) reads answers) in
+    record {
+      replies = rs;
+      moments = moments;
+      bytes = bytes;
+      answered = h;
+      printed_so = e;
+      plain = replies_plain (first_moment logs mutators) cs rs moments (first_lasts logs mutators fits) bytes h;
+      lawful = moments_last (first_moment logs mutators) cs rs moments is bytes h;
+      whole = objects_whole (first_moment logs mutators) cs rs moments is bytes h;
+      stay = logs_stay (first_moment logs mutators) cs rs moments is bytes h;
+      alone = λ m within. alone_first logs mutators m cs rs moments fits within bytes h;
+    }

@@ -1,0 +1,93 @@
+-- Each reply of a heap is told in full by its lines.
+use Rattle.std.proofs.Common.{◌≡◌, ℕ, ◌+◌, ◌-◌, ◌<◌, ◌≤◌, nat_lt, ◌&&◌, not, true, is_some, refl, sym, subst, ap, arith, inl, inr, Option, Some, None, List, [], ◌∷◌, map, length, drop}
+use Rattle.std.specs.Prelude.{slice_range, All, nat_le}
+use Rattle.std.specs.List.{range_with_len, AllByRecursion}
+use Rattle.std.proofs.Math.Nat.{min-le_left}
+use Rattle.std.proofs.lemmas.Bool.{cases_lt}
+use Rattle.std.proofs.lemmas.List.{get_or_past, length-take}
+use Rattle.std.proofs.lemmas.List.Elements.{All-from_recursion}
+use Rattle.hex.specs.Hex.{IsBytes}
+use Rattle.far_word.specs.declared.refused.Refused.{Refused as Refusal}
+use Rattle.far_word.specs.declared.refused.Refused.TheVariants.{Range, Length, NoPointer, NoRoom}
+use Rattle.far_word.specs.declared.sizes.TheConstants.{LONGEST}
+use Rattle.far_word.specs.Sizes.{size_of}
+use Rattle.far_core.specs.state.Law.{Law}
+use Rattle.far_core.specs.state.Room.{room}
+use Rattle.far_core.specs.state.State.{State}
+use Rattle.far_core.proofs.Observations.{bytes_make_log}
+use Rattle.far_replay.specs.Answers.{Answered}
+use Rattle.far_replay.specs.Command.{Command, New, Open, Write, Read, Close, Logs, Mutator, Book}
+use Rattle.far_replay.specs.Headline.{IsToldInFull, IsLineToldInFull, AreToldInFull, IsRefusalToldInFull}
+use Rattle.far_replay.specs.Moment.{Moment, moment_of}
+use Rattle.far_replay.specs.Objects.{lowest_cell, data_of}
+use Rattle.far_replay.specs.Reply.{Reply, Refused, LogLine}
+use Rattle.far_replay.specs.Turn.{causes, refusal, unless, turn_reply, log_line, pointer_reply}
+use Rattle.far_replay.specs.Written.{AllWriteBytes}
+use Rattle.far_replay.proofs.AloneNew.{is_structure}
+use Rattle.far_replay.proofs.AloneStates.{lowest_own, data_small}
+use Rattle.far_replay.proofs.Each.{Each, Each-row}
+use Rattle.far_replay.proofs.Fronts.{range_get}
+use Rattle.far_replay.proofs.Lasting.{Lasts, still_lasts}
+use Rattle.far_replay.proofs.Refusals.{EachCause, among}
+use Rattle.far_replay.proofs.Turns.{four}
+
+-- a pointer is a number of a cell
+plain_pointer : (s : State) (m : ℕ) (o : Option ℕ) → Law s → m < s.mutators → lowest_cell s m ≡ o → IsToldInFull (pointer_reply o)
+plain_pointer s m None law own e = tt
+plain_pointer s m (Some p) law own e = omega (arith, lowest_own s m p e, law.shape.few_mutators, own)
+
+-- a part of an object's bytes is bytes
+plain_data : (s : State) (p from len : ℕ) → IsBytes (slice_range (data_of s p) from (from + len))
+plain_data s p from len k = elim (cases_lt k len) [
+  | inl lt ↦ omega (arith, range_get (data_of s p) from len k lt, data_small s p (from + k))
+  | inr past ↦ (
+      let most : length (slice_range (data_of s p) from (from + len)) ≤ from + len - from = subst (λ n. n ≤ from + len - from) (sym (length-take (from + len - from) (drop from (data_of s p)))) (min-le_left _ _) in
+      omega (arith, get_or_past (slice_range (data_of s p) from (from + len)) k 0 (omega (arith, most))))
+]
+
+-- what is told of a log is small
+plain_lines : (lines : List LogLine) → Each IsLineToldInFull lines → AreToldInFull lines
+plain_lines [] h = tt
+plain_lines (line ∷ lines) h = (h.0, plain_lines lines h.1)
+
+plain_logs : (s : State) → Law s → AreToldInFull (map (log_line (moment_of s)) (range_with_len 0 s.logs))
+plain_logs s law = plain_lines _ (Each-row IsLineToldInFull (log_line (moment_of s)) 0 s.logs (λ l lt.
+    let made = bytes_make_log s law (0 + l) in
+    record { log = omega (arith, law.shape.few_logs); live = omega (arith, made); dead = omega (arith, made); unused = omega (arith, made) }))
+
+-- no cause of today carries a word
+plain_causes : (s : State) (c : Command) → EachCause IsRefusalToldInFull (causes (moment_of s) c)
+plain_causes s (Mutator m (New len ds)) = (tt, (tt, (tt, (tt, tt))))
+plain_causes s (Mutator m Open) = (tt, (tt, tt))
+plain_causes s (Mutator m (Write p from bytes)) = (tt, (tt, (tt, (tt, tt))))
+plain_causes s (Mutator m (Read p from len)) = (tt, (tt, (tt, (tt, tt))))
+plain_causes s (Mutator m Close) = (tt, (tt, tt))
+plain_causes s (Book Logs) = tt
+
+-- the reply of a command that isn't refused
+plain_turn : (s : State) (c : Command) → Law s → refusal (moment_of s) c ≡ None → IsToldInFull (turn_reply (moment_of s) c)
+plain_turn s (Mutator m (New len ds)) law e =
+    let parts = four (nat_lt m s.mutators && nat_lt ds 256) (nat_lt 0 len && nat_le len LONGEST) (is_some (lowest_cell s m)) (is_some (room s (size_of len) true)) Range Length NoPointer NoRoom e in
+    plain_pointer s m (lowest_cell s m) law (is_structure s m ds (ap not parts.0)).0 refl
+plain_turn s (Mutator m Open) law e = tt
+plain_turn s (Mutator m (Write p from bytes)) law e = tt
+plain_turn s (Mutator m (Read p from len)) law e = plain_data s p from len
+plain_turn s (Mutator m Close) law e = tt
+plain_turn s (Book Logs) law e = plain_logs s law
+
+plain_reply : (s : State) (c : Command) (o : Option Refusal) → Law s → refusal (moment_of s) c ≡ o → IsToldInFull (unless o Refused (turn_reply (moment_of s) c))
+plain_reply s c None law e = plain_turn s c law e
+plain_reply s c (Some why) law e = among IsRefusalToldInFull (causes (moment_of s) c) why (plain_causes s c) e
+
+-- each reply to a list of commands
+each_plain : (now : Moment) (cs : List Command) (rs : List Reply) (moments : List Moment) → Lasts now → AllWriteBytes cs → Answered now cs rs moments → AllByRecursion IsToldInFull rs
+each_plain now [] [] [] lasts bytes h = tt
+each_plain now [] [] (m ∷ ms) lasts bytes h = absurd h
+each_plain now [] (r ∷ rs) ms lasts bytes h = absurd h
+each_plain now (c ∷ cs) [] ms lasts bytes h = absurd h
+each_plain now (c ∷ cs) (r ∷ rs) [] lasts bytes h = absurd h
+each_plain now (c ∷ cs) (r ∷ rs) (next ∷ ms) lasts bytes h =
+    (subst IsToldInFull (sym h.0.reply) (plain_reply now.core c (refusal now c) lasts.law refl), each_plain next cs rs ms (still_lasts now c r next lasts bytes.0 h.0) bytes.1 h.1)
+
+pub replies_plain : (now : Moment) (cs : List Command) (rs : List Reply) (moments : List Moment) → Lasts now → AllWriteBytes cs → Answered now cs rs moments → All IsToldInFull rs
+replies_plain now cs rs moments lasts bytes h = All-from_recursion IsToldInFull rs (each_plain now cs rs moments lasts bytes h)

@@ -1,0 +1,208 @@
+-- Replies that their lines tell in full are equal where they are printed alike.
+use Rattle.std.specs.Prelude.{◌⊎◌, if◌then◌else◌}
+use Rattle.std.proofs.Common.{◌≡◌, ◌≢◌, ℕ, suc, ◌<◌, ◌^◌, ◌==◌, List, [], ◌∷◌, ◌++◌, Ok, length, drop, get_or, codes, decimal, inl, inr, refl, sym, ap, ◌∙◌, arith, append_assoc, append-nil}
+use Rattle.std.specs.List.{flat_map}
+use Rattle.std.proofs.lemmas.List.{append_cancel_left, append_cancel_right}
+use Rattle.std.proofs.lemmas.Fmt.{decimal_injective, decimal_is_IsNumeral}
+use Rattle.hex.specs.Hex.{IsBytes, encode_lower, decode_of}
+use Rattle.hex.proofs.HexLemmas.{decode_of-encode_lower}
+use Rattle.far_word.specs.declared.refused.Refused.{Refused as Refusal}
+use Rattle.far_word.specs.declared.refused.Refused.TheVariants.{Memory, NoRoom, NoPointer, Length, Closed, AlreadyOpen, NotHeld, Range, Held, Device, Damaged, Phase, EpochsSpent, Marked, Shape, Syntax, BadChoice, StillOpen}
+use Rattle.far_word.specs.Refused.{refusal_number}
+use Rattle.far_core.specs.declared.event.Kind.{Kind}
+use Rattle.far_core.specs.declared.event.Kind.TheVariants as kinds
+use Rattle.far_replay.specs.Headline.{IsToldInFull, IsLineToldInFull, AreToldInFull, IsRefusalToldInFull}
+use Rattle.far_replay.specs.Reply.{Reply, Done, Pointer, Data, Logs, Refused, LogLine, kind_word, log_printed, detail, refused_printed, printed}
+use Rattle.std.proofs.lemmas.Str.Parse.{digit_at}
+
+-- ---- bytes up to the first of one kind
+abbrev Free : ℕ → List ℕ → Type 0
+Free b [] = Unit {0}
+Free b (x ∷ xs) = (x ≢ b) × Free b xs
+
+abbrev head_of : List ℕ → ℕ
+head_of xs = get_or xs 0 0
+
+free_at : (b : ℕ) (xs : List ℕ) → ((k : ℕ) → k < length xs → get_or xs k 0 ≢ b) → Free b xs
+free_at b [] h = tt
+free_at b (x ∷ xs) h = (h 0 (omega arith), free_at b xs (λ k lt. h (suc k) (omega arith)))
+
+cut : (b : ℕ) (xs ys us vs : List ℕ) → Free b xs → Free b ys → xs ++ (b ∷ us) ≡ ys ++ (b ∷ vs) → (xs ≡ ys) × (us ≡ vs)
+cut b [] [] us vs f g e = (refl, ap (drop 1) e)
+cut b [] (y ∷ ys) us vs f g e = absurd (g.0 (sym (ap head_of e)))
+cut b (x ∷ xs) [] us vs f g e = absurd (f.0 (ap head_of e))
+cut b (x ∷ xs) (y ∷ ys) us vs f g e =
+    let first : x ≡ y = ap head_of e in
+    let (others, behind) = cut b xs ys us vs f.1 g.1 (ap (drop 1) e) in
+    ((λ i. first i ∷ others i), behind)
+
+none_inside : (b : ℕ) (xs ys zs : List ℕ) → Free b xs → xs ≢ ys ++ (b ∷ zs)
+none_inside b [] [] zs f e = absurd cc
+none_inside b [] (y ∷ ys) zs f e = absurd cc
+none_inside b (x ∷ xs) [] zs f e = f.0 (ap head_of e)
+none_inside b (x ∷ xs) (y ∷ ys) zs f e = none_inside b xs ys zs f.1 (ap (drop 1) e)
+
+-- ---- numbers and kinds
+decimal_free : (b n : ℕ) → b < 48 → n < 2 ^ 64 → Free b (decimal n)
+decimal_free b n low small = free_at b (decimal n) (λ k lt e. let d = digit_at (decimal n) k (decimal_is_IsNumeral n small).0.1 lt in omega (arith, d.0, e))
+
+kind_free : (k : Kind) → Free 32 (kind_word k)
+kind_free kinds.Free = ((λ e. omega (arith, e)), ((λ e. omega (arith, e)), ((λ e. omega (arith, e)), ((λ e. omega (arith, e)), tt))))
+kind_free kinds.Open = ((λ e. omega (arith, e)), ((λ e. omega (arith, e)), ((λ e. omega (arith, e)), ((λ e. omega (arith, e)), tt))))
+kind_free kinds.Sealed = ((λ e. omega (arith, e)), ((λ e. omega (arith, e)), ((λ e. omega (arith, e)), ((λ e. omega (arith, e)), ((λ e. omega (arith, e)), ((λ e. omega (arith, e)), tt))))))
+
+kinds_alike : (a b : Kind) → kind_word a ≡ kind_word b → a ≡ b
+kinds_alike kinds.Free kinds.Free e = refl
+kinds_alike kinds.Free kinds.Open e = let h : 102 ≡ 111 = ap head_of e in absurd (omega (arith, h))
+kinds_alike kinds.Free kinds.Sealed e = let h : 102 ≡ 115 = ap head_of e in absurd (omega (arith, h))
+kinds_alike kinds.Open kinds.Free e = let h : 111 ≡ 102 = ap head_of e in absurd (omega (arith, h))
+kinds_alike kinds.Open kinds.Open e = refl
+kinds_alike kinds.Open kinds.Sealed e = let h : 111 ≡ 115 = ap head_of e in absurd (omega (arith, h))
+kinds_alike kinds.Sealed kinds.Free e = let h : 115 ≡ 102 = ap head_of e in absurd (omega (arith, h))
+kinds_alike kinds.Sealed kinds.Open e = let h : 115 ≡ 111 = ap head_of e in absurd (omega (arith, h))
+kinds_alike kinds.Sealed kinds.Sealed e = refl
+
+-- ---- lines of logs
+-- parts that are joined from the left are joined from the right
+abbrev from_left : List ℕ → List (List ℕ) → List ℕ
+from_left front [] = front
+from_left front (part ∷ parts) = from_left (front ++ part) parts
+
+abbrev from_right : List (List ℕ) → List ℕ → List ℕ
+from_right [] rest = rest
+from_right (part ∷ parts) rest = part ++ from_right parts rest
+
+chained : (front : List ℕ) (parts : List (List ℕ)) (rest : List ℕ) → from_left front parts ++ rest ≡ front ++ from_right parts rest
+chained front [] rest = refl
+chained front (part ∷ parts) rest = chained (front ++ part) parts rest ∙ append_assoc front part (from_right parts rest)
+
+-- a line in front of others, from the left
+line_right : (l : LogLine) (rest : List ℕ) → log_printed l ++ rest
+    ≡ codes "log " ++ (decimal l.log ++ (32 ∷ (kind_word l.kind ++ (32 ∷ (codes "live " ++ (decimal l.live ++ (32 ∷ (codes "dead " ++ (decimal l.dead ++ (32 ∷ (codes "unused " ++ (decimal l.unused ++ (10 ∷ rest)))))))))))))
+line_right l rest = chained (codes "log ")
+    (decimal l.log ∷ codes " " ∷ kind_word l.kind ∷ codes " live " ∷ decimal l.live ∷ codes " dead " ∷ decimal l.dead ∷ codes " unused " ∷ decimal l.unused ∷ codes "\n" ∷ []) rest
+
+line_alike : (l k : LogLine) (xs ys : List ℕ) → IsLineToldInFull l → IsLineToldInFull k → log_printed l ++ xs ≡ log_printed k ++ ys → (l ≡ k) × (xs ≡ ys)
+line_alike l k xs ys p q e =
+    let (log, a) = cut 32 (decimal l.log) (decimal k.log) _ _ (decimal_free 32 l.log (omega arith) p.log) (decimal_free 32 k.log (omega arith) q.log)
+    (append_cancel_left (codes "log ") _ _ (sym (line_right l xs) ∙ e ∙ line_right k ys)) in
+    let (kind, b) = cut 32 (kind_word l.kind) (kind_word k.kind) _ _ (kind_free l.kind) (kind_free k.kind) a in
+    let (live, c) = cut 32 (decimal l.live) (decimal k.live) _ _ (decimal_free 32 l.live (omega arith) p.live) (decimal_free 32 k.live (omega arith) q.live) (append_cancel_left (codes "live ") _ _ b) in
+    let (dead, d) = cut 32 (decimal l.dead) (decimal k.dead) _ _ (decimal_free 32 l.dead (omega arith) p.dead) (decimal_free 32 k.dead (omega arith) q.dead) (append_cancel_left (codes "dead ") _ _ c) in
+    let (unused, end) = cut 10 (decimal l.unused) (decimal k.unused) xs ys (decimal_free 10 l.unused (omega arith) p.unused) (decimal_free 10 k.unused (omega arith) q.unused)
+    (append_cancel_left (codes "unused ") _ _ d) in
+    let log_same : l.log ≡ k.log = decimal_injective l.log k.log p.log q.log log in
+    let kind_same : l.kind ≡ k.kind = kinds_alike l.kind k.kind kind in
+    let live_same : l.live ≡ k.live = decimal_injective l.live k.live p.live q.live live in
+    let dead_same : l.dead ≡ k.dead = decimal_injective l.dead k.dead p.dead q.dead dead in
+    let unused_same : l.unused ≡ k.unused = decimal_injective l.unused k.unused p.unused q.unused unused in
+    ((λ i. record { log = log_same i; kind = kind_same i; live = live_same i; dead = dead_same i; unused = unused_same i }), end)
+
+lines_alike : (ls ks : List LogLine) → AreToldInFull ls → AreToldInFull ks → flat_map log_printed ls ≡ flat_map log_printed ks → ls ≡ ks
+lines_alike [] [] p q e = refl
+lines_alike [] (k ∷ ks) p q e = let h : 0 ≡ 108 = ap head_of e in absurd (omega (arith, h))
+lines_alike (l ∷ ls) [] p q e = let h : 108 ≡ 0 = ap head_of e in absurd (omega (arith, h))
+lines_alike (l ∷ ls) (k ∷ ks) p q e =
+    let (first, behind) = line_alike l k (flat_map log_printed ls) (flat_map log_printed ks) p.0 q.0 e in
+    let others = lines_alike ls ks p.1 q.1 behind in
+    (λ i. first i ∷ others i)
+
+-- ---- refusals
+-- the refusal of a number, where nothing stands behind it
+abbrev refusal_of : ℕ → Refusal
+refusal_of n =
+    if n == 1 then Memory else if n == 2 then NoRoom else if n == 3 then NoPointer else if n == 4 then Length else if n == 5 then Closed
+    else if n == 6 then AlreadyOpen else if n == 7 then NotHeld else if n == 8 then Range else if n == 9 then Held else if n == 10 then Device
+    else if n == 11 then Damaged else if n == 12 then Phase else if n == 13 then EpochsSpent else Shape
+
+-- a line stands behind the number, or nothing
+line_or_none : (why : Refusal) → IsRefusalToldInFull why → ((line : ℕ) × (line < 2 ^ 64) × (why ≡ Syntax line)) ⊎ ((detail why ≡ []) × (refusal_number why < 2 ^ 64) × (refusal_of (refusal_number why) ≡ why))
+line_or_none Memory p = inr (refl, omega arith, refl)
+line_or_none NoRoom p = inr (refl, omega arith, refl)
+line_or_none NoPointer p = inr (refl, omega arith, refl)
+line_or_none Length p = inr (refl, omega arith, refl)
+line_or_none Closed p = inr (refl, omega arith, refl)
+line_or_none AlreadyOpen p = inr (refl, omega arith, refl)
+line_or_none NotHeld p = inr (refl, omega arith, refl)
+line_or_none Range p = inr (refl, omega arith, refl)
+line_or_none Held p = inr (refl, omega arith, refl)
+line_or_none Device p = inr (refl, omega arith, refl)
+line_or_none Damaged p = inr (refl, omega arith, refl)
+line_or_none Phase p = inr (refl, omega arith, refl)
+line_or_none EpochsSpent p = inr (refl, omega arith, refl)
+line_or_none (Marked word) p = absurd p
+line_or_none Shape p = inr (refl, omega arith, refl)
+line_or_none (Syntax line) p = inl (line, p, refl)
+line_or_none (BadChoice log) p = absurd p
+line_or_none (StillOpen mutator epoch) p = absurd p
+
+abbrev behind_refused : Refusal → List ℕ
+behind_refused why = decimal (refusal_number why) ++ detail why
+
+number_alone : (why : Refusal) → detail why ≡ [] → behind_refused why ≡ decimal (refusal_number why)
+number_alone why e = ap (λ xs. decimal (refusal_number why) ++ xs) e ∙ append-nil (decimal (refusal_number why))
+
+line_behind : (why : Refusal) (line : ℕ) → why ≡ Syntax line → behind_refused why ≡ decimal 16 ++ (32 ∷ decimal line)
+line_behind why line e = ap behind_refused e
+
+refused_alike : (a b : Refusal) → IsRefusalToldInFull a → IsRefusalToldInFull b → refused_printed a ≡ refused_printed b → a ≡ b
+refused_alike a b p q e =
+    let same : behind_refused a ≡ behind_refused b =
+    append_cancel_left (codes "refused ") _ _ (sym (append_assoc (codes "refused ") (decimal (refusal_number a)) (detail a))
+    ∙ append_cancel_right _ _ (codes "\n") e ∙ append_assoc (codes "refused ") (decimal (refusal_number b)) (detail b)) in
+    elim (line_or_none a p) [
+      | inl s ↦ elim (line_or_none b q) [
+        | inl t ↦ (let lines : decimal s.0 ≡ decimal t.0 = ap (drop 1) (append_cancel_left (decimal 16) _ _ (sym (line_behind a s.0 s.2) ∙ same ∙ line_behind b t.0 t.2)) in
+            s.2 ∙ ap Syntax (decimal_injective s.0 t.0 s.1 t.1 lines) ∙ sym t.2)
+        | inr t ↦ absurd (none_inside 32 (decimal (refusal_number b)) (decimal 16) (decimal s.0) (decimal_free 32 (refusal_number b) (omega arith) t.1) (sym (number_alone b t.0) ∙ sym same ∙ line_behind a s.0 s.2))
+      ]
+      | inr s ↦ elim (line_or_none b q) [
+        | inl t ↦ absurd (none_inside 32 (decimal (refusal_number a)) (decimal 16) (decimal t.0) (decimal_free 32 (refusal_number a) (omega arith) s.1) (sym (number_alone a s.0) ∙ same ∙ line_behind b t.0 t.2))
+        | inr t ↦ sym s.2 ∙ ap refusal_of (decimal_injective (refusal_number a) (refusal_number b) s.1 t.1 (sym (number_alone a s.0) ∙ same ∙ number_alone b t.0)) ∙ t.2
+      ]
+    ]
+
+-- ---- replies
+pointers_alike : (p q : ℕ) → p < 2 ^ 64 → q < 2 ^ 64 → printed (Pointer p) ≡ printed (Pointer q) → p ≡ q
+pointers_alike p q a b e = decimal_injective p q a b (append_cancel_left (codes "pointer ") _ _ (append_cancel_right _ _ (codes "\n") e))
+
+bytes_alike : (x y : List ℕ) → IsBytes x → IsBytes y → printed (Data x) ≡ printed (Data y) → x ≡ y
+bytes_alike x y a b e =
+    let same : encode_lower x ≡ encode_lower y = append_cancel_left (codes "data ") _ _ (append_cancel_right _ _ (codes "\n") e) in
+    let both : Ok x ≡ Ok y = sym (decode_of-encode_lower x a) ∙ ap decode_of same ∙ decode_of-encode_lower y b in
+    cc
+
+pub printed_alike : (r q : Reply) → IsToldInFull r → IsToldInFull q → printed r ≡ printed q → r ≡ q
+printed_alike Done Done a b e = refl
+printed_alike Done (Pointer p) a b e = let h : 111 ≡ 112 = ap head_of e in absurd (omega (arith, h))
+printed_alike Done (Data x) a b e = let h : 111 ≡ 100 = ap head_of e in absurd (omega (arith, h))
+printed_alike Done (Logs []) a b e = let h : 111 ≡ 0 = ap head_of e in absurd (omega (arith, h))
+printed_alike Done (Logs (l ∷ ls)) a b e = let h : 111 ≡ 108 = ap head_of e in absurd (omega (arith, h))
+printed_alike Done (Refused why) a b e = let h : 111 ≡ 114 = ap head_of e in absurd (omega (arith, h))
+printed_alike (Pointer p) Done a b e = let h : 112 ≡ 111 = ap head_of e in absurd (omega (arith, h))
+printed_alike (Pointer p) (Pointer q) a b e = ap Pointer (pointers_alike p q a b e)
+printed_alike (Pointer p) (Data x) a b e = let h : 112 ≡ 100 = ap head_of e in absurd (omega (arith, h))
+printed_alike (Pointer p) (Logs []) a b e = let h : 112 ≡ 0 = ap head_of e in absurd (omega (arith, h))
+printed_alike (Pointer p) (Logs (l ∷ ls)) a b e = let h : 112 ≡ 108 = ap head_of e in absurd (omega (arith, h))
+printed_alike (Pointer p) (Refused why) a b e = let h : 112 ≡ 114 = ap head_of e in absurd (omega (arith, h))
+printed_alike (Data x) Done a b e = let h : 100 ≡ 111 = ap head_of e in absurd (omega (arith, h))
+printed_alike (Data x) (Pointer q) a b e = let h : 100 ≡ 112 = ap head_of e in absurd (omega (arith, h))
+printed_alike (Data x) (Data y) a b e = ap Data (bytes_alike x y a b e)
+printed_alike (Data x) (Logs []) a b e = let h : 100 ≡ 0 = ap head_of e in absurd (omega (arith, h))
+printed_alike (Data x) (Logs (l ∷ ls)) a b e = let h : 100 ≡ 108 = ap head_of e in absurd (omega (arith, h))
+printed_alike (Data x) (Refused why) a b e = let h : 100 ≡ 114 = ap head_of e in absurd (omega (arith, h))
+printed_alike (Logs []) Done a b e = let h : 0 ≡ 111 = ap head_of e in absurd (omega (arith, h))
+printed_alike (Logs []) (Pointer q) a b e = let h : 0 ≡ 112 = ap head_of e in absurd (omega (arith, h))
+printed_alike (Logs []) (Data y) a b e = let h : 0 ≡ 100 = ap head_of e in absurd (omega (arith, h))
+printed_alike (Logs []) (Refused why) a b e = let h : 0 ≡ 114 = ap head_of e in absurd (omega (arith, h))
+printed_alike (Logs (l ∷ ls)) Done a b e = let h : 108 ≡ 111 = ap head_of e in absurd (omega (arith, h))
+printed_alike (Logs (l ∷ ls)) (Pointer q) a b e = let h : 108 ≡ 112 = ap head_of e in absurd (omega (arith, h))
+printed_alike (Logs (l ∷ ls)) (Data y) a b e = let h : 108 ≡ 100 = ap head_of e in absurd (omega (arith, h))
+printed_alike (Logs (l ∷ ls)) (Refused why) a b e = let h : 108 ≡ 114 = ap head_of e in absurd (omega (arith, h))
+printed_alike (Logs ls) (Logs ks) a b e = ap Logs (lines_alike ls ks a b e)
+printed_alike (Refused why) Done a b e = let h : 114 ≡ 111 = ap head_of e in absurd (omega (arith, h))
+printed_alike (Refused why) (Pointer q) a b e = let h : 114 ≡ 112 = ap head_of e in absurd (omega (arith, h))
+printed_alike (Refused why) (Data y) a b e = let h : 114 ≡ 100 = ap head_of e in absurd (omega (arith, h))
+printed_alike (Refused why) (Logs []) a b e = let h : 114 ≡ 0 = ap head_of e in absurd (omega (arith, h))
+printed_alike (Refused why) (Logs (l ∷ ls)) a b e = let h : 114 ≡ 108 = ap head_of e in absurd (omega (arith, h))
+printed_alike (Refused why) (Refused other) a b e = ap Refused (refused_alike why other a b e)

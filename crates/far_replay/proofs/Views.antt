@@ -1,0 +1,228 @@
+-- What a view of an object changes, and what it leaves.
+use Rattle.std.proofs.Common.{◌≡◌, ◌≢◌, ℕ, ◌+◌, ◌*◌, ◌/◌, ◌%◌, ◌^◌, true, false, refl, sym, ap, subst, ◌∙◌, arith, [], ◌∷◌, Option, Some, None, bit_or, if◌then◌else◌, is_some}
+use Rattle.std.proofs.lemmas.Bool.Decides.{nat_tests}
+use Rattle.far_word.specs.declared.mark.Mark.TheVariants.{Hot}
+use Rattle.far_word.specs.declared.mark.Marks.{Marks}
+use Rattle.far_word.specs.declared.pointer.Place.{Place}
+use Rattle.far_word.specs.declared.pointer.PtrWord.{PtrWord}
+use Rattle.far_word.specs.declared.pointer.PtrWord.TheVariants as pointer
+use Rattle.far_word.specs.declared.pointer.PtrWord.TheVariants.{Near, Far}
+use Rattle.far_word.specs.declared.sizes.TheConstants.{CELLS, LOG_WORDS}
+use Rattle.far_word.specs.Mark.{position, marks_with}
+use Rattle.far_word.specs.Pointer.{read_of}
+use Rattle.far_core.specs.declared.event.Event.TheVariants.{Pin}
+use Rattle.far_core.specs.declared.event.Reply.TheVariants.{Held}
+use Rattle.far_core.specs.state.Law.{Law}
+use Rattle.far_core.specs.events.Legal.{HoldsObject}
+use Rattle.far_core.specs.state.Spans.{names_place}
+use Rattle.far_core.specs.state.State.{State}
+use Rattle.far_core.specs.events.Step.{is_legal, is_opened, near_data, near_len, data_len, place_to_view, after_pin, with_hold, pin_answer}
+use Rattle.far_core.proofs.Cells.{map_mark, held_near, unused}
+use Rattle.far_core.proofs.KeepOwner.{hot_read, nonzero, at_cell}
+use Rattle.far_core.proofs.events.Pin.{keeps_pin}
+use Rattle.far_core.proofs.Guards.{open_fact}
+use Rattle.far_core.proofs.Owing.{is_test}
+use Rattle.far_core.proofs.Put.{put_both, put_same}
+use Rattle.far_replay.specs.Effects.{with_view}
+use Rattle.far_replay.specs.EventRows.{after_events, Succeeds, AllSucceed, AtHand, AllAtHand}
+use Rattle.far_replay.specs.Tidy.{Tidy}
+use Rattle.far_replay.specs.Events.{view_events}
+use Rattle.far_replay.specs.Objects.{uses, object_len, named_len}
+use Rattle.far_replay.proofs.MadeLemmas.{made_first, first_succeeds}
+
+-- ---- what HOT leaves as it is
+-- the first data word
+pub near_data-hot : (o : Option PtrWord) → near_data (map_mark Hot o) ≡ near_data o
+near_data-hot None = refl
+near_data-hot (Some pointer.Free) = refl
+near_data-hot (Some (Near len ds place m)) = refl
+near_data-hot (Some (Far len ds m)) = refl
+
+-- the length
+pub near_len-hot : (o : Option PtrWord) → near_len (map_mark Hot o) ≡ near_len o
+near_len-hot None = refl
+near_len-hot (Some pointer.Free) = refl
+near_len-hot (Some (Near len ds place m)) = refl
+near_len-hot (Some (Far len ds m)) = refl
+
+-- the place that is named
+pub names_place-hot : (o : Option PtrWord) (l at : ℕ) → names_place (map_mark Hot o) l at ≡ names_place o l at
+names_place-hot None l at = refl
+names_place-hot (Some pointer.Free) l at = refl
+names_place-hot (Some (Near len ds place m)) l at = refl
+names_place-hot (Some (Far len ds m)) l at = refl
+
+-- what a cell says of an object that may be dereferenced at once
+pub record Ready (o : Option PtrWord) : Type 0 where
+  pub len : ℕ
+  pub ds : ℕ
+  pub place : Place
+  pub marks : Marks
+  pub near : o ≡ Some (Near len ds place marks)
+  pub unchosen : marks.evac ≡ false
+  pub unmoved : marks.moved ≡ false
+  pub kept : marks.dropped ≡ false
+
+-- the cell of such an object says so
+pub ready_of : (s : State) (p : ℕ) → AtHand s p → Ready (read_of (s.cell p))
+ready_of s p h = record { len = h.len; ds = h.ds; place = h.place; marks = h.marks; near = h.near; unchosen = h.unchosen; unmoved = h.unmoved; kept = h.kept }
+
+-- and so does a cell that is used
+pub hand_of : (s : State) (p : ℕ) → Ready (read_of (s.cell p)) → s.used p ≡ true → AtHand s p
+hand_of s p h used = record { len = h.len; ds = h.ds; place = h.place; marks = h.marks; near = h.near; unchosen = h.unchosen; unmoved = h.unmoved; kept = h.kept; used = used }
+
+-- an object at hand has the length that its cell says near
+pub len_near : (s : State) → Law s → AllAtHand s → (p : ℕ) → s.used p ≡ true → object_len s p ≡ data_len s p
+len_near s law hand p used = let h = hand p (nonzero s law p used) in ap named_len h.near ∙ sym (ap near_len h.near)
+
+-- HOT leaves it so
+Ready-hot : (o : Option PtrWord) → Ready o → Ready (map_mark Hot o)
+Ready-hot o h = record { len = h.len; ds = h.ds; place = h.place; marks = marks_with Hot h.marks; near = ap (map_mark Hot) h.near; unchosen = h.unchosen; unmoved = h.unmoved; kept = h.kept }
+
+-- a view of it may rest there
+Ready-view : (o : Option PtrWord) (h : Ready o) → place_to_view o ≡ Some h.place
+Ready-view o h = ap place_to_view h.near ∙ rw (h.unchosen, h.unmoved, h.kept) refl
+
+-- an object is held in a state after another, with the same words and the same place and length
+pub record Viewed (s t : State) (m p : ℕ) : Type 0 where
+  pub len : ℕ
+  pub place : Place
+  pub holds : HoldsObject t m p len place
+  pub words : t.word ≡ s.word
+  pub same_data : near_data (read_of (t.cell p)) ≡ near_data (read_of (s.cell p))
+  pub same_len : data_len t p ≡ data_len s p
+  pub long : data_len s p ≡ len
+
+module _ (s : State) (next : ℕ → ℕ) (m p : ℕ) (law : Law s) (tidy : Tidy s next) (opened : is_opened s m ≡ true) (ours : uses s m p ≡ true) where
+  -- the pointer is the owner's
+  own : p / CELLS ≡ m
+  own = grind (arith, nat_tests)
+
+  -- and it is used
+  used : s.used p ≡ true
+  used = grind (arith, nat_tests)
+
+  -- the object may be dereferenced at once
+  pub ready : Ready (read_of (s.cell p))
+  ready = ready_of s p (tidy.at_hand p (nonzero s law p used))
+
+  -- a new view may rest
+  can_view : place_to_view (read_of (s.cell p)) ≡ Some ready.place
+  can_view = Ready-view (read_of (s.cell p)) ready
+
+  -- so a pin is legal, unless the object is held
+  pin_legal : s.held p ≡ None → is_legal s (Pin m p) ≡ true
+  pin_legal e = is_test s (Pin m p) (open_fact s m opened, own, used, e)
+
+  -- a state after the view is the one before it, or that after a pin
+  at_held : (P : State → Type 0) (o : Option Place) → s.held p ≡ o → ((place : Place) → s.held p ≡ Some place → P s) → P (after_pin s p) →
+      P (after_events s (if is_some o then [] else Pin m p ∷ []))
+  at_held P None e already fresh = subst P (sym (made_first s (Pin m p) [] (pin_legal e))) fresh
+  at_held P (Some place) e already fresh = already place e
+
+  -- what is true of a state that holds the object, and after a pin, is true after the view
+  pub at_view : (P : State → Type 0) → ((place : Place) → s.held p ≡ Some place → P s) → P (after_pin s p) → P (after_events s (view_events s m p))
+  at_view P already fresh = at_held P (s.held p) refl already fresh
+
+  -- the view is the pin, unless the object is held
+  view_at : (o : Option Place) → s.held p ≡ o → after_events s (if is_some o then [] else Pin m p ∷ []) ≡ (if is_some o then s else after_pin s p)
+  view_at None e = made_first s (Pin m p) [] (pin_legal e)
+  view_at (Some place) e = refl
+
+  pub view_is : after_events s (view_events s m p) ≡ with_view s p
+  view_is = view_at (s.held p) refl
+
+  -- the view succeeds either way
+  succeeds_at : (o : Option Place) → s.held p ≡ o → AllSucceed s (if is_some o then [] else Pin m p ∷ [])
+  succeeds_at None e =
+      let gives : pin_answer (s.cell p) (place_to_view (read_of (s.cell p))) ≡ Held ready.place = ap (pin_answer (s.cell p)) can_view in
+      first_succeeds s (Pin m p) [] (pin_legal e) (subst (Succeeds (Pin m p)) (sym gives) tt) tt
+  succeeds_at (Some place) e = tt
+
+  -- the pin, if there is one, gives a view
+  pub view_succeeds : AllSucceed s (view_events s m p)
+  view_succeeds = succeeds_at (s.held p) refl
+
+  -- the view keeps the law
+  pub view_law : Law (after_events s (view_events s m p))
+  view_law = at_view Law (λ _ _. law) (keeps_pin s p law used (subst (λ k. s.scope k ≢ 0) (sym own) (open_fact s m opened).1))
+
+  -- the cell after a pin
+  pin_read : read_of ((after_pin s p).cell p) ≡ map_mark Hot (read_of (s.cell p))
+  pin_read = ap read_of (put_same s.cell p (bit_or (s.cell p) (2 ^ position Hot)) p refl) ∙ hot_read s law p used
+
+  -- the place that is held after a pin
+  pin_held : (after_pin s p).held p ≡ Some ready.place
+  pin_held = ap (λ o. with_hold s.held p o p) can_view ∙ put_same s.held p (Some ready.place) p refl
+
+  -- the object is held after a pin
+  pin_viewed : Viewed s (after_pin s p) m p
+  pin_viewed = record {
+    len = ready.len;
+    place = ready.place;
+    holds = record { own = own; rests = pin_held; near = (ready.ds, marks_with Hot ready.marks, pin_read ∙ ap (map_mark Hot) ready.near) };
+    words = refl;
+    same_data = ap near_data pin_read ∙ near_data-hot (read_of (s.cell p));
+    same_len = ap near_len pin_read ∙ near_len-hot (read_of (s.cell p));
+    long = ap near_len ready.near;
+  }
+
+  -- an object that was held is so still
+  old_viewed : (place : Place) → s.held p ≡ Some place → Viewed s s m p
+  old_viewed place e =
+      let h = held_near (read_of (s.cell p)) place (law.views.held_names p place e) in
+      record {
+        len = h.len;
+        place = place;
+        holds = record { own = own; rests = e; near = (h.ds, h.marks, h.near) };
+        words = refl;
+        same_data = refl;
+        same_len = refl;
+        long = ap near_len h.near;
+      }
+
+  -- after the view the object is held, and the words, its place and its length are as before
+  pub viewed : Viewed s (after_events s (view_events s m p)) m p
+  viewed = at_view (λ t. Viewed s t m p) old_viewed pin_viewed
+
+  -- a pin leaves cells that are 0 and cells that aren't
+  pin_named : (q : ℕ) → s.cell q ≢ 0 → (after_pin s p).cell q ≢ 0
+  pin_named q some = put_both (λ w. w ≢ 0) s.cell p (bit_or (s.cell p) (2 ^ position Hot)) q
+      (λ _ z. absurd (hot_some z)) (λ _. some) where
+        hot_some : bit_or (s.cell p) (2 ^ position Hot) ≢ 0
+        hot_some z = let odd : Some (Near ready.len ready.ds ready.place (marks_with Hot ready.marks)) ≡ Some pointer.Free = sym (hot_read s law p used ∙ ap (map_mark Hot) ready.near) ∙ ap read_of z ∙ unused in cc
+
+  -- and cells that are 0
+  pin_unnamed : (q : ℕ) → s.cell q ≡ 0 → (after_pin s p).cell q ≡ 0
+  pin_unnamed q none = put_both (λ w. w ≡ 0) s.cell p (bit_or (s.cell p) (2 ^ position Hot)) q
+      (λ e. absurd (nonzero s law p used (ap s.cell (sym e) ∙ none))) (λ _. none)
+
+  -- a pin leaves at hand what was
+  pin_hand : (q : ℕ) → (after_pin s p).cell q ≢ 0 → AtHand (after_pin s p) q
+  pin_hand q some = put_both (λ w. w ≢ 0 → AtHand (after_pin s p) q) s.cell p (bit_or (s.cell p) (2 ^ position Hot)) q
+      (λ e _. hand q (nonzero_at q e)) (λ _ ne. hand q ne) some where
+        nonzero_at : (r : ℕ) → r ≡ p → s.cell r ≢ 0
+        nonzero_at r e z = nonzero s law p used (ap s.cell (sym e) ∙ z)
+
+        hand : (r : ℕ) → s.cell r ≢ 0 → AtHand (after_pin s p) r
+        hand r ne =
+            let h = tidy.at_hand r ne in
+            hand_of (after_pin s p) r (at_cell s law p used Ready r (Ready-hot (read_of (s.cell r))) (ready_of s r h)) h.used
+
+  -- a pin keeps the heap tidy
+  pin_tidy : Tidy (after_pin s p) next
+  pin_tidy = record {
+    at_hand = pin_hand;
+    most = tidy.most;
+    named = λ k i lt. pin_named (k * CELLS + i) (tidy.named k i lt);
+    unnamed = λ k i low lt. pin_unnamed (k * CELLS + i) (tidy.unnamed k i low lt);
+    sealed = tidy.sealed;
+    free = tidy.free;
+    live = λ a h start head. at_cell s law p used (λ o. names_place o (a / LOG_WORDS) (a % LOG_WORDS) ≡ true) h.pointer
+        (λ k. names_place-hot (read_of (s.cell h.pointer)) (a / LOG_WORDS) (a % LOG_WORDS) ∙ k) (tidy.live a h start head);
+    unread = tidy.unread;
+  }
+
+  -- the view keeps the heap tidy
+  pub view_tidy : Tidy (after_events s (view_events s m p)) next
+  view_tidy = at_view (λ t. Tidy t next) (λ _ _. tidy) pin_tidy

@@ -1,0 +1,39 @@
+use Rattle.std.proofs.Common.{◌≡◌, ◌+◌, ◌*◌, ◌-◌, ◌/◌, ◌<◌, ◌≤◌, ℕ, true, length, get_or, List, ap, sym, ◌∙◌, arith, refl}
+use Rattle.far_word.specs.Pointer.{read_of}
+use Rattle.far_word.specs.Bytes.{packed_word}
+use Rattle.far_core.specs.state.CoreState.{core_state}
+use Rattle.far_core.specs.state.State.{State}
+use Rattle.far_core.specs.events.Step.{near_data, data_len}
+use Rattle.far_replay.specs.HexWord.{hex_bytes as spelled}
+use Rattle.far_replay.specs.Events.{starts_inside, ends_inside, words_touched}
+use Rattle.far_replay.specs.Objects.{spliced, data_of}
+use Rattle.far_replay.proofs.RangeWrites.{packed_words, object_padded, put_length}
+use borrow.Rule.Slice.PartMut.{put_mid}
+use Rattle.far_replay.proofs.turn.splice.Goals as goal
+
+pub returns : goal.returns
+returns c =
+    let t : State = core_state c.args.core.now in
+    let p : ℕ = c.args.access.pointer in
+    let from : ℕ = c.args.access.from in
+    let count : ℕ = c.args.access.count in
+    let new : List ℕ = spelled c.args.bytes.digits.now in
+    let first : ℕ = c.first.result in
+    let touched : ℕ = c.touched-touched.result in
+    let f : ℕ → ℕ = λ i. t.word (near_data (read_of (t.cell p)) + i) in
+    let firsts : first ≡ from / 8 = c.first.ensures in
+    let counts : touched ≡ (from + count + 7) / 8 - from / 8 = c.touched-touched.ensures in
+    let w_first : starts_inside from count ≡ true → get_or c.load_last.new.words 0 0 ≡ f (from / 8) = (λ h. c.load_last.ensures.first ∙ c.load_first.ensures.first h) in
+    let there : from - 8 * first + count - (from - 8 * first) ≡ count = omega arith in
+    let put : put_mid (from - 8 * first) (from - 8 * first + count - (from - 8 * first)) c.unpack_front.new.bytes c.decode_into.new.room ≡ put_mid (from - 8 * first) count c.unpack_front.new.bytes new =
+    (λ i. put_mid (from - 8 * first) (there i) c.unpack_front.new.bytes (c.decode_into.ensures i)) in
+    let size : length (put_mid (from - 8 * first) count c.unpack_front.new.bytes new) ≡ length c.unpack_front.new.bytes =
+    put_length (from - 8 * first) count c.unpack_front.new.bytes new (omega (arith, c.unpack_front.auto.bytes, c.requires.viewed.most)) c.requires.bytes in
+    record {
+      words = λ k lt.
+          packed_words f (data_len t p) from count first touched (from - 8 * first) 1024 new c.load_last.new.words c.unpack_front.new.bytes firsts counts refl
+          c.requires.viewed.some c.requires.viewed.inside c.requires.bytes (omega (arith, c.unpack_front.auto.bytes, c.requires.viewed.most)) c.unpack_front.ensures.front w_first c.load_last.ensures.last
+          (λ i less. object_padded t c.requires.law p i less) _ c.pack_front.new.words put (omega (arith, ap length put, size, c.unpack_front.auto.bytes, c.requires.viewed.most)) c.pack_front.ensures.front
+          k (omega (arith, c.touched-touched.ensures))
+          ∙ ap (λ n. packed_word (spliced (data_of t p) from new) (n + k)) firsts;
+    }

@@ -1,0 +1,85 @@
+-- The replies to one mutator's lines, by its own lines alone.
+use Rattle.std.specs.Prelude.{◌≡◌, ℕ, ◌+◌, ◌/◌, ◌<◌, ◌≤◌, ◌⊎◌, Bool, true, false, cond, ◌==◌, ◌&&◌, Option, Some, None, List, [], ◌∷◌, length, replicate, slice_range}
+use Rattle.std.specs.Bool.{MatchBool}
+use Rattle.far_word.specs.declared.refused.Refused.TheVariants.{NoRoom, NoPointer, Length, Closed, AlreadyOpen, NotHeld, Range}
+use Rattle.far_word.specs.declared.sizes.TheConstants.{CELLS, LONGEST}
+use Rattle.far_core.specs.state.State.{State, put}
+use Rattle.far_core.specs.world.World.{World, Object}
+use Rattle.far_core.specs.world.WorldOf.{world_of}
+use Rattle.far_replay.specs.Command.{Command, New, Open, Write, Read, Close, Mutator, Book}
+use Rattle.far_replay.specs.Reply.{Reply, Done, Pointer, Data, Refused}
+use Rattle.far_replay.specs.Objects.{spliced}
+
+-- what a mutator knows of itself: whether its scope is open, the bytes of its objects, and which of them it views
+pub record Own : Type 0 where
+  pub opened : Bool
+  pub object : ℕ → Option (List ℕ)
+  pub viewed : ℕ → Bool
+
+-- at the start its scope is closed, and it has no object and no view
+abbrev pub nothing : Own
+nothing = record { opened = false; object = λ _. None; viewed = λ _. false }
+
+-- the range is empty, or passes the end
+abbrev pub IsOut : List ℕ → ℕ → ℕ → Type 0
+IsOut bytes from count = (count ≡ 0) ⊎ (length bytes < from + count)
+
+abbrev pub IsIn : List ℕ → ℕ → ℕ → Type 0
+IsIn bytes from count = (0 < count) × (from + count ≤ length bytes)
+
+-- one of its pointers has no object
+abbrev pub HasLeft : ℕ → Own → Type 0
+HasLeft m o = (p : ℕ) × (p / CELLS ≡ m) × (o.object p ≡ None)
+
+-- a command of the mutator m with its reply takes what it knows from o to q. A refusal is the first of its row that applies; which of its own
+-- numbers a new object gets, and whether 2 or 3 comes where nothing earlier applies, depends on cells and logs, which it doesn't know
+abbrev pub Knows : ℕ → Own → Command → Reply → Own → Type 0
+Knows m o (Mutator _ (New len ds)) (Pointer p) q = (ds < 256) × (0 < len) × (len ≤ LONGEST) × (p / CELLS ≡ m) × (o.object p ≡ None) × (q ≡ record o { object = put o.object p (Some (replicate len 0)) })
+Knows m o (Mutator _ (New len ds)) (Refused Range) q = (256 ≤ ds) × (q ≡ o)
+Knows m o (Mutator _ (New len ds)) (Refused Length) q = (ds < 256) × ((len ≡ 0) ⊎ (LONGEST < len)) × (q ≡ o)
+Knows m o (Mutator _ (New len ds)) (Refused NoPointer) q = (ds < 256) × (0 < len) × (len ≤ LONGEST) × (q ≡ o)
+Knows m o (Mutator _ (New len ds)) (Refused NoRoom) q = (ds < 256) × (0 < len) × (len ≤ LONGEST) × HasLeft m o × (q ≡ o)
+Knows m o (Mutator _ Open) Done q = (o.opened ≡ false) × (q ≡ record o { opened = true })
+Knows m o (Mutator _ Open) (Refused AlreadyOpen) q = (o.opened ≡ true) × (q ≡ o)
+Knows m o (Mutator _ Close) Done q = (o.opened ≡ true) × (q ≡ record o { opened = false; viewed = λ _. false })
+Knows m o (Mutator _ Close) (Refused Closed) q = (o.opened ≡ false) × (q ≡ o)
+Knows m o (Mutator _ (Read p from len)) (Data bytes) q = (o.opened ≡ true) × (q ≡ record o { viewed = put o.viewed p true }) × ((all : List ℕ) × (o.object p ≡ Some all) × IsIn all from len × (bytes ≡ slice_range all from (from + len)))
+Knows m o (Mutator _ (Read p from len)) (Refused Closed) q = (o.opened ≡ false) × (q ≡ o)
+Knows m o (Mutator _ (Read p from len)) (Refused NotHeld) q = (o.opened ≡ true) × (o.object p ≡ None) × (q ≡ o)
+Knows m o (Mutator _ (Read p from len)) (Refused Range) q = (o.opened ≡ true) × (q ≡ o) × ((all : List ℕ) × (o.object p ≡ Some all) × IsOut all from len)
+Knows m o (Mutator _ (Write p from new)) Done q = (o.opened ≡ true) × ((all : List ℕ) × (o.object p ≡ Some all) × IsIn all from (length new) × (q ≡ record o { object = put o.object p (Some (spliced all from new)); viewed = put o.viewed p true }))
+Knows m o (Mutator _ (Write p from new)) (Refused Closed) q = (o.opened ≡ false) × (q ≡ o)
+Knows m o (Mutator _ (Write p from new)) (Refused NotHeld) q = (o.opened ≡ true) × (o.object p ≡ None) × (q ≡ o)
+Knows m o (Mutator _ (Write p from new)) (Refused Range) q = (o.opened ≡ true) × (q ≡ o) × ((all : List ℕ) × (o.object p ≡ Some all) × IsOut all from (length new))
+Knows m o _ _ q = ⊥
+
+-- whose command it is, none's for the logs
+abbrev pub speaker : Command → Option ℕ
+speaker (Mutator m request) = Some m
+speaker (Book inquiry) = None
+
+abbrev pub is_by : ℕ → Option ℕ → Bool
+is_by m None = false
+is_by m (Some k) = k == m
+
+-- the replies to the mutator's own lines, from what it knows on; lines of others change nothing
+abbrev pub Alone : ℕ → Own → List Command → List Reply → Type 0
+Alone m o [] [] = Unit {0}
+Alone m o (c ∷ cs) (r ∷ rs) = MatchBool (is_by m (speaker c)) ((q : Own) × Knows m o c r q × Alone m q cs rs) (Alone m o cs rs)
+Alone m o _ _ = ⊥
+
+-- what a world says of a mutator
+abbrev pub bytes_in_world : Option Object → Option (List ℕ)
+bytes_in_world None = None
+bytes_in_world (Some o) = Some o.bytes
+
+abbrev pub own_of : World → ℕ → Own
+own_of w m = record {
+  opened = w.opened m;
+  object = λ p. cond (p / CELLS == m) (bytes_in_world (w.object p)) None;
+  viewed = λ p. (p / CELLS == m) && w.viewed p;
+}
+
+-- what the mutator m learns of a command: what its reply says, where it is its own; else nothing
+abbrev pub Learns : State → ℕ → Command → Reply → State → Type 0
+Learns s m c r t = MatchBool (is_by m (speaker c)) (Knows m (own_of (world_of s) m) c r (own_of (world_of t) m)) (own_of (world_of t) m ≡ own_of (world_of s) m)

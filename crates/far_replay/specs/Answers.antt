@@ -1,0 +1,92 @@
+-- What is written for a text.
+use Rattle.std.specs.Prelude.{◌≡◌, ◌⊎◌, ℕ, true, Option, List, [], ◌∷◌, Result, Ok, Err, if◌then◌else◌}
+use Rattle.std.specs.Bool.{MatchBool}
+use Rattle.std.specs.List.{flat_map}
+use Rattle.std.specs.Io.KnownBytes.{Appends, Keeps}
+use Rattle.far_word.specs.declared.refused.Refused.TheVariants.{Memory, Shape, Syntax}
+use Rattle.far_core.specs.declared.shape.Shape.{Shape as Size}
+use Rattle.far_core.specs.state.Opening.{opening}
+use Rattle.far_core.specs.state.Shape.{is_shape}
+use Rattle.far_replay.specs.Command.{Command, Trace, Nothing, Heap}
+use Rattle.far_replay.specs.Grammar.{trace_of}
+use Rattle.far_replay.specs.Moment.{Moment, moment_of}
+use Rattle.far_replay.specs.Reply.{Reply, Done, Refused, printed}
+use Rattle.far_replay.specs.declared.running.End.{End}
+use Rattle.far_replay.specs.declared.running.End.TheVariants.{Ran, Refused as Turned}
+use Rattle.far_replay.specs.declared.running.RunFault.{RunFault}
+use Rattle.far_replay.specs.declared.running.RunFault.TheVariants as faults
+use Rattle.far_replay.specs.Stream.{AppendsFront, AppendsPart}
+use Rattle.far_replay.specs.Turn.{effect, reply_to}
+use Rattle.far_replay.specs.Written.{AllWriteBytes}
+
+-- one command, from a moment to the next, with its reply
+pub record Commanded (now : Moment) (c : Command) (r : Reply) (after : Moment) : Type 0 where
+  pub reply : r ≡ reply_to now c
+  pub moment : after ≡ effect now c
+
+-- one reply a command, and a list of moments, each after its command from the one before
+abbrev pub Answered : Moment → List Command → List Reply → List Moment → Type 0
+Answered now [] [] [] = Unit {0}
+Answered now (c ∷ cs) (r ∷ rs) (after ∷ moments) = Commanded now c r after × Answered after cs rs moments
+Answered now _ _ _ = ⊥
+
+-- the shape that a heap line says: the first epoch is 0
+abbrev pub shape_of : ℕ → ℕ → Size
+shape_of logs mutators = record { logs = logs; mutators = mutators; epoch = 0 }
+
+-- the first moment of a heap
+abbrev pub first_moment : ℕ → ℕ → Moment
+first_moment logs mutators = moment_of (opening (shape_of logs mutators) true)
+
+-- the moment after these commands
+abbrev pub moment_after : Moment → List Command → Moment
+moment_after now [] = now
+moment_after now (c ∷ cs) = moment_after (effect now c) cs
+
+-- a moment to which a heap in range comes by commands
+abbrev pub IsMoment : Moment → Type 0
+IsMoment now = (logs mutators : ℕ) × (cs : List Command) × (is_shape (shape_of logs mutators) ≡ true) × AllWriteBytes cs × (now ≡ moment_after (first_moment logs mutators) cs)
+
+-- the output of what a text is read as: off the grammar that refusal alone; for nothing nothing; for a heap out of range its
+-- refusal alone; else `ok` and the lines of the replies, from the heap's first moment on
+abbrev pub IsOutput : Result Trace ℕ → List ℕ → Type 0
+IsOutput (Err line) output = output ≡ printed (Refused (Syntax line))
+IsOutput (Ok Nothing) output = output ≡ []
+IsOutput (Ok (Heap logs mutators commands)) output =
+    MatchBool (is_shape (shape_of logs mutators))
+    ((replies : List Reply) × (moments : List Moment) × Answered (first_moment logs mutators) commands replies moments × (output ≡ flat_map printed (Done ∷ replies)))
+    (output ≡ printed (Refused Shape))
+
+-- how a text ends that is read so: `Ran` for nothing and for a heap in range
+abbrev pub end_of : Result Trace ℕ → End
+end_of (Ok Nothing) = Ran
+end_of (Ok (Heap logs mutators commands)) = if is_shape (shape_of logs mutators) then Ran else Turned
+end_of (Err line) = Turned
+
+-- what was written is the output of what was read
+abbrev pub WritesOutput : Option (List ℕ) → Option (List ℕ) → Result Trace ℕ → Type 0
+WritesOutput old new read = (output : List ℕ) × IsOutput read output × Appends old new output
+
+-- a heap of this shape may be refused memory
+abbrev pub MayMakeHeap : Result Trace ℕ → Type 0
+MayMakeHeap (Ok (Heap logs mutators commands)) = is_shape (shape_of logs mutators) ≡ true
+MayMakeHeap _ = ⊥
+
+-- what a fault leaves: a failed write, a proper prefix of the output; out of memory, nothing, or the one line that says so where
+-- the heap was refused; a failed read, nothing
+abbrev pub LeavesBehind : RunFault → Option (List ℕ) → Option (List ℕ) → Result Trace ℕ → Type 0
+LeavesBehind faults.Write old new read = (output : List ℕ) × IsOutput read output × AppendsPart old new output
+LeavesBehind faults.Memory old new read = Keeps old new ⊎ (MayMakeHeap read × AppendsFront old new (printed (Refused Memory)))
+LeavesBehind faults.Read old new read = Keeps old new
+
+-- this is the output for the text
+abbrev pub Answers : List ℕ → List ℕ → Type 0
+Answers text output = IsOutput (trace_of text) output
+
+-- what was written is the output for the text
+abbrev pub WritesAnswer : Option (List ℕ) → Option (List ℕ) → List ℕ → Type 0
+WritesAnswer old new text = WritesOutput old new (trace_of text)
+
+-- what a fault leaves of it
+abbrev pub Leaves : RunFault → Option (List ℕ) → Option (List ℕ) → List ℕ → Type 0
+Leaves fault old new text = LeavesBehind fault old new (trace_of text)

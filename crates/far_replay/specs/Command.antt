@@ -1,0 +1,62 @@
+-- What a trace says: nothing, or a heap and commands: the requests of a mutator, and the inquiries of the book; with the bytes of a write as they are stored.
+use Rattle.std.specs.Prelude.{ℕ, List, map}
+use Rattle.far_replay.specs.HexWord.{hex_bytes}
+use Rattle.far_replay.specs.declared.command.Command.{Command as Spelled}
+use Rattle.far_replay.specs.declared.command.Command.TheVariants.{Mutator as SpelledMutator, Book as SpelledBook}
+use Rattle.far_replay.specs.declared.command.Entry.{Entry as SpelledEntry}
+use Rattle.far_replay.specs.declared.command.Entry.TheVariants.{Heap as SpelledHeapLine, Command as SpelledCommandLine}
+use Rattle.far_replay.specs.declared.command.Inquiry.{Inquiry as SpelledInquiry}
+use Rattle.far_replay.specs.declared.command.Inquiry.TheVariants.{Logs as SpelledLogs}
+use Rattle.far_replay.specs.declared.command.Request.{Request as SpelledRequest}
+use Rattle.far_replay.specs.declared.command.Request.TheVariants.{New as SpelledNew, Open as SpelledOpen, Write as SpelledWrite, Read as SpelledRead, Close as SpelledClose}
+use Rattle.far_replay.specs.declared.text.Trace.{Trace as SpelledTrace}
+use Rattle.far_replay.specs.declared.text.Trace.TheVariants.{Nothing as SpelledNothing, Heap as SpelledHeap}
+
+-- what a mutator asks for
+pub data Request : Type 0 where
+  New : (len structure : ℕ) → Request
+  Open : Request
+  Write : (pointer from : ℕ) (bytes : List ℕ) → Request
+  Read : (pointer from len : ℕ) → Request
+  Close : Request
+
+-- what the book is asked
+pub data Inquiry : Type 0 where
+  Logs : Inquiry
+
+pub data Command : Type 0 where
+  Mutator : (mutator : ℕ) (request : Request) → Command
+  Book : (inquiry : Inquiry) → Command
+
+-- what the words of a line say
+pub data Entry : Type 0 where
+  HeapLine : (logs mutators : ℕ) → Entry
+  CommandLine : (command : Command) → Entry
+
+-- what a text says
+pub data Trace : Type 0 where
+  Nothing : Trace
+  Heap : (logs mutators : ℕ) (commands : List Command) → Trace
+
+-- what is spelled so: the bytes of a write are spelled in hex
+abbrev pub said_request : SpelledRequest → Request
+said_request (SpelledNew len structure) = New len structure
+said_request SpelledOpen = Open
+said_request (SpelledWrite pointer from bytes) = Write pointer from (hex_bytes bytes.digits.now)
+said_request (SpelledRead pointer from len) = Read pointer from len
+said_request SpelledClose = Close
+
+abbrev pub said_inquiry : SpelledInquiry → Inquiry
+said_inquiry SpelledLogs = Logs
+
+abbrev pub said : Spelled → Command
+said (SpelledMutator mutator request) = Mutator mutator (said_request request)
+said (SpelledBook inquiry) = Book (said_inquiry inquiry)
+
+abbrev pub said_entry : SpelledEntry → Entry
+said_entry (SpelledHeapLine logs mutators) = HeapLine logs mutators
+said_entry (SpelledCommandLine command) = CommandLine (said command)
+
+abbrev pub said_trace : SpelledTrace → Trace
+said_trace SpelledNothing = Nothing
+said_trace (SpelledHeap logs mutators commands) = Heap logs mutators (map said commands.items)

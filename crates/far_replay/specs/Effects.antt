@@ -1,0 +1,43 @@
+-- What the calls of a mutator make of a heap's core: one function on states for each.
+use Rattle.std.specs.Prelude.{ℕ, ◌+◌, ◌-◌, true, false, cond, ◌&&◌, nat_lt, nat_le, Option, Some, None, is_some, List, if◌then◌else◌}
+use Rattle.far_word.specs.declared.pointer.Place.{Place}
+use Rattle.far_word.specs.declared.pointer.PtrWord.TheVariants.{Near}
+use Rattle.far_word.specs.Bytes.{packed_word}
+use Rattle.far_word.specs.Header.{head_word}
+use Rattle.far_word.specs.Pointer.{read_of, word_of}
+use Rattle.far_word.specs.Sizes.{words_for}
+pub use Rattle.far_core.specs.events.Ranges.{with_row}
+use Rattle.far_core.specs.events.Step.{after_pin, with_span, scope_word_of, near_data, data_len}
+use Rattle.far_core.specs.state.State.{State, put, addr}
+use Rattle.far_replay.specs.Objects.{data_of, spliced}
+
+-- the word of a cell that names a new place
+abbrev pub new_word : ℕ → ℕ → Place → ℕ
+new_word len ds place = word_of (Near len ds place record { hot = false; evac = false; moved = false; dropped = false })
+
+-- a new object of len zeros at a place: its header and data words stand there, its cell names it, and its owner uses it
+abbrev pub with_object : State → ℕ → ℕ → ℕ → Place → State
+with_object s p len ds place =
+    record (with_span record s { word = with_row (put s.word (addr place) (head_word p len ds)) (addr place + 1) (words_for len) (λ _. 0) } p (new_word len ds place) len place) {
+      used = put s.used p true;
+    }
+
+-- the epoch at which a scope opens: the one that its owner read, or else the heap's
+abbrev pub epoch_for : Option ℕ → ℕ → ℕ
+epoch_for None epoch = epoch
+epoch_for (Some e) epoch = e
+
+-- an owner's scope is open
+abbrev pub with_scope : State → ℕ → State
+with_scope s m = let e : Option ℕ = Some (epoch_for (s.remembered m) s.epoch) in
+    record s { remembered = put s.remembered m e; scope = put s.scope m (scope_word_of e) }
+
+-- an object is viewed by its owner: after_pin, unless it is held already
+abbrev pub with_view : State → ℕ → State
+with_view s p = if is_some (s.held p) then s else after_pin s p
+
+-- an object has other bytes in the place of those from here on
+abbrev pub with_data : State → ℕ → ℕ → List ℕ → State
+with_data s p from bytes = record s {
+  word = with_row s.word (near_data (read_of (s.cell p))) (words_for (data_len s p)) (packed_word (spliced (data_of s p) from bytes));
+}

@@ -1,0 +1,77 @@
+-- The events of a core by which a command is carried out: a list for each.
+use Rattle.std.specs.Prelude.{ℕ, ◌+◌, ◌-◌, ◌*◌, ◌/◌, ◌%◌, Bool, true, ◌==◌, ◌||◌, ◌&&◌, not, nat_lt, Option, Some, None, is_some, List, [], ◌∷◌, ◌++◌, length, map, if◌then◌else◌}
+use Rattle.std.specs.List.{range_with_len}
+use Rattle.far_word.specs.declared.pointer.Place.{Place}
+use Rattle.far_word.specs.Bytes.{packed_word}
+use Rattle.far_word.specs.Header.{head_word}
+use Rattle.far_word.specs.Sizes.{size_of, words_for}
+use Rattle.far_core.specs.declared.event.Event.{Event}
+use Rattle.far_core.specs.declared.event.Event.TheVariants.{ReadEpoch as ReadsEpoch, Open as Opens, Pin as Pins, Load as Loads, Store as Stores, Close as Closes, Adopt as Adopts, Put as Puts, Name as Names}
+use Rattle.far_core.specs.state.Room.{room}
+use Rattle.far_core.specs.state.State.{State}
+use Rattle.far_replay.specs.Command.{Command, New, Open, Write, Read, Close, Logs, Mutator, Book}
+use Rattle.far_replay.specs.Effects.{new_word}
+use Rattle.far_replay.specs.Moment.{Moment}
+use Rattle.far_replay.specs.Objects.{data_of, spliced, lowest_cell}
+use Rattle.far_replay.specs.Turn.{refusal, unless}
+
+-- a new object: its header and zeros are put, its cell is named, and its owner adopts it
+abbrev pub zero_puts : Place → ℕ → List Event
+zero_puts place count = map (λ i. Puts place.log (place.at + 1 + i) 0) (range_with_len 0 count)
+
+abbrev pub new_events : ℕ → ℕ → ℕ → Option ℕ → Option Place → List Event
+new_events m len ds None place = []
+new_events m len ds (Some p) None = []
+new_events m len ds (Some p) (Some place) =
+    (Puts place.log place.at (head_word p len ds) ∷ zero_puts place (words_for len)) ++ Names p 0 (new_word len ds place) ∷ Adopts m p ∷ []
+
+-- the epoch is read for an opening, unless it was read already
+abbrev pub open_events : State → ℕ → List Event
+open_events s m = if is_some (s.remembered m) then Opens m ∷ [] else ReadsEpoch m ∷ Opens m ∷ []
+
+-- one pin, unless the object is held already
+abbrev pub view_events : State → ℕ → ℕ → List Event
+view_events s m p = if is_some (s.held p) then [] else Pins m p ∷ []
+
+-- the first word of a range, and how many words it touches
+abbrev pub first_word : ℕ → ℕ
+first_word from = from / 8
+
+abbrev pub words_touched : ℕ → ℕ → ℕ
+words_touched from count = (from + count + 7) / 8 - from / 8
+
+abbrev pub load_events : ℕ → ℕ → ℕ → ℕ → List Event
+load_events m p first count = map (λ i. Loads m p i) (range_with_len first count)
+
+-- the words of which a range changes a part alone: the first one, and the last one where it is another
+abbrev pub starts_inside : ℕ → ℕ → Bool
+starts_inside from count = not (from % 8 == 0) || nat_lt (from + count) (8 * (from / 8) + 8)
+
+abbrev pub ends_inside : ℕ → ℕ → Bool
+ends_inside from count = nat_lt 1 (words_touched from count) && not ((from + count) % 8 == 0)
+
+abbrev pub first_loads : ℕ → ℕ → ℕ → ℕ → List Event
+first_loads m p from count = if starts_inside from count then Loads m p (from / 8) ∷ [] else []
+
+abbrev pub last_loads : ℕ → ℕ → ℕ → ℕ → List Event
+last_loads m p from count = if ends_inside from count then Loads m p ((from + count) / 8) ∷ [] else []
+
+abbrev pub part_events : ℕ → ℕ → ℕ → ℕ → List Event
+part_events m p from count = first_loads m p from count ++ last_loads m p from count
+
+abbrev pub store_events : ℕ → ℕ → ℕ → ℕ → List ℕ → List Event
+store_events m p first count after = map (λ i. Stores m p i (packed_word after i)) (range_with_len first count)
+
+abbrev pub turn_events : Moment → Command → List Event
+turn_events now (Mutator m (New len ds)) = new_events m len ds (lowest_cell now.core m) (room now.core (size_of len) true)
+turn_events now (Mutator m Open) = open_events now.core m
+turn_events now (Mutator m (Write p from bytes)) =
+    view_events now.core m p ++ part_events m p from (length bytes)
+    ++ store_events m p (first_word from) (words_touched from (length bytes)) (spliced (data_of now.core p) from bytes)
+turn_events now (Mutator m (Read p from len)) = view_events now.core m p ++ load_events m p (first_word from) (words_touched from len)
+turn_events now (Mutator m Close) = Closes m ∷ []
+turn_events now (Book Logs) = []
+
+-- a refused command makes no event
+abbrev pub events_for : Moment → Command → List Event
+events_for now c = unless (refusal now c) (λ _. []) (turn_events now c)

@@ -1,0 +1,293 @@
+-- What a trace program's outputs say: the laws over whole texts and whole lists of commands.
+use Rattle.std.specs.Prelude.{◌≡◌, ◌≢◌, ◌↔◌, ℕ, ◌+◌, ◌*◌, ◌/◌, ◌^◌, ◌<◌, ◌≤◌, true, is_some, decimal, Some, None, Ok, List, [], ◌∷◌, ◌++◌, length, replicate, slice_index, map, All, Contains}
+use Rattle.std.specs.List.{flat_map, range_with_len}
+use Rattle.hex.specs.Hex.{IsBytes}
+use Rattle.far_word.specs.declared.pointer.Place.{Place}
+use Rattle.far_word.specs.declared.refused.Refused.{Refused as Refusal}
+use Rattle.far_word.specs.declared.refused.Refused.TheVariants.{NoRoom, NoPointer, Length, Closed, AlreadyOpen, NotHeld, Range, Marked, Syntax, BadChoice, StillOpen}
+use Rattle.far_word.specs.declared.sizes.TheConstants.{CELLS, LOG_WORDS, LONGEST}
+use Rattle.far_word.specs.Sizes.{size_of}
+use Rattle.far_core.specs.declared.event.Kind.TheVariants as kinds
+use Rattle.far_core.specs.declared.event.Event.{Event}
+use Rattle.far_core.specs.state.Law.{Law}
+use Rattle.far_core.specs.laws.Observed.{live_bytes, dead_bytes, unused_bytes, HasOnePlace, NamesOnce}
+use Rattle.far_core.specs.state.Room.{room}
+use Rattle.far_core.specs.state.Shape.{is_shape}
+use Rattle.far_core.specs.state.State.{State, put}
+use Rattle.far_core.specs.world.World.{Group}
+use Rattle.far_core.specs.world.WorldOf.{world_of}
+use Rattle.far_replay.specs.Alone.{Alone, Knows, Learns, Own, nothing}
+use Rattle.far_replay.specs.Answers.{Answered, Answers, Commanded, IsMoment, shape_of, first_moment}
+use Rattle.far_replay.specs.Command.{Command, Heap, CommandLine, New, Open, Write, Read, Close, Logs as AsksLogs, Mutator, Book}
+use Rattle.far_replay.specs.Grammar.{trace_of}
+use Rattle.far_replay.specs.Moment.{Moment}
+use Rattle.far_replay.specs.EventRows.{after_events, AllPass, AllSucceed, AtHand, AllAtHand}
+use Rattle.far_replay.specs.Events.{events_for}
+use Rattle.far_replay.specs.Objects.{spliced}
+use Rattle.far_replay.specs.Says.{Says}
+use Rattle.far_replay.specs.Stays.{Stays}
+use Rattle.far_replay.specs.Written.{WritesBytes, AllWriteBytes}
+use Rattle.far_replay.specs.Reply.{Reply, Done, Pointer, Data, Logs, Refused, LogLine, printed}
+
+-- a log in which a view rests in s isn't free in t
+abbrev pub LogStays : State → State → Type 0
+LogStays s t = (p : ℕ) (place : Place) → s.held p ≡ Some place → t.kind place.log ≢ kinds.Free
+
+-- through a command: a log that holds a view after the first i of its events isn't free after its first k, for i ≤ k
+abbrev pub StayThrough : Moment → Command → Type 0
+StayThrough now c = (es mid rest : List Event) → es ++ mid ++ rest ≡ events_for now c → LogStays (after_events now.core es) (after_events now.core (es ++ mid))
+
+-- through each command of a list; and in the last moment no view rests in a free log
+abbrev pub LogsStay : Moment → List Command → List Moment → Type 0
+LogsStay now [] moments = LogStays now.core now.core
+LogsStay now (c ∷ cs) [] = ⊥
+LogsStay now (c ∷ cs) (after ∷ moments) = StayThrough now c × LogsStay after cs moments
+
+-- the object that a command reads or writes, if there is one, may be dereferenced at once
+abbrev pub IsAtHandFor : Moment → Command → Type 0
+IsAtHandFor now (Mutator m (Write p from bytes)) = now.core.cell p ≢ 0 → AtHand now.core p
+IsAtHandFor now (Mutator m (Read p from len)) = now.core.cell p ≢ 0 → AtHand now.core p
+IsAtHandFor now c = Unit {0}
+
+-- the events of a command lead from a moment to the next: each is legal, and keeps the law and agreement; where its object is at hand each comes to pass
+pub record Reaches (now : Moment) (c : Command) (after : Moment) : Type 0 where
+  pub ends : after.core ≡ after_events now.core (events_for now c)
+  pub pass : AllPass now.core (events_for now c)
+  pub succeed : IsAtHandFor now c → AllSucceed now.core (events_for now c)
+
+-- what is true of each moment of an output
+pub record Lawful (now : Moment) : Type 0 where
+  pub reached : IsMoment now
+  pub law : Law now.core
+  pub at_hand : AllAtHand now.core
+
+-- each object that is in use has one place, each log's bytes are 1,024, and no two cells name one place
+abbrev pub IsWhole : State → Type 0
+IsWhole t = ((p : ℕ) → HasOnePlace t p) × ((l : ℕ) → live_bytes t l + dead_bytes t l + unused_bytes t l ≡ 8 * LOG_WORDS) × NamesOnce t
+
+-- the refusals that a command may have where its object is at hand: none for want of memory, none of a device, none that tells a mark
+abbrev pub MayRefuse : Command → Refusal → Type 0
+MayRefuse (Mutator m (New len ds)) Range = Unit {0}
+MayRefuse (Mutator m (New len ds)) Length = Unit {0}
+MayRefuse (Mutator m (New len ds)) NoPointer = Unit {0}
+MayRefuse (Mutator m (New len ds)) NoRoom = Unit {0}
+MayRefuse (Mutator m Open) Range = Unit {0}
+MayRefuse (Mutator m Open) AlreadyOpen = Unit {0}
+MayRefuse (Mutator m Close) Range = Unit {0}
+MayRefuse (Mutator m Close) Closed = Unit {0}
+MayRefuse (Mutator m (Read p from len)) Range = Unit {0}
+MayRefuse (Mutator m (Read p from len)) Closed = Unit {0}
+MayRefuse (Mutator m (Read p from len)) NotHeld = Unit {0}
+MayRefuse (Mutator m (Write p from bytes)) Range = Unit {0}
+MayRefuse (Mutator m (Write p from bytes)) Closed = Unit {0}
+MayRefuse (Mutator m (Write p from bytes)) NotHeld = Unit {0}
+MayRefuse c why = ⊥
+
+-- a line tells a log's kind and its live, dead and unused bytes, which make 1,024
+pub record TellsLog (now : Moment) (line : LogLine) : Type 0 where
+  pub kind : line.kind ≡ now.core.kind line.log
+  pub live : line.live ≡ live_bytes now.core line.log
+  pub dead : line.dead ≡ dead_bytes now.core line.log
+  pub unused : line.unused ≡ unused_bytes now.core line.log
+  pub whole : line.live + line.dead + line.unused ≡ 8 * LOG_WORDS
+
+-- the logs are told: one line for each, by number
+abbrev pub TellsAll : Moment → Reply → Type 0
+TellsAll now (Logs lines) = (map (λ line. line.log) lines ≡ range_with_len 0 now.core.logs) × ((line : LogLine) → Contains lines line → TellsLog now line)
+TellsAll now _ = ⊥
+
+-- a command views an object: it is viewed then, where it was already if it was, and all other views stay
+pub record ViewsObject (s t : State) (p : ℕ) : Type 0 where
+  pub viewed : is_some (t.held p) ≡ true
+  pub kept : (place : Place) → s.held p ≡ Some place → t.held p ≡ Some place
+  pub others : (q : ℕ) → q ≢ p → t.held q ≡ s.held q
+
+-- a mutator views nothing any more, and all others view what they did
+pub record ViewsNothing (s t : State) (m : ℕ) : Type 0 where
+  pub none : (q : ℕ) → q / CELLS ≡ m → t.held q ≡ None
+  pub others : (q : ℕ) → q / CELLS ≢ m → t.held q ≡ s.held q
+
+-- what a command with its reply does to the views
+abbrev pub ViewsAfter : Moment → Command → Reply → Moment → Type 0
+ViewsAfter now (Mutator m (Read p from len)) (Data bytes) after = ViewsObject now.core after.core p
+ViewsAfter now (Mutator m (Write p from bytes)) Done after = ViewsObject now.core after.core p
+ViewsAfter now (Mutator m Close) Done after = ViewsNothing now.core after.core m
+ViewsAfter now c r after = after.core.held ≡ now.core.held
+
+-- what a command with its reply takes of the logs: a new object its span, at the end of the log that room says; anything else nothing
+abbrev pub TakesRoom : Moment → Command → Reply → Moment → Type 0
+TakesRoom now (Mutator m (New len ds)) (Pointer p) after = (place : Place) × (room now.core (size_of len) true ≡ Some place)
+    × (after.core.tail ≡ put now.core.tail place.log (place.at + size_of len))
+TakesRoom now c r after = (after.core.tail ≡ now.core.tail) × (after.core.kind ≡ now.core.kind)
+
+-- the line has the mutator's number
+abbrev pub IsSaidBy : ℕ → Command → Type 0
+IsSaidBy m (Mutator k request) = m ≡ k
+IsSaidBy m (Book inquiry) = ⊥
+
+-- a reply that its lines tell in full: its numbers have 64 bits, its bytes are bytes, and it is no refusal 14, 17 or 18, whose words aren't printed yet
+pub record IsLineToldInFull (line : LogLine) : Type 0 where
+  pub log : line.log < 2 ^ 64
+  pub live : line.live < 2 ^ 64
+  pub dead : line.dead < 2 ^ 64
+  pub unused : line.unused < 2 ^ 64
+
+abbrev pub AreToldInFull : List LogLine → Type 0
+AreToldInFull [] = Unit {0}
+AreToldInFull (line ∷ lines) = IsLineToldInFull line × AreToldInFull lines
+
+abbrev pub IsRefusalToldInFull : Refusal → Type 0
+IsRefusalToldInFull (Marked word) = ⊥
+IsRefusalToldInFull (BadChoice log) = ⊥
+IsRefusalToldInFull (StillOpen mutator epoch) = ⊥
+IsRefusalToldInFull (Syntax line) = line < 2 ^ 64
+IsRefusalToldInFull why = Unit {0}
+
+abbrev pub IsToldInFull : Reply → Type 0
+IsToldInFull Done = Unit {0}
+IsToldInFull (Pointer pointer) = pointer < 2 ^ 64
+IsToldInFull (Data bytes) = IsBytes bytes
+IsToldInFull (Logs lines) = AreToldInFull lines
+IsToldInFull (Refused why) = IsRefusalToldInFull why
+
+-- ---- the laws
+-- replies that their lines tell in full are equal where they are printed alike
+abbrev pub PrintedAlike : Type 0
+PrintedAlike = (r q : Reply) → IsToldInFull r → IsToldInFull q → printed r ≡ printed q → r ≡ q
+
+-- a line says a mutator's command exactly where the word after its name is the mutator's number, among lines that say commands
+abbrev pub LinesAreNumbered : Type 0
+LinesAreNumbered = (words : List (List ℕ)) (c : Command) (m : ℕ) → m < 2 ^ 64 → Says words (CommandLine c) →
+    (IsSaidBy m c → (name : List ℕ) × (rest : List (List ℕ)) × (words ≡ name ∷ decimal m ∷ rest))
+    × ((name : List ℕ) (rest : List (List ℕ)) → words ≡ name ∷ decimal m ∷ rest → IsSaidBy m c)
+
+-- what an output says, from its text on: where the text is read as a heap in range and commands, there are the replies and the moments of this output; the lines tell
+-- the replies in full; each moment has the law, and in it objects are whole; the logs in which views rest stay; and the replies to each mutator's lines are what its own
+-- lines alone say
+pub record IsSound (logs mutators : ℕ) (cs : List Command) (output : List ℕ) : Type 0 where
+  pub replies : List Reply
+  pub moments : List Moment
+  pub bytes : AllWriteBytes cs
+  pub answered : Answered (first_moment logs mutators) cs replies moments
+  pub printed_so : output ≡ flat_map printed (Done ∷ replies)
+  pub plain : All IsToldInFull replies
+  pub lawful : All Lawful (first_moment logs mutators ∷ moments)
+  pub whole : All (λ (now : Moment). IsWhole now.core) (first_moment logs mutators ∷ moments)
+  pub stay : LogsStay (first_moment logs mutators) cs moments
+  pub alone : (m : ℕ) → m < mutators → Alone m nothing cs replies
+
+abbrev pub OutputsAreSound : Type 0
+OutputsAreSound = (text output : List ℕ) (logs mutators : ℕ) (cs : List Command) → Answers text output → trace_of text ≡ Ok (Heap logs mutators cs) →
+    is_shape (shape_of logs mutators) ≡ true → IsSound logs mutators cs output
+
+-- each text has an output
+abbrev pub EachTextIsAnswered : Type 0
+EachTextIsAnswered = (text : List ℕ) → (output : List ℕ) × Answers text output
+
+-- two outputs of one text are equal
+abbrev pub OneOutput : Type 0
+OneOutput = (text a b : List ℕ) → Answers text a → Answers text b → a ≡ b
+
+-- what the commands of a text write is bytes
+abbrev pub TextsWriteBytes : Type 0
+TextsWriteBytes = (text : List ℕ) (logs mutators : ℕ) (cs : List Command) → trace_of text ≡ Ok (Heap logs mutators cs) → AllWriteBytes cs
+
+-- what lasts: each moment after a heap and commands has the law, and its pointers at hand
+abbrev pub MomentsLast : Type 0
+MomentsLast = (now : Moment) (cs : List Command) (rs : List Reply) (moments : List Moment) → IsMoment now → AllWriteBytes cs → Answered now cs rs moments → All Lawful (now ∷ moments)
+
+-- each command is carried out by its events
+abbrev pub EventsReach : Type 0
+EventsReach = (now : Moment) (c : Command) (r : Reply) (after : Moment) → IsMoment now → WritesBytes c → Commanded now c r after → Reaches now c after
+
+-- a refused command leaves objects, bytes, places and all else as they were, but for marks that it may add to its object's cell
+abbrev pub RefusalsStay : Type 0
+RefusalsStay = (now : Moment) (c : Command) (r : Reply) (after : Moment) (why : Refusal) → Commanded now c r after → r ≡ Refused why → Stays c why now after
+
+-- with these commands it adds none
+abbrev pub RefusalsChangeNothing : Type 0
+RefusalsChangeNothing = (now : Moment) (c : Command) (r : Reply) (after : Moment) (why : Refusal) → Commanded now c r after → r ≡ Refused why → after ≡ now
+
+-- a line of a mutator that the heap hasn't is refused 8
+abbrev pub UnknownMutatorsAreRefused : Type 0
+UnknownMutatorsAreRefused = (now : Moment) (c : Command) (r : Reply) (after : Moment) (m : ℕ) → IsSaidBy m c → now.core.mutators ≤ m → Commanded now c r after → r ≡ Refused Range
+
+-- what `logs` tells
+abbrev pub LogsAreTold : Type 0
+LogsAreTold = (now : Moment) (r : Reply) (after : Moment) → Law now.core → Commanded now (Book AsksLogs) r after → TellsAll now r
+
+-- objects stay whole through commands
+abbrev pub ObjectsStayWhole : Type 0
+ObjectsStayWhole = (now : Moment) (cs : List Command) (rs : List Reply) (moments : List Moment) → IsMoment now → AllWriteBytes cs → Answered now cs rs moments →
+    All (λ (x : Moment). IsWhole x.core) (now ∷ moments)
+
+-- the logs in which views rest stay
+abbrev pub ViewedLogsStay : Type 0
+ViewedLogsStay = (now : Moment) (cs : List Command) (rs : List Reply) (moments : List Moment) → IsMoment now → AllWriteBytes cs → Answered now cs rs moments → LogsStay now cs moments
+
+-- the replies to one mutator's lines are what its own lines alone say
+abbrev pub MutatorsAreAlone : Type 0
+MutatorsAreAlone = (logs mutators m : ℕ) (cs : List Command) (rs : List Reply) (moments : List Moment) → is_shape (shape_of logs mutators) ≡ true → m < mutators → AllWriteBytes cs →
+    Answered (first_moment logs mutators) cs rs moments → Alone m nothing cs rs
+
+-- after each command a mutator knows what the heap says of it; a command of others changes nothing of that
+abbrev pub MutatorsLearn : Type 0
+MutatorsLearn = (now : Moment) (c : Command) (r : Reply) (after : Moment) (m : ℕ) → IsMoment now → WritesBytes c → m < now.core.mutators → Commanded now c r after → Learns now.core m c r after.core
+
+-- where its object is at hand, a command is refused so alone
+abbrev pub NearRefusals : Type 0
+NearRefusals = (now : Moment) (c : Command) (r : Reply) (after : Moment) (why : Refusal) → IsAtHandFor now c → Commanded now c r after → r ≡ Refused why → MayRefuse c why
+
+-- a heap in range begins with the numbers on its line, with the law, so that the laws above hold from its first moment on, and with nothing in it
+abbrev pub HeapsBeginLawful : Type 0
+HeapsBeginLawful = (logs mutators : ℕ) → is_shape (shape_of logs mutators) ≡ true →
+    ((first_moment logs mutators).core.logs ≡ logs) × ((first_moment logs mutators).core.mutators ≡ mutators) × Lawful (first_moment logs mutators) × IsWhole (first_moment logs mutators).core
+    × ((p : ℕ) → (first_moment logs mutators).core.cell p ≡ 0) × ((l : ℕ) → (first_moment logs mutators).core.tail l ≡ 0)
+
+-- the shapes that a heap line may say, in numerals
+abbrev pub ShapesAre : Type 0
+ShapesAre = (logs mutators : ℕ) → (is_shape (shape_of logs mutators) ≡ true) ↔ ((2 ≤ logs) × (logs ≤ 64) × (1 ≤ mutators) × (mutators ≤ 8))
+
+-- a new object's pointer is its owner's lowest cell that is 0
+abbrev pub NewTakesTheLowest : Type 0
+NewTakesTheLowest = (now : Moment) (m len ds p : ℕ) (after : Moment) → Commanded now (Mutator m (New len ds)) (Pointer p) after →
+    (m * CELLS ≤ p) × (p < m * CELLS + CELLS) × (now.core.cell p ≡ 0) × ((q : ℕ) → m * CELLS ≤ q → q < p → now.core.cell q ≢ 0)
+
+-- refused 3 only where none of the owner's cells is 0, and 2 only where there is no room
+abbrev pub NoneIsLeft : Type 0
+NoneIsLeft = (now : Moment) (m len ds : ℕ) (after : Moment) →
+    (Commanded now (Mutator m (New len ds)) (Refused NoPointer) after → (q : ℕ) → m * CELLS ≤ q → q < m * CELLS + CELLS → now.core.cell q ≢ 0)
+    × (Commanded now (Mutator m (New len ds)) (Refused NoRoom) after → room now.core (size_of len) true ≡ None)
+
+-- a new object in range is refused 3 exactly where each of the owner's cells is taken, else 2 exactly where there is no room, and else made
+abbrev pub NewIsMade : Type 0
+NewIsMade = (now : Moment) (m len ds : ℕ) (r : Reply) (after : Moment) → m < now.core.mutators → ds < 256 → 0 < len → len ≤ LONGEST → Commanded now (Mutator m (New len ds)) r after →
+    (((q : ℕ) → m * CELLS ≤ q → q < m * CELLS + CELLS → now.core.cell q ≢ 0) → r ≡ Refused NoPointer)
+    × ((q : ℕ) → m * CELLS ≤ q → q < m * CELLS + CELLS → now.core.cell q ≡ 0 →
+    (room now.core (size_of len) true ≡ None → r ≡ Refused NoRoom) × ((place : Place) → room now.core (size_of len) true ≡ Some place → (p : ℕ) × (r ≡ Pointer p)))
+
+-- a new object alone takes room, and no more than its span
+abbrev pub CommandsTakeRoom : Type 0
+CommandsTakeRoom = (now : Moment) (c : Command) (r : Reply) (after : Moment) → Commanded now c r after → TakesRoom now c r after
+
+-- what is read or written is viewed until its mutator closes its scope; nothing else makes a view or takes one away
+abbrev pub ViewsLast : Type 0
+ViewsLast = (now : Moment) (c : Command) (r : Reply) (after : Moment) → IsMoment now → WritesBytes c → Commanded now c r after → ViewsAfter now c r after
+
+-- a write changes the bytes of its range to the new ones, and no others
+abbrev pub WritesChangeTheirRange : Type 0
+WritesChangeTheirRange = (bytes new : List ℕ) (from : ℕ) → from + length new ≤ length bytes →
+    (length (spliced bytes from new) ≡ length bytes)
+    × ((k : ℕ) → k < from → slice_index (spliced bytes from new) k ≡ slice_index bytes k)
+    × ((k : ℕ) → k < length new → slice_index (spliced bytes from new) (from + k) ≡ slice_index new k)
+    × ((k : ℕ) → from + length new ≤ k → slice_index (spliced bytes from new) k ≡ slice_index bytes k)
+
+-- of replies that are a mutator's alone, the reply to a line with its number says what it then knows, and the others say nothing of it
+abbrev pub OwnLinesCount : Type 0
+OwnLinesCount = (m : ℕ) (o : Own) (c : Command) (r : Reply) (cs : List Command) (rs : List Reply) → Alone m o (c ∷ cs) (r ∷ rs) →
+    (IsSaidBy m c → (q : Own) × Knows m o c r q × Alone m q cs rs) × (¬ IsSaidBy m c → Alone m o cs rs)
+
+-- a new object has its owner, its data structure and so many zeros, in the log of the place that room says; all other objects stay
+abbrev pub NewMakesItsObject : Type 0
+NewMakesItsObject = (now : Moment) (m len ds p : ℕ) (after : Moment) → IsMoment now → Commanded now (Mutator m (New len ds)) (Pointer p) after → (place : Place) × (room now.core (size_of len) true ≡ Some place)
+    × ((world_of after.core).object ≡ put (world_of now.core).object p (Some record { owner = m; ds = ds; bytes = replicate len 0; home = Group place.log }))

@@ -1,0 +1,39 @@
+-- What a refused command leaves as it was: all but two marks of one cell, which it may have added.
+use Rattle.std.specs.Prelude.{◌≡◌, ℕ, List, true, Option, Some, None}
+use Rattle.far_word.specs.declared.mark.Marks.{Marks}
+use Rattle.far_word.specs.declared.pointer.PtrWord.{PtrWord}
+use Rattle.far_word.specs.declared.pointer.PtrWord.TheVariants.{Free, Near, Far}
+use Rattle.far_word.specs.declared.refused.Refused.{Refused as Refusal}
+use Rattle.far_word.specs.declared.refused.Refused.TheVariants.{NoRoom}
+use Rattle.far_word.specs.Pointer.{read_of}
+use Rattle.far_core.specs.world.WorldOf.{world_of}
+use Rattle.far_replay.specs.Command.{Command, Write, Read, Mutator}
+use Rattle.far_replay.specs.Moment.{Moment}
+
+-- HOT and MOVE may have been added; EVAC and DROP are as they were
+pub record MayGain (a b : Marks) : Type 0 where
+  pub hot : a.hot ≡ true → b.hot ≡ true
+  pub moved : a.moved ≡ true → b.moved ≡ true
+  pub evac : b.evac ≡ a.evac
+  pub dropped : b.dropped ≡ a.dropped
+
+-- so it is with the marks of a cell, which names the same object at the same place
+abbrev pub CellStays : Option PtrWord → Option PtrWord → Type 0
+CellStays None None = Unit {0}
+CellStays (Some Free) (Some Free) = Unit {0}
+CellStays (Some (Near len ds place a)) (Some (Near n d at b)) = (n ≡ len) × (d ≡ ds) × (at ≡ place) × MayGain a b
+CellStays (Some (Far len ds a)) (Some (Far n d b)) = (n ≡ len) × (d ≡ ds) × MayGain a b
+CellStays _ _ = ⊥
+
+-- the cell whose marks a refused line may add to: that of the object it reads or writes, and only where the refusal came after the pin
+abbrev pub MayMark : Command → Refusal → ℕ → Type 0
+MayMark (Mutator m (Write p from bytes)) NoRoom q = q ≡ p
+MayMark (Mutator m (Read p from len)) NoRoom q = q ≡ p
+MayMark c why q = ⊥
+
+-- objects, bytes and places are as before, and so is all else of the core but for marks in that cell
+pub record Stays (c : Command) (why : Refusal) (now next : Moment) : Type 0 where
+  pub objects : (world_of next.core).object ≡ (world_of now.core).object
+  pub cells : (p : ℕ) → CellStays (read_of (now.core.cell p)) (read_of (next.core.cell p))
+  pub unmarked : (p : ℕ) → ¬ MayMark c why p → next.core.cell p ≡ now.core.cell p
+  pub rest : next.core ≡ record now.core { cell = next.core.cell }

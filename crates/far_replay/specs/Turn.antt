@@ -1,0 +1,84 @@
+-- What a command makes of a heap: when it is refused, the moment after it, and its reply.
+use Rattle.std.specs.Prelude.{ℕ, ◌+◌, Bool, true, ◌&&◌, not, nat_lt, nat_le, Option, Some, None, is_some, List, [], ◌∷◌, length, map, slice_range, if◌then◌else◌}
+use Rattle.std.specs.List.{range_with_len}
+use Rattle.far_word.specs.declared.pointer.Place.{Place}
+use Rattle.far_word.specs.declared.refused.Refused.{Refused as Refusal}
+use Rattle.far_word.specs.declared.refused.Refused.TheVariants.{NoRoom, NoPointer, Length, Closed, AlreadyOpen, NotHeld, Range}
+use Rattle.far_word.specs.declared.sizes.TheConstants.{LONGEST}
+use Rattle.far_word.specs.Sizes.{size_of}
+use Rattle.far_core.specs.events.Step.{is_opened, after_close}
+use Rattle.far_core.specs.laws.Observed.{live_bytes, dead_bytes, unused_bytes}
+use Rattle.far_core.specs.state.Room.{room}
+use Rattle.far_core.specs.state.State.{State}
+use Rattle.far_replay.specs.Command.{Command, New, Open, Write, Read, Close, Logs, Mutator, Book}
+use Rattle.far_replay.specs.Effects.{with_object, with_scope, with_view, with_data}
+use Rattle.far_replay.specs.Moment.{Moment}
+use Rattle.far_replay.specs.Objects.{uses, object_len, data_of, lowest_cell, is_range}
+use Rattle.far_replay.specs.Reply.{Reply, Done, Pointer, Data, Logs as Told, Refused, LogLine}
+
+-- ---- when a command is refused
+-- the causes by which it may be refused, in their order, each with its test
+abbrev pub access_causes : Moment → ℕ → ℕ → ℕ → ℕ → List (Bool × Refusal)
+access_causes now m p from count =
+    (not (nat_lt m now.core.mutators), Range) ∷ (not (is_opened now.core m), Closed) ∷ (not (uses now.core m p), NotHeld) ∷ (not (is_range (object_len now.core p) from count), Range) ∷ []
+
+abbrev pub causes : Moment → Command → List (Bool × Refusal)
+causes now (Mutator m (New len ds)) =
+    (not (nat_lt m now.core.mutators && nat_lt ds 256), Range) ∷ (not (nat_lt 0 len && nat_le len LONGEST), Length)
+    ∷ (not (is_some (lowest_cell now.core m)), NoPointer) ∷ (not (is_some (room now.core (size_of len) true)), NoRoom) ∷ []
+causes now (Mutator m Open) = (not (nat_lt m now.core.mutators), Range) ∷ (is_opened now.core m, AlreadyOpen) ∷ []
+causes now (Mutator m (Write p from bytes)) = access_causes now m p from (length bytes)
+causes now (Mutator m (Read p from len)) = access_causes now m p from len
+causes now (Mutator m Close) = (not (nat_lt m now.core.mutators), Range) ∷ (not (is_opened now.core m), Closed) ∷ []
+causes now (Book Logs) = []
+
+-- the first cause that holds
+abbrev pub first_cause : List (Bool × Refusal) → Option Refusal
+first_cause [] = None
+first_cause (cause ∷ causes) = if cause.0 then Some cause.1 else first_cause causes
+
+abbrev pub refusal : Moment → Command → Option Refusal
+refusal now c = first_cause (causes now c)
+
+-- ---- the moment after a command that isn't refused
+-- a new object at the pointer and the place that were found
+abbrev pub with_new : State → ℕ → ℕ → Option ℕ → Option Place → State
+with_new s len ds None place = s
+with_new s len ds (Some p) None = s
+with_new s len ds (Some p) (Some place) = with_object s p len ds place
+
+abbrev pub turn_effect : Moment → Command → Moment
+turn_effect now (Mutator m (New len ds)) = record now { core = with_new now.core len ds (lowest_cell now.core m) (room now.core (size_of len) true) }
+turn_effect now (Mutator m Open) = record now { core = with_scope now.core m }
+turn_effect now (Mutator m (Write p from bytes)) = record now { core = with_data (with_view now.core p) p from bytes }
+turn_effect now (Mutator m (Read p from len)) = record now { core = with_view now.core p }
+turn_effect now (Mutator m Close) = record now { core = after_close now.core m }
+turn_effect now (Book Logs) = now
+
+-- ---- the reply of a command that isn't refused
+abbrev pub log_line : Moment → ℕ → LogLine
+log_line now l =
+    record { log = l; kind = now.core.kind l; live = live_bytes now.core l; dead = dead_bytes now.core l; unused = unused_bytes now.core l }
+
+abbrev pub pointer_reply : Option ℕ → Reply
+pointer_reply None = Done
+pointer_reply (Some p) = Pointer p
+
+abbrev pub turn_reply : Moment → Command → Reply
+turn_reply now (Mutator m (New len ds)) = pointer_reply (lowest_cell now.core m)
+turn_reply now (Mutator m Open) = Done
+turn_reply now (Mutator m (Write p from bytes)) = Done
+turn_reply now (Mutator m (Read p from len)) = Data (slice_range (data_of now.core p) from (from + len))
+turn_reply now (Mutator m Close) = Done
+turn_reply now (Book Logs) = Told (map (log_line now) (range_with_len 0 now.core.logs))
+
+-- ---- all together: a refused command changes nothing
+abbrev pub unless : {X : Type 0} → Option Refusal → (Refusal → X) → X → X
+unless None turned value = value
+unless (Some why) turned value = turned why
+
+abbrev pub effect : Moment → Command → Moment
+effect now c = unless (refusal now c) (λ _. now) (turn_effect now c)
+
+abbrev pub reply_to : Moment → Command → Reply
+reply_to now c = unless (refusal now c) Refused (turn_reply now c)

@@ -1,0 +1,195 @@
+//! Commands and the heap's line, and which words spell them.
+
+ghost use Rattle.std.specs.Prelude.{◌≡◌, ◌∷◌, IfSome};
+ghost use Rattle.std.specs.Option.{option_map};
+ghost use Rattle.std.specs.Str.{bytes_eq};
+ghost use Rattle.far_replay.specs.Command.{said_entry, HeapLine, CommandLine, Book, Logs};
+ghost use Rattle.far_replay.specs.Grammar.{Numbers, NumbersAndBytes, asks_read, asks_write, asks_open, asks_close, asks_new, entry_from, entry_of, ended};
+ghost use Rattle.far_replay.specs.Cursor.{words_in, words_left, lines_after_first, lines_after, lines_left};
+
+use crate::cursor::{Rest, next_bytes_of, next_number_of, word_first};
+use crate::hex_word::HexWord;
+
+/// What a mutator asks for.
+#[derive(Clone, Copy)]
+pub enum Request<'a> {
+    New {
+        len: u64,
+        structure: u64,
+    },
+    Open,
+    Write {
+        pointer: u64,
+        from: u64,
+        bytes: HexWord<'a>,
+    },
+    Read {
+        pointer: u64,
+        from: u64,
+        len: u64,
+    },
+    Close,
+}
+
+/// What the book is asked.
+#[derive(Clone, Copy)]
+pub enum Inquiry {
+    Logs,
+}
+
+/// One command of a trace.
+#[derive(Clone, Copy)]
+pub enum Command<'a> {
+    Mutator { mutator: u64, request: Request<'a> },
+    Book(Inquiry),
+}
+
+/// What a line of a trace says: the heap's numbers, or a command.
+#[derive(Clone, Copy)]
+pub enum Entry<'a> {
+    Heap { logs: u64, mutators: u64 },
+    Command(Command<'a>),
+}
+
+/// An entry, and the lines after its line, if any.
+pub type Spelled<'a> = (Entry<'a>, Option<&'a [u8]>);
+
+// The entry, if its line ends here.
+#[inline(always)]
+fn at_end<'a>(entry: Entry<'a>, rest: Rest<'a>) -> Option<Spelled<'a>>
+    ensures value { option_map (λ found. said_entry found.0) result ≡ ended (words_left rest.entry) (said_entry entry.entry) }
+    ensures lines { IfSome result (λ found. lines_left found.1 ≡ lines_after rest.entry) }
+{
+    match rest {
+        Rest::Lines(lines) => Some((entry, lines)),
+        Rest::Words(_) => None,
+    }
+}
+
+fn heap_spelled(rest: Rest<'_>) -> Option<Spelled<'_>>
+    ensures value { option_map (λ found. said_entry found.0) result ≡ entry_from (Numbers 2 HeapLine) (words_left rest.entry) }
+    ensures lines { IfSome result (λ found. lines_left found.1 ≡ lines_after rest.entry) }
+{
+    let (logs, rest) = next_number_of(rest)?;
+    let (mutators, rest) = next_number_of(rest)?;
+    at_end(Entry::Heap { logs, mutators }, rest)
+}
+
+fn new_spelled(rest: Rest<'_>) -> Option<Spelled<'_>>
+    ensures value { option_map (λ found. said_entry found.0) result ≡ entry_from (Numbers 3 asks_new) (words_left rest.entry) }
+    ensures lines { IfSome result (λ found. lines_left found.1 ≡ lines_after rest.entry) }
+{
+    let (mutator, rest) = next_number_of(rest)?;
+    let (len, rest) = next_number_of(rest)?;
+    let (structure, rest) = next_number_of(rest)?;
+    let request = Request::New { len, structure };
+    at_end(Entry::Command(Command::Mutator { mutator, request }), rest)
+}
+
+fn open_spelled(rest: Rest<'_>) -> Option<Spelled<'_>>
+    ensures value { option_map (λ found. said_entry found.0) result ≡ entry_from (Numbers 1 asks_open) (words_left rest.entry) }
+    ensures lines { IfSome result (λ found. lines_left found.1 ≡ lines_after rest.entry) }
+{
+    let (mutator, rest) = next_number_of(rest)?;
+    let request = Request::Open;
+    at_end(Entry::Command(Command::Mutator { mutator, request }), rest)
+}
+
+#[inline(always)]
+fn write_spelled(rest: Rest<'_>) -> Option<Spelled<'_>>
+    ensures value { option_map (λ found. said_entry found.0) result ≡ entry_from (NumbersAndBytes 3 asks_write) (words_left rest.entry) }
+    ensures lines { IfSome result (λ found. lines_left found.1 ≡ lines_after rest.entry) }
+{
+    let (mutator, rest) = next_number_of(rest)?;
+    let (pointer, rest) = next_number_of(rest)?;
+    let (from, rest) = next_number_of(rest)?;
+    let (bytes, rest) = next_bytes_of(rest)?;
+    let request = Request::Write {
+        pointer,
+        from,
+        bytes,
+    };
+    at_end(Entry::Command(Command::Mutator { mutator, request }), rest)
+}
+
+#[inline(always)]
+fn read_spelled(rest: Rest<'_>) -> Option<Spelled<'_>>
+    ensures value { option_map (λ found. said_entry found.0) result ≡ entry_from (Numbers 4 asks_read) (words_left rest.entry) }
+    ensures lines { IfSome result (λ found. lines_left found.1 ≡ lines_after rest.entry) }
+{
+    let (mutator, rest) = next_number_of(rest)?;
+    let (pointer, rest) = next_number_of(rest)?;
+    let (from, rest) = next_number_of(rest)?;
+    let (len, rest) = next_number_of(rest)?;
+    let request = Request::Read { pointer, from, len };
+    at_end(Entry::Command(Command::Mutator { mutator, request }), rest)
+}
+
+fn close_spelled(rest: Rest<'_>) -> Option<Spelled<'_>>
+    ensures value { option_map (λ found. said_entry found.0) result ≡ entry_from (Numbers 1 asks_close) (words_left rest.entry) }
+    ensures lines { IfSome result (λ found. lines_left found.1 ≡ lines_after rest.entry) }
+{
+    let (mutator, rest) = next_number_of(rest)?;
+    let request = Request::Close;
+    at_end(Entry::Command(Command::Mutator { mutator, request }), rest)
+}
+
+fn is_name(word: &[u8], name: &[u8]) -> bool
+    ensures { result ≡ bytes_eq word.now name.now }
+{
+    word == name
+}
+
+// The entry of this name, by the words after it.
+fn named<'a>(name: &[u8], rest: Rest<'a>) -> Option<Spelled<'a>>
+    ensures value { option_map (λ found. said_entry found.0) result ≡ entry_of (name.now ∷ words_left rest.entry) }
+    ensures lines { IfSome result (λ found. lines_left found.1 ≡ lines_after rest.entry) }
+{
+    if is_name(name, b"read") {
+        return read_spelled(rest);
+    }
+    if is_name(name, b"write") {
+        return write_spelled(rest);
+    }
+    if is_name(name, b"open") {
+        return open_spelled(rest);
+    }
+    if is_name(name, b"close") {
+        return close_spelled(rest);
+    }
+    if is_name(name, b"new") {
+        return new_spelled(rest);
+    }
+    if is_name(name, b"heap") {
+        return heap_spelled(rest);
+    }
+    if is_name(name, b"logs") {
+        return at_end(Entry::Command(Command::Book(Inquiry::Logs)), rest);
+    }
+    None
+}
+
+// What the first line of a text spells, by its first word.
+#[inline(never)]
+fn named_first(text: &[u8]) -> Option<Spelled<'_>>
+    ensures value { option_map (λ found. said_entry found.0) result ≡ entry_of (words_in text.now) }
+    ensures lines { IfSome result (λ found. lines_left found.1 ≡ lines_after_first text.now) }
+{
+    let (name, rest) = word_first(text);
+    named(name, rest)
+}
+
+/// What the first line of a text spells. The two commands that traces are full of are known by their first bytes.
+#[inline(always)]
+pub fn entry_first(text: &[u8]) -> Option<Spelled<'_>>
+    ensures value { option_map (λ found. said_entry found.0) result ≡ entry_of (words_in text.now) }
+    ensures lines { IfSome result (λ found. lines_left found.1 ≡ lines_after_first text.now) }
+{
+    if let [b'r', b'e', b'a', b'd', b' ', rest @ ..] = text {
+        return read_spelled(Rest::Words(rest));
+    }
+    if let [b'w', b'r', b'i', b't', b'e', b' ', rest @ ..] = text {
+        return write_spelled(Rest::Words(rest));
+    }
+    named_first(text)
+}

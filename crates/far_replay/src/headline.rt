@@ -1,0 +1,85 @@
+//! What outputs say, over whole texts and whole lists of commands. No function here does anything when it runs.
+
+ghost use Rattle.far_replay.specs.Headline.{OutputsAreSound, OneOutput, EachTextIsAnswered, TextsWriteBytes, LinesAreNumbered, MomentsLast, EventsReach, ShapesAre, HeapsBeginLawful, ObjectsStayWhole, ViewedLogsStay, ViewsLast, RefusalsStay, RefusalsChangeNothing, UnknownMutatorsAreRefused, NearRefusals, MutatorsAreAlone, OwnLinesCount, MutatorsLearn, NewTakesTheLowest, NoneIsLeft, NewIsMade, NewMakesItsObject, CommandsTakeRoom, WritesChangeTheirRange, LogsAreTold, PrintedAlike};
+
+/// From a text on: its output, where it is read as a heap in range and commands, has a reply, which its lines tell in full,
+/// and a moment for each command. Each moment has the law, and in it objects are whole; through them the logs in which
+/// views rest stay; and each mutator's replies are what its own lines alone say.
+pub fn outputs_are_sound()
+    ensures { OutputsAreSound }
+{}
+
+/// Each text has an output, and one alone. Its commands that write, write bytes. Among lines that say commands, a
+/// mutator's are those that have its number after the name.
+pub fn texts_are_answered()
+    ensures answered { EachTextIsAnswered }
+    ensures once { OneOutput }
+    ensures bytes { TextsWriteBytes }
+    ensures numbered { LinesAreNumbered }
+{}
+
+/// A heap line may say 2 to 64 logs and 1 to 8 mutators. The heap begins with them, with the law and with nothing in it.
+/// After commands each moment has the law, its pointers at hand and its objects whole: each in use has exactly one place,
+/// each log's bytes are 1,024 in all, and no two pointers name one place. Each command is carried out by its events: they
+/// are legal, keep the law and what views rest on, and end in the moment after it.
+pub fn moments_are_lawful()
+    ensures shapes { ShapesAre }
+    ensures begin { HeapsBeginLawful }
+    ensures last { MomentsLast }
+    ensures whole { ObjectsStayWhole }
+    ensures reach { EventsReach }
+{}
+
+/// What a command reads or writes is viewed until its mutator closes its scope; no other command makes or ends a view.
+/// A log in which an object lies that its mutator views isn't given back by the next command, after any of its events.
+pub fn views_last()
+    ensures last { ViewsLast }
+    ensures stay { ViewedLogsStay }
+{}
+
+/// A refused command leaves objects, bytes, places and all else as they were, but for HOT and MOVE in its object's cell,
+/// which it may add for want of room; the commands of today add none, and leave the moment as it is. A line of a mutator
+/// that the heap hasn't is refused 8. Where the object that it reads or writes is near and unmarked, no command after the
+/// heap is refused for want of memory, by a device or for a mark; for want of a pointer or of room a new object alone is
+/// refused.
+pub fn refusals_leave_all()
+    ensures stay { RefusalsStay }
+    ensures nothing { RefusalsChangeNothing }
+    ensures unknown { UnknownMutatorsAreRefused }
+    ensures near { NearRefusals }
+{}
+
+/// The replies to one mutator's lines are what its own lines alone say: its own, and no others, say what it knows. What
+/// it knows then, its scope, its objects' bytes and which of them it views, is so in the heap after each command.
+pub fn mutators_are_alone()
+    ensures alone { MutatorsAreAlone }
+    ensures own { OwnLinesCount }
+    ensures learn { MutatorsLearn }
+{}
+
+/// A new object in range is made where a pointer is free and there is room, else it is refused, 3 before 2, and so only
+/// where there is none; its pointer is the lowest of its mutator's that is free; it has its owner, its data structure and
+/// zeros, in the log that `room` says; all other objects stay. It takes its span of that log; no other command takes any.
+pub fn new_is_made()
+    ensures answer { NewIsMade }
+    ensures none { NoneIsLeft }
+    ensures lowest { NewTakesTheLowest }
+    ensures object { NewMakesItsObject }
+    ensures takes { CommandsTakeRoom }
+{}
+
+/// Splicing, by which a write is defined, changes the bytes of its range, and no others.
+pub fn writes_change_their_range()
+    ensures { WritesChangeTheirRange }
+{}
+
+/// Replies that their lines tell in full (numbers of 64 bits, bytes; not 14, 17 and 18, whose words aren't printed yet) are
+/// equal where they are printed alike.
+pub fn lines_tell_replies()
+    ensures { PrintedAlike }
+{}
+
+/// `logs` reports each log once, by number: its kind and its bytes, which make 1,024.
+pub fn logs_are_told()
+    ensures { LogsAreTold }
+{}

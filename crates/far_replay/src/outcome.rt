@@ -1,0 +1,65 @@
+//! What a command comes to, and the room that its reply is read from.
+
+ghost use Rattle.std.specs.Prelude.{◌≡◌};
+ghost use Rattle.far_replay.specs.Reply.{reply_of, IsShort};
+ghost use Rattle.far_replay.specs.Outcome.{reply_by, IsInRoom};
+
+use crate::reply::{LogLine, Reply};
+use far_core::Kind;
+use far_word::{LOG_WORDS, MOST_LOGS, Refused};
+
+/// What a command comes to. The bytes and the log lines of a reply stand in the room.
+#[derive(Clone, Copy)]
+pub enum Outcome {
+    Done,
+    Pointer(u16),
+    /// Bytes of the room, from one on, so many.
+    Data { from: u16, count: u16 },
+    /// The first log lines of the room, so many.
+    Logs(u8),
+    Refused(Refused),
+}
+
+/// Room for the words and bytes of an object and for a line of each log.
+#[derive(Clone, Copy)]
+pub struct Scratch {
+    pub words: [u64; LOG_WORDS as usize],
+    pub bytes: [u8; 8 * LOG_WORDS as usize],
+    pub lines: [LogLine; MOST_LOGS as usize],
+}
+
+impl Scratch {
+    /// All the room that commands need; what stands in it at first is nobody's.
+    pub fn new() -> Scratch {
+        let line = LogLine {
+            log: 0,
+            kind: Kind::Free,
+            live: 0,
+            dead: 0,
+            unused: 0,
+        };
+        Scratch {
+            words: [0; LOG_WORDS as usize],
+            bytes: [0; 8 * LOG_WORDS as usize],
+            lines: [line; MOST_LOGS as usize],
+        }
+    }
+
+    /// The reply to a command.
+    pub fn reply(&self, outcome: Outcome) -> Reply<'_>
+        requires { IsInRoom outcome }
+        ensures value { reply_of result ≡ reply_by self.now.bytes self.now.lines outcome }
+        ensures short { IsShort (reply_of result) }
+    {
+        match outcome {
+            Outcome::Done => Reply::Done,
+            Outcome::Pointer(pointer) => Reply::Pointer(pointer),
+            Outcome::Data { from, count } => {
+                let from = usize::from(from);
+                Reply::Data(&self.bytes[from..from + usize::from(count)])
+            }
+            Outcome::Logs(count) => Reply::Logs(&self.lines[..usize::from(count)]),
+            Outcome::Refused(why) => Reply::Refused(why),
+        }
+    }
+}

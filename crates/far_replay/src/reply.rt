@@ -1,0 +1,113 @@
+//! Replies, and the lines that they are printed as.
+
+ghost use Rattle.std.specs.Prelude.{◌≡◌, ◌≤◌, ◌+◌, ◌*◌, ◌++◌, length};
+ghost use Rattle.std.specs.List.{flat_map};
+ghost use Rattle.far_word.specs.declared.sizes.TheConstants.{MOST_LOGS};
+ghost use Rattle.far_replay.specs.declared.reply.TheConstants.{LONGEST_REPLY};
+ghost use Rattle.far_word.specs.Refused.{refusal_number};
+ghost use Rattle.far_replay.specs.Reply.{IsShort, detail, kind_word, log_printed, printed, refused_printed, reply_of};
+
+use crate::output::Output;
+use far_core::Kind;
+use far_word::Refused;
+
+/// Room for any reply.
+pub const LONGEST_REPLY: usize = 16_384;
+
+/// What is told of one log: its number, its kind, and its bytes.
+#[derive(Clone, Copy)]
+pub struct LogLine {
+    pub log: u8,
+    pub kind: Kind,
+    pub live: u64,
+    pub dead: u64,
+    pub unused: u64,
+}
+
+/// What a command answers.
+#[derive(Clone, Copy)]
+pub enum Reply<'a> {
+    Done,
+    Pointer(u16),
+    Data(&'a [u8]),
+    Logs(&'a [LogLine]),
+    Refused(Refused),
+}
+
+fn push_kind(kind: Kind, out: &mut Output)
+    requires { length out.old + 10 ≤ Output.ROOM }
+    ensures grown { out.new ≡ out.old ++ kind_word kind }
+    ensures short { length out.new ≤ length out.old + 6 }
+{
+    match kind {
+        Kind::Free => out.push(b"free"),
+        Kind::Open => out.push(b"open"),
+        Kind::Sealed => out.push(b"sealed"),
+    }
+}
+
+fn push_log(line: &LogLine, out: &mut Output)
+    requires { length out.old + 200 ≤ Output.ROOM }
+    ensures grown { out.new ≡ out.old ++ log_printed line.now }
+    ensures short { length out.new ≤ length out.old + 200 }
+{
+    out.push(b"log ");
+    out.push_number(u64::from(line.log));
+    out.push(b" ");
+    push_kind(line.kind, out);
+    out.push(b" live ");
+    out.push_number(line.live);
+    out.push(b" dead ");
+    out.push_number(line.dead);
+    out.push(b" unused ");
+    out.push_number(line.unused);
+    out.push(b"\n");
+}
+
+fn push_logs(lines: &[LogLine], out: &mut Output)
+    requires few { length lines.now ≤ MOST_LOGS }
+    requires room { length out.old + LONGEST_REPLY ≤ Output.ROOM }
+    ensures { out.new ≡ out.old ++ flat_map log_printed lines.now }
+{
+    for line in lines {
+        push_log(line, out);
+    }
+}
+
+fn push_refused(why: Refused, out: &mut Output)
+    requires { length out.old + 200 ≤ Output.ROOM }
+    ensures { out.new ≡ out.old ++ refused_printed why }
+{
+    out.push(b"refused ");
+    out.push_number(u64::from(why.number()));
+    if let Refused::Syntax(line) = why {
+        out.push(b" ");
+        out.push_number(line);
+    }
+    out.push(b"\n");
+}
+
+impl Reply<'_> {
+    /// Adds the reply's lines to the output.
+    pub fn print_to(&self, out: &mut Output)
+        requires short { IsShort (reply_of self.now) }
+        requires room { length out.old + LONGEST_REPLY ≤ Output.ROOM }
+        ensures { out.new ≡ out.old ++ printed (reply_of self.now) }
+    {
+        match self {
+            Reply::Done => out.push(b"ok\n"),
+            Reply::Pointer(pointer) => {
+                out.push(b"pointer ");
+                out.push_number(u64::from(*pointer));
+                out.push(b"\n");
+            }
+            Reply::Data(bytes) => {
+                out.push(b"data ");
+                out.push_hex(bytes);
+                out.push(b"\n");
+            }
+            Reply::Logs(lines) => push_logs(lines, out),
+            Reply::Refused(why) => push_refused(*why, out),
+        }
+    }
+}

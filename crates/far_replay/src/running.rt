@@ -1,0 +1,225 @@
+//! A whole run: a text in, replies out.
+
+ghost use Rattle.std.specs.Prelude.{◌≡◌, ◌≢◌, ◌<◌, ◌∷◌, true, List, length, map, slice_index, take, Ok, Err, IfOk, IfErr, IfSome, OnOk};
+ghost use Rattle.far_replay.specs.Reply.{refused_printed};
+ghost use Rattle.far_replay.specs.Stream.{Writes};
+ghost use Rattle.std.specs.List.{flat_map};
+ghost use Rattle.far_core.specs.state.CoreState.{core_state};
+ghost use Rattle.far_core.specs.state.Shape.{is_shape};
+ghost use Rattle.far_replay.specs.Moment.{Moment, moment_of};
+ghost use Rattle.far_replay.specs.Answers.{Answered, MayMakeHeap, WritesOutput, WritesAnswer, LeavesBehind, Leaves, end_of};
+ghost use Rattle.far_replay.specs.declared.text.TheConstants.{LONGEST_TEXT};
+ghost use Rattle.far_replay.specs.Grammar.{trace_of};
+ghost use Rattle.far_replay.specs.Command.{said, said_trace, Heap};
+ghost use Rattle.far_replay.specs.Reply.{Reply as Answer, Done, printed};
+ghost use Rattle.far_replay.specs.Tidy.{Tidy};
+
+use crate::command::Command;
+use crate::outcome::Scratch;
+use crate::reply::Reply;
+use crate::reply_writer::ReplyWriter;
+use crate::stream::{WriteFault, read_text};
+use crate::text::{LONGEST_TEXT, ParseError, Trace, parse};
+use crate::turn::turn;
+use far_core::{Core, Shape};
+use far_word::{MOST_MUTATORS, Refused};
+use std::alloc::{AllocError, Global};
+use std::io::{Read, Write};
+use thiserror::Error;
+
+/// How a run ended.
+#[derive(Clone, Copy, Debug, PartialEq, Eq)]
+pub enum End {
+    /// Each command ran.
+    Ran,
+    /// The text or the heap's shape was refused, and nothing ran.
+    Refused,
+}
+
+/// Why a run did not end.
+#[derive(Clone, Copy, Debug, PartialEq, Eq, Error)]
+pub enum RunFault {
+    #[error("read fault")]
+    Read,
+    #[error("write fault")]
+    Write,
+    #[error("memory")]
+    Memory,
+}
+
+impl From<WriteFault> for RunFault {
+    ghost use Rattle.std.specs.Prelude.{◌≡◌};
+    ghost use Rattle.far_replay.specs.declared.running.RunFault.TheVariants.{Write};
+
+    ghost from_gives = { λ _ e. e ≡ Write };
+
+    fn from(_e: WriteFault) -> RunFault {
+        RunFault::Write
+    }
+}
+
+impl From<AllocError> for RunFault {
+    ghost use Rattle.std.specs.Prelude.{◌≡◌};
+    ghost use Rattle.far_replay.specs.declared.running.RunFault.TheVariants.{Memory};
+
+    ghost from_gives = { λ _ e. e ≡ Memory };
+
+    fn from(_e: AllocError) -> RunFault {
+        RunFault::Memory
+    }
+}
+
+// All that the reader has, as far as `most` bytes. All room is taken before the first read.
+fn read_whole<R: Read>(alloc: Global, reader: &mut R, most: usize) -> Result<Vec<u8>, RunFault>
+    ensures read { IfOk result (λ v. IfSome (R.remaining reader.old) (λ text. v.items ≡ take most text)) }
+    ensures fault { result ≢ Err RunFault.Write }
+{
+    let mut room = Vec::with_capacity(alloc, most)?;
+    read_text(reader, &mut room, most).map_err(|_| RunFault::Read)?;
+    Ok(room)
+}
+
+// Writes one refusal, and nothing else.
+fn refuse<W: Write>(
+    writer: &mut W,
+    replies: &mut ReplyWriter,
+    why: Refused,
+) -> Result<(), WriteFault>
+    ensures { Writes (W.contents writer.old) (W.contents writer.new) result (refused_printed why) }
+{
+    replies.clear();
+    replies.add(writer, &Reply::Refused(why));
+    replies.finish(writer)
+}
+
+// Makes the commands after the heap, and writes their replies. Once a write has failed it makes them without writing.
+fn answer_commands<W: Write>(
+    writer: &mut W,
+    replies: &mut ReplyWriter,
+    core: Core,
+    named: &mut [u16],
+    scratch: &mut Scratch,
+    commands: &[Command],
+) -> Result<(), WriteFault>
+    requires tidy { Tidy (core_state core) (λ m. slice_index named.old m) }
+    requires sized { length named.old ≡ MOST_MUTATORS }
+    ensures { (replies : List Answer) × (moments : List Moment) × Answered (moment_of (core_state core)) (map said commands.now) replies moments
+        × Writes (W.contents writer.old) (W.contents writer.new) result (flat_map printed (Done ∷ replies)) }
+{
+    let mut core = core;
+    replies.clear();
+    replies.add(writer, &Reply::Done);
+    for command in commands {
+        let outcome = turn(&mut core, named, scratch, command);
+        replies.add(writer, &scratch.reply(outcome));
+    }
+    replies.finish(writer)
+}
+
+// Makes a heap and the commands after it, and writes their replies. Out of memory for the heap, it writes that line alone.
+fn answer_heap<W: Write>(
+    alloc: Global,
+    writer: &mut W,
+    replies: &mut ReplyWriter,
+    shape: Shape,
+    commands: &[Command],
+) -> Result<End, RunFault>
+    requires first { shape.epoch ≡ 0 }
+    ensures answered { OnOk result (WritesOutput (W.contents writer.old) (W.contents writer.new) (Ok (Heap shape.logs shape.mutators (map said commands.now)))) }
+    ensures end { IfOk result (λ end. end ≡ end_of (Ok (Heap shape.logs shape.mutators (map said commands.now)))) }
+    ensures fault { IfErr result (λ fault. LeavesBehind fault (W.contents writer.old) (W.contents writer.new) (Ok (Heap shape.logs shape.mutators (map said commands.now)))) }
+    ensures unread { result ≢ Err RunFault.Read }
+    ensures memory { result ≡ Err RunFault.Memory → is_shape shape ≡ true }
+{
+    match Core::new(alloc, shape, true) {
+        Ok(core) => {
+            let mut named = [0u16; MOST_MUTATORS as usize];
+            let mut scratch = Scratch::new();
+            answer_commands(writer, replies, core, &mut named, &mut scratch, commands)?;
+            Ok(End::Ran)
+        }
+        Err(Refused::Memory) => {
+            let _ = refuse(writer, replies, Refused::Memory);
+            Err(RunFault::Memory)
+        }
+        Err(_) => {
+            refuse(writer, replies, Refused::Shape)?;
+            Ok(End::Refused)
+        }
+    }
+}
+
+// Answers what a text says: nothing, or a heap and commands.
+fn answer<W: Write>(
+    alloc: Global,
+    writer: &mut W,
+    replies: &mut ReplyWriter,
+    trace: &Trace,
+) -> Result<End, RunFault>
+    ensures answered { OnOk result (WritesOutput (W.contents writer.old) (W.contents writer.new) (Ok (said_trace trace.now))) }
+    ensures end { IfOk result (λ end. end ≡ end_of (Ok (said_trace trace.now))) }
+    ensures fault { IfErr result (λ fault. LeavesBehind fault (W.contents writer.old) (W.contents writer.new) (Ok (said_trace trace.now))) }
+    ensures unread { result ≢ Err RunFault.Read }
+    ensures memory { result ≡ Err RunFault.Memory → MayMakeHeap (Ok (said_trace trace.now)) }
+{
+    match trace {
+        Trace::Nothing => Ok(End::Ran),
+        Trace::Heap {
+            logs,
+            mutators,
+            commands,
+        } => {
+            let shape = Shape {
+                logs: *logs,
+                mutators: *mutators,
+                epoch: 0,
+            };
+            answer_heap(alloc, writer, replies, shape, commands)
+        }
+    }
+}
+
+// Answers a text in memory.
+fn answer_text<W: Write>(
+    alloc: Global,
+    writer: &mut W,
+    replies: &mut ReplyWriter,
+    text: &[u8],
+) -> Result<End, RunFault>
+    ensures answered { OnOk result (WritesOutput (W.contents writer.old) (W.contents writer.new) (trace_of text.now)) }
+    ensures end { IfOk result (λ end. end ≡ end_of (trace_of text.now)) }
+    ensures fault { IfErr result (λ fault. LeavesBehind fault (W.contents writer.old) (W.contents writer.new) (trace_of text.now)) }
+    ensures unread { result ≢ Err RunFault.Read }
+    ensures long { LONGEST_TEXT < length text.now → result ≢ Err RunFault.Memory }
+{
+    match parse(alloc, text) {
+        Ok(trace) => answer(alloc, writer, replies, &trace),
+        Err(ParseError::Syntax(line)) => {
+            refuse(writer, replies, Refused::Syntax(line))?;
+            Ok(End::Refused)
+        }
+        Err(ParseError::Memory) => Err(RunFault::Memory),
+    }
+}
+
+/// Reads a text, runs its commands, and writes their replies.
+///
+/// All room but the heap's is taken before the first command is made. A text that is off the grammar, or whose heap's
+/// shape is out of range, is answered by that one refusal, and nothing else is run.
+///
+/// Faults: [`RunFault::Read`] where the reader fails, any error of it; [`RunFault::Memory`] where room is refused: then
+/// nothing was written, but `refused 1` where it was the heap's; [`RunFault::Write`] where the writer fails or takes
+/// nothing: what was written is a proper prefix of the output.
+pub fn run<R: Read, W: Write>(
+    alloc: Global,
+    reader: &mut R,
+    writer: &mut W,
+) -> Result<End, RunFault>
+    ensures answered { OnOk result (IfSome (R.remaining reader.old) (WritesAnswer (W.contents writer.old) (W.contents writer.new))) }
+    ensures end { IfOk result (λ end. IfSome (R.remaining reader.old) (λ text. end ≡ end_of (trace_of text))) }
+    ensures fault { IfErr result (λ fault. IfSome (R.remaining reader.old) (Leaves fault (W.contents writer.old) (W.contents writer.new))) }
+{
+    let mut replies = ReplyWriter::new(alloc)?;
+    let text = read_whole(alloc, reader, LONGEST_TEXT + 1)?;
+    answer_text(alloc, writer, &mut replies, &text)
+}

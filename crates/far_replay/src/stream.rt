@@ -1,0 +1,66 @@
+//! Reading and writing through readers and writers that may fail at any call.
+ghost use Rattle.std.specs.Prelude.{◌≡◌, ◌≤◌, [], length, take, IfOk, IfSome};
+ghost use Rattle.std.specs.Vec.{vec_capacity, vec_len};
+ghost use Rattle.far_replay.specs.Stream.{Writes};
+
+use std::io;
+use std::io::{Read, Write};
+
+/// The writer answered an error, or took nothing.
+#[derive(Clone, Copy)]
+pub struct WriteFault;
+
+// The room that is made for one call of a reader.
+const PIECE: usize = 65_536;
+
+// How much of it is filled at once.
+const STEP: usize = 1_024;
+
+// Makes room for so many bytes, of room that was taken before. It is filled a little at a time: where little is filled
+// no instruction is repeated for each byte.
+fn grow(room: &mut Vec<u8>, to: usize)
+    requires taken { to ≤ vec_capacity room.old }
+    requires more { vec_len room.old ≤ to }
+    ensures len { vec_len room.new ≡ to }
+    ensures capacity { vec_capacity room.old ≤ vec_capacity room.new }
+    ensures bytes { take (vec_len room.old) room.new.items ≡ room.old.items }
+{
+    while room.len() < to {
+        let len = room.len() + STEP.min(to - room.len());
+        room.resize(len, 0).unwrap();
+    }
+}
+
+/// Reads to the end, or until there are `most` bytes, into room that was taken before. Each error of the reader is passed
+/// on.
+pub fn read_text<R: Read>(reader: &mut R, room: &mut Vec<u8>, most: usize) -> io::Result<()>
+    requires empty { room.old.items ≡ [] }
+    requires room { most ≤ vec_capacity room.old }
+    ensures { IfOk result (λ _. IfSome (R.remaining reader.old) (λ text. room.new.items ≡ take most text)) }
+{
+    let mut len = 0;
+    while len < most {
+        grow(room, len + PIECE.min(most - len));
+        let n = reader.read(&mut room[len..])?;
+        if n == 0 {
+            room.truncate(len);
+            return Ok(());
+        }
+        len += n;
+    }
+    Ok(())
+}
+
+/// Writes all the bytes. After an `Err` a proper prefix of them is written.
+pub fn write_whole<W: Write>(writer: &mut W, bytes: &[u8]) -> Result<(), WriteFault>
+    ensures { Writes (W.contents writer.old) (W.contents writer.new) result bytes.now }
+{
+    let mut done = 0;
+    while done < bytes.len() {
+        match writer.write(&bytes[done..]) {
+            Ok(n) if n > 0 => done += n,
+            _ => return Err(WriteFault),
+        }
+    }
+    Ok(())
+}

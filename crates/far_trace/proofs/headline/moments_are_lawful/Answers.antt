@@ -1,7 +1,0 @@
-use Rattle.far_trace.proofs.Lasting.{moments_last, events_reach}
-use Rattle.far_trace.proofs.OutputLaws.{objects_whole, heap_lawful}
-use Rattle.far_trace.proofs.TakingRoom.{shapes_are}
-use Rattle.far_trace.proofs.headline.moments_are_lawful.Goals as goal
-
-pub returns : goal.returns
-returns c = record { shapes = shapes_are; begin = heap_lawful; last = moments_last; whole = objects_whole; reach = events_reach }

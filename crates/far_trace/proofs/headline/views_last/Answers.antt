@@ -1,5 +1,0 @@
-use Rattle.far_trace.proofs.ViewLaws.{views_last, logs_stay}
-use Rattle.far_trace.proofs.headline.views_last.Goals as goal
-
-pub returns : goal.returns
-returns c = record { last = views_last; stay = logs_stay }

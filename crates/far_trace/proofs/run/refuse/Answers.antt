@@ -1,8 +1,0 @@
-use Rattle.std.proofs.Common.{[]}
-use Rattle.far_trace.specs.Reply.{refused_printed}
-use Rattle.far_trace.proofs.run.refuse.Goals as goal
-
-pub returns : goal.returns
-returns g c =
-    let start = g.W.Write.contents c.args.writer.now in
-    c.finish.ensures start (refused_printed c.args.why) (c.add.ensures start [] (c.clear.ensures start))
