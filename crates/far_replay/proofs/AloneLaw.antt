@@ -53,7 +53,7 @@ learns s m (Book Logs) r t law hand within small h = ap (λ x. own_of (world_of 
 pub mutators_learn : (now : Moment) (c : Command) (r : Reply) (next : Moment) (m : ℕ) → IsMoment now → WritesBytes c → m < now.core.mutators → Commanded now c r next → Learns now.core m c r next.core
 mutators_learn now c r next m is bytes within h =
     let lasts = moment_lasts now is in
-    learns now.core m c r next.core lasts.law lasts.tidy.at_hand within bytes (carried now c r next lasts bytes h)
+    learns now.core m c r next.core lasts.law lasts.between.at_hand within bytes (carried now c r next lasts bytes h)
 
 -- ---- all commands
 -- one line before others
@@ -73,5 +73,5 @@ alone now (c ∷ cs) (r ∷ rs) [] m lasts within small h = absurd h
 alone now (c ∷ cs) (r ∷ rs) (next ∷ xs) m lasts within small h =
     let x = carried now c r next lasts small.0 h.0 in
     let same : next.core.mutators ≡ now.core.mutators = ap (λ (t : State). t.mutators) x.state ∙ made_mutators now.core (events_for now c) in
-    one_more m (own_of (world_of now.core) m) (own_of (world_of next.core) m) c r cs rs (is_by m (speaker c)) (learns now.core m c r next.core lasts.law lasts.tidy.at_hand within small.0 x)
+    one_more m (own_of (world_of now.core) m) (own_of (world_of next.core) m) c r cs rs (is_by m (speaker c)) (learns now.core m c r next.core lasts.law lasts.between.at_hand within small.0 x)
     (alone next cs rs xs m (still_lasts now c r next lasts small.0 h.0) (subst (λ n. m < n) (sym same) within) small.1 h.1)

@@ -18,9 +18,8 @@ use Rattle.far_replay.specs.Written.{WritesBytes}
 use Rattle.far_replay.specs.declared.command.Command.{Command as Spelled}
 use Rattle.far_replay.specs.declared.command.Command.TheVariants.{Mutator as SpelledMutator, Book as SpelledBook}
 use Rattle.far_replay.specs.declared.command.Request.TheVariants.{New as SpelledNew, Open as SpelledOpen, Write as SpelledWrite, Read as SpelledRead, Close as SpelledClose}
-use Rattle.far_replay.specs.Interpreter.{next_after}
 use Rattle.far_replay.specs.Reply.{Reply, printed}
-use Rattle.far_replay.specs.Tidy.{Tidy}
+use Rattle.far_replay.specs.Between.{Between}
 use Rattle.far_replay.specs.Turn.{effect, refusal, unless}
 use Rattle.far_replay.proofs.Turns.{turns}
 
@@ -48,20 +47,11 @@ drop_here f [] i x lt e = absurd (omega arith)
 drop_here f (y ∷ xs) zero x lt e = ap (λ z. f z ∷ map f xs) (sym e)
 drop_here f (y ∷ xs) (suc i) x lt e = let there : suc (i + 1) ≡ suc i + 1 = omega arith in drop_here f xs i x (omega arith) e ∙ ap (λ n. f x ∷ drop n (f y ∷ map f xs)) there
 
--- the heap stays tidy after a command
-pub still_tidy : (s t : State) (next counts : ℕ → ℕ) (c : Command) → Law s → Tidy s next → WritesBytes c → moment_of t ≡ effect (moment_of s) c →
-    ((m : ℕ) → counts m ≡ next_after (moment_of s) c next m) → Tidy t counts
-still_tidy s t next counts c law tidy small is e =
-    let x = turns s next c law tidy small in
-    subst (λ f. Tidy t f) (sym (fun_ext e)) (subst (λ u. Tidy u (next_after (moment_of s) c next)) (x.ends ∙ ap (λ (m : Moment). m.core) (sym is)) x.tidy)
-
--- a read names no cell
-same_counts : (o : Option Refusal) (next : ℕ → ℕ) (k : ℕ) → next k ≡ unless o (λ _. next) next k
-same_counts None next k = refl
-same_counts (Some why) next k = refl
-
-pub reads_name_none : (now : Moment) (c : Command) (next : ℕ → ℕ) (k m p from len : ℕ) → c ≡ Mutator m (Read p from len) → next k ≡ next_after now c next k
-reads_name_none now c next k m p from len e = same_counts (refusal now (Mutator m (Read p from len))) next k ∙ ap (λ d. next_after now d next k) (sym e)
+-- what holds between two commands holds after one more
+pub still_between : (s t : State) (c : Command) → Law s → Between s → WritesBytes c → moment_of t ≡ effect (moment_of s) c → Between t
+still_between s t c law between small is =
+    let x = turns s c law between small in
+    subst Between (x.ends ∙ ap (λ (m : Moment). m.core) (sym is)) x.between
 
 -- the run goes on by one command
 pub answered_more : (s t : Moment) (cs later : List Command) (replies : List Reply) (moments : List Moment) (c : Command) (r : Reply) (u : Moment) →

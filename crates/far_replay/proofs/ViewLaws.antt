@@ -179,7 +179,7 @@ command_closes_last s c (Some why) = tt
 
 stay_through : (now : Moment) (c : Command) → Lasts now → WritesBytes c → StayThrough now c
 stay_through now c lasts later es mid rest front p place =
-    fronts_stay now.core es mid rest lasts.law (subst (Each Fits) (sym front) (turns now.core lasts.next c lasts.law lasts.tidy later).fit)
+    fronts_stay now.core es mid rest lasts.law (subst (Each Fits) (sym front) (turns now.core c lasts.law lasts.between later).fit)
     (subst ClosesLast (sym front) (command_closes_last now.core c (refusal now c))) p place
 
 -- the logs in which views rest stay through each command

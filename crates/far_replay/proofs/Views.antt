@@ -25,7 +25,7 @@ use Rattle.far_core.proofs.Owing.{is_test}
 use Rattle.far_core.proofs.Put.{put_both, put_same}
 use Rattle.far_replay.specs.Effects.{with_view}
 use Rattle.far_replay.specs.EventRows.{after_events, Succeeds, AllSucceed, AtHand, AllAtHand}
-use Rattle.far_replay.specs.Tidy.{Tidy}
+use Rattle.far_replay.specs.Between.{Between}
 use Rattle.far_replay.specs.Events.{view_events}
 use Rattle.far_replay.specs.Objects.{uses, object_len, named_len}
 use Rattle.far_replay.proofs.MadeLemmas.{made_first, first_succeeds}
@@ -93,7 +93,7 @@ pub record Viewed (s t : State) (m p : ℕ) : Type 0 where
   pub same_len : data_len t p ≡ data_len s p
   pub long : data_len s p ≡ len
 
-module _ (s : State) (next : ℕ → ℕ) (m p : ℕ) (law : Law s) (tidy : Tidy s next) (opened : is_opened s m ≡ true) (ours : uses s m p ≡ true) where
+module _ (s : State) (m p : ℕ) (law : Law s) (between : Between s) (opened : is_opened s m ≡ true) (ours : uses s m p ≡ true) where
   -- the pointer is the owner's
   own : p / CELLS ≡ m
   own = grind (arith, nat_tests)
@@ -104,7 +104,7 @@ module _ (s : State) (next : ℕ → ℕ) (m p : ℕ) (law : Law s) (tidy : Tidy
 
   -- the object may be dereferenced at once
   pub ready : Ready (read_of (s.cell p))
-  ready = ready_of s p (tidy.at_hand p (nonzero s law p used))
+  ready = ready_of s p (between.at_hand p (nonzero s law p used))
 
   -- a new view may rest
   can_view : place_to_view (read_of (s.cell p)) ≡ Some ready.place
@@ -185,18 +185,6 @@ module _ (s : State) (next : ℕ → ℕ) (m p : ℕ) (law : Law s) (tidy : Tidy
   pub viewed : Viewed s (after_events s (view_events s m p)) m p
   viewed = at_view (λ t. Viewed s t m p) old_viewed pin_viewed
 
-  -- a pin leaves cells that are 0 and cells that aren't
-  pin_named : (q : ℕ) → s.cell q ≢ 0 → (after_pin s p).cell q ≢ 0
-  pin_named q some = put_both (λ w. w ≢ 0) s.cell p (bit_or (s.cell p) (2 ^ position Hot)) q
-      (λ _ z. absurd (hot_some z)) (λ _. some) where
-        hot_some : bit_or (s.cell p) (2 ^ position Hot) ≢ 0
-        hot_some z = let odd : Some (Near ready.len ready.ds ready.place (marks_with Hot ready.marks)) ≡ Some pointer.Free = sym (hot_read s law p used ∙ ap (map_mark Hot) ready.near) ∙ ap read_of z ∙ unused in cc
-
-  -- and cells that are 0
-  pin_unnamed : (q : ℕ) → s.cell q ≡ 0 → (after_pin s p).cell q ≡ 0
-  pin_unnamed q none = put_both (λ w. w ≡ 0) s.cell p (bit_or (s.cell p) (2 ^ position Hot)) q
-      (λ e. absurd (nonzero s law p used (ap s.cell (sym e) ∙ none))) (λ _. none)
-
   -- a pin leaves at hand what was
   pin_hand : (q : ℕ) → (after_pin s p).cell q ≢ 0 → AtHand (after_pin s p) q
   pin_hand q some = put_both (λ w. w ≢ 0 → AtHand (after_pin s p) q) s.cell p (bit_or (s.cell p) (2 ^ position Hot)) q
@@ -206,23 +194,13 @@ module _ (s : State) (next : ℕ → ℕ) (m p : ℕ) (law : Law s) (tidy : Tidy
 
         hand : (r : ℕ) → s.cell r ≢ 0 → AtHand (after_pin s p) r
         hand r ne =
-            let h = tidy.at_hand r ne in
+            let h = between.at_hand r ne in
             hand_of (after_pin s p) r (at_cell s law p used Ready r (Ready-hot (read_of (s.cell r))) (ready_of s r h)) h.used
 
-  -- a pin keeps the heap tidy
-  pin_tidy : Tidy (after_pin s p) next
-  pin_tidy = record {
-    at_hand = pin_hand;
-    most = tidy.most;
-    named = λ k i lt. pin_named (k * CELLS + i) (tidy.named k i lt);
-    unnamed = λ k i low lt. pin_unnamed (k * CELLS + i) (tidy.unnamed k i low lt);
-    sealed = tidy.sealed;
-    free = tidy.free;
-    live = λ a h start head. at_cell s law p used (λ o. names_place o (a / LOG_WORDS) (a % LOG_WORDS) ≡ true) h.pointer
-        (λ k. names_place-hot (read_of (s.cell h.pointer)) (a / LOG_WORDS) (a % LOG_WORDS) ∙ k) (tidy.live a h start head);
-    unread = tidy.unread;
-  }
+  -- a pin leaves what holds between commands
+  pin_between : Between (after_pin s p)
+  pin_between = record { at_hand = pin_hand; unread = between.unread }
 
-  -- the view keeps the heap tidy
-  pub view_tidy : Tidy (after_events s (view_events s m p)) next
-  view_tidy = at_view (λ t. Tidy t next) (λ _ _. tidy) pin_tidy
+  -- so does the view
+  pub view_between : Between (after_events s (view_events s m p))
+  view_between = at_view Between (λ _ _. between) pin_between

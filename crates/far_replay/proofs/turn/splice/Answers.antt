@@ -1,7 +1,7 @@
 use Rattle.std.proofs.Common.{◌≡◌, ◌+◌, ◌*◌, ◌-◌, ◌/◌, ◌<◌, ◌≤◌, ℕ, true, length, get_or, List, ap, sym, ◌∙◌, arith, refl}
 use Rattle.far_word.specs.Pointer.{read_of}
 use Rattle.far_word.specs.Bytes.{packed_word}
-use Rattle.far_core.specs.state.CoreState.{core_state}
+use Rattle.far_replay.specs.Moment.{state_in}
 use Rattle.far_core.specs.state.State.{State}
 use Rattle.far_core.specs.events.Step.{near_data, data_len}
 use Rattle.far_replay.specs.HexWord.{hex_bytes as spelled}
@@ -13,7 +13,7 @@ use Rattle.far_replay.proofs.turn.splice.Goals as goal
 
 pub returns : goal.returns
 returns c =
-    let t : State = core_state c.args.core.now in
+    let t : State = state_in c.args.book.now in
     let p : ℕ = c.args.access.pointer in
     let from : ℕ = c.args.access.from in
     let count : ℕ = c.args.access.count in
