@@ -1,4 +1,4 @@
-use Rattle.far_book.proofs.book.Book+Plain.owner.Goals as goal
+use Rattle.far_book.proofs.book.over_plain.Book+Plain.owner.Goals as goal
 use Rattle.std.proofs.Common.{◌∙◌, sym}
 use Rattle.far_core.specs.state.CoreState.{core_state}
 use Rattle.far_book.proofs.OwnersWork.{made_changes}
