@@ -32,7 +32,7 @@ made_mutators s (e ∷ es) = made_mutators (step_of s e).0 es ∙ step_mutators 
 -- ---- one command
 -- a command that was made, by what its turn tells
 teaches : (s : State) (k : ℕ) (c : Command) (r : Reply) (t : State) → IsCarriedOut s c r t → Turns s k c (refusal (moment_of s) c) → Teaches s k c r t
-teaches s k c r t h turns = subst (λ (x : Reply × State). Teaches s k c x.0 x.1) (λ i. (sym h.reply i, sym h.state i)) (turns h.succeed)
+teaches s k c r t h turns = subst (λ (x : Reply × State). Teaches s k c x.0 x.1) (λ i. (sym h.reply i, sym h.state i)) (turns h.made)
 
 -- by the mutator itself, or by another
 at_speaker : (s : State) (k m : ℕ) (c : Command) (r : Reply) (t : State) (b : Bool) → nat_eq k m ≡ b → m < s.mutators → Teaches s k c r t →

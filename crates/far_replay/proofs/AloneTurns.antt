@@ -26,7 +26,7 @@ use Rattle.far_replay.proofs.AloneViews.{views_still, views_mine, views_others, 
 use Rattle.far_replay.proofs.ViewLaws.{views_after}
 use Rattle.far_replay.proofs.AloneBytes.{over_spliced}
 use Rattle.far_replay.proofs.Each.{Each-append, Each-row}
-use Rattle.far_replay.proofs.MadeLemmas.{made-append, AllSucceed-parts}
+use Rattle.far_replay.proofs.MadeLemmas.{made-append, AllSucceed-parts, Carries}
 use Rattle.far_replay.proofs.Spliced.{AreBytes, packed_wide, spliced_bytes}
 use Rattle.far_replay.proofs.AloneRuns.{views_of, Scoped, own_same, own_other, own_here, own_scope, own_scope_other, IsQuiet, Quiet, quiet_run, over_all, stores_run, open_step, close_step}
 use Rattle.far_replay.proofs.AloneStates.{outside, open_world, shut_world, range_in, range_out, object_used, own_used, own_unused, len_used, data_small}
@@ -37,7 +37,7 @@ Teaches s k c r t = (k < s.mutators → Knows k (own_of (world_of s) k) c r (own
 
 -- so it is with the command turned down for this cause, or with none
 abbrev pub Turns : State → ℕ → Command → Option Refusal → Type 0
-Turns s k c o = AllSucceed s (unless o (λ _. []) (turn_events (moment_of s) c)) → Teaches s k c (unless o Refused (turn_reply (moment_of s) c)) (after_events s (unless o (λ _. []) (turn_events (moment_of s) c)))
+Turns s k c o = Carries s (unless o (λ _. []) (turn_events (moment_of s) c)) → Teaches s k c (unless o Refused (turn_reply (moment_of s) c)) (after_events s (unless o (λ _. []) (turn_events (moment_of s) c)))
 
 -- ---- which cause comes first
 pub two_causes : (P : Option Refusal → Type 0) (a b : Bool) (x y : Refusal) → (a ≡ true → P (Some x)) → (a ≡ false → b ≡ true → P (Some y)) → (a ≡ false → b ≡ false → P None) →
@@ -67,7 +67,7 @@ pub turns_open : (s : State) (k : ℕ) → Law s → Turns s k (Mutator k Open) 
 turns_open s k law = two_causes (Turns s k (Mutator k Open)) (not (nat_lt k s.mutators)) (is_opened s k) Range AlreadyOpen
     (λ off _. (λ within. absurd (outside k s.mutators within off), λ m ne. refl))
     (λ _ opened _. (λ within. (open_world s k opened, refl), λ m ne. refl))
-    (λ _ shut ok. let run = open_run s k law ok in
+    (λ _ shut ok. let run = open_run s k law ok.succeed in
     let u : State = after_events s (open_events s k) in
     let same : u.held ≡ s.held = views_after s (Mutator k Open) None ok in (
       λ within. (shut_world s k within shut, own_scope (world_of s) (world_of u) k true (views_of (world_of s) k) run.0 run.1 (views_still s u k same)),
@@ -78,7 +78,7 @@ pub turns_close : (s : State) (k : ℕ) → Law s → Turns s k (Mutator k Close
 turns_close s k law = two_causes (Turns s k (Mutator k Close)) (not (nat_lt k s.mutators)) (not (is_opened s k)) Range Closed
     (λ off _. (λ within. absurd (outside k s.mutators within off), λ m ne. refl))
     (λ _ shut _. (λ within. (shut_world s k within (not-true (is_opened s k) shut), refl), λ m ne. refl))
-    (λ _ opened ok. let run = close_step s k law ok.0 in
+    (λ _ opened ok. let run = close_step s k law ok.succeed.0 in
     let u : State = (step_of s (Closes k)).0 in
     let gone : ViewsNothing s u k = views_after s (Mutator k Close) None ok in (
       λ within. (open_world s k (not-false (is_opened s k) opened), own_scope (world_of s) (world_of u) k false (λ _. false) run.0 run.1 (views_gone s u k gone)),
@@ -168,7 +168,7 @@ module _ (s : State) (k p from : ℕ) (bytes : List ℕ) (law : Law s) (hand : A
   write_in e h = subst (λ n. (0 < length bytes) × (from + length bytes ≤ n)) e (range_in (object_len s p) from (length bytes) h)
 
   -- a write that isn't turned down
-  wrote : is_opened s k ≡ true → uses s k p ≡ true → IsIn (data_of s p) from (length bytes) → AllSucceed s (loads ++ stores) → Teaches s k (Mutator k (Write p from bytes)) Done (after_events s (loads ++ stores))
+  wrote : is_opened s k ≡ true → uses s k p ≡ true → IsIn (data_of s p) from (length bytes) → Carries s (loads ++ stores) → Teaches s k (Mutator k (Write p from bytes)) Done (after_events s (loads ++ stores))
   wrote opened used inside ok =
       let both = and_parts (nat_eq (p / CELLS) k) (s.used p) used in
       let own : p / CELLS ≡ k = eqb-true (p / CELLS) k both.0 in
@@ -176,7 +176,7 @@ module _ (s : State) (k p from : ℕ) (bytes : List ℕ) (law : Law s) (hand : A
       let t : World = world_of u in
       let view : ViewsObject s u p = views_after s (Mutator k (Write p from bytes)) None ok in
       let seen : ℕ → Bool = put (views_of (world_of s) k) p true in
-      let run = write_run both.1 inside.0 inside.1 ok in (
+      let run = write_run both.1 inside.0 inside.1 ok.succeed in (
         λ within. (
           open_world s k opened,
           (

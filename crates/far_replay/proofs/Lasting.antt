@@ -21,8 +21,10 @@ use Rattle.far_replay.specs.EventRows.{after_events, AllSucceed, AllPass, Succee
 use Rattle.far_replay.specs.Moment.{Moment, moment_of}
 use Rattle.far_replay.specs.Reply.{Reply}
 use Rattle.far_replay.specs.Between.{Between}
-use Rattle.far_replay.specs.Turn.{effect, reply_to}
+use Rattle.far_replay.specs.Turn.{effect, refusal, reply_to}
+use Rattle.far_replay.proofs.Coming.{all_come, hand_for}
 use Rattle.far_replay.proofs.Each.{Each}
+use Rattle.far_replay.proofs.MadeLemmas.{Carries}
 use Rattle.far_replay.proofs.Opened.{opening_law, opening_between}
 use Rattle.far_replay.proofs.Turns.{turns}
 
@@ -34,7 +36,7 @@ pub record Lasts (now : Moment) : Type 0 where
 pub record IsCarriedOut (s : State) (c : Command) (r : Reply) (t : State) : Type 0 where
   pub reply : r ≡ reply_to (moment_of s) c
   pub state : t ≡ after_events s (events_for (moment_of s) c)
-  pub succeed : AllSucceed s (events_for (moment_of s) c)
+  pub made : Carries s (events_for (moment_of s) c)
   pub fit : Each Fits (events_for (moment_of s) c)
   pub law : Law t
 
@@ -42,7 +44,13 @@ pub carried : (now : Moment) (c : Command) (r : Reply) (next : Moment) → Lasts
 carried now c r next lasts bytes h =
     let x = turns now.core c lasts.law lasts.between bytes in
     let ends : next.core ≡ after_events now.core (events_for (moment_of now.core) c) = ap (λ (m : Moment). m.core) h.moment ∙ sym x.ends in
-    record { reply = h.reply; state = ends; succeed = x.succeed; fit = x.fit; law = subst Law (sym ends) x.law }
+    record {
+      reply = h.reply;
+      state = ends;
+      made = record { succeed = x.succeed; come = all_come now.core c (refusal now c) refl lasts.law (hand_for now.core c lasts.between.at_hand) };
+      fit = x.fit;
+      law = subst Law (sym ends) x.law;
+    }
 
 -- where its events lead, there is the moment after it
 pub moment_reached : (s t : State) (c : Command) → Law s → Between s → WritesBytes c → t ≡ after_events s (events_for (moment_of s) c) → moment_of t ≡ effect (moment_of s) c
@@ -128,4 +136,9 @@ pub events_reach : (now : Moment) (c : Command) (r : Reply) (next : Moment) → 
 events_reach now c r next is bytes h =
     let lasts = moment_lasts now is in
     let x = carried now c r next lasts bytes h in
-    record { ends = x.state; pass = all_pass now.core (events_for now c) lasts.law x.fit x.succeed; succeed = λ _. x.succeed }
+    record {
+      ends = x.state;
+      pass = all_pass now.core (events_for now c) lasts.law x.fit x.made.succeed;
+      succeed = x.made.succeed;
+      come = all_come now.core c (refusal now c) refl lasts.law;
+    }

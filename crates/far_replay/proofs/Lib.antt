@@ -7,6 +7,7 @@ pub mod AloneStates
 pub mod AloneTurns
 pub mod AloneViews
 pub mod Answering
+pub mod Coming
 pub mod Cuts
 pub mod Determined
 pub mod Each

@@ -1,5 +1,5 @@
 -- Events made one after the other: parts put together, and the law that they keep.
-use Rattle.std.proofs.Common.{◌≡◌, ℕ, true, cond, refl, sym, ap, subst, List, [], ◌∷◌, ◌++◌}
+use Rattle.std.proofs.Common.{◌≡◌, ◌≢◌, ℕ, true, cond, refl, sym, ap, subst, List, [], ◌∷◌, ◌++◌}
 use Rattle.std.proofs.lemmas.Bool.{cond_both}
 use Rattle.far_core.specs.declared.event.Event.{Event}
 use Rattle.far_core.specs.declared.event.Event.TheVariants.{Load}
@@ -9,7 +9,7 @@ use Rattle.far_core.specs.state.Law.{Law}
 use Rattle.far_core.specs.state.State.{State}
 use Rattle.far_core.specs.events.Step.{step_of, is_legal, after, answer, Fits}
 use Rattle.far_core.proofs.Keeps.{step_keeps}
-use Rattle.far_replay.specs.EventRows.{after_events, Succeeds, AllSucceed}
+use Rattle.far_replay.specs.EventRows.{after_events, Succeeds, AllSucceed, AllComeToPass}
 use Rattle.far_replay.proofs.Each.{Each}
 
 -- the state after two rows of events
@@ -26,6 +26,29 @@ AllSucceed-append s (e ∷ es) fs a b = (a.0, AllSucceed-append (step_of s e).0 
 pub AllSucceed-parts : (s : State) (es fs : List Event) → AllSucceed s (es ++ fs) → AllSucceed s es × AllSucceed (after_events s es) fs
 AllSucceed-parts s [] fs h = (tt, h)
 AllSucceed-parts s (e ∷ es) fs h = let rest = AllSucceed-parts (step_of s e).0 es fs h.1 in ((h.0, rest.0), rest.1)
+
+-- so it is with what they are for
+pub AllComeToPass-append : (s : State) (es fs : List Event) → AllComeToPass s es → AllComeToPass (after_events s es) fs → AllComeToPass s (es ++ fs)
+AllComeToPass-append s [] fs a b = b
+AllComeToPass-append s (e ∷ es) fs a b = (a.0, AllComeToPass-append (step_of s e).0 es fs a.1 b)
+
+pub AllComeToPass-parts : (s : State) (es fs : List Event) → AllComeToPass s (es ++ fs) → AllComeToPass s es × AllComeToPass (after_events s es) fs
+AllComeToPass-parts s [] fs h = (tt, h)
+AllComeToPass-parts s (e ∷ es) fs h = let rest = AllComeToPass-parts (step_of s e).0 es fs h.1 in ((h.0, rest.0), rest.1)
+
+-- each event of a row succeeds, and what it is for comes to pass
+pub record Carries (s : State) (es : List Event) : Type 0 where
+  pub succeed : AllSucceed s es
+  pub come : AllComeToPass s es
+
+-- so does each of its first events
+pub Carries-front : (s : State) (es fs : List Event) → Carries s (es ++ fs) → Carries s es
+Carries-front s es fs h = record { succeed = (AllSucceed-parts s es fs h.succeed).0; come = (AllComeToPass-parts s es fs h.come).0 }
+
+-- another answer than a refusal
+pub not_refused : (e : Event) (r : Reply) → r ≢ Refused → Succeeds e r
+not_refused e Refused ne = absurd (ne refl)
+not_refused e r ne = tt
 
 -- a legal event is made
 pub legal_step : (s : State) (e : Event) → is_legal s e ≡ true → step_of s e ≡ (after s e, answer s e)

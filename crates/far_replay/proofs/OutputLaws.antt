@@ -27,7 +27,7 @@ use Rattle.far_replay.specs.Command.{Command, Trace, Nothing, Heap, New, Open, W
 use Rattle.far_replay.specs.Grammar.{trace_of}
 use Rattle.far_replay.specs.Headline.{IsSound, IsWhole, Lawful, IsSaidBy, TellsAll, TellsLog}
 use Rattle.far_replay.specs.Written.{AllWriteBytes}
-use Rattle.far_replay.specs.EventRows.{after_events, AllSucceed}
+use Rattle.far_replay.specs.EventRows.{after_events}
 use Rattle.far_replay.specs.Reply.{Reply, Done, Pointer, Refused, LogLine, printed}
 use Rattle.far_replay.specs.Events.{turn_events, events_for, new_events}
 use Rattle.far_replay.specs.Objects.{lowest_cell, spliced}
@@ -41,6 +41,7 @@ use Rattle.far_replay.proofs.AloneNew.{new_run, is_structure, is_length}
 use Rattle.far_replay.proofs.AloneFirst.{alone_first}
 use Rattle.far_replay.proofs.Kept.{whole}
 use Rattle.far_replay.proofs.Lasting.{first_lasts, first_lawful, carried, moment_lasts, moments_last, each_is_moment, first_is_moment}
+use Rattle.far_replay.proofs.MadeLemmas.{Carries}
 use Rattle.far_replay.proofs.PlainReplies.{replies_plain}
 use Rattle.far_replay.proofs.ViewLaws.{logs_stay}
 use Rattle.far_replay.proofs.TextLaws.{texts_write}
@@ -266,7 +267,7 @@ makes_its_object now m len ds p next is c =
     let own : p / CELLS ≡ m = omega (arith, where_it_is.0, where_it_is.1) in
     let events : events_for now (Mutator m (New len ds)) ≡ new_events m len ds (Some p) (Some at.0) =
     ap (λ o. unless o (λ _. []) (turn_events now (Mutator m (New len ds)))) none ∙ ap (λ o. new_events m len ds o (room s (size_of len) true)) low ∙ ap (λ r. new_events m len ds (Some p) r) at.1 in
-    let run = new_run s m len ds p at.0 lasts.law numbers.0 own sized.1 numbers.1 (subst (AllSucceed s) events h.succeed) in
+    let run = new_run s m len ds p at.0 lasts.law numbers.0 own sized.1 numbers.1 (subst (Carries s) events h.made) in
     let whole : run.0 ≡ record { owner = m; ds = ds; bytes = replicate len 0; home = Group at.0.log } =
     run.5 ∙ ap (λ (o : ℕ). record { owner = o; ds = ds; bytes = replicate len 0; home = Group at.0.log }) own in
     (at.0, at.1, ap (λ (x : State). (world_of x).object) (h.state ∙ ap (after_events s) events) ∙ run.2 ∙ ap (λ (o : Object). put (world_of s).object p (Some o)) whole)

@@ -4,7 +4,7 @@ use Rattle.std.specs.Str.{bytes_eq}
 use Rattle.std.proofs.lemmas.Slice.Eq.{bytes_eq-Decides}
 use Rattle.far_replay.specs.Command.{Entry, HeapLine, CommandLine, New, Open, Write, Read, Close, Logs, Mutator, Book}
 use Rattle.far_replay.specs.Says.{Says, Spells}
-use Rattle.far_replay.specs.Grammar.{asks_read, asks_write, asks_open, asks_close, asks_new, From, Operands, Numbers, NumbersAndBytes, number_of, bytes_in, next_number, next_bytes, numbers_then, ended, entry_from, table, found_in, entry_of, ◌>>=◌}
+use Rattle.far_replay.specs.Grammar.{asks_read, asks_write, asks_open, asks_close, asks_new, From, Operands, Numbers, NumbersAndBytes, number_of, bytes_in, next_number, last_bytes, numbers_then, ended, entry_from, table, found_in, entry_of, ◌>>=◌}
 use Rattle.far_replay.proofs.Each.{Each}
 use Rattle.far_replay.proofs.HexLemmas.{spelled_is_hex, hex_is_spelled}
 use Rattle.far_replay.proofs.Numbers.{number_is, number_only}
@@ -60,15 +60,16 @@ several_then (suc n) make rest words c e =
     let (t, behind, below, so, last) = several_then n (make m) rest others c more in
     ((m, t), behind, (small, below), is ∙ ap (λ ws. decimal m ∷ ws) so, last)
 
--- what is read as bytes, and what is made of them and of the words behind them
-bytes_then : {B : Type 0} (words : List (List ℕ)) (f : List ℕ × List (List ℕ) → Option B) (y : B) → (next_bytes words >>= f) ≡ Some y
-    → (bytes : List ℕ) × (rest : List (List ℕ)) × (word : List ℕ) × Spells word bytes × (words ≡ word ∷ rest) × (f (bytes, rest) ≡ Some y)
-bytes_then [] f y e = absurd (cc e)
-bytes_then (w ∷ rest) f y e =
-    elim (bytes_in w) as (λ o. bytes_in w ≡ o → ((o >>= λ n. Some (n, rest)) >>= f) ≡ Some y → (bytes : List ℕ) × (after : List (List ℕ)) × (word : List ℕ) × Spells word bytes × (w ∷ rest ≡ word ∷ after) × (f (bytes, after) ≡ Some y)) [
-      | Some bytes ↦ λ is k. (bytes, rest, w, hex_is_spelled w bytes is, refl, k)
+-- what the last word is read as, and what is made of it
+bytes_then : (words : List (List ℕ)) (make : List ℕ → Entry) (c : Entry) → (last_bytes words >>= λ bytes. Some (make bytes)) ≡ Some c
+    → (bytes word : List ℕ) × Spells word bytes × (words ≡ word ∷ []) × (make bytes ≡ c)
+bytes_then [] make c e = absurd (cc e)
+bytes_then (w ∷ []) make c e =
+    elim (bytes_in w) as (λ o. bytes_in w ≡ o → (o >>= λ bytes. Some (make bytes)) ≡ Some c → (bytes word : List ℕ) × Spells word bytes × (w ∷ [] ≡ word ∷ []) × (make bytes ≡ c)) [
+      | Some bytes ↦ λ is k. (bytes, w, hex_is_spelled w bytes is, refl, cc k)
       | None ↦ λ is k. absurd (cc k)
     ] refl e
+bytes_then (w ∷ v ∷ words) make c e = absurd (cc e)
 
 ended_then : (words : List (List ℕ)) (c d : Entry) → ended words c ≡ Some d → (words ≡ []) × (c ≡ d)
 ended_then [] c d e = (refl, cc e)
@@ -85,10 +86,9 @@ numbers_only n make words c e =
 numbers_and_bytes : (n : ℕ) (make : From n (List ℕ → Entry)) (words : List (List ℕ)) (c : Entry) → entry_from (NumbersAndBytes n make) words ≡ Some c →
     (t : Several n) × (word bytes : List ℕ) × Below n t × Spells word bytes × (words ≡ in_front n t (word ∷ [])) × (made_of n make t bytes ≡ c)
 numbers_and_bytes n make words c e =
-    let (t, behind, below, is, last) = several_then n make (λ command behind. next_bytes behind >>= λ bytes. ended bytes.1 (command bytes.0)) words c e in
-    let (bytes, rest, word, spells, so, end) = bytes_then behind (λ bytes. ended bytes.1 (made_of n make t bytes.0)) c last in
-    let (none, same) = ended_then rest (made_of n make t bytes) c end in
-    (t, word, bytes, below, spells, is ∙ ap (in_front n t) (so ∙ ap (λ ws. word ∷ ws) none), same)
+    let (t, behind, below, is, last) = several_then n make (λ command behind. last_bytes behind >>= λ bytes. Some (command bytes)) words c e in
+    let (bytes, word, spells, so, same) = bytes_then behind (made_of n make t) c last in
+    (t, word, bytes, below, spells, is ∙ ap (in_front n t) so, same)
 
 -- ---- each row of the table: what is read so says the command
 abbrev IsSaid : List ℕ × Operands → Type 0

@@ -11,24 +11,23 @@ use Rattle.far_word.specs.declared.sizes.TheConstants.{CELLS, LOG_WORDS}
 use Rattle.far_word.specs.Mark.{position, marks_with}
 use Rattle.far_word.specs.Pointer.{read_of}
 use Rattle.far_core.specs.declared.event.Event.TheVariants.{Pin}
-use Rattle.far_core.specs.declared.event.Reply.TheVariants.{Held}
 use Rattle.far_core.specs.state.Law.{Law}
 use Rattle.far_core.specs.events.Legal.{HoldsObject}
 use Rattle.far_core.specs.state.Spans.{names_place}
 use Rattle.far_core.specs.state.State.{State}
-use Rattle.far_core.specs.events.Step.{is_legal, is_opened, near_data, near_len, data_len, place_to_view, after_pin, with_hold, pin_answer}
+use Rattle.far_core.specs.events.Step.{answer, is_legal, is_opened, near_data, near_len, data_len, place_to_view, after_pin, with_hold}
 use Rattle.far_core.proofs.Cells.{map_mark, held_near, unused}
 use Rattle.far_core.proofs.KeepOwner.{hot_read, nonzero, at_cell}
 use Rattle.far_core.proofs.events.Pin.{keeps_pin}
 use Rattle.far_core.proofs.Guards.{open_fact}
-use Rattle.far_core.proofs.Owing.{is_test}
+use Rattle.far_core.proofs.Owing.{is_test, never_refused}
 use Rattle.far_core.proofs.Put.{put_both, put_same}
 use Rattle.far_replay.specs.Effects.{with_view}
-use Rattle.far_replay.specs.EventRows.{after_events, Succeeds, AllSucceed, AtHand, AllAtHand}
+use Rattle.far_replay.specs.EventRows.{after_events, AllSucceed, AtHand, AllAtHand}
 use Rattle.far_replay.specs.Between.{Between}
 use Rattle.far_replay.specs.Events.{view_events}
 use Rattle.far_replay.specs.Objects.{uses, object_len, named_len}
-use Rattle.far_replay.proofs.MadeLemmas.{made_first, first_succeeds}
+use Rattle.far_replay.proofs.MadeLemmas.{made_first, first_succeeds, not_refused}
 
 -- ---- what HOT leaves as it is
 -- the first data word
@@ -80,7 +79,7 @@ Ready-hot : (o : Option PtrWord) → Ready o → Ready (map_mark Hot o)
 Ready-hot o h = record { len = h.len; ds = h.ds; place = h.place; marks = marks_with Hot h.marks; near = ap (map_mark Hot) h.near; unchosen = h.unchosen; unmoved = h.unmoved; kept = h.kept }
 
 -- a view of it may rest there
-Ready-view : (o : Option PtrWord) (h : Ready o) → place_to_view o ≡ Some h.place
+pub Ready-view : (o : Option PtrWord) (h : Ready o) → place_to_view o ≡ Some h.place
 Ready-view o h = ap place_to_view h.near ∙ rw (h.unchosen, h.unmoved, h.kept) refl
 
 -- an object is held in a state after another, with the same words and the same place and length
@@ -134,12 +133,10 @@ module _ (s : State) (m p : ℕ) (law : Law s) (between : Between s) (opened : i
 
   -- the view succeeds either way
   succeeds_at : (o : Option Place) → s.held p ≡ o → AllSucceed s (if is_some o then [] else Pin m p ∷ [])
-  succeeds_at None e =
-      let gives : pin_answer (s.cell p) (place_to_view (read_of (s.cell p))) ≡ Held ready.place = ap (pin_answer (s.cell p)) can_view in
-      first_succeeds s (Pin m p) [] (pin_legal e) (subst (Succeeds (Pin m p)) (sym gives) tt) tt
+  succeeds_at None e = first_succeeds s (Pin m p) [] (pin_legal e) (not_refused (Pin m p) (answer s (Pin m p)) (never_refused s (Pin m p))) tt
   succeeds_at (Some place) e = tt
 
-  -- the pin, if there is one, gives a view
+  -- the pin, if there is one, isn't refused
   pub view_succeeds : AllSucceed s (view_events s m p)
   view_succeeds = succeeds_at (s.held p) refl
 

@@ -29,10 +29,10 @@ abbrev pub next_number : List (List ℕ) → Option (ℕ × List (List ℕ))
 next_number [] = None
 next_number (word ∷ words) = number_of word >>= λ n. Some (n, words)
 
--- the bytes that the first word spells, and the words after it
-abbrev pub next_bytes : List (List ℕ) → Option (List ℕ × List (List ℕ))
-next_bytes [] = None
-next_bytes (word ∷ words) = bytes_in word >>= λ bytes. Some (bytes, words)
+-- the bytes that a word spells, where it is the last one
+abbrev pub last_bytes : List (List ℕ) → Option (List ℕ)
+last_bytes (word ∷ []) = bytes_in word
+last_bytes words = None
 
 -- the entry, where no words are left
 abbrev pub ended : List (List ℕ) → Entry → Option Entry
@@ -57,7 +57,7 @@ numbers_then (suc n) make rest words = next_number words >>= λ first. numbers_t
 
 abbrev pub entry_from : Operands → List (List ℕ) → Option Entry
 entry_from (Numbers n make) words = numbers_then n make (λ entry after. ended after entry) words
-entry_from (NumbersAndBytes n make) words = numbers_then n make (λ entry after. next_bytes after >>= λ bytes. ended bytes.1 (entry bytes.0)) words
+entry_from (NumbersAndBytes n make) words = numbers_then n make (λ entry after. last_bytes after >>= λ bytes. Some (entry bytes)) words
 
 -- ---- the lines by their names
 -- a mutator's number stands before what it asks for

@@ -21,7 +21,7 @@ use Rattle.far_replay.specs.Answers.{Answered, Answers, Commanded, IsMoment, sha
 use Rattle.far_replay.specs.Command.{Command, Heap, CommandLine, New, Open, Write, Read, Close, Logs as AsksLogs, Mutator, Book}
 use Rattle.far_replay.specs.Grammar.{trace_of}
 use Rattle.far_replay.specs.Moment.{Moment}
-use Rattle.far_replay.specs.EventRows.{after_events, AllPass, AllSucceed, AtHand, AllAtHand}
+use Rattle.far_replay.specs.EventRows.{after_events, AllPass, AllSucceed, AllComeToPass, AtHand, AllAtHand}
 use Rattle.far_replay.specs.Events.{events_for}
 use Rattle.far_replay.specs.Objects.{spliced}
 use Rattle.far_replay.specs.Says.{Says}
@@ -49,11 +49,13 @@ IsAtHandFor now (Mutator m (Write p from bytes)) = now.core.cell p ≢ 0 → AtH
 IsAtHandFor now (Mutator m (Read p from len)) = now.core.cell p ≢ 0 → AtHand now.core p
 IsAtHandFor now c = Unit {0}
 
--- the events of a command lead from a moment to the next: each is legal, and keeps the law and agreement; where its object is at hand each comes to pass
+-- the events of a command lead from a moment to the next: each is legal, none is refused, and each keeps the law and agreement; where the command's object is at hand
+-- a pin gives a view, and a naming wins
 pub record Reaches (now : Moment) (c : Command) (after : Moment) : Type 0 where
   pub ends : after.core ≡ after_events now.core (events_for now c)
   pub pass : AllPass now.core (events_for now c)
-  pub succeed : IsAtHandFor now c → AllSucceed now.core (events_for now c)
+  pub succeed : AllSucceed now.core (events_for now c)
+  pub come : IsAtHandFor now c → AllComeToPass now.core (events_for now c)
 
 -- what is true of each moment of an output
 pub record Lawful (now : Moment) : Type 0 where

@@ -7,7 +7,7 @@ ghost use Rattle.far_replay.specs.Command.{said_entry, HeapLine, CommandLine, Bo
 ghost use Rattle.far_replay.specs.Grammar.{Numbers, NumbersAndBytes, asks_read, asks_write, asks_open, asks_close, asks_new, entry_from, entry_of, ended};
 ghost use Rattle.far_replay.specs.Cursor.{words_in, words_left, lines_after_first, lines_after, lines_left};
 
-use crate::cursor::{Rest, next_bytes_of, next_number_of, word_first};
+use crate::cursor::{Rest, last_bytes_of, next_number_of, word_first};
 use crate::hex_word::HexWord;
 
 /// What a mutator asks for.
@@ -103,13 +103,14 @@ fn write_spelled(rest: Rest<'_>) -> Option<Spelled<'_>>
     let (mutator, rest) = next_number_of(rest)?;
     let (pointer, rest) = next_number_of(rest)?;
     let (from, rest) = next_number_of(rest)?;
-    let (bytes, rest) = next_bytes_of(rest)?;
+    let (bytes, lines) = last_bytes_of(rest)?;
     let request = Request::Write {
         pointer,
         from,
         bytes,
     };
-    at_end(Entry::Command(Command::Mutator { mutator, request }), rest)
+    let entry = Entry::Command(Command::Mutator { mutator, request });
+    Some((entry, lines))
 }
 
 #[inline(always)]

@@ -21,7 +21,8 @@ pub fn texts_are_answered()
 /// A heap line may say 2 to 64 logs and 1 to 8 mutators. The heap begins with them, with the law and with nothing in it.
 /// After commands each moment has the law, its pointers at hand and its objects whole: each in use has exactly one place,
 /// each log's bytes are 1,024 in all, and no two pointers name one place. Each command is carried out by its events: they
-/// are legal, keep the law and what views rest on, and end in the moment after it.
+/// are legal, none is refused, they keep the law and what views rest on, and end in the moment after it. Where its object
+/// is at hand, a pin among them gives a view, and a naming wins.
 pub fn moments_are_lawful()
     ensures shapes { ShapesAre }
     ensures begin { HeapsBeginLawful }

@@ -5,8 +5,8 @@ ghost use Rattle.far_replay.specs.Grammar.{line_of, Bad};
 ghost use Rattle.far_replay.specs.Cursor.{first_line, lines_after_first, lines_left, said_line};
 
 use crate::command::{Entry, entry_first};
+use crate::cursor::line_end;
 use crate::hex_word::LONGEST_LINE;
-use memchr::memchr;
 
 /// What a line says.
 #[derive(Clone, Copy)]
@@ -14,19 +14,6 @@ pub enum Line<'a> {
     /// An empty line or a comment.
     Skipped,
     Said(Entry<'a>),
-}
-
-// Where the first line of a text ends.
-#[inline(always)]
-fn line_end(text: &[u8]) -> usize
-    ensures bound { result ≤ length text.now }
-    ensures inside { (k : ℕ) → k < result → (slice_index text.now k == 10) ≡ false }
-    ensures ends { result < length text.now → slice_index text.now result ≡ 10 }
-{
-    match memchr(b'\n', text) {
-        Some(end) => end,
-        None => text.len(),
-    }
 }
 
 // Where the first line of a text ends, if all its bytes are ASCII.
