@@ -13,6 +13,7 @@ pub mod Each
 pub mod Fronts
 pub mod HexAtLemmas
 pub mod HexLemmas
+pub mod InquiryLaws
 pub mod Kept
 pub mod Lasting
 pub mod LineLemmas

@@ -26,7 +26,7 @@ use Rattle.far_core.proofs.KeepPlace.{header}
 use Rattle.far_core.proofs.Owing.{is_test}
 use Rattle.far_core.proofs.Put.{put_both, put_same, put_other}
 use Rattle.far_replay.specs.Moment.{moment_of}
-use Rattle.far_replay.specs.Command.{Command, New, Open, Write, Read, Close, Logs, Mutator, Book}
+use Rattle.far_replay.specs.Command.{Command, New, Open, Write, Read, Close, Where, Mutator, Book}
 use Rattle.far_replay.specs.Interpreter.{named_by, next_after}
 use Rattle.far_replay.specs.EventRows.{after_events, AllSucceed, AtHand}
 use Rattle.far_replay.specs.Tidy.{Tidy}
@@ -469,7 +469,8 @@ turned s next (Mutator m Close) law tidy small e = close_turned s next m law tid
   two_open true true f = refl
   two_open true false f = absurd cc
   two_open false b f = absurd cc
-turned s next (Book Logs) law tidy small e = none_turned s next law tidy
+turned s next (Mutator m (Where p)) law tidy small e = none_turned s next law tidy
+turned s next (Book inquiry) law tidy small e = none_turned s next law tidy
 
 -- each command: a refused one does nothing
 turn_at : (s : State) (next : ℕ → ℕ) (c : Command) (o : Option Refusal) → refusal (moment_of s) c ≡ o → Law s → Tidy s next → WritesBytes c →

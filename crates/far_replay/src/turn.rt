@@ -15,7 +15,7 @@ ghost use Rattle.far_replay.specs.Command.{said, said_request};
 ghost use Rattle.far_replay.specs.Interpreter.{refused_in, IsAccess, IsViewed, IsNew, StandsFor, next_after, next_of};
 ghost use Rattle.far_replay.specs.HexWord.{hex_bytes as spelled};
 ghost use Rattle.far_replay.specs.EventRows.{after_events, AtHand};
-ghost use Rattle.far_replay.specs.Command.{Mutator, Book, New, Open, Write, Read, Close, Logs};
+ghost use Rattle.far_replay.specs.Command.{Mutator, Book, New, Open, Write, Read, Close, Where, Logs, Log, Audit};
 ghost use Rattle.far_replay.specs.Outcome.{reply_by, IsInRoom};
 ghost use Rattle.far_replay.specs.Reply.{IsShort};
 ghost use Rattle.far_replay.specs.Tidy.{Tidy};
@@ -27,6 +27,7 @@ ghost use Rattle.far_replay.specs.Turn.{effect, access_causes, first_cause, repl
 use crate::command::{Command, Inquiry, Request};
 use crate::events::{make_new, open, view};
 use crate::hex_word::HexWord;
+use crate::inquiries::{audit, find_object, tell_log};
 use crate::outcome::{Outcome, Scratch};
 use crate::reply::LogLine;
 use far_core::{Core, Event};
@@ -501,6 +502,7 @@ fn make_request(
             read_range(core, scratch, owner, pointer, from, len)
         }
         Request::Close => close_scope(core, owner),
+        Request::Where { pointer } => find_object(core, owner, pointer),
     }
 }
 
@@ -530,6 +532,8 @@ fn make_events(
             tell_logs(core, &mut scratch.lines);
             Outcome::Logs(core.logs())
         }
+        Command::Book(Inquiry::Log { log }) => tell_log(core, scratch, log),
+        Command::Book(Inquiry::Audit) => audit(core),
     }
 }
 
