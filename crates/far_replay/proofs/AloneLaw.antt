@@ -1,7 +1,8 @@
 -- The replies to one mutator's lines are what its own lines alone say.
-use Rattle.std.proofs.Common.{◌≡◌, ℕ, ◌<◌, Bool, true, false, nat_eq, sym, refl, ap, subst, ◌∙◌, List, [], ◌∷◌}
+use Rattle.std.proofs.Common.{◌≡◌, ℕ, ◌<◌, Bool, true, false, nat_eq, sym, refl, ap, subst, ◌∙◌, Option, Some, None, List, [], ◌∷◌}
 use Rattle.std.specs.Bool.{MatchBool}
 use Rattle.std.proofs.lemmas.Bool.{eqb-true, eqb-false}
+use Rattle.far_word.specs.declared.refused.Refused.{Refused as Refusal}
 use Rattle.far_core.specs.declared.event.Event.{Event}
 use Rattle.far_core.specs.state.Law.{Law}
 use Rattle.far_core.specs.state.State.{State}
@@ -11,15 +12,15 @@ use Rattle.far_core.proofs.Leaving.{events_leave}
 use Rattle.far_replay.specs.Moment.{Moment, moment_of}
 use Rattle.far_replay.specs.Alone.{Own, Knows, Alone, Learns, own_of, is_by, speaker}
 use Rattle.far_replay.specs.Answers.{Answered, Commanded, IsMoment}
-use Rattle.far_replay.specs.Command.{Command, New, Open, Write, Read, Close, Logs, Mutator, Book}
+use Rattle.far_replay.specs.Command.{Command, New, Open, Write, Read, Close, Where, Mutator, Book}
 use Rattle.far_replay.specs.Written.{WritesBytes, AllWriteBytes}
 use Rattle.far_replay.specs.EventRows.{after_events, AllAtHand}
 use Rattle.far_replay.specs.Reply.{Reply}
 use Rattle.far_replay.specs.Events.{events_for}
-use Rattle.far_replay.specs.Turn.{refusal}
+use Rattle.far_replay.specs.Turn.{refusal, unless}
 use Rattle.far_replay.proofs.Lasting.{Lasts, IsCarriedOut, carried, moment_lasts, still_lasts}
 use Rattle.far_replay.proofs.AloneNew.{turns_new}
-use Rattle.far_replay.proofs.AloneTurns.{Teaches, Turns, turns_open, turns_close, turns_read, turns_write}
+use Rattle.far_replay.proofs.AloneTurns.{Teaches, Turns, turns_open, turns_close, turns_read, turns_write, turns_where}
 
 -- ---- no event changes how many mutators there are
 step_mutators : (s : State) (e : Event) → (step_of s e).0.mutators ≡ s.mutators
@@ -40,6 +41,11 @@ at_speaker : (s : State) (k m : ℕ) (c : Command) (r : Reply) (t : State) (b : 
 at_speaker s k m c r t true e within tells = subst (λ x. x < s.mutators → Knows x (own_of (world_of s) x) c r (own_of (world_of t) x)) (eqb-true k m e) tells.0 within
 at_speaker s k m c r t false e within tells = tells.1 m (eqb-false k m e)
 
+-- a command that makes no event leaves the state
+none_made : (s : State) (o : Option Refusal) → after_events s (unless o (λ _. []) []) ≡ s
+none_made s None = refl
+none_made s (Some why) = refl
+
 learns : (s : State) (m : ℕ) (c : Command) (r : Reply) (t : State) → Law s → AllAtHand s → m < s.mutators → WritesBytes c → IsCarriedOut s c r t → Learns s m c r t
 learns s m (Mutator k (New len ds)) r t law hand within small h = at_speaker s k m (Mutator k (New len ds)) r t (nat_eq k m) refl within (teaches s k (Mutator k (New len ds)) r t h (turns_new s k len ds law))
 learns s m (Mutator k Open) r t law hand within small h = at_speaker s k m (Mutator k Open) r t (nat_eq k m) refl within (teaches s k (Mutator k Open) r t h (turns_open s k law))
@@ -48,7 +54,8 @@ learns s m (Mutator k (Write p from bytes)) r t law hand within small h =
 learns s m (Mutator k (Read p from len)) r t law hand within small h =
     at_speaker s k m (Mutator k (Read p from len)) r t (nat_eq k m) refl within (teaches s k (Mutator k (Read p from len)) r t h (turns_read s k p from len law hand))
 learns s m (Mutator k Close) r t law hand within small h = at_speaker s k m (Mutator k Close) r t (nat_eq k m) refl within (teaches s k (Mutator k Close) r t h (turns_close s k law))
-learns s m (Book Logs) r t law hand within small h = ap (λ x. own_of (world_of x) m) h.state
+learns s m (Mutator k (Where p)) r t law hand within small h = at_speaker s k m (Mutator k (Where p)) r t (nat_eq k m) refl within (teaches s k (Mutator k (Where p)) r t h (turns_where s k p law hand))
+learns s m (Book inquiry) r t law hand within small h = ap (λ x. own_of (world_of x) m) (h.state ∙ none_made s (refusal (moment_of s) (Book inquiry)))
 
 pub mutators_learn : (now : Moment) (c : Command) (r : Reply) (next : Moment) (m : ℕ) → IsMoment now → WritesBytes c → m < now.core.mutators → Commanded now c r next → Learns now.core m c r next.core
 mutators_learn now c r next m is bytes within h =

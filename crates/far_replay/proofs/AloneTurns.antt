@@ -5,6 +5,10 @@ use Rattle.std.proofs.lemmas.Bool.{and_parts, cond_both, eqb-true, not-true, not
 use Rattle.far_word.specs.declared.refused.Refused.{Refused as Refusal}
 use Rattle.far_word.specs.declared.refused.Refused.TheVariants.{Closed, AlreadyOpen, NotHeld, Range}
 use Rattle.far_word.specs.declared.sizes.TheConstants.{CELLS}
+use Rattle.far_word.specs.Pointer.{read_of}
+use Rattle.far_word.specs.declared.pointer.PtrWord.{PtrWord}
+use Rattle.far_book.specs.book.Home.{home_of}
+use Rattle.far_core.proofs.KeepOwner.{nonzero}
 use Rattle.far_core.specs.declared.event.Event.{Event}
 use Rattle.far_core.specs.declared.event.Event.TheVariants.{ReadEpoch as ReadsEpoch, Open as Opens, Pin as Pins, Load as Loads, Close as Closes}
 use Rattle.far_core.specs.state.Law.{Law}
@@ -15,12 +19,12 @@ use Rattle.far_core.specs.world.WorldOf.{world_of}
 use Rattle.far_core.specs.world.Steps.{with_bytes}
 use Rattle.far_replay.specs.Moment.{moment_of}
 use Rattle.far_replay.specs.Alone.{Knows, own_of, IsOut, IsIn}
-use Rattle.far_replay.specs.Command.{Command, Open, Write, Read, Close, Mutator}
+use Rattle.far_replay.specs.Command.{Command, Open, Write, Read, Close, Where, Mutator}
 use Rattle.far_replay.specs.EventRows.{after_events, AllSucceed, AllAtHand}
 use Rattle.far_replay.specs.Reply.{Reply, Done, Refused}
 use Rattle.far_replay.specs.Events.{turn_events, open_events, view_events, part_events, load_events, store_events, starts_inside, ends_inside, first_word, words_touched}
 use Rattle.far_replay.specs.Objects.{uses, object_len, data_of, spliced, is_range}
-use Rattle.far_replay.specs.Turn.{refusal, first_cause, unless, turn_reply}
+use Rattle.far_replay.specs.Turn.{refusal, first_cause, unless, turn_reply, home_reply}
 use Rattle.far_replay.specs.Headline.{ViewsObject, ViewsNothing}
 use Rattle.far_replay.proofs.AloneViews.{views_still, views_mine, views_others, views_gone, views_left}
 use Rattle.far_replay.proofs.ViewLaws.{views_after}
@@ -128,6 +132,21 @@ turns_read s k p from len law hand =
 
       in_of : object_len s p ≡ length (data_of s p) → not (is_range (object_len s p) from len) ≡ false → IsIn (data_of s p) from len
       in_of e h = subst (λ n. (0 < len) × (from + len ≤ n)) e (range_in (object_len s p) from len h)
+
+-- ---- inquiries
+-- where an object is that the mutator uses: that it has one
+tells_home : (s : State) (k p : ℕ) → Law s → AllAtHand s → uses s k p ≡ true →
+    Knows k (own_of (world_of s) k) (Mutator k (Where p)) (home_reply (home_of (read_of (s.cell p)))) (own_of (world_of s) k)
+tells_home s k p law hand used =
+    let here = hand p (nonzero s law p (and_parts (nat_eq (p / CELLS) k) (s.used p) used).1) in
+    subst (λ (o : Option PtrWord). Knows k (own_of (world_of s) k) (Mutator k (Where p)) (home_reply (home_of o)) (own_of (world_of s) k)) (sym here.near)
+    (refl, (data_of s p, own_used s law hand k p used))
+
+pub turns_where : (s : State) (k p : ℕ) → Law s → AllAtHand s → Turns s k (Mutator k (Where p)) (refusal (moment_of s) (Mutator k (Where p)))
+turns_where s k p law hand = two_causes (Turns s k (Mutator k (Where p))) (not (nat_lt k s.mutators)) (not (uses s k p)) Range NotHeld
+    (λ off _. (λ within. absurd (outside k s.mutators within off), λ m ne. refl))
+    (λ _ unused _. (λ within. (own_unused s law hand k p (not-true (uses s k p) unused), refl), λ m ne. refl))
+    (λ _ used _. (λ within. tells_home s k p law hand (not-false (uses s k p) used), λ m ne. refl))
 
 -- ---- writes
 module _ (s : State) (k p from : ℕ) (bytes : List ℕ) (law : Law s) (hand : AllAtHand s) (small : AreBytes bytes) where

@@ -18,7 +18,7 @@ use Rattle.far_core.specs.state.Room.{room}
 use Rattle.far_core.specs.state.State.{State}
 use Rattle.far_core.specs.events.Step.{step_of, is_legal, is_opened, after, answer, pin_answer}
 use Rattle.far_core.proofs.KeepOwner.{nonzero}
-use Rattle.far_replay.specs.Command.{Command, New, Open, Write, Read, Close, Logs, Mutator, Book}
+use Rattle.far_replay.specs.Command.{Command, New, Open, Write, Read, Close, Where, Mutator, Book}
 use Rattle.far_replay.specs.Effects.{new_word}
 use Rattle.far_replay.specs.EventRows.{after_events, ComesToPass, AllComeToPass, AtHand, AllAtHand}
 use Rattle.far_replay.specs.Events.{turn_events, zero_puts, new_events, view_events, load_events, store_events, first_loads, last_loads, part_events, first_word, words_touched, starts_inside, ends_inside}
@@ -112,7 +112,8 @@ all_come s (Mutator m (Read p from len)) None e law hand =
     let loaded : List Event = load_events m p (first_word from) (words_touched from len) in
     AllComeToPass-append s view loaded (view_comes s m p (hand (is_named s m p from len law e))) (all_sure (after_events s view) loaded (loads m p (first_word from) (words_touched from len)))
 all_come s (Mutator m Close) None e law hand = (tt, tt)
-all_come s (Book Logs) None e law hand = tt
+all_come s (Mutator m (Where p)) None e law hand = tt
+all_come s (Book inquiry) None e law hand = tt
 
 -- where all objects are at hand, so is that of a command
 pub hand_for : (s : State) (c : Command) → AllAtHand s → IsAtHandFor (moment_of s) c
@@ -121,4 +122,5 @@ hand_for s (Mutator m Open) hands = tt
 hand_for s (Mutator m (Write p from bytes)) hands = hands p
 hand_for s (Mutator m (Read p from len)) hands = hands p
 hand_for s (Mutator m Close) hands = tt
-hand_for s (Book Logs) hands = tt
+hand_for s (Mutator m (Where p)) hands = tt
+hand_for s (Book inquiry) hands = tt

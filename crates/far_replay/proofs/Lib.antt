@@ -8,12 +8,14 @@ pub mod AloneTurns
 pub mod AloneViews
 pub mod Answering
 pub mod Coming
+pub mod Counted
 pub mod Cuts
 pub mod Determined
 pub mod Each
 pub mod Fronts
 pub mod HexAtLemmas
 pub mod HexLemmas
+pub mod InquiryLaws
 pub mod Kept
 pub mod Lasting
 pub mod LineLemmas

@@ -2,9 +2,9 @@
 use Rattle.std.proofs.Common.{◌≡◌, ◌⊎◌, inl, inr, ℕ, zero, suc, ◌<◌, ◌^◌, Bool, true, false, cond, List, [], ◌∷◌, Option, Some, None, codes, decimal, sym, ◌∙◌, ap, refl, subst}
 use Rattle.std.specs.Str.{bytes_eq}
 use Rattle.std.proofs.lemmas.Slice.Eq.{bytes_eq-Decides}
-use Rattle.far_replay.specs.Command.{Entry, HeapLine, CommandLine, New, Open, Write, Read, Close, Logs, Mutator, Book}
+use Rattle.far_replay.specs.Command.{Entry, HeapLine, CommandLine, New, Open, Write, Read, Close, Where, Logs, Log, Audit, Mutator, Book}
 use Rattle.far_replay.specs.Says.{Says, Spells}
-use Rattle.far_replay.specs.Grammar.{asks_read, asks_write, asks_open, asks_close, asks_new, From, Operands, Numbers, NumbersAndBytes, number_of, bytes_in, next_number, last_bytes, numbers_then, ended, entry_from, table, found_in, entry_of, ◌>>=◌}
+use Rattle.far_replay.specs.Grammar.{asks_read, asks_write, asks_open, asks_close, asks_new, asks_where, asks_log, From, Operands, Numbers, NumbersAndBytes, number_of, bytes_in, next_number, last_bytes, numbers_then, ended, entry_from, table, found_in, entry_of, ◌>>=◌}
 use Rattle.far_replay.proofs.Each.{Each}
 use Rattle.far_replay.proofs.HexLemmas.{spelled_is_hex, hex_is_spelled}
 use Rattle.far_replay.proofs.Numbers.{number_is, number_only}
@@ -16,7 +16,10 @@ said_is_read words (CommandLine (Mutator m Open)) h = ap entry_of h.0 ∙ rw (nu
 said_is_read words (CommandLine (Mutator m Close)) h = ap entry_of h.0 ∙ rw (number_is (decimal m) m h.1 refl) refl
 said_is_read words (CommandLine (Mutator m (New l k))) h = ap entry_of h.0 ∙ rw (number_is (decimal m) m h.1 refl, number_is (decimal l) l h.2 refl, number_is (decimal k) k h.3 refl) refl
 said_is_read words (HeapLine l m) h = ap entry_of h.0 ∙ rw (number_is (decimal l) l h.1 refl, number_is (decimal m) m h.2 refl) refl
+said_is_read words (CommandLine (Mutator m (Where p))) h = ap entry_of h.0 ∙ rw (number_is (decimal m) m h.1 refl, number_is (decimal p) p h.2 refl) refl
 said_is_read words (CommandLine (Book Logs)) h = ap entry_of h
+said_is_read words (CommandLine (Book (Log l))) h = ap entry_of h.0 ∙ rw (number_is (decimal l) l h.1 refl) refl
+said_is_read words (CommandLine (Book Audit)) h = ap entry_of h
 
 chosen : {X : Type 0} (b : Bool) (x y z : X) → cond b x y ≡ z → ((b ≡ true) × (x ≡ z)) ⊎ ((b ≡ false) × (y ≡ z))
 chosen true x y z e = inl (refl, e)
@@ -129,8 +132,23 @@ logs_said words c e =
     let (t, b, is, same) = numbers_only 0 (CommandLine (Book Logs)) words c e in
     subst (Says (codes "logs" ∷ words)) same (ap (λ ws. codes "logs" ∷ ws) is)
 
+where_said : IsSaid (codes "where", Numbers 2 asks_where)
+where_said words c e =
+    let (t, b, is, same) = numbers_only 2 asks_where words c e in
+    subst (Says (codes "where" ∷ words)) same (ap (λ ws. codes "where" ∷ ws) is, b.0, b.1.0)
+
+log_said : IsSaid (codes "log", Numbers 1 asks_log)
+log_said words c e =
+    let (t, b, is, same) = numbers_only 1 asks_log words c e in
+    subst (Says (codes "log" ∷ words)) same (ap (λ ws. codes "log" ∷ ws) is, b.0)
+
+audit_said : IsSaid (codes "audit", Numbers 0 (CommandLine (Book Audit)))
+audit_said words c e =
+    let (t, b, is, same) = numbers_only 0 (CommandLine (Book Audit)) words c e in
+    subst (Says (codes "audit" ∷ words)) same (ap (λ ws. codes "audit" ∷ ws) is)
+
 rows_said : Each IsSaid table
-rows_said = (read_said, (write_said, (open_said, (close_said, (new_said, (heap_said, (logs_said, tt)))))))
+rows_said = (read_said, (write_said, (open_said, (close_said, (new_said, (heap_said, (logs_said, (where_said, (log_said, (audit_said, tt))))))))))
 
 -- words that begin with a command's name
 named : (name word : List ℕ) (args : List (List ℕ)) (c : Entry) → bytes_eq name word ≡ true → Says (word ∷ args) c → Says (name ∷ args) c

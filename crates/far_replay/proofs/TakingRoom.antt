@@ -13,7 +13,7 @@ use Rattle.far_core.specs.state.Shape.{is_shape}
 use Rattle.far_core.specs.state.State.{State}
 use Rattle.far_core.specs.events.Step.{after_pin}
 use Rattle.far_replay.specs.Answers.{Commanded, shape_of}
-use Rattle.far_replay.specs.Command.{Command, New, Open, Write, Read, Close, Logs, Mutator, Book}
+use Rattle.far_replay.specs.Command.{Command, New, Open, Write, Read, Close, Where, Mutator, Book}
 use Rattle.far_replay.specs.Effects.{with_view}
 use Rattle.far_replay.specs.Headline.{TakesRoom}
 use Rattle.far_replay.specs.Moment.{Moment, moment_of}
@@ -53,8 +53,10 @@ takes s (Mutator m (Read p from len)) None e = view_leaves s p
 takes s (Mutator m (Read p from len)) (Some why) e = (refl, refl)
 takes s (Mutator m Close) None e = (refl, refl)
 takes s (Mutator m Close) (Some why) e = (refl, refl)
-takes s (Book Logs) None e = (refl, refl)
-takes s (Book Logs) (Some why) e = (refl, refl)
+takes s (Mutator m (Where p)) None e = (refl, refl)
+takes s (Mutator m (Where p)) (Some why) e = (refl, refl)
+takes s (Book inquiry) None e = (refl, refl)
+takes s (Book inquiry) (Some why) e = (refl, refl)
 
 pub commands_take : (now : Moment) (c : Command) (r : Reply) (next : Moment) → Commanded now c r next → TakesRoom now c r next
 commands_take now c r next h =

@@ -29,7 +29,7 @@ use Rattle.far_core.proofs.Owing.{is_test}
 use Rattle.far_core.proofs.RoomLaws.{room_right}
 use Rattle.far_core.proofs.Put.{put_both, put_same, put_other}
 use Rattle.far_replay.specs.Moment.{moment_of}
-use Rattle.far_replay.specs.Command.{Command, New, Open, Write, Read, Close, Logs, Mutator, Book}
+use Rattle.far_replay.specs.Command.{Command, New, Open, Write, Read, Close, Where, Mutator, Book}
 use Rattle.far_replay.specs.EventRows.{after_events, AllSucceed, AtHand}
 use Rattle.far_replay.specs.Between.{Between}
 use Rattle.far_replay.specs.Events.{new_events, zero_puts, open_events, view_events, first_word, words_touched, load_events, starts_inside, ends_inside, part_events, store_events, turn_events, events_for}
@@ -458,7 +458,8 @@ turned s (Mutator m Close) law between small e = close_turned s m law between (t
   two_open true true f = refl
   two_open true false f = absurd cc
   two_open false b f = absurd cc
-turned s (Book Logs) law between small e = none_turned s law between
+turned s (Mutator m (Where p)) law between small e = none_turned s law between
+turned s (Book inquiry) law between small e = none_turned s law between
 
 -- each command: a refused one does nothing
 turn_at : (s : State) (c : Command) (o : Option Refusal) → refusal (moment_of s) c ≡ o → Law s → Between s → WritesBytes c →

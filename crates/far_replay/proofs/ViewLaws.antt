@@ -20,7 +20,7 @@ use Rattle.far_core.proofs.Leaving.{held_stays}
 use Rattle.far_core.proofs.Put.{put_same, put_other}
 use Rattle.far_replay.specs.Moment.{Moment, moment_of}
 use Rattle.far_replay.specs.Answers.{Answered, Commanded, IsMoment}
-use Rattle.far_replay.specs.Command.{Command, New, Open, Write, Read, Close, Logs, Mutator, Book}
+use Rattle.far_replay.specs.Command.{Command, New, Open, Write, Read, Close, Where, Mutator, Book}
 use Rattle.far_replay.specs.Written.{WritesBytes, AllWriteBytes}
 use Rattle.far_replay.specs.Headline.{LogsStay, StayThrough, ViewsObject, ViewsNothing, ViewsAfter}
 use Rattle.far_replay.specs.EventRows.{after_events, Succeeds, ComesToPass}
@@ -132,7 +132,8 @@ views_after s c (Some why) ok = refused_views s c why where
   refused_views s (Mutator m (Write p from bytes)) why = refl
   refused_views s (Mutator m (Read p from len)) why = refl
   refused_views s (Mutator m Close) why = refl
-  refused_views s (Book Logs) why = refl
+  refused_views s (Mutator m (Where p)) why = refl
+  refused_views s (Book inquiry) why = refl
 views_after s (Mutator m (New len ds)) None ok = row_stays s (turn_events (moment_of s) (Mutator m (New len ds))) (news m len ds (lowest_cell s m) (room s (size_of len) true))
 views_after s (Mutator m Open) None ok = row_stays s (open_events s m) (opens s m)
 views_after s (Mutator m (Write p from bytes)) None ok =
@@ -141,7 +142,8 @@ views_after s (Mutator m (Write p from bytes)) None ok =
     (parts m p from (length bytes)) (stores m p (first_word from) (words_touched from (length bytes)) new)
 views_after s (Mutator m (Read p from len)) None ok = viewed_behind s m p (load_events m p (first_word from) (words_touched from len)) ok (loads m p (first_word from) (words_touched from len))
 views_after s (Mutator m Close) None ok = close_views s m ok.succeed.0
-views_after s (Book Logs) None ok = refl
+views_after s (Mutator m (Where p)) None ok = refl
+views_after s (Book inquiry) None ok = refl
 
 pub views_last : (now : Moment) (c : Command) (r : Reply) (next : Moment) → IsMoment now → WritesBytes c → Commanded now c r next → ViewsAfter now c r next
 views_last now c r next is later h =
@@ -171,7 +173,8 @@ closes_last s (Mutator m (Read p from len)) =
     let loaded : List Event = load_events m p (first_word from) (words_touched from len) in
     none_closes (view_events s m p ++ loaded) (view_no_close s m p loaded (no_close loaded (loads m p (first_word from) (words_touched from len))))
 closes_last s (Mutator m Close) = tt
-closes_last s (Book Logs) = tt
+closes_last s (Mutator m (Where p)) = tt
+closes_last s (Book inquiry) = tt
 
 command_closes_last : (s : State) (c : Command) (o : Option Refusal) → ClosesLast (unless o (λ _. []) (turn_events (moment_of s) c))
 command_closes_last s c None = closes_last s c

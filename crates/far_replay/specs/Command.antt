@@ -6,9 +6,9 @@ use Rattle.far_replay.specs.declared.command.Command.TheVariants.{Mutator as Spe
 use Rattle.far_replay.specs.declared.command.Entry.{Entry as SpelledEntry}
 use Rattle.far_replay.specs.declared.command.Entry.TheVariants.{Heap as SpelledHeapLine, Command as SpelledCommandLine}
 use Rattle.far_replay.specs.declared.command.Inquiry.{Inquiry as SpelledInquiry}
-use Rattle.far_replay.specs.declared.command.Inquiry.TheVariants.{Logs as SpelledLogs}
+use Rattle.far_replay.specs.declared.command.Inquiry.TheVariants.{Logs as SpelledLogs, Log as SpelledLog, Audit as SpelledAudit}
 use Rattle.far_replay.specs.declared.command.Request.{Request as SpelledRequest}
-use Rattle.far_replay.specs.declared.command.Request.TheVariants.{New as SpelledNew, Open as SpelledOpen, Write as SpelledWrite, Read as SpelledRead, Close as SpelledClose}
+use Rattle.far_replay.specs.declared.command.Request.TheVariants.{New as SpelledNew, Open as SpelledOpen, Write as SpelledWrite, Read as SpelledRead, Close as SpelledClose, Where as SpelledWhere}
 use Rattle.far_replay.specs.declared.text.Trace.{Trace as SpelledTrace}
 use Rattle.far_replay.specs.declared.text.Trace.TheVariants.{Nothing as SpelledNothing, Heap as SpelledHeap}
 
@@ -19,10 +19,13 @@ pub data Request : Type 0 where
   Write : (pointer from : ℕ) (bytes : List ℕ) → Request
   Read : (pointer from len : ℕ) → Request
   Close : Request
+  Where : (pointer : ℕ) → Request
 
 -- what the book is asked
 pub data Inquiry : Type 0 where
   Logs : Inquiry
+  Log : (log : ℕ) → Inquiry
+  Audit : Inquiry
 
 pub data Command : Type 0 where
   Mutator : (mutator : ℕ) (request : Request) → Command
@@ -45,9 +48,12 @@ said_request SpelledOpen = Open
 said_request (SpelledWrite pointer from bytes) = Write pointer from (hex_bytes bytes.digits.now)
 said_request (SpelledRead pointer from len) = Read pointer from len
 said_request SpelledClose = Close
+said_request (SpelledWhere pointer) = Where pointer
 
 abbrev pub said_inquiry : SpelledInquiry → Inquiry
 said_inquiry SpelledLogs = Logs
+said_inquiry (SpelledLog log) = Log log
+said_inquiry SpelledAudit = Audit
 
 abbrev pub said : Spelled → Command
 said (SpelledMutator mutator request) = Mutator mutator (said_request request)

@@ -9,7 +9,7 @@ use Rattle.far_core.specs.declared.event.Event.{Event}
 use Rattle.far_core.specs.declared.event.Event.TheVariants.{ReadEpoch as ReadsEpoch, Open as Opens, Pin as Pins, Load as Loads, Store as Stores, Close as Closes, Adopt as Adopts, Put as Puts, Name as Names}
 use Rattle.far_core.specs.state.Room.{room}
 use Rattle.far_core.specs.state.State.{State}
-use Rattle.far_replay.specs.Command.{Command, New, Open, Write, Read, Close, Logs, Mutator, Book}
+use Rattle.far_replay.specs.Command.{Command, New, Open, Write, Read, Close, Where, Mutator, Book}
 use Rattle.far_replay.specs.Effects.{new_word}
 use Rattle.far_replay.specs.Moment.{Moment}
 use Rattle.far_replay.specs.Objects.{data_of, spliced, lowest_cell}
@@ -70,7 +70,8 @@ turn_events now (Mutator m (Write p from bytes)) =
     ++ store_events m p (first_word from) (words_touched from (length bytes)) (spliced (data_of now.core p) from bytes)
 turn_events now (Mutator m (Read p from len)) = view_events now.core m p ++ load_events m p (first_word from) (words_touched from len)
 turn_events now (Mutator m Close) = Closes m ∷ []
-turn_events now (Book Logs) = []
+turn_events now (Mutator m (Where p)) = []
+turn_events now (Book inquiry) = []
 
 -- a refused command makes no event
 abbrev pub events_for : Moment → Command → List Event

@@ -1,5 +1,6 @@
 pub mod Alone
 pub mod Answers
+pub mod Audit
 pub mod Between
 pub mod Command
 pub mod Cursor

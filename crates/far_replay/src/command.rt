@@ -3,8 +3,8 @@
 ghost use Rattle.std.specs.Prelude.{◌≡◌, ◌∷◌, IfSome};
 ghost use Rattle.std.specs.Option.{option_map};
 ghost use Rattle.std.specs.Str.{bytes_eq};
-ghost use Rattle.far_replay.specs.Command.{said_entry, HeapLine, CommandLine, Book, Logs};
-ghost use Rattle.far_replay.specs.Grammar.{Numbers, NumbersAndBytes, asks_read, asks_write, asks_open, asks_close, asks_new, entry_from, entry_of, ended};
+ghost use Rattle.far_replay.specs.Command.{said_entry, HeapLine, CommandLine, Book, Logs, Audit};
+ghost use Rattle.far_replay.specs.Grammar.{Numbers, NumbersAndBytes, asks_read, asks_write, asks_open, asks_close, asks_new, asks_where, asks_log, entry_from, entry_of, ended};
 ghost use Rattle.far_replay.specs.Cursor.{words_in, words_left, lines_after_first, lines_after, lines_left};
 
 use crate::cursor::{Rest, last_bytes_of, next_number_of, word_first};
@@ -29,12 +29,17 @@ pub enum Request<'a> {
         len: u64,
     },
     Close,
+    Where {
+        pointer: u64,
+    },
 }
 
 /// What the book is asked.
 #[derive(Clone, Copy)]
 pub enum Inquiry {
     Logs,
+    Log { log: u64 },
+    Audit,
 }
 
 /// One command of a trace.
@@ -135,6 +140,24 @@ fn close_spelled(rest: Rest<'_>) -> Option<Spelled<'_>>
     at_end(Entry::Command(Command::Mutator { mutator, request }), rest)
 }
 
+fn where_spelled(rest: Rest<'_>) -> Option<Spelled<'_>>
+    ensures value { option_map (λ found. said_entry found.0) result ≡ entry_from (Numbers 2 asks_where) (words_left rest.entry) }
+    ensures lines { IfSome result (λ found. lines_left found.1 ≡ lines_after rest.entry) }
+{
+    let (mutator, rest) = next_number_of(rest)?;
+    let (pointer, rest) = next_number_of(rest)?;
+    let request = Request::Where { pointer };
+    at_end(Entry::Command(Command::Mutator { mutator, request }), rest)
+}
+
+fn log_spelled(rest: Rest<'_>) -> Option<Spelled<'_>>
+    ensures value { option_map (λ found. said_entry found.0) result ≡ entry_from (Numbers 1 asks_log) (words_left rest.entry) }
+    ensures lines { IfSome result (λ found. lines_left found.1 ≡ lines_after rest.entry) }
+{
+    let (log, rest) = next_number_of(rest)?;
+    at_end(Entry::Command(Command::Book(Inquiry::Log { log })), rest)
+}
+
 fn is_name(word: &[u8], name: &[u8]) -> bool
     ensures { result ≡ bytes_eq word.now name.now }
 {
@@ -166,6 +189,15 @@ fn named<'a>(name: &[u8], rest: Rest<'a>) -> Option<Spelled<'a>>
     }
     if is_name(name, b"logs") {
         return at_end(Entry::Command(Command::Book(Inquiry::Logs)), rest);
+    }
+    if is_name(name, b"where") {
+        return where_spelled(rest);
+    }
+    if is_name(name, b"log") {
+        return log_spelled(rest);
+    }
+    if is_name(name, b"audit") {
+        return at_end(Entry::Command(Command::Book(Inquiry::Audit)), rest);
     }
     None
 }

@@ -1,6 +1,6 @@
 //! Commands, each made by calls of a book and events of owners.
 
-ghost use Rattle.std.specs.Prelude.{◌≡◌, ◌≢◌, ◌+◌, ◌*◌, ◌<◌, ◌≤◌, ◌-◌, ◌/◌, ◌^◌, ℕ, true, List, Some, None, Ok, map, take, drop, length, slice_index, slice_range, cond, nat_lt, nat_le, IfOk, IfErr, IfSome, IfNone, IsSome, MatchResult};
+ghost use Rattle.std.specs.Prelude.{◌≡◌, ◌≢◌, ◌+◌, ◌*◌, ◌<◌, ◌≤◌, ◌-◌, ◌/◌, ◌^◌, ℕ, true, false, List, Some, None, Ok, map, take, drop, length, slice_index, slice_range, cond, nat_lt, nat_le, IfOk, IfErr, IfSome, IfNone, IsSome, MatchResult};
 ghost use Rattle.std.specs.List.{range_with_len};
 ghost use Rattle.far_word.specs.Sizes.{size_of};
 ghost use Rattle.far_word.specs.Bytes.{bytes_of, packed_word, words_of};
@@ -14,20 +14,20 @@ ghost use Rattle.far_replay.specs.Command.{said, said_request};
 ghost use Rattle.far_replay.specs.Interpreter.{refused_in, IsAccess, IsViewed, StandsFor};
 ghost use Rattle.far_replay.specs.HexWord.{hex_bytes as spelled};
 ghost use Rattle.far_replay.specs.EventRows.{after_events, AtHand};
-ghost use Rattle.far_replay.specs.Command.{Mutator, Book, New, Open, Write, Read, Close, Logs};
+ghost use Rattle.far_replay.specs.Command.{Mutator, Book, New, Open, Write, Read, Close, Where, Logs, Log, Audit};
 ghost use Rattle.far_replay.specs.Outcome.{reply_by, IsInRoom};
 ghost use Rattle.far_replay.specs.Reply.{IsShort};
 ghost use Rattle.far_replay.specs.Between.{Between};
 ghost use Rattle.far_replay.specs.Events.{events_for, turn_events, first_word, words_touched, starts_inside, ends_inside, first_loads, last_loads};
-ghost use Rattle.far_replay.specs.Objects.{data_of, lowest_cell, named_len, spliced};
+ghost use Rattle.far_replay.specs.Objects.{data_of, lowest_cell, named_len, spliced, uses};
 ghost use Rattle.far_replay.specs.Moment.{moment_of, state_in};
 ghost use Rattle.far_replay.specs.Turn.{effect, access_causes, first_cause, reply_to, turn_reply, refusal, log_line, with_new};
 
 use crate::command::{Command, Inquiry, Request};
 use crate::events::{open, view};
 use crate::hex_word::HexWord;
+use crate::inquiries::{audit, find_object, tell_log, tell_logs};
 use crate::outcome::{Outcome, Scratch};
-use crate::reply::LogLine;
 use far_book::{Book, Plain};
 use far_core::Event;
 use far_word::{
@@ -64,6 +64,18 @@ fn owner_of(book: &Book<Plain>, mutator: u64) -> Option<u8>
     None
 }
 
+/// The pointer that a number is, if the owner uses it.
+pub fn own_pointer(book: &Book<Plain>, owner: u8, pointer: u64) -> Option<u16>
+    requires owner { owner < (state_in book.now).mutators }
+    ensures own { IfSome result (λ p. (p ≡ pointer) × (pointer / CELLS ≡ owner) × ((state_in book.now).used pointer ≡ true)) }
+    ensures other { IfNone result (uses (state_in book.now) owner pointer ≡ false) }
+{
+    if pointer / u64::from(CELLS) != u64::from(owner) || !book.core().is_used(pointer as u16) {
+        return None;
+    }
+    Some(pointer as u16)
+}
+
 // Whether an owner may reach some bytes of a pointer's object, or why not.
 fn reach(
     book: &Book<Plain>,
@@ -80,10 +92,9 @@ fn reach(
     if !book.core().is_open(owner) {
         return Err(Refused::Closed);
     }
-    if pointer / u64::from(CELLS) != u64::from(owner) || !book.core().is_used(pointer as u16) {
+    let Some(pointer) = own_pointer(book, owner, pointer) else {
         return Err(Refused::NotHeld);
-    }
-    let pointer = pointer as u16;
+    };
     let len = u64::from(object_len(book.core().cell(pointer)));
     if count == 0 || from > len || count > len - from {
         return Err(Refused::Range);
@@ -370,31 +381,6 @@ fn write_range(
     }
 }
 
-// What is told of a log.
-fn log_told(book: &Book<Plain>, log: u8) -> LogLine
-    requires log { log < (state_in book.now).logs }
-    ensures { result ≡ log_line (moment_of (state_in book.now)) log }
-{
-    let (kind, row) = book.log(log);
-    LogLine {
-        log,
-        kind,
-        live: u64::from(row.live),
-        dead: u64::from(row.dead),
-        unused: u64::from(row.unused),
-    }
-}
-
-// Fills the room with a line of each log, by number.
-fn tell_logs(book: &Book<Plain>, lines: &mut [LogLine])
-    requires room { length lines.old ≡ MOST_LOGS }
-    ensures { take (state_in book.now).logs lines.new ≡ map (log_line (moment_of (state_in book.now))) (range_with_len 0 (state_in book.now).logs) }
-{
-    for log in 0..book.core().logs() {
-        lines[log as usize] = log_told(book, log);
-    }
-}
-
 // Makes the events of an owner's request, and answers what it comes to.
 fn make_request(
     book: &mut Book<Plain>,
@@ -421,6 +407,7 @@ fn make_request(
             read_range(book, scratch, owner, pointer, from, len)
         }
         Request::Close => close_scope(book, owner),
+        Request::Where { pointer } => find_object(book, owner, pointer),
     }
 }
 
@@ -443,6 +430,8 @@ fn make_events(book: &mut Book<Plain>, scratch: &mut Scratch, command: &Command)
             tell_logs(book, &mut scratch.lines);
             Outcome::Logs(book.core().logs())
         }
+        Command::Book(Inquiry::Log { log }) => tell_log(book, scratch, log),
+        Command::Book(Inquiry::Audit) => audit(book),
     }
 }
 

@@ -3,7 +3,7 @@ use Rattle.std.specs.Prelude.{map}
 use Rattle.std.specs.List.{range_with_len}
 use Rattle.far_replay.specs.Moment.{moment_of, state_in}
 use Rattle.far_replay.specs.Turn.{log_line}
-use Rattle.far_replay.proofs.turn.tell_logs.Given as goal
+use Rattle.far_replay.proofs.inquiries.tell_logs.Given as goal
 
 abbrev pub invariant-loop-log : goal.invariant-loop-log
 invariant-loop-log l = take l.log l.lines ≡ map (log_line (moment_of (state_in l.book))) (range_with_len 0 l.log)

@@ -3,7 +3,7 @@ use Rattle.std.proofs.lemmas.List.FromFn.{map-range_with_len_more}
 use Rattle.far_replay.specs.Moment.{moment_of, state_in}
 use Rattle.far_replay.specs.Turn.{log_line}
 use Rattle.std.proofs.lemmas.List.{take_more_set}
-use Rattle.far_replay.proofs.turn.tell_logs.Goals as goal
+use Rattle.far_replay.proofs.inquiries.tell_logs.Goals as goal
 
 pub loop-log-preserved : goal.loop-log-preserved
 loop-log-preserved c =
