@@ -13,7 +13,7 @@ use Rattle.far_core.specs.state.Spans.{spans_of, is_live, names_place}
 use Rattle.far_core.specs.state.State.{State}
 use Rattle.far_core.proofs.Observations.{found, bytes_make_log}
 use Rattle.far_replay.specs.Moment.{moment_of}
-use Rattle.far_replay.specs.Tidy.{Tidy}
+use Rattle.far_replay.specs.Tidy.{InOrder}
 use Rattle.far_replay.specs.Turn.{log_line}
 
 -- spans of which none passes a test take nothing
@@ -29,7 +29,7 @@ some_head : (o : Option HeadWord) → 0 < len_in o → (h : HeadWord) × (o ≡ 
 some_head None some = absurd (omega arith)
 some_head (Some h) some = (h, refl)
 
-module _ (s : State) (next : ℕ → ℕ) (l : ℕ) (law : Law s) (tidy : Tidy s next) where
+module _ (s : State) (next : ℕ → ℕ) (l : ℕ) (law : Law s) (tidy : InOrder s next) where
   -- each span of the log is live
   pub span_live : (x : Span) → Contains (spans_of s l) x → is_live s l x ≡ true
   span_live x h =
@@ -54,6 +54,6 @@ module _ (s : State) (next : ℕ → ℕ) (l : ℕ) (law : Law s) (tidy : Tidy s
   all_live = omega (arith, bytes_make_log s law l, none_dead, law.logs.tail_end l)
 
 -- what is said of a log: all up to its tail is live
-pub log_line_is : (s : State) (next : ℕ → ℕ) (l : ℕ) → Law s → Tidy s next →
+pub log_line_is : (s : State) (next : ℕ → ℕ) (l : ℕ) → Law s → InOrder s next →
     log_line (moment_of s) l ≡ record { log = l; kind = s.kind l; live = 8 * s.tail l; dead = 0; unused = 1024 - 8 * s.tail l }
 log_line_is s next l law tidy = λ i. record { log = l; kind = s.kind l; live = all_live s next l law tidy i; dead = none_dead s next l law tidy i; unused = 1024 - 8 * s.tail l }

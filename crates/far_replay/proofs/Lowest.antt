@@ -6,7 +6,7 @@ use Rattle.std.proofs.lemmas.Bool.{ne_eqb, eq-eqb, lt-ltb, le-ltb, cases_lt, cas
 use Rattle.std.proofs.lemmas.Bool.Decides.{nat_tests}
 use Rattle.far_word.specs.declared.sizes.TheConstants.{CELLS}
 use Rattle.far_core.specs.state.State.{State}
-use Rattle.far_replay.specs.Tidy.{Tidy}
+use Rattle.far_replay.specs.Tidy.{InOrder}
 use Rattle.far_replay.specs.Objects.{lowest_cell}
 
 -- one test fewer before the first that passes
@@ -36,7 +36,7 @@ find_at f a (suc n) (suc k) le fail pass =
     rw here (rest ∙ later a k n)
 
 -- the lowest free cell is the next one, unless all are named
-pub lowest_is : (s : State) (next : ℕ → ℕ) (m : ℕ) → Tidy s next → lowest_cell s m ≡ cond (nat_lt (next m) CELLS) (Some (m * CELLS + next m)) None
+pub lowest_is : (s : State) (next : ℕ → ℕ) (m : ℕ) → InOrder s next → lowest_cell s m ≡ cond (nat_lt (next m) CELLS) (Some (m * CELLS + next m)) None
 unfolding lowest_cell
 lowest_is s next m tidy = find_at (λ p. nat_eq (s.cell p) 0) (m * CELLS) CELLS (next m) (tidy.most m)
     (λ i lt. ne_eqb (s.cell (m * CELLS + i)) 0 (tidy.named m i lt))

@@ -47,7 +47,7 @@ head_made s a l at w legal is = is ∙ sym (ap (λ (x : State × Reply). x.0) (l
 pub new_place : (s : State) (next : ℕ → ℕ) (size : ℕ) (place : Place) → Law s → Tidy s next → size ≤ LOG_WORDS → room s size true ≡ Some place →
     (place.log < s.logs) × (s.kind place.log ≢ Sealed) × (s.tail place.log ≤ place.at)
 new_place s next size place law tidy short found =
-    let there = new_room s next size law tidy short (ap is_some found) in
+    let there = new_room s size law short (ap is_some found) in
     let same : Some place ≡ Some there.0 = sym found ∙ there.1 in
     let is : there.0 ≡ place = cc in
     subst (λ (at : Place). (at.log < s.logs) × (s.kind at.log ≢ Sealed) × (s.tail at.log ≤ at.at)) is

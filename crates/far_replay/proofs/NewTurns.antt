@@ -73,11 +73,10 @@ zero_row l base (suc n) a s log kind past fits =
 
 -- ---- the object
 module _ (s : State) (next : ℕ → ℕ) (law : Law s) (tidy : Tidy s next) (m p len ds new : ℕ) (place : Place)
-    (mutator : m < s.mutators) (free : next m < CELLS) (cell : p ≡ m * CELLS + next m)
+    (mutator : m < s.mutators) (owner : p / CELLS ≡ m) (empty : s.cell p ≡ 0)
     (some : 0 < len) (most : len ≤ LONGEST) (structure : ds < 256)
     (log : place.log < s.logs) (fits : place.at + size_of len ≤ LOG_WORDS) (here : place.at ≡ s.tail place.log)
     (stands : ((s.kind place.log ≡ Open) × (place.at ≡ s.tail place.log)) ⊎ ((s.kind place.log ≡ Free) × (place.at ≡ 0)))
-    (order : (place.log ≡ s.current) ⊎ (place.log ≡ s.current + 1))
     (says : read_of new ≡ Some (Near len ds place no_marks)) where
   -- the log isn't sealed
   not_sealed : s.kind place.log ≢ Sealed
@@ -85,10 +84,6 @@ module _ (s : State) (next : ℕ → ℕ) (law : Law s) (tidy : Tidy s next) (m 
     shut : ((s.kind place.log ≡ Open) × (place.at ≡ s.tail place.log)) ⊎ ((s.kind place.log ≡ Free) × (place.at ≡ 0)) → ⊥
     shut (inl h) = let odd : Open ≡ Sealed = sym h.0 ∙ e in cc
     shut (inr h) = let odd : Free ≡ Sealed = sym h.0 ∙ e in cc
-
-  -- the cell is free so far
-  empty : s.cell p ≡ 0
-  empty = ap s.cell cell ∙ tidy.unnamed m (next m) (omega arith) free
 
   -- the cell reads as free
   unread_cell : read_of (s.cell p) ≡ Some pointer.Free
@@ -100,11 +95,7 @@ module _ (s : State) (next : ℕ → ℕ) (law : Law s) (tidy : Tidy s next) (m 
 
   -- it is one of the heap's
   in_range : p < CELLS * s.mutators
-  in_range = omega (arith, law.shape.some_mutators)
-
-  -- and its owner's
-  owner : p / CELLS ≡ m
-  owner = omega arith
+  in_range = omega (arith, owner, mutator)
 
   -- the header is put
   abbrev first : Event
@@ -201,10 +192,6 @@ module _ (s : State) (next : ℕ → ℕ) (law : Law s) (tidy : Tidy s next) (m 
     taking_succeeds = first_succeeds filled (Name p 0 new) (Adopt m p ∷ []) name_legal (subst (Succeeds (Name p 0 new)) (sym name_done) tt)
         (subst (λ t. AllSucceed t (Adopt m p ∷ [])) (sym named_so) (first_succeeds placed (Adopt m p) [] adopt_legal tt tt))
 
-    -- the cell isn't 0
-    new_some : new ≢ 0
-    new_some z = let odd : Some (Near len ds place no_marks) ≡ Some pointer.Free = sym says ∙ ap read_of z ∙ unused in cc
-
     -- the new object is at hand
     hand_new : (q : ℕ) → q ≡ p → AtHand adopted q
     hand_new q e = record {
@@ -241,88 +228,9 @@ module _ (s : State) (next : ℕ → ℕ) (law : Law s) (tidy : Tidy s next) (m 
       | inr other ↦ hand_old q other (λ z. ne (put_other s.cell p new q other ∙ z))
     ]
 
-    -- one cell more is named
-    abbrev more : ℕ → ℕ
-    more = put next m (next m + 1)
-
-    -- no more than there are
-    all_most : (k : ℕ) → more k ≤ CELLS
-    all_most k = put_both (λ n. n ≤ CELLS) next m (next m + 1) k (λ _. omega arith) (λ _. tidy.most k)
-
-    -- the named cells aren't 0
-    all_named : (k i : ℕ) → i < more k → adopted.cell (k * CELLS + i) ≢ 0
-    all_named k i lt = put_both (λ w. w ≢ 0) s.cell p new (k * CELLS + i) (λ _. new_some) (λ other. tidy.named k i
-        (put_both (λ n. i < n → i < next k) next m (next m + 1) k (below other) (λ _ h. h) lt)) where
-          below : k * CELLS + i ≢ p → k ≡ m → i < next m + 1 → i < next k
-          below other e h =
-              let same : next k ≡ next m = ap next e in
-              let apart : i ≢ next m = (λ f. other (omega arith)) in
-              omega arith
-
-    -- the others are
-    all_unnamed : (k i : ℕ) → more k ≤ i → i < CELLS → adopted.cell (k * CELLS + i) ≡ 0
-    all_unnamed k i le lt = put_both (λ w. w ≡ 0) s.cell p new (k * CELLS + i)
-        (λ e. absurd (put_both (λ n. n ≤ i → ⊥) next m (next m + 1) k (λ _ h. omega arith) (λ ne h. ne (omega arith)) le))
-        (λ _. tidy.unnamed k i (put_both (λ n. n ≤ i → next k ≤ i) next m (next m + 1) k (λ e h. let same : next k ≡ next m = ap next e in omega arith) (λ _ h. h) le) lt)
-
-    -- logs before the open one are sealed
-    all_sealed : (l : ℕ) → l < place.log → adopted.kind l ≡ Sealed
-    all_sealed l lt = put_other (put s.kind s.current Sealed) place.log Open l (λ e. omega arith)
-        ∙ put_both (λ k. k ≡ Sealed) s.kind s.current Sealed l (λ _. refl) (λ ne. tidy.sealed l (below ne order)) where
-          below : l ≢ s.current → (place.log ≡ s.current) ⊎ (place.log ≡ s.current + 1) → l < s.current
-          below ne (inl e) = omega arith
-          below ne (inr e) = omega arith
-
-    -- logs behind it are free
-    all_free : (l : ℕ) → place.log < l → adopted.kind l ≡ Free
-    all_free l lt = put_other (put s.kind s.current Sealed) place.log Open l (λ e. omega arith)
-        ∙ put_other s.kind s.current Sealed l (λ e. behind_all order e) ∙ tidy.free l (behind order) where
-          behind : (place.log ≡ s.current) ⊎ (place.log ≡ s.current + 1) → s.current < l
-          behind (inl e) = omega arith
-          behind (inr e) = omega arith
-
-          behind_all : (place.log ≡ s.current) ⊎ (place.log ≡ s.current + 1) → l ≢ s.current
-          behind_all (inl e) f = omega arith
-          behind_all (inr e) f = omega arith
-
-    -- the new span is live
-    live_new : (a : ℕ) (h : HeadWord) → a ≡ addr place → head_of (word a) ≡ Some h → names_place (read_of (adopted.cell h.pointer)) (a / LOG_WORDS) (a % LOG_WORDS) ≡ true
-    live_new a h e head =
-        let back : head_of (head_word p len ds) ≡ Some (header p len ds) = head_back (header p len ds) (record { some = some; most = most; structure = structure; cell = omega (arith, in_range, law.shape.few_mutators) }) in
-        let both : Some h ≡ Some (header p len ds) = sym head ∙ ap (λ b. head_of (word b)) e ∙ ap head_of head_is ∙ back in
-        let same : h ≡ header p len ds = cc in
-        let pointer_is : h.pointer ≡ p = ap (λ (x : HeadWord). x.pointer) same in
-        let reads : read_of (adopted.cell h.pointer) ≡ Some (Near len ds place no_marks) = ap read_of (put_same s.cell p new h.pointer pointer_is) ∙ says in
-        let l : place.log ≡ a / LOG_WORDS = omega arith in
-        let i : place.at ≡ a % LOG_WORDS = omega arith in
-        rw (reads, eq-eqb place.log (a / LOG_WORDS) l, eq-eqb place.at (a % LOG_WORDS) i) refl
-
-    -- the others stay live
-    live_old : (a : ℕ) (h : HeadWord) → s.starts a ≡ true → head_of (word a) ≡ Some h → names_place (read_of (adopted.cell h.pointer)) (a / LOG_WORDS) (a % LOG_WORDS) ≡ true
-    live_old a h start head =
-        let old : names_place (read_of (s.cell h.pointer)) (a / LOG_WORDS) (a % LOG_WORDS) ≡ true = tidy.live a h start (sym (ap head_of (heads a start)) ∙ head) in
-        let apart : h.pointer ≢ p = (λ e. false≢true (sym (ap (λ q. names_place (read_of (s.cell q)) (a / LOG_WORDS) (a % LOG_WORDS)) e ∙ ap (λ o. names_place o (a / LOG_WORDS) (a % LOG_WORDS)) unread_cell) ∙ old)) in
-        ap (λ w. names_place (read_of w) (a / LOG_WORDS) (a % LOG_WORDS)) (put_other s.cell p new h.pointer apart) ∙ old
-
-    -- all are live
-    all_live : (a : ℕ) (h : HeadWord) → adopted.starts a ≡ true → head_of (word a) ≡ Some h → names_place (read_of (adopted.cell h.pointer)) (a / LOG_WORDS) (a % LOG_WORDS) ≡ true
-    all_live a h start head = elim (cases_eq a (addr place)) [
-      | inl e ↦ live_new a h e head
-      | inr ne ↦ live_old a h (sym (put_other s.starts (addr place) true a ne) ∙ start) head
-    ]
-
     -- they leave the heap tidy
     pub taking_tidy : Tidy adopted (put next m (next m + 1))
-    taking_tidy = record {
-      at_hand = all_at_hand;
-      most = all_most;
-      named = all_named;
-      unnamed = all_unnamed;
-      sealed = all_sealed;
-      free = all_free;
-      live = all_live;
-      unread = tidy.unread;
-    }
+    taking_tidy = record { at_hand = all_at_hand; unread = tidy.unread }
 
   -- the events of a new object
   abbrev row : List Event

@@ -17,11 +17,5 @@ opening_law logs mutators fits = begins (shape_of logs mutators) true fits
 pub opening_tidy : (logs mutators : ℕ) → is_shape (shape_of logs mutators) ≡ true → Tidy (first_moment logs mutators).core (λ _. 0)
 opening_tidy logs mutators fits = record {
   at_hand = λ p ne. absurd (ne refl);
-  most = λ m. omega arith;
-  named = λ m k lt. absurd (omega arith);
-  unnamed = λ m k le lt. refl;
-  sealed = λ l lt. absurd (omega arith);
-  free = λ l lt. put_other (λ _. Free) 0 Open l (λ e. omega arith);
-  live = λ a h start is. absurd (false≢true start);
   unread = λ m e. refl;
 }

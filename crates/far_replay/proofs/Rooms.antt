@@ -8,7 +8,7 @@ use Rattle.far_core.specs.declared.event.Kind.TheVariants.{Free, Open}
 use Rattle.far_core.specs.state.Law.{Law}
 use Rattle.far_core.specs.state.Room.{is_free, free_logs, lowest, room}
 use Rattle.far_core.specs.state.State.{State}
-use Rattle.far_replay.specs.Tidy.{Tidy}
+use Rattle.far_replay.specs.Tidy.{InOrder}
 
 -- of numbers in a row, those that pass a test that fails up to one and passes from there on
 pub filter_behind : (f : ℕ → Bool) (a n k : ℕ) → k ≤ n → ((i : ℕ) → i < k → f (a + i) ≡ false) → ((i : ℕ) → k ≤ i → i < n → f (a + i) ≡ true) →
@@ -40,7 +40,7 @@ lowest_row a zero = refl
 lowest_row a (suc zero) = refl
 lowest_row a (suc (suc n)) = let more : nat_lt 1 (suc (suc n)) ≡ true = lt-ltb 1 (suc (suc n)) (omega arith) in rw more refl
 
-module _ (s : State) (next : ℕ → ℕ) (law : Law s) (tidy : Tidy s next) where
+module _ (s : State) (next : ℕ → ℕ) (law : Law s) (tidy : InOrder s next) where
   -- a log up to the open one is taken
   taken_log : (l : ℕ) → l ≤ s.current → is_free (s.kind l) ≡ false
   taken_log l le = elim (cases_lt l s.current) [
@@ -70,7 +70,7 @@ module _ (s : State) (next : ℕ → ℕ) (law : Law s) (tidy : Tidy s next) whe
   ]
 
 -- a span goes to the tail of the open log if it fits there, else to the start of the next log, if that isn't the last
-pub room_is : (s : State) (next : ℕ → ℕ) (size : ℕ) → Law s → Tidy s next →
+pub room_is : (s : State) (next : ℕ → ℕ) (size : ℕ) → Law s → InOrder s next →
     room s size true ≡ cond (nat_le (s.tail s.current + size) LOG_WORDS) (Some record { log = s.current; at = s.tail s.current })
     (cond (nat_lt (s.current + 2) s.logs) (Some record { log = s.current + 1; at = 0 }) None)
 room_is s next size law tidy = ap (λ (o : Option Place). cond (nat_le (s.tail s.current + size) LOG_WORDS) (Some record { log = s.current; at = s.tail s.current }) o)

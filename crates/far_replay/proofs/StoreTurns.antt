@@ -26,12 +26,6 @@ use Rattle.far_core.proofs.Rows.{row_none, row_first}
 pub tidy_words : (s : State) (next : ℕ → ℕ) (word : ℕ → ℕ) → Tidy s next → ((a : ℕ) → s.starts a ≡ true → word a ≡ s.word a) → Tidy record s { word = word } next
 tidy_words s next word tidy same = record {
   at_hand = λ p ne. let h = tidy.at_hand p ne in record { len = h.len; ds = h.ds; place = h.place; marks = h.marks; near = h.near; unchosen = h.unchosen; unmoved = h.unmoved; kept = h.kept; used = h.used };
-  most = tidy.most;
-  named = tidy.named;
-  unnamed = tidy.unnamed;
-  sealed = tidy.sealed;
-  free = tidy.free;
-  live = λ a h start head. tidy.live a h start (sym (ap head_of (same a start)) ∙ head);
   unread = tidy.unread;
 }
 

@@ -22,7 +22,11 @@ use Rattle.far_core.specs.state.Law.{Law}
 use Rattle.far_core.specs.state.Room.{room}
 use Rattle.far_core.specs.state.State.{State, put}
 use Rattle.far_core.specs.events.Step.{Fits, is_legal, is_opened, data_len, near_data, after_close, scope_word_of}
+use Rattle.far_core.specs.laws.Rooms.{IsRoom, RoomIs}
+use Rattle.far_core.proofs.Bounds.{some_of}
 use Rattle.far_core.proofs.KeepPlace.{header}
+use Rattle.far_core.proofs.NewSpans.{at_tail}
+use Rattle.far_core.proofs.RoomLaws.{room_right}
 use Rattle.far_core.proofs.Owing.{is_test}
 use Rattle.far_core.proofs.Put.{put_both, put_same, put_other}
 use Rattle.far_replay.specs.Moment.{moment_of}
@@ -37,10 +41,9 @@ use Rattle.far_replay.specs.Effects.{with_row, with_object, with_view, with_data
 use Rattle.far_replay.specs.Turn.{turn_effect, effect, with_new, access_causes, first_cause, refusal, unless}
 use Rattle.far_replay.specs.Written.{WritesBytes}
 use Rattle.far_replay.proofs.LoadWords.{loads_stay, load_legal, loads_succeed}
-use Rattle.far_replay.proofs.Lowest.{lowest_is}
+use Rattle.far_replay.proofs.Lowest.{lowest_found}
 use Rattle.far_replay.proofs.MadeLemmas.{made-append, AllSucceed-append, made_first, first_succeeds, made_law, load_stays}
 use Rattle.far_replay.proofs.NewTurns.{new_succeeds, new_tidy, new_end}
-use Rattle.far_replay.proofs.Rooms.{room_is, current_inside}
 use Rattle.far_replay.proofs.Each.{Each, Each-append, Each-row}
 use Rattle.far_replay.proofs.Spliced.{AreBytes, spliced_bytes, length-spliced, packed_padded, packed_wide}
 use Rattle.far_replay.proofs.StoreTurns.{stores_go, stores_end}
@@ -265,30 +268,21 @@ pub record NewRoom (s : State) (size : ℕ) (place : Place) : Type 0 where
   pub fits : place.at + size ≤ LOG_WORDS
   pub here : place.at ≡ s.tail place.log
   pub stands : ((s.kind place.log ≡ kinds.Open) × (place.at ≡ s.tail place.log)) ⊎ ((s.kind place.log ≡ kinds.Free) × (place.at ≡ 0))
-  pub order : (place.log ≡ s.current) ⊎ (place.log ≡ s.current + 1)
 
 -- the room that is found is such a place
-pub new_room : (s : State) (next : ℕ → ℕ) (size : ℕ) → Law s → Tidy s next → size ≤ LOG_WORDS → is_some (room s size true) ≡ true → (place : Place) × (room s size true ≡ Some place) × NewRoom s size place
-new_room s next size law tidy short found =
-    subst (λ (o : Option Place). is_some o ≡ true → (place : Place) × (o ≡ Some place) × NewRoom s size place) (sym (room_is s next size law tidy))
-    (cond_both (nat_le (s.tail s.current + size) LOG_WORDS) _ _ (λ (o : Option Place). is_some o ≡ true → (place : Place) × (o ≡ Some place) × NewRoom s size place)
-    (λ t _. let at : Place = record { log = s.current; at = s.tail s.current } in
-    (at, refl, record { log = current_inside s next law tidy; fits = leb-true (s.tail s.current + size) LOG_WORDS t; here = refl; stands = inl (law.logs.is_open, refl); order = inl refl }))
-    (λ _. cond_both (nat_lt (s.current + 2) s.logs) _ _ (λ (o : Option Place). is_some o ≡ true → (place : Place) × (o ≡ Some place) × NewRoom s size place)
-    (λ t _. let lt : s.current + 2 < s.logs = ltb-true (s.current + 2) s.logs t in
-    let empty : s.kind (s.current + 1) ≡ kinds.Free = tidy.free (s.current + 1) (omega arith) in
-    let at : Place = record { log = s.current + 1; at = 0 } in
-    (at, refl, record { log = omega arith; fits = omega arith; here = sym (law.logs.free_tail (s.current + 1) empty); stands = inr (empty, refl); order = inr refl }))
-    (λ _ h. absurd (false≢true h))))
-    found
+pub new_room : (s : State) (size : ℕ) → Law s → size ≤ LOG_WORDS → is_some (room s size true) ≡ true → (place : Place) × (room s size true ≡ Some place) × NewRoom s size place
+new_room s size law short found =
+    let at = some_of (room s size true) found in
+    let right : IsRoom s size true at.0 = subst (RoomIs s size true) at.1 (room_right s law size true short) in
+    (at.0, at.1, record { log = right.next.0; fits = right.fits; here = at_tail s law at.0 right.next; stands = right.next.1 })
 
--- the cell that is found is the next one
-pub new_cell : (s : State) (next : ℕ → ℕ) (m : ℕ) → Tidy s next → is_some (lowest_cell s m) ≡ true → (next m < CELLS) × (lowest_cell s m ≡ Some (m * CELLS + next m))
-new_cell s next m tidy found =
-    subst (λ (o : Option ℕ). is_some o ≡ true → (next m < CELLS) × (o ≡ Some (m * CELLS + next m))) (sym (lowest_is s next m tidy))
-    (cond_both (nat_lt (next m) CELLS) _ _ (λ (o : Option ℕ). is_some o ≡ true → (next m < CELLS) × (o ≡ Some (m * CELLS + next m)))
-    (λ t _. (ltb-true (next m) CELLS t, refl)) (λ _ h. absurd (false≢true h)))
-    found
+-- the cell that is found is the owner's, and free
+pub new_cell : (s : State) (m : ℕ) → is_some (lowest_cell s m) ≡ true → (p : ℕ) × (lowest_cell s m ≡ Some p) × (p / CELLS ≡ m) × (s.cell p ≡ 0)
+unfolding lowest_cell
+new_cell s m found =
+    let at = some_of (lowest_cell s m) found in
+    let free = lowest_found s.cell (m * CELLS) CELLS at.0 at.1 in
+    (at.0, at.1, omega (arith, free.0, free.1), free.2)
 
 -- no marks
 abbrev clean : Marks
@@ -312,29 +306,29 @@ new_turned : (s : State) (next : ℕ → ℕ) (m len ds : ℕ) → Law s → Tid
 new_turned s next m len ds law tidy e =
     let h = four (nat_lt m s.mutators && nat_lt ds 256) (nat_lt 0 len && nat_le len LONGEST) (is_some (lowest_cell s m)) (is_some (room s (size_of len) true)) Range Length NoPointer NoRoom e in
     let sizes = new_sizes m s.mutators len ds h.0 h.1 in
-    let cell = new_cell s next m tidy h.2 in
-    let found = new_room s next (size_of len) law tidy (omega (arith, sizes.3)) h.3 in
-    let p : ℕ = m * CELLS + next m in
+    let cell = new_cell s m h.2 in
+    let found = new_room s (size_of len) law (omega (arith, sizes.3)) h.3 in
+    let p : ℕ = cell.0 in
     let new : ℕ = new_word len ds found.0 in
-    let row : List Event = (Puts found.0.log found.0.at (head_word (m * CELLS + next m) len ds) ∷ zero_puts found.0 (words_for len)) ++ Names (m * CELLS + next m) 0 (new_word len ds found.0) ∷ Adopts m (m * CELLS + next m) ∷ [] in
+    let row : List Event = (Puts found.0.log found.0.at (head_word p len ds) ∷ zero_puts found.0 (words_for len)) ++ Names p 0 (new_word len ds found.0) ∷ Adopts m p ∷ [] in
     let same : new_events m len ds (lowest_cell s m) (room s (size_of len) true) ≡ row =
-    ap (λ o. new_events m len ds o (room s (size_of len) true)) cell.1 ∙ ap (new_events m len ds (Some (m * CELLS + next m))) found.1 in
+    ap (λ o. new_events m len ds o (room s (size_of len) true)) cell.1 ∙ ap (new_events m len ds (Some p)) found.1 in
     let lies : IsPtr (Near len ds found.0 clean) = (sizes.2, sizes.3, sizes.1, omega (arith, found.2.log, law.shape.few_logs), found.2.fits) in
     let reads : read_of new ≡ Some (Near len ds found.0 clean) = read_back (Near len ds found.0 clean) lies in
-    let within : m * CELLS + next m < CELLS * s.mutators = omega (arith, sizes.0, cell.0) in
-    let fit : Each Fits row = Each-append Fits (Puts found.0.log found.0.at (head_word (m * CELLS + next m) len ds) ∷ zero_puts found.0 (words_for len)) (Names (m * CELLS + next m) 0 (new_word len ds found.0) ∷ Adopts m (m * CELLS + next m) ∷ []) (
-      head_fits (header (m * CELLS + next m) len ds) (record { some = sizes.2; most = sizes.3; structure = sizes.1; cell = omega (arith, law.shape.few_mutators) }),
+    let within : p < CELLS * s.mutators = omega (arith, sizes.0, cell.2) in
+    let fit : Each Fits row = Each-append Fits (Puts found.0.log found.0.at (head_word p len ds) ∷ zero_puts found.0 (words_for len)) (Names p 0 (new_word len ds found.0) ∷ Adopts m p ∷ []) (
+      head_fits (header p len ds) (record { some = sizes.2; most = sizes.3; structure = sizes.1; cell = omega (arith, law.shape.few_mutators) }),
       Each-row Fits (λ i. Puts found.0.log (found.0.at + 1 + i) 0) 0 (words_for len) (λ i lt. omega arith),
     )
     ((omega arith, word_fits (Near len ds found.0 clean) lies), (tt, tt)) in
     let result : with_new s len ds (lowest_cell s m) (room s (size_of len) true) ≡ with_object s p len ds found.0 =
-    ap (λ o. with_new s len ds o (room s (size_of len) true)) cell.1 ∙ ap (with_new s len ds (Some (m * CELLS + next m))) found.1 in
+    ap (λ o. with_new s len ds o (room s (size_of len) true)) cell.1 ∙ ap (with_new s len ds (Some p)) found.1 in
     subst (λ (x : List Event × State). Turned s (put next m (next m + 1)) x.0 x.1) (λ i. (sym same i, sym result i)) record {
-      succeed = new_succeeds s next law tidy m p len ds new found.0 sizes.0 cell.0 refl sizes.2 sizes.3 sizes.1 found.2.log found.2.fits found.2.here found.2.stands found.2.order reads;
-      tidy = new_tidy s next law tidy m p len ds new found.0 sizes.0 cell.0 refl sizes.2 sizes.3 sizes.1 found.2.log found.2.fits found.2.here found.2.stands found.2.order reads;
+      succeed = new_succeeds s next law tidy m p len ds new found.0 sizes.0 cell.2 cell.3 sizes.2 sizes.3 sizes.1 found.2.log found.2.fits found.2.here found.2.stands reads;
+      tidy = new_tidy s next law tidy m p len ds new found.0 sizes.0 cell.2 cell.3 sizes.2 sizes.3 sizes.1 found.2.log found.2.fits found.2.here found.2.stands reads;
       law = made_law s row law fit;
       fit = fit;
-      ends = new_end s next law tidy m p len ds new found.0 sizes.0 cell.0 refl sizes.2 sizes.3 sizes.1 found.2.log found.2.fits found.2.here found.2.stands found.2.order reads;
+      ends = new_end s next law tidy m p len ds new found.0 sizes.0 cell.2 cell.3 sizes.2 sizes.3 sizes.1 found.2.log found.2.fits found.2.here found.2.stands reads;
     }
 
 -- ---- scopes
@@ -359,12 +353,6 @@ tidy_scopes : (s : State) (next : ℕ → ℕ) (scope : ℕ → ℕ) (remembered
     Tidy record s { scope = scope; remembered = remembered; held = held } next
 tidy_scopes s next scope remembered held tidy unread = record {
   at_hand = same_hands s (record s { scope = scope; remembered = remembered; held = held }) refl refl tidy.at_hand;
-  most = tidy.most;
-  named = tidy.named;
-  unnamed = tidy.unnamed;
-  sealed = tidy.sealed;
-  free = tidy.free;
-  live = tidy.live;
   unread = unread;
 }
 

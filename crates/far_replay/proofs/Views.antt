@@ -185,18 +185,6 @@ module _ (s : State) (next : ℕ → ℕ) (m p : ℕ) (law : Law s) (tidy : Tidy
   pub viewed : Viewed s (after_events s (view_events s m p)) m p
   viewed = at_view (λ t. Viewed s t m p) old_viewed pin_viewed
 
-  -- a pin leaves cells that are 0 and cells that aren't
-  pin_named : (q : ℕ) → s.cell q ≢ 0 → (after_pin s p).cell q ≢ 0
-  pin_named q some = put_both (λ w. w ≢ 0) s.cell p (bit_or (s.cell p) (2 ^ position Hot)) q
-      (λ _ z. absurd (hot_some z)) (λ _. some) where
-        hot_some : bit_or (s.cell p) (2 ^ position Hot) ≢ 0
-        hot_some z = let odd : Some (Near ready.len ready.ds ready.place (marks_with Hot ready.marks)) ≡ Some pointer.Free = sym (hot_read s law p used ∙ ap (map_mark Hot) ready.near) ∙ ap read_of z ∙ unused in cc
-
-  -- and cells that are 0
-  pin_unnamed : (q : ℕ) → s.cell q ≡ 0 → (after_pin s p).cell q ≡ 0
-  pin_unnamed q none = put_both (λ w. w ≡ 0) s.cell p (bit_or (s.cell p) (2 ^ position Hot)) q
-      (λ e. absurd (nonzero s law p used (ap s.cell (sym e) ∙ none))) (λ _. none)
-
   -- a pin leaves at hand what was
   pin_hand : (q : ℕ) → (after_pin s p).cell q ≢ 0 → AtHand (after_pin s p) q
   pin_hand q some = put_both (λ w. w ≢ 0 → AtHand (after_pin s p) q) s.cell p (bit_or (s.cell p) (2 ^ position Hot)) q
@@ -213,13 +201,6 @@ module _ (s : State) (next : ℕ → ℕ) (m p : ℕ) (law : Law s) (tidy : Tidy
   pin_tidy : Tidy (after_pin s p) next
   pin_tidy = record {
     at_hand = pin_hand;
-    most = tidy.most;
-    named = λ k i lt. pin_named (k * CELLS + i) (tidy.named k i lt);
-    unnamed = λ k i low lt. pin_unnamed (k * CELLS + i) (tidy.unnamed k i low lt);
-    sealed = tidy.sealed;
-    free = tidy.free;
-    live = λ a h start head. at_cell s law p used (λ o. names_place o (a / LOG_WORDS) (a % LOG_WORDS) ≡ true) h.pointer
-        (λ k. names_place-hot (read_of (s.cell h.pointer)) (a / LOG_WORDS) (a % LOG_WORDS) ∙ k) (tidy.live a h start head);
     unread = tidy.unread;
   }
 

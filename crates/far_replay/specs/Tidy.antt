@@ -10,9 +10,13 @@ use Rattle.far_core.specs.state.Spans.{names_place}
 use Rattle.far_core.specs.state.State.{State}
 use Rattle.far_replay.specs.EventRows.{AllAtHand}
 
--- next m is how many cells of the mutator m are named: its first ones
+-- each pointer that is named is at hand, and no closed owner remembers an epoch
 pub record Tidy (s : State) (next : ℕ → ℕ) : Type 0 where
   pub at_hand : AllAtHand s
+  pub unread : (m : ℕ) → s.scope m ≡ 0 → s.remembered m ≡ None
+
+-- next m is how many cells of the mutator m are named: its first ones. A drop ends this
+pub record InOrder (s : State) (next : ℕ → ℕ) : Type 0 where
   pub most : (m : ℕ) → next m ≤ CELLS
   pub named : (m k : ℕ) → k < next m → s.cell (m * CELLS + k) ≢ 0
   pub unnamed : (m k : ℕ) → next m ≤ k → k < CELLS → s.cell (m * CELLS + k) ≡ 0
@@ -20,4 +24,3 @@ pub record Tidy (s : State) (next : ℕ → ℕ) : Type 0 where
   pub free : (l : ℕ) → s.current < l → s.kind l ≡ Free
   pub live : (a : ℕ) (h : HeadWord) → s.starts a ≡ true → head_of (s.word a) ≡ Some h →
       names_place (read_of (s.cell h.pointer)) (a / LOG_WORDS) (a % LOG_WORDS) ≡ true
-  pub unread : (m : ℕ) → s.scope m ≡ 0 → s.remembered m ≡ None
