@@ -9,6 +9,7 @@ pub mod AloneViews
 pub mod Answering
 pub mod Cuts
 pub mod Determined
+pub mod Drops
 pub mod Each
 pub mod Fronts
 pub mod HexAtLemmas

@@ -1,12 +1,12 @@
 -- The replies to one mutator's lines, by its own lines alone.
 use Rattle.std.specs.Prelude.{◌≡◌, ℕ, ◌+◌, ◌/◌, ◌<◌, ◌≤◌, ◌⊎◌, Bool, true, false, cond, ◌==◌, ◌&&◌, Option, Some, None, List, [], ◌∷◌, length, replicate, slice_range}
 use Rattle.std.specs.Bool.{MatchBool}
-use Rattle.far_word.specs.declared.refused.Refused.TheVariants.{NoRoom, NoPointer, Length, Closed, AlreadyOpen, NotHeld, Range}
+use Rattle.far_word.specs.declared.refused.Refused.TheVariants.{NoRoom, NoPointer, Length, Closed, AlreadyOpen, NotHeld, Range, Held}
 use Rattle.far_word.specs.declared.sizes.TheConstants.{CELLS, LONGEST}
 use Rattle.far_core.specs.state.State.{State, put}
 use Rattle.far_core.specs.world.World.{World, Object}
 use Rattle.far_core.specs.world.WorldOf.{world_of}
-use Rattle.far_replay.specs.Command.{Command, New, Open, Write, Read, Close, Where, Mutator, Book}
+use Rattle.far_replay.specs.Command.{Command, New, Open, Write, Read, Close, Where, Drop, Mutator, Book}
 use Rattle.far_replay.specs.Reply.{Reply, Done, Pointer, Data, Lies, Refused}
 use Rattle.far_replay.specs.Objects.{spliced}
 
@@ -53,6 +53,9 @@ Knows m o (Mutator _ (Write p from new)) (Refused NotHeld) q = (o.opened ≡ tru
 Knows m o (Mutator _ (Write p from new)) (Refused Range) q = (o.opened ≡ true) × (q ≡ o) × ((all : List ℕ) × (o.object p ≡ Some all) × IsOut all from (length new))
 Knows m o (Mutator _ (Where p)) (Lies home) q = (q ≡ o) × ((all : List ℕ) × (o.object p ≡ Some all))
 Knows m o (Mutator _ (Where p)) (Refused NotHeld) q = (o.object p ≡ None) × (q ≡ o)
+Knows m o (Mutator _ (Drop p)) Done q = (o.viewed p ≡ false) × (q ≡ record o { object = put o.object p None }) × ((all : List ℕ) × (o.object p ≡ Some all))
+Knows m o (Mutator _ (Drop p)) (Refused NotHeld) q = (o.object p ≡ None) × (q ≡ o)
+Knows m o (Mutator _ (Drop p)) (Refused Held) q = (o.viewed p ≡ true) × (q ≡ o) × ((all : List ℕ) × (o.object p ≡ Some all))
 Knows m o _ _ q = ⊥
 
 -- whose command it is, none's for the logs

@@ -15,7 +15,7 @@ ghost use Rattle.far_replay.specs.Command.{said, said_request};
 ghost use Rattle.far_replay.specs.Interpreter.{refused_in, IsAccess, IsViewed, IsNew, StandsFor, next_after, next_of};
 ghost use Rattle.far_replay.specs.HexWord.{hex_bytes as spelled};
 ghost use Rattle.far_replay.specs.EventRows.{after_events, AtHand};
-ghost use Rattle.far_replay.specs.Command.{Mutator, Book, New, Open, Write, Read, Close, Where, Logs, Log, Audit};
+ghost use Rattle.far_replay.specs.Command.{Mutator, Book, New, Open, Write, Read, Close, Where, Drop, Logs, Log, Audit};
 ghost use Rattle.far_replay.specs.Outcome.{reply_by, IsInRoom};
 ghost use Rattle.far_replay.specs.Reply.{IsShort};
 ghost use Rattle.far_replay.specs.Tidy.{Tidy};
@@ -25,6 +25,7 @@ ghost use Rattle.far_replay.specs.Moment.{moment_of};
 ghost use Rattle.far_replay.specs.Turn.{effect, access_causes, first_cause, reply_to, turn_reply, refusal, log_line};
 
 use crate::command::{Command, Inquiry, Request};
+use crate::dropping::drop_object;
 use crate::events::{make_new, open, view};
 use crate::hex_word::HexWord;
 use crate::inquiries::{audit, find_object, tell_log};
@@ -503,6 +504,7 @@ fn make_request(
         }
         Request::Close => close_scope(core, owner),
         Request::Where { pointer } => find_object(core, owner, pointer),
+        Request::Drop { pointer } => drop_object(core, owner, pointer),
     }
 }
 
