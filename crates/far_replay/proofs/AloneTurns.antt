@@ -149,7 +149,7 @@ tells_home : (s : State) (k p : ℕ) → Law s → AllAtHand s → uses s k p �
 tells_home s k p law hand used =
     let here = hand p (nonzero s law p (and_parts (nat_eq (p / CELLS) k) (s.used p) used).1) in
     subst (λ (o : Option PtrWord). Knows k (own_of (world_of s) k) (Mutator k (Where p)) (home_reply (home_of o)) (own_of (world_of s) k)) (sym here.near)
-    (refl, (data_of s p, own_used s law hand k p used))
+    (refl, (λ _. tt), (data_of s p, own_used s law hand k p used))
 
 pub turns_where : (s : State) (k p : ℕ) → Law s → AllAtHand s → Turns s k (Mutator k (Where p)) (refusal (moment_of s) (Mutator k (Where p)))
 turns_where s k p law hand = two_causes (Turns s k (Mutator k (Where p))) (not (nat_lt k s.mutators)) (not (uses s k p)) Range NotHeld

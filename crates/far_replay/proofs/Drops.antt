@@ -1,6 +1,5 @@
 -- A drop: its owner asks, and the cell is retired. Its events succeed and keep the law, its object is gone, and its span is dead.
-use Rattle.std.proofs.Common.{◌≡◌, ◌≢◌, ℕ, ◌+◌, ◌*◌, ◌/◌, ◌^◌, ◌<◌, ◌≤◌, Bool, true, false, cond, not, nat_lt, nat_eq, sym, refl, ap, subst, ◌∙◌, arith, bit_or, is_some, Option, Some, None, List, [], ◌∷◌, inl, inr}
-use Rattle.std.specs.Prelude.{◌↔◌, ◌&&◌}
+use Rattle.std.proofs.Common.{◌≡◌, ◌≢◌, ℕ, ◌+◌, ◌*◌, ◌/◌, ◌^◌, ◌<◌, Bool, true, false, cond, not, nat_lt, nat_eq, sym, refl, ap, subst, ◌∙◌, arith, bit_or, is_some, Option, Some, None, List, [], ◌∷◌, inl, inr}
 use Rattle.std.proofs.lemmas.Bool.{and_parts, cond_both, cases_eq, eq-eqb, eqb-true, ne_eqb, lt-ltb, false≢true}
 use mathlib.Core.Path.{fun_ext}
 use Rattle.far_word.specs.declared.mark.Mark.TheVariants.{Dropped}
@@ -9,7 +8,7 @@ use Rattle.far_word.specs.declared.pointer.Place.{Place}
 use Rattle.far_word.specs.declared.pointer.PtrWord.{PtrWord}
 use Rattle.far_word.specs.declared.pointer.PtrWord.TheVariants.{Free, Near, Far}
 use Rattle.far_word.specs.declared.refused.Refused.TheVariants.{NotHeld, Range, Held}
-use Rattle.far_word.specs.declared.sizes.TheConstants.{CELLS, LOG_WORDS}
+use Rattle.far_word.specs.declared.sizes.TheConstants.{CELLS}
 use Rattle.far_word.specs.Mark.{position, marks_with}
 use Rattle.far_word.specs.Pointer.{read_of}
 use Rattle.far_word.specs.Sizes.{bytes_taken}
@@ -43,7 +42,7 @@ use Rattle.far_replay.specs.Alone.{own_of, bytes_in_world}
 use Rattle.far_replay.specs.Answers.{Commanded}
 use Rattle.far_replay.specs.Command.{Drop, Mutator}
 use Rattle.far_replay.specs.Effects.{without_object}
-use Rattle.far_replay.specs.EventRows.{after_events, Succeeds, AllSucceed, AtHand, AllAtHand}
+use Rattle.far_replay.specs.EventRows.{after_events, Succeeds, AllSucceed, AllAtHand}
 use Rattle.far_replay.specs.Events.{drop_events}
 use Rattle.far_replay.specs.Headline.{EndsObject}
 use Rattle.far_replay.specs.Moment.{Moment}

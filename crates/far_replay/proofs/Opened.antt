@@ -1,11 +1,8 @@
 -- What holds of the first state.
-use Rattle.std.proofs.Common.{◌≡◌, ℕ, true, arith, refl}
-use Rattle.std.proofs.lemmas.Bool.{false≢true}
-use Rattle.far_core.specs.declared.event.Kind.TheVariants.{Free, Open}
+use Rattle.std.proofs.Common.{◌≡◌, ℕ, true, refl}
 use Rattle.far_core.specs.state.Law.{Law}
 use Rattle.far_core.specs.state.Shape.{is_shape}
 use Rattle.far_core.proofs.Begins.{begins}
-use Rattle.far_core.proofs.Put.{put_other}
 use Rattle.far_replay.specs.Answers.{shape_of, first_moment}
 use Rattle.far_replay.specs.Tidy.{Tidy}
 
