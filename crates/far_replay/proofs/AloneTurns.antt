@@ -1,9 +1,9 @@
 -- What each command's reply tells its mutator, and that it changes nothing of what others know.
 use Rattle.std.proofs.Common.{◌≡◌, ◌≢◌, ℕ, ◌+◌, ◌/◌, ◌<◌, ◌≤◌, Bool, true, false, cond, nat_eq, nat_lt, sym, refl, ap, subst, ◌∙◌, Option, Some, None, List, [], ◌∷◌, ◌++◌, length}
-use Rattle.std.specs.Prelude.{not, ◌⊎◌, is_some}
-use Rattle.std.proofs.lemmas.Bool.{and_parts, cond_both, eqb-true, not-true, not-false}
+use Rattle.std.specs.Prelude.{not, ◌⊎◌, ◌&&◌, is_some}
+use Rattle.std.proofs.lemmas.Bool.{and_parts, cond_both, eqb-true, eq-eqb, ltb-true, not-true, not-false}
 use Rattle.far_word.specs.declared.refused.Refused.{Refused as Refusal}
-use Rattle.far_word.specs.declared.refused.Refused.TheVariants.{Closed, AlreadyOpen, NotHeld, Range}
+use Rattle.far_word.specs.declared.refused.Refused.TheVariants.{Closed, AlreadyOpen, NotHeld, Range, Held}
 use Rattle.far_word.specs.declared.sizes.TheConstants.{CELLS}
 use Rattle.far_word.specs.Pointer.{read_of}
 use Rattle.far_word.specs.declared.pointer.PtrWord.{PtrWord}
@@ -19,7 +19,7 @@ use Rattle.far_core.specs.world.WorldOf.{world_of}
 use Rattle.far_core.specs.world.Steps.{with_bytes}
 use Rattle.far_replay.specs.Moment.{moment_of}
 use Rattle.far_replay.specs.Alone.{Knows, own_of, IsOut, IsIn}
-use Rattle.far_replay.specs.Command.{Command, Open, Write, Read, Close, Where, Mutator}
+use Rattle.far_replay.specs.Command.{Command, Open, Write, Read, Close, Where, Drop, Mutator}
 use Rattle.far_replay.specs.EventRows.{after_events, AllSucceed, AllAtHand}
 use Rattle.far_replay.specs.Reply.{Reply, Done, Refused}
 use Rattle.far_replay.specs.Events.{turn_events, open_events, view_events, part_events, load_events, store_events, starts_inside, ends_inside, first_word, words_touched}
@@ -28,7 +28,9 @@ use Rattle.far_replay.specs.Turn.{refusal, first_cause, unless, turn_reply, home
 use Rattle.far_replay.specs.Headline.{ViewsObject, ViewsNothing}
 use Rattle.far_replay.proofs.AloneViews.{views_still, views_mine, views_others, views_gone, views_left}
 use Rattle.far_replay.proofs.ViewLaws.{views_after}
+use Rattle.far_replay.specs.Effects.{without_object}
 use Rattle.far_replay.proofs.AloneBytes.{over_spliced}
+use Rattle.far_replay.proofs.Drops.{drop_ends, drop_is, drop_world, own_gone, own_left, unheld_is}
 use Rattle.far_replay.proofs.Each.{Each-append, Each-row}
 use Rattle.far_replay.proofs.MadeLemmas.{made-append, AllSucceed-parts, Carries}
 use Rattle.far_replay.proofs.Spliced.{AreBytes, packed_wide, spliced_bytes}
@@ -49,6 +51,13 @@ pub two_causes : (P : Option Refusal → Type 0) (a b : Bool) (x y : Refusal) �
 two_causes P true b x y h k l = h refl
 two_causes P false true x y h k l = k refl refl
 two_causes P false false x y h k l = l refl refl
+
+pub three_causes : (P : Option Refusal → Type 0) (a b c : Bool) (x y z : Refusal) → (a ≡ true → P (Some x)) → (a ≡ false → b ≡ true → P (Some y)) → (a ≡ false → b ≡ false → c ≡ true → P (Some z)) →
+    (a ≡ false → b ≡ false → c ≡ false → P None) → P (first_cause ((a, x) ∷ (b, y) ∷ (c, z) ∷ []))
+three_causes P true b c x y z h k l m = h refl
+three_causes P false true c x y z h k l m = k refl refl
+three_causes P false false true x y z h k l m = l refl refl refl
+three_causes P false false false x y z h k l m = m refl refl refl
 
 pub four_causes : (P : Option Refusal → Type 0) (a b c d : Bool) (x y z w : Refusal) → (a ≡ true → P (Some x)) → (a ≡ false → b ≡ true → P (Some y)) →
     (a ≡ false → b ≡ false → c ≡ true → P (Some z)) → (a ≡ false → b ≡ false → c ≡ false → d ≡ true → P (Some w)) → (a ≡ false → b ≡ false → c ≡ false → d ≡ false → P None) →
@@ -140,13 +149,51 @@ tells_home : (s : State) (k p : ℕ) → Law s → AllAtHand s → uses s k p �
 tells_home s k p law hand used =
     let here = hand p (nonzero s law p (and_parts (nat_eq (p / CELLS) k) (s.used p) used).1) in
     subst (λ (o : Option PtrWord). Knows k (own_of (world_of s) k) (Mutator k (Where p)) (home_reply (home_of o)) (own_of (world_of s) k)) (sym here.near)
-    (refl, (data_of s p, own_used s law hand k p used))
+    (refl, (λ _. tt), (data_of s p, own_used s law hand k p used))
 
 pub turns_where : (s : State) (k p : ℕ) → Law s → AllAtHand s → Turns s k (Mutator k (Where p)) (refusal (moment_of s) (Mutator k (Where p)))
 turns_where s k p law hand = two_causes (Turns s k (Mutator k (Where p))) (not (nat_lt k s.mutators)) (not (uses s k p)) Range NotHeld
     (λ off _. (λ within. absurd (outside k s.mutators within off), λ m ne. refl))
     (λ _ unused _. (λ within. (own_unused s law hand k p (not-true (uses s k p) unused), refl), λ m ne. refl))
     (λ _ used _. (λ within. tells_home s k p law hand (not-false (uses s k p) used), λ m ne. refl))
+
+-- ---- drops
+-- what the mutator knows of a view
+seen : (s : State) (k p : ℕ) (b : Bool) → p / CELLS ≡ k → is_some (s.held p) ≡ b → (own_of (world_of s) k).viewed p ≡ b
+unfolding world_of
+seen s k p b own e = ap (λ x. x && is_some (s.held p)) (eq-eqb (p / CELLS) k own) ∙ e
+
+-- a drop that isn't turned down
+drop_run : (s : State) (k p : ℕ) → Law s → AllAtHand s → k < s.mutators → uses s k p ≡ true → s.held p ≡ None → (t : State) → t ≡ without_object s k p →
+    Teaches s k (Mutator k (Drop p)) Done t
+drop_run s k p law hand inside used unheld t is =
+    let mine : p / CELLS ≡ k = owned s k p used in
+    let world : world_of t ≡ record (world_of s) { object = put (world_of s).object p None; marked = put (world_of s).marked p false } = ap world_of is ∙ drop_world s k p law inside used unheld in
+    let objects : (world_of t).object ≡ put (world_of s).object p None = ap (λ (w : World). w.object) world in
+    let scopes : (world_of t).opened ≡ (world_of s).opened = ap (λ (w : World). w.opened) world in
+    let held : t.held ≡ s.held = ap (λ (x : State). x.held) (is ∙ drop_is s k p law inside used unheld) in (
+      λ within. (
+        seen s k p false mine (ap is_some unheld),
+        own_gone (world_of s) (world_of t) k p objects scopes (views_still s t k held),
+        (data_of s p, own_used s law hand k p used),
+      ),
+      λ m ne. own_left (world_of s) (world_of t) m p objects scopes (λ e. ne (sym mine ∙ e)) (views_still s t m held),
+    )
+
+-- the test of the first cause of a drop
+known : (k n : ℕ) → not (nat_lt k n) ≡ false → k < n
+known k n h = ltb-true k n (not-false (nat_lt k n) h)
+
+pub turns_drop : (s : State) (k p : ℕ) → Law s → AllAtHand s → Turns s k (Mutator k (Drop p)) (refusal (moment_of s) (Mutator k (Drop p)))
+turns_drop s k p law hand = three_causes (Turns s k (Mutator k (Drop p))) (not (nat_lt k s.mutators)) (not (uses s k p)) (is_some (s.held p)) Range NotHeld Held
+    (λ off _. (λ within. absurd (outside k s.mutators within off), λ m ne. refl))
+    (λ _ unused _. (λ within. (own_unused s law hand k p (not-true (uses s k p) unused), refl), λ m ne. refl))
+    (λ _ used viewed _. let ours = not-false (uses s k p) used in
+    (λ within. (seen s k p true (owned s k p ours) viewed, refl, (data_of s p, own_used s law hand k p ours)), λ m ne. refl))
+    (λ inside used free ok. let within : k < s.mutators = known k s.mutators inside in
+    let ours = not-false (uses s k p) used in
+    let unheld : s.held p ≡ None = unheld_is (s.held p) free in
+    drop_run s k p law hand within ours unheld (after_events s (turn_events (moment_of s) (Mutator k (Drop p)))) (drop_ends s k p law within ours unheld))
 
 -- ---- writes
 module _ (s : State) (k p from : ℕ) (bytes : List ℕ) (law : Law s) (hand : AllAtHand s) (small : AreBytes bytes) where

@@ -17,7 +17,7 @@ use Rattle.far_replay.specs.HexWord.{hex_bytes}
 use Rattle.far_replay.specs.Written.{WritesBytes}
 use Rattle.far_replay.specs.declared.command.Command.{Command as Spelled}
 use Rattle.far_replay.specs.declared.command.Command.TheVariants.{Mutator as SpelledMutator, Book as SpelledBook}
-use Rattle.far_replay.specs.declared.command.Request.TheVariants.{New as SpelledNew, Open as SpelledOpen, Write as SpelledWrite, Read as SpelledRead, Close as SpelledClose, Where as SpelledWhere}
+use Rattle.far_replay.specs.declared.command.Request.TheVariants.{New as SpelledNew, Open as SpelledOpen, Write as SpelledWrite, Read as SpelledRead, Close as SpelledClose, Where as SpelledWhere, Drop as SpelledDrop}
 use Rattle.far_replay.specs.Reply.{Reply, printed}
 use Rattle.far_replay.specs.Between.{Between}
 use Rattle.far_replay.specs.Turn.{effect, refusal, unless}
@@ -40,6 +40,7 @@ said_bytes (SpelledMutator m (SpelledWrite p from bytes)) = hex_are_bytes bytes.
 said_bytes (SpelledMutator m (SpelledRead p from len)) = tt
 said_bytes (SpelledMutator m SpelledClose) = tt
 said_bytes (SpelledMutator m (SpelledWhere p)) = tt
+said_bytes (SpelledMutator m (SpelledDrop p)) = tt
 said_bytes (SpelledBook inquiry) = tt
 
 -- the rest of a list begins with the element at its index

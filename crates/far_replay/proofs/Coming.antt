@@ -1,9 +1,9 @@
 -- What events are for comes to pass: a pin gives a view where its object is at hand, and the naming of a new object wins.
 use Rattle.std.proofs.Common.{◌≡◌, ◌≢◌, ℕ, ◌+◌, ◌/◌, true, cond, nat_eq, nat_lt, refl, sym, ap, subst, ◌∙◌, is_some, Option, Some, None, List, [], ◌∷◌, ◌++◌, length}
-use Rattle.std.proofs.lemmas.Bool.{and_parts, cond_both, eq-eqb}
+use Rattle.std.proofs.lemmas.Bool.{and_parts, cond_both, eq-eqb, ltb-true}
 use Rattle.far_word.specs.declared.pointer.Place.{Place}
 use Rattle.far_word.specs.declared.refused.Refused.{Refused as Refusal}
-use Rattle.far_word.specs.declared.refused.Refused.TheVariants.{Closed, NotHeld, Range}
+use Rattle.far_word.specs.declared.refused.Refused.TheVariants.{Closed, NotHeld, Range, Held}
 use Rattle.far_word.specs.declared.sizes.TheConstants.{CELLS}
 use Rattle.far_word.specs.Bytes.{packed_word}
 use Rattle.far_word.specs.Header.{head_word}
@@ -18,7 +18,7 @@ use Rattle.far_core.specs.state.Room.{room}
 use Rattle.far_core.specs.state.State.{State}
 use Rattle.far_core.specs.events.Step.{step_of, is_legal, is_opened, after, answer, pin_answer}
 use Rattle.far_core.proofs.KeepOwner.{nonzero}
-use Rattle.far_replay.specs.Command.{Command, New, Open, Write, Read, Close, Where, Mutator, Book}
+use Rattle.far_replay.specs.Command.{Command, New, Open, Write, Read, Close, Where, Drop, Mutator, Book}
 use Rattle.far_replay.specs.Effects.{new_word}
 use Rattle.far_replay.specs.EventRows.{after_events, ComesToPass, AllComeToPass, AtHand, AllAtHand}
 use Rattle.far_replay.specs.Events.{turn_events, zero_puts, new_events, view_events, load_events, store_events, first_loads, last_loads, part_events, first_word, words_touched, starts_inside, ends_inside}
@@ -27,9 +27,10 @@ use Rattle.far_replay.specs.Moment.{moment_of}
 use Rattle.far_replay.specs.Objects.{uses, object_len, data_of, spliced, lowest_cell, is_range}
 use Rattle.far_replay.specs.Turn.{access_causes, first_cause, refusal, unless}
 use Rattle.far_replay.proofs.AloneStates.{lowest_free}
+use Rattle.far_replay.proofs.Drops.{drop_comes, unheld_is}
 use Rattle.far_replay.proofs.Each.{Each, Each-append, Each-row}
 use Rattle.far_replay.proofs.MadeLemmas.{AllComeToPass-append}
-use Rattle.far_replay.proofs.Turns.{four}
+use Rattle.far_replay.proofs.Turns.{four, three}
 use Rattle.far_replay.proofs.Views.{ready_of, Ready-view}
 
 -- ---- events that any answer serves
@@ -113,6 +114,9 @@ all_come s (Mutator m (Read p from len)) None e law hand =
     AllComeToPass-append s view loaded (view_comes s m p (hand (is_named s m p from len law e))) (all_sure (after_events s view) loaded (loads m p (first_word from) (words_touched from len)))
 all_come s (Mutator m Close) None e law hand = (tt, tt)
 all_come s (Mutator m (Where p)) None e law hand = tt
+all_come s (Mutator m (Drop p)) None e law hand =
+    let h = three (nat_lt m s.mutators) (uses s m p) (is_some (s.held p)) Range NotHeld Held e in
+    drop_comes s m p law (ltb-true m s.mutators h.0) h.1 (unheld_is (s.held p) h.2)
 all_come s (Book inquiry) None e law hand = tt
 
 -- where all objects are at hand, so is that of a command
@@ -123,4 +127,5 @@ hand_for s (Mutator m (Write p from bytes)) hands = hands p
 hand_for s (Mutator m (Read p from len)) hands = hands p
 hand_for s (Mutator m Close) hands = tt
 hand_for s (Mutator m (Where p)) hands = tt
+hand_for s (Mutator m (Drop p)) hands = tt
 hand_for s (Book inquiry) hands = tt

@@ -11,6 +11,7 @@ pub mod Coming
 pub mod Counted
 pub mod Cuts
 pub mod Determined
+pub mod Drops
 pub mod Each
 pub mod Fronts
 pub mod HexAtLemmas

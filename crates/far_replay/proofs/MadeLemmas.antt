@@ -9,7 +9,7 @@ use Rattle.far_core.specs.state.Law.{Law}
 use Rattle.far_core.specs.state.State.{State}
 use Rattle.far_core.specs.events.Step.{step_of, is_legal, after, answer, Fits}
 use Rattle.far_core.proofs.Keeps.{step_keeps}
-use Rattle.far_replay.specs.EventRows.{after_events, Succeeds, AllSucceed, AllComeToPass}
+use Rattle.far_replay.specs.EventRows.{after_events, Succeeds, AllSucceed, ComesToPass, AllComeToPass}
 use Rattle.far_replay.proofs.Each.{Each}
 
 -- the state after two rows of events
@@ -61,6 +61,10 @@ made_first s e es h = ap (λ (x : State × Reply). after_events x.0 es) (legal_s
 -- a row succeeds that begins with a legal event, if its answer is what it is for, and the rest succeeds
 pub first_succeeds : (s : State) (e : Event) (es : List Event) → is_legal s e ≡ true → Succeeds e (answer s e) → AllSucceed (after s e) es → AllSucceed s (e ∷ es)
 first_succeeds s e es h here rest = subst (λ (x : State × Reply). Succeeds e x.1 × AllSucceed x.0 es) (sym (legal_step s e h)) (here, rest)
+
+-- and so what it is for comes to pass
+pub first_comes : (s : State) (e : Event) (es : List Event) → is_legal s e ≡ true → ComesToPass e (answer s e) → AllComeToPass (after s e) es → AllComeToPass s (e ∷ es)
+first_comes s e es h here rest = subst (λ (x : State × Reply). ComesToPass e x.1 × AllComeToPass x.0 es) (sym (legal_step s e h)) (here, rest)
 
 -- events keep the law
 pub made_law : (s : State) (es : List Event) → Law s → Each Fits es → Law (after_events s es)

@@ -23,7 +23,7 @@ use Rattle.far_core.proofs.Observations.{bytes_make_log}
 use Rattle.far_replay.specs.Moment.{Moment, moment_of}
 use Rattle.far_replay.specs.Alone.{Alone, Knows, Own}
 use Rattle.far_replay.specs.Answers.{Answered, Answers, Commanded, IsMoment, IsOutput, shape_of, first_moment}
-use Rattle.far_replay.specs.Command.{Command, Trace, Nothing, Heap, New, Open, Write, Read, Close, Where, Logs, Mutator, Book}
+use Rattle.far_replay.specs.Command.{Command, Trace, Nothing, Heap, New, Open, Write, Read, Close, Where, Drop, Logs, Mutator, Book}
 use Rattle.far_replay.specs.Grammar.{trace_of}
 use Rattle.far_replay.specs.Headline.{IsSound, IsWhole, Lawful, IsSaidBy, TellsAll, TellsLog}
 use Rattle.far_replay.specs.Written.{AllWriteBytes}
@@ -110,6 +110,7 @@ unknown s (Mutator k (Write p from bytes)) m e h = first_holds s (Mutator k (Wri
 unknown s (Mutator k (Read p from len)) m e h = first_holds s (Mutator k (Read p from len)) (not (nat_lt k s.mutators)) _ refl (ap not (past s m k e h))
 unknown s (Mutator k Close) m e h = first_holds s (Mutator k Close) (not (nat_lt k s.mutators)) _ refl (ap not (past s m k e h))
 unknown s (Mutator k (Where p)) m e h = first_holds s (Mutator k (Where p)) (not (nat_lt k s.mutators)) _ refl (ap not (past s m k e h))
+unknown s (Mutator k (Drop p)) m e h = first_holds s (Mutator k (Drop p)) (not (nat_lt k s.mutators)) _ refl (ap not (past s m k e h))
 unknown s (Book inquiry) m e h = absurd e
 
 pub unknown_refused : (now : Moment) (c : Command) (r : Reply) (next : Moment) (m : ℕ) → IsSaidBy m c → now.core.mutators ≤ m → Commanded now c r next → r ≡ Refused Range

@@ -26,7 +26,7 @@ use Rattle.far_core.proofs.Observations.{bytes_make_log}
 use Rattle.far_book.specs.book.Home.{home_of}
 use Rattle.far_replay.specs.Answers.{Answered}
 use Rattle.far_replay.specs.Audit.{counts_of, lies_near, lies_far, bytes_by_log}
-use Rattle.far_replay.specs.Command.{Command, New, Open, Write, Read, Close, Where, Logs, Log, Audit, Mutator, Book}
+use Rattle.far_replay.specs.Command.{Command, New, Open, Write, Read, Close, Where, Drop, Logs, Log, Audit, Mutator, Book}
 use Rattle.far_replay.specs.Headline.{IsToldInFull, IsLineToldInFull, AreToldInFull, IsRefusalToldInFull}
 use Rattle.far_replay.specs.Moment.{Moment, moment_of}
 use Rattle.far_replay.specs.Objects.{lowest_cell, data_of}
@@ -105,6 +105,7 @@ plain_causes s (Mutator m (Write p from bytes)) = (tt, (tt, (tt, (tt, tt))))
 plain_causes s (Mutator m (Read p from len)) = (tt, (tt, (tt, (tt, tt))))
 plain_causes s (Mutator m Close) = (tt, (tt, tt))
 plain_causes s (Mutator m (Where p)) = (tt, (tt, tt))
+plain_causes s (Mutator m (Drop p)) = (tt, (tt, (tt, tt)))
 plain_causes s (Book Logs) = tt
 plain_causes s (Book (Log l)) = (tt, tt)
 plain_causes s (Book Audit) = tt
@@ -119,6 +120,7 @@ plain_turn s (Mutator m (Write p from bytes)) law e = tt
 plain_turn s (Mutator m (Read p from len)) law e = plain_data s p from len
 plain_turn s (Mutator m Close) law e = tt
 plain_turn s (Mutator m (Where p)) law e = plain_home (read_of (s.cell p)) (λ v is. (read_says (s.cell p) v (law.cells.cell_read p).0 is).0)
+plain_turn s (Mutator m (Drop p)) law e = tt
 plain_turn s (Book Logs) law e = plain_logs s law
 plain_turn s (Book (Log l)) law e = (plain_line s law l (log_inside s l e), tt)
 plain_turn s (Book Audit) law e = plain_counts s law

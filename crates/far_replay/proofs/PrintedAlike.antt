@@ -13,7 +13,6 @@ use Rattle.far_word.specs.declared.refused.Refused.TheVariants.{Memory, NoRoom, 
 use Rattle.far_word.specs.Refused.{refusal_number}
 use Rattle.far_core.specs.declared.event.Kind.{Kind}
 use Rattle.far_core.specs.declared.event.Kind.TheVariants as kinds
-use Rattle.far_book.specs.declared.home.Home.{Home}
 use Rattle.far_book.specs.declared.home.Home.TheVariants.{Near, Far}
 use Rattle.far_replay.specs.Headline.{IsToldInFull, IsHomeToldInFull, AreCountsToldInFull, IsLineToldInFull, AreToldInFull, IsRefusalToldInFull}
 use Rattle.far_replay.specs.Reply.{Reply, Done, Pointer, Data, Logs, Lies, Audited, Refused, LogLine, Counts, kind_word, log_printed, letters_of, home_printed, counts_printed, detail, refused_printed, printed}

@@ -8,7 +8,7 @@ use Rattle.far_book.specs.book.Home.{home_of}
 use Rattle.far_book.specs.declared.home.Home.{Home}
 use Rattle.far_replay.specs.Moment.{Moment, moment_of}
 use Rattle.far_replay.specs.Answers.{Commanded}
-use Rattle.far_replay.specs.Command.{Command, New, Open, Write, Read, Close, Where, Logs, Log, Audit, Mutator, Book}
+use Rattle.far_replay.specs.Command.{Command, New, Open, Write, Read, Close, Where, Drop, Logs, Log, Audit, Mutator, Book}
 use Rattle.far_replay.specs.Headline.{IsAtHandFor, MayRefuse}
 use Rattle.far_replay.specs.Reply.{Reply, Refused}
 use Rattle.far_replay.specs.Objects.{lowest_cell}
@@ -34,6 +34,7 @@ listed s (Mutator m (Write p from bytes)) = (tt, (tt, (tt, (tt, tt))))
 listed s (Mutator m (Read p from len)) = (tt, (tt, (tt, (tt, tt))))
 listed s (Mutator m Close) = (tt, (tt, tt))
 listed s (Mutator m (Where p)) = (tt, (tt, tt))
+listed s (Mutator m (Drop p)) = (tt, (tt, (tt, tt)))
 listed s (Book Logs) = tt
 listed s (Book (Log l)) = (tt, tt)
 listed s (Book Audit) = tt
@@ -54,6 +55,7 @@ turn_is_no_refusal s (Mutator m (Write p from bytes)) why e = cc
 turn_is_no_refusal s (Mutator m (Read p from len)) why e = cc
 turn_is_no_refusal s (Mutator m Close) why e = cc
 turn_is_no_refusal s (Mutator m (Where p)) why e = home_is_no_refusal (home_of (read_of (s.cell p))) why e
+turn_is_no_refusal s (Mutator m (Drop p)) why e = cc
 turn_is_no_refusal s (Book Logs) why e = cc
 turn_is_no_refusal s (Book (Log l)) why e = cc
 turn_is_no_refusal s (Book Audit) why e = cc

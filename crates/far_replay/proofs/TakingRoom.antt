@@ -11,15 +11,18 @@ use Rattle.far_word.specs.Sizes.{size_of}
 use Rattle.far_core.specs.state.Room.{room}
 use Rattle.far_core.specs.state.Shape.{is_shape}
 use Rattle.far_core.specs.state.State.{State}
-use Rattle.far_core.specs.events.Step.{after_pin}
+use Rattle.far_word.specs.declared.mark.Mark.TheVariants.{Dropped}
+use Rattle.far_core.specs.declared.event.Event.TheVariants.{Ask}
+use Rattle.far_core.specs.events.Step.{after as step_after, after_pin}
 use Rattle.far_replay.specs.Answers.{Commanded, shape_of}
-use Rattle.far_replay.specs.Command.{Command, New, Open, Write, Read, Close, Where, Mutator, Book}
+use Rattle.far_replay.specs.Command.{Command, New, Open, Write, Read, Close, Where, Drop, Mutator, Book}
 use Rattle.far_replay.specs.Effects.{with_view}
 use Rattle.far_replay.specs.Headline.{TakesRoom}
 use Rattle.far_replay.specs.Moment.{Moment, moment_of}
 use Rattle.far_replay.specs.Objects.{lowest_cell}
 use Rattle.far_replay.specs.Reply.{Reply, Refused}
 use Rattle.far_replay.specs.Turn.{refusal, unless, turn_effect, turn_reply, reply_to, pointer_reply, with_new}
+use Rattle.far_replay.proofs.Drops.{retired_either}
 use Rattle.far_replay.proofs.Turns.{four}
 
 pub shapes_are : (logs mutators : ℕ) → (is_shape (shape_of logs mutators) ≡ true) ↔ ((2 ≤ logs) × (logs ≤ 64) × (1 ≤ mutators) × (mutators ≤ 8))
@@ -55,6 +58,8 @@ takes s (Mutator m Close) None e = (refl, refl)
 takes s (Mutator m Close) (Some why) e = (refl, refl)
 takes s (Mutator m (Where p)) None e = (refl, refl)
 takes s (Mutator m (Where p)) (Some why) e = (refl, refl)
+takes s (Mutator m (Drop p)) None e = retired_either (LeavesRoom s) (step_after s (Ask m p Dropped)) p (refl, refl) (refl, refl)
+takes s (Mutator m (Drop p)) (Some why) e = (refl, refl)
 takes s (Book inquiry) None e = (refl, refl)
 takes s (Book inquiry) (Some why) e = (refl, refl)
 

@@ -6,7 +6,7 @@ use Rattle.far_word.specs.declared.mark.Marks.{Marks}
 use Rattle.far_word.specs.declared.pointer.Place.{Place}
 use Rattle.far_word.specs.declared.pointer.PtrWord.TheVariants.{Near}
 use Rattle.far_word.specs.declared.refused.Refused.{Refused as Refusal}
-use Rattle.far_word.specs.declared.refused.Refused.TheVariants.{NoRoom, NoPointer, Length, Closed, AlreadyOpen, NotHeld, Range}
+use Rattle.far_word.specs.declared.refused.Refused.TheVariants.{NoRoom, NoPointer, Length, Closed, AlreadyOpen, NotHeld, Range, Held}
 use Rattle.far_word.specs.declared.sizes.TheConstants.{CELLS, LOG_WORDS, LONGEST}
 use Rattle.far_word.specs.Bytes.{bytes_of, packed_word}
 use Rattle.far_word.specs.Header.{head_word}
@@ -29,15 +29,16 @@ use Rattle.far_core.proofs.Owing.{is_test}
 use Rattle.far_core.proofs.RoomLaws.{room_right}
 use Rattle.far_core.proofs.Put.{put_both, put_same, put_other}
 use Rattle.far_replay.specs.Moment.{moment_of}
-use Rattle.far_replay.specs.Command.{Command, New, Open, Write, Read, Close, Where, Mutator, Book}
+use Rattle.far_replay.specs.Command.{Command, New, Open, Write, Read, Close, Where, Drop, Mutator, Book}
 use Rattle.far_replay.specs.EventRows.{after_events, AllSucceed, AtHand}
 use Rattle.far_replay.specs.Between.{Between}
-use Rattle.far_replay.specs.Events.{new_events, zero_puts, open_events, view_events, first_word, words_touched, load_events, starts_inside, ends_inside, part_events, store_events, turn_events, events_for}
+use Rattle.far_replay.specs.Events.{new_events, zero_puts, open_events, view_events, first_word, words_touched, load_events, starts_inside, ends_inside, part_events, store_events, drop_events, turn_events, events_for}
 use Rattle.far_replay.specs.Objects.{uses, object_len, data_of, spliced, lowest_cell, is_range}
 use Rattle.far_replay.specs.Effects.{new_word}
-use Rattle.far_replay.specs.Effects.{with_row, with_object, with_view, with_data, with_scope, epoch_for}
+use Rattle.far_replay.specs.Effects.{with_row, with_object, with_view, with_data, with_scope, without_object, epoch_for}
 use Rattle.far_replay.specs.Turn.{turn_effect, effect, with_new, access_causes, first_cause, refusal, unless}
 use Rattle.far_replay.specs.Written.{WritesBytes}
+use Rattle.far_replay.proofs.Drops.{unheld_is, drop_succeeds, drop_ends, drop_is, drop_law, drop_fits, drop_hands}
 use Rattle.far_replay.proofs.LoadWords.{loads_stay, load_legal, loads_succeed}
 use Rattle.far_replay.proofs.Lowest.{lowest_cell_is}
 use Rattle.far_replay.proofs.MadeLemmas.{made-append, AllSucceed-append, made_first, first_succeeds, made_law, load_stays}
@@ -63,6 +64,13 @@ pub two : (a b : Bool) (w x : Refusal) → first_cause ((not a, w) ∷ (b, x) �
 two true true w x e = absurd cc
 two true false w x e = (refl, refl)
 two false b w x e = absurd cc
+
+-- three of them
+pub three : (a b c : Bool) (w x y : Refusal) → first_cause ((not a, w) ∷ (not b, x) ∷ (c, y) ∷ []) ≡ None → (a ≡ true) × (b ≡ true) × (c ≡ false)
+three true true true w x y e = absurd cc
+three true true false w x y e = (refl, refl, refl)
+three true false c w x y e = absurd cc
+three false b c w x y e = absurd cc
 
 -- what a command that may read or write an object has
 pub record Access (s : State) (m p from count : ℕ) : Type 0 where
@@ -423,6 +431,26 @@ close_turned s m law between opened =
       ends = end;
     }
 
+-- ---- drops
+-- the events of a drop
+drop_turned : (s : State) (m p : ℕ) → Law s → Between s → (nat_lt m s.mutators ≡ true) × (uses s m p ≡ true) × (is_some (s.held p) ≡ false) → Turned s (drop_events s m p) (without_object s m p)
+drop_turned s m p law between h =
+    let within : m < s.mutators = ltb-true m s.mutators h.0 in
+    let unheld : s.held p ≡ None = unheld_is (s.held p) h.2 in
+    let ends = drop_ends s m p law within h.1 unheld in
+    let is = drop_is s m p law within h.1 unheld in
+    let after : Between (without_object s m p) = record {
+      at_hand = drop_hands s m p law within h.1 unheld between.at_hand;
+      unread = subst (λ (t : State). (k : ℕ) → t.scope k ≡ 0 → t.remembered k ≡ None) (sym is) between.unread;
+    } in
+    record {
+      succeed = drop_succeeds s m p law within h.1 unheld;
+      between = subst Between (sym ends) after;
+      law = subst Law (sym ends) (drop_law s m p law within h.1 unheld);
+      fit = drop_fits s m p law within h.1 unheld;
+      ends = ends;
+    }
+
 -- ---- all commands
 -- a command that makes no event
 none_turned : (s : State) → Law s → Between s → Turned s [] s
@@ -459,6 +487,7 @@ turned s (Mutator m Close) law between small e = close_turned s m law between (t
   two_open true false f = absurd cc
   two_open false b f = absurd cc
 turned s (Mutator m (Where p)) law between small e = none_turned s law between
+turned s (Mutator m (Drop p)) law between small e = drop_turned s m p law between (three (nat_lt m s.mutators) (uses s m p) (is_some (s.held p)) Range NotHeld Held e)
 turned s (Book inquiry) law between small e = none_turned s law between
 
 -- each command: a refused one does nothing

@@ -20,12 +20,12 @@ use Rattle.far_core.proofs.Leaving.{held_stays}
 use Rattle.far_core.proofs.Put.{put_same, put_other}
 use Rattle.far_replay.specs.Moment.{Moment, moment_of}
 use Rattle.far_replay.specs.Answers.{Answered, Commanded, IsMoment}
-use Rattle.far_replay.specs.Command.{Command, New, Open, Write, Read, Close, Where, Mutator, Book}
+use Rattle.far_replay.specs.Command.{Command, New, Open, Write, Read, Close, Where, Drop, Mutator, Book}
 use Rattle.far_replay.specs.Written.{WritesBytes, AllWriteBytes}
 use Rattle.far_replay.specs.Headline.{LogsStay, StayThrough, ViewsObject, ViewsNothing, ViewsAfter}
 use Rattle.far_replay.specs.EventRows.{after_events, Succeeds, ComesToPass}
 use Rattle.far_replay.specs.Reply.{Reply, Refused}
-use Rattle.far_replay.specs.Events.{turn_events, zero_puts, new_events, open_events, view_events, load_events, store_events, first_loads, last_loads, part_events, first_word, words_touched, starts_inside, ends_inside}
+use Rattle.far_replay.specs.Events.{turn_events, zero_puts, new_events, open_events, view_events, load_events, store_events, first_loads, last_loads, part_events, drop_events, first_word, words_touched, starts_inside, ends_inside}
 use Rattle.far_replay.specs.Objects.{lowest_cell, spliced, data_of}
 use Rattle.far_replay.specs.Effects.{new_word}
 use Rattle.far_replay.specs.Turn.{refusal, unless, turn_reply, reply_to}
@@ -70,6 +70,9 @@ news m len ds (Some p) (Some place) =
     Each-append LeavesViews (Puts place.log place.at (head_word p len ds) ∷ zero_puts place (words_for len)) (Names p 0 (new_word len ds place) ∷ Adopts m p ∷ [])
     (((λ _ _ e. absurd cc), (λ _ e. absurd cc)), Each-row LeavesViews (λ i. Puts place.log (place.at + 1 + i) 0) 0 (words_for len) (λ i _. ((λ _ _ e. absurd cc), (λ _ e. absurd cc))))
     (((λ _ _ e. absurd cc), (λ _ e. absurd cc)), (((λ _ _ e. absurd cc), (λ _ e. absurd cc)), tt))
+
+pub dropped : (s : State) (m p : ℕ) → Each LeavesViews (drop_events s m p)
+dropped s m p = (((λ _ _ e. absurd cc), (λ _ e. absurd cc)), (((λ _ _ e. absurd cc), (λ _ e. absurd cc)), (((λ _ _ e. absurd cc), (λ _ e. absurd cc)), tt)))
 
 -- ---- the view of a read or a write
 -- a pin that gives a view views its object
@@ -133,6 +136,7 @@ views_after s c (Some why) ok = refused_views s c why where
   refused_views s (Mutator m (Read p from len)) why = refl
   refused_views s (Mutator m Close) why = refl
   refused_views s (Mutator m (Where p)) why = refl
+  refused_views s (Mutator m (Drop p)) why = refl
   refused_views s (Book inquiry) why = refl
 views_after s (Mutator m (New len ds)) None ok = row_stays s (turn_events (moment_of s) (Mutator m (New len ds))) (news m len ds (lowest_cell s m) (room s (size_of len) true))
 views_after s (Mutator m Open) None ok = row_stays s (open_events s m) (opens s m)
@@ -143,6 +147,7 @@ views_after s (Mutator m (Write p from bytes)) None ok =
 views_after s (Mutator m (Read p from len)) None ok = viewed_behind s m p (load_events m p (first_word from) (words_touched from len)) ok (loads m p (first_word from) (words_touched from len))
 views_after s (Mutator m Close) None ok = close_views s m ok.succeed.0
 views_after s (Mutator m (Where p)) None ok = refl
+views_after s (Mutator m (Drop p)) None ok = row_stays s (drop_events s m p) (dropped s m p)
 views_after s (Book inquiry) None ok = refl
 
 pub views_last : (now : Moment) (c : Command) (r : Reply) (next : Moment) → IsMoment now → WritesBytes c → Commanded now c r next → ViewsAfter now c r next
@@ -174,6 +179,7 @@ closes_last s (Mutator m (Read p from len)) =
     none_closes (view_events s m p ++ loaded) (view_no_close s m p loaded (no_close loaded (loads m p (first_word from) (words_touched from len))))
 closes_last s (Mutator m Close) = tt
 closes_last s (Mutator m (Where p)) = tt
+closes_last s (Mutator m (Drop p)) = none_closes (drop_events s m p) (no_close (drop_events s m p) (dropped s m p))
 closes_last s (Book inquiry) = tt
 
 command_closes_last : (s : State) (c : Command) (o : Option Refusal) → ClosesLast (unless o (λ _. []) (turn_events (moment_of s) c))

@@ -8,7 +8,7 @@ use Rattle.far_replay.specs.declared.command.Entry.TheVariants.{Heap as SpelledH
 use Rattle.far_replay.specs.declared.command.Inquiry.{Inquiry as SpelledInquiry}
 use Rattle.far_replay.specs.declared.command.Inquiry.TheVariants.{Logs as SpelledLogs, Log as SpelledLog, Audit as SpelledAudit}
 use Rattle.far_replay.specs.declared.command.Request.{Request as SpelledRequest}
-use Rattle.far_replay.specs.declared.command.Request.TheVariants.{New as SpelledNew, Open as SpelledOpen, Write as SpelledWrite, Read as SpelledRead, Close as SpelledClose, Where as SpelledWhere}
+use Rattle.far_replay.specs.declared.command.Request.TheVariants.{New as SpelledNew, Open as SpelledOpen, Write as SpelledWrite, Read as SpelledRead, Close as SpelledClose, Where as SpelledWhere, Drop as SpelledDrop}
 use Rattle.far_replay.specs.declared.text.Trace.{Trace as SpelledTrace}
 use Rattle.far_replay.specs.declared.text.Trace.TheVariants.{Nothing as SpelledNothing, Heap as SpelledHeap}
 
@@ -20,6 +20,7 @@ pub data Request : Type 0 where
   Read : (pointer from len : ℕ) → Request
   Close : Request
   Where : (pointer : ℕ) → Request
+  Drop : (pointer : ℕ) → Request
 
 -- what the book is asked
 pub data Inquiry : Type 0 where
@@ -49,6 +50,7 @@ said_request (SpelledWrite pointer from bytes) = Write pointer from (hex_bytes b
 said_request (SpelledRead pointer from len) = Read pointer from len
 said_request SpelledClose = Close
 said_request (SpelledWhere pointer) = Where pointer
+said_request (SpelledDrop pointer) = Drop pointer
 
 abbrev pub said_inquiry : SpelledInquiry → Inquiry
 said_inquiry SpelledLogs = Logs

@@ -3,7 +3,7 @@ use Rattle.std.specs.Prelude.{◌≡◌, ℕ, Bool, ◌&&◌, ◌^◌, nat_lt, n
 use Rattle.std.specs.Str.{bytes_eq}
 use Rattle.std.specs.Str.Parse.{digits_value}
 use Rattle.std.specs.List.{slice_split, list_all}
-use Rattle.far_replay.specs.Command.{Command, Entry, HeapLine, CommandLine, Trace, Nothing, Heap, New, Open, Write, Read, Close, Where, Logs, Log, Audit, Mutator, Book}
+use Rattle.far_replay.specs.Command.{Command, Entry, HeapLine, CommandLine, Trace, Nothing, Heap, New, Open, Write, Read, Close, Where, Drop, Logs, Log, Audit, Mutator, Book}
 use Rattle.far_replay.specs.HexWord.{is_hex_word, hex_bytes}
 use Rattle.far_replay.specs.declared.hex_word.TheConstants.{LONGEST_LINE}
 use Rattle.far_replay.specs.declared.text.TheConstants.{LONGEST_TEXT}
@@ -79,6 +79,9 @@ asks_new m len structure = CommandLine (Mutator m (New len structure))
 abbrev pub asks_where : From 2 Entry
 asks_where m p = CommandLine (Mutator m (Where p))
 
+abbrev pub asks_drop : From 2 Entry
+asks_drop m p = CommandLine (Mutator m (Drop p))
+
 abbrev pub asks_log : From 1 Entry
 asks_log log = CommandLine (Book (Log log))
 
@@ -92,6 +95,7 @@ table =
     ∷ (codes "heap", Numbers 2 HeapLine)
     ∷ (codes "logs", Numbers 0 (CommandLine (Book Logs)))
     ∷ (codes "where", Numbers 2 asks_where)
+    ∷ (codes "drop", Numbers 2 asks_drop)
     ∷ (codes "log", Numbers 1 asks_log)
     ∷ (codes "audit", Numbers 0 (CommandLine (Book Audit)))
     ∷ []

@@ -1,15 +1,15 @@
 -- What a trace program's outputs say: the laws over whole texts and whole lists of commands.
-use Rattle.std.specs.Prelude.{◌≡◌, ◌≢◌, ◌↔◌, ℕ, ◌+◌, ◌*◌, ◌/◌, ◌^◌, ◌<◌, ◌≤◌, true, is_some, eqb, sum, codes, decimal, Some, None, Ok, List, [], ◌∷◌, ◌++◌, length, replicate, slice_index, map, All, Contains}
+use Rattle.std.specs.Prelude.{◌≡◌, ◌≢◌, ◌↔◌, ℕ, ◌+◌, ◌*◌, ◌/◌, ◌^◌, ◌<◌, ◌≤◌, true, false, is_some, eqb, sum, codes, decimal, Some, None, Ok, List, [], ◌∷◌, ◌++◌, length, replicate, slice_index, map, All, Contains}
 use Rattle.std.specs.List.{flat_map, range_with_len, IsDistinct}
 use Rattle.hex.specs.Hex.{IsBytes}
 use Rattle.far_word.specs.declared.mark.Marks.{Marks}
 use Rattle.far_word.specs.declared.pointer.Place.{Place}
 use Rattle.far_word.specs.declared.pointer.PtrWord.TheVariants as pointer
 use Rattle.far_word.specs.declared.refused.Refused.{Refused as Refusal}
-use Rattle.far_word.specs.declared.refused.Refused.TheVariants.{NoRoom, NoPointer, Length, Closed, AlreadyOpen, NotHeld, Range, Marked, Syntax, BadChoice, StillOpen}
+use Rattle.far_word.specs.declared.refused.Refused.TheVariants.{NoRoom, NoPointer, Length, Closed, AlreadyOpen, NotHeld, Range, Held, Marked, Syntax, BadChoice, StillOpen}
 use Rattle.far_word.specs.declared.sizes.TheConstants.{CELLS, LOG_WORDS, LONGEST}
 use Rattle.far_word.specs.Pointer.{read_of}
-use Rattle.far_word.specs.Sizes.{size_of}
+use Rattle.far_word.specs.Sizes.{size_of, bytes_taken}
 use Rattle.far_core.specs.declared.event.Kind.TheVariants as kinds
 use Rattle.far_core.specs.declared.event.Event.{Event}
 use Rattle.far_core.specs.state.Law.{Law}
@@ -23,7 +23,7 @@ use Rattle.far_book.specs.declared.home.Home.{Home}
 use Rattle.far_book.specs.declared.home.Home.TheVariants.{Near, Far}
 use Rattle.far_replay.specs.Alone.{Alone, Knows, Learns, Own, nothing}
 use Rattle.far_replay.specs.Answers.{Answered, Answers, Commanded, IsMoment, shape_of, first_moment}
-use Rattle.far_replay.specs.Command.{Command, Heap, CommandLine, New, Open, Write, Read, Close, Where, Logs as AsksLogs, Log, Audit, Mutator, Book}
+use Rattle.far_replay.specs.Command.{Command, Heap, CommandLine, New, Open, Write, Read, Close, Where, Drop, Logs as AsksLogs, Log, Audit, Mutator, Book}
 use Rattle.far_replay.specs.Grammar.{trace_of}
 use Rattle.far_replay.specs.Moment.{Moment}
 use Rattle.far_replay.specs.EventRows.{after_events, AllPass, AllSucceed, AllComeToPass, AtHand, AllAtHand}
@@ -90,6 +90,9 @@ MayRefuse (Mutator m (Write p from bytes)) Closed = Unit {0}
 MayRefuse (Mutator m (Write p from bytes)) NotHeld = Unit {0}
 MayRefuse (Mutator m (Where p)) Range = Unit {0}
 MayRefuse (Mutator m (Where p)) NotHeld = Unit {0}
+MayRefuse (Mutator m (Drop p)) Range = Unit {0}
+MayRefuse (Mutator m (Drop p)) NotHeld = Unit {0}
+MayRefuse (Mutator m (Drop p)) Held = Unit {0}
 MayRefuse (Book (Log l)) Range = Unit {0}
 MayRefuse c why = ⊥
 
@@ -125,6 +128,16 @@ pub record CountsAll (now : Moment) (counts : Counts) : Type 0 where
   pub near : IsHowMany (HasObject now.core) counts.near
   pub far : counts.far ≡ 0
   pub live : (lines : List LogLine) (after : Moment) → Commanded now (Book AsksLogs) (Logs lines) after → counts.live ≡ sum (map (λ line. line.live) lines)
+
+-- what an object leaves that is dropped: no object of its pointer, whose cell is free and which its owner doesn't use; all other objects, the words and spans of
+-- the logs, views and all else stay; and the bytes that it took, if it lay near, are dead in its log
+pub record EndsObject (s t : State) (p : ℕ) : Type 0 where
+  pub object : (world_of t).object ≡ put (world_of s).object p None
+  pub rest : t ≡ record s { cell = put s.cell p 0; used = put s.used p false }
+  pub live : (len ds : ℕ) (place : Place) (marks : Marks) → read_of (s.cell p) ≡ Some (pointer.Near len ds place marks) → live_bytes t place.log + bytes_taken len ≡ live_bytes s place.log
+  pub dead : (len ds : ℕ) (place : Place) (marks : Marks) → read_of (s.cell p) ≡ Some (pointer.Near len ds place marks) → dead_bytes t place.log ≡ dead_bytes s place.log + bytes_taken len
+  pub others : (len ds : ℕ) (place : Place) (marks : Marks) → read_of (s.cell p) ≡ Some (pointer.Near len ds place marks) → (l : ℕ) → l ≢ place.log →
+      (live_bytes t l ≡ live_bytes s l) × (dead_bytes t l ≡ dead_bytes s l)
 
 -- a command views an object: it is viewed then, where it was already if it was, and all other views stay
 pub record ViewsObject (s t : State) (p : ℕ) : Type 0 where
@@ -269,6 +282,13 @@ LogTellsItsLine = (now : Moment) (l : ℕ) (r : Reply) (after : Moment) → Comm
 -- `audit` counts each object, and the bytes that `logs` tells; today none is far
 abbrev pub AuditCounts : Type 0
 AuditCounts = (now : Moment) (r : Reply) (after : Moment) → IsMoment now → Commanded now (Book Audit) r after → (counts : Counts) × (r ≡ Audited counts) × CountsAll now counts
+
+-- a drop of a pointer that the mutator doesn't use is refused 7; else, where the mutator views its object, 9, and else the object is ended
+abbrev pub DropEndsObject : Type 0
+DropEndsObject = (now : Moment) (m p : ℕ) (r : Reply) (after : Moment) → Law now.core → m < now.core.mutators → Commanded now (Mutator m (Drop p)) r after →
+    (uses now.core m p ≢ true → r ≡ Refused NotHeld)
+    × (uses now.core m p ≡ true → (world_of now.core).viewed p ≡ true → r ≡ Refused Held)
+    × (uses now.core m p ≡ true → (world_of now.core).viewed p ≡ false → (r ≡ Done) × EndsObject now.core after.core p)
 
 -- objects stay whole through commands
 abbrev pub ObjectsStayWhole : Type 0

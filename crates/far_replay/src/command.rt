@@ -4,7 +4,7 @@ ghost use Rattle.std.specs.Prelude.{◌≡◌, ◌∷◌, IfSome};
 ghost use Rattle.std.specs.Option.{option_map};
 ghost use Rattle.std.specs.Str.{bytes_eq};
 ghost use Rattle.far_replay.specs.Command.{said_entry, HeapLine, CommandLine, Book, Logs, Audit};
-ghost use Rattle.far_replay.specs.Grammar.{Numbers, NumbersAndBytes, asks_read, asks_write, asks_open, asks_close, asks_new, asks_where, asks_log, entry_from, entry_of, ended};
+ghost use Rattle.far_replay.specs.Grammar.{Numbers, NumbersAndBytes, asks_read, asks_write, asks_open, asks_close, asks_new, asks_where, asks_drop, asks_log, entry_from, entry_of, ended};
 ghost use Rattle.far_replay.specs.Cursor.{words_in, words_left, lines_after_first, lines_after, lines_left};
 
 use crate::cursor::{Rest, last_bytes_of, next_number_of, word_first};
@@ -30,6 +30,9 @@ pub enum Request<'a> {
     },
     Close,
     Where {
+        pointer: u64,
+    },
+    Drop {
         pointer: u64,
     },
 }
@@ -150,6 +153,16 @@ fn where_spelled(rest: Rest<'_>) -> Option<Spelled<'_>>
     at_end(Entry::Command(Command::Mutator { mutator, request }), rest)
 }
 
+fn drop_spelled(rest: Rest<'_>) -> Option<Spelled<'_>>
+    ensures value { option_map (λ found. said_entry found.0) result ≡ entry_from (Numbers 2 asks_drop) (words_left rest.entry) }
+    ensures lines { IfSome result (λ found. lines_left found.1 ≡ lines_after rest.entry) }
+{
+    let (mutator, rest) = next_number_of(rest)?;
+    let (pointer, rest) = next_number_of(rest)?;
+    let request = Request::Drop { pointer };
+    at_end(Entry::Command(Command::Mutator { mutator, request }), rest)
+}
+
 fn log_spelled(rest: Rest<'_>) -> Option<Spelled<'_>>
     ensures value { option_map (λ found. said_entry found.0) result ≡ entry_from (Numbers 1 asks_log) (words_left rest.entry) }
     ensures lines { IfSome result (λ found. lines_left found.1 ≡ lines_after rest.entry) }
@@ -192,6 +205,9 @@ fn named<'a>(name: &[u8], rest: Rest<'a>) -> Option<Spelled<'a>>
     }
     if is_name(name, b"where") {
         return where_spelled(rest);
+    }
+    if is_name(name, b"drop") {
+        return drop_spelled(rest);
     }
     if is_name(name, b"log") {
         return log_spelled(rest);

@@ -14,7 +14,7 @@ ghost use Rattle.far_replay.specs.Command.{said, said_request};
 ghost use Rattle.far_replay.specs.Interpreter.{refused_in, IsAccess, IsViewed, StandsFor};
 ghost use Rattle.far_replay.specs.HexWord.{hex_bytes as spelled};
 ghost use Rattle.far_replay.specs.EventRows.{after_events, AtHand};
-ghost use Rattle.far_replay.specs.Command.{Mutator, Book, New, Open, Write, Read, Close, Where, Logs, Log, Audit};
+ghost use Rattle.far_replay.specs.Command.{Mutator, Book, New, Open, Write, Read, Close, Where, Drop, Logs, Log, Audit};
 ghost use Rattle.far_replay.specs.Outcome.{reply_by, IsInRoom};
 ghost use Rattle.far_replay.specs.Reply.{IsShort};
 ghost use Rattle.far_replay.specs.Between.{Between};
@@ -24,6 +24,7 @@ ghost use Rattle.far_replay.specs.Moment.{moment_of, state_in};
 ghost use Rattle.far_replay.specs.Turn.{effect, access_causes, first_cause, reply_to, turn_reply, refusal, log_line, with_new};
 
 use crate::command::{Command, Inquiry, Request};
+use crate::dropping::drop_object;
 use crate::events::{open, view};
 use crate::hex_word::HexWord;
 use crate::inquiries::{audit, find_object, tell_log, tell_logs};
@@ -408,6 +409,7 @@ fn make_request(
         }
         Request::Close => close_scope(book, owner),
         Request::Where { pointer } => find_object(book, owner, pointer),
+        Request::Drop { pointer } => drop_object(book, owner, pointer),
     }
 }
 

@@ -195,6 +195,18 @@ const REFUSED: &str = "\
 7 where 0 1024
 7 where 0 65536
 7 where 0 18446744073709551615
+8 drop 2 0
+8 drop 256 0
+8 drop 18446744073709551615 18446744073709551615
+7 drop 0 2
+7 drop 0 128
+7 drop 1 0
+7 drop 1 129
+7 drop 0 1024
+7 drop 0 65536
+7 drop 0 18446744073709551615
+9 drop 0 0
+9 drop 0 1
 8 log 4
 8 log 64
 8 log 255
