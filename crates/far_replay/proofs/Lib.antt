@@ -12,9 +12,9 @@ pub mod Cuts
 pub mod Determined
 pub mod Each
 pub mod Fronts
-pub mod HexAtLemmas
 pub mod HexLemmas
 pub mod Kept
+pub mod LastWord
 pub mod Lasting
 pub mod LineLemmas
 pub mod LoadWords
