@@ -14,10 +14,10 @@ pub mod Determined
 pub mod Drops
 pub mod Each
 pub mod Fronts
-pub mod HexAtLemmas
 pub mod HexLemmas
 pub mod InquiryLaws
 pub mod Kept
+pub mod LastWord
 pub mod Lasting
 pub mod LineLemmas
 pub mod LoadWords

@@ -118,10 +118,12 @@ pub fn number_first(text: &[u8]) -> Option<(u64, Rest<'_>)>
     ensures number { option_map (λ found. (found.0, words_left found.1)) result ≡ next_number (words_in text.now) }
     ensures lines { IfSome result (λ found. lines_after_first text.now ≡ lines_after found.1) }
 {
+    // Most numbers of mutators have one digit.
     if text.len() > 1 && text[0].is_ascii_digit() && text[1] == b' ' {
         return printed_number(text, 1, u64::from(text[0] - b'0'));
     }
     let (n, len) = digits_first(text);
+    // Nineteen digits are always below 2^64.
     if len < 20 {
         return printed_number(text, len, n);
     }
@@ -141,7 +143,7 @@ pub fn next_number_of(rest: Rest<'_>) -> Option<(u64, Rest<'_>)>
     }
 }
 
-// Where the first line of a text ends.
+/// Where the first line of a text ends.
 #[inline(always)]
 pub fn line_end(text: &[u8]) -> usize
     ensures bound { result ≤ length text.now }
@@ -156,7 +158,7 @@ pub fn line_end(text: &[u8]) -> usize
 
 // The first line of a text, and the lines after it, if any.
 #[inline(always)]
-fn line_first(text: &[u8]) -> (&[u8], Option<&[u8]>)
+fn split_line(text: &[u8]) -> (&[u8], Option<&[u8]>)
     ensures line { result.0.now ≡ first_line text.now }
     ensures lines { lines_left result.1 ≡ lines_after_first text.now }
 {
@@ -170,12 +172,12 @@ fn line_first(text: &[u8]) -> (&[u8], Option<&[u8]>)
 // The bytes that the first line of a text spells, and the lines after it. A line in hex is one word, so only its end is
 // looked for.
 #[inline(always)]
-#[tactic(auto, using(crate::proofs::HexAtLemmas::one_word))]
+#[tactic(auto, using(crate::proofs::LastWord::one_word))]
 fn line_bytes(text: &[u8]) -> Option<(HexWord<'_>, Option<&[u8]>)>
     ensures bytes { option_map (λ found. hex_bytes found.0.digits.now) result ≡ last_bytes (words_in text.now) }
     ensures lines { IfSome result (λ found. lines_left found.1 ≡ lines_after_first text.now) }
 {
-    let (line, lines) = line_first(text);
+    let (line, lines) = split_line(text);
     let bytes = HexWord::from_word(line)?;
     Some((bytes, lines))
 }

@@ -1,4 +1,4 @@
-use Rattle.std.proofs.Common.{arith, sym, ◌≡◌, ◌∙◌, ℕ, get_or, ◌<◌, ◌^◌, ◌*◌, ◌+◌, ◌-◌, ◌%◌, take, below_more}
+use Rattle.std.proofs.Common.{arith, sym, ◌≡◌, ◌∙◌, ℕ, get_or, ◌^◌, ◌*◌, ◌+◌, ◌-◌, ◌%◌, take, below_more}
 use Rattle.std.specs.Int.{IsInRange}
 use Rattle.std.specs.Str.Parse.{digits_value}
 use Rattle.std.proofs.lemmas.Int.Digits.{digits_value_more}

@@ -1,4 +1,4 @@
-use Rattle.std.proofs.Common.{arith, ap, sym, ◌∙◌, take}
+use Rattle.std.proofs.Common.{arith, ap, sym, ◌∙◌}
 use Rattle.std.specs.Option.{option_map}
 use Rattle.far_replay.specs.Cursor.{words_left}
 use Rattle.far_replay.proofs.WordLemmas.{large_at, nineteen_fit}

@@ -1,5 +1,5 @@
--- A line that is a word in hex.
-use Rattle.std.proofs.Common.{◌≡◌, ℕ, ◌&&◌, ◌==◌, List, [], ◌∷◌, ◌++◌, Bool, Some, None, Option, true, false, cond, sym, ◌∙◌, ap, refl}
+-- A word in hex that is the last of its line.
+use Rattle.std.proofs.Common.{◌≡◌, ℕ, ◌&&◌, ◌==◌, List, [], ◌∷◌, ◌++◌, Bool, Some, None, true, false, cond, sym, ◌∙◌, ap, refl}
 use Rattle.std.specs.List.{join_with_byte, list_all}
 use Rattle.std.proofs.lemmas.List.Splits.{join_with_byte-slice_split}
 use Rattle.hex.specs.Hex.{is_hex_digit}

@@ -3,7 +3,7 @@ use Rattle.std.proofs.Math.Seq.{take-length}
 use Rattle.far_replay.specs.Grammar.{lines_of}
 use Rattle.far_replay.specs.Cursor.{front_of, rest_of}
 use Rattle.far_replay.proofs.LineLemmas.{line_ends, line_all}
-use Rattle.far_replay.proofs.cursor.line_first.Goals as goal
+use Rattle.far_replay.proofs.cursor.split_line.Goals as goal
 
 pub returns-then-len-text-clause-line : goal.returns-then-len-text-clause-line
 returns-then-len-text-clause-line c =
