@@ -23,17 +23,17 @@ use Rattle.far_replay.specs.Command.{Command, Open, Write, Read, Close, Where, D
 use Rattle.far_replay.specs.EventRows.{after_events, AllSucceed, AllAtHand}
 use Rattle.far_replay.specs.Reply.{Reply, Done, Refused}
 use Rattle.far_replay.specs.Events.{turn_events, open_events, view_events, part_events, load_events, store_events, starts_inside, ends_inside, first_word, words_touched}
-use Rattle.far_replay.specs.Objects.{uses, object_len, data_of, spliced, is_range}
+use Rattle.far_replay.specs.Objects.{uses, object_len, data_of, with_range, is_range}
 use Rattle.far_replay.specs.Turn.{refusal, first_cause, unless, turn_reply, home_reply}
 use Rattle.far_replay.specs.Headline.{ViewsObject, ViewsNothing}
 use Rattle.far_replay.proofs.AloneViews.{views_still, views_mine, views_others, views_gone, views_left}
 use Rattle.far_replay.proofs.ViewLaws.{views_after}
 use Rattle.far_replay.specs.Effects.{without_object}
-use Rattle.far_replay.proofs.AloneBytes.{over_spliced}
+use Rattle.far_replay.proofs.AloneBytes.{over_with_range}
 use Rattle.far_replay.proofs.Drops.{drop_ends, drop_is, drop_world, own_gone, own_left, unheld_is}
 use Rattle.far_replay.proofs.Each.{Each-append, Each-row}
 use Rattle.far_replay.proofs.MadeLemmas.{made-append, AllSucceed-parts, Carries}
-use Rattle.far_replay.proofs.Spliced.{AreBytes, packed_wide, spliced_bytes}
+use Rattle.far_replay.proofs.Spliced.{AreBytes, packed_wide, with_range_bytes}
 use Rattle.far_replay.proofs.AloneRuns.{views_of, Scoped, own_same, own_other, own_here, own_scope, own_scope_other, IsQuiet, Quiet, quiet_run, over_all, stores_run, open_step, close_step}
 use Rattle.far_replay.proofs.AloneStates.{outside, open_world, shut_world, range_in, range_out, object_used, own_used, own_unused, len_used, data_small}
 
@@ -198,7 +198,7 @@ turns_drop s k p law hand = three_causes (Turns s k (Mutator k (Drop p))) (not (
 -- ---- writes
 module _ (s : State) (k p from : ℕ) (bytes : List ℕ) (law : Law s) (hand : AllAtHand s) (small : AreBytes bytes) where
   abbrev new : List ℕ
-  new = spliced (data_of s p) from bytes
+  new = with_range (data_of s p) from bytes
 
   abbrev loads : List Event
   loads = view_events s k p ++ part_events k p from (length bytes)
@@ -215,13 +215,13 @@ module _ (s : State) (k p from : ℕ) (bytes : List ℕ) (law : Law s) (hand : A
       let u : State = after_events s loads in
       let x = object_used s law hand p used in
       let there : (world_of u).object p ≡ Some x.0 = ap (λ (f : ℕ → Option Object). f p) first.0.0 ∙ x.1 in
-      let run = stores_run u k p (first_word from) (words_touched from (length bytes)) new x.0 first.1 (packed_wide new (spliced_bytes (data_of s p) from bytes fits (data_small s p) small)) there parts.1 in
+      let run = stores_run u k p (first_word from) (words_touched from (length bytes)) new x.0 first.1 (packed_wide new (with_range_bytes (data_of s p) from bytes fits (data_small s p) small)) there parts.1 in
       let over : List ℕ = over_all x.0.bytes (first_word from) (words_touched from (length bytes)) new in
       let joined : world_of (after_events s (loads ++ stores)) ≡ world_of (after_events u stores) = ap world_of (made-append s loads stores) in (
         with_bytes x.0 over,
         ap (λ (w : World). w.object) joined ∙ run.0 ∙ ap (λ (f : ℕ → Option Object). put f p (Some (with_bytes x.0 over))) first.0.0,
         ap (λ (w : World). w.opened) joined ∙ run.1 ∙ first.0.1,
-        ap (λ b. over_all b (first_word from) (words_touched from (length bytes)) new) x.2 ∙ over_spliced (data_of s p) from bytes fits (data_small s p) small some,
+        ap (λ b. over_all b (first_word from) (words_touched from (length bytes)) new) x.2 ∙ over_with_range (data_of s p) from bytes fits (data_small s p) small some,
       )
 
   near : not (uses s k p) ≡ false → object_len s p ≡ length (data_of s p)

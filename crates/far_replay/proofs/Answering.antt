@@ -12,13 +12,13 @@ use Rattle.far_core.specs.state.Law.{Law}
 use Rattle.far_core.specs.state.State.{State}
 use Rattle.far_replay.specs.Moment.{Moment, moment_of}
 use Rattle.far_replay.specs.Answers.{Answered, Commanded}
-use Rattle.far_replay.specs.Command.{Command, Read, Mutator, said}
+use Rattle.far_replay.specs.Command.{Command, Read, Mutator, as_command}
 use Rattle.far_replay.specs.HexWord.{hex_bytes}
 use Rattle.far_replay.specs.Written.{WritesBytes}
 use Rattle.far_replay.specs.declared.command.Command.{Command as Spelled}
 use Rattle.far_replay.specs.declared.command.Command.TheVariants.{Mutator as SpelledMutator, Book as SpelledBook}
 use Rattle.far_replay.specs.declared.command.Request.TheVariants.{New as SpelledNew, Open as SpelledOpen, Write as SpelledWrite, Read as SpelledRead, Close as SpelledClose, Where as SpelledWhere, Drop as SpelledDrop}
-use Rattle.far_replay.specs.Reply.{Reply, printed}
+use Rattle.far_replay.specs.Reply.{Reply, reply_text}
 use Rattle.far_replay.specs.Between.{Between}
 use Rattle.far_replay.specs.Turn.{effect, refusal, unless}
 use Rattle.far_replay.proofs.Turns.{turns}
@@ -33,7 +33,7 @@ unfolding hex_bytes
 hex_are_bytes word = unwrapped_bytes (decode_of word) (λ bytes e. (decode_of-ok word bytes e).3)
 
 -- what a command that was read writes is bytes
-pub said_bytes : (command : Spelled) → WritesBytes (said command)
+pub said_bytes : (command : Spelled) → WritesBytes (as_command command)
 said_bytes (SpelledMutator m (SpelledNew len structure)) = tt
 said_bytes (SpelledMutator m SpelledOpen) = tt
 said_bytes (SpelledMutator m (SpelledWrite p from bytes)) = hex_are_bytes bytes.digits.now
@@ -71,7 +71,7 @@ answered_all s t cs replies moments none e go =
     subst (λ xs. Answered s cs xs moments) (append-nil replies) (subst (λ us. Answered s cs (replies ++ []) us) (append-nil moments) (go [] [] (subst (λ cs. Answered t cs [] []) (sym e) tt)))
 
 -- what is printed of one reply more
-pub printed_more : (first : Reply) (replies : List Reply) (r : Reply) → flat_map printed (first ∷ (replies ++ r ∷ [])) ≡ flat_map printed (first ∷ replies) ++ printed r
+pub printed_more : (first : Reply) (replies : List Reply) (r : Reply) → flat_map reply_text (first ∷ (replies ++ r ∷ [])) ≡ flat_map reply_text (first ∷ replies) ++ reply_text r
 printed_more first replies r =
-    let one : flat_map printed (r ∷ []) ≡ printed r = append-nil (printed r) in
-    ap (λ xs. printed first ++ xs) (flat_map-append printed replies (r ∷ []) ∙ ap (λ xs. flat_map printed replies ++ xs) one) ∙ sym (append_assoc (printed first) (flat_map printed replies) (printed r))
+    let one : flat_map reply_text (r ∷ []) ≡ reply_text r = append-nil (reply_text r) in
+    ap (λ xs. reply_text first ++ xs) (flat_map-append reply_text replies (r ∷ []) ∙ ap (λ xs. flat_map reply_text replies ++ xs) one) ∙ sym (append_assoc (reply_text first) (flat_map reply_text replies) (reply_text r))

@@ -24,7 +24,7 @@ use Rattle.far_replay.specs.EventRows.{after_events, ComesToPass, AllComeToPass,
 use Rattle.far_replay.specs.Events.{turn_events, zero_puts, new_events, view_events, load_events, store_events, first_loads, last_loads, part_events, first_word, words_touched, starts_inside, ends_inside}
 use Rattle.far_replay.specs.Headline.{IsAtHandFor}
 use Rattle.far_replay.specs.Moment.{moment_of}
-use Rattle.far_replay.specs.Objects.{uses, object_len, data_of, spliced, lowest_cell, is_range}
+use Rattle.far_replay.specs.Objects.{uses, object_len, data_of, with_range, lowest_cell, is_range}
 use Rattle.far_replay.specs.Turn.{access_causes, first_cause, refusal, unless}
 use Rattle.far_replay.proofs.AloneStates.{lowest_free}
 use Rattle.far_replay.proofs.Drops.{drop_comes, unheld_is}
@@ -104,7 +104,7 @@ all_come s (Mutator m (Write p from bytes)) None e law hand =
     let part : List Event = part_events m p from (length bytes) in
     let first : ℕ = first_word from in
     let touched : ℕ = words_touched from (length bytes) in
-    let new : List ℕ = spliced (data_of s p) from bytes in
+    let new : List ℕ = with_range (data_of s p) from bytes in
     AllComeToPass-append s (view ++ part) (store_events m p first touched new)
     (AllComeToPass-append s view part (view_comes s m p (hand (is_named s m p from (length bytes) law e))) (all_sure (after_events s view) part (parts m p from (length bytes))))
     (all_sure (after_events s (view ++ part)) (store_events m p first touched new) (stores m p first touched new))

@@ -15,7 +15,7 @@ use Rattle.far_core.specs.declared.event.Kind.{Kind}
 use Rattle.far_core.specs.declared.event.Kind.TheVariants as kinds
 use Rattle.far_book.specs.declared.home.Home.TheVariants.{Near, Far}
 use Rattle.far_replay.specs.Headline.{IsToldInFull, IsHomeToldInFull, AreCountsToldInFull, IsLineToldInFull, AreToldInFull, IsRefusalToldInFull}
-use Rattle.far_replay.specs.Reply.{Reply, Done, Pointer, Data, Logs, Lies, Audited, Refused, LogLine, Counts, kind_word, log_printed, letters_of, home_printed, counts_printed, detail, refused_printed, printed}
+use Rattle.far_replay.specs.Reply.{Reply, Done, Pointer, Data, Logs, Lies, Audited, Refused, LogLine, Counts, kind_word, log_text, letters_of, home_printed, counts_printed, detail, refusal_text, reply_text}
 use Rattle.std.proofs.lemmas.Str.Parse.{digit_at}
 
 -- ---- bytes up to the first of one kind
@@ -80,12 +80,12 @@ chained front [] rest = refl
 chained front (part ∷ parts) rest = chained (front ++ part) parts rest ∙ append_assoc front part (from_right parts rest)
 
 -- a line in front of others, from the left
-line_right : (l : LogLine) (rest : List ℕ) → log_printed l ++ rest
+line_right : (l : LogLine) (rest : List ℕ) → log_text l ++ rest
     ≡ codes "log " ++ (decimal l.log ++ (32 ∷ (kind_word l.kind ++ (32 ∷ (codes "live " ++ (decimal l.live ++ (32 ∷ (codes "dead " ++ (decimal l.dead ++ (32 ∷ (codes "unused " ++ (decimal l.unused ++ (10 ∷ rest)))))))))))))
 line_right l rest = chained (codes "log ")
     (decimal l.log ∷ codes " " ∷ kind_word l.kind ∷ codes " live " ∷ decimal l.live ∷ codes " dead " ∷ decimal l.dead ∷ codes " unused " ∷ decimal l.unused ∷ codes "\n" ∷ []) rest
 
-line_alike : (l k : LogLine) (xs ys : List ℕ) → IsLineToldInFull l → IsLineToldInFull k → log_printed l ++ xs ≡ log_printed k ++ ys → (l ≡ k) × (xs ≡ ys)
+line_alike : (l k : LogLine) (xs ys : List ℕ) → IsLineToldInFull l → IsLineToldInFull k → log_text l ++ xs ≡ log_text k ++ ys → (l ≡ k) × (xs ≡ ys)
 line_alike l k xs ys p q e =
     let (log, a) = cut 32 (decimal l.log) (decimal k.log) _ _ (decimal_free 32 l.log (omega arith) p.log) (decimal_free 32 k.log (omega arith) q.log)
     (append_cancel_left (codes "log ") _ _ (sym (line_right l xs) ∙ e ∙ line_right k ys)) in
@@ -101,12 +101,12 @@ line_alike l k xs ys p q e =
     let unused_same : l.unused ≡ k.unused = decimal_injective l.unused k.unused p.unused q.unused unused in
     ((λ i. record { log = log_same i; kind = kind_same i; live = live_same i; dead = dead_same i; unused = unused_same i }), end)
 
-lines_alike : (ls ks : List LogLine) → AreToldInFull ls → AreToldInFull ks → flat_map log_printed ls ≡ flat_map log_printed ks → ls ≡ ks
+lines_alike : (ls ks : List LogLine) → AreToldInFull ls → AreToldInFull ks → flat_map log_text ls ≡ flat_map log_text ks → ls ≡ ks
 lines_alike [] [] p q e = refl
 lines_alike [] (k ∷ ks) p q e = let h : 0 ≡ 108 = ap head_of e in absurd (omega (arith, h))
 lines_alike (l ∷ ls) [] p q e = let h : 108 ≡ 0 = ap head_of e in absurd (omega (arith, h))
 lines_alike (l ∷ ls) (k ∷ ks) p q e =
-    let (first, behind) = line_alike l k (flat_map log_printed ls) (flat_map log_printed ks) p.0 q.0 e in
+    let (first, behind) = line_alike l k (flat_map log_text ls) (flat_map log_text ks) p.0 q.0 e in
     let others = lines_alike ls ks p.1 q.1 behind in
     (λ i. first i ∷ others i)
 
@@ -148,7 +148,7 @@ number_alone why e = ap (λ xs. decimal (refusal_number why) ++ xs) e ∙ append
 line_behind : (why : Refusal) (line : ℕ) → why ≡ Syntax line → behind_refused why ≡ decimal 16 ++ (32 ∷ decimal line)
 line_behind why line e = ap behind_refused e
 
-refused_alike : (a b : Refusal) → IsRefusalToldInFull a → IsRefusalToldInFull b → refused_printed a ≡ refused_printed b → a ≡ b
+refused_alike : (a b : Refusal) → IsRefusalToldInFull a → IsRefusalToldInFull b → refusal_text a ≡ refusal_text b → a ≡ b
 refused_alike a b p q e =
     let same : behind_refused a ≡ behind_refused b =
     append_cancel_left (codes "refused ") _ _ (sym (append_assoc (codes "refused ") (decimal (refusal_number a)) (detail a))
@@ -198,7 +198,7 @@ marks_alike m n e = sym (letters_back m.hot m.evac m.moved m.dropped) ∙ ap mar
 near_right : (place : Place) (m : Marks) → home_printed (Near place m) ≡ codes "near " ++ (decimal place.log ++ (32 ∷ (decimal place.at ++ (32 ∷ (letters_of m ++ codes "\n")))))
 near_right place m = chained (codes "near ") (decimal place.log ∷ codes " " ∷ decimal place.at ∷ codes " " ∷ letters_of m ∷ []) (codes "\n")
 
-near_alike : (place at : Place) (m n : Marks) → IsHomeToldInFull (Near place m) → IsHomeToldInFull (Near at n) → printed (Lies (Near place m)) ≡ printed (Lies (Near at n)) → Lies (Near place m) ≡ Lies (Near at n)
+near_alike : (place at : Place) (m n : Marks) → IsHomeToldInFull (Near place m) → IsHomeToldInFull (Near at n) → reply_text (Lies (Near place m)) ≡ reply_text (Lies (Near at n)) → Lies (Near place m) ≡ Lies (Near at n)
 near_alike place at m n p q e =
     let (log, a) = cut 32 (decimal place.log) (decimal at.log) _ _ (decimal_free 32 place.log (omega arith) p.0) (decimal_free 32 at.log (omega arith) q.0)
     (append_cancel_left (codes "near ") _ _ (sym (near_right place m) ∙ e ∙ near_right at n)) in
@@ -208,14 +208,14 @@ near_alike place at m n p q e =
     let word_same : place.at ≡ at.at = decimal_injective place.at at.at p.1 q.1 word in
     (λ i. Lies (Near record { log = log_same i; at = word_same i } (marks i)))
 
-far_alike : (m n : Marks) → printed (Lies (Far m)) ≡ printed (Lies (Far n)) → Lies (Far m) ≡ Lies (Far n)
+far_alike : (m n : Marks) → reply_text (Lies (Far m)) ≡ reply_text (Lies (Far n)) → Lies (Far m) ≡ Lies (Far n)
 far_alike m n e = ap (λ (x : Marks). Lies (Far x)) (marks_alike m n (append_cancel_left (codes "far ") _ _ (append_cancel_right _ _ (codes "\n") e)))
 
 -- ---- what an audit counts
 counts_right : (c : Counts) → counts_printed c ≡ codes "audit near " ++ (decimal c.near ++ (32 ∷ (codes "far " ++ (decimal c.far ++ (32 ∷ (codes "live " ++ (decimal c.live ++ codes "\n")))))))
 counts_right c = chained (codes "audit near ") (decimal c.near ∷ codes " far " ∷ decimal c.far ∷ codes " live " ∷ decimal c.live ∷ []) (codes "\n")
 
-counts_alike : (c d : Counts) → AreCountsToldInFull c → AreCountsToldInFull d → printed (Audited c) ≡ printed (Audited d) → c ≡ d
+counts_alike : (c d : Counts) → AreCountsToldInFull c → AreCountsToldInFull d → reply_text (Audited c) ≡ reply_text (Audited d) → c ≡ d
 counts_alike c d p q e =
     let (near, a) = cut 32 (decimal c.near) (decimal d.near) _ _ (decimal_free 32 c.near (omega arith) p.0) (decimal_free 32 d.near (omega arith) q.0)
     (append_cancel_left (codes "audit near ") _ _ (sym (counts_right c) ∙ e ∙ counts_right d)) in
@@ -227,16 +227,16 @@ counts_alike c d p q e =
     (λ i. record { near = near_same i; far = far_same i; live = live_same i })
 
 -- ---- replies
-pointers_alike : (p q : ℕ) → p < 2 ^ 64 → q < 2 ^ 64 → printed (Pointer p) ≡ printed (Pointer q) → p ≡ q
+pointers_alike : (p q : ℕ) → p < 2 ^ 64 → q < 2 ^ 64 → reply_text (Pointer p) ≡ reply_text (Pointer q) → p ≡ q
 pointers_alike p q a b e = decimal_injective p q a b (append_cancel_left (codes "pointer ") _ _ (append_cancel_right _ _ (codes "\n") e))
 
-bytes_alike : (x y : List ℕ) → IsBytes x → IsBytes y → printed (Data x) ≡ printed (Data y) → x ≡ y
+bytes_alike : (x y : List ℕ) → IsBytes x → IsBytes y → reply_text (Data x) ≡ reply_text (Data y) → x ≡ y
 bytes_alike x y a b e =
     let same : encode_lower x ≡ encode_lower y = append_cancel_left (codes "data ") _ _ (append_cancel_right _ _ (codes "\n") e) in
     let both : Ok x ≡ Ok y = sym (decode_of-encode_lower x a) ∙ ap decode_of same ∙ decode_of-encode_lower y b in
     cc
 
-pub printed_alike : (r q : Reply) → IsToldInFull r → IsToldInFull q → printed r ≡ printed q → r ≡ q
+pub printed_alike : (r q : Reply) → IsToldInFull r → IsToldInFull q → reply_text r ≡ reply_text q → r ≡ q
 printed_alike Done Done a b e = refl
 printed_alike Done (Pointer q) a b e = let h : 111 ≡ 112 = ap head_of e in absurd (omega (arith, h))
 printed_alike Done (Data y) a b e = let h : 111 ≡ 100 = ap head_of e in absurd (omega (arith, h))

@@ -4,7 +4,7 @@ use Rattle.std.specs.Str.{bytes_eq}
 use Rattle.std.proofs.lemmas.Slice.Eq.{bytes_eq-Decides}
 use Rattle.far_replay.specs.Command.{Entry, HeapLine, CommandLine, New, Open, Write, Read, Close, Where, Drop, Logs, Log, Audit, Mutator, Book}
 use Rattle.far_replay.specs.Says.{Says, Spells}
-use Rattle.far_replay.specs.Grammar.{asks_read, asks_write, asks_open, asks_close, asks_new, asks_where, asks_drop, asks_log, From, Operands, Numbers, NumbersAndBytes, number_of, bytes_in, next_number, last_bytes, numbers_then, ended, entry_from, table, found_in, entry_of, ◌>>=◌}
+use Rattle.far_replay.specs.Grammar.{asks_read, asks_write, asks_open, asks_close, asks_new, asks_where, asks_drop, asks_log, From, Operands, Numbers, NumbersAndBytes, number_of, bytes_in, next_number, last_bytes, numbers_then, entry_at_end, entry_from, table, found_in, entry_of, ◌>>=◌}
 use Rattle.far_replay.proofs.Each.{Each}
 use Rattle.far_replay.proofs.HexLemmas.{spelled_is_hex, hex_is_spelled}
 use Rattle.far_replay.proofs.Numbers.{number_is, number_only}
@@ -75,7 +75,7 @@ bytes_then (w ∷ []) make c e =
     ] refl e
 bytes_then (w ∷ v ∷ words) make c e = absurd (cc e)
 
-ended_then : (words : List (List ℕ)) (c d : Entry) → ended words c ≡ Some d → (words ≡ []) × (c ≡ d)
+ended_then : (words : List (List ℕ)) (c d : Entry) → entry_at_end words c ≡ Some d → (words ≡ []) × (c ≡ d)
 ended_then [] c d e = (refl, cc e)
 ended_then (w ∷ words) c d e = absurd (cc e)
 
@@ -83,7 +83,7 @@ ended_then (w ∷ words) c d e = absurd (cc e)
 numbers_only : (n : ℕ) (make : From n Entry) (words : List (List ℕ)) (c : Entry) → entry_from (Numbers n make) words ≡ Some c →
     (t : Several n) × Below n t × (words ≡ in_front n t []) × (made_of n make t ≡ c)
 numbers_only n make words c e =
-    let (t, behind, below, is, last) = several_then n make (λ command behind. ended behind command) words c e in
+    let (t, behind, below, is, last) = several_then n make (λ command behind. entry_at_end behind command) words c e in
     let (none, same) = ended_then behind (made_of n make t) c last in
     (t, below, is ∙ ap (in_front n t) none, same)
 

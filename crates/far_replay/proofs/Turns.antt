@@ -33,7 +33,7 @@ use Rattle.far_replay.specs.Command.{Command, New, Open, Write, Read, Close, Whe
 use Rattle.far_replay.specs.EventRows.{after_events, AllSucceed, AtHand}
 use Rattle.far_replay.specs.Between.{Between}
 use Rattle.far_replay.specs.Events.{new_events, zero_puts, open_events, view_events, first_word, words_touched, load_events, starts_inside, ends_inside, part_events, store_events, drop_events, turn_events, events_for}
-use Rattle.far_replay.specs.Objects.{uses, object_len, data_of, spliced, lowest_cell, is_range}
+use Rattle.far_replay.specs.Objects.{uses, object_len, data_of, with_range, lowest_cell, is_range}
 use Rattle.far_replay.specs.Effects.{new_word}
 use Rattle.far_replay.specs.Effects.{with_row, with_object, with_view, with_data, with_scope, without_object, epoch_for}
 use Rattle.far_replay.specs.Turn.{turn_effect, effect, with_new, access_causes, first_cause, refusal, unless}
@@ -44,7 +44,7 @@ use Rattle.far_replay.proofs.Lowest.{lowest_cell_is}
 use Rattle.far_replay.proofs.MadeLemmas.{made-append, AllSucceed-append, made_first, first_succeeds, made_law, load_stays}
 use Rattle.far_replay.proofs.NewTurns.{new_succeeds, new_between, new_end}
 use Rattle.far_replay.proofs.Each.{Each, Each-append, Each-row}
-use Rattle.far_replay.proofs.Spliced.{AreBytes, spliced_bytes, length-spliced, packed_padded, packed_wide}
+use Rattle.far_replay.proofs.Spliced.{AreBytes, with_range_bytes, length-with_range, packed_padded, packed_wide}
 use Rattle.far_replay.proofs.StoreTurns.{stores_go, stores_end}
 use Rattle.far_replay.proofs.RangeWrites.{object_padded}
 use Rattle.far_replay.proofs.WriteEnds.{row_whole}
@@ -171,7 +171,7 @@ module _ (s : State) (m p from : ℕ) (bytes : List ℕ) (law : Law s) (between 
 
   -- the bytes after the write
   abbrev changed : List ℕ
-  changed = spliced (data_of s p) from bytes
+  changed = with_range (data_of s p) from bytes
 
   -- as many as the object has
   data_long : length (data_of s p) ≡ data_len s p
@@ -183,11 +183,11 @@ module _ (s : State) (m p from : ℕ) (bytes : List ℕ) (law : Law s) (between 
 
   -- they are bytes
   changed_bytes : AreBytes changed
-  changed_bytes = spliced_bytes (data_of s p) from bytes within (bytes_of-small (λ i. s.word (near_data (read_of (s.cell p)) + i)) (data_len s p)) small
+  changed_bytes = with_range_bytes (data_of s p) from bytes within (bytes_of-small (λ i. s.word (near_data (read_of (s.cell p)) + i)) (data_len s p)) small
 
   -- as many as before
   changed_long : length changed ≡ data_len s p
-  changed_long = length-spliced (data_of s p) from bytes within ∙ data_long
+  changed_long = length-with_range (data_of s p) from bytes within ∙ data_long
 
   -- the object is held
   held : Viewed s view m p
@@ -254,7 +254,7 @@ module _ (s : State) (m p from : ℕ) (bytes : List ℕ) (law : Law s) (between 
       (λ i lt. packed_padded changed held.len i changed_bytes (changed_long ∙ held.long) lt)
       (words_touched from (length bytes)) (first_word from) view lawful held.holds
       (λ i lt. subst (λ n. first_word from + i < words_for n) held.long (touched_inside s m p from (length bytes) law between access i lt))
-      ∙ ap (λ (old : List ℕ). record view { word = with_row view.word (d + first_word from) (words_touched from (length bytes)) (λ i. packed_word (spliced old from bytes) (first_word from + i)) }) (sym data_same)
+      ∙ ap (λ (old : List ℕ). record view { word = with_row view.word (d + first_word from) (words_touched from (length bytes)) (λ i. packed_word (with_range old from bytes) (first_word from + i)) }) (sym data_same)
       ∙ ap (λ (f : ℕ → ℕ). record view { word = f })
       (row_whole view.word d (data_len view p) from bytes (omega (arith, access.within, held.same_len)) access.some lawful.spans.word_fits (object_padded view lawful p))
 

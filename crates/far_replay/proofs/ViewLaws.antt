@@ -26,7 +26,7 @@ use Rattle.far_replay.specs.Headline.{LogsStay, StayThrough, ViewsObject, ViewsN
 use Rattle.far_replay.specs.EventRows.{after_events, Succeeds, ComesToPass}
 use Rattle.far_replay.specs.Reply.{Reply, Refused}
 use Rattle.far_replay.specs.Events.{turn_events, zero_puts, new_events, open_events, view_events, load_events, store_events, first_loads, last_loads, part_events, drop_events, first_word, words_touched, starts_inside, ends_inside}
-use Rattle.far_replay.specs.Objects.{lowest_cell, spliced, data_of}
+use Rattle.far_replay.specs.Objects.{lowest_cell, with_range, data_of}
 use Rattle.far_replay.specs.Effects.{new_word}
 use Rattle.far_replay.specs.Turn.{refusal, unless, turn_reply, reply_to}
 use Rattle.far_replay.proofs.Lasting.{Lasts, carried, moment_lasts, still_lasts}
@@ -141,7 +141,7 @@ views_after s c (Some why) ok = refused_views s c why where
 views_after s (Mutator m (New len ds)) None ok = row_stays s (turn_events (moment_of s) (Mutator m (New len ds))) (news m len ds (lowest_cell s m) (room s (size_of len) true))
 views_after s (Mutator m Open) None ok = row_stays s (open_events s m) (opens s m)
 views_after s (Mutator m (Write p from bytes)) None ok =
-    let new : List ℕ = spliced (data_of s p) from bytes in
+    let new : List ℕ = with_range (data_of s p) from bytes in
     viewed_twice_behind s m p (part_events m p from (length bytes)) (store_events m p (first_word from) (words_touched from (length bytes)) new) ok
     (parts m p from (length bytes)) (stores m p (first_word from) (words_touched from (length bytes)) new)
 views_after s (Mutator m (Read p from len)) None ok = viewed_behind s m p (load_events m p (first_word from) (words_touched from len)) ok (loads m p (first_word from) (words_touched from len))
@@ -169,7 +169,7 @@ closes_last : (s : State) (c : Command) → ClosesLast (turn_events (moment_of s
 closes_last s (Mutator m (New len ds)) = none_closes (turn_events (moment_of s) (Mutator m (New len ds))) (no_close (turn_events (moment_of s) (Mutator m (New len ds))) (news m len ds (lowest_cell s m) (room s (size_of len) true)))
 closes_last s (Mutator m Open) = none_closes (open_events s m) (no_close (open_events s m) (opens s m))
 closes_last s (Mutator m (Write p from bytes)) =
-    let new : List ℕ = spliced (data_of s p) from bytes in
+    let new : List ℕ = with_range (data_of s p) from bytes in
     let part : List Event = part_events m p from (length bytes) in
     let stored : List Event = store_events m p (first_word from) (words_touched from (length bytes)) new in
     none_closes (view_events s m p ++ part ++ stored) (Each-append NoClose (view_events s m p ++ part) stored

@@ -43,28 +43,28 @@ pub data Trace : Type 0 where
   Heap : (logs mutators : ℕ) (commands : List Command) → Trace
 
 -- what is spelled so: the bytes of a write are spelled in hex
-abbrev pub said_request : SpelledRequest → Request
-said_request (SpelledNew len structure) = New len structure
-said_request SpelledOpen = Open
-said_request (SpelledWrite pointer from bytes) = Write pointer from (hex_bytes bytes.digits.now)
-said_request (SpelledRead pointer from len) = Read pointer from len
-said_request SpelledClose = Close
-said_request (SpelledWhere pointer) = Where pointer
-said_request (SpelledDrop pointer) = Drop pointer
+abbrev pub as_request : SpelledRequest → Request
+as_request (SpelledNew len structure) = New len structure
+as_request SpelledOpen = Open
+as_request (SpelledWrite pointer from bytes) = Write pointer from (hex_bytes bytes.digits.now)
+as_request (SpelledRead pointer from len) = Read pointer from len
+as_request SpelledClose = Close
+as_request (SpelledWhere pointer) = Where pointer
+as_request (SpelledDrop pointer) = Drop pointer
 
-abbrev pub said_inquiry : SpelledInquiry → Inquiry
-said_inquiry SpelledLogs = Logs
-said_inquiry (SpelledLog log) = Log log
-said_inquiry SpelledAudit = Audit
+abbrev pub as_inquiry : SpelledInquiry → Inquiry
+as_inquiry SpelledLogs = Logs
+as_inquiry (SpelledLog log) = Log log
+as_inquiry SpelledAudit = Audit
 
-abbrev pub said : Spelled → Command
-said (SpelledMutator mutator request) = Mutator mutator (said_request request)
-said (SpelledBook inquiry) = Book (said_inquiry inquiry)
+abbrev pub as_command : Spelled → Command
+as_command (SpelledMutator mutator request) = Mutator mutator (as_request request)
+as_command (SpelledBook inquiry) = Book (as_inquiry inquiry)
 
-abbrev pub said_entry : SpelledEntry → Entry
-said_entry (SpelledHeapLine logs mutators) = HeapLine logs mutators
-said_entry (SpelledCommandLine command) = CommandLine (said command)
+abbrev pub as_entry : SpelledEntry → Entry
+as_entry (SpelledHeapLine logs mutators) = HeapLine logs mutators
+as_entry (SpelledCommandLine command) = CommandLine (as_command command)
 
-abbrev pub said_trace : SpelledTrace → Trace
-said_trace SpelledNothing = Nothing
-said_trace (SpelledHeap logs mutators commands) = Heap logs mutators (map said commands.items)
+abbrev pub as_trace : SpelledTrace → Trace
+as_trace SpelledNothing = Nothing
+as_trace (SpelledHeap logs mutators commands) = Heap logs mutators (map as_command commands.items)

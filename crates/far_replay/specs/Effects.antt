@@ -12,7 +12,7 @@ use Rattle.far_core.specs.declared.event.Event.TheVariants.{Ask}
 use Rattle.far_core.specs.events.Step.{after, after_pin, with_span, scope_word_of, near_data, data_len}
 use Rattle.far_core.specs.state.State.{State, put, addr}
 use Rattle.far_book.specs.book.Effects.{retired}
-use Rattle.far_replay.specs.Objects.{data_of, spliced}
+use Rattle.far_replay.specs.Objects.{data_of, with_range}
 
 -- the word of a cell that names a new place
 abbrev pub new_word : ℕ → ℕ → Place → ℕ
@@ -42,7 +42,7 @@ with_view s p = if is_some (s.held p) then s else after_pin s p
 -- an object has other bytes in the place of those from here on
 abbrev pub with_data : State → ℕ → ℕ → List ℕ → State
 with_data s p from bytes = record s {
-  word = with_row s.word (near_data (read_of (s.cell p))) (words_for (data_len s p)) (packed_word (spliced (data_of s p) from bytes));
+  word = with_row s.word (near_data (read_of (s.cell p))) (words_for (data_len s p)) (packed_word (with_range (data_of s p) from bytes));
 }
 
 -- an object is dropped: its owner asks for it, and its cell is retired

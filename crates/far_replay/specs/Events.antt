@@ -14,7 +14,7 @@ use Rattle.far_core.specs.state.State.{State}
 use Rattle.far_replay.specs.Command.{Command, New, Open, Write, Read, Close, Where, Drop, Mutator, Book}
 use Rattle.far_replay.specs.Effects.{new_word}
 use Rattle.far_replay.specs.Moment.{Moment}
-use Rattle.far_replay.specs.Objects.{data_of, spliced, lowest_cell}
+use Rattle.far_replay.specs.Objects.{data_of, with_range, lowest_cell}
 use Rattle.far_replay.specs.Turn.{refusal, unless}
 
 -- a new object: its header and zeros are put, its cell is named, and its owner adopts it
@@ -73,7 +73,7 @@ turn_events now (Mutator m (New len ds)) = new_events m len ds (lowest_cell now.
 turn_events now (Mutator m Open) = open_events now.core m
 turn_events now (Mutator m (Write p from bytes)) =
     view_events now.core m p ++ part_events m p from (length bytes)
-    ++ store_events m p (first_word from) (words_touched from (length bytes)) (spliced (data_of now.core p) from bytes)
+    ++ store_events m p (first_word from) (words_touched from (length bytes)) (with_range (data_of now.core p) from bytes)
 turn_events now (Mutator m (Read p from len)) = view_events now.core m p ++ load_events m p (first_word from) (words_touched from len)
 turn_events now (Mutator m Close) = Closes m ∷ []
 turn_events now (Mutator m (Where p)) = []

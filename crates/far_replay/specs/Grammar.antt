@@ -35,9 +35,9 @@ last_bytes (word ∷ []) = bytes_in word
 last_bytes words = None
 
 -- the entry, where no words are left
-abbrev pub ended : List (List ℕ) → Entry → Option Entry
-ended [] entry = Some entry
-ended (word ∷ words) entry = None
+abbrev pub entry_at_end : List (List ℕ) → Entry → Option Entry
+entry_at_end [] entry = Some entry
+entry_at_end (word ∷ words) entry = None
 
 -- ---- what stands after a line's name
 -- what is made of n numbers
@@ -56,7 +56,7 @@ numbers_then zero make rest words = rest make words
 numbers_then (suc n) make rest words = next_number words >>= λ first. numbers_then n (make first.0) rest first.1
 
 abbrev pub entry_from : Operands → List (List ℕ) → Option Entry
-entry_from (Numbers n make) words = numbers_then n make (λ entry after. ended after entry) words
+entry_from (Numbers n make) words = numbers_then n make (λ entry after. entry_at_end after entry) words
 entry_from (NumbersAndBytes n make) words = numbers_then n make (λ entry after. last_bytes after >>= λ bytes. Some (entry bytes)) words
 
 -- ---- the lines by their names

@@ -28,11 +28,11 @@ use Rattle.far_replay.specs.Grammar.{trace_of}
 use Rattle.far_replay.specs.Moment.{Moment}
 use Rattle.far_replay.specs.EventRows.{after_events, AllPass, AllSucceed, AllComeToPass, AtHand, AllAtHand}
 use Rattle.far_replay.specs.Events.{events_for}
-use Rattle.far_replay.specs.Objects.{spliced, uses}
+use Rattle.far_replay.specs.Objects.{with_range, uses}
 use Rattle.far_replay.specs.Says.{Says}
 use Rattle.far_replay.specs.Stays.{Stays}
 use Rattle.far_replay.specs.Written.{WritesBytes, AllWriteBytes}
-use Rattle.far_replay.specs.Reply.{Reply, Done, Pointer, Data, Logs, Lies, Audited, Refused, LogLine, Counts, printed}
+use Rattle.far_replay.specs.Reply.{Reply, Done, Pointer, Data, Logs, Lies, Audited, Refused, LogLine, Counts, reply_text}
 
 -- a log in which a view rests in s isn't free in t
 abbrev pub LogStays : State → State → Type 0
@@ -205,7 +205,7 @@ IsToldInFull (Refused why) = IsRefusalToldInFull why
 -- ---- the laws
 -- replies that their lines tell in full are equal where they are printed alike
 abbrev pub PrintedAlike : Type 0
-PrintedAlike = (r q : Reply) → IsToldInFull r → IsToldInFull q → printed r ≡ printed q → r ≡ q
+PrintedAlike = (r q : Reply) → IsToldInFull r → IsToldInFull q → reply_text r ≡ reply_text q → r ≡ q
 
 -- among lines that say commands, a line says a mutator's exactly where the word after its name is the mutator's number, but for `log`, after which a log's number stands
 abbrev pub LinesAreNumbered : Type 0
@@ -221,7 +221,7 @@ pub record IsSound (logs mutators : ℕ) (cs : List Command) (output : List ℕ)
   pub moments : List Moment
   pub bytes : AllWriteBytes cs
   pub answered : Answered (first_moment logs mutators) cs replies moments
-  pub printed_so : output ≡ flat_map printed (Done ∷ replies)
+  pub printed_so : output ≡ flat_map reply_text (Done ∷ replies)
   pub plain : All IsToldInFull replies
   pub lawful : All Lawful (first_moment logs mutators ∷ moments)
   pub whole : All (λ (now : Moment). IsWhole now.core) (first_moment logs mutators ∷ moments)
@@ -351,10 +351,10 @@ ViewsLast = (now : Moment) (c : Command) (r : Reply) (after : Moment) → IsMome
 -- a write changes the bytes of its range to the new ones, and no others
 abbrev pub WritesChangeTheirRange : Type 0
 WritesChangeTheirRange = (bytes new : List ℕ) (from : ℕ) → from + length new ≤ length bytes →
-    (length (spliced bytes from new) ≡ length bytes)
-    × ((k : ℕ) → k < from → slice_index (spliced bytes from new) k ≡ slice_index bytes k)
-    × ((k : ℕ) → k < length new → slice_index (spliced bytes from new) (from + k) ≡ slice_index new k)
-    × ((k : ℕ) → from + length new ≤ k → slice_index (spliced bytes from new) k ≡ slice_index bytes k)
+    (length (with_range bytes from new) ≡ length bytes)
+    × ((k : ℕ) → k < from → slice_index (with_range bytes from new) k ≡ slice_index bytes k)
+    × ((k : ℕ) → k < length new → slice_index (with_range bytes from new) (from + k) ≡ slice_index new k)
+    × ((k : ℕ) → from + length new ≤ k → slice_index (with_range bytes from new) k ≡ slice_index bytes k)
 
 -- of replies that are a mutator's alone, the reply to a line with its number says what it then knows, and the others say nothing of it
 abbrev pub OwnLinesCount : Type 0

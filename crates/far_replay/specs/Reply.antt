@@ -32,8 +32,8 @@ kind_word Open = codes "open"
 kind_word Sealed = codes "sealed"
 
 -- what `logs` says of one log: its number, its kind, and its bytes
-abbrev pub log_printed : LogLine → List ℕ
-log_printed line =
+abbrev pub log_text : LogLine → List ℕ
+log_text line =
     codes "log " ++ decimal line.log ++ codes " " ++ kind_word line.kind ++ codes " live " ++ decimal line.live
     ++ codes " dead " ++ decimal line.dead ++ codes " unused " ++ decimal line.unused ++ codes "\n"
 
@@ -62,18 +62,18 @@ detail (Syntax line) = codes " " ++ decimal line
 detail _ = []
 
 -- a refusal's line
-abbrev pub refused_printed : Refusal → List ℕ
-refused_printed why = codes "refused " ++ decimal (refusal_number why) ++ detail why ++ codes "\n"
+abbrev pub refusal_text : Refusal → List ℕ
+refusal_text why = codes "refused " ++ decimal (refusal_number why) ++ detail why ++ codes "\n"
 
 -- the lines of a reply, each with its newline
-abbrev pub printed : Reply → List ℕ
-printed Done = codes "ok\n"
-printed (Pointer pointer) = codes "pointer " ++ decimal pointer ++ codes "\n"
-printed (Data bytes) = codes "data " ++ encode_lower bytes ++ codes "\n"
-printed (Logs lines) = flat_map log_printed lines
-printed (Lies home) = home_printed home
-printed (Audited counts) = counts_printed counts
-printed (Refused why) = refused_printed why
+abbrev pub reply_text : Reply → List ℕ
+reply_text Done = codes "ok\n"
+reply_text (Pointer pointer) = codes "pointer " ++ decimal pointer ++ codes "\n"
+reply_text (Data bytes) = codes "data " ++ encode_lower bytes ++ codes "\n"
+reply_text (Logs lines) = flat_map log_text lines
+reply_text (Lies home) = home_printed home
+reply_text (Audited counts) = counts_printed counts
+reply_text (Refused why) = refusal_text why
 
 -- the reply that the code gives
 abbrev pub reply_of : Given → Reply

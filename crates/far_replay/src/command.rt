@@ -3,8 +3,8 @@
 ghost use Rattle.std.specs.Prelude.{◌≡◌, ◌∷◌, IfSome};
 ghost use Rattle.std.specs.Option.{option_map};
 ghost use Rattle.std.specs.Str.{bytes_eq};
-ghost use Rattle.far_replay.specs.Command.{said_entry, HeapLine, CommandLine, Book, Logs, Audit};
-ghost use Rattle.far_replay.specs.Grammar.{Numbers, NumbersAndBytes, asks_read, asks_write, asks_open, asks_close, asks_new, asks_where, asks_drop, asks_log, entry_from, entry_of, ended};
+ghost use Rattle.far_replay.specs.Command.{as_entry, HeapLine, CommandLine, Book, Logs, Audit};
+ghost use Rattle.far_replay.specs.Grammar.{Numbers, NumbersAndBytes, asks_read, asks_write, asks_open, asks_close, asks_new, asks_where, asks_drop, asks_log, entry_from, entry_of, entry_at_end};
 ghost use Rattle.far_replay.specs.Cursor.{words_in, words_left, lines_after_first, lines_after, lines_left};
 
 use crate::cursor::{Rest, last_bytes_of, next_number_of, word_first};
@@ -65,7 +65,7 @@ pub type Spelled<'a> = (Entry<'a>, Option<&'a [u8]>);
 // The entry, if its line ends here.
 #[inline(always)]
 fn at_end<'a>(entry: Entry<'a>, rest: Rest<'a>) -> Option<Spelled<'a>>
-    ensures value { option_map (λ found. said_entry found.0) result ≡ ended (words_left rest.entry) (said_entry entry.entry) }
+    ensures value { option_map (λ found. as_entry found.0) result ≡ entry_at_end (words_left rest.entry) (as_entry entry.entry) }
     ensures lines { IfSome result (λ found. lines_left found.1 ≡ lines_after rest.entry) }
 {
     match rest {
@@ -75,7 +75,7 @@ fn at_end<'a>(entry: Entry<'a>, rest: Rest<'a>) -> Option<Spelled<'a>>
 }
 
 fn heap_spelled(rest: Rest<'_>) -> Option<Spelled<'_>>
-    ensures value { option_map (λ found. said_entry found.0) result ≡ entry_from (Numbers 2 HeapLine) (words_left rest.entry) }
+    ensures value { option_map (λ found. as_entry found.0) result ≡ entry_from (Numbers 2 HeapLine) (words_left rest.entry) }
     ensures lines { IfSome result (λ found. lines_left found.1 ≡ lines_after rest.entry) }
 {
     let (logs, rest) = next_number_of(rest)?;
@@ -84,7 +84,7 @@ fn heap_spelled(rest: Rest<'_>) -> Option<Spelled<'_>>
 }
 
 fn new_spelled(rest: Rest<'_>) -> Option<Spelled<'_>>
-    ensures value { option_map (λ found. said_entry found.0) result ≡ entry_from (Numbers 3 asks_new) (words_left rest.entry) }
+    ensures value { option_map (λ found. as_entry found.0) result ≡ entry_from (Numbers 3 asks_new) (words_left rest.entry) }
     ensures lines { IfSome result (λ found. lines_left found.1 ≡ lines_after rest.entry) }
 {
     let (mutator, rest) = next_number_of(rest)?;
@@ -95,7 +95,7 @@ fn new_spelled(rest: Rest<'_>) -> Option<Spelled<'_>>
 }
 
 fn open_spelled(rest: Rest<'_>) -> Option<Spelled<'_>>
-    ensures value { option_map (λ found. said_entry found.0) result ≡ entry_from (Numbers 1 asks_open) (words_left rest.entry) }
+    ensures value { option_map (λ found. as_entry found.0) result ≡ entry_from (Numbers 1 asks_open) (words_left rest.entry) }
     ensures lines { IfSome result (λ found. lines_left found.1 ≡ lines_after rest.entry) }
 {
     let (mutator, rest) = next_number_of(rest)?;
@@ -105,7 +105,7 @@ fn open_spelled(rest: Rest<'_>) -> Option<Spelled<'_>>
 
 #[inline(always)]
 fn write_spelled(rest: Rest<'_>) -> Option<Spelled<'_>>
-    ensures value { option_map (λ found. said_entry found.0) result ≡ entry_from (NumbersAndBytes 3 asks_write) (words_left rest.entry) }
+    ensures value { option_map (λ found. as_entry found.0) result ≡ entry_from (NumbersAndBytes 3 asks_write) (words_left rest.entry) }
     ensures lines { IfSome result (λ found. lines_left found.1 ≡ lines_after rest.entry) }
 {
     let (mutator, rest) = next_number_of(rest)?;
@@ -123,7 +123,7 @@ fn write_spelled(rest: Rest<'_>) -> Option<Spelled<'_>>
 
 #[inline(always)]
 fn read_spelled(rest: Rest<'_>) -> Option<Spelled<'_>>
-    ensures value { option_map (λ found. said_entry found.0) result ≡ entry_from (Numbers 4 asks_read) (words_left rest.entry) }
+    ensures value { option_map (λ found. as_entry found.0) result ≡ entry_from (Numbers 4 asks_read) (words_left rest.entry) }
     ensures lines { IfSome result (λ found. lines_left found.1 ≡ lines_after rest.entry) }
 {
     let (mutator, rest) = next_number_of(rest)?;
@@ -135,7 +135,7 @@ fn read_spelled(rest: Rest<'_>) -> Option<Spelled<'_>>
 }
 
 fn close_spelled(rest: Rest<'_>) -> Option<Spelled<'_>>
-    ensures value { option_map (λ found. said_entry found.0) result ≡ entry_from (Numbers 1 asks_close) (words_left rest.entry) }
+    ensures value { option_map (λ found. as_entry found.0) result ≡ entry_from (Numbers 1 asks_close) (words_left rest.entry) }
     ensures lines { IfSome result (λ found. lines_left found.1 ≡ lines_after rest.entry) }
 {
     let (mutator, rest) = next_number_of(rest)?;
@@ -144,7 +144,7 @@ fn close_spelled(rest: Rest<'_>) -> Option<Spelled<'_>>
 }
 
 fn where_spelled(rest: Rest<'_>) -> Option<Spelled<'_>>
-    ensures value { option_map (λ found. said_entry found.0) result ≡ entry_from (Numbers 2 asks_where) (words_left rest.entry) }
+    ensures value { option_map (λ found. as_entry found.0) result ≡ entry_from (Numbers 2 asks_where) (words_left rest.entry) }
     ensures lines { IfSome result (λ found. lines_left found.1 ≡ lines_after rest.entry) }
 {
     let (mutator, rest) = next_number_of(rest)?;
@@ -154,7 +154,7 @@ fn where_spelled(rest: Rest<'_>) -> Option<Spelled<'_>>
 }
 
 fn drop_spelled(rest: Rest<'_>) -> Option<Spelled<'_>>
-    ensures value { option_map (λ found. said_entry found.0) result ≡ entry_from (Numbers 2 asks_drop) (words_left rest.entry) }
+    ensures value { option_map (λ found. as_entry found.0) result ≡ entry_from (Numbers 2 asks_drop) (words_left rest.entry) }
     ensures lines { IfSome result (λ found. lines_left found.1 ≡ lines_after rest.entry) }
 {
     let (mutator, rest) = next_number_of(rest)?;
@@ -164,7 +164,7 @@ fn drop_spelled(rest: Rest<'_>) -> Option<Spelled<'_>>
 }
 
 fn log_spelled(rest: Rest<'_>) -> Option<Spelled<'_>>
-    ensures value { option_map (λ found. said_entry found.0) result ≡ entry_from (Numbers 1 asks_log) (words_left rest.entry) }
+    ensures value { option_map (λ found. as_entry found.0) result ≡ entry_from (Numbers 1 asks_log) (words_left rest.entry) }
     ensures lines { IfSome result (λ found. lines_left found.1 ≡ lines_after rest.entry) }
 {
     let (log, rest) = next_number_of(rest)?;
@@ -178,8 +178,8 @@ fn is_name(word: &[u8], name: &[u8]) -> bool
 }
 
 // The entry of this name, by the words after it.
-fn named<'a>(name: &[u8], rest: Rest<'a>) -> Option<Spelled<'a>>
-    ensures value { option_map (λ found. said_entry found.0) result ≡ entry_of (name.now ∷ words_left rest.entry) }
+fn entry_by_name<'a>(name: &[u8], rest: Rest<'a>) -> Option<Spelled<'a>>
+    ensures value { option_map (λ found. as_entry found.0) result ≡ entry_of (name.now ∷ words_left rest.entry) }
     ensures lines { IfSome result (λ found. lines_left found.1 ≡ lines_after rest.entry) }
 {
     if is_name(name, b"read") {
@@ -220,18 +220,18 @@ fn named<'a>(name: &[u8], rest: Rest<'a>) -> Option<Spelled<'a>>
 
 // What the first line of a text spells, by its first word.
 #[inline(never)]
-fn named_first(text: &[u8]) -> Option<Spelled<'_>>
-    ensures value { option_map (λ found. said_entry found.0) result ≡ entry_of (words_in text.now) }
+fn entry_by_first_word(text: &[u8]) -> Option<Spelled<'_>>
+    ensures value { option_map (λ found. as_entry found.0) result ≡ entry_of (words_in text.now) }
     ensures lines { IfSome result (λ found. lines_left found.1 ≡ lines_after_first text.now) }
 {
     let (name, rest) = word_first(text);
-    named(name, rest)
+    entry_by_name(name, rest)
 }
 
 /// What the first line of a text spells. The two commands that traces are full of are known by their first bytes.
 #[inline(always)]
 pub fn entry_first(text: &[u8]) -> Option<Spelled<'_>>
-    ensures value { option_map (λ found. said_entry found.0) result ≡ entry_of (words_in text.now) }
+    ensures value { option_map (λ found. as_entry found.0) result ≡ entry_of (words_in text.now) }
     ensures lines { IfSome result (λ found. lines_left found.1 ≡ lines_after_first text.now) }
 {
     if let [b'r', b'e', b'a', b'd', b' ', rest @ ..] = text {
@@ -240,5 +240,5 @@ pub fn entry_first(text: &[u8]) -> Option<Spelled<'_>>
     if let [b'w', b'r', b'i', b't', b'e', b' ', rest @ ..] = text {
         return write_spelled(Rest::Words(rest));
     }
-    named_first(text)
+    entry_by_first_word(text)
 }

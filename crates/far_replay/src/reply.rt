@@ -5,7 +5,7 @@ ghost use Rattle.std.specs.List.{flat_map};
 ghost use Rattle.far_word.specs.declared.sizes.TheConstants.{MOST_LOGS};
 ghost use Rattle.far_replay.specs.declared.reply.TheConstants.{LONGEST_REPLY};
 ghost use Rattle.far_word.specs.Refused.{refusal_number};
-ghost use Rattle.far_replay.specs.Reply.{IsShort, counts_printed, detail, home_printed, kind_word, letters_of, log_printed, mark_letter, printed, refused_printed, reply_of};
+ghost use Rattle.far_replay.specs.Reply.{IsShort, counts_printed, detail, home_printed, kind_word, letters_of, log_text, mark_letter, reply_text, refusal_text, reply_of};
 
 use crate::output::Output;
 use far_book::Home;
@@ -60,7 +60,7 @@ fn push_kind(kind: Kind, out: &mut Output)
 
 fn push_log(line: &LogLine, out: &mut Output)
     requires { length out.old + 200 ≤ Output.ROOM }
-    ensures grown { out.new ≡ out.old ++ log_printed line.now }
+    ensures grown { out.new ≡ out.old ++ log_text line.now }
     ensures short { length out.new ≤ length out.old + 200 }
 {
     out.push(b"log ");
@@ -79,7 +79,7 @@ fn push_log(line: &LogLine, out: &mut Output)
 fn push_logs(lines: &[LogLine], out: &mut Output)
     requires few { length lines.now ≤ MOST_LOGS }
     requires room { length out.old + LONGEST_REPLY ≤ Output.ROOM }
-    ensures { out.new ≡ out.old ++ flat_map log_printed lines.now }
+    ensures { out.new ≡ out.old ++ flat_map log_text lines.now }
 {
     for line in lines {
         push_log(line, out);
@@ -149,7 +149,7 @@ fn push_counts(counts: Counts, out: &mut Output)
 
 fn push_refused(why: Refused, out: &mut Output)
     requires { length out.old + 200 ≤ Output.ROOM }
-    ensures { out.new ≡ out.old ++ refused_printed why }
+    ensures { out.new ≡ out.old ++ refusal_text why }
 {
     out.push(b"refused ");
     out.push_number(u64::from(why.number()));
@@ -165,7 +165,7 @@ impl Reply<'_> {
     pub fn print_to(&self, out: &mut Output)
         requires short { IsShort (reply_of self.now) }
         requires room { length out.old + LONGEST_REPLY ≤ Output.ROOM }
-        ensures { out.new ≡ out.old ++ printed (reply_of self.now) }
+        ensures { out.new ≡ out.old ++ reply_text (reply_of self.now) }
     {
         match self {
             Reply::Done => out.push(b"ok\n"),

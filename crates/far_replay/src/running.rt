@@ -1,7 +1,7 @@
 //! A whole run: a text in, replies out.
 
 ghost use Rattle.std.specs.Prelude.{◌≡◌, ◌≢◌, ◌<◌, ◌∷◌, true, cond, List, length, map, slice_index, take, Ok, Err, IfOk, IfErr, IfSome, OnOk};
-ghost use Rattle.far_replay.specs.Reply.{refused_printed};
+ghost use Rattle.far_replay.specs.Reply.{refusal_text};
 ghost use Rattle.far_replay.specs.Stream.{Writes};
 ghost use Rattle.std.specs.List.{flat_map};
 ghost use Rattle.far_core.specs.state.Opening.{opening};
@@ -10,8 +10,8 @@ ghost use Rattle.far_replay.specs.Moment.{Moment, moment_of, state_in};
 ghost use Rattle.far_replay.specs.Answers.{Answered, MayMakeHeap, WritesOutput, WritesAnswer, LeavesBehind, Leaves, end_of};
 ghost use Rattle.far_replay.specs.declared.text.TheConstants.{LONGEST_TEXT};
 ghost use Rattle.far_replay.specs.Grammar.{trace_of};
-ghost use Rattle.far_replay.specs.Command.{said, said_trace, Heap};
-ghost use Rattle.far_replay.specs.Reply.{Reply as Answer, Done, printed};
+ghost use Rattle.far_replay.specs.Command.{as_command, as_trace, Heap};
+ghost use Rattle.far_replay.specs.Reply.{Reply as Answer, Done, reply_text};
 ghost use Rattle.far_replay.specs.Between.{Between};
 
 use crate::command::Command;
@@ -86,7 +86,7 @@ fn refuse<W: Write>(
     replies: &mut ReplyWriter,
     why: Refused,
 ) -> Result<(), WriteFault>
-    ensures { Writes (W.contents writer.old) (W.contents writer.new) result (refused_printed why) }
+    ensures { Writes (W.contents writer.old) (W.contents writer.new) result (refusal_text why) }
 {
     replies.clear();
     replies.add(writer, &Reply::Refused(why));
@@ -102,8 +102,8 @@ fn answer_commands<W: Write>(
     commands: &[Command],
 ) -> Result<(), WriteFault>
     requires between { Between (state_in book) }
-    ensures { (replies : List Answer) × (moments : List Moment) × Answered (moment_of (state_in book)) (map said commands.now) replies moments
-        × Writes (W.contents writer.old) (W.contents writer.new) result (flat_map printed (Done ∷ replies)) }
+    ensures { (replies : List Answer) × (moments : List Moment) × Answered (moment_of (state_in book)) (map as_command commands.now) replies moments
+        × Writes (W.contents writer.old) (W.contents writer.new) result (flat_map reply_text (Done ∷ replies)) }
 {
     let mut book = book;
     replies.clear();
@@ -134,9 +134,9 @@ fn answer_heap<W: Write>(
     commands: &[Command],
 ) -> Result<End, RunFault>
     requires first { shape.epoch ≡ 0 }
-    ensures answered { OnOk result (WritesOutput (W.contents writer.old) (W.contents writer.new) (Ok (Heap shape.logs shape.mutators (map said commands.now)))) }
-    ensures end { IfOk result (λ end. end ≡ end_of (Ok (Heap shape.logs shape.mutators (map said commands.now)))) }
-    ensures fault { IfErr result (λ fault. LeavesBehind fault (W.contents writer.old) (W.contents writer.new) (Ok (Heap shape.logs shape.mutators (map said commands.now)))) }
+    ensures answered { OnOk result (WritesOutput (W.contents writer.old) (W.contents writer.new) (Ok (Heap shape.logs shape.mutators (map as_command commands.now)))) }
+    ensures end { IfOk result (λ end. end ≡ end_of (Ok (Heap shape.logs shape.mutators (map as_command commands.now)))) }
+    ensures fault { IfErr result (λ fault. LeavesBehind fault (W.contents writer.old) (W.contents writer.new) (Ok (Heap shape.logs shape.mutators (map as_command commands.now)))) }
     ensures unread { result ≢ Err RunFault.Read }
     ensures memory { result ≡ Err RunFault.Memory → is_shape shape ≡ true }
 {
@@ -164,11 +164,11 @@ fn answer<W: Write>(
     replies: &mut ReplyWriter,
     trace: &Trace,
 ) -> Result<End, RunFault>
-    ensures answered { OnOk result (WritesOutput (W.contents writer.old) (W.contents writer.new) (Ok (said_trace trace.now))) }
-    ensures end { IfOk result (λ end. end ≡ end_of (Ok (said_trace trace.now))) }
-    ensures fault { IfErr result (λ fault. LeavesBehind fault (W.contents writer.old) (W.contents writer.new) (Ok (said_trace trace.now))) }
+    ensures answered { OnOk result (WritesOutput (W.contents writer.old) (W.contents writer.new) (Ok (as_trace trace.now))) }
+    ensures end { IfOk result (λ end. end ≡ end_of (Ok (as_trace trace.now))) }
+    ensures fault { IfErr result (λ fault. LeavesBehind fault (W.contents writer.old) (W.contents writer.new) (Ok (as_trace trace.now))) }
     ensures unread { result ≢ Err RunFault.Read }
-    ensures memory { result ≡ Err RunFault.Memory → MayMakeHeap (Ok (said_trace trace.now)) }
+    ensures memory { result ≡ Err RunFault.Memory → MayMakeHeap (Ok (as_trace trace.now)) }
 {
     match trace {
         Trace::Nothing => Ok(End::Ran),

@@ -10,7 +10,7 @@ ghost use Rattle.far_core.specs.state.Room.{room};
 ghost use Rattle.far_core.specs.events.Ranges.{stores};
 ghost use Rattle.far_core.specs.events.Step.{data_len, data_word};
 ghost use Rattle.far_core.specs.declared.event.Event.{Event};
-ghost use Rattle.far_replay.specs.Command.{said, said_request};
+ghost use Rattle.far_replay.specs.Command.{as_command, as_request};
 ghost use Rattle.far_replay.specs.Interpreter.{refused_in, IsAccess, IsViewed, StandsFor};
 ghost use Rattle.far_replay.specs.HexWord.{hex_bytes as spelled};
 ghost use Rattle.far_replay.specs.EventRows.{after_events, AtHand};
@@ -19,7 +19,7 @@ ghost use Rattle.far_replay.specs.Outcome.{reply_by, IsInRoom};
 ghost use Rattle.far_replay.specs.Reply.{IsShort};
 ghost use Rattle.far_replay.specs.Between.{Between};
 ghost use Rattle.far_replay.specs.Events.{events_for, turn_events, first_word, words_touched, starts_inside, ends_inside, first_loads, last_loads};
-ghost use Rattle.far_replay.specs.Objects.{data_of, lowest_cell, named_len, spliced, uses};
+ghost use Rattle.far_replay.specs.Objects.{data_of, lowest_cell, named_len, with_range, uses};
 ghost use Rattle.far_replay.specs.Moment.{moment_of, state_in};
 ghost use Rattle.far_replay.specs.Turn.{effect, access_causes, first_cause, reply_to, turn_reply, refusal, log_line, with_new};
 
@@ -31,10 +31,7 @@ use crate::inquiries::{audit, find_object, tell_log, tell_logs};
 use crate::outcome::{Outcome, Scratch};
 use far_book::{Book, Plain};
 use far_core::Event;
-use far_word::{
-    CELLS, LOG_WORDS, LONGEST, MOST_LOGS, MOST_MUTATORS, POINTERS, Place, Refused, pack_bytes,
-    pointer_len, size_of, unpack_bytes,
-};
+use far_word::{CELLS, LOG_WORDS, LONGEST, Refused, pack_bytes, pointer_len, unpack_bytes};
 
 /// Some bytes of an object that its owner may reach: the numbers of the owner and the pointer, and the range.
 #[derive(Clone, Copy)]
@@ -229,7 +226,7 @@ fn splice(book: &Book<Plain>, scratch: &mut Scratch, access: Access, bytes: HexW
     requires viewed { IsViewed (state_in book.now) access }
     requires bytes { length (spelled bytes.digits.now) ≡ access.count }
     ensures words { (k : ℕ) → k < words_touched access.from access.count →
-        slice_index scratch.new.words k ≡ packed_word (spliced (data_of (state_in book.now) access.pointer) access.from (spelled bytes.entry.digits.now)) (first_word access.from + k) }
+        slice_index scratch.new.words k ≡ packed_word (with_range (data_of (state_in book.now) access.pointer) access.from (spelled bytes.entry.digits.now)) (first_word access.from + k) }
 {
     let touched = access.touched() as usize;
     load_first(book, access, &mut scratch.words);
@@ -392,8 +389,8 @@ fn make_request(
     requires known { owner < (state_in book.old).mutators }
     requires between { Between (state_in book.old) }
     requires law { Law (state_in book.old) }
-    ensures state { state_in book.new ≡ after_events (state_in book.old) (events_for (moment_of (state_in book.old)) (Mutator owner (said_request request.entry))) }
-    ensures reply { reply_by scratch.new.bytes scratch.new.lines result ≡ reply_to (moment_of (state_in book.old)) (Mutator owner (said_request request.entry)) }
+    ensures state { state_in book.new ≡ after_events (state_in book.old) (events_for (moment_of (state_in book.old)) (Mutator owner (as_request request.entry))) }
+    ensures reply { reply_by scratch.new.bytes scratch.new.lines result ≡ reply_to (moment_of (state_in book.old)) (Mutator owner (as_request request.entry)) }
     ensures fits { IsInRoom result }
 {
     match request {
@@ -417,8 +414,8 @@ fn make_request(
 fn make_events(book: &mut Book<Plain>, scratch: &mut Scratch, command: &Command) -> Outcome
     requires between { Between (state_in book.old) }
     requires law { Law (state_in book.old) }
-    ensures state { state_in book.new ≡ after_events (state_in book.old) (events_for (moment_of (state_in book.old)) (said command.now)) }
-    ensures reply { reply_by scratch.new.bytes scratch.new.lines result ≡ reply_to (moment_of (state_in book.old)) (said command.now) }
+    ensures state { state_in book.new ≡ after_events (state_in book.old) (events_for (moment_of (state_in book.old)) (as_command command.now)) }
+    ensures reply { reply_by scratch.new.bytes scratch.new.lines result ≡ reply_to (moment_of (state_in book.old)) (as_command command.now) }
     ensures fits { IsInRoom result }
 {
     match *command {
@@ -441,8 +438,8 @@ fn make_events(book: &mut Book<Plain>, scratch: &mut Scratch, command: &Command)
 pub fn turn(book: &mut Book<Plain>, scratch: &mut Scratch, command: &Command) -> Outcome
     requires between { Between (state_in book.old) }
     requires law { Law (state_in book.old) }
-    ensures moment { moment_of (state_in book.new) ≡ effect (moment_of (state_in book.old)) (said command.now) }
-    ensures reply { reply_by scratch.new.bytes scratch.new.lines result ≡ reply_to (moment_of (state_in book.old)) (said command.now) }
+    ensures moment { moment_of (state_in book.new) ≡ effect (moment_of (state_in book.old)) (as_command command.now) }
+    ensures reply { reply_by scratch.new.bytes scratch.new.lines result ≡ reply_to (moment_of (state_in book.old)) (as_command command.now) }
     ensures fits { IsInRoom result }
 {
     make_events(book, scratch, command)
