@@ -1,6 +1,6 @@
 -- What the effects of the book's calls are, in the subject's words.
 use Rattle.std.proofs.Common.{◌≡◌, ℕ, ◌+◌, ◌<◌, ◌≤◌, true, arith, sym, refl, ap, subst, ◌∙◌, inl, inr}
-use Rattle.std.specs.Prelude.{◌≢◌, ◌⊎◌}
+use Rattle.std.specs.Prelude.{◌⊎◌}
 use Rattle.far_word.specs.declared.pointer.Place.{Place}
 use Rattle.far_word.specs.declared.pointer.PtrWord.TheVariants.{Near}
 use Rattle.far_word.specs.Header.{head_word}

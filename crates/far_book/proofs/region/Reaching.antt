@@ -20,13 +20,13 @@ use Rattle.far_core.specs.declared.event.Reply.TheVariants.{Done, Refused, Word}
 use Rattle.far_core.specs.declared.naming.Naming.TheVariants as naming
 use Rattle.far_core.specs.events.Legal.{Legal}
 use Rattle.far_core.specs.events.Name.{change_by}
-use Rattle.far_core.specs.events.Naming.{is_dropped, no_marks, naming_of}
+use Rattle.far_core.specs.events.Naming.{no_marks, naming_of}
 use Rattle.far_core.specs.events.Ranges.{AllLegal, after_events, with_row, zero_puts}
 use Rattle.far_core.specs.events.Step.{Fits, after, answer, step_of}
 use Rattle.far_core.specs.laws.Rooms.{IsRoom, RoomIs}
 use Rattle.far_core.specs.state.Law.{Law}
 use Rattle.far_core.specs.state.Room.{room}
-use Rattle.far_core.specs.state.State.{State, put, addr}
+use Rattle.far_core.specs.state.State.{State, addr}
 use Rattle.far_core.specs.world.Changes.{Step, StepOf, Makes}
 use Rattle.far_core.specs.world.Happens.{Happens}
 use Rattle.far_core.specs.world.WorldOf.{world_of}

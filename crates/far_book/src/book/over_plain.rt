@@ -30,9 +30,7 @@ impl Book<Plain> {
     pub fn core_keeps_law(&self)
         ensures law { Law (core_state self.now.near.core) }
         ensures agrees { Agrees (core_state self.now.near.core) }
-    {
-        self.near.core.keeps_law();
-    }
+    {}
 
     /// Makes an owner's event. Any other is answered [`Reply::Refused`], and nothing has changed.
     pub fn owner(&mut self, event: Event) -> Reply

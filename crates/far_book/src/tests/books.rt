@@ -1,9 +1,7 @@
 //! The book by worked values: logs that fill up, objects that are dropped, cells that are used again.
 
-ghost use Rattle.std.specs.Prelude.{◌≡◌, ◌<◌, ◌≤◌, true, IsSome};
-ghost use Rattle.far_word.specs.declared.sizes.TheConstants.{CELLS, LONGEST};
-ghost use Rattle.far_core.specs.events.Step.{data_len};
-ghost use Rattle.far_core.specs.state.CoreState.{core_state};
+ghost use Rattle.std.specs.Prelude.{◌≡◌, ◌<◌, ◌≤◌};
+ghost use Rattle.far_word.specs.declared.sizes.TheConstants.{LONGEST};
 
 use crate::{Beset, Book, Home, Near, Plain};
 use far_core::{Core, Event, Kind, Reply, Shape};
@@ -178,33 +176,28 @@ fn holding_pair(rt: &HostRuntime) -> Result<Book<Plain>, Refused> {
     Ok(book)
 }
 
-// Whether the first mutator holds an object of two words.
-fn holds_pair(core: &Core, pointer: u16) -> bool
-    ensures { result ≡ true → (pointer < CELLS) × IsSome ((core_state core.now).held pointer) × (data_len (core_state core.now) pointer ≡ 16) }
-{
-    if pointer >= CELLS || !core.is_held(pointer) {
-        return false;
-    }
-    match PtrWord::read(core.cell(pointer)) {
-        Some(PtrWord::Near { len, .. }) => len == 16,
-        _ => false,
-    }
-}
-
 // Stores a word into an object of two words, if the first mutator holds it, and says whether it did.
 fn store_word(book: &mut Book<Plain>, pointer: u16, index: u16, word: u64) -> bool {
-    if index >= 2 || !holds_pair(book.core(), pointer) {
+    let core = book.core();
+    if pointer >= CELLS || index >= 2 || !core.is_held(pointer) {
         return false;
     }
+    let Some(PtrWord::Near { len: 16, .. }) = PtrWord::read(core.cell(pointer)) else {
+        return false;
+    };
     book.store_all(0, pointer, index, &[word]);
     true
 }
 
 // The words of an object of two words, if the first mutator holds it.
 fn words_of(book: &Book<Plain>, pointer: u16) -> Option<[u64; 2]> {
-    if !holds_pair(book.core(), pointer) {
+    let core = book.core();
+    if pointer >= CELLS || !core.is_held(pointer) {
         return None;
     }
+    let Some(PtrWord::Near { len: 16, .. }) = PtrWord::read(core.cell(pointer)) else {
+        return None;
+    };
     let mut words = [0; 2];
     book.load_all(0, pointer, 0, &mut words);
     Some(words)
