@@ -29,6 +29,6 @@ pub fn view(book: &mut Book<Plain>, owner: u8, pointer: u16)
     ensures { state_in book.new ≡ after_events (state_in book.old) (view_events (state_in book.old) owner pointer) }
 {
     if !book.core().is_held(pointer) {
-        book.owner(Event::Pin { owner, pointer });
+        let _ = book.pin(owner, pointer);
     }
 }

@@ -1,7 +1,7 @@
 //! The text of replies, in room that was taken before.
 
-ghost use Rattle.std.specs.Prelude.{◌≡◌, ◌++◌, ◌+◌, ◌*◌, ◌≤◌, ◌<◌, ℕ, List, [], length, slice_index, take, decimal, IfOk};
-ghost use Rattle.hex.specs.Hex.{encode_lower, lower_digits};
+ghost use Rattle.std.specs.Prelude.{◌≡◌, ◌++◌, ◌+◌, ◌*◌, ◌≤◌, ℕ, List, [], length, take, decimal, IfOk};
+ghost use Rattle.hex.specs.Hex.{encode_lower};
 ghost use Rattle.far_replay.specs.declared.output.TheConstants.Output.{ROOM};
 
 use itoa::Buffer;
@@ -28,31 +28,6 @@ pub fn zeros(alloc: Global, len: usize) -> Result<Vec<u8>, AllocError>
     ensures { IfOk result (λ v. length v.items ≡ len) }
 {
     vec![in alloc; 0u8; len]
-}
-
-// The digit in hex of a number, in lower case.
-#[inline(always)]
-fn digit(number: u8) -> u8
-    requires { number < 16 }
-    ensures { result ≡ slice_index lower_digits number }
-{
-    if number < 10 {
-        b'0' + number
-    } else {
-        b'a' + (number - 10)
-    }
-}
-
-// Fills the room with the bytes in hex. No byte needs a table, so that the processor makes many at once.
-fn encode(bytes: &[u8], room: &mut [u8])
-    requires { length room.old ≡ 2 * length bytes.now }
-    ensures { room.new ≡ encode_lower bytes.now }
-{
-    for i in 0..bytes.len() {
-        let byte = bytes[i];
-        room[2 * i] = digit(byte >> 4);
-        room[2 * i + 1] = digit(byte & 0x0f);
-    }
 }
 
 impl Output {
@@ -117,7 +92,7 @@ impl Output {
         ensures long { length self.new ≡ length self.old + 2 * length bytes.now }
     {
         let end = self.len + 2 * bytes.len();
-        encode(bytes, &mut self.room[self.len..end]);
+        hex::encode_to_slice(bytes, &mut self.room[self.len..end]).unwrap();
         self.len = end;
     }
 }

@@ -1,6 +1,6 @@
 //! The book over a core of its own: what the core shows, and what owners do.
 
-ghost use Rattle.std.specs.Prelude.{◌≡◌, ◌+◌, ◌-◌, ◌*◌, ◌/◌, ◌^◌, ◌<◌, ◌≤◌, ℕ, true, false, length, slice_index, IsSome};
+ghost use Rattle.std.specs.Prelude.{◌≡◌, ◌+◌, ◌-◌, ◌*◌, ◌/◌, ◌^◌, ◌<◌, ◌≤◌, ℕ, true, false, length, slice_index, IsSome, IfOk, IfErr};
 ghost use Rattle.far_word.specs.declared.sizes.TheConstants.{CELLS};
 ghost use Rattle.far_word.specs.Sizes.{words_for};
 ghost use Rattle.far_core.specs.events.Legal.{Legal};
@@ -17,6 +17,7 @@ use crate::book::Book;
 use crate::owners::is_owners;
 use crate::plain::Plain;
 use far_core::{Core, Event, Reply};
+use far_word::Place;
 
 impl Book<Plain> {
     /// The core, to be read.
@@ -46,6 +47,19 @@ impl Book<Plain> {
         } else {
             Reply::Refused
         }
+    }
+
+    /// An open owner sets HOT on a pointer that it uses and doesn't hold. `Ok` with the object's place, which it holds
+    /// from then on; `Err` with the old word, where that isn't present or has EVAC, MOVE or DROP.
+    #[inline]
+    pub fn pin(&mut self, owner: u8, pointer: u16) -> Result<Place, u64>
+        requires legal { Legal (core_state self.old.near.core) (Event.Pin owner pointer) }
+        ensures state { core_state self.new.near.core ≡ after (core_state self.old.near.core) (Event.Pin owner pointer) }
+        ensures held { IfOk result (λ place. answer (core_state self.old.near.core) (Event.Pin owner pointer) ≡ Reply.Held place) }
+        ensures word { IfErr result (λ word. answer (core_state self.old.near.core) (Event.Pin owner pointer) ≡ Reply.Word word) }
+        ensures order { self.new.order ≡ self.old.order }
+    {
+        self.near.core.pin(owner, pointer)
     }
 
     /// Data words of an object that its owner holds, from its word `first` on, as many as there is room for: a load each.
