@@ -1,18 +1,16 @@
 -- One command more that was answered.
-use Rattle.std.proofs.Common.{◌≡◌, ℕ, ◌+◌, ◌<◌, List, [], ◌∷◌, ◌++◌, Option, Some, None, length, get_or, drop, Result, Ok, Err, refl, ap, sym, ◌∙◌, subst, arith, append_assoc, append-nil, zero, suc}
+use Rattle.std.proofs.Common.{◌≡◌, ℕ, ◌+◌, ◌<◌, List, [], ◌∷◌, ◌++◌, length, get_or, drop, Result, Ok, Err, refl, ap, sym, ◌∙◌, subst, arith, append_assoc, append-nil, zero, suc}
 use Rattle.std.specs.Prelude.{map}
 use Rattle.std.specs.List.{flat_map}
 use Rattle.std.specs.Result.{result_unwrap_or}
 use Rattle.hex.specs.Hex.{IsBytes, decode_of}
 use Rattle.hex.proofs.HexLemmas.{decode_of-ok}
 use Rattle.std.proofs.lemmas.Grind.{flat_map-append}
-use mathlib.Core.Path.{fun_ext}
-use Rattle.far_word.specs.declared.refused.Refused.{Refused as Refusal}
 use Rattle.far_core.specs.state.Law.{Law}
 use Rattle.far_core.specs.state.State.{State}
 use Rattle.far_replay.specs.Moment.{Moment, moment_of}
 use Rattle.far_replay.specs.Answers.{Answered, Commanded}
-use Rattle.far_replay.specs.Command.{Command, Read, Mutator, as_command}
+use Rattle.far_replay.specs.Command.{Command, as_command}
 use Rattle.far_replay.specs.HexWord.{hex_bytes}
 use Rattle.far_replay.specs.Written.{WritesBytes}
 use Rattle.far_replay.specs.declared.command.Command.{Command as Spelled}
@@ -20,7 +18,7 @@ use Rattle.far_replay.specs.declared.command.Command.TheVariants.{Mutator as Spe
 use Rattle.far_replay.specs.declared.command.Request.TheVariants.{New as SpelledNew, Open as SpelledOpen, Write as SpelledWrite, Read as SpelledRead, Close as SpelledClose, Where as SpelledWhere, Drop as SpelledDrop}
 use Rattle.far_replay.specs.Reply.{Reply, reply_text}
 use Rattle.far_replay.specs.Between.{Between}
-use Rattle.far_replay.specs.Turn.{effect, refusal, unless}
+use Rattle.far_replay.specs.Turn.{effect}
 use Rattle.far_replay.proofs.Turns.{turns}
 
 -- what is decoded is bytes, and nothing is

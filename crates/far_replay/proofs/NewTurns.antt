@@ -1,16 +1,14 @@
 -- A new object is put, named and adopted: each event is made, and what holds between commands stays.
-use Rattle.std.proofs.Common.{◌≡◌, ◌≢◌, ℕ, zero, suc, ◌+◌, ◌-◌, ◌*◌, ◌/◌, ◌%◌, ◌<◌, ◌≤◌, ◌⊎◌, true, false, cond, refl, sym, ap, subst, ◌∙◌, arith, Some, List, [], ◌∷◌, ◌++◌, map, inl, inr}
+use Rattle.std.proofs.Common.{◌≡◌, ◌≢◌, ℕ, zero, suc, ◌+◌, ◌*◌, ◌/◌, ◌<◌, ◌≤◌, ◌⊎◌, true, false, cond, refl, sym, ap, subst, ◌∙◌, arith, Some, List, [], ◌∷◌, ◌++◌, map, inl, inr}
 use Rattle.std.specs.List.{range_with_len}
-use Rattle.std.proofs.lemmas.Bool.{false≢true, cases_lt, cases_eq, eq-eqb, false_from_ne_true}
-use Rattle.far_word.specs.declared.header.HeadWord.{HeadWord}
+use Rattle.std.proofs.lemmas.Bool.{false≢true, cases_eq, eq-eqb, false_from_ne_true}
 use Rattle.far_word.specs.declared.pointer.Place.{Place}
 use Rattle.far_word.specs.declared.pointer.PtrWord.TheVariants as pointer
 use Rattle.far_word.specs.declared.pointer.PtrWord.TheVariants.{Near}
 use Rattle.far_word.specs.declared.sizes.TheConstants.{CELLS, LOG_WORDS, LONGEST}
-use Rattle.far_word.specs.Header.{head_of, head_word}
+use Rattle.far_word.specs.Header.{head_word}
 use Rattle.far_word.specs.Pointer.{read_of}
 use Rattle.far_word.specs.Sizes.{size_of, words_for}
-use Rattle.far_word.proofs.HeaderLaws.{head_back}
 use Rattle.far_core.specs.declared.event.Event.{Event}
 use Rattle.far_core.specs.declared.event.Event.TheVariants.{Put, Name, Adopt}
 use Rattle.far_core.specs.declared.event.Kind.TheVariants.{Free, Open, Sealed}
@@ -21,14 +19,11 @@ use Rattle.far_core.specs.declared.naming.Naming.TheVariants.{Places}
 use Rattle.far_core.specs.events.Name.{after_naming}
 use Rattle.far_core.specs.events.Naming.{naming_of, no_marks}
 use Rattle.far_core.proofs.Namings.{naming_only}
-use Rattle.far_core.specs.state.Spans.{names_place}
 use Rattle.far_core.specs.state.State.{State, put, addr}
 use Rattle.far_core.specs.events.Step.{step_of, is_legal, after, answer, with_span}
 use Rattle.far_core.proofs.Cells.{unused}
-use Rattle.far_core.proofs.KeepPlace.{header}
 use Rattle.far_core.proofs.Owing.{is_test}
-use Rattle.far_core.proofs.Put.{put_both, put_same, put_other}
-use Rattle.far_core.proofs.SpanFrames.{past_tail}
+use Rattle.far_core.proofs.Put.{put_same, put_other}
 use Rattle.far_book.specs.book.Effects.{near_word, placed as placed_by}
 use Rattle.far_replay.specs.Effects.{with_row}
 use Rattle.far_replay.specs.EventRows.{after_events, Succeeds, AllSucceed, AtHand}

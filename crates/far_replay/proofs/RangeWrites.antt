@@ -1,6 +1,6 @@
 -- The words that a write stores are those of the object with the new bytes in place.
 use Rattle.std.proofs.Common.{◌≡◌, ◌≢◌, ℕ, ◌+◌, ◌-◌, ◌*◌, ◌/◌, ◌%◌, ◌^◌, ◌<◌, ◌≤◌, true, false, List, ◌++◌, length, take, drop, get_or, refl, ap, sym, ◌∙◌, arith, inl, inr, length-take-le, length-drop, length-append, subst, Option, Some, None}
-use Rattle.std.specs.Prelude.{map, slice_index}
+use Rattle.std.specs.Prelude.{map}
 use Rattle.std.specs.List.{range_with_len}
 use Rattle.std.proofs.lemmas.Bool.{cases_lt, false≢true}
 use Rattle.std.proofs.lemmas.Bool.Decides.{nat_tests}
@@ -16,16 +16,12 @@ use Rattle.far_word.proofs.ByteLaws.{bytes_of-get, length-bytes_of, words_of-get
 use Rattle.far_word.specs.declared.pointer.PtrWord.{PtrWord}
 use Rattle.far_word.specs.declared.pointer.PtrWord.TheVariants.{Free, Near, Far}
 use Rattle.far_word.specs.Pointer.{read_of}
-use Rattle.far_core.specs.declared.event.Event.{Event}
-use Rattle.far_core.specs.declared.event.Event.TheVariants.{Load as Loads, Store as Stores}
 use Rattle.far_core.specs.state.Law.{Law, head_len}
 use Rattle.far_core.specs.state.State.{State, addr}
 use Rattle.far_core.specs.events.Step.{near_len, near_data, data_len}
 use Rattle.far_core.proofs.Bounds.{span_len}
-use Rattle.far_replay.specs.EventRows.{after_events}
-use Rattle.far_replay.specs.Events.{starts_inside, ends_inside, words_touched, store_events}
+use Rattle.far_replay.specs.Events.{starts_inside, ends_inside, words_touched}
 use Rattle.far_replay.specs.Objects.{with_range}
-use Rattle.far_replay.proofs.MadeLemmas.{made-append}
 use Rattle.far_replay.proofs.Spliced.{with_range_before, with_range_inside, with_range_behind}
 use Rattle.far_replay.proofs.Fronts.{shifted_byte}
 

@@ -3,7 +3,6 @@ use mathlib.Core.Path.{fun_ext}
 use Rattle.std.proofs.Common.{◌≡◌, ℕ, zero, suc, ◌+◌, ◌-◌, ◌*◌, ◌^◌, ◌<◌, true, refl, sym, ap, subst, ◌∙◌, arith, List, map}
 use Rattle.std.specs.List.{range_with_len}
 use Rattle.far_word.specs.declared.pointer.Place.{Place}
-use Rattle.far_word.specs.Header.{head_of}
 use Rattle.far_word.specs.Sizes.{words_for}
 use Rattle.far_core.specs.declared.event.Event.{Event}
 use Rattle.far_core.specs.declared.event.Event.TheVariants.{Store}

@@ -1,5 +1,5 @@
 -- Which shapes a heap line may say, and what each command takes of the logs.
-use Rattle.std.proofs.Common.{◌≡◌, ◌≤◌, ℕ, nat_lt, ◌&&◌, Bool, true, false, is_some, sym, refl, subst, arith, Option, Some, None, length}
+use Rattle.std.proofs.Common.{◌≡◌, ◌≤◌, ℕ, nat_lt, ◌&&◌, true, is_some, sym, refl, subst, arith, Option, Some, None}
 use Rattle.std.specs.Prelude.{◌↔◌, nat_le}
 use Rattle.std.proofs.lemmas.Bool.{cond_both, true≢false}
 use Rattle.std.proofs.lemmas.Bool.Decides.{nat_tests}

@@ -1,10 +1,7 @@
-use Rattle.std.proofs.Common.{◌≡◌, ℕ, true, false, None, is_some, refl, sym, ap, ◌∙◌}
-use Rattle.far_word.specs.declared.mark.Mark.TheVariants.{Dropped}
+use Rattle.std.proofs.Common.{◌≡◌, ℕ, true, None, is_some, refl, sym, ap, ◌∙◌}
 use Rattle.far_word.specs.Pointer.{read_of}
-use Rattle.far_core.specs.declared.event.Event.TheVariants.{Ask as Asks}
 use Rattle.far_core.specs.declared.machine.Core.{Core}
 use Rattle.far_core.specs.events.Naming.{is_dropped}
-use Rattle.far_core.specs.events.Step.{after}
 use Rattle.far_core.specs.state.CoreState.{core_state}
 use Rattle.far_core.specs.state.State.{State}
 use Rattle.far_book.specs.book.Effects.{retired}

@@ -1,12 +1,11 @@
-use Rattle.std.proofs.Common.{◌≡◌, ◌<◌, ◌∷◌, [], true, nat_lt, List, refl, sym, ap, ◌∙◌, arith}
+use Rattle.std.proofs.Common.{◌≡◌, ◌<◌, ◌∷◌, [], true, nat_lt, ap, ◌∙◌, arith}
 use Rattle.std.proofs.lemmas.Bool.{lt-ltb}
 use Rattle.std.proofs.lemmas.List.{take_more_set}
 use Rattle.far_core.specs.declared.machine.Core.{Core}
 use Rattle.far_core.specs.state.CoreState.{core_state}
 use Rattle.far_core.specs.state.State.{State}
-use Rattle.far_replay.specs.Moment.{moment_of, state_in}
+use Rattle.far_replay.specs.Moment.{state_in}
 use Rattle.far_replay.specs.Reply.{Logs, LogLine}
-use Rattle.far_replay.specs.Turn.{log_line}
 use Rattle.far_replay.proofs.inquiries.tell_log.Goals as goal
 
 pub returns-clause-reply : goal.returns-clause-reply

@@ -3,7 +3,7 @@ use Rattle.far_word.specs.Sizes.{size_of}
 use Rattle.far_core.specs.state.Room.{room}
 use Rattle.far_core.specs.state.State.{State}
 use Rattle.far_replay.specs.Command.{Mutator, New}
-use Rattle.far_replay.specs.Moment.{moment_of, state_in}
+use Rattle.far_replay.specs.Moment.{state_in}
 use Rattle.far_replay.specs.Turn.{with_new}
 use Rattle.far_replay.proofs.Turns.{made_by_events}
 use Rattle.far_replay.proofs.turn.make_object.Goals as goal

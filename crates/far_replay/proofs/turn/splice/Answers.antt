@@ -1,11 +1,11 @@
-use Rattle.std.proofs.Common.{◌≡◌, ◌+◌, ◌*◌, ◌-◌, ◌/◌, ◌<◌, ◌≤◌, ℕ, true, length, get_or, List, ap, sym, ◌∙◌, arith, refl}
+use Rattle.std.proofs.Common.{◌≡◌, ◌+◌, ◌*◌, ◌-◌, ◌/◌, ℕ, true, length, get_or, List, ap, ◌∙◌, arith, refl}
 use Rattle.far_word.specs.Pointer.{read_of}
 use Rattle.far_word.specs.Bytes.{packed_word}
 use Rattle.far_replay.specs.Moment.{state_in}
 use Rattle.far_core.specs.state.State.{State}
 use Rattle.far_core.specs.events.Step.{near_data, data_len}
 use Rattle.far_replay.specs.HexWord.{hex_bytes as spelled}
-use Rattle.far_replay.specs.Events.{starts_inside, ends_inside, words_touched}
+use Rattle.far_replay.specs.Events.{starts_inside}
 use Rattle.far_replay.specs.Objects.{with_range, data_of}
 use Rattle.far_replay.proofs.RangeWrites.{packed_words, object_padded, put_length}
 use borrow.Rule.Slice.PartMut.{put_mid}
