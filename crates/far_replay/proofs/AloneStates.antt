@@ -18,7 +18,7 @@ use Rattle.far_core.proofs.KeepOwner.{nonzero}
 use Rattle.far_replay.specs.Alone.{own_of, bytes_in_world}
 use Rattle.far_replay.specs.EventRows.{AllAtHand, AtHand}
 use Rattle.far_replay.specs.Objects.{uses, object_len, data_of, is_range, lowest_cell}
-use Rattle.far_replay.proofs.Lowest.{lowest_found}
+use Rattle.far_replay.proofs.Lowest.{lowest_cell_is}
 use Rattle.far_replay.proofs.Views.{len_near}
 use Rattle.far_replay.proofs.Spliced.{AreBytes}
 
@@ -97,13 +97,11 @@ data_small s p = bytes_of-small (λ i. s.word (near_data (read_of (s.cell p)) + 
 
 -- ---- the lowest cell of a mutator is its own
 pub lowest_own : (s : State) (m p : ℕ) → lowest_cell s m ≡ Some p → p / CELLS ≡ m
-unfolding lowest_cell
-lowest_own s m p e = let x = lowest_found s.cell (m * CELLS) CELLS p e in omega (arith, x.0, x.1)
+lowest_own s m p e = let x = lowest_cell_is s m p e in omega (arith, x.0, x.1)
 
 -- and it is free
 pub lowest_free : (s : State) (m p : ℕ) → lowest_cell s m ≡ Some p → s.cell p ≡ 0
-unfolding lowest_cell
-lowest_free s m p e = (lowest_found s.cell (m * CELLS) CELLS p e).2
+lowest_free s m p e = (lowest_cell_is s m p e).2
 
 -- so its mutator knows of no object there
 no_object : (s : State) (p : ℕ) → s.cell p ≡ 0 → (world_of s).object p ≡ None

@@ -45,7 +45,7 @@ use Rattle.far_replay.proofs.MadeLemmas.{Carries}
 use Rattle.far_replay.proofs.PlainReplies.{replies_plain}
 use Rattle.far_replay.proofs.ViewLaws.{logs_stay}
 use Rattle.far_replay.proofs.TextLaws.{texts_write}
-use Rattle.far_replay.proofs.Lowest.{lowest_found, none_found}
+use Rattle.far_replay.proofs.Lowest.{lowest_cell_is, no_cell_is}
 use Rattle.far_replay.proofs.Refusals.{turn_is_no_refusal, from_cause}
 use Rattle.far_replay.proofs.Spliced.{length-with_range, with_range_before, with_range_inside, with_range_behind}
 use Rattle.far_replay.proofs.Turns.{four}
@@ -144,8 +144,7 @@ told_pointer (Some why) x p e = absurd cc
 
 pub takes_lowest : (now : Moment) (m len ds p : ℕ) (next : Moment) → Commanded now (Mutator m (New len ds)) (Pointer p) next →
     (m * CELLS ≤ p) × (p < m * CELLS + CELLS) × (now.core.cell p ≡ 0) × ((q : ℕ) → m * CELLS ≤ q → q < p → now.core.cell q ≢ 0)
-unfolding lowest_cell
-takes_lowest now m len ds p next h = lowest_found now.core.cell (m * CELLS) CELLS p (told_pointer (refusal now (Mutator m (New len ds))) (lowest_cell now.core m) p h.reply)
+takes_lowest now m len ds p next h = lowest_cell_is now.core m p (told_pointer (refusal now (Mutator m (New len ds))) (lowest_cell now.core m) p h.reply)
 
 third : (a b c d : Bool) → first_cause ((a, Range) ∷ (b, Length) ∷ (c, NoPointer) ∷ (d, NoRoom) ∷ []) ≡ Some NoPointer → c ≡ true
 third true b c d e = absurd cc
@@ -164,15 +163,11 @@ fourth false false false false e = absurd cc
 why_refused : (now : Moment) (c : Command) (why : Refusal) (next : Moment) → Commanded now c (Refused why) next → refusal now c ≡ Some why
 why_refused now c why next h = from_cause (refusal now c) (turn_reply now c) why (turn_is_no_refusal now.core c why) (sym h.reply)
 
-no_cell : (s : State) (m : ℕ) → lowest_cell s m ≡ None → (q : ℕ) → m * CELLS ≤ q → q < m * CELLS + CELLS → s.cell q ≢ 0
-unfolding lowest_cell
-no_cell s m e = none_found s.cell (m * CELLS) CELLS e
-
 pub none_left : (now : Moment) (m len ds : ℕ) (next : Moment) →
     (Commanded now (Mutator m (New len ds)) (Refused NoPointer) next → (q : ℕ) → m * CELLS ≤ q → q < m * CELLS + CELLS → now.core.cell q ≢ 0)
     × (Commanded now (Mutator m (New len ds)) (Refused NoRoom) next → room now.core (size_of len) true ≡ None)
 none_left now m len ds next = (
-  (λ h. no_cell now.core m (none_from (lowest_cell now.core m) (third _ _ _ _ (why_refused now (Mutator m (New len ds)) NoPointer next h)))),
+  (λ h. no_cell_is now.core m (none_from (lowest_cell now.core m) (third _ _ _ _ (why_refused now (Mutator m (New len ds)) NoPointer next h)))),
   (λ h. none_from (room now.core (size_of len) true) (fourth _ _ _ _ (why_refused now (Mutator m (New len ds)) NoRoom next h))),
 )
 
@@ -199,10 +194,6 @@ some_lowest None y h = absurd (h refl)
 some_lowest (Some p) None h = (λ _. refl, λ place e. absurd cc)
 some_lowest (Some p) (Some place) h = (λ e. absurd cc, λ _ _. (p, refl))
 
-lowest_is_free : (s : State) (m p : ℕ) → lowest_cell s m ≡ Some p → (m * CELLS ≤ p) × (p < m * CELLS + CELLS) × (s.cell p ≡ 0)
-unfolding lowest_cell
-lowest_is_free s m p e = let x = lowest_found s.cell (m * CELLS) CELLS p e in (x.0, x.1, x.2)
-
 pub is_made : (now : Moment) (m len ds : ℕ) (r : Reply) (next : Moment) → m < now.core.mutators → ds < 256 → 0 < len → len ≤ LONGEST → Commanded now (Mutator m (New len ds)) r next →
     (((q : ℕ) → m * CELLS ≤ q → q < m * CELLS + CELLS → now.core.cell q ≢ 0) → r ≡ Refused NoPointer)
     × ((q : ℕ) → m * CELLS ≤ q → q < m * CELLS + CELLS → now.core.cell q ≡ 0 →
@@ -213,9 +204,9 @@ is_made now m len ds r next own structure some most h =
     let a : not (nat_lt m now.core.mutators && nat_lt ds 256) ≡ false = numbers_fit m now.core.mutators ds own structure in
     let b : not (nat_lt 0 len && nat_le len LONGEST) ≡ false = length_fits len some most in
     let is : r ≡ new_answer x y = h.reply ∙ in_range (not (nat_lt m now.core.mutators && nat_lt ds 256)) (not (nat_lt 0 len && nat_le len LONGEST)) x y a b in (
-      (λ taken. is ∙ no_lowest x y (λ p e. let free = lowest_is_free now.core m p e in taken p free.0 free.1 free.2)),
+      (λ taken. is ∙ no_lowest x y (λ p e. let free = lowest_cell_is now.core m p e in taken p free.0 free.1 free.2)),
       (λ q low high free.
-          let found = some_lowest x y (λ none. no_cell now.core m none q low high free) in
+          let found = some_lowest x y (λ none. no_cell_is now.core m none q low high free) in
           ((λ e. is ∙ found.0 e), (λ place e. let made_at = found.1 place e in (made_at.0, is ∙ made_at.1)))),
     )
   where
