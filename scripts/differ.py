@@ -12,7 +12,8 @@ import sys
 TEXT_LIMIT, LINE_LIMIT, LOG_BYTES, CELLS, MOST = 1_048_576, 4_096, 1_024, 128, 1_016
 NUMBER = re.compile(rb"0|[1-9][0-9]{0,19}")
 HEX = re.compile(rb"([0-9a-fA-F]{2})+")
-COMMANDS = {b"heap": "nn", b"new": "nnn", b"open": "n", b"close": "n", b"read": "nnnn", b"write": "nnnh", b"logs": ""}
+COMMANDS = {b"heap": "nn", b"new": "nnn", b"open": "n", b"close": "n", b"read": "nnnn", b"write": "nnnh", b"where": "nn", b"drop": "nn"}
+COMMANDS |= {b"logs": "", b"log": "n", b"audit": ""}
 
 
 def operand(kind: str, word: bytes):
@@ -48,22 +49,36 @@ def parse(text: bytes):
     return found
 
 
+def taken(length: int) -> int:
+    """The bytes that an object of this length takes of its log."""
+    return 8 * (1 + (length + 7) // 8)
+
+
+class Thing:
+    """An object: its bytes, its log and the word in it, and whether it was ever read or written."""
+
+    def __init__(self, length: int, log: int, word: int):
+        self.bytes, self.log, self.word, self.hot = bytearray(length), log, word, False
+
+
 class Heap:
-    """Objects as bytes, logs as the number of bytes placed in them. Nothing is ever dropped, so nothing is ever dead."""
+    """Objects by their cells, logs as the number of bytes placed in them. What no object takes of those is dead."""
 
     def __init__(self, logs: int, mutators: int):
         self.placed, self.newest = [0] + [None] * (logs - 1), 0
-        self.objects, self.scopes = [[] for _ in range(mutators)], [False] * mutators
+        self.objects, self.scopes = [{} for _ in range(mutators)], [False] * mutators
+        self.views = [set() for _ in range(mutators)]
 
-    def room(self, size: int) -> bool:
-        """Takes so many bytes behind what was placed last, or in a new log; the last free log is kept."""
+    def room(self, size: int):
+        """Takes so many bytes after what was placed last, or in a new log, and gives their log and word; the last free log is kept."""
         if self.placed[self.newest] + size > LOG_BYTES:
             if self.placed.count(None) < 2:
-                return False
+                return None
             self.newest = self.placed.index(None)
             self.placed[self.newest] = 0
+        place = self.newest, self.placed[self.newest] // 8
         self.placed[self.newest] += size
-        return True
+        return place
 
     def new(self, m: int, length: int, ds: int) -> str:
         if m >= len(self.scopes) or ds > 255:
@@ -72,10 +87,11 @@ class Heap:
             return "refused 4"
         if len(self.objects[m]) == CELLS:
             return "refused 3"
-        if not self.room(8 * (1 + (length + 7) // 8)):
+        if (place := self.room(taken(length))) is None:
             return "refused 2"
-        self.objects[m].append(bytearray(length))
-        return f"pointer {CELLS * m + len(self.objects[m]) - 1}"
+        cell = next(cell for cell in range(CELLS) if cell not in self.objects[m])
+        self.objects[m][cell] = Thing(length, *place)
+        return f"pointer {CELLS * m + cell}"
 
     def scope(self, m: int, wanted: bool, then: bool) -> str:
         """Asks for a scope that is open or closed, and leaves it open or closed."""
@@ -84,32 +100,68 @@ class Heap:
         if self.scopes[m] != wanted:
             return "refused 5" if wanted else "refused 6"
         self.scopes[m] = then
+        if not then:
+            self.views[m].clear()
         return "ok"
+
+    def find(self, m: int, p: int):
+        """The object of a mutator's pointer, or the refusal."""
+        if m >= len(self.scopes):
+            return "refused 8"
+        found = self.objects[m].get(p % CELLS) if p // CELLS == m else None
+        return "refused 7" if found is None else found
 
     def access(self, m: int, p: int, start: int, data) -> str:
         """A write of bytes, or a read of so many."""
         if (said := self.scope(m, True, True)) != "ok":
             return said
-        if p // CELLS != m or p % CELLS >= len(self.objects[m]):
-            return "refused 7"
-        found = self.objects[m][p % CELLS]
+        if isinstance(found := self.find(m, p), str):
+            return found
         end = start + (data if isinstance(data, int) else len(data))
-        if end == start or end > len(found):
+        if end == start or end > len(found.bytes):
             return "refused 8"
+        found.hot = True
+        self.views[m].add(p)
         if isinstance(data, int):
-            return "data " + found[start:end].hex()
-        found[start:end] = data
+            return "data " + found.bytes[start:end].hex()
+        found.bytes[start:end] = data
         return "ok"
 
+    def where(self, m: int, p: int) -> str:
+        if isinstance(found := self.find(m, p), str):
+            return found
+        return f"near {found.log} {found.word} {'h' if found.hot else '-'}"
+
+    def drop(self, m: int, p: int) -> str:
+        if isinstance(found := self.find(m, p), str):
+            return found
+        if p in self.views[m]:
+            return "refused 9"
+        del self.objects[m][p % CELLS]
+        return "ok"
+
+    def things(self) -> list:
+        return [found for own in self.objects for found in own.values()]
+
+    def log(self, log: int) -> str:
+        if log >= len(self.placed):
+            return "refused 8"
+        used = self.placed[log]
+        kind = "free" if used is None else "open" if log == self.newest else "sealed"
+        live = sum(taken(len(found.bytes)) for found in self.things() if found.log == log)
+        return f"log {log} {kind} live {live} dead {(used or 0) - live} unused {LOG_BYTES - (used or 0)}"
+
     def logs(self) -> str:
-        kinds = ["free" if used is None else "open" if log == self.newest else "sealed" for log, used in enumerate(self.placed)]
-        rows = enumerate(zip(kinds, [used or 0 for used in self.placed]))
-        return "\n".join(f"log {log} {kind} live {used} dead 0 unused {LOG_BYTES - used}" for log, (kind, used) in rows)
+        return "\n".join(self.log(log) for log in range(len(self.placed)))
+
+    def audit(self) -> str:
+        sizes = [taken(len(found.bytes)) for found in self.things()]
+        return f"audit near {len(sizes)} far 0 live {sum(sizes)}"
 
     def answer(self, name: str, operands: list) -> str:
         if name in ("open", "close"):
             return self.scope(*operands, name == "close", name == "open")
-        return {"new": self.new, "read": self.access, "write": self.access, "logs": self.logs}[name](*operands)
+        return getattr(self, {"read": "access", "write": "access"}.get(name, name))(*operands)
 
 
 def interpret(text: bytes) -> tuple[int, bytes]:
@@ -141,25 +193,42 @@ class Writer:
         """The number, or now and then one that is seldom good."""
         return good if self.choice.random() > 0.04 else self.choice.choice((0, 8, 255, 256, MOST, MOST + 1, 2**32, 2**63, 2**64 - 1))
 
+    def pointer(self, m: int) -> int:
+        """A pointer of the mutator's, most often of an object."""
+        found = self.heap.objects[m]
+        return CELLS * m + self.choice.choice([*sorted(found), min(len(found), CELLS - 1)])
+
     def access(self, m: int) -> str:
-        lengths = [len(found) for found in self.heap.objects[m]] + [9]
-        index = self.choice.randrange(len(lengths))
-        start = self.choice.randint(0, lengths[index])
-        rest = lengths[index] - start
+        pointer = self.pointer(m)
+        found = self.heap.objects[m].get(pointer % CELLS)
+        length = 9 if found is None else len(found.bytes)
+        start = self.choice.randint(0, length)
+        rest = length - start
         size = self.choice.choice((0, 1, 8, rest, rest, rest, rest + 1, self.choice.randrange(20)))
-        place = f"{self.odd(m)} {self.odd(CELLS * m + index)} {self.odd(start)}"
+        place = f"{self.odd(m)} {self.odd(pointer)} {self.odd(start)}"
         if self.choice.random() < 0.5:
             return f"read {place} {self.odd(size)}"
         return f"write {place} " + "".join(self.choice.choice("0123456789abcdefABCDEF") for _ in range(2 * max(size, 1)))
 
+    def operands(self, kind: str, m: int) -> str:
+        """A command with operands, by its name."""
+        if kind == "access":
+            return self.access(m)
+        if kind == "log":
+            return f"log {self.odd(self.choice.randrange(self.shape[0] or 1))}"
+        if kind in ("where", "drop"):
+            return f"{kind} {self.odd(m)} {self.odd(self.pointer(m))}"
+        if kind == "new":
+            return f"new {self.odd(m)} {self.odd(self.choice.randint(1, self.largest))} {self.odd(self.choice.randrange(256))}"
+        return f"{kind} {self.odd(m)}"
+
     def line(self) -> str:
         m = self.choice.randrange(len(self.heap.scopes))
-        kind = self.choice.choices(("new", "access", "open", "close", "logs", "", "# words"), (10, 30, 8, 2, 1, 1, 1))[0]
+        kinds = ("new", "access", "open", "close", "where", "drop", "log", "logs", "audit", "", "# words")
+        kind = self.choice.choices(kinds, (10, 30, 8, 2, 4, 4, 2, 1, 1, 1, 1))[0]
         if kind in ("", "# words"):
             return kind
-        made = self.access(m) if kind == "access" else kind if kind == "logs" else f"{kind} {self.odd(m)}"
-        if kind == "new":
-            made += f" {self.odd(self.choice.randint(1, self.largest))} {self.odd(self.choice.randrange(256))}"
+        made = kind if kind in ("logs", "audit") else self.operands(kind, m)
         self.heap.answer(*command(made.encode()))
         return made
 
@@ -170,7 +239,7 @@ class Writer:
         line, wide, byte = lines[at], LINE_LIMIT + self.choice.randrange(2), bytes([self.choice.randrange(256)])
         signs = [line.replace(b" ", sign, 1) for sign in (b"  ", b"\t", b" 0", b" +", b" -", b" 0x")]
         ends = [line + end for end in (b" ", b"\r", b"0", b" 1", b"\t", byte)]
-        others = b"heap 4 1|drop 0 0|log 0|# \xc3\xa9|#\0\t\r|\0|write 0 0 0 0g|write 0 0 0 |open %d|open %d" % (2**64, 10**20)
+        others = b"heap 4 1|view 0 0|select oldest 1|# \xc3\xa9|#\0\t\r|\0|write 0 0 0 0g|write 0 0 0 |open %d|open %d" % (2**64, 10**20)
         long = [b"#" * wide, (b"write 0 0 0 " + b"ab" * LINE_LIMIT)[: wide + self.choice.randrange(2)]]
         lines[at] = self.choice.choice([b" " + line, byte + line, line[:-1], line.upper(), *signs, *ends, *others.split(b"|"), *long])
         return b"\n".join(lines)

@@ -1,4 +1,5 @@
 pub mod Calls
+pub mod Effects
 pub mod Founds
 pub mod Leaving
 pub mod NotesKept

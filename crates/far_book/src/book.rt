@@ -13,32 +13,27 @@ ghost use Rattle.far_log.specs.Walk.{IsWalk};
 ghost use Rattle.far_core.specs.declared.event.Kind.TheVariants.{Sealed};
 ghost use Rattle.far_core.specs.events.Legal.{IsNext};
 ghost use Rattle.far_core.specs.events.Naming.{no_marks, is_dropped};
-ghost use Rattle.far_core.specs.events.Step.{step_of};
-ghost use Rattle.far_core.specs.state.CoreState.{core_state};
 ghost use Rattle.far_core.specs.state.Law.{Law};
 ghost use Rattle.far_core.specs.state.Room.{room};
 ghost use Rattle.far_core.specs.state.Shape.{is_shape};
 ghost use Rattle.far_core.specs.state.Spans.{spans_of};
 ghost use Rattle.far_core.specs.state.State.{State, put};
-ghost use Rattle.far_core.specs.world.Happens.{Happens};
-ghost use Rattle.far_core.specs.world.WorldOf.{world_of};
 ghost use Rattle.far_book.specs.Finds.{Finds, body_of};
 ghost use Rattle.far_book.specs.Known.{Forgets};
 ghost use Rattle.far_book.specs.book.Effects.{with_blank_span, placed, retired, order_after};
 ghost use Rattle.far_book.specs.book.Home.{home_of};
 ghost use Rattle.far_book.specs.book.Ledger.{IsLowestFree};
 ghost use Rattle.far_book.specs.book.Own.{own_part, IsAtStart};
-ghost use Rattle.far_book.specs.Owners.{is_owners};
 ghost use Rattle.far_book.specs.ShapeOf.{shape_of};
 ghost use Rattle.far_book.specs.book.Reading.{HeadersKnown, IsReadAt};
 ghost use Rattle.far_book.specs.book.Rows.{row_of};
 
+mod over_plain;
+
 use crate::home::Home;
 use crate::ledger::Ledger;
 use crate::near::Near;
-use crate::owners::is_owners;
-use crate::plain::Plain;
-use far_core::{Core, Event, Kind, Reply, Shape};
+use far_core::{Kind, Shape};
 use far_log::{LogRow, Span, WalkFault, walk};
 use far_word::{HeadWord, LOG_WORDS, Marks, Place, PtrWord, Refused, size_of, words_for};
 use std::alloc::Global;
@@ -198,30 +193,7 @@ impl<N: Near + Drop> Book<N> {
         ensures sealed { (l : ℕ) → (list_any (eqb l) self.now.order ≡ true) ↔ ((N.view self.now.near).kind l ≡ Sealed) }
         ensures once { IsDistinct eqb self.now.order }
     {
-        let _ledger = &self.ledger;
-    }
-}
-
-impl Book<Plain> {
-    /// The core, to be read.
-    pub fn core(&self) -> &Core
-        ensures { result.now ≡ self.now.near.core }
-    {
-        &self.near.core
-    }
-
-    /// Makes an owner's event. Any other is answered [`Reply::Refused`], and nothing has changed.
-    pub fn owner(&mut self, event: Event) -> Reply
-        ensures made { is_owners event ≡ true → (core_state self.new.near.core, result) ≡ step_of (core_state self.old.near.core) event }
-        ensures refused { is_owners event ≡ false → (result ≡ Reply.Refused) × (self.new.near ≡ self.old.near) }
-        ensures world { Happens (world_of (core_state self.old.near.core)) event result (world_of (core_state self.new.near.core)) }
-        ensures order { self.new.order ≡ self.old.order }
-    {
-        if is_owners(event) {
-            self.near.core.step(event)
-        } else {
-            Reply::Refused
-        }
+        let _ = &self.ledger;
     }
 }
 

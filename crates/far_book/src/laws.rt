@@ -4,12 +4,14 @@ ghost use Rattle.std.specs.Prelude.{◌≡◌, ◌*◌, ◌<◌, ◌≤◌, ℕ,
 ghost use Rattle.far_book.specs.book.Laws.{PlacingIsLegal, RetiringIsLegal};
 
 /// Placing a new object where room is leads from a state to the next by legal events of the core: its header and zeros are
-/// put, and its cell is named. So the law of the core is kept, and the world makes one step: the object.
+/// put, and its cell is named. So the law of the core is kept, and the world makes one step: the object. Its cell says near at
+/// the place, the tail of its log grows by its size, and no other cell, word or tail changes.
 pub fn placing_is_legal()
     ensures { PlacingIsLegal }
 {}
 
-/// Retiring a dropped object is one legal event of the core; the law of the core is kept, and the world stays.
+/// Retiring a dropped object is one legal event of the core; the law of the core is kept, and the world stays. Its cell is free,
+/// and no other cell, no word, tail or kind of a log changes.
 pub fn retiring_is_legal()
     ensures { RetiringIsLegal }
 {}

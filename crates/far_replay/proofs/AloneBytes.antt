@@ -6,9 +6,9 @@ use Rattle.far_word.specs.Bytes.{packed_word, with_word, words_of}
 use Rattle.far_word.proofs.ByteLaws.{bytes_of-get, bytes_of-words_of, words_of-get}
 use Rattle.far_word.proofs.ByteLaws.{with_word-get, length-with_word}
 use Rattle.far_replay.specs.Events.{first_word, words_touched}
-use Rattle.far_replay.specs.Objects.{spliced}
+use Rattle.far_replay.specs.Objects.{with_range}
 use Rattle.far_replay.proofs.AloneRuns.{over_all}
-use Rattle.far_replay.proofs.Spliced.{AreBytes, length-spliced, spliced_before, spliced_behind, spliced_bytes}
+use Rattle.far_replay.proofs.Spliced.{AreBytes, length-with_range, with_range_before, with_range_behind, with_range_bytes}
 
 -- one byte of the word of eight bytes
 byte_of_word : (bytes : List ℕ) → AreBytes bytes → (k : ℕ) → k < length bytes → packed_word bytes (k / 8) / 2 ^ (8 * (k % 8)) % 256 ≡ get_or bytes k 0
@@ -44,12 +44,12 @@ module _ (new : List ℕ) (small : AreBytes new) where
       (λ h. over_one-out bytes first k lt (λ e. omega arith) ∙ above (omega arith))
 
 -- the words that the bytes touch, written over, make the bytes with those in their place
-pub over_spliced : (bytes : List ℕ) (from : ℕ) (put : List ℕ) → from + length put ≤ length bytes → AreBytes bytes → AreBytes put → 0 < length put →
-    over_all bytes (first_word from) (words_touched from (length put)) (spliced bytes from put) ≡ spliced bytes from put
-over_spliced bytes from put fits old new some =
-    let same : length (spliced bytes from put) ≡ length bytes = length-spliced bytes from put fits in
-    let long : length (over_all bytes (first_word from) (words_touched from (length put)) (spliced bytes from put)) ≡ length bytes = length-over_all bytes (first_word from) (words_touched from (length put)) (spliced bytes from put) in
+pub over_with_range : (bytes : List ℕ) (from : ℕ) (put : List ℕ) → from + length put ≤ length bytes → AreBytes bytes → AreBytes put → 0 < length put →
+    over_all bytes (first_word from) (words_touched from (length put)) (with_range bytes from put) ≡ with_range bytes from put
+over_with_range bytes from put fits old new some =
+    let same : length (with_range bytes from put) ≡ length bytes = length-with_range bytes from put fits in
+    let long : length (over_all bytes (first_word from) (words_touched from (length put)) (with_range bytes from put)) ≡ length bytes = length-over_all bytes (first_word from) (words_touched from (length put)) (with_range bytes from put) in
     ext_get_or 0 _ _ (long ∙ sym same) (λ k lt.
-    over_get (spliced bytes from put) (spliced_bytes bytes from put fits old new) bytes (first_word from) (words_touched from (length put)) k (omega (arith, long)) (omega (arith, long, same))
-    (λ h. sym (spliced_before bytes from put fits k (omega arith)))
-    (λ h. sym (spliced_behind bytes from put fits k (omega arith))))
+    over_get (with_range bytes from put) (with_range_bytes bytes from put fits old new) bytes (first_word from) (words_touched from (length put)) k (omega (arith, long)) (omega (arith, long, same))
+    (λ h. sym (with_range_before bytes from put fits k (omega arith)))
+    (λ h. sym (with_range_behind bytes from put fits k (omega arith))))

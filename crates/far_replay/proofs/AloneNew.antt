@@ -27,14 +27,14 @@ use Rattle.far_core.proofs.Keeps.{step_keeps}
 use Rattle.far_replay.specs.Moment.{moment_of}
 use Rattle.far_replay.specs.Alone.{own_of, bytes_in_world, HasLeft}
 use Rattle.far_replay.specs.Command.{New, Mutator}
-use Rattle.far_replay.specs.EventRows.{after_events, AllSucceed}
+use Rattle.far_replay.specs.EventRows.{after_events}
 use Rattle.far_replay.specs.Reply.{Refused}
 use Rattle.far_replay.specs.Events.{new_events, zero_puts}
 use Rattle.far_replay.specs.Objects.{lowest_cell}
 use Rattle.far_replay.specs.Effects.{new_word}
 use Rattle.far_replay.specs.Turn.{refusal, first_cause, unless, pointer_reply}
 use Rattle.far_replay.proofs.Each.{Each-row}
-use Rattle.far_replay.proofs.MadeLemmas.{made-append, AllSucceed-parts}
+use Rattle.far_replay.proofs.MadeLemmas.{made-append, AllSucceed-parts, AllComeToPass-parts, Carries}
 use Rattle.far_replay.proofs.AloneViews.{views_still}
 use Rattle.far_replay.proofs.ViewLaws.{row_stays, news}
 use Rattle.far_replay.proofs.AloneRuns.{views_of, Same, own_other, own_here, IsQuiet, quiet_run, name_step, new_object, makes_object, was_legal}
@@ -94,15 +94,16 @@ module _ (s : State) (k len ds p : ℕ) (place : Place) (law : Law s) (within : 
       (run.0.0, run.0.1, run.1)
 
   -- the object that the events make
-  pub new_run : AllSucceed s (puts ++ names) →
+  pub new_run : Carries s (puts ++ names) →
       (o : Object) × ((world_of s).object p ≡ None) × ((world_of (after_events s (puts ++ names))).object ≡ put (world_of s).object p (Some o))
       × ((world_of (after_events s (puts ++ names))).opened ≡ (world_of s).opened) × (o.bytes ≡ replicate len 0) × (o ≡ new_object p len ds place.log)
   new_run ok =
-      let parts = AllSucceed-parts s puts names ok in
+      let parts = AllSucceed-parts s puts names ok.succeed in
+      let comes = AllComeToPass-parts s puts names ok.come in
       let legal = was_legal s (Puts place.log place.at (head_word p len ds)) law parts.0.0 in
       let first = put_run in
       let word : new_word len ds place < 2 ^ 64 = new_fits len ds place (omega (arith, legal.0, law.shape.few_logs)) legal.3 most structure in
-      let named = name_step u p 0 (new_word len ds place) first.2 unused (omega arith) word parts.1.0 in
+      let named = name_step u p 0 (new_word len ds place) first.2 unused (omega arith) word parts.1.0 comes.1.0 in
       let says = read_says (new_word len ds place) (Near named.0 named.1 named.2 named.3) word named.4 in
       let long : named.0 ≡ len = one_length named.0 len named.1 ds named.2 place named.3 (record { hot = false; evac = false; moved = false; dropped = false }) (omega (arith, says.0)) (omega arith) says.1 in
       let law_v : Law v = step_keeps u (Names p 0 (new_word len ds place)) first.2 (omega arith, word) in
@@ -116,7 +117,7 @@ module _ (s : State) (k len ds p : ℕ) (place : Place) (law : Law s) (within : 
       (new_object p named.0 named.1 named.2.log, between.0, between.1, between.2, ap (λ n. replicate n 0) long, whole)
 
   -- a new object that isn't turned down
-  makes_new : 0 < len → AllSucceed s (new_events k len ds (Some p) (Some place)) → Teaches s k (Mutator k (New len ds)) (pointer_reply (Some p)) (after_events s (new_events k len ds (Some p) (Some place)))
+  makes_new : 0 < len → Carries s (new_events k len ds (Some p) (Some place)) → Teaches s k (Mutator k (New len ds)) (pointer_reply (Some p)) (after_events s (new_events k len ds (Some p) (Some place)))
   makes_new some ok =
       let run = new_run ok in
       let u : State = after_events s (new_events k len ds (Some p) (Some place)) in
@@ -151,7 +152,7 @@ one_left s k (Some p) e h = (p, lowest_own s k p e, lowest_unknown s k p e)
 module _ (s : State) (k len ds : ℕ) (law : Law s) where
   -- with this cell and this place, turned down for this cause or for none
   abbrev NewTurns : Option ℕ → Option Place → Option Refusal → Type 0
-  NewTurns o r x = AllSucceed s (unless x (λ _. []) (new_events k len ds o r)) → Teaches s k (Mutator k (New len ds)) (unless x Refused (pointer_reply o)) (after_events s (unless x (λ _. []) (new_events k len ds o r)))
+  NewTurns o r x = Carries s (unless x (λ _. []) (new_events k len ds o r)) → Teaches s k (Mutator k (New len ds)) (unless x Refused (pointer_reply o)) (after_events s (unless x (λ _. []) (new_events k len ds o r)))
 
   at_cell : (o : Option ℕ) (r : Option Place) → lowest_cell s k ≡ o → k < s.mutators → ds < 256 → 0 < len → len ≤ LONGEST → not (is_some o) ≡ false → not (is_some r) ≡ false → NewTurns o r None
   at_cell None r e within structure some most h i ok = absurd (true≢false h)

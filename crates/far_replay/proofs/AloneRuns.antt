@@ -33,7 +33,7 @@ use Rattle.far_core.proofs.Owing.{is_fact}
 use Rattle.far_core.proofs.Put.{put_same, put_other, put_old}
 use Rattle.far_core.proofs.Steps.{step_does}
 use Rattle.far_replay.specs.Alone.{Own, own_of, bytes_in_world}
-use Rattle.far_replay.specs.EventRows.{after_events, Succeeds, AllSucceed}
+use Rattle.far_replay.specs.EventRows.{after_events, Succeeds, AllSucceed, ComesToPass}
 use Rattle.far_replay.specs.Events.{store_events}
 use Rattle.far_replay.proofs.Each.{Each}
 
@@ -229,25 +229,25 @@ closes_scope w v m (Held place) ok h = absurd h
 pub close_step : (s : State) (m : ℕ) → Law s → Succeeds (Close m) (step_of s (Close m)).1 → Scoped (world_of s) (world_of (step_of s (Close m)).0) m false
 close_step s m law ok = closes_scope (world_of s) (world_of (step_of s (Close m)).0) m _ ok (step_does s (Close m) law tt)
 
--- a naming that succeeds names a place for a new object
+-- a naming that wins names a place for a new object
 makes_new : (w v : World) (p : ℕ) (a b : Option PtrWord) (form : Option Naming) → a ≡ Some Free → naming_of a b ≡ form → StepOf (change_by p form) w v →
     (len ds : ℕ) × (place : Place) × (marks : Marks) × (b ≡ Some (Near len ds place marks)) × Makes w p len ds place.log v
 makes_new w v p a b None free e h = absurd h
 makes_new w v p a b (Some Retires) free e h = absurd (false≢true (sym (ap is_dropped free) ∙ (naming_says a b Retires e).0))
 makes_new w v p a b (Some (Places len ds place)) free e h = (len, ds, place, no_marks, (naming_says a b (Places len ds place) e).1, h)
 
-names_place : (w v : World) (p old new : ℕ) (r : Answer) → Succeeds (Name p old new) r → Happens w (Name p old new) r v → StepOf (change_by p (naming_of (read_of old) (read_of new))) w v
-names_place w v p old new Refused ok h = absurd ok
-names_place w v p old new Done ok h = h
-names_place w v p old new (Epoch e) ok h = absurd h
-names_place w v p old new (Word y) ok h = absurd ok
-names_place w v p old new (Held place) ok h = absurd h
+names_place : (w v : World) (p old new : ℕ) (r : Answer) → Succeeds (Name p old new) r → ComesToPass (Name p old new) r → Happens w (Name p old new) r v → StepOf (change_by p (naming_of (read_of old) (read_of new))) w v
+names_place w v p old new Refused ok come h = absurd ok
+names_place w v p old new Done ok come h = h
+names_place w v p old new (Epoch e) ok come h = absurd h
+names_place w v p old new (Word y) ok come h = absurd come
+names_place w v p old new (Held place) ok come h = absurd h
 
-pub name_step : (s : State) (p old new : ℕ) → Law s → read_of old ≡ Some Free → old < 2 ^ 64 → new < 2 ^ 64 → Succeeds (Name p old new) (step_of s (Name p old new)).1 →
+pub name_step : (s : State) (p old new : ℕ) → Law s → read_of old ≡ Some Free → old < 2 ^ 64 → new < 2 ^ 64 → Succeeds (Name p old new) (step_of s (Name p old new)).1 → ComesToPass (Name p old new) (step_of s (Name p old new)).1 →
     (len ds : ℕ) × (place : Place) × (marks : Marks) × (read_of new ≡ Some (Near len ds place marks)) × Makes (world_of s) p len ds place.log (world_of (step_of s (Name p old new)).0)
-name_step s p old new law free before after ok =
+name_step s p old new law free before after ok come =
     let v : World = world_of (step_of s (Name p old new)).0 in
-    makes_new (world_of s) v p (read_of old) (read_of new) _ free refl (names_place (world_of s) v p old new (step_of s (Name p old new)).1 ok (step_does s (Name p old new) law (before, after)))
+    makes_new (world_of s) v p (read_of old) (read_of new) _ free refl (names_place (world_of s) v p old new (step_of s (Name p old new)).1 ok come (step_does s (Name p old new) law (before, after)))
 
 -- the object that is new
 abbrev pub new_object : ℕ → ℕ → ℕ → ℕ → Object

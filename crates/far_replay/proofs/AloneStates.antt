@@ -101,7 +101,7 @@ unfolding lowest_cell
 lowest_own s m p e = let x = lowest_found s.cell (m * CELLS) CELLS p e in omega (arith, x.0, x.1)
 
 -- and it is free
-lowest_free : (s : State) (m p : ℕ) → lowest_cell s m ≡ Some p → s.cell p ≡ 0
+pub lowest_free : (s : State) (m p : ℕ) → lowest_cell s m ≡ Some p → s.cell p ≡ 0
 unfolding lowest_cell
 lowest_free s m p e = (lowest_found s.cell (m * CELLS) CELLS p e).2
 

@@ -1,10 +1,14 @@
 -- What each command's reply tells its mutator, and that it changes nothing of what others know.
 use Rattle.std.proofs.Common.{◌≡◌, ◌≢◌, ℕ, ◌+◌, ◌/◌, ◌<◌, ◌≤◌, Bool, true, false, cond, nat_eq, nat_lt, sym, refl, ap, subst, ◌∙◌, Option, Some, None, List, [], ◌∷◌, ◌++◌, length}
-use Rattle.std.specs.Prelude.{not, ◌⊎◌, is_some}
-use Rattle.std.proofs.lemmas.Bool.{and_parts, cond_both, eqb-true, not-true, not-false}
+use Rattle.std.specs.Prelude.{not, ◌⊎◌, ◌&&◌, is_some}
+use Rattle.std.proofs.lemmas.Bool.{and_parts, cond_both, eqb-true, eq-eqb, ltb-true, not-true, not-false}
 use Rattle.far_word.specs.declared.refused.Refused.{Refused as Refusal}
-use Rattle.far_word.specs.declared.refused.Refused.TheVariants.{Closed, AlreadyOpen, NotHeld, Range}
+use Rattle.far_word.specs.declared.refused.Refused.TheVariants.{Closed, AlreadyOpen, NotHeld, Range, Held}
 use Rattle.far_word.specs.declared.sizes.TheConstants.{CELLS}
+use Rattle.far_word.specs.Pointer.{read_of}
+use Rattle.far_word.specs.declared.pointer.PtrWord.{PtrWord}
+use Rattle.far_book.specs.book.Home.{home_of}
+use Rattle.far_core.proofs.KeepOwner.{nonzero}
 use Rattle.far_core.specs.declared.event.Event.{Event}
 use Rattle.far_core.specs.declared.event.Event.TheVariants.{ReadEpoch as ReadsEpoch, Open as Opens, Pin as Pins, Load as Loads, Close as Closes}
 use Rattle.far_core.specs.state.Law.{Law}
@@ -15,19 +19,21 @@ use Rattle.far_core.specs.world.WorldOf.{world_of}
 use Rattle.far_core.specs.world.Steps.{with_bytes}
 use Rattle.far_replay.specs.Moment.{moment_of}
 use Rattle.far_replay.specs.Alone.{Knows, own_of, IsOut, IsIn}
-use Rattle.far_replay.specs.Command.{Command, Open, Write, Read, Close, Mutator}
+use Rattle.far_replay.specs.Command.{Command, Open, Write, Read, Close, Where, Drop, Mutator}
 use Rattle.far_replay.specs.EventRows.{after_events, AllSucceed, AllAtHand}
 use Rattle.far_replay.specs.Reply.{Reply, Done, Refused}
 use Rattle.far_replay.specs.Events.{turn_events, open_events, view_events, part_events, load_events, store_events, starts_inside, ends_inside, first_word, words_touched}
-use Rattle.far_replay.specs.Objects.{uses, object_len, data_of, spliced, is_range}
-use Rattle.far_replay.specs.Turn.{refusal, first_cause, unless, turn_reply}
+use Rattle.far_replay.specs.Objects.{uses, object_len, data_of, with_range, is_range}
+use Rattle.far_replay.specs.Turn.{refusal, first_cause, unless, turn_reply, home_reply}
 use Rattle.far_replay.specs.Headline.{ViewsObject, ViewsNothing}
 use Rattle.far_replay.proofs.AloneViews.{views_still, views_mine, views_others, views_gone, views_left}
 use Rattle.far_replay.proofs.ViewLaws.{views_after}
-use Rattle.far_replay.proofs.AloneBytes.{over_spliced}
+use Rattle.far_replay.specs.Effects.{without_object}
+use Rattle.far_replay.proofs.AloneBytes.{over_with_range}
+use Rattle.far_replay.proofs.Drops.{drop_ends, drop_is, drop_world, own_gone, own_left, unheld_is}
 use Rattle.far_replay.proofs.Each.{Each-append, Each-row}
-use Rattle.far_replay.proofs.MadeLemmas.{made-append, AllSucceed-parts}
-use Rattle.far_replay.proofs.Spliced.{AreBytes, packed_wide, spliced_bytes}
+use Rattle.far_replay.proofs.MadeLemmas.{made-append, AllSucceed-parts, Carries}
+use Rattle.far_replay.proofs.Spliced.{AreBytes, packed_wide, with_range_bytes}
 use Rattle.far_replay.proofs.AloneRuns.{views_of, Scoped, own_same, own_other, own_here, own_scope, own_scope_other, IsQuiet, Quiet, quiet_run, over_all, stores_run, open_step, close_step}
 use Rattle.far_replay.proofs.AloneStates.{outside, open_world, shut_world, range_in, range_out, object_used, own_used, own_unused, len_used, data_small}
 
@@ -37,7 +43,7 @@ Teaches s k c r t = (k < s.mutators → Knows k (own_of (world_of s) k) c r (own
 
 -- so it is with the command turned down for this cause, or with none
 abbrev pub Turns : State → ℕ → Command → Option Refusal → Type 0
-Turns s k c o = AllSucceed s (unless o (λ _. []) (turn_events (moment_of s) c)) → Teaches s k c (unless o Refused (turn_reply (moment_of s) c)) (after_events s (unless o (λ _. []) (turn_events (moment_of s) c)))
+Turns s k c o = Carries s (unless o (λ _. []) (turn_events (moment_of s) c)) → Teaches s k c (unless o Refused (turn_reply (moment_of s) c)) (after_events s (unless o (λ _. []) (turn_events (moment_of s) c)))
 
 -- ---- which cause comes first
 pub two_causes : (P : Option Refusal → Type 0) (a b : Bool) (x y : Refusal) → (a ≡ true → P (Some x)) → (a ≡ false → b ≡ true → P (Some y)) → (a ≡ false → b ≡ false → P None) →
@@ -45,6 +51,13 @@ pub two_causes : (P : Option Refusal → Type 0) (a b : Bool) (x y : Refusal) �
 two_causes P true b x y h k l = h refl
 two_causes P false true x y h k l = k refl refl
 two_causes P false false x y h k l = l refl refl
+
+pub three_causes : (P : Option Refusal → Type 0) (a b c : Bool) (x y z : Refusal) → (a ≡ true → P (Some x)) → (a ≡ false → b ≡ true → P (Some y)) → (a ≡ false → b ≡ false → c ≡ true → P (Some z)) →
+    (a ≡ false → b ≡ false → c ≡ false → P None) → P (first_cause ((a, x) ∷ (b, y) ∷ (c, z) ∷ []))
+three_causes P true b c x y z h k l m = h refl
+three_causes P false true c x y z h k l m = k refl refl
+three_causes P false false true x y z h k l m = l refl refl refl
+three_causes P false false false x y z h k l m = m refl refl refl
 
 pub four_causes : (P : Option Refusal → Type 0) (a b c d : Bool) (x y z w : Refusal) → (a ≡ true → P (Some x)) → (a ≡ false → b ≡ true → P (Some y)) →
     (a ≡ false → b ≡ false → c ≡ true → P (Some z)) → (a ≡ false → b ≡ false → c ≡ false → d ≡ true → P (Some w)) → (a ≡ false → b ≡ false → c ≡ false → d ≡ false → P None) →
@@ -67,7 +80,7 @@ pub turns_open : (s : State) (k : ℕ) → Law s → Turns s k (Mutator k Open) 
 turns_open s k law = two_causes (Turns s k (Mutator k Open)) (not (nat_lt k s.mutators)) (is_opened s k) Range AlreadyOpen
     (λ off _. (λ within. absurd (outside k s.mutators within off), λ m ne. refl))
     (λ _ opened _. (λ within. (open_world s k opened, refl), λ m ne. refl))
-    (λ _ shut ok. let run = open_run s k law ok in
+    (λ _ shut ok. let run = open_run s k law ok.succeed in
     let u : State = after_events s (open_events s k) in
     let same : u.held ≡ s.held = views_after s (Mutator k Open) None ok in (
       λ within. (shut_world s k within shut, own_scope (world_of s) (world_of u) k true (views_of (world_of s) k) run.0 run.1 (views_still s u k same)),
@@ -78,7 +91,7 @@ pub turns_close : (s : State) (k : ℕ) → Law s → Turns s k (Mutator k Close
 turns_close s k law = two_causes (Turns s k (Mutator k Close)) (not (nat_lt k s.mutators)) (not (is_opened s k)) Range Closed
     (λ off _. (λ within. absurd (outside k s.mutators within off), λ m ne. refl))
     (λ _ shut _. (λ within. (shut_world s k within (not-true (is_opened s k) shut), refl), λ m ne. refl))
-    (λ _ opened ok. let run = close_step s k law ok.0 in
+    (λ _ opened ok. let run = close_step s k law ok.succeed.0 in
     let u : State = (step_of s (Closes k)).0 in
     let gone : ViewsNothing s u k = views_after s (Mutator k Close) None ok in (
       λ within. (open_world s k (not-false (is_opened s k) opened), own_scope (world_of s) (world_of u) k false (λ _. false) run.0 run.1 (views_gone s u k gone)),
@@ -129,10 +142,63 @@ turns_read s k p from len law hand =
       in_of : object_len s p ≡ length (data_of s p) → not (is_range (object_len s p) from len) ≡ false → IsIn (data_of s p) from len
       in_of e h = subst (λ n. (0 < len) × (from + len ≤ n)) e (range_in (object_len s p) from len h)
 
+-- ---- inquiries
+-- where an object is that the mutator uses: that it has one
+tells_home : (s : State) (k p : ℕ) → Law s → AllAtHand s → uses s k p ≡ true →
+    Knows k (own_of (world_of s) k) (Mutator k (Where p)) (home_reply (home_of (read_of (s.cell p)))) (own_of (world_of s) k)
+tells_home s k p law hand used =
+    let here = hand p (nonzero s law p (and_parts (nat_eq (p / CELLS) k) (s.used p) used).1) in
+    subst (λ (o : Option PtrWord). Knows k (own_of (world_of s) k) (Mutator k (Where p)) (home_reply (home_of o)) (own_of (world_of s) k)) (sym here.near)
+    (refl, (λ _. tt), (data_of s p, own_used s law hand k p used))
+
+pub turns_where : (s : State) (k p : ℕ) → Law s → AllAtHand s → Turns s k (Mutator k (Where p)) (refusal (moment_of s) (Mutator k (Where p)))
+turns_where s k p law hand = two_causes (Turns s k (Mutator k (Where p))) (not (nat_lt k s.mutators)) (not (uses s k p)) Range NotHeld
+    (λ off _. (λ within. absurd (outside k s.mutators within off), λ m ne. refl))
+    (λ _ unused _. (λ within. (own_unused s law hand k p (not-true (uses s k p) unused), refl), λ m ne. refl))
+    (λ _ used _. (λ within. tells_home s k p law hand (not-false (uses s k p) used), λ m ne. refl))
+
+-- ---- drops
+-- what the mutator knows of a view
+seen : (s : State) (k p : ℕ) (b : Bool) → p / CELLS ≡ k → is_some (s.held p) ≡ b → (own_of (world_of s) k).viewed p ≡ b
+unfolding world_of
+seen s k p b own e = ap (λ x. x && is_some (s.held p)) (eq-eqb (p / CELLS) k own) ∙ e
+
+-- a drop that isn't turned down
+drop_run : (s : State) (k p : ℕ) → Law s → AllAtHand s → k < s.mutators → uses s k p ≡ true → s.held p ≡ None → (t : State) → t ≡ without_object s k p →
+    Teaches s k (Mutator k (Drop p)) Done t
+drop_run s k p law hand inside used unheld t is =
+    let mine : p / CELLS ≡ k = owned s k p used in
+    let world : world_of t ≡ record (world_of s) { object = put (world_of s).object p None; marked = put (world_of s).marked p false } = ap world_of is ∙ drop_world s k p law inside used unheld in
+    let objects : (world_of t).object ≡ put (world_of s).object p None = ap (λ (w : World). w.object) world in
+    let scopes : (world_of t).opened ≡ (world_of s).opened = ap (λ (w : World). w.opened) world in
+    let held : t.held ≡ s.held = ap (λ (x : State). x.held) (is ∙ drop_is s k p law inside used unheld) in (
+      λ within. (
+        seen s k p false mine (ap is_some unheld),
+        own_gone (world_of s) (world_of t) k p objects scopes (views_still s t k held),
+        (data_of s p, own_used s law hand k p used),
+      ),
+      λ m ne. own_left (world_of s) (world_of t) m p objects scopes (λ e. ne (sym mine ∙ e)) (views_still s t m held),
+    )
+
+-- the test of the first cause of a drop
+known : (k n : ℕ) → not (nat_lt k n) ≡ false → k < n
+known k n h = ltb-true k n (not-false (nat_lt k n) h)
+
+pub turns_drop : (s : State) (k p : ℕ) → Law s → AllAtHand s → Turns s k (Mutator k (Drop p)) (refusal (moment_of s) (Mutator k (Drop p)))
+turns_drop s k p law hand = three_causes (Turns s k (Mutator k (Drop p))) (not (nat_lt k s.mutators)) (not (uses s k p)) (is_some (s.held p)) Range NotHeld Held
+    (λ off _. (λ within. absurd (outside k s.mutators within off), λ m ne. refl))
+    (λ _ unused _. (λ within. (own_unused s law hand k p (not-true (uses s k p) unused), refl), λ m ne. refl))
+    (λ _ used viewed _. let ours = not-false (uses s k p) used in
+    (λ within. (seen s k p true (owned s k p ours) viewed, refl, (data_of s p, own_used s law hand k p ours)), λ m ne. refl))
+    (λ inside used free ok. let within : k < s.mutators = known k s.mutators inside in
+    let ours = not-false (uses s k p) used in
+    let unheld : s.held p ≡ None = unheld_is (s.held p) free in
+    drop_run s k p law hand within ours unheld (after_events s (turn_events (moment_of s) (Mutator k (Drop p)))) (drop_ends s k p law within ours unheld))
+
 -- ---- writes
 module _ (s : State) (k p from : ℕ) (bytes : List ℕ) (law : Law s) (hand : AllAtHand s) (small : AreBytes bytes) where
   abbrev new : List ℕ
-  new = spliced (data_of s p) from bytes
+  new = with_range (data_of s p) from bytes
 
   abbrev loads : List Event
   loads = view_events s k p ++ part_events k p from (length bytes)
@@ -149,13 +215,13 @@ module _ (s : State) (k p from : ℕ) (bytes : List ℕ) (law : Law s) (hand : A
       let u : State = after_events s loads in
       let x = object_used s law hand p used in
       let there : (world_of u).object p ≡ Some x.0 = ap (λ (f : ℕ → Option Object). f p) first.0.0 ∙ x.1 in
-      let run = stores_run u k p (first_word from) (words_touched from (length bytes)) new x.0 first.1 (packed_wide new (spliced_bytes (data_of s p) from bytes fits (data_small s p) small)) there parts.1 in
+      let run = stores_run u k p (first_word from) (words_touched from (length bytes)) new x.0 first.1 (packed_wide new (with_range_bytes (data_of s p) from bytes fits (data_small s p) small)) there parts.1 in
       let over : List ℕ = over_all x.0.bytes (first_word from) (words_touched from (length bytes)) new in
       let joined : world_of (after_events s (loads ++ stores)) ≡ world_of (after_events u stores) = ap world_of (made-append s loads stores) in (
         with_bytes x.0 over,
         ap (λ (w : World). w.object) joined ∙ run.0 ∙ ap (λ (f : ℕ → Option Object). put f p (Some (with_bytes x.0 over))) first.0.0,
         ap (λ (w : World). w.opened) joined ∙ run.1 ∙ first.0.1,
-        ap (λ b. over_all b (first_word from) (words_touched from (length bytes)) new) x.2 ∙ over_spliced (data_of s p) from bytes fits (data_small s p) small some,
+        ap (λ b. over_all b (first_word from) (words_touched from (length bytes)) new) x.2 ∙ over_with_range (data_of s p) from bytes fits (data_small s p) small some,
       )
 
   near : not (uses s k p) ≡ false → object_len s p ≡ length (data_of s p)
@@ -168,7 +234,7 @@ module _ (s : State) (k p from : ℕ) (bytes : List ℕ) (law : Law s) (hand : A
   write_in e h = subst (λ n. (0 < length bytes) × (from + length bytes ≤ n)) e (range_in (object_len s p) from (length bytes) h)
 
   -- a write that isn't turned down
-  wrote : is_opened s k ≡ true → uses s k p ≡ true → IsIn (data_of s p) from (length bytes) → AllSucceed s (loads ++ stores) → Teaches s k (Mutator k (Write p from bytes)) Done (after_events s (loads ++ stores))
+  wrote : is_opened s k ≡ true → uses s k p ≡ true → IsIn (data_of s p) from (length bytes) → Carries s (loads ++ stores) → Teaches s k (Mutator k (Write p from bytes)) Done (after_events s (loads ++ stores))
   wrote opened used inside ok =
       let both = and_parts (nat_eq (p / CELLS) k) (s.used p) used in
       let own : p / CELLS ≡ k = eqb-true (p / CELLS) k both.0 in
@@ -176,7 +242,7 @@ module _ (s : State) (k p from : ℕ) (bytes : List ℕ) (law : Law s) (hand : A
       let t : World = world_of u in
       let view : ViewsObject s u p = views_after s (Mutator k (Write p from bytes)) None ok in
       let seen : ℕ → Bool = put (views_of (world_of s) k) p true in
-      let run = write_run both.1 inside.0 inside.1 ok in (
+      let run = write_run both.1 inside.0 inside.1 ok.succeed in (
         λ within. (
           open_world s k opened,
           (

@@ -1,27 +1,24 @@
 -- One command more that was answered.
-use Rattle.std.proofs.Common.{◌≡◌, ℕ, ◌+◌, ◌<◌, List, [], ◌∷◌, ◌++◌, Option, Some, None, length, get_or, drop, Result, Ok, Err, refl, ap, sym, ◌∙◌, subst, arith, append_assoc, append-nil, zero, suc}
+use Rattle.std.proofs.Common.{◌≡◌, ℕ, ◌+◌, ◌<◌, List, [], ◌∷◌, ◌++◌, length, get_or, drop, Result, Ok, Err, refl, ap, sym, ◌∙◌, subst, arith, append_assoc, append-nil, zero, suc}
 use Rattle.std.specs.Prelude.{map}
 use Rattle.std.specs.List.{flat_map}
 use Rattle.std.specs.Result.{result_unwrap_or}
 use Rattle.hex.specs.Hex.{IsBytes, decode_of}
 use Rattle.hex.proofs.HexLemmas.{decode_of-ok}
 use Rattle.std.proofs.lemmas.Grind.{flat_map-append}
-use mathlib.Core.Path.{fun_ext}
-use Rattle.far_word.specs.declared.refused.Refused.{Refused as Refusal}
 use Rattle.far_core.specs.state.Law.{Law}
 use Rattle.far_core.specs.state.State.{State}
 use Rattle.far_replay.specs.Moment.{Moment, moment_of}
 use Rattle.far_replay.specs.Answers.{Answered, Commanded}
-use Rattle.far_replay.specs.Command.{Command, Read, Mutator, said}
+use Rattle.far_replay.specs.Command.{Command, as_command}
 use Rattle.far_replay.specs.HexWord.{hex_bytes}
 use Rattle.far_replay.specs.Written.{WritesBytes}
 use Rattle.far_replay.specs.declared.command.Command.{Command as Spelled}
 use Rattle.far_replay.specs.declared.command.Command.TheVariants.{Mutator as SpelledMutator, Book as SpelledBook}
-use Rattle.far_replay.specs.declared.command.Request.TheVariants.{New as SpelledNew, Open as SpelledOpen, Write as SpelledWrite, Read as SpelledRead, Close as SpelledClose}
-use Rattle.far_replay.specs.Interpreter.{next_after}
-use Rattle.far_replay.specs.Reply.{Reply, printed}
-use Rattle.far_replay.specs.Tidy.{Tidy}
-use Rattle.far_replay.specs.Turn.{effect, refusal, unless}
+use Rattle.far_replay.specs.declared.command.Request.TheVariants.{New as SpelledNew, Open as SpelledOpen, Write as SpelledWrite, Read as SpelledRead, Close as SpelledClose, Where as SpelledWhere, Drop as SpelledDrop}
+use Rattle.far_replay.specs.Reply.{Reply, reply_text}
+use Rattle.far_replay.specs.Between.{Between}
+use Rattle.far_replay.specs.Turn.{effect}
 use Rattle.far_replay.proofs.Turns.{turns}
 
 -- what is decoded is bytes, and nothing is
@@ -34,12 +31,14 @@ unfolding hex_bytes
 hex_are_bytes word = unwrapped_bytes (decode_of word) (λ bytes e. (decode_of-ok word bytes e).3)
 
 -- what a command that was read writes is bytes
-pub said_bytes : (command : Spelled) → WritesBytes (said command)
+pub said_bytes : (command : Spelled) → WritesBytes (as_command command)
 said_bytes (SpelledMutator m (SpelledNew len structure)) = tt
 said_bytes (SpelledMutator m SpelledOpen) = tt
 said_bytes (SpelledMutator m (SpelledWrite p from bytes)) = hex_are_bytes bytes.digits.now
 said_bytes (SpelledMutator m (SpelledRead p from len)) = tt
 said_bytes (SpelledMutator m SpelledClose) = tt
+said_bytes (SpelledMutator m (SpelledWhere p)) = tt
+said_bytes (SpelledMutator m (SpelledDrop p)) = tt
 said_bytes (SpelledBook inquiry) = tt
 
 -- the rest of a list begins with the element at its index
@@ -48,20 +47,11 @@ drop_here f [] i x lt e = absurd (omega arith)
 drop_here f (y ∷ xs) zero x lt e = ap (λ z. f z ∷ map f xs) (sym e)
 drop_here f (y ∷ xs) (suc i) x lt e = let there : suc (i + 1) ≡ suc i + 1 = omega arith in drop_here f xs i x (omega arith) e ∙ ap (λ n. f x ∷ drop n (f y ∷ map f xs)) there
 
--- the heap stays tidy after a command
-pub still_tidy : (s t : State) (next counts : ℕ → ℕ) (c : Command) → Law s → Tidy s next → WritesBytes c → moment_of t ≡ effect (moment_of s) c →
-    ((m : ℕ) → counts m ≡ next_after (moment_of s) c next m) → Tidy t counts
-still_tidy s t next counts c law tidy small is e =
-    let x = turns s next c law tidy small in
-    subst (λ f. Tidy t f) (sym (fun_ext e)) (subst (λ u. Tidy u (next_after (moment_of s) c next)) (x.ends ∙ ap (λ (m : Moment). m.core) (sym is)) x.tidy)
-
--- a read names no cell
-same_counts : (o : Option Refusal) (next : ℕ → ℕ) (k : ℕ) → next k ≡ unless o (λ _. next) next k
-same_counts None next k = refl
-same_counts (Some why) next k = refl
-
-pub reads_name_none : (now : Moment) (c : Command) (next : ℕ → ℕ) (k m p from len : ℕ) → c ≡ Mutator m (Read p from len) → next k ≡ next_after now c next k
-reads_name_none now c next k m p from len e = same_counts (refusal now (Mutator m (Read p from len))) next k ∙ ap (λ d. next_after now d next k) (sym e)
+-- what holds between two commands holds after one more
+pub still_between : (s t : State) (c : Command) → Law s → Between s → WritesBytes c → moment_of t ≡ effect (moment_of s) c → Between t
+still_between s t c law between small is =
+    let x = turns s c law between small in
+    subst Between (x.ends ∙ ap (λ (m : Moment). m.core) (sym is)) x.between
 
 -- the run goes on by one command
 pub answered_more : (s t : Moment) (cs later : List Command) (replies : List Reply) (moments : List Moment) (c : Command) (r : Reply) (u : Moment) →
@@ -79,7 +69,7 @@ answered_all s t cs replies moments none e go =
     subst (λ xs. Answered s cs xs moments) (append-nil replies) (subst (λ us. Answered s cs (replies ++ []) us) (append-nil moments) (go [] [] (subst (λ cs. Answered t cs [] []) (sym e) tt)))
 
 -- what is printed of one reply more
-pub printed_more : (first : Reply) (replies : List Reply) (r : Reply) → flat_map printed (first ∷ (replies ++ r ∷ [])) ≡ flat_map printed (first ∷ replies) ++ printed r
+pub printed_more : (first : Reply) (replies : List Reply) (r : Reply) → flat_map reply_text (first ∷ (replies ++ r ∷ [])) ≡ flat_map reply_text (first ∷ replies) ++ reply_text r
 printed_more first replies r =
-    let one : flat_map printed (r ∷ []) ≡ printed r = append-nil (printed r) in
-    ap (λ xs. printed first ++ xs) (flat_map-append printed replies (r ∷ []) ∙ ap (λ xs. flat_map printed replies ++ xs) one) ∙ sym (append_assoc (printed first) (flat_map printed replies) (printed r))
+    let one : flat_map reply_text (r ∷ []) ≡ reply_text r = append-nil (reply_text r) in
+    ap (λ xs. reply_text first ++ xs) (flat_map-append reply_text replies (r ∷ []) ∙ ap (λ xs. flat_map reply_text replies ++ xs) one) ∙ sym (append_assoc (reply_text first) (flat_map reply_text replies) (reply_text r))

@@ -8,7 +8,7 @@ use Rattle.far_replay.specs.Answers.{Answered, Commanded, Answers, IsOutput, sha
 use Rattle.far_replay.specs.Command.{Command, Trace, Nothing, Heap}
 use Rattle.far_replay.specs.Grammar.{trace_of}
 use Rattle.far_replay.specs.Moment.{Moment}
-use Rattle.far_replay.specs.Reply.{Reply, Done, Refused, printed}
+use Rattle.far_replay.specs.Reply.{Reply, Done, Refused, reply_text}
 
 -- one command has one reply and one moment after it
 one_reply : (s : Moment) (c : Command) (r q : Reply) (t u : Moment) → Commanded s c r t → Commanded s c q u → (r ≡ q) × (t ≡ u)
@@ -32,9 +32,9 @@ determined s (c ∷ cs) (r ∷ rs) (q ∷ qs) (t ∷ ts) (u ∷ us) h k =
 
 -- what is written for a shape, with a heap or refused
 heap_once : (s : Moment) (cs : List Command) (b : Bool) (x y : List ℕ) →
-    MatchBool b ((rs : List Reply) × (ts : List Moment) × Answered s cs rs ts × (x ≡ flat_map printed (Done ∷ rs))) (x ≡ printed (Refused Shape)) →
-    MatchBool b ((rs : List Reply) × (ts : List Moment) × Answered s cs rs ts × (y ≡ flat_map printed (Done ∷ rs))) (y ≡ printed (Refused Shape)) → x ≡ y
-heap_once s cs true x y (rs, ts, h, e) (qs, us, k, f) = e ∙ ap (λ l. flat_map printed (Done ∷ l)) (determined s cs rs qs ts us h k).0 ∙ sym f
+    MatchBool b ((rs : List Reply) × (ts : List Moment) × Answered s cs rs ts × (x ≡ flat_map reply_text (Done ∷ rs))) (x ≡ reply_text (Refused Shape)) →
+    MatchBool b ((rs : List Reply) × (ts : List Moment) × Answered s cs rs ts × (y ≡ flat_map reply_text (Done ∷ rs))) (y ≡ reply_text (Refused Shape)) → x ≡ y
+heap_once s cs true x y (rs, ts, h, e) (qs, us, k, f) = e ∙ ap (λ l. flat_map reply_text (Done ∷ l)) (determined s cs rs qs ts us h k).0 ∙ sym f
 heap_once s cs false x y e f = e ∙ sym f
 
 -- what is written for what was read

@@ -16,45 +16,51 @@ use Rattle.far_replay.specs.Answers.{Answered, Commanded, IsMoment, moment_after
 use Rattle.far_replay.specs.Command.{Command}
 use Rattle.far_replay.specs.Events.{events_for}
 use Rattle.far_replay.specs.Headline.{Lawful, Reaches}
-use Rattle.far_replay.specs.Interpreter.{next_after}
 use Rattle.far_replay.specs.Written.{WritesBytes, AllWriteBytes}
 use Rattle.far_replay.specs.EventRows.{after_events, AllSucceed, AllPass, Succeeds}
 use Rattle.far_replay.specs.Moment.{Moment, moment_of}
 use Rattle.far_replay.specs.Reply.{Reply}
-use Rattle.far_replay.specs.Tidy.{Tidy}
-use Rattle.far_replay.specs.Turn.{effect, reply_to}
+use Rattle.far_replay.specs.Between.{Between}
+use Rattle.far_replay.specs.Turn.{effect, refusal, reply_to}
+use Rattle.far_replay.proofs.Coming.{all_come, hand_for}
 use Rattle.far_replay.proofs.Each.{Each}
-use Rattle.far_replay.proofs.Opened.{opening_law, opening_tidy}
+use Rattle.far_replay.proofs.MadeLemmas.{Carries}
+use Rattle.far_replay.proofs.Opened.{opening_law, opening_between}
 use Rattle.far_replay.proofs.Turns.{turns}
 
 pub record Lasts (now : Moment) : Type 0 where
-  pub next : ℕ → ℕ
   pub law : Law now.core
-  pub tidy : Tidy now.core next
+  pub between : Between now.core
 
 -- a command that is carried out by its events, from a state to the next
 pub record IsCarriedOut (s : State) (c : Command) (r : Reply) (t : State) : Type 0 where
   pub reply : r ≡ reply_to (moment_of s) c
   pub state : t ≡ after_events s (events_for (moment_of s) c)
-  pub succeed : AllSucceed s (events_for (moment_of s) c)
+  pub made : Carries s (events_for (moment_of s) c)
   pub fit : Each Fits (events_for (moment_of s) c)
   pub law : Law t
 
 pub carried : (now : Moment) (c : Command) (r : Reply) (next : Moment) → Lasts now → WritesBytes c → Commanded now c r next → IsCarriedOut now.core c r next.core
 carried now c r next lasts bytes h =
-    let x = turns now.core lasts.next c lasts.law lasts.tidy bytes in
+    let x = turns now.core c lasts.law lasts.between bytes in
     let ends : next.core ≡ after_events now.core (events_for (moment_of now.core) c) = ap (λ (m : Moment). m.core) h.moment ∙ sym x.ends in
-    record { reply = h.reply; state = ends; succeed = x.succeed; fit = x.fit; law = subst Law (sym ends) x.law }
+    record {
+      reply = h.reply;
+      state = ends;
+      made = record { succeed = x.succeed; come = all_come now.core c (refusal now c) refl lasts.law (hand_for now.core c lasts.between.at_hand) };
+      fit = x.fit;
+      law = subst Law (sym ends) x.law;
+    }
 
 -- where its events lead, there is the moment after it
-pub moment_reached : (s t : State) (next : ℕ → ℕ) (c : Command) → Law s → Tidy s next → WritesBytes c → t ≡ after_events s (events_for (moment_of s) c) → moment_of t ≡ effect (moment_of s) c
-moment_reached s t next c law tidy bytes e = ap moment_of (e ∙ (turns s next c law tidy bytes).ends)
+pub moment_reached : (s t : State) (c : Command) → Law s → Between s → WritesBytes c → t ≡ after_events s (events_for (moment_of s) c) → moment_of t ≡ effect (moment_of s) c
+moment_reached s t c law between bytes e = ap moment_of (e ∙ (turns s c law between bytes).ends)
 
 -- it lasts through a command
 pub effect_lasts : (now : Moment) (c : Command) → Lasts now → WritesBytes c → Lasts (effect now c)
 effect_lasts now c lasts bytes =
-    let x = turns now.core lasts.next c lasts.law lasts.tidy bytes in
-    record { next = next_after now c lasts.next; law = subst Law x.ends x.law; tidy = subst (λ t. Tidy t (next_after now c lasts.next)) x.ends x.tidy }
+    let x = turns now.core c lasts.law lasts.between bytes in
+    record { law = subst Law x.ends x.law; between = subst Between x.ends x.between }
 
 pub still_lasts : (now : Moment) (c : Command) (r : Reply) (next : Moment) → Lasts now → WritesBytes c → Commanded now c r next → Lasts next
 still_lasts now c r next lasts bytes h = subst Lasts (sym h.moment) (effect_lasts now c lasts bytes)
@@ -66,7 +72,7 @@ still_lasts_after now (c ∷ cs) lasts bytes = still_lasts_after (effect now c) 
 
 -- from the first moment on
 pub first_lasts : (logs mutators : ℕ) → is_shape (shape_of logs mutators) ≡ true → Lasts (first_moment logs mutators)
-first_lasts logs mutators fits = record { next = λ _. 0; law = opening_law logs mutators fits; tidy = opening_tidy logs mutators fits }
+first_lasts logs mutators fits = record { law = opening_law logs mutators fits; between = opening_between logs mutators fits }
 
 pub moment_lasts : (now : Moment) → IsMoment now → Lasts now
 moment_lasts now (logs, mutators, cs, fits, bytes, is) = subst Lasts (sym is) (still_lasts_after (first_moment logs mutators) cs (first_lasts logs mutators fits) bytes)
@@ -105,7 +111,7 @@ each_is_moment now (d ∷ cs) (r ∷ rs) (m ∷ ms) is bytes h x c =
     first_or now (m ∷ ms) x is (λ k. each_is_moment m cs rs ms (next_is_moment now d r m is bytes.0 h.0) bytes.1 h.1 x k) c
 
 lawful : (now : Moment) → IsMoment now → Lawful now
-lawful now is = let x = moment_lasts now is in record { reached = is; law = x.law; at_hand = x.tidy.at_hand }
+lawful now is = let x = moment_lasts now is in record { reached = is; law = x.law; at_hand = x.between.at_hand }
 
 pub first_lawful : (logs mutators : ℕ) → is_shape (shape_of logs mutators) ≡ true → Lawful (first_moment logs mutators)
 first_lawful logs mutators fits = lawful (first_moment logs mutators) (first_is_moment logs mutators fits)
@@ -130,4 +136,9 @@ pub events_reach : (now : Moment) (c : Command) (r : Reply) (next : Moment) → 
 events_reach now c r next is bytes h =
     let lasts = moment_lasts now is in
     let x = carried now c r next lasts bytes h in
-    record { ends = x.state; pass = all_pass now.core (events_for now c) lasts.law x.fit x.succeed; succeed = λ _. x.succeed }
+    record {
+      ends = x.state;
+      pass = all_pass now.core (events_for now c) lasts.law x.fit x.made.succeed;
+      succeed = x.made.succeed;
+      come = all_come now.core c (refusal now c) refl lasts.law;
+    }

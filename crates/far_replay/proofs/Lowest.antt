@@ -1,46 +1,13 @@
--- The lowest free cell of a mutator, and which it is where cells are named in order.
-use Rattle.std.proofs.Common.{◌≡◌, ◌≢◌, ℕ, zero, suc, ◌+◌, ◌*◌, ◌<◌, ◌≤◌, Bool, true, false, cond, nat_eq, nat_lt, arith, refl, sym, ap, subst, ◌∙◌, inl, inr, Some, None, find}
+-- The lowest free cell of a mutator.
+use Rattle.std.proofs.Common.{◌≡◌, ◌≢◌, ℕ, zero, suc, ◌+◌, ◌*◌, ◌<◌, ◌≤◌, false, nat_eq, arith, refl, sym, ap, subst, inl, inr, Some, None, find}
 use Rattle.std.specs.List.{range_with_len}
 use Rattle.std.specs.Prelude.{Option}
-use Rattle.std.proofs.lemmas.Bool.{ne_eqb, eq-eqb, lt-ltb, le-ltb, cases_lt, cases_eq, cond_both}
+use Rattle.std.proofs.lemmas.Bool.{cases_lt, cases_eq, cond_both}
 use Rattle.std.proofs.lemmas.Bool.Decides.{nat_tests}
 use Rattle.far_word.specs.declared.sizes.TheConstants.{CELLS}
 use Rattle.far_core.specs.state.State.{State}
-use Rattle.far_replay.specs.Tidy.{Tidy}
+use Rattle.far_book.specs.book.Ledger.{IsLowestFree}
 use Rattle.far_replay.specs.Objects.{lowest_cell}
-
--- one test fewer before the first that passes
-later : (a k n : ℕ) → cond (nat_lt k n) (Some (a + 1 + k)) None ≡ cond (nat_lt (suc k) (suc n)) (Some (a + suc k)) None
-later a k n =
-    let at : a + 1 + k ≡ a + suc k = omega arith in
-    elim (cases_lt k n) [
-      | inl lt ↦ rw (lt-ltb k n lt, lt-ltb (suc k) (suc n) (omega arith)) (ap Some at)
-      | inr le ↦ rw (le-ltb k n le, le-ltb (suc k) (suc n) (omega arith)) refl
-    ]
-
--- the first number that passes a test, where the k before it fail
-pub find_at : (f : ℕ → Bool) (a n k : ℕ) → k ≤ n → ((i : ℕ) → i < k → f (a + i) ≡ false) → (k < n → f (a + k) ≡ true) →
-    find f (range_with_len a n) ≡ cond (nat_lt k n) (Some (a + k)) None
-find_at f a zero k le fail pass = let none : nat_lt k 0 ≡ false = le-ltb k 0 (omega arith) in rw none refl
-find_at f a (suc n) zero le fail pass =
-    let at : a + 0 ≡ a = omega arith in
-    let some : nat_lt 0 (suc n) ≡ true = lt-ltb 0 (suc n) (omega arith) in
-    let here : f a ≡ true = ap f (sym at) ∙ pass (omega arith) in
-    rw (here, some, at) refl
-find_at f a (suc n) (suc k) le fail pass =
-    let at : a + 0 ≡ a = omega arith in
-    let here : f a ≡ false = ap f (sym at) ∙ fail 0 (omega arith) in
-    let rest = find_at f (a + 1) n k (omega arith)
-    (λ i lt. let e : a + 1 + i ≡ a + suc i = omega arith in ap f e ∙ fail (suc i) (omega arith))
-    (λ lt. let e : a + 1 + k ≡ a + suc k = omega arith in ap f e ∙ pass (omega arith)) in
-    rw here (rest ∙ later a k n)
-
--- the lowest free cell is the next one, unless all are named
-pub lowest_is : (s : State) (next : ℕ → ℕ) (m : ℕ) → Tidy s next → lowest_cell s m ≡ cond (nat_lt (next m) CELLS) (Some (m * CELLS + next m)) None
-unfolding lowest_cell
-lowest_is s next m tidy = find_at (λ p. nat_eq (s.cell p) 0) (m * CELLS) CELLS (next m) (tidy.most m)
-    (λ i lt. ne_eqb (s.cell (m * CELLS + i)) 0 (tidy.named m i lt))
-    (λ lt. eq-eqb (s.cell (m * CELLS + next m)) 0 (tidy.unnamed m (next m) (omega arith) lt))
 
 -- ---- what the search for a number at which f is 0 finds, and what it passes over
 busy_cell : (c : ℕ) → nat_eq c 0 ≡ false → c ≢ 0
@@ -74,3 +41,30 @@ none_found f a (suc n) e q low high = cond_both (nat_eq (f a) 0) (Some a) (find 
       | inl at ↦ subst (λ k. f k ≢ 0) (sym at) (λ z. busy_cell (f a) taken z)
       | inr other ↦ none_found f (a + 1) n e q (omega arith) (omega arith)
     ]) e
+
+-- the lowest free cell is the mutator's, and free, and those before it aren't
+pub lowest_cell_is : (s : State) (m p : ℕ) → lowest_cell s m ≡ Some p → (m * CELLS ≤ p) × (p < m * CELLS + CELLS) × (s.cell p ≡ 0) × ((q : ℕ) → m * CELLS ≤ q → q < p → s.cell q ≢ 0)
+unfolding lowest_cell
+lowest_cell_is s m p e = lowest_found s.cell (m * CELLS) CELLS p e
+
+-- where no cell is free it finds none, and only there
+pub no_cell_is : (s : State) (m : ℕ) → lowest_cell s m ≡ None → (q : ℕ) → m * CELLS ≤ q → q < m * CELLS + CELLS → s.cell q ≢ 0
+unfolding lowest_cell
+no_cell_is s m e = none_found s.cell (m * CELLS) CELLS e
+
+-- the lowest of a mutator's free cells, if there is one, is what is found
+pub lowest_agrees : (s : State) (m : ℕ) (o : Option ℕ) → IsLowestFree s m o → lowest_cell s m ≡ o
+lowest_agrees s m o h = at (lowest_cell s m) o refl h where
+  at : (x o : Option ℕ) → lowest_cell s m ≡ x → IsLowestFree s m o → x ≡ o
+  at None None e h = refl
+  at None (Some p) e h = absurd (no_cell_is s m e p (omega (arith, h.0)) (omega (arith, h.0)) h.1)
+  at (Some q) None e h = let x = lowest_cell_is s m q e in absurd (h q (omega (arith, x.0, x.1)) x.2)
+  at (Some q) (Some p) e h =
+      let x = lowest_cell_is s m q e in
+      elim (cases_lt p q) [
+        | inl lt ↦ absurd (x.3 p (omega (arith, h.0)) lt h.1)
+        | inr le ↦ elim (cases_eq p q) [
+          | inl same ↦ ap Some (sym same)
+          | inr ne ↦ absurd (h.2 q (omega (arith, x.0, x.1)) (omega arith) x.2)
+        ]
+      ]

@@ -1,5 +1,5 @@
 -- Events made one after the other: parts put together, and the law that they keep.
-use Rattle.std.proofs.Common.{◌≡◌, ℕ, true, cond, refl, sym, ap, subst, List, [], ◌∷◌, ◌++◌}
+use Rattle.std.proofs.Common.{◌≡◌, ◌≢◌, ℕ, true, cond, refl, sym, ap, subst, List, [], ◌∷◌, ◌++◌}
 use Rattle.std.proofs.lemmas.Bool.{cond_both}
 use Rattle.far_core.specs.declared.event.Event.{Event}
 use Rattle.far_core.specs.declared.event.Event.TheVariants.{Load}
@@ -9,7 +9,7 @@ use Rattle.far_core.specs.state.Law.{Law}
 use Rattle.far_core.specs.state.State.{State}
 use Rattle.far_core.specs.events.Step.{step_of, is_legal, after, answer, Fits}
 use Rattle.far_core.proofs.Keeps.{step_keeps}
-use Rattle.far_replay.specs.EventRows.{after_events, Succeeds, AllSucceed}
+use Rattle.far_replay.specs.EventRows.{after_events, Succeeds, AllSucceed, ComesToPass, AllComeToPass}
 use Rattle.far_replay.proofs.Each.{Each}
 
 -- the state after two rows of events
@@ -27,6 +27,29 @@ pub AllSucceed-parts : (s : State) (es fs : List Event) → AllSucceed s (es ++ 
 AllSucceed-parts s [] fs h = (tt, h)
 AllSucceed-parts s (e ∷ es) fs h = let rest = AllSucceed-parts (step_of s e).0 es fs h.1 in ((h.0, rest.0), rest.1)
 
+-- so it is with what they are for
+pub AllComeToPass-append : (s : State) (es fs : List Event) → AllComeToPass s es → AllComeToPass (after_events s es) fs → AllComeToPass s (es ++ fs)
+AllComeToPass-append s [] fs a b = b
+AllComeToPass-append s (e ∷ es) fs a b = (a.0, AllComeToPass-append (step_of s e).0 es fs a.1 b)
+
+pub AllComeToPass-parts : (s : State) (es fs : List Event) → AllComeToPass s (es ++ fs) → AllComeToPass s es × AllComeToPass (after_events s es) fs
+AllComeToPass-parts s [] fs h = (tt, h)
+AllComeToPass-parts s (e ∷ es) fs h = let rest = AllComeToPass-parts (step_of s e).0 es fs h.1 in ((h.0, rest.0), rest.1)
+
+-- each event of a row succeeds, and what it is for comes to pass
+pub record Carries (s : State) (es : List Event) : Type 0 where
+  pub succeed : AllSucceed s es
+  pub come : AllComeToPass s es
+
+-- so does each of its first events
+pub Carries-front : (s : State) (es fs : List Event) → Carries s (es ++ fs) → Carries s es
+Carries-front s es fs h = record { succeed = (AllSucceed-parts s es fs h.succeed).0; come = (AllComeToPass-parts s es fs h.come).0 }
+
+-- another answer than a refusal
+pub not_refused : (e : Event) (r : Reply) → r ≢ Refused → Succeeds e r
+not_refused e Refused ne = absurd (ne refl)
+not_refused e r ne = tt
+
 -- a legal event is made
 pub legal_step : (s : State) (e : Event) → is_legal s e ≡ true → step_of s e ≡ (after s e, answer s e)
 legal_step s e h = ap (λ b. cond b (after s e, answer s e) (s, Refused)) h
@@ -38,6 +61,10 @@ made_first s e es h = ap (λ (x : State × Reply). after_events x.0 es) (legal_s
 -- a row succeeds that begins with a legal event, if its answer is what it is for, and the rest succeeds
 pub first_succeeds : (s : State) (e : Event) (es : List Event) → is_legal s e ≡ true → Succeeds e (answer s e) → AllSucceed (after s e) es → AllSucceed s (e ∷ es)
 first_succeeds s e es h here rest = subst (λ (x : State × Reply). Succeeds e x.1 × AllSucceed x.0 es) (sym (legal_step s e h)) (here, rest)
+
+-- and so what it is for comes to pass
+pub first_comes : (s : State) (e : Event) (es : List Event) → is_legal s e ≡ true → ComesToPass e (answer s e) → AllComeToPass (after s e) es → AllComeToPass s (e ∷ es)
+first_comes s e es h here rest = subst (λ (x : State × Reply). ComesToPass e x.1 × AllComeToPass x.0 es) (sym (legal_step s e h)) (here, rest)
 
 -- events keep the law
 pub made_law : (s : State) (es : List Event) → Law s → Each Fits es → Law (after_events s es)

@@ -1,36 +1,33 @@
--- A new object is put, named and adopted: each event is made, and the heap stays tidy.
-use Rattle.std.proofs.Common.{◌≡◌, ◌≢◌, ℕ, zero, suc, ◌+◌, ◌-◌, ◌*◌, ◌/◌, ◌%◌, ◌<◌, ◌≤◌, ◌⊎◌, true, false, cond, refl, sym, ap, subst, ◌∙◌, arith, Some, List, [], ◌∷◌, ◌++◌, map, inl, inr}
+-- A new object is put, named and adopted: each event is made, and what holds between commands stays.
+use Rattle.std.proofs.Common.{◌≡◌, ◌≢◌, ℕ, zero, suc, ◌+◌, ◌*◌, ◌/◌, ◌<◌, ◌≤◌, ◌⊎◌, true, false, cond, refl, sym, ap, subst, ◌∙◌, arith, Some, List, [], ◌∷◌, ◌++◌, map, inl, inr}
 use Rattle.std.specs.List.{range_with_len}
-use Rattle.std.proofs.lemmas.Bool.{false≢true, cases_lt, cases_eq, eq-eqb, false_from_ne_true}
-use Rattle.far_word.specs.declared.header.HeadWord.{HeadWord}
+use Rattle.std.proofs.lemmas.Bool.{false≢true, cases_eq, eq-eqb, false_from_ne_true}
 use Rattle.far_word.specs.declared.pointer.Place.{Place}
 use Rattle.far_word.specs.declared.pointer.PtrWord.TheVariants as pointer
 use Rattle.far_word.specs.declared.pointer.PtrWord.TheVariants.{Near}
 use Rattle.far_word.specs.declared.sizes.TheConstants.{CELLS, LOG_WORDS, LONGEST}
-use Rattle.far_word.specs.Header.{head_of, head_word}
+use Rattle.far_word.specs.Header.{head_word}
 use Rattle.far_word.specs.Pointer.{read_of}
 use Rattle.far_word.specs.Sizes.{size_of, words_for}
-use Rattle.far_word.proofs.HeaderLaws.{head_back}
 use Rattle.far_core.specs.declared.event.Event.{Event}
 use Rattle.far_core.specs.declared.event.Event.TheVariants.{Put, Name, Adopt}
 use Rattle.far_core.specs.declared.event.Kind.TheVariants.{Free, Open, Sealed}
 use Rattle.far_core.specs.declared.event.Reply.TheVariants.{Done, Word}
+use Rattle.far_core.specs.events.Legal.{IsNext}
 use Rattle.far_core.specs.state.Law.{Law, in_use}
 use Rattle.far_core.specs.declared.naming.Naming.TheVariants.{Places}
 use Rattle.far_core.specs.events.Name.{after_naming}
 use Rattle.far_core.specs.events.Naming.{naming_of, no_marks}
 use Rattle.far_core.proofs.Namings.{naming_only}
-use Rattle.far_core.specs.state.Spans.{names_place}
 use Rattle.far_core.specs.state.State.{State, put, addr}
-use Rattle.far_core.specs.events.Step.{is_legal, after, answer, with_span}
+use Rattle.far_core.specs.events.Step.{step_of, is_legal, after, answer, with_span}
 use Rattle.far_core.proofs.Cells.{unused}
-use Rattle.far_core.proofs.KeepPlace.{header}
 use Rattle.far_core.proofs.Owing.{is_test}
-use Rattle.far_core.proofs.Put.{put_both, put_same, put_other}
-use Rattle.far_core.proofs.SpanFrames.{past_tail}
+use Rattle.far_core.proofs.Put.{put_same, put_other}
+use Rattle.far_book.specs.book.Effects.{near_word, placed as placed_by}
 use Rattle.far_replay.specs.Effects.{with_row}
 use Rattle.far_replay.specs.EventRows.{after_events, Succeeds, AllSucceed, AtHand}
-use Rattle.far_replay.specs.Tidy.{Tidy}
+use Rattle.far_replay.specs.Between.{Between}
 use Rattle.far_replay.specs.Events.{zero_puts}
 use Rattle.far_core.proofs.Rows.{row_is}
 use Rattle.far_replay.proofs.MadeLemmas.{made-append, AllSucceed-append, made_first, first_succeeds}
@@ -72,23 +69,17 @@ zero_row l base (suc n) a s log kind past fits =
       apart q (inr le) e = omega arith
 
 -- ---- the object
-module _ (s : State) (next : ℕ → ℕ) (law : Law s) (tidy : Tidy s next) (m p len ds new : ℕ) (place : Place)
-    (mutator : m < s.mutators) (free : next m < CELLS) (cell : p ≡ m * CELLS + next m)
+module _ (s : State) (law : Law s) (m p len ds new : ℕ) (place : Place)
+    (mutator : m < s.mutators) (low : m * CELLS ≤ p) (high : p < m * CELLS + CELLS) (empty : s.cell p ≡ 0)
     (some : 0 < len) (most : len ≤ LONGEST) (structure : ds < 256)
-    (log : place.log < s.logs) (fits : place.at + size_of len ≤ LOG_WORDS) (here : place.at ≡ s.tail place.log)
-    (stands : ((s.kind place.log ≡ Open) × (place.at ≡ s.tail place.log)) ⊎ ((s.kind place.log ≡ Free) × (place.at ≡ 0)))
-    (order : (place.log ≡ s.current) ⊎ (place.log ≡ s.current + 1))
+    (next : IsNext s place) (fits : place.at + size_of len ≤ LOG_WORDS) (here : place.at ≡ s.tail place.log)
     (says : read_of new ≡ Some (Near len ds place no_marks)) where
   -- the log isn't sealed
   not_sealed : s.kind place.log ≢ Sealed
-  not_sealed e = shut stands where
+  not_sealed e = shut next.1 where
     shut : ((s.kind place.log ≡ Open) × (place.at ≡ s.tail place.log)) ⊎ ((s.kind place.log ≡ Free) × (place.at ≡ 0)) → ⊥
     shut (inl h) = let odd : Open ≡ Sealed = sym h.0 ∙ e in cc
     shut (inr h) = let odd : Free ≡ Sealed = sym h.0 ∙ e in cc
-
-  -- the cell is free so far
-  empty : s.cell p ≡ 0
-  empty = ap s.cell cell ∙ tidy.unnamed m (next m) (omega arith) free
 
   -- the cell reads as free
   unread_cell : read_of (s.cell p) ≡ Some pointer.Free
@@ -112,7 +103,7 @@ module _ (s : State) (next : ℕ → ℕ) (law : Law s) (tidy : Tidy s next) (m 
 
   -- that is legal
   first_legal : is_legal s first ≡ true
-  first_legal = is_test s first (log, not_sealed, omega arith, omega arith)
+  first_legal = is_test s first (next.0, not_sealed, omega arith, omega arith)
 
   -- the state after it
   abbrev headed : State
@@ -120,7 +111,7 @@ module _ (s : State) (next : ℕ → ℕ) (law : Law s) (tidy : Tidy s next) (m 
 
   -- zeros are put behind it
   zeros_put : Zeroed headed (zero_puts place (words_for len)) (place.log * LOG_WORDS + (place.at + 1 + 0)) (place.log * LOG_WORDS + (place.at + 1 + 0) + words_for len)
-  zeros_put = zero_row place.log (place.at + 1) (words_for len) 0 headed log not_sealed (omega arith) (omega arith)
+  zeros_put = zero_row place.log (place.at + 1) (words_for len) 0 headed next.0 not_sealed (omega arith) (omega arith)
 
   -- the state after the puts
   puts_made : after_events s (first ∷ zero_puts place (words_for len)) ≡ record s { word = zeros_put.word }
@@ -138,26 +129,8 @@ module _ (s : State) (next : ℕ → ℕ) (law : Law s) (tidy : Tidy s next) (m 
   zeros_there : (i : ℕ) → i < words_for len → zeros_put.word (addr place + 1 + i) ≡ 0
   zeros_there i lt = zeros_put.zeroed (addr place + 1 + i) (omega arith) (omega arith)
 
-  -- no header of a span stands where the new object goes
-  no_header : (a j : ℕ) → s.starts a ≡ true → j < size_of len → a ≢ place.log * LOG_WORDS + (place.at + j)
-  no_header a j start lt e = past_tail s law place.log (place.at + j) a 0 (omega arith) (omega arith) start (omega arith) (omega arith)
-
-  -- the headers of spans stay
-  heads_stay : (a : ℕ) → s.starts a ≡ true → zeros_put.word a ≡ s.word a
-  heads_stay a start = zeros_put.same a outside ∙ put_other s.word (place.log * LOG_WORDS + place.at) (head_word p len ds) a
-      (λ e. no_header a 0 start (omega arith) (omega arith)) where
-        outside : (a < place.log * LOG_WORDS + (place.at + 1 + 0)) ⊎ (place.log * LOG_WORDS + (place.at + 1 + 0) + words_for len ≤ a)
-        outside = elim (cases_lt a (place.log * LOG_WORDS + (place.at + 1 + 0))) [
-          | inl lt ↦ inl lt
-          | inr low ↦ elim (cases_lt a (place.log * LOG_WORDS + (place.at + 1 + 0) + words_for len)) [
-            | inl high ↦ absurd (no_header a (a - (place.log * LOG_WORDS + place.at)) start (omega arith) (omega arith))
-            | inr le ↦ inr le
-          ]
-        ]
-
   -- ---- the cell is named and adopted
-  module _ (word : ℕ → ℕ) (head_is : word (addr place) ≡ head_word p len ds) (blank : (i : ℕ) → i < words_for len → word (addr place + 1 + i) ≡ 0)
-      (heads : (a : ℕ) → s.starts a ≡ true → word a ≡ s.word a) where
+  module _ (word : ℕ → ℕ) (head_is : word (addr place) ≡ head_word p len ds) (blank : (i : ℕ) → i < words_for len → word (addr place + 1 + i) ≡ 0) where
     -- the state after the puts
     abbrev filled : State
     filled = record s { word = word }
@@ -172,7 +145,7 @@ module _ (s : State) (next : ℕ → ℕ) (law : Law s) (tidy : Tidy s next) (m 
 
     -- the naming is legal
     name_legal : is_legal filled (Name p 0 new) ≡ true
-    name_legal = is_test filled (Name p 0 new) (in_range, (Places len ds place, (unused, says), (record { next = (log, stands); head = head_is }, blank)))
+    name_legal = is_test filled (Name p 0 new) (in_range, (Places len ds place, (unused, says), (record { next = next; head = head_is }, blank)))
 
     -- it takes the span
     named_so : after filled (Name p 0 new) ≡ placed
@@ -201,10 +174,6 @@ module _ (s : State) (next : ℕ → ℕ) (law : Law s) (tidy : Tidy s next) (m 
     taking_succeeds = first_succeeds filled (Name p 0 new) (Adopt m p ∷ []) name_legal (subst (Succeeds (Name p 0 new)) (sym name_done) tt)
         (subst (λ t. AllSucceed t (Adopt m p ∷ [])) (sym named_so) (first_succeeds placed (Adopt m p) [] adopt_legal tt tt))
 
-    -- the cell isn't 0
-    new_some : new ≢ 0
-    new_some z = let odd : Some (Near len ds place no_marks) ≡ Some pointer.Free = sym says ∙ ap read_of z ∙ unused in cc
-
     -- the new object is at hand
     hand_new : (q : ℕ) → q ≡ p → AtHand adopted q
     hand_new q e = record {
@@ -220,8 +189,8 @@ module _ (s : State) (next : ℕ → ℕ) (law : Law s) (tidy : Tidy s next) (m 
     }
 
     -- the others stay so
-    hand_old : (q : ℕ) → q ≢ p → s.cell q ≢ 0 → AtHand adopted q
-    hand_old q ne some_old = let h = tidy.at_hand q some_old in
+    hand_old : Between s → (q : ℕ) → q ≢ p → s.cell q ≢ 0 → AtHand adopted q
+    hand_old between q ne some_old = let h = between.at_hand q some_old in
         record {
           len = h.len;
           ds = h.ds;
@@ -235,94 +204,15 @@ module _ (s : State) (next : ℕ → ℕ) (law : Law s) (tidy : Tidy s next) (m 
         }
 
     -- all are at hand
-    all_at_hand : (q : ℕ) → adopted.cell q ≢ 0 → AtHand adopted q
-    all_at_hand q ne = elim (cases_eq q p) [
+    all_at_hand : Between s → (q : ℕ) → adopted.cell q ≢ 0 → AtHand adopted q
+    all_at_hand between q ne = elim (cases_eq q p) [
       | inl e ↦ hand_new q e
-      | inr other ↦ hand_old q other (λ z. ne (put_other s.cell p new q other ∙ z))
+      | inr other ↦ hand_old between q other (λ z. ne (put_other s.cell p new q other ∙ z))
     ]
 
-    -- one cell more is named
-    abbrev more : ℕ → ℕ
-    more = put next m (next m + 1)
-
-    -- no more than there are
-    all_most : (k : ℕ) → more k ≤ CELLS
-    all_most k = put_both (λ n. n ≤ CELLS) next m (next m + 1) k (λ _. omega arith) (λ _. tidy.most k)
-
-    -- the named cells aren't 0
-    all_named : (k i : ℕ) → i < more k → adopted.cell (k * CELLS + i) ≢ 0
-    all_named k i lt = put_both (λ w. w ≢ 0) s.cell p new (k * CELLS + i) (λ _. new_some) (λ other. tidy.named k i
-        (put_both (λ n. i < n → i < next k) next m (next m + 1) k (below other) (λ _ h. h) lt)) where
-          below : k * CELLS + i ≢ p → k ≡ m → i < next m + 1 → i < next k
-          below other e h =
-              let same : next k ≡ next m = ap next e in
-              let apart : i ≢ next m = (λ f. other (omega arith)) in
-              omega arith
-
-    -- the others are
-    all_unnamed : (k i : ℕ) → more k ≤ i → i < CELLS → adopted.cell (k * CELLS + i) ≡ 0
-    all_unnamed k i le lt = put_both (λ w. w ≡ 0) s.cell p new (k * CELLS + i)
-        (λ e. absurd (put_both (λ n. n ≤ i → ⊥) next m (next m + 1) k (λ _ h. omega arith) (λ ne h. ne (omega arith)) le))
-        (λ _. tidy.unnamed k i (put_both (λ n. n ≤ i → next k ≤ i) next m (next m + 1) k (λ e h. let same : next k ≡ next m = ap next e in omega arith) (λ _ h. h) le) lt)
-
-    -- logs before the open one are sealed
-    all_sealed : (l : ℕ) → l < place.log → adopted.kind l ≡ Sealed
-    all_sealed l lt = put_other (put s.kind s.current Sealed) place.log Open l (λ e. omega arith)
-        ∙ put_both (λ k. k ≡ Sealed) s.kind s.current Sealed l (λ _. refl) (λ ne. tidy.sealed l (below ne order)) where
-          below : l ≢ s.current → (place.log ≡ s.current) ⊎ (place.log ≡ s.current + 1) → l < s.current
-          below ne (inl e) = omega arith
-          below ne (inr e) = omega arith
-
-    -- logs behind it are free
-    all_free : (l : ℕ) → place.log < l → adopted.kind l ≡ Free
-    all_free l lt = put_other (put s.kind s.current Sealed) place.log Open l (λ e. omega arith)
-        ∙ put_other s.kind s.current Sealed l (λ e. behind_all order e) ∙ tidy.free l (behind order) where
-          behind : (place.log ≡ s.current) ⊎ (place.log ≡ s.current + 1) → s.current < l
-          behind (inl e) = omega arith
-          behind (inr e) = omega arith
-
-          behind_all : (place.log ≡ s.current) ⊎ (place.log ≡ s.current + 1) → l ≢ s.current
-          behind_all (inl e) f = omega arith
-          behind_all (inr e) f = omega arith
-
-    -- the new span is live
-    live_new : (a : ℕ) (h : HeadWord) → a ≡ addr place → head_of (word a) ≡ Some h → names_place (read_of (adopted.cell h.pointer)) (a / LOG_WORDS) (a % LOG_WORDS) ≡ true
-    live_new a h e head =
-        let back : head_of (head_word p len ds) ≡ Some (header p len ds) = head_back (header p len ds) (record { some = some; most = most; structure = structure; cell = omega (arith, in_range, law.shape.few_mutators) }) in
-        let both : Some h ≡ Some (header p len ds) = sym head ∙ ap (λ b. head_of (word b)) e ∙ ap head_of head_is ∙ back in
-        let same : h ≡ header p len ds = cc in
-        let pointer_is : h.pointer ≡ p = ap (λ (x : HeadWord). x.pointer) same in
-        let reads : read_of (adopted.cell h.pointer) ≡ Some (Near len ds place no_marks) = ap read_of (put_same s.cell p new h.pointer pointer_is) ∙ says in
-        let l : place.log ≡ a / LOG_WORDS = omega arith in
-        let i : place.at ≡ a % LOG_WORDS = omega arith in
-        rw (reads, eq-eqb place.log (a / LOG_WORDS) l, eq-eqb place.at (a % LOG_WORDS) i) refl
-
-    -- the others stay live
-    live_old : (a : ℕ) (h : HeadWord) → s.starts a ≡ true → head_of (word a) ≡ Some h → names_place (read_of (adopted.cell h.pointer)) (a / LOG_WORDS) (a % LOG_WORDS) ≡ true
-    live_old a h start head =
-        let old : names_place (read_of (s.cell h.pointer)) (a / LOG_WORDS) (a % LOG_WORDS) ≡ true = tidy.live a h start (sym (ap head_of (heads a start)) ∙ head) in
-        let apart : h.pointer ≢ p = (λ e. false≢true (sym (ap (λ q. names_place (read_of (s.cell q)) (a / LOG_WORDS) (a % LOG_WORDS)) e ∙ ap (λ o. names_place o (a / LOG_WORDS) (a % LOG_WORDS)) unread_cell) ∙ old)) in
-        ap (λ w. names_place (read_of w) (a / LOG_WORDS) (a % LOG_WORDS)) (put_other s.cell p new h.pointer apart) ∙ old
-
-    -- all are live
-    all_live : (a : ℕ) (h : HeadWord) → adopted.starts a ≡ true → head_of (word a) ≡ Some h → names_place (read_of (adopted.cell h.pointer)) (a / LOG_WORDS) (a % LOG_WORDS) ≡ true
-    all_live a h start head = elim (cases_eq a (addr place)) [
-      | inl e ↦ live_new a h e head
-      | inr ne ↦ live_old a h (sym (put_other s.starts (addr place) true a ne) ∙ start) head
-    ]
-
-    -- they leave the heap tidy
-    pub taking_tidy : Tidy adopted (put next m (next m + 1))
-    taking_tidy = record {
-      at_hand = all_at_hand;
-      most = all_most;
-      named = all_named;
-      unnamed = all_unnamed;
-      sealed = all_sealed;
-      free = all_free;
-      live = all_live;
-      unread = tidy.unread;
-    }
+    -- so they leave what holds between commands
+    pub taking_between : Between s → Between adopted
+    taking_between between = record { at_hand = all_at_hand between; unread = between.unread }
 
   -- the events of a new object
   abbrev row : List Event
@@ -331,7 +221,7 @@ module _ (s : State) (next : ℕ → ℕ) (law : Law s) (tidy : Tidy s next) (m 
   -- the events of a new object succeed
   pub new_succeeds : AllSucceed s row
   new_succeeds = AllSucceed-append s (first ∷ zero_puts place (words_for len)) (Name p 0 new ∷ Adopt m p ∷ []) puts_succeed
-      (subst (λ t. AllSucceed t (Name p 0 new ∷ Adopt m p ∷ [])) (sym puts_made) (taking_succeeds zeros_put.word head_put zeros_there heads_stay))
+      (subst (λ t. AllSucceed t (Name p 0 new ∷ Adopt m p ∷ [])) (sym puts_made) (taking_succeeds zeros_put.word head_put zeros_there))
 
   -- the puts make a header and a row of zeros
   puts_row : zeros_put.word ≡ with_row (put s.word (addr place) (head_word p len ds)) (addr place + 1) (words_for len) (λ _. 0)
@@ -345,12 +235,29 @@ module _ (s : State) (next : ℕ → ℕ) (law : Law s) (tidy : Tidy s next) (m 
   -- the events of a new object end in the state that has it
   pub new_end : after_events s row ≡ record (with_span record s { word = with_row (put s.word (addr place) (head_word p len ds)) (addr place + 1) (words_for len) (λ _. 0) } p new len place) { used = put s.used p true }
   new_end = made-append s (first ∷ zero_puts place (words_for len)) (Name p 0 new ∷ Adopt m p ∷ []) ∙ ap (λ t. after_events t (Name p 0 new ∷ Adopt m p ∷ [])) puts_made
-      ∙ taking_made zeros_put.word head_put zeros_there heads_stay ∙ ap (λ (f : ℕ → ℕ). record (with_span record s { word = f } p new len place) { used = put s.used p true }) puts_row
+      ∙ taking_made zeros_put.word head_put zeros_there ∙ ap (λ (f : ℕ → ℕ). record (with_span record s { word = f } p new len place) { used = put s.used p true }) puts_row
 
-  -- and they keep the heap tidy, with one cell more
-  pub new_tidy : Tidy (after_events s row) (put next m (next m + 1))
-  new_tidy =
+  -- and they leave what holds between commands
+  pub new_between : Between s → Between (after_events s row)
+  new_between between =
       let end : after_events s row ≡ record (with_span record s { word = zeros_put.word } p new len place) { used = put s.used p true } =
       made-append s (first ∷ zero_puts place (words_for len)) (Name p 0 new ∷ Adopt m p ∷ []) ∙ ap (λ t. after_events t (Name p 0 new ∷ Adopt m p ∷ [])) puts_made
-      ∙ taking_made zeros_put.word head_put zeros_there heads_stay in
-      subst (λ t. Tidy t (put next m (next m + 1))) (sym end) (taking_tidy zeros_put.word head_put zeros_there heads_stay)
+      ∙ taking_made zeros_put.word head_put zeros_there in
+      subst Between (sym end) (taking_between zeros_put.word head_put zeros_there between)
+
+  -- the words once a header and zeros are written
+  abbrev blank_word : ℕ → ℕ
+  blank_word = with_row (put s.word (addr place) (head_word p len ds)) (addr place + 1) (words_for len) (λ _. 0)
+
+  blank_head : blank_word (addr place) ≡ head_word p len ds
+  blank_head = sym (ap (λ (f : ℕ → ℕ). f (addr place)) puts_row) ∙ head_put
+
+  blank_zeros : (i : ℕ) → i < words_for len → blank_word (addr place + 1 + i) ≡ 0
+  blank_zeros i lt = sym (ap (λ (f : ℕ → ℕ). f (addr place + 1 + i)) puts_row) ∙ zeros_there i lt
+
+  -- a book that places the object, and then its owner's adoption, end there too
+  pub placed_end : new ≡ near_word len ds place → (step_of (placed_by s p len ds place) (Adopt m p)).0 ≡ record (with_span record s { word = blank_word } p new len place) { used = put s.used p true }
+  placed_end is =
+      ap (λ w. (step_of (after record s { word = blank_word } (Name p 0 w)) (Adopt m p)).0) (sym is)
+      ∙ ap (λ t. (step_of t (Adopt m p)).0) (named_so blank_word blank_head blank_zeros)
+      ∙ made_first (placed blank_word blank_head blank_zeros) (Adopt m p) [] (adopt_legal blank_word blank_head blank_zeros)

@@ -10,7 +10,6 @@ use Rattle.std.specs.Int.{IsInRange}
 use Rattle.std.specs.Char.{digit_value, is_ascii_digit}
 use Rattle.std.proofs.lemmas.Fmt.{decimal_is_IsNumeral, decimal-digits_value, decimal_nonempty, first_decimal, decimal_digit}
 use Rattle.std.proofs.lemmas.Str.Parse.{numerals_by_value, tells_by_index, digit_at, digits_value-take-le}
-use Rattle.std.proofs.lemmas.Int.Digits.{digits_value_more}
 use Rattle.std.proofs.Common.{add-one}
 use Rattle.std.proofs.Math.Nat.{pow-suc, pow-le-pow_right}
 use Rattle.far_replay.specs.Grammar.{number_of}
@@ -82,13 +81,6 @@ number_large w i large = number_not w (λ m h same.
     let v = value_is w m h same in
     let most = digits_value-take-le 10 w i (omega arith) in
     absurd (omega arith))
-
--- one more digit makes it too large
-pub number_over : (w : List ℕ) (i n : ℕ) → i < length w → n ≡ digits_value 10 (take i w) → IsInRange 48 57 (get_or w i 0) → 2 ^ 64 ≤ n * 10 + (get_or w i 0 - 48) → number_of w ≡ None
-number_over w i n inside same digit large =
-    let more = digits_value_more 10 w i inside in
-    let value = digit_value_is (get_or w i 0) digit in
-    number_large w (i + 1) (omega arith)
 
 pub digit_tells : (c : ℕ) → is_ascii_digit c ≡ true → IsInRange 48 57 c
 digit_tells c e = let parts = and_parts (nat_le 48 c) (nat_le c 57) e in (leb-true 48 c parts.0, leb-true c 57 parts.1)

@@ -1,27 +1,15 @@
 -- What holds of the first state.
-use Rattle.std.proofs.Common.{◌≡◌, ℕ, true, arith, refl}
-use Rattle.std.proofs.lemmas.Bool.{false≢true}
-use Rattle.far_core.specs.declared.event.Kind.TheVariants.{Free, Open}
+use Rattle.std.proofs.Common.{◌≡◌, ℕ, true, refl}
 use Rattle.far_core.specs.state.Law.{Law}
 use Rattle.far_core.specs.state.Shape.{is_shape}
 use Rattle.far_core.proofs.Begins.{begins}
-use Rattle.far_core.proofs.Put.{put_other}
 use Rattle.far_replay.specs.Answers.{shape_of, first_moment}
-use Rattle.far_replay.specs.Tidy.{Tidy}
+use Rattle.far_replay.specs.Between.{Between}
 
 -- the law holds of the first state
 pub opening_law : (logs mutators : ℕ) → is_shape (shape_of logs mutators) ≡ true → Law (first_moment logs mutators).core
 opening_law logs mutators fits = begins (shape_of logs mutators) true fits
 
--- in the first state no cell is named and log 0 is open
-pub opening_tidy : (logs mutators : ℕ) → is_shape (shape_of logs mutators) ≡ true → Tidy (first_moment logs mutators).core (λ _. 0)
-opening_tidy logs mutators fits = record {
-  at_hand = λ p ne. absurd (ne refl);
-  most = λ m. omega arith;
-  named = λ m k lt. absurd (omega arith);
-  unnamed = λ m k le lt. refl;
-  sealed = λ l lt. absurd (omega arith);
-  free = λ l lt. put_other (λ _. Free) 0 Open l (λ e. omega arith);
-  live = λ a h start is. absurd (false≢true start);
-  unread = λ m e. refl;
-}
+-- in the first state no cell is named, and no owner remembers an epoch
+pub opening_between : (logs mutators : ℕ) → is_shape (shape_of logs mutators) ≡ true → Between (first_moment logs mutators).core
+opening_between logs mutators fits = record { at_hand = λ p ne. absurd (ne refl); unread = λ m e. refl }

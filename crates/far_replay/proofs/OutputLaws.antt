@@ -23,14 +23,14 @@ use Rattle.far_core.proofs.Observations.{bytes_make_log}
 use Rattle.far_replay.specs.Moment.{Moment, moment_of}
 use Rattle.far_replay.specs.Alone.{Alone, Knows, Own}
 use Rattle.far_replay.specs.Answers.{Answered, Answers, Commanded, IsMoment, IsOutput, shape_of, first_moment}
-use Rattle.far_replay.specs.Command.{Command, Trace, Nothing, Heap, New, Open, Write, Read, Close, Logs, Mutator, Book}
+use Rattle.far_replay.specs.Command.{Command, Trace, Nothing, Heap, New, Open, Write, Read, Close, Where, Drop, Logs, Mutator, Book}
 use Rattle.far_replay.specs.Grammar.{trace_of}
 use Rattle.far_replay.specs.Headline.{IsSound, IsWhole, Lawful, IsSaidBy, TellsAll, TellsLog}
 use Rattle.far_replay.specs.Written.{AllWriteBytes}
-use Rattle.far_replay.specs.EventRows.{after_events, AllSucceed}
-use Rattle.far_replay.specs.Reply.{Reply, Done, Pointer, Refused, LogLine, printed}
+use Rattle.far_replay.specs.EventRows.{after_events}
+use Rattle.far_replay.specs.Reply.{Reply, Done, Pointer, Refused, LogLine, reply_text}
 use Rattle.far_replay.specs.Events.{turn_events, events_for, new_events}
-use Rattle.far_replay.specs.Objects.{lowest_cell, spliced}
+use Rattle.far_replay.specs.Objects.{lowest_cell, with_range}
 use Rattle.far_word.specs.declared.mark.Marks.{Marks}
 use Rattle.far_word.specs.declared.pointer.PtrWord.{PtrWord}
 use Rattle.far_word.specs.declared.pointer.PtrWord.TheVariants.{Free, Near, Far}
@@ -41,12 +41,13 @@ use Rattle.far_replay.proofs.AloneNew.{new_run, is_structure, is_length}
 use Rattle.far_replay.proofs.AloneFirst.{alone_first}
 use Rattle.far_replay.proofs.Kept.{whole}
 use Rattle.far_replay.proofs.Lasting.{first_lasts, first_lawful, carried, moment_lasts, moments_last, each_is_moment, first_is_moment}
+use Rattle.far_replay.proofs.MadeLemmas.{Carries}
 use Rattle.far_replay.proofs.PlainReplies.{replies_plain}
 use Rattle.far_replay.proofs.ViewLaws.{logs_stay}
 use Rattle.far_replay.proofs.TextLaws.{texts_write}
 use Rattle.far_replay.proofs.Lowest.{lowest_found, none_found}
 use Rattle.far_replay.proofs.Refusals.{turn_is_no_refusal, from_cause}
-use Rattle.far_replay.proofs.Spliced.{length-spliced, spliced_before, spliced_inside, spliced_behind}
+use Rattle.far_replay.proofs.Spliced.{length-with_range, with_range_before, with_range_inside, with_range_behind}
 use Rattle.far_replay.proofs.Turns.{four}
 
 -- ---- each text has an output
@@ -58,12 +59,12 @@ answers_all now (c ∷ cs) =
     (reply_to now c ∷ rest.0, effect now c ∷ rest.1, (record { reply = refl; moment = refl }, rest.2))
 
 heap_answered : (logs mutators : ℕ) (cs : List Command) (b : Bool) →
-    (output : List ℕ) × MatchBool b ((rs : List Reply) × (moments : List Moment) × Answered (first_moment logs mutators) cs rs moments × (output ≡ flat_map printed (Done ∷ rs))) (output ≡ printed (Refused Shape))
-heap_answered logs mutators cs true = let x = answers_all (first_moment logs mutators) cs in (flat_map printed (Done ∷ x.0), (x.0, x.1, x.2, refl))
-heap_answered logs mutators cs false = (printed (Refused Shape), refl)
+    (output : List ℕ) × MatchBool b ((rs : List Reply) × (moments : List Moment) × Answered (first_moment logs mutators) cs rs moments × (output ≡ flat_map reply_text (Done ∷ rs))) (output ≡ reply_text (Refused Shape))
+heap_answered logs mutators cs true = let x = answers_all (first_moment logs mutators) cs in (flat_map reply_text (Done ∷ x.0), (x.0, x.1, x.2, refl))
+heap_answered logs mutators cs false = (reply_text (Refused Shape), refl)
 
 read_answered : (read : Result Trace ℕ) → (output : List ℕ) × IsOutput read output
-read_answered (Err line) = (printed (Refused (Syntax line)), refl)
+read_answered (Err line) = (reply_text (Refused (Syntax line)), refl)
 read_answered (Ok Nothing) = ([], refl)
 read_answered (Ok (Heap logs mutators cs)) = heap_answered logs mutators cs (is_shape (shape_of logs mutators))
 
@@ -108,7 +109,9 @@ unknown s (Mutator k Open) m e h = first_holds s (Mutator k Open) (not (nat_lt k
 unknown s (Mutator k (Write p from bytes)) m e h = first_holds s (Mutator k (Write p from bytes)) (not (nat_lt k s.mutators)) _ refl (ap not (past s m k e h))
 unknown s (Mutator k (Read p from len)) m e h = first_holds s (Mutator k (Read p from len)) (not (nat_lt k s.mutators)) _ refl (ap not (past s m k e h))
 unknown s (Mutator k Close) m e h = first_holds s (Mutator k Close) (not (nat_lt k s.mutators)) _ refl (ap not (past s m k e h))
-unknown s (Book Logs) m e h = absurd e
+unknown s (Mutator k (Where p)) m e h = first_holds s (Mutator k (Where p)) (not (nat_lt k s.mutators)) _ refl (ap not (past s m k e h))
+unknown s (Mutator k (Drop p)) m e h = first_holds s (Mutator k (Drop p)) (not (nat_lt k s.mutators)) _ refl (ap not (past s m k e h))
+unknown s (Book inquiry) m e h = absurd e
 
 pub unknown_refused : (now : Moment) (c : Command) (r : Reply) (next : Moment) (m : ℕ) → IsSaidBy m c → now.core.mutators ≤ m → Commanded now c r next → r ≡ Refused Range
 unknown_refused now c r next m e h k = k.reply ∙ unknown now.core c m e h
@@ -224,15 +227,15 @@ is_made now m len ds r next own structure some most h =
 
 -- ---- writes
 pub changes_range : (bytes new : List ℕ) (from : ℕ) → from + length new ≤ length bytes →
-    (length (spliced bytes from new) ≡ length bytes)
-    × ((k : ℕ) → k < from → get_or (spliced bytes from new) k 0 ≡ get_or bytes k 0)
-    × ((k : ℕ) → k < length new → get_or (spliced bytes from new) (from + k) 0 ≡ get_or new k 0)
-    × ((k : ℕ) → from + length new ≤ k → get_or (spliced bytes from new) k 0 ≡ get_or bytes k 0)
+    (length (with_range bytes from new) ≡ length bytes)
+    × ((k : ℕ) → k < from → get_or (with_range bytes from new) k 0 ≡ get_or bytes k 0)
+    × ((k : ℕ) → k < length new → get_or (with_range bytes from new) (from + k) 0 ≡ get_or new k 0)
+    × ((k : ℕ) → from + length new ≤ k → get_or (with_range bytes from new) k 0 ≡ get_or bytes k 0)
 changes_range bytes new from fits = (
-  length-spliced bytes from new fits,
-  spliced_before bytes from new fits,
-  (λ k lt. let same : from + k - from ≡ k = omega arith in spliced_inside bytes from new fits (from + k) (omega arith) (omega arith) ∙ ap (λ j. get_or new j 0) same),
-  spliced_behind bytes from new fits,
+  length-with_range bytes from new fits,
+  with_range_before bytes from new fits,
+  (λ k lt. let same : from + k - from ≡ k = omega arith in with_range_inside bytes from new fits (from + k) (omega arith) (omega arith) ∙ ap (λ j. get_or new j 0) same),
+  with_range_behind bytes from new fits,
 )
 
 -- ---- whose line it is
@@ -266,7 +269,7 @@ makes_its_object now m len ds p next is c =
     let own : p / CELLS ≡ m = omega (arith, where_it_is.0, where_it_is.1) in
     let events : events_for now (Mutator m (New len ds)) ≡ new_events m len ds (Some p) (Some at.0) =
     ap (λ o. unless o (λ _. []) (turn_events now (Mutator m (New len ds)))) none ∙ ap (λ o. new_events m len ds o (room s (size_of len) true)) low ∙ ap (λ r. new_events m len ds (Some p) r) at.1 in
-    let run = new_run s m len ds p at.0 lasts.law numbers.0 own sized.1 numbers.1 (subst (AllSucceed s) events h.succeed) in
+    let run = new_run s m len ds p at.0 lasts.law numbers.0 own sized.1 numbers.1 (subst (Carries s) events h.made) in
     let whole : run.0 ≡ record { owner = m; ds = ds; bytes = replicate len 0; home = Group at.0.log } =
     run.5 ∙ ap (λ (o : ℕ). record { owner = o; ds = ds; bytes = replicate len 0; home = Group at.0.log }) own in
     (at.0, at.1, ap (λ (x : State). (world_of x).object) (h.state ∙ ap (after_events s) events) ∙ run.2 ∙ ap (λ (o : Object). put (world_of s).object p (Some o)) whole)
@@ -284,8 +287,8 @@ objects_whole now cs rs moments is bytes h =
     All-from (λ (x : Moment). IsWhole x.core) (now ∷ moments) (λ x c. whole x.core (moment_lasts x (each_is_moment now cs rs moments is bytes h x c)).law)
 
 in_shape : (logs mutators : ℕ) (cs : List Command) (output : List ℕ) (b : Bool) → b ≡ true →
-    MatchBool b ((rs : List Reply) × (moments : List Moment) × Answered (first_moment logs mutators) cs rs moments × (output ≡ flat_map printed (Done ∷ rs))) (output ≡ printed (Refused Shape)) →
-    (rs : List Reply) × (moments : List Moment) × Answered (first_moment logs mutators) cs rs moments × (output ≡ flat_map printed (Done ∷ rs))
+    MatchBool b ((rs : List Reply) × (moments : List Moment) × Answered (first_moment logs mutators) cs rs moments × (output ≡ flat_map reply_text (Done ∷ rs))) (output ≡ reply_text (Refused Shape)) →
+    (rs : List Reply) × (moments : List Moment) × Answered (first_moment logs mutators) cs rs moments × (output ≡ flat_map reply_text (Done ∷ rs))
 in_shape logs mutators cs output true e h = h
 in_shape logs mutators cs output false e h = absurd cc
 

@@ -1,27 +1,37 @@
 -- Each reply of a heap is told in full by its lines.
-use Rattle.std.proofs.Common.{◌≡◌, ℕ, ◌+◌, ◌-◌, ◌<◌, ◌≤◌, nat_lt, ◌&&◌, not, true, is_some, refl, sym, subst, ap, arith, inl, inr, Option, Some, None, List, [], ◌∷◌, map, length, drop}
-use Rattle.std.specs.Prelude.{slice_range, All, nat_le}
+use Rattle.std.proofs.Common.{◌≡◌, ℕ, zero, suc, ◌+◌, ◌-◌, ◌*◌, ◌<◌, ◌≤◌, nat_lt, ◌&&◌, Bool, not, true, is_some, refl, sym, subst, ap, arith, inl, inr, Option, Some, None, List, [], ◌∷◌, map, length, drop, filter}
+use Rattle.std.specs.Prelude.{slice_range, All, nat_le, sum, sum_by}
 use Rattle.std.specs.List.{range_with_len, AllByRecursion}
 use Rattle.std.proofs.Math.Nat.{min-le_left}
-use Rattle.std.proofs.lemmas.Bool.{cases_lt}
+use Rattle.std.proofs.lemmas.Bool.{cases_lt, cond_both}
+use Rattle.std.proofs.lemmas.Bool.Decides.{nat_tests}
+use Rattle.std.proofs.lemmas.List.FromFn.{length-range_with_len}
+use Rattle.std.proofs.lemmas.List.Sums.{sum-map, sum_by-cons, length-filter, count_by-le-length}
 use Rattle.std.proofs.lemmas.List.{get_or_past, length-take}
 use Rattle.std.proofs.lemmas.List.Elements.{All-from_recursion}
 use Rattle.hex.specs.Hex.{IsBytes}
 use Rattle.far_word.specs.declared.refused.Refused.{Refused as Refusal}
 use Rattle.far_word.specs.declared.refused.Refused.TheVariants.{Range, Length, NoPointer, NoRoom}
-use Rattle.far_word.specs.declared.sizes.TheConstants.{LONGEST}
+use Rattle.far_word.specs.declared.pointer.PtrWord.{PtrWord}
+use Rattle.far_word.specs.declared.pointer.PtrWord.TheVariants.{Free, Near, Far}
+use Rattle.far_word.specs.declared.sizes.TheConstants.{CELLS, LONGEST}
+use Rattle.far_word.specs.Pointer.{IsPtr, read_of}
 use Rattle.far_word.specs.Sizes.{size_of}
+use Rattle.far_word.proofs.PointerLaws.{read_says}
+use Rattle.far_core.specs.laws.Observed.{live_bytes}
 use Rattle.far_core.specs.state.Law.{Law}
 use Rattle.far_core.specs.state.Room.{room}
 use Rattle.far_core.specs.state.State.{State}
 use Rattle.far_core.proofs.Observations.{bytes_make_log}
+use Rattle.far_book.specs.book.Home.{home_of}
 use Rattle.far_replay.specs.Answers.{Answered}
-use Rattle.far_replay.specs.Command.{Command, New, Open, Write, Read, Close, Logs, Mutator, Book}
+use Rattle.far_replay.specs.Audit.{counts_of, lies_near, lies_far, bytes_by_log}
+use Rattle.far_replay.specs.Command.{Command, New, Open, Write, Read, Close, Where, Drop, Logs, Log, Audit, Mutator, Book}
 use Rattle.far_replay.specs.Headline.{IsToldInFull, IsLineToldInFull, AreToldInFull, IsRefusalToldInFull}
 use Rattle.far_replay.specs.Moment.{Moment, moment_of}
 use Rattle.far_replay.specs.Objects.{lowest_cell, data_of}
-use Rattle.far_replay.specs.Reply.{Reply, Refused, LogLine}
-use Rattle.far_replay.specs.Turn.{causes, refusal, unless, turn_reply, log_line, pointer_reply}
+use Rattle.far_replay.specs.Reply.{Reply, Audited, Refused, LogLine}
+use Rattle.far_replay.specs.Turn.{causes, refusal, unless, turn_reply, log_line, pointer_reply, home_reply}
 use Rattle.far_replay.specs.Written.{AllWriteBytes}
 use Rattle.far_replay.proofs.AloneNew.{is_structure}
 use Rattle.far_replay.proofs.AloneStates.{lowest_own, data_small}
@@ -50,10 +60,42 @@ plain_lines : (lines : List LogLine) → Each IsLineToldInFull lines → AreTold
 plain_lines [] h = tt
 plain_lines (line ∷ lines) h = (h.0, plain_lines lines h.1)
 
+plain_line : (s : State) → Law s → (l : ℕ) → l < s.logs → IsLineToldInFull (log_line (moment_of s) l)
+plain_line s law l lt =
+    let made = bytes_make_log s law l in
+    record { log = omega (arith, law.shape.few_logs); live = omega (arith, made); dead = omega (arith, made); unused = omega (arith, made) }
+
 plain_logs : (s : State) → Law s → AreToldInFull (map (log_line (moment_of s)) (range_with_len 0 s.logs))
-plain_logs s law = plain_lines _ (Each-row IsLineToldInFull (log_line (moment_of s)) 0 s.logs (λ l lt.
-    let made = bytes_make_log s law (0 + l) in
-    record { log = omega (arith, law.shape.few_logs); live = omega (arith, made); dead = omega (arith, made); unused = omega (arith, made) }))
+plain_logs s law = plain_lines _ (Each-row IsLineToldInFull (log_line (moment_of s)) 0 s.logs (λ l lt. plain_line s law (0 + l) (omega (arith, lt))))
+
+-- a log that isn't refused is one of the heap's
+log_inside : (s : State) (l : ℕ) → refusal (moment_of s) (Book (Log l)) ≡ None → l < s.logs
+log_inside s l = cond_both (not (nat_lt l s.logs)) (Some Range) None (λ (o : Option Refusal). o ≡ None → l < s.logs) (λ _ e. absurd cc) (λ inside _. grind (arith, nat_tests))
+
+-- where an object is: its log and the word in it
+plain_home : (o : Option PtrWord) → ((v : PtrWord) → o ≡ Some v → IsPtr v) → IsToldInFull (home_reply (home_of o))
+plain_home None h = tt
+plain_home (Some Free) h = tt
+plain_home (Some (Near len ds place marks)) h = let lies : IsPtr (Near len ds place marks) = h (Near len ds place marks) refl in (omega (arith, lies.3), omega (arith, lies.4))
+plain_home (Some (Far len ds marks)) h = tt
+
+-- what an audit counts
+filter_shorter : (f : ℕ → Bool) (xs : List ℕ) → length (filter f xs) ≤ length xs
+filter_shorter f xs = omega (arith, length-filter f xs, count_by-le-length f xs)
+
+live_below : (s : State) → Law s → (a n : ℕ) → sum_by (live_bytes s) (range_with_len a n) ≤ 1024 * n
+live_below s law a zero = omega arith
+live_below s law a (suc n) = omega (arith, live_below s law (a + 1) n, sum_by-cons (live_bytes s) a (range_with_len (a + 1) n), bytes_make_log s law a)
+
+plain_counts : (s : State) → Law s → IsToldInFull (Audited (counts_of s))
+unfolding counts_of
+plain_counts s law =
+    let many : length (range_with_len 0 (CELLS * s.mutators)) ≡ CELLS * s.mutators = length-range_with_len 0 (CELLS * s.mutators) in
+    let near = filter_shorter (λ p. lies_near (read_of (s.cell p))) (range_with_len 0 (CELLS * s.mutators)) in
+    let far = filter_shorter (λ p. lies_far (read_of (s.cell p))) (range_with_len 0 (CELLS * s.mutators)) in
+    let live = live_below s law 0 s.logs in
+    let all : sum (bytes_by_log s) ≡ sum_by (live_bytes s) (range_with_len 0 s.logs) = sum-map (live_bytes s) (range_with_len 0 s.logs) in
+    (omega (arith, near, many, law.shape.few_mutators), omega (arith, far, many, law.shape.few_mutators), omega (arith, live, all, law.shape.few_logs))
 
 -- no cause of today carries a word
 plain_causes : (s : State) (c : Command) → EachCause IsRefusalToldInFull (causes (moment_of s) c)
@@ -62,7 +104,11 @@ plain_causes s (Mutator m Open) = (tt, (tt, tt))
 plain_causes s (Mutator m (Write p from bytes)) = (tt, (tt, (tt, (tt, tt))))
 plain_causes s (Mutator m (Read p from len)) = (tt, (tt, (tt, (tt, tt))))
 plain_causes s (Mutator m Close) = (tt, (tt, tt))
+plain_causes s (Mutator m (Where p)) = (tt, (tt, tt))
+plain_causes s (Mutator m (Drop p)) = (tt, (tt, (tt, tt)))
 plain_causes s (Book Logs) = tt
+plain_causes s (Book (Log l)) = (tt, tt)
+plain_causes s (Book Audit) = tt
 
 -- the reply of a command that isn't refused
 plain_turn : (s : State) (c : Command) → Law s → refusal (moment_of s) c ≡ None → IsToldInFull (turn_reply (moment_of s) c)
@@ -73,7 +119,11 @@ plain_turn s (Mutator m Open) law e = tt
 plain_turn s (Mutator m (Write p from bytes)) law e = tt
 plain_turn s (Mutator m (Read p from len)) law e = plain_data s p from len
 plain_turn s (Mutator m Close) law e = tt
+plain_turn s (Mutator m (Where p)) law e = plain_home (read_of (s.cell p)) (λ v is. (read_says (s.cell p) v (law.cells.cell_read p).0 is).0)
+plain_turn s (Mutator m (Drop p)) law e = tt
 plain_turn s (Book Logs) law e = plain_logs s law
+plain_turn s (Book (Log l)) law e = (plain_line s law l (log_inside s l e), tt)
+plain_turn s (Book Audit) law e = plain_counts s law
 
 plain_reply : (s : State) (c : Command) (o : Option Refusal) → Law s → refusal (moment_of s) c ≡ o → IsToldInFull (unless o Refused (turn_reply (moment_of s) c))
 plain_reply s c None law e = plain_turn s c law e

@@ -1,18 +1,21 @@
 -- Replies that their lines tell in full are equal where they are printed alike.
 use Rattle.std.specs.Prelude.{◌⊎◌, if◌then◌else◌}
-use Rattle.std.proofs.Common.{◌≡◌, ◌≢◌, ℕ, suc, ◌<◌, ◌^◌, ◌==◌, List, [], ◌∷◌, ◌++◌, Ok, length, drop, get_or, codes, decimal, inl, inr, refl, sym, ap, ◌∙◌, arith, append_assoc, append-nil}
+use Rattle.std.proofs.Common.{◌≡◌, ◌≢◌, ℕ, suc, ◌<◌, ◌^◌, ◌==◌, ◌||◌, Bool, true, false, List, [], ◌∷◌, ◌++◌, Ok, length, drop, get_or, codes, decimal, inl, inr, refl, sym, ap, ◌∙◌, arith, append_assoc, append-nil}
 use Rattle.std.specs.List.{flat_map}
 use Rattle.std.proofs.lemmas.List.{append_cancel_left, append_cancel_right}
 use Rattle.std.proofs.lemmas.Fmt.{decimal_injective, decimal_is_IsNumeral}
 use Rattle.hex.specs.Hex.{IsBytes, encode_lower, decode_of}
 use Rattle.hex.proofs.HexLemmas.{decode_of-encode_lower}
+use Rattle.far_word.specs.declared.mark.Marks.{Marks}
+use Rattle.far_word.specs.declared.pointer.Place.{Place}
 use Rattle.far_word.specs.declared.refused.Refused.{Refused as Refusal}
 use Rattle.far_word.specs.declared.refused.Refused.TheVariants.{Memory, NoRoom, NoPointer, Length, Closed, AlreadyOpen, NotHeld, Range, Held, Device, Damaged, Phase, EpochsSpent, Marked, Shape, Syntax, BadChoice, StillOpen}
 use Rattle.far_word.specs.Refused.{refusal_number}
 use Rattle.far_core.specs.declared.event.Kind.{Kind}
 use Rattle.far_core.specs.declared.event.Kind.TheVariants as kinds
-use Rattle.far_replay.specs.Headline.{IsToldInFull, IsLineToldInFull, AreToldInFull, IsRefusalToldInFull}
-use Rattle.far_replay.specs.Reply.{Reply, Done, Pointer, Data, Logs, Refused, LogLine, kind_word, log_printed, detail, refused_printed, printed}
+use Rattle.far_book.specs.declared.home.Home.TheVariants.{Near, Far}
+use Rattle.far_replay.specs.Headline.{IsToldInFull, IsHomeToldInFull, AreCountsToldInFull, IsLineToldInFull, AreToldInFull, IsRefusalToldInFull}
+use Rattle.far_replay.specs.Reply.{Reply, Done, Pointer, Data, Logs, Lies, Audited, Refused, LogLine, Counts, kind_word, log_text, letters_of, home_printed, counts_printed, detail, refusal_text, reply_text}
 use Rattle.std.proofs.lemmas.Str.Parse.{digit_at}
 
 -- ---- bytes up to the first of one kind
@@ -77,12 +80,12 @@ chained front [] rest = refl
 chained front (part ∷ parts) rest = chained (front ++ part) parts rest ∙ append_assoc front part (from_right parts rest)
 
 -- a line in front of others, from the left
-line_right : (l : LogLine) (rest : List ℕ) → log_printed l ++ rest
+line_right : (l : LogLine) (rest : List ℕ) → log_text l ++ rest
     ≡ codes "log " ++ (decimal l.log ++ (32 ∷ (kind_word l.kind ++ (32 ∷ (codes "live " ++ (decimal l.live ++ (32 ∷ (codes "dead " ++ (decimal l.dead ++ (32 ∷ (codes "unused " ++ (decimal l.unused ++ (10 ∷ rest)))))))))))))
 line_right l rest = chained (codes "log ")
     (decimal l.log ∷ codes " " ∷ kind_word l.kind ∷ codes " live " ∷ decimal l.live ∷ codes " dead " ∷ decimal l.dead ∷ codes " unused " ∷ decimal l.unused ∷ codes "\n" ∷ []) rest
 
-line_alike : (l k : LogLine) (xs ys : List ℕ) → IsLineToldInFull l → IsLineToldInFull k → log_printed l ++ xs ≡ log_printed k ++ ys → (l ≡ k) × (xs ≡ ys)
+line_alike : (l k : LogLine) (xs ys : List ℕ) → IsLineToldInFull l → IsLineToldInFull k → log_text l ++ xs ≡ log_text k ++ ys → (l ≡ k) × (xs ≡ ys)
 line_alike l k xs ys p q e =
     let (log, a) = cut 32 (decimal l.log) (decimal k.log) _ _ (decimal_free 32 l.log (omega arith) p.log) (decimal_free 32 k.log (omega arith) q.log)
     (append_cancel_left (codes "log ") _ _ (sym (line_right l xs) ∙ e ∙ line_right k ys)) in
@@ -98,12 +101,12 @@ line_alike l k xs ys p q e =
     let unused_same : l.unused ≡ k.unused = decimal_injective l.unused k.unused p.unused q.unused unused in
     ((λ i. record { log = log_same i; kind = kind_same i; live = live_same i; dead = dead_same i; unused = unused_same i }), end)
 
-lines_alike : (ls ks : List LogLine) → AreToldInFull ls → AreToldInFull ks → flat_map log_printed ls ≡ flat_map log_printed ks → ls ≡ ks
+lines_alike : (ls ks : List LogLine) → AreToldInFull ls → AreToldInFull ks → flat_map log_text ls ≡ flat_map log_text ks → ls ≡ ks
 lines_alike [] [] p q e = refl
 lines_alike [] (k ∷ ks) p q e = let h : 0 ≡ 108 = ap head_of e in absurd (omega (arith, h))
 lines_alike (l ∷ ls) [] p q e = let h : 108 ≡ 0 = ap head_of e in absurd (omega (arith, h))
 lines_alike (l ∷ ls) (k ∷ ks) p q e =
-    let (first, behind) = line_alike l k (flat_map log_printed ls) (flat_map log_printed ks) p.0 q.0 e in
+    let (first, behind) = line_alike l k (flat_map log_text ls) (flat_map log_text ks) p.0 q.0 e in
     let others = lines_alike ls ks p.1 q.1 behind in
     (λ i. first i ∷ others i)
 
@@ -145,7 +148,7 @@ number_alone why e = ap (λ xs. decimal (refusal_number why) ++ xs) e ∙ append
 line_behind : (why : Refusal) (line : ℕ) → why ≡ Syntax line → behind_refused why ≡ decimal 16 ++ (32 ∷ decimal line)
 line_behind why line e = ap behind_refused e
 
-refused_alike : (a b : Refusal) → IsRefusalToldInFull a → IsRefusalToldInFull b → refused_printed a ≡ refused_printed b → a ≡ b
+refused_alike : (a b : Refusal) → IsRefusalToldInFull a → IsRefusalToldInFull b → refusal_text a ≡ refusal_text b → a ≡ b
 refused_alike a b p q e =
     let same : behind_refused a ≡ behind_refused b =
     append_cancel_left (codes "refused ") _ _ (sym (append_assoc (codes "refused ") (decimal (refusal_number a)) (detail a))
@@ -162,47 +165,153 @@ refused_alike a b p q e =
       ]
     ]
 
+-- ---- where an object is
+-- the marks whose letters these are
+abbrev has_letter : ℕ → List ℕ → Bool
+has_letter b [] = false
+has_letter b (x ∷ xs) = (x == b) || has_letter b xs
+
+abbrev marks_of : List ℕ → Marks
+marks_of word = record { hot = has_letter 104 word; evac = has_letter 101 word; moved = has_letter 109 word; dropped = has_letter 100 word }
+
+letters_back : (h e m d : Bool) → marks_of (letters_of record { hot = h; evac = e; moved = m; dropped = d }) ≡ record { hot = h; evac = e; moved = m; dropped = d }
+letters_back false false false false = refl
+letters_back false false false true = refl
+letters_back false false true false = refl
+letters_back false false true true = refl
+letters_back false true false false = refl
+letters_back false true false true = refl
+letters_back false true true false = refl
+letters_back false true true true = refl
+letters_back true false false false = refl
+letters_back true false false true = refl
+letters_back true false true false = refl
+letters_back true false true true = refl
+letters_back true true false false = refl
+letters_back true true false true = refl
+letters_back true true true false = refl
+letters_back true true true true = refl
+
+marks_alike : (m n : Marks) → letters_of m ≡ letters_of n → m ≡ n
+marks_alike m n e = sym (letters_back m.hot m.evac m.moved m.dropped) ∙ ap marks_of e ∙ letters_back n.hot n.evac n.moved n.dropped
+
+near_right : (place : Place) (m : Marks) → home_printed (Near place m) ≡ codes "near " ++ (decimal place.log ++ (32 ∷ (decimal place.at ++ (32 ∷ (letters_of m ++ codes "\n")))))
+near_right place m = chained (codes "near ") (decimal place.log ∷ codes " " ∷ decimal place.at ∷ codes " " ∷ letters_of m ∷ []) (codes "\n")
+
+near_alike : (place at : Place) (m n : Marks) → IsHomeToldInFull (Near place m) → IsHomeToldInFull (Near at n) → reply_text (Lies (Near place m)) ≡ reply_text (Lies (Near at n)) → Lies (Near place m) ≡ Lies (Near at n)
+near_alike place at m n p q e =
+    let (log, a) = cut 32 (decimal place.log) (decimal at.log) _ _ (decimal_free 32 place.log (omega arith) p.0) (decimal_free 32 at.log (omega arith) q.0)
+    (append_cancel_left (codes "near ") _ _ (sym (near_right place m) ∙ e ∙ near_right at n)) in
+    let (word, b) = cut 32 (decimal place.at) (decimal at.at) _ _ (decimal_free 32 place.at (omega arith) p.1) (decimal_free 32 at.at (omega arith) q.1) a in
+    let marks : m ≡ n = marks_alike m n (append_cancel_right _ _ (codes "\n") b) in
+    let log_same : place.log ≡ at.log = decimal_injective place.log at.log p.0 q.0 log in
+    let word_same : place.at ≡ at.at = decimal_injective place.at at.at p.1 q.1 word in
+    (λ i. Lies (Near record { log = log_same i; at = word_same i } (marks i)))
+
+far_alike : (m n : Marks) → reply_text (Lies (Far m)) ≡ reply_text (Lies (Far n)) → Lies (Far m) ≡ Lies (Far n)
+far_alike m n e = ap (λ (x : Marks). Lies (Far x)) (marks_alike m n (append_cancel_left (codes "far ") _ _ (append_cancel_right _ _ (codes "\n") e)))
+
+-- ---- what an audit counts
+counts_right : (c : Counts) → counts_printed c ≡ codes "audit near " ++ (decimal c.near ++ (32 ∷ (codes "far " ++ (decimal c.far ++ (32 ∷ (codes "live " ++ (decimal c.live ++ codes "\n")))))))
+counts_right c = chained (codes "audit near ") (decimal c.near ∷ codes " far " ∷ decimal c.far ∷ codes " live " ∷ decimal c.live ∷ []) (codes "\n")
+
+counts_alike : (c d : Counts) → AreCountsToldInFull c → AreCountsToldInFull d → reply_text (Audited c) ≡ reply_text (Audited d) → c ≡ d
+counts_alike c d p q e =
+    let (near, a) = cut 32 (decimal c.near) (decimal d.near) _ _ (decimal_free 32 c.near (omega arith) p.0) (decimal_free 32 d.near (omega arith) q.0)
+    (append_cancel_left (codes "audit near ") _ _ (sym (counts_right c) ∙ e ∙ counts_right d)) in
+    let (far, b) = cut 32 (decimal c.far) (decimal d.far) _ _ (decimal_free 32 c.far (omega arith) p.1) (decimal_free 32 d.far (omega arith) q.1) (append_cancel_left (codes "far ") _ _ a) in
+    let live : decimal c.live ≡ decimal d.live = append_cancel_right _ _ (codes "\n") (append_cancel_left (codes "live ") _ _ b) in
+    let near_same : c.near ≡ d.near = decimal_injective c.near d.near p.0 q.0 near in
+    let far_same : c.far ≡ d.far = decimal_injective c.far d.far p.1 q.1 far in
+    let live_same : c.live ≡ d.live = decimal_injective c.live d.live p.2 q.2 live in
+    (λ i. record { near = near_same i; far = far_same i; live = live_same i })
+
 -- ---- replies
-pointers_alike : (p q : ℕ) → p < 2 ^ 64 → q < 2 ^ 64 → printed (Pointer p) ≡ printed (Pointer q) → p ≡ q
+pointers_alike : (p q : ℕ) → p < 2 ^ 64 → q < 2 ^ 64 → reply_text (Pointer p) ≡ reply_text (Pointer q) → p ≡ q
 pointers_alike p q a b e = decimal_injective p q a b (append_cancel_left (codes "pointer ") _ _ (append_cancel_right _ _ (codes "\n") e))
 
-bytes_alike : (x y : List ℕ) → IsBytes x → IsBytes y → printed (Data x) ≡ printed (Data y) → x ≡ y
+bytes_alike : (x y : List ℕ) → IsBytes x → IsBytes y → reply_text (Data x) ≡ reply_text (Data y) → x ≡ y
 bytes_alike x y a b e =
     let same : encode_lower x ≡ encode_lower y = append_cancel_left (codes "data ") _ _ (append_cancel_right _ _ (codes "\n") e) in
     let both : Ok x ≡ Ok y = sym (decode_of-encode_lower x a) ∙ ap decode_of same ∙ decode_of-encode_lower y b in
     cc
 
-pub printed_alike : (r q : Reply) → IsToldInFull r → IsToldInFull q → printed r ≡ printed q → r ≡ q
+pub printed_alike : (r q : Reply) → IsToldInFull r → IsToldInFull q → reply_text r ≡ reply_text q → r ≡ q
 printed_alike Done Done a b e = refl
-printed_alike Done (Pointer p) a b e = let h : 111 ≡ 112 = ap head_of e in absurd (omega (arith, h))
-printed_alike Done (Data x) a b e = let h : 111 ≡ 100 = ap head_of e in absurd (omega (arith, h))
+printed_alike Done (Pointer q) a b e = let h : 111 ≡ 112 = ap head_of e in absurd (omega (arith, h))
+printed_alike Done (Data y) a b e = let h : 111 ≡ 100 = ap head_of e in absurd (omega (arith, h))
 printed_alike Done (Logs []) a b e = let h : 111 ≡ 0 = ap head_of e in absurd (omega (arith, h))
-printed_alike Done (Logs (l ∷ ls)) a b e = let h : 111 ≡ 108 = ap head_of e in absurd (omega (arith, h))
-printed_alike Done (Refused why) a b e = let h : 111 ≡ 114 = ap head_of e in absurd (omega (arith, h))
+printed_alike Done (Logs (k ∷ ks)) a b e = let h : 111 ≡ 108 = ap head_of e in absurd (omega (arith, h))
+printed_alike Done (Lies (Near at n)) a b e = let h : 111 ≡ 110 = ap head_of e in absurd (omega (arith, h))
+printed_alike Done (Lies (Far n)) a b e = let h : 111 ≡ 102 = ap head_of e in absurd (omega (arith, h))
+printed_alike Done (Audited d) a b e = let h : 111 ≡ 97 = ap head_of e in absurd (omega (arith, h))
+printed_alike Done (Refused other) a b e = let h : 111 ≡ 114 = ap head_of e in absurd (omega (arith, h))
 printed_alike (Pointer p) Done a b e = let h : 112 ≡ 111 = ap head_of e in absurd (omega (arith, h))
 printed_alike (Pointer p) (Pointer q) a b e = ap Pointer (pointers_alike p q a b e)
-printed_alike (Pointer p) (Data x) a b e = let h : 112 ≡ 100 = ap head_of e in absurd (omega (arith, h))
+printed_alike (Pointer p) (Data y) a b e = let h : 112 ≡ 100 = ap head_of e in absurd (omega (arith, h))
 printed_alike (Pointer p) (Logs []) a b e = let h : 112 ≡ 0 = ap head_of e in absurd (omega (arith, h))
-printed_alike (Pointer p) (Logs (l ∷ ls)) a b e = let h : 112 ≡ 108 = ap head_of e in absurd (omega (arith, h))
-printed_alike (Pointer p) (Refused why) a b e = let h : 112 ≡ 114 = ap head_of e in absurd (omega (arith, h))
+printed_alike (Pointer p) (Logs (k ∷ ks)) a b e = let h : 112 ≡ 108 = ap head_of e in absurd (omega (arith, h))
+printed_alike (Pointer p) (Lies (Near at n)) a b e = let h : 112 ≡ 110 = ap head_of e in absurd (omega (arith, h))
+printed_alike (Pointer p) (Lies (Far n)) a b e = let h : 112 ≡ 102 = ap head_of e in absurd (omega (arith, h))
+printed_alike (Pointer p) (Audited d) a b e = let h : 112 ≡ 97 = ap head_of e in absurd (omega (arith, h))
+printed_alike (Pointer p) (Refused other) a b e = let h : 112 ≡ 114 = ap head_of e in absurd (omega (arith, h))
 printed_alike (Data x) Done a b e = let h : 100 ≡ 111 = ap head_of e in absurd (omega (arith, h))
 printed_alike (Data x) (Pointer q) a b e = let h : 100 ≡ 112 = ap head_of e in absurd (omega (arith, h))
 printed_alike (Data x) (Data y) a b e = ap Data (bytes_alike x y a b e)
 printed_alike (Data x) (Logs []) a b e = let h : 100 ≡ 0 = ap head_of e in absurd (omega (arith, h))
-printed_alike (Data x) (Logs (l ∷ ls)) a b e = let h : 100 ≡ 108 = ap head_of e in absurd (omega (arith, h))
-printed_alike (Data x) (Refused why) a b e = let h : 100 ≡ 114 = ap head_of e in absurd (omega (arith, h))
+printed_alike (Data x) (Logs (k ∷ ks)) a b e = let h : 100 ≡ 108 = ap head_of e in absurd (omega (arith, h))
+printed_alike (Data x) (Lies (Near at n)) a b e = let h : 100 ≡ 110 = ap head_of e in absurd (omega (arith, h))
+printed_alike (Data x) (Lies (Far n)) a b e = let h : 100 ≡ 102 = ap head_of e in absurd (omega (arith, h))
+printed_alike (Data x) (Audited d) a b e = let h : 100 ≡ 97 = ap head_of e in absurd (omega (arith, h))
+printed_alike (Data x) (Refused other) a b e = let h : 100 ≡ 114 = ap head_of e in absurd (omega (arith, h))
 printed_alike (Logs []) Done a b e = let h : 0 ≡ 111 = ap head_of e in absurd (omega (arith, h))
 printed_alike (Logs []) (Pointer q) a b e = let h : 0 ≡ 112 = ap head_of e in absurd (omega (arith, h))
 printed_alike (Logs []) (Data y) a b e = let h : 0 ≡ 100 = ap head_of e in absurd (omega (arith, h))
-printed_alike (Logs []) (Refused why) a b e = let h : 0 ≡ 114 = ap head_of e in absurd (omega (arith, h))
+printed_alike (Logs []) (Lies (Near at n)) a b e = let h : 0 ≡ 110 = ap head_of e in absurd (omega (arith, h))
+printed_alike (Logs []) (Lies (Far n)) a b e = let h : 0 ≡ 102 = ap head_of e in absurd (omega (arith, h))
+printed_alike (Logs []) (Audited d) a b e = let h : 0 ≡ 97 = ap head_of e in absurd (omega (arith, h))
+printed_alike (Logs []) (Refused other) a b e = let h : 0 ≡ 114 = ap head_of e in absurd (omega (arith, h))
 printed_alike (Logs (l ∷ ls)) Done a b e = let h : 108 ≡ 111 = ap head_of e in absurd (omega (arith, h))
 printed_alike (Logs (l ∷ ls)) (Pointer q) a b e = let h : 108 ≡ 112 = ap head_of e in absurd (omega (arith, h))
 printed_alike (Logs (l ∷ ls)) (Data y) a b e = let h : 108 ≡ 100 = ap head_of e in absurd (omega (arith, h))
-printed_alike (Logs (l ∷ ls)) (Refused why) a b e = let h : 108 ≡ 114 = ap head_of e in absurd (omega (arith, h))
+printed_alike (Logs (l ∷ ls)) (Lies (Near at n)) a b e = let h : 108 ≡ 110 = ap head_of e in absurd (omega (arith, h))
+printed_alike (Logs (l ∷ ls)) (Lies (Far n)) a b e = let h : 108 ≡ 102 = ap head_of e in absurd (omega (arith, h))
+printed_alike (Logs (l ∷ ls)) (Audited d) a b e = let h : 108 ≡ 97 = ap head_of e in absurd (omega (arith, h))
+printed_alike (Logs (l ∷ ls)) (Refused other) a b e = let h : 108 ≡ 114 = ap head_of e in absurd (omega (arith, h))
 printed_alike (Logs ls) (Logs ks) a b e = ap Logs (lines_alike ls ks a b e)
+printed_alike (Lies (Near place m)) Done a b e = let h : 110 ≡ 111 = ap head_of e in absurd (omega (arith, h))
+printed_alike (Lies (Near place m)) (Pointer q) a b e = let h : 110 ≡ 112 = ap head_of e in absurd (omega (arith, h))
+printed_alike (Lies (Near place m)) (Data y) a b e = let h : 110 ≡ 100 = ap head_of e in absurd (omega (arith, h))
+printed_alike (Lies (Near place m)) (Logs []) a b e = let h : 110 ≡ 0 = ap head_of e in absurd (omega (arith, h))
+printed_alike (Lies (Near place m)) (Logs (k ∷ ks)) a b e = let h : 110 ≡ 108 = ap head_of e in absurd (omega (arith, h))
+printed_alike (Lies (Near place m)) (Lies (Near at n)) a b e = near_alike place at m n a b e
+printed_alike (Lies (Near place m)) (Lies (Far n)) a b e = let h : 110 ≡ 102 = ap head_of e in absurd (omega (arith, h))
+printed_alike (Lies (Near place m)) (Audited d) a b e = let h : 110 ≡ 97 = ap head_of e in absurd (omega (arith, h))
+printed_alike (Lies (Near place m)) (Refused other) a b e = let h : 110 ≡ 114 = ap head_of e in absurd (omega (arith, h))
+printed_alike (Lies (Far m)) Done a b e = let h : 102 ≡ 111 = ap head_of e in absurd (omega (arith, h))
+printed_alike (Lies (Far m)) (Pointer q) a b e = let h : 102 ≡ 112 = ap head_of e in absurd (omega (arith, h))
+printed_alike (Lies (Far m)) (Data y) a b e = let h : 102 ≡ 100 = ap head_of e in absurd (omega (arith, h))
+printed_alike (Lies (Far m)) (Logs []) a b e = let h : 102 ≡ 0 = ap head_of e in absurd (omega (arith, h))
+printed_alike (Lies (Far m)) (Logs (k ∷ ks)) a b e = let h : 102 ≡ 108 = ap head_of e in absurd (omega (arith, h))
+printed_alike (Lies (Far m)) (Lies (Near at n)) a b e = let h : 102 ≡ 110 = ap head_of e in absurd (omega (arith, h))
+printed_alike (Lies (Far m)) (Lies (Far n)) a b e = far_alike m n e
+printed_alike (Lies (Far m)) (Audited d) a b e = let h : 102 ≡ 97 = ap head_of e in absurd (omega (arith, h))
+printed_alike (Lies (Far m)) (Refused other) a b e = let h : 102 ≡ 114 = ap head_of e in absurd (omega (arith, h))
+printed_alike (Audited c) Done a b e = let h : 97 ≡ 111 = ap head_of e in absurd (omega (arith, h))
+printed_alike (Audited c) (Pointer q) a b e = let h : 97 ≡ 112 = ap head_of e in absurd (omega (arith, h))
+printed_alike (Audited c) (Data y) a b e = let h : 97 ≡ 100 = ap head_of e in absurd (omega (arith, h))
+printed_alike (Audited c) (Logs []) a b e = let h : 97 ≡ 0 = ap head_of e in absurd (omega (arith, h))
+printed_alike (Audited c) (Logs (k ∷ ks)) a b e = let h : 97 ≡ 108 = ap head_of e in absurd (omega (arith, h))
+printed_alike (Audited c) (Lies (Near at n)) a b e = let h : 97 ≡ 110 = ap head_of e in absurd (omega (arith, h))
+printed_alike (Audited c) (Lies (Far n)) a b e = let h : 97 ≡ 102 = ap head_of e in absurd (omega (arith, h))
+printed_alike (Audited c) (Audited d) a b e = ap Audited (counts_alike c d a b e)
+printed_alike (Audited c) (Refused other) a b e = let h : 97 ≡ 114 = ap head_of e in absurd (omega (arith, h))
 printed_alike (Refused why) Done a b e = let h : 114 ≡ 111 = ap head_of e in absurd (omega (arith, h))
 printed_alike (Refused why) (Pointer q) a b e = let h : 114 ≡ 112 = ap head_of e in absurd (omega (arith, h))
 printed_alike (Refused why) (Data y) a b e = let h : 114 ≡ 100 = ap head_of e in absurd (omega (arith, h))
 printed_alike (Refused why) (Logs []) a b e = let h : 114 ≡ 0 = ap head_of e in absurd (omega (arith, h))
-printed_alike (Refused why) (Logs (l ∷ ls)) a b e = let h : 114 ≡ 108 = ap head_of e in absurd (omega (arith, h))
+printed_alike (Refused why) (Logs (k ∷ ks)) a b e = let h : 114 ≡ 108 = ap head_of e in absurd (omega (arith, h))
+printed_alike (Refused why) (Lies (Near at n)) a b e = let h : 114 ≡ 110 = ap head_of e in absurd (omega (arith, h))
+printed_alike (Refused why) (Lies (Far n)) a b e = let h : 114 ≡ 102 = ap head_of e in absurd (omega (arith, h))
+printed_alike (Refused why) (Audited d) a b e = let h : 114 ≡ 97 = ap head_of e in absurd (omega (arith, h))
 printed_alike (Refused why) (Refused other) a b e = ap Refused (refused_alike why other a b e)

@@ -25,13 +25,13 @@ use Rattle.far_replay.specs.Events.{first_word, store_events, turn_events, view_
 use Rattle.far_replay.specs.HexWord.{hex_bytes, is_hex_word}
 use Rattle.far_replay.specs.Interpreter.{IsAccess, IsViewed}
 use Rattle.far_replay.specs.Moment.{moment_of}
-use Rattle.far_replay.specs.Objects.{data_of, named_len, object_len, spliced, uses}
-use Rattle.far_replay.specs.Tidy.{Tidy}
+use Rattle.far_replay.specs.Objects.{data_of, named_len, object_len, with_range, uses}
+use Rattle.far_replay.specs.Between.{Between}
 use Rattle.far_replay.specs.declared.turn.Access.{Access}
 use Rattle.far_replay.proofs.AloneStates.{data_small}
 use Rattle.far_replay.proofs.HexLemmas.{hex_decodes}
 use Rattle.far_replay.proofs.RangeWrites.{rows_same}
-use Rattle.far_replay.proofs.Spliced.{AreBytes, length-spliced, packed_padded, spliced_bytes}
+use Rattle.far_replay.proofs.Spliced.{AreBytes, length-with_range, packed_padded, with_range_bytes}
 use Rattle.far_replay.proofs.Turns.{data_same, read_end, viewing, write_end}
 use Rattle.far_replay.proofs.Turns.{Access as Reached}
 use Rattle.far_replay.proofs.Views.{Viewed, len_near}
@@ -60,15 +60,15 @@ hex_small w e = (decode_of-ok w (hex_bytes w) (hex_decodes w e).0).3
 pub uses_own : (s : State) (m p : ℕ) → p / CELLS ≡ m → s.used p ≡ true → uses s m p ≡ true
 uses_own s m p own used = rw (eq-eqb (p / CELLS) m own, used) refl
 
-module _ (s t : State) (next : ℕ → ℕ) (a : Access) (law : Law s) (tidy : Tidy s next) (is : IsAccess s a.owner a.pointer a.from a.count a)
+module _ (s t : State) (a : Access) (law : Law s) (between : Between s) (is : IsAccess s a.owner a.pointer a.from a.count a)
     (behind : t ≡ after_events s (view_events s a.owner a.pointer)) where
   pub reached : Reached s a.owner a.pointer a.from a.count
   reached =
-      let near : object_len s a.pointer ≡ data_len s a.pointer = len_near s law tidy.at_hand a.pointer is.used in
+      let near : object_len s a.pointer ≡ data_len s a.pointer = len_near s law between.at_hand a.pointer is.used in
       record { opened = is.opened; ours = uses_own s a.owner a.pointer is.own is.used; some = is.some; within = omega (arith, near, is.inside) }
 
   pub viewed_there : Viewed s t a.owner a.pointer
-  viewed_there = subst (λ u. Viewed s u a.owner a.pointer) (sym behind) (viewing s next a.owner a.pointer a.from a.count law tidy reached)
+  viewed_there = subst (λ u. Viewed s u a.owner a.pointer) (sym behind) (viewing s a.owner a.pointer a.from a.count law between reached)
 
   -- behind the view the range is viewed
   pub viewed_range : IsViewed t a
@@ -86,17 +86,17 @@ module _ (s t : State) (next : ℕ → ℕ) (a : Access) (law : Law s) (tidy : T
 
   -- the events of a read are those of the view, and loads
   pub read_made : t ≡ after_events s (turn_events (moment_of s) (Mutator a.owner (Read a.pointer a.from a.count)))
-  read_made = behind ∙ sym (read_end s next a.owner a.pointer a.from a.count law tidy reached)
+  read_made = behind ∙ sym (read_end s a.owner a.pointer a.from a.count law between reached)
 
 -- ---- the stores of a write
 -- an object's bytes with others in place are padded words
-pub spliced_padded : (t : State) (p from : ℕ) (new : List ℕ) → AreBytes new → from + length new ≤ data_len t p → (i : ℕ) → i < words_for (data_len t p) →
-    packed_word (spliced (data_of t p) from new) i < 2 ^ (8 * (data_len t p - 8 * i))
-spliced_padded t p from new small inside i lt =
+pub with_range_padded : (t : State) (p from : ℕ) (new : List ℕ) → AreBytes new → from + length new ≤ data_len t p → (i : ℕ) → i < words_for (data_len t p) →
+    packed_word (with_range (data_of t p) from new) i < 2 ^ (8 * (data_len t p - 8 * i))
+with_range_padded t p from new small inside i lt =
     let long : length (data_of t p) ≡ data_len t p = length-bytes_of (λ k. t.word (near_data (read_of (t.cell p)) + k)) (data_len t p) in
     let within : from + length new ≤ length (data_of t p) = omega (arith, long) in
-    packed_padded (spliced (data_of t p) from new) (data_len t p) i (spliced_bytes (data_of t p) from new within (data_small t p) small)
-    (length-spliced (data_of t p) from new within ∙ long) lt
+    packed_padded (with_range (data_of t p) from new) (data_len t p) i (with_range_bytes (data_of t p) from new within (data_small t p) small)
+    (length-with_range (data_of t p) from new within ∙ long) lt
 
 -- stores of the first words of a row, where these are those of some bytes
 pub front_stores : (m p first count : ℕ) (words after : List ℕ) → count ≤ length words → ((i : ℕ) → i < count → get_or words i 0 ≡ packed_word after (first + i)) →
@@ -111,27 +111,27 @@ front_stores m p first count words after fits h =
       row : ℕ → List Event
       row n = map (λ i. Stores m p (first + i) (slice_index (take count words) i)) (range_with_len 0 n)
 
-module _ (s t u : State) (next : ℕ → ℕ) (a : Access) (new words : List ℕ) (law : Law s) (tidy : Tidy s next) (is : IsAccess s a.owner a.pointer a.from a.count a)
+module _ (s t u : State) (a : Access) (new words : List ℕ) (law : Law s) (between : Between s) (is : IsAccess s a.owner a.pointer a.from a.count a)
     (behind : t ≡ after_events s (view_events s a.owner a.pointer)) (small : AreBytes new) (long : length new ≡ a.count)
     (fits : words_touched a.from a.count ≤ length words)
-    (spliced_in : (k : ℕ) → k < words_touched a.from a.count → get_or words k 0 ≡ packed_word (spliced (data_of t a.pointer) a.from new) (first_word a.from + k)) where
+    (with_range_in : (k : ℕ) → k < words_touched a.from a.count → get_or words k 0 ≡ packed_word (with_range (data_of t a.pointer) a.from new) (first_word a.from + k)) where
   -- behind the view the words may be stored
   pub stores_padded : (k : ℕ) → k < words_touched a.from a.count → get_or words k 0 < 2 ^ (8 * (data_len t a.pointer - 8 * (first_word a.from + k)))
   stores_padded k lt =
-      let view = viewed_range s t next a law tidy is behind in
-      subst (λ w. w < 2 ^ (8 * (data_len t a.pointer - 8 * (first_word a.from + k)))) (sym (spliced_in k lt))
-      (spliced_padded t a.pointer a.from new small (omega (arith, view.inside)) (first_word a.from + k) (omega (arith, view.inside, view.some)))
+      let view = viewed_range s t a law between is behind in
+      subst (λ w. w < 2 ^ (8 * (data_len t a.pointer - 8 * (first_word a.from + k)))) (sym (with_range_in k lt))
+      (with_range_padded t a.pointer a.from new small (omega (arith, view.inside)) (first_word a.from + k) (omega (arith, view.inside, view.some)))
 
   here : Reached s a.owner a.pointer a.from (length new)
-  here = subst (λ n. Reached s a.owner a.pointer a.from n) (sym long) (reached s t next a law tidy is behind)
+  here = subst (λ n. Reached s a.owner a.pointer a.from n) (sym long) (reached s t a law between is behind)
 
   -- the events of a write are those of the view, loads, and these stores
   pub write_made : u ≡ after_events t (stores a.owner a.pointer (first_word a.from) (take (words_touched a.from a.count) words)) →
       u ≡ after_events s (turn_events (moment_of s) (Mutator a.owner (Write a.pointer a.from new)))
   write_made stored =
-      stored ∙ ap (after_events t) (front_stores a.owner a.pointer (first_word a.from) (words_touched a.from a.count) words (spliced (data_of t a.pointer) a.from new) fits spliced_in)
-      ∙ ap (λ n. after_events t (store_events a.owner a.pointer (first_word a.from) (words_touched a.from n) (spliced (data_of t a.pointer) a.from new))) (sym long)
-      ∙ ap (λ (v : State). after_events v (store_events a.owner a.pointer (first_word a.from) (words_touched a.from (length new)) (spliced (data_of v a.pointer) a.from new))) behind
-      ∙ ap (λ (old : List ℕ). after_events (after_events s (view_events s a.owner a.pointer)) (store_events a.owner a.pointer (first_word a.from) (words_touched a.from (length new)) (spliced old a.from new)))
-      (data_same s next a.owner a.pointer a.from new law tidy here small)
-      ∙ sym (write_end s next a.owner a.pointer a.from new law tidy here small)
+      stored ∙ ap (after_events t) (front_stores a.owner a.pointer (first_word a.from) (words_touched a.from a.count) words (with_range (data_of t a.pointer) a.from new) fits with_range_in)
+      ∙ ap (λ n. after_events t (store_events a.owner a.pointer (first_word a.from) (words_touched a.from n) (with_range (data_of t a.pointer) a.from new))) (sym long)
+      ∙ ap (λ (v : State). after_events v (store_events a.owner a.pointer (first_word a.from) (words_touched a.from (length new)) (with_range (data_of v a.pointer) a.from new))) behind
+      ∙ ap (λ (old : List ℕ). after_events (after_events s (view_events s a.owner a.pointer)) (store_events a.owner a.pointer (first_word a.from) (words_touched a.from (length new)) (with_range old a.from new)))
+      (data_same s a.owner a.pointer a.from new law between here small)
+      ∙ sym (write_end s a.owner a.pointer a.from new law between here small)

@@ -1,6 +1,6 @@
 -- The words that a write stores are those of the object with the new bytes in place.
 use Rattle.std.proofs.Common.{◌≡◌, ◌≢◌, ℕ, ◌+◌, ◌-◌, ◌*◌, ◌/◌, ◌%◌, ◌^◌, ◌<◌, ◌≤◌, true, false, List, ◌++◌, length, take, drop, get_or, refl, ap, sym, ◌∙◌, arith, inl, inr, length-take-le, length-drop, length-append, subst, Option, Some, None}
-use Rattle.std.specs.Prelude.{map, slice_index}
+use Rattle.std.specs.Prelude.{map}
 use Rattle.std.specs.List.{range_with_len}
 use Rattle.std.proofs.lemmas.Bool.{cases_lt, false≢true}
 use Rattle.std.proofs.lemmas.Bool.Decides.{nat_tests}
@@ -16,17 +16,13 @@ use Rattle.far_word.proofs.ByteLaws.{bytes_of-get, length-bytes_of, words_of-get
 use Rattle.far_word.specs.declared.pointer.PtrWord.{PtrWord}
 use Rattle.far_word.specs.declared.pointer.PtrWord.TheVariants.{Free, Near, Far}
 use Rattle.far_word.specs.Pointer.{read_of}
-use Rattle.far_core.specs.declared.event.Event.{Event}
-use Rattle.far_core.specs.declared.event.Event.TheVariants.{Load as Loads, Store as Stores}
 use Rattle.far_core.specs.state.Law.{Law, head_len}
 use Rattle.far_core.specs.state.State.{State, addr}
 use Rattle.far_core.specs.events.Step.{near_len, near_data, data_len}
 use Rattle.far_core.proofs.Bounds.{span_len}
-use Rattle.far_replay.specs.EventRows.{after_events}
-use Rattle.far_replay.specs.Events.{starts_inside, ends_inside, words_touched, store_events}
-use Rattle.far_replay.specs.Objects.{spliced}
-use Rattle.far_replay.proofs.MadeLemmas.{made-append}
-use Rattle.far_replay.proofs.Spliced.{spliced_before, spliced_inside, spliced_behind}
+use Rattle.far_replay.specs.Events.{starts_inside, ends_inside, words_touched}
+use Rattle.far_replay.specs.Objects.{with_range}
+use Rattle.far_replay.proofs.Spliced.{with_range_before, with_range_inside, with_range_behind}
 use Rattle.far_replay.proofs.Fronts.{shifted_byte}
 
 -- ---- bytes over others
@@ -115,25 +111,25 @@ module _ (f : ℕ → ℕ) (len from count first touched at room : ℕ) (new loa
   ]
 
   -- each byte of the front with the new ones in place is the object's with the new ones in place
-  new_byte : (q : ℕ) → q < 8 * touched → get_or (put_mid at count bytes new) q 0 ≡ get_or (spliced old from new) (8 * first + q) 0
+  new_byte : (q : ℕ) → q < 8 * touched → get_or (put_mid at count bytes new) q 0 ≡ get_or (with_range old from new) (8 * first + q) 0
   new_byte q lt = elim (cases_lt q at) [
-    | inl low ↦ put_before at count bytes new q (omega arith) low ∙ before q low ∙ old_byte q lt ∙ sym (spliced_before old from new within (8 * first + q) (omega arith))
+    | inl low ↦ put_before at count bytes new q (omega arith) low ∙ before q low ∙ old_byte q lt ∙ sym (with_range_before old from new within (8 * first + q) (omega arith))
     | inr from_here ↦ elim (cases_lt q (at + count)) [
       | inl here ↦ (let same : q - at ≡ 8 * first + q - from = omega arith in
-          put_inside at count bytes new q (omega arith) from_here (omega arith) ∙ ap (λ n. get_or new n 0) same ∙ sym (spliced_inside old from new within (8 * first + q) (omega arith) (omega arith)))
-      | inr past ↦ put_behind at count bytes new q (omega arith) long past ∙ behind q past lt ∙ old_byte q lt ∙ sym (spliced_behind old from new within (8 * first + q) (omega arith))
+          put_inside at count bytes new q (omega arith) from_here (omega arith) ∙ ap (λ n. get_or new n 0) same ∙ sym (with_range_inside old from new within (8 * first + q) (omega arith) (omega arith)))
+      | inr past ↦ put_behind at count bytes new q (omega arith) long past ∙ behind q past lt ∙ old_byte q lt ∙ sym (with_range_behind old from new within (8 * first + q) (omega arith))
     ]
   ]
 
   -- the words that are packed are the object's with the new bytes in place
   pub packed_words : (bytes2 words : List ℕ) → bytes2 ≡ put_mid at count bytes new → 8 * touched ≤ length bytes2 → take touched words ≡ words_of (take (8 * touched) bytes2) →
-      (i : ℕ) → i < touched → get_or words i 0 ≡ packed_word (spliced old from new) (first + i)
+      (i : ℕ) → i < touched → get_or words i 0 ≡ packed_word (with_range old from new) (first + i)
   packed_words bytes2 words put big packed i lt =
       let size : length (take (8 * touched) bytes2) ≡ 8 * touched = length-take-le (8 * touched) bytes2 big in
       sym (get_or-take touched words i 0 lt) ∙ ap (λ xs. get_or xs i 0) packed ∙ words_of-get (take (8 * touched) bytes2) i (omega (arith, size))
-      ∙ word_same (λ k. get_or (take (8 * touched) bytes2) k 0) (λ k. get_or (spliced old from new) k 0) i (first + i)
+      ∙ word_same (λ k. get_or (take (8 * touched) bytes2) k 0) (λ k. get_or (with_range old from new) k 0) i (first + i)
       (λ j small. let there : 8 * first + (8 * i + j) ≡ 8 * (first + i) + j = omega arith in
-      get_or-take (8 * touched) bytes2 (8 * i + j) 0 (omega arith) ∙ ap (λ xs. get_or xs (8 * i + j) 0) put ∙ new_byte (8 * i + j) (omega arith) ∙ ap (λ n. get_or (spliced old from new) n 0) there)
+      get_or-take (8 * touched) bytes2 (8 * i + j) 0 (omega arith) ∙ ap (λ xs. get_or xs (8 * i + j) 0) put ∙ new_byte (8 * i + j) (omega arith) ∙ ap (λ n. get_or (with_range old from new) n 0) there)
 
 -- two rows are one where what stands in them is
 pub rows_same : {X : Type 0} (d : X) (f g : ℕ → X) (a b n : ℕ) → ((i : ℕ) → i < n → f (a + i) ≡ g (b + i)) → map f (range_with_len a n) ≡ map g (range_with_len b n)

@@ -2,9 +2,9 @@
 use Rattle.std.proofs.Common.{◌≡◌, ◌⊎◌, inl, inr, ℕ, zero, suc, ◌<◌, ◌^◌, Bool, true, false, cond, List, [], ◌∷◌, Option, Some, None, codes, decimal, sym, ◌∙◌, ap, refl, subst}
 use Rattle.std.specs.Str.{bytes_eq}
 use Rattle.std.proofs.lemmas.Slice.Eq.{bytes_eq-Decides}
-use Rattle.far_replay.specs.Command.{Entry, HeapLine, CommandLine, New, Open, Write, Read, Close, Logs, Mutator, Book}
+use Rattle.far_replay.specs.Command.{Entry, HeapLine, CommandLine, New, Open, Write, Read, Close, Where, Drop, Logs, Log, Audit, Mutator, Book}
 use Rattle.far_replay.specs.Says.{Says, Spells}
-use Rattle.far_replay.specs.Grammar.{asks_read, asks_write, asks_open, asks_close, asks_new, From, Operands, Numbers, NumbersAndBytes, number_of, bytes_in, next_number, next_bytes, numbers_then, ended, entry_from, table, found_in, entry_of, ◌>>=◌}
+use Rattle.far_replay.specs.Grammar.{asks_read, asks_write, asks_open, asks_close, asks_new, asks_where, asks_drop, asks_log, From, Operands, Numbers, NumbersAndBytes, number_of, bytes_in, next_number, last_bytes, numbers_then, entry_at_end, entry_from, table, found_in, entry_of, ◌>>=◌}
 use Rattle.far_replay.proofs.Each.{Each}
 use Rattle.far_replay.proofs.HexLemmas.{spelled_is_hex, hex_is_spelled}
 use Rattle.far_replay.proofs.Numbers.{number_is, number_only}
@@ -16,7 +16,11 @@ said_is_read words (CommandLine (Mutator m Open)) h = ap entry_of h.0 ∙ rw (nu
 said_is_read words (CommandLine (Mutator m Close)) h = ap entry_of h.0 ∙ rw (number_is (decimal m) m h.1 refl) refl
 said_is_read words (CommandLine (Mutator m (New l k))) h = ap entry_of h.0 ∙ rw (number_is (decimal m) m h.1 refl, number_is (decimal l) l h.2 refl, number_is (decimal k) k h.3 refl) refl
 said_is_read words (HeapLine l m) h = ap entry_of h.0 ∙ rw (number_is (decimal l) l h.1 refl, number_is (decimal m) m h.2 refl) refl
+said_is_read words (CommandLine (Mutator m (Where p))) h = ap entry_of h.0 ∙ rw (number_is (decimal m) m h.1 refl, number_is (decimal p) p h.2 refl) refl
+said_is_read words (CommandLine (Mutator m (Drop p))) h = ap entry_of h.0 ∙ rw (number_is (decimal m) m h.1 refl, number_is (decimal p) p h.2 refl) refl
 said_is_read words (CommandLine (Book Logs)) h = ap entry_of h
+said_is_read words (CommandLine (Book (Log l))) h = ap entry_of h.0 ∙ rw (number_is (decimal l) l h.1 refl) refl
+said_is_read words (CommandLine (Book Audit)) h = ap entry_of h
 
 chosen : {X : Type 0} (b : Bool) (x y z : X) → cond b x y ≡ z → ((b ≡ true) × (x ≡ z)) ⊎ ((b ≡ false) × (y ≡ z))
 chosen true x y z e = inl (refl, e)
@@ -60,17 +64,18 @@ several_then (suc n) make rest words c e =
     let (t, behind, below, so, last) = several_then n (make m) rest others c more in
     ((m, t), behind, (small, below), is ∙ ap (λ ws. decimal m ∷ ws) so, last)
 
--- what is read as bytes, and what is made of them and of the words behind them
-bytes_then : {B : Type 0} (words : List (List ℕ)) (f : List ℕ × List (List ℕ) → Option B) (y : B) → (next_bytes words >>= f) ≡ Some y
-    → (bytes : List ℕ) × (rest : List (List ℕ)) × (word : List ℕ) × Spells word bytes × (words ≡ word ∷ rest) × (f (bytes, rest) ≡ Some y)
-bytes_then [] f y e = absurd (cc e)
-bytes_then (w ∷ rest) f y e =
-    elim (bytes_in w) as (λ o. bytes_in w ≡ o → ((o >>= λ n. Some (n, rest)) >>= f) ≡ Some y → (bytes : List ℕ) × (after : List (List ℕ)) × (word : List ℕ) × Spells word bytes × (w ∷ rest ≡ word ∷ after) × (f (bytes, after) ≡ Some y)) [
-      | Some bytes ↦ λ is k. (bytes, rest, w, hex_is_spelled w bytes is, refl, k)
+-- what the last word is read as, and what is made of it
+bytes_then : (words : List (List ℕ)) (make : List ℕ → Entry) (c : Entry) → (last_bytes words >>= λ bytes. Some (make bytes)) ≡ Some c
+    → (bytes word : List ℕ) × Spells word bytes × (words ≡ word ∷ []) × (make bytes ≡ c)
+bytes_then [] make c e = absurd (cc e)
+bytes_then (w ∷ []) make c e =
+    elim (bytes_in w) as (λ o. bytes_in w ≡ o → (o >>= λ bytes. Some (make bytes)) ≡ Some c → (bytes word : List ℕ) × Spells word bytes × (w ∷ [] ≡ word ∷ []) × (make bytes ≡ c)) [
+      | Some bytes ↦ λ is k. (bytes, w, hex_is_spelled w bytes is, refl, cc k)
       | None ↦ λ is k. absurd (cc k)
     ] refl e
+bytes_then (w ∷ v ∷ words) make c e = absurd (cc e)
 
-ended_then : (words : List (List ℕ)) (c d : Entry) → ended words c ≡ Some d → (words ≡ []) × (c ≡ d)
+ended_then : (words : List (List ℕ)) (c d : Entry) → entry_at_end words c ≡ Some d → (words ≡ []) × (c ≡ d)
 ended_then [] c d e = (refl, cc e)
 ended_then (w ∷ words) c d e = absurd (cc e)
 
@@ -78,17 +83,16 @@ ended_then (w ∷ words) c d e = absurd (cc e)
 numbers_only : (n : ℕ) (make : From n Entry) (words : List (List ℕ)) (c : Entry) → entry_from (Numbers n make) words ≡ Some c →
     (t : Several n) × Below n t × (words ≡ in_front n t []) × (made_of n make t ≡ c)
 numbers_only n make words c e =
-    let (t, behind, below, is, last) = several_then n make (λ command behind. ended behind command) words c e in
+    let (t, behind, below, is, last) = several_then n make (λ command behind. entry_at_end behind command) words c e in
     let (none, same) = ended_then behind (made_of n make t) c last in
     (t, below, is ∙ ap (in_front n t) none, same)
 
 numbers_and_bytes : (n : ℕ) (make : From n (List ℕ → Entry)) (words : List (List ℕ)) (c : Entry) → entry_from (NumbersAndBytes n make) words ≡ Some c →
     (t : Several n) × (word bytes : List ℕ) × Below n t × Spells word bytes × (words ≡ in_front n t (word ∷ [])) × (made_of n make t bytes ≡ c)
 numbers_and_bytes n make words c e =
-    let (t, behind, below, is, last) = several_then n make (λ command behind. next_bytes behind >>= λ bytes. ended bytes.1 (command bytes.0)) words c e in
-    let (bytes, rest, word, spells, so, end) = bytes_then behind (λ bytes. ended bytes.1 (made_of n make t bytes.0)) c last in
-    let (none, same) = ended_then rest (made_of n make t bytes) c end in
-    (t, word, bytes, below, spells, is ∙ ap (in_front n t) (so ∙ ap (λ ws. word ∷ ws) none), same)
+    let (t, behind, below, is, last) = several_then n make (λ command behind. last_bytes behind >>= λ bytes. Some (command bytes)) words c e in
+    let (bytes, word, spells, so, same) = bytes_then behind (made_of n make t) c last in
+    (t, word, bytes, below, spells, is ∙ ap (in_front n t) so, same)
 
 -- ---- each row of the table: what is read so says the command
 abbrev IsSaid : List ℕ × Operands → Type 0
@@ -129,8 +133,28 @@ logs_said words c e =
     let (t, b, is, same) = numbers_only 0 (CommandLine (Book Logs)) words c e in
     subst (Says (codes "logs" ∷ words)) same (ap (λ ws. codes "logs" ∷ ws) is)
 
+where_said : IsSaid (codes "where", Numbers 2 asks_where)
+where_said words c e =
+    let (t, b, is, same) = numbers_only 2 asks_where words c e in
+    subst (Says (codes "where" ∷ words)) same (ap (λ ws. codes "where" ∷ ws) is, b.0, b.1.0)
+
+drop_said : IsSaid (codes "drop", Numbers 2 asks_drop)
+drop_said words c e =
+    let (t, b, is, same) = numbers_only 2 asks_drop words c e in
+    subst (Says (codes "drop" ∷ words)) same (ap (λ ws. codes "drop" ∷ ws) is, b.0, b.1.0)
+
+log_said : IsSaid (codes "log", Numbers 1 asks_log)
+log_said words c e =
+    let (t, b, is, same) = numbers_only 1 asks_log words c e in
+    subst (Says (codes "log" ∷ words)) same (ap (λ ws. codes "log" ∷ ws) is, b.0)
+
+audit_said : IsSaid (codes "audit", Numbers 0 (CommandLine (Book Audit)))
+audit_said words c e =
+    let (t, b, is, same) = numbers_only 0 (CommandLine (Book Audit)) words c e in
+    subst (Says (codes "audit" ∷ words)) same (ap (λ ws. codes "audit" ∷ ws) is)
+
 rows_said : Each IsSaid table
-rows_said = (read_said, (write_said, (open_said, (close_said, (new_said, (heap_said, (logs_said, tt)))))))
+rows_said = (read_said, (write_said, (open_said, (close_said, (new_said, (heap_said, (logs_said, (where_said, (drop_said, (log_said, (audit_said, tt)))))))))))
 
 -- words that begin with a command's name
 named : (name word : List ℕ) (args : List (List ℕ)) (c : Entry) → bytes_eq name word ≡ true → Says (word ∷ args) c → Says (name ∷ args) c

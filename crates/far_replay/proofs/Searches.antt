@@ -1,5 +1,5 @@
 -- What a search for a byte says of those before it, and a test of ASCII of each byte.
-use Rattle.std.proofs.Common.{◌≡◌, ℕ, ◌<◌, ◌≤◌, ◌==◌, Bool, false, true, List, length, take, get_or, inl, inr, subst, arith, length-take-le}
+use Rattle.std.proofs.Common.{◌≡◌, ℕ, ◌<◌, ◌≤◌, Bool, false, List, length, take, get_or, inl, inr, subst, arith, length-take-le}
 use Rattle.std.proofs.lemmas.Bool.{cases_lt, false_from_ne_true}
 use Rattle.std.proofs.lemmas.List.{get_or-take, get_or_past}
 use Rattle.std.specs.Str.{IsAscii, IsNotAscii}

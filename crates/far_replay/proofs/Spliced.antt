@@ -5,7 +5,7 @@ use Rattle.std.proofs.lemmas.List.{get_or_past, get_or-take, get_or-drop, get_or
 use lib.Pow.{pow_mono}
 use Rattle.far_word.specs.Bytes.{word_at, packed_word}
 use Rattle.far_word.specs.Sizes.{words_for}
-use Rattle.far_replay.specs.Objects.{spliced}
+use Rattle.far_replay.specs.Objects.{with_range}
 
 -- ---- the words of bytes
 -- each of the bytes is below 256
@@ -49,32 +49,32 @@ module _ (bytes : List ℕ) (from : ℕ) (new : List ℕ) (fits : from + length 
   fore = omega (arith, length-append (take from bytes) new, front)
 
   -- they are as many
-  pub length-spliced : length (spliced bytes from new) ≡ length bytes
-  length-spliced = omega (arith, length-append (take from bytes ++ new) (drop (from + length new) bytes), fore, length-drop (from + length new) bytes)
+  pub length-with_range : length (with_range bytes from new) ≡ length bytes
+  length-with_range = omega (arith, length-append (take from bytes ++ new) (drop (from + length new) bytes), fore, length-drop (from + length new) bytes)
 
   -- those before stay
-  pub spliced_before : (k : ℕ) → k < from → get_or (spliced bytes from new) k 0 ≡ get_or bytes k 0
-  spliced_before k lt = get_or_append_left (take from bytes ++ new) (drop (from + length new) bytes) 0 k (omega (arith, fore))
+  pub with_range_before : (k : ℕ) → k < from → get_or (with_range bytes from new) k 0 ≡ get_or bytes k 0
+  with_range_before k lt = get_or_append_left (take from bytes ++ new) (drop (from + length new) bytes) 0 k (omega (arith, fore))
       ∙ get_or_append_left (take from bytes) new 0 k (omega (arith, front)) ∙ get_or-take from bytes k 0 lt
 
   -- then come the new ones
-  pub spliced_inside : (k : ℕ) → from ≤ k → k < from + length new → get_or (spliced bytes from new) k 0 ≡ get_or new (k - from) 0
-  spliced_inside k le lt = get_or_append_left (take from bytes ++ new) (drop (from + length new) bytes) 0 k (omega (arith, fore))
+  pub with_range_inside : (k : ℕ) → from ≤ k → k < from + length new → get_or (with_range bytes from new) k 0 ≡ get_or new (k - from) 0
+  with_range_inside k le lt = get_or_append_left (take from bytes ++ new) (drop (from + length new) bytes) 0 k (omega (arith, fore))
       ∙ get_or-append_right (take from bytes) new from k 0 front le
 
   -- those behind stay
-  pub spliced_behind : (k : ℕ) → from + length new ≤ k → get_or (spliced bytes from new) k 0 ≡ get_or bytes k 0
-  spliced_behind k le =
+  pub with_range_behind : (k : ℕ) → from + length new ≤ k → get_or (with_range bytes from new) k 0 ≡ get_or bytes k 0
+  with_range_behind k le =
       let at : from + length new + (k - (from + length new)) ≡ k = omega arith in
       get_or-append_right (take from bytes ++ new) (drop (from + length new) bytes) (from + length new) k 0 fore le
       ∙ get_or-drop (from + length new) bytes (k - (from + length new)) 0 ∙ ap (λ q. get_or bytes q 0) at
 
   -- they are bytes
-  pub spliced_bytes : AreBytes bytes → AreBytes new → AreBytes (spliced bytes from new)
-  spliced_bytes old small k = elim (cases_lt k from) [
-    | inl below ↦ omega (arith, spliced_before k below, old k)
+  pub with_range_bytes : AreBytes bytes → AreBytes new → AreBytes (with_range bytes from new)
+  with_range_bytes old small k = elim (cases_lt k from) [
+    | inl below ↦ omega (arith, with_range_before k below, old k)
     | inr le ↦ elim (cases_lt k (from + length new)) [
-      | inl inside ↦ omega (arith, spliced_inside k le inside, small (k - from))
-      | inr above ↦ omega (arith, spliced_behind k above, old k)
+      | inl inside ↦ omega (arith, with_range_inside k le inside, small (k - from))
+      | inr above ↦ omega (arith, with_range_behind k above, old k)
     ]
   ]

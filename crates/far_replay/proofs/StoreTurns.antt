@@ -1,9 +1,8 @@
--- Stores into an object that is held: each is made, and the heap stays tidy.
+-- Stores into an object that is held: each is made, and what holds between commands stays.
 use mathlib.Core.Path.{fun_ext}
 use Rattle.std.proofs.Common.{◌≡◌, ℕ, zero, suc, ◌+◌, ◌-◌, ◌*◌, ◌^◌, ◌<◌, true, refl, sym, ap, subst, ◌∙◌, arith, List, map}
 use Rattle.std.specs.List.{range_with_len}
 use Rattle.far_word.specs.declared.pointer.Place.{Place}
-use Rattle.far_word.specs.Header.{head_of}
 use Rattle.far_word.specs.Sizes.{words_for}
 use Rattle.far_core.specs.declared.event.Event.{Event}
 use Rattle.far_core.specs.declared.event.Event.TheVariants.{Store}
@@ -18,25 +17,19 @@ use Rattle.far_core.proofs.KeepWords.{head_stays}
 use Rattle.far_core.proofs.Owing.{is_test}
 use Rattle.far_replay.specs.Effects.{with_row}
 use Rattle.far_replay.specs.EventRows.{after_events, AllSucceed}
-use Rattle.far_replay.specs.Tidy.{Tidy}
+use Rattle.far_replay.specs.Between.{Between}
 use Rattle.far_replay.proofs.MadeLemmas.{made_first, first_succeeds}
 use Rattle.far_core.proofs.Rows.{row_none, row_first}
 
--- other words leave the heap tidy, if the headers stay
-pub tidy_words : (s : State) (next : ℕ → ℕ) (word : ℕ → ℕ) → Tidy s next → ((a : ℕ) → s.starts a ≡ true → word a ≡ s.word a) → Tidy record s { word = word } next
-tidy_words s next word tidy same = record {
-  at_hand = λ p ne. let h = tidy.at_hand p ne in record { len = h.len; ds = h.ds; place = h.place; marks = h.marks; near = h.near; unchosen = h.unchosen; unmoved = h.unmoved; kept = h.kept; used = h.used };
-  most = tidy.most;
-  named = tidy.named;
-  unnamed = tidy.unnamed;
-  sealed = tidy.sealed;
-  free = tidy.free;
-  live = λ a h start head. tidy.live a h start (sym (ap head_of (same a start)) ∙ head);
-  unread = tidy.unread;
+-- other words leave what holds between commands, if the headers stay
+pub between_words : (s : State) (word : ℕ → ℕ) → Between s → ((a : ℕ) → s.starts a ≡ true → word a ≡ s.word a) → Between record s { word = word }
+between_words s word between same = record {
+  at_hand = λ p ne. let h = between.at_hand p ne in record { len = h.len; ds = h.ds; place = h.place; marks = h.marks; near = h.near; unchosen = h.unchosen; unmoved = h.unmoved; kept = h.kept; used = h.used };
+  unread = between.unread;
 }
 
 -- ---- a row of stores
-module _ (next : ℕ → ℕ) (m p len : ℕ) (place : Place) (w : ℕ → ℕ) (wide : (i : ℕ) → w i < 2 ^ 64)
+module _ (m p len : ℕ) (place : Place) (w : ℕ → ℕ) (wide : (i : ℕ) → w i < 2 ^ 64)
     (pad : (i : ℕ) → i < words_for len → w i < 2 ^ (8 * (len - 8 * i))) where
   -- a store is legal
   store_fact : (u : State) → HoldsObject u m p len place → (i : ℕ) → i < words_for len → Legal u (Store m p i (w i))
@@ -56,24 +49,24 @@ module _ (next : ℕ → ℕ) (m p len : ℕ) (place : Place) (w : ℕ → ℕ) 
   store_holds : (u : State) → HoldsObject u m p len place → (i : ℕ) → HoldsObject (after u (Store m p i (w i))) m p len place
   store_holds u h i = record { own = h.own; rests = h.rests; near = h.near }
 
-  -- a store keeps the heap tidy
-  store_tidy : (u : State) → Law u → Tidy u next → HoldsObject u m p len place → (i : ℕ) → i < words_for len → Tidy (after u (Store m p i (w i))) next
-  store_tidy u law tidy h i lt = tidy_words u next (put u.word (data_word u p i) (w i)) tidy (store_heads u law h i lt)
+  -- a store keeps what holds between commands
+  store_between : (u : State) → Law u → Between u → HoldsObject u m p len place → (i : ℕ) → i < words_for len → Between (after u (Store m p i (w i)))
+  store_between u law between h i lt = between_words u (put u.word (data_word u p i) (w i)) between (store_heads u law h i lt)
 
-  -- the stores succeed and keep the heap tidy
-  pub stores_go : (count first : ℕ) (u : State) → Law u → Tidy u next → HoldsObject u m p len place → ((i : ℕ) → i < count → first + i < words_for len) →
-      AllSucceed u (map (λ i. Store m p i (w i)) (range_with_len first count)) × Tidy (after_events u (map (λ i. Store m p i (w i)) (range_with_len first count))) next
-  stores_go zero first u law tidy h inside = (tt, tidy)
-  stores_go (suc count) first u law tidy h inside =
+  -- the stores succeed and keep what holds between commands
+  pub stores_go : (count first : ℕ) (u : State) → Law u → Between u → HoldsObject u m p len place → ((i : ℕ) → i < count → first + i < words_for len) →
+      AllSucceed u (map (λ i. Store m p i (w i)) (range_with_len first count)) × Between (after_events u (map (λ i. Store m p i (w i)) (range_with_len first count)))
+  stores_go zero first u law between h inside = (tt, between)
+  stores_go (suc count) first u law between h inside =
       let at : first + 0 ≡ first = omega arith in
       let lt : first < words_for len = subst (λ i. i < words_for len) at (inside 0 (omega arith)) in
       let fact = store_fact u h first lt in
       let legal : is_legal u (Store m p first (w first)) ≡ true = is_test u (Store m p first (w first)) fact in
       let rest = stores_go count (first + 1) (after u (Store m p first (w first))) (keeps u (Store m p first (w first)) law (wide first) fact)
-      (store_tidy u law tidy h first lt) (store_holds u h first)
+      (store_between u law between h first lt) (store_holds u h first)
       (λ i less. let e : first + suc i ≡ first + 1 + i = omega arith in subst (λ k. k < words_for len) e (inside (suc i) (omega arith))) in
       let row : List Event = map (λ i. Store m p i (w i)) (range_with_len (first + 1) count) in
-      (first_succeeds u (Store m p first (w first)) row legal tt rest.0, subst (λ t. Tidy t next) (sym (made_first u (Store m p first (w first)) row legal)) rest.1)
+      (first_succeeds u (Store m p first (w first)) row legal tt rest.0, subst (λ t. Between t) (sym (made_first u (Store m p first (w first)) row legal)) rest.1)
 
   -- they make a row of words
   pub stores_end : (count first : ℕ) (u : State) → Law u → HoldsObject u m p len place → ((i : ℕ) → i < count → first + i < words_for len) →

@@ -1,5 +1,5 @@
 -- Which shapes a heap line may say, and what each command takes of the logs.
-use Rattle.std.proofs.Common.{◌≡◌, ◌≤◌, ℕ, nat_lt, ◌&&◌, Bool, true, false, is_some, sym, refl, subst, arith, Option, Some, None, length}
+use Rattle.std.proofs.Common.{◌≡◌, ◌≤◌, ℕ, nat_lt, ◌&&◌, true, is_some, sym, refl, subst, arith, Option, Some, None}
 use Rattle.std.specs.Prelude.{◌↔◌, nat_le}
 use Rattle.std.proofs.lemmas.Bool.{cond_both, true≢false}
 use Rattle.std.proofs.lemmas.Bool.Decides.{nat_tests}
@@ -11,15 +11,18 @@ use Rattle.far_word.specs.Sizes.{size_of}
 use Rattle.far_core.specs.state.Room.{room}
 use Rattle.far_core.specs.state.Shape.{is_shape}
 use Rattle.far_core.specs.state.State.{State}
-use Rattle.far_core.specs.events.Step.{after_pin}
+use Rattle.far_word.specs.declared.mark.Mark.TheVariants.{Dropped}
+use Rattle.far_core.specs.declared.event.Event.TheVariants.{Ask}
+use Rattle.far_core.specs.events.Step.{after as step_after, after_pin}
 use Rattle.far_replay.specs.Answers.{Commanded, shape_of}
-use Rattle.far_replay.specs.Command.{Command, New, Open, Write, Read, Close, Logs, Mutator, Book}
+use Rattle.far_replay.specs.Command.{Command, New, Open, Write, Read, Close, Where, Drop, Mutator, Book}
 use Rattle.far_replay.specs.Effects.{with_view}
 use Rattle.far_replay.specs.Headline.{TakesRoom}
 use Rattle.far_replay.specs.Moment.{Moment, moment_of}
 use Rattle.far_replay.specs.Objects.{lowest_cell}
 use Rattle.far_replay.specs.Reply.{Reply, Refused}
 use Rattle.far_replay.specs.Turn.{refusal, unless, turn_effect, turn_reply, reply_to, pointer_reply, with_new}
+use Rattle.far_replay.proofs.Drops.{retired_either}
 use Rattle.far_replay.proofs.Turns.{four}
 
 pub shapes_are : (logs mutators : ℕ) → (is_shape (shape_of logs mutators) ≡ true) ↔ ((2 ≤ logs) × (logs ≤ 64) × (1 ≤ mutators) × (mutators ≤ 8))
@@ -53,8 +56,12 @@ takes s (Mutator m (Read p from len)) None e = view_leaves s p
 takes s (Mutator m (Read p from len)) (Some why) e = (refl, refl)
 takes s (Mutator m Close) None e = (refl, refl)
 takes s (Mutator m Close) (Some why) e = (refl, refl)
-takes s (Book Logs) None e = (refl, refl)
-takes s (Book Logs) (Some why) e = (refl, refl)
+takes s (Mutator m (Where p)) None e = (refl, refl)
+takes s (Mutator m (Where p)) (Some why) e = (refl, refl)
+takes s (Mutator m (Drop p)) None e = retired_either (LeavesRoom s) (step_after s (Ask m p Dropped)) p (refl, refl) (refl, refl)
+takes s (Mutator m (Drop p)) (Some why) e = (refl, refl)
+takes s (Book inquiry) None e = (refl, refl)
+takes s (Book inquiry) (Some why) e = (refl, refl)
 
 pub commands_take : (now : Moment) (c : Command) (r : Reply) (next : Moment) → Commanded now c r next → TakesRoom now c r next
 commands_take now c r next h =

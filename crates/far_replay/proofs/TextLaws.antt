@@ -7,7 +7,7 @@ use Rattle.std.proofs.lemmas.Bool.Decides.{nat_tests}
 use Rattle.std.proofs.lemmas.List.Splits.{join_with_byte-slice_split}
 use Rattle.hex.proofs.HexLemmas.{decode_of-ok}
 use Rattle.far_replay.specs.declared.text.TheConstants.{LONGEST_TEXT}
-use Rattle.far_replay.specs.Command.{Command, Entry, HeapLine, CommandLine, Trace, Nothing, Heap, New, Open, Write, Read, Close, Logs, Mutator, Book}
+use Rattle.far_replay.specs.Command.{Command, Entry, HeapLine, CommandLine, Trace, Nothing, Heap, New, Open, Write, Read, Close, Where, Drop, Mutator, Book}
 use Rattle.far_replay.specs.Grammar.{Line, Skipped, Saying, Bad, line_of, lines_of, line_words, is_plain, is_skipped, saying, entry_of, trace_of, onto, with_heap, read_command, read_commands, read_heap, read_lines}
 use Rattle.far_replay.specs.TraceText.{IsPassed, Speaks, LinesSay, LinesAre, TextSays, FirstBad, HaveNone}
 use Rattle.far_replay.specs.Says.{Says}
@@ -279,7 +279,9 @@ words_write words (Mutator m Open) h = tt
 words_write words (Mutator m (Write p from bytes)) h = (decode_of-ok h.0 bytes h.5.0).3
 words_write words (Mutator m (Read p from len)) h = tt
 words_write words (Mutator m Close) h = tt
-words_write words (Book Logs) h = tt
+words_write words (Mutator m (Where p)) h = tt
+words_write words (Mutator m (Drop p)) h = tt
+words_write words (Book inquiry) h = tt
 
 lines_write : (lines : List (List ℕ)) (cs : List Command) → LinesSay lines cs → AllWriteBytes cs
 lines_write [] [] h = tt

@@ -1,12 +1,12 @@
--- The events of each command succeed, and keep the law and the heap tidy.
+-- The events of each command succeed, and keep the law and what holds between commands.
 use Rattle.std.proofs.Common.{◌≡◌, ◌≢◌, ℕ, ◌+◌, ◌*◌, ◌/◌, ◌%◌, ◌^◌, ◌<◌, ◌≤◌, ◌⊎◌, Bool, true, false, cond, not, ◌&&◌, nat_lt, nat_le, nat_eq, refl, sym, ap, subst, ◌∙◌, arith, Option, Some, None, List, [], ◌∷◌, ◌++◌, length, get_or, is_some, if◌then◌else◌, inl, inr}
-use Rattle.std.proofs.lemmas.Bool.{and_parts, false≢true, cond_both, ltb-true, leb-true}
+use Rattle.std.proofs.lemmas.Bool.{and_parts, false≢true, cond_both, ltb-true}
 use Rattle.std.proofs.lemmas.Bool.Decides.{nat_tests}
 use Rattle.far_word.specs.declared.mark.Marks.{Marks}
 use Rattle.far_word.specs.declared.pointer.Place.{Place}
 use Rattle.far_word.specs.declared.pointer.PtrWord.TheVariants.{Near}
 use Rattle.far_word.specs.declared.refused.Refused.{Refused as Refusal}
-use Rattle.far_word.specs.declared.refused.Refused.TheVariants.{NoRoom, NoPointer, Length, Closed, AlreadyOpen, NotHeld, Range}
+use Rattle.far_word.specs.declared.refused.Refused.TheVariants.{NoRoom, NoPointer, Length, Closed, AlreadyOpen, NotHeld, Range, Held}
 use Rattle.far_word.specs.declared.sizes.TheConstants.{CELLS, LOG_WORDS, LONGEST}
 use Rattle.far_word.specs.Bytes.{bytes_of, packed_word}
 use Rattle.far_word.specs.Header.{head_word}
@@ -18,35 +18,37 @@ use Rattle.far_word.proofs.PointerLaws.{read_back, word_fits}
 use Rattle.far_core.specs.declared.event.Event.{Event}
 use Rattle.far_core.specs.declared.event.Event.TheVariants.{ReadEpoch as ReadsEpoch, Open as Opens, Pin as Pins, Load as Loads, Store as Stores, Close as Closes, Adopt as Adopts, Put as Puts, Name as Names}
 use Rattle.far_core.specs.declared.event.Kind.TheVariants as kinds
+use Rattle.far_core.specs.events.Legal.{IsNext}
+use Rattle.far_core.specs.laws.Rooms.{IsRoom, RoomIs}
 use Rattle.far_core.specs.state.Law.{Law}
 use Rattle.far_core.specs.state.Room.{room}
 use Rattle.far_core.specs.state.State.{State, put}
 use Rattle.far_core.specs.events.Step.{Fits, is_legal, is_opened, data_len, near_data, after_close, scope_word_of}
 use Rattle.far_core.proofs.KeepPlace.{header}
 use Rattle.far_core.proofs.Owing.{is_test}
+use Rattle.far_core.proofs.RoomLaws.{room_right}
 use Rattle.far_core.proofs.Put.{put_both, put_same, put_other}
 use Rattle.far_replay.specs.Moment.{moment_of}
-use Rattle.far_replay.specs.Command.{Command, New, Open, Write, Read, Close, Logs, Mutator, Book}
-use Rattle.far_replay.specs.Interpreter.{named_by, next_after}
+use Rattle.far_replay.specs.Command.{Command, New, Open, Write, Read, Close, Where, Drop, Mutator, Book}
 use Rattle.far_replay.specs.EventRows.{after_events, AllSucceed, AtHand}
-use Rattle.far_replay.specs.Tidy.{Tidy}
-use Rattle.far_replay.specs.Events.{new_events, zero_puts, open_events, view_events, first_word, words_touched, load_events, starts_inside, ends_inside, part_events, store_events, turn_events, events_for}
-use Rattle.far_replay.specs.Objects.{uses, object_len, data_of, spliced, lowest_cell, is_range}
+use Rattle.far_replay.specs.Between.{Between}
+use Rattle.far_replay.specs.Events.{new_events, zero_puts, open_events, view_events, first_word, words_touched, load_events, starts_inside, ends_inside, part_events, store_events, drop_events, turn_events, events_for}
+use Rattle.far_replay.specs.Objects.{uses, object_len, data_of, with_range, lowest_cell, is_range}
 use Rattle.far_replay.specs.Effects.{new_word}
-use Rattle.far_replay.specs.Effects.{with_row, with_object, with_view, with_data, with_scope, epoch_for}
+use Rattle.far_replay.specs.Effects.{with_row, with_object, with_view, with_data, with_scope, without_object, epoch_for}
 use Rattle.far_replay.specs.Turn.{turn_effect, effect, with_new, access_causes, first_cause, refusal, unless}
 use Rattle.far_replay.specs.Written.{WritesBytes}
+use Rattle.far_replay.proofs.Drops.{unheld_is, drop_succeeds, drop_ends, drop_is, drop_law, drop_fits, drop_hands}
 use Rattle.far_replay.proofs.LoadWords.{loads_stay, load_legal, loads_succeed}
-use Rattle.far_replay.proofs.Lowest.{lowest_is}
+use Rattle.far_replay.proofs.Lowest.{lowest_cell_is}
 use Rattle.far_replay.proofs.MadeLemmas.{made-append, AllSucceed-append, made_first, first_succeeds, made_law, load_stays}
-use Rattle.far_replay.proofs.NewTurns.{new_succeeds, new_tidy, new_end}
-use Rattle.far_replay.proofs.Rooms.{room_is, current_inside}
+use Rattle.far_replay.proofs.NewTurns.{new_succeeds, new_between, new_end}
 use Rattle.far_replay.proofs.Each.{Each, Each-append, Each-row}
-use Rattle.far_replay.proofs.Spliced.{AreBytes, spliced_bytes, length-spliced, packed_padded, packed_wide}
+use Rattle.far_replay.proofs.Spliced.{AreBytes, with_range_bytes, length-with_range, packed_padded, packed_wide}
 use Rattle.far_replay.proofs.StoreTurns.{stores_go, stores_end}
 use Rattle.far_replay.proofs.RangeWrites.{object_padded}
 use Rattle.far_replay.proofs.WriteEnds.{row_whole}
-use Rattle.far_replay.proofs.Views.{len_near, Viewed, viewed, view_is, view_succeeds, view_law, view_tidy}
+use Rattle.far_replay.proofs.Views.{len_near, Viewed, viewed, view_is, view_succeeds, view_law, view_between}
 
 -- ---- what no refusal says
 -- four causes that aren't there
@@ -63,6 +65,13 @@ two true true w x e = absurd cc
 two true false w x e = (refl, refl)
 two false b w x e = absurd cc
 
+-- three of them
+pub three : (a b c : Bool) (w x y : Refusal) → first_cause ((not a, w) ∷ (not b, x) ∷ (c, y) ∷ []) ≡ None → (a ≡ true) × (b ≡ true) × (c ≡ false)
+three true true true w x y e = absurd cc
+three true true false w x y e = (refl, refl, refl)
+three true false c w x y e = absurd cc
+three false b c w x y e = absurd cc
+
 -- what a command that may read or write an object has
 pub record Access (s : State) (m p from count : ℕ) : Type 0 where
   pub opened : is_opened s m ≡ true
@@ -71,21 +80,21 @@ pub record Access (s : State) (m p from count : ℕ) : Type 0 where
   pub within : from + count ≤ data_len s p
 
 -- what a read or a write that isn't refused has
-pub access_fact : (s : State) (next : ℕ → ℕ) (m p from count : ℕ) → Law s → Tidy s next → first_cause (access_causes (moment_of s) m p from count) ≡ None → Access s m p from count
-access_fact s next m p from count law tidy e =
+pub access_fact : (s : State) (m p from count : ℕ) → Law s → Between s → first_cause (access_causes (moment_of s) m p from count) ≡ None → Access s m p from count
+access_fact s m p from count law between e =
     let h = four (nat_lt m s.mutators) (is_opened s m) (uses s m p) (is_range (object_len s p) from count) Range Closed NotHeld Range e in
     let used = and_parts (nat_eq (p / CELLS) m) (s.used p) h.2 in
-    let range : is_range (data_len s p) from count ≡ true = ap (λ n. is_range n from count) (sym (len_near s law tidy.at_hand p used.1)) ∙ h.3 in
+    let range : is_range (data_len s p) from count ≡ true = ap (λ n. is_range n from count) (sym (len_near s law between.at_hand p used.1)) ∙ h.3 in
     let some : 0 < count = grind (arith, nat_tests, range) in
     let within : from + count ≤ data_len s p = grind (arith, nat_tests, range) in
     record { opened = h.1; ours = h.2; some = some; within = within }
 
 -- ---- reads
 -- a read of an object's words
-module _ (s : State) (next : ℕ → ℕ) (m p from count : ℕ) (law : Law s) (tidy : Tidy s next) (access : Access s m p from count) where
+module _ (s : State) (m p from count : ℕ) (law : Law s) (between : Between s) (access : Access s m p from count) where
   -- the object is held after the view
   pub viewing : Viewed s (after_events s (view_events s m p)) m p
-  viewing = viewed s next m p law tidy access.opened access.ours
+  viewing = viewed s m p law between access.opened access.ours
 
   -- the words that are touched are the object's
   touched_inside : (i : ℕ) → i < words_touched from count → first_word from + i < words_for (data_len s p)
@@ -97,7 +106,7 @@ module _ (s : State) (next : ℕ → ℕ) (m p from count : ℕ) (law : Law s) (
 
   -- they succeed
   pub read_succeeds : AllSucceed s read_events
-  read_succeeds = AllSucceed-append s (view_events s m p) (load_events m p (first_word from) (words_touched from count)) (view_succeeds s next m p law tidy access.opened access.ours)
+  read_succeeds = AllSucceed-append s (view_events s m p) (load_events m p (first_word from) (words_touched from count)) (view_succeeds s m p law between access.opened access.ours)
       (loads_succeed s (after_events s (view_events s m p)) m p viewing (first_word from) (words_touched from count) touched_inside)
 
   -- they end where the view does
@@ -105,13 +114,13 @@ module _ (s : State) (next : ℕ → ℕ) (m p from count : ℕ) (law : Law s) (
   read_end = made-append s (view_events s m p) (load_events m p (first_word from) (words_touched from count))
       ∙ loads_stay (after_events s (view_events s m p)) m p (first_word from) (words_touched from count)
 
-  -- they keep the heap tidy
-  pub read_tidy : Tidy (after_events s read_events) next
-  read_tidy = subst (λ t. Tidy t next) (sym read_end) (view_tidy s next m p law tidy access.opened access.ours)
+  -- they keep what holds between commands
+  pub read_between : Between (after_events s read_events)
+  read_between = subst Between (sym read_end) (view_between s m p law between access.opened access.ours)
 
   -- and the law
   pub read_law : Law (after_events s read_events)
-  read_law = subst Law (sym read_end) (view_law s next m p law tidy access.opened access.ours)
+  read_law = subst Law (sym read_end) (view_law s m p law between access.opened access.ours)
 
   -- the words that they carry are 64 bits wide
   pub view_fits : Each Fits (view_events s m p)
@@ -122,7 +131,7 @@ module _ (s : State) (next : ℕ → ℕ) (m p from count : ℕ) (law : Law s) (
 
   -- they make a view
   pub read_is : after_events s read_events ≡ with_view s p
-  read_is = read_end ∙ view_is s next m p law tidy access.opened access.ours
+  read_is = read_end ∙ view_is s m p law between access.opened access.ours
 
   -- ---- writes
   -- a load that is made or not
@@ -154,7 +163,7 @@ module _ (s : State) (next : ℕ → ℕ) (m p from count : ℕ) (law : Law s) (
       )
 
 -- a write of bytes
-module _ (s : State) (next : ℕ → ℕ) (m p from : ℕ) (bytes : List ℕ) (law : Law s) (tidy : Tidy s next) (access : Access s m p from (length bytes))
+module _ (s : State) (m p from : ℕ) (bytes : List ℕ) (law : Law s) (between : Between s) (access : Access s m p from (length bytes))
     (small : (k : ℕ) → get_or bytes k 0 < 256) where
   -- the state after the view
   abbrev view : State
@@ -162,7 +171,7 @@ module _ (s : State) (next : ℕ → ℕ) (m p from : ℕ) (bytes : List ℕ) (l
 
   -- the bytes after the write
   abbrev changed : List ℕ
-  changed = spliced (data_of s p) from bytes
+  changed = with_range (data_of s p) from bytes
 
   -- as many as the object has
   data_long : length (data_of s p) ≡ data_len s p
@@ -174,15 +183,15 @@ module _ (s : State) (next : ℕ → ℕ) (m p from : ℕ) (bytes : List ℕ) (l
 
   -- they are bytes
   changed_bytes : AreBytes changed
-  changed_bytes = spliced_bytes (data_of s p) from bytes within (bytes_of-small (λ i. s.word (near_data (read_of (s.cell p)) + i)) (data_len s p)) small
+  changed_bytes = with_range_bytes (data_of s p) from bytes within (bytes_of-small (λ i. s.word (near_data (read_of (s.cell p)) + i)) (data_len s p)) small
 
   -- as many as before
   changed_long : length changed ≡ data_len s p
-  changed_long = length-spliced (data_of s p) from bytes within ∙ data_long
+  changed_long = length-with_range (data_of s p) from bytes within ∙ data_long
 
   -- the object is held
   held : Viewed s view m p
-  held = viewed s next m p law tidy access.opened access.ours
+  held = viewed s m p law between access.opened access.ours
 
   -- the stores
   abbrev stores : List Event
@@ -192,13 +201,13 @@ module _ (s : State) (next : ℕ → ℕ) (m p from : ℕ) (bytes : List ℕ) (l
   wide : (i : ℕ) → packed_word changed i < 2 ^ 64
   wide = packed_wide changed changed_bytes
 
-  -- they succeed, and keep the heap tidy
-  stored : AllSucceed view stores × Tidy (after_events view stores) next
-  stored = stores_go next m p held.len held.place (packed_word changed) wide
+  -- they succeed, and keep what holds between commands
+  stored : AllSucceed view stores × Between (after_events view stores)
+  stored = stores_go m p held.len held.place (packed_word changed) wide
       (λ i lt. packed_padded changed held.len i changed_bytes (changed_long ∙ held.long) lt)
       (words_touched from (length bytes)) (first_word from) view
-      (view_law s next m p law tidy access.opened access.ours) (view_tidy s next m p law tidy access.opened access.ours) held.holds
-      (λ i lt. subst (λ n. first_word from + i < words_for n) held.long (touched_inside s next m p from (length bytes) law tidy access i lt))
+      (view_law s m p law between access.opened access.ours) (view_between s m p law between access.opened access.ours) held.holds
+      (λ i lt. subst (λ n. first_word from + i < words_for n) held.long (touched_inside s m p from (length bytes) law between access i lt))
 
   -- what is made before the stores
   abbrev looks : List Event
@@ -206,26 +215,26 @@ module _ (s : State) (next : ℕ → ℕ) (m p from : ℕ) (bytes : List ℕ) (l
 
   -- it ends where the view does
   looked : after_events s looks ≡ view
-  looked = made-append s (view_events s m p) (part_events m p from (length bytes)) ∙ (parts s next m p from (length bytes) law tidy access).1
+  looked = made-append s (view_events s m p) (part_events m p from (length bytes)) ∙ (parts s m p from (length bytes) law between access).1
 
   -- the events of a write succeed
   pub write_succeeds : AllSucceed s (looks ++ stores)
   write_succeeds = AllSucceed-append s looks stores
-      (AllSucceed-append s (view_events s m p) (part_events m p from (length bytes)) (view_succeeds s next m p law tidy access.opened access.ours) (parts s next m p from (length bytes) law tidy access).0)
+      (AllSucceed-append s (view_events s m p) (part_events m p from (length bytes)) (view_succeeds s m p law between access.opened access.ours) (parts s m p from (length bytes) law between access).0)
       (subst (λ t. AllSucceed t stores) (sym looked) stored.0)
 
   -- they end where the stores do
   pub write_end : after_events s (looks ++ stores) ≡ after_events view stores
   write_end = made-append s looks stores ∙ ap (λ t. after_events t stores) looked
 
-  -- they keep the heap tidy
-  pub write_tidy : Tidy (after_events s (looks ++ stores)) next
-  write_tidy = subst (λ t. Tidy t next) (sym write_end) stored.1
+  -- they keep what holds between commands
+  pub write_between : Between (after_events s (looks ++ stores))
+  write_between = subst Between (sym write_end) stored.1
 
   -- the words that they carry are 64 bits wide
   pub write_fits : Each Fits (looks ++ stores)
   write_fits = Each-append Fits looks stores
-      (Each-append Fits (view_events s m p) (part_events m p from (length bytes)) (view_fits s next m p from (length bytes) law tidy access) part_fits)
+      (Each-append Fits (view_events s m p) (part_events m p from (length bytes)) (view_fits s m p from (length bytes) law between access) part_fits)
       (Each-row Fits (λ i. Stores m p i (packed_word changed i)) (first_word from) (words_touched from (length bytes)) (λ i _. wide (first_word from + i))) where
         part_fits : Each Fits (part_events m p from (length bytes))
         part_fits = Each-append Fits (if starts_inside from (length bytes) then Loads m p (from / 8) ∷ [] else []) (if ends_inside from (length bytes) then Loads m p ((from + length bytes) / 8) ∷ [] else [])
@@ -240,64 +249,61 @@ module _ (s : State) (next : ℕ → ℕ) (m p from : ℕ) (bytes : List ℕ) (l
   stores_is : after_events view stores ≡ with_data view p from bytes
   stores_is =
       let d : ℕ = near_data (read_of (view.cell p)) in
-      let lawful = view_law s next m p law tidy access.opened access.ours in
-      stores_end next m p held.len held.place (packed_word changed) wide
+      let lawful = view_law s m p law between access.opened access.ours in
+      stores_end m p held.len held.place (packed_word changed) wide
       (λ i lt. packed_padded changed held.len i changed_bytes (changed_long ∙ held.long) lt)
       (words_touched from (length bytes)) (first_word from) view lawful held.holds
-      (λ i lt. subst (λ n. first_word from + i < words_for n) held.long (touched_inside s next m p from (length bytes) law tidy access i lt))
-      ∙ ap (λ (old : List ℕ). record view { word = with_row view.word (d + first_word from) (words_touched from (length bytes)) (λ i. packed_word (spliced old from bytes) (first_word from + i)) }) (sym data_same)
+      (λ i lt. subst (λ n. first_word from + i < words_for n) held.long (touched_inside s m p from (length bytes) law between access i lt))
+      ∙ ap (λ (old : List ℕ). record view { word = with_row view.word (d + first_word from) (words_touched from (length bytes)) (λ i. packed_word (with_range old from bytes) (first_word from + i)) }) (sym data_same)
       ∙ ap (λ (f : ℕ → ℕ). record view { word = f })
       (row_whole view.word d (data_len view p) from bytes (omega (arith, access.within, held.same_len)) access.some lawful.spans.word_fits (object_padded view lawful p))
 
   -- so a write makes its object's bytes new, after a view
   pub write_is : after_events s (looks ++ stores) ≡ with_data (with_view s p) p from bytes
-  write_is = write_end ∙ stores_is ∙ ap (λ (t : State). with_data t p from bytes) (view_is s next m p law tidy access.opened access.ours)
+  write_is = write_end ∙ stores_is ∙ ap (λ (t : State). with_data t p from bytes) (view_is s m p law between access.opened access.ours)
 
   -- and the law
   pub write_law : Law (after_events s (looks ++ stores))
-  write_law = subst Law (sym write_end) (made_law view stores (view_law s next m p law tidy access.opened access.ours)
+  write_law = subst Law (sym write_end) (made_law view stores (view_law s m p law between access.opened access.ours)
       (Each-row Fits (λ i. Stores m p i (packed_word changed i)) (first_word from) (words_touched from (length bytes)) (λ i lt. wide (first_word from + i))))
 
 -- ---- a new object
 -- where a new span may stand
 pub record NewRoom (s : State) (size : ℕ) (place : Place) : Type 0 where
-  pub log : place.log < s.logs
+  pub next : IsNext s place
   pub fits : place.at + size ≤ LOG_WORDS
   pub here : place.at ≡ s.tail place.log
-  pub stands : ((s.kind place.log ≡ kinds.Open) × (place.at ≡ s.tail place.log)) ⊎ ((s.kind place.log ≡ kinds.Free) × (place.at ≡ 0))
-  pub order : (place.log ≡ s.current) ⊎ (place.log ≡ s.current + 1)
 
 -- the room that is found is such a place
-pub new_room : (s : State) (next : ℕ → ℕ) (size : ℕ) → Law s → Tidy s next → size ≤ LOG_WORDS → is_some (room s size true) ≡ true → (place : Place) × (room s size true ≡ Some place) × NewRoom s size place
-new_room s next size law tidy short found =
-    subst (λ (o : Option Place). is_some o ≡ true → (place : Place) × (o ≡ Some place) × NewRoom s size place) (sym (room_is s next size law tidy))
-    (cond_both (nat_le (s.tail s.current + size) LOG_WORDS) _ _ (λ (o : Option Place). is_some o ≡ true → (place : Place) × (o ≡ Some place) × NewRoom s size place)
-    (λ t _. let at : Place = record { log = s.current; at = s.tail s.current } in
-    (at, refl, record { log = current_inside s next law tidy; fits = leb-true (s.tail s.current + size) LOG_WORDS t; here = refl; stands = inl (law.logs.is_open, refl); order = inl refl }))
-    (λ _. cond_both (nat_lt (s.current + 2) s.logs) _ _ (λ (o : Option Place). is_some o ≡ true → (place : Place) × (o ≡ Some place) × NewRoom s size place)
-    (λ t _. let lt : s.current + 2 < s.logs = ltb-true (s.current + 2) s.logs t in
-    let empty : s.kind (s.current + 1) ≡ kinds.Free = tidy.free (s.current + 1) (omega arith) in
-    let at : Place = record { log = s.current + 1; at = 0 } in
-    (at, refl, record { log = omega arith; fits = omega arith; here = sym (law.logs.free_tail (s.current + 1) empty); stands = inr (empty, refl); order = inr refl }))
-    (λ _ h. absurd (false≢true h))))
-    found
+pub room_next : (s : State) (size : ℕ) (place : Place) → Law s → size ≤ LOG_WORDS → room s size true ≡ Some place → NewRoom s size place
+room_next s size place law short found =
+    let is : IsRoom s size true place = subst (RoomIs s size true) found (room_right s law size true short) in
+    record { next = is.next; fits = is.fits; here = ends is.next.1 } where
+      ends : ((s.kind place.log ≡ kinds.Open) × (place.at ≡ s.tail place.log)) ⊎ ((s.kind place.log ≡ kinds.Free) × (place.at ≡ 0)) → place.at ≡ s.tail place.log
+      ends (inl here) = here.1
+      ends (inr empty) = empty.1 ∙ sym (law.logs.free_tail place.log empty.0)
 
--- the cell that is found is the next one
-pub new_cell : (s : State) (next : ℕ → ℕ) (m : ℕ) → Tidy s next → is_some (lowest_cell s m) ≡ true → (next m < CELLS) × (lowest_cell s m ≡ Some (m * CELLS + next m))
-new_cell s next m tidy found =
-    subst (λ (o : Option ℕ). is_some o ≡ true → (next m < CELLS) × (o ≡ Some (m * CELLS + next m))) (sym (lowest_is s next m tidy))
-    (cond_both (nat_lt (next m) CELLS) _ _ (λ (o : Option ℕ). is_some o ≡ true → (next m < CELLS) × (o ≡ Some (m * CELLS + next m)))
-    (λ t _. (ltb-true (next m) CELLS t, refl)) (λ _ h. absurd (false≢true h)))
-    found
+new_room : (s : State) (size : ℕ) → Law s → size ≤ LOG_WORDS → is_some (room s size true) ≡ true → (place : Place) × (room s size true ≡ Some place) × NewRoom s size place
+new_room s size law short found = at_room (room s size true) refl found where
+  at_room : (o : Option Place) → room s size true ≡ o → is_some o ≡ true → (place : Place) × (o ≡ Some place) × NewRoom s size place
+  at_room None e h = absurd (false≢true h)
+  at_room (Some place) e h = (place, refl, room_next s size place law short e)
+
+-- the cell that is found is free, and the mutator's
+pub new_cell : (s : State) (m : ℕ) → is_some (lowest_cell s m) ≡ true → (p : ℕ) × (lowest_cell s m ≡ Some p) × (m * CELLS ≤ p) × (p < m * CELLS + CELLS) × (s.cell p ≡ 0)
+new_cell s m found = at_cell (lowest_cell s m) refl found where
+  at_cell : (o : Option ℕ) → lowest_cell s m ≡ o → is_some o ≡ true → (p : ℕ) × (o ≡ Some p) × (m * CELLS ≤ p) × (p < m * CELLS + CELLS) × (s.cell p ≡ 0)
+  at_cell None e h = absurd (false≢true h)
+  at_cell (Some p) e h = let l = lowest_cell_is s m p e in (p, refl, l.0, l.1, l.2)
 
 -- no marks
 abbrev clean : Marks
 clean = record { hot = false; evac = false; moved = false; dropped = false }
 
--- what the events of a command do: they succeed, keep the heap tidy and the law, and end in this state
-pub record Turned (s : State) (next : ℕ → ℕ) (es : List Event) (t : State) : Type 0 where
+-- what the events of a command do: they succeed, keep the law and what holds between commands, and end in this state
+pub record Turned (s : State) (es : List Event) (t : State) : Type 0 where
   pub succeed : AllSucceed s es
-  pub tidy : Tidy (after_events s es) next
+  pub between : Between (after_events s es)
   pub law : Law (after_events s es)
   pub fit : Each Fits es
   pub ends : after_events s es ≡ t
@@ -307,34 +313,33 @@ pub new_sizes : (m mutators len ds : ℕ) → (nat_lt m mutators && nat_lt ds 25
 new_sizes m mutators len ds a b = (grind (arith, nat_tests), grind (arith, nat_tests), grind (arith, nat_tests), grind (arith, nat_tests))
 
 -- the events of a new object
-new_turned : (s : State) (next : ℕ → ℕ) (m len ds : ℕ) → Law s → Tidy s next → refusal (moment_of s) (Mutator m (New len ds)) ≡ None →
-    Turned s (put next m (next m + 1)) (turn_events (moment_of s) (Mutator m (New len ds))) (turn_effect (moment_of s) (Mutator m (New len ds))).core
-new_turned s next m len ds law tidy e =
+new_turned : (s : State) (m len ds : ℕ) → Law s → Between s → refusal (moment_of s) (Mutator m (New len ds)) ≡ None →
+    Turned s (turn_events (moment_of s) (Mutator m (New len ds))) (turn_effect (moment_of s) (Mutator m (New len ds))).core
+new_turned s m len ds law between e =
     let h = four (nat_lt m s.mutators && nat_lt ds 256) (nat_lt 0 len && nat_le len LONGEST) (is_some (lowest_cell s m)) (is_some (room s (size_of len) true)) Range Length NoPointer NoRoom e in
     let sizes = new_sizes m s.mutators len ds h.0 h.1 in
-    let cell = new_cell s next m tidy h.2 in
-    let found = new_room s next (size_of len) law tidy (omega (arith, sizes.3)) h.3 in
-    let p : ℕ = m * CELLS + next m in
+    let cell = new_cell s m h.2 in
+    let found = new_room s (size_of len) law (omega (arith, sizes.3)) h.3 in
+    let p : ℕ = cell.0 in
     let new : ℕ = new_word len ds found.0 in
-    let row : List Event = (Puts found.0.log found.0.at (head_word (m * CELLS + next m) len ds) ∷ zero_puts found.0 (words_for len)) ++ Names (m * CELLS + next m) 0 (new_word len ds found.0) ∷ Adopts m (m * CELLS + next m) ∷ [] in
+    let row : List Event = (Puts found.0.log found.0.at (head_word cell.0 len ds) ∷ zero_puts found.0 (words_for len)) ++ Names cell.0 0 (new_word len ds found.0) ∷ Adopts m cell.0 ∷ [] in
     let same : new_events m len ds (lowest_cell s m) (room s (size_of len) true) ≡ row =
-    ap (λ o. new_events m len ds o (room s (size_of len) true)) cell.1 ∙ ap (new_events m len ds (Some (m * CELLS + next m))) found.1 in
-    let lies : IsPtr (Near len ds found.0 clean) = (sizes.2, sizes.3, sizes.1, omega (arith, found.2.log, law.shape.few_logs), found.2.fits) in
+    ap (λ o. new_events m len ds o (room s (size_of len) true)) cell.1 ∙ ap (new_events m len ds (Some cell.0)) found.1 in
+    let lies : IsPtr (Near len ds found.0 clean) = (sizes.2, sizes.3, sizes.1, omega (arith, found.2.next.0, law.shape.few_logs), found.2.fits) in
     let reads : read_of new ≡ Some (Near len ds found.0 clean) = read_back (Near len ds found.0 clean) lies in
-    let within : m * CELLS + next m < CELLS * s.mutators = omega (arith, sizes.0, cell.0) in
-    let fit : Each Fits row = Each-append Fits (Puts found.0.log found.0.at (head_word (m * CELLS + next m) len ds) ∷ zero_puts found.0 (words_for len)) (Names (m * CELLS + next m) 0 (new_word len ds found.0) ∷ Adopts m (m * CELLS + next m) ∷ []) (
-      head_fits (header (m * CELLS + next m) len ds) (record { some = sizes.2; most = sizes.3; structure = sizes.1; cell = omega (arith, law.shape.few_mutators) }),
+    let fit : Each Fits row = Each-append Fits (Puts found.0.log found.0.at (head_word cell.0 len ds) ∷ zero_puts found.0 (words_for len)) (Names cell.0 0 (new_word len ds found.0) ∷ Adopts m cell.0 ∷ []) (
+      head_fits (header cell.0 len ds) (record { some = sizes.2; most = sizes.3; structure = sizes.1; cell = omega (arith, sizes.0, cell.2, cell.3, law.shape.few_mutators) }),
       Each-row Fits (λ i. Puts found.0.log (found.0.at + 1 + i) 0) 0 (words_for len) (λ i lt. omega arith),
     )
     ((omega arith, word_fits (Near len ds found.0 clean) lies), (tt, tt)) in
     let result : with_new s len ds (lowest_cell s m) (room s (size_of len) true) ≡ with_object s p len ds found.0 =
-    ap (λ o. with_new s len ds o (room s (size_of len) true)) cell.1 ∙ ap (with_new s len ds (Some (m * CELLS + next m))) found.1 in
-    subst (λ (x : List Event × State). Turned s (put next m (next m + 1)) x.0 x.1) (λ i. (sym same i, sym result i)) record {
-      succeed = new_succeeds s next law tidy m p len ds new found.0 sizes.0 cell.0 refl sizes.2 sizes.3 sizes.1 found.2.log found.2.fits found.2.here found.2.stands found.2.order reads;
-      tidy = new_tidy s next law tidy m p len ds new found.0 sizes.0 cell.0 refl sizes.2 sizes.3 sizes.1 found.2.log found.2.fits found.2.here found.2.stands found.2.order reads;
+    ap (λ o. with_new s len ds o (room s (size_of len) true)) cell.1 ∙ ap (with_new s len ds (Some cell.0)) found.1 in
+    subst (λ (x : List Event × State). Turned s x.0 x.1) (λ i. (sym same i, sym result i)) record {
+      succeed = new_succeeds s law m p len ds new found.0 sizes.0 cell.2 cell.3 cell.4 sizes.2 sizes.3 sizes.1 found.2.next found.2.fits found.2.here reads;
+      between = new_between s law m p len ds new found.0 sizes.0 cell.2 cell.3 cell.4 sizes.2 sizes.3 sizes.1 found.2.next found.2.fits found.2.here reads between;
       law = made_law s row law fit;
       fit = fit;
-      ends = new_end s next law tidy m p len ds new found.0 sizes.0 cell.0 refl sizes.2 sizes.3 sizes.1 found.2.log found.2.fits found.2.here found.2.stands found.2.order reads;
+      ends = new_end s law m p len ds new found.0 sizes.0 cell.2 cell.3 cell.4 sizes.2 sizes.3 sizes.1 found.2.next found.2.fits found.2.here reads;
     }
 
 -- ---- scopes
@@ -354,25 +359,17 @@ same_hands s t cells uses_same hands p ne =
       used = sym (ap (λ (f : ℕ → Bool). f p) uses_same) ∙ h.used;
     }
 
--- other scopes leave the heap tidy, if no closed owner remembers an epoch
-tidy_scopes : (s : State) (next : ℕ → ℕ) (scope : ℕ → ℕ) (remembered : ℕ → Option ℕ) (held : ℕ → Option Place) → Tidy s next → ((m : ℕ) → scope m ≡ 0 → remembered m ≡ None) →
-    Tidy record s { scope = scope; remembered = remembered; held = held } next
-tidy_scopes s next scope remembered held tidy unread = record {
-  at_hand = same_hands s (record s { scope = scope; remembered = remembered; held = held }) refl refl tidy.at_hand;
-  most = tidy.most;
-  named = tidy.named;
-  unnamed = tidy.unnamed;
-  sealed = tidy.sealed;
-  free = tidy.free;
-  live = tidy.live;
-  unread = unread;
-}
+-- other scopes leave what holds between commands, if no closed owner remembers an epoch
+between_scopes : (s : State) (scope : ℕ → ℕ) (remembered : ℕ → Option ℕ) (held : ℕ → Option Place) → Between s → ((m : ℕ) → scope m ≡ 0 → remembered m ≡ None) →
+    Between record s { scope = scope; remembered = remembered; held = held }
+between_scopes s scope remembered held between unread =
+    record { at_hand = same_hands s (record s { scope = scope; remembered = remembered; held = held }) refl refl between.at_hand; unread = unread }
 
 -- a scope that isn't open is closed
 pub shut : (s : State) (m : ℕ) → nat_lt m s.mutators ≡ true → is_opened s m ≡ false → (m < s.mutators) × (s.scope m ≡ 0)
 shut s m within opened = (grind (arith, nat_tests), grind (arith, nat_tests))
 
-module _ (s : State) (next : ℕ → ℕ) (m : ℕ) (law : Law s) (tidy : Tidy s next) (closed_now : (m < s.mutators) × (s.scope m ≡ 0)) where
+module _ (s : State) (m : ℕ) (law : Law s) (between : Between s) (closed_now : (m < s.mutators) × (s.scope m ≡ 0)) where
   -- the state after the epoch is read
   abbrev read : State
   read = record s { remembered = put s.remembered m (Some s.epoch) }
@@ -393,90 +390,117 @@ module _ (s : State) (next : ℕ → ℕ) (m : ℕ) (law : Law s) (tidy : Tidy s
   open_legal : is_legal read (Opens m) ≡ true
   open_legal = is_test read (Opens m) (closed_now, ap is_some read_now)
 
-  -- the heap stays tidy
-  begun_tidy : Tidy begun next
-  begun_tidy = tidy_scopes s next (put s.scope m (scope_word_of (read.remembered m))) (put s.remembered m (Some s.epoch)) s.held tidy
-      (λ k z. put_other s.remembered m (Some s.epoch) k (λ e. odd k e z) ∙ tidy.unread k (sym (put_other s.scope m (scope_word_of (read.remembered m)) k (λ e. odd k e z)) ∙ z)) where
+  -- what holds between commands stays
+  begun_between : Between begun
+  begun_between = between_scopes s (put s.scope m (scope_word_of (read.remembered m))) (put s.remembered m (Some s.epoch)) s.held between
+      (λ k z. put_other s.remembered m (Some s.epoch) k (λ e. odd k e z) ∙ between.unread k (sym (put_other s.scope m (scope_word_of (read.remembered m)) k (λ e. odd k e z)) ∙ z)) where
         odd : (k : ℕ) → k ≡ m → put s.scope m (scope_word_of (read.remembered m)) k ≡ 0 → ⊥
         odd k e z =
             let one : 2 * s.epoch + 1 ≡ 0 = sym (ap scope_word_of read_now) ∙ sym (put_same s.scope m (scope_word_of (read.remembered m)) k e) ∙ z in
             omega arith
 
   -- the events of an opening
-  pub open_turned : Turned s next (open_events s m) (with_scope s m)
+  pub open_turned : Turned s (open_events s m) (with_scope s m)
   open_turned =
-      let none : s.remembered m ≡ None = tidy.unread m closed_now.1 in
+      let none : s.remembered m ≡ None = between.unread m closed_now.1 in
       let same : open_events s m ≡ ReadsEpoch m ∷ Opens m ∷ [] = ap (λ (o : Option ℕ). if is_some o then Opens m ∷ [] else ReadsEpoch m ∷ Opens m ∷ []) none in
       let end : after_events s (ReadsEpoch m ∷ Opens m ∷ []) ≡ begun = made_first s (ReadsEpoch m) (Opens m ∷ []) read_legal ∙ made_first read (Opens m) [] open_legal in
       let begins : begun ≡ with_scope s m =
       ap (λ (o : Option ℕ). record read { scope = put s.scope m (scope_word_of o) }) read_now
       ∙ ap (λ (o : Option ℕ). record s { remembered = put s.remembered m (Some (epoch_for o s.epoch)); scope = put s.scope m (scope_word_of (Some (epoch_for o s.epoch))) }) (sym none) in
-      subst (λ es. Turned s next es (with_scope s m)) (sym same) record {
+      subst (λ es. Turned s es (with_scope s m)) (sym same) record {
         succeed = first_succeeds s (ReadsEpoch m) (Opens m ∷ []) read_legal tt (first_succeeds read (Opens m) [] open_legal tt tt);
-        tidy = subst (λ t. Tidy t next) (sym end) begun_tidy;
+        between = subst Between (sym end) begun_between;
         law = made_law s (ReadsEpoch m ∷ Opens m ∷ []) law (tt, (tt, tt));
         fit = (tt, (tt, tt));
         ends = end ∙ begins;
       }
 
 -- the event of a closing
-close_turned : (s : State) (next : ℕ → ℕ) (m : ℕ) → Law s → Tidy s next → is_opened s m ≡ true → Turned s next (Closes m ∷ []) (after_close s m)
-close_turned s next m law tidy opened =
+close_turned : (s : State) (m : ℕ) → Law s → Between s → is_opened s m ≡ true → Turned s (Closes m ∷ []) (after_close s m)
+close_turned s m law between opened =
     let legal : is_legal s (Closes m) ≡ true = opened in
     let end : after_events s (Closes m ∷ []) ≡ after_close s m = made_first s (Closes m) [] legal in
     let held : ℕ → Option Place = λ p. cond (nat_eq (p / CELLS) m) None (s.held p) in
     record {
       succeed = first_succeeds s (Closes m) [] legal tt tt;
-      tidy = subst (λ t. Tidy t next) (sym end) (tidy_scopes s next (put s.scope m 0) (put s.remembered m None) (λ p. cond (nat_eq (p / CELLS) m) None (s.held p)) tidy
-          (λ k z. put_both (λ (o : Option ℕ). o ≡ None) s.remembered m None k (λ _. refl) (λ ne. tidy.unread k (sym (put_other s.scope m 0 k ne) ∙ z))));
+      between = subst Between (sym end) (between_scopes s (put s.scope m 0) (put s.remembered m None) (λ p. cond (nat_eq (p / CELLS) m) None (s.held p)) between
+          (λ k z. put_both (λ (o : Option ℕ). o ≡ None) s.remembered m None k (λ _. refl) (λ ne. between.unread k (sym (put_other s.scope m 0 k ne) ∙ z))));
       law = made_law s (Closes m ∷ []) law (tt, tt);
       fit = (tt, tt);
       ends = end;
     }
 
+-- ---- drops
+-- the events of a drop
+drop_turned : (s : State) (m p : ℕ) → Law s → Between s → (nat_lt m s.mutators ≡ true) × (uses s m p ≡ true) × (is_some (s.held p) ≡ false) → Turned s (drop_events s m p) (without_object s m p)
+drop_turned s m p law between h =
+    let within : m < s.mutators = ltb-true m s.mutators h.0 in
+    let unheld : s.held p ≡ None = unheld_is (s.held p) h.2 in
+    let ends = drop_ends s m p law within h.1 unheld in
+    let is = drop_is s m p law within h.1 unheld in
+    let after : Between (without_object s m p) = record {
+      at_hand = drop_hands s m p law within h.1 unheld between.at_hand;
+      unread = subst (λ (t : State). (k : ℕ) → t.scope k ≡ 0 → t.remembered k ≡ None) (sym is) between.unread;
+    } in
+    record {
+      succeed = drop_succeeds s m p law within h.1 unheld;
+      between = subst Between (sym ends) after;
+      law = subst Law (sym ends) (drop_law s m p law within h.1 unheld);
+      fit = drop_fits s m p law within h.1 unheld;
+      ends = ends;
+    }
+
 -- ---- all commands
 -- a command that makes no event
-none_turned : (s : State) (next : ℕ → ℕ) → Law s → Tidy s next → Turned s next [] s
-none_turned s next law tidy = record { succeed = tt; tidy = tidy; law = law; fit = tt; ends = refl }
+none_turned : (s : State) → Law s → Between s → Turned s [] s
+none_turned s law between = record { succeed = tt; between = between; law = law; fit = tt; ends = refl }
 
 -- a command that isn't refused
-turned : (s : State) (next : ℕ → ℕ) (c : Command) → Law s → Tidy s next → WritesBytes c → refusal (moment_of s) c ≡ None →
-    Turned s (named_by c next) (turn_events (moment_of s) c) (turn_effect (moment_of s) c).core
-turned s next (Mutator m (New len ds)) law tidy small e = new_turned s next m len ds law tidy e
-turned s next (Mutator m Open) law tidy small e =
+turned : (s : State) (c : Command) → Law s → Between s → WritesBytes c → refusal (moment_of s) c ≡ None →
+    Turned s (turn_events (moment_of s) c) (turn_effect (moment_of s) c).core
+turned s (Mutator m (New len ds)) law between small e = new_turned s m len ds law between e
+turned s (Mutator m Open) law between small e =
     let h = two (nat_lt m s.mutators) (is_opened s m) Range AlreadyOpen e in
-    open_turned s next m law tidy (shut s m h.0 h.1)
-turned s next (Mutator m (Write p from bytes)) law tidy small e =
-    let access = access_fact s next m p from (length bytes) law tidy e in
+    open_turned s m law between (shut s m h.0 h.1)
+turned s (Mutator m (Write p from bytes)) law between small e =
+    let access = access_fact s m p from (length bytes) law between e in
     record {
-      succeed = write_succeeds s next m p from bytes law tidy access small;
-      tidy = write_tidy s next m p from bytes law tidy access small;
-      law = write_law s next m p from bytes law tidy access small;
-      fit = write_fits s next m p from bytes law tidy access small;
-      ends = write_is s next m p from bytes law tidy access small;
+      succeed = write_succeeds s m p from bytes law between access small;
+      between = write_between s m p from bytes law between access small;
+      law = write_law s m p from bytes law between access small;
+      fit = write_fits s m p from bytes law between access small;
+      ends = write_is s m p from bytes law between access small;
     }
-turned s next (Mutator m (Read p from len)) law tidy small e =
-    let access = access_fact s next m p from len law tidy e in
+turned s (Mutator m (Read p from len)) law between small e =
+    let access = access_fact s m p from len law between e in
     record {
-      succeed = read_succeeds s next m p from len law tidy access;
-      tidy = read_tidy s next m p from len law tidy access;
-      law = read_law s next m p from len law tidy access;
-      fit = read_fits s next m p from len law tidy access;
-      ends = read_is s next m p from len law tidy access;
+      succeed = read_succeeds s m p from len law between access;
+      between = read_between s m p from len law between access;
+      law = read_law s m p from len law between access;
+      fit = read_fits s m p from len law between access;
+      ends = read_is s m p from len law between access;
     }
-turned s next (Mutator m Close) law tidy small e = close_turned s next m law tidy (two_open (nat_lt m s.mutators) (is_opened s m) e) where
+turned s (Mutator m Close) law between small e = close_turned s m law between (two_open (nat_lt m s.mutators) (is_opened s m) e) where
   two_open : (a b : Bool) → first_cause ((not a, Range) ∷ (not b, Closed) ∷ []) ≡ None → b ≡ true
   two_open true true f = refl
   two_open true false f = absurd cc
   two_open false b f = absurd cc
-turned s next (Book Logs) law tidy small e = none_turned s next law tidy
+turned s (Mutator m (Where p)) law between small e = none_turned s law between
+turned s (Mutator m (Drop p)) law between small e = drop_turned s m p law between (three (nat_lt m s.mutators) (uses s m p) (is_some (s.held p)) Range NotHeld Held e)
+turned s (Book inquiry) law between small e = none_turned s law between
 
 -- each command: a refused one does nothing
-turn_at : (s : State) (next : ℕ → ℕ) (c : Command) (o : Option Refusal) → refusal (moment_of s) c ≡ o → Law s → Tidy s next → WritesBytes c →
-    Turned s (unless o (λ _. next) (named_by c next)) (unless o (λ _. []) (turn_events (moment_of s) c)) (unless o (λ _. moment_of s) (turn_effect (moment_of s) c)).core
-turn_at s next c None e law tidy small = turned s next c law tidy small e
-turn_at s next c (Some why) e law tidy small = none_turned s next law tidy
+turn_at : (s : State) (c : Command) (o : Option Refusal) → refusal (moment_of s) c ≡ o → Law s → Between s → WritesBytes c →
+    Turned s (unless o (λ _. []) (turn_events (moment_of s) c)) (unless o (λ _. moment_of s) (turn_effect (moment_of s) c)).core
+turn_at s c None e law between small = turned s c law between small e
+turn_at s c (Some why) e law between small = none_turned s law between
 
 -- the events of a command lead to the moment after it
-pub turns : (s : State) (next : ℕ → ℕ) (c : Command) → Law s → Tidy s next → WritesBytes c → Turned s (next_after (moment_of s) c next) (events_for (moment_of s) c) (effect (moment_of s) c).core
-turns s next c law tidy small = turn_at s next c (refusal (moment_of s) c) refl law tidy small
+pub turns : (s : State) (c : Command) → Law s → Between s → WritesBytes c → Turned s (events_for (moment_of s) c) (effect (moment_of s) c).core
+turns s c law between small = turn_at s c (refusal (moment_of s) c) refl law between small
+
+-- what a command that isn't refused makes of the heap is what its events make
+pub made_by_events : (s t : State) (c : Command) → Law s → Between s → WritesBytes c → refusal (moment_of s) c ≡ None → t ≡ (turn_effect (moment_of s) c).core → t ≡ after_events s (events_for (moment_of s) c)
+made_by_events s t c law between small none is =
+    is ∙ sym (turned s c law between small none).ends ∙ ap (λ o. after_events s (unless o (λ _. []) (turn_events (moment_of s) c))) (sym none)

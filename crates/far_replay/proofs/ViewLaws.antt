@@ -20,20 +20,20 @@ use Rattle.far_core.proofs.Leaving.{held_stays}
 use Rattle.far_core.proofs.Put.{put_same, put_other}
 use Rattle.far_replay.specs.Moment.{Moment, moment_of}
 use Rattle.far_replay.specs.Answers.{Answered, Commanded, IsMoment}
-use Rattle.far_replay.specs.Command.{Command, New, Open, Write, Read, Close, Logs, Mutator, Book}
+use Rattle.far_replay.specs.Command.{Command, New, Open, Write, Read, Close, Where, Drop, Mutator, Book}
 use Rattle.far_replay.specs.Written.{WritesBytes, AllWriteBytes}
 use Rattle.far_replay.specs.Headline.{LogsStay, StayThrough, ViewsObject, ViewsNothing, ViewsAfter}
-use Rattle.far_replay.specs.EventRows.{after_events, Succeeds, AllSucceed}
+use Rattle.far_replay.specs.EventRows.{after_events, Succeeds, ComesToPass}
 use Rattle.far_replay.specs.Reply.{Reply, Refused}
-use Rattle.far_replay.specs.Events.{turn_events, zero_puts, new_events, open_events, view_events, load_events, store_events, first_loads, last_loads, part_events, first_word, words_touched, starts_inside, ends_inside}
-use Rattle.far_replay.specs.Objects.{lowest_cell, spliced, data_of}
+use Rattle.far_replay.specs.Events.{turn_events, zero_puts, new_events, open_events, view_events, load_events, store_events, first_loads, last_loads, part_events, drop_events, first_word, words_touched, starts_inside, ends_inside}
+use Rattle.far_replay.specs.Objects.{lowest_cell, with_range, data_of}
 use Rattle.far_replay.specs.Effects.{new_word}
 use Rattle.far_replay.specs.Turn.{refusal, unless, turn_reply, reply_to}
 use Rattle.far_replay.proofs.Lasting.{Lasts, carried, moment_lasts, still_lasts}
 use Rattle.far_replay.proofs.Turns.{turns}
 use Rattle.far_replay.proofs.ViewsRest.{NoClose, ClosesLast, none_closes, fronts_stay, held_now}
 use Rattle.far_replay.proofs.Each.{Each, Each-append, Each-row}
-use Rattle.far_replay.proofs.MadeLemmas.{made-append, AllSucceed-parts}
+use Rattle.far_replay.proofs.MadeLemmas.{made-append, Carries, Carries-front}
 
 -- ---- events that make no view and end none
 abbrev LeavesViews : Event → Type 0
@@ -71,21 +71,24 @@ news m len ds (Some p) (Some place) =
     (((λ _ _ e. absurd cc), (λ _ e. absurd cc)), Each-row LeavesViews (λ i. Puts place.log (place.at + 1 + i) 0) 0 (words_for len) (λ i _. ((λ _ _ e. absurd cc), (λ _ e. absurd cc))))
     (((λ _ _ e. absurd cc), (λ _ e. absurd cc)), (((λ _ _ e. absurd cc), (λ _ e. absurd cc)), tt))
 
+pub dropped : (s : State) (m p : ℕ) → Each LeavesViews (drop_events s m p)
+dropped s m p = (((λ _ _ e. absurd cc), (λ _ e. absurd cc)), (((λ _ _ e. absurd cc), (λ _ e. absurd cc)), (((λ _ _ e. absurd cc), (λ _ e. absurd cc)), tt)))
+
 -- ---- the view of a read or a write
--- a pin that succeeds views its object
-pin_gives : (held : ℕ → Option Place) (p w : ℕ) (m : ℕ) (o : Option Place) → Succeeds (Pins m p) (pin_answer w o) → (place : Place) × (with_hold held p o ≡ put held p (Some place))
+-- a pin that gives a view views its object
+pin_gives : (held : ℕ → Option Place) (p w : ℕ) (m : ℕ) (o : Option Place) → ComesToPass (Pins m p) (pin_answer w o) → (place : Place) × (with_hold held p o ≡ put held p (Some place))
 pin_gives held p w m None ok = absurd ok
 pin_gives held p w m (Some place) ok = (place, refl)
 
-pin_views : (s : State) (m p : ℕ) → Succeeds (Pins m p) (step_of s (Pins m p)).1 → (place : Place) × ((step_of s (Pins m p)).0.held ≡ put s.held p (Some place))
+pin_views : (s : State) (m p : ℕ) → Succeeds (Pins m p) (step_of s (Pins m p)).1 → ComesToPass (Pins m p) (step_of s (Pins m p)).1 → (place : Place) × ((step_of s (Pins m p)).0.held ≡ put s.held p (Some place))
 pin_views s m p = cond_both (is_legal s (Pins m p)) (after s (Pins m p), answer s (Pins m p)) (s, Failed)
-    (λ (x : State × Answer). Succeeds (Pins m p) x.1 → (place : Place) × (x.0.held ≡ put s.held p (Some place)))
-    (λ _ ok. pin_gives s.held p (s.cell p) m (place_to_view (read_of (s.cell p))) ok) (λ _ ok. absurd ok)
+    (λ (x : State × Answer). Succeeds (Pins m p) x.1 → ComesToPass (Pins m p) x.1 → (place : Place) × (x.0.held ≡ put s.held p (Some place)))
+    (λ _ _ come. pin_gives s.held p (s.cell p) m (place_to_view (read_of (s.cell p))) come) (λ _ ok _. absurd ok)
 
-view_made : (s : State) (m p : ℕ) (o : Option Place) → s.held p ≡ o → AllSucceed s (if is_some o then [] else Pins m p ∷ []) → ViewsObject s (after_events s (if is_some o then [] else Pins m p ∷ [])) p
+view_made : (s : State) (m p : ℕ) (o : Option Place) → s.held p ≡ o → Carries s (if is_some o then [] else Pins m p ∷ []) → ViewsObject s (after_events s (if is_some o then [] else Pins m p ∷ [])) p
 view_made s m p (Some place) e ok = record { viewed = ap is_some e; kept = λ place h. h; others = λ q ne. refl }
 view_made s m p None e ok =
-    let x = pin_views s m p ok.0 in
+    let x = pin_views s m p ok.succeed.0 ok.come.0 in
     record {
       viewed = ap (λ (f : ℕ → Option Place). is_some (f p)) x.1 ∙ ap is_some (put_same s.held p (Some x.0) p refl);
       kept = λ place h. absurd cc;
@@ -102,14 +105,14 @@ behind s t p es view q =
       others = λ r ne. ap (λ (f : ℕ → Option Place). f r) same ∙ view.others r ne;
     }
 
-viewed_behind : (s : State) (m p : ℕ) (es : List Event) → AllSucceed s (view_events s m p ++ es) → Each LeavesViews es → ViewsObject s (after_events s (view_events s m p ++ es)) p
+viewed_behind : (s : State) (m p : ℕ) (es : List Event) → Carries s (view_events s m p ++ es) → Each LeavesViews es → ViewsObject s (after_events s (view_events s m p ++ es)) p
 viewed_behind s m p es ok q =
-    let view = view_made s m p (s.held p) refl (AllSucceed-parts s (view_events s m p) es ok).0 in
+    let view = view_made s m p (s.held p) refl (Carries-front s (view_events s m p) es ok) in
     subst (λ t. ViewsObject s t p) (sym (made-append s (view_events s m p) es)) (behind s (after_events s (view_events s m p)) p es view q)
 
-viewed_twice_behind : (s : State) (m p : ℕ) (es fs : List Event) → AllSucceed s (view_events s m p ++ es ++ fs) → Each LeavesViews es → Each LeavesViews fs → ViewsObject s (after_events s (view_events s m p ++ es ++ fs)) p
+viewed_twice_behind : (s : State) (m p : ℕ) (es fs : List Event) → Carries s (view_events s m p ++ es ++ fs) → Each LeavesViews es → Each LeavesViews fs → ViewsObject s (after_events s (view_events s m p ++ es ++ fs)) p
 viewed_twice_behind s m p es fs ok q r =
-    let first = viewed_behind s m p es (AllSucceed-parts s (view_events s m p ++ es) fs ok).0 q in
+    let first = viewed_behind s m p es (Carries-front s (view_events s m p ++ es) fs ok) q in
     subst (λ t. ViewsObject s t p) (sym (made-append s (view_events s m p ++ es) fs)) (behind s (after_events s (view_events s m p ++ es)) p fs first r)
 
 -- a close that succeeds ends its mutator's views
@@ -123,7 +126,7 @@ close_views s m = cond_both (is_legal s (Closes m)) (after s (Closes m), answer 
 
 -- ---- each command
 -- what a refusal leaves, and what its events leave where there is none
-pub views_after : (s : State) (c : Command) (o : Option Refusal) → AllSucceed s (unless o (λ _. []) (turn_events (moment_of s) c)) →
+pub views_after : (s : State) (c : Command) (o : Option Refusal) → Carries s (unless o (λ _. []) (turn_events (moment_of s) c)) →
     ViewsAfter (moment_of s) c (unless o Refused (turn_reply (moment_of s) c)) (moment_of (after_events s (unless o (λ _. []) (turn_events (moment_of s) c))))
 views_after s c (Some why) ok = refused_views s c why where
   refused_views : (s : State) (c : Command) (why : Refusal) → ViewsAfter (moment_of s) c (Refused why) (moment_of s)
@@ -132,22 +135,26 @@ views_after s c (Some why) ok = refused_views s c why where
   refused_views s (Mutator m (Write p from bytes)) why = refl
   refused_views s (Mutator m (Read p from len)) why = refl
   refused_views s (Mutator m Close) why = refl
-  refused_views s (Book Logs) why = refl
+  refused_views s (Mutator m (Where p)) why = refl
+  refused_views s (Mutator m (Drop p)) why = refl
+  refused_views s (Book inquiry) why = refl
 views_after s (Mutator m (New len ds)) None ok = row_stays s (turn_events (moment_of s) (Mutator m (New len ds))) (news m len ds (lowest_cell s m) (room s (size_of len) true))
 views_after s (Mutator m Open) None ok = row_stays s (open_events s m) (opens s m)
 views_after s (Mutator m (Write p from bytes)) None ok =
-    let new : List ℕ = spliced (data_of s p) from bytes in
+    let new : List ℕ = with_range (data_of s p) from bytes in
     viewed_twice_behind s m p (part_events m p from (length bytes)) (store_events m p (first_word from) (words_touched from (length bytes)) new) ok
     (parts m p from (length bytes)) (stores m p (first_word from) (words_touched from (length bytes)) new)
 views_after s (Mutator m (Read p from len)) None ok = viewed_behind s m p (load_events m p (first_word from) (words_touched from len)) ok (loads m p (first_word from) (words_touched from len))
-views_after s (Mutator m Close) None ok = close_views s m ok.0
-views_after s (Book Logs) None ok = refl
+views_after s (Mutator m Close) None ok = close_views s m ok.succeed.0
+views_after s (Mutator m (Where p)) None ok = refl
+views_after s (Mutator m (Drop p)) None ok = row_stays s (drop_events s m p) (dropped s m p)
+views_after s (Book inquiry) None ok = refl
 
 pub views_last : (now : Moment) (c : Command) (r : Reply) (next : Moment) → IsMoment now → WritesBytes c → Commanded now c r next → ViewsAfter now c r next
 views_last now c r next is later h =
     let x = carried now c r next (moment_lasts now is) later h in
     subst (λ y. ViewsAfter now c y next) (sym x.reply)
-    (subst (λ (t : State). ViewsAfter now c (reply_to now c) (moment_of t)) (sym x.state) (views_after now.core c (refusal now c) x.succeed))
+    (subst (λ (t : State). ViewsAfter now c (reply_to now c) (moment_of t)) (sym x.state) (views_after now.core c (refusal now c) x.made))
 
 -- ---- the logs in which views rest stay
 -- a close is the last event of its command
@@ -162,7 +169,7 @@ closes_last : (s : State) (c : Command) → ClosesLast (turn_events (moment_of s
 closes_last s (Mutator m (New len ds)) = none_closes (turn_events (moment_of s) (Mutator m (New len ds))) (no_close (turn_events (moment_of s) (Mutator m (New len ds))) (news m len ds (lowest_cell s m) (room s (size_of len) true)))
 closes_last s (Mutator m Open) = none_closes (open_events s m) (no_close (open_events s m) (opens s m))
 closes_last s (Mutator m (Write p from bytes)) =
-    let new : List ℕ = spliced (data_of s p) from bytes in
+    let new : List ℕ = with_range (data_of s p) from bytes in
     let part : List Event = part_events m p from (length bytes) in
     let stored : List Event = store_events m p (first_word from) (words_touched from (length bytes)) new in
     none_closes (view_events s m p ++ part ++ stored) (Each-append NoClose (view_events s m p ++ part) stored
@@ -171,7 +178,9 @@ closes_last s (Mutator m (Read p from len)) =
     let loaded : List Event = load_events m p (first_word from) (words_touched from len) in
     none_closes (view_events s m p ++ loaded) (view_no_close s m p loaded (no_close loaded (loads m p (first_word from) (words_touched from len))))
 closes_last s (Mutator m Close) = tt
-closes_last s (Book Logs) = tt
+closes_last s (Mutator m (Where p)) = tt
+closes_last s (Mutator m (Drop p)) = none_closes (drop_events s m p) (no_close (drop_events s m p) (dropped s m p))
+closes_last s (Book inquiry) = tt
 
 command_closes_last : (s : State) (c : Command) (o : Option Refusal) → ClosesLast (unless o (λ _. []) (turn_events (moment_of s) c))
 command_closes_last s c None = closes_last s c
@@ -179,7 +188,7 @@ command_closes_last s c (Some why) = tt
 
 stay_through : (now : Moment) (c : Command) → Lasts now → WritesBytes c → StayThrough now c
 stay_through now c lasts later es mid rest front p place =
-    fronts_stay now.core es mid rest lasts.law (subst (Each Fits) (sym front) (turns now.core lasts.next c lasts.law lasts.tidy later).fit)
+    fronts_stay now.core es mid rest lasts.law (subst (Each Fits) (sym front) (turns now.core c lasts.law lasts.between later).fit)
     (subst ClosesLast (sym front) (command_closes_last now.core c (refusal now c))) p place
 
 -- the logs in which views rest stay through each command

@@ -1,5 +1,5 @@
 -- What a view of an object changes, and what it leaves.
-use Rattle.std.proofs.Common.{◌≡◌, ◌≢◌, ℕ, ◌+◌, ◌*◌, ◌/◌, ◌%◌, ◌^◌, true, false, refl, sym, ap, subst, ◌∙◌, arith, [], ◌∷◌, Option, Some, None, bit_or, if◌then◌else◌, is_some}
+use Rattle.std.proofs.Common.{◌≡◌, ◌≢◌, ℕ, ◌/◌, ◌^◌, true, false, refl, sym, ap, subst, ◌∙◌, arith, [], ◌∷◌, Option, Some, None, bit_or, if◌then◌else◌, is_some}
 use Rattle.std.proofs.lemmas.Bool.Decides.{nat_tests}
 use Rattle.far_word.specs.declared.mark.Mark.TheVariants.{Hot}
 use Rattle.far_word.specs.declared.mark.Marks.{Marks}
@@ -7,28 +7,27 @@ use Rattle.far_word.specs.declared.pointer.Place.{Place}
 use Rattle.far_word.specs.declared.pointer.PtrWord.{PtrWord}
 use Rattle.far_word.specs.declared.pointer.PtrWord.TheVariants as pointer
 use Rattle.far_word.specs.declared.pointer.PtrWord.TheVariants.{Near, Far}
-use Rattle.far_word.specs.declared.sizes.TheConstants.{CELLS, LOG_WORDS}
+use Rattle.far_word.specs.declared.sizes.TheConstants.{CELLS}
 use Rattle.far_word.specs.Mark.{position, marks_with}
 use Rattle.far_word.specs.Pointer.{read_of}
 use Rattle.far_core.specs.declared.event.Event.TheVariants.{Pin}
-use Rattle.far_core.specs.declared.event.Reply.TheVariants.{Held}
 use Rattle.far_core.specs.state.Law.{Law}
 use Rattle.far_core.specs.events.Legal.{HoldsObject}
 use Rattle.far_core.specs.state.Spans.{names_place}
 use Rattle.far_core.specs.state.State.{State}
-use Rattle.far_core.specs.events.Step.{is_legal, is_opened, near_data, near_len, data_len, place_to_view, after_pin, with_hold, pin_answer}
-use Rattle.far_core.proofs.Cells.{map_mark, held_near, unused}
+use Rattle.far_core.specs.events.Step.{answer, is_legal, is_opened, near_data, near_len, data_len, place_to_view, after_pin, with_hold}
+use Rattle.far_core.proofs.Cells.{map_mark, held_near}
 use Rattle.far_core.proofs.KeepOwner.{hot_read, nonzero, at_cell}
 use Rattle.far_core.proofs.events.Pin.{keeps_pin}
 use Rattle.far_core.proofs.Guards.{open_fact}
-use Rattle.far_core.proofs.Owing.{is_test}
+use Rattle.far_core.proofs.Owing.{is_test, never_refused}
 use Rattle.far_core.proofs.Put.{put_both, put_same}
 use Rattle.far_replay.specs.Effects.{with_view}
-use Rattle.far_replay.specs.EventRows.{after_events, Succeeds, AllSucceed, AtHand, AllAtHand}
-use Rattle.far_replay.specs.Tidy.{Tidy}
+use Rattle.far_replay.specs.EventRows.{after_events, AllSucceed, AtHand, AllAtHand}
+use Rattle.far_replay.specs.Between.{Between}
 use Rattle.far_replay.specs.Events.{view_events}
 use Rattle.far_replay.specs.Objects.{uses, object_len, named_len}
-use Rattle.far_replay.proofs.MadeLemmas.{made_first, first_succeeds}
+use Rattle.far_replay.proofs.MadeLemmas.{made_first, first_succeeds, not_refused}
 
 -- ---- what HOT leaves as it is
 -- the first data word
@@ -80,7 +79,7 @@ Ready-hot : (o : Option PtrWord) → Ready o → Ready (map_mark Hot o)
 Ready-hot o h = record { len = h.len; ds = h.ds; place = h.place; marks = marks_with Hot h.marks; near = ap (map_mark Hot) h.near; unchosen = h.unchosen; unmoved = h.unmoved; kept = h.kept }
 
 -- a view of it may rest there
-Ready-view : (o : Option PtrWord) (h : Ready o) → place_to_view o ≡ Some h.place
+pub Ready-view : (o : Option PtrWord) (h : Ready o) → place_to_view o ≡ Some h.place
 Ready-view o h = ap place_to_view h.near ∙ rw (h.unchosen, h.unmoved, h.kept) refl
 
 -- an object is held in a state after another, with the same words and the same place and length
@@ -93,7 +92,7 @@ pub record Viewed (s t : State) (m p : ℕ) : Type 0 where
   pub same_len : data_len t p ≡ data_len s p
   pub long : data_len s p ≡ len
 
-module _ (s : State) (next : ℕ → ℕ) (m p : ℕ) (law : Law s) (tidy : Tidy s next) (opened : is_opened s m ≡ true) (ours : uses s m p ≡ true) where
+module _ (s : State) (m p : ℕ) (law : Law s) (between : Between s) (opened : is_opened s m ≡ true) (ours : uses s m p ≡ true) where
   -- the pointer is the owner's
   own : p / CELLS ≡ m
   own = grind (arith, nat_tests)
@@ -104,7 +103,7 @@ module _ (s : State) (next : ℕ → ℕ) (m p : ℕ) (law : Law s) (tidy : Tidy
 
   -- the object may be dereferenced at once
   pub ready : Ready (read_of (s.cell p))
-  ready = ready_of s p (tidy.at_hand p (nonzero s law p used))
+  ready = ready_of s p (between.at_hand p (nonzero s law p used))
 
   -- a new view may rest
   can_view : place_to_view (read_of (s.cell p)) ≡ Some ready.place
@@ -134,12 +133,10 @@ module _ (s : State) (next : ℕ → ℕ) (m p : ℕ) (law : Law s) (tidy : Tidy
 
   -- the view succeeds either way
   succeeds_at : (o : Option Place) → s.held p ≡ o → AllSucceed s (if is_some o then [] else Pin m p ∷ [])
-  succeeds_at None e =
-      let gives : pin_answer (s.cell p) (place_to_view (read_of (s.cell p))) ≡ Held ready.place = ap (pin_answer (s.cell p)) can_view in
-      first_succeeds s (Pin m p) [] (pin_legal e) (subst (Succeeds (Pin m p)) (sym gives) tt) tt
+  succeeds_at None e = first_succeeds s (Pin m p) [] (pin_legal e) (not_refused (Pin m p) (answer s (Pin m p)) (never_refused s (Pin m p))) tt
   succeeds_at (Some place) e = tt
 
-  -- the pin, if there is one, gives a view
+  -- the pin, if there is one, isn't refused
   pub view_succeeds : AllSucceed s (view_events s m p)
   view_succeeds = succeeds_at (s.held p) refl
 
@@ -185,18 +182,6 @@ module _ (s : State) (next : ℕ → ℕ) (m p : ℕ) (law : Law s) (tidy : Tidy
   pub viewed : Viewed s (after_events s (view_events s m p)) m p
   viewed = at_view (λ t. Viewed s t m p) old_viewed pin_viewed
 
-  -- a pin leaves cells that are 0 and cells that aren't
-  pin_named : (q : ℕ) → s.cell q ≢ 0 → (after_pin s p).cell q ≢ 0
-  pin_named q some = put_both (λ w. w ≢ 0) s.cell p (bit_or (s.cell p) (2 ^ position Hot)) q
-      (λ _ z. absurd (hot_some z)) (λ _. some) where
-        hot_some : bit_or (s.cell p) (2 ^ position Hot) ≢ 0
-        hot_some z = let odd : Some (Near ready.len ready.ds ready.place (marks_with Hot ready.marks)) ≡ Some pointer.Free = sym (hot_read s law p used ∙ ap (map_mark Hot) ready.near) ∙ ap read_of z ∙ unused in cc
-
-  -- and cells that are 0
-  pin_unnamed : (q : ℕ) → s.cell q ≡ 0 → (after_pin s p).cell q ≡ 0
-  pin_unnamed q none = put_both (λ w. w ≡ 0) s.cell p (bit_or (s.cell p) (2 ^ position Hot)) q
-      (λ e. absurd (nonzero s law p used (ap s.cell (sym e) ∙ none))) (λ _. none)
-
   -- a pin leaves at hand what was
   pin_hand : (q : ℕ) → (after_pin s p).cell q ≢ 0 → AtHand (after_pin s p) q
   pin_hand q some = put_both (λ w. w ≢ 0 → AtHand (after_pin s p) q) s.cell p (bit_or (s.cell p) (2 ^ position Hot)) q
@@ -206,23 +191,13 @@ module _ (s : State) (next : ℕ → ℕ) (m p : ℕ) (law : Law s) (tidy : Tidy
 
         hand : (r : ℕ) → s.cell r ≢ 0 → AtHand (after_pin s p) r
         hand r ne =
-            let h = tidy.at_hand r ne in
+            let h = between.at_hand r ne in
             hand_of (after_pin s p) r (at_cell s law p used Ready r (Ready-hot (read_of (s.cell r))) (ready_of s r h)) h.used
 
-  -- a pin keeps the heap tidy
-  pin_tidy : Tidy (after_pin s p) next
-  pin_tidy = record {
-    at_hand = pin_hand;
-    most = tidy.most;
-    named = λ k i lt. pin_named (k * CELLS + i) (tidy.named k i lt);
-    unnamed = λ k i low lt. pin_unnamed (k * CELLS + i) (tidy.unnamed k i low lt);
-    sealed = tidy.sealed;
-    free = tidy.free;
-    live = λ a h start head. at_cell s law p used (λ o. names_place o (a / LOG_WORDS) (a % LOG_WORDS) ≡ true) h.pointer
-        (λ k. names_place-hot (read_of (s.cell h.pointer)) (a / LOG_WORDS) (a % LOG_WORDS) ∙ k) (tidy.live a h start head);
-    unread = tidy.unread;
-  }
+  -- a pin leaves what holds between commands
+  pin_between : Between (after_pin s p)
+  pin_between = record { at_hand = pin_hand; unread = between.unread }
 
-  -- the view keeps the heap tidy
-  pub view_tidy : Tidy (after_events s (view_events s m p)) next
-  view_tidy = at_view (λ t. Tidy t next) (λ _ _. tidy) pin_tidy
+  -- so does the view
+  pub view_between : Between (after_events s (view_events s m p))
+  view_between = at_view Between (λ _ _. between) pin_between

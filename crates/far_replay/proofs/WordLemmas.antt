@@ -1,5 +1,5 @@
 -- A number at the front of a text.
-use Rattle.std.proofs.Common.{◌≡◌, ℕ, ◌<◌, ◌≤◌, ◌+◌, ◌*◌, ◌-◌, ◌^◌, List, [], ◌∷◌, ◌++◌, length, take, drop, get_or, Some, None, false, sym, ◌∙◌, ap, refl, arith, below_more}
+use Rattle.std.proofs.Common.{◌≡◌, ℕ, ◌<◌, ◌≤◌, ◌+◌, ◌*◌, ◌-◌, ◌^◌, List, [], ◌∷◌, ◌++◌, length, take, drop, get_or, Some, None, false, zero, suc, add-one, subst, sym, ◌∙◌, ap, refl, arith, below_more}
 use Rattle.std.specs.Int.{IsInRange}
 use Rattle.std.specs.Str.Parse.{digits_value}
 use Rattle.std.proofs.lemmas.Bool.Decides.{nat_tests}
@@ -9,7 +9,7 @@ use Rattle.std.proofs.Math.Seq.{take-length}
 use Rattle.far_replay.specs.Grammar.{number_of, next_number}
 use Rattle.far_replay.specs.Cursor.{is_end, front_of, words_in}
 use Rattle.far_replay.proofs.Cuts.{NoEnds, word_at, word_stops}
-use Rattle.far_replay.proofs.Numbers.{number_empty, number_zero, number_other, number_large, number_by_digits, digit_value_is}
+use Rattle.far_replay.proofs.Numbers.{below_ten, ten_most, number_empty, number_zero, number_other, number_large, number_by_digits, digit_value_is}
 
 abbrev pub Digits : List ℕ → ℕ → Type 0
 Digits text i = (k : ℕ) → k < i → IsInRange 48 57 (get_or text k 0)
@@ -26,20 +26,33 @@ next_none words w rest e n = ap next_number e ∙ rw n refl
 next_some : (words : List (List ℕ)) (w : List ℕ) (rest : List (List ℕ)) (n : ℕ) → words ≡ w ∷ rest → number_of w ≡ Some n → next_number words ≡ Some (n, rest)
 next_some words w rest n e is = ap next_number e ∙ rw is refl
 
--- one more digit makes it too large
-pub over_at : (text : List ℕ) (i n : ℕ) → i < length text → Digits text i → IsInRange 48 57 (get_or text i 0) → n ≡ digits_value 10 (take i text)
-    → 2 ^ 64 ≤ n * 10 + (get_or text i 0 - 48) → next_number (words_in text) ≡ None
-over_at text i n inside digits digit value large =
-    let ends = no_ends text (i + 1) (below_more (λ k. IsInRange 48 57 (get_or text k 0)) i digits digit) in
-    let at = word_at text (i + 1) (omega arith) ends in
-    let more = front_of (words_in (drop (i + 1) text)) in
-    let front = take (i + 1) text in
-    let len : length front ≡ i + 1 = length-take-le (i + 1) text (omega arith) in
-    let same : take (i + 1) (front ++ more) ≡ front = take-append-le (i + 1) front more (omega arith) ∙ ap (λ m. take m front) (sym len) ∙ take-length front in
-    let read = digits_value_more 10 text i inside in
-    let one = digit_value_is (get_or text i 0) digit in
-    let all : 2 ^ 64 ≤ digits_value 10 front = omega arith in
-    next_none (words_in text) (front ++ more) _ at.0 (number_large (front ++ more) (i + 1) (rw same all))
+-- digits that are too large
+pub large_at : (text : List ℕ) (i : ℕ) → i ≤ length text → Digits text i → 2 ^ 64 ≤ digits_value 10 (take i text) → next_number (words_in text) ≡ None
+large_at text i fits digits large =
+    let at = word_at text i fits (no_ends text i digits) in
+    let more = front_of (words_in (drop i text)) in
+    let front = take i text in
+    let len : length front ≡ i = length-take-le i text fits in
+    let same : take i (front ++ more) ≡ front = take-append-le i front more (omega arith) ∙ ap (λ m. take m front) (sym len) ∙ take-length front in
+    next_none (words_in text) (front ++ more) _ at.0 (number_large (front ++ more) i (rw same large))
+
+-- so many digits are below as great a power of ten
+pub digits_below : (text : List ℕ) (i : ℕ) → i ≤ length text → Digits text i → digits_value 10 (take i text) < 10 ^ i
+digits_below text zero fits digits = omega arith
+digits_below text (suc i) fits digits =
+    let one : suc i ≡ i + 1 = sym (add-one i) in
+    let more = digits_value_more 10 text i (omega arith) in
+    let value = digit_value_is (get_or text i 0) (digits i (omega arith)) in
+    let last = digits i (omega arith) in
+    let next = below_ten (digits_value 10 (take i text)) (get_or text i 0 - 48) i (digits_below text i (omega arith) (λ k less. digits k (omega arith))) (omega arith) in
+    subst (λ j. digits_value 10 (take j text) < 10 ^ j) (sym one) (subst (λ v. v < 10 ^ (i + 1)) (sym (more ∙ ap (λ d. digits_value 10 (take i text) * 10 + d) value)) next)
+
+-- nineteen digits are below 2^64
+pub nineteen_fit : (text : List ℕ) (i : ℕ) → i ≤ length text → Digits text i → i < 20 → digits_value 10 (take i text) < 2 ^ 64
+nineteen_fit text i fits digits short =
+    let small = digits_below text i fits digits in
+    let most = ten_most i (omega arith) in
+    omega arith
 
 -- a byte that is no digit, and does not end the word
 pub other_at : (text : List ℕ) (i : ℕ) → i < length text → Digits text i → (IsInRange 48 57 (get_or text i 0) → ⊥) → is_end (get_or text i 0) ≡ false
@@ -61,9 +74,9 @@ none_at text i rest e z = next_none (words_in text) [] rest (ap (λ m. words_in 
 -- a zero before other digits
 pub zero_at : (text : List ℕ) (i : ℕ) (rest : List (List ℕ)) → i ≤ length text → Digits text i → words_in (drop i text) ≡ [] ∷ rest → get_or text 0 0 ≡ 48 → 1 < i
     → next_number (words_in text) ≡ None
-zero_at text i rest h digits e zero long =
+zero_at text i rest h digits e lead long =
     let len : length (take i text) ≡ i = length-take-le i text h in
-    let first : get_or (take i text) 0 0 ≡ 48 = get_or-take i text 0 0 (omega arith) ∙ zero in
+    let first : get_or (take i text) 0 0 ≡ 48 = get_or-take i text 0 0 (omega arith) ∙ lead in
     next_none (words_in text) (take i text) rest (word_stops text i rest h (no_ends text i digits) e) (number_zero (take i text) first (omega arith))
 
 -- digits without leading zeros

@@ -6,10 +6,10 @@ use Rattle.far_word.specs.Sizes.{words_for}
 use Rattle.far_word.proofs.ByteLaws.{length-bytes_of, packs_back}
 use Rattle.far_replay.specs.Effects.{with_row}
 use Rattle.far_replay.specs.Events.{first_word, words_touched}
-use Rattle.far_replay.specs.Objects.{spliced}
+use Rattle.far_replay.specs.Objects.{with_range}
 use Rattle.far_replay.proofs.RangeWrites.{word_same}
 use Rattle.far_core.proofs.Rows.{row_in, row_out, row_is}
-use Rattle.far_replay.proofs.Spliced.{spliced_before, spliced_behind}
+use Rattle.far_replay.proofs.Spliced.{with_range_before, with_range_behind}
 
 module _ (word : ℕ → ℕ) (d len from : ℕ) (bytes : List ℕ) (fits : from + length bytes ≤ len) (some : 0 < length bytes)
     (wide : (a : ℕ) → word a < 2 ^ 64) (pads : (i : ℕ) → i < words_for len → word (d + i) < 2 ^ (8 * (len - 8 * i))) where
@@ -17,7 +17,7 @@ module _ (word : ℕ → ℕ) (d len from : ℕ) (bytes : List ℕ) (fits : from
   old = bytes_of (λ i. word (d + i)) len
 
   abbrev new : List ℕ
-  new = spliced old from bytes
+  new = with_range old from bytes
 
   within : from + length bytes ≤ length old
   within = omega (arith, length-bytes_of (λ i. word (d + i)) len)
@@ -32,8 +32,8 @@ module _ (word : ℕ → ℕ) (d len from : ℕ) (bytes : List ℕ) (fits : from
         where_it_is j small (inr high) = inr (omega arith)
 
         same_byte : (k : ℕ) → (k < from) ⊎ (from + length bytes ≤ k) → get_or new k 0 ≡ get_or old k 0
-        same_byte k (inl low) = spliced_before old from bytes within k low
-        same_byte k (inr high) = spliced_behind old from bytes within k high
+        same_byte k (inl low) = with_range_before old from bytes within k low
+        same_byte k (inr high) = with_range_behind old from bytes within k high
 
   -- the words that the range touches, made new, are all of the object's made new
   pub row_whole : with_row word (d + first_word from) (words_touched from (length bytes)) (λ i. packed_word new (first_word from + i)) ≡ with_row word d (words_for len) (packed_word new)

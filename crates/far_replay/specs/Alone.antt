@@ -1,14 +1,16 @@
 -- The replies to one mutator's lines, by its own lines alone.
 use Rattle.std.specs.Prelude.{◌≡◌, ℕ, ◌+◌, ◌/◌, ◌<◌, ◌≤◌, ◌⊎◌, Bool, true, false, cond, ◌==◌, ◌&&◌, Option, Some, None, List, [], ◌∷◌, length, replicate, slice_range}
 use Rattle.std.specs.Bool.{MatchBool}
-use Rattle.far_word.specs.declared.refused.Refused.TheVariants.{NoRoom, NoPointer, Length, Closed, AlreadyOpen, NotHeld, Range}
+use Rattle.far_word.specs.declared.refused.Refused.TheVariants.{NoRoom, NoPointer, Length, Closed, AlreadyOpen, NotHeld, Range, Held}
 use Rattle.far_word.specs.declared.sizes.TheConstants.{CELLS, LONGEST}
 use Rattle.far_core.specs.state.State.{State, put}
 use Rattle.far_core.specs.world.World.{World, Object}
 use Rattle.far_core.specs.world.WorldOf.{world_of}
-use Rattle.far_replay.specs.Command.{Command, New, Open, Write, Read, Close, Mutator, Book}
-use Rattle.far_replay.specs.Reply.{Reply, Done, Pointer, Data, Refused}
-use Rattle.far_replay.specs.Objects.{spliced}
+use Rattle.far_book.specs.declared.home.Home.{Home}
+use Rattle.far_book.specs.declared.home.Home.TheVariants.{Near, Far}
+use Rattle.far_replay.specs.Command.{Command, New, Open, Write, Read, Close, Where, Drop, Mutator, Book}
+use Rattle.far_replay.specs.Reply.{Reply, Done, Pointer, Data, Lies, Refused}
+use Rattle.far_replay.specs.Objects.{with_range}
 
 -- what a mutator knows of itself: whether its scope is open, the bytes of its objects, and which of them it views
 pub record Own : Type 0 where
@@ -27,12 +29,17 @@ IsOut bytes from count = (count ≡ 0) ⊎ (length bytes < from + count)
 abbrev pub IsIn : List ℕ → ℕ → ℕ → Type 0
 IsIn bytes from count = (0 < count) × (from + count ≤ length bytes)
 
+-- an object that lies near
+abbrev pub IsNear : Home → Type 0
+IsNear (Near place marks) = Unit {0}
+IsNear (Far marks) = ⊥
+
 -- one of its pointers has no object
 abbrev pub HasLeft : ℕ → Own → Type 0
 HasLeft m o = (p : ℕ) × (p / CELLS ≡ m) × (o.object p ≡ None)
 
 -- a command of the mutator m with its reply takes what it knows from o to q. A refusal is the first of its row that applies; which of its own
--- numbers a new object gets, and whether 2 or 3 comes where nothing earlier applies, depends on cells and logs, which it doesn't know
+-- numbers a new object gets, whether 2 or 3 comes where nothing earlier applies, and where an object is, depends on cells and logs, which it doesn't know, but that what it views is near
 abbrev pub Knows : ℕ → Own → Command → Reply → Own → Type 0
 Knows m o (Mutator _ (New len ds)) (Pointer p) q = (ds < 256) × (0 < len) × (len ≤ LONGEST) × (p / CELLS ≡ m) × (o.object p ≡ None) × (q ≡ record o { object = put o.object p (Some (replicate len 0)) })
 Knows m o (Mutator _ (New len ds)) (Refused Range) q = (256 ≤ ds) × (q ≡ o)
@@ -47,10 +54,15 @@ Knows m o (Mutator _ (Read p from len)) (Data bytes) q = (o.opened ≡ true) × 
 Knows m o (Mutator _ (Read p from len)) (Refused Closed) q = (o.opened ≡ false) × (q ≡ o)
 Knows m o (Mutator _ (Read p from len)) (Refused NotHeld) q = (o.opened ≡ true) × (o.object p ≡ None) × (q ≡ o)
 Knows m o (Mutator _ (Read p from len)) (Refused Range) q = (o.opened ≡ true) × (q ≡ o) × ((all : List ℕ) × (o.object p ≡ Some all) × IsOut all from len)
-Knows m o (Mutator _ (Write p from new)) Done q = (o.opened ≡ true) × ((all : List ℕ) × (o.object p ≡ Some all) × IsIn all from (length new) × (q ≡ record o { object = put o.object p (Some (spliced all from new)); viewed = put o.viewed p true }))
+Knows m o (Mutator _ (Write p from new)) Done q = (o.opened ≡ true) × ((all : List ℕ) × (o.object p ≡ Some all) × IsIn all from (length new) × (q ≡ record o { object = put o.object p (Some (with_range all from new)); viewed = put o.viewed p true }))
 Knows m o (Mutator _ (Write p from new)) (Refused Closed) q = (o.opened ≡ false) × (q ≡ o)
 Knows m o (Mutator _ (Write p from new)) (Refused NotHeld) q = (o.opened ≡ true) × (o.object p ≡ None) × (q ≡ o)
 Knows m o (Mutator _ (Write p from new)) (Refused Range) q = (o.opened ≡ true) × (q ≡ o) × ((all : List ℕ) × (o.object p ≡ Some all) × IsOut all from (length new))
+Knows m o (Mutator _ (Where p)) (Lies home) q = (q ≡ o) × (o.viewed p ≡ true → IsNear home) × ((all : List ℕ) × (o.object p ≡ Some all))
+Knows m o (Mutator _ (Where p)) (Refused NotHeld) q = (o.object p ≡ None) × (q ≡ o)
+Knows m o (Mutator _ (Drop p)) Done q = (o.viewed p ≡ false) × (q ≡ record o { object = put o.object p None }) × ((all : List ℕ) × (o.object p ≡ Some all))
+Knows m o (Mutator _ (Drop p)) (Refused NotHeld) q = (o.object p ≡ None) × (q ≡ o)
+Knows m o (Mutator _ (Drop p)) (Refused Held) q = (o.viewed p ≡ true) × (q ≡ o) × ((all : List ℕ) × (o.object p ≡ Some all))
 Knows m o _ _ q = ⊥
 
 -- whose command it is, none's for the logs

@@ -10,7 +10,7 @@ use Rattle.far_core.specs.state.Shape.{is_shape}
 use Rattle.far_replay.specs.Command.{Command, Trace, Nothing, Heap}
 use Rattle.far_replay.specs.Grammar.{trace_of}
 use Rattle.far_replay.specs.Moment.{Moment, moment_of}
-use Rattle.far_replay.specs.Reply.{Reply, Done, Refused, printed}
+use Rattle.far_replay.specs.Reply.{Reply, Done, Refused, reply_text}
 use Rattle.far_replay.specs.declared.running.End.{End}
 use Rattle.far_replay.specs.declared.running.End.TheVariants.{Ran, Refused as Turned}
 use Rattle.far_replay.specs.declared.running.RunFault.{RunFault}
@@ -50,12 +50,12 @@ IsMoment now = (logs mutators : ℕ) × (cs : List Command) × (is_shape (shape_
 -- the output of what a text is read as: off the grammar that refusal alone; for nothing nothing; for a heap out of range its
 -- refusal alone; else `ok` and the lines of the replies, from the heap's first moment on
 abbrev pub IsOutput : Result Trace ℕ → List ℕ → Type 0
-IsOutput (Err line) output = output ≡ printed (Refused (Syntax line))
+IsOutput (Err line) output = output ≡ reply_text (Refused (Syntax line))
 IsOutput (Ok Nothing) output = output ≡ []
 IsOutput (Ok (Heap logs mutators commands)) output =
     MatchBool (is_shape (shape_of logs mutators))
-    ((replies : List Reply) × (moments : List Moment) × Answered (first_moment logs mutators) commands replies moments × (output ≡ flat_map printed (Done ∷ replies)))
-    (output ≡ printed (Refused Shape))
+    ((replies : List Reply) × (moments : List Moment) × Answered (first_moment logs mutators) commands replies moments × (output ≡ flat_map reply_text (Done ∷ replies)))
+    (output ≡ reply_text (Refused Shape))
 
 -- how a text ends that is read so: `Ran` for nothing and for a heap in range
 abbrev pub end_of : Result Trace ℕ → End
@@ -76,7 +76,7 @@ MayMakeHeap _ = ⊥
 -- the heap was refused; a failed read, nothing
 abbrev pub LeavesBehind : RunFault → Option (List ℕ) → Option (List ℕ) → Result Trace ℕ → Type 0
 LeavesBehind faults.Write old new read = (output : List ℕ) × IsOutput read output × AppendsPart old new output
-LeavesBehind faults.Memory old new read = Keeps old new ⊎ (MayMakeHeap read × AppendsFront old new (printed (Refused Memory)))
+LeavesBehind faults.Memory old new read = Keeps old new ⊎ (MayMakeHeap read × AppendsFront old new (reply_text (Refused Memory)))
 LeavesBehind faults.Read old new read = Keeps old new
 
 -- this is the output for the text

@@ -6,9 +6,9 @@ use Rattle.far_replay.specs.declared.command.Command.TheVariants.{Mutator as Spe
 use Rattle.far_replay.specs.declared.command.Entry.{Entry as SpelledEntry}
 use Rattle.far_replay.specs.declared.command.Entry.TheVariants.{Heap as SpelledHeapLine, Command as SpelledCommandLine}
 use Rattle.far_replay.specs.declared.command.Inquiry.{Inquiry as SpelledInquiry}
-use Rattle.far_replay.specs.declared.command.Inquiry.TheVariants.{Logs as SpelledLogs}
+use Rattle.far_replay.specs.declared.command.Inquiry.TheVariants.{Logs as SpelledLogs, Log as SpelledLog, Audit as SpelledAudit}
 use Rattle.far_replay.specs.declared.command.Request.{Request as SpelledRequest}
-use Rattle.far_replay.specs.declared.command.Request.TheVariants.{New as SpelledNew, Open as SpelledOpen, Write as SpelledWrite, Read as SpelledRead, Close as SpelledClose}
+use Rattle.far_replay.specs.declared.command.Request.TheVariants.{New as SpelledNew, Open as SpelledOpen, Write as SpelledWrite, Read as SpelledRead, Close as SpelledClose, Where as SpelledWhere, Drop as SpelledDrop}
 use Rattle.far_replay.specs.declared.text.Trace.{Trace as SpelledTrace}
 use Rattle.far_replay.specs.declared.text.Trace.TheVariants.{Nothing as SpelledNothing, Heap as SpelledHeap}
 
@@ -19,10 +19,14 @@ pub data Request : Type 0 where
   Write : (pointer from : ℕ) (bytes : List ℕ) → Request
   Read : (pointer from len : ℕ) → Request
   Close : Request
+  Where : (pointer : ℕ) → Request
+  Drop : (pointer : ℕ) → Request
 
 -- what the book is asked
 pub data Inquiry : Type 0 where
   Logs : Inquiry
+  Log : (log : ℕ) → Inquiry
+  Audit : Inquiry
 
 pub data Command : Type 0 where
   Mutator : (mutator : ℕ) (request : Request) → Command
@@ -39,24 +43,28 @@ pub data Trace : Type 0 where
   Heap : (logs mutators : ℕ) (commands : List Command) → Trace
 
 -- what is spelled so: the bytes of a write are spelled in hex
-abbrev pub said_request : SpelledRequest → Request
-said_request (SpelledNew len structure) = New len structure
-said_request SpelledOpen = Open
-said_request (SpelledWrite pointer from bytes) = Write pointer from (hex_bytes bytes.digits.now)
-said_request (SpelledRead pointer from len) = Read pointer from len
-said_request SpelledClose = Close
+abbrev pub as_request : SpelledRequest → Request
+as_request (SpelledNew len structure) = New len structure
+as_request SpelledOpen = Open
+as_request (SpelledWrite pointer from bytes) = Write pointer from (hex_bytes bytes.digits.now)
+as_request (SpelledRead pointer from len) = Read pointer from len
+as_request SpelledClose = Close
+as_request (SpelledWhere pointer) = Where pointer
+as_request (SpelledDrop pointer) = Drop pointer
 
-abbrev pub said_inquiry : SpelledInquiry → Inquiry
-said_inquiry SpelledLogs = Logs
+abbrev pub as_inquiry : SpelledInquiry → Inquiry
+as_inquiry SpelledLogs = Logs
+as_inquiry (SpelledLog log) = Log log
+as_inquiry SpelledAudit = Audit
 
-abbrev pub said : Spelled → Command
-said (SpelledMutator mutator request) = Mutator mutator (said_request request)
-said (SpelledBook inquiry) = Book (said_inquiry inquiry)
+abbrev pub as_command : Spelled → Command
+as_command (SpelledMutator mutator request) = Mutator mutator (as_request request)
+as_command (SpelledBook inquiry) = Book (as_inquiry inquiry)
 
-abbrev pub said_entry : SpelledEntry → Entry
-said_entry (SpelledHeapLine logs mutators) = HeapLine logs mutators
-said_entry (SpelledCommandLine command) = CommandLine (said command)
+abbrev pub as_entry : SpelledEntry → Entry
+as_entry (SpelledHeapLine logs mutators) = HeapLine logs mutators
+as_entry (SpelledCommandLine command) = CommandLine (as_command command)
 
-abbrev pub said_trace : SpelledTrace → Trace
-said_trace SpelledNothing = Nothing
-said_trace (SpelledHeap logs mutators commands) = Heap logs mutators (map said commands.items)
+abbrev pub as_trace : SpelledTrace → Trace
+as_trace SpelledNothing = Nothing
+as_trace (SpelledHeap logs mutators commands) = Heap logs mutators (map as_command commands.items)

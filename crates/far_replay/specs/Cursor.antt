@@ -1,7 +1,7 @@
 -- How far a text is read: what the words and the lines are that are left of it.
 use Rattle.std.specs.Prelude.{ℕ, Bool, ◌||◌, ◌==◌, List, [], ◌∷◌, Option, Some, None}
 use Rattle.std.specs.Borrow.{Bor}
-use Rattle.far_replay.specs.Command.{said_entry}
+use Rattle.far_replay.specs.Command.{as_entry}
 use Rattle.far_replay.specs.Grammar.{Line, Skipped, Saying, line_words, lines_of}
 use Rattle.far_replay.specs.declared.cursor.Rest.{Rest}
 use Rattle.far_replay.specs.declared.cursor.Rest.TheVariants.{Words, Lines}
@@ -47,6 +47,6 @@ lines_after (Words text) = lines_after_first text.now
 lines_after (Lines lines) = lines_left lines
 
 -- the line that is spelled so
-abbrev pub said_line : Spelled → Line
-said_line SpelledSkipped = Skipped
-said_line (SpelledSaid entry) = Saying (said_entry entry)
+abbrev pub as_line : Spelled → Line
+as_line SpelledSkipped = Skipped
+as_line (SpelledSaid entry) = Saying (as_entry entry)

@@ -1,5 +1,6 @@
 -- What the calls of a mutator make of a heap's core: one function on states for each.
-use Rattle.std.specs.Prelude.{ℕ, ◌+◌, ◌-◌, true, false, cond, ◌&&◌, nat_lt, nat_le, Option, Some, None, is_some, List, if◌then◌else◌}
+use Rattle.std.specs.Prelude.{ℕ, ◌+◌, true, false, Option, Some, None, is_some, List, if◌then◌else◌}
+use Rattle.far_word.specs.declared.mark.Mark.TheVariants.{Dropped}
 use Rattle.far_word.specs.declared.pointer.Place.{Place}
 use Rattle.far_word.specs.declared.pointer.PtrWord.TheVariants.{Near}
 use Rattle.far_word.specs.Bytes.{packed_word}
@@ -7,9 +8,11 @@ use Rattle.far_word.specs.Header.{head_word}
 use Rattle.far_word.specs.Pointer.{read_of, word_of}
 use Rattle.far_word.specs.Sizes.{words_for}
 pub use Rattle.far_core.specs.events.Ranges.{with_row}
-use Rattle.far_core.specs.events.Step.{after_pin, with_span, scope_word_of, near_data, data_len}
+use Rattle.far_core.specs.declared.event.Event.TheVariants.{Ask}
+use Rattle.far_core.specs.events.Step.{after, after_pin, with_span, scope_word_of, near_data, data_len}
 use Rattle.far_core.specs.state.State.{State, put, addr}
-use Rattle.far_replay.specs.Objects.{data_of, spliced}
+use Rattle.far_book.specs.book.Effects.{retired}
+use Rattle.far_replay.specs.Objects.{data_of, with_range}
 
 -- the word of a cell that names a new place
 abbrev pub new_word : ℕ → ℕ → Place → ℕ
@@ -39,5 +42,9 @@ with_view s p = if is_some (s.held p) then s else after_pin s p
 -- an object has other bytes in the place of those from here on
 abbrev pub with_data : State → ℕ → ℕ → List ℕ → State
 with_data s p from bytes = record s {
-  word = with_row s.word (near_data (read_of (s.cell p))) (words_for (data_len s p)) (packed_word (spliced (data_of s p) from bytes));
+  word = with_row s.word (near_data (read_of (s.cell p))) (words_for (data_len s p)) (packed_word (with_range (data_of s p) from bytes));
 }
+
+-- an object is dropped: its owner asks for it, and its cell is retired
+abbrev pub without_object : State → ℕ → ℕ → State
+without_object s m p = retired (after s (Ask m p Dropped)) p

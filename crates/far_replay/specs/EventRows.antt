@@ -13,16 +13,24 @@ use Rattle.far_core.specs.events.Step.{step_of, is_legal}
 pub use Rattle.far_core.specs.events.Ranges.{after_events}
 use Rattle.far_core.specs.world.Runs.{Passes}
 
--- what an event is for comes to pass: none is refused, a pin gives a view, and a naming wins
+-- the event isn't refused
 abbrev pub Succeeds : Event → Reply → Type 0
 Succeeds e Refused = ⊥
-Succeeds (Pin m p) (Word w) = ⊥
-Succeeds (Name p old new) (Word w) = ⊥
 Succeeds e r = Unit {0}
 
 abbrev pub AllSucceed : State → List Event → Type 0
 AllSucceed s [] = Unit {0}
 AllSucceed s (e ∷ es) = Succeeds e (step_of s e).1 × AllSucceed (step_of s e).0 es
+
+-- what an event is for comes to pass: a pin gives a view, and a naming wins
+abbrev pub ComesToPass : Event → Reply → Type 0
+ComesToPass (Pin m p) (Word w) = ⊥
+ComesToPass (Name p old new) (Word w) = ⊥
+ComesToPass e r = Unit {0}
+
+abbrev pub AllComeToPass : State → List Event → Type 0
+AllComeToPass s [] = Unit {0}
+AllComeToPass s (e ∷ es) = ComesToPass e (step_of s e).1 × AllComeToPass (step_of s e).0 es
 
 -- each event of a row is legal, and after it the state has the law, and agrees with what its owners view
 abbrev pub AllPass : State → List Event → Type 0

@@ -1,18 +1,20 @@
 -- The events of a core by which a command is carried out: a list for each.
 use Rattle.std.specs.Prelude.{ℕ, ◌+◌, ◌-◌, ◌*◌, ◌/◌, ◌%◌, Bool, true, ◌==◌, ◌||◌, ◌&&◌, not, nat_lt, Option, Some, None, is_some, List, [], ◌∷◌, ◌++◌, length, map, if◌then◌else◌}
 use Rattle.std.specs.List.{range_with_len}
+use Rattle.far_word.specs.declared.mark.Mark.TheVariants.{Dropped}
 use Rattle.far_word.specs.declared.pointer.Place.{Place}
 use Rattle.far_word.specs.Bytes.{packed_word}
 use Rattle.far_word.specs.Header.{head_word}
 use Rattle.far_word.specs.Sizes.{size_of, words_for}
 use Rattle.far_core.specs.declared.event.Event.{Event}
-use Rattle.far_core.specs.declared.event.Event.TheVariants.{ReadEpoch as ReadsEpoch, Open as Opens, Pin as Pins, Load as Loads, Store as Stores, Close as Closes, Adopt as Adopts, Put as Puts, Name as Names}
+use Rattle.far_core.specs.declared.event.Event.TheVariants.{ReadEpoch as ReadsEpoch, Open as Opens, Pin as Pins, Load as Loads, Store as Stores, Close as Closes, Adopt as Adopts, Put as Puts, Name as Names, Ask as Asks, See as Sees}
+use Rattle.far_core.specs.events.Step.{after}
 use Rattle.far_core.specs.state.Room.{room}
 use Rattle.far_core.specs.state.State.{State}
-use Rattle.far_replay.specs.Command.{Command, New, Open, Write, Read, Close, Logs, Mutator, Book}
+use Rattle.far_replay.specs.Command.{Command, New, Open, Write, Read, Close, Where, Drop, Mutator, Book}
 use Rattle.far_replay.specs.Effects.{new_word}
 use Rattle.far_replay.specs.Moment.{Moment}
-use Rattle.far_replay.specs.Objects.{data_of, spliced, lowest_cell}
+use Rattle.far_replay.specs.Objects.{data_of, with_range, lowest_cell}
 use Rattle.far_replay.specs.Turn.{refusal, unless}
 
 -- a new object: its header and zeros are put, its cell is named, and its owner adopts it
@@ -62,15 +64,21 @@ part_events m p from count = first_loads m p from count ++ last_loads m p from c
 abbrev pub store_events : ℕ → ℕ → ℕ → ℕ → List ℕ → List Event
 store_events m p first count after = map (λ i. Stores m p i (packed_word after i)) (range_with_len first count)
 
+-- an object is dropped: its owner asks for it, and its cell is looked at and freed
+abbrev pub drop_events : State → ℕ → ℕ → List Event
+drop_events s m p = Asks m p Dropped ∷ Sees p ∷ Names p ((after s (Asks m p Dropped)).cell p) 0 ∷ []
+
 abbrev pub turn_events : Moment → Command → List Event
 turn_events now (Mutator m (New len ds)) = new_events m len ds (lowest_cell now.core m) (room now.core (size_of len) true)
 turn_events now (Mutator m Open) = open_events now.core m
 turn_events now (Mutator m (Write p from bytes)) =
     view_events now.core m p ++ part_events m p from (length bytes)
-    ++ store_events m p (first_word from) (words_touched from (length bytes)) (spliced (data_of now.core p) from bytes)
+    ++ store_events m p (first_word from) (words_touched from (length bytes)) (with_range (data_of now.core p) from bytes)
 turn_events now (Mutator m (Read p from len)) = view_events now.core m p ++ load_events m p (first_word from) (words_touched from len)
 turn_events now (Mutator m Close) = Closes m ∷ []
-turn_events now (Book Logs) = []
+turn_events now (Mutator m (Where p)) = []
+turn_events now (Mutator m (Drop p)) = drop_events now.core m p
+turn_events now (Book inquiry) = []
 
 -- a refused command makes no event
 abbrev pub events_for : Moment → Command → List Event

@@ -3,7 +3,7 @@ use Rattle.std.specs.Prelude.{◌≡◌, ℕ, Bool, ◌&&◌, ◌^◌, nat_lt, n
 use Rattle.std.specs.Str.{bytes_eq}
 use Rattle.std.specs.Str.Parse.{digits_value}
 use Rattle.std.specs.List.{slice_split, list_all}
-use Rattle.far_replay.specs.Command.{Command, Entry, HeapLine, CommandLine, Trace, Nothing, Heap, New, Open, Write, Read, Close, Logs, Mutator, Book}
+use Rattle.far_replay.specs.Command.{Command, Entry, HeapLine, CommandLine, Trace, Nothing, Heap, New, Open, Write, Read, Close, Where, Drop, Logs, Log, Audit, Mutator, Book}
 use Rattle.far_replay.specs.HexWord.{is_hex_word, hex_bytes}
 use Rattle.far_replay.specs.declared.hex_word.TheConstants.{LONGEST_LINE}
 use Rattle.far_replay.specs.declared.text.TheConstants.{LONGEST_TEXT}
@@ -29,15 +29,15 @@ abbrev pub next_number : List (List ℕ) → Option (ℕ × List (List ℕ))
 next_number [] = None
 next_number (word ∷ words) = number_of word >>= λ n. Some (n, words)
 
--- the bytes that the first word spells, and the words after it
-abbrev pub next_bytes : List (List ℕ) → Option (List ℕ × List (List ℕ))
-next_bytes [] = None
-next_bytes (word ∷ words) = bytes_in word >>= λ bytes. Some (bytes, words)
+-- the bytes that a word spells, where it is the last one
+abbrev pub last_bytes : List (List ℕ) → Option (List ℕ)
+last_bytes (word ∷ []) = bytes_in word
+last_bytes words = None
 
 -- the entry, where no words are left
-abbrev pub ended : List (List ℕ) → Entry → Option Entry
-ended [] entry = Some entry
-ended (word ∷ words) entry = None
+abbrev pub entry_at_end : List (List ℕ) → Entry → Option Entry
+entry_at_end [] entry = Some entry
+entry_at_end (word ∷ words) entry = None
 
 -- ---- what stands after a line's name
 -- what is made of n numbers
@@ -56,8 +56,8 @@ numbers_then zero make rest words = rest make words
 numbers_then (suc n) make rest words = next_number words >>= λ first. numbers_then n (make first.0) rest first.1
 
 abbrev pub entry_from : Operands → List (List ℕ) → Option Entry
-entry_from (Numbers n make) words = numbers_then n make (λ entry after. ended after entry) words
-entry_from (NumbersAndBytes n make) words = numbers_then n make (λ entry after. next_bytes after >>= λ bytes. ended bytes.1 (entry bytes.0)) words
+entry_from (Numbers n make) words = numbers_then n make (λ entry after. entry_at_end after entry) words
+entry_from (NumbersAndBytes n make) words = numbers_then n make (λ entry after. last_bytes after >>= λ bytes. Some (entry bytes)) words
 
 -- ---- the lines by their names
 -- a mutator's number stands before what it asks for
@@ -76,6 +76,15 @@ asks_close m = CommandLine (Mutator m Close)
 abbrev pub asks_new : From 3 Entry
 asks_new m len structure = CommandLine (Mutator m (New len structure))
 
+abbrev pub asks_where : From 2 Entry
+asks_where m p = CommandLine (Mutator m (Where p))
+
+abbrev pub asks_drop : From 2 Entry
+asks_drop m p = CommandLine (Mutator m (Drop p))
+
+abbrev pub asks_log : From 1 Entry
+asks_log log = CommandLine (Book (Log log))
+
 abbrev pub table : List (List ℕ × Operands)
 table =
     (codes "read", Numbers 4 asks_read)
@@ -85,6 +94,10 @@ table =
     ∷ (codes "new", Numbers 3 asks_new)
     ∷ (codes "heap", Numbers 2 HeapLine)
     ∷ (codes "logs", Numbers 0 (CommandLine (Book Logs)))
+    ∷ (codes "where", Numbers 2 asks_where)
+    ∷ (codes "drop", Numbers 2 asks_drop)
+    ∷ (codes "log", Numbers 1 asks_log)
+    ∷ (codes "audit", Numbers 0 (CommandLine (Book Audit)))
     ∷ []
 
 -- the entry of this name in a table, by the words after the name

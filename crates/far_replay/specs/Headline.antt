@@ -1,33 +1,38 @@
 -- What a trace program's outputs say: the laws over whole texts and whole lists of commands.
-use Rattle.std.specs.Prelude.{◌≡◌, ◌≢◌, ◌↔◌, ℕ, ◌+◌, ◌*◌, ◌/◌, ◌^◌, ◌<◌, ◌≤◌, true, is_some, decimal, Some, None, Ok, List, [], ◌∷◌, ◌++◌, length, replicate, slice_index, map, All, Contains}
-use Rattle.std.specs.List.{flat_map, range_with_len}
+use Rattle.std.specs.Prelude.{◌≡◌, ◌≢◌, ◌↔◌, ℕ, ◌+◌, ◌*◌, ◌/◌, ◌^◌, ◌<◌, ◌≤◌, true, false, is_some, eqb, sum, codes, decimal, Some, None, Ok, List, [], ◌∷◌, ◌++◌, length, replicate, slice_index, map, All, Contains}
+use Rattle.std.specs.List.{flat_map, range_with_len, IsDistinct}
 use Rattle.hex.specs.Hex.{IsBytes}
+use Rattle.far_word.specs.declared.mark.Marks.{Marks}
 use Rattle.far_word.specs.declared.pointer.Place.{Place}
+use Rattle.far_word.specs.declared.pointer.PtrWord.TheVariants as pointer
 use Rattle.far_word.specs.declared.refused.Refused.{Refused as Refusal}
-use Rattle.far_word.specs.declared.refused.Refused.TheVariants.{NoRoom, NoPointer, Length, Closed, AlreadyOpen, NotHeld, Range, Marked, Syntax, BadChoice, StillOpen}
+use Rattle.far_word.specs.declared.refused.Refused.TheVariants.{NoRoom, NoPointer, Length, Closed, AlreadyOpen, NotHeld, Range, Held, Marked, Syntax, BadChoice, StillOpen}
 use Rattle.far_word.specs.declared.sizes.TheConstants.{CELLS, LOG_WORDS, LONGEST}
-use Rattle.far_word.specs.Sizes.{size_of}
+use Rattle.far_word.specs.Pointer.{read_of}
+use Rattle.far_word.specs.Sizes.{size_of, bytes_taken}
 use Rattle.far_core.specs.declared.event.Kind.TheVariants as kinds
 use Rattle.far_core.specs.declared.event.Event.{Event}
 use Rattle.far_core.specs.state.Law.{Law}
-use Rattle.far_core.specs.laws.Observed.{live_bytes, dead_bytes, unused_bytes, HasOnePlace, NamesOnce}
+use Rattle.far_core.specs.laws.Observed.{live_bytes, dead_bytes, unused_bytes, HasOnePlace, NamesOnce, OneLive}
 use Rattle.far_core.specs.state.Room.{room}
 use Rattle.far_core.specs.state.Shape.{is_shape}
 use Rattle.far_core.specs.state.State.{State, put}
-use Rattle.far_core.specs.world.World.{Group}
+use Rattle.far_core.specs.world.World.{Object, Group, FarSide}
 use Rattle.far_core.specs.world.WorldOf.{world_of}
+use Rattle.far_book.specs.declared.home.Home.{Home}
+use Rattle.far_book.specs.declared.home.Home.TheVariants.{Near, Far}
 use Rattle.far_replay.specs.Alone.{Alone, Knows, Learns, Own, nothing}
 use Rattle.far_replay.specs.Answers.{Answered, Answers, Commanded, IsMoment, shape_of, first_moment}
-use Rattle.far_replay.specs.Command.{Command, Heap, CommandLine, New, Open, Write, Read, Close, Logs as AsksLogs, Mutator, Book}
+use Rattle.far_replay.specs.Command.{Command, Heap, CommandLine, New, Open, Write, Read, Close, Where, Drop, Logs as AsksLogs, Log, Audit, Mutator, Book}
 use Rattle.far_replay.specs.Grammar.{trace_of}
 use Rattle.far_replay.specs.Moment.{Moment}
-use Rattle.far_replay.specs.EventRows.{after_events, AllPass, AllSucceed, AtHand, AllAtHand}
+use Rattle.far_replay.specs.EventRows.{after_events, AllPass, AllSucceed, AllComeToPass, AtHand, AllAtHand}
 use Rattle.far_replay.specs.Events.{events_for}
-use Rattle.far_replay.specs.Objects.{spliced}
+use Rattle.far_replay.specs.Objects.{with_range, uses}
 use Rattle.far_replay.specs.Says.{Says}
 use Rattle.far_replay.specs.Stays.{Stays}
 use Rattle.far_replay.specs.Written.{WritesBytes, AllWriteBytes}
-use Rattle.far_replay.specs.Reply.{Reply, Done, Pointer, Data, Logs, Refused, LogLine, printed}
+use Rattle.far_replay.specs.Reply.{Reply, Done, Pointer, Data, Logs, Lies, Audited, Refused, LogLine, Counts, reply_text}
 
 -- a log in which a view rests in s isn't free in t
 abbrev pub LogStays : State → State → Type 0
@@ -49,11 +54,13 @@ IsAtHandFor now (Mutator m (Write p from bytes)) = now.core.cell p ≢ 0 → AtH
 IsAtHandFor now (Mutator m (Read p from len)) = now.core.cell p ≢ 0 → AtHand now.core p
 IsAtHandFor now c = Unit {0}
 
--- the events of a command lead from a moment to the next: each is legal, and keeps the law and agreement; where its object is at hand each comes to pass
+-- the events of a command lead from a moment to the next: each is legal, none is refused, and each keeps the law and agreement; where the command's object is at hand
+-- a pin gives a view, and a naming wins
 pub record Reaches (now : Moment) (c : Command) (after : Moment) : Type 0 where
   pub ends : after.core ≡ after_events now.core (events_for now c)
   pub pass : AllPass now.core (events_for now c)
-  pub succeed : IsAtHandFor now c → AllSucceed now.core (events_for now c)
+  pub succeed : AllSucceed now.core (events_for now c)
+  pub come : IsAtHandFor now c → AllComeToPass now.core (events_for now c)
 
 -- what is true of each moment of an output
 pub record Lawful (now : Moment) : Type 0 where
@@ -81,6 +88,12 @@ MayRefuse (Mutator m (Read p from len)) NotHeld = Unit {0}
 MayRefuse (Mutator m (Write p from bytes)) Range = Unit {0}
 MayRefuse (Mutator m (Write p from bytes)) Closed = Unit {0}
 MayRefuse (Mutator m (Write p from bytes)) NotHeld = Unit {0}
+MayRefuse (Mutator m (Where p)) Range = Unit {0}
+MayRefuse (Mutator m (Where p)) NotHeld = Unit {0}
+MayRefuse (Mutator m (Drop p)) Range = Unit {0}
+MayRefuse (Mutator m (Drop p)) NotHeld = Unit {0}
+MayRefuse (Mutator m (Drop p)) Held = Unit {0}
+MayRefuse (Book (Log l)) Range = Unit {0}
 MayRefuse c why = ⊥
 
 -- a line tells a log's kind and its live, dead and unused bytes, which make 1,024
@@ -95,6 +108,36 @@ pub record TellsLog (now : Moment) (line : LogLine) : Type 0 where
 abbrev pub TellsAll : Moment → Reply → Type 0
 TellsAll now (Logs lines) = (map (λ line. line.log) lines ≡ range_with_len 0 now.core.logs) × ((line : LogLine) → Contains lines line → TellsLog now line)
 TellsAll now _ = ⊥
+
+-- what is told of a pointer's object is so: the cell says it; near, it has one span, at the place that is told, and in the world it is in that log; far, it is on the far side
+abbrev pub TellsHome : State → ℕ → Home → Type 0
+TellsHome s p (Near place marks) = (len ds : ℕ) × (o : Object) × (read_of (s.cell p) ≡ Some (pointer.Near len ds place marks)) × OneLive s p len ds place
+    × ((world_of s).object p ≡ Some o) × (o.home ≡ Group place.log)
+TellsHome s p (Far marks) = (len ds : ℕ) × (o : Object) × (read_of (s.cell p) ≡ Some (pointer.Far len ds marks)) × ((world_of s).object p ≡ Some o) × (o.home ≡ FarSide)
+
+-- so many numbers have a property: a list has each of them once, and no other
+abbrev pub IsHowMany : (ℕ → Type 0) → ℕ → Type 0
+IsHowMany P n = (ks : List ℕ) × (length ks ≡ n) × IsDistinct eqb ks × ((k : ℕ) → Contains ks k ↔ P k)
+
+-- a number has an object
+abbrev pub HasObject : State → ℕ → Type 0
+HasObject s p = (o : Object) × ((world_of s).object p ≡ Some o)
+
+-- the counts are of what there is: all objects, which are near, and what each log tells of its live bytes
+pub record CountsAll (now : Moment) (counts : Counts) : Type 0 where
+  pub near : IsHowMany (HasObject now.core) counts.near
+  pub far : counts.far ≡ 0
+  pub live : (lines : List LogLine) (after : Moment) → Commanded now (Book AsksLogs) (Logs lines) after → counts.live ≡ sum (map (λ line. line.live) lines)
+
+-- what an object leaves that is dropped: no object of its pointer, whose cell is free and which its owner doesn't use; all other objects, the words and spans of
+-- the logs, views and all else stay; and the bytes that it took, if it lay near, are dead in its log
+pub record EndsObject (s t : State) (p : ℕ) : Type 0 where
+  pub object : (world_of t).object ≡ put (world_of s).object p None
+  pub rest : t ≡ record s { cell = put s.cell p 0; used = put s.used p false }
+  pub live : (len ds : ℕ) (place : Place) (marks : Marks) → read_of (s.cell p) ≡ Some (pointer.Near len ds place marks) → live_bytes t place.log + bytes_taken len ≡ live_bytes s place.log
+  pub dead : (len ds : ℕ) (place : Place) (marks : Marks) → read_of (s.cell p) ≡ Some (pointer.Near len ds place marks) → dead_bytes t place.log ≡ dead_bytes s place.log + bytes_taken len
+  pub others : (len ds : ℕ) (place : Place) (marks : Marks) → read_of (s.cell p) ≡ Some (pointer.Near len ds place marks) → (l : ℕ) → l ≢ place.log →
+      (live_bytes t l ≡ live_bytes s l) × (dead_bytes t l ≡ dead_bytes s l)
 
 -- a command views an object: it is viewed then, where it was already if it was, and all other views stay
 pub record ViewsObject (s t : State) (p : ℕ) : Type 0 where
@@ -143,23 +186,32 @@ IsRefusalToldInFull (StillOpen mutator epoch) = ⊥
 IsRefusalToldInFull (Syntax line) = line < 2 ^ 64
 IsRefusalToldInFull why = Unit {0}
 
+abbrev pub IsHomeToldInFull : Home → Type 0
+IsHomeToldInFull (Near place marks) = (place.log < 2 ^ 64) × (place.at < 2 ^ 64)
+IsHomeToldInFull (Far marks) = Unit {0}
+
+abbrev pub AreCountsToldInFull : Counts → Type 0
+AreCountsToldInFull counts = (counts.near < 2 ^ 64) × (counts.far < 2 ^ 64) × (counts.live < 2 ^ 64)
+
 abbrev pub IsToldInFull : Reply → Type 0
 IsToldInFull Done = Unit {0}
 IsToldInFull (Pointer pointer) = pointer < 2 ^ 64
 IsToldInFull (Data bytes) = IsBytes bytes
 IsToldInFull (Logs lines) = AreToldInFull lines
+IsToldInFull (Lies home) = IsHomeToldInFull home
+IsToldInFull (Audited counts) = AreCountsToldInFull counts
 IsToldInFull (Refused why) = IsRefusalToldInFull why
 
 -- ---- the laws
 -- replies that their lines tell in full are equal where they are printed alike
 abbrev pub PrintedAlike : Type 0
-PrintedAlike = (r q : Reply) → IsToldInFull r → IsToldInFull q → printed r ≡ printed q → r ≡ q
+PrintedAlike = (r q : Reply) → IsToldInFull r → IsToldInFull q → reply_text r ≡ reply_text q → r ≡ q
 
--- a line says a mutator's command exactly where the word after its name is the mutator's number, among lines that say commands
+-- among lines that say commands, a line says a mutator's exactly where the word after its name is the mutator's number, but for `log`, after which a log's number stands
 abbrev pub LinesAreNumbered : Type 0
 LinesAreNumbered = (words : List (List ℕ)) (c : Command) (m : ℕ) → m < 2 ^ 64 → Says words (CommandLine c) →
-    (IsSaidBy m c → (name : List ℕ) × (rest : List (List ℕ)) × (words ≡ name ∷ decimal m ∷ rest))
-    × ((name : List ℕ) (rest : List (List ℕ)) → words ≡ name ∷ decimal m ∷ rest → IsSaidBy m c)
+    (IsSaidBy m c → (name : List ℕ) × (rest : List (List ℕ)) × (words ≡ name ∷ decimal m ∷ rest) × (name ≢ codes "log"))
+    × ((name : List ℕ) (rest : List (List ℕ)) → words ≡ name ∷ decimal m ∷ rest → name ≢ codes "log" → IsSaidBy m c)
 
 -- what an output says, from its text on: where the text is read as a heap in range and commands, there are the replies and the moments of this output; the lines tell
 -- the replies in full; each moment has the law, and in it objects are whole; the logs in which views rest stay; and the replies to each mutator's lines are what its own
@@ -169,7 +221,7 @@ pub record IsSound (logs mutators : ℕ) (cs : List Command) (output : List ℕ)
   pub moments : List Moment
   pub bytes : AllWriteBytes cs
   pub answered : Answered (first_moment logs mutators) cs replies moments
-  pub printed_so : output ≡ flat_map printed (Done ∷ replies)
+  pub printed_so : output ≡ flat_map reply_text (Done ∷ replies)
   pub plain : All IsToldInFull replies
   pub lawful : All Lawful (first_moment logs mutators ∷ moments)
   pub whole : All (λ (now : Moment). IsWhole now.core) (first_moment logs mutators ∷ moments)
@@ -215,6 +267,28 @@ UnknownMutatorsAreRefused = (now : Moment) (c : Command) (r : Reply) (after : Mo
 -- what `logs` tells
 abbrev pub LogsAreTold : Type 0
 LogsAreTold = (now : Moment) (r : Reply) (after : Moment) → Law now.core → Commanded now (Book AsksLogs) r after → TellsAll now r
+
+-- `where` of a pointer that the mutator uses tells its object's place, and of any other is refused 7
+abbrev pub WhereTells : Type 0
+WhereTells = (now : Moment) (m p : ℕ) (r : Reply) (after : Moment) → Law now.core → m < now.core.mutators → Commanded now (Mutator m (Where p)) r after →
+    (uses now.core m p ≡ true → (home : Home) × (r ≡ Lies home) × TellsHome now.core p home) × (uses now.core m p ≢ true → r ≡ Refused NotHeld)
+
+-- `log` of a log of the heap tells the line that `logs` has for it, and of any other is refused 8
+abbrev pub LogTellsItsLine : Type 0
+LogTellsItsLine = (now : Moment) (l : ℕ) (r : Reply) (after : Moment) → Commanded now (Book (Log l)) r after →
+    (l < now.core.logs → (lines : List LogLine) (later : Moment) → Commanded now (Book AsksLogs) (Logs lines) later → (line : LogLine) × (r ≡ Logs (line ∷ [])) × (line.log ≡ l) × Contains lines line)
+    × (now.core.logs ≤ l → r ≡ Refused Range)
+
+-- `audit` counts each object, and the bytes that `logs` tells; today none is far
+abbrev pub AuditCounts : Type 0
+AuditCounts = (now : Moment) (r : Reply) (after : Moment) → IsMoment now → Commanded now (Book Audit) r after → (counts : Counts) × (r ≡ Audited counts) × CountsAll now counts
+
+-- a drop of a pointer that the mutator doesn't use is refused 7; else, where the mutator views its object, 9, and else the object is ended
+abbrev pub DropEndsObject : Type 0
+DropEndsObject = (now : Moment) (m p : ℕ) (r : Reply) (after : Moment) → Law now.core → m < now.core.mutators → Commanded now (Mutator m (Drop p)) r after →
+    (uses now.core m p ≢ true → r ≡ Refused NotHeld)
+    × (uses now.core m p ≡ true → (world_of now.core).viewed p ≡ true → r ≡ Refused Held)
+    × (uses now.core m p ≡ true → (world_of now.core).viewed p ≡ false → (r ≡ Done) × EndsObject now.core after.core p)
 
 -- objects stay whole through commands
 abbrev pub ObjectsStayWhole : Type 0
@@ -277,10 +351,10 @@ ViewsLast = (now : Moment) (c : Command) (r : Reply) (after : Moment) → IsMome
 -- a write changes the bytes of its range to the new ones, and no others
 abbrev pub WritesChangeTheirRange : Type 0
 WritesChangeTheirRange = (bytes new : List ℕ) (from : ℕ) → from + length new ≤ length bytes →
-    (length (spliced bytes from new) ≡ length bytes)
-    × ((k : ℕ) → k < from → slice_index (spliced bytes from new) k ≡ slice_index bytes k)
-    × ((k : ℕ) → k < length new → slice_index (spliced bytes from new) (from + k) ≡ slice_index new k)
-    × ((k : ℕ) → from + length new ≤ k → slice_index (spliced bytes from new) k ≡ slice_index bytes k)
+    (length (with_range bytes from new) ≡ length bytes)
+    × ((k : ℕ) → k < from → slice_index (with_range bytes from new) k ≡ slice_index bytes k)
+    × ((k : ℕ) → k < length new → slice_index (with_range bytes from new) (from + k) ≡ slice_index new k)
+    × ((k : ℕ) → from + length new ≤ k → slice_index (with_range bytes from new) k ≡ slice_index bytes k)
 
 -- of replies that are a mutator's alone, the reply to a line with its number says what it then knows, and the others say nothing of it
 abbrev pub OwnLinesCount : Type 0

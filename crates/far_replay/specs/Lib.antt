@@ -1,5 +1,7 @@
 pub mod Alone
 pub mod Answers
+pub mod Audit
+pub mod Between
 pub mod Command
 pub mod Cursor
 pub mod Effects
@@ -16,7 +18,6 @@ pub mod Reply
 pub mod Says
 pub mod Stays
 pub mod Stream
-pub mod Tidy
 pub mod TraceText
 pub mod Turn
 pub mod Written

@@ -28,8 +28,8 @@ abbrev pub data_of : State → ℕ → List ℕ
 data_of s p = bytes_of (λ i. s.word (near_data (read_of (s.cell p)) + i)) (data_len s p)
 
 -- bytes with others in the place of those from here on
-abbrev pub spliced : List ℕ → ℕ → List ℕ → List ℕ
-spliced bytes from new = take from bytes ++ new ++ drop (from + length new) bytes
+abbrev pub with_range : List ℕ → ℕ → List ℕ → List ℕ
+with_range bytes from new = take from bytes ++ new ++ drop (from + length new) bytes
 
 -- the lowest cell of a mutator that is free
 unfoldable pub lowest_cell : State → ℕ → Option ℕ

@@ -3,18 +3,22 @@ use Rattle.std.specs.Prelude.{ℕ, ◌+◌, Bool, true, ◌&&◌, not, nat_lt, n
 use Rattle.std.specs.List.{range_with_len}
 use Rattle.far_word.specs.declared.pointer.Place.{Place}
 use Rattle.far_word.specs.declared.refused.Refused.{Refused as Refusal}
-use Rattle.far_word.specs.declared.refused.Refused.TheVariants.{NoRoom, NoPointer, Length, Closed, AlreadyOpen, NotHeld, Range}
+use Rattle.far_word.specs.declared.refused.Refused.TheVariants.{NoRoom, NoPointer, Length, Closed, AlreadyOpen, NotHeld, Range, Held}
 use Rattle.far_word.specs.declared.sizes.TheConstants.{LONGEST}
 use Rattle.far_word.specs.Sizes.{size_of}
 use Rattle.far_core.specs.events.Step.{is_opened, after_close}
 use Rattle.far_core.specs.laws.Observed.{live_bytes, dead_bytes, unused_bytes}
 use Rattle.far_core.specs.state.Room.{room}
 use Rattle.far_core.specs.state.State.{State}
-use Rattle.far_replay.specs.Command.{Command, New, Open, Write, Read, Close, Logs, Mutator, Book}
-use Rattle.far_replay.specs.Effects.{with_object, with_scope, with_view, with_data}
+use Rattle.far_word.specs.Pointer.{read_of}
+use Rattle.far_book.specs.book.Home.{home_of}
+use Rattle.far_book.specs.declared.home.Home.{Home}
+use Rattle.far_replay.specs.Audit.{counts_of}
+use Rattle.far_replay.specs.Command.{Command, New, Open, Write, Read, Close, Where, Drop, Logs, Log, Audit, Mutator, Book}
+use Rattle.far_replay.specs.Effects.{with_object, with_scope, with_view, with_data, without_object}
 use Rattle.far_replay.specs.Moment.{Moment}
 use Rattle.far_replay.specs.Objects.{uses, object_len, data_of, lowest_cell, is_range}
-use Rattle.far_replay.specs.Reply.{Reply, Done, Pointer, Data, Logs as Told, Refused, LogLine}
+use Rattle.far_replay.specs.Reply.{Reply, Done, Pointer, Data, Logs as Told, Lies, Audited, Refused, LogLine}
 
 -- ---- when a command is refused
 -- the causes by which it may be refused, in their order, each with its test
@@ -30,7 +34,11 @@ causes now (Mutator m Open) = (not (nat_lt m now.core.mutators), Range) ∷ (is_
 causes now (Mutator m (Write p from bytes)) = access_causes now m p from (length bytes)
 causes now (Mutator m (Read p from len)) = access_causes now m p from len
 causes now (Mutator m Close) = (not (nat_lt m now.core.mutators), Range) ∷ (not (is_opened now.core m), Closed) ∷ []
+causes now (Mutator m (Where p)) = (not (nat_lt m now.core.mutators), Range) ∷ (not (uses now.core m p), NotHeld) ∷ []
+causes now (Mutator m (Drop p)) = (not (nat_lt m now.core.mutators), Range) ∷ (not (uses now.core m p), NotHeld) ∷ (is_some (now.core.held p), Held) ∷ []
 causes now (Book Logs) = []
+causes now (Book (Log l)) = (not (nat_lt l now.core.logs), Range) ∷ []
+causes now (Book Audit) = []
 
 -- the first cause that holds
 abbrev pub first_cause : List (Bool × Refusal) → Option Refusal
@@ -53,7 +61,9 @@ turn_effect now (Mutator m Open) = record now { core = with_scope now.core m }
 turn_effect now (Mutator m (Write p from bytes)) = record now { core = with_data (with_view now.core p) p from bytes }
 turn_effect now (Mutator m (Read p from len)) = record now { core = with_view now.core p }
 turn_effect now (Mutator m Close) = record now { core = after_close now.core m }
-turn_effect now (Book Logs) = now
+turn_effect now (Mutator m (Where p)) = now
+turn_effect now (Mutator m (Drop p)) = record now { core = without_object now.core m p }
+turn_effect now (Book inquiry) = now
 
 -- ---- the reply of a command that isn't refused
 abbrev pub log_line : Moment → ℕ → LogLine
@@ -64,13 +74,22 @@ abbrev pub pointer_reply : Option ℕ → Reply
 pointer_reply None = Done
 pointer_reply (Some p) = Pointer p
 
+-- where a used pointer's object is
+abbrev pub home_reply : Option Home → Reply
+home_reply None = Done
+home_reply (Some home) = Lies home
+
 abbrev pub turn_reply : Moment → Command → Reply
 turn_reply now (Mutator m (New len ds)) = pointer_reply (lowest_cell now.core m)
 turn_reply now (Mutator m Open) = Done
 turn_reply now (Mutator m (Write p from bytes)) = Done
 turn_reply now (Mutator m (Read p from len)) = Data (slice_range (data_of now.core p) from (from + len))
 turn_reply now (Mutator m Close) = Done
+turn_reply now (Mutator m (Where p)) = home_reply (home_of (read_of (now.core.cell p)))
+turn_reply now (Mutator m (Drop p)) = Done
 turn_reply now (Book Logs) = Told (map (log_line now) (range_with_len 0 now.core.logs))
+turn_reply now (Book (Log l)) = Told (log_line now l ∷ [])
+turn_reply now (Book Audit) = Audited (counts_of now.core)
 
 -- ---- all together: a refused command changes nothing
 abbrev pub unless : {X : Type 0} → Option Refusal → (Refusal → X) → X → X

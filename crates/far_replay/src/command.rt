@@ -3,11 +3,11 @@
 ghost use Rattle.std.specs.Prelude.{◌≡◌, ◌∷◌, IfSome};
 ghost use Rattle.std.specs.Option.{option_map};
 ghost use Rattle.std.specs.Str.{bytes_eq};
-ghost use Rattle.far_replay.specs.Command.{said_entry, HeapLine, CommandLine, Book, Logs};
-ghost use Rattle.far_replay.specs.Grammar.{Numbers, NumbersAndBytes, asks_read, asks_write, asks_open, asks_close, asks_new, entry_from, entry_of, ended};
+ghost use Rattle.far_replay.specs.Command.{as_entry, HeapLine, CommandLine, Book, Logs, Audit};
+ghost use Rattle.far_replay.specs.Grammar.{Numbers, NumbersAndBytes, asks_read, asks_write, asks_open, asks_close, asks_new, asks_where, asks_drop, asks_log, entry_from, entry_of, entry_at_end};
 ghost use Rattle.far_replay.specs.Cursor.{words_in, words_left, lines_after_first, lines_after, lines_left};
 
-use crate::cursor::{Rest, next_bytes_of, next_number_of, word_first};
+use crate::cursor::{Rest, last_bytes_of, next_number_of, word_first};
 use crate::hex_word::HexWord;
 
 /// What a mutator asks for.
@@ -29,12 +29,20 @@ pub enum Request<'a> {
         len: u64,
     },
     Close,
+    Where {
+        pointer: u64,
+    },
+    Drop {
+        pointer: u64,
+    },
 }
 
 /// What the book is asked.
 #[derive(Clone, Copy)]
 pub enum Inquiry {
     Logs,
+    Log { log: u64 },
+    Audit,
 }
 
 /// One command of a trace.
@@ -57,7 +65,7 @@ pub type Spelled<'a> = (Entry<'a>, Option<&'a [u8]>);
 // The entry, if its line ends here.
 #[inline(always)]
 fn at_end<'a>(entry: Entry<'a>, rest: Rest<'a>) -> Option<Spelled<'a>>
-    ensures value { option_map (λ found. said_entry found.0) result ≡ ended (words_left rest.entry) (said_entry entry.entry) }
+    ensures value { option_map (λ found. as_entry found.0) result ≡ entry_at_end (words_left rest.entry) (as_entry entry.entry) }
     ensures lines { IfSome result (λ found. lines_left found.1 ≡ lines_after rest.entry) }
 {
     match rest {
@@ -67,7 +75,7 @@ fn at_end<'a>(entry: Entry<'a>, rest: Rest<'a>) -> Option<Spelled<'a>>
 }
 
 fn heap_spelled(rest: Rest<'_>) -> Option<Spelled<'_>>
-    ensures value { option_map (λ found. said_entry found.0) result ≡ entry_from (Numbers 2 HeapLine) (words_left rest.entry) }
+    ensures value { option_map (λ found. as_entry found.0) result ≡ entry_from (Numbers 2 HeapLine) (words_left rest.entry) }
     ensures lines { IfSome result (λ found. lines_left found.1 ≡ lines_after rest.entry) }
 {
     let (logs, rest) = next_number_of(rest)?;
@@ -76,7 +84,7 @@ fn heap_spelled(rest: Rest<'_>) -> Option<Spelled<'_>>
 }
 
 fn new_spelled(rest: Rest<'_>) -> Option<Spelled<'_>>
-    ensures value { option_map (λ found. said_entry found.0) result ≡ entry_from (Numbers 3 asks_new) (words_left rest.entry) }
+    ensures value { option_map (λ found. as_entry found.0) result ≡ entry_from (Numbers 3 asks_new) (words_left rest.entry) }
     ensures lines { IfSome result (λ found. lines_left found.1 ≡ lines_after rest.entry) }
 {
     let (mutator, rest) = next_number_of(rest)?;
@@ -87,7 +95,7 @@ fn new_spelled(rest: Rest<'_>) -> Option<Spelled<'_>>
 }
 
 fn open_spelled(rest: Rest<'_>) -> Option<Spelled<'_>>
-    ensures value { option_map (λ found. said_entry found.0) result ≡ entry_from (Numbers 1 asks_open) (words_left rest.entry) }
+    ensures value { option_map (λ found. as_entry found.0) result ≡ entry_from (Numbers 1 asks_open) (words_left rest.entry) }
     ensures lines { IfSome result (λ found. lines_left found.1 ≡ lines_after rest.entry) }
 {
     let (mutator, rest) = next_number_of(rest)?;
@@ -97,24 +105,25 @@ fn open_spelled(rest: Rest<'_>) -> Option<Spelled<'_>>
 
 #[inline(always)]
 fn write_spelled(rest: Rest<'_>) -> Option<Spelled<'_>>
-    ensures value { option_map (λ found. said_entry found.0) result ≡ entry_from (NumbersAndBytes 3 asks_write) (words_left rest.entry) }
+    ensures value { option_map (λ found. as_entry found.0) result ≡ entry_from (NumbersAndBytes 3 asks_write) (words_left rest.entry) }
     ensures lines { IfSome result (λ found. lines_left found.1 ≡ lines_after rest.entry) }
 {
     let (mutator, rest) = next_number_of(rest)?;
     let (pointer, rest) = next_number_of(rest)?;
     let (from, rest) = next_number_of(rest)?;
-    let (bytes, rest) = next_bytes_of(rest)?;
+    let (bytes, lines) = last_bytes_of(rest)?;
     let request = Request::Write {
         pointer,
         from,
         bytes,
     };
-    at_end(Entry::Command(Command::Mutator { mutator, request }), rest)
+    let entry = Entry::Command(Command::Mutator { mutator, request });
+    Some((entry, lines))
 }
 
 #[inline(always)]
 fn read_spelled(rest: Rest<'_>) -> Option<Spelled<'_>>
-    ensures value { option_map (λ found. said_entry found.0) result ≡ entry_from (Numbers 4 asks_read) (words_left rest.entry) }
+    ensures value { option_map (λ found. as_entry found.0) result ≡ entry_from (Numbers 4 asks_read) (words_left rest.entry) }
     ensures lines { IfSome result (λ found. lines_left found.1 ≡ lines_after rest.entry) }
 {
     let (mutator, rest) = next_number_of(rest)?;
@@ -126,12 +135,40 @@ fn read_spelled(rest: Rest<'_>) -> Option<Spelled<'_>>
 }
 
 fn close_spelled(rest: Rest<'_>) -> Option<Spelled<'_>>
-    ensures value { option_map (λ found. said_entry found.0) result ≡ entry_from (Numbers 1 asks_close) (words_left rest.entry) }
+    ensures value { option_map (λ found. as_entry found.0) result ≡ entry_from (Numbers 1 asks_close) (words_left rest.entry) }
     ensures lines { IfSome result (λ found. lines_left found.1 ≡ lines_after rest.entry) }
 {
     let (mutator, rest) = next_number_of(rest)?;
     let request = Request::Close;
     at_end(Entry::Command(Command::Mutator { mutator, request }), rest)
+}
+
+fn where_spelled(rest: Rest<'_>) -> Option<Spelled<'_>>
+    ensures value { option_map (λ found. as_entry found.0) result ≡ entry_from (Numbers 2 asks_where) (words_left rest.entry) }
+    ensures lines { IfSome result (λ found. lines_left found.1 ≡ lines_after rest.entry) }
+{
+    let (mutator, rest) = next_number_of(rest)?;
+    let (pointer, rest) = next_number_of(rest)?;
+    let request = Request::Where { pointer };
+    at_end(Entry::Command(Command::Mutator { mutator, request }), rest)
+}
+
+fn drop_spelled(rest: Rest<'_>) -> Option<Spelled<'_>>
+    ensures value { option_map (λ found. as_entry found.0) result ≡ entry_from (Numbers 2 asks_drop) (words_left rest.entry) }
+    ensures lines { IfSome result (λ found. lines_left found.1 ≡ lines_after rest.entry) }
+{
+    let (mutator, rest) = next_number_of(rest)?;
+    let (pointer, rest) = next_number_of(rest)?;
+    let request = Request::Drop { pointer };
+    at_end(Entry::Command(Command::Mutator { mutator, request }), rest)
+}
+
+fn log_spelled(rest: Rest<'_>) -> Option<Spelled<'_>>
+    ensures value { option_map (λ found. as_entry found.0) result ≡ entry_from (Numbers 1 asks_log) (words_left rest.entry) }
+    ensures lines { IfSome result (λ found. lines_left found.1 ≡ lines_after rest.entry) }
+{
+    let (log, rest) = next_number_of(rest)?;
+    at_end(Entry::Command(Command::Book(Inquiry::Log { log })), rest)
 }
 
 fn is_name(word: &[u8], name: &[u8]) -> bool
@@ -141,8 +178,8 @@ fn is_name(word: &[u8], name: &[u8]) -> bool
 }
 
 // The entry of this name, by the words after it.
-fn named<'a>(name: &[u8], rest: Rest<'a>) -> Option<Spelled<'a>>
-    ensures value { option_map (λ found. said_entry found.0) result ≡ entry_of (name.now ∷ words_left rest.entry) }
+fn entry_by_name<'a>(name: &[u8], rest: Rest<'a>) -> Option<Spelled<'a>>
+    ensures value { option_map (λ found. as_entry found.0) result ≡ entry_of (name.now ∷ words_left rest.entry) }
     ensures lines { IfSome result (λ found. lines_left found.1 ≡ lines_after rest.entry) }
 {
     if is_name(name, b"read") {
@@ -166,23 +203,35 @@ fn named<'a>(name: &[u8], rest: Rest<'a>) -> Option<Spelled<'a>>
     if is_name(name, b"logs") {
         return at_end(Entry::Command(Command::Book(Inquiry::Logs)), rest);
     }
+    if is_name(name, b"where") {
+        return where_spelled(rest);
+    }
+    if is_name(name, b"drop") {
+        return drop_spelled(rest);
+    }
+    if is_name(name, b"log") {
+        return log_spelled(rest);
+    }
+    if is_name(name, b"audit") {
+        return at_end(Entry::Command(Command::Book(Inquiry::Audit)), rest);
+    }
     None
 }
 
 // What the first line of a text spells, by its first word.
 #[inline(never)]
-fn named_first(text: &[u8]) -> Option<Spelled<'_>>
-    ensures value { option_map (λ found. said_entry found.0) result ≡ entry_of (words_in text.now) }
+fn entry_by_first_word(text: &[u8]) -> Option<Spelled<'_>>
+    ensures value { option_map (λ found. as_entry found.0) result ≡ entry_of (words_in text.now) }
     ensures lines { IfSome result (λ found. lines_left found.1 ≡ lines_after_first text.now) }
 {
     let (name, rest) = word_first(text);
-    named(name, rest)
+    entry_by_name(name, rest)
 }
 
 /// What the first line of a text spells. The two commands that traces are full of are known by their first bytes.
 #[inline(always)]
 pub fn entry_first(text: &[u8]) -> Option<Spelled<'_>>
-    ensures value { option_map (λ found. said_entry found.0) result ≡ entry_of (words_in text.now) }
+    ensures value { option_map (λ found. as_entry found.0) result ≡ entry_of (words_in text.now) }
     ensures lines { IfSome result (λ found. lines_left found.1 ≡ lines_after_first text.now) }
 {
     if let [b'r', b'e', b'a', b'd', b' ', rest @ ..] = text {
@@ -191,5 +240,5 @@ pub fn entry_first(text: &[u8]) -> Option<Spelled<'_>>
     if let [b'w', b'r', b'i', b't', b'e', b' ', rest @ ..] = text {
         return write_spelled(Rest::Words(rest));
     }
-    named_first(text)
+    entry_by_first_word(text)
 }

@@ -1,16 +1,16 @@
 //! A text that is read word by word, each byte once.
 
-ghost use Rattle.std.specs.Prelude.{◌≡◌, ◌≤◌, ◌<◌, ◌∷◌, ℕ, [], length, take, drop, true, false, slice_index, IfSome, IfNone};
+ghost use Rattle.std.specs.Prelude.{◌≡◌, ◌≤◌, ◌<◌, ◌%◌, ◌^◌, ◌==◌, ◌∷◌, ℕ, [], length, take, drop, true, false, slice_index, IfSome, IfNone};
 ghost use Rattle.std.specs.Char.{is_ascii_digit};
 ghost use Rattle.std.specs.Int.{IsInRange};
 ghost use Rattle.std.specs.Option.{option_map};
 ghost use Rattle.std.specs.Str.Parse.{digits_value};
 ghost use Rattle.far_replay.specs.HexWord.{hex_bytes};
-ghost use Rattle.far_replay.specs.Grammar.{next_number, next_bytes};
-ghost use Rattle.far_replay.specs.Cursor.{is_end, words_in, words_left, lines_after_first, lines_after, lines_left};
+ghost use Rattle.far_replay.specs.Grammar.{next_number, last_bytes};
+ghost use Rattle.far_replay.specs.Cursor.{is_end, first_line, words_in, words_left, lines_after_first, lines_after, lines_left};
 
 use crate::hex_word::HexWord;
-use memchr::memchr2;
+use memchr::{memchr, memchr2};
 
 /// What is left of a text after a word of one of its lines.
 #[derive(Clone, Copy)]
@@ -81,36 +81,53 @@ fn printed_number(text: &[u8], len: usize, n: u64) -> Option<(u64, Rest<'_>)>
     Some((n, rest))
 }
 
+// The digits in front of a text: the number that they print, modulo 2^64, and how many they are.
+#[inline(always)]
+fn digits_first(text: &[u8]) -> (u64, usize)
+    ensures fits { result.1 ≤ length text.now }
+    ensures digits { (k : ℕ) → k < result.1 → IsInRange 48 57 (slice_index text.now k) }
+    ensures value { result.0 ≡ digits_value 10 (take result.1 text.now) % 2 ^ 64 }
+    ensures stops { result.1 < length text.now → is_ascii_digit (slice_index text.now result.1) ≡ false }
+{
+    let mut n = 0u64;
+    let mut len = 0;
+    while len < text.len() && text[len].is_ascii_digit() {
+        n = n.wrapping_mul(10).wrapping_add(u64::from(text[len] - b'0'));
+        len += 1;
+    }
+    (n, len)
+}
+
+// The number that digits print, if it is below 2^64.
+#[cold]
+fn long_number(digits: &[u8]) -> Option<u64>
+    requires { (k : ℕ) → k < length digits.now → IsInRange 48 57 (slice_index digits.now k) }
+    ensures value { IfSome result (λ n. n ≡ digits_value 10 digits.now) }
+    ensures large { IfNone result (2 ^ 64 ≤ digits_value 10 digits.now) }
+{
+    let mut n = 0u64;
+    for digit in digits {
+        n = n.checked_mul(10)?.checked_add(u64::from(*digit - b'0'))?;
+    }
+    Some(n)
+}
+
 /// The number that the first word of a text prints, and what is left after it.
 #[inline(always)]
 pub fn number_first(text: &[u8]) -> Option<(u64, Rest<'_>)>
     ensures number { option_map (λ found. (found.0, words_left found.1)) result ≡ next_number (words_in text.now) }
     ensures lines { IfSome result (λ found. lines_after_first text.now ≡ lines_after found.1) }
 {
-    let mut n = 0u64;
-    let mut len = 0;
-    while len < 19 && len < text.len() && text[len].is_ascii_digit() {
-        n = n * 10 + u64::from(text[len] - b'0');
-        len += 1;
+    // Most numbers of mutators have one digit.
+    if text.len() > 1 && text[0].is_ascii_digit() && text[1] == b' ' {
+        return printed_number(text, 1, u64::from(text[0] - b'0'));
     }
-    if len == 19 {
-        return long_number_first(text);
+    let (n, len) = digits_first(text);
+    // Nineteen digits are always below 2^64.
+    if len < 20 {
+        return printed_number(text, len, n);
     }
-    printed_number(text, len, n)
-}
-
-// The same of any number of digits.
-#[cold]
-fn long_number_first(text: &[u8]) -> Option<(u64, Rest<'_>)>
-    ensures number { option_map (λ found. (found.0, words_left found.1)) result ≡ next_number (words_in text.now) }
-    ensures lines { IfSome result (λ found. lines_after_first text.now ≡ lines_after found.1) }
-{
-    let mut n = 0u64;
-    let mut len = 0;
-    while len < text.len() && text[len].is_ascii_digit() {
-        n = n.checked_mul(10)?.checked_add(u64::from(text[len] - b'0'))?;
-        len += 1;
-    }
+    let n = long_number(&text[..len])?;
     printed_number(text, len, n)
 }
 
@@ -126,24 +143,53 @@ pub fn next_number_of(rest: Rest<'_>) -> Option<(u64, Rest<'_>)>
     }
 }
 
+/// Where the first line of a text ends.
 #[inline(always)]
-fn bytes_first(text: &[u8]) -> Option<(HexWord<'_>, Rest<'_>)>
-    ensures bytes { option_map (λ found. (hex_bytes found.0.digits.now, words_left found.1)) result ≡ next_bytes (words_in text.now) }
-    ensures lines { IfSome result (λ found. lines_after_first text.now ≡ lines_after found.1) }
+pub fn line_end(text: &[u8]) -> usize
+    ensures bound { result ≤ length text.now }
+    ensures inside { (k : ℕ) → k < result → (slice_index text.now k == 10) ≡ false }
+    ensures ends { result < length text.now → slice_index text.now result ≡ 10 }
 {
-    let (word, rest) = word_first(text);
-    let bytes = HexWord::from_word(word)?;
-    Some((bytes, rest))
+    match memchr(b'\n', text) {
+        Some(end) => end,
+        None => text.len(),
+    }
 }
 
-/// The bytes that the next word spells, and what is left after it.
+// The first line of a text, and the lines after it, if any.
 #[inline(always)]
-pub fn next_bytes_of(rest: Rest<'_>) -> Option<(HexWord<'_>, Rest<'_>)>
-    ensures bytes { option_map (λ found. (hex_bytes found.0.digits.now, words_left found.1)) result ≡ next_bytes (words_left rest.entry) }
-    ensures lines { IfSome result (λ found. lines_after found.1 ≡ lines_after rest.entry) }
+fn split_line(text: &[u8]) -> (&[u8], Option<&[u8]>)
+    ensures line { result.0.now ≡ first_line text.now }
+    ensures lines { lines_left result.1 ≡ lines_after_first text.now }
+{
+    let len = line_end(text);
+    if len == text.len() {
+        return (text, None);
+    }
+    (&text[..len], Some(&text[len + 1..]))
+}
+
+// The bytes that the first line of a text spells, and the lines after it. A line in hex is one word, so only its end is
+// looked for.
+#[inline(always)]
+#[tactic(auto, using(crate::proofs::LastWord::one_word))]
+fn line_bytes(text: &[u8]) -> Option<(HexWord<'_>, Option<&[u8]>)>
+    ensures bytes { option_map (λ found. hex_bytes found.0.digits.now) result ≡ last_bytes (words_in text.now) }
+    ensures lines { IfSome result (λ found. lines_left found.1 ≡ lines_after_first text.now) }
+{
+    let (line, lines) = split_line(text);
+    let bytes = HexWord::from_word(line)?;
+    Some((bytes, lines))
+}
+
+/// The bytes that the next word spells, which is the last of its line, and the lines after it.
+#[inline(always)]
+pub fn last_bytes_of(rest: Rest<'_>) -> Option<(HexWord<'_>, Option<&[u8]>)>
+    ensures bytes { option_map (λ found. hex_bytes found.0.digits.now) result ≡ last_bytes (words_left rest.entry) }
+    ensures lines { IfSome result (λ found. lines_left found.1 ≡ lines_after rest.entry) }
 {
     match rest {
-        Rest::Words(text) => bytes_first(text),
+        Rest::Words(text) => line_bytes(text),
         Rest::Lines(_) => None,
     }
 }

@@ -1,6 +1,6 @@
 //! What outputs say, over whole texts and whole lists of commands. No function here does anything when it runs.
 
-ghost use Rattle.far_replay.specs.Headline.{OutputsAreSound, OneOutput, EachTextIsAnswered, TextsWriteBytes, LinesAreNumbered, MomentsLast, EventsReach, ShapesAre, HeapsBeginLawful, ObjectsStayWhole, ViewedLogsStay, ViewsLast, RefusalsStay, RefusalsChangeNothing, UnknownMutatorsAreRefused, NearRefusals, MutatorsAreAlone, OwnLinesCount, MutatorsLearn, NewTakesTheLowest, NoneIsLeft, NewIsMade, NewMakesItsObject, CommandsTakeRoom, WritesChangeTheirRange, LogsAreTold, PrintedAlike};
+ghost use Rattle.far_replay.specs.Headline.{OutputsAreSound, OneOutput, EachTextIsAnswered, TextsWriteBytes, LinesAreNumbered, MomentsLast, EventsReach, ShapesAre, HeapsBeginLawful, ObjectsStayWhole, ViewedLogsStay, ViewsLast, RefusalsStay, RefusalsChangeNothing, UnknownMutatorsAreRefused, NearRefusals, MutatorsAreAlone, OwnLinesCount, MutatorsLearn, NewTakesTheLowest, NoneIsLeft, NewIsMade, NewMakesItsObject, CommandsTakeRoom, WritesChangeTheirRange, LogsAreTold, WhereTells, LogTellsItsLine, AuditCounts, DropEndsObject, PrintedAlike};
 
 /// From a text on: its output, where it is read as a heap in range and commands, has a reply, which its lines tell in full,
 /// and a moment for each command. Each moment has the law, and in it objects are whole; through them the logs in which
@@ -10,7 +10,7 @@ pub fn outputs_are_sound()
 {}
 
 /// Each text has an output, and one alone. Its commands that write, write bytes. Among lines that say commands, a
-/// mutator's are those that have its number after the name.
+/// mutator's are those that have its number after the name, but for `log`, after which a log's number stands.
 pub fn texts_are_answered()
     ensures answered { EachTextIsAnswered }
     ensures once { OneOutput }
@@ -21,7 +21,8 @@ pub fn texts_are_answered()
 /// A heap line may say 2 to 64 logs and 1 to 8 mutators. The heap begins with them, with the law and with nothing in it.
 /// After commands each moment has the law, its pointers at hand and its objects whole: each in use has exactly one place,
 /// each log's bytes are 1,024 in all, and no two pointers name one place. Each command is carried out by its events: they
-/// are legal, keep the law and what views rest on, and end in the moment after it.
+/// are legal, none is refused, they keep the law and what views rest on, and end in the moment after it. Where its object
+/// is at hand, a pin among them gives a view, and a naming wins.
 pub fn moments_are_lawful()
     ensures shapes { ShapesAre }
     ensures begin { HeapsBeginLawful }
@@ -82,4 +83,19 @@ pub fn lines_tell_replies()
 /// `logs` reports each log once, by number: its kind and its bytes, which make 1,024.
 pub fn logs_are_told()
     ensures { LogsAreTold }
+{}
+
+/// `where` tells the place of an object that its mutator uses, or that it is far, and its marks. `log` tells the line that
+/// `logs` has for the log. `audit` counts each object once, and the live bytes that `logs` tells; no object is far today.
+pub fn inquiries_tell()
+    ensures place { WhereTells }
+    ensures line { LogTellsItsLine }
+    ensures counts { AuditCounts }
+{}
+
+/// A drop of an object that its mutator uses and doesn't view ends it: it is no object any more, its cell is free, and its
+/// bytes are dead in its log; all other objects, words and views stay. Where the mutator views it the drop is refused 9,
+/// and of any other pointer 7.
+pub fn drops_end_objects()
+    ensures { DropEndsObject }
 {}

@@ -7,9 +7,11 @@
 
 mod command;
 mod cursor;
+mod dropping;
 mod events;
 mod headline;
 mod hex_word;
+mod inquiries;
 mod laws;
 mod line;
 mod outcome;
@@ -22,9 +24,9 @@ mod text;
 mod turn;
 
 pub use headline::{
-    lines_tell_replies, logs_are_told, moments_are_lawful, mutators_are_alone, new_is_made,
-    outputs_are_sound, refusals_leave_all, texts_are_answered, views_last,
-    writes_change_their_range,
+    drops_end_objects, inquiries_tell, lines_tell_replies, logs_are_told, moments_are_lawful,
+    mutators_are_alone, new_is_made, outputs_are_sound, refusals_leave_all, texts_are_answered,
+    views_last, writes_change_their_range,
 };
 pub use laws::{grammar_is_said, limits_are};
 pub use running::{End, RunFault, run};

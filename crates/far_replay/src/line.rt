@@ -2,11 +2,11 @@
 
 ghost use Rattle.std.specs.Prelude.{◌≡◌, ◌≤◌, ◌<◌, ◌+◌, ◌==◌, ℕ, length, true, false, slice_index, IfSome, IfNone};
 ghost use Rattle.far_replay.specs.Grammar.{line_of, Bad};
-ghost use Rattle.far_replay.specs.Cursor.{first_line, lines_after_first, lines_left, said_line};
+ghost use Rattle.far_replay.specs.Cursor.{first_line, lines_after_first, lines_left, as_line};
 
 use crate::command::{Entry, entry_first};
+use crate::cursor::line_end;
 use crate::hex_word::LONGEST_LINE;
-use memchr::memchr;
 
 /// What a line says.
 #[derive(Clone, Copy)]
@@ -14,19 +14,6 @@ pub enum Line<'a> {
     /// An empty line or a comment.
     Skipped,
     Said(Entry<'a>),
-}
-
-// Where the first line of a text ends.
-#[inline(always)]
-fn line_end(text: &[u8]) -> usize
-    ensures bound { result ≤ length text.now }
-    ensures inside { (k : ℕ) → k < result → (slice_index text.now k == 10) ≡ false }
-    ensures ends { result < length text.now → slice_index text.now result ≡ 10 }
-{
-    match memchr(b'\n', text) {
-        Some(end) => end,
-        None => text.len(),
-    }
 }
 
 // Where the first line of a text ends, if all its bytes are ASCII.
@@ -52,7 +39,7 @@ fn comment_first(text: &[u8]) -> Option<(Line<'_>, Option<&[u8]>)>
     requires some { 0 < length text.now }
     requires comment { slice_index text.now 0 ≡ 35 }
     ensures bad { IfNone result (line_of (first_line text.now) ≡ Bad) }
-    ensures line { IfSome result (λ found. said_line found.0 ≡ line_of (first_line text.now)) }
+    ensures line { IfSome result (λ found. as_line found.0 ≡ line_of (first_line text.now)) }
     ensures lines { IfSome result (λ found. lines_left found.1 ≡ lines_after_first text.now) }
 {
     let len = ascii_len(text)?;
@@ -79,12 +66,12 @@ fn line_len(text: &[u8], lines: Option<&[u8]>) -> usize
 
 // Reads a line with an entry, which a text begins with.
 #[inline(always)]
-fn said_first(text: &[u8]) -> Option<(Line<'_>, Option<&[u8]>)>
+fn entry_line_first(text: &[u8]) -> Option<(Line<'_>, Option<&[u8]>)>
     requires some { 0 < length text.now }
     requires content { (slice_index text.now 0 == 10) ≡ false }
     requires other { (slice_index text.now 0 == 35) ≡ false }
     ensures bad { IfNone result (line_of (first_line text.now) ≡ Bad) }
-    ensures line { IfSome result (λ found. said_line found.0 ≡ line_of (first_line text.now)) }
+    ensures line { IfSome result (λ found. as_line found.0 ≡ line_of (first_line text.now)) }
     ensures lines { IfSome result (λ found. lines_left found.1 ≡ lines_after_first text.now) }
 {
     let (entry, lines) = entry_first(text)?;
@@ -98,7 +85,7 @@ fn said_first(text: &[u8]) -> Option<(Line<'_>, Option<&[u8]>)>
 #[inline(always)]
 pub fn line_first(text: &[u8]) -> Option<(Line<'_>, Option<&[u8]>)>
     ensures bad { IfNone result (line_of (first_line text.now) ≡ Bad) }
-    ensures line { IfSome result (λ found. said_line found.0 ≡ line_of (first_line text.now)) }
+    ensures line { IfSome result (λ found. as_line found.0 ≡ line_of (first_line text.now)) }
     ensures lines { IfSome result (λ found. lines_left found.1 ≡ lines_after_first text.now) }
 {
     if text.is_empty() {
@@ -110,5 +97,5 @@ pub fn line_first(text: &[u8]) -> Option<(Line<'_>, Option<&[u8]>)>
     if text[0] == b'#' {
         return comment_first(text);
     }
-    said_first(text)
+    entry_line_first(text)
 }

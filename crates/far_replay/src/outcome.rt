@@ -4,7 +4,8 @@ ghost use Rattle.std.specs.Prelude.{◌≡◌};
 ghost use Rattle.far_replay.specs.Reply.{reply_of, IsShort};
 ghost use Rattle.far_replay.specs.Outcome.{reply_by, IsInRoom};
 
-use crate::reply::{LogLine, Reply};
+use crate::reply::{Counts, LogLine, Reply};
+use far_book::Home;
 use far_core::Kind;
 use far_word::{LOG_WORDS, MOST_LOGS, Refused};
 
@@ -17,6 +18,9 @@ pub enum Outcome {
     Data { from: u16, count: u16 },
     /// The first log lines of the room, so many.
     Logs(u8),
+    /// Where an object is.
+    Lies(Home),
+    Audited(Counts),
     Refused(Refused),
 }
 
@@ -59,6 +63,8 @@ impl Scratch {
                 Reply::Data(&self.bytes[from..from + usize::from(count)])
             }
             Outcome::Logs(count) => Reply::Logs(&self.lines[..usize::from(count)]),
+            Outcome::Lies(home) => Reply::Lies(home),
+            Outcome::Audited(counts) => Reply::Audited(counts),
             Outcome::Refused(why) => Reply::Refused(why),
         }
     }

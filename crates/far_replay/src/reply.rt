@@ -5,11 +5,12 @@ ghost use Rattle.std.specs.List.{flat_map};
 ghost use Rattle.far_word.specs.declared.sizes.TheConstants.{MOST_LOGS};
 ghost use Rattle.far_replay.specs.declared.reply.TheConstants.{LONGEST_REPLY};
 ghost use Rattle.far_word.specs.Refused.{refusal_number};
-ghost use Rattle.far_replay.specs.Reply.{IsShort, detail, kind_word, log_printed, printed, refused_printed, reply_of};
+ghost use Rattle.far_replay.specs.Reply.{IsShort, counts_printed, detail, home_printed, kind_word, letters_of, log_text, mark_letter, reply_text, refusal_text, reply_of};
 
 use crate::output::Output;
+use far_book::Home;
 use far_core::Kind;
-use far_word::Refused;
+use far_word::{Marks, Refused};
 
 /// Room for any reply.
 pub const LONGEST_REPLY: usize = 16_384;
@@ -24,6 +25,14 @@ pub struct LogLine {
     pub unused: u64,
 }
 
+/// What an audit counts: the objects that are near, those that are far, and the bytes of all logs that objects take.
+#[derive(Clone, Copy)]
+pub struct Counts {
+    pub near: u16,
+    pub far: u16,
+    pub live: u64,
+}
+
 /// What a command answers.
 #[derive(Clone, Copy)]
 pub enum Reply<'a> {
@@ -31,6 +40,9 @@ pub enum Reply<'a> {
     Pointer(u16),
     Data(&'a [u8]),
     Logs(&'a [LogLine]),
+    /// Where an object is.
+    Lies(Home),
+    Audited(Counts),
     Refused(Refused),
 }
 
@@ -48,7 +60,7 @@ fn push_kind(kind: Kind, out: &mut Output)
 
 fn push_log(line: &LogLine, out: &mut Output)
     requires { length out.old + 200 ≤ Output.ROOM }
-    ensures grown { out.new ≡ out.old ++ log_printed line.now }
+    ensures grown { out.new ≡ out.old ++ log_text line.now }
     ensures short { length out.new ≤ length out.old + 200 }
 {
     out.push(b"log ");
@@ -67,16 +79,77 @@ fn push_log(line: &LogLine, out: &mut Output)
 fn push_logs(lines: &[LogLine], out: &mut Output)
     requires few { length lines.now ≤ MOST_LOGS }
     requires room { length out.old + LONGEST_REPLY ≤ Output.ROOM }
-    ensures { out.new ≡ out.old ++ flat_map log_printed lines.now }
+    ensures { out.new ≡ out.old ++ flat_map log_text lines.now }
 {
     for line in lines {
         push_log(line, out);
     }
 }
 
+// A mark's letter, where the mark is set.
+fn push_mark(is_set: bool, letter: &[u8], out: &mut Output)
+    requires { length out.old + length letter.now ≤ Output.ROOM }
+    ensures { out.new ≡ out.old ++ mark_letter is_set letter.now }
+{
+    if is_set {
+        out.push(letter);
+    }
+}
+
+// The letters of the marks that are set, or a dash where none is.
+fn push_marks(marks: Marks, out: &mut Output)
+    requires { length out.old + 10 ≤ Output.ROOM }
+    ensures grown { out.new ≡ out.old ++ letters_of marks }
+    ensures short { length out.new ≤ length out.old + 4 }
+{
+    if !(marks.hot || marks.evac || marks.moved || marks.dropped) {
+        out.push(b"-");
+        return;
+    }
+    push_mark(marks.hot, b"h", out);
+    push_mark(marks.evac, b"e", out);
+    push_mark(marks.moved, b"m", out);
+    push_mark(marks.dropped, b"d", out);
+}
+
+fn push_home(home: Home, out: &mut Output)
+    requires { length out.old + 200 ≤ Output.ROOM }
+    ensures { out.new ≡ out.old ++ home_printed home }
+{
+    match home {
+        Home::Near { place, marks } => {
+            out.push(b"near ");
+            out.push_number(u64::from(place.log));
+            out.push(b" ");
+            out.push_number(u64::from(place.at));
+            out.push(b" ");
+            push_marks(marks, out);
+            out.push(b"\n");
+        }
+        Home::Far { marks } => {
+            out.push(b"far ");
+            push_marks(marks, out);
+            out.push(b"\n");
+        }
+    }
+}
+
+fn push_counts(counts: Counts, out: &mut Output)
+    requires { length out.old + 200 ≤ Output.ROOM }
+    ensures { out.new ≡ out.old ++ counts_printed counts }
+{
+    out.push(b"audit near ");
+    out.push_number(u64::from(counts.near));
+    out.push(b" far ");
+    out.push_number(u64::from(counts.far));
+    out.push(b" live ");
+    out.push_number(counts.live);
+    out.push(b"\n");
+}
+
 fn push_refused(why: Refused, out: &mut Output)
     requires { length out.old + 200 ≤ Output.ROOM }
-    ensures { out.new ≡ out.old ++ refused_printed why }
+    ensures { out.new ≡ out.old ++ refusal_text why }
 {
     out.push(b"refused ");
     out.push_number(u64::from(why.number()));
@@ -92,7 +165,7 @@ impl Reply<'_> {
     pub fn print_to(&self, out: &mut Output)
         requires short { IsShort (reply_of self.now) }
         requires room { length out.old + LONGEST_REPLY ≤ Output.ROOM }
-        ensures { out.new ≡ out.old ++ printed (reply_of self.now) }
+        ensures { out.new ≡ out.old ++ reply_text (reply_of self.now) }
     {
         match self {
             Reply::Done => out.push(b"ok\n"),
@@ -107,6 +180,8 @@ impl Reply<'_> {
                 out.push(b"\n");
             }
             Reply::Logs(lines) => push_logs(lines, out),
+            Reply::Lies(home) => push_home(*home, out),
+            Reply::Audited(counts) => push_counts(*counts, out),
             Reply::Refused(why) => push_refused(*why, out),
         }
     }

@@ -2,7 +2,7 @@
 
 ghost use Rattle.std.specs.Prelude.{◌≡◌, ◌≤◌, ◌+◌, length, Option, List, [], ℕ, ◌++◌};
 ghost use Rattle.far_replay.specs.declared.reply.TheConstants.{LONGEST_REPLY};
-ghost use Rattle.far_replay.specs.Reply.{IsShort, printed, reply_of};
+ghost use Rattle.far_replay.specs.Reply.{IsShort, reply_text, reply_of};
 ghost use Rattle.far_replay.specs.Stream.{Holds, Writes};
 
 use crate::output::Output;
@@ -65,7 +65,7 @@ impl ReplyWriter {
     pub fn add<W: Write>(&mut self, writer: &mut W, reply: &Reply)
         requires { IsShort (reply_of reply.now) }
         ensures { (start : Option (List ℕ)) (bytes : List ℕ) → Holds start (W.contents writer.old) self.old.waiting self.old.written bytes
-            → Holds start (W.contents writer.new) self.new.waiting self.new.written (bytes ++ printed (reply_of reply.now)) }
+            → Holds start (W.contents writer.new) self.new.waiting self.new.written (bytes ++ reply_text (reply_of reply.now)) }
     {
         self.make_room(writer);
         reply.print_to(&mut self.waiting);

@@ -1,18 +1,18 @@
 //! A whole run: a text in, replies out.
 
-ghost use Rattle.std.specs.Prelude.{◌≡◌, ◌≢◌, ◌<◌, ◌∷◌, true, List, length, map, slice_index, take, Ok, Err, IfOk, IfErr, IfSome, OnOk};
-ghost use Rattle.far_replay.specs.Reply.{refused_printed};
+ghost use Rattle.std.specs.Prelude.{◌≡◌, ◌≢◌, ◌<◌, ◌∷◌, true, cond, List, length, map, slice_index, take, Ok, Err, IfOk, IfErr, IfSome, OnOk};
+ghost use Rattle.far_replay.specs.Reply.{refusal_text};
 ghost use Rattle.far_replay.specs.Stream.{Writes};
 ghost use Rattle.std.specs.List.{flat_map};
-ghost use Rattle.far_core.specs.state.CoreState.{core_state};
+ghost use Rattle.far_core.specs.state.Opening.{opening};
 ghost use Rattle.far_core.specs.state.Shape.{is_shape};
-ghost use Rattle.far_replay.specs.Moment.{Moment, moment_of};
+ghost use Rattle.far_replay.specs.Moment.{Moment, moment_of, state_in};
 ghost use Rattle.far_replay.specs.Answers.{Answered, MayMakeHeap, WritesOutput, WritesAnswer, LeavesBehind, Leaves, end_of};
 ghost use Rattle.far_replay.specs.declared.text.TheConstants.{LONGEST_TEXT};
 ghost use Rattle.far_replay.specs.Grammar.{trace_of};
-ghost use Rattle.far_replay.specs.Command.{said, said_trace, Heap};
-ghost use Rattle.far_replay.specs.Reply.{Reply as Answer, Done, printed};
-ghost use Rattle.far_replay.specs.Tidy.{Tidy};
+ghost use Rattle.far_replay.specs.Command.{as_command, as_trace, Heap};
+ghost use Rattle.far_replay.specs.Reply.{Reply as Answer, Done, reply_text};
+ghost use Rattle.far_replay.specs.Between.{Between};
 
 use crate::command::Command;
 use crate::outcome::Scratch;
@@ -21,8 +21,9 @@ use crate::reply_writer::ReplyWriter;
 use crate::stream::{WriteFault, read_text};
 use crate::text::{LONGEST_TEXT, ParseError, Trace, parse};
 use crate::turn::turn;
+use far_book::{Book, Plain};
 use far_core::{Core, Shape};
-use far_word::{MOST_MUTATORS, Refused};
+use far_word::Refused;
 use std::alloc::{AllocError, Global};
 use std::io::{Read, Write};
 use thiserror::Error;
@@ -85,7 +86,7 @@ fn refuse<W: Write>(
     replies: &mut ReplyWriter,
     why: Refused,
 ) -> Result<(), WriteFault>
-    ensures { Writes (W.contents writer.old) (W.contents writer.new) result (refused_printed why) }
+    ensures { Writes (W.contents writer.old) (W.contents writer.new) result (refusal_text why) }
 {
     replies.clear();
     replies.add(writer, &Reply::Refused(why));
@@ -96,24 +97,32 @@ fn refuse<W: Write>(
 fn answer_commands<W: Write>(
     writer: &mut W,
     replies: &mut ReplyWriter,
-    core: Core,
-    named: &mut [u16],
+    book: Book<Plain>,
     scratch: &mut Scratch,
     commands: &[Command],
 ) -> Result<(), WriteFault>
-    requires tidy { Tidy (core_state core) (λ m. slice_index named.old m) }
-    requires sized { length named.old ≡ MOST_MUTATORS }
-    ensures { (replies : List Answer) × (moments : List Moment) × Answered (moment_of (core_state core)) (map said commands.now) replies moments
-        × Writes (W.contents writer.old) (W.contents writer.new) result (flat_map printed (Done ∷ replies)) }
+    requires between { Between (state_in book) }
+    ensures { (replies : List Answer) × (moments : List Moment) × Answered (moment_of (state_in book)) (map as_command commands.now) replies moments
+        × Writes (W.contents writer.old) (W.contents writer.new) result (flat_map reply_text (Done ∷ replies)) }
 {
-    let mut core = core;
+    let mut book = book;
     replies.clear();
     replies.add(writer, &Reply::Done);
     for command in commands {
-        let outcome = turn(&mut core, named, scratch, command);
+        let outcome = turn(&mut book, scratch, command);
         replies.add(writer, &scratch.reply(outcome));
     }
     replies.finish(writer)
+}
+
+// A book over a new heap, whose far side is honest.
+fn new_book(alloc: Global, shape: Shape) -> Result<Book<Plain>, Refused>
+    ensures state { IfOk result (λ book. state_in book ≡ opening shape true) }
+    ensures range { IfOk result (λ _. is_shape shape ≡ true) }
+    ensures refused { IfErr result (λ why. why ≡ cond (is_shape shape) Refused.Memory Refused.Shape) }
+{
+    let core = Core::new(alloc, shape, true)?;
+    Book::new(alloc, Plain { core })
 }
 
 // Makes a heap and the commands after it, and writes their replies. Out of memory for the heap, it writes that line alone.
@@ -125,17 +134,16 @@ fn answer_heap<W: Write>(
     commands: &[Command],
 ) -> Result<End, RunFault>
     requires first { shape.epoch ≡ 0 }
-    ensures answered { OnOk result (WritesOutput (W.contents writer.old) (W.contents writer.new) (Ok (Heap shape.logs shape.mutators (map said commands.now)))) }
-    ensures end { IfOk result (λ end. end ≡ end_of (Ok (Heap shape.logs shape.mutators (map said commands.now)))) }
-    ensures fault { IfErr result (λ fault. LeavesBehind fault (W.contents writer.old) (W.contents writer.new) (Ok (Heap shape.logs shape.mutators (map said commands.now)))) }
+    ensures answered { OnOk result (WritesOutput (W.contents writer.old) (W.contents writer.new) (Ok (Heap shape.logs shape.mutators (map as_command commands.now)))) }
+    ensures end { IfOk result (λ end. end ≡ end_of (Ok (Heap shape.logs shape.mutators (map as_command commands.now)))) }
+    ensures fault { IfErr result (λ fault. LeavesBehind fault (W.contents writer.old) (W.contents writer.new) (Ok (Heap shape.logs shape.mutators (map as_command commands.now)))) }
     ensures unread { result ≢ Err RunFault.Read }
     ensures memory { result ≡ Err RunFault.Memory → is_shape shape ≡ true }
 {
-    match Core::new(alloc, shape, true) {
-        Ok(core) => {
-            let mut named = [0u16; MOST_MUTATORS as usize];
+    match new_book(alloc, shape) {
+        Ok(book) => {
             let mut scratch = Scratch::new();
-            answer_commands(writer, replies, core, &mut named, &mut scratch, commands)?;
+            answer_commands(writer, replies, book, &mut scratch, commands)?;
             Ok(End::Ran)
         }
         Err(Refused::Memory) => {
@@ -156,11 +164,11 @@ fn answer<W: Write>(
     replies: &mut ReplyWriter,
     trace: &Trace,
 ) -> Result<End, RunFault>
-    ensures answered { OnOk result (WritesOutput (W.contents writer.old) (W.contents writer.new) (Ok (said_trace trace.now))) }
-    ensures end { IfOk result (λ end. end ≡ end_of (Ok (said_trace trace.now))) }
-    ensures fault { IfErr result (λ fault. LeavesBehind fault (W.contents writer.old) (W.contents writer.new) (Ok (said_trace trace.now))) }
+    ensures answered { OnOk result (WritesOutput (W.contents writer.old) (W.contents writer.new) (Ok (as_trace trace.now))) }
+    ensures end { IfOk result (λ end. end ≡ end_of (Ok (as_trace trace.now))) }
+    ensures fault { IfErr result (λ fault. LeavesBehind fault (W.contents writer.old) (W.contents writer.new) (Ok (as_trace trace.now))) }
     ensures unread { result ≢ Err RunFault.Read }
-    ensures memory { result ≡ Err RunFault.Memory → MayMakeHeap (Ok (said_trace trace.now)) }
+    ensures memory { result ≡ Err RunFault.Memory → MayMakeHeap (Ok (as_trace trace.now)) }
 {
     match trace {
         Trace::Nothing => Ok(End::Ran),

@@ -1,7 +1,7 @@
 //! A whole text: nothing, or a heap and commands.
 
 ghost use Rattle.std.specs.Prelude.{◌≡◌, ◌<◌, ◌≤◌, ◌+◌, length, map, Ok, Err, None, IfOk, IfErr, IfSome};
-ghost use Rattle.far_replay.specs.Command.{said, said_trace, Nothing};
+ghost use Rattle.far_replay.specs.Command.{as_command, as_trace, Nothing};
 ghost use Rattle.far_replay.specs.Cursor.{lines_left};
 ghost use Rattle.far_replay.specs.declared.text.TheConstants.{LONGEST_TEXT};
 ghost use Rattle.far_replay.specs.Grammar.{trace_of, lines_of, read_lines, read_commands, with_heap, IsFault};
@@ -106,7 +106,7 @@ fn commands_after<'a>(
     lines: Option<&'a [u8]>,
 ) -> Result<Vec<Command<'a>>, ParseError>
     requires counted { number + length (lines_left lines) ≤ LONGEST_TEXT + 1 }
-    ensures commands { IfOk result (λ commands. read_commands (number + 1) (lines_left lines.entry) ≡ Ok (map said commands.items)) }
+    ensures commands { IfOk result (λ commands. read_commands (number + 1) (lines_left lines.entry) ≡ Ok (map as_command commands.items)) }
     ensures fault { IfErr result (λ e. IsFault e (read_commands (number + 1) (lines_left lines.entry))) }
 {
     let mut commands: Vec<Command> = Vec::new(alloc);
@@ -130,7 +130,7 @@ fn commands_after<'a>(
 
 /// What a text says, or its first line off the grammar: a heap comes first, and nowhere else.
 pub fn parse(alloc: Global, text: &[u8]) -> Result<Trace<'_>, ParseError>
-    ensures trace { IfOk result (λ trace. trace_of text.now ≡ Ok (said_trace trace)) }
+    ensures trace { IfOk result (λ trace. trace_of text.now ≡ Ok (as_trace trace)) }
     ensures fault { IfErr result (λ e. IsFault e (trace_of text.now)) }
     ensures long { LONGEST_TEXT < length text.now → result ≡ Err (ParseError.Syntax 0) }
 {

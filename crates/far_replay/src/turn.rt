@@ -1,39 +1,37 @@
-//! Commands, each made as the events of a core that it stands for.
+//! Commands, each made by calls of a book and events of owners.
 
-ghost use Rattle.std.specs.Prelude.{◌≡◌, ◌≢◌, ◌+◌, ◌*◌, ◌<◌, ◌≤◌, ◌-◌, ◌/◌, ◌^◌, ℕ, true, List, Some, None, Ok, map, take, drop, length, slice_index, slice_range, cond, nat_lt, nat_le, IfOk, IfErr, IfSome, IfNone, IsSome, MatchResult};
+ghost use Rattle.std.specs.Prelude.{◌≡◌, ◌≢◌, ◌+◌, ◌*◌, ◌<◌, ◌≤◌, ◌-◌, ◌/◌, ◌^◌, ℕ, true, false, List, Some, None, Ok, map, take, drop, length, slice_index, slice_range, cond, nat_lt, nat_le, IfOk, IfErr, IfSome, IfNone, IsSome, MatchResult};
 ghost use Rattle.std.specs.List.{range_with_len};
 ghost use Rattle.far_word.specs.Sizes.{size_of};
 ghost use Rattle.far_word.specs.Bytes.{bytes_of, packed_word, words_of};
 ghost use Rattle.far_word.specs.Pointer.{read_of};
-ghost use Rattle.far_core.specs.state.CoreState.{core_state};
 ghost use Rattle.far_core.specs.state.Law.{Law};
 ghost use Rattle.far_core.specs.state.Room.{room};
 ghost use Rattle.far_core.specs.events.Ranges.{stores};
 ghost use Rattle.far_core.specs.events.Step.{data_len, data_word};
 ghost use Rattle.far_core.specs.declared.event.Event.{Event};
-ghost use Rattle.far_replay.specs.Command.{said, said_request};
-ghost use Rattle.far_replay.specs.Interpreter.{refused_in, IsAccess, IsViewed, IsNew, StandsFor, next_after, next_of};
+ghost use Rattle.far_replay.specs.Command.{as_command, as_request};
+ghost use Rattle.far_replay.specs.Interpreter.{refused_in, IsAccess, IsViewed, StandsFor};
 ghost use Rattle.far_replay.specs.HexWord.{hex_bytes as spelled};
 ghost use Rattle.far_replay.specs.EventRows.{after_events, AtHand};
-ghost use Rattle.far_replay.specs.Command.{Mutator, Book, New, Open, Write, Read, Close, Logs};
+ghost use Rattle.far_replay.specs.Command.{Mutator, Book, New, Open, Write, Read, Close, Where, Drop, Logs, Log, Audit};
 ghost use Rattle.far_replay.specs.Outcome.{reply_by, IsInRoom};
 ghost use Rattle.far_replay.specs.Reply.{IsShort};
-ghost use Rattle.far_replay.specs.Tidy.{Tidy};
+ghost use Rattle.far_replay.specs.Between.{Between};
 ghost use Rattle.far_replay.specs.Events.{events_for, turn_events, first_word, words_touched, starts_inside, ends_inside, first_loads, last_loads};
-ghost use Rattle.far_replay.specs.Objects.{data_of, lowest_cell, named_len, spliced};
-ghost use Rattle.far_replay.specs.Moment.{moment_of};
-ghost use Rattle.far_replay.specs.Turn.{effect, access_causes, first_cause, reply_to, turn_reply, refusal, log_line};
+ghost use Rattle.far_replay.specs.Objects.{data_of, lowest_cell, named_len, with_range, uses};
+ghost use Rattle.far_replay.specs.Moment.{moment_of, state_in};
+ghost use Rattle.far_replay.specs.Turn.{effect, access_causes, first_cause, reply_to, turn_reply, refusal, log_line, with_new};
 
 use crate::command::{Command, Inquiry, Request};
-use crate::events::{make_new, open, view};
+use crate::dropping::drop_object;
+use crate::events::{open, view};
 use crate::hex_word::HexWord;
+use crate::inquiries::{audit, find_object, tell_log, tell_logs};
 use crate::outcome::{Outcome, Scratch};
-use crate::reply::LogLine;
-use far_core::{Core, Event};
-use far_word::{
-    CELLS, LOG_WORDS, LONGEST, MOST_LOGS, MOST_MUTATORS, POINTERS, Place, Refused, pack_bytes,
-    pointer_len, size_of, unpack_bytes,
-};
+use far_book::{Book, Plain};
+use far_core::Event;
+use far_word::{CELLS, LOG_WORDS, LONGEST, Refused, pack_bytes, pointer_len, unpack_bytes};
 
 /// Some bytes of an object that its owner may reach: the numbers of the owner and the pointer, and the range.
 #[derive(Clone, Copy)]
@@ -54,31 +52,48 @@ fn object_len(cell: u64) -> u16
 }
 
 // The owner that a line's number of a mutator is, if the heap has it.
-fn owner_of(core: &Core, mutator: u64) -> Option<u8>
-    ensures owner { IfSome result (λ owner. (owner ≡ mutator) × (mutator < (core_state core.now).mutators)) }
-    ensures unknown { IfNone result ((core_state core.now).mutators ≤ mutator) }
+fn owner_of(book: &Book<Plain>, mutator: u64) -> Option<u8>
+    ensures owner { IfSome result (λ owner. (owner ≡ mutator) × (mutator < (state_in book.now).mutators)) }
+    ensures unknown { IfNone result ((state_in book.now).mutators ≤ mutator) }
 {
-    if mutator < u64::from(core.mutators()) {
+    if mutator < u64::from(book.core().mutators()) {
         return Some(mutator as u8);
     }
     None
 }
 
-// Whether an owner may reach some bytes of a pointer's object, or why not.
-fn reach(core: &Core, owner: u8, pointer: u64, from: u64, count: u64) -> Result<Access, Refused>
-    requires law { Law (core_state core.now) }
-    requires owner { owner < (core_state core.now).mutators }
-    ensures refusal { refused_in result ≡ first_cause (access_causes (moment_of (core_state core.now)) owner pointer from count) }
-    ensures access { IfOk result (λ a. IsAccess (core_state core.now) owner pointer from count a) }
+/// The pointer that a number is, if the owner uses it.
+pub fn own_pointer(book: &Book<Plain>, owner: u8, pointer: u64) -> Option<u16>
+    requires owner { owner < (state_in book.now).mutators }
+    ensures own { IfSome result (λ p. (p ≡ pointer) × (pointer / CELLS ≡ owner) × ((state_in book.now).used pointer ≡ true)) }
+    ensures other { IfNone result (uses (state_in book.now) owner pointer ≡ false) }
 {
-    if !core.is_open(owner) {
+    if pointer / u64::from(CELLS) != u64::from(owner) || !book.core().is_used(pointer as u16) {
+        return None;
+    }
+    Some(pointer as u16)
+}
+
+// Whether an owner may reach some bytes of a pointer's object, or why not.
+fn reach(
+    book: &Book<Plain>,
+    owner: u8,
+    pointer: u64,
+    from: u64,
+    count: u64,
+) -> Result<Access, Refused>
+    requires law { Law (state_in book.now) }
+    requires owner { owner < (state_in book.now).mutators }
+    ensures refusal { refused_in result ≡ first_cause (access_causes (moment_of (state_in book.now)) owner pointer from count) }
+    ensures access { IfOk result (λ a. IsAccess (state_in book.now) owner pointer from count a) }
+{
+    if !book.core().is_open(owner) {
         return Err(Refused::Closed);
     }
-    if pointer / u64::from(CELLS) != u64::from(owner) || !core.is_used(pointer as u16) {
+    let Some(pointer) = own_pointer(book, owner, pointer) else {
         return Err(Refused::NotHeld);
-    }
-    let pointer = pointer as u16;
-    let len = u64::from(object_len(core.cell(pointer)));
+    };
+    let len = u64::from(object_len(book.core().cell(pointer)));
     if count == 0 || from > len || count > len - from {
         return Err(Refused::Range);
     }
@@ -126,13 +141,13 @@ impl Access {
 }
 
 // Loads the words that a range touches, in front of the room for words.
-fn load_front(core: &Core, access: Access, words: &mut [u64])
-    requires viewed { IsViewed (core_state core.now) access }
+fn load_front(book: &Book<Plain>, access: Access, words: &mut [u64])
+    requires viewed { IsViewed (state_in book.now) access }
     requires room { length words.old ≡ LOG_WORDS }
-    ensures { (k : ℕ) → k < words_touched access.from access.count → slice_index words.new k ≡ (core_state core.now).word (data_word (core_state core.now) access.pointer (first_word access.from + k)) }
+    ensures { (k : ℕ) → k < words_touched access.from access.count → slice_index words.new k ≡ (state_in book.now).word (data_word (state_in book.now) access.pointer (first_word access.from + k)) }
 {
     let count = access.touched() as usize;
-    core.load_all(
+    book.load_all(
         access.owner,
         access.pointer,
         access.first(),
@@ -141,16 +156,16 @@ fn load_front(core: &Core, access: Access, words: &mut [u64])
 }
 
 // Reads a range of bytes.
-fn read(core: &mut Core, scratch: &mut Scratch, access: Access) -> Outcome
-    requires access { IsAccess (core_state core.old) access.owner access.pointer access.from access.count access }
-    requires tidy { (next : ℕ → ℕ) × Tidy (core_state core.old) next }
-    requires law { Law (core_state core.old) }
-    ensures state { core_state core.new ≡ after_events (core_state core.old) (turn_events (moment_of (core_state core.old)) (Mutator access.owner (Read access.pointer access.from access.count))) }
-    ensures reply { reply_by scratch.new.bytes scratch.new.lines result ≡ turn_reply (moment_of (core_state core.old)) (Mutator access.owner (Read access.pointer access.from access.count)) }
+fn read(book: &mut Book<Plain>, scratch: &mut Scratch, access: Access) -> Outcome
+    requires access { IsAccess (state_in book.old) access.owner access.pointer access.from access.count access }
+    requires between { Between (state_in book.old) }
+    requires law { Law (state_in book.old) }
+    ensures state { state_in book.new ≡ after_events (state_in book.old) (turn_events (moment_of (state_in book.old)) (Mutator access.owner (Read access.pointer access.from access.count))) }
+    ensures reply { reply_by scratch.new.bytes scratch.new.lines result ≡ turn_reply (moment_of (state_in book.old)) (Mutator access.owner (Read access.pointer access.from access.count)) }
     ensures fits { IsInRoom result }
 {
-    view(core, access.owner, access.pointer);
-    load_front(core, access, &mut scratch.words);
+    view(book, access.owner, access.pointer);
+    load_front(book, access, &mut scratch.words);
     let count = access.touched() as usize;
     unpack_front(&scratch.words, count, &mut scratch.bytes);
     Outcome::Data {
@@ -178,40 +193,44 @@ impl Access {
 }
 
 // Loads the first word that a range touches, if the range is a part of it alone.
-fn load_first(core: &Core, access: Access, words: &mut [u64])
-    requires viewed { IsViewed (core_state core.now) access }
+fn load_first(book: &Book<Plain>, access: Access, words: &mut [u64])
+    requires viewed { IsViewed (state_in book.now) access }
     requires room { length words.old ≡ LOG_WORDS }
-    ensures first { starts_inside access.from access.count ≡ true → slice_index words.new 0 ≡ (core_state core.now).word (data_word (core_state core.now) access.pointer (access.from / 8)) }
+    ensures first { starts_inside access.from access.count ≡ true → slice_index words.new 0 ≡ (state_in book.now).word (data_word (state_in book.now) access.pointer (access.from / 8)) }
 {
     if access.starts_inside() {
-        words[0] = core.load(access.owner, access.pointer, access.first());
+        words[0] = book
+            .core()
+            .load(access.owner, access.pointer, access.first());
     }
 }
 
 // Loads the last word that a range touches, if it touches others and is a part of it alone.
-fn load_last(core: &Core, access: Access, words: &mut [u64])
-    requires viewed { IsViewed (core_state core.now) access }
+fn load_last(book: &Book<Plain>, access: Access, words: &mut [u64])
+    requires viewed { IsViewed (state_in book.now) access }
     requires room { length words.old ≡ LOG_WORDS }
     ensures first { slice_index words.new 0 ≡ slice_index words.old 0 }
-    ensures last { ends_inside access.from access.count ≡ true → slice_index words.new ((access.from + access.count) / 8 - access.from / 8) ≡ (core_state core.now).word (data_word (core_state core.now) access.pointer ((access.from + access.count) / 8)) }
+    ensures last { ends_inside access.from access.count ≡ true → slice_index words.new ((access.from + access.count) / 8 - access.from / 8) ≡ (state_in book.now).word (data_word (state_in book.now) access.pointer ((access.from + access.count) / 8)) }
 {
     if access.ends_inside() {
         let last = (access.from + access.count) / 8;
-        words[(last - access.first()) as usize] = core.load(access.owner, access.pointer, last);
+        words[(last - access.first()) as usize] = book
+            .core()
+            .load(access.owner, access.pointer, last);
     }
 }
 
 // Puts bytes over a range in the words that it touches, in front of the room for words.
-fn splice(core: &Core, scratch: &mut Scratch, access: Access, bytes: HexWord)
-    requires law { Law (core_state core.now) }
-    requires viewed { IsViewed (core_state core.now) access }
+fn splice(book: &Book<Plain>, scratch: &mut Scratch, access: Access, bytes: HexWord)
+    requires law { Law (state_in book.now) }
+    requires viewed { IsViewed (state_in book.now) access }
     requires bytes { length (spelled bytes.digits.now) ≡ access.count }
     ensures words { (k : ℕ) → k < words_touched access.from access.count →
-        slice_index scratch.new.words k ≡ packed_word (spliced (data_of (core_state core.now) access.pointer) access.from (spelled bytes.entry.digits.now)) (first_word access.from + k) }
+        slice_index scratch.new.words k ≡ packed_word (with_range (data_of (state_in book.now) access.pointer) access.from (spelled bytes.entry.digits.now)) (first_word access.from + k) }
 {
     let touched = access.touched() as usize;
-    load_first(core, access, &mut scratch.words);
-    load_last(core, access, &mut scratch.words);
+    load_first(book, access, &mut scratch.words);
+    load_last(book, access, &mut scratch.words);
     unpack_front(&scratch.words, touched, &mut scratch.bytes);
     let at = (access.from - 8 * access.first()) as usize;
     bytes.decode_into(&mut scratch.bytes[at..at + access.count as usize]);
@@ -219,14 +238,14 @@ fn splice(core: &Core, scratch: &mut Scratch, access: Access, bytes: HexWord)
 }
 
 // Stores the words in front over those that a range touches.
-fn store_front(core: &mut Core, access: Access, words: &[u64])
-    requires viewed { IsViewed (core_state core.old) access }
+fn store_front(book: &mut Book<Plain>, access: Access, words: &[u64])
+    requires viewed { IsViewed (state_in book.old) access }
     requires room { length words.now ≡ LOG_WORDS }
-    requires padding { (k : ℕ) → k < words_touched access.from access.count → slice_index words.now k < 2 ^ (8 * (data_len (core_state core.old) access.pointer - 8 * (first_word access.from + k))) }
-    ensures { core_state core.new ≡ after_events (core_state core.old) (stores access.owner access.pointer (first_word access.from) (take (words_touched access.from access.count) words.now)) }
+    requires padding { (k : ℕ) → k < words_touched access.from access.count → slice_index words.now k < 2 ^ (8 * (data_len (state_in book.old) access.pointer - 8 * (first_word access.from + k))) }
+    ensures { state_in book.new ≡ after_events (state_in book.old) (stores access.owner access.pointer (first_word access.from) (take (words_touched access.from access.count) words.now)) }
 {
     let count = access.touched() as usize;
-    core.store_all(
+    book.store_all(
         access.owner,
         access.pointer,
         access.first(),
@@ -235,91 +254,27 @@ fn store_front(core: &mut Core, access: Access, words: &[u64])
 }
 
 // Writes bytes over a range.
-fn write(core: &mut Core, scratch: &mut Scratch, access: Access, bytes: HexWord) -> Outcome
-    requires access { IsAccess (core_state core.old) access.owner access.pointer access.from access.count access }
-    requires tidy { (next : ℕ → ℕ) × Tidy (core_state core.old) next }
-    requires law { Law (core_state core.old) }
+fn write(book: &mut Book<Plain>, scratch: &mut Scratch, access: Access, bytes: HexWord) -> Outcome
+    requires access { IsAccess (state_in book.old) access.owner access.pointer access.from access.count access }
+    requires between { Between (state_in book.old) }
+    requires law { Law (state_in book.old) }
     requires bytes { length (spelled bytes.digits.now) ≡ access.count }
-    ensures state { core_state core.new ≡ after_events (core_state core.old) (turn_events (moment_of (core_state core.old)) (Mutator access.owner (Write access.pointer access.from (spelled bytes.entry.digits.now)))) }
+    ensures state { state_in book.new ≡ after_events (state_in book.old) (turn_events (moment_of (state_in book.old)) (Mutator access.owner (Write access.pointer access.from (spelled bytes.entry.digits.now)))) }
     ensures done { result ≡ Outcome.Done }
 {
-    view(core, access.owner, access.pointer);
-    splice(core, scratch, access, bytes);
-    store_front(core, access, &scratch.words);
+    view(book, access.owner, access.pointer);
+    splice(book, scratch, access, bytes);
+    store_front(book, access, &scratch.words);
     Outcome::Done
 }
 
-/// A new object that may be made, at its place.
-#[derive(Clone, Copy)]
-pub struct NewObject {
-    owner: u8,
-    pointer: u16,
-    len: u16,
-    ds: u8,
-    place: Place,
-}
-
-// The end of the open log, if the span fits, or else the log after it, unless that is the last one.
-fn next_place(log: u8, tail: u16, logs: u8, size: u16) -> Option<Place>
-    requires { (log < logs) × (logs ≤ MOST_LOGS) × (tail ≤ LOG_WORDS) × (size ≤ LOG_WORDS) }
-    ensures value { result ≡ next_of log tail logs size }
-    ensures log { IfSome result (λ place. place.log < MOST_LOGS) }
-{
-    if tail + size <= LOG_WORDS {
-        return Some(Place { log, at: tail });
-    }
-    if log + 2 < logs {
-        return Some(Place {
-            log: log + 1,
-            at: 0,
-        });
-    }
-    None
-}
-
-// Where the next object goes. Logs are taken in order.
-fn room_for(core: &Core, size: u16) -> Option<Place>
-    requires tidy { (next : ℕ → ℕ) × Tidy (core_state core.now) next }
-    requires law { Law (core_state core.now) }
-    requires size { size ≤ LOG_WORDS }
-    ensures value { result ≡ room (core_state core.now) size true }
-    ensures log { IfSome result (λ place. place.log < MOST_LOGS) }
-{
-    let log = core.open_log();
-    next_place(log, core.tail(log), core.logs(), size)
-}
-
-// The next cell of an owner of which some are named.
-fn next_cell(owner: u8, named: u16) -> Option<u16>
-    requires { owner < MOST_MUTATORS }
-    ensures value { result ≡ cond (nat_lt named CELLS) (Some (owner * CELLS + named)) None }
-    ensures number { IfSome result (λ pointer. pointer < POINTERS) }
-{
-    if named < CELLS {
-        return Some(owner as u16 * CELLS + named);
-    }
-    None
-}
-
-// The lowest cell of an owner that is free. Cells are named in order.
-fn lowest(core: &Core, named: &[u16], owner: u8) -> Option<u16>
-    requires tidy { Tidy (core_state core.now) (λ m. slice_index named.now m) }
-    requires owner { owner < MOST_MUTATORS }
-    requires sized { length named.now ≡ MOST_MUTATORS }
-    ensures value { result ≡ lowest_cell (core_state core.now) owner }
-    ensures number { IfSome result (λ pointer. pointer < POINTERS) }
-{
-    next_cell(owner, named[owner as usize])
-}
-
-// Whether a new object may be made, or why not.
-fn plan_new(core: &Core, named: &[u16], owner: u8, len: u64, ds: u64) -> Result<NewObject, Refused>
-    requires known { owner < (core_state core.now).mutators }
-    requires tidy { Tidy (core_state core.now) (λ m. slice_index named.now m) }
-    requires law { Law (core_state core.now) }
-    requires sized { length named.now ≡ MOST_MUTATORS }
-    ensures refusal { refused_in result ≡ refusal (moment_of (core_state core.now)) (Mutator owner (New len ds)) }
-    ensures object { IfOk result (IsNew (core_state core.now) owner len ds) }
+// Makes a new object, or answers why not: its pointer.
+fn place_new(book: &mut Book<Plain>, owner: u8, len: u64, ds: u64) -> Result<u16, Refused>
+    requires known { owner < (state_in book.old).mutators }
+    ensures refusal { refused_in result ≡ refusal (moment_of (state_in book.old)) (Mutator owner (New len ds)) }
+    ensures cell { IfOk result (λ pointer. lowest_cell (state_in book.old) owner ≡ Some pointer) }
+    ensures made { IfOk result (λ pointer. state_in book.new ≡ with_new (state_in book.old) len ds (Some pointer) (room (state_in book.old) (size_of len) true)) }
+    ensures unchanged { IfErr result (λ _. state_in book.new ≡ state_in book.old) }
 {
     if ds >= 256 {
         return Err(Refused::Range);
@@ -327,221 +282,165 @@ fn plan_new(core: &Core, named: &[u16], owner: u8, len: u64, ds: u64) -> Result<
     if len == 0 || len > u64::from(LONGEST) {
         return Err(Refused::Length);
     }
-    let (len, ds) = (len as u16, ds as u8);
-    let Some(pointer) = lowest(core, named, owner) else {
+    let Some(pointer) = book.free_cell(owner) else {
         return Err(Refused::NoPointer);
     };
-    let Some(place) = room_for(core, size_of(len)) else {
+    let Ok(_) = book.place(pointer, len as u16, ds as u8) else {
         return Err(Refused::NoRoom);
     };
-    Ok(NewObject {
-        owner,
-        pointer,
-        len,
-        ds,
-        place,
-    })
+    book.owner(Event::Adopt { owner, pointer });
+    Ok(pointer)
 }
 
 // Makes a new object.
-fn make_object(core: &mut Core, named: &mut [u16], owner: u8, len: u64, ds: u64) -> Outcome
-    requires known { owner < (core_state core.old).mutators }
-    requires tidy { Tidy (core_state core.old) (λ m. slice_index named.old m) }
-    requires law { Law (core_state core.old) }
-    requires sized { length named.old ≡ MOST_MUTATORS }
-    ensures state { core_state core.new ≡ after_events (core_state core.old) (events_for (moment_of (core_state core.old)) (Mutator owner (New len ds))) }
-    ensures reply { StandsFor result (reply_to (moment_of (core_state core.old)) (Mutator owner (New len ds))) }
-    ensures named { (m : ℕ) → slice_index named.new m ≡ next_after (moment_of (core_state core.old)) (Mutator owner (New len ds)) (λ k. slice_index named.old k) m }
+fn make_object(book: &mut Book<Plain>, owner: u8, len: u64, ds: u64) -> Outcome
+    requires known { owner < (state_in book.old).mutators }
+    requires between { Between (state_in book.old) }
+    requires law { Law (state_in book.old) }
+    ensures state { state_in book.new ≡ after_events (state_in book.old) (events_for (moment_of (state_in book.old)) (Mutator owner (New len ds))) }
+    ensures reply { StandsFor result (reply_to (moment_of (state_in book.old)) (Mutator owner (New len ds))) }
     ensures fits { IsInRoom result }
 {
-    match plan_new(core, named, owner, len, ds) {
-        Ok(object) => {
-            make_new(
-                core,
-                object.owner,
-                object.pointer,
-                object.len,
-                object.ds,
-                object.place,
-            );
-            named[object.owner as usize] += 1;
-            Outcome::Pointer(object.pointer)
-        }
+    match place_new(book, owner, len, ds) {
+        Ok(pointer) => Outcome::Pointer(pointer),
         Err(why) => Outcome::Refused(why),
     }
 }
 
 // Opens an owner's scope.
-fn open_scope(core: &mut Core, owner: u8) -> Outcome
-    requires known { owner < (core_state core.old).mutators }
-    ensures state { core_state core.new ≡ after_events (core_state core.old) (events_for (moment_of (core_state core.old)) (Mutator owner Open)) }
-    ensures reply { StandsFor result (reply_to (moment_of (core_state core.old)) (Mutator owner Open)) }
+fn open_scope(book: &mut Book<Plain>, owner: u8) -> Outcome
+    requires known { owner < (state_in book.old).mutators }
+    ensures state { state_in book.new ≡ after_events (state_in book.old) (events_for (moment_of (state_in book.old)) (Mutator owner Open)) }
+    ensures reply { StandsFor result (reply_to (moment_of (state_in book.old)) (Mutator owner Open)) }
     ensures fits { IsInRoom result }
 {
-    if core.is_open(owner) {
+    if book.core().is_open(owner) {
         return Outcome::Refused(Refused::AlreadyOpen);
     }
-    open(core, owner);
+    open(book, owner);
     Outcome::Done
 }
 
 // Closes an owner's scope.
-fn close_scope(core: &mut Core, owner: u8) -> Outcome
-    requires known { owner < (core_state core.old).mutators }
-    ensures state { core_state core.new ≡ after_events (core_state core.old) (events_for (moment_of (core_state core.old)) (Mutator owner Close)) }
-    ensures reply { StandsFor result (reply_to (moment_of (core_state core.old)) (Mutator owner Close)) }
+fn close_scope(book: &mut Book<Plain>, owner: u8) -> Outcome
+    requires known { owner < (state_in book.old).mutators }
+    ensures state { state_in book.new ≡ after_events (state_in book.old) (events_for (moment_of (state_in book.old)) (Mutator owner Close)) }
+    ensures reply { StandsFor result (reply_to (moment_of (state_in book.old)) (Mutator owner Close)) }
     ensures fits { IsInRoom result }
 {
-    if !core.is_open(owner) {
+    if !book.core().is_open(owner) {
         return Outcome::Refused(Refused::Closed);
     }
-    core.step(Event::Close { owner });
+    book.owner(Event::Close { owner });
     Outcome::Done
 }
 
 // Reads a range of an owner's object.
 fn read_range(
-    core: &mut Core,
+    book: &mut Book<Plain>,
     scratch: &mut Scratch,
     owner: u8,
     pointer: u64,
     from: u64,
     len: u64,
 ) -> Outcome
-    requires known { owner < (core_state core.old).mutators }
-    requires tidy { (next : ℕ → ℕ) × Tidy (core_state core.old) next }
-    requires law { Law (core_state core.old) }
-    ensures state { core_state core.new ≡ after_events (core_state core.old) (events_for (moment_of (core_state core.old)) (Mutator owner (Read pointer from len))) }
-    ensures reply { reply_by scratch.new.bytes scratch.new.lines result ≡ reply_to (moment_of (core_state core.old)) (Mutator owner (Read pointer from len)) }
+    requires known { owner < (state_in book.old).mutators }
+    requires between { Between (state_in book.old) }
+    requires law { Law (state_in book.old) }
+    ensures state { state_in book.new ≡ after_events (state_in book.old) (events_for (moment_of (state_in book.old)) (Mutator owner (Read pointer from len))) }
+    ensures reply { reply_by scratch.new.bytes scratch.new.lines result ≡ reply_to (moment_of (state_in book.old)) (Mutator owner (Read pointer from len)) }
     ensures fits { IsInRoom result }
 {
-    match reach(core, owner, pointer, from, len) {
-        Ok(access) => read(core, scratch, access),
+    match reach(book, owner, pointer, from, len) {
+        Ok(access) => read(book, scratch, access),
         Err(why) => Outcome::Refused(why),
     }
 }
 
 // Writes bytes over a range of an owner's object.
 fn write_range(
-    core: &mut Core,
+    book: &mut Book<Plain>,
     scratch: &mut Scratch,
     owner: u8,
     pointer: u64,
     from: u64,
     bytes: HexWord,
 ) -> Outcome
-    requires known { owner < (core_state core.old).mutators }
-    requires tidy { (next : ℕ → ℕ) × Tidy (core_state core.old) next }
-    requires law { Law (core_state core.old) }
-    ensures state { core_state core.new ≡ after_events (core_state core.old) (events_for (moment_of (core_state core.old)) (Mutator owner (Write pointer from (spelled bytes.entry.digits.now)))) }
-    ensures reply { StandsFor result (reply_to (moment_of (core_state core.old)) (Mutator owner (Write pointer from (spelled bytes.entry.digits.now)))) }
+    requires known { owner < (state_in book.old).mutators }
+    requires between { Between (state_in book.old) }
+    requires law { Law (state_in book.old) }
+    ensures state { state_in book.new ≡ after_events (state_in book.old) (events_for (moment_of (state_in book.old)) (Mutator owner (Write pointer from (spelled bytes.entry.digits.now)))) }
+    ensures reply { StandsFor result (reply_to (moment_of (state_in book.old)) (Mutator owner (Write pointer from (spelled bytes.entry.digits.now)))) }
     ensures fits { IsInRoom result }
 {
-    match reach(core, owner, pointer, from, bytes.len() as u64) {
-        Ok(access) => write(core, scratch, access, bytes),
+    match reach(book, owner, pointer, from, bytes.len() as u64) {
+        Ok(access) => write(book, scratch, access, bytes),
         Err(why) => Outcome::Refused(why),
-    }
-}
-
-// What `logs` says of a log. All its spans are live.
-fn log_told(core: &Core, log: u8) -> LogLine
-    requires tidy { (next : ℕ → ℕ) × Tidy (core_state core.now) next }
-    requires law { Law (core_state core.now) }
-    requires log { log < (core_state core.now).logs }
-    ensures { result ≡ log_line (moment_of (core_state core.now)) log }
-{
-    let live = 8 * u64::from(core.tail(log));
-    LogLine {
-        log,
-        kind: core.kind(log),
-        live,
-        dead: 0,
-        unused: 8 * LOG_WORDS as u64 - live,
-    }
-}
-
-// Fills the room with a line of each log, by number.
-fn tell_logs(core: &Core, lines: &mut [LogLine])
-    requires tidy { (next : ℕ → ℕ) × Tidy (core_state core.now) next }
-    requires law { Law (core_state core.now) }
-    requires room { length lines.old ≡ MOST_LOGS }
-    ensures { take (core_state core.now).logs lines.new ≡ map (log_line (moment_of (core_state core.now))) (range_with_len 0 (core_state core.now).logs) }
-{
-    for log in 0..core.logs() {
-        lines[log as usize] = log_told(core, log);
     }
 }
 
 // Makes the events of an owner's request, and answers what it comes to.
 fn make_request(
-    core: &mut Core,
-    named: &mut [u16],
+    book: &mut Book<Plain>,
     scratch: &mut Scratch,
     owner: u8,
     request: Request,
 ) -> Outcome
-    requires known { owner < (core_state core.old).mutators }
-    requires tidy { Tidy (core_state core.old) (λ m. slice_index named.old m) }
-    requires law { Law (core_state core.old) }
-    requires sized { length named.old ≡ MOST_MUTATORS }
-    ensures state { core_state core.new ≡ after_events (core_state core.old) (events_for (moment_of (core_state core.old)) (Mutator owner (said_request request.entry))) }
-    ensures reply { reply_by scratch.new.bytes scratch.new.lines result ≡ reply_to (moment_of (core_state core.old)) (Mutator owner (said_request request.entry)) }
-    ensures named { (m : ℕ) → slice_index named.new m ≡ next_after (moment_of (core_state core.old)) (Mutator owner (said_request request.entry)) (λ k. slice_index named.old k) m }
+    requires known { owner < (state_in book.old).mutators }
+    requires between { Between (state_in book.old) }
+    requires law { Law (state_in book.old) }
+    ensures state { state_in book.new ≡ after_events (state_in book.old) (events_for (moment_of (state_in book.old)) (Mutator owner (as_request request.entry))) }
+    ensures reply { reply_by scratch.new.bytes scratch.new.lines result ≡ reply_to (moment_of (state_in book.old)) (Mutator owner (as_request request.entry)) }
     ensures fits { IsInRoom result }
 {
     match request {
-        Request::New { len, structure } => make_object(core, named, owner, len, structure),
-        Request::Open => open_scope(core, owner),
+        Request::New { len, structure } => make_object(book, owner, len, structure),
+        Request::Open => open_scope(book, owner),
         Request::Write {
             pointer,
             from,
             bytes,
-        } => write_range(core, scratch, owner, pointer, from, bytes),
+        } => write_range(book, scratch, owner, pointer, from, bytes),
         Request::Read { pointer, from, len } => {
-            read_range(core, scratch, owner, pointer, from, len)
+            read_range(book, scratch, owner, pointer, from, len)
         }
-        Request::Close => close_scope(core, owner),
+        Request::Close => close_scope(book, owner),
+        Request::Where { pointer } => find_object(book, owner, pointer),
+        Request::Drop { pointer } => drop_object(book, owner, pointer),
     }
 }
 
 // Makes the events of one command, and answers what it comes to.
-fn make_events(
-    core: &mut Core,
-    named: &mut [u16],
-    scratch: &mut Scratch,
-    command: &Command,
-) -> Outcome
-    requires tidy { Tidy (core_state core.old) (λ m. slice_index named.old m) }
-    requires law { Law (core_state core.old) }
-    requires sized { length named.old ≡ MOST_MUTATORS }
-    ensures state { core_state core.new ≡ after_events (core_state core.old) (events_for (moment_of (core_state core.old)) (said command.now)) }
-    ensures reply { reply_by scratch.new.bytes scratch.new.lines result ≡ reply_to (moment_of (core_state core.old)) (said command.now) }
-    ensures named { (m : ℕ) → slice_index named.new m ≡ next_after (moment_of (core_state core.old)) (said command.now) (λ k. slice_index named.old k) m }
+fn make_events(book: &mut Book<Plain>, scratch: &mut Scratch, command: &Command) -> Outcome
+    requires between { Between (state_in book.old) }
+    requires law { Law (state_in book.old) }
+    ensures state { state_in book.new ≡ after_events (state_in book.old) (events_for (moment_of (state_in book.old)) (as_command command.now)) }
+    ensures reply { reply_by scratch.new.bytes scratch.new.lines result ≡ reply_to (moment_of (state_in book.old)) (as_command command.now) }
     ensures fits { IsInRoom result }
 {
     match *command {
         Command::Mutator { mutator, request } => {
-            let Some(owner) = owner_of(core, mutator) else {
+            let Some(owner) = owner_of(book, mutator) else {
                 return Outcome::Refused(Refused::Range);
             };
-            make_request(core, named, scratch, owner, request)
+            make_request(book, scratch, owner, request)
         }
         Command::Book(Inquiry::Logs) => {
-            tell_logs(core, &mut scratch.lines);
-            Outcome::Logs(core.logs())
+            tell_logs(book, &mut scratch.lines);
+            Outcome::Logs(book.core().logs())
         }
+        Command::Book(Inquiry::Log { log }) => tell_log(book, scratch, log),
+        Command::Book(Inquiry::Audit) => audit(book),
     }
 }
 
 /// Makes one command, and answers what it comes to.
-pub fn turn(core: &mut Core, named: &mut [u16], scratch: &mut Scratch, command: &Command) -> Outcome
-    requires tidy { Tidy (core_state core.old) (λ m. slice_index named.old m) }
-    requires law { Law (core_state core.old) }
-    requires sized { length named.old ≡ MOST_MUTATORS }
-    ensures moment { moment_of (core_state core.new) ≡ effect (moment_of (core_state core.old)) (said command.now) }
-    ensures reply { reply_by scratch.new.bytes scratch.new.lines result ≡ reply_to (moment_of (core_state core.old)) (said command.now) }
-    ensures named { (m : ℕ) → slice_index named.new m ≡ next_after (moment_of (core_state core.old)) (said command.now) (λ k. slice_index named.old k) m }
+pub fn turn(book: &mut Book<Plain>, scratch: &mut Scratch, command: &Command) -> Outcome
+    requires between { Between (state_in book.old) }
+    requires law { Law (state_in book.old) }
+    ensures moment { moment_of (state_in book.new) ≡ effect (moment_of (state_in book.old)) (as_command command.now) }
+    ensures reply { reply_by scratch.new.bytes scratch.new.lines result ≡ reply_to (moment_of (state_in book.old)) (as_command command.now) }
     ensures fits { IsInRoom result }
 {
-    make_events(core, named, scratch, command)
+    make_events(book, scratch, command)
 }

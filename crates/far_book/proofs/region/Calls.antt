@@ -18,6 +18,7 @@ use Rattle.far_core.specs.declared.event.Event.TheVariants as events
 use Rattle.far_core.specs.declared.naming.Naming.TheVariants as naming
 use Rattle.far_core.specs.events.Legal.{Legal, IsNext}
 use Rattle.far_core.specs.events.Naming.{is_dropped, no_marks}
+use Rattle.far_core.specs.events.Ranges.{with_row}
 use Rattle.far_core.specs.events.Step.{after}
 use Rattle.far_core.specs.laws.Rooms.{IsRoom, RoomIs}
 use Rattle.far_core.specs.state.Law.{Law}
@@ -26,9 +27,10 @@ use Rattle.far_core.specs.state.State.{State, put, addr}
 use Rattle.far_core.proofs.Cells.{unused}
 use Rattle.far_core.proofs.Put.{put_both, put_same, put_other}
 use Rattle.far_core.proofs.RoomLaws.{room_right}
+use Rattle.far_core.proofs.Rows.{row_in, row_out}
 use Rattle.far_book.specs.declared.ledger.Ledger.{Ledger}
 use Rattle.far_book.specs.Finds.{Finds, body_of, marks_in}
-use Rattle.far_book.specs.book.Effects.{retired, order_after, with_free_cell, with_blank_span, near_word, written}
+use Rattle.far_book.specs.book.Effects.{retired, order_after, with_free_cell, with_blank_span, near_word}
 use Rattle.far_book.specs.book.Ledger.{Notes, IsLowestFree, MayTake, Takes}
 use Rattle.far_book.specs.book.Own.{own_part}
 use Rattle.far_book.specs.book.Placeable.{Placeable}
@@ -38,7 +40,6 @@ use Rattle.far_book.proofs.region.NotesKept.{order_short}
 use Rattle.far_book.proofs.region.Notings.{live_small}
 use Rattle.far_book.proofs.region.Owns.{own_bare, own_live, own_dead}
 use Rattle.far_book.proofs.region.Places.{at_end}
-use Rattle.far_book.proofs.region.Written.{written_other, written_in}
 use Rattle.far_book.proofs.region.Retires.{freed_is, retired_is}
 
 -- ---- what is read off
@@ -93,11 +94,11 @@ module _ (s : State) (ledger : Ledger) (notes : Notes (own_part s) ledger) (p le
 -- where a header and zeros are written at the end of a log, the span there may be named
 pub may_name : (s : State) (p len ds : ℕ) (place : Place) → p < CELLS * s.mutators → IsPtr (Near len ds place no_marks) → IsNext s place → Legal (with_blank_span s p len ds place) (events.Name p 0 (near_word len ds place))
 may_name s p len ds place pointer layout next = (pointer, (naming.Places len ds place, (unused, read_back (Near len ds place no_marks) layout), (record { next = next; head = header }, blank))) where
-  header : written (put s.word (addr place) (head_word p len ds)) (addr place + 1) (words_for len) (λ _. 0) (addr place) ≡ head_word p len ds
-  header = written_other (put s.word (addr place) (head_word p len ds)) (addr place + 1) (words_for len) (λ _. 0) (addr place) (λ low high. omega arith) ∙ put_same s.word (addr place) (head_word p len ds) (addr place) refl
+  header : with_row (put s.word (addr place) (head_word p len ds)) (addr place + 1) (words_for len) (λ _. 0) (addr place) ≡ head_word p len ds
+  header = row_out (put s.word (addr place) (head_word p len ds)) (addr place + 1) (words_for len) (λ _. 0) (addr place) (inl (omega arith)) ∙ put_same s.word (addr place) (head_word p len ds) (addr place) refl
 
-  blank : (i : ℕ) → i < words_for len → written (put s.word (addr place) (head_word p len ds)) (addr place + 1) (words_for len) (λ _. 0) (addr place + 1 + i) ≡ 0
-  blank i lt = written_in (put s.word (addr place) (head_word p len ds)) (addr place + 1) (words_for len) (λ _. 0) (addr place + 1 + i) (omega arith) (omega arith)
+  blank : (i : ℕ) → i < words_for len → with_row (put s.word (addr place) (head_word p len ds)) (addr place + 1) (words_for len) (λ _. 0) (addr place + 1 + i) ≡ 0
+  blank i lt = row_in (put s.word (addr place) (head_word p len ds)) (addr place + 1) (words_for len) (λ _. 0) (addr place + 1 + i) (omega arith) (omega arith)
 
 -- ---- freeing
 -- a cell that is written twice is as it was written last

@@ -1,17 +1,23 @@
--- Owners' events leave a right ledger right.
-use Rattle.std.proofs.Common.{◌≡◌, ℕ, ◌+◌, true, cond, arith, sym, refl, ap, subst, ◌∙◌, inl, inr}
-use Rattle.std.specs.Prelude.{◌==◌}
+-- Owners' events, one or a row of stores, leave a right ledger right.
+use Rattle.std.proofs.Common.{◌≡◌, ℕ, ◌+◌, ◌^◌, ◌<◌, true, cond, arith, sym, refl, ap, subst, ◌∙◌, List, [], ◌∷◌, map, inl, inr}
+use Rattle.std.specs.Prelude.{◌==◌, slice_index}
 use Rattle.std.proofs.lemmas.Bool.{cond_both, cases_eq, eq-eqb, ne_eqb, false≢true}
 use Rattle.far_log.specs.Spans.{taken_by}
+use Rattle.far_core.specs.declared.event.Event.{Event}
+use Rattle.far_core.specs.declared.event.Event.TheVariants.{Store}
+use Rattle.far_core.specs.events.Ranges.{after_events}
+use Rattle.far_core.specs.events.Step.{step_of}
 use Rattle.far_core.specs.laws.Observed.{live_bytes}
 use Rattle.far_core.specs.state.Law.{Law, head_len}
 use Rattle.far_core.specs.state.Spans.{spans_of, is_live}
 use Rattle.far_core.specs.state.State.{State, addr}
 use Rattle.far_core.proofs.Bounds.{span_len}
+use Rattle.far_core.proofs.Keeps.{step_keeps}
 use Rattle.far_book.specs.declared.ledger.Ledger.{Ledger}
 use Rattle.far_book.specs.Owners.{OwnersChange}
 use Rattle.far_book.specs.book.Ledger.{Notes}
 use Rattle.far_book.specs.book.Own.{own_part}
+use Rattle.far_book.proofs.OwnersWork.{step_changes}
 use Rattle.far_book.proofs.region.Founds.{names_found, free_found, free_known}
 use Rattle.far_book.proofs.region.Owns.{own_law}
 use Rattle.far_book.proofs.region.SpanLists.{taken_same}
@@ -63,3 +69,12 @@ module _ (s t : State) (law : Law s) (next : Law t) (change : OwnersChange s t) 
     cells = notes.cells;
     cell = λ p lt. notes.cell p lt ∙ sym (same_free p);
   }
+
+-- a row of stores, legal or not
+module _ (ledger : Ledger) (m p first : ℕ) (words : List ℕ) (wide : (k : ℕ) → slice_index words k < 2 ^ 64) where
+  pub notes_stored : (is : List ℕ) (s : State) → Law s → Notes (own_part s) ledger → Notes (own_part (after_events s (map (λ i. Store m p (first + i) (slice_index words i)) is))) ledger
+  notes_stored [] s law notes = notes
+  notes_stored (i ∷ is) s law notes =
+      let e : Event = Store m p (first + i) (slice_index words i) in
+      let next : Law (step_of s e).0 = step_keeps s e law (wide i) in
+      notes_stored is (step_of s e).0 next (notes_owned s (step_of s e).0 law next (step_changes s e law refl) ledger notes)

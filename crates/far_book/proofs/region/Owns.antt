@@ -15,6 +15,7 @@ use Rattle.far_log.proofs.Members.{here, there}
 use Rattle.far_log.proofs.SpanLaws.{tile_low}
 use Rattle.far_word.specs.Pointer.{read_of}
 use Rattle.far_core.specs.events.Naming.{is_dropped}
+use Rattle.far_core.specs.events.Ranges.{with_row}
 use Rattle.far_core.specs.laws.Observed.{live_bytes, dead_bytes}
 use Rattle.far_core.specs.state.Law.{Law, head_len}
 use Rattle.far_core.specs.state.Spans.{spans_of, word_in, is_live}
@@ -23,12 +24,12 @@ use Rattle.far_core.proofs.KeepOwner.{closed_word}
 use Rattle.far_core.proofs.Observations.{found, walks}
 use Rattle.far_core.proofs.Put.{put_same, put_other}
 use Rattle.far_book.specs.Known.{Forgets}
-use Rattle.far_book.specs.book.Effects.{written, placed, retired, with_blank_span, with_free_cell}
+use Rattle.far_book.specs.book.Effects.{placed, retired, with_blank_span, with_free_cell}
 use Rattle.far_book.specs.book.Own.{own_part}
 use Rattle.far_book.specs.book.Placeable.{Placeable, with_object}
 use Rattle.far_book.proofs.region.Places.{named_is, none_past}
 use Rattle.far_book.proofs.region.Retires.{retired_is}
-use Rattle.far_book.proofs.region.Written.{written_other}
+use Rattle.far_book.proofs.region.Written.{row_other}
 
 -- a header is the word itself, and no other word is there
 pub own_header : (s : State) (a : ℕ) → s.starts a ≡ true → (own_part s).word a ≡ s.word a
@@ -120,14 +121,14 @@ own_forgets s t is h = own_headers s t is (λ a begun. h.headers a (ap (λ (u : 
 
 -- a new object
 module _ (s : State) (law : Law (own_part s)) (p len ds : ℕ) (place : Place) (h : Placeable (own_part s) p len ds place) where
-  own_word : (a : ℕ) → cond (put s.starts (addr place) true a) (written (put s.word (addr place) (head_word p len ds)) (addr place + 1) (words_for len) (λ _. 0) a) 0
+  own_word : (a : ℕ) → cond (put s.starts (addr place) true a) (with_row (put s.word (addr place) (head_word p len ds)) (addr place + 1) (words_for len) (λ _. 0) a) 0
       ≡ put (own_part s).word (addr place) (head_word p len ds) a
   own_word a = elim (cases_eq a (addr place)) [
     | inl e ↦ rw (put_same s.starts (addr place) true a e, put_same (own_part s).word (addr place) (head_word p len ds) a e)
-        (written_other (put s.word (addr place) (head_word p len ds)) (addr place + 1) (words_for len) (λ _. 0) a (λ low high. omega arith) ∙ put_same s.word (addr place) (head_word p len ds) a e)
+        (row_other (put s.word (addr place) (head_word p len ds)) (addr place + 1) (words_for len) (λ _. 0) a (λ low high. omega arith) ∙ put_same s.word (addr place) (head_word p len ds) a e)
     | inr ne ↦ rw (put_other s.starts (addr place) true a ne, put_other (own_part s).word (addr place) (head_word p len ds) a ne)
-        (cond_both (s.starts a) (written (put s.word (addr place) (head_word p len ds)) (addr place + 1) (words_for len) (λ _. 0) a) 0 (λ w. w ≡ cond (s.starts a) (s.word a) 0)
-        (λ begun. written_other (put s.word (addr place) (head_word p len ds)) (addr place + 1) (words_for len) (λ _. 0) a (λ low high. inside a begun low high)
+        (cond_both (s.starts a) (with_row (put s.word (addr place) (head_word p len ds)) (addr place + 1) (words_for len) (λ _. 0) a) 0 (λ w. w ≡ cond (s.starts a) (s.word a) 0)
+        (λ begun. row_other (put s.word (addr place) (head_word p len ds)) (addr place + 1) (words_for len) (λ _. 0) a (λ low high. inside a begun low high)
         ∙ put_other s.word (addr place) (head_word p len ds) a ne ∙ sym (ap (λ b. cond b (s.word a) 0) begun))
         (λ not_begun. sym (ap (λ b. cond b (s.word a) 0) not_begun)))
   ] where

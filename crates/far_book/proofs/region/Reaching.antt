@@ -1,6 +1,9 @@
 -- The effects of the book's calls are reached by legal events.
-use Rattle.std.proofs.Common.{◌≡◌, ℕ, zero, suc, ◌+◌, ◌*◌, ◌^◌, ◌<◌, ◌≤◌, true, cond, arith, sym, refl, ap, subst, ◌∙◌, Some, List, [], ◌∷◌, ◌++◌}
+use Rattle.std.proofs.Common.{◌≡◌, ℕ, ◌+◌, ◌*◌, ◌^◌, ◌<◌, ◌≤◌, true, cond, arith, sym, refl, ap, subst, ◌∙◌, Some, List, [], ◌∷◌, ◌++◌, map}
+use Rattle.std.specs.Prelude.{◌≢◌, All}
+use Rattle.std.specs.List.{range_with_len}
 use Rattle.std.proofs.lemmas.Bool.{eq-eqb}
+use Rattle.std.proofs.lemmas.List.Elements.{All-append, All-cons, All-head, All-map, All-nil, All-tail}
 use Rattle.far_word.specs.declared.pointer.Place.{Place}
 use Rattle.far_word.specs.declared.pointer.PtrWord.TheVariants.{Near}
 use Rattle.far_word.specs.declared.sizes.TheConstants.{CELLS, LOG_WORDS, LONGEST}
@@ -11,58 +14,104 @@ use Rattle.far_word.proofs.HeaderLaws.{head_fits}
 use Rattle.far_word.proofs.PointerLaws.{word_fits, read_back}
 use Rattle.far_core.specs.declared.event.Event.{Event}
 use Rattle.far_core.specs.declared.event.Event.TheVariants as events
-use Rattle.far_core.specs.events.Legal.{Legal}
-use Rattle.far_core.specs.events.Naming.{no_marks, naming_of}
-use Rattle.far_core.specs.events.Name.{change_by}
+use Rattle.far_core.specs.declared.event.Kind.TheVariants.{Sealed}
+use Rattle.far_core.specs.declared.event.Reply.{Reply}
+use Rattle.far_core.specs.declared.event.Reply.TheVariants.{Done, Refused, Word}
 use Rattle.far_core.specs.declared.naming.Naming.TheVariants as naming
-use Rattle.far_core.specs.declared.event.Reply.TheVariants.{Done, Word}
-use Rattle.far_core.specs.events.Step.{Fits, after, answer}
+use Rattle.far_core.specs.events.Legal.{Legal}
+use Rattle.far_core.specs.events.Name.{change_by}
+use Rattle.far_core.specs.events.Naming.{no_marks, naming_of}
+use Rattle.far_core.specs.events.Ranges.{AllLegal, after_events, with_row, zero_puts}
+use Rattle.far_core.specs.events.Step.{Fits, after, answer, step_of}
 use Rattle.far_core.specs.laws.Rooms.{IsRoom, RoomIs}
 use Rattle.far_core.specs.state.Law.{Law}
+use Rattle.far_core.specs.state.Room.{room}
+use Rattle.far_core.specs.state.State.{State, addr}
 use Rattle.far_core.specs.world.Changes.{Step, StepOf, Makes}
 use Rattle.far_core.specs.world.Happens.{Happens}
 use Rattle.far_core.specs.world.WorldOf.{world_of}
-use Rattle.far_core.specs.state.Room.{room}
-use Rattle.far_core.specs.state.State.{State, put, addr}
 use Rattle.far_core.proofs.Cells.{unused}
+use Rattle.far_core.proofs.Keeps.{step_keeps}
 use Rattle.far_core.proofs.NewSpans.{at_tail}
-use Rattle.far_core.proofs.Owing.{keeps, does}
+use Rattle.far_core.proofs.Owing.{keeps, does, is_test}
+use Rattle.far_core.proofs.Ranges.{zeros_legal, zeros_end}
 use Rattle.far_core.proofs.RoomLaws.{room_right}
-use Rattle.far_book.specs.book.Effects.{near_word, written, placed, retired, with_blank_span}
-use Rattle.far_book.specs.book.Laws.{PlacingIsLegal, RetiringIsLegal}
-use Rattle.far_book.specs.book.Reached.{Leads, Reached}
+use Rattle.far_book.specs.book.Effects.{near_word, placed, retired, with_blank_span}
+use Rattle.far_book.specs.book.Laws.{IsPlaced, PlacingIsLegal, RetiringIsLegal}
+use Rattle.far_book.specs.book.Reached.{Reached}
 use Rattle.far_book.proofs.region.Calls.{may_name}
+use Rattle.far_book.proofs.region.Effects.{is_placed, is_freed}
 use Rattle.far_book.proofs.region.Places.{next_unsealed}
 use Rattle.far_book.proofs.region.Retires.{may_retire, retires_form}
-use Rattle.far_book.proofs.region.Written.{written_none, written_more}
 
--- one event more
-leads_more : (s t : State) (es : List Event) (e : Event) → Leads s es t → Legal t e → Fits e → Leads s (es ++ e ∷ []) (after t e)
-leads_more s t [] e lead legal fits = (subst (λ u. Legal u e) lead legal, fits, ap (λ u. after u e) lead)
-leads_more s t (d ∷ es) e lead legal fits = (lead.0, lead.1, leads_more (after s d) t es e lead.2 legal fits)
+-- ---- what is reached
+-- a legal event is made
+made_by : (s : State) (e : Event) → Legal s e → (step_of s e).0 ≡ after s e
+made_by s e legal = ap (λ (x : State × Reply). x.0) (ap (λ b. cond b (after s e, answer s e) (s, Refused)) (is_test s e legal))
 
-reached_more : (s t : State) (e : Event) → Reached s t → Legal t e → Fits e → Reached s (after t e)
-reached_more s t e (es, lead) legal fits = (es ++ e ∷ [], leads_more s t es e lead legal fits)
+-- one event leads to the state after it
+reached_one : (s : State) (e : Event) → Legal s e → Fits e → Reached s (after s e)
+reached_one s e legal fits = record { made = e ∷ []; legal = (legal, tt); fits = All-cons Fits e [] fits (All-nil Fits); leads = sym (made_by s e legal) }
 
-leads_law : (s t : State) (es : List Event) → Law s → Leads s es t → Law t
-leads_law s t [] law lead = subst Law (sym lead) law
-leads_law s t (e ∷ es) law lead = leads_law (after s e) t es (keeps s e law lead.1 lead.0) lead.2
+-- zeros that are put past a tail
+reached_zeros : (s : State) → Law s → (l at count : ℕ) → l < s.logs → s.kind l ≢ Sealed → s.tail l ≤ at → at + count ≤ LOG_WORDS →
+    Reached s (record s { word = with_row s.word (l * LOG_WORDS + at) count (λ _. 0) })
+reached_zeros s law l at count log unsealed past inside = record {
+  made = zero_puts l at count;
+  legal = zeros_legal s law l at count log unsealed past inside;
+  fits = All-map Fits (λ i. events.Put l (at + i) 0) (range_with_len 0 count) (λ k d lt. omega arith);
+  leads = sym (zeros_end s law l at count log unsealed past inside);
+}
+
+-- events after others
+after_more : (s : State) (es ds : List Event) → after_events s (es ++ ds) ≡ after_events (after_events s es) ds
+after_more s [] ds = refl
+after_more s (e ∷ es) ds = after_more (step_of s e).0 es ds
+
+legal_more : (s : State) (es ds : List Event) → AllLegal s es → AllLegal (after_events s es) ds → AllLegal s (es ++ ds)
+legal_more s [] ds first then = then
+legal_more s (e ∷ es) ds first then = (first.0, legal_more (step_of s e).0 es ds first.1 then)
+
+reached_more : (s t u : State) → Reached s t → Reached t u → Reached s u
+reached_more s t u a b = record {
+  made = a.made ++ b.made;
+  legal = legal_more s a.made b.made a.legal (subst (λ v. AllLegal v b.made) a.leads b.legal);
+  fits = All-append Fits a.made b.made a.fits b.fits;
+  leads = b.leads ∙ (ap (λ v. after_events v b.made) a.leads ∙ sym (after_more s a.made b.made));
+}
+
+-- the law stays
+law_after : (s : State) (es : List Event) → Law s → All Fits es → Law (after_events s es)
+law_after s [] law fits = law
+law_after s (e ∷ es) law fits = law_after (step_of s e).0 es (step_keeps s e law (All-head Fits e es fits)) (All-tail Fits e es fits)
 
 reached_law : (s t : State) → Law s → Reached s t → Law t
-reached_law s t law (es, lead) = leads_law s t es law lead
+reached_law s t law way = subst Law (sym way.leads) (law_after s way.made law way.fits)
 
+-- the world doesn't see zeros that are put
+zeros_unseen : (l at : ℕ) (is : List ℕ) (s : State) → Law s → AllLegal s (map (λ i. events.Put l (at + i) 0) is) →
+    world_of (after_events s (map (λ i. events.Put l (at + i) 0) is)) ≡ world_of s
+zeros_unseen l at [] s law legal = refl
+zeros_unseen l at (i ∷ is) s law legal =
+    let e : Event = events.Put l (at + i) 0 in
+    zeros_unseen l at is (step_of s e).0 (step_keeps s e law (omega arith)) legal.1 ∙ (ap world_of (made_by s e legal.0) ∙ does s e law (omega arith) legal.0)
+
+-- ---- retiring
 pub retiring : RetiringIsLegal
 retiring s p law cell dropped =
+    let e : Event = events.Name p (s.cell p) 0 in
     let legal = may_retire s p (s.cell p) cell dropped in
     let fits : (s.cell p < 2 ^ 64) × (0 < 2 ^ 64) = ((law.cells.cell_read p).0, omega arith) in
-    let done : answer s (events.Name p (s.cell p) 0) ≡ Done = ap (λ b. cond b Done (Word (s.cell p))) (eq-eqb (s.cell p) (s.cell p) refl) in
+    let done : answer s e ≡ Done = ap (λ b. cond b Done (Word (s.cell p))) (eq-eqb (s.cell p) (s.cell p) refl) in
     let form : naming_of (read_of (s.cell p)) (read_of 0) ≡ Some naming.Retires = ap (naming_of (read_of (s.cell p))) unused ∙ retires_form (read_of (s.cell p)) dropped in
-    let happens = subst (λ r. Happens (world_of s) (events.Name p (s.cell p) 0) r (world_of (retired s p))) done (does s (events.Name p (s.cell p) 0) law fits legal) in (
-      (events.Name p (s.cell p) 0 ∷ [], (legal, fits, refl)),
-      keeps s (events.Name p (s.cell p) 0) law fits legal,
+    let happens = subst (λ r. Happens (world_of s) e r (world_of (retired s p))) done (does s e law fits legal) in (
+      reached_one s e legal fits,
+      keeps s e law fits legal,
       subst (λ o. StepOf (change_by p o) (world_of s) (world_of (retired s p))) form happens,
+      is_freed s p dropped,
     )
 
+-- ---- placing
 module _ (s : State) (law : Law s) (p len ds : ℕ) (place : Place) (pointer : p < CELLS * s.mutators) (some : 0 < len) (most : len ≤ LONGEST) (structure : ds < 256)
     (found : room s (size_of len) true ≡ Some place) (free : s.cell p ≡ 0) where
   is_room : IsRoom s (size_of len) true place
@@ -77,57 +126,67 @@ module _ (s : State) (law : Law s) (p len ds : ℕ) (place : Place) (pointer : p
   layout : IsPtr (Near len ds place no_marks)
   layout = (some, most, structure, omega (arith, is_room.next.0, law.shape.few_logs), is_room.fits)
 
-  -- the header and so many zeros are put
-  abbrev put_so_far : ℕ → State
-  put_so_far n = record s { word = written (put s.word (addr place) (head_word p len ds)) (addr place + 1) n (λ _. 0) }
+  -- the header is put
+  abbrev put_header : Event
+  put_header = events.Put place.log place.at (head_word p len ds)
 
-  reached : (n : ℕ) → n ≤ words_for len → Reached s (put_so_far n)
-  reached zero le =
-      let none : put_so_far 0 ≡ after s (events.Put place.log place.at (head_word p len ds)) = (λ i. record s { word = written_none (put s.word (addr place) (head_word p len ds)) (addr place + 1) (λ _. 0) i }) in
-      subst (Reached s) (sym none) (events.Put place.log place.at (head_word p len ds) ∷ [], ((is_room.next.0, next_unsealed s place is_room.next, omega (arith, at_end), omega (arith, is_room.fits)), head_fits _ head, refl))
-  reached (suc n) le =
-      let address : place.log * LOG_WORDS + (place.at + 1 + n) ≡ addr place + 1 + n = omega arith in
-      let count : n + 1 ≡ suc n = omega arith in
-      let more : after (put_so_far n) (events.Put place.log (place.at + 1 + n) 0) ≡ put_so_far (suc n) =
-      (λ i. record s { word = put (put_so_far n).word (address i) 0 })
-      ∙ (λ i. record s { word = written_more (put s.word (addr place) (head_word p len ds)) (addr place + 1) n (λ _. 0) i }) ∙ ap put_so_far count in
-      subst (Reached s) more (reached_more s (put_so_far n) (events.Put place.log (place.at + 1 + n) 0) (reached n (omega arith))
-      (is_room.next.0, next_unsealed s place is_room.next, omega (arith, at_end), omega (arith, is_room.fits)) (omega arith))
+  abbrev headed : State
+  headed = after s put_header
 
-  -- the world doesn't see what is put
-  unseen : (n : ℕ) → n ≤ words_for len → world_of (put_so_far n) ≡ world_of s
-  unseen zero le =
-      let none : put_so_far 0 ≡ after s (events.Put place.log place.at (head_word p len ds)) = (λ i. record s { word = written_none (put s.word (addr place) (head_word p len ds)) (addr place + 1) (λ _. 0) i }) in
-      ap world_of none ∙ does s (events.Put place.log place.at (head_word p len ds)) law (head_fits _ head) (is_room.next.0, next_unsealed s place is_room.next, omega (arith, at_end), omega (arith, is_room.fits))
-  unseen (suc n) le =
-      let address : place.log * LOG_WORDS + (place.at + 1 + n) ≡ addr place + 1 + n = omega arith in
-      let count : n + 1 ≡ suc n = omega arith in
-      let more : after (put_so_far n) (events.Put place.log (place.at + 1 + n) 0) ≡ put_so_far (suc n) =
-      (λ i. record s { word = put (put_so_far n).word (address i) 0 })
-      ∙ (λ i. record s { word = written_more (put s.word (addr place) (head_word p len ds)) (addr place + 1) n (λ _. 0) i }) ∙ ap put_so_far count in
-      sym (ap world_of more) ∙ does (put_so_far n) (events.Put place.log (place.at + 1 + n) 0) (reached_law s (put_so_far n) law (reached n (omega arith))) (omega arith)
-      (is_room.next.0, next_unsealed s place is_room.next, omega (arith, at_end), omega (arith, is_room.fits)) ∙ unseen n (omega arith)
+  header_legal : Legal s put_header
+  header_legal = (is_room.next.0, next_unsealed s place is_room.next, omega (arith, at_end), omega (arith, is_room.fits))
 
-  legal : Legal (with_blank_span s p len ds place) (events.Name p 0 (near_word len ds place))
+  law_headed : Law headed
+  law_headed = keeps s put_header law (head_fits _ head) header_legal
+
+  -- and zeros behind it
+  abbrev blank : State
+  blank = with_blank_span s p len ds place
+
+  behind : place.log * LOG_WORDS + (place.at + 1) ≡ addr place + 1
+  behind = omega arith
+
+  room_behind : place.at + 1 + words_for len ≤ LOG_WORDS
+  room_behind = omega (arith, is_room.fits)
+
+  zeroed : record headed { word = with_row headed.word (place.log * LOG_WORDS + (place.at + 1)) (words_for len) (λ _. 0) } ≡ blank
+  zeroed = ap (λ a. record headed { word = with_row headed.word a (words_for len) (λ _. 0) }) behind
+
+  reached_blank : Reached s blank
+  reached_blank = reached_more s headed blank (reached_one s put_header header_legal (head_fits _ head))
+      (subst (Reached headed) zeroed (reached_zeros headed law_headed place.log (place.at + 1) (words_for len) is_room.next.0 (next_unsealed s place is_room.next) (omega (arith, at_end)) room_behind))
+
+  -- the cell is named
+  legal : Legal blank (events.Name p 0 (near_word len ds place))
   legal = may_name s p len ds place pointer layout is_room.next
 
   fits : (0 < 2 ^ 64) × (near_word len ds place < 2 ^ 64)
   fits = (omega arith, word_fits (Near len ds place no_marks) layout)
 
-  pub placing : Reached s (placed s p len ds place)
-  placing = reached_more s (with_blank_span s p len ds place) (events.Name p 0 (near_word len ds place)) (reached (words_for len) (omega arith)) legal fits
+  placing : Reached s (placed s p len ds place)
+  placing = reached_more s blank (placed s p len ds place) reached_blank (reached_one blank (events.Name p 0 (near_word len ds place)) legal fits)
 
-  pub makes : Step (Makes p len ds place.log) (world_of s) (world_of (placed s p len ds place))
+  -- the world sees the object alone
+  unseen : world_of blank ≡ world_of s
+  unseen =
+      let past : headed.tail place.log ≤ place.at + 1 = omega (arith, at_end) in
+      let all = zeros_legal headed law_headed place.log (place.at + 1) (words_for len) is_room.next.0 (next_unsealed s place is_room.next) past room_behind in
+      let end = zeros_end headed law_headed place.log (place.at + 1) (words_for len) is_room.next.0 (next_unsealed s place is_room.next) past room_behind in
+      ap world_of (sym (end ∙ zeroed)) ∙ (zeros_unseen place.log (place.at + 1) (range_with_len 0 (words_for len)) headed law_headed all ∙ does s put_header law (head_fits _ head) header_legal)
+
+  makes : Step (Makes p len ds place.log) (world_of s) (world_of (placed s p len ds place))
   makes =
-      let t = with_blank_span s p len ds place in
-      let e = events.Name p 0 (near_word len ds place) in
-      let kept : Law t = reached_law s t law (reached (words_for len) (omega arith)) in
-      let done : answer t e ≡ Done = ap (λ b. cond b Done (Word (t.cell p))) (eq-eqb (t.cell p) 0 free) in
+      let e : Event = events.Name p 0 (near_word len ds place) in
+      let kept : Law blank = reached_law s blank law reached_blank in
+      let done : answer blank e ≡ Done = ap (λ b. cond b Done (Word (blank.cell p))) (eq-eqb (blank.cell p) 0 free) in
       let form : naming_of (read_of 0) (read_of (near_word len ds place)) ≡ Some (naming.Places len ds place) = rw (unused, read_back (Near len ds place no_marks) layout) refl in
-      let happens = subst (λ r. Happens (world_of t) e r (world_of (placed s p len ds place))) done (does t e kept fits legal) in
-      let step = subst (λ o. StepOf (change_by p o) (world_of t) (world_of (placed s p len ds place))) form happens in
-      subst (λ w. Step (Makes p len ds place.log) w (world_of (placed s p len ds place))) (unseen (words_for len) (omega arith)) step
+      let happens = subst (λ r. Happens (world_of blank) e r (world_of (placed s p len ds place))) done (does blank e kept fits legal) in
+      let step = subst (λ o. StepOf (change_by p o) (world_of blank) (world_of (placed s p len ds place))) form happens in
+      subst (λ w. Step (Makes p len ds place.log) w (world_of (placed s p len ds place))) unseen step
+
+  pub placing_all : Reached s (placed s p len ds place) × Law (placed s p len ds place) × Step (Makes p len ds place.log) (world_of s) (world_of (placed s p len ds place))
+      × IsPlaced s (placed s p len ds place) p len ds place
+  placing_all = (placing, reached_law s (placed s p len ds place) law placing, makes, is_placed s p len ds place law free layout at_end)
 
 pub placing_legal : PlacingIsLegal
-placing_legal s p len ds place law pointer free some most structure found =
-    let way = placing s law p len ds place pointer some most structure found free in (way, reached_law s (placed s p len ds place) law way, makes s law p len ds place pointer some most structure found free)
+placing_legal s p len ds place law pointer free some most structure found = placing_all s law p len ds place pointer some most structure found free

@@ -1,5 +1,5 @@
 -- What a call of the book makes of a state.
-use Rattle.std.specs.Prelude.{ℕ, ◌+◌, ◌-◌, ◌==◌, ◌&&◌, cond, nat_le, nat_lt, if◌then◌else◌, List, [], ◌∷◌, ◌++◌}
+use Rattle.std.specs.Prelude.{ℕ, ◌+◌, ◌==◌, if◌then◌else◌, List, [], ◌∷◌, ◌++◌}
 use Rattle.far_word.specs.declared.pointer.Place.{Place}
 use Rattle.far_word.specs.declared.pointer.PtrWord.TheVariants.{Near}
 use Rattle.far_word.specs.Header.{head_word}
@@ -7,6 +7,7 @@ use Rattle.far_word.specs.Pointer.{word_of}
 use Rattle.far_word.specs.Sizes.{words_for}
 use Rattle.far_core.specs.declared.event.Event.TheVariants.{Name}
 use Rattle.far_core.specs.events.Naming.{no_marks}
+use Rattle.far_core.specs.events.Ranges.{with_row}
 use Rattle.far_core.specs.events.Step.{after}
 use Rattle.far_core.specs.state.State.{State, put, addr}
 
@@ -14,13 +15,9 @@ use Rattle.far_core.specs.state.State.{State, put, addr}
 abbrev pub near_word : ℕ → ℕ → Place → ℕ
 near_word len ds place = word_of (Near len ds place no_marks)
 
--- n words from a on are those of a row, and all others stay
-abbrev pub written : (ℕ → ℕ) → ℕ → ℕ → (ℕ → ℕ) → ℕ → ℕ
-written word a n row k = cond (nat_le a k && nat_lt k (a + n)) (row (k - a)) (word k)
-
 -- a header for p, and data words of 0 behind it, are written at a place
 abbrev pub with_blank_span : State → ℕ → ℕ → ℕ → Place → State
-with_blank_span s p len ds place = record s { word = written (put s.word (addr place) (head_word p len ds)) (addr place + 1) (words_for len) (λ _. 0) }
+with_blank_span s p len ds place = record s { word = with_row (put s.word (addr place) (head_word p len ds)) (addr place + 1) (words_for len) (λ _. 0) }
 
 -- a new object of zeros is placed: its span is written, and p's cell, which was free, names it
 abbrev pub placed : State → ℕ → ℕ → ℕ → Place → State

@@ -1,25 +1,53 @@
--- That the effects of the book's calls are reached by legal events, keep the law of the core, and make one step of the world.
-use Rattle.std.specs.Prelude.{◌≡◌, ℕ, ◌*◌, ◌<◌, ◌≤◌, true, Some}
+-- That the effects of the book's calls are reached by legal events, keep the law of the core, and make one step of the world; and
+-- what they are in the subject's words.
+use Rattle.std.specs.Prelude.{◌≡◌, ◌≢◌, ◌⊎◌, ℕ, ◌+◌, ◌*◌, ◌<◌, ◌≤◌, true, Some}
 use Rattle.far_word.specs.declared.pointer.Place.{Place}
+use Rattle.far_word.specs.declared.pointer.PtrWord.TheVariants.{Near}
 use Rattle.far_word.specs.declared.sizes.TheConstants.{CELLS, LONGEST}
+use Rattle.far_word.specs.Header.{head_word}
 use Rattle.far_word.specs.Pointer.{read_of}
 use Rattle.far_word.specs.Sizes.{size_of}
-use Rattle.far_core.specs.events.Naming.{is_dropped}
-use Rattle.far_core.specs.state.Law.{Law}
+use Rattle.far_core.specs.declared.event.Kind.TheVariants.{Open, Sealed}
+use Rattle.far_core.specs.events.Naming.{is_dropped, no_marks}
+use Rattle.far_core.specs.state.Law.{Law, Blank}
 use Rattle.far_core.specs.state.Room.{room}
-use Rattle.far_core.specs.state.State.{State}
+use Rattle.far_core.specs.state.State.{State, addr}
 use Rattle.far_core.specs.world.Changes.{Step, Makes}
 use Rattle.far_core.specs.world.WorldOf.{world_of}
 use Rattle.far_book.specs.book.Effects.{placed, retired}
 use Rattle.far_book.specs.book.Reached.{Reached}
+
+-- from s to t p has got an object: its cell says near, at the place, with the length and the data structure and without marks; its
+-- header stands there, and zeros behind it; its log is the open one, and ends later by the object's size. All other cells, words
+-- and tails stay, and no log but the one that was open changes its kind: that is sealed
+pub record IsPlaced (s t : State) (p len ds : ℕ) (place : Place) : Type 0 where
+  pub cell : read_of (t.cell p) ≡ Some (Near len ds place no_marks)
+  pub cells : (q : ℕ) → q ≢ p → t.cell q ≡ s.cell q
+  pub header : t.word (addr place) ≡ head_word p len ds
+  pub zeros : Blank t.word len place
+  pub words : (a : ℕ) → (a < addr place) ⊎ (addr place + size_of len ≤ a) → t.word a ≡ s.word a
+  pub tail : t.tail place.log ≡ s.tail place.log + size_of len
+  pub tails : (l : ℕ) → l ≢ place.log → t.tail l ≡ s.tail l
+  pub opens : t.kind place.log ≡ Open
+  pub seals : (l : ℕ) → l ≢ place.log → s.kind l ≡ Open → t.kind l ≡ Sealed
+  pub kinds : (l : ℕ) → l ≢ place.log → s.kind l ≢ Open → t.kind l ≡ s.kind l
+
+-- from s to t p's cell has become free; all other cells, all words, and the tail and the kind of each log stay
+pub record IsFreed (s t : State) (p : ℕ) : Type 0 where
+  pub cell : t.cell p ≡ 0
+  pub cells : (q : ℕ) → q ≢ p → t.cell q ≡ s.cell q
+  pub words : (a : ℕ) → t.word a ≡ s.word a
+  pub tails : (l : ℕ) → t.tail l ≡ s.tail l
+  pub kinds : (l : ℕ) → t.kind l ≡ s.kind l
 
 -- a new object, for a free cell of the heap, where room is: in the world it is made, and nothing else changes
 abbrev pub PlacingIsLegal : Type 0
 PlacingIsLegal = (s : State) (p len ds : ℕ) (place : Place) → Law s → p < CELLS * s.mutators → s.cell p ≡ 0 → 0 < len → len ≤ LONGEST → ds < 256 →
     room s (size_of len) true ≡ Some place →
     Reached s (placed s p len ds place) × Law (placed s p len ds place) × Step (Makes p len ds place.log) (world_of s) (world_of (placed s p len ds place))
+    × IsPlaced s (placed s p len ds place) p len ds place
 
 -- a dropped object, which is none of the world's already
 abbrev pub RetiringIsLegal : Type 0
 RetiringIsLegal = (s : State) (p : ℕ) → Law s → p < CELLS * s.mutators → is_dropped (read_of (s.cell p)) ≡ true →
-    Reached s (retired s p) × Law (retired s p) × (world_of (retired s p) ≡ world_of s)
+    Reached s (retired s p) × Law (retired s p) × (world_of (retired s p) ≡ world_of s) × IsFreed s (retired s p) p

@@ -6,7 +6,7 @@ ghost use Rattle.far_word.specs.declared.sizes.TheConstants.{LONGEST};
 use crate::{Beset, Book, Home, Near, Plain};
 use far_core::{Core, Event, Kind, Reply, Shape};
 use far_log::{LogRow, Span};
-use far_word::{Mark, Marks, Place, Refused};
+use far_word::{CELLS, Mark, Marks, Place, PtrWord, Refused};
 use std::test::Fail;
 
 const SMALL: Shape = Shape {
@@ -156,6 +156,79 @@ fn an_odd_length_takes_whole_words(rt: HostRuntime) -> Result<(), Fail> {
     };
     assert_eq!(rt; book.owner(load), Reply::Word(0xff));
     assert_eq!(rt; book.owner(Event::See { pointer }), Reply::Refused);
+    Ok(())
+}
+
+// A book in which the first mutator holds an object of two words, its pointer 0.
+fn holding_pair(rt: &HostRuntime) -> Result<Book<Plain>, Refused> {
+    let mut book = opened(rt, SMALL)?;
+    let (pointer, _) = place_next(&mut book, 16, 1)?;
+    let owner = 0;
+    let events = [
+        Event::Adopt { owner, pointer },
+        Event::ReadEpoch { owner },
+        Event::Open { owner },
+        Event::Pin { owner, pointer },
+    ];
+    for event in events {
+        book.owner(event);
+    }
+    Ok(book)
+}
+
+// Stores a word into an object of two words, if the first mutator holds it, and says whether it did.
+fn store_word(book: &mut Book<Plain>, pointer: u16, index: u16, word: u64) -> bool {
+    let core = book.core();
+    if pointer >= CELLS || index >= 2 || !core.is_held(pointer) {
+        return false;
+    }
+    let Some(PtrWord::Near { len: 16, .. }) = PtrWord::read(core.cell(pointer)) else {
+        return false;
+    };
+    book.store_all(0, pointer, index, &[word]);
+    true
+}
+
+// The words of an object of two words, if the first mutator holds it.
+fn words_of(book: &Book<Plain>, pointer: u16) -> Option<[u64; 2]> {
+    let core = book.core();
+    if pointer >= CELLS || !core.is_held(pointer) {
+        return None;
+    }
+    let Some(PtrWord::Near { len: 16, .. }) = PtrWord::read(core.cell(pointer)) else {
+        return None;
+    };
+    let mut words = [0; 2];
+    book.load_all(0, pointer, 0, &mut words);
+    Some(words)
+}
+
+// What the first log is and has.
+fn first_log(book: &Book<Plain>) -> (Kind, LogRow) {
+    book.core_keeps_law();
+    book.log(0)
+}
+
+#[test]
+fn words_are_stored_and_loaded(rt: HostRuntime) -> Result<(), Fail> {
+    let mut book = holding_pair(&rt)?;
+    let (owner, pointer) = (0, 0);
+    assert_eq!(rt; words_of(&book, pointer), Some([0, 0]));
+    assert!(rt; store_word(&mut book, pointer, 1, 7));
+    assert!(rt; store_word(&mut book, pointer, 0, u64::MAX));
+    assert_eq!(rt; words_of(&book, pointer), Some([u64::MAX, 7]));
+    let load = Event::Load {
+        owner,
+        pointer,
+        index: 1,
+    };
+    assert_eq!(rt; book.owner(load), Reply::Word(7));
+    assert_eq!(rt; Some(first_log(&book)), line(Kind::Open, 0, 24, 0, 1000));
+    // What isn't held isn't reached.
+    assert_eq!(rt; book.owner(Event::Close { owner }), Reply::Done);
+    assert_eq!(rt; book.owner(load), Reply::Refused);
+    assert_eq!(rt; store_word(&mut book, pointer, 1, 8), false);
+    assert_eq!(rt; words_of(&book, pointer), None);
     Ok(())
 }
 

@@ -77,6 +77,8 @@ logs
   log 1 free live 0 dead 0 unused 1024
   log 2 free live 0 dead 0 unused 1024
   log 3 free live 0 dead 0 unused 1024
+log 0
+  log 0 open live 0 dead 0 unused 1024
 ";
 
 /// The last free log is kept in reserve.
@@ -263,6 +265,8 @@ read 0 0 6 3
   data 07a0a1
 read 0 0 8 1
   data a1
+log 0
+  log 0 open live 24 dead 0 unused 1000
 ";
 
 /// Bytes over two words, and neighbours that stay as they are.
@@ -466,7 +470,185 @@ read 0 3 0 3
   refused 7
 ";
 
-const TALKS: [&str; 16] = [
+/// A log is filled to its last byte.
+const FILLED_LOG: &str = "\
+heap 4 1
+  ok
+new 0 1016 1
+  pointer 0
+log 0
+  log 0 open live 1024 dead 0 unused 0
+new 0 1 1
+  pointer 1
+log 0
+  log 0 sealed live 1024 dead 0 unused 0
+log 1
+  log 1 open live 16 dead 0 unused 1008
+";
+
+/// Where objects are, and which of them were read.
+const PLACES: &str = "\
+heap 4 2
+  ok
+new 0 8 1
+  pointer 0
+new 1 1000 2
+  pointer 128
+new 0 9 3
+  pointer 1
+where 0 0
+  near 0 0 -
+where 1 128
+  near 0 2 -
+where 0 1
+  near 1 0 -
+open 0
+  ok
+read 0 1 0 9
+  data 000000000000000000
+where 0 1
+  near 1 0 h
+close 0
+  ok
+where 0 1
+  near 1 0 h
+where 0 0
+  near 0 0 -
+where 0 2
+  refused 7
+where 0 128
+  refused 7
+where 1 0
+  refused 7
+where 2 0
+  refused 8
+";
+
+/// Objects and their bytes are counted.
+const COUNTED: &str = "\
+heap 3 2
+  ok
+audit
+  audit near 0 far 0 live 0
+new 0 8 1
+  pointer 0
+new 1 1000 2
+  pointer 128
+new 0 9 3
+  pointer 1
+audit
+  audit near 3 far 0 live 1048
+log 0
+  log 0 sealed live 1024 dead 0 unused 0
+log 1
+  log 1 open live 24 dead 0 unused 1000
+log 2
+  log 2 free live 0 dead 0 unused 1024
+log 3
+  refused 8
+";
+
+/// An object is dropped once its scope is closed, and once only.
+const DROPPED: &str = "\
+heap 4 1
+  ok
+new 0 8 1
+  pointer 0
+open 0
+  ok
+read 0 0 0 8
+  data 0000000000000000
+drop 0 0
+  refused 9
+close 0
+  ok
+drop 0 0
+  ok
+log 0
+  log 0 open live 0 dead 16 unused 1008
+drop 0 0
+  refused 7
+audit
+  audit near 0 far 0 live 0
+";
+
+/// The pointer of a dropped object is given anew, and its bytes stay dead; an open scope forbids no drop of what it doesn't view.
+const GIVEN_ANEW: &str = "\
+heap 4 2
+  ok
+new 0 8 1
+  pointer 0
+new 0 9 2
+  pointer 1
+new 0 1 1
+  pointer 2
+new 1 8 1
+  pointer 128
+open 0
+  ok
+write 0 1 0 ff
+  ok
+drop 0 0
+  ok
+drop 0 1
+  refused 9
+drop 1 1
+  refused 7
+drop 0 128
+  refused 7
+drop 2 1
+  refused 8
+close 0
+  ok
+drop 0 1
+  ok
+log 0
+  log 0 open live 32 dead 40 unused 952
+open 0
+  ok
+read 0 1 0 1
+  refused 7
+where 0 1
+  refused 7
+new 0 1 1
+  pointer 0
+new 0 3 4
+  pointer 1
+where 0 0
+  near 0 9 -
+where 0 1
+  near 0 11 -
+read 0 1 0 3
+  data 000000
+read 0 2 0 1
+  data 00
+where 0 2
+  near 0 5 h
+log 0
+  log 0 open live 64 dead 40 unused 920
+audit
+  audit near 4 far 0 live 64
+new 0 8 1
+  pointer 3
+";
+
+/// A log whose objects are all dropped is no free one.
+const DEAD_LOGS: &str = "\
+heap 2 1
+  ok
+new 0 1016 1
+  pointer 0
+drop 0 0
+  ok
+log 0
+  log 0 open live 0 dead 1024 unused 0
+new 0 1 1
+  refused 2
+log 1
+  log 1 free live 0 dead 0 unused 1024
+";
+
+const TALKS: [&str; 22] = [
     FIRST_OBJECT,
     PAGE,
     COMMENTS,
@@ -483,6 +665,12 @@ const TALKS: [&str; 16] = [
     NEVER_OPENED,
     BY_TURNS,
     SCOPES,
+    FILLED_LOG,
+    PLACES,
+    COUNTED,
+    DROPPED,
+    GIVEN_ANEW,
+    DEAD_LOGS,
 ];
 
 #[test]

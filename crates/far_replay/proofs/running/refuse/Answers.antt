@@ -1,8 +1,8 @@
 use Rattle.std.proofs.Common.{[]}
-use Rattle.far_replay.specs.Reply.{refused_printed}
+use Rattle.far_replay.specs.Reply.{refusal_text}
 use Rattle.far_replay.proofs.running.refuse.Goals as goal
 
 pub returns : goal.returns
 returns g c =
     let start = g.W.Write.contents c.args.writer.now in
-    c.finish.ensures start (refused_printed c.args.why) (c.add.ensures start [] (c.clear.ensures start))
+    c.finish.ensures start (refusal_text c.args.why) (c.add.ensures start [] (c.clear.ensures start))

@@ -1,4 +1,4 @@
-use Rattle.std.proofs.Common.{length, take, ◌+◌, ◌-◌, ◌≡◌, ◌≤◌, ap, sym, ◌∙◌, arith, subst}
+use Rattle.std.proofs.Common.{length, take, ◌-◌, ◌≡◌, ap, sym, ◌∙◌, arith}
 use Rattle.far_replay.proofs.Streams.{read_grown}
 use Rattle.far_replay.proofs.stream.read_text.Goals as goal
 

@@ -1,6 +1,6 @@
 use Rattle.std.proofs.Common.{◌≡◌, ◌+◌, ◌≤◌, length, map}
 use Rattle.far_replay.specs.declared.text.TheConstants.{LONGEST_TEXT}
-use Rattle.far_replay.specs.Command.{said}
+use Rattle.far_replay.specs.Command.{as_command}
 use Rattle.far_replay.specs.Cursor.{lines_left}
 use Rattle.far_replay.specs.Grammar.{read_commands}
 use Rattle.far_replay.proofs.Reading.{onto_all}
@@ -9,7 +9,7 @@ use Rattle.far_replay.proofs.text.commands_after.Given as goal
 -- the commands so far, and those of the lines that are left, are those of all the lines
 abbrev pub invariant-loop-lines : goal.invariant-loop-lines
 invariant-loop-lines l = record {
-  reads : onto_all (map said l.commands.items) (read_commands (l.number + 1) (lines_left l.lines)) ≡ read_commands (l.fn.number + 1) (lines_left l.fn.lines);
+  reads : onto_all (map as_command l.commands.items) (read_commands (l.number + 1) (lines_left l.lines)) ≡ read_commands (l.fn.number + 1) (lines_left l.fn.lines);
   counted : l.number + length (lines_left l.lines) ≤ LONGEST_TEXT + 1;
 }
 

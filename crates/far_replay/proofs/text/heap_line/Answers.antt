@@ -1,5 +1,5 @@
 use Rattle.std.proofs.Common.{arith, refl, sym, subst, ◌+◌, ◌<◌, ◌∙◌, length}
-use Rattle.far_replay.specs.Command.{said, HeapLine, CommandLine}
+use Rattle.far_replay.specs.Command.{as_command, HeapLine, CommandLine}
 use Rattle.far_replay.specs.Cursor.{lines_left, lines_after_first}
 use Rattle.far_replay.specs.Grammar.{Skipped, Saying, Bad, lines_of}
 use Rattle.far_replay.proofs.Reading.{few_lines, fewer_lines, first_one}
@@ -39,7 +39,7 @@ returns-in-Command-clause-fault c =
     let reads = rw c.in-Some.is at c.loop-lines.invariant.reads in
     let entry = rw c.in-Said.is at c.in-Some-line_first.ensures.line in
     let line = rw c.in-Command.is at entry in
-    sym reads ∙ first_one (c.loop-lines.number + 1) c.in-Some.text.now (Saying (CommandLine (said c.in-Command.field-0))) (lines_left c.in-Some-line_first.after) line c.in-Some-line_first.ensures.lines
+    sym reads ∙ first_one (c.loop-lines.number + 1) c.in-Some.text.now (Saying (CommandLine (as_command c.in-Command.field-0))) (lines_left c.in-Some-line_first.after) line c.in-Some-line_first.ensures.lines
 
 pub returns-in-Heap-clause-heap : goal.returns-in-Heap-clause-heap
 returns-in-Heap-clause-heap c =

@@ -1,19 +1,19 @@
-use Rattle.std.proofs.Common.{◌≡◌, ◌+◌, ◌*◌, ◌-◌, ◌/◌, ◌<◌, ◌≤◌, ℕ, true, length, get_or, List, ap, sym, ◌∙◌, arith, refl}
+use Rattle.std.proofs.Common.{◌≡◌, ◌+◌, ◌*◌, ◌-◌, ◌/◌, ℕ, true, length, get_or, List, ap, ◌∙◌, arith, refl}
 use Rattle.far_word.specs.Pointer.{read_of}
 use Rattle.far_word.specs.Bytes.{packed_word}
-use Rattle.far_core.specs.state.CoreState.{core_state}
+use Rattle.far_replay.specs.Moment.{state_in}
 use Rattle.far_core.specs.state.State.{State}
 use Rattle.far_core.specs.events.Step.{near_data, data_len}
 use Rattle.far_replay.specs.HexWord.{hex_bytes as spelled}
-use Rattle.far_replay.specs.Events.{starts_inside, ends_inside, words_touched}
-use Rattle.far_replay.specs.Objects.{spliced, data_of}
+use Rattle.far_replay.specs.Events.{starts_inside}
+use Rattle.far_replay.specs.Objects.{with_range, data_of}
 use Rattle.far_replay.proofs.RangeWrites.{packed_words, object_padded, put_length}
 use borrow.Rule.Slice.PartMut.{put_mid}
 use Rattle.far_replay.proofs.turn.splice.Goals as goal
 
 pub returns : goal.returns
 returns c =
-    let t : State = core_state c.args.core.now in
+    let t : State = state_in c.args.book.now in
     let p : ℕ = c.args.access.pointer in
     let from : ℕ = c.args.access.from in
     let count : ℕ = c.args.access.count in
@@ -35,5 +35,5 @@ returns c =
           c.requires.viewed.some c.requires.viewed.inside c.requires.bytes (omega (arith, c.unpack_front.auto.bytes, c.requires.viewed.most)) c.unpack_front.ensures.front w_first c.load_last.ensures.last
           (λ i less. object_padded t c.requires.law p i less) _ c.pack_front.new.words put (omega (arith, ap length put, size, c.unpack_front.auto.bytes, c.requires.viewed.most)) c.pack_front.ensures.front
           k (omega (arith, c.touched-touched.ensures))
-          ∙ ap (λ n. packed_word (spliced (data_of t p) from new) (n + k)) firsts;
+          ∙ ap (λ n. packed_word (with_range (data_of t p) from new) (n + k)) firsts;
     }

@@ -1,5 +1,5 @@
 use Rattle.std.proofs.Common.{sym, subst, ◌++◌}
-use Rattle.far_replay.specs.Reply.{printed, reply_of}
+use Rattle.far_replay.specs.Reply.{reply_text, reply_of}
 use Rattle.far_replay.specs.Stream.{Holds}
 use Rattle.far_replay.proofs.Streams.{held_more}
 use Rattle.far_replay.proofs.reply_writer.ReplyWriter.add.Goals as goal
@@ -8,6 +8,6 @@ pub returns : goal.returns
 returns g c = λ start bytes k.
     let now = g.W.Write.contents c.make_room.new.writer in
     let room = c.make_room.new.self in
-    let piece = printed (reply_of c.args.reply.now) in
+    let piece = reply_text (reply_of c.args.reply.now) in
     subst (λ w. Holds start now w room.written (bytes ++ piece)) (sym c.print_to.ensures)
     (held_more start now room.waiting piece bytes room.written (c.make_room.ensures.held start bytes k))

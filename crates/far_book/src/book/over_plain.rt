@@ -1,0 +1,90 @@
+//! The book over a core of its own: what the core shows, and what owners do.
+
+ghost use Rattle.std.specs.Prelude.{◌≡◌, ◌+◌, ◌-◌, ◌*◌, ◌/◌, ◌^◌, ◌<◌, ◌≤◌, ℕ, true, false, length, slice_index, IsSome, IfOk, IfErr};
+ghost use Rattle.far_word.specs.declared.sizes.TheConstants.{CELLS};
+ghost use Rattle.far_word.specs.Sizes.{words_for};
+ghost use Rattle.far_core.specs.events.Legal.{Legal};
+ghost use Rattle.far_core.specs.events.Ranges.{AllLegal, after_events, stores};
+ghost use Rattle.far_core.specs.events.Step.{after, answer, data_len, step_of};
+ghost use Rattle.far_core.specs.state.Agrees.{Agrees};
+ghost use Rattle.far_core.specs.state.CoreState.{core_state};
+ghost use Rattle.far_core.specs.state.Law.{Law};
+ghost use Rattle.far_core.specs.world.Happens.{Happens};
+ghost use Rattle.far_core.specs.world.WorldOf.{world_of};
+ghost use Rattle.far_book.specs.Owners.{is_owners};
+
+use crate::book::Book;
+use crate::owners::is_owners;
+use crate::plain::Plain;
+use far_core::{Core, Event, Reply};
+use far_word::Place;
+
+impl Book<Plain> {
+    /// The core, to be read.
+    pub fn core(&self) -> &Core
+        ensures { result.now ≡ self.now.near.core }
+    {
+        &self.near.core
+    }
+
+    /// The core keeps the whole law, what owners change included, and its views rest on words that it says they may.
+    pub fn core_keeps_law(&self)
+        ensures law { Law (core_state self.now.near.core) }
+        ensures agrees { Agrees (core_state self.now.near.core) }
+    {}
+
+    /// Makes an owner's event. Any other is answered [`Reply::Refused`], and nothing has changed.
+    pub fn owner(&mut self, event: Event) -> Reply
+        ensures made { is_owners event ≡ true → (core_state self.new.near.core, result) ≡ step_of (core_state self.old.near.core) event }
+        ensures legal { is_owners event ≡ true → Legal (core_state self.old.near.core) event →
+            (core_state self.new.near.core ≡ after (core_state self.old.near.core) event) × (result ≡ answer (core_state self.old.near.core) event) }
+        ensures refused { is_owners event ≡ false → (result ≡ Reply.Refused) × (self.new.near ≡ self.old.near) }
+        ensures world { Happens (world_of (core_state self.old.near.core)) event result (world_of (core_state self.new.near.core)) }
+        ensures order { self.new.order ≡ self.old.order }
+    {
+        if is_owners(event) {
+            self.near.core.step(event)
+        } else {
+            Reply::Refused
+        }
+    }
+
+    /// An open owner sets HOT on a pointer that it uses and doesn't hold. `Ok` with the object's place, which it holds
+    /// from then on; `Err` with the old word, where that isn't present or has EVAC, MOVE or DROP.
+    #[inline]
+    pub fn pin(&mut self, owner: u8, pointer: u16) -> Result<Place, u64>
+        requires legal { Legal (core_state self.old.near.core) (Event.Pin owner pointer) }
+        ensures state { core_state self.new.near.core ≡ after (core_state self.old.near.core) (Event.Pin owner pointer) }
+        ensures held { IfOk result (λ place. answer (core_state self.old.near.core) (Event.Pin owner pointer) ≡ Reply.Held place) }
+        ensures word { IfErr result (λ word. answer (core_state self.old.near.core) (Event.Pin owner pointer) ≡ Reply.Word word) }
+        ensures order { self.new.order ≡ self.old.order }
+    {
+        self.near.core.pin(owner, pointer)
+    }
+
+    /// Data words of an object that its owner holds, from its word `first` on, as many as there is room for: a load each.
+    #[inline]
+    pub fn load_all(&self, owner: u8, pointer: u16, first: u16, words: &mut [u64])
+        requires own { pointer / CELLS ≡ owner }
+        requires held { IsSome ((core_state self.now.near.core).held pointer) }
+        requires inside { first + length words.old ≤ words_for (data_len (core_state self.now.near.core) pointer) }
+        ensures words { (k : ℕ) → k < length words.old → answer (core_state self.now.near.core) (Event.Load owner pointer (first + k)) ≡ Reply.Word (slice_index words.new k) }
+    {
+        self.near.core.load_all(owner, pointer, first, words);
+    }
+
+    /// Data words of an object that its owner holds, from its word `first` on, become `words`, whose bytes past the object's
+    /// end are 0: a store each.
+    #[inline]
+    pub fn store_all(&mut self, owner: u8, pointer: u16, first: u16, words: &[u64])
+        requires own { pointer / CELLS ≡ owner }
+        requires held { IsSome ((core_state self.old.near.core).held pointer) }
+        requires inside { first + length words.now ≤ words_for (data_len (core_state self.old.near.core) pointer) }
+        requires padding { (k : ℕ) → k < length words.now → slice_index words.now k < 2 ^ (8 * (data_len (core_state self.old.near.core) pointer - 8 * (first + k))) }
+        ensures state { core_state self.new.near.core ≡ after_events (core_state self.old.near.core) (stores owner pointer first words.now) }
+        ensures legal { AllLegal (core_state self.old.near.core) (stores owner pointer first words.now) }
+        ensures order { self.new.order ≡ self.old.order }
+    {
+        self.near.core.store_all(owner, pointer, first, words);
+    }
+}

@@ -1,0 +1,131 @@
+-- What events are for comes to pass: a pin gives a view where its object is at hand, and the naming of a new object wins.
+use Rattle.std.proofs.Common.{◌≡◌, ◌≢◌, ℕ, ◌+◌, ◌/◌, true, cond, nat_eq, nat_lt, refl, sym, ap, subst, ◌∙◌, is_some, Option, Some, None, List, [], ◌∷◌, ◌++◌, length}
+use Rattle.std.proofs.lemmas.Bool.{and_parts, cond_both, eq-eqb, ltb-true}
+use Rattle.far_word.specs.declared.pointer.Place.{Place}
+use Rattle.far_word.specs.declared.refused.Refused.{Refused as Refusal}
+use Rattle.far_word.specs.declared.refused.Refused.TheVariants.{Closed, NotHeld, Range, Held}
+use Rattle.far_word.specs.declared.sizes.TheConstants.{CELLS}
+use Rattle.far_word.specs.Bytes.{packed_word}
+use Rattle.far_word.specs.Header.{head_word}
+use Rattle.far_word.specs.Pointer.{read_of}
+use Rattle.far_word.specs.Sizes.{size_of, words_for}
+use Rattle.far_core.specs.declared.event.Event.{Event}
+use Rattle.far_core.specs.declared.event.Event.TheVariants.{ReadEpoch as ReadsEpoch, Open as Opens, Pin as Pins, Load as Loads, Store as Stores, Adopt as Adopts, Put as Puts, Name as Names}
+use Rattle.far_core.specs.declared.event.Reply.{Reply as Answer}
+use Rattle.far_core.specs.declared.event.Reply.TheVariants.{Refused as Failed, Done as Wins, Word}
+use Rattle.far_core.specs.state.Law.{Law}
+use Rattle.far_core.specs.state.Room.{room}
+use Rattle.far_core.specs.state.State.{State}
+use Rattle.far_core.specs.events.Step.{step_of, is_legal, is_opened, after, answer, pin_answer}
+use Rattle.far_core.proofs.KeepOwner.{nonzero}
+use Rattle.far_replay.specs.Command.{Command, New, Open, Write, Read, Close, Where, Drop, Mutator, Book}
+use Rattle.far_replay.specs.Effects.{new_word}
+use Rattle.far_replay.specs.EventRows.{after_events, ComesToPass, AllComeToPass, AtHand, AllAtHand}
+use Rattle.far_replay.specs.Events.{turn_events, zero_puts, new_events, view_events, load_events, store_events, first_loads, last_loads, part_events, first_word, words_touched, starts_inside, ends_inside}
+use Rattle.far_replay.specs.Headline.{IsAtHandFor}
+use Rattle.far_replay.specs.Moment.{moment_of}
+use Rattle.far_replay.specs.Objects.{uses, object_len, data_of, with_range, lowest_cell, is_range}
+use Rattle.far_replay.specs.Turn.{access_causes, first_cause, refusal, unless}
+use Rattle.far_replay.proofs.AloneStates.{lowest_free}
+use Rattle.far_replay.proofs.Drops.{drop_comes, unheld_is}
+use Rattle.far_replay.proofs.Each.{Each, Each-append, Each-row}
+use Rattle.far_replay.proofs.MadeLemmas.{AllComeToPass-append}
+use Rattle.far_replay.proofs.Turns.{four, three}
+use Rattle.far_replay.proofs.Views.{ready_of, Ready-view}
+
+-- ---- events that any answer serves
+abbrev IsSure : Event → Type 0
+IsSure e = (r : Answer) → ComesToPass e r
+
+all_sure : (s : State) (es : List Event) → Each IsSure es → AllComeToPass s es
+all_sure s [] q = tt
+all_sure s (e ∷ es) q = (q.0 (step_of s e).1, all_sure (step_of s e).0 es q.1)
+
+loads : (m p first count : ℕ) → Each IsSure (load_events m p first count)
+loads m p first count = Each-row IsSure (λ i. Loads m p i) first count (λ i _ r. tt)
+
+parts : (m p from count : ℕ) → Each IsSure (part_events m p from count)
+parts m p from count =
+    Each-append IsSure (first_loads m p from count) (last_loads m p from count)
+    (cond_both (starts_inside from count) (Loads m p (from / 8) ∷ []) [] (Each IsSure) (λ _. ((λ r. tt), tt)) (λ _. tt))
+    (cond_both (ends_inside from count) (Loads m p ((from + count) / 8) ∷ []) [] (Each IsSure) (λ _. ((λ r. tt), tt)) (λ _. tt))
+
+stores : (m p first count : ℕ) (bytes : List ℕ) → Each IsSure (store_events m p first count bytes)
+stores m p first count bytes = Each-row IsSure (λ i. Stores m p i (packed_word bytes i)) first count (λ i _ r. tt)
+
+-- ---- a view
+pin_gives : (s : State) (m p : ℕ) → AtHand s p → ComesToPass (Pins m p) (step_of s (Pins m p)).1
+pin_gives s m p hand = cond_both (is_legal s (Pins m p)) (after s (Pins m p), answer s (Pins m p)) (s, Failed) (λ (x : State × Answer). ComesToPass (Pins m p) x.1)
+    (λ _. subst (ComesToPass (Pins m p)) (sym (ap (pin_answer (s.cell p)) (Ready-view (read_of (s.cell p)) (ready_of s p hand)))) tt) (λ _. tt)
+
+view_comes : (s : State) (m p : ℕ) → AtHand s p → AllComeToPass s (view_events s m p)
+view_comes s m p hand = cond_both (is_some (s.held p)) [] (Pins m p ∷ []) (AllComeToPass s) (λ _. tt) (λ _. (pin_gives s m p hand, tt))
+
+-- ---- a new object
+abbrev LeavesCells : Event → Type 0
+LeavesCells e = (t : State) → (step_of t e).0.cell ≡ t.cell
+
+cells_stay : (s : State) (es : List Event) → Each LeavesCells es → (after_events s es).cell ≡ s.cell
+cells_stay s [] q = refl
+cells_stay s (e ∷ es) q = cells_stay (step_of s e).0 es q.1 ∙ q.0 s
+
+put_leaves : (l at w : ℕ) → LeavesCells (Puts l at w)
+put_leaves l at w t = cond_both (is_legal t (Puts l at w)) (after t (Puts l at w), answer t (Puts l at w)) (t, Failed) (λ (x : State × Answer). x.0.cell ≡ t.cell) (λ _. refl) (λ _. refl)
+
+naming_wins : (s : State) (p new : ℕ) → s.cell p ≡ 0 → ComesToPass (Names p 0 new) (step_of s (Names p 0 new)).1
+naming_wins s p new free = cond_both (is_legal s (Names p 0 new)) (after s (Names p 0 new), answer s (Names p 0 new)) (s, Failed) (λ (x : State × Answer). ComesToPass (Names p 0 new) x.1)
+    (λ _. subst (ComesToPass (Names p 0 new)) (sym (ap (λ b. cond b Wins (Word (s.cell p))) (eq-eqb (s.cell p) 0 free))) tt) (λ _. tt)
+
+new_comes : (s : State) (m len ds : ℕ) (o : Option ℕ) (x : Option Place) → ((p : ℕ) → o ≡ Some p → s.cell p ≡ 0) → AllComeToPass s (new_events m len ds o x)
+new_comes s m len ds None x free = tt
+new_comes s m len ds (Some p) None free = tt
+new_comes s m len ds (Some p) (Some place) free =
+    let puts : List Event = Puts place.log place.at (head_word p len ds) ∷ zero_puts place (words_for len) in
+    let sure : Each IsSure puts = ((λ r. tt), Each-row IsSure (λ i. Puts place.log (place.at + 1 + i) 0) 0 (words_for len) (λ i _ r. tt)) in
+    let kept : Each LeavesCells puts =
+    (put_leaves place.log place.at (head_word p len ds), Each-row LeavesCells (λ i. Puts place.log (place.at + 1 + i) 0) 0 (words_for len) (λ i _. put_leaves place.log (place.at + 1 + (0 + i)) 0)) in
+    let still : (after_events s puts).cell p ≡ 0 = ap (λ (f : ℕ → ℕ). f p) (cells_stay s puts kept) ∙ free p refl in
+    AllComeToPass-append s puts (Names p 0 (new_word len ds place) ∷ Adopts m p ∷ []) (all_sure s puts sure) (naming_wins (after_events s puts) p (new_word len ds place) still, (tt, tt))
+
+-- ---- each command
+-- an object that may be read or written is named
+is_named : (s : State) (m p from count : ℕ) → Law s → first_cause (access_causes (moment_of s) m p from count) ≡ None → s.cell p ≢ 0
+is_named s m p from count law e =
+    nonzero s law p (and_parts (nat_eq (p / CELLS) m) (s.used p) (four (nat_lt m s.mutators) (is_opened s m) (uses s m p) (is_range (object_len s p) from count) Range Closed NotHeld Range e).2).1
+
+pub all_come : (s : State) (c : Command) (o : Option Refusal) → refusal (moment_of s) c ≡ o → Law s → IsAtHandFor (moment_of s) c →
+    AllComeToPass s (unless o (λ _. []) (turn_events (moment_of s) c))
+all_come s c (Some why) e law hand = tt
+all_come s (Mutator m (New len ds)) None e law hand = new_comes s m len ds (lowest_cell s m) (room s (size_of len) true) (lowest_free s m)
+all_come s (Mutator m Open) None e law hand =
+    cond_both (is_some (s.remembered m)) (Opens m ∷ []) (ReadsEpoch m ∷ Opens m ∷ []) (AllComeToPass s) (λ _. (tt, tt)) (λ _. (tt, (tt, tt)))
+all_come s (Mutator m (Write p from bytes)) None e law hand =
+    let view : List Event = view_events s m p in
+    let part : List Event = part_events m p from (length bytes) in
+    let first : ℕ = first_word from in
+    let touched : ℕ = words_touched from (length bytes) in
+    let new : List ℕ = with_range (data_of s p) from bytes in
+    AllComeToPass-append s (view ++ part) (store_events m p first touched new)
+    (AllComeToPass-append s view part (view_comes s m p (hand (is_named s m p from (length bytes) law e))) (all_sure (after_events s view) part (parts m p from (length bytes))))
+    (all_sure (after_events s (view ++ part)) (store_events m p first touched new) (stores m p first touched new))
+all_come s (Mutator m (Read p from len)) None e law hand =
+    let view : List Event = view_events s m p in
+    let loaded : List Event = load_events m p (first_word from) (words_touched from len) in
+    AllComeToPass-append s view loaded (view_comes s m p (hand (is_named s m p from len law e))) (all_sure (after_events s view) loaded (loads m p (first_word from) (words_touched from len)))
+all_come s (Mutator m Close) None e law hand = (tt, tt)
+all_come s (Mutator m (Where p)) None e law hand = tt
+all_come s (Mutator m (Drop p)) None e law hand =
+    let h = three (nat_lt m s.mutators) (uses s m p) (is_some (s.held p)) Range NotHeld Held e in
+    drop_comes s m p law (ltb-true m s.mutators h.0) h.1 (unheld_is (s.held p) h.2)
+all_come s (Book inquiry) None e law hand = tt
+
+-- where all objects are at hand, so is that of a command
+pub hand_for : (s : State) (c : Command) → AllAtHand s → IsAtHandFor (moment_of s) c
+hand_for s (Mutator m (New len ds)) hands = tt
+hand_for s (Mutator m Open) hands = tt
+hand_for s (Mutator m (Write p from bytes)) hands = hands p
+hand_for s (Mutator m (Read p from len)) hands = hands p
+hand_for s (Mutator m Close) hands = tt
+hand_for s (Mutator m (Where p)) hands = tt
+hand_for s (Mutator m (Drop p)) hands = tt
+hand_for s (Book inquiry) hands = tt
