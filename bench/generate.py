@@ -2,6 +2,7 @@
 """Writes the texts that bench/run.sh measures to a folder: each in whole, 1 MiB, and in half.
 
 access: writes and reads of 8 bytes over a heap of 64 logs and 8 mutators.
+churn:  objects of 8 bytes are made and dropped in turn, in such a heap, until its room is used up; then both are refused.
 lines:  empty lines and comments alone.
 """
 import random
@@ -35,6 +36,21 @@ def access(limit: int) -> str:
         size += more
 
 
+def churn(limit: int) -> str:
+    """The mutators take turns: each makes an object, which gets its lowest pointer, and drops it."""
+    lines = ["heap 64 8"]
+    size = len(lines[0]) + 1
+    for turn in range(limit):
+        mutator = turn % 8
+        pair = [f"new {mutator} 8 1", f"drop {mutator} {128 * mutator}"]
+        more = sum(len(line) + 1 for line in pair)
+        if size + more > limit:
+            break
+        lines += pair
+        size += more
+    return "\n".join(lines) + "\n"
+
+
 def skipped(limit: int) -> str:
     """Empty lines and comments in turn, up to the limit."""
     pair = "\n# a comment of some words, as people write them\n"
@@ -46,6 +62,7 @@ def main() -> None:
     folder.mkdir(parents=True, exist_ok=True)
     for name, limit in (("half", LIMIT // 2), ("whole", LIMIT)):
         (folder / f"access.{name}").write_text(access(limit), encoding="ascii")
+        (folder / f"churn.{name}").write_text(churn(limit), encoding="ascii")
         (folder / f"lines.{name}").write_text(skipped(limit), encoding="ascii")
 
 

@@ -40,7 +40,7 @@ took() { # a command and its input: the median wall time of some runs
 printf 'heap 4 1\n' >"$work/one"
 start="$(instructions "$work/one")"
 echo "heap 4 1 alone: $start instructions, loading included"
-for text in "$work"/{access,lines}.{half,whole}; do
+for text in "$work"/{access,churn,lines}.{half,whole}; do
     half_lines="${lines:-}" half_all="${all:-}"
     lines="$(wc -l <"$text")"
     all="$(instructions "$text")"
