@@ -19,7 +19,7 @@ use Rattle.far_core.specs.state.State.{State}
 use Rattle.far_core.specs.events.Step.{step_of, is_legal, is_opened, after, answer, pin_answer}
 use Rattle.far_core.proofs.KeepOwner.{nonzero}
 use Rattle.far_replay.specs.Command.{Command, New, Open, Write, Read, Close, Where, Drop, Mutator, Book}
-use Rattle.far_replay.specs.Effects.{new_word}
+use Rattle.far_replay.specs.Effects.{near_word}
 use Rattle.far_replay.specs.EventRows.{after_events, ComesToPass, AllComeToPass, AtHand, AllAtHand}
 use Rattle.far_replay.specs.Events.{turn_events, zero_puts, new_events, view_events, load_events, store_events, first_loads, last_loads, part_events, first_word, words_touched, starts_inside, ends_inside}
 use Rattle.far_replay.specs.Headline.{IsAtHandFor}
@@ -85,7 +85,7 @@ new_comes s m len ds (Some p) (Some place) free =
     let kept : Each LeavesCells puts =
     (put_leaves place.log place.at (head_word p len ds), Each-row LeavesCells (λ i. Puts place.log (place.at + 1 + i) 0) 0 (words_for len) (λ i _. put_leaves place.log (place.at + 1 + (0 + i)) 0)) in
     let still : (after_events s puts).cell p ≡ 0 = ap (λ (f : ℕ → ℕ). f p) (cells_stay s puts kept) ∙ free p refl in
-    AllComeToPass-append s puts (Names p 0 (new_word len ds place) ∷ Adopts m p ∷ []) (all_sure s puts sure) (naming_wins (after_events s puts) p (new_word len ds place) still, (tt, tt))
+    AllComeToPass-append s puts (Names p 0 (near_word len ds place) ∷ Adopts m p ∷ []) (all_sure s puts sure) (naming_wins (after_events s puts) p (near_word len ds place) still, (tt, tt))
 
 -- ---- each command
 -- an object that may be read or written is named

@@ -255,7 +255,11 @@ module _ (s : State) (law : Law s) (m p len ds new : ℕ) (place : Place)
   blank_zeros : (i : ℕ) → i < words_for len → blank_word (addr place + 1 + i) ≡ 0
   blank_zeros i lt = sym (ap (λ (f : ℕ → ℕ). f (addr place + 1 + i)) puts_row) ∙ zeros_there i lt
 
-  -- a book that places the object, and then its owner's adoption, end there too
+  -- so does what a book and its owner make
+  pub object_is : new ≡ near_word len ds place → after (placed_by s p len ds place) (Adopt m p) ≡ record (with_span record s { word = blank_word } p new len place) { used = put s.used p true }
+  object_is is = ap (λ w. after (after record s { word = blank_word } (Name p 0 w)) (Adopt m p)) (sym is) ∙ ap (λ t. after t (Adopt m p)) (named_so blank_word blank_head blank_zeros)
+
+  -- and the book's placing with the owner's event
   pub placed_end : new ≡ near_word len ds place → (step_of (placed_by s p len ds place) (Adopt m p)).0 ≡ record (with_span record s { word = blank_word } p new len place) { used = put s.used p true }
   placed_end is =
       ap (λ w. (step_of (after record s { word = blank_word } (Name p 0 w)) (Adopt m p)).0) (sym is)

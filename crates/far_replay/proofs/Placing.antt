@@ -16,12 +16,12 @@ use Rattle.far_core.specs.state.Room.{room}
 use Rattle.far_core.specs.state.State.{State}
 use Rattle.far_book.specs.book.Effects.{placed}
 use Rattle.far_book.specs.book.Ledger.{IsLowestFree}
-use Rattle.far_replay.specs.Effects.{new_word}
+use Rattle.far_replay.specs.Effects.{near_word}
 use Rattle.far_replay.specs.Command.{Mutator, New}
 use Rattle.far_replay.specs.Moment.{moment_of}
 use Rattle.far_replay.specs.Objects.{lowest_cell}
 use Rattle.far_replay.specs.Turn.{with_new, refusal, first_cause}
-use Rattle.far_replay.proofs.NewTurns.{placed_end}
+use Rattle.far_replay.proofs.NewTurns.{object_is, placed_end}
 use Rattle.far_replay.proofs.Turns.{room_next}
 
 -- a new object in range is refused for want of a cell or of room alone
@@ -35,10 +35,11 @@ new_refusal s m len ds o r within structure some most cell space =
 -- an object that is placed and then adopted is a new object
 pub object_made : (s t u : State) (r : Reply) (m p len ds : ℕ) (place : Place) → Law s → m < s.mutators → IsLowestFree s m (Some p) → 0 < len → len ≤ LONGEST → ds < 256 →
     room s (size_of len) true ≡ Some place → t ≡ placed s p len ds place → (u, r) ≡ step_of t (Adopt m p) →
-    u ≡ with_new s len ds (Some p) (room s (size_of len) true)
+    u ≡ with_new s m len ds (Some p) (room s (size_of len) true)
 object_made s t u r m p len ds place law within lowest some most structure found is adopted =
     let there = room_next s (size_of len) place law (omega arith) found in
     let reads = read_back (Near len ds place no_marks) (some, most, structure, omega (arith, there.next.0, law.shape.few_logs), there.fits) in
     ap (λ (x : State × Reply). x.0) adopted ∙ ap (λ x. (step_of x (Adopt m p)).0) is
-    ∙ placed_end s law m p len ds (new_word len ds place) place within (omega (arith, lowest.0)) (omega (arith, lowest.0)) lowest.1 some most structure there.next there.fits there.here reads refl
-    ∙ sym (ap (with_new s len ds (Some p)) found)
+    ∙ placed_end s law m p len ds (near_word len ds place) place within (omega (arith, lowest.0)) (omega (arith, lowest.0)) lowest.1 some most structure there.next there.fits there.here reads refl
+    ∙ sym (object_is s law m p len ds (near_word len ds place) place within (omega (arith, lowest.0)) (omega (arith, lowest.0)) lowest.1 some most structure there.next there.fits there.here reads refl)
+    ∙ sym (ap (with_new s m len ds (Some p)) found)

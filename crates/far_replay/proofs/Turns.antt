@@ -22,8 +22,8 @@ use Rattle.far_core.specs.events.Legal.{IsNext}
 use Rattle.far_core.specs.laws.Rooms.{IsRoom, RoomIs}
 use Rattle.far_core.specs.state.Law.{Law}
 use Rattle.far_core.specs.state.Room.{room}
-use Rattle.far_core.specs.state.State.{State, put}
-use Rattle.far_core.specs.events.Step.{Fits, is_legal, is_opened, data_len, near_data, after_close, scope_word_of}
+use Rattle.far_core.specs.state.State.{State, put, addr}
+use Rattle.far_core.specs.events.Step.{Fits, is_legal, is_opened, data_len, near_data, after_close, scope_word_of, with_span}
 use Rattle.far_core.proofs.KeepPlace.{header}
 use Rattle.far_core.proofs.Owing.{is_test}
 use Rattle.far_core.proofs.RoomLaws.{room_right}
@@ -34,7 +34,7 @@ use Rattle.far_replay.specs.EventRows.{after_events, AllSucceed, AtHand}
 use Rattle.far_replay.specs.Between.{Between}
 use Rattle.far_replay.specs.Events.{new_events, zero_puts, open_events, view_events, first_word, words_touched, load_events, starts_inside, ends_inside, part_events, store_events, drop_events, turn_events, events_for}
 use Rattle.far_replay.specs.Objects.{uses, object_len, data_of, with_range, lowest_cell, is_range}
-use Rattle.far_replay.specs.Effects.{new_word}
+use Rattle.far_replay.specs.Effects.{near_word}
 use Rattle.far_replay.specs.Effects.{with_row, with_object, with_view, with_data, with_scope, without_object, epoch_for}
 use Rattle.far_replay.specs.Turn.{turn_effect, effect, with_new, access_causes, first_cause, refusal, unless}
 use Rattle.far_replay.specs.Written.{WritesBytes}
@@ -42,7 +42,7 @@ use Rattle.far_replay.proofs.Drops.{unheld_is, drop_succeeds, drop_ends, drop_is
 use Rattle.far_replay.proofs.LoadWords.{loads_stay, load_legal, loads_succeed}
 use Rattle.far_replay.proofs.Lowest.{lowest_cell_is}
 use Rattle.far_replay.proofs.MadeLemmas.{made-append, AllSucceed-append, made_first, first_succeeds, made_law, load_stays}
-use Rattle.far_replay.proofs.NewTurns.{new_succeeds, new_between, new_end}
+use Rattle.far_replay.proofs.NewTurns.{new_succeeds, new_between, new_end, object_is}
 use Rattle.far_replay.proofs.Each.{Each, Each-append, Each-row}
 use Rattle.far_replay.proofs.Spliced.{AreBytes, with_range_bytes, length-with_range, packed_padded, packed_wide}
 use Rattle.far_replay.proofs.StoreTurns.{stores_go, stores_end}
@@ -321,26 +321,38 @@ new_turned s m len ds law between e =
     let cell = new_cell s m h.2 in
     let found = new_room s (size_of len) law (omega (arith, sizes.3)) h.3 in
     let p : ℕ = cell.0 in
-    let new : ℕ = new_word len ds found.0 in
-    let row : List Event = (Puts found.0.log found.0.at (head_word cell.0 len ds) ∷ zero_puts found.0 (words_for len)) ++ Names cell.0 0 (new_word len ds found.0) ∷ Adopts m cell.0 ∷ [] in
+    let new : ℕ = near_word len ds found.0 in
+    let row : List Event = (Puts found.0.log found.0.at (head_word cell.0 len ds) ∷ zero_puts found.0 (words_for len)) ++ Names cell.0 0 (near_word len ds found.0) ∷ Adopts m cell.0 ∷ [] in
     let same : new_events m len ds (lowest_cell s m) (room s (size_of len) true) ≡ row =
     ap (λ o. new_events m len ds o (room s (size_of len) true)) cell.1 ∙ ap (new_events m len ds (Some cell.0)) found.1 in
     let lies : IsPtr (Near len ds found.0 clean) = (sizes.2, sizes.3, sizes.1, omega (arith, found.2.next.0, law.shape.few_logs), found.2.fits) in
     let reads : read_of new ≡ Some (Near len ds found.0 clean) = read_back (Near len ds found.0 clean) lies in
-    let fit : Each Fits row = Each-append Fits (Puts found.0.log found.0.at (head_word cell.0 len ds) ∷ zero_puts found.0 (words_for len)) (Names cell.0 0 (new_word len ds found.0) ∷ Adopts m cell.0 ∷ []) (
+    let fit : Each Fits row = Each-append Fits (Puts found.0.log found.0.at (head_word cell.0 len ds) ∷ zero_puts found.0 (words_for len)) (Names cell.0 0 (near_word len ds found.0) ∷ Adopts m cell.0 ∷ []) (
       head_fits (header cell.0 len ds) (record { some = sizes.2; most = sizes.3; structure = sizes.1; cell = omega (arith, sizes.0, cell.2, cell.3, law.shape.few_mutators) }),
       Each-row Fits (λ i. Puts found.0.log (found.0.at + 1 + i) 0) 0 (words_for len) (λ i lt. omega arith),
     )
     ((omega arith, word_fits (Near len ds found.0 clean) lies), (tt, tt)) in
-    let result : with_new s len ds (lowest_cell s m) (room s (size_of len) true) ≡ with_object s p len ds found.0 =
-    ap (λ o. with_new s len ds o (room s (size_of len) true)) cell.1 ∙ ap (with_new s len ds (Some cell.0)) found.1 in
+    let result : with_new s m len ds (lowest_cell s m) (room s (size_of len) true) ≡ with_object s m p len ds found.0 =
+    ap (λ o. with_new s m len ds o (room s (size_of len) true)) cell.1 ∙ ap (with_new s m len ds (Some cell.0)) found.1 in
     subst (λ (x : List Event × State). Turned s x.0 x.1) (λ i. (sym same i, sym result i)) record {
       succeed = new_succeeds s law m p len ds new found.0 sizes.0 cell.2 cell.3 cell.4 sizes.2 sizes.3 sizes.1 found.2.next found.2.fits found.2.here reads;
       between = new_between s law m p len ds new found.0 sizes.0 cell.2 cell.3 cell.4 sizes.2 sizes.3 sizes.1 found.2.next found.2.fits found.2.here reads between;
       law = made_law s row law fit;
       fit = fit;
-      ends = new_end s law m p len ds new found.0 sizes.0 cell.2 cell.3 cell.4 sizes.2 sizes.3 sizes.1 found.2.next found.2.fits found.2.here reads;
+      ends = new_end s law m p len ds new found.0 sizes.0 cell.2 cell.3 cell.4 sizes.2 sizes.3 sizes.1 found.2.next found.2.fits found.2.here reads
+          ∙ sym (object_is s law m p len ds new found.0 sizes.0 cell.2 cell.3 cell.4 sizes.2 sizes.3 sizes.1 found.2.next found.2.fits found.2.here reads refl);
     }
+
+-- a new object that isn't refused, written out
+pub new_object_is : (s : State) (m len ds p : ℕ) (place : Place) → Law s → refusal (moment_of s) (Mutator m (New len ds)) ≡ None → lowest_cell s m ≡ Some p → room s (size_of len) true ≡ Some place →
+    with_object s m p len ds place ≡ record (with_span record s { word = with_row (put s.word (addr place) (head_word p len ds)) (addr place + 1) (words_for len) (λ _. 0) } p (near_word len ds place) len place) { used = put s.used p true }
+new_object_is s m len ds p place law e cell found =
+    let h = four (nat_lt m s.mutators && nat_lt ds 256) (nat_lt 0 len && nat_le len LONGEST) (is_some (lowest_cell s m)) (is_some (room s (size_of len) true)) Range Length NoPointer NoRoom e in
+    let sizes = new_sizes m s.mutators len ds h.0 h.1 in
+    let own = lowest_cell_is s m p cell in
+    let there = room_next s (size_of len) place law (omega (arith, sizes.3)) found in
+    let reads = read_back (Near len ds place clean) (sizes.2, sizes.3, sizes.1, omega (arith, there.next.0, law.shape.few_logs), there.fits) in
+    object_is s law m p len ds (near_word len ds place) place sizes.0 own.0 own.1 own.2 sizes.2 sizes.3 sizes.1 there.next there.fits there.here reads refl
 
 -- ---- scopes
 -- each named cell stays at hand where cells and their use stay

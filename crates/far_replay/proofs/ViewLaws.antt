@@ -27,7 +27,7 @@ use Rattle.far_replay.specs.EventRows.{after_events, Succeeds, ComesToPass}
 use Rattle.far_replay.specs.Reply.{Reply, Refused}
 use Rattle.far_replay.specs.Events.{turn_events, zero_puts, new_events, open_events, view_events, load_events, store_events, first_loads, last_loads, part_events, drop_events, first_word, words_touched, starts_inside, ends_inside}
 use Rattle.far_replay.specs.Objects.{lowest_cell, with_range, data_of}
-use Rattle.far_replay.specs.Effects.{new_word}
+use Rattle.far_replay.specs.Effects.{near_word}
 use Rattle.far_replay.specs.Turn.{refusal, unless, turn_reply, reply_to}
 use Rattle.far_replay.proofs.Lasting.{Lasts, carried, moment_lasts, still_lasts}
 use Rattle.far_replay.proofs.Turns.{turns}
@@ -67,7 +67,7 @@ pub news : (m len ds : ℕ) (x : Option ℕ) (y : Option Place) → Each LeavesV
 news m len ds None y = tt
 news m len ds (Some p) None = tt
 news m len ds (Some p) (Some place) =
-    Each-append LeavesViews (Puts place.log place.at (head_word p len ds) ∷ zero_puts place (words_for len)) (Names p 0 (new_word len ds place) ∷ Adopts m p ∷ [])
+    Each-append LeavesViews (Puts place.log place.at (head_word p len ds) ∷ zero_puts place (words_for len)) (Names p 0 (near_word len ds place) ∷ Adopts m p ∷ [])
     (((λ _ _ e. absurd cc), (λ _ e. absurd cc)), Each-row LeavesViews (λ i. Puts place.log (place.at + 1 + i) 0) 0 (words_for len) (λ i _. ((λ _ _ e. absurd cc), (λ _ e. absurd cc))))
     (((λ _ _ e. absurd cc), (λ _ e. absurd cc)), (((λ _ _ e. absurd cc), (λ _ e. absurd cc)), tt))
 

@@ -1,29 +1,21 @@
 -- What the calls of a mutator make of a heap's core: one function on states for each.
-use Rattle.std.specs.Prelude.{ℕ, ◌+◌, true, false, Option, Some, None, is_some, List, if◌then◌else◌}
+use Rattle.std.specs.Prelude.{ℕ, ◌+◌, true, Option, Some, None, is_some, List, if◌then◌else◌}
 use Rattle.far_word.specs.declared.mark.Mark.TheVariants.{Dropped}
 use Rattle.far_word.specs.declared.pointer.Place.{Place}
-use Rattle.far_word.specs.declared.pointer.PtrWord.TheVariants.{Near}
 use Rattle.far_word.specs.Bytes.{packed_word}
-use Rattle.far_word.specs.Header.{head_word}
-use Rattle.far_word.specs.Pointer.{read_of, word_of}
+use Rattle.far_word.specs.Pointer.{read_of}
 use Rattle.far_word.specs.Sizes.{words_for}
 pub use Rattle.far_core.specs.events.Ranges.{with_row}
-use Rattle.far_core.specs.declared.event.Event.TheVariants.{Ask}
-use Rattle.far_core.specs.events.Step.{after, after_pin, with_span, scope_word_of, near_data, data_len}
-use Rattle.far_core.specs.state.State.{State, put, addr}
-use Rattle.far_book.specs.book.Effects.{retired}
+use Rattle.far_core.specs.declared.event.Event.TheVariants.{Adopt, Ask}
+use Rattle.far_core.specs.events.Step.{after, after_pin, scope_word_of, near_data, data_len}
+use Rattle.far_core.specs.state.State.{State, put}
+pub use Rattle.far_book.specs.book.Effects.{near_word}
+use Rattle.far_book.specs.book.Effects.{placed, retired}
 use Rattle.far_replay.specs.Objects.{data_of, with_range}
 
--- the word of a cell that names a new place
-abbrev pub new_word : ℕ → ℕ → Place → ℕ
-new_word len ds place = word_of (Near len ds place record { hot = false; evac = false; moved = false; dropped = false })
-
--- a new object of len zeros at a place: its header and data words stand there, its cell names it, and its owner uses it
-abbrev pub with_object : State → ℕ → ℕ → ℕ → Place → State
-with_object s p len ds place =
-    record (with_span record s { word = with_row (put s.word (addr place) (head_word p len ds)) (addr place + 1) (words_for len) (λ _. 0) } p (new_word len ds place) len place) {
-      used = put s.used p true;
-    }
+-- a new object of len zeros: a book places it, and its owner adopts it
+abbrev pub with_object : State → ℕ → ℕ → ℕ → ℕ → Place → State
+with_object s m p len ds place = after (placed s p len ds place) (Adopt m p)
 
 -- the epoch at which a scope opens: the one that its owner read, or else the heap's
 abbrev pub epoch_for : Option ℕ → ℕ → ℕ

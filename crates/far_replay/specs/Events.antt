@@ -12,7 +12,7 @@ use Rattle.far_core.specs.events.Step.{after}
 use Rattle.far_core.specs.state.Room.{room}
 use Rattle.far_core.specs.state.State.{State}
 use Rattle.far_replay.specs.Command.{Command, New, Open, Write, Read, Close, Where, Drop, Mutator, Book}
-use Rattle.far_replay.specs.Effects.{new_word}
+use Rattle.far_replay.specs.Effects.{near_word}
 use Rattle.far_replay.specs.Moment.{Moment}
 use Rattle.far_replay.specs.Objects.{data_of, with_range, lowest_cell}
 use Rattle.far_replay.specs.Turn.{refusal, unless}
@@ -25,7 +25,7 @@ abbrev pub new_events : ℕ → ℕ → ℕ → Option ℕ → Option Place → 
 new_events m len ds None place = []
 new_events m len ds (Some p) None = []
 new_events m len ds (Some p) (Some place) =
-    (Puts place.log place.at (head_word p len ds) ∷ zero_puts place (words_for len)) ++ Names p 0 (new_word len ds place) ∷ Adopts m p ∷ []
+    (Puts place.log place.at (head_word p len ds) ∷ zero_puts place (words_for len)) ++ Names p 0 (near_word len ds place) ∷ Adopts m p ∷ []
 
 -- the epoch is read for an opening, unless it was read already
 abbrev pub open_events : State → ℕ → List Event

@@ -342,7 +342,7 @@ NewIsMade = (now : Moment) (m len ds : ℕ) (r : Reply) (after : Moment) → m <
 
 -- a new object alone takes room, and no more than its span
 abbrev pub CommandsTakeRoom : Type 0
-CommandsTakeRoom = (now : Moment) (c : Command) (r : Reply) (after : Moment) → Commanded now c r after → TakesRoom now c r after
+CommandsTakeRoom = (now : Moment) (c : Command) (r : Reply) (after : Moment) → Law now.core → Commanded now c r after → TakesRoom now c r after
 
 -- what is read or written is viewed until its mutator closes its scope; nothing else makes a view or takes one away
 abbrev pub ViewsLast : Type 0

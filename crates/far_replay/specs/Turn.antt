@@ -50,13 +50,13 @@ refusal now c = first_cause (causes now c)
 
 -- ---- the moment after a command that isn't refused
 -- a new object at the pointer and the place that were found
-abbrev pub with_new : State → ℕ → ℕ → Option ℕ → Option Place → State
-with_new s len ds None place = s
-with_new s len ds (Some p) None = s
-with_new s len ds (Some p) (Some place) = with_object s p len ds place
+abbrev pub with_new : State → ℕ → ℕ → ℕ → Option ℕ → Option Place → State
+with_new s m len ds None place = s
+with_new s m len ds (Some p) None = s
+with_new s m len ds (Some p) (Some place) = with_object s m p len ds place
 
 abbrev pub turn_effect : Moment → Command → Moment
-turn_effect now (Mutator m (New len ds)) = record now { core = with_new now.core len ds (lowest_cell now.core m) (room now.core (size_of len) true) }
+turn_effect now (Mutator m (New len ds)) = record now { core = with_new now.core m len ds (lowest_cell now.core m) (room now.core (size_of len) true) }
 turn_effect now (Mutator m Open) = record now { core = with_scope now.core m }
 turn_effect now (Mutator m (Write p from bytes)) = record now { core = with_data (with_view now.core p) p from bytes }
 turn_effect now (Mutator m (Read p from len)) = record now { core = with_view now.core p }

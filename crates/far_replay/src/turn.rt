@@ -273,7 +273,7 @@ fn place_new(book: &mut Book<Plain>, owner: u8, len: u64, ds: u64) -> Result<u16
     requires known { owner < (state_in book.old).mutators }
     ensures refusal { refused_in result ≡ refusal (moment_of (state_in book.old)) (Mutator owner (New len ds)) }
     ensures cell { IfOk result (λ pointer. lowest_cell (state_in book.old) owner ≡ Some pointer) }
-    ensures made { IfOk result (λ pointer. state_in book.new ≡ with_new (state_in book.old) len ds (Some pointer) (room (state_in book.old) (size_of len) true)) }
+    ensures made { IfOk result (λ pointer. state_in book.new ≡ with_new (state_in book.old) owner len ds (Some pointer) (room (state_in book.old) (size_of len) true)) }
     ensures unchanged { IfErr result (λ _. state_in book.new ≡ state_in book.old) }
 {
     if ds >= 256 {
