@@ -1,5 +1,5 @@
 -- When the bytes of an object stay: its owner has asked for it to be moved, or can't reach it while the round lasts.
-use Rattle.std.specs.Prelude.{◌≡◌, ◌+◌, ◌*◌, ◌/◌, ◌<◌, ◌&&◌, ◌||◌, ◌==◌, nat_lt, nat_le, ℕ, Bool, true, false, Option, Some, None}
+use Rattle.std.specs.Prelude.{◌≡◌, ◌+◌, ◌*◌, ◌<◌, ◌&&◌, ◌==◌, nat_lt, nat_le, ℕ, Bool, true, false, Option, Some, None}
 use Rattle.far_word.specs.declared.mark.Marks.{Marks}
 use Rattle.far_word.specs.declared.pointer.Place.{Place}
 use Rattle.far_word.specs.declared.pointer.PtrWord.{PtrWord}
@@ -8,10 +8,7 @@ use Rattle.far_word.specs.declared.sizes.TheConstants.{CELLS}
 use Rattle.far_word.specs.Pointer.{read_of}
 use Rattle.far_word.specs.Sizes.{words_for}
 use Rattle.far_core.specs.state.State.{State, addr}
-
--- a near object is quiet: it has MOVE; or it has EVAC, its log is in the round, and its owner was seen clear in it
-abbrev pub is_quiet : (ℕ → Bool) → (ℕ → Bool) → ℕ → Place → Marks → Bool
-is_quiet round clear p place marks = marks.moved || (marks.evac && round place.log && clear (p / CELLS))
+pub use Rattle.far_core.specs.events.Quiet.{is_quiet}
 
 -- a word of a log is a data word of the object that a cell names, and the cell has MOVE
 abbrev pub is_moved_word : Option PtrWord → ℕ → ℕ → Bool

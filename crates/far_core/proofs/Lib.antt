@@ -18,10 +18,12 @@ pub mod Observations
 pub mod Owed
 pub mod Owing
 pub mod Put
+pub mod Quieting
 pub mod Ranges
 pub mod RoomLaws
 pub mod Rows
 pub mod SpanFrames
+pub mod StoredRows
 pub mod Steps
 pub mod Touching
 pub mod WorldFacts

@@ -52,6 +52,7 @@ takes_span s law p new len place = record {
   begins = put_same s.starts (addr place) true (addr place) refl;
   starts = λ a ne. put_other s.starts (addr place) true a ne;
   round = refl;
+  stored = refl;
 }
 
 pub touch_span : (s : State) (p new len : ℕ) (place : Place) → Touches s (record { word = Some (CellAt p); part = BookView }) (with_span s p new len place)
@@ -61,7 +62,7 @@ touch_span s p new len place = record {
   used = λ q a. refl;
   held = λ q a b. refl;
   book = λ ne. absurd (ne refl);
-  rest = (refl, refl, refl, refl, refl, refl);
+  rest = (refl, refl, refl, refl, refl);
 }
 
 -- the groups, where one log is sealed that was open and another is open

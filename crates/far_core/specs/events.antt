@@ -15,6 +15,7 @@ pub mod Open
 pub mod Owners
 pub mod Pin
 pub mod Put
+pub mod Quiet
 pub mod Ranges
 pub mod ReadEpoch
 pub mod Reports

@@ -1,2 +1,3 @@
+pub mod Evicts
 pub mod Places
 pub mod Retires

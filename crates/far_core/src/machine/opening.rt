@@ -44,6 +44,7 @@ impl Memory {
             round: vec![in alloc; false; logs]?,
             round_epoch: shape.epoch,
             clear: vec![in alloc; false; mutators]?,
+            stored: Vec::with_capacity(alloc, LOG_WORDS as usize * cells)?,
         })
     }
 }

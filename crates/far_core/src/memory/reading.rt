@@ -167,6 +167,17 @@ impl Memory {
     }
 
     #[tactic(auto, unfolding(crate::specs::state::Memory::state_of))]
+    pub(crate) fn stored(&self, pointer: u16, index: u16) -> u64
+        requires { index < LOG_WORDS }
+        ensures { result ≡ (state_of self.now).stored pointer index }
+    {
+        self.stored
+            .get(first_stored(pointer) + index as usize)
+            .copied()
+            .unwrap_or(0)
+    }
+
+    #[tactic(auto, unfolding(crate::specs::state::Memory::state_of))]
     pub(crate) fn current(&self) -> u8
         ensures is { result ≡ (state_of self.now).current }
         ensures within { result < (state_of self.now).logs }
@@ -219,6 +230,13 @@ pub(crate) fn first_word(place: Place) -> usize
     ensures { result ≡ addr place }
 {
     place.log as usize * LOG_WORDS as usize + place.at as usize
+}
+
+/// Where the row of a pointer's stored words begins.
+pub(crate) fn first_stored(pointer: u16) -> usize
+    ensures { result ≡ pointer * LOG_WORDS }
+{
+    pointer as usize * LOG_WORDS as usize
 }
 
 /// Whether a cell is used and not dropped.
