@@ -2,6 +2,7 @@ pub mod Begins
 pub mod Bounds
 pub mod Calls
 pub mod Cells
+pub mod Copies
 pub mod Frames
 pub mod Guards
 pub mod KeepOwner
@@ -25,6 +26,7 @@ pub mod Rows
 pub mod SpanFrames
 pub mod StoredRows
 pub mod Steps
+pub mod TakingSpans
 pub mod Touching
 pub mod WorldFacts
 pub mod WorldLaws

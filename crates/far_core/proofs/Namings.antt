@@ -1,13 +1,16 @@
 -- The form of an old and a new word is the one that they say.
-use Rattle.std.proofs.Common.{◌≡◌, Bool, true, false, cond, arith, refl, ap, subst, Option, Some, None}
-use Rattle.std.proofs.lemmas.Bool.{false≢true}
+use Rattle.std.proofs.Common.{◌≡◌, ℕ, Bool, true, false, cond, arith, nat_eq, refl, sym, ap, subst, ◌∙◌, Option, Some, None}
+use Rattle.std.specs.Option.{IfSome}
+use Rattle.std.specs.Prelude.{not, ◌&&◌}
+use Rattle.std.proofs.lemmas.Bool.{eq-eqb, false≢true}
 use Rattle.std.proofs.lemmas.Bool.Decides.{nat_tests}
 use Rattle.far_word.specs.declared.mark.Marks.{Marks}
+use Rattle.far_word.specs.declared.pointer.Place.{Place}
 use Rattle.far_word.specs.declared.pointer.PtrWord.{PtrWord}
 use Rattle.far_word.specs.declared.pointer.PtrWord.TheVariants.{Free, Near, Far}
 use Rattle.far_core.specs.declared.naming.Naming.{Naming}
-use Rattle.far_core.specs.declared.naming.Naming.TheVariants.{Places, Retires}
-use Rattle.far_core.specs.events.Naming.{naming_of, IsNaming, no_marks, is_dropped, is_unmarked}
+use Rattle.far_core.specs.declared.naming.Naming.TheVariants.{Places, Retires, Moves, Fetches}
+use Rattle.far_core.specs.events.Naming.{naming_of, near_form, IsNaming, no_marks, is_dropped, is_unmarked, is_kept, is_stay}
 
 at_test : (b : Bool) (f g : Naming) → cond b (Some f) None ≡ Some g → (b ≡ true) × (f ≡ g)
 at_test true f g e = (refl, cc)
@@ -21,16 +24,57 @@ unmarked_is m h =
     let d : m.dropped ≡ false = grind (arith, nat_tests) in
     λ i. record { hot = a i; evac = b i; moved = c i; dropped = d i }
 
+-- what two words of one object say
+record Kept (m k : Marks) (len n ds d : ℕ) : Type 0 where
+  pub long : n ≡ len
+  pub structure : d ≡ ds
+  pub kept : m.dropped ≡ false
+  pub unmarked : k ≡ no_marks
+
+kept_is : (m k : Marks) (len n ds d : ℕ) → is_kept m k len n ds d ≡ true → Kept m k len n ds d
+kept_is m k len n ds d h =
+    record { long = grind (arith, nat_tests); structure = grind (arith, nat_tests); kept = grind (arith, nat_tests); unmarked = unmarked_is k (grind (arith, nat_tests)) }
+
+kept_test : (m : Marks) (len ds : ℕ) → m.dropped ≡ false → is_kept m no_marks len len ds ds ≡ true
+kept_test m len ds kept = rw (eq-eqb len len refl, eq-eqb ds ds refl, kept) refl
+
+at_form : (b : Bool) (o : Option Naming) (g : Naming) → cond b o None ≡ Some g → (b ≡ true) × (o ≡ Some g)
+at_form true o g e = (refl, e)
+at_form false o g e = absurd cc
+
+unless : (b : Bool) (f g : Naming) → cond b None (Some f) ≡ Some g → (b ≡ false) × (f ≡ g)
+unless true f g e = absurd cc
+unless false f g e = (refl, cc)
+
+-- the new word of one object
+same_object : (len n ds d : ℕ) (place : Place) (k : Marks) → n ≡ len → d ≡ ds → k ≡ no_marks → Some (Near n d place k) ≡ Some (Near len ds place no_marks)
+same_object len n ds d place k a b c = ap (λ x. Some (Near x d place k)) a ∙ ap (λ x. Some (Near len x place k)) b ∙ ap (λ x. Some (Near len ds place x)) c
+
+moves_says : (len ds : ℕ) (place : Place) (m : Marks) (n d : ℕ) (at : Place) (k : Marks) (form : Naming) →
+    naming_of (Some (Near len ds place m)) (Some (Near n d at k)) ≡ Some form → IsNaming form (Some (Near len ds place m)) (Some (Near n d at k))
+moves_says len ds place m n d at k form e =
+    let x = at_form (is_kept m k len n ds d) (near_form len ds place at m) form e in
+    let is = kept_is m k len n ds d x.0 in
+    let y = unless (is_stay place at m) (Moves len ds place at) form x.1 in
+    subst (λ f. IsNaming f (Some (Near len ds place m)) (Some (Near n d at k))) y.1 ((m, refl, is.kept, y.0), same_object len n ds d at k is.long is.structure is.unmarked)
+
+fetches_says : (len ds : ℕ) (m : Marks) (n d : ℕ) (at : Place) (k : Marks) (form : Naming) →
+    naming_of (Some (Far len ds m)) (Some (Near n d at k)) ≡ Some form → IsNaming form (Some (Far len ds m)) (Some (Near n d at k))
+fetches_says len ds m n d at k form e =
+    let x = at_test (is_kept m k len n ds d) (Fetches len ds at) form e in
+    let is = kept_is m k len n ds d x.0 in
+    subst (λ f. IsNaming f (Some (Far len ds m)) (Some (Near n d at k))) x.1 ((m, refl, is.kept), same_object len n ds d at k is.long is.structure is.unmarked)
+
 pub naming_says : (a b : Option PtrWord) (form : Naming) → naming_of a b ≡ Some form → IsNaming form a b
 naming_says None b form e = absurd cc
 naming_says (Some (Near len ds place m)) None form e = absurd cc
-naming_says (Some (Near len ds place m)) (Some (Near n d at k)) form e = absurd cc
+naming_says (Some (Near len ds place m)) (Some (Near n d at k)) form e = moves_says len ds place m n d at k form e
 naming_says (Some (Near len ds place m)) (Some (Far n d k)) form e = absurd cc
 naming_says (Some (Near len ds place m)) (Some Free) form e =
     let x = at_test m.dropped Retires form e in
     subst (λ f. IsNaming f (Some (Near len ds place m)) (Some Free)) x.1 (x.0, refl)
 naming_says (Some (Far len ds m)) None form e = absurd cc
-naming_says (Some (Far len ds m)) (Some (Near n d at k)) form e = absurd cc
+naming_says (Some (Far len ds m)) (Some (Near n d at k)) form e = fetches_says len ds m n d at k form e
 naming_says (Some (Far len ds m)) (Some (Far n d k)) form e = absurd cc
 naming_says (Some (Far len ds m)) (Some Free) form e =
     let x = at_test m.dropped Retires form e in
@@ -51,3 +95,12 @@ retires_only (Some (Far len ds m)) d = rw d refl
 pub naming_only : (form : Naming) (a b : Option PtrWord) → IsNaming form a b → naming_of a b ≡ Some form
 naming_only (Places len ds place) a b (free, near) = rw (free, near) refl
 naming_only Retires a b (dropped, free) = rw free (retires_only a dropped)
+naming_only (Moves len ds from to) a b ((m, near, kept, moved), new) = rw (near, new) (ap (λ t. cond t (near_form len ds from to m) None) (kept_test m len ds kept) ∙ ap (λ t. cond t None (Some (Moves len ds from to))) moved)
+naming_only (Fetches len ds place) a b ((m, far, kept), new) = rw (far, new) (ap (λ t. cond t (Some (Fetches len ds place)) None) (kept_test m len ds kept))
+
+-- the same where there may be no form
+pub naming_found : (a b : Option PtrWord) → IfSome (naming_of a b) (λ form. IsNaming form a b)
+naming_found a b = at (naming_of a b) refl where
+  at : (o : Option Naming) → naming_of a b ≡ o → IfSome o (λ form. IsNaming form a b)
+  at None e = tt
+  at (Some form) e = naming_says a b form e

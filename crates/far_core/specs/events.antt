@@ -1,6 +1,7 @@
 pub mod Adopt
 pub mod Ask
 pub mod Close
+pub mod Copies
 pub mod Get
 pub mod Leaves
 pub mod Legal

@@ -59,8 +59,16 @@ pub enum Event {
         word: u64,
     },
     /// The cell of a pointer goes from `old` to `new`, where it is `old`. Answers `Done` then, and `Word` with the
-    /// cell, which stays, else. Two forms so far: `old` is 0 and `new` near without marks, where the next span may
-    /// stand, with a header for the pointer written there before data words of 0; or `old` has DROP and `new` is 0.
+    /// cell, which stays, else. The two words make one of these forms. A new span stands where the next span may stand,
+    /// with a header for the pointer written there and zeros after the last byte; `new` has no marks.
+    ///
+    /// - Place: `old` is 0, and `new` near at a new span, whose data words are 0.
+    /// - Retire: `old` has DROP, and `new` is 0.
+    /// - Move: `old` is near without DROP, and `new` is of the same length and data structure, near at a new span, whose
+    ///   data words are those at the old place. The object is quiet: its cell has MOVE; or it has EVAC, its log is in
+    ///   the round and its owner was seen clear.
+    /// - Fetch: `old` is far without DROP, and `new` is of the same length and data structure, near at a new span, whose
+    ///   data words are those that were stored, if the far side is honest.
     Name {
         pointer: u16,
         old: u64,

@@ -5,6 +5,7 @@ ghost use Rattle.std.specs.Vec.{vec_capacity, vec_len};
 ghost use Rattle.far_word.specs.declared.sizes.TheConstants.{CELLS, LOG_WORDS, MOST_LOGS, MOST_MUTATORS};
 
 mod book;
+mod copies;
 mod owner;
 mod quiet;
 mod ranges;

@@ -1,2 +1,4 @@
+pub mod Fetches
+pub mod Moves
 pub mod Places
 pub mod Retires

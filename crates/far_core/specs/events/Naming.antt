@@ -1,15 +1,18 @@
 -- The forms of a naming: by what the old and the new word say. Each form stands in its own file.
-use Rattle.std.specs.Prelude.{◌≡◌, ℕ, Bool, true, false, cond, not, ◌||◌, Option, Some, None}
+use Rattle.std.specs.Prelude.{◌≡◌, ◌==◌, ℕ, Bool, true, false, cond, not, ◌||◌, ◌&&◌, Option, Some, None}
 use Rattle.far_word.specs.declared.mark.Marks.{Marks}
+use Rattle.far_word.specs.declared.pointer.Place.{Place}
 use Rattle.far_word.specs.declared.pointer.PtrWord.{PtrWord}
 use Rattle.far_word.specs.declared.pointer.PtrWord.TheVariants.{Free, Near, Far}
 use Rattle.far_word.specs.Pointer.{IsPtr}
 pub use Rattle.far_word.specs.Rows.{no_marks}
 use Rattle.far_core.specs.declared.naming.Naming.{Naming}
-use Rattle.far_core.specs.declared.naming.Naming.TheVariants.{Places, Retires}
+use Rattle.far_core.specs.declared.naming.Naming.TheVariants.{Places, Retires, Moves, Fetches}
 use Rattle.far_core.specs.state.State.{State}
 use Rattle.far_core.specs.world.Changes.{Change}
 use Rattle.far_core.specs.events.NamingRow.{NamingRow}
+use Rattle.far_core.specs.events.namings.Fetches.{fetches_row, fetches_change}
+use Rattle.far_core.specs.events.namings.Moves.{moves_row, moves_change}
 use Rattle.far_core.specs.events.namings.Places.{places_row, places_change}
 use Rattle.far_core.specs.events.namings.Retires.{retires_row, retires_change}
 
@@ -23,9 +26,23 @@ is_dropped (Some Free) = false
 is_dropped (Some (Near len ds place m)) = m.dropped
 is_dropped (Some (Far len ds m)) = m.dropped
 
+-- two words of one object, that isn't dropped: the same length and data structure, and the new word has no marks
+abbrev pub is_kept : Marks → Marks → ℕ → ℕ → ℕ → ℕ → Bool
+is_kept m k len n ds d = (len == n) && (ds == d) && not m.dropped && is_unmarked k
+
+-- the object may stay where it lies: its owner has asked for it, and the book doesn't want its log
+abbrev pub is_stay : Place → Place → Marks → Bool
+is_stay from to m = (from.log == to.log) && (from.at == to.at) && m.moved && not m.evac
+
+-- the form of two near words of one object
+abbrev pub near_form : ℕ → ℕ → Place → Place → Marks → Option Naming
+near_form len ds from to m = cond (is_stay from to m) None (Some (Moves len ds from to))
+
 -- the form of an old and a new word
 abbrev pub naming_of : Option PtrWord → Option PtrWord → Option Naming
 naming_of (Some Free) (Some (Near len ds place m)) = cond (is_unmarked m) (Some (Places len ds place)) None
+naming_of (Some (Near len ds place m)) (Some (Near n d at k)) = cond (is_kept m k len n ds d) (near_form len ds place at m) None
+naming_of (Some (Far len ds m)) (Some (Near n d at k)) = cond (is_kept m k len n ds d) (Some (Fetches len ds at)) None
 naming_of (Some (Near len ds place m)) (Some Free) = cond m.dropped (Some Retires) None
 naming_of (Some (Far len ds m)) (Some Free) = cond m.dropped (Some Retires) None
 naming_of a b = None
@@ -34,18 +51,26 @@ naming_of a b = None
 abbrev pub IsNaming : Naming → Option PtrWord → Option PtrWord → Type 0
 IsNaming (Places len ds place) a b = (a ≡ Some Free) × (b ≡ Some (Near len ds place no_marks))
 IsNaming Retires a b = (is_dropped a ≡ true) × (b ≡ Some Free)
+IsNaming (Moves len ds from to) a b = ((m : Marks) × (a ≡ Some (Near len ds from m)) × (m.dropped ≡ false) × (is_stay from to m ≡ false)) × (b ≡ Some (Near len ds to no_marks))
+IsNaming (Fetches len ds place) a b = ((m : Marks) × (a ≡ Some (Far len ds m)) × (m.dropped ≡ false)) × (b ≡ Some (Near len ds place no_marks))
 
 -- what a form takes from a word on the layout
 abbrev pub IsOnLayout : Naming → Type 0
 IsOnLayout (Places len ds place) = IsPtr (Near len ds place no_marks)
 IsOnLayout Retires = Unit {0}
+IsOnLayout (Moves len ds from to) = IsPtr (Near len ds from no_marks) × IsPtr (Near len ds to no_marks)
+IsOnLayout (Fetches len ds place) = IsPtr (Near len ds place no_marks)
 
 -- what a form is in a state, where the pointer's new word is new
 abbrev pub naming_row : State → ℕ → ℕ → Naming → NamingRow
 naming_row s p new (Places len ds place) = places_row s p new len ds place
 naming_row s p new Retires = retires_row s p new
+naming_row s p new (Moves len ds from to) = moves_row s p new len ds from to
+naming_row s p new (Fetches len ds place) = fetches_row s p new len ds place
 
 -- what a form does to the world
 abbrev pub naming_change : ℕ → Naming → Change
 naming_change p (Places len ds place) = places_change p len ds place
 naming_change p Retires = retires_change
+naming_change p (Moves len ds from to) = moves_change p to
+naming_change p (Fetches len ds place) = fetches_change p place

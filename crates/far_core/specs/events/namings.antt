@@ -1,3 +1,5 @@
 pub mod Evicts
+pub mod Fetches
+pub mod Moves
 pub mod Places
 pub mod Retires

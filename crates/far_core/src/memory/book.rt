@@ -146,6 +146,8 @@ impl Memory {
                     && self.zeros(first_word(place) + 1, words_for(len) as usize)
             }
             Naming::Retires => true,
+            Naming::Moves { len, ds, from, to } => self.may_move(pointer, len, ds, from, to),
+            Naming::Fetches { len, ds, place } => self.may_fetch(pointer, len, ds, place),
         }
     }
 
@@ -159,6 +161,8 @@ impl Memory {
         match form {
             Naming::Places { len, place, .. } => self.take(pointer, new, len, place),
             Naming::Retires => self.set_cell(pointer, new),
+            Naming::Moves { len, to, .. } => self.take(pointer, new, len, to),
+            Naming::Fetches { len, place, .. } => self.take(pointer, new, len, place),
         }
     }
 
@@ -206,7 +210,7 @@ impl Memory {
     }
 
     /// Whether a header for the pointer is written where the next span of a log may stand.
-    fn is_new_span(&self, pointer: u16, len: u16, ds: u8, place: Place) -> bool
+    pub(crate) fn is_new_span(&self, pointer: u16, len: u16, ds: u8, place: Place) -> bool
         requires layout { IsPtr (PtrWord.Near len ds place no_marks) }
         requires pointer { pointer < CELLS * (state_of self.now).mutators }
         requires law { Law (state_of self.now) }

@@ -184,7 +184,7 @@ fn is_request(mark: Mark) -> bool
 }
 
 /// Whether a word leaves the bytes after an object's end 0.
-fn keeps_padding(len: u16, index: u16, word: u64) -> bool
+pub(crate) fn keeps_padding(len: u16, index: u16, word: u64) -> bool
     requires { 8 * index < len }
     ensures { result ≡ keeps_padding len index word }
 {

@@ -1,32 +1,28 @@
 -- What the form of naming Places owes.
-use Rattle.std.proofs.Common.{◌≢◌, ◌≡◌, ℕ, ◌+◌, ◌/◌, ◌<◌, ◌≤◌, true, false, arith, refl, sym, ap, ◌∙◌, Option, Some, None}
+use Rattle.std.proofs.Common.{◌≢◌, ◌≡◌, ℕ, ◌+◌, ◌-◌, ◌/◌, ◌<◌, ◌≤◌, true, false, arith, refl, sym, ap, ◌∙◌, Option, Some, None}
 use Rattle.std.specs.Prelude.{replicate}
 use Rattle.std.proofs.lemmas.Bool.{false≢true}
 use Rattle.std.proofs.lemmas.Bool.Decides.{nat_tests}
 use Rattle.std.proofs.lemmas.Nat.{pow_pos}
-use mathlib.Core.Path.{fun_ext}
 use Rattle.far_word.specs.declared.pointer.Place.{Place}
 use Rattle.far_word.specs.declared.pointer.PtrWord.TheVariants.{Free, Near}
 use Rattle.far_word.specs.declared.sizes.TheConstants.{CELLS, LONGEST}
-use Rattle.far_word.specs.Header.{head_of}
 use Rattle.far_word.specs.Pointer.{read_of}
 use Rattle.far_word.specs.Sizes.{words_for}
 use Rattle.far_word.proofs.ByteLaws.{bytes_of-zeros}
-use Rattle.far_word.proofs.HeaderLaws.{head_back}
 use Rattle.far_word.proofs.PointerLaws.{read_says}
 use Rattle.far_core.specs.declared.naming.Naming.TheVariants.{Places}
 use Rattle.far_core.specs.events.Naming.{no_marks}
 use Rattle.far_core.specs.events.NewSpans.{with_span}
 use Rattle.far_core.specs.state.Law.{Law, Blank, in_use}
-use Rattle.far_core.specs.state.State.{State, put, addr}
+use Rattle.far_core.specs.state.State.{State, addr}
 use Rattle.far_core.specs.world.Steps.{Makes}
 use Rattle.far_core.specs.world.World.{Object, Group}
-use Rattle.far_core.specs.world.WorldOf.{world_of, object_of, is_marked}
-use Rattle.far_core.proofs.KeepPlace.{header, law_with_span}
+use Rattle.far_core.specs.world.WorldOf.{world_of, object_of}
 use Rattle.far_core.proofs.NamingOwed.{IsMade, NamingOwed}
-use Rattle.far_core.proofs.NewSpans.{new_span_fact, new_span_test, at_tail, takes_span, touch_span, groups_then}
-use Rattle.far_core.proofs.Put.{put_both, put_same, put_other}
-use Rattle.far_core.proofs.Worlds.{World-ext}
+use Rattle.far_core.proofs.NewSpans.{new_span_fact, new_span_test, takes_span, touch_span}
+use Rattle.far_core.proofs.Put.{put_same}
+use Rattle.far_core.proofs.TakingSpans.{keeps_new_span, span_world}
 use Rattle.far_core.proofs.Zeros.{zeros_all, zeros_below}
 
 -- a free cell is held by nobody, and no owner uses it
@@ -43,39 +39,19 @@ module _ (s : State) (law : Law s) (p len ds : ℕ) (place : Place) (new : ℕ) 
   object_is : object_of s.word (s.stored p) p (read_of new) ≡ Some object
   object_is = rw (says, bytes_of-zeros (λ i. s.word (addr place + 1 + i)) len clear) refl
 
-  unmarked : is_marked (read_of new) ≡ false
-  unmarked = rw says refl
-
   pub place_makes : Makes (world_of s) p len ds place.log (world_of (with_span s p new len place))
   unfolding world_of
-  place_makes = record {
-    fresh = rw free refl;
-    some = some;
-    most = most;
-    after = World-ext _ _
-        (fun_ext (λ q. put_both (λ w. object_of s.word (s.stored q) q (read_of w) ≡ put (λ r. object_of s.word (s.stored r) r (read_of (s.cell r))) p (Some object) q) s.cell p new q
-        (λ e. ap (λ r. object_of s.word (s.stored r) r (read_of new)) e ∙ object_is ∙ sym (put_same (λ r. object_of s.word (s.stored r) r (read_of (s.cell r))) p _ q e))
-        (λ ne. sym (put_other (λ r. object_of s.word (s.stored r) r (read_of (s.cell r))) p _ q ne))))
-        refl refl
-        (fun_ext (λ q. put_both (λ w. is_marked (read_of w) ≡ put (λ r. is_marked (read_of (s.cell r))) p false q) s.cell p new q
-        (λ e. unmarked ∙ sym (put_same (λ r. is_marked (read_of (s.cell r))) p false q e))
-        (λ ne. sym (put_other (λ r. is_marked (read_of (s.cell r))) p false q ne))))
-        (fun_ext (groups_then s.kind s.current place.log law.logs.is_open))
-        refl;
-  }
+  place_makes = record { fresh = rw free refl; some = some; most = most; after = span_world s law p new len ds place says object object_is }
 
 module _ (p new len ds : ℕ) (place : Place) where
   keeps_place : (s : State) → IsMade s p new (Places len ds place) → Law (with_span s p new len place)
   keeps_place s made =
       let law = made.law in
       let x = read_says new (Near len ds place no_marks) made.fits made.naming.1 in
-      let head = made.legal.0.head in
-      let back : head_of (s.word (addr place)) ≡ Some (header p len ds) =
-      ap head_of head ∙ head_back (header p len ds) (record { some = omega (arith, x.0); most = omega (arith, x.0); structure = omega (arith, x.0); cell = omega (arith, made.cell, law.shape.few_mutators) }) in
       let unused : s.used p ≢ true = λ used. false≢true (sym (ap in_use made.naming.0) ∙ law.views.used_cell p used) in
-      law_with_span s law p len ds place no_marks new made.naming.1 made.fits made.cell (none_held s law p unused (s.held p) refl) (λ used. absurd (unused used))
-      (omega (arith, x.0)) (omega (arith, x.0)) (omega (arith, x.0)) made.legal.0.next.0 (at_tail s law place made.legal.0.next) head back
-      (λ i lt. rw (made.legal.1 i lt) (pow_pos _)) (λ _ _. made.legal.1)
+      let last : words_for len - 1 < words_for len = omega (arith, x.0) in
+      keeps_new_span s law p new len ds place made.naming.1 made.cell made.fits made.legal.0
+      (rw (made.legal.1 (words_for len - 1) last) (pow_pos _)) (none_held s law p unused (s.held p) refl) (λ _ _. made.legal.1)
 
   pub places_owed : NamingOwed p new (Places len ds place)
   places_owed = record {

@@ -1,0 +1,52 @@
+-- A pointer is named to a new span: the law stays, and the world has its object there.
+use Rattle.std.proofs.Common.{◌≡◌, ℕ, ◌*◌, ◌<◌, ◌^◌, true, false, arith, refl, sym, ap, ◌∙◌, Option, Some, None}
+use mathlib.Core.Path.{fun_ext}
+use Rattle.far_word.specs.declared.pointer.Place.{Place}
+use Rattle.far_word.specs.declared.pointer.PtrWord.TheVariants.{Near}
+use Rattle.far_word.specs.declared.sizes.TheConstants.{CELLS}
+use Rattle.far_word.specs.Header.{head_of}
+use Rattle.far_word.specs.Pointer.{read_of}
+use Rattle.far_word.proofs.HeaderLaws.{head_back}
+use Rattle.far_word.proofs.PointerLaws.{read_says}
+use Rattle.far_core.specs.events.Copies.{EndsPadded}
+use Rattle.far_core.specs.events.Naming.{no_marks}
+use Rattle.far_core.specs.events.NewSpans.{IsNewSpan, with_span}
+use Rattle.far_core.specs.state.Law.{Law, Blank, in_use}
+use Rattle.far_core.specs.state.State.{State, put, addr}
+use Rattle.far_core.specs.world.World.{Object}
+use Rattle.far_core.specs.world.WorldOf.{world_of, object_of, is_marked}
+use Rattle.far_core.proofs.Copies.{padded_all}
+use Rattle.far_core.proofs.KeepPlace.{header, law_with_span}
+use Rattle.far_core.proofs.NewSpans.{at_tail, groups_then}
+use Rattle.far_core.proofs.Put.{put_both, put_same, put_other}
+use Rattle.far_core.proofs.Worlds.{World-ext}
+
+module _ (s : State) (law : Law s) (p new len ds : ℕ) (place : Place) (says : read_of new ≡ Some (Near len ds place no_marks)) where
+  pub keeps_new_span : p < CELLS * s.mutators → new < 2 ^ 64 → IsNewSpan s p len ds place → EndsPadded s.word len place → s.held p ≡ None →
+      (s.honest ≡ true → s.used p ≡ false → Blank s.word len place) → Law (with_span s p new len place)
+  keeps_new_span cell fits span padded unheld blank =
+      let x = read_says new (Near len ds place no_marks) fits says in
+      let back : head_of (s.word (addr place)) ≡ Some (header p len ds) =
+      ap head_of span.head ∙ head_back (header p len ds) (record { some = omega (arith, x.0); most = omega (arith, x.0); structure = omega (arith, x.0); cell = omega (arith, cell, law.shape.few_mutators) }) in
+      law_with_span s law p len ds place no_marks new says fits cell unheld (λ _. ap in_use says)
+      (omega (arith, x.0)) (omega (arith, x.0)) (omega (arith, x.0)) span.next.0 (at_tail s law place span.next) span.head back
+      (padded_all s.word law.spans.word_fits len place (omega (arith, x.0)) padded) blank
+
+  -- the object that is meant from then on, unmarked, in a group that is held
+  pub span_world : (x : Object) → object_of s.word (s.stored p) p (read_of new) ≡ Some x →
+      world_of (with_span s p new len place) ≡ record (world_of s) {
+        object = put (world_of s).object p (Some x);
+        marked = put (world_of s).marked p false;
+        group = put (world_of s).group place.log true;
+      }
+  unfolding world_of
+  span_world x is = World-ext _ _
+      (fun_ext (λ q. put_both (λ w. object_of s.word (s.stored q) q (read_of w) ≡ put (λ r. object_of s.word (s.stored r) r (read_of (s.cell r))) p (Some x) q) s.cell p new q
+      (λ e. ap (λ r. object_of s.word (s.stored r) r (read_of new)) e ∙ is ∙ sym (put_same (λ r. object_of s.word (s.stored r) r (read_of (s.cell r))) p _ q e))
+      (λ ne. sym (put_other (λ r. object_of s.word (s.stored r) r (read_of (s.cell r))) p _ q ne))))
+      refl refl
+      (fun_ext (λ q. put_both (λ w. is_marked (read_of w) ≡ put (λ r. is_marked (read_of (s.cell r))) p false q) s.cell p new q
+      (λ e. ap is_marked says ∙ sym (put_same (λ r. is_marked (read_of (s.cell r))) p false q e))
+      (λ ne. sym (put_other (λ r. is_marked (read_of (s.cell r))) p false q ne))))
+      (fun_ext (groups_then s.kind s.current place.log law.logs.is_open))
+      refl

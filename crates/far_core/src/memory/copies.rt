@@ -1,0 +1,109 @@
+//! Whether the words of an object stand at a new span.
+
+ghost use Rattle.std.specs.Prelude.{◌≡◌, ◌*◌, ◌+◌, ◌<◌, ◌≤◌, ℕ};
+ghost use Rattle.far_core.specs.events.Copies.{alike, data_at, ends_padded};
+ghost use Rattle.far_core.specs.events.NewSpans.{is_new_span};
+ghost use Rattle.far_core.specs.events.Naming.{no_marks, naming_row};
+ghost use Rattle.far_core.specs.events.namings.Fetches.{is_stored_at, words_stored};
+ghost use Rattle.far_core.specs.declared.naming.Naming.{Naming};
+ghost use Rattle.far_core.specs.state.Law.{Law};
+ghost use Rattle.far_core.specs.state.Memory.{state_of};
+ghost use Rattle.far_core.specs.state.State.{State};
+ghost use Rattle.far_word.specs.Pointer.{IsPtr, read_of};
+ghost use Rattle.far_word.specs.Sizes.{words_for};
+ghost use Rattle.far_word.specs.declared.sizes.TheConstants.{CELLS, LOG_WORDS};
+
+use crate::memory::Memory;
+use crate::memory::owner::keeps_padding;
+use crate::memory::reading::first_word;
+use far_word::{Place, PtrWord, words_for};
+
+impl Memory {
+    /// Whether a near object may move.
+    pub(crate) fn may_move(&self, pointer: u16, len: u16, ds: u8, from: Place, to: Place) -> bool
+        requires from { IsPtr (PtrWord.Near len ds from no_marks) }
+        requires to { IsPtr (PtrWord.Near len ds to no_marks) }
+        requires pointer { pointer < CELLS * (state_of self.now).mutators }
+        requires law { Law (state_of self.now) }
+        ensures { (new : ℕ) → result ≡ (naming_row (state_of self.now) pointer new (Naming.Moves len ds from to)).test }
+    {
+        self.is_new_span(pointer, len, ds, to)
+            && self.ends_padded(len, to)
+            && self.is_quiet(pointer)
+            && self.has_log(from.log)
+            && self.has_copy(first_word(to) + 1, first_word(from) + 1, words_for(len))
+    }
+
+    /// Whether a far object may come near.
+    pub(crate) fn may_fetch(&self, pointer: u16, len: u16, ds: u8, place: Place) -> bool
+        requires layout { IsPtr (PtrWord.Near len ds place no_marks) }
+        requires pointer { pointer < CELLS * (state_of self.now).mutators }
+        requires law { Law (state_of self.now) }
+        ensures { (new : ℕ) → result ≡ (naming_row (state_of self.now) pointer new (Naming.Fetches len ds place)).test }
+    {
+        self.is_new_span(pointer, len, ds, place)
+            && self.ends_padded(len, place)
+            && (!self.is_honest() || self.is_stored_at(pointer, len, place))
+    }
+
+    /// Whether the last data word at a place has zeros after the last byte.
+    fn ends_padded(&self, len: u16, place: Place) -> bool
+        requires some { 0 < len }
+        requires inside { place.at + words_for len < LOG_WORDS }
+        requires log { place.log < (state_of self.now).logs }
+        ensures { result ≡ ends_padded (state_of self.now).word len place }
+    {
+        let last = words_for(len) - 1;
+        keeps_padding(len, last, self.word(first_word(place) + 1 + last as usize))
+    }
+
+    /// Whether as many words are stored of a pointer, and they stand at a place.
+    fn is_stored_at(&self, pointer: u16, len: u16, place: Place) -> bool
+        requires inside { place.at + words_for len < LOG_WORDS }
+        requires log { place.log < (state_of self.now).logs }
+        ensures { result ≡ is_stored_at (state_of self.now) pointer len place }
+    {
+        words_stored(self.cell(pointer)) == words_for(len)
+            && self.has_stored(pointer, first_word(place) + 1, words_for(len))
+    }
+
+    /// Whether `count` words from `at` on are those from `from` on.
+    #[tactic(auto, unfolding(crate::specs::state::Memory::state_of))]
+    fn has_copy(&self, at: usize, from: usize, count: u16) -> bool
+        requires at { at + count ≤ LOG_WORDS * (state_of self.now).logs }
+        requires from { from + count ≤ LOG_WORDS * (state_of self.now).logs }
+        ensures { result ≡ alike (λ i. (state_of self.now).word (at + i)) (λ i. (state_of self.now).word (from + i)) count }
+    {
+        for k in 0..count {
+            if self.word(at + k as usize) != self.word(from + k as usize) {
+                return false;
+            }
+        }
+        true
+    }
+
+    /// Whether `count` words from `at` on are those stored of a pointer.
+    #[tactic(auto, unfolding(crate::specs::state::Memory::state_of))]
+    fn has_stored(&self, pointer: u16, at: usize, count: u16) -> bool
+        requires at { at + count ≤ LOG_WORDS * (state_of self.now).logs }
+        requires count { count ≤ LOG_WORDS }
+        ensures { result ≡ alike (λ i. (state_of self.now).word (at + i)) ((state_of self.now).stored pointer) count }
+    {
+        for k in 0..count {
+            if self.word(at + k as usize) != self.stored(pointer, k) {
+                return false;
+            }
+        }
+        true
+    }
+}
+
+/// How many words are stored of what a cell names: those of a far object.
+fn words_stored(cell: u64) -> u16
+    ensures { result ≡ words_stored (read_of cell) }
+{
+    match PtrWord::read(cell) {
+        Some(PtrWord::Far { len, .. }) => words_for(len),
+        _ => 0,
+    }
+}
