@@ -4,6 +4,7 @@ mod calls;
 mod dropping;
 mod filling;
 mod freeing;
+mod moving;
 mod page;
 mod ranges;
 mod reading;

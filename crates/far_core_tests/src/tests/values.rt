@@ -58,6 +58,21 @@ fn get(log: u8, at: u16, free: bool) -> Event {
     Event::Get { log, at, free }
 }
 
+fn moves(len: u16, ds: u8, from: (u8, u16), to: (u8, u16)) -> Naming {
+    Naming::Moves {
+        len,
+        ds,
+        from: Place {
+            log: from.0,
+            at: from.1,
+        },
+        to: Place {
+            log: to.0,
+            at: to.1,
+        },
+    }
+}
+
 /// A row an event: zeros, and each field changed.
 #[rattlefmt::skip]
 fn events() -> [Event; 42] {
@@ -113,10 +128,27 @@ fn namings_differ(rt: HostRuntime) -> Result<(), Fail> {
         ds,
         place: Place { log, at },
     };
+    let fetches = |len, ds, log, at| Naming::Fetches {
+        len,
+        ds,
+        place: Place { log, at },
+    };
     all_differ(
         &rt,
         &[
             Naming::Retires,
+            moves(8, 1, (0, 0), (1, 0)),
+            moves(9, 1, (0, 0), (1, 0)),
+            moves(8, 2, (0, 0), (1, 0)),
+            moves(8, 1, (2, 0), (1, 0)),
+            moves(8, 1, (0, 1), (1, 0)),
+            moves(8, 1, (0, 0), (2, 0)),
+            moves(8, 1, (0, 0), (1, 1)),
+            fetches(8, 1, 0, 0),
+            fetches(9, 1, 0, 0),
+            fetches(8, 2, 0, 0),
+            fetches(8, 1, 1, 0),
+            fetches(8, 1, 0, 1),
             places(8, 1, 0, 0),
             places(9, 1, 0, 0),
             places(8, 2, 0, 0),
