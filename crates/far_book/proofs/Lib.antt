@@ -1,5 +1,6 @@
 pub mod Counting
 pub mod Finding
+pub mod Knowing
 pub mod Masking
 pub mod Naming
 pub mod OwnersWork

@@ -1,5 +1,5 @@
 -- What a beset hand knows after it has named a word, and why what is legal by its view is legal.
-use Rattle.std.proofs.Common.{◌≡◌, ◌≢◌, ℕ, ◌+◌, ◌*◌, ◌^◌, ◌<◌, Bool, true, false, cond, Some, refl, sym, ap, ◌∙◌, subst, arith}
+use Rattle.std.proofs.Common.{◌≡◌, ◌≢◌, ℕ, ◌+◌, ◌-◌, ◌*◌, ◌^◌, ◌<◌, ◌≤◌, Bool, true, false, cond, Some, refl, sym, ap, ◌∙◌, subst, arith}
 use Rattle.std.specs.Prelude.{◌||◌, ◌==◌}
 use Rattle.std.proofs.lemmas.Bool.{cond_both, eqb-true, eqb-false, eq-eqb, ne_eqb}
 use Rattle.far_word.specs.declared.pointer.Place.{Place}
@@ -7,16 +7,19 @@ use Rattle.far_word.specs.declared.pointer.PtrWord.TheVariants.{Near}
 use Rattle.far_word.specs.declared.sizes.TheConstants.{CELLS}
 use Rattle.far_word.specs.Header.{head_word}
 use Rattle.far_word.specs.Pointer.{read_of}
+use Rattle.far_word.specs.Sizes.{words_for}
 use Rattle.far_word.proofs.HeaderLaws.{head_fits}
 use Rattle.far_word.proofs.PointerLaws.{read_says}
 use Rattle.far_core.specs.declared.event.Event.TheVariants.{Name}
 use Rattle.far_core.specs.declared.event.Reply.{Reply}
 use Rattle.far_core.specs.declared.event.Reply.TheVariants.{Done, Word}
 use Rattle.far_core.specs.declared.naming.Naming.{Naming}
-use Rattle.far_core.specs.declared.naming.Naming.TheVariants.{Places, Retires}
+use Rattle.far_core.specs.declared.naming.Naming.TheVariants.{Places, Retires, Moves, Fetches}
+use Rattle.far_core.specs.events.Copies.{data_at, EndsPadded}
 use Rattle.far_core.specs.events.Legal.{Legal}
 use Rattle.far_core.specs.events.Name.{after_naming}
 use Rattle.far_core.specs.events.Naming.{naming_of, IsNaming, naming_row, no_marks}
+use Rattle.far_core.specs.events.NewSpans.{IsNewSpan}
 use Rattle.far_core.specs.events.Step.{after, answer}
 use Rattle.far_core.specs.state.Law.{Law}
 use Rattle.far_core.specs.state.State.{State, addr, put}
@@ -24,7 +27,8 @@ use Rattle.far_core.proofs.KeepPlace.{header}
 use Rattle.far_core.proofs.Namings.{naming_only}
 use Rattle.far_core.proofs.Put.{put_both}
 use Rattle.far_book.specs.Known.{IsKnown, Forgets}
-use Rattle.far_book.specs.Masked.{masked}
+use Rattle.far_book.specs.Masked.{masked, AllFind}
+use Rattle.far_book.proofs.Knowing.{alike_words, quiet_too, stored_too, stored_fits, few_bits}
 use Rattle.far_book.proofs.Reading.{known_word, header_known, forgets}
 
 -- ---- whether a naming won
@@ -50,7 +54,7 @@ pub record Names (o v : State) (p old new : ℕ) : Type 0 where
   pub done : v ≡ record (after o (Name p old new)) { word = v.word }
   pub forgot : Forgets o v
 
-module _ (s : State) (law : Law s) (found : ℕ → ℕ) (counted : ℕ → Bool) (p old new : ℕ) (small : p < CELLS * s.mutators) (fits : new < 2 ^ 64) where
+module _ (s : State) (law : Law s) (found : ℕ → ℕ) (counted : ℕ → Bool) (finds : AllFind found s.cell) (p old new : ℕ) (small : p < CELLS * s.mutators) (fits : new < 2 ^ 64) where
   abbrev o : State
   o = masked s found counted
 
@@ -63,25 +67,56 @@ module _ (s : State) (law : Law s) (found : ℕ → ℕ) (counted : ℕ → Bool
       let says = read_says new (Near len ds place no_marks) fits e in
       head_fits (header p len ds) (record { some = omega (arith, says.0); most = omega (arith, says.0); structure = omega (arith, says.0); cell = omega (arith, law.shape.few_mutators) })
 
+  new_span : (len ds : ℕ) (place : Place) → read_of new ≡ Some (Near len ds place no_marks) → IsNewSpan o p len ds place → IsNewSpan s p len ds place
+  new_span len ds place says h = record { next = h.next; head = word_is (addr place) (head_word p len ds) (head_small len ds place says) h.head }
+
+  some_bytes : (len ds : ℕ) (place : Place) → read_of new ≡ Some (Near len ds place no_marks) → 0 < len
+  some_bytes len ds place says = let x = read_says new (Near len ds place no_marks) fits says in omega (arith, x.0)
+
+  -- a last word that the view says is padded, is known
+  padded : (len : ℕ) (place : Place) → 0 < len → EndsPadded o.word len place → EndsPadded s.word len place
+  padded len place some h =
+      let low : 2 ^ (8 * (len - 8 * (words_for len - 1))) ≤ 2 ^ 64 = few_bits len some in
+      let last : s.word (addr place + 1 + (words_for len - 1)) ≡ o.word (addr place + 1 + (words_for len - 1)) =
+      word_is (addr place + 1 + (words_for len - 1)) (o.word (addr place + 1 + (words_for len - 1))) (omega (arith, h, low)) refl in
+      subst (λ w. w < 2 ^ (8 * (len - 8 * (words_for len - 1)))) (sym last) h
+
   row_legal : (form : Naming) → IsNaming form (read_of old) (read_of new) → (naming_row o p new form).Legal → (naming_row s p new form).Legal
-  row_legal (Places len ds place) n h = (
-    record { next = h.0.next; head = word_is (addr place) (head_word p len ds) (head_small len ds place n.1) h.0.head },
-    λ i lt. word_is (addr place + 1 + i) 0 (omega arith) (h.1 i lt),
-  )
+  row_legal (Places len ds place) n h = (new_span len ds place n.1 h.0, λ i lt. word_is (addr place + 1 + i) 0 (omega arith) (h.1 i lt))
   row_legal Retires n h = tt
+  row_legal (Moves len ds from to) n h = record {
+    span = new_span len ds to n.1 h.span;
+    padded = padded len to (some_bytes len ds to n.1) h.padded;
+    quiet = quiet_too s found counted p (finds p) h.quiet;
+    log = h.log;
+    same = λ i lt. alike_words s found counted law (addr to + 1 + i) (addr from + 1 + i) (h.same i lt);
+  }
+  row_legal (Fetches len ds place) n h = record {
+    span = new_span len ds place n.1 h.span;
+    padded = padded len place (some_bytes len ds place n.1) h.padded;
+    stored = λ honest.
+        let all = stored_too (found p) (s.cell p) (finds p) (words_for len) (h.stored honest).all in
+        record { all = all; same = λ i lt. word_is (addr place + 1 + i) (s.stored p i) (stored_fits s law p (words_for len) all i lt) ((h.stored honest).same i lt) };
+  }
 
   -- what is legal by the view is legal
   pub legal_name : Legal o (Name p old new) → Legal s (Name p old new)
   legal_name h = (small, (h.1.0, h.1.1, row_legal h.1.0 h.1.1 h.1.2))
 
+  span_headers : (len ds : ℕ) (place : Place) → read_of new ≡ Some (Near len ds place no_marks) → o.word (addr place) ≡ head_word p len ds →
+      (a : ℕ) → put s.starts (addr place) true a ≡ true → s.word a ≡ o.word a
+  span_headers len ds place says head a = put_both (λ b. b ≡ true → s.word a ≡ o.word a) s.starts (addr place) true a
+      (λ e _. let here : s.word (addr place) ≡ o.word (addr place) = word_is (addr place) (head_word p len ds) (head_small len ds place says) head ∙ sym head in
+      ap s.word e ∙ (here ∙ ap o.word (sym e)))
+      (λ _ st. sym (header_known s.word s.starts counted a st))
+
   -- each header is known: those that were, and that of a new span
   headers_same : (form : Naming) → IsNaming form (read_of old) (read_of new) → (naming_row o p new form).Legal →
       (a : ℕ) → (naming_row s p new form).after.starts a ≡ true → s.word a ≡ o.word a
-  headers_same (Places len ds place) n h a = put_both (λ b. b ≡ true → s.word a ≡ o.word a) s.starts (addr place) true a
-      (λ e _. let here : s.word (addr place) ≡ o.word (addr place) = word_is (addr place) (head_word p len ds) (head_small len ds place n.1) h.0.head ∙ sym h.0.head in
-      ap s.word e ∙ (here ∙ ap o.word (sym e)))
-      (λ _ st. sym (header_known s.word s.starts counted a st))
+  headers_same (Places len ds place) n h a = span_headers len ds place n.1 h.0.head a
   headers_same Retires n h a = λ st. sym (header_known s.word s.starts counted a st)
+  headers_same (Moves len ds from to) n h a = span_headers len ds to n.1 h.span.head a
+  headers_same (Fetches len ds place) n h a = span_headers len ds place n.1 h.span.head a
 
   abbrev v : Naming → State
   v form = masked (naming_row s p new form).after (put found p new) (λ _. false)
@@ -89,18 +124,26 @@ module _ (s : State) (law : Law s) (found : ℕ → ℕ) (counted : ℕ → Bool
   row_done : (form : Naming) → v form ≡ record (naming_row o p new form).after { word = (v form).word }
   row_done (Places len ds place) = refl
   row_done Retires = refl
+  row_done (Moves len ds from to) = refl
+  row_done (Fetches len ds place) = refl
 
   row_word : (form : Naming) → (naming_row s p new form).after.word ≡ s.word
   row_word (Places len ds place) = refl
   row_word Retires = refl
+  row_word (Moves len ds from to) = refl
+  row_word (Fetches len ds place) = refl
 
   row_cell : (form : Naming) → (naming_row s p new form).after.cell ≡ put s.cell p new
   row_cell (Places len ds place) = refl
   row_cell Retires = refl
+  row_cell (Moves len ds from to) = refl
+  row_cell (Fetches len ds place) = refl
 
   row_sizes : (form : Naming) → ((naming_row s p new form).after.mutators ≡ s.mutators) × ((naming_row s p new form).after.logs ≡ s.logs)
   row_sizes (Places len ds place) = (refl, refl)
   row_sizes Retires = (refl, refl)
+  row_sizes (Moves len ds from to) = (refl, refl)
+  row_sizes (Fetches len ds place) = (refl, refl)
 
   row_forgets : (form : Naming) → IsNaming form (read_of old) (read_of new) → (naming_row o p new form).Legal → Forgets o (v form)
   row_forgets form n h = forgets o (v form) (naming_row s p new form).after.starts refl (naming_row s p new form).after.word refl

@@ -18,7 +18,7 @@ name-requires c =
     let hand = c.turn.new.self in
     let s = core_state hand.core in
     let legal : Legal (beset_view hand) (Name c.args.pointer c.args.old c.args.new) = subst (λ (u : State). Legal u (Name c.args.pointer c.args.old c.args.new)) (sym c.turn.ensures.view) c.requires.legal in
-    record { legal = legal_name s hand.core.law (word_at hand.found.items) (is_counted hand.counted.items) c.args.pointer c.args.old c.args.new legal.0 c.ranges.new.fits legal }
+    record { legal = legal_name s hand.core.law (word_at hand.found.items) (is_counted hand.counted.items) hand.finds c.args.pointer c.args.old c.args.new legal.0 c.ranges.new.fits legal }
 
 pub invariant_of-self : goal.invariant_of-self
 invariant_of-self c =
@@ -33,8 +33,8 @@ invariant_of-self c =
     let legal : Legal (beset_view hand) (Name p old new) = subst (λ (u : State). Legal u (Name p old new)) (sym c.turn.ensures.view) c.requires.legal in
     let seen : old ≡ found p = c.requires.seen ∙ ap (λ (u : State). u.cell p) (sym c.turn.ensures.view) in
     let won_it : s.cell p ≡ old = won s p old new c.in-Ok.ensures.won in
-    let sizes = sizes_named s hand.core.law found counted p old new legal.0 c.ranges.new.fits legal seen won_it in
-    let cells : t.cell ≡ put s.cell p new = ap (λ (u : State). u.cell) c.name.ensures.state ∙ cells_named s hand.core.law found counted p old new legal.0 c.ranges.new.fits legal seen won_it in
+    let sizes = sizes_named s hand.core.law found counted hand.finds p old new legal.0 c.ranges.new.fits legal seen won_it in
+    let cells : t.cell ≡ put s.cell p new = ap (λ (u : State). u.cell) c.name.ensures.state ∙ cells_named s hand.core.law found counted hand.finds p old new legal.0 c.ranges.new.fits legal seen won_it in
     let named = subst (λ (f : ℕ → ℕ). AllFind f (put s.cell p new)) (sym c.find.ensures.words) (finds_named found s.cell p new hand.finds) in
     record {
       found_sized = c.find.ensures.len ∙ (hand.found_sized ∙ ap (λ n. CELLS * n) (sym sizes.0 ∙ ap (λ (u : State). u.mutators) (sym c.name.ensures.state)));
@@ -76,7 +76,7 @@ returns-in-Ok-clause-forgot c =
     let new = c.args.new in
     let legal : Legal (beset_view hand) (Name p old new) = subst (λ (u : State). Legal u (Name p old new)) (sym c.turn.ensures.view) c.requires.legal in
     let seen : old ≡ found p = c.requires.seen ∙ ap (λ (u : State). u.cell p) (sym c.turn.ensures.view) in
-    let tells = names s hand.core.law found counted p old new legal.0 c.ranges.new.fits legal seen (won s p old new c.in-Ok.ensures.won) in
+    let tells = names s hand.core.law found counted hand.finds p old new legal.0 c.ranges.new.fits legal seen (won s p old new c.in-Ok.ensures.won) in
     let view : masked (core_state c.name.new.self) (word_at c.find.new.found.items) (is_counted c.forget.new.counted.items) ≡ masked (after s (Name p old new)) (put found p new) (λ _. false) =
     ap (λ (u : State). masked u (word_at c.find.new.found.items) (is_counted c.forget.new.counted.items)) c.name.ensures.state
     ∙ (ap (λ (f : ℕ → ℕ). masked (after s (Name p old new)) f (is_counted c.forget.new.counted.items)) c.find.ensures.words
