@@ -1,13 +1,15 @@
 -- The form of an old and a new word is the one that they say.
-use Rattle.std.proofs.Common.{◌≡◌, Bool, true, false, cond, arith, refl, ap, subst, Option, Some, None}
-use Rattle.std.proofs.lemmas.Bool.{false≢true}
+use Rattle.std.proofs.Common.{◌≡◌, ℕ, Bool, true, false, cond, arith, refl, sym, ap, subst, ◌∙◌, Option, Some, None}
+use Rattle.std.specs.Prelude.{IfSome, not, ◌&&◌}
+use Rattle.std.proofs.lemmas.Bool.{eq-eqb, eqb-true, false≢true}
 use Rattle.std.proofs.lemmas.Bool.Decides.{nat_tests}
 use Rattle.far_word.specs.declared.mark.Marks.{Marks}
+use Rattle.far_word.specs.declared.pointer.Place.{Place}
 use Rattle.far_word.specs.declared.pointer.PtrWord.{PtrWord}
 use Rattle.far_word.specs.declared.pointer.PtrWord.TheVariants.{Free, Near, Far}
 use Rattle.far_core.specs.declared.naming.Naming.{Naming}
-use Rattle.far_core.specs.declared.naming.Naming.TheVariants.{Places, Retires}
-use Rattle.far_core.specs.events.Naming.{naming_of, IsNaming, no_marks, is_dropped, is_unmarked}
+use Rattle.far_core.specs.declared.naming.Naming.TheVariants.{Places, Retires, Evicts, Stays}
+use Rattle.far_core.specs.events.Naming.{naming_of, near_form, IsNaming, no_marks, is_dropped, is_unmarked, is_kept, is_stay}
 
 at_test : (b : Bool) (f g : Naming) → cond b (Some f) None ≡ Some g → (b ≡ true) × (f ≡ g)
 at_test true f g e = (refl, cc)
@@ -21,11 +23,62 @@ unmarked_is m h =
     let d : m.dropped ≡ false = grind (arith, nat_tests) in
     λ i. record { hot = a i; evac = b i; moved = c i; dropped = d i }
 
+-- what two words of one object say
+record Kept (m k : Marks) (len n ds d : ℕ) : Type 0 where
+  pub long : n ≡ len
+  pub structure : d ≡ ds
+  pub kept : m.dropped ≡ false
+  pub unmarked : k ≡ no_marks
+
+kept_is : (m k : Marks) (len n ds d : ℕ) → is_kept m k len n ds d ≡ true → Kept m k len n ds d
+kept_is m k len n ds d h =
+    record { long = grind (arith, nat_tests); structure = grind (arith, nat_tests); kept = grind (arith, nat_tests); unmarked = unmarked_is k (grind (arith, nat_tests)) }
+
+kept_test : (m : Marks) (len ds : ℕ) → m.dropped ≡ false → is_kept m no_marks len len ds ds ≡ true
+kept_test m len ds kept = rw (eq-eqb len len refl, eq-eqb ds ds refl, kept) refl
+
+at_form : (b : Bool) (o : Option Naming) (g : Naming) → cond b o None ≡ Some g → (b ≡ true) × (o ≡ Some g)
+at_form true o g e = (refl, e)
+at_form false o g e = absurd cc
+
+-- what the test of staying says
+record Staying (from to : Place) (m : Marks) : Type 0 where
+  pub here : to ≡ from
+  pub moved : m.moved ≡ true
+  pub unwanted : m.evac ≡ false
+
+same_place : (from to : Place) → to.log ≡ from.log → to.at ≡ from.at → to ≡ from
+same_place from to a b = λ i. record { log = a i; at = b i }
+
+stay_is : (from to : Place) (m : Marks) → is_stay from to m ≡ true → Staying from to m
+stay_is from to m h = record { here = same_place from to (grind (arith, nat_tests)) (grind (arith, nat_tests)); moved = grind (arith, nat_tests); unwanted = grind (arith, nat_tests) }
+
+stay_test : (place : Place) (m : Marks) → m.moved ≡ true → m.evac ≡ false → is_stay place place m ≡ true
+stay_test place m moved out = rw (eq-eqb place.log place.log refl, eq-eqb place.at place.at refl, moved, out) refl
+
+stays_says : (len ds : ℕ) (place : Place) (m : Marks) (n d : ℕ) (at : Place) (k : Marks) (form : Naming) →
+    naming_of (Some (Near len ds place m)) (Some (Near n d at k)) ≡ Some form → IsNaming form (Some (Near len ds place m)) (Some (Near n d at k))
+stays_says len ds place m n d at k form e =
+    let x = at_form (is_kept m k len n ds d) (near_form place at m) form e in
+    let is = kept_is m k len n ds d x.0 in
+    let y = at_test (is_stay place at m) Stays form x.1 in
+    let there = stay_is place at m y.0 in
+    subst (λ f. IsNaming f (Some (Near len ds place m)) (Some (Near n d at k))) y.1
+    (len, ds, place, m, refl, is.kept, there.moved, there.unwanted, λ i. Some (Near (is.long i) (is.structure i) (there.here i) (is.unmarked i)))
+
+evicts_says : (len ds : ℕ) (place : Place) (m : Marks) (n d : ℕ) (k : Marks) (form : Naming) →
+    naming_of (Some (Near len ds place m)) (Some (Far n d k)) ≡ Some form → IsNaming form (Some (Near len ds place m)) (Some (Far n d k))
+evicts_says len ds place m n d k form e =
+    let x = at_test (is_kept m k len n ds d && m.evac) (Evicts len place) form e in
+    let is = kept_is m k len n ds d (grind (arith, nat_tests)) in
+    let wanted : m.evac ≡ true = grind (arith, nat_tests) in
+    subst (λ f. IsNaming f (Some (Near len ds place m)) (Some (Far n d k))) x.1 (ds, m, refl, is.kept, wanted, λ i. Some (Far (is.long i) (is.structure i) (is.unmarked i)))
+
 pub naming_says : (a b : Option PtrWord) (form : Naming) → naming_of a b ≡ Some form → IsNaming form a b
 naming_says None b form e = absurd cc
 naming_says (Some (Near len ds place m)) None form e = absurd cc
-naming_says (Some (Near len ds place m)) (Some (Near n d at k)) form e = absurd cc
-naming_says (Some (Near len ds place m)) (Some (Far n d k)) form e = absurd cc
+naming_says (Some (Near len ds place m)) (Some (Near n d at k)) form e = stays_says len ds place m n d at k form e
+naming_says (Some (Near len ds place m)) (Some (Far n d k)) form e = evicts_says len ds place m n d k form e
 naming_says (Some (Near len ds place m)) (Some Free) form e =
     let x = at_test m.dropped Retires form e in
     subst (λ f. IsNaming f (Some (Near len ds place m)) (Some Free)) x.1 (x.0, refl)
@@ -51,3 +104,14 @@ retires_only (Some (Far len ds m)) d = rw d refl
 pub naming_only : (form : Naming) (a b : Option PtrWord) → IsNaming form a b → naming_of a b ≡ Some form
 naming_only (Places len ds place) a b (free, near) = rw (free, near) refl
 naming_only Retires a b (dropped, free) = rw free (retires_only a dropped)
+naming_only (Evicts len place) a b (ds, m, near, kept, wanted, far) =
+    rw (near, far) (ap (λ t. cond (t && m.evac) (Some (Evicts len place)) None) (kept_test m len ds kept) ∙ ap (λ t. cond t (Some (Evicts len place)) None) wanted)
+naming_only Stays a b (len, ds, place, m, near, kept, moved, out, new) =
+    rw (near, new) (ap (λ t. cond t (near_form place place m) None) (kept_test m len ds kept) ∙ ap (λ t. cond t (Some Stays) None) (stay_test place m moved out))
+
+-- the same where there may be no form
+pub naming_found : (a b : Option PtrWord) → IfSome (naming_of a b) (λ form. IsNaming form a b)
+naming_found a b = at (naming_of a b) refl where
+  at : (o : Option Naming) → naming_of a b ≡ o → IfSome o (λ form. IsNaming form a b)
+  at None e = tt
+  at (Some form) e = naming_says a b form e

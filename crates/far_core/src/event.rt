@@ -59,8 +59,10 @@ pub enum Event {
         word: u64,
     },
     /// The cell of a pointer goes from `old` to `new`, where it is `old`. Answers `Done` then, and `Word` with the
-    /// cell, which stays, else. Two forms so far: `old` is 0 and `new` near without marks, where the next span may
-    /// stand, with a header for the pointer written there before data words of 0; or `old` has DROP and `new` is 0.
+    /// cell, which stays, else. The forms so far: `old` is 0 and `new` near without marks, where the next span may
+    /// stand, with a header for the pointer written there before data words of 0; or `old` has DROP and `new` is 0; or,
+    /// where `old` has no DROP, and `new` no marks but its length and data structure: `old` is near with MOVE and without
+    /// EVAC, and `new` near at the same place; or `old` is near with EVAC, `new` far, and the pointer's object quiet.
     Name {
         pointer: u16,
         old: u64,
@@ -79,6 +81,11 @@ pub enum Event {
     },
     /// A near pointer whose place lies in a sealed log gets EVAC. Answers `Word` with the old word.
     Mark {
+        pointer: u16,
+    },
+    /// A near pointer, whatever its log is, loses EVAC, if it has it, and its log leaves the round. Answers `Word` with the
+    /// old word.
+    Clear {
         pointer: u16,
     },
 }

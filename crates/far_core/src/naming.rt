@@ -1,8 +1,8 @@
 //! The forms of a naming: what its old and its new word say, taken together.
 
 ghost use Rattle.std.specs.Prelude.{◌≡◌, IfSome, Some};
-ghost use Rattle.far_word.specs.Pointer.{read_of};
-ghost use Rattle.far_core.specs.events.Naming.{naming_of, IsNaming, IsOnLayout, is_unmarked};
+ghost use Rattle.far_word.specs.Pointer.{IsPtr, read_of};
+ghost use Rattle.far_core.specs.events.Naming.{naming_of, near_form, IsNaming, IsOnLayout, is_kept, is_stay, is_unmarked};
 
 use far_word::{Marks, Place, PtrWord};
 
@@ -13,6 +13,10 @@ pub enum Naming {
     Places { len: u16, ds: u8, place: Place },
     /// The cell of a dropped object is free again.
     Retires,
+    /// A near object with EVAC, not dropped, goes far: `len` bytes at a place are stored.
+    Evicts { len: u16, place: Place },
+    /// A near object with MOVE and without EVAC, not dropped, stays where it lies and loses its marks.
+    Stays,
 }
 
 impl Naming {
@@ -22,32 +26,113 @@ impl Naming {
         ensures says { IfSome result (λ form. IsNaming form (read_of old) (read_of new)) }
         ensures layout { IfSome result IsOnLayout }
     {
-        match (PtrWord::read(old)?, PtrWord::read(new)?) {
-            (
-                PtrWord::Free,
-                PtrWord::Near {
-                    len,
-                    ds,
-                    place,
-                    marks,
-                },
-            ) => {
-                if is_unmarked(marks) {
-                    Some(Naming::Places { len, ds, place })
-                } else {
-                    None
-                }
-            }
-            (PtrWord::Near { marks, .. } | PtrWord::Far { marks, .. }, PtrWord::Free) => {
-                if marks.dropped {
-                    Some(Naming::Retires)
-                } else {
-                    None
-                }
-            }
-            _ => None,
+        let old = PtrWord::read(old)?;
+        match PtrWord::read(new)? {
+            PtrWord::Free => to_free(old),
+            PtrWord::Near {
+                len,
+                ds,
+                place,
+                marks,
+            } => to_near(old, len, ds, place, marks),
+            PtrWord::Far { len, ds, marks } => to_far(old, len, ds, marks),
         }
     }
+}
+
+/// The form in which a cell becomes free.
+fn to_free(old: PtrWord) -> Option<Naming>
+    ensures value { result ≡ naming_of (Some old) (Some PtrWord.Free) }
+    ensures layout { IfSome result IsOnLayout }
+{
+    match old {
+        PtrWord::Near { marks, .. } | PtrWord::Far { marks, .. } => {
+            if marks.dropped {
+                Some(Naming::Retires)
+            } else {
+                None
+            }
+        }
+        PtrWord::Free => None,
+    }
+}
+
+/// The form in which an object comes to a place.
+fn to_near(old: PtrWord, len: u16, ds: u8, place: Place, marks: Marks) -> Option<Naming>
+    requires new { IsPtr (PtrWord.Near len ds place marks) }
+    ensures value { result ≡ naming_of (Some old) (Some (PtrWord.Near len ds place marks)) }
+    ensures layout { IfSome result IsOnLayout }
+{
+    match old {
+        PtrWord::Free => {
+            if is_unmarked(marks) {
+                Some(Naming::Places { len, ds, place })
+            } else {
+                None
+            }
+        }
+        PtrWord::Near {
+            len: n,
+            ds: d,
+            place: from,
+            marks: k,
+        } => {
+            if is_kept(k, marks, n, len, d, ds) {
+                near_form(from, place, k)
+            } else {
+                None
+            }
+        }
+        PtrWord::Far { .. } => None,
+    }
+}
+
+/// The form in which an object goes far.
+fn to_far(old: PtrWord, len: u16, ds: u8, marks: Marks) -> Option<Naming>
+    ensures value { result ≡ naming_of (Some old) (Some (PtrWord.Far len ds marks)) }
+    ensures layout { IfSome result IsOnLayout }
+{
+    match old {
+        PtrWord::Near {
+            len: n,
+            ds: d,
+            place,
+            marks: k,
+        } => {
+            if is_kept(k, marks, n, len, d, ds) && k.evac {
+                Some(Naming::Evicts { len: n, place })
+            } else {
+                None
+            }
+        }
+        PtrWord::Free | PtrWord::Far { .. } => None,
+    }
+}
+
+/// The form of two near words of one object.
+fn near_form(from: Place, to: Place, marks: Marks) -> Option<Naming>
+    ensures value { result ≡ near_form from to marks }
+    ensures layout { IfSome result IsOnLayout }
+{
+    if is_stay(from, to, marks) {
+        Some(Naming::Stays)
+    } else {
+        None
+    }
+}
+
+/// Whether two words are of one object, that isn't dropped, and the new one has no marks.
+fn is_kept(old: Marks, new: Marks, len: u16, new_len: u16, ds: u8, new_ds: u8) -> bool
+    ensures { result ≡ is_kept old new len new_len ds new_ds }
+{
+    len == new_len && ds == new_ds && !old.dropped && is_unmarked(new)
+}
+
+/// Whether an object may stay where it lies: its owner has asked for a move, and the book doesn't want its log.
+fn is_stay(from: Place, to: Place, marks: Marks) -> bool
+    ensures { result ≡ is_stay from to marks }
+{
+    from.log == to.log && from.at == to.at && marks.moved && !marks.evac
 }
 
 /// Whether none of the marks is set.

@@ -1,2 +1,4 @@
+pub mod Evicts
 pub mod Places
 pub mod Retires
+pub mod Stays

@@ -1,3 +1,4 @@
 pub mod Evicts
 pub mod Places
 pub mod Retires
+pub mod Stays
