@@ -45,6 +45,18 @@ span_len s law p len ds place m e =
     let within : p < CELLS * s.mutators = law.cells.cell_range p used in
     ap head_of there.head ∙ head_back (header p len ds) (record { some = omega (arith, x.0); most = omega (arith, x.0); structure = omega (arith, x.0); cell = omega (arith, law.shape.few_mutators) })
 
+-- a near object lies in a log of the heap, with all its words
+pub near_inside : (s : State) → Law s → (p len ds : ℕ) (place : Place) (m : Marks) → read_of (s.cell p) ≡ Some (Near len ds place m) →
+    (place.log < s.logs) × (addr place + 1 + words_for len ≤ LOG_WORDS * s.logs) × (words_for len ≤ LOG_WORDS)
+near_inside s law p len ds place m e =
+    let x = read_says (s.cell p) (Near len ds place m) (law.cells.cell_read p).0 e in
+    let there = law.cells.cell_near p len ds place m e in
+    let span = law.spans.span (addr place) there.placed in
+    let long : head_len (s.word (addr place)) ≡ len = rw (span_len s law p len ds place m e) refl in
+    let log : addr place / LOG_WORDS < s.logs = log_inside s law (addr place / LOG_WORDS) (omega (arith, span.fits)) in
+    let here : addr place / LOG_WORDS ≡ place.log = omega (arith, x.0) in
+    (omega (arith, log, here), omega (arith, log, here, x.0), omega (arith, x.0))
+
 -- a data word of an object that is held is a word of the heap
 pub in_memory : (s : State) → Law s → (m p i : ℕ) → holds s m p ≡ true → i < words_for (data_len s p) → data_word s p i < LOG_WORDS * s.logs
 in_memory s law m p i h inside =

@@ -93,6 +93,30 @@ chosen : (b : Bool) (new old : ℕ) (x : Bool) → is_marked (read_of new) ≡ x
 chosen true new old x e = e
 chosen false new old x e = refl
 
+-- a cell whose object stays and is marked no longer unmarks it in the world
+pub unmarks_world : (s : State) (p new : ℕ) → ((f g : ℕ → ℕ) (q : ℕ) → object_of f g q (read_of new) ≡ object_of f g q (read_of (s.cell p))) →
+    is_marked (read_of new) ≡ cond (is_some (object_of s.word (s.stored p) p (read_of (s.cell p)))) false (is_marked (read_of (s.cell p))) →
+    world.Unmarks (world_of s) p (world_of record s { cell = put s.cell p new })
+unfolding world_of
+unmarks_world s p new objects marks = World-ext _ _
+    (fun_ext (λ q. put_both (λ w. object_of s.word (s.stored q) q (read_of w) ≡ object_of s.word (s.stored q) q (read_of (s.cell q))) s.cell p new q
+    (λ e. objects s.word (s.stored q) q ∙ ap (λ r. object_of s.word (s.stored q) q (read_of (s.cell r))) (sym e)) (λ _. refl)))
+    refl refl
+    (fun_ext (λ q. chosen _ new (s.cell q) _ marks))
+    refl refl
+
+-- a cell whose object stays, marked or not, leaves the world as it is
+pub same_world : (s : State) (p new : ℕ) → ((f g : ℕ → ℕ) (q : ℕ) → object_of f g q (read_of new) ≡ object_of f g q (read_of (s.cell p))) →
+    is_marked (read_of new) ≡ is_marked (read_of (s.cell p)) → world_of record s { cell = put s.cell p new } ≡ world_of s
+unfolding world_of
+same_world s p new objects marks = World-ext _ _
+    (fun_ext (λ q. put_both (λ w. object_of s.word (s.stored q) q (read_of w) ≡ object_of s.word (s.stored q) q (read_of (s.cell q))) s.cell p new q
+    (λ e. objects s.word (s.stored q) q ∙ ap (λ r. object_of s.word (s.stored q) q (read_of (s.cell r))) (sym e)) (λ _. refl)))
+    refl refl
+    (fun_ext (λ q. put_both (λ w. is_marked (read_of w) ≡ is_marked (read_of (s.cell q))) s.cell p new q
+    (λ e. marks ∙ ap (λ r. is_marked (read_of (s.cell r))) (sym e)) (λ _. refl)))
+    refl refl
+
 -- a cell whose object stays and is marked from now on marks it in the world
 pub marks_world : (s : State) (p new : ℕ) → ((f g : ℕ → ℕ) (q : ℕ) → object_of f g q (read_of new) ≡ object_of f g q (read_of (s.cell p))) →
     is_marked (read_of new) ≡ (is_some (object_of s.word (s.stored p) p (read_of (s.cell p))) || is_marked (read_of (s.cell p))) →

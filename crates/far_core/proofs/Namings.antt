@@ -1,7 +1,6 @@
 -- The form of an old and a new word is the one that they say.
-use Rattle.std.proofs.Common.{◌≡◌, ℕ, Bool, true, false, cond, arith, nat_eq, refl, sym, ap, subst, ◌∙◌, Option, Some, None}
-use Rattle.std.specs.Option.{IfSome}
-use Rattle.std.specs.Prelude.{not, ◌&&◌}
+use Rattle.std.proofs.Common.{◌≡◌, ℕ, Bool, true, false, cond, arith, inl, inr, refl, ap, subst, ◌∙◌, Option, Some, None}
+use Rattle.std.specs.Prelude.{◌⊎◌, IfSome, not, ◌&&◌}
 use Rattle.std.proofs.lemmas.Bool.{eq-eqb, false≢true}
 use Rattle.std.proofs.lemmas.Bool.Decides.{nat_tests}
 use Rattle.far_word.specs.declared.mark.Marks.{Marks}
@@ -9,7 +8,7 @@ use Rattle.far_word.specs.declared.pointer.Place.{Place}
 use Rattle.far_word.specs.declared.pointer.PtrWord.{PtrWord}
 use Rattle.far_word.specs.declared.pointer.PtrWord.TheVariants.{Free, Near, Far}
 use Rattle.far_core.specs.declared.naming.Naming.{Naming}
-use Rattle.far_core.specs.declared.naming.Naming.TheVariants.{Places, Retires, Moves, Fetches}
+use Rattle.far_core.specs.declared.naming.Naming.TheVariants.{Places, Retires, Evicts, Stays, Moves, Fetches}
 use Rattle.far_core.specs.events.Naming.{naming_of, near_form, IsNaming, no_marks, is_dropped, is_unmarked, is_kept, is_stay}
 
 at_test : (b : Bool) (f g : Naming) → cond b (Some f) None ≡ Some g → (b ≡ true) × (f ≡ g)
@@ -42,21 +41,48 @@ at_form : (b : Bool) (o : Option Naming) (g : Naming) → cond b o None ≡ Some
 at_form true o g e = (refl, e)
 at_form false o g e = absurd cc
 
-unless : (b : Bool) (f g : Naming) → cond b None (Some f) ≡ Some g → (b ≡ false) × (f ≡ g)
-unless true f g e = absurd cc
-unless false f g e = (refl, cc)
+either_form : (b : Bool) (f g h : Naming) → cond b (Some f) (Some g) ≡ Some h → ((b ≡ true) × (f ≡ h)) ⊎ ((b ≡ false) × (g ≡ h))
+either_form true f g h e = inl (refl, cc)
+either_form false f g h e = inr (refl, cc)
+
+-- what the test of staying says
+record Staying (from to : Place) (m : Marks) : Type 0 where
+  pub here : to ≡ from
+  pub moved : m.moved ≡ true
+  pub unwanted : m.evac ≡ false
+
+same_place : (from to : Place) → to.log ≡ from.log → to.at ≡ from.at → to ≡ from
+same_place from to a b = λ i. record { log = a i; at = b i }
+
+stay_is : (from to : Place) (m : Marks) → is_stay from to m ≡ true → Staying from to m
+stay_is from to m h = record { here = same_place from to (grind (arith, nat_tests)) (grind (arith, nat_tests)); moved = grind (arith, nat_tests); unwanted = grind (arith, nat_tests) }
+
+stay_test : (place : Place) (m : Marks) → m.moved ≡ true → m.evac ≡ false → is_stay place place m ≡ true
+stay_test place m moved out = rw (eq-eqb place.log place.log refl, eq-eqb place.at place.at refl, moved, out) refl
 
 -- the new word of one object
 same_object : (len n ds d : ℕ) (place : Place) (k : Marks) → n ≡ len → d ≡ ds → k ≡ no_marks → Some (Near n d place k) ≡ Some (Near len ds place no_marks)
 same_object len n ds d place k a b c = ap (λ x. Some (Near x d place k)) a ∙ ap (λ x. Some (Near len x place k)) b ∙ ap (λ x. Some (Near len ds place x)) c
 
-moves_says : (len ds : ℕ) (place : Place) (m : Marks) (n d : ℕ) (at : Place) (k : Marks) (form : Naming) →
+near_says : (len ds : ℕ) (place : Place) (m : Marks) (n d : ℕ) (at : Place) (k : Marks) (form : Naming) →
     naming_of (Some (Near len ds place m)) (Some (Near n d at k)) ≡ Some form → IsNaming form (Some (Near len ds place m)) (Some (Near n d at k))
-moves_says len ds place m n d at k form e =
+near_says len ds place m n d at k form e =
     let x = at_form (is_kept m k len n ds d) (near_form len ds place at m) form e in
     let is = kept_is m k len n ds d x.0 in
-    let y = unless (is_stay place at m) (Moves len ds place at) form x.1 in
-    subst (λ f. IsNaming f (Some (Near len ds place m)) (Some (Near n d at k))) y.1 ((m, refl, is.kept, y.0), same_object len n ds d at k is.long is.structure is.unmarked)
+    elim (either_form (is_stay place at m) Stays (Moves len ds place at) form x.1) [
+      | inl y ↦ (let there = stay_is place at m y.0 in
+          subst (λ f. IsNaming f (Some (Near len ds place m)) (Some (Near n d at k))) y.1
+          (len, ds, place, m, refl, is.kept, there.moved, there.unwanted, λ i. Some (Near (is.long i) (is.structure i) (there.here i) (is.unmarked i))))
+      | inr y ↦ subst (λ f. IsNaming f (Some (Near len ds place m)) (Some (Near n d at k))) y.1 ((m, refl, is.kept, y.0), same_object len n ds d at k is.long is.structure is.unmarked)
+    ]
+
+evicts_says : (len ds : ℕ) (place : Place) (m : Marks) (n d : ℕ) (k : Marks) (form : Naming) →
+    naming_of (Some (Near len ds place m)) (Some (Far n d k)) ≡ Some form → IsNaming form (Some (Near len ds place m)) (Some (Far n d k))
+evicts_says len ds place m n d k form e =
+    let x = at_test (is_kept m k len n ds d && m.evac) (Evicts len place) form e in
+    let is = kept_is m k len n ds d (grind (arith, nat_tests)) in
+    let wanted : m.evac ≡ true = grind (arith, nat_tests) in
+    subst (λ f. IsNaming f (Some (Near len ds place m)) (Some (Far n d k))) x.1 (ds, m, refl, is.kept, wanted, λ i. Some (Far (is.long i) (is.structure i) (is.unmarked i)))
 
 fetches_says : (len ds : ℕ) (m : Marks) (n d : ℕ) (at : Place) (k : Marks) (form : Naming) →
     naming_of (Some (Far len ds m)) (Some (Near n d at k)) ≡ Some form → IsNaming form (Some (Far len ds m)) (Some (Near n d at k))
@@ -68,8 +94,8 @@ fetches_says len ds m n d at k form e =
 pub naming_says : (a b : Option PtrWord) (form : Naming) → naming_of a b ≡ Some form → IsNaming form a b
 naming_says None b form e = absurd cc
 naming_says (Some (Near len ds place m)) None form e = absurd cc
-naming_says (Some (Near len ds place m)) (Some (Near n d at k)) form e = moves_says len ds place m n d at k form e
-naming_says (Some (Near len ds place m)) (Some (Far n d k)) form e = absurd cc
+naming_says (Some (Near len ds place m)) (Some (Near n d at k)) form e = near_says len ds place m n d at k form e
+naming_says (Some (Near len ds place m)) (Some (Far n d k)) form e = evicts_says len ds place m n d k form e
 naming_says (Some (Near len ds place m)) (Some Free) form e =
     let x = at_test m.dropped Retires form e in
     subst (λ f. IsNaming f (Some (Near len ds place m)) (Some Free)) x.1 (x.0, refl)
@@ -95,7 +121,11 @@ retires_only (Some (Far len ds m)) d = rw d refl
 pub naming_only : (form : Naming) (a b : Option PtrWord) → IsNaming form a b → naming_of a b ≡ Some form
 naming_only (Places len ds place) a b (free, near) = rw (free, near) refl
 naming_only Retires a b (dropped, free) = rw free (retires_only a dropped)
-naming_only (Moves len ds from to) a b ((m, near, kept, moved), new) = rw (near, new) (ap (λ t. cond t (near_form len ds from to m) None) (kept_test m len ds kept) ∙ ap (λ t. cond t None (Some (Moves len ds from to))) moved)
+naming_only (Evicts len place) a b (ds, m, near, kept, wanted, far) =
+    rw (near, far) (ap (λ t. cond (t && m.evac) (Some (Evicts len place)) None) (kept_test m len ds kept) ∙ ap (λ t. cond t (Some (Evicts len place)) None) wanted)
+naming_only Stays a b (len, ds, place, m, near, kept, moved, out, new) =
+    rw (near, new) (ap (λ t. cond t (near_form len ds place place m) None) (kept_test m len ds kept) ∙ ap (λ t. cond t (Some Stays) (Some (Moves len ds place place))) (stay_test place m moved out))
+naming_only (Moves len ds from to) a b ((m, near, kept, moved), new) = rw (near, new) (ap (λ t. cond t (near_form len ds from to m) None) (kept_test m len ds kept) ∙ ap (λ t. cond t (Some Stays) (Some (Moves len ds from to))) moved)
 naming_only (Fetches len ds place) a b ((m, far, kept), new) = rw (far, new) (ap (λ t. cond t (Some (Fetches len ds place)) None) (kept_test m len ds kept))
 
 -- the same where there may be no form

@@ -1,7 +1,7 @@
 -- What every event owes, by its own file; and what follows of any event.
 use Rattle.std.proofs.Common.{◌≡◌, ◌≢◌, true}
 use Rattle.far_core.specs.declared.event.Event.{Event}
-use Rattle.far_core.specs.declared.event.Event.TheVariants.{ReadEpoch, Open, Pin, Load, Store, Close, Adopt, Put, Name, See, Mark, Ask, Get}
+use Rattle.far_core.specs.declared.event.Event.TheVariants.{ReadEpoch, Open, Pin, Load, Store, Close, Adopt, Put, Name, See, Mark, Ask, Get, Clear}
 use Rattle.far_core.specs.declared.event.Reply.TheVariants.{Refused}
 use Rattle.far_core.specs.world.Happens.{Happens}
 use Rattle.far_core.specs.state.Law.{Law}
@@ -24,6 +24,7 @@ use Rattle.far_core.proofs.events.See.{see_owed}
 use Rattle.far_core.proofs.events.Mark.{mark_owed}
 use Rattle.far_core.proofs.events.Ask.{ask_owed}
 use Rattle.far_core.proofs.events.Get.{get_owed}
+use Rattle.far_core.proofs.events.Clear.{clear_owed}
 
 pub owed : (e : Event) → Owed e
 owed (ReadEpoch m) = read_epoch_owed m
@@ -39,6 +40,7 @@ owed (See p) = see_owed p
 owed (Mark p) = mark_owed p
 owed (Ask m p k) = ask_owed m p k
 owed (Get l at free) = get_owed l at free
+owed (Clear p) = clear_owed p
 
 -- what passes the test is legal
 pub is_fact : (s : State) (e : Event) → Law s → is_legal s e ≡ true → Legal s e

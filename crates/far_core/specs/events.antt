@@ -1,5 +1,6 @@
 pub mod Adopt
 pub mod Ask
+pub mod Clear
 pub mod Close
 pub mod Copies
 pub mod Get

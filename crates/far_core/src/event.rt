@@ -69,6 +69,9 @@ pub enum Event {
     ///   the round and its owner was seen clear.
     /// - Fetch: `old` is far without DROP, and `new` is of the same length and data structure, near at a new span, whose
     ///   data words are those that were stored, if the far side is honest.
+    /// - Evict: `old` is near with EVAC and without DROP, and `new` is of the same length and data structure, far and
+    ///   without marks. The object is quiet; its data words are stored.
+    /// - Stay: `old` is near with MOVE, without EVAC and DROP, and `new` is the same without marks.
     Name {
         pointer: u16,
         old: u64,
@@ -87,6 +90,11 @@ pub enum Event {
     },
     /// A near pointer whose place lies in a sealed log gets EVAC. Answers `Word` with the old word.
     Mark {
+        pointer: u16,
+    },
+    /// A near pointer, whatever its log is, loses EVAC, if it has it, and its log leaves the round. Answers `Word` with the
+    /// old word.
+    Clear {
         pointer: u16,
     },
 }

@@ -17,6 +17,13 @@ pub enum Naming {
     },
     /// The cell of a dropped object is free again.
     Retires,
+    /// A near object with EVAC, not dropped, goes far: `len` bytes at a place are stored.
+    Evicts {
+        len: u16,
+        place: Place,
+    },
+    /// A near object with MOVE and without EVAC, not dropped, stays where it lies and loses its marks.
+    Stays,
     /// A near object that isn't dropped goes from one place to another, and has no marks there.
     Moves {
         len: u16,
@@ -48,7 +55,7 @@ impl Naming {
                 place,
                 marks,
             } => to_near(old, len, ds, place, marks),
-            PtrWord::Far { .. } => None,
+            PtrWord::Far { len, ds, marks } => to_far(old, len, ds, marks),
         }
     }
 }
@@ -115,6 +122,28 @@ fn to_near(old: PtrWord, len: u16, ds: u8, place: Place, marks: Marks) -> Option
     }
 }
 
+/// The form in which an object goes far.
+fn to_far(old: PtrWord, len: u16, ds: u8, marks: Marks) -> Option<Naming>
+    ensures value { result ≡ naming_of (Some old) (Some (PtrWord.Far len ds marks)) }
+    ensures layout { IfSome result IsOnLayout }
+{
+    match old {
+        PtrWord::Near {
+            len: n,
+            ds: d,
+            place,
+            marks: k,
+        } => {
+            if is_kept(k, marks, n, len, d, ds) && k.evac {
+                Some(Naming::Evicts { len: n, place })
+            } else {
+                None
+            }
+        }
+        PtrWord::Free | PtrWord::Far { .. } => None,
+    }
+}
+
 /// The form of two near words of one object.
 fn near_form(len: u16, ds: u8, from: Place, to: Place, marks: Marks) -> Option<Naming>
     requires from { IsPtr (PtrWord.Near len ds from marks) }
@@ -123,7 +152,7 @@ fn near_form(len: u16, ds: u8, from: Place, to: Place, marks: Marks) -> Option<N
     ensures layout { IfSome result IsOnLayout }
 {
     if is_stay(from, to, marks) {
-        None
+        Some(Naming::Stays)
     } else {
         Some(Naming::Moves { len, ds, from, to })
     }

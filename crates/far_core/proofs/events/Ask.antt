@@ -1,5 +1,5 @@
 -- What the event Ask owes.
-use Rattle.std.proofs.Common.{inr, ◌≡◌, ◌≢◌, ℕ, ◌/◌, ◌<◌, ◌^◌, ◌∙◌, Bool, true, false, nat_lt, arith, ap, refl, sym, subst, bit_or, Option, Some, None}
+use Rattle.std.proofs.Common.{inl, inr, ◌≡◌, ◌≢◌, ℕ, ◌/◌, ◌<◌, ◌^◌, ◌∙◌, Bool, true, false, nat_lt, arith, ap, refl, sym, subst, bit_or, Option, Some, None}
 use Rattle.std.specs.Prelude.{IsSome, is_some}
 use Rattle.std.proofs.lemmas.Bool.{false≢true, eq-eqb}
 use Rattle.std.proofs.lemmas.Bool.Decides.{nat_tests}
@@ -161,7 +161,7 @@ module _ (m p : ℕ) (k : Mark) where
     does = λ s law fits h. does_ask m p k s law h;
     within = λ s. touched (one_cell s.epoch s.scope s.cell s.word p _) (λ a b c. refl) (λ q a. used_other s.used p k q (λ e. a (ap Uses (sym e)))) (λ q a b. refl);
     part = λ s h. inr (k, by_owner (λ a b. Ask a b k) m p p (grind (arith, nat_tests)) refl);
-    word = λ s h. inr (inr (inr (k, by_owner (λ a b. Ask a b k) m p p (grind (arith, nat_tests)) refl)));
+    word = λ s h. inr (inr (inr (inl (k, by_owner (λ a b. Ask a b k) m p p (grind (arith, nat_tests)) refl))));
     reports = λ s law h. (
       refl,
       λ v e. ap read_of (put_same s.cell p (bit_or (s.cell p) (2 ^ position k)) p refl) ∙ (reads s law p h.3 h.4 k (requests k h.0)).0 ∙ ap (map_mark k) e,

@@ -208,7 +208,7 @@ module _ (l at : ℕ) where
 
   part_get : (free : Bool) → PartBy (Get l at free) (part_of free)
   part_get false = tt
-  part_get true = inr (l, at, refl)
+  part_get true = inr (inl (l, at, refl))
 
   reports_get : (free : Bool) (s : State) → FreeReports s l free (after_get s l free)
   reports_get false s = refl

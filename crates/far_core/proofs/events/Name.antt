@@ -8,7 +8,7 @@ use Rattle.far_core.specs.declared.event.Event.TheVariants.{Name}
 use Rattle.far_core.specs.declared.event.Reply.{Reply}
 use Rattle.far_core.specs.declared.event.Reply.TheVariants.{Done, Refused, Word}
 use Rattle.far_core.specs.declared.naming.Naming.{Naming}
-use Rattle.far_core.specs.declared.naming.Naming.TheVariants.{Places, Retires, Moves, Fetches}
+use Rattle.far_core.specs.declared.naming.Naming.TheVariants.{Places, Retires, Evicts, Stays, Moves, Fetches}
 use Rattle.far_core.specs.events.Legal.{Legal}
 use Rattle.far_core.specs.events.Name.{IsLegalNaming, may_name, after_naming, change_by}
 use Rattle.far_core.specs.events.Naming.{naming_of}
@@ -25,14 +25,18 @@ use Rattle.far_core.proofs.NamingOwed.{IsMade, NamingOwed}
 use Rattle.far_core.proofs.Namings.{naming_says, naming_only}
 use Rattle.far_core.proofs.Owed.{Owed, replies}
 use Rattle.far_core.proofs.Touching.{untouched}
+use Rattle.far_core.proofs.events.namings.Evicts.{evicts_owed}
 use Rattle.far_core.proofs.events.namings.Fetches.{fetches_owed}
 use Rattle.far_core.proofs.events.namings.Moves.{moves_owed}
 use Rattle.far_core.proofs.events.namings.Places.{places_owed}
 use Rattle.far_core.proofs.events.namings.Retires.{retires_owed}
+use Rattle.far_core.proofs.events.namings.Stays.{stays_owed}
 
 pub naming_owed : (p new : ℕ) (form : Naming) → NamingOwed p new form
 naming_owed p new (Places len ds place) = places_owed p new len ds place
 naming_owed p new Retires = retires_owed p new
+naming_owed p new (Evicts len place) = evicts_owed p new len place
+naming_owed p new Stays = stays_owed p new
 naming_owed p new (Moves len ds from to) = moves_owed p new len ds from to
 naming_owed p new (Fetches len ds place) = fetches_owed p new len ds place
 

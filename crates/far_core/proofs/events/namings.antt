@@ -1,4 +1,6 @@
+pub mod Evicts
 pub mod Fetches
 pub mod Moves
 pub mod Places
 pub mod Retires
+pub mod Stays

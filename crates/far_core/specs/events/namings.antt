@@ -3,3 +3,4 @@ pub mod Fetches
 pub mod Moves
 pub mod Places
 pub mod Retires
+pub mod Stays

@@ -4,7 +4,7 @@ use Rattle.far_word.specs.declared.mark.Mark.TheVariants.{Moved, Dropped}
 use Rattle.far_word.specs.declared.sizes.TheConstants.{CELLS, LONGEST, POINTERS}
 use Rattle.far_word.specs.Bytes.{packed_word}
 use Rattle.far_core.specs.declared.event.Event.{Event}
-use Rattle.far_core.specs.declared.event.Event.TheVariants.{Open, Pin, Load, Store, Close, Name, Mark, Ask, Get}
+use Rattle.far_core.specs.declared.event.Event.TheVariants.{Open, Pin, Load, Store, Close, Name, Mark, Ask, Get, Clear}
 use Rattle.far_core.specs.declared.event.Reply.{Reply}
 use Rattle.far_core.specs.declared.event.Reply.TheVariants.{Word}
 use Rattle.far_core.specs.world.Changes.{Change, Step}
@@ -69,6 +69,8 @@ Causes e (change.Makes p len ds g) = (old new : ℕ) × (e ≡ Name p old new)
 Causes e (change.Moves p g) = (old new : ℕ) × (e ≡ Name p old new)
 Causes e (change.ComesNear p g) = (old new : ℕ) × (e ≡ Name p old new)
 Causes e (change.Marks p) = (e ≡ Mark p) ⊎ ((m : ℕ) × (e ≡ Ask m p Moved))
+Causes e (change.Unmarks p) = (e ≡ Clear p) ⊎ ((old new : ℕ) × (e ≡ Name p old new))
+Causes e (change.GoesFar p) = (old new : ℕ) × (e ≡ Name p old new)
 Causes e (change.Drops m p) = e ≡ Ask m p Dropped
 Causes e (change.Releases g) = (at : ℕ) × (e ≡ Get g at true)
 Causes e c = ⊥

@@ -166,6 +166,16 @@ impl Core {
         self.memory.cell_at(pointer)
     }
 
+    /// A near pointer loses EVAC, and its log leaves the round: its word before.
+    #[inline]
+    pub fn clear(&mut self, pointer: u16) -> u64
+        requires legal { Legal (core_state self.old) (Event.Clear pointer) }
+        ensures state { core_state self.new ≡ after (core_state self.old) (Event.Clear pointer) }
+        ensures word { answer (core_state self.old) (Event.Clear pointer) ≡ Reply.Word result }
+    {
+        self.memory.clear(pointer)
+    }
+
     /// A near pointer whose place lies in a sealed log gets EVAC: its word before.
     #[inline]
     pub fn mark(&mut self, pointer: u16) -> u64
@@ -226,6 +236,7 @@ impl Memory {
             Event::Name { pointer, old, new } => self.name(pointer, old, new),
             Event::See { pointer } if self.has_pointer(pointer) => Reply::Word(self.cell_at(pointer)),
             Event::Mark { pointer } if self.may_mark(pointer) => Reply::Word(self.mark(pointer)),
+            Event::Clear { pointer } if self.may_clear(pointer) => Reply::Word(self.clear(pointer)),
             _ => Reply::Refused,
         }
     }

@@ -4,7 +4,9 @@ ghost use Rattle.std.specs.Prelude.{◌≡◌, ◌<◌, ◌≤◌, ◌+◌, ◌*
 ghost use Rattle.far_core.specs.state.State.{State};
 ghost use Rattle.far_core.specs.declared.event.Event.{Event};
 ghost use Rattle.far_core.specs.state.Law.{Law};
-ghost use Rattle.far_core.specs.events.Naming.{IsOnLayout, naming_row, no_marks};
+ghost use Rattle.far_core.specs.events.Clear.{is_near};
+ghost use Rattle.far_core.specs.events.Naming.{IsNaming, IsOnLayout, naming_row, no_marks};
+ghost use Rattle.far_core.specs.events.namings.Evicts.{evicts_row, IsAt};
 ghost use Rattle.far_core.specs.events.NewSpans.{goes_at, is_new_span, with_span};
 ghost use Rattle.far_core.specs.events.Next.{next_state};
 ghost use Rattle.far_core.specs.events.Step.{answer, is_legal, step_of, is_past};
@@ -146,6 +148,8 @@ impl Memory {
                     && self.zeros(first_word(place) + 1, words_for(len) as usize)
             }
             Naming::Retires => true,
+            Naming::Evicts { .. } => self.is_quiet(pointer),
+            Naming::Stays => true,
             Naming::Moves { len, ds, from, to } => self.may_move(pointer, len, ds, from, to),
             Naming::Fetches { len, ds, place } => self.may_fetch(pointer, len, ds, place),
         }
@@ -156,14 +160,49 @@ impl Memory {
         requires pointer { pointer < CELLS * (state_of self.old).mutators }
         requires layout { IsOnLayout form }
         requires test { (naming_row (state_of self.old) pointer new form).test ≡ true }
+        requires law { Law (state_of self.old) }
+        requires says { IsNaming form (read_of ((state_of self.old).cell pointer)) (read_of new) }
         ensures { state_of self.new ≡ (naming_row (state_of self.old) pointer new form).after }
     {
         match form {
             Naming::Places { len, place, .. } => self.take(pointer, new, len, place),
             Naming::Retires => self.set_cell(pointer, new),
+            Naming::Evicts { len, place } => self.evict(pointer, new, len, place),
+            Naming::Stays => self.set_cell(pointer, new),
             Naming::Moves { len, to, .. } => self.take(pointer, new, len, to),
             Naming::Fetches { len, place, .. } => self.take(pointer, new, len, place),
         }
+    }
+
+    /// Stores an object's words, and names it far.
+    fn evict(&mut self, pointer: u16, new: u64, len: u16, place: Place)
+        requires pointer { pointer < CELLS * (state_of self.old).mutators }
+        requires law { Law (state_of self.old) }
+        requires near { IsAt (state_of self.old) pointer len place }
+        ensures { state_of self.new ≡ (evicts_row (state_of self.old) pointer new len place).after }
+    {
+        self.store_away(pointer, first_word(place) + 1, words_for(len));
+        self.set_cell(pointer, new);
+    }
+
+    pub(crate) fn may_clear(&self, pointer: u16) -> bool
+        ensures { result ≡ is_legal (state_of self.now) (Event.Clear pointer) }
+    {
+        self.has_pointer(pointer) && is_near(self.cell_at(pointer))
+    }
+
+    pub(crate) fn clear(&mut self, pointer: u16) -> u64
+        requires law { Law (state_of self.old) }
+        requires pointer { pointer < CELLS * (state_of self.old).mutators }
+        ensures state { state_of self.new ≡ next_state (state_of self.old) (Event.Clear pointer) }
+        ensures word { answer (state_of self.old) (Event.Clear pointer) ≡ Reply.Word result }
+    {
+        let old = self.cell_at(pointer);
+        self.set_cell(pointer, old & !Mark::Evac.mask());
+        if let Some(PtrWord::Near { place, .. }) = PtrWord::read(old) {
+            self.leave_round(place.log);
+        }
+        old
     }
 
     pub(crate) fn may_mark(&self, pointer: u16) -> bool
@@ -232,6 +271,13 @@ fn goes_at(kind: Kind, at: u16, tail: u16) -> bool
         Kind::Open => at == tail,
         Kind::Sealed => false,
     }
+}
+
+/// Whether a cell is near.
+fn is_near(cell: u64) -> bool
+    ensures { result ≡ is_near (read_of cell) }
+{
+    matches!(PtrWord::read(cell), Some(PtrWord::Near { .. }))
 }
 
 /// The pointer that a header names; 0 where the word is none.

@@ -1,0 +1,58 @@
+-- What the form of naming Stays owes.
+use Rattle.std.proofs.Common.{inl, inr, ◌≡◌, ◌≢◌, ℕ, ◌/◌, ◌+◌, Bool, true, false, cond, refl, sym, ap, subst, ◌∙◌, Option, Some, None}
+use Rattle.std.specs.Prelude.{◌||◌, ◌&&◌, not, is_some}
+use Rattle.std.proofs.lemmas.Bool.{false≢true}
+use Rattle.far_word.specs.declared.mark.Marks.{Marks}
+use Rattle.far_word.specs.declared.pointer.Place.{Place}
+use Rattle.far_word.specs.declared.pointer.PtrWord.{PtrWord}
+use Rattle.far_word.specs.declared.pointer.PtrWord.TheVariants.{Free, Near}
+use Rattle.far_word.specs.Bytes.{bytes_of}
+use Rattle.far_word.specs.Pointer.{read_of}
+use Rattle.far_core.specs.declared.naming.Naming.TheVariants.{Stays}
+use Rattle.far_core.specs.events.Naming.{no_marks}
+use Rattle.far_core.specs.state.Law.{Law, held_place, in_use}
+use Rattle.far_core.specs.state.State.{State, put, addr}
+use Rattle.far_core.specs.world.Steps as world
+use Rattle.far_core.specs.world.WorldOf.{world_of, object_of, is_marked}
+use Rattle.far_core.proofs.Cells.{Remarked, unused}
+use Rattle.far_core.proofs.Frames.{law_with_cell_marks}
+use Rattle.far_core.proofs.Marking.{unmarks_world}
+use Rattle.far_core.proofs.NamingOwed.{IsMade, NamingOwed}
+use Rattle.far_core.proofs.Put.{put_same}
+use Rattle.far_core.proofs.Quieting.{quiet_unheld}
+use Rattle.far_core.specs.events.Quiet.{has_move}
+use Rattle.far_core.proofs.Touching.{one_cell, touched}
+
+module _ (s : State) (p new len ds : ℕ) (place : Place) (m : Marks) (made : IsMade s p new Stays)
+    (near : read_of (s.cell p) ≡ Some (Near len ds place m)) (kept : m.dropped ≡ false) (moved : m.moved ≡ true) (says : read_of new ≡ Some (Near len ds place no_marks)) where
+  remarked : Remarked (read_of (s.cell p)) (read_of new)
+  remarked = rw (near, says) (record { same = refl; kept = λ _. kept })
+
+  used : s.cell p ≢ 0
+  used z = (let odd : Some Free ≡ Some (Near len ds place m) = sym unused ∙ ap read_of (sym z) ∙ near in cc)
+
+  unheld : s.held p ≡ None
+  unheld = quiet_unheld s made.law p (inl (ap has_move near ∙ moved))
+
+  pub keeps_stay : Law record s { cell = put s.cell p new }
+  keeps_stay = law_with_cell_marks s made.law p new made.fits remarked used
+      (λ at h. let odd : None ≡ Some at = sym unheld ∙ h in absurd cc) (λ _. ap in_use says)
+
+  objects : (f g : ℕ → ℕ) (q : ℕ) → object_of f g q (read_of new) ≡ object_of f g q (read_of (s.cell p))
+  objects f g q = rw (says, near, kept) refl
+
+  pub stay_unmarks : world.Unmarks (world_of s) p (world_of record s { cell = put s.cell p new })
+  stay_unmarks = unmarks_world s p new objects (rw (says, near, kept) refl)
+
+module _ (p new : ℕ) where
+  pub stays_owed : NamingOwed p new Stays
+  stays_owed = record {
+    fact = λ s h. tt;
+    test = λ s h. refl;
+    keeps = λ s made. let n = made.naming in keeps_stay s p new n.0 n.1 n.2 n.3 made n.4 n.5 n.6 n.8;
+    does = λ s made. let n = made.naming in stay_unmarks s p new n.0 n.1 n.2 n.3 made n.4 n.5 n.6 n.8;
+    within = λ s. touched (one_cell s.epoch s.scope s.cell s.word p new) (λ k a b. refl) (λ q a. refl) (λ q a b. refl);
+    names = λ s. put_same s.cell p new p refl;
+    reports = λ s law. refl;
+    causes = λ old. inr (old, new, refl);
+  }
