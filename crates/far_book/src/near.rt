@@ -1,7 +1,9 @@
 //! The book's hand on the shared words.
 
-ghost use Rattle.std.specs.Prelude.{◌≡◌, ◌≢◌, ◌+◌, ◌*◌, ℕ, true, false, IfOk, IfErr};
+ghost use Rattle.std.specs.Prelude.{◌≡◌, ◌≢◌, ◌+◌, ◌*◌, ◌^◌, ℕ, true, false, bit_or, IfOk, IfErr};
+ghost use Rattle.far_word.specs.declared.mark.Mark.TheVariants.{Evac};
 ghost use Rattle.far_word.specs.declared.sizes.TheConstants.{LOG_WORDS};
+ghost use Rattle.far_word.specs.Mark.{position};
 ghost use Rattle.far_core.specs.events.Legal.{Legal};
 ghost use Rattle.far_core.specs.events.Step.{after};
 ghost use Rattle.far_core.specs.state.Shape.{is_shape};
@@ -35,6 +37,15 @@ pub trait Near {
         ensures kept { view self.new ≡ record (view self.old) { cell = put (view self.old).cell pointer result } }
         ensures exact { still → result ≡ (view self.old).cell pointer }
         ensures set { still → view self.new ≡ after (view self.old) (Event.See pointer) };
+
+    /// A near pointer whose place lies in a sealed log gets EVAC: its word before, as it was found. The view has that word
+    /// with EVAC from then on.
+    fn mark(&mut self, pointer: u16) -> u64
+        requires legal { Legal (view self.old) (Event.Mark pointer) }
+        ensures found { Finds ((view self.old).cell pointer) result }
+        ensures kept { view self.new ≡ record (view self.old) { cell = put (view self.old).cell pointer (bit_or result (2 ^ position Evac)) } }
+        ensures exact { still → result ≡ (view self.old).cell pointer }
+        ensures set { still → view self.new ≡ after (view self.old) (Event.Mark pointer) };
 
     /// Word `at` of a log. With `free` the log, which is sealed and has no live span, is given back too.
     ///
