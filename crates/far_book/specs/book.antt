@@ -1,5 +1,6 @@
 pub mod BookOf
 pub mod Effects
+pub mod FarSide
 pub mod Home
 pub mod Laws
 pub mod Ledger
