@@ -13,5 +13,4 @@ pub mod Readings
 pub mod Retires
 pub mod SpanLists
 pub mod Starts
-pub mod Uses
 pub mod Written
