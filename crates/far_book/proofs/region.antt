@@ -16,5 +16,4 @@ pub mod Readings
 pub mod Retires
 pub mod SpanLists
 pub mod Starts
-pub mod Uses
 pub mod Written

@@ -1,6 +1,7 @@
 //! The calls of a hand, over a plain core and over one beside which owners are at work.
 
 ghost use Rattle.std.specs.Prelude.{◌≡◌, ◌≢◌, ◌*◌, ◌<◌, ℕ, IfOk, true, false};
+ghost use Rattle.std.specs.Vec.{vec_len};
 ghost use Rattle.far_word.specs.declared.mark.Marks.{Marks};
 ghost use Rattle.far_word.specs.declared.pointer.Place.{Place};
 ghost use Rattle.far_word.specs.declared.pointer.PtrWord.TheVariants as near;
@@ -11,8 +12,7 @@ ghost use Rattle.far_core.specs.state.Opening.{opening};
 ghost use Rattle.far_book.specs.BesetView.{beset_view};
 ghost use Rattle.far_book.specs.Masked.{masked, word_at};
 
-use crate::beset::rows::found_in;
-use crate::{Beset, Near, Plain};
+use far_book::{Beset, Near, Plain};
 use far_core::{Core, Event, Kind, Reply, Shape};
 use far_word::{Mark, PtrWord, Refused};
 use std::alloc::Global;
@@ -208,6 +208,14 @@ fn lies_in(cell: u64, log: u8) -> bool
         Some(PtrWord::Near { place, .. }) => place.log == log,
         _ => false,
     }
+}
+
+/// The word last found in a pointer's cell.
+fn found_in(found: &Vec<u64>, pointer: usize) -> u64
+    requires { pointer < vec_len found.now }
+    ensures { result ≡ word_at found.now.items pointer }
+{
+    found[pointer]
 }
 
 /// Whether no cell names a place in a log.

@@ -3,7 +3,7 @@
 ghost use Rattle.std.specs.Prelude.{◌≡◌, ◌<◌, ◌≤◌};
 ghost use Rattle.far_word.specs.declared.sizes.TheConstants.{LONGEST};
 
-use crate::{Beset, Book, Home, Near, Plain};
+use far_book::{Beset, Book, Home, Near, Plain};
 use far_core::{Core, Event, Kind, Reply, Shape};
 use far_log::{LogRow, Span};
 use far_word::{CELLS, Mark, Marks, Place, PtrWord, Refused};
@@ -22,14 +22,14 @@ const NO_MARKS: Marks = Marks {
     dropped: false,
 };
 
-#[tactic(auto, using(crate::proofs::region::Uses::at_start))]
+#[tactic(auto, using(crate::proofs::Uses::at_start))]
 fn opened(rt: &HostRuntime, shape: Shape) -> Result<Book<Plain>, Refused> {
     let core = Core::new(rt.alloc(), shape, true)?;
     Book::new(rt.alloc(), Plain { core })
 }
 
 // The same beside whose calls owners make these events.
-#[tactic(auto, using(crate::proofs::region::Uses::beset_start))]
+#[tactic(auto, using(crate::proofs::Uses::beset_start))]
 fn beset(rt: &HostRuntime, events: Vec<Event>) -> Result<Book<Beset>, Refused> {
     let core = Core::new(rt.alloc(), SMALL, true)?;
     let hand = Beset::new(rt.alloc(), core, events)?;
@@ -80,7 +80,7 @@ fn home<N: Near + Drop>(book: &mut Book<N>, pointer: u16) -> Option<Home> {
 }
 
 // Retires a near object whose cell shows DROP, and says whether it did.
-#[tactic(auto, using(crate::proofs::region::Uses::dropped_near))]
+#[tactic(auto, using(crate::proofs::Uses::dropped_near))]
 fn retire_dropped<N: Near + Drop>(book: &mut Book<N>, pointer: u16) -> bool {
     if pointer as u64 >= 128 * book.shape().mutators {
         return false;

@@ -5,7 +5,7 @@ use Rattle.far_core.specs.declared.naming.Naming.TheVariants.{Retires}
 use Rattle.far_core.specs.events.Naming.{is_dropped}
 use Rattle.far_core.specs.state.State.{State}
 use Rattle.far_core.proofs.Cells.{unused}
-use Rattle.far_book.proofs.tests.hands.retire_first.Goals as goal
+use Rattle.far_book_tests.proofs.tests.hands.retire_first.Goals as goal
 
 pub name-requires-clause-legal : goal.name-requires-clause-legal
 name-requires-clause-legal g c =

@@ -5,7 +5,7 @@ use Rattle.far_word.specs.declared.pointer.PtrWord.TheVariants.{Free, Near}
 use Rattle.far_word.specs.Pointer.{read_of}
 use Rattle.far_core.proofs.Cells.{unused}
 use Rattle.far_book.specs.Masked.{word_at}
-use Rattle.far_book.proofs.tests.hands.is_vacant.Goals as goal
+use Rattle.far_book_tests.proofs.tests.hands.is_vacant.Goals as goal
 
 pub loop-pointer-preserved : goal.loop-pointer-preserved
 loop-pointer-preserved c = λ p len ds place marks lt e. elim (cases_eq p c.loop-pointer.pointer) [

@@ -1,4 +1,4 @@
-use Rattle.far_book.proofs.tests.books.store_word.Goals as goal
+use Rattle.far_book_tests.proofs.tests.books.store_word.Goals as goal
 use Rattle.std.proofs.Common.{◌≡◌, ◌<◌, ◌≤◌, ◌+◌, ◌-◌, ◌*◌, ◌^◌, ◌∙◌, ℕ, zero, suc, Some, ap, sym, arith, [], ◌∷◌}
 use Rattle.std.specs.Prelude.{slice_index}
 use Rattle.std.proofs.Math.Nat.{pow-le-pow_right}
