@@ -5,6 +5,7 @@ ghost use Rattle.far_word.specs.declared.sizes.TheConstants.{LONGEST};
 
 use far_book::{Beset, Book, Home, Near, Plain};
 use far_core::{Core, Event, Kind, Reply, Shape};
+use far_device::MemDevice;
 use far_log::{LogRow, Span};
 use far_word::{CELLS, Mark, Marks, Place, PtrWord, Refused};
 use std::test::Fail;
@@ -23,21 +24,21 @@ const NO_MARKS: Marks = Marks {
 };
 
 #[tactic(auto, using(crate::proofs::Uses::at_start))]
-fn opened(rt: &HostRuntime, shape: Shape) -> Result<Book<Plain>, Refused> {
+fn opened(rt: &HostRuntime, shape: Shape) -> Result<Book<Plain, MemDevice>, Refused> {
     let core = Core::new(rt.alloc(), shape, true)?;
-    Book::new(rt.alloc(), Plain { core })
+    Book::new(rt.alloc(), Plain { core }, MemDevice::new(rt.alloc()))
 }
 
 // The same beside whose calls owners make these events.
 #[tactic(auto, using(crate::proofs::Uses::beset_start))]
-fn beset(rt: &HostRuntime, events: Vec<Event>) -> Result<Book<Beset>, Refused> {
+fn beset(rt: &HostRuntime, events: Vec<Event>) -> Result<Book<Beset, MemDevice>, Refused> {
     let core = Core::new(rt.alloc(), SMALL, true)?;
     let hand = Beset::new(rt.alloc(), core, events)?;
-    Book::new(rt.alloc(), hand)
+    Book::new(rt.alloc(), hand, MemDevice::new(rt.alloc()))
 }
 
 // A new object of the first mutator, in its lowest free cell.
-fn place_next<N: Near + Drop>(book: &mut Book<N>, len: u16, ds: u8) -> Result<(u16, Place), Refused>
+fn place_next<N: Near + Drop>(book: &mut Book<N, MemDevice>, len: u16, ds: u8) -> Result<(u16, Place), Refused>
     requires some { 0 < len }
     requires most { len ≤ LONGEST }
 {
@@ -50,7 +51,7 @@ fn place_next<N: Near + Drop>(book: &mut Book<N>, len: u16, ds: u8) -> Result<(u
 }
 
 // What a log is and has; `None` for a number that is no log's.
-fn shown<N: Near + Drop>(book: &Book<N>, log: u8) -> Option<(Kind, LogRow)> {
+fn shown<N: Near + Drop>(book: &Book<N, MemDevice>, log: u8) -> Option<(Kind, LogRow)> {
     if (log as u64) < book.shape().logs {
         Some(book.log(log))
     } else {
@@ -71,7 +72,7 @@ fn line(kind: Kind, log: u8, live: u16, dead: u16, unused: u16) -> Option<(Kind,
 }
 
 // Where a pointer's object is; `None` for a number that is no pointer's.
-fn home<N: Near + Drop>(book: &mut Book<N>, pointer: u16) -> Option<Home> {
+fn home<N: Near + Drop>(book: &mut Book<N, MemDevice>, pointer: u16) -> Option<Home> {
     if (pointer as u64) < 128 * book.shape().mutators {
         book.locate(pointer)
     } else {
@@ -81,7 +82,7 @@ fn home<N: Near + Drop>(book: &mut Book<N>, pointer: u16) -> Option<Home> {
 
 // Retires a near object whose cell shows DROP, and says whether it did.
 #[tactic(auto, using(crate::proofs::Uses::dropped_near))]
-fn retire_dropped<N: Near + Drop>(book: &mut Book<N>, pointer: u16) -> bool {
+fn retire_dropped<N: Near + Drop>(book: &mut Book<N, MemDevice>, pointer: u16) -> bool {
     if pointer as u64 >= 128 * book.shape().mutators {
         return false;
     }
@@ -95,8 +96,23 @@ fn retire_dropped<N: Near + Drop>(book: &mut Book<N>, pointer: u16) -> bool {
     true
 }
 
+// Sets EVAC on a near object of a sealed log, and answers its word before; `None` where the pointer names none.
+fn mark_sealed<N: Near + Drop>(book: &mut Book<N, MemDevice>, pointer: u16) -> Option<u64> {
+    if pointer as u64 >= 128 * book.shape().mutators {
+        return None;
+    }
+    let cell = book.see(pointer);
+    let Some(PtrWord::Near { place, .. }) = PtrWord::read(cell) else {
+        return None;
+    };
+    if place.log as u64 >= book.shape().logs || book.log(place.log).0 != Kind::Sealed {
+        return None;
+    }
+    Some(book.mark(pointer))
+}
+
 // Its owner takes a pointer over and drops it.
-fn drop_next(book: &mut Book<Plain>, pointer: u16) {
+fn drop_next(book: &mut Book<Plain, MemDevice>, pointer: u16) {
     let owner = 0;
     book.owner(Event::Adopt { owner, pointer });
     let mark = Mark::Dropped;
@@ -160,7 +176,7 @@ fn an_odd_length_takes_whole_words(rt: HostRuntime) -> Result<(), Fail> {
 }
 
 // A book in which the first mutator holds an object of two words, its pointer 0.
-fn holding_pair(rt: &HostRuntime) -> Result<Book<Plain>, Refused> {
+fn holding_pair(rt: &HostRuntime) -> Result<Book<Plain, MemDevice>, Refused> {
     let mut book = opened(rt, SMALL)?;
     let (pointer, _) = place_next(&mut book, 16, 1)?;
     let owner = 0;
@@ -177,7 +193,7 @@ fn holding_pair(rt: &HostRuntime) -> Result<Book<Plain>, Refused> {
 }
 
 // Stores a word into an object of two words, if the first mutator holds it, and says whether it did.
-fn store_word(book: &mut Book<Plain>, pointer: u16, index: u16, word: u64) -> bool {
+fn store_word(book: &mut Book<Plain, MemDevice>, pointer: u16, index: u16, word: u64) -> bool {
     let core = book.core();
     if pointer >= CELLS || index >= 2 || !core.is_held(pointer) {
         return false;
@@ -190,7 +206,7 @@ fn store_word(book: &mut Book<Plain>, pointer: u16, index: u16, word: u64) -> bo
 }
 
 // The words of an object of two words, if the first mutator holds it.
-fn words_of(book: &Book<Plain>, pointer: u16) -> Option<[u64; 2]> {
+fn words_of(book: &Book<Plain, MemDevice>, pointer: u16) -> Option<[u64; 2]> {
     let core = book.core();
     if pointer >= CELLS || !core.is_held(pointer) {
         return None;
@@ -204,7 +220,7 @@ fn words_of(book: &Book<Plain>, pointer: u16) -> Option<[u64; 2]> {
 }
 
 // What the first log is and has.
-fn first_log(book: &Book<Plain>) -> (Kind, LogRow) {
+fn first_log(book: &Book<Plain, MemDevice>) -> (Kind, LogRow) {
     book.core_keeps_law();
     book.log(0)
 }
@@ -295,6 +311,26 @@ fn the_lowest_free_cell_is_taken(rt: HostRuntime) -> Result<(), Fail> {
     let after = Place { log: 2, at: 2 };
     assert_eq!(rt; place_next(&mut book, 1, 1), Ok((100, after)));
     assert_eq!(rt; shown(&book, 1), line(Kind::Sealed, 1, 992, 32, 0));
+    Ok(())
+}
+
+#[test]
+fn an_object_of_a_sealed_log_is_marked(rt: HostRuntime) -> Result<(), Fail> {
+    let mut book = opened(&rt, SMALL)?;
+    place_next(&mut book, 8, 1)?;
+    assert_eq!(rt; mark_sealed(&mut book, 0), None);
+    place_next(&mut book, 1016, 1)?;
+    assert_eq!(rt; mark_sealed(&mut book, 0), Some(0x8400_0000_0001_0008));
+    assert_eq!(rt; mark_sealed(&mut book, 0), Some(0xa400_0000_0001_0008));
+    assert_eq!(rt; mark_sealed(&mut book, 1), None);
+    assert_eq!(rt; mark_sealed(&mut book, 2), None);
+    let place = Place { log: 0, at: 0 };
+    let marks = Marks {
+        evac: true,
+        ..NO_MARKS
+    };
+    assert_eq!(rt; home(&mut book, 0), Some(Home::Near { place, marks }));
+    assert_eq!(rt; shown(&book, 0), line(Kind::Sealed, 0, 16, 0, 1008));
     Ok(())
 }
 
