@@ -9,4 +9,5 @@ pub mod Own
 pub mod Placeable
 pub mod Reached
 pub mod Reading
+pub mod Renaming
 pub mod Rows

@@ -34,6 +34,7 @@ ghost use Rattle.far_book.specs.book.Reading.{HeadersKnown, IsReadAt};
 ghost use Rattle.far_book.specs.book.Rows.{row_of};
 
 mod over_plain;
+mod renaming;
 
 use crate::home::Home;
 use crate::ledger::Ledger;

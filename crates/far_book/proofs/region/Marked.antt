@@ -2,7 +2,6 @@
 use Rattle.std.proofs.Common.{◌≡◌, ◌≢◌, ℕ, ◌*◌, ◌<◌, ◌^◌, Bool, false, refl, sym, ap, ◌∙◌, subst, Option, Some, List}
 use Rattle.std.specs.Prelude.{◌==◌}
 use Rattle.std.proofs.lemmas.Bool.{ne_eqb}
-use mathlib.Core.Path.{fun_ext}
 use Rattle.far_word.specs.declared.mark.Mark.TheVariants.{Evac}
 use Rattle.far_word.specs.declared.mark.Marks.{Marks}
 use Rattle.far_word.specs.declared.pointer.Place.{Place}
@@ -16,12 +15,13 @@ use Rattle.far_core.specs.state.Spans.{names_place}
 use Rattle.far_core.specs.state.State.{State, put}
 use Rattle.far_core.proofs.Cells.{unused}
 use Rattle.far_core.proofs.Owing.{keeps}
-use Rattle.far_core.proofs.Put.{put_both, put_other, put_same}
+use Rattle.far_core.proofs.Put.{put_same}
 use Rattle.far_book.specs.declared.ledger.Ledger.{Ledger}
 use Rattle.far_book.specs.Finds.{Finds}
 use Rattle.far_book.specs.book.FarSide.{InOrder}
 use Rattle.far_book.specs.book.Own.{own_part}
 use Rattle.far_book.proofs.EvacMarks.{with_evac}
+use Rattle.far_book.proofs.region.Calls.{put_put}
 use Rattle.far_book.proofs.region.FarSide.{far_without}
 use Rattle.far_book.proofs.Finding.{near_found}
 use Rattle.far_book.proofs.region.Founds.{notes_seen}
@@ -47,10 +47,6 @@ module _ (s : State) (ledger : Ledger) (held : ℕ → Option (List ℕ)) (is_ho
     honest = h.honest;
   }
 
--- what is written twice is what is written last
-put_twice : (f : ℕ → ℕ) (k v w : ℕ) → put (put f k v) k w ≡ put f k w
-put_twice f k v w = fun_ext (λ q. put_both (λ x. x ≡ put f k w q) (put f k v) k w q (λ e. sym (put_same f k w q e)) (λ ne. put_other f k v q ne ∙ sym (put_other f k w q ne)))
-
 -- the same by a word that is found
 module _ (s : State) (ledger : Ledger) (held : ℕ → Option (List ℕ)) (is_honest : Bool) (h : InOrder s ledger held is_honest) (p : ℕ) (legal : Legal s (Mark p)) where
   pub found_marked : (w : ℕ) → w < 2 ^ 64 → Finds (s.cell p) w → InOrder (record s { cell = put s.cell p (with_evac w) }) ledger held is_honest
@@ -59,6 +55,6 @@ module _ (s : State) (ledger : Ledger) (held : ℕ → Option (List ℕ)) (is_ho
       let is : seen.cell p ≡ w = put_same s.cell p w p refl in
       let x = near_found (s.cell p) w f legal.1.0 legal.1.1 legal.1.2 legal.1.3 legal.1.4 in
       let may : Legal seen (Mark p) = (legal.0, (legal.1.0, legal.1.1, legal.1.2, x.marks, ap read_of is ∙ x.near, legal.1.5, legal.1.6)) in
-      let twice : put seen.cell p (with_evac (seen.cell p)) ≡ put s.cell p (with_evac w) = ap (λ v. put seen.cell p (with_evac v)) is ∙ put_twice s.cell p w (with_evac w) in
+      let twice : put seen.cell p (with_evac (seen.cell p)) ≡ put s.cell p (with_evac w) = ap (λ v. put seen.cell p (with_evac v)) is ∙ put_put s.cell p w (with_evac w) in
       subst (λ (cell : ℕ → ℕ). InOrder record s { cell = cell } ledger held is_honest) twice
       (marked seen ledger held is_honest (found_keeps s ledger held is_honest h p w fits f) p may)
