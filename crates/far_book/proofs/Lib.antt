@@ -1,4 +1,5 @@
 pub mod Counting
+pub mod EvacMarks
 pub mod Finding
 pub mod Knowing
 pub mod Masking

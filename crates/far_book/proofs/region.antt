@@ -1,7 +1,10 @@
 pub mod Calls
 pub mod Effects
+pub mod FarSide
 pub mod Founds
+pub mod InOrders
 pub mod Leaving
+pub mod Marked
 pub mod NotesKept
 pub mod Notings
 pub mod NumberSets
@@ -13,5 +16,4 @@ pub mod Readings
 pub mod Retires
 pub mod SpanLists
 pub mod Starts
-pub mod Uses
 pub mod Written

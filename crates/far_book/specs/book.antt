@@ -1,5 +1,6 @@
 pub mod BookOf
 pub mod Effects
+pub mod FarSide
 pub mod Home
 pub mod Laws
 pub mod Ledger
@@ -8,4 +9,5 @@ pub mod Own
 pub mod Placeable
 pub mod Reached
 pub mod Reading
+pub mod Renaming
 pub mod Rows

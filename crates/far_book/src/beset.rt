@@ -17,14 +17,14 @@ use far_core::{Core, Event};
 /// a list. Its view has only what a seat at shared words could know.
 #[derive(Debug, Drop)]
 pub struct Beset {
-    pub(crate) core: Core,
-    // Each cell's word as the book last found it.
-    pub(crate) found: Vec<u64>,
-    // The words of the logs that the book may count on, beside headers.
-    pub(crate) counted: Vec<bool>,
-    // The owners' events, and how many were made.
-    pub(crate) events: Vec<Event>,
-    pub(crate) made: usize,
+    pub core: Core,
+    /// Each cell's word as the book last found it.
+    pub found: Vec<u64>,
+    /// The words of the logs that the book may count on, beside headers.
+    pub counted: Vec<bool>,
+    /// The owners' events, and how many were made.
+    pub events: Vec<Event>,
+    pub made: usize,
     ghost found_sized: { vec_len found ≡ CELLS * (core_state core).mutators },
     ghost counted_sized: { vec_len counted ≡ LOG_WORDS * (core_state core).logs },
     ghost finds: { AllFind (word_at found.items) (core_state core).cell },

@@ -1,26 +1,31 @@
 //! The book: where each object lies, and what each log has.
 
-ghost use Rattle.std.specs.Prelude.{◌≡◌, ◌≢◌, ◌+◌, ◌*◌, ◌<◌, ◌≤◌, ◌↔◌, ℕ, true, false, eqb, List, [], map, length, slice_index, Some, None, IfOk, IfErr};
+ghost use Rattle.std.specs.Prelude.{◌≡◌, ◌≢◌, ◌+◌, ◌*◌, ◌^◌, ◌<◌, ◌≤◌, ◌↔◌, ℕ, bit_or, true, false, eqb, List, [], map, length, slice_index, Some, None, IfOk, IfErr};
 ghost use Rattle.std.specs.List.{IsDistinct, list_any};
+ghost use Rattle.far_word.specs.declared.mark.Mark.TheVariants.{Evac};
 ghost use Rattle.far_word.specs.declared.pointer.PtrWord.TheVariants.{Near as near_at};
 ghost use Rattle.far_word.specs.declared.refused.Refused.TheVariants.{Memory, NoRoom};
 ghost use Rattle.far_word.specs.declared.sizes.TheConstants.{CELLS, LONGEST, LOG_WORDS};
 ghost use Rattle.far_word.specs.Header.{IsHead};
+ghost use Rattle.far_word.specs.Mark.{position};
 ghost use Rattle.far_word.specs.Pointer.{IsPtr, read_of, word_of};
 ghost use Rattle.far_word.specs.Sizes.{size_of};
 ghost use Rattle.far_log.specs.declared.span.Span.{Span as SpanOf};
 ghost use Rattle.far_log.specs.Walk.{IsWalk};
 ghost use Rattle.far_core.specs.declared.event.Kind.TheVariants.{Sealed};
-ghost use Rattle.far_core.specs.events.Legal.{IsNext};
+ghost use Rattle.far_core.specs.declared.event.Event.{Event};
+ghost use Rattle.far_core.specs.events.Legal.{IsNext, Legal};
 ghost use Rattle.far_core.specs.events.Naming.{no_marks, is_dropped};
 ghost use Rattle.far_core.specs.state.Law.{Law};
 ghost use Rattle.far_core.specs.state.Room.{room};
 ghost use Rattle.far_core.specs.state.Shape.{is_shape};
 ghost use Rattle.far_core.specs.state.Spans.{spans_of};
 ghost use Rattle.far_core.specs.state.State.{State, put};
+ghost use Rattle.far_device.specs.Contents.{KeepsOthers};
 ghost use Rattle.far_book.specs.Finds.{Finds, body_of};
 ghost use Rattle.far_book.specs.Known.{Forgets};
-ghost use Rattle.far_book.specs.book.Effects.{with_blank_span, placed, retired, order_after};
+ghost use Rattle.far_book.specs.book.Effects.{with_blank_span, marked, placed, retired, order_after};
+ghost use Rattle.far_book.specs.book.FarSide.{HoldsFar};
 ghost use Rattle.far_book.specs.book.Home.{home_of};
 ghost use Rattle.far_book.specs.book.Ledger.{IsLowestFree};
 ghost use Rattle.far_book.specs.book.Own.{own_part, IsAtStart};
@@ -29,11 +34,13 @@ ghost use Rattle.far_book.specs.book.Reading.{HeadersKnown, IsReadAt};
 ghost use Rattle.far_book.specs.book.Rows.{row_of};
 
 mod over_plain;
+mod renaming;
 
 use crate::home::Home;
 use crate::ledger::Ledger;
 use crate::near::Near;
 use far_core::{Kind, Shape};
+use far_device::Device;
 use far_log::{LogRow, Span, WalkFault, walk};
 use far_word::{HeadWord, LOG_WORDS, Marks, Place, PtrWord, Refused, size_of, words_for};
 use std::alloc::Global;
@@ -41,33 +48,36 @@ use std::marker::Model;
 
 /// The region book: where each object of a heap lies, and what each of its logs has.
 ///
-/// It touches the shared words through the hand that it is lent. All its room is taken when it is made, so that only the
+/// It touches the shared words through the hand that it is lent, and keeps the bytes of far objects in its device. All its room is taken when it is made, so that only the
 /// calls that answer lists take memory.
 #[derive(Drop)]
-pub struct Book<N: Near + Drop> {
+pub struct Book<N: Near + Drop, D: Device + Drop> {
     near: N,
+    device: D,
     alloc: Global,
     ledger: Ledger,
 }
 
-impl<N: Near + Drop> Model for Book<N> {
+impl<N: Near + Drop, D: Device + Drop> Model for Book<N, D> {
     ghost use Rattle.far_book.specs.book.BookOf.{BookOf};
-    ghost use Rattle.far_book.specs.book.Ledger.{Notes};
-    ghost use Rattle.far_book.specs.book.Own.{own_part};
+    ghost use Rattle.far_book.specs.book.FarSide.{InOrder};
 
-    ghost Value = { BookOf N };
+    ghost Value = { BookOf N D };
 
-    ghost view = { λ b. record { near = b.near; order = b.ledger.order.items } };
+    ghost view = { λ b. record { near = b.near; device = b.device; order = b.ledger.order.items } };
 
-    ghost invariant = { λ b. Notes (own_part (N.view b.near)) b.ledger };
+    ghost invariant = { λ b. InOrder (N.view b.near) b.ledger (D.contents b.device) (D.honest b.device) };
 }
 
-impl<N: Near + Drop> Book<N> {
-    /// A book over a hand on words of which no cell is used yet and the logs are as at the start. Refused
-    /// [`Refused::Memory`] alone, and the hand is dropped then.
-    pub fn new(alloc: Global, near: N) -> Result<Book<N>, Refused>
+impl<N: Near + Drop, D: Device + Drop> Book<N, D> {
+    /// A book over a hand on words of which no cell is used yet and the logs are as at the start, and over a device, which is
+    /// honest where the words say that the far side is. Refused [`Refused::Memory`] alone, and hand and device are
+    /// dropped then.
+    pub fn new(alloc: Global, near: N, device: D) -> Result<Book<N, D>, Refused>
         requires start { IsAtStart (N.view near) }
+        requires honest { (N.view near).honest ≡ true → D.honest device ≡ true }
         ensures near { IfOk result (λ book. book.near ≡ near) }
+        ensures device { IfOk result (λ book. book.device ≡ device) }
         ensures order { IfOk result (λ book. book.order ≡ []) }
         ensures refused { IfErr result (λ why. why ≡ Memory) }
     {
@@ -77,6 +87,7 @@ impl<N: Near + Drop> Book<N> {
         };
         Ok(Book {
             near,
+            device,
             alloc,
             ledger,
         })
@@ -110,6 +121,7 @@ impl<N: Near + Drop> Book<N> {
         ensures forgot { IfOk result (λ place. Forgets (placed (N.view self.old.near) pointer len ds place) (N.view self.new.near)) }
         ensures exact { N.still → IfOk result (λ place. N.view self.new.near ≡ placed (N.view self.old.near) pointer len ds place) }
         ensures order { IfOk result (λ place. self.new.order ≡ order_after (N.view self.old.near) self.old.order place) }
+        ensures device { self.new.device ≡ self.old.device }
         ensures refused { IfErr result (λ why. why ≡ NoRoom) }
         ensures none { IfErr result (λ _. room (N.view self.old.near) (size_of len) true ≡ None) }
         ensures unchanged { IfErr result (λ _. self.new ≡ self.old) }
@@ -123,7 +135,8 @@ impl<N: Near + Drop> Book<N> {
         Ok(place)
     }
 
-    /// Frees the cell of an object that its owner dropped; its span is dead from then on, if it lay near.
+    /// Frees the cell of an object that its owner dropped; its span is dead from then on, if it lay near, and the device
+    /// forgets its bytes.
     pub fn retire(&mut self, pointer: u16)
         requires pointer { pointer < CELLS * (N.view self.old.near).mutators }
         requires dropped { is_dropped (read_of ((N.view self.old.near).cell pointer)) ≡ true }
@@ -131,9 +144,40 @@ impl<N: Near + Drop> Book<N> {
         ensures forgot { Forgets (N.view self.old.near) (N.view self.new.near) }
         ensures exact { N.still → N.view self.new.near ≡ retired (N.view self.old.near) pointer }
         ensures order { self.new.order ≡ self.old.order }
+        ensures gone { D.forgets → D.contents self.new.device pointer ≡ None }
+        ensures others { KeepsOthers (D.contents self.old.device) (D.contents self.new.device) pointer }
+        ensures honest { D.honest self.new.device ≡ D.honest self.old.device }
+        ensures faults { D.faults self.new.device ≡ D.faults self.old.device }
     {
         let was = free_cell(&mut self.near, pointer);
         self.ledger.retire(pointer, was);
+        self.device.forget(pointer as u32);
+    }
+
+    /// The cell of a pointer, as it is found.
+    pub fn see(&mut self, pointer: u16) -> u64
+        requires pointer { pointer < CELLS * (N.view self.old.near).mutators }
+        ensures found { Finds ((N.view self.old.near).cell pointer) result }
+        ensures kept { N.view self.new.near ≡ record (N.view self.old.near) { cell = put (N.view self.old.near).cell pointer result } }
+        ensures exact { N.still → result ≡ (N.view self.old.near).cell pointer }
+        ensures set { N.still → N.view self.new.near ≡ N.view self.old.near }
+        ensures order { self.new.order ≡ self.old.order }
+        ensures device { self.new.device ≡ self.old.device }
+    {
+        self.near.see(pointer)
+    }
+
+    /// Sets EVAC on a near pointer whose place lies in a sealed log, and answers its word before, as it was found.
+    pub fn mark(&mut self, pointer: u16) -> u64
+        requires legal { Legal (N.view self.old.near) (Event.Mark pointer) }
+        ensures found { Finds ((N.view self.old.near).cell pointer) result }
+        ensures kept { N.view self.new.near ≡ record (N.view self.old.near) { cell = put (N.view self.old.near).cell pointer (bit_or result (2 ^ position Evac)) } }
+        ensures exact { N.still → result ≡ (N.view self.old.near).cell pointer }
+        ensures set { N.still → N.view self.new.near ≡ marked (N.view self.old.near) pointer }
+        ensures order { self.new.order ≡ self.old.order }
+        ensures device { self.new.device ≡ self.old.device }
+    {
+        self.near.mark(pointer)
     }
 
     /// Where a pointer's object is, with the marks that its cell has now; `None` exactly where the cell is free.
@@ -145,6 +189,7 @@ impl<N: Near + Drop> Book<N> {
         ensures kept { N.view self.new.near ≡ record (N.view self.old.near) { cell = put (N.view self.old.near).cell pointer ((N.view self.new.near).cell pointer) } }
         ensures exact { N.still → N.view self.new.near ≡ N.view self.old.near }
         ensures order { self.new.order ≡ self.old.order }
+        ensures device { self.new.device ≡ self.old.device }
     {
         home_in(self.near.see(pointer))
     }
@@ -181,17 +226,21 @@ impl<N: Near + Drop> Book<N> {
         ensures headers { (a : ℕ) → (N.view self.old.near).starts a ≡ true → (N.view self.new.near).word a ≡ (N.view self.old.near).word a }
         ensures exact { N.still → N.view self.new.near ≡ N.view self.old.near }
         ensures order { self.new.order ≡ self.old.order }
+        ensures device { self.new.device ≡ self.old.device }
     {
         let tail = self.ledger.tail(log);
         let words = read_words(&mut self.near, log, tail);
         listed(self.alloc, &words, tail)
     }
 
-    /// What the book knows keeps its part of the law of the core, and its order names each sealed log, once.
+    /// What the book knows keeps its part of the law of the core, and its order names each sealed log, once. Its device holds
+    /// the bytes of each far object as they were stored, and is honest where the words say that the far side is.
     pub fn keeps_law(&self)
         ensures law { Law (own_part (N.view self.now.near)) }
         ensures sealed { (l : ℕ) → (list_any (eqb l) self.now.order ≡ true) ↔ ((N.view self.now.near).kind l ≡ Sealed) }
         ensures once { IsDistinct eqb self.now.order }
+        ensures far { HoldsFar (N.view self.now.near) (D.contents self.now.device) }
+        ensures honest { (N.view self.now.near).honest ≡ true → D.honest self.now.device ≡ true }
     {
         let _ = &self.ledger;
     }

@@ -12,8 +12,6 @@ mod near;
 mod number_set;
 mod owners;
 mod plain;
-#[cfg(test)]
-mod tests;
 
 pub use beset::Beset;
 pub use book::Book;

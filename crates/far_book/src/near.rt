@@ -1,13 +1,16 @@
 //! The book's hand on the shared words.
 
-ghost use Rattle.std.specs.Prelude.{◌≡◌, ◌≢◌, ◌+◌, ◌*◌, ℕ, true, false, IfOk, IfErr};
+ghost use Rattle.std.specs.Prelude.{◌≡◌, ◌≢◌, ◌+◌, ◌*◌, ◌^◌, ℕ, true, false, bit_or, IfOk, IfErr};
+ghost use Rattle.far_word.specs.declared.mark.Mark.TheVariants.{Evac};
 ghost use Rattle.far_word.specs.declared.sizes.TheConstants.{LOG_WORDS};
+ghost use Rattle.far_word.specs.Mark.{position};
+ghost use Rattle.far_word.specs.Pointer.{read_of};
 ghost use Rattle.far_core.specs.events.Legal.{Legal};
 ghost use Rattle.far_core.specs.events.Step.{after};
 ghost use Rattle.far_core.specs.state.Shape.{is_shape};
 ghost use Rattle.far_core.specs.state.State.{State, put};
 ghost use Rattle.far_book.specs.Finds.{Finds};
-ghost use Rattle.far_book.specs.Known.{IsKnown, Forgets, IsPaddedAt};
+ghost use Rattle.far_book.specs.Known.{IsKnown, Forgets, IsPaddedAt, StoresKnown};
 ghost use Rattle.far_book.specs.Quiet.{IsQuietAt};
 ghost use Rattle.far_book.specs.ShapeOf.{shape_of};
 
@@ -36,6 +39,15 @@ pub trait Near {
         ensures exact { still → result ≡ (view self.old).cell pointer }
         ensures set { still → view self.new ≡ after (view self.old) (Event.See pointer) };
 
+    /// A near pointer whose place lies in a sealed log gets EVAC: its word before, as it was found. The view has that word
+    /// with EVAC from then on.
+    fn mark(&mut self, pointer: u16) -> u64
+        requires legal { Legal (view self.old) (Event.Mark pointer) }
+        ensures found { Finds ((view self.old).cell pointer) result }
+        ensures kept { view self.new ≡ record (view self.old) { cell = put (view self.old).cell pointer (bit_or result (2 ^ position Evac)) } }
+        ensures exact { still → result ≡ (view self.old).cell pointer }
+        ensures set { still → view self.new ≡ after (view self.old) (Event.Mark pointer) };
+
     /// Word `at` of a log. With `free` the log, which is sealed and has no live span, is given back too.
     ///
     /// The word is known from then on where it was, or where the view shows it to be a data word of a quiet object. As a
@@ -59,10 +71,11 @@ pub trait Near {
         ensures set { view self.new ≡ after (view self.old) (Event.Put log at word) };
 
     /// The cell of a pointer goes from `old`, the word last found there, to `new`, where it still is `old`; words may be
-    /// forgotten then. Else `Err` with the word that was found, and nothing has changed.
+    /// forgotten then. The words of an object that goes far are known before. Else `Err` with the word that was found, and nothing has changed.
     fn name(&mut self, pointer: u16, old: u64, new: u64) -> Result<(), u64>
         requires seen { old ≡ (view self.old).cell pointer }
         requires legal { Legal (view self.old) (Event.Name pointer old new) }
+        requires known { StoresKnown (view self.old) (read_of old) (read_of new) }
         ensures done { IfOk result (λ _. view self.new ≡ record (after (view self.old) (Event.Name pointer old new)) { word = (view self.new).word }) }
         ensures forgot { IfOk result (λ _. Forgets (view self.old) (view self.new)) }
         ensures other { IfErr result (λ found. found ≢ old) }

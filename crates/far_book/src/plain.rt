@@ -23,6 +23,10 @@ impl Near for Plain {
         self.core.see(pointer)
     }
 
+    fn mark(&mut self, pointer: u16) -> u64 {
+        self.core.mark(pointer)
+    }
+
     fn get(&mut self, log: u8, at: u16, free: bool) -> u64 {
         self.core.get(log, at, free)
     }

@@ -162,7 +162,7 @@ same_by (Some (Far n d k)) (Some (Far len ds m)) body hot moved dropped some =
     let evac : m.evac ≡ k.evac = ap (λ (x : Marks). x.evac) bare in
     λ i. Some (Far (lens i) (dss i) record { hot = hot i; evac = evac i; moved = moved i; dropped = dropped i })
 
-some_dropped : (o : Option PtrWord) → is_dropped o ≡ true → IsSome o
+pub some_dropped : (o : Option PtrWord) → is_dropped o ≡ true → IsSome o
 some_dropped None h = absurd (false≢true h)
 some_dropped (Some v) h = refl
 
@@ -173,8 +173,8 @@ same_word v w (Some u) fv fw ev ew some = sym (read_says w u fw ew).1 ∙ (read_
 pub count_most : (o : Option PtrWord) → count o ≤ 3
 count_most o = omega (arith, bit_most (marks_in o).hot, bit_most (marks_in o).moved, bit_most (marks_in o).dropped)
 
-pub count_more : (v w : ℕ) → v < 2 ^ 64 → w < 2 ^ 64 → is_dropped (read_of v) ≡ true → Finds v w → w ≢ v → count (read_of v) < count (read_of w)
-count_more v w fv fw dropped f other = elim (cases_lt (count (read_of v)) (count (read_of w))) [
+pub count_more : (v w : ℕ) → v < 2 ^ 64 → w < 2 ^ 64 → IsSome (read_of v) → Finds v w → w ≢ v → count (read_of v) < count (read_of w)
+count_more v w fv fw some f other = elim (cases_lt (count (read_of v)) (count (read_of w))) [
   | inl lt ↦ lt
   | inr le ↦ (
       let h = bit_grows (marks_in (read_of v)).hot (marks_in (read_of w)).hot f.hot in
@@ -184,5 +184,5 @@ count_more v w fv fw dropped f other = elim (cases_lt (count (read_of v)) (count
       (bit_same (marks_in (read_of v)).hot (marks_in (read_of w)).hot f.hot (omega arith))
       (bit_same (marks_in (read_of v)).moved (marks_in (read_of w)).moved f.moved (omega arith))
       (bit_same (marks_in (read_of v)).dropped (marks_in (read_of w)).dropped f.dropped (omega arith))
-      (some_dropped (read_of v) dropped)) (some_dropped (read_of v) dropped))))
+      some) some)))
 ]

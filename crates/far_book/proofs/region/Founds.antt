@@ -74,22 +74,16 @@ module _ (v w : ℕ) (f : Finds v w) where
   pub free_known : w ≡ 0 → v ≡ 0
   free_known e = only_zero v (free_body (read_of v) (sym f.body ∙ ap body_of (ap read_of e ∙ unused)))
 
--- ---- the law
-module _ (s : State) (law : Law (own_part s)) (p w : ℕ) (fits : w < 2 ^ 64) (f : Finds (s.cell p) w) where
-  remarked : Remarked (read_of (s.cell p)) (read_of w)
-  remarked = record {
-    same = sym (same_body (read_of w)) ∙ ap cells.body f.body ∙ same_body (read_of (s.cell p));
-    kept = λ alive. false_from_ne_true (cells.is_dropped (read_of (s.cell p))) (λ h. true≢false (sym (drop_found (s.cell p) w f h) ∙ alive));
-  }
+  same_zero : (w == 0) ≡ (v == 0)
+  same_zero = elim (cases_eq v 0) [
+    | inl e ↦ eq-eqb w 0 (free_found e) ∙ sym (eq-eqb v 0 e)
+    | inr ne ↦ ne_eqb w 0 (λ e. ne (free_known e)) ∙ sym (ne_eqb v 0 ne)
+  ]
 
+-- ---- a cell gets a word that names the same place: a ledger that was right stays so, if the law does
+module _ (s : State) (p w : ℕ) (names : (l at : ℕ) → names_place (read_of w) l at ≡ names_place (read_of (s.cell p)) l at) (free : (w == 0) ≡ (s.cell p == 0)) where
   abbrev pub seen : State
   seen = record s { cell = put s.cell p w }
-
-  law_found : Law (own_part seen)
-  law_found = elim (cases_eq (s.cell p) 0) [
-    | inl e ↦ subst (λ (cell : ℕ → ℕ). Law record (own_part s) { cell = cell }) (sym (put_old s.cell p w (e ∙ sym (free_found (s.cell p) w f e)))) law
-    | inr ne ↦ law_with_cell_marks (own_part s) law p w fits remarked ne (λ place h. absurd cc) (λ h. absurd (false≢true h))
-  ]
 
   spans_same : (l : ℕ) → spans_of (own_part seen) l ≡ spans_of (own_part s) l
   unfolding spans_of
@@ -98,17 +92,11 @@ module _ (s : State) (law : Law (own_part s)) (p w : ℕ) (fits : w < 2 ^ 64) (f
   live_same : (l : ℕ) → live_bytes (own_part seen) l ≡ live_bytes (own_part s) l
   live_same l = ap (taken_by (is_live seen l)) (spans_same l) ∙ taken_same (is_live seen l) (is_live s l) (spans_of (own_part s) l) (λ x h.
       put_both (λ c. names_place (read_of c) l x.at ≡ names_place (read_of (s.cell x.p)) l x.at) s.cell p w x.p
-      (λ e. names_found (s.cell p) w f l x.at ∙ ap (λ q. names_place (read_of (s.cell q)) l x.at) (sym e)) (λ _. refl))
+      (λ e. names l x.at ∙ ap (λ q. names_place (read_of (s.cell q)) l x.at) (sym e)) (λ _. refl))
 
-  free_same : (w == 0) ≡ (s.cell p == 0)
-  free_same = elim (cases_eq (s.cell p) 0) [
-    | inl e ↦ eq-eqb w 0 (free_found (s.cell p) w f e) ∙ sym (eq-eqb (s.cell p) 0 e)
-    | inr ne ↦ ne_eqb w 0 (λ e. ne (free_known (s.cell p) w f e)) ∙ sym (ne_eqb (s.cell p) 0 ne)
-  ]
-
-  pub notes_found : (ledger : Ledger) → Notes (own_part s) ledger → Notes (own_part seen) ledger
-  notes_found ledger notes = record {
-    law = law_found;
+  pub notes_seen : (ledger : Ledger) → Law (own_part seen) → Notes (own_part s) ledger → Notes (own_part seen) ledger
+  notes_seen ledger law notes = record {
+    law = law;
     current = notes.current;
     free = notes.free;
     logs = notes.logs;
@@ -118,8 +106,25 @@ module _ (s : State) (law : Law (own_part s)) (p w : ℕ) (fits : w < 2 ^ 64) (f
     once = notes.once;
     room = notes.room;
     cells = notes.cells;
-    cell = λ q lt. notes.cell q lt ∙ put_both (λ c. (s.cell q == 0) ≡ (c == 0)) s.cell p w q (λ e. ap (λ x. s.cell x == 0) e ∙ sym free_same) (λ _. refl);
+    cell = λ q lt. notes.cell q lt ∙ put_both (λ c. (s.cell q == 0) ≡ (c == 0)) s.cell p w q (λ e. ap (λ x. s.cell x == 0) e ∙ sym free) (λ _. refl);
   }
+
+-- ---- a word is found
+module _ (s : State) (law : Law (own_part s)) (p w : ℕ) (fits : w < 2 ^ 64) (f : Finds (s.cell p) w) where
+  remarked : Remarked (read_of (s.cell p)) (read_of w)
+  remarked = record {
+    same = sym (same_body (read_of w)) ∙ ap cells.body f.body ∙ same_body (read_of (s.cell p));
+    kept = λ alive. false_from_ne_true (cells.is_dropped (read_of (s.cell p))) (λ h. true≢false (sym (drop_found (s.cell p) w f h) ∙ alive));
+  }
+
+  law_found : Law (own_part record s { cell = put s.cell p w })
+  law_found = elim (cases_eq (s.cell p) 0) [
+    | inl e ↦ subst (λ (cell : ℕ → ℕ). Law record (own_part s) { cell = cell }) (sym (put_old s.cell p w (e ∙ sym (free_found (s.cell p) w f e)))) law
+    | inr ne ↦ law_with_cell_marks (own_part s) law p w fits remarked ne (λ place h. absurd cc) (λ h. absurd (false≢true h))
+  ]
+
+  pub notes_found : (ledger : Ledger) → Notes (own_part s) ledger → Notes (own_part record s { cell = put s.cell p w }) ledger
+  notes_found ledger notes = notes_seen s p w (names_found (s.cell p) w f) (same_zero (s.cell p) w f) ledger law_found notes
 
 -- ---- a cell is free exactly where it has no home
 free_by : (o n : Option PtrWord) → body_of n ≡ body_of o → IsSome o → home_of n ≡ None → o ≡ Some Free

@@ -27,7 +27,7 @@ near_cell (Some Free) len ds place m e = absurd cc
 near_cell (Some (Near n d at k)) len ds place m e = let lens : n ≡ len = cc in let dss : d ≡ ds = cc in let ats : at ≡ place = cc in (k, cc)
 near_cell (Some (Far n d k)) len ds place m e = absurd cc
 
-far_cell : (o : Option PtrWord) (len ds : ℕ) (m : Marks) → body_of (Some (Far len ds m)) ≡ body_of o → (k : Marks) × (o ≡ Some (Far len ds k))
+pub far_cell : (o : Option PtrWord) (len ds : ℕ) (m : Marks) → body_of (Some (Far len ds m)) ≡ body_of o → (k : Marks) × (o ≡ Some (Far len ds k))
 far_cell None len ds m e = absurd cc
 far_cell (Some Free) len ds m e = absurd cc
 far_cell (Some (Near n d at k)) len ds m e = absurd cc

@@ -1,6 +1,6 @@
--- Owners' events, one or a row of stores, leave a right ledger right.
+-- Owners' events, one or a row of stores, leave a book in order.
 use Rattle.std.proofs.Common.{◌≡◌, ℕ, ◌+◌, ◌^◌, ◌<◌, true, cond, arith, sym, refl, ap, subst, ◌∙◌, List, [], ◌∷◌, map, inl, inr}
-use Rattle.std.specs.Prelude.{◌==◌, slice_index}
+use Rattle.std.specs.Prelude.{◌==◌, Bool, Option, slice_index}
 use Rattle.std.proofs.lemmas.Bool.{cond_both, cases_eq, eq-eqb, ne_eqb, false≢true}
 use Rattle.far_log.specs.Spans.{taken_by}
 use Rattle.far_core.specs.declared.event.Event.{Event}
@@ -15,9 +15,11 @@ use Rattle.far_core.proofs.Bounds.{span_len}
 use Rattle.far_core.proofs.Keeps.{step_keeps}
 use Rattle.far_book.specs.declared.ledger.Ledger.{Ledger}
 use Rattle.far_book.specs.Owners.{OwnersChange}
+use Rattle.far_book.specs.book.FarSide.{InOrder}
 use Rattle.far_book.specs.book.Ledger.{Notes}
 use Rattle.far_book.specs.book.Own.{own_part}
 use Rattle.far_book.proofs.OwnersWork.{step_changes}
+use Rattle.far_book.proofs.region.FarSide.{far_owned}
 use Rattle.far_book.proofs.region.Founds.{names_found, free_found, free_known}
 use Rattle.far_book.proofs.region.Owns.{own_law}
 use Rattle.far_book.proofs.region.SpanLists.{taken_same}
@@ -55,7 +57,7 @@ module _ (s t : State) (law : Law s) (next : Law t) (change : OwnersChange s t) 
     | inr ne ↦ ne_eqb (t.cell p) 0 (λ e. ne (free_known (s.cell p) (t.cell p) (change.cells p) e)) ∙ sym (ne_eqb (s.cell p) 0 ne)
   ]
 
-  pub notes_owned : (ledger : Ledger) → Notes (own_part s) ledger → Notes (own_part t) ledger
+  notes_owned : (ledger : Ledger) → Notes (own_part s) ledger → Notes (own_part t) ledger
   notes_owned ledger notes = subst (λ (u : State). Notes u ledger) (sym own_is) record {
     law = subst Law own_is (own_law t next);
     current = notes.current;
@@ -70,11 +72,19 @@ module _ (s t : State) (law : Law s) (next : Law t) (change : OwnersChange s t) 
     cell = λ p lt. notes.cell p lt ∙ sym (same_free p);
   }
 
+  pub owned : (ledger : Ledger) (held : ℕ → Option (List ℕ)) (is_honest : Bool) → InOrder s ledger held is_honest → InOrder t ledger held is_honest
+  owned ledger held is_honest h = record {
+    notes = notes_owned ledger h.notes;
+    far = far_owned s held h.far t change;
+    honest = λ e. h.honest (ap (λ (u : State). u.honest) (sym change.rest) ∙ e);
+  }
+
 -- a row of stores, legal or not
-module _ (ledger : Ledger) (m p first : ℕ) (words : List ℕ) (wide : (k : ℕ) → slice_index words k < 2 ^ 64) where
-  pub notes_stored : (is : List ℕ) (s : State) → Law s → Notes (own_part s) ledger → Notes (own_part (after_events s (map (λ i. Store m p (first + i) (slice_index words i)) is))) ledger
-  notes_stored [] s law notes = notes
-  notes_stored (i ∷ is) s law notes =
+module _ (ledger : Ledger) (held : ℕ → Option (List ℕ)) (is_honest : Bool) (m p first : ℕ) (words : List ℕ) (wide : (k : ℕ) → slice_index words k < 2 ^ 64) where
+  pub stored : (is : List ℕ) (s : State) → Law s → InOrder s ledger held is_honest →
+      InOrder (after_events s (map (λ i. Store m p (first + i) (slice_index words i)) is)) ledger held is_honest
+  stored [] s law h = h
+  stored (i ∷ is) s law h =
       let e : Event = Store m p (first + i) (slice_index words i) in
       let next : Law (step_of s e).0 = step_keeps s e law (wide i) in
-      notes_stored is (step_of s e).0 next (notes_owned s (step_of s e).0 law next (step_changes s e law refl) ledger notes)
+      stored is (step_of s e).0 next (owned s (step_of s e).0 law next (step_changes s e law refl) ledger held is_honest h)

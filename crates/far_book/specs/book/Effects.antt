@@ -5,7 +5,7 @@ use Rattle.far_word.specs.declared.pointer.PtrWord.TheVariants.{Near}
 use Rattle.far_word.specs.Header.{head_word}
 use Rattle.far_word.specs.Pointer.{word_of}
 use Rattle.far_word.specs.Sizes.{words_for}
-use Rattle.far_core.specs.declared.event.Event.TheVariants.{Name}
+use Rattle.far_core.specs.declared.event.Event.TheVariants.{Name, Mark}
 use Rattle.far_core.specs.events.Naming.{no_marks}
 use Rattle.far_core.specs.events.Ranges.{with_row}
 use Rattle.far_core.specs.events.Step.{after}
@@ -30,6 +30,10 @@ with_free_cell s p = record s { cell = put s.cell p 0 }
 -- the cell of a dropped object is free again, and its span, if it lay near, is dead
 abbrev pub retired : State → ℕ → State
 retired s p = after s (Name p (s.cell p) 0)
+
+-- a near pointer whose place lies in a sealed log has EVAC
+abbrev pub marked : State → ℕ → State
+marked s p = after s (Mark p)
 
 -- the sealed logs, oldest first, once a span was placed: where it opened another log, the one that was open is the youngest
 abbrev pub order_after : State → List ℕ → Place → List ℕ

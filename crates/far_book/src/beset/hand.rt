@@ -11,7 +11,7 @@ use crate::beset::rows::{count, find, forget, found_in, recount};
 use crate::near::Near;
 use crate::plain::shape_of;
 use far_core::Shape;
-use far_word::{PtrWord, words_for};
+use far_word::{Mark, PtrWord, words_for};
 
 impl Near for Beset {
     ghost view = { beset_view };
@@ -22,6 +22,13 @@ impl Near for Beset {
         self.turn();
         let cell = self.core.see(pointer);
         find(&mut self.found, pointer, cell);
+        cell
+    }
+
+    fn mark(&mut self, pointer: u16) -> u64 {
+        self.turn();
+        let cell = self.core.mark(pointer);
+        find(&mut self.found, pointer, cell | Mark::Evac.mask());
         cell
     }
 

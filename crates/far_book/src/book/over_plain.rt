@@ -17,9 +17,10 @@ use crate::book::Book;
 use crate::owners::is_owners;
 use crate::plain::Plain;
 use far_core::{Core, Event, Reply};
+use far_device::Device;
 use far_word::Place;
 
-impl Book<Plain> {
+impl<D: Device + Drop> Book<Plain, D> {
     /// The core, to be read.
     pub fn core(&self) -> &Core
         ensures { result.now ≡ self.now.near.core }
@@ -41,6 +42,7 @@ impl Book<Plain> {
         ensures refused { is_owners event ≡ false → (result ≡ Reply.Refused) × (self.new.near ≡ self.old.near) }
         ensures world { Happens (world_of (core_state self.old.near.core)) event result (world_of (core_state self.new.near.core)) }
         ensures order { self.new.order ≡ self.old.order }
+        ensures device { self.new.device ≡ self.old.device }
     {
         if is_owners(event) {
             self.near.core.step(event)
@@ -58,6 +60,7 @@ impl Book<Plain> {
         ensures held { IfOk result (λ place. answer (core_state self.old.near.core) (Event.Pin owner pointer) ≡ Reply.Held place) }
         ensures word { IfErr result (λ word. answer (core_state self.old.near.core) (Event.Pin owner pointer) ≡ Reply.Word word) }
         ensures order { self.new.order ≡ self.old.order }
+        ensures device { self.new.device ≡ self.old.device }
     {
         self.near.core.pin(owner, pointer)
     }
@@ -84,6 +87,7 @@ impl Book<Plain> {
         ensures state { core_state self.new.near.core ≡ after_events (core_state self.old.near.core) (stores owner pointer first words.now) }
         ensures legal { AllLegal (core_state self.old.near.core) (stores owner pointer first words.now) }
         ensures order { self.new.order ≡ self.old.order }
+        ensures device { self.new.device ≡ self.old.device }
     {
         self.near.core.store_all(owner, pointer, first, words);
     }

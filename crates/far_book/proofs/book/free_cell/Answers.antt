@@ -1,10 +1,11 @@
 use Rattle.far_book.proofs.book.free_cell.Goals as goal
 use Rattle.std.proofs.Common.{◌∙◌, ◌*◌, ◌<◌, ◌^◌, ap, sym, subst, arith}
 use Rattle.far_word.specs.declared.sizes.TheConstants.{CELLS}
+use Rattle.far_word.specs.Pointer.{read_of}
 use Rattle.far_word.proofs.PointerLaws.{word_fits}
 use Rattle.far_core.specs.state.State.{State, put}
 use Rattle.far_book.proofs.Finding.{finds_more}
-use Rattle.far_book.proofs.region.Calls.{after_is, still_dropped, put_put, count_more}
+use Rattle.far_book.proofs.region.Calls.{after_is, still_dropped, put_put, count_more, some_dropped}
 use Rattle.far_book.proofs.region.Founds.{drop_found}
 use Rattle.far_book.proofs.region.Retires.{may_retire}
 
@@ -45,5 +46,5 @@ loop-preserved g c =
       is = c.says-was-in-Err.ensures.is;
       layout = c.says-was-in-Err.ensures.layout;
       word = c.says-was-in-Err.ensures.word;
-      tries = omega (arith, h.tries, count_more c.loop.word c.in-Err.found old_fits new_fits dropped c.in-Err.ensures.found c.in-Err.ensures.other);
+      tries = omega (arith, h.tries, count_more c.loop.word c.in-Err.found old_fits new_fits (some_dropped (read_of c.loop.word) dropped) c.in-Err.ensures.found c.in-Err.ensures.other);
     }

@@ -1,5 +1,5 @@
 use Rattle.far_book.proofs.book.Book.retire.Goals as goal
-use Rattle.std.proofs.Common.{◌≡◌, ◌<◌, ◌*◌, ap, sym, subst, true}
+use Rattle.std.proofs.Common.{◌≡◌, ◌∙◌, ◌<◌, ◌*◌, ap, sym, subst, true}
 use Rattle.far_word.specs.declared.sizes.TheConstants.{CELLS}
 use Rattle.far_word.specs.Pointer.{read_of}
 use Rattle.far_core.specs.events.Naming.{is_dropped}
@@ -7,11 +7,12 @@ use Rattle.far_core.specs.state.State.{State}
 use Rattle.far_book.specs.book.BookOf.{BookOf}
 use Rattle.far_book.specs.book.Ledger.{Notes, MayRetire}
 use Rattle.far_book.specs.book.Own.{own_part}
+use Rattle.far_book.proofs.region.InOrders.{retired_far, retired_honest}
 use Rattle.far_book.proofs.region.Owns.{own_retired}
 
 pub invariant_of-self : goal.invariant_of-self
 invariant_of-self g c =
-    let same = ap (λ (b : BookOf g.row.N.Denot). g.N.Near.view b.near) c.self.view_is in
+    let same = ap (λ (b : BookOf g.row.N.Denot g.row.D.Denot). g.N.Near.view b.near) c.self.view_is in
     let dropped : is_dropped (read_of ((g.N.Near.view c.self.inside.near).cell c.args.pointer)) ≡ true = subst (λ (s : State). is_dropped (read_of (s.cell c.args.pointer)) ≡ true) (sym same) c.requires.dropped in
     let may : MayRetire (own_part (g.N.Near.view c.self.inside.near)) c.args.pointer c.free_cell-was.result = record {
       pointer = subst (λ (s : State). c.args.pointer < CELLS * s.mutators) (sym same) c.requires.pointer;
@@ -19,4 +20,10 @@ invariant_of-self g c =
       is = c.free_cell-was.ensures.was;
     } in
     let own = own_retired (g.N.Near.view c.self.inside.near) (g.N.Near.view c.free_cell-was.new.near) c.args.pointer dropped c.free_cell-was.ensures.kept c.free_cell-was.ensures.forgot in
-    subst (λ (s : State). Notes s c.retire.new.self) (sym own) (c.retire.ensures.notes (own_part (g.N.Near.view c.self.inside.near)) c.self.invariant may)
+    record {
+      notes = subst (λ (s : State). Notes s c.retire.new.self) (sym own) (c.retire.ensures.notes (own_part (g.N.Near.view c.self.inside.near)) c.self.invariant.notes may);
+      far = retired_far (g.N.Near.view c.self.inside.near) (g.N.Near.view c.free_cell-was.new.near) c.args.pointer (g.D.Device.contents c.self.inside.device) (g.D.Device.contents c.forget.new.self)
+          own c.self.invariant.far c.forget.ensures.others;
+      honest = λ h. c.forget.ensures.honest ∙ c.self.invariant.honest (sym (retired_honest (g.N.Near.view c.self.inside.near) (g.N.Near.view c.free_cell-was.new.near) c.args.pointer (g.D.Device.contents c.self.inside.device) (g.D.Device.contents c.forget.new.self)
+          dropped c.free_cell-was.ensures.kept) ∙ h);
+    }

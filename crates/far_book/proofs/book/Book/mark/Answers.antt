@@ -1,0 +1,17 @@
+use Rattle.far_book.proofs.book.Book.mark.Goals as goal
+use Rattle.std.proofs.Common.{sym, subst, ap, arith}
+use Rattle.far_core.specs.declared.event.Event.TheVariants.{Mark}
+use Rattle.far_core.specs.events.Legal.{Legal}
+use Rattle.far_core.specs.state.State.{State}
+use Rattle.far_book.specs.book.BookOf.{BookOf}
+use Rattle.far_book.specs.book.FarSide.{InOrder}
+use Rattle.far_book.proofs.region.Marked.{found_marked}
+
+pub invariant_of-self : goal.invariant_of-self
+invariant_of-self g c =
+    let s = g.N.Near.view c.self.inside.near in
+    let held = g.D.Device.contents c.self.inside.device in
+    let is_honest = g.D.Device.honest c.self.inside.device in
+    let legal = subst (λ (b : BookOf g.row.N.Denot g.row.D.Denot). Legal (g.N.Near.view b.near) (Mark c.args.pointer)) (sym c.self.view_is) c.requires.legal in
+    subst (λ (u : State). InOrder u c.self.inside.ledger held is_honest) (sym c.mark.ensures.kept)
+    (found_marked s c.self.inside.ledger held is_honest c.self.invariant c.args.pointer legal c.mark.result (omega arith) c.mark.ensures.found)

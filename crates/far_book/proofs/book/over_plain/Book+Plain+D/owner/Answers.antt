@@ -1,0 +1,12 @@
+use Rattle.far_book.proofs.book.over_plain.Book+Plain+D.owner.Goals as goal
+use Rattle.std.proofs.Common.{◌∙◌, sym}
+use Rattle.far_core.specs.state.CoreState.{core_state}
+use Rattle.far_book.proofs.OwnersWork.{made_changes}
+use Rattle.far_book.proofs.region.Owned.{owned}
+
+pub invariant_of-self : goal.invariant_of-self
+invariant_of-self g c =
+    let core = c.self.inside.near.core in
+    let device = c.self.inside.device in
+    let change = made_changes (core_state core) (core_state c.step.new.self) c.args.event c.step.result core.law (sym c.is_owners.ensures ∙ c.if-is_owners.true) c.step.ensures.step in
+    owned (core_state core) (core_state c.step.new.self) core.law c.step.ensures.law change c.self.inside.ledger (g.D.Device.contents device) (g.D.Device.honest device) c.self.invariant

@@ -1,0 +1,27 @@
+-- A cell gets a new word while owners add marks to it.
+use Rattle.std.specs.Prelude.{◌≡◌, ℕ, ◌^◌, ◌<◌, false}
+use Rattle.far_word.specs.Pointer.{read_of}
+use Rattle.far_core.specs.declared.event.Event.TheVariants.{Name}
+use Rattle.far_core.specs.events.Legal.{Legal}
+use Rattle.far_core.specs.events.Naming.{is_dropped}
+use Rattle.far_core.specs.events.Step.{after}
+use Rattle.far_core.specs.state.State.{State, put}
+use Rattle.far_book.specs.Finds.{Finds}
+use Rattle.far_book.specs.Known.{Forgets, StoresKnown}
+
+-- the state as it is known once a word was found in a cell
+abbrev pub seen : State → ℕ → ℕ → State
+seen s p word = record s { cell = put s.cell p word }
+
+-- whatever marks its owner has added to the cell, it may get the new word, unless one of them is DROP
+abbrev pub MayRename : State → ℕ → ℕ → Type 0
+MayRename s p new = (word : ℕ) → word < 2 ^ 64 → Finds (s.cell p) word → is_dropped (read_of word) ≡ false →
+    Legal (seen s p word) (Name p word new) × StoresKnown (seen s p word) (read_of word) (read_of new)
+
+-- from s to t the cell has got the new word, in place of one that was found there; words may have been forgotten
+pub record Renamed (s t : State) (p new : ℕ) : Type 0 where
+  pub word : ℕ
+  pub found : Finds (s.cell p) word
+  pub alive : is_dropped (read_of word) ≡ false
+  pub leads : t ≡ record (after (seen s p word) (Name p word new)) { word = t.word }
+  pub forgot : Forgets (seen s p word) t

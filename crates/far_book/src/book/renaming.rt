@@ -1,0 +1,55 @@
+//! How a cell gets a new word while owners add marks to it.
+
+ghost use Rattle.std.specs.Prelude.{◌≡◌, ◌*◌, ◌^◌, ◌<◌, ℕ, true, false, IsSome, IfOk, IfErr};
+ghost use Rattle.far_word.specs.declared.sizes.TheConstants.{CELLS};
+ghost use Rattle.far_word.specs.Pointer.{read_of};
+ghost use Rattle.far_core.specs.declared.event.Event.{Event};
+ghost use Rattle.far_core.specs.events.Naming.{is_dropped};
+ghost use Rattle.far_core.specs.events.Step.{after};
+ghost use Rattle.far_book.specs.Finds.{Finds};
+ghost use Rattle.far_book.specs.book.Renaming.{MayRename, Renamed, seen};
+
+use crate::near::Near;
+use far_word::PtrWord;
+
+/// Gives a cell a new word, by the word that was last found there. `Err` with the word that was found, where its owner has
+/// dropped the object meanwhile.
+pub(crate) fn rename<N: Near>(near: &mut N, pointer: u16, found: u64, new: u64) -> Result<(), u64>
+    requires pointer { pointer < CELLS * (N.view near.old).mutators }
+    requires found { found ≡ (N.view near.old).cell pointer }
+    requires readable { IsSome (read_of found) }
+    requires alive { is_dropped (read_of found) ≡ false }
+    requires may { MayRename (N.view near.old) pointer new }
+    ensures done { IfOk result (λ _. Renamed (N.view near.old) (N.view near.new) pointer new) }
+    ensures set { N.still → IfOk result (λ _. N.view near.new ≡ after (N.view near.old) (Event.Name pointer found new)) }
+    ensures won { N.still → IfErr result (λ _. ⊥) }
+    ensures found { IfErr result (λ word. Finds found word) }
+    ensures dropped { IfErr result (λ word. is_dropped (read_of word) ≡ true) }
+    ensures kept { IfErr result (λ word. N.view near.new ≡ seen (N.view near.old) pointer word) }
+{
+    let mut word = found;
+    for _ in 0..4u8 {
+        match near.name(pointer, word, new) {
+            Ok(()) => return Ok(()),
+            Err(other) => {
+                if is_dropped(other) {
+                    return Err(other);
+                }
+                word = other;
+            }
+        }
+    }
+    // Each try found HOT or MOVE added, and each of them can be added once.
+    unreachable!()
+}
+
+/// Whether a word says that its object was dropped.
+pub(crate) fn is_dropped(word: u64) -> bool
+    ensures value { result ≡ is_dropped (read_of word) }
+    ensures fits { word < 2 ^ 64 }
+{
+    match PtrWord::read(word) {
+        Some(PtrWord::Near { marks, .. } | PtrWord::Far { marks, .. }) => marks.dropped,
+        _ => false,
+    }
+}

@@ -1,0 +1,265 @@
+//! The calls of a hand, over a plain core and over one beside which owners are at work.
+
+ghost use Rattle.std.specs.Prelude.{◌≡◌, ◌≢◌, ◌*◌, ◌<◌, ℕ, IfOk, true, false};
+ghost use Rattle.std.specs.Vec.{vec_len};
+ghost use Rattle.far_word.specs.declared.mark.Marks.{Marks};
+ghost use Rattle.far_word.specs.declared.pointer.Place.{Place};
+ghost use Rattle.far_word.specs.declared.pointer.PtrWord.TheVariants as near;
+ghost use Rattle.far_word.specs.declared.sizes.TheConstants.{CELLS};
+ghost use Rattle.far_word.specs.Pointer.{read_of};
+ghost use Rattle.far_core.specs.state.CoreState.{core_state};
+ghost use Rattle.far_core.specs.state.Opening.{opening};
+ghost use Rattle.far_book.specs.BesetView.{beset_view};
+ghost use Rattle.far_book.specs.Masked.{masked, word_at};
+
+use far_book::{Beset, Near, Plain};
+use far_core::{Core, Event, Kind, Reply, Shape};
+use far_word::{Mark, PtrWord, Refused};
+use std::alloc::Global;
+use std::process::Abort;
+use std::test::Fail;
+
+const SMALL: Shape = Shape {
+    logs: 4,
+    mutators: 1,
+    epoch: 0,
+};
+
+/// The header of pointer 0, an object of 8 bytes of data structure 1, and its cell at the start of log 0: as it is
+/// named, with HOT, with HOT and MOVE, with DROP too.
+const HEADER: u64 = 0xa100_0000_0001_0008;
+
+const NEAR: u64 = 0x8400_0000_0001_0008;
+
+const HOT: u64 = 0xc400_0000_0001_0008;
+
+const MOVED: u64 = 0xd400_0000_0001_0008;
+
+const DROPPED: u64 = 0xdc00_0000_0001_0008;
+
+/// Pointer 0 gets the first two words of log 0.
+fn place_first<N: Near>(near: &mut N) -> Result<(), u64>
+    requires log { ((N.view near.old).kind 0 ≡ Kind.Open) × ((N.view near.old).tail 0 ≡ 0) × (0 < (N.view near.old).logs) }
+    requires cell { ((N.view near.old).cell 0 ≡ 0) × (0 < CELLS * (N.view near.old).mutators) }
+    ensures shape { IfOk result (λ _. (0 < CELLS * (N.view near.new).mutators) × (0 < (N.view near.new).logs)) }
+{
+    near.put(0, 0, HEADER);
+    near.put(0, 1, 0);
+    near.name(0, 0, NEAR)
+}
+
+/// The cell of pointer 0 is free again, if it is seen to be dropped.
+fn retire_first<N: Near>(near: &mut N) -> Option<Result<(), u64>>
+    requires { 0 < CELLS * (N.view near.old).mutators }
+{
+    let cell = near.see(0);
+    match PtrWord::read(cell) {
+        Some(PtrWord::Near { marks, .. }) if marks.dropped => Some(near.name(0, cell, 0)),
+        _ => None,
+    }
+}
+
+/// A plain hand on a core at the start.
+fn plain_hand(alloc: Global) -> Result<Plain, Refused>
+    ensures { IfOk result (λ hand. core_state hand.core ≡ opening SMALL true) }
+{
+    let core = Core::new(alloc, SMALL, true)?;
+    Ok(Plain { core })
+}
+
+/// A hand on a core at the start, whose owners make these events.
+fn beset_hand(alloc: Global, events: Vec<Event>) -> Result<Beset, Refused>
+    ensures { IfOk result (λ hand. beset_view hand ≡ masked (opening SMALL true) (λ _. 0) (λ _. false)) }
+{
+    let core = Core::new(alloc, SMALL, true)?;
+    Beset::new(alloc, core, events)
+}
+
+fn ask(mark: Mark) -> Event {
+    Event::Ask {
+        owner: 0,
+        pointer: 0,
+        mark,
+    }
+}
+
+#[test]
+fn plain_words_stay(rt: HostRuntime) -> Result<(), Fail> {
+    let mut hand = plain_hand(rt.alloc())?;
+    let named = place_first(&mut hand);
+    assert_eq!(rt; named, Ok(()));
+    assert_eq!(rt; hand.shape(), SMALL);
+    assert_eq!(rt; hand.core.cell(0), NEAR);
+    assert!(rt; hand.core.mutators() == 1 && hand.core.logs() == 4);
+    assert_eq!(rt; hand.see(0), NEAR);
+    assert_eq!(rt; hand.get(0, 0, false), HEADER);
+    assert_eq!(rt; hand.get(0, 1, false), 0);
+    let adopt = Event::Adopt {
+        owner: 0,
+        pointer: 0,
+    };
+    assert_eq!(rt; hand.core.step(adopt), Reply::Word(NEAR));
+    assert_eq!(rt; hand.core.step(ask(Mark::Dropped)), Reply::Word(NEAR));
+    assert!(rt; hand.core.mutators() == 1);
+    assert_eq!(rt; retire_first(&mut hand), Some(Ok(())));
+    assert_eq!(rt; hand.core.cell(0), 0);
+    Ok(())
+}
+
+/// Which of the first two words of log 0 are counted on, beside headers.
+fn counted(hand: &Beset) -> (Option<bool>, Option<bool>) {
+    (hand.counted.get(0).copied(), hand.counted.get(1).copied())
+}
+
+fn see_first(rt: &impl Abort, hand: &mut Beset) -> u64 {
+    assert!(rt; hand.core.mutators() == 1);
+    hand.see(0)
+}
+
+fn get_second(rt: &impl Abort, hand: &mut Beset) -> u64 {
+    assert!(rt; hand.core.logs() == 4);
+    hand.get(0, 1, false)
+}
+
+#[test]
+fn owners_are_at_work(rt: HostRuntime) -> Result<(), Fail> {
+    let (owner, pointer, index) = (0, 0, 0);
+    let store = |word: u64| Event::Store {
+        owner,
+        pointer,
+        index,
+        word,
+    };
+    let events = vec![in rt.alloc();
+        Event::ReadEpoch { owner },
+        Event::Open { owner },
+        // The cell is free, so this isn't legal.
+        Event::Adopt { owner, pointer },
+        Event::Adopt { owner, pointer },
+        Event::Pin { owner, pointer },
+        store(7),
+        store(8),
+        // The book's events are passed over.
+        Event::See { pointer },
+        Event::Close { owner },
+        ask(Mark::Moved),
+        ask(Mark::Dropped),
+    ]?;
+    let mut hand = beset_hand(rt.alloc(), events)?;
+    let named = place_first(&mut hand);
+    assert_eq!(rt;
+        (named, counted(&hand)),
+        (Ok(()), (Some(false), Some(false)))
+    );
+    assert_eq!(rt; see_first(&rt, &mut hand), NEAR);
+    assert_eq!(rt; see_first(&rt, &mut hand), HOT);
+    // Its owner stores into the object, so what is read isn't counted on.
+    assert_eq!(rt; get_second(&rt, &mut hand), 7);
+    assert_eq!(rt; get_second(&rt, &mut hand), 8);
+    assert_eq!(rt; counted(&hand), (Some(false), Some(false)));
+    assert_eq!(rt; see_first(&rt, &mut hand), HOT);
+    assert_eq!(rt; see_first(&rt, &mut hand), HOT);
+    assert_eq!(rt; see_first(&rt, &mut hand), MOVED);
+    // It has MOVE, so it is quiet.
+    assert_eq!(rt; get_second(&rt, &mut hand), 8);
+    assert_eq!(rt; counted(&hand), (Some(false), Some(true)));
+    assert_eq!(rt; (hand.core.cell(0), hand.shape()), (DROPPED, SMALL));
+    assert!(rt; hand.core.mutators() == 1);
+    assert_eq!(rt; retire_first(&mut hand), Some(Ok(())));
+    assert_eq!(rt;
+        (hand.core.cell(0), counted(&hand)),
+        (0, (Some(false), Some(false)))
+    );
+    Ok(())
+}
+
+/// Pointer 0 is dropped, and its object fills log 0, which is sealed.
+fn dropped_core(rt: &impl Abort, alloc: Global) -> Result<Core, Refused> {
+    let mut core = Core::new(alloc, SMALL, true)?;
+    let put = |log: u8, word: u64| Event::Put { log, at: 0, word };
+    let name = |pointer: u16, new: u64| Event::Name {
+        pointer,
+        old: 0,
+        new,
+    };
+    let events = [
+        put(0, 0xa100_0000_0001_03f8),
+        name(0, 0x8400_0000_0001_03f8),
+        put(1, 0xa100_0000_0101_0008),
+        name(1, 0x8400_0004_0001_0008),
+        Event::Adopt {
+            owner: 0,
+            pointer: 0,
+        },
+        ask(Mark::Dropped),
+    ];
+    for event in events {
+        let reply = core.step(event);
+        assert!(rt; reply != Reply::Refused, "at {event:?}");
+    }
+    Ok(core)
+}
+
+/// Whether a cell names a place in a log.
+fn lies_in(cell: u64, log: u8) -> bool
+    ensures { result ≡ false → (len ds : ℕ) (place : Place) (marks : Marks) → read_of cell ≡ Some (near.Near len ds place marks) → place.log ≢ log }
+{
+    match PtrWord::read(cell) {
+        Some(PtrWord::Near { place, .. }) => place.log == log,
+        _ => false,
+    }
+}
+
+/// The word last found in a pointer's cell.
+fn found_in(found: &Vec<u64>, pointer: usize) -> u64
+    requires { pointer < vec_len found.now }
+    ensures { result ≡ word_at found.now.items pointer }
+{
+    found[pointer]
+}
+
+/// Whether no cell names a place in a log.
+fn is_vacant(found: &Vec<u64>, log: u8) -> bool
+    ensures { result ≡ true → (p len ds : ℕ) (place : Place) (marks : Marks) → read_of (word_at found.now.items p) ≡ Some (near.Near len ds place marks) → place.log ≢ log }
+{
+    for pointer in 0..found.len() {
+        if lies_in(found_in(found, pointer), log) {
+            return false;
+        }
+    }
+    true
+}
+
+fn assert_vacant(rt: &impl Abort, found: &Vec<u64>, log: u8)
+    ensures { (p len ds : ℕ) (place : Place) (marks : Marks) → read_of (word_at found.now.items p) ≡ Some (near.Near len ds place marks) → place.log ≢ log }
+{
+    let vacant = is_vacant(found, log);
+    assert!(rt; vacant);
+}
+
+#[test]
+fn beset_log_is_given_back(rt: HostRuntime) -> Result<(), Fail> {
+    let core = dropped_core(&rt, rt.alloc())?;
+    let events = vec![in rt.alloc();
+        Event::ReadEpoch { owner: 0 },
+        Event::Open { owner: 0 },
+        Event::Adopt {
+            owner: 0,
+            pointer: 1,
+        },
+        Event::Pin {
+            owner: 0,
+            pointer: 1,
+        },
+    ]?;
+    let mut hand = Beset::new(rt.alloc(), core, events)?;
+    assert!(rt; hand.core.mutators() == 1);
+    assert_eq!(rt; retire_first(&mut hand), Some(Ok(())));
+    assert_vacant(&rt, &hand.found, 0);
+    assert!(rt; hand.core.logs() == 4);
+    assert!(rt; hand.core.kind(0) == Kind::Sealed);
+    assert_eq!(rt; hand.get(0, 0, true), 0xa100_0000_0001_03f8);
+    assert!(rt; hand.core.logs() == 4);
+    assert_eq!(rt; (hand.core.kind(0), hand.core.tail(0)), (Kind::Free, 0));
+    Ok(())
+}
