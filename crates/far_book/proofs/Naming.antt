@@ -1,9 +1,10 @@
 -- What a beset hand knows after it has named a word, and why what is legal by its view is legal.
-use Rattle.std.proofs.Common.{◌≡◌, ◌≢◌, ℕ, ◌+◌, ◌-◌, ◌*◌, ◌^◌, ◌<◌, ◌≤◌, Bool, true, false, cond, Some, refl, sym, ap, ◌∙◌, subst, arith}
+use Rattle.std.proofs.Common.{◌≡◌, ◌≢◌, ℕ, ◌+◌, ◌-◌, ◌*◌, ◌^◌, ◌<◌, ◌≤◌, Bool, true, false, cond, nat_lt, Some, refl, sym, ap, ◌∙◌, subst, arith}
 use Rattle.std.specs.Prelude.{◌||◌, ◌==◌}
-use Rattle.std.proofs.lemmas.Bool.{cond_both, eqb-true, eqb-false, eq-eqb, ne_eqb}
+use Rattle.std.proofs.lemmas.Bool.{cond_both, eqb-true, eqb-false, eq-eqb, ne_eqb, ltb-true}
+use mathlib.Core.Path.{fun_ext}
 use Rattle.far_word.specs.declared.pointer.Place.{Place}
-use Rattle.far_word.specs.declared.pointer.PtrWord.TheVariants.{Near}
+use Rattle.far_word.specs.declared.pointer.PtrWord.TheVariants.{Near, Far}
 use Rattle.far_word.specs.declared.sizes.TheConstants.{CELLS}
 use Rattle.far_word.specs.Header.{head_word}
 use Rattle.far_word.specs.Pointer.{read_of}
@@ -14,10 +15,11 @@ use Rattle.far_core.specs.declared.event.Event.TheVariants.{Name}
 use Rattle.far_core.specs.declared.event.Reply.{Reply}
 use Rattle.far_core.specs.declared.event.Reply.TheVariants.{Done, Word}
 use Rattle.far_core.specs.declared.naming.Naming.{Naming}
-use Rattle.far_core.specs.declared.naming.Naming.TheVariants.{Places, Retires, Moves, Fetches}
+use Rattle.far_core.specs.declared.naming.Naming.TheVariants.{Places, Retires, Evicts, Stays, Moves, Fetches}
 use Rattle.far_core.specs.events.Copies.{data_at, EndsPadded}
 use Rattle.far_core.specs.events.Legal.{Legal}
 use Rattle.far_core.specs.events.Name.{after_naming}
+use Rattle.far_core.specs.events.namings.Evicts.{with_kept}
 use Rattle.far_core.specs.events.Naming.{naming_of, IsNaming, naming_row, no_marks}
 use Rattle.far_core.specs.events.NewSpans.{IsNewSpan}
 use Rattle.far_core.specs.events.Step.{after, answer}
@@ -26,7 +28,7 @@ use Rattle.far_core.specs.state.State.{State, addr, put}
 use Rattle.far_core.proofs.KeepPlace.{header}
 use Rattle.far_core.proofs.Namings.{naming_only}
 use Rattle.far_core.proofs.Put.{put_both}
-use Rattle.far_book.specs.Known.{IsKnown, Forgets}
+use Rattle.far_book.specs.Known.{IsKnown, Forgets, StoresKnown}
 use Rattle.far_book.specs.Masked.{masked, AllFind}
 use Rattle.far_book.proofs.Knowing.{alike_words, quiet_too, stored_too, stored_fits, few_bits}
 use Rattle.far_book.proofs.Reading.{known_word, header_known, forgets}
@@ -84,6 +86,8 @@ module _ (s : State) (law : Law s) (found : ℕ → ℕ) (counted : ℕ → Bool
   row_legal : (form : Naming) → IsNaming form (read_of old) (read_of new) → (naming_row o p new form).Legal → (naming_row s p new form).Legal
   row_legal (Places len ds place) n h = (new_span len ds place n.1 h.0, λ i lt. word_is (addr place + 1 + i) 0 (omega arith) (h.1 i lt))
   row_legal Retires n h = tt
+  row_legal (Evicts len place) n h = quiet_too s found counted p (finds p) h
+  row_legal Stays n h = tt
   row_legal (Moves len ds from to) n h = record {
     span = new_span len ds to n.1 h.span;
     padded = padded len to (some_bytes len ds to n.1) h.padded;
@@ -115,33 +119,53 @@ module _ (s : State) (law : Law s) (found : ℕ → ℕ) (counted : ℕ → Bool
       (a : ℕ) → (naming_row s p new form).after.starts a ≡ true → s.word a ≡ o.word a
   headers_same (Places len ds place) n h a = span_headers len ds place n.1 h.0.head a
   headers_same Retires n h a = λ st. sym (header_known s.word s.starts counted a st)
+  headers_same (Evicts len place) n h a = λ st. sym (header_known s.word s.starts counted a st)
+  headers_same Stays n h a = λ st. sym (header_known s.word s.starts counted a st)
   headers_same (Moves len ds from to) n h a = span_headers len ds to n.1 h.span.head a
   headers_same (Fetches len ds place) n h a = span_headers len ds place n.1 h.span.head a
 
   abbrev v : Naming → State
   v form = masked (naming_row s p new form).after (put found p new) (λ _. false)
 
-  row_done : (form : Naming) → v form ≡ record (naming_row o p new form).after { word = (v form).word }
-  row_done (Places len ds place) = refl
-  row_done Retires = refl
-  row_done (Moves len ds from to) = refl
-  row_done (Fetches len ds place) = refl
+  -- what an eviction stores is what the view shows
+  kept_same : (len : ℕ) (place : Place) → ((i : ℕ) → i < words_for len → IsKnown (o.word (addr place + 1 + i))) →
+      with_kept s.word s.stored p (addr place + 1) (words_for len) ≡ with_kept o.word s.stored p (addr place + 1) (words_for len)
+  kept_same len place known = fun_ext (λ i. cond_both (nat_lt i (words_for len)) _ _
+      (λ w. cond (nat_lt i (words_for len)) (s.word (addr place + 1 + i)) (s.stored p i) ≡ w)
+      (λ t. ap (λ b. cond b (s.word (addr place + 1 + i)) (s.stored p i)) t ∙ sym (known_word (s.starts (addr place + 1 + i) || counted (addr place + 1 + i)) (s.word (addr place + 1 + i)) (addr place + 1 + i) (known i (ltb-true i (words_for len) t))))
+      (λ f. ap (λ b. cond b (s.word (addr place + 1 + i)) (s.stored p i)) f))
+
+  row_done : (form : Naming) → IsNaming form (read_of old) (read_of new) → StoresKnown o (read_of old) (read_of new) → v form ≡ record (naming_row o p new form).after { word = (v form).word }
+  row_done (Places len ds place) n known = refl
+  row_done Retires n known = refl
+  row_done (Evicts len place) n known =
+      let words = subst (λ a. StoresKnown o a (Some (Far len n.0 no_marks))) n.2 (subst (λ b. StoresKnown o (read_of old) b) n.5 known) in
+      ap (λ r. record (v (Evicts len place)) { stored = put s.stored p r }) (kept_same len place words)
+  row_done Stays n known = refl
+  row_done (Moves len ds from to) n known = refl
+  row_done (Fetches len ds place) n known = refl
 
   row_word : (form : Naming) → (naming_row s p new form).after.word ≡ s.word
   row_word (Places len ds place) = refl
   row_word Retires = refl
+  row_word (Evicts len place) = refl
+  row_word Stays = refl
   row_word (Moves len ds from to) = refl
   row_word (Fetches len ds place) = refl
 
   row_cell : (form : Naming) → (naming_row s p new form).after.cell ≡ put s.cell p new
   row_cell (Places len ds place) = refl
   row_cell Retires = refl
+  row_cell (Evicts len place) = refl
+  row_cell Stays = refl
   row_cell (Moves len ds from to) = refl
   row_cell (Fetches len ds place) = refl
 
   row_sizes : (form : Naming) → ((naming_row s p new form).after.mutators ≡ s.mutators) × ((naming_row s p new form).after.logs ≡ s.logs)
   row_sizes (Places len ds place) = (refl, refl)
   row_sizes Retires = (refl, refl)
+  row_sizes (Evicts len place) = (refl, refl)
+  row_sizes Stays = (refl, refl)
   row_sizes (Moves len ds from to) = (refl, refl)
   row_sizes (Fetches len ds place) = (refl, refl)
 
@@ -150,14 +174,14 @@ module _ (s : State) (law : Law s) (found : ℕ → ℕ) (counted : ℕ → Bool
       (λ a st. ap (λ f. f a) (row_word form) ∙ headers_same form n h a st)
 
   module _ (legal : Legal o (Name p old new)) (seen : old ≡ found p) (won_it : s.cell p ≡ old) where
-    pub names : Names o (masked (after s (Name p old new)) (put found p new) (λ _. false)) p old new
-    names =
+    pub names : StoresKnown o (read_of old) (read_of new) → Names o (masked (after s (Name p old new)) (put found p new) (λ _. false)) p old new
+    names known =
         let form = legal.1.0 in
         let mine : after s (Name p old new) ≡ (naming_row s p new form).after = won_state s p old new form won_it legal.1.1 in
         let its : after o (Name p old new) ≡ (naming_row o p new form).after = won_state o p old new form (sym seen) legal.1.1 in
         let same : masked (after s (Name p old new)) (put found p new) (λ _. false) ≡ v form = ap (λ (u : State). masked u (put found p new) (λ _. false)) mine in
         subst (λ x. Names o x p old new) (sym same) (record {
-          done = row_done form ∙ ap (λ (u : State). record u { word = (v form).word }) (sym its);
+          done = row_done form legal.1.1 known ∙ ap (λ (u : State). record u { word = (v form).word }) (sym its);
           forgot = row_forgets form legal.1.1 legal.1.2;
         })
 

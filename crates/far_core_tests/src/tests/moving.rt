@@ -18,6 +18,9 @@ const AT_START: u64 = 0x8400_0004_0001_0009;
 
 const FAR: u64 = 0x0400_0000_0001_0009;
 
+/// And at the tail of log 2.
+const BACK: u64 = 0x8400_0008_0201_0009;
+
 const HEADER: u64 = 0xa100_0000_0101_0009;
 
 const FIRST: u64 = 0x0807_0605_0403_0201;
@@ -229,6 +232,90 @@ fn what_is_not_far_is_not_fetched(rt: HostRuntime) -> Result<(), Fail> {
             put(0, 8, 0x100),
             (name(1, FAR, AT_TAIL), Reply::Refused),
         ],
+    );
+    Ok(())
+}
+
+/// The same core with log 2 open, its tail 2, and pointer 1's object far.
+fn away(rt: &impl Abort, alloc: Global, honest: bool) -> Result<Core, Refused> {
+    let mut core = written(rt, alloc, honest)?;
+    answers(
+        rt,
+        &mut core,
+        &[
+            put(2, 0, 0xa100_0000_0201_0008),
+            named(2, 0x8400_0008_0001_0008),
+            (Event::Mark { pointer: 1 }, Reply::Word(VIEWED)),
+            (ask(1, Mark::Moved), Reply::Word(0xe400_0000_0301_0009)),
+            (name(1, 0xf400_0000_0301_0009, FAR), Reply::Done),
+            (Event::See { pointer: 1 }, Reply::Word(FAR)),
+        ],
+    );
+    Ok(core)
+}
+
+#[test]
+fn an_object_goes_away_and_comes_back(rt: HostRuntime) -> Result<(), Fail> {
+    let mut core = away(&rt, rt.alloc(), true)?;
+    answers(
+        &rt,
+        &mut core,
+        &[
+            put(2, 2, HEADER),
+            put(2, 3, FIRST),
+            put(2, 4, 9),
+            (name(1, FAR, BACK), Reply::Done),
+            (name(1, FAR, BACK), Reply::Refused),
+        ],
+    );
+    assert_eq!(rt; log_shown(&rt, &core, 2), (Kind::Open, 5));
+    stands_at(&rt, &mut core, 2, 2);
+    Ok(())
+}
+
+#[test]
+fn other_words_than_those_stored_refuse(rt: HostRuntime) -> Result<(), Fail> {
+    let mut core = away(&rt, rt.alloc(), true)?;
+    answers(
+        &rt,
+        &mut core,
+        &[
+            put(2, 2, HEADER),
+            put(2, 3, FIRST),
+            put(2, 4, 8),
+            (name(1, FAR, BACK), Reply::Refused),
+            put(2, 3, 0),
+            put(2, 4, 9),
+            (name(1, FAR, BACK), Reply::Refused),
+            put(2, 3, FIRST),
+            (name(1, FAR | 1 << 59, BACK), Reply::Refused),
+            (name(1, FAR | 1 << 62, BACK), Reply::Word(FAR)),
+            (name(1, FAR, BACK), Reply::Done),
+        ],
+    );
+    Ok(())
+}
+
+#[test]
+fn a_lying_far_side_gives_any_words(rt: HostRuntime) -> Result<(), Fail> {
+    let mut core = away(&rt, rt.alloc(), false)?;
+    answers(
+        &rt,
+        &mut core,
+        &[
+            put(2, 2, HEADER),
+            put(2, 3, u64::MAX),
+            put(2, 4, 0x100),
+            (name(1, FAR, BACK), Reply::Refused),
+            put(2, 4, 0xff),
+            (name(1, FAR, BACK), Reply::Done),
+        ],
+    );
+    answers(&rt, &mut core, &opened());
+    answers(
+        &rt,
+        &mut core,
+        &[pinned(1, 2, 2), loaded(1, 0, u64::MAX), loaded(1, 1, 0xff)],
     );
     Ok(())
 }

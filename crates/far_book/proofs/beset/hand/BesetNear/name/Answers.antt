@@ -7,6 +7,8 @@ use Rattle.far_core.specs.state.CoreState.{core_state}
 use Rattle.far_core.specs.state.State.{State, put}
 use Rattle.far_book.specs.BesetView.{beset_view}
 use Rattle.far_book.specs.Finds.{Finds}
+use Rattle.far_word.specs.Pointer.{read_of}
+use Rattle.far_book.specs.Known.{StoresKnown}
 use Rattle.far_book.specs.Masked.{masked, word_at, is_counted, AllFind, CountsOnQuiet}
 use Rattle.far_book.proofs.Counting.{counts_found, counts_none, finds_named, finds_put}
 use Rattle.far_book.proofs.Finding.{finds_seen}
@@ -76,7 +78,8 @@ returns-in-Ok-clause-forgot c =
     let new = c.args.new in
     let legal : Legal (beset_view hand) (Name p old new) = subst (λ (u : State). Legal u (Name p old new)) (sym c.turn.ensures.view) c.requires.legal in
     let seen : old ≡ found p = c.requires.seen ∙ ap (λ (u : State). u.cell p) (sym c.turn.ensures.view) in
-    let tells = names s hand.core.law found counted hand.finds p old new legal.0 c.ranges.new.fits legal seen (won s p old new c.in-Ok.ensures.won) in
+    let known : StoresKnown (beset_view hand) (read_of old) (read_of new) = subst (λ (u : State). StoresKnown u (read_of old) (read_of new)) (sym c.turn.ensures.view) c.requires.known in
+    let tells = names s hand.core.law found counted hand.finds p old new legal.0 c.ranges.new.fits legal seen (won s p old new c.in-Ok.ensures.won) known in
     let view : masked (core_state c.name.new.self) (word_at c.find.new.found.items) (is_counted c.forget.new.counted.items) ≡ masked (after s (Name p old new)) (put found p new) (λ _. false) =
     ap (λ (u : State). masked u (word_at c.find.new.found.items) (is_counted c.forget.new.counted.items)) c.name.ensures.state
     ∙ (ap (λ (f : ℕ → ℕ). masked (after s (Name p old new)) f (is_counted c.forget.new.counted.items)) c.find.ensures.words
