@@ -1,9 +1,11 @@
 -- Which words of the logs a hand knows. What it doesn't know stands in its view as a number that no word is.
-use Rattle.std.specs.Prelude.{◌≡◌, ◌+◌, ◌-◌, ◌*◌, ◌^◌, ◌<◌, ℕ, true, Option, Some, None}
-use Rattle.far_word.specs.declared.pointer.PtrWord.{PtrWord}
-use Rattle.far_word.specs.declared.pointer.PtrWord.TheVariants.{Free, Near, Far}
+use Rattle.std.specs.Prelude.{◌≡◌, ◌+◌, ◌-◌, ◌*◌, ◌^◌, ◌<◌, ℕ, true}
 use Rattle.far_word.specs.Sizes.{words_for}
 use Rattle.far_log.specs.Spans.{head_len}
+use Rattle.far_word.specs.Pointer.{read_of}
+use Rattle.far_word.specs.declared.pointer.Place.{Place}
+use Rattle.far_core.specs.declared.naming.Naming.TheVariants.{Evicts}
+use Rattle.far_core.specs.events.Naming.{IsNaming}
 use Rattle.far_core.specs.state.State.{State, addr}
 
 -- what stands in a view at an address of which nothing is known: no word, and another number at each address, so that two
@@ -25,12 +27,6 @@ abbrev pub IsPaddedAt : State → ℕ → ℕ → Type 0
 IsPaddedAt s a word = (b i : ℕ) → s.starts b ≡ true → i < words_for (head_len (s.word b)) → a ≡ b + 1 + i →
     word < 2 ^ (8 * (head_len (s.word b) - 8 * i))
 
--- where a naming stores the words of a near object, as it goes far, each of them is known
-abbrev pub StoresKnown : State → Option PtrWord → Option PtrWord → Type 0
-StoresKnown s old None = Unit {0}
-StoresKnown s old (Some Free) = Unit {0}
-StoresKnown s old (Some (Near n d at k)) = Unit {0}
-StoresKnown s None (Some (Far n d k)) = Unit {0}
-StoresKnown s (Some Free) (Some (Far n d k)) = Unit {0}
-StoresKnown s (Some (Near len ds place marks)) (Some (Far n d k)) = (i : ℕ) → i < words_for len → IsKnown (s.word (addr place + 1 + i))
-StoresKnown s (Some (Far len ds marks)) (Some (Far n d k)) = Unit {0}
+-- the data words of an object that a naming sends far are known
+abbrev pub KnowsLeaving : State → ℕ → ℕ → Type 0
+KnowsLeaving s old new = (len : ℕ) (place : Place) → IsNaming (Evicts len place) (read_of old) (read_of new) → (i : ℕ) → i < words_for len → IsKnown (s.word (addr place + 1 + i))

@@ -4,13 +4,12 @@ ghost use Rattle.std.specs.Prelude.{◌≡◌, ◌≢◌, ◌+◌, ◌*◌, ◌^
 ghost use Rattle.far_word.specs.declared.mark.Mark.TheVariants.{Evac};
 ghost use Rattle.far_word.specs.declared.sizes.TheConstants.{LOG_WORDS};
 ghost use Rattle.far_word.specs.Mark.{position};
-ghost use Rattle.far_word.specs.Pointer.{read_of};
 ghost use Rattle.far_core.specs.events.Legal.{Legal};
 ghost use Rattle.far_core.specs.events.Step.{after};
 ghost use Rattle.far_core.specs.state.Shape.{is_shape};
 ghost use Rattle.far_core.specs.state.State.{State, put};
 ghost use Rattle.far_book.specs.Finds.{Finds};
-ghost use Rattle.far_book.specs.Known.{IsKnown, Forgets, IsPaddedAt, StoresKnown};
+ghost use Rattle.far_book.specs.Known.{IsKnown, Forgets, IsPaddedAt, KnowsLeaving};
 ghost use Rattle.far_book.specs.Quiet.{IsQuietAt};
 ghost use Rattle.far_book.specs.ShapeOf.{shape_of};
 
@@ -71,11 +70,12 @@ pub trait Near {
         ensures set { view self.new ≡ after (view self.old) (Event.Put log at word) };
 
     /// The cell of a pointer goes from `old`, the word last found there, to `new`, where it still is `old`; words may be
-    /// forgotten then. The words of an object that goes far are known before. Else `Err` with the word that was found, and nothing has changed.
+    /// forgotten then. Else `Err` with the word that was found, and nothing has changed. Of an object that goes far all data
+    /// words are known before.
     fn name(&mut self, pointer: u16, old: u64, new: u64) -> Result<(), u64>
         requires seen { old ≡ (view self.old).cell pointer }
         requires legal { Legal (view self.old) (Event.Name pointer old new) }
-        requires known { StoresKnown (view self.old) (read_of old) (read_of new) }
+        requires known { KnowsLeaving (view self.old) old new }
         ensures done { IfOk result (λ _. view self.new ≡ record (after (view self.old) (Event.Name pointer old new)) { word = (view self.new).word }) }
         ensures forgot { IfOk result (λ _. Forgets (view self.old) (view self.new)) }
         ensures other { IfErr result (λ found. found ≢ old) }

@@ -7,7 +7,7 @@ use Rattle.far_core.specs.events.Naming.{is_dropped}
 use Rattle.far_core.specs.events.Step.{after}
 use Rattle.far_core.specs.state.State.{State, put}
 use Rattle.far_book.specs.Finds.{Finds}
-use Rattle.far_book.specs.Known.{Forgets, StoresKnown}
+use Rattle.far_book.specs.Known.{Forgets, KnowsLeaving}
 
 -- the state as it is known once a word was found in a cell
 abbrev pub seen : State → ℕ → ℕ → State
@@ -16,7 +16,7 @@ seen s p word = record s { cell = put s.cell p word }
 -- whatever marks its owner has added to the cell, it may get the new word, unless one of them is DROP
 abbrev pub MayRename : State → ℕ → ℕ → Type 0
 MayRename s p new = (word : ℕ) → word < 2 ^ 64 → Finds (s.cell p) word → is_dropped (read_of word) ≡ false →
-    Legal (seen s p word) (Name p word new) × StoresKnown (seen s p word) (read_of word) (read_of new)
+    Legal (seen s p word) (Name p word new) × KnowsLeaving (seen s p word) word new
 
 -- from s to t the cell has got the new word, in place of one that was found there; words may have been forgotten
 pub record Renamed (s t : State) (p new : ℕ) : Type 0 where
