@@ -4,6 +4,7 @@ mod calls;
 mod dropping;
 mod filling;
 mod freeing;
+mod leaving;
 mod page;
 mod ranges;
 mod reading;

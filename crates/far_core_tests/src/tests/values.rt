@@ -46,6 +46,10 @@ fn mark(pointer: u16) -> Event {
     Event::Mark { pointer }
 }
 
+fn clear(pointer: u16) -> Event {
+    Event::Clear { pointer }
+}
+
 fn ask(owner: u8, pointer: u16, mark: Mark) -> Event {
     Event::Ask {
         owner,
@@ -60,7 +64,7 @@ fn get(log: u8, at: u16, free: bool) -> Event {
 
 /// A row an event: zeros, and each field changed.
 #[rattlefmt::skip]
-fn events() -> [Event; 42] {
+fn events() -> [Event; 44] {
     [
         read_epoch(0), read_epoch(1),
         open(0), open(1),
@@ -73,6 +77,7 @@ fn events() -> [Event; 42] {
         name(0, 0, 0), name(1, 0, 0), name(0, 1, 0), name(0, 0, 1),
         see(0), see(1),
         mark(0), mark(1),
+        clear(0), clear(1),
         ask(0, 0, Mark::Moved), ask(1, 0, Mark::Moved), ask(0, 1, Mark::Moved), ask(0, 0, Mark::Dropped),
         get(0, 0, false), get(1, 0, false), get(0, 1, false), get(0, 0, true),
         Event::Name { pointer: 0, old: 1, new: 1 },
@@ -113,10 +118,19 @@ fn namings_differ(rt: HostRuntime) -> Result<(), Fail> {
         ds,
         place: Place { log, at },
     };
+    let evicts = |len, log, at| Naming::Evicts {
+        len,
+        place: Place { log, at },
+    };
     all_differ(
         &rt,
         &[
             Naming::Retires,
+            Naming::Stays,
+            evicts(8, 0, 0),
+            evicts(9, 0, 0),
+            evicts(8, 1, 0),
+            evicts(8, 0, 1),
             places(8, 1, 0, 0),
             places(9, 1, 0, 0),
             places(8, 2, 0, 0),
