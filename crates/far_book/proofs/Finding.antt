@@ -1,5 +1,6 @@
 -- What the word found in a cell shares with the word that was known.
 use Rattle.std.proofs.Common.{◌≡◌, ℕ, Bool, true, false, Option, Some, None, refl, sym, ap, ◌∙◌, subst}
+use Rattle.std.specs.Prelude.{IsSome, is_some}
 use Rattle.std.proofs.lemmas.Bool.{false≢true}
 use Rattle.far_word.specs.declared.mark.Mark.{Mark}
 use Rattle.far_word.specs.declared.mark.Mark.TheVariants.{Hot, Evac, Moved, Dropped}
@@ -70,6 +71,14 @@ finds_mark k v w own e = let more = marks_more k (read_of v) in record {
   moved = λ h. ap (λ o. (marks_in o).moved) e ∙ more.moved h;
   dropped = λ h. ap (λ o. (marks_in o).dropped) e ∙ more.dropped h;
 }
+
+-- ---- a word on the layout is found so
+some_body : (o : Option PtrWord) → is_some (body_of o) ≡ is_some o
+some_body None = refl
+some_body (Some v) = refl
+
+pub some_found : (v w : ℕ) → Finds v w → IsSome (read_of v) → IsSome (read_of w)
+some_found v w f some = sym (some_body (read_of w)) ∙ (ap is_some f.body ∙ (some_body (read_of v) ∙ some))
 
 -- ---- a near object is found near, at the same place
 pub record IsNearTo (o : Option PtrWord) (len ds : ℕ) (place : Place) (evac : Bool) : Type 0 where

@@ -10,7 +10,7 @@ use Rattle.far_word.specs.declared.pointer.PtrWord.TheVariants.{Near}
 use Rattle.far_word.specs.Mark.{position}
 use Rattle.far_word.specs.Pointer.{read_of}
 use Rattle.far_core.specs.declared.event.Event.{Event}
-use Rattle.far_core.specs.declared.event.Event.TheVariants.{ReadEpoch, Open, Pin, Load, Store, Close, Adopt, Put, Name, See, Mark, Ask, Get}
+use Rattle.far_core.specs.declared.event.Event.TheVariants.{ReadEpoch, Open, Pin, Load, Store, Close, Adopt, Put, Name, See, Mark, Ask, Get, Clear}
 use Rattle.far_core.specs.declared.event.Reply.{Reply}
 use Rattle.far_core.specs.declared.event.Reply.TheVariants.{Refused}
 use Rattle.far_core.specs.events.Ask.{is_request}
@@ -101,6 +101,7 @@ change s (Put l at w) law own legal = absurd (false≢true own)
 change s (Name p old new) law own legal = absurd (false≢true own)
 change s (See p) law own legal = absurd (false≢true own)
 change s (Mark p) law own legal = absurd (false≢true own)
+change s (Clear p) law own legal = absurd (false≢true own)
 change s (Get l at free) law own legal = absurd (false≢true own)
 
 -- the same of a step, legal or not

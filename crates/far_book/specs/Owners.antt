@@ -6,7 +6,7 @@ use Rattle.far_word.specs.declared.pointer.PtrWord.TheVariants.{Near}
 use Rattle.far_word.specs.Pointer.{read_of}
 use Rattle.far_word.specs.Sizes.{words_for}
 use Rattle.far_core.specs.declared.event.Event.{Event}
-use Rattle.far_core.specs.declared.event.Event.TheVariants.{ReadEpoch, Open, Pin, Load, Store, Close, Adopt, Put, Name, See, Mark, Ask, Get}
+use Rattle.far_core.specs.declared.event.Event.TheVariants.{ReadEpoch, Open, Pin, Load, Store, Close, Adopt, Put, Name, See, Mark, Ask, Get, Clear}
 use Rattle.far_core.specs.events.Step.{step_of}
 use Rattle.far_core.specs.state.State.{State, addr}
 use Rattle.far_book.specs.Finds.{Finds}
@@ -26,6 +26,7 @@ is_owners (Put l at w) = false
 is_owners (Name p old new) = false
 is_owners (See p) = false
 is_owners (Mark p) = false
+is_owners (Clear p) = false
 is_owners (Get l at free) = false
 
 -- the state once owners had the turn for the next event of a list: an owner's event is made, if it is legal, any other

@@ -22,6 +22,7 @@ pub(crate) fn is_owners(event: Event) -> bool
         | Event::Name { .. }
         | Event::See { .. }
         | Event::Mark { .. }
-        | Event::Get { .. } => false,
+        | Event::Get { .. }
+        | Event::Clear { .. } => false,
     }
 }

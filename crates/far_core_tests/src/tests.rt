@@ -5,6 +5,7 @@ mod dropping;
 mod filling;
 mod freeing;
 mod moving;
+mod leaving;
 mod page;
 mod ranges;
 mod reading;

@@ -46,6 +46,10 @@ fn mark(pointer: u16) -> Event {
     Event::Mark { pointer }
 }
 
+fn clear(pointer: u16) -> Event {
+    Event::Clear { pointer }
+}
+
 fn ask(owner: u8, pointer: u16, mark: Mark) -> Event {
     Event::Ask {
         owner,
@@ -75,7 +79,7 @@ fn moves(len: u16, ds: u8, from: (u8, u16), to: (u8, u16)) -> Naming {
 
 /// A row an event: zeros, and each field changed.
 #[rattlefmt::skip]
-fn events() -> [Event; 42] {
+fn events() -> [Event; 44] {
     [
         read_epoch(0), read_epoch(1),
         open(0), open(1),
@@ -88,6 +92,7 @@ fn events() -> [Event; 42] {
         name(0, 0, 0), name(1, 0, 0), name(0, 1, 0), name(0, 0, 1),
         see(0), see(1),
         mark(0), mark(1),
+        clear(0), clear(1),
         ask(0, 0, Mark::Moved), ask(1, 0, Mark::Moved), ask(0, 1, Mark::Moved), ask(0, 0, Mark::Dropped),
         get(0, 0, false), get(1, 0, false), get(0, 1, false), get(0, 0, true),
         Event::Name { pointer: 0, old: 1, new: 1 },
@@ -133,6 +138,10 @@ fn namings_differ(rt: HostRuntime) -> Result<(), Fail> {
         ds,
         place: Place { log, at },
     };
+    let evicts = |len, log, at| Naming::Evicts {
+        len,
+        place: Place { log, at },
+    };
     all_differ(
         &rt,
         &[
@@ -149,6 +158,11 @@ fn namings_differ(rt: HostRuntime) -> Result<(), Fail> {
             fetches(8, 2, 0, 0),
             fetches(8, 1, 1, 0),
             fetches(8, 1, 0, 1),
+            Naming::Stays,
+            evicts(8, 0, 0),
+            evicts(9, 0, 0),
+            evicts(8, 1, 0),
+            evicts(8, 0, 1),
             places(8, 1, 0, 0),
             places(9, 1, 0, 0),
             places(8, 2, 0, 0),

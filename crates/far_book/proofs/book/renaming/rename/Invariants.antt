@@ -1,0 +1,18 @@
+use Rattle.std.proofs.Common.{◌≡◌, ◌≤◌, ◌<◌, ◌^◌, ℕ, false, IsSome}
+use Rattle.far_word.specs.Pointer.{read_of}
+use Rattle.far_core.specs.events.Naming.{is_dropped}
+use Rattle.far_book.specs.Finds.{Finds}
+use Rattle.far_book.specs.book.Renaming.{seen}
+use Rattle.far_book.proofs.region.Calls.{count}
+use Rattle.far_book.proofs.book.renaming.rename.Given as goal
+
+abbrev pub invariant-loop : goal.invariant-loop
+invariant-loop g l = record {
+  fits : l.word < 2 ^ 64;
+  found : Finds ((g.N.Near.view l.fn.near).cell l.fn.pointer) l.word;
+  kept : g.N.Near.view l.near ≡ seen (g.N.Near.view l.fn.near) l.fn.pointer l.word;
+  readable : IsSome (read_of l.word);
+  alive : is_dropped (read_of l.word) ≡ false;
+  same : g.N.Near.still → l.word ≡ l.fn.found;
+  tries : l.counter ≤ count (read_of l.word);
+}
