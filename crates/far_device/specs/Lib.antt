@@ -1,0 +1,3 @@
+pub mod Contents
+pub mod Faults
+pub mod Mem

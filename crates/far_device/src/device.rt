@@ -1,0 +1,57 @@
+//! What may be counted on of a far side.
+
+ghost use Rattle.std.specs.Prelude.{◌≡◌, ◌⊎◌, ℕ, Bool, true, false, ◌&&◌, List, Option, Some, None, is_some, IfOk, IfSome, OnOk};
+ghost use Rattle.far_device.specs.Contents.{KeepsOthers};
+ghost use Rattle.far_device.specs.Faults.{is_fault, CountsFault, SpendsFault};
+
+use crate::fault::DeviceFault;
+
+/// A far side: bytes under keys. No clause says that a call succeeds; what is said holds of devices that fail and of devices
+/// that lie.
+pub trait Device {
+    /// What the device holds: the bytes under each key, `None` where it holds none.
+    ghost contents: { Self → ℕ → Option (List ℕ) };
+
+    /// Whether what is read is what is held. No call changes it.
+    ghost honest: { Self → Bool };
+
+    /// How many calls have answered [`DeviceFault::Device`]. It may wrap.
+    ghost faults: { Self → ℕ };
+
+    /// Each call of `forget` takes the key away. Of a device of which this isn't so it may also do nothing.
+    ghost forgets: { Type 0 };
+
+    /// No more calls than so many will answer [`DeviceFault::Device`], reads of nothing apart.
+    ghost fails_at_most: { Self → ℕ → Type 0 };
+
+    /// Holds these bytes under the key, in place of what was there. After an error all other keys are as before, and
+    /// under this one anything may be.
+    fn write(&mut self, id: u32, bytes: &[u8]) -> Result<(), DeviceFault>
+        ensures set { OnOk result (contents self.new id ≡ Some bytes.now) }
+        ensures others { KeepsOthers (contents self.old) (contents self.new) id }
+        ensures honest { honest self.new ≡ honest self.old }
+        ensures counted { CountsFault (is_fault result) (faults self.old) (faults self.new) }
+        ensures spent { SpendsFault (is_fault result) (fails_at_most self.old) (fails_at_most self.new) };
+
+    /// The bytes under the key; of a device that isn't honest any bytes, of any length. Of a key under which nothing is,
+    /// nothing is said but that nothing changes.
+    fn read(&mut self, id: u32) -> Result<Vec<u8>, DeviceFault>
+        ensures given { honest self.old ≡ true → IfOk result (λ bytes. IfSome (contents self.old id) (λ held. bytes.items ≡ held)) }
+        ensures kept { contents self.new ≡ contents self.old }
+        ensures honest { honest self.new ≡ honest self.old }
+        ensures counted { CountsFault (is_fault result) (faults self.old) (faults self.new) }
+        ensures spent { SpendsFault (is_fault result && is_some (contents self.old id)) (fails_at_most self.old) (fails_at_most self.new) };
+
+    /// Takes the key away, with what is under it, or leaves all as it was.
+    fn forget(&mut self, id: u32)
+        ensures gone { forgets → contents self.new id ≡ None }
+        ensures left { (contents self.new id ≡ None) ⊎ (contents self.new id ≡ contents self.old id) }
+        ensures others { KeepsOthers (contents self.old) (contents self.new) id }
+        ensures honest { honest self.new ≡ honest self.old }
+        ensures counted { CountsFault false (faults self.old) (faults self.new) }
+        ensures spent { SpendsFault false (fails_at_most self.old) (fails_at_most self.new) };
+
+    /// How many calls have answered [`DeviceFault::Device`], modulo 2^64.
+    fn faults(&self) -> u64
+        ensures { result ≡ faults self.now };
+}
