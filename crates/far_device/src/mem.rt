@@ -34,6 +34,7 @@ impl MemDevice {
 }
 
 impl Device for MemDevice {
+    ghost use Rattle.std.proofs.Common.{rules};
     ghost use Rattle.far_device.specs.Mem.{bytes_at, faults_of};
 
     ghost contents = { bytes_at };
@@ -45,6 +46,8 @@ impl Device for MemDevice {
     ghost forgets = { Unit {0} };
 
     ghost fails_at_most = { λ _ _. Unit {0} };
+
+    ghost wraps = { Prim.search rules };
 
     /// Refused [`DeviceFault::Memory`] alone, and then nothing has changed.
     fn write(&mut self, id: u32, bytes: &[u8]) -> Result<(), DeviceFault>
