@@ -1,6 +1,6 @@
 //! What a caller can say of any device, by the trait alone.
 
-ghost use Rattle.std.specs.Prelude.{◌≡◌, true, false, suc, zero, None, IfOk, OnOk, ℕ};
+ghost use Rattle.std.specs.Prelude.{◌≡◌, true, false, None, IfOk, OnOk};
 ghost use Rattle.far_device.specs.Contents.{KeepsOthers};
 ghost use Rattle.far_device.specs.Faults.{is_fault, CountsFault, SpendsFault};
 

@@ -1,7 +1,7 @@
 //! Devices that fail.
 
-ghost use Rattle.std.specs.Prelude.{◌≡◌, ◌+◌, ◌-◌, ◌%◌, ◌^◌, ◌≤◌, None, true, min};
-ghost use Rattle.std.proofs.Common.{rules};
+ghost use Rattle.std.specs.Prelude.{◌+◌, ◌-◌, ◌%◌, ◌^◌, ◌≤◌, None, true, min};
+ghost use Rattle.far_device.specs.Wrapping.{wrapped_below};
 
 use crate::{Device, DeviceFault};
 
@@ -22,7 +22,7 @@ impl Device for Broken {
 
     ghost fails_at_most = { λ _ _. ⊥ };
 
-    ghost wraps = { Prim.search rules };
+    ghost wraps = { λ s. wrapped_below s.faults };
 
     fn write(&mut self, _id: u32, _bytes: &[u8]) -> Result<(), DeviceFault> {
         self.faults = self.faults.wrapping_add(1);
@@ -56,7 +56,7 @@ impl Device for Starved {
 
     ghost fails_at_most = { λ _ _. Unit {0} };
 
-    ghost wraps = { Prim.search rules };
+    ghost wraps = { λ _. wrapped_below 0 };
 
     fn write(&mut self, _id: u32, _bytes: &[u8]) -> Result<(), DeviceFault> {
         Err(DeviceFault::Memory)
@@ -92,7 +92,7 @@ impl<D: Device + Drop> Device for FailsOnce<D> {
 
     ghost fails_at_most = { λ s n. (min s.left 1 ≤ n) × D.fails_at_most s.inner (n - min s.left 1) };
 
-    ghost wraps = { Prim.search rules };
+    ghost wraps = { λ s. wrapped_below (D.faults s.inner + s.faults) };
 
     fn write(&mut self, id: u32, bytes: &[u8]) -> Result<(), DeviceFault> {
         if self.left == 1 {
