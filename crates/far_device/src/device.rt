@@ -33,8 +33,8 @@ pub trait Device {
         ensures counted { CountsFault (is_fault result) (faults self.old) (faults self.new) }
         ensures spent { SpendsFault (is_fault result) (fails_at_most self.old) (fails_at_most self.new) };
 
-    /// The bytes under the key; of a device that isn't honest any bytes, of any length. Of a key under which nothing is,
-    /// nothing is said but that nothing changes.
+    /// The bytes under the key; of a device that isn't honest any bytes, of any length. Of a key under which nothing is
+    /// the answer is left open. The contents stay.
     fn read(&mut self, id: u32) -> Result<Vec<u8>, DeviceFault>
         ensures given { honest self.old ≡ true → IfOk result (λ bytes. IfSome (contents self.old id) (λ held. bytes.items ≡ held)) }
         ensures kept { contents self.new ≡ contents self.old }
