@@ -1,5 +1,5 @@
 -- What a device in memory holds, and what it counts.
-use Rattle.std.specs.Prelude.{ℕ, List, Option}
+use Rattle.std.specs.Prelude.{ℕ, ◌%◌, ◌^◌, List, Option}
 use Rattle.std.specs.Option.{option_map}
 use Rattle.std.specs.Ordering.{nat_cmp}
 use Rattle.std.specs.BTreeMap.{get}
@@ -11,4 +11,4 @@ bytes_at d id = option_map (λ held. held.items) (get nat_cmp d.objects id)
 
 -- how many reads of nothing there were, modulo 2^64
 abbrev pub faults_of : MemDevice → ℕ
-faults_of d = d.faults
+faults_of d = d.faults % 2 ^ 64

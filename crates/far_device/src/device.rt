@@ -1,6 +1,6 @@
 //! What may be counted on of a far side.
 
-ghost use Rattle.std.specs.Prelude.{◌≡◌, ◌⊎◌, ℕ, Bool, true, false, ◌&&◌, List, Option, Some, None, is_some, IfOk, IfSome, OnOk};
+ghost use Rattle.std.specs.Prelude.{◌≡◌, ◌⊎◌, ◌^◌, ◌<◌, ℕ, Bool, true, false, List, Option, Some, None, IsSome, IfOk, IfSome, OnOk};
 ghost use Rattle.far_device.specs.Contents.{KeepsOthers};
 ghost use Rattle.far_device.specs.Faults.{is_fault, CountsFault, SpendsFault};
 
@@ -21,7 +21,7 @@ pub trait Device {
     /// Each call of `forget` takes the key away. Of a device of which this isn't so it may also do nothing.
     ghost forgets: { Type 0 };
 
-    /// No more calls than so many will answer [`DeviceFault::Device`], reads of nothing apart.
+    /// No more calls than so many will answer [`DeviceFault::Device`], as long as no key is read under which nothing is.
     ghost fails_at_most: { Self → ℕ → Type 0 };
 
     /// Holds these bytes under the key, in place of what was there. After an error all other keys are as before, and
@@ -33,14 +33,14 @@ pub trait Device {
         ensures counted { CountsFault (is_fault result) (faults self.old) (faults self.new) }
         ensures spent { SpendsFault (is_fault result) (fails_at_most self.old) (fails_at_most self.new) };
 
-    /// The bytes under the key; of a device that isn't honest any bytes, of any length. Of a key under which nothing is,
-    /// nothing is said but that nothing changes.
+    /// The bytes under the key; of a device that isn't honest any bytes, of any length. Of a key under which nothing is
+    /// the answer is left open. The contents stay.
     fn read(&mut self, id: u32) -> Result<Vec<u8>, DeviceFault>
         ensures given { honest self.old ≡ true → IfOk result (λ bytes. IfSome (contents self.old id) (λ held. bytes.items ≡ held)) }
         ensures kept { contents self.new ≡ contents self.old }
         ensures honest { honest self.new ≡ honest self.old }
         ensures counted { CountsFault (is_fault result) (faults self.old) (faults self.new) }
-        ensures spent { SpendsFault (is_fault result && is_some (contents self.old id)) (fails_at_most self.old) (fails_at_most self.new) };
+        ensures spent { IsSome (contents self.old id) → SpendsFault (is_fault result) (fails_at_most self.old) (fails_at_most self.new) };
 
     /// Takes the key away, with what is under it, or leaves all as it was.
     fn forget(&mut self, id: u32)
@@ -54,4 +54,7 @@ pub trait Device {
     /// How many calls have answered [`DeviceFault::Device`], modulo 2^64.
     fn faults(&self) -> u64
         ensures { result ≡ faults self.now };
+
+    /// The count has 64 bits.
+    ghost wraps: { (s : Self) → faults s < 2 ^ 64 };
 }

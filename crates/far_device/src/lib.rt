@@ -6,6 +6,8 @@
 mod device;
 mod fault;
 mod mem;
+#[cfg(test)]
+mod tests;
 
 pub use device::Device;
 pub use fault::DeviceFault;

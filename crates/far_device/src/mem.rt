@@ -1,6 +1,6 @@
 //! A device in memory.
 
-ghost use Rattle.std.specs.Prelude.{◌≡◌, ◌≢◌, ◌+◌, ◌%◌, ◌^◌, ℕ, true, List, Option, Some, None, IfOk, IfErr, IfNone, IfSome, OnOk, OnErr};
+ghost use Rattle.std.specs.Prelude.{◌≡◌, ◌+◌, ◌%◌, ◌^◌, true, Some, None, IfOk, IfErr, IfNone, IfSome, OnOk, OnErr};
 ghost use Rattle.far_device.specs.Contents.{KeepsOthers};
 ghost use Rattle.far_device.specs.declared.fault.DeviceFault.TheVariants.{Memory, Device as Failed};
 
@@ -34,6 +34,7 @@ impl MemDevice {
 }
 
 impl Device for MemDevice {
+    ghost use Rattle.far_device.specs.Wrapping.{wrapped_below};
     ghost use Rattle.far_device.specs.Mem.{bytes_at, faults_of};
 
     ghost contents = { bytes_at };
@@ -45,6 +46,8 @@ impl Device for MemDevice {
     ghost forgets = { Unit {0} };
 
     ghost fails_at_most = { λ _ _. Unit {0} };
+
+    ghost wraps = { λ d. wrapped_below d.faults };
 
     /// Refused [`DeviceFault::Memory`] alone, and then nothing has changed.
     fn write(&mut self, id: u32, bytes: &[u8]) -> Result<(), DeviceFault>

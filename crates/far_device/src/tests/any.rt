@@ -1,0 +1,35 @@
+//! What a caller can say of any device, by the trait alone.
+
+ghost use Rattle.std.specs.Prelude.{◌≡◌, true, false, None, IfOk, OnOk};
+ghost use Rattle.far_device.specs.Contents.{KeepsOthers};
+ghost use Rattle.far_device.specs.Faults.{is_fault, CountsFault, SpendsFault};
+
+use crate::{Device, DeviceFault};
+
+/// Bytes go to the far side, come back, and are let go of.
+pub(crate) fn there_and_back<D: Device>(
+    device: &mut D,
+    id: u32,
+    bytes: &[u8],
+) -> Result<Vec<u8>, DeviceFault>
+    ensures given { D.honest device.old ≡ true → IfOk result (λ given. given.items ≡ bytes.now) }
+    ensures gone { D.forgets → OnOk result (D.contents device.new id ≡ None) }
+    ensures others { KeepsOthers (D.contents device.old) (D.contents device.new) id }
+    ensures honest { D.honest device.new ≡ D.honest device.old }
+    ensures counted { CountsFault (is_fault result) (D.faults device.old) (D.faults device.new) }
+    ensures spent { SpendsFault (is_fault result) (D.fails_at_most device.old) (D.fails_at_most device.new) }
+{
+    device.write(id, bytes)?;
+    let given = device.read(id)?;
+    device.forget(id);
+    Ok(given)
+}
+
+/// Of a device that isn't to fail any more no call answers that it failed.
+pub(crate) fn never_fails<D: Device>(device: &mut D, id: u32, bytes: &[u8]) -> bool
+    requires { D.fails_at_most device.old 0 }
+    ensures never { result ≡ false }
+    ensures still { D.fails_at_most device.new 0 }
+{
+    matches!(there_and_back(device, id, bytes), Err(DeviceFault::Device))
+}

@@ -1,0 +1,41 @@
+//! Devices that lie.
+
+ghost use Rattle.std.specs.Prelude.{false};
+
+use crate::{Device, DeviceFault};
+
+/// Gives one byte less than is held, and forgets nothing.
+#[derive(Drop)]
+pub(crate) struct Short<D: Device + Drop> {
+    pub(crate) inner: D,
+}
+
+impl<D: Device + Drop> Device for Short<D> {
+    ghost contents = { λ s. D.contents s.inner };
+
+    ghost honest = { λ _. false };
+
+    ghost faults = { λ s. D.faults s.inner };
+
+    ghost forgets = { ⊥ };
+
+    ghost fails_at_most = { λ s. D.fails_at_most s.inner };
+
+    ghost wraps = { λ s. D.wraps s.inner };
+
+    fn write(&mut self, id: u32, bytes: &[u8]) -> Result<(), DeviceFault> {
+        self.inner.write(id, bytes)
+    }
+
+    fn read(&mut self, id: u32) -> Result<Vec<u8>, DeviceFault> {
+        let mut bytes = self.inner.read(id)?;
+        bytes.pop();
+        Ok(bytes)
+    }
+
+    fn forget(&mut self, _id: u32) {}
+
+    fn faults(&self) -> u64 {
+        self.inner.faults()
+    }
+}

@@ -1,0 +1,153 @@
+//! What devices answer, by worked values.
+
+use super::any::{never_fails, there_and_back};
+use super::failing::{Broken, FailsOnce, Starved};
+use super::lying::Short;
+use crate::{Device, DeviceFault, MemDevice};
+use std::alloc::Global;
+use std::process::Abort;
+use std::test::*;
+
+// What is read under a key is this, and no fault is counted.
+fn gives(rt: &impl Abort, device: &mut MemDevice, id: u32, wanted: &[u8]) -> Result<(), Fail> {
+    let before = device.faults();
+    let given = device.read(id)?;
+    assert_eq!(rt; given.as_slice(), wanted, "under {id}");
+    assert_eq!(rt; device.faults(), before);
+    Ok(())
+}
+
+// Under a key is nothing: a read of it is one fault.
+fn has_nothing(rt: &impl Abort, device: &mut MemDevice, id: u32) {
+    let before = device.faults();
+    assert_eq!(rt;
+        device.read(id).err(),
+        Some(DeviceFault::Device),
+        "under {id}"
+    );
+    assert_eq!(rt; device.faults(), before.wrapping_add(1));
+}
+
+fn failing_at(alloc: Global, left: u64) -> FailsOnce<MemDevice> {
+    FailsOnce {
+        inner: MemDevice::new(alloc),
+        left,
+        faults: u64::MAX,
+    }
+}
+
+#[test]
+fn readme(rt: HostRuntime) -> Result<(), Fail> {
+    let mut device = MemDevice::new(rt.alloc());
+    device.write(5, &[1, 2, 3])?;
+    let bytes = device.read(5)?;
+    assert_eq!(rt; bytes.as_slice(), [1, 2, 3].as_slice());
+    device.forget(5);
+    assert_eq!(rt; device.read(5).err(), Some(DeviceFault::Device));
+    assert_eq!(rt; device.faults(), 1);
+    Ok(())
+}
+
+#[test]
+fn keys_are_apart(rt: HostRuntime) -> Result<(), Fail> {
+    let mut device = MemDevice::new(rt.alloc());
+    let rows: [(u32, &[u8]); 4] = [(0, &[7; 1016]), (u32::MAX, &[255]), (1, &[]), (0, &[8, 9])];
+    for (id, bytes) in rows {
+        has_nothing(&rt, &mut device, 2);
+        device.write(id, bytes)?;
+        gives(&rt, &mut device, id, bytes)?;
+    }
+    device.forget(1);
+    device.forget(2);
+    has_nothing(&rt, &mut device, 1);
+    gives(&rt, &mut device, 0, &[8, 9])?;
+    gives(&rt, &mut device, u32::MAX, &[255])
+}
+
+#[test]
+fn many_keys(rt: HostRuntime) -> Result<(), Fail> {
+    let mut device = MemDevice::new(rt.alloc());
+    for id in 0..1024u32 {
+        device.write(id, &id.to_le_bytes())?;
+    }
+    for id in 0..512u32 {
+        device.forget(2 * id);
+        has_nothing(&rt, &mut device, 2 * id);
+    }
+    for id in 0..512u32 {
+        let odd = 2 * id + 1;
+        gives(&rt, &mut device, odd, &odd.to_le_bytes())?;
+    }
+    Ok(())
+}
+
+#[test]
+fn faults_wrap(rt: HostRuntime) {
+    let mut device = MemDevice::new(rt.alloc());
+    device.faults = u64::MAX;
+    has_nothing(&rt, &mut device, 3);
+    assert_eq!(rt; device.faults(), 0);
+}
+
+#[test]
+fn other_devices(rt: HostRuntime) -> Result<(), Fail> {
+    let mut broken = Broken { faults: 0 };
+    let mut starved = Starved {};
+    let mut short = Short {
+        inner: MemDevice::new(rt.alloc()),
+    };
+    assert_eq!(rt;
+        there_and_back(&mut broken, 1, &[1]).err(),
+        Some(DeviceFault::Device)
+    );
+    assert_eq!(rt; broken.faults(), 1);
+    assert_eq!(rt;
+        there_and_back(&mut starved, 1, &[1]).err(),
+        Some(DeviceFault::Memory)
+    );
+    assert_eq!(rt; starved.faults(), 0);
+    assert_eq!(rt;
+        there_and_back(&mut short, 1, &[1, 2])?.as_slice(),
+        [1].as_slice()
+    );
+    assert_eq!(rt; short.faults(), 0);
+    assert_eq!(rt; short.inner.read(1)?.as_slice(), [1, 2].as_slice());
+    assert!(rt; !never_fails(&mut starved, 1, &[1]));
+    assert!(rt; !never_fails(&mut short.inner, 1, &[1]));
+    Ok(())
+}
+
+#[test]
+fn one_call_fails(rt: HostRuntime) -> Result<(), Fail> {
+    for left in [1, 2] {
+        let mut device = failing_at(rt.alloc(), left);
+        let fault = there_and_back(&mut device, 1, &[1, 2]).err();
+        assert_eq!(rt; fault, Some(DeviceFault::Device), "with {left}");
+        assert_eq!(rt; device.faults(), 0);
+        assert_eq!(rt;
+            there_and_back(&mut device, 1, &[3])?.as_slice(),
+            [3].as_slice()
+        );
+    }
+    for left in [0, 3] {
+        let mut device = failing_at(rt.alloc(), left);
+        let given = there_and_back(&mut device, 1, &[1, 2])?;
+        assert_eq!(rt; given.as_slice(), [1, 2].as_slice(), "with {left}");
+    }
+    Ok(())
+}
+
+#[test]
+fn texts(rt: HostRuntime) -> Result<(), Fail> {
+    let alloc = rt.alloc();
+    assert!(rt; DeviceFault::Memory != DeviceFault::Device);
+    assert_eq!(rt;
+        format!(in alloc; "{}", DeviceFault::Memory)?.as_str(),
+        "a growth was refused"
+    );
+    assert_eq!(rt;
+        format!(in alloc; "{}", DeviceFault::Device)?.as_str(),
+        "the device failed"
+    );
+    Ok(())
+}
