@@ -6,8 +6,6 @@
 mod laws;
 mod row;
 mod span;
-#[cfg(test)]
-mod tests;
 mod walking;
 
 pub use laws::{

@@ -12,8 +12,6 @@ mod pointer;
 mod refused;
 mod scope;
 mod sizes;
-#[cfg(test)]
-mod tests;
 
 pub use bytes::{pack_bytes, unpack_bytes};
 pub use header::HeadWord;

@@ -1,7 +1,7 @@
 //! Worked words: each is read as what it says, packed from it, or refused. They come from the layout's own table.
 
 use super::{HOT, HOT_EVAC, NO_MARKS};
-use crate::{
+use far_word::{
     HeadWord, Mark, Marks, Place, PtrWord, Refused, ScopeWord, pack_bytes, pointer_len,
     resting_place, rests_view, size_of, unpack_bytes, without_owner_marks,
 };

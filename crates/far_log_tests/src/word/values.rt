@@ -1,7 +1,7 @@
 //! Values of each public type that differ in one field compare as different, and each is equal to itself.
 
 use super::NO_MARKS;
-use crate::{HeadWord, Mark, Marks, Place, PtrWord, Refused, ScopeWord};
+use far_word::{HeadWord, Mark, Marks, Place, PtrWord, Refused, ScopeWord};
 use std::fmt::Debug;
 use std::process::Abort;
 use std::test::*;

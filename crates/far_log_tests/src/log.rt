@@ -1,6 +1,6 @@
 //! Whether the clauses say what was meant, by worked images of logs: each header is written out by its layout.
 
-use crate::{
+use far_log::{
     BadWord, LogRow, Span, WalkFault, later_words_say_nothing, size_of, spans_hold_bytes,
     spans_take_all, walk, walks_are_one, words_have_one_span,
 };

@@ -4,7 +4,7 @@ mod example;
 mod values;
 mod words;
 
-use crate::{
+use far_word::{
     Marks, header_words, packed_bytes, pointer_marks, pointer_words, refusal_numbers, scope_words,
     sizes_are, words_are,
 };

@@ -1,6 +1,6 @@
 //! How to call the crate: the example of README.md.
 
-use crate::{HeadWord, Mark, Place, PtrWord, pack_bytes, rests_view, size_of, unpack_bytes};
+use far_word::{HeadWord, Mark, Place, PtrWord, pack_bytes, rests_view, size_of, unpack_bytes};
 use std::test::*;
 
 #[test]
