@@ -1,5 +1,5 @@
 -- What a mutator knows of a state: its scope, and the bytes of the pointers that it uses.
-use Rattle.std.proofs.Common.{◌≡◌, ℕ, ◌+◌, ◌*◌, ◌/◌, ◌<◌, ◌≤◌, true, false, cond, nat_eq, nat_lt, arith, sym, refl, ap, ◌∙◌, Option, Some, None, List, length, inl, inr}
+use Rattle.std.proofs.Common.{◌≡◌, ℕ, ◌+◌, ◌/◌, ◌<◌, ◌≤◌, true, false, cond, nat_eq, nat_lt, arith, sym, refl, ap, ◌∙◌, Option, Some, None, List, length, inl, inr}
 use Rattle.std.specs.Prelude.{not, ◌⊎◌}
 use Rattle.std.proofs.lemmas.Bool.{and_parts, and_cases, cases_eq, cond_both, true≢false, cases_lt}
 use Rattle.std.proofs.lemmas.Bool.Decides.{nat_tests}

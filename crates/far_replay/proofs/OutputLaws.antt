@@ -48,7 +48,7 @@ use Rattle.far_replay.proofs.TextLaws.{texts_write}
 use Rattle.far_replay.proofs.Lowest.{lowest_cell_is, no_cell_is}
 use Rattle.far_replay.proofs.Refusals.{turn_is_no_refusal, from_cause}
 use Rattle.far_replay.proofs.Spliced.{length-with_range, with_range_before, with_range_inside, with_range_behind}
-use Rattle.far_replay.proofs.Turns.{four}
+use Rattle.far_replay.proofs.Turns.{new_tests}
 
 -- ---- each text has an output
 -- each list of commands is answered
@@ -251,7 +251,7 @@ makes_its_object now m len ds p next is c =
     let lasts = moment_lasts now is in
     let h = carried now (Mutator m (New len ds)) (Pointer p) next lasts tt c in
     let none : refusal now (Mutator m (New len ds)) ≡ None = not_refused (refusal now (Mutator m (New len ds))) (lowest_cell s m) p h.reply in
-    let parts = four (nat_lt m s.mutators && nat_lt ds 256) (nat_lt 0 len && nat_le len LONGEST) (is_some (lowest_cell s m)) (is_some (room s (size_of len) true)) Range Length NoPointer NoRoom none in
+    let parts = new_tests s m len ds none in
     let low : lowest_cell s m ≡ Some p = told_pointer (refusal now (Mutator m (New len ds))) (lowest_cell s m) p h.reply in
     let at = some_of (room s (size_of len) true) parts.3 in
     let numbers = is_structure s m ds (ap not parts.0) in

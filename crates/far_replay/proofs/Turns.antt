@@ -1,6 +1,6 @@
 -- The events of each command succeed, and keep the law and what holds between commands.
 use Rattle.std.proofs.Common.{◌≡◌, ◌≢◌, ℕ, ◌+◌, ◌*◌, ◌/◌, ◌%◌, ◌^◌, ◌<◌, ◌≤◌, ◌⊎◌, Bool, true, false, cond, not, ◌&&◌, nat_lt, nat_le, nat_eq, refl, sym, ap, subst, ◌∙◌, arith, Option, Some, None, List, [], ◌∷◌, ◌++◌, length, get_or, is_some, if◌then◌else◌, inl, inr}
-use Rattle.std.proofs.lemmas.Bool.{and_parts, false≢true, cond_both, ltb-true}
+use Rattle.std.proofs.lemmas.Bool.{and_parts, cond_both, ltb-true}
 use Rattle.std.proofs.lemmas.Bool.Decides.{nat_tests}
 use Rattle.far_word.specs.declared.mark.Marks.{Marks}
 use Rattle.far_word.specs.declared.pointer.Place.{Place}
@@ -24,6 +24,7 @@ use Rattle.far_core.specs.state.Law.{Law}
 use Rattle.far_core.specs.state.Room.{room}
 use Rattle.far_core.specs.state.State.{State, put, addr}
 use Rattle.far_core.specs.events.Step.{Fits, is_legal, is_opened, data_len, near_data, after_close, scope_word_of, with_span}
+use Rattle.far_core.proofs.Bounds.{some_of}
 use Rattle.far_core.proofs.KeepPlace.{header}
 use Rattle.far_core.proofs.Owing.{is_test}
 use Rattle.far_core.proofs.RoomLaws.{room_right}
@@ -283,19 +284,6 @@ room_next s size place law short found =
       ends (inl here) = here.1
       ends (inr empty) = empty.1 ∙ sym (law.logs.free_tail place.log empty.0)
 
-new_room : (s : State) (size : ℕ) → Law s → size ≤ LOG_WORDS → is_some (room s size true) ≡ true → (place : Place) × (room s size true ≡ Some place) × NewRoom s size place
-new_room s size law short found = at_room (room s size true) refl found where
-  at_room : (o : Option Place) → room s size true ≡ o → is_some o ≡ true → (place : Place) × (o ≡ Some place) × NewRoom s size place
-  at_room None e h = absurd (false≢true h)
-  at_room (Some place) e h = (place, refl, room_next s size place law short e)
-
--- the cell that is found is free, and the mutator's
-pub new_cell : (s : State) (m : ℕ) → is_some (lowest_cell s m) ≡ true → (p : ℕ) × (lowest_cell s m ≡ Some p) × (m * CELLS ≤ p) × (p < m * CELLS + CELLS) × (s.cell p ≡ 0)
-new_cell s m found = at_cell (lowest_cell s m) refl found where
-  at_cell : (o : Option ℕ) → lowest_cell s m ≡ o → is_some o ≡ true → (p : ℕ) × (o ≡ Some p) × (m * CELLS ≤ p) × (p < m * CELLS + CELLS) × (s.cell p ≡ 0)
-  at_cell None e h = absurd (false≢true h)
-  at_cell (Some p) e h = let l = lowest_cell_is s m p e in (p, refl, l.0, l.1, l.2)
-
 -- no marks
 abbrev clean : Marks
 clean = record { hot = false; evac = false; moved = false; dropped = false }
@@ -312,47 +300,77 @@ pub record Turned (s : State) (es : List Event) (t : State) : Type 0 where
 pub new_sizes : (m mutators len ds : ℕ) → (nat_lt m mutators && nat_lt ds 256) ≡ true → (nat_lt 0 len && nat_le len LONGEST) ≡ true → (m < mutators) × (ds < 256) × (0 < len) × (len ≤ LONGEST)
 new_sizes m mutators len ds a b = (grind (arith, nat_tests), grind (arith, nat_tests), grind (arith, nat_tests), grind (arith, nat_tests))
 
--- the events of a new object
-new_turned : (s : State) (m len ds : ℕ) → Law s → Between s → refusal (moment_of s) (Mutator m (New len ds)) ≡ None →
-    Turned s (turn_events (moment_of s) (Mutator m (New len ds))) (turn_effect (moment_of s) (Mutator m (New len ds))).core
-new_turned s m len ds law between e =
-    let h = four (nat_lt m s.mutators && nat_lt ds 256) (nat_lt 0 len && nat_le len LONGEST) (is_some (lowest_cell s m)) (is_some (room s (size_of len) true)) Range Length NoPointer NoRoom e in
-    let sizes = new_sizes m s.mutators len ds h.0 h.1 in
-    let cell = new_cell s m h.2 in
-    let found = new_room s (size_of len) law (omega (arith, sizes.3)) h.3 in
-    let p : ℕ = cell.0 in
-    let new : ℕ = near_word len ds found.0 in
-    let row : List Event = (Puts found.0.log found.0.at (head_word cell.0 len ds) ∷ zero_puts found.0 (words_for len)) ++ Names cell.0 0 (near_word len ds found.0) ∷ Adopts m cell.0 ∷ [] in
-    let same : new_events m len ds (lowest_cell s m) (room s (size_of len) true) ≡ row =
-    ap (λ o. new_events m len ds o (room s (size_of len) true)) cell.1 ∙ ap (new_events m len ds (Some cell.0)) found.1 in
-    let lies : IsPtr (Near len ds found.0 clean) = (sizes.2, sizes.3, sizes.1, omega (arith, found.2.next.0, law.shape.few_logs), found.2.fits) in
-    let reads : read_of new ≡ Some (Near len ds found.0 clean) = read_back (Near len ds found.0 clean) lies in
-    let fit : Each Fits row = Each-append Fits (Puts found.0.log found.0.at (head_word cell.0 len ds) ∷ zero_puts found.0 (words_for len)) (Names cell.0 0 (near_word len ds found.0) ∷ Adopts m cell.0 ∷ []) (
-      head_fits (header cell.0 len ds) (record { some = sizes.2; most = sizes.3; structure = sizes.1; cell = omega (arith, sizes.0, cell.2, cell.3, law.shape.few_mutators) }),
-      Each-row Fits (λ i. Puts found.0.log (found.0.at + 1 + i) 0) 0 (words_for len) (λ i lt. omega arith),
-    )
-    ((omega arith, word_fits (Near len ds found.0 clean) lies), (tt, tt)) in
-    let result : with_new s m len ds (lowest_cell s m) (room s (size_of len) true) ≡ with_object s m p len ds found.0 =
-    ap (λ o. with_new s m len ds o (room s (size_of len) true)) cell.1 ∙ ap (with_new s m len ds (Some cell.0)) found.1 in
-    subst (λ (x : List Event × State). Turned s x.0 x.1) (λ i. (sym same i, sym result i)) record {
-      succeed = new_succeeds s law m p len ds new found.0 sizes.0 cell.2 cell.3 cell.4 sizes.2 sizes.3 sizes.1 found.2.next found.2.fits found.2.here reads;
-      between = new_between s law m p len ds new found.0 sizes.0 cell.2 cell.3 cell.4 sizes.2 sizes.3 sizes.1 found.2.next found.2.fits found.2.here reads between;
-      law = made_law s row law fit;
-      fit = fit;
-      ends = new_end s law m p len ds new found.0 sizes.0 cell.2 cell.3 cell.4 sizes.2 sizes.3 sizes.1 found.2.next found.2.fits found.2.here reads
-          ∙ sym (object_is s law m p len ds new found.0 sizes.0 cell.2 cell.3 cell.4 sizes.2 sizes.3 sizes.1 found.2.next found.2.fits found.2.here reads refl);
+-- none of them failed, if it isn't refused
+pub new_tests : (s : State) (m len ds : ℕ) → refusal (moment_of s) (Mutator m (New len ds)) ≡ None →
+    ((nat_lt m s.mutators && nat_lt ds 256) ≡ true) × ((nat_lt 0 len && nat_le len LONGEST) ≡ true) × (is_some (lowest_cell s m) ≡ true) × (is_some (room s (size_of len) true) ≡ true)
+new_tests s m len ds = four (nat_lt m s.mutators && nat_lt ds 256) (nat_lt 0 len && nat_le len LONGEST) (is_some (lowest_cell s m)) (is_some (room s (size_of len) true)) Range Length NoPointer NoRoom
+
+-- the numbers of a new object that isn't refused
+pub record NewParts (s : State) (m len ds p : ℕ) (place : Place) : Type 0 where
+  pub owner : m < s.mutators
+  pub structure : ds < 256
+  pub some : 0 < len
+  pub most : len ≤ LONGEST
+  pub low : m * CELLS ≤ p
+  pub high : p < m * CELLS + CELLS
+  pub free : s.cell p ≡ 0
+  pub room : NewRoom s (size_of len) place
+  pub lies : IsPtr (Near len ds place clean)
+
+new_parts : (s : State) (m len ds p : ℕ) (place : Place) → Law s → refusal (moment_of s) (Mutator m (New len ds)) ≡ None → lowest_cell s m ≡ Some p → room s (size_of len) true ≡ Some place → NewParts s m len ds p place
+new_parts s m len ds p place law e cell found =
+    let tests = new_tests s m len ds e in
+    let sizes = new_sizes m s.mutators len ds tests.0 tests.1 in
+    let own = lowest_cell_is s m p cell in
+    let there = room_next s (size_of len) place law (omega (arith, sizes.3)) found in
+    record {
+      owner = sizes.0;
+      structure = sizes.1;
+      some = sizes.2;
+      most = sizes.3;
+      low = own.0;
+      high = own.1;
+      free = own.2;
+      room = there;
+      lies = (sizes.2, sizes.3, sizes.1, omega (arith, there.next.0, law.shape.few_logs), there.fits);
     }
 
--- a new object that isn't refused, written out
+-- such an object, written out
 pub new_object_is : (s : State) (m len ds p : ℕ) (place : Place) → Law s → refusal (moment_of s) (Mutator m (New len ds)) ≡ None → lowest_cell s m ≡ Some p → room s (size_of len) true ≡ Some place →
     with_object s m p len ds place ≡ record (with_span record s { word = with_row (put s.word (addr place) (head_word p len ds)) (addr place + 1) (words_for len) (λ _. 0) } p (near_word len ds place) len place) { used = put s.used p true }
 new_object_is s m len ds p place law e cell found =
-    let h = four (nat_lt m s.mutators && nat_lt ds 256) (nat_lt 0 len && nat_le len LONGEST) (is_some (lowest_cell s m)) (is_some (room s (size_of len) true)) Range Length NoPointer NoRoom e in
-    let sizes = new_sizes m s.mutators len ds h.0 h.1 in
-    let own = lowest_cell_is s m p cell in
-    let there = room_next s (size_of len) place law (omega (arith, sizes.3)) found in
-    let reads = read_back (Near len ds place clean) (sizes.2, sizes.3, sizes.1, omega (arith, there.next.0, law.shape.few_logs), there.fits) in
-    object_is s law m p len ds (near_word len ds place) place sizes.0 own.0 own.1 own.2 sizes.2 sizes.3 sizes.1 there.next there.fits there.here reads refl
+    let parts = new_parts s m len ds p place law e cell found in
+    object_is s law m p len ds (near_word len ds place) place parts.owner parts.low parts.high parts.free parts.some parts.most parts.structure parts.room.next parts.room.fits parts.room.here (read_back (Near len ds place clean) parts.lies) refl
+
+-- its events
+new_turned : (s : State) (m len ds : ℕ) → Law s → Between s → refusal (moment_of s) (Mutator m (New len ds)) ≡ None →
+    Turned s (turn_events (moment_of s) (Mutator m (New len ds))) (turn_effect (moment_of s) (Mutator m (New len ds))).core
+new_turned s m len ds law between e =
+    let tests = new_tests s m len ds e in
+    let cell = some_of (lowest_cell s m) tests.2 in
+    let found = some_of (room s (size_of len) true) tests.3 in
+    let p : ℕ = cell.0 in
+    let place : Place = found.0 in
+    let new : ℕ = near_word len ds place in
+    let parts = new_parts s m len ds p place law e cell.1 found.1 in
+    let reads : read_of new ≡ Some (Near len ds place clean) = read_back (Near len ds place clean) parts.lies in
+    let puts : List Event = Puts place.log place.at (head_word p len ds) ∷ zero_puts place (words_for len) in
+    let names : List Event = Names p 0 new ∷ Adopts m p ∷ [] in
+    let fit : Each Fits (puts ++ names) = Each-append Fits puts names (
+      head_fits (header p len ds) (record { some = parts.some; most = parts.most; structure = parts.structure; cell = omega (arith, parts.owner, parts.low, parts.high, law.shape.few_mutators) }),
+      Each-row Fits (λ i. Puts place.log (place.at + 1 + i) 0) 0 (words_for len) (λ i lt. omega arith),
+    )
+    ((omega arith, word_fits (Near len ds place clean) parts.lies), (tt, tt)) in
+    let events : new_events m len ds (lowest_cell s m) (room s (size_of len) true) ≡ puts ++ names = (λ i. new_events m len ds (cell.1 i) (found.1 i)) in
+    let result : with_new s m len ds (lowest_cell s m) (room s (size_of len) true) ≡ with_object s m p len ds place = (λ i. with_new s m len ds (cell.1 i) (found.1 i)) in
+    subst (λ (x : List Event × State). Turned s x.0 x.1) (λ i. (sym events i, sym result i)) record {
+      succeed = new_succeeds s law m p len ds new place parts.owner parts.low parts.high parts.free parts.some parts.most parts.structure parts.room.next parts.room.fits parts.room.here reads;
+      between = new_between s law m p len ds new place parts.owner parts.low parts.high parts.free parts.some parts.most parts.structure parts.room.next parts.room.fits parts.room.here reads between;
+      law = made_law s (puts ++ names) law fit;
+      fit = fit;
+      ends = new_end s law m p len ds new place parts.owner parts.low parts.high parts.free parts.some parts.most parts.structure parts.room.next parts.room.fits parts.room.here reads
+          ∙ sym (new_object_is s m len ds p place law e cell.1 found.1);
+    }
 
 -- ---- scopes
 -- each named cell stays at hand where cells and their use stay
