@@ -49,7 +49,7 @@ use Rattle.far_replay.proofs.Spliced.{AreBytes, with_range_bytes, length-with_ra
 use Rattle.far_replay.proofs.StoreTurns.{stores_go, stores_end}
 use Rattle.far_replay.proofs.RangeWrites.{object_padded}
 use Rattle.far_replay.proofs.WriteEnds.{row_whole}
-use Rattle.far_replay.proofs.Views.{len_near, Viewed, viewed, view_is, view_succeeds, view_law, view_between}
+use Rattle.far_replay.proofs.Views.{len_near, Viewed, view_holds, view_is, view_succeeds, view_law, view_between}
 
 -- ---- what no refusal says
 -- four causes that aren't there
@@ -95,7 +95,7 @@ access_fact s m p from count law between e =
 module _ (s : State) (m p from count : ℕ) (law : Law s) (between : Between s) (access : Access s m p from count) where
   -- the object is held after the view
   pub viewing : Viewed s (after_events s (view_events s m p)) m p
-  viewing = viewed s m p law between access.opened access.ours
+  viewing = view_holds s m p law between access.opened access.ours
 
   -- the words that are touched are the object's
   touched_inside : (i : ℕ) → i < words_touched from count → first_word from + i < words_for (data_len s p)
@@ -192,7 +192,7 @@ module _ (s : State) (m p from : ℕ) (bytes : List ℕ) (law : Law s) (between 
 
   -- the object is held
   held : Viewed s view m p
-  held = viewed s m p law between access.opened access.ours
+  held = view_holds s m p law between access.opened access.ours
 
   -- the stores
   abbrev stores : List Event
@@ -203,8 +203,8 @@ module _ (s : State) (m p from : ℕ) (bytes : List ℕ) (law : Law s) (between 
   wide = packed_wide changed changed_bytes
 
   -- they succeed, and keep what holds between commands
-  stored : AllSucceed view stores × Between (after_events view stores)
-  stored = stores_go m p held.len held.place (packed_word changed) wide
+  stores_kept : AllSucceed view stores × Between (after_events view stores)
+  stores_kept = stores_go m p held.len held.place (packed_word changed) wide
       (λ i lt. packed_padded changed held.len i changed_bytes (changed_long ∙ held.long) lt)
       (words_touched from (length bytes)) (first_word from) view
       (view_law s m p law between access.opened access.ours) (view_between s m p law between access.opened access.ours) held.holds
@@ -215,22 +215,22 @@ module _ (s : State) (m p from : ℕ) (bytes : List ℕ) (law : Law s) (between 
   looks = view_events s m p ++ part_events m p from (length bytes)
 
   -- it ends where the view does
-  looked : after_events s looks ≡ view
-  looked = made-append s (view_events s m p) (part_events m p from (length bytes)) ∙ (parts s m p from (length bytes) law between access).1
+  looks_end : after_events s looks ≡ view
+  looks_end = made-append s (view_events s m p) (part_events m p from (length bytes)) ∙ (parts s m p from (length bytes) law between access).1
 
   -- the events of a write succeed
   pub write_succeeds : AllSucceed s (looks ++ stores)
   write_succeeds = AllSucceed-append s looks stores
       (AllSucceed-append s (view_events s m p) (part_events m p from (length bytes)) (view_succeeds s m p law between access.opened access.ours) (parts s m p from (length bytes) law between access).0)
-      (subst (λ t. AllSucceed t stores) (sym looked) stored.0)
+      (subst (λ t. AllSucceed t stores) (sym looks_end) stores_kept.0)
 
   -- they end where the stores do
   pub write_end : after_events s (looks ++ stores) ≡ after_events view stores
-  write_end = made-append s looks stores ∙ ap (λ t. after_events t stores) looked
+  write_end = made-append s looks stores ∙ ap (λ t. after_events t stores) looks_end
 
   -- they keep what holds between commands
   pub write_between : Between (after_events s (looks ++ stores))
-  write_between = subst Between (sym write_end) stored.1
+  write_between = subst Between (sym write_end) stores_kept.1
 
   -- the words that they carry are 64 bits wide
   pub write_fits : Each Fits (looks ++ stores)
@@ -396,8 +396,8 @@ between_scopes s scope remembered held between unread =
     record { at_hand = same_hands s (record s { scope = scope; remembered = remembered; held = held }) refl refl between.at_hand; unread = unread }
 
 -- a scope that isn't open is closed
-pub shut : (s : State) (m : ℕ) → nat_lt m s.mutators ≡ true → is_opened s m ≡ false → (m < s.mutators) × (s.scope m ≡ 0)
-shut s m within opened = (grind (arith, nat_tests), grind (arith, nat_tests))
+pub scope_is_shut : (s : State) (m : ℕ) → nat_lt m s.mutators ≡ true → is_opened s m ≡ false → (m < s.mutators) × (s.scope m ≡ 0)
+scope_is_shut s m within opened = (grind (arith, nat_tests), grind (arith, nat_tests))
 
 module _ (s : State) (m : ℕ) (law : Law s) (between : Between s) (closed_now : (m < s.mutators) × (s.scope m ≡ 0)) where
   -- the state after the epoch is read
@@ -487,13 +487,13 @@ none_turned : (s : State) → Law s → Between s → Turned s [] s
 none_turned s law between = record { succeed = tt; between = between; law = law; fit = tt; ends = refl }
 
 -- a command that isn't refused
-turned : (s : State) (c : Command) → Law s → Between s → WritesBytes c → refusal (moment_of s) c ≡ None →
+command_turned : (s : State) (c : Command) → Law s → Between s → WritesBytes c → refusal (moment_of s) c ≡ None →
     Turned s (turn_events (moment_of s) c) (turn_effect (moment_of s) c).core
-turned s (Mutator m (New len ds)) law between small e = new_turned s m len ds law between e
-turned s (Mutator m Open) law between small e =
+command_turned s (Mutator m (New len ds)) law between small e = new_turned s m len ds law between e
+command_turned s (Mutator m Open) law between small e =
     let h = two (nat_lt m s.mutators) (is_opened s m) Range AlreadyOpen e in
-    open_turned s m law between (shut s m h.0 h.1)
-turned s (Mutator m (Write p from bytes)) law between small e =
+    open_turned s m law between (scope_is_shut s m h.0 h.1)
+command_turned s (Mutator m (Write p from bytes)) law between small e =
     let access = access_fact s m p from (length bytes) law between e in
     record {
       succeed = write_succeeds s m p from bytes law between access small;
@@ -502,7 +502,7 @@ turned s (Mutator m (Write p from bytes)) law between small e =
       fit = write_fits s m p from bytes law between access small;
       ends = write_is s m p from bytes law between access small;
     }
-turned s (Mutator m (Read p from len)) law between small e =
+command_turned s (Mutator m (Read p from len)) law between small e =
     let access = access_fact s m p from len law between e in
     record {
       succeed = read_succeeds s m p from len law between access;
@@ -511,19 +511,19 @@ turned s (Mutator m (Read p from len)) law between small e =
       fit = read_fits s m p from len law between access;
       ends = read_is s m p from len law between access;
     }
-turned s (Mutator m Close) law between small e = close_turned s m law between (two_open (nat_lt m s.mutators) (is_opened s m) e) where
+command_turned s (Mutator m Close) law between small e = close_turned s m law between (two_open (nat_lt m s.mutators) (is_opened s m) e) where
   two_open : (a b : Bool) → first_cause ((not a, Range) ∷ (not b, Closed) ∷ []) ≡ None → b ≡ true
   two_open true true f = refl
   two_open true false f = absurd cc
   two_open false b f = absurd cc
-turned s (Mutator m (Where p)) law between small e = none_turned s law between
-turned s (Mutator m (Drop p)) law between small e = drop_turned s m p law between (three (nat_lt m s.mutators) (uses s m p) (is_some (s.held p)) Range NotHeld Held e)
-turned s (Book inquiry) law between small e = none_turned s law between
+command_turned s (Mutator m (Where p)) law between small e = none_turned s law between
+command_turned s (Mutator m (Drop p)) law between small e = drop_turned s m p law between (three (nat_lt m s.mutators) (uses s m p) (is_some (s.held p)) Range NotHeld Held e)
+command_turned s (Book inquiry) law between small e = none_turned s law between
 
 -- each command: a refused one does nothing
 turn_at : (s : State) (c : Command) (o : Option Refusal) → refusal (moment_of s) c ≡ o → Law s → Between s → WritesBytes c →
     Turned s (unless o (λ _. []) (turn_events (moment_of s) c)) (unless o (λ _. moment_of s) (turn_effect (moment_of s) c)).core
-turn_at s c None e law between small = turned s c law between small e
+turn_at s c None e law between small = command_turned s c law between small e
 turn_at s c (Some why) e law between small = none_turned s law between
 
 -- the events of a command lead to the moment after it
@@ -533,4 +533,4 @@ turns s c law between small = turn_at s c (refusal (moment_of s) c) refl law bet
 -- what a command that isn't refused makes of the heap is what its events make
 pub made_by_events : (s t : State) (c : Command) → Law s → Between s → WritesBytes c → refusal (moment_of s) c ≡ None → t ≡ (turn_effect (moment_of s) c).core → t ≡ after_events s (events_for (moment_of s) c)
 made_by_events s t c law between small none is =
-    is ∙ sym (turned s c law between small none).ends ∙ ap (λ o. after_events s (unless o (λ _. []) (turn_events (moment_of s) c))) (sym none)
+    is ∙ sym (command_turned s c law between small none).ends ∙ ap (λ o. after_events s (unless o (λ _. []) (turn_events (moment_of s) c))) (sym none)

@@ -171,8 +171,8 @@ module _ (s : State) (m p : ℕ) (law : Law s) (between : Between s) (opened : i
       }
 
   -- after the view the object is held, and the words, its place and its length are as before
-  pub viewed : Viewed s (after_events s (view_events s m p)) m p
-  viewed = at_view (λ t. Viewed s t m p) old_viewed pin_viewed
+  pub view_holds : Viewed s (after_events s (view_events s m p)) m p
+  view_holds = at_view (λ t. Viewed s t m p) old_viewed pin_viewed
 
   -- a pin leaves at hand what was
   pin_hand : (q : ℕ) → (after_pin s p).cell q ≢ 0 → AtHand (after_pin s p) q
