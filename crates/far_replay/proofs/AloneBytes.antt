@@ -8,7 +8,7 @@ use Rattle.far_word.proofs.ByteLaws.{with_word-get, length-with_word}
 use Rattle.far_replay.specs.Events.{first_word, words_touched}
 use Rattle.far_replay.specs.Objects.{with_range}
 use Rattle.far_replay.proofs.AloneRuns.{over_all}
-use Rattle.far_replay.proofs.Spliced.{AreBytes, length-with_range, with_range_before, with_range_behind, with_range_bytes}
+use Rattle.far_replay.proofs.Spliced.{AreBytes, length-with_range, with_range_before, with_range_after, with_range_bytes}
 
 -- one byte of the word of eight bytes
 byte_of_word : (bytes : List ℕ) → AreBytes bytes → (k : ℕ) → k < length bytes → packed_word bytes (k / 8) / 2 ^ (8 * (k % 8)) % 256 ≡ get_or bytes k 0
@@ -52,4 +52,4 @@ over_with_range bytes from put fits old new some =
     ext_get_or 0 _ _ (long ∙ sym same) (λ k lt.
     over_get (with_range bytes from put) (with_range_bytes bytes from put fits old new) bytes (first_word from) (words_touched from (length put)) k (omega (arith, long)) (omega (arith, long, same))
     (λ h. sym (with_range_before bytes from put fits k (omega arith)))
-    (λ h. sym (with_range_behind bytes from put fits k (omega arith))))
+    (λ h. sym (with_range_after bytes from put fits k (omega arith))))

@@ -18,7 +18,7 @@ use Rattle.far_replay.specs.EventRows.{after_events, AllAtHand}
 use Rattle.far_replay.specs.Reply.{Reply}
 use Rattle.far_replay.specs.Events.{events_for}
 use Rattle.far_replay.specs.Turn.{refusal, unless}
-use Rattle.far_replay.proofs.Lasting.{Lasts, IsCarriedOut, carried, moment_lasts, still_lasts}
+use Rattle.far_replay.proofs.Lasting.{Lasts, IsCarriedOut, command_carried, moment_lasts, still_lasts}
 use Rattle.far_replay.proofs.AloneNew.{turns_new}
 use Rattle.far_replay.proofs.AloneTurns.{Teaches, Turns, turns_open, turns_close, turns_read, turns_write, turns_where, turns_drop}
 
@@ -61,7 +61,7 @@ learns s m (Book inquiry) r t law hand within small h = ap (λ x. own_of (world_
 pub mutators_learn : (now : Moment) (c : Command) (r : Reply) (next : Moment) (m : ℕ) → IsMoment now → WritesBytes c → m < now.core.mutators → Commanded now c r next → Learns now.core m c r next.core
 mutators_learn now c r next m is bytes within h =
     let lasts = moment_lasts now is in
-    learns now.core m c r next.core lasts.law lasts.between.at_hand within bytes (carried now c r next lasts bytes h)
+    learns now.core m c r next.core lasts.law lasts.between.at_hand within bytes (command_carried now c r next lasts bytes h)
 
 -- ---- all commands
 -- one line before others
@@ -79,7 +79,7 @@ alone now [] (r ∷ rs) xs m lasts within small h = absurd h
 alone now (c ∷ cs) [] xs m lasts within small h = absurd h
 alone now (c ∷ cs) (r ∷ rs) [] m lasts within small h = absurd h
 alone now (c ∷ cs) (r ∷ rs) (next ∷ xs) m lasts within small h =
-    let x = carried now c r next lasts small.0 h.0 in
+    let x = command_carried now c r next lasts small.0 h.0 in
     let same : next.core.mutators ≡ now.core.mutators = ap (λ (t : State). t.mutators) x.state ∙ made_mutators now.core (events_for now c) in
     one_more m (own_of (world_of now.core) m) (own_of (world_of next.core) m) c r cs rs (is_by m (speaker c)) (learns now.core m c r next.core lasts.law lasts.between.at_hand within small.0 x)
     (alone next cs rs xs m (still_lasts now c r next lasts small.0 h.0) (subst (λ n. m < n) (sym same) within) small.1 h.1)

@@ -1,5 +1,5 @@
 -- What a mutator knows of a state: its scope, and the bytes of the pointers that it uses.
-use Rattle.std.proofs.Common.{◌≡◌, ℕ, ◌+◌, ◌*◌, ◌/◌, ◌<◌, ◌≤◌, true, false, cond, nat_eq, nat_lt, arith, sym, refl, ap, ◌∙◌, Option, Some, None, List, length, inl, inr}
+use Rattle.std.proofs.Common.{◌≡◌, ℕ, ◌+◌, ◌/◌, ◌<◌, ◌≤◌, true, false, cond, nat_eq, nat_lt, arith, sym, refl, ap, ◌∙◌, Option, Some, None, List, length, inl, inr}
 use Rattle.std.specs.Prelude.{not, ◌⊎◌}
 use Rattle.std.proofs.lemmas.Bool.{and_parts, and_cases, cases_eq, cond_both, true≢false, cases_lt}
 use Rattle.std.proofs.lemmas.Bool.Decides.{nat_tests}
@@ -23,8 +23,8 @@ use Rattle.far_replay.proofs.Views.{len_near}
 use Rattle.far_replay.proofs.Spliced.{AreBytes}
 
 -- ---- tests
-pub outside : (k n : ℕ) → k < n → not (nat_lt k n) ≡ true → ⊥
-outside k n lt h = absurd (grind (arith, nat_tests))
+pub not_outside : (k n : ℕ) → k < n → not (nat_lt k n) ≡ true → ⊥
+not_outside k n lt h = absurd (grind (arith, nat_tests))
 
 pub open_world : (s : State) (m : ℕ) → is_opened s m ≡ true → (world_of s).opened m ≡ true
 unfolding world_of
@@ -33,7 +33,7 @@ open_world s m h = (and_parts (nat_lt m s.mutators) (not (nat_eq (s.scope m) 0))
 pub shut_world : (s : State) (m : ℕ) → m < s.mutators → is_opened s m ≡ false → (world_of s).opened m ≡ false
 unfolding world_of
 shut_world s m within h = elim (and_cases (nat_lt m s.mutators) (not (nat_eq (s.scope m) 0)) h) [
-  | inl off ↦ absurd (outside m s.mutators within (ap not off))
+  | inl off ↦ absurd (not_outside m s.mutators within (ap not off))
   | inr shut ↦ shut
 ]
 

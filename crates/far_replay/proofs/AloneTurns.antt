@@ -35,7 +35,7 @@ use Rattle.far_replay.proofs.Each.{Each-append, Each-row}
 use Rattle.far_replay.proofs.MadeLemmas.{made-append, AllSucceed-parts, Carries}
 use Rattle.far_replay.proofs.Spliced.{AreBytes, packed_wide, with_range_bytes}
 use Rattle.far_replay.proofs.AloneRuns.{views_of, Scoped, own_same, own_other, own_here, own_scope, own_scope_other, IsQuiet, Quiet, quiet_run, over_all, stores_run, open_step, close_step}
-use Rattle.far_replay.proofs.AloneStates.{outside, open_world, shut_world, range_in, range_out, object_used, own_used, own_unused, len_used, data_small}
+use Rattle.far_replay.proofs.AloneStates.{not_outside, open_world, shut_world, range_in, range_out, object_used, own_used, own_unused, len_used, data_small}
 
 -- the reply tells the mutator what it says, and no other mutator learns anything
 abbrev pub Teaches : State → ℕ → Command → Reply → State → Type 0
@@ -78,7 +78,7 @@ open_run s k law = cond_both (is_some (s.remembered k)) (Opens k ∷ []) (ReadsE
 
 pub turns_open : (s : State) (k : ℕ) → Law s → Turns s k (Mutator k Open) (refusal (moment_of s) (Mutator k Open))
 turns_open s k law = two_causes (Turns s k (Mutator k Open)) (not (nat_lt k s.mutators)) (is_opened s k) Range AlreadyOpen
-    (λ off _. (λ within. absurd (outside k s.mutators within off), λ m ne. refl))
+    (λ off _. (λ within. absurd (not_outside k s.mutators within off), λ m ne. refl))
     (λ _ opened _. (λ within. (open_world s k opened, refl), λ m ne. refl))
     (λ _ shut ok. let run = open_run s k law ok.succeed in
     let u : State = after_events s (open_events s k) in
@@ -89,7 +89,7 @@ turns_open s k law = two_causes (Turns s k (Mutator k Open)) (not (nat_lt k s.mu
 
 pub turns_close : (s : State) (k : ℕ) → Law s → Turns s k (Mutator k Close) (refusal (moment_of s) (Mutator k Close))
 turns_close s k law = two_causes (Turns s k (Mutator k Close)) (not (nat_lt k s.mutators)) (not (is_opened s k)) Range Closed
-    (λ off _. (λ within. absurd (outside k s.mutators within off), λ m ne. refl))
+    (λ off _. (λ within. absurd (not_outside k s.mutators within off), λ m ne. refl))
     (λ _ shut _. (λ within. (shut_world s k within (not-true (is_opened s k) shut), refl), λ m ne. refl))
     (λ _ opened ok. let run = close_step s k law ok.succeed.0 in
     let u : State = (step_of s (Closes k)).0 in
@@ -99,8 +99,8 @@ turns_close s k law = two_causes (Turns s k (Mutator k Close)) (not (nat_lt k s.
     ))
 
 -- ---- reads
-owned : (s : State) (k p : ℕ) → uses s k p ≡ true → p / CELLS ≡ k
-owned s k p h = eqb-true (p / CELLS) k (and_parts (nat_eq (p / CELLS) k) (s.used p) h).0
+uses_owner : (s : State) (k p : ℕ) → uses s k p ≡ true → p / CELLS ≡ k
+uses_owner s k p h = eqb-true (p / CELLS) k (and_parts (nat_eq (p / CELLS) k) (s.used p) h).0
 
 quiet_view : (s : State) (k p : ℕ) → Quiet (view_events s k p)
 quiet_view s k p = cond_both (is_some (s.held p)) [] (Pins k p ∷ []) Quiet (λ _. tt) (λ _. (tt, tt))
@@ -114,7 +114,7 @@ quiet_part k p from count =
 pub turns_read : (s : State) (k p from len : ℕ) → Law s → AllAtHand s → Turns s k (Mutator k (Read p from len)) (refusal (moment_of s) (Mutator k (Read p from len)))
 turns_read s k p from len law hand =
     four_causes (Turns s k (Mutator k (Read p from len))) (not (nat_lt k s.mutators)) (not (is_opened s k)) (not (uses s k p)) (not (is_range (object_len s p) from len)) Range Closed NotHeld Range
-    (λ off _. (λ within. absurd (outside k s.mutators within off), λ m ne. refl))
+    (λ off _. (λ within. absurd (not_outside k s.mutators within off), λ m ne. refl))
     (λ _ shut _. (λ within. (shut_world s k within (not-true (is_opened s k) shut), refl), λ m ne. refl))
     (λ _ opened unused _. (λ within. (open_world s k (not-false (is_opened s k) opened), own_unused s law hand k p (not-true (uses s k p) unused), refl), λ m ne. refl))
     (λ _ opened used out _. (λ within. (open_world s k (not-false (is_opened s k) opened), refl, (data_of s p, own_used s law hand k p (not-false (uses s k p) used), out_of (near used) out)), λ m ne. refl))
@@ -122,7 +122,7 @@ turns_read s k p from len law hand =
     let run = quiet_run s (turn_events (moment_of s) (Mutator k (Read p from len))) law quiet in
     let u : State = after_events s (turn_events (moment_of s) (Mutator k (Read p from len))) in
     let view : ViewsObject s u p = views_after s (Mutator k (Read p from len)) None ok in
-    let own : p / CELLS ≡ k = owned s k p (not-false (uses s k p) used) in (
+    let own : p / CELLS ≡ k = uses_owner s k p (not-false (uses s k p) used) in (
       λ within. (
         open_world s k (not-false (is_opened s k) opened),
         own_same (world_of s) (world_of u) k (put (views_of (world_of s) k) p true) run.0 (views_mine s u k p view own),
@@ -153,27 +153,27 @@ tells_home s k p law hand used =
 
 pub turns_where : (s : State) (k p : ℕ) → Law s → AllAtHand s → Turns s k (Mutator k (Where p)) (refusal (moment_of s) (Mutator k (Where p)))
 turns_where s k p law hand = two_causes (Turns s k (Mutator k (Where p))) (not (nat_lt k s.mutators)) (not (uses s k p)) Range NotHeld
-    (λ off _. (λ within. absurd (outside k s.mutators within off), λ m ne. refl))
+    (λ off _. (λ within. absurd (not_outside k s.mutators within off), λ m ne. refl))
     (λ _ unused _. (λ within. (own_unused s law hand k p (not-true (uses s k p) unused), refl), λ m ne. refl))
     (λ _ used _. (λ within. tells_home s k p law hand (not-false (uses s k p) used), λ m ne. refl))
 
 -- ---- drops
 -- what the mutator knows of a view
-seen : (s : State) (k p : ℕ) (b : Bool) → p / CELLS ≡ k → is_some (s.held p) ≡ b → (own_of (world_of s) k).viewed p ≡ b
+viewed_is_held : (s : State) (k p : ℕ) (b : Bool) → p / CELLS ≡ k → is_some (s.held p) ≡ b → (own_of (world_of s) k).viewed p ≡ b
 unfolding world_of
-seen s k p b own e = ap (λ x. x && is_some (s.held p)) (eq-eqb (p / CELLS) k own) ∙ e
+viewed_is_held s k p b own e = ap (λ x. x && is_some (s.held p)) (eq-eqb (p / CELLS) k own) ∙ e
 
 -- a drop that isn't turned down
 drop_run : (s : State) (k p : ℕ) → Law s → AllAtHand s → k < s.mutators → uses s k p ≡ true → s.held p ≡ None → (t : State) → t ≡ without_object s k p →
     Teaches s k (Mutator k (Drop p)) Done t
 drop_run s k p law hand inside used unheld t is =
-    let mine : p / CELLS ≡ k = owned s k p used in
+    let mine : p / CELLS ≡ k = uses_owner s k p used in
     let world : world_of t ≡ record (world_of s) { object = put (world_of s).object p None; marked = put (world_of s).marked p false } = ap world_of is ∙ drop_world s k p law inside used unheld in
     let objects : (world_of t).object ≡ put (world_of s).object p None = ap (λ (w : World). w.object) world in
     let scopes : (world_of t).opened ≡ (world_of s).opened = ap (λ (w : World). w.opened) world in
     let held : t.held ≡ s.held = ap (λ (x : State). x.held) (is ∙ drop_is s k p law inside used unheld) in (
       λ within. (
-        seen s k p false mine (ap is_some unheld),
+        viewed_is_held s k p false mine (ap is_some unheld),
         own_gone (world_of s) (world_of t) k p objects scopes (views_still s t k held),
         (data_of s p, own_used s law hand k p used),
       ),
@@ -181,16 +181,16 @@ drop_run s k p law hand inside used unheld t is =
     )
 
 -- the test of the first cause of a drop
-known : (k n : ℕ) → not (nat_lt k n) ≡ false → k < n
-known k n h = ltb-true k n (not-false (nat_lt k n) h)
+is_below : (k n : ℕ) → not (nat_lt k n) ≡ false → k < n
+is_below k n h = ltb-true k n (not-false (nat_lt k n) h)
 
 pub turns_drop : (s : State) (k p : ℕ) → Law s → AllAtHand s → Turns s k (Mutator k (Drop p)) (refusal (moment_of s) (Mutator k (Drop p)))
 turns_drop s k p law hand = three_causes (Turns s k (Mutator k (Drop p))) (not (nat_lt k s.mutators)) (not (uses s k p)) (is_some (s.held p)) Range NotHeld Held
-    (λ off _. (λ within. absurd (outside k s.mutators within off), λ m ne. refl))
+    (λ off _. (λ within. absurd (not_outside k s.mutators within off), λ m ne. refl))
     (λ _ unused _. (λ within. (own_unused s law hand k p (not-true (uses s k p) unused), refl), λ m ne. refl))
     (λ _ used viewed _. let ours = not-false (uses s k p) used in
-    (λ within. (seen s k p true (owned s k p ours) viewed, refl, (data_of s p, own_used s law hand k p ours)), λ m ne. refl))
-    (λ inside used free ok. let within : k < s.mutators = known k s.mutators inside in
+    (λ within. (viewed_is_held s k p true (uses_owner s k p ours) viewed, refl, (data_of s p, own_used s law hand k p ours)), λ m ne. refl))
+    (λ inside used free ok. let within : k < s.mutators = is_below k s.mutators inside in
     let ours = not-false (uses s k p) used in
     let unheld : s.held p ≡ None = unheld_is (s.held p) free in
     drop_run s k p law hand within ours unheld (after_events s (turn_events (moment_of s) (Mutator k (Drop p)))) (drop_ends s k p law within ours unheld))
@@ -259,7 +259,7 @@ module _ (s : State) (k p from : ℕ) (bytes : List ℕ) (law : Law s) (hand : A
   pub turns_write : Turns s k (Mutator k (Write p from bytes)) (refusal (moment_of s) (Mutator k (Write p from bytes)))
   turns_write =
       four_causes (Turns s k (Mutator k (Write p from bytes))) (not (nat_lt k s.mutators)) (not (is_opened s k)) (not (uses s k p)) (not (is_range (object_len s p) from (length bytes))) Range Closed NotHeld Range
-      (λ off _. (λ within. absurd (outside k s.mutators within off), λ m ne. refl))
+      (λ off _. (λ within. absurd (not_outside k s.mutators within off), λ m ne. refl))
       (λ _ shut _. (λ within. (shut_world s k within (not-true (is_opened s k) shut), refl), λ m ne. refl))
       (λ _ opened unused _. (λ within. (open_world s k (not-false (is_opened s k) opened), own_unused s law hand k p (not-true (uses s k p) unused), refl), λ m ne. refl))
       (λ _ opened used out _. (λ within. (open_world s k (not-false (is_opened s k) opened), refl, (data_of s p, own_used s law hand k p (not-false (uses s k p) used), write_out (near used) out)), λ m ne. refl))

@@ -15,26 +15,26 @@ one_reply : (s : Moment) (c : Command) (r q : Reply) (t u : Moment) → Commande
 one_reply s c r q t u h k = (h.reply ∙ sym k.reply, h.moment ∙ sym k.moment)
 
 -- the replies and the moments of a list of commands are determined by the first moment
-pub determined : (s : Moment) (cs : List Command) (rs qs : List Reply) (ts us : List Moment) → Answered s cs rs ts → Answered s cs qs us → (rs ≡ qs) × (ts ≡ us)
-determined s [] [] [] [] [] h k = (refl, refl)
-determined s [] [] [] [] (u ∷ us) h k = absurd k
-determined s [] [] (q ∷ qs) [] us h k = absurd k
-determined s [] [] qs (t ∷ ts) us h k = absurd h
-determined s [] (r ∷ rs) qs ts us h k = absurd h
-determined s (c ∷ cs) [] qs ts us h k = absurd h
-determined s (c ∷ cs) (r ∷ rs) qs [] us h k = absurd h
-determined s (c ∷ cs) (r ∷ rs) [] (t ∷ ts) us h k = absurd k
-determined s (c ∷ cs) (r ∷ rs) (q ∷ qs) (t ∷ ts) [] h k = absurd k
-determined s (c ∷ cs) (r ∷ rs) (q ∷ qs) (t ∷ ts) (u ∷ us) h k =
+pub answers_are_one : (s : Moment) (cs : List Command) (rs qs : List Reply) (ts us : List Moment) → Answered s cs rs ts → Answered s cs qs us → (rs ≡ qs) × (ts ≡ us)
+answers_are_one s [] [] [] [] [] h k = (refl, refl)
+answers_are_one s [] [] [] [] (u ∷ us) h k = absurd k
+answers_are_one s [] [] (q ∷ qs) [] us h k = absurd k
+answers_are_one s [] [] qs (t ∷ ts) us h k = absurd h
+answers_are_one s [] (r ∷ rs) qs ts us h k = absurd h
+answers_are_one s (c ∷ cs) [] qs ts us h k = absurd h
+answers_are_one s (c ∷ cs) (r ∷ rs) qs [] us h k = absurd h
+answers_are_one s (c ∷ cs) (r ∷ rs) [] (t ∷ ts) us h k = absurd k
+answers_are_one s (c ∷ cs) (r ∷ rs) (q ∷ qs) (t ∷ ts) [] h k = absurd k
+answers_are_one s (c ∷ cs) (r ∷ rs) (q ∷ qs) (t ∷ ts) (u ∷ us) h k =
     let one = one_reply s c r q t u h.0 k.0 in
-    let rest = determined t cs rs qs ts us h.1 (subst (λ x. Answered x cs qs us) (sym one.1) k.1) in
+    let rest = answers_are_one t cs rs qs ts us h.1 (subst (λ x. Answered x cs qs us) (sym one.1) k.1) in
     (λ i. one.0 i ∷ rest.0 i, λ i. one.1 i ∷ rest.1 i)
 
 -- what is written for a shape, with a heap or refused
 heap_once : (s : Moment) (cs : List Command) (b : Bool) (x y : List ℕ) →
     MatchBool b ((rs : List Reply) × (ts : List Moment) × Answered s cs rs ts × (x ≡ flat_map reply_text (Done ∷ rs))) (x ≡ reply_text (Refused Shape)) →
     MatchBool b ((rs : List Reply) × (ts : List Moment) × Answered s cs rs ts × (y ≡ flat_map reply_text (Done ∷ rs))) (y ≡ reply_text (Refused Shape)) → x ≡ y
-heap_once s cs true x y (rs, ts, h, e) (qs, us, k, f) = e ∙ ap (λ l. flat_map reply_text (Done ∷ l)) (determined s cs rs qs ts us h k).0 ∙ sym f
+heap_once s cs true x y (rs, ts, h, e) (qs, us, k, f) = e ∙ ap (λ l. flat_map reply_text (Done ∷ l)) (answers_are_one s cs rs qs ts us h k).0 ∙ sym f
 heap_once s cs false x y e f = e ∙ sym f
 
 -- what is written for what was read

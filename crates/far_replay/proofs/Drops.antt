@@ -106,12 +106,12 @@ module _ (s : State) (m p : ℕ) (law : Law s) (within : m < s.mutators) (ours :
   asked_reads : read_of (asked.cell p) ≡ map_mark Dropped (read_of (s.cell p))
   asked_reads = ap read_of (put_same s.cell p (bit_or (s.cell p) (2 ^ position Dropped)) p refl) ∙ (reads s law p used unheld Dropped refl).0
 
-  pub dropped : is_dropped (read_of (asked.cell p)) ≡ true
-  dropped = ap is_dropped asked_reads ∙ drops (read_of (s.cell p)) (law.views.used_cell p used)
+  pub asked_is_dropped : is_dropped (read_of (asked.cell p)) ≡ true
+  asked_is_dropped = ap is_dropped asked_reads ∙ drops (read_of (s.cell p)) (law.views.used_cell p used)
 
   -- the state after it: the cell is free, its owner doesn't use it, and nothing else changes
   pub drop_is : without_object s m p ≡ record s { cell = put s.cell p 0; used = put s.used p false }
-  drop_is = retired_is asked p dropped ∙ ap (λ (f : ℕ → ℕ). record s { cell = f; used = put s.used p false }) (put_again s.cell p (bit_or (s.cell p) (2 ^ position Dropped)) 0)
+  drop_is = retired_is asked p asked_is_dropped ∙ ap (λ (f : ℕ → ℕ). record s { cell = f; used = put s.used p false }) (put_again s.cell p (bit_or (s.cell p) (2 ^ position Dropped)) 0)
 
   -- ---- its events
   ask_legal : is_legal s (Asks m p Dropped) ≡ true
@@ -121,7 +121,7 @@ module _ (s : State) (m p : ℕ) (law : Law s) (within : m < s.mutators) (ours :
   see_legal = is_test asked (Sees p) in_range
 
   name_legal : is_legal asked (Names p (asked.cell p) 0) ≡ true
-  name_legal = is_test asked (Names p (asked.cell p) 0) (may_retire asked p (asked.cell p) in_range dropped)
+  name_legal = is_test asked (Names p (asked.cell p) 0) (may_retire asked p (asked.cell p) in_range asked_is_dropped)
 
   name_done : answer asked (Names p (asked.cell p) 0) ≡ Made
   name_done = ap (λ b. cond b Made (Word (asked.cell p))) (eq-eqb (asked.cell p) (asked.cell p) refl)
@@ -167,7 +167,7 @@ module _ (s : State) (m p : ℕ) (law : Law s) (within : m < s.mutators) (ours :
 
   -- ---- the world: its object is gone
   pub drop_world : world_of (without_object s m p) ≡ record (world_of s) { object = put (world_of s).object p None; marked = put (world_of s).marked p false }
-  drop_world = (retiring asked p asked_law in_range dropped).2 ∙ (drop_drops s law p used unheld m own).after
+  drop_world = (retiring asked p asked_law in_range asked_is_dropped).2 ∙ (drop_drops s law p used unheld m own).after
 
   -- ---- bytes: its span is dead
   same_live : (l : ℕ) (x : Span) → is_live asked l x ≡ is_live s l x
@@ -181,24 +181,24 @@ module _ (s : State) (m p : ℕ) (law : Law s) (within : m < s.mutators) (ours :
   asked_live : (l : ℕ) → live_bytes asked l ≡ live_bytes s l
   asked_live l = ap (taken_by (is_live asked l)) (asked_spans l) ∙ taken_same (is_live asked l) (is_live s l) (spans_of s l) (λ x _. same_live l x)
 
-  freed : without_object s m p ≡ with_free_cell asked p
-  freed = retired_is asked p dropped
+  without_is : without_object s m p ≡ with_free_cell asked p
+  without_is = retired_is asked p asked_is_dropped
 
   unused_same : (l : ℕ) → unused_bytes (without_object s m p) l ≡ unused_bytes s l
-  unused_same l = ap (λ (t : State). unused_bytes t l) freed
+  unused_same l = ap (λ (t : State). unused_bytes t l) without_is
 
   module _ (len ds : ℕ) (place : Place) (marks : Marks) (e : read_of (s.cell p) ≡ Some (Near len ds place marks)) where
     asked_near : read_of (asked.cell p) ≡ Some (Near len ds place (marks_with Dropped marks))
     asked_near = asked_reads ∙ ap (map_mark Dropped) e
 
     pub live_falls : live_bytes (without_object s m p) place.log + bytes_taken len ≡ live_bytes s place.log
-    live_falls = ap (λ (t : State). live_bytes t place.log + bytes_taken len) freed ∙ live_here asked asked_law p len ds place (marks_with Dropped marks) asked_near ∙ asked_live place.log
+    live_falls = ap (λ (t : State). live_bytes t place.log + bytes_taken len) without_is ∙ live_here asked asked_law p len ds place (marks_with Dropped marks) asked_near ∙ asked_live place.log
 
     pub dead_rises : dead_bytes (without_object s m p) place.log ≡ dead_bytes s place.log + bytes_taken len
     dead_rises = omega (arith, live_falls, unused_same place.log, bytes_make_log s law place.log, bytes_make_log (without_object s m p) drop_law place.log)
 
     pub live_stays : (l : ℕ) → l ≢ place.log → live_bytes (without_object s m p) l ≡ live_bytes s l
-    live_stays l ne = ap (λ (t : State). live_bytes t l) freed ∙ live_there asked asked_law p len ds place (marks_with Dropped marks) asked_near l ne ∙ asked_live l
+    live_stays l ne = ap (λ (t : State). live_bytes t l) without_is ∙ live_there asked asked_law p len ds place (marks_with Dropped marks) asked_near l ne ∙ asked_live l
 
     pub dead_stays : (l : ℕ) → l ≢ place.log → dead_bytes (without_object s m p) l ≡ dead_bytes s l
     dead_stays l ne = omega (arith, live_stays l ne, unused_same l, bytes_make_log s law l, bytes_make_log (without_object s m p) drop_law l)

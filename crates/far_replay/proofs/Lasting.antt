@@ -40,8 +40,8 @@ pub record IsCarriedOut (s : State) (c : Command) (r : Reply) (t : State) : Type
   pub fit : Each Fits (events_for (moment_of s) c)
   pub law : Law t
 
-pub carried : (now : Moment) (c : Command) (r : Reply) (next : Moment) → Lasts now → WritesBytes c → Commanded now c r next → IsCarriedOut now.core c r next.core
-carried now c r next lasts bytes h =
+pub command_carried : (now : Moment) (c : Command) (r : Reply) (next : Moment) → Lasts now → WritesBytes c → Commanded now c r next → IsCarriedOut now.core c r next.core
+command_carried now c r next lasts bytes h =
     let x = turns now.core c lasts.law lasts.between bytes in
     let ends : next.core ≡ after_events now.core (events_for (moment_of now.core) c) = ap (λ (m : Moment). m.core) h.moment ∙ sym x.ends in
     record {
@@ -122,9 +122,9 @@ moments_last now cs rs moments is bytes h = All-from Lawful (now ∷ moments) (�
 -- ---- events
 -- what succeeds was legal
 legal : (s : State) (e : Event) → Succeeds e (step_of s e).1 → is_legal s e ≡ true
-legal s e = cond_both (is_legal s e) (after s e, answer s e) (s, Failed) (λ (x : State × Answer). Succeeds e x.1 → is_legal s e ≡ true) (λ h _. h) (λ _ ok. absurd (failed e ok)) where
-  failed : (e : Event) → Succeeds e Failed → ⊥
-  failed e ok = ok
+legal s e = cond_both (is_legal s e) (after s e, answer s e) (s, Failed) (λ (x : State × Answer). Succeeds e x.1 → is_legal s e ≡ true) (λ h _. h) (λ _ ok. absurd (no_failure e ok)) where
+  no_failure : (e : Event) → Succeeds e Failed → ⊥
+  no_failure e ok = ok
 
 all_pass : (s : State) (es : List Event) → Law s → Each Fits es → AllSucceed s es → AllPass s es
 all_pass s [] law fit ok = tt
@@ -135,7 +135,7 @@ all_pass s (e ∷ es) law fit ok =
 pub events_reach : (now : Moment) (c : Command) (r : Reply) (next : Moment) → IsMoment now → WritesBytes c → Commanded now c r next → Reaches now c next
 events_reach now c r next is bytes h =
     let lasts = moment_lasts now is in
-    let x = carried now c r next lasts bytes h in
+    let x = command_carried now c r next lasts bytes h in
     record {
       ends = x.state;
       pass = all_pass now.core (events_for now c) lasts.law x.fit x.made.succeed;

@@ -14,7 +14,7 @@ use Rattle.far_replay.specs.Between.{Between}
 use Rattle.far_replay.specs.Events.{view_events, load_events}
 use Rattle.far_replay.specs.Objects.{uses}
 use Rattle.far_replay.proofs.MadeLemmas.{legal_step, load_stays, first_succeeds}
-use Rattle.far_replay.proofs.Views.{Viewed, viewed}
+use Rattle.far_replay.proofs.Views.{Viewed, view_holds}
 
 -- loads leave the state
 pub loads_stay : (t : State) (m p first count : ℕ) → after_events t (load_events m p first count) ≡ t
@@ -43,23 +43,23 @@ module _ (s t : State) (m p : ℕ) (view : Viewed s t m p) where
 module _ (s : State) (m p : ℕ) (law : Law s) (between : Between s) (opened : is_opened s m ≡ true) (ours : uses s m p ≡ true) where
   -- after the view the object is held
   pub view_held : is_some ((after_events s (view_events s m p)).held p) ≡ true
-  view_held = ap is_some (viewed s m p law between opened ours).holds.rests
+  view_held = ap is_some (view_holds s m p law between opened ours).holds.rests
 
   -- the words are as before
   pub view_words : (after_events s (view_events s m p)).word ≡ s.word
-  view_words = (viewed s m p law between opened ours).words
+  view_words = (view_holds s m p law between opened ours).words
 
   -- so is the object's first data word
   pub view_data : near_data (read_of ((after_events s (view_events s m p)).cell p)) ≡ near_data (read_of (s.cell p))
-  view_data = (viewed s m p law between opened ours).same_data
+  view_data = (view_holds s m p law between opened ours).same_data
 
   -- and its length
   pub view_len : near_len (read_of ((after_events s (view_events s m p)).cell p)) ≡ near_len (read_of (s.cell p))
-  view_len = (viewed s m p law between opened ours).same_len
+  view_len = (view_holds s m p law between opened ours).same_len
 
   -- a load after the view answers the word that stood there before it
   pub load_word : (i : ℕ) → i < words_for (data_len s p) → (step_of (after_events s (view_events s m p)) (Load m p i)).1 ≡ Word (s.word (near_data (read_of (s.cell p)) + i))
-  load_word i lt = load_gives s (after_events s (view_events s m p)) m p (viewed s m p law between opened ours) i lt
+  load_word i lt = load_gives s (after_events s (view_events s m p)) m p (view_holds s m p law between opened ours) i lt
 
   -- the k-th load of a row of them is made from the view and answers the k-th word from the first on
   pub loads_answer : (first count k : ℕ) → k < count → first + count ≤ words_for (data_len s p) →

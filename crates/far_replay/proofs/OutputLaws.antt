@@ -40,15 +40,15 @@ use Rattle.far_replay.specs.Turn.{turn_effect, effect, causes, first_cause, refu
 use Rattle.far_replay.proofs.AloneNew.{new_run, is_structure, is_length}
 use Rattle.far_replay.proofs.AloneFirst.{alone_first}
 use Rattle.far_replay.proofs.Kept.{whole}
-use Rattle.far_replay.proofs.Lasting.{first_lasts, first_lawful, carried, moment_lasts, moments_last, each_is_moment, first_is_moment}
+use Rattle.far_replay.proofs.Lasting.{first_lasts, first_lawful, command_carried, moment_lasts, moments_last, each_is_moment, first_is_moment}
 use Rattle.far_replay.proofs.MadeLemmas.{Carries}
 use Rattle.far_replay.proofs.PlainReplies.{replies_plain}
 use Rattle.far_replay.proofs.ViewLaws.{logs_stay}
 use Rattle.far_replay.proofs.TextLaws.{texts_write}
 use Rattle.far_replay.proofs.Lowest.{lowest_cell_is, no_cell_is}
 use Rattle.far_replay.proofs.Refusals.{turn_is_no_refusal, from_cause}
-use Rattle.far_replay.proofs.Spliced.{length-with_range, with_range_before, with_range_inside, with_range_behind}
-use Rattle.far_replay.proofs.Turns.{four}
+use Rattle.far_replay.proofs.Spliced.{length-with_range, with_range_before, with_range_inside, with_range_after}
+use Rattle.far_replay.proofs.Turns.{new_tests}
 
 -- ---- each text has an output
 -- each list of commands is answered
@@ -103,23 +103,23 @@ first_holds s c b rest is holds =
 past : (s : State) (m k : ℕ) → m ≡ k → s.mutators ≤ m → nat_lt k s.mutators ≡ false
 past s m k e h = lt-leb (suc k) s.mutators (omega (arith, e, h))
 
-unknown : (s : State) (c : Command) (m : ℕ) → IsSaidBy m c → s.mutators ≤ m → reply_to (moment_of s) c ≡ Refused Range
-unknown s (Mutator k (New len ds)) m e h = first_holds s (Mutator k (New len ds)) (not (nat_lt k s.mutators && nat_lt ds 256)) _ refl (ap (λ b. not (b && nat_lt ds 256)) (past s m k e h))
-unknown s (Mutator k Open) m e h = first_holds s (Mutator k Open) (not (nat_lt k s.mutators)) _ refl (ap not (past s m k e h))
-unknown s (Mutator k (Write p from bytes)) m e h = first_holds s (Mutator k (Write p from bytes)) (not (nat_lt k s.mutators)) _ refl (ap not (past s m k e h))
-unknown s (Mutator k (Read p from len)) m e h = first_holds s (Mutator k (Read p from len)) (not (nat_lt k s.mutators)) _ refl (ap not (past s m k e h))
-unknown s (Mutator k Close) m e h = first_holds s (Mutator k Close) (not (nat_lt k s.mutators)) _ refl (ap not (past s m k e h))
-unknown s (Mutator k (Where p)) m e h = first_holds s (Mutator k (Where p)) (not (nat_lt k s.mutators)) _ refl (ap not (past s m k e h))
-unknown s (Mutator k (Drop p)) m e h = first_holds s (Mutator k (Drop p)) (not (nat_lt k s.mutators)) _ refl (ap not (past s m k e h))
-unknown s (Book inquiry) m e h = absurd e
+refuses_unknown : (s : State) (c : Command) (m : ℕ) → IsSaidBy m c → s.mutators ≤ m → reply_to (moment_of s) c ≡ Refused Range
+refuses_unknown s (Mutator k (New len ds)) m e h = first_holds s (Mutator k (New len ds)) (not (nat_lt k s.mutators && nat_lt ds 256)) _ refl (ap (λ b. not (b && nat_lt ds 256)) (past s m k e h))
+refuses_unknown s (Mutator k Open) m e h = first_holds s (Mutator k Open) (not (nat_lt k s.mutators)) _ refl (ap not (past s m k e h))
+refuses_unknown s (Mutator k (Write p from bytes)) m e h = first_holds s (Mutator k (Write p from bytes)) (not (nat_lt k s.mutators)) _ refl (ap not (past s m k e h))
+refuses_unknown s (Mutator k (Read p from len)) m e h = first_holds s (Mutator k (Read p from len)) (not (nat_lt k s.mutators)) _ refl (ap not (past s m k e h))
+refuses_unknown s (Mutator k Close) m e h = first_holds s (Mutator k Close) (not (nat_lt k s.mutators)) _ refl (ap not (past s m k e h))
+refuses_unknown s (Mutator k (Where p)) m e h = first_holds s (Mutator k (Where p)) (not (nat_lt k s.mutators)) _ refl (ap not (past s m k e h))
+refuses_unknown s (Mutator k (Drop p)) m e h = first_holds s (Mutator k (Drop p)) (not (nat_lt k s.mutators)) _ refl (ap not (past s m k e h))
+refuses_unknown s (Book inquiry) m e h = absurd e
 
 pub unknown_refused : (now : Moment) (c : Command) (r : Reply) (next : Moment) (m : ℕ) → IsSaidBy m c → now.core.mutators ≤ m → Commanded now c r next → r ≡ Refused Range
-unknown_refused now c r next m e h k = k.reply ∙ unknown now.core c m e h
+unknown_refused now c r next m e h k = k.reply ∙ refuses_unknown now.core c m e h
 
 -- ---- what logs tell
-numbered : (s : State) (ls : List ℕ) → map (λ (line : LogLine). line.log) (map (log_line (moment_of s)) ls) ≡ ls
-numbered s [] = refl
-numbered s (l ∷ ls) = ap (λ xs. l ∷ xs) (numbered s ls)
+lines_say_logs : (s : State) (ls : List ℕ) → map (λ (line : LogLine). line.log) (map (log_line (moment_of s)) ls) ≡ ls
+lines_say_logs s [] = refl
+lines_say_logs s (l ∷ ls) = ap (λ xs. l ∷ xs) (lines_say_logs s ls)
 
 -- what is so of each log's line is so of each line that is told
 of_each : (P : LogLine → Type 0) (s : State) → ((l : ℕ) → P (log_line (moment_of s) l)) → (ls : List ℕ) (line : LogLine) → Contains (map (log_line (moment_of s)) ls) line → P line
@@ -134,7 +134,7 @@ tells_log s law l = record { kind = refl; live = refl; dead = refl; unused = ref
 
 pub logs_tell : (now : Moment) (r : Reply) (next : Moment) → Law now.core → Commanded now (Book Logs) r next → TellsAll now r
 logs_tell now r next law h =
-    subst (TellsAll now) (sym h.reply) (numbered now.core (range_with_len 0 now.core.logs), of_each (TellsLog now) now.core (tells_log now.core law) (range_with_len 0 now.core.logs))
+    subst (TellsAll now) (sym h.reply) (lines_say_logs now.core (range_with_len 0 now.core.logs), of_each (TellsLog now) now.core (tells_log now.core law) (range_with_len 0 now.core.logs))
 
 -- ---- the lowest cell that is free
 told_pointer : (o : Option Refusal) (x : Option ℕ) (p : ℕ) → Pointer p ≡ unless o Refused (pointer_reply x) → x ≡ Some p
@@ -226,7 +226,7 @@ changes_range bytes new from fits = (
   length-with_range bytes from new fits,
   with_range_before bytes from new fits,
   (λ k lt. let same : from + k - from ≡ k = omega arith in with_range_inside bytes from new fits (from + k) (omega arith) (omega arith) ∙ ap (λ j. get_or new j 0) same),
-  with_range_behind bytes from new fits,
+  with_range_after bytes from new fits,
 )
 
 -- ---- whose line it is
@@ -249,9 +249,9 @@ pub makes_its_object : (now : Moment) (m len ds p : ℕ) (next : Moment) → IsM
 makes_its_object now m len ds p next is c =
     let s : State = now.core in
     let lasts = moment_lasts now is in
-    let h = carried now (Mutator m (New len ds)) (Pointer p) next lasts tt c in
+    let h = command_carried now (Mutator m (New len ds)) (Pointer p) next lasts tt c in
     let none : refusal now (Mutator m (New len ds)) ≡ None = not_refused (refusal now (Mutator m (New len ds))) (lowest_cell s m) p h.reply in
-    let parts = four (nat_lt m s.mutators && nat_lt ds 256) (nat_lt 0 len && nat_le len LONGEST) (is_some (lowest_cell s m)) (is_some (room s (size_of len) true)) Range Length NoPointer NoRoom none in
+    let parts = new_tests s m len ds none in
     let low : lowest_cell s m ≡ Some p = told_pointer (refusal now (Mutator m (New len ds))) (lowest_cell s m) p h.reply in
     let at = some_of (room s (size_of len) true) parts.3 in
     let numbers = is_structure s m ds (ap not parts.0) in

@@ -1,6 +1,6 @@
 -- Each reply of a heap is told in full by its lines.
-use Rattle.std.proofs.Common.{◌≡◌, ℕ, zero, suc, ◌+◌, ◌-◌, ◌*◌, ◌<◌, ◌≤◌, nat_lt, ◌&&◌, Bool, not, true, is_some, refl, sym, subst, ap, arith, inl, inr, Option, Some, None, List, [], ◌∷◌, map, length, drop, filter}
-use Rattle.std.specs.Prelude.{slice_range, All, nat_le, sum, sum_by}
+use Rattle.std.proofs.Common.{◌≡◌, ℕ, zero, suc, ◌+◌, ◌-◌, ◌*◌, ◌<◌, ◌≤◌, nat_lt, Bool, not, refl, sym, subst, ap, arith, inl, inr, Option, Some, None, List, [], ◌∷◌, map, length, drop, filter}
+use Rattle.std.specs.Prelude.{slice_range, All, sum, sum_by}
 use Rattle.std.specs.List.{range_with_len, AllByRecursion}
 use Rattle.std.proofs.Math.Nat.{min-le_left}
 use Rattle.std.proofs.lemmas.Bool.{cases_lt, cond_both}
@@ -11,16 +11,14 @@ use Rattle.std.proofs.lemmas.List.{get_or_past, length-take}
 use Rattle.std.proofs.lemmas.List.Elements.{All-from_recursion}
 use Rattle.hex.specs.Hex.{IsBytes}
 use Rattle.far_word.specs.declared.refused.Refused.{Refused as Refusal}
-use Rattle.far_word.specs.declared.refused.Refused.TheVariants.{Range, Length, NoPointer, NoRoom}
+use Rattle.far_word.specs.declared.refused.Refused.TheVariants.{Range}
 use Rattle.far_word.specs.declared.pointer.PtrWord.{PtrWord}
 use Rattle.far_word.specs.declared.pointer.PtrWord.TheVariants.{Free, Near, Far}
-use Rattle.far_word.specs.declared.sizes.TheConstants.{CELLS, LONGEST}
+use Rattle.far_word.specs.declared.sizes.TheConstants.{CELLS}
 use Rattle.far_word.specs.Pointer.{IsPtr, read_of}
-use Rattle.far_word.specs.Sizes.{size_of}
 use Rattle.far_word.proofs.PointerLaws.{read_says}
 use Rattle.far_core.specs.laws.Observed.{live_bytes}
 use Rattle.far_core.specs.state.Law.{Law}
-use Rattle.far_core.specs.state.Room.{room}
 use Rattle.far_core.specs.state.State.{State}
 use Rattle.far_core.proofs.Observations.{bytes_make_log}
 use Rattle.far_book.specs.book.Home.{home_of}
@@ -39,7 +37,7 @@ use Rattle.far_replay.proofs.Each.{Each, Each-row}
 use Rattle.far_replay.proofs.Fronts.{range_get}
 use Rattle.far_replay.proofs.Lasting.{Lasts, still_lasts}
 use Rattle.far_replay.proofs.Refusals.{EachCause, among}
-use Rattle.far_replay.proofs.Turns.{four}
+use Rattle.far_replay.proofs.Turns.{new_tests}
 
 -- a pointer is a number of a cell
 plain_pointer : (s : State) (m : ℕ) (o : Option ℕ) → Law s → m < s.mutators → lowest_cell s m ≡ o → IsToldInFull (pointer_reply o)
@@ -113,7 +111,7 @@ plain_causes s (Book Audit) = tt
 -- the reply of a command that isn't refused
 plain_turn : (s : State) (c : Command) → Law s → refusal (moment_of s) c ≡ None → IsToldInFull (turn_reply (moment_of s) c)
 plain_turn s (Mutator m (New len ds)) law e =
-    let parts = four (nat_lt m s.mutators && nat_lt ds 256) (nat_lt 0 len && nat_le len LONGEST) (is_some (lowest_cell s m)) (is_some (room s (size_of len) true)) Range Length NoPointer NoRoom e in
+    let parts = new_tests s m len ds e in
     plain_pointer s m (lowest_cell s m) law (is_structure s m ds (ap not parts.0)).0 refl
 plain_turn s (Mutator m Open) law e = tt
 plain_turn s (Mutator m (Write p from bytes)) law e = tt

@@ -22,7 +22,7 @@ use Rattle.far_core.specs.events.Step.{near_len, near_data, data_len}
 use Rattle.far_core.proofs.Bounds.{span_len}
 use Rattle.far_replay.specs.Events.{starts_inside, ends_inside, words_touched}
 use Rattle.far_replay.specs.Objects.{with_range}
-use Rattle.far_replay.proofs.Spliced.{with_range_before, with_range_inside, with_range_behind}
+use Rattle.far_replay.proofs.Spliced.{with_range_before, with_range_inside, with_range_after}
 use Rattle.far_replay.proofs.Fronts.{shifted_byte}
 
 -- ---- bytes over others
@@ -37,8 +37,8 @@ put_inside a k xs ys q fits low high =
     ∙ ap (λ n. get_or (ys ++ post_of a k xs) (q - n) 0) long
     ∙ get_or_append_left ys (post_of a k xs) 0 (q - a) (omega arith)
 
-pub put_behind : (a k : ℕ) (xs ys : List ℕ) (q : ℕ) → a ≤ length xs → length ys ≡ k → a + k ≤ q → get_or (put_mid a k xs ys) q 0 ≡ get_or xs q 0
-put_behind a k xs ys q fits same low =
+pub put_after : (a k : ℕ) (xs ys : List ℕ) (q : ℕ) → a ≤ length xs → length ys ≡ k → a + k ≤ q → get_or (put_mid a k xs ys) q 0 ≡ get_or xs q 0
+put_after a k xs ys q fits same low =
     let long : length (take a xs) ≡ a = length-take-le a xs fits in
     let there : a + (k + (q - a - length ys)) ≡ q = omega arith in
     get_or-append_right (take a xs) (ys ++ post_of a k xs) q 0 (omega arith)
@@ -95,8 +95,8 @@ module _ (f : ℕ → ℕ) (len from count first touched at room : ℕ) (new loa
       let where_is : from / 8 ≡ first + q / 8 = omega arith in
       loaded_byte q (omega arith) (ap (λ n. get_or loads n 0) word ∙ w_first (starts_from (omega arith)) ∙ ap f where_is)
 
-  behind : (q : ℕ) → at + count ≤ q → q < 8 * touched → get_or bytes q 0 ≡ byte_at f (8 * first + q)
-  behind q low lt = loaded_byte q lt (elim (cases_lt 1 touched) [
+  byte_after : (q : ℕ) → at + count ≤ q → q < 8 * touched → get_or bytes q 0 ≡ byte_at f (8 * first + q)
+  byte_after q low lt = loaded_byte q lt (elim (cases_lt 1 touched) [
     | inl more ↦ (let word : q / 8 ≡ (from + count) / 8 - from / 8 = omega arith in let there : (from + count) / 8 ≡ first + q / 8 = omega arith in
         ap (λ n. get_or loads n 0) word ∙ w_last (ends_there more (omega arith)) ∙ ap f there)
     | inr one ↦ (let word : q / 8 ≡ 0 = omega arith in let there : from / 8 ≡ first + q / 8 = omega arith in
@@ -117,7 +117,7 @@ module _ (f : ℕ → ℕ) (len from count first touched at room : ℕ) (new loa
     | inr from_here ↦ elim (cases_lt q (at + count)) [
       | inl here ↦ (let same : q - at ≡ 8 * first + q - from = omega arith in
           put_inside at count bytes new q (omega arith) from_here (omega arith) ∙ ap (λ n. get_or new n 0) same ∙ sym (with_range_inside old from new within (8 * first + q) (omega arith) (omega arith)))
-      | inr past ↦ put_behind at count bytes new q (omega arith) long past ∙ behind q past lt ∙ old_byte q lt ∙ sym (with_range_behind old from new within (8 * first + q) (omega arith))
+      | inr past ↦ put_after at count bytes new q (omega arith) long past ∙ byte_after q past lt ∙ old_byte q lt ∙ sym (with_range_after old from new within (8 * first + q) (omega arith))
     ]
   ]
 

@@ -27,17 +27,17 @@ among P (c ∷ cs) why h = cond_both c.0 (Some c.1) (first_cause cs) (λ (x : Op
     (λ _ e. among P cs why h.1 e)
 
 -- the causes of each command are those that it may be refused for
-listed : (s : State) (c : Command) → EachCause (MayRefuse c) (causes (moment_of s) c)
-listed s (Mutator m (New len ds)) = (tt, (tt, (tt, (tt, tt))))
-listed s (Mutator m Open) = (tt, (tt, tt))
-listed s (Mutator m (Write p from bytes)) = (tt, (tt, (tt, (tt, tt))))
-listed s (Mutator m (Read p from len)) = (tt, (tt, (tt, (tt, tt))))
-listed s (Mutator m Close) = (tt, (tt, tt))
-listed s (Mutator m (Where p)) = (tt, (tt, tt))
-listed s (Mutator m (Drop p)) = (tt, (tt, (tt, tt)))
-listed s (Book Logs) = tt
-listed s (Book (Log l)) = (tt, tt)
-listed s (Book Audit) = tt
+causes_listed : (s : State) (c : Command) → EachCause (MayRefuse c) (causes (moment_of s) c)
+causes_listed s (Mutator m (New len ds)) = (tt, (tt, (tt, (tt, tt))))
+causes_listed s (Mutator m Open) = (tt, (tt, tt))
+causes_listed s (Mutator m (Write p from bytes)) = (tt, (tt, (tt, (tt, tt))))
+causes_listed s (Mutator m (Read p from len)) = (tt, (tt, (tt, (tt, tt))))
+causes_listed s (Mutator m Close) = (tt, (tt, tt))
+causes_listed s (Mutator m (Where p)) = (tt, (tt, tt))
+causes_listed s (Mutator m (Drop p)) = (tt, (tt, (tt, tt)))
+causes_listed s (Book Logs) = tt
+causes_listed s (Book (Log l)) = (tt, tt)
+causes_listed s (Book Audit) = tt
 
 -- what isn't refused is no refusal
 pointer_is_no_refusal : (o : Option ℕ) (why : Refusal) → pointer_reply o ≢ Refused why
@@ -66,4 +66,4 @@ from_cause (Some cause) r why none e = let same : cause ≡ why = cc in ap Some 
 
 pub near_refusals : (now : Moment) (c : Command) (r : Reply) (next : Moment) (why : Refusal) → IsAtHandFor now c → Commanded now c r next → r ≡ Refused why → MayRefuse c why
 near_refusals now c r next why hand h e =
-    among (MayRefuse c) (causes now c) why (listed now.core c) (from_cause (refusal now c) (turn_reply now c) why (turn_is_no_refusal now.core c why) (sym h.reply ∙ e))
+    among (MayRefuse c) (causes now c) why (causes_listed now.core c) (from_cause (refusal now c) (turn_reply now c) why (turn_is_no_refusal now.core c why) (sym h.reply ∙ e))

@@ -63,8 +63,8 @@ module _ (bytes : List ℕ) (from : ℕ) (new : List ℕ) (fits : from + length 
       ∙ get_or-append_right (take from bytes) new from k 0 front le
 
   -- those behind stay
-  pub with_range_behind : (k : ℕ) → from + length new ≤ k → get_or (with_range bytes from new) k 0 ≡ get_or bytes k 0
-  with_range_behind k le =
+  pub with_range_after : (k : ℕ) → from + length new ≤ k → get_or (with_range bytes from new) k 0 ≡ get_or bytes k 0
+  with_range_after k le =
       let at : from + length new + (k - (from + length new)) ≡ k = omega arith in
       get_or-append_right (take from bytes ++ new) (drop (from + length new) bytes) (from + length new) k 0 fore le
       ∙ get_or-drop (from + length new) bytes (k - (from + length new)) 0 ∙ ap (λ q. get_or bytes q 0) at
@@ -75,6 +75,6 @@ module _ (bytes : List ℕ) (from : ℕ) (new : List ℕ) (fits : from + length 
     | inl below ↦ omega (arith, with_range_before k below, old k)
     | inr le ↦ elim (cases_lt k (from + length new)) [
       | inl inside ↦ omega (arith, with_range_inside k le inside, small (k - from))
-      | inr above ↦ omega (arith, with_range_behind k above, old k)
+      | inr above ↦ omega (arith, with_range_after k above, old k)
     ]
   ]

@@ -1,19 +1,17 @@
 -- Stores into an object that is held: each is made, and what holds between commands stays.
 use mathlib.Core.Path.{fun_ext}
-use Rattle.std.proofs.Common.{◌≡◌, ℕ, zero, suc, ◌+◌, ◌-◌, ◌*◌, ◌^◌, ◌<◌, true, refl, sym, ap, subst, ◌∙◌, arith, List, map}
+use Rattle.std.proofs.Common.{◌≡◌, ℕ, zero, suc, ◌+◌, ◌-◌, ◌*◌, ◌^◌, ◌<◌, true, sym, ap, subst, ◌∙◌, arith, List, map}
 use Rattle.std.specs.List.{range_with_len}
 use Rattle.far_word.specs.declared.pointer.Place.{Place}
 use Rattle.far_word.specs.Sizes.{words_for}
 use Rattle.far_core.specs.declared.event.Event.{Event}
 use Rattle.far_core.specs.declared.event.Event.TheVariants.{Store}
-use Rattle.far_core.specs.state.Law.{Law, head_len}
+use Rattle.far_core.specs.state.Law.{Law}
 use Rattle.far_core.specs.events.Legal.{Legal, HoldsObject}
-use Rattle.far_core.specs.state.State.{State, put, addr}
+use Rattle.far_core.specs.state.State.{State, put}
 use Rattle.far_word.specs.Pointer.{read_of}
 use Rattle.far_core.specs.events.Step.{is_legal, after, data_word, near_data}
-use Rattle.far_core.proofs.Bounds.{span_len}
 use Rattle.far_core.proofs.Keeps.{keeps}
-use Rattle.far_core.proofs.KeepWords.{head_stays}
 use Rattle.far_core.proofs.Owing.{is_test}
 use Rattle.far_replay.specs.Effects.{with_row}
 use Rattle.far_replay.specs.EventRows.{after_events, AllSucceed}
@@ -21,9 +19,9 @@ use Rattle.far_replay.specs.Between.{Between}
 use Rattle.far_replay.proofs.MadeLemmas.{made_first, first_succeeds}
 use Rattle.far_core.proofs.Rows.{row_none, row_first}
 
--- other words leave what holds between commands, if the headers stay
-pub between_words : (s : State) (word : ℕ → ℕ) → Between s → ((a : ℕ) → s.starts a ≡ true → word a ≡ s.word a) → Between record s { word = word }
-between_words s word between same = record {
+-- other words leave what holds between commands
+between_words : (s : State) (word : ℕ → ℕ) → Between s → Between record s { word = word }
+between_words s word between = record {
   at_hand = λ p ne. let h = between.at_hand p ne in record { len = h.len; ds = h.ds; place = h.place; marks = h.marks; near = h.near; unchosen = h.unchosen; unmoved = h.unmoved; kept = h.kept; used = h.used };
   unread = between.unread;
 }
@@ -35,23 +33,9 @@ module _ (m p len : ℕ) (place : Place) (w : ℕ → ℕ) (wide : (i : ℕ) →
   store_fact : (u : State) → HoldsObject u m p len place → (i : ℕ) → i < words_for len → Legal u (Store m p i (w i))
   store_fact u h i lt = (len, (place, h, lt), pad i lt)
 
-  -- a store leaves each header
-  store_heads : (u : State) → Law u → HoldsObject u m p len place → (i : ℕ) → i < words_for len → (a : ℕ) → u.starts a ≡ true → put u.word (data_word u p i) (w i) a ≡ u.word a
-  store_heads u law h i lt a start =
-      let near = h.near.2 in
-      let heads = law.cells.cell_near p len h.near.0 place h.near.1 near in
-      let long : head_len (u.word (addr place)) ≡ len = rw (span_len u law p len h.near.0 place h.near.1 near) refl in
-      let at : data_word u p i ≡ addr place + 1 + i = ap (λ o. near_data o + i) near in
-      subst (λ b. put u.word b (w i) a ≡ u.word a) (sym at)
-      (head_stays u law (addr place) heads.placed i (subst (λ n. i < words_for n) (sym long) lt) (w i) (wide i) (subst (λ n. w i < 2 ^ (8 * (n - 8 * i))) (sym long) (pad i lt)) a start)
-
   -- a store leaves the object held
   store_holds : (u : State) → HoldsObject u m p len place → (i : ℕ) → HoldsObject (after u (Store m p i (w i))) m p len place
   store_holds u h i = record { own = h.own; rests = h.rests; near = h.near }
-
-  -- a store keeps what holds between commands
-  store_between : (u : State) → Law u → Between u → HoldsObject u m p len place → (i : ℕ) → i < words_for len → Between (after u (Store m p i (w i)))
-  store_between u law between h i lt = between_words u (put u.word (data_word u p i) (w i)) between (store_heads u law h i lt)
 
   -- the stores succeed and keep what holds between commands
   pub stores_go : (count first : ℕ) (u : State) → Law u → Between u → HoldsObject u m p len place → ((i : ℕ) → i < count → first + i < words_for len) →
@@ -63,7 +47,7 @@ module _ (m p len : ℕ) (place : Place) (w : ℕ → ℕ) (wide : (i : ℕ) →
       let fact = store_fact u h first lt in
       let legal : is_legal u (Store m p first (w first)) ≡ true = is_test u (Store m p first (w first)) fact in
       let rest = stores_go count (first + 1) (after u (Store m p first (w first))) (keeps u (Store m p first (w first)) law (wide first) fact)
-      (store_between u law between h first lt) (store_holds u h first)
+      (between_words u (put u.word (data_word u p first) (w first)) between) (store_holds u h first)
       (λ i less. let e : first + suc i ≡ first + 1 + i = omega arith in subst (λ k. k < words_for len) e (inside (suc i) (omega arith))) in
       let row : List Event = map (λ i. Store m p i (w i)) (range_with_len (first + 1) count) in
       (first_succeeds u (Store m p first (w first)) row legal tt rest.0, subst (λ t. Between t) (sym (made_first u (Store m p first (w first)) row legal)) rest.1)

@@ -41,8 +41,8 @@ read_grown v x y z a n old xs buf same kept inside fits size bound first second 
       put_len b k us vs h e = omega (arith, length-append (take b us) (vs ++ post_of b k us), length-append vs (post_of b k us), length-take-le b us (omega arith), length-drop k (drop b us), length-drop b us)
 
 -- what was there stays, as more comes behind it
-pub kept_behind : (first now new tail : List ℕ) (m n : ℕ) → take m now ≡ first → new ≡ take n now ++ tail → m ≤ length now → length now ≤ n → take m new ≡ first
-kept_behind first now new tail m n before is inside whole =
+pub kept_after : (first now new tail : List ℕ) (m n : ℕ) → take m now ≡ first → new ≡ take n now ++ tail → m ≤ length now → length now ≤ n → take m new ≡ first
+kept_after first now new tail m n before is inside whole =
     let all : take n now ≡ now = take_all n now whole in
     ap (take m) (is ∙ ap (λ l. l ++ tail) all) ∙ take-append-le m now tail inside ∙ before
 
@@ -58,22 +58,22 @@ front_longer a b xs ys f =
     let same : take f.0 xs ≡ take f.0 (xs ++ ys) = sym (take-append-le f.0 xs ys (omega (arith, f.1))) in
     (f.0, omega (arith, f.1, length-append xs ys), subst (Appends a b) same f.2)
 
-front_behind : (a b c : Option (List ℕ)) (xs ys : List ℕ) → Appends a b xs → AppendsPart b c ys → AppendsPart a c (xs ++ ys)
-front_behind a b c xs ys h f =
+front_after : (a b c : Option (List ℕ)) (xs ys : List ℕ) → Appends a b xs → AppendsPart b c ys → AppendsPart a c (xs ++ ys)
+front_after a b c xs ys h f =
     (length xs + f.0, omega (arith, f.1, length-append xs ys), subst (Appends a c) (sym (take-append-add xs ys f.0)) (Appends-trans a b c xs (take f.0 ys) h f.2))
 
 -- one more piece, unless an earlier one failed
 pub writes_more : {A E : Type 0} (a b c : Option (List ℕ)) (earlier result : Result A E) (xs ys : List ℕ) → Writes a b earlier xs
     → MatchResult earlier (λ _. Writes b c result ys) (λ e. (result ≡ Err e) × (c ≡ b)) → Writes a c result (xs ++ ys)
 writes_more a b c (Ok u) (Ok v) xs ys h m = Appends-trans a b c xs ys h m
-writes_more a b c (Ok u) (Err e) xs ys h m = front_behind a b c xs ys h m
+writes_more a b c (Ok u) (Err e) xs ys h m = front_after a b c xs ys h m
 writes_more a b c (Err d) (Ok v) xs ys h m = absurd (cc m.0)
 writes_more a b c (Err d) (Err e) xs ys h m = subst (λ o. AppendsPart a o (xs ++ ys)) (sym m.1) (front_longer a b xs ys h)
 
 -- what waited is written
 pub held_written : {A E : Type 0} (start old now : Option (List ℕ)) (waiting bytes : List ℕ) (earlier result : Result A E) → ((d : E) → earlier ≡ Err d → ⊥) → Writes old now result waiting → Holds start old waiting earlier bytes → Holds start now [] result bytes
 held_written start old now waiting bytes (Ok v) (Ok w) none h k = (k.0 ++ waiting, Appends-trans start old now k.0 waiting k.1 h, append-nil (k.0 ++ waiting) ∙ k.2)
-held_written start old now waiting bytes (Ok v) (Err d) none h k = let f = front_behind start old now k.0 waiting k.1 h in subst (λ l. AppendsPart start now l) k.2 f
+held_written start old now waiting bytes (Ok v) (Err d) none h k = let f = front_after start old now k.0 waiting k.1 h in subst (λ l. AppendsPart start now l) k.2 f
 held_written start old now waiting bytes (Err d) result none h k = absurd (none d refl)
 
 -- one more piece waits

@@ -1,12 +1,10 @@
 -- Which shapes a heap line may say, and what each command takes of the logs.
-use Rattle.std.proofs.Common.{◌≡◌, ◌≤◌, ℕ, ◌+◌, nat_lt, ◌&&◌, true, is_some, sym, refl, ap, subst, arith, Option, Some, None}
-use Rattle.std.specs.Prelude.{◌↔◌, nat_le}
+use Rattle.std.proofs.Common.{◌≡◌, ◌≤◌, ℕ, ◌+◌, true, is_some, sym, refl, ap, subst, arith, Option, Some, None}
+use Rattle.std.specs.Prelude.{◌↔◌}
 use Rattle.std.proofs.lemmas.Bool.{cond_both, true≢false}
 use Rattle.std.proofs.lemmas.Bool.Decides.{nat_tests}
 use Rattle.far_word.specs.declared.pointer.Place.{Place}
 use Rattle.far_word.specs.declared.refused.Refused.{Refused as Refusal}
-use Rattle.far_word.specs.declared.refused.Refused.TheVariants.{Range, Length, NoPointer, NoRoom}
-use Rattle.far_word.specs.declared.sizes.TheConstants.{LONGEST}
 use Rattle.far_word.specs.Sizes.{size_of}
 use Rattle.far_core.specs.state.Room.{room}
 use Rattle.far_core.specs.state.Shape.{is_shape}
@@ -24,7 +22,7 @@ use Rattle.far_replay.specs.Objects.{lowest_cell}
 use Rattle.far_replay.specs.Reply.{Reply, Refused}
 use Rattle.far_replay.specs.Turn.{refusal, unless, turn_effect, turn_reply, reply_to, pointer_reply, with_new}
 use Rattle.far_replay.proofs.Drops.{retired_either}
-use Rattle.far_replay.proofs.Turns.{four, new_object_is}
+use Rattle.far_replay.proofs.Turns.{new_tests, new_object_is}
 
 pub shapes_are : (logs mutators : ℕ) → (is_shape (shape_of logs mutators) ≡ true) ↔ ((2 ≤ logs) × (logs ≤ 64) × (1 ≤ mutators) × (mutators ≤ 8))
 shapes_are logs mutators = ((λ h. (grind (arith, nat_tests), grind (arith, nat_tests), grind (arith, nat_tests), grind (arith, nat_tests))), (λ h. grind (arith, nat_tests)))
@@ -48,7 +46,7 @@ new_takes s m len ds None (Some p) (Some place) goes some tail = (place, goes, t
 takes : (s : State) (c : Command) (o : Option Refusal) → Law s → refusal (moment_of s) c ≡ o →
     TakesRoom (moment_of s) c (unless o Refused (turn_reply (moment_of s) c)) (unless o (λ _. moment_of s) (turn_effect (moment_of s) c))
 takes s (Mutator m (New len ds)) o law e = new_takes s m len ds o (lowest_cell s m) (room s (size_of len) true) refl (λ none.
-    let parts = four (nat_lt m s.mutators && nat_lt ds 256) (nat_lt 0 len && nat_le len LONGEST) (is_some (lowest_cell s m)) (is_some (room s (size_of len) true)) Range Length NoPointer NoRoom (subst (λ r. refusal (moment_of s) (Mutator m (New len ds)) ≡ r) none e) in
+    let parts = new_tests s m len ds (subst (λ r. refusal (moment_of s) (Mutator m (New len ds)) ≡ r) none e) in
     (parts.2, parts.3))
     (λ none p place cell found. ap (λ (t : State). t.tail) (new_object_is s m len ds p place law (subst (λ r. refusal (moment_of s) (Mutator m (New len ds)) ≡ r) none e) cell found))
 takes s (Mutator m Open) None law e = (refl, refl)

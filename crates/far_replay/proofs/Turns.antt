@@ -1,6 +1,6 @@
 -- The events of each command succeed, and keep the law and what holds between commands.
 use Rattle.std.proofs.Common.{◌≡◌, ◌≢◌, ℕ, ◌+◌, ◌*◌, ◌/◌, ◌%◌, ◌^◌, ◌<◌, ◌≤◌, ◌⊎◌, Bool, true, false, cond, not, ◌&&◌, nat_lt, nat_le, nat_eq, refl, sym, ap, subst, ◌∙◌, arith, Option, Some, None, List, [], ◌∷◌, ◌++◌, length, get_or, is_some, if◌then◌else◌, inl, inr}
-use Rattle.std.proofs.lemmas.Bool.{and_parts, false≢true, cond_both, ltb-true}
+use Rattle.std.proofs.lemmas.Bool.{and_parts, cond_both, ltb-true}
 use Rattle.std.proofs.lemmas.Bool.Decides.{nat_tests}
 use Rattle.far_word.specs.declared.mark.Marks.{Marks}
 use Rattle.far_word.specs.declared.pointer.Place.{Place}
@@ -24,6 +24,7 @@ use Rattle.far_core.specs.state.Law.{Law}
 use Rattle.far_core.specs.state.Room.{room}
 use Rattle.far_core.specs.state.State.{State, put, addr}
 use Rattle.far_core.specs.events.Step.{Fits, is_legal, is_opened, data_len, near_data, after_close, scope_word_of, with_span}
+use Rattle.far_core.proofs.Bounds.{some_of}
 use Rattle.far_core.proofs.KeepPlace.{header}
 use Rattle.far_core.proofs.Owing.{is_test}
 use Rattle.far_core.proofs.RoomLaws.{room_right}
@@ -48,7 +49,7 @@ use Rattle.far_replay.proofs.Spliced.{AreBytes, with_range_bytes, length-with_ra
 use Rattle.far_replay.proofs.StoreTurns.{stores_go, stores_end}
 use Rattle.far_replay.proofs.RangeWrites.{object_padded}
 use Rattle.far_replay.proofs.WriteEnds.{row_whole}
-use Rattle.far_replay.proofs.Views.{len_near, Viewed, viewed, view_is, view_succeeds, view_law, view_between}
+use Rattle.far_replay.proofs.Views.{len_near, Viewed, view_holds, view_is, view_succeeds, view_law, view_between}
 
 -- ---- what no refusal says
 -- four causes that aren't there
@@ -94,7 +95,7 @@ access_fact s m p from count law between e =
 module _ (s : State) (m p from count : ℕ) (law : Law s) (between : Between s) (access : Access s m p from count) where
   -- the object is held after the view
   pub viewing : Viewed s (after_events s (view_events s m p)) m p
-  viewing = viewed s m p law between access.opened access.ours
+  viewing = view_holds s m p law between access.opened access.ours
 
   -- the words that are touched are the object's
   touched_inside : (i : ℕ) → i < words_touched from count → first_word from + i < words_for (data_len s p)
@@ -191,7 +192,7 @@ module _ (s : State) (m p from : ℕ) (bytes : List ℕ) (law : Law s) (between 
 
   -- the object is held
   held : Viewed s view m p
-  held = viewed s m p law between access.opened access.ours
+  held = view_holds s m p law between access.opened access.ours
 
   -- the stores
   abbrev stores : List Event
@@ -202,8 +203,8 @@ module _ (s : State) (m p from : ℕ) (bytes : List ℕ) (law : Law s) (between 
   wide = packed_wide changed changed_bytes
 
   -- they succeed, and keep what holds between commands
-  stored : AllSucceed view stores × Between (after_events view stores)
-  stored = stores_go m p held.len held.place (packed_word changed) wide
+  stores_kept : AllSucceed view stores × Between (after_events view stores)
+  stores_kept = stores_go m p held.len held.place (packed_word changed) wide
       (λ i lt. packed_padded changed held.len i changed_bytes (changed_long ∙ held.long) lt)
       (words_touched from (length bytes)) (first_word from) view
       (view_law s m p law between access.opened access.ours) (view_between s m p law between access.opened access.ours) held.holds
@@ -214,22 +215,22 @@ module _ (s : State) (m p from : ℕ) (bytes : List ℕ) (law : Law s) (between 
   looks = view_events s m p ++ part_events m p from (length bytes)
 
   -- it ends where the view does
-  looked : after_events s looks ≡ view
-  looked = made-append s (view_events s m p) (part_events m p from (length bytes)) ∙ (parts s m p from (length bytes) law between access).1
+  looks_end : after_events s looks ≡ view
+  looks_end = made-append s (view_events s m p) (part_events m p from (length bytes)) ∙ (parts s m p from (length bytes) law between access).1
 
   -- the events of a write succeed
   pub write_succeeds : AllSucceed s (looks ++ stores)
   write_succeeds = AllSucceed-append s looks stores
       (AllSucceed-append s (view_events s m p) (part_events m p from (length bytes)) (view_succeeds s m p law between access.opened access.ours) (parts s m p from (length bytes) law between access).0)
-      (subst (λ t. AllSucceed t stores) (sym looked) stored.0)
+      (subst (λ t. AllSucceed t stores) (sym looks_end) stores_kept.0)
 
   -- they end where the stores do
   pub write_end : after_events s (looks ++ stores) ≡ after_events view stores
-  write_end = made-append s looks stores ∙ ap (λ t. after_events t stores) looked
+  write_end = made-append s looks stores ∙ ap (λ t. after_events t stores) looks_end
 
   -- they keep what holds between commands
   pub write_between : Between (after_events s (looks ++ stores))
-  write_between = subst Between (sym write_end) stored.1
+  write_between = subst Between (sym write_end) stores_kept.1
 
   -- the words that they carry are 64 bits wide
   pub write_fits : Each Fits (looks ++ stores)
@@ -283,19 +284,6 @@ room_next s size place law short found =
       ends (inl here) = here.1
       ends (inr empty) = empty.1 ∙ sym (law.logs.free_tail place.log empty.0)
 
-new_room : (s : State) (size : ℕ) → Law s → size ≤ LOG_WORDS → is_some (room s size true) ≡ true → (place : Place) × (room s size true ≡ Some place) × NewRoom s size place
-new_room s size law short found = at_room (room s size true) refl found where
-  at_room : (o : Option Place) → room s size true ≡ o → is_some o ≡ true → (place : Place) × (o ≡ Some place) × NewRoom s size place
-  at_room None e h = absurd (false≢true h)
-  at_room (Some place) e h = (place, refl, room_next s size place law short e)
-
--- the cell that is found is free, and the mutator's
-pub new_cell : (s : State) (m : ℕ) → is_some (lowest_cell s m) ≡ true → (p : ℕ) × (lowest_cell s m ≡ Some p) × (m * CELLS ≤ p) × (p < m * CELLS + CELLS) × (s.cell p ≡ 0)
-new_cell s m found = at_cell (lowest_cell s m) refl found where
-  at_cell : (o : Option ℕ) → lowest_cell s m ≡ o → is_some o ≡ true → (p : ℕ) × (o ≡ Some p) × (m * CELLS ≤ p) × (p < m * CELLS + CELLS) × (s.cell p ≡ 0)
-  at_cell None e h = absurd (false≢true h)
-  at_cell (Some p) e h = let l = lowest_cell_is s m p e in (p, refl, l.0, l.1, l.2)
-
 -- no marks
 abbrev clean : Marks
 clean = record { hot = false; evac = false; moved = false; dropped = false }
@@ -312,47 +300,77 @@ pub record Turned (s : State) (es : List Event) (t : State) : Type 0 where
 pub new_sizes : (m mutators len ds : ℕ) → (nat_lt m mutators && nat_lt ds 256) ≡ true → (nat_lt 0 len && nat_le len LONGEST) ≡ true → (m < mutators) × (ds < 256) × (0 < len) × (len ≤ LONGEST)
 new_sizes m mutators len ds a b = (grind (arith, nat_tests), grind (arith, nat_tests), grind (arith, nat_tests), grind (arith, nat_tests))
 
--- the events of a new object
-new_turned : (s : State) (m len ds : ℕ) → Law s → Between s → refusal (moment_of s) (Mutator m (New len ds)) ≡ None →
-    Turned s (turn_events (moment_of s) (Mutator m (New len ds))) (turn_effect (moment_of s) (Mutator m (New len ds))).core
-new_turned s m len ds law between e =
-    let h = four (nat_lt m s.mutators && nat_lt ds 256) (nat_lt 0 len && nat_le len LONGEST) (is_some (lowest_cell s m)) (is_some (room s (size_of len) true)) Range Length NoPointer NoRoom e in
-    let sizes = new_sizes m s.mutators len ds h.0 h.1 in
-    let cell = new_cell s m h.2 in
-    let found = new_room s (size_of len) law (omega (arith, sizes.3)) h.3 in
-    let p : ℕ = cell.0 in
-    let new : ℕ = near_word len ds found.0 in
-    let row : List Event = (Puts found.0.log found.0.at (head_word cell.0 len ds) ∷ zero_puts found.0 (words_for len)) ++ Names cell.0 0 (near_word len ds found.0) ∷ Adopts m cell.0 ∷ [] in
-    let same : new_events m len ds (lowest_cell s m) (room s (size_of len) true) ≡ row =
-    ap (λ o. new_events m len ds o (room s (size_of len) true)) cell.1 ∙ ap (new_events m len ds (Some cell.0)) found.1 in
-    let lies : IsPtr (Near len ds found.0 clean) = (sizes.2, sizes.3, sizes.1, omega (arith, found.2.next.0, law.shape.few_logs), found.2.fits) in
-    let reads : read_of new ≡ Some (Near len ds found.0 clean) = read_back (Near len ds found.0 clean) lies in
-    let fit : Each Fits row = Each-append Fits (Puts found.0.log found.0.at (head_word cell.0 len ds) ∷ zero_puts found.0 (words_for len)) (Names cell.0 0 (near_word len ds found.0) ∷ Adopts m cell.0 ∷ []) (
-      head_fits (header cell.0 len ds) (record { some = sizes.2; most = sizes.3; structure = sizes.1; cell = omega (arith, sizes.0, cell.2, cell.3, law.shape.few_mutators) }),
-      Each-row Fits (λ i. Puts found.0.log (found.0.at + 1 + i) 0) 0 (words_for len) (λ i lt. omega arith),
-    )
-    ((omega arith, word_fits (Near len ds found.0 clean) lies), (tt, tt)) in
-    let result : with_new s m len ds (lowest_cell s m) (room s (size_of len) true) ≡ with_object s m p len ds found.0 =
-    ap (λ o. with_new s m len ds o (room s (size_of len) true)) cell.1 ∙ ap (with_new s m len ds (Some cell.0)) found.1 in
-    subst (λ (x : List Event × State). Turned s x.0 x.1) (λ i. (sym same i, sym result i)) record {
-      succeed = new_succeeds s law m p len ds new found.0 sizes.0 cell.2 cell.3 cell.4 sizes.2 sizes.3 sizes.1 found.2.next found.2.fits found.2.here reads;
-      between = new_between s law m p len ds new found.0 sizes.0 cell.2 cell.3 cell.4 sizes.2 sizes.3 sizes.1 found.2.next found.2.fits found.2.here reads between;
-      law = made_law s row law fit;
-      fit = fit;
-      ends = new_end s law m p len ds new found.0 sizes.0 cell.2 cell.3 cell.4 sizes.2 sizes.3 sizes.1 found.2.next found.2.fits found.2.here reads
-          ∙ sym (object_is s law m p len ds new found.0 sizes.0 cell.2 cell.3 cell.4 sizes.2 sizes.3 sizes.1 found.2.next found.2.fits found.2.here reads refl);
+-- none of them failed, if it isn't refused
+pub new_tests : (s : State) (m len ds : ℕ) → refusal (moment_of s) (Mutator m (New len ds)) ≡ None →
+    ((nat_lt m s.mutators && nat_lt ds 256) ≡ true) × ((nat_lt 0 len && nat_le len LONGEST) ≡ true) × (is_some (lowest_cell s m) ≡ true) × (is_some (room s (size_of len) true) ≡ true)
+new_tests s m len ds = four (nat_lt m s.mutators && nat_lt ds 256) (nat_lt 0 len && nat_le len LONGEST) (is_some (lowest_cell s m)) (is_some (room s (size_of len) true)) Range Length NoPointer NoRoom
+
+-- the numbers of a new object that isn't refused
+pub record NewParts (s : State) (m len ds p : ℕ) (place : Place) : Type 0 where
+  pub owner : m < s.mutators
+  pub structure : ds < 256
+  pub some : 0 < len
+  pub most : len ≤ LONGEST
+  pub low : m * CELLS ≤ p
+  pub high : p < m * CELLS + CELLS
+  pub free : s.cell p ≡ 0
+  pub room : NewRoom s (size_of len) place
+  pub lies : IsPtr (Near len ds place clean)
+
+new_parts : (s : State) (m len ds p : ℕ) (place : Place) → Law s → refusal (moment_of s) (Mutator m (New len ds)) ≡ None → lowest_cell s m ≡ Some p → room s (size_of len) true ≡ Some place → NewParts s m len ds p place
+new_parts s m len ds p place law e cell found =
+    let tests = new_tests s m len ds e in
+    let sizes = new_sizes m s.mutators len ds tests.0 tests.1 in
+    let own = lowest_cell_is s m p cell in
+    let there = room_next s (size_of len) place law (omega (arith, sizes.3)) found in
+    record {
+      owner = sizes.0;
+      structure = sizes.1;
+      some = sizes.2;
+      most = sizes.3;
+      low = own.0;
+      high = own.1;
+      free = own.2;
+      room = there;
+      lies = (sizes.2, sizes.3, sizes.1, omega (arith, there.next.0, law.shape.few_logs), there.fits);
     }
 
--- a new object that isn't refused, written out
+-- such an object, written out
 pub new_object_is : (s : State) (m len ds p : ℕ) (place : Place) → Law s → refusal (moment_of s) (Mutator m (New len ds)) ≡ None → lowest_cell s m ≡ Some p → room s (size_of len) true ≡ Some place →
     with_object s m p len ds place ≡ record (with_span record s { word = with_row (put s.word (addr place) (head_word p len ds)) (addr place + 1) (words_for len) (λ _. 0) } p (near_word len ds place) len place) { used = put s.used p true }
 new_object_is s m len ds p place law e cell found =
-    let h = four (nat_lt m s.mutators && nat_lt ds 256) (nat_lt 0 len && nat_le len LONGEST) (is_some (lowest_cell s m)) (is_some (room s (size_of len) true)) Range Length NoPointer NoRoom e in
-    let sizes = new_sizes m s.mutators len ds h.0 h.1 in
-    let own = lowest_cell_is s m p cell in
-    let there = room_next s (size_of len) place law (omega (arith, sizes.3)) found in
-    let reads = read_back (Near len ds place clean) (sizes.2, sizes.3, sizes.1, omega (arith, there.next.0, law.shape.few_logs), there.fits) in
-    object_is s law m p len ds (near_word len ds place) place sizes.0 own.0 own.1 own.2 sizes.2 sizes.3 sizes.1 there.next there.fits there.here reads refl
+    let parts = new_parts s m len ds p place law e cell found in
+    object_is s law m p len ds (near_word len ds place) place parts.owner parts.low parts.high parts.free parts.some parts.most parts.structure parts.room.next parts.room.fits parts.room.here (read_back (Near len ds place clean) parts.lies) refl
+
+-- its events
+new_turned : (s : State) (m len ds : ℕ) → Law s → Between s → refusal (moment_of s) (Mutator m (New len ds)) ≡ None →
+    Turned s (turn_events (moment_of s) (Mutator m (New len ds))) (turn_effect (moment_of s) (Mutator m (New len ds))).core
+new_turned s m len ds law between e =
+    let tests = new_tests s m len ds e in
+    let cell = some_of (lowest_cell s m) tests.2 in
+    let found = some_of (room s (size_of len) true) tests.3 in
+    let p : ℕ = cell.0 in
+    let place : Place = found.0 in
+    let new : ℕ = near_word len ds place in
+    let parts = new_parts s m len ds p place law e cell.1 found.1 in
+    let reads : read_of new ≡ Some (Near len ds place clean) = read_back (Near len ds place clean) parts.lies in
+    let puts : List Event = Puts place.log place.at (head_word p len ds) ∷ zero_puts place (words_for len) in
+    let names : List Event = Names p 0 new ∷ Adopts m p ∷ [] in
+    let fit : Each Fits (puts ++ names) = Each-append Fits puts names (
+      head_fits (header p len ds) (record { some = parts.some; most = parts.most; structure = parts.structure; cell = omega (arith, parts.owner, parts.low, parts.high, law.shape.few_mutators) }),
+      Each-row Fits (λ i. Puts place.log (place.at + 1 + i) 0) 0 (words_for len) (λ i lt. omega arith),
+    )
+    ((omega arith, word_fits (Near len ds place clean) parts.lies), (tt, tt)) in
+    let events : new_events m len ds (lowest_cell s m) (room s (size_of len) true) ≡ puts ++ names = (λ i. new_events m len ds (cell.1 i) (found.1 i)) in
+    let result : with_new s m len ds (lowest_cell s m) (room s (size_of len) true) ≡ with_object s m p len ds place = (λ i. with_new s m len ds (cell.1 i) (found.1 i)) in
+    subst (λ (x : List Event × State). Turned s x.0 x.1) (λ i. (sym events i, sym result i)) record {
+      succeed = new_succeeds s law m p len ds new place parts.owner parts.low parts.high parts.free parts.some parts.most parts.structure parts.room.next parts.room.fits parts.room.here reads;
+      between = new_between s law m p len ds new place parts.owner parts.low parts.high parts.free parts.some parts.most parts.structure parts.room.next parts.room.fits parts.room.here reads between;
+      law = made_law s (puts ++ names) law fit;
+      fit = fit;
+      ends = new_end s law m p len ds new place parts.owner parts.low parts.high parts.free parts.some parts.most parts.structure parts.room.next parts.room.fits parts.room.here reads
+          ∙ sym (new_object_is s m len ds p place law e cell.1 found.1);
+    }
 
 -- ---- scopes
 -- each named cell stays at hand where cells and their use stay
@@ -378,8 +396,8 @@ between_scopes s scope remembered held between unread =
     record { at_hand = same_hands s (record s { scope = scope; remembered = remembered; held = held }) refl refl between.at_hand; unread = unread }
 
 -- a scope that isn't open is closed
-pub shut : (s : State) (m : ℕ) → nat_lt m s.mutators ≡ true → is_opened s m ≡ false → (m < s.mutators) × (s.scope m ≡ 0)
-shut s m within opened = (grind (arith, nat_tests), grind (arith, nat_tests))
+pub scope_is_shut : (s : State) (m : ℕ) → nat_lt m s.mutators ≡ true → is_opened s m ≡ false → (m < s.mutators) × (s.scope m ≡ 0)
+scope_is_shut s m within opened = (grind (arith, nat_tests), grind (arith, nat_tests))
 
 module _ (s : State) (m : ℕ) (law : Law s) (between : Between s) (closed_now : (m < s.mutators) × (s.scope m ≡ 0)) where
   -- the state after the epoch is read
@@ -469,13 +487,13 @@ none_turned : (s : State) → Law s → Between s → Turned s [] s
 none_turned s law between = record { succeed = tt; between = between; law = law; fit = tt; ends = refl }
 
 -- a command that isn't refused
-turned : (s : State) (c : Command) → Law s → Between s → WritesBytes c → refusal (moment_of s) c ≡ None →
+command_turned : (s : State) (c : Command) → Law s → Between s → WritesBytes c → refusal (moment_of s) c ≡ None →
     Turned s (turn_events (moment_of s) c) (turn_effect (moment_of s) c).core
-turned s (Mutator m (New len ds)) law between small e = new_turned s m len ds law between e
-turned s (Mutator m Open) law between small e =
+command_turned s (Mutator m (New len ds)) law between small e = new_turned s m len ds law between e
+command_turned s (Mutator m Open) law between small e =
     let h = two (nat_lt m s.mutators) (is_opened s m) Range AlreadyOpen e in
-    open_turned s m law between (shut s m h.0 h.1)
-turned s (Mutator m (Write p from bytes)) law between small e =
+    open_turned s m law between (scope_is_shut s m h.0 h.1)
+command_turned s (Mutator m (Write p from bytes)) law between small e =
     let access = access_fact s m p from (length bytes) law between e in
     record {
       succeed = write_succeeds s m p from bytes law between access small;
@@ -484,7 +502,7 @@ turned s (Mutator m (Write p from bytes)) law between small e =
       fit = write_fits s m p from bytes law between access small;
       ends = write_is s m p from bytes law between access small;
     }
-turned s (Mutator m (Read p from len)) law between small e =
+command_turned s (Mutator m (Read p from len)) law between small e =
     let access = access_fact s m p from len law between e in
     record {
       succeed = read_succeeds s m p from len law between access;
@@ -493,19 +511,19 @@ turned s (Mutator m (Read p from len)) law between small e =
       fit = read_fits s m p from len law between access;
       ends = read_is s m p from len law between access;
     }
-turned s (Mutator m Close) law between small e = close_turned s m law between (two_open (nat_lt m s.mutators) (is_opened s m) e) where
+command_turned s (Mutator m Close) law between small e = close_turned s m law between (two_open (nat_lt m s.mutators) (is_opened s m) e) where
   two_open : (a b : Bool) → first_cause ((not a, Range) ∷ (not b, Closed) ∷ []) ≡ None → b ≡ true
   two_open true true f = refl
   two_open true false f = absurd cc
   two_open false b f = absurd cc
-turned s (Mutator m (Where p)) law between small e = none_turned s law between
-turned s (Mutator m (Drop p)) law between small e = drop_turned s m p law between (three (nat_lt m s.mutators) (uses s m p) (is_some (s.held p)) Range NotHeld Held e)
-turned s (Book inquiry) law between small e = none_turned s law between
+command_turned s (Mutator m (Where p)) law between small e = none_turned s law between
+command_turned s (Mutator m (Drop p)) law between small e = drop_turned s m p law between (three (nat_lt m s.mutators) (uses s m p) (is_some (s.held p)) Range NotHeld Held e)
+command_turned s (Book inquiry) law between small e = none_turned s law between
 
 -- each command: a refused one does nothing
 turn_at : (s : State) (c : Command) (o : Option Refusal) → refusal (moment_of s) c ≡ o → Law s → Between s → WritesBytes c →
     Turned s (unless o (λ _. []) (turn_events (moment_of s) c)) (unless o (λ _. moment_of s) (turn_effect (moment_of s) c)).core
-turn_at s c None e law between small = turned s c law between small e
+turn_at s c None e law between small = command_turned s c law between small e
 turn_at s c (Some why) e law between small = none_turned s law between
 
 -- the events of a command lead to the moment after it
@@ -515,4 +533,4 @@ turns s c law between small = turn_at s c (refusal (moment_of s) c) refl law bet
 -- what a command that isn't refused makes of the heap is what its events make
 pub made_by_events : (s t : State) (c : Command) → Law s → Between s → WritesBytes c → refusal (moment_of s) c ≡ None → t ≡ (turn_effect (moment_of s) c).core → t ≡ after_events s (events_for (moment_of s) c)
 made_by_events s t c law between small none is =
-    is ∙ sym (turned s c law between small none).ends ∙ ap (λ o. after_events s (unless o (λ _. []) (turn_events (moment_of s) c))) (sym none)
+    is ∙ sym (command_turned s c law between small none).ends ∙ ap (λ o. after_events s (unless o (λ _. []) (turn_events (moment_of s) c))) (sym none)

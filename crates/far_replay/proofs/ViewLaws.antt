@@ -29,7 +29,7 @@ use Rattle.far_replay.specs.Events.{turn_events, zero_puts, new_events, open_eve
 use Rattle.far_replay.specs.Objects.{lowest_cell, with_range, data_of}
 use Rattle.far_replay.specs.Effects.{near_word}
 use Rattle.far_replay.specs.Turn.{refusal, unless, turn_reply, reply_to}
-use Rattle.far_replay.proofs.Lasting.{Lasts, carried, moment_lasts, still_lasts}
+use Rattle.far_replay.proofs.Lasting.{Lasts, command_carried, moment_lasts, still_lasts}
 use Rattle.far_replay.proofs.Turns.{turns}
 use Rattle.far_replay.proofs.ViewsRest.{NoClose, ClosesLast, none_closes, fronts_stay, held_now}
 use Rattle.far_replay.proofs.Each.{Each, Each-append, Each-row}
@@ -71,8 +71,8 @@ news m len ds (Some p) (Some place) =
     (((λ _ _ e. absurd cc), (λ _ e. absurd cc)), Each-row LeavesViews (λ i. Puts place.log (place.at + 1 + i) 0) 0 (words_for len) (λ i _. ((λ _ _ e. absurd cc), (λ _ e. absurd cc))))
     (((λ _ _ e. absurd cc), (λ _ e. absurd cc)), (((λ _ _ e. absurd cc), (λ _ e. absurd cc)), tt))
 
-pub dropped : (s : State) (m p : ℕ) → Each LeavesViews (drop_events s m p)
-dropped s m p = (((λ _ _ e. absurd cc), (λ _ e. absurd cc)), (((λ _ _ e. absurd cc), (λ _ e. absurd cc)), (((λ _ _ e. absurd cc), (λ _ e. absurd cc)), tt)))
+pub drop_leaves_views : (s : State) (m p : ℕ) → Each LeavesViews (drop_events s m p)
+drop_leaves_views s m p = (((λ _ _ e. absurd cc), (λ _ e. absurd cc)), (((λ _ _ e. absurd cc), (λ _ e. absurd cc)), (((λ _ _ e. absurd cc), (λ _ e. absurd cc)), tt)))
 
 -- ---- the view of a read or a write
 -- a pin that gives a view views its object
@@ -96,8 +96,8 @@ view_made s m p None e ok =
     }
 
 -- events after the view leave it
-behind : (s t : State) (p : ℕ) (es : List Event) → ViewsObject s t p → Each LeavesViews es → ViewsObject s (after_events t es) p
-behind s t p es view q =
+stays_viewed : (s t : State) (p : ℕ) (es : List Event) → ViewsObject s t p → Each LeavesViews es → ViewsObject s (after_events t es) p
+stays_viewed s t p es view q =
     let same : (after_events t es).held ≡ t.held = row_stays t es q in
     record {
       viewed = ap (λ (f : ℕ → Option Place). is_some (f p)) same ∙ view.viewed;
@@ -105,15 +105,15 @@ behind s t p es view q =
       others = λ r ne. ap (λ (f : ℕ → Option Place). f r) same ∙ view.others r ne;
     }
 
-viewed_behind : (s : State) (m p : ℕ) (es : List Event) → Carries s (view_events s m p ++ es) → Each LeavesViews es → ViewsObject s (after_events s (view_events s m p ++ es)) p
-viewed_behind s m p es ok q =
+viewed_after : (s : State) (m p : ℕ) (es : List Event) → Carries s (view_events s m p ++ es) → Each LeavesViews es → ViewsObject s (after_events s (view_events s m p ++ es)) p
+viewed_after s m p es ok q =
     let view = view_made s m p (s.held p) refl (Carries-front s (view_events s m p) es ok) in
-    subst (λ t. ViewsObject s t p) (sym (made-append s (view_events s m p) es)) (behind s (after_events s (view_events s m p)) p es view q)
+    subst (λ t. ViewsObject s t p) (sym (made-append s (view_events s m p) es)) (stays_viewed s (after_events s (view_events s m p)) p es view q)
 
-viewed_twice_behind : (s : State) (m p : ℕ) (es fs : List Event) → Carries s (view_events s m p ++ es ++ fs) → Each LeavesViews es → Each LeavesViews fs → ViewsObject s (after_events s (view_events s m p ++ es ++ fs)) p
-viewed_twice_behind s m p es fs ok q r =
-    let first = viewed_behind s m p es (Carries-front s (view_events s m p ++ es) fs ok) q in
-    subst (λ t. ViewsObject s t p) (sym (made-append s (view_events s m p ++ es) fs)) (behind s (after_events s (view_events s m p ++ es)) p fs first r)
+viewed_twice_after : (s : State) (m p : ℕ) (es fs : List Event) → Carries s (view_events s m p ++ es ++ fs) → Each LeavesViews es → Each LeavesViews fs → ViewsObject s (after_events s (view_events s m p ++ es ++ fs)) p
+viewed_twice_after s m p es fs ok q r =
+    let first = viewed_after s m p es (Carries-front s (view_events s m p ++ es) fs ok) q in
+    subst (λ t. ViewsObject s t p) (sym (made-append s (view_events s m p ++ es) fs)) (stays_viewed s (after_events s (view_events s m p ++ es)) p fs first r)
 
 -- a close that succeeds ends its mutator's views
 close_views : (s : State) (m : ℕ) → Succeeds (Closes m) (step_of s (Closes m)).1 → ViewsNothing s (step_of s (Closes m)).0 m
@@ -142,17 +142,17 @@ views_after s (Mutator m (New len ds)) None ok = row_stays s (turn_events (momen
 views_after s (Mutator m Open) None ok = row_stays s (open_events s m) (opens s m)
 views_after s (Mutator m (Write p from bytes)) None ok =
     let new : List ℕ = with_range (data_of s p) from bytes in
-    viewed_twice_behind s m p (part_events m p from (length bytes)) (store_events m p (first_word from) (words_touched from (length bytes)) new) ok
+    viewed_twice_after s m p (part_events m p from (length bytes)) (store_events m p (first_word from) (words_touched from (length bytes)) new) ok
     (parts m p from (length bytes)) (stores m p (first_word from) (words_touched from (length bytes)) new)
-views_after s (Mutator m (Read p from len)) None ok = viewed_behind s m p (load_events m p (first_word from) (words_touched from len)) ok (loads m p (first_word from) (words_touched from len))
+views_after s (Mutator m (Read p from len)) None ok = viewed_after s m p (load_events m p (first_word from) (words_touched from len)) ok (loads m p (first_word from) (words_touched from len))
 views_after s (Mutator m Close) None ok = close_views s m ok.succeed.0
 views_after s (Mutator m (Where p)) None ok = refl
-views_after s (Mutator m (Drop p)) None ok = row_stays s (drop_events s m p) (dropped s m p)
+views_after s (Mutator m (Drop p)) None ok = row_stays s (drop_events s m p) (drop_leaves_views s m p)
 views_after s (Book inquiry) None ok = refl
 
 pub views_last : (now : Moment) (c : Command) (r : Reply) (next : Moment) → IsMoment now → WritesBytes c → Commanded now c r next → ViewsAfter now c r next
 views_last now c r next is later h =
-    let x = carried now c r next (moment_lasts now is) later h in
+    let x = command_carried now c r next (moment_lasts now is) later h in
     subst (λ y. ViewsAfter now c y next) (sym x.reply)
     (subst (λ (t : State). ViewsAfter now c (reply_to now c) (moment_of t)) (sym x.state) (views_after now.core c (refusal now c) x.made))
 
@@ -179,7 +179,7 @@ closes_last s (Mutator m (Read p from len)) =
     none_closes (view_events s m p ++ loaded) (view_no_close s m p loaded (no_close loaded (loads m p (first_word from) (words_touched from len))))
 closes_last s (Mutator m Close) = tt
 closes_last s (Mutator m (Where p)) = tt
-closes_last s (Mutator m (Drop p)) = none_closes (drop_events s m p) (no_close (drop_events s m p) (dropped s m p))
+closes_last s (Mutator m (Drop p)) = none_closes (drop_events s m p) (no_close (drop_events s m p) (drop_leaves_views s m p))
 closes_last s (Book inquiry) = tt
 
 command_closes_last : (s : State) (c : Command) (o : Option Refusal) → ClosesLast (unless o (λ _. []) (turn_events (moment_of s) c))

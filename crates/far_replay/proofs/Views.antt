@@ -13,7 +13,6 @@ use Rattle.far_word.specs.Pointer.{read_of}
 use Rattle.far_core.specs.declared.event.Event.TheVariants.{Pin}
 use Rattle.far_core.specs.state.Law.{Law}
 use Rattle.far_core.specs.events.Legal.{HoldsObject}
-use Rattle.far_core.specs.state.Spans.{names_place}
 use Rattle.far_core.specs.state.State.{State}
 use Rattle.far_core.specs.events.Step.{answer, is_legal, is_opened, near_data, near_len, data_len, place_to_view, after_pin, with_hold}
 use Rattle.far_core.proofs.Cells.{map_mark, held_near}
@@ -43,13 +42,6 @@ near_len-hot None = refl
 near_len-hot (Some pointer.Free) = refl
 near_len-hot (Some (Near len ds place m)) = refl
 near_len-hot (Some (Far len ds m)) = refl
-
--- the place that is named
-pub names_place-hot : (o : Option PtrWord) (l at : ℕ) → names_place (map_mark Hot o) l at ≡ names_place o l at
-names_place-hot None l at = refl
-names_place-hot (Some pointer.Free) l at = refl
-names_place-hot (Some (Near len ds place m)) l at = refl
-names_place-hot (Some (Far len ds m)) l at = refl
 
 -- what a cell says of an object that may be dereferenced at once
 pub record Ready (o : Option PtrWord) : Type 0 where
@@ -179,8 +171,8 @@ module _ (s : State) (m p : ℕ) (law : Law s) (between : Between s) (opened : i
       }
 
   -- after the view the object is held, and the words, its place and its length are as before
-  pub viewed : Viewed s (after_events s (view_events s m p)) m p
-  viewed = at_view (λ t. Viewed s t m p) old_viewed pin_viewed
+  pub view_holds : Viewed s (after_events s (view_events s m p)) m p
+  view_holds = at_view (λ t. Viewed s t m p) old_viewed pin_viewed
 
   -- a pin leaves at hand what was
   pin_hand : (q : ℕ) → (after_pin s p).cell q ≢ 0 → AtHand (after_pin s p) q

@@ -9,7 +9,7 @@ use Rattle.far_replay.specs.Events.{first_word, words_touched}
 use Rattle.far_replay.specs.Objects.{with_range}
 use Rattle.far_replay.proofs.RangeWrites.{word_same}
 use Rattle.far_core.proofs.Rows.{row_in, row_out, row_is}
-use Rattle.far_replay.proofs.Spliced.{with_range_before, with_range_behind}
+use Rattle.far_replay.proofs.Spliced.{with_range_before, with_range_after}
 
 module _ (word : ℕ → ℕ) (d len from : ℕ) (bytes : List ℕ) (fits : from + length bytes ≤ len) (some : 0 < length bytes)
     (wide : (a : ℕ) → word a < 2 ^ 64) (pads : (i : ℕ) → i < words_for len → word (d + i) < 2 ^ (8 * (len - 8 * i))) where
@@ -33,7 +33,7 @@ module _ (word : ℕ → ℕ) (d len from : ℕ) (bytes : List ℕ) (fits : from
 
         same_byte : (k : ℕ) → (k < from) ⊎ (from + length bytes ≤ k) → get_or new k 0 ≡ get_or old k 0
         same_byte k (inl low) = with_range_before old from bytes within k low
-        same_byte k (inr high) = with_range_behind old from bytes within k high
+        same_byte k (inr high) = with_range_after old from bytes within k high
 
   -- the words that the range touches, made new, are all of the object's made new
   pub row_whole : with_row word (d + first_word from) (words_touched from (length bytes)) (λ i. packed_word new (first_word from + i)) ≡ with_row word d (words_for len) (packed_word new)

@@ -1,5 +1,5 @@
 -- What the calls of a mutator make of a heap's core: one function on states for each.
-use Rattle.std.specs.Prelude.{ℕ, ◌+◌, true, Option, Some, None, is_some, List, if◌then◌else◌}
+use Rattle.std.specs.Prelude.{ℕ, Option, Some, None, is_some, List, if◌then◌else◌}
 use Rattle.far_word.specs.declared.mark.Mark.TheVariants.{Dropped}
 use Rattle.far_word.specs.declared.pointer.Place.{Place}
 use Rattle.far_word.specs.Bytes.{packed_word}

@@ -218,14 +218,35 @@ fn entry_by_name<'a>(name: &[u8], rest: Rest<'a>) -> Option<Spelled<'a>>
     None
 }
 
-// What the first line of a text spells, by its first word.
+/// What the first line of a text spells, by its first word.
 #[inline(never)]
-fn entry_by_first_word(text: &[u8]) -> Option<Spelled<'_>>
+pub fn entry_by_first_word(text: &[u8]) -> Option<Spelled<'_>>
     ensures value { option_map (λ found. as_entry found.0) result ≡ entry_of (words_in text.now) }
     ensures lines { IfSome result (λ found. lines_left found.1 ≡ lines_after_first text.now) }
 {
     let (name, rest) = word_first(text);
     entry_by_name(name, rest)
+}
+
+// What the first line of a text spells, by the names that are not rare, and else by its first word.
+#[inline(never)]
+fn entry_by_name_first(text: &[u8]) -> Option<Spelled<'_>>
+    ensures value { option_map (λ found. as_entry found.0) result ≡ entry_of (words_in text.now) }
+    ensures lines { IfSome result (λ found. lines_left found.1 ≡ lines_after_first text.now) }
+{
+    if let [b'n', b'e', b'w', b' ', rest @ ..] = text {
+        return new_spelled(Rest::Words(rest));
+    }
+    if let [b'd', b'r', b'o', b'p', b' ', rest @ ..] = text {
+        return drop_spelled(Rest::Words(rest));
+    }
+    if let [b'o', b'p', b'e', b'n', b' ', rest @ ..] = text {
+        return open_spelled(Rest::Words(rest));
+    }
+    if let [b'c', b'l', b'o', b's', b'e', b' ', rest @ ..] = text {
+        return close_spelled(Rest::Words(rest));
+    }
+    entry_by_first_word(text)
 }
 
 /// What the first line of a text spells. The two commands that traces are full of are known by their first bytes.
@@ -240,5 +261,5 @@ pub fn entry_first(text: &[u8]) -> Option<Spelled<'_>>
     if let [b'w', b'r', b'i', b't', b'e', b' ', rest @ ..] = text {
         return write_spelled(Rest::Words(rest));
     }
-    entry_by_first_word(text)
+    entry_by_name_first(text)
 }

@@ -11,7 +11,7 @@ ghost use Rattle.far_replay.specs.Outcome.{IsInRoom};
 ghost use Rattle.far_replay.specs.Turn.{reply_to};
 
 use crate::outcome::Outcome;
-use crate::turn::own_pointer;
+use crate::owners::own_pointer;
 use far_book::{Book, Plain};
 use far_core::Event;
 use far_word::{Mark, Refused};

@@ -45,7 +45,8 @@ impl<'a> HexWord<'a> {
         self.digits.len() / 2
     }
 
-    /// Fills the room, which is as long as the bytes, with them.
+    /// Fills the room, which is as long as the bytes, with them. Apart from its callers it has registers enough.
+    #[inline(never)]
     pub fn decode_into(&self, room: &mut [u8])
         requires { length room.old ≡ length (hex_bytes self.now.digits.now) }
         ensures { room.new ≡ hex_bytes self.now.digits.now }
@@ -58,7 +59,7 @@ impl<'a> HexWord<'a> {
 fn is_digit(byte: u8) -> bool
     ensures { result ≡ is_hex_digit byte }
 {
-    matches!(byte, b'0'..=b'9' | b'a'..=b'f' | b'A'..=b'F')
+    matches!(byte, b'0'..=b'9') | matches!(byte, b'a'..=b'f') | matches!(byte, b'A'..=b'F')
 }
 
 // Whether all bytes of a word are digits. No byte ends the search, so that the processor tests many at once.

@@ -1,11 +1,11 @@
 //! What a heap is asked: where an object is, what a log has, and how many objects there are.
 
-ghost use Rattle.std.specs.Prelude.{◌≡◌, ◌<◌, ◌≤◌, ◌*◌, ℕ, length, map, take, sum};
+ghost use Rattle.std.specs.Prelude.{◌≡◌, ◌<◌, ◌*◌, length, map, take, sum};
 ghost use Rattle.std.specs.List.{range_with_len};
-ghost use Rattle.far_word.specs.declared.sizes.TheConstants.{LOG_WORDS, MOST_LOGS};
+ghost use Rattle.far_word.specs.declared.sizes.TheConstants.{MOST_LOGS};
 ghost use Rattle.far_word.specs.Pointer.{read_of};
 ghost use Rattle.far_core.specs.state.Law.{Law};
-ghost use Rattle.far_replay.specs.Audit.{bytes_by_log, counts_of, lies_near, lies_far, pointers_by};
+ghost use Rattle.far_replay.specs.Audit.{bytes_by_log, lies_near, lies_far, pointers_by};
 ghost use Rattle.far_replay.specs.Command.{Mutator, Book as AsksBook, Where, Log, Audit};
 ghost use Rattle.far_replay.specs.Events.{events_for};
 ghost use Rattle.far_replay.specs.EventRows.{after_events};
@@ -15,8 +15,8 @@ ghost use Rattle.far_replay.specs.Outcome.{reply_by, IsInRoom};
 ghost use Rattle.far_replay.specs.Turn.{log_line, reply_to};
 
 use crate::outcome::{Outcome, Scratch};
+use crate::owners::own_pointer;
 use crate::reply::{Counts, LogLine};
-use crate::turn::own_pointer;
 use far_book::{Book, Plain};
 use far_word::{CELLS, PtrWord, Refused};
 
@@ -74,23 +74,15 @@ pub fn tell_log(book: &Book<Plain>, scratch: &mut Scratch, log: u64) -> Outcome
     Outcome::Logs(1)
 }
 
-// Whether a cell says that its object is near, and not dropped.
-fn lies_near(cell: u64) -> bool
-    ensures { result ≡ lies_near (read_of cell) }
+// Whether the object of a cell lies near, and whether far; neither, once it is dropped.
+fn lies(cell: u64) -> (bool, bool)
+    ensures near { result.0 ≡ lies_near (read_of cell) }
+    ensures far { result.1 ≡ lies_far (read_of cell) }
 {
     match PtrWord::read(cell) {
-        Some(PtrWord::Near { marks, .. }) => !marks.dropped,
-        _ => false,
-    }
-}
-
-// The same of one that is far.
-fn lies_far(cell: u64) -> bool
-    ensures { result ≡ lies_far (read_of cell) }
-{
-    match PtrWord::read(cell) {
-        Some(PtrWord::Far { marks, .. }) => !marks.dropped,
-        _ => false,
+        Some(PtrWord::Near { marks, .. }) => (!marks.dropped, false),
+        Some(PtrWord::Far { marks, .. }) => (false, !marks.dropped),
+        Some(PtrWord::Free) | None => (false, false),
     }
 }
 
@@ -103,8 +95,9 @@ fn count_objects(book: &Book<Plain>) -> (u16, u16)
     let mut far = 0;
     for pointer in 0..CELLS * u16::from(book.core().mutators()) {
         let cell = book.core().cell(pointer);
-        near += u16::from(lies_near(cell));
-        far += u16::from(lies_far(cell));
+        let (is_near, is_far) = lies(cell);
+        near += u16::from(is_near);
+        far += u16::from(is_far);
     }
     (near, far)
 }

@@ -16,6 +16,7 @@ mod laws;
 mod line;
 mod outcome;
 mod output;
+mod owners;
 mod reply;
 mod reply_writer;
 mod running;

@@ -1,10 +1,12 @@
 //! What each line of a text says.
 
 ghost use Rattle.std.specs.Prelude.{◌≡◌, ◌≤◌, ◌<◌, ◌+◌, ◌==◌, ℕ, length, true, false, slice_index, IfSome, IfNone};
-ghost use Rattle.far_replay.specs.Grammar.{line_of, Bad};
-ghost use Rattle.far_replay.specs.Cursor.{first_line, lines_after_first, lines_left, as_line};
+ghost use Rattle.std.specs.Option.{option_map};
+ghost use Rattle.far_replay.specs.Command.{as_entry};
+ghost use Rattle.far_replay.specs.Grammar.{entry_of, line_of, Bad};
+ghost use Rattle.far_replay.specs.Cursor.{first_line, lines_after_first, lines_left, words_in, as_line};
 
-use crate::command::{Entry, entry_first};
+use crate::command::{Entry, Spelled, entry_by_first_word, entry_first};
 use crate::cursor::line_end;
 use crate::hex_word::LONGEST_LINE;
 
@@ -64,9 +66,29 @@ fn line_len(text: &[u8], lines: Option<&[u8]>) -> usize
     }
 }
 
+/// Where a line stands: the few lines as far as the heap's go by their first word, so that the code for the many after it
+/// stands in one place.
+#[derive(Clone, Copy)]
+pub enum Part {
+    AsFarAsTheHeap,
+    AfterTheHeap,
+}
+
+// What the first line of a text spells.
+#[inline(always)]
+fn spelled_first(text: &[u8], part: Part) -> Option<Spelled<'_>>
+    ensures value { option_map (λ found. as_entry found.0) result ≡ entry_of (words_in text.now) }
+    ensures lines { IfSome result (λ found. lines_left found.1 ≡ lines_after_first text.now) }
+{
+    match part {
+        Part::AsFarAsTheHeap => entry_by_first_word(text),
+        Part::AfterTheHeap => entry_first(text),
+    }
+}
+
 // Reads a line with an entry, which a text begins with.
 #[inline(always)]
-fn entry_line_first(text: &[u8]) -> Option<(Line<'_>, Option<&[u8]>)>
+fn entry_line_first(text: &[u8], part: Part) -> Option<(Line<'_>, Option<&[u8]>)>
     requires some { 0 < length text.now }
     requires content { (slice_index text.now 0 == 10) ≡ false }
     requires other { (slice_index text.now 0 == 35) ≡ false }
@@ -74,7 +96,7 @@ fn entry_line_first(text: &[u8]) -> Option<(Line<'_>, Option<&[u8]>)>
     ensures line { IfSome result (λ found. as_line found.0 ≡ line_of (first_line text.now)) }
     ensures lines { IfSome result (λ found. lines_left found.1 ≡ lines_after_first text.now) }
 {
-    let (entry, lines) = entry_first(text)?;
+    let (entry, lines) = spelled_first(text, part)?;
     if line_len(text, lines) > LONGEST_LINE {
         return None;
     }
@@ -83,7 +105,7 @@ fn entry_line_first(text: &[u8]) -> Option<(Line<'_>, Option<&[u8]>)>
 
 /// What the first line of a text says, and the lines after it; None where it is off the grammar.
 #[inline(always)]
-pub fn line_first(text: &[u8]) -> Option<(Line<'_>, Option<&[u8]>)>
+pub fn line_first(text: &[u8], part: Part) -> Option<(Line<'_>, Option<&[u8]>)>
     ensures bad { IfNone result (line_of (first_line text.now) ≡ Bad) }
     ensures line { IfSome result (λ found. as_line found.0 ≡ line_of (first_line text.now)) }
     ensures lines { IfSome result (λ found. lines_left found.1 ≡ lines_after_first text.now) }
@@ -97,5 +119,5 @@ pub fn line_first(text: &[u8]) -> Option<(Line<'_>, Option<&[u8]>)>
     if text[0] == b'#' {
         return comment_first(text);
     }
-    entry_line_first(text)
+    entry_line_first(text, part)
 }

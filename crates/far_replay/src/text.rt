@@ -7,7 +7,7 @@ ghost use Rattle.far_replay.specs.declared.text.TheConstants.{LONGEST_TEXT};
 ghost use Rattle.far_replay.specs.Grammar.{trace_of, lines_of, read_lines, read_commands, with_heap, IsFault};
 
 use crate::command::{Command, Entry};
-use crate::line::{Line, line_first};
+use crate::line::{Line, Part, line_first};
 use std::alloc::{AllocError, AllocFailed, Global};
 use thiserror::Error;
 
@@ -80,7 +80,7 @@ fn heap_line(text: &[u8]) -> Result<Option<HeapLine<'_>>, ParseError>
     let mut lines = Some(text);
     while let Some(text) = lines {
         number += 1;
-        let Some((line, after)) = line_first(text) else {
+        let Some((line, after)) = line_first(text, Part::AsFarAsTheHeap) else {
             return Err(ParseError::Syntax(number));
         };
         if let Line::Said(entry) = line {
@@ -114,7 +114,7 @@ fn commands_after<'a>(
     let mut lines = lines;
     while let Some(text) = lines {
         number += 1;
-        let Some((line, after)) = line_first(text) else {
+        let Some((line, after)) = line_first(text, Part::AfterTheHeap) else {
             return Err(ParseError::Syntax(number));
         };
         if let Line::Said(entry) = line {

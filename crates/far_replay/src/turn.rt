@@ -1,7 +1,6 @@
 //! Commands, each made by calls of a book and events of owners.
 
-ghost use Rattle.std.specs.Prelude.{◌≡◌, ◌≢◌, ◌+◌, ◌*◌, ◌<◌, ◌≤◌, ◌-◌, ◌/◌, ◌^◌, ℕ, true, false, List, Some, None, Ok, map, take, drop, length, slice_index, slice_range, cond, nat_lt, nat_le, IfOk, IfErr, IfSome, IfNone, IsSome, MatchResult};
-ghost use Rattle.std.specs.List.{range_with_len};
+ghost use Rattle.std.specs.Prelude.{◌≡◌, ◌+◌, ◌*◌, ◌<◌, ◌≤◌, ◌-◌, ◌/◌, ◌^◌, ℕ, true, Some, Ok, take, drop, length, slice_index, IfOk, IfErr, IsSome};
 ghost use Rattle.far_word.specs.Sizes.{size_of};
 ghost use Rattle.far_word.specs.Bytes.{bytes_of, packed_word, words_of};
 ghost use Rattle.far_word.specs.Pointer.{read_of};
@@ -13,15 +12,14 @@ ghost use Rattle.far_core.specs.declared.event.Event.{Event};
 ghost use Rattle.far_replay.specs.Command.{as_command, as_request};
 ghost use Rattle.far_replay.specs.Interpreter.{refused_in, IsAccess, IsViewed, StandsFor};
 ghost use Rattle.far_replay.specs.HexWord.{hex_bytes as spelled};
-ghost use Rattle.far_replay.specs.EventRows.{after_events, AtHand};
+ghost use Rattle.far_replay.specs.EventRows.{after_events};
 ghost use Rattle.far_replay.specs.Command.{Mutator, Book, New, Open, Write, Read, Close, Where, Drop, Logs, Log, Audit};
 ghost use Rattle.far_replay.specs.Outcome.{reply_by, IsInRoom};
-ghost use Rattle.far_replay.specs.Reply.{IsShort};
 ghost use Rattle.far_replay.specs.Between.{Between};
-ghost use Rattle.far_replay.specs.Events.{events_for, turn_events, first_word, words_touched, starts_inside, ends_inside, first_loads, last_loads};
-ghost use Rattle.far_replay.specs.Objects.{data_of, lowest_cell, named_len, with_range, uses};
+ghost use Rattle.far_replay.specs.Events.{events_for, turn_events, first_word, words_touched, starts_inside, ends_inside};
+ghost use Rattle.far_replay.specs.Objects.{data_of, lowest_cell, named_len, with_range};
 ghost use Rattle.far_replay.specs.Moment.{moment_of, state_in};
-ghost use Rattle.far_replay.specs.Turn.{effect, access_causes, first_cause, reply_to, turn_reply, refusal, log_line, with_new};
+ghost use Rattle.far_replay.specs.Turn.{effect, access_causes, first_cause, reply_to, turn_reply, refusal, with_new};
 
 use crate::command::{Command, Inquiry, Request};
 use crate::dropping::drop_object;
@@ -29,9 +27,10 @@ use crate::events::{open, view};
 use crate::hex_word::HexWord;
 use crate::inquiries::{audit, find_object, tell_log, tell_logs};
 use crate::outcome::{Outcome, Scratch};
+use crate::owners::{own_pointer, owner_of};
 use far_book::{Book, Plain};
 use far_core::Event;
-use far_word::{CELLS, LOG_WORDS, LONGEST, Refused, pack_bytes, pointer_len, unpack_bytes};
+use far_word::{LOG_WORDS, LONGEST, Refused, pack_bytes, pointer_len, unpack_bytes};
 
 /// Some bytes of an object that its owner may reach: the numbers of the owner and the pointer, and the range.
 #[derive(Clone, Copy)]
@@ -49,29 +48,6 @@ fn object_len(cell: u64) -> u16
     ensures most { result ≤ LONGEST }
 {
     pointer_len(cell)
-}
-
-// The owner that a line's number of a mutator is, if the heap has it.
-fn owner_of(book: &Book<Plain>, mutator: u64) -> Option<u8>
-    ensures owner { IfSome result (λ owner. (owner ≡ mutator) × (mutator < (state_in book.now).mutators)) }
-    ensures unknown { IfNone result ((state_in book.now).mutators ≤ mutator) }
-{
-    if mutator < u64::from(book.core().mutators()) {
-        return Some(mutator as u8);
-    }
-    None
-}
-
-/// The pointer that a number is, if the owner uses it.
-pub fn own_pointer(book: &Book<Plain>, owner: u8, pointer: u64) -> Option<u16>
-    requires owner { owner < (state_in book.now).mutators }
-    ensures own { IfSome result (λ p. (p ≡ pointer) × (pointer / CELLS ≡ owner) × ((state_in book.now).used pointer ≡ true)) }
-    ensures other { IfNone result (uses (state_in book.now) owner pointer ≡ false) }
-{
-    if pointer / u64::from(CELLS) != u64::from(owner) || !book.core().is_used(pointer as u16) {
-        return None;
-    }
-    Some(pointer as u16)
 }
 
 // Whether an owner may reach some bytes of a pointer's object, or why not.

@@ -10,7 +10,7 @@ use Rattle.far_replay.specs.EventRows.{after_events}
 use Rattle.far_replay.specs.Events.{events_for}
 use Rattle.far_replay.specs.Moment.{moment_of, state_in}
 use Rattle.far_replay.specs.Objects.{uses}
-use Rattle.far_replay.proofs.Drops.{ask_fact, dropped, dropped_by_events, unheld_is}
+use Rattle.far_replay.proofs.Drops.{ask_fact, asked_is_dropped, dropped_by_events, unheld_is}
 use Rattle.far_replay.proofs.RangeTurns.{uses_own}
 use Rattle.far_replay.proofs.dropping.drop_object.Goals as goal
 
@@ -22,7 +22,7 @@ retire-requires-clause-dropped c =
     let ours : uses s c.args.owner p ≡ true = ap (uses s c.args.owner) own.0 ∙ uses_own s c.args.owner c.args.pointer own.1 own.2 in
     let unheld : s.held p ≡ None = unheld_is (s.held p) (sym (ap (λ (x : Core). is_some ((core_state x).held p)) c.core.ensures) ∙ sym c.is_held.ensures ∙ c.if-is_held.false) in
     let asked = (c.owner.ensures.legal refl (ask_fact s c.args.owner p c.requires.law c.requires.known ours unheld)).0 in
-    ap (λ (t : State). is_dropped (read_of (t.cell p))) asked ∙ dropped s c.args.owner p c.requires.law c.requires.known ours unheld
+    ap (λ (t : State). is_dropped (read_of (t.cell p))) asked ∙ asked_is_dropped s c.args.owner p c.requires.law c.requires.known ours unheld
 
 pub returns-clause-state : goal.returns-clause-state
 returns-clause-state c =
