@@ -13,11 +13,12 @@ ghost use Rattle.far_replay.specs.Turn.{reply_to};
 use crate::outcome::Outcome;
 use crate::owners::own_pointer;
 use far_book::{Book, Plain};
+use far_device::MemDevice;
 use far_core::Event;
 use far_word::{Mark, Refused};
 
 /// Drops an owner's object: its owner asks, and the book retires it.
-pub fn drop_object(book: &mut Book<Plain>, owner: u8, pointer: u64) -> Outcome
+pub fn drop_object(book: &mut Book<Plain, MemDevice>, owner: u8, pointer: u64) -> Outcome
     requires known { owner < (state_in book.old).mutators }
     requires law { Law (state_in book.old) }
     ensures state { state_in book.new ≡ after_events (state_in book.old) (events_for (moment_of (state_in book.old)) (Mutator owner (Drop pointer))) }

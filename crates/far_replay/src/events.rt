@@ -8,10 +8,11 @@ ghost use Rattle.far_replay.specs.Events.{open_events, view_events};
 ghost use Rattle.far_replay.specs.Moment.{state_in};
 
 use far_book::{Book, Plain};
+use far_device::MemDevice;
 use far_core::Event;
 
 /// Opens an owner's scope, at the epoch that it reads unless it has read one already.
-pub fn open(book: &mut Book<Plain>, owner: u8)
+pub fn open(book: &mut Book<Plain, MemDevice>, owner: u8)
     ensures { state_in book.new ≡ after_events (state_in book.old) (open_events (state_in book.old) owner) }
 {
     if !book.core().has_epoch(owner) {
@@ -22,7 +23,7 @@ pub fn open(book: &mut Book<Plain>, owner: u8)
 
 /// Pins an owner's object, unless it is held already.
 #[inline]
-pub fn view(book: &mut Book<Plain>, owner: u8, pointer: u16)
+pub fn view(book: &mut Book<Plain, MemDevice>, owner: u8, pointer: u16)
     requires opened { is_opened (state_in book.old) owner ≡ true }
     requires own { pointer / CELLS ≡ owner }
     requires used { (state_in book.old).used pointer ≡ true }

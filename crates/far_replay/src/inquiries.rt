@@ -18,10 +18,11 @@ use crate::outcome::{Outcome, Scratch};
 use crate::owners::own_pointer;
 use crate::reply::{Counts, LogLine};
 use far_book::{Book, Plain};
+use far_device::MemDevice;
 use far_word::{CELLS, PtrWord, Refused};
 
 /// Tells where an owner's object is.
-pub fn find_object(book: &mut Book<Plain>, owner: u8, pointer: u64) -> Outcome
+pub fn find_object(book: &mut Book<Plain, MemDevice>, owner: u8, pointer: u64) -> Outcome
     requires known { owner < (state_in book.old).mutators }
     requires law { Law (state_in book.old) }
     ensures state { state_in book.new ≡ after_events (state_in book.old) (events_for (moment_of (state_in book.old)) (Mutator owner (Where pointer))) }
@@ -38,7 +39,7 @@ pub fn find_object(book: &mut Book<Plain>, owner: u8, pointer: u64) -> Outcome
 }
 
 // What is told of a log.
-fn log_told(book: &Book<Plain>, log: u8) -> LogLine
+fn log_told(book: &Book<Plain, MemDevice>, log: u8) -> LogLine
     requires log { log < (state_in book.now).logs }
     ensures { result ≡ log_line (moment_of (state_in book.now)) log }
 {
@@ -53,7 +54,7 @@ fn log_told(book: &Book<Plain>, log: u8) -> LogLine
 }
 
 /// Fills the room with a line of each log, by number.
-pub fn tell_logs(book: &Book<Plain>, lines: &mut [LogLine])
+pub fn tell_logs(book: &Book<Plain, MemDevice>, lines: &mut [LogLine])
     requires room { length lines.old ≡ MOST_LOGS }
     ensures { take (state_in book.now).logs lines.new ≡ map (log_line (moment_of (state_in book.now))) (range_with_len 0 (state_in book.now).logs) }
 {
@@ -63,7 +64,7 @@ pub fn tell_logs(book: &Book<Plain>, lines: &mut [LogLine])
 }
 
 /// Tells the line of one log.
-pub fn tell_log(book: &Book<Plain>, scratch: &mut Scratch, log: u64) -> Outcome
+pub fn tell_log(book: &Book<Plain, MemDevice>, scratch: &mut Scratch, log: u64) -> Outcome
     ensures reply { reply_by scratch.new.bytes scratch.new.lines result ≡ reply_to (moment_of (state_in book.now)) (AsksBook (Log log)) }
     ensures fits { IsInRoom result }
 {
@@ -87,7 +88,7 @@ fn lies(cell: u64) -> (bool, bool)
 }
 
 // How many objects are near, and how many are far.
-fn count_objects(book: &Book<Plain>) -> (u16, u16)
+fn count_objects(book: &Book<Plain, MemDevice>) -> (u16, u16)
     ensures near { result.0 ≡ length (pointers_by lies_near (state_in book.now)) }
     ensures far { result.1 ≡ length (pointers_by lies_far (state_in book.now)) }
 {
@@ -103,7 +104,7 @@ fn count_objects(book: &Book<Plain>) -> (u16, u16)
 }
 
 // The bytes that live spans take in all logs.
-fn count_bytes(book: &Book<Plain>) -> u64
+fn count_bytes(book: &Book<Plain, MemDevice>) -> u64
     ensures { result ≡ sum (bytes_by_log (state_in book.now)) }
 {
     let mut live = 0;
@@ -114,7 +115,7 @@ fn count_bytes(book: &Book<Plain>) -> u64
 }
 
 /// Counts all objects, and the bytes that they take.
-pub fn audit(book: &Book<Plain>) -> Outcome
+pub fn audit(book: &Book<Plain, MemDevice>) -> Outcome
     ensures reply { StandsFor result (reply_to (moment_of (state_in book.now)) (AsksBook Audit)) }
     ensures fits { IsInRoom result }
 {

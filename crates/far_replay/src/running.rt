@@ -22,6 +22,7 @@ use crate::stream::{WriteFault, read_text};
 use crate::text::{LONGEST_TEXT, ParseError, Trace, parse};
 use crate::turn::turn;
 use far_book::{Book, Plain};
+use far_device::MemDevice;
 use far_core::{Core, Shape};
 use far_word::Refused;
 use std::alloc::{AllocError, Global};
@@ -97,7 +98,7 @@ fn refuse<W: Write>(
 fn answer_commands<W: Write>(
     writer: &mut W,
     replies: &mut ReplyWriter,
-    book: Book<Plain>,
+    book: Book<Plain, MemDevice>,
     scratch: &mut Scratch,
     commands: &[Command],
 ) -> Result<(), WriteFault>
@@ -116,13 +117,13 @@ fn answer_commands<W: Write>(
 }
 
 // A book over a new heap, whose far side is honest.
-fn new_book(alloc: Global, shape: Shape) -> Result<Book<Plain>, Refused>
+fn new_book(alloc: Global, shape: Shape) -> Result<Book<Plain, MemDevice>, Refused>
     ensures state { IfOk result (λ book. state_in book ≡ opening shape true) }
     ensures range { IfOk result (λ _. is_shape shape ≡ true) }
     ensures refused { IfErr result (λ why. why ≡ cond (is_shape shape) Refused.Memory Refused.Shape) }
 {
     let core = Core::new(alloc, shape, true)?;
-    Book::new(alloc, Plain { core })
+    Book::new(alloc, Plain { core }, MemDevice::new(alloc))
 }
 
 // Makes a heap and the commands after it, and writes their replies. Out of memory for the heap, it writes that line alone.

@@ -29,6 +29,7 @@ use crate::inquiries::{audit, find_object, tell_log, tell_logs};
 use crate::outcome::{Outcome, Scratch};
 use crate::owners::{own_pointer, owner_of};
 use far_book::{Book, Plain};
+use far_device::MemDevice;
 use far_core::Event;
 use far_word::{LOG_WORDS, LONGEST, Refused, pack_bytes, pointer_len, unpack_bytes};
 
@@ -52,7 +53,7 @@ fn object_len(cell: u64) -> u16
 
 // Whether an owner may reach some bytes of a pointer's object, or why not.
 fn reach(
-    book: &Book<Plain>,
+    book: &Book<Plain, MemDevice>,
     owner: u8,
     pointer: u64,
     from: u64,
@@ -117,7 +118,7 @@ impl Access {
 }
 
 // Loads the words that a range touches, in front of the room for words.
-fn load_front(book: &Book<Plain>, access: Access, words: &mut [u64])
+fn load_front(book: &Book<Plain, MemDevice>, access: Access, words: &mut [u64])
     requires viewed { IsViewed (state_in book.now) access }
     requires room { length words.old ≡ LOG_WORDS }
     ensures { (k : ℕ) → k < words_touched access.from access.count → slice_index words.new k ≡ (state_in book.now).word (data_word (state_in book.now) access.pointer (first_word access.from + k)) }
@@ -132,7 +133,7 @@ fn load_front(book: &Book<Plain>, access: Access, words: &mut [u64])
 }
 
 // Reads a range of bytes.
-fn read(book: &mut Book<Plain>, scratch: &mut Scratch, access: Access) -> Outcome
+fn read(book: &mut Book<Plain, MemDevice>, scratch: &mut Scratch, access: Access) -> Outcome
     requires access { IsAccess (state_in book.old) access.owner access.pointer access.from access.count access }
     requires between { Between (state_in book.old) }
     requires law { Law (state_in book.old) }
@@ -169,7 +170,7 @@ impl Access {
 }
 
 // Loads the first word that a range touches, if the range is a part of it alone.
-fn load_first(book: &Book<Plain>, access: Access, words: &mut [u64])
+fn load_first(book: &Book<Plain, MemDevice>, access: Access, words: &mut [u64])
     requires viewed { IsViewed (state_in book.now) access }
     requires room { length words.old ≡ LOG_WORDS }
     ensures first { starts_inside access.from access.count ≡ true → slice_index words.new 0 ≡ (state_in book.now).word (data_word (state_in book.now) access.pointer (access.from / 8)) }
@@ -182,7 +183,7 @@ fn load_first(book: &Book<Plain>, access: Access, words: &mut [u64])
 }
 
 // Loads the last word that a range touches, if it touches others and is a part of it alone.
-fn load_last(book: &Book<Plain>, access: Access, words: &mut [u64])
+fn load_last(book: &Book<Plain, MemDevice>, access: Access, words: &mut [u64])
     requires viewed { IsViewed (state_in book.now) access }
     requires room { length words.old ≡ LOG_WORDS }
     ensures first { slice_index words.new 0 ≡ slice_index words.old 0 }
@@ -197,7 +198,7 @@ fn load_last(book: &Book<Plain>, access: Access, words: &mut [u64])
 }
 
 // Puts bytes over a range in the words that it touches, in front of the room for words.
-fn splice(book: &Book<Plain>, scratch: &mut Scratch, access: Access, bytes: HexWord)
+fn splice(book: &Book<Plain, MemDevice>, scratch: &mut Scratch, access: Access, bytes: HexWord)
     requires law { Law (state_in book.now) }
     requires viewed { IsViewed (state_in book.now) access }
     requires bytes { length (spelled bytes.digits.now) ≡ access.count }
@@ -214,7 +215,7 @@ fn splice(book: &Book<Plain>, scratch: &mut Scratch, access: Access, bytes: HexW
 }
 
 // Stores the words in front over those that a range touches.
-fn store_front(book: &mut Book<Plain>, access: Access, words: &[u64])
+fn store_front(book: &mut Book<Plain, MemDevice>, access: Access, words: &[u64])
     requires viewed { IsViewed (state_in book.old) access }
     requires room { length words.now ≡ LOG_WORDS }
     requires padding { (k : ℕ) → k < words_touched access.from access.count → slice_index words.now k < 2 ^ (8 * (data_len (state_in book.old) access.pointer - 8 * (first_word access.from + k))) }
@@ -230,7 +231,7 @@ fn store_front(book: &mut Book<Plain>, access: Access, words: &[u64])
 }
 
 // Writes bytes over a range.
-fn write(book: &mut Book<Plain>, scratch: &mut Scratch, access: Access, bytes: HexWord) -> Outcome
+fn write(book: &mut Book<Plain, MemDevice>, scratch: &mut Scratch, access: Access, bytes: HexWord) -> Outcome
     requires access { IsAccess (state_in book.old) access.owner access.pointer access.from access.count access }
     requires between { Between (state_in book.old) }
     requires law { Law (state_in book.old) }
@@ -245,7 +246,7 @@ fn write(book: &mut Book<Plain>, scratch: &mut Scratch, access: Access, bytes: H
 }
 
 // Makes a new object, or answers why not: its pointer.
-fn place_new(book: &mut Book<Plain>, owner: u8, len: u64, ds: u64) -> Result<u16, Refused>
+fn place_new(book: &mut Book<Plain, MemDevice>, owner: u8, len: u64, ds: u64) -> Result<u16, Refused>
     requires known { owner < (state_in book.old).mutators }
     ensures refusal { refused_in result ≡ refusal (moment_of (state_in book.old)) (Mutator owner (New len ds)) }
     ensures cell { IfOk result (λ pointer. lowest_cell (state_in book.old) owner ≡ Some pointer) }
@@ -269,7 +270,7 @@ fn place_new(book: &mut Book<Plain>, owner: u8, len: u64, ds: u64) -> Result<u16
 }
 
 // Makes a new object.
-fn make_object(book: &mut Book<Plain>, owner: u8, len: u64, ds: u64) -> Outcome
+fn make_object(book: &mut Book<Plain, MemDevice>, owner: u8, len: u64, ds: u64) -> Outcome
     requires known { owner < (state_in book.old).mutators }
     requires between { Between (state_in book.old) }
     requires law { Law (state_in book.old) }
@@ -284,7 +285,7 @@ fn make_object(book: &mut Book<Plain>, owner: u8, len: u64, ds: u64) -> Outcome
 }
 
 // Opens an owner's scope.
-fn open_scope(book: &mut Book<Plain>, owner: u8) -> Outcome
+fn open_scope(book: &mut Book<Plain, MemDevice>, owner: u8) -> Outcome
     requires known { owner < (state_in book.old).mutators }
     ensures state { state_in book.new ≡ after_events (state_in book.old) (events_for (moment_of (state_in book.old)) (Mutator owner Open)) }
     ensures reply { StandsFor result (reply_to (moment_of (state_in book.old)) (Mutator owner Open)) }
@@ -298,7 +299,7 @@ fn open_scope(book: &mut Book<Plain>, owner: u8) -> Outcome
 }
 
 // Closes an owner's scope.
-fn close_scope(book: &mut Book<Plain>, owner: u8) -> Outcome
+fn close_scope(book: &mut Book<Plain, MemDevice>, owner: u8) -> Outcome
     requires known { owner < (state_in book.old).mutators }
     ensures state { state_in book.new ≡ after_events (state_in book.old) (events_for (moment_of (state_in book.old)) (Mutator owner Close)) }
     ensures reply { StandsFor result (reply_to (moment_of (state_in book.old)) (Mutator owner Close)) }
@@ -313,7 +314,7 @@ fn close_scope(book: &mut Book<Plain>, owner: u8) -> Outcome
 
 // Reads a range of an owner's object.
 fn read_range(
-    book: &mut Book<Plain>,
+    book: &mut Book<Plain, MemDevice>,
     scratch: &mut Scratch,
     owner: u8,
     pointer: u64,
@@ -335,7 +336,7 @@ fn read_range(
 
 // Writes bytes over a range of an owner's object.
 fn write_range(
-    book: &mut Book<Plain>,
+    book: &mut Book<Plain, MemDevice>,
     scratch: &mut Scratch,
     owner: u8,
     pointer: u64,
@@ -357,7 +358,7 @@ fn write_range(
 
 // Makes the events of an owner's request, and answers what it comes to.
 fn make_request(
-    book: &mut Book<Plain>,
+    book: &mut Book<Plain, MemDevice>,
     scratch: &mut Scratch,
     owner: u8,
     request: Request,
@@ -387,7 +388,7 @@ fn make_request(
 }
 
 // Makes the events of one command, and answers what it comes to.
-fn make_events(book: &mut Book<Plain>, scratch: &mut Scratch, command: &Command) -> Outcome
+fn make_events(book: &mut Book<Plain, MemDevice>, scratch: &mut Scratch, command: &Command) -> Outcome
     requires between { Between (state_in book.old) }
     requires law { Law (state_in book.old) }
     ensures state { state_in book.new ≡ after_events (state_in book.old) (events_for (moment_of (state_in book.old)) (as_command command.now)) }
@@ -411,7 +412,7 @@ fn make_events(book: &mut Book<Plain>, scratch: &mut Scratch, command: &Command)
 }
 
 /// Makes one command, and answers what it comes to.
-pub fn turn(book: &mut Book<Plain>, scratch: &mut Scratch, command: &Command) -> Outcome
+pub fn turn(book: &mut Book<Plain, MemDevice>, scratch: &mut Scratch, command: &Command) -> Outcome
     requires between { Between (state_in book.old) }
     requires law { Law (state_in book.old) }
     ensures moment { moment_of (state_in book.new) ≡ effect (moment_of (state_in book.old)) (as_command command.now) }
