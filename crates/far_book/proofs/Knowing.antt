@@ -9,8 +9,11 @@ use Rattle.far_word.specs.declared.pointer.PtrWord.{PtrWord}
 use Rattle.far_word.specs.declared.pointer.PtrWord.TheVariants.{Free, Near, Far}
 use Rattle.far_word.specs.Pointer.{read_of}
 use Rattle.far_word.specs.Sizes.{words_for}
+use Rattle.far_core.specs.declared.naming.Naming.TheVariants.{Evicts}
+use Rattle.far_core.specs.events.Naming.{IsNaming, no_marks}
 use Rattle.far_core.specs.events.namings.Fetches.{words_stored}
 use Rattle.far_core.specs.events.Quiet.{has_move, IsClearNear, IsQuiet}
+use Rattle.far_core.proofs.Cells.{unused}
 use Rattle.far_core.specs.state.Law.{Law}
 use Rattle.far_core.specs.state.State.{State}
 use Rattle.far_book.specs.Finds.{Finds, body_of, marks_in}
@@ -72,3 +75,10 @@ stored_fits s law p n e i lt = at (read_of (s.cell p)) refl e where
 -- a last word has 64 bits at most
 pub few_bits : (len : ℕ) → 0 < len → 2 ^ (8 * (len - 8 * (words_for len - 1))) ≤ 2 ^ 64
 few_bits len some = let h : 8 * (len - 8 * (words_for len - 1)) ≤ 64 = omega arith in pow_mono h
+
+-- ---- what sends nothing far
+pub not_from_free : (new len : ℕ) (place : Place) → IsNaming (Evicts len place) (read_of 0) (read_of new) → ⊥
+not_from_free new len place n = let odd : Some Free ≡ Some (Near len n.0 place n.1) = sym unused ∙ n.2 in cc
+
+pub not_to_free : (old len : ℕ) (place : Place) → IsNaming (Evicts len place) (read_of old) (read_of 0) → ⊥
+not_to_free old len place n = let odd : Some Free ≡ Some (Far len n.0 no_marks) = sym unused ∙ n.5 in cc

@@ -1,10 +1,10 @@
 -- What a beset hand knows after it has named a word, and why what is legal by its view is legal.
-use Rattle.std.proofs.Common.{◌≡◌, ◌≢◌, ℕ, ◌+◌, ◌-◌, ◌*◌, ◌^◌, ◌<◌, ◌≤◌, Bool, true, false, cond, nat_lt, Some, refl, sym, ap, ◌∙◌, subst, arith}
+use Rattle.std.proofs.Common.{◌≡◌, ◌≢◌, ℕ, ◌+◌, ◌-◌, ◌*◌, ◌^◌, ◌<◌, ◌≤◌, Bool, true, false, cond, nat_lt, Option, Some, None, refl, sym, ap, ◌∙◌, subst, arith}
 use Rattle.std.specs.Prelude.{◌||◌, ◌==◌}
 use Rattle.std.proofs.lemmas.Bool.{cond_both, eqb-true, eqb-false, eq-eqb, ne_eqb, ltb-true}
 use mathlib.Core.Path.{fun_ext}
 use Rattle.far_word.specs.declared.pointer.Place.{Place}
-use Rattle.far_word.specs.declared.pointer.PtrWord.TheVariants.{Near, Far}
+use Rattle.far_word.specs.declared.pointer.PtrWord.TheVariants.{Near}
 use Rattle.far_word.specs.declared.sizes.TheConstants.{CELLS}
 use Rattle.far_word.specs.Header.{head_word}
 use Rattle.far_word.specs.Pointer.{read_of}
@@ -28,7 +28,7 @@ use Rattle.far_core.specs.state.State.{State, addr, put}
 use Rattle.far_core.proofs.KeepPlace.{header}
 use Rattle.far_core.proofs.Namings.{naming_only}
 use Rattle.far_core.proofs.Put.{put_both}
-use Rattle.far_book.specs.Known.{IsKnown, Forgets, StoresKnown}
+use Rattle.far_book.specs.Known.{IsKnown, Forgets, KnowsLeaving}
 use Rattle.far_book.specs.Masked.{masked, AllFind}
 use Rattle.far_book.proofs.Knowing.{alike_words, quiet_too, stored_too, stored_fits, few_bits}
 use Rattle.far_book.proofs.Reading.{known_word, header_known, forgets}
@@ -50,6 +50,20 @@ module _ (s : State) (p old new : ℕ) where
   pub won_state : (form : Naming) → s.cell p ≡ old → IsNaming form (read_of old) (read_of new) → after s (Name p old new) ≡ (naming_row s p new form).after
   won_state form e n = ap (λ b. cond b (after_naming s p new (naming_of (read_of old) (read_of new))) s) (eq-eqb (s.cell p) old e)
       ∙ ap (after_naming s p new) (naming_only form (read_of old) (read_of new) n)
+
+-- a naming changes no word, and forgets none
+name_word : (s : State) (p new : ℕ) (o : Option Naming) → (after_naming s p new o).word ≡ s.word
+name_word s p new None = refl
+name_word s p new (Some (Places len ds place)) = refl
+name_word s p new (Some Retires) = refl
+name_word s p new (Some (Evicts len place)) = refl
+name_word s p new (Some Stays) = refl
+name_word s p new (Some (Moves len ds from to)) = refl
+name_word s p new (Some (Fetches len ds place)) = refl
+
+pub name_forgets : (s : State) (p old new : ℕ) → Forgets s (after s (Name p old new))
+name_forgets s p old new = let same = cond_both (s.cell p == old) (after_naming s p new (naming_of (read_of old) (read_of new))) s (λ (u : State). u.word ≡ s.word) (λ _. name_word s p new (naming_of (read_of old) (read_of new))) (λ _. refl) in
+    record { known = λ a h. ap (λ (f : ℕ → ℕ). f a) same; headers = λ a h. ap (λ (f : ℕ → ℕ). f a) same }
 
 -- ---- what a won naming tells
 pub record Names (o v : State) (p old new : ℕ) : Type 0 where
@@ -135,12 +149,11 @@ module _ (s : State) (law : Law s) (found : ℕ → ℕ) (counted : ℕ → Bool
       (λ t. ap (λ b. cond b (s.word (addr place + 1 + i)) (s.stored p i)) t ∙ sym (known_word (s.starts (addr place + 1 + i) || counted (addr place + 1 + i)) (s.word (addr place + 1 + i)) (addr place + 1 + i) (known i (ltb-true i (words_for len) t))))
       (λ f. ap (λ b. cond b (s.word (addr place + 1 + i)) (s.stored p i)) f))
 
-  row_done : (form : Naming) → IsNaming form (read_of old) (read_of new) → StoresKnown o (read_of old) (read_of new) → v form ≡ record (naming_row o p new form).after { word = (v form).word }
+  row_done : (form : Naming) → IsNaming form (read_of old) (read_of new) → KnowsLeaving o old new → v form ≡ record (naming_row o p new form).after { word = (v form).word }
   row_done (Places len ds place) n known = refl
   row_done Retires n known = refl
   row_done (Evicts len place) n known =
-      let words = subst (λ a. StoresKnown o a (Some (Far len n.0 no_marks))) n.2 (subst (λ b. StoresKnown o (read_of old) b) n.5 known) in
-      ap (λ r. record (v (Evicts len place)) { stored = put s.stored p r }) (kept_same len place words)
+      ap (λ r. record (v (Evicts len place)) { stored = put s.stored p r }) (kept_same len place (known len place n))
   row_done Stays n known = refl
   row_done (Moves len ds from to) n known = refl
   row_done (Fetches len ds place) n known = refl
@@ -174,7 +187,7 @@ module _ (s : State) (law : Law s) (found : ℕ → ℕ) (counted : ℕ → Bool
       (λ a st. ap (λ f. f a) (row_word form) ∙ headers_same form n h a st)
 
   module _ (legal : Legal o (Name p old new)) (seen : old ≡ found p) (won_it : s.cell p ≡ old) where
-    pub names : StoresKnown o (read_of old) (read_of new) → Names o (masked (after s (Name p old new)) (put found p new) (λ _. false)) p old new
+    pub names : KnowsLeaving o old new → Names o (masked (after s (Name p old new)) (put found p new) (λ _. false)) p old new
     names known =
         let form = legal.1.0 in
         let mine : after s (Name p old new) ≡ (naming_row s p new form).after = won_state s p old new form won_it legal.1.1 in

@@ -8,14 +8,14 @@ use Rattle.far_word.specs.Pointer.{read_of}
 use Rattle.far_word.specs.declared.mark.Marks.{Marks}
 use Rattle.far_word.specs.declared.pointer.Place.{Place}
 use Rattle.far_word.specs.declared.pointer.PtrWord.{PtrWord}
-use Rattle.far_word.specs.declared.pointer.PtrWord.TheVariants.{Free, Near}
+use Rattle.far_word.specs.declared.pointer.PtrWord.TheVariants.{Free, Near, Far}
 use Rattle.far_word.specs.declared.sizes.TheConstants.{CELLS}
 use Rattle.far_core.specs.declared.event.Event.{Event}
-use Rattle.far_core.specs.declared.event.Event.TheVariants.{ReadEpoch, Open, Pin, Load, Store, Close, Adopt, Put, Name, See, Mark, Ask, Get}
+use Rattle.far_core.specs.declared.event.Event.TheVariants.{ReadEpoch, Open, Pin, Load, Store, Close, Adopt, Put, Name, See, Mark, Ask, Get, Clear}
 use Rattle.far_core.specs.declared.event.Reply.{Reply as Answer}
 use Rattle.far_core.specs.declared.event.Reply.TheVariants.{Refused, Done, Epoch, Word, Held}
 use Rattle.far_core.specs.declared.naming.Naming.{Naming}
-use Rattle.far_core.specs.declared.naming.Naming.TheVariants.{Places, Retires}
+use Rattle.far_core.specs.declared.naming.Naming.TheVariants.{Places, Retires, Evicts, Stays, Moves, Fetches}
 use Rattle.far_core.specs.events.Name.{change_by}
 use Rattle.far_core.specs.events.Naming.{is_dropped, naming_of, no_marks}
 use Rattle.far_core.specs.world.Changes.{StepOf}
@@ -99,6 +99,7 @@ IsQuiet (See p) = Unit {0}
 IsQuiet (Mark p) = ⊥
 IsQuiet (Ask m p k) = ⊥
 IsQuiet (Get l at free) = ⊥
+IsQuiet (Clear p) = ⊥
 
 quiet_fits : (e : Event) → IsQuiet e → Fits e
 quiet_fits (ReadEpoch m) q = tt
@@ -114,6 +115,7 @@ quiet_fits (See p) q = tt
 quiet_fits (Mark p) q = absurd q
 quiet_fits (Ask m p k) q = absurd q
 quiet_fits (Get l at free) q = absurd q
+quiet_fits (Clear p) q = absurd q
 
 pub stays_same : (w v : World) → v ≡ w → Same w v
 stays_same w v e = (ap (λ (x : World). x.object) e, ap (λ (x : World). x.opened) e)
@@ -146,6 +148,7 @@ quiet_happens w v (See p) r q h = absurd h
 quiet_happens w v (Mark p) r q h = absurd q
 quiet_happens w v (Ask m p k) r q h = absurd q
 quiet_happens w v (Get l at free) r q h = absurd q
+quiet_happens w v (Clear p) r q h = absurd q
 
 abbrev pub Quiet : List Event → Type 0
 Quiet = Each IsQuiet
@@ -234,6 +237,18 @@ makes_new : (w v : World) (p : ℕ) (a b : Option PtrWord) (form : Option Naming
     (len ds : ℕ) × (place : Place) × (marks : Marks) × (b ≡ Some (Near len ds place marks)) × Makes w p len ds place.log v
 makes_new w v p a b None free e h = absurd h
 makes_new w v p a b (Some Retires) free e h = absurd (false≢true (sym (ap is_dropped free) ∙ (naming_says a b Retires e).0))
+makes_new w v p a b (Some (Evicts len place)) free e h =
+    let says = naming_says a b (Evicts len place) e in
+    let odd : Some Free ≡ Some (Near len says.0 place says.1) = sym free ∙ says.2 in absurd cc
+makes_new w v p a b (Some Stays) free e h =
+    let says = naming_says a b Stays e in
+    let odd : Some Free ≡ Some (Near says.0 says.1 says.2 says.3) = sym free ∙ says.4 in absurd cc
+makes_new w v p a b (Some (Moves len ds from to)) free e h =
+    let says = (naming_says a b (Moves len ds from to) e).0 in
+    let odd : Some Free ≡ Some (Near len ds from says.0) = sym free ∙ says.1 in absurd cc
+makes_new w v p a b (Some (Fetches len ds place)) free e h =
+    let says = (naming_says a b (Fetches len ds place) e).0 in
+    let odd : Some Free ≡ Some (Far len ds says.0) = sym free ∙ says.1 in absurd cc
 makes_new w v p a b (Some (Places len ds place)) free e h = (len, ds, place, no_marks, (naming_says a b (Places len ds place) e).1, h)
 
 names_place : (w v : World) (p old new : ℕ) (r : Answer) → Succeeds (Name p old new) r → ComesToPass (Name p old new) r → Happens w (Name p old new) r v → StepOf (change_by p (naming_of (read_of old) (read_of new))) w v
@@ -273,3 +288,4 @@ was_legal s e law = cond_both (is_legal s e) (after s e, answer s e) (s, Refused
   no_refusal (Mark p) h = h
   no_refusal (Ask m p k) h = h
   no_refusal (Get l at free) h = h
+  no_refusal (Clear p) h = h

@@ -8,6 +8,7 @@ use Rattle.far_book.proofs.Finding.{finds_more}
 use Rattle.far_book.proofs.region.Calls.{after_is, still_dropped, put_put, count_more, some_dropped}
 use Rattle.far_book.proofs.region.Founds.{drop_found}
 use Rattle.far_book.proofs.region.Retires.{may_retire}
+use Rattle.far_book.proofs.Knowing.{not_to_free}
 
 pub name-requires-clause-legal : goal.name-requires-clause-legal
 name-requires-clause-legal g c =
@@ -48,3 +49,6 @@ loop-preserved g c =
       word = c.says-was-in-Err.ensures.word;
       tries = omega (arith, h.tries, count_more c.loop.word c.in-Err.found old_fits new_fits (some_dropped (read_of c.loop.word) dropped) c.in-Err.ensures.found c.in-Err.ensures.other);
     }
+
+pub name-requires-clause-known : goal.name-requires-clause-known
+name-requires-clause-known g c len place n i lt = absurd (not_to_free _ len place n)

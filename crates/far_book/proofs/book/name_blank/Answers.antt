@@ -6,6 +6,7 @@ use Rattle.far_core.specs.state.State.{State}
 use Rattle.far_book.specs.book.Effects.{near_word, with_blank_span}
 use Rattle.far_book.proofs.region.Calls.{may_name}
 use Rattle.far_book.proofs.region.Founds.{free_found}
+use Rattle.far_book.proofs.Knowing.{not_from_free}
 
 pub name-requires-clause-legal : goal.name-requires-clause-legal
 name-requires-clause-legal g c =
@@ -16,3 +17,6 @@ name-requires-clause-legal g c =
 
 pub unreachable-requires : goal.unreachable-requires
 unreachable-requires g c = c.in_default.ensures.other (free_found 0 c.in_default.field-0 c.in_default.ensures.found refl)
+
+pub name-requires-clause-known : goal.name-requires-clause-known
+name-requires-clause-known g c len place n i lt = absurd (not_from_free _ len place n)

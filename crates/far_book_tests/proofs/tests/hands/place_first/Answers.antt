@@ -13,6 +13,7 @@ use Rattle.far_core.specs.state.State.{State, put}
 use Rattle.far_core.proofs.Cells.{unused}
 use Rattle.far_core.proofs.Put.{put_same}
 use Rattle.far_book_tests.proofs.tests.hands.place_first.Goals as goal
+use Rattle.far_book.proofs.Knowing.{not_from_free}
 
 abbrev first : Place
 first = record { log = 0; at = 0 }
@@ -39,3 +40,6 @@ name-requires-clause-legal g c =
     let e : g.N.Near.view c.put-2.new.self ≡ record s { word = put (put s.word 0 0xa100_0000_0001_0008) 1 0 } =
     c.put-2.ensures.set ∙ ap (λ (u : State). after u (Put 0 1 0)) c.put.ensures.set in
     subst (λ (u : State). Legal u (Name 0 0 0x8400_0000_0001_0008)) (sym e) (first_legal s c.requires.log.0 c.requires.log.1 c.requires.log.2 c.requires.cell.1)
+
+pub name-requires-clause-known : goal.name-requires-clause-known
+name-requires-clause-known g c len place n i lt = absurd (not_from_free _ len place n)

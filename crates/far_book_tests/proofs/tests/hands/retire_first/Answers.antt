@@ -6,6 +6,7 @@ use Rattle.far_core.specs.events.Naming.{is_dropped}
 use Rattle.far_core.specs.state.State.{State}
 use Rattle.far_core.proofs.Cells.{unused}
 use Rattle.far_book_tests.proofs.tests.hands.retire_first.Goals as goal
+use Rattle.far_book.proofs.Knowing.{not_to_free}
 
 pub name-requires-clause-legal : goal.name-requires-clause-legal
 name-requires-clause-legal g c =
@@ -13,3 +14,6 @@ name-requires-clause-legal g c =
     let dropped : is_dropped (read_of c.see-cell.result) ≡ true = ap is_dropped (said ∙ ap Some c.in-Some-Near.field-0-is) ∙ c.if-marks.true in
     let small : 0 < CELLS * (g.N.Near.view c.see-cell.new.self).mutators = subst (λ (u : State). 0 < CELLS * u.mutators) (sym c.see-cell.ensures.kept) c.requires in
     (small, (Retires, (dropped, unused), tt))
+
+pub name-requires-clause-known : goal.name-requires-clause-known
+name-requires-clause-known g c len place n i lt = absurd (not_to_free _ len place n)

@@ -7,8 +7,7 @@ use Rattle.far_core.specs.state.CoreState.{core_state}
 use Rattle.far_core.specs.state.State.{State, put}
 use Rattle.far_book.specs.BesetView.{beset_view}
 use Rattle.far_book.specs.Finds.{Finds}
-use Rattle.far_word.specs.Pointer.{read_of}
-use Rattle.far_book.specs.Known.{StoresKnown}
+use Rattle.far_book.specs.Known.{KnowsLeaving}
 use Rattle.far_book.specs.Masked.{masked, word_at, is_counted, AllFind, CountsOnQuiet}
 use Rattle.far_book.proofs.Counting.{counts_found, counts_none, finds_named, finds_put}
 use Rattle.far_book.proofs.Finding.{finds_seen}
@@ -67,6 +66,27 @@ invariant_of-self-in-Err c =
       counts = subst (λ (u : State). CountsOnQuiet u.round u.clear (word_at c.find-in-Err.new.found.items) counted) (sym same) counts;
     }
 
+pub returns-in-Ok-clause-done : goal.returns-in-Ok-clause-done
+returns-in-Ok-clause-done c =
+    let hand = c.turn.new.self in
+    let s = core_state hand.core in
+    let found = word_at hand.found.items in
+    let counted = is_counted hand.counted.items in
+    let p = c.args.pointer in
+    let old = c.args.old in
+    let new = c.args.new in
+    let legal : Legal (beset_view hand) (Name p old new) = subst (λ (u : State). Legal u (Name p old new)) (sym c.turn.ensures.view) c.requires.legal in
+    let seen : old ≡ found p = c.requires.seen ∙ ap (λ (u : State). u.cell p) (sym c.turn.ensures.view) in
+    let known : KnowsLeaving (beset_view hand) old new = subst (λ (u : State). KnowsLeaving u old new) (sym c.turn.ensures.view) c.requires.known in
+    let tells = names s hand.core.law found counted hand.finds p old new legal.0 c.ranges.new.fits legal seen (won s p old new c.in-Ok.ensures.won) known in
+    let view : masked (core_state c.name.new.self) (word_at c.find.new.found.items) (is_counted c.forget.new.counted.items) ≡ masked (after s (Name p old new)) (put found p new) (λ _. false) =
+    ap (λ (u : State). masked u (word_at c.find.new.found.items) (is_counted c.forget.new.counted.items)) c.name.ensures.state
+    ∙ (ap (λ (f : ℕ → ℕ). masked (after s (Name p old new)) f (is_counted c.forget.new.counted.items)) c.find.ensures.words
+    ∙ ap (λ (k : ℕ → Bool). masked (after s (Name p old new)) (put found p new) k) c.forget.ensures.none) in
+    let from_old = subst (λ (o : State). Names o (masked (after s (Name p old new)) (put found p new) (λ _. false)) p old new) c.turn.ensures.view tells in
+    let both = subst (λ (v : State). Names (beset_view c.args.self.now) v p old new) (sym view) from_old in
+    both.done
+
 pub returns-in-Ok-clause-forgot : goal.returns-in-Ok-clause-forgot
 returns-in-Ok-clause-forgot c =
     let hand = c.turn.new.self in
@@ -78,7 +98,7 @@ returns-in-Ok-clause-forgot c =
     let new = c.args.new in
     let legal : Legal (beset_view hand) (Name p old new) = subst (λ (u : State). Legal u (Name p old new)) (sym c.turn.ensures.view) c.requires.legal in
     let seen : old ≡ found p = c.requires.seen ∙ ap (λ (u : State). u.cell p) (sym c.turn.ensures.view) in
-    let known : StoresKnown (beset_view hand) (read_of old) (read_of new) = subst (λ (u : State). StoresKnown u (read_of old) (read_of new)) (sym c.turn.ensures.view) c.requires.known in
+    let known : KnowsLeaving (beset_view hand) old new = subst (λ (u : State). KnowsLeaving u old new) (sym c.turn.ensures.view) c.requires.known in
     let tells = names s hand.core.law found counted hand.finds p old new legal.0 c.ranges.new.fits legal seen (won s p old new c.in-Ok.ensures.won) known in
     let view : masked (core_state c.name.new.self) (word_at c.find.new.found.items) (is_counted c.forget.new.counted.items) ≡ masked (after s (Name p old new)) (put found p new) (λ _. false) =
     ap (λ (u : State). masked u (word_at c.find.new.found.items) (is_counted c.forget.new.counted.items)) c.name.ensures.state

@@ -1,0 +1,13 @@
+use Rattle.std.proofs.Common.{subst, sym}
+use Rattle.std.proofs.lemmas.Result.{IfOk-weaker}
+use Rattle.far_core.specs.state.CoreState.{core_state}
+use Rattle.far_core.specs.state.State.{State}
+use Rattle.far_book.specs.Known.{Forgets}
+use Rattle.far_book.proofs.Naming.{name_forgets}
+use Rattle.far_book.proofs.plain.PlainNear.name.Goals as goal
+
+pub returns-clause-forgot : goal.returns-clause-forgot
+returns-clause-forgot c =
+    let s = core_state c.args.self.now.core in
+    let forgets = subst (λ (t : State). Forgets s t) (sym c.name.ensures.state) (name_forgets s c.args.pointer c.args.old c.args.new) in
+    IfOk-weaker c.name.result _ _ (λ x h. forgets) c.name.ensures.won
