@@ -1,4 +1,5 @@
 pub mod BookOf
+pub mod Dealing
 pub mod Effects
 pub mod FarSide
 pub mod Home

@@ -1,11 +1,13 @@
 -- What a call of the book makes of a state.
-use Rattle.std.specs.Prelude.{ℕ, ◌+◌, ◌==◌, if◌then◌else◌, List, [], ◌∷◌, ◌++◌}
+use Rattle.std.specs.Prelude.{ℕ, ◌+◌, ◌==◌, if◌then◌else◌, Option, Some, None, List, [], ◌∷◌, ◌++◌}
 use Rattle.far_word.specs.declared.pointer.Place.{Place}
-use Rattle.far_word.specs.declared.pointer.PtrWord.TheVariants.{Near}
+use Rattle.far_word.specs.declared.pointer.PtrWord.{PtrWord}
+use Rattle.far_word.specs.declared.pointer.PtrWord.TheVariants.{Free, Near, Far}
 use Rattle.far_word.specs.Header.{head_word}
-use Rattle.far_word.specs.Pointer.{word_of}
+use Rattle.far_word.specs.Pointer.{read_of, word_of}
 use Rattle.far_word.specs.Sizes.{words_for}
 use Rattle.far_core.specs.declared.event.Event.TheVariants.{Name, Mark}
+use Rattle.far_core.specs.events.Copies.{data_at}
 use Rattle.far_core.specs.events.Naming.{no_marks}
 use Rattle.far_core.specs.events.Ranges.{with_row}
 use Rattle.far_core.specs.events.Step.{after}
@@ -15,9 +17,17 @@ use Rattle.far_core.specs.state.State.{State, put, addr}
 abbrev pub near_word : ℕ → ℕ → Place → ℕ
 near_word len ds place = word_of (Near len ds place no_marks)
 
--- a header for p, and data words of 0 behind it, are written at a place
+-- the cell of an object that is far, without marks
+abbrev pub far_word : ℕ → ℕ → ℕ
+far_word len ds = word_of (Far len ds no_marks)
+
+-- a header for p, and a row of data words behind it, are written at a place
+abbrev pub with_written_span : State → ℕ → ℕ → ℕ → Place → (ℕ → ℕ) → State
+with_written_span s p len ds place row = record s { word = with_row (put s.word (addr place) (head_word p len ds)) (addr place + 1) (words_for len) row }
+
+-- the same, with data words of 0
 abbrev pub with_blank_span : State → ℕ → ℕ → ℕ → Place → State
-with_blank_span s p len ds place = record s { word = with_row (put s.word (addr place) (head_word p len ds)) (addr place + 1) (words_for len) (λ _. 0) }
+with_blank_span s p len ds place = with_written_span s p len ds place (λ _. 0)
 
 -- a new object of zeros is placed: its span is written, and p's cell, which was free, names it
 abbrev pub placed : State → ℕ → ℕ → ℕ → Place → State
@@ -34,6 +44,46 @@ retired s p = after s (Name p (s.cell p) 0)
 -- a near pointer whose place lies in a sealed log has EVAC
 abbrev pub marked : State → ℕ → State
 marked s p = after s (Mark p)
+
+-- a near object is copied to a place, and its cell names that, without marks; the span at its old place is dead. Nothing else is moved
+abbrev pub moved_of : State → ℕ → Place → Option PtrWord → State
+moved_of s p place None = s
+moved_of s p place (Some Free) = s
+moved_of s p place (Some (Near len ds from marks)) = after (with_written_span s p len ds place (data_at s.word from)) (Name p (s.cell p) (near_word len ds place))
+moved_of s p place (Some (Far len ds marks)) = s
+
+abbrev pub moved : State → ℕ → Place → State
+moved s p place = moved_of s p place (read_of (s.cell p))
+
+-- a near object stays where it lies, without marks
+abbrev pub stayed_of : State → ℕ → Option PtrWord → State
+stayed_of s p None = s
+stayed_of s p (Some Free) = s
+stayed_of s p (Some (Near len ds place marks)) = after s (Name p (s.cell p) (near_word len ds place))
+stayed_of s p (Some (Far len ds marks)) = s
+
+abbrev pub stayed : State → ℕ → State
+stayed s p = stayed_of s p (read_of (s.cell p))
+
+-- the words of a near object are stored, and its cell says far, without marks; its span is dead
+abbrev pub evicted_of : State → ℕ → Option PtrWord → State
+evicted_of s p None = s
+evicted_of s p (Some Free) = s
+evicted_of s p (Some (Near len ds place marks)) = after s (Name p (s.cell p) (far_word len ds))
+evicted_of s p (Some (Far len ds marks)) = s
+
+abbrev pub evicted : State → ℕ → State
+evicted s p = evicted_of s p (read_of (s.cell p))
+
+-- a far object comes to a place with a row of words, and its cell names that, without marks
+abbrev pub fetched_of : State → ℕ → Place → (ℕ → ℕ) → Option PtrWord → State
+fetched_of s p place row None = s
+fetched_of s p place row (Some Free) = s
+fetched_of s p place row (Some (Near len ds from marks)) = s
+fetched_of s p place row (Some (Far len ds marks)) = after (with_written_span s p len ds place row) (Name p (s.cell p) (near_word len ds place))
+
+abbrev pub fetched : State → ℕ → Place → (ℕ → ℕ) → State
+fetched s p place row = fetched_of s p place row (read_of (s.cell p))
 
 -- the sealed logs, oldest first, once a span was placed: where it opened another log, the one that was open is the youngest
 abbrev pub order_after : State → List ℕ → Place → List ℕ
