@@ -8,6 +8,7 @@ ghost use Rattle.far_core.specs.events.Legal.{Legal};
 ghost use Rattle.far_core.specs.events.Step.{after};
 ghost use Rattle.far_core.specs.state.Shape.{is_shape};
 ghost use Rattle.far_core.specs.state.State.{State, put};
+ghost use Rattle.far_book.specs.Cleared.{cleared};
 ghost use Rattle.far_book.specs.Finds.{Finds};
 ghost use Rattle.far_book.specs.Known.{IsKnown, Forgets, IsPaddedAt, KnowsLeaving};
 ghost use Rattle.far_book.specs.Quiet.{IsQuietAt};
@@ -46,6 +47,16 @@ pub trait Near {
         ensures kept { view self.new ≡ record (view self.old) { cell = put (view self.old).cell pointer (bit_or result (2 ^ position Evac)) } }
         ensures exact { still → result ≡ (view self.old).cell pointer }
         ensures set { still → view self.new ≡ after (view self.old) (Event.Mark pointer) };
+
+    /// EVAC is taken from a near pointer, and the log that its place lies in leaves the round: its word before, as it was
+    /// found. Words may be forgotten then.
+    fn clear(&mut self, pointer: u16) -> u64
+        requires legal { Legal (view self.old) (Event.Clear pointer) }
+        ensures found { Finds ((view self.old).cell pointer) result }
+        ensures kept { view self.new ≡ record (cleared (view self.old) pointer result) { word = (view self.new).word } }
+        ensures forgot { Forgets (view self.old) (view self.new) }
+        ensures exact { still → result ≡ (view self.old).cell pointer }
+        ensures set { still → view self.new ≡ after (view self.old) (Event.Clear pointer) };
 
     /// Word `at` of a log. With `free` the log, which is sealed and has no live span, is given back too.
     ///

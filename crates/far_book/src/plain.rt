@@ -27,6 +27,10 @@ impl Near for Plain {
         self.core.mark(pointer)
     }
 
+    fn clear(&mut self, pointer: u16) -> u64 {
+        self.core.clear(pointer)
+    }
+
     fn get(&mut self, log: u8, at: u16, free: bool) -> u64 {
         self.core.get(log, at, free)
     }

@@ -32,6 +32,14 @@ impl Near for Beset {
         cell
     }
 
+    fn clear(&mut self, pointer: u16) -> u64 {
+        self.turn();
+        let cell = self.core.clear(pointer);
+        find(&mut self.found, pointer, cell & !Mark::Evac.mask());
+        forget(&mut self.counted);
+        cell
+    }
+
     fn get(&mut self, log: u8, at: u16, free: bool) -> u64 {
         self.turn();
         let quiet = self.is_quiet_at(log, at);

@@ -59,6 +59,17 @@ fn retire_first<N: Near>(near: &mut N) -> Option<Result<(), u64>>
     }
 }
 
+/// EVAC is taken from pointer 0, if it is seen to be near.
+fn clear_first<N: Near>(near: &mut N) -> Option<u64>
+    requires { 0 < CELLS * (N.view near.old).mutators }
+{
+    let cell = near.see(0);
+    match PtrWord::read(cell) {
+        Some(PtrWord::Near { .. }) => Some(near.clear(0)),
+        _ => None,
+    }
+}
+
 /// A plain hand on a core at the start.
 fn plain_hand(alloc: Global) -> Result<Plain, Refused>
     ensures { IfOk result (λ hand. core_state hand.core ≡ opening SMALL true) }
@@ -235,6 +246,24 @@ fn assert_vacant(rt: &impl Abort, found: &Vec<u64>, log: u8)
 {
     let vacant = is_vacant(found, log);
     assert!(rt; vacant);
+}
+
+#[test]
+fn evac_is_taken_back(rt: HostRuntime) -> Result<(), Fail> {
+    let mut core = dropped_core(&rt, rt.alloc())?;
+    let pointer = 0;
+    let named = Reply::Word(0x8c00_0000_0001_03f8);
+    assert_eq!(rt; core.step(Event::Mark { pointer }), named);
+    let owners = vec![in rt.alloc()]?;
+    let mut hand = Beset::new(rt.alloc(), core, owners)?;
+    assert!(rt; hand.core.mutators() == 1);
+    assert_eq!(rt; clear_first(&mut hand), Some(0xac00_0000_0001_03f8));
+    assert_eq!(rt; hand.core.cell(0), 0x8c00_0000_0001_03f8);
+    assert_eq!(rt; hand.found.get(0).copied(), Some(0x8c00_0000_0001_03f8));
+    let mut hand = plain_hand(rt.alloc())?;
+    assert!(rt; hand.core.mutators() == 1);
+    assert_eq!(rt; clear_first(&mut hand), None);
+    Ok(())
 }
 
 #[test]
