@@ -13,8 +13,8 @@ ghost use Rattle.far_replay.specs.Turn.{reply_to};
 use crate::outcome::Outcome;
 use crate::owners::own_pointer;
 use far_book::{Book, Plain};
-use far_device::MemDevice;
 use far_core::Event;
+use far_device::MemDevice;
 use far_word::{Mark, Refused};
 
 /// Drops an owner's object: its owner asks, and the book retires it.

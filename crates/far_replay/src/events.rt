@@ -8,8 +8,8 @@ ghost use Rattle.far_replay.specs.Events.{open_events, view_events};
 ghost use Rattle.far_replay.specs.Moment.{state_in};
 
 use far_book::{Book, Plain};
-use far_device::MemDevice;
 use far_core::Event;
+use far_device::MemDevice;
 
 /// Opens an owner's scope, at the epoch that it reads unless it has read one already.
 pub fn open(book: &mut Book<Plain, MemDevice>, owner: u8)

@@ -29,8 +29,8 @@ use crate::inquiries::{audit, find_object, tell_log, tell_logs};
 use crate::outcome::{Outcome, Scratch};
 use crate::owners::{own_pointer, owner_of};
 use far_book::{Book, Plain};
-use far_device::MemDevice;
 use far_core::Event;
+use far_device::MemDevice;
 use far_word::{LOG_WORDS, LONGEST, Refused, pack_bytes, pointer_len, unpack_bytes};
 
 /// Some bytes of an object that its owner may reach: the numbers of the owner and the pointer, and the range.
@@ -231,7 +231,12 @@ fn store_front(book: &mut Book<Plain, MemDevice>, access: Access, words: &[u64])
 }
 
 // Writes bytes over a range.
-fn write(book: &mut Book<Plain, MemDevice>, scratch: &mut Scratch, access: Access, bytes: HexWord) -> Outcome
+fn write(
+    book: &mut Book<Plain, MemDevice>,
+    scratch: &mut Scratch,
+    access: Access,
+    bytes: HexWord,
+) -> Outcome
     requires access { IsAccess (state_in book.old) access.owner access.pointer access.from access.count access }
     requires between { Between (state_in book.old) }
     requires law { Law (state_in book.old) }
@@ -246,7 +251,12 @@ fn write(book: &mut Book<Plain, MemDevice>, scratch: &mut Scratch, access: Acces
 }
 
 // Makes a new object, or answers why not: its pointer.
-fn place_new(book: &mut Book<Plain, MemDevice>, owner: u8, len: u64, ds: u64) -> Result<u16, Refused>
+fn place_new(
+    book: &mut Book<Plain, MemDevice>,
+    owner: u8,
+    len: u64,
+    ds: u64,
+) -> Result<u16, Refused>
     requires known { owner < (state_in book.old).mutators }
     ensures refusal { refused_in result ≡ refusal (moment_of (state_in book.old)) (Mutator owner (New len ds)) }
     ensures cell { IfOk result (λ pointer. lowest_cell (state_in book.old) owner ≡ Some pointer) }
@@ -388,7 +398,11 @@ fn make_request(
 }
 
 // Makes the events of one command, and answers what it comes to.
-fn make_events(book: &mut Book<Plain, MemDevice>, scratch: &mut Scratch, command: &Command) -> Outcome
+fn make_events(
+    book: &mut Book<Plain, MemDevice>,
+    scratch: &mut Scratch,
+    command: &Command,
+) -> Outcome
     requires between { Between (state_in book.old) }
     requires law { Law (state_in book.old) }
     ensures state { state_in book.new ≡ after_events (state_in book.old) (events_for (moment_of (state_in book.old)) (as_command command.now)) }
