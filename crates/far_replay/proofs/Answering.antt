@@ -2,44 +2,17 @@
 use Rattle.std.proofs.Common.{◌≡◌, ℕ, ◌+◌, ◌<◌, List, [], ◌∷◌, ◌++◌, length, get_or, drop, Result, Ok, Err, refl, ap, sym, ◌∙◌, subst, arith, append_assoc, append-nil, zero, suc}
 use Rattle.std.specs.Prelude.{map}
 use Rattle.std.specs.List.{flat_map}
-use Rattle.std.specs.Result.{result_unwrap_or}
-use Rattle.hex.specs.Hex.{IsBytes, decode_of}
-use Rattle.hex.proofs.HexLemmas.{decode_of-ok}
 use Rattle.std.proofs.lemmas.Grind.{flat_map-append}
 use Rattle.far_core.specs.state.Law.{Law}
 use Rattle.far_core.specs.state.State.{State}
 use Rattle.far_replay.specs.Moment.{Moment, moment_of}
 use Rattle.far_replay.specs.Answers.{Answered, Commanded}
-use Rattle.far_replay.specs.Command.{Command, as_command}
-use Rattle.far_replay.specs.HexWord.{hex_bytes}
+use Rattle.far_replay.specs.Command.{Command}
 use Rattle.far_replay.specs.Written.{WritesBytes}
-use Rattle.far_replay.specs.declared.command.Command.{Command as Spelled}
-use Rattle.far_replay.specs.declared.command.Command.TheVariants.{Mutator as SpelledMutator, Book as SpelledBook}
-use Rattle.far_replay.specs.declared.command.Request.TheVariants.{New as SpelledNew, Open as SpelledOpen, Write as SpelledWrite, Read as SpelledRead, Close as SpelledClose, Where as SpelledWhere, Drop as SpelledDrop}
 use Rattle.far_replay.specs.Reply.{Reply, reply_text}
 use Rattle.far_replay.specs.Between.{Between}
 use Rattle.far_replay.specs.Turn.{effect}
 use Rattle.far_replay.proofs.Turns.{turns}
-
--- what is decoded is bytes, and nothing is
-unwrapped_bytes : {E : Type 0} (r : Result (List ℕ) E) → ((bytes : List ℕ) → r ≡ Ok bytes → IsBytes bytes) → IsBytes (result_unwrap_or r [])
-unwrapped_bytes (Ok bytes) h = h bytes refl
-unwrapped_bytes (Err e) h = λ k. omega arith
-
-hex_are_bytes : (word : List ℕ) → IsBytes (hex_bytes word)
-unfolding hex_bytes
-hex_are_bytes word = unwrapped_bytes (decode_of word) (λ bytes e. (decode_of-ok word bytes e).3)
-
--- what a command that was read writes is bytes
-pub said_bytes : (command : Spelled) → WritesBytes (as_command command)
-said_bytes (SpelledMutator m (SpelledNew len structure)) = tt
-said_bytes (SpelledMutator m SpelledOpen) = tt
-said_bytes (SpelledMutator m (SpelledWrite p from bytes)) = hex_are_bytes bytes.digits.now
-said_bytes (SpelledMutator m (SpelledRead p from len)) = tt
-said_bytes (SpelledMutator m SpelledClose) = tt
-said_bytes (SpelledMutator m (SpelledWhere p)) = tt
-said_bytes (SpelledMutator m (SpelledDrop p)) = tt
-said_bytes (SpelledBook inquiry) = tt
 
 -- the rest of a list begins with the element at its index
 pub drop_here : {X Y : Type 0} (f : X → Y) (xs : List X) (i : ℕ) (x : X) → i < length xs → x ≡ get_or xs i x → drop i (map f xs) ≡ f x ∷ drop (i + 1) (map f xs)

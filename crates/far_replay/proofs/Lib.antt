@@ -33,6 +33,7 @@ pub mod PrintedAlike
 pub mod RangeTurns
 pub mod RangeWrites
 pub mod Reading
+pub mod RecordLemmas
 pub mod Refusals
 pub mod Runs
 pub mod SaidBy

@@ -1,5 +1,5 @@
 -- What a line says: comments, commands, and lines off the grammar.
-use Rattle.std.proofs.Common.{◌≡◌, ℕ, ◌<◌, ◌≤◌, ◌+◌, ◌^◌, ◌==◌, ◌&&◌, suc, zero, nat_lt, nat_le, List, [], ◌∷◌, ◌++◌, length, take, drop, get_or, Some, None, true, false, Bool, decimal, cond, sym, ◌∙◌, ap, refl, arith, below_more, add-one, append-nil, eq-eqb}
+use Rattle.std.proofs.Common.{◌≡◌, ℕ, ◌<◌, ◌≤◌, ◌+◌, ◌^◌, ◌==◌, ◌&&◌, suc, zero, nat_lt, nat_le, List, [], ◌∷◌, ◌++◌, length, take, drop, get_or, Option, Some, None, true, false, Bool, decimal, cond, sym, ◌∙◌, ap, refl, arith, below_more, add-one, append-nil, eq-eqb}
 use Rattle.std.specs.List.{list_all, join_with_byte}
 use Rattle.std.proofs.lemmas.Bool.{and_parts, le-leb, lt-leb}
 use Rattle.std.proofs.lemmas.Bool.Decides.{Decides-ltb, nat_tests}
@@ -13,7 +13,7 @@ use Rattle.hex.specs.Hex.{is_hex_digit}
 use Rattle.hex.proofs.HexLemmas.{decode_of-ok}
 use Rattle.far_replay.specs.Command.{Entry, HeapLine, CommandLine, New, Open, Write, Read, Close, Where, Drop, Logs, Log, Audit, Mutator, Book}
 use Rattle.far_replay.specs.Says.{Says, Spells}
-use Rattle.far_replay.specs.Grammar.{Line, Skipped, Saying, Bad, line_of, is_plain, is_skipped, entry_of, lines_of, line_words}
+use Rattle.far_replay.specs.Grammar.{Line, Skipped, Saying, Bad, saying, line_of, is_plain, is_skipped, entry_of, lines_of, line_words}
 use Rattle.far_replay.specs.Cursor.{front_of, first_line, lines_after_first, words_in}
 use Rattle.far_replay.proofs.Cuts.{split_on, line_at}
 use Rattle.far_replay.proofs.SaysLemmas.{read_is_said}
@@ -77,7 +77,7 @@ first_byte : (text : List ℕ) → 0 < length text → (get_or text 0 0 == 10) �
 first_byte [] h e = absurd (omega arith)
 first_byte (b ∷ text) h e = ap (λ l. is_skipped (front_of l)) (split_on (λ c. c == 10) b text e)
 
-pub said_entry_line : (text : List ℕ) (c : Entry) → 0 < length text → (get_or text 0 0 == 10) ≡ false → (get_or text 0 0 == 35) ≡ false
+said_entry_line : (text : List ℕ) (c : Entry) → 0 < length text → (get_or text 0 0 == 10) ≡ false → (get_or text 0 0 == 35) ≡ false
     → Some c ≡ entry_of (words_in text) → length (first_line text) ≤ 4096 → Saying c ≡ line_of (first_line text)
 unfolding line_of
 said_entry_line text c some other plain e short =
@@ -92,6 +92,12 @@ unfolding line_of
 bad_entry text some other plain e =
     let skipped : is_skipped (first_line text) ≡ false = first_byte text some other ∙ plain in
     rw (skipped, e) (elim (is_plain (first_line text)) as (λ b. cond b Bad Bad ≡ Bad) [ true ↦ refl | false ↦ refl ])
+
+-- what a line with content says, as it is spelled
+pub spelled_line : (text : List ℕ) (o : Option Entry) → 0 < length text → (get_or text 0 0 == 10) ≡ false → (get_or text 0 0 == 35) ≡ false
+    → o ≡ entry_of (words_in text) → length (first_line text) ≤ 4096 → saying o ≡ line_of (first_line text)
+spelled_line text (Some c) some other plain e short = said_entry_line text c some other plain e short
+spelled_line text None some other plain e short = sym (bad_entry text some other plain (sym e))
 
 pub long_line : (line : List ℕ) → 4096 < length line → line_of line ≡ Bad
 unfolding line_of

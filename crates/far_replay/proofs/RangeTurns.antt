@@ -5,7 +5,6 @@ use Rattle.std.specs.List.{range_with_len}
 use Rattle.far_core.specs.declared.event.Event.{Event}
 use Rattle.std.proofs.lemmas.Bool.{eq-eqb, false≢true}
 use Rattle.std.proofs.lemmas.List.{get_or-take}
-use Rattle.hex.proofs.HexLemmas.{decode_of-ok}
 use Rattle.far_word.specs.Bytes.{packed_word}
 use Rattle.far_word.specs.Pointer.{IsPtr, pointer_len, read_of}
 use Rattle.far_word.specs.Sizes.{words_for}
@@ -22,14 +21,12 @@ use Rattle.far_core.specs.state.State.{State}
 use Rattle.far_replay.specs.Command.{Mutator, Read, Write}
 use Rattle.far_replay.specs.EventRows.{after_events}
 use Rattle.far_replay.specs.Events.{first_word, store_events, turn_events, view_events, words_touched}
-use Rattle.far_replay.specs.HexWord.{hex_bytes, is_hex_word}
 use Rattle.far_replay.specs.Interpreter.{IsAccess, IsViewed}
 use Rattle.far_replay.specs.Moment.{moment_of}
 use Rattle.far_replay.specs.Objects.{data_of, named_len, object_len, with_range, uses}
 use Rattle.far_replay.specs.Between.{Between}
 use Rattle.far_replay.specs.declared.turn.Access.{Access}
 use Rattle.far_replay.proofs.AloneStates.{data_small}
-use Rattle.far_replay.proofs.HexLemmas.{hex_decodes}
 use Rattle.far_replay.proofs.RangeWrites.{rows_same}
 use Rattle.far_replay.proofs.Spliced.{AreBytes, length-with_range, packed_padded, with_range_bytes}
 use Rattle.far_replay.proofs.Turns.{data_same, read_end, viewing, write_end}
@@ -52,10 +49,6 @@ ptr_most (Far len ds m) ok = ok.1
 pub len_most : (w : ℕ) (o : Option PtrWord) (n : ℕ) → w < 2 ^ 64 → read_of w ≡ o → IsSome o → ((v : PtrWord) → o ≡ Some v → n ≡ pointer_len v) → n ≤ LONGEST
 len_most w None n fits e some is = absurd (false≢true some)
 len_most w (Some v) n fits e some is = omega (arith, is v refl, ptr_most v (read_says w v fits e).0)
-
--- the bytes of a word in hex are bytes
-pub hex_small : (w : List ℕ) → is_hex_word w ≡ true → AreBytes (hex_bytes w)
-hex_small w e = (decode_of-ok w (hex_bytes w) (hex_decodes w e).0).3
 
 pub uses_own : (s : State) (m p : ℕ) → p / CELLS ≡ m → s.used p ≡ true → uses s m p ≡ true
 uses_own s m p own used = rw (eq-eqb (p / CELLS) m own, used) refl

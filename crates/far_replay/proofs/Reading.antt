@@ -1,12 +1,14 @@
 -- Commands read so far, in front of those that the rest of the text says.
-use Rattle.std.proofs.Common.{◌≡◌, ℕ, ◌+◌, ◌≤◌, ◌==◌, suc, nat_lt, List, [], ◌∷◌, ◌++◌, length, map, Result, Ok, Err, false, ◌∙◌, ap, refl, append_assoc, arith}
+use Rattle.std.proofs.Common.{◌≡◌, ℕ, ◌+◌, ◌≤◌, ◌==◌, suc, nat_lt, List, [], ◌∷◌, ◌++◌, length, length-append, map, Option, Some, None, Result, Ok, Err, false, sym, ◌∙◌, ap, refl, append_assoc, arith}
 use Rattle.std.proofs.lemmas.Bool.{lt-leb}
 use Rattle.std.proofs.lemmas.List.Sums.{count_by-le-length}
 use Rattle.std.proofs.lemmas.List.Splits.{length-slice_split}
 use Rattle.far_replay.specs.declared.text.TheConstants.{LONGEST_TEXT}
-use Rattle.far_replay.specs.Command.{Command}
+use Rattle.std.specs.Option.{option_map}
+use Rattle.std.proofs.lemmas.Option.{none-some, same_Some}
+use Rattle.far_replay.specs.Command.{Command, CommandLine, Trace}
 use Rattle.far_replay.specs.Cursor.{first_line, lines_after_first}
-use Rattle.far_replay.specs.Grammar.{Line, onto, line_of, lines_of, read_command, read_commands, read_heap, read_lines, trace_of}
+use Rattle.far_replay.specs.Grammar.{Line, saying, onto, line_of, lines_of, read_command, read_commands, read_heap, read_lines, trace_of}
 use Rattle.far_replay.proofs.Cuts.{split_some}
 
 abbrev pub onto_all : List Command → Result (List Command) ℕ → Result (List Command) ℕ
@@ -48,3 +50,25 @@ fewer_lines text lines e = let all = ap length (split_some (λ b. b == 10) text)
 pub map_append : {A B : Type 0} (f : A → B) (xs ys : List A) → map f (xs ++ ys) ≡ map f xs ++ map f ys
 map_append f [] ys = refl
 map_append f (x ∷ xs) ys = ap (λ l. f x ∷ l) (map_append f xs ys)
+
+-- a command that was kept
+pub one_kept : (old new : List Command) (command : Option Command) → option_map (λ c. old ++ c ∷ []) command ≡ Some new →
+    (number : ℕ) (later : Result (List Command) ℕ) → onto_all new later ≡ onto_all old (read_command number (saying (option_map CommandLine command)) later)
+one_kept old new None e number later = absurd (none-some new e)
+one_kept old new (Some c) e number later = ap (λ cs. onto_all cs later) (sym (same_Some (old ++ c ∷ []) new e)) ∙ onto_one_more old c later
+
+-- one that was not
+pub none_kept : (old : List Command) (command : Option Command) → option_map (λ c. old ++ c ∷ []) command ≡ None →
+    (number : ℕ) (later : Result (List Command) ℕ) → read_command number (saying (option_map CommandLine command)) later ≡ Err number
+none_kept old None e number later = refl
+none_kept old (Some c) e number later = absurd (none-some (old ++ c ∷ []) (sym e))
+
+-- no command stands before the heap
+pub none_first : (command : Option Command) (number : ℕ) (same : Result Trace ℕ) (later : Result (List Command) ℕ) → read_heap number (saying (option_map CommandLine command)) same later ≡ Err number
+none_first None number same later = refl
+none_first (Some c) number same later = refl
+
+-- it is one more
+pub one_longer : (old new : List Command) (command : Option Command) → option_map (λ c. old ++ c ∷ []) command ≡ Some new → length new ≡ length old + 1
+one_longer old new None e = absurd (none-some new e)
+one_longer old new (Some c) e = let same = ap length (same_Some (old ++ c ∷ []) new e) in omega (arith, length-append old (c ∷ []))

@@ -1,16 +1,11 @@
 -- What a trace says: nothing, or a heap and commands: the requests of a mutator, and the inquiries of the book; with the bytes of a write as they are stored.
-use Rattle.std.specs.Prelude.{ℕ, List, map}
-use Rattle.far_replay.specs.HexWord.{hex_bytes}
+use Rattle.std.specs.Prelude.{ℕ, List}
 use Rattle.far_replay.specs.declared.command.Command.{Command as Spelled}
 use Rattle.far_replay.specs.declared.command.Command.TheVariants.{Mutator as SpelledMutator, Book as SpelledBook}
-use Rattle.far_replay.specs.declared.command.Entry.{Entry as SpelledEntry}
-use Rattle.far_replay.specs.declared.command.Entry.TheVariants.{Heap as SpelledHeapLine, Command as SpelledCommandLine}
 use Rattle.far_replay.specs.declared.command.Inquiry.{Inquiry as SpelledInquiry}
 use Rattle.far_replay.specs.declared.command.Inquiry.TheVariants.{Logs as SpelledLogs, Log as SpelledLog, Audit as SpelledAudit}
 use Rattle.far_replay.specs.declared.command.Request.{Request as SpelledRequest}
 use Rattle.far_replay.specs.declared.command.Request.TheVariants.{New as SpelledNew, Open as SpelledOpen, Write as SpelledWrite, Read as SpelledRead, Close as SpelledClose, Where as SpelledWhere, Drop as SpelledDrop}
-use Rattle.far_replay.specs.declared.text.Trace.{Trace as SpelledTrace}
-use Rattle.far_replay.specs.declared.text.Trace.TheVariants.{Nothing as SpelledNothing, Heap as SpelledHeap}
 
 -- what a mutator asks for
 pub data Request : Type 0 where
@@ -42,11 +37,11 @@ pub data Trace : Type 0 where
   Nothing : Trace
   Heap : (logs mutators : ℕ) (commands : List Command) → Trace
 
--- what is spelled so: the bytes of a write are spelled in hex
+-- what is asked so
 abbrev pub as_request : SpelledRequest → Request
 as_request (SpelledNew len structure) = New len structure
 as_request SpelledOpen = Open
-as_request (SpelledWrite pointer from bytes) = Write pointer from (hex_bytes bytes.digits.now)
+as_request (SpelledWrite pointer from bytes) = Write pointer from bytes.now
 as_request (SpelledRead pointer from len) = Read pointer from len
 as_request SpelledClose = Close
 as_request (SpelledWhere pointer) = Where pointer
@@ -60,11 +55,3 @@ as_inquiry SpelledAudit = Audit
 abbrev pub as_command : Spelled → Command
 as_command (SpelledMutator mutator request) = Mutator mutator (as_request request)
 as_command (SpelledBook inquiry) = Book (as_inquiry inquiry)
-
-abbrev pub as_entry : SpelledEntry → Entry
-as_entry (SpelledHeapLine logs mutators) = HeapLine logs mutators
-as_entry (SpelledCommandLine command) = CommandLine (as_command command)
-
-abbrev pub as_trace : SpelledTrace → Trace
-as_trace SpelledNothing = Nothing
-as_trace (SpelledHeap logs mutators commands) = Heap logs mutators (map as_command commands.items)

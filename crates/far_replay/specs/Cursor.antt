@@ -1,8 +1,8 @@
 -- How far a text is read: what the words and the lines are that are left of it.
 use Rattle.std.specs.Prelude.{ℕ, Bool, ◌||◌, ◌==◌, List, [], ◌∷◌, Option, Some, None}
 use Rattle.std.specs.Borrow.{Bor}
-use Rattle.far_replay.specs.Command.{as_entry}
-use Rattle.far_replay.specs.Grammar.{Line, Skipped, Saying, line_words, lines_of}
+use Rattle.far_replay.specs.Spelled.{entry_spelled}
+use Rattle.far_replay.specs.Grammar.{Line, Skipped, saying, line_words, lines_of}
 use Rattle.far_replay.specs.declared.cursor.Rest.{Rest}
 use Rattle.far_replay.specs.declared.cursor.Rest.TheVariants.{Words, Lines}
 use Rattle.far_replay.specs.declared.line.Line.{Line as Spelled}
@@ -49,4 +49,4 @@ lines_after (Lines lines) = lines_left lines
 -- the line that is spelled so
 abbrev pub as_line : Spelled → Line
 as_line SpelledSkipped = Skipped
-as_line (SpelledSaid entry) = Saying (as_entry entry)
+as_line (SpelledSaid entry) = saying (entry_spelled entry)

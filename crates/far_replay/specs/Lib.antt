@@ -14,8 +14,11 @@ pub mod Interpreter
 pub mod Moment
 pub mod Objects
 pub mod Outcome
+pub mod Parsed
+pub mod Records
 pub mod Reply
 pub mod Says
+pub mod Spelled
 pub mod Stays
 pub mod Stream
 pub mod TraceText

@@ -1,16 +1,16 @@
 //! Commands and the heap's line, and which words spell them.
 
 ghost use Rattle.std.specs.Prelude.{◌≡◌, ◌∷◌, IfSome};
-ghost use Rattle.std.specs.Option.{option_map};
 ghost use Rattle.std.specs.Str.{bytes_eq};
-ghost use Rattle.far_replay.specs.Command.{as_entry, HeapLine, CommandLine, Book, Logs, Audit};
+ghost use Rattle.std.specs.Option.{option_and_then};
+ghost use Rattle.far_replay.specs.Command.{HeapLine, CommandLine, Book, Logs, Audit};
+ghost use Rattle.far_replay.specs.Spelled.{entry_spelled};
 ghost use Rattle.far_replay.specs.Grammar.{Numbers, NumbersAndBytes, asks_read, asks_write, asks_open, asks_close, asks_new, asks_where, asks_drop, asks_log, entry_from, entry_of, entry_at_end};
 ghost use Rattle.far_replay.specs.Cursor.{words_in, words_left, lines_after_first, lines_after, lines_left};
 
 use crate::cursor::{Rest, last_bytes_of, next_number_of, word_first};
-use crate::hex_word::HexWord;
 
-/// What a mutator asks for.
+/// What a mutator asks for. The bytes of a write are digits in hex as far as they are only read, and not yet kept.
 #[derive(Clone, Copy)]
 pub enum Request<'a> {
     New {
@@ -21,7 +21,7 @@ pub enum Request<'a> {
     Write {
         pointer: u64,
         from: u64,
-        bytes: HexWord<'a>,
+        bytes: &'a [u8],
     },
     Read {
         pointer: u64,
@@ -65,7 +65,7 @@ pub type Spelled<'a> = (Entry<'a>, Option<&'a [u8]>);
 // The entry, if its line ends here.
 #[inline(always)]
 fn at_end<'a>(entry: Entry<'a>, rest: Rest<'a>) -> Option<Spelled<'a>>
-    ensures value { option_map (λ found. as_entry found.0) result ≡ entry_at_end (words_left rest.entry) (as_entry entry.entry) }
+    ensures value { option_and_then (λ found. entry_spelled found.0) result ≡ option_and_then (entry_at_end (words_left rest.entry)) (entry_spelled entry.entry) }
     ensures lines { IfSome result (λ found. lines_left found.1 ≡ lines_after rest.entry) }
 {
     match rest {
@@ -75,7 +75,7 @@ fn at_end<'a>(entry: Entry<'a>, rest: Rest<'a>) -> Option<Spelled<'a>>
 }
 
 fn heap_spelled(rest: Rest<'_>) -> Option<Spelled<'_>>
-    ensures value { option_map (λ found. as_entry found.0) result ≡ entry_from (Numbers 2 HeapLine) (words_left rest.entry) }
+    ensures value { option_and_then (λ found. entry_spelled found.0) result ≡ entry_from (Numbers 2 HeapLine) (words_left rest.entry) }
     ensures lines { IfSome result (λ found. lines_left found.1 ≡ lines_after rest.entry) }
 {
     let (logs, rest) = next_number_of(rest)?;
@@ -84,7 +84,7 @@ fn heap_spelled(rest: Rest<'_>) -> Option<Spelled<'_>>
 }
 
 fn new_spelled(rest: Rest<'_>) -> Option<Spelled<'_>>
-    ensures value { option_map (λ found. as_entry found.0) result ≡ entry_from (Numbers 3 asks_new) (words_left rest.entry) }
+    ensures value { option_and_then (λ found. entry_spelled found.0) result ≡ entry_from (Numbers 3 asks_new) (words_left rest.entry) }
     ensures lines { IfSome result (λ found. lines_left found.1 ≡ lines_after rest.entry) }
 {
     let (mutator, rest) = next_number_of(rest)?;
@@ -95,7 +95,7 @@ fn new_spelled(rest: Rest<'_>) -> Option<Spelled<'_>>
 }
 
 fn open_spelled(rest: Rest<'_>) -> Option<Spelled<'_>>
-    ensures value { option_map (λ found. as_entry found.0) result ≡ entry_from (Numbers 1 asks_open) (words_left rest.entry) }
+    ensures value { option_and_then (λ found. entry_spelled found.0) result ≡ entry_from (Numbers 1 asks_open) (words_left rest.entry) }
     ensures lines { IfSome result (λ found. lines_left found.1 ≡ lines_after rest.entry) }
 {
     let (mutator, rest) = next_number_of(rest)?;
@@ -105,7 +105,7 @@ fn open_spelled(rest: Rest<'_>) -> Option<Spelled<'_>>
 
 #[inline(always)]
 fn write_spelled(rest: Rest<'_>) -> Option<Spelled<'_>>
-    ensures value { option_map (λ found. as_entry found.0) result ≡ entry_from (NumbersAndBytes 3 asks_write) (words_left rest.entry) }
+    ensures value { option_and_then (λ found. entry_spelled found.0) result ≡ entry_from (NumbersAndBytes 3 asks_write) (words_left rest.entry) }
     ensures lines { IfSome result (λ found. lines_left found.1 ≡ lines_after rest.entry) }
 {
     let (mutator, rest) = next_number_of(rest)?;
@@ -123,7 +123,7 @@ fn write_spelled(rest: Rest<'_>) -> Option<Spelled<'_>>
 
 #[inline(always)]
 fn read_spelled(rest: Rest<'_>) -> Option<Spelled<'_>>
-    ensures value { option_map (λ found. as_entry found.0) result ≡ entry_from (Numbers 4 asks_read) (words_left rest.entry) }
+    ensures value { option_and_then (λ found. entry_spelled found.0) result ≡ entry_from (Numbers 4 asks_read) (words_left rest.entry) }
     ensures lines { IfSome result (λ found. lines_left found.1 ≡ lines_after rest.entry) }
 {
     let (mutator, rest) = next_number_of(rest)?;
@@ -135,7 +135,7 @@ fn read_spelled(rest: Rest<'_>) -> Option<Spelled<'_>>
 }
 
 fn close_spelled(rest: Rest<'_>) -> Option<Spelled<'_>>
-    ensures value { option_map (λ found. as_entry found.0) result ≡ entry_from (Numbers 1 asks_close) (words_left rest.entry) }
+    ensures value { option_and_then (λ found. entry_spelled found.0) result ≡ entry_from (Numbers 1 asks_close) (words_left rest.entry) }
     ensures lines { IfSome result (λ found. lines_left found.1 ≡ lines_after rest.entry) }
 {
     let (mutator, rest) = next_number_of(rest)?;
@@ -144,7 +144,7 @@ fn close_spelled(rest: Rest<'_>) -> Option<Spelled<'_>>
 }
 
 fn where_spelled(rest: Rest<'_>) -> Option<Spelled<'_>>
-    ensures value { option_map (λ found. as_entry found.0) result ≡ entry_from (Numbers 2 asks_where) (words_left rest.entry) }
+    ensures value { option_and_then (λ found. entry_spelled found.0) result ≡ entry_from (Numbers 2 asks_where) (words_left rest.entry) }
     ensures lines { IfSome result (λ found. lines_left found.1 ≡ lines_after rest.entry) }
 {
     let (mutator, rest) = next_number_of(rest)?;
@@ -154,7 +154,7 @@ fn where_spelled(rest: Rest<'_>) -> Option<Spelled<'_>>
 }
 
 fn drop_spelled(rest: Rest<'_>) -> Option<Spelled<'_>>
-    ensures value { option_map (λ found. as_entry found.0) result ≡ entry_from (Numbers 2 asks_drop) (words_left rest.entry) }
+    ensures value { option_and_then (λ found. entry_spelled found.0) result ≡ entry_from (Numbers 2 asks_drop) (words_left rest.entry) }
     ensures lines { IfSome result (λ found. lines_left found.1 ≡ lines_after rest.entry) }
 {
     let (mutator, rest) = next_number_of(rest)?;
@@ -164,7 +164,7 @@ fn drop_spelled(rest: Rest<'_>) -> Option<Spelled<'_>>
 }
 
 fn log_spelled(rest: Rest<'_>) -> Option<Spelled<'_>>
-    ensures value { option_map (λ found. as_entry found.0) result ≡ entry_from (Numbers 1 asks_log) (words_left rest.entry) }
+    ensures value { option_and_then (λ found. entry_spelled found.0) result ≡ entry_from (Numbers 1 asks_log) (words_left rest.entry) }
     ensures lines { IfSome result (λ found. lines_left found.1 ≡ lines_after rest.entry) }
 {
     let (log, rest) = next_number_of(rest)?;
@@ -179,7 +179,7 @@ fn is_name(word: &[u8], name: &[u8]) -> bool
 
 // The entry of this name, by the words after it.
 fn entry_by_name<'a>(name: &[u8], rest: Rest<'a>) -> Option<Spelled<'a>>
-    ensures value { option_map (λ found. as_entry found.0) result ≡ entry_of (name.now ∷ words_left rest.entry) }
+    ensures value { option_and_then (λ found. entry_spelled found.0) result ≡ entry_of (name.now ∷ words_left rest.entry) }
     ensures lines { IfSome result (λ found. lines_left found.1 ≡ lines_after rest.entry) }
 {
     if is_name(name, b"read") {
@@ -221,7 +221,7 @@ fn entry_by_name<'a>(name: &[u8], rest: Rest<'a>) -> Option<Spelled<'a>>
 /// What the first line of a text spells, by its first word.
 #[inline(never)]
 pub fn entry_by_first_word(text: &[u8]) -> Option<Spelled<'_>>
-    ensures value { option_map (λ found. as_entry found.0) result ≡ entry_of (words_in text.now) }
+    ensures value { option_and_then (λ found. entry_spelled found.0) result ≡ entry_of (words_in text.now) }
     ensures lines { IfSome result (λ found. lines_left found.1 ≡ lines_after_first text.now) }
 {
     let (name, rest) = word_first(text);
@@ -231,7 +231,7 @@ pub fn entry_by_first_word(text: &[u8]) -> Option<Spelled<'_>>
 // What the first line of a text spells, by the names that are not rare, and else by its first word.
 #[inline(never)]
 fn entry_by_name_first(text: &[u8]) -> Option<Spelled<'_>>
-    ensures value { option_map (λ found. as_entry found.0) result ≡ entry_of (words_in text.now) }
+    ensures value { option_and_then (λ found. entry_spelled found.0) result ≡ entry_of (words_in text.now) }
     ensures lines { IfSome result (λ found. lines_left found.1 ≡ lines_after_first text.now) }
 {
     if let [b'n', b'e', b'w', b' ', rest @ ..] = text {
@@ -252,7 +252,7 @@ fn entry_by_name_first(text: &[u8]) -> Option<Spelled<'_>>
 /// What the first line of a text spells. The two commands that traces are full of are known by their first bytes.
 #[inline(always)]
 pub fn entry_first(text: &[u8]) -> Option<Spelled<'_>>
-    ensures value { option_map (λ found. as_entry found.0) result ≡ entry_of (words_in text.now) }
+    ensures value { option_and_then (λ found. entry_spelled found.0) result ≡ entry_of (words_in text.now) }
     ensures lines { IfSome result (λ found. lines_left found.1 ≡ lines_after_first text.now) }
 {
     if let [b'r', b'e', b'a', b'd', b' ', rest @ ..] = text {

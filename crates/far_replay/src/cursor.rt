@@ -3,13 +3,11 @@
 ghost use Rattle.std.specs.Prelude.{◌≡◌, ◌≤◌, ◌<◌, ◌%◌, ◌^◌, ◌==◌, ◌∷◌, ℕ, [], length, take, drop, true, false, slice_index, IfSome, IfNone};
 ghost use Rattle.std.specs.Char.{is_ascii_digit};
 ghost use Rattle.std.specs.Int.{IsInRange};
-ghost use Rattle.std.specs.Option.{option_map};
+ghost use Rattle.std.specs.Option.{option_and_then, option_map};
 ghost use Rattle.std.specs.Str.Parse.{digits_value};
-ghost use Rattle.far_replay.specs.HexWord.{hex_bytes};
-ghost use Rattle.far_replay.specs.Grammar.{next_number, last_bytes};
+ghost use Rattle.far_replay.specs.Grammar.{bytes_in, next_number, last_bytes};
 ghost use Rattle.far_replay.specs.Cursor.{is_end, first_line, words_in, words_left, lines_after_first, lines_after, lines_left};
 
-use crate::hex_word::HexWord;
 use memchr::{memchr, memchr2};
 
 /// What is left of a text after a word of one of its lines.
@@ -169,27 +167,25 @@ fn split_line(text: &[u8]) -> (&[u8], Option<&[u8]>)
     (&text[..len], Some(&text[len + 1..]))
 }
 
-// The bytes that the first line of a text spells, and the lines after it. A line in hex is one word, so only its end is
-// looked for.
+// The first line of a text, which spells bytes where it is a word in hex, and the lines after it. A line in hex is one word,
+// so only its end is looked for.
 #[inline(always)]
 #[tactic(auto, using(crate::proofs::LastWord::one_word))]
-fn line_bytes(text: &[u8]) -> Option<(HexWord<'_>, Option<&[u8]>)>
-    ensures bytes { option_map (λ found. hex_bytes found.0.digits.now) result ≡ last_bytes (words_in text.now) }
-    ensures lines { IfSome result (λ found. lines_left found.1 ≡ lines_after_first text.now) }
+fn line_bytes(text: &[u8]) -> (&[u8], Option<&[u8]>)
+    ensures bytes { bytes_in result.0.now ≡ last_bytes (words_in text.now) }
+    ensures lines { lines_left result.1 ≡ lines_after_first text.now }
 {
-    let (line, lines) = split_line(text);
-    let bytes = HexWord::from_word(line)?;
-    Some((bytes, lines))
+    split_line(text)
 }
 
-/// The bytes that the next word spells, which is the last of its line, and the lines after it.
+/// What spells bytes where it is a word in hex, and the last one of its line, and the lines after it.
 #[inline(always)]
-pub fn last_bytes_of(rest: Rest<'_>) -> Option<(HexWord<'_>, Option<&[u8]>)>
-    ensures bytes { option_map (λ found. hex_bytes found.0.digits.now) result ≡ last_bytes (words_left rest.entry) }
+pub fn last_bytes_of(rest: Rest<'_>) -> Option<(&[u8], Option<&[u8]>)>
+    ensures bytes { option_and_then (λ found. bytes_in found.0.now) result ≡ last_bytes (words_left rest.entry) }
     ensures lines { IfSome result (λ found. lines_left found.1 ≡ lines_after rest.entry) }
 {
     match rest {
-        Rest::Words(text) => line_bytes(text),
+        Rest::Words(text) => Some(line_bytes(text)),
         Rest::Lines(_) => None,
     }
 }

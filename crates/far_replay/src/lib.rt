@@ -6,6 +6,7 @@
 #![tactic(auto)]
 
 mod command;
+mod commands;
 mod cursor;
 mod dropping;
 mod events;

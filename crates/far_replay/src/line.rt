@@ -1,8 +1,8 @@
 //! What each line of a text says.
 
 ghost use Rattle.std.specs.Prelude.{◌≡◌, ◌≤◌, ◌<◌, ◌+◌, ◌==◌, ℕ, length, true, false, slice_index, IfSome, IfNone};
-ghost use Rattle.std.specs.Option.{option_map};
-ghost use Rattle.far_replay.specs.Command.{as_entry};
+ghost use Rattle.std.specs.Option.{option_and_then};
+ghost use Rattle.far_replay.specs.Spelled.{entry_spelled};
 ghost use Rattle.far_replay.specs.Grammar.{entry_of, line_of, Bad};
 ghost use Rattle.far_replay.specs.Cursor.{first_line, lines_after_first, lines_left, words_in, as_line};
 
@@ -77,7 +77,7 @@ pub enum Part {
 // What the first line of a text spells.
 #[inline(always)]
 fn spelled_first(text: &[u8], part: Part) -> Option<Spelled<'_>>
-    ensures value { option_map (λ found. as_entry found.0) result ≡ entry_of (words_in text.now) }
+    ensures value { option_and_then (λ found. entry_spelled found.0) result ≡ entry_of (words_in text.now) }
     ensures lines { IfSome result (λ found. lines_left found.1 ≡ lines_after_first text.now) }
 {
     match part {

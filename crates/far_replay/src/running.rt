@@ -1,6 +1,6 @@
 //! A whole run: a text in, replies out.
 
-ghost use Rattle.std.specs.Prelude.{◌≡◌, ◌≢◌, ◌<◌, ◌∷◌, true, cond, List, length, map, slice_index, take, Ok, Err, IfOk, IfErr, IfSome, OnOk};
+ghost use Rattle.std.specs.Prelude.{◌≡◌, ◌≢◌, ◌<◌, ◌∷◌, true, cond, List, length, slice_index, take, Ok, Err, IfOk, IfErr, IfSome, OnOk};
 ghost use Rattle.far_replay.specs.Reply.{refusal_text};
 ghost use Rattle.far_replay.specs.Stream.{Writes};
 ghost use Rattle.std.specs.List.{flat_map};
@@ -10,11 +10,12 @@ ghost use Rattle.far_replay.specs.Moment.{Moment, moment_of, state_in};
 ghost use Rattle.far_replay.specs.Answers.{Answered, MayMakeHeap, WritesOutput, WritesAnswer, LeavesBehind, Leaves, end_of};
 ghost use Rattle.far_replay.specs.declared.text.TheConstants.{LONGEST_TEXT};
 ghost use Rattle.far_replay.specs.Grammar.{trace_of};
-ghost use Rattle.far_replay.specs.Command.{as_command, as_trace, Heap};
+ghost use Rattle.far_replay.specs.Command.{Heap};
+ghost use Rattle.far_replay.specs.Parsed.{as_trace};
 ghost use Rattle.far_replay.specs.Reply.{Reply as Answer, Done, reply_text};
 ghost use Rattle.far_replay.specs.Between.{Between};
 
-use crate::command::Command;
+use crate::commands::Commands;
 use crate::outcome::Scratch;
 use crate::reply::Reply;
 use crate::reply_writer::ReplyWriter;
@@ -100,17 +101,18 @@ fn answer_commands<W: Write>(
     replies: &mut ReplyWriter,
     book: Book<Plain, MemDevice>,
     scratch: &mut Scratch,
-    commands: &[Command],
+    commands: &Commands,
 ) -> Result<(), WriteFault>
     requires between { Between (state_in book) }
-    ensures { (replies : List Answer) × (moments : List Moment) × Answered (moment_of (state_in book)) (map as_command commands.now) replies moments
+    ensures { (replies : List Answer) × (moments : List Moment) × Answered (moment_of (state_in book)) commands.now replies moments
         × Writes (W.contents writer.old) (W.contents writer.new) result (flat_map reply_text (Done ∷ replies)) }
 {
     let mut book = book;
     replies.clear();
     replies.add(writer, &Reply::Done);
-    for command in commands {
-        let outcome = turn(&mut book, scratch, command);
+    for at in 0..commands.len() {
+        let command = commands.at(at);
+        let outcome = turn(&mut book, scratch, &command);
         replies.add(writer, &scratch.reply(outcome));
     }
     replies.finish(writer)
@@ -132,12 +134,12 @@ fn answer_heap<W: Write>(
     writer: &mut W,
     replies: &mut ReplyWriter,
     shape: Shape,
-    commands: &[Command],
+    commands: &Commands,
 ) -> Result<End, RunFault>
     requires first { shape.epoch ≡ 0 }
-    ensures answered { OnOk result (WritesOutput (W.contents writer.old) (W.contents writer.new) (Ok (Heap shape.logs shape.mutators (map as_command commands.now)))) }
-    ensures end { IfOk result (λ end. end ≡ end_of (Ok (Heap shape.logs shape.mutators (map as_command commands.now)))) }
-    ensures fault { IfErr result (λ fault. LeavesBehind fault (W.contents writer.old) (W.contents writer.new) (Ok (Heap shape.logs shape.mutators (map as_command commands.now)))) }
+    ensures answered { OnOk result (WritesOutput (W.contents writer.old) (W.contents writer.new) (Ok (Heap shape.logs shape.mutators commands.now))) }
+    ensures end { IfOk result (λ end. end ≡ end_of (Ok (Heap shape.logs shape.mutators commands.now))) }
+    ensures fault { IfErr result (λ fault. LeavesBehind fault (W.contents writer.old) (W.contents writer.new) (Ok (Heap shape.logs shape.mutators commands.now))) }
     ensures unread { result ≢ Err RunFault.Read }
     ensures memory { result ≡ Err RunFault.Memory → is_shape shape ≡ true }
 {

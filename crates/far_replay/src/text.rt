@@ -1,12 +1,14 @@
 //! A whole text: nothing, or a heap and commands.
 
-ghost use Rattle.std.specs.Prelude.{◌≡◌, ◌<◌, ◌≤◌, ◌+◌, length, map, Ok, Err, None, IfOk, IfErr, IfSome};
-ghost use Rattle.far_replay.specs.Command.{as_command, as_trace, Nothing};
+ghost use Rattle.std.specs.Prelude.{◌≡◌, ◌<◌, ◌≤◌, ◌+◌, length, Ok, Err, None, IfOk, IfErr, IfSome};
+ghost use Rattle.far_replay.specs.Command.{Nothing};
+ghost use Rattle.far_replay.specs.Parsed.{as_trace};
 ghost use Rattle.far_replay.specs.Cursor.{lines_left};
 ghost use Rattle.far_replay.specs.declared.text.TheConstants.{LONGEST_TEXT};
 ghost use Rattle.far_replay.specs.Grammar.{trace_of, lines_of, read_lines, read_commands, with_heap, IsFault};
 
-use crate::command::{Command, Entry};
+use crate::command::Entry;
+use crate::commands::Commands;
 use crate::line::{Line, Part, line_first};
 use std::alloc::{AllocError, AllocFailed, Global};
 use thiserror::Error;
@@ -48,14 +50,14 @@ impl<T: Drop> From<AllocFailed<T>> for ParseError {
 
 /// What a text says.
 #[derive(Drop)]
-pub enum Trace<'a> {
+pub enum Trace {
     /// No line says anything.
     Nothing,
     /// A heap, and the commands after it.
     Heap {
         logs: u64,
         mutators: u64,
-        commands: Vec<Command<'a>>,
+        commands: Commands,
     },
 }
 
@@ -100,16 +102,12 @@ fn heap_line(text: &[u8]) -> Result<Option<HeapLine<'_>>, ParseError>
 }
 
 // The commands of the lines after this number, or the first of them that says none.
-fn commands_after<'a>(
-    alloc: Global,
-    number: u64,
-    lines: Option<&'a [u8]>,
-) -> Result<Vec<Command<'a>>, ParseError>
+fn commands_after(alloc: Global, number: u64, lines: Option<&[u8]>) -> Result<Commands, ParseError>
     requires counted { number + length (lines_left lines) ≤ LONGEST_TEXT + 1 }
-    ensures commands { IfOk result (λ commands. read_commands (number + 1) (lines_left lines.entry) ≡ Ok (map as_command commands.items)) }
+    ensures commands { IfOk result (λ commands. read_commands (number + 1) (lines_left lines.entry) ≡ Ok commands) }
     ensures fault { IfErr result (λ e. IsFault e (read_commands (number + 1) (lines_left lines.entry))) }
 {
-    let mut commands: Vec<Command> = Vec::new(alloc);
+    let mut commands = Commands::new(alloc);
     let mut number = number;
     let mut lines = lines;
     while let Some(text) = lines {
@@ -118,9 +116,11 @@ fn commands_after<'a>(
             return Err(ParseError::Syntax(number));
         };
         if let Line::Said(entry) = line {
-            match entry {
-                Entry::Command(command) => commands.push(command)?,
-                Entry::Heap { .. } => return Err(ParseError::Syntax(number)),
+            let Entry::Command(command) = entry else {
+                return Err(ParseError::Syntax(number));
+            };
+            if !commands.push(command)? {
+                return Err(ParseError::Syntax(number));
             }
         }
         lines = after;
@@ -129,7 +129,7 @@ fn commands_after<'a>(
 }
 
 /// What a text says, or its first line off the grammar: a heap comes first, and nowhere else.
-pub fn parse(alloc: Global, text: &[u8]) -> Result<Trace<'_>, ParseError>
+pub fn parse(alloc: Global, text: &[u8]) -> Result<Trace, ParseError>
     ensures trace { IfOk result (λ trace. trace_of text.now ≡ Ok (as_trace trace)) }
     ensures fault { IfErr result (λ e. IsFault e (trace_of text.now)) }
     ensures long { LONGEST_TEXT < length text.now → result ≡ Err (ParseError.Syntax 0) }

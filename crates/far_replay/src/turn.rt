@@ -11,7 +11,8 @@ ghost use Rattle.far_core.specs.events.Step.{data_len, data_word};
 ghost use Rattle.far_core.specs.declared.event.Event.{Event};
 ghost use Rattle.far_replay.specs.Command.{as_command, as_request};
 ghost use Rattle.far_replay.specs.Interpreter.{refused_in, IsAccess, IsViewed, StandsFor};
-ghost use Rattle.far_replay.specs.HexWord.{hex_bytes as spelled};
+ghost use Rattle.hex.specs.Hex.{IsBytes};
+ghost use Rattle.far_replay.specs.Written.{WritesBytes};
 ghost use Rattle.far_replay.specs.EventRows.{after_events};
 ghost use Rattle.far_replay.specs.Command.{Mutator, Book, New, Open, Write, Read, Close, Where, Drop, Logs, Log, Audit};
 ghost use Rattle.far_replay.specs.Outcome.{reply_by, IsInRoom};
@@ -24,7 +25,6 @@ ghost use Rattle.far_replay.specs.Turn.{effect, access_causes, first_cause, repl
 use crate::command::{Command, Inquiry, Request};
 use crate::dropping::drop_object;
 use crate::events::{open, view};
-use crate::hex_word::HexWord;
 use crate::inquiries::{audit, find_object, tell_log, tell_logs};
 use crate::outcome::{Outcome, Scratch};
 use crate::owners::{own_pointer, owner_of};
@@ -198,19 +198,19 @@ fn load_last(book: &Book<Plain, MemDevice>, access: Access, words: &mut [u64])
 }
 
 // Puts bytes over a range in the words that it touches, in front of the room for words.
-fn splice(book: &Book<Plain, MemDevice>, scratch: &mut Scratch, access: Access, bytes: HexWord)
+fn splice(book: &Book<Plain, MemDevice>, scratch: &mut Scratch, access: Access, bytes: &[u8])
     requires law { Law (state_in book.now) }
     requires viewed { IsViewed (state_in book.now) access }
-    requires bytes { length (spelled bytes.digits.now) ≡ access.count }
+    requires bytes { length bytes.now ≡ access.count }
     ensures words { (k : ℕ) → k < words_touched access.from access.count →
-        slice_index scratch.new.words k ≡ packed_word (with_range (data_of (state_in book.now) access.pointer) access.from (spelled bytes.entry.digits.now)) (first_word access.from + k) }
+        slice_index scratch.new.words k ≡ packed_word (with_range (data_of (state_in book.now) access.pointer) access.from bytes.now) (first_word access.from + k) }
 {
     let touched = access.touched() as usize;
     load_first(book, access, &mut scratch.words);
     load_last(book, access, &mut scratch.words);
     unpack_front(&scratch.words, touched, &mut scratch.bytes);
     let at = (access.from - 8 * access.first()) as usize;
-    bytes.decode_into(&mut scratch.bytes[at..at + access.count as usize]);
+    scratch.bytes[at..at + access.count as usize].copy_from_slice(bytes);
     pack_front(&scratch.bytes, touched, &mut scratch.words);
 }
 
@@ -235,13 +235,14 @@ fn write(
     book: &mut Book<Plain, MemDevice>,
     scratch: &mut Scratch,
     access: Access,
-    bytes: HexWord,
+    bytes: &[u8],
 ) -> Outcome
     requires access { IsAccess (state_in book.old) access.owner access.pointer access.from access.count access }
     requires between { Between (state_in book.old) }
     requires law { Law (state_in book.old) }
-    requires bytes { length (spelled bytes.digits.now) ≡ access.count }
-    ensures state { state_in book.new ≡ after_events (state_in book.old) (turn_events (moment_of (state_in book.old)) (Mutator access.owner (Write access.pointer access.from (spelled bytes.entry.digits.now)))) }
+    requires bytes { length bytes.now ≡ access.count }
+    requires small { IsBytes bytes.now }
+    ensures state { state_in book.new ≡ after_events (state_in book.old) (turn_events (moment_of (state_in book.old)) (Mutator access.owner (Write access.pointer access.from bytes.now))) }
     ensures done { result ≡ Outcome.Done }
 {
     view(book, access.owner, access.pointer);
@@ -351,13 +352,14 @@ fn write_range(
     owner: u8,
     pointer: u64,
     from: u64,
-    bytes: HexWord,
+    bytes: &[u8],
 ) -> Outcome
     requires known { owner < (state_in book.old).mutators }
     requires between { Between (state_in book.old) }
     requires law { Law (state_in book.old) }
-    ensures state { state_in book.new ≡ after_events (state_in book.old) (events_for (moment_of (state_in book.old)) (Mutator owner (Write pointer from (spelled bytes.entry.digits.now)))) }
-    ensures reply { StandsFor result (reply_to (moment_of (state_in book.old)) (Mutator owner (Write pointer from (spelled bytes.entry.digits.now)))) }
+    requires small { IsBytes bytes.now }
+    ensures state { state_in book.new ≡ after_events (state_in book.old) (events_for (moment_of (state_in book.old)) (Mutator owner (Write pointer from bytes.now))) }
+    ensures reply { StandsFor result (reply_to (moment_of (state_in book.old)) (Mutator owner (Write pointer from bytes.now))) }
     ensures fits { IsInRoom result }
 {
     match reach(book, owner, pointer, from, bytes.len() as u64) {
@@ -376,6 +378,7 @@ fn make_request(
     requires known { owner < (state_in book.old).mutators }
     requires between { Between (state_in book.old) }
     requires law { Law (state_in book.old) }
+    requires small { WritesBytes (Mutator owner (as_request request)) }
     ensures state { state_in book.new ≡ after_events (state_in book.old) (events_for (moment_of (state_in book.old)) (Mutator owner (as_request request.entry))) }
     ensures reply { reply_by scratch.new.bytes scratch.new.lines result ≡ reply_to (moment_of (state_in book.old)) (Mutator owner (as_request request.entry)) }
     ensures fits { IsInRoom result }
@@ -405,6 +408,7 @@ fn make_events(
 ) -> Outcome
     requires between { Between (state_in book.old) }
     requires law { Law (state_in book.old) }
+    requires small { WritesBytes (as_command command.now) }
     ensures state { state_in book.new ≡ after_events (state_in book.old) (events_for (moment_of (state_in book.old)) (as_command command.now)) }
     ensures reply { reply_by scratch.new.bytes scratch.new.lines result ≡ reply_to (moment_of (state_in book.old)) (as_command command.now) }
     ensures fits { IsInRoom result }
@@ -429,6 +433,7 @@ fn make_events(
 pub fn turn(book: &mut Book<Plain, MemDevice>, scratch: &mut Scratch, command: &Command) -> Outcome
     requires between { Between (state_in book.old) }
     requires law { Law (state_in book.old) }
+    requires small { WritesBytes (as_command command.now) }
     ensures moment { moment_of (state_in book.new) ≡ effect (moment_of (state_in book.old)) (as_command command.now) }
     ensures reply { reply_by scratch.new.bytes scratch.new.lines result ≡ reply_to (moment_of (state_in book.old)) (as_command command.now) }
     ensures fits { IsInRoom result }

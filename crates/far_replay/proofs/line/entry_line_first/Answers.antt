@@ -1,7 +1,7 @@
 use Rattle.std.proofs.Common.{arith, sym}
-use Rattle.far_replay.specs.Command.{as_entry}
+use Rattle.far_replay.specs.Spelled.{entry_spelled}
 use Rattle.far_replay.specs.Cursor.{first_line}
-use Rattle.far_replay.proofs.LineLemmas.{said_entry_line, bad_entry, long_line}
+use Rattle.far_replay.proofs.LineLemmas.{spelled_line, bad_entry, long_line}
 use Rattle.far_replay.proofs.line.entry_line_first.Goals as goal
 
 pub returns-in_err-entry-clause-bad : goal.returns-in_err-entry-clause-bad
@@ -14,4 +14,4 @@ returns-then-line_len-gt-LONGEST_LINE-clause-bad c =
 
 pub returns-clause-line : goal.returns-clause-line
 returns-clause-line c =
-    said_entry_line c.args.text.now (as_entry c.in_ok-entry.entry) c.requires.some c.requires.content c.requires.other c.in_ok-entry.ensures.value (omega arith)
+    spelled_line c.args.text.now (entry_spelled c.in_ok-entry.entry) c.requires.some c.requires.content c.requires.other c.in_ok-entry.ensures.value (omega arith)

@@ -1,6 +1,5 @@
-use Rattle.std.proofs.Common.{◌≡◌, ◌+◌, ◌≤◌, length, map}
+use Rattle.std.proofs.Common.{◌≡◌, ◌+◌, ◌≤◌, length}
 use Rattle.far_replay.specs.declared.text.TheConstants.{LONGEST_TEXT}
-use Rattle.far_replay.specs.Command.{as_command}
 use Rattle.far_replay.specs.Cursor.{lines_left}
 use Rattle.far_replay.specs.Grammar.{read_commands}
 use Rattle.far_replay.proofs.Reading.{onto_all}
@@ -9,8 +8,9 @@ use Rattle.far_replay.proofs.text.commands_after.Given as goal
 -- the commands so far, and those of the lines that are left, are those of all the lines
 abbrev pub invariant-loop-lines : goal.invariant-loop-lines
 invariant-loop-lines l = record {
-  reads : onto_all (map as_command l.commands.items) (read_commands (l.number + 1) (lines_left l.lines)) ≡ read_commands (l.fn.number + 1) (lines_left l.fn.lines);
+  reads : onto_all l.commands (read_commands (l.number + 1) (lines_left l.lines)) ≡ read_commands (l.fn.number + 1) (lines_left l.fn.lines);
   counted : l.number + length (lines_left l.lines) ≤ LONGEST_TEXT + 1;
+  few : length l.commands ≤ l.number;
 }
 
 abbrev pub decreases-loop-lines : goal.decreases-loop-lines

@@ -1,8 +1,10 @@
 use Rattle.std.proofs.Common.{arith, refl, sym, subst, ◌+◌, ◌<◌, ◌∙◌, length}
-use Rattle.far_replay.specs.Command.{as_command, HeapLine, CommandLine}
+use Rattle.std.specs.Option.{option_map}
+use Rattle.far_replay.specs.Spelled.{command_spelled}
+use Rattle.far_replay.specs.Command.{HeapLine, CommandLine}
 use Rattle.far_replay.specs.Cursor.{lines_left, lines_after_first}
-use Rattle.far_replay.specs.Grammar.{Skipped, Saying, Bad, lines_of}
-use Rattle.far_replay.proofs.Reading.{few_lines, fewer_lines, first_one}
+use Rattle.far_replay.specs.Grammar.{Skipped, Saying, Bad, saying, lines_of}
+use Rattle.far_replay.proofs.Reading.{few_lines, fewer_lines, first_one, none_first}
 use Rattle.far_replay.proofs.text.heap_line.Goals as goal
 
 pub loop-lines-init : goal.loop-lines-init
@@ -39,7 +41,9 @@ returns-in-Command-clause-fault c =
     let reads = rw c.in-Some.is at c.loop-lines.invariant.reads in
     let entry = rw c.in-Said.is at c.in-Some-line_first.ensures.line in
     let line = rw c.in-Command.is at entry in
-    sym reads ∙ first_one (c.loop-lines.number + 1) c.in-Some.text.now (Saying (CommandLine (as_command c.in-Command.field-0))) (lines_left c.in-Some-line_first.after) line c.in-Some-line_first.ensures.lines
+    let spelled = command_spelled c.in-Command.field-0 in
+    sym reads ∙ first_one (c.loop-lines.number + 1) c.in-Some.text.now (saying (option_map CommandLine spelled)) (lines_left c.in-Some-line_first.after) line c.in-Some-line_first.ensures.lines
+    ∙ none_first spelled _ _ _
 
 pub returns-in-Heap-clause-heap : goal.returns-in-Heap-clause-heap
 returns-in-Heap-clause-heap c =

@@ -4,7 +4,6 @@ use Rattle.far_word.specs.Bytes.{packed_word}
 use Rattle.far_replay.specs.Moment.{state_in}
 use Rattle.far_core.specs.state.State.{State}
 use Rattle.far_core.specs.events.Step.{near_data, data_len}
-use Rattle.far_replay.specs.HexWord.{hex_bytes as spelled}
 use Rattle.far_replay.specs.Events.{starts_inside}
 use Rattle.far_replay.specs.Objects.{with_range, data_of}
 use Rattle.far_replay.proofs.RangeWrites.{packed_words, object_padded, put_length}
@@ -17,7 +16,7 @@ returns c =
     let p : ℕ = c.args.access.pointer in
     let from : ℕ = c.args.access.from in
     let count : ℕ = c.args.access.count in
-    let new : List ℕ = spelled c.args.bytes.digits.now in
+    let new : List ℕ = c.args.bytes.now in
     let first : ℕ = c.first.result in
     let touched : ℕ = c.touched-touched.result in
     let f : ℕ → ℕ = λ i. t.word (near_data (read_of (t.cell p)) + i) in
@@ -25,8 +24,9 @@ returns c =
     let counts : touched ≡ (from + count + 7) / 8 - from / 8 = c.touched-touched.ensures in
     let w_first : starts_inside from count ≡ true → get_or c.load_last.new.words 0 0 ≡ f (from / 8) = (λ h. c.load_last.ensures.first ∙ c.load_first.ensures.first h) in
     let there : from - 8 * first + count - (from - 8 * first) ≡ count = omega arith in
-    let put : put_mid (from - 8 * first) (from - 8 * first + count - (from - 8 * first)) c.unpack_front.new.bytes c.decode_into.new.room ≡ put_mid (from - 8 * first) count c.unpack_front.new.bytes new =
-    (λ i. put_mid (from - 8 * first) (there i) c.unpack_front.new.bytes (c.decode_into.ensures i)) in
+    let put : put_mid (from - 8 * first) (from - 8 * first + count - (from - 8 * first)) c.unpack_front.new.bytes c.copy_from_slice.new.self ≡ put_mid (from - 8 * first) count c.unpack_front.new.bytes new =
+    ap (λ n. put_mid (from - 8 * first) n c.unpack_front.new.bytes c.copy_from_slice.new.self) there
+    ∙ ap (put_mid (from - 8 * first) count c.unpack_front.new.bytes) c.copy_from_slice.ensures.after in
     let size : length (put_mid (from - 8 * first) count c.unpack_front.new.bytes new) ≡ length c.unpack_front.new.bytes =
     put_length (from - 8 * first) count c.unpack_front.new.bytes new (omega (arith, c.unpack_front.auto.bytes, c.requires.viewed.most)) c.requires.bytes in
     record {

@@ -1,10 +1,9 @@
 use Rattle.far_replay.specs.Command.{as_command}
 use Rattle.far_replay.specs.Moment.{state_in}
-use Rattle.far_replay.proofs.Answering.{said_bytes}
 use Rattle.far_replay.proofs.Lasting.{moment_reached}
 use Rattle.far_replay.proofs.turn.turn.Goals as goal
 
 pub returns-clause-moment : goal.returns-clause-moment
 returns-clause-moment c =
     moment_reached (state_in c.args.book.now) (state_in c.make_events.new.book) (as_command c.args.command.now)
-    c.requires.law c.requires.between (said_bytes c.args.command.now) c.make_events.ensures.state
+    c.requires.law c.requires.between c.requires.small c.make_events.ensures.state
