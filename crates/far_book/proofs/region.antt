@@ -1,6 +1,7 @@
 pub mod Calls
 pub mod Effects
 pub mod Evicted
+pub mod EvictingLaw
 pub mod Evictions
 pub mod FarSide
 pub mod Founds

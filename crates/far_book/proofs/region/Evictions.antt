@@ -106,7 +106,7 @@ module _ (s t : State) (ledger : Ledger) (held now : ℕ → Option (List ℕ)) 
 abbrev pub sent : State → ℕ → ℕ → ℕ → Place → State
 sent s p len ds place = record s { cell = put s.cell p (far_word len ds); stored = put s.stored p (with_kept s.word s.stored p (addr place + 1) (words_for len)) }
 
-evicts_form : (len ds : ℕ) (place : Place) (m : Marks) → m.dropped ≡ false → m.evac ≡ true → naming_of (Some (Near len ds place m)) (Some (Far len ds no_marks)) ≡ Some (naming.Evicts len place)
+pub evicts_form : (len ds : ℕ) (place : Place) (m : Marks) → m.dropped ≡ false → m.evac ≡ true → naming_of (Some (Near len ds place m)) (Some (Far len ds no_marks)) ≡ Some (naming.Evicts len place)
 evicts_form len ds place m alive evac = rw (eq-eqb len len refl, eq-eqb ds ds refl, alive, evac) refl
 
 pub far_says : (len ds : ℕ) → IsPtr (Far len ds no_marks) → read_of (far_word len ds) ≡ Some (Far len ds no_marks)
@@ -159,6 +159,12 @@ module _ (s : State) (p len ds : ℕ) (place : Place) (h : IsQuietIn s p len ds 
   pub may_go : p < CELLS * s.mutators → IsStored (data_at s.word place) len → MayRename s p (far_word len ds)
   may_go pointer words w fits f alive = ((pointer, (naming.Evicts len place, form w f alive, quiet_now w f alive)), knows w f alive words)
 
+  -- by the word that is known
+  pub may_name_far : is_dropped (read_of (s.cell p)) ≡ false → p < CELLS * s.mutators → Legal s (events.Name p (s.cell p) (far_word len ds))
+  may_name_far alive pointer =
+      let same : seen s p (s.cell p) ≡ s = (λ i. record s { cell = put_old s.cell p (s.cell p) refl i }) in
+      (pointer, (naming.Evicts len place, form (s.cell p) (finds_same (s.cell p)) alive, subst (λ (u : State). IsQuiet u p) same (quiet_now (s.cell p) (finds_same (s.cell p)) alive)))
+
   pub renamed_far : (t : State) → Renamed s t p (far_word len ds) → t ≡ record (sent s p len ds place) { word = t.word }
   renamed_far t r = r.leads ∙ ap (λ (u : State). record u { word = t.word }) (after_far r.word r.found r.alive)
 
@@ -184,9 +190,7 @@ module _ (s : State) (law : Law (own_part s)) (p len ds : ℕ) (place : Place) (
   law_named : Law (sent o p len ds place)
   law_named =
       let dropped : is_dropped (read_of (s.cell p)) ≡ false = ap is_dropped h.near ∙ alive in
-      let one = quiet_now o p len ds place own_quiet evac far_layout (s.cell p) (finds_same (s.cell p)) dropped in
-      let same : seen o p (s.cell p) ≡ o = (λ i. record o { cell = put_old s.cell p (s.cell p) refl i }) in
-      let legal : Legal o (events.Name p (s.cell p) (far_word len ds)) = (pointer, (naming.Evicts len place, form o p len ds place own_quiet evac far_layout (s.cell p) (finds_same (s.cell p)) dropped, subst (λ (u : State). IsQuiet u p) same one)) in
+      let legal = may_name_far o p len ds place own_quiet evac far_layout dropped pointer in
       subst Law (named_far o p len ds place far_layout (s.cell p) h.marks refl h.near alive evac)
       (keeps o (events.Name p (s.cell p) (far_word len ds)) law ((law.cells.cell_read p).0, word_fits (Far len ds no_marks) far_layout) legal)
 
