@@ -1,8 +1,12 @@
 pub mod Calls
 pub mod Effects
+pub mod Evicted
+pub mod EvictingLaw
+pub mod Evictions
 pub mod FarSide
 pub mod Founds
 pub mod InOrders
+pub mod Learning
 pub mod Leaving
 pub mod Marked
 pub mod NotesKept

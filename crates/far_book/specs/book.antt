@@ -1,6 +1,7 @@
 pub mod BookOf
 pub mod Dealing
 pub mod Effects
+pub mod Evicting
 pub mod FarSide
 pub mod Home
 pub mod Laws

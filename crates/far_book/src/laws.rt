@@ -1,7 +1,7 @@
 //! What the effects of the book's calls are made of, as contracts of functions that do nothing.
 
 ghost use Rattle.std.specs.Prelude.{◌≡◌, ◌*◌, ◌<◌, ◌≤◌, ℕ, true};
-ghost use Rattle.far_book.specs.book.Laws.{PlacingIsLegal, RetiringIsLegal};
+ghost use Rattle.far_book.specs.book.Laws.{EvictingIsLegal, PlacingIsLegal, RetiringIsLegal};
 
 /// Placing a new object where room is leads from a state to the next by legal events of the core: its header and zeros are
 /// put, and its cell is named. So the law of the core is kept, and the world makes one step: the object. Its cell says near at
@@ -14,4 +14,11 @@ pub fn placing_is_legal()
 /// and no other cell, no word, tail or kind of a log changes.
 pub fn retiring_is_legal()
     ensures { RetiringIsLegal }
+{}
+
+/// Evicting a quiet near object with EVAC, not dropped, is one legal event of the core. So the law of the core is kept, and
+/// the world makes one step: the object goes far. Its cell says far, its words are stored, and no other cell, no other
+/// pointer's stored words, no word, tail or kind of a log changes.
+pub fn evicting_is_legal()
+    ensures { EvictingIsLegal }
 {}

@@ -182,8 +182,8 @@ impl Ledger {
         self.give(pointer);
     }
 
-    // A live span of so many words is dead.
-    fn lose(&mut self, log: u8, size: u16)
+    /// A live span of so many words is dead.
+    pub(crate) fn lose(&mut self, log: u8, size: u16)
         requires log { log < vec_len self.old.filled }
         requires live { 8 * size ≤ (filled_of self.old log).live }
         requires size { size ≤ LOG_WORDS }

@@ -50,7 +50,7 @@ made_by : (s : State) (e : Event) → Legal s e → (step_of s e).0 ≡ after s 
 made_by s e legal = ap (λ (x : State × Reply). x.0) (ap (λ b. cond b (after s e, answer s e) (s, Refused)) (is_test s e legal))
 
 -- one event leads to the state after it
-reached_one : (s : State) (e : Event) → Legal s e → Fits e → Reached s (after s e)
+pub reached_one : (s : State) (e : Event) → Legal s e → Fits e → Reached s (after s e)
 reached_one s e legal fits = record { made = e ∷ []; legal = (legal, tt); fits = All-cons Fits e [] fits (All-nil Fits); leads = sym (made_by s e legal) }
 
 -- zeros that are put past a tail

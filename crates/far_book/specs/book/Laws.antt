@@ -1,20 +1,22 @@
 -- That the effects of the book's calls are reached by legal events, keep the law of the core, and make one step of the world; and
 -- what they are in the subject's words.
-use Rattle.std.specs.Prelude.{◌≡◌, ◌≢◌, ◌⊎◌, ℕ, ◌+◌, ◌*◌, ◌<◌, ◌≤◌, true, Some}
+use Rattle.std.specs.Prelude.{◌≡◌, ◌≢◌, ◌⊎◌, ℕ, ◌+◌, ◌*◌, ◌<◌, ◌≤◌, true, false, Some}
+use Rattle.far_word.specs.declared.mark.Marks.{Marks}
 use Rattle.far_word.specs.declared.pointer.Place.{Place}
-use Rattle.far_word.specs.declared.pointer.PtrWord.TheVariants.{Near}
+use Rattle.far_word.specs.declared.pointer.PtrWord.TheVariants.{Near, Far}
 use Rattle.far_word.specs.declared.sizes.TheConstants.{CELLS, LONGEST}
 use Rattle.far_word.specs.Header.{head_word}
 use Rattle.far_word.specs.Pointer.{read_of}
-use Rattle.far_word.specs.Sizes.{size_of}
+use Rattle.far_word.specs.Sizes.{size_of, words_for}
 use Rattle.far_core.specs.declared.event.Kind.TheVariants.{Open, Sealed}
 use Rattle.far_core.specs.events.Naming.{is_dropped, no_marks}
+use Rattle.far_core.specs.events.Quiet.{is_quiet}
 use Rattle.far_core.specs.state.Law.{Law, Blank}
 use Rattle.far_core.specs.state.Room.{room}
 use Rattle.far_core.specs.state.State.{State, addr}
-use Rattle.far_core.specs.world.Changes.{Step, Makes}
+use Rattle.far_core.specs.world.Changes.{Step, GoesFar, Makes}
 use Rattle.far_core.specs.world.WorldOf.{world_of}
-use Rattle.far_book.specs.book.Effects.{placed, retired}
+use Rattle.far_book.specs.book.Effects.{evicted, placed, retired}
 use Rattle.far_book.specs.book.Reached.{Reached}
 
 -- from s to t p has got an object: its cell says near, at the place, with the length and the data structure and without marks; its
@@ -51,3 +53,20 @@ PlacingIsLegal = (s : State) (p len ds : ℕ) (place : Place) → Law s → p < 
 abbrev pub RetiringIsLegal : Type 0
 RetiringIsLegal = (s : State) (p : ℕ) → Law s → p < CELLS * s.mutators → is_dropped (read_of (s.cell p)) ≡ true →
     Reached s (retired s p) × Law (retired s p) × (world_of (retired s p) ≡ world_of s) × IsFreed s (retired s p) p
+
+-- from s to t p's object has gone far: its cell says far, with its length and data structure and without marks; stored for it are the words
+-- that it had, and of every other pointer those that were. All other cells, all words, and the tail and the kind of each log stay
+pub record IsEvicted (s t : State) (p len ds : ℕ) (place : Place) : Type 0 where
+  pub cell : read_of (t.cell p) ≡ Some (Far len ds no_marks)
+  pub cells : (q : ℕ) → q ≢ p → t.cell q ≡ s.cell q
+  pub stored : (i : ℕ) → i < words_for len → t.stored p i ≡ s.word (addr place + 1 + i)
+  pub others : (q : ℕ) → q ≢ p → t.stored q ≡ s.stored q
+  pub words : (a : ℕ) → t.word a ≡ s.word a
+  pub tails : (l : ℕ) → t.tail l ≡ s.tail l
+  pub kinds : (l : ℕ) → t.kind l ≡ s.kind l
+
+-- a quiet near object with EVAC, not dropped: in the world it goes far, and nothing else changes
+abbrev pub EvictingIsLegal : Type 0
+EvictingIsLegal = (s : State) (p len ds : ℕ) (place : Place) (marks : Marks) → Law s → p < CELLS * s.mutators → read_of (s.cell p) ≡ Some (Near len ds place marks) →
+    is_quiet s.round s.clear p place marks ≡ true → marks.evac ≡ true → marks.dropped ≡ false →
+    Reached s (evicted s p) × Law (evicted s p) × Step (GoesFar p) (world_of s) (world_of (evicted s p)) × IsEvicted s (evicted s p) p len ds place

@@ -1,0 +1,112 @@
+-- What an eviction leaves, from its steps: the cell is seen, words are read, the cell is named.
+use Rattle.std.proofs.Common.{◌≡◌, ◌≢◌, ℕ, ◌+◌, ◌*◌, ◌^◌, ◌<◌, Bool, true, false, cond, nat_lt, arith, sym, refl, ap, subst, ◌∙◌, Option, Some, None, inl, inr}
+use Rattle.std.proofs.lemmas.Bool.{false≢true, false_from_ne_true, lt-ltb}
+use Rattle.far_word.specs.declared.mark.Marks.{Marks}
+use Rattle.far_word.specs.declared.pointer.Place.{Place}
+use Rattle.far_word.specs.declared.pointer.PtrWord.{PtrWord}
+use Rattle.far_word.specs.declared.pointer.PtrWord.TheVariants.{Free, Near, Far}
+use Rattle.far_word.specs.Pointer.{IsPtr, read_of}
+use Rattle.far_word.specs.Sizes.{words_for}
+use Rattle.far_word.proofs.PointerLaws.{read_says}
+use Rattle.far_core.specs.events.Copies.{data_at}
+use Rattle.far_core.specs.events.Naming.{is_dropped, no_marks}
+use Rattle.far_core.specs.events.namings.Evicts.{with_kept}
+use Rattle.far_core.specs.state.Law.{IsStored}
+use Rattle.far_core.specs.state.State.{State, put, addr}
+use Rattle.far_core.proofs.Put.{put_other, put_same}
+use Rattle.far_book.specs.Finds.{Finds}
+use Rattle.far_book.specs.Known.{Forgets, IsKnown, KeepsKnown}
+use Rattle.far_book.specs.book.Dealing.{Leaves, has_evac}
+use Rattle.far_book.specs.book.Effects.{evicted, far_word, retired, with_free_cell}
+use Rattle.far_book.specs.book.Evicting.{GoesFar, IsGone}
+use Rattle.far_book.specs.book.Renaming.{seen}
+use Rattle.far_book.proofs.Finding.{finds_more, near_found, near_known}
+use Rattle.far_book.proofs.region.Calls.{put_put}
+use Rattle.far_book.proofs.region.Evictions.{evicted_is, sent}
+use Rattle.far_book.proofs.region.Founds.{drop_found}
+use Rattle.far_book.proofs.region.Retires.{retired_is}
+
+-- what is known after two steps
+keeps_then : (s u v : State) → KeepsKnown s u → Forgets u v → v.starts ≡ u.starts → KeepsKnown s v
+keeps_then s u v k f same = record {
+  known = λ a old new. let is = f.known a new in is ∙ k.known a old (subst IsKnown is new);
+  headers = λ a begun. f.headers a begun ∙ k.headers a (sym (ap (λ (x : ℕ → Bool). x a) same) ∙ begun);
+}
+
+-- s is the state at the call; in t the word w was found in p's cell; in u words were read
+module _ (s t u : State) (p w : ℕ) (seen_is : t ≡ seen s p w) (leaves : Leaves t u) where
+  read_is : u ≡ record (seen s p w) { word = u.word }
+  read_is = leaves.0 ∙ ap (λ (x : State). record x { word = u.word }) seen_is
+
+  keeps_read : KeepsKnown s u
+  keeps_read = record {
+    known = λ a old now. (let same : t.word a ≡ s.word a = ap (λ (x : State). x.word a) seen_is in leaves.1.known a (subst IsKnown (sym same) old) now ∙ same);
+    headers = λ a begun. leaves.1.headers a begun ∙ ap (λ (x : State). x.word a) seen_is;
+  }
+
+  -- in v the object is far
+  module _ (v : State) (len ds : ℕ) (place : Place) (m : Marks) (finds : Finds (s.cell p) w) (near : read_of w ≡ Some (Near len ds place m)) (alive : m.dropped ≡ false)
+      (evac : has_evac (read_of (s.cell p)) ≡ true) (layout : IsPtr (Far len ds no_marks)) where
+    known_near : (k : Marks) × (read_of (s.cell p) ≡ Some (Near len ds place k)) × (k.dropped ≡ false) × (k.evac ≡ true)
+    known_near = let x = near_known (s.cell p) w finds len ds place m near in (
+      x.marks,
+      x.near,
+      false_from_ne_true x.marks.dropped (λ e. false≢true (sym alive ∙ (sym (ap is_dropped near) ∙ drop_found (s.cell p) w finds (ap is_dropped x.near ∙ e)))),
+      sym (ap has_evac x.near) ∙ evac,
+    )
+
+    found_evac : m.evac ≡ true
+    found_evac = let x = near_known (s.cell p) w finds len ds place m near in sym x.same ∙ (sym (ap has_evac x.near) ∙ evac)
+
+    far_from : evicted u p ≡ record s { cell = put s.cell p (far_word len ds); word = u.word; stored = put s.stored p (with_kept u.word s.stored p (addr place + 1) (words_for len)) }
+    far_from =
+        let cell : u.cell p ≡ w = ap (λ (x : State). x.cell p) read_is ∙ put_same s.cell p w p refl in
+        evicted_is u p len ds place layout m (ap read_of cell ∙ near) alive found_evac
+        ∙ ap (λ (x : State). sent x p len ds place) read_is
+        ∙ (λ i. record s { cell = put_put s.cell p w (far_word len ds) i; word = u.word; stored = put s.stored p (with_kept u.word s.stored p (addr place + 1) (words_for len)) })
+
+    module _ (far : v ≡ record (evicted u p) { word = v.word }) (forgot : Forgets u v) (words : IsStored (data_at u.word place) len) where
+      far_is : v ≡ record s { cell = put s.cell p (far_word len ds); word = v.word; stored = put s.stored p (with_kept u.word s.stored p (addr place + 1) (words_for len)) }
+      far_is = far ∙ ap (λ (x : State). record x { word = v.word }) far_from
+
+      stored_is : v.stored ≡ put s.stored p (with_kept u.word s.stored p (addr place + 1) (words_for len))
+      stored_is = ap (λ (x : State). x.stored) far_is
+
+      stored_word : (i : ℕ) → i < words_for len → v.stored p i ≡ u.word (addr place + 1 + i)
+      stored_word i lt = ap (λ (f : ℕ → ℕ → ℕ). f p i) stored_is ∙ ap (λ (r : ℕ → ℕ). r i) (put_same s.stored p _ p refl)
+          ∙ ap (λ b. cond b (u.word (addr place + 1 + i)) (s.stored p i)) (lt-ltb i (words_for len) lt)
+
+      starts_same : v.starts ≡ u.starts
+      starts_same = ap (λ (x : State). x.starts) far_is ∙ sym (ap (λ (x : State). x.starts) read_is)
+
+      pub goes_far : GoesFar s v p
+      goes_far = record {
+        leads = far_is ∙ (λ i. record s { cell = put s.cell p (far_word len ds); word = v.word; stored = sym stored_is i })
+            ∙ ap (λ (x : State). record x { word = v.word; stored = v.stored }) (sym (evicted_is s p len ds place layout known_near.0 known_near.1 known_near.2 known_near.3));
+        stored = λ n d at k is i lt.
+            let both : Some (Near len ds place known_near.0) ≡ Some (Near n d at k) = sym known_near.1 ∙ is in
+            let lens : n ≡ len = cc in
+            let ats : place ≡ at = cc in
+            let low : i < words_for len = omega arith in
+            let here = stored_word i low in (
+              subst IsKnown (sym here) (words i low).0,
+              subst (λ (q : Place). IsKnown (s.word (addr q + 1 + i)) → v.stored p i ≡ s.word (addr q + 1 + i)) ats (λ old. here ∙ keeps_read.known (addr place + 1 + i) old (words i low).0),
+            );
+        others = λ q ne. ap (λ (f : ℕ → ℕ → ℕ). f q) stored_is ∙ put_other s.stored p _ q ne;
+        keeps = keeps_then s u v keeps_read forgot starts_same;
+      }
+
+  -- in v the cell is free, since another word was found in it
+  pub is_gone : (v : State) (x : ℕ) → Finds (s.cell p) w → Finds w x → is_dropped (read_of x) ≡ true → v ≡ record (retired (seen u p x) p) { word = v.word } → Forgets (seen u p x) v → IsGone s v p
+  is_gone v x first then dropped gone forgot =
+      let free : (y : State) → retired (seen y p x) p ≡ with_free_cell (seen y p x) p = (λ y. retired_is (seen y p x) p (ap (λ c. is_dropped (read_of c)) (put_same y.cell p x p refl) ∙ dropped)) in
+      let is : v ≡ record (with_free_cell (seen u p x) p) { word = v.word } = gone ∙ ap (λ (y : State). record y { word = v.word }) (free u) in
+      record {
+        word = x;
+        found = finds_more (s.cell p) w x first then;
+        dropped = dropped;
+        leads = is ∙ ap (λ (y : State). record (with_free_cell (seen y p x) p) { word = v.word }) read_is
+            ∙ (λ i. record s { cell = put (put_put s.cell p w x i) p 0; word = v.word })
+            ∙ sym (ap (λ (y : State). record y { word = v.word }) (free s));
+        keeps = keeps_then s u v keeps_read (record { known = forgot.known; headers = forgot.headers }) (ap (λ (y : State). y.starts) is);
+      }

@@ -1,0 +1,165 @@
+//! How an object goes far: the device holds its bytes before its cell says so.
+
+ghost use Rattle.std.specs.Prelude.{◌≡◌, ◌⊎◌, ◌+◌, ◌*◌, ◌<◌, ◌≤◌, ◌++◌, ℕ, true, false, not, take, length, Some, None, IfOk, IfErr, OnOk};
+ghost use Rattle.far_word.specs.declared.pointer.PtrWord.TheVariants.{Near as near_at};
+ghost use Rattle.far_word.specs.declared.refused.Refused.TheVariants.{Memory, Device as Failed};
+ghost use Rattle.far_word.specs.declared.sizes.TheConstants.{CELLS, LONGEST, LOG_WORDS};
+ghost use Rattle.far_word.specs.Bytes.{bytes_of};
+ghost use Rattle.far_word.specs.Pointer.{read_of};
+ghost use Rattle.far_word.specs.Sizes.{words_for};
+ghost use Rattle.far_core.specs.events.Copies.{data_at};
+ghost use Rattle.far_core.specs.events.Naming.{is_dropped};
+ghost use Rattle.far_core.specs.state.Law.{IsStored};
+ghost use Rattle.far_device.specs.Contents.{KeepsOthers};
+ghost use Rattle.far_device.specs.Faults.{CountsFault};
+ghost use Rattle.far_book.specs.Finds.{Finds};
+ghost use Rattle.far_book.specs.Known.{Forgets};
+ghost use Rattle.far_book.specs.book.Dealing.{IsQuietNear, Leaves, has_evac};
+ghost use Rattle.far_book.specs.book.Effects.{evicted, retired};
+ghost use Rattle.far_book.specs.book.Evicting.{GoesFar, IsGone, IsQuietData, IsQuietIn, IsSeen, Learns, is_failure};
+ghost use Rattle.far_book.specs.book.Renaming.{seen};
+
+use crate::book::Book;
+use crate::book::renaming::rename;
+use crate::near::Near;
+use far_device::{Device, DeviceFault};
+use far_word::{LONGEST, Marks, Place, PtrWord, Refused, size_of, unpack_bytes, words_for};
+
+impl<N: Near + Drop, D: Device + Drop> Book<N, D> {
+    /// Sends a quiet near object with EVAC far: the device holds its bytes, its cell says far, without marks, and its span is
+    /// dead. `false` where its owner was found to have dropped it: it is retired then, and the device forgets its bytes.
+    /// Refused [`Refused::Memory`] or [`Refused::Device`] where the device is, and the object is as it was.
+    pub fn evict(&mut self, pointer: u16) -> Result<bool, Refused>
+        requires pointer { pointer < CELLS * (N.view self.old.near).mutators }
+        requires quiet { IsQuietNear (N.view self.old.near) pointer }
+        requires evac { has_evac (read_of ((N.view self.old.near).cell pointer)) ≡ true }
+        ensures far { result ≡ Ok true → GoesFar (N.view self.old.near) (N.view self.new.near) pointer }
+        ensures away { N.still → result ≡ Ok true → N.view self.new.near ≡ evicted (N.view self.old.near) pointer }
+        ensures gone { result ≡ Ok false → IsGone (N.view self.old.near) (N.view self.new.near) pointer }
+        ensures freed { N.still → result ≡ Ok false → N.view self.new.near ≡ retired (N.view self.old.near) pointer }
+        ensures alive { N.still → IfOk result (λ far. far ≡ not (is_dropped (read_of ((N.view self.old.near).cell pointer)))) }
+        ensures kept { IfErr result (λ _. IsSeen (N.view self.old.near) (N.view self.new.near) pointer) }
+        ensures same { N.still → IfErr result (λ _. N.view self.new.near ≡ N.view self.old.near) }
+        ensures refused { IfErr result (λ why. (why ≡ Memory) ⊎ (why ≡ Failed)) }
+        ensures cause { CountsFault (is_failure result) (D.faults self.old.device) (D.faults self.new.device) }
+        ensures order { self.new.order ≡ self.old.order }
+        ensures forgotten { D.forgets → result ≡ Ok false → D.contents self.new.device pointer ≡ None }
+        ensures others { KeepsOthers (D.contents self.old.device) (D.contents self.new.device) pointer }
+        ensures honest { D.honest self.new.device ≡ D.honest self.old.device }
+    {
+        let found = self.see(pointer);
+        let Some(
+            PtrWord::Near {
+                len,
+                ds,
+                place,
+                marks,
+            },
+        ) = PtrWord::read(found)
+        else {
+            unreachable!()
+        };
+        if marks.dropped {
+            self.retire(pointer);
+            return Ok(false);
+        }
+        if let Err(why) = self.send(pointer, len, ds, place) {
+            return Err(why);
+        }
+        match self.name_far(pointer, found, len, ds, place) {
+            Ok(()) => Ok(true),
+            Err(_) => {
+                self.retire(pointer);
+                Ok(false)
+            }
+        }
+    }
+
+    // Reads the words of a quiet object, and has the device hold its bytes.
+    fn send(&mut self, pointer: u16, len: u16, ds: u8, place: Place) -> Result<(), Refused>
+        requires pointer { pointer < CELLS * (N.view self.old.near).mutators }
+        requires near { IsQuietIn (N.view self.old.near) pointer len ds place }
+        ensures kept { Leaves (N.view self.old.near) (N.view self.new.near) }
+        ensures exact { N.still → N.view self.new.near ≡ N.view self.old.near }
+        ensures words { IsStored (data_at (N.view self.new.near).word place) len }
+        ensures held { OnOk result (D.contents self.new.device pointer ≡ Some (bytes_of (data_at (N.view self.new.near).word place) len)) }
+        ensures refused { IfErr result (λ why. (why ≡ Memory) ⊎ (why ≡ Failed)) }
+        ensures cause { CountsFault (is_failure result) (D.faults self.old.device) (D.faults self.new.device) }
+        ensures order { self.new.order ≡ self.old.order }
+        ensures others { KeepsOthers (D.contents self.old.device) (D.contents self.new.device) pointer }
+        ensures honest { D.honest self.new.device ≡ D.honest self.old.device }
+    {
+        let bytes = read_object(&mut self.near, len, place);
+        match self.device.write(pointer as u32, &bytes[..len as usize]) {
+            Ok(()) => Ok(()),
+            Err(DeviceFault::Memory) => Err(Refused::Memory),
+            Err(DeviceFault::Device) => Err(Refused::Device),
+        }
+    }
+
+    // Names an object far whose bytes the device holds. `Err` with the word that was found, where its owner has dropped it
+    // meanwhile.
+    fn name_far(
+        &mut self,
+        pointer: u16,
+        found: u64,
+        len: u16,
+        ds: u8,
+        place: Place,
+    ) -> Result<(), u64>
+        requires pointer { pointer < CELLS * (N.view self.old.near).mutators }
+        requires found { found ≡ (N.view self.old.near).cell pointer }
+        requires near { IsQuietIn (N.view self.old.near) pointer len ds place }
+        requires evac { has_evac (read_of found) ≡ true }
+        requires alive { is_dropped (read_of found) ≡ false }
+        requires words { IsStored (data_at (N.view self.old.near).word place) len }
+        requires held { D.contents self.old.device pointer ≡ Some (bytes_of (data_at (N.view self.old.near).word place) len) }
+        ensures far { IfOk result (λ _. N.view self.new.near ≡ record (evicted (N.view self.old.near) pointer) { word = (N.view self.new.near).word }) }
+        ensures forgot { IfOk result (λ _. Forgets (N.view self.old.near) (N.view self.new.near)) }
+        ensures set { N.still → IfOk result (λ _. N.view self.new.near ≡ evicted (N.view self.old.near) pointer) }
+        ensures won { N.still → IfErr result (λ _. ⊥) }
+        ensures found { IfErr result (λ word. Finds found word) }
+        ensures dropped { IfErr result (λ word. is_dropped (read_of word) ≡ true) }
+        ensures kept { IfErr result (λ word. N.view self.new.near ≡ seen (N.view self.old.near) pointer word) }
+        ensures order { self.new.order ≡ self.old.order }
+        ensures device { self.new.device ≡ self.old.device }
+    {
+        let marks = Marks {
+            hot: false,
+            evac: false,
+            moved: false,
+            dropped: false,
+        };
+        let far = PtrWord::Far { len, ds, marks };
+        if let Err(word) = rename(&mut self.near, pointer, found, far.pack()) {
+            return Err(word);
+        }
+        self.ledger.lose(place.log, size_of(len));
+        Ok(())
+    }
+}
+
+// The bytes of a quiet object, read word by word. Its words are known from then on.
+fn read_object<N: Near>(near: &mut N, len: u16, place: Place) -> [u8; LONGEST as usize]
+    requires object { IsQuietData (N.view near.old) len place }
+    ensures kept { N.view near.new ≡ record (N.view near.old) { word = (N.view near.new).word } }
+    ensures learned { Learns (N.view near.old) (N.view near.new).word place (words_for len) }
+    ensures exact { N.still → N.view near.new ≡ N.view near.old }
+    ensures bytes { take len result ≡ bytes_of (data_at (N.view near.new).word place) len }
+    ensures length { length result ≡ LONGEST }
+{
+    let mut bytes = [0; LONGEST as usize];
+    for i in 0..words_for(len) {
+        let word = near.get(place.log, place.at + 1 + i, false);
+        unpack_word(&mut bytes, i as usize, word);
+    }
+    bytes
+}
+
+// Writes the bytes of a word over the eight from 8i on.
+fn unpack_word(bytes: &mut [u8], i: usize, word: u64)
+    requires { 8 * i + 8 ≤ length bytes.old }
+    ensures { take (8 * i + 8) bytes.new ≡ take (8 * i) bytes.old ++ bytes_of (λ _. word) 8 }
+{
+    unpack_bytes(&[word], &mut bytes[8 * i..8 * i + 8]);
+}
