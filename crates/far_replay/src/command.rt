@@ -249,6 +249,15 @@ fn entry_by_name_first(text: &[u8]) -> Option<Spelled<'_>>
     entry_by_first_word(text)
 }
 
+// The same, apart from the room for what is returned.
+#[inline(always)]
+fn entry_by_rarer_name(text: &[u8]) -> Option<Spelled<'_>>
+    ensures value { option_and_then (λ found. entry_spelled found.0) result ≡ entry_of (words_in text.now) }
+    ensures lines { IfSome result (λ found. lines_left found.1 ≡ lines_after_first text.now) }
+{
+    entry_by_name_first(text)
+}
+
 /// What the first line of a text spells. The two commands that traces are full of are known by their first bytes.
 #[inline(always)]
 pub fn entry_first(text: &[u8]) -> Option<Spelled<'_>>
@@ -261,5 +270,5 @@ pub fn entry_first(text: &[u8]) -> Option<Spelled<'_>>
     if let [b'w', b'r', b'i', b't', b'e', b' ', rest @ ..] = text {
         return write_spelled(Rest::Words(rest));
     }
-    entry_by_name_first(text)
+    entry_by_rarer_name(text)
 }

@@ -3,7 +3,8 @@
 ghost use Rattle.std.specs.Prelude.{◌≡◌, ◌≢◌, ◌≤◌, ◌<◌, ◌+◌, ◌*◌, ◌^◌, ◌++◌, ◌∷◌, ℕ, List, [], length, take, drop, cond, true, Ok, Some, None, IfOk, IfErr, IfSome};
 ghost use Rattle.std.specs.Option.{option_map};
 ghost use Rattle.far_replay.specs.declared.hex_word.TheConstants.{LONGEST_BYTES};
-ghost use Rattle.far_replay.specs.Command.{Mutator, Book, as_command, as_inquiry};
+ghost use Rattle.far_replay.specs.Command.{Mutator, Book, Write, as_command, as_inquiry};
+ghost use Rattle.far_replay.specs.Grammar.{bytes_in};
 ghost use Rattle.far_replay.specs.Spelled.{command_spelled, request_spelled};
 ghost use Rattle.far_replay.specs.Records.{command_in, IsWithin};
 
@@ -41,46 +42,51 @@ impl Number {
     }
 }
 
-/// A command. The bytes of a write stand among those of all writes.
+/// A command: its numbers, in the order of its line. The last two of a write are where its bytes begin among those of all
+/// writes, and how many they are.
 #[derive(Clone, Copy)]
 pub enum Record {
-    New {
-        mutator: Number,
-        len: Number,
-        structure: Number,
-    },
-    Open {
-        mutator: Number,
-    },
-    Write {
-        mutator: Number,
-        pointer: Number,
-        from: Number,
-        start: u32,
-        count: u32,
-    },
-    Read {
-        mutator: Number,
-        pointer: Number,
-        from: Number,
-        len: Number,
-    },
-    Close {
-        mutator: Number,
-    },
-    Where {
-        mutator: Number,
-        pointer: Number,
-    },
-    Drop {
-        mutator: Number,
-        pointer: Number,
-    },
+    New(Number, Number, Number),
+    Open(Number),
+    Write(Number, Number, Number, u32, u32),
+    Read(Number, Number, Number, Number),
+    Close(Number),
+    Where(Number, Number),
+    Drop(Number, Number),
     Logs,
-    Log {
-        log: Number,
-    },
+    Log(Number),
     Audit,
+}
+
+// The record of a write of what a word spells, if it is in hex. The bytes are added to those before.
+#[inline(always)]
+fn write_record(
+    bytes: &mut HexBytes,
+    mutator: u64,
+    pointer: u64,
+    from: u64,
+    word: &[u8],
+) -> Result<Option<Record>, AllocError>
+    requires few { length bytes.old + LONGEST_BYTES < 2 ^ 32 }
+    ensures value { IfOk result (λ found. option_map (command_in bytes.new) found ≡ option_map (λ read. Mutator mutator (Write pointer from read)) (bytes_in word.now)) }
+    ensures within { IfOk result (λ found. IfSome found (IsWithin (length bytes.new))) }
+    ensures kept { take (length bytes.old) bytes.new ≡ bytes.old }
+    ensures short { length bytes.new ≤ length bytes.old + LONGEST_BYTES }
+    ensures none { result ≡ Ok None → bytes.new ≡ bytes.old }
+    ensures fault { IfErr result (λ _. bytes.new ≡ bytes.old) }
+{
+    let start = bytes.len() as u32;
+    if !bytes.add(word)? {
+        return Ok(None);
+    }
+    let count = bytes.len() as u32 - start;
+    Ok(Some(Record::Write(
+        Number::of(mutator),
+        Number::of(pointer),
+        Number::of(from),
+        start,
+        count,
+    )))
 }
 
 // The record of a mutator's request. The bytes of a write are added to those before.
@@ -98,46 +104,24 @@ fn request_record(
     ensures none { result ≡ Ok None → bytes.new ≡ bytes.old }
     ensures fault { IfErr result (λ _. bytes.new ≡ bytes.old) }
 {
-    let mutator = Number::of(mutator);
+    let m = Number::of(mutator);
     Ok(Some(match request {
-        Request::New { len, structure } => Record::New {
-            mutator,
-            len: Number::of(len),
-            structure: Number::of(structure),
-        },
-        Request::Open => Record::Open { mutator },
+        Request::New { len, structure } => {
+            Record::New(m, Number::of(len), Number::of(structure))
+        }
+        Request::Open => Record::Open(m),
         Request::Write {
             pointer,
             from,
             bytes: word,
-        } => {
-            let start = bytes.len() as u32;
-            if !bytes.add(word)? {
-                return Ok(None);
-            }
-            Record::Write {
-                mutator,
-                pointer: Number::of(pointer),
-                from: Number::of(from),
-                start,
-                count: bytes.len() as u32 - start,
-            }
+        } => return write_record(bytes, mutator, pointer, from, word),
+        Request::Read { pointer, from, len } => {
+            let (pointer, from) = (Number::of(pointer), Number::of(from));
+            Record::Read(m, pointer, from, Number::of(len))
         }
-        Request::Read { pointer, from, len } => Record::Read {
-            mutator,
-            pointer: Number::of(pointer),
-            from: Number::of(from),
-            len: Number::of(len),
-        },
-        Request::Close => Record::Close { mutator },
-        Request::Where { pointer } => Record::Where {
-            mutator,
-            pointer: Number::of(pointer),
-        },
-        Request::Drop { pointer } => Record::Drop {
-            mutator,
-            pointer: Number::of(pointer),
-        },
+        Request::Close => Record::Close(m),
+        Request::Where { pointer } => Record::Where(m, Number::of(pointer)),
+        Request::Drop { pointer } => Record::Drop(m, Number::of(pointer)),
     }))
 }
 
@@ -148,9 +132,7 @@ fn inquiry_record(inquiry: Inquiry) -> Record
 {
     match inquiry {
         Inquiry::Logs => Record::Logs,
-        Inquiry::Log { log } => Record::Log {
-            log: Number::of(log),
-        },
+        Inquiry::Log { log } => Record::Log(Number::of(log)),
         Inquiry::Audit => Record::Audit,
     }
 }
@@ -184,66 +166,39 @@ impl Record {
         ensures { as_command result ≡ command_in bytes.now self }
     {
         let (mutator, request) = match self {
-            Record::New {
-                mutator,
-                len,
-                structure,
-            } => (
-                mutator,
-                Request::New {
-                    len: len.value(),
-                    structure: structure.value(),
-                },
-            ),
-            Record::Open { mutator } => (mutator, Request::Open),
-            Record::Write {
-                mutator,
-                pointer,
-                from,
-                start,
-                count,
-            } => (
-                mutator,
-                Request::Write {
+            Record::New(mutator, len, structure) => {
+                let (len, structure) = (len.value(), structure.value());
+                (mutator, Request::New { len, structure })
+            }
+            Record::Open(mutator) => (mutator, Request::Open),
+            Record::Write(mutator, pointer, from, start, count) => {
+                let start = start as usize;
+                let request = Request::Write {
                     pointer: pointer.value(),
                     from: from.value(),
-                    bytes: &bytes[start as usize..start as usize + count as usize],
-                },
-            ),
-            Record::Read {
-                mutator,
-                pointer,
-                from,
-                len,
-            } => (
-                mutator,
-                Request::Read {
-                    pointer: pointer.value(),
-                    from: from.value(),
-                    len: len.value(),
-                },
-            ),
-            Record::Close { mutator } => (mutator, Request::Close),
-            Record::Where { mutator, pointer } => (
-                mutator,
-                Request::Where {
-                    pointer: pointer.value(),
-                },
-            ),
-            Record::Drop { mutator, pointer } => (
-                mutator,
-                Request::Drop {
-                    pointer: pointer.value(),
-                },
-            ),
+                    bytes: &bytes[start..start + count as usize],
+                };
+                (mutator, request)
+            }
+            Record::Read(mutator, pointer, from, len) => {
+                let (pointer, from, len) = (pointer.value(), from.value(), len.value());
+                (mutator, Request::Read { pointer, from, len })
+            }
+            Record::Close(mutator) => (mutator, Request::Close),
+            Record::Where(mutator, pointer) => {
+                let pointer = pointer.value();
+                (mutator, Request::Where { pointer })
+            }
+            Record::Drop(mutator, pointer) => {
+                let pointer = pointer.value();
+                (mutator, Request::Drop { pointer })
+            }
             Record::Logs => return Command::Book(Inquiry::Logs),
-            Record::Log { log } => return Command::Book(Inquiry::Log { log: log.value() }),
+            Record::Log(log) => return Command::Book(Inquiry::Log { log: log.value() }),
             Record::Audit => return Command::Book(Inquiry::Audit),
         };
-        Command::Mutator {
-            mutator: mutator.value(),
-            request,
-        }
+        let mutator = mutator.value();
+        Command::Mutator { mutator, request }
     }
 }
 
