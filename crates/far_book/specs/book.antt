@@ -2,6 +2,7 @@ pub mod BookOf
 pub mod Dealing
 pub mod Effects
 pub mod FarSide
+pub mod Fetching
 pub mod Home
 pub mod Laws
 pub mod Ledger
