@@ -66,7 +66,7 @@ module _ (s : State) (ledger : Ledger) (notes : Notes (own_part s) ledger) (p le
   pub placeable : Placeable (own_part s) p len ds place
   placeable = record {
     pointer = pointer;
-    free = free;
+    unplaced = λ l at. rw (free, unused) refl;
     layout = (some, most, structure, omega (arith, is_room.next.0, notes.law.shape.few_logs), is_room.fits);
     next = is_room.next;
     bare = own_bare s;

@@ -57,5 +57,5 @@ module _ (s t : State) (p : ℕ) (held now : ℕ → Option (List ℕ)) where
         (far_without (own_part s) held far p (near_word len ds place) held
         (λ n d m e. let is : Some (Far n d m) ≡ Some (Near len ds place no_marks) = sym e ∙ read_back (Near len ds place no_marks) h.layout in absurd cc) (λ q ne. refl))
 
-    pub placed_honest : t ≡ record (placed s p len ds place) { word = t.word } → t.honest ≡ s.honest
-    placed_honest is = ap (λ (u : State). u.honest) is ∙ ap (λ (u : State). u.honest) (named_is (with_blank_span s p len ds place) p len ds place h.free h.layout)
+    pub placed_honest : s.cell p ≡ 0 → t ≡ record (placed s p len ds place) { word = t.word } → t.honest ≡ s.honest
+    placed_honest free is = ap (λ (u : State). u.honest) is ∙ ap (λ (u : State). u.honest) (named_is (with_blank_span s p len ds place) p len ds place free h.layout)

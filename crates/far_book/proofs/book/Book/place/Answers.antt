@@ -12,6 +12,7 @@ use Rattle.far_book.proofs.region.Calls.{placeable, ends, may_take}
 use Rattle.far_book.proofs.region.InOrders.{placed_far, placed_honest}
 use Rattle.far_book.proofs.region.NotesKept.{notes_placed}
 use Rattle.far_book.proofs.region.Owns.{own_named}
+use Rattle.far_book.proofs.region.Places.{law_then}
 
 pub returns-in_default-clause-none : goal.returns-in_default-clause-none
 returns-in_default-clause-none g c =
@@ -66,11 +67,12 @@ invariant_of-self g c =
     let takes : Takes c.self.inside.ledger c.take.new.self c.args.pointer (size_of c.args.len) c.in-Some.place = subst (λ n. Takes c.self.inside.ledger c.take.new.self c.args.pointer n c.in-Some.place) c.size_of-size.ensures c.take.ensures in
     let t = g.N.Near.view c.name_blank.new.near in
     let held = g.D.Device.contents c.self.inside.device in
-    let own = own_named s t c.self.invariant.notes.law c.args.pointer c.args.len c.args.ds c.in-Some.place able c.name_blank.ensures.kept c.name_blank.ensures.forgot in
+    let own = own_named s t c.self.invariant.notes.law c.args.pointer c.args.len c.args.ds c.in-Some.place able free c.name_blank.ensures.kept c.name_blank.ensures.forgot in
     record {
-      notes = subst (λ (u : State). Notes u c.take.new.self) (sym own) (notes_placed (own_part s) c.self.inside.ledger c.take.new.self c.self.invariant.notes c.args.pointer c.args.len c.args.ds c.in-Some.place able takes);
+      notes = subst (λ (u : State). Notes u c.take.new.self) (sym own) (notes_placed (own_part s) c.self.inside.ledger c.take.new.self c.self.invariant.notes c.args.pointer c.args.len c.args.ds c.in-Some.place able
+          (law_then (own_part s) c.self.invariant.notes.law c.args.pointer c.args.len c.args.ds c.in-Some.place able free) takes);
       far = placed_far s t c.args.pointer held held c.args.len c.args.ds c.in-Some.place able own c.self.invariant.far;
-      honest = λ h. c.self.invariant.honest (sym (placed_honest s t c.args.pointer held held c.args.len c.args.ds c.in-Some.place able c.name_blank.ensures.kept) ∙ h);
+      honest = λ h. c.self.invariant.honest (sym (placed_honest s t c.args.pointer held held c.args.len c.args.ds c.in-Some.place able free c.name_blank.ensures.kept) ∙ h);
     }
 
 pub returns-clause-room : goal.returns-clause-room
