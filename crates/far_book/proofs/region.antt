@@ -1,4 +1,5 @@
 pub mod Calls
+pub mod Coming
 pub mod Effects
 pub mod FarSide
 pub mod Founds
@@ -10,6 +11,7 @@ pub mod Notings
 pub mod NumberSets
 pub mod Owned
 pub mod Owns
+pub mod Packing
 pub mod Places
 pub mod Reaching
 pub mod Readings
