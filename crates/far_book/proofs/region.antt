@@ -2,6 +2,7 @@ pub mod Calls
 pub mod Coming
 pub mod Effects
 pub mod FarSide
+pub mod Fetched
 pub mod Founds
 pub mod InOrders
 pub mod Leaving

@@ -72,12 +72,14 @@ module _ (s : State) (law : Law s) (p len ds : ℕ) (place : Place) (h : Placeab
   law_headed = keeps s (events.Put place.log place.at (head_word p len ds)) law (head_fits header head)
       (h.next.0, next_unsealed s place h.next, omega (arith, at_end), omega (arith, h.layout))
 
+  -- behind the header there are zeros
+  pub blank_behind : (i : ℕ) → i < words_for len → headed.word (addr place + 1 + i) ≡ 0
+  blank_behind i lt = let far : addr place + 1 + i ≢ addr place = (λ e. omega arith) in
+      let here : addr place + (1 + i) ≡ addr place + 1 + i = omega arith in
+      put_other s.word (addr place) (head_word p len ds) (addr place + 1 + i) far ∙ h.bare (addr place + 1 + i) (sym (ap s.starts here) ∙ none_past (1 + i) (omega (arith, h.layout)))
+
   pub legal_name : Legal headed (events.Name p 0 (near_word len ds place))
-  legal_name = (h.pointer, (Places len ds place, (unused, read_back (Near len ds place no_marks) h.layout), (record { next = h.next; head = put_same s.word (addr place) (head_word p len ds) (addr place) refl }, blank))) where
-    blank : (i : ℕ) → i < words_for len → put s.word (addr place) (head_word p len ds) (addr place + 1 + i) ≡ 0
-    blank i lt = let far : addr place + 1 + i ≢ addr place = (λ e. omega arith) in
-        let here : addr place + (1 + i) ≡ addr place + 1 + i = omega arith in
-        put_other s.word (addr place) (head_word p len ds) (addr place + 1 + i) far ∙ h.bare (addr place + 1 + i) (sym (ap s.starts here) ∙ none_past (1 + i) (omega (arith, h.layout)))
+  legal_name = (h.pointer, (Places len ds place, (unused, read_back (Near len ds place no_marks) h.layout), (record { next = h.next; head = put_same s.word (addr place) (head_word p len ds) (addr place) refl }, blank_behind)))
 
   abbrev then : State
   then = with_object s p len ds place

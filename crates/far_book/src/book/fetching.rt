@@ -1,6 +1,6 @@
 //! How a far object comes near.
 
-ghost use Rattle.std.specs.Prelude.{◌≡◌, ◌*◌, ◌<◌, ℕ, true, false, None, Some, length, IfOk, IfErr, IfSome, IfNone};
+ghost use Rattle.std.specs.Prelude.{◌≡◌, ◌*◌, ◌^◌, ◌<◌, ℕ, true, false, None, Some, length, IfOk, IfErr, IfSome, IfNone};
 ghost use Rattle.far_word.specs.declared.pointer.PtrWord.TheVariants.{Near as near_at};
 ghost use Rattle.far_word.specs.declared.refused.Refused.TheVariants as refused;
 ghost use Rattle.far_word.specs.declared.sizes.TheConstants.{CELLS};
@@ -10,6 +10,7 @@ ghost use Rattle.far_word.specs.Pointer.{IsPtr, read_of};
 ghost use Rattle.far_word.specs.Sizes.{words_for};
 ghost use Rattle.far_core.specs.events.Legal.{IsNext};
 ghost use Rattle.far_core.specs.events.Naming.{is_dropped, no_marks};
+ghost use Rattle.far_core.specs.state.Law.{IsStored};
 ghost use Rattle.far_device.specs.Contents.{KeepsOthers};
 ghost use Rattle.far_device.specs.Faults.{CountsFault, SpendsFault};
 ghost use Rattle.far_book.specs.Finds.{Finds};
@@ -71,7 +72,15 @@ impl<N: Near + Drop, D: Device + Drop> Book<N, D> {
         if bytes.len() != len as usize {
             return Err(Refused::Damaged);
         }
-        let Ok(()) = come_near(&mut self.near, pointer, word, len, ds, place, bytes.as_slice()) else {
+        let Ok(()) = come_near(
+            &mut self.near,
+            pointer,
+            word,
+            len,
+            ds,
+            place,
+            bytes.as_slice(),
+        ) else {
             self.retire(pointer);
             return Ok(None);
         };
@@ -83,7 +92,15 @@ impl<N: Near + Drop, D: Device + Drop> Book<N, D> {
 
 // Writes a far object's header and bytes where it comes, and names the place by its cell, by the word that was found there. `Err` with
 // the word found last, where its owner has dropped it meanwhile.
-fn come_near<N: Near>(near: &mut N, pointer: u16, found: u64, len: u16, ds: u8, place: Place, bytes: &[u8]) -> Result<(), u64>
+fn come_near<N: Near>(
+    near: &mut N,
+    pointer: u16,
+    found: u64,
+    len: u16,
+    ds: u8,
+    place: Place,
+    bytes: &[u8],
+) -> Result<(), u64>
     requires pointer { pointer < CELLS * (N.view near.old).mutators }
     requires found { found ≡ (N.view near.old).cell pointer }
     requires absent { IsAbsent (read_of found) len ds }
@@ -93,9 +110,11 @@ fn come_near<N: Near>(near: &mut N, pointer: u16, found: u64, len: u16, ds: u8, 
     requires tail { (N.view near.old).tail place.log ≡ place.at }
     requires long { length bytes.now ≡ len }
     requires stored { (N.view near.old).honest ≡ true → (i : ℕ) → i < words_for len → packed_word bytes.now i ≡ (N.view near.old).stored pointer i }
+    ensures padded { IsStored (packed_word bytes.now) len }
     ensures done { IfOk result (λ _. Renamed (with_written_span (N.view near.old) pointer len ds place (packed_word bytes.now)) (N.view near.new) pointer (near_word len ds place)) }
     ensures set { N.still → IfOk result (λ _. N.view near.new ≡ fetched (N.view near.old) pointer place (packed_word bytes.now)) }
     ensures won { N.still → IfErr result (λ _. ⊥) }
+    ensures fits { IfErr result (λ word. word < 2 ^ 64) }
     ensures found { IfErr result (λ word. Finds found word) }
     ensures dropped { IfErr result (λ word. is_dropped (read_of word) ≡ true) }
     ensures kept { IfErr result (λ word. N.view near.new ≡ seen (with_written_span (N.view near.old) pointer len ds place (packed_word bytes.now)) pointer word) }
