@@ -1,9 +1,11 @@
 pub mod Calls
+pub mod Coming
 pub mod Effects
 pub mod Evicted
 pub mod EvictingLaw
 pub mod Evictions
 pub mod FarSide
+pub mod Fetched
 pub mod Founds
 pub mod InOrders
 pub mod Learning
@@ -14,6 +16,7 @@ pub mod Notings
 pub mod NumberSets
 pub mod Owned
 pub mod Owns
+pub mod Packing
 pub mod Places
 pub mod Reaching
 pub mod Readings

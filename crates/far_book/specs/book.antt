@@ -3,6 +3,7 @@ pub mod Dealing
 pub mod Effects
 pub mod Evicting
 pub mod FarSide
+pub mod Fetching
 pub mod Home
 pub mod Laws
 pub mod Ledger

@@ -33,6 +33,7 @@ ghost use Rattle.far_book.specs.ShapeOf.{shape_of};
 ghost use Rattle.far_book.specs.book.Reading.{HeadersKnown, IsReadAt};
 ghost use Rattle.far_book.specs.book.Rows.{row_of};
 
+mod fetching;
 mod leaving;
 mod over_plain;
 mod renaming;

@@ -23,6 +23,7 @@ use Rattle.far_core.specs.events.Step.{after}
 use Rattle.far_core.specs.laws.Rooms.{IsRoom, RoomIs}
 use Rattle.far_core.specs.state.Law.{Law}
 use Rattle.far_core.specs.state.Room.{room}
+use Rattle.far_core.specs.state.Spans.{names_place}
 use Rattle.far_core.specs.state.State.{State, put, addr}
 use Rattle.far_core.proofs.Cells.{unused}
 use Rattle.far_core.proofs.Put.{put_both, put_same, put_other}
@@ -55,8 +56,12 @@ pub rows_more : (s : State) (xs : List ℕ) (i : ℕ) (row : LogRow) → i < len
 rows_more s xs i row lt e = ap (λ r. map (row_of s) (take i xs) ++ r ∷ []) e ∙ sym (ap (map (row_of s)) (take_more xs i 0 lt) ∙ map_push (row_of s) (take i xs) (slice_index_or xs i 0))
 
 -- ---- placing
+-- a free cell names no place
+pub free_unplaced : (s : State) (p : ℕ) → s.cell p ≡ 0 → (l at : ℕ) → names_place (read_of (s.cell p)) l at ≡ false
+free_unplaced s p free l at = rw (free, unused) refl
+
 module _ (s : State) (ledger : Ledger) (notes : Notes (own_part s) ledger) (p len ds : ℕ) (place : Place)
-    (pointer : p < CELLS * s.mutators) (free : s.cell p ≡ 0) (some : 0 < len) (most : len ≤ LONGEST) (structure : ds < 256) (found : room s (size_of len) true ≡ Some place) where
+    (pointer : p < CELLS * s.mutators) (unplaced : (l at : ℕ) → names_place (read_of (s.cell p)) l at ≡ false) (some : 0 < len) (most : len ≤ LONGEST) (structure : ds < 256) (found : room s (size_of len) true ≡ Some place) where
   short : size_of len ≤ LOG_WORDS
   short = omega arith
 
@@ -66,7 +71,7 @@ module _ (s : State) (ledger : Ledger) (notes : Notes (own_part s) ledger) (p le
   pub placeable : Placeable (own_part s) p len ds place
   placeable = record {
     pointer = pointer;
-    free = free;
+    unplaced = unplaced;
     layout = (some, most, structure, omega (arith, is_room.next.0, notes.law.shape.few_logs), is_room.fits);
     next = is_room.next;
     bare = own_bare s;

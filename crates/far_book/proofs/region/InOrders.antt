@@ -50,12 +50,12 @@ module _ (s t : State) (p : ℕ) (held now : ℕ → Option (List ℕ)) where
   pub retired_honest : is_dropped (read_of (s.cell p)) ≡ true → t ≡ record (retired s p) { word = t.word } → t.honest ≡ s.honest
   retired_honest dropped is = ap (λ (u : State). u.honest) is ∙ ap (λ (u : State). u.honest) (retired_is s p dropped)
 
-  -- a new object is near
+  -- an object that gets a place is near, and the device may have forgotten it
   module _ (len ds : ℕ) (place : Place) (h : Placeable (own_part s) p len ds place) where
-    pub placed_far : own_part t ≡ with_object (own_part s) p len ds place → HoldsFar s held → HoldsFar t held
-    placed_far own far = subst (λ (u : State). HoldsFar u held) (sym own)
-        (far_without (own_part s) held far p (near_word len ds place) held
-        (λ n d m e. let is : Some (Far n d m) ≡ Some (Near len ds place no_marks) = sym e ∙ read_back (Near len ds place no_marks) h.layout in absurd cc) (λ q ne. refl))
+    pub placed_far : own_part t ≡ with_object (own_part s) p len ds place → HoldsFar s held → KeepsOthers held now p → HoldsFar t now
+    placed_far own far others = subst (λ (u : State). HoldsFar u now) (sym own)
+        (far_without (own_part s) held far p (near_word len ds place) now
+        (λ n d m e. let is : Some (Far n d m) ≡ Some (Near len ds place no_marks) = sym e ∙ read_back (Near len ds place no_marks) h.layout in absurd cc) others)
 
-    pub placed_honest : t ≡ record (placed s p len ds place) { word = t.word } → t.honest ≡ s.honest
-    placed_honest is = ap (λ (u : State). u.honest) is ∙ ap (λ (u : State). u.honest) (named_is (with_blank_span s p len ds place) p len ds place h.free h.layout)
+    pub placed_honest : s.cell p ≡ 0 → t ≡ record (placed s p len ds place) { word = t.word } → t.honest ≡ s.honest
+    placed_honest free is = ap (λ (u : State). u.honest) is ∙ ap (λ (u : State). u.honest) (named_is (with_blank_span s p len ds place) p len ds place free h.layout)

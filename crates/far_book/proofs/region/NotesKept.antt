@@ -21,6 +21,7 @@ use Rattle.far_core.specs.events.Legal.{IsNext}
 use Rattle.far_core.specs.events.Mark.{is_sealed}
 use Rattle.far_core.specs.events.Naming.{is_dropped}
 use Rattle.far_core.specs.laws.Observed.{live_bytes}
+use Rattle.far_core.specs.state.Law.{Law}
 use Rattle.far_core.specs.state.Room.{is_free}
 use Rattle.far_core.specs.state.State.{State, put}
 use Rattle.far_core.proofs.Put.{put_both}
@@ -78,7 +79,7 @@ and_false true = refl
 and_false false = refl
 
 -- ---- a span is taken
-module _ (s : State) (ledger new : Ledger) (notes : Notes s ledger) (p len ds : ℕ) (place : Place) (h : Placeable s p len ds place) (takes : Takes ledger new p (size_of len) place) where
+module _ (s : State) (ledger new : Ledger) (notes : Notes s ledger) (p len ds : ℕ) (place : Place) (h : Placeable s p len ds place) (kept : Law (with_object s p len ds place)) (takes : Takes ledger new p (size_of len) place) where
   abbrev then : State
   then = with_object s p len ds place
 
@@ -126,8 +127,8 @@ module _ (s : State) (ledger new : Ledger) (notes : Notes s ledger) (p len ds : 
   live_then : (l : ℕ) → l < s.logs → (filled_of new l).live ≡ live_bytes then l
   live_then l lt = elim (cases_eq l place.log) [
     | inl e ↦ ap (λ k. (filled_of new k).live) e ∙ ap (λ (f : Filled). f.live) takes.here ∙ ap (λ n. n + 8 * size_of len) (notes.lives place.log h.next.0)
-        ∙ sym (places.live_here s notes.law p len ds place h) ∙ sym (ap (live_bytes then) e)
-    | inr ne ↦ ap (λ (f : Filled). f.live) (takes.there l ne) ∙ notes.lives l lt ∙ sym (places.live_there s notes.law p len ds place h l ne)
+        ∙ sym (places.live_here s notes.law p len ds place h kept) ∙ sym (ap (live_bytes then) e)
+    | inr ne ↦ ap (λ (f : Filled). f.live) (takes.there l ne) ∙ notes.lives l lt ∙ sym (places.live_there s notes.law p len ds place h kept l ne)
   ]
 
   named : near_word len ds place ≢ 0
@@ -140,7 +141,7 @@ module _ (s : State) (ledger new : Ledger) (notes : Notes s ledger) (p len ds : 
 
   pub notes_placed : Notes then new
   notes_placed = record {
-    law = places.law_then s notes.law p len ds place h;
+    law = kept;
     current = takes.current;
     free = free_then;
     logs = takes.logs ∙ notes.logs;

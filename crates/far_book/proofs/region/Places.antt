@@ -1,4 +1,4 @@
--- A new object is placed: the law stays, and its log has one live span more.
+-- An object gets a place: the law stays where it is new, and its log has one live span more.
 use Rattle.std.proofs.Common.{◌≡◌, ◌≢◌, ℕ, ◌+◌, ◌-◌, ◌*◌, ◌/◌, ◌%◌, ◌^◌, ◌<◌, ◌≤◌, true, false, cond, arith, sym, refl, ap, subst, ◌∙◌, Some, [], ◌∷◌, ◌++◌, inl, inr}
 use Rattle.std.specs.Prelude.{Contains}
 use Rattle.std.proofs.lemmas.Bool.{eq-eqb, ne_eqb, cases_eq, false_from_ne_true}
@@ -72,84 +72,87 @@ module _ (s : State) (law : Law s) (p len ds : ℕ) (place : Place) (h : Placeab
   law_headed = keeps s (events.Put place.log place.at (head_word p len ds)) law (head_fits header head)
       (h.next.0, next_unsealed s place h.next, omega (arith, at_end), omega (arith, h.layout))
 
+  -- behind the header there are zeros
+  pub blank_behind : (i : ℕ) → i < words_for len → headed.word (addr place + 1 + i) ≡ 0
+  blank_behind i lt = let far : addr place + 1 + i ≢ addr place = (λ e. omega arith) in
+      let here : addr place + (1 + i) ≡ addr place + 1 + i = omega arith in
+      put_other s.word (addr place) (head_word p len ds) (addr place + 1 + i) far ∙ h.bare (addr place + 1 + i) (sym (ap s.starts here) ∙ none_past (1 + i) (omega (arith, h.layout)))
+
   pub legal_name : Legal headed (events.Name p 0 (near_word len ds place))
-  legal_name = (h.pointer, (Places len ds place, (unused, read_back (Near len ds place no_marks) h.layout), (record { next = h.next; head = put_same s.word (addr place) (head_word p len ds) (addr place) refl }, blank))) where
-    blank : (i : ℕ) → i < words_for len → put s.word (addr place) (head_word p len ds) (addr place + 1 + i) ≡ 0
-    blank i lt = let far : addr place + 1 + i ≢ addr place = (λ e. omega arith) in
-        let here : addr place + (1 + i) ≡ addr place + 1 + i = omega arith in
-        put_other s.word (addr place) (head_word p len ds) (addr place + 1 + i) far ∙ h.bare (addr place + 1 + i) (sym (ap s.starts here) ∙ none_past (1 + i) (omega (arith, h.layout)))
+  legal_name = (h.pointer, (Places len ds place, (unused, read_back (Near len ds place no_marks) h.layout), (record { next = h.next; head = put_same s.word (addr place) (head_word p len ds) (addr place) refl }, blank_behind)))
 
   abbrev then : State
   then = with_object s p len ds place
 
-  pub law_then : Law then
-  law_then = subst Law (named_is headed p len ds place h.free h.layout)
+  pub law_then : s.cell p ≡ 0 → Law then
+  law_then free = subst Law (named_is headed p len ds place free h.layout)
       (keeps headed (events.Name p 0 (near_word len ds place)) law_headed (omega arith, word_fits (Near len ds place no_marks) h.layout) legal_name)
 
-  -- ---- the lists of spans
-  tail_here : then.tail place.log ≡ s.tail place.log + size_of len
-  tail_here = put_same s.tail place.log (place.at + size_of len) place.log refl ∙ ap (λ k. k + size_of len) at_end
+  module _ (kept : Law then) where
+    -- ---- the lists of spans
+    tail_here : then.tail place.log ≡ s.tail place.log + size_of len
+    tail_here = put_same s.tail place.log (place.at + size_of len) place.log refl ∙ ap (λ k. k + size_of len) at_end
 
-  tail_there : (l : ℕ) → l ≢ place.log → then.tail l ≡ s.tail l
-  tail_there l ne = put_other s.tail place.log (place.at + size_of len) l ne
+    tail_there : (l : ℕ) → l ≢ place.log → then.tail l ≡ s.tail l
+    tail_there l ne = put_other s.tail place.log (place.at + size_of len) l ne
 
-  old_words : (l i : ℕ) → i < s.tail l → word_in then l i ≡ word_in s l i
-  old_words l i lt = put_other s.word (addr place) (head_word p len ds) (l * LOG_WORDS + i) (λ e. apart e) where
-    apart : l * LOG_WORDS + i ≡ addr place → ⊥
-    apart e = let same : l ≡ place.log = omega (arith, law.logs.tail_end l, h.layout) in
-        let tails : s.tail l ≡ s.tail place.log = ap s.tail same in
-        omega (arith, at_end)
+    old_words : (l i : ℕ) → i < s.tail l → word_in then l i ≡ word_in s l i
+    old_words l i lt = put_other s.word (addr place) (head_word p len ds) (l * LOG_WORDS + i) (λ e. apart e) where
+      apart : l * LOG_WORDS + i ≡ addr place → ⊥
+      apart e = let same : l ≡ place.log = omega (arith, law.logs.tail_end l, h.layout) in
+          let tails : s.tail l ≡ s.tail place.log = ap s.tail same in
+          omega (arith, at_end)
 
-  old_walk : (l : ℕ) → IsWalk (word_in then l) (s.tail l) (spans_of s l)
-  old_walk l = same_walk (word_in s l) (word_in then l) (s.tail l) (old_words l) (s.tail l) (spans_of s l) (omega arith) (walks s law l)
+    old_walk : (l : ℕ) → IsWalk (word_in then l) (s.tail l) (spans_of s l)
+    old_walk l = same_walk (word_in s l) (word_in then l) (s.tail l) (old_words l) (s.tail l) (spans_of s l) (omega arith) (walks s law l)
 
-  new_stands : Stands (word_in then place.log) (span_for p len ds place.at)
-  new_stands = record {
-    header = record { layout = head; header = put_same s.word (addr place) (head_word p len ds) (addr place) refl };
-    padding = λ i lt. let zero : word_in then place.log (place.at + 1 + i) ≡ 0 = blank i lt in
-        let some : 0 < 2 ^ (8 * (len - 8 * i)) = pow_pos (8 * (len - 8 * i)) in omega arith;
-  } where
-    blank : (i : ℕ) → i < words_for len → put s.word (addr place) (head_word p len ds) (place.log * LOG_WORDS + (place.at + 1 + i)) ≡ 0
-    blank i lt = let far : place.log * LOG_WORDS + (place.at + 1 + i) ≢ addr place = (λ e. omega arith) in
-        let here : addr place + (1 + i) ≡ place.log * LOG_WORDS + (place.at + 1 + i) = omega arith in
-        put_other s.word (addr place) (head_word p len ds) (place.log * LOG_WORDS + (place.at + 1 + i)) far ∙ h.bare (place.log * LOG_WORDS + (place.at + 1 + i)) (sym (ap s.starts here) ∙ none_past (1 + i) (omega (arith, h.layout)))
+    new_stands : Stands (word_in then place.log) (span_for p len ds place.at)
+    new_stands = record {
+      header = record { layout = head; header = put_same s.word (addr place) (head_word p len ds) (addr place) refl };
+      padding = λ i lt. let zero : word_in then place.log (place.at + 1 + i) ≡ 0 = blank i lt in
+          let some : 0 < 2 ^ (8 * (len - 8 * i)) = pow_pos (8 * (len - 8 * i)) in omega arith;
+    } where
+      blank : (i : ℕ) → i < words_for len → put s.word (addr place) (head_word p len ds) (place.log * LOG_WORDS + (place.at + 1 + i)) ≡ 0
+      blank i lt = let far : place.log * LOG_WORDS + (place.at + 1 + i) ≢ addr place = (λ e. omega arith) in
+          let here : addr place + (1 + i) ≡ place.log * LOG_WORDS + (place.at + 1 + i) = omega arith in
+          put_other s.word (addr place) (head_word p len ds) (place.log * LOG_WORDS + (place.at + 1 + i)) far ∙ h.bare (place.log * LOG_WORDS + (place.at + 1 + i)) (sym (ap s.starts here) ∙ none_past (1 + i) (omega (arith, h.layout)))
 
-  pub spans_here : spans_of then place.log ≡ spans_of s place.log ++ span_for p len ds place.at ∷ []
-  spans_here =
-      let now = walks then law_then place.log in
-      let more = walk_more (word_in then place.log) (s.tail place.log) (spans_of s place.log) (span_for p len ds place.at) (old_walk place.log) at_end new_stands in
-      one_list (word_in then place.log) _ _ 0 (then.tail place.log) now.tile (subst (Tile 0 (spans_of s place.log ++ span_for p len ds place.at ∷ [])) (sym tail_here) more.tile) now.stand more.stand
+    pub spans_here : spans_of then place.log ≡ spans_of s place.log ++ span_for p len ds place.at ∷ []
+    spans_here =
+        let now = walks then kept place.log in
+        let more = walk_more (word_in then place.log) (s.tail place.log) (spans_of s place.log) (span_for p len ds place.at) (old_walk place.log) at_end new_stands in
+        one_list (word_in then place.log) _ _ 0 (then.tail place.log) now.tile (subst (Tile 0 (spans_of s place.log ++ span_for p len ds place.at ∷ [])) (sym tail_here) more.tile) now.stand more.stand
 
-  pub spans_there : (l : ℕ) → l ≢ place.log → spans_of then l ≡ spans_of s l
-  spans_there l ne =
-      let now = walks then law_then l in
-      let old = old_walk l in
-      one_list (word_in then l) _ _ 0 (then.tail l) now.tile (subst (Tile 0 (spans_of s l)) (sym (tail_there l ne)) old.tile) now.stand old.stand
+    pub spans_there : (l : ℕ) → l ≢ place.log → spans_of then l ≡ spans_of s l
+    spans_there l ne =
+        let now = walks then kept l in
+        let old = old_walk l in
+        one_list (word_in then l) _ _ 0 (then.tail l) now.tile (subst (Tile 0 (spans_of s l)) (sym (tail_there l ne)) old.tile) now.stand old.stand
 
-  -- ---- the live bytes
-  -- no span that was there is live by the new name
-  names_none : (l : ℕ) (x : Span) → Contains (spans_of s l) x → names_place (Some (Near len ds place no_marks)) l x.at ≡ false
-  names_none l x member = elim (cases_eq place.log l) [
-    | inl e ↦ (let below = (tile_bounds (spans_of s l) 0 (s.tail l) x (walks s law l).tile member).1 in
-        let tails : s.tail place.log ≡ s.tail l = ap s.tail e in
-        rw (eq-eqb place.log l e) (ne_eqb place.at x.at (λ is. omega (arith, at_end))))
-    | inr ne ↦ rw (ne_eqb place.log l ne) refl
-  ]
+    -- ---- the live bytes
+    -- no span that was there is live by the new name
+    names_none : (l : ℕ) (x : Span) → Contains (spans_of s l) x → names_place (Some (Near len ds place no_marks)) l x.at ≡ false
+    names_none l x member = elim (cases_eq place.log l) [
+      | inl e ↦ (let below = (tile_bounds (spans_of s l) 0 (s.tail l) x (walks s law l).tile member).1 in
+          let tails : s.tail place.log ≡ s.tail l = ap s.tail e in
+          rw (eq-eqb place.log l e) (ne_eqb place.at x.at (λ is. omega (arith, at_end))))
+      | inr ne ↦ rw (ne_eqb place.log l ne) refl
+    ]
 
-  as_live : (l : ℕ) (x : Span) → Contains (spans_of s l) x → is_live then l x ≡ is_live s l x
-  as_live l x member = put_both (λ c. names_place (read_of c) l x.at ≡ names_place (read_of (s.cell x.p)) l x.at) s.cell p (near_word len ds place) x.p
-      (λ e. rw (read_back (Near len ds place no_marks) h.layout, ap s.cell e ∙ h.free, unused) (names_none l x member))
-      (λ _. refl)
+    as_live : (l : ℕ) (x : Span) → Contains (spans_of s l) x → is_live then l x ≡ is_live s l x
+    as_live l x member = put_both (λ c. names_place (read_of c) l x.at ≡ names_place (read_of (s.cell x.p)) l x.at) s.cell p (near_word len ds place) x.p
+        (λ e. rw (read_back (Near len ds place no_marks) h.layout) (names_none l x member ∙ sym (ap (λ q. names_place (read_of (s.cell q)) l x.at) e ∙ h.unplaced l x.at)))
+        (λ _. refl)
 
-  new_live : is_live then place.log (span_for p len ds place.at) ≡ true
-  new_live = rw (put_same s.cell p (near_word len ds place) p refl, read_back (Near len ds place no_marks) h.layout, eq-eqb place.log place.log refl, eq-eqb place.at place.at refl) refl
+    new_live : is_live then place.log (span_for p len ds place.at) ≡ true
+    new_live = rw (put_same s.cell p (near_word len ds place) p refl, read_back (Near len ds place no_marks) h.layout, eq-eqb place.log place.log refl, eq-eqb place.at place.at refl) refl
 
-  pub live_here : live_bytes then place.log ≡ live_bytes s place.log + bytes_taken len
-  live_here =
-      let list : live_bytes then place.log ≡ taken_by (is_live then place.log) (spans_of s place.log ++ span_for p len ds place.at ∷ []) = ap (taken_by (is_live then place.log)) spans_here in
-      let same : taken_by (is_live then place.log) (spans_of s place.log) ≡ live_bytes s place.log = taken_same (is_live then place.log) (is_live s place.log) (spans_of s place.log) (as_live place.log) in
-      let counted : cond (is_live then place.log (span_for p len ds place.at)) (bytes_taken len) 0 ≡ bytes_taken len = ap (λ b. cond b (bytes_taken len) 0) new_live in
-      list ∙ taken_more (is_live then place.log) (spans_of s place.log) (span_for p len ds place.at) ∙ ap (λ n. n + cond (is_live then place.log (span_for p len ds place.at)) (bytes_taken len) 0) same ∙ ap (λ n. live_bytes s place.log + n) counted
+    pub live_here : live_bytes then place.log ≡ live_bytes s place.log + bytes_taken len
+    live_here =
+        let list : live_bytes then place.log ≡ taken_by (is_live then place.log) (spans_of s place.log ++ span_for p len ds place.at ∷ []) = ap (taken_by (is_live then place.log)) spans_here in
+        let same : taken_by (is_live then place.log) (spans_of s place.log) ≡ live_bytes s place.log = taken_same (is_live then place.log) (is_live s place.log) (spans_of s place.log) (as_live place.log) in
+        let counted : cond (is_live then place.log (span_for p len ds place.at)) (bytes_taken len) 0 ≡ bytes_taken len = ap (λ b. cond b (bytes_taken len) 0) new_live in
+        list ∙ taken_more (is_live then place.log) (spans_of s place.log) (span_for p len ds place.at) ∙ ap (λ n. n + cond (is_live then place.log (span_for p len ds place.at)) (bytes_taken len) 0) same ∙ ap (λ n. live_bytes s place.log + n) counted
 
-  pub live_there : (l : ℕ) → l ≢ place.log → live_bytes then l ≡ live_bytes s l
-  live_there l ne = ap (taken_by (is_live then l)) (spans_there l ne) ∙ taken_same (is_live then l) (is_live s l) (spans_of s l) (as_live l)
+    pub live_there : (l : ℕ) → l ≢ place.log → live_bytes then l ≡ live_bytes s l
+    live_there l ne = ap (taken_by (is_live then l)) (spans_there l ne) ∙ taken_same (is_live then l) (is_live s l) (spans_of s l) (as_live l)

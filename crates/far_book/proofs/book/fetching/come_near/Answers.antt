@@ -1,0 +1,26 @@
+use Rattle.far_book.proofs.book.fetching.come_near.Goals as goal
+use Rattle.std.proofs.Common.{◌≡◌, ◌<◌, ◌-◌, ℕ, arith, sym, subst}
+use Rattle.far_word.specs.Bytes.{packed_word}
+use Rattle.far_word.specs.Pointer.{read_of}
+use Rattle.far_word.specs.Sizes.{words_for}
+use Rattle.far_core.specs.state.State.{State}
+use Rattle.far_book.specs.book.Effects.{near_word, with_written_span}
+use Rattle.far_book.specs.book.Placeable.{IsAbsent}
+use Rattle.far_book.specs.book.Renaming.{MayRename}
+use Rattle.far_book.proofs.region.Coming.{may_come}
+use Rattle.far_book.proofs.region.Packing.{packed_padded, packed_wide}
+
+pub rename-requires-clause-may : goal.rename-requires-clause-may
+rename-requires-clause-may g c =
+    let s = g.N.Near.view c.args.near.now in
+    let row = packed_word c.args.bytes.now in
+    let absent = subst (λ v. IsAbsent (read_of v) c.args.len c.args.ds) c.requires.found c.requires.absent in
+    let last : words_for c.args.len - 1 < words_for c.args.len = omega (arith, c.requires.head.some) in
+    let pack : c.pack.result ≡ near_word c.args.len c.args.ds c.args.place = c.pack.ensures in
+    let may = may_come s c.args.pointer c.args.len c.args.ds c.args.place row c.requires.pointer absent c.requires.head.some c.requires.layout c.requires.next
+    (packed_padded c.args.bytes.now c.args.len (words_for c.args.len - 1) (λ k. (c.type_inv.bytes k).fits) c.requires.long last) c.requires.stored in
+    subst (λ (t : State). MayRename t c.args.pointer c.pack.result) (sym c.put_object.ensures)
+    (subst (λ (x : ℕ). MayRename (with_written_span s c.args.pointer c.args.len c.args.ds c.args.place row) c.args.pointer x) (sym pack) may)
+
+pub returns-clause-padded : goal.returns-clause-padded
+returns-clause-padded g c i lt = (packed_wide c.args.bytes.now (λ k. (c.type_inv.bytes k).fits) i, packed_padded c.args.bytes.now c.args.len i (λ k. (c.type_inv.bytes k).fits) c.requires.long lt)

@@ -1,0 +1,96 @@
+-- A far object comes near: what is written, what may be named, and what that leaves.
+use Rattle.std.proofs.Common.{◌≡◌, ◌≢◌, ℕ, ◌+◌, ◌-◌, ◌*◌, ◌<◌, ◌≤◌, ◌^◌, true, false, arith, sym, refl, ap, subst, ◌∙◌, Option, Some, None, inl, inr}
+use Rattle.std.specs.Prelude.{◌⊎◌}
+use Rattle.far_word.specs.declared.mark.Marks.{Marks}
+use Rattle.far_word.specs.declared.pointer.Place.{Place}
+use Rattle.far_word.specs.declared.pointer.PtrWord.TheVariants.{Near, Far}
+use Rattle.far_word.specs.declared.sizes.TheConstants.{CELLS}
+use Rattle.far_word.specs.Header.{head_word}
+use Rattle.far_word.specs.Pointer.{IsPtr, read_of}
+use Rattle.far_word.specs.Sizes.{size_of, words_for}
+use Rattle.far_word.proofs.PointerLaws.{read_back}
+use Rattle.far_core.specs.declared.event.Event.TheVariants as events
+use Rattle.far_core.specs.declared.naming.Naming.TheVariants as naming
+use Rattle.far_core.specs.events.Copies.{Alike, data_at}
+use Rattle.far_core.specs.events.Legal.{IsNext}
+use Rattle.far_core.specs.events.namings.Fetches.{words_stored}
+use Rattle.far_core.specs.events.Naming.{is_dropped, no_marks}
+use Rattle.far_core.specs.events.Ranges.{with_row}
+use Rattle.far_core.specs.events.Step.{after}
+use Rattle.far_core.specs.state.State.{State, put, addr}
+use Rattle.far_core.proofs.Put.{put_both, put_same, put_other}
+use Rattle.far_core.proofs.Rows.{row_in, row_out, row_is}
+use Rattle.far_book.specs.Finds.{Finds, body_of}
+use Rattle.far_book.specs.book.Effects.{fetched, fetched_of, near_word, with_written_span}
+use Rattle.far_book.specs.book.Placeable.{IsAbsent}
+use Rattle.far_book.specs.book.Renaming.{MayRename, seen}
+use Rattle.far_book.proofs.region.Leaving.{far_cell}
+
+-- one word more of a row is written
+pub row_last : (word : ℕ → ℕ) (a n : ℕ) (row : ℕ → ℕ) → put (with_row word a n row) (a + n) (row n) ≡ with_row word a (n + 1) row
+row_last word a n row = row_is word (put (with_row word a n row) (a + n) (row n)) a (n + 1) row
+    (λ k low high. put_both (λ v. v ≡ row (k - a)) (with_row word a n row) (a + n) (row n) k
+    (λ e. let at : n ≡ k - a = omega arith in ap row at) (λ ne. row_in word a n row k low (omega arith)))
+    (λ k out. put_other (with_row word a n row) (a + n) (row n) k (λ e. apart k out e) ∙ row_out word a n row k (behind k out)) where
+      apart : (k : ℕ) → (k < a) ⊎ (a + (n + 1) ≤ k) → k ≢ a + n
+      apart k (inl low) e = omega arith
+      apart k (inr high) e = omega arith
+
+      behind : (k : ℕ) → (k < a) ⊎ (a + (n + 1) ≤ k) → (k < a) ⊎ (a + n ≤ k)
+      behind k (inl low) = inl low
+      behind k (inr high) = inr (omega arith)
+
+-- what is found in a far object's cell is far
+pub far_found : (v w len ds : ℕ) (m : Marks) → Finds v w → read_of v ≡ Some (Far len ds m) → (k : Marks) × (read_of w ≡ Some (Far len ds k))
+far_found v w len ds m f e = far_cell (read_of w) len ds m (ap body_of (sym e) ∙ sym f.body)
+
+module _ (s : State) (p len ds : ℕ) (place : Place) (row : ℕ → ℕ) where
+  abbrev written : State
+  written = with_written_span s p len ds place row
+
+  header : written.word (addr place) ≡ head_word p len ds
+  header = row_out (put s.word (addr place) (head_word p len ds)) (addr place + 1) (words_for len) row (addr place) (inl (omega arith)) ∙ put_same s.word (addr place) (head_word p len ds) (addr place) refl
+
+  -- a word outside the span
+  pub written_outside : (a : ℕ) → (a < addr place) ⊎ (addr place + size_of len ≤ a) → written.word a ≡ s.word a
+  written_outside a (inl low) = row_out (put s.word (addr place) (head_word p len ds)) (addr place + 1) (words_for len) row a (inl (omega arith)) ∙ put_other s.word (addr place) (head_word p len ds) a (λ e. omega arith)
+  written_outside a (inr high) = row_out (put s.word (addr place) (head_word p len ds)) (addr place + 1) (words_for len) row a (inr (omega arith)) ∙ put_other s.word (addr place) (head_word p len ds) a (λ e. omega arith)
+
+  stands : (i : ℕ) → i < words_for len → data_at written.word place i ≡ row i
+  stands i lt = row_in (put s.word (addr place) (head_word p len ds)) (addr place + 1) (words_for len) row (addr place + 1 + i) (omega arith) (omega arith)
+      ∙ (let at : addr place + 1 + i - (addr place + 1) ≡ i = omega arith in ap row at)
+
+  -- whatever marks are found, the place may be named
+  pub may_come : p < CELLS * s.mutators → IsAbsent (read_of (s.cell p)) len ds → 0 < len → IsPtr (Near len ds place no_marks) → IsNext s place →
+      row (words_for len - 1) < 2 ^ (8 * (len - 8 * (words_for len - 1))) → (s.honest ≡ true → Alike row (s.stored p) (words_for len)) → MayRename written p (near_word len ds place)
+  may_come pointer absent some layout next ends stored word fits finds alive =
+      let far = far_found (s.cell p) word len ds absent.0 finds absent.1 in
+      let here : (seen written p word).cell p ≡ word = put_same s.cell p word p refl in
+      let last : words_for len - 1 < words_for len = omega arith in (
+        (
+          pointer,
+          (
+            naming.Fetches len ds place,
+            ((far.0, far.1, sym (ap is_dropped far.1) ∙ alive), read_back (Near len ds place no_marks) layout),
+            record {
+              span = record { next = next; head = header };
+              padded = subst (λ w. w < 2 ^ (8 * (len - 8 * (words_for len - 1)))) (sym (stands (words_for len - 1) last)) ends;
+              stored = λ honest. record { all = ap words_stored (ap read_of here ∙ far.1); same = λ i lt. stands i lt ∙ stored honest i lt };
+            },
+          ),
+        ),
+        λ n at h i lt. let odd : Some (Far len ds far.0) ≡ Some (Near n h.0 at h.1) = sym far.1 ∙ h.2 in absurd cc,
+      )
+
+  -- by its own word the cell is named so
+  pub fetched_is : (m : Marks) → read_of (s.cell p) ≡ Some (Far len ds m) → fetched s p place row ≡ after written (events.Name p (s.cell p) (near_word len ds place))
+  fetched_is m e = ap (fetched_of s p place row) e
+
+  -- it is the same with another row of the same words
+  pub fetched_alike : (m : Marks) → read_of (s.cell p) ≡ Some (Far len ds m) → (other : ℕ → ℕ) → Alike row other (words_for len) → fetched s p place row ≡ fetched s p place other
+  fetched_alike m e other same =
+      let headed = put s.word (addr place) (head_word p len ds) in
+      let words : with_row headed (addr place + 1) (words_for len) row ≡ with_row headed (addr place + 1) (words_for len) other =
+      row_is headed (with_row headed (addr place + 1) (words_for len) row) (addr place + 1) (words_for len) other
+      (λ k low high. row_in headed (addr place + 1) (words_for len) row k low high ∙ same (k - (addr place + 1)) (omega arith)) (λ k out. row_out headed (addr place + 1) (words_for len) row k out) in
+      ap (fetched_of s p place row) e ∙ ap (λ (w : ℕ → ℕ). after (record s { word = w }) (events.Name p (s.cell p) (near_word len ds place))) words ∙ sym (ap (fetched_of s p place other) e)

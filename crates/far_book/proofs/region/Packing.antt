@@ -1,0 +1,60 @@
+-- Bytes are packed into words one by one: each is the word of the bytes' part, and has zeros after the last byte.
+use Rattle.std.proofs.Common.{◌≡◌, ℕ, zero, suc, ◌+◌, ◌-◌, ◌*◌, ◌<◌, ◌≤◌, ◌^◌, arith, refl, sym, ap, ◌∙◌, List, length, take, drop, get_or, inl, inr}
+use Rattle.std.specs.Prelude.{min}
+use Rattle.std.proofs.lemmas.Bool.{cases_lt}
+use Rattle.std.proofs.lemmas.List.{get_or-take, get_or-drop, get_or_past, length-take-le, length-drop}
+use lib.Pow.{pow_mono}
+use Rattle.far_word.specs.Bytes.{packed_word, word_at}
+use Rattle.far_word.specs.Sizes.{words_for}
+
+-- the word of some bytes that are those from 8i on
+packs_part : (bs xs : List ℕ) (i : ℕ) → ((k : ℕ) → k < 8 → get_or xs k 0 ≡ get_or bs (8 * i + k) 0) → packed_word xs 0 ≡ packed_word bs i
+packs_part bs xs i h =
+    let same : 8 * i + 0 ≡ 8 * i = omega arith in
+    let first : get_or xs 0 0 ≡ get_or bs (8 * i) 0 = h 0 (omega arith) ∙ ap (λ q. get_or bs q 0) same in
+    omega (arith, first, h 1 (omega arith), h 2 (omega arith), h 3 (omega arith), h 4 (omega arith), h 5 (omega arith), h 6 (omega arith), h 7 (omega arith))
+
+-- the same, as code slices them
+module _ (bs : List ℕ) (i m : ℕ) (inside : 8 * i < length bs) where
+  abbrev behind : List ℕ
+  behind = take (length bs - 8 * i) (drop (8 * i) bs)
+
+  pub rest_length : length behind ≡ length bs - 8 * i
+  rest_length = length-take-le (length bs - 8 * i) (drop (8 * i) bs) (omega (arith, length-drop (8 * i) bs))
+
+  pub part_length : m ≡ min (length behind) 8 → length (take m behind) ≡ m
+  part_length least = length-take-le m behind (omega (arith, least))
+
+  pub packs_slice : m ≡ min (length behind) 8 → packed_word (take m behind) 0 ≡ packed_word bs i
+  packs_slice least = packs_part bs (take m behind) i (λ k lt. elim (cases_lt k m) [
+    | inl below ↦ get_or-take m behind k 0 below ∙ get_or-take (length bs - 8 * i) (drop (8 * i) bs) k 0 (omega (arith, least, rest_length)) ∙ get_or-drop (8 * i) bs k 0
+    | inr past ↦ get_or_past (take m behind) k 0 (omega (arith, part_length least)) ∙ sym (get_or_past bs (8 * i + k) 0 (omega (arith, least, rest_length)))
+  ])
+
+-- a word of eight bytes is 64 bits wide
+word_wide : (byte : ℕ → ℕ) (i : ℕ) → ((k : ℕ) → byte k < 256) → word_at byte i < 2 ^ 64
+word_wide byte i small = omega (arith, small (8 * i), small (8 * i + 1), small (8 * i + 2), small (8 * i + 3), small (8 * i + 4), small (8 * i + 5), small (8 * i + 6), small (8 * i + 7))
+
+-- a word of r bytes and zeros is 8 * r bits wide
+part_wide : (byte : ℕ → ℕ) (i r : ℕ) → ((k : ℕ) → byte k < 256) → ((k : ℕ) → 8 * i + r ≤ k → byte k ≡ 0) → 0 < r → word_at byte i < 2 ^ (8 * r)
+part_wide byte i zero small none some = absurd (omega arith)
+part_wide byte i (suc zero) small none some = omega (arith, small (8 * i), none (8 * i + 1) (omega arith), none (8 * i + 2) (omega arith), none (8 * i + 3) (omega arith), none (8 * i + 4) (omega arith), none (8 * i + 5) (omega arith), none (8 * i + 6) (omega arith), none (8 * i + 7) (omega arith))
+part_wide byte i (suc (suc zero)) small none some = omega (arith, small (8 * i), small (8 * i + 1), none (8 * i + 2) (omega arith), none (8 * i + 3) (omega arith), none (8 * i + 4) (omega arith), none (8 * i + 5) (omega arith), none (8 * i + 6) (omega arith), none (8 * i + 7) (omega arith))
+part_wide byte i (suc (suc (suc zero))) small none some = omega (arith, small (8 * i), small (8 * i + 1), small (8 * i + 2), none (8 * i + 3) (omega arith), none (8 * i + 4) (omega arith), none (8 * i + 5) (omega arith), none (8 * i + 6) (omega arith), none (8 * i + 7) (omega arith))
+part_wide byte i (suc (suc (suc (suc zero)))) small none some = omega (arith, small (8 * i), small (8 * i + 1), small (8 * i + 2), small (8 * i + 3), none (8 * i + 4) (omega arith), none (8 * i + 5) (omega arith), none (8 * i + 6) (omega arith), none (8 * i + 7) (omega arith))
+part_wide byte i (suc (suc (suc (suc (suc zero))))) small none some = omega (arith, small (8 * i), small (8 * i + 1), small (8 * i + 2), small (8 * i + 3), small (8 * i + 4), none (8 * i + 5) (omega arith), none (8 * i + 6) (omega arith), none (8 * i + 7) (omega arith))
+part_wide byte i (suc (suc (suc (suc (suc (suc zero)))))) small none some = omega (arith, small (8 * i), small (8 * i + 1), small (8 * i + 2), small (8 * i + 3), small (8 * i + 4), small (8 * i + 5), none (8 * i + 6) (omega arith), none (8 * i + 7) (omega arith))
+part_wide byte i (suc (suc (suc (suc (suc (suc (suc zero))))))) small none some = omega (arith, small (8 * i), small (8 * i + 1), small (8 * i + 2), small (8 * i + 3), small (8 * i + 4), small (8 * i + 5), small (8 * i + 6), none (8 * i + 7) (omega arith))
+part_wide byte i (suc (suc (suc (suc (suc (suc (suc (suc r)))))))) small none some =
+    let more : 2 ^ 64 ≤ 2 ^ (8 * suc (suc (suc (suc (suc (suc (suc (suc r)))))))) = (let h : 64 ≤ 8 * suc (suc (suc (suc (suc (suc (suc (suc r))))))) = omega arith in pow_mono h) in
+    let low : word_at byte i < 2 ^ 64 = word_wide byte i small in
+    omega (arith, more, low)
+
+-- a word of bytes leaves zeros behind their end
+pub packed_padded : (bytes : List ℕ) (len i : ℕ) → ((k : ℕ) → get_or bytes k 0 < 256) → length bytes ≡ len → i < words_for len → packed_word bytes i < 2 ^ (8 * (len - 8 * i))
+packed_padded bytes len i small long lt =
+    part_wide (λ k. get_or bytes k 0) i (len - 8 * i) small (λ k past. get_or_past bytes k 0 (omega arith)) (omega arith)
+
+-- so is each word of bytes
+pub packed_wide : (bytes : List ℕ) → ((k : ℕ) → get_or bytes k 0 < 256) → (i : ℕ) → packed_word bytes i < 2 ^ 64
+packed_wide bytes small i = word_wide (λ k. get_or bytes k 0) i small

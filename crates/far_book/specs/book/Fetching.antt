@@ -1,0 +1,78 @@
+-- What a fetch asks of a state, and what it leaves.
+use Rattle.std.specs.Prelude.{◌≡◌, ◌+◌, ◌*◌, ◌<◌, ℕ, Bool, true, false, Option, Some, None, IsSome, Result, Ok, Err, List}
+use Rattle.far_word.specs.declared.mark.Marks.{Marks}
+use Rattle.far_word.specs.declared.pointer.Place.{Place}
+use Rattle.far_word.specs.declared.pointer.PtrWord.{PtrWord}
+use Rattle.far_word.specs.declared.pointer.PtrWord.TheVariants.{Free, Near, Far}
+use Rattle.far_word.specs.declared.refused.Refused.{Refused}
+use Rattle.far_word.specs.declared.refused.Refused.TheVariants.{Memory, NoRoom, Device, Damaged}
+use Rattle.far_word.specs.declared.sizes.TheConstants.{LOG_WORDS}
+use Rattle.far_word.specs.Pointer.{read_of}
+use Rattle.far_word.specs.Sizes.{size_of}
+use Rattle.far_core.specs.events.Naming.{is_dropped}
+use Rattle.far_core.specs.state.Law.{IsStored}
+use Rattle.far_core.specs.state.Room.{room}
+use Rattle.far_core.specs.state.State.{State}
+use Rattle.far_book.specs.Known.{Forgets, IsKnown}
+use Rattle.far_book.specs.book.Effects.{fetched, retired, order_after, with_free_cell}
+
+-- an object is far
+pub record IsFar (s : State) (p : ℕ) : Type 0 where
+  pub len : ℕ
+  pub ds : ℕ
+  pub marks : Marks
+  pub far : read_of (s.cell p) ≡ Some (Far len ds marks)
+
+-- how many bytes it has there
+abbrev pub far_len : Option PtrWord → ℕ
+far_len None = 0
+far_len (Some Free) = 0
+far_len (Some (Near len ds place marks)) = 0
+far_len (Some (Far len ds marks)) = len
+
+-- where it comes when it is fetched, if there is room: never into the last free log
+abbrev pub room_for : State → ℕ → Option Place
+room_for s p = room s (size_of (far_len (read_of (s.cell p)))) true
+
+-- it has come near to a place, with as many bytes as it has: of an honest device those that were stored. Words may have been forgotten
+pub record IsFetched (still : Type 0) (is_honest : Bool) (s t : State) (p : ℕ) (place : Place) : Type 0 where
+  pub row : ℕ → ℕ
+  pub kept : t ≡ record (fetched s p place row) { word = t.word }
+  pub forgot : Forgets (fetched s p place row) t
+  pub padded : IsStored row (far_len (read_of (s.cell p)))
+  pub stored : is_honest ≡ true → row ≡ s.stored p
+  pub exact : still → t ≡ fetched s p place row
+
+-- from s to t no word of a span is another, as far as it is known, and the header of each is known as it was; past the tails anything may have been written
+pub record ForgetsSpans (s t : State) : Type 0 where
+  pub known : (l at : ℕ) → at < s.tail l → IsKnown (t.word (l * LOG_WORDS + at)) → t.word (l * LOG_WORDS + at) ≡ s.word (l * LOG_WORDS + at)
+  pub headers : (a : ℕ) → t.starts a ≡ true → t.word a ≡ s.word a
+
+-- it was dropped, and is retired
+pub record IsRetired (still : Type 0) (s t : State) (p : ℕ) : Type 0 where
+  pub kept : t ≡ record (with_free_cell s p) { word = t.word }
+  pub forgot : ForgetsSpans s t
+  pub dropped : still → is_dropped (read_of (s.cell p)) ≡ true
+  pub exact : still → t ≡ retired s p
+
+-- the sealed logs after it, oldest first
+abbrev pub order_fetched : State → List ℕ → Option Place → List ℕ
+order_fetched s order None = order
+order_fetched s order (Some place) = order_after s order place
+
+-- why a fetch may be refused: room is none; or room is, and the device wants memory, or fails, or isn't honest
+abbrev pub RefusesFetch : Refused → Option Place → Bool → Type 0
+RefusesFetch NoRoom place is_honest = place ≡ None
+RefusesFetch Memory place is_honest = IsSome place
+RefusesFetch Device place is_honest = IsSome place
+RefusesFetch Damaged place is_honest = IsSome place × (is_honest ≡ false)
+RefusesFetch why place is_honest = ⊥
+
+-- the device has failed
+abbrev pub is_device : Refused → Bool
+is_device Device = true
+is_device why = false
+
+abbrev pub has_failed : {A : Type 0} → Result A Refused → Bool
+has_failed (Ok x) = false
+has_failed (Err why) = is_device why

@@ -1,0 +1,163 @@
+//! How a far object comes near.
+
+ghost use Rattle.std.specs.Prelude.{◌≡◌, ◌*◌, ◌^◌, ◌<◌, ℕ, true, false, None, Some, length, IfOk, IfErr, IfSome, IfNone};
+ghost use Rattle.far_word.specs.declared.pointer.PtrWord.TheVariants.{Near as near_at};
+ghost use Rattle.far_word.specs.declared.refused.Refused.TheVariants as refused;
+ghost use Rattle.far_word.specs.declared.sizes.TheConstants.{CELLS};
+ghost use Rattle.far_word.specs.Bytes.{packed_word};
+ghost use Rattle.far_word.specs.Header.{IsHead};
+ghost use Rattle.far_word.specs.Pointer.{IsPtr, read_of};
+ghost use Rattle.far_word.specs.Sizes.{words_for};
+ghost use Rattle.far_core.specs.events.Legal.{IsNext};
+ghost use Rattle.far_core.specs.events.Naming.{is_dropped, no_marks};
+ghost use Rattle.far_core.specs.state.Law.{IsStored};
+ghost use Rattle.far_device.specs.Contents.{KeepsOthers};
+ghost use Rattle.far_device.specs.Faults.{CountsFault, SpendsFault};
+ghost use Rattle.far_book.specs.Finds.{Finds};
+ghost use Rattle.far_book.specs.book.Effects.{fetched, near_word, with_written_span};
+ghost use Rattle.far_book.specs.book.Fetching.{IsFar, IsFetched, IsRetired, RefusesFetch, has_failed, order_fetched, room_for};
+ghost use Rattle.far_book.specs.book.Placeable.{IsAbsent};
+ghost use Rattle.far_book.specs.book.Renaming.{Renamed, seen};
+
+use crate::book::Book;
+use crate::book::renaming::rename;
+use crate::near::Near;
+use far_device::{Device, DeviceFault};
+use far_word::{HeadWord, Marks, Place, PtrWord, Refused, pack_bytes, size_of, words_for};
+
+impl<N: Near + Drop, D: Device + Drop> Book<N, D> {
+    /// Brings a far object near, and answers where it lies; the device forgets its bytes then. Where its owner has dropped
+    /// it, it is retired instead, and the answer is `None`.
+    ///
+    /// Refused, in this order, [`Refused::NoRoom`]; [`Refused::Memory`] or [`Refused::Device`], which are the device's; and
+    /// [`Refused::Damaged`], where what it gave isn't as long as the object. Nothing has changed then but that the view has
+    /// the marks that were found, and no log was sealed.
+    pub fn fetch(&mut self, pointer: u16) -> Result<Option<Place>, Refused>
+        requires pointer { pointer < CELLS * (N.view self.old.near).mutators }
+        requires far { IsFar (N.view self.old.near) pointer }
+        ensures place { IfOk result (λ found. IfSome found (λ place. room_for (N.view self.old.near) pointer ≡ Some place)) }
+        ensures near { IfOk result (λ found. IfSome found (λ place. IsFetched N.still (D.honest self.old.device) (N.view self.old.near) (N.view self.new.near) pointer place)) }
+        ensures gone { IfOk result (λ found. IfNone found (IsRetired N.still (N.view self.old.near) (N.view self.new.near) pointer)) }
+        ensures order { IfOk result (λ found. self.new.order ≡ order_fetched (N.view self.old.near) self.old.order found) }
+        ensures forgot { D.forgets → IfOk result (λ _. D.contents self.new.device pointer ≡ None) }
+        ensures others { KeepsOthers (D.contents self.old.device) (D.contents self.new.device) pointer }
+        ensures honest { D.honest self.new.device ≡ D.honest self.old.device }
+        ensures counted { CountsFault (has_failed result) (D.faults self.old.device) (D.faults self.new.device) }
+        ensures refused { IfErr result (λ why. RefusesFetch why (room_for (N.view self.old.near) pointer) (D.honest self.old.device)) }
+        ensures untouched { IfErr result (λ why. why ≡ refused.NoRoom → self.new.device ≡ self.old.device) }
+        ensures held { IfErr result (λ _. D.contents self.new.device ≡ D.contents self.old.device) }
+        ensures kept { IfErr result (λ _. N.view self.new.near ≡ seen (N.view self.old.near) pointer ((N.view self.new.near).cell pointer)) }
+        ensures found { IfErr result (λ _. Finds ((N.view self.old.near).cell pointer) ((N.view self.new.near).cell pointer)) }
+        ensures alive { IfErr result (λ _. is_dropped (read_of ((N.view self.new.near).cell pointer)) ≡ false) }
+        ensures exact { N.still → IfErr result (λ _. N.view self.new.near ≡ N.view self.old.near) }
+        ensures shut { IfErr result (λ _. self.new.order ≡ self.old.order) }
+    {
+        let word = self.see(pointer);
+        let Some(PtrWord::Far { len, ds, marks }) = PtrWord::read(word) else {
+            unreachable!()
+        };
+        if marks.dropped {
+            self.retire(pointer);
+            return Ok(None);
+        }
+        let size = size_of(len);
+        let Some(place) = self.ledger.room(size) else {
+            return Err(Refused::NoRoom);
+        };
+        let bytes = match self.device.read(pointer as u32) {
+            Ok(bytes) => bytes,
+            Err(DeviceFault::Memory) => return Err(Refused::Memory),
+            Err(DeviceFault::Device) => return Err(Refused::Device),
+        };
+        if bytes.len() != len as usize {
+            return Err(Refused::Damaged);
+        }
+        let Ok(()) = come_near(
+            &mut self.near,
+            pointer,
+            word,
+            len,
+            ds,
+            place,
+            bytes.as_slice(),
+        ) else {
+            self.retire(pointer);
+            return Ok(None);
+        };
+        self.ledger.take(pointer, size, place);
+        self.device.forget(pointer as u32);
+        Ok(Some(place))
+    }
+}
+
+// Writes a far object's header and bytes where it comes, and names the place by its cell, by the word that was found there. `Err` with
+// the word found last, where its owner has dropped it meanwhile.
+fn come_near<N: Near>(
+    near: &mut N,
+    pointer: u16,
+    found: u64,
+    len: u16,
+    ds: u8,
+    place: Place,
+    bytes: &[u8],
+) -> Result<(), u64>
+    requires pointer { pointer < CELLS * (N.view near.old).mutators }
+    requires found { found ≡ (N.view near.old).cell pointer }
+    requires absent { IsAbsent (read_of found) len ds }
+    requires head { IsHead record { pointer = pointer; len = len; ds = ds } }
+    requires layout { IsPtr (near_at len ds place no_marks) }
+    requires next { IsNext (N.view near.old) place }
+    requires tail { (N.view near.old).tail place.log ≡ place.at }
+    requires long { length bytes.now ≡ len }
+    requires stored { (N.view near.old).honest ≡ true → (i : ℕ) → i < words_for len → packed_word bytes.now i ≡ (N.view near.old).stored pointer i }
+    ensures padded { IsStored (packed_word bytes.now) len }
+    ensures done { IfOk result (λ _. Renamed (with_written_span (N.view near.old) pointer len ds place (packed_word bytes.now)) (N.view near.new) pointer (near_word len ds place)) }
+    ensures set { N.still → IfOk result (λ _. N.view near.new ≡ fetched (N.view near.old) pointer place (packed_word bytes.now)) }
+    ensures won { N.still → IfErr result (λ _. ⊥) }
+    ensures fits { IfErr result (λ word. word < 2 ^ 64) }
+    ensures found { IfErr result (λ word. Finds found word) }
+    ensures dropped { IfErr result (λ word. is_dropped (read_of word) ≡ true) }
+    ensures kept { IfErr result (λ word. N.view near.new ≡ seen (with_written_span (N.view near.old) pointer len ds place (packed_word bytes.now)) pointer word) }
+{
+    put_object(near, pointer, len, ds, place, bytes);
+    let marks = Marks {
+        hot: false,
+        evac: false,
+        moved: false,
+        dropped: false,
+    };
+    let word = PtrWord::Near {
+        len,
+        ds,
+        place,
+        marks,
+    };
+    rename(near, pointer, found, word.pack())
+}
+
+// Writes a header, and an object's bytes behind it.
+fn put_object<N: Near>(near: &mut N, pointer: u16, len: u16, ds: u8, place: Place, bytes: &[u8])
+    requires head { IsHead record { pointer = pointer; len = len; ds = ds } }
+    requires layout { IsPtr (near_at len ds place no_marks) }
+    requires next { IsNext (N.view near.old) place }
+    requires tail { (N.view near.old).tail place.log ≡ place.at }
+    requires long { length bytes.now ≡ len }
+    ensures { N.view near.new ≡ with_written_span (N.view near.old) pointer len ds place (packed_word bytes.now) }
+{
+    let header = HeadWord { pointer, len, ds };
+    near.put(place.log, place.at, header.pack());
+    for i in 0..words_for(len) {
+        near.put(place.log, place.at + 1 + i, packed(bytes, i as usize));
+    }
+}
+
+// The word of the eight bytes from 8i on, or of those that are left.
+fn packed(bytes: &[u8], i: usize) -> u64
+    requires { 8 * i < length bytes.now }
+    ensures { result ≡ packed_word bytes.now i }
+{
+    let rest = &bytes[8 * i..];
+    let mut word = [0];
+    pack_bytes(&rest[..rest.len().min(8)], &mut word);
+    word[0]
+}
