@@ -1,9 +1,11 @@
 -- What a call of the book that deals with an object may ask of it, and what it may answer.
-use Rattle.std.specs.Prelude.{◌≡◌, ℕ, Bool, true, false, cond, Option, Some, None, List}
+use Rattle.std.specs.Prelude.{◌≡◌, ℕ, Bool, true, false, cond, Option, Some, None, List, Result, Ok, Err}
 use Rattle.far_word.specs.declared.mark.Marks.{Marks}
 use Rattle.far_word.specs.declared.pointer.Place.{Place}
 use Rattle.far_word.specs.declared.pointer.PtrWord.{PtrWord}
 use Rattle.far_word.specs.declared.pointer.PtrWord.TheVariants.{Free, Near, Far}
+use Rattle.far_word.specs.declared.refused.Refused.{Refused}
+use Rattle.far_word.specs.declared.refused.Refused.TheVariants.{Device}
 use Rattle.far_word.specs.Pointer.{read_of}
 use Rattle.far_word.specs.Sizes.{size_of}
 use Rattle.far_core.specs.state.Room.{room}
@@ -48,3 +50,9 @@ order_moved s p order place = cond (has_evac (read_of (s.cell p))) (order_after 
 -- a state is left, as far as it is known: words may have been learned and forgotten
 abbrev pub Leaves : State → State → Type 0
 Leaves s t = (t ≡ record s { word = t.word }) × KeepsKnown s t
+
+-- a call was refused because the device failed
+abbrev pub is_failure : {A : Type 0} → Result A Refused → Bool
+is_failure (Ok x) = false
+is_failure (Err Device) = true
+is_failure (Err why) = false

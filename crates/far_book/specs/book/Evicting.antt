@@ -60,9 +60,3 @@ pub record IsSeen (s t : State) (p : ℕ) : Type 0 where
   pub alive : is_dropped (read_of word) ≡ false
   pub leads : t ≡ record (seen s p word) { word = t.word }
   pub keeps : KeepsKnown s t
-
--- a call was refused because the device failed
-abbrev pub is_failure : {A : Type 0} → Result A Refused → Bool
-is_failure (Ok x) = false
-is_failure (Err Device) = true
-is_failure (Err why) = false

@@ -67,12 +67,3 @@ RefusesFetch Memory place is_honest = IsSome place
 RefusesFetch Device place is_honest = IsSome place
 RefusesFetch Damaged place is_honest = IsSome place × (is_honest ≡ false)
 RefusesFetch why place is_honest = ⊥
-
--- the device has failed
-abbrev pub is_device : Refused → Bool
-is_device Device = true
-is_device why = false
-
-abbrev pub has_failed : {A : Type 0} → Result A Refused → Bool
-has_failed (Ok x) = false
-has_failed (Err why) = is_device why

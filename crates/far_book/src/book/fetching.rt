@@ -14,8 +14,9 @@ ghost use Rattle.far_core.specs.state.Law.{IsStored};
 ghost use Rattle.far_device.specs.Contents.{KeepsOthers};
 ghost use Rattle.far_device.specs.Faults.{CountsFault, SpendsFault};
 ghost use Rattle.far_book.specs.Finds.{Finds};
+ghost use Rattle.far_book.specs.book.Dealing.{is_failure};
 ghost use Rattle.far_book.specs.book.Effects.{fetched, near_word, with_written_span};
-ghost use Rattle.far_book.specs.book.Fetching.{IsFar, IsFetched, IsRetired, RefusesFetch, has_failed, order_fetched, room_for};
+ghost use Rattle.far_book.specs.book.Fetching.{IsFar, IsFetched, IsRetired, RefusesFetch, order_fetched, room_for};
 ghost use Rattle.far_book.specs.book.Placeable.{IsAbsent};
 ghost use Rattle.far_book.specs.book.Renaming.{Renamed, seen};
 
@@ -42,7 +43,7 @@ impl<N: Near + Drop, D: Device + Drop> Book<N, D> {
         ensures forgot { D.forgets → IfOk result (λ _. D.contents self.new.device pointer ≡ None) }
         ensures others { KeepsOthers (D.contents self.old.device) (D.contents self.new.device) pointer }
         ensures honest { D.honest self.new.device ≡ D.honest self.old.device }
-        ensures counted { CountsFault (has_failed result) (D.faults self.old.device) (D.faults self.new.device) }
+        ensures counted { CountsFault (is_failure result) (D.faults self.old.device) (D.faults self.new.device) }
         ensures refused { IfErr result (λ why. RefusesFetch why (room_for (N.view self.old.near) pointer) (D.honest self.old.device)) }
         ensures untouched { IfErr result (λ why. why ≡ refused.NoRoom → self.new.device ≡ self.old.device) }
         ensures held { IfErr result (λ _. D.contents self.new.device ≡ D.contents self.old.device) }

@@ -14,9 +14,9 @@ ghost use Rattle.far_device.specs.Contents.{KeepsOthers};
 ghost use Rattle.far_device.specs.Faults.{CountsFault};
 ghost use Rattle.far_book.specs.Finds.{Finds};
 ghost use Rattle.far_book.specs.Known.{Forgets};
-ghost use Rattle.far_book.specs.book.Dealing.{IsQuietNear, Leaves, has_evac};
+ghost use Rattle.far_book.specs.book.Dealing.{IsQuietNear, Leaves, has_evac, is_failure};
 ghost use Rattle.far_book.specs.book.Effects.{evicted, retired};
-ghost use Rattle.far_book.specs.book.Evicting.{GoesFar, IsGone, IsQuietData, IsQuietIn, IsSeen, Learns, is_failure};
+ghost use Rattle.far_book.specs.book.Evicting.{GoesFar, IsGone, IsQuietData, IsQuietIn, IsSeen, Learns};
 ghost use Rattle.far_book.specs.book.Renaming.{seen};
 
 use crate::book::Book;
