@@ -1,4 +1,5 @@
 pub mod Calls
+pub mod Copying
 pub mod Effects
 pub mod FarSide
 pub mod Founds

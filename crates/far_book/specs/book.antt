@@ -5,6 +5,7 @@ pub mod FarSide
 pub mod Home
 pub mod Laws
 pub mod Ledger
+pub mod Moving
 pub mod NumberSet
 pub mod Own
 pub mod Placeable

@@ -69,11 +69,11 @@ impl Ledger {
         self.filled[log as usize]
     }
 
-    /// Where a new object goes whose span takes so many words.
-    pub(crate) fn room(&self, size: u16) -> Option<Place>
+    /// Where a span goes that takes so many words; a new object keeps the reserve.
+    pub(crate) fn room(&self, size: u16, reserve: bool) -> Option<Place>
         requires size { size ≤ LOG_WORDS }
         requires known { (s : State) × Notes s self.now }
-        ensures { (s : State) → Notes s self.now → result ≡ room s size true }
+        ensures { (s : State) → Notes s self.now → result ≡ room s size reserve }
     {
         let tail = self.filled_of(self.current).tail;
         if tail + size <= LOG_WORDS {
@@ -82,7 +82,12 @@ impl Ledger {
                 at: tail,
             });
         }
-        match self.free_logs.lowest_of_two() {
+        let lowest = if reserve {
+            self.free_logs.lowest_of_two()
+        } else {
+            self.free_logs.lowest()
+        };
+        match lowest {
             Some(log) => Some(Place { log, at: 0 }),
             None => None,
         }
