@@ -56,12 +56,12 @@ rows_more s xs i row lt e = ap (λ r. map (row_of s) (take i xs) ++ r ∷ []) e 
 
 -- ---- placing
 module _ (s : State) (ledger : Ledger) (notes : Notes (own_part s) ledger) (p len ds : ℕ) (place : Place)
-    (pointer : p < CELLS * s.mutators) (free : s.cell p ≡ 0) (some : 0 < len) (most : len ≤ LONGEST) (structure : ds < 256) (found : room s (size_of len) true ≡ Some place) where
+    (pointer : p < CELLS * s.mutators) (free : s.cell p ≡ 0) (some : 0 < len) (most : len ≤ LONGEST) (structure : ds < 256) {reserve : Bool} (found : room s (size_of len) reserve ≡ Some place) where
   short : size_of len ≤ LOG_WORDS
   short = omega arith
 
-  is_room : IsRoom (own_part s) (size_of len) true place
-  is_room = subst (RoomIs (own_part s) (size_of len) true) found (room_right (own_part s) notes.law (size_of len) true short)
+  is_room : IsRoom (own_part s) (size_of len) reserve place
+  is_room = subst (RoomIs (own_part s) (size_of len) reserve) found (room_right (own_part s) notes.law (size_of len) reserve short)
 
   pub placeable : Placeable (own_part s) p len ds place
   placeable = record {
