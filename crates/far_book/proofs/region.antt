@@ -6,6 +6,7 @@ pub mod Founds
 pub mod InOrders
 pub mod Leaving
 pub mod Marked
+pub mod Moved
 pub mod NotesKept
 pub mod Notings
 pub mod NumberSets

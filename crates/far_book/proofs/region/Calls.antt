@@ -56,7 +56,7 @@ rows_more s xs i row lt e = ap (λ r. map (row_of s) (take i xs) ++ r ∷ []) e 
 
 -- ---- placing
 module _ (s : State) (ledger : Ledger) (notes : Notes (own_part s) ledger) (p len ds : ℕ) (place : Place)
-    (pointer : p < CELLS * s.mutators) (free : s.cell p ≡ 0) (some : 0 < len) (most : len ≤ LONGEST) (structure : ds < 256) {reserve : Bool} (found : room s (size_of len) reserve ≡ Some place) where
+    (pointer : p < CELLS * s.mutators) (free : s.cell p ≡ 0) (some : 0 < len) (most : len ≤ LONGEST) (structure : ds < 256) (reserve : Bool) (found : room s (size_of len) reserve ≡ Some place) where
   short : size_of len ≤ LOG_WORDS
   short = omega arith
 

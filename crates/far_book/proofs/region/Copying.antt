@@ -103,6 +103,21 @@ module _ (s : State) (p len ds : ℕ) (from to : Place) (h : MayCopy s p len ds 
   abbrev headed : ℕ → ℕ
   headed = put s.word (addr to) (head_word p len ds)
 
+  -- outside the new span the words that are written are the old ones
+  pub outside : (a : ℕ) → (addr to ≤ a → a < addr to + size_of len → ⊥) → with_row headed (addr to + 1) (words_for len) (data_at s.word from) a ≡ s.word a
+  outside a out = row_other headed (addr to + 1) (words_for len) (data_at s.word from) a (λ low high. out (omega arith) (omega arith))
+      ∙ put_other s.word (addr to) (head_word p len ds) a (λ e. out (omega arith) (omega arith))
+
+  pub first : with_row headed (addr to + 1) (words_for len) (data_at s.word from) (addr to) ≡ head_word p len ds
+  first = row_other headed (addr to + 1) (words_for len) (data_at s.word from) (addr to) (λ low high. omega arith) ∙ put_same s.word (addr to) (head_word p len ds) (addr to) refl
+
+  -- the new span lies past the tail of its log
+  pub below_outside : (a : ℕ) → a % LOG_WORDS < s.tail (a / LOG_WORDS) → addr to ≤ a → a < addr to + size_of len → ⊥
+  below_outside a inside low high =
+      let log : a / LOG_WORDS ≡ to.log = omega (arith, h.fits) in
+      let tails : s.tail (a / LOG_WORDS) ≡ s.tail to.log = ap s.tail log in
+      omega (arith, at_end, h.fits)
+
   -- what is asked of the hand
   pub put_legal : (t : State) → t ≡ record s { word = t.word } → (at w : ℕ) → to.at ≤ at → at < LOG_WORDS → Legal t (events.Put to.log at w)
   put_legal t is at w low high =
@@ -210,16 +225,8 @@ module _ (s : State) (p len ds : ℕ) (from to : Place) (h : MayCopy s p len ds 
     padded = c.padded (words_for len - 1) (omega (arith, layout));
     keeps = record { known = known; headers = headers };
   } where
-    -- outside the new span the words are the old ones
-    outside : (a : ℕ) → (addr to ≤ a → a < addr to + size_of len → ⊥) → with_row headed (addr to + 1) (words_for len) (data_at s.word from) a ≡ s.word a
-    outside a out = row_other headed (addr to + 1) (words_for len) (data_at s.word from) a (λ low high. out (omega arith) (omega arith))
-        ∙ put_other s.word (addr to) (head_word p len ds) a (λ e. out (omega arith) (omega arith))
-
     inside : (a i : ℕ) → i < words_for len → a ≡ addr to + 1 + i → with_row headed (addr to + 1) (words_for len) (data_at s.word from) a ≡ data_at s.word from i
     inside a i lt e = row_in headed (addr to + 1) (words_for len) (data_at s.word from) a (omega arith) (omega arith) ∙ (let same : a - (addr to + 1) ≡ i = omega arith in ap (data_at s.word from) same)
-
-    first : with_row headed (addr to + 1) (words_for len) (data_at s.word from) (addr to) ≡ head_word p len ds
-    first = row_other headed (addr to + 1) (words_for len) (data_at s.word from) (addr to) (λ low high. omega arith) ∙ put_same s.word (addr to) (head_word p len ds) (addr to) refl
 
     known_in : (a i : ℕ) → i < words_for len → a ≡ addr to + 1 + i → IsKnown (with_row headed (addr to + 1) (words_for len) (data_at s.word from) a) →
         t.word a ≡ with_row headed (addr to + 1) (words_for len) (data_at s.word from) a

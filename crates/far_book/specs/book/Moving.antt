@@ -29,6 +29,14 @@ pub record MayCopy (s : State) (p len ds : ℕ) (from to : Place) : Type 0 where
   pub next : IsNext s to
   pub fits : to.at + size_of len ≤ LOG_WORDS
 
+-- a near object that has MOVE, and that the book doesn't want elsewhere, may stay where it lies
+pub record MayStay (s : State) (p len ds : ℕ) (place : Place) : Type 0 where
+  pub pointer : p < CELLS * s.mutators
+  pub marks : Marks
+  pub near : read_of (s.cell p) ≡ Some (Near len ds place marks)
+  pub moved : marks.moved ≡ true
+  pub unwanted : marks.evac ≡ false
+
 -- from s to t a header and the object's data words were written at the place; nothing else but words that were learned is another
 pub record Copied (s t : State) (p len ds : ℕ) (from to : Place) : Type 0 where
   pub is : t ≡ record s { word = t.word }

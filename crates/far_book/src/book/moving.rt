@@ -4,21 +4,22 @@ ghost use Rattle.std.specs.Prelude.{◌≡◌, ◌*◌, ◌<◌, ℕ, true, fals
 ghost use Rattle.far_word.specs.declared.pointer.PtrWord.TheVariants.{Near as near_at};
 ghost use Rattle.far_word.specs.declared.refused.Refused.TheVariants.{NoRoom};
 ghost use Rattle.far_word.specs.declared.sizes.TheConstants.{CELLS};
-ghost use Rattle.far_word.specs.Pointer.{read_of};
+ghost use Rattle.far_word.specs.Pointer.{IsPtr, read_of};
 ghost use Rattle.far_core.specs.events.Copies.{data_at};
-ghost use Rattle.far_core.specs.events.Naming.{is_dropped};
+ghost use Rattle.far_core.specs.events.Naming.{is_dropped, no_marks};
 ghost use Rattle.far_core.specs.state.State.{State};
 ghost use Rattle.far_device.specs.Contents.{KeepsOthers};
 ghost use Rattle.far_book.specs.Finds.{Finds};
 ghost use Rattle.far_book.specs.book.Dealing.{IsQuietNear, goal, has_evac, Leaves, moved_now, order_moved};
-ghost use Rattle.far_book.specs.book.Effects.{moved, order_after, retired, stayed, with_free_cell, with_written_span};
-ghost use Rattle.far_book.specs.book.Moving.{Copied, FindsDrop, LeavesSpans, MayCopy};
+ghost use Rattle.far_book.specs.book.Effects.{moved, near_word, order_after, retired, stayed, with_free_cell, with_written_span};
+ghost use Rattle.far_book.specs.book.Moving.{Copied, FindsDrop, LeavesSpans, MayCopy, MayStay};
 ghost use Rattle.far_book.specs.book.Renaming.{seen};
 
 use crate::book::Book;
+use crate::book::renaming::rename;
 use crate::near::Near;
 use far_device::Device;
-use far_word::{HeadWord, Place, words_for};
+use far_word::{HeadWord, Marks, Place, PtrWord, words_for};
 
 // Copies an object, header and data words, to a place where the next span of a log may stand.
 fn copy_object<N: Near>(near: &mut N, pointer: u16, len: u16, ds: u8, from: Place, to: Place)
@@ -32,4 +33,60 @@ fn copy_object<N: Near>(near: &mut N, pointer: u16, len: u16, ds: u8, from: Plac
         let word = near.get(from.log, from.at + 1 + i, false);
         near.put(to.log, to.at + 1 + i, word);
     }
+}
+
+// Copies an object to a place, which its cell names from then on. `false` where its owner has dropped it meanwhile, as its
+// cell says then.
+fn move_object<N: Near>(near: &mut N, pointer: u16, found: u64, len: u16, ds: u8, from: Place, to: Place) -> bool
+    requires may { MayCopy (N.view near.old) pointer len ds from to }
+    requires found { found ≡ (N.view near.old).cell pointer }
+    requires wanted { has_evac (read_of found) ≡ true }
+    requires alive { is_dropped (read_of found) ≡ false }
+    ensures moved { result ≡ true → Leaves (moved (N.view near.old) pointer to) (N.view near.new) }
+    ensures dropped { result ≡ false → FindsDrop (N.view near.old) (N.view near.new) pointer }
+    ensures won { N.still → result ≡ true }
+    ensures exact { N.still → N.view near.new ≡ moved (N.view near.old) pointer to }
+{
+    copy_object(near, pointer, len, ds, from, to);
+    match rename(near, pointer, found, near_word(len, ds, to)) {
+        Ok(()) => true,
+        Err(_) => false,
+    }
+}
+
+// Takes the marks of an object that stays where it lies. `false` where its owner has dropped it meanwhile, as its cell says
+// then.
+fn unmark_object<N: Near>(near: &mut N, pointer: u16, found: u64, len: u16, ds: u8, place: Place) -> bool
+    requires may { MayStay (N.view near.old) pointer len ds place }
+    requires found { found ≡ (N.view near.old).cell pointer }
+    requires alive { is_dropped (read_of found) ≡ false }
+    ensures stayed { result ≡ true → Leaves (stayed (N.view near.old) pointer) (N.view near.new) }
+    ensures dropped { result ≡ false → FindsDrop (N.view near.old) (N.view near.new) pointer }
+    ensures won { N.still → result ≡ true }
+    ensures exact { N.still → N.view near.new ≡ stayed (N.view near.old) pointer }
+{
+    match rename(near, pointer, found, near_word(len, ds, place)) {
+        Ok(()) => true,
+        Err(_) => false,
+    }
+}
+
+// The cell of an object that lies near, without marks.
+fn near_word(len: u16, ds: u8, place: Place) -> u64
+    requires { IsPtr (near_at len ds place no_marks) }
+    ensures { result ≡ near_word len ds place }
+{
+    let marks = Marks {
+        hot: false,
+        evac: false,
+        moved: false,
+        dropped: false,
+    };
+    let word = PtrWord::Near {
+        len,
+        ds,
+        place,
+        marks,
+    };
+    word.pack()
 }
