@@ -1,4 +1,5 @@
 pub mod Calls
+pub mod Carrying
 pub mod Copying
 pub mod Effects
 pub mod FarSide

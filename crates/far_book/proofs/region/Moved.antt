@@ -21,6 +21,7 @@ use Rattle.far_core.specs.events.Naming.{IsNaming, is_dropped, is_stay, no_marks
 use Rattle.far_core.specs.events.NewSpans.{with_span}
 use Rattle.far_core.specs.events.Quiet.{IsQuiet, is_quiet_cell}
 use Rattle.far_core.specs.events.Step.{after}
+use Rattle.far_core.specs.state.Room.{room}
 use Rattle.far_core.specs.state.State.{State, put, addr}
 use Rattle.far_core.proofs.Namings.{naming_only}
 use Rattle.far_core.proofs.Put.{put_same, put_both}
@@ -28,7 +29,7 @@ use Rattle.far_core.proofs.Quieting.{quiet_fact}
 use Rattle.far_book.specs.Finds.{Finds, marks_in}
 use Rattle.far_book.specs.Known.{IsKnown, Forgets, KeepsKnown, KnowsLeaving}
 use Rattle.far_book.specs.Quiet.{is_quiet}
-use Rattle.far_book.specs.book.Dealing.{Leaves, has_evac}
+use Rattle.far_book.specs.book.Dealing.{IsQuietNear, Leaves, goal, goal_of, has_evac}
 use Rattle.far_book.specs.book.Effects.{moved, moved_of, near_word, stayed, stayed_of, with_written_span}
 use Rattle.far_book.specs.book.Moving.{MayCopy, MayStay, Copied, LeavesSpans, FindsDrop}
 use Rattle.far_book.specs.book.Own.{own_part}
@@ -74,20 +75,43 @@ quiet_grows true k e r c grows h = rw (grows refl) refl
 quiet_grows false true e r c grows h = refl
 quiet_grows false false e r c grows h = h
 
-drop_of : (o : Option PtrWord) (len ds : ℕ) (place : Place) (m : Marks) → o ≡ Some (Near len ds place m) → is_dropped o ≡ false → m.dropped ≡ false
+pub drop_of : (o : Option PtrWord) (len ds : ℕ) (place : Place) (m : Marks) → o ≡ Some (Near len ds place m) → is_dropped o ≡ false → m.dropped ≡ false
 drop_of o len ds place m e alive = sym (ap is_dropped e) ∙ alive
 
-evac_of : (o : Option PtrWord) (len ds : ℕ) (place : Place) (m : Marks) → o ≡ Some (Near len ds place m) → has_evac o ≡ true → m.evac ≡ true
-evac_of o len ds place m e wanted = sym (ap has_evac e) ∙ wanted
+pub evac_of : (o : Option PtrWord) (b : Bool) (len ds : ℕ) (place : Place) (m : Marks) → o ≡ Some (Near len ds place m) → has_evac o ≡ b → m.evac ≡ b
+evac_of o b len ds place m e is = sym (ap has_evac e) ∙ is
+
+-- ---- what is asked of a quiet near object
+module _ (s : State) (p : ℕ) (q : IsQuietNear s p) (len ds : ℕ) (place : Place) (m : Marks) (near : read_of (s.cell p) ≡ Some (Near len ds place m)) where
+  pub quiet_here : is_quiet s.round s.clear p place m ≡ true
+  quiet_here =
+      let both : Some (Near q.len q.ds q.place q.marks) ≡ Some (Near len ds place m) = sym q.near ∙ near in
+      let places : q.place ≡ place = cc in
+      let marks : q.marks ≡ m = cc in
+      subst (λ k. is_quiet s.round s.clear p place k ≡ true) marks (subst (λ at. is_quiet s.round s.clear p at q.marks ≡ true) places q.quiet)
+
+  pub may_stay : p < CELLS * s.mutators → m.evac ≡ false → MayStay s p len ds place
+  may_stay pointer unwanted = record { pointer = pointer; marks = m; near = near; moved = moved_by m.moved m.evac (s.round place.log) (s.clear (p / CELLS)) unwanted quiet_here; unwanted = unwanted } where
+    moved_by : (a e r c : Bool) → e ≡ false → (a || (e && r && c)) ≡ true → a ≡ true
+    moved_by true e r c none h = refl
+    moved_by false true r c none h = absurd (false≢true (sym none))
+    moved_by false false r c none h = absurd (false≢true h)
+
+  pub goal_there : m.evac ≡ true → goal s p ≡ room s (size_of len) false
+  goal_there wanted = ap (goal_of s) near ∙ ap (λ b. cond b (room s (size_of len) false) (Some place)) wanted
+
+  pub goal_here : m.evac ≡ false → goal s p ≡ Some place
+  goal_here unwanted = ap (goal_of s) near ∙ ap (λ b. cond b (room s (size_of len) false) (Some place)) unwanted
 
 -- ---- a word with DROP was found, and nothing was written but words past the tails
 pub drop_found : (s t u : State) (p w : ℕ) → t ≡ record s { word = t.word } → ((a : ℕ) → a % LOG_WORDS < s.tail (a / LOG_WORDS) → IsKnown (s.word a) → IsKnown (t.word a) → t.word a ≡ s.word a) →
-    ((a : ℕ) → s.starts a ≡ true → t.word a ≡ s.word a) → Finds (t.cell p) w → is_dropped (read_of w) ≡ true → u ≡ seen t p w → FindsDrop s u p
-drop_found s t u p w is known headers finds dropped seen_is =
+    ((a : ℕ) → s.starts a ≡ true → t.word a ≡ s.word a) → w < 2 ^ 64 → Finds (t.cell p) w → is_dropped (read_of w) ≡ true → u ≡ seen t p w → FindsDrop s u p
+drop_found s t u p w is known headers fits finds dropped seen_is =
     let cell : u.cell p ≡ w = ap (λ (x : State). x.cell p) seen_is ∙ put_same t.cell p w p refl in
     let word : u.word ≡ t.word = ap (λ (x : State). x.word) seen_is in
     let old : t.cell p ≡ s.cell p = ap (λ (x : State). x.cell p) is in
     record {
+      fits = subst (λ v. v < 2 ^ 64) (sym cell) fits;
       found = subst (λ v. Finds v (u.cell p)) old (subst (Finds (t.cell p)) (sym cell) finds);
       dropped = ap (λ v. is_dropped (read_of v)) cell ∙ dropped;
       leaves = record {
@@ -106,7 +130,7 @@ module _ (s t : State) (p len ds : ℕ) (from to : Place) (h : MayCopy s p len d
   new = near_word len ds to
 
   evac : h.marks.evac ≡ true
-  evac = evac_of (read_of (s.cell p)) len ds from h.marks h.near wanted
+  evac = evac_of (read_of (s.cell p)) true len ds from h.marks h.near wanted
 
   cell_same : t.cell ≡ s.cell
   cell_same = ap (λ (x : State). x.cell) c.is
@@ -167,15 +191,12 @@ module _ (s t : State) (p len ds : ℕ) (from to : Place) (h : MayCopy s p len d
         (λ e _. ap t.word e ∙ c.header ∙ sym (first s p len ds from to h) ∙ ap written.word (sym e))
         (λ _ old. c.keeps.headers a (ap (λ (y : State). y.starts a) c.is ∙ old)) (sym starts ∙ begun) ∙ sym same
 
-  pub moved_dropped : (u : State) (w : ℕ) → Finds (t.cell p) w → is_dropped (read_of w) ≡ true → u ≡ seen t p w → FindsDrop s u p
-  moved_dropped u w finds dropped is = drop_found s t u p w c.is
+  pub moved_dropped : (u : State) (w : ℕ) → w < 2 ^ 64 → Finds (t.cell p) w → is_dropped (read_of w) ≡ true → u ≡ seen t p w → FindsDrop s u p
+  moved_dropped u w fits finds dropped is = drop_found s t u p w c.is
       (λ a inside k now. let out = below_outside s p len ds from to h a inside in
       let same = outside s p len ds from to h a out in c.keeps.known a (subst IsKnown (sym same) k) now ∙ same)
       (λ a begun. c.keeps.headers a (ap (λ (y : State). y.starts a) c.is ∙ begun) ∙ outside s p len ds from to h a (start_outside s p len ds from to h a begun))
-      finds dropped is
-
-  pub moved_exactly : (u : State) (found : ℕ) → found ≡ s.cell p → t ≡ written → u ≡ after t (events.Name p found new) → u ≡ moved s p to
-  moved_exactly u found is same now = now ∙ ap (λ (y : State). after y (events.Name p found new)) same ∙ ap (λ w. after written (events.Name p w new)) is ∙ sym (ap (moved_of s p to) h.near)
+      fits finds dropped is
 
 -- ---- an object that stays
 module _ (s : State) (p len ds : ℕ) (place : Place) (h : MayStay s p len ds place) (fits : s.cell p < 2 ^ 64) (alive : is_dropped (read_of (s.cell p)) ≡ false) where
@@ -195,7 +216,7 @@ module _ (s : State) (p len ds : ℕ) (place : Place) (h : MayStay s p len ds pl
       let x = found_stays w f kept in
       ((h.pointer, (Stays, (len, ds, place, x.0, x.1, x.2, x.3, x.4, read_back (Near len ds place no_marks) layout_here), tt)), λ n there y i lt. absurd (not_to_near w len ds n place there layout_here y))
 
-  is_stayed : stayed s p ≡ record s { cell = put s.cell p bare }
+  pub is_stayed : stayed s p ≡ record s { cell = put s.cell p bare }
   is_stayed = stayed_is s p len ds place h.marks h.near (drop_of (read_of (s.cell p)) len ds place h.marks h.near alive) h.moved h.unwanted layout_here
 
   pub stayed_leaves : (u : State) → Renamed s u p bare → Leaves (stayed s p) u
@@ -205,9 +226,3 @@ module _ (s : State) (p len ds : ℕ) (place : Place) (h : MayStay s p len ds pl
         ∙ ap (λ (y : State). record y { word = u.word }) (named_stays (seen s p r.word) p r.word len ds place x.0 (put_same s.cell p r.word p refl) x.1 x.2 layout_here x.3 x.4)
         ∙ (λ i. record s { cell = put_put s.cell p r.word bare i; word = u.word })
         ∙ ap (λ (y : State). record y { word = u.word }) (sym is_stayed)
-
-  pub stayed_dropped : (u : State) (w : ℕ) → Finds (s.cell p) w → is_dropped (read_of w) ≡ true → u ≡ seen s p w → FindsDrop s u p
-  stayed_dropped u w finds dropped is = drop_found s s u p w refl (λ a inside k now. refl) (λ a begun. refl) finds dropped is
-
-  pub stayed_exactly : (u : State) (found : ℕ) → found ≡ s.cell p → u ≡ after s (events.Name p found bare) → u ≡ stayed s p
-  stayed_exactly u found is now = now ∙ ap (λ w. after s (events.Name p w bare)) is ∙ sym (ap (stayed_of s p) h.near)

@@ -15,6 +15,7 @@ use Rattle.far_log.proofs.Members.{here, there}
 use Rattle.far_log.proofs.SpanLaws.{tile_low}
 use Rattle.far_word.specs.Pointer.{read_of}
 use Rattle.far_core.specs.events.Naming.{is_dropped}
+use Rattle.far_core.specs.events.NewSpans.{with_span}
 use Rattle.far_core.specs.events.Ranges.{with_row}
 use Rattle.far_core.specs.laws.Observed.{live_bytes, dead_bytes}
 use Rattle.far_core.specs.state.Law.{Law, head_len}
@@ -24,7 +25,7 @@ use Rattle.far_core.proofs.KeepOwner.{closed_word}
 use Rattle.far_core.proofs.Observations.{found, walks}
 use Rattle.far_core.proofs.Put.{put_same, put_other}
 use Rattle.far_book.specs.Known.{Forgets}
-use Rattle.far_book.specs.book.Effects.{placed, retired, with_blank_span, with_free_cell}
+use Rattle.far_book.specs.book.Effects.{near_word, placed, retired, with_blank_span, with_free_cell, with_written_span}
 use Rattle.far_book.specs.book.Own.{own_part}
 use Rattle.far_book.specs.book.Placeable.{Placeable, with_object}
 use Rattle.far_book.proofs.region.Places.{named_is, none_past}
@@ -121,14 +122,14 @@ own_forgets s t is h = own_headers s t is (λ a begun. h.headers a (ap (λ (u : 
 
 -- a new object
 module _ (s : State) (law : Law (own_part s)) (p len ds : ℕ) (place : Place) (h : Placeable (own_part s) p len ds place) where
-  own_word : (a : ℕ) → cond (put s.starts (addr place) true a) (with_row (put s.word (addr place) (head_word p len ds)) (addr place + 1) (words_for len) (λ _. 0) a) 0
+  own_word : (row : ℕ → ℕ) (a : ℕ) → cond (put s.starts (addr place) true a) (with_row (put s.word (addr place) (head_word p len ds)) (addr place + 1) (words_for len) row a) 0
       ≡ put (own_part s).word (addr place) (head_word p len ds) a
-  own_word a = elim (cases_eq a (addr place)) [
+  own_word row a = elim (cases_eq a (addr place)) [
     | inl e ↦ rw (put_same s.starts (addr place) true a e, put_same (own_part s).word (addr place) (head_word p len ds) a e)
-        (row_other (put s.word (addr place) (head_word p len ds)) (addr place + 1) (words_for len) (λ _. 0) a (λ low high. omega arith) ∙ put_same s.word (addr place) (head_word p len ds) a e)
+        (row_other (put s.word (addr place) (head_word p len ds)) (addr place + 1) (words_for len) row a (λ low high. omega arith) ∙ put_same s.word (addr place) (head_word p len ds) a e)
     | inr ne ↦ rw (put_other s.starts (addr place) true a ne, put_other (own_part s).word (addr place) (head_word p len ds) a ne)
-        (cond_both (s.starts a) (with_row (put s.word (addr place) (head_word p len ds)) (addr place + 1) (words_for len) (λ _. 0) a) 0 (λ w. w ≡ cond (s.starts a) (s.word a) 0)
-        (λ begun. row_other (put s.word (addr place) (head_word p len ds)) (addr place + 1) (words_for len) (λ _. 0) a (λ low high. inside a begun low high)
+        (cond_both (s.starts a) (with_row (put s.word (addr place) (head_word p len ds)) (addr place + 1) (words_for len) row a) 0 (λ w. w ≡ cond (s.starts a) (s.word a) 0)
+        (λ begun. row_other (put s.word (addr place) (head_word p len ds)) (addr place + 1) (words_for len) row a (λ low high. inside a begun low high)
         ∙ put_other s.word (addr place) (head_word p len ds) a ne ∙ sym (ap (λ b. cond b (s.word a) 0) begun))
         (λ not_begun. sym (ap (λ b. cond b (s.word a) 0) not_begun)))
   ] where
@@ -137,8 +138,12 @@ module _ (s : State) (law : Law (own_part s)) (p len ds : ℕ) (place : Place) (
         let at : addr place + (b - addr place) ≡ b = omega arith in
         false≢true (sym (none_past (own_part s) law p len ds place h (b - addr place) (omega (arith, h.layout))) ∙ ap s.starts at ∙ begun)
 
+  -- whatever data words are written, its header alone is the book's
+  pub own_written : (row : ℕ → ℕ) → own_part (with_span (with_written_span s p len ds place row) p (near_word len ds place) len place) ≡ with_object (own_part s) p len ds place
+  own_written row = λ i. record (with_object (own_part s) p len ds place) { word = fun_ext (own_word row) i }
+
   pub own_placed : own_part (placed s p len ds place) ≡ with_object (own_part s) p len ds place
-  own_placed = ap own_part (named_is (with_blank_span s p len ds place) p len ds place h.free h.layout) ∙ (λ i. record (with_object (own_part s) p len ds place) { word = fun_ext own_word i })
+  own_placed = ap own_part (named_is (with_blank_span s p len ds place) p len ds place h.free h.layout) ∙ own_written (λ _. 0)
 
 -- a retired object
 pub own_retired : (s t : State) (p : ℕ) → is_dropped (read_of (s.cell p)) ≡ true → t ≡ record (retired s p) { word = t.word } → Forgets s t → own_part t ≡ with_free_cell (own_part s) p

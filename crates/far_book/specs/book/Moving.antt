@@ -1,5 +1,5 @@
 -- How a near object is copied to another place while owners are at work, and what is left where a DROP is found at last.
-use Rattle.std.specs.Prelude.{◌≡◌, ◌+◌, ◌*◌, ◌/◌, ◌%◌, ◌<◌, ◌≤◌, ℕ, Bool, true, false, Some}
+use Rattle.std.specs.Prelude.{◌≡◌, ◌+◌, ◌*◌, ◌/◌, ◌%◌, ◌^◌, ◌<◌, ◌≤◌, ℕ, Bool, true, false, Some}
 use Rattle.far_word.specs.declared.mark.Marks.{Marks}
 use Rattle.far_word.specs.declared.pointer.Place.{Place}
 use Rattle.far_word.specs.declared.pointer.PtrWord.TheVariants.{Near}
@@ -53,6 +53,7 @@ pub record LeavesSpans (s t : State) : Type 0 where
 
 -- from s to t a word was found in p's cell that has DROP
 pub record FindsDrop (s t : State) (p : ℕ) : Type 0 where
+  pub fits : t.cell p < 2 ^ 64
   pub found : Finds (s.cell p) (t.cell p)
   pub dropped : is_dropped (read_of (t.cell p)) ≡ true
   pub leaves : LeavesSpans (seen s p (t.cell p)) t

@@ -1,6 +1,6 @@
 //! How a near object that is to move does: to another place, where the book wants its log, or nowhere.
 
-ghost use Rattle.std.specs.Prelude.{◌≡◌, ◌*◌, ◌<◌, ℕ, true, false, Some, None, IfOk, IfErr, MatchOption};
+ghost use Rattle.std.specs.Prelude.{◌≡◌, ◌*◌, ◌<◌, ℕ, true, false, Some, None, IfOk, IfErr, IfSome, IfNone, MatchOption};
 ghost use Rattle.far_word.specs.declared.pointer.PtrWord.TheVariants.{Near as near_at};
 ghost use Rattle.far_word.specs.declared.refused.Refused.TheVariants.{NoRoom};
 ghost use Rattle.far_word.specs.declared.sizes.TheConstants.{CELLS};
@@ -19,7 +19,71 @@ use crate::book::Book;
 use crate::book::renaming::rename;
 use crate::near::Near;
 use far_device::Device;
-use far_word::{HeadWord, Marks, Place, PtrWord, words_for};
+use far_word::{HeadWord, Marks, Place, PtrWord, Refused, size_of, words_for};
+
+impl<N: Near + Drop, D: Device + Drop> Book<N, D> {
+    // Moves an object to a place where room is, the last free log too. `None` where its owner has dropped it meanwhile, as its cell
+    // says then. Refused [`Refused::NoRoom`] alone.
+    fn carry(&mut self, pointer: u16, found: u64) -> Result<Option<Place>, Refused>
+        requires pointer { pointer < CELLS * (N.view self.old.near).mutators }
+        requires found { found ≡ (N.view self.old.near).cell pointer }
+        requires quiet { IsQuietNear (N.view self.old.near) pointer }
+        requires wanted { has_evac (read_of found) ≡ true }
+        requires alive { is_dropped (read_of found) ≡ false }
+        ensures place { IfOk result (λ o. IfSome o (λ place. goal (N.view self.old.near) pointer ≡ Some place)) }
+        ensures moved { IfOk result (λ o. IfSome o (λ place. Leaves (moved (N.view self.old.near) pointer place) (N.view self.new.near))) }
+        ensures order { IfOk result (λ o. MatchOption o (self.new.order ≡ self.old.order) (λ place. self.new.order ≡ order_after (N.view self.old.near) self.old.order place)) }
+        ensures dropped { IfOk result (λ o. IfNone o (FindsDrop (N.view self.old.near) (N.view self.new.near) pointer)) }
+        ensures exact { N.still → IfOk result (λ o. MatchOption o ⊥ (λ place. N.view self.new.near ≡ moved (N.view self.old.near) pointer place)) }
+        ensures device { self.new.device ≡ self.old.device }
+        ensures refused { IfErr result (λ why. why ≡ NoRoom) }
+        ensures none { IfErr result (λ _. goal (N.view self.old.near) pointer ≡ None) }
+        ensures unchanged { IfErr result (λ _. self.new ≡ self.old) }
+    {
+        let Some(was) = PtrWord::read(found) else {
+            unreachable!()
+        };
+        let PtrWord::Near { len, ds, place, .. } = was else {
+            unreachable!()
+        };
+        let size = size_of(len);
+        let Some(to) = self.ledger.room(size, false) else {
+            return Err(Refused::NoRoom);
+        };
+        if !move_object(&mut self.near, pointer, found, len, ds, place, to) {
+            return Ok(None);
+        }
+        // The old span dies as that of an object that is retired, and the new one is taken as that of a new object.
+        self.ledger.retire(pointer, was);
+        self.ledger.take(pointer, size, to);
+        Ok(Some(to))
+    }
+
+    // Takes the marks of an object, which stays where it lies. `None` where its owner has dropped it meanwhile, as its cell says
+    // then.
+    fn stay(&mut self, pointer: u16, found: u64) -> Option<Place>
+        requires pointer { pointer < CELLS * (N.view self.old.near).mutators }
+        requires found { found ≡ (N.view self.old.near).cell pointer }
+        requires quiet { IsQuietNear (N.view self.old.near) pointer }
+        requires unwanted { has_evac (read_of found) ≡ false }
+        requires alive { is_dropped (read_of found) ≡ false }
+        ensures place { IfSome result (λ place. goal (N.view self.old.near) pointer ≡ Some place) }
+        ensures stayed { IfSome result (λ _. Leaves (stayed (N.view self.old.near) pointer) (N.view self.new.near)) }
+        ensures dropped { IfNone result (FindsDrop (N.view self.old.near) (N.view self.new.near) pointer) }
+        ensures exact { N.still → MatchOption result ⊥ (λ _. N.view self.new.near ≡ stayed (N.view self.old.near) pointer) }
+        ensures order { self.new.order ≡ self.old.order }
+        ensures device { self.new.device ≡ self.old.device }
+    {
+        let Some(PtrWord::Near { len, ds, place, .. }) = PtrWord::read(found) else {
+            unreachable!()
+        };
+        if unmark_object(&mut self.near, pointer, found, len, ds, place) {
+            Some(place)
+        } else {
+            None
+        }
+    }
+}
 
 // Copies an object, header and data words, to a place where the next span of a log may stand.
 fn copy_object<N: Near>(near: &mut N, pointer: u16, len: u16, ds: u8, from: Place, to: Place)

@@ -24,6 +24,7 @@ pub(crate) fn rename<N: Near>(near: &mut N, pointer: u16, found: u64, new: u64) 
     ensures set { N.still → IfOk result (λ _. N.view near.new ≡ after (N.view near.old) (Event.Name pointer found new)) }
     ensures won { N.still → IfErr result (λ _. ⊥) }
     ensures found { IfErr result (λ word. Finds found word) }
+    ensures fits { IfErr result (λ word. word < 2 ^ 64) }
     ensures dropped { IfErr result (λ word. is_dropped (read_of word) ≡ true) }
     ensures kept { IfErr result (λ word. N.view near.new ≡ seen (N.view near.old) pointer word) }
 {

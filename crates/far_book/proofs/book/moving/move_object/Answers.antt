@@ -37,5 +37,5 @@ returns-in-Err-clause-dropped g c _ =
     let wanted : has_evac (read_of (s.cell c.args.pointer)) ≡ true = ap (λ w. has_evac (read_of w)) (sym c.requires.found) ∙ c.requires.wanted in
     let alive : is_dropped (read_of (s.cell c.args.pointer)) ≡ false = ap (λ w. is_dropped (read_of w)) (sym c.requires.found) ∙ c.requires.alive in
     let old : t.cell c.args.pointer ≡ s.cell c.args.pointer = ap (λ (x : State). x.cell c.args.pointer) c.copy_object.ensures.copied.is in
-    moved_dropped s t c.args.pointer c.args.len c.args.ds c.args.from c.args.to c.requires.may c.copy_object.ensures.copied wanted alive u c.in-Err.field-0
+    moved_dropped s t c.args.pointer c.args.len c.args.ds c.args.from c.args.to c.requires.may c.copy_object.ensures.copied wanted alive u c.in-Err.field-0 c.in-Err.ensures.fits
     (subst (λ v. Finds v c.in-Err.field-0) (c.requires.found ∙ sym old) c.in-Err.ensures.found) c.in-Err.ensures.dropped c.in-Err.ensures.kept
