@@ -17,6 +17,7 @@ pub mod Places
 pub mod Reaching
 pub mod Readings
 pub mod Retires
+pub mod Settled
 pub mod SpanLists
 pub mod Starts
 pub mod Written

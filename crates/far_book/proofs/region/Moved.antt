@@ -90,12 +90,16 @@ module _ (s : State) (p : ℕ) (q : IsQuietNear s p) (len ds : ℕ) (place : Pla
       let marks : q.marks ≡ m = cc in
       subst (λ k. is_quiet s.round s.clear p place k ≡ true) marks (subst (λ at. is_quiet s.round s.clear p at q.marks ≡ true) places q.quiet)
 
-  pub may_stay : p < CELLS * s.mutators → m.evac ≡ false → MayStay s p len ds place
-  may_stay pointer unwanted = record { pointer = pointer; marks = m; near = near; moved = moved_by m.moved m.evac (s.round place.log) (s.clear (p / CELLS)) unwanted quiet_here; unwanted = unwanted } where
+  -- it has MOVE, unless the book wants its log
+  pub has_moved : m.evac ≡ false → m.moved ≡ true
+  has_moved unwanted = moved_by m.moved m.evac (s.round place.log) (s.clear (p / CELLS)) unwanted quiet_here where
     moved_by : (a e r c : Bool) → e ≡ false → (a || (e && r && c)) ≡ true → a ≡ true
     moved_by true e r c none h = refl
     moved_by false true r c none h = absurd (false≢true (sym none))
     moved_by false false r c none h = absurd (false≢true h)
+
+  pub may_stay : p < CELLS * s.mutators → m.evac ≡ false → MayStay s p len ds place
+  may_stay pointer unwanted = record { pointer = pointer; marks = m; near = near; moved = has_moved unwanted; unwanted = unwanted }
 
   pub goal_there : m.evac ≡ true → goal s p ≡ room s (size_of len) false
   goal_there wanted = ap (goal_of s) near ∙ ap (λ b. cond b (room s (size_of len) false) (Some place)) wanted

@@ -57,3 +57,9 @@ pub record FindsDrop (s t : State) (p : ℕ) : Type 0 where
   pub found : Finds (s.cell p) (t.cell p)
   pub dropped : is_dropped (read_of (t.cell p)) ≡ true
   pub leaves : LeavesSpans (seen s p (t.cell p)) t
+
+-- from s to t a word was found in p's cell, and nothing else is another
+pub record FindsAlone (s t : State) (p : ℕ) : Type 0 where
+  pub word : ℕ
+  pub found : Finds (s.cell p) word
+  pub is : t ≡ seen s p word
