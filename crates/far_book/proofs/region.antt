@@ -1,5 +1,7 @@
 pub mod Calls
+pub mod Carrying
 pub mod Coming
+pub mod Copying
 pub mod Effects
 pub mod Evicted
 pub mod EvictingLaw
@@ -11,6 +13,7 @@ pub mod InOrders
 pub mod Learning
 pub mod Leaving
 pub mod Marked
+pub mod Moved
 pub mod NotesKept
 pub mod Notings
 pub mod NumberSets
@@ -21,6 +24,7 @@ pub mod Places
 pub mod Reaching
 pub mod Readings
 pub mod Retires
+pub mod Settled
 pub mod SpanLists
 pub mod Starts
 pub mod Written

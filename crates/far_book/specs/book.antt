@@ -7,6 +7,7 @@ pub mod Fetching
 pub mod Home
 pub mod Laws
 pub mod Ledger
+pub mod Moving
 pub mod NumberSet
 pub mod Own
 pub mod Placeable

@@ -35,6 +35,7 @@ ghost use Rattle.far_book.specs.book.Rows.{row_of};
 
 mod fetching;
 mod leaving;
+mod moving;
 mod over_plain;
 mod renaming;
 
@@ -129,7 +130,7 @@ impl<N: Near + Drop, D: Device + Drop> Book<N, D> {
         ensures unchanged { IfErr result (λ _. self.new ≡ self.old) }
     {
         let size = size_of(len);
-        let Some(place) = self.ledger.room(size) else {
+        let Some(place) = self.ledger.room(size, true) else {
             return Err(Refused::NoRoom);
         };
         name_blank(&mut self.near, pointer, len, ds, place);

@@ -9,6 +9,7 @@ ghost use Rattle.far_core.specs.state.Shape.{is_shape};
 ghost use Rattle.far_core.specs.state.State.{State};
 ghost use Rattle.far_book.specs.book.Effects.{with_free_cell};
 ghost use Rattle.far_book.specs.book.Ledger.{Notes, KnowsLog, filled_of, is_noted_free, MayTake, MayRetire, Takes, Loses, Frees, IsLowestFree};
+ghost use Rattle.far_book.specs.book.NumberSet.{HasNoneLeft, IsLowestLeft};
 ghost use Rattle.far_book.specs.book.Own.{own_part};
 ghost use Rattle.far_book.specs.book.Rows.{row_of};
 
@@ -69,11 +70,11 @@ impl Ledger {
         self.filled[log as usize]
     }
 
-    /// Where a new object goes whose span takes so many words.
-    pub(crate) fn room(&self, size: u16) -> Option<Place>
+    /// Where a span goes that takes so many words; a new object keeps the reserve.
+    pub(crate) fn room(&self, size: u16, reserve: bool) -> Option<Place>
         requires size { size ≤ LOG_WORDS }
         requires known { (s : State) × Notes s self.now }
-        ensures { (s : State) → Notes s self.now → result ≡ room s size true }
+        ensures { (s : State) → Notes s self.now → result ≡ room s size reserve }
     {
         let tail = self.filled_of(self.current).tail;
         if tail + size <= LOG_WORDS {
@@ -82,9 +83,20 @@ impl Ledger {
                 at: tail,
             });
         }
-        match self.free_logs.lowest_of_two() {
+        match self.lowest_free(reserve) {
             Some(log) => Some(Place { log, at: 0 }),
             None => None,
+        }
+    }
+
+    // The lowest free log; with `reserve`, if it isn't the only one.
+    fn lowest_free(&self, reserve: bool) -> Option<u8>
+        ensures { MatchOption result (HasNoneLeft self.now.free_logs reserve) (λ log. IsLowestLeft self.now.free_logs reserve log) }
+    {
+        if reserve {
+            self.free_logs.lowest_of_two()
+        } else {
+            self.free_logs.lowest()
         }
     }
 

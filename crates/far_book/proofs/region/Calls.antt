@@ -61,12 +61,12 @@ pub free_unplaced : (s : State) (p : ℕ) → s.cell p ≡ 0 → (l at : ℕ) �
 free_unplaced s p free l at = rw (free, unused) refl
 
 module _ (s : State) (ledger : Ledger) (notes : Notes (own_part s) ledger) (p len ds : ℕ) (place : Place)
-    (pointer : p < CELLS * s.mutators) (unplaced : (l at : ℕ) → names_place (read_of (s.cell p)) l at ≡ false) (some : 0 < len) (most : len ≤ LONGEST) (structure : ds < 256) (found : room s (size_of len) true ≡ Some place) where
+    (pointer : p < CELLS * s.mutators) (unplaced : (l at : ℕ) → names_place (read_of (s.cell p)) l at ≡ false) (some : 0 < len) (most : len ≤ LONGEST) (structure : ds < 256) (reserve : Bool) (found : room s (size_of len) reserve ≡ Some place) where
   short : size_of len ≤ LOG_WORDS
   short = omega arith
 
-  is_room : IsRoom (own_part s) (size_of len) true place
-  is_room = subst (RoomIs (own_part s) (size_of len) true) found (room_right (own_part s) notes.law (size_of len) true short)
+  is_room : IsRoom (own_part s) (size_of len) reserve place
+  is_room = subst (RoomIs (own_part s) (size_of len) reserve) found (room_right (own_part s) notes.law (size_of len) reserve short)
 
   pub placeable : Placeable (own_part s) p len ds place
   placeable = record {

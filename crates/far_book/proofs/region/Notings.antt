@@ -1,7 +1,7 @@
 -- What a right ledger says of its state.
 use Rattle.std.proofs.Common.{◌≡◌, ◌≢◌, ℕ, ◌+◌, ◌-◌, ◌*◌, ◌<◌, ◌≤◌, Bool, true, false, arith, sym, refl, ap, ◌∙◌, Option, Some, None, inl, inr, nat_lt}
 use Rattle.std.specs.Prelude.{◌⊎◌, ◌&&◌}
-use Rattle.std.proofs.lemmas.Bool.{cases_order, lt-ltb, true≢false, false≢true}
+use Rattle.std.proofs.lemmas.Bool.{cases_order, lt-ltb, false≢true}
 use Rattle.std.proofs.lemmas.Bool.Decides.{nat_tests}
 use Rattle.far_word.specs.declared.pointer.Place.{Place}
 use Rattle.far_word.specs.declared.sizes.TheConstants.{LOG_WORDS}
@@ -16,7 +16,7 @@ use Rattle.far_core.proofs.Observations.{bytes_make_log}
 use Rattle.far_core.proofs.RoomLaws.{room_right}
 use Rattle.far_book.specs.declared.ledger.Ledger.{Ledger}
 use Rattle.far_book.specs.book.Ledger.{Notes, KnowsLog, filled_of}
-use Rattle.far_book.specs.book.NumberSet.{has, IsLowest}
+use Rattle.far_book.specs.book.NumberSet.{has, IsLowestLeft, HasNoneLeft}
 use Rattle.far_book.specs.book.Rows.{row_of}
 
 -- ---- the row of a log
@@ -58,23 +58,27 @@ one_room s law size reserve a b x y = by_kinds x.next.1 y.next.1 where
   ]
 
 -- room and no room are never together
-never_both : (s : State) → Law s → (size : ℕ) (place : Place) → IsRoom s size true place → IsNoRoom s size true → ⊥
-never_both s law size place x none = by_kind x.next.1 where
+never_both : (s : State) → Law s → (size : ℕ) (reserve : Bool) (place : Place) → IsRoom s size reserve place → IsNoRoom s size reserve → ⊥
+never_both s law size reserve place x none = by_kind x.next.1 where
+  by_free : s.kind place.log ≡ kinds.Free → (b : Bool) → reserve ≡ b → ⊥
+  by_free free true e = let left = x.left free e in none.one place.log left.0 left.1 (x.next.0, free) left.2
+  by_free free false e = none.none e place.log (x.next.0, free)
+
   by_kind : ((s.kind place.log ≡ kinds.Open) × (place.at ≡ s.tail place.log)) ⊎ ((s.kind place.log ≡ kinds.Free) × (place.at ≡ 0)) → ⊥
   by_kind (inl h) = none.full (let log : s.tail place.log ≡ s.tail s.current = ap s.tail (law.logs.one_open place.log h.0) in omega (arith, h.1, x.fits))
-  by_kind (inr h) = let left = x.left h.0 refl in none.one place.log left.0 left.1 (x.next.0, h.0) left.2
+  by_kind (inr h) = by_free h.0 reserve refl
 
-pub is_room : (s : State) → Law s → (size : ℕ) (place : Place) → size ≤ LOG_WORDS → IsRoom s size true place → Some place ≡ room s size true
-is_room s law size place short x = at_room (room s size true) (room_right s law size true short) where
-  at_room : (o : Option Place) → RoomIs s size true o → Some place ≡ o
-  at_room None none = absurd (never_both s law size place x none)
-  at_room (Some other) y = ap (λ (q : Place). Some q) (one_room s law size true place other x y)
+pub is_room : (s : State) → Law s → (size : ℕ) (reserve : Bool) (place : Place) → size ≤ LOG_WORDS → IsRoom s size reserve place → Some place ≡ room s size reserve
+is_room s law size reserve place short x = at_room (room s size reserve) (room_right s law size reserve short) where
+  at_room : (o : Option Place) → RoomIs s size reserve o → Some place ≡ o
+  at_room None none = absurd (never_both s law size reserve place x none)
+  at_room (Some other) y = ap (λ (q : Place). Some q) (one_room s law size reserve place other x y)
 
-pub is_no_room : (s : State) → Law s → (size : ℕ) → size ≤ LOG_WORDS → IsNoRoom s size true → None ≡ room s size true
-is_no_room s law size short none = at_room (room s size true) (room_right s law size true short) where
-  at_room : (o : Option Place) → RoomIs s size true o → None ≡ o
+pub is_no_room : (s : State) → Law s → (size : ℕ) (reserve : Bool) → size ≤ LOG_WORDS → IsNoRoom s size reserve → None ≡ room s size reserve
+is_no_room s law size reserve short none = at_room (room s size reserve) (room_right s law size reserve short) where
+  at_room : (o : Option Place) → RoomIs s size reserve o → None ≡ o
   at_room None _ = refl
-  at_room (Some place) y = absurd (never_both s law size place y none)
+  at_room (Some place) y = absurd (never_both s law size reserve place y none)
 
 -- ---- the free logs
 free_kind : (k : Kind) → is_free k ≡ true → k ≡ kinds.Free
@@ -102,13 +106,13 @@ module _ (s : State) (ledger : Ledger) (notes : Notes s ledger) where
       let tail : (filled_of ledger ledger.current).tail ≡ s.tail s.current = ap (λ l. (filled_of ledger l).tail) notes.current ∙ notes.tails s.current inside in
       omega arith
 
-  pub room_here : (size : ℕ) → size ≤ LOG_WORDS → (filled_of ledger ledger.current).tail + size ≤ LOG_WORDS → Some record { log = ledger.current; at = (filled_of ledger ledger.current).tail } ≡ room s size true
-  room_here size short fit =
+  pub room_here : (size : ℕ) (reserve : Bool) → size ≤ LOG_WORDS → (filled_of ledger ledger.current).tail + size ≤ LOG_WORDS → Some record { log = ledger.current; at = (filled_of ledger ledger.current).tail } ≡ room s size reserve
+  room_here size reserve short fit =
       let inside : s.current < s.logs = notes.law.logs.log_range s.current (λ f. let odd : kinds.Open ≡ kinds.Free = sym notes.law.logs.is_open ∙ f in cc) in
       let tail : (filled_of ledger ledger.current).tail ≡ s.tail ledger.current = ap (λ l. (filled_of ledger l).tail) notes.current ∙ notes.tails s.current inside ∙ ap s.tail (sym notes.current) in
       let is_open : s.kind ledger.current ≡ kinds.Open = ap s.kind notes.current ∙ notes.law.logs.is_open in
       let shut : s.kind ledger.current ≢ kinds.Free = (λ f. let odd : kinds.Open ≡ kinds.Free = sym is_open ∙ f in cc) in
-      is_room s notes.law size _ short record {
+      is_room s notes.law size reserve _ short record {
         next = (omega (arith, notes.current), inl (is_open, tail));
         fits = fit;
         full = λ f. absurd (shut f);
@@ -116,21 +120,20 @@ module _ (s : State) (ledger : Ledger) (notes : Notes s ledger) where
         left = λ f. absurd (shut f);
       }
 
-  pub room_free : (size l : ℕ) → size ≤ LOG_WORDS → LOG_WORDS < (filled_of ledger ledger.current).tail + size → IsLowest ledger.free_logs l × ((i : ℕ) × (l < i) × (i < 64) × (has ledger.free_logs i ≡ true)) →
-      Some record { log = l; at = 0 } ≡ room s size true
-  room_free size l short over (lowest, other) =
+  pub room_free : (size : ℕ) (reserve : Bool) (l : ℕ) → size ≤ LOG_WORDS → LOG_WORDS < (filled_of ledger ledger.current).tail + size → IsLowestLeft ledger.free_logs reserve l → Some record { log = l; at = 0 } ≡ room s size reserve
+  room_free size reserve l short over (lowest, other) =
       let free = free_is l lowest.0 lowest.1 in
-      is_room s notes.law size _ short record {
+      is_room s notes.law size reserve _ short record {
         next = (free.0, inr (free.1, refl));
         fits = omega arith;
         full = λ _. full size over;
         lowest = λ _ k below f. not_free k (omega (arith, lowest.0)) (lowest.2 k below) (omega (arith, free.0), f);
-        left = λ _ _. (other.0, other.1, free_is other.0 other.2 other.3);
+        left = λ _ kept. let left = other kept in (left.0, left.1, free_is left.0 left.2 left.3);
       }
 
-  pub room_none : (size : ℕ) → size ≤ LOG_WORDS → LOG_WORDS < (filled_of ledger ledger.current).tail + size → ((i k : ℕ) → i < k → k < 64 → has ledger.free_logs i ≡ true → has ledger.free_logs k ≡ false) → None ≡ room s size true
-  room_none size short over alone = is_no_room s notes.law size short record {
+  pub room_none : (size : ℕ) (reserve : Bool) → size ≤ LOG_WORDS → LOG_WORDS < (filled_of ledger ledger.current).tail + size → HasNoneLeft ledger.free_logs reserve → None ≡ room s size reserve
+  room_none size reserve short over (alone, none) = is_no_room s notes.law size reserve short record {
     full = full size over;
     one = λ k l lt a b. not_free l (omega (arith, b.0, notes.law.shape.few_logs)) (alone k l lt (omega (arith, b.0, notes.law.shape.few_logs)) (has_free k a)) b;
-    none = λ e. absurd (true≢false e);
+    none = λ e l free. not_free l (omega (arith, free.0, notes.law.shape.few_logs)) (none e l (omega (arith, free.0, notes.law.shape.few_logs))) free;
   }

@@ -121,10 +121,10 @@ pub own_forgets : (s t : State) → t ≡ record s { word = t.word } → Forgets
 own_forgets s t is h = own_headers s t is (λ a begun. h.headers a (ap (λ (u : State). u.starts a) is ∙ begun))
 
 -- an object that gets a place, where a row of words is written
-module _ (s : State) (law : Law (own_part s)) (p len ds : ℕ) (place : Place) (h : Placeable (own_part s) p len ds place) (row : ℕ → ℕ) where
-  own_word : (a : ℕ) → cond (put s.starts (addr place) true a) (with_row (put s.word (addr place) (head_word p len ds)) (addr place + 1) (words_for len) row a) 0
+module _ (s : State) (law : Law (own_part s)) (p len ds : ℕ) (place : Place) (h : Placeable (own_part s) p len ds place) where
+  own_word : (row : ℕ → ℕ) (a : ℕ) → cond (put s.starts (addr place) true a) (with_row (put s.word (addr place) (head_word p len ds)) (addr place + 1) (words_for len) row a) 0
       ≡ put (own_part s).word (addr place) (head_word p len ds) a
-  own_word a = elim (cases_eq a (addr place)) [
+  own_word row a = elim (cases_eq a (addr place)) [
     | inl e ↦ rw (put_same s.starts (addr place) true a e, put_same (own_part s).word (addr place) (head_word p len ds) a e)
         (row_other (put s.word (addr place) (head_word p len ds)) (addr place + 1) (words_for len) row a (λ low high. omega arith) ∙ put_same s.word (addr place) (head_word p len ds) a e)
     | inr ne ↦ rw (put_other s.starts (addr place) true a ne, put_other (own_part s).word (addr place) (head_word p len ds) a ne)
@@ -138,8 +138,9 @@ module _ (s : State) (law : Law (own_part s)) (p len ds : ℕ) (place : Place) (
         let at : addr place + (b - addr place) ≡ b = omega arith in
         false≢true (sym (none_past (own_part s) law p len ds place h (b - addr place) (omega (arith, h.layout))) ∙ ap s.starts at ∙ begun)
 
-  pub own_written : own_part (with_span (with_written_span s p len ds place row) p (near_word len ds place) len place) ≡ with_object (own_part s) p len ds place
-  own_written = λ i. record (with_object (own_part s) p len ds place) { word = fun_ext own_word i }
+  -- whatever data words are written, its header alone is the book's
+  pub own_written : (row : ℕ → ℕ) → own_part (with_span (with_written_span s p len ds place row) p (near_word len ds place) len place) ≡ with_object (own_part s) p len ds place
+  own_written row = λ i. record (with_object (own_part s) p len ds place) { word = fun_ext (own_word row) i }
 
 -- a retired object
 pub own_retired : (s t : State) (p : ℕ) → is_dropped (read_of (s.cell p)) ≡ true → t ≡ record (retired s p) { word = t.word } → Forgets s t → own_part t ≡ with_free_cell (own_part s) p

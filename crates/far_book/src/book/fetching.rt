@@ -62,7 +62,7 @@ impl<N: Near + Drop, D: Device + Drop> Book<N, D> {
             return Ok(None);
         }
         let size = size_of(len);
-        let Some(place) = self.ledger.room(size) else {
+        let Some(place) = self.ledger.room(size, true) else {
             return Err(Refused::NoRoom);
         };
         let bytes = match self.device.read(pointer as u32) {

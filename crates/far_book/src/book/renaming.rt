@@ -26,7 +26,6 @@ pub(crate) fn rename<N: Near>(near: &mut N, pointer: u16, found: u64, new: u64) 
     ensures fits { IfErr result (λ word. word < 2 ^ 64) }
     ensures found { IfErr result (λ word. Finds found word) }
     ensures dropped { IfErr result (λ word. is_dropped (read_of word) ≡ true) }
-    ensures fits { IfErr result (λ word. word < 2 ^ 64) }
     ensures kept { IfErr result (λ word. N.view near.new ≡ seen (N.view near.old) pointer word) }
 {
     let mut word = found;

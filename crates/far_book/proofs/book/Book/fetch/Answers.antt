@@ -110,7 +110,7 @@ come_near-requires-clause-layout g c =
     let pointer : p < CELLS * s.mutators = subst (λ (t : State). p < CELLS * t.mutators) (sym same) c.requires.pointer in
     let found : room s (size_of x.len) true ≡ Some c.in-Some.place = ap (λ n. room s n true) (sym c.size_of-size.ensures) ∙ sym (c.room.ensures (own_part s) c.self.invariant.notes) ∙ c.in-Some.is in
     let unplaced = far_unplaced s p x.len x.ds x.marks now in
-    (placeable s c.self.inside.ledger c.self.invariant.notes p x.len x.ds c.in-Some.place pointer unplaced layout.0 layout.1 layout.2 found).layout
+    (placeable s c.self.inside.ledger c.self.invariant.notes p x.len x.ds c.in-Some.place pointer unplaced layout.0 layout.1 layout.2 true found).layout
 
 pub come_near-requires-clause-next : goal.come_near-requires-clause-next
 come_near-requires-clause-next g c =
@@ -125,7 +125,7 @@ come_near-requires-clause-next g c =
     let pointer : p < CELLS * s.mutators = subst (λ (t : State). p < CELLS * t.mutators) (sym same) c.requires.pointer in
     let found : room s (size_of x.len) true ≡ Some c.in-Some.place = ap (λ n. room s n true) (sym c.size_of-size.ensures) ∙ sym (c.room.ensures (own_part s) c.self.invariant.notes) ∙ c.in-Some.is in
     let unplaced = far_unplaced s p x.len x.ds x.marks now in
-    (placeable s c.self.inside.ledger c.self.invariant.notes p x.len x.ds c.in-Some.place pointer unplaced layout.0 layout.1 layout.2 found).next
+    (placeable s c.self.inside.ledger c.self.invariant.notes p x.len x.ds c.in-Some.place pointer unplaced layout.0 layout.1 layout.2 true found).next
 
 pub come_near-requires-clause-tail : goal.come_near-requires-clause-tail
 come_near-requires-clause-tail g c =
@@ -140,7 +140,7 @@ come_near-requires-clause-tail g c =
     let pointer : p < CELLS * s.mutators = subst (λ (t : State). p < CELLS * t.mutators) (sym same) c.requires.pointer in
     let found : room s (size_of x.len) true ≡ Some c.in-Some.place = ap (λ n. room s n true) (sym c.size_of-size.ensures) ∙ sym (c.room.ensures (own_part s) c.self.invariant.notes) ∙ c.in-Some.is in
     let unplaced = far_unplaced s p x.len x.ds x.marks now in
-    ends s c.self.inside.ledger c.self.invariant.notes p x.len x.ds c.in-Some.place pointer unplaced layout.0 layout.1 layout.2 found
+    ends s c.self.inside.ledger c.self.invariant.notes p x.len x.ds c.in-Some.place pointer unplaced layout.0 layout.1 layout.2 true found
 
 pub come_near-requires-clause-stored : goal.come_near-requires-clause-stored
 come_near-requires-clause-stored g c promised i lt =
@@ -173,7 +173,7 @@ take-requires g c =
     let pointer : p < CELLS * s.mutators = subst (λ (t : State). p < CELLS * t.mutators) (sym same) c.requires.pointer in
     let found : room s (size_of x.len) true ≡ Some c.in-Some.place = ap (λ n. room s n true) (sym c.size_of-size.ensures) ∙ sym (c.room.ensures (own_part s) c.self.invariant.notes) ∙ c.in-Some.is in
     let unplaced = far_unplaced s p x.len x.ds x.marks now in
-    subst (λ n. MayTake c.self.inside.ledger p n c.in-Some.place) (sym c.size_of-size.ensures) (may_take s c.self.inside.ledger c.self.invariant.notes p x.len x.ds c.in-Some.place pointer unplaced layout.0 layout.1 layout.2 found)
+    subst (λ n. MayTake c.self.inside.ledger p n c.in-Some.place) (sym c.size_of-size.ensures) (may_take s c.self.inside.ledger c.self.invariant.notes p x.len x.ds c.in-Some.place pointer unplaced layout.0 layout.1 layout.2 true found)
 
 pub invariant_of-self-in_default-come_near : goal.invariant_of-self-in_default-come_near
 invariant_of-self-in_default-come_near g c =
@@ -188,7 +188,7 @@ invariant_of-self-in_default-come_near g c =
     let pointer : p < CELLS * s.mutators = subst (λ (t : State). p < CELLS * t.mutators) (sym same) c.requires.pointer in
     let found : room s (size_of x.len) true ≡ Some c.in-Some.place = ap (λ n. room s n true) (sym c.size_of-size.ensures) ∙ sym (c.room.ensures (own_part s) c.self.invariant.notes) ∙ c.in-Some.is in
     let unplaced = far_unplaced s p x.len x.ds x.marks now in
-    let able = placeable s c.self.inside.ledger c.self.invariant.notes p x.len x.ds c.in-Some.place pointer unplaced layout.0 layout.1 layout.2 found in
+    let able = placeable s c.self.inside.ledger c.self.invariant.notes p x.len x.ds c.in-Some.place pointer unplaced layout.0 layout.1 layout.2 true found in
     let bytes = c.as_slice.result.now in
     let y = c.in_default-come_near in
     let held = g.D.Device.contents c.self.inside.device in
@@ -234,7 +234,7 @@ returns-in_default-come_near-clause-gone g c =
     let pointer : p < CELLS * s.mutators = subst (λ (t : State). p < CELLS * t.mutators) (sym same) c.requires.pointer in
     let found : room s (size_of x.len) true ≡ Some c.in-Some.place = ap (λ n. room s n true) (sym c.size_of-size.ensures) ∙ sym (c.room.ensures (own_part s) c.self.invariant.notes) ∙ c.in-Some.is in
     let unplaced = far_unplaced s p x.len x.ds x.marks now in
-    let able = placeable s c.self.inside.ledger c.self.invariant.notes p x.len x.ds c.in-Some.place pointer unplaced layout.0 layout.1 layout.2 found in
+    let able = placeable s c.self.inside.ledger c.self.invariant.notes p x.len x.ds c.in-Some.place pointer unplaced layout.0 layout.1 layout.2 true found in
     let law = c.self.invariant.notes.law in
     let row = packed_word c.as_slice.result.now in
     let y = c.in_default-come_near in
@@ -269,7 +269,7 @@ invariant_of-self-2 g c =
     let pointer : p < CELLS * s.mutators = subst (λ (t : State). p < CELLS * t.mutators) (sym same) c.requires.pointer in
     let found : room s (size_of x.len) true ≡ Some c.in-Some.place = ap (λ n. room s n true) (sym c.size_of-size.ensures) ∙ sym (c.room.ensures (own_part s) c.self.invariant.notes) ∙ c.in-Some.is in
     let unplaced = far_unplaced s p x.len x.ds x.marks now in
-    let able = placeable s c.self.inside.ledger c.self.invariant.notes p x.len x.ds c.in-Some.place pointer unplaced layout.0 layout.1 layout.2 found in
+    let able = placeable s c.self.inside.ledger c.self.invariant.notes p x.len x.ds c.in-Some.place pointer unplaced layout.0 layout.1 layout.2 true found in
     let row = packed_word c.as_slice.result.now in
     let y = c.in-Ok-come_near in
     let t = g.N.Near.view c.come_near.new.near in
@@ -294,7 +294,7 @@ returns-clause-near g c =
     let pointer : p < CELLS * s.mutators = subst (λ (t : State). p < CELLS * t.mutators) (sym same) c.requires.pointer in
     let found : room s (size_of x.len) true ≡ Some c.in-Some.place = ap (λ n. room s n true) (sym c.size_of-size.ensures) ∙ sym (c.room.ensures (own_part s) c.self.invariant.notes) ∙ c.in-Some.is in
     let unplaced = far_unplaced s p x.len x.ds x.marks now in
-    let able = placeable s c.self.inside.ledger c.self.invariant.notes p x.len x.ds c.in-Some.place pointer unplaced layout.0 layout.1 layout.2 found in
+    let able = placeable s c.self.inside.ledger c.self.invariant.notes p x.len x.ds c.in-Some.place pointer unplaced layout.0 layout.1 layout.2 true found in
     let row = packed_word c.as_slice.result.now in
     let y = c.in-Ok-come_near in
     let t = g.N.Near.view c.come_near.new.near in

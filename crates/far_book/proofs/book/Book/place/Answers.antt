@@ -27,7 +27,7 @@ name_blank-requires-clause-layout g c =
     let pointer : c.args.pointer < CELLS * s.mutators = subst (λ (t : State). c.args.pointer < CELLS * t.mutators) (sym same) c.requires.pointer in
     let free : s.cell c.args.pointer ≡ 0 = ap (λ (t : State). t.cell c.args.pointer) same ∙ c.requires.free in
     let found : room s (size_of c.args.len) true ≡ Some c.in-Some.place = ap (λ n. room s n true) (sym c.size_of-size.ensures) ∙ sym (c.room.ensures (own_part s) c.self.invariant.notes) ∙ c.in-Some.is in
-    (placeable s c.self.inside.ledger c.self.invariant.notes c.args.pointer c.args.len c.args.ds c.in-Some.place pointer (free_unplaced s c.args.pointer free) c.requires.some c.requires.most c.ranges.ds.fits found).layout
+    (placeable s c.self.inside.ledger c.self.invariant.notes c.args.pointer c.args.len c.args.ds c.in-Some.place pointer (free_unplaced s c.args.pointer free) c.requires.some c.requires.most c.ranges.ds.fits true found).layout
 
 pub name_blank-requires-clause-next : goal.name_blank-requires-clause-next
 name_blank-requires-clause-next g c =
@@ -36,7 +36,7 @@ name_blank-requires-clause-next g c =
     let pointer : c.args.pointer < CELLS * s.mutators = subst (λ (t : State). c.args.pointer < CELLS * t.mutators) (sym same) c.requires.pointer in
     let free : s.cell c.args.pointer ≡ 0 = ap (λ (t : State). t.cell c.args.pointer) same ∙ c.requires.free in
     let found : room s (size_of c.args.len) true ≡ Some c.in-Some.place = ap (λ n. room s n true) (sym c.size_of-size.ensures) ∙ sym (c.room.ensures (own_part s) c.self.invariant.notes) ∙ c.in-Some.is in
-    (placeable s c.self.inside.ledger c.self.invariant.notes c.args.pointer c.args.len c.args.ds c.in-Some.place pointer (free_unplaced s c.args.pointer free) c.requires.some c.requires.most c.ranges.ds.fits found).next
+    (placeable s c.self.inside.ledger c.self.invariant.notes c.args.pointer c.args.len c.args.ds c.in-Some.place pointer (free_unplaced s c.args.pointer free) c.requires.some c.requires.most c.ranges.ds.fits true found).next
 
 pub name_blank-requires-clause-tail : goal.name_blank-requires-clause-tail
 name_blank-requires-clause-tail g c =
@@ -45,7 +45,7 @@ name_blank-requires-clause-tail g c =
     let pointer : c.args.pointer < CELLS * s.mutators = subst (λ (t : State). c.args.pointer < CELLS * t.mutators) (sym same) c.requires.pointer in
     let free : s.cell c.args.pointer ≡ 0 = ap (λ (t : State). t.cell c.args.pointer) same ∙ c.requires.free in
     let found : room s (size_of c.args.len) true ≡ Some c.in-Some.place = ap (λ n. room s n true) (sym c.size_of-size.ensures) ∙ sym (c.room.ensures (own_part s) c.self.invariant.notes) ∙ c.in-Some.is in
-    ends s c.self.inside.ledger c.self.invariant.notes c.args.pointer c.args.len c.args.ds c.in-Some.place pointer (free_unplaced s c.args.pointer free) c.requires.some c.requires.most c.ranges.ds.fits found
+    ends s c.self.inside.ledger c.self.invariant.notes c.args.pointer c.args.len c.args.ds c.in-Some.place pointer (free_unplaced s c.args.pointer free) c.requires.some c.requires.most c.ranges.ds.fits true found
 
 pub take-requires : goal.take-requires
 take-requires g c =
@@ -54,7 +54,7 @@ take-requires g c =
     let pointer : c.args.pointer < CELLS * s.mutators = subst (λ (t : State). c.args.pointer < CELLS * t.mutators) (sym same) c.requires.pointer in
     let free : s.cell c.args.pointer ≡ 0 = ap (λ (t : State). t.cell c.args.pointer) same ∙ c.requires.free in
     let found : room s (size_of c.args.len) true ≡ Some c.in-Some.place = ap (λ n. room s n true) (sym c.size_of-size.ensures) ∙ sym (c.room.ensures (own_part s) c.self.invariant.notes) ∙ c.in-Some.is in
-    subst (λ n. MayTake c.self.inside.ledger c.args.pointer n c.in-Some.place) (sym c.size_of-size.ensures) (may_take s c.self.inside.ledger c.self.invariant.notes c.args.pointer c.args.len c.args.ds c.in-Some.place pointer (free_unplaced s c.args.pointer free) c.requires.some c.requires.most c.ranges.ds.fits found)
+    subst (λ n. MayTake c.self.inside.ledger c.args.pointer n c.in-Some.place) (sym c.size_of-size.ensures) (may_take s c.self.inside.ledger c.self.invariant.notes c.args.pointer c.args.len c.args.ds c.in-Some.place pointer (free_unplaced s c.args.pointer free) c.requires.some c.requires.most c.ranges.ds.fits true found)
 
 pub invariant_of-self : goal.invariant_of-self
 invariant_of-self g c =
@@ -63,7 +63,7 @@ invariant_of-self g c =
     let pointer : c.args.pointer < CELLS * s.mutators = subst (λ (t : State). c.args.pointer < CELLS * t.mutators) (sym same) c.requires.pointer in
     let free : s.cell c.args.pointer ≡ 0 = ap (λ (t : State). t.cell c.args.pointer) same ∙ c.requires.free in
     let found : room s (size_of c.args.len) true ≡ Some c.in-Some.place = ap (λ n. room s n true) (sym c.size_of-size.ensures) ∙ sym (c.room.ensures (own_part s) c.self.invariant.notes) ∙ c.in-Some.is in
-    let able = placeable s c.self.inside.ledger c.self.invariant.notes c.args.pointer c.args.len c.args.ds c.in-Some.place pointer (free_unplaced s c.args.pointer free) c.requires.some c.requires.most c.ranges.ds.fits found in
+    let able = placeable s c.self.inside.ledger c.self.invariant.notes c.args.pointer c.args.len c.args.ds c.in-Some.place pointer (free_unplaced s c.args.pointer free) c.requires.some c.requires.most c.ranges.ds.fits true found in
     let takes : Takes c.self.inside.ledger c.take.new.self c.args.pointer (size_of c.args.len) c.in-Some.place = subst (λ n. Takes c.self.inside.ledger c.take.new.self c.args.pointer n c.in-Some.place) c.size_of-size.ensures c.take.ensures in
     let t = g.N.Near.view c.name_blank.new.near in
     let held = g.D.Device.contents c.self.inside.device in

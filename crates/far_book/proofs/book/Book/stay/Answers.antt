@@ -1,0 +1,32 @@
+use Rattle.far_book.proofs.book.Book.stay.Goals as goal
+use Rattle.far_book.proofs.book.Book.stay.Goals.{then-unmark_object, else-unmark_object}
+use Rattle.std.proofs.Common.{◌≡◌, ◌∙◌, ◌*◌, ◌<◌, ap, sym, subst, Some, false}
+use Rattle.far_word.specs.declared.pointer.PtrWord.TheVariants.{Near}
+use Rattle.far_word.specs.declared.sizes.TheConstants.{CELLS}
+use Rattle.far_word.specs.Pointer.{read_of}
+use Rattle.far_core.specs.events.Naming.{is_dropped}
+use Rattle.far_core.specs.state.State.{State}
+use Rattle.far_book.specs.book.BookOf.{BookOf}
+use Rattle.far_book.specs.book.Dealing.{IsQuietNear}
+use Rattle.far_book.proofs.region.Carrying.{drop_keeps, kept}
+use Rattle.far_book.proofs.region.Moved.{evac_of, may_stay}
+
+pub invariant_of-self : goal.invariant_of-self
+invariant_of-self g c =
+    let s = g.N.Near.view c.self.inside.near in
+    let u = g.N.Near.view c.unmark_object.new.near in
+    let held = g.D.Device.contents c.self.inside.device in
+    let is_honest = g.D.Device.honest c.self.inside.device in
+    let same = ap (λ (b : BookOf g.row.N.Denot g.row.D.Denot). g.N.Near.view b.near) c.self.view_is in
+    let word : c.args.found ≡ s.cell c.args.pointer = c.requires.found ∙ ap (λ (x : State). x.cell c.args.pointer) (sym same) in
+    let says : read_of c.args.found ≡ Some (Near c.in-Some-Near.len c.in-Some-Near.ds c.in-Some-Near.place c.in-Some-Near.field-0-3) = sym c.read.ensures.exact ∙ c.in-Some-Near.is ∙ ap (λ v. Some v) c.in-Some-Near.field-0-is in
+    let near : read_of (s.cell c.args.pointer) ≡ Some (Near c.in-Some-Near.len c.in-Some-Near.ds c.in-Some-Near.place c.in-Some-Near.field-0-3) = ap read_of (sym word) ∙ says in
+    let pointer : c.args.pointer < CELLS * s.mutators = subst (λ (x : State). c.args.pointer < CELLS * x.mutators) (sym same) c.requires.pointer in
+    let quiet : IsQuietNear s c.args.pointer = subst (λ (x : State). IsQuietNear x c.args.pointer) (sym same) c.requires.quiet in
+    let alive : is_dropped (read_of (s.cell c.args.pointer)) ≡ false = ap (λ w. is_dropped (read_of w)) (sym word) ∙ c.requires.alive in
+    let unwanted = evac_of (read_of c.args.found) false c.in-Some-Near.len c.in-Some-Near.ds c.in-Some-Near.place c.in-Some-Near.field-0-3 says c.requires.unwanted in
+    elim c.if-unmark_object.branch [
+      | then-unmark_object w ↦ kept s c.self.inside.ledger held is_honest c.self.invariant c.args.pointer c.in-Some-Near.len c.in-Some-Near.ds c.in-Some-Near.place c.in-Some-Near.field-0-3 pointer near u alive
+          (may_stay s c.args.pointer quiet c.in-Some-Near.len c.in-Some-Near.ds c.in-Some-Near.place c.in-Some-Near.field-0-3 near pointer unwanted) (c.unmark_object.ensures.stayed w.if-unmark_object.true)
+      | else-unmark_object w ↦ drop_keeps s u c.self.inside.ledger held is_honest c.self.invariant c.args.pointer (c.unmark_object.ensures.dropped w.if-unmark_object.false)
+    ]

@@ -1,0 +1,245 @@
+//! How a near object that is to move does: to another place, where the book wants its log, or nowhere.
+
+ghost use Rattle.std.specs.Prelude.{◌≡◌, ◌*◌, ◌<◌, ℕ, true, false, Some, None, Ok, IfOk, IfErr, IfSome, IfNone, MatchOption};
+ghost use Rattle.far_word.specs.declared.pointer.PtrWord.TheVariants.{Near as near_at};
+ghost use Rattle.far_word.specs.declared.refused.Refused.TheVariants.{NoRoom};
+ghost use Rattle.far_word.specs.declared.sizes.TheConstants.{CELLS};
+ghost use Rattle.far_word.specs.Pointer.{IsPtr, read_of};
+ghost use Rattle.far_core.specs.events.Copies.{data_at};
+ghost use Rattle.far_core.specs.events.Naming.{is_dropped, no_marks};
+ghost use Rattle.far_core.specs.state.State.{State};
+ghost use Rattle.far_device.specs.Contents.{KeepsOthers};
+ghost use Rattle.far_book.specs.Finds.{Finds};
+ghost use Rattle.far_book.specs.book.Dealing.{IsQuietNear, goal, has_evac, Leaves, moved_now, order_moved};
+ghost use Rattle.far_book.specs.book.Effects.{moved, near_word, order_after, retired, stayed, with_free_cell, with_written_span};
+ghost use Rattle.far_book.specs.book.Moving.{Copied, FindsAlone, FindsDrop, LeavesSpans, MayCopy, MayStay};
+ghost use Rattle.far_book.specs.book.Renaming.{seen};
+
+use crate::book::Book;
+use crate::book::renaming::{is_dropped, rename};
+use crate::near::Near;
+use far_device::Device;
+use far_word::{HeadWord, Marks, Place, PtrWord, Refused, size_of, words_for};
+
+impl<N: Near + Drop, D: Device + Drop> Book<N, D> {
+    /// Moves a near object that nobody stores into, and answers where it lies then, without marks. Where the book wants its log,
+    /// by EVAC, it goes to a place where room is, in the last free log too; else it stays where it lies.
+    ///
+    /// `None` where its owner has dropped it: it is retired then. A refusal is [`Refused::NoRoom`]: the object lies as before.
+    pub fn move_now(&mut self, pointer: u16) -> Result<Option<Place>, Refused>
+        requires pointer { pointer < CELLS * (N.view self.old.near).mutators }
+        requires quiet { IsQuietNear (N.view self.old.near) pointer }
+        ensures place { IfOk result (λ o. IfSome o (λ place. goal (N.view self.old.near) pointer ≡ Some place)) }
+        ensures moved { IfOk result (λ o. IfSome o (λ place. Leaves (moved_now (N.view self.old.near) pointer place) (N.view self.new.near))) }
+        ensures order { IfOk result (λ o. MatchOption o (self.new.order ≡ self.old.order) (λ place. self.new.order ≡ order_moved (N.view self.old.near) pointer self.old.order place)) }
+        ensures device { IfOk result (λ o. IfSome o (λ _. self.new.device ≡ self.old.device)) }
+        ensures asked { is_dropped (read_of ((N.view self.old.near).cell pointer)) ≡ true → result ≡ Ok None }
+        ensures gone { IfOk result (λ o. IfNone o (LeavesSpans (with_free_cell (N.view self.old.near) pointer) (N.view self.new.near))) }
+        ensures forgotten { IfOk result (λ o. IfNone o (D.forgets → D.contents self.new.device pointer ≡ None)) }
+        ensures others { KeepsOthers (D.contents self.old.device) (D.contents self.new.device) pointer }
+        ensures honest { D.honest self.new.device ≡ D.honest self.old.device }
+        ensures faults { D.faults self.new.device ≡ D.faults self.old.device }
+        ensures refused { IfErr result (λ why. why ≡ NoRoom) }
+        ensures none { IfErr result (λ _. goal (N.view self.old.near) pointer ≡ None) }
+        ensures seen { IfErr result (λ _. FindsAlone (N.view self.old.near) (N.view self.new.near) pointer) }
+        ensures kept { IfErr result (λ _. self.new ≡ record self.old { near = self.new.near }) }
+        ensures exact { N.still → IfOk result (λ o. MatchOption o (N.view self.new.near ≡ retired (N.view self.old.near) pointer) (λ place. N.view self.new.near ≡ moved_now (N.view self.old.near) pointer place)) }
+        ensures dropped { N.still → IfOk result (λ o. IfNone o (is_dropped (read_of ((N.view self.old.near).cell pointer)) ≡ true)) }
+        ensures unchanged { N.still → IfErr result (λ _. N.view self.new.near ≡ N.view self.old.near) }
+    {
+        match self.settle(pointer) {
+            Ok(Some(place)) => Ok(Some(place)),
+            Ok(None) => {
+                self.retire(pointer);
+                Ok(None)
+            }
+            Err(why) => Err(why),
+        }
+    }
+
+    // The same, but that an object that its owner has dropped isn't retired yet.
+    fn settle(&mut self, pointer: u16) -> Result<Option<Place>, Refused>
+        requires pointer { pointer < CELLS * (N.view self.old.near).mutators }
+        requires quiet { IsQuietNear (N.view self.old.near) pointer }
+        ensures place { IfOk result (λ o. IfSome o (λ place. goal (N.view self.old.near) pointer ≡ Some place)) }
+        ensures moved { IfOk result (λ o. IfSome o (λ place. Leaves (moved_now (N.view self.old.near) pointer place) (N.view self.new.near))) }
+        ensures order { IfOk result (λ o. MatchOption o (self.new.order ≡ self.old.order) (λ place. self.new.order ≡ order_moved (N.view self.old.near) pointer self.old.order place)) }
+        ensures device { self.new.device ≡ self.old.device }
+        ensures asked { is_dropped (read_of ((N.view self.old.near).cell pointer)) ≡ true → result ≡ Ok None }
+        ensures found { IfOk result (λ o. IfNone o (FindsDrop (N.view self.old.near) (N.view self.new.near) pointer)) }
+        ensures refused { IfErr result (λ why. why ≡ NoRoom) }
+        ensures none { IfErr result (λ _. goal (N.view self.old.near) pointer ≡ None) }
+        ensures seen { IfErr result (λ _. FindsAlone (N.view self.old.near) (N.view self.new.near) pointer) }
+        ensures kept { IfErr result (λ _. self.new.order ≡ self.old.order) }
+        ensures exact { N.still → IfOk result (λ o. MatchOption o (N.view self.new.near ≡ N.view self.old.near) (λ place. N.view self.new.near ≡ moved_now (N.view self.old.near) pointer place)) }
+        ensures dropped { N.still → IfOk result (λ o. IfNone o (is_dropped (read_of ((N.view self.old.near).cell pointer)) ≡ true)) }
+        ensures unchanged { N.still → IfErr result (λ _. N.view self.new.near ≡ N.view self.old.near) }
+    {
+        self.keeps_law();
+        let found = self.see(pointer);
+        if is_dropped(found) {
+            return Ok(None);
+        }
+        if has_evac(found) {
+            return self.carry(pointer, found);
+        }
+        Ok(self.stay(pointer, found))
+    }
+
+    // Moves an object to a place where room is, the last free log too. `None` where its owner has dropped it meanwhile, as its cell
+    // says then. Refused [`Refused::NoRoom`] alone.
+    fn carry(&mut self, pointer: u16, found: u64) -> Result<Option<Place>, Refused>
+        requires pointer { pointer < CELLS * (N.view self.old.near).mutators }
+        requires found { found ≡ (N.view self.old.near).cell pointer }
+        requires quiet { IsQuietNear (N.view self.old.near) pointer }
+        requires wanted { has_evac (read_of found) ≡ true }
+        requires alive { is_dropped (read_of found) ≡ false }
+        ensures place { IfOk result (λ o. IfSome o (λ place. goal (N.view self.old.near) pointer ≡ Some place)) }
+        ensures moved { IfOk result (λ o. IfSome o (λ place. Leaves (moved (N.view self.old.near) pointer place) (N.view self.new.near))) }
+        ensures order { IfOk result (λ o. MatchOption o (self.new.order ≡ self.old.order) (λ place. self.new.order ≡ order_after (N.view self.old.near) self.old.order place)) }
+        ensures dropped { IfOk result (λ o. IfNone o (FindsDrop (N.view self.old.near) (N.view self.new.near) pointer)) }
+        ensures exact { N.still → IfOk result (λ o. MatchOption o ⊥ (λ place. N.view self.new.near ≡ moved (N.view self.old.near) pointer place)) }
+        ensures device { self.new.device ≡ self.old.device }
+        ensures refused { IfErr result (λ why. why ≡ NoRoom) }
+        ensures none { IfErr result (λ _. goal (N.view self.old.near) pointer ≡ None) }
+        ensures unchanged { IfErr result (λ _. self.new ≡ self.old) }
+    {
+        let Some(was) = PtrWord::read(found) else {
+            unreachable!()
+        };
+        let PtrWord::Near { len, ds, place, .. } = was else {
+            unreachable!()
+        };
+        let size = size_of(len);
+        let Some(to) = self.ledger.room(size, false) else {
+            return Err(Refused::NoRoom);
+        };
+        if !move_object(&mut self.near, pointer, found, len, ds, place, to) {
+            return Ok(None);
+        }
+        // The old span dies as that of an object that is retired, and the new one is taken as that of a new object.
+        self.ledger.retire(pointer, was);
+        self.ledger.take(pointer, size, to);
+        Ok(Some(to))
+    }
+
+    // Takes the marks of an object, which stays where it lies. `None` where its owner has dropped it meanwhile, as its cell says
+    // then.
+    fn stay(&mut self, pointer: u16, found: u64) -> Option<Place>
+        requires pointer { pointer < CELLS * (N.view self.old.near).mutators }
+        requires found { found ≡ (N.view self.old.near).cell pointer }
+        requires quiet { IsQuietNear (N.view self.old.near) pointer }
+        requires unwanted { has_evac (read_of found) ≡ false }
+        requires alive { is_dropped (read_of found) ≡ false }
+        ensures place { IfSome result (λ place. goal (N.view self.old.near) pointer ≡ Some place) }
+        ensures stayed { IfSome result (λ _. Leaves (stayed (N.view self.old.near) pointer) (N.view self.new.near)) }
+        ensures dropped { IfNone result (FindsDrop (N.view self.old.near) (N.view self.new.near) pointer) }
+        ensures exact { N.still → MatchOption result ⊥ (λ _. N.view self.new.near ≡ stayed (N.view self.old.near) pointer) }
+        ensures order { self.new.order ≡ self.old.order }
+        ensures device { self.new.device ≡ self.old.device }
+    {
+        let Some(PtrWord::Near { len, ds, place, .. }) = PtrWord::read(found) else {
+            unreachable!()
+        };
+        if unmark_object(&mut self.near, pointer, found, len, ds, place) {
+            Some(place)
+        } else {
+            None
+        }
+    }
+}
+
+// Copies an object, header and data words, to a place where the next span of a log may stand.
+fn copy_object<N: Near>(near: &mut N, pointer: u16, len: u16, ds: u8, from: Place, to: Place)
+    requires { MayCopy (N.view near.old) pointer len ds from to }
+    ensures copied { Copied (N.view near.old) (N.view near.new) pointer len ds from to }
+    ensures exact { N.still → N.view near.new ≡ with_written_span (N.view near.old) pointer len ds to (data_at (N.view near.old).word from) }
+{
+    let header = HeadWord { pointer, len, ds };
+    near.put(to.log, to.at, header.pack());
+    for i in 0..words_for(len) {
+        let word = near.get(from.log, from.at + 1 + i, false);
+        near.put(to.log, to.at + 1 + i, word);
+    }
+}
+
+// Copies an object to a place, which its cell names from then on. `false` where its owner has dropped it meanwhile, as its
+// cell says then.
+fn move_object<N: Near>(
+    near: &mut N,
+    pointer: u16,
+    found: u64,
+    len: u16,
+    ds: u8,
+    from: Place,
+    to: Place,
+) -> bool
+    requires may { MayCopy (N.view near.old) pointer len ds from to }
+    requires found { found ≡ (N.view near.old).cell pointer }
+    requires wanted { has_evac (read_of found) ≡ true }
+    requires alive { is_dropped (read_of found) ≡ false }
+    ensures moved { result ≡ true → Leaves (moved (N.view near.old) pointer to) (N.view near.new) }
+    ensures dropped { result ≡ false → FindsDrop (N.view near.old) (N.view near.new) pointer }
+    ensures won { N.still → result ≡ true }
+    ensures exact { N.still → N.view near.new ≡ moved (N.view near.old) pointer to }
+{
+    copy_object(near, pointer, len, ds, from, to);
+    match rename(near, pointer, found, near_word(len, ds, to)) {
+        Ok(()) => true,
+        Err(_) => false,
+    }
+}
+
+// Takes the marks of an object that stays where it lies. `false` where its owner has dropped it meanwhile, as its cell says
+// then.
+fn unmark_object<N: Near>(
+    near: &mut N,
+    pointer: u16,
+    found: u64,
+    len: u16,
+    ds: u8,
+    place: Place,
+) -> bool
+    requires may { MayStay (N.view near.old) pointer len ds place }
+    requires found { found ≡ (N.view near.old).cell pointer }
+    requires alive { is_dropped (read_of found) ≡ false }
+    ensures stayed { result ≡ true → Leaves (stayed (N.view near.old) pointer) (N.view near.new) }
+    ensures dropped { result ≡ false → FindsDrop (N.view near.old) (N.view near.new) pointer }
+    ensures won { N.still → result ≡ true }
+    ensures exact { N.still → N.view near.new ≡ stayed (N.view near.old) pointer }
+{
+    match rename(near, pointer, found, near_word(len, ds, place)) {
+        Ok(()) => true,
+        Err(_) => false,
+    }
+}
+
+// Whether the book wants the log that a near object lies in.
+fn has_evac(word: u64) -> bool
+    ensures { result ≡ has_evac (read_of word) }
+{
+    match PtrWord::read(word) {
+        Some(PtrWord::Near { marks, .. }) => marks.evac,
+        _ => false,
+    }
+}
+
+// The cell of an object that lies near, without marks.
+fn near_word(len: u16, ds: u8, place: Place) -> u64
+    requires { IsPtr (near_at len ds place no_marks) }
+    ensures { result ≡ near_word len ds place }
+{
+    let marks = Marks {
+        hot: false,
+        evac: false,
+        moved: false,
+        dropped: false,
+    };
+    let word = PtrWord::Near {
+        len,
+        ds,
+        place,
+        marks,
+    };
+    word.pack()
+}
