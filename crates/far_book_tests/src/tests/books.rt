@@ -38,7 +38,11 @@ fn beset(rt: &HostRuntime, events: Vec<Event>) -> Result<Book<Beset, MemDevice>,
 }
 
 // A new object of the first mutator, in its lowest free cell.
-fn place_next<N: Near + Drop>(book: &mut Book<N, MemDevice>, len: u16, ds: u8) -> Result<(u16, Place), Refused>
+fn place_next<N: Near + Drop>(
+    book: &mut Book<N, MemDevice>,
+    len: u16,
+    ds: u8,
+) -> Result<(u16, Place), Refused>
     requires some { 0 < len }
     requires most { len ≤ LONGEST }
 {
