@@ -1,5 +1,5 @@
 -- What a caller of the book needs: that a new core is at the start, and that a mark shows a drop.
-use Rattle.std.proofs.Common.{◌≡◌, Bool, true, false, sym, refl, ap, subst, ◌∙◌, Option, Some, None}
+use Rattle.std.proofs.Common.{◌≡◌, ℕ, Bool, true, false, sym, refl, ap, subst, ◌∙◌, Option, Some, None}
 use Rattle.far_word.specs.declared.mark.Marks.{Marks}
 use Rattle.far_word.specs.declared.pointer.Place.{Place}
 use Rattle.far_word.specs.declared.pointer.PtrWord.{PtrWord}
@@ -7,9 +7,12 @@ use Rattle.far_word.specs.declared.pointer.PtrWord.TheVariants as pointer
 use Rattle.far_core.specs.declared.shape.Shape.{Shape}
 use Rattle.far_core.specs.events.Naming.{is_dropped}
 use Rattle.far_core.specs.state.Opening.{opening}
-use Rattle.far_core.specs.state.State.{State}
+use Rattle.far_word.specs.Pointer.{read_of}
+use Rattle.far_core.specs.state.State.{State, put}
+use Rattle.far_core.proofs.Put.{put_same}
 use Rattle.far_book.specs.declared.home.Home.TheVariants.{Near}
 use Rattle.far_book.specs.Masked.{masked}
+use Rattle.far_book.specs.book.Dealing.{IsQuietNear, has_evac}
 use Rattle.far_book.specs.book.Home.{home_of}
 use Rattle.far_book.specs.book.Own.{IsAtStart}
 
@@ -24,3 +27,17 @@ dropped_near (Some (pointer.Far len ds m)) place marks e h = absurd cc
 
 pub beset_start : (s v : State) (shape : Shape) (honest : Bool) → s ≡ opening shape honest → v ≡ masked s s.cell (λ _. false) → IsAtStart v
 beset_start s v shape honest e is = subst IsAtStart (sym (is ∙ ap (λ (t : State). masked t t.cell (λ _. false)) e)) refl
+
+-- what is seen near with MOVE is quiet
+pub quiet_near : (s t : State) (p w len ds : ℕ) (place : Place) (marks : Marks) → t ≡ record s { cell = put s.cell p w } → read_of w ≡ Some (pointer.Near len ds place marks) → marks.moved ≡ true → IsQuietNear t p
+quiet_near s t p w len ds place marks e near moved = subst (λ (u : State). IsQuietNear u p) (sym e) record {
+  len = len;
+  ds = ds;
+  place = place;
+  marks = marks;
+  near = ap read_of (put_same s.cell p w p refl) ∙ near;
+  quiet = rw moved refl;
+}
+
+pub evac_near : (s t : State) (p w len ds : ℕ) (place : Place) (marks : Marks) → t ≡ record s { cell = put s.cell p w } → read_of w ≡ Some (pointer.Near len ds place marks) → marks.evac ≡ true → has_evac (read_of (t.cell p)) ≡ true
+evac_near s t p w len ds place marks e near evac = ap (λ (u : State). has_evac (read_of (u.cell p))) e ∙ (ap has_evac (ap read_of (put_same s.cell p w p refl) ∙ near) ∙ evac)

@@ -1,13 +1,11 @@
 -- What an eviction leaves, from its steps: the cell is seen, words are read, the cell is named.
-use Rattle.std.proofs.Common.{◌≡◌, ◌≢◌, ℕ, ◌+◌, ◌*◌, ◌^◌, ◌<◌, Bool, true, false, cond, nat_lt, arith, sym, refl, ap, subst, ◌∙◌, Option, Some, None, inl, inr}
+use Rattle.std.proofs.Common.{◌≡◌, ℕ, ◌+◌, ◌<◌, Bool, true, false, cond, arith, sym, refl, ap, subst, ◌∙◌, Some}
 use Rattle.std.proofs.lemmas.Bool.{false≢true, false_from_ne_true, lt-ltb}
 use Rattle.far_word.specs.declared.mark.Marks.{Marks}
 use Rattle.far_word.specs.declared.pointer.Place.{Place}
-use Rattle.far_word.specs.declared.pointer.PtrWord.{PtrWord}
-use Rattle.far_word.specs.declared.pointer.PtrWord.TheVariants.{Free, Near, Far}
+use Rattle.far_word.specs.declared.pointer.PtrWord.TheVariants.{Near, Far}
 use Rattle.far_word.specs.Pointer.{IsPtr, read_of}
 use Rattle.far_word.specs.Sizes.{words_for}
-use Rattle.far_word.proofs.PointerLaws.{read_says}
 use Rattle.far_core.specs.events.Copies.{data_at}
 use Rattle.far_core.specs.events.Naming.{is_dropped, no_marks}
 use Rattle.far_core.specs.events.namings.Evicts.{with_kept}
@@ -20,7 +18,7 @@ use Rattle.far_book.specs.book.Dealing.{Leaves, has_evac}
 use Rattle.far_book.specs.book.Effects.{evicted, far_word, retired, with_free_cell}
 use Rattle.far_book.specs.book.Evicting.{GoesFar, IsGone}
 use Rattle.far_book.specs.book.Renaming.{seen}
-use Rattle.far_book.proofs.Finding.{finds_more, near_found, near_known}
+use Rattle.far_book.proofs.Finding.{finds_more, near_known}
 use Rattle.far_book.proofs.region.Calls.{put_put}
 use Rattle.far_book.proofs.region.Evictions.{evicted_is, sent}
 use Rattle.far_book.proofs.region.Founds.{drop_found}

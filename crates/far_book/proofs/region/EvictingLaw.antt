@@ -1,10 +1,8 @@
 -- The effect of an eviction is reached by one legal event, and is one step of the world.
-use Rattle.std.proofs.Common.{◌≡◌, ℕ, ◌+◌, ◌*◌, ◌^◌, ◌<◌, true, false, cond, arith, sym, refl, ap, subst, ◌∙◌, Some}
+use Rattle.std.proofs.Common.{◌≡◌, ℕ, ◌+◌, ◌^◌, ◌<◌, cond, sym, refl, ap, subst, ◌∙◌, Some}
 use Rattle.std.proofs.lemmas.Bool.{eq-eqb, lt-ltb}
-use Rattle.far_word.specs.declared.mark.Marks.{Marks}
 use Rattle.far_word.specs.declared.pointer.Place.{Place}
 use Rattle.far_word.specs.declared.pointer.PtrWord.TheVariants.{Near, Far}
-use Rattle.far_word.specs.declared.sizes.TheConstants.{CELLS}
 use Rattle.far_word.specs.Pointer.{IsPtr, read_of}
 use Rattle.far_word.specs.Sizes.{words_for}
 use Rattle.far_word.proofs.PointerLaws.{read_says, word_fits}
@@ -16,7 +14,7 @@ use Rattle.far_core.specs.events.Name.{change_by}
 use Rattle.far_core.specs.events.Naming.{naming_of, no_marks, is_dropped}
 use Rattle.far_core.specs.events.Step.{after, answer}
 use Rattle.far_core.specs.state.Law.{Law}
-use Rattle.far_core.specs.state.State.{State, addr, put}
+use Rattle.far_core.specs.state.State.{State, addr}
 use Rattle.far_core.specs.world.Changes.{GoesFar, Step, StepOf}
 use Rattle.far_core.specs.world.Happens.{Happens}
 use Rattle.far_core.specs.world.WorldOf.{world_of}

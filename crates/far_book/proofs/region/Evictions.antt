@@ -1,12 +1,11 @@
 -- A quiet near object goes far: what may be named, what is left of its log, and that a book stays in order.
-use Rattle.std.proofs.Common.{◌≡◌, ◌≢◌, ℕ, ◌+◌, ◌-◌, ◌*◌, ◌/◌, ◌^◌, ◌<◌, ◌≤◌, Bool, true, false, cond, nat_lt, arith, sym, refl, ap, subst, ◌∙◌, Option, Some, None, List, inl, inr}
+use Rattle.std.proofs.Common.{◌≡◌, ◌≢◌, ℕ, ◌+◌, ◌-◌, ◌*◌, ◌/◌, ◌^◌, ◌<◌, ◌≤◌, Bool, true, false, cond, arith, sym, refl, ap, subst, ◌∙◌, Option, Some, List, inl, inr}
 use Rattle.std.specs.Prelude.{◌==◌, ◌||◌, ◌&&◌, eqb}
 use Rattle.std.specs.List.{IsDistinct, list_any}
 use Rattle.std.specs.Vec.{vec_len, vec_capacity}
 use Rattle.std.proofs.lemmas.Bool.{cases_eq, eq-eqb, ne_eqb, false≢true, lt-ltb}
 use Rattle.far_word.specs.declared.mark.Marks.{Marks}
 use Rattle.far_word.specs.declared.pointer.Place.{Place}
-use Rattle.far_word.specs.declared.pointer.PtrWord.{PtrWord}
 use Rattle.far_word.specs.declared.pointer.PtrWord.TheVariants.{Free, Near, Far}
 use Rattle.far_word.specs.declared.sizes.TheConstants.{CELLS, LOG_WORDS}
 use Rattle.far_word.specs.Bytes.{bytes_of}
@@ -36,7 +35,7 @@ use Rattle.far_device.specs.Contents.{KeepsOthers}
 use Rattle.far_book.specs.declared.ledger.Filled.{Filled}
 use Rattle.far_book.specs.declared.ledger.Ledger.{Ledger}
 use Rattle.far_book.specs.Finds.{Finds, marks_in}
-use Rattle.far_book.specs.Known.{Forgets, KnowsLeaving}
+use Rattle.far_book.specs.Known.{KnowsLeaving}
 use Rattle.far_book.specs.book.Dealing.{Leaves, has_evac}
 use Rattle.far_book.specs.book.Effects.{evicted, evicted_of, far_word, with_free_cell}
 use Rattle.far_book.specs.book.Evicting.{IsQuietData, IsQuietIn, Learns}

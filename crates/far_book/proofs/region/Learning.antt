@@ -5,14 +5,14 @@ use Rattle.std.proofs.lemmas.List.{ext_get_or, get_or-take, length-append, get_o
 use Rattle.std.proofs.lemmas.Slice.{take-put_mid}
 use borrow.Rule.Slice.PartMut.{put_mid}
 use Rattle.far_word.specs.declared.pointer.Place.{Place}
-use Rattle.far_word.specs.Bytes.{bytes_of, byte_at}
+use Rattle.far_word.specs.Bytes.{bytes_of}
 use Rattle.far_word.specs.Sizes.{words_for}
 use Rattle.far_word.proofs.ByteLaws.{bytes_of-same, bytes_of-get, length-bytes_of}
 use Rattle.far_log.specs.Spans.{head_len}
 use Rattle.far_core.specs.events.Copies.{data_at}
 use Rattle.far_core.specs.state.State.{State, put, addr}
 use Rattle.far_core.proofs.Put.{put_both, put_same, put_other}
-use Rattle.far_book.specs.Known.{IsKnown, IsPaddedAt, KeepsKnown}
+use Rattle.far_book.specs.Known.{IsKnown, IsPaddedAt}
 use Rattle.far_book.specs.book.Dealing.{Leaves}
 use Rattle.far_book.specs.Quiet.{IsQuietAt}
 use Rattle.far_book.specs.book.Evicting.{IsQuietData, Learns}

@@ -1,9 +1,8 @@
 //! How an object goes far: the device holds its bytes before its cell says so.
 
-ghost use Rattle.std.specs.Prelude.{◌≡◌, ◌⊎◌, ◌+◌, ◌*◌, ◌<◌, ◌≤◌, ◌++◌, ℕ, true, false, not, take, length, Some, None, IfOk, IfErr, OnOk};
-ghost use Rattle.far_word.specs.declared.pointer.PtrWord.TheVariants.{Near as near_at};
+ghost use Rattle.std.specs.Prelude.{◌≡◌, ◌⊎◌, ◌+◌, ◌*◌, ◌<◌, ◌≤◌, ◌++◌, true, false, not, take, length, Some, None, IfOk, IfErr, OnOk};
 ghost use Rattle.far_word.specs.declared.refused.Refused.TheVariants.{Memory, Device as Failed};
-ghost use Rattle.far_word.specs.declared.sizes.TheConstants.{CELLS, LONGEST, LOG_WORDS};
+ghost use Rattle.far_word.specs.declared.sizes.TheConstants.{CELLS, LONGEST};
 ghost use Rattle.far_word.specs.Bytes.{bytes_of};
 ghost use Rattle.far_word.specs.Pointer.{read_of};
 ghost use Rattle.far_word.specs.Sizes.{words_for};

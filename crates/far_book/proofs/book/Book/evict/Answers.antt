@@ -1,5 +1,5 @@
 use Rattle.far_book.proofs.book.Book.evict.Goals as goal
-use Rattle.std.proofs.Common.{rules, ◌≡◌, ◌∙◌, ap, sym, subst, arith, refl, Some}
+use Rattle.std.proofs.Common.{rules, ◌≡◌, ◌∙◌, ap, subst, arith, refl, Some}
 use Rattle.far_word.specs.declared.pointer.PtrWord.TheVariants.{Near, Far}
 use Rattle.far_word.specs.Pointer.{IsPtr, read_of}
 use Rattle.far_word.proofs.PointerLaws.{read_says}

@@ -1,5 +1,5 @@
 use Rattle.far_book.proofs.book.Book.name_far.Goals as goal
-use Rattle.std.proofs.Common.{rules, ◌≡◌, ◌∙◌, ◌<◌, ◌≤◌, ◌*◌, ap, sym, subst, arith, Some}
+use Rattle.std.proofs.Common.{◌≡◌, ◌∙◌, ◌<◌, ◌≤◌, ◌*◌, ap, sym, subst, Some}
 use Rattle.far_word.specs.declared.sizes.TheConstants.{CELLS, LOG_WORDS}
 use Rattle.far_word.specs.Bytes.{bytes_of}
 use Rattle.far_core.specs.events.Copies.{data_at}

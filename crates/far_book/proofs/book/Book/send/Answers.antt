@@ -1,5 +1,5 @@
 use Rattle.far_book.proofs.book.Book.send.Goals as goal
-use Rattle.std.proofs.Common.{rules, ◌≡◌, ◌∙◌, ◌<◌, ◌*◌, ap, sym, subst, arith, length-take-le}
+use Rattle.std.proofs.Common.{◌<◌, ◌*◌, ap, sym, subst, arith, length-take-le}
 use Rattle.far_word.specs.declared.sizes.TheConstants.{CELLS}
 use Rattle.far_word.specs.Sizes.{words_for}
 use Rattle.far_core.specs.state.State.{State}
