@@ -1,20 +1,22 @@
 -- That the effects of the book's calls are reached by legal events, keep the law of the core, and make one step of the world; and
 -- what they are in the subject's words.
-use Rattle.std.specs.Prelude.{◌≡◌, ◌≢◌, ◌⊎◌, ℕ, ◌+◌, ◌*◌, ◌<◌, ◌≤◌, true, Some}
+use Rattle.std.specs.Prelude.{◌≡◌, ◌≢◌, ◌⊎◌, ℕ, ◌+◌, ◌*◌, ◌<◌, ◌≤◌, true, false, Some}
+use Rattle.far_word.specs.declared.mark.Marks.{Marks}
 use Rattle.far_word.specs.declared.pointer.Place.{Place}
-use Rattle.far_word.specs.declared.pointer.PtrWord.TheVariants.{Near}
+use Rattle.far_word.specs.declared.pointer.PtrWord.TheVariants.{Near, Far}
 use Rattle.far_word.specs.declared.sizes.TheConstants.{CELLS, LONGEST}
 use Rattle.far_word.specs.Header.{head_word}
 use Rattle.far_word.specs.Pointer.{read_of}
-use Rattle.far_word.specs.Sizes.{size_of}
+use Rattle.far_word.specs.Sizes.{size_of, words_for}
 use Rattle.far_core.specs.declared.event.Kind.TheVariants.{Open, Sealed}
+use Rattle.far_core.specs.events.Copies.{Alike, data_at}
 use Rattle.far_core.specs.events.Naming.{is_dropped, no_marks}
-use Rattle.far_core.specs.state.Law.{Law, Blank}
+use Rattle.far_core.specs.state.Law.{Law, Blank, IsStored}
 use Rattle.far_core.specs.state.Room.{room}
 use Rattle.far_core.specs.state.State.{State, addr}
-use Rattle.far_core.specs.world.Changes.{Step, Makes}
+use Rattle.far_core.specs.world.Changes.{Step, Makes, ComesNear}
 use Rattle.far_core.specs.world.WorldOf.{world_of}
-use Rattle.far_book.specs.book.Effects.{placed, retired}
+use Rattle.far_book.specs.book.Effects.{fetched, placed, retired}
 use Rattle.far_book.specs.book.Reached.{Reached}
 
 -- from s to t p has got an object: its cell says near, at the place, with the length and the data structure and without marks; its
@@ -51,3 +53,26 @@ PlacingIsLegal = (s : State) (p len ds : ℕ) (place : Place) → Law s → p < 
 abbrev pub RetiringIsLegal : Type 0
 RetiringIsLegal = (s : State) (p : ℕ) → Law s → p < CELLS * s.mutators → is_dropped (read_of (s.cell p)) ≡ true →
     Reached s (retired s p) × Law (retired s p) × (world_of (retired s p) ≡ world_of s) × IsFreed s (retired s p) p
+
+-- from s to t p's object has come to a place: its cell says near, there, with the length and the data structure and without marks; its header
+-- stands there, and a row of words behind it; its log is the open one, and ends later by the object's size. All other cells, words
+-- and tails stay, and no log but the one that was open changes its kind: that is sealed
+pub record IsCome (s t : State) (p len ds : ℕ) (place : Place) (row : ℕ → ℕ) : Type 0 where
+  pub cell : read_of (t.cell p) ≡ Some (Near len ds place no_marks)
+  pub cells : (q : ℕ) → q ≢ p → t.cell q ≡ s.cell q
+  pub header : t.word (addr place) ≡ head_word p len ds
+  pub bytes : Alike (data_at t.word place) row (words_for len)
+  pub words : (a : ℕ) → (a < addr place) ⊎ (addr place + size_of len ≤ a) → t.word a ≡ s.word a
+  pub tail : t.tail place.log ≡ s.tail place.log + size_of len
+  pub tails : (l : ℕ) → l ≢ place.log → t.tail l ≡ s.tail l
+  pub opens : t.kind place.log ≡ Open
+  pub seals : (l : ℕ) → l ≢ place.log → s.kind l ≡ Open → t.kind l ≡ Sealed
+  pub kinds : (l : ℕ) → l ≢ place.log → s.kind l ≢ Open → t.kind l ≡ s.kind l
+
+-- a far object that isn't dropped, where room is, with words of its length: in the world it comes near, and nothing else changes. Where the far side
+-- is honest they are those stored
+abbrev pub FetchingIsLegal : Type 0
+FetchingIsLegal = (s : State) (p len ds : ℕ) (marks : Marks) (place : Place) (row : ℕ → ℕ) → Law s → read_of (s.cell p) ≡ Some (Far len ds marks) → marks.dropped ≡ false →
+    room s (size_of len) true ≡ Some place → IsStored row len → (s.honest ≡ true → Alike row (s.stored p) (words_for len)) →
+    Reached s (fetched s p place row) × Law (fetched s p place row) × Step (ComesNear p place.log) (world_of s) (world_of (fetched s p place row))
+    × IsCome s (fetched s p place row) p len ds place row
