@@ -22,6 +22,7 @@ pub mod Owns
 pub mod Packing
 pub mod Places
 pub mod Reaching
+pub mod ReachingFar
 pub mod Readings
 pub mod Retires
 pub mod Settled

@@ -1,7 +1,7 @@
 //! What the effects of the book's calls are made of, as contracts of functions that do nothing.
 
 ghost use Rattle.std.specs.Prelude.{◌≡◌, ◌*◌, ◌<◌, ◌≤◌, ℕ, true};
-ghost use Rattle.far_book.specs.book.Laws.{EvictingIsLegal, PlacingIsLegal, RetiringIsLegal};
+ghost use Rattle.far_book.specs.book.Laws.{EvictingIsLegal, PlacingIsLegal, RetiringIsLegal, FetchingIsLegal};
 
 /// Placing a new object where room is leads from a state to the next by legal events of the core: its header and zeros are
 /// put, and its cell is named. So the law of the core is kept, and the world makes one step: the object. Its cell says near at
@@ -21,4 +21,12 @@ pub fn retiring_is_legal()
 /// pointer's stored words, no word, tail or kind of a log changes.
 pub fn evicting_is_legal()
     ensures { EvictingIsLegal }
+{}
+
+/// Fetching a far object where room is leads from a state to the next by legal events of the core: its header and words are put,
+/// which are those stored where the far side is honest, and its cell is named. So the law of the core is kept, and the world
+/// makes one step: the object comes near. Its cell says near at the place, the tail of its log grows by its size, and no other
+/// cell, word or tail changes.
+pub fn fetching_is_legal()
+    ensures { FetchingIsLegal }
 {}

@@ -151,7 +151,7 @@ impl Ledger {
         Some(cells + 64 + cell as u16)
     }
 
-    /// A span of so many words is taken at a place, for a pointer whose cell was free.
+    /// A span of so many words is taken at a place, for a pointer that had none: its cell isn't free from then on.
     pub(crate) fn take(&mut self, pointer: u16, size: u16, place: Place)
         requires { MayTake self.old pointer size place }
         ensures { Takes self.old self.new pointer size place }

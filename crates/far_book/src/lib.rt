@@ -17,5 +17,6 @@ pub use beset::Beset;
 pub use book::Book;
 pub use home::Home;
 pub use laws::{evicting_is_legal, placing_is_legal, retiring_is_legal};
+pub use laws::{fetching_is_legal, placing_is_legal, retiring_is_legal};
 pub use near::Near;
 pub use plain::Plain;

@@ -1,5 +1,5 @@
 -- A far object comes near: what is written, what may be named, and what that leaves.
-use Rattle.std.proofs.Common.{◌≡◌, ◌≢◌, ℕ, ◌+◌, ◌-◌, ◌*◌, ◌<◌, ◌≤◌, ◌^◌, true, false, arith, sym, refl, ap, subst, ◌∙◌, Option, Some, None, inl, inr}
+use Rattle.std.proofs.Common.{◌≡◌, ◌≢◌, ℕ, ◌+◌, ◌-◌, ◌*◌, ◌<◌, ◌≤◌, ◌^◌, true, arith, sym, refl, ap, subst, ◌∙◌, Some, inl, inr}
 use Rattle.std.specs.Prelude.{◌⊎◌}
 use Rattle.far_word.specs.declared.mark.Marks.{Marks}
 use Rattle.far_word.specs.declared.pointer.Place.{Place}
@@ -48,7 +48,7 @@ module _ (s : State) (p len ds : ℕ) (place : Place) (row : ℕ → ℕ) where
   abbrev written : State
   written = with_written_span s p len ds place row
 
-  header : written.word (addr place) ≡ head_word p len ds
+  pub header : written.word (addr place) ≡ head_word p len ds
   header = row_out (put s.word (addr place) (head_word p len ds)) (addr place + 1) (words_for len) row (addr place) (inl (omega arith)) ∙ put_same s.word (addr place) (head_word p len ds) (addr place) refl
 
   -- a word outside the span
@@ -56,7 +56,7 @@ module _ (s : State) (p len ds : ℕ) (place : Place) (row : ℕ → ℕ) where
   written_outside a (inl low) = row_out (put s.word (addr place) (head_word p len ds)) (addr place + 1) (words_for len) row a (inl (omega arith)) ∙ put_other s.word (addr place) (head_word p len ds) a (λ e. omega arith)
   written_outside a (inr high) = row_out (put s.word (addr place) (head_word p len ds)) (addr place + 1) (words_for len) row a (inr (omega arith)) ∙ put_other s.word (addr place) (head_word p len ds) a (λ e. omega arith)
 
-  stands : (i : ℕ) → i < words_for len → data_at written.word place i ≡ row i
+  pub stands : (i : ℕ) → i < words_for len → data_at written.word place i ≡ row i
   stands i lt = row_in (put s.word (addr place) (head_word p len ds)) (addr place + 1) (words_for len) row (addr place + 1 + i) (omega arith) (omega arith)
       ∙ (let at : addr place + 1 + i - (addr place + 1) ≡ i = omega arith in ap row at)
 

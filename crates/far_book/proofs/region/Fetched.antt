@@ -1,5 +1,5 @@
 -- A far object has come near: the law stays, a ledger that was right is right again, and a book is in order.
-use Rattle.std.proofs.Common.{◌≡◌, ◌≢◌, ℕ, ◌+◌, ◌-◌, ◌*◌, ◌^◌, ◌<◌, ◌≤◌, Bool, true, false, arith, sym, refl, ap, subst, ◌∙◌, Option, Some, None, List, length, inl, inr}
+use Rattle.std.proofs.Common.{◌≡◌, ℕ, ◌+◌, ◌-◌, ◌*◌, ◌^◌, ◌<◌, Bool, true, false, arith, sym, refl, ap, subst, ◌∙◌, Option, Some, List, length, inl, inr}
 use Rattle.std.specs.Prelude.{IfSome}
 use Rattle.std.proofs.lemmas.Bool.{cases_lt, cases_order, eq-eqb, false≢true, false_from_ne_true}
 use Rattle.std.proofs.lemmas.Nat.{pow_pos}
@@ -29,7 +29,7 @@ use Rattle.far_book.specs.declared.ledger.Ledger.{Ledger}
 use Rattle.far_book.specs.Finds.{Finds, body_of, marks_in}
 use Rattle.far_book.specs.Known.{Forgets}
 use Rattle.far_book.specs.book.Effects.{fetched, near_word, retired, with_free_cell, with_written_span}
-use Rattle.far_book.specs.book.FarSide.{HoldsFar, InOrder}
+use Rattle.far_book.specs.book.FarSide.{InOrder}
 use Rattle.far_book.specs.book.Fetching.{ForgetsSpans, IsFetched, far_len, room_for}
 use Rattle.far_book.specs.book.Ledger.{Notes, Takes}
 use Rattle.far_book.specs.book.Own.{own_part}

@@ -46,7 +46,7 @@ use Rattle.far_book.proofs.region.Retires.{may_retire, retires_form}
 
 -- ---- what is reached
 -- a legal event is made
-made_by : (s : State) (e : Event) → Legal s e → (step_of s e).0 ≡ after s e
+pub made_by : (s : State) (e : Event) → Legal s e → (step_of s e).0 ≡ after s e
 made_by s e legal = ap (λ (x : State × Reply). x.0) (ap (λ b. cond b (after s e, answer s e) (s, Refused)) (is_test s e legal))
 
 -- one event leads to the state after it
@@ -72,7 +72,7 @@ legal_more : (s : State) (es ds : List Event) → AllLegal s es → AllLegal (af
 legal_more s [] ds first then = then
 legal_more s (e ∷ es) ds first then = (first.0, legal_more (step_of s e).0 es ds first.1 then)
 
-reached_more : (s t u : State) → Reached s t → Reached t u → Reached s u
+pub reached_more : (s t u : State) → Reached s t → Reached t u → Reached s u
 reached_more s t u a b = record {
   made = a.made ++ b.made;
   legal = legal_more s a.made b.made a.legal (subst (λ v. AllLegal v b.made) a.leads b.legal);
@@ -85,7 +85,7 @@ law_after : (s : State) (es : List Event) → Law s → All Fits es → Law (aft
 law_after s [] law fits = law
 law_after s (e ∷ es) law fits = law_after (step_of s e).0 es (step_keeps s e law (All-head Fits e es fits)) (All-tail Fits e es fits)
 
-reached_law : (s t : State) → Law s → Reached s t → Law t
+pub reached_law : (s t : State) → Law s → Reached s t → Law t
 reached_law s t law way = subst Law (sym way.leads) (law_after s way.made law way.fits)
 
 -- the world doesn't see zeros that are put

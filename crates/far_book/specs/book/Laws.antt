@@ -9,14 +9,15 @@ use Rattle.far_word.specs.Header.{head_word}
 use Rattle.far_word.specs.Pointer.{read_of}
 use Rattle.far_word.specs.Sizes.{size_of, words_for}
 use Rattle.far_core.specs.declared.event.Kind.TheVariants.{Open, Sealed}
+use Rattle.far_core.specs.events.Copies.{Alike, data_at}
 use Rattle.far_core.specs.events.Naming.{is_dropped, no_marks}
 use Rattle.far_core.specs.events.Quiet.{is_quiet}
-use Rattle.far_core.specs.state.Law.{Law, Blank}
+use Rattle.far_core.specs.state.Law.{Law, Blank, IsStored}
 use Rattle.far_core.specs.state.Room.{room}
 use Rattle.far_core.specs.state.State.{State, addr}
-use Rattle.far_core.specs.world.Changes.{Step, GoesFar, Makes}
+use Rattle.far_core.specs.world.Changes.{Step, GoesFar, Makes, ComesNear}
 use Rattle.far_core.specs.world.WorldOf.{world_of}
-use Rattle.far_book.specs.book.Effects.{evicted, placed, retired}
+use Rattle.far_book.specs.book.Effects.{evicted, placed, retired, fetched}
 use Rattle.far_book.specs.book.Reached.{Reached}
 
 -- from s to t p has got an object: its cell says near, at the place, with the length and the data structure and without marks; its
@@ -70,3 +71,26 @@ abbrev pub EvictingIsLegal : Type 0
 EvictingIsLegal = (s : State) (p len ds : ℕ) (place : Place) (marks : Marks) → Law s → p < CELLS * s.mutators → read_of (s.cell p) ≡ Some (Near len ds place marks) →
     is_quiet s.round s.clear p place marks ≡ true → marks.evac ≡ true → marks.dropped ≡ false →
     Reached s (evicted s p) × Law (evicted s p) × Step (GoesFar p) (world_of s) (world_of (evicted s p)) × IsEvicted s (evicted s p) p len ds place
+
+-- from s to t p's object has come to a place: its cell says near, there, with the length and the data structure and without marks; its header
+-- stands there, and a row of words behind it; its log is the open one, and ends later by the object's size. All other cells, words
+-- and tails stay, and no log but the one that was open changes its kind: that is sealed
+pub record IsCome (s t : State) (p len ds : ℕ) (place : Place) (row : ℕ → ℕ) : Type 0 where
+  pub cell : read_of (t.cell p) ≡ Some (Near len ds place no_marks)
+  pub cells : (q : ℕ) → q ≢ p → t.cell q ≡ s.cell q
+  pub header : t.word (addr place) ≡ head_word p len ds
+  pub bytes : Alike (data_at t.word place) row (words_for len)
+  pub words : (a : ℕ) → (a < addr place) ⊎ (addr place + size_of len ≤ a) → t.word a ≡ s.word a
+  pub tail : t.tail place.log ≡ s.tail place.log + size_of len
+  pub tails : (l : ℕ) → l ≢ place.log → t.tail l ≡ s.tail l
+  pub opens : t.kind place.log ≡ Open
+  pub seals : (l : ℕ) → l ≢ place.log → s.kind l ≡ Open → t.kind l ≡ Sealed
+  pub kinds : (l : ℕ) → l ≢ place.log → s.kind l ≢ Open → t.kind l ≡ s.kind l
+
+-- a far object that isn't dropped, where room is, with words of its length: in the world it comes near, and nothing else changes. Where the far side
+-- is honest they are those stored
+abbrev pub FetchingIsLegal : Type 0
+FetchingIsLegal = (s : State) (p len ds : ℕ) (marks : Marks) (place : Place) (row : ℕ → ℕ) → Law s → read_of (s.cell p) ≡ Some (Far len ds marks) → marks.dropped ≡ false →
+    room s (size_of len) true ≡ Some place → IsStored row len → (s.honest ≡ true → Alike row (s.stored p) (words_for len)) →
+    Reached s (fetched s p place row) × Law (fetched s p place row) × Step (ComesNear p place.log) (world_of s) (world_of (fetched s p place row))
+    × IsCome s (fetched s p place row) p len ds place row

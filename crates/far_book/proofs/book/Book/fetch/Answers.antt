@@ -1,12 +1,12 @@
 use Rattle.far_book.proofs.book.Book.fetch.Goals as goal
-use Rattle.std.proofs.Common.{◌≡◌, ◌∙◌, ◌+◌, ◌*◌, ◌<◌, ℕ, true, false, ap, arith, refl, sym, subst, Some, length}
+use Rattle.std.proofs.Common.{◌≡◌, ◌∙◌, ◌+◌, ◌*◌, ◌<◌, ℕ, true, false, ap, arith, refl, sym, subst, Some}
 use Rattle.std.specs.Prelude.{Option, List, is_some}
 use Rattle.std.proofs.lemmas.Bool.{false_from_ne_true}
 use Rattle.far_word.specs.declared.pointer.PtrWord.TheVariants.{Far}
 use Rattle.far_word.specs.declared.sizes.TheConstants.{CELLS, LOG_WORDS}
 use Rattle.far_word.specs.Bytes.{packed_word}
 use Rattle.far_word.specs.Pointer.{IsPtr, read_of}
-use Rattle.far_word.specs.Sizes.{size_of, words_for}
+use Rattle.far_word.specs.Sizes.{size_of}
 use Rattle.far_word.proofs.PointerLaws.{read_says}
 use Rattle.far_core.specs.events.Naming.{is_dropped}
 use Rattle.far_core.specs.state.Law.{IsStored}
@@ -14,15 +14,13 @@ use Rattle.far_core.specs.state.Room.{room}
 use Rattle.far_core.specs.state.State.{State}
 use Rattle.far_core.proofs.Put.{put_same}
 use Rattle.far_device.specs.Contents.{KeepsOthers}
-use Rattle.far_book.specs.Finds.{Finds}
 use Rattle.far_book.specs.book.BookOf.{BookOf}
 use Rattle.far_book.specs.Known.{Forgets}
-use Rattle.far_book.specs.book.Effects.{fetched, near_word, retired, with_written_span}
+use Rattle.far_book.specs.book.Effects.{fetched, retired, with_written_span}
 use Rattle.far_book.specs.book.FarSide.{InOrder}
-use Rattle.far_book.specs.book.Fetching.{room_for}
 use Rattle.far_book.specs.book.Ledger.{MayTake, Takes}
 use Rattle.far_book.specs.book.Own.{own_part}
-use Rattle.far_book.specs.book.Renaming.{Renamed, seen}
+use Rattle.far_book.specs.book.Renaming.{seen}
 use Rattle.far_book.proofs.Finding.{finds_is, finds_more}
 use Rattle.far_book.proofs.region.Calls.{ends, may_take, placeable, put_put}
 use Rattle.far_book.proofs.region.Fetched.{room_is, come_in_order, come_forgot, come_kept, far_unplaced, fetched_by, fetched_seen, given_long, given_word, gone_forgot, gone_kept, known, known_alive, written_below, written_header, written_in_order}
