@@ -8,6 +8,7 @@ pub mod InOrders
 pub mod Leaving
 pub mod Marked
 pub mod Moved
+pub mod MovesReached
 pub mod NotesKept
 pub mod Notings
 pub mod NumberSets

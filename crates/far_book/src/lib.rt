@@ -16,6 +16,6 @@ mod plain;
 pub use beset::Beset;
 pub use book::Book;
 pub use home::Home;
-pub use laws::{placing_is_legal, retiring_is_legal};
+pub use laws::{moving_is_legal, placing_is_legal, retiring_is_legal, staying_is_legal};
 pub use near::Near;
 pub use plain::Plain;

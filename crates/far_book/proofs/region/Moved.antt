@@ -39,7 +39,7 @@ use Rattle.far_book.proofs.region.Calls.{put_put}
 use Rattle.far_book.proofs.region.Copying.{below_outside, first, from_inside, layout_there, outside, start_outside}
 
 -- ---- the forms
-no_stay : (from to : Place) (m : Marks) → m.evac ≡ true → is_stay from to m ≡ false
+pub no_stay : (from to : Place) (m : Marks) → m.evac ≡ true → is_stay from to m ≡ false
 no_stay from to m wanted = ap (λ b. (from.log == to.log) && (from.at == to.at) && m.moved && not b) wanted ∙ and_false ((from.log == to.log) && (from.at == to.at) && m.moved) where
   and_false : (b : Bool) → (b && false) ≡ false
   and_false true = refl
@@ -152,16 +152,24 @@ module _ (s t : State) (p len ds : ℕ) (from to : Place) (h : MayCopy s p len d
       let here : (seen t p w).cell p ≡ w = put_same t.cell p w p refl in
       let grows : h.marks.moved ≡ true → x.marks.moved ≡ true = (λ e. sym (ap (λ o. (marks_in o).moved) x.near) ∙ f.moved (ap (λ o. (marks_in o).moved) near_then ∙ e)) in
       let quiet : is_quiet t.round t.clear p from x.marks ≡ true = ap (λ b. x.marks.moved || (b && t.round from.log && t.clear (p / CELLS))) x.same
-          ∙ quiet_grows h.marks.moved x.marks.moved h.marks.evac (t.round from.log) (t.clear (p / CELLS)) grows quiet_then in
-      let is_quiet_now : is_quiet_cell (seen t p w) p (read_of ((seen t p w).cell p)) ≡ true = ap (λ v. is_quiet_cell (seen t p w) p (read_of v)) here ∙ ap (is_quiet_cell (seen t p w) p) x.near ∙ quiet in
-      ((subst (λ (y : State). p < CELLS * y.mutators) (sym c.is) h.pointer,
-      (Moves len ds from to, ((x.marks, x.near, drop_of (read_of w) len ds from x.marks x.near kept, no_stay from to x.marks (x.same ∙ evac)), read_back (Near len ds to no_marks) layout), record {
-        span = record { next = subst (λ (y : State). IsNext y to) (sym c.is) h.next; head = c.header };
-        padded = c.padded;
-        quiet = quiet_fact (seen t p w) p is_quiet_now;
-        log = subst (λ (y : State). from.log < y.logs) (sym c.is) (from_inside s p len ds from to h);
-        same = c.same;
-      })), λ n place x i lt. absurd (not_to_near w len ds n to place layout x))
+      ∙ quiet_grows h.marks.moved x.marks.moved h.marks.evac (t.round from.log) (t.clear (p / CELLS)) grows quiet_then in
+      let is_quiet_now : is_quiet_cell (seen t p w) p (read_of ((seen t p w).cell p)) ≡ true = ap (λ v. is_quiet_cell (seen t p w) p (read_of v)) here ∙ ap (is_quiet_cell (seen t p w) p) x.near ∙ quiet in (
+        (
+          subst (λ (y : State). p < CELLS * y.mutators) (sym c.is) h.pointer,
+          (
+            Moves len ds from to,
+            ((x.marks, x.near, drop_of (read_of w) len ds from x.marks x.near kept, no_stay from to x.marks (x.same ∙ evac)), read_back (Near len ds to no_marks) layout),
+            record {
+              span = record { next = subst (λ (y : State). IsNext y to) (sym c.is) h.next; head = c.header };
+              padded = c.padded;
+              quiet = quiet_fact (seen t p w) p is_quiet_now;
+              log = subst (λ (y : State). from.log < y.logs) (sym c.is) (from_inside s p len ds from to h);
+              same = c.same;
+            },
+          ),
+        ),
+        λ n place x i lt. absurd (not_to_near w len ds n to place layout x),
+      )
 
   abbrev written : State
   written = with_written_span s p len ds to (data_at s.word from)

@@ -50,7 +50,7 @@ made_by : (s : State) (e : Event) → Legal s e → (step_of s e).0 ≡ after s 
 made_by s e legal = ap (λ (x : State × Reply). x.0) (ap (λ b. cond b (after s e, answer s e) (s, Refused)) (is_test s e legal))
 
 -- one event leads to the state after it
-reached_one : (s : State) (e : Event) → Legal s e → Fits e → Reached s (after s e)
+pub reached_one : (s : State) (e : Event) → Legal s e → Fits e → Reached s (after s e)
 reached_one s e legal fits = record { made = e ∷ []; legal = (legal, tt); fits = All-cons Fits e [] fits (All-nil Fits); leads = sym (made_by s e legal) }
 
 -- zeros that are put past a tail
@@ -72,7 +72,7 @@ legal_more : (s : State) (es ds : List Event) → AllLegal s es → AllLegal (af
 legal_more s [] ds first then = then
 legal_more s (e ∷ es) ds first then = (first.0, legal_more (step_of s e).0 es ds first.1 then)
 
-reached_more : (s t u : State) → Reached s t → Reached t u → Reached s u
+pub reached_more : (s t u : State) → Reached s t → Reached t u → Reached s u
 reached_more s t u a b = record {
   made = a.made ++ b.made;
   legal = legal_more s a.made b.made a.legal (subst (λ v. AllLegal v b.made) a.leads b.legal);
@@ -85,7 +85,7 @@ law_after : (s : State) (es : List Event) → Law s → All Fits es → Law (aft
 law_after s [] law fits = law
 law_after s (e ∷ es) law fits = law_after (step_of s e).0 es (step_keeps s e law (All-head Fits e es fits)) (All-tail Fits e es fits)
 
-reached_law : (s t : State) → Law s → Reached s t → Law t
+pub reached_law : (s t : State) → Law s → Reached s t → Law t
 reached_law s t law way = subst Law (sym way.leads) (law_after s way.made law way.fits)
 
 -- the world doesn't see zeros that are put

@@ -165,7 +165,15 @@ fn copy_object<N: Near>(near: &mut N, pointer: u16, len: u16, ds: u8, from: Plac
 
 // Copies an object to a place, which its cell names from then on. `false` where its owner has dropped it meanwhile, as its
 // cell says then.
-fn move_object<N: Near>(near: &mut N, pointer: u16, found: u64, len: u16, ds: u8, from: Place, to: Place) -> bool
+fn move_object<N: Near>(
+    near: &mut N,
+    pointer: u16,
+    found: u64,
+    len: u16,
+    ds: u8,
+    from: Place,
+    to: Place,
+) -> bool
     requires may { MayCopy (N.view near.old) pointer len ds from to }
     requires found { found ≡ (N.view near.old).cell pointer }
     requires wanted { has_evac (read_of found) ≡ true }
@@ -184,7 +192,14 @@ fn move_object<N: Near>(near: &mut N, pointer: u16, found: u64, len: u16, ds: u8
 
 // Takes the marks of an object that stays where it lies. `false` where its owner has dropped it meanwhile, as its cell says
 // then.
-fn unmark_object<N: Near>(near: &mut N, pointer: u16, found: u64, len: u16, ds: u8, place: Place) -> bool
+fn unmark_object<N: Near>(
+    near: &mut N,
+    pointer: u16,
+    found: u64,
+    len: u16,
+    ds: u8,
+    place: Place,
+) -> bool
     requires may { MayStay (N.view near.old) pointer len ds place }
     requires found { found ≡ (N.view near.old).cell pointer }
     requires alive { is_dropped (read_of found) ≡ false }
