@@ -14,6 +14,7 @@ pub mod Learning
 pub mod Leaving
 pub mod Marked
 pub mod Moved
+pub mod MovesReached
 pub mod NotesKept
 pub mod Notings
 pub mod NumberSets

@@ -1,7 +1,7 @@
 //! What the effects of the book's calls are made of, as contracts of functions that do nothing.
 
 ghost use Rattle.std.specs.Prelude.{◌≡◌, ◌*◌, ◌<◌, ◌≤◌, ℕ, true};
-ghost use Rattle.far_book.specs.book.Laws.{EvictingIsLegal, PlacingIsLegal, RetiringIsLegal, FetchingIsLegal};
+ghost use Rattle.far_book.specs.book.Laws.{EvictingIsLegal, PlacingIsLegal, RetiringIsLegal, FetchingIsLegal, MovingIsLegal, StayingIsLegal};
 
 /// Placing a new object where room is leads from a state to the next by legal events of the core: its header and zeros are
 /// put, and its cell is named. So the law of the core is kept, and the world makes one step: the object. Its cell says near at
@@ -29,4 +29,18 @@ pub fn evicting_is_legal()
 /// cell, word or tail changes.
 pub fn fetching_is_legal()
     ensures { FetchingIsLegal }
+{}
+
+/// Moving a quiet near object with EVAC to where room is, the last free log too, leads from a state to the next by legal events
+/// of the core: a header and its data words are put, and its cell is named. So the law of the core is kept, and the world makes one
+/// step: the object goes to the group of that log. Its cell says near at the place, its data words there are those of the old
+/// place, and no other cell, word or tail changes.
+pub fn moving_is_legal()
+    ensures { MovingIsLegal }
+{}
+
+/// Taking the marks of a near object with MOVE and without EVAC is one legal event of the core; the law of the core is kept, and in the
+/// world the object is marked no more. No other cell, no word, tail or kind of a log changes.
+pub fn staying_is_legal()
+    ensures { StayingIsLegal }
 {}

@@ -16,7 +16,9 @@ mod plain;
 pub use beset::Beset;
 pub use book::Book;
 pub use home::Home;
-pub use laws::{evicting_is_legal, placing_is_legal, retiring_is_legal};
-pub use laws::{fetching_is_legal, placing_is_legal, retiring_is_legal};
+pub use laws::{
+    evicting_is_legal, fetching_is_legal, moving_is_legal, placing_is_legal, retiring_is_legal,
+    staying_is_legal,
+};
 pub use near::Near;
 pub use plain::Plain;

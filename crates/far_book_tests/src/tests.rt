@@ -3,3 +3,4 @@
 mod books;
 mod hands;
 mod leaving;
+mod moving;

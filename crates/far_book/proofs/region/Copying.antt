@@ -31,7 +31,7 @@ use Rattle.far_book.proofs.region.Readings.{headers_known}
 use Rattle.far_book.proofs.region.Written.{row_other}
 
 -- a row with one word more
-row_last : (word : ℕ → ℕ) (a n : ℕ) (row : ℕ → ℕ) (at x : ℕ) → at ≡ a + n → x ≡ row n → put (with_row word a n row) at x ≡ with_row word a (n + 1) row
+pub row_last : (word : ℕ → ℕ) (a n : ℕ) (row : ℕ → ℕ) (at x : ℕ) → at ≡ a + n → x ≡ row n → put (with_row word a n row) at x ≡ with_row word a (n + 1) row
 row_last word a n row at x here is = row_is word (put (with_row word a n row) at x) a (n + 1) row
     (λ k low high. put_both (λ y. y ≡ row (k - a)) (with_row word a n row) at x k
     (λ e. let same : n ≡ k - a = omega arith in is ∙ ap row same)
@@ -96,7 +96,7 @@ module _ (s : State) (p len ds : ℕ) (from to : Place) (h : MayCopy s p len ds 
       let tails : s.tail (a / LOG_WORDS) ≡ s.tail to.log = ap s.tail log in
       omega (arith, span.fits, at_end, h.fits)
 
-  from_outside : (j : ℕ) → j < words_for len → addr to ≤ addr from + 1 + j → addr from + 1 + j < addr to + size_of len → ⊥
+  pub from_outside : (j : ℕ) → j < words_for len → addr to ≤ addr from + 1 + j → addr from + 1 + j < addr to + size_of len → ⊥
   from_outside j lt low high = apart (1 + j) (addr from + 1 + j - addr to) (omega arith) (omega arith) (omega arith)
 
   -- the words with the header alone

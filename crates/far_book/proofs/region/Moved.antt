@@ -39,7 +39,7 @@ use Rattle.far_book.proofs.region.Calls.{put_put}
 use Rattle.far_book.proofs.region.Copying.{below_outside, first, from_inside, layout_there, outside, start_outside}
 
 -- ---- the forms
-no_stay : (from to : Place) (m : Marks) → m.evac ≡ true → is_stay from to m ≡ false
+pub no_stay : (from to : Place) (m : Marks) → m.evac ≡ true → is_stay from to m ≡ false
 no_stay from to m wanted = ap (λ b. (from.log == to.log) && (from.at == to.at) && m.moved && not b) wanted ∙ and_false ((from.log == to.log) && (from.at == to.at) && m.moved) where
   and_false : (b : Bool) → (b && false) ≡ false
   and_false true = refl

@@ -15,9 +15,9 @@ use Rattle.far_core.specs.events.Quiet.{is_quiet}
 use Rattle.far_core.specs.state.Law.{Law, Blank, IsStored}
 use Rattle.far_core.specs.state.Room.{room}
 use Rattle.far_core.specs.state.State.{State, addr}
-use Rattle.far_core.specs.world.Changes.{Step, GoesFar, Makes, ComesNear}
+use Rattle.far_core.specs.world.Changes.{Step, GoesFar, Makes, ComesNear, Moves, Unmarks}
 use Rattle.far_core.specs.world.WorldOf.{world_of}
-use Rattle.far_book.specs.book.Effects.{evicted, placed, retired, fetched}
+use Rattle.far_book.specs.book.Effects.{evicted, placed, retired, fetched, moved, stayed}
 use Rattle.far_book.specs.book.Reached.{Reached}
 
 -- from s to t p has got an object: its cell says near, at the place, with the length and the data structure and without marks; its
@@ -38,6 +38,29 @@ pub record IsPlaced (s t : State) (p len ds : ℕ) (place : Place) : Type 0 wher
 -- from s to t p's cell has become free; all other cells, all words, and the tail and the kind of each log stay
 pub record IsFreed (s t : State) (p : ℕ) : Type 0 where
   pub cell : t.cell p ≡ 0
+  pub cells : (q : ℕ) → q ≢ p → t.cell q ≡ s.cell q
+  pub words : (a : ℕ) → t.word a ≡ s.word a
+  pub tails : (l : ℕ) → t.tail l ≡ s.tail l
+  pub kinds : (l : ℕ) → t.kind l ≡ s.kind l
+
+-- from s to t p's object has gone to a place: its cell says near there, without marks; a header stands there, and its data words as they stood at
+-- the old place; the log is the open one, and ends later by the object's size. All other cells, words and tails stay, the words at the old place too,
+-- and no log but the one that was open changes its kind: that is sealed
+pub record IsMoved (s t : State) (p len ds : ℕ) (from to : Place) : Type 0 where
+  pub cell : read_of (t.cell p) ≡ Some (Near len ds to no_marks)
+  pub cells : (q : ℕ) → q ≢ p → t.cell q ≡ s.cell q
+  pub header : t.word (addr to) ≡ head_word p len ds
+  pub copy : Alike (data_at t.word to) (data_at s.word from) (words_for len)
+  pub words : (a : ℕ) → (a < addr to) ⊎ (addr to + size_of len ≤ a) → t.word a ≡ s.word a
+  pub tail : t.tail to.log ≡ s.tail to.log + size_of len
+  pub tails : (l : ℕ) → l ≢ to.log → t.tail l ≡ s.tail l
+  pub opens : t.kind to.log ≡ Open
+  pub seals : (l : ℕ) → l ≢ to.log → s.kind l ≡ Open → t.kind l ≡ Sealed
+  pub kinds : (l : ℕ) → l ≢ to.log → s.kind l ≢ Open → t.kind l ≡ s.kind l
+
+-- from s to t p's cell has lost its marks; all other cells, all words, and the tail and the kind of each log stay
+pub record IsUnmarked (s t : State) (p len ds : ℕ) (place : Place) : Type 0 where
+  pub cell : read_of (t.cell p) ≡ Some (Near len ds place no_marks)
   pub cells : (q : ℕ) → q ≢ p → t.cell q ≡ s.cell q
   pub words : (a : ℕ) → t.word a ≡ s.word a
   pub tails : (l : ℕ) → t.tail l ≡ s.tail l
@@ -94,3 +117,14 @@ FetchingIsLegal = (s : State) (p len ds : ℕ) (marks : Marks) (place : Place) (
     room s (size_of len) true ≡ Some place → IsStored row len → (s.honest ≡ true → Alike row (s.stored p) (words_for len)) →
     Reached s (fetched s p place row) × Law (fetched s p place row) × Step (ComesNear p place.log) (world_of s) (world_of (fetched s p place row))
     × IsCome s (fetched s p place row) p len ds place row
+
+-- a near object that is quiet and has EVAC, to a place where room is, the last free log too: in the world it goes to another group
+abbrev pub MovingIsLegal : Type 0
+MovingIsLegal = (s : State) (p len ds : ℕ) (from to : Place) (marks : Marks) → Law s → read_of (s.cell p) ≡ Some (Near len ds from marks) → is_quiet s.round s.clear p from marks ≡ true →
+    marks.dropped ≡ false → marks.evac ≡ true → room s (size_of len) false ≡ Some to →
+    Reached s (moved s p to) × Law (moved s p to) × Step (Moves p to.log) (world_of s) (world_of (moved s p to)) × IsMoved s (moved s p to) p len ds from to
+
+-- a near object that has MOVE and no EVAC: in the world it is marked no more
+abbrev pub StayingIsLegal : Type 0
+StayingIsLegal = (s : State) (p len ds : ℕ) (place : Place) (marks : Marks) → Law s → read_of (s.cell p) ≡ Some (Near len ds place marks) → marks.moved ≡ true → marks.dropped ≡ false → marks.evac ≡ false →
+    Reached s (stayed s p) × Law (stayed s p) × Step (Unmarks p) (world_of s) (world_of (stayed s p)) × IsUnmarked s (stayed s p) p len ds place

@@ -10,13 +10,13 @@ use far_log::{LogRow, Span};
 use far_word::{CELLS, Mark, Marks, Place, PtrWord, Refused};
 use std::test::Fail;
 
-const SMALL: Shape = Shape {
+pub(super) const SMALL: Shape = Shape {
     logs: 4,
     mutators: 1,
     epoch: 0,
 };
 
-const NO_MARKS: Marks = Marks {
+pub(super) const NO_MARKS: Marks = Marks {
     hot: false,
     evac: false,
     moved: false,
@@ -24,21 +24,24 @@ const NO_MARKS: Marks = Marks {
 };
 
 #[tactic(auto, using(crate::proofs::Uses::at_start))]
-fn opened(rt: &HostRuntime, shape: Shape) -> Result<Book<Plain, MemDevice>, Refused> {
+pub(super) fn opened(rt: &HostRuntime, shape: Shape) -> Result<Book<Plain, MemDevice>, Refused> {
     let core = Core::new(rt.alloc(), shape, true)?;
     Book::new(rt.alloc(), Plain { core }, MemDevice::new(rt.alloc()))
 }
 
 // The same beside whose calls owners make these events.
 #[tactic(auto, using(crate::proofs::Uses::beset_start))]
-fn beset(rt: &HostRuntime, events: Vec<Event>) -> Result<Book<Beset, MemDevice>, Refused> {
+pub(super) fn beset(
+    rt: &HostRuntime,
+    events: Vec<Event>,
+) -> Result<Book<Beset, MemDevice>, Refused> {
     let core = Core::new(rt.alloc(), SMALL, true)?;
     let hand = Beset::new(rt.alloc(), core, events)?;
     Book::new(rt.alloc(), hand, MemDevice::new(rt.alloc()))
 }
 
 // A new object of the first mutator, in its lowest free cell.
-fn place_next<N: Near + Drop>(
+pub(super) fn place_next<N: Near + Drop>(
     book: &mut Book<N, MemDevice>,
     len: u16,
     ds: u8,
@@ -55,7 +58,7 @@ fn place_next<N: Near + Drop>(
 }
 
 // What a log is and has; `None` for a number that is no log's.
-fn shown<N: Near + Drop>(book: &Book<N, MemDevice>, log: u8) -> Option<(Kind, LogRow)> {
+pub(super) fn shown<N: Near + Drop>(book: &Book<N, MemDevice>, log: u8) -> Option<(Kind, LogRow)> {
     if (log as u64) < book.shape().logs {
         Some(book.log(log))
     } else {
@@ -63,7 +66,13 @@ fn shown<N: Near + Drop>(book: &Book<N, MemDevice>, log: u8) -> Option<(Kind, Lo
     }
 }
 
-fn line(kind: Kind, log: u8, live: u16, dead: u16, unused: u16) -> Option<(Kind, LogRow)> {
+pub(super) fn line(
+    kind: Kind,
+    log: u8,
+    live: u16,
+    dead: u16,
+    unused: u16,
+) -> Option<(Kind, LogRow)> {
     Some((
         kind,
         LogRow {
@@ -76,7 +85,7 @@ fn line(kind: Kind, log: u8, live: u16, dead: u16, unused: u16) -> Option<(Kind,
 }
 
 // Where a pointer's object is; `None` for a number that is no pointer's.
-fn home<N: Near + Drop>(book: &mut Book<N, MemDevice>, pointer: u16) -> Option<Home> {
+pub(super) fn home<N: Near + Drop>(book: &mut Book<N, MemDevice>, pointer: u16) -> Option<Home> {
     if (pointer as u64) < 128 * book.shape().mutators {
         book.locate(pointer)
     } else {
@@ -101,7 +110,10 @@ fn retire_dropped<N: Near + Drop>(book: &mut Book<N, MemDevice>, pointer: u16) -
 }
 
 // Sets EVAC on a near object of a sealed log, and answers its word before; `None` where the pointer names none.
-fn mark_sealed<N: Near + Drop>(book: &mut Book<N, MemDevice>, pointer: u16) -> Option<u64> {
+pub(super) fn mark_sealed<N: Near + Drop>(
+    book: &mut Book<N, MemDevice>,
+    pointer: u16,
+) -> Option<u64> {
     if pointer as u64 >= 128 * book.shape().mutators {
         return None;
     }
