@@ -12,7 +12,7 @@ use Rattle.far_core.specs.events.NamingRow.{NamingRow}
 use Rattle.far_core.specs.events.NewSpans.{IsNewSpan, is_new_span, with_span, Takes}
 use Rattle.far_core.specs.events.Quiet.{IsQuiet, is_quiet_cell}
 
--- the words of the object that lay in another log of the heap stand at the new place, and nobody can store into it meanwhile
+-- the words at the old place, which lies in a log of the heap, stand at the new one too, behind a header, and nobody can store into the object meanwhile
 pub record MayMove (s : State) (p len ds : ℕ) (from to : Place) : Type 0 where
   pub span : IsNewSpan s p len ds to
   pub padded : EndsPadded s.word len to
