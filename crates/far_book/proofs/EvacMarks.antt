@@ -1,5 +1,5 @@
 -- EVAC, set by the book in a cell beside owners.
-use Rattle.std.proofs.Common.{◌≡◌, ℕ, ◌+◌, ◌/◌, ◌^◌, ◌<◌, Bool, true, false, Some, refl, sym, ap, ◌∙◌, subst, bit_or}
+use Rattle.std.proofs.Common.{◌≡◌, ℕ, ◌+◌, ◌/◌, ◌^◌, Bool, true, false, Some, refl, sym, ap, ◌∙◌, bit_or}
 use Rattle.std.specs.Prelude.{◌||◌, ◌&&◌}
 use Rattle.std.proofs.lemmas.Bool.{false≢true, true≢false}
 use Rattle.far_word.specs.declared.mark.Mark.TheVariants.{Evac}
@@ -15,7 +15,6 @@ use Rattle.far_core.specs.events.Legal.{Legal}
 use Rattle.far_core.specs.state.Law.{Law}
 use Rattle.far_core.specs.state.State.{State, addr, put}
 use Rattle.far_core.proofs.Put.{put_both}
-use Rattle.far_book.specs.Finds.{Finds}
 use Rattle.far_book.specs.Masked.{masked, AllFind, CountsOnQuiet}
 use Rattle.far_book.specs.Quiet.{is_quiet}
 use Rattle.far_book.proofs.Finding.{near_found, near_known}

@@ -1,9 +1,8 @@
 -- What a beset hand's view says of copies, quiet objects and stored words is so.
-use Rattle.std.proofs.Common.{◌≡◌, ℕ, ◌+◌, ◌-◌, ◌*◌, ◌/◌, ◌^◌, ◌<◌, ◌≤◌, Bool, true, false, cond, Option, Some, None, inl, inr, refl, sym, ap, ◌∙◌, subst, arith}
-use Rattle.std.specs.Prelude.{◌⊎◌, ◌||◌, option_map}
+use Rattle.std.proofs.Common.{◌≡◌, ℕ, ◌-◌, ◌*◌, ◌^◌, ◌<◌, ◌≤◌, Bool, true, false, cond, Option, Some, None, inl, inr, refl, sym, ap, ◌∙◌, arith}
+use Rattle.std.specs.Prelude.{◌||◌}
 use Rattle.std.proofs.lemmas.Bool.{false≢true}
 use lib.Pow.{pow_mono}
-use Rattle.far_word.specs.declared.mark.Marks.{Marks}
 use Rattle.far_word.specs.declared.pointer.Place.{Place}
 use Rattle.far_word.specs.declared.pointer.PtrWord.{PtrWord}
 use Rattle.far_word.specs.declared.pointer.PtrWord.TheVariants.{Free, Near, Far}
@@ -12,7 +11,7 @@ use Rattle.far_word.specs.Sizes.{words_for}
 use Rattle.far_core.specs.declared.naming.Naming.TheVariants.{Evicts}
 use Rattle.far_core.specs.events.Naming.{IsNaming, no_marks}
 use Rattle.far_core.specs.events.namings.Fetches.{words_stored}
-use Rattle.far_core.specs.events.Quiet.{has_move, IsClearNear, IsQuiet}
+use Rattle.far_core.specs.events.Quiet.{has_move, IsQuiet}
 use Rattle.far_core.proofs.Cells.{unused}
 use Rattle.far_core.specs.state.Law.{Law}
 use Rattle.far_core.specs.state.State.{State}

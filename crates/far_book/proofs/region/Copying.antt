@@ -8,7 +8,7 @@ use Rattle.far_word.specs.Header.{IsHead, head_of, head_word}
 use Rattle.far_word.specs.Pointer.{IsPtr, read_of}
 use Rattle.far_word.specs.Sizes.{size_of, words_for}
 use Rattle.far_word.proofs.PointerLaws.{read_says}
-use Rattle.far_core.specs.events.Copies.{Alike, data_at, EndsPadded}
+use Rattle.far_core.specs.events.Copies.{Alike, data_at}
 use Rattle.far_core.specs.declared.event.Event.TheVariants as events
 use Rattle.far_core.specs.events.Legal.{Legal}
 use Rattle.far_core.specs.events.Naming.{no_marks}
@@ -20,9 +20,8 @@ use Rattle.far_core.proofs.NewSpans.{at_tail}
 use Rattle.far_core.proofs.Observations.{in_range}
 use Rattle.far_core.proofs.Put.{put_both, put_same, put_other}
 use Rattle.far_core.proofs.Rows.{row_in, row_out, row_is}
-use Rattle.far_book.specs.Known.{IsKnown, IsPaddedAt, KeepsKnown}
+use Rattle.far_book.specs.Known.{IsKnown, IsPaddedAt}
 use Rattle.far_book.specs.Quiet.{IsQuietAt, is_quiet}
-use Rattle.far_book.specs.book.Effects.{with_written_span}
 use Rattle.far_book.specs.book.Moving.{MayCopy, Copied}
 use Rattle.far_book.specs.book.Own.{own_part}
 use Rattle.far_book.proofs.region.Owns.{own_header}

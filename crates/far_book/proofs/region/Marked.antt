@@ -1,5 +1,5 @@
 -- EVAC is set on an object of a sealed log: a book stays in order.
-use Rattle.std.proofs.Common.{◌≡◌, ◌≢◌, ℕ, ◌*◌, ◌<◌, ◌^◌, Bool, false, refl, sym, ap, ◌∙◌, subst, Option, Some, List}
+use Rattle.std.proofs.Common.{◌≡◌, ℕ, ◌<◌, ◌^◌, Bool, false, refl, sym, ap, ◌∙◌, subst, Option, Some, List}
 use Rattle.std.specs.Prelude.{◌==◌}
 use Rattle.std.proofs.lemmas.Bool.{ne_eqb}
 use Rattle.far_word.specs.declared.mark.Mark.TheVariants.{Evac}

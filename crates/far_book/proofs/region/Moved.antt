@@ -1,25 +1,23 @@
 -- A near object's cell names another place, or the same without marks, by the word that was found last.
-use Rattle.std.proofs.Common.{◌≡◌, ◌≢◌, ℕ, ◌+◌, ◌*◌, ◌/◌, ◌%◌, ◌^◌, ◌<◌, ◌≤◌, Bool, true, false, cond, arith, sym, refl, ap, subst, ◌∙◌, Option, Some, None}
-use Rattle.std.specs.Prelude.{◌==◌, ◌&&◌, ◌||◌, not, IsSome}
-use Rattle.std.proofs.lemmas.Bool.{cases_eq, eq-eqb, false≢true}
+use Rattle.std.proofs.Common.{◌≡◌, ℕ, ◌*◌, ◌/◌, ◌%◌, ◌^◌, ◌<◌, Bool, true, false, cond, arith, sym, refl, ap, subst, ◌∙◌, Option, Some}
+use Rattle.std.specs.Prelude.{◌==◌, ◌&&◌, ◌||◌, not}
+use Rattle.std.proofs.lemmas.Bool.{eq-eqb, false≢true}
 use Rattle.far_word.specs.declared.mark.Marks.{Marks}
 use Rattle.far_word.specs.declared.pointer.Place.{Place}
 use Rattle.far_word.specs.declared.pointer.PtrWord.{PtrWord}
-use Rattle.far_word.specs.declared.pointer.PtrWord.TheVariants.{Free, Near, Far}
+use Rattle.far_word.specs.declared.pointer.PtrWord.TheVariants.{Near, Far}
 use Rattle.far_word.specs.declared.sizes.TheConstants.{CELLS, LOG_WORDS}
-use Rattle.far_word.specs.Header.{head_word}
 use Rattle.far_word.specs.Pointer.{IsPtr, read_of}
-use Rattle.far_word.specs.Sizes.{size_of, words_for}
+use Rattle.far_word.specs.Sizes.{size_of}
 use Rattle.far_word.proofs.PointerLaws.{read_back, read_says}
 use Rattle.far_core.specs.declared.event.Event.TheVariants as events
-use Rattle.far_core.specs.declared.naming.Naming.{Naming}
 use Rattle.far_core.specs.declared.naming.Naming.TheVariants.{Evicts, Moves, Stays}
 use Rattle.far_core.specs.events.Copies.{data_at}
-use Rattle.far_core.specs.events.Legal.{Legal, IsNext}
+use Rattle.far_core.specs.events.Legal.{IsNext}
 use Rattle.far_core.specs.events.Name.{after_naming}
 use Rattle.far_core.specs.events.Naming.{IsNaming, is_dropped, is_stay, no_marks}
 use Rattle.far_core.specs.events.NewSpans.{with_span}
-use Rattle.far_core.specs.events.Quiet.{IsQuiet, is_quiet_cell}
+use Rattle.far_core.specs.events.Quiet.{is_quiet_cell}
 use Rattle.far_core.specs.events.Step.{after}
 use Rattle.far_core.specs.state.Room.{room}
 use Rattle.far_core.specs.state.State.{State, put, addr}
@@ -27,12 +25,11 @@ use Rattle.far_core.proofs.Namings.{naming_only}
 use Rattle.far_core.proofs.Put.{put_same, put_both}
 use Rattle.far_core.proofs.Quieting.{quiet_fact}
 use Rattle.far_book.specs.Finds.{Finds, marks_in}
-use Rattle.far_book.specs.Known.{IsKnown, Forgets, KeepsKnown, KnowsLeaving}
+use Rattle.far_book.specs.Known.{IsKnown}
 use Rattle.far_book.specs.Quiet.{is_quiet}
 use Rattle.far_book.specs.book.Dealing.{IsQuietNear, Leaves, goal, goal_of, has_evac}
 use Rattle.far_book.specs.book.Effects.{moved, moved_of, near_word, stayed, stayed_of, with_written_span}
-use Rattle.far_book.specs.book.Moving.{MayCopy, MayStay, Copied, LeavesSpans, FindsDrop}
-use Rattle.far_book.specs.book.Own.{own_part}
+use Rattle.far_book.specs.book.Moving.{MayCopy, MayStay, Copied, FindsDrop}
 use Rattle.far_book.specs.book.Renaming.{seen, MayRename, Renamed}
 use Rattle.far_book.proofs.Finding.{near_found}
 use Rattle.far_book.proofs.region.Calls.{put_put}

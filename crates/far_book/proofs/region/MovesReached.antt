@@ -1,12 +1,12 @@
 -- An object's move, and its staying, are reached by legal events.
-use Rattle.std.proofs.Common.{◌≡◌, ℕ, ◌+◌, ◌-◌, ◌*◌, ◌/◌, ◌%◌, ◌^◌, ◌<◌, ◌≤◌, Bool, true, false, cond, zero, suc, arith, sym, refl, ap, subst, ◌∙◌, Option, Some, None, List, [], inl, inr}
-use Rattle.std.specs.Prelude.{◌≢◌, ◌⊎◌, All}
-use Rattle.std.proofs.lemmas.Bool.{cases_lt, eq-eqb, false≢true}
+use Rattle.std.proofs.Common.{◌≡◌, ℕ, ◌+◌, ◌-◌, ◌*◌, ◌^◌, ◌<◌, ◌≤◌, true, false, cond, zero, suc, arith, sym, refl, ap, subst, ◌∙◌, Some, [], inl, inr}
+use Rattle.std.specs.Prelude.{◌≢◌}
+use Rattle.std.proofs.lemmas.Bool.{eq-eqb}
 use Rattle.std.proofs.lemmas.List.Elements.{All-nil}
 use Rattle.far_word.specs.declared.mark.Marks.{Marks}
 use Rattle.far_word.specs.declared.pointer.Place.{Place}
 use Rattle.far_word.specs.declared.pointer.PtrWord.TheVariants.{Near}
-use Rattle.far_word.specs.declared.sizes.TheConstants.{CELLS, LOG_WORDS, LONGEST}
+use Rattle.far_word.specs.declared.sizes.TheConstants.{CELLS, LOG_WORDS}
 use Rattle.far_word.specs.Header.{head_word}
 use Rattle.far_word.specs.Pointer.{IsPtr, read_of, word_of}
 use Rattle.far_word.specs.Sizes.{size_of, words_for}
@@ -17,11 +17,10 @@ use Rattle.far_core.specs.declared.event.Event.TheVariants as events
 use Rattle.far_core.specs.declared.event.Kind.TheVariants.{Sealed}
 use Rattle.far_core.specs.declared.event.Reply.TheVariants.{Done, Word}
 use Rattle.far_core.specs.declared.naming.Naming.TheVariants as naming
-use Rattle.far_core.specs.events.Copies.{Alike, data_at, EndsPadded}
+use Rattle.far_core.specs.events.Copies.{data_at}
 use Rattle.far_core.specs.events.Legal.{Legal}
 use Rattle.far_core.specs.events.Name.{change_by}
 use Rattle.far_core.specs.events.Naming.{is_dropped, naming_of, no_marks}
-use Rattle.far_core.specs.events.NewSpans.{with_span}
 use Rattle.far_core.specs.events.Ranges.{with_row}
 use Rattle.far_core.specs.events.Step.{after, answer}
 use Rattle.far_core.specs.laws.Rooms.{IsRoom, RoomIs}
@@ -43,11 +42,9 @@ use Rattle.far_book.specs.book.Dealing.{has_evac}
 use Rattle.far_book.specs.book.Effects.{moved, moved_of, near_word, stayed, stayed_of, with_written_span}
 use Rattle.far_book.specs.book.Laws.{IsMoved, IsUnmarked, MovingIsLegal, StayingIsLegal}
 use Rattle.far_book.specs.book.Moving.{Copied, MayCopy}
-use Rattle.far_book.specs.book.Own.{own_part}
 use Rattle.far_book.specs.book.Reached.{Reached}
-use Rattle.far_book.specs.book.Renaming.{seen}
 use Rattle.far_book.proofs.Finding.{finds_same}
-use Rattle.far_book.proofs.region.Copying.{at_end, first, from_inside, from_outside, head, layout_there, outside, row_last, start_outside}
+use Rattle.far_book.proofs.region.Copying.{at_end, first, from_outside, head, layout_there, outside, row_last}
 use Rattle.far_book.proofs.region.Moved.{may_rename, moved_is, no_stay, stayed_is}
 use Rattle.far_book.proofs.region.Owns.{own_law}
 use Rattle.far_book.proofs.region.Places.{next_unsealed}

@@ -1,6 +1,5 @@
 -- The effect of a fetch is reached by legal events.
-use Rattle.std.proofs.Common.{◌≡◌, ◌≢◌, ℕ, ◌+◌, ◌-◌, ◌*◌, ◌^◌, ◌<◌, ◌≤◌, true, false, cond, arith, sym, refl, ap, subst, ◌∙◌, Some, List, map}
-use Rattle.std.specs.Prelude.{All}
+use Rattle.std.proofs.Common.{◌≡◌, ◌≢◌, ℕ, ◌+◌, ◌-◌, ◌*◌, ◌^◌, ◌<◌, ◌≤◌, true, false, cond, arith, sym, refl, ap, subst, ◌∙◌, Some, map}
 use Rattle.std.specs.List.{range_with_len}
 use Rattle.std.proofs.lemmas.Bool.{eq-eqb}
 use Rattle.std.proofs.lemmas.List.Elements.{All-map}
@@ -17,7 +16,6 @@ use Rattle.far_word.proofs.PointerLaws.{read_back, read_says, word_fits}
 use Rattle.far_core.specs.declared.event.Event.{Event}
 use Rattle.far_core.specs.declared.event.Event.TheVariants as events
 use Rattle.far_core.specs.declared.event.Kind.TheVariants.{Sealed}
-use Rattle.far_core.specs.declared.event.Reply.{Reply}
 use Rattle.far_core.specs.declared.event.Reply.TheVariants.{Done, Word}
 use Rattle.far_core.specs.declared.naming.Naming.TheVariants as naming
 use Rattle.far_core.specs.events.Copies.{Alike}
@@ -42,7 +40,6 @@ use Rattle.far_core.proofs.RoomLaws.{room_right}
 use Rattle.far_book.specs.book.Effects.{fetched, near_word, with_written_span}
 use Rattle.far_book.specs.book.Laws.{FetchingIsLegal, IsCome}
 use Rattle.far_book.specs.book.Reached.{Reached}
-use Rattle.far_book.specs.book.Renaming.{seen}
 use Rattle.far_book.proofs.Finding.{finds_same}
 use Rattle.far_book.proofs.region.Coming.{fetched_is, header, may_come, stands, written_outside}
 use Rattle.far_book.proofs.region.Fetched.{fetched_come}

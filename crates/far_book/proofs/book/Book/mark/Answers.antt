@@ -1,5 +1,5 @@
 use Rattle.far_book.proofs.book.Book.mark.Goals as goal
-use Rattle.std.proofs.Common.{sym, subst, ap, arith}
+use Rattle.std.proofs.Common.{sym, subst, arith}
 use Rattle.far_core.specs.declared.event.Event.TheVariants.{Mark}
 use Rattle.far_core.specs.events.Legal.{Legal}
 use Rattle.far_core.specs.state.State.{State}

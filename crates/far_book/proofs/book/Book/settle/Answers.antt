@@ -1,9 +1,6 @@
 use Rattle.far_book.proofs.book.Book.settle.Goals as goal
-use Rattle.std.proofs.Common.{◌≡◌, ◌∙◌, ap, sym, subst, Some, None, false}
-use Rattle.std.specs.Prelude.{IfErr, IfSome}
-use Rattle.far_word.specs.declared.pointer.Place.{Place}
-use Rattle.far_word.specs.Pointer.{read_of}
-use Rattle.far_core.specs.events.Naming.{is_dropped}
+use Rattle.std.proofs.Common.{◌≡◌, ◌∙◌, ap, sym, subst, Some, None}
+use Rattle.std.specs.Prelude.{IfErr}
 use Rattle.far_core.specs.state.State.{State}
 use Rattle.far_book.specs.book.Dealing as dealing
 use Rattle.far_book.specs.book.Dealing.{Leaves}

@@ -1,12 +1,12 @@
 use Rattle.far_book.proofs.book.moving.copy_object.Goals as goal
-use Rattle.std.proofs.Common.{◌≡◌, ◌∙◌, ◌+◌, ◌*◌, ◌<◌, sym, subst, ap, arith, refl}
+use Rattle.std.proofs.Common.{◌≡◌, ◌∙◌, ◌+◌, ◌*◌, ◌<◌, subst, ap, arith, refl}
 use Rattle.far_word.specs.Sizes.{words_for}
 use Rattle.far_word.specs.declared.sizes.TheConstants.{LOG_WORDS}
 use Rattle.far_word.specs.Header.{head_word}
 use Rattle.far_core.specs.events.Copies.{data_at}
 use Rattle.far_core.specs.events.Ranges.{with_row}
 use Rattle.far_core.specs.state.State.{State, put, addr}
-use Rattle.far_book.proofs.region.Copying.{Copying, head, put_legal, get_legal, from_fits, quiet_word, copying_none, copying_more, copied, exact_more}
+use Rattle.far_book.proofs.region.Copying.{Copying, head, put_legal, get_legal, from_fits, quiet_word, copying_more, copied, exact_more}
 
 pub pack-requires : goal.pack-requires
 pack-requires g c = head (g.N.Near.view c.args.near.now) c.args.pointer c.args.len c.args.ds c.args.from c.args.to c.requires

@@ -1,4 +1,4 @@
-use Rattle.std.proofs.Common.{◌≡◌, ◌≤◌, ◌<◌, ◌^◌, ℕ, false, IsSome}
+use Rattle.std.proofs.Common.{◌≡◌, ◌≤◌, ◌<◌, ◌^◌, false, IsSome}
 use Rattle.far_word.specs.Pointer.{read_of}
 use Rattle.far_core.specs.events.Naming.{is_dropped}
 use Rattle.far_book.specs.Finds.{Finds}

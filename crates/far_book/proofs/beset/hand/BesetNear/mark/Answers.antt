@@ -7,7 +7,7 @@ use Rattle.far_core.specs.state.State.{State, put}
 use Rattle.far_book.specs.BesetView.{beset_view}
 use Rattle.far_book.specs.Masked.{word_at, is_counted, AllFind, CountsOnQuiet}
 use Rattle.far_book.proofs.Counting.{finds_named}
-use Rattle.far_book.proofs.EvacMarks.{with_evac, legal_mark, counts_marked}
+use Rattle.far_book.proofs.EvacMarks.{with_evac, counts_marked}
 use Rattle.far_book.proofs.beset.hand.BesetNear.mark.Goals as goal
 
 pub invariant_of-self : goal.invariant_of-self
