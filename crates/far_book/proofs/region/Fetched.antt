@@ -37,6 +37,7 @@ use Rattle.far_book.specs.book.Placeable.{Placeable, with_object}
 use Rattle.far_book.specs.book.Renaming.{Renamed, seen}
 use Rattle.far_book.proofs.region.Calls.{put_put}
 use Rattle.far_book.proofs.region.Coming.{far_found, fetched_alike, fetched_is, written_outside}
+use Rattle.far_book.proofs.region.Founds.{drop_found}
 use Rattle.far_book.proofs.region.InOrders.{found_keeps, headers_keep, placed_far}
 use Rattle.far_book.proofs.region.Leaving.{far_cell}
 use Rattle.far_book.proofs.region.NotesKept.{notes_placed}
@@ -63,6 +64,9 @@ module _ (s : State) (p word : ℕ) (f : Finds (s.cell p) word) (len ds : ℕ) (
   known_alive alive = false_from_ne_true known.0.dropped (λ h.
       let then : (marks_in (read_of word)).dropped ≡ true = f.dropped (ap (λ o. (marks_in o).dropped) known.1 ∙ h) in
       false≢true (sym alive ∙ (sym (ap (λ o. (marks_in o).dropped) far) ∙ then)))
+
+  pub not_asked : m.dropped ≡ false → is_dropped (read_of (s.cell p)) ≡ true → ⊥
+  not_asked alive h = false≢true (sym alive ∙ (sym (ap is_dropped far) ∙ drop_found (s.cell p) word f h))
 
   pub room_is : room_for s p ≡ room s (size_of len) true
   room_is = ap (λ o. room s (size_of (far_len o)) true) known.1

@@ -1,6 +1,6 @@
 //! How a far object comes near.
 
-ghost use Rattle.std.specs.Prelude.{◌≡◌, ◌*◌, ◌^◌, ◌<◌, ℕ, true, false, None, Some, length, IfOk, IfErr, IfSome, IfNone};
+ghost use Rattle.std.specs.Prelude.{◌≡◌, ◌*◌, ◌^◌, ◌<◌, ℕ, true, false, None, Some, length, Ok, IfOk, IfErr, IfSome, IfNone};
 ghost use Rattle.far_word.specs.declared.pointer.PtrWord.TheVariants.{Near as near_at};
 ghost use Rattle.far_word.specs.declared.refused.Refused.TheVariants as refused;
 ghost use Rattle.far_word.specs.declared.sizes.TheConstants.{CELLS};
@@ -39,6 +39,7 @@ impl<N: Near + Drop, D: Device + Drop> Book<N, D> {
         ensures place { IfOk result (λ found. IfSome found (λ place. room_for (N.view self.old.near) pointer ≡ Some place)) }
         ensures near { IfOk result (λ found. IfSome found (λ place. IsFetched N.still (D.honest self.old.device) (N.view self.old.near) (N.view self.new.near) pointer place)) }
         ensures gone { IfOk result (λ found. IfNone found (IsRetired N.still (N.view self.old.near) (N.view self.new.near) pointer)) }
+        ensures asked { is_dropped (read_of ((N.view self.old.near).cell pointer)) ≡ true → result ≡ Ok None }
         ensures order { IfOk result (λ found. self.new.order ≡ order_fetched (N.view self.old.near) self.old.order found) }
         ensures forgot { D.forgets → IfOk result (λ _. D.contents self.new.device pointer ≡ None) }
         ensures others { KeepsOthers (D.contents self.old.device) (D.contents self.new.device) pointer }

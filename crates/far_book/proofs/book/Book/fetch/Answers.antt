@@ -23,7 +23,7 @@ use Rattle.far_book.specs.book.Own.{own_part}
 use Rattle.far_book.specs.book.Renaming.{seen}
 use Rattle.far_book.proofs.Finding.{finds_is, finds_more}
 use Rattle.far_book.proofs.region.Calls.{ends, may_take, placeable, put_put}
-use Rattle.far_book.proofs.region.Fetched.{room_is, come_in_order, come_forgot, come_kept, far_unplaced, fetched_by, fetched_seen, given_long, given_word, gone_forgot, gone_kept, known, known_alive, written_below, written_header, written_in_order}
+use Rattle.far_book.proofs.region.Fetched.{room_is, come_in_order, come_forgot, come_kept, far_unplaced, fetched_by, fetched_seen, given_long, given_word, gone_forgot, gone_kept, known, known_alive, not_asked, written_below, written_header, written_in_order}
 
 pub returns-in_default-room-clause-refused : goal.returns-in_default-room-clause-refused
 returns-in_default-room-clause-refused g c =
@@ -314,3 +314,38 @@ returns-clause-near g c =
     (λ h i lt. ap (λ b. packed_word b i) c.as_slice.ensures.value ∙ given_word (s.stored p) x.len stored (g.D.Device.contents c.self.inside.device p) held c.in-Ok.bytes.items (c.in-Ok.ensures.given (sym honest ∙ h)) i lt
     ∙ ap (λ (f : ℕ → ℕ). f i) stays)
     (subst (λ f. IsStored f x.len) stays stored)
+
+pub returns-in_default-room-clause-asked : goal.returns-in_default-room-clause-asked
+returns-in_default-room-clause-asked g c h =
+    let s0 = g.N.Near.view c.args.self.now.near in
+    let x = c.in-Some-Far in
+    let far : read_of c.see-word.result ≡ Some (Far x.len x.ds x.marks) = sym c.read.ensures.exact ∙ x.is ∙ ap (λ v. Some v) x.field-0-is in
+    absurd (not_asked s0 c.args.pointer c.see-word.result c.see-word.ensures.found x.len x.ds x.marks far c.if-marks.false h)
+
+pub returns-in-Err-Memory-clause-asked : goal.returns-in-Err-Memory-clause-asked
+returns-in-Err-Memory-clause-asked g c h =
+    let s0 = g.N.Near.view c.args.self.now.near in
+    let x = c.in-Some-Far in
+    let far : read_of c.see-word.result ≡ Some (Far x.len x.ds x.marks) = sym c.read.ensures.exact ∙ x.is ∙ ap (λ v. Some v) x.field-0-is in
+    absurd (not_asked s0 c.args.pointer c.see-word.result c.see-word.ensures.found x.len x.ds x.marks far c.if-marks.false h)
+
+pub returns-in-Err-Device-clause-asked : goal.returns-in-Err-Device-clause-asked
+returns-in-Err-Device-clause-asked g c h =
+    let s0 = g.N.Near.view c.args.self.now.near in
+    let x = c.in-Some-Far in
+    let far : read_of c.see-word.result ≡ Some (Far x.len x.ds x.marks) = sym c.read.ensures.exact ∙ x.is ∙ ap (λ v. Some v) x.field-0-is in
+    absurd (not_asked s0 c.args.pointer c.see-word.result c.see-word.ensures.found x.len x.ds x.marks far c.if-marks.false h)
+
+pub returns-then-len-clause-asked : goal.returns-then-len-clause-asked
+returns-then-len-clause-asked g c h =
+    let s0 = g.N.Near.view c.args.self.now.near in
+    let x = c.in-Some-Far in
+    let far : read_of c.see-word.result ≡ Some (Far x.len x.ds x.marks) = sym c.read.ensures.exact ∙ x.is ∙ ap (λ v. Some v) x.field-0-is in
+    absurd (not_asked s0 c.args.pointer c.see-word.result c.see-word.ensures.found x.len x.ds x.marks far c.if-marks.false h)
+
+pub returns-clause-asked : goal.returns-clause-asked
+returns-clause-asked g c h =
+    let s0 = g.N.Near.view c.args.self.now.near in
+    let x = c.in-Some-Far in
+    let far : read_of c.see-word.result ≡ Some (Far x.len x.ds x.marks) = sym c.read.ensures.exact ∙ x.is ∙ ap (λ v. Some v) x.field-0-is in
+    absurd (not_asked s0 c.args.pointer c.see-word.result c.see-word.ensures.found x.len x.ds x.marks far c.if-marks.false h)
