@@ -9,7 +9,7 @@ use far_book::{Beset, Book, Near, Plain};
 use far_core::{Core, Event, Kind, Reply, Shape};
 use far_device::{Device, DeviceFault, MemDevice};
 use far_log::LogRow;
-use far_word::{Mark, PtrWord, Refused, words_for};
+use far_word::{LONGEST, Mark, PtrWord, Refused, words_for};
 use std::test::Fail;
 
 const SMALL: Shape = Shape {
@@ -259,6 +259,7 @@ fn the_device_is_given_the_bytes(rt: HostRuntime) -> Result<(), Fail> {
             faults,
         };
         let mut book = opened(&rt, device)?;
+        assert!(rt; len > 0 && len <= LONGEST);
         leaving(&mut book, len)?;
         let taken = 8 + 8 * words_for(len);
         assert_eq!(rt; first_log(&book), sealed(taken, 0, 1024 - taken));
