@@ -104,6 +104,7 @@ fn an_object_moves_to_another_log(rt: HostRuntime) -> Result<(), Fail> {
         let marks = NO_MARKS;
         assert_eq!(rt; home(&mut book, 0), Some(Home::Near { place, marks }));
         let size = 8 + 8 * ((len + 7) / 8);
+        assert!(rt; size <= 1024);
         assert_eq!(rt;
             shown(&book, 0),
             line(Kind::Sealed, 0, 0, size, 1024 - size)
@@ -187,7 +188,8 @@ fn moved_beside(
     events.push(Event::Adopt { owner, pointer: 0 })?;
     events.push(ask(0, Mark::Moved))?;
     // The cell is looked at once before the move.
-    for _ in 0..1 + step {
+    events.push(idle)?;
+    for _ in 0..step {
         events.push(idle)?;
     }
     events.push(late)?;
