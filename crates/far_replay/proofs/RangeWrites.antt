@@ -156,7 +156,3 @@ pub past_word : (from count len : ℕ) → from + count ≤ len → ends_inside 
 past_word from count len inside h = let odd : (from + count) % 8 ≢ 0 = (λ z. false≢true (sym (closed z) ∙ h)) in omega arith where
   closed : (from + count) % 8 ≡ 0 → ends_inside from count ≡ false
   closed z = grind (arith, nat_tests)
-
--- new bytes in a room keep its length
-pub put_length : (a k : ℕ) (xs ys : List ℕ) → a + k ≤ length xs → length ys ≡ k → length (put_mid a k xs ys) ≡ length xs
-put_length a k xs ys fits same = omega (arith, length-append (take a xs) (ys ++ post_of a k xs), length-append ys (post_of a k xs), length-take-le a xs (omega arith), length-drop k (drop a xs), length-drop a xs)
