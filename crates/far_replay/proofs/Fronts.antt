@@ -1,7 +1,7 @@
 -- Bytes and words in front of the room for them.
 use Rattle.std.proofs.Common.{◌≡◌, ℕ, ◌+◌, ◌-◌, ◌*◌, ◌/◌, ◌%◌, ◌^◌, ◌<◌, ◌≤◌, List, ◌++◌, length, take, drop, get_or, ap, sym, ◌∙◌, arith, length-take-le, length-drop}
 use Rattle.std.specs.Prelude.{slice_range}
-use Rattle.std.proofs.lemmas.List.{ext_get_or, take-append-le, get_or-take, get_or-drop}
+use Rattle.std.proofs.lemmas.List.{ext_get_or, take-append-le, get_or-take}
 use Rattle.std.proofs.Math.Seq.{take-length}
 use Rattle.far_word.specs.Bytes.{bytes_of, byte_at}
 use Rattle.far_word.proofs.ByteLaws.{bytes_of-same, bytes_of-get, length-bytes_of}
