@@ -142,6 +142,7 @@ fn the_device_is_given_the_bytes(rt: HostRuntime) -> Result<(), Fail> {
     Ok(())
 }
 
+// Alone against an eviction that failed and goes far all the same, or takes a failure for want of memory.
 #[test]
 fn a_refused_eviction_leaves_the_object(rt: HostRuntime) -> Result<(), Fail> {
     let mut book = opened_over(&rt, SMALL, Starved {})?;
@@ -206,6 +207,7 @@ fn is_retired() -> Beside {
     (Some(Ok(false)), None, false, sealed(0, 16, 1008))
 }
 
+// Alone against an eviction that tries its naming once.
 #[test]
 fn an_eviction_finds_hot_at_any_step(rt: HostRuntime) -> Result<(), Fail> {
     let far = is_far(NO_MARKS);
@@ -223,6 +225,7 @@ fn an_eviction_finds_hot_at_any_step(rt: HostRuntime) -> Result<(), Fail> {
     Ok(())
 }
 
+// Alone against an eviction that sends a dropped object far, retires nothing where it finds the DROP late, or leaves its bytes.
 #[test]
 fn an_eviction_finds_a_drop_at_any_step(rt: HostRuntime) -> Result<(), Fail> {
     let retired = is_retired();

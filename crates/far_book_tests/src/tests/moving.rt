@@ -204,6 +204,7 @@ fn is_retired() -> Beside {
     )
 }
 
+// Alone against a move that tries its naming once.
 #[test]
 fn a_move_finds_hot_at_any_step(rt: HostRuntime) -> Result<(), Fail> {
     assert_eq!(rt; moved_beside(&rt, &[])?, has_moved());
@@ -219,6 +220,7 @@ fn a_move_finds_hot_at_any_step(rt: HostRuntime) -> Result<(), Fail> {
     Ok(())
 }
 
+// Alone against a move that finds a DROP at the naming, and says where the object lies.
 #[test]
 fn a_move_finds_a_drop_at_any_step(rt: HostRuntime) -> Result<(), Fail> {
     assert_eq!(rt; moved_beside(&rt, &[DROP])?, is_retired());

@@ -16,6 +16,7 @@ const WAS_HOT: u64 = 0xc400_0000_0001_0008;
 
 const MARKED: u64 = 0xe400_0000_0001_0008;
 
+// Alone against a core in which what its owner holds may be dropped.
 #[test]
 fn an_object_that_is_viewed_is_not_dropped(rt: HostRuntime) -> Result<(), Fail> {
     let (owner, pointer) = (0, 0);

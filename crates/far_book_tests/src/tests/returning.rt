@@ -53,6 +53,7 @@ fn four_logs<N: Near + Drop, D: Device + Drop>(book: &Book<N, D>) -> [Option<(Ki
     ]
 }
 
+// The cells are words here, which no other test of a fetch looks at.
 #[test]
 fn away_and_back(rt: HostRuntime) -> Result<(), Fail> {
     let (owner, pointer) = (0, 0);
@@ -109,6 +110,7 @@ fn is_back(size: u16, unused: u16) -> Back {
     (Some(Ok(Some(PLACE))), log, false, true)
 }
 
+// Alone against a fetch that copies two words at most, and one that takes a word more where the object fills a log.
 #[test]
 fn an_object_comes_back_with_its_bytes(rt: HostRuntime) -> Result<(), Fail> {
     assert_eq!(rt; fetched_after(&rt, 1)?, is_back(16, 1008));
@@ -168,6 +170,7 @@ fn is_refused_once(why: Refused) -> Again {
     (Some(Err(why)), true, Some(Ok(Some(PLACE))), true)
 }
 
+// Alone against a fetch that forgets the key of what failed or was damaged, judges a length by `<`, or takes one fault for the other.
 #[test]
 fn a_refused_fetch_may_be_made_again(rt: HostRuntime) -> Result<(), Fail> {
     let memory = is_refused_once(Refused::Memory);
@@ -198,6 +201,7 @@ fn crowded<D: Device + Drop>(book: &mut Book<Plain, D>) -> Result<(), Refused> {
     Ok(())
 }
 
+// Alone against a fetch that takes the last free log, asks the device before there is room, or forgets the key where there is none.
 #[test]
 fn a_fetch_keeps_the_last_free_log(rt: HostRuntime) -> Result<(), Fail> {
     let (device, holds) = shown_device(&rt, stumbling(&rt, DeviceFault::Device))?;
@@ -223,6 +227,7 @@ fn a_fetch_keeps_the_last_free_log(rt: HostRuntime) -> Result<(), Fail> {
     Ok(())
 }
 
+// Alone against a ledger in which the cell of a retired object stays taken if that was far.
 #[test]
 fn a_dropped_far_object_is_retired(rt: HostRuntime) -> Result<(), Fail> {
     let (device, holds) = shown_device(&rt, MemDevice::new(rt.alloc()))?;
@@ -276,6 +281,7 @@ fn is_retired() -> Beside {
     (Some(Ok(None)), None, false, line(Kind::Free, 2, 0, 0, 1024))
 }
 
+// Alone against a fetch that takes HOT for DROP.
 #[test]
 fn a_fetch_finds_hot_at_any_step(rt: HostRuntime) -> Result<(), Fail> {
     let near = is_near(NO_MARKS);
@@ -297,6 +303,7 @@ fn a_fetch_finds_hot_at_any_step(rt: HostRuntime) -> Result<(), Fail> {
     Ok(())
 }
 
+// Alone against a fetch that takes MOVE for DROP.
 #[test]
 fn a_fetch_finds_move_at_any_step(rt: HostRuntime) -> Result<(), Fail> {
     let near = is_near(NO_MARKS);
@@ -310,6 +317,7 @@ fn a_fetch_finds_move_at_any_step(rt: HostRuntime) -> Result<(), Fail> {
     Ok(())
 }
 
+// Alone against a fetch that finds a DROP at the naming, says so, and retires nothing.
 #[test]
 fn a_fetch_finds_a_drop_at_any_step(rt: HostRuntime) -> Result<(), Fail> {
     let retired = is_retired();
