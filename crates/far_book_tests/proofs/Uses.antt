@@ -1,4 +1,4 @@
--- What a caller of the book needs: that a new core is at the start, and that a mark shows a drop.
+-- What a caller of the book needs: that a new core is at the start, and what follows from where an object was found.
 use Rattle.std.proofs.Common.{◌≡◌, ℕ, Bool, true, false, sym, refl, ap, subst, ◌∙◌, Option, Some, None, ◌/◌}
 use Rattle.far_word.specs.declared.mark.Marks.{Marks}
 use Rattle.far_word.specs.declared.pointer.Place.{Place}
@@ -10,22 +10,31 @@ use Rattle.far_word.specs.Pointer.{read_of}
 use Rattle.far_core.specs.declared.shape.Shape.{Shape}
 use Rattle.far_core.specs.events.Naming.{is_dropped}
 use Rattle.far_core.specs.state.Opening.{opening}
-use Rattle.far_core.specs.state.State.{State, put}
-use Rattle.far_core.proofs.Put.{put_same}
-use Rattle.far_book.specs.declared.home.Home.TheVariants.{Near}
+use Rattle.far_core.specs.state.State.{State}
+use Rattle.far_book.specs.declared.home.Home.TheVariants.{Near, Far}
 use Rattle.far_book.specs.Masked.{masked}
 use Rattle.far_book.specs.book.Dealing.{IsQuietNear, has_evac}
+use Rattle.far_book.specs.book.Fetching.{IsFar}
 use Rattle.far_book.specs.book.Home.{home_of}
 use Rattle.far_book.specs.book.Own.{IsAtStart}
 
 pub at_start : (s : State) (shape : Shape) (honest : Bool) → s ≡ opening shape honest → IsAtStart s
 at_start s shape honest e = subst IsAtStart (sym e) refl
 
-pub dropped_near : (o : Option PtrWord) (place : Place) (marks : Marks) → Some (Near place marks) ≡ home_of o → marks.dropped ≡ true → is_dropped o ≡ true
-dropped_near None place marks e h = absurd cc
-dropped_near (Some pointer.Free) place marks e h = absurd cc
-dropped_near (Some (pointer.Near len ds at m)) place marks e h = let same : marks ≡ m = cc in ap (λ (x : Marks). x.dropped) (sym same) ∙ h
-dropped_near (Some (pointer.Far len ds m)) place marks e h = absurd cc
+pub beset_start : (s v : State) (shape : Shape) (honest : Bool) → s ≡ opening shape honest → v ≡ masked s s.cell (λ _. false) → IsAtStart v
+beset_start s v shape honest e is = subst IsAtStart (sym (is ∙ ap (λ (t : State). masked t t.cell (λ _. false)) e)) refl
+
+pub dropped_home : (o : Option PtrWord) (place : Place) (marks : Marks) → Some (Near place marks) ≡ home_of o → marks.dropped ≡ true → is_dropped o ≡ true
+dropped_home None place marks e h = absurd cc
+dropped_home (Some pointer.Free) place marks e h = absurd cc
+dropped_home (Some (pointer.Near len ds at m)) place marks e h = let same : marks ≡ m = cc in ap (λ (x : Marks). x.dropped) (sym same) ∙ h
+dropped_home (Some (pointer.Far len ds m)) place marks e h = absurd cc
+
+pub evac_home : (o : Option PtrWord) (place : Place) (marks : Marks) → Some (Near place marks) ≡ home_of o → marks.evac ≡ true → has_evac o ≡ true
+evac_home None place marks e h = absurd cc
+evac_home (Some pointer.Free) place marks e h = absurd cc
+evac_home (Some (pointer.Near len ds at m)) place marks e h = let same : marks ≡ m = cc in ap (λ (x : Marks). x.evac) (sym same) ∙ h
+evac_home (Some (pointer.Far len ds m)) place marks e h = absurd cc
 
 -- a near object that shows MOVE is quiet
 quiet_cell : (s : State) (p : ℕ) (o : Option PtrWord) → read_of (s.cell p) ≡ o → (place : Place) (marks : Marks) → Some (Near place marks) ≡ home_of o → marks.moved ≡ true → IsQuietNear s p
@@ -40,19 +49,11 @@ quiet_cell s p (Some (pointer.Far len ds m)) e place marks is h = absurd cc
 pub quiet_home : (s : State) (p : ℕ) (place : Place) (marks : Marks) → Some (Near place marks) ≡ home_of (read_of (s.cell p)) → marks.moved ≡ true → IsQuietNear s p
 quiet_home s p place marks is h = quiet_cell s p (read_of (s.cell p)) refl place marks is h
 
-pub beset_start : (s v : State) (shape : Shape) (honest : Bool) → s ≡ opening shape honest → v ≡ masked s s.cell (λ _. false) → IsAtStart v
-beset_start s v shape honest e is = subst IsAtStart (sym (is ∙ ap (λ (t : State). masked t t.cell (λ _. false)) e)) refl
+far_cell : (s : State) (p : ℕ) (o : Option PtrWord) → read_of (s.cell p) ≡ o → (marks : Marks) → Some (Far marks) ≡ home_of o → IsFar s p
+far_cell s p None e marks is = absurd cc
+far_cell s p (Some pointer.Free) e marks is = absurd cc
+far_cell s p (Some (pointer.Near len ds at m)) e marks is = absurd cc
+far_cell s p (Some (pointer.Far len ds m)) e marks is = record { len = len; ds = ds; marks = m; far = e }
 
--- what is seen near with MOVE is quiet
-pub quiet_near : (s t : State) (p w len ds : ℕ) (place : Place) (marks : Marks) → t ≡ record s { cell = put s.cell p w } → read_of w ≡ Some (pointer.Near len ds place marks) → marks.moved ≡ true → IsQuietNear t p
-quiet_near s t p w len ds place marks e near moved = subst (λ (u : State). IsQuietNear u p) (sym e) record {
-  len = len;
-  ds = ds;
-  place = place;
-  marks = marks;
-  near = ap read_of (put_same s.cell p w p refl) ∙ near;
-  quiet = rw moved refl;
-}
-
-pub evac_near : (s t : State) (p w len ds : ℕ) (place : Place) (marks : Marks) → t ≡ record s { cell = put s.cell p w } → read_of w ≡ Some (pointer.Near len ds place marks) → marks.evac ≡ true → has_evac (read_of (t.cell p)) ≡ true
-evac_near s t p w len ds place marks e near evac = ap (λ (u : State). has_evac (read_of (u.cell p))) e ∙ (ap has_evac (ap read_of (put_same s.cell p w p refl) ∙ near) ∙ evac)
+pub far_home : (s : State) (p : ℕ) (marks : Marks) → Some (Far marks) ≡ home_of (read_of (s.cell p)) → IsFar s p
+far_home s p marks is = far_cell s p (read_of (s.cell p)) refl marks is

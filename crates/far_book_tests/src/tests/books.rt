@@ -1,13 +1,14 @@
 //! The book by worked values: logs that fill up, objects that are dropped, cells that are used again.
 
-ghost use Rattle.std.specs.Prelude.{◌≡◌, ◌<◌, ◌≤◌};
+ghost use Rattle.std.specs.Prelude.{◌≡◌, ◌<◌, ◌≤◌, true};
 ghost use Rattle.far_word.specs.declared.sizes.TheConstants.{LONGEST};
 
 use far_book::{Beset, Book, Home, Near, Plain};
 use far_core::{Core, Event, Kind, Reply, Shape};
-use far_device::MemDevice;
+use far_device::{Device, MemDevice};
 use far_log::{LogRow, Span};
 use far_word::{CELLS, Mark, Marks, Place, PtrWord, Refused};
+use std::alloc::AllocError;
 use std::test::Fail;
 
 pub(super) const SMALL: Shape = Shape {
@@ -23,26 +24,89 @@ pub(super) const NO_MARKS: Marks = Marks {
     dropped: false,
 };
 
-#[tactic(auto, using(crate::proofs::Uses::at_start))]
 pub(super) fn opened(rt: &HostRuntime, shape: Shape) -> Result<Book<Plain, MemDevice>, Refused> {
+    opened_over(rt, shape, MemDevice::new(rt.alloc()))
+}
+
+// The same over another device.
+#[tactic(auto, using(crate::proofs::Uses::at_start))]
+pub(super) fn opened_over<D: Device + Drop>(
+    rt: &HostRuntime,
+    shape: Shape,
+    device: D,
+) -> Result<Book<Plain, D>, Refused>
+    requires { D.honest device ≡ true }
+{
     let core = Core::new(rt.alloc(), shape, true)?;
-    Book::new(rt.alloc(), Plain { core }, MemDevice::new(rt.alloc()))
+    Book::new(rt.alloc(), Plain { core }, device)
 }
 
 // The same beside whose calls owners make these events.
 #[tactic(auto, using(crate::proofs::Uses::beset_start))]
-pub(super) fn beset(
+pub(super) fn beset<D: Device + Drop>(
     rt: &HostRuntime,
     events: Vec<Event>,
-) -> Result<Book<Beset, MemDevice>, Refused> {
+    device: D,
+) -> Result<Book<Beset, D>, Refused>
+    requires { D.honest device ≡ true }
+{
     let core = Core::new(rt.alloc(), SMALL, true)?;
     let hand = Beset::new(rt.alloc(), core, events)?;
-    Book::new(rt.alloc(), hand, MemDevice::new(rt.alloc()))
+    Book::new(rt.alloc(), hand, device)
+}
+
+/// An event that isn't made, for a turn in which owners do nothing.
+pub(super) const IDLE: Event = Event::Close { owner: 9 };
+
+/// Events by which pointer 0 gets a mark.
+pub(super) const HOT: Event = Event::Pin {
+    owner: 0,
+    pointer: 0,
+};
+
+pub(super) const MOVE: Event = Event::Ask {
+    owner: 0,
+    pointer: 0,
+    mark: Mark::Moved,
+};
+
+pub(super) const DROP: Event = Event::Ask {
+    owner: 0,
+    pointer: 0,
+    mark: Mark::Dropped,
+};
+
+// Owners' events, one a turn: mutator 0 opens, takes pointer 0 over once it is placed, and asks for it to move; so many
+// turns later these.
+pub(super) fn events_after(
+    rt: &HostRuntime,
+    turns: u8,
+    then: &[Event],
+) -> Result<Vec<Event>, AllocError> {
+    let (owner, pointer) = (0, 0);
+    let mut events = vec![in rt.alloc();
+        Event::ReadEpoch { owner },
+        Event::Open { owner },
+        IDLE,
+        Event::Adopt { owner, pointer },
+        MOVE,
+    ]?;
+    events.resize(5 + turns as usize, IDLE)?;
+    events.extend_from_slice(then)?;
+    Ok(events)
+}
+
+pub(super) fn ask(pointer: u16, mark: Mark) -> Event {
+    Event::Ask {
+        owner: 0,
+        pointer,
+        mark,
+    }
 }
 
 // A new object of the first mutator, in its lowest free cell.
-pub(super) fn place_next<N: Near + Drop>(
-    book: &mut Book<N, MemDevice>,
+pub(super) fn place_next<N: Near + Drop, D: Device + Drop>(
+    book: &mut Book<N, D>,
     len: u16,
     ds: u8,
 ) -> Result<(u16, Place), Refused>
@@ -58,7 +122,10 @@ pub(super) fn place_next<N: Near + Drop>(
 }
 
 // What a log is and has; `None` for a number that is no log's.
-pub(super) fn shown<N: Near + Drop>(book: &Book<N, MemDevice>, log: u8) -> Option<(Kind, LogRow)> {
+pub(super) fn shown<N: Near + Drop, D: Device + Drop>(
+    book: &Book<N, D>,
+    log: u8,
+) -> Option<(Kind, LogRow)> {
     if (log as u64) < book.shape().logs {
         Some(book.log(log))
     } else {
@@ -85,7 +152,10 @@ pub(super) fn line(
 }
 
 // Where a pointer's object is; `None` for a number that is no pointer's.
-pub(super) fn home<N: Near + Drop>(book: &mut Book<N, MemDevice>, pointer: u16) -> Option<Home> {
+pub(super) fn home<N: Near + Drop, D: Device + Drop>(
+    book: &mut Book<N, D>,
+    pointer: u16,
+) -> Option<Home> {
     if (pointer as u64) < 128 * book.shape().mutators {
         book.locate(pointer)
     } else {
@@ -94,8 +164,11 @@ pub(super) fn home<N: Near + Drop>(book: &mut Book<N, MemDevice>, pointer: u16) 
 }
 
 // Retires a near object whose cell shows DROP, and says whether it did.
-#[tactic(auto, using(crate::proofs::Uses::dropped_near))]
-fn retire_dropped<N: Near + Drop>(book: &mut Book<N, MemDevice>, pointer: u16) -> bool {
+#[tactic(auto, using(crate::proofs::Uses::dropped_home))]
+pub(super) fn retire_dropped<N: Near + Drop, D: Device + Drop>(
+    book: &mut Book<N, D>,
+    pointer: u16,
+) -> bool {
     if pointer as u64 >= 128 * book.shape().mutators {
         return false;
     }
@@ -110,8 +183,8 @@ fn retire_dropped<N: Near + Drop>(book: &mut Book<N, MemDevice>, pointer: u16) -
 }
 
 // Sets EVAC on a near object of a sealed log, and answers its word before; `None` where the pointer names none.
-pub(super) fn mark_sealed<N: Near + Drop>(
-    book: &mut Book<N, MemDevice>,
+pub(super) fn mark_sealed<N: Near + Drop, D: Device + Drop>(
+    book: &mut Book<N, D>,
     pointer: u16,
 ) -> Option<u64> {
     if pointer as u64 >= 128 * book.shape().mutators {
@@ -131,12 +204,7 @@ pub(super) fn mark_sealed<N: Near + Drop>(
 fn drop_next(book: &mut Book<Plain, MemDevice>, pointer: u16) {
     let owner = 0;
     book.owner(Event::Adopt { owner, pointer });
-    let mark = Mark::Dropped;
-    book.owner(Event::Ask {
-        owner,
-        pointer,
-        mark,
-    });
+    book.owner(ask(pointer, Mark::Dropped));
 }
 
 #[test]
@@ -369,7 +437,7 @@ fn marks_come_between_calls(rt: HostRuntime) -> Result<(), Fail> {
             mark
         },
     ]?;
-    let mut book = beset(&rt, events)?;
+    let mut book = beset(&rt, events, MemDevice::new(rt.alloc()))?;
     assert_eq!(rt; place_next(&mut book, 8, 1), Ok((pointer, place)));
     let marks = NO_MARKS;
     assert_eq!(rt; home(&mut book, pointer), Some(Home::Near { place, marks }));

@@ -1,19 +1,20 @@
 //! Objects that move, or stay, by worked values, alone and with marks that come between each two steps.
 
 use crate::tests::books::{
-    NO_MARKS, SMALL, beset, home, line, mark_sealed, opened, place_next, shown,
+    DROP, HOT, IDLE, NO_MARKS, SMALL, ask, beset, events_after, home, line, mark_sealed, opened,
+    place_next, shown,
 };
 use far_book::{Book, Home, Near, Plain};
 use far_core::{Event, Kind, Reply};
-use far_device::MemDevice;
+use far_device::{Device, MemDevice};
 use far_log::LogRow;
 use far_word::{Mark, Marks, Place, Refused};
 use std::test::Fail;
 
 /// Moves a near object whose cell shows MOVE; `None` where the pointer names none.
 #[tactic(auto, using(crate::proofs::Uses::quiet_home))]
-fn move_asked<N: Near + Drop>(
-    book: &mut Book<N, MemDevice>,
+pub(super) fn move_asked<N: Near + Drop, D: Device + Drop>(
+    book: &mut Book<N, D>,
     pointer: u16,
 ) -> Option<Result<Option<Place>, Refused>> {
     if pointer as u64 >= 128 * book.shape().mutators {
@@ -28,16 +29,8 @@ fn move_asked<N: Near + Drop>(
     Some(book.move_now(pointer))
 }
 
-fn ask(pointer: u16, mark: Mark) -> Event {
-    Event::Ask {
-        owner: 0,
-        pointer,
-        mark,
-    }
-}
-
 /// Its owner takes over an object, and stores a number into each word of it.
-fn store_in(book: &mut Book<Plain, MemDevice>, pointer: u16, words: u16) {
+pub(super) fn store_in<D: Device + Drop>(book: &mut Book<Plain, D>, pointer: u16, words: u16) {
     let owner = 0;
     book.owner(Event::Adopt { owner, pointer });
     book.owner(Event::ReadEpoch { owner });
@@ -56,7 +49,11 @@ fn store_in(book: &mut Book<Plain, MemDevice>, pointer: u16, words: u16) {
 }
 
 /// What its owner loads from a word of an object.
-fn loaded(book: &mut Book<Plain, MemDevice>, pointer: u16, index: u16) -> Reply {
+pub(super) fn loaded<D: Device + Drop>(
+    book: &mut Book<Plain, D>,
+    pointer: u16,
+    index: u16,
+) -> Reply {
     let owner = 0;
     book.owner(Event::ReadEpoch { owner });
     book.owner(Event::Open { owner });
@@ -165,35 +162,18 @@ fn a_dropped_object_moves_nowhere(rt: HostRuntime) -> Result<(), Fail> {
     Ok(())
 }
 
-/// An object with EVAC and MOVE moves while its owner makes this event before the book's step of this number, of the 5 that a move
-/// of one word takes: what is answered, and the live bytes of its two logs.
-fn moved_beside(
-    rt: &HostRuntime,
-    step: u8,
-    late: Event,
-) -> Result<
-    (
-        Option<Result<Option<Place>, Refused>>,
-        [Option<(Kind, LogRow)>; 2],
-    ),
-    Fail,
-> {
-    let owner = 0;
-    let idle = Event::Close { owner: 1 };
-    let mut events = vec![in rt.alloc(); Event::ReadEpoch { owner }, Event::Open { owner }]?;
-    // The two objects are placed by 3 steps and 129.
-    for _ in 0..130u8 {
-        events.push(idle)?;
-    }
-    events.push(Event::Adopt { owner, pointer: 0 })?;
-    events.push(ask(0, Mark::Moved))?;
-    // The cell is looked at once before the move.
-    events.push(idle)?;
-    for _ in 0..step {
-        events.push(idle)?;
-    }
-    events.push(late)?;
-    let mut book = beset(rt, events)?;
+type Beside = (
+    Option<Result<Option<Place>, Refused>>,
+    [Option<(Kind, LogRow)>; 2],
+);
+
+/// An object with EVAC and MOVE moves while its owner makes these events, one before each step of the book, of which a move of
+/// one word takes five: a look at the cell, the header, a word that is read and written, the naming. What is answered, and
+/// what its two logs have.
+fn moved_beside(rt: &HostRuntime, then: &[Event]) -> Result<Beside, Fail> {
+    // The second object takes 129 steps, its marking two, and the cell is looked at once before the move.
+    let events = events_after(rt, 130, then)?;
+    let mut book = beset(rt, events, MemDevice::new(rt.alloc()))?;
     place_next(&mut book, 8, 1)?;
     place_next(&mut book, 1016, 1)?;
     mark_sealed(&mut book, 0);
@@ -201,25 +181,65 @@ fn moved_beside(
     Ok((moved, [shown(&book, 0), shown(&book, 2)]))
 }
 
-#[test]
-fn a_mark_may_come_at_any_step(rt: HostRuntime) -> Result<(), Fail> {
+/// So it is where it has moved.
+fn has_moved() -> Beside {
     let place = Place { log: 2, at: 0 };
-    let dead = line(Kind::Sealed, 0, 0, 16, 1008);
-    let there = line(Kind::Open, 2, 16, 0, 1008);
-    let pin = Event::Pin {
-        owner: 0,
-        pointer: 0,
-    };
-    for step in 0..6u8 {
-        let pinned = moved_beside(&rt, step, pin)?;
-        assert_eq!(rt; pinned, (Some(Ok(Some(place))), [dead, there]), "at {step}");
-        let dropped = moved_beside(&rt, step, ask(0, Mark::Dropped))?;
-        let expected = if step < 5 {
-            (Some(Ok(None)), [dead, line(Kind::Free, 2, 0, 0, 1024)])
-        } else {
-            (Some(Ok(Some(place))), [dead, there])
-        };
-        assert_eq!(rt; dropped, expected, "at {step}");
-    }
+    (
+        Some(Ok(Some(place))),
+        [
+            line(Kind::Sealed, 0, 0, 16, 1008),
+            line(Kind::Open, 2, 16, 0, 1008),
+        ],
+    )
+}
+
+/// And so where it was retired.
+fn is_retired() -> Beside {
+    (
+        Some(Ok(None)),
+        [
+            line(Kind::Sealed, 0, 0, 16, 1008),
+            line(Kind::Free, 2, 0, 0, 1024),
+        ],
+    )
+}
+
+// Alone against a move that tries its naming once.
+#[test]
+fn a_move_finds_hot_at_any_step(rt: HostRuntime) -> Result<(), Fail> {
+    assert_eq!(rt; moved_beside(&rt, &[])?, has_moved());
+    assert_eq!(rt; moved_beside(&rt, &[HOT])?, has_moved());
+    assert_eq!(rt; moved_beside(&rt, &[IDLE, HOT])?, has_moved());
+    assert_eq!(rt; moved_beside(&rt, &[IDLE, IDLE, HOT])?, has_moved());
+    assert_eq!(rt; moved_beside(&rt, &[IDLE, IDLE, IDLE, HOT])?, has_moved());
+    // A second try.
+    assert_eq!(rt;
+        moved_beside(&rt, &[IDLE, IDLE, IDLE, IDLE, HOT])?,
+        has_moved()
+    );
+    Ok(())
+}
+
+// Alone against a move that finds a DROP at the naming, and says where the object lies.
+#[test]
+fn a_move_finds_a_drop_at_any_step(rt: HostRuntime) -> Result<(), Fail> {
+    assert_eq!(rt; moved_beside(&rt, &[DROP])?, is_retired());
+    assert_eq!(rt; moved_beside(&rt, &[IDLE, DROP])?, is_retired());
+    assert_eq!(rt; moved_beside(&rt, &[IDLE, IDLE, DROP])?, is_retired());
+    assert_eq!(rt; moved_beside(&rt, &[IDLE, IDLE, IDLE, DROP])?, is_retired());
+    assert_eq!(rt;
+        moved_beside(&rt, &[IDLE, IDLE, IDLE, IDLE, DROP])?,
+        is_retired()
+    );
+    // At the second try, so the third is that of the retiring.
+    assert_eq!(rt;
+        moved_beside(&rt, &[IDLE, IDLE, IDLE, IDLE, HOT, DROP])?,
+        is_retired()
+    );
+    // It came too late.
+    assert_eq!(rt;
+        moved_beside(&rt, &[IDLE, IDLE, IDLE, IDLE, IDLE, DROP])?,
+        has_moved()
+    );
     Ok(())
 }

@@ -1,0 +1,230 @@
+//! Devices of the tests' own: what is in each is what one in memory has, and something is wrong with it, or looked at.
+
+ghost use Rattle.std.specs.Prelude.{◌≡◌, ◌+◌, ◌%◌, ◌^◌, None, false, true, IfOk};
+ghost use Rattle.far_device.specs.Mem.{bytes_at, faults_of};
+ghost use Rattle.far_device.specs.Wrapping.{wrapped_below};
+
+use far_device::{Device, DeviceFault, MemDevice};
+use std::alloc::AllocError;
+use std::cell::Cell;
+use std::rc::Rc;
+
+/// Fails unless it is given these bytes.
+#[derive(Drop)]
+pub(super) struct Picky {
+    pub(super) inner: MemDevice,
+    pub(super) wanted: Vec<u8>,
+    pub(super) faults: u64,
+}
+
+impl Device for Picky {
+    ghost contents = { λ s. bytes_at s.inner };
+
+    ghost honest = { λ _. true };
+
+    ghost faults = { λ s. (faults_of s.inner + s.faults) % 2 ^ 64 };
+
+    ghost forgets = { Unit {0} };
+
+    ghost fails_at_most = { λ _ _. ⊥ };
+
+    ghost wraps = { λ s. wrapped_below (faults_of s.inner + s.faults) };
+
+    fn write(&mut self, id: u32, bytes: &[u8]) -> Result<(), DeviceFault> {
+        if bytes != self.wanted.as_slice() {
+            self.faults = self.faults.wrapping_add(1);
+            return Err(DeviceFault::Device);
+        }
+        self.inner.write(id, bytes)
+    }
+
+    fn read(&mut self, id: u32) -> Result<Vec<u8>, DeviceFault> {
+        self.inner.read(id)
+    }
+
+    fn forget(&mut self, id: u32) {
+        self.inner.forget(id);
+    }
+
+    fn faults(&self) -> u64 {
+        self.inner.faults().wrapping_add(self.faults)
+    }
+}
+
+/// Is refused memory at each call.
+#[derive(Drop)]
+pub(super) struct Starved {}
+
+impl Device for Starved {
+    ghost contents = { λ _ _. None };
+
+    ghost honest = { λ _. true };
+
+    ghost faults = { λ _. 0 };
+
+    ghost forgets = { Unit {0} };
+
+    ghost fails_at_most = { λ _ _. Unit {0} };
+
+    ghost wraps = { λ _. wrapped_below 0 };
+
+    fn write(&mut self, _id: u32, _bytes: &[u8]) -> Result<(), DeviceFault> {
+        Err(DeviceFault::Memory)
+    }
+
+    fn read(&mut self, _id: u32) -> Result<Vec<u8>, DeviceFault> {
+        Err(DeviceFault::Memory)
+    }
+
+    fn forget(&mut self, _id: u32) {}
+
+    fn faults(&self) -> u64 {
+        0
+    }
+}
+
+/// Answers its next read with this fault, if there is one.
+#[derive(Drop)]
+pub(super) struct Stumbling {
+    pub(super) inner: MemDevice,
+    pub(super) next: Option<DeviceFault>,
+    pub(super) faults: u64,
+}
+
+impl Device for Stumbling {
+    ghost contents = { λ s. bytes_at s.inner };
+
+    ghost honest = { λ _. true };
+
+    ghost faults = { λ s. (faults_of s.inner + s.faults) % 2 ^ 64 };
+
+    ghost forgets = { Unit {0} };
+
+    ghost fails_at_most = { λ _ _. ⊥ };
+
+    ghost wraps = { λ s. wrapped_below (faults_of s.inner + s.faults) };
+
+    fn write(&mut self, id: u32, bytes: &[u8]) -> Result<(), DeviceFault> {
+        self.inner.write(id, bytes)
+    }
+
+    fn read(&mut self, id: u32) -> Result<Vec<u8>, DeviceFault> {
+        let Some(fault) = self.next.take() else {
+            return self.inner.read(id);
+        };
+        if fault == DeviceFault::Device {
+            self.faults = self.faults.wrapping_add(1);
+        }
+        Err(fault)
+    }
+
+    fn forget(&mut self, id: u32) {
+        self.inner.forget(id);
+    }
+
+    fn faults(&self) -> u64 {
+        self.inner.faults().wrapping_add(self.faults)
+    }
+}
+
+/// Gives as many bytes at its next read, if it is told to, whatever it holds.
+#[derive(Drop)]
+pub(super) struct Lying {
+    pub(super) inner: MemDevice,
+    pub(super) next: Option<usize>,
+}
+
+impl Device for Lying {
+    ghost contents = { λ s. bytes_at s.inner };
+
+    ghost honest = { λ _. false };
+
+    ghost faults = { λ s. faults_of s.inner };
+
+    ghost forgets = { Unit {0} };
+
+    ghost fails_at_most = { λ _ _. ⊥ };
+
+    ghost wraps = { λ s. wrapped_below s.inner.faults };
+
+    fn write(&mut self, id: u32, bytes: &[u8]) -> Result<(), DeviceFault> {
+        self.inner.write(id, bytes)
+    }
+
+    fn read(&mut self, id: u32) -> Result<Vec<u8>, DeviceFault> {
+        let mut bytes = self.inner.read(id)?;
+        if let Some(len) = self.next.take() {
+            let Ok(()) = bytes.resize(len, 0xee) else {
+                return Err(DeviceFault::Memory);
+            };
+        }
+        Ok(bytes)
+    }
+
+    fn forget(&mut self, id: u32) {
+        self.inner.forget(id);
+    }
+
+    fn faults(&self) -> u64 {
+        self.inner.faults()
+    }
+}
+
+/// Shows whether anything is under key 0.
+#[derive(Drop)]
+pub(super) struct Shown<D: Device + Drop> {
+    pub(super) inner: D,
+    pub(super) holds: Rc<Cell<bool>>,
+}
+
+impl<D: Device + Drop> Device for Shown<D> {
+    ghost contents = { λ s. D.contents s.inner };
+
+    ghost honest = { λ s. D.honest s.inner };
+
+    ghost faults = { λ s. D.faults s.inner };
+
+    ghost forgets = { D.forgets };
+
+    ghost fails_at_most = { λ s. D.fails_at_most s.inner };
+
+    ghost wraps = { λ s. D.wraps s.inner };
+
+    fn write(&mut self, id: u32, bytes: &[u8]) -> Result<(), DeviceFault> {
+        self.inner.write(id, bytes)?;
+        if id == 0 {
+            self.holds.set(true);
+        }
+        Ok(())
+    }
+
+    fn read(&mut self, id: u32) -> Result<Vec<u8>, DeviceFault> {
+        self.inner.read(id)
+    }
+
+    fn forget(&mut self, id: u32) {
+        self.inner.forget(id);
+        if id == 0 {
+            self.holds.set(false);
+        }
+    }
+
+    fn faults(&self) -> u64 {
+        self.inner.faults()
+    }
+}
+
+// A device, and whether it holds anything under key 0.
+pub(super) fn shown_device<D: Device + Drop>(
+    rt: &HostRuntime,
+    inner: D,
+) -> Result<(Shown<D>, Rc<Cell<bool>>), AllocError>
+    ensures { IfOk result (λ made. made.0.inner ≡ inner) }
+{
+    let holds = Rc::new(rt.alloc(), Cell::new(false))?;
+    let device = Shown {
+        inner,
+        holds: holds.clone()?,
+    };
+    Ok((device, holds))
+}
