@@ -10,7 +10,7 @@ use Rattle.far_word.specs.Pointer.{read_of}
 use Rattle.far_core.specs.events.Quiet.{is_quiet_cell, has_move, IsClearNear, IsQuiet}
 use Rattle.far_core.specs.state.Law.{Law}
 use Rattle.far_core.specs.state.State.{State}
-use Rattle.far_core.proofs.Cells.{IsHeld, held_near}
+use Rattle.far_core.proofs.Cells.{held_near}
 
 either : (m e r c : Bool) → (m || (e && r && c)) ≡ true → (m ≡ true) ⊎ ((e ≡ true) × (r ≡ true) × (c ≡ true))
 either true e r c h = inl refl

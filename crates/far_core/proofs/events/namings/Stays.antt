@@ -1,19 +1,16 @@
 -- What the form of naming Stays owes.
-use Rattle.std.proofs.Common.{inl, inr, ◌≡◌, ◌≢◌, ℕ, ◌/◌, ◌+◌, Bool, true, false, cond, refl, sym, ap, subst, ◌∙◌, Option, Some, None}
-use Rattle.std.specs.Prelude.{◌||◌, ◌&&◌, not, is_some}
+use Rattle.std.proofs.Common.{inl, inr, ◌≡◌, ◌≢◌, ℕ, true, false, refl, sym, ap, ◌∙◌, Some, None}
 use Rattle.std.proofs.lemmas.Bool.{false≢true}
 use Rattle.far_word.specs.declared.mark.Marks.{Marks}
 use Rattle.far_word.specs.declared.pointer.Place.{Place}
-use Rattle.far_word.specs.declared.pointer.PtrWord.{PtrWord}
 use Rattle.far_word.specs.declared.pointer.PtrWord.TheVariants.{Free, Near}
-use Rattle.far_word.specs.Bytes.{bytes_of}
 use Rattle.far_word.specs.Pointer.{read_of}
 use Rattle.far_core.specs.declared.naming.Naming.TheVariants.{Stays}
 use Rattle.far_core.specs.events.Naming.{no_marks}
-use Rattle.far_core.specs.state.Law.{Law, HasEvac, held_place, in_use}
-use Rattle.far_core.specs.state.State.{State, put, addr}
+use Rattle.far_core.specs.state.Law.{Law, HasEvac, in_use}
+use Rattle.far_core.specs.state.State.{State, put}
 use Rattle.far_core.specs.world.Steps as world
-use Rattle.far_core.specs.world.WorldOf.{world_of, object_of, is_marked}
+use Rattle.far_core.specs.world.WorldOf.{world_of, object_of}
 use Rattle.far_core.proofs.Cells.{Remarked, unused}
 use Rattle.far_core.proofs.Frames.{law_with_cell_marks}
 use Rattle.far_core.proofs.Marking.{unmarks_world}
