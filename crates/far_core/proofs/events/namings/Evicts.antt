@@ -24,6 +24,7 @@ use Rattle.far_core.specs.world.World.{Object, Group, FarSide}
 use Rattle.far_core.specs.world.WorldOf.{world_of, object_of, is_marked}
 use Rattle.far_core.proofs.Bounds.{span_len}
 use Rattle.far_core.proofs.Cells.{unused}
+use Rattle.far_core.proofs.Frames.{rounds_with_cell}
 use Rattle.far_core.proofs.NamingOwed.{IsMade, NamingOwed}
 use Rattle.far_core.proofs.Put.{put_both, put_two, put_same, put_other}
 use Rattle.far_core.proofs.Quieting.{quiet_fact, quiet_test, quiet_unheld}
@@ -85,7 +86,8 @@ module _ (s : State) (law : Law s) (p new len ds : ℕ) (place : Place) (m : Mar
       held_used = law.views.held_used;
       used_cell = λ q u. put_both (λ w. in_use (read_of w) ≡ true) s.cell p new q (λ _. ap in_use says) (λ _. law.views.used_cell q u);
     };
-    rounds = law.rounds;
+    rounds = rounds_with_cell s.epoch s.kind s.cell s.round s.round_epoch p new law.rounds (λ n d at k is. let odd : Some (Far len ds no_marks) ≡ Some (Near n d at k) = sym says ∙ is in absurd cc);
+    clears = law.clears;
     unadopted = λ honest q free. put_two (λ w (r : ℕ → ℕ). IsBlank s.word r (read_of w)) s.cell s.stored p new away q
         (λ e. no_zeros honest (ap s.used (sym e) ∙ free)) (λ _. law.unadopted honest q free);
   }
@@ -134,7 +136,7 @@ module _ (p new len : ℕ) (place : Place) where
     used = λ q a. refl;
     held = λ q a b. refl;
     book = λ ne. absurd (ne refl);
-    rest = (refl, refl, refl, refl, refl);
+    rest = (refl, refl, refl);
   }
 
   pub evicts_owed : NamingOwed p new (Evicts len place)
