@@ -1,0 +1,141 @@
+#!/usr/bin/env python3
+"""Tries the edits of crates/CRATE/planted, many in one check, in a copy of the repository.
+
+    scripts/planted_together.py CRATE [EDIT..]
+
+A function is proved over the contracts of those that it calls. So edits of different functions are made together, and what
+each edit's own function owes then says whether the edit is refused. scripts/planted.sh tries one after the other, and is
+needed for edits of definitions, constants and types, which are named at the end.
+
+Prints the goals that each edit leaves open. The status is 1 where an edit is proved, or refused only because a proof file
+names what the edit took away. The copy lies below /tmp and is removed at the end.
+"""
+
+import pathlib
+import re
+import shutil
+import subprocess
+import sys
+import tempfile
+
+ROOT = pathlib.Path(__file__).resolve().parent.parent
+FUNCTION = re.compile(r"^( *)(?:pub(?:\([^)]*\))? +)?(?:const +)?(?:unsafe +)?fn +(\w+)", re.M)
+OPENS = re.compile(r"^(?:unsafe +)?impl(?:<[^>]*>)? +(?:(?P<trait>[\w:]+)(?:<.*>)? +for +)?(?P<type>\w+)|^\}", re.M)
+NAMES = re.compile(r"has no field|is not in scope|has no `|was not admitted")
+
+
+class Edit:
+    """A wrong edit: its places in the sources, and the functions in which they lie."""
+
+    def __init__(self, path, crate):
+        self.name, self.places, self.functions, self.is_whole = path.stem, [], set(), True
+        file = old = ""
+        for line in path.read_text().split("\n"):
+            if line.startswith("file: "):
+                file = line[6:].strip()
+            elif line.startswith("old: "):
+                old = line[5:]
+            elif line.startswith("new:"):
+                self.add(crate, file, old, line[4:].removeprefix(" "))
+
+    def add(self, crate, file, old, new):
+        text = (crate / file).read_text()
+        function = function_at(file, text, text.find(old)) if text.count(old) == 1 else None
+        self.is_whole = self.is_whole and function is not None
+        self.places.append((file, text.find(old), old, new))
+        self.functions.add(function)
+
+
+def function_at(file, text, at):
+    """Returns the file, the type and the name of the function that holds a place; None where none does."""
+    at += len(text[at:]) - len(text[at:].lstrip())
+    found = [it for it in FUNCTION.finditer(text, 0, text.find("\n", at)) if it.start() <= at]
+    if not file.startswith("src/") or not found:
+        return None
+    last = found[-1]
+    if f"\n{last[1]}}}\n" in text[last.end() : at]:
+        return None
+    block = [it for it in OPENS.finditer(text, 0, last.start())][-1:]
+    kind = block[0]["type"] if block and block[0]["type"] else ""
+    return file, kind, last[2]
+
+
+def grouped(edits):
+    """Returns the edits in groups, in each of which no function is changed twice."""
+    groups = []
+    for edit in edits:
+        free = [it for it in groups if not any(edit.functions & other.functions for other in it)]
+        free[0].append(edit) if free else groups.append([edit])
+    return groups
+
+
+def checked(crate, group):
+    """Returns what a check says of the crate with these edits, which are taken back."""
+    files = {file for edit in group for file, _, _, _ in edit.places}
+    before = {file: (crate / file).read_text() for file in files}
+    for file, text in before.items():
+        here = [place[1:] for edit in group for place in edit.places if place[0] == file]
+        for at, old, new in sorted(here, reverse=True):
+            text = text[:at] + new + text[at + len(old) :]
+        (crate / file).write_text(text)
+    ran = subprocess.run(["rt", "check", "--jobs", "1"], cwd=crate, capture_output=True, text=True)
+    for file, text in before.items():
+        (crate / file).write_text(text)
+    return ran.stdout + ran.stderr
+
+
+def owed(said):
+    """Returns what each function that is not proved owes by itself: its goals, and the errors of its proof files."""
+    goals, errors, notes = {}, {}, []
+    for line in said.split("\n"):
+        if wrong := re.match(r"(?:\./)?proofs/(\S+)/\w+\.antt:\d+:\d+: error: (.*)", line):
+            errors.setdefault(wrong[1], []).append(wrong[2])
+        elif line.startswith("note: src/") and "not proved" in line:
+            notes += re.findall(r"\(`(\S+)`\)", line)
+        elif function := re.match(r"fn (\S+): (.*)", line):
+            goals[function[1]], notes = notes, []
+    return {
+        symbol: (found, errors.get("/".join(symbol.split("::")[1:]), []))
+        for symbol, found in goals.items()
+    }
+
+
+def verdict(edit, owing):
+    """Returns whether an edit is refused, and by what."""
+    goals, errors, is_read = [], [], False
+    for file, kind, name in edit.functions:
+        module = file[len("src/") : -len(".rt")].split("/")[-1]
+        for symbol, (found, wrong) in owing.items():
+            *_, above, last = symbol.split("::")
+            if last == name and (above.startswith(kind) if kind else above in (module, "fn") or module == "lib"):
+                goals, errors, is_read = goals + found, errors + wrong, True
+    real = [it for it in errors if not NAMES.search(it)]
+    if goals or real:
+        return True, f"refused: {', '.join(goals) or real[0][:100]}"
+    if errors:
+        return False, f"REFUSED ONLY BY A NAME: {errors[0][:100]}"
+    return False, "PROVED" if is_read else "NOT READ: the check has no line on its function"
+
+
+def main(name, *names):
+    with tempfile.TemporaryDirectory(prefix="planted-") as folder:
+        # what was checked lies in out/, and is copied too
+        copy = pathlib.Path(shutil.copytree(ROOT, f"{folder}/copy", symlinks=True))
+        crate = copy / "crates" / name
+        edits = [Edit(it, crate) for it in sorted((crate / "planted").glob("*.edit")) if not names or it.stem in names]
+        missed = 0
+        for group in grouped([it for it in edits if it.is_whole]):
+            said = checked(crate, group)
+            owing = owed(said)
+            for edit in group:
+                is_refused, why = verdict(edit, owing) if owing else (False, f"NOT READ: {said.strip()[-200:]}")
+                missed += not is_refused
+                print(f"{edit.name}: {why}", flush=True)
+    for edit in edits:
+        if not edit.is_whole:
+            print(f"not tried, no function holds it whole: {edit.name}")
+    return missed > 0
+
+
+if __name__ == "__main__":
+    sys.exit(main(*sys.argv[1:]) if len(sys.argv) > 1 else __doc__)
