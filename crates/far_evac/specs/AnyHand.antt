@@ -15,8 +15,11 @@ use Rattle.far_evac.specs.declared.answers.Polled.TheVariants.{Clear, StillOpen}
 use Rattle.far_evac.specs.declared.answers.Progress.{Progress}
 use Rattle.far_evac.specs.declared.answers.RoundEnd.{RoundEnd}
 use Rattle.far_evac.specs.declared.answers.RoundEnd.TheVariants.{Done, Nothing, Limit}
+use Rattle.far_evac.specs.declared.census.Housed.{Housed}
+use Rattle.far_evac.specs.declared.census.LogState.{LogState}
 use Rattle.far_evac.specs.declared.phase.Phase.{Phase}
 use Rattle.far_evac.specs.declared.phase.Phase.TheVariants.{Idle, Marking, Waiting, Evacuating}
+use Rattle.far_evac.specs.Census.{homes_of, logs_of}
 use Rattle.far_evac.specs.Choosing.{after_selecting, after_aborting}
 use Rattle.far_evac.specs.Marking.{newly_marked, after_marking, waiting_for}
 use Rattle.far_evac.specs.Moment.{Moment, Tally, nothing, plus}
@@ -39,6 +42,12 @@ pub record KnowsMoment (m t : Moment) : Type 0 where
 pub record KnowsWalked (w t : Walked) : Type 0 where
   pub moment : KnowsMoment w.moment t.moment
   pub tally : t.tally ≡ w.tally
+
+-- ---- an audit: marks may be found on its way, and nothing else changes; it lists what the cells say at its end
+pub record Audits (m t : Moment) (homes : List Housed) (logs : List LogState) : Type 0 where
+  pub leaves : KnowsMoment m t
+  pub lives : homes ≡ homes_of t.core
+  pub has : logs ≡ logs_of t
 
 -- ---- marking, and giving up: as where nobody else changes a word
 pub record MarksSome (m t : Moment) (n count : ℕ) (waiting : Option ℕ) : Type 0 where

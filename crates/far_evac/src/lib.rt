@@ -6,8 +6,10 @@
 
 mod answers;
 mod census;
+mod laws;
 mod phase;
 
 pub use answers::{EvacFault, Marked, Polled, Progress, RoundEnd};
 pub use census::{Census, Housed, LogKind, LogState};
+pub use laws::{dealing_is_in_order, exact_is_allowed, poll_is_once, walk_is_tour, walks_join};
 pub use phase::Phase;
