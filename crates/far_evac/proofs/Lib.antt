@@ -1,0 +1,14 @@
+pub mod Bools
+pub mod Dealt
+pub mod Given
+pub mod InOrder
+pub mod Joined
+pub mod LiveLists
+pub mod LiveOnce
+pub mod Orders
+pub mod Polls
+pub mod Subjects
+pub mod Tallies
+pub mod Tours
+pub mod Walks
+pub mod worked

@@ -1,0 +1,139 @@
+-- What each call of the evacuator leaves over any hand. The core of a moment is what the book knows then: where each object lies, EVAC, spans and
+-- logs exactly; of HOT, MOVE and DROP those that were found; of scopes who was seen clear; of data words what was read.
+use Rattle.std.specs.Prelude.{◌≡◌, ℕ, ◌+◌, ◌<◌, ◌≤◌, zero, suc, Bool, true, false, Option, Some, None, List, [], ◌∷◌, length}
+use Rattle.far_word.specs.declared.mark.Marks.{Marks}
+use Rattle.far_word.specs.declared.pointer.PtrWord.TheVariants.{Far}
+use Rattle.far_word.specs.Pointer.{read_of}
+use Rattle.far_word.specs.Sizes.{words_for}
+use Rattle.far_core.specs.state.Spans.{spans_of}
+use Rattle.far_core.specs.state.State.{State}
+use Rattle.far_book.specs.Finds.{Finds}
+use Rattle.far_book.specs.Known.{IsKnown}
+use Rattle.far_evac.specs.declared.answers.EvacFault.{EvacFault}
+use Rattle.far_evac.specs.declared.answers.Polled.{Polled}
+use Rattle.far_evac.specs.declared.answers.Polled.TheVariants.{Clear, StillOpen}
+use Rattle.far_evac.specs.declared.answers.Progress.{Progress}
+use Rattle.far_evac.specs.declared.answers.RoundEnd.{RoundEnd}
+use Rattle.far_evac.specs.declared.answers.RoundEnd.TheVariants.{Done, Nothing, Limit}
+use Rattle.far_evac.specs.declared.census.Housed.{Housed}
+use Rattle.far_evac.specs.declared.census.LogState.{LogState}
+use Rattle.far_evac.specs.declared.phase.Phase.{Phase}
+use Rattle.far_evac.specs.declared.phase.Phase.TheVariants.{Idle, Marking, Waiting, Evacuating}
+use Rattle.far_evac.specs.Census.{homes_of, logs_of}
+use Rattle.far_evac.specs.Choosing.{after_selecting, after_aborting}
+use Rattle.far_evac.specs.Marking.{newly_marked, after_marking, waiting_for}
+use Rattle.far_evac.specs.Moment.{Moment, Tally, nothing, plus}
+use Rattle.far_evac.specs.RoundSteps.{with_clear_below}
+use Rattle.far_evac.specs.Turns.{turn_size}
+use Rattle.far_evac.specs.Walk.{Walked, begun, dealt_as, settled, left, is_done, ended}
+
+-- ---- what was found meanwhile
+-- t is s but for marks that were found in cells, for words that are no header of a span, and for stored words that weren't known
+pub record Knows (s t : State) : Type 0 where
+  pub found : (p : ℕ) → Finds (s.cell p) (t.cell p)
+  pub spans : (l : ℕ) → spans_of t l ≡ spans_of s l
+  pub stored : (p len ds i : ℕ) (marks : Marks) → read_of (s.cell p) ≡ Some (Far len ds marks) → i < words_for len → IsKnown (s.stored p i) → t.stored p i ≡ s.stored p i
+  pub rest : t ≡ record s { cell = t.cell; word = t.word; stored = t.stored }
+
+pub record KnowsMoment (m t : Moment) : Type 0 where
+  pub core : Knows m.core t.core
+  pub rest : t ≡ record m { core = t.core }
+
+pub record KnowsWalked (w t : Walked) : Type 0 where
+  pub moment : KnowsMoment w.moment t.moment
+  pub tally : t.tally ≡ w.tally
+
+-- ---- an audit: marks may be found on its way, and nothing else changes; it lists what the cells say at its end
+pub record Audits (m t : Moment) (homes : List Housed) (logs : List LogState) : Type 0 where
+  pub leaves : KnowsMoment m t
+  pub lives : homes ≡ homes_of t.core
+  pub has : logs ≡ logs_of t
+
+-- ---- marking, and giving up: as where nobody else changes a word
+pub record MarksSome (m t : Moment) (n count : ℕ) (waiting : Option ℕ) : Type 0 where
+  pub leaves : KnowsMoment (after_marking m n) t
+  pub counted : count ≡ length (newly_marked m n)
+  pub epoch : waiting ≡ waiting_for m n
+
+abbrev pub GivesUp : Moment → Moment → Type 0
+GivesUp m t = KnowsMoment (after_aborting m) t
+
+-- ---- waiting
+-- the owners below k are seen clear; k wasn't, and is open at an epoch older than the round
+pub record IsHeldUp (m t : Moment) (k epoch : ℕ) : Type 0 where
+  pub leaves : KnowsMoment (record m { core = with_clear_below m.core k }) t
+  pub owner : k < m.core.mutators
+  pub unseen : m.core.clear k ≡ false
+  pub older : epoch < m.core.round_epoch
+
+abbrev pub Polls : Moment → Moment → Polled → Type 0
+Polls m t Clear = KnowsMoment (record m { core = with_clear_below m.core m.core.mutators; phase = Evacuating }) t
+Polls m t (StillOpen k epoch) = IsHeldUp m t k epoch
+
+-- ---- evacuating: one object after the other, each as a word says that was found in its cell
+abbrev pub found_first : Walked → ℕ → List ℕ → Walked
+found_first w word [] = w
+found_first w word (p ∷ ps) = settled (dealt_as w p (read_of word))
+
+-- there is an object, and the word may be found in its cell
+abbrev pub FindsFirst : Walked → ℕ → List ℕ → Type 0
+FindsFirst w word [] = ⊥
+FindsFirst w word (p ∷ ps) = Finds (w.moment.core.cell p) word
+
+pub record DealsFirst (w : Walked) (word : ℕ) (t : Walked) : Type 0 where
+  pub finds : FindsFirst w word (left w)
+  pub leaves : KnowsWalked (found_first w word (left w)) t
+
+-- so many objects are dealt with
+abbrev pub WalksTo : Moment → ℕ → Walked → Type 0
+WalksTo m zero t = KnowsWalked (settled (begun m)) t
+WalksTo m (suc k) t = (u : Walked) × (word : ℕ) × WalksTo m k u × DealsFirst u word t
+
+-- k objects are dealt with: n, or all
+pub record Walks (m : Moment) (n k : ℕ) (t : Walked) : Type 0 where
+  pub walks : WalksTo m k t
+  pub most : k ≤ n
+  pub enough : is_done t ≡ false → k ≡ n
+
+-- a tally as it is answered
+abbrev pub progress_of : Tally → Bool → Progress
+progress_of tally done = record { moved = tally.moved; far = tally.far; dropped = tally.dropped; freed = tally.freed; done = done }
+
+-- t is where a walk over n objects, or all, ends, and the tally is its own; done says whether each log was given back
+abbrev pub Evacuates : Moment → ℕ → Moment → Tally → Bool → Type 0
+Evacuates m n t tally done = (k : ℕ) × (w : Walked) × Walks m n k w × (t ≡ ended w) × (tally ≡ w.tally) × (done ≡ is_done w)
+
+-- fewer than n were dealt with, and the walk stopped at the next one, of which alone more may be known than before
+abbrev pub StopsAt : Moment → ℕ → Moment → Tally → Type 0
+StopsAt m n t tally = (k : ℕ) × (w : Walked) × WalksTo m k w × (k < n) × (is_done w ≡ false) × KnowsMoment w.moment t × (tally ≡ w.tally)
+
+-- ---- rounds: a turn by its phase; and turns one after the other, the last one first in the list
+abbrev pub TurnsTo : Moment → Phase → Tally → Bool → Moment → Type 0
+TurnsTo m Idle tally done t = ⊥
+TurnsTo m Marking tally done t = (tally ≡ nothing) × (done ≡ false) × ((count : ℕ) × (waiting : Option ℕ) × MarksSome m t turn_size count waiting)
+TurnsTo m Waiting tally done t = (tally ≡ nothing) × (done ≡ false) × ((answer : Polled) × Polls m t answer)
+TurnsTo m Evacuating tally done t = Evacuates m turn_size t tally done
+
+abbrev pub TurnsMade : Moment → List Tally → Bool → Moment → Type 0
+TurnsMade m [] done t = (t ≡ m) × (done ≡ false)
+TurnsMade m (tally ∷ tallies) done t = (u : Moment) × TurnsMade m tallies false u × TurnsTo u u.phase tally done t
+
+abbrev pub sum_of : List Tally → Tally
+sum_of [] = nothing
+sum_of (tally ∷ tallies) = plus (sum_of tallies) tally
+
+-- after so many turns, of which these were made, the round is over; or all were made, and it stands in a phase
+abbrev pub EndsRound : ℕ → List Tally → Bool → Phase → RoundEnd → Type 0
+EndsRound turns tallies true phase end = end ≡ Done (progress_of (sum_of tallies) true)
+EndsRound turns tallies false phase end = (length tallies ≡ turns) × (end ≡ Limit phase)
+
+-- a round of these logs
+abbrev pub RunsRound : Moment → List ℕ → ℕ → RoundEnd → Moment → Type 0
+RunsRound m [] turns end t = (end ≡ Nothing) × (t ≡ m)
+RunsRound m (l ∷ ls) turns end t = (tallies : List Tally) × (over : Bool) × TurnsMade (after_selecting m (l ∷ ls)) tallies over t
+    × (length tallies ≤ turns) × EndsRound turns tallies over t.phase end
+
+-- the same, but that a turn stopped at an object
+abbrev pub StopsRound : Moment → List ℕ → ℕ → Progress → Moment → Type 0
+StopsRound m logs turns so_far t = (tallies : List Tally) × (u : Moment) × (tally : Tally) × TurnsMade (after_selecting m logs) tallies false u
+    × (length tallies < turns) × (u.phase ≡ Evacuating) × StopsAt u turn_size t tally × (so_far ≡ progress_of (plus (sum_of tallies) tally) false)

@@ -1,0 +1,45 @@
+-- What the definitions of a round come to, in other words.
+use Rattle.std.specs.Prelude.{◌≡◌, ℕ, ◌+◌, ◌≤◌, true, Some, length, take, drop}
+use Rattle.far_evac.specs.AnyHand.{WalksTo, Walks}
+use Rattle.far_evac.specs.Dealings.{DealsWith, GivesBack}
+use Rattle.far_evac.specs.Live.{live_among}
+use Rattle.far_evac.specs.Moment.{Moment, Tally, objects_in, plus}
+use Rattle.far_evac.specs.Ready.{Ready}
+use Rattle.far_evac.specs.Stops.{toured}
+use Rattle.far_evac.specs.Waiting.{after_polling, first_open}
+use Rattle.far_evac.specs.Walk.{Walked, is_done, left, walked}
+
+-- what a walk does where no word changes but by it, it may do over any hand
+abbrev pub ExactIsAllowed : Type 0
+ExactIsAllowed = (m : Moment) (n : ℕ) → (k : ℕ) × Walks m n k (walked m n)
+
+-- it is a tour of stops that were listed before it began
+abbrev pub WalkIsTour : Type 0
+WalkIsTour = (m : Moment) (n : ℕ) → Ready m.core m.held → walked m n ≡ toured m n
+
+-- a walk, counted with what was done before it
+abbrev pub with_before : Tally → Walked → Walked
+with_before before w = record w { tally = plus before w.tally }
+
+-- two walks, one after the other, leave and count what one over as many objects does
+abbrev pub WalksJoin : Type 0
+WalksJoin = (m : Moment) (a b : ℕ) → walked m (a + b) ≡ with_before (walked m a).tally (walked (walked m a).moment b)
+
+-- k objects of a list that was made before were dealt with, in its order: the first k, for the others are left, and there were as many; each is
+-- counted once, and where there are no more each log was given back
+pub record DealtInOrder (m : Moment) (k : ℕ) (t : Walked) : Type 0 where
+  pub left : left t ≡ drop k (live_among m.core m.held)
+  pub enough : k ≤ length (live_among m.core m.held)
+  pub deals : DealsWith m t.moment t.tally (take k (live_among m.core m.held))
+  pub counted : objects_in t.tally ≡ k
+  pub done : k ≡ length (live_among m.core m.held) → is_done t ≡ true
+  pub gives : GivesBack m t.moment t.tally.freed
+  pub ready : Ready t.moment.core t.moment.held
+
+-- over any hand the k-th dealing is with the k-th live object
+abbrev pub DealingIsInOrder : Type 0
+DealingIsInOrder = (m : Moment) (k : ℕ) (t : Walked) → Ready m.core m.held → WalksTo m k t → DealtInOrder m k t
+
+-- a poll that found an owner open finds it again, and leaves what one poll left
+abbrev pub PollIsOnce : Type 0
+PollIsOnce = (m : Moment) (k : ℕ) → first_open m.core ≡ Some k → (first_open (after_polling m).core ≡ Some k) × (after_polling (after_polling m) ≡ after_polling m)

@@ -1,0 +1,15 @@
+pub mod AnyHand
+pub mod Census
+pub mod Choosing
+pub mod Dealings
+pub mod Laws
+pub mod Live
+pub mod Marking
+pub mod Moment
+pub mod MomentLaw
+pub mod Ready
+pub mod RoundSteps
+pub mod Stops
+pub mod Turns
+pub mod Waiting
+pub mod Walk

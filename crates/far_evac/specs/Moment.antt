@@ -1,0 +1,41 @@
+-- A heap between two calls of the evacuator, and what a call has done so far.
+use Rattle.std.specs.Prelude.{ℕ, ◌+◌, ◌==◌, not, List, filter}
+use Rattle.far_word.specs.declared.pointer.Place.{Place}
+use Rattle.far_core.specs.state.State.{State}
+use Rattle.far_book.specs.book.Effects.{order_after}
+use Rattle.far_evac.specs.declared.phase.Phase.{Phase}
+use Rattle.far_evac.specs.RoundSteps.{released}
+
+-- the core's state; what the book keeps beside it; and the round
+pub record Moment : Type 0 where
+  pub core : State
+  -- the sealed logs in the order in which they were sealed, oldest first
+  pub order : List ℕ
+  pub phase : Phase
+  -- the chosen logs that weren't given back in this round, in the order in which they were chosen
+  pub held : List ℕ
+
+-- a span was placed there, and this is the core then
+abbrev pub with_placed : Moment → Place → State → Moment
+with_placed m place s = record m { core = s; order = order_after m.core m.order place }
+
+-- a log is given back
+abbrev pub with_released : Moment → ℕ → Moment
+with_released m l = record m { core = released m.core l; order = filter (λ k. not (k == l)) m.order }
+
+-- how many objects were moved to another log, sent far, and retired since their owners had dropped them; how many logs were given back
+pub record Tally : Type 0 where
+  pub moved : ℕ
+  pub far : ℕ
+  pub dropped : ℕ
+  pub freed : ℕ
+
+abbrev pub nothing : Tally
+nothing = record { moved = 0; far = 0; dropped = 0; freed = 0 }
+
+abbrev pub plus : Tally → Tally → Tally
+plus a b = record { moved = a.moved + b.moved; far = a.far + b.far; dropped = a.dropped + b.dropped; freed = a.freed + b.freed }
+
+-- how many objects that are
+abbrev pub objects_in : Tally → ℕ
+objects_in t = t.moved + t.far + t.dropped

@@ -1,0 +1,36 @@
+-- What is true of a heap between two calls of the evacuator, beside the law of its core.
+use Rattle.std.specs.Prelude.{◌≡◌, ℕ, ◌<◌, Bool, true, false, eqb, List}
+use Rattle.std.specs.List.{IsDistinct}
+use Rattle.far_core.specs.declared.event.Kind.TheVariants.{Sealed}
+use Rattle.far_core.specs.events.Mark.{is_sealed}
+use Rattle.far_evac.specs.declared.phase.Phase.{Phase}
+use Rattle.far_evac.specs.declared.phase.Phase.TheVariants.{Idle, Marking, Waiting, Evacuating}
+use Rattle.far_evac.specs.Live.{is_empty}
+use Rattle.far_evac.specs.Moment.{Moment}
+use Rattle.far_evac.specs.RoundSteps.{among}
+
+abbrev pub is_idle : Phase → Bool
+is_idle Idle = true
+is_idle Marking = false
+is_idle Waiting = false
+is_idle Evacuating = false
+
+-- the epoch has risen for the running round
+abbrev pub has_risen : Phase → Bool
+has_risen Idle = false
+has_risen Marking = false
+has_risen Waiting = true
+has_risen Evacuating = true
+
+pub record MomentLaw (m : Moment) : Type 0 where
+  -- the order has each sealed log, once
+  pub order : (l : ℕ) → among m.order l ≡ is_sealed (m.core.kind l)
+  pub order_once : IsDistinct eqb m.order
+  -- each log still held is sealed, and held once; there are some exactly while a round is running
+  pub sealed : (l : ℕ) → among m.held l ≡ true → m.core.kind l ≡ Sealed
+  pub held_once : IsDistinct eqb m.held
+  pub runs : is_empty m.held ≡ is_idle m.phase
+  -- once the epoch has risen they are the round's
+  pub round : has_risen m.phase ≡ true → (l : ℕ) → among m.held l ≡ true → m.core.round l ≡ true
+  -- where objects leave, every owner was seen clear
+  pub clear : m.phase ≡ Evacuating → (k : ℕ) → k < m.core.mutators → m.core.clear k ≡ true

@@ -1,0 +1,31 @@
+-- Whole rounds: turn after turn, where no word changes but by this.
+use Rattle.std.specs.Prelude.{ℕ, zero, suc, Bool, false, if◌then◌else◌}
+use Rattle.far_evac.specs.declared.phase.Phase.{Phase}
+use Rattle.far_evac.specs.declared.phase.Phase.TheVariants.{Idle, Marking, Waiting, Evacuating}
+use Rattle.far_evac.specs.Marking.{after_marking}
+use Rattle.far_evac.specs.Moment.{Moment, Tally, nothing, plus}
+use Rattle.far_evac.specs.Waiting.{after_polling}
+use Rattle.far_evac.specs.Walk.{walked, ended, is_done}
+
+-- how many objects a turn marks or deals with at most
+abbrev pub turn_size : ℕ
+turn_size = 16
+
+-- where a round stands after some turns, what they have done, and whether it is over
+pub record Turned : Type 0 where
+  pub moment : Moment
+  pub tally : Tally
+  pub over : Bool
+
+-- one turn more, by the phase
+abbrev pub turned : Turned → Phase → Turned
+turned r Idle = r
+turned r Marking = record r { moment = after_marking r.moment turn_size }
+turned r Waiting = record r { moment = after_polling r.moment }
+turned r Evacuating =
+    let w = walked r.moment turn_size in record { moment = ended w; tally = plus r.tally w.tally; over = is_done w }
+
+-- so many turns, or until the round is over
+abbrev pub turns_made : Moment → ℕ → Turned
+turns_made m zero = record { moment = m; tally = nothing; over = false }
+turns_made m (suc n) = let r = turns_made m n in if r.over then r else turned r r.moment.phase

@@ -1,0 +1,32 @@
+-- Waiting: the owners' scopes are looked at in order, up to the first that is open from before the round.
+use Rattle.std.specs.Prelude.{ℕ, ◌/◌, Bool, not, ◌||◌, Option, Some, None, find}
+use Rattle.std.specs.List.{range_with_len}
+use Rattle.far_core.specs.state.State.{State}
+use Rattle.far_evac.specs.declared.answers.Polled.{Polled}
+use Rattle.far_evac.specs.declared.answers.Polled.TheVariants.{Clear, StillOpen}
+use Rattle.far_evac.specs.declared.phase.Phase.TheVariants.{Evacuating}
+use Rattle.far_evac.specs.Moment.{Moment}
+use Rattle.far_evac.specs.RoundSteps.{is_clear_now, with_clear_below}
+
+-- an owner wasn't seen clear in this round, and isn't clear now
+abbrev pub holds_up : State → ℕ → Bool
+holds_up s m = not (s.clear m || is_clear_now s m)
+
+-- the first such owner
+abbrev pub first_open : State → Option ℕ
+first_open s = find (holds_up s) (range_with_len 0 s.mutators)
+
+abbrev pub polled_to : Moment → Option ℕ → Moment
+polled_to m None = record m { core = with_clear_below m.core m.core.mutators; phase = Evacuating }
+polled_to m (Some k) = record m { core = with_clear_below m.core k }
+
+abbrev pub after_polling : Moment → Moment
+after_polling m = polled_to m (first_open m.core)
+
+-- the answer: an owner's scope word is twice its epoch and 1 more
+abbrev pub polled_at : State → Option ℕ → Polled
+polled_at s None = Clear
+polled_at s (Some k) = StillOpen k (s.scope k / 2)
+
+abbrev pub polled : State → Polled
+polled s = polled_at s (first_open s)

@@ -1,0 +1,56 @@
+//! What the evacuator's calls answer.
+
+use crate::phase::Phase;
+use far_word::Refused;
+
+/// What was marked.
+#[derive(Clone, Copy, Debug, PartialEq, Eq)]
+pub struct Marked {
+    /// How many objects got EVAC in this call.
+    pub count: u64,
+    /// The epoch that was reached, where no live object of the chosen logs lacks EVAC any more.
+    pub waiting: Option<u64>,
+}
+
+/// What a look at the owners' scopes found.
+#[derive(Clone, Copy, Debug, PartialEq, Eq)]
+pub enum Polled {
+    /// Every owner was seen clear in this round.
+    Clear,
+    /// This owner was seen open, at this epoch, which is older than the round.
+    StillOpen(u8, u64),
+}
+
+/// What was done with objects and logs.
+#[derive(Clone, Copy, Debug, PartialEq, Eq)]
+pub struct Progress {
+    /// How many objects went to another log.
+    pub moved: u64,
+    /// How many went far.
+    pub far: u64,
+    /// How many had been dropped by their owners, and were retired.
+    pub dropped: u64,
+    /// How many logs were given back.
+    pub freed: u64,
+    /// Whether each chosen log was given back, so that the round is over.
+    pub done: bool,
+}
+
+/// A refusal in the midst of a call: the object at which it came is as before.
+#[derive(Clone, Copy, Debug, PartialEq, Eq)]
+pub struct EvacFault {
+    /// What had been done in this call.
+    pub so_far: Progress,
+    pub why: Refused,
+}
+
+/// How a round ends.
+#[derive(Clone, Copy, Debug, PartialEq, Eq)]
+pub enum RoundEnd {
+    /// Each chosen log was given back.
+    Done(Progress),
+    /// No log was chosen.
+    Nothing,
+    /// All turns were made; the round stands in this phase.
+    Limit(Phase),
+}

@@ -1,0 +1,31 @@
+//! What the definitions of a round come to, as contracts of functions that do nothing.
+
+ghost use Rattle.far_evac.specs.Laws.{DealingIsInOrder, ExactIsAllowed, PollIsOnce, WalkIsTour, WalksJoin};
+
+/// The exact walk, over words that nobody else changes, is one of those that are allowed over any hand.
+pub fn exact_is_allowed()
+    ensures { ExactIsAllowed }
+{}
+
+/// A walk over n objects does what stands before the (n + 1)th object in a list of the live objects and the ends of the chosen
+/// logs, made before it began.
+pub fn walk_is_tour()
+    ensures { WalkIsTour }
+{}
+
+/// A walk over a objects, and then one over b more, leave the moment that one walk over a + b objects leaves, and count together
+/// what it counts.
+pub fn walks_join()
+    ensures { WalksJoin }
+{}
+
+/// Over any hand, whatever is found in the cells: k dealings are with the first k live objects of the chosen logs, in their
+/// order, each is counted once, and after the last one each log was given back.
+pub fn dealing_is_in_order()
+    ensures { DealingIsInOrder }
+{}
+
+/// As long as nobody closes or opens a scope, a second poll finds the same owner open, and changes nothing.
+pub fn poll_is_once()
+    ensures { PollIsOnce }
+{}
