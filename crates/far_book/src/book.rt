@@ -40,6 +40,7 @@ mod leaving;
 mod moving;
 mod over_plain;
 mod renaming;
+mod round;
 mod words;
 
 use crate::book::words::near_word;
