@@ -25,7 +25,7 @@ ghost use Rattle.far_device.specs.Contents.{KeepsOthers};
 ghost use Rattle.far_device.specs.Faults.{SpendsFault};
 ghost use Rattle.far_book.specs.Finds.{Finds, body_of};
 ghost use Rattle.far_book.specs.Known.{Forgets};
-ghost use Rattle.far_book.specs.book.Deeds.{Does, Places, Retires, Marks as Sets};
+ghost use Rattle.far_book.specs.book.Deeds.{Does, Places, Retires, Steps};
 ghost use Rattle.far_book.specs.book.Effects.{with_blank_span, marked, placed, retired, order_after};
 ghost use Rattle.far_book.specs.book.FarSide.{HoldsFar};
 ghost use Rattle.far_book.specs.book.Home.{home_of};
@@ -185,7 +185,7 @@ impl<N: Near + Drop, D: Device + Drop> Book<N, D> {
         ensures kept { N.view self.new.near ≡ record (N.view self.old.near) { cell = put (N.view self.old.near).cell pointer (bit_or result (2 ^ position Evac)) } }
         ensures exact { N.still → result ≡ (N.view self.old.near).cell pointer }
         ensures set { N.still → N.view self.new.near ≡ marked (N.view self.old.near) pointer }
-        ensures ran { N.still → Does (N.view self.old.near) (Sets pointer) (N.view self.new.near) }
+        ensures ran { N.still → Does (N.view self.old.near) (Steps (Event.Mark pointer)) (N.view self.new.near) }
         ensures order { self.new.order ≡ self.old.order }
         ensures device { self.new.device ≡ self.old.device }
     {

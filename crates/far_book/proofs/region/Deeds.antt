@@ -12,13 +12,14 @@ use Rattle.far_word.specs.Pointer.{read_of}
 use Rattle.far_word.specs.Sizes.{size_of, words_for}
 use Rattle.far_word.proofs.ByteLaws.{bytes_of-zeros, length-bytes_of, length-with_word, packs_back, read_other, read_written}
 use Rattle.far_core.specs.declared.event.Event.{Event}
-use Rattle.far_core.specs.declared.event.Event.TheVariants.{ReadEpoch, Open, Pin, Load, Store, Close, Adopt, Put, Name, See, Ask, Get, Clear}
+use Rattle.far_core.specs.declared.event.Event.TheVariants.{ReadEpoch, Open, Pin, Load, Store, Close, Adopt, Put, Name, See, Ask, Get, Clear, Advance, Look}
 use Rattle.far_core.specs.declared.event.Event.TheVariants as events
 use Rattle.far_core.specs.declared.event.Reply.{Reply}
 use Rattle.far_core.specs.declared.event.Reply.TheVariants.{Refused, Word}
 use Rattle.far_core.specs.events.Copies.{Alike}
 use Rattle.far_core.specs.events.Naming.{is_dropped}
 use Rattle.far_core.specs.events.Owners.{data_word}
+use Rattle.far_core.specs.events.Quiet.{has_move}
 use Rattle.far_core.specs.events.Step.{after, answer, change_of, is_legal, Fits}
 use Rattle.far_core.specs.state.Law.{IsStored, Law}
 use Rattle.far_core.specs.state.Room.{room}
@@ -39,7 +40,7 @@ use Rattle.far_core.proofs.WorldLaws.{changes_keep, objects_stand}
 use Rattle.far_core.proofs.Worlds.{here_now}
 use Rattle.far_book.specs.Owners.{is_owners}
 use Rattle.far_book.specs.book.Dealing.{has_evac}
-use Rattle.far_book.specs.book.Deeds.{Deed, Owns, Places, Retires, Looks, Marks as Sets, Moves, Evicts, Fetches, Does, DoesFetch, DoesMove, DoesRetire, EventsAreDeeds, Follows, LoadsGiveStored, stored_by, words_after, words_then}
+use Rattle.far_book.specs.book.Deeds.{Deed, Owns, Places, Retires, Looks, Steps, Moves, Evicts, Fetches, Does, DoesFetch, DoesMove, DoesRetire, DoesStep, EventsAreDeeds, Follows, LoadsGiveStored, stored_by, words_after, words_then}
 use Rattle.far_book.specs.book.Effects.{moved, stayed}
 use Rattle.far_book.specs.book.Fetching.{far_len}
 use Rattle.far_book.specs.book.Own.{IsAtStart}
@@ -213,6 +214,37 @@ module _ (s t : State) (f : ℕ → ℕ → ℕ) (h : Holds s f) where
   own_event (events.Mark p) r own x = absurd (false≢true own)
   own_event (Get l at free) r own x = absurd (false≢true own)
   own_event (Clear p) r own x = absurd (false≢true own)
+  own_event (Advance logs) r own x = absurd (false≢true own)
+  own_event (Look m) r own x = absurd (false≢true own)
+
+  -- ---- an event of a round
+  other_step : (e : Event) → Fits e → IsOtherOf (change_of e (answer s e)) → DoesStep s e t → Holds t f
+  other_step e fits other x = subst (λ (y : State). Holds y f) (sym x.after)
+      (by_happening (change_of e (answer s e)) s (after s e) f other h (keeps s e h.law fits x.legal) (does s e h.law fits x.legal))
+
+  steps : (e : Event) → DoesStep s e t → Holds t f
+  steps (ReadEpoch m) x = absurd (false≢true x.rounds)
+  steps (Open m) x = absurd (false≢true x.rounds)
+  steps (Pin m p) x = absurd (false≢true x.rounds)
+  steps (Load m p i) x = absurd (false≢true x.rounds)
+  steps (Store m p i w) x = absurd (false≢true x.rounds)
+  steps (Close m) x = absurd (false≢true x.rounds)
+  steps (Adopt m p) x = absurd (false≢true x.rounds)
+  steps (Ask m p k) x = absurd (false≢true x.rounds)
+  steps (Put l at w) x = absurd (false≢true x.rounds)
+  steps (Name p old new) x = absurd (false≢true x.rounds)
+  steps (See p) x = absurd (false≢true x.rounds)
+  steps (events.Mark p) x = other_step (events.Mark p) tt tt x
+  steps (Clear p) x = other_step (Clear p) tt (cleared (has_move (read_of (s.cell p)))) x where
+    cleared : (b : Bool) → IsOther (cond b Stays (change.Unmarks p))
+    cleared true = tt
+    cleared false = tt
+  steps (Get l at free) x = got free x where
+    got : (b : Bool) → DoesStep s (Get l at b) t → Holds t f
+    got true y = other_step (Get l at true) tt tt y
+    got false y = other_step (Get l at false) tt tt y
+  steps (Advance logs) x = other_step (Advance logs) tt tt x
+  steps (Look m) x = other_step (Look m) tt tt x
 
   -- ---- the book's calls
   retires : (p : ℕ) → DoesRetire s p t → Holds t f
@@ -255,8 +287,7 @@ module _ (s t : State) (f : ℕ → ℕ → ℕ) (h : Holds s f) where
   deed_holds (Places p len ds (Err why)) x = subst (λ (y : State). Holds y f) (sym x) h
   deed_holds (Retires p) x = retires p x
   deed_holds Looks x = subst (λ (y : State). Holds y f) (sym x) h
-  deed_holds (Sets p) x = subst (λ (y : State). Holds y f) (sym x.after)
-      (by_change (change.Marks p) s _ f tt h (keeps s (events.Mark p) h.law tt x.legal) (does s (events.Mark p) h.law tt x.legal))
+  deed_holds (Steps e) x = steps e x
   deed_holds (Moves p (Ok (Some place))) x = moves p place x
   deed_holds (Moves p (Ok None)) x = retires p x
   deed_holds (Moves p (Err why)) x = subst (λ (y : State). Holds y f) (sym x) h

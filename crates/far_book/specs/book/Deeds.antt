@@ -6,7 +6,7 @@ use Rattle.far_word.specs.declared.sizes.TheConstants.{CELLS, LONGEST}
 use Rattle.far_word.specs.Pointer.{read_of}
 use Rattle.far_word.specs.Sizes.{size_of, words_for}
 use Rattle.far_core.specs.declared.event.Event.{Event}
-use Rattle.far_core.specs.declared.event.Event.TheVariants.{Load, Store, Mark}
+use Rattle.far_core.specs.declared.event.Event.TheVariants.{ReadEpoch, Open, Pin, Load, Store, Close, Adopt, Ask, Put, Name, See, Mark, Get, Clear, Advance, Look}
 use Rattle.far_core.specs.declared.event.Reply.{Reply}
 use Rattle.far_core.specs.declared.event.Reply.TheVariants.{Done, Word}
 use Rattle.far_core.specs.events.Copies.{Alike}
@@ -19,17 +19,18 @@ use Rattle.far_core.specs.state.State.{State}
 use Rattle.far_core.specs.world.Runs.{Passes}
 use Rattle.far_book.specs.Owners.{is_owners}
 use Rattle.far_book.specs.book.Dealing.{IsQuietNear, goal, has_evac, moved_now}
-use Rattle.far_book.specs.book.Effects.{evicted, fetched, marked, placed, retired}
+use Rattle.far_book.specs.book.Effects.{evicted, fetched, placed, retired}
 use Rattle.far_book.specs.book.Fetching.{IsFar, far_len, room_for}
 use Rattle.far_book.specs.book.Own.{IsAtStart}
 
--- an owner's event with its reply; the book's calls, by pointers, each with what it answered. `Looks` is any that changes nothing
+-- an owner's event with its reply; the book's calls, by pointers, each with what it answered. `Steps` are those that are one event of a
+-- round; `Looks` is any that changes nothing
 pub data Deed : Type 0 where
   Owns : Event → Reply → Deed
   Places : ℕ → ℕ → ℕ → Result Place Refused → Deed
   Retires : ℕ → Deed
   Looks : Deed
-  Marks : ℕ → Deed
+  Steps : Event → Deed
   Moves : ℕ → Result (Option Place) Refused → Deed
   Evicts : ℕ → Result Bool Refused → Deed
   Fetches : ℕ → Result (Option Place) Refused → Deed
@@ -51,7 +52,7 @@ words_then f (Owns e r) = stored_by f e r
 words_then f (Places p len ds r) = zeroed_by f p r
 words_then f (Retires p) = f
 words_then f Looks = f
-words_then f (Marks p) = f
+words_then f (Steps e) = f
 words_then f (Moves p r) = f
 words_then f (Evicts p r) = f
 words_then f (Fetches p r) = f
@@ -81,10 +82,30 @@ pub record DoesRetire (s : State) (p : ℕ) (t : State) : Type 0 where
   pub dropped : is_dropped (read_of (s.cell p)) ≡ true
   pub after : t ≡ retired s p
 
--- a sealed log's object gets EVAC
-pub record DoesMark (s : State) (p : ℕ) (t : State) : Type 0 where
-  pub legal : Legal s (Mark p)
-  pub after : t ≡ marked s p
+-- the events that a round is made of, beside the moves of its objects
+abbrev pub is_rounds : Event → Bool
+is_rounds (ReadEpoch m) = false
+is_rounds (Open m) = false
+is_rounds (Pin m p) = false
+is_rounds (Load m p i) = false
+is_rounds (Store m p i w) = false
+is_rounds (Close m) = false
+is_rounds (Adopt m p) = false
+is_rounds (Ask m p k) = false
+is_rounds (Put l at w) = false
+is_rounds (Name p old new) = false
+is_rounds (See p) = false
+is_rounds (Mark p) = true
+is_rounds (Clear p) = true
+is_rounds (Get l at free) = true
+is_rounds (Advance logs) = true
+is_rounds (Look m) = true
+
+-- EVAC is set or taken, the epoch rises, a scope is looked at, a log is given back
+pub record DoesStep (s : State) (e : Event) (t : State) : Type 0 where
+  pub rounds : is_rounds e ≡ true
+  pub legal : Legal s e
+  pub after : t ≡ after s e
 
 -- a quiet near object moves, or stays
 pub record DoesMove (s : State) (p : ℕ) (place : Place) (t : State) : Type 0 where
@@ -118,7 +139,7 @@ Does s (Places p len ds (Ok place)) t = DoesPlace s p len ds place t
 Does s (Places p len ds (Err why)) t = t ≡ s
 Does s (Retires p) t = DoesRetire s p t
 Does s Looks t = t ≡ s
-Does s (Marks p) t = DoesMark s p t
+Does s (Steps e) t = DoesStep s e t
 Does s (Moves p (Ok (Some place))) t = DoesMove s p place t
 Does s (Moves p (Ok None)) t = DoesRetire s p t
 Does s (Moves p (Err why)) t = t ≡ s

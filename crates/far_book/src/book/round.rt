@@ -13,6 +13,7 @@ ghost use Rattle.far_book.specs.Cleared.{cleared};
 ghost use Rattle.far_book.specs.Finds.{Finds};
 ghost use Rattle.far_book.specs.Known.{Forgets};
 ghost use Rattle.far_book.specs.Rounds.{IsScopeAt, MayChoose, looked_at};
+ghost use Rattle.far_book.specs.book.Deeds.{Does, Steps};
 ghost use Rattle.far_book.specs.book.Releasing.{order_without, released};
 
 use crate::book::Book;
@@ -30,6 +31,7 @@ impl<N: Near + Drop, D: Device + Drop> Book<N, D> {
         ensures forgot { Forgets (N.view self.old.near) (N.view self.new.near) }
         ensures exact { N.still → result ≡ (N.view self.old.near).cell pointer }
         ensures set { N.still → N.view self.new.near ≡ after (N.view self.old.near) (Event.Clear pointer) }
+        ensures ran { N.still → Does (N.view self.old.near) (Steps (Event.Clear pointer)) (N.view self.new.near) }
         ensures order { self.new.order ≡ self.old.order }
         ensures device { self.new.device ≡ self.old.device }
     {
@@ -44,6 +46,7 @@ impl<N: Near + Drop, D: Device + Drop> Book<N, D> {
         ensures kept { IfOk result (λ _. N.view self.new.near ≡ record (after (N.view self.old.near) (Event.Advance logs)) { word = (N.view self.new.near).word }) }
         ensures forgot { IfOk result (λ _. Forgets (N.view self.old.near) (N.view self.new.near)) }
         ensures set { N.still → IfOk result (λ _. N.view self.new.near ≡ after (N.view self.old.near) (Event.Advance logs)) }
+        ensures ran { N.still → IfOk result (λ _. Does (N.view self.old.near) (Steps (Event.Advance logs)) (N.view self.new.near)) }
         ensures refused { IfErr result (λ why. (why ≡ EpochsSpent) × ((N.view self.old.near).epoch + 1 ≡ EPOCH_END)) }
         ensures unchanged { IfErr result (λ _. N.view self.new.near ≡ N.view self.old.near) }
         ensures order { self.new.order ≡ self.old.order }
@@ -61,6 +64,7 @@ impl<N: Near + Drop, D: Device + Drop> Book<N, D> {
         ensures kept { result ≡ true → N.view self.new.near ≡ record (released (N.view self.old.near) log) { word = (N.view self.new.near).word } }
         ensures forgot { result ≡ true → Forgets (N.view self.old.near) (N.view self.new.near) }
         ensures exact { N.still → result ≡ true → N.view self.new.near ≡ released (N.view self.old.near) log }
+        ensures ran { N.still → result ≡ true → Does (N.view self.old.near) (Steps (Event.Get log 0 true)) (N.view self.new.near) }
         ensures order { result ≡ true → self.new.order ≡ order_without log self.old.order }
         ensures device { self.new.device ≡ self.old.device }
         ensures unchanged { result ≡ false → self.new ≡ self.old }
@@ -81,6 +85,7 @@ impl<N: Near + Drop, D: Device + Drop> Book<N, D> {
         ensures kept { N.view self.new.near ≡ looked_at (N.view self.old.near) owner result }
         ensures exact { N.still → result ≡ (N.view self.old.near).scope owner }
         ensures set { N.still → N.view self.new.near ≡ after (N.view self.old.near) (Event.Look owner) }
+        ensures ran { N.still → Does (N.view self.old.near) (Steps (Event.Look owner)) (N.view self.new.near) }
         ensures order { self.new.order ≡ self.old.order }
         ensures device { self.new.device ≡ self.old.device }
     {

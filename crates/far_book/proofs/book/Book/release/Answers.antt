@@ -2,8 +2,10 @@ use Rattle.far_book.proofs.book.Book.release.Goals as goal
 use Rattle.std.proofs.Common.{◌≡◌, ◌<◌, ◌≤◌, ◌∙◌, ap, arith, refl, subst, sym, true, false}
 use Rattle.std.specs.Prelude.{◌==◌}
 use Rattle.std.proofs.lemmas.Bool.{eq-eqb, eqb-true, false≢true}
+use Rattle.far_core.specs.declared.event.Event.TheVariants.{Get}
 use Rattle.far_core.specs.declared.event.Kind.TheVariants.{Sealed}
 use Rattle.far_core.specs.events.Get.{IsVacant}
+use Rattle.far_core.specs.events.Step.{after}
 use Rattle.far_core.specs.laws.Observed.{live_bytes}
 use Rattle.far_core.specs.state.State.{State}
 use Rattle.far_book.specs.book.BookOf.{BookOf}
@@ -53,3 +55,15 @@ returns-clause-vacant g c =
     let low : c.args.log < s.logs = subst (λ (u : State). c.args.log < u.logs) (sym same) c.requires.log in
     let none : live_bytes (own_part s) c.args.log ≡ 0 = eqb-true _ _ (sym (c.is_vacant.ensures (own_part s) (c.self.invariant.notes, low)) ∙ c.if-not-is_vacant.false) in
     (λ _. subst (λ (u : State). IsVacant u c.args.log) same (vacant_fact (own_part s) c.self.invariant.notes.law c.args.log none), λ _. refl)
+
+pub returns-clause-ran : goal.returns-clause-ran
+returns-clause-ran g c still =
+    let s = g.N.Near.view c.self.inside.near in
+    let same = ap (λ (b : BookOf g.row.N.Denot g.row.D.Denot). g.N.Near.view b.near) c.self.view_is in
+    let low : c.args.log < s.logs = subst (λ (u : State). c.args.log < u.logs) (sym same) c.requires.log in
+    let none : live_bytes (own_part s) c.args.log ≡ 0 = eqb-true _ _ (sym (c.is_vacant.ensures (own_part s) (c.self.invariant.notes, low)) ∙ c.if-not-is_vacant.false) in
+    λ _. record {
+      rounds = refl;
+      legal = (c.requires.log, omega arith, (c.requires.sealed, subst (λ (u : State). IsVacant u c.args.log) same (vacant_fact (own_part s) c.self.invariant.notes.law c.args.log none)));
+      after = c.get.ensures.set still ∙ ap (λ (u : State). after u (Get c.args.log 0 true)) same;
+    }
