@@ -1,6 +1,6 @@
 //! The oldest logs.
 
-ghost use Rattle.std.specs.Prelude.{◌≡◌, ◌≤◌, [], Ok, IsOk, length, take};
+ghost use Rattle.std.specs.Prelude.{◌≡◌, ◌≤◌, [], Ok, length, take};
 ghost use Rattle.far_policy.specs.declared.chosen.TheConstants.{MOST_CHOSEN};
 ghost use Rattle.far_policy.specs.Choice.{IsChoice};
 ghost use Rattle.far_policy.specs.Logs.{AreRows, logs_of};
