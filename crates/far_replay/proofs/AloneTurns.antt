@@ -19,7 +19,7 @@ use Rattle.far_core.specs.world.WorldOf.{world_of}
 use Rattle.far_core.specs.world.Steps.{with_bytes}
 use Rattle.far_replay.specs.Moment.{moment_of}
 use Rattle.far_replay.specs.Alone.{Knows, own_of, IsOut, IsIn}
-use Rattle.far_replay.specs.Command.{Command, Open, Write, Read, Close, Where, Drop, Mutator}
+use Rattle.far_text.specs.Command.{Command, Open, Write, Read, Close, Where, Drop, Mutator}
 use Rattle.far_replay.specs.EventRows.{after_events, AllSucceed, AllAtHand}
 use Rattle.far_replay.specs.Reply.{Reply, Done, Refused}
 use Rattle.far_replay.specs.Events.{turn_events, open_events, view_events, part_events, load_events, store_events, starts_inside, ends_inside, first_word, words_touched}
@@ -31,7 +31,7 @@ use Rattle.far_replay.proofs.ViewLaws.{views_after}
 use Rattle.far_replay.specs.Effects.{without_object}
 use Rattle.far_replay.proofs.AloneBytes.{over_with_range}
 use Rattle.far_replay.proofs.Drops.{drop_ends, drop_is, drop_world, own_gone, own_left, unheld_is}
-use Rattle.far_replay.proofs.Each.{Each-append, Each-row}
+use Rattle.far_text.proofs.Each.{Each-append, Each-row}
 use Rattle.far_replay.proofs.MadeLemmas.{made-append, AllSucceed-parts, Carries}
 use Rattle.far_replay.proofs.Spliced.{AreBytes, packed_wide, with_range_bytes}
 use Rattle.far_replay.proofs.AloneRuns.{views_of, Scoped, own_same, own_other, own_here, own_scope, own_scope_other, IsQuiet, Quiet, quiet_run, over_all, stores_run, open_step, close_step}

@@ -18,7 +18,7 @@ use Rattle.far_core.specs.state.Room.{room}
 use Rattle.far_core.specs.state.State.{State}
 use Rattle.far_core.specs.events.Step.{step_of, is_legal, is_opened, after, answer, pin_answer}
 use Rattle.far_core.proofs.KeepOwner.{nonzero}
-use Rattle.far_replay.specs.Command.{Command, New, Open, Write, Read, Close, Where, Drop, Mutator, Book}
+use Rattle.far_text.specs.Command.{Command, New, Open, Write, Read, Close, Where, Drop, Mutator, Book}
 use Rattle.far_replay.specs.Effects.{near_word}
 use Rattle.far_replay.specs.EventRows.{after_events, ComesToPass, AllComeToPass, AtHand, AllAtHand}
 use Rattle.far_replay.specs.Events.{turn_events, zero_puts, new_events, view_events, load_events, store_events, first_loads, last_loads, part_events, first_word, words_touched, starts_inside, ends_inside}
@@ -28,7 +28,7 @@ use Rattle.far_replay.specs.Objects.{uses, object_len, data_of, with_range, lowe
 use Rattle.far_replay.specs.Turn.{access_causes, first_cause, refusal, unless}
 use Rattle.far_replay.proofs.AloneStates.{lowest_free}
 use Rattle.far_replay.proofs.Drops.{drop_comes, unheld_is}
-use Rattle.far_replay.proofs.Each.{Each, Each-append, Each-row}
+use Rattle.far_text.proofs.Each.{Each, Each-append, Each-row}
 use Rattle.far_replay.proofs.MadeLemmas.{AllComeToPass-append}
 use Rattle.far_replay.proofs.Turns.{four, three}
 use Rattle.far_replay.proofs.Views.{ready_of, Ready-view}

@@ -8,12 +8,12 @@ use Rattle.far_book.specs.book.Home.{home_of}
 use Rattle.far_book.specs.declared.home.Home.{Home}
 use Rattle.far_replay.specs.Moment.{Moment, moment_of}
 use Rattle.far_replay.specs.Answers.{Commanded}
-use Rattle.far_replay.specs.Command.{Command, New, Open, Write, Read, Close, Where, Drop, Logs, Log, Audit, Mutator, Book}
+use Rattle.far_text.specs.Command.{Command, New, Open, Write, Read, Close, Where, Drop, Logs, Log, Audit, Mutator, Book}
 use Rattle.far_replay.specs.Headline.{IsAtHandFor, MayRefuse}
 use Rattle.far_replay.specs.Reply.{Reply, Refused}
 use Rattle.far_replay.specs.Objects.{lowest_cell}
 use Rattle.far_replay.specs.Turn.{causes, first_cause, refusal, unless, turn_reply, pointer_reply, home_reply}
-use Rattle.far_replay.proofs.Each.{Each}
+use Rattle.far_text.proofs.Each.{Each}
 
 -- P holds of the refusal of each cause
 abbrev pub EachCause : (Refusal → Type 0) → List (Bool × Refusal) → Type 0

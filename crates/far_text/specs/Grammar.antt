@@ -1,0 +1,184 @@
+-- The grammar of a trace: what its words, its lines and its text say.
+use Rattle.std.specs.Prelude.{◌≡◌, ℕ, Bool, ◌&&◌, ◌^◌, nat_lt, nat_le, ◌==◌, ◌+◌, true, Result, Ok, Err, List, [], ◌∷◌, length, codes, decimal, zero, suc, Option, Some, None, if◌then◌else◌}
+use Rattle.std.specs.Str.{bytes_eq}
+use Rattle.std.specs.Str.Parse.{digits_value}
+use Rattle.std.specs.List.{slice_split, list_all}
+use Rattle.far_text.specs.Command.{Command, Entry, HeapLine, CommandLine, Trace, Nothing, Heap, New, Open, Write, Read, Close, Where, Drop, Logs, Log, Audit, Mutator, Book}
+use Rattle.far_text.specs.HexWord.{is_hex_word, hex_bytes}
+use Rattle.far_text.specs.declared.hex_word.TheConstants.{LONGEST_LINE}
+use Rattle.far_text.specs.declared.text.TheConstants.{LONGEST_TEXT}
+use Rattle.far_text.specs.declared.text.ParseError.{ParseError}
+use Rattle.far_text.specs.declared.text.ParseError.TheVariants.{Memory, Syntax}
+
+-- the number that a word prints, below 2^64
+unfoldable pub number_of : List ℕ → Option ℕ
+number_of word =
+    if bytes_eq word (decimal (digits_value 10 word)) && nat_lt (digits_value 10 word) (2 ^ 64) then Some (digits_value 10 word) else None
+
+-- the bytes that a word spells in hex
+abbrev pub bytes_in : List ℕ → Option (List ℕ)
+bytes_in word = if is_hex_word word then Some (hex_bytes word) else None
+
+infixl 10 ◌>>=◌
+abbrev pub ◌>>=◌ : {A B : Type 0} → Option A → (A → Option B) → Option B
+(Some x) >>= f = f x
+None >>= f = None
+
+-- the number that the first word prints, and the words after it
+abbrev pub next_number : List (List ℕ) → Option (ℕ × List (List ℕ))
+next_number [] = None
+next_number (word ∷ words) = number_of word >>= λ n. Some (n, words)
+
+-- the bytes that a word spells, where it is the last one
+abbrev pub last_bytes : List (List ℕ) → Option (List ℕ)
+last_bytes (word ∷ []) = bytes_in word
+last_bytes words = None
+
+-- the entry, where no words are left
+abbrev pub entry_at_end : List (List ℕ) → Entry → Option Entry
+entry_at_end [] entry = Some entry
+entry_at_end (word ∷ words) entry = None
+
+-- ---- what stands after a line's name
+-- what is made of n numbers
+abbrev pub From : ℕ → Type 0 → Type 0
+From zero X = X
+From (suc n) X = ℕ → From n X
+
+-- so many numbers and no more; or so many, a word in hex, and no more
+pub data Operands : Type 0 where
+  Numbers : (n : ℕ) (make : From n Entry) → Operands
+  NumbersAndBytes : (n : ℕ) (make : From n (List ℕ → Entry)) → Operands
+
+-- what is made of n numbers and of the words after them
+abbrev pub numbers_then : {X : Type 0} → (n : ℕ) → From n X → (X → List (List ℕ) → Option Entry) → List (List ℕ) → Option Entry
+numbers_then zero make rest words = rest make words
+numbers_then (suc n) make rest words = next_number words >>= λ first. numbers_then n (make first.0) rest first.1
+
+abbrev pub entry_from : Operands → List (List ℕ) → Option Entry
+entry_from (Numbers n make) words = numbers_then n make (λ entry after. entry_at_end after entry) words
+entry_from (NumbersAndBytes n make) words = numbers_then n make (λ entry after. last_bytes after >>= λ bytes. Some (entry bytes)) words
+
+-- ---- the lines by their names
+-- a mutator's number stands before what it asks for
+abbrev pub asks_read : From 4 Entry
+asks_read m p from len = CommandLine (Mutator m (Read p from len))
+
+abbrev pub asks_write : From 3 (List ℕ → Entry)
+asks_write m p from bytes = CommandLine (Mutator m (Write p from bytes))
+
+abbrev pub asks_open : From 1 Entry
+asks_open m = CommandLine (Mutator m Open)
+
+abbrev pub asks_close : From 1 Entry
+asks_close m = CommandLine (Mutator m Close)
+
+abbrev pub asks_new : From 3 Entry
+asks_new m len structure = CommandLine (Mutator m (New len structure))
+
+abbrev pub asks_where : From 2 Entry
+asks_where m p = CommandLine (Mutator m (Where p))
+
+abbrev pub asks_drop : From 2 Entry
+asks_drop m p = CommandLine (Mutator m (Drop p))
+
+abbrev pub asks_log : From 1 Entry
+asks_log log = CommandLine (Book (Log log))
+
+abbrev pub table : List (List ℕ × Operands)
+table =
+    (codes "read", Numbers 4 asks_read)
+    ∷ (codes "write", NumbersAndBytes 3 asks_write)
+    ∷ (codes "open", Numbers 1 asks_open)
+    ∷ (codes "close", Numbers 1 asks_close)
+    ∷ (codes "new", Numbers 3 asks_new)
+    ∷ (codes "heap", Numbers 2 HeapLine)
+    ∷ (codes "logs", Numbers 0 (CommandLine (Book Logs)))
+    ∷ (codes "where", Numbers 2 asks_where)
+    ∷ (codes "drop", Numbers 2 asks_drop)
+    ∷ (codes "log", Numbers 1 asks_log)
+    ∷ (codes "audit", Numbers 0 (CommandLine (Book Audit)))
+    ∷ []
+
+-- the entry of this name in a table, by the words after the name
+abbrev pub found_in : List (List ℕ × Operands) → List ℕ → List (List ℕ) → Option Entry
+found_in [] name words = None
+found_in (row ∷ rows) name words = if bytes_eq name row.0 then entry_from row.1 words else found_in rows name words
+
+-- what the words say
+abbrev pub entry_of : List (List ℕ) → Option Entry
+entry_of [] = None
+entry_of (name ∷ words) = found_in table name words
+
+-- the words of a line, between single spaces
+abbrev pub line_words : List ℕ → List (List ℕ)
+line_words line = slice_split (λ b. b == 32) line
+
+-- not too long, and each byte ASCII
+abbrev pub is_plain : List ℕ → Bool
+is_plain line = nat_le (length line) LONGEST_LINE && list_all (λ b. nat_lt b 128) line
+
+-- empty, or a comment
+abbrev pub is_skipped : List ℕ → Bool
+is_skipped [] = true
+is_skipped (b ∷ _) = b == 35
+
+-- what a line may be
+pub data Line : Type 0 where
+  Skipped : Line
+  Saying : (entry : Entry) → Line
+  Bad : Line
+
+abbrev pub saying : Option Entry → Line
+saying None = Bad
+saying (Some entry) = Saying entry
+
+-- what a line says on its own
+unfoldable pub line_of : List ℕ → Line
+line_of line =
+    if is_plain line then (if is_skipped line then Skipped else saying (entry_of (line_words line))) else Bad
+
+abbrev pub onto : Command → Result (List Command) ℕ → Result (List Command) ℕ
+onto command (Ok commands) = Ok (command ∷ commands)
+onto command (Err number) = Err number
+
+-- what a line after the heap's makes of what the lines after it are read as: it is a command, or passed over
+abbrev pub read_command : ℕ → Line → Result (List Command) ℕ → Result (List Command) ℕ
+read_command number Skipped later = later
+read_command number (Saying (HeapLine logs mutators)) later = Err number
+read_command number (Saying (CommandLine command)) later = onto command later
+read_command number Bad later = Err number
+
+-- the commands of the lines from this number on, or the number of the first that is off the grammar
+abbrev pub read_commands : ℕ → List (List ℕ) → Result (List Command) ℕ
+read_commands number [] = Ok []
+read_commands number (line ∷ lines) = read_command number (line_of line) (read_commands (number + 1) lines)
+
+abbrev pub with_heap : ℕ → ℕ → Result (List Command) ℕ → Result Trace ℕ
+with_heap logs mutators (Ok commands) = Ok (Heap logs mutators commands)
+with_heap logs mutators (Err number) = Err number
+
+-- what a line before any command makes of what the lines after it are read as, before a heap and after one: it is the heap's, or passed over
+abbrev pub read_heap : ℕ → Line → Result Trace ℕ → Result (List Command) ℕ → Result Trace ℕ
+read_heap number Skipped same later = same
+read_heap number (Saying (HeapLine logs mutators)) same later = with_heap logs mutators later
+read_heap number (Saying (CommandLine command)) same later = Err number
+read_heap number Bad same later = Err number
+
+-- what the lines from this number on say, with nothing said before them
+abbrev pub read_lines : ℕ → List (List ℕ) → Result Trace ℕ
+read_lines number [] = Ok Nothing
+read_lines number (line ∷ lines) = read_heap number (line_of line) (read_lines (number + 1) lines) (read_commands (number + 1) lines)
+
+-- a text as its lines; what follows a last newline is one more line, which is empty
+abbrev pub lines_of : List ℕ → List (List ℕ)
+lines_of text = slice_split (λ b. b == 10) text
+
+-- what a text says, or the number of its first line off the grammar, 0 where it is too long
+abbrev pub trace_of : List ℕ → Result Trace ℕ
+trace_of text = if nat_lt LONGEST_TEXT (length text) then Err 0 else read_lines 1 (lines_of text)
+
+-- an error is out of memory, or what reading gives
+abbrev pub IsFault : {X : Type 0} → ParseError → Result X ℕ → Type 0
+IsFault Memory read = Unit {0}
+IsFault (Syntax number) read = read ≡ Err number

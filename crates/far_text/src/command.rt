@@ -1,0 +1,274 @@
+//! Commands and the heap's line, and which words spell them.
+
+ghost use Rattle.std.specs.Prelude.{◌≡◌, ◌∷◌, IfSome};
+ghost use Rattle.std.specs.Str.{bytes_eq};
+ghost use Rattle.std.specs.Option.{option_and_then};
+ghost use Rattle.far_text.specs.Command.{HeapLine, CommandLine, Book, Logs, Audit};
+ghost use Rattle.far_text.specs.Spelled.{entry_spelled};
+ghost use Rattle.far_text.specs.Grammar.{Numbers, NumbersAndBytes, asks_read, asks_write, asks_open, asks_close, asks_new, asks_where, asks_drop, asks_log, entry_from, entry_of, entry_at_end};
+ghost use Rattle.far_text.specs.Cursor.{words_in, words_left, lines_after_first, lines_after, lines_left};
+
+use crate::cursor::{Rest, last_bytes_of, next_number_of, word_first};
+
+/// What a mutator asks for. The bytes of a write are digits in hex as far as they are only read, and not yet kept.
+#[derive(Clone, Copy)]
+pub enum Request<'a> {
+    New {
+        len: u64,
+        structure: u64,
+    },
+    Open,
+    Write {
+        pointer: u64,
+        from: u64,
+        bytes: &'a [u8],
+    },
+    Read {
+        pointer: u64,
+        from: u64,
+        len: u64,
+    },
+    Close,
+    Where {
+        pointer: u64,
+    },
+    Drop {
+        pointer: u64,
+    },
+}
+
+/// What the book is asked.
+#[derive(Clone, Copy)]
+pub enum Inquiry {
+    Logs,
+    Log { log: u64 },
+    Audit,
+}
+
+/// One command of a trace.
+#[derive(Clone, Copy)]
+pub enum Command<'a> {
+    Mutator { mutator: u64, request: Request<'a> },
+    Book(Inquiry),
+}
+
+/// What a line of a trace says: the heap's numbers, or a command.
+#[derive(Clone, Copy)]
+pub enum Entry<'a> {
+    Heap { logs: u64, mutators: u64 },
+    Command(Command<'a>),
+}
+
+/// An entry, and the lines after its line, if any.
+pub type Spelled<'a> = (Entry<'a>, Option<&'a [u8]>);
+
+// The entry, if its line ends here.
+#[inline(always)]
+fn at_end<'a>(entry: Entry<'a>, rest: Rest<'a>) -> Option<Spelled<'a>>
+    ensures value { option_and_then (λ found. entry_spelled found.0) result ≡ option_and_then (entry_at_end (words_left rest.entry)) (entry_spelled entry.entry) }
+    ensures lines { IfSome result (λ found. lines_left found.1 ≡ lines_after rest.entry) }
+{
+    match rest {
+        Rest::Lines(lines) => Some((entry, lines)),
+        Rest::Words(_) => None,
+    }
+}
+
+fn heap_spelled(rest: Rest<'_>) -> Option<Spelled<'_>>
+    ensures value { option_and_then (λ found. entry_spelled found.0) result ≡ entry_from (Numbers 2 HeapLine) (words_left rest.entry) }
+    ensures lines { IfSome result (λ found. lines_left found.1 ≡ lines_after rest.entry) }
+{
+    let (logs, rest) = next_number_of(rest)?;
+    let (mutators, rest) = next_number_of(rest)?;
+    at_end(Entry::Heap { logs, mutators }, rest)
+}
+
+fn new_spelled(rest: Rest<'_>) -> Option<Spelled<'_>>
+    ensures value { option_and_then (λ found. entry_spelled found.0) result ≡ entry_from (Numbers 3 asks_new) (words_left rest.entry) }
+    ensures lines { IfSome result (λ found. lines_left found.1 ≡ lines_after rest.entry) }
+{
+    let (mutator, rest) = next_number_of(rest)?;
+    let (len, rest) = next_number_of(rest)?;
+    let (structure, rest) = next_number_of(rest)?;
+    let request = Request::New { len, structure };
+    at_end(Entry::Command(Command::Mutator { mutator, request }), rest)
+}
+
+fn open_spelled(rest: Rest<'_>) -> Option<Spelled<'_>>
+    ensures value { option_and_then (λ found. entry_spelled found.0) result ≡ entry_from (Numbers 1 asks_open) (words_left rest.entry) }
+    ensures lines { IfSome result (λ found. lines_left found.1 ≡ lines_after rest.entry) }
+{
+    let (mutator, rest) = next_number_of(rest)?;
+    let request = Request::Open;
+    at_end(Entry::Command(Command::Mutator { mutator, request }), rest)
+}
+
+#[inline(always)]
+fn write_spelled(rest: Rest<'_>) -> Option<Spelled<'_>>
+    ensures value { option_and_then (λ found. entry_spelled found.0) result ≡ entry_from (NumbersAndBytes 3 asks_write) (words_left rest.entry) }
+    ensures lines { IfSome result (λ found. lines_left found.1 ≡ lines_after rest.entry) }
+{
+    let (mutator, rest) = next_number_of(rest)?;
+    let (pointer, rest) = next_number_of(rest)?;
+    let (from, rest) = next_number_of(rest)?;
+    let (bytes, lines) = last_bytes_of(rest)?;
+    let request = Request::Write {
+        pointer,
+        from,
+        bytes,
+    };
+    let entry = Entry::Command(Command::Mutator { mutator, request });
+    Some((entry, lines))
+}
+
+#[inline(always)]
+fn read_spelled(rest: Rest<'_>) -> Option<Spelled<'_>>
+    ensures value { option_and_then (λ found. entry_spelled found.0) result ≡ entry_from (Numbers 4 asks_read) (words_left rest.entry) }
+    ensures lines { IfSome result (λ found. lines_left found.1 ≡ lines_after rest.entry) }
+{
+    let (mutator, rest) = next_number_of(rest)?;
+    let (pointer, rest) = next_number_of(rest)?;
+    let (from, rest) = next_number_of(rest)?;
+    let (len, rest) = next_number_of(rest)?;
+    let request = Request::Read { pointer, from, len };
+    at_end(Entry::Command(Command::Mutator { mutator, request }), rest)
+}
+
+fn close_spelled(rest: Rest<'_>) -> Option<Spelled<'_>>
+    ensures value { option_and_then (λ found. entry_spelled found.0) result ≡ entry_from (Numbers 1 asks_close) (words_left rest.entry) }
+    ensures lines { IfSome result (λ found. lines_left found.1 ≡ lines_after rest.entry) }
+{
+    let (mutator, rest) = next_number_of(rest)?;
+    let request = Request::Close;
+    at_end(Entry::Command(Command::Mutator { mutator, request }), rest)
+}
+
+fn where_spelled(rest: Rest<'_>) -> Option<Spelled<'_>>
+    ensures value { option_and_then (λ found. entry_spelled found.0) result ≡ entry_from (Numbers 2 asks_where) (words_left rest.entry) }
+    ensures lines { IfSome result (λ found. lines_left found.1 ≡ lines_after rest.entry) }
+{
+    let (mutator, rest) = next_number_of(rest)?;
+    let (pointer, rest) = next_number_of(rest)?;
+    let request = Request::Where { pointer };
+    at_end(Entry::Command(Command::Mutator { mutator, request }), rest)
+}
+
+fn drop_spelled(rest: Rest<'_>) -> Option<Spelled<'_>>
+    ensures value { option_and_then (λ found. entry_spelled found.0) result ≡ entry_from (Numbers 2 asks_drop) (words_left rest.entry) }
+    ensures lines { IfSome result (λ found. lines_left found.1 ≡ lines_after rest.entry) }
+{
+    let (mutator, rest) = next_number_of(rest)?;
+    let (pointer, rest) = next_number_of(rest)?;
+    let request = Request::Drop { pointer };
+    at_end(Entry::Command(Command::Mutator { mutator, request }), rest)
+}
+
+fn log_spelled(rest: Rest<'_>) -> Option<Spelled<'_>>
+    ensures value { option_and_then (λ found. entry_spelled found.0) result ≡ entry_from (Numbers 1 asks_log) (words_left rest.entry) }
+    ensures lines { IfSome result (λ found. lines_left found.1 ≡ lines_after rest.entry) }
+{
+    let (log, rest) = next_number_of(rest)?;
+    at_end(Entry::Command(Command::Book(Inquiry::Log { log })), rest)
+}
+
+fn is_name(word: &[u8], name: &[u8]) -> bool
+    ensures { result ≡ bytes_eq word.now name.now }
+{
+    word == name
+}
+
+// The entry of this name, by the words after it.
+fn entry_by_name<'a>(name: &[u8], rest: Rest<'a>) -> Option<Spelled<'a>>
+    ensures value { option_and_then (λ found. entry_spelled found.0) result ≡ entry_of (name.now ∷ words_left rest.entry) }
+    ensures lines { IfSome result (λ found. lines_left found.1 ≡ lines_after rest.entry) }
+{
+    if is_name(name, b"read") {
+        return read_spelled(rest);
+    }
+    if is_name(name, b"write") {
+        return write_spelled(rest);
+    }
+    if is_name(name, b"open") {
+        return open_spelled(rest);
+    }
+    if is_name(name, b"close") {
+        return close_spelled(rest);
+    }
+    if is_name(name, b"new") {
+        return new_spelled(rest);
+    }
+    if is_name(name, b"heap") {
+        return heap_spelled(rest);
+    }
+    if is_name(name, b"logs") {
+        return at_end(Entry::Command(Command::Book(Inquiry::Logs)), rest);
+    }
+    if is_name(name, b"where") {
+        return where_spelled(rest);
+    }
+    if is_name(name, b"drop") {
+        return drop_spelled(rest);
+    }
+    if is_name(name, b"log") {
+        return log_spelled(rest);
+    }
+    if is_name(name, b"audit") {
+        return at_end(Entry::Command(Command::Book(Inquiry::Audit)), rest);
+    }
+    None
+}
+
+/// What the first line of a text spells, by its first word.
+#[inline(never)]
+pub fn entry_by_first_word(text: &[u8]) -> Option<Spelled<'_>>
+    ensures value { option_and_then (λ found. entry_spelled found.0) result ≡ entry_of (words_in text.now) }
+    ensures lines { IfSome result (λ found. lines_left found.1 ≡ lines_after_first text.now) }
+{
+    let (name, rest) = word_first(text);
+    entry_by_name(name, rest)
+}
+
+// What the first line of a text spells, by the names that are not rare, and else by its first word.
+#[inline(never)]
+fn entry_by_name_first(text: &[u8]) -> Option<Spelled<'_>>
+    ensures value { option_and_then (λ found. entry_spelled found.0) result ≡ entry_of (words_in text.now) }
+    ensures lines { IfSome result (λ found. lines_left found.1 ≡ lines_after_first text.now) }
+{
+    if let [b'n', b'e', b'w', b' ', rest @ ..] = text {
+        return new_spelled(Rest::Words(rest));
+    }
+    if let [b'd', b'r', b'o', b'p', b' ', rest @ ..] = text {
+        return drop_spelled(Rest::Words(rest));
+    }
+    if let [b'o', b'p', b'e', b'n', b' ', rest @ ..] = text {
+        return open_spelled(Rest::Words(rest));
+    }
+    if let [b'c', b'l', b'o', b's', b'e', b' ', rest @ ..] = text {
+        return close_spelled(Rest::Words(rest));
+    }
+    entry_by_first_word(text)
+}
+
+// The same, apart from the room for what is returned.
+#[inline(always)]
+fn entry_by_rarer_name(text: &[u8]) -> Option<Spelled<'_>>
+    ensures value { option_and_then (λ found. entry_spelled found.0) result ≡ entry_of (words_in text.now) }
+    ensures lines { IfSome result (λ found. lines_left found.1 ≡ lines_after_first text.now) }
+{
+    entry_by_name_first(text)
+}
+
+/// What the first line of a text spells. The two commands that traces are full of are known by their first bytes.
+#[inline(always)]
+pub fn entry_first(text: &[u8]) -> Option<Spelled<'_>>
+    ensures value { option_and_then (λ found. entry_spelled found.0) result ≡ entry_of (words_in text.now) }
+    ensures lines { IfSome result (λ found. lines_left found.1 ≡ lines_after_first text.now) }
+{
+    if let [b'r', b'e', b'a', b'd', b' ', rest @ ..] = text {
+        return read_spelled(Rest::Words(rest));
+    }
+    if let [b'w', b'r', b'i', b't', b'e', b' ', rest @ ..] = text {
+        return write_spelled(Rest::Words(rest));
+    }
+    entry_by_rarer_name(text)
+}
