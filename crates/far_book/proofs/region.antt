@@ -2,12 +2,16 @@ pub mod Calls
 pub mod Carrying
 pub mod Coming
 pub mod Copying
+pub mod DeedRows
+pub mod Deeds
+pub mod Dropping
 pub mod Effects
 pub mod Evicted
 pub mod EvictingLaw
 pub mod Evictions
 pub mod FarSide
 pub mod Fetched
+pub mod Fetching
 pub mod Founds
 pub mod InOrders
 pub mod Learning

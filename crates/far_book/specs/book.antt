@@ -1,5 +1,6 @@
 pub mod BookOf
 pub mod Dealing
+pub mod Deeds
 pub mod Effects
 pub mod Evicting
 pub mod FarSide

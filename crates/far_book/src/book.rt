@@ -22,8 +22,10 @@ ghost use Rattle.far_core.specs.state.Shape.{is_shape};
 ghost use Rattle.far_core.specs.state.Spans.{spans_of};
 ghost use Rattle.far_core.specs.state.State.{State, put};
 ghost use Rattle.far_device.specs.Contents.{KeepsOthers};
+ghost use Rattle.far_device.specs.Faults.{SpendsFault};
 ghost use Rattle.far_book.specs.Finds.{Finds, body_of};
 ghost use Rattle.far_book.specs.Known.{Forgets};
+ghost use Rattle.far_book.specs.book.Deeds.{Does, Places, Retires, Marks as Sets};
 ghost use Rattle.far_book.specs.book.Effects.{with_blank_span, marked, placed, retired, order_after};
 ghost use Rattle.far_book.specs.book.FarSide.{HoldsFar};
 ghost use Rattle.far_book.specs.book.Home.{home_of};
@@ -38,14 +40,16 @@ mod leaving;
 mod moving;
 mod over_plain;
 mod renaming;
+mod words;
 
+use crate::book::words::near_word;
 use crate::home::Home;
 use crate::ledger::Ledger;
 use crate::near::Near;
 use far_core::{Kind, Shape};
 use far_device::Device;
 use far_log::{LogRow, Span, WalkFault, walk};
-use far_word::{HeadWord, LOG_WORDS, Marks, Place, PtrWord, Refused, size_of, words_for};
+use far_word::{HeadWord, LOG_WORDS, Place, PtrWord, Refused, size_of, words_for};
 use std::alloc::Global;
 use std::marker::Model;
 
@@ -128,6 +132,7 @@ impl<N: Near + Drop, D: Device + Drop> Book<N, D> {
         ensures refused { IfErr result (λ why. why ≡ NoRoom) }
         ensures none { IfErr result (λ _. room (N.view self.old.near) (size_of len) true ≡ None) }
         ensures unchanged { IfErr result (λ _. self.new ≡ self.old) }
+        ensures ran { N.still → Does (N.view self.old.near) (Places pointer len ds result) (N.view self.new.near) }
     {
         let size = size_of(len);
         let Some(place) = self.ledger.room(size, true) else {
@@ -151,6 +156,8 @@ impl<N: Near + Drop, D: Device + Drop> Book<N, D> {
         ensures others { KeepsOthers (D.contents self.old.device) (D.contents self.new.device) pointer }
         ensures honest { D.honest self.new.device ≡ D.honest self.old.device }
         ensures faults { D.faults self.new.device ≡ D.faults self.old.device }
+        ensures spent { SpendsFault false (D.fails_at_most self.old.device) (D.fails_at_most self.new.device) }
+        ensures ran { N.still → Does (N.view self.old.near) (Retires pointer) (N.view self.new.near) }
     {
         let was = free_cell(&mut self.near, pointer);
         self.ledger.retire(pointer, was);
@@ -177,6 +184,7 @@ impl<N: Near + Drop, D: Device + Drop> Book<N, D> {
         ensures kept { N.view self.new.near ≡ record (N.view self.old.near) { cell = put (N.view self.old.near).cell pointer (bit_or result (2 ^ position Evac)) } }
         ensures exact { N.still → result ≡ (N.view self.old.near).cell pointer }
         ensures set { N.still → N.view self.new.near ≡ marked (N.view self.old.near) pointer }
+        ensures ran { N.still → Does (N.view self.old.near) (Sets pointer) (N.view self.new.near) }
         ensures order { self.new.order ≡ self.old.order }
         ensures device { self.new.device ≡ self.old.device }
     {
@@ -273,20 +281,9 @@ fn name_blank<N: Near>(near: &mut N, pointer: u16, len: u16, ds: u8, place: Plac
     ensures exact { N.still → N.view near.new ≡ placed (N.view near.old) pointer len ds place }
 {
     put_blank(near, pointer, len, ds, place);
-    let marks = Marks {
-        hot: false,
-        evac: false,
-        moved: false,
-        dropped: false,
-    };
-    let word = PtrWord::Near {
-        len,
-        ds,
-        place,
-        marks,
-    };
+    let word = near_word(len, ds, place);
     // Nobody but the book changes a free cell.
-    let Ok(()) = near.name(pointer, 0, word.pack()) else {
+    let Ok(()) = near.name(pointer, 0, word) else {
         unreachable!()
     };
 }

@@ -1,6 +1,7 @@
 //! What the effects of the book's calls are made of, as contracts of functions that do nothing.
 
 ghost use Rattle.std.specs.Prelude.{◌≡◌, ◌*◌, ◌<◌, ◌≤◌, ℕ, true};
+ghost use Rattle.far_book.specs.book.Deeds.{EventsAreDeeds, LoadsGiveStored};
 ghost use Rattle.far_book.specs.book.Laws.{EvictingIsLegal, PlacingIsLegal, RetiringIsLegal, FetchingIsLegal, MovingIsLegal, StayingIsLegal};
 
 /// Placing a new object where room is leads from a state to the next by legal events of the core: its header and zeros are
@@ -43,4 +44,14 @@ pub fn moving_is_legal()
 /// world the object is marked no more. No other cell, no word, tail or kind of a log changes.
 pub fn staying_is_legal()
     ensures { StayingIsLegal }
+{}
+
+/// From the start on, whatever owners and the book do, in whatever order, a load of a word gives the word that was last
+/// stored there since its object was placed, and 0 where none was: where the object lies now, and whether it was far
+/// meanwhile, makes no difference. So it is of each run of deeds with an honest far side, refused ones among them.
+///
+/// A legal event of an owner with its answer is such a deed.
+pub fn loads_give_stored()
+    ensures stored { LoadsGiveStored }
+    ensures events { EventsAreDeeds }
 {}

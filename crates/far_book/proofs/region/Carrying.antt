@@ -28,11 +28,11 @@ use Rattle.far_core.proofs.RoomLaws.{room_right}
 use Rattle.far_book.specs.declared.ledger.Ledger.{Ledger}
 use Rattle.far_book.specs.Finds.{Finds, body_of}
 use Rattle.far_book.specs.Quiet.{is_quiet}
-use Rattle.far_book.specs.book.Dealing.{Leaves}
+use Rattle.far_book.specs.book.Dealing.{FindsDrop, Leaves}
 use Rattle.far_book.specs.book.Effects.{moved, near_word, order_after, stayed, with_free_cell, with_written_span}
 use Rattle.far_book.specs.book.FarSide.{HoldsFar, InOrder}
 use Rattle.far_book.specs.book.Ledger.{Notes, MayRetire, MayTake, Takes}
-use Rattle.far_book.specs.book.Moving.{FindsDrop, MayCopy, MayStay}
+use Rattle.far_book.specs.book.Moving.{MayCopy, MayStay}
 use Rattle.far_book.specs.book.Own.{own_part}
 use Rattle.far_book.specs.book.Placeable.{Placeable, with_object}
 use Rattle.far_book.specs.book.Renaming.{seen}

@@ -14,15 +14,15 @@ use Rattle.far_core.specs.state.State.{State, put, addr}
 use Rattle.far_core.proofs.Put.{put_other, put_same}
 use Rattle.far_book.specs.Finds.{Finds}
 use Rattle.far_book.specs.Known.{Forgets, IsKnown, KeepsKnown}
-use Rattle.far_book.specs.book.Dealing.{Leaves, has_evac}
-use Rattle.far_book.specs.book.Effects.{evicted, far_word, retired, with_free_cell}
-use Rattle.far_book.specs.book.Evicting.{GoesFar, IsGone}
+use Rattle.far_book.specs.book.Dealing.{IsRetired, Leaves, LeavesSpans, has_evac}
+use Rattle.far_book.specs.book.Effects.{evicted, far_word, retired}
+use Rattle.far_book.specs.book.Evicting.{GoesFar}
 use Rattle.far_book.specs.book.Renaming.{seen}
 use Rattle.far_book.proofs.Finding.{finds_more, near_known}
 use Rattle.far_book.proofs.region.Calls.{put_put}
+use Rattle.far_book.proofs.region.Dropping.{free_is, retired_by, spans_left}
 use Rattle.far_book.proofs.region.Evictions.{evicted_is, sent}
 use Rattle.far_book.proofs.region.Founds.{drop_found}
-use Rattle.far_book.proofs.region.Retires.{retired_is}
 
 -- what is known after two steps
 keeps_then : (s u v : State) → KeepsKnown s u → Forgets u v → v.starts ≡ u.starts → KeepsKnown s v
@@ -95,16 +95,15 @@ module _ (s t u : State) (p w : ℕ) (seen_is : t ≡ seen s p w) (leaves : Leav
       }
 
   -- in v the cell is free, since another word was found in it
-  pub is_gone : (v : State) (x : ℕ) → Finds (s.cell p) w → Finds w x → is_dropped (read_of x) ≡ true → v ≡ record (retired (seen u p x) p) { word = v.word } → Forgets (seen u p x) v → IsGone s v p
-  is_gone v x first then dropped gone forgot =
-      let free : (y : State) → retired (seen y p x) p ≡ with_free_cell (seen y p x) p = (λ y. retired_is (seen y p x) p (ap (λ c. is_dropped (read_of c)) (put_same y.cell p x p refl) ∙ dropped)) in
-      let is : v ≡ record (with_free_cell (seen u p x) p) { word = v.word } = gone ∙ ap (λ (y : State). record y { word = v.word }) (free u) in
-      record {
-        word = x;
-        found = finds_more (s.cell p) w x first then;
-        dropped = dropped;
-        leads = is ∙ ap (λ (y : State). record (with_free_cell (seen y p x) p) { word = v.word }) read_is
-            ∙ (λ i. record s { cell = put (put_put s.cell p w x i) p 0; word = v.word })
-            ∙ sym (ap (λ (y : State). record y { word = v.word }) (free s));
-        keeps = keeps_then s u v keeps_read (record { known = forgot.known; headers = forgot.headers }) (ap (λ (y : State). y.starts) is);
-      }
+  module _ (v : State) (x : ℕ) (first : Finds (s.cell p) w) (then : Finds w x) (dropped : is_dropped (read_of x) ≡ true) (kept : v ≡ record (retired (seen u p x) p) { word = v.word })
+      (forgot : Forgets (seen u p x) v) where
+    left : LeavesSpans (seen s p x) (seen u p x)
+    left = spans_left (seen s p x) (seen u p x) (ap (λ (y : State). seen y p x) read_is ∙ (λ i. record s { cell = put_put s.cell p w x i; word = u.word }))
+        (record { known = keeps_read.known; headers = keeps_read.headers })
+
+    pub is_gone : (still : Type 0) → (still → is_dropped (read_of (s.cell p)) ≡ true) → (still → v ≡ retired s p) → IsRetired still s v p
+    is_gone still = retired_by still s (seen u p x) v p x (finds_more (s.cell p) w x first then) dropped left kept forgot
+
+    pub gone_keeps : KeepsKnown s v
+    gone_keeps = keeps_then s u v keeps_read (record { known = forgot.known; headers = forgot.headers })
+        (ap (λ (y : State). y.starts) (free_is ⊥ s (seen u p x) v p x (finds_more (s.cell p) w x first then) dropped left kept forgot) ∙ sym (ap (λ (y : State). y.starts) read_is))

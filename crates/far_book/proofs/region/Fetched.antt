@@ -1,5 +1,5 @@
 -- A far object has come near: the law stays, a ledger that was right is right again, and a book is in order.
-use Rattle.std.proofs.Common.{◌≡◌, ℕ, ◌+◌, ◌-◌, ◌*◌, ◌^◌, ◌<◌, Bool, true, false, arith, sym, refl, ap, subst, ◌∙◌, Option, Some, List, length, inl, inr}
+use Rattle.std.proofs.Common.{◌≡◌, ℕ, ◌+◌, ◌-◌, ◌*◌, ◌/◌, ◌%◌, ◌^◌, ◌<◌, Bool, true, false, arith, sym, refl, ap, subst, ◌∙◌, Option, Some, List, length, inl, inr}
 use Rattle.std.specs.Prelude.{IfSome}
 use Rattle.std.proofs.lemmas.Bool.{cases_lt, cases_order, eq-eqb, false≢true, false_from_ne_true}
 use Rattle.std.proofs.lemmas.Nat.{pow_pos}
@@ -15,6 +15,7 @@ use Rattle.far_word.proofs.ByteLaws.{length-bytes_of, packs_back}
 use Rattle.far_word.proofs.PointerLaws.{read_back, word_fits}
 use Rattle.far_core.specs.declared.event.Event.TheVariants as events
 use Rattle.far_core.specs.declared.naming.Naming.TheVariants as naming
+use Rattle.far_core.specs.events.Copies.{Alike}
 use Rattle.far_core.specs.events.Naming.{is_dropped, no_marks}
 use Rattle.far_core.specs.events.NewSpans.{with_span}
 use Rattle.far_core.specs.events.Step.{after}
@@ -28,22 +29,21 @@ use Rattle.far_device.specs.Contents.{KeepsOthers}
 use Rattle.far_book.specs.declared.ledger.Ledger.{Ledger}
 use Rattle.far_book.specs.Finds.{Finds, body_of, marks_in}
 use Rattle.far_book.specs.Known.{Forgets}
-use Rattle.far_book.specs.book.Effects.{fetched, near_word, retired, with_free_cell, with_written_span}
+use Rattle.far_book.specs.book.Effects.{fetched, near_word, with_written_span}
 use Rattle.far_book.specs.book.FarSide.{InOrder}
-use Rattle.far_book.specs.book.Fetching.{ForgetsSpans, IsFetched, far_len, room_for}
+use Rattle.far_book.specs.book.Fetching.{IsFetched, far_len, room_for}
 use Rattle.far_book.specs.book.Ledger.{Notes, Takes}
 use Rattle.far_book.specs.book.Own.{own_part}
 use Rattle.far_book.specs.book.Placeable.{Placeable, with_object}
 use Rattle.far_book.specs.book.Renaming.{Renamed, seen}
 use Rattle.far_book.proofs.region.Calls.{put_put}
-use Rattle.far_book.proofs.region.Coming.{far_found, fetched_alike, fetched_is, written_outside}
+use Rattle.far_book.proofs.region.Coming.{far_found, fetched_is, written_outside}
 use Rattle.far_book.proofs.region.Founds.{drop_found}
 use Rattle.far_book.proofs.region.InOrders.{found_keeps, headers_keep, placed_far}
 use Rattle.far_book.proofs.region.Leaving.{far_cell}
 use Rattle.far_book.proofs.region.NotesKept.{notes_placed}
 use Rattle.far_book.proofs.region.Owns.{own_forgets, own_written}
 use Rattle.far_book.proofs.region.Places.{at_end, blank_behind, law_headed, none_past}
-use Rattle.far_book.proofs.region.Retires.{retired_is}
 
 -- a far cell is named: the span is taken
 pub named_far : (s : State) (p w len ds : ℕ) (place : Place) (m : Marks) → s.cell p ≡ w → read_of w ≡ Some (Far len ds m) → m.dropped ≡ false → IsPtr (Near len ds place no_marks) →
@@ -158,13 +158,13 @@ module _ (s : State) (law : Law (own_part s)) (p len ds : ℕ) (place : Place) (
     ]
   ]
 
-  pub written_below : (l at : ℕ) → at < s.tail l → (with_written_span s p len ds place row).word (l * LOG_WORDS + at) ≡ s.word (l * LOG_WORDS + at)
-  written_below l at lt = elim (cases_order l place.log) [
-    | inl e ↦ (let tails : s.tail l ≡ s.tail place.log = ap s.tail e in
-        written_outside s p len ds place row (l * LOG_WORDS + at) (inl (omega (arith, at_end (own_part s) law p len ds place able))))
+  pub written_below : (a : ℕ) → a % LOG_WORDS < s.tail (a / LOG_WORDS) → (with_written_span s p len ds place row).word a ≡ s.word a
+  written_below a lt = elim (cases_order (a / LOG_WORDS) place.log) [
+    | inl e ↦ (let tails : s.tail (a / LOG_WORDS) ≡ s.tail place.log = ap s.tail e in
+        written_outside s p len ds place row a (inl (omega (arith, at_end (own_part s) law p len ds place able))))
     | inr order ↦ elim order [
-      | inl below ↦ written_outside s p len ds place row (l * LOG_WORDS + at) (inl (omega (arith, law.logs.tail_end l)))
-      | inr above ↦ written_outside s p len ds place row (l * LOG_WORDS + at) (inr (omega (arith, able.layout)))
+      | inl below ↦ written_outside s p len ds place row a (inl (omega arith))
+      | inr above ↦ written_outside s p len ds place row a (inr (omega (arith, able.layout)))
     ]
   ]
 
@@ -174,44 +174,18 @@ module _ (s : State) (law : Law (own_part s)) (p len ds : ℕ) (place : Place) (
   written_in_order ledger held is_honest h w fits f = found_keeps (with_written_span s p len ds place row) ledger held is_honest
       (headers_keep s ledger held is_honest h (with_written_span s p len ds place row) refl written_header) p w fits f
 
--- ---- it is retired instead
-module _ (s u t : State) (p w : ℕ) (is : u ≡ record (seen s p w) { word = u.word }) (headers : (a : ℕ) → s.starts a ≡ true → u.word a ≡ s.word a)
-    (below : (l at : ℕ) → at < s.tail l → u.word (l * LOG_WORDS + at) ≡ s.word (l * LOG_WORDS + at))
-    (dropped : is_dropped (read_of (u.cell p)) ≡ true) (kept : t ≡ record (retired u p) { word = t.word }) (forgot : Forgets u t) where
-  pub gone_kept : t ≡ record (with_free_cell s p) { word = t.word }
-  gone_kept =
-      let free : retired u p ≡ record (with_free_cell s p) { word = u.word } =
-      retired_is u p dropped ∙ ap (λ (v : State). with_free_cell v p) is ∙ (λ i. record s { cell = put_put s.cell p w 0 i; word = u.word }) in
-      kept ∙ (λ i. record (free i) { word = t.word })
-
-  pub gone_forgot : ForgetsSpans s t
-  gone_forgot = record {
-    known = λ l at lt k. forgot.known (l * LOG_WORDS + at) k ∙ below l at lt;
-    headers = λ a begun. forgot.headers a begun ∙ headers a (sym (ap (λ (v : State). v.starts a) gone_kept) ∙ begun);
-  }
-
 -- ---- what the call answers
-module _ (still : Type 0) (s t : State) (p len ds : ℕ) (place : Place) (k : Marks) (far : read_of (s.cell p) ≡ Some (Far len ds k)) (row : ℕ → ℕ)
-    (kept : t ≡ record (fetched s p place row) { word = t.word }) (forgot : Forgets (fetched s p place row) t) (exact : still → t ≡ fetched s p place row) (padded : IsStored row len) where
-  pub fetched_by : (is_honest : Bool) → (is_honest ≡ true → (i : ℕ) → i < words_for len → row i ≡ s.stored p i) → IsStored (s.stored p) len → IsFetched still is_honest s t p place
-  fetched_by false same stored = record {
-    row = row;
-    kept = kept;
-    forgot = forgot;
-    padded = subst (λ o. IsStored row (far_len o)) (sym far) padded;
-    stored = λ e. absurd (false≢true e);
-    exact = exact;
-  }
-  fetched_by true same stored =
-      let alike = fetched_alike s p len ds place row k far (s.stored p) (same refl) in
-      record {
-        row = s.stored p;
-        kept = kept ∙ (λ i. record (alike i) { word = t.word });
-        forgot = subst (λ (u : State). Forgets u t) alike forgot;
-        padded = subst (λ o. IsStored (s.stored p) (far_len o)) (sym far) stored;
-        stored = λ _. refl;
-        exact = λ h. exact h ∙ alike;
-      }
+pub fetched_by : (still : Type 0) (is_honest : Bool) (s t : State) (p len ds : ℕ) (place : Place) (k : Marks) → read_of (s.cell p) ≡ Some (Far len ds k) → (row : ℕ → ℕ) →
+    t ≡ record (fetched s p place row) { word = t.word } → Forgets (fetched s p place row) t → (still → t ≡ fetched s p place row) → IsStored row len →
+    (is_honest ≡ true → Alike row (s.stored p) (words_for len)) → IsFetched still is_honest s t p place
+fetched_by still is_honest s t p len ds place k far row kept forgot exact padded same = record {
+  row = row;
+  kept = kept;
+  forgot = forgot;
+  padded = subst (λ o. IsStored row (far_len o)) (sym far) padded;
+  stored = λ h. subst (λ o. Alike row (s.stored p) (words_for (far_len o))) (sym far) (same h);
+  exact = exact;
+}
 
 -- a word more that was found makes no difference
 pub fetched_seen : (s : State) (p w len ds : ℕ) (place : Place) (row : ℕ → ℕ) (m k : Marks) → read_of w ≡ Some (Far len ds m) → m.dropped ≡ false → read_of (s.cell p) ≡ Some (Far len ds k) → k.dropped ≡ false →

@@ -27,9 +27,9 @@ use Rattle.far_core.proofs.Quieting.{quiet_fact}
 use Rattle.far_book.specs.Finds.{Finds, marks_in}
 use Rattle.far_book.specs.Known.{IsKnown}
 use Rattle.far_book.specs.Quiet.{is_quiet}
-use Rattle.far_book.specs.book.Dealing.{IsQuietNear, Leaves, goal, goal_of, has_evac}
+use Rattle.far_book.specs.book.Dealing.{FindsDrop, IsQuietNear, Leaves, goal, goal_of, has_evac}
 use Rattle.far_book.specs.book.Effects.{moved, moved_of, near_word, stayed, stayed_of, with_written_span}
-use Rattle.far_book.specs.book.Moving.{MayCopy, MayStay, Copied, FindsDrop}
+use Rattle.far_book.specs.book.Moving.{MayCopy, MayStay, Copied}
 use Rattle.far_book.specs.book.Renaming.{seen, MayRename, Renamed}
 use Rattle.far_book.proofs.Finding.{near_found}
 use Rattle.far_book.proofs.region.Calls.{put_put}

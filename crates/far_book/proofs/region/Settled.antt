@@ -21,17 +21,14 @@ use Rattle.far_core.specs.state.State.{State}
 use Rattle.far_core.proofs.Put.{put_same}
 use Rattle.far_core.proofs.RoomLaws.{room_right}
 use Rattle.far_book.specs.Finds.{Finds, body_of, marks_in}
-use Rattle.far_book.specs.Known.{IsKnown, Forgets}
-use Rattle.far_book.specs.book.Dealing.{IsQuietNear, Leaves, goal, goal_of, has_evac, moved_now}
-use Rattle.far_book.specs.book.Effects.{moved, near_word, retired, stayed, with_free_cell, with_written_span}
-use Rattle.far_book.specs.book.Moving.{FindsDrop, LeavesSpans}
+use Rattle.far_book.specs.book.Dealing.{FindsDrop, IsQuietNear, Leaves, goal, goal_of, has_evac, moved_now}
+use Rattle.far_book.specs.book.Effects.{moved, near_word, stayed, with_written_span}
 use Rattle.far_book.specs.book.Own.{own_part}
 use Rattle.far_book.specs.book.Renaming.{seen}
 use Rattle.far_book.proofs.Finding.{finds_more, near_found}
 use Rattle.far_book.proofs.region.Calls.{put_put}
 use Rattle.far_book.proofs.region.Founds.{drop_found}
 use Rattle.far_book.proofs.region.Moved.{drop_of, evac_of, goal_there, has_moved, moved_is, stayed_is}
-use Rattle.far_book.proofs.region.Retires.{retired_is}
 
 -- what follows of a place that is answered, from two facts of it
 pub both_of : (r : Result (Option Place) Refused) (A B C : Place → Type 0) → ((x : Place) → A x → B x → C x) → IfOk r (λ o. IfSome o A) → IfOk r (λ o. IfSome o B) → IfOk r (λ o. IfSome o C)
@@ -135,14 +132,3 @@ module _ (s : State) (p w : ℕ) (f : Finds (s.cell p) w) where
         ∙ (λ i. record s { cell = put_put s.cell p w (near_word q.len q.ds q.place) i })
         ∙ sym (stayed_is s p q.len q.ds q.place q.marks q.near kept asked unwanted there)
         ∙ sym (ap (λ b. cond b (moved s p place) (stayed s p)) (evac_seen ∙ h))
-
--- an object that was found dropped is retired
-pub gone : (s t u : State) (p : ℕ) → FindsDrop s t p → u ≡ record (retired t p) { word = u.word } → Forgets t u → LeavesSpans (with_free_cell s p) u
-gone s t u p x is forgot =
-    let leads : u ≡ record (with_free_cell s p) { word = u.word } = is ∙ ap (λ (y : State). record y { word = u.word }) (retired_is t p x.dropped)
-    ∙ ap (λ (y : State). record (with_free_cell y p) { word = u.word }) x.leaves.is ∙ (λ i. record s { cell = put_put s.cell p (t.cell p) 0 i; word = u.word }) in
-    record {
-      is = leads;
-      known = λ a inside k now. let same = forgot.known a now in same ∙ x.leaves.known a inside k (subst IsKnown same now);
-      headers = λ a begun. forgot.headers a (ap (λ (y : State). y.starts a) leads ∙ begun) ∙ x.leaves.headers a begun;
-    }

@@ -6,13 +6,10 @@ use Rattle.far_word.specs.declared.pointer.PtrWord.TheVariants.{Near}
 use Rattle.far_word.specs.declared.sizes.TheConstants.{LOG_WORDS, LONGEST}
 use Rattle.far_word.specs.Pointer.{read_of}
 use Rattle.far_word.specs.Sizes.{words_for}
-use Rattle.far_core.specs.events.Naming.{is_dropped}
 use Rattle.far_core.specs.state.State.{State, addr}
-use Rattle.far_book.specs.Finds.{Finds}
 use Rattle.far_book.specs.Known.{IsKnown, IsPaddedAt, KeepsKnown}
 use Rattle.far_book.specs.Quiet.{IsQuietAt, is_quiet}
-use Rattle.far_book.specs.book.Effects.{evicted, retired}
-use Rattle.far_book.specs.book.Renaming.{seen}
+use Rattle.far_book.specs.book.Effects.{evicted}
 
 -- p's object is near at this place, with this length and data structure, and quiet
 pub record IsQuietIn (s : State) (p len ds : ℕ) (place : Place) : Type 0 where
@@ -41,20 +38,4 @@ pub record GoesFar (s t : State) (p : ℕ) : Type 0 where
   pub stored : (len ds : ℕ) (place : Place) (marks : Marks) → read_of (s.cell p) ≡ Some (Near len ds place marks) → (i : ℕ) → i < words_for len →
       IsKnown (t.stored p i) × (IsKnown (s.word (addr place + 1 + i)) → t.stored p i ≡ s.word (addr place + 1 + i))
   pub others : (q : ℕ) → q ≢ p → t.stored q ≡ s.stored q
-  pub keeps : KeepsKnown s t
-
--- from s to t p's cell has become free, since its owner was found to have dropped the object
-pub record IsGone (s t : State) (p : ℕ) : Type 0 where
-  pub word : ℕ
-  pub found : Finds (s.cell p) word
-  pub dropped : is_dropped (read_of word) ≡ true
-  pub leads : t ≡ record (retired (seen s p word) p) { word = t.word }
-  pub keeps : KeepsKnown s t
-
--- from s to t nothing has changed but what is known: p's cell was seen, its object not dropped, and words were read
-pub record IsSeen (s t : State) (p : ℕ) : Type 0 where
-  pub word : ℕ
-  pub found : Finds (s.cell p) word
-  pub alive : is_dropped (read_of word) ≡ false
-  pub leads : t ≡ record (seen s p word) { word = t.word }
   pub keeps : KeepsKnown s t

@@ -1,20 +1,19 @@
 -- What a fetch asks of a state, and what it leaves.
-use Rattle.std.specs.Prelude.{◌≡◌, ◌+◌, ◌*◌, ◌<◌, ℕ, Bool, true, false, Option, Some, None, IsSome, List}
+use Rattle.std.specs.Prelude.{◌≡◌, ℕ, Bool, true, false, Option, Some, None, IsSome, List}
 use Rattle.far_word.specs.declared.mark.Marks.{Marks}
 use Rattle.far_word.specs.declared.pointer.Place.{Place}
 use Rattle.far_word.specs.declared.pointer.PtrWord.{PtrWord}
 use Rattle.far_word.specs.declared.pointer.PtrWord.TheVariants.{Free, Near, Far}
 use Rattle.far_word.specs.declared.refused.Refused.{Refused}
 use Rattle.far_word.specs.declared.refused.Refused.TheVariants.{Memory, NoRoom, Device, Damaged}
-use Rattle.far_word.specs.declared.sizes.TheConstants.{LOG_WORDS}
 use Rattle.far_word.specs.Pointer.{read_of}
-use Rattle.far_word.specs.Sizes.{size_of}
-use Rattle.far_core.specs.events.Naming.{is_dropped}
+use Rattle.far_word.specs.Sizes.{size_of, words_for}
+use Rattle.far_core.specs.events.Copies.{Alike}
 use Rattle.far_core.specs.state.Law.{IsStored}
 use Rattle.far_core.specs.state.Room.{room}
 use Rattle.far_core.specs.state.State.{State}
-use Rattle.far_book.specs.Known.{Forgets, IsKnown}
-use Rattle.far_book.specs.book.Effects.{fetched, retired, order_after, with_free_cell}
+use Rattle.far_book.specs.Known.{Forgets}
+use Rattle.far_book.specs.book.Effects.{fetched, order_after}
 
 -- an object is far
 pub record IsFar (s : State) (p : ℕ) : Type 0 where
@@ -40,20 +39,8 @@ pub record IsFetched (still : Type 0) (is_honest : Bool) (s t : State) (p : ℕ)
   pub kept : t ≡ record (fetched s p place row) { word = t.word }
   pub forgot : Forgets (fetched s p place row) t
   pub padded : IsStored row (far_len (read_of (s.cell p)))
-  pub stored : is_honest ≡ true → row ≡ s.stored p
+  pub stored : is_honest ≡ true → Alike row (s.stored p) (words_for (far_len (read_of (s.cell p))))
   pub exact : still → t ≡ fetched s p place row
-
--- from s to t no word of a span is another, as far as it is known, and the header of each is known as it was; past the tails anything may have been written
-pub record ForgetsSpans (s t : State) : Type 0 where
-  pub known : (l at : ℕ) → at < s.tail l → IsKnown (t.word (l * LOG_WORDS + at)) → t.word (l * LOG_WORDS + at) ≡ s.word (l * LOG_WORDS + at)
-  pub headers : (a : ℕ) → t.starts a ≡ true → t.word a ≡ s.word a
-
--- it was dropped, and is retired
-pub record IsRetired (still : Type 0) (s t : State) (p : ℕ) : Type 0 where
-  pub kept : t ≡ record (with_free_cell s p) { word = t.word }
-  pub forgot : ForgetsSpans s t
-  pub dropped : still → is_dropped (read_of (s.cell p)) ≡ true
-  pub exact : still → t ≡ retired s p
 
 -- the sealed logs after it, oldest first
 abbrev pub order_fetched : State → List ℕ → Option Place → List ℕ

@@ -1,5 +1,5 @@
--- How a near object is copied to another place while owners are at work, and what is left where a DROP is found at last.
-use Rattle.std.specs.Prelude.{◌≡◌, ◌+◌, ◌*◌, ◌/◌, ◌%◌, ◌^◌, ◌<◌, ◌≤◌, ℕ, true, false, Some}
+-- How a near object is copied to another place while owners are at work, or stays where it lies.
+use Rattle.std.specs.Prelude.{◌≡◌, ◌+◌, ◌*◌, ◌<◌, ◌≤◌, ℕ, true, false, Some}
 use Rattle.far_word.specs.declared.mark.Marks.{Marks}
 use Rattle.far_word.specs.declared.pointer.Place.{Place}
 use Rattle.far_word.specs.declared.pointer.PtrWord.TheVariants.{Near}
@@ -9,15 +9,12 @@ use Rattle.far_word.specs.Pointer.{read_of}
 use Rattle.far_word.specs.Sizes.{size_of, words_for}
 use Rattle.far_core.specs.events.Copies.{Alike, data_at, EndsPadded}
 use Rattle.far_core.specs.events.Legal.{IsNext}
-use Rattle.far_core.specs.events.Naming.{is_dropped}
 use Rattle.far_core.specs.state.Law.{Law}
 use Rattle.far_core.specs.state.State.{State, addr}
-use Rattle.far_book.specs.Finds.{Finds}
-use Rattle.far_book.specs.Known.{IsKnown, KeepsKnown}
+use Rattle.far_book.specs.Known.{KeepsKnown}
 use Rattle.far_book.specs.Quiet.{is_quiet}
 use Rattle.far_book.specs.book.Effects.{with_written_span}
 use Rattle.far_book.specs.book.Own.{own_part}
-use Rattle.far_book.specs.book.Renaming.{seen}
 
 -- a near object that is quiet may be copied: the next span of a log may stand at the place, and fits
 pub record MayCopy (s : State) (p len ds : ℕ) (from to : Place) : Type 0 where
@@ -44,22 +41,3 @@ pub record Copied (s t : State) (p len ds : ℕ) (from to : Place) : Type 0 wher
   pub same : Alike (data_at t.word to) (data_at t.word from) (words_for len)
   pub padded : EndsPadded t.word len to
   pub keeps : KeepsKnown (with_written_span s p len ds to (data_at s.word from)) t
-
--- a state is left, as far as it is known; past the tails of logs words may have been written
-pub record LeavesSpans (s t : State) : Type 0 where
-  pub is : t ≡ record s { word = t.word }
-  pub known : (a : ℕ) → a % LOG_WORDS < s.tail (a / LOG_WORDS) → IsKnown (s.word a) → IsKnown (t.word a) → t.word a ≡ s.word a
-  pub headers : (a : ℕ) → s.starts a ≡ true → t.word a ≡ s.word a
-
--- from s to t a word was found in p's cell that has DROP
-pub record FindsDrop (s t : State) (p : ℕ) : Type 0 where
-  pub fits : t.cell p < 2 ^ 64
-  pub found : Finds (s.cell p) (t.cell p)
-  pub dropped : is_dropped (read_of (t.cell p)) ≡ true
-  pub leaves : LeavesSpans (seen s p (t.cell p)) t
-
--- from s to t a word was found in p's cell, and nothing else is another
-pub record FindsAlone (s t : State) (p : ℕ) : Type 0 where
-  pub word : ℕ
-  pub found : Finds (s.cell p) word
-  pub is : t ≡ seen s p word

@@ -1,6 +1,6 @@
 //! How a far object comes near.
 
-ghost use Rattle.std.specs.Prelude.{◌≡◌, ◌*◌, ◌^◌, ◌<◌, ℕ, true, false, None, Some, length, Ok, IfOk, IfErr, IfSome, IfNone};
+ghost use Rattle.std.specs.Prelude.{◌≡◌, ◌*◌, ◌^◌, ◌<◌, ℕ, true, None, Some, length, Ok, IfOk, IfErr, IfSome, IfNone};
 ghost use Rattle.far_word.specs.declared.pointer.PtrWord.TheVariants.{Near as near_at};
 ghost use Rattle.far_word.specs.declared.refused.Refused.TheVariants as refused;
 ghost use Rattle.far_word.specs.declared.sizes.TheConstants.{CELLS};
@@ -14,17 +14,19 @@ ghost use Rattle.far_core.specs.state.Law.{IsStored};
 ghost use Rattle.far_device.specs.Contents.{KeepsOthers};
 ghost use Rattle.far_device.specs.Faults.{CountsFault, SpendsFault};
 ghost use Rattle.far_book.specs.Finds.{Finds};
-ghost use Rattle.far_book.specs.book.Dealing.{is_failure};
+ghost use Rattle.far_book.specs.book.Dealing.{IsRetired, IsSeen, LearnsNone, is_failure};
+ghost use Rattle.far_book.specs.book.Deeds.{Does, Fetches};
 ghost use Rattle.far_book.specs.book.Effects.{fetched, near_word, with_written_span};
-ghost use Rattle.far_book.specs.book.Fetching.{IsFar, IsFetched, IsRetired, RefusesFetch, order_fetched, room_for};
+ghost use Rattle.far_book.specs.book.Fetching.{IsFar, IsFetched, RefusesFetch, order_fetched, room_for};
 ghost use Rattle.far_book.specs.book.Placeable.{IsAbsent};
 ghost use Rattle.far_book.specs.book.Renaming.{Renamed, seen};
 
 use crate::book::Book;
 use crate::book::renaming::rename;
+use crate::book::words::near_word;
 use crate::near::Near;
 use far_device::{Device, DeviceFault};
-use far_word::{HeadWord, Marks, Place, PtrWord, Refused, pack_bytes, size_of, words_for};
+use far_word::{HeadWord, Place, PtrWord, Refused, pack_bytes, size_of, words_for};
 
 impl<N: Near + Drop, D: Device + Drop> Book<N, D> {
     /// Brings a far object near, and answers where it lies; the device forgets its bytes then. Where its owner has dropped
@@ -39,20 +41,22 @@ impl<N: Near + Drop, D: Device + Drop> Book<N, D> {
         ensures place { IfOk result (λ found. IfSome found (λ place. room_for (N.view self.old.near) pointer ≡ Some place)) }
         ensures near { IfOk result (λ found. IfSome found (λ place. IsFetched N.still (D.honest self.old.device) (N.view self.old.near) (N.view self.new.near) pointer place)) }
         ensures gone { IfOk result (λ found. IfNone found (IsRetired N.still (N.view self.old.near) (N.view self.new.near) pointer)) }
+        ensures unread { IfOk result (λ found. IfNone found (LearnsNone (N.view self.old.near) (N.view self.new.near))) }
         ensures asked { is_dropped (read_of ((N.view self.old.near).cell pointer)) ≡ true → result ≡ Ok None }
         ensures order { IfOk result (λ found. self.new.order ≡ order_fetched (N.view self.old.near) self.old.order found) }
         ensures forgot { D.forgets → IfOk result (λ _. D.contents self.new.device pointer ≡ None) }
         ensures others { KeepsOthers (D.contents self.old.device) (D.contents self.new.device) pointer }
         ensures honest { D.honest self.new.device ≡ D.honest self.old.device }
         ensures counted { CountsFault (is_failure result) (D.faults self.old.device) (D.faults self.new.device) }
+        ensures spent { SpendsFault (is_failure result) (D.fails_at_most self.old.device) (D.fails_at_most self.new.device) }
         ensures refused { IfErr result (λ why. RefusesFetch why (room_for (N.view self.old.near) pointer) (D.honest self.old.device)) }
         ensures untouched { IfErr result (λ why. why ≡ refused.NoRoom → self.new.device ≡ self.old.device) }
         ensures held { IfErr result (λ _. D.contents self.new.device ≡ D.contents self.old.device) }
-        ensures kept { IfErr result (λ _. N.view self.new.near ≡ seen (N.view self.old.near) pointer ((N.view self.new.near).cell pointer)) }
-        ensures found { IfErr result (λ _. Finds ((N.view self.old.near).cell pointer) ((N.view self.new.near).cell pointer)) }
-        ensures alive { IfErr result (λ _. is_dropped (read_of ((N.view self.new.near).cell pointer)) ≡ false) }
+        ensures seen { IfErr result (λ _. IsSeen (N.view self.old.near) (N.view self.new.near) pointer) }
+        ensures kept { IfErr result (λ _. (N.view self.new.near).word ≡ (N.view self.old.near).word) }
         ensures exact { N.still → IfErr result (λ _. N.view self.new.near ≡ N.view self.old.near) }
         ensures shut { IfErr result (λ _. self.new.order ≡ self.old.order) }
+        ensures ran { N.still → Does (N.view self.old.near) (Fetches pointer result) (N.view self.new.near) }
     {
         let word = self.see(pointer);
         let Some(PtrWord::Far { len, ds, marks }) = PtrWord::read(word) else {
@@ -122,19 +126,7 @@ fn come_near<N: Near>(
     ensures kept { IfErr result (λ word. N.view near.new ≡ seen (with_written_span (N.view near.old) pointer len ds place (packed_word bytes.now)) pointer word) }
 {
     put_object(near, pointer, len, ds, place, bytes);
-    let marks = Marks {
-        hot: false,
-        evac: false,
-        moved: false,
-        dropped: false,
-    };
-    let word = PtrWord::Near {
-        len,
-        ds,
-        place,
-        marks,
-    };
-    rename(near, pointer, found, word.pack())
+    rename(near, pointer, found, near_word(len, ds, place))
 }
 
 // Writes a header, and an object's bytes behind it.

@@ -10,19 +10,21 @@ ghost use Rattle.far_core.specs.events.Copies.{data_at};
 ghost use Rattle.far_core.specs.events.Naming.{is_dropped};
 ghost use Rattle.far_core.specs.state.Law.{IsStored};
 ghost use Rattle.far_device.specs.Contents.{KeepsOthers};
-ghost use Rattle.far_device.specs.Faults.{CountsFault};
+ghost use Rattle.far_device.specs.Faults.{CountsFault, SpendsFault};
 ghost use Rattle.far_book.specs.Finds.{Finds};
-ghost use Rattle.far_book.specs.Known.{Forgets};
-ghost use Rattle.far_book.specs.book.Dealing.{IsQuietNear, Leaves, has_evac, is_failure};
-ghost use Rattle.far_book.specs.book.Effects.{evicted, retired};
-ghost use Rattle.far_book.specs.book.Evicting.{GoesFar, IsGone, IsQuietData, IsQuietIn, IsSeen, Learns};
+ghost use Rattle.far_book.specs.Known.{Forgets, KeepsKnown};
+ghost use Rattle.far_book.specs.book.Dealing.{IsQuietNear, IsRetired, IsSeen, Leaves, has_evac, is_failure};
+ghost use Rattle.far_book.specs.book.Deeds.{Does, Evicts};
+ghost use Rattle.far_book.specs.book.Effects.{evicted, far_word};
+ghost use Rattle.far_book.specs.book.Evicting.{GoesFar, IsQuietData, IsQuietIn, Learns};
 ghost use Rattle.far_book.specs.book.Renaming.{seen};
 
 use crate::book::Book;
 use crate::book::renaming::rename;
+use crate::book::words::far_word;
 use crate::near::Near;
 use far_device::{Device, DeviceFault};
-use far_word::{LONGEST, Marks, Place, PtrWord, Refused, size_of, unpack_bytes, words_for};
+use far_word::{LONGEST, Place, PtrWord, Refused, size_of, unpack_bytes, words_for};
 
 impl<N: Near + Drop, D: Device + Drop> Book<N, D> {
     /// Sends a quiet near object with EVAC far: the device holds its bytes, its cell says far, without marks, and its span is
@@ -34,17 +36,19 @@ impl<N: Near + Drop, D: Device + Drop> Book<N, D> {
         requires evac { has_evac (read_of ((N.view self.old.near).cell pointer)) ≡ true }
         ensures far { result ≡ Ok true → GoesFar (N.view self.old.near) (N.view self.new.near) pointer }
         ensures away { N.still → result ≡ Ok true → N.view self.new.near ≡ evicted (N.view self.old.near) pointer }
-        ensures gone { result ≡ Ok false → IsGone (N.view self.old.near) (N.view self.new.near) pointer }
-        ensures freed { N.still → result ≡ Ok false → N.view self.new.near ≡ retired (N.view self.old.near) pointer }
+        ensures gone { result ≡ Ok false → IsRetired N.still (N.view self.old.near) (N.view self.new.near) pointer }
+        ensures freed { result ≡ Ok false → KeepsKnown (N.view self.old.near) (N.view self.new.near) }
         ensures alive { N.still → IfOk result (λ far. far ≡ not (is_dropped (read_of ((N.view self.old.near).cell pointer)))) }
         ensures kept { IfErr result (λ _. IsSeen (N.view self.old.near) (N.view self.new.near) pointer) }
         ensures same { N.still → IfErr result (λ _. N.view self.new.near ≡ N.view self.old.near) }
         ensures refused { IfErr result (λ why. (why ≡ Memory) ⊎ (why ≡ Failed)) }
         ensures cause { CountsFault (is_failure result) (D.faults self.old.device) (D.faults self.new.device) }
+        ensures spent { SpendsFault (is_failure result) (D.fails_at_most self.old.device) (D.fails_at_most self.new.device) }
         ensures order { self.new.order ≡ self.old.order }
         ensures forgotten { D.forgets → result ≡ Ok false → D.contents self.new.device pointer ≡ None }
         ensures others { KeepsOthers (D.contents self.old.device) (D.contents self.new.device) pointer }
         ensures honest { D.honest self.new.device ≡ D.honest self.old.device }
+        ensures ran { N.still → Does (N.view self.old.near) (Evicts pointer result) (N.view self.new.near) }
     {
         let found = self.see(pointer);
         let Some(
@@ -84,6 +88,7 @@ impl<N: Near + Drop, D: Device + Drop> Book<N, D> {
         ensures held { OnOk result (D.contents self.new.device pointer ≡ Some (bytes_of (data_at (N.view self.new.near).word place) len)) }
         ensures refused { IfErr result (λ why. (why ≡ Memory) ⊎ (why ≡ Failed)) }
         ensures cause { CountsFault (is_failure result) (D.faults self.old.device) (D.faults self.new.device) }
+        ensures spent { SpendsFault (is_failure result) (D.fails_at_most self.old.device) (D.fails_at_most self.new.device) }
         ensures order { self.new.order ≡ self.old.order }
         ensures others { KeepsOthers (D.contents self.old.device) (D.contents self.new.device) pointer }
         ensures honest { D.honest self.new.device ≡ D.honest self.old.device }
@@ -123,14 +128,7 @@ impl<N: Near + Drop, D: Device + Drop> Book<N, D> {
         ensures order { self.new.order ≡ self.old.order }
         ensures device { self.new.device ≡ self.old.device }
     {
-        let marks = Marks {
-            hot: false,
-            evac: false,
-            moved: false,
-            dropped: false,
-        };
-        let far = PtrWord::Far { len, ds, marks };
-        if let Err(word) = rename(&mut self.near, pointer, found, far.pack()) {
+        if let Err(word) = rename(&mut self.near, pointer, found, far_word(len, ds)) {
             return Err(word);
         }
         self.ledger.lose(place.log, size_of(len));

@@ -1,25 +1,24 @@
 //! How a near object that is to move does: to another place, where the book wants its log, or nowhere.
 
-ghost use Rattle.std.specs.Prelude.{◌≡◌, ◌*◌, ◌<◌, ℕ, true, false, Some, None, Ok, IfOk, IfErr, IfSome, IfNone, MatchOption};
-ghost use Rattle.far_word.specs.declared.pointer.PtrWord.TheVariants.{Near as near_at};
+ghost use Rattle.std.specs.Prelude.{◌≡◌, ◌*◌, ◌<◌, true, false, Some, None, Ok, IfOk, IfErr, IfSome, IfNone, MatchOption};
 ghost use Rattle.far_word.specs.declared.refused.Refused.TheVariants.{NoRoom};
 ghost use Rattle.far_word.specs.declared.sizes.TheConstants.{CELLS};
-ghost use Rattle.far_word.specs.Pointer.{IsPtr, read_of};
+ghost use Rattle.far_word.specs.Pointer.{read_of};
 ghost use Rattle.far_core.specs.events.Copies.{data_at};
-ghost use Rattle.far_core.specs.events.Naming.{is_dropped, no_marks};
-ghost use Rattle.far_core.specs.state.State.{State};
+ghost use Rattle.far_core.specs.events.Naming.{is_dropped};
 ghost use Rattle.far_device.specs.Contents.{KeepsOthers};
-ghost use Rattle.far_book.specs.Finds.{Finds};
-ghost use Rattle.far_book.specs.book.Dealing.{IsQuietNear, goal, has_evac, Leaves, moved_now, order_moved};
-ghost use Rattle.far_book.specs.book.Effects.{moved, near_word, order_after, retired, stayed, with_free_cell, with_written_span};
-ghost use Rattle.far_book.specs.book.Moving.{Copied, FindsAlone, FindsDrop, LeavesSpans, MayCopy, MayStay};
-ghost use Rattle.far_book.specs.book.Renaming.{seen};
+ghost use Rattle.far_device.specs.Faults.{SpendsFault};
+ghost use Rattle.far_book.specs.book.Dealing.{FindsDrop, IsQuietNear, IsRetired, IsSeen, goal, has_evac, Leaves, moved_now, order_moved};
+ghost use Rattle.far_book.specs.book.Deeds.{Does, Moves};
+ghost use Rattle.far_book.specs.book.Effects.{moved, order_after, stayed, with_written_span};
+ghost use Rattle.far_book.specs.book.Moving.{Copied, MayCopy, MayStay};
 
 use crate::book::Book;
 use crate::book::renaming::{is_dropped, rename};
+use crate::book::words::near_word;
 use crate::near::Near;
 use far_device::Device;
-use far_word::{HeadWord, Marks, Place, PtrWord, Refused, size_of, words_for};
+use far_word::{HeadWord, Place, PtrWord, Refused, size_of, words_for};
 
 impl<N: Near + Drop, D: Device + Drop> Book<N, D> {
     /// Moves a near object that nobody stores into, and answers where it lies then, without marks. Where the book wants its log,
@@ -34,18 +33,20 @@ impl<N: Near + Drop, D: Device + Drop> Book<N, D> {
         ensures order { IfOk result (λ o. MatchOption o (self.new.order ≡ self.old.order) (λ place. self.new.order ≡ order_moved (N.view self.old.near) pointer self.old.order place)) }
         ensures device { IfOk result (λ o. IfSome o (λ _. self.new.device ≡ self.old.device)) }
         ensures asked { is_dropped (read_of ((N.view self.old.near).cell pointer)) ≡ true → result ≡ Ok None }
-        ensures gone { IfOk result (λ o. IfNone o (LeavesSpans (with_free_cell (N.view self.old.near) pointer) (N.view self.new.near))) }
+        ensures gone { IfOk result (λ o. IfNone o (IsRetired N.still (N.view self.old.near) (N.view self.new.near) pointer)) }
         ensures forgotten { IfOk result (λ o. IfNone o (D.forgets → D.contents self.new.device pointer ≡ None)) }
         ensures others { KeepsOthers (D.contents self.old.device) (D.contents self.new.device) pointer }
         ensures honest { D.honest self.new.device ≡ D.honest self.old.device }
         ensures faults { D.faults self.new.device ≡ D.faults self.old.device }
+        ensures spent { SpendsFault false (D.fails_at_most self.old.device) (D.fails_at_most self.new.device) }
         ensures refused { IfErr result (λ why. why ≡ NoRoom) }
         ensures none { IfErr result (λ _. goal (N.view self.old.near) pointer ≡ None) }
-        ensures seen { IfErr result (λ _. FindsAlone (N.view self.old.near) (N.view self.new.near) pointer) }
+        ensures seen { IfErr result (λ _. IsSeen (N.view self.old.near) (N.view self.new.near) pointer) }
+        ensures words { IfErr result (λ _. (N.view self.new.near).word ≡ (N.view self.old.near).word) }
         ensures kept { IfErr result (λ _. self.new ≡ record self.old { near = self.new.near }) }
-        ensures exact { N.still → IfOk result (λ o. MatchOption o (N.view self.new.near ≡ retired (N.view self.old.near) pointer) (λ place. N.view self.new.near ≡ moved_now (N.view self.old.near) pointer place)) }
-        ensures dropped { N.still → IfOk result (λ o. IfNone o (is_dropped (read_of ((N.view self.old.near).cell pointer)) ≡ true)) }
+        ensures exact { N.still → IfOk result (λ o. IfSome o (λ place. N.view self.new.near ≡ moved_now (N.view self.old.near) pointer place)) }
         ensures unchanged { N.still → IfErr result (λ _. N.view self.new.near ≡ N.view self.old.near) }
+        ensures ran { N.still → Does (N.view self.old.near) (Moves pointer result) (N.view self.new.near) }
     {
         match self.settle(pointer) {
             Ok(Some(place)) => Ok(Some(place)),
@@ -69,7 +70,8 @@ impl<N: Near + Drop, D: Device + Drop> Book<N, D> {
         ensures found { IfOk result (λ o. IfNone o (FindsDrop (N.view self.old.near) (N.view self.new.near) pointer)) }
         ensures refused { IfErr result (λ why. why ≡ NoRoom) }
         ensures none { IfErr result (λ _. goal (N.view self.old.near) pointer ≡ None) }
-        ensures seen { IfErr result (λ _. FindsAlone (N.view self.old.near) (N.view self.new.near) pointer) }
+        ensures seen { IfErr result (λ _. IsSeen (N.view self.old.near) (N.view self.new.near) pointer) }
+        ensures words { IfErr result (λ _. (N.view self.new.near).word ≡ (N.view self.old.near).word) }
         ensures kept { IfErr result (λ _. self.new.order ≡ self.old.order) }
         ensures exact { N.still → IfOk result (λ o. MatchOption o (N.view self.new.near ≡ N.view self.old.near) (λ place. N.view self.new.near ≡ moved_now (N.view self.old.near) pointer place)) }
         ensures dropped { N.still → IfOk result (λ o. IfNone o (is_dropped (read_of ((N.view self.old.near).cell pointer)) ≡ true)) }
@@ -222,24 +224,4 @@ fn has_evac(word: u64) -> bool
         Some(PtrWord::Near { marks, .. }) => marks.evac,
         _ => false,
     }
-}
-
-// The cell of an object that lies near, without marks.
-fn near_word(len: u16, ds: u8, place: Place) -> u64
-    requires { IsPtr (near_at len ds place no_marks) }
-    ensures { result ≡ near_word len ds place }
-{
-    let marks = Marks {
-        hot: false,
-        evac: false,
-        moved: false,
-        dropped: false,
-    };
-    let word = PtrWord::Near {
-        len,
-        ds,
-        place,
-        marks,
-    };
-    word.pack()
 }

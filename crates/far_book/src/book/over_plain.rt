@@ -12,6 +12,7 @@ ghost use Rattle.far_core.specs.state.Law.{Law};
 ghost use Rattle.far_core.specs.world.Happens.{Happens};
 ghost use Rattle.far_core.specs.world.WorldOf.{world_of};
 ghost use Rattle.far_book.specs.Owners.{is_owners};
+ghost use Rattle.far_book.specs.book.Deeds.{Does, Owns};
 
 use crate::book::Book;
 use crate::owners::is_owners;
@@ -41,6 +42,7 @@ impl<D: Device + Drop> Book<Plain, D> {
             (core_state self.new.near.core ≡ after (core_state self.old.near.core) event) × (result ≡ answer (core_state self.old.near.core) event) }
         ensures refused { is_owners event ≡ false → (result ≡ Reply.Refused) × (self.new.near ≡ self.old.near) }
         ensures world { Happens (world_of (core_state self.old.near.core)) event result (world_of (core_state self.new.near.core)) }
+        ensures ran { is_owners event ≡ true → Does (core_state self.old.near.core) (Owns event result) (core_state self.new.near.core) }
         ensures order { self.new.order ≡ self.old.order }
         ensures device { self.new.device ≡ self.old.device }
     {

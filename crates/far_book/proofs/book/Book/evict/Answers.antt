@@ -1,13 +1,15 @@
 use Rattle.far_book.proofs.book.Book.evict.Goals as goal
-use Rattle.std.proofs.Common.{rules, ◌≡◌, ◌∙◌, ap, subst, arith, refl, Some}
+use Rattle.std.proofs.Common.{rules, ◌≡◌, ◌∙◌, true, false, ap, sym, subst, arith, refl, Some}
 use Rattle.far_word.specs.declared.pointer.PtrWord.TheVariants.{Near, Far}
 use Rattle.far_word.specs.Pointer.{IsPtr, read_of}
 use Rattle.far_word.proofs.PointerLaws.{read_says}
-use Rattle.far_core.specs.events.Naming.{no_marks}
+use Rattle.far_core.specs.events.Naming.{is_dropped, no_marks}
 use Rattle.far_core.specs.state.State.{State}
 use Rattle.far_book.specs.Known.{Forgets}
-use Rattle.far_book.specs.book.Effects.{retired}
-use Rattle.far_book.proofs.region.Evicted.{goes_far, is_gone}
+use Rattle.far_book.specs.book.Effects.{evicted, retired}
+use Rattle.far_book.specs.book.Renaming.{seen}
+use Rattle.far_book.proofs.region.Dropping.{retired_by}
+use Rattle.far_book.proofs.region.Evicted.{goes_far, gone_keeps, is_gone}
 
 pub returns-in-Ok-clause-far : goal.returns-in-Ok-clause-far
 returns-in-Ok-clause-far g c _ =
@@ -18,6 +20,18 @@ returns-in-Ok-clause-far g c _ =
     goes_far (g.N.Near.view c.args.self.now.near) (g.N.Near.view c.see-found.new.self.near) (g.N.Near.view c.send.new.self.near) c.args.pointer c.see-found.result c.see-found.ensures.kept c.send.ensures.kept
     (g.N.Near.view c.name_far.new.self.near) x.len x.ds x.place x.marks c.see-found.ensures.found near c.if-marks.false c.requires.evac layout c.in-Ok.ensures.far c.in-Ok.ensures.forgot c.send.ensures.words
 
+pub returns-then-marks-clause-gone : goal.returns-then-marks-clause-gone
+returns-then-marks-clause-gone g c _ =
+    let s = g.N.Near.view c.args.self.now.near in
+    let t = g.N.Near.view c.see-found.new.self.near in
+    let same = c.see-found.ensures.kept in
+    let dropped : is_dropped (read_of c.see-found.result) ≡ true = search rules in
+    retired_by g.N.Near.still s t (g.N.Near.view c.retire.new.self.near) c.args.pointer c.see-found.result c.see-found.ensures.found dropped
+    (record { is = same ∙ ap (λ f. record (seen s c.args.pointer c.see-found.result) { word = f }) (sym (ap (λ (x : State). x.word) same)); known = λ a _ _ _. ap (λ (x : State). x.word a) same; headers = λ a _. ap (λ (x : State). x.word a) same })
+    c.retire.ensures.kept c.retire.ensures.forgot
+    (λ still. ap (λ v. is_dropped (read_of v)) (sym (c.see-found.ensures.exact still)) ∙ dropped)
+    (λ still. c.retire.ensures.exact still ∙ ap (λ (x : State). retired x c.args.pointer) (c.see-found.ensures.set still))
+
 pub returns-in-Err-name_far-clause-gone : goal.returns-in-Err-name_far-clause-gone
 returns-in-Err-name_far-clause-gone g c _ =
     let u = g.N.Near.view c.send.new.self.near in
@@ -27,4 +41,39 @@ returns-in-Err-name_far-clause-gone g c _ =
     is_gone (g.N.Near.view c.args.self.now.near) (g.N.Near.view c.see-found.new.self.near) u c.args.pointer c.see-found.result c.see-found.ensures.kept c.send.ensures.kept
     v word c.see-found.ensures.found c.in-Err-name_far.ensures.found c.in-Err-name_far.ensures.dropped
     (c.retire-in-Err-name_far.ensures.kept ∙ ap (λ (x : State). record (retired x c.args.pointer) { word = v.word }) kept)
+    (subst (λ (x : State). Forgets x v) kept c.retire-in-Err-name_far.ensures.forgot) g.N.Near.still
+    (λ still. absurd (c.in-Err-name_far.ensures.won still)) (λ still. absurd (c.in-Err-name_far.ensures.won still))
+
+pub returns-in-Err-name_far-clause-freed : goal.returns-in-Err-name_far-clause-freed
+returns-in-Err-name_far-clause-freed g c _ =
+    let u = g.N.Near.view c.send.new.self.near in
+    let v = g.N.Near.view c.retire-in-Err-name_far.new.self.near in
+    let word = c.in-Err-name_far.field-0 in
+    let kept = c.in-Err-name_far.ensures.kept in
+    gone_keeps (g.N.Near.view c.args.self.now.near) (g.N.Near.view c.see-found.new.self.near) u c.args.pointer c.see-found.result c.see-found.ensures.kept c.send.ensures.kept
+    v word c.see-found.ensures.found c.in-Err-name_far.ensures.found c.in-Err-name_far.ensures.dropped
+    (c.retire-in-Err-name_far.ensures.kept ∙ ap (λ (x : State). record (retired x c.args.pointer) { word = v.word }) kept)
     (subst (λ (x : State). Forgets x v) kept c.retire-in-Err-name_far.ensures.forgot)
+
+pub returns-then-marks-clause-ran : goal.returns-then-marks-clause-ran
+returns-then-marks-clause-ran g c still =
+    let dropped : is_dropped (read_of c.see-found.result) ≡ true = search rules in
+    record {
+      pointer = c.requires.pointer;
+      dropped = ap (λ v. is_dropped (read_of v)) (sym (c.see-found.ensures.exact still)) ∙ dropped;
+      after = c.retire.ensures.exact still ∙ ap (λ (x : State). retired x c.args.pointer) (c.see-found.ensures.set still);
+    }
+
+pub returns-in-Err-name_far-clause-ran : goal.returns-in-Err-name_far-clause-ran
+returns-in-Err-name_far-clause-ran g c still = absurd (c.in-Err-name_far.ensures.won still)
+
+pub returns-in-Ok-clause-ran : goal.returns-in-Ok-clause-ran
+returns-in-Ok-clause-ran g c still =
+    let alive : is_dropped (read_of c.see-found.result) ≡ false = search rules in
+    record {
+      pointer = c.requires.pointer;
+      quiet = c.requires.quiet;
+      evac = c.requires.evac;
+      alive = ap (λ v. is_dropped (read_of v)) (sym (c.see-found.ensures.exact still)) ∙ alive;
+      after = c.in-Ok.ensures.set still ∙ ap (λ (x : State). evicted x c.args.pointer) (c.send.ensures.exact still ∙ c.see-found.ensures.set still);
+    }

@@ -15,8 +15,8 @@ use Rattle.far_book.specs.book.Renaming.{MayRename, Renamed}
 use Rattle.far_book.proofs.region.Evictions.{alive_here, evac_here, evicted_is, far_layout, far_order, loses_live, loses_log, loses_size, may_go, renamed_far}
 use Rattle.far_book.proofs.region.InOrders.{found_keeps}
 
-pub pack-requires : goal.pack-requires
-pack-requires g c =
+pub far_word-requires : goal.far_word-requires
+far_word-requires g c =
     let s = g.N.Near.view c.self.inside.near in
     let same = ap (λ (b : BookOf g.row.N.Denot g.row.D.Denot). g.N.Near.view b.near) c.self.view_is in
     let pointer : c.args.pointer < CELLS * s.mutators = subst (λ (t : State). c.args.pointer < CELLS * t.mutators) (sym same) c.requires.pointer in
@@ -36,7 +36,7 @@ rename-requires-clause-may g c =
     let evac = evac_here s c.args.pointer c.args.len c.args.ds c.args.place near c.args.found found c.requires.evac in
     let alive = alive_here s c.args.pointer c.args.len c.args.ds c.args.place near c.args.found found c.requires.alive in
     let words : IsStored (data_at s.word c.args.place) c.args.len = subst (λ (t : State). IsStored (data_at t.word c.args.place) c.args.len) (sym same) c.requires.words in
-    subst (MayRename s c.args.pointer) (sym c.pack.ensures) (may_go s c.args.pointer c.args.len c.args.ds c.args.place near evac (far_layout s c.self.invariant.notes.law c.args.pointer c.args.len c.args.ds c.args.place near evac alive pointer) pointer words)
+    subst (MayRename s c.args.pointer) (sym c.far_word.ensures) (may_go s c.args.pointer c.args.len c.args.ds c.args.place near evac (far_layout s c.self.invariant.notes.law c.args.pointer c.args.len c.args.ds c.args.place near evac alive pointer) pointer words)
 
 pub invariant_of-self : goal.invariant_of-self
 invariant_of-self g c =
@@ -92,7 +92,7 @@ invariant_of-self-2 g c =
     let alive = alive_here s c.args.pointer c.args.len c.args.ds c.args.place near c.args.found found c.requires.alive in
     let words : IsStored (data_at s.word c.args.place) c.args.len = subst (λ (t : State). IsStored (data_at t.word c.args.place) c.args.len) (sym same) c.requires.words in
     let t = g.N.Near.view c.rename.new.near in
-    let renamed : Renamed s t c.args.pointer (far_word c.args.len c.args.ds) = subst (Renamed s t c.args.pointer) c.pack.ensures c.in_default.ensures.done in
+    let renamed : Renamed s t c.args.pointer (far_word c.args.len c.args.ds) = subst (Renamed s t c.args.pointer) c.far_word.ensures c.in_default.ensures.done in
     let here = subst (λ (b : BookOf g.row.N.Denot g.row.D.Denot). g.D.Device.contents b.device c.args.pointer ≡ Some (bytes_of (data_at (g.N.Near.view b.near).word c.args.place) c.args.len)) (sym c.self.view_is) c.requires.held in
     far_order s c.self.invariant.notes.law c.args.pointer c.args.len c.args.ds c.args.place near evac alive pointer t c.self.inside.ledger c.lose.new.self (g.D.Device.contents c.self.inside.device) (g.D.Device.honest c.self.inside.device)
     c.self.invariant words here renamed (subst (Loses c.self.inside.ledger c.lose.new.self c.args.place.log) c.size_of.ensures c.lose.ensures)
@@ -107,7 +107,7 @@ returns-clause-far g c =
     let evac = evac_here s c.args.pointer c.args.len c.args.ds c.args.place near c.args.found found c.requires.evac in
     let alive = alive_here s c.args.pointer c.args.len c.args.ds c.args.place near c.args.found found c.requires.alive in
     let t = g.N.Near.view c.rename.new.near in
-    let renamed : Renamed s t c.args.pointer (far_word c.args.len c.args.ds) = subst (Renamed s t c.args.pointer) c.pack.ensures c.in_default.ensures.done in
+    let renamed : Renamed s t c.args.pointer (far_word c.args.len c.args.ds) = subst (Renamed s t c.args.pointer) c.far_word.ensures c.in_default.ensures.done in
     let layout = far_layout s c.self.invariant.notes.law c.args.pointer c.args.len c.args.ds c.args.place near evac alive pointer in
     let is = renamed_far s c.args.pointer c.args.len c.args.ds c.args.place near evac layout t renamed in
     let named = evicted_is s c.args.pointer c.args.len c.args.ds c.args.place layout near.marks near.near alive evac in

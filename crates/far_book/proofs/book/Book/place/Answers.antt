@@ -6,6 +6,7 @@ use Rattle.far_word.specs.Sizes.{size_of}
 use Rattle.far_core.specs.state.Room.{room}
 use Rattle.far_core.specs.state.State.{State}
 use Rattle.far_book.specs.book.BookOf.{BookOf}
+use Rattle.far_book.specs.book.Effects.{placed}
 use Rattle.far_book.specs.book.Ledger.{Notes, MayTake, Takes}
 use Rattle.far_book.specs.book.Own.{own_part}
 use Rattle.far_book.proofs.region.Calls.{placeable, ends, free_unplaced, may_take}
@@ -83,3 +84,16 @@ returns-clause-room g c =
     let free : s.cell c.args.pointer ≡ 0 = ap (λ (t : State). t.cell c.args.pointer) same ∙ c.requires.free in
     let found : room s (size_of c.args.len) true ≡ Some c.in-Some.place = ap (λ n. room s n true) (sym c.size_of-size.ensures) ∙ sym (c.room.ensures (own_part s) c.self.invariant.notes) ∙ c.in-Some.is in
     ap (λ (t : State). room t (size_of c.args.len) true) (sym same) ∙ found
+
+pub returns-clause-ran : goal.returns-clause-ran
+returns-clause-ran g c still =
+    let same = ap (λ (b : BookOf g.row.N.Denot g.row.D.Denot). g.N.Near.view b.near) c.self.view_is in
+    record {
+      pointer = c.requires.pointer;
+      free = c.requires.free;
+      some = c.requires.some;
+      most = c.requires.most;
+      structure = c.ranges.ds.fits;
+      found = returns-clause-room g c;
+      after = c.name_blank.ensures.exact still ∙ ap (λ (t : State). placed t c.args.pointer c.args.len c.args.ds c.in-Some.place) same;
+    }

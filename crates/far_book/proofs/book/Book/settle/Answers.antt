@@ -3,9 +3,8 @@ use Rattle.std.proofs.Common.{◌≡◌, ◌∙◌, ap, sym, subst, Some, None}
 use Rattle.std.specs.Prelude.{IfErr}
 use Rattle.far_core.specs.state.State.{State}
 use Rattle.far_book.specs.book.Dealing as dealing
-use Rattle.far_book.specs.book.Dealing.{Leaves}
+use Rattle.far_book.specs.book.Dealing.{FindsDrop, Leaves}
 use Rattle.far_book.specs.book.Effects.{moved, stayed}
-use Rattle.far_book.specs.book.Moving.{FindsDrop}
 use Rattle.far_book.proofs.region.Settled.{both_of, drop_by, goal_seen, leaves_by, moved_seen, none_of, some_of, stayed_seen}
 
 pub returns-then-has_evac-clause-place : goal.returns-then-has_evac-clause-place

@@ -16,10 +16,10 @@ rename-requires-clause-may g c =
     let row = packed_word c.args.bytes.now in
     let absent = subst (λ v. IsAbsent (read_of v) c.args.len c.args.ds) c.requires.found c.requires.absent in
     let last : words_for c.args.len - 1 < words_for c.args.len = omega (arith, c.requires.head.some) in
-    let pack : c.pack.result ≡ near_word c.args.len c.args.ds c.args.place = c.pack.ensures in
+    let pack : c.near_word.result ≡ near_word c.args.len c.args.ds c.args.place = c.near_word.ensures in
     let may = may_come s c.args.pointer c.args.len c.args.ds c.args.place row c.requires.pointer absent c.requires.head.some c.requires.layout c.requires.next
     (packed_padded c.args.bytes.now c.args.len (words_for c.args.len - 1) (λ k. (c.type_inv.bytes k).fits) c.requires.long last) c.requires.stored in
-    subst (λ (t : State). MayRename t c.args.pointer c.pack.result) (sym c.put_object.ensures)
+    subst (λ (t : State). MayRename t c.args.pointer c.near_word.result) (sym c.put_object.ensures)
     (subst (λ (x : ℕ). MayRename (with_written_span s c.args.pointer c.args.len c.args.ds c.args.place row) c.args.pointer x) (sym pack) may)
 
 pub returns-clause-padded : goal.returns-clause-padded

@@ -1,0 +1,144 @@
+-- What is done to a heap, deed by deed: an owner's event, or a call of the book, with its outcome. And which word a load gives then.
+use Rattle.std.specs.Prelude.{◌≡◌, ℕ, ◌*◌, ◌<◌, ◌≤◌, ◌==◌, ◌&&◌, Bool, true, false, cond, Option, Some, None, List, [], ◌∷◌, ◌++◌, Result, Ok, Err}
+use Rattle.far_word.specs.declared.pointer.Place.{Place}
+use Rattle.far_word.specs.declared.refused.Refused.{Refused}
+use Rattle.far_word.specs.declared.sizes.TheConstants.{CELLS, LONGEST}
+use Rattle.far_word.specs.Pointer.{read_of}
+use Rattle.far_word.specs.Sizes.{size_of, words_for}
+use Rattle.far_core.specs.declared.event.Event.{Event}
+use Rattle.far_core.specs.declared.event.Event.TheVariants.{Load, Store, Mark}
+use Rattle.far_core.specs.declared.event.Reply.{Reply}
+use Rattle.far_core.specs.declared.event.Reply.TheVariants.{Done, Word}
+use Rattle.far_core.specs.events.Copies.{Alike}
+use Rattle.far_core.specs.events.Legal.{Legal}
+use Rattle.far_core.specs.events.Naming.{is_dropped}
+use Rattle.far_core.specs.events.Step.{Fits, after, answer}
+use Rattle.far_core.specs.state.Law.{IsStored, Law}
+use Rattle.far_core.specs.state.Room.{room}
+use Rattle.far_core.specs.state.State.{State}
+use Rattle.far_core.specs.world.Runs.{Passes}
+use Rattle.far_book.specs.Owners.{is_owners}
+use Rattle.far_book.specs.book.Dealing.{IsQuietNear, goal, has_evac, moved_now}
+use Rattle.far_book.specs.book.Effects.{evicted, fetched, marked, placed, retired}
+use Rattle.far_book.specs.book.Fetching.{IsFar, far_len, room_for}
+use Rattle.far_book.specs.book.Own.{IsAtStart}
+
+-- an owner's event with its reply; the book's calls, by pointers, each with what it answered. `Looks` is any that changes nothing
+pub data Deed : Type 0 where
+  Owns : Event → Reply → Deed
+  Places : ℕ → ℕ → ℕ → Result Place Refused → Deed
+  Retires : ℕ → Deed
+  Looks : Deed
+  Marks : ℕ → Deed
+  Moves : ℕ → Result (Option Place) Refused → Deed
+  Evicts : ℕ → Result Bool Refused → Deed
+  Fetches : ℕ → Result (Option Place) Refused → Deed
+
+-- ---- the words that were stored, by the list of deeds alone
+-- word i of pointer p, once an owner's event was answered: a store that was made puts its word
+abbrev pub stored_by : (ℕ → ℕ → ℕ) → Event → Reply → ℕ → ℕ → ℕ
+stored_by f (Store m p i w) Done = λ q k. cond (q == p && k == i) w (f q k)
+stored_by f e r = f
+
+-- a new object's words are 0
+abbrev pub zeroed_by : (ℕ → ℕ → ℕ) → ℕ → Result Place Refused → ℕ → ℕ → ℕ
+zeroed_by f p (Ok place) = λ q k. cond (q == p) 0 (f q k)
+zeroed_by f p (Err why) = f
+
+-- no other deed puts a word
+abbrev pub words_then : (ℕ → ℕ → ℕ) → Deed → ℕ → ℕ → ℕ
+words_then f (Owns e r) = stored_by f e r
+words_then f (Places p len ds r) = zeroed_by f p r
+words_then f (Retires p) = f
+words_then f Looks = f
+words_then f (Marks p) = f
+words_then f (Moves p r) = f
+words_then f (Evicts p r) = f
+words_then f (Fetches p r) = f
+
+abbrev pub words_after : (ℕ → ℕ → ℕ) → List Deed → ℕ → ℕ → ℕ
+words_after f [] = f
+words_after f (d ∷ ds) = words_after (words_then f d) ds
+
+-- word i of pointer p that was stored last since p was placed, and 0 where there is none
+abbrev pub last_stored : List Deed → ℕ → ℕ → ℕ
+last_stored ds = words_after (λ _ _. 0) ds
+
+-- ---- what the deeds are, from a state to the next, where nobody else steps the core
+-- a new object is placed where room is
+pub record DoesPlace (s : State) (p len ds : ℕ) (place : Place) (t : State) : Type 0 where
+  pub pointer : p < CELLS * s.mutators
+  pub free : s.cell p ≡ 0
+  pub some : 0 < len
+  pub most : len ≤ LONGEST
+  pub structure : ds < 256
+  pub found : room s (size_of len) true ≡ Some place
+  pub after : t ≡ placed s p len ds place
+
+-- a dropped object is retired
+pub record DoesRetire (s : State) (p : ℕ) (t : State) : Type 0 where
+  pub pointer : p < CELLS * s.mutators
+  pub dropped : is_dropped (read_of (s.cell p)) ≡ true
+  pub after : t ≡ retired s p
+
+-- a sealed log's object gets EVAC
+pub record DoesMark (s : State) (p : ℕ) (t : State) : Type 0 where
+  pub legal : Legal s (Mark p)
+  pub after : t ≡ marked s p
+
+-- a quiet near object moves, or stays
+pub record DoesMove (s : State) (p : ℕ) (place : Place) (t : State) : Type 0 where
+  pub quiet : IsQuietNear s p
+  pub alive : is_dropped (read_of (s.cell p)) ≡ false
+  pub found : goal s p ≡ Some place
+  pub after : t ≡ moved_now s p place
+
+-- one with EVAC goes far
+pub record DoesEvict (s : State) (p : ℕ) (t : State) : Type 0 where
+  pub pointer : p < CELLS * s.mutators
+  pub quiet : IsQuietNear s p
+  pub evac : has_evac (read_of (s.cell p)) ≡ true
+  pub alive : is_dropped (read_of (s.cell p)) ≡ false
+  pub after : t ≡ evicted s p
+
+-- a far object comes near with words of its length: those that were stored, where the far side is honest
+pub record DoesFetch (s : State) (p : ℕ) (place : Place) (t : State) : Type 0 where
+  pub far : IsFar s p
+  pub alive : is_dropped (read_of (s.cell p)) ≡ false
+  pub found : room_for s p ≡ Some place
+  pub row : ℕ → ℕ
+  pub padded : IsStored row (far_len (read_of (s.cell p)))
+  pub stored : s.honest ≡ true → Alike row (s.stored p) (words_for (far_len (read_of (s.cell p))))
+  pub after : t ≡ fetched s p place row
+
+-- a refused call, and one that only looks, change nothing
+abbrev pub Does : State → Deed → State → Type 0
+Does s (Owns e r) t = (is_owners e ≡ true) × Passes s e r t
+Does s (Places p len ds (Ok place)) t = DoesPlace s p len ds place t
+Does s (Places p len ds (Err why)) t = t ≡ s
+Does s (Retires p) t = DoesRetire s p t
+Does s Looks t = t ≡ s
+Does s (Marks p) t = DoesMark s p t
+Does s (Moves p (Ok (Some place))) t = DoesMove s p place t
+Does s (Moves p (Ok None)) t = DoesRetire s p t
+Does s (Moves p (Err why)) t = t ≡ s
+Does s (Evicts p (Ok true)) t = DoesEvict s p t
+Does s (Evicts p (Ok false)) t = DoesRetire s p t
+Does s (Evicts p (Err why)) t = t ≡ s
+Does s (Fetches p (Ok (Some place))) t = DoesFetch s p place t
+Does s (Fetches p (Ok None)) t = DoesRetire s p t
+Does s (Fetches p (Err why)) t = t ≡ s
+
+-- deed follows deed, from s to t
+abbrev pub Follows : State → List Deed → State → Type 0
+Follows s [] t = t ≡ s
+Follows s (d ∷ ds) t = (u : State) × Does s d u × Follows u ds t
+
+-- in any run from the start, with an honest far side, a load gives the word that was stored last
+abbrev pub LoadsGiveStored : Type 0
+LoadsGiveStored = (s t : State) (before then : List Deed) (m p i w : ℕ) → Law s → IsAtStart s → s.honest ≡ true →
+    Follows s (before ++ Owns (Load m p i) (Word w) ∷ then) t → w ≡ last_stored before p i
+
+-- a legal event of an owner, with its answer, is a deed
+abbrev pub EventsAreDeeds : Type 0
+EventsAreDeeds = (s : State) (e : Event) → Law s → Fits e → is_owners e ≡ true → Legal s e → Does s (Owns e (answer s e)) (after s e)
