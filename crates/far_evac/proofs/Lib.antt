@@ -7,6 +7,7 @@ pub mod LiveLists
 pub mod LiveOnce
 pub mod Orders
 pub mod Polls
+pub mod Rounds
 pub mod Subjects
 pub mod Tallies
 pub mod Tours

@@ -1,17 +1,27 @@
 -- What the definitions of a round come to, in other words.
-use Rattle.std.specs.Prelude.{◌≡◌, ℕ, ◌+◌, ◌≤◌, true, Some, length, take, drop}
-use Rattle.far_evac.specs.AnyHand.{WalksTo, Walks}
+use Rattle.std.specs.Prelude.{◌≡◌, ℕ, ◌+◌, ◌≤◌, true, Some, List, ◌∷◌, length, take, drop}
+use Rattle.far_evac.specs.AnyHand.{Polls, RunsRound, WalksTo, Walks}
+use Rattle.far_evac.specs.Choosing.{after_selecting}
 use Rattle.far_evac.specs.Dealings.{DealsWith, GivesBack}
 use Rattle.far_evac.specs.Live.{live_among}
 use Rattle.far_evac.specs.Moment.{Moment, Tally, objects_in, plus}
 use Rattle.far_evac.specs.Ready.{Ready}
 use Rattle.far_evac.specs.Stops.{toured}
-use Rattle.far_evac.specs.Waiting.{after_polling, first_open}
+use Rattle.far_evac.specs.Turns.{round_end, turns_made}
+use Rattle.far_evac.specs.Waiting.{after_polling, first_open, polled}
 use Rattle.far_evac.specs.Walk.{Walked, is_done, left, walked}
 
 -- what a walk does where no word changes but by it, it may do over any hand
 abbrev pub ExactIsAllowed : Type 0
 ExactIsAllowed = (m : Moment) (n : ℕ) → (k : ℕ) × Walks m n k (walked m n)
+
+-- and so it is with a poll, and with a whole round
+abbrev pub PollIsAllowed : Type 0
+PollIsAllowed = (m : Moment) → Polls m (after_polling m) (polled m.core)
+
+abbrev pub RoundIsAllowed : Type 0
+RoundIsAllowed = (m : Moment) (l : ℕ) (ls : List ℕ) (turns : ℕ) →
+    let r = turns_made (after_selecting m (l ∷ ls)) turns in RunsRound m (l ∷ ls) turns (round_end r) r.moment
 
 -- it is a tour of stops that were listed before it began
 abbrev pub WalkIsTour : Type 0

@@ -1,10 +1,21 @@
 //! What the definitions of a round come to, as contracts of functions that do nothing.
 
-ghost use Rattle.far_evac.specs.Laws.{DealingIsInOrder, ExactIsAllowed, PollIsOnce, WalkIsTour, WalksJoin};
+ghost use Rattle.far_evac.specs.Laws.{DealingIsInOrder, ExactIsAllowed, PollIsAllowed, PollIsOnce, RoundIsAllowed, WalkIsTour, WalksJoin};
 
 /// The exact walk, over words that nobody else changes, is one of those that are allowed over any hand.
 pub fn exact_is_allowed()
     ensures { ExactIsAllowed }
+{}
+
+/// So is the exact poll.
+pub fn poll_is_allowed()
+    ensures { PollIsAllowed }
+{}
+
+/// So is a whole round: its turns are a list of such turns, their tallies add up to what it answers, and it ends as that list
+/// says.
+pub fn round_is_allowed()
+    ensures { RoundIsAllowed }
 {}
 
 /// A walk over n objects does what stands before the (n + 1)th object in a list of the live objects and the ends of the chosen
