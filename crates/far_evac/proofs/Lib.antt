@@ -1,4 +1,5 @@
 pub mod Bools
+pub mod Census
 pub mod Dealt
 pub mod Given
 pub mod InOrder

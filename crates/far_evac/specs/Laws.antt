@@ -1,5 +1,12 @@
 -- What the definitions of a round come to, in other words.
-use Rattle.std.specs.Prelude.{◌≡◌, ℕ, ◌+◌, ◌≤◌, true, Some, List, ◌∷◌, length, take, drop}
+use Rattle.std.specs.Prelude.{◌≡◌, ℕ, ◌+◌, ◌*◌, ◌<◌, ◌≤◌, ◌↔◌, true, false, Some, List, ◌∷◌, length, take, drop, Contains}
+use Rattle.far_word.specs.declared.sizes.TheConstants.{CELLS}
+use Rattle.far_word.specs.Pointer.{read_of}
+use Rattle.far_core.specs.events.Naming.{is_dropped}
+use Rattle.far_core.specs.state.State.{State}
+use Rattle.far_book.specs.declared.home.Home.{Home}
+use Rattle.far_book.specs.book.Home.{home_of}
+use Rattle.far_evac.specs.Census.{homes_of}
 use Rattle.far_evac.specs.AnyHand.{Polls, RunsRound, WalksTo, Walks}
 use Rattle.far_evac.specs.Choosing.{after_selecting}
 use Rattle.far_evac.specs.Dealings.{DealsWith, GivesBack}
@@ -49,6 +56,11 @@ pub record DealtInOrder (m : Moment) (k : ℕ) (t : Walked) : Type 0 where
 -- over any hand the k-th dealing is with the k-th live object
 abbrev pub DealingIsInOrder : Type 0
 DealingIsInOrder = (m : Moment) (k : ℕ) (t : Walked) → Ready m.core m.held → WalksTo m k t → DealtInOrder m k t
+
+-- a census has exactly the home of each pointer whose cell is used and isn't dropped
+abbrev pub CensusIsExact : Type 0
+CensusIsExact = (s : State) (p : ℕ) (home : Home) → Contains (homes_of s) record { pointer = p; home = home } ↔
+    ((p < CELLS * s.mutators) × (home_of (read_of (s.cell p)) ≡ Some home) × (is_dropped (read_of (s.cell p)) ≡ false))
 
 -- a poll that found an owner open finds it again, and leaves what one poll left
 abbrev pub PollIsOnce : Type 0

@@ -1,6 +1,6 @@
 //! What the definitions of a round come to, as contracts of functions that do nothing.
 
-ghost use Rattle.far_evac.specs.Laws.{DealingIsInOrder, ExactIsAllowed, PollIsAllowed, PollIsOnce, RoundIsAllowed, WalkIsTour, WalksJoin};
+ghost use Rattle.far_evac.specs.Laws.{CensusIsExact, DealingIsInOrder, ExactIsAllowed, PollIsAllowed, PollIsOnce, RoundIsAllowed, WalkIsTour, WalksJoin};
 
 /// The exact walk, over words that nobody else changes, is one of those that are allowed over any hand.
 pub fn exact_is_allowed()
@@ -34,6 +34,11 @@ pub fn walks_join()
 /// order, each is counted once, and after the last one each log was given back.
 pub fn dealing_is_in_order()
     ensures { DealingIsInOrder }
+{}
+
+/// A census lists each pointer whose cell is used and not dropped, with its home, and no other.
+pub fn census_is_exact()
+    ensures { CensusIsExact }
 {}
 
 /// As long as nobody closes or opens a scope, a second poll finds the same owner open, and changes nothing.
