@@ -1,5 +1,5 @@
 -- Two walks, one after the other, are one walk.
-use Rattle.std.proofs.Common.{◌≡◌, ℕ, zero, suc, ◌+◌, Bool, true, false, cond, List, [], ◌∷◌, arith, ap, sym, refl, ◌∙◌}
+use Rattle.std.proofs.Common.{◌≡◌, ℕ, zero, suc, ◌+◌, cond, List, [], ◌∷◌, arith, ap, sym, refl, ◌∙◌}
 use Rattle.std.proofs.lemmas.Bool.{cond_both}
 use Rattle.far_word.specs.Pointer.{read_of}
 use Rattle.far_core.specs.state.State.{State}

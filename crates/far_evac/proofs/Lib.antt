@@ -1,7 +1,8 @@
 pub mod Bools
-pub mod Census
+pub mod Censuses
 pub mod Dealt
 pub mod Given
+pub mod Hands
 pub mod InOrder
 pub mod Joined
 pub mod LiveLists

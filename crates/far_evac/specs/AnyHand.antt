@@ -1,6 +1,6 @@
 -- What each call of the evacuator leaves over any hand. The core of a moment is what the book knows then: where each object lies, EVAC, spans and
 -- logs exactly; of HOT, MOVE and DROP those that were found; of scopes who was seen clear; of data words what was read.
-use Rattle.std.specs.Prelude.{◌≡◌, ℕ, ◌+◌, ◌<◌, ◌≤◌, zero, suc, Bool, true, false, Option, Some, None, List, [], ◌∷◌, length}
+use Rattle.std.specs.Prelude.{◌≡◌, ℕ, ◌<◌, ◌≤◌, zero, suc, Bool, true, false, Option, Some, List, [], ◌∷◌, length}
 use Rattle.far_word.specs.declared.mark.Marks.{Marks}
 use Rattle.far_word.specs.declared.pointer.PtrWord.TheVariants.{Far}
 use Rattle.far_word.specs.Pointer.{read_of}
@@ -9,7 +9,6 @@ use Rattle.far_core.specs.state.Spans.{spans_of}
 use Rattle.far_core.specs.state.State.{State}
 use Rattle.far_book.specs.Finds.{Finds}
 use Rattle.far_book.specs.Known.{IsKnown}
-use Rattle.far_evac.specs.declared.answers.EvacFault.{EvacFault}
 use Rattle.far_evac.specs.declared.answers.Polled.{Polled}
 use Rattle.far_evac.specs.declared.answers.Polled.TheVariants.{Clear, StillOpen}
 use Rattle.far_evac.specs.declared.answers.Progress.{Progress}

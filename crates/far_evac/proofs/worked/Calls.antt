@@ -13,7 +13,7 @@ use Rattle.far_core.specs.state.Opening.{opening}
 use Rattle.far_core.specs.state.Room.{room}
 use Rattle.far_core.specs.state.State.{State}
 use Rattle.far_book.specs.book.Dealing.{goal, moved_now, order_moved}
-use Rattle.far_book.specs.book.Effects.{placed, fetched, retired, order_after}
+use Rattle.far_book.specs.book.Effects.{placed, fetched, retired}
 use Rattle.far_book.specs.book.Fetching.{room_for}
 use Rattle.far_book.specs.book.Home.{home_of}
 use Rattle.far_book.specs.book.Rows.{row_of}
@@ -26,7 +26,7 @@ use Rattle.far_evac.specs.declared.census.Housed.{Housed}
 use Rattle.far_evac.specs.declared.census.LogState.{LogState}
 use Rattle.far_evac.specs.declared.phase.Phase.{Phase}
 use Rattle.far_evac.specs.declared.phase.Phase.TheVariants.{Idle, Marking, Waiting, Evacuating}
-use Rattle.far_evac.specs.Census.{homes_of, kind_in, logs_of}
+use Rattle.far_evac.specs.Census.{homes_of, kind_in}
 use Rattle.far_evac.specs.Choosing.{after_selecting, after_aborting, is_spent}
 use Rattle.far_evac.specs.Marking.{newly_marked, after_marking, waiting_for}
 use Rattle.far_evac.specs.Moment.{Moment, progress_of, with_placed}

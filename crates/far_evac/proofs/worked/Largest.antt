@@ -1,11 +1,10 @@
 -- A round over all logs of the largest heap.
-use Rattle.std.specs.Prelude.{◌≡◌, ℕ, Bool, true, false, Some, None, List, [], ◌∷◌, ◌++◌, map, refl}
+use Rattle.std.specs.Prelude.{◌≡◌, true, List, [], ◌∷◌, map, refl}
 use Rattle.std.specs.List.{range_with_len}
 use Rattle.far_word.specs.Header.{head_of}
 use Rattle.far_word.specs.Pointer.{read_of}
 use Rattle.far_log.specs.Spans.{spans_in}
 use Rattle.far_core.specs.state.Spans.{spans_of}
-use Rattle.far_evac.specs.declared.answers.Progress.{Progress}
 use Rattle.far_evac.specs.declared.answers.RoundEnd.TheVariants.{Done}
 use Rattle.far_evac.specs.Live.{live_in}
 use Rattle.far_evac.specs.Turns.{turn_size}

@@ -1,12 +1,11 @@
 -- The definitions of a round, computed on worked examples.
-use Rattle.std.specs.Prelude.{◌≡◌, ℕ, ◌^◌, Bool, true, false, Some, None, List, [], ◌∷◌, refl}
+use Rattle.std.specs.Prelude.{◌≡◌, ℕ, true, false, Some, None, [], ◌∷◌, refl}
 use Rattle.far_word.specs.declared.mark.Mark.TheVariants.{Moved, Dropped}
 use Rattle.far_word.specs.declared.mark.Marks.{Marks}
 use Rattle.far_word.specs.declared.pointer.Place.{Place}
 use Rattle.far_word.specs.declared.refused.Refused.TheVariants.{NoRoom, Phase as WrongPhase, EpochsSpent}
 use Rattle.far_word.specs.Header.{head_of}
 use Rattle.far_word.specs.Pointer.{read_of}
-use Rattle.far_word.specs.Scope.{scope_of}
 use Rattle.far_log.specs.Spans.{spans_in}
 use Rattle.far_core.specs.declared.event.Event.TheVariants.{ReadEpoch, Open as Opens, Pin, Load, Store, Close, Ask}
 use Rattle.far_core.specs.declared.event.Reply.TheVariants.{Done as did, Epoch, Word, Held}
@@ -20,7 +19,7 @@ use Rattle.far_evac.specs.declared.census.LogKind.{LogKind}
 use Rattle.far_evac.specs.declared.census.LogKind.TheVariants.{Free, Open, Sealed, Chosen}
 use Rattle.far_evac.specs.declared.census.Housed.{Housed}
 use Rattle.far_evac.specs.declared.census.LogState.{LogState}
-use Rattle.far_evac.specs.declared.phase.Phase.TheVariants.{Idle, Marking, Waiting, Evacuating}
+use Rattle.far_evac.specs.declared.phase.Phase.TheVariants.{Marking, Waiting, Evacuating}
 use Rattle.far_evac.specs.Live.{live_in}
 use Rattle.far_evac.specs.Turns.{turn_size}
 use Rattle.far_evac.proofs.worked.Calls.{Own, News, MovesNow, Fetches, Retires, Locates, Selects, Marks as Mark, Waits, Evacuates, Aborts, Rounds, Log, Audits, Replies, Ok, At, Lies, Selected, Marked, Polls, Evacuated, Ends, LogIs, Homes, Refused, start, answers}

@@ -1,8 +1,8 @@
 -- A census has exactly the objects that aren't dropped.
-use Rattle.std.proofs.Common.{◌≡◌, ℕ, zero, suc, ◌+◌, ◌*◌, ◌<◌, ◌≤◌, ◌↔◌, Bool, true, false, cond, Option, Some, None, List, [], ◌∷◌, ◌++◌, inl, inr, arith, ap, sym, refl, ◌∙◌, subst}
-use Rattle.std.specs.Prelude.{Contains, ◌⊎◌}
+use Rattle.std.proofs.Common.{◌≡◌, ℕ, zero, suc, ◌+◌, ◌*◌, ◌<◌, ◌≤◌, ◌↔◌, false, cond, Option, Some, None, List, [], ◌∷◌, inl, inr, arith, ap, sym, refl, ◌∙◌, subst}
+use Rattle.std.specs.Prelude.{Contains}
 use Rattle.std.specs.List.{flat_map, range_with_len}
-use Rattle.std.proofs.lemmas.Bool.{cases_lt, cond_both, true≢false}
+use Rattle.std.proofs.lemmas.Bool.{cases_lt, cond_both}
 use Rattle.std.proofs.lemmas.List.Elements.{Contains-append_cases, Contains-append_left, Contains-append_right}
 use Rattle.far_word.specs.declared.pointer.PtrWord.{PtrWord}
 use Rattle.far_word.specs.declared.sizes.TheConstants.{CELLS}
@@ -22,7 +22,7 @@ none_in x (k, lt, e) = omega (arith, lt)
 
 one_in : {X : Type 0} (x y : X) → Contains (x ∷ []) y → x ≡ y
 one_in x y (zero, lt, e) = e
-one_in x y (suc k, lt, e) = omega (arith, lt)
+one_in x y (suc k, lt, e) = let odd : ⊥ = omega (arith, lt) in absurd odd
 
 -- ---- what one pointer gives
 at_home : (q p : ℕ) (home : Home) (o : Option Home) → Contains (housed_at q o) (entry p home) → (p ≡ q) × (o ≡ Some home)
@@ -50,7 +50,7 @@ module _ (s : State) (p : ℕ) (home : Home) where
   IsHome = (home_of (read_of (s.cell p)) ≡ Some home) × (is_dropped (read_of (s.cell p)) ≡ false)
 
   there : (a n : ℕ) → a ≤ p → p < a + n → IsHome → Contains (flat_map given (range_with_len a n)) (entry p home)
-  there a zero from to h = omega (arith, from, to)
+  there a zero from to h = let odd : ⊥ = omega (arith, from, to) in absurd odd
   there a (suc n) from to h = elim (cases_lt a p) [
     | inl past ↦ Contains-append_right (given a) (flat_map given (range_with_len (a + 1) n)) (entry p home) (there (a + 1) n (omega (arith, past)) (omega (arith, to)) h)
     | inr le ↦
