@@ -1,27 +1,32 @@
 -- What a call of the book leaves is known of the state that its effect says.
-use Rattle.std.proofs.Common.{◌≡◌, ℕ, true, false, Some, ap, sym, refl, ◌∙◌, subst}
+use Rattle.std.proofs.Common.{◌≡◌, ℕ, ◌+◌, ◌<◌, true, false, cond, nat_lt, Some, inl, inr, arith, ap, sym, refl, ◌∙◌, subst}
+use Rattle.std.proofs.lemmas.Bool.{cases_eq}
+use Rattle.std.proofs.lemmas.Bool.Decides.{nat_tests}
 use Rattle.far_word.specs.declared.mark.Marks.{Marks}
 use Rattle.far_word.specs.declared.pointer.Place.{Place}
 use Rattle.far_word.specs.declared.pointer.PtrWord.TheVariants.{Near, Far}
 use Rattle.far_word.specs.Pointer.{IsPtr, read_of}
+use Rattle.far_word.specs.Sizes.{words_for}
 use Rattle.far_core.specs.events.Copies.{data_at}
 use Rattle.far_core.specs.events.Naming.{is_dropped, no_marks}
 use Rattle.far_core.specs.events.NewSpans.{with_span}
 use Rattle.far_core.specs.state.Law.{Law}
 use Rattle.far_core.specs.state.Spans.{spans_of}
-use Rattle.far_core.specs.state.State.{State}
-use Rattle.far_core.proofs.Put.{put_both, put_same}
+use Rattle.far_core.specs.state.State.{State, addr}
+use Rattle.far_core.specs.events.namings.Evicts.{with_kept}
+use Rattle.far_core.proofs.Put.{put_both, put_other, put_same}
 use Rattle.far_book.specs.Finds.{Finds, marks_in}
 use Rattle.far_book.specs.Known.{Forgets, IsKnown}
 use Rattle.far_book.specs.book.Dealing.{Leaves}
 use Rattle.far_book.specs.book.Effects.{evicted, far_word, moved, near_word, with_free_cell, with_written_span}
+use Rattle.far_book.specs.book.Evicting.{GoesFar}
 use Rattle.far_book.specs.book.Moving.{LeavesSpans}
 use Rattle.far_book.specs.book.Own.{own_part}
 use Rattle.far_book.specs.book.Renaming.{seen}
 use Rattle.far_book.proofs.Finding.{finds_is, finds_more, finds_same, near_found}
 use Rattle.far_book.proofs.region.Calls.{put_put}
 use Rattle.far_book.proofs.region.Coming.{far_found}
-use Rattle.far_book.proofs.region.Evictions.{evicted_is, sent}
+use Rattle.far_book.proofs.region.Evictions.{evicted_is, far_says, sent}
 use Rattle.far_book.proofs.region.Moved.{moved_is}
 use Rattle.far_book.proofs.region.Owns.{own_headers, own_spans}
 use Rattle.far_evac.specs.AnyHand.{Knows}
@@ -109,3 +114,46 @@ module _ (s : State) (p word len ds : ℕ) (from : Place) (marks : Marks) (near 
       evicted_is (seen s p word) p len ds from layout found.0 found.1 found.2 found.3
       ∙ (λ i. record (sent s p len ds from) { cell = put_put s.cell p word (far_word len ds) i })
       ∙ sym (evicted_is s p len ds from layout marks near alive_before evac)
+
+-- ---- an object that went far
+module _ (s t : State) (p len ds : ℕ) (from : Place) (marks : Marks) (near : read_of (s.cell p) ≡ Some (Near len ds from marks)) (layout : IsPtr (Far len ds no_marks))
+    (is : evicted s p ≡ sent s p len ds from) (goes : GoesFar s t p) (law : Law (own_part t)) where
+  abbrev there : State
+  there = sent s p len ds from
+
+  leads : t ≡ record there { word = t.word; stored = t.stored }
+  leads = goes.leads ∙ ap (λ (u : State). record u { word = t.word; stored = t.stored }) is
+
+  far_spans : (l : ℕ) → spans_of t l ≡ spans_of there l
+  unfolding spans_of
+  far_spans = spans_known (record there { stored = t.stored }) t leads (λ a begun. goes.keeps.headers a (ap (λ (u : State). u.starts a) leads ∙ begun)) law
+
+  kept_here : (i : ℕ) → i < words_for len → there.stored p i ≡ s.word (addr from + 1 + i)
+  kept_here i lt =
+      let below : nat_lt i (words_for len) ≡ true = grind (arith, nat_tests, lt) in
+      ap (λ stored. stored i) (put_same s.stored p (with_kept s.word s.stored p (addr from + 1) (words_for len)) p refl)
+      ∙ ap (λ b. cond b (s.word (addr from + 1 + i)) (s.stored p i)) below
+
+  far_stored : (q n d i : ℕ) (k : Marks) → read_of (there.cell q) ≡ Some (Far n d k) → i < words_for n → IsKnown (there.stored q i) → t.stored q i ≡ there.stored q i
+  far_stored q n d i k far lt known = elim (cases_eq q p) [
+    | inl e ↦
+        let here : read_of (there.cell q) ≡ Some (Far len ds no_marks) = ap read_of (put_same s.cell p (far_word len ds) q e) ∙ far_says len ds layout in
+        let both : Some (Far len ds no_marks) ≡ Some (Far n d k) = sym here ∙ far in
+        let lens : len ≡ n = cc in
+        let within : i < words_for len = subst (λ x. i < words_for x) (sym lens) lt in
+        let word = kept_here i within in
+        let same : there.stored q i ≡ s.word (addr from + 1 + i) = ap (λ x. there.stored x i) e ∙ word in
+        ap (λ x. t.stored x i) e ∙ (goes.stored len ds from marks near i within).1 (subst IsKnown same known) ∙ sym same
+    | inr other ↦ ap (λ stored. stored i) (goes.others q other ∙ sym (put_other s.stored p (with_kept s.word s.stored p (addr from + 1) (words_for len)) q other))
+  ]
+
+  known_there : Knows there t
+  known_there = record {
+    found = λ q. finds_is (there.cell q) (t.cell q) (ap (λ (u : State). u.cell q) leads);
+    spans = far_spans;
+    stored = far_stored;
+    rest = leads ∙ (λ i. record there { cell = (ap (λ (u : State). u.cell) (sym leads)) i; word = t.word; stored = t.stored });
+  }
+
+  pub knows_far : Knows (evicted s p) t
+  knows_far = subst (λ u. Knows u t) (sym is) known_there
