@@ -7,6 +7,7 @@ pub mod InOrder
 pub mod Joined
 pub mod LiveLists
 pub mod LiveOnce
+pub mod Marks
 pub mod Orders
 pub mod Polls
 pub mod Rounds

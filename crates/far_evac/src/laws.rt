@@ -1,6 +1,6 @@
 //! What the definitions of a round come to, as contracts of functions that do nothing.
 
-ghost use Rattle.far_evac.specs.Laws.{CensusIsExact, DealingIsInOrder, ExactIsAllowed, PollIsAllowed, PollIsOnce, RoundIsAllowed, WalkIsTour, WalksJoin};
+ghost use Rattle.far_evac.specs.Laws.{CensusIsExact, DealingIsInOrder, ExactIsAllowed, GivingUpIsRight, MarkingIsRight, PollIsAllowed, PollIsOnce, RoundIsAllowed, WalkIsTour, WalksJoin};
 
 /// The exact walk, over words that nobody else changes, is one of those that are allowed over any hand.
 pub fn exact_is_allowed()
@@ -34,6 +34,17 @@ pub fn walks_join()
 /// order, each is counted once, and after the last one each log was given back.
 pub fn dealing_is_in_order()
     ensures { DealingIsInOrder }
+{}
+
+/// Marking sets EVAC in the first n live objects that lack it, or in all, and changes nothing else in any cell; where none is left, each
+/// live object of the chosen logs has it.
+pub fn marking_is_right()
+    ensures { MarkingIsRight }
+{}
+
+/// After a round is given up no live object of the logs that were held has EVAC, and nothing else in any cell has changed.
+pub fn giving_up_is_right()
+    ensures { GivingUpIsRight }
 {}
 
 /// A census lists each pointer whose cell is used and not dropped, with its home, and no other.
