@@ -1,5 +1,5 @@
 -- Which logs a walk gives back: those in front, which leave the round.
-use Rattle.std.proofs.Common.{◌≡◌, ℕ, zero, suc, ◌+◌, ◌≤◌, Bool, true, false, ◌==◌, Option, Some, None, List, [], ◌∷◌, ◌++◌, length, take, drop, arith, ap, sym, refl, ◌∙◌, subst}
+use Rattle.std.proofs.Common.{◌≡◌, ℕ, zero, suc, ◌+◌, ◌≤◌, false, ◌==◌, Option, Some, None, List, [], ◌∷◌, ◌++◌, length, take, drop, arith, ap, sym, refl, ◌∙◌, subst}
 use Rattle.std.specs.List.{AllByRecursion}
 use Rattle.std.proofs.lemmas.Bool.{cond_both}
 use Rattle.far_word.specs.declared.pointer.Place.{Place}
@@ -15,12 +15,12 @@ use Rattle.far_core.specs.events.Naming.{naming_of, naming_row}
 use Rattle.far_core.specs.events.Step.{after}
 use Rattle.far_core.specs.state.State.{State}
 use Rattle.far_core.proofs.Put.{put_both, put_same}
-use Rattle.far_book.specs.book.Effects.{evicted, evicted_of, far_word, moved, moved_of, near_word, with_written_span}
+use Rattle.far_book.specs.book.Effects.{evicted_of, far_word, moved_of, near_word, with_written_span}
 use Rattle.far_evac.specs.AnyHand.{FindsFirst, KnowsWalked, WalksTo, found_first}
 use Rattle.far_evac.specs.Dealings.{GivesBack}
 use Rattle.far_evac.specs.Live.{live_in, is_empty}
 use Rattle.far_evac.specs.Moment.{Moment}
-use Rattle.far_evac.specs.Ready.{IsHeld, Ready}
+use Rattle.far_evac.specs.Ready.{Ready}
 use Rattle.far_evac.specs.Walk.{Walked, Way, Drops, Moves, Goes, begun, dealt_so, freed, left, passed, settled, way_of}
 use Rattle.far_evac.proofs.LiveOnce.{each_map}
 use Rattle.far_evac.proofs.Orders.{walks_left}

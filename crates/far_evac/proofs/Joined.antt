@@ -1,5 +1,5 @@
 -- Two walks, one after the other, are one walk.
-use Rattle.std.proofs.Common.{◌≡◌, ℕ, zero, suc, ◌+◌, Bool, true, false, cond, List, [], ◌∷◌, arith, ap, sym, refl, ◌∙◌}
+use Rattle.std.proofs.Common.{◌≡◌, ℕ, zero, suc, ◌+◌, cond, List, [], ◌∷◌, arith, ap, sym, refl, ◌∙◌}
 use Rattle.std.proofs.lemmas.Bool.{cond_both}
 use Rattle.far_word.specs.Pointer.{read_of}
 use Rattle.far_core.specs.state.State.{State}
@@ -67,7 +67,7 @@ settled_front s order phase (l ∷ ls) tally begins = ap (λ b. cond b (passed (
 none_more : (n : ℕ) → n + 0 ≡ n
 none_more n = omega arith
 
-plus_nothing : (t : Tally) → plus t nothing ≡ t
+pub plus_nothing : (t : Tally) → plus t nothing ≡ t
 plus_nothing t =
     ap (λ n. tally_of n (t.far + 0) (t.dropped + 0) (t.freed + 0)) (none_more t.moved) ∙ ap (λ n. tally_of t.moved n (t.dropped + 0) (t.freed + 0)) (none_more t.far)
     ∙ ap (λ n. tally_of t.moved t.far n (t.freed + 0)) (none_more t.dropped) ∙ ap (λ n. tally_of t.moved t.far t.dropped n) (none_more t.freed)

@@ -1,12 +1,16 @@
 pub mod Bools
+pub mod Censuses
 pub mod Dealt
 pub mod Given
+pub mod Hands
 pub mod InOrder
 pub mod Joined
 pub mod LiveLists
 pub mod LiveOnce
+pub mod Marks
 pub mod Orders
 pub mod Polls
+pub mod Rounds
 pub mod Subjects
 pub mod Tallies
 pub mod Tours

@@ -1,26 +1,20 @@
 -- Over any hand too the k-th dealing is with the k-th live object.
-use Rattle.std.proofs.Common.{◌≡◌, ◌≢◌, ℕ, zero, suc, ◌+◌, ◌<◌, ◌≤◌, Bool, true, false, cond, Option, Some, None, List, [], ◌∷◌, ◌++◌, length, drop, arith, ap, sym, refl, ◌∙◌, subst}
+use Rattle.std.proofs.Common.{◌≡◌, ◌≢◌, ℕ, zero, suc, ◌<◌, ◌≤◌, true, List, [], ◌∷◌, ◌++◌, length, drop, arith, ap, sym, refl, ◌∙◌, subst}
 use Rattle.std.specs.List.{AllByRecursion}
 use Rattle.std.proofs.lemmas.Bool.{cond_both, true≢false, false≢true}
-use Rattle.far_word.specs.declared.mark.Marks.{Marks}
-use Rattle.far_word.specs.declared.pointer.Place.{Place}
-use Rattle.far_word.specs.declared.pointer.PtrWord.TheVariants.{Near}
 use Rattle.far_word.specs.declared.sizes.TheConstants.{LOG_WORDS, MOST_LOGS}
 use Rattle.far_word.specs.Pointer.{read_of}
-use Rattle.far_core.specs.declared.event.Kind.TheVariants as kinds
 use Rattle.far_core.specs.state.State.{State}
 use Rattle.far_book.specs.Finds.{Finds}
-use Rattle.far_book.specs.book.Effects.{order_after}
 use Rattle.far_book.proofs.Finding.{near_known}
 use Rattle.far_evac.specs.declared.phase.Phase.{Phase}
-use Rattle.far_evac.specs.AnyHand.{Knows, KnowsWalked, DealsFirst, FindsFirst, WalksTo, found_first}
+use Rattle.far_evac.specs.AnyHand.{Knows, KnowsWalked, FindsFirst, WalksTo, found_first}
 use Rattle.far_evac.specs.Dealings.{BeginsLive}
 use Rattle.far_evac.specs.Live.{live_in, live_among, is_empty}
 use Rattle.far_evac.specs.Moment.{Moment, Tally}
 use Rattle.far_evac.specs.RoundSteps.{released}
 use Rattle.far_evac.specs.Walk.{Walked, Way, Drops, Moves, Goes, begun, dealt_as, dealt_so, freed, left, passed, settled, way_of}
 use Rattle.far_evac.specs.Ready.{Ready, IsHeld, AllMarked}
-use Rattle.far_evac.proofs.Dealt.{Leaves}
 use Rattle.far_evac.proofs.LiveLists.{knows_live, live_released}
 use Rattle.far_evac.proofs.LiveOnce.{each_map}
 use Rattle.far_evac.proofs.Tours.{stand, core_so, leaves_found, left_next, others, ready_released}

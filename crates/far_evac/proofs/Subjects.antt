@@ -1,9 +1,8 @@
 -- What a walk does, in the subject's words: where each object is that was dealt with, and that all others lie where they lay.
-use Rattle.std.proofs.Common.{◌≡◌, ◌≢◌, ℕ, zero, suc, ◌+◌, ◌≤◌, Bool, true, false, cond, ◌==◌, Option, Some, None, List, [], ◌∷◌, ◌++◌, length, take, drop, arith, ap, sym, refl, ◌∙◌, subst}
-use Rattle.std.specs.Prelude.{count_by}
+use Rattle.std.proofs.Common.{◌≡◌, ◌≢◌, ℕ, zero, suc, ◌+◌, Bool, true, false, cond, ◌==◌, Option, Some, None, List, [], ◌∷◌, ◌++◌, take, arith, ap, sym, refl, ◌∙◌, subst}
+use Rattle.std.specs.Prelude.{count_by, fold}
 use Rattle.std.specs.List.{AllByRecursion}
 use Rattle.std.proofs.lemmas.Bool.{cond_both, true≢false, false≢true}
-use Rattle.far_word.specs.declared.mark.Marks.{Marks}
 use Rattle.far_word.specs.declared.pointer.Place.{Place}
 use Rattle.far_word.specs.declared.pointer.PtrWord.{PtrWord}
 use Rattle.far_word.specs.declared.pointer.PtrWord.TheVariants.{Free, Near, Far}
@@ -102,19 +101,22 @@ same_test : (test : Option PtrWord → Bool) → Bodily test → (a b : Option P
 same_test test bodily a b e = bodily a ∙ ap test e ∙ sym (bodily b)
 
 -- ---- counting
-assoc : (a b c : ℕ) → a + (b + c) ≡ a + b + c
-assoc a b c = omega arith
+abbrev one_if : (ℕ → Bool) → ℕ → ℕ → ℕ
+one_if f n x = n + cond (f x) 1 0
 
-plus_zero : (a : ℕ) → a + 0 ≡ 0 + a
-plus_zero a = omega arith
+fold_end : (f : ℕ → Bool) (n : ℕ) (xs : List ℕ) (x : ℕ) → fold (one_if f) n (xs ++ (x ∷ [])) ≡ fold (one_if f) n xs + cond (f x) 1 0
+fold_end f n [] x = refl
+fold_end f n (y ∷ ys) x = fold_end f (one_if f n y) ys x
 
 count_end : (f : ℕ → Bool) (xs : List ℕ) (x : ℕ) → count_by f (xs ++ (x ∷ [])) ≡ count_by f xs + cond (f x) 1 0
-count_end f [] x = plus_zero (cond (f x) 1 0)
-count_end f (y ∷ ys) x = ap (λ n. cond (f y) 1 0 + n) (count_end f ys x) ∙ assoc (cond (f y) 1 0) (count_by f ys) (cond (f x) 1 0)
+count_end f xs x = fold_end f 0 xs x
+
+fold_same : (f g : ℕ → Bool) (n : ℕ) (xs : List ℕ) → AllByRecursion (λ x. f x ≡ g x) xs → fold (one_if f) n xs ≡ fold (one_if g) n xs
+fold_same f g n [] h = refl
+fold_same f g n (x ∷ xs) h = ap (λ b. fold (one_if f) (n + cond b 1 0) xs) h.0 ∙ fold_same f g (one_if g n x) xs h.1
 
 count_same : (f g : ℕ → Bool) (xs : List ℕ) → AllByRecursion (λ x. f x ≡ g x) xs → count_by f xs ≡ count_by g xs
-count_same f g [] h = refl
-count_same f g (x ∷ xs) h = ap (λ b. cond b 1 0 + count_by f xs) h.0 ∙ ap (λ n. cond (g x) 1 0 + n) (count_same f g xs h.1)
+count_same f g xs h = fold_same f g 0 xs h
 
 -- ---- where the objects are that were dealt with, and all others
 abbrev IsOff : (ℕ → ℕ) → List ℕ → ℕ → Type 0
@@ -220,7 +222,7 @@ module _ (m : Moment) (objects : List ℕ) (s t : State) (l : ℕ) (ls : List �
   -- it is counted once more where it passes the test, and not where it doesn't
   pub count_yes : (f : Option PtrWord → Bool) (n : ℕ) → n ≡ count_by (λ q. f (read_of (s.cell q))) objects → f (read_of (t.cell p)) ≡ true →
       n + 1 ≡ count_by (λ q. f (read_of (t.cell q))) (objects ++ (p ∷ []))
-  count_yes f n is yes = ap (λ k. k + 1) (is ∙ sym (count_kept f)) ∙ sym (count_end (λ q. f (read_of (t.cell q))) objects p ∙ ap (λ b. count_by (λ q. f (read_of (t.cell q))) objects + cond b 1 0) yes)
+  count_yes f n is passes = ap (λ k. k + 1) (is ∙ sym (count_kept f)) ∙ sym (count_end (λ q. f (read_of (t.cell q))) objects p ∙ ap (λ b. count_by (λ q. f (read_of (t.cell q))) objects + cond b 1 0) passes)
 
   pub count_no : (f : Option PtrWord → Bool) (n : ℕ) → n ≡ count_by (λ q. f (read_of (s.cell q))) objects → f (read_of (t.cell p)) ≡ false →
       n ≡ count_by (λ q. f (read_of (t.cell q))) (objects ++ (p ∷ []))

@@ -1,20 +1,17 @@
 -- The walk is a tour of stops that were listed before it began.
-use Rattle.std.proofs.Common.{◌≡◌, ◌≢◌, ℕ, zero, suc, ◌+◌, ◌*◌, ◌<◌, ◌≤◌, Bool, true, false, cond, not, ◌==◌, eqb, Option, Some, None, List, [], ◌∷◌, ◌++◌, map, filter, arith, ap, sym, refl, ◌∙◌, subst}
+use Rattle.std.proofs.Common.{◌≡◌, ◌≢◌, ℕ, zero, suc, ◌+◌, ◌≤◌, Bool, true, false, cond, eqb, Option, Some, None, List, [], ◌∷◌, ◌++◌, map, arith, ap, sym, refl, ◌∙◌}
 use Rattle.std.specs.List.{AllByRecursion, IsDistinct}
 use Rattle.std.specs.Prelude.{fold}
-use Rattle.std.proofs.lemmas.Bool.{cond_both, eqb-false}
+use Rattle.std.proofs.lemmas.Bool.{eqb-false}
 use Rattle.std.proofs.lemmas.Map.Keys.{IsDistinct-head, IsDistinct-tail}
-use Rattle.far_word.specs.declared.mark.Marks.{Marks}
 use Rattle.far_word.specs.declared.pointer.Place.{Place}
 use Rattle.far_word.specs.declared.pointer.PtrWord.{PtrWord}
-use Rattle.far_word.specs.declared.pointer.PtrWord.TheVariants.{Near}
 use Rattle.far_word.specs.declared.sizes.TheConstants.{LOG_WORDS}
 use Rattle.far_word.specs.Pointer.{read_of}
 use Rattle.far_word.specs.Sizes.{size_of}
 use Rattle.far_core.specs.declared.event.Kind.TheVariants as kinds
 use Rattle.far_core.specs.state.Room.{room}
-use Rattle.far_core.specs.state.Spans.{names_place}
-use Rattle.far_core.specs.state.State.{State, put}
+use Rattle.far_core.specs.state.State.{State}
 use Rattle.far_core.proofs.Put.{put_both, put_other}
 use Rattle.far_book.specs.book.Effects.{order_after}
 use Rattle.far_book.specs.Finds.{Finds, marks_in}
@@ -32,7 +29,7 @@ use Rattle.far_evac.specs.Dealings.{is_away, is_nowhere}
 use Rattle.far_core.specs.events.Clear.{is_near}
 use Rattle.far_evac.proofs.Dealt.{Gone, Leaves, gone_dropped, gone_far, gone_moved, leaves_dropped, leaves_far, leaves_moved}
 use Rattle.far_evac.proofs.LiveLists.{live_released}
-use Rattle.far_evac.proofs.LiveOnce.{LivesIn, NearAt, but, but_first, but_none, first_named, near_at, not_there, once_live}
+use Rattle.far_evac.proofs.LiveOnce.{NearAt, but, but_first, but_none, first_named, near_at, not_there, once_live}
 
 -- a walk by its parts
 abbrev pub stand : State → List ℕ → Phase → List ℕ → Tally → Walked

@@ -1,7 +1,6 @@
 -- One object more of a walk; walks that are over; and that the walk where no word changes is one over any hand.
-use Rattle.std.proofs.Common.{◌≡◌, ℕ, zero, suc, ◌+◌, ◌-◌, ◌≤◌, Bool, true, false, List, [], ◌∷◌, ◌++◌, arith, ap, sym, refl, ◌∙◌, subst}
+use Rattle.std.proofs.Common.{◌≡◌, ℕ, zero, suc, ◌+◌, ◌-◌, ◌≤◌, true, false, List, [], ◌∷◌, ◌++◌, arith, ap, sym, refl, ◌∙◌, subst}
 use Rattle.std.proofs.lemmas.Bool.{cond_both, true≢false, false_from_ne_true}
-use Rattle.far_word.specs.Pointer.{read_of}
 use Rattle.far_core.specs.state.State.{State}
 use Rattle.far_book.proofs.Finding.{finds_same}
 use Rattle.far_evac.specs.AnyHand.{Knows, KnowsMoment, KnowsWalked, FindsFirst, DealsFirst, WalksTo, Walks, found_first}

@@ -1,6 +1,6 @@
 -- What each call of the evacuator leaves over any hand. The core of a moment is what the book knows then: where each object lies, EVAC, spans and
 -- logs exactly; of HOT, MOVE and DROP those that were found; of scopes who was seen clear; of data words what was read.
-use Rattle.std.specs.Prelude.{◌≡◌, ℕ, ◌+◌, ◌<◌, ◌≤◌, zero, suc, Bool, true, false, Option, Some, None, List, [], ◌∷◌, length}
+use Rattle.std.specs.Prelude.{◌≡◌, ℕ, ◌<◌, ◌≤◌, zero, suc, Bool, true, false, Option, Some, List, [], ◌∷◌, length}
 use Rattle.far_word.specs.declared.mark.Marks.{Marks}
 use Rattle.far_word.specs.declared.pointer.PtrWord.TheVariants.{Far}
 use Rattle.far_word.specs.Pointer.{read_of}
@@ -9,7 +9,6 @@ use Rattle.far_core.specs.state.Spans.{spans_of}
 use Rattle.far_core.specs.state.State.{State}
 use Rattle.far_book.specs.Finds.{Finds}
 use Rattle.far_book.specs.Known.{IsKnown}
-use Rattle.far_evac.specs.declared.answers.EvacFault.{EvacFault}
 use Rattle.far_evac.specs.declared.answers.Polled.{Polled}
 use Rattle.far_evac.specs.declared.answers.Polled.TheVariants.{Clear, StillOpen}
 use Rattle.far_evac.specs.declared.answers.Progress.{Progress}
@@ -22,7 +21,7 @@ use Rattle.far_evac.specs.declared.phase.Phase.TheVariants.{Idle, Marking, Waiti
 use Rattle.far_evac.specs.Census.{homes_of, logs_of}
 use Rattle.far_evac.specs.Choosing.{after_selecting, after_aborting}
 use Rattle.far_evac.specs.Marking.{newly_marked, after_marking, waiting_for}
-use Rattle.far_evac.specs.Moment.{Moment, Tally, nothing, plus}
+use Rattle.far_evac.specs.Moment.{Moment, Tally, nothing, plus, progress_of}
 use Rattle.far_evac.specs.RoundSteps.{with_clear_below}
 use Rattle.far_evac.specs.Turns.{turn_size}
 use Rattle.far_evac.specs.Walk.{Walked, begun, dealt_as, settled, left, is_done, ended}
@@ -94,10 +93,6 @@ pub record Walks (m : Moment) (n k : ℕ) (t : Walked) : Type 0 where
   pub walks : WalksTo m k t
   pub most : k ≤ n
   pub enough : is_done t ≡ false → k ≡ n
-
--- a tally as it is answered
-abbrev pub progress_of : Tally → Bool → Progress
-progress_of tally done = record { moved = tally.moved; far = tally.far; dropped = tally.dropped; freed = tally.freed; done = done }
 
 -- t is where a walk over n objects, or all, ends, and the tally is its own; done says whether each log was given back
 abbrev pub Evacuates : Moment → ℕ → Moment → Tally → Bool → Type 0

@@ -1,5 +1,5 @@
 -- What an audit lists: where each object is that isn't dropped, and what each log is and has.
-use Rattle.std.specs.Prelude.{ℕ, ◌*◌, Bool, true, false, cond, Option, Some, None, List, [], ◌∷◌, map}
+use Rattle.std.specs.Prelude.{ℕ, ◌*◌, Bool, cond, Option, Some, None, List, [], ◌∷◌, map}
 use Rattle.std.specs.List.{flat_map, range_with_len}
 use Rattle.far_word.specs.declared.pointer.PtrWord.{PtrWord}
 use Rattle.far_word.specs.declared.sizes.TheConstants.{CELLS}

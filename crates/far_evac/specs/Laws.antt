@@ -1,17 +1,38 @@
 -- What the definitions of a round come to, in other words.
-use Rattle.std.specs.Prelude.{◌≡◌, ℕ, ◌+◌, ◌≤◌, true, Some, length, take, drop}
-use Rattle.far_evac.specs.AnyHand.{WalksTo, Walks}
-use Rattle.far_evac.specs.Dealings.{DealsWith, GivesBack}
+use Rattle.std.specs.Prelude.{◌≡◌, ℕ, ◌+◌, ◌*◌, ◌<◌, ◌≤◌, ◌↔◌, true, false, Some, List, ◌∷◌, length, take, drop, Contains, ◌≢◌, ◌^◌, Option, option_map}
+use Rattle.std.specs.List.{AllByRecursion}
+use Rattle.far_word.specs.declared.sizes.TheConstants.{CELLS}
+use Rattle.far_word.specs.declared.pointer.PtrWord.{PtrWord}
+use Rattle.far_word.specs.Pointer.{read_of, without_evac}
+use Rattle.far_book.specs.book.Dealing.{has_evac}
+use Rattle.far_core.specs.events.Naming.{is_dropped}
+use Rattle.far_core.specs.state.State.{State}
+use Rattle.far_book.specs.declared.home.Home.{Home}
+use Rattle.far_book.specs.book.Home.{home_of}
+use Rattle.far_evac.specs.Census.{homes_of}
+use Rattle.far_evac.specs.AnyHand.{Polls, RunsRound, WalksTo, Walks}
+use Rattle.far_evac.specs.Choosing.{after_aborting, after_selecting}
+use Rattle.far_evac.specs.Dealings.{DealsWith, GivesBack, says}
 use Rattle.far_evac.specs.Live.{live_among}
+use Rattle.far_evac.specs.Marking.{after_marking, leaves_some, newly_marked}
 use Rattle.far_evac.specs.Moment.{Moment, Tally, objects_in, plus}
 use Rattle.far_evac.specs.Ready.{Ready}
 use Rattle.far_evac.specs.Stops.{toured}
-use Rattle.far_evac.specs.Waiting.{after_polling, first_open}
+use Rattle.far_evac.specs.Turns.{round_end, turns_made}
+use Rattle.far_evac.specs.Waiting.{after_polling, first_open, polled}
 use Rattle.far_evac.specs.Walk.{Walked, is_done, left, walked}
 
 -- what a walk does where no word changes but by it, it may do over any hand
 abbrev pub ExactIsAllowed : Type 0
 ExactIsAllowed = (m : Moment) (n : ℕ) → (k : ℕ) × Walks m n k (walked m n)
+
+-- and so it is with a poll, and with a whole round
+abbrev pub PollIsAllowed : Type 0
+PollIsAllowed = (m : Moment) → Polls m (after_polling m) (polled m.core)
+
+abbrev pub RoundIsAllowed : Type 0
+RoundIsAllowed = (m : Moment) (l : ℕ) (ls : List ℕ) (turns : ℕ) →
+    let r = turns_made (after_selecting m (l ∷ ls)) turns in RunsRound m (l ∷ ls) turns (round_end r) r.moment
 
 -- it is a tour of stops that were listed before it began
 abbrev pub WalkIsTour : Type 0
@@ -39,6 +60,35 @@ pub record DealtInOrder (m : Moment) (k : ℕ) (t : Walked) : Type 0 where
 -- over any hand the k-th dealing is with the k-th live object
 abbrev pub DealingIsInOrder : Type 0
 DealingIsInOrder = (m : Moment) (k : ℕ) (t : Walked) → Ready m.core m.held → WalksTo m k t → DealtInOrder m k t
+
+-- what a word says, but for EVAC
+abbrev pub but_evac : Option PtrWord → Option PtrWord
+but_evac = option_map without_evac
+
+-- the first n objects that lacked EVAC have it then, or all; where none is left, each live object of the logs held has it. In no cell anything
+-- else has changed, and in the cells of others nothing
+pub record IsMarked (m t : Moment) (n : ℕ) : Type 0 where
+  pub now : AllByRecursion (λ p. has_evac (says t p) ≡ true) (newly_marked m n)
+  pub all : leaves_some m n ≡ false → AllByRecursion (λ p. has_evac (says t p) ≡ true) (live_among m.core m.held)
+  pub same : (p : ℕ) → but_evac (says t p) ≡ but_evac (says m p)
+  pub others : (p : ℕ) → AllByRecursion (λ q. q ≢ p) (newly_marked m n) → t.core.cell p ≡ m.core.cell p
+
+abbrev pub MarkingIsRight : Type 0
+MarkingIsRight = (m : Moment) (n : ℕ) → ((p : ℕ) → m.core.cell p < 2 ^ 64) → IsMarked m (after_marking m n) n
+
+-- no live object of the logs that were held has EVAC; in no cell anything else has changed, and in the cells of others nothing
+pub record IsGivenUp (m t : Moment) : Type 0 where
+  pub bare : AllByRecursion (λ p. has_evac (says t p) ≡ false) (live_among m.core m.held)
+  pub same : (p : ℕ) → but_evac (says t p) ≡ but_evac (says m p)
+  pub others : (p : ℕ) → AllByRecursion (λ q. q ≢ p) (live_among m.core m.held) → t.core.cell p ≡ m.core.cell p
+
+abbrev pub GivingUpIsRight : Type 0
+GivingUpIsRight = (m : Moment) → ((p : ℕ) → m.core.cell p < 2 ^ 64) → IsGivenUp m (after_aborting m)
+
+-- a census has exactly the home of each pointer whose cell is used and isn't dropped
+abbrev pub CensusIsExact : Type 0
+CensusIsExact = (s : State) (p : ℕ) (home : Home) → Contains (homes_of s) record { pointer = p; home = home } ↔
+    ((p < CELLS * s.mutators) × (home_of (read_of (s.cell p)) ≡ Some home) × (is_dropped (read_of (s.cell p)) ≡ false))
 
 -- a poll that found an owner open finds it again, and leaves what one poll left
 abbrev pub PollIsOnce : Type 0

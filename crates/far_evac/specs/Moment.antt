@@ -1,8 +1,9 @@
 -- A heap between two calls of the evacuator, and what a call has done so far.
-use Rattle.std.specs.Prelude.{ℕ, ◌+◌, ◌==◌, not, List, filter}
+use Rattle.std.specs.Prelude.{ℕ, Bool, ◌+◌, ◌==◌, not, List, filter}
 use Rattle.far_word.specs.declared.pointer.Place.{Place}
 use Rattle.far_core.specs.state.State.{State}
 use Rattle.far_book.specs.book.Effects.{order_after}
+use Rattle.far_evac.specs.declared.answers.Progress.{Progress}
 use Rattle.far_evac.specs.declared.phase.Phase.{Phase}
 use Rattle.far_evac.specs.RoundSteps.{released}
 
@@ -39,3 +40,7 @@ plus a b = record { moved = a.moved + b.moved; far = a.far + b.far; dropped = a.
 -- how many objects that are
 abbrev pub objects_in : Tally → ℕ
 objects_in t = t.moved + t.far + t.dropped
+
+-- a tally as it is answered
+abbrev pub progress_of : Tally → Bool → Progress
+progress_of tally done = record { moved = tally.moved; far = tally.far; dropped = tally.dropped; freed = tally.freed; done = done }

@@ -1,5 +1,5 @@
 -- What is true of a heap between two calls of the evacuator, beside the law of its core.
-use Rattle.std.specs.Prelude.{◌≡◌, ℕ, ◌<◌, Bool, true, false, eqb, List}
+use Rattle.std.specs.Prelude.{◌≡◌, ℕ, ◌<◌, Bool, true, false, eqb}
 use Rattle.std.specs.List.{IsDistinct}
 use Rattle.far_core.specs.declared.event.Kind.TheVariants.{Sealed}
 use Rattle.far_core.specs.events.Mark.{is_sealed}

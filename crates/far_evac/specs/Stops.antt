@@ -1,5 +1,5 @@
 -- The same walk in other words: what there is to do is listed before it begins, and a call does the front of the list.
-use Rattle.std.specs.Prelude.{ℕ, ◌+◌, zero, suc, List, [], ◌∷◌, ◌++◌, map, fold}
+use Rattle.std.specs.Prelude.{ℕ, zero, suc, List, [], ◌∷◌, ◌++◌, map, fold}
 use Rattle.std.specs.List.{flat_map}
 use Rattle.far_word.specs.Pointer.{read_of}
 use Rattle.far_core.specs.state.State.{State}

@@ -1,14 +1,16 @@
 -- Whole rounds: turn after turn, where no word changes but by this.
-use Rattle.std.specs.Prelude.{ℕ, zero, suc, Bool, false, if◌then◌else◌}
+use Rattle.std.specs.Prelude.{ℕ, zero, suc, Bool, true, false, cond, if◌then◌else◌}
+use Rattle.far_evac.specs.declared.answers.RoundEnd.{RoundEnd}
+use Rattle.far_evac.specs.declared.answers.RoundEnd.TheVariants.{Done, Limit}
 use Rattle.far_evac.specs.declared.phase.Phase.{Phase}
 use Rattle.far_evac.specs.declared.phase.Phase.TheVariants.{Idle, Marking, Waiting, Evacuating}
 use Rattle.far_evac.specs.Marking.{after_marking}
-use Rattle.far_evac.specs.Moment.{Moment, Tally, nothing, plus}
+use Rattle.far_evac.specs.Moment.{Moment, Tally, nothing, plus, progress_of}
 use Rattle.far_evac.specs.Waiting.{after_polling}
 use Rattle.far_evac.specs.Walk.{walked, ended, is_done}
 
 -- how many objects a turn marks or deals with at most
-abbrev pub turn_size : ℕ
+unfoldable pub turn_size : ℕ
 turn_size = 16
 
 -- where a round stands after some turns, what they have done, and whether it is over
@@ -29,3 +31,7 @@ turned r Evacuating =
 abbrev pub turns_made : Moment → ℕ → Turned
 turns_made m zero = record { moment = m; tally = nothing; over = false }
 turns_made m (suc n) = let r = turns_made m n in if r.over then r else turned r r.moment.phase
+
+-- how a round ends after so many turns
+abbrev pub round_end : Turned → RoundEnd
+round_end r = cond r.over (Done (progress_of r.tally true)) (Limit r.moment.phase)

@@ -1,5 +1,5 @@
 -- Evacuating: the live objects of the logs still held are dealt with one after the other, where no word changes but by this.
-use Rattle.std.specs.Prelude.{ℕ, ◌+◌, zero, suc, Bool, true, false, cond, Option, Some, None, List, [], ◌∷◌, if◌then◌else◌}
+use Rattle.std.specs.Prelude.{ℕ, ◌+◌, zero, suc, Bool, false, cond, Option, Some, None, List, [], ◌∷◌, if◌then◌else◌}
 use Rattle.far_word.specs.declared.pointer.Place.{Place}
 use Rattle.far_word.specs.declared.pointer.PtrWord.{PtrWord}
 use Rattle.far_word.specs.declared.pointer.PtrWord.TheVariants.{Free, Near, Far}

@@ -1,10 +1,21 @@
 //! What the definitions of a round come to, as contracts of functions that do nothing.
 
-ghost use Rattle.far_evac.specs.Laws.{DealingIsInOrder, ExactIsAllowed, PollIsOnce, WalkIsTour, WalksJoin};
+ghost use Rattle.far_evac.specs.Laws.{CensusIsExact, DealingIsInOrder, ExactIsAllowed, GivingUpIsRight, MarkingIsRight, PollIsAllowed, PollIsOnce, RoundIsAllowed, WalkIsTour, WalksJoin};
 
 /// The exact walk, over words that nobody else changes, is one of those that are allowed over any hand.
 pub fn exact_is_allowed()
     ensures { ExactIsAllowed }
+{}
+
+/// So is the exact poll.
+pub fn poll_is_allowed()
+    ensures { PollIsAllowed }
+{}
+
+/// So is a whole round: its turns are a list of such turns, their tallies add up to what it answers, and it ends as that list
+/// says.
+pub fn round_is_allowed()
+    ensures { RoundIsAllowed }
 {}
 
 /// A walk over n objects does what stands before the (n + 1)th object in a list of the live objects and the ends of the chosen
@@ -23,6 +34,22 @@ pub fn walks_join()
 /// order, each is counted once, and after the last one each log was given back.
 pub fn dealing_is_in_order()
     ensures { DealingIsInOrder }
+{}
+
+/// Marking sets EVAC in the first n live objects that lack it, or in all, and changes nothing else in any cell; where none is left, each
+/// live object of the chosen logs has it.
+pub fn marking_is_right()
+    ensures { MarkingIsRight }
+{}
+
+/// After a round is given up no live object of the logs that were held has EVAC, and nothing else in any cell has changed.
+pub fn giving_up_is_right()
+    ensures { GivingUpIsRight }
+{}
+
+/// A census lists each pointer whose cell is used and not dropped, with its home, and no other.
+pub fn census_is_exact()
+    ensures { CensusIsExact }
 {}
 
 /// As long as nobody closes or opens a scope, a second poll finds the same owner open, and changes nothing.

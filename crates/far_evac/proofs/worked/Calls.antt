@@ -13,7 +13,7 @@ use Rattle.far_core.specs.state.Opening.{opening}
 use Rattle.far_core.specs.state.Room.{room}
 use Rattle.far_core.specs.state.State.{State}
 use Rattle.far_book.specs.book.Dealing.{goal, moved_now, order_moved}
-use Rattle.far_book.specs.book.Effects.{placed, fetched, retired, order_after}
+use Rattle.far_book.specs.book.Effects.{placed, fetched, retired}
 use Rattle.far_book.specs.book.Fetching.{room_for}
 use Rattle.far_book.specs.book.Home.{home_of}
 use Rattle.far_book.specs.book.Rows.{row_of}
@@ -21,18 +21,17 @@ use Rattle.far_book.specs.declared.home.Home.{Home}
 use Rattle.far_evac.specs.declared.answers.Polled.{Polled}
 use Rattle.far_evac.specs.declared.answers.Progress.{Progress}
 use Rattle.far_evac.specs.declared.answers.RoundEnd.{RoundEnd}
-use Rattle.far_evac.specs.declared.answers.RoundEnd.TheVariants.{Done, Nothing, Limit}
+use Rattle.far_evac.specs.declared.answers.RoundEnd.TheVariants.{Nothing}
 use Rattle.far_evac.specs.declared.census.Housed.{Housed}
 use Rattle.far_evac.specs.declared.census.LogState.{LogState}
 use Rattle.far_evac.specs.declared.phase.Phase.{Phase}
 use Rattle.far_evac.specs.declared.phase.Phase.TheVariants.{Idle, Marking, Waiting, Evacuating}
-use Rattle.far_evac.specs.AnyHand.{progress_of}
-use Rattle.far_evac.specs.Census.{homes_of, kind_in, logs_of}
+use Rattle.far_evac.specs.Census.{homes_of, kind_in}
 use Rattle.far_evac.specs.Choosing.{after_selecting, after_aborting, is_spent}
 use Rattle.far_evac.specs.Marking.{newly_marked, after_marking, waiting_for}
-use Rattle.far_evac.specs.Moment.{Moment, with_placed}
+use Rattle.far_evac.specs.Moment.{Moment, progress_of, with_placed}
 use Rattle.far_evac.specs.MomentLaw.{is_idle}
-use Rattle.far_evac.specs.Turns.{Turned, turns_made}
+use Rattle.far_evac.specs.Turns.{round_end, turns_made}
 use Rattle.far_evac.specs.Waiting.{after_polling, polled}
 use Rattle.far_evac.specs.Walk.{walked, ended, is_done}
 
@@ -113,12 +112,9 @@ is_evacuating Evacuating = true
 abbrev choosing : Moment → Moment × Answer → Moment × Answer
 choosing m turn = only_in (is_idle m.phase) m (cond (is_spent m.core) (m, Refused EpochsSpent) turn)
 
-abbrev end_of : Turned → RoundEnd
-end_of r = cond r.over (Done (progress_of r.tally true)) (Limit r.moment.phase)
-
 abbrev round_of : Moment → ℕ → List ℕ → Moment × Answer
 round_of m turns [] = (m, Ends Nothing)
-round_of m turns (l ∷ ls) = let r = turns_made (after_selecting m (l ∷ ls)) turns in (r.moment, Ends (end_of r))
+round_of m turns (l ∷ ls) = let r = turns_made (after_selecting m (l ∷ ls)) turns in (r.moment, Ends (round_end r))
 
 abbrev pub turn_of : Moment → Call → Moment × Answer
 turn_of m (Own event) = let step = step_of m.core event in (with_core m step.0, Replies step.1)

@@ -1,0 +1,189 @@
+-- What marking and giving up make of cells: EVAC is set or taken, and nothing else changes.
+use Rattle.std.proofs.Common.{◌≡◌, ◌≢◌, ℕ, zero, suc, ◌^◌, ◌<◌, ◌≤◌, Bool, true, false, cond, not, Some, List, [], ◌∷◌, ◌++◌, length, take, filter, bit_or, arith, ap, sym, refl, ◌∙◌, subst}
+use Rattle.std.specs.Prelude.{fold}
+use Rattle.std.specs.List.{AllByRecursion}
+use Rattle.std.proofs.lemmas.Bool.{cond_both}
+use Rattle.std.proofs.lemmas.Bool.Decides.{nat_tests}
+use Rattle.std.proofs.lemmas.List.{take_all}
+use Rattle.far_word.specs.declared.mark.Mark.TheVariants.{Evac}
+use Rattle.far_word.specs.declared.mark.Marks.{Marks}
+use Rattle.far_word.specs.declared.pointer.Place.{Place}
+use Rattle.far_word.specs.declared.pointer.PtrWord.{PtrWord}
+use Rattle.far_word.specs.declared.pointer.PtrWord.TheVariants.{Near}
+use Rattle.far_word.specs.Mark.{marks_with, position}
+use Rattle.far_word.specs.Pointer.{read_of, without_evac}
+use Rattle.far_word.proofs.PointerLaws.{IsPtr-without_evac, read_says, with_mark_fits, with_mark_read, without_evac_read, without_evac_word, word_fits}
+use Rattle.far_core.specs.events.Clear.{evac_cleared}
+use Rattle.far_core.specs.state.State.{State, put}
+use Rattle.far_core.proofs.Put.{put_both, put_other, put_same}
+use Rattle.far_book.specs.book.Dealing.{has_evac}
+use Rattle.far_book.specs.book.Effects.{marked}
+use Rattle.far_evac.specs.declared.phase.Phase.TheVariants.{Waiting}
+use Rattle.far_evac.specs.Laws.{IsGivenUp, IsMarked, but_evac}
+use Rattle.far_evac.specs.Live.{lacking, live_in, live_among}
+use Rattle.far_evac.specs.Marking.{after_marking, leaves_some, marked_core, newly_marked}
+use Rattle.far_evac.specs.Moment.{Moment}
+use Rattle.far_evac.specs.Choosing.{after_aborting}
+use Rattle.far_evac.specs.RoundSteps.{advanced, unmarked}
+use Rattle.far_evac.proofs.LiveOnce.{LivesIn, each_map, live_named, near_at}
+
+-- ---- one cell
+-- a near word of 64 bits
+abbrev IsNearWord : ℕ → Type 0
+IsNearWord w = (w < 2 ^ 64) × ((len ds : ℕ) × (place : Place) × (marks : Marks) × (read_of w ≡ Some (Near len ds place marks)))
+
+-- from one word to another EVAC alone changes, if anything: to this value
+pub record Like (to : Bool) (old new : ℕ) : Type 0 where
+  same : but_evac (read_of new) ≡ but_evac (read_of old)
+  still : has_evac (read_of old) ≡ to → has_evac (read_of new) ≡ to
+  near : IsNearWord old → IsNearWord new
+
+like_same : (to : Bool) (w : ℕ) → Like to w w
+like_same to w = record { same = refl; still = λ h. h; near = λ h. h }
+
+like_more : (to : Bool) (u v w : ℕ) → Like to u v → Like to v w → Like to u w
+like_more to u v w f g = record { same = g.same ∙ f.same; still = λ h. g.still (f.still h); near = λ h. g.near (f.near h) }
+
+pub record Sets (to : Bool) (old new : ℕ) : Type 0 where
+  like : Like to old new
+  now : has_evac (read_of new) ≡ to
+
+-- ---- one cell after the other
+module _ (to : Bool) (step : State → ℕ → State) (change : ℕ → ℕ) (cell : (s : State) (p : ℕ) → (step s p).cell ≡ put s.cell p (change (s.cell p)))
+    (sets : (w : ℕ) → IsNearWord w → Sets to w (change w)) where
+  one : (s : State) (p q : ℕ) → IsNearWord (s.cell p) → Like to (s.cell q) ((step s p).cell q)
+  one s p q near = subst (λ f. Like to (s.cell q) (f q)) (sym (cell s p))
+      (put_both (λ w. Like to (s.cell q) w) s.cell p (change (s.cell p)) q
+      (λ e. subst (λ x. Like to (s.cell x) (change (s.cell p))) (sym e) (sets (s.cell p) near).like) (λ _. like_same to (s.cell q)))
+
+  now_set : (s : State) (p : ℕ) → IsNearWord (s.cell p) → has_evac (read_of ((step s p).cell p)) ≡ to
+  now_set s p near = ap (λ f. has_evac (read_of (f p))) (cell s p) ∙ ap (λ w. has_evac (read_of w)) (put_same s.cell p (change (s.cell p)) p refl) ∙ (sets (s.cell p) near).now
+
+  abbrev AllNear : State → List ℕ → Type 0
+  AllNear s ps = AllByRecursion (λ p. IsNearWord (s.cell p)) ps
+
+  all_near : (s : State) (p : ℕ) (ps : List ℕ) → IsNearWord (s.cell p) → AllNear s ps → AllNear (step s p) ps
+  all_near s p ps near h = each_map (λ q there. (one s p q near).near there) ps h
+
+  pub all_like : (ps : List ℕ) (s : State) → AllNear s ps → (q : ℕ) → Like to (s.cell q) ((fold step s ps).cell q)
+  all_like [] s h q = like_same to (s.cell q)
+  all_like (p ∷ ps) s h q = like_more to (s.cell q) ((step s p).cell q) ((fold step (step s p) ps).cell q) (one s p q h.0) (all_like ps (step s p) (all_near s p ps h.0 h.1) q)
+
+  pub all_set : (ps : List ℕ) (s : State) → AllNear s ps → AllByRecursion (λ p. has_evac (read_of ((fold step s ps).cell p)) ≡ to) ps
+  all_set [] s h = tt
+  all_set (p ∷ ps) s h =
+      let near = all_near s p ps h.0 h.1 in ((all_like ps (step s p) near p).still (now_set s p h.0), all_set ps (step s p) near)
+
+  pub others_stay : (ps : List ℕ) (s : State) (q : ℕ) → AllByRecursion (λ p. p ≢ q) ps → (fold step s ps).cell q ≡ s.cell q
+  others_stay [] s q apart = refl
+  others_stay (p ∷ ps) s q apart = others_stay ps (step s p) q apart.1 ∙ ap (λ f. f q) (cell s p) ∙ put_other s.cell p (change (s.cell p)) q (λ e. apart.0 (sym e))
+
+-- ---- the two changes
+mark_sets : (w : ℕ) → IsNearWord w → Sets true w (bit_or w (2 ^ position Evac))
+mark_sets w (fits, (len, ds, place, marks, near)) =
+    let new : read_of (bit_or w (2 ^ position Evac)) ≡ Some (Near len ds place (marks_with Evac marks)) = with_mark_read Evac w (Near len ds place marks) fits near refl in
+    record {
+      like = record {
+        same = ap but_evac new ∙ sym (ap but_evac near);
+        still = λ _. ap has_evac new;
+        near = λ _. (with_mark_fits Evac w (Near len ds place marks) fits near refl, (len, ds, place, marks_with Evac marks, new));
+      };
+      now = ap has_evac new;
+    }
+
+clear_fits : (w : ℕ) (v : PtrWord) → w < 2 ^ 64 → read_of w ≡ Some v → evac_cleared w < 2 ^ 64
+clear_fits w v fits e =
+    let says = read_says w v fits e in
+    let word = ap evac_cleared (sym says.1) ∙ without_evac_word v says.0 in
+    subst (λ x. x < 2 ^ 64) (sym word) (word_fits (without_evac v) (IsPtr-without_evac v says.0))
+
+clear_sets : (w : ℕ) → IsNearWord w → Sets false w (evac_cleared w)
+clear_sets w (fits, (len, ds, place, marks, near)) =
+    let bare : Marks = record { hot = marks.hot; evac = false; moved = marks.moved; dropped = marks.dropped } in
+    let new : read_of (evac_cleared w) ≡ Some (Near len ds place bare) = without_evac_read w (Near len ds place marks) fits near in
+    record {
+      like = record {
+        same = ap but_evac new ∙ sym (ap but_evac near);
+        still = λ _. ap has_evac new;
+        near = λ _. (clear_fits w (Near len ds place marks) fits near, (len, ds, place, bare, new));
+      };
+      now = ap has_evac new;
+    }
+
+-- ---- live objects
+module _ (s : State) (fits : (p : ℕ) → s.cell p < 2 ^ 64) where
+  near_word : (l p : ℕ) → LivesIn s l p → IsNearWord (s.cell p)
+  near_word l p h = let x = near_at (read_of (s.cell p)) l h.0 h.1 in (fits p, (x.len, x.ds, x.place, x.marks, x.near))
+
+  all_append : (xs ys : List ℕ) → AllByRecursion (λ p. IsNearWord (s.cell p)) xs → AllByRecursion (λ p. IsNearWord (s.cell p)) ys → AllByRecursion (λ p. IsNearWord (s.cell p)) (xs ++ ys)
+  all_append [] ys f g = g
+  all_append (x ∷ xs) ys f g = (f.0, all_append xs ys f.1 g)
+
+  pub live_near : (ls : List ℕ) → AllByRecursion (λ p. IsNearWord (s.cell p)) (live_among s ls)
+  live_near [] = tt
+  live_near (l ∷ ls) = all_append (live_in s l) (live_among s ls) (each_map (near_word l) (live_in s l) (live_named s l)) (live_near ls)
+
+all_filter : (P : ℕ → Type 0) (f : ℕ → Bool) (xs : List ℕ) → AllByRecursion P xs → AllByRecursion P (filter f xs)
+all_filter P f [] h = tt
+all_filter P f (x ∷ xs) h = cond_both (f x) (x ∷ filter f xs) (filter f xs) (AllByRecursion P) (λ _. (h.0, all_filter P f xs h.1)) (λ _. all_filter P f xs h.1)
+
+all_take : (P : ℕ → Type 0) (n : ℕ) (xs : List ℕ) → AllByRecursion P xs → AllByRecursion P (take n xs)
+all_take P zero xs h = tt
+all_take P (suc n) [] h = tt
+all_take P (suc n) (x ∷ xs) h = (h.0, all_take P n xs h.1)
+
+-- what holds of those that lack it, and of those that don't, holds of all
+joined_at : (P : ℕ → Type 0) (f : ℕ → Bool) (x : ℕ) (xs : List ℕ) (b : Bool) → f x ≡ b →
+    AllByRecursion P (cond (not b) (x ∷ filter (λ y. not (f y)) xs) (filter (λ y. not (f y)) xs)) → ((y : ℕ) → f y ≡ true → P y) →
+    (AllByRecursion P (filter (λ y. not (f y)) xs) → AllByRecursion P xs) → P x × AllByRecursion P xs
+joined_at P f x xs true e h other next = (other x e, next h)
+joined_at P f x xs false e h other next = (h.0, next h.1)
+
+all_joined : (P : ℕ → Type 0) (f : ℕ → Bool) (xs : List ℕ) → AllByRecursion P (filter (λ y. not (f y)) xs) → ((y : ℕ) → f y ≡ true → P y) → AllByRecursion P xs
+all_joined P f [] h other = tt
+all_joined P f (x ∷ xs) h other = joined_at P f x xs (f x) refl h other (λ rest. all_joined P f xs rest other)
+
+-- ---- marking
+module _ (m : Moment) (n : ℕ) (fits : (p : ℕ) → m.core.cell p < 2 ^ 64) where
+  marking_cell : (after_marking m n).core.cell ≡ (marked_core m n).cell
+  marking_cell = cond_both (leaves_some m n) (record m { core = marked_core m n }) (record m { core = advanced (marked_core m n) m.held; phase = Waiting })
+      (λ (t : Moment). t.core.cell ≡ (marked_core m n).cell) (λ _. refl) (λ _. refl)
+
+  lacking_near : AllByRecursion (λ p. IsNearWord (m.core.cell p)) (lacking m.core m.held)
+  lacking_near = all_filter (λ p. IsNearWord (m.core.cell p)) (λ p. not (has_evac (read_of (m.core.cell p)))) (live_among m.core m.held) (live_near m.core fits m.held)
+
+  new_near : AllByRecursion (λ p. IsNearWord (m.core.cell p)) (newly_marked m n)
+  new_near = all_take (λ p. IsNearWord (m.core.cell p)) n (lacking m.core m.held) lacking_near
+
+  marking_like : (p : ℕ) → Like true (m.core.cell p) ((marked_core m n).cell p)
+  marking_like = all_like true marked (λ w. bit_or w (2 ^ position Evac)) (λ s p. refl) mark_sets (newly_marked m n) m.core new_near
+
+  marking_set : AllByRecursion (λ p. has_evac (read_of ((marked_core m n).cell p)) ≡ true) (newly_marked m n)
+  marking_set = all_set true marked (λ w. bit_or w (2 ^ position Evac)) (λ s p. refl) mark_sets (newly_marked m n) m.core new_near
+
+  marking_all : leaves_some m n ≡ false → AllByRecursion (λ p. has_evac (read_of ((marked_core m n).cell p)) ≡ true) (live_among m.core m.held)
+  marking_all none =
+      let few : length (lacking m.core m.held) ≤ n = grind (arith, nat_tests, none) in
+      all_joined (λ p. has_evac (read_of ((marked_core m n).cell p)) ≡ true) (λ p. has_evac (read_of (m.core.cell p))) (live_among m.core m.held)
+      (subst (AllByRecursion (λ p. has_evac (read_of ((marked_core m n).cell p)) ≡ true)) (take_all n (lacking m.core m.held) few) marking_set)
+      (λ p has. (marking_like p).still has)
+
+  pub is_marked : IsMarked m (after_marking m n) n
+  is_marked = record {
+    now = subst (λ cell. AllByRecursion (λ p. has_evac (read_of (cell p)) ≡ true) (newly_marked m n)) (sym marking_cell) marking_set;
+    all = λ none. subst (λ cell. AllByRecursion (λ p. has_evac (read_of (cell p)) ≡ true) (live_among m.core m.held)) (sym marking_cell) (marking_all none);
+    same = λ p. ap (λ cell. but_evac (read_of (cell p))) marking_cell ∙ (marking_like p).same;
+    others = λ p apart. ap (λ cell. cell p) marking_cell
+        ∙ others_stay true marked (λ w. bit_or w (2 ^ position Evac)) (λ s q. refl) mark_sets (newly_marked m n) m.core p apart;
+  }
+
+-- ---- giving up
+pub is_given_up : (m : Moment) → ((p : ℕ) → m.core.cell p < 2 ^ 64) → IsGivenUp m (after_aborting m)
+is_given_up m fits =
+    let ps = live_among m.core m.held in
+    let near = live_near m.core fits m.held in
+    record {
+      bare = all_set false unmarked evac_cleared (λ s p. refl) clear_sets ps m.core near;
+      same = λ p. (all_like false unmarked evac_cleared (λ s q. refl) clear_sets ps m.core near p).same;
+      others = λ p apart. others_stay false unmarked evac_cleared (λ s q. refl) clear_sets ps m.core p apart;
+    }

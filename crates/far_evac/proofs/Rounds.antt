@@ -1,0 +1,162 @@
+-- What polls and whole rounds do where no word changes but by them, they may do over any hand.
+use Rattle.std.proofs.Common.{◌≡◌, ℕ, zero, suc, ◌+◌, ◌/◌, ◌<◌, ◌≤◌, Bool, true, false, cond, not, ◌||◌, ◌==◌, nat_le, Option, Some, None, List, [], ◌∷◌, length, arith, ap, sym, refl, ◌∙◌, subst}
+use Rattle.std.specs.Prelude.{find}
+use Rattle.std.specs.List.{range_with_len}
+use Rattle.std.proofs.lemmas.Bool.{cond_both, true≢false, false≢true}
+use Rattle.std.proofs.lemmas.Bool.Decides.{nat_tests}
+use Rattle.far_word.specs.Pointer.{read_of}
+use Rattle.far_evac.specs.declared.answers.RoundEnd.TheVariants.{Done, Limit}
+use Rattle.far_evac.specs.declared.phase.Phase.{Phase}
+use Rattle.far_evac.specs.declared.phase.Phase.TheVariants.{Idle, Marking, Waiting, Evacuating}
+use Rattle.far_evac.specs.AnyHand.{EndsRound, Polls, RunsRound, TurnsMade, TurnsTo, sum_of}
+use Rattle.far_evac.specs.Choosing.{after_selecting}
+use Rattle.far_evac.specs.Live.{live_in, is_empty}
+use Rattle.far_evac.specs.Marking.{after_marking, leaves_some, marked_core, newly_marked, waiting_for}
+use Rattle.far_evac.specs.Moment.{Moment, Tally, nothing, plus, progress_of}
+use Rattle.far_evac.specs.MomentLaw.{is_idle}
+use Rattle.far_evac.specs.RoundSteps.{advanced, is_clear_now}
+use Rattle.far_evac.specs.Turns.{Turned, round_end, turn_size, turned, turns_made}
+use Rattle.far_evac.specs.Waiting.{after_polling, first_open, holds_up, polled, polled_at, polled_to}
+use Rattle.far_evac.specs.Walk.{Walked, Way, Drops, Moves, Goes, begun, dealt_first, dealt_so, ended, freed, is_done, left, passed, walked, way_of}
+use Rattle.far_evac.proofs.Joined.{plus_nothing}
+use Rattle.far_evac.proofs.Walks.{moment_same, walk_is}
+
+-- ---- a poll
+found_in : (test : ℕ → Bool) (k a n : ℕ) → find test (range_with_len a n) ≡ Some k → (test k ≡ true) × (k < a + n)
+found_in test k a zero = λ e. absurd cc
+found_in test k a (suc n) = cond_both (test a) (Some a) (find test (range_with_len (a + 1) n)) (λ (o : Option ℕ). o ≡ Some k → (test k ≡ true) × (k < a + suc n))
+    (λ h e. let same : a ≡ k = cc in (ap test (sym same) ∙ h, omega (arith, same)))
+    (λ _ e. let rest = found_in test k (a + 1) n e in (rest.0, omega (arith, rest.1)))
+
+unseen : (clear now : Bool) → not (clear || now) ≡ true → (clear ≡ false) × (now ≡ false)
+unseen true now h = absurd (false≢true h)
+unseen false true h = absurd (false≢true h)
+unseen false false h = (refl, refl)
+
+second : (a b : Bool) → (a || b) ≡ false → b ≡ false
+second true b h = absurd (true≢false h)
+second false b h = h
+
+polls_at : (m : Moment) (o : Option ℕ) → first_open m.core ≡ o → Polls m (polled_to m o) (polled_at m.core o)
+polls_at m None e = moment_same (polled_to m None)
+polls_at m (Some k) e =
+    let found = found_in (holds_up m.core) k 0 m.core.mutators e in
+    let why = unseen (m.core.clear k) (is_clear_now m.core k) found.0 in
+    let late : nat_le m.core.round_epoch (m.core.scope k / 2) ≡ false = second (m.core.scope k == 0) (nat_le m.core.round_epoch (m.core.scope k / 2)) why.1 in
+    record { leaves = moment_same (polled_to m (Some k)); owner = omega (arith, found.1); unseen = why.0; older = grind (arith, nat_tests, late) }
+
+pub polls_is : (m : Moment) → Polls m (after_polling m) (polled m.core)
+polls_is m = polls_at m (first_open m.core) refl
+
+-- ---- the phase in which a turn leaves a round
+passed_phase : (ls : List ℕ) (v : Walked) → (passed v ls).moment.phase ≡ v.moment.phase
+passed_phase [] v = refl
+passed_phase (l ∷ ls) v = cond_both (is_empty (live_in v.moment.core l)) (passed (freed v l) ls) (record v { moment = record v.moment { held = l ∷ ls } })
+    (λ (w : Walked). w.moment.phase ≡ v.moment.phase) (λ _. passed_phase ls (freed v l)) (λ _. refl)
+
+so_phase : (w : Walked) (p : ℕ) (way : Way) → (dealt_so w p way).moment.phase ≡ w.moment.phase
+so_phase w p Drops = refl
+so_phase w p (Moves place) = refl
+so_phase w p Goes = refl
+
+first_phase : (w : Walked) (ps : List ℕ) → (dealt_first w ps).moment.phase ≡ w.moment.phase
+first_phase w [] = refl
+first_phase w (p ∷ ps) =
+    let way = way_of w.moment.core (read_of (w.moment.core.cell p)) in
+    passed_phase (dealt_so w p way).moment.held (dealt_so w p way) ∙ so_phase w p way
+
+walked_phase : (m : Moment) (n : ℕ) → (walked m n).moment.phase ≡ m.phase
+walked_phase m zero = passed_phase m.held (begun m)
+walked_phase m (suc n) = first_phase (walked m n) (left (walked m n)) ∙ walked_phase m n
+
+marking_runs : (m : Moment) → m.phase ≡ Marking → is_idle (after_marking m turn_size).phase ≡ false
+marking_runs m e = cond_both (leaves_some m turn_size) (record m { core = marked_core m turn_size }) (record m { core = advanced (marked_core m turn_size) m.held; phase = Waiting })
+    (λ (t : Moment). is_idle t.phase ≡ false) (λ _. ap is_idle e) (λ _. refl)
+
+polling_runs : (m : Moment) → m.phase ≡ Waiting → (o : Option ℕ) → is_idle (polled_to m o).phase ≡ false
+polling_runs m e None = refl
+polling_runs m e (Some k) = ap is_idle e
+
+ending_runs : (w : Walked) → w.moment.phase ≡ Evacuating → is_done w ≡ false → is_idle (ended w).phase ≡ false
+ending_runs w e more = ap (λ b. is_idle (cond b (record w.moment { phase = Idle }) w.moment).phase) more ∙ ap is_idle e
+
+-- ---- turn after turn
+record Made (m : Moment) (n : ℕ) (r : Turned) : Type 0 where
+  tallies : List Tally
+  made : TurnsMade m tallies r.over r.moment
+  sum : sum_of tallies ≡ r.tally
+  most : length tallies ≤ n
+  every : r.over ≡ false → length tallies ≡ n
+  runs : r.over ≡ false → is_idle r.moment.phase ≡ false
+
+one_more : (a n : ℕ) → a ≡ n → suc a ≡ suc n
+one_more a n e = ap (λ x. suc x) e
+
+module _ (m : Moment) (n : ℕ) (r : Turned) (h : Made m n r) (goes : r.over ≡ false) where
+  before : TurnsMade m h.tallies false r.moment
+  before = subst (λ over. TurnsMade m h.tallies over r.moment) goes h.made
+
+  turn_made : (phase : Phase) → r.moment.phase ≡ phase → Made m (suc n) (turned r phase)
+  turn_made Idle e = absurd (true≢false (sym (ap is_idle e) ∙ h.runs goes))
+  turn_made Marking e = record {
+    tallies = nothing ∷ h.tallies;
+    made = (
+      r.moment,
+      before,
+      subst (λ phase. TurnsTo r.moment phase nothing r.over (after_marking r.moment turn_size)) (sym e) (
+        refl,
+        goes,
+        (length (newly_marked r.moment turn_size), waiting_for r.moment turn_size, record { leaves = moment_same (after_marking r.moment turn_size); counted = refl; epoch = refl }),
+      ),
+    );
+    sum = plus_nothing (sum_of h.tallies) ∙ h.sum;
+    most = omega (arith, h.most);
+    every = λ _. one_more (length h.tallies) n (h.every goes);
+    runs = λ _. marking_runs r.moment e;
+  }
+  turn_made Waiting e = record {
+    tallies = nothing ∷ h.tallies;
+    made = (r.moment, before, subst (λ phase. TurnsTo r.moment phase nothing r.over (after_polling r.moment)) (sym e) (refl, goes, (polled r.moment.core, polls_is r.moment)));
+    sum = plus_nothing (sum_of h.tallies) ∙ h.sum;
+    most = omega (arith, h.most);
+    every = λ _. one_more (length h.tallies) n (h.every goes);
+    runs = λ _. polling_runs r.moment e (first_open r.moment.core);
+  }
+  turn_made Evacuating e =
+      let w = walked r.moment turn_size in
+      let walks = walk_is r.moment turn_size in
+      record {
+        tallies = w.tally ∷ h.tallies;
+        made = (r.moment, before, subst (λ phase. TurnsTo r.moment phase w.tally (is_done w) (ended w)) (sym e) (walks.0, w, walks.1, refl, refl, refl));
+        sum = ap (λ tally. plus tally w.tally) h.sum;
+        most = omega (arith, h.most);
+        every = λ _. one_more (length h.tallies) n (h.every goes);
+        runs = λ more. ending_runs w (walked_phase r.moment turn_size ∙ e) more;
+      }
+
+over_still : (m : Moment) (n : ℕ) (r : Turned) → Made m n r → r.over ≡ true → Made m (suc n) r
+over_still m n r h over = record {
+  tallies = h.tallies;
+  made = h.made;
+  sum = h.sum;
+  most = omega (arith, h.most);
+  every = λ goes. absurd (true≢false (sym over ∙ goes));
+  runs = h.runs;
+}
+
+turns_are : (m : Moment) → is_idle m.phase ≡ false → (n : ℕ) → Made m n (turns_made m n)
+turns_are m runs zero = record { tallies = []; made = (refl, refl); sum = refl; most = omega arith; every = λ _. refl; runs = λ _. runs }
+turns_are m runs (suc n) =
+    let r = turns_made m n in
+    let h = turns_are m runs n in
+    cond_both r.over r (turned r r.moment.phase) (Made m (suc n)) (λ over. over_still m n r h over) (λ goes. turn_made m n r h goes r.moment.phase refl)
+
+ends : (turns : ℕ) (m : Moment) (r : Turned) (h : Made m turns r) (over : Bool) → r.over ≡ over → EndsRound turns h.tallies over r.moment.phase (round_end r)
+ends turns m r h true e = ap (λ b. cond b (Done (progress_of r.tally true)) (Limit r.moment.phase)) e ∙ ap (λ tally. Done (progress_of tally true)) (sym h.sum)
+ends turns m r h false e = (h.every e, ap (λ b. cond b (Done (progress_of r.tally true)) (Limit r.moment.phase)) e)
+
+pub round_is : (m : Moment) (l : ℕ) (ls : List ℕ) (turns : ℕ) → let r = turns_made (after_selecting m (l ∷ ls)) turns in RunsRound m (l ∷ ls) turns (round_end r) r.moment
+round_is m l ls turns =
+    let r = turns_made (after_selecting m (l ∷ ls)) turns in
+    let h = turns_are (after_selecting m (l ∷ ls)) refl turns in
+    (h.tallies, r.over, h.made, h.most, ends turns (after_selecting m (l ∷ ls)) r h r.over refl)
