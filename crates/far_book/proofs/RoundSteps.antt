@@ -1,9 +1,7 @@
 -- What a hand knows once a round has begun, and once it has looked at a scope.
-use Rattle.std.proofs.Common.{◌≡◌, ℕ, ◌+◌, ◌/◌, ◌<◌, ◌≤◌, Bool, true, false, Some, refl, sym, ap, ◌∙◌, subst}
+use Rattle.std.proofs.Common.{◌≡◌, ℕ, ◌+◌, ◌/◌, ◌<◌, Bool, true, false, refl, sym, ap, ◌∙◌, subst}
 use Rattle.std.specs.Prelude.{◌||◌, ◌&&◌, IsSome}
 use Rattle.std.proofs.lemmas.Bool.{true≢false, true_from_ne_false}
-use Rattle.far_word.specs.declared.pointer.Place.{Place}
-use Rattle.far_word.specs.declared.scope.ScopeWord.TheVariants as scoped
 use Rattle.far_word.specs.declared.sizes.TheConstants.{CELLS, EPOCH_END}
 use Rattle.far_word.specs.Pointer.{read_of}
 use Rattle.far_word.specs.Scope.{scope_of}

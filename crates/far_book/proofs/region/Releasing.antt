@@ -1,5 +1,5 @@
 -- A log without live objects is given back: a book stays in order.
-use Rattle.std.proofs.Common.{◌≡◌, ◌≢◌, ℕ, ◌+◌, ◌/◌, ◌<◌, ◌≤◌, Bool, true, false, cond, arith, nat_lt, refl, sym, ap, ◌∙◌, subst, inl, inr, Option, Some, None, List, [], ◌∷◌}
+use Rattle.std.proofs.Common.{◌≡◌, ◌≢◌, ℕ, ◌/◌, ◌<◌, ◌≤◌, Bool, true, false, cond, arith, nat_lt, refl, sym, ap, ◌∙◌, subst, inl, inr, Option, List, [], ◌∷◌}
 use Rattle.std.specs.Prelude.{◌==◌, ◌&&◌, ◌||◌, not, eqb, Contains}
 use Rattle.std.specs.List.{AllByRecursion, IsDistinct, filter, list_any}
 use Rattle.std.specs.Vec.{vec_len}
@@ -15,13 +15,12 @@ use Rattle.far_log.proofs.Members.{here, there}
 use Rattle.far_core.specs.declared.event.Event.TheVariants.{Get}
 use Rattle.far_core.specs.declared.event.Kind.TheVariants.{Free, Sealed}
 use Rattle.far_core.specs.events.Get.{IsVacant, with_free_log}
-use Rattle.far_core.specs.events.Legal.{Legal}
 use Rattle.far_core.specs.events.Mark.{is_sealed}
 use Rattle.far_core.specs.laws.Observed.{live_bytes}
 use Rattle.far_core.specs.state.Law.{Law}
 use Rattle.far_core.specs.state.Room.{is_free}
 use Rattle.far_core.specs.state.Spans.{is_live, spans_of, word_in}
-use Rattle.far_core.specs.state.State.{State, put}
+use Rattle.far_core.specs.state.State.{State}
 use Rattle.far_core.proofs.Cells.{live_names}
 use Rattle.far_core.proofs.Owing.{keeps}
 use Rattle.far_core.proofs.Put.{put_same, put_other}

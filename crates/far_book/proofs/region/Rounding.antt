@@ -1,5 +1,5 @@
 -- What a round's steps leave of a book: it stays in order.
-use Rattle.std.proofs.Common.{◌≡◌, ◌≢◌, ℕ, ◌+◌, ◌<◌, ◌^◌, Bool, true, false, arith, refl, sym, ap, ◌∙◌, subst, Option, Some, None, List, Result, Ok, Err, IfOk, IfErr}
+use Rattle.std.proofs.Common.{◌≡◌, ℕ, ◌+◌, ◌<◌, ◌^◌, Bool, false, arith, refl, sym, ap, ◌∙◌, subst, Option, Some, List, Result, Ok, Err, IfOk, IfErr}
 use Rattle.std.specs.Prelude.{◌==◌}
 use Rattle.std.proofs.lemmas.Bool.{ne_eqb}
 use Rattle.far_word.specs.declared.mark.Marks.{Marks}
@@ -28,7 +28,7 @@ use Rattle.far_book.specs.Cleared.{cleared}
 use Rattle.far_book.specs.Finds.{Finds}
 use Rattle.far_book.specs.Known.{Forgets}
 use Rattle.far_book.specs.Rounds.{MayChoose, looked_at}
-use Rattle.far_book.specs.book.FarSide.{HoldsFar, InOrder}
+use Rattle.far_book.specs.book.FarSide.{InOrder}
 use Rattle.far_book.specs.book.Ledger.{Notes}
 use Rattle.far_book.specs.book.Own.{own_part}
 use Rattle.far_book.proofs.Finding.{near_found}

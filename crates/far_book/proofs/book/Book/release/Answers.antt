@@ -1,6 +1,5 @@
 use Rattle.far_book.proofs.book.Book.release.Goals as goal
-use Rattle.std.proofs.Common.{◌≡◌, ◌<◌, ◌≤◌, ◌∙◌, ap, arith, refl, subst, sym, true, false}
-use Rattle.std.specs.Prelude.{◌==◌}
+use Rattle.std.proofs.Common.{◌≡◌, ◌<◌, ◌∙◌, ap, arith, refl, subst, sym}
 use Rattle.std.proofs.lemmas.Bool.{eq-eqb, eqb-true, false≢true}
 use Rattle.far_core.specs.declared.event.Event.TheVariants.{Get}
 use Rattle.far_core.specs.declared.event.Kind.TheVariants.{Sealed}
@@ -10,7 +9,7 @@ use Rattle.far_core.specs.laws.Observed.{live_bytes}
 use Rattle.far_core.specs.state.State.{State}
 use Rattle.far_book.specs.book.BookOf.{BookOf}
 use Rattle.far_book.specs.book.Own.{own_part}
-use Rattle.far_book.proofs.region.Releasing.{inside, released_keeps, vacant_fact, vacant_test}
+use Rattle.far_book.proofs.region.Releasing.{released_keeps, vacant_fact, vacant_test}
 
 pub get-requires : goal.get-requires
 get-requires g c =
