@@ -1,5 +1,5 @@
 use Rattle.far_book.proofs.book.Book.release.Goals as goal
-use Rattle.std.proofs.Common.{◌≡◌, ◌<◌, ◌∙◌, ap, arith, refl, subst, sym}
+use Rattle.std.proofs.Common.{◌≡◌, ◌<◌, ◌∙◌, ap, arith, refl, subst, sym, true}
 use Rattle.std.proofs.lemmas.Bool.{eq-eqb, eqb-true, false≢true}
 use Rattle.far_core.specs.declared.event.Event.TheVariants.{Get}
 use Rattle.far_core.specs.declared.event.Kind.TheVariants.{Sealed}
