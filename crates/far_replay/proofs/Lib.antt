@@ -44,6 +44,7 @@ pub mod StoreTurns
 pub mod Streams
 pub mod TakingRoom
 pub mod TextLaws
+pub mod Tries
 pub mod Turns
 pub mod ViewLaws
 pub mod Views

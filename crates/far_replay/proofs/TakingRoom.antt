@@ -5,6 +5,7 @@ use Rattle.std.proofs.lemmas.Bool.{cond_both, true≢false}
 use Rattle.std.proofs.lemmas.Bool.Decides.{nat_tests}
 use Rattle.far_word.specs.declared.pointer.Place.{Place}
 use Rattle.far_word.specs.declared.refused.Refused.{Refused as Refusal}
+use Rattle.far_word.specs.declared.refused.Refused.TheVariants.{Marked}
 use Rattle.far_word.specs.Sizes.{size_of}
 use Rattle.far_core.specs.state.Room.{room}
 use Rattle.far_core.specs.state.Shape.{is_shape}
@@ -14,13 +15,13 @@ use Rattle.far_word.specs.declared.mark.Mark.TheVariants.{Dropped}
 use Rattle.far_core.specs.declared.event.Event.TheVariants.{Ask}
 use Rattle.far_core.specs.events.Step.{after as step_after, after_pin}
 use Rattle.far_replay.specs.Answers.{Commanded, shape_of}
-use Rattle.far_replay.specs.Command.{Command, New, Open, Write, Read, Close, Where, Drop, Mutator, Book}
+use Rattle.far_replay.specs.Command.{Command, New, Open, Write, Read, Close, Where, Drop, Try, Mutator, Book}
 use Rattle.far_replay.specs.Effects.{with_view, with_object}
 use Rattle.far_replay.specs.Headline.{TakesRoom}
 use Rattle.far_replay.specs.Moment.{Moment, moment_of}
 use Rattle.far_replay.specs.Objects.{lowest_cell}
 use Rattle.far_replay.specs.Reply.{Reply, Refused}
-use Rattle.far_replay.specs.Turn.{refusal, unless, turn_effect, turn_reply, reply_to, pointer_reply, with_new}
+use Rattle.far_replay.specs.Turn.{refusal, unless, turn_effect, refused_effect, turn_reply, reply_to, pointer_reply, with_new}
 use Rattle.far_replay.proofs.Drops.{retired_either}
 use Rattle.far_replay.proofs.Turns.{new_tests, new_object_is}
 
@@ -44,7 +45,7 @@ new_takes s m len ds None (Some p) None goes some tail = absurd (true≢false (s
 new_takes s m len ds None (Some p) (Some place) goes some tail = (place, goes, tail refl p place refl refl)
 
 takes : (s : State) (c : Command) (o : Option Refusal) → Law s → refusal (moment_of s) c ≡ o →
-    TakesRoom (moment_of s) c (unless o Refused (turn_reply (moment_of s) c)) (unless o (λ _. moment_of s) (turn_effect (moment_of s) c))
+    TakesRoom (moment_of s) c (unless o Refused (turn_reply (moment_of s) c)) (unless o (refused_effect (moment_of s) c) (turn_effect (moment_of s) c))
 takes s (Mutator m (New len ds)) o law e = new_takes s m len ds o (lowest_cell s m) (room s (size_of len) true) refl (λ none.
     let parts = new_tests s m len ds (subst (λ r. refusal (moment_of s) (Mutator m (New len ds)) ≡ r) none e) in
     (parts.2, parts.3))
@@ -61,6 +62,9 @@ takes s (Mutator m (Where p)) None law e = (refl, refl)
 takes s (Mutator m (Where p)) (Some why) law e = (refl, refl)
 takes s (Mutator m (Drop p)) None law e = retired_either (LeavesRoom s) (step_after s (Ask m p Dropped)) p (refl, refl) (refl, refl)
 takes s (Mutator m (Drop p)) (Some why) law e = (refl, refl)
+takes s (Mutator m (Try p)) None law e = view_leaves s p
+takes s (Mutator m (Try p)) (Some (Marked word)) law e = view_leaves s p
+takes s (Mutator m (Try p)) (Some why) law e = (refl, refl)
 takes s (Book inquiry) None law e = (refl, refl)
 takes s (Book inquiry) (Some why) law e = (refl, refl)
 

@@ -3,7 +3,7 @@ use Rattle.std.specs.Prelude.{ℕ, ◌+◌, Bool, true, ◌&&◌, not, nat_lt, n
 use Rattle.std.specs.List.{range_with_len}
 use Rattle.far_word.specs.declared.pointer.Place.{Place}
 use Rattle.far_word.specs.declared.refused.Refused.{Refused as Refusal}
-use Rattle.far_word.specs.declared.refused.Refused.TheVariants.{NoRoom, NoPointer, Length, Closed, AlreadyOpen, NotHeld, Range, Held}
+use Rattle.far_word.specs.declared.refused.Refused.TheVariants.{NoRoom, NoPointer, Length, Closed, AlreadyOpen, NotHeld, Range, Held, Marked}
 use Rattle.far_word.specs.declared.sizes.TheConstants.{LONGEST}
 use Rattle.far_word.specs.Sizes.{size_of}
 use Rattle.far_core.specs.events.Step.{is_opened, after_close}
@@ -14,8 +14,8 @@ use Rattle.far_word.specs.Pointer.{read_of}
 use Rattle.far_book.specs.book.Home.{home_of}
 use Rattle.far_book.specs.declared.home.Home.{Home}
 use Rattle.far_replay.specs.Audit.{counts_of}
-use Rattle.far_replay.specs.Command.{Command, New, Open, Write, Read, Close, Where, Drop, Logs, Log, Audit, Mutator, Book}
-use Rattle.far_replay.specs.Effects.{with_object, with_scope, with_view, with_data, without_object}
+use Rattle.far_replay.specs.Command.{Command, New, Open, Write, Read, Close, Where, Drop, Try, Logs, Log, Audit, Mutator, Book}
+use Rattle.far_replay.specs.Effects.{with_object, with_scope, with_view, is_slow, with_data, without_object}
 use Rattle.far_replay.specs.Moment.{Moment}
 use Rattle.far_replay.specs.Objects.{uses, object_len, data_of, lowest_cell, is_range}
 use Rattle.far_replay.specs.Reply.{Reply, Done, Pointer, Data, Logs as Told, Lies, Audited, Refused, LogLine}
@@ -36,6 +36,8 @@ causes now (Mutator m (Read p from len)) = access_causes now m p from len
 causes now (Mutator m Close) = (not (nat_lt m now.core.mutators), Range) ∷ (not (is_opened now.core m), Closed) ∷ []
 causes now (Mutator m (Where p)) = (not (nat_lt m now.core.mutators), Range) ∷ (not (uses now.core m p), NotHeld) ∷ []
 causes now (Mutator m (Drop p)) = (not (nat_lt m now.core.mutators), Range) ∷ (not (uses now.core m p), NotHeld) ∷ (is_some (now.core.held p), Held) ∷ []
+causes now (Mutator m (Try p)) =
+    (not (nat_lt m now.core.mutators), Range) ∷ (not (is_opened now.core m), Closed) ∷ (not (uses now.core m p), NotHeld) ∷ (is_slow now.core p, Marked (now.core.cell p)) ∷ []
 causes now (Book Logs) = []
 causes now (Book (Log l)) = (not (nat_lt l now.core.logs), Range) ∷ []
 causes now (Book Audit) = []
@@ -63,7 +65,13 @@ turn_effect now (Mutator m (Read p from len)) = record now { core = with_view no
 turn_effect now (Mutator m Close) = record now { core = after_close now.core m }
 turn_effect now (Mutator m (Where p)) = now
 turn_effect now (Mutator m (Drop p)) = record now { core = without_object now.core m p }
+turn_effect now (Mutator m (Try p)) = record now { core = with_view now.core p }
 turn_effect now (Book inquiry) = now
+
+-- ---- the moment after a command that is refused: as before, but for the marks that it left
+abbrev pub refused_effect : Moment → Command → Refusal → Moment
+refused_effect now (Mutator m (Try p)) (Marked word) = record now { core = with_view now.core p }
+refused_effect now c why = now
 
 -- ---- the reply of a command that isn't refused
 abbrev pub log_line : Moment → ℕ → LogLine
@@ -87,17 +95,18 @@ turn_reply now (Mutator m (Read p from len)) = Data (slice_range (data_of now.co
 turn_reply now (Mutator m Close) = Done
 turn_reply now (Mutator m (Where p)) = home_reply (home_of (read_of (now.core.cell p)))
 turn_reply now (Mutator m (Drop p)) = Done
+turn_reply now (Mutator m (Try p)) = Done
 turn_reply now (Book Logs) = Told (map (log_line now) (range_with_len 0 now.core.logs))
 turn_reply now (Book (Log l)) = Told (log_line now l ∷ [])
 turn_reply now (Book Audit) = Audited (counts_of now.core)
 
--- ---- all together: a refused command changes nothing
+-- ---- all together
 abbrev pub unless : {X : Type 0} → Option Refusal → (Refusal → X) → X → X
 unless None turned value = value
 unless (Some why) turned value = turned why
 
 abbrev pub effect : Moment → Command → Moment
-effect now c = unless (refusal now c) (λ _. now) (turn_effect now c)
+effect now c = unless (refusal now c) (refused_effect now c) (turn_effect now c)
 
 abbrev pub reply_to : Moment → Command → Reply
 reply_to now c = unless (refusal now c) Refused (turn_reply now c)

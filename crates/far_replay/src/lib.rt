@@ -23,6 +23,7 @@ mod reply_writer;
 mod running;
 mod stream;
 mod text;
+mod trying;
 mod turn;
 
 pub use headline::{
