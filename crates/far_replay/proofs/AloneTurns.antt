@@ -3,7 +3,7 @@ use Rattle.std.proofs.Common.{◌≡◌, ◌≢◌, ℕ, ◌+◌, ◌/◌, ◌<�
 use Rattle.std.specs.Prelude.{not, ◌⊎◌, ◌&&◌, is_some}
 use Rattle.std.proofs.lemmas.Bool.{and_parts, cond_both, eqb-true, eq-eqb, ltb-true, not-true, not-false, true≢false}
 use Rattle.far_word.specs.declared.refused.Refused.{Refused as Refusal}
-use Rattle.far_word.specs.declared.refused.Refused.TheVariants.{Closed, AlreadyOpen, NotHeld, Range, Held, Marked}
+use Rattle.far_word.specs.declared.refused.Refused.TheVariants.{NoRoom, Closed, AlreadyOpen, NotHeld, Range, Held, Marked}
 use Rattle.far_word.specs.declared.sizes.TheConstants.{CELLS}
 use Rattle.far_word.specs.Pointer.{read_of}
 use Rattle.far_word.specs.declared.pointer.PtrWord.{PtrWord}
@@ -19,7 +19,7 @@ use Rattle.far_core.specs.world.WorldOf.{world_of}
 use Rattle.far_core.specs.world.Steps.{with_bytes}
 use Rattle.far_replay.specs.Moment.{moment_of}
 use Rattle.far_replay.specs.Alone.{Knows, own_of, IsOut, IsIn}
-use Rattle.far_replay.specs.Command.{Command, Open, Write, Read, Close, Where, Drop, Try, Mutator}
+use Rattle.far_replay.specs.Command.{Command, Open, Write, Read, Close, Where, Drop, View, Try, Mutator}
 use Rattle.far_replay.specs.EventRows.{after_events, AllSucceed, AllAtHand}
 use Rattle.far_replay.specs.Reply.{Reply, Done, Refused}
 use Rattle.far_replay.specs.Events.{turn_events, refused_events, open_events, view_events, part_events, load_events, store_events, starts_inside, ends_inside, first_word, words_touched}
@@ -28,12 +28,13 @@ use Rattle.far_replay.specs.Turn.{refusal, first_cause, unless, turn_reply, home
 use Rattle.far_replay.specs.Headline.{ViewsObject, ViewsNothing}
 use Rattle.far_replay.proofs.AloneViews.{views_still, views_mine, views_others, views_gone, views_left}
 use Rattle.far_replay.proofs.ViewLaws.{made_views}
+use Rattle.far_replay.specs.Dereference.{has_no_room}
 use Rattle.far_replay.specs.Effects.{is_slow, without_object}
 use Rattle.far_replay.proofs.AloneBytes.{over_with_range}
 use Rattle.far_replay.proofs.Drops.{drop_ends, drop_is, drop_world, own_gone, own_left, unheld_is}
 use Rattle.far_replay.proofs.Each.{Each-append, Each-row}
 use Rattle.far_replay.proofs.MadeLemmas.{made-append, AllSucceed-parts, Carries}
-use Rattle.far_replay.proofs.Views.{hand_is_fast}
+use Rattle.far_replay.proofs.Views.{hand_has_room, hand_is_fast}
 use Rattle.far_replay.proofs.Spliced.{AreBytes, packed_wide, with_range_bytes}
 use Rattle.far_replay.proofs.AloneRuns.{views_of, Scoped, own_same, own_other, own_here, own_scope, own_scope_other, IsQuiet, Quiet, quiet_run, over_all, stores_run, open_step, close_step}
 use Rattle.far_replay.proofs.AloneStates.{not_outside, open_world, shut_world, range_in, range_out, object_used, own_used, own_unused, len_used, data_small}
@@ -142,6 +143,26 @@ turns_read s k p from len law hand =
 
       in_of : object_len s p ≡ length (data_of s p) → not (is_range (object_len s p) from len) ≡ false → IsIn (data_of s p) from len
       in_of e h = subst (λ n. (0 < len) × (from + len ≤ n)) e (range_in (object_len s p) from len h)
+
+-- ---- views
+pub turns_view : (s : State) (k p : ℕ) → Law s → AllAtHand s → Turns s k (Mutator k (View p)) (refusal (moment_of s) (Mutator k (View p)))
+turns_view s k p law hand = four_causes (Turns s k (Mutator k (View p))) (not (nat_lt k s.mutators)) (not (is_opened s k)) (not (uses s k p)) (has_no_room s k p) Range Closed NotHeld NoRoom
+    (λ off _. (λ within. absurd (not_outside k s.mutators within off), λ m ne. refl))
+    (λ _ shut _. (λ within. (shut_world s k within (not-true (is_opened s k) shut), refl), λ m ne. refl))
+    (λ _ opened unused _. (λ within. (open_world s k (not-false (is_opened s k) opened), own_unused s law hand k p (not-true (uses s k p) unused), refl), λ m ne. refl))
+    (λ _ opened used slow _. let ours = not-false (uses s k p) used in
+    absurd (true≢false (sym slow ∙ hand_has_room s k p (hand p (nonzero s law p (and_parts (nat_eq (p / CELLS) k) (s.used p) ours).1)))))
+    (λ _ opened used fast ok. let run = quiet_run s (view_events s k p) law (quiet_view s k p) in
+    let u : State = after_events s (view_events s k p) in
+    let view : ViewsObject s u p = made_views s (Mutator k (View p)) ok in
+    let own : p / CELLS ≡ k = uses_owner s k p (not-false (uses s k p) used) in (
+      λ within. (
+        open_world s k (not-false (is_opened s k) opened),
+        own_same (world_of s) (world_of u) k (put (views_of (world_of s) k) p true) run.0 (views_mine s u k p view own),
+        (data_of s p, own_used s law hand k p (not-false (uses s k p) used)),
+      ),
+      λ m ne. own_same (world_of s) (world_of u) m (views_of (world_of s) m) run.0 (views_others s u k m p view own ne),
+    ))
 
 -- ---- tries
 pub turns_try : (s : State) (k p : ℕ) → Law s → AllAtHand s → Turns s k (Mutator k (Try p)) (refusal (moment_of s) (Mutator k (Try p)))

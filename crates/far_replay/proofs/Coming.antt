@@ -3,7 +3,7 @@ use Rattle.std.proofs.Common.{◌≡◌, ◌≢◌, ℕ, ◌+◌, ◌/◌, true,
 use Rattle.std.proofs.lemmas.Bool.{and_parts, cond_both, eq-eqb, ltb-true, true≢false}
 use Rattle.far_word.specs.declared.pointer.Place.{Place}
 use Rattle.far_word.specs.declared.refused.Refused.{Refused as Refusal}
-use Rattle.far_word.specs.declared.refused.Refused.TheVariants.{Closed, NotHeld, Range, Held, Marked}
+use Rattle.far_word.specs.declared.refused.Refused.TheVariants.{NoRoom, Closed, NotHeld, Range, Held, Marked}
 use Rattle.far_word.specs.declared.sizes.TheConstants.{CELLS}
 use Rattle.far_word.specs.Bytes.{packed_word}
 use Rattle.far_word.specs.Header.{head_word}
@@ -18,7 +18,8 @@ use Rattle.far_core.specs.state.Room.{room}
 use Rattle.far_core.specs.state.State.{State}
 use Rattle.far_core.specs.events.Step.{step_of, is_legal, is_opened, after, answer, pin_answer}
 use Rattle.far_core.proofs.KeepOwner.{nonzero}
-use Rattle.far_replay.specs.Command.{Command, New, Open, Write, Read, Close, Where, Drop, Try, Mutator, Book}
+use Rattle.far_replay.specs.Command.{Command, New, Open, Write, Read, Close, Where, Drop, View, Try, Mutator, Book}
+use Rattle.far_replay.specs.Dereference.{has_no_room}
 use Rattle.far_replay.specs.Effects.{near_word, is_slow}
 use Rattle.far_replay.specs.EventRows.{after_events, ComesToPass, AllComeToPass, AtHand, AllAtHand}
 use Rattle.far_replay.specs.Events.{turn_events, refused_events, zero_puts, new_events, view_events, load_events, store_events, first_loads, last_loads, part_events, first_word, words_touched, starts_inside, ends_inside}
@@ -125,6 +126,9 @@ all_come s (Mutator m (Where p)) None e law hand = tt
 all_come s (Mutator m (Drop p)) None e law hand =
     let h = three (nat_lt m s.mutators) (uses s m p) (is_some (s.held p)) Range NotHeld Held e in
     drop_comes s m p law (ltb-true m s.mutators h.0) h.1 (unheld_is (s.held p) h.2)
+all_come s (Mutator m (View p)) None e law hand =
+    let h = tried (nat_lt m s.mutators) (is_opened s m) (uses s m p) (has_no_room s m p) Range Closed NotHeld NoRoom e in
+    view_comes s m p (hand (nonzero s law p (and_parts (nat_eq (p / CELLS) m) (s.used p) h.2).1))
 all_come s (Mutator m (Try p)) None e law hand =
     let h = tried (nat_lt m s.mutators) (is_opened s m) (uses s m p) (is_slow s p) Range Closed NotHeld (Marked (s.cell p)) e in
     view_comes s m p (hand (nonzero s law p (and_parts (nat_eq (p / CELLS) m) (s.used p) h.2).1))
@@ -139,5 +143,6 @@ hand_for s (Mutator m (Read p from len)) hands = hands p
 hand_for s (Mutator m Close) hands = tt
 hand_for s (Mutator m (Where p)) hands = tt
 hand_for s (Mutator m (Drop p)) hands = tt
+hand_for s (Mutator m (View p)) hands = hands p
 hand_for s (Mutator m (Try p)) hands = hands p
 hand_for s (Book inquiry) hands = tt

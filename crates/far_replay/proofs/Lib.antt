@@ -7,6 +7,7 @@ pub mod AloneStates
 pub mod AloneTurns
 pub mod AloneViews
 pub mod Answering
+pub mod Bringing
 pub mod Coming
 pub mod Counted
 pub mod Cuts

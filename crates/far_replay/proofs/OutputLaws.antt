@@ -21,19 +21,24 @@ use Rattle.far_core.proofs.Bounds.{some_of}
 use Rattle.far_core.proofs.Guards.{none_from}
 use Rattle.far_core.proofs.Observations.{bytes_make_log}
 use Rattle.std.proofs.lemmas.Bool.{and_parts}
-use Rattle.far_word.specs.declared.mark.Mark.TheVariants.{Hot}
+use Rattle.far_word.specs.declared.mark.Mark.TheVariants.{Hot, Moved}
 use Rattle.far_word.specs.Mark.{position, marks_with}
 use Rattle.far_core.specs.events.Step.{after_pin, is_opened}
-use Rattle.far_core.proofs.Cells.{map_mark}
+use Rattle.far_core.proofs.Cells.{map_mark, object_of-mark}
+use Rattle.far_core.proofs.Marking.{read_mark}
+use Rattle.far_core.specs.world.WorldOf.{object_of}
+use mathlib.Core.Path.{fun_ext}
+use Rattle.far_replay.specs.Dereference.{asked_for, comes_to, has_no_room, sought, sought_of}
 use Rattle.far_core.proofs.KeepOwner.{hot_read}
-use Rattle.far_core.proofs.Put.{put_both, put_other}
+use Rattle.far_core.proofs.Put.{put_both, put_other, put_same}
+use Rattle.far_book.proofs.region.Calls.{put_put}
 use Rattle.far_replay.specs.Effects.{is_slow, with_view}
 use Rattle.far_replay.proofs.AloneRuns.{quiet_run}
 use Rattle.far_replay.proofs.AloneTurns.{quiet_view}
 use Rattle.far_replay.specs.Moment.{Moment, moment_of}
 use Rattle.far_replay.specs.Alone.{Alone, Knows, Own}
 use Rattle.far_replay.specs.Answers.{Answered, Answers, Commanded, IsMoment, IsOutput, shape_of, first_moment}
-use Rattle.far_replay.specs.Command.{Command, Trace, Nothing, Heap, New, Open, Write, Read, Close, Where, Drop, Try, Logs, Mutator, Book}
+use Rattle.far_replay.specs.Command.{Command, Trace, Nothing, Heap, New, Open, Write, Read, Close, Where, Drop, View, Try, Logs, Mutator, Book}
 use Rattle.far_replay.specs.Grammar.{trace_of}
 use Rattle.far_replay.specs.Headline.{IsSound, IsWhole, Lawful, IsSaidBy, TellsAll, TellsLog}
 use Rattle.far_replay.specs.Written.{AllWriteBytes}
@@ -58,8 +63,8 @@ use Rattle.far_replay.proofs.TextLaws.{texts_write}
 use Rattle.far_replay.proofs.Lowest.{lowest_cell_is, no_cell_is}
 use Rattle.far_replay.proofs.Refusals.{turn_is_no_refusal, from_cause}
 use Rattle.far_replay.proofs.Spliced.{length-with_range, with_range_before, with_range_inside, with_range_after}
-use Rattle.far_replay.proofs.Turns.{marked_last, new_tests}
-use Rattle.far_replay.proofs.Views.{view_is, slow_view}
+use Rattle.far_replay.proofs.Turns.{marked_last, room_last, new_tests}
+use Rattle.far_replay.proofs.Views.{view_is, view_law, slow_view}
 
 -- ---- each text has an output
 -- each list of commands is answered
@@ -91,6 +96,7 @@ refused_moment now c r next why h e = h.moment ∙ ap (λ o. unless o (refused_e
 
 -- one that comes before any pin leaves all
 none_marked : (now : Moment) (c : Command) (why : Refusal) → ((p : ℕ) → ¬ MayMark c why p) → refused_effect now c why ≡ now
+none_marked now (Mutator m (View p)) NoRoom none = absurd (none p refl)
 none_marked now (Mutator m (Try p)) (Marked word) none = absurd (none p refl)
 none_marked now c why none = refl
 
@@ -134,7 +140,73 @@ stays_hot s m p word law opened ours slow =
       rest = refl;
     }
 
+-- one cell that gets other marks
+marked_stays : (c : Command) (why : Refusal) (s : State) (p new : ℕ) → MayMark c why p → ((q : ℕ) → ¬ MayMark c why q → q ≢ p) → CellStays (read_of (s.cell p)) (read_of new) →
+    ((f g : ℕ → ℕ) (q : ℕ) → object_of f g q (read_of new) ≡ object_of f g q (read_of (s.cell p))) → Stays c why (moment_of s) (moment_of (record s { cell = put s.cell p new }))
+unfolding world_of
+marked_stays c why s p new may apart stays object = record {
+  objects = fun_ext (λ q. put_both (λ w. object_of s.word (s.stored q) q (read_of w) ≡ object_of s.word (s.stored q) q (read_of (s.cell q))) s.cell p new q
+      (λ e. object s.word (s.stored q) q ∙ ap (λ x. object_of s.word (s.stored q) q (read_of (s.cell x))) (sym e)) (λ _. refl));
+  cells = λ q. put_both (λ w. CellStays (read_of (s.cell q)) (read_of w)) s.cell p new q
+      (λ e. subst (λ x. CellStays (read_of (s.cell x)) (read_of new)) (sym e) stays) (λ _. cell_same (read_of (s.cell q)));
+  unmarked = λ q other. put_other s.cell p new q (apart q other);
+  rest = refl;
+}
+
+gains_both : (a : Marks) → MayGain a (marks_with Moved (marks_with Hot a))
+gains_both a = record { hot = λ _. refl; moved = λ _. refl; evac = refl; dropped = refl }
+
+cell_asked : (o : Option PtrWord) → CellStays o (map_mark Moved (map_mark Hot o))
+cell_asked None = tt
+cell_asked (Some Free) = tt
+cell_asked (Some (Near len ds place marks)) = (refl, refl, refl, gains_both marks)
+cell_asked (Some (Far len ds marks)) = (refl, refl, gains_both marks)
+
+hot_stays : (f g : ℕ → ℕ) (q : ℕ) (o n : Option PtrWord) → n ≡ map_mark Hot o → object_of f g q n ≡ object_of f g q o
+hot_stays f g q o n is = ap (object_of f g q) is ∙ object_of-mark Hot f g q o (λ e. absurd cc)
+
+asked_stays : (f g : ℕ → ℕ) (q : ℕ) (o n : Option PtrWord) → n ≡ map_mark Moved (map_mark Hot o) → object_of f g q n ≡ object_of f g q o
+asked_stays f g q o n is = ap (object_of f g q) is ∙ object_of-mark Moved f g q (map_mark Hot o) (λ e. absurd cc) ∙ object_of-mark Hot f g q o (λ e. absurd cc)
+
+-- a view that found no room leaves HOT, and MOVE where the object is near
+module _ (s : State) (m p hot : ℕ) (law : Law (record s { cell = put s.cell p hot })) (used : s.used p ≡ true) (is : read_of hot ≡ map_mark Hot (read_of (s.cell p))) where
+  abbrev pinned : State
+  pinned = record s { cell = put s.cell p hot }
+
+  here : pinned.cell p ≡ hot
+  here = put_same s.cell p hot p refl
+
+  abbrev asked : ℕ
+  asked = bit_or (pinned.cell p) (2 ^ position Moved)
+
+  asked_is : read_of asked ≡ map_mark Moved (map_mark Hot (read_of (s.cell p)))
+  asked_is = read_mark Moved (pinned.cell p) refl (law.cells.cell_read p).0 (law.views.used_cell p used) ∙ ap (λ w. map_mark Moved (read_of w)) here ∙ ap (map_mark Moved) is
+
+  only_hot : Stays (Mutator m (View p)) NoRoom (moment_of s) (moment_of pinned)
+  only_hot = marked_stays (Mutator m (View p)) NoRoom s p hot refl (λ q other. other) (subst (CellStays (read_of (s.cell p))) (sym is) (cell_hot (read_of (s.cell p)))) (λ f g q. hot_stays f g q (read_of (s.cell p)) (read_of hot) is)
+
+  both : Stays (Mutator m (View p)) NoRoom (moment_of s) (moment_of (record s { cell = put s.cell p asked }))
+  both = marked_stays (Mutator m (View p)) NoRoom s p asked refl (λ q other. other) (subst (CellStays (read_of (s.cell p))) (sym asked_is) (cell_asked (read_of (s.cell p)))) (λ f g q. asked_stays f g q (read_of (s.cell p)) (read_of asked) asked_is)
+
+  pub stays_asked : (o : Option PtrWord) → Stays (Mutator m (View p)) NoRoom (moment_of s) (moment_of (sought_of pinned m p o))
+  stays_asked None = only_hot
+  stays_asked (Some Free) = only_hot
+  stays_asked (Some (Near len ds place marks)) = subst (λ (f : ℕ → ℕ). Stays (Mutator m (View p)) NoRoom (moment_of s) (moment_of (record s { cell = f }))) (sym (put_put s.cell p hot asked)) both
+  stays_asked (Some (Far len ds marks)) = only_hot
+
+stays_sought : (s : State) (m p : ℕ) → Law s → is_opened s m ≡ true → uses s m p ≡ true → is_slow s p ≡ true → Stays (Mutator m (View p)) NoRoom (moment_of s) (moment_of (sought s m p))
+stays_sought s m p law opened ours slow =
+    let used = (and_parts (nat_eq (p / CELLS) m) (s.used p) ours).1 in
+    let hot : ℕ = bit_or (s.cell p) (2 ^ position Hot) in
+    let is : with_view s p ≡ record s { cell = put s.cell p hot } = slow_view s p slow in
+    let later : Law (record s { cell = put s.cell p hot }) = subst Law (view_is s m p law opened ours ∙ is) (view_law s m p law opened ours) in
+    subst (λ (t : State). Stays (Mutator m (View p)) NoRoom (moment_of s) (moment_of (asked_for t m p))) (sym is)
+    (stays_asked s m p hot later used (hot_read s law p used) (read_of ((record s { cell = put s.cell p hot }).cell p)))
+
 refused_leaves : (s : State) (c : Command) (why : Refusal) → Law s → refusal (moment_of s) c ≡ Some why → Stays c why (moment_of s) (refused_effect (moment_of s) c why)
+refused_leaves s (Mutator m (View p)) NoRoom law e =
+    let h = room_last (nat_lt m s.mutators) (is_opened s m) (uses s m p) (has_no_room s m p) e in
+    stays_sought s m p law h.1 h.2 (and_parts (is_slow s p) (not (is_some (comes_to (sought s m p) p))) h.3).0
 refused_leaves s (Mutator m (Try p)) (Marked word) law e =
     let h = marked_last (nat_lt m s.mutators) (is_opened s m) (uses s m p) (is_slow s p) (s.cell p) word e in
     stays_hot s m p word law h.1 h.2 h.3
@@ -162,6 +234,7 @@ refuses_unknown s (Mutator k (Read p from len)) m e h = first_holds s (Mutator k
 refuses_unknown s (Mutator k Close) m e h = first_holds s (Mutator k Close) (not (nat_lt k s.mutators)) _ refl (ap not (past s m k e h))
 refuses_unknown s (Mutator k (Where p)) m e h = first_holds s (Mutator k (Where p)) (not (nat_lt k s.mutators)) _ refl (ap not (past s m k e h))
 refuses_unknown s (Mutator k (Drop p)) m e h = first_holds s (Mutator k (Drop p)) (not (nat_lt k s.mutators)) _ refl (ap not (past s m k e h))
+refuses_unknown s (Mutator k (View p)) m e h = first_holds s (Mutator k (View p)) (not (nat_lt k s.mutators)) _ refl (ap not (past s m k e h))
 refuses_unknown s (Mutator k (Try p)) m e h = first_holds s (Mutator k (Try p)) (not (nat_lt k s.mutators)) _ refl (ap not (past s m k e h))
 refuses_unknown s (Book inquiry) m e h = absurd e
 

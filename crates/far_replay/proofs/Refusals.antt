@@ -11,15 +11,16 @@ use Rattle.far_book.specs.book.Home.{home_of}
 use Rattle.far_book.specs.declared.home.Home.{Home}
 use Rattle.far_replay.specs.Moment.{Moment, moment_of}
 use Rattle.far_replay.specs.Answers.{Commanded}
-use Rattle.far_replay.specs.Command.{Command, New, Open, Write, Read, Close, Where, Drop, Try, Logs, Log, Audit, Mutator, Book}
+use Rattle.far_replay.specs.Command.{Command, New, Open, Write, Read, Close, Where, Drop, View, Try, Logs, Log, Audit, Mutator, Book}
 use Rattle.far_replay.specs.Headline.{IsAtHandFor, MayRefuse}
 use Rattle.far_replay.specs.Reply.{Reply, Refused}
+use Rattle.far_replay.specs.Dereference.{has_no_room}
 use Rattle.far_replay.specs.Effects.{is_slow}
 use Rattle.far_replay.specs.EventRows.{AtHand}
 use Rattle.far_replay.specs.Objects.{uses, lowest_cell}
 use Rattle.far_replay.specs.Turn.{causes, first_cause, refusal, unless, turn_reply, pointer_reply, home_reply}
 use Rattle.far_replay.proofs.Each.{Each}
-use Rattle.far_replay.proofs.Views.{hand_is_fast}
+use Rattle.far_replay.proofs.Views.{hand_has_room, hand_is_fast}
 
 -- P holds of the refusal of each cause
 abbrev pub EachCause : (Refusal → Type 0) → List (Bool × Refusal) → Type 0
@@ -45,6 +46,9 @@ among P (c ∷ cs) why h = cond_both c.0 (Some c.1) (first_cause cs) (λ (x : Op
 fast_at : (s : State) (m p : ℕ) → Law s → (s.cell p ≢ 0 → AtHand s p) → not (uses s m p) ≡ false → is_slow s p ≡ false
 fast_at s m p law hand used = hand_is_fast s p (hand (nonzero s law p (and_parts (nat_eq (p / CELLS) m) (s.used p) (not-false (uses s m p) used)).1))
 
+room_at : (s : State) (m p : ℕ) → Law s → (s.cell p ≢ 0 → AtHand s p) → not (uses s m p) ≡ false → has_no_room s m p ≡ false
+room_at s m p law hand used = hand_has_room s m p (hand (nonzero s law p (and_parts (nat_eq (p / CELLS) m) (s.used p) (not-false (uses s m p) used)).1))
+
 -- the causes of each command are those that it may be refused for, where its object is at hand
 causes_listed : (s : State) (c : Command) → Law s → IsAtHandFor (moment_of s) c → EachFirst (MayRefuse c) (causes (moment_of s) c)
 causes_listed s (Mutator m (New len ds)) law hand = ((λ _. tt), λ _. ((λ _. tt), λ _. ((λ _. tt), λ _. ((λ _. tt), λ _. tt))))
@@ -54,6 +58,7 @@ causes_listed s (Mutator m (Read p from len)) law hand = ((λ _. tt), λ _. ((λ
 causes_listed s (Mutator m Close) law hand = ((λ _. tt), λ _. ((λ _. tt), λ _. tt))
 causes_listed s (Mutator m (Where p)) law hand = ((λ _. tt), λ _. ((λ _. tt), λ _. tt))
 causes_listed s (Mutator m (Drop p)) law hand = ((λ _. tt), λ _. ((λ _. tt), λ _. ((λ _. tt), λ _. tt)))
+causes_listed s (Mutator m (View p)) law hand = ((λ _. tt), λ _. ((λ _. tt), λ _. ((λ _. tt), λ used. ((λ full. absurd (true≢false (sym full ∙ room_at s m p law hand used))), λ _. tt))))
 causes_listed s (Mutator m (Try p)) law hand = ((λ _. tt), λ _. ((λ _. tt), λ _. ((λ _. tt), λ used. ((λ slow. absurd (true≢false (sym slow ∙ fast_at s m p law hand used))), λ _. tt))))
 causes_listed s (Book Logs) law hand = tt
 causes_listed s (Book (Log l)) law hand = ((λ _. tt), λ _. tt)
@@ -76,6 +81,7 @@ turn_is_no_refusal s (Mutator m (Read p from len)) why e = cc
 turn_is_no_refusal s (Mutator m Close) why e = cc
 turn_is_no_refusal s (Mutator m (Where p)) why e = home_is_no_refusal (home_of (read_of (s.cell p))) why e
 turn_is_no_refusal s (Mutator m (Drop p)) why e = cc
+turn_is_no_refusal s (Mutator m (View p)) why e = cc
 turn_is_no_refusal s (Mutator m (Try p)) why e = cc
 turn_is_no_refusal s (Book Logs) why e = cc
 turn_is_no_refusal s (Book (Log l)) why e = cc

@@ -7,7 +7,7 @@ use Rattle.std.proofs.lemmas.Bool.Decides.{nat_tests}
 use Rattle.std.proofs.lemmas.List.Splits.{join_with_byte-slice_split}
 use Rattle.hex.proofs.HexLemmas.{decode_of-ok}
 use Rattle.far_replay.specs.declared.text.TheConstants.{LONGEST_TEXT}
-use Rattle.far_replay.specs.Command.{Command, Entry, HeapLine, CommandLine, Trace, Nothing, Heap, New, Open, Write, Read, Close, Where, Drop, Try, Mutator, Book}
+use Rattle.far_replay.specs.Command.{Command, Entry, HeapLine, CommandLine, Trace, Nothing, Heap, New, Open, Write, Read, Close, Where, Drop, View, Try, Mutator, Book}
 use Rattle.far_replay.specs.Grammar.{Line, Skipped, Saying, Bad, line_of, lines_of, line_words, is_plain, is_skipped, saying, entry_of, trace_of, onto, with_heap, read_command, read_commands, read_heap, read_lines}
 use Rattle.far_replay.specs.TraceText.{IsPassed, Speaks, LinesSay, LinesAre, TextSays, FirstBad, HaveNone}
 use Rattle.far_replay.specs.Says.{Says}
@@ -281,6 +281,7 @@ words_write words (Mutator m (Read p from len)) h = tt
 words_write words (Mutator m Close) h = tt
 words_write words (Mutator m (Where p)) h = tt
 words_write words (Mutator m (Drop p)) h = tt
+words_write words (Mutator m (View p)) h = tt
 words_write words (Mutator m (Try p)) h = tt
 words_write words (Book inquiry) h = tt
 

@@ -1,6 +1,6 @@
 -- The events of each command succeed, and keep the law and what holds between commands.
 use Rattle.std.proofs.Common.{◌≡◌, ◌≢◌, ℕ, ◌+◌, ◌*◌, ◌/◌, ◌%◌, ◌^◌, ◌<◌, ◌≤◌, ◌⊎◌, Bool, true, false, cond, not, ◌&&◌, nat_lt, nat_le, nat_eq, refl, sym, ap, subst, ◌∙◌, arith, Option, Some, None, List, [], ◌∷◌, ◌++◌, length, get_or, is_some, if◌then◌else◌, inl, inr}
-use Rattle.std.proofs.lemmas.Bool.{and_parts, cond_both, ltb-true}
+use Rattle.std.proofs.lemmas.Bool.{and_parts, cond_both, ltb-true, true≢false}
 use Rattle.std.proofs.lemmas.Bool.Decides.{nat_tests}
 use Rattle.far_word.specs.declared.mark.Marks.{Marks}
 use Rattle.far_word.specs.declared.pointer.Place.{Place}
@@ -25,16 +25,18 @@ use Rattle.far_core.specs.state.Room.{room}
 use Rattle.far_core.specs.state.State.{State, put, addr}
 use Rattle.far_core.specs.events.Step.{Fits, is_legal, is_opened, data_len, near_data, after_close, scope_word_of, with_span}
 use Rattle.far_core.proofs.Bounds.{some_of}
+use Rattle.far_core.proofs.KeepOwner.{nonzero}
 use Rattle.far_core.proofs.KeepPlace.{header}
 use Rattle.far_core.proofs.Owing.{is_test}
 use Rattle.far_core.proofs.RoomLaws.{room_right}
 use Rattle.far_core.proofs.Put.{put_both, put_same, put_other}
 use Rattle.far_replay.specs.Moment.{moment_of}
-use Rattle.far_replay.specs.Command.{Command, New, Open, Write, Read, Close, Where, Drop, Try, Mutator, Book}
+use Rattle.far_replay.specs.Command.{Command, New, Open, Write, Read, Close, Where, Drop, View, Try, Mutator, Book}
 use Rattle.far_replay.specs.EventRows.{after_events, AllSucceed, AtHand}
 use Rattle.far_replay.specs.Between.{Between}
 use Rattle.far_replay.specs.Events.{new_events, zero_puts, open_events, view_events, first_word, words_touched, load_events, starts_inside, ends_inside, part_events, store_events, drop_events, turn_events, refused_events, events_for}
 use Rattle.far_replay.specs.Objects.{uses, object_len, data_of, with_range, lowest_cell, is_range}
+use Rattle.far_replay.specs.Dereference.{has_no_room}
 use Rattle.far_replay.specs.Effects.{near_word}
 use Rattle.far_replay.specs.Effects.{with_row, with_object, with_view, is_slow, with_data, with_scope, without_object, epoch_for}
 use Rattle.far_replay.specs.Turn.{turn_effect, refused_effect, effect, with_new, access_causes, first_cause, refusal, unless}
@@ -49,7 +51,7 @@ use Rattle.far_replay.proofs.Spliced.{AreBytes, with_range_bytes, length-with_ra
 use Rattle.far_replay.proofs.StoreTurns.{stores_go, stores_end}
 use Rattle.far_replay.proofs.RangeWrites.{object_padded}
 use Rattle.far_replay.proofs.WriteEnds.{row_whole}
-use Rattle.far_replay.proofs.Views.{len_near, Viewed, view_holds, view_is, view_succeeds, view_law, view_between}
+use Rattle.far_replay.proofs.Views.{hand_is_fast, hand_has_room, fast_dereference, len_near, Viewed, view_holds, view_is, view_succeeds, view_law, view_between}
 
 -- ---- what no refusal says
 -- four causes that aren't there
@@ -75,6 +77,14 @@ marked_last true true true false w v e = absurd cc
 marked_last true true false d w v e = absurd cc
 marked_last true false c d w v e = absurd cc
 marked_last false b c d w v e = absurd cc
+
+-- and where want of room is
+pub room_last : (a b c d : Bool) → first_cause ((not a, Range) ∷ (not b, Closed) ∷ (not c, NotHeld) ∷ (d, NoRoom) ∷ []) ≡ Some NoRoom → (a ≡ true) × (b ≡ true) × (c ≡ true) × (d ≡ true)
+room_last true true true true e = (refl, refl, refl, refl)
+room_last true true true false e = absurd cc
+room_last true true false d e = absurd cc
+room_last true false c d e = absurd cc
+room_last false b c d e = absurd cc
 
 -- two of them
 pub two : (a b : Bool) (w x : Refusal) → first_cause ((not a, w) ∷ (b, x) ∷ []) ≡ None → (a ≡ true) × (b ≡ false)
@@ -544,14 +554,26 @@ command_turned s (Mutator m Close) law between small e = close_turned s m law be
   two_open false b f = absurd cc
 command_turned s (Mutator m (Where p)) law between small e = none_turned s law between
 command_turned s (Mutator m (Drop p)) law between small e = drop_turned s m p law between (three (nat_lt m s.mutators) (uses s m p) (is_some (s.held p)) Range NotHeld Held e)
+command_turned s (Mutator m (View p)) law between small e =
+    let h = tried (nat_lt m s.mutators) (is_opened s m) (uses s m p) (has_no_room s m p) Range Closed NotHeld NoRoom e in
+    let used = and_parts (nat_eq (p / CELLS) m) (s.used p) h.2 in
+    subst (Turned s (view_events s m p)) (sym (fast_dereference s m p (hand_is_fast s p (between.at_hand p (nonzero s law p used.1))))) (view_turned s m p law between h.1 h.2)
 command_turned s (Mutator m (Try p)) law between small e =
     let h = tried (nat_lt m s.mutators) (is_opened s m) (uses s m p) (is_slow s p) Range Closed NotHeld (Marked (s.cell p)) e in
     view_turned s m p law between h.1 h.2
 command_turned s (Book inquiry) law between small e = none_turned s law between
 
+-- a view of an object at hand finds room
+view_has_room : (s : State) (m p : ℕ) → Law s → Between s → refusal (moment_of s) (Mutator m (View p)) ≡ Some NoRoom → ⊥
+view_has_room s m p law between e =
+    let h = room_last (nat_lt m s.mutators) (is_opened s m) (uses s m p) (has_no_room s m p) e in
+    let used = and_parts (nat_eq (p / CELLS) m) (s.used p) h.2 in
+    true≢false (sym h.3 ∙ hand_has_room s m p (between.at_hand p (nonzero s law p used.1)))
+
 -- a refused one: where a mark was found, the pin; else nothing
 refused_turned : (s : State) (c : Command) (why : Refusal) → Law s → Between s → refusal (moment_of s) c ≡ Some why →
     Turned s (refused_events (moment_of s) c why) (refused_effect (moment_of s) c why).core
+refused_turned s (Mutator m (View p)) NoRoom law between e = absurd (view_has_room s m p law between e)
 refused_turned s (Mutator m (Try p)) (Marked word) law between e =
     let h = marked_last (nat_lt m s.mutators) (is_opened s m) (uses s m p) (is_slow s p) (s.cell p) word e in
     view_turned s m p law between h.1 h.2

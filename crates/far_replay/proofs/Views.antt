@@ -1,5 +1,5 @@
 -- What a view of an object changes, and what it leaves.
-use Rattle.std.proofs.Common.{◌≡◌, ◌≢◌, ℕ, ◌/◌, ◌^◌, true, false, refl, sym, ap, subst, ◌∙◌, arith, [], ◌∷◌, Option, Some, None, bit_or, if◌then◌else◌, is_some, not, ◌||◌, Bool}
+use Rattle.std.proofs.Common.{◌≡◌, ◌≢◌, ℕ, ◌/◌, ◌^◌, true, false, refl, sym, ap, subst, ◌∙◌, arith, [], ◌∷◌, Option, Some, None, bit_or, if◌then◌else◌, is_some, not, ◌||◌, ◌&&◌, Bool}
 use Rattle.std.proofs.lemmas.Bool.{false≢true}
 use Rattle.std.proofs.lemmas.Bool.Decides.{nat_tests}
 use Rattle.far_word.specs.declared.mark.Mark.TheVariants.{Hot}
@@ -23,6 +23,7 @@ use Rattle.far_core.proofs.Guards.{open_fact}
 use Rattle.far_core.proofs.Owing.{is_test, never_refused}
 use Rattle.far_core.proofs.Put.{put_both, put_same}
 use Rattle.far_replay.specs.Effects.{with_view, is_slow}
+use Rattle.far_replay.specs.Dereference.{come, comes_to, dereferenced, has_no_room, sought}
 use Rattle.far_replay.specs.EventRows.{after_events, AllSucceed, AtHand, AllAtHand}
 use Rattle.far_replay.specs.Between.{Between}
 use Rattle.far_replay.specs.Events.{view_events}
@@ -112,6 +113,13 @@ fast false = refl
 
 pub hand_is_fast : (s : State) (p : ℕ) → AtHand s p → is_slow s p ≡ false
 hand_is_fast s p h = ap (λ o. not (is_some (s.held p) || is_some o)) (Ready-view (read_of (s.cell p)) (ready_of s p h)) ∙ fast (is_some (s.held p))
+
+-- so that it is dereferenced by a pin, and needs no room
+pub hand_has_room : (s : State) (m p : ℕ) → AtHand s p → has_no_room s m p ≡ false
+hand_has_room s m p h = ap (λ b. b && not (is_some (comes_to (sought s m p) p))) (hand_is_fast s p h)
+
+pub fast_dereference : (s : State) (m p : ℕ) → is_slow s p ≡ false → dereferenced s m p ≡ with_view s p
+fast_dereference s m p fast = ap (λ b. if b then with_view (come (sought s m p) p) p else with_view s p) fast
 
 module _ (s : State) (m p : ℕ) (law : Law s) (opened : is_opened s m ≡ true) (ours : uses s m p ≡ true) where
   -- the pointer is the owner's

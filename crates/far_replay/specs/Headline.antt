@@ -26,10 +26,11 @@ use Rattle.far_book.specs.declared.home.Home.{Home}
 use Rattle.far_book.specs.declared.home.Home.TheVariants.{Near, Far}
 use Rattle.far_replay.specs.Alone.{Alone, Knows, Learns, Own, nothing}
 use Rattle.far_replay.specs.Answers.{Answered, Answers, Commanded, IsMoment, shape_of, first_moment}
-use Rattle.far_replay.specs.Command.{Command, Heap, CommandLine, New, Open, Write, Read, Close, Where, Drop, Try, Logs as AsksLogs, Log, Audit, Mutator, Book}
+use Rattle.far_replay.specs.Command.{Command, Heap, CommandLine, New, Open, Write, Read, Close, Where, Drop, View, Try, Logs as AsksLogs, Log, Audit, Mutator, Book}
 use Rattle.far_replay.specs.Grammar.{trace_of}
 use Rattle.far_replay.specs.Moment.{Moment}
 use Rattle.far_replay.specs.EventRows.{after_events, AllPass, AllSucceed, AllComeToPass, AtHand, AllAtHand}
+use Rattle.far_replay.specs.Effects.{is_slow}
 use Rattle.far_replay.specs.Events.{events_for}
 use Rattle.far_replay.specs.Objects.{with_range, uses}
 use Rattle.far_replay.specs.Says.{Says}
@@ -55,6 +56,7 @@ LogsStay now (c ∷ cs) (after ∷ moments) = StayThrough now c × LogsStay afte
 abbrev pub IsAtHandFor : Moment → Command → Type 0
 IsAtHandFor now (Mutator m (Write p from bytes)) = now.core.cell p ≢ 0 → AtHand now.core p
 IsAtHandFor now (Mutator m (Read p from len)) = now.core.cell p ≢ 0 → AtHand now.core p
+IsAtHandFor now (Mutator m (View p)) = now.core.cell p ≢ 0 → AtHand now.core p
 IsAtHandFor now (Mutator m (Try p)) = now.core.cell p ≢ 0 → AtHand now.core p
 IsAtHandFor now c = Unit {0}
 
@@ -97,6 +99,9 @@ MayRefuse (Mutator m (Where p)) NotHeld = Unit {0}
 MayRefuse (Mutator m (Drop p)) Range = Unit {0}
 MayRefuse (Mutator m (Drop p)) NotHeld = Unit {0}
 MayRefuse (Mutator m (Drop p)) Held = Unit {0}
+MayRefuse (Mutator m (View p)) Range = Unit {0}
+MayRefuse (Mutator m (View p)) Closed = Unit {0}
+MayRefuse (Mutator m (View p)) NotHeld = Unit {0}
 MayRefuse (Mutator m (Try p)) Range = Unit {0}
 MayRefuse (Mutator m (Try p)) Closed = Unit {0}
 MayRefuse (Mutator m (Try p)) NotHeld = Unit {0}
@@ -161,14 +166,16 @@ pub record ViewsNothing (s t : State) (m : ℕ) : Type 0 where
 abbrev pub ViewsAfter : Moment → Command → Reply → Moment → Type 0
 ViewsAfter now (Mutator m (Read p from len)) (Data bytes) after = ViewsObject now.core after.core p
 ViewsAfter now (Mutator m (Write p from bytes)) Done after = ViewsObject now.core after.core p
+ViewsAfter now (Mutator m (View p)) Done after = ViewsObject now.core after.core p
 ViewsAfter now (Mutator m (Try p)) Done after = ViewsObject now.core after.core p
 ViewsAfter now (Mutator m Close) Done after = ViewsNothing now.core after.core m
 ViewsAfter now c r after = after.core.held ≡ now.core.held
 
--- what a command with its reply takes of the logs: a new object its span, at the end of the log that room says; anything else nothing
+-- what a command with its reply takes of the logs: a new object its span, at the end of the log that room says; a view nothing, where its pin does; anything else nothing
 abbrev pub TakesRoom : Moment → Command → Reply → Moment → Type 0
 TakesRoom now (Mutator m (New len ds)) (Pointer p) after = (place : Place) × (room now.core (size_of len) true ≡ Some place)
     × (after.core.tail ≡ put now.core.tail place.log (place.at + size_of len))
+TakesRoom now (Mutator m (View p)) Done after = is_slow now.core p ≡ false → (after.core.tail ≡ now.core.tail) × (after.core.kind ≡ now.core.kind)
 TakesRoom now c r after = (after.core.tail ≡ now.core.tail) × (after.core.kind ≡ now.core.kind)
 
 -- a cell has HOT, on what it said before

@@ -4,6 +4,7 @@ pub mod Audit
 pub mod Between
 pub mod Command
 pub mod Cursor
+pub mod Dereference
 pub mod Effects
 pub mod EventRows
 pub mod Events

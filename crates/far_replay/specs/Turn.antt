@@ -14,7 +14,8 @@ use Rattle.far_word.specs.Pointer.{read_of}
 use Rattle.far_book.specs.book.Home.{home_of}
 use Rattle.far_book.specs.declared.home.Home.{Home}
 use Rattle.far_replay.specs.Audit.{counts_of}
-use Rattle.far_replay.specs.Command.{Command, New, Open, Write, Read, Close, Where, Drop, Try, Logs, Log, Audit, Mutator, Book}
+use Rattle.far_replay.specs.Command.{Command, New, Open, Write, Read, Close, Where, Drop, View, Try, Logs, Log, Audit, Mutator, Book}
+use Rattle.far_replay.specs.Dereference.{dereferenced, has_no_room, sought}
 use Rattle.far_replay.specs.Effects.{with_object, with_scope, with_view, is_slow, with_data, without_object}
 use Rattle.far_replay.specs.Moment.{Moment}
 use Rattle.far_replay.specs.Objects.{uses, object_len, data_of, lowest_cell, is_range}
@@ -36,6 +37,8 @@ causes now (Mutator m (Read p from len)) = access_causes now m p from len
 causes now (Mutator m Close) = (not (nat_lt m now.core.mutators), Range) ∷ (not (is_opened now.core m), Closed) ∷ []
 causes now (Mutator m (Where p)) = (not (nat_lt m now.core.mutators), Range) ∷ (not (uses now.core m p), NotHeld) ∷ []
 causes now (Mutator m (Drop p)) = (not (nat_lt m now.core.mutators), Range) ∷ (not (uses now.core m p), NotHeld) ∷ (is_some (now.core.held p), Held) ∷ []
+causes now (Mutator m (View p)) =
+    (not (nat_lt m now.core.mutators), Range) ∷ (not (is_opened now.core m), Closed) ∷ (not (uses now.core m p), NotHeld) ∷ (has_no_room now.core m p, NoRoom) ∷ []
 causes now (Mutator m (Try p)) =
     (not (nat_lt m now.core.mutators), Range) ∷ (not (is_opened now.core m), Closed) ∷ (not (uses now.core m p), NotHeld) ∷ (is_slow now.core p, Marked (now.core.cell p)) ∷ []
 causes now (Book Logs) = []
@@ -65,11 +68,13 @@ turn_effect now (Mutator m (Read p from len)) = record now { core = with_view no
 turn_effect now (Mutator m Close) = record now { core = after_close now.core m }
 turn_effect now (Mutator m (Where p)) = now
 turn_effect now (Mutator m (Drop p)) = record now { core = without_object now.core m p }
+turn_effect now (Mutator m (View p)) = record now { core = dereferenced now.core m p }
 turn_effect now (Mutator m (Try p)) = record now { core = with_view now.core p }
 turn_effect now (Book inquiry) = now
 
 -- ---- the moment after a command that is refused: as before, but for the marks that it left
 abbrev pub refused_effect : Moment → Command → Refusal → Moment
+refused_effect now (Mutator m (View p)) NoRoom = record now { core = sought now.core m p }
 refused_effect now (Mutator m (Try p)) (Marked word) = record now { core = with_view now.core p }
 refused_effect now c why = now
 
@@ -95,6 +100,7 @@ turn_reply now (Mutator m (Read p from len)) = Data (slice_range (data_of now.co
 turn_reply now (Mutator m Close) = Done
 turn_reply now (Mutator m (Where p)) = home_reply (home_of (read_of (now.core.cell p)))
 turn_reply now (Mutator m (Drop p)) = Done
+turn_reply now (Mutator m (View p)) = Done
 turn_reply now (Mutator m (Try p)) = Done
 turn_reply now (Book Logs) = Told (map (log_line now) (range_with_len 0 now.core.logs))
 turn_reply now (Book (Log l)) = Told (log_line now l ∷ [])

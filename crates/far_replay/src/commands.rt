@@ -53,6 +53,7 @@ pub enum Record {
     Close(Number),
     Where(Number, Number),
     Drop(Number, Number),
+    View(Number, Number),
     Try(Number, Number),
     Logs,
     Log(Number),
@@ -123,6 +124,7 @@ fn request_record(
         Request::Close => Record::Close(m),
         Request::Where { pointer } => Record::Where(m, Number::of(pointer)),
         Request::Drop { pointer } => Record::Drop(m, Number::of(pointer)),
+        Request::View { pointer } => Record::View(m, Number::of(pointer)),
         Request::Try { pointer } => Record::Try(m, Number::of(pointer)),
     }))
 }
@@ -194,6 +196,10 @@ impl Record {
             Record::Drop(mutator, pointer) => {
                 let pointer = pointer.value();
                 (mutator, Request::Drop { pointer })
+            }
+            Record::View(mutator, pointer) => {
+                let pointer = pointer.value();
+                (mutator, Request::View { pointer })
             }
             Record::Try(mutator, pointer) => {
                 let pointer = pointer.value();

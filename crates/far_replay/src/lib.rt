@@ -23,8 +23,8 @@ mod reply_writer;
 mod running;
 mod stream;
 mod text;
-mod trying;
 mod turn;
+mod viewing;
 
 pub use headline::{
     drops_end_objects, inquiries_tell, lines_tell_replies, logs_are_told, moments_are_lawful,

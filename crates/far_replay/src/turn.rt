@@ -14,7 +14,7 @@ ghost use Rattle.far_replay.specs.Interpreter.{refused_in, IsAccess, IsViewed, S
 ghost use Rattle.hex.specs.Hex.{IsBytes};
 ghost use Rattle.far_replay.specs.Written.{WritesBytes};
 ghost use Rattle.far_replay.specs.EventRows.{after_events};
-ghost use Rattle.far_replay.specs.Command.{Mutator, Book, New, Open, Write, Read, Close, Where, Drop, Try, Logs, Log, Audit};
+ghost use Rattle.far_replay.specs.Command.{Mutator, Book, New, Open, Write, Read, Close, Where, Drop, View, Try, Logs, Log, Audit};
 ghost use Rattle.far_replay.specs.Outcome.{reply_by, IsInRoom};
 ghost use Rattle.far_replay.specs.Between.{Between};
 ghost use Rattle.far_replay.specs.Events.{events_for, turn_events, first_word, words_touched, starts_inside, ends_inside};
@@ -28,7 +28,7 @@ use crate::events::{open, view};
 use crate::inquiries::{audit, find_object, tell_log, tell_logs};
 use crate::outcome::{Outcome, Scratch};
 use crate::owners::{own_pointer, owner_of};
-use crate::trying::try_object;
+use crate::viewing::{try_object, view_object};
 use far_book::{Book, Plain};
 use far_core::Event;
 use far_device::MemDevice;
@@ -398,6 +398,7 @@ fn make_request(
         Request::Close => close_scope(book, owner),
         Request::Where { pointer } => find_object(book, owner, pointer),
         Request::Drop { pointer } => drop_object(book, owner, pointer),
+        Request::View { pointer } => view_object(book, owner, pointer),
         Request::Try { pointer } => try_object(book, owner, pointer),
     }
 }
