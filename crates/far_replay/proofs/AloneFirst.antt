@@ -9,8 +9,8 @@ use Rattle.far_core.specs.world.WorldOf.{world_of}
 use Rattle.far_core.proofs.WorldFacts.{opening_world}
 use Rattle.far_replay.specs.Alone.{Alone, nothing, own_of}
 use Rattle.far_replay.specs.Answers.{Answered, shape_of, first_moment}
-use Rattle.far_replay.specs.Command.{Command}
-use Rattle.far_replay.specs.Written.{AllWriteBytes}
+use Rattle.far_text.specs.Command.{Command}
+use Rattle.far_text.specs.Written.{AllWriteBytes}
 use Rattle.far_replay.specs.Moment.{Moment}
 use Rattle.far_replay.specs.Reply.{Reply}
 use Rattle.far_replay.proofs.AloneLaw.{alone}

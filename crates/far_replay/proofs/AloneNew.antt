@@ -26,14 +26,14 @@ use Rattle.far_core.proofs.Cells.{unused}
 use Rattle.far_core.proofs.Keeps.{step_keeps}
 use Rattle.far_replay.specs.Moment.{moment_of}
 use Rattle.far_replay.specs.Alone.{own_of, bytes_in_world, HasLeft}
-use Rattle.far_replay.specs.Command.{New, Mutator}
+use Rattle.far_text.specs.Command.{New, Mutator}
 use Rattle.far_replay.specs.EventRows.{after_events}
 use Rattle.far_replay.specs.Reply.{Refused}
 use Rattle.far_replay.specs.Events.{new_events, zero_puts}
 use Rattle.far_replay.specs.Objects.{lowest_cell}
 use Rattle.far_replay.specs.Effects.{near_word}
 use Rattle.far_replay.specs.Turn.{refusal, first_cause, unless, pointer_reply}
-use Rattle.far_replay.proofs.Each.{Each-row}
+use Rattle.far_text.proofs.Each.{Each-row}
 use Rattle.far_replay.proofs.MadeLemmas.{made-append, AllSucceed-parts, AllComeToPass-parts, Carries}
 use Rattle.far_replay.proofs.AloneViews.{views_still}
 use Rattle.far_replay.proofs.ViewLaws.{row_stays, news}

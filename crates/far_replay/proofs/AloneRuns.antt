@@ -35,7 +35,7 @@ use Rattle.far_core.proofs.Steps.{step_does}
 use Rattle.far_replay.specs.Alone.{Own, own_of, bytes_in_world}
 use Rattle.far_replay.specs.EventRows.{after_events, Succeeds, AllSucceed, ComesToPass}
 use Rattle.far_replay.specs.Events.{store_events}
-use Rattle.far_replay.proofs.Each.{Each}
+use Rattle.far_text.proofs.Each.{Each}
 
 -- ---- what a mutator knows of a world
 pub Own-ext : (a b : Own) → a.opened ≡ b.opened → a.object ≡ b.object → a.viewed ≡ b.viewed → a ≡ b

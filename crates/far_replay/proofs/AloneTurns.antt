@@ -32,7 +32,7 @@ use Rattle.far_replay.specs.Dereference.{has_no_room}
 use Rattle.far_replay.specs.Effects.{is_slow, without_object}
 use Rattle.far_replay.proofs.AloneBytes.{over_with_range}
 use Rattle.far_replay.proofs.Drops.{drop_ends, drop_is, drop_world, own_gone, own_left, unheld_is}
-use Rattle.far_replay.proofs.Each.{Each-append, Each-row}
+use Rattle.far_text.proofs.Each.{Each-append, Each-row}
 use Rattle.far_replay.proofs.MadeLemmas.{made-append, AllSucceed-parts, Carries}
 use Rattle.far_replay.proofs.Views.{hand_has_room, hand_is_fast}
 use Rattle.far_replay.proofs.Spliced.{AreBytes, packed_wide, with_range_bytes}

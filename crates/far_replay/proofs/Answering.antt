@@ -1,24 +1,17 @@
 -- One command more that was answered.
-use Rattle.std.proofs.Common.{◌≡◌, ℕ, ◌+◌, ◌<◌, List, [], ◌∷◌, ◌++◌, length, get_or, drop, Result, Ok, Err, refl, ap, sym, ◌∙◌, subst, arith, append_assoc, append-nil, zero, suc}
-use Rattle.std.specs.Prelude.{map}
+use Rattle.std.proofs.Common.{◌≡◌, List, [], ◌∷◌, ◌++◌, ap, sym, ◌∙◌, subst, append_assoc, append-nil}
 use Rattle.std.specs.List.{flat_map}
 use Rattle.std.proofs.lemmas.Grind.{flat_map-append}
 use Rattle.far_core.specs.state.Law.{Law}
 use Rattle.far_core.specs.state.State.{State}
 use Rattle.far_replay.specs.Moment.{Moment, moment_of}
 use Rattle.far_replay.specs.Answers.{Answered, Commanded}
-use Rattle.far_replay.specs.Command.{Command}
-use Rattle.far_replay.specs.Written.{WritesBytes}
+use Rattle.far_text.specs.Command.{Command}
+use Rattle.far_text.specs.Written.{WritesBytes}
 use Rattle.far_replay.specs.Reply.{Reply, reply_text}
 use Rattle.far_replay.specs.Between.{Between}
 use Rattle.far_replay.specs.Turn.{effect}
 use Rattle.far_replay.proofs.Turns.{turns}
-
--- the rest of a list begins with the element at its index
-pub drop_here : {X Y : Type 0} (f : X → Y) (xs : List X) (i : ℕ) (x : X) → i < length xs → x ≡ get_or xs i x → drop i (map f xs) ≡ f x ∷ drop (i + 1) (map f xs)
-drop_here f [] i x lt e = absurd (omega arith)
-drop_here f (y ∷ xs) zero x lt e = ap (λ z. f z ∷ map f xs) (sym e)
-drop_here f (y ∷ xs) (suc i) x lt e = let there : suc (i + 1) ≡ suc i + 1 = omega arith in drop_here f xs i x (omega arith) e ∙ ap (λ n. f x ∷ drop n (f y ∷ map f xs)) there
 
 -- what holds between two commands holds after one more
 pub still_between : (s t : State) (c : Command) → Law s → Between s → WritesBytes c → moment_of t ≡ effect (moment_of s) c → Between t

@@ -29,7 +29,7 @@ use Rattle.far_replay.specs.Objects.{uses, object_len, data_of, with_range, lowe
 use Rattle.far_replay.specs.Turn.{access_causes, first_cause, refusal, unless}
 use Rattle.far_replay.proofs.AloneStates.{lowest_free}
 use Rattle.far_replay.proofs.Drops.{drop_comes, unheld_is}
-use Rattle.far_replay.proofs.Each.{Each, Each-append, Each-row}
+use Rattle.far_text.proofs.Each.{Each, Each-append, Each-row}
 use Rattle.far_replay.proofs.MadeLemmas.{AllComeToPass-append}
 use Rattle.far_replay.proofs.Turns.{four, three, tried, marked_last}
 use Rattle.far_replay.proofs.Views.{ready_of, Ready-view, hand_is_fast}

@@ -5,8 +5,8 @@ use Rattle.std.specs.List.{flat_map}
 use Rattle.far_word.specs.declared.refused.Refused.TheVariants.{Shape}
 use Rattle.far_core.specs.state.Shape.{is_shape}
 use Rattle.far_replay.specs.Answers.{Answered, Commanded, Answers, IsOutput, shape_of, first_moment}
-use Rattle.far_replay.specs.Command.{Command, Trace, Nothing, Heap}
-use Rattle.far_replay.specs.Grammar.{trace_of}
+use Rattle.far_text.specs.Command.{Command, Trace, Nothing, Heap}
+use Rattle.far_text.specs.Grammar.{trace_of}
 use Rattle.far_replay.specs.Moment.{Moment}
 use Rattle.far_replay.specs.Reply.{Reply, Done, Refused, reply_text}
 

@@ -40,7 +40,7 @@ use Rattle.far_book.proofs.region.Retires.{retired_is, may_retire, live_here, li
 use Rattle.far_book.proofs.region.SpanLists.{taken_same}
 use Rattle.far_replay.specs.Alone.{own_of, bytes_in_world}
 use Rattle.far_replay.specs.Answers.{Commanded}
-use Rattle.far_replay.specs.Command.{Drop, Mutator}
+use Rattle.far_text.specs.Command.{Drop, Mutator}
 use Rattle.far_replay.specs.Effects.{without_object}
 use Rattle.far_replay.specs.EventRows.{after_events, Succeeds, AllSucceed, ComesToPass, AllComeToPass, AllAtHand}
 use Rattle.far_replay.specs.Events.{drop_events, events_for}
@@ -50,7 +50,7 @@ use Rattle.far_replay.specs.Objects.{uses}
 use Rattle.far_replay.specs.Reply.{Reply, Done, Refused}
 use Rattle.far_replay.specs.Turn.{first_cause, refusal, unless}
 use Rattle.far_replay.proofs.AloneRuns.{Own-ext, views_of}
-use Rattle.far_replay.proofs.Each.{Each}
+use Rattle.far_text.proofs.Each.{Each}
 use Rattle.far_replay.proofs.MadeLemmas.{made_first, first_succeeds, first_comes, made_law}
 
 -- ---- retiring a cell, whatever it says

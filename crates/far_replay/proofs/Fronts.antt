@@ -1,10 +1,11 @@
 -- Bytes and words in front of the room for them.
 use Rattle.std.proofs.Common.{◌≡◌, ℕ, ◌+◌, ◌-◌, ◌*◌, ◌/◌, ◌%◌, ◌^◌, ◌<◌, ◌≤◌, List, ◌++◌, length, take, drop, get_or, ap, sym, ◌∙◌, arith, length-take-le, length-drop}
 use Rattle.std.specs.Prelude.{slice_range}
-use Rattle.std.proofs.lemmas.List.{ext_get_or, take-append-le, get_or-take, get_or-drop}
+use Rattle.std.proofs.lemmas.List.{ext_get_or, take-append-le, get_or-take}
 use Rattle.std.proofs.Math.Seq.{take-length}
 use Rattle.far_word.specs.Bytes.{bytes_of, byte_at}
 use Rattle.far_word.proofs.ByteLaws.{bytes_of-same, bytes_of-get, length-bytes_of}
+use Rattle.far_text.proofs.Parts.{range_get}
 
 -- the bytes of the first words, whatever stands behind them
 pub unpacked_front : (words bytes rest : List ℕ) (count n b : ℕ) → n ≡ count → b ≡ 8 * count → bytes ≡ bytes_of (λ i. get_or (take n words) i 0) b →
@@ -15,10 +16,6 @@ unpacked_front words bytes rest count n b same all is =
     take-append-le (8 * count) bytes rest (omega arith)
     ∙ ap (λ m. take m bytes) (sym long) ∙ take-length bytes ∙ e
     ∙ bytes_of-same (λ i. get_or (take n words) i 0) (λ i. get_or words i 0) (8 * count) (λ i lt. get_or-take n words i 0 (omega arith))
-
--- a part of bytes, by what stands at each place
-pub range_get : (xs : List ℕ) (from count k : ℕ) → k < count → get_or (slice_range xs from (from + count)) k 0 ≡ get_or xs (from + k) 0
-range_get xs from count k lt = get_or-take (from + count - from) (drop from xs) k 0 (omega arith) ∙ get_or-drop from xs k 0
 
 pub range_length : (xs : List ℕ) (from count : ℕ) → from + count ≤ length xs → length (slice_range xs from (from + count)) ≡ count
 range_length xs from count fits = length-take-le (from + count - from) (drop from xs) (omega (arith, length-drop from xs)) ∙ omega arith

@@ -23,7 +23,7 @@ use Rattle.far_book.specs.declared.home.Home.{Home}
 use Rattle.far_book.specs.declared.home.Home.TheVariants.{Near, Far}
 use Rattle.far_replay.specs.Answers.{Commanded, IsMoment}
 use Rattle.far_replay.specs.Audit.{lies_near, lies_far, pointers_by, counts_of}
-use Rattle.far_replay.specs.Command.{Where, Logs as AsksLogs, Log, Audit, Mutator, Book}
+use Rattle.far_text.specs.Command.{Where, Logs as AsksLogs, Log, Audit, Mutator, Book}
 use Rattle.far_replay.specs.EventRows.{AllAtHand}
 use Rattle.far_replay.specs.Headline.{TellsHome, IsHowMany, HasObject, CountsAll}
 use Rattle.far_replay.specs.Moment.{Moment, moment_of}

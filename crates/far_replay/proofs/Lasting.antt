@@ -13,17 +13,17 @@ use Rattle.far_core.proofs.Keeps.{step_keeps}
 use Rattle.far_log.proofs.Members.{split, none_in, All-from}
 use Rattle.far_core.proofs.Steps.{agrees}
 use Rattle.far_replay.specs.Answers.{Answered, Commanded, IsMoment, moment_after, shape_of, first_moment}
-use Rattle.far_replay.specs.Command.{Command}
+use Rattle.far_text.specs.Command.{Command}
 use Rattle.far_replay.specs.Events.{events_for}
 use Rattle.far_replay.specs.Headline.{Lawful, Reaches}
-use Rattle.far_replay.specs.Written.{WritesBytes, AllWriteBytes}
+use Rattle.far_text.specs.Written.{WritesBytes, AllWriteBytes}
 use Rattle.far_replay.specs.EventRows.{after_events, AllSucceed, AllPass, Succeeds}
 use Rattle.far_replay.specs.Moment.{Moment, moment_of}
 use Rattle.far_replay.specs.Reply.{Reply}
 use Rattle.far_replay.specs.Between.{Between}
 use Rattle.far_replay.specs.Turn.{effect, refusal, reply_to}
 use Rattle.far_replay.proofs.Coming.{all_come, hand_for}
-use Rattle.far_replay.proofs.Each.{Each}
+use Rattle.far_text.proofs.Each.{Each}
 use Rattle.far_replay.proofs.MadeLemmas.{Carries}
 use Rattle.far_replay.proofs.Opened.{opening_law, opening_between}
 use Rattle.far_replay.proofs.Turns.{turns}

@@ -41,7 +41,7 @@ use Rattle.far_replay.specs.Answers.{Answered, Answers, Commanded, IsMoment, IsO
 use Rattle.far_replay.specs.Command.{Command, Trace, Nothing, Heap, New, Open, Write, Read, Close, Where, Drop, View, Try, Logs, Mutator, Book}
 use Rattle.far_replay.specs.Grammar.{trace_of}
 use Rattle.far_replay.specs.Headline.{IsSound, IsWhole, Lawful, IsSaidBy, TellsAll, TellsLog}
-use Rattle.far_replay.specs.Written.{AllWriteBytes}
+use Rattle.far_text.specs.Written.{AllWriteBytes}
 use Rattle.far_replay.specs.EventRows.{after_events}
 use Rattle.far_replay.specs.Reply.{Reply, Done, Pointer, Refused, LogLine, reply_text}
 use Rattle.far_replay.specs.Events.{turn_events, refused_events, view_events, events_for, new_events}
@@ -59,7 +59,7 @@ use Rattle.far_replay.proofs.Lasting.{first_lasts, first_lawful, command_carried
 use Rattle.far_replay.proofs.MadeLemmas.{Carries}
 use Rattle.far_replay.proofs.PlainReplies.{replies_plain}
 use Rattle.far_replay.proofs.ViewLaws.{logs_stay}
-use Rattle.far_replay.proofs.TextLaws.{texts_write}
+use Rattle.far_text.proofs.TextLaws.{texts_write}
 use Rattle.far_replay.proofs.Lowest.{lowest_cell_is, no_cell_is}
 use Rattle.far_replay.proofs.Refusals.{turn_is_no_refusal, from_cause}
 use Rattle.far_replay.proofs.Spliced.{length-with_range, with_range_before, with_range_inside, with_range_after}

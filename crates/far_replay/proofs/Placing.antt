@@ -17,7 +17,7 @@ use Rattle.far_core.specs.state.State.{State}
 use Rattle.far_book.specs.book.Effects.{placed}
 use Rattle.far_book.specs.book.Ledger.{IsLowestFree}
 use Rattle.far_replay.specs.Effects.{near_word}
-use Rattle.far_replay.specs.Command.{Mutator, New}
+use Rattle.far_text.specs.Command.{Mutator, New}
 use Rattle.far_replay.specs.Moment.{moment_of}
 use Rattle.far_replay.specs.Objects.{lowest_cell}
 use Rattle.far_replay.specs.Turn.{with_new, refusal, first_cause}

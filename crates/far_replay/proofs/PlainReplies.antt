@@ -30,11 +30,11 @@ use Rattle.far_replay.specs.Moment.{Moment, moment_of}
 use Rattle.far_replay.specs.Objects.{lowest_cell, data_of}
 use Rattle.far_replay.specs.Reply.{Reply, Audited, Refused, LogLine}
 use Rattle.far_replay.specs.Turn.{causes, refusal, unless, turn_reply, log_line, pointer_reply, home_reply}
-use Rattle.far_replay.specs.Written.{AllWriteBytes}
+use Rattle.far_text.specs.Written.{AllWriteBytes}
 use Rattle.far_replay.proofs.AloneNew.{is_structure}
 use Rattle.far_replay.proofs.AloneStates.{lowest_own, data_small}
-use Rattle.far_replay.proofs.Each.{Each, Each-row}
-use Rattle.far_replay.proofs.Fronts.{range_get}
+use Rattle.far_text.proofs.Each.{Each, Each-row}
+use Rattle.far_text.proofs.Parts.{range_get}
 use Rattle.far_replay.proofs.Lasting.{Lasts, still_lasts}
 use Rattle.far_replay.proofs.Refusals.{EachCause, each_first, among}
 use Rattle.far_replay.proofs.Turns.{new_tests}

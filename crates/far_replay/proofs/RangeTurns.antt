@@ -18,7 +18,7 @@ use Rattle.far_core.specs.events.Ranges.{stores}
 use Rattle.far_core.specs.events.Step.{data_len, data_word, near_data}
 use Rattle.far_core.specs.state.Law.{Law}
 use Rattle.far_core.specs.state.State.{State}
-use Rattle.far_replay.specs.Command.{Mutator, Read, Write}
+use Rattle.far_text.specs.Command.{Mutator, Read, Write}
 use Rattle.far_replay.specs.EventRows.{after_events}
 use Rattle.far_replay.specs.Events.{first_word, store_events, turn_events, view_events, words_touched}
 use Rattle.far_replay.specs.Interpreter.{IsAccess, IsViewed}

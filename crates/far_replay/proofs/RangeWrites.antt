@@ -1,5 +1,5 @@
 -- The words that a write stores are those of the object with the new bytes in place.
-use Rattle.std.proofs.Common.{◌≡◌, ◌≢◌, ℕ, ◌+◌, ◌-◌, ◌*◌, ◌/◌, ◌%◌, ◌^◌, ◌<◌, ◌≤◌, true, false, List, ◌++◌, length, take, drop, get_or, refl, ap, sym, ◌∙◌, arith, inl, inr, length-take-le, length-drop, length-append, subst, Option, Some, None}
+use Rattle.std.proofs.Common.{◌≡◌, ◌≢◌, ℕ, ◌+◌, ◌-◌, ◌*◌, ◌/◌, ◌%◌, ◌^◌, ◌<◌, ◌≤◌, true, false, List, ◌++◌, length, take, drop, get_or, refl, ap, sym, ◌∙◌, arith, inl, inr, length-take-le, subst, Option, Some, None}
 use Rattle.std.specs.Prelude.{map}
 use Rattle.std.specs.List.{range_with_len}
 use Rattle.std.proofs.lemmas.Bool.{cases_lt, false≢true}
@@ -156,7 +156,3 @@ pub past_word : (from count len : ℕ) → from + count ≤ len → ends_inside 
 past_word from count len inside h = let odd : (from + count) % 8 ≢ 0 = (λ z. false≢true (sym (closed z) ∙ h)) in omega arith where
   closed : (from + count) % 8 ≡ 0 → ends_inside from count ≡ false
   closed z = grind (arith, nat_tests)
-
--- new bytes in a room keep its length
-pub put_length : (a k : ℕ) (xs ys : List ℕ) → a + k ≤ length xs → length ys ≡ k → length (put_mid a k xs ys) ≡ length xs
-put_length a k xs ys fits same = omega (arith, length-append (take a xs) (ys ++ post_of a k xs), length-append ys (post_of a k xs), length-take-le a xs (omega arith), length-drop k (drop a xs), length-drop a xs)

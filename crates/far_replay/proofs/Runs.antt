@@ -5,11 +5,11 @@ use Rattle.std.proofs.Math.Seq.{take-length}
 use Rattle.std.specs.Io.KnownBytes.{Appends}
 use Rattle.far_word.specs.declared.refused.Refused.{Refused}
 use Rattle.far_word.specs.declared.refused.Refused.TheVariants.{Memory, Shape}
-use Rattle.far_replay.specs.declared.text.TheConstants.{LONGEST_TEXT}
-use Rattle.far_replay.specs.Command.{Trace}
+use Rattle.far_text.specs.declared.text.TheConstants.{LONGEST_TEXT}
+use Rattle.far_text.specs.Command.{Trace}
 use Rattle.far_replay.specs.declared.running.End.{End}
 use Rattle.far_replay.specs.declared.running.RunFault.{RunFault}
-use Rattle.far_replay.specs.Grammar.{trace_of, read_lines, lines_of}
+use Rattle.far_text.specs.Grammar.{trace_of, read_lines, lines_of}
 use Rattle.far_replay.specs.Answers.{IsOutput, LeavesBehind, WritesAnswer, Leaves, end_of}
 use Rattle.far_replay.specs.Stream.{AppendsFront, Writes}
 

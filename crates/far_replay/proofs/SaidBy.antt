@@ -3,7 +3,7 @@ use Rattle.std.proofs.Common.{◌≡◌, ◌≢◌, ℕ, ◌<◌, ◌^◌, List,
 use Rattle.std.proofs.lemmas.Fmt.{decimal_injective}
 use Rattle.far_replay.specs.Command.{Command, CommandLine, New, Open, Write, Read, Close, Where, Drop, View, Try, Logs, Log, Audit, Mutator, Book}
 use Rattle.far_replay.specs.Headline.{IsSaidBy}
-use Rattle.far_replay.specs.Says.{Says}
+use Rattle.far_text.specs.Says.{Says}
 
 abbrev first_of : List (List ℕ) → List ℕ
 first_of [] = []

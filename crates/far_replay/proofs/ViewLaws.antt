@@ -35,7 +35,7 @@ use Rattle.far_replay.proofs.Lasting.{Lasts, command_carried, moment_lasts, stil
 use Rattle.far_replay.proofs.Turns.{turns, marked_last}
 use Rattle.far_replay.proofs.Views.{view_is, slow_view}
 use Rattle.far_replay.proofs.ViewsRest.{NoClose, ClosesLast, none_closes, fronts_stay, held_now}
-use Rattle.far_replay.proofs.Each.{Each, Each-append, Each-row}
+use Rattle.far_text.proofs.Each.{Each, Each-append, Each-row}
 use Rattle.far_replay.proofs.MadeLemmas.{made-append, Carries, Carries-front}
 
 -- ---- events that make no view and end none

@@ -18,7 +18,7 @@ use Rattle.far_core.proofs.Steps.{agrees, step_does}
 use Rattle.far_core.proofs.WorldFacts.{view_rests}
 use Rattle.far_core.proofs.WorldLaws.{steps_keep}
 use Rattle.far_replay.specs.EventRows.{after_events}
-use Rattle.far_replay.proofs.Each.{Each}
+use Rattle.far_text.proofs.Each.{Each}
 use Rattle.far_replay.proofs.MadeLemmas.{made-append, made_law}
 
 -- ---- rows of events in which a close comes last

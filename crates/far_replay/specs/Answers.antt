@@ -7,8 +7,8 @@ use Rattle.far_word.specs.declared.refused.Refused.TheVariants.{Memory, Shape, S
 use Rattle.far_core.specs.declared.shape.Shape.{Shape as Size}
 use Rattle.far_core.specs.state.Opening.{opening}
 use Rattle.far_core.specs.state.Shape.{is_shape}
-use Rattle.far_replay.specs.Command.{Command, Trace, Nothing, Heap}
-use Rattle.far_replay.specs.Grammar.{trace_of}
+use Rattle.far_text.specs.Command.{Command, Trace, Nothing, Heap}
+use Rattle.far_text.specs.Grammar.{trace_of}
 use Rattle.far_replay.specs.Moment.{Moment, moment_of}
 use Rattle.far_replay.specs.Reply.{Reply, Done, Refused, reply_text}
 use Rattle.far_replay.specs.declared.running.End.{End}
@@ -17,7 +17,7 @@ use Rattle.far_replay.specs.declared.running.RunFault.{RunFault}
 use Rattle.far_replay.specs.declared.running.RunFault.TheVariants as faults
 use Rattle.far_replay.specs.Stream.{AppendsFront, AppendsPart}
 use Rattle.far_replay.specs.Turn.{effect, reply_to}
-use Rattle.far_replay.specs.Written.{AllWriteBytes}
+use Rattle.far_text.specs.Written.{AllWriteBytes}
 
 -- one command, from a moment to the next, with its reply
 pub record Commanded (now : Moment) (c : Command) (r : Reply) (after : Moment) : Type 0 where

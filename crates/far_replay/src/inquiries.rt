@@ -6,7 +6,7 @@ ghost use Rattle.far_word.specs.declared.sizes.TheConstants.{MOST_LOGS};
 ghost use Rattle.far_word.specs.Pointer.{read_of};
 ghost use Rattle.far_core.specs.state.Law.{Law};
 ghost use Rattle.far_replay.specs.Audit.{bytes_by_log, lies_near, lies_far, pointers_by};
-ghost use Rattle.far_replay.specs.Command.{Mutator, Book as AsksBook, Where, Log, Audit};
+ghost use Rattle.far_text.specs.Command.{Mutator, Book as AsksBook, Where, Log, Audit};
 ghost use Rattle.far_replay.specs.Events.{events_for};
 ghost use Rattle.far_replay.specs.EventRows.{after_events};
 ghost use Rattle.far_replay.specs.Interpreter.{StandsFor};

@@ -1,20 +1,15 @@
-//! A trace is replayed: a text of commands is read whole and parsed, its commands run on one heap, and the replies are
-//! written.
+//! A trace is replayed: a text of commands is read whole and parsed (`far_text`), its commands run on one heap, and the
+//! replies are written.
 //!
 //! [`run`] does it, from any reader to any writer. What a text is answered is a definition (`specs/Answers.antt`), and what
 //! that definition is worth are laws: contracts of functions that do nothing, from [`outputs_are_sound`] on.
 #![tactic(auto)]
 
-mod command;
-mod commands;
-mod cursor;
 mod dropping;
 mod events;
 mod headline;
-mod hex_word;
 mod inquiries;
-mod laws;
-mod line;
+mod limits;
 mod outcome;
 mod output;
 mod owners;
@@ -22,14 +17,14 @@ mod reply;
 mod reply_writer;
 mod running;
 mod stream;
-mod text;
 mod turn;
 mod viewing;
 
+pub use far_text::{grammar_is_said, limits_are};
 pub use headline::{
     drops_end_objects, inquiries_tell, lines_tell_replies, logs_are_told, moments_are_lawful,
     mutators_are_alone, new_is_made, outputs_are_sound, refusals_leave_all, texts_are_answered,
     views_last, writes_change_their_range,
 };
-pub use laws::{grammar_is_said, limits_are};
+pub use limits::reply_limits_are;
 pub use running::{End, RunFault, run};

@@ -9,10 +9,10 @@ ghost use Rattle.far_core.specs.state.Room.{room};
 ghost use Rattle.far_core.specs.events.Ranges.{stores};
 ghost use Rattle.far_core.specs.events.Step.{data_len, data_word};
 ghost use Rattle.far_core.specs.declared.event.Event.{Event};
-ghost use Rattle.far_replay.specs.Command.{as_command, as_request};
+ghost use Rattle.far_text.specs.Command.{as_command, as_request};
 ghost use Rattle.far_replay.specs.Interpreter.{refused_in, IsAccess, IsViewed, StandsFor};
 ghost use Rattle.hex.specs.Hex.{IsBytes};
-ghost use Rattle.far_replay.specs.Written.{WritesBytes};
+ghost use Rattle.far_text.specs.Written.{WritesBytes};
 ghost use Rattle.far_replay.specs.EventRows.{after_events};
 ghost use Rattle.far_replay.specs.Command.{Mutator, Book, New, Open, Write, Read, Close, Where, Drop, View, Try, Logs, Log, Audit};
 ghost use Rattle.far_replay.specs.Outcome.{reply_by, IsInRoom};
@@ -22,7 +22,6 @@ ghost use Rattle.far_replay.specs.Objects.{data_of, lowest_cell, named_len, with
 ghost use Rattle.far_replay.specs.Moment.{moment_of, state_in};
 ghost use Rattle.far_replay.specs.Turn.{effect, access_causes, first_cause, reply_to, turn_reply, refusal, with_new};
 
-use crate::command::{Command, Inquiry, Request};
 use crate::dropping::drop_object;
 use crate::events::{open, view};
 use crate::inquiries::{audit, find_object, tell_log, tell_logs};
@@ -32,6 +31,7 @@ use crate::viewing::{try_object, view_object};
 use far_book::{Book, Plain};
 use far_core::Event;
 use far_device::MemDevice;
+use far_text::{Command, Inquiry, Request};
 use far_word::{LOG_WORDS, LONGEST, Refused, pack_bytes, pointer_len, unpack_bytes};
 
 /// Some bytes of an object that its owner may reach: the numbers of the owner and the pointer, and the range.

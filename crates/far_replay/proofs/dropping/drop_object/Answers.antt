@@ -5,7 +5,7 @@ use Rattle.far_core.specs.events.Naming.{is_dropped}
 use Rattle.far_core.specs.state.CoreState.{core_state}
 use Rattle.far_core.specs.state.State.{State}
 use Rattle.far_book.specs.book.Effects.{retired}
-use Rattle.far_replay.specs.Command.{Mutator, Drop}
+use Rattle.far_text.specs.Command.{Mutator, Drop}
 use Rattle.far_replay.specs.EventRows.{after_events}
 use Rattle.far_replay.specs.Events.{events_for}
 use Rattle.far_replay.specs.Moment.{moment_of, state_in}

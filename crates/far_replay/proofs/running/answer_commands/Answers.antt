@@ -4,7 +4,7 @@ use Rattle.std.proofs.lemmas.List.{drop_all}
 use Rattle.far_core.specs.state.State.{State}
 use Rattle.far_replay.specs.Moment.{moment_of, state_in}
 use Rattle.far_replay.specs.Answers.{Answered}
-use Rattle.far_replay.specs.Command.{Command, as_command}
+use Rattle.far_text.specs.Command.{Command, as_command}
 use Rattle.far_replay.specs.Reply.{Reply, Done, reply_text}
 use Rattle.far_replay.specs.Stream.{Holds}
 use Rattle.far_replay.specs.Turn.{reply_to}

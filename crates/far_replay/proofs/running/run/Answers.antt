@@ -1,5 +1,5 @@
 use Rattle.std.proofs.Common.{sym, IfSome, subst, ◌≡◌, take, ◌+◌}
-use Rattle.far_replay.specs.declared.text.TheConstants.{LONGEST_TEXT}
+use Rattle.far_text.specs.declared.text.TheConstants.{LONGEST_TEXT}
 use Rattle.far_replay.proofs.Runs.{answered_through, end_through, fault_through}
 use Rattle.far_replay.proofs.running.run.Goals as goal
 

@@ -2,7 +2,7 @@ use Rattle.std.proofs.Common.{ap, sym, ◌∙◌, true}
 use Rattle.far_word.specs.Sizes.{size_of}
 use Rattle.far_core.specs.state.Room.{room}
 use Rattle.far_core.specs.state.State.{State}
-use Rattle.far_replay.specs.Command.{Mutator, New}
+use Rattle.far_text.specs.Command.{Mutator, New}
 use Rattle.far_replay.specs.Moment.{state_in}
 use Rattle.far_replay.specs.Turn.{with_new}
 use Rattle.far_replay.proofs.Turns.{made_by_events}

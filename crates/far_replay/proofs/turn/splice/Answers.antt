@@ -6,7 +6,8 @@ use Rattle.far_core.specs.state.State.{State}
 use Rattle.far_core.specs.events.Step.{near_data, data_len}
 use Rattle.far_replay.specs.Events.{starts_inside}
 use Rattle.far_replay.specs.Objects.{with_range, data_of}
-use Rattle.far_replay.proofs.RangeWrites.{packed_words, object_padded, put_length}
+use Rattle.far_text.proofs.Parts.{put_length}
+use Rattle.far_replay.proofs.RangeWrites.{packed_words, object_padded}
 use borrow.Rule.Slice.PartMut.{put_mid}
 use Rattle.far_replay.proofs.turn.splice.Goals as goal
 

@@ -1,4 +1,4 @@
-use Rattle.far_replay.specs.Command.{as_command}
+use Rattle.far_text.specs.Command.{as_command}
 use Rattle.far_replay.specs.Moment.{state_in}
 use Rattle.far_replay.proofs.Lasting.{moment_reached}
 use Rattle.far_replay.proofs.turn.turn.Goals as goal

@@ -1,8 +1,0 @@
--- What a text was read as.
-use Rattle.far_replay.specs.Command.{Trace, Nothing, Heap}
-use Rattle.far_replay.specs.declared.text.Trace.{Trace as ParsedTrace}
-use Rattle.far_replay.specs.declared.text.Trace.TheVariants.{Nothing as ParsedNothing, Heap as ParsedHeap}
-
-abbrev pub as_trace : ParsedTrace → Trace
-as_trace ParsedNothing = Nothing
-as_trace (ParsedHeap logs mutators commands) = Heap logs mutators commands

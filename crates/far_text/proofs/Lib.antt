@@ -1,0 +1,13 @@
+pub mod Cuts
+pub mod Each
+pub mod HexLemmas
+pub mod LastWord
+pub mod LineLemmas
+pub mod Numbers
+pub mod Parts
+pub mod Reading
+pub mod RecordLemmas
+pub mod SaysLemmas
+pub mod Searches
+pub mod TextLaws
+pub mod WordLemmas

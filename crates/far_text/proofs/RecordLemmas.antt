@@ -1,0 +1,119 @@
+-- Records of commands, and the bytes of their writes.
+use Rattle.std.proofs.Common.{◌≡◌, ℕ, zero, suc, ◌+◌, ◌-◌, ◌<◌, ◌≤◌, List, [], ◌∷◌, ◌++◌, length, take, drop, get_or, map, Option, Some, sym, ap, ◌∙◌, refl, subst, arith, inl, inr, length-append}
+use Rattle.std.specs.List.{slice_range}
+use Rattle.std.specs.Option.{option_map}
+use Rattle.std.proofs.lemmas.List.{take-append-drop, take-append-le, drop-append-le, length-drop, length-take, get_or_past, take_all, length-take-le, append_assoc}
+use Rattle.std.proofs.Math.Seq.{drop-append_seam}
+use Rattle.std.proofs.lemmas.Bool.{cases_lt}
+use Rattle.std.proofs.Math.Nat.{min-le_left}
+use Rattle.hex.specs.Hex.{IsBytes}
+use Rattle.far_replay.proofs.Fronts.{range_get}
+use Rattle.far_replay.specs.Command.{Command, Mutator, Write}
+use Rattle.far_replay.specs.Records.{number_in, command_in, IsWithin, AreWithin}
+use Rattle.far_replay.specs.Written.{WritesBytes}
+use Rattle.far_replay.specs.declared.commands.Record.{Record}
+use Rattle.far_replay.specs.declared.commands.Record.TheVariants.{New as NewRecord, Open as OpenRecord, Write as WriteRecord, Read as ReadRecord, Close as CloseRecord, Where as WhereRecord, Drop as DropRecord, View as ViewRecord, Try as TryRecord, Logs as LogsRecord, Log as LogRecord, Audit as AuditRecord}
+use Rattle.far_replay.proofs.Reading.{map_append}
+
+-- the front of a room that new bytes were put into
+put_in_front : (room new rest : List ℕ) (len n : ℕ) → len ≤ length room → length new ≡ n → take (len + n) (take len room ++ (new ++ rest)) ≡ take len room ++ new
+put_in_front room new rest len n fits long =
+    let front : length (take len room) ≡ len = length-take-le len room fits in
+    let whole : length (take len room ++ new) ≡ len + n = omega (arith, length-append (take len room) new) in
+    ap (take (len + n)) (sym (append_assoc (take len room) new rest))
+    ∙ take-append-le (len + n) (take len room ++ new) rest (omega arith)
+    ∙ take_all (len + n) (take len room ++ new) (omega arith)
+
+-- those are the last of it
+pub put_last : (room new rest : List ℕ) (len n m : ℕ) → len ≤ length room → length new ≡ n → m ≡ len → drop m (take (len + n) (take len room ++ (new ++ rest))) ≡ new
+put_last room new rest len n m fits long same =
+    ap (drop m) (put_in_front room new rest len n fits long) ∙ ap (λ k. drop k (take len room ++ new)) (same ∙ sym (length-take-le len room fits)) ∙ drop-append_seam (take len room) new
+
+-- more bytes behind leave each record its command
+module _ (old new : List ℕ) (kept : take (length old) new ≡ old) where
+  abbrev more : List ℕ
+  more = drop (length old) new
+
+  joined : new ≡ old ++ more
+  joined = sym (ap (λ l. l ++ more) (sym kept) ∙ take-append-drop (length old) new)
+
+  pub longer : length old ≤ length new
+  longer = omega (arith, ap length joined, length-append old more)
+
+  part_stays : (start count : ℕ) → start + count ≤ length old → slice_range new start (start + count) ≡ slice_range old start (start + count)
+  part_stays start count inside =
+      ap (λ l. take (start + count - start) (drop start l)) joined
+      ∙ ap (take (start + count - start)) (drop-append-le start old more (omega arith))
+      ∙ take-append-le (start + count - start) (drop start old) more (omega (arith, length-drop start old))
+
+  command_stays : (r : Record) → IsWithin (length old) r → command_in new r ≡ command_in old r
+  command_stays (NewRecord m len ds) h = refl
+  command_stays (OpenRecord m) h = refl
+  command_stays (WriteRecord m p from start count) h = ap (λ b. Mutator (number_in m) (Write (number_in p) (number_in from) b)) (part_stays start count h)
+  command_stays (ReadRecord m p from len) h = refl
+  command_stays (CloseRecord m) h = refl
+  command_stays (WhereRecord m p) h = refl
+  command_stays (DropRecord m p) h = refl
+  command_stays (ViewRecord m p) h = refl
+  command_stays (TryRecord m p) h = refl
+  command_stays LogsRecord h = refl
+  command_stays (LogRecord l) h = refl
+  command_stays AuditRecord h = refl
+
+  pub commands_stay : (rs : List Record) → AreWithin (length old) rs → map (command_in new) rs ≡ map (command_in old) rs
+  commands_stay [] h = refl
+  commands_stay (r ∷ rs) h = rw (command_stays r h.0, commands_stay rs h.1) refl
+
+  -- one record more is one command more
+  pub one_command_more : (rs : List Record) (r : Record) (spelled : Option Command) → AreWithin (length old) rs → Some (command_in new r) ≡ spelled
+      → option_map (λ c. map (command_in old) rs ++ c ∷ []) spelled ≡ Some (map (command_in new) (rs ++ r ∷ []))
+  one_command_more rs r spelled within is =
+      ap (option_map (λ c. map (command_in old) rs ++ c ∷ [])) (sym is)
+      ∙ ap (λ cs. Some (cs ++ command_in new r ∷ [])) (sym (commands_stay rs within))
+      ∙ ap Some (sym (map_append (command_in new) rs (r ∷ [])))
+
+within_more : (a b : ℕ) → a ≤ b → (r : Record) → IsWithin a r → IsWithin b r
+within_more a b h (NewRecord m len ds) i = tt
+within_more a b h (OpenRecord m) i = tt
+within_more a b h (WriteRecord m p from start count) i = omega arith
+within_more a b h (ReadRecord m p from len) i = tt
+within_more a b h (CloseRecord m) i = tt
+within_more a b h (WhereRecord m p) i = tt
+within_more a b h (DropRecord m p) i = tt
+within_more a b h (ViewRecord m p) i = tt
+within_more a b h (TryRecord m p) i = tt
+within_more a b h LogsRecord i = tt
+within_more a b h (LogRecord l) i = tt
+within_more a b h AuditRecord i = tt
+
+pub one_within_more : (a b : ℕ) → a ≤ b → (rs : List Record) (r : Record) → AreWithin a rs → IsWithin b r → AreWithin b (rs ++ r ∷ [])
+one_within_more a b h [] r all one = (one, tt)
+one_within_more a b h (x ∷ rs) r all one = (within_more a b h x all.0, one_within_more a b h rs r all.1 one)
+
+pub within_at : (most : ℕ) (rs : List Record) (i : ℕ) (r : Record) → AreWithin most rs → i < length rs → r ≡ get_or rs i r → IsWithin most r
+within_at most [] i r all lt e = absurd (omega arith)
+within_at most (x ∷ rs) zero r all lt e = subst (IsWithin most) (sym e) all.0
+within_at most (x ∷ rs) (suc i) r all lt e = within_at most rs i r all.1 (omega arith) e
+
+part_bytes : (bytes : List ℕ) (start count : ℕ) → IsBytes bytes → IsBytes (slice_range bytes start (start + count))
+part_bytes bytes start count small k = elim (cases_lt k count) [
+  | inl lt ↦ omega (arith, range_get bytes start count k lt, small (start + k))
+  | inr past ↦ (
+      let most : length (slice_range bytes start (start + count)) ≤ start + count - start = subst (λ n. n ≤ start + count - start) (sym (length-take (start + count - start) (drop start bytes))) (min-le_left _ _) in
+      omega (arith, get_or_past (slice_range bytes start (start + count)) k 0 (omega (arith, most))))
+]
+
+-- what is written is bytes
+pub record_writes_bytes : (bytes : List ℕ) → IsBytes bytes → (r : Record) → WritesBytes (command_in bytes r)
+record_writes_bytes bytes small (NewRecord m len ds) = tt
+record_writes_bytes bytes small (OpenRecord m) = tt
+record_writes_bytes bytes small (WriteRecord m p from start count) = part_bytes bytes start count small
+record_writes_bytes bytes small (ReadRecord m p from len) = tt
+record_writes_bytes bytes small (CloseRecord m) = tt
+record_writes_bytes bytes small (WhereRecord m p) = tt
+record_writes_bytes bytes small (DropRecord m p) = tt
+record_writes_bytes bytes small (ViewRecord m p) = tt
+record_writes_bytes bytes small (TryRecord m p) = tt
+record_writes_bytes bytes small LogsRecord = tt
+record_writes_bytes bytes small (LogRecord l) = tt
+record_writes_bytes bytes small AuditRecord = tt

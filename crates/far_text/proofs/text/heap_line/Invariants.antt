@@ -1,0 +1,14 @@
+use Rattle.std.proofs.Common.{◌≡◌, ◌≤◌, ◌+◌, length}
+use Rattle.far_text.specs.Cursor.{lines_left}
+use Rattle.far_text.specs.Grammar.{read_lines, lines_of}
+use Rattle.far_text.proofs.text.heap_line.Given as goal
+
+-- the lines that are left say what the text says
+abbrev pub invariant-loop-lines : goal.invariant-loop-lines
+invariant-loop-lines l = record {
+  reads : read_lines (l.number + 1) (lines_left l.lines) ≡ read_lines 1 (lines_of l.fn.text);
+  counted : l.number + length (lines_left l.lines) ≤ length l.fn.text + 1;
+}
+
+abbrev pub decreases-loop-lines : goal.decreases-loop-lines
+decreases-loop-lines l = length (lines_left l.lines)

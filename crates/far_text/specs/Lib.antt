@@ -1,0 +1,10 @@
+pub mod Command
+pub mod Cursor
+pub mod Grammar
+pub mod HexWord
+pub mod Parsed
+pub mod Records
+pub mod Says
+pub mod Spelled
+pub mod TraceText
+pub mod Written

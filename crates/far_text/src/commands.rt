@@ -1,0 +1,290 @@
+//! The commands of a text until they are made, each in little room.
+
+ghost use Rattle.std.specs.Prelude.{◌≡◌, ◌≢◌, ◌≤◌, ◌<◌, ◌+◌, ◌*◌, ◌^◌, ◌++◌, ◌∷◌, ℕ, List, [], length, take, drop, cond, true, Ok, Some, None, IfOk, IfErr, IfSome};
+ghost use Rattle.std.specs.Option.{option_map};
+ghost use Rattle.far_text.specs.declared.hex_word.TheConstants.{LONGEST_BYTES};
+ghost use Rattle.far_text.specs.Command.{Mutator, Book, Write, as_command, as_inquiry};
+ghost use Rattle.far_text.specs.Grammar.{bytes_in};
+ghost use Rattle.far_text.specs.Spelled.{command_spelled, request_spelled};
+ghost use Rattle.far_text.specs.Records.{command_in, IsWithin};
+
+use crate::command::{Command, Inquiry, Request};
+use crate::hex_word::HexBytes;
+use std::alloc::{AllocError, Global};
+use std::marker::Model;
+
+/// A number in two halves, which lie anywhere.
+#[derive(Clone, Copy)]
+pub struct Number {
+    low: u32,
+    high: u32,
+}
+
+impl Number {
+    ghost use Rattle.std.specs.Prelude.{◌≡◌};
+    ghost use Rattle.far_text.specs.Records.{number_in};
+
+    #[inline(always)]
+    fn of(n: u64) -> Number
+        ensures { number_in result ≡ n }
+    {
+        Number {
+            low: (n % 4_294_967_296) as u32,
+            high: (n / 4_294_967_296) as u32,
+        }
+    }
+
+    #[inline(always)]
+    fn value(self) -> u64
+        ensures { result ≡ number_in self }
+    {
+        u64::from(self.high) * 4_294_967_296 + u64::from(self.low)
+    }
+}
+
+/// A command: its numbers, in the order of its line. The last two of a write are where its bytes begin among those of all
+/// writes, and how many they are.
+#[derive(Clone, Copy)]
+pub enum Record {
+    New(Number, Number, Number),
+    Open(Number),
+    Write(Number, Number, Number, u32, u32),
+    Read(Number, Number, Number, Number),
+    Close(Number),
+    Where(Number, Number),
+    Drop(Number, Number),
+    View(Number, Number),
+    Try(Number, Number),
+    Logs,
+    Log(Number),
+    Audit,
+}
+
+// The record of a write of what a word spells, if it is in hex. The bytes are added to those before.
+#[inline(always)]
+fn write_record(
+    bytes: &mut HexBytes,
+    mutator: u64,
+    pointer: u64,
+    from: u64,
+    word: &[u8],
+) -> Result<Option<Record>, AllocError>
+    requires few { length bytes.old + LONGEST_BYTES < 2 ^ 32 }
+    ensures value { IfOk result (λ found. option_map (command_in bytes.new) found ≡ option_map (λ read. Mutator mutator (Write pointer from read)) (bytes_in word.now)) }
+    ensures within { IfOk result (λ found. IfSome found (IsWithin (length bytes.new))) }
+    ensures kept { take (length bytes.old) bytes.new ≡ bytes.old }
+    ensures short { length bytes.new ≤ length bytes.old + LONGEST_BYTES }
+    ensures none { result ≡ Ok None → bytes.new ≡ bytes.old }
+    ensures fault { IfErr result (λ _. bytes.new ≡ bytes.old) }
+{
+    let start = bytes.len() as u32;
+    if !bytes.add(word)? {
+        return Ok(None);
+    }
+    let count = bytes.len() as u32 - start;
+    Ok(Some(Record::Write(
+        Number::of(mutator),
+        Number::of(pointer),
+        Number::of(from),
+        start,
+        count,
+    )))
+}
+
+// The record of a mutator's request. The bytes of a write are added to those before.
+#[inline(always)]
+fn request_record(
+    bytes: &mut HexBytes,
+    mutator: u64,
+    request: Request,
+) -> Result<Option<Record>, AllocError>
+    requires few { length bytes.old + LONGEST_BYTES < 2 ^ 32 }
+    ensures value { IfOk result (λ found. option_map (command_in bytes.new) found ≡ option_map (Mutator mutator) (request_spelled request.entry)) }
+    ensures within { IfOk result (λ found. IfSome found (IsWithin (length bytes.new))) }
+    ensures kept { take (length bytes.old) bytes.new ≡ bytes.old }
+    ensures short { length bytes.new ≤ length bytes.old + LONGEST_BYTES }
+    ensures none { result ≡ Ok None → bytes.new ≡ bytes.old }
+    ensures fault { IfErr result (λ _. bytes.new ≡ bytes.old) }
+{
+    let m = Number::of(mutator);
+    Ok(Some(match request {
+        Request::New { len, structure } => {
+            Record::New(m, Number::of(len), Number::of(structure))
+        }
+        Request::Open => Record::Open(m),
+        Request::Write {
+            pointer,
+            from,
+            bytes: word,
+        } => return write_record(bytes, mutator, pointer, from, word),
+        Request::Read { pointer, from, len } => {
+            let (pointer, from) = (Number::of(pointer), Number::of(from));
+            Record::Read(m, pointer, from, Number::of(len))
+        }
+        Request::Close => Record::Close(m),
+        Request::Where { pointer } => Record::Where(m, Number::of(pointer)),
+        Request::Drop { pointer } => Record::Drop(m, Number::of(pointer)),
+        Request::View { pointer } => Record::View(m, Number::of(pointer)),
+        Request::Try { pointer } => Record::Try(m, Number::of(pointer)),
+    }))
+}
+
+// The record of an inquiry.
+fn inquiry_record(inquiry: Inquiry) -> Record
+    ensures value { (bytes : List ℕ) → command_in bytes result ≡ Book (as_inquiry inquiry) }
+    ensures within { (most : ℕ) → IsWithin most result }
+{
+    match inquiry {
+        Inquiry::Logs => Record::Logs,
+        Inquiry::Log { log } => Record::Log(Number::of(log)),
+        Inquiry::Audit => Record::Audit,
+    }
+}
+
+// The record of a command that was read, unless it writes what is no word in hex. The bytes of a write are added to those before.
+#[inline(always)]
+fn record_of(bytes: &mut HexBytes, command: Command) -> Result<Option<Record>, AllocError>
+    requires few { length bytes.old + LONGEST_BYTES < 2 ^ 32 }
+    ensures value { IfOk result (λ found. option_map (command_in bytes.new) found ≡ command_spelled command.entry) }
+    ensures within { IfOk result (λ found. IfSome found (IsWithin (length bytes.new))) }
+    ensures kept { take (length bytes.old) bytes.new ≡ bytes.old }
+    ensures short { length bytes.new ≤ length bytes.old + LONGEST_BYTES }
+    ensures none { result ≡ Ok None → bytes.new ≡ bytes.old }
+    ensures fault { IfErr result (λ _. bytes.new ≡ bytes.old) }
+{
+    match command {
+        Command::Mutator { mutator, request } => request_record(bytes, mutator, request),
+        Command::Book(inquiry) => Ok(Some(inquiry_record(inquiry))),
+    }
+}
+
+impl Record {
+    ghost use Rattle.std.specs.Prelude.{◌≡◌, length};
+    ghost use Rattle.far_text.specs.Command.{as_command};
+    ghost use Rattle.far_text.specs.Records.{command_in, IsWithin};
+
+    // The command that it keeps.
+    #[inline(always)]
+    fn command(self, bytes: &[u8]) -> Command<'_>
+        requires { IsWithin (length bytes.now) self }
+        ensures { as_command result ≡ command_in bytes.now self }
+    {
+        let (mutator, request) = match self {
+            Record::New(mutator, len, structure) => {
+                let (len, structure) = (len.value(), structure.value());
+                (mutator, Request::New { len, structure })
+            }
+            Record::Open(mutator) => (mutator, Request::Open),
+            Record::Write(mutator, pointer, from, start, count) => {
+                let start = start as usize;
+                let request = Request::Write {
+                    pointer: pointer.value(),
+                    from: from.value(),
+                    bytes: &bytes[start..start + count as usize],
+                };
+                (mutator, request)
+            }
+            Record::Read(mutator, pointer, from, len) => {
+                let (pointer, from, len) = (pointer.value(), from.value(), len.value());
+                (mutator, Request::Read { pointer, from, len })
+            }
+            Record::Close(mutator) => (mutator, Request::Close),
+            Record::Where(mutator, pointer) => {
+                let pointer = pointer.value();
+                (mutator, Request::Where { pointer })
+            }
+            Record::Drop(mutator, pointer) => {
+                let pointer = pointer.value();
+                (mutator, Request::Drop { pointer })
+            }
+            Record::View(mutator, pointer) => {
+                let pointer = pointer.value();
+                (mutator, Request::View { pointer })
+            }
+            Record::Try(mutator, pointer) => {
+                let pointer = pointer.value();
+                (mutator, Request::Try { pointer })
+            }
+            Record::Logs => return Command::Book(Inquiry::Logs),
+            Record::Log(log) => return Command::Book(Inquiry::Log { log: log.value() }),
+            Record::Audit => return Command::Book(Inquiry::Audit),
+        };
+        let mutator = mutator.value();
+        Command::Mutator { mutator, request }
+    }
+}
+
+/// Commands, in order.
+#[derive(Drop)]
+pub struct Commands {
+    records: Vec<Record>,
+    bytes: HexBytes,
+}
+
+impl Model for Commands {
+    ghost use Rattle.std.specs.Prelude.{◌≤◌, ◌*◌, List, length, map};
+    ghost use Rattle.far_text.specs.Command.{Command};
+
+    ghost Value = { List Command };
+
+    ghost use Rattle.far_text.specs.declared.hex_word.TheConstants.{LONGEST_BYTES};
+    ghost use Rattle.far_text.specs.Records.{command_in, AreWithin};
+
+    ghost view = { λ c. map (command_in c.bytes) c.records.items };
+
+    ghost invariant = { λ c. AreWithin (length c.bytes) c.records.items × (length c.bytes ≤ LONGEST_BYTES * length c.records.items) };
+}
+
+impl Commands {
+    ghost use Rattle.std.specs.Prelude.{◌≡◌, ◌≤◌, ◌<◌, ◌+◌, ◌++◌, ◌∷◌, [], length, drop, cond, Some, None, IfOk};
+    ghost use Rattle.std.specs.Option.{option_map};
+    ghost use Rattle.far_text.specs.declared.text.TheConstants.{LONGEST_TEXT};
+    ghost use Rattle.far_text.specs.Command.{as_command};
+    ghost use Rattle.far_text.specs.Written.{WritesBytes};
+    ghost use Rattle.far_text.specs.Spelled.{command_spelled};
+
+    /// No command yet.
+    pub fn new(alloc: Global) -> Commands
+        ensures { result ≡ [] }
+    {
+        Commands {
+            records: Vec::new(alloc),
+            bytes: HexBytes::new(alloc),
+        }
+    }
+
+    /// How many they are.
+    pub fn len(&self) -> usize
+        ensures { result ≡ length self.now }
+    {
+        self.records.len()
+    }
+
+    /// The command at a place.
+    #[inline(always)]
+    pub fn at(&self, at: usize) -> Command<'_>
+        requires { at < length self.now }
+        ensures value { drop at self.now ≡ as_command result ∷ drop (at + 1) self.now }
+        ensures bytes { WritesBytes (as_command result) }
+    {
+        let record = self.records[at];
+        record.command(self.bytes.as_slice())
+    }
+
+    /// Adds a command that was read, unless it writes what is no word in hex. Whether it did.
+    #[inline(always)]
+    pub fn push(&mut self, command: Command<'_>) -> Result<bool, AllocError>
+        requires { length self.old ≤ LONGEST_TEXT }
+        ensures { IfOk result (λ kept. option_map (λ c. self.old ++ c ∷ []) (command_spelled command.entry) ≡ cond kept (Some self.new) None) }
+    {
+        let before = self.bytes.len();
+        let Some(record) = record_of(&mut self.bytes, command)? else {
+            return Ok(false);
+        };
+        if let Err(_) = self.records.push(record) {
+            self.bytes.truncate(before);
+            return Err(AllocError);
+        }
+        Ok(true)
+    }
+}

@@ -1,0 +1,191 @@
+//! A text that is read word by word, each byte once.
+
+ghost use Rattle.std.specs.Prelude.{◌≡◌, ◌≤◌, ◌<◌, ◌%◌, ◌^◌, ◌==◌, ◌∷◌, ℕ, [], length, take, drop, true, false, slice_index, IfSome, IfNone};
+ghost use Rattle.std.specs.Char.{is_ascii_digit};
+ghost use Rattle.std.specs.Int.{IsInRange};
+ghost use Rattle.std.specs.Option.{option_and_then, option_map};
+ghost use Rattle.std.specs.Str.Parse.{digits_value};
+ghost use Rattle.far_text.specs.Grammar.{bytes_in, next_number, last_bytes};
+ghost use Rattle.far_text.specs.Cursor.{is_end, first_line, words_in, words_left, lines_after_first, lines_after, lines_left};
+
+use memchr::{memchr, memchr2};
+
+/// What is left of a text after a word of one of its lines.
+#[derive(Clone, Copy)]
+pub enum Rest<'a> {
+    /// More words of the line, and the lines after it.
+    Words(&'a [u8]),
+    /// The lines after the line, if any.
+    Lines(Option<&'a [u8]>),
+}
+
+// What is left after a word that ends before this byte, or None where it goes on.
+#[inline(always)]
+fn rest_at(text: &[u8], at: usize) -> Option<Rest<'_>>
+    requires { at ≤ length text.now }
+    ensures words { IfSome result (λ rest. words_in (drop at text.now) ≡ [] ∷ words_left rest) }
+    ensures lines { IfSome result (λ rest. lines_after_first (drop at text.now) ≡ lines_after rest) }
+    ensures longer { IfNone result ((at < length text.now) × (is_end (slice_index text.now at) ≡ false)) }
+{
+    if at == text.len() {
+        return Some(Rest::Lines(None));
+    }
+    match text[at] {
+        b' ' => Some(Rest::Words(&text[at + 1..])),
+        b'\n' => Some(Rest::Lines(Some(&text[at + 1..]))),
+        _ => None,
+    }
+}
+
+#[inline(always)]
+fn word_len(text: &[u8]) -> usize
+    ensures bound { result ≤ length text.now }
+    ensures inside { (k : ℕ) → k < result → is_end (slice_index text.now k) ≡ false }
+    ensures ends { result < length text.now → is_end (slice_index text.now result) ≡ true }
+{
+    match memchr2(b' ', b'\n', text) {
+        Some(end) => end,
+        None => text.len(),
+    }
+}
+
+/// The first word of a text, and what is left after it.
+#[inline(always)]
+pub fn word_first(text: &[u8]) -> (&[u8], Rest<'_>)
+    ensures words { words_in text.now ≡ result.0.now ∷ words_left result.1 }
+    ensures lines { lines_after_first text.now ≡ lines_after result.1 }
+{
+    let len = word_len(text);
+    (&text[..len], rest_at(text, len).unwrap())
+}
+
+// The number that the digits in front of a text print, all of them, and what is left after it.
+#[inline(always)]
+fn printed_number(text: &[u8], len: usize, n: u64) -> Option<(u64, Rest<'_>)>
+    requires fits { len ≤ length text.now }
+    requires digits { (k : ℕ) → k < len → IsInRange 48 57 (slice_index text.now k) }
+    requires value { n ≡ digits_value 10 (take len text.now) }
+    requires stops { len < length text.now → is_ascii_digit (slice_index text.now len) ≡ false }
+    ensures number { option_map (λ found. (found.0, words_left found.1)) result ≡ next_number (words_in text.now) }
+    ensures lines { IfSome result (λ found. lines_after_first text.now ≡ lines_after found.1) }
+{
+    let rest = rest_at(text, len)?;
+    if len == 0 {
+        return None;
+    }
+    if text[0] == b'0' && len > 1 {
+        return None;
+    }
+    Some((n, rest))
+}
+
+// The digits in front of a text: the number that they print, modulo 2^64, and how many they are.
+#[inline(always)]
+fn digits_first(text: &[u8]) -> (u64, usize)
+    ensures fits { result.1 ≤ length text.now }
+    ensures digits { (k : ℕ) → k < result.1 → IsInRange 48 57 (slice_index text.now k) }
+    ensures value { result.0 ≡ digits_value 10 (take result.1 text.now) % 2 ^ 64 }
+    ensures stops { result.1 < length text.now → is_ascii_digit (slice_index text.now result.1) ≡ false }
+{
+    let mut n = 0u64;
+    let mut len = 0;
+    while len < text.len() && text[len].is_ascii_digit() {
+        n = n.wrapping_mul(10).wrapping_add(u64::from(text[len] - b'0'));
+        len += 1;
+    }
+    (n, len)
+}
+
+// The number that digits print, if it is below 2^64.
+#[cold]
+fn long_number(digits: &[u8]) -> Option<u64>
+    requires { (k : ℕ) → k < length digits.now → IsInRange 48 57 (slice_index digits.now k) }
+    ensures value { IfSome result (λ n. n ≡ digits_value 10 digits.now) }
+    ensures large { IfNone result (2 ^ 64 ≤ digits_value 10 digits.now) }
+{
+    let mut n = 0u64;
+    for digit in digits {
+        n = n.checked_mul(10)?.checked_add(u64::from(*digit - b'0'))?;
+    }
+    Some(n)
+}
+
+/// The number that the first word of a text prints, and what is left after it.
+#[inline(always)]
+pub fn number_first(text: &[u8]) -> Option<(u64, Rest<'_>)>
+    ensures number { option_map (λ found. (found.0, words_left found.1)) result ≡ next_number (words_in text.now) }
+    ensures lines { IfSome result (λ found. lines_after_first text.now ≡ lines_after found.1) }
+{
+    // Most numbers of mutators have one digit.
+    if text.len() > 1 && text[0].is_ascii_digit() && text[1] == b' ' {
+        return printed_number(text, 1, u64::from(text[0] - b'0'));
+    }
+    let (n, len) = digits_first(text);
+    // Nineteen digits are always below 2^64.
+    if len < 20 {
+        return printed_number(text, len, n);
+    }
+    let n = long_number(&text[..len])?;
+    printed_number(text, len, n)
+}
+
+/// The number that the next word prints, and what is left after it.
+#[inline(always)]
+pub fn next_number_of(rest: Rest<'_>) -> Option<(u64, Rest<'_>)>
+    ensures number { option_map (λ found. (found.0, words_left found.1)) result ≡ next_number (words_left rest.entry) }
+    ensures lines { IfSome result (λ found. lines_after found.1 ≡ lines_after rest.entry) }
+{
+    match rest {
+        Rest::Words(text) => number_first(text),
+        Rest::Lines(_) => None,
+    }
+}
+
+/// Where the first line of a text ends.
+#[inline(always)]
+pub fn line_end(text: &[u8]) -> usize
+    ensures bound { result ≤ length text.now }
+    ensures inside { (k : ℕ) → k < result → (slice_index text.now k == 10) ≡ false }
+    ensures ends { result < length text.now → slice_index text.now result ≡ 10 }
+{
+    match memchr(b'\n', text) {
+        Some(end) => end,
+        None => text.len(),
+    }
+}
+
+// The first line of a text, and the lines after it, if any.
+#[inline(always)]
+fn split_line(text: &[u8]) -> (&[u8], Option<&[u8]>)
+    ensures line { result.0.now ≡ first_line text.now }
+    ensures lines { lines_left result.1 ≡ lines_after_first text.now }
+{
+    let len = line_end(text);
+    if len == text.len() {
+        return (text, None);
+    }
+    (&text[..len], Some(&text[len + 1..]))
+}
+
+// The first line of a text, which spells bytes where it is a word in hex, and the lines after it. A line in hex is one word,
+// so only its end is looked for.
+#[inline(always)]
+#[tactic(auto, using(crate::proofs::LastWord::one_word))]
+fn line_bytes(text: &[u8]) -> (&[u8], Option<&[u8]>)
+    ensures bytes { bytes_in result.0.now ≡ last_bytes (words_in text.now) }
+    ensures lines { lines_left result.1 ≡ lines_after_first text.now }
+{
+    split_line(text)
+}
+
+/// What spells bytes where it is a word in hex, and the last one of its line, and the lines after it.
+#[inline(always)]
+pub fn last_bytes_of(rest: Rest<'_>) -> Option<(&[u8], Option<&[u8]>)>
+    ensures bytes { option_and_then (λ found. bytes_in found.0.now) result ≡ last_bytes (words_left rest.entry) }
+    ensures lines { IfSome result (λ found. lines_left found.1 ≡ lines_after rest.entry) }
+{
+    match rest {
+        Rest::Words(text) => Some(line_bytes(text)),
+        Rest::Lines(_) => None,
+    }
+}

@@ -1,0 +1,124 @@
+//! Words in hex, and the bytes that they spell.
+
+ghost use Rattle.std.specs.Prelude.{◌≡◌, ◌≤◌, ◌<◌, ◌+◌, ◌*◌, ◌%◌, ◌==◌, ◌&&◌, nat_lt, nat_le, length, take, cond, Some, None, IfOk};
+ghost use Rattle.far_text.specs.Grammar.{bytes_in};
+ghost use Rattle.far_text.specs.declared.hex_word.TheConstants.{LONGEST_LINE, LONGEST_BYTES};
+
+use std::alloc::{AllocError, Global};
+use std::marker::Model;
+
+/// The most bytes that a line has, its newline not counted.
+pub const LONGEST_LINE: usize = 4096;
+
+/// The most bytes that a word in hex spells.
+pub const LONGEST_BYTES: usize = LONGEST_LINE / 2;
+
+// The room that is made at once.
+const PIECE: usize = 65_536;
+
+fn is_hex_len(len: usize) -> bool
+    ensures { result ≡ (nat_lt 0 len && nat_le len LONGEST_LINE && (len % 2 == 0)) }
+{
+    len > 0 && len <= LONGEST_LINE && len % 2 == 0
+}
+
+// Fills the room with the bytes that a word spells. Whether it is a word in hex. Apart from its caller it has registers
+// enough.
+#[inline(never)]
+fn decode(word: &[u8], room: &mut [u8]) -> bool
+    requires some { 0 < length room.old }
+    requires short { length word.now ≤ LONGEST_LINE }
+    requires twice { length word.now ≡ 2 * length room.old }
+    ensures { bytes_in word.now ≡ cond result (Some room.new) None }
+{
+    hex::decode_to_slice(word, room).is_ok()
+}
+
+// Makes room for the bytes of one word more.
+fn make_room(room: &mut Vec<u8>, to: usize) -> Result<(), AllocError>
+    requires { to ≤ length room.old.items + LONGEST_BYTES }
+    ensures enough { IfOk result (λ _. to ≤ length room.new.items) }
+    ensures kept { take (length room.old.items) room.new.items ≡ room.old.items }
+{
+    if to > room.len() {
+        room.resize(room.len() + PIECE, 0)?;
+    }
+    Ok(())
+}
+
+/// The bytes that words in hex spell, those of one behind those of another.
+#[derive(Drop)]
+pub struct HexBytes {
+    room: Vec<u8>,
+    len: usize,
+}
+
+impl Model for HexBytes {
+    ghost use Rattle.std.specs.Prelude.{ℕ, ◌≤◌, List, length, take};
+    ghost use Rattle.hex.specs.Hex.{IsBytes};
+
+    ghost Value = { List ℕ };
+
+    ghost view = { λ b. take b.len b.room.items };
+
+    ghost invariant = { λ b. (b.len ≤ length b.room.items) × IsBytes (take b.len b.room.items) };
+}
+
+impl HexBytes {
+    ghost use Rattle.std.specs.Prelude.{◌≡◌, ◌≢◌, ◌≤◌, ◌+◌, [], length, take, drop, true, cond, Ok, Some, None, IfOk};
+    ghost use Rattle.hex.specs.Hex.{IsBytes};
+    ghost use Rattle.far_text.specs.Grammar.{bytes_in};
+    ghost use Rattle.far_text.specs.declared.hex_word.TheConstants.{LONGEST_BYTES};
+
+    /// No bytes yet.
+    pub fn new(alloc: Global) -> HexBytes
+        ensures { result ≡ [] }
+    {
+        HexBytes {
+            room: Vec::new(alloc),
+            len: 0,
+        }
+    }
+
+    /// How many they are.
+    pub fn len(&self) -> usize
+        ensures { result ≡ length self.now }
+    {
+        self.len
+    }
+
+    /// The bytes.
+    pub fn as_slice(&self) -> &[u8]
+        ensures value { result.now ≡ self.now }
+        ensures bytes { IsBytes result.now }
+    {
+        &self.room[..self.len]
+    }
+
+    /// Takes all away but the first.
+    pub fn truncate(&mut self, len: usize)
+        requires { len ≤ length self.old }
+        ensures { self.new ≡ take len self.old }
+    {
+        self.len = len;
+    }
+
+    /// Adds the bytes that a word spells, if it is a word in hex. Whether it is.
+    pub fn add(&mut self, word: &[u8]) -> Result<bool, AllocError>
+        ensures value { IfOk result (λ known. bytes_in word.now ≡ cond known (Some (drop (length self.old) self.new)) None) }
+        ensures kept { take (length self.old) self.new ≡ self.old }
+        ensures same { result ≢ Ok true → self.new ≡ self.old }
+        ensures short { length self.new ≤ length self.old + LONGEST_BYTES }
+    {
+        if !is_hex_len(word.len()) {
+            return Ok(false);
+        }
+        let end = self.len + word.len() / 2;
+        make_room(&mut self.room, end)?;
+        if !decode(word, &mut self.room[self.len..end]) {
+            return Ok(false);
+        }
+        self.len = end;
+        Ok(true)
+    }
+}

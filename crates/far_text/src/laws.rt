@@ -1,0 +1,27 @@
+//! Laws of the grammar.
+
+ghost use Rattle.std.specs.Prelude.{◌≡◌, ◌↔◌, ℕ, List, Some};
+ghost use Rattle.far_text.specs.declared.text.TheConstants.{LONGEST_TEXT};
+ghost use Rattle.far_text.specs.declared.hex_word.TheConstants.{LONGEST_LINE, LONGEST_BYTES};
+ghost use Rattle.far_text.specs.Command.{Entry};
+ghost use Rattle.far_text.specs.Grammar.{entry_of};
+ghost use Rattle.far_text.specs.Says.{Says};
+ghost use Rattle.far_text.specs.TraceText.{TextsAreRead, FirstBadLines, CutsJoin};
+
+/// Words are read as a heap or a command exactly where they say it, and a text as nothing, or a heap and commands, exactly
+/// where its lines say so: all its lines, in order, comments and empty lines passed over. The number that is refused is
+/// that of the first line that says nothing, from 1; 0 where the text is too long. Lines joined by newlines are the text,
+/// and words joined by spaces the line.
+pub fn grammar_is_said()
+    ensures words { (words : List (List ℕ)) (e : Entry) → Says words e ↔ (entry_of words ≡ Some e) }
+    ensures texts { TextsAreRead }
+    ensures bad { FirstBadLines }
+    ensures cuts { CutsJoin }
+{}
+
+/// A text has at most 1,048,576 bytes, a line 4,096, its newline not counted, and what a word in hex spells 2,048.
+pub fn limits_are()
+    ensures text { LONGEST_TEXT ≡ 1048576 }
+    ensures line { LONGEST_LINE ≡ 4096 }
+    ensures bytes { LONGEST_BYTES ≡ 2048 }
+{}

@@ -1,0 +1,18 @@
+//! A trace, a text of commands, is read: as nothing, or as a heap and commands, or refused by its first line off the grammar.
+//!
+//! [`parse`] does it. The grammar is a definition (`specs/Grammar.antt`); [`grammar_is_said`] is the law that says in other
+//! words what it is worth. What the commands do is far_replay's.
+#![tactic(auto)]
+
+mod command;
+mod commands;
+mod cursor;
+mod hex_word;
+mod laws;
+mod line;
+mod text;
+
+pub use command::{Command, Inquiry, Request};
+pub use commands::Commands;
+pub use laws::{grammar_is_said, limits_are};
+pub use text::{LONGEST_TEXT, ParseError, Trace, parse};

@@ -1,0 +1,123 @@
+//! What each line of a text says.
+
+ghost use Rattle.std.specs.Prelude.{◌≡◌, ◌≤◌, ◌<◌, ◌+◌, ◌==◌, ℕ, length, true, false, slice_index, IfSome, IfNone};
+ghost use Rattle.std.specs.Option.{option_and_then};
+ghost use Rattle.far_text.specs.Spelled.{entry_spelled};
+ghost use Rattle.far_text.specs.Grammar.{entry_of, line_of, Bad};
+ghost use Rattle.far_text.specs.Cursor.{first_line, lines_after_first, lines_left, words_in, as_line};
+
+use crate::command::{Entry, Spelled, entry_by_first_word, entry_first};
+use crate::cursor::line_end;
+use crate::hex_word::LONGEST_LINE;
+
+/// What a line says.
+#[derive(Clone, Copy)]
+pub enum Line<'a> {
+    /// An empty line or a comment.
+    Skipped,
+    Said(Entry<'a>),
+}
+
+// Where the first line of a text ends, if all its bytes are ASCII.
+#[inline(always)]
+fn ascii_len(text: &[u8]) -> Option<usize>
+    ensures bound { IfSome result (λ len. len ≤ length text.now) }
+    ensures ascii { IfSome result (λ len. (k : ℕ) → k < len → slice_index text.now k < 128) }
+    ensures inside { IfSome result (λ len. (k : ℕ) → k < len → (slice_index text.now k == 10) ≡ false) }
+    ensures ends { IfSome result (λ len. len < length text.now → slice_index text.now len ≡ 10) }
+    ensures other { IfNone result ((at : ℕ) × (at < length text.now) × (128 ≤ slice_index text.now at) × ((k : ℕ) → k < at → (slice_index text.now k == 10) ≡ false)) }
+{
+    let len = line_end(text);
+    if text[..len].is_ascii() {
+        Some(len)
+    } else {
+        None
+    }
+}
+
+// Reads a comment, which a text begins with.
+#[inline(always)]
+fn comment_first(text: &[u8]) -> Option<(Line<'_>, Option<&[u8]>)>
+    requires some { 0 < length text.now }
+    requires comment { slice_index text.now 0 ≡ 35 }
+    ensures bad { IfNone result (line_of (first_line text.now) ≡ Bad) }
+    ensures line { IfSome result (λ found. as_line found.0 ≡ line_of (first_line text.now)) }
+    ensures lines { IfSome result (λ found. lines_left found.1 ≡ lines_after_first text.now) }
+{
+    let len = ascii_len(text)?;
+    if len > LONGEST_LINE {
+        return None;
+    }
+    if len == text.len() {
+        return Some((Line::Skipped, None));
+    }
+    Some((Line::Skipped, Some(&text[len + 1..])))
+}
+
+// How many bytes the first line of a text has, where these are the lines after it.
+#[inline(always)]
+fn line_len(text: &[u8], lines: Option<&[u8]>) -> usize
+    requires { lines_left lines ≡ lines_after_first text.now }
+    ensures { result ≡ length (first_line text.now) }
+{
+    match lines {
+        None => text.len(),
+        Some(lines) => text.len() - lines.len() - 1,
+    }
+}
+
+/// Where a line stands: the few lines as far as the heap's go by their first word, so that the code for the many after it
+/// stands in one place.
+#[derive(Clone, Copy)]
+pub enum Part {
+    AsFarAsTheHeap,
+    AfterTheHeap,
+}
+
+// What the first line of a text spells.
+#[inline(always)]
+fn spelled_first(text: &[u8], part: Part) -> Option<Spelled<'_>>
+    ensures value { option_and_then (λ found. entry_spelled found.0) result ≡ entry_of (words_in text.now) }
+    ensures lines { IfSome result (λ found. lines_left found.1 ≡ lines_after_first text.now) }
+{
+    match part {
+        Part::AsFarAsTheHeap => entry_by_first_word(text),
+        Part::AfterTheHeap => entry_first(text),
+    }
+}
+
+// Reads a line with an entry, which a text begins with.
+#[inline(always)]
+fn entry_line_first(text: &[u8], part: Part) -> Option<(Line<'_>, Option<&[u8]>)>
+    requires some { 0 < length text.now }
+    requires content { (slice_index text.now 0 == 10) ≡ false }
+    requires other { (slice_index text.now 0 == 35) ≡ false }
+    ensures bad { IfNone result (line_of (first_line text.now) ≡ Bad) }
+    ensures line { IfSome result (λ found. as_line found.0 ≡ line_of (first_line text.now)) }
+    ensures lines { IfSome result (λ found. lines_left found.1 ≡ lines_after_first text.now) }
+{
+    let (entry, lines) = spelled_first(text, part)?;
+    if line_len(text, lines) > LONGEST_LINE {
+        return None;
+    }
+    Some((Line::Said(entry), lines))
+}
+
+/// What the first line of a text says, and the lines after it; None where it is off the grammar.
+#[inline(always)]
+pub fn line_first(text: &[u8], part: Part) -> Option<(Line<'_>, Option<&[u8]>)>
+    ensures bad { IfNone result (line_of (first_line text.now) ≡ Bad) }
+    ensures line { IfSome result (λ found. as_line found.0 ≡ line_of (first_line text.now)) }
+    ensures lines { IfSome result (λ found. lines_left found.1 ≡ lines_after_first text.now) }
+{
+    if text.is_empty() {
+        return Some((Line::Skipped, None));
+    }
+    if text[0] == b'\n' {
+        return Some((Line::Skipped, Some(&text[1..])));
+    }
+    if text[0] == b'#' {
+        return comment_first(text);
+    }
+    entry_line_first(text, part)
+}

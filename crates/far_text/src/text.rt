@@ -1,0 +1,148 @@
+//! A whole text: nothing, or a heap and commands.
+
+ghost use Rattle.std.specs.Prelude.{◌≡◌, ◌<◌, ◌≤◌, ◌+◌, length, Ok, Err, None, IfOk, IfErr, IfSome};
+ghost use Rattle.far_text.specs.Command.{Nothing};
+ghost use Rattle.far_text.specs.Parsed.{as_trace};
+ghost use Rattle.far_text.specs.Cursor.{lines_left};
+ghost use Rattle.far_text.specs.declared.text.TheConstants.{LONGEST_TEXT};
+ghost use Rattle.far_text.specs.Grammar.{trace_of, lines_of, read_lines, read_commands, with_heap, IsFault};
+
+use crate::command::Entry;
+use crate::commands::Commands;
+use crate::line::{Line, Part, line_first};
+use std::alloc::{AllocError, AllocFailed, Global};
+use thiserror::Error;
+
+/// The most bytes that a text has.
+pub const LONGEST_TEXT: usize = 1_048_576;
+
+/// Why a text was not read.
+#[derive(Clone, Copy, Debug, PartialEq, Eq, Error)]
+pub enum ParseError {
+    #[error("memory")]
+    Memory,
+    /// The first line off the grammar, from 1, or 0 for a text that is too long.
+    #[error("line {0} is off the grammar")]
+    Syntax(u64),
+}
+
+impl From<AllocError> for ParseError {
+    ghost use Rattle.std.specs.Prelude.{◌≡◌};
+    ghost use Rattle.far_text.specs.declared.text.ParseError.TheVariants.{Memory};
+
+    ghost from_gives = { λ _ e. e ≡ Memory };
+
+    fn from(_e: AllocError) -> ParseError {
+        ParseError::Memory
+    }
+}
+
+impl<T: Drop> From<AllocFailed<T>> for ParseError {
+    ghost use Rattle.std.specs.Prelude.{◌≡◌};
+    ghost use Rattle.far_text.specs.declared.text.ParseError.TheVariants.{Memory};
+
+    ghost from_gives = { λ _ e. e ≡ Memory };
+
+    fn from(_e: AllocFailed<T>) -> ParseError {
+        ParseError::Memory
+    }
+}
+
+/// What a text says.
+#[derive(Drop)]
+pub enum Trace {
+    /// No line says anything.
+    Nothing,
+    /// A heap, and the commands after it.
+    Heap {
+        logs: u64,
+        mutators: u64,
+        commands: Commands,
+    },
+}
+
+// The heap's line: what it says, its number, and the lines after it.
+#[derive(Clone, Copy)]
+struct HeapLine<'a> {
+    logs: u64,
+    mutators: u64,
+    number: u64,
+    lines: Option<&'a [u8]>,
+}
+
+// Looks for the heap's line: None where no line says anything, an error where one that says no heap comes before it.
+fn heap_line(text: &[u8]) -> Result<Option<HeapLine<'_>>, ParseError>
+    requires short { length text.now ≤ LONGEST_TEXT }
+    ensures none { result ≡ Ok None → read_lines 1 (lines_of text.now) ≡ Ok Nothing }
+    ensures heap { IfOk result (λ found. IfSome found (λ heap. read_lines 1 (lines_of text.now) ≡ with_heap heap.logs heap.mutators (read_commands (heap.number + 1) (lines_left heap.lines)))) }
+    ensures counted { IfOk result (λ found. IfSome found (λ heap. heap.number + length (lines_left heap.lines) ≤ LONGEST_TEXT + 1)) }
+    ensures fault { IfErr result (λ e. IsFault e (read_lines 1 (lines_of text.now))) }
+{
+    let mut number = 0u64;
+    let mut lines = Some(text);
+    while let Some(text) = lines {
+        number += 1;
+        let Some((line, after)) = line_first(text, Part::AsFarAsTheHeap) else {
+            return Err(ParseError::Syntax(number));
+        };
+        if let Line::Said(entry) = line {
+            return match entry {
+                Entry::Heap { logs, mutators } => Ok(Some(HeapLine {
+                    logs,
+                    mutators,
+                    number,
+                    lines: after,
+                })),
+                Entry::Command(_) => Err(ParseError::Syntax(number)),
+            };
+        }
+        lines = after;
+    }
+    Ok(None)
+}
+
+// The commands of the lines after this number, or the first of them that says none.
+fn commands_after(alloc: Global, number: u64, lines: Option<&[u8]>) -> Result<Commands, ParseError>
+    requires counted { number + length (lines_left lines) ≤ LONGEST_TEXT + 1 }
+    ensures commands { IfOk result (λ commands. read_commands (number + 1) (lines_left lines.entry) ≡ Ok commands) }
+    ensures fault { IfErr result (λ e. IsFault e (read_commands (number + 1) (lines_left lines.entry))) }
+{
+    let mut commands = Commands::new(alloc);
+    let mut number = number;
+    let mut lines = lines;
+    while let Some(text) = lines {
+        number += 1;
+        let Some((line, after)) = line_first(text, Part::AfterTheHeap) else {
+            return Err(ParseError::Syntax(number));
+        };
+        if let Line::Said(entry) = line {
+            let Entry::Command(command) = entry else {
+                return Err(ParseError::Syntax(number));
+            };
+            if !commands.push(command)? {
+                return Err(ParseError::Syntax(number));
+            }
+        }
+        lines = after;
+    }
+    Ok(commands)
+}
+
+/// What a text says, or its first line off the grammar: a heap comes first, and nowhere else.
+pub fn parse(alloc: Global, text: &[u8]) -> Result<Trace, ParseError>
+    ensures trace { IfOk result (λ trace. trace_of text.now ≡ Ok (as_trace trace)) }
+    ensures fault { IfErr result (λ e. IsFault e (trace_of text.now)) }
+    ensures long { LONGEST_TEXT < length text.now → result ≡ Err (ParseError.Syntax 0) }
+{
+    if text.len() > LONGEST_TEXT {
+        return Err(ParseError::Syntax(0));
+    }
+    let Some(heap) = heap_line(text)? else {
+        return Ok(Trace::Nothing);
+    };
+    Ok(Trace::Heap {
+        logs: heap.logs,
+        mutators: heap.mutators,
+        commands: commands_after(alloc, heap.number, heap.lines)?,
+    })
+}
