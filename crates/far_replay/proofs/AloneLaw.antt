@@ -12,8 +12,8 @@ use Rattle.far_core.proofs.Leaving.{events_leave}
 use Rattle.far_replay.specs.Moment.{Moment, moment_of}
 use Rattle.far_replay.specs.Alone.{Own, Knows, Alone, Learns, own_of, is_by, speaker}
 use Rattle.far_replay.specs.Answers.{Answered, Commanded, IsMoment}
-use Rattle.far_replay.specs.Command.{Command, New, Open, Write, Read, Close, Where, Drop, View, Try, Mutator, Book}
-use Rattle.far_replay.specs.Written.{WritesBytes, AllWriteBytes}
+use Rattle.far_text.specs.Command.{Command, New, Open, Write, Read, Close, Where, Drop, View, Try, Mutator, Book}
+use Rattle.far_text.specs.Written.{WritesBytes, AllWriteBytes}
 use Rattle.far_replay.specs.EventRows.{after_events, AllAtHand}
 use Rattle.far_replay.specs.Reply.{Reply}
 use Rattle.far_replay.specs.Events.{events_for}

@@ -19,7 +19,7 @@ use Rattle.far_core.specs.world.WorldOf.{world_of}
 use Rattle.far_core.specs.world.Steps.{with_bytes}
 use Rattle.far_replay.specs.Moment.{moment_of}
 use Rattle.far_replay.specs.Alone.{Knows, own_of, IsOut, IsIn}
-use Rattle.far_replay.specs.Command.{Command, Open, Write, Read, Close, Where, Drop, View, Try, Mutator}
+use Rattle.far_text.specs.Command.{Command, Open, Write, Read, Close, Where, Drop, View, Try, Mutator}
 use Rattle.far_replay.specs.EventRows.{after_events, AllSucceed, AllAtHand}
 use Rattle.far_replay.specs.Reply.{Reply, Done, Refused}
 use Rattle.far_replay.specs.Events.{turn_events, refused_events, open_events, view_events, part_events, load_events, store_events, starts_inside, ends_inside, first_word, words_touched}

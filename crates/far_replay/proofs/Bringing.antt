@@ -1,5 +1,5 @@
 -- A dereference whose pin gives no view: the object is asked for, comes to where a view may rest, and owners stay as they are.
-use Rattle.std.proofs.Common.{◌≡◌, ◌≢◌, ℕ, ◌*◌, ◌/◌, ◌<◌, ◌||◌, ◌&&◌, ◌==◌, Bool, true, false, cond, not, refl, sym, ap, subst, ◌∙◌, arith, Option, Some, None, IsSome, is_some}
+use Rattle.std.proofs.Common.{◌≡◌, ◌≢◌, ℕ, ◌*◌, ◌/◌, ◌<◌, ◌||◌, ◌&&◌, ◌==◌, Bool, true, false, cond, not, nat_lt, refl, sym, ap, subst, ◌∙◌, arith, if◌then◌else◌, Option, Some, None, IsSome, is_some}
 use Rattle.std.proofs.lemmas.Bool.{cond_both, false≢true, true≢false}
 use Rattle.far_word.specs.declared.mark.Mark.TheVariants.{Moved}
 use Rattle.far_word.specs.declared.mark.Marks.{Marks}
@@ -15,7 +15,7 @@ use Rattle.far_core.specs.declared.naming.Naming.TheVariants.{Places, Retires, E
 use Rattle.far_core.specs.events.Legal.{Legal}
 use Rattle.far_core.specs.events.Name.{after_naming}
 use Rattle.far_core.specs.events.Naming.{is_dropped, naming_of, naming_row}
-use Rattle.far_core.specs.events.Step.{after, is_opened}
+use Rattle.far_core.specs.events.Step.{after, after_pin, is_opened}
 use Rattle.far_core.specs.state.Law.{Law, in_use}
 use Rattle.far_core.specs.state.State.{State}
 use Rattle.far_core.proofs.Cells.{map_mark}
@@ -27,7 +27,11 @@ use Rattle.far_book.specs.book.Dealing.{IsQuietNear, goal, has_evac, moved_now}
 use Rattle.far_core.specs.events.Copies.{data_at}
 use Rattle.far_book.specs.book.Effects.{fetched, fetched_of, moved, moved_of, near_word, stayed, stayed_of, with_written_span}
 use Rattle.far_book.specs.book.Fetching.{IsFar, room_for}
-use Rattle.far_replay.specs.Dereference.{asked_for, come, come_of, comes_to, comes_to_of, says_near, sought_of}
+use Rattle.far_word.specs.declared.refused.Refused.{Refused as Refusal}
+use Rattle.far_replay.specs.Dereference.{RefusesBringing, RefusesView, asked_for, come, come_of, comes_to, comes_to_of, dereferenced, has_no_room, says_near, sought, sought_of}
+use Rattle.far_replay.specs.Effects.{is_slow, with_view}
+use Rattle.far_replay.proofs.Drops.{unheld_is}
+use Rattle.far_replay.proofs.Views.{slow_parts, slow_view}
 
 -- ---- what a used cell says
 record SaysNear (o : Option PtrWord) : Type 0 where
@@ -124,17 +128,18 @@ module _ (s : State) (m p : ℕ) (law : Law s) (used : s.used p ≡ true) (far :
 pub record KeepsOwners (s t : State) : Type 0 where
   pub scope : t.scope ≡ s.scope
   pub used : t.used ≡ s.used
+  pub mutators : t.mutators ≡ s.mutators
 
 kept : (s : State) → KeepsOwners s s
-kept s = record { scope = refl; used = refl }
+kept s = record { scope = refl; used = refl; mutators = refl }
 
 form_keeps : (s : State) (p new : ℕ) (form : Naming) → KeepsOwners s (naming_row s p new form).after
-form_keeps s p new (Places len ds place) = record { scope = refl; used = refl }
-form_keeps s p new (Moves len ds from to) = record { scope = refl; used = refl }
-form_keeps s p new (Evicts len place) = record { scope = refl; used = refl }
-form_keeps s p new (Fetches len ds place) = record { scope = refl; used = refl }
-form_keeps s p new Stays = record { scope = refl; used = refl }
-form_keeps s p new Retires = record { scope = refl; used = refl }
+form_keeps s p new (Places len ds place) = record { scope = refl; used = refl; mutators = refl }
+form_keeps s p new (Moves len ds from to) = record { scope = refl; used = refl; mutators = refl }
+form_keeps s p new (Evicts len place) = record { scope = refl; used = refl; mutators = refl }
+form_keeps s p new (Fetches len ds place) = record { scope = refl; used = refl; mutators = refl }
+form_keeps s p new Stays = record { scope = refl; used = refl; mutators = refl }
+form_keeps s p new Retires = record { scope = refl; used = refl; mutators = refl }
 
 naming_keeps : (s : State) (p new : ℕ) (o : Option Naming) → KeepsOwners s (after_naming s p new o)
 naming_keeps s p new None = kept s
@@ -147,7 +152,7 @@ moved_keeps : (s : State) (p : ℕ) (place : Place) (o : Option PtrWord) → Kee
 moved_keeps s p place None = kept s
 moved_keeps s p place (Some Free) = kept s
 moved_keeps s p place (Some (Near len ds from marks)) =
-    let k = name_keeps (with_written_span s p len ds place (data_at s.word from)) p (s.cell p) (near_word len ds place) in record { scope = k.scope; used = k.used }
+    let k = name_keeps (with_written_span s p len ds place (data_at s.word from)) p (s.cell p) (near_word len ds place) in record { scope = k.scope; used = k.used; mutators = k.mutators }
 moved_keeps s p place (Some (Far len ds marks)) = kept s
 
 stayed_keeps : (s : State) (p : ℕ) (o : Option PtrWord) → KeepsOwners s (stayed_of s p o)
@@ -161,7 +166,7 @@ fetched_keeps s p place row None = kept s
 fetched_keeps s p place row (Some Free) = kept s
 fetched_keeps s p place row (Some (Near len ds from marks)) = kept s
 fetched_keeps s p place row (Some (Far len ds marks)) =
-    let k = name_keeps (with_written_span s p len ds place row) p (s.cell p) (near_word len ds place) in record { scope = k.scope; used = k.used }
+    let k = name_keeps (with_written_span s p len ds place row) p (s.cell p) (near_word len ds place) in record { scope = k.scope; used = k.used; mutators = k.mutators }
 
 come_keeps_of : (s : State) (p : ℕ) (x : Option Place) (o : Option PtrWord) → KeepsOwners s (come_of s p x o)
 come_keeps_of s p None o = kept s
@@ -177,7 +182,7 @@ come_keeps s p = come_keeps_of s p (comes_to s p) (read_of (s.cell p))
 sought_keeps : (s : State) (m p : ℕ) (o : Option PtrWord) → KeepsOwners s (sought_of s m p o)
 sought_keeps s m p None = kept s
 sought_keeps s m p (Some Free) = kept s
-sought_keeps s m p (Some (Near len ds place marks)) = record { scope = refl; used = refl }
+sought_keeps s m p (Some (Near len ds place marks)) = record { scope = refl; used = refl; mutators = refl }
 sought_keeps s m p (Some (Far len ds marks)) = kept s
 
 -- a dereference leaves what owners use, and their scopes
@@ -185,4 +190,46 @@ pub brought_keeps : (s : State) (m p : ℕ) → KeepsOwners s (come (asked_for s
 brought_keeps s m p =
     let a = sought_keeps s m p (read_of (s.cell p)) in
     let b = come_keeps (asked_for s m p) p in
-    record { scope = b.scope ∙ a.scope; used = b.used ∙ a.used }
+    record { scope = b.scope ∙ a.scope; used = b.used ∙ a.used; mutators = b.mutators ∙ a.mutators }
+
+-- ---- the parts of a dereference, put together
+module _ (s t : State) (m p : ℕ) (pinned : t ≡ with_view s p) (slow : is_slow s p ≡ true) where
+  pin_is : t ≡ record s { cell = (after_pin s p).cell }
+  pin_is = pinned ∙ slow_view s p slow
+
+  pub slow_opened : is_opened s m ≡ true → is_opened t m ≡ true
+  slow_opened opened = ap (λ (x : State). is_opened x m) pin_is ∙ opened
+
+  pub slow_used : s.used p ≡ true → t.used p ≡ true
+  slow_used used = ap (λ (x : State). x.used p) pin_is ∙ used
+
+  pub slow_unheld : t.held p ≡ None
+  slow_unheld = ap (λ (x : State). x.held p) pin_is ∙ unheld_is (s.held p) (slow_parts s p slow).0
+
+  pub slow_sought : asked_for t m p ≡ sought s m p
+  slow_sought = ap (λ (x : State). asked_for x m p) pinned
+
+  pub slow_dereference : (u v : State) → u ≡ come (asked_for t m p) p → v ≡ with_view u p → v ≡ dereferenced s m p
+  slow_dereference u v came again = again ∙ ap (λ (x : State). with_view x p) (came ∙ ap (λ (x : State). come x p) slow_sought)
+      ∙ sym (ap (λ b. if b then with_view (come (sought s m p) p) p else with_view s p) slow)
+
+  pub slow_room : IsSome (comes_to (asked_for t m p) p) → has_no_room s m p ≡ false
+  slow_room found = ap (λ b. b && not (is_some (comes_to (sought s m p) p))) slow ∙ some_found (comes_to (sought s m p) p) (subst (λ (x : State). IsSome (comes_to x p)) slow_sought found) where
+    some_found : (o : Option Place) → IsSome o → not (is_some o) ≡ false
+    some_found None h = absurd h
+    some_found (Some place) h = refl
+
+  pub slow_refused : (why : Refusal) (u : State) → RefusesBringing (asked_for t m p) p why u → RefusesView s m p why u
+  slow_refused why u h = (slow, subst (λ (x : State). RefusesBringing x p why u) slow_sought h)
+
+pub fast_room : (s : State) (m p : ℕ) → is_slow s p ≡ false → has_no_room s m p ≡ false
+fast_room s m p fast = ap (λ b. b && not (is_some (comes_to (sought s m p) p))) fast
+
+pub came_opened : (t u : State) (m p : ℕ) → u ≡ come (asked_for t m p) p → is_opened t m ≡ true → is_opened u m ≡ true
+came_opened t u m p came opened =
+    let k = brought_keeps t m p in
+    let same : is_opened (come (asked_for t m p) p) m ≡ is_opened t m = (λ i. nat_lt m (k.mutators i) && not (k.scope i m == 0)) in
+    ap (λ (x : State). is_opened x m) came ∙ same ∙ opened
+
+pub came_used : (t u : State) (m p : ℕ) → u ≡ come (asked_for t m p) p → t.used p ≡ true → u.used p ≡ true
+came_used t u m p came used = ap (λ (x : State). x.used p) came ∙ ap (λ (f : ℕ → Bool). f p) (brought_keeps t m p).used ∙ used

@@ -34,7 +34,6 @@ pub mod Spliced
 pub mod StoreTurns
 pub mod Streams
 pub mod TakingRoom
-pub mod TextLaws
 pub mod Tries
 pub mod Turns
 pub mod ViewLaws

@@ -24,7 +24,7 @@ use Rattle.far_core.proofs.Observations.{bytes_make_log}
 use Rattle.far_book.specs.book.Home.{home_of}
 use Rattle.far_replay.specs.Answers.{Answered}
 use Rattle.far_replay.specs.Audit.{counts_of, lies_near, lies_far, bytes_by_log}
-use Rattle.far_replay.specs.Command.{Command, New, Open, Write, Read, Close, Where, Drop, View, Try, Logs, Log, Audit, Mutator, Book}
+use Rattle.far_text.specs.Command.{Command, New, Open, Write, Read, Close, Where, Drop, View, Try, Logs, Log, Audit, Mutator, Book}
 use Rattle.far_replay.specs.Headline.{IsToldInFull, IsLineToldInFull, AreToldInFull, IsRefusalToldInFull}
 use Rattle.far_replay.specs.Moment.{Moment, moment_of}
 use Rattle.far_replay.specs.Objects.{lowest_cell, data_of}

@@ -11,7 +11,7 @@ use Rattle.far_book.specs.book.Home.{home_of}
 use Rattle.far_book.specs.declared.home.Home.{Home}
 use Rattle.far_replay.specs.Moment.{Moment, moment_of}
 use Rattle.far_replay.specs.Answers.{Commanded}
-use Rattle.far_replay.specs.Command.{Command, New, Open, Write, Read, Close, Where, Drop, View, Try, Logs, Log, Audit, Mutator, Book}
+use Rattle.far_text.specs.Command.{Command, New, Open, Write, Read, Close, Where, Drop, View, Try, Logs, Log, Audit, Mutator, Book}
 use Rattle.far_replay.specs.Headline.{IsAtHandFor, MayRefuse}
 use Rattle.far_replay.specs.Reply.{Reply, Refused}
 use Rattle.far_replay.specs.Dereference.{has_no_room}
@@ -19,7 +19,7 @@ use Rattle.far_replay.specs.Effects.{is_slow}
 use Rattle.far_replay.specs.EventRows.{AtHand}
 use Rattle.far_replay.specs.Objects.{uses, lowest_cell}
 use Rattle.far_replay.specs.Turn.{causes, first_cause, refusal, unless, turn_reply, pointer_reply, home_reply}
-use Rattle.far_replay.proofs.Each.{Each}
+use Rattle.far_text.proofs.Each.{Each}
 use Rattle.far_replay.proofs.Views.{hand_has_room, hand_is_fast}
 
 -- P holds of the refusal of each cause

@@ -18,7 +18,7 @@ use Rattle.far_word.specs.declared.mark.Mark.TheVariants.{Dropped}
 use Rattle.far_core.specs.declared.event.Event.TheVariants.{Ask}
 use Rattle.far_core.specs.events.Step.{after as step_after, after_pin}
 use Rattle.far_replay.specs.Answers.{Commanded, shape_of}
-use Rattle.far_replay.specs.Command.{Command, New, Open, Write, Read, Close, Where, Drop, View, Try, Mutator, Book}
+use Rattle.far_text.specs.Command.{Command, New, Open, Write, Read, Close, Where, Drop, View, Try, Mutator, Book}
 use Rattle.far_replay.specs.Dereference.{sought_of}
 use Rattle.far_replay.specs.Effects.{with_view, with_object}
 use Rattle.far_replay.specs.Headline.{TakesRoom}

@@ -16,7 +16,7 @@ use Rattle.far_core.specs.state.State.{State}
 use Rattle.far_core.specs.world.WorldOf.{world_of}
 use Rattle.far_core.proofs.Cells.{map_mark}
 use Rattle.far_replay.specs.Answers.{Commanded}
-use Rattle.far_replay.specs.Command.{Mutator, Try}
+use Rattle.far_text.specs.Command.{Mutator, Try}
 use Rattle.far_replay.specs.Effects.{is_slow, with_view}
 use Rattle.far_replay.specs.Headline.{IsHotAfter}
 use Rattle.far_replay.specs.Moment.{Moment, moment_of}

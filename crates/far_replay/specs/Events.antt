@@ -13,7 +13,7 @@ use Rattle.far_core.specs.declared.event.Event.TheVariants.{ReadEpoch as ReadsEp
 use Rattle.far_core.specs.events.Step.{after}
 use Rattle.far_core.specs.state.Room.{room}
 use Rattle.far_core.specs.state.State.{State}
-use Rattle.far_replay.specs.Command.{Command, New, Open, Write, Read, Close, Where, Drop, View, Try, Mutator, Book}
+use Rattle.far_text.specs.Command.{Command, New, Open, Write, Read, Close, Where, Drop, View, Try, Mutator, Book}
 use Rattle.far_replay.specs.Effects.{near_word}
 use Rattle.far_replay.specs.Moment.{Moment}
 use Rattle.far_replay.specs.Objects.{data_of, with_range, lowest_cell}

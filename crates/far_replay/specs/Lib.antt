@@ -2,8 +2,6 @@ pub mod Alone
 pub mod Answers
 pub mod Audit
 pub mod Between
-pub mod Command
-pub mod Cursor
 pub mod Dereference
 pub mod Effects
 pub mod EventRows

@@ -7,7 +7,7 @@ use Rattle.far_word.specs.declared.refused.Refused.{Refused as Refusal}
 use Rattle.far_word.specs.declared.refused.Refused.TheVariants.{NoRoom, Marked}
 use Rattle.far_word.specs.Pointer.{read_of}
 use Rattle.far_core.specs.world.WorldOf.{world_of}
-use Rattle.far_replay.specs.Command.{Command, Write, Read, View, Try, Mutator}
+use Rattle.far_text.specs.Command.{Command, Write, Read, View, Try, Mutator}
 use Rattle.far_replay.specs.Moment.{Moment}
 
 -- HOT and MOVE may have been added; EVAC and DROP are as they were

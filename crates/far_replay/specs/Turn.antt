@@ -14,7 +14,7 @@ use Rattle.far_word.specs.Pointer.{read_of}
 use Rattle.far_book.specs.book.Home.{home_of}
 use Rattle.far_book.specs.declared.home.Home.{Home}
 use Rattle.far_replay.specs.Audit.{counts_of}
-use Rattle.far_replay.specs.Command.{Command, New, Open, Write, Read, Close, Where, Drop, View, Try, Logs, Log, Audit, Mutator, Book}
+use Rattle.far_text.specs.Command.{Command, New, Open, Write, Read, Close, Where, Drop, View, Try, Logs, Log, Audit, Mutator, Book}
 use Rattle.far_replay.specs.Dereference.{dereferenced, has_no_room, sought}
 use Rattle.far_replay.specs.Effects.{with_object, with_scope, with_view, is_slow, with_data, without_object}
 use Rattle.far_replay.specs.Moment.{Moment}

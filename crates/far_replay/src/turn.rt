@@ -14,7 +14,7 @@ ghost use Rattle.far_replay.specs.Interpreter.{refused_in, IsAccess, IsViewed, S
 ghost use Rattle.hex.specs.Hex.{IsBytes};
 ghost use Rattle.far_text.specs.Written.{WritesBytes};
 ghost use Rattle.far_replay.specs.EventRows.{after_events};
-ghost use Rattle.far_replay.specs.Command.{Mutator, Book, New, Open, Write, Read, Close, Where, Drop, View, Try, Logs, Log, Audit};
+ghost use Rattle.far_text.specs.Command.{Mutator, Book, New, Open, Write, Read, Close, Where, Drop, View, Try, Logs, Log, Audit};
 ghost use Rattle.far_replay.specs.Outcome.{reply_by, IsInRoom};
 ghost use Rattle.far_replay.specs.Between.{Between};
 ghost use Rattle.far_replay.specs.Events.{events_for, turn_events, first_word, words_touched, starts_inside, ends_inside};

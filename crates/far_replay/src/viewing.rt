@@ -2,7 +2,7 @@
 
 ghost use Rattle.std.specs.Prelude.{◌≡◌, ◌<◌};
 ghost use Rattle.far_core.specs.state.Law.{Law};
-ghost use Rattle.far_replay.specs.Command.{Mutator, Try, View};
+ghost use Rattle.far_text.specs.Command.{Mutator, Try, View};
 ghost use Rattle.far_replay.specs.Between.{Between};
 ghost use Rattle.far_replay.specs.Interpreter.{StandsFor};
 ghost use Rattle.far_replay.specs.Moment.{moment_of, state_in};

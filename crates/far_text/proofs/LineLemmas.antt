@@ -11,12 +11,12 @@ use Rattle.std.proofs.lemmas.List.Splits.{join_with_byte-slice_split}
 use Rattle.std.proofs.Math.Seq.{drop-cons, drop-length, take-length}
 use Rattle.hex.specs.Hex.{is_hex_digit}
 use Rattle.hex.proofs.HexLemmas.{decode_of-ok}
-use Rattle.far_replay.specs.Command.{Entry, HeapLine, CommandLine, New, Open, Write, Read, Close, Where, Drop, View, Try, Logs, Log, Audit, Mutator, Book}
-use Rattle.far_replay.specs.Says.{Says, Spells}
-use Rattle.far_replay.specs.Grammar.{Line, Skipped, Saying, Bad, saying, line_of, is_plain, is_skipped, entry_of, lines_of, line_words}
-use Rattle.far_replay.specs.Cursor.{front_of, first_line, lines_after_first, words_in}
-use Rattle.far_replay.proofs.Cuts.{split_on, line_at}
-use Rattle.far_replay.proofs.SaysLemmas.{read_is_said}
+use Rattle.far_text.specs.Command.{Entry, HeapLine, CommandLine, New, Open, Write, Read, Close, Where, Drop, View, Try, Logs, Log, Audit, Mutator, Book}
+use Rattle.far_text.specs.Says.{Says, Spells}
+use Rattle.far_text.specs.Grammar.{Line, Skipped, Saying, Bad, saying, line_of, is_plain, is_skipped, entry_of, lines_of, line_words}
+use Rattle.far_text.specs.Cursor.{front_of, first_line, lines_after_first, words_in}
+use Rattle.far_text.proofs.Cuts.{split_on, line_at}
+use Rattle.far_text.proofs.SaysLemmas.{read_is_said}
 
 abbrev pub is_ascii : ℕ → Bool
 is_ascii b = nat_lt b 128

@@ -7,13 +7,13 @@ use Rattle.std.proofs.Math.Seq.{drop-append_seam}
 use Rattle.std.proofs.lemmas.Bool.{cases_lt}
 use Rattle.std.proofs.Math.Nat.{min-le_left}
 use Rattle.hex.specs.Hex.{IsBytes}
-use Rattle.far_replay.proofs.Fronts.{range_get}
-use Rattle.far_replay.specs.Command.{Command, Mutator, Write}
-use Rattle.far_replay.specs.Records.{number_in, command_in, IsWithin, AreWithin}
-use Rattle.far_replay.specs.Written.{WritesBytes}
-use Rattle.far_replay.specs.declared.commands.Record.{Record}
-use Rattle.far_replay.specs.declared.commands.Record.TheVariants.{New as NewRecord, Open as OpenRecord, Write as WriteRecord, Read as ReadRecord, Close as CloseRecord, Where as WhereRecord, Drop as DropRecord, View as ViewRecord, Try as TryRecord, Logs as LogsRecord, Log as LogRecord, Audit as AuditRecord}
-use Rattle.far_replay.proofs.Reading.{map_append}
+use Rattle.far_text.proofs.Parts.{range_get}
+use Rattle.far_text.specs.Command.{Command, Mutator, Write}
+use Rattle.far_text.specs.Records.{number_in, command_in, IsWithin, AreWithin}
+use Rattle.far_text.specs.Written.{WritesBytes}
+use Rattle.far_text.specs.declared.commands.Record.{Record}
+use Rattle.far_text.specs.declared.commands.Record.TheVariants.{New as NewRecord, Open as OpenRecord, Write as WriteRecord, Read as ReadRecord, Close as CloseRecord, Where as WhereRecord, Drop as DropRecord, View as ViewRecord, Try as TryRecord, Logs as LogsRecord, Log as LogRecord, Audit as AuditRecord}
+use Rattle.far_text.proofs.Reading.{map_append}
 
 -- the front of a room that new bytes were put into
 put_in_front : (room new rest : List ℕ) (len n : ℕ) → len ≤ length room → length new ≡ n → take (len + n) (take len room ++ (new ++ rest)) ≡ take len room ++ new

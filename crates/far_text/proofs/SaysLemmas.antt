@@ -2,12 +2,12 @@
 use Rattle.std.proofs.Common.{◌≡◌, ◌⊎◌, inl, inr, ℕ, zero, suc, ◌<◌, ◌^◌, Bool, true, false, cond, List, [], ◌∷◌, Option, Some, None, codes, decimal, sym, ◌∙◌, ap, refl, subst}
 use Rattle.std.specs.Str.{bytes_eq}
 use Rattle.std.proofs.lemmas.Slice.Eq.{bytes_eq-Decides}
-use Rattle.far_replay.specs.Command.{Entry, HeapLine, CommandLine, New, Open, Write, Read, Close, Where, Drop, View, Try, Logs, Log, Audit, Mutator, Book}
-use Rattle.far_replay.specs.Says.{Says, Spells}
-use Rattle.far_replay.specs.Grammar.{asks_read, asks_write, asks_open, asks_close, asks_new, asks_where, asks_drop, asks_view, asks_try, asks_log, From, Operands, Numbers, NumbersAndBytes, number_of, bytes_in, next_number, last_bytes, numbers_then, entry_at_end, entry_from, table, found_in, entry_of, ◌>>=◌}
-use Rattle.far_replay.proofs.Each.{Each}
-use Rattle.far_replay.proofs.HexLemmas.{spelled_is_hex, hex_is_spelled}
-use Rattle.far_replay.proofs.Numbers.{number_is, number_only}
+use Rattle.far_text.specs.Command.{Entry, HeapLine, CommandLine, New, Open, Write, Read, Close, Where, Drop, View, Try, Logs, Log, Audit, Mutator, Book}
+use Rattle.far_text.specs.Says.{Says, Spells}
+use Rattle.far_text.specs.Grammar.{asks_read, asks_write, asks_open, asks_close, asks_new, asks_where, asks_drop, asks_view, asks_try, asks_log, From, Operands, Numbers, NumbersAndBytes, number_of, bytes_in, next_number, last_bytes, numbers_then, entry_at_end, entry_from, table, found_in, entry_of, ◌>>=◌}
+use Rattle.far_text.proofs.Each.{Each}
+use Rattle.far_text.proofs.HexLemmas.{spelled_is_hex, hex_is_spelled}
+use Rattle.far_text.proofs.Numbers.{number_is, number_only}
 
 pub said_is_read : (words : List (List ℕ)) (c : Entry) → Says words c → entry_of words ≡ Some c
 said_is_read words (CommandLine (Mutator m (Read p f l))) h = ap entry_of h.0 ∙ rw (number_is (decimal m) m h.1 refl, number_is (decimal p) p h.2 refl, number_is (decimal f) f h.3 refl, number_is (decimal l) l h.4 refl) refl

@@ -6,15 +6,15 @@ use Rattle.std.proofs.lemmas.Bool.{and_parts, le-leb, lt-leb, cond_both}
 use Rattle.std.proofs.lemmas.Bool.Decides.{nat_tests}
 use Rattle.std.proofs.lemmas.List.Splits.{join_with_byte-slice_split}
 use Rattle.hex.proofs.HexLemmas.{decode_of-ok}
-use Rattle.far_replay.specs.declared.text.TheConstants.{LONGEST_TEXT}
-use Rattle.far_replay.specs.Command.{Command, Entry, HeapLine, CommandLine, Trace, Nothing, Heap, New, Open, Write, Read, Close, Where, Drop, View, Try, Mutator, Book}
-use Rattle.far_replay.specs.Grammar.{Line, Skipped, Saying, Bad, line_of, lines_of, line_words, is_plain, is_skipped, saying, entry_of, trace_of, onto, with_heap, read_command, read_commands, read_heap, read_lines}
-use Rattle.far_replay.specs.TraceText.{IsPassed, Speaks, LinesSay, LinesAre, TextSays, FirstBad, HaveNone}
-use Rattle.far_replay.specs.Says.{Says}
-use Rattle.far_replay.specs.Written.{WritesBytes, AllWriteBytes}
-use Rattle.far_replay.proofs.Cuts.{split_on}
-use Rattle.far_replay.proofs.LineLemmas.{is_ascii, ascii_list, entry_ascii}
-use Rattle.far_replay.proofs.SaysLemmas.{said_is_read, read_is_said}
+use Rattle.far_text.specs.declared.text.TheConstants.{LONGEST_TEXT}
+use Rattle.far_text.specs.Command.{Command, Entry, HeapLine, CommandLine, Trace, Nothing, Heap, New, Open, Write, Read, Close, Where, Drop, View, Try, Mutator, Book}
+use Rattle.far_text.specs.Grammar.{Line, Skipped, Saying, Bad, line_of, lines_of, line_words, is_plain, is_skipped, saying, entry_of, trace_of, onto, with_heap, read_command, read_commands, read_heap, read_lines}
+use Rattle.far_text.specs.TraceText.{IsPassed, Speaks, LinesSay, LinesAre, TextSays, FirstBad, HaveNone}
+use Rattle.far_text.specs.Says.{Says}
+use Rattle.far_text.specs.Written.{WritesBytes, AllWriteBytes}
+use Rattle.far_text.proofs.Cuts.{split_on}
+use Rattle.far_text.proofs.LineLemmas.{is_ascii, ascii_list, entry_ascii}
+use Rattle.far_text.proofs.SaysLemmas.{said_is_read, read_is_said}
 
 -- ---- one line
 -- what a line says is what its words are read as

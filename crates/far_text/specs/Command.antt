@@ -1,11 +1,11 @@
 -- What a trace says: nothing, or a heap and commands: the requests of a mutator, and the inquiries of the book; with the bytes of a write as they are stored.
 use Rattle.std.specs.Prelude.{ℕ, List}
-use Rattle.far_replay.specs.declared.command.Command.{Command as Spelled}
-use Rattle.far_replay.specs.declared.command.Command.TheVariants.{Mutator as SpelledMutator, Book as SpelledBook}
-use Rattle.far_replay.specs.declared.command.Inquiry.{Inquiry as SpelledInquiry}
-use Rattle.far_replay.specs.declared.command.Inquiry.TheVariants.{Logs as SpelledLogs, Log as SpelledLog, Audit as SpelledAudit}
-use Rattle.far_replay.specs.declared.command.Request.{Request as SpelledRequest}
-use Rattle.far_replay.specs.declared.command.Request.TheVariants.{New as SpelledNew, Open as SpelledOpen, Write as SpelledWrite, Read as SpelledRead, Close as SpelledClose, Where as SpelledWhere, Drop as SpelledDrop, View as SpelledView, Try as SpelledTry}
+use Rattle.far_text.specs.declared.command.Command.{Command as Spelled}
+use Rattle.far_text.specs.declared.command.Command.TheVariants.{Mutator as SpelledMutator, Book as SpelledBook}
+use Rattle.far_text.specs.declared.command.Inquiry.{Inquiry as SpelledInquiry}
+use Rattle.far_text.specs.declared.command.Inquiry.TheVariants.{Logs as SpelledLogs, Log as SpelledLog, Audit as SpelledAudit}
+use Rattle.far_text.specs.declared.command.Request.{Request as SpelledRequest}
+use Rattle.far_text.specs.declared.command.Request.TheVariants.{New as SpelledNew, Open as SpelledOpen, Write as SpelledWrite, Read as SpelledRead, Close as SpelledClose, Where as SpelledWhere, Drop as SpelledDrop, View as SpelledView, Try as SpelledTry}
 
 -- what a mutator asks for
 pub data Request : Type 0 where

@@ -3,12 +3,12 @@ use Rattle.std.specs.Prelude.{◌≡◌, ℕ, Bool, ◌&&◌, ◌^◌, nat_lt, n
 use Rattle.std.specs.Str.{bytes_eq}
 use Rattle.std.specs.Str.Parse.{digits_value}
 use Rattle.std.specs.List.{slice_split, list_all}
-use Rattle.far_replay.specs.Command.{Command, Entry, HeapLine, CommandLine, Trace, Nothing, Heap, New, Open, Write, Read, Close, Where, Drop, View, Try, Logs, Log, Audit, Mutator, Book}
-use Rattle.far_replay.specs.HexWord.{is_hex_word, hex_bytes}
-use Rattle.far_replay.specs.declared.hex_word.TheConstants.{LONGEST_LINE}
-use Rattle.far_replay.specs.declared.text.TheConstants.{LONGEST_TEXT}
-use Rattle.far_replay.specs.declared.text.ParseError.{ParseError}
-use Rattle.far_replay.specs.declared.text.ParseError.TheVariants.{Memory, Syntax}
+use Rattle.far_text.specs.Command.{Command, Entry, HeapLine, CommandLine, Trace, Nothing, Heap, New, Open, Write, Read, Close, Where, Drop, View, Try, Logs, Log, Audit, Mutator, Book}
+use Rattle.far_text.specs.HexWord.{is_hex_word, hex_bytes}
+use Rattle.far_text.specs.declared.hex_word.TheConstants.{LONGEST_LINE}
+use Rattle.far_text.specs.declared.text.TheConstants.{LONGEST_TEXT}
+use Rattle.far_text.specs.declared.text.ParseError.{ParseError}
+use Rattle.far_text.specs.declared.text.ParseError.TheVariants.{Memory, Syntax}
 
 -- the number that a word prints, below 2^64
 unfoldable pub number_of : List ℕ → Option ℕ

@@ -1,8 +1,8 @@
 -- Which words say the heap's line, and which a command: its name, its numbers as they are printed, its bytes in hex.
 use Rattle.std.specs.Prelude.{◌≡◌, ℕ, ◌<◌, ◌≤◌, ◌^◌, List, [], ◌∷◌, length, codes, decimal, Ok}
 use Rattle.hex.specs.Hex.{decode_of}
-use Rattle.far_replay.specs.declared.hex_word.TheConstants.{LONGEST_LINE}
-use Rattle.far_replay.specs.Command.{Entry, HeapLine, CommandLine, New, Open, Write, Read, Close, Where, Drop, View, Try, Logs, Log, Audit, Mutator, Book}
+use Rattle.far_text.specs.declared.hex_word.TheConstants.{LONGEST_LINE}
+use Rattle.far_text.specs.Command.{Entry, HeapLine, CommandLine, New, Open, Write, Read, Close, Where, Drop, View, Try, Logs, Log, Audit, Mutator, Book}
 
 -- A word in hex stands for these bytes, one at least; a word is no longer than a line.
 abbrev pub Spells : List ℕ → List ℕ → Type 0

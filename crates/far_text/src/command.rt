@@ -3,10 +3,10 @@
 ghost use Rattle.std.specs.Prelude.{◌≡◌, ◌∷◌, IfSome};
 ghost use Rattle.std.specs.Str.{bytes_eq};
 ghost use Rattle.std.specs.Option.{option_and_then};
-ghost use Rattle.far_replay.specs.Command.{HeapLine, CommandLine, Book, Logs, Audit};
-ghost use Rattle.far_replay.specs.Spelled.{entry_spelled};
-ghost use Rattle.far_replay.specs.Grammar.{Numbers, NumbersAndBytes, asks_read, asks_write, asks_open, asks_close, asks_new, asks_where, asks_drop, asks_view, asks_try, asks_log, entry_from, entry_of, entry_at_end};
-ghost use Rattle.far_replay.specs.Cursor.{words_in, words_left, lines_after_first, lines_after, lines_left};
+ghost use Rattle.far_text.specs.Command.{HeapLine, CommandLine, Book, Logs, Audit};
+ghost use Rattle.far_text.specs.Spelled.{entry_spelled};
+ghost use Rattle.far_text.specs.Grammar.{Numbers, NumbersAndBytes, asks_read, asks_write, asks_open, asks_close, asks_new, asks_where, asks_drop, asks_view, asks_try, asks_log, entry_from, entry_of, entry_at_end};
+ghost use Rattle.far_text.specs.Cursor.{words_in, words_left, lines_after_first, lines_after, lines_left};
 
 use crate::cursor::{Rest, last_bytes_of, next_number_of, word_first};
 
