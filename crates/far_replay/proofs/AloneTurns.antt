@@ -1,6 +1,6 @@
 -- What each command's reply tells its mutator, and that it changes nothing of what others know.
 use Rattle.std.proofs.Common.{◌≡◌, ◌≢◌, ℕ, ◌+◌, ◌/◌, ◌<◌, ◌≤◌, Bool, true, false, cond, nat_eq, nat_lt, sym, refl, ap, subst, ◌∙◌, Option, Some, None, List, [], ◌∷◌, ◌++◌, length}
-use Rattle.std.specs.Prelude.{not, ◌⊎◌, ◌&&◌, is_some}
+use Rattle.std.specs.Prelude.{slice_range, not, ◌⊎◌, ◌&&◌, is_some}
 use Rattle.std.proofs.lemmas.Bool.{and_parts, cond_both, eqb-true, eq-eqb, ltb-true, not-true, not-false, true≢false}
 use Rattle.far_word.specs.declared.refused.Refused.{Refused as Refusal}
 use Rattle.far_word.specs.declared.refused.Refused.TheVariants.{NoRoom, Closed, AlreadyOpen, NotHeld, Range, Held, Marked}
@@ -34,7 +34,7 @@ use Rattle.far_replay.proofs.AloneBytes.{over_with_range}
 use Rattle.far_replay.proofs.Drops.{drop_ends, drop_is, drop_world, own_gone, own_left, unheld_is}
 use Rattle.far_text.proofs.Each.{Each-append, Each-row}
 use Rattle.far_replay.proofs.MadeLemmas.{made-append, AllSucceed-parts, Carries}
-use Rattle.far_replay.proofs.Views.{hand_has_room, hand_is_fast}
+use Rattle.far_replay.proofs.Views.{data_dereferenced, hand_has_room, hand_is_fast}
 use Rattle.far_replay.proofs.Spliced.{AreBytes, packed_wide, with_range_bytes}
 use Rattle.far_replay.proofs.AloneRuns.{views_of, Scoped, own_same, own_other, own_here, own_scope, own_scope_other, IsQuiet, Quiet, quiet_run, over_all, stores_run, open_step, close_step}
 use Rattle.far_replay.proofs.AloneStates.{not_outside, open_world, shut_world, range_in, range_out, object_used, own_used, own_unused, len_used, data_small}
@@ -69,6 +69,23 @@ four_causes P false true c d x y z w h k l m n = k refl refl
 four_causes P false false true d x y z w h k l m n = l refl refl refl
 four_causes P false false false true x y z w h k l m n = m refl refl refl refl
 four_causes P false false false false x y z w h k l m n = n refl refl refl refl
+
+pub five_causes : (P : Option Refusal → Type 0) (a b c d e : Bool) (x y z w v : Refusal) → (a ≡ true → P (Some x)) → (a ≡ false → b ≡ true → P (Some y)) →
+    (a ≡ false → b ≡ false → c ≡ true → P (Some z)) → (a ≡ false → b ≡ false → c ≡ false → d ≡ true → P (Some w)) → (a ≡ false → b ≡ false → c ≡ false → d ≡ false → e ≡ true → P (Some v)) →
+    (a ≡ false → b ≡ false → c ≡ false → d ≡ false → P None) → P (first_cause ((a, x) ∷ (b, y) ∷ (c, z) ∷ (d, w) ∷ (e, v) ∷ []))
+five_causes P true b c d e x y z w v h k l m n o = h refl
+five_causes P false true c d e x y z w v h k l m n o = k refl refl
+five_causes P false false true d e x y z w v h k l m n o = l refl refl refl
+five_causes P false false false true e x y z w v h k l m n o = m refl refl refl refl
+five_causes P false false false false true x y z w v h k l m n o = n refl refl refl refl refl
+five_causes P false false false false false x y z w v h k l m n o = o refl refl refl refl
+
+-- an object at hand is dereferenced by a pin
+hand_fast : (s : State) (k p : ℕ) → Law s → AllAtHand s → not (uses s k p) ≡ false → is_slow s p ≡ false
+hand_fast s k p law hand used = hand_is_fast s p (hand p (nonzero s law p (and_parts (nat_eq (p / CELLS) k) (s.used p) (not-false (uses s k p) used)).1))
+
+hand_room : (s : State) (k p : ℕ) → Law s → AllAtHand s → not (uses s k p) ≡ false → has_no_room s k p ≡ true → ⊥
+hand_room s k p law hand used full = true≢false (sym full ∙ hand_has_room s k p (hand p (nonzero s law p (and_parts (nat_eq (p / CELLS) k) (s.used p) (not-false (uses s k p) used)).1)))
 
 -- ---- scopes
 open_run : (s : State) (k : ℕ) → Law s → AllSucceed s (open_events s k) → Scoped (world_of s) (world_of (after_events s (open_events s k))) k true
@@ -115,11 +132,12 @@ quiet_part k p from count =
 
 pub turns_read : (s : State) (k p from len : ℕ) → Law s → AllAtHand s → Turns s k (Mutator k (Read p from len)) (refusal (moment_of s) (Mutator k (Read p from len)))
 turns_read s k p from len law hand =
-    four_causes (Turns s k (Mutator k (Read p from len))) (not (nat_lt k s.mutators)) (not (is_opened s k)) (not (uses s k p)) (not (is_range (object_len s p) from len)) Range Closed NotHeld Range
+    five_causes (Turns s k (Mutator k (Read p from len))) (not (nat_lt k s.mutators)) (not (is_opened s k)) (not (uses s k p)) (not (is_range (object_len s p) from len)) (has_no_room s k p) Range Closed NotHeld Range NoRoom
     (λ off _. (λ within. absurd (not_outside k s.mutators within off), λ m ne. refl))
     (λ _ shut _. (λ within. (shut_world s k within (not-true (is_opened s k) shut), refl), λ m ne. refl))
     (λ _ opened unused _. (λ within. (open_world s k (not-false (is_opened s k) opened), own_unused s law hand k p (not-true (uses s k p) unused), refl), λ m ne. refl))
     (λ _ opened used out _. (λ within. (open_world s k (not-false (is_opened s k) opened), refl, (data_of s p, own_used s law hand k p (not-false (uses s k p) used), out_of (near used) out)), λ m ne. refl))
+    (λ _ opened used inside full _. absurd (hand_room s k p law hand used full))
     (λ _ opened used inside ok.
     let run = quiet_run s (turn_events (moment_of s) (Mutator k (Read p from len))) law quiet in
     let u : State = after_events s (turn_events (moment_of s) (Mutator k (Read p from len))) in
@@ -128,7 +146,7 @@ turns_read s k p from len law hand =
       λ within. (
         open_world s k (not-false (is_opened s k) opened),
         own_same (world_of s) (world_of u) k (put (views_of (world_of s) k) p true) run.0 (views_mine s u k p view own),
-        (data_of s p, own_used s law hand k p (not-false (uses s k p) used), in_of (near used) inside, refl),
+        (data_of s p, own_used s law hand k p (not-false (uses s k p) used), in_of (near used) inside, ap (λ l. slice_range l from (from + len)) (data_dereferenced s k p law (and_parts (nat_eq (p / CELLS) k) (s.used p) (not-false (uses s k p) used)).1 (hand_fast s k p law hand used))),
       ),
       λ m ne. own_same (world_of s) (world_of u) m (views_of (world_of s) m) run.0 (views_others s u k m p view own ne),
     )) where
@@ -300,9 +318,10 @@ module _ (s : State) (k p from : ℕ) (bytes : List ℕ) (law : Law s) (hand : A
 
   pub turns_write : Turns s k (Mutator k (Write p from bytes)) (refusal (moment_of s) (Mutator k (Write p from bytes)))
   turns_write =
-      four_causes (Turns s k (Mutator k (Write p from bytes))) (not (nat_lt k s.mutators)) (not (is_opened s k)) (not (uses s k p)) (not (is_range (object_len s p) from (length bytes))) Range Closed NotHeld Range
+      five_causes (Turns s k (Mutator k (Write p from bytes))) (not (nat_lt k s.mutators)) (not (is_opened s k)) (not (uses s k p)) (not (is_range (object_len s p) from (length bytes))) (has_no_room s k p) Range Closed NotHeld Range NoRoom
       (λ off _. (λ within. absurd (not_outside k s.mutators within off), λ m ne. refl))
       (λ _ shut _. (λ within. (shut_world s k within (not-true (is_opened s k) shut), refl), λ m ne. refl))
       (λ _ opened unused _. (λ within. (open_world s k (not-false (is_opened s k) opened), own_unused s law hand k p (not-true (uses s k p) unused), refl), λ m ne. refl))
       (λ _ opened used out _. (λ within. (open_world s k (not-false (is_opened s k) opened), refl, (data_of s p, own_used s law hand k p (not-false (uses s k p) used), write_out (near used) out)), λ m ne. refl))
+      (λ _ opened used inside full _. absurd (hand_room s k p law hand used full))
       (λ _ opened used inside ok. wrote (not-false (is_opened s k) opened) (not-false (uses s k p) used) (write_in (near used) inside) ok)

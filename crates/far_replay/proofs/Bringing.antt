@@ -1,5 +1,6 @@
 -- A dereference whose pin gives no view: the object is asked for, comes to where a view may rest, and owners stay as they are.
-use Rattle.std.proofs.Common.{◌≡◌, ◌≢◌, ℕ, ◌*◌, ◌/◌, ◌<◌, ◌||◌, ◌&&◌, ◌==◌, Bool, true, false, cond, not, nat_lt, refl, sym, ap, subst, ◌∙◌, arith, if◌then◌else◌, Option, Some, None, IsSome, is_some}
+use Rattle.std.proofs.Common.{◌≡◌, ℕ, ◌*◌, ◌/◌, ◌<◌, ◌&&◌, ◌==◌, Bool, true, false, not, nat_lt, refl, sym, ap, subst, ◌∙◌, if◌then◌else◌, Option, Some, None, IsSome, is_some}
+use Rattle.std.specs.Prelude.{IfSome, MatchOption}
 use Rattle.std.proofs.lemmas.Bool.{cond_both, false≢true, true≢false}
 use Rattle.far_word.specs.declared.mark.Mark.TheVariants.{Moved}
 use Rattle.far_word.specs.declared.mark.Marks.{Marks}
@@ -26,8 +27,9 @@ use Rattle.far_core.proofs.Put.{put_same}
 use Rattle.far_book.specs.book.Dealing.{IsQuietNear, goal, has_evac, moved_now}
 use Rattle.far_core.specs.events.Copies.{data_at}
 use Rattle.far_book.specs.book.Effects.{fetched, fetched_of, moved, moved_of, near_word, stayed, stayed_of, with_written_span}
-use Rattle.far_book.specs.book.Fetching.{IsFar, room_for}
+use Rattle.far_book.specs.book.Fetching.{IsFar, IsFetched, RefusesFetch, room_for}
 use Rattle.far_word.specs.declared.refused.Refused.{Refused as Refusal}
+use Rattle.far_word.specs.declared.refused.Refused.TheVariants.{NoRoom, Memory, Device, Damaged}
 use Rattle.far_replay.specs.Dereference.{RefusesBringing, RefusesView, asked_for, come, come_of, comes_to, comes_to_of, dereferenced, has_no_room, says_near, sought, sought_of}
 use Rattle.far_replay.specs.Effects.{is_slow, with_view}
 use Rattle.far_replay.proofs.Drops.{unheld_is}
@@ -88,7 +90,7 @@ module _ (s : State) (m p : ℕ) (law : Law s) (opened : is_opened s m ≡ true)
   may_ask = (refl, law.scopes.scope_range m (open_fact s m opened).1, own, used, unheld)
 
   asked_read : read_of (asks.cell p) ≡ Some (Near said.len said.ds said.place (marks_with Moved said.marks))
-  asked_read = ap read_of (put_same s.cell p _ p refl) ∙ read_mark Moved (s.cell p) refl (law.cells.cell_read p).0 (law.views.used_cell p used) ∙ ap (map_mark Moved) said.is
+  asked_read = ap read_of (put_same s.cell p _ p refl) ∙ (read_mark Moved (s.cell p) refl (law.cells.cell_read p).0 (law.views.used_cell p used)).0 ∙ ap (map_mark Moved) said.is
 
   pub asked_quiet : IsQuietNear asks p
   asked_quiet = record { len = said.len; ds = said.ds; place = said.place; marks = marks_with Moved said.marks; near = asked_read; quiet = refl }
@@ -103,6 +105,23 @@ module _ (s : State) (m p : ℕ) (law : Law s) (opened : is_opened s m ≡ true)
   pub near_come : (place : Place) → goal asks p ≡ Some place → come asks p ≡ moved_now asks p place
   near_come place found = ap (λ o. come_of asks p (comes_to_of asks p o) o) asked_read
       ∙ ap (λ x. come_of asks p x (Some (Near said.len said.ds said.place (marks_with Moved said.marks)))) found
+
+  -- the answers of its book
+  pub near_done : (X : Type 0) (v t : State) (o : Option Place) (place : Place) → o ≡ Some place → v ≡ asks → IfSome o (λ found. goal v p ≡ Some found) → MatchOption o X (λ found. t ≡ moved_now v p found) →
+      t ≡ come (asked_for s m p) p
+  near_done X v t o place e is found done =
+      let there : goal v p ≡ Some place = subst (λ x. IfSome x (λ y. goal v p ≡ Some y)) e found in
+      let led : t ≡ moved_now v p place = subst (λ x. MatchOption x X (λ y. t ≡ moved_now v p y)) e done in
+      led ∙ ap (λ (x : State). moved_now x p place) is ∙ sym (near_come place (ap (λ (x : State). goal x p) (sym is) ∙ there)) ∙ sym (ap (λ (x : State). come x p) asks_is)
+
+  pub near_room : (v : State) (o : Option Place) (place : Place) → o ≡ Some place → v ≡ asks → IfSome o (λ found. goal v p ≡ Some found) → IsSome (comes_to (asked_for s m p) p)
+  near_room v o place e is found =
+      let there : goal v p ≡ Some place = subst (λ x. IfSome x (λ y. goal v p ≡ Some y)) e found in
+      ap (λ (x : State). is_some (comes_to x p)) asks_is ∙ ap is_some (near_comes ∙ ap (λ (x : State). goal x p) (sym is) ∙ there)
+
+  pub near_refused : (v t : State) (why : Refusal) → v ≡ asks → why ≡ NoRoom → goal v p ≡ None → t ≡ v → RefusesBringing (asked_for s m p) p why t
+  near_refused v t why is e none same = subst (λ w. RefusesBringing (asked_for s m p) p w t) (sym e)
+      (ap (λ (x : State). comes_to x p) asks_is ∙ near_comes ∙ ap (λ (x : State). goal x p) (sym is) ∙ none, same ∙ is ∙ sym asks_is)
 
 -- ---- a far one
 module _ (s : State) (m p : ℕ) (law : Law s) (used : s.used p ≡ true) (far : says_near (read_of (s.cell p)) ≡ false) where
@@ -123,6 +142,26 @@ module _ (s : State) (m p : ℕ) (law : Law s) (used : s.used p ≡ true) (far :
 
   pub far_come : (place : Place) → room_for s p ≡ Some place → come s p ≡ fetched s p place (s.stored p)
   far_come place found = ap (λ o. come_of s p (comes_to_of s p o) o) told.is ∙ ap (λ x. come_of s p x (Some (Far told.len told.ds told.marks))) found
+
+  pub far_done : (t : State) (o : Option Place) (place : Place) → o ≡ Some place → IfSome o (λ found. room_for s p ≡ Some found) → IfSome o (λ found. IsFetched (Unit {0}) true s t p found) →
+      t ≡ come (asked_for s m p) p
+  far_done t o place e found done =
+      let there : room_for s p ≡ Some place = subst (λ x. IfSome x (λ y. room_for s p ≡ Some y)) e found in
+      let led : IsFetched (Unit {0}) true s t p place = subst (λ x. IfSome x (λ y. IsFetched (Unit {0}) true s t p y)) e done in
+      led.exact tt ∙ ap (fetched s p place) (led.stored refl) ∙ sym (far_come place there) ∙ sym (ap (λ (x : State). come x p) far_unasked)
+
+  far_here : comes_to (asked_for s m p) p ≡ room_for s p
+  far_here = ap (λ (x : State). comes_to x p) far_unasked ∙ far_comes
+
+  pub far_room : (o : Option Place) (place : Place) → o ≡ Some place → IfSome o (λ found. room_for s p ≡ Some found) → IsSome (comes_to (asked_for s m p) p)
+  far_room o place e found = ap is_some (far_here ∙ subst (λ x. IfSome x (λ y. room_for s p ≡ Some y)) e found)
+
+  pub far_refused : (t : State) (why : Refusal) → RefusesFetch why (room_for s p) true → t ≡ s → RefusesBringing (asked_for s m p) p why t
+  far_refused t NoRoom h same = (far_here ∙ h, same ∙ sym far_unasked)
+  far_refused t Memory h same = (ap is_some far_here ∙ h, same ∙ sym far_unasked)
+  far_refused t Device h same = (ap is_some far_here ∙ h, same ∙ sym far_unasked)
+  far_refused t Damaged h same = absurd (true≢false h.1)
+  far_refused t why h same = absurd h
 
 -- ---- owners stay as they are
 pub record KeepsOwners (s t : State) : Type 0 where
@@ -216,7 +255,7 @@ module _ (s t : State) (m p : ℕ) (pinned : t ≡ with_view s p) (slow : is_slo
   pub slow_room : IsSome (comes_to (asked_for t m p) p) → has_no_room s m p ≡ false
   slow_room found = ap (λ b. b && not (is_some (comes_to (sought s m p) p))) slow ∙ some_found (comes_to (sought s m p) p) (subst (λ (x : State). IsSome (comes_to x p)) slow_sought found) where
     some_found : (o : Option Place) → IsSome o → not (is_some o) ≡ false
-    some_found None h = absurd h
+    some_found None h = absurd (false≢true h)
     some_found (Some place) h = refl
 
   pub slow_refused : (why : Refusal) (u : State) → RefusesBringing (asked_for t m p) p why u → RefusesView s m p why u

@@ -31,7 +31,7 @@ use Rattle.far_replay.proofs.AloneStates.{lowest_free}
 use Rattle.far_replay.proofs.Drops.{drop_comes, unheld_is}
 use Rattle.far_text.proofs.Each.{Each, Each-append, Each-row}
 use Rattle.far_replay.proofs.MadeLemmas.{AllComeToPass-append}
-use Rattle.far_replay.proofs.Turns.{four, three, tried, marked_last}
+use Rattle.far_replay.proofs.Turns.{reaches, four, three, tried, marked_last}
 use Rattle.far_replay.proofs.Views.{ready_of, Ready-view, hand_is_fast}
 
 -- ---- events that any answer serves
@@ -115,12 +115,12 @@ all_come s (Mutator m (Write p from bytes)) None e law hand =
     let touched : ℕ = words_touched from (length bytes) in
     let new : List ℕ = with_range (data_of s p) from bytes in
     AllComeToPass-append s (view ++ part) (store_events m p first touched new)
-    (AllComeToPass-append s view part (view_comes s m p (hand (is_named s m p from (length bytes) law e))) (all_sure (after_events s view) part (parts m p from (length bytes))))
+    (AllComeToPass-append s view part (view_comes s m p (hand (is_named s m p from (length bytes) law (reaches (nat_lt m s.mutators) (is_opened s m) (uses s m p) (is_range (object_len s p) from (length bytes)) (has_no_room s m p) e)))) (all_sure (after_events s view) part (parts m p from (length bytes))))
     (all_sure (after_events s (view ++ part)) (store_events m p first touched new) (stores m p first touched new))
 all_come s (Mutator m (Read p from len)) None e law hand =
     let view : List Event = view_events s m p in
     let loaded : List Event = load_events m p (first_word from) (words_touched from len) in
-    AllComeToPass-append s view loaded (view_comes s m p (hand (is_named s m p from len law e))) (all_sure (after_events s view) loaded (loads m p (first_word from) (words_touched from len)))
+    AllComeToPass-append s view loaded (view_comes s m p (hand (is_named s m p from len law (reaches (nat_lt m s.mutators) (is_opened s m) (uses s m p) (is_range (object_len s p) from len) (has_no_room s m p) e)))) (all_sure (after_events s view) loaded (loads m p (first_word from) (words_touched from len)))
 all_come s (Mutator m Close) None e law hand = (tt, tt)
 all_come s (Mutator m (Where p)) None e law hand = tt
 all_come s (Mutator m (Drop p)) None e law hand =

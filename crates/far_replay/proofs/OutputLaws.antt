@@ -44,8 +44,8 @@ use Rattle.far_replay.specs.Headline.{IsSound, IsWhole, Lawful, IsSaidBy, TellsA
 use Rattle.far_text.specs.Written.{AllWriteBytes}
 use Rattle.far_replay.specs.EventRows.{after_events}
 use Rattle.far_replay.specs.Reply.{Reply, Done, Pointer, Refused, LogLine, reply_text}
-use Rattle.far_replay.specs.Events.{turn_events, refused_events, view_events, events_for, new_events}
-use Rattle.far_replay.specs.Objects.{lowest_cell, uses, with_range}
+use Rattle.far_replay.specs.Events.{turn_events, view_events, events_for, new_events}
+use Rattle.far_replay.specs.Objects.{is_range, lowest_cell, object_len, uses, with_range}
 use Rattle.far_word.specs.declared.mark.Marks.{Marks}
 use Rattle.far_word.specs.declared.pointer.PtrWord.{PtrWord}
 use Rattle.far_word.specs.declared.pointer.PtrWord.TheVariants.{Free, Near, Far}
@@ -63,7 +63,7 @@ use Rattle.far_text.proofs.TextLaws.{texts_write}
 use Rattle.far_replay.proofs.Lowest.{lowest_cell_is, no_cell_is}
 use Rattle.far_replay.proofs.Refusals.{turn_is_no_refusal, from_cause}
 use Rattle.far_replay.proofs.Spliced.{length-with_range, with_range_before, with_range_inside, with_range_after}
-use Rattle.far_replay.proofs.Turns.{marked_last, room_last, new_tests}
+use Rattle.far_replay.proofs.Turns.{marked_last, room_lacks, room_last, new_tests}
 use Rattle.far_replay.proofs.Views.{view_is, view_law, slow_view}
 
 -- ---- each text has an output
@@ -96,6 +96,8 @@ refused_moment now c r next why h e = h.moment ∙ ap (λ o. unless o (refused_e
 
 -- one that comes before any pin leaves all
 none_marked : (now : Moment) (c : Command) (why : Refusal) → ((p : ℕ) → ¬ MayMark c why p) → refused_effect now c why ≡ now
+none_marked now (Mutator m (Write p from bytes)) NoRoom none = absurd (none p refl)
+none_marked now (Mutator m (Read p from len)) NoRoom none = absurd (none p refl)
 none_marked now (Mutator m (View p)) NoRoom none = absurd (none p refl)
 none_marked now (Mutator m (Try p)) (Marked word) none = absurd (none p refl)
 none_marked now c why none = refl
@@ -168,8 +170,8 @@ hot_stays f g q o n is = ap (object_of f g q) is ∙ object_of-mark Hot f g q o 
 asked_stays : (f g : ℕ → ℕ) (q : ℕ) (o n : Option PtrWord) → n ≡ map_mark Moved (map_mark Hot o) → object_of f g q n ≡ object_of f g q o
 asked_stays f g q o n is = ap (object_of f g q) is ∙ object_of-mark Moved f g q (map_mark Hot o) (λ e. absurd cc) ∙ object_of-mark Hot f g q o (λ e. absurd cc)
 
--- a view that found no room leaves HOT, and MOVE where the object is near
-module _ (s : State) (m p hot : ℕ) (law : Law (record s { cell = put s.cell p hot })) (used : s.used p ≡ true) (is : read_of hot ≡ map_mark Hot (read_of (s.cell p))) where
+-- a dereference that found no room leaves HOT, and MOVE where the object is near
+module _ (c : Command) (s : State) (m p hot : ℕ) (may : MayMark c NoRoom p) (apart : (q : ℕ) → ¬ MayMark c NoRoom q → q ≢ p) (law : Law (record s { cell = put s.cell p hot })) (used : s.used p ≡ true) (is : read_of hot ≡ map_mark Hot (read_of (s.cell p))) where
   abbrev pinned : State
   pinned = record s { cell = put s.cell p hot }
 
@@ -180,33 +182,39 @@ module _ (s : State) (m p hot : ℕ) (law : Law (record s { cell = put s.cell p 
   asked = bit_or (pinned.cell p) (2 ^ position Moved)
 
   asked_is : read_of asked ≡ map_mark Moved (map_mark Hot (read_of (s.cell p)))
-  asked_is = read_mark Moved (pinned.cell p) refl (law.cells.cell_read p).0 (law.views.used_cell p used) ∙ ap (λ w. map_mark Moved (read_of w)) here ∙ ap (map_mark Moved) is
+  asked_is = (read_mark Moved (pinned.cell p) refl (law.cells.cell_read p).0 (law.views.used_cell p used)).0 ∙ ap (λ w. map_mark Moved (read_of w)) here ∙ ap (map_mark Moved) is
 
-  only_hot : Stays (Mutator m (View p)) NoRoom (moment_of s) (moment_of pinned)
-  only_hot = marked_stays (Mutator m (View p)) NoRoom s p hot refl (λ q other. other) (subst (CellStays (read_of (s.cell p))) (sym is) (cell_hot (read_of (s.cell p)))) (λ f g q. hot_stays f g q (read_of (s.cell p)) (read_of hot) is)
+  only_hot : Stays c NoRoom (moment_of s) (moment_of pinned)
+  only_hot = marked_stays c NoRoom s p hot may apart (subst (CellStays (read_of (s.cell p))) (sym is) (cell_hot (read_of (s.cell p)))) (λ f g q. hot_stays f g q (read_of (s.cell p)) (read_of hot) is)
 
-  both : Stays (Mutator m (View p)) NoRoom (moment_of s) (moment_of (record s { cell = put s.cell p asked }))
-  both = marked_stays (Mutator m (View p)) NoRoom s p asked refl (λ q other. other) (subst (CellStays (read_of (s.cell p))) (sym asked_is) (cell_asked (read_of (s.cell p)))) (λ f g q. asked_stays f g q (read_of (s.cell p)) (read_of asked) asked_is)
+  both : Stays c NoRoom (moment_of s) (moment_of (record s { cell = put s.cell p asked }))
+  both = marked_stays c NoRoom s p asked may apart (subst (CellStays (read_of (s.cell p))) (sym asked_is) (cell_asked (read_of (s.cell p)))) (λ f g q. asked_stays f g q (read_of (s.cell p)) (read_of asked) asked_is)
 
-  pub stays_asked : (o : Option PtrWord) → Stays (Mutator m (View p)) NoRoom (moment_of s) (moment_of (sought_of pinned m p o))
+  pub stays_asked : (o : Option PtrWord) → Stays c NoRoom (moment_of s) (moment_of (sought_of pinned m p o))
   stays_asked None = only_hot
   stays_asked (Some Free) = only_hot
-  stays_asked (Some (Near len ds place marks)) = subst (λ (f : ℕ → ℕ). Stays (Mutator m (View p)) NoRoom (moment_of s) (moment_of (record s { cell = f }))) (sym (put_put s.cell p hot asked)) both
+  stays_asked (Some (Near len ds place marks)) = subst (λ (f : ℕ → ℕ). Stays c NoRoom (moment_of s) (moment_of (record s { cell = f }))) (sym (put_put s.cell p hot asked)) both
   stays_asked (Some (Far len ds marks)) = only_hot
 
-stays_sought : (s : State) (m p : ℕ) → Law s → is_opened s m ≡ true → uses s m p ≡ true → is_slow s p ≡ true → Stays (Mutator m (View p)) NoRoom (moment_of s) (moment_of (sought s m p))
-stays_sought s m p law opened ours slow =
+stays_sought : (c : Command) (s : State) (m p : ℕ) → MayMark c NoRoom p → ((q : ℕ) → ¬ MayMark c NoRoom q → q ≢ p) → Law s → is_opened s m ≡ true → uses s m p ≡ true → is_slow s p ≡ true → Stays c NoRoom (moment_of s) (moment_of (sought s m p))
+stays_sought c s m p may apart law opened ours slow =
     let used = (and_parts (nat_eq (p / CELLS) m) (s.used p) ours).1 in
     let hot : ℕ = bit_or (s.cell p) (2 ^ position Hot) in
     let is : with_view s p ≡ record s { cell = put s.cell p hot } = slow_view s p slow in
     let later : Law (record s { cell = put s.cell p hot }) = subst Law (view_is s m p law opened ours ∙ is) (view_law s m p law opened ours) in
-    subst (λ (t : State). Stays (Mutator m (View p)) NoRoom (moment_of s) (moment_of (asked_for t m p))) (sym is)
-    (stays_asked s m p hot later used (hot_read s law p used) (read_of ((record s { cell = put s.cell p hot }).cell p)))
+    subst (λ (t : State). Stays c NoRoom (moment_of s) (moment_of (asked_for t m p))) (sym is)
+    (stays_asked c s m p hot may apart later used (hot_read s law p used) (read_of ((record s { cell = put s.cell p hot }).cell p)))
 
 refused_leaves : (s : State) (c : Command) (why : Refusal) → Law s → refusal (moment_of s) c ≡ Some why → Stays c why (moment_of s) (refused_effect (moment_of s) c why)
+refused_leaves s (Mutator m (Write p from bytes)) NoRoom law e =
+    let h = room_lacks (nat_lt m s.mutators) (is_opened s m) (uses s m p) (is_range (object_len s p) from (length bytes)) (has_no_room s m p) e in
+    stays_sought (Mutator m (Write p from bytes)) s m p refl (λ q other. other) law h.1 h.2 (and_parts (is_slow s p) (not (is_some (comes_to (sought s m p) p))) h.3).0
+refused_leaves s (Mutator m (Read p from len)) NoRoom law e =
+    let h = room_lacks (nat_lt m s.mutators) (is_opened s m) (uses s m p) (is_range (object_len s p) from len) (has_no_room s m p) e in
+    stays_sought (Mutator m (Read p from len)) s m p refl (λ q other. other) law h.1 h.2 (and_parts (is_slow s p) (not (is_some (comes_to (sought s m p) p))) h.3).0
 refused_leaves s (Mutator m (View p)) NoRoom law e =
     let h = room_last (nat_lt m s.mutators) (is_opened s m) (uses s m p) (has_no_room s m p) e in
-    stays_sought s m p law h.1 h.2 (and_parts (is_slow s p) (not (is_some (comes_to (sought s m p) p))) h.3).0
+    stays_sought (Mutator m (View p)) s m p refl (λ q other. other) law h.1 h.2 (and_parts (is_slow s p) (not (is_some (comes_to (sought s m p) p))) h.3).0
 refused_leaves s (Mutator m (Try p)) (Marked word) law e =
     let h = marked_last (nat_lt m s.mutators) (is_opened s m) (uses s m p) (is_slow s p) (s.cell p) word e in
     stays_hot s m p word law h.1 h.2 h.3

@@ -26,6 +26,7 @@ use Rattle.far_replay.specs.Answers.{Answered}
 use Rattle.far_replay.specs.Audit.{counts_of, lies_near, lies_far, bytes_by_log}
 use Rattle.far_text.specs.Command.{Command, New, Open, Write, Read, Close, Where, Drop, View, Try, Logs, Log, Audit, Mutator, Book}
 use Rattle.far_replay.specs.Headline.{IsToldInFull, IsLineToldInFull, AreToldInFull, IsRefusalToldInFull}
+use Rattle.far_replay.specs.Dereference.{dereferenced}
 use Rattle.far_replay.specs.Moment.{Moment, moment_of}
 use Rattle.far_replay.specs.Objects.{lowest_cell, data_of}
 use Rattle.far_replay.specs.Reply.{Reply, Audited, Refused, LogLine}
@@ -99,8 +100,8 @@ plain_counts s law =
 plain_causes : (s : State) (c : Command) → Law s → EachCause IsRefusalToldInFull (causes (moment_of s) c)
 plain_causes s (Mutator m (New len ds)) law = (tt, (tt, (tt, (tt, tt))))
 plain_causes s (Mutator m Open) law = (tt, (tt, tt))
-plain_causes s (Mutator m (Write p from bytes)) law = (tt, (tt, (tt, (tt, tt))))
-plain_causes s (Mutator m (Read p from len)) law = (tt, (tt, (tt, (tt, tt))))
+plain_causes s (Mutator m (Write p from bytes)) law = (tt, (tt, (tt, (tt, (tt, tt)))))
+plain_causes s (Mutator m (Read p from len)) law = (tt, (tt, (tt, (tt, (tt, tt)))))
 plain_causes s (Mutator m Close) law = (tt, (tt, tt))
 plain_causes s (Mutator m (Where p)) law = (tt, (tt, tt))
 plain_causes s (Mutator m (Drop p)) law = (tt, (tt, (tt, tt)))
@@ -117,7 +118,7 @@ plain_turn s (Mutator m (New len ds)) law e =
     plain_pointer s m (lowest_cell s m) law (is_structure s m ds (ap not parts.0)).0 refl
 plain_turn s (Mutator m Open) law e = tt
 plain_turn s (Mutator m (Write p from bytes)) law e = tt
-plain_turn s (Mutator m (Read p from len)) law e = plain_data s p from len
+plain_turn s (Mutator m (Read p from len)) law e = plain_data (dereferenced s m p) p from len
 plain_turn s (Mutator m Close) law e = tt
 plain_turn s (Mutator m (Where p)) law e = plain_home (read_of (s.cell p)) (λ v is. (read_says (s.cell p) v (law.cells.cell_read p).0 is).0)
 plain_turn s (Mutator m (Drop p)) law e = tt

@@ -63,9 +63,11 @@ takes s (Mutator m (New len ds)) o law e = new_takes s m len ds o (lowest_cell s
     (λ none p place cell found. ap (λ (t : State). t.tail) (new_object_is s m len ds p place law (subst (λ r. refusal (moment_of s) (Mutator m (New len ds)) ≡ r) none e) cell found))
 takes s (Mutator m Open) None law e = (refl, refl)
 takes s (Mutator m Open) (Some why) law e = (refl, refl)
-takes s (Mutator m (Write p from bytes)) None law e = view_leaves s p
+takes s (Mutator m (Write p from bytes)) None law e = (λ fast. subst (LeavesRoom s) (sym (fast_dereference s m p fast)) (view_leaves s p))
+takes s (Mutator m (Write p from bytes)) (Some NoRoom) law e = sought_leaves s m p (read_of ((with_view s p).cell p))
 takes s (Mutator m (Write p from bytes)) (Some why) law e = (refl, refl)
-takes s (Mutator m (Read p from len)) None law e = view_leaves s p
+takes s (Mutator m (Read p from len)) None law e = (λ fast. subst (LeavesRoom s) (sym (fast_dereference s m p fast)) (view_leaves s p))
+takes s (Mutator m (Read p from len)) (Some NoRoom) law e = sought_leaves s m p (read_of ((with_view s p).cell p))
 takes s (Mutator m (Read p from len)) (Some why) law e = (refl, refl)
 takes s (Mutator m Close) None law e = (refl, refl)
 takes s (Mutator m Close) (Some why) law e = (refl, refl)

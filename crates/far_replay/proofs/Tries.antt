@@ -1,14 +1,13 @@
 -- What a try is answered, in the words of cells and views.
-use Rattle.std.proofs.Common.{◌≡◌, ◌≢◌, ℕ, ◌/◌, ◌<◌, Bool, true, false, cond, not, ◌&&◌, ◌||◌, nat_eq, nat_lt, refl, sym, ap, subst, ◌∙◌, is_some, Option, Some, None, []}
-use Rattle.std.specs.Prelude.{◌∷◌, ◌^◌, bit_or}
-use Rattle.std.proofs.lemmas.Bool.{and_parts, cond_both, false≢true, lt-ltb}
+use Rattle.std.proofs.Common.{◌≡◌, ℕ, ◌<◌, Bool, true, false, cond, not, ◌||◌, nat_lt, refl, sym, ap, subst, ◌∙◌, is_some, Option, Some, None, []}
+use Rattle.std.specs.Prelude.{◌∷◌}
+use Rattle.std.proofs.lemmas.Bool.{false≢true, lt-ltb}
 use Rattle.far_word.specs.declared.mark.Mark.TheVariants.{Hot}
 use Rattle.far_word.specs.declared.mark.Marks.{Marks}
 use Rattle.far_word.specs.declared.pointer.Place.{Place}
 use Rattle.far_word.specs.declared.pointer.PtrWord.{PtrWord}
 use Rattle.far_word.specs.declared.pointer.PtrWord.TheVariants.{Free, Near, Far}
 use Rattle.far_word.specs.declared.refused.Refused.TheVariants.{Closed, NotHeld, Range, Marked}
-use Rattle.far_word.specs.declared.sizes.TheConstants.{CELLS}
 use Rattle.far_word.specs.Pointer.{read_of}
 use Rattle.far_core.specs.events.Step.{after_pin, is_opened, place_to_view}
 use Rattle.far_core.specs.state.Law.{Law}
@@ -22,7 +21,7 @@ use Rattle.far_replay.specs.Headline.{IsHotAfter}
 use Rattle.far_replay.specs.Moment.{Moment, moment_of}
 use Rattle.far_replay.specs.Objects.{uses}
 use Rattle.far_replay.specs.Reply.{Reply, Done, Refused}
-use Rattle.far_replay.specs.Turn.{first_cause, refusal, unless, refused_effect, turn_effect}
+use Rattle.far_replay.specs.Turn.{first_cause, unless, refused_effect, turn_effect}
 use Rattle.far_replay.proofs.Drops.{viewed_is}
 use Rattle.far_replay.proofs.Views.{pin_read}
 

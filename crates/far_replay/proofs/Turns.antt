@@ -36,7 +36,7 @@ use Rattle.far_replay.specs.EventRows.{after_events, AllSucceed, AtHand}
 use Rattle.far_replay.specs.Between.{Between}
 use Rattle.far_replay.specs.Events.{new_events, zero_puts, open_events, view_events, first_word, words_touched, load_events, starts_inside, ends_inside, part_events, store_events, drop_events, turn_events, refused_events, events_for}
 use Rattle.far_replay.specs.Objects.{uses, object_len, data_of, with_range, lowest_cell, is_range}
-use Rattle.far_replay.specs.Dereference.{has_no_room}
+use Rattle.far_replay.specs.Dereference.{comes_to, has_no_room, sought}
 use Rattle.far_replay.specs.Effects.{near_word}
 use Rattle.far_replay.specs.Effects.{with_row, with_object, with_view, is_slow, with_data, with_scope, without_object, epoch_for}
 use Rattle.far_replay.specs.Turn.{turn_effect, refused_effect, effect, with_new, access_causes, first_cause, refusal, unless}
@@ -85,6 +85,25 @@ room_last true true true false e = absurd cc
 room_last true true false d e = absurd cc
 room_last true false c d e = absurd cc
 room_last false b c d e = absurd cc
+
+-- what none of five says of the first four; and what want of room says
+pub reaches : (a b c d e : Bool) → first_cause ((not a, Range) ∷ (not b, Closed) ∷ (not c, NotHeld) ∷ (not d, Range) ∷ (e, NoRoom) ∷ []) ≡ None →
+    first_cause ((not a, Range) ∷ (not b, Closed) ∷ (not c, NotHeld) ∷ (not d, Range) ∷ []) ≡ None
+reaches true true true true true h = absurd cc
+reaches true true true true false h = refl
+reaches true true true false e h = absurd cc
+reaches true true false d e h = absurd cc
+reaches true false c d e h = absurd cc
+reaches false b c d e h = absurd cc
+
+pub room_lacks : (a b c d e : Bool) → first_cause ((not a, Range) ∷ (not b, Closed) ∷ (not c, NotHeld) ∷ (not d, Range) ∷ (e, NoRoom) ∷ []) ≡ Some NoRoom →
+    (a ≡ true) × (b ≡ true) × (c ≡ true) × (e ≡ true)
+room_lacks true true true true true h = (refl, refl, refl, refl)
+room_lacks true true true true false h = absurd cc
+room_lacks true true true false e h = absurd cc
+room_lacks true true false d e h = absurd cc
+room_lacks true false c d e h = absurd cc
+room_lacks false b c d e h = absurd cc
 
 -- two of them
 pub two : (a b : Bool) (w x : Refusal) → first_cause ((not a, w) ∷ (b, x) ∷ []) ≡ None → (a ≡ true) × (b ≡ false)
@@ -522,6 +541,10 @@ view_turned s m p law between opened ours = record {
   ends = view_is s m p law opened ours;
 }
 
+-- a dereference is a pin, where all objects are at hand
+pub fast_between : (s : State) (m p : ℕ) → Law s → Between s → uses s m p ≡ true → is_slow s p ≡ false
+fast_between s m p law between ours = hand_is_fast s p (between.at_hand p (nonzero s law p (and_parts (nat_eq (p / CELLS) m) (s.used p) ours).1))
+
 -- a command that isn't refused
 command_turned : (s : State) (c : Command) → Law s → Between s → WritesBytes c → refusal (moment_of s) c ≡ None →
     Turned s (turn_events (moment_of s) c) (turn_effect (moment_of s) c).core
@@ -530,22 +553,22 @@ command_turned s (Mutator m Open) law between small e =
     let h = two (nat_lt m s.mutators) (is_opened s m) Range AlreadyOpen e in
     open_turned s m law between (scope_is_shut s m h.0 h.1)
 command_turned s (Mutator m (Write p from bytes)) law between small e =
-    let access = access_fact s m p from (length bytes) law between e in
+    let access = access_fact s m p from (length bytes) law between (reaches (nat_lt m s.mutators) (is_opened s m) (uses s m p) (is_range (object_len s p) from (length bytes)) (has_no_room s m p) e) in
     record {
       succeed = write_succeeds s m p from bytes law between access small;
       between = write_between s m p from bytes law between access small;
       law = write_law s m p from bytes law between access small;
       fit = write_fits s m p from bytes law between access small;
-      ends = write_is s m p from bytes law between access small;
+      ends = write_is s m p from bytes law between access small ∙ ap (λ (t : State). with_data t p from bytes) (sym (fast_dereference s m p (fast_between s m p law between access.ours)));
     }
 command_turned s (Mutator m (Read p from len)) law between small e =
-    let access = access_fact s m p from len law between e in
+    let access = access_fact s m p from len law between (reaches (nat_lt m s.mutators) (is_opened s m) (uses s m p) (is_range (object_len s p) from len) (has_no_room s m p) e) in
     record {
       succeed = read_succeeds s m p from len law between access;
       between = read_between s m p from len law between access;
       law = read_law s m p from len law between access;
       fit = read_fits s m p from len law between access;
-      ends = read_is s m p from len law between access;
+      ends = read_is s m p from len law between access ∙ sym (fast_dereference s m p (fast_between s m p law between access.ours));
     }
 command_turned s (Mutator m Close) law between small e = close_turned s m law between (two_open (nat_lt m s.mutators) (is_opened s m) e) where
   two_open : (a b : Bool) → first_cause ((not a, Range) ∷ (not b, Closed) ∷ []) ≡ None → b ≡ true
@@ -570,9 +593,16 @@ view_has_room s m p law between e =
     let used = and_parts (nat_eq (p / CELLS) m) (s.used p) h.2 in
     true≢false (sym h.3 ∙ hand_has_room s m p (between.at_hand p (nonzero s law p used.1)))
 
+no_want : (s : State) (m p from count : ℕ) → Law s → Between s → first_cause (access_causes (moment_of s) m p from count ++ (has_no_room s m p, NoRoom) ∷ []) ≡ Some NoRoom → ⊥
+no_want s m p from count law between e =
+    let h = room_lacks (nat_lt m s.mutators) (is_opened s m) (uses s m p) (is_range (object_len s p) from count) (has_no_room s m p) e in
+    true≢false (sym h.3 ∙ ap (λ b. b && not (is_some (comes_to (sought s m p) p))) (fast_between s m p law between h.2))
+
 -- a refused one: where a mark was found, the pin; else nothing
 refused_turned : (s : State) (c : Command) (why : Refusal) → Law s → Between s → refusal (moment_of s) c ≡ Some why →
     Turned s (refused_events (moment_of s) c why) (refused_effect (moment_of s) c why).core
+refused_turned s (Mutator m (Write p from bytes)) NoRoom law between e = absurd (no_want s m p from (length bytes) law between e)
+refused_turned s (Mutator m (Read p from len)) NoRoom law between e = absurd (no_want s m p from len law between e)
 refused_turned s (Mutator m (View p)) NoRoom law between e = absurd (view_has_room s m p law between e)
 refused_turned s (Mutator m (Try p)) (Marked word) law between e =
     let h = marked_last (nat_lt m s.mutators) (is_opened s m) (uses s m p) (is_slow s p) (s.cell p) word e in

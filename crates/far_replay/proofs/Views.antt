@@ -1,6 +1,6 @@
 -- What a view of an object changes, and what it leaves.
-use Rattle.std.proofs.Common.{◌≡◌, ◌≢◌, ℕ, ◌/◌, ◌^◌, true, false, refl, sym, ap, subst, ◌∙◌, arith, [], ◌∷◌, Option, Some, None, bit_or, if◌then◌else◌, is_some, not, ◌||◌, ◌&&◌, Bool}
-use Rattle.std.proofs.lemmas.Bool.{false≢true}
+use Rattle.std.proofs.Common.{◌≡◌, ◌≢◌, ℕ, ◌+◌, ◌/◌, ◌^◌, true, false, refl, sym, ap, subst, ◌∙◌, arith, [], ◌∷◌, Option, Some, None, bit_or, if◌then◌else◌, is_some, not, ◌||◌, ◌&&◌, Bool}
+use Rattle.std.proofs.lemmas.Bool.{cond_both, false≢true}
 use Rattle.std.proofs.lemmas.Bool.Decides.{nat_tests}
 use Rattle.far_word.specs.declared.mark.Mark.TheVariants.{Hot}
 use Rattle.far_word.specs.declared.mark.Marks.{Marks}
@@ -27,7 +27,8 @@ use Rattle.far_replay.specs.Dereference.{come, comes_to, dereferenced, has_no_ro
 use Rattle.far_replay.specs.EventRows.{after_events, AllSucceed, AtHand, AllAtHand}
 use Rattle.far_replay.specs.Between.{Between}
 use Rattle.far_replay.specs.Events.{view_events}
-use Rattle.far_replay.specs.Objects.{uses, object_len, named_len}
+use Rattle.far_word.specs.Bytes.{bytes_of}
+use Rattle.far_replay.specs.Objects.{data_of, uses, object_len, named_len}
 use Rattle.far_replay.proofs.MadeLemmas.{made_first, first_succeeds, not_refused}
 
 -- ---- what HOT leaves as it is
@@ -121,6 +122,22 @@ hand_has_room s m p h = ap (λ b. b && not (is_some (comes_to (sought s m p) p))
 pub fast_dereference : (s : State) (m p : ℕ) → is_slow s p ≡ false → dereferenced s m p ≡ with_view s p
 fast_dereference s m p fast = ap (λ b. if b then with_view (come (sought s m p) p) p else with_view s p) fast
 
+-- the bytes of an object are the same after a pin
+pub data_dereferenced : (s : State) (m p : ℕ) → Law s → s.used p ≡ true → is_slow s p ≡ false → data_of (dereferenced s m p) p ≡ data_of s p
+data_dereferenced s m p law used fast = ap (λ (t : State). data_of t p) (fast_dereference s m p fast)
+    ∙ cond_both (is_some (s.held p)) s (after_pin s p) (λ (t : State). data_of t p ≡ data_of s p) (λ _. refl) (λ _. pinned) where
+      hot : read_of ((after_pin s p).cell p) ≡ map_mark Hot (read_of (s.cell p))
+      hot = ap read_of (put_same s.cell p (bit_or (s.cell p) (2 ^ position Hot)) p refl) ∙ hot_read s law p used
+
+      starts : near_data (read_of ((after_pin s p).cell p)) ≡ near_data (read_of (s.cell p))
+      starts = ap near_data hot ∙ near_data-hot (read_of (s.cell p))
+
+      long : data_len (after_pin s p) p ≡ data_len s p
+      long = ap near_len hot ∙ near_len-hot (read_of (s.cell p))
+
+      pinned : data_of (after_pin s p) p ≡ data_of s p
+      pinned i = bytes_of (λ k. s.word (starts i + k)) (long i)
+
 module _ (s : State) (m p : ℕ) (law : Law s) (opened : is_opened s m ≡ true) (ours : uses s m p ≡ true) where
   -- the pointer is the owner's
   own : p / CELLS ≡ m
@@ -168,6 +185,12 @@ module _ (s : State) (m p : ℕ) (law : Law s) (opened : is_opened s m ≡ true)
   -- the cell after a pin
   pub pin_read : read_of ((after_pin s p).cell p) ≡ map_mark Hot (read_of (s.cell p))
   pin_read = ap read_of (put_same s.cell p (bit_or (s.cell p) (2 ^ position Hot)) p refl) ∙ hot_read s law p used
+
+-- no pin of an object that is used is in vain between commands
+pub not_slow : (s : State) (p q : ℕ) → Law s → Between s → p ≡ q → s.used q ≡ true → is_slow s p ≡ true → ⊥
+not_slow s p q law between same used slow =
+    let here : s.used p ≡ true = ap s.used same ∙ used in
+    false≢true (sym (hand_is_fast s p (between.at_hand p (nonzero s law p here))) ∙ slow)
 
 module _ (s : State) (m p : ℕ) (law : Law s) (between : Between s) (opened : is_opened s m ≡ true) (ours : uses s m p ≡ true) where
   -- the object may be dereferenced at once

@@ -171,10 +171,12 @@ ViewsAfter now (Mutator m (Try p)) Done after = ViewsObject now.core after.core 
 ViewsAfter now (Mutator m Close) Done after = ViewsNothing now.core after.core m
 ViewsAfter now c r after = after.core.held ≡ now.core.held
 
--- what a command with its reply takes of the logs: a new object its span, at the end of the log that room says; a view nothing, where its pin does; anything else nothing
+-- what a command with its reply takes of the logs: a new object its span, at the end of the log that room says; a dereference nothing, where its pin gives a view; anything else nothing
 abbrev pub TakesRoom : Moment → Command → Reply → Moment → Type 0
 TakesRoom now (Mutator m (New len ds)) (Pointer p) after = (place : Place) × (room now.core (size_of len) true ≡ Some place)
     × (after.core.tail ≡ put now.core.tail place.log (place.at + size_of len))
+TakesRoom now (Mutator m (Write p from bytes)) Done after = is_slow now.core p ≡ false → (after.core.tail ≡ now.core.tail) × (after.core.kind ≡ now.core.kind)
+TakesRoom now (Mutator m (Read p from len)) (Data bytes) after = is_slow now.core p ≡ false → (after.core.tail ≡ now.core.tail) × (after.core.kind ≡ now.core.kind)
 TakesRoom now (Mutator m (View p)) Done after = is_slow now.core p ≡ false → (after.core.tail ≡ now.core.tail) × (after.core.kind ≡ now.core.kind)
 TakesRoom now c r after = (after.core.tail ≡ now.core.tail) × (after.core.kind ≡ now.core.kind)
 

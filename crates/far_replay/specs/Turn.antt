@@ -1,5 +1,5 @@
 -- What a command makes of a heap: when it is refused, the moment after it, and its reply.
-use Rattle.std.specs.Prelude.{ℕ, ◌+◌, Bool, true, ◌&&◌, not, nat_lt, nat_le, Option, Some, None, is_some, List, [], ◌∷◌, length, map, slice_range, if◌then◌else◌}
+use Rattle.std.specs.Prelude.{ℕ, ◌+◌, Bool, true, ◌&&◌, not, nat_lt, nat_le, Option, Some, None, is_some, List, [], ◌∷◌, ◌++◌, length, map, slice_range, if◌then◌else◌}
 use Rattle.std.specs.List.{range_with_len}
 use Rattle.far_word.specs.declared.pointer.Place.{Place}
 use Rattle.far_word.specs.declared.refused.Refused.{Refused as Refusal}
@@ -32,8 +32,8 @@ causes now (Mutator m (New len ds)) =
     (not (nat_lt m now.core.mutators && nat_lt ds 256), Range) ∷ (not (nat_lt 0 len && nat_le len LONGEST), Length)
     ∷ (not (is_some (lowest_cell now.core m)), NoPointer) ∷ (not (is_some (room now.core (size_of len) true)), NoRoom) ∷ []
 causes now (Mutator m Open) = (not (nat_lt m now.core.mutators), Range) ∷ (is_opened now.core m, AlreadyOpen) ∷ []
-causes now (Mutator m (Write p from bytes)) = access_causes now m p from (length bytes)
-causes now (Mutator m (Read p from len)) = access_causes now m p from len
+causes now (Mutator m (Write p from bytes)) = access_causes now m p from (length bytes) ++ (has_no_room now.core m p, NoRoom) ∷ []
+causes now (Mutator m (Read p from len)) = access_causes now m p from len ++ (has_no_room now.core m p, NoRoom) ∷ []
 causes now (Mutator m Close) = (not (nat_lt m now.core.mutators), Range) ∷ (not (is_opened now.core m), Closed) ∷ []
 causes now (Mutator m (Where p)) = (not (nat_lt m now.core.mutators), Range) ∷ (not (uses now.core m p), NotHeld) ∷ []
 causes now (Mutator m (Drop p)) = (not (nat_lt m now.core.mutators), Range) ∷ (not (uses now.core m p), NotHeld) ∷ (is_some (now.core.held p), Held) ∷ []
@@ -63,8 +63,8 @@ with_new s m len ds (Some p) (Some place) = with_object s m p len ds place
 abbrev pub turn_effect : Moment → Command → Moment
 turn_effect now (Mutator m (New len ds)) = record now { core = with_new now.core m len ds (lowest_cell now.core m) (room now.core (size_of len) true) }
 turn_effect now (Mutator m Open) = record now { core = with_scope now.core m }
-turn_effect now (Mutator m (Write p from bytes)) = record now { core = with_data (with_view now.core p) p from bytes }
-turn_effect now (Mutator m (Read p from len)) = record now { core = with_view now.core p }
+turn_effect now (Mutator m (Write p from bytes)) = record now { core = with_data (dereferenced now.core m p) p from bytes }
+turn_effect now (Mutator m (Read p from len)) = record now { core = dereferenced now.core m p }
 turn_effect now (Mutator m Close) = record now { core = after_close now.core m }
 turn_effect now (Mutator m (Where p)) = now
 turn_effect now (Mutator m (Drop p)) = record now { core = without_object now.core m p }
@@ -74,6 +74,8 @@ turn_effect now (Book inquiry) = now
 
 -- ---- the moment after a command that is refused: as before, but for the marks that it left
 abbrev pub refused_effect : Moment → Command → Refusal → Moment
+refused_effect now (Mutator m (Write p from bytes)) NoRoom = record now { core = sought now.core m p }
+refused_effect now (Mutator m (Read p from len)) NoRoom = record now { core = sought now.core m p }
 refused_effect now (Mutator m (View p)) NoRoom = record now { core = sought now.core m p }
 refused_effect now (Mutator m (Try p)) (Marked word) = record now { core = with_view now.core p }
 refused_effect now c why = now
@@ -96,7 +98,7 @@ abbrev pub turn_reply : Moment → Command → Reply
 turn_reply now (Mutator m (New len ds)) = pointer_reply (lowest_cell now.core m)
 turn_reply now (Mutator m Open) = Done
 turn_reply now (Mutator m (Write p from bytes)) = Done
-turn_reply now (Mutator m (Read p from len)) = Data (slice_range (data_of now.core p) from (from + len))
+turn_reply now (Mutator m (Read p from len)) = Data (slice_range (data_of (dereferenced now.core m p) p) from (from + len))
 turn_reply now (Mutator m Close) = Done
 turn_reply now (Mutator m (Where p)) = home_reply (home_of (read_of (now.core.cell p)))
 turn_reply now (Mutator m (Drop p)) = Done

@@ -1,4 +1,4 @@
-//! The events by which an owner opens its scope and views an object.
+//! How an owner opens its scope and views an object.
 
 ghost use Rattle.std.specs.Prelude.{◌≡◌, ◌/◌, ℕ, true, false, None, IsSome, IfOk, IfErr};
 ghost use Rattle.far_word.specs.declared.sizes.TheConstants.{CELLS};
@@ -7,7 +7,7 @@ ghost use Rattle.far_word.specs.Pointer.{read_of};
 ghost use Rattle.far_replay.specs.Dereference.{RefusesBringing, RefusesView, asked_for, come, comes_to, dereferenced, has_no_room, says_near};
 ghost use Rattle.far_replay.specs.Effects.{is_slow, with_view};
 ghost use Rattle.far_replay.specs.EventRows.{after_events};
-ghost use Rattle.far_replay.specs.Events.{open_events, view_events};
+ghost use Rattle.far_replay.specs.Events.{open_events};
 ghost use Rattle.far_replay.specs.Moment.{state_in};
 
 use far_book::{Book, Plain};
@@ -25,20 +25,8 @@ pub fn open(book: &mut Book<Plain, MemDevice>, owner: u8)
     book.owner(Event::Open { owner });
 }
 
-/// Pins an owner's object, unless it is held already.
-#[inline]
-pub fn view(book: &mut Book<Plain, MemDevice>, owner: u8, pointer: u16)
-    requires opened { is_opened (state_in book.old) owner ≡ true }
-    requires own { pointer / CELLS ≡ owner }
-    requires used { (state_in book.old).used pointer ≡ true }
-    ensures { state_in book.new ≡ after_events (state_in book.old) (view_events (state_in book.old) owner pointer) }
-{
-    if !book.core().is_held(pointer) {
-        let _ = book.pin(owner, pointer);
-    }
-}
-
 /// Pins an owner's object, unless it is held already. `Err` with the cell as it was, where the pin gave no view.
+#[inline]
 pub fn try_view(book: &mut Book<Plain, MemDevice>, owner: u8, pointer: u16) -> Result<(), u64>
     requires opened { is_opened (state_in book.old) owner ≡ true }
     requires own { pointer / CELLS ≡ owner }
