@@ -12,7 +12,7 @@ import sys
 TEXT_LIMIT, LINE_LIMIT, LOG_BYTES, CELLS, MOST = 1_048_576, 4_096, 1_024, 128, 1_016
 NUMBER = re.compile(rb"0|[1-9][0-9]{0,19}")
 HEX = re.compile(rb"([0-9a-fA-F]{2})+")
-COMMANDS = {b"heap": "nn", b"new": "nnn", b"open": "n", b"close": "n", b"read": "nnnn", b"write": "nnnh", b"where": "nn", b"drop": "nn"}
+COMMANDS = {b"heap": "nn", b"new": "nnn", b"open": "n", b"close": "n", b"read": "nnnn", b"write": "nnnh", b"where": "nn", b"drop": "nn", b"view": "nn", b"try": "nn"}
 COMMANDS |= {b"logs": "", b"log": "n", b"audit": ""}
 
 
@@ -132,6 +132,16 @@ class Heap:
             return found
         return f"near {found.log} {found.word} {'h' if found.hot else '-'}"
 
+    def view(self, m: int, p: int) -> str:
+        """Views an object, which is near without marks that would keep it from being viewed."""
+        if (said := self.scope(m, True, True)) != "ok":
+            return said
+        if isinstance(found := self.find(m, p), str):
+            return found
+        found.hot = True
+        self.views[m].add(p)
+        return "ok"
+
     def drop(self, m: int, p: int) -> str:
         if isinstance(found := self.find(m, p), str):
             return found
@@ -161,7 +171,7 @@ class Heap:
     def answer(self, name: str, operands: list) -> str:
         if name in ("open", "close"):
             return self.scope(*operands, name == "close", name == "open")
-        return getattr(self, {"read": "access", "write": "access"}.get(name, name))(*operands)
+        return getattr(self, {"read": "access", "write": "access", "try": "view"}.get(name, name))(*operands)
 
 
 def interpret(text: bytes) -> tuple[int, bytes]:
@@ -216,7 +226,7 @@ class Writer:
             return self.access(m)
         if kind == "log":
             return f"log {self.odd(self.choice.randrange(self.shape[0] or 1))}"
-        if kind in ("where", "drop"):
+        if kind in ("where", "drop", "view", "try"):
             return f"{kind} {self.odd(m)} {self.odd(self.pointer(m))}"
         if kind == "new":
             return f"new {self.odd(m)} {self.odd(self.choice.randint(1, self.largest))} {self.odd(self.choice.randrange(256))}"
@@ -224,8 +234,8 @@ class Writer:
 
     def line(self) -> str:
         m = self.choice.randrange(len(self.heap.scopes))
-        kinds = ("new", "access", "open", "close", "where", "drop", "log", "logs", "audit", "", "# words")
-        kind = self.choice.choices(kinds, (10, 30, 8, 2, 4, 4, 2, 1, 1, 1, 1))[0]
+        kinds = ("new", "access", "open", "close", "where", "drop", "view", "try", "log", "logs", "audit", "", "# words")
+        kind = self.choice.choices(kinds, (10, 30, 8, 2, 4, 4, 3, 3, 2, 1, 1, 1, 1))[0]
         if kind in ("", "# words"):
             return kind
         made = kind if kind in ("logs", "audit") else self.operands(kind, m)
@@ -239,7 +249,7 @@ class Writer:
         line, wide, byte = lines[at], LINE_LIMIT + self.choice.randrange(2), bytes([self.choice.randrange(256)])
         signs = [line.replace(b" ", sign, 1) for sign in (b"  ", b"\t", b" 0", b" +", b" -", b" 0x")]
         ends = [line + end for end in (b" ", b"\r", b"0", b" 1", b"\t", byte)]
-        others = b"heap 4 1|view 0 0|select oldest 1|# \xc3\xa9|#\0\t\r|\0|write 0 0 0 0g|write 0 0 0 |open %d|open %d" % (2**64, 10**20)
+        others = b"heap 4 1|view 0|select oldest 1|# \xc3\xa9|#\0\t\r|\0|write 0 0 0 0g|write 0 0 0 |open %d|open %d" % (2**64, 10**20)
         long = [b"#" * wide, (b"write 0 0 0 " + b"ab" * LINE_LIMIT)[: wide + self.choice.randrange(2)]]
         lines[at] = self.choice.choice([b" " + line, byte + line, line[:-1], line.upper(), *signs, *ends, *others.split(b"|"), *long])
         return b"\n".join(lines)

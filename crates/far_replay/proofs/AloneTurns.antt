@@ -1,9 +1,9 @@
 -- What each command's reply tells its mutator, and that it changes nothing of what others know.
 use Rattle.std.proofs.Common.{◌≡◌, ◌≢◌, ℕ, ◌+◌, ◌/◌, ◌<◌, ◌≤◌, Bool, true, false, cond, nat_eq, nat_lt, sym, refl, ap, subst, ◌∙◌, Option, Some, None, List, [], ◌∷◌, ◌++◌, length}
-use Rattle.std.specs.Prelude.{not, ◌⊎◌, ◌&&◌, is_some}
-use Rattle.std.proofs.lemmas.Bool.{and_parts, cond_both, eqb-true, eq-eqb, ltb-true, not-true, not-false}
+use Rattle.std.specs.Prelude.{slice_range, not, ◌⊎◌, ◌&&◌, is_some}
+use Rattle.std.proofs.lemmas.Bool.{and_parts, cond_both, eqb-true, eq-eqb, ltb-true, not-true, not-false, true≢false}
 use Rattle.far_word.specs.declared.refused.Refused.{Refused as Refusal}
-use Rattle.far_word.specs.declared.refused.Refused.TheVariants.{Closed, AlreadyOpen, NotHeld, Range, Held}
+use Rattle.far_word.specs.declared.refused.Refused.TheVariants.{NoRoom, Closed, AlreadyOpen, NotHeld, Range, Held, Marked}
 use Rattle.far_word.specs.declared.sizes.TheConstants.{CELLS}
 use Rattle.far_word.specs.Pointer.{read_of}
 use Rattle.far_word.specs.declared.pointer.PtrWord.{PtrWord}
@@ -19,20 +19,22 @@ use Rattle.far_core.specs.world.WorldOf.{world_of}
 use Rattle.far_core.specs.world.Steps.{with_bytes}
 use Rattle.far_replay.specs.Moment.{moment_of}
 use Rattle.far_replay.specs.Alone.{Knows, own_of, IsOut, IsIn}
-use Rattle.far_text.specs.Command.{Command, Open, Write, Read, Close, Where, Drop, Mutator}
+use Rattle.far_text.specs.Command.{Command, Open, Write, Read, Close, Where, Drop, View, Try, Mutator}
 use Rattle.far_replay.specs.EventRows.{after_events, AllSucceed, AllAtHand}
 use Rattle.far_replay.specs.Reply.{Reply, Done, Refused}
-use Rattle.far_replay.specs.Events.{turn_events, open_events, view_events, part_events, load_events, store_events, starts_inside, ends_inside, first_word, words_touched}
+use Rattle.far_replay.specs.Events.{turn_events, refused_events, open_events, view_events, part_events, load_events, store_events, starts_inside, ends_inside, first_word, words_touched}
 use Rattle.far_replay.specs.Objects.{uses, object_len, data_of, with_range, is_range}
 use Rattle.far_replay.specs.Turn.{refusal, first_cause, unless, turn_reply, home_reply}
 use Rattle.far_replay.specs.Headline.{ViewsObject, ViewsNothing}
 use Rattle.far_replay.proofs.AloneViews.{views_still, views_mine, views_others, views_gone, views_left}
-use Rattle.far_replay.proofs.ViewLaws.{views_after}
-use Rattle.far_replay.specs.Effects.{without_object}
+use Rattle.far_replay.proofs.ViewLaws.{made_views}
+use Rattle.far_replay.specs.Dereference.{has_no_room}
+use Rattle.far_replay.specs.Effects.{is_slow, without_object}
 use Rattle.far_replay.proofs.AloneBytes.{over_with_range}
 use Rattle.far_replay.proofs.Drops.{drop_ends, drop_is, drop_world, own_gone, own_left, unheld_is}
 use Rattle.far_text.proofs.Each.{Each-append, Each-row}
 use Rattle.far_replay.proofs.MadeLemmas.{made-append, AllSucceed-parts, Carries}
+use Rattle.far_replay.proofs.Views.{data_dereferenced, hand_has_room, hand_is_fast}
 use Rattle.far_replay.proofs.Spliced.{AreBytes, packed_wide, with_range_bytes}
 use Rattle.far_replay.proofs.AloneRuns.{views_of, Scoped, own_same, own_other, own_here, own_scope, own_scope_other, IsQuiet, Quiet, quiet_run, over_all, stores_run, open_step, close_step}
 use Rattle.far_replay.proofs.AloneStates.{not_outside, open_world, shut_world, range_in, range_out, object_used, own_used, own_unused, len_used, data_small}
@@ -43,7 +45,7 @@ Teaches s k c r t = (k < s.mutators → Knows k (own_of (world_of s) k) c r (own
 
 -- so it is with the command turned down for this cause, or with none
 abbrev pub Turns : State → ℕ → Command → Option Refusal → Type 0
-Turns s k c o = Carries s (unless o (λ _. []) (turn_events (moment_of s) c)) → Teaches s k c (unless o Refused (turn_reply (moment_of s) c)) (after_events s (unless o (λ _. []) (turn_events (moment_of s) c)))
+Turns s k c o = Carries s (unless o (refused_events (moment_of s) c) (turn_events (moment_of s) c)) → Teaches s k c (unless o Refused (turn_reply (moment_of s) c)) (after_events s (unless o (refused_events (moment_of s) c) (turn_events (moment_of s) c)))
 
 -- ---- which cause comes first
 pub two_causes : (P : Option Refusal → Type 0) (a b : Bool) (x y : Refusal) → (a ≡ true → P (Some x)) → (a ≡ false → b ≡ true → P (Some y)) → (a ≡ false → b ≡ false → P None) →
@@ -68,6 +70,23 @@ four_causes P false false true d x y z w h k l m n = l refl refl refl
 four_causes P false false false true x y z w h k l m n = m refl refl refl refl
 four_causes P false false false false x y z w h k l m n = n refl refl refl refl
 
+pub five_causes : (P : Option Refusal → Type 0) (a b c d e : Bool) (x y z w v : Refusal) → (a ≡ true → P (Some x)) → (a ≡ false → b ≡ true → P (Some y)) →
+    (a ≡ false → b ≡ false → c ≡ true → P (Some z)) → (a ≡ false → b ≡ false → c ≡ false → d ≡ true → P (Some w)) → (a ≡ false → b ≡ false → c ≡ false → d ≡ false → e ≡ true → P (Some v)) →
+    (a ≡ false → b ≡ false → c ≡ false → d ≡ false → P None) → P (first_cause ((a, x) ∷ (b, y) ∷ (c, z) ∷ (d, w) ∷ (e, v) ∷ []))
+five_causes P true b c d e x y z w v h k l m n o = h refl
+five_causes P false true c d e x y z w v h k l m n o = k refl refl
+five_causes P false false true d e x y z w v h k l m n o = l refl refl refl
+five_causes P false false false true e x y z w v h k l m n o = m refl refl refl refl
+five_causes P false false false false true x y z w v h k l m n o = n refl refl refl refl refl
+five_causes P false false false false false x y z w v h k l m n o = o refl refl refl refl
+
+-- an object at hand is dereferenced by a pin
+hand_fast : (s : State) (k p : ℕ) → Law s → AllAtHand s → not (uses s k p) ≡ false → is_slow s p ≡ false
+hand_fast s k p law hand used = hand_is_fast s p (hand p (nonzero s law p (and_parts (nat_eq (p / CELLS) k) (s.used p) (not-false (uses s k p) used)).1))
+
+hand_room : (s : State) (k p : ℕ) → Law s → AllAtHand s → not (uses s k p) ≡ false → has_no_room s k p ≡ true → ⊥
+hand_room s k p law hand used full = true≢false (sym full ∙ hand_has_room s k p (hand p (nonzero s law p (and_parts (nat_eq (p / CELLS) k) (s.used p) (not-false (uses s k p) used)).1)))
+
 -- ---- scopes
 open_run : (s : State) (k : ℕ) → Law s → AllSucceed s (open_events s k) → Scoped (world_of s) (world_of (after_events s (open_events s k))) k true
 open_run s k law = cond_both (is_some (s.remembered k)) (Opens k ∷ []) (ReadsEpoch k ∷ Opens k ∷ []) (λ es. AllSucceed s es → Scoped (world_of s) (world_of (after_events s es)) k true)
@@ -82,7 +101,7 @@ turns_open s k law = two_causes (Turns s k (Mutator k Open)) (not (nat_lt k s.mu
     (λ _ opened _. (λ within. (open_world s k opened, refl), λ m ne. refl))
     (λ _ shut ok. let run = open_run s k law ok.succeed in
     let u : State = after_events s (open_events s k) in
-    let same : u.held ≡ s.held = views_after s (Mutator k Open) None ok in (
+    let same : u.held ≡ s.held = made_views s (Mutator k Open) ok in (
       λ within. (shut_world s k within shut, own_scope (world_of s) (world_of u) k true (views_of (world_of s) k) run.0 run.1 (views_still s u k same)),
       λ m ne. own_scope_other (world_of s) (world_of u) m k true run.0 run.1 ne (views_still s u m same),
     ))
@@ -93,7 +112,7 @@ turns_close s k law = two_causes (Turns s k (Mutator k Close)) (not (nat_lt k s.
     (λ _ shut _. (λ within. (shut_world s k within (not-true (is_opened s k) shut), refl), λ m ne. refl))
     (λ _ opened ok. let run = close_step s k law ok.succeed.0 in
     let u : State = (step_of s (Closes k)).0 in
-    let gone : ViewsNothing s u k = views_after s (Mutator k Close) None ok in (
+    let gone : ViewsNothing s u k = made_views s (Mutator k Close) ok in (
       λ within. (open_world s k (not-false (is_opened s k) opened), own_scope (world_of s) (world_of u) k false (λ _. false) run.0 run.1 (views_gone s u k gone)),
       λ m ne. own_scope_other (world_of s) (world_of u) m k false run.0 run.1 ne (views_left s u k m gone ne),
     ))
@@ -102,7 +121,7 @@ turns_close s k law = two_causes (Turns s k (Mutator k Close)) (not (nat_lt k s.
 uses_owner : (s : State) (k p : ℕ) → uses s k p ≡ true → p / CELLS ≡ k
 uses_owner s k p h = eqb-true (p / CELLS) k (and_parts (nat_eq (p / CELLS) k) (s.used p) h).0
 
-quiet_view : (s : State) (k p : ℕ) → Quiet (view_events s k p)
+pub quiet_view : (s : State) (k p : ℕ) → Quiet (view_events s k p)
 quiet_view s k p = cond_both (is_some (s.held p)) [] (Pins k p ∷ []) Quiet (λ _. tt) (λ _. (tt, tt))
 
 quiet_part : (k p from count : ℕ) → Quiet (part_events k p from count)
@@ -113,20 +132,21 @@ quiet_part k p from count =
 
 pub turns_read : (s : State) (k p from len : ℕ) → Law s → AllAtHand s → Turns s k (Mutator k (Read p from len)) (refusal (moment_of s) (Mutator k (Read p from len)))
 turns_read s k p from len law hand =
-    four_causes (Turns s k (Mutator k (Read p from len))) (not (nat_lt k s.mutators)) (not (is_opened s k)) (not (uses s k p)) (not (is_range (object_len s p) from len)) Range Closed NotHeld Range
+    five_causes (Turns s k (Mutator k (Read p from len))) (not (nat_lt k s.mutators)) (not (is_opened s k)) (not (uses s k p)) (not (is_range (object_len s p) from len)) (has_no_room s k p) Range Closed NotHeld Range NoRoom
     (λ off _. (λ within. absurd (not_outside k s.mutators within off), λ m ne. refl))
     (λ _ shut _. (λ within. (shut_world s k within (not-true (is_opened s k) shut), refl), λ m ne. refl))
     (λ _ opened unused _. (λ within. (open_world s k (not-false (is_opened s k) opened), own_unused s law hand k p (not-true (uses s k p) unused), refl), λ m ne. refl))
     (λ _ opened used out _. (λ within. (open_world s k (not-false (is_opened s k) opened), refl, (data_of s p, own_used s law hand k p (not-false (uses s k p) used), out_of (near used) out)), λ m ne. refl))
+    (λ _ opened used inside full _. absurd (hand_room s k p law hand used full))
     (λ _ opened used inside ok.
     let run = quiet_run s (turn_events (moment_of s) (Mutator k (Read p from len))) law quiet in
     let u : State = after_events s (turn_events (moment_of s) (Mutator k (Read p from len))) in
-    let view : ViewsObject s u p = views_after s (Mutator k (Read p from len)) None ok in
+    let view : ViewsObject s u p = made_views s (Mutator k (Read p from len)) ok in
     let own : p / CELLS ≡ k = uses_owner s k p (not-false (uses s k p) used) in (
       λ within. (
         open_world s k (not-false (is_opened s k) opened),
         own_same (world_of s) (world_of u) k (put (views_of (world_of s) k) p true) run.0 (views_mine s u k p view own),
-        (data_of s p, own_used s law hand k p (not-false (uses s k p) used), in_of (near used) inside, refl),
+        (data_of s p, own_used s law hand k p (not-false (uses s k p) used), in_of (near used) inside, ap (λ l. slice_range l from (from + len)) (data_dereferenced s k p law (and_parts (nat_eq (p / CELLS) k) (s.used p) (not-false (uses s k p) used)).1 (hand_fast s k p law hand used))),
       ),
       λ m ne. own_same (world_of s) (world_of u) m (views_of (world_of s) m) run.0 (views_others s u k m p view own ne),
     )) where
@@ -141,6 +161,46 @@ turns_read s k p from len law hand =
 
       in_of : object_len s p ≡ length (data_of s p) → not (is_range (object_len s p) from len) ≡ false → IsIn (data_of s p) from len
       in_of e h = subst (λ n. (0 < len) × (from + len ≤ n)) e (range_in (object_len s p) from len h)
+
+-- ---- views
+pub turns_view : (s : State) (k p : ℕ) → Law s → AllAtHand s → Turns s k (Mutator k (View p)) (refusal (moment_of s) (Mutator k (View p)))
+turns_view s k p law hand = four_causes (Turns s k (Mutator k (View p))) (not (nat_lt k s.mutators)) (not (is_opened s k)) (not (uses s k p)) (has_no_room s k p) Range Closed NotHeld NoRoom
+    (λ off _. (λ within. absurd (not_outside k s.mutators within off), λ m ne. refl))
+    (λ _ shut _. (λ within. (shut_world s k within (not-true (is_opened s k) shut), refl), λ m ne. refl))
+    (λ _ opened unused _. (λ within. (open_world s k (not-false (is_opened s k) opened), own_unused s law hand k p (not-true (uses s k p) unused), refl), λ m ne. refl))
+    (λ _ opened used slow _. let ours = not-false (uses s k p) used in
+    absurd (true≢false (sym slow ∙ hand_has_room s k p (hand p (nonzero s law p (and_parts (nat_eq (p / CELLS) k) (s.used p) ours).1)))))
+    (λ _ opened used fast ok. let run = quiet_run s (view_events s k p) law (quiet_view s k p) in
+    let u : State = after_events s (view_events s k p) in
+    let view : ViewsObject s u p = made_views s (Mutator k (View p)) ok in
+    let own : p / CELLS ≡ k = uses_owner s k p (not-false (uses s k p) used) in (
+      λ within. (
+        open_world s k (not-false (is_opened s k) opened),
+        own_same (world_of s) (world_of u) k (put (views_of (world_of s) k) p true) run.0 (views_mine s u k p view own),
+        (data_of s p, own_used s law hand k p (not-false (uses s k p) used)),
+      ),
+      λ m ne. own_same (world_of s) (world_of u) m (views_of (world_of s) m) run.0 (views_others s u k m p view own ne),
+    ))
+
+-- ---- tries
+pub turns_try : (s : State) (k p : ℕ) → Law s → AllAtHand s → Turns s k (Mutator k (Try p)) (refusal (moment_of s) (Mutator k (Try p)))
+turns_try s k p law hand = four_causes (Turns s k (Mutator k (Try p))) (not (nat_lt k s.mutators)) (not (is_opened s k)) (not (uses s k p)) (is_slow s p) Range Closed NotHeld (Marked (s.cell p))
+    (λ off _. (λ within. absurd (not_outside k s.mutators within off), λ m ne. refl))
+    (λ _ shut _. (λ within. (shut_world s k within (not-true (is_opened s k) shut), refl), λ m ne. refl))
+    (λ _ opened unused _. (λ within. (open_world s k (not-false (is_opened s k) opened), own_unused s law hand k p (not-true (uses s k p) unused), refl), λ m ne. refl))
+    (λ _ opened used slow _. let ours = not-false (uses s k p) used in
+    absurd (true≢false (sym slow ∙ hand_is_fast s p (hand p (nonzero s law p (and_parts (nat_eq (p / CELLS) k) (s.used p) ours).1)))))
+    (λ _ opened used fast ok. let run = quiet_run s (view_events s k p) law (quiet_view s k p) in
+    let u : State = after_events s (view_events s k p) in
+    let view : ViewsObject s u p = made_views s (Mutator k (Try p)) ok in
+    let own : p / CELLS ≡ k = uses_owner s k p (not-false (uses s k p) used) in (
+      λ within. (
+        open_world s k (not-false (is_opened s k) opened),
+        own_same (world_of s) (world_of u) k (put (views_of (world_of s) k) p true) run.0 (views_mine s u k p view own),
+        (data_of s p, own_used s law hand k p (not-false (uses s k p) used)),
+      ),
+      λ m ne. own_same (world_of s) (world_of u) m (views_of (world_of s) m) run.0 (views_others s u k m p view own ne),
+    ))
 
 -- ---- inquiries
 -- where an object is that the mutator uses: that it has one
@@ -240,7 +300,7 @@ module _ (s : State) (k p from : ℕ) (bytes : List ℕ) (law : Law s) (hand : A
       let own : p / CELLS ≡ k = eqb-true (p / CELLS) k both.0 in
       let u : State = after_events s (loads ++ stores) in
       let t : World = world_of u in
-      let view : ViewsObject s u p = views_after s (Mutator k (Write p from bytes)) None ok in
+      let view : ViewsObject s u p = made_views s (Mutator k (Write p from bytes)) ok in
       let seen : ℕ → Bool = put (views_of (world_of s) k) p true in
       let run = write_run both.1 inside.0 inside.1 ok.succeed in (
         λ within. (
@@ -258,9 +318,10 @@ module _ (s : State) (k p from : ℕ) (bytes : List ℕ) (law : Law s) (hand : A
 
   pub turns_write : Turns s k (Mutator k (Write p from bytes)) (refusal (moment_of s) (Mutator k (Write p from bytes)))
   turns_write =
-      four_causes (Turns s k (Mutator k (Write p from bytes))) (not (nat_lt k s.mutators)) (not (is_opened s k)) (not (uses s k p)) (not (is_range (object_len s p) from (length bytes))) Range Closed NotHeld Range
+      five_causes (Turns s k (Mutator k (Write p from bytes))) (not (nat_lt k s.mutators)) (not (is_opened s k)) (not (uses s k p)) (not (is_range (object_len s p) from (length bytes))) (has_no_room s k p) Range Closed NotHeld Range NoRoom
       (λ off _. (λ within. absurd (not_outside k s.mutators within off), λ m ne. refl))
       (λ _ shut _. (λ within. (shut_world s k within (not-true (is_opened s k) shut), refl), λ m ne. refl))
       (λ _ opened unused _. (λ within. (open_world s k (not-false (is_opened s k) opened), own_unused s law hand k p (not-true (uses s k p) unused), refl), λ m ne. refl))
       (λ _ opened used out _. (λ within. (open_world s k (not-false (is_opened s k) opened), refl, (data_of s p, own_used s law hand k p (not-false (uses s k p) used), write_out (near used) out)), λ m ne. refl))
+      (λ _ opened used inside full _. absurd (hand_room s k p law hand used full))
       (λ _ opened used inside ok. wrote (not-false (is_opened s k) opened) (not-false (uses s k p) used) (write_in (near used) inside) ok)

@@ -1,9 +1,9 @@
 -- What events are for comes to pass: a pin gives a view where its object is at hand, and the naming of a new object wins.
 use Rattle.std.proofs.Common.{◌≡◌, ◌≢◌, ℕ, ◌+◌, ◌/◌, true, cond, nat_eq, nat_lt, refl, sym, ap, subst, ◌∙◌, is_some, Option, Some, None, List, [], ◌∷◌, ◌++◌, length}
-use Rattle.std.proofs.lemmas.Bool.{and_parts, cond_both, eq-eqb, ltb-true}
+use Rattle.std.proofs.lemmas.Bool.{and_parts, cond_both, eq-eqb, ltb-true, true≢false}
 use Rattle.far_word.specs.declared.pointer.Place.{Place}
 use Rattle.far_word.specs.declared.refused.Refused.{Refused as Refusal}
-use Rattle.far_word.specs.declared.refused.Refused.TheVariants.{Closed, NotHeld, Range, Held}
+use Rattle.far_word.specs.declared.refused.Refused.TheVariants.{NoRoom, Closed, NotHeld, Range, Held, Marked}
 use Rattle.far_word.specs.declared.sizes.TheConstants.{CELLS}
 use Rattle.far_word.specs.Bytes.{packed_word}
 use Rattle.far_word.specs.Header.{head_word}
@@ -18,10 +18,11 @@ use Rattle.far_core.specs.state.Room.{room}
 use Rattle.far_core.specs.state.State.{State}
 use Rattle.far_core.specs.events.Step.{step_of, is_legal, is_opened, after, answer, pin_answer}
 use Rattle.far_core.proofs.KeepOwner.{nonzero}
-use Rattle.far_text.specs.Command.{Command, New, Open, Write, Read, Close, Where, Drop, Mutator, Book}
-use Rattle.far_replay.specs.Effects.{near_word}
+use Rattle.far_text.specs.Command.{Command, New, Open, Write, Read, Close, Where, Drop, View, Try, Mutator, Book}
+use Rattle.far_replay.specs.Dereference.{has_no_room}
+use Rattle.far_replay.specs.Effects.{near_word, is_slow}
 use Rattle.far_replay.specs.EventRows.{after_events, ComesToPass, AllComeToPass, AtHand, AllAtHand}
-use Rattle.far_replay.specs.Events.{turn_events, zero_puts, new_events, view_events, load_events, store_events, first_loads, last_loads, part_events, first_word, words_touched, starts_inside, ends_inside}
+use Rattle.far_replay.specs.Events.{turn_events, refused_events, zero_puts, new_events, view_events, load_events, store_events, first_loads, last_loads, part_events, first_word, words_touched, starts_inside, ends_inside}
 use Rattle.far_replay.specs.Headline.{IsAtHandFor}
 use Rattle.far_replay.specs.Moment.{moment_of}
 use Rattle.far_replay.specs.Objects.{uses, object_len, data_of, with_range, lowest_cell, is_range}
@@ -30,8 +31,8 @@ use Rattle.far_replay.proofs.AloneStates.{lowest_free}
 use Rattle.far_replay.proofs.Drops.{drop_comes, unheld_is}
 use Rattle.far_text.proofs.Each.{Each, Each-append, Each-row}
 use Rattle.far_replay.proofs.MadeLemmas.{AllComeToPass-append}
-use Rattle.far_replay.proofs.Turns.{four, three}
-use Rattle.far_replay.proofs.Views.{ready_of, Ready-view}
+use Rattle.far_replay.proofs.Turns.{reaches, four, three, tried, marked_last}
+use Rattle.far_replay.proofs.Views.{ready_of, Ready-view, hand_is_fast}
 
 -- ---- events that any answer serves
 abbrev IsSure : Event → Type 0
@@ -93,9 +94,17 @@ is_named : (s : State) (m p from count : ℕ) → Law s → first_cause (access_
 is_named s m p from count law e =
     nonzero s law p (and_parts (nat_eq (p / CELLS) m) (s.used p) (four (nat_lt m s.mutators) (is_opened s m) (uses s m p) (is_range (object_len s p) from count) Range Closed NotHeld Range e).2).1
 
+-- a refused command makes no event, where its object is at hand
+refused_come : (s : State) (c : Command) (why : Refusal) → refusal (moment_of s) c ≡ Some why → Law s → IsAtHandFor (moment_of s) c → AllComeToPass s (refused_events (moment_of s) c why)
+refused_come s (Mutator m (Try p)) (Marked word) e law hand =
+    let h = marked_last (nat_lt m s.mutators) (is_opened s m) (uses s m p) (is_slow s p) (s.cell p) word e in
+    let at_hand : AtHand s p = hand (nonzero s law p (and_parts (nat_eq (p / CELLS) m) (s.used p) h.2).1) in
+    absurd (true≢false (sym h.3 ∙ hand_is_fast s p at_hand))
+refused_come s c why e law hand = tt
+
 pub all_come : (s : State) (c : Command) (o : Option Refusal) → refusal (moment_of s) c ≡ o → Law s → IsAtHandFor (moment_of s) c →
-    AllComeToPass s (unless o (λ _. []) (turn_events (moment_of s) c))
-all_come s c (Some why) e law hand = tt
+    AllComeToPass s (unless o (refused_events (moment_of s) c) (turn_events (moment_of s) c))
+all_come s c (Some why) e law hand = refused_come s c why e law hand
 all_come s (Mutator m (New len ds)) None e law hand = new_comes s m len ds (lowest_cell s m) (room s (size_of len) true) (lowest_free s m)
 all_come s (Mutator m Open) None e law hand =
     cond_both (is_some (s.remembered m)) (Opens m ∷ []) (ReadsEpoch m ∷ Opens m ∷ []) (AllComeToPass s) (λ _. (tt, tt)) (λ _. (tt, (tt, tt)))
@@ -106,17 +115,23 @@ all_come s (Mutator m (Write p from bytes)) None e law hand =
     let touched : ℕ = words_touched from (length bytes) in
     let new : List ℕ = with_range (data_of s p) from bytes in
     AllComeToPass-append s (view ++ part) (store_events m p first touched new)
-    (AllComeToPass-append s view part (view_comes s m p (hand (is_named s m p from (length bytes) law e))) (all_sure (after_events s view) part (parts m p from (length bytes))))
+    (AllComeToPass-append s view part (view_comes s m p (hand (is_named s m p from (length bytes) law (reaches (nat_lt m s.mutators) (is_opened s m) (uses s m p) (is_range (object_len s p) from (length bytes)) (has_no_room s m p) e)))) (all_sure (after_events s view) part (parts m p from (length bytes))))
     (all_sure (after_events s (view ++ part)) (store_events m p first touched new) (stores m p first touched new))
 all_come s (Mutator m (Read p from len)) None e law hand =
     let view : List Event = view_events s m p in
     let loaded : List Event = load_events m p (first_word from) (words_touched from len) in
-    AllComeToPass-append s view loaded (view_comes s m p (hand (is_named s m p from len law e))) (all_sure (after_events s view) loaded (loads m p (first_word from) (words_touched from len)))
+    AllComeToPass-append s view loaded (view_comes s m p (hand (is_named s m p from len law (reaches (nat_lt m s.mutators) (is_opened s m) (uses s m p) (is_range (object_len s p) from len) (has_no_room s m p) e)))) (all_sure (after_events s view) loaded (loads m p (first_word from) (words_touched from len)))
 all_come s (Mutator m Close) None e law hand = (tt, tt)
 all_come s (Mutator m (Where p)) None e law hand = tt
 all_come s (Mutator m (Drop p)) None e law hand =
     let h = three (nat_lt m s.mutators) (uses s m p) (is_some (s.held p)) Range NotHeld Held e in
     drop_comes s m p law (ltb-true m s.mutators h.0) h.1 (unheld_is (s.held p) h.2)
+all_come s (Mutator m (View p)) None e law hand =
+    let h = tried (nat_lt m s.mutators) (is_opened s m) (uses s m p) (has_no_room s m p) Range Closed NotHeld NoRoom e in
+    view_comes s m p (hand (nonzero s law p (and_parts (nat_eq (p / CELLS) m) (s.used p) h.2).1))
+all_come s (Mutator m (Try p)) None e law hand =
+    let h = tried (nat_lt m s.mutators) (is_opened s m) (uses s m p) (is_slow s p) Range Closed NotHeld (Marked (s.cell p)) e in
+    view_comes s m p (hand (nonzero s law p (and_parts (nat_eq (p / CELLS) m) (s.used p) h.2).1))
 all_come s (Book inquiry) None e law hand = tt
 
 -- where all objects are at hand, so is that of a command
@@ -128,4 +143,6 @@ hand_for s (Mutator m (Read p from len)) hands = hands p
 hand_for s (Mutator m Close) hands = tt
 hand_for s (Mutator m (Where p)) hands = tt
 hand_for s (Mutator m (Drop p)) hands = tt
+hand_for s (Mutator m (View p)) hands = hands p
+hand_for s (Mutator m (Try p)) hands = hands p
 hand_for s (Book inquiry) hands = tt

@@ -218,7 +218,7 @@ pub unheld_is : (o : Option Place) → is_some o ≡ false → o ≡ None
 unheld_is None e = refl
 unheld_is (Some place) e = absurd (false≢true (sym e))
 
-viewed_is : (s : State) (p : ℕ) (b : Bool) → (world_of s).viewed p ≡ b → is_some (s.held p) ≡ b
+pub viewed_is : (s : State) (p : ℕ) (b : Bool) → (world_of s).viewed p ≡ b → is_some (s.held p) ≡ b
 unfolding world_of
 viewed_is s p b e = e
 

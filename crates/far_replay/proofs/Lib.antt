@@ -7,6 +7,7 @@ pub mod AloneStates
 pub mod AloneTurns
 pub mod AloneViews
 pub mod Answering
+pub mod Bringing
 pub mod Coming
 pub mod Counted
 pub mod Determined
@@ -33,6 +34,7 @@ pub mod Spliced
 pub mod StoreTurns
 pub mod Streams
 pub mod TakingRoom
+pub mod Tries
 pub mod Turns
 pub mod ViewLaws
 pub mod Views

@@ -1,12 +1,12 @@
 -- Each text has an output; refused commands change nothing; unknown mutators are refused; what logs tell makes 1,024.
 use Rattle.std.proofs.Common.{◌≡◌, ◌≢◌, ℕ, nat_eq, ◌+◌, ◌-◌, ◌*◌, ◌<◌, ◌≤◌, Bool, true, false, cond, not, ◌&&◌, nat_lt, length, get_or, is_some, sym, ap, refl, subst, ◌∙◌, arith, suc, Option, Some, None, Result, Ok, Err, List, [], ◌∷◌, inl, inr}
-use Rattle.std.specs.Prelude.{map, replicate, nat_le, ◌/◌, All, Contains}
+use Rattle.std.specs.Prelude.{map, replicate, nat_le, ◌/◌, ◌^◌, bit_or, All, Contains}
 use Rattle.std.specs.Bool.{MatchBool}
 use Rattle.std.specs.List.{flat_map, range_with_len}
 use Rattle.std.proofs.lemmas.Bool.{lt-leb, eqb-true, eqb-false}
 use Rattle.std.proofs.lemmas.Bool.Decides.{nat_tests}
 use Rattle.far_word.specs.declared.refused.Refused.{Refused as Refusal}
-use Rattle.far_word.specs.declared.refused.Refused.TheVariants.{Range, Length, NoPointer, NoRoom, Shape, Syntax}
+use Rattle.far_word.specs.declared.refused.Refused.TheVariants.{Range, Length, NoPointer, NoRoom, Marked, Shape, Syntax}
 use Rattle.far_word.specs.declared.sizes.TheConstants.{CELLS, LONGEST}
 use Rattle.far_word.specs.Sizes.{size_of}
 use Rattle.far_log.proofs.Members.{split, none_in, All-from}
@@ -20,23 +20,38 @@ use Rattle.far_core.specs.world.WorldOf.{world_of}
 use Rattle.far_core.proofs.Bounds.{some_of}
 use Rattle.far_core.proofs.Guards.{none_from}
 use Rattle.far_core.proofs.Observations.{bytes_make_log}
+use Rattle.std.proofs.lemmas.Bool.{and_parts}
+use Rattle.far_word.specs.declared.mark.Mark.TheVariants.{Hot, Moved}
+use Rattle.far_word.specs.Mark.{position, marks_with}
+use Rattle.far_core.specs.events.Step.{after_pin, is_opened}
+use Rattle.far_core.proofs.Cells.{map_mark, object_of-mark}
+use Rattle.far_core.proofs.Marking.{read_mark}
+use Rattle.far_core.specs.world.WorldOf.{object_of}
+use mathlib.Core.Path.{fun_ext}
+use Rattle.far_replay.specs.Dereference.{asked_for, comes_to, has_no_room, sought, sought_of}
+use Rattle.far_core.proofs.KeepOwner.{hot_read}
+use Rattle.far_core.proofs.Put.{put_both, put_other, put_same}
+use Rattle.far_book.proofs.region.Calls.{put_put}
+use Rattle.far_replay.specs.Effects.{is_slow, with_view}
+use Rattle.far_replay.proofs.AloneRuns.{quiet_run}
+use Rattle.far_replay.proofs.AloneTurns.{quiet_view}
 use Rattle.far_replay.specs.Moment.{Moment, moment_of}
 use Rattle.far_replay.specs.Alone.{Alone, Knows, Own}
 use Rattle.far_replay.specs.Answers.{Answered, Answers, Commanded, IsMoment, IsOutput, shape_of, first_moment}
-use Rattle.far_text.specs.Command.{Command, Trace, Nothing, Heap, New, Open, Write, Read, Close, Where, Drop, Logs, Mutator, Book}
+use Rattle.far_text.specs.Command.{Command, Trace, Nothing, Heap, New, Open, Write, Read, Close, Where, Drop, View, Try, Logs, Mutator, Book}
 use Rattle.far_text.specs.Grammar.{trace_of}
 use Rattle.far_replay.specs.Headline.{IsSound, IsWhole, Lawful, IsSaidBy, TellsAll, TellsLog}
 use Rattle.far_text.specs.Written.{AllWriteBytes}
 use Rattle.far_replay.specs.EventRows.{after_events}
 use Rattle.far_replay.specs.Reply.{Reply, Done, Pointer, Refused, LogLine, reply_text}
-use Rattle.far_replay.specs.Events.{turn_events, events_for, new_events}
-use Rattle.far_replay.specs.Objects.{lowest_cell, with_range}
+use Rattle.far_replay.specs.Events.{turn_events, view_events, events_for, new_events}
+use Rattle.far_replay.specs.Objects.{is_range, lowest_cell, object_len, uses, with_range}
 use Rattle.far_word.specs.declared.mark.Marks.{Marks}
 use Rattle.far_word.specs.declared.pointer.PtrWord.{PtrWord}
 use Rattle.far_word.specs.declared.pointer.PtrWord.TheVariants.{Free, Near, Far}
 use Rattle.far_word.specs.Pointer.{read_of}
-use Rattle.far_replay.specs.Stays.{MayGain, CellStays, Stays}
-use Rattle.far_replay.specs.Turn.{turn_effect, effect, causes, first_cause, refusal, unless, turn_reply, reply_to, log_line, pointer_reply}
+use Rattle.far_replay.specs.Stays.{MayGain, CellStays, MayMark, Stays}
+use Rattle.far_replay.specs.Turn.{turn_effect, refused_effect, effect, causes, first_cause, refusal, unless, turn_reply, reply_to, log_line, pointer_reply}
 use Rattle.far_replay.proofs.AloneNew.{new_run, is_structure, is_length}
 use Rattle.far_replay.proofs.AloneFirst.{alone_first}
 use Rattle.far_replay.proofs.Kept.{whole}
@@ -48,7 +63,8 @@ use Rattle.far_text.proofs.TextLaws.{texts_write}
 use Rattle.far_replay.proofs.Lowest.{lowest_cell_is, no_cell_is}
 use Rattle.far_replay.proofs.Refusals.{turn_is_no_refusal, from_cause}
 use Rattle.far_replay.proofs.Spliced.{length-with_range, with_range_before, with_range_inside, with_range_after}
-use Rattle.far_replay.proofs.Turns.{new_tests}
+use Rattle.far_replay.proofs.Turns.{marked_last, room_lacks, room_last, new_tests}
+use Rattle.far_replay.proofs.Views.{view_is, view_law, slow_view}
 
 -- ---- each text has an output
 -- each list of commands is answered
@@ -71,11 +87,23 @@ read_answered (Ok (Heap logs mutators cs)) = heap_answered logs mutators cs (is_
 pub each_answered : (text : List ℕ) → (output : List ℕ) × Answers text output
 each_answered text = read_answered (trace_of text)
 
--- ---- a refused command makes no event
-pub refused_stays : (now : Moment) (c : Command) (r : Reply) (next : Moment) (why : Refusal) → Commanded now c r next → r ≡ Refused why → next ≡ now
-refused_stays now c r next why h e =
-    let cause : refusal now c ≡ Some why = from_cause (refusal now c) (turn_reply now c) why (turn_is_no_refusal now.core c why) (sym h.reply ∙ e) in
-    h.moment ∙ ap (λ o. unless o (λ _. now) (turn_effect now c)) cause
+-- ---- what a refused command leaves
+cause_of : (now : Moment) (c : Command) (r : Reply) (next : Moment) (why : Refusal) → Commanded now c r next → r ≡ Refused why → refusal now c ≡ Some why
+cause_of now c r next why h e = from_cause (refusal now c) (turn_reply now c) why (turn_is_no_refusal now.core c why) (sym h.reply ∙ e)
+
+refused_moment : (now : Moment) (c : Command) (r : Reply) (next : Moment) (why : Refusal) → Commanded now c r next → r ≡ Refused why → next ≡ refused_effect now c why
+refused_moment now c r next why h e = h.moment ∙ ap (λ o. unless o (refused_effect now c) (turn_effect now c)) (cause_of now c r next why h e)
+
+-- one that comes before any pin leaves all
+none_marked : (now : Moment) (c : Command) (why : Refusal) → ((p : ℕ) → ¬ MayMark c why p) → refused_effect now c why ≡ now
+none_marked now (Mutator m (Write p from bytes)) NoRoom none = absurd (none p refl)
+none_marked now (Mutator m (Read p from len)) NoRoom none = absurd (none p refl)
+none_marked now (Mutator m (View p)) NoRoom none = absurd (none p refl)
+none_marked now (Mutator m (Try p)) (Marked word) none = absurd (none p refl)
+none_marked now c why none = refl
+
+pub refused_stays : (now : Moment) (c : Command) (r : Reply) (next : Moment) (why : Refusal) → ((p : ℕ) → ¬ MayMark c why p) → Commanded now c r next → r ≡ Refused why → next ≡ now
+refused_stays now c r next why none h e = refused_moment now c r next why h e ∙ none_marked now c why none
 
 gains_none : (a : Marks) → MayGain a a
 gains_none a = record { hot = λ h. h; moved = λ h. h; evac = refl; dropped = refl }
@@ -89,8 +117,111 @@ cell_same (Some (Far len ds marks)) = (refl, refl, gains_none marks)
 stays_same : (c : Command) (why : Refusal) (now : Moment) → Stays c why now now
 stays_same c why now = record { objects = refl; cells = λ p. cell_same (read_of (now.core.cell p)); unmarked = λ p other. refl; rest = refl }
 
-pub refusals_stay : (now : Moment) (c : Command) (r : Reply) (next : Moment) (why : Refusal) → Commanded now c r next → r ≡ Refused why → Stays c why now next
-refusals_stay now c r next why h e = subst (Stays c why now) (sym (refused_stays now c r next why h e)) (stays_same c why now)
+-- a cell that gets HOT
+gains_hot : (a : Marks) → MayGain a (marks_with Hot a)
+gains_hot a = record { hot = λ _. refl; moved = λ h. h; evac = refl; dropped = refl }
+
+cell_hot : (o : Option PtrWord) → CellStays o (map_mark Hot o)
+cell_hot None = tt
+cell_hot (Some Free) = tt
+cell_hot (Some (Near len ds place marks)) = (refl, refl, refl, gains_hot marks)
+cell_hot (Some (Far len ds marks)) = (refl, refl, gains_hot marks)
+
+-- a try that found a mark leaves HOT
+stays_hot : (s : State) (m p word : ℕ) → Law s → is_opened s m ≡ true → uses s m p ≡ true → is_slow s p ≡ true → Stays (Mutator m (Try p)) (Marked word) (moment_of s) (moment_of (with_view s p))
+stays_hot s m p word law opened ours slow =
+    let is : with_view s p ≡ record s { cell = (after_pin s p).cell } = slow_view s p slow in
+    let hot : ℕ → ℕ = (after_pin s p).cell in
+    subst (λ (t : State). Stays (Mutator m (Try p)) (Marked word) (moment_of s) (moment_of t)) (sym is) record {
+      objects = ap (λ (t : State). (world_of t).object) (sym (view_is s m p law opened ours ∙ is)) ∙ (quiet_run s (view_events s m p) law (quiet_view s m p)).0.0;
+      cells = λ q. put_both (λ w. CellStays (read_of (s.cell q)) (read_of w)) s.cell p (bit_or (s.cell p) (2 ^ position Hot)) q
+          (λ e. subst (λ x. CellStays (read_of (s.cell x)) (read_of (bit_or (s.cell p) (2 ^ position Hot)))) (sym e)
+          (subst (CellStays (read_of (s.cell p))) (sym (hot_read s law p (and_parts (nat_eq (p / CELLS) m) (s.used p) ours).1)) (cell_hot (read_of (s.cell p)))))
+          (λ _. cell_same (read_of (s.cell q)));
+      unmarked = λ q other. put_other s.cell p (bit_or (s.cell p) (2 ^ position Hot)) q other;
+      rest = refl;
+    }
+
+-- one cell that gets other marks
+marked_stays : (c : Command) (why : Refusal) (s : State) (p new : ℕ) → MayMark c why p → ((q : ℕ) → ¬ MayMark c why q → q ≢ p) → CellStays (read_of (s.cell p)) (read_of new) →
+    ((f g : ℕ → ℕ) (q : ℕ) → object_of f g q (read_of new) ≡ object_of f g q (read_of (s.cell p))) → Stays c why (moment_of s) (moment_of (record s { cell = put s.cell p new }))
+unfolding world_of
+marked_stays c why s p new may apart stays object = record {
+  objects = fun_ext (λ q. put_both (λ w. object_of s.word (s.stored q) q (read_of w) ≡ object_of s.word (s.stored q) q (read_of (s.cell q))) s.cell p new q
+      (λ e. object s.word (s.stored q) q ∙ ap (λ x. object_of s.word (s.stored q) q (read_of (s.cell x))) (sym e)) (λ _. refl));
+  cells = λ q. put_both (λ w. CellStays (read_of (s.cell q)) (read_of w)) s.cell p new q
+      (λ e. subst (λ x. CellStays (read_of (s.cell x)) (read_of new)) (sym e) stays) (λ _. cell_same (read_of (s.cell q)));
+  unmarked = λ q other. put_other s.cell p new q (apart q other);
+  rest = refl;
+}
+
+gains_both : (a : Marks) → MayGain a (marks_with Moved (marks_with Hot a))
+gains_both a = record { hot = λ _. refl; moved = λ _. refl; evac = refl; dropped = refl }
+
+cell_asked : (o : Option PtrWord) → CellStays o (map_mark Moved (map_mark Hot o))
+cell_asked None = tt
+cell_asked (Some Free) = tt
+cell_asked (Some (Near len ds place marks)) = (refl, refl, refl, gains_both marks)
+cell_asked (Some (Far len ds marks)) = (refl, refl, gains_both marks)
+
+hot_stays : (f g : ℕ → ℕ) (q : ℕ) (o n : Option PtrWord) → n ≡ map_mark Hot o → object_of f g q n ≡ object_of f g q o
+hot_stays f g q o n is = ap (object_of f g q) is ∙ object_of-mark Hot f g q o (λ e. absurd cc)
+
+asked_stays : (f g : ℕ → ℕ) (q : ℕ) (o n : Option PtrWord) → n ≡ map_mark Moved (map_mark Hot o) → object_of f g q n ≡ object_of f g q o
+asked_stays f g q o n is = ap (object_of f g q) is ∙ object_of-mark Moved f g q (map_mark Hot o) (λ e. absurd cc) ∙ object_of-mark Hot f g q o (λ e. absurd cc)
+
+-- a dereference that found no room leaves HOT, and MOVE where the object is near
+module _ (c : Command) (s : State) (m p hot : ℕ) (may : MayMark c NoRoom p) (apart : (q : ℕ) → ¬ MayMark c NoRoom q → q ≢ p) (law : Law (record s { cell = put s.cell p hot })) (used : s.used p ≡ true) (is : read_of hot ≡ map_mark Hot (read_of (s.cell p))) where
+  abbrev pinned : State
+  pinned = record s { cell = put s.cell p hot }
+
+  here : pinned.cell p ≡ hot
+  here = put_same s.cell p hot p refl
+
+  abbrev asked : ℕ
+  asked = bit_or (pinned.cell p) (2 ^ position Moved)
+
+  asked_is : read_of asked ≡ map_mark Moved (map_mark Hot (read_of (s.cell p)))
+  asked_is = (read_mark Moved (pinned.cell p) refl (law.cells.cell_read p).0 (law.views.used_cell p used)).0 ∙ ap (λ w. map_mark Moved (read_of w)) here ∙ ap (map_mark Moved) is
+
+  only_hot : Stays c NoRoom (moment_of s) (moment_of pinned)
+  only_hot = marked_stays c NoRoom s p hot may apart (subst (CellStays (read_of (s.cell p))) (sym is) (cell_hot (read_of (s.cell p)))) (λ f g q. hot_stays f g q (read_of (s.cell p)) (read_of hot) is)
+
+  both : Stays c NoRoom (moment_of s) (moment_of (record s { cell = put s.cell p asked }))
+  both = marked_stays c NoRoom s p asked may apart (subst (CellStays (read_of (s.cell p))) (sym asked_is) (cell_asked (read_of (s.cell p)))) (λ f g q. asked_stays f g q (read_of (s.cell p)) (read_of asked) asked_is)
+
+  pub stays_asked : (o : Option PtrWord) → Stays c NoRoom (moment_of s) (moment_of (sought_of pinned m p o))
+  stays_asked None = only_hot
+  stays_asked (Some Free) = only_hot
+  stays_asked (Some (Near len ds place marks)) = subst (λ (f : ℕ → ℕ). Stays c NoRoom (moment_of s) (moment_of (record s { cell = f }))) (sym (put_put s.cell p hot asked)) both
+  stays_asked (Some (Far len ds marks)) = only_hot
+
+stays_sought : (c : Command) (s : State) (m p : ℕ) → MayMark c NoRoom p → ((q : ℕ) → ¬ MayMark c NoRoom q → q ≢ p) → Law s → is_opened s m ≡ true → uses s m p ≡ true → is_slow s p ≡ true → Stays c NoRoom (moment_of s) (moment_of (sought s m p))
+stays_sought c s m p may apart law opened ours slow =
+    let used = (and_parts (nat_eq (p / CELLS) m) (s.used p) ours).1 in
+    let hot : ℕ = bit_or (s.cell p) (2 ^ position Hot) in
+    let is : with_view s p ≡ record s { cell = put s.cell p hot } = slow_view s p slow in
+    let later : Law (record s { cell = put s.cell p hot }) = subst Law (view_is s m p law opened ours ∙ is) (view_law s m p law opened ours) in
+    subst (λ (t : State). Stays c NoRoom (moment_of s) (moment_of (asked_for t m p))) (sym is)
+    (stays_asked c s m p hot may apart later used (hot_read s law p used) (read_of ((record s { cell = put s.cell p hot }).cell p)))
+
+refused_leaves : (s : State) (c : Command) (why : Refusal) → Law s → refusal (moment_of s) c ≡ Some why → Stays c why (moment_of s) (refused_effect (moment_of s) c why)
+refused_leaves s (Mutator m (Write p from bytes)) NoRoom law e =
+    let h = room_lacks (nat_lt m s.mutators) (is_opened s m) (uses s m p) (is_range (object_len s p) from (length bytes)) (has_no_room s m p) e in
+    stays_sought (Mutator m (Write p from bytes)) s m p refl (λ q other. other) law h.1 h.2 (and_parts (is_slow s p) (not (is_some (comes_to (sought s m p) p))) h.3).0
+refused_leaves s (Mutator m (Read p from len)) NoRoom law e =
+    let h = room_lacks (nat_lt m s.mutators) (is_opened s m) (uses s m p) (is_range (object_len s p) from len) (has_no_room s m p) e in
+    stays_sought (Mutator m (Read p from len)) s m p refl (λ q other. other) law h.1 h.2 (and_parts (is_slow s p) (not (is_some (comes_to (sought s m p) p))) h.3).0
+refused_leaves s (Mutator m (View p)) NoRoom law e =
+    let h = room_last (nat_lt m s.mutators) (is_opened s m) (uses s m p) (has_no_room s m p) e in
+    stays_sought (Mutator m (View p)) s m p refl (λ q other. other) law h.1 h.2 (and_parts (is_slow s p) (not (is_some (comes_to (sought s m p) p))) h.3).0
+refused_leaves s (Mutator m (Try p)) (Marked word) law e =
+    let h = marked_last (nat_lt m s.mutators) (is_opened s m) (uses s m p) (is_slow s p) (s.cell p) word e in
+    stays_hot s m p word law h.1 h.2 h.3
+refused_leaves s c why law e = stays_same c why (moment_of s)
+
+pub refusals_stay : (now : Moment) (c : Command) (r : Reply) (next : Moment) (why : Refusal) → Law now.core → Commanded now c r next → r ≡ Refused why → Stays c why now next
+refusals_stay now c r next why law h e = subst (Stays c why now) (sym (refused_moment now c r next why h e)) (refused_leaves now.core c why law (cause_of now c r next why h e))
 
 -- ---- a mutator that the heap hasn't
 -- the first cause holds
@@ -111,6 +242,8 @@ refuses_unknown s (Mutator k (Read p from len)) m e h = first_holds s (Mutator k
 refuses_unknown s (Mutator k Close) m e h = first_holds s (Mutator k Close) (not (nat_lt k s.mutators)) _ refl (ap not (past s m k e h))
 refuses_unknown s (Mutator k (Where p)) m e h = first_holds s (Mutator k (Where p)) (not (nat_lt k s.mutators)) _ refl (ap not (past s m k e h))
 refuses_unknown s (Mutator k (Drop p)) m e h = first_holds s (Mutator k (Drop p)) (not (nat_lt k s.mutators)) _ refl (ap not (past s m k e h))
+refuses_unknown s (Mutator k (View p)) m e h = first_holds s (Mutator k (View p)) (not (nat_lt k s.mutators)) _ refl (ap not (past s m k e h))
+refuses_unknown s (Mutator k (Try p)) m e h = first_holds s (Mutator k (Try p)) (not (nat_lt k s.mutators)) _ refl (ap not (past s m k e h))
 refuses_unknown s (Book inquiry) m e h = absurd e
 
 pub unknown_refused : (now : Moment) (c : Command) (r : Reply) (next : Moment) (m : ℕ) → IsSaidBy m c → now.core.mutators ≤ m → Commanded now c r next → r ≡ Refused Range

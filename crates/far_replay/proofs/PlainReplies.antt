@@ -24,8 +24,9 @@ use Rattle.far_core.proofs.Observations.{bytes_make_log}
 use Rattle.far_book.specs.book.Home.{home_of}
 use Rattle.far_replay.specs.Answers.{Answered}
 use Rattle.far_replay.specs.Audit.{counts_of, lies_near, lies_far, bytes_by_log}
-use Rattle.far_text.specs.Command.{Command, New, Open, Write, Read, Close, Where, Drop, Logs, Log, Audit, Mutator, Book}
+use Rattle.far_text.specs.Command.{Command, New, Open, Write, Read, Close, Where, Drop, View, Try, Logs, Log, Audit, Mutator, Book}
 use Rattle.far_replay.specs.Headline.{IsToldInFull, IsLineToldInFull, AreToldInFull, IsRefusalToldInFull}
+use Rattle.far_replay.specs.Dereference.{dereferenced}
 use Rattle.far_replay.specs.Moment.{Moment, moment_of}
 use Rattle.far_replay.specs.Objects.{lowest_cell, data_of}
 use Rattle.far_replay.specs.Reply.{Reply, Audited, Refused, LogLine}
@@ -36,7 +37,7 @@ use Rattle.far_replay.proofs.AloneStates.{lowest_own, data_small}
 use Rattle.far_text.proofs.Each.{Each, Each-row}
 use Rattle.far_text.proofs.Parts.{range_get}
 use Rattle.far_replay.proofs.Lasting.{Lasts, still_lasts}
-use Rattle.far_replay.proofs.Refusals.{EachCause, among}
+use Rattle.far_replay.proofs.Refusals.{EachCause, each_first, among}
 use Rattle.far_replay.proofs.Turns.{new_tests}
 
 -- a pointer is a number of a cell
@@ -95,18 +96,20 @@ plain_counts s law =
     let all : sum (bytes_by_log s) ≡ sum_by (live_bytes s) (range_with_len 0 s.logs) = sum-map (live_bytes s) (range_with_len 0 s.logs) in
     (omega (arith, near, many, law.shape.few_mutators), omega (arith, far, many, law.shape.few_mutators), omega (arith, live, all, law.shape.few_logs))
 
--- no cause of today carries a word
-plain_causes : (s : State) (c : Command) → EachCause IsRefusalToldInFull (causes (moment_of s) c)
-plain_causes s (Mutator m (New len ds)) = (tt, (tt, (tt, (tt, tt))))
-plain_causes s (Mutator m Open) = (tt, (tt, tt))
-plain_causes s (Mutator m (Write p from bytes)) = (tt, (tt, (tt, (tt, tt))))
-plain_causes s (Mutator m (Read p from len)) = (tt, (tt, (tt, (tt, tt))))
-plain_causes s (Mutator m Close) = (tt, (tt, tt))
-plain_causes s (Mutator m (Where p)) = (tt, (tt, tt))
-plain_causes s (Mutator m (Drop p)) = (tt, (tt, (tt, tt)))
-plain_causes s (Book Logs) = tt
-plain_causes s (Book (Log l)) = (tt, tt)
-plain_causes s (Book Audit) = tt
+-- the word that a cause carries is a cell's
+plain_causes : (s : State) (c : Command) → Law s → EachCause IsRefusalToldInFull (causes (moment_of s) c)
+plain_causes s (Mutator m (New len ds)) law = (tt, (tt, (tt, (tt, tt))))
+plain_causes s (Mutator m Open) law = (tt, (tt, tt))
+plain_causes s (Mutator m (Write p from bytes)) law = (tt, (tt, (tt, (tt, (tt, tt)))))
+plain_causes s (Mutator m (Read p from len)) law = (tt, (tt, (tt, (tt, (tt, tt)))))
+plain_causes s (Mutator m Close) law = (tt, (tt, tt))
+plain_causes s (Mutator m (Where p)) law = (tt, (tt, tt))
+plain_causes s (Mutator m (Drop p)) law = (tt, (tt, (tt, tt)))
+plain_causes s (Mutator m (View p)) law = (tt, (tt, (tt, (tt, tt))))
+plain_causes s (Mutator m (Try p)) law = (tt, (tt, (tt, ((law.cells.cell_read p).0, tt))))
+plain_causes s (Book Logs) law = tt
+plain_causes s (Book (Log l)) law = (tt, tt)
+plain_causes s (Book Audit) law = tt
 
 -- the reply of a command that isn't refused
 plain_turn : (s : State) (c : Command) → Law s → refusal (moment_of s) c ≡ None → IsToldInFull (turn_reply (moment_of s) c)
@@ -115,17 +118,19 @@ plain_turn s (Mutator m (New len ds)) law e =
     plain_pointer s m (lowest_cell s m) law (is_structure s m ds (ap not parts.0)).0 refl
 plain_turn s (Mutator m Open) law e = tt
 plain_turn s (Mutator m (Write p from bytes)) law e = tt
-plain_turn s (Mutator m (Read p from len)) law e = plain_data s p from len
+plain_turn s (Mutator m (Read p from len)) law e = plain_data (dereferenced s m p) p from len
 plain_turn s (Mutator m Close) law e = tt
 plain_turn s (Mutator m (Where p)) law e = plain_home (read_of (s.cell p)) (λ v is. (read_says (s.cell p) v (law.cells.cell_read p).0 is).0)
 plain_turn s (Mutator m (Drop p)) law e = tt
+plain_turn s (Mutator m (View p)) law e = tt
+plain_turn s (Mutator m (Try p)) law e = tt
 plain_turn s (Book Logs) law e = plain_logs s law
 plain_turn s (Book (Log l)) law e = (plain_line s law l (log_inside s l e), tt)
 plain_turn s (Book Audit) law e = plain_counts s law
 
 plain_reply : (s : State) (c : Command) (o : Option Refusal) → Law s → refusal (moment_of s) c ≡ o → IsToldInFull (unless o Refused (turn_reply (moment_of s) c))
 plain_reply s c None law e = plain_turn s c law e
-plain_reply s c (Some why) law e = among IsRefusalToldInFull (causes (moment_of s) c) why (plain_causes s c) e
+plain_reply s c (Some why) law e = among IsRefusalToldInFull (causes (moment_of s) c) why (each_first IsRefusalToldInFull (causes (moment_of s) c) (plain_causes s c law)) e
 
 -- each reply to a list of commands
 each_plain : (now : Moment) (cs : List Command) (rs : List Reply) (moments : List Moment) → Lasts now → AllWriteBytes cs → Answered now cs rs moments → AllByRecursion IsToldInFull rs

@@ -1,6 +1,6 @@
 -- Replies that their lines tell in full are equal where they are printed alike.
-use Rattle.std.specs.Prelude.{◌⊎◌, if◌then◌else◌}
-use Rattle.std.proofs.Common.{◌≡◌, ◌≢◌, ℕ, suc, ◌<◌, ◌^◌, ◌==◌, ◌||◌, Bool, true, false, List, [], ◌∷◌, ◌++◌, Ok, length, drop, get_or, codes, decimal, inl, inr, refl, sym, ap, ◌∙◌, arith, append_assoc, append-nil}
+use Rattle.std.specs.Prelude.{if◌then◌else◌}
+use Rattle.std.proofs.Common.{◌≡◌, ◌≢◌, ℕ, zero, suc, ◌/◌, ◌<◌, ◌≤◌, ◌^◌, ◌==◌, ◌||◌, Bool, true, false, List, [], ◌∷◌, ◌++◌, Result, Ok, Err, length, drop, get_or, codes, decimal, refl, sym, ap, ◌∙◌, arith, append_assoc}
 use Rattle.std.specs.List.{flat_map}
 use Rattle.std.proofs.lemmas.List.{append_cancel_left, append_cancel_right}
 use Rattle.std.proofs.lemmas.Fmt.{decimal_injective, decimal_is_IsNumeral}
@@ -16,6 +16,9 @@ use Rattle.far_core.specs.declared.event.Kind.TheVariants as kinds
 use Rattle.far_book.specs.declared.home.Home.TheVariants.{Near, Far}
 use Rattle.far_replay.specs.Headline.{IsToldInFull, IsHomeToldInFull, AreCountsToldInFull, IsLineToldInFull, AreToldInFull, IsRefusalToldInFull}
 use Rattle.far_replay.specs.Reply.{Reply, Done, Pointer, Data, Logs, Lies, Audited, Refused, LogLine, Counts, kind_word, log_text, letters_of, home_printed, counts_printed, detail, refusal_text, reply_text}
+use Rattle.std.specs.Int.{byte_at, bytes_high_first, from_be_bytes, to_be_bytes, w64}
+use Rattle.std.specs.Str.Parse.{digits_value}
+use Rattle.std.proofs.lemmas.Nat.{from_be_bytes-to_be_bytes_8, mod_below}
 use Rattle.std.proofs.lemmas.Str.Parse.{digit_at}
 
 -- ---- bytes up to the first of one kind
@@ -118,52 +121,104 @@ refusal_of n =
     else if n == 6 then AlreadyOpen else if n == 7 then NotHeld else if n == 8 then Range else if n == 9 then Held else if n == 10 then Device
     else if n == 11 then Damaged else if n == 12 then Phase else if n == 13 then EpochsSpent else Shape
 
--- a line stands behind the number, or nothing
-line_or_none : (why : Refusal) → IsRefusalToldInFull why → ((line : ℕ) × (line < 2 ^ 64) × (why ≡ Syntax line)) ⊎ ((detail why ≡ []) × (refusal_number why < 2 ^ 64) × (refusal_of (refusal_number why) ≡ why))
-line_or_none Memory p = inr (refl, omega arith, refl)
-line_or_none NoRoom p = inr (refl, omega arith, refl)
-line_or_none NoPointer p = inr (refl, omega arith, refl)
-line_or_none Length p = inr (refl, omega arith, refl)
-line_or_none Closed p = inr (refl, omega arith, refl)
-line_or_none AlreadyOpen p = inr (refl, omega arith, refl)
-line_or_none NotHeld p = inr (refl, omega arith, refl)
-line_or_none Range p = inr (refl, omega arith, refl)
-line_or_none Held p = inr (refl, omega arith, refl)
-line_or_none Device p = inr (refl, omega arith, refl)
-line_or_none Damaged p = inr (refl, omega arith, refl)
-line_or_none Phase p = inr (refl, omega arith, refl)
-line_or_none EpochsSpent p = inr (refl, omega arith, refl)
-line_or_none (Marked word) p = absurd p
-line_or_none Shape p = inr (refl, omega arith, refl)
-line_or_none (Syntax line) p = inl (line, p, refl)
-line_or_none (BadChoice log) p = absurd p
-line_or_none (StillOpen mutator epoch) p = absurd p
+-- bytes that were read, or none
+abbrev read_bytes : {X : Type 0} → Result (List ℕ) X → List ℕ
+read_bytes (Ok bytes) = bytes
+read_bytes (Err fault) = []
 
-abbrev behind_refused : Refusal → List ℕ
-behind_refused why = decimal (refusal_number why) ++ detail why
+-- the refusal of a number and what stands behind it
+abbrev refusal_from : ℕ → List ℕ → Refusal
+refusal_from n behind =
+    if n == 14 then Marked (from_be_bytes w64 (read_bytes (decode_of (drop 1 behind)))) else if n == 16 then Syntax (digits_value 10 (drop 1 behind)) else refusal_of n
 
-number_alone : (why : Refusal) → detail why ≡ [] → behind_refused why ≡ decimal (refusal_number why)
-number_alone why e = ap (λ xs. decimal (refusal_number why) ++ xs) e ∙ append-nil (decimal (refusal_number why))
+-- the bytes of a word
+byte_small : (i n : ℕ) → byte_at i n < 256
+byte_small zero n = mod_below n 256 (omega arith)
+byte_small (suc i) n = mod_below (n / 256 ^ suc i) 256 (omega arith)
 
-line_behind : (why : Refusal) (line : ℕ) → why ≡ Syntax line → behind_refused why ≡ decimal 16 ++ (32 ∷ decimal line)
-line_behind why line e = ap behind_refused e
+high_bytes : (count n : ℕ) → IsBytes (bytes_high_first count n)
+high_bytes zero n k = omega arith
+high_bytes (suc count) n zero = byte_small count n
+high_bytes (suc count) n (suc k) = high_bytes count n k
+
+word_bytes : (word : ℕ) → IsBytes (to_be_bytes w64 word)
+word_bytes word = high_bytes 8 word
+
+word_back : (word : ℕ) → word < 2 ^ 64 → from_be_bytes w64 (read_bytes (decode_of (encode_lower (to_be_bytes w64 word)))) ≡ word
+word_back word p = ap (λ r. from_be_bytes w64 (read_bytes r)) (decode_of-encode_lower (to_be_bytes w64 word) (word_bytes word)) ∙ from_be_bytes-to_be_bytes_8 word p
+
+told_back : (why : Refusal) → IsRefusalToldInFull why → refusal_from (refusal_number why) (detail why) ≡ why
+told_back Memory p = refl
+told_back NoRoom p = refl
+told_back NoPointer p = refl
+told_back Length p = refl
+told_back Closed p = refl
+told_back AlreadyOpen p = refl
+told_back NotHeld p = refl
+told_back Range p = refl
+told_back Held p = refl
+told_back Device p = refl
+told_back Damaged p = refl
+told_back Phase p = refl
+told_back EpochsSpent p = refl
+told_back (Marked word) p = ap Marked (word_back word p)
+told_back Shape p = refl
+told_back (Syntax line) p = ap Syntax (decimal_is_IsNumeral line p).1
+told_back (BadChoice log) p = absurd p
+told_back (StillOpen mutator epoch) p = absurd p
+
+-- its number is small, and what stands behind it begins with no digit
+number_small : (why : Refusal) → IsRefusalToldInFull why → (refusal_number why < 2 ^ 64) × (head_of (detail why) < 48)
+number_small Memory p = (omega arith, omega arith)
+number_small NoRoom p = (omega arith, omega arith)
+number_small NoPointer p = (omega arith, omega arith)
+number_small Length p = (omega arith, omega arith)
+number_small Closed p = (omega arith, omega arith)
+number_small AlreadyOpen p = (omega arith, omega arith)
+number_small NotHeld p = (omega arith, omega arith)
+number_small Range p = (omega arith, omega arith)
+number_small Held p = (omega arith, omega arith)
+number_small Device p = (omega arith, omega arith)
+number_small Damaged p = (omega arith, omega arith)
+number_small Phase p = (omega arith, omega arith)
+number_small EpochsSpent p = (omega arith, omega arith)
+number_small (Marked word) p = (omega arith, omega arith)
+number_small Shape p = (omega arith, omega arith)
+number_small (Syntax line) p = (omega arith, omega arith)
+number_small (BadChoice log) p = absurd p
+number_small (StillOpen mutator epoch) p = absurd p
+
+-- digits in front of what begins with none
+abbrev AreDigits : List ℕ → Type 0
+AreDigits [] = Unit {0}
+AreDigits (x ∷ xs) = (48 ≤ x) × AreDigits xs
+
+digits_at : (xs : List ℕ) → ((k : ℕ) → k < length xs → 48 ≤ get_or xs k 0) → AreDigits xs
+digits_at [] h = tt
+digits_at (x ∷ xs) h = (h 0 (omega arith), digits_at xs (λ k lt. h (suc k) (omega arith)))
+
+decimal_digits : (n : ℕ) → n < 2 ^ 64 → AreDigits (decimal n)
+decimal_digits n small = digits_at (decimal n) (λ k lt. let d = digit_at (decimal n) k (decimal_is_IsNumeral n small).0.1 lt in omega (arith, d.0))
+
+cut_digits : (xs ys us vs : List ℕ) → AreDigits xs → AreDigits ys → head_of us < 48 → head_of vs < 48 → xs ++ us ≡ ys ++ vs → (xs ≡ ys) × (us ≡ vs)
+cut_digits [] [] us vs f g h k e = (refl, e)
+cut_digits [] (y ∷ ys) us vs f g h k e = let same : head_of us ≡ y = ap head_of e in absurd (omega (arith, same, h, g.0))
+cut_digits (x ∷ xs) [] us vs f g h k e = let same : x ≡ head_of vs = ap head_of e in absurd (omega (arith, same, k, f.0))
+cut_digits (x ∷ xs) (y ∷ ys) us vs f g h k e =
+    let first : x ≡ y = ap head_of e in
+    let (others, behind) = cut_digits xs ys us vs f.1 g.1 h k (ap (drop 1) e) in
+    ((λ i. first i ∷ others i), behind)
 
 refused_alike : (a b : Refusal) → IsRefusalToldInFull a → IsRefusalToldInFull b → refusal_text a ≡ refusal_text b → a ≡ b
 refused_alike a b p q e =
-    let same : behind_refused a ≡ behind_refused b =
+    let same : decimal (refusal_number a) ++ detail a ≡ decimal (refusal_number b) ++ detail b =
     append_cancel_left (codes "refused ") _ _ (sym (append_assoc (codes "refused ") (decimal (refusal_number a)) (detail a))
     ∙ append_cancel_right _ _ (codes "\n") e ∙ append_assoc (codes "refused ") (decimal (refusal_number b)) (detail b)) in
-    elim (line_or_none a p) [
-      | inl s ↦ elim (line_or_none b q) [
-        | inl t ↦ (let lines : decimal s.0 ≡ decimal t.0 = ap (drop 1) (append_cancel_left (decimal 16) _ _ (sym (line_behind a s.0 s.2) ∙ same ∙ line_behind b t.0 t.2)) in
-            s.2 ∙ ap Syntax (decimal_injective s.0 t.0 s.1 t.1 lines) ∙ sym t.2)
-        | inr t ↦ absurd (none_inside 32 (decimal (refusal_number b)) (decimal 16) (decimal s.0) (decimal_free 32 (refusal_number b) (omega arith) t.1) (sym (number_alone b t.0) ∙ sym same ∙ line_behind a s.0 s.2))
-      ]
-      | inr s ↦ elim (line_or_none b q) [
-        | inl t ↦ absurd (none_inside 32 (decimal (refusal_number a)) (decimal 16) (decimal t.0) (decimal_free 32 (refusal_number a) (omega arith) s.1) (sym (number_alone a s.0) ∙ same ∙ line_behind b t.0 t.2))
-        | inr t ↦ sym s.2 ∙ ap refusal_of (decimal_injective (refusal_number a) (refusal_number b) s.1 t.1 (sym (number_alone a s.0) ∙ same ∙ number_alone b t.0)) ∙ t.2
-      ]
-    ]
+    let small = number_small a p in
+    let little = number_small b q in
+    let (numbers, details) = cut_digits (decimal (refusal_number a)) (decimal (refusal_number b)) (detail a) (detail b) (decimal_digits (refusal_number a) small.0) (decimal_digits (refusal_number b) little.0) small.1 little.1 same in
+    let number : refusal_number a ≡ refusal_number b = decimal_injective (refusal_number a) (refusal_number b) small.0 little.0 numbers in
+    sym (told_back a p) ∙ ap (λ n. refusal_from n (detail a)) number ∙ ap (refusal_from (refusal_number b)) details ∙ told_back b q
 
 -- ---- where an object is
 -- the marks whose letters these are

@@ -1,7 +1,7 @@
 -- Whose line it is, by the number behind its name.
 use Rattle.std.proofs.Common.{◌≡◌, ◌≢◌, ℕ, ◌<◌, ◌^◌, List, [], ◌∷◌, codes, decimal, arith, sym, ap, ◌∙◌}
 use Rattle.std.proofs.lemmas.Fmt.{decimal_injective}
-use Rattle.far_text.specs.Command.{Command, CommandLine, New, Open, Write, Read, Close, Where, Drop, Logs, Log, Audit, Mutator, Book}
+use Rattle.far_text.specs.Command.{Command, CommandLine, New, Open, Write, Read, Close, Where, Drop, View, Try, Logs, Log, Audit, Mutator, Book}
 use Rattle.far_replay.specs.Headline.{IsSaidBy}
 use Rattle.far_text.specs.Says.{Says}
 
@@ -48,6 +48,12 @@ where_is_other e = let h : 119 ≡ 108 = ap letter_of e in omega (arith, h)
 drop_is_other : codes "drop" ≢ codes "log"
 drop_is_other e = let h : 100 ≡ 108 = ap letter_of e in omega (arith, h)
 
+view_is_other : codes "view" ≢ codes "log"
+view_is_other e = let h : 118 ≡ 108 = ap letter_of e in omega (arith, h)
+
+try_is_other : codes "try" ≢ codes "log"
+try_is_other e = let h : 116 ≡ 108 = ap letter_of e in omega (arith, h)
+
 no_number : {name word : List ℕ} {rest : List (List ℕ)} {head : List ℕ} → name ∷ word ∷ rest ≢ head ∷ []
 no_number e = cc
 
@@ -61,6 +67,8 @@ lines_numbered words (Mutator k (Read p from len)) m small h = (numbered words _
 lines_numbered words (Mutator k Close) m small h = (numbered words _ k m _ h.0 close_is_other, (λ name rest e ne. number_behind words _ k m _ h.1 small h.0 name rest e))
 lines_numbered words (Mutator k (Where p)) m small h = (numbered words _ k m _ h.0 where_is_other, (λ name rest e ne. number_behind words _ k m _ h.1 small h.0 name rest e))
 lines_numbered words (Mutator k (Drop p)) m small h = (numbered words _ k m _ h.0 drop_is_other, (λ name rest e ne. number_behind words _ k m _ h.1 small h.0 name rest e))
+lines_numbered words (Mutator k (View p)) m small h = (numbered words _ k m _ h.0 view_is_other, (λ name rest e ne. number_behind words _ k m _ h.1 small h.0 name rest e))
+lines_numbered words (Mutator k (Try p)) m small h = (numbered words _ k m _ h.0 try_is_other, (λ name rest e ne. number_behind words _ k m _ h.1 small h.0 name rest e))
 lines_numbered words (Book Logs) m small h = ((λ no. absurd no), (λ name rest e ne. absurd (no_number (sym e ∙ h))))
 lines_numbered words (Book (Log l)) m small h = ((λ no. absurd no), (λ name rest e ne. absurd (ne (ap first_of (sym e ∙ h.0)))))
 lines_numbered words (Book Audit) m small h = ((λ no. absurd no), (λ name rest e ne. absurd (no_number (sym e ∙ h))))

@@ -5,6 +5,10 @@ use Rattle.std.proofs.lemmas.Bool.{cond_both, true≢false}
 use Rattle.std.proofs.lemmas.Bool.Decides.{nat_tests}
 use Rattle.far_word.specs.declared.pointer.Place.{Place}
 use Rattle.far_word.specs.declared.refused.Refused.{Refused as Refusal}
+use Rattle.far_word.specs.declared.refused.Refused.TheVariants.{NoRoom, Marked}
+use Rattle.far_word.specs.declared.pointer.PtrWord.{PtrWord}
+use Rattle.far_word.specs.declared.pointer.PtrWord.TheVariants.{Free, Near, Far}
+use Rattle.far_word.specs.Pointer.{read_of}
 use Rattle.far_word.specs.Sizes.{size_of}
 use Rattle.far_core.specs.state.Room.{room}
 use Rattle.far_core.specs.state.Shape.{is_shape}
@@ -14,14 +18,16 @@ use Rattle.far_word.specs.declared.mark.Mark.TheVariants.{Dropped}
 use Rattle.far_core.specs.declared.event.Event.TheVariants.{Ask}
 use Rattle.far_core.specs.events.Step.{after as step_after, after_pin}
 use Rattle.far_replay.specs.Answers.{Commanded, shape_of}
-use Rattle.far_text.specs.Command.{Command, New, Open, Write, Read, Close, Where, Drop, Mutator, Book}
+use Rattle.far_text.specs.Command.{Command, New, Open, Write, Read, Close, Where, Drop, View, Try, Mutator, Book}
+use Rattle.far_replay.specs.Dereference.{sought_of}
 use Rattle.far_replay.specs.Effects.{with_view, with_object}
 use Rattle.far_replay.specs.Headline.{TakesRoom}
 use Rattle.far_replay.specs.Moment.{Moment, moment_of}
 use Rattle.far_replay.specs.Objects.{lowest_cell}
 use Rattle.far_replay.specs.Reply.{Reply, Refused}
-use Rattle.far_replay.specs.Turn.{refusal, unless, turn_effect, turn_reply, reply_to, pointer_reply, with_new}
+use Rattle.far_replay.specs.Turn.{refusal, unless, turn_effect, refused_effect, turn_reply, reply_to, pointer_reply, with_new}
 use Rattle.far_replay.proofs.Drops.{retired_either}
+use Rattle.far_replay.proofs.Views.{fast_dereference}
 use Rattle.far_replay.proofs.Turns.{new_tests, new_object_is}
 
 pub shapes_are : (logs mutators : ℕ) → (is_shape (shape_of logs mutators) ≡ true) ↔ ((2 ≤ logs) × (logs ≤ 64) × (1 ≤ mutators) × (mutators ≤ 8))
@@ -43,17 +49,25 @@ new_takes s m len ds None None y goes some tail = absurd (true≢false (sym (som
 new_takes s m len ds None (Some p) None goes some tail = absurd (true≢false (sym (some refl).1))
 new_takes s m len ds None (Some p) (Some place) goes some tail = (place, goes, tail refl p place refl refl)
 
+sought_leaves : (s : State) (m p : ℕ) (o : Option PtrWord) → LeavesRoom s (sought_of (with_view s p) m p o)
+sought_leaves s m p None = view_leaves s p
+sought_leaves s m p (Some Free) = view_leaves s p
+sought_leaves s m p (Some (Near len ds place marks)) = view_leaves s p
+sought_leaves s m p (Some (Far len ds marks)) = view_leaves s p
+
 takes : (s : State) (c : Command) (o : Option Refusal) → Law s → refusal (moment_of s) c ≡ o →
-    TakesRoom (moment_of s) c (unless o Refused (turn_reply (moment_of s) c)) (unless o (λ _. moment_of s) (turn_effect (moment_of s) c))
+    TakesRoom (moment_of s) c (unless o Refused (turn_reply (moment_of s) c)) (unless o (refused_effect (moment_of s) c) (turn_effect (moment_of s) c))
 takes s (Mutator m (New len ds)) o law e = new_takes s m len ds o (lowest_cell s m) (room s (size_of len) true) refl (λ none.
     let parts = new_tests s m len ds (subst (λ r. refusal (moment_of s) (Mutator m (New len ds)) ≡ r) none e) in
     (parts.2, parts.3))
     (λ none p place cell found. ap (λ (t : State). t.tail) (new_object_is s m len ds p place law (subst (λ r. refusal (moment_of s) (Mutator m (New len ds)) ≡ r) none e) cell found))
 takes s (Mutator m Open) None law e = (refl, refl)
 takes s (Mutator m Open) (Some why) law e = (refl, refl)
-takes s (Mutator m (Write p from bytes)) None law e = view_leaves s p
+takes s (Mutator m (Write p from bytes)) None law e = (λ fast. subst (LeavesRoom s) (sym (fast_dereference s m p fast)) (view_leaves s p))
+takes s (Mutator m (Write p from bytes)) (Some NoRoom) law e = sought_leaves s m p (read_of ((with_view s p).cell p))
 takes s (Mutator m (Write p from bytes)) (Some why) law e = (refl, refl)
-takes s (Mutator m (Read p from len)) None law e = view_leaves s p
+takes s (Mutator m (Read p from len)) None law e = (λ fast. subst (LeavesRoom s) (sym (fast_dereference s m p fast)) (view_leaves s p))
+takes s (Mutator m (Read p from len)) (Some NoRoom) law e = sought_leaves s m p (read_of ((with_view s p).cell p))
 takes s (Mutator m (Read p from len)) (Some why) law e = (refl, refl)
 takes s (Mutator m Close) None law e = (refl, refl)
 takes s (Mutator m Close) (Some why) law e = (refl, refl)
@@ -61,6 +75,12 @@ takes s (Mutator m (Where p)) None law e = (refl, refl)
 takes s (Mutator m (Where p)) (Some why) law e = (refl, refl)
 takes s (Mutator m (Drop p)) None law e = retired_either (LeavesRoom s) (step_after s (Ask m p Dropped)) p (refl, refl) (refl, refl)
 takes s (Mutator m (Drop p)) (Some why) law e = (refl, refl)
+takes s (Mutator m (View p)) None law e = (λ fast. subst (LeavesRoom s) (sym (fast_dereference s m p fast)) (view_leaves s p))
+takes s (Mutator m (View p)) (Some NoRoom) law e = sought_leaves s m p (read_of ((with_view s p).cell p))
+takes s (Mutator m (View p)) (Some why) law e = (refl, refl)
+takes s (Mutator m (Try p)) None law e = view_leaves s p
+takes s (Mutator m (Try p)) (Some (Marked word)) law e = view_leaves s p
+takes s (Mutator m (Try p)) (Some why) law e = (refl, refl)
 takes s (Book inquiry) None law e = (refl, refl)
 takes s (Book inquiry) (Some why) law e = (refl, refl)
 

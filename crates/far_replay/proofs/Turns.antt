@@ -1,12 +1,12 @@
 -- The events of each command succeed, and keep the law and what holds between commands.
 use Rattle.std.proofs.Common.{◌≡◌, ◌≢◌, ℕ, ◌+◌, ◌*◌, ◌/◌, ◌%◌, ◌^◌, ◌<◌, ◌≤◌, ◌⊎◌, Bool, true, false, cond, not, ◌&&◌, nat_lt, nat_le, nat_eq, refl, sym, ap, subst, ◌∙◌, arith, Option, Some, None, List, [], ◌∷◌, ◌++◌, length, get_or, is_some, if◌then◌else◌, inl, inr}
-use Rattle.std.proofs.lemmas.Bool.{and_parts, cond_both, ltb-true}
+use Rattle.std.proofs.lemmas.Bool.{and_parts, cond_both, ltb-true, true≢false}
 use Rattle.std.proofs.lemmas.Bool.Decides.{nat_tests}
 use Rattle.far_word.specs.declared.mark.Marks.{Marks}
 use Rattle.far_word.specs.declared.pointer.Place.{Place}
 use Rattle.far_word.specs.declared.pointer.PtrWord.TheVariants.{Near}
 use Rattle.far_word.specs.declared.refused.Refused.{Refused as Refusal}
-use Rattle.far_word.specs.declared.refused.Refused.TheVariants.{NoRoom, NoPointer, Length, Closed, AlreadyOpen, NotHeld, Range, Held}
+use Rattle.far_word.specs.declared.refused.Refused.TheVariants.{NoRoom, NoPointer, Length, Closed, AlreadyOpen, NotHeld, Range, Held, Marked}
 use Rattle.far_word.specs.declared.sizes.TheConstants.{CELLS, LOG_WORDS, LONGEST}
 use Rattle.far_word.specs.Bytes.{bytes_of, packed_word}
 use Rattle.far_word.specs.Header.{head_word}
@@ -25,19 +25,21 @@ use Rattle.far_core.specs.state.Room.{room}
 use Rattle.far_core.specs.state.State.{State, put, addr}
 use Rattle.far_core.specs.events.Step.{Fits, is_legal, is_opened, data_len, near_data, after_close, scope_word_of, with_span}
 use Rattle.far_core.proofs.Bounds.{some_of}
+use Rattle.far_core.proofs.KeepOwner.{nonzero}
 use Rattle.far_core.proofs.KeepPlace.{header}
 use Rattle.far_core.proofs.Owing.{is_test}
 use Rattle.far_core.proofs.RoomLaws.{room_right}
 use Rattle.far_core.proofs.Put.{put_both, put_same, put_other}
 use Rattle.far_replay.specs.Moment.{moment_of}
-use Rattle.far_text.specs.Command.{Command, New, Open, Write, Read, Close, Where, Drop, Mutator, Book}
+use Rattle.far_text.specs.Command.{Command, New, Open, Write, Read, Close, Where, Drop, View, Try, Mutator, Book}
 use Rattle.far_replay.specs.EventRows.{after_events, AllSucceed, AtHand}
 use Rattle.far_replay.specs.Between.{Between}
-use Rattle.far_replay.specs.Events.{new_events, zero_puts, open_events, view_events, first_word, words_touched, load_events, starts_inside, ends_inside, part_events, store_events, drop_events, turn_events, events_for}
+use Rattle.far_replay.specs.Events.{new_events, zero_puts, open_events, view_events, first_word, words_touched, load_events, starts_inside, ends_inside, part_events, store_events, drop_events, turn_events, refused_events, events_for}
 use Rattle.far_replay.specs.Objects.{uses, object_len, data_of, with_range, lowest_cell, is_range}
+use Rattle.far_replay.specs.Dereference.{comes_to, has_no_room, sought}
 use Rattle.far_replay.specs.Effects.{near_word}
-use Rattle.far_replay.specs.Effects.{with_row, with_object, with_view, with_data, with_scope, without_object, epoch_for}
-use Rattle.far_replay.specs.Turn.{turn_effect, effect, with_new, access_causes, first_cause, refusal, unless}
+use Rattle.far_replay.specs.Effects.{with_row, with_object, with_view, is_slow, with_data, with_scope, without_object, epoch_for}
+use Rattle.far_replay.specs.Turn.{turn_effect, refused_effect, effect, with_new, access_causes, first_cause, refusal, unless}
 use Rattle.far_text.specs.Written.{WritesBytes}
 use Rattle.far_replay.proofs.Drops.{unheld_is, drop_succeeds, drop_ends, drop_is, drop_law, drop_fits, drop_hands}
 use Rattle.far_replay.proofs.LoadWords.{loads_stay, load_legal, loads_succeed}
@@ -49,7 +51,7 @@ use Rattle.far_replay.proofs.Spliced.{AreBytes, with_range_bytes, length-with_ra
 use Rattle.far_replay.proofs.StoreTurns.{stores_go, stores_end}
 use Rattle.far_replay.proofs.RangeWrites.{object_padded}
 use Rattle.far_replay.proofs.WriteEnds.{row_whole}
-use Rattle.far_replay.proofs.Views.{len_near, Viewed, view_holds, view_is, view_succeeds, view_law, view_between}
+use Rattle.far_replay.proofs.Views.{hand_is_fast, hand_has_room, fast_dereference, len_near, Viewed, view_holds, view_is, view_succeeds, view_law, view_between}
 
 -- ---- what no refusal says
 -- four causes that aren't there
@@ -59,6 +61,49 @@ four true true true false w x y z e = absurd cc
 four true true false d w x y z e = absurd cc
 four true false c d w x y z e = absurd cc
 four false b c d w x y z e = absurd cc
+
+-- three, and a fourth that is said otherwise
+pub tried : (a b c d : Bool) (w x y z : Refusal) → first_cause ((not a, w) ∷ (not b, x) ∷ (not c, y) ∷ (d, z) ∷ []) ≡ None → (a ≡ true) × (b ≡ true) × (c ≡ true) × (d ≡ false)
+tried true true true false w x y z e = (refl, refl, refl, refl)
+tried true true true true w x y z e = absurd cc
+tried true true false d w x y z e = absurd cc
+tried true false c d w x y z e = absurd cc
+tried false b c d w x y z e = absurd cc
+
+-- and what is so where a mark is the cause
+pub marked_last : (a b c d : Bool) (w v : ℕ) → first_cause ((not a, Range) ∷ (not b, Closed) ∷ (not c, NotHeld) ∷ (d, Marked w) ∷ []) ≡ Some (Marked v) → (a ≡ true) × (b ≡ true) × (c ≡ true) × (d ≡ true) × (v ≡ w)
+marked_last true true true true w v e = (refl, refl, refl, refl, cc)
+marked_last true true true false w v e = absurd cc
+marked_last true true false d w v e = absurd cc
+marked_last true false c d w v e = absurd cc
+marked_last false b c d w v e = absurd cc
+
+-- and where want of room is
+pub room_last : (a b c d : Bool) → first_cause ((not a, Range) ∷ (not b, Closed) ∷ (not c, NotHeld) ∷ (d, NoRoom) ∷ []) ≡ Some NoRoom → (a ≡ true) × (b ≡ true) × (c ≡ true) × (d ≡ true)
+room_last true true true true e = (refl, refl, refl, refl)
+room_last true true true false e = absurd cc
+room_last true true false d e = absurd cc
+room_last true false c d e = absurd cc
+room_last false b c d e = absurd cc
+
+-- what none of five says of the first four; and what want of room says
+pub reaches : (a b c d e : Bool) → first_cause ((not a, Range) ∷ (not b, Closed) ∷ (not c, NotHeld) ∷ (not d, Range) ∷ (e, NoRoom) ∷ []) ≡ None →
+    first_cause ((not a, Range) ∷ (not b, Closed) ∷ (not c, NotHeld) ∷ (not d, Range) ∷ []) ≡ None
+reaches true true true true true h = absurd cc
+reaches true true true true false h = refl
+reaches true true true false e h = absurd cc
+reaches true true false d e h = absurd cc
+reaches true false c d e h = absurd cc
+reaches false b c d e h = absurd cc
+
+pub room_lacks : (a b c d e : Bool) → first_cause ((not a, Range) ∷ (not b, Closed) ∷ (not c, NotHeld) ∷ (not d, Range) ∷ (e, NoRoom) ∷ []) ≡ Some NoRoom →
+    (a ≡ true) × (b ≡ true) × (c ≡ true) × (e ≡ true)
+room_lacks true true true true true h = (refl, refl, refl, refl)
+room_lacks true true true true false h = absurd cc
+room_lacks true true true false e h = absurd cc
+room_lacks true true false d e h = absurd cc
+room_lacks true false c d e h = absurd cc
+room_lacks false b c d e h = absurd cc
 
 -- two of them
 pub two : (a b : Bool) (w x : Refusal) → first_cause ((not a, w) ∷ (b, x) ∷ []) ≡ None → (a ≡ true) × (b ≡ false)
@@ -107,7 +152,7 @@ module _ (s : State) (m p from count : ℕ) (law : Law s) (between : Between s) 
 
   -- they succeed
   pub read_succeeds : AllSucceed s read_events
-  read_succeeds = AllSucceed-append s (view_events s m p) (load_events m p (first_word from) (words_touched from count)) (view_succeeds s m p law between access.opened access.ours)
+  read_succeeds = AllSucceed-append s (view_events s m p) (load_events m p (first_word from) (words_touched from count)) (view_succeeds s m p law access.opened access.ours)
       (loads_succeed s (after_events s (view_events s m p)) m p viewing (first_word from) (words_touched from count) touched_inside)
 
   -- they end where the view does
@@ -121,7 +166,7 @@ module _ (s : State) (m p from count : ℕ) (law : Law s) (between : Between s) 
 
   -- and the law
   pub read_law : Law (after_events s read_events)
-  read_law = subst Law (sym read_end) (view_law s m p law between access.opened access.ours)
+  read_law = subst Law (sym read_end) (view_law s m p law access.opened access.ours)
 
   -- the words that they carry are 64 bits wide
   pub view_fits : Each Fits (view_events s m p)
@@ -132,7 +177,7 @@ module _ (s : State) (m p from count : ℕ) (law : Law s) (between : Between s) 
 
   -- they make a view
   pub read_is : after_events s read_events ≡ with_view s p
-  read_is = read_end ∙ view_is s m p law between access.opened access.ours
+  read_is = read_end ∙ view_is s m p law access.opened access.ours
 
   -- ---- writes
   -- a load that is made or not
@@ -207,7 +252,7 @@ module _ (s : State) (m p from : ℕ) (bytes : List ℕ) (law : Law s) (between 
   stores_kept = stores_go m p held.len held.place (packed_word changed) wide
       (λ i lt. packed_padded changed held.len i changed_bytes (changed_long ∙ held.long) lt)
       (words_touched from (length bytes)) (first_word from) view
-      (view_law s m p law between access.opened access.ours) (view_between s m p law between access.opened access.ours) held.holds
+      (view_law s m p law access.opened access.ours) (view_between s m p law between access.opened access.ours) held.holds
       (λ i lt. subst (λ n. first_word from + i < words_for n) held.long (touched_inside s m p from (length bytes) law between access i lt))
 
   -- what is made before the stores
@@ -221,7 +266,7 @@ module _ (s : State) (m p from : ℕ) (bytes : List ℕ) (law : Law s) (between 
   -- the events of a write succeed
   pub write_succeeds : AllSucceed s (looks ++ stores)
   write_succeeds = AllSucceed-append s looks stores
-      (AllSucceed-append s (view_events s m p) (part_events m p from (length bytes)) (view_succeeds s m p law between access.opened access.ours) (parts s m p from (length bytes) law between access).0)
+      (AllSucceed-append s (view_events s m p) (part_events m p from (length bytes)) (view_succeeds s m p law access.opened access.ours) (parts s m p from (length bytes) law between access).0)
       (subst (λ t. AllSucceed t stores) (sym looks_end) stores_kept.0)
 
   -- they end where the stores do
@@ -250,7 +295,7 @@ module _ (s : State) (m p from : ℕ) (bytes : List ℕ) (law : Law s) (between 
   stores_is : after_events view stores ≡ with_data view p from bytes
   stores_is =
       let d : ℕ = near_data (read_of (view.cell p)) in
-      let lawful = view_law s m p law between access.opened access.ours in
+      let lawful = view_law s m p law access.opened access.ours in
       stores_end m p held.len held.place (packed_word changed) wide
       (λ i lt. packed_padded changed held.len i changed_bytes (changed_long ∙ held.long) lt)
       (words_touched from (length bytes)) (first_word from) view lawful held.holds
@@ -261,11 +306,11 @@ module _ (s : State) (m p from : ℕ) (bytes : List ℕ) (law : Law s) (between 
 
   -- so a write makes its object's bytes new, after a view
   pub write_is : after_events s (looks ++ stores) ≡ with_data (with_view s p) p from bytes
-  write_is = write_end ∙ stores_is ∙ ap (λ (t : State). with_data t p from bytes) (view_is s m p law between access.opened access.ours)
+  write_is = write_end ∙ stores_is ∙ ap (λ (t : State). with_data t p from bytes) (view_is s m p law access.opened access.ours)
 
   -- and the law
   pub write_law : Law (after_events s (looks ++ stores))
-  write_law = subst Law (sym write_end) (made_law view stores (view_law s m p law between access.opened access.ours)
+  write_law = subst Law (sym write_end) (made_law view stores (view_law s m p law access.opened access.ours)
       (Each-row Fits (λ i. Stores m p i (packed_word changed i)) (first_word from) (words_touched from (length bytes)) (λ i lt. wide (first_word from + i))))
 
 -- ---- a new object
@@ -486,6 +531,20 @@ drop_turned s m p law between h =
 none_turned : (s : State) → Law s → Between s → Turned s [] s
 none_turned s law between = record { succeed = tt; between = between; law = law; fit = tt; ends = refl }
 
+-- the pin of an object that may be viewed or not
+view_turned : (s : State) (m p : ℕ) → Law s → Between s → is_opened s m ≡ true → uses s m p ≡ true → Turned s (view_events s m p) (with_view s p)
+view_turned s m p law between opened ours = record {
+  succeed = view_succeeds s m p law opened ours;
+  between = view_between s m p law between opened ours;
+  law = view_law s m p law opened ours;
+  fit = cond_both (is_some (s.held p)) [] (Pins m p ∷ []) (Each Fits) (λ _. tt) (λ _. (tt, tt));
+  ends = view_is s m p law opened ours;
+}
+
+-- a dereference is a pin, where all objects are at hand
+pub fast_between : (s : State) (m p : ℕ) → Law s → Between s → uses s m p ≡ true → is_slow s p ≡ false
+fast_between s m p law between ours = hand_is_fast s p (between.at_hand p (nonzero s law p (and_parts (nat_eq (p / CELLS) m) (s.used p) ours).1))
+
 -- a command that isn't refused
 command_turned : (s : State) (c : Command) → Law s → Between s → WritesBytes c → refusal (moment_of s) c ≡ None →
     Turned s (turn_events (moment_of s) c) (turn_effect (moment_of s) c).core
@@ -494,22 +553,22 @@ command_turned s (Mutator m Open) law between small e =
     let h = two (nat_lt m s.mutators) (is_opened s m) Range AlreadyOpen e in
     open_turned s m law between (scope_is_shut s m h.0 h.1)
 command_turned s (Mutator m (Write p from bytes)) law between small e =
-    let access = access_fact s m p from (length bytes) law between e in
+    let access = access_fact s m p from (length bytes) law between (reaches (nat_lt m s.mutators) (is_opened s m) (uses s m p) (is_range (object_len s p) from (length bytes)) (has_no_room s m p) e) in
     record {
       succeed = write_succeeds s m p from bytes law between access small;
       between = write_between s m p from bytes law between access small;
       law = write_law s m p from bytes law between access small;
       fit = write_fits s m p from bytes law between access small;
-      ends = write_is s m p from bytes law between access small;
+      ends = write_is s m p from bytes law between access small ∙ ap (λ (t : State). with_data t p from bytes) (sym (fast_dereference s m p (fast_between s m p law between access.ours)));
     }
 command_turned s (Mutator m (Read p from len)) law between small e =
-    let access = access_fact s m p from len law between e in
+    let access = access_fact s m p from len law between (reaches (nat_lt m s.mutators) (is_opened s m) (uses s m p) (is_range (object_len s p) from len) (has_no_room s m p) e) in
     record {
       succeed = read_succeeds s m p from len law between access;
       between = read_between s m p from len law between access;
       law = read_law s m p from len law between access;
       fit = read_fits s m p from len law between access;
-      ends = read_is s m p from len law between access;
+      ends = read_is s m p from len law between access ∙ sym (fast_dereference s m p (fast_between s m p law between access.ours));
     }
 command_turned s (Mutator m Close) law between small e = close_turned s m law between (two_open (nat_lt m s.mutators) (is_opened s m) e) where
   two_open : (a b : Bool) → first_cause ((not a, Range) ∷ (not b, Closed) ∷ []) ≡ None → b ≡ true
@@ -518,13 +577,43 @@ command_turned s (Mutator m Close) law between small e = close_turned s m law be
   two_open false b f = absurd cc
 command_turned s (Mutator m (Where p)) law between small e = none_turned s law between
 command_turned s (Mutator m (Drop p)) law between small e = drop_turned s m p law between (three (nat_lt m s.mutators) (uses s m p) (is_some (s.held p)) Range NotHeld Held e)
+command_turned s (Mutator m (View p)) law between small e =
+    let h = tried (nat_lt m s.mutators) (is_opened s m) (uses s m p) (has_no_room s m p) Range Closed NotHeld NoRoom e in
+    let used = and_parts (nat_eq (p / CELLS) m) (s.used p) h.2 in
+    subst (Turned s (view_events s m p)) (sym (fast_dereference s m p (hand_is_fast s p (between.at_hand p (nonzero s law p used.1))))) (view_turned s m p law between h.1 h.2)
+command_turned s (Mutator m (Try p)) law between small e =
+    let h = tried (nat_lt m s.mutators) (is_opened s m) (uses s m p) (is_slow s p) Range Closed NotHeld (Marked (s.cell p)) e in
+    view_turned s m p law between h.1 h.2
 command_turned s (Book inquiry) law between small e = none_turned s law between
 
--- each command: a refused one does nothing
+-- a view of an object at hand finds room
+view_has_room : (s : State) (m p : ℕ) → Law s → Between s → refusal (moment_of s) (Mutator m (View p)) ≡ Some NoRoom → ⊥
+view_has_room s m p law between e =
+    let h = room_last (nat_lt m s.mutators) (is_opened s m) (uses s m p) (has_no_room s m p) e in
+    let used = and_parts (nat_eq (p / CELLS) m) (s.used p) h.2 in
+    true≢false (sym h.3 ∙ hand_has_room s m p (between.at_hand p (nonzero s law p used.1)))
+
+no_want : (s : State) (m p from count : ℕ) → Law s → Between s → first_cause (access_causes (moment_of s) m p from count ++ (has_no_room s m p, NoRoom) ∷ []) ≡ Some NoRoom → ⊥
+no_want s m p from count law between e =
+    let h = room_lacks (nat_lt m s.mutators) (is_opened s m) (uses s m p) (is_range (object_len s p) from count) (has_no_room s m p) e in
+    true≢false (sym h.3 ∙ ap (λ b. b && not (is_some (comes_to (sought s m p) p))) (fast_between s m p law between h.2))
+
+-- a refused one: where a mark was found, the pin; else nothing
+refused_turned : (s : State) (c : Command) (why : Refusal) → Law s → Between s → refusal (moment_of s) c ≡ Some why →
+    Turned s (refused_events (moment_of s) c why) (refused_effect (moment_of s) c why).core
+refused_turned s (Mutator m (Write p from bytes)) NoRoom law between e = absurd (no_want s m p from (length bytes) law between e)
+refused_turned s (Mutator m (Read p from len)) NoRoom law between e = absurd (no_want s m p from len law between e)
+refused_turned s (Mutator m (View p)) NoRoom law between e = absurd (view_has_room s m p law between e)
+refused_turned s (Mutator m (Try p)) (Marked word) law between e =
+    let h = marked_last (nat_lt m s.mutators) (is_opened s m) (uses s m p) (is_slow s p) (s.cell p) word e in
+    view_turned s m p law between h.1 h.2
+refused_turned s c why law between e = none_turned s law between
+
+-- each command
 turn_at : (s : State) (c : Command) (o : Option Refusal) → refusal (moment_of s) c ≡ o → Law s → Between s → WritesBytes c →
-    Turned s (unless o (λ _. []) (turn_events (moment_of s) c)) (unless o (λ _. moment_of s) (turn_effect (moment_of s) c)).core
+    Turned s (unless o (refused_events (moment_of s) c) (turn_events (moment_of s) c)) (unless o (refused_effect (moment_of s) c) (turn_effect (moment_of s) c)).core
 turn_at s c None e law between small = command_turned s c law between small e
-turn_at s c (Some why) e law between small = none_turned s law between
+turn_at s c (Some why) e law between small = refused_turned s c why law between e
 
 -- the events of a command lead to the moment after it
 pub turns : (s : State) (c : Command) → Law s → Between s → WritesBytes c → Turned s (events_for (moment_of s) c) (effect (moment_of s) c).core
@@ -533,4 +622,4 @@ turns s c law between small = turn_at s c (refusal (moment_of s) c) refl law bet
 -- what a command that isn't refused makes of the heap is what its events make
 pub made_by_events : (s t : State) (c : Command) → Law s → Between s → WritesBytes c → refusal (moment_of s) c ≡ None → t ≡ (turn_effect (moment_of s) c).core → t ≡ after_events s (events_for (moment_of s) c)
 made_by_events s t c law between small none is =
-    is ∙ sym (command_turned s c law between small none).ends ∙ ap (λ o. after_events s (unless o (λ _. []) (turn_events (moment_of s) c))) (sym none)
+    is ∙ sym (command_turned s c law between small none).ends ∙ ap (λ o. after_events s (unless o (refused_events (moment_of s) c) (turn_events (moment_of s) c))) (sym none)

@@ -1,8 +1,9 @@
 -- What commands do to views: a read or a write views its object, a close ends its mutator's views, all else leaves them; and the logs of views stay.
-use Rattle.std.proofs.Common.{◌≢◌, ◌≡◌, ℕ, ◌+◌, ◌/◌, true, cond, is_some, refl, sym, ap, subst, ◌∙◌, Option, Some, None, List, [], ◌∷◌, ◌++◌, length, if◌then◌else◌}
+use Rattle.std.proofs.Common.{◌≢◌, ◌≡◌, ℕ, ◌+◌, ◌/◌, true, nat_lt, cond, is_some, refl, sym, ap, subst, ◌∙◌, Option, Some, None, List, [], ◌∷◌, ◌++◌, length, if◌then◌else◌}
 use Rattle.std.proofs.lemmas.Bool.{cond_both, eq-eqb, ne_eqb}
 use Rattle.far_word.specs.declared.pointer.Place.{Place}
 use Rattle.far_word.specs.declared.refused.Refused.{Refused as Refusal}
+use Rattle.far_word.specs.declared.refused.Refused.TheVariants.{Marked}
 use Rattle.far_word.specs.declared.sizes.TheConstants.{CELLS}
 use mathlib.Core.Path.{fun_ext}
 use Rattle.far_word.specs.Bytes.{packed_word}
@@ -13,24 +14,26 @@ use Rattle.far_core.specs.declared.event.Event.{Event}
 use Rattle.far_core.specs.declared.event.Event.TheVariants.{ReadEpoch as ReadsEpoch, Open as Opens, Pin as Pins, Load as Loads, Store as Stores, Close as Closes, Adopt as Adopts, Put as Puts, Name as Names}
 use Rattle.far_core.specs.declared.event.Reply.{Reply as Answer}
 use Rattle.far_core.specs.declared.event.Reply.TheVariants.{Refused as Failed}
+use Rattle.far_core.specs.state.Law.{Law}
 use Rattle.far_core.specs.state.Room.{room}
 use Rattle.far_core.specs.state.State.{State, put}
-use Rattle.far_core.specs.events.Step.{step_of, is_legal, after, answer, with_hold, place_to_view, pin_answer, Fits}
+use Rattle.far_core.specs.events.Step.{is_opened, step_of, is_legal, after, answer, with_hold, place_to_view, pin_answer, Fits}
 use Rattle.far_core.proofs.Leaving.{held_stays}
 use Rattle.far_core.proofs.Put.{put_same, put_other}
 use Rattle.far_replay.specs.Moment.{Moment, moment_of}
 use Rattle.far_replay.specs.Answers.{Answered, Commanded, IsMoment}
-use Rattle.far_text.specs.Command.{Command, New, Open, Write, Read, Close, Where, Drop, Mutator, Book}
+use Rattle.far_text.specs.Command.{Command, New, Open, Write, Read, Close, Where, Drop, View, Try, Mutator, Book}
 use Rattle.far_text.specs.Written.{WritesBytes, AllWriteBytes}
 use Rattle.far_replay.specs.Headline.{LogsStay, StayThrough, ViewsObject, ViewsNothing, ViewsAfter}
 use Rattle.far_replay.specs.EventRows.{after_events, Succeeds, ComesToPass}
 use Rattle.far_replay.specs.Reply.{Reply, Refused}
-use Rattle.far_replay.specs.Events.{turn_events, zero_puts, new_events, open_events, view_events, load_events, store_events, first_loads, last_loads, part_events, drop_events, first_word, words_touched, starts_inside, ends_inside}
-use Rattle.far_replay.specs.Objects.{lowest_cell, with_range, data_of}
-use Rattle.far_replay.specs.Effects.{near_word}
+use Rattle.far_replay.specs.Events.{turn_events, refused_events, zero_puts, new_events, open_events, view_events, load_events, store_events, first_loads, last_loads, part_events, drop_events, first_word, words_touched, starts_inside, ends_inside}
+use Rattle.far_replay.specs.Objects.{lowest_cell, with_range, data_of, uses}
+use Rattle.far_replay.specs.Effects.{near_word, is_slow}
 use Rattle.far_replay.specs.Turn.{refusal, unless, turn_reply, reply_to}
 use Rattle.far_replay.proofs.Lasting.{Lasts, command_carried, moment_lasts, still_lasts}
-use Rattle.far_replay.proofs.Turns.{turns}
+use Rattle.far_replay.proofs.Turns.{turns, marked_last}
+use Rattle.far_replay.proofs.Views.{view_is, slow_view}
 use Rattle.far_replay.proofs.ViewsRest.{NoClose, ClosesLast, none_closes, fronts_stay, held_now}
 use Rattle.far_text.proofs.Each.{Each, Each-append, Each-row}
 use Rattle.far_replay.proofs.MadeLemmas.{made-append, Carries, Carries-front}
@@ -125,36 +128,54 @@ close_views s m = cond_both (is_legal s (Closes m)) (after s (Closes m), answer 
     (λ _ ok. absurd ok)
 
 -- ---- each command
--- what a refusal leaves, and what its events leave where there is none
-pub views_after : (s : State) (c : Command) (o : Option Refusal) → Carries s (unless o (λ _. []) (turn_events (moment_of s) c)) →
-    ViewsAfter (moment_of s) c (unless o Refused (turn_reply (moment_of s) c)) (moment_of (after_events s (unless o (λ _. []) (turn_events (moment_of s) c))))
-views_after s c (Some why) ok = refused_views s c why where
-  refused_views : (s : State) (c : Command) (why : Refusal) → ViewsAfter (moment_of s) c (Refused why) (moment_of s)
-  refused_views s (Mutator m (New len ds)) why = refl
-  refused_views s (Mutator m Open) why = refl
-  refused_views s (Mutator m (Write p from bytes)) why = refl
-  refused_views s (Mutator m (Read p from len)) why = refl
-  refused_views s (Mutator m Close) why = refl
-  refused_views s (Mutator m (Where p)) why = refl
-  refused_views s (Mutator m (Drop p)) why = refl
-  refused_views s (Book inquiry) why = refl
-views_after s (Mutator m (New len ds)) None ok = row_stays s (turn_events (moment_of s) (Mutator m (New len ds))) (news m len ds (lowest_cell s m) (room s (size_of len) true))
-views_after s (Mutator m Open) None ok = row_stays s (open_events s m) (opens s m)
-views_after s (Mutator m (Write p from bytes)) None ok =
+-- what the events of a command leave that isn't refused
+pub made_views : (s : State) (c : Command) → Carries s (turn_events (moment_of s) c) →
+    ViewsAfter (moment_of s) c (turn_reply (moment_of s) c) (moment_of (after_events s (turn_events (moment_of s) c)))
+made_views s (Mutator m (New len ds)) ok = row_stays s (turn_events (moment_of s) (Mutator m (New len ds))) (news m len ds (lowest_cell s m) (room s (size_of len) true))
+made_views s (Mutator m Open) ok = row_stays s (open_events s m) (opens s m)
+made_views s (Mutator m (Write p from bytes)) ok =
     let new : List ℕ = with_range (data_of s p) from bytes in
     viewed_twice_after s m p (part_events m p from (length bytes)) (store_events m p (first_word from) (words_touched from (length bytes)) new) ok
     (parts m p from (length bytes)) (stores m p (first_word from) (words_touched from (length bytes)) new)
-views_after s (Mutator m (Read p from len)) None ok = viewed_after s m p (load_events m p (first_word from) (words_touched from len)) ok (loads m p (first_word from) (words_touched from len))
-views_after s (Mutator m Close) None ok = close_views s m ok.succeed.0
-views_after s (Mutator m (Where p)) None ok = refl
-views_after s (Mutator m (Drop p)) None ok = row_stays s (drop_events s m p) (drop_leaves_views s m p)
-views_after s (Book inquiry) None ok = refl
+made_views s (Mutator m (Read p from len)) ok = viewed_after s m p (load_events m p (first_word from) (words_touched from len)) ok (loads m p (first_word from) (words_touched from len))
+made_views s (Mutator m Close) ok = close_views s m ok.succeed.0
+made_views s (Mutator m (Where p)) ok = refl
+made_views s (Mutator m (Drop p)) ok = row_stays s (drop_events s m p) (drop_leaves_views s m p)
+made_views s (Mutator m (View p)) ok = view_made s m p (s.held p) refl ok
+made_views s (Mutator m (Try p)) ok = view_made s m p (s.held p) refl ok
+made_views s (Book inquiry) ok = refl
+
+-- the pin that found a mark leaves the views
+slow_stays : (s : State) (m p : ℕ) → Law s → is_opened s m ≡ true → uses s m p ≡ true → is_slow s p ≡ true → (after_events s (view_events s m p)).held ≡ s.held
+slow_stays s m p law opened ours slow = ap (λ (t : State). t.held) (view_is s m p law opened ours ∙ slow_view s p slow)
+
+-- what a refusal leaves
+refused_views : (s : State) (c : Command) (why : Refusal) → Law s → refusal (moment_of s) c ≡ Some why →
+    ViewsAfter (moment_of s) c (Refused why) (moment_of (after_events s (refused_events (moment_of s) c why)))
+refused_views s (Mutator m (New len ds)) why law e = refl
+refused_views s (Mutator m Open) why law e = refl
+refused_views s (Mutator m (Write p from bytes)) why law e = refl
+refused_views s (Mutator m (Read p from len)) why law e = refl
+refused_views s (Mutator m Close) why law e = refl
+refused_views s (Mutator m (Where p)) why law e = refl
+refused_views s (Mutator m (Drop p)) why law e = refl
+refused_views s (Mutator m (View p)) why law e = refl
+refused_views s (Mutator m (Try p)) (Marked word) law e =
+    let h = marked_last (nat_lt m s.mutators) (is_opened s m) (uses s m p) (is_slow s p) (s.cell p) word e in
+    slow_stays s m p law h.1 h.2 h.3
+refused_views s (Mutator m (Try p)) why law e = refl
+refused_views s (Book inquiry) why law e = refl
+
+views_after : (s : State) (c : Command) (o : Option Refusal) → Law s → refusal (moment_of s) c ≡ o → Carries s (unless o (refused_events (moment_of s) c) (turn_events (moment_of s) c)) →
+    ViewsAfter (moment_of s) c (unless o Refused (turn_reply (moment_of s) c)) (moment_of (after_events s (unless o (refused_events (moment_of s) c) (turn_events (moment_of s) c))))
+views_after s c None law e ok = made_views s c ok
+views_after s c (Some why) law e ok = refused_views s c why law e
 
 pub views_last : (now : Moment) (c : Command) (r : Reply) (next : Moment) → IsMoment now → WritesBytes c → Commanded now c r next → ViewsAfter now c r next
 views_last now c r next is later h =
     let x = command_carried now c r next (moment_lasts now is) later h in
     subst (λ y. ViewsAfter now c y next) (sym x.reply)
-    (subst (λ (t : State). ViewsAfter now c (reply_to now c) (moment_of t)) (sym x.state) (views_after now.core c (refusal now c) x.made))
+    (subst (λ (t : State). ViewsAfter now c (reply_to now c) (moment_of t)) (sym x.state) (views_after now.core c (refusal now c) (moment_lasts now is).law refl x.made))
 
 -- ---- the logs in which views rest stay
 -- a close is the last event of its command
@@ -164,6 +185,9 @@ no_close (e ∷ es) q = (q.0.1, no_close es q.1)
 
 view_no_close : (s : State) (m p : ℕ) (es : List Event) → Each NoClose es → Each NoClose (view_events s m p ++ es)
 view_no_close s m p es q = cond_both (is_some (s.held p)) [] (Pins m p ∷ []) (λ (x : List Event). Each NoClose (x ++ es)) (λ _. q) (λ _. ((λ _ e. absurd cc), q))
+
+view_closes_last : (s : State) (m p : ℕ) → ClosesLast (view_events s m p)
+view_closes_last s m p = none_closes (view_events s m p) (cond_both (is_some (s.held p)) [] (Pins m p ∷ []) (Each NoClose) (λ _. tt) (λ _. ((λ _ e. absurd cc), tt)))
 
 closes_last : (s : State) (c : Command) → ClosesLast (turn_events (moment_of s) c)
 closes_last s (Mutator m (New len ds)) = none_closes (turn_events (moment_of s) (Mutator m (New len ds))) (no_close (turn_events (moment_of s) (Mutator m (New len ds))) (news m len ds (lowest_cell s m) (room s (size_of len) true)))
@@ -180,11 +204,17 @@ closes_last s (Mutator m (Read p from len)) =
 closes_last s (Mutator m Close) = tt
 closes_last s (Mutator m (Where p)) = tt
 closes_last s (Mutator m (Drop p)) = none_closes (drop_events s m p) (no_close (drop_events s m p) (drop_leaves_views s m p))
+closes_last s (Mutator m (View p)) = view_closes_last s m p
+closes_last s (Mutator m (Try p)) = view_closes_last s m p
 closes_last s (Book inquiry) = tt
 
-command_closes_last : (s : State) (c : Command) (o : Option Refusal) → ClosesLast (unless o (λ _. []) (turn_events (moment_of s) c))
+refused_closes_last : (s : State) (c : Command) (why : Refusal) → ClosesLast (refused_events (moment_of s) c why)
+refused_closes_last s (Mutator m (Try p)) (Marked word) = view_closes_last s m p
+refused_closes_last s c why = tt
+
+command_closes_last : (s : State) (c : Command) (o : Option Refusal) → ClosesLast (unless o (refused_events (moment_of s) c) (turn_events (moment_of s) c))
 command_closes_last s c None = closes_last s c
-command_closes_last s c (Some why) = tt
+command_closes_last s c (Some why) = refused_closes_last s c why
 
 stay_through : (now : Moment) (c : Command) → Lasts now → WritesBytes c → StayThrough now c
 stay_through now c lasts later es mid rest front p place =

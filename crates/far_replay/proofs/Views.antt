@@ -1,5 +1,6 @@
 -- What a view of an object changes, and what it leaves.
-use Rattle.std.proofs.Common.{◌≡◌, ◌≢◌, ℕ, ◌/◌, ◌^◌, true, false, refl, sym, ap, subst, ◌∙◌, arith, [], ◌∷◌, Option, Some, None, bit_or, if◌then◌else◌, is_some}
+use Rattle.std.proofs.Common.{◌≡◌, ◌≢◌, ℕ, ◌+◌, ◌/◌, ◌^◌, true, false, refl, sym, ap, subst, ◌∙◌, arith, [], ◌∷◌, Option, Some, None, bit_or, if◌then◌else◌, is_some, not, ◌||◌, ◌&&◌, Bool}
+use Rattle.std.proofs.lemmas.Bool.{cond_both, false≢true}
 use Rattle.std.proofs.lemmas.Bool.Decides.{nat_tests}
 use Rattle.far_word.specs.declared.mark.Mark.TheVariants.{Hot}
 use Rattle.far_word.specs.declared.mark.Marks.{Marks}
@@ -21,11 +22,13 @@ use Rattle.far_core.proofs.events.Pin.{keeps_pin}
 use Rattle.far_core.proofs.Guards.{open_fact}
 use Rattle.far_core.proofs.Owing.{is_test, never_refused}
 use Rattle.far_core.proofs.Put.{put_both, put_same}
-use Rattle.far_replay.specs.Effects.{with_view}
+use Rattle.far_replay.specs.Effects.{with_view, is_slow}
+use Rattle.far_replay.specs.Dereference.{come, comes_to, dereferenced, has_no_room, sought}
 use Rattle.far_replay.specs.EventRows.{after_events, AllSucceed, AtHand, AllAtHand}
 use Rattle.far_replay.specs.Between.{Between}
 use Rattle.far_replay.specs.Events.{view_events}
-use Rattle.far_replay.specs.Objects.{uses, object_len, named_len}
+use Rattle.far_word.specs.Bytes.{bytes_of}
+use Rattle.far_replay.specs.Objects.{data_of, uses, object_len, named_len}
 use Rattle.far_replay.proofs.MadeLemmas.{made_first, first_succeeds, not_refused}
 
 -- ---- what HOT leaves as it is
@@ -84,7 +87,58 @@ pub record Viewed (s t : State) (m p : ℕ) : Type 0 where
   pub same_len : data_len t p ≡ data_len s p
   pub long : data_len s p ≡ len
 
-module _ (s : State) (m p : ℕ) (law : Law s) (between : Between s) (opened : is_opened s m ≡ true) (ours : uses s m p ≡ true) where
+-- ---- a pin that gives no view
+neither : (a b : Bool) → not (a || b) ≡ true → (a ≡ false) × (b ≡ false)
+neither true b e = absurd cc
+neither false true e = absurd cc
+neither false false e = (refl, refl)
+
+-- nothing is held that wasn't
+no_hold : (held : ℕ → Option Place) (p : ℕ) (o : Option Place) → is_some o ≡ false → with_hold held p o ≡ held
+no_hold held p None e = refl
+no_hold held p (Some place) e = absurd (false≢true (sym e))
+
+pub slow_parts : (s : State) (p : ℕ) → is_slow s p ≡ true → (is_some (s.held p) ≡ false) × (is_some (place_to_view (read_of (s.cell p))) ≡ false)
+slow_parts s p = neither (is_some (s.held p)) (is_some (place_to_view (read_of (s.cell p))))
+
+-- it is made then, and the views stay
+pub slow_view : (s : State) (p : ℕ) → is_slow s p ≡ true → with_view s p ≡ record s { cell = (after_pin s p).cell }
+slow_view s p slow =
+    let parts = slow_parts s p slow in
+    ap (λ b. if b then s else after_pin s p) parts.0 ∙ ap (λ (held : ℕ → Option Place). record s { cell = (after_pin s p).cell; held = held }) (no_hold s.held p (place_to_view (read_of (s.cell p))) parts.1)
+
+-- an object at hand is viewed at once
+fast : (b : Bool) → not (b || true) ≡ false
+fast true = refl
+fast false = refl
+
+pub hand_is_fast : (s : State) (p : ℕ) → AtHand s p → is_slow s p ≡ false
+hand_is_fast s p h = ap (λ o. not (is_some (s.held p) || is_some o)) (Ready-view (read_of (s.cell p)) (ready_of s p h)) ∙ fast (is_some (s.held p))
+
+-- so that it is dereferenced by a pin, and needs no room
+pub hand_has_room : (s : State) (m p : ℕ) → AtHand s p → has_no_room s m p ≡ false
+hand_has_room s m p h = ap (λ b. b && not (is_some (comes_to (sought s m p) p))) (hand_is_fast s p h)
+
+pub fast_dereference : (s : State) (m p : ℕ) → is_slow s p ≡ false → dereferenced s m p ≡ with_view s p
+fast_dereference s m p fast = ap (λ b. if b then with_view (come (sought s m p) p) p else with_view s p) fast
+
+-- the bytes of an object are the same after a pin
+pub data_dereferenced : (s : State) (m p : ℕ) → Law s → s.used p ≡ true → is_slow s p ≡ false → data_of (dereferenced s m p) p ≡ data_of s p
+data_dereferenced s m p law used fast = ap (λ (t : State). data_of t p) (fast_dereference s m p fast)
+    ∙ cond_both (is_some (s.held p)) s (after_pin s p) (λ (t : State). data_of t p ≡ data_of s p) (λ _. refl) (λ _. pinned) where
+      hot : read_of ((after_pin s p).cell p) ≡ map_mark Hot (read_of (s.cell p))
+      hot = ap read_of (put_same s.cell p (bit_or (s.cell p) (2 ^ position Hot)) p refl) ∙ hot_read s law p used
+
+      starts : near_data (read_of ((after_pin s p).cell p)) ≡ near_data (read_of (s.cell p))
+      starts = ap near_data hot ∙ near_data-hot (read_of (s.cell p))
+
+      long : data_len (after_pin s p) p ≡ data_len s p
+      long = ap near_len hot ∙ near_len-hot (read_of (s.cell p))
+
+      pinned : data_of (after_pin s p) p ≡ data_of s p
+      pinned i = bytes_of (λ k. s.word (starts i + k)) (long i)
+
+module _ (s : State) (m p : ℕ) (law : Law s) (opened : is_opened s m ≡ true) (ours : uses s m p ≡ true) where
   -- the pointer is the owner's
   own : p / CELLS ≡ m
   own = grind (arith, nat_tests)
@@ -92,14 +146,6 @@ module _ (s : State) (m p : ℕ) (law : Law s) (between : Between s) (opened : i
   -- and it is used
   used : s.used p ≡ true
   used = grind (arith, nat_tests)
-
-  -- the object may be dereferenced at once
-  pub ready : Ready (read_of (s.cell p))
-  ready = ready_of s p (between.at_hand p (nonzero s law p used))
-
-  -- a new view may rest
-  can_view : place_to_view (read_of (s.cell p)) ≡ Some ready.place
-  can_view = Ready-view (read_of (s.cell p)) ready
 
   -- so a pin is legal, unless the object is held
   pin_legal : s.held p ≡ None → is_legal s (Pin m p) ≡ true
@@ -137,8 +183,23 @@ module _ (s : State) (m p : ℕ) (law : Law s) (between : Between s) (opened : i
   view_law = at_view Law (λ _ _. law) (keeps_pin s p law used (subst (λ k. s.scope k ≢ 0) (sym own) (open_fact s m opened).1))
 
   -- the cell after a pin
-  pin_read : read_of ((after_pin s p).cell p) ≡ map_mark Hot (read_of (s.cell p))
+  pub pin_read : read_of ((after_pin s p).cell p) ≡ map_mark Hot (read_of (s.cell p))
   pin_read = ap read_of (put_same s.cell p (bit_or (s.cell p) (2 ^ position Hot)) p refl) ∙ hot_read s law p used
+
+-- no pin of an object that is used is in vain between commands
+pub not_slow : (s : State) (p q : ℕ) → Law s → Between s → p ≡ q → s.used q ≡ true → is_slow s p ≡ true → ⊥
+not_slow s p q law between same used slow =
+    let here : s.used p ≡ true = ap s.used same ∙ used in
+    false≢true (sym (hand_is_fast s p (between.at_hand p (nonzero s law p here))) ∙ slow)
+
+module _ (s : State) (m p : ℕ) (law : Law s) (between : Between s) (opened : is_opened s m ≡ true) (ours : uses s m p ≡ true) where
+  -- the object may be dereferenced at once
+  pub ready : Ready (read_of (s.cell p))
+  ready = ready_of s p (between.at_hand p (nonzero s law p (used s m p law opened ours)))
+
+  -- a new view may rest
+  can_view : place_to_view (read_of (s.cell p)) ≡ Some ready.place
+  can_view = Ready-view (read_of (s.cell p)) ready
 
   -- the place that is held after a pin
   pin_held : (after_pin s p).held p ≡ Some ready.place
@@ -149,10 +210,10 @@ module _ (s : State) (m p : ℕ) (law : Law s) (between : Between s) (opened : i
   pin_viewed = record {
     len = ready.len;
     place = ready.place;
-    holds = record { own = own; rests = pin_held; near = (ready.ds, marks_with Hot ready.marks, pin_read ∙ ap (map_mark Hot) ready.near) };
+    holds = record { own = own s m p law opened ours; rests = pin_held; near = (ready.ds, marks_with Hot ready.marks, (pin_read s m p law opened ours) ∙ ap (map_mark Hot) ready.near) };
     words = refl;
-    same_data = ap near_data pin_read ∙ near_data-hot (read_of (s.cell p));
-    same_len = ap near_len pin_read ∙ near_len-hot (read_of (s.cell p));
+    same_data = ap near_data (pin_read s m p law opened ours) ∙ near_data-hot (read_of (s.cell p));
+    same_len = ap near_len (pin_read s m p law opened ours) ∙ near_len-hot (read_of (s.cell p));
     long = ap near_len ready.near;
   }
 
@@ -163,7 +224,7 @@ module _ (s : State) (m p : ℕ) (law : Law s) (between : Between s) (opened : i
       record {
         len = h.len;
         place = place;
-        holds = record { own = own; rests = e; near = (h.ds, h.marks, h.near) };
+        holds = record { own = own s m p law opened ours; rests = e; near = (h.ds, h.marks, h.near) };
         words = refl;
         same_data = refl;
         same_len = refl;
@@ -172,19 +233,19 @@ module _ (s : State) (m p : ℕ) (law : Law s) (between : Between s) (opened : i
 
   -- after the view the object is held, and the words, its place and its length are as before
   pub view_holds : Viewed s (after_events s (view_events s m p)) m p
-  view_holds = at_view (λ t. Viewed s t m p) old_viewed pin_viewed
+  view_holds = at_view s m p law opened ours (λ t. Viewed s t m p) old_viewed pin_viewed
 
   -- a pin leaves at hand what was
   pin_hand : (q : ℕ) → (after_pin s p).cell q ≢ 0 → AtHand (after_pin s p) q
   pin_hand q some = put_both (λ w. w ≢ 0 → AtHand (after_pin s p) q) s.cell p (bit_or (s.cell p) (2 ^ position Hot)) q
       (λ e _. hand q (nonzero_at q e)) (λ _ ne. hand q ne) some where
         nonzero_at : (r : ℕ) → r ≡ p → s.cell r ≢ 0
-        nonzero_at r e z = nonzero s law p used (ap s.cell (sym e) ∙ z)
+        nonzero_at r e z = nonzero s law p (used s m p law opened ours) (ap s.cell (sym e) ∙ z)
 
         hand : (r : ℕ) → s.cell r ≢ 0 → AtHand (after_pin s p) r
         hand r ne =
             let h = between.at_hand r ne in
-            hand_of (after_pin s p) r (at_cell s law p used Ready r (Ready-hot (read_of (s.cell r))) (ready_of s r h)) h.used
+            hand_of (after_pin s p) r (at_cell s law p (used s m p law opened ours) Ready r (Ready-hot (read_of (s.cell r))) (ready_of s r h)) h.used
 
   -- a pin leaves what holds between commands
   pin_between : Between (after_pin s p)
@@ -192,4 +253,4 @@ module _ (s : State) (m p : ℕ) (law : Law s) (between : Between s) (opened : i
 
   -- so does the view
   pub view_between : Between (after_events s (view_events s m p))
-  view_between = at_view Between (λ _ _. between) pin_between
+  view_between = at_view s m p law opened ours Between (λ _ _. between) pin_between

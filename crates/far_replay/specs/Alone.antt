@@ -1,14 +1,14 @@
 -- The replies to one mutator's lines, by its own lines alone.
 use Rattle.std.specs.Prelude.{◌≡◌, ℕ, ◌+◌, ◌/◌, ◌<◌, ◌≤◌, ◌⊎◌, Bool, true, false, cond, ◌==◌, ◌&&◌, Option, Some, None, List, [], ◌∷◌, length, replicate, slice_range}
 use Rattle.std.specs.Bool.{MatchBool}
-use Rattle.far_word.specs.declared.refused.Refused.TheVariants.{NoRoom, NoPointer, Length, Closed, AlreadyOpen, NotHeld, Range, Held}
+use Rattle.far_word.specs.declared.refused.Refused.TheVariants.{NoRoom, NoPointer, Length, Closed, AlreadyOpen, NotHeld, Range, Held, Marked}
 use Rattle.far_word.specs.declared.sizes.TheConstants.{CELLS, LONGEST}
 use Rattle.far_core.specs.state.State.{State, put}
 use Rattle.far_core.specs.world.World.{World, Object}
 use Rattle.far_core.specs.world.WorldOf.{world_of}
 use Rattle.far_book.specs.declared.home.Home.{Home}
 use Rattle.far_book.specs.declared.home.Home.TheVariants.{Near, Far}
-use Rattle.far_text.specs.Command.{Command, New, Open, Write, Read, Close, Where, Drop, Mutator, Book}
+use Rattle.far_text.specs.Command.{Command, New, Open, Write, Read, Close, Where, Drop, View, Try, Mutator, Book}
 use Rattle.far_replay.specs.Reply.{Reply, Done, Pointer, Data, Lies, Refused}
 use Rattle.far_replay.specs.Objects.{with_range}
 
@@ -39,7 +39,7 @@ abbrev pub HasLeft : ℕ → Own → Type 0
 HasLeft m o = (p : ℕ) × (p / CELLS ≡ m) × (o.object p ≡ None)
 
 -- a command of the mutator m with its reply takes what it knows from o to q. A refusal is the first of its row that applies; which of its own
--- numbers a new object gets, whether 2 or 3 comes where nothing earlier applies, and where an object is, depends on cells and logs, which it doesn't know, but that what it views is near
+-- numbers a new object gets, whether 2 or 3 comes where nothing earlier applies, where an object is, and whether a mark keeps it from being viewed, depends on cells and logs, which it doesn't know, but that what it views is near and needs no pin
 abbrev pub Knows : ℕ → Own → Command → Reply → Own → Type 0
 Knows m o (Mutator _ (New len ds)) (Pointer p) q = (ds < 256) × (0 < len) × (len ≤ LONGEST) × (p / CELLS ≡ m) × (o.object p ≡ None) × (q ≡ record o { object = put o.object p (Some (replicate len 0)) })
 Knows m o (Mutator _ (New len ds)) (Refused Range) q = (256 ≤ ds) × (q ≡ o)
@@ -54,6 +54,8 @@ Knows m o (Mutator _ (Read p from len)) (Data bytes) q = (o.opened ≡ true) × 
 Knows m o (Mutator _ (Read p from len)) (Refused Closed) q = (o.opened ≡ false) × (q ≡ o)
 Knows m o (Mutator _ (Read p from len)) (Refused NotHeld) q = (o.opened ≡ true) × (o.object p ≡ None) × (q ≡ o)
 Knows m o (Mutator _ (Read p from len)) (Refused Range) q = (o.opened ≡ true) × (q ≡ o) × ((all : List ℕ) × (o.object p ≡ Some all) × IsOut all from len)
+Knows m o (Mutator _ (Read p from len)) (Refused NoRoom) q = (o.opened ≡ true) × (o.viewed p ≡ false) × (q ≡ o) × ((all : List ℕ) × (o.object p ≡ Some all) × IsIn all from len)
+Knows m o (Mutator _ (Write p from new)) (Refused NoRoom) q = (o.opened ≡ true) × (o.viewed p ≡ false) × (q ≡ o) × ((all : List ℕ) × (o.object p ≡ Some all) × IsIn all from (length new))
 Knows m o (Mutator _ (Write p from new)) Done q = (o.opened ≡ true) × ((all : List ℕ) × (o.object p ≡ Some all) × IsIn all from (length new) × (q ≡ record o { object = put o.object p (Some (with_range all from new)); viewed = put o.viewed p true }))
 Knows m o (Mutator _ (Write p from new)) (Refused Closed) q = (o.opened ≡ false) × (q ≡ o)
 Knows m o (Mutator _ (Write p from new)) (Refused NotHeld) q = (o.opened ≡ true) × (o.object p ≡ None) × (q ≡ o)
@@ -63,6 +65,14 @@ Knows m o (Mutator _ (Where p)) (Refused NotHeld) q = (o.object p ≡ None) × (
 Knows m o (Mutator _ (Drop p)) Done q = (o.viewed p ≡ false) × (q ≡ record o { object = put o.object p None }) × ((all : List ℕ) × (o.object p ≡ Some all))
 Knows m o (Mutator _ (Drop p)) (Refused NotHeld) q = (o.object p ≡ None) × (q ≡ o)
 Knows m o (Mutator _ (Drop p)) (Refused Held) q = (o.viewed p ≡ true) × (q ≡ o) × ((all : List ℕ) × (o.object p ≡ Some all))
+Knows m o (Mutator _ (View p)) Done q = (o.opened ≡ true) × (q ≡ record o { viewed = put o.viewed p true }) × ((all : List ℕ) × (o.object p ≡ Some all))
+Knows m o (Mutator _ (View p)) (Refused Closed) q = (o.opened ≡ false) × (q ≡ o)
+Knows m o (Mutator _ (View p)) (Refused NotHeld) q = (o.opened ≡ true) × (o.object p ≡ None) × (q ≡ o)
+Knows m o (Mutator _ (View p)) (Refused NoRoom) q = (o.opened ≡ true) × (o.viewed p ≡ false) × (q ≡ o) × ((all : List ℕ) × (o.object p ≡ Some all))
+Knows m o (Mutator _ (Try p)) Done q = (o.opened ≡ true) × (q ≡ record o { viewed = put o.viewed p true }) × ((all : List ℕ) × (o.object p ≡ Some all))
+Knows m o (Mutator _ (Try p)) (Refused Closed) q = (o.opened ≡ false) × (q ≡ o)
+Knows m o (Mutator _ (Try p)) (Refused NotHeld) q = (o.opened ≡ true) × (o.object p ≡ None) × (q ≡ o)
+Knows m o (Mutator _ (Try p)) (Refused (Marked word)) q = (o.opened ≡ true) × (o.viewed p ≡ false) × (q ≡ o) × ((all : List ℕ) × (o.object p ≡ Some all))
 Knows m o _ _ q = ⊥
 
 -- whose command it is, none's for the logs

@@ -1,5 +1,5 @@
 -- What the calls of a mutator make of a heap's core: one function on states for each.
-use Rattle.std.specs.Prelude.{ℕ, Option, Some, None, is_some, List, if◌then◌else◌}
+use Rattle.std.specs.Prelude.{ℕ, Option, Some, None, is_some, List, Bool, not, ◌||◌, if◌then◌else◌}
 use Rattle.far_word.specs.declared.mark.Mark.TheVariants.{Dropped}
 use Rattle.far_word.specs.declared.pointer.Place.{Place}
 use Rattle.far_word.specs.Bytes.{packed_word}
@@ -7,7 +7,7 @@ use Rattle.far_word.specs.Pointer.{read_of}
 use Rattle.far_word.specs.Sizes.{words_for}
 pub use Rattle.far_core.specs.events.Ranges.{with_row}
 use Rattle.far_core.specs.declared.event.Event.TheVariants.{Adopt, Ask}
-use Rattle.far_core.specs.events.Step.{after, after_pin, scope_word_of, near_data, data_len}
+use Rattle.far_core.specs.events.Step.{after, after_pin, scope_word_of, near_data, data_len, place_to_view}
 use Rattle.far_core.specs.state.State.{State, put}
 pub use Rattle.far_book.specs.book.Effects.{near_word}
 use Rattle.far_book.specs.book.Effects.{placed, retired}
@@ -30,6 +30,10 @@ with_scope s m = let e : Option ℕ = Some (epoch_for (s.remembered m) s.epoch) 
 -- an object is viewed by its owner: after_pin, unless it is held already
 abbrev pub with_view : State → ℕ → State
 with_view s p = if is_some (s.held p) then s else after_pin s p
+
+-- a pin of an object gives no view: it isn't viewed already, and its cell isn't near, or has EVAC, MOVE or DROP
+abbrev pub is_slow : State → ℕ → Bool
+is_slow s p = not (is_some (s.held p) || is_some (place_to_view (read_of (s.cell p))))
 
 -- an object has other bytes in the place of those from here on
 abbrev pub with_data : State → ℕ → ℕ → List ℕ → State

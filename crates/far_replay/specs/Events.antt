@@ -3,6 +3,8 @@ use Rattle.std.specs.Prelude.{ℕ, ◌+◌, ◌-◌, ◌*◌, ◌/◌, ◌%◌, 
 use Rattle.std.specs.List.{range_with_len}
 use Rattle.far_word.specs.declared.mark.Mark.TheVariants.{Dropped}
 use Rattle.far_word.specs.declared.pointer.Place.{Place}
+use Rattle.far_word.specs.declared.refused.Refused.{Refused as Refusal}
+use Rattle.far_word.specs.declared.refused.Refused.TheVariants.{Marked}
 use Rattle.far_word.specs.Bytes.{packed_word}
 use Rattle.far_word.specs.Header.{head_word}
 use Rattle.far_word.specs.Sizes.{size_of, words_for}
@@ -11,7 +13,7 @@ use Rattle.far_core.specs.declared.event.Event.TheVariants.{ReadEpoch as ReadsEp
 use Rattle.far_core.specs.events.Step.{after}
 use Rattle.far_core.specs.state.Room.{room}
 use Rattle.far_core.specs.state.State.{State}
-use Rattle.far_text.specs.Command.{Command, New, Open, Write, Read, Close, Where, Drop, Mutator, Book}
+use Rattle.far_text.specs.Command.{Command, New, Open, Write, Read, Close, Where, Drop, View, Try, Mutator, Book}
 use Rattle.far_replay.specs.Effects.{near_word}
 use Rattle.far_replay.specs.Moment.{Moment}
 use Rattle.far_replay.specs.Objects.{data_of, with_range, lowest_cell}
@@ -78,8 +80,14 @@ turn_events now (Mutator m (Read p from len)) = view_events now.core m p ++ load
 turn_events now (Mutator m Close) = Closes m ∷ []
 turn_events now (Mutator m (Where p)) = []
 turn_events now (Mutator m (Drop p)) = drop_events now.core m p
+turn_events now (Mutator m (View p)) = view_events now.core m p
+turn_events now (Mutator m (Try p)) = view_events now.core m p
 turn_events now (Book inquiry) = []
 
--- a refused command makes no event
+-- a refused command makes no event, but the pin that found a mark
+abbrev pub refused_events : Moment → Command → Refusal → List Event
+refused_events now (Mutator m (Try p)) (Marked word) = view_events now.core m p
+refused_events now c why = []
+
 abbrev pub events_for : Moment → Command → List Event
-events_for now c = unless (refusal now c) (λ _. []) (turn_events now c)
+events_for now c = unless (refusal now c) (refused_events now c) (turn_events now c)

@@ -1,17 +1,20 @@
 -- What a trace program's outputs say: the laws over whole texts and whole lists of commands.
-use Rattle.std.specs.Prelude.{◌≡◌, ◌≢◌, ◌↔◌, ℕ, ◌+◌, ◌*◌, ◌/◌, ◌^◌, ◌<◌, ◌≤◌, true, false, is_some, eqb, sum, codes, decimal, Some, None, Ok, List, [], ◌∷◌, ◌++◌, length, replicate, slice_index, map, All, Contains}
+use Rattle.std.specs.Prelude.{◌≡◌, ◌≢◌, ◌↔◌, ℕ, ◌+◌, ◌*◌, ◌/◌, ◌^◌, ◌<◌, ◌≤◌, ◌||◌, true, false, is_some, eqb, sum, codes, decimal, Some, None, Ok, List, [], ◌∷◌, ◌++◌, length, replicate, slice_index, map, All, Contains}
 use Rattle.std.specs.List.{flat_map, range_with_len, IsDistinct}
 use Rattle.hex.specs.Hex.{IsBytes}
+use Rattle.far_word.specs.declared.mark.Mark.TheVariants.{Hot}
 use Rattle.far_word.specs.declared.mark.Marks.{Marks}
 use Rattle.far_word.specs.declared.pointer.Place.{Place}
+use Rattle.far_word.specs.declared.pointer.PtrWord.{PtrWord}
 use Rattle.far_word.specs.declared.pointer.PtrWord.TheVariants as pointer
 use Rattle.far_word.specs.declared.refused.Refused.{Refused as Refusal}
 use Rattle.far_word.specs.declared.refused.Refused.TheVariants.{NoRoom, NoPointer, Length, Closed, AlreadyOpen, NotHeld, Range, Held, Marked, Syntax, BadChoice, StillOpen}
 use Rattle.far_word.specs.declared.sizes.TheConstants.{CELLS, LOG_WORDS, LONGEST}
-use Rattle.far_word.specs.Pointer.{read_of}
+use Rattle.far_word.specs.Pointer.{read_of, with_mark}
 use Rattle.far_word.specs.Sizes.{size_of, bytes_taken}
 use Rattle.far_core.specs.declared.event.Kind.TheVariants as kinds
 use Rattle.far_core.specs.declared.event.Event.{Event}
+use Rattle.far_core.specs.events.Step.{is_opened}
 use Rattle.far_core.specs.state.Law.{Law}
 use Rattle.far_core.specs.laws.Observed.{live_bytes, dead_bytes, unused_bytes, HasOnePlace, NamesOnce, OneLive}
 use Rattle.far_core.specs.state.Room.{room}
@@ -23,14 +26,15 @@ use Rattle.far_book.specs.declared.home.Home.{Home}
 use Rattle.far_book.specs.declared.home.Home.TheVariants.{Near, Far}
 use Rattle.far_replay.specs.Alone.{Alone, Knows, Learns, Own, nothing}
 use Rattle.far_replay.specs.Answers.{Answered, Answers, Commanded, IsMoment, shape_of, first_moment}
-use Rattle.far_text.specs.Command.{Command, Heap, CommandLine, New, Open, Write, Read, Close, Where, Drop, Logs as AsksLogs, Log, Audit, Mutator, Book}
+use Rattle.far_text.specs.Command.{Command, Heap, CommandLine, New, Open, Write, Read, Close, Where, Drop, View, Try, Logs as AsksLogs, Log, Audit, Mutator, Book}
 use Rattle.far_text.specs.Grammar.{trace_of}
 use Rattle.far_replay.specs.Moment.{Moment}
 use Rattle.far_replay.specs.EventRows.{after_events, AllPass, AllSucceed, AllComeToPass, AtHand, AllAtHand}
+use Rattle.far_replay.specs.Effects.{is_slow}
 use Rattle.far_replay.specs.Events.{events_for}
 use Rattle.far_replay.specs.Objects.{with_range, uses}
 use Rattle.far_text.specs.Says.{Says}
-use Rattle.far_replay.specs.Stays.{Stays}
+use Rattle.far_replay.specs.Stays.{MayMark, Stays}
 use Rattle.far_text.specs.Written.{WritesBytes, AllWriteBytes}
 use Rattle.far_replay.specs.Reply.{Reply, Done, Pointer, Data, Logs, Lies, Audited, Refused, LogLine, Counts, reply_text}
 
@@ -48,10 +52,12 @@ LogsStay now [] moments = LogStays now.core now.core
 LogsStay now (c ∷ cs) [] = ⊥
 LogsStay now (c ∷ cs) (after ∷ moments) = StayThrough now c × LogsStay after cs moments
 
--- the object that a command reads or writes, if there is one, may be dereferenced at once
+-- the object that a command reads, writes or views, if there is one, may be dereferenced at once
 abbrev pub IsAtHandFor : Moment → Command → Type 0
 IsAtHandFor now (Mutator m (Write p from bytes)) = now.core.cell p ≢ 0 → AtHand now.core p
 IsAtHandFor now (Mutator m (Read p from len)) = now.core.cell p ≢ 0 → AtHand now.core p
+IsAtHandFor now (Mutator m (View p)) = now.core.cell p ≢ 0 → AtHand now.core p
+IsAtHandFor now (Mutator m (Try p)) = now.core.cell p ≢ 0 → AtHand now.core p
 IsAtHandFor now c = Unit {0}
 
 -- the events of a command lead from a moment to the next: each is legal, none is refused, and each keeps the law and agreement; where the command's object is at hand
@@ -93,6 +99,12 @@ MayRefuse (Mutator m (Where p)) NotHeld = Unit {0}
 MayRefuse (Mutator m (Drop p)) Range = Unit {0}
 MayRefuse (Mutator m (Drop p)) NotHeld = Unit {0}
 MayRefuse (Mutator m (Drop p)) Held = Unit {0}
+MayRefuse (Mutator m (View p)) Range = Unit {0}
+MayRefuse (Mutator m (View p)) Closed = Unit {0}
+MayRefuse (Mutator m (View p)) NotHeld = Unit {0}
+MayRefuse (Mutator m (Try p)) Range = Unit {0}
+MayRefuse (Mutator m (Try p)) Closed = Unit {0}
+MayRefuse (Mutator m (Try p)) NotHeld = Unit {0}
 MayRefuse (Book (Log l)) Range = Unit {0}
 MayRefuse c why = ⊥
 
@@ -154,21 +166,30 @@ pub record ViewsNothing (s t : State) (m : ℕ) : Type 0 where
 abbrev pub ViewsAfter : Moment → Command → Reply → Moment → Type 0
 ViewsAfter now (Mutator m (Read p from len)) (Data bytes) after = ViewsObject now.core after.core p
 ViewsAfter now (Mutator m (Write p from bytes)) Done after = ViewsObject now.core after.core p
+ViewsAfter now (Mutator m (View p)) Done after = ViewsObject now.core after.core p
+ViewsAfter now (Mutator m (Try p)) Done after = ViewsObject now.core after.core p
 ViewsAfter now (Mutator m Close) Done after = ViewsNothing now.core after.core m
 ViewsAfter now c r after = after.core.held ≡ now.core.held
 
--- what a command with its reply takes of the logs: a new object its span, at the end of the log that room says; anything else nothing
+-- what a command with its reply takes of the logs: a new object its span, at the end of the log that room says; a dereference nothing, where its pin gives a view; anything else nothing
 abbrev pub TakesRoom : Moment → Command → Reply → Moment → Type 0
 TakesRoom now (Mutator m (New len ds)) (Pointer p) after = (place : Place) × (room now.core (size_of len) true ≡ Some place)
     × (after.core.tail ≡ put now.core.tail place.log (place.at + size_of len))
+TakesRoom now (Mutator m (Write p from bytes)) Done after = is_slow now.core p ≡ false → (after.core.tail ≡ now.core.tail) × (after.core.kind ≡ now.core.kind)
+TakesRoom now (Mutator m (Read p from len)) (Data bytes) after = is_slow now.core p ≡ false → (after.core.tail ≡ now.core.tail) × (after.core.kind ≡ now.core.kind)
+TakesRoom now (Mutator m (View p)) Done after = is_slow now.core p ≡ false → (after.core.tail ≡ now.core.tail) × (after.core.kind ≡ now.core.kind)
 TakesRoom now c r after = (after.core.tail ≡ now.core.tail) × (after.core.kind ≡ now.core.kind)
+
+-- a cell has HOT, on what it said before
+abbrev pub IsHotAfter : State → State → ℕ → Type 0
+IsHotAfter s t p = (v : PtrWord) → read_of (s.cell p) ≡ Some v → read_of (t.cell p) ≡ Some (with_mark Hot v)
 
 -- the line has the mutator's number
 abbrev pub IsSaidBy : ℕ → Command → Type 0
 IsSaidBy m (Mutator k request) = m ≡ k
 IsSaidBy m (Book inquiry) = ⊥
 
--- a reply that its lines tell in full: its numbers have 64 bits, its bytes are bytes, and it is no refusal 14, 17 or 18, whose words aren't printed yet
+-- a reply that its lines tell in full: its numbers have 64 bits, its bytes are bytes, and it is no refusal 17 or 18, whose words aren't printed yet
 pub record IsLineToldInFull (line : LogLine) : Type 0 where
   pub log : line.log < 2 ^ 64
   pub live : line.live < 2 ^ 64
@@ -180,7 +201,7 @@ AreToldInFull [] = Unit {0}
 AreToldInFull (line ∷ lines) = IsLineToldInFull line × AreToldInFull lines
 
 abbrev pub IsRefusalToldInFull : Refusal → Type 0
-IsRefusalToldInFull (Marked word) = ⊥
+IsRefusalToldInFull (Marked word) = word < 2 ^ 64
 IsRefusalToldInFull (BadChoice log) = ⊥
 IsRefusalToldInFull (StillOpen mutator epoch) = ⊥
 IsRefusalToldInFull (Syntax line) = line < 2 ^ 64
@@ -254,11 +275,11 @@ EventsReach = (now : Moment) (c : Command) (r : Reply) (after : Moment) → IsMo
 
 -- a refused command leaves objects, bytes, places and all else as they were, but for marks that it may add to its object's cell
 abbrev pub RefusalsStay : Type 0
-RefusalsStay = (now : Moment) (c : Command) (r : Reply) (after : Moment) (why : Refusal) → Commanded now c r after → r ≡ Refused why → Stays c why now after
+RefusalsStay = (now : Moment) (c : Command) (r : Reply) (after : Moment) (why : Refusal) → Law now.core → Commanded now c r after → r ≡ Refused why → Stays c why now after
 
--- with these commands it adds none
+-- a refusal that comes before any pin adds none
 abbrev pub RefusalsChangeNothing : Type 0
-RefusalsChangeNothing = (now : Moment) (c : Command) (r : Reply) (after : Moment) (why : Refusal) → Commanded now c r after → r ≡ Refused why → after ≡ now
+RefusalsChangeNothing = (now : Moment) (c : Command) (r : Reply) (after : Moment) (why : Refusal) → ((p : ℕ) → ¬ MayMark c why p) → Commanded now c r after → r ≡ Refused why → after ≡ now
 
 -- a line of a mutator that the heap hasn't is refused 8
 abbrev pub UnknownMutatorsAreRefused : Type 0
@@ -310,7 +331,7 @@ MutatorsLearn = (now : Moment) (c : Command) (r : Reply) (after : Moment) (m : �
 
 -- where its object is at hand, a command is refused so alone
 abbrev pub NearRefusals : Type 0
-NearRefusals = (now : Moment) (c : Command) (r : Reply) (after : Moment) (why : Refusal) → IsAtHandFor now c → Commanded now c r after → r ≡ Refused why → MayRefuse c why
+NearRefusals = (now : Moment) (c : Command) (r : Reply) (after : Moment) (why : Refusal) → Law now.core → IsAtHandFor now c → Commanded now c r after → r ≡ Refused why → MayRefuse c why
 
 -- a heap in range begins with the numbers on its line, with the law, so that the laws above hold from its first moment on, and with nothing in it
 abbrev pub HeapsBeginLawful : Type 0
@@ -344,7 +365,17 @@ NewIsMade = (now : Moment) (m len ds : ℕ) (r : Reply) (after : Moment) → m <
 abbrev pub CommandsTakeRoom : Type 0
 CommandsTakeRoom = (now : Moment) (c : Command) (r : Reply) (after : Moment) → Law now.core → Commanded now c r after → TakesRoom now c r after
 
--- what is read or written is viewed until its mutator closes its scope; nothing else makes a view or takes one away
+-- a try of an object that its mutator uses, in its open scope, views it where it was viewed already, or its cell is near with none of EVAC, MOVE and DROP; else it is
+-- refused 14 with the cell's word as it was. Unless it was viewed already, the cell has HOT from then on, whatever the answer
+abbrev pub TriesAreAnswered : Type 0
+TriesAreAnswered = (now : Moment) (m p : ℕ) (r : Reply) (after : Moment) → Law now.core → m < now.core.mutators → is_opened now.core m ≡ true → uses now.core m p ≡ true →
+    Commanded now (Mutator m (Try p)) r after → ((world_of now.core).viewed p ≡ true → (r ≡ Done) × (after ≡ now))
+    × ((world_of now.core).viewed p ≡ false → IsHotAfter now.core after.core p
+    × (((len ds : ℕ) (place : Place) (marks : Marks) → read_of (now.core.cell p) ≡ Some (pointer.Near len ds place marks) → (marks.evac || marks.moved || marks.dropped) ≡ false → r ≡ Done)
+    × (((len ds : ℕ) (place : Place) (marks : Marks) → read_of (now.core.cell p) ≡ Some (pointer.Near len ds place marks) → (marks.evac || marks.moved || marks.dropped) ≡ true) →
+    r ≡ Refused (Marked (now.core.cell p)))))
+
+-- what is read, written or tried is viewed until its mutator closes its scope; nothing else makes a view or takes one away
 abbrev pub ViewsLast : Type 0
 ViewsLast = (now : Moment) (c : Command) (r : Reply) (after : Moment) → IsMoment now → WritesBytes c → Commanded now c r after → ViewsAfter now c r after
 

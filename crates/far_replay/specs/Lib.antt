@@ -2,6 +2,7 @@ pub mod Alone
 pub mod Answers
 pub mod Audit
 pub mod Between
+pub mod Dereference
 pub mod Effects
 pub mod EventRows
 pub mod Events

@@ -1,10 +1,11 @@
 -- Replies, and the lines that they are printed as.
 use Rattle.std.specs.Prelude.{ℕ, ◌≤◌, Bool, List, [], ◌++◌, length, codes, decimal, if◌then◌else◌}
+use Rattle.std.specs.Int.{to_be_bytes, w64}
 use Rattle.std.specs.List.{flat_map}
 use Rattle.hex.specs.Hex.{encode_lower}
 use Rattle.far_word.specs.declared.mark.Marks.{Marks}
 use Rattle.far_word.specs.declared.refused.Refused.{Refused as Refusal}
-use Rattle.far_word.specs.declared.refused.Refused.TheVariants.{Syntax}
+use Rattle.far_word.specs.declared.refused.Refused.TheVariants.{Marked, Syntax}
 use Rattle.far_word.specs.Refused.{refusal_number}
 use Rattle.far_word.specs.declared.sizes.TheConstants.{LONGEST, MOST_LOGS}
 use Rattle.far_core.specs.declared.event.Kind.{Kind}
@@ -56,8 +57,9 @@ home_printed (Far marks) = codes "far " ++ letters_of marks ++ codes "\n"
 abbrev pub counts_printed : Counts → List ℕ
 counts_printed counts = codes "audit near " ++ decimal counts.near ++ codes " far " ++ decimal counts.far ++ codes " live " ++ decimal counts.live ++ codes "\n"
 
--- what follows a refusal's number
+-- what follows a refusal's number: a line; or a word, in 16 digits
 abbrev pub detail : Refusal → List ℕ
+detail (Marked word) = codes " " ++ encode_lower (to_be_bytes w64 word)
 detail (Syntax line) = codes " " ++ decimal line
 detail _ = []
 

@@ -4,10 +4,10 @@ use Rattle.far_word.specs.declared.mark.Marks.{Marks}
 use Rattle.far_word.specs.declared.pointer.PtrWord.{PtrWord}
 use Rattle.far_word.specs.declared.pointer.PtrWord.TheVariants.{Free, Near, Far}
 use Rattle.far_word.specs.declared.refused.Refused.{Refused as Refusal}
-use Rattle.far_word.specs.declared.refused.Refused.TheVariants.{NoRoom}
+use Rattle.far_word.specs.declared.refused.Refused.TheVariants.{NoRoom, Marked}
 use Rattle.far_word.specs.Pointer.{read_of}
 use Rattle.far_core.specs.world.WorldOf.{world_of}
-use Rattle.far_text.specs.Command.{Command, Write, Read, Mutator}
+use Rattle.far_text.specs.Command.{Command, Write, Read, View, Try, Mutator}
 use Rattle.far_replay.specs.Moment.{Moment}
 
 -- HOT and MOVE may have been added; EVAC and DROP are as they were
@@ -25,10 +25,12 @@ CellStays (Some (Near len ds place a)) (Some (Near n d at b)) = (n ≡ len) × (
 CellStays (Some (Far len ds a)) (Some (Far n d b)) = (n ≡ len) × (d ≡ ds) × MayGain a b
 CellStays _ _ = ⊥
 
--- the cell whose marks a refused line may add to: that of the object it reads or writes, and only where the refusal came after the pin
+-- the cell whose marks a refused line may add to: that of the object it reads, writes or views, and only where the refusal came after the pin
 abbrev pub MayMark : Command → Refusal → ℕ → Type 0
 MayMark (Mutator m (Write p from bytes)) NoRoom q = q ≡ p
 MayMark (Mutator m (Read p from len)) NoRoom q = q ≡ p
+MayMark (Mutator m (View p)) NoRoom q = q ≡ p
+MayMark (Mutator m (Try p)) (Marked word) q = q ≡ p
 MayMark c why q = ⊥
 
 -- objects, bytes and places are as before, and so is all else of the core but for marks in that cell

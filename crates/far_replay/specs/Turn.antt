@@ -1,9 +1,9 @@
 -- What a command makes of a heap: when it is refused, the moment after it, and its reply.
-use Rattle.std.specs.Prelude.{ℕ, ◌+◌, Bool, true, ◌&&◌, not, nat_lt, nat_le, Option, Some, None, is_some, List, [], ◌∷◌, length, map, slice_range, if◌then◌else◌}
+use Rattle.std.specs.Prelude.{ℕ, ◌+◌, Bool, true, ◌&&◌, not, nat_lt, nat_le, Option, Some, None, is_some, List, [], ◌∷◌, ◌++◌, length, map, slice_range, if◌then◌else◌}
 use Rattle.std.specs.List.{range_with_len}
 use Rattle.far_word.specs.declared.pointer.Place.{Place}
 use Rattle.far_word.specs.declared.refused.Refused.{Refused as Refusal}
-use Rattle.far_word.specs.declared.refused.Refused.TheVariants.{NoRoom, NoPointer, Length, Closed, AlreadyOpen, NotHeld, Range, Held}
+use Rattle.far_word.specs.declared.refused.Refused.TheVariants.{NoRoom, NoPointer, Length, Closed, AlreadyOpen, NotHeld, Range, Held, Marked}
 use Rattle.far_word.specs.declared.sizes.TheConstants.{LONGEST}
 use Rattle.far_word.specs.Sizes.{size_of}
 use Rattle.far_core.specs.events.Step.{is_opened, after_close}
@@ -14,8 +14,9 @@ use Rattle.far_word.specs.Pointer.{read_of}
 use Rattle.far_book.specs.book.Home.{home_of}
 use Rattle.far_book.specs.declared.home.Home.{Home}
 use Rattle.far_replay.specs.Audit.{counts_of}
-use Rattle.far_text.specs.Command.{Command, New, Open, Write, Read, Close, Where, Drop, Logs, Log, Audit, Mutator, Book}
-use Rattle.far_replay.specs.Effects.{with_object, with_scope, with_view, with_data, without_object}
+use Rattle.far_text.specs.Command.{Command, New, Open, Write, Read, Close, Where, Drop, View, Try, Logs, Log, Audit, Mutator, Book}
+use Rattle.far_replay.specs.Dereference.{dereferenced, has_no_room, sought}
+use Rattle.far_replay.specs.Effects.{with_object, with_scope, with_view, is_slow, with_data, without_object}
 use Rattle.far_replay.specs.Moment.{Moment}
 use Rattle.far_replay.specs.Objects.{uses, object_len, data_of, lowest_cell, is_range}
 use Rattle.far_replay.specs.Reply.{Reply, Done, Pointer, Data, Logs as Told, Lies, Audited, Refused, LogLine}
@@ -31,11 +32,15 @@ causes now (Mutator m (New len ds)) =
     (not (nat_lt m now.core.mutators && nat_lt ds 256), Range) ∷ (not (nat_lt 0 len && nat_le len LONGEST), Length)
     ∷ (not (is_some (lowest_cell now.core m)), NoPointer) ∷ (not (is_some (room now.core (size_of len) true)), NoRoom) ∷ []
 causes now (Mutator m Open) = (not (nat_lt m now.core.mutators), Range) ∷ (is_opened now.core m, AlreadyOpen) ∷ []
-causes now (Mutator m (Write p from bytes)) = access_causes now m p from (length bytes)
-causes now (Mutator m (Read p from len)) = access_causes now m p from len
+causes now (Mutator m (Write p from bytes)) = access_causes now m p from (length bytes) ++ (has_no_room now.core m p, NoRoom) ∷ []
+causes now (Mutator m (Read p from len)) = access_causes now m p from len ++ (has_no_room now.core m p, NoRoom) ∷ []
 causes now (Mutator m Close) = (not (nat_lt m now.core.mutators), Range) ∷ (not (is_opened now.core m), Closed) ∷ []
 causes now (Mutator m (Where p)) = (not (nat_lt m now.core.mutators), Range) ∷ (not (uses now.core m p), NotHeld) ∷ []
 causes now (Mutator m (Drop p)) = (not (nat_lt m now.core.mutators), Range) ∷ (not (uses now.core m p), NotHeld) ∷ (is_some (now.core.held p), Held) ∷ []
+causes now (Mutator m (View p)) =
+    (not (nat_lt m now.core.mutators), Range) ∷ (not (is_opened now.core m), Closed) ∷ (not (uses now.core m p), NotHeld) ∷ (has_no_room now.core m p, NoRoom) ∷ []
+causes now (Mutator m (Try p)) =
+    (not (nat_lt m now.core.mutators), Range) ∷ (not (is_opened now.core m), Closed) ∷ (not (uses now.core m p), NotHeld) ∷ (is_slow now.core p, Marked (now.core.cell p)) ∷ []
 causes now (Book Logs) = []
 causes now (Book (Log l)) = (not (nat_lt l now.core.logs), Range) ∷ []
 causes now (Book Audit) = []
@@ -58,12 +63,22 @@ with_new s m len ds (Some p) (Some place) = with_object s m p len ds place
 abbrev pub turn_effect : Moment → Command → Moment
 turn_effect now (Mutator m (New len ds)) = record now { core = with_new now.core m len ds (lowest_cell now.core m) (room now.core (size_of len) true) }
 turn_effect now (Mutator m Open) = record now { core = with_scope now.core m }
-turn_effect now (Mutator m (Write p from bytes)) = record now { core = with_data (with_view now.core p) p from bytes }
-turn_effect now (Mutator m (Read p from len)) = record now { core = with_view now.core p }
+turn_effect now (Mutator m (Write p from bytes)) = record now { core = with_data (dereferenced now.core m p) p from bytes }
+turn_effect now (Mutator m (Read p from len)) = record now { core = dereferenced now.core m p }
 turn_effect now (Mutator m Close) = record now { core = after_close now.core m }
 turn_effect now (Mutator m (Where p)) = now
 turn_effect now (Mutator m (Drop p)) = record now { core = without_object now.core m p }
+turn_effect now (Mutator m (View p)) = record now { core = dereferenced now.core m p }
+turn_effect now (Mutator m (Try p)) = record now { core = with_view now.core p }
 turn_effect now (Book inquiry) = now
+
+-- ---- the moment after a command that is refused: as before, but for the marks that it left
+abbrev pub refused_effect : Moment → Command → Refusal → Moment
+refused_effect now (Mutator m (Write p from bytes)) NoRoom = record now { core = sought now.core m p }
+refused_effect now (Mutator m (Read p from len)) NoRoom = record now { core = sought now.core m p }
+refused_effect now (Mutator m (View p)) NoRoom = record now { core = sought now.core m p }
+refused_effect now (Mutator m (Try p)) (Marked word) = record now { core = with_view now.core p }
+refused_effect now c why = now
 
 -- ---- the reply of a command that isn't refused
 abbrev pub log_line : Moment → ℕ → LogLine
@@ -83,21 +98,23 @@ abbrev pub turn_reply : Moment → Command → Reply
 turn_reply now (Mutator m (New len ds)) = pointer_reply (lowest_cell now.core m)
 turn_reply now (Mutator m Open) = Done
 turn_reply now (Mutator m (Write p from bytes)) = Done
-turn_reply now (Mutator m (Read p from len)) = Data (slice_range (data_of now.core p) from (from + len))
+turn_reply now (Mutator m (Read p from len)) = Data (slice_range (data_of (dereferenced now.core m p) p) from (from + len))
 turn_reply now (Mutator m Close) = Done
 turn_reply now (Mutator m (Where p)) = home_reply (home_of (read_of (now.core.cell p)))
 turn_reply now (Mutator m (Drop p)) = Done
+turn_reply now (Mutator m (View p)) = Done
+turn_reply now (Mutator m (Try p)) = Done
 turn_reply now (Book Logs) = Told (map (log_line now) (range_with_len 0 now.core.logs))
 turn_reply now (Book (Log l)) = Told (log_line now l ∷ [])
 turn_reply now (Book Audit) = Audited (counts_of now.core)
 
--- ---- all together: a refused command changes nothing
+-- ---- all together
 abbrev pub unless : {X : Type 0} → Option Refusal → (Refusal → X) → X → X
 unless None turned value = value
 unless (Some why) turned value = turned why
 
 abbrev pub effect : Moment → Command → Moment
-effect now c = unless (refusal now c) (λ _. now) (turn_effect now c)
+effect now c = unless (refusal now c) (refused_effect now c) (turn_effect now c)
 
 abbrev pub reply_to : Moment → Command → Reply
 reply_to now c = unless (refusal now c) Refused (turn_reply now c)

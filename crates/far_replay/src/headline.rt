@@ -1,6 +1,6 @@
 //! What outputs say, over whole texts and whole lists of commands. No function here does anything when it runs.
 
-ghost use Rattle.far_replay.specs.Headline.{OutputsAreSound, OneOutput, EachTextIsAnswered, TextsWriteBytes, LinesAreNumbered, MomentsLast, EventsReach, ShapesAre, HeapsBeginLawful, ObjectsStayWhole, ViewedLogsStay, ViewsLast, RefusalsStay, RefusalsChangeNothing, UnknownMutatorsAreRefused, NearRefusals, MutatorsAreAlone, OwnLinesCount, MutatorsLearn, NewTakesTheLowest, NoneIsLeft, NewIsMade, NewMakesItsObject, CommandsTakeRoom, WritesChangeTheirRange, LogsAreTold, WhereTells, LogTellsItsLine, AuditCounts, DropEndsObject, PrintedAlike};
+ghost use Rattle.far_replay.specs.Headline.{OutputsAreSound, OneOutput, EachTextIsAnswered, TextsWriteBytes, LinesAreNumbered, MomentsLast, EventsReach, ShapesAre, HeapsBeginLawful, ObjectsStayWhole, ViewedLogsStay, ViewsLast, RefusalsStay, RefusalsChangeNothing, TriesAreAnswered, UnknownMutatorsAreRefused, NearRefusals, MutatorsAreAlone, OwnLinesCount, MutatorsLearn, NewTakesTheLowest, NoneIsLeft, NewIsMade, NewMakesItsObject, CommandsTakeRoom, WritesChangeTheirRange, LogsAreTold, WhereTells, LogTellsItsLine, AuditCounts, DropEndsObject, PrintedAlike};
 
 /// From a text on: its output, where it is read as a heap in range and commands, has a reply, which its lines tell in full,
 /// and a moment for each command. Each moment has the law, and in it objects are whole; through them the logs in which
@@ -31,16 +31,19 @@ pub fn moments_are_lawful()
     ensures reach { EventsReach }
 {}
 
-/// What a command reads or writes is viewed until its mutator closes its scope; no other command makes or ends a view.
-/// A log in which an object lies that its mutator views isn't given back by the next command, after any of its events.
+/// What a command reads, writes or tries is viewed until its mutator closes its scope; no other command makes or ends a
+/// view. A try makes one exactly where the object is near with none of EVAC, MOVE and DROP, else it is refused 14 with the
+/// word of the cell; either way it leaves HOT, unless the object was viewed already. A log in which an object lies that its
+/// mutator views isn't given back by the next command, after any of its events.
 pub fn views_last()
     ensures last { ViewsLast }
+    ensures tried { TriesAreAnswered }
     ensures stay { ViewedLogsStay }
 {}
 
 /// A refused command leaves objects, bytes, places and all else as they were, but for HOT and MOVE in its object's cell,
-/// which it may add for want of room; the commands of today add none, and leave the moment as it is. A line of a mutator
-/// that the heap hasn't is refused 8. Where the object that it reads or writes is near and unmarked, no command after the
+/// which it may add for want of room, or where a try finds a mark; any other refusal leaves the moment as it is. A line of a
+/// mutator that the heap hasn't is refused 8. Where the object that it reads, writes or tries is near and unmarked, no command after the
 /// heap is refused for want of memory, by a device or for a mark; for want of a pointer or of room a new object alone is
 /// refused.
 pub fn refusals_leave_all()
@@ -74,7 +77,7 @@ pub fn writes_change_their_range()
     ensures { WritesChangeTheirRange }
 {}
 
-/// Replies that their lines tell in full (numbers of 64 bits, bytes; not 14, 17 and 18, whose words aren't printed yet) are
+/// Replies that their lines tell in full (numbers of 64 bits, bytes; not 17 and 18, whose words aren't printed yet) are
 /// equal where they are printed alike.
 pub fn lines_tell_replies()
     ensures { PrintedAlike }

@@ -18,6 +18,7 @@ mod reply_writer;
 mod running;
 mod stream;
 mod turn;
+mod viewing;
 
 pub use far_text::{grammar_is_said, limits_are};
 pub use headline::{

@@ -153,9 +153,16 @@ fn push_refused(why: Refused, out: &mut Output)
 {
     out.push(b"refused ");
     out.push_number(u64::from(why.number()));
-    if let Refused::Syntax(line) = why {
-        out.push(b" ");
-        out.push_number(line);
+    match why {
+        Refused::Syntax(line) => {
+            out.push(b" ");
+            out.push_number(line);
+        }
+        Refused::Marked(word) => {
+            out.push(b" ");
+            out.push_hex(&word.to_be_bytes());
+        }
+        _ => {}
     }
     out.push(b"\n");
 }

@@ -1,6 +1,6 @@
 //! Commands, each made by calls of a book and events of owners.
 
-ghost use Rattle.std.specs.Prelude.{◌≡◌, ◌+◌, ◌*◌, ◌<◌, ◌≤◌, ◌-◌, ◌/◌, ◌^◌, ℕ, true, Some, Ok, take, drop, length, slice_index, IfOk, IfErr, IsSome};
+ghost use Rattle.std.specs.Prelude.{◌≡◌, ◌+◌, ◌*◌, ◌<◌, ◌≤◌, ◌-◌, ◌/◌, ◌^◌, ℕ, true, Some, Ok, take, drop, length, slice_index, slice_range, IfOk, IfErr, IsSome};
 ghost use Rattle.far_word.specs.Sizes.{size_of};
 ghost use Rattle.far_word.specs.Bytes.{bytes_of, packed_word, words_of};
 ghost use Rattle.far_word.specs.Pointer.{read_of};
@@ -14,19 +14,21 @@ ghost use Rattle.far_replay.specs.Interpreter.{refused_in, IsAccess, IsViewed, S
 ghost use Rattle.hex.specs.Hex.{IsBytes};
 ghost use Rattle.far_text.specs.Written.{WritesBytes};
 ghost use Rattle.far_replay.specs.EventRows.{after_events};
-ghost use Rattle.far_text.specs.Command.{Mutator, Book, New, Open, Write, Read, Close, Where, Drop, Logs, Log, Audit};
+ghost use Rattle.far_text.specs.Command.{Mutator, Book, New, Open, Write, Read, Close, Where, Drop, View, Try, Logs, Log, Audit};
+ghost use Rattle.far_replay.specs.Reply.{Data};
 ghost use Rattle.far_replay.specs.Outcome.{reply_by, IsInRoom};
 ghost use Rattle.far_replay.specs.Between.{Between};
-ghost use Rattle.far_replay.specs.Events.{events_for, turn_events, first_word, words_touched, starts_inside, ends_inside};
+ghost use Rattle.far_replay.specs.Events.{events_for, turn_events, first_word, store_events, words_touched, starts_inside, ends_inside};
 ghost use Rattle.far_replay.specs.Objects.{data_of, lowest_cell, named_len, with_range};
 ghost use Rattle.far_replay.specs.Moment.{moment_of, state_in};
 ghost use Rattle.far_replay.specs.Turn.{effect, access_causes, first_cause, reply_to, turn_reply, refusal, with_new};
 
 use crate::dropping::drop_object;
-use crate::events::{open, view};
+use crate::events::{dereference, open};
 use crate::inquiries::{audit, find_object, tell_log, tell_logs};
 use crate::outcome::{Outcome, Scratch};
 use crate::owners::{own_pointer, owner_of};
+use crate::viewing::{try_object, view_object};
 use far_book::{Book, Plain};
 use far_core::Event;
 use far_device::MemDevice;
@@ -132,6 +134,21 @@ fn load_front(book: &Book<Plain, MemDevice>, access: Access, words: &mut [u64])
     );
 }
 
+// Reads a range of bytes of an object that is viewed.
+fn read_viewed(book: &Book<Plain, MemDevice>, scratch: &mut Scratch, access: Access) -> Outcome
+    requires viewed { IsViewed (state_in book.now) access }
+    ensures reply { reply_by scratch.new.bytes scratch.new.lines result ≡ Data (slice_range (data_of (state_in book.now) access.pointer) access.from (access.from + access.count)) }
+    ensures fits { IsInRoom result }
+{
+    load_front(book, access, &mut scratch.words);
+    let count = access.touched() as usize;
+    unpack_front(&scratch.words, count, &mut scratch.bytes);
+    Outcome::Data {
+        from: access.from - 8 * access.first(),
+        count: access.count,
+    }
+}
+
 // Reads a range of bytes.
 fn read(book: &mut Book<Plain, MemDevice>, scratch: &mut Scratch, access: Access) -> Outcome
     requires access { IsAccess (state_in book.old) access.owner access.pointer access.from access.count access }
@@ -141,13 +158,9 @@ fn read(book: &mut Book<Plain, MemDevice>, scratch: &mut Scratch, access: Access
     ensures reply { reply_by scratch.new.bytes scratch.new.lines result ≡ turn_reply (moment_of (state_in book.old)) (Mutator access.owner (Read access.pointer access.from access.count)) }
     ensures fits { IsInRoom result }
 {
-    view(book, access.owner, access.pointer);
-    load_front(book, access, &mut scratch.words);
-    let count = access.touched() as usize;
-    unpack_front(&scratch.words, count, &mut scratch.bytes);
-    Outcome::Data {
-        from: access.from - 8 * access.first(),
-        count: access.count,
+    match dereference(book, access.owner, access.pointer) {
+        Ok(()) => read_viewed(book, scratch, access),
+        Err(why) => Outcome::Refused(why),
     }
 }
 
@@ -230,6 +243,23 @@ fn store_front(book: &mut Book<Plain, MemDevice>, access: Access, words: &[u64])
     );
 }
 
+// Writes bytes over a range of an object that is viewed.
+fn write_viewed(
+    book: &mut Book<Plain, MemDevice>,
+    scratch: &mut Scratch,
+    access: Access,
+    bytes: &[u8],
+)
+    requires viewed { IsViewed (state_in book.old) access }
+    requires law { Law (state_in book.old) }
+    requires bytes { length bytes.now ≡ access.count }
+    requires small { IsBytes bytes.now }
+    ensures { state_in book.new ≡ after_events (state_in book.old) (store_events access.owner access.pointer (first_word access.from) (words_touched access.from access.count) (with_range (data_of (state_in book.old) access.pointer) access.from bytes.now)) }
+{
+    splice(book, scratch, access, bytes);
+    store_front(book, access, &scratch.words);
+}
+
 // Writes bytes over a range.
 fn write(
     book: &mut Book<Plain, MemDevice>,
@@ -245,10 +275,13 @@ fn write(
     ensures state { state_in book.new ≡ after_events (state_in book.old) (turn_events (moment_of (state_in book.old)) (Mutator access.owner (Write access.pointer access.from bytes.now))) }
     ensures done { result ≡ Outcome.Done }
 {
-    view(book, access.owner, access.pointer);
-    splice(book, scratch, access, bytes);
-    store_front(book, access, &scratch.words);
-    Outcome::Done
+    match dereference(book, access.owner, access.pointer) {
+        Ok(()) => {
+            write_viewed(book, scratch, access, bytes);
+            Outcome::Done
+        }
+        Err(why) => Outcome::Refused(why),
+    }
 }
 
 // Makes a new object, or answers why not: its pointer.
@@ -397,6 +430,8 @@ fn make_request(
         Request::Close => close_scope(book, owner),
         Request::Where { pointer } => find_object(book, owner, pointer),
         Request::Drop { pointer } => drop_object(book, owner, pointer),
+        Request::View { pointer } => view_object(book, owner, pointer),
+        Request::Try { pointer } => try_object(book, owner, pointer),
     }
 }
 

@@ -11,7 +11,7 @@ use Rattle.std.proofs.lemmas.List.Splits.{join_with_byte-slice_split}
 use Rattle.std.proofs.Math.Seq.{drop-cons, drop-length, take-length}
 use Rattle.hex.specs.Hex.{is_hex_digit}
 use Rattle.hex.proofs.HexLemmas.{decode_of-ok}
-use Rattle.far_text.specs.Command.{Entry, HeapLine, CommandLine, New, Open, Write, Read, Close, Where, Drop, Logs, Log, Audit, Mutator, Book}
+use Rattle.far_text.specs.Command.{Entry, HeapLine, CommandLine, New, Open, Write, Read, Close, Where, Drop, View, Try, Logs, Log, Audit, Mutator, Book}
 use Rattle.far_text.specs.Says.{Says, Spells}
 use Rattle.far_text.specs.Grammar.{Line, Skipped, Saying, Bad, saying, line_of, is_plain, is_skipped, entry_of, lines_of, line_words}
 use Rattle.far_text.specs.Cursor.{front_of, first_line, lines_after_first, words_in}
@@ -56,6 +56,8 @@ said_ascii words (CommandLine (Mutator m (Read p f l))) h = ap (list_all (list_a
 said_ascii words (CommandLine (Mutator m Close)) h = ap (list_all (list_all is_ascii)) h.0 ∙ rw (decimal_ascii m h.1) refl
 said_ascii words (CommandLine (Mutator m (Where p))) h = ap (list_all (list_all is_ascii)) h.0 ∙ rw (decimal_ascii m h.1, decimal_ascii p h.2) refl
 said_ascii words (CommandLine (Mutator m (Drop p))) h = ap (list_all (list_all is_ascii)) h.0 ∙ rw (decimal_ascii m h.1, decimal_ascii p h.2) refl
+said_ascii words (CommandLine (Mutator m (View p))) h = ap (list_all (list_all is_ascii)) h.0 ∙ rw (decimal_ascii m h.1, decimal_ascii p h.2) refl
+said_ascii words (CommandLine (Mutator m (Try p))) h = ap (list_all (list_all is_ascii)) h.0 ∙ rw (decimal_ascii m h.1, decimal_ascii p h.2) refl
 said_ascii words (CommandLine (Book Logs)) h = ap (list_all (list_all is_ascii)) h
 said_ascii words (CommandLine (Book (Log l))) h = ap (list_all (list_all is_ascii)) h.0 ∙ rw (decimal_ascii l h.1) refl
 said_ascii words (CommandLine (Book Audit)) h = ap (list_all (list_all is_ascii)) h

@@ -2,9 +2,9 @@
 use Rattle.std.proofs.Common.{◌≡◌, ◌⊎◌, inl, inr, ℕ, zero, suc, ◌<◌, ◌^◌, Bool, true, false, cond, List, [], ◌∷◌, Option, Some, None, codes, decimal, sym, ◌∙◌, ap, refl, subst}
 use Rattle.std.specs.Str.{bytes_eq}
 use Rattle.std.proofs.lemmas.Slice.Eq.{bytes_eq-Decides}
-use Rattle.far_text.specs.Command.{Entry, HeapLine, CommandLine, New, Open, Write, Read, Close, Where, Drop, Logs, Log, Audit, Mutator, Book}
+use Rattle.far_text.specs.Command.{Entry, HeapLine, CommandLine, New, Open, Write, Read, Close, Where, Drop, View, Try, Logs, Log, Audit, Mutator, Book}
 use Rattle.far_text.specs.Says.{Says, Spells}
-use Rattle.far_text.specs.Grammar.{asks_read, asks_write, asks_open, asks_close, asks_new, asks_where, asks_drop, asks_log, From, Operands, Numbers, NumbersAndBytes, number_of, bytes_in, next_number, last_bytes, numbers_then, entry_at_end, entry_from, table, found_in, entry_of, ◌>>=◌}
+use Rattle.far_text.specs.Grammar.{asks_read, asks_write, asks_open, asks_close, asks_new, asks_where, asks_drop, asks_view, asks_try, asks_log, From, Operands, Numbers, NumbersAndBytes, number_of, bytes_in, next_number, last_bytes, numbers_then, entry_at_end, entry_from, table, found_in, entry_of, ◌>>=◌}
 use Rattle.far_text.proofs.Each.{Each}
 use Rattle.far_text.proofs.HexLemmas.{spelled_is_hex, hex_is_spelled}
 use Rattle.far_text.proofs.Numbers.{number_is, number_only}
@@ -18,6 +18,8 @@ said_is_read words (CommandLine (Mutator m (New l k))) h = ap entry_of h.0 ∙ r
 said_is_read words (HeapLine l m) h = ap entry_of h.0 ∙ rw (number_is (decimal l) l h.1 refl, number_is (decimal m) m h.2 refl) refl
 said_is_read words (CommandLine (Mutator m (Where p))) h = ap entry_of h.0 ∙ rw (number_is (decimal m) m h.1 refl, number_is (decimal p) p h.2 refl) refl
 said_is_read words (CommandLine (Mutator m (Drop p))) h = ap entry_of h.0 ∙ rw (number_is (decimal m) m h.1 refl, number_is (decimal p) p h.2 refl) refl
+said_is_read words (CommandLine (Mutator m (View p))) h = ap entry_of h.0 ∙ rw (number_is (decimal m) m h.1 refl, number_is (decimal p) p h.2 refl) refl
+said_is_read words (CommandLine (Mutator m (Try p))) h = ap entry_of h.0 ∙ rw (number_is (decimal m) m h.1 refl, number_is (decimal p) p h.2 refl) refl
 said_is_read words (CommandLine (Book Logs)) h = ap entry_of h
 said_is_read words (CommandLine (Book (Log l))) h = ap entry_of h.0 ∙ rw (number_is (decimal l) l h.1 refl) refl
 said_is_read words (CommandLine (Book Audit)) h = ap entry_of h
@@ -143,6 +145,16 @@ drop_said words c e =
     let (t, b, is, same) = numbers_only 2 asks_drop words c e in
     subst (Says (codes "drop" ∷ words)) same (ap (λ ws. codes "drop" ∷ ws) is, b.0, b.1.0)
 
+try_said : IsSaid (codes "try", Numbers 2 asks_try)
+try_said words c e =
+    let (t, b, is, same) = numbers_only 2 asks_try words c e in
+    subst (Says (codes "try" ∷ words)) same (ap (λ ws. codes "try" ∷ ws) is, b.0, b.1.0)
+
+view_said : IsSaid (codes "view", Numbers 2 asks_view)
+view_said words c e =
+    let (t, b, is, same) = numbers_only 2 asks_view words c e in
+    subst (Says (codes "view" ∷ words)) same (ap (λ ws. codes "view" ∷ ws) is, b.0, b.1.0)
+
 log_said : IsSaid (codes "log", Numbers 1 asks_log)
 log_said words c e =
     let (t, b, is, same) = numbers_only 1 asks_log words c e in
@@ -154,7 +166,7 @@ audit_said words c e =
     subst (Says (codes "audit" ∷ words)) same (ap (λ ws. codes "audit" ∷ ws) is)
 
 rows_said : Each IsSaid table
-rows_said = (read_said, (write_said, (open_said, (close_said, (new_said, (heap_said, (logs_said, (where_said, (drop_said, (log_said, (audit_said, tt)))))))))))
+rows_said = (read_said, (write_said, (open_said, (close_said, (new_said, (heap_said, (logs_said, (where_said, (drop_said, (view_said, (try_said, (log_said, (audit_said, tt)))))))))))))
 
 -- words that begin with a command's name
 named : (name word : List ℕ) (args : List (List ℕ)) (c : Entry) → bytes_eq name word ≡ true → Says (word ∷ args) c → Says (name ∷ args) c

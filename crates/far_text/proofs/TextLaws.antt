@@ -7,7 +7,7 @@ use Rattle.std.proofs.lemmas.Bool.Decides.{nat_tests}
 use Rattle.std.proofs.lemmas.List.Splits.{join_with_byte-slice_split}
 use Rattle.hex.proofs.HexLemmas.{decode_of-ok}
 use Rattle.far_text.specs.declared.text.TheConstants.{LONGEST_TEXT}
-use Rattle.far_text.specs.Command.{Command, Entry, HeapLine, CommandLine, Trace, Nothing, Heap, New, Open, Write, Read, Close, Where, Drop, Mutator, Book}
+use Rattle.far_text.specs.Command.{Command, Entry, HeapLine, CommandLine, Trace, Nothing, Heap, New, Open, Write, Read, Close, Where, Drop, View, Try, Mutator, Book}
 use Rattle.far_text.specs.Grammar.{Line, Skipped, Saying, Bad, line_of, lines_of, line_words, is_plain, is_skipped, saying, entry_of, trace_of, onto, with_heap, read_command, read_commands, read_heap, read_lines}
 use Rattle.far_text.specs.TraceText.{IsPassed, Speaks, LinesSay, LinesAre, TextSays, FirstBad, HaveNone}
 use Rattle.far_text.specs.Says.{Says}
@@ -281,6 +281,8 @@ words_write words (Mutator m (Read p from len)) h = tt
 words_write words (Mutator m Close) h = tt
 words_write words (Mutator m (Where p)) h = tt
 words_write words (Mutator m (Drop p)) h = tt
+words_write words (Mutator m (View p)) h = tt
+words_write words (Mutator m (Try p)) h = tt
 words_write words (Book inquiry) h = tt
 
 lines_write : (lines : List (List ℕ)) (cs : List Command) → LinesSay lines cs → AllWriteBytes cs

@@ -5,7 +5,7 @@ use Rattle.far_text.specs.declared.command.Command.TheVariants.{Mutator as Spell
 use Rattle.far_text.specs.declared.command.Inquiry.{Inquiry as SpelledInquiry}
 use Rattle.far_text.specs.declared.command.Inquiry.TheVariants.{Logs as SpelledLogs, Log as SpelledLog, Audit as SpelledAudit}
 use Rattle.far_text.specs.declared.command.Request.{Request as SpelledRequest}
-use Rattle.far_text.specs.declared.command.Request.TheVariants.{New as SpelledNew, Open as SpelledOpen, Write as SpelledWrite, Read as SpelledRead, Close as SpelledClose, Where as SpelledWhere, Drop as SpelledDrop}
+use Rattle.far_text.specs.declared.command.Request.TheVariants.{New as SpelledNew, Open as SpelledOpen, Write as SpelledWrite, Read as SpelledRead, Close as SpelledClose, Where as SpelledWhere, Drop as SpelledDrop, View as SpelledView, Try as SpelledTry}
 
 -- what a mutator asks for
 pub data Request : Type 0 where
@@ -16,6 +16,8 @@ pub data Request : Type 0 where
   Close : Request
   Where : (pointer : ℕ) → Request
   Drop : (pointer : ℕ) → Request
+  View : (pointer : ℕ) → Request
+  Try : (pointer : ℕ) → Request
 
 -- what the book is asked
 pub data Inquiry : Type 0 where
@@ -46,6 +48,8 @@ as_request (SpelledRead pointer from len) = Read pointer from len
 as_request SpelledClose = Close
 as_request (SpelledWhere pointer) = Where pointer
 as_request (SpelledDrop pointer) = Drop pointer
+as_request (SpelledView pointer) = View pointer
+as_request (SpelledTry pointer) = Try pointer
 
 abbrev pub as_inquiry : SpelledInquiry → Inquiry
 as_inquiry SpelledLogs = Logs

@@ -3,7 +3,7 @@ use Rattle.std.specs.Prelude.{◌≡◌, ℕ, Bool, ◌&&◌, ◌^◌, nat_lt, n
 use Rattle.std.specs.Str.{bytes_eq}
 use Rattle.std.specs.Str.Parse.{digits_value}
 use Rattle.std.specs.List.{slice_split, list_all}
-use Rattle.far_text.specs.Command.{Command, Entry, HeapLine, CommandLine, Trace, Nothing, Heap, New, Open, Write, Read, Close, Where, Drop, Logs, Log, Audit, Mutator, Book}
+use Rattle.far_text.specs.Command.{Command, Entry, HeapLine, CommandLine, Trace, Nothing, Heap, New, Open, Write, Read, Close, Where, Drop, View, Try, Logs, Log, Audit, Mutator, Book}
 use Rattle.far_text.specs.HexWord.{is_hex_word, hex_bytes}
 use Rattle.far_text.specs.declared.hex_word.TheConstants.{LONGEST_LINE}
 use Rattle.far_text.specs.declared.text.TheConstants.{LONGEST_TEXT}
@@ -82,6 +82,12 @@ asks_where m p = CommandLine (Mutator m (Where p))
 abbrev pub asks_drop : From 2 Entry
 asks_drop m p = CommandLine (Mutator m (Drop p))
 
+abbrev pub asks_view : From 2 Entry
+asks_view m p = CommandLine (Mutator m (View p))
+
+abbrev pub asks_try : From 2 Entry
+asks_try m p = CommandLine (Mutator m (Try p))
+
 abbrev pub asks_log : From 1 Entry
 asks_log log = CommandLine (Book (Log log))
 
@@ -96,6 +102,8 @@ table =
     ∷ (codes "logs", Numbers 0 (CommandLine (Book Logs)))
     ∷ (codes "where", Numbers 2 asks_where)
     ∷ (codes "drop", Numbers 2 asks_drop)
+    ∷ (codes "view", Numbers 2 asks_view)
+    ∷ (codes "try", Numbers 2 asks_try)
     ∷ (codes "log", Numbers 1 asks_log)
     ∷ (codes "audit", Numbers 0 (CommandLine (Book Audit)))
     ∷ []

@@ -2,7 +2,7 @@
 use Rattle.std.specs.Prelude.{◌≡◌, ℕ, ◌<◌, ◌≤◌, ◌^◌, List, [], ◌∷◌, length, codes, decimal, Ok}
 use Rattle.hex.specs.Hex.{decode_of}
 use Rattle.far_text.specs.declared.hex_word.TheConstants.{LONGEST_LINE}
-use Rattle.far_text.specs.Command.{Entry, HeapLine, CommandLine, New, Open, Write, Read, Close, Where, Drop, Logs, Log, Audit, Mutator, Book}
+use Rattle.far_text.specs.Command.{Entry, HeapLine, CommandLine, New, Open, Write, Read, Close, Where, Drop, View, Try, Logs, Log, Audit, Mutator, Book}
 
 -- A word in hex stands for these bytes, one at least; a word is no longer than a line.
 abbrev pub Spells : List ℕ → List ℕ → Type 0
@@ -27,6 +27,10 @@ Says words (CommandLine (Mutator mutator (Where pointer))) =
     (words ≡ codes "where" ∷ decimal mutator ∷ decimal pointer ∷ []) × (mutator < 2 ^ 64) × (pointer < 2 ^ 64)
 Says words (CommandLine (Mutator mutator (Drop pointer))) =
     (words ≡ codes "drop" ∷ decimal mutator ∷ decimal pointer ∷ []) × (mutator < 2 ^ 64) × (pointer < 2 ^ 64)
+Says words (CommandLine (Mutator mutator (View pointer))) =
+    (words ≡ codes "view" ∷ decimal mutator ∷ decimal pointer ∷ []) × (mutator < 2 ^ 64) × (pointer < 2 ^ 64)
+Says words (CommandLine (Mutator mutator (Try pointer))) =
+    (words ≡ codes "try" ∷ decimal mutator ∷ decimal pointer ∷ []) × (mutator < 2 ^ 64) × (pointer < 2 ^ 64)
 Says words (CommandLine (Book Logs)) = words ≡ codes "logs" ∷ []
 Says words (CommandLine (Book (Log log))) = (words ≡ codes "log" ∷ decimal log ∷ []) × (log < 2 ^ 64)
 Says words (CommandLine (Book Audit)) = words ≡ codes "audit" ∷ []

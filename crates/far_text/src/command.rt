@@ -5,7 +5,7 @@ ghost use Rattle.std.specs.Str.{bytes_eq};
 ghost use Rattle.std.specs.Option.{option_and_then};
 ghost use Rattle.far_text.specs.Command.{HeapLine, CommandLine, Book, Logs, Audit};
 ghost use Rattle.far_text.specs.Spelled.{entry_spelled};
-ghost use Rattle.far_text.specs.Grammar.{Numbers, NumbersAndBytes, asks_read, asks_write, asks_open, asks_close, asks_new, asks_where, asks_drop, asks_log, entry_from, entry_of, entry_at_end};
+ghost use Rattle.far_text.specs.Grammar.{Numbers, NumbersAndBytes, asks_read, asks_write, asks_open, asks_close, asks_new, asks_where, asks_drop, asks_view, asks_try, asks_log, entry_from, entry_of, entry_at_end};
 ghost use Rattle.far_text.specs.Cursor.{words_in, words_left, lines_after_first, lines_after, lines_left};
 
 use crate::cursor::{Rest, last_bytes_of, next_number_of, word_first};
@@ -33,6 +33,12 @@ pub enum Request<'a> {
         pointer: u64,
     },
     Drop {
+        pointer: u64,
+    },
+    View {
+        pointer: u64,
+    },
+    Try {
         pointer: u64,
     },
 }
@@ -163,6 +169,26 @@ fn drop_spelled(rest: Rest<'_>) -> Option<Spelled<'_>>
     at_end(Entry::Command(Command::Mutator { mutator, request }), rest)
 }
 
+fn try_spelled(rest: Rest<'_>) -> Option<Spelled<'_>>
+    ensures value { option_and_then (λ found. entry_spelled found.0) result ≡ entry_from (Numbers 2 asks_try) (words_left rest.entry) }
+    ensures lines { IfSome result (λ found. lines_left found.1 ≡ lines_after rest.entry) }
+{
+    let (mutator, rest) = next_number_of(rest)?;
+    let (pointer, rest) = next_number_of(rest)?;
+    let request = Request::Try { pointer };
+    at_end(Entry::Command(Command::Mutator { mutator, request }), rest)
+}
+
+fn view_spelled(rest: Rest<'_>) -> Option<Spelled<'_>>
+    ensures value { option_and_then (λ found. entry_spelled found.0) result ≡ entry_from (Numbers 2 asks_view) (words_left rest.entry) }
+    ensures lines { IfSome result (λ found. lines_left found.1 ≡ lines_after rest.entry) }
+{
+    let (mutator, rest) = next_number_of(rest)?;
+    let (pointer, rest) = next_number_of(rest)?;
+    let request = Request::View { pointer };
+    at_end(Entry::Command(Command::Mutator { mutator, request }), rest)
+}
+
 fn log_spelled(rest: Rest<'_>) -> Option<Spelled<'_>>
     ensures value { option_and_then (λ found. entry_spelled found.0) result ≡ entry_from (Numbers 1 asks_log) (words_left rest.entry) }
     ensures lines { IfSome result (λ found. lines_left found.1 ≡ lines_after rest.entry) }
@@ -208,6 +234,12 @@ fn entry_by_name<'a>(name: &[u8], rest: Rest<'a>) -> Option<Spelled<'a>>
     }
     if is_name(name, b"drop") {
         return drop_spelled(rest);
+    }
+    if is_name(name, b"view") {
+        return view_spelled(rest);
+    }
+    if is_name(name, b"try") {
+        return try_spelled(rest);
     }
     if is_name(name, b"log") {
         return log_spelled(rest);

@@ -53,6 +53,8 @@ pub enum Record {
     Close(Number),
     Where(Number, Number),
     Drop(Number, Number),
+    View(Number, Number),
+    Try(Number, Number),
     Logs,
     Log(Number),
     Audit,
@@ -122,6 +124,8 @@ fn request_record(
         Request::Close => Record::Close(m),
         Request::Where { pointer } => Record::Where(m, Number::of(pointer)),
         Request::Drop { pointer } => Record::Drop(m, Number::of(pointer)),
+        Request::View { pointer } => Record::View(m, Number::of(pointer)),
+        Request::Try { pointer } => Record::Try(m, Number::of(pointer)),
     }))
 }
 
@@ -192,6 +196,14 @@ impl Record {
             Record::Drop(mutator, pointer) => {
                 let pointer = pointer.value();
                 (mutator, Request::Drop { pointer })
+            }
+            Record::View(mutator, pointer) => {
+                let pointer = pointer.value();
+                (mutator, Request::View { pointer })
+            }
+            Record::Try(mutator, pointer) => {
+                let pointer = pointer.value();
+                (mutator, Request::Try { pointer })
             }
             Record::Logs => return Command::Book(Inquiry::Logs),
             Record::Log(log) => return Command::Book(Inquiry::Log { log: log.value() }),

@@ -572,6 +572,60 @@ audit
   audit near 0 far 0 live 0
 ";
 
+/// What is viewed isn't dropped until its scope is closed; a drop is refused once there is no object.
+const VIEWED: &str = "\
+heap 4 1
+  ok
+new 0 8 1
+  pointer 0
+open 0
+  ok
+view 0 0
+  ok
+drop 0 0
+  refused 9
+close 0
+  ok
+drop 0 0
+  ok
+log 0
+  log 0 open live 0 dead 16 unused 1008
+drop 0 0
+  refused 7
+";
+
+/// A try views an object: it is hot, and isn't dropped until its scope is closed.
+const TRIED: &str = "\
+heap 4 1
+  ok
+new 0 8 1
+  pointer 0
+try 0 0
+  refused 5
+where 0 0
+  near 0 0 -
+open 0
+  ok
+try 0 0
+  ok
+where 0 0
+  near 0 0 h
+try 0 0
+  ok
+drop 0 0
+  refused 9
+write 0 0 7 ff
+  ok
+close 0
+  ok
+drop 0 0
+  ok
+open 0
+  ok
+try 0 0
+  refused 7
+";
+
 /// The pointer of a dropped object is given anew, and its bytes stay dead; an open scope forbids no drop of what it doesn't view.
 const GIVEN_ANEW: &str = "\
 heap 4 2
@@ -648,7 +702,7 @@ log 1
   log 1 free live 0 dead 0 unused 1024
 ";
 
-const TALKS: [&str; 22] = [
+const TALKS: [&str; 24] = [
     FIRST_OBJECT,
     PAGE,
     COMMENTS,
@@ -669,6 +723,8 @@ const TALKS: [&str; 22] = [
     PLACES,
     COUNTED,
     DROPPED,
+    VIEWED,
+    TRIED,
     GIVEN_ANEW,
     DEAD_LOGS,
 ];

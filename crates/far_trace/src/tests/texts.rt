@@ -55,10 +55,14 @@ const BAD_TEXTS: &str = "\
 2 heap 4 1/where 0 -1
 2 heap 4 1/drop 0
 2 heap 4 1/drop 0 0 0
+2 heap 4 1/view 0
+2 heap 4 1/view 0 0 0
+2 heap 4 1/try 0
+2 heap 4 1/try 0 0 0
 2 heap 4 1/log 00
 2 heap 4 1/log 18446744073709551616
 2 heap 4 1/audit 0
-2 heap 4 1/view 0 0
+2 heap 4 1/epoch 0
 2 heap 4 1/LOGS
 2 heap 4 1/log
 2 heap 4 1/logss

@@ -1,29 +1,32 @@
-use Rattle.std.proofs.Common.{◌≡◌, ◌+◌, ◌<◌, ℕ, get_or, ap, sym, ◌∙◌, arith}
-use Rattle.far_word.specs.Pointer.{read_of}
-use Rattle.far_replay.specs.Moment.{state_in}
+use Rattle.std.proofs.Common.{◌+◌, ap, ◌∙◌}
+use Rattle.std.specs.Prelude.{slice_range}
 use Rattle.far_core.specs.state.State.{State}
-use Rattle.far_core.specs.events.Step.{near_data, data_len}
+use Rattle.far_replay.specs.Moment.{state_in}
+use Rattle.far_replay.specs.Objects.{data_of}
 use Rattle.far_replay.specs.Reply.{Data}
-use Rattle.far_replay.proofs.Fronts.{read_range}
-use Rattle.far_replay.proofs.RangeTurns.{reached, read_made, viewed_range, viewed_word}
+use Rattle.far_replay.proofs.RangeTurns.{none_refused, read_made, viewed_by, viewed_range}
 use Rattle.far_replay.proofs.turn.read.Goals as goal
 
-pub load_front-requires-clause-viewed : goal.load_front-requires-clause-viewed
-load_front-requires-clause-viewed c = viewed_range (state_in c.args.book.now) (state_in c.view.new.book) c.args.access c.requires.law c.requires.between c.requires.access c.view.ensures
+pub read_viewed-requires : goal.read_viewed-requires
+read_viewed-requires c = record {
+  viewed =
+      viewed_range (state_in c.args.book.now) (state_in c.dereference.new.book) c.args.access c.requires.law c.requires.between c.requires.access
+      (viewed_by (state_in c.args.book.now) (state_in c.dereference.new.book) c.args.access c.requires.law c.requires.between c.requires.access c.in-Ok.ensures.state);
+}
 
-pub returns-clause-state : goal.returns-clause-state
-returns-clause-state c = read_made (state_in c.args.book.now) (state_in c.view.new.book) c.args.access c.requires.law c.requires.between c.requires.access c.view.ensures
+pub returns-in-Ok-clause-state : goal.returns-in-Ok-clause-state
+returns-in-Ok-clause-state c =
+    read_made (state_in c.args.book.now) (state_in c.dereference.new.book) c.args.access c.requires.law c.requires.between c.requires.access
+    (viewed_by (state_in c.args.book.now) (state_in c.dereference.new.book) c.args.access c.requires.law c.requires.between c.requires.access c.in-Ok.ensures.state)
 
-pub returns-clause-reply : goal.returns-clause-reply
-returns-clause-reply c =
-    let s : State = state_in c.args.book.now in
-    let p : ℕ = c.args.access.pointer in
-    let from : ℕ = c.args.access.from in
-    let count : ℕ = c.args.access.count in
-    let there = reached s (state_in c.view.new.book) c.args.access c.requires.law c.requires.between c.requires.access c.view.ensures in
-    let word : (k : ℕ) → k < c.touched-count.result → get_or c.load_front.new.words k 0 ≡ s.word (near_data (read_of (s.cell p)) + (c.first.result + k)) = (λ k lt.
-    c.load_front.ensures k (omega (arith, c.touched-count.ensures))
-    ∙ viewed_word s (state_in c.view.new.book) c.args.access c.requires.law c.requires.between c.requires.access c.view.ensures _
-    ∙ ap (λ f. s.word (near_data (read_of (s.cell p)) + (f + k))) (sym c.first.ensures)) in
-    ap Data (read_range c.load_front.new.words c.unpack_front.new.bytes (λ i. s.word (near_data (read_of (s.cell p)) + i)) (data_len s p) from count _ _ _
-    c.first.ensures c.touched-count.ensures (omega arith) there.within (omega (arith, c.requires.access.inside, c.requires.access.most, c.touched-count.ensures)) c.unpack_front.ensures.front word)
+pub returns-in-Ok-clause-reply : goal.returns-in-Ok-clause-reply
+returns-in-Ok-clause-reply c =
+    c.read_viewed.ensures.reply ∙ ap (λ (t : State). Data (slice_range (data_of t c.args.access.pointer) c.args.access.from (c.args.access.from + c.args.access.count))) c.in-Ok.ensures.state
+
+pub returns-in-Err-clause-state : goal.returns-in-Err-clause-state
+returns-in-Err-clause-state c =
+    absurd (none_refused (state_in c.args.book.now) (state_in c.dereference.new.book) c.args.access c.in-Err.why c.requires.law c.requires.between c.requires.access c.in-Err.ensures.refused)
+
+pub returns-in-Err-clause-reply : goal.returns-in-Err-clause-reply
+returns-in-Err-clause-reply c =
+    absurd (none_refused (state_in c.args.book.now) (state_in c.dereference.new.book) c.args.access c.in-Err.why c.requires.law c.requires.between c.requires.access c.in-Err.ensures.refused)

@@ -1,0 +1,57 @@
+//! Objects are viewed, or tried: pinned, and not asked for.
+
+ghost use Rattle.std.specs.Prelude.{◌≡◌, ◌<◌};
+ghost use Rattle.far_core.specs.state.Law.{Law};
+ghost use Rattle.far_text.specs.Command.{Mutator, Try, View};
+ghost use Rattle.far_replay.specs.Between.{Between};
+ghost use Rattle.far_replay.specs.Interpreter.{StandsFor};
+ghost use Rattle.far_replay.specs.Moment.{moment_of, state_in};
+ghost use Rattle.far_replay.specs.Outcome.{IsInRoom};
+ghost use Rattle.far_replay.specs.Turn.{effect, reply_to};
+
+use crate::events::{dereference, try_view};
+use crate::outcome::Outcome;
+use crate::owners::own_pointer;
+use far_book::{Book, Plain};
+use far_device::MemDevice;
+use far_word::Refused;
+
+/// Views an owner's object where one pin does, and else answers the cell that the pin found.
+pub fn try_object(book: &mut Book<Plain, MemDevice>, owner: u8, pointer: u64) -> Outcome
+    requires known { owner < (state_in book.old).mutators }
+    ensures state { moment_of (state_in book.new) ≡ effect (moment_of (state_in book.old)) (Mutator owner (Try pointer)) }
+    ensures reply { StandsFor result (reply_to (moment_of (state_in book.old)) (Mutator owner (Try pointer))) }
+    ensures fits { IsInRoom result }
+{
+    if !book.core().is_open(owner) {
+        return Outcome::Refused(Refused::Closed);
+    }
+    let Some(pointer) = own_pointer(book, owner, pointer) else {
+        return Outcome::Refused(Refused::NotHeld);
+    };
+    match try_view(book, owner, pointer) {
+        Ok(()) => Outcome::Done,
+        Err(word) => Outcome::Refused(Refused::Marked(word)),
+    }
+}
+
+/// Views an owner's object, whatever marks it has.
+pub fn view_object(book: &mut Book<Plain, MemDevice>, owner: u8, pointer: u64) -> Outcome
+    requires known { owner < (state_in book.old).mutators }
+    requires between { Between (state_in book.old) }
+    requires law { Law (state_in book.old) }
+    ensures state { moment_of (state_in book.new) ≡ effect (moment_of (state_in book.old)) (Mutator owner (View pointer)) }
+    ensures reply { StandsFor result (reply_to (moment_of (state_in book.old)) (Mutator owner (View pointer))) }
+    ensures fits { IsInRoom result }
+{
+    if !book.core().is_open(owner) {
+        return Outcome::Refused(Refused::Closed);
+    }
+    let Some(pointer) = own_pointer(book, owner, pointer) else {
+        return Outcome::Refused(Refused::NotHeld);
+    };
+    match dereference(book, owner, pointer) {
+        Ok(()) => Outcome::Done,
+        Err(why) => Outcome::Refused(why),
+    }
+}
