@@ -236,7 +236,7 @@ impl Model for Commands {
 }
 
 impl Commands {
-    ghost use Rattle.std.specs.Prelude.{◌≡◌, ◌≤◌, ◌<◌, ◌+◌, ◌++◌, ◌∷◌, [], length, drop, cond, Some, None, IfOk};
+    ghost use Rattle.std.specs.Prelude.{◌≡◌, ◌≢◌, ◌≤◌, ◌<◌, ◌+◌, ◌++◌, ◌∷◌, [], length, drop, true, cond, Ok, Some, None, IfOk};
     ghost use Rattle.std.specs.Option.{option_map};
     ghost use Rattle.far_text.specs.declared.text.TheConstants.{LONGEST_TEXT};
     ghost use Rattle.far_text.specs.Command.{as_command};
@@ -271,11 +271,12 @@ impl Commands {
         record.command(self.bytes.as_slice())
     }
 
-    /// Adds a command that was read, unless it writes what is no word in hex. Whether it did.
+    /// Adds a command that was read, unless it writes what is no word in hex. Whether it did; if not, nothing has changed.
     #[inline(always)]
     pub fn push(&mut self, command: Command<'_>) -> Result<bool, AllocError>
         requires { length self.old ≤ LONGEST_TEXT }
-        ensures { IfOk result (λ kept. option_map (λ c. self.old ++ c ∷ []) (command_spelled command.entry) ≡ cond kept (Some self.new) None) }
+        ensures value { IfOk result (λ kept. option_map (λ c. self.old ++ c ∷ []) (command_spelled command.entry) ≡ cond kept (Some self.new) None) }
+        ensures same { result ≢ Ok true → self.new ≡ self.old }
     {
         let before = self.bytes.len();
         let Some(record) = record_of(&mut self.bytes, command)? else {

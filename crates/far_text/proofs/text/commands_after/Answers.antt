@@ -34,7 +34,7 @@ returns-then-not-branch-clause-fault c =
     let reads = rw c.in-Some.is at c.loop-lines.invariant.reads in
     let entry = rw c.in-Said.is at c.in-Some-line_first.ensures.line in
     let line = rw c.in-Command.is at entry in
-    let none : option_map (λ x. old ++ x ∷ []) spelled ≡ None = c.in_ok-push.ensures ∙ ap (λ kept. cond kept (Some c.push.new.self) None) c.if-not-branch.true in
+    let none : option_map (λ x. old ++ x ∷ []) spelled ≡ None = c.in_ok-push.ensures.value ∙ ap (λ kept. cond kept (Some c.push.new.self) None) c.if-not-branch.true in
     sym reads ∙ ap (onto_all old)
     (after_line (c.loop-lines.number + 1) c.in-Some.text.now (saying (option_map CommandLine spelled)) (lines_left c.in-Some-line_first.after) line c.in-Some-line_first.ensures.lines ∙ none_kept old spelled none _ _)
 
@@ -80,7 +80,7 @@ loop-lines-preserved-else-not-branch c =
     let entry = rw c.in-Said.is at c.in-Some-line_first.ensures.line in
     let line = rw c.in-Command.is at entry in
     let fewer = fewer_lines text after c.in-Some-line_first.ensures.lines in
-    let kept : option_map (λ x. old ++ x ∷ []) spelled ≡ Some new = c.in_ok-push.ensures ∙ ap (λ kept. cond kept (Some new) None) c.if-not-branch.false in
+    let kept : option_map (λ x. old ++ x ∷ []) spelled ≡ Some new = c.in_ok-push.ensures.value ∙ ap (λ kept. cond kept (Some new) None) c.if-not-branch.false in
     let long = one_longer old new spelled kept in
     let one = after_line (number + 1) text (saying (option_map CommandLine spelled)) after line c.in-Some-line_first.ensures.lines in
     record {

@@ -16,8 +16,8 @@ invariant_of-self-in_default-push c =
       omega (arith, c.self.invariant.1, c.in_ok-record.ensures.short, length-append records (c.in-Some.record ∷ [])),
     )
 
-pub returns : goal.returns
-returns c =
+pub returns-clause-value : goal.returns-clause-value
+returns-clause-value c =
     let old = c.self.inside.bytes in
     let new = c.record_of.new.bytes in
     let records = c.self.inside.records.items in
