@@ -7,4 +7,5 @@ pub mod Naming
 pub mod OwnersWork
 pub mod Quietness
 pub mod Reading
+pub mod RoundSteps
 pub mod region

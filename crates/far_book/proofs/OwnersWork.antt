@@ -1,7 +1,6 @@
 -- What an owner's event changes.
-use Rattle.std.proofs.Common.{◌≡◌, ℕ, ◌^◌, true, false, Some, refl, sym, ap, ◌∙◌, subst, arith, bit_or}
-use Rattle.std.proofs.lemmas.Bool.{false≢true, cond_both}
-use Rattle.std.proofs.lemmas.Bool.Decides.{nat_tests}
+use Rattle.std.proofs.Common.{◌≡◌, ℕ, ◌^◌, true, false, Some, None, refl, sym, ap, ◌∙◌, subst, bit_or}
+use Rattle.std.proofs.lemmas.Bool.{false≢true, cond_both, false_from_ne_true}
 use Rattle.far_word.specs.declared.mark.Mark.{Mark as MarkKind}
 use Rattle.far_word.specs.declared.mark.Mark.TheVariants.{Hot, Evac, Moved, Dropped}
 use Rattle.far_word.specs.declared.mark.Marks.{Marks}
@@ -10,7 +9,7 @@ use Rattle.far_word.specs.declared.pointer.PtrWord.TheVariants.{Near}
 use Rattle.far_word.specs.Mark.{position}
 use Rattle.far_word.specs.Pointer.{read_of}
 use Rattle.far_core.specs.declared.event.Event.{Event}
-use Rattle.far_core.specs.declared.event.Event.TheVariants.{ReadEpoch, Open, Pin, Load, Store, Close, Adopt, Put, Name, See, Mark, Ask, Get, Clear}
+use Rattle.far_core.specs.declared.event.Event.TheVariants.{ReadEpoch, Open, Pin, Load, Store, Close, Adopt, Put, Name, See, Mark, Ask, Get, Clear, Advance, Look}
 use Rattle.far_core.specs.declared.event.Reply.{Reply}
 use Rattle.far_core.specs.declared.event.Reply.TheVariants.{Refused}
 use Rattle.far_core.specs.events.Ask.{is_request}
@@ -19,11 +18,12 @@ use Rattle.far_core.specs.events.Step.{after, answer, is_legal, step_of, data_wo
 use Rattle.far_core.specs.state.Law.{Law}
 use Rattle.far_core.specs.state.State.{State, put}
 use Rattle.far_core.proofs.Calls.{word_behind}
-use Rattle.far_core.proofs.Cells.{held_near}
 use Rattle.far_core.proofs.Marking as marking
 use Rattle.far_core.proofs.Marking.{read_mark}
 use Rattle.far_core.proofs.Owing.{is_fact}
 use Rattle.far_core.proofs.Put.{put_both, put_other}
+use Rattle.far_core.proofs.Quieting.{quiet_fact, quiet_unheld}
+use Rattle.far_core.specs.events.Quiet.{is_quiet_cell}
 use Rattle.far_book.specs.Finds.{Finds}
 use Rattle.far_book.specs.Owners.{is_owners, IsLoudAt, OwnersChange}
 use Rattle.far_book.specs.Quiet.{is_quiet}
@@ -48,15 +48,11 @@ module _ (s t : State) (law : Law s) (p : ℕ) (k : MarkKind) (own : marking.is_
   marks : OwnersChange s t
   marks = record { cells = λ q. subst (λ (f : ℕ → ℕ). Finds (s.cell q) (f q)) (sym cells) (marked q); words = λ a _. ap (λ f. f a) words; rest = rest }
 
--- what is held isn't quiet: it has no MOVE, and no log is in a round
+-- what is held isn't quiet
 held_loud : (s : State) → Law s → (p len ds : ℕ) (place : Place) (m : Marks) → s.held p ≡ Some place → read_of (s.cell p) ≡ Some (Near len ds place m) →
     is_quiet s.round s.clear p place m ≡ false
-held_loud s law p len ds place m held near =
-    let x = held_near _ place (law.views.held_names p place held) in
-    let same : m ≡ x.marks = (let both : Some (Near len ds place m) ≡ Some (Near x.len x.ds place x.marks) = sym near ∙ x.near in cc) in
-    let unmoved : m.moved ≡ false = ap (λ (k : Marks). k.moved) same ∙ x.unmoved in
-    let out : s.round place.log ≡ false = law.rounds.none_chosen place.log in
-    grind (arith, nat_tests)
+held_loud s law p len ds place m held near = false_from_ne_true _ (λ quiet.
+    let odd : None ≡ Some place = sym (quiet_unheld s law p (quiet_fact s p (ap (is_quiet_cell s p) near ∙ quiet))) ∙ held in cc)
 
 -- a word of an object that is held is stored into
 module _ (s : State) (law : Law s) (m p i w : ℕ) (legal : Legal s (Store m p i w)) where
@@ -103,6 +99,8 @@ change s (See p) law own legal = absurd (false≢true own)
 change s (Mark p) law own legal = absurd (false≢true own)
 change s (Clear p) law own legal = absurd (false≢true own)
 change s (Get l at free) law own legal = absurd (false≢true own)
+change s (Advance logs) law own legal = absurd (false≢true own)
+change s (Look m) law own legal = absurd (false≢true own)
 
 -- the same of a step, legal or not
 pub step_changes : (s : State) (e : Event) → Law s → is_owners e ≡ true → OwnersChange s (step_of s e).0

@@ -25,7 +25,9 @@ pub mod Places
 pub mod Reaching
 pub mod ReachingFar
 pub mod Readings
+pub mod Releasing
 pub mod Retires
+pub mod Rounding
 pub mod Settled
 pub mod SpanLists
 pub mod Starts

@@ -5,5 +5,6 @@ pub mod Known
 pub mod Masked
 pub mod Owners
 pub mod Quiet
+pub mod Rounds
 pub mod ShapeOf
 pub mod book

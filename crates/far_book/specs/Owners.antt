@@ -6,7 +6,7 @@ use Rattle.far_word.specs.declared.pointer.PtrWord.TheVariants.{Near}
 use Rattle.far_word.specs.Pointer.{read_of}
 use Rattle.far_word.specs.Sizes.{words_for}
 use Rattle.far_core.specs.declared.event.Event.{Event}
-use Rattle.far_core.specs.declared.event.Event.TheVariants.{ReadEpoch, Open, Pin, Load, Store, Close, Adopt, Put, Name, See, Mark, Ask, Get, Clear}
+use Rattle.far_core.specs.declared.event.Event.TheVariants.{ReadEpoch, Open, Pin, Load, Store, Close, Adopt, Put, Name, See, Mark, Ask, Get, Clear, Advance, Look}
 use Rattle.far_core.specs.events.Step.{step_of}
 use Rattle.far_core.specs.state.State.{State, addr}
 use Rattle.far_book.specs.Finds.{Finds}
@@ -28,6 +28,8 @@ is_owners (See p) = false
 is_owners (Mark p) = false
 is_owners (Clear p) = false
 is_owners (Get l at free) = false
+is_owners (Advance logs) = false
+is_owners (Look m) = false
 
 -- the state once owners had the turn for the next event of a list: an owner's event is made, if it is legal, any other
 -- passed over

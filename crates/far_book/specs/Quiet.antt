@@ -10,12 +10,13 @@ use Rattle.far_word.specs.Sizes.{words_for}
 use Rattle.far_core.specs.state.State.{State, addr}
 pub use Rattle.far_core.specs.events.Quiet.{is_quiet}
 
--- a word of a log is a data word of the object that a cell names, and the cell has MOVE
-abbrev pub is_moved_word : Option PtrWord → ℕ → ℕ → Bool
-is_moved_word None l at = false
-is_moved_word (Some Free) l at = false
-is_moved_word (Some (Near len ds place marks)) l at = marks.moved && (place.log == l) && nat_lt place.at at && nat_le at (place.at + words_for len)
-is_moved_word (Some (Far len ds marks)) l at = false
+-- a word of a log is a data word of the object that a pointer's cell names, and the object is quiet
+abbrev pub is_quiet_word : (ℕ → Bool) → (ℕ → Bool) → ℕ → Option PtrWord → ℕ → ℕ → Bool
+is_quiet_word round clear p None l at = false
+is_quiet_word round clear p (Some Free) l at = false
+is_quiet_word round clear p (Some (Near len ds place marks)) l at =
+    is_quiet round clear p place marks && ((place.log == l) && nat_lt place.at at && nat_le at (place.at + words_for len))
+is_quiet_word round clear p (Some (Far len ds marks)) l at = false
 
 -- the word at an address is a data word of a near object that the state shows to be quiet
 pub record IsQuietAt (s : State) (a : ℕ) : Type 0 where

@@ -13,5 +13,6 @@ pub mod Own
 pub mod Placeable
 pub mod Reached
 pub mod Reading
+pub mod Releasing
 pub mod Renaming
 pub mod Rows

@@ -38,6 +38,7 @@ mod leaving;
 mod moving;
 mod over_plain;
 mod renaming;
+mod round;
 
 use crate::home::Home;
 use crate::ledger::Ledger;

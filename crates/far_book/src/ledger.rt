@@ -3,6 +3,7 @@
 ghost use Rattle.std.specs.Prelude.{◌≡◌, ◌≢◌, ℕ, ◌+◌, ◌-◌, ◌*◌, ◌/◌, ◌<◌, ◌≤◌, ◌==◌, true, false, Some, None, List, [], IfOk, MatchOption};
 ghost use Rattle.std.specs.Vec.{vec_len, vec_capacity};
 ghost use Rattle.far_word.specs.declared.sizes.TheConstants.{CELLS, LOG_WORDS};
+ghost use Rattle.far_core.specs.laws.Observed.{live_bytes};
 ghost use Rattle.far_core.specs.state.Opening.{opening};
 ghost use Rattle.far_core.specs.state.Room.{room};
 ghost use Rattle.far_core.specs.state.Shape.{is_shape};
@@ -11,6 +12,7 @@ ghost use Rattle.far_book.specs.book.Effects.{with_free_cell};
 ghost use Rattle.far_book.specs.book.Ledger.{Notes, KnowsLog, filled_of, is_noted_free, MayTake, MayRetire, Takes, Loses, Frees, IsLowestFree};
 ghost use Rattle.far_book.specs.book.NumberSet.{HasNoneLeft, IsLowestLeft};
 ghost use Rattle.far_book.specs.book.Own.{own_part};
+ghost use Rattle.far_book.specs.book.Releasing.{GivesBack, order_without};
 ghost use Rattle.far_book.specs.book.Rows.{row_of};
 
 use crate::number_set::NumberSet;
@@ -137,6 +139,14 @@ impl Ledger {
         }
     }
 
+    /// Whether no span of a log is live.
+    pub(crate) fn is_vacant(&self, log: u8) -> bool
+        requires known { (s : State) × KnowsLog s self.now log }
+        ensures { (s : State) → KnowsLog s self.now log → result ≡ (live_bytes s log == 0) }
+    {
+        self.filled_of(log).live == 0
+    }
+
     /// The lowest free cell of a mutator.
     pub(crate) fn free_cell(&self, owner: u8) -> Option<u16>
         requires known { (s : State) × Notes s self.now × (owner < s.mutators) }
@@ -202,6 +212,37 @@ impl Ledger {
         ensures { Loses self.old self.new log size }
     {
         self.filled[log as usize].live -= 8 * size;
+    }
+
+    /// A log is given back: it is free, and has nothing.
+    pub(crate) fn give_back(&mut self, log: u8)
+        requires few { log < 64 }
+        requires log { log < vec_len self.old.filled }
+        ensures { GivesBack self.old self.new log }
+    {
+        self.free_logs.insert(log);
+        self.empty(log);
+        self.unlist(log);
+    }
+
+    // A log has no span.
+    fn empty(&mut self, log: u8)
+        requires { log < vec_len self.old.filled }
+        ensures here { filled_of self.new log ≡ record { tail = 0; live = 0 } }
+        ensures there { (l : ℕ) → l ≢ log → filled_of self.new l ≡ filled_of self.old l }
+        ensures logs { vec_len self.new.filled ≡ vec_len self.old.filled }
+        ensures rest { self.new ≡ record self.old { filled = self.new.filled } }
+    {
+        self.filled[log as usize] = Filled { tail: 0, live: 0 };
+    }
+
+    // A log is none of the sealed ones.
+    fn unlist(&mut self, log: u8)
+        ensures order { self.new.order.items ≡ order_without log self.old.order.items }
+        ensures room { vec_capacity self.new.order ≡ vec_capacity self.old.order }
+        ensures rest { self.new ≡ record self.old { order = self.new.order } }
+    {
+        self.order.retain(|sealed| *sealed != log);
     }
 
     // A cell is free.

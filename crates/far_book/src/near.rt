@@ -1,8 +1,9 @@
 //! The book's hand on the shared words.
 
-ghost use Rattle.std.specs.Prelude.{◌≡◌, ◌≢◌, ◌+◌, ◌*◌, ◌^◌, ℕ, true, false, bit_or, IfOk, IfErr};
+ghost use Rattle.std.specs.Prelude.{◌≡◌, ◌≢◌, ◌+◌, ◌*◌, ◌^◌, ◌<◌, ℕ, true, false, bit_or, IfOk, IfErr};
 ghost use Rattle.far_word.specs.declared.mark.Mark.TheVariants.{Evac};
-ghost use Rattle.far_word.specs.declared.sizes.TheConstants.{LOG_WORDS};
+ghost use Rattle.far_word.specs.declared.refused.Refused.TheVariants.{EpochsSpent};
+ghost use Rattle.far_word.specs.declared.sizes.TheConstants.{EPOCH_END, LOG_WORDS};
 ghost use Rattle.far_word.specs.Mark.{position};
 ghost use Rattle.far_core.specs.events.Legal.{Legal};
 ghost use Rattle.far_core.specs.events.Step.{after};
@@ -12,9 +13,11 @@ ghost use Rattle.far_book.specs.Cleared.{cleared};
 ghost use Rattle.far_book.specs.Finds.{Finds};
 ghost use Rattle.far_book.specs.Known.{IsKnown, Forgets, IsPaddedAt, KnowsLeaving};
 ghost use Rattle.far_book.specs.Quiet.{IsQuietAt};
+ghost use Rattle.far_book.specs.Rounds.{IsScopeAt, MayChoose, looked_at};
 ghost use Rattle.far_book.specs.ShapeOf.{shape_of};
 
 use far_core::{Event, Shape};
+use far_word::Refused;
 
 /// The book's hand on the shared words. Each call is one event of [`far_core`] on at most one word, takes no memory and
 /// always answers.
@@ -94,6 +97,26 @@ pub trait Near {
         ensures kept { IfErr result (λ found. view self.new ≡ record (view self.old) { cell = put (view self.old).cell pointer found }) }
         ensures won { still → IfErr result (λ _. ⊥) }
         ensures set { still → view self.new ≡ after (view self.old) (Event.Name pointer old new) };
+
+    /// The epoch rises by 1, and a round begins of the logs whose bit is 1 in `logs`: the new epoch. Words may be forgotten
+    /// then. `Err` with [`Refused::EpochsSpent`] where there is no later epoch, and nothing has changed.
+    fn advance(&mut self, logs: u64) -> Result<u64, Refused>
+        requires chosen { MayChoose (view self.old) logs }
+        ensures epoch { IfOk result (λ epoch. (epoch ≡ (view self.old).epoch + 1) × (epoch < EPOCH_END)) }
+        ensures kept { IfOk result (λ _. view self.new ≡ record (after (view self.old) (Event.Advance logs)) { word = (view self.new).word }) }
+        ensures forgot { IfOk result (λ _. Forgets (view self.old) (view self.new)) }
+        ensures refused { IfErr result (λ why. (why ≡ EpochsSpent) × ((view self.old).epoch + 1 ≡ EPOCH_END)) }
+        ensures unchanged { IfErr result (λ _. view self.new ≡ view self.old) }
+        ensures set { still → IfOk result (λ _. view self.new ≡ after (view self.old) (Event.Advance logs)) };
+
+    /// The scope word of an owner, as it is found. The owner is seen clear in the round from then on where the word says closed,
+    /// or open at the round's epoch or later.
+    fn look(&mut self, owner: u8) -> u64
+        requires legal { Legal (view self.old) (Event.Look owner) }
+        ensures scope { IsScopeAt (view self.old).epoch result }
+        ensures kept { view self.new ≡ looked_at (view self.old) owner result }
+        ensures exact { still → result ≡ (view self.old).scope owner }
+        ensures set { still → view self.new ≡ after (view self.old) (Event.Look owner) };
 
     /// How large the heap is, and its epoch now.
     fn shape(&self) -> Shape

@@ -23,6 +23,8 @@ pub(crate) fn is_owners(event: Event) -> bool
         | Event::See { .. }
         | Event::Mark { .. }
         | Event::Get { .. }
-        | Event::Clear { .. } => false,
+        | Event::Clear { .. }
+        | Event::Advance { .. }
+        | Event::Look { .. } => false,
     }
 }

@@ -1,12 +1,13 @@
 //! The plain hand: a core that nobody else steps.
 
-ghost use Rattle.std.specs.Prelude.{◌≡◌, true};
+ghost use Rattle.std.specs.Prelude.{◌≡◌, ◌+◌, ◌<◌, true, false};
 ghost use Rattle.far_core.specs.state.CoreState.{core_state};
 ghost use Rattle.far_core.specs.state.Shape.{is_shape};
 ghost use Rattle.far_book.specs.ShapeOf.{shape_of};
 
 use crate::near::Near;
 use far_core::{Core, Shape};
+use far_word::{EPOCH_END, Refused};
 
 /// A core as the book's hand. It is still: what the view says is the state, whose words change by the book's calls alone.
 #[derive(Debug, Drop)]
@@ -43,9 +44,28 @@ impl Near for Plain {
         self.core.name(pointer, old, new)
     }
 
+    fn advance(&mut self, logs: u64) -> Result<u64, Refused> {
+        if !may_rise(&self.core) {
+            return Err(Refused::EpochsSpent);
+        }
+        Ok(self.core.advance(logs))
+    }
+
+    fn look(&mut self, owner: u8) -> u64 {
+        self.core.look(owner)
+    }
+
     fn shape(&self) -> Shape {
         shape_of(&self.core)
     }
+}
+
+/// Whether there is a later epoch.
+pub(crate) fn may_rise(core: &Core) -> bool
+    ensures rises { result ≡ true → (core_state core.now).epoch + 1 < EPOCH_END }
+    ensures spent { result ≡ false → (core_state core.now).epoch + 1 ≡ EPOCH_END }
+{
+    core.epoch() + 1 < EPOCH_END
 }
 
 /// How large a core is, and its epoch.

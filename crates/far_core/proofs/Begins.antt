@@ -69,7 +69,8 @@ begins shape honest fits = let range = in_range shape fits in record {
     held_used = λ p h. absurd (false≢true h);
     used_cell = λ p h. absurd (false≢true h);
   };
-  rounds = record { none_chosen = λ l. refl; none_clear = λ m. refl; own_epoch = refl };
+  rounds = record { round_sealed = λ l h. absurd (false≢true h); round_evac = λ p len ds place m e h. absurd (false≢true h); own_epoch = refl };
+  clears = record { clear_unviewed = λ p place h c. refl; late_unviewed = λ p e place h is late. refl };
   unadopted = λ _ p _. record {
     near = λ len ds place m e. let f : Some pointer.Free ≡ Some (Near len ds place m) = sym unused ∙ e in absurd cc;
     far = λ len ds m e. let f : Some pointer.Free ≡ Some (Far len ds m) = sym unused ∙ e in absurd cc;

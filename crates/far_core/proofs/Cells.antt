@@ -15,7 +15,7 @@ use Rattle.far_word.specs.Header.{head_word}
 use Rattle.far_word.specs.Mark.{position, marks_with}
 use Rattle.far_word.specs.Pointer.{read_of, takes_mark, with_mark}
 use Rattle.far_word.proofs.PointerLaws.{with_mark_read, with_mark_fits}
-use Rattle.far_core.specs.state.Law.{Heads, held_place, in_use, Blank}
+use Rattle.far_core.specs.state.Law.{HasEvac, Heads, held_place, in_use, Blank}
 use Rattle.far_core.specs.state.Spans.{names_place}
 use Rattle.far_core.specs.state.State.{addr}
 use Rattle.far_core.specs.events.Step.{place_to_view}
@@ -101,6 +101,23 @@ Remarked-map_mark k None = record { same = refl; kept = λ e. e }
 Remarked-map_mark k (Some Free) = record { same = refl; kept = λ e. e }
 Remarked-map_mark k (Some (Near len ds place m)) = record { same = refl; kept = with_kept k m }
 Remarked-map_mark k (Some (Far len ds m)) = record { same = refl; kept = with_kept k m }
+
+evac_stays : (k : Mark) (m : Marks) → m.evac ≡ true → (marks_with k m).evac ≡ true
+evac_stays Hot m e = e
+evac_stays Evac m e = refl
+evac_stays Moved m e = e
+evac_stays Dropped m e = e
+
+-- EVAC stays with a mark more
+pub HasEvac-mark : (k : Mark) (logs : ℕ → Bool) (o : Option PtrWord) → HasEvac logs o → HasEvac logs (map_mark k o)
+HasEvac-mark k logs None h len ds place m e inside = absurd cc
+HasEvac-mark k logs (Some Free) h len ds place m e inside = absurd cc
+HasEvac-mark k logs (Some (Near n d at q)) h len ds place m e inside =
+    let both : Some (Near n d at (marks_with k q)) ≡ Some (Near len ds place m) = e in
+    let there : at ≡ place = cc in
+    let marks : marks_with k q ≡ m = cc in
+    sym (ap (λ (x : Marks). x.evac) marks) ∙ evac_stays k q (h n d at q refl (ap (λ (x : Place). logs x.log) there ∙ inside))
+HasEvac-mark k logs (Some (Far n d q)) h len ds place m e inside = absurd cc
 
 -- ---- what a mark leaves as it is
 same_dropped : (k : Mark) (m : Marks) → k ≢ Dropped → (marks_with k m).dropped ≡ m.dropped

@@ -1,22 +1,24 @@
 -- The law where some functions of a state change and no others: what is left to show.
 use Rattle.std.proofs.Common.{◌≡◌, ◌≢◌, ℕ, ◌*◌, ◌/◌, ◌<◌, ◌≤◌, ◌^◌, Bool, true, false, sym, ap, ◌∙◌, Option, Some}
 use Rattle.std.specs.Prelude.{IsSome}
+use Rattle.std.proofs.lemmas.Bool.{false≢true, true_from_ne_false}
 use Rattle.far_word.specs.declared.mark.Marks.{Marks}
 use Rattle.far_word.specs.declared.pointer.Place.{Place}
 use Rattle.far_word.specs.declared.pointer.PtrWord.TheVariants.{Near, Far}
 use Rattle.far_word.specs.declared.sizes.TheConstants.{CELLS}
 use Rattle.far_word.specs.Pointer.{read_of}
-use Rattle.far_core.specs.state.Law.{Law, ScopeLaw, ViewLaw, BlankLaw, NamesBack, StoresBack, IsBlank, held_place, in_use}
+use Rattle.far_core.specs.state.Law.{Law, ScopeLaw, ViewLaw, RoundLaw, ClearLaw, BlankLaw, HasEvac, NamesBack, StoresBack, IsBlank, held_place, in_use}
+use Rattle.far_core.specs.declared.event.Kind.{Kind}
 use Rattle.far_core.specs.state.State.{State, put}
 use Rattle.far_core.proofs.Cells.{Remarked, body, is_dropped, is_some-remarked, near_of, far_of}
 use Rattle.far_core.proofs.Put.{put_both}
 
 -- scopes and owners' views
 pub law_with_owners : (s : State) (scope : ℕ → ℕ) (remembered : ℕ → Option ℕ) (used : ℕ → Bool) (held : ℕ → Option Place) → Law s →
-    ScopeLaw s.mutators s.epoch scope remembered → ViewLaw s.cell scope used held → BlankLaw s.honest s.cell s.word s.stored used →
-    Law record s { scope = scope; remembered = remembered; used = used; held = held }
-law_with_owners s scope remembered used held law scopes views blanks =
-    record { shape = law.shape; cells = law.cells; spans = law.spans; logs = law.logs; scopes = scopes; views = views; rounds = law.rounds; unadopted = blanks }
+    ScopeLaw s.mutators s.epoch scope remembered → ViewLaw s.cell scope used held → ClearLaw scope held s.round s.round_epoch s.clear →
+    BlankLaw s.honest s.cell s.word s.stored used → Law record s { scope = scope; remembered = remembered; used = used; held = held }
+law_with_owners s scope remembered used held law scopes views clears blanks =
+    record { shape = law.shape; cells = law.cells; spans = law.spans; logs = law.logs; scopes = scopes; views = views; rounds = law.rounds; clears = clears; unadopted = blanks }
 
 -- what owners remember
 pub law_with_remembered : (s : State) (remembered : ℕ → Option ℕ) → Law s → ((m e : ℕ) → remembered m ≡ Some e → (e ≤ s.epoch) × (m < s.mutators)) → Law record s { remembered = remembered }
@@ -30,16 +32,53 @@ law_with_remembered s remembered law bound =
       open_bound = c.open_bound;
       remembered_bound = λ m e h. (bound m e h).0;
       remembered_range = λ m e h. (bound m e h).1;
-    }) law.views law.unadopted
+    }) law.views law.clears law.unadopted
 
 -- what owners hold
 pub law_with_held : (s : State) (held : ℕ → Option Place) → Law s → ((p : ℕ) → IsSome (held p) → (s.scope (p / CELLS) ≢ 0) × (s.used p ≡ true)) →
-    ((p : ℕ) (place : Place) → held p ≡ Some place → held_place (read_of (s.cell p)) ≡ Some place) → Law record s { held = held }
-law_with_held s held law ready names = law_with_owners s s.scope s.remembered s.used held law law.scopes
-    (record { held_open = λ p h. (ready p h).0; held_names = names; held_used = λ p h. (ready p h).1; used_cell = law.views.used_cell }) law.unadopted
+    ((p : ℕ) (place : Place) → held p ≡ Some place → held_place (read_of (s.cell p)) ≡ Some place) → ClearLaw s.scope held s.round s.round_epoch s.clear → Law record s { held = held }
+law_with_held s held law ready names clears = law_with_owners s s.scope s.remembered s.used held law law.scopes
+    (record { held_open = λ p h. (ready p h).0; held_names = names; held_used = λ p h. (ready p h).1; used_cell = law.views.used_cell }) clears law.unadopted
 
--- a cell with other marks
-module _ (s : State) (law : Law s) (p w : ℕ) (fits : w < 2 ^ 64) (r : Remarked (read_of (s.cell p)) (read_of w)) (nonzero : s.cell p ≢ 0) where
+-- the logs of the round, where some left it
+module _ (s : State) (round : ℕ → Bool) (law : Law s) (out : (l : ℕ) → s.round l ≡ false → round l ≡ false) where
+  was_chosen : (l : ℕ) → round l ≡ true → s.round l ≡ true
+  was_chosen l h = true_from_ne_false (s.round l) (λ e. false≢true (sym (out l e) ∙ h))
+
+  pub fewer_clear : ClearLaw s.scope s.held round s.round_epoch s.clear
+  fewer_clear = record {
+    clear_unviewed = λ p place h c. out place.log (law.clears.clear_unviewed p place h c);
+    late_unviewed = λ p e place h is late. out place.log (law.clears.late_unviewed p e place h is late);
+  }
+
+  pub law_with_fewer_chosen : Law record s { round = round }
+  law_with_fewer_chosen = record {
+    shape = law.shape;
+    cells = law.cells;
+    spans = law.spans;
+    logs = law.logs;
+    scopes = law.scopes;
+    views = law.views;
+    rounds = record {
+      round_sealed = λ l h. law.rounds.round_sealed l (was_chosen l h);
+      round_evac = λ p len ds place m e h. law.rounds.round_evac p len ds place m e (was_chosen place.log h);
+      own_epoch = law.rounds.own_epoch;
+    };
+    clears = fewer_clear;
+    unadopted = law.unadopted;
+  }
+
+-- a cell with another word
+pub rounds_with_cell : (epoch : ℕ) (kind : ℕ → Kind) (cell : ℕ → ℕ) (round : ℕ → Bool) (round_epoch p w : ℕ) → RoundLaw epoch kind cell round round_epoch → HasEvac round (read_of w) →
+    RoundLaw epoch kind (put cell p w) round round_epoch
+rounds_with_cell epoch kind cell round round_epoch p w law evac = record {
+  round_sealed = law.round_sealed;
+  round_evac = λ q. put_both (λ x. HasEvac round (read_of x)) cell p w q (λ _. evac) (λ _. law.round_evac q);
+  own_epoch = law.own_epoch;
+}
+
+-- a cell with other marks, and with EVAC, if its log is in the round
+module _ (s : State) (law : Law s) (p w : ℕ) (fits : w < 2 ^ 64) (r : Remarked (read_of (s.cell p)) (read_of w)) (evac : HasEvac s.round (read_of w)) (nonzero : s.cell p ≢ 0) where
   near_before : (q : ℕ) → q ≡ p → (n d : ℕ) (at : Place) (k : Marks) → read_of w ≡ Some (Near n d at k) → (m : Marks) × (read_of (s.cell q) ≡ Some (Near n d at m))
   near_before q e n d at k is = near_of _ n d at (ap (λ x. body (read_of (s.cell x))) e ∙ sym r.same ∙ ap body is)
 
@@ -77,18 +116,19 @@ module _ (s : State) (law : Law s) (p w : ℕ) (fits : w < 2 ^ 64) (r : Remarked
     logs = law.logs;
     scopes = law.scopes;
     views = views;
-    rounds = law.rounds;
+    rounds = rounds_with_cell s.epoch s.kind s.cell s.round s.round_epoch p w law.rounds evac;
+    clears = law.clears;
     unadopted = blanks;
   }
 
-module _ (s : State) (law : Law s) (p w : ℕ) (fits : w < 2 ^ 64) (r : Remarked (read_of (s.cell p)) (read_of w)) (nonzero : s.cell p ≢ 0)
+module _ (s : State) (law : Law s) (p w : ℕ) (fits : w < 2 ^ 64) (r : Remarked (read_of (s.cell p)) (read_of w)) (evac : HasEvac s.round (read_of w)) (nonzero : s.cell p ≢ 0)
     (held : (place : Place) → s.held p ≡ Some place → held_place (read_of w) ≡ Some place) (live : s.used p ≡ true → in_use (read_of w) ≡ true) where
   pub law_with_cell_marks : Law record s { cell = put s.cell p w }
-  law_with_cell_marks = law_with_cell s law p w fits r nonzero s.used
+  law_with_cell_marks = law_with_cell s law p w fits r evac nonzero s.used
       (record {
         held_open = law.views.held_open;
         held_names = λ q at h. put_both (λ x. held_place (read_of x) ≡ Some at) s.cell p w q (λ e. held at (ap s.held (sym e) ∙ h)) (λ _. law.views.held_names q at h);
         held_used = law.views.held_used;
         used_cell = λ q h. put_both (λ x. in_use (read_of x) ≡ true) s.cell p w q (λ e. live (ap s.used (sym e) ∙ h)) (λ _. law.views.used_cell q h);
       })
-      (λ honest q free. put_both (λ x. IsBlank s.word (s.stored q) (read_of x)) s.cell p w q (λ e. blank s law p w fits r nonzero q e honest free) (λ _. law.unadopted honest q free))
+      (λ honest q free. put_both (λ x. IsBlank s.word (s.stored q) (read_of x)) s.cell p w q (λ e. blank s law p w fits r evac nonzero q e honest free) (λ _. law.unadopted honest q free))

@@ -1,10 +1,10 @@
 -- Each event of an owner keeps the law.
 use Rattle.std.proofs.Common.{Option, Some, ap, bit_or, refl, subst, sym, true, ℕ, ◌^◌, ◌∙◌, ◌≡◌, ◌≢◌}
 use Rattle.std.proofs.lemmas.Bool.{false≢true}
-use Rattle.far_core.proofs.Cells.{Remarked, Remarked-map_mark, unused, map_mark, read_hot, held_place-mark, in_use-mark}
+use Rattle.far_core.proofs.Cells.{Remarked, Remarked-map_mark, HasEvac-mark, unused, map_mark, read_hot, held_place-mark, in_use-mark}
 use Rattle.far_core.proofs.Frames.{law_with_cell_marks}
 use Rattle.far_core.proofs.Put.{put_both}
-use Rattle.far_core.specs.state.Law.{Law, held_place, in_use}
+use Rattle.far_core.specs.state.Law.{Law, HasEvac, held_place, in_use}
 use Rattle.far_core.specs.state.State.{State, put}
 use Rattle.far_word.specs.Mark.{position}
 use Rattle.far_word.specs.Pointer.{read_of}
@@ -38,5 +38,6 @@ module _ (s : State) (law : Law s) (p : ℕ) (used : s.used p ≡ true) where
   nonzero z = false≢true (sym (ap in_use (ap read_of z ∙ unused)) ∙ live)
 
   pub keeps_hot : Law (hot_cell s p)
-  keeps_hot = law_with_cell_marks s law p _ (read_hot (s.cell p) (law.cells.cell_read p).0 live).1 (subst (λ o. Remarked (read_of (s.cell p)) o) (sym hot_read) (Remarked-map_mark Hot _)) nonzero
+  keeps_hot = law_with_cell_marks s law p _ (read_hot (s.cell p) (law.cells.cell_read p).0 live).1 (subst (λ o. Remarked (read_of (s.cell p)) o) (sym hot_read) (Remarked-map_mark Hot _))
+      (subst (HasEvac s.round) (sym hot_read) (HasEvac-mark Hot s.round _ (law.rounds.round_evac p))) nonzero
       (λ place h. ap held_place hot_read ∙ held_place-mark Hot _ (λ e. cc) (λ e. cc) ∙ law.views.held_names p place h) (λ _. ap in_use hot_read ∙ in_use-mark Hot _ (λ e. cc) ∙ live)

@@ -1,7 +1,7 @@
 -- A new place is named, and the law stays.
 use Rattle.std.proofs.Common.{◌≡◌, ◌≢◌, ℕ, ◌+◌, ◌*◌, ◌/◌, ◌%◌, ◌<◌, ◌≤◌, ◌^◌, Bool, true, false, arith, sym, refl, ap, subst, ◌∙◌, Option, Some, None, inl, inr}
 use Rattle.std.specs.Prelude.{IsSome}
-use Rattle.std.proofs.lemmas.Bool.{cases_lt, cases_eq, false_from_ne_true}
+use Rattle.std.proofs.lemmas.Bool.{cases_lt, cases_eq, false≢true, false_from_ne_true}
 use Rattle.far_word.specs.declared.header.HeadWord.{HeadWord}
 use Rattle.far_word.specs.declared.mark.Marks.{Marks}
 use Rattle.far_word.specs.declared.pointer.Place.{Place}
@@ -12,7 +12,7 @@ use Rattle.far_word.specs.Header.{head_of, head_word}
 use Rattle.far_word.specs.Pointer.{read_of}
 use Rattle.far_word.specs.Sizes.{size_of}
 use Rattle.far_core.specs.declared.event.Kind.TheVariants.{Free, Open, Sealed}
-use Rattle.far_core.specs.state.Law.{Law, SpanAt, Padded, NamesBack, StoresBack, IsBlank, Blank, held_place, in_use, head_len}
+use Rattle.far_core.specs.state.Law.{Law, SpanAt, Padded, HasEvac, NamesBack, StoresBack, IsBlank, Blank, held_place, in_use, head_len}
 use Rattle.far_core.specs.state.State.{State, put, addr}
 use Rattle.far_core.specs.events.NewSpans.{with_span}
 use Rattle.far_core.proofs.Cells.{Heads-same}
@@ -84,7 +84,7 @@ header p len ds = record { pointer = p; len = len; ds = ds }
 
 module _ (s : State) (law : Law s) (p len ds : ℕ) (place : Place) (m : Marks) (new : ℕ)
     (says : read_of new ≡ Some (Near len ds place m)) (fits : new < 2 ^ 64) (cell : p < CELLS * s.mutators) (unheld : s.held p ≡ None) (live : s.used p ≡ true → in_use (read_of new) ≡ true)
-    (some : 0 < len) (most : len ≤ LONGEST) (room : place.at + size_of len ≤ LOG_WORDS) (log : place.log < s.logs)
+    (some : 0 < len) (most : len ≤ LONGEST) (room : place.at + size_of len ≤ LOG_WORDS) (log : place.log < s.logs) (unsealed : s.kind place.log ≢ Sealed)
     (here : place.at ≡ s.tail place.log) (named : s.word (addr place) ≡ head_word p len ds) (head : head_of (s.word (addr place)) ≡ Some (header p len ds))
     (pads : Padded s.word (addr place) len) (blank : s.honest ≡ true → s.used p ≡ false → Blank s.word len place) where
   size : head_len (s.word (addr place)) ≡ len
@@ -92,6 +92,10 @@ module _ (s : State) (law : Law s) (p len ds : ℕ) (place : Place) (m : Marks) 
 
   more : (a : ℕ) → s.starts a ≡ true → put s.starts (addr place) true a ≡ true
   more a h = put_both (λ b. b ≡ true) s.starts (addr place) true a (λ _. refl) (λ _. h)
+
+  -- the log isn't sealed, so it isn't in the round
+  out : s.round place.log ≡ false
+  out = false_from_ne_true (s.round place.log) (λ inside. unsealed (law.rounds.round_sealed place.log inside))
 
   pub law_with_span : Law (with_span s p new len place)
   law_with_span = record {
@@ -144,7 +148,16 @@ module _ (s : State) (law : Law s) (p len ds : ℕ) (place : Place) (m : Marks) 
       held_used = law.views.held_used;
       used_cell = λ q h. put_both (λ w. in_use (read_of w) ≡ true) s.cell p new q (λ e. live (ap s.used (sym e) ∙ h)) (λ _. law.views.used_cell q h);
     };
-    rounds = law.rounds;
+    rounds = record {
+      round_sealed = λ l inside. put_both (λ k. k ≡ Sealed) (put s.kind s.current Sealed) place.log Open l (λ e. absurd (false≢true (sym (ap s.round e ∙ out) ∙ inside)))
+          (λ _. put_both (λ k. k ≡ Sealed) s.kind s.current Sealed l (λ _. refl) (λ _. law.rounds.round_sealed l inside));
+      round_evac = λ q. put_both (λ w. HasEvac s.round (read_of w)) s.cell p new q
+          (λ _ n d at k is inside. let is2 : Some (Near len ds place m) ≡ Some (Near n d at k) = sym says ∙ is in let there : place ≡ at = cc in
+          absurd (false≢true (sym out ∙ ap (λ (x : Place). s.round x.log) there ∙ inside)))
+          (λ _. law.rounds.round_evac q);
+      own_epoch = law.rounds.own_epoch;
+    };
+    clears = law.clears;
     unadopted = λ honest q free. put_both (λ w. IsBlank s.word (s.stored q) (read_of w)) s.cell p new q
         (λ e. record {
           near = λ n d at k is _ i lt. let is2 : Some (Near len ds place m) ≡ Some (Near n d at k) = sym says ∙ is in

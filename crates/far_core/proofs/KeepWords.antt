@@ -39,6 +39,7 @@ module _ (s : State) (law : Law s) (new : ℕ → ℕ)
     scopes = law.scopes;
     views = law.views;
     rounds = law.rounds;
+    clears = law.clears;
     unadopted = blanks;
   }
 

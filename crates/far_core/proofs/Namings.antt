@@ -1,6 +1,6 @@
 -- The form of an old and a new word is the one that they say.
 use Rattle.std.proofs.Common.{◌≡◌, ℕ, Bool, true, false, cond, arith, inl, inr, refl, ap, subst, ◌∙◌, Option, Some, None}
-use Rattle.std.specs.Prelude.{◌⊎◌, IfSome, not, ◌&&◌}
+use Rattle.std.specs.Prelude.{◌⊎◌, IfSome, ◌&&◌}
 use Rattle.std.proofs.lemmas.Bool.{eq-eqb, false≢true}
 use Rattle.std.proofs.lemmas.Bool.Decides.{nat_tests}
 use Rattle.far_word.specs.declared.mark.Marks.{Marks}

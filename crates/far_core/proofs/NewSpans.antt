@@ -1,5 +1,5 @@
 -- What a new span's tests say, what taking it changes, and the groups after it.
-use Rattle.std.proofs.Common.{◌≡◌, ℕ, ◌+◌, ◌<◌, true, arith, nat_lt, inl, inr, refl, sym, ap, ◌∙◌, Some}
+use Rattle.std.proofs.Common.{◌≡◌, ◌≢◌, ℕ, ◌+◌, ◌<◌, true, arith, nat_lt, inl, inr, refl, sym, ap, ◌∙◌, Some}
 use Rattle.std.specs.Prelude.{◌⊎◌}
 use Rattle.std.proofs.lemmas.Bool.{eq-eqb, eqb-true, false≢true}
 use Rattle.std.proofs.lemmas.Bool.Decides.{nat_tests}
@@ -39,6 +39,11 @@ pub at_tail : (s : State) → Law s → (place : Place) → IsNext s place → p
 at_tail s law at (log, inl h) = h.1
 at_tail s law at (log, inr h) = h.1 ∙ sym (law.logs.free_tail at.log h.0)
 
+-- and the log isn't sealed
+pub unsealed : (s : State) (place : Place) → IsNext s place → s.kind place.log ≢ Sealed
+unsealed s at (log, inl h) shut = let odd : Open ≡ Sealed = sym h.0 ∙ shut in cc
+unsealed s at (log, inr h) shut = let odd : Free ≡ Sealed = sym h.0 ∙ shut in cc
+
 -- ---- what taking a span changes
 pub takes_span : (s : State) → Law s → (p new len : ℕ) (place : Place) → Takes s len place (with_span s p new len place)
 takes_span s law p new len place = record {
@@ -62,7 +67,7 @@ touch_span s p new len place = record {
   used = λ q a. refl;
   held = λ q a b. refl;
   book = λ ne. absurd (ne refl);
-  rest = (refl, refl, refl, refl, refl);
+  rest = (refl, refl, refl);
 }
 
 -- the groups, where one log is sealed that was open and another is open

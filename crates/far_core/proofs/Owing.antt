@@ -1,7 +1,7 @@
 -- What every event owes, by its own file; and what follows of any event.
 use Rattle.std.proofs.Common.{◌≡◌, ◌≢◌, true}
 use Rattle.far_core.specs.declared.event.Event.{Event}
-use Rattle.far_core.specs.declared.event.Event.TheVariants.{ReadEpoch, Open, Pin, Load, Store, Close, Adopt, Put, Name, See, Mark, Ask, Get, Clear}
+use Rattle.far_core.specs.declared.event.Event.TheVariants.{ReadEpoch, Open, Pin, Load, Store, Close, Adopt, Put, Name, See, Mark, Ask, Get, Clear, Advance, Look}
 use Rattle.far_core.specs.declared.event.Reply.TheVariants.{Refused}
 use Rattle.far_core.specs.world.Happens.{Happens}
 use Rattle.far_core.specs.state.Law.{Law}
@@ -25,6 +25,8 @@ use Rattle.far_core.proofs.events.Mark.{mark_owed}
 use Rattle.far_core.proofs.events.Ask.{ask_owed}
 use Rattle.far_core.proofs.events.Get.{get_owed}
 use Rattle.far_core.proofs.events.Clear.{clear_owed}
+use Rattle.far_core.proofs.events.Advance.{advance_owed}
+use Rattle.far_core.proofs.events.Look.{look_owed}
 
 pub owed : (e : Event) → Owed e
 owed (ReadEpoch m) = read_epoch_owed m
@@ -41,6 +43,8 @@ owed (Mark p) = mark_owed p
 owed (Ask m p k) = ask_owed m p k
 owed (Get l at free) = get_owed l at free
 owed (Clear p) = clear_owed p
+owed (Advance logs) = advance_owed logs
+owed (Look m) = look_owed m
 
 -- what passes the test is legal
 pub is_fact : (s : State) (e : Event) → Law s → is_legal s e ≡ true → Legal s e

@@ -1,6 +1,6 @@
 -- A function changed at one argument.
-use Rattle.std.proofs.Common.{◌≡◌, ◌≢◌, ℕ, Bool, true, false, cond, nat_eq, sym, refl, ap, ◌∙◌}
-use Rattle.std.proofs.lemmas.Bool.{cond_both, eqb-true, eqb-false, ne_eqb, eq-eqb}
+use Rattle.std.proofs.Common.{◌≡◌, ◌≢◌, ℕ, ◌+◌, Bool, true, false, arith, cond, nat_eq, nat_lt, sym, refl, ap, ◌∙◌}
+use Rattle.std.proofs.lemmas.Bool.{cond_both, eqb-true, eqb-false, ne_eqb, eq-eqb, lt-ltb, le-ltb, ltb-true, ltb-false}
 use mathlib.Core.Path.{fun_ext}
 use Rattle.far_core.specs.state.State.{put}
 
@@ -21,6 +21,17 @@ module _ {X : Type 0} where
     at : (b : Bool) → nat_eq q k ≡ b → P (cond b v (f q)) (cond b w (g q))
     at true e = here (eqb-true q k e)
     at false e = there (eqb-false q k e)
+
+  -- a function that takes another's values at its first arguments, one after the other
+  pub first_none : (f g : ℕ → X) → (λ k. cond (nat_lt k 0) (f k) (g k)) ≡ g
+  first_none f g = fun_ext (λ k. ap (λ b. cond b (f k) (g k)) (le-ltb k 0 (omega arith)))
+
+  pub first_more : (f g : ℕ → X) (n : ℕ) → put (λ k. cond (nat_lt k n) (f k) (g k)) n (f n) ≡ (λ k. cond (nat_lt k (n + 1)) (f k) (g k))
+  first_more f g n = fun_ext (λ q. put_both (λ x. x ≡ cond (nat_lt q (n + 1)) (f q) (g q)) (λ k. cond (nat_lt k n) (f k) (g k)) n (f n) q
+      (λ e. ap f (sym e) ∙ sym (ap (λ b. cond b (f q) (g q)) (lt-ltb q (n + 1) (omega arith))))
+      (λ ne. cond_both (nat_lt q n) (f q) (g q) (λ x. x ≡ cond (nat_lt q (n + 1)) (f q) (g q))
+      (λ lt. sym (ap (λ b. cond b (f q) (g q)) (lt-ltb q (n + 1) (omega (arith, ltb-true q n lt)))))
+      (λ past. sym (ap (λ b. cond b (f q) (g q)) (le-ltb q (n + 1) (omega (arith, ltb-false q n past)))))))
 
   -- a write of what was there changes nothing
   pub put_old : (f : ℕ → X) (k : ℕ) (v : X) → f k ≡ v → put f k v ≡ f

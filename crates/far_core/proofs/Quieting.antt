@@ -10,7 +10,7 @@ use Rattle.far_word.specs.Pointer.{read_of}
 use Rattle.far_core.specs.events.Quiet.{is_quiet_cell, has_move, IsClearNear, IsQuiet}
 use Rattle.far_core.specs.state.Law.{Law}
 use Rattle.far_core.specs.state.State.{State}
-use Rattle.far_core.proofs.Cells.{IsHeld, held_near}
+use Rattle.far_core.proofs.Cells.{held_near}
 
 either : (m e r c : Bool) → (m || (e && r && c)) ≡ true → (m ≡ true) ⊎ ((e ≡ true) × (r ≡ true) × (c ≡ true))
 either true e r c h = inl refl
@@ -54,7 +54,11 @@ at_rest : (s : State) (law : Law s) (p : ℕ) → IsQuiet s p → (place : Place
 at_rest s law p (inl moved) place rests =
     let x = held_near _ place (law.views.held_names p place rests) in
     false≢true (sym x.unmoved ∙ sym (ap has_move x.near) ∙ moved)
-at_rest s law p (inr (len, ds, at, m, e, a, b, c)) place rests = false≢true (sym (law.rounds.none_chosen at.log) ∙ b)
+at_rest s law p (inr (len, ds, at, m, e, a, b, c)) place rests =
+    let x = held_near _ place (law.views.held_names p place rests) in
+    let both : Some (Near len ds at m) ≡ Some (Near x.len x.ds place x.marks) = sym e ∙ x.near in
+    let there : at ≡ place = cc in
+    false≢true (sym (law.clears.clear_unviewed p place rests c) ∙ ap (λ (y : Place). s.round y.log) (sym there) ∙ b)
 
 none_of : (o : Option Place) → ((place : Place) → o ≢ Some place) → o ≡ None
 none_of None h = refl

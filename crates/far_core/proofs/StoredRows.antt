@@ -1,8 +1,8 @@
 -- Stored words: a row for each pointer, one behind the other.
-use Rattle.std.proofs.Common.{◌≡◌, ℕ, ◌+◌, ◌-◌, ◌*◌, ◌<◌, ◌≤◌, ◌≢◌, ◌∙◌, true, false, cond, nat_lt, arith, ap, refl, sym, inl, inr, List, ◌++◌, length, take, drop, get_or}
+use Rattle.std.proofs.Common.{◌≡◌, ℕ, ◌+◌, ◌-◌, ◌*◌, ◌<◌, ◌≤◌, ◌≢◌, ◌∙◌, cond, nat_lt, arith, ap, refl, sym, inl, inr, List, ◌++◌, length, take, drop, get_or}
 use Rattle.std.specs.Prelude.{◌⊎◌, replicate, slice_range}
-use Rattle.std.proofs.lemmas.Bool.{cases_lt, cases_eq, lt-ltb, le-ltb}
-use Rattle.std.proofs.lemmas.List.{get_or-append_right, get_or_append_left, get_or-take, get_or-drop, get_or_past, get_or-replicate, length-append, length-drop, length-replicate, length-take, length-take-le}
+use Rattle.std.proofs.lemmas.Bool.{cases_lt, lt-ltb, le-ltb}
+use Rattle.std.proofs.lemmas.List.{get_or-append_right, get_or_append_left, get_or-take, get_or-drop, get_or_past, length-drop, length-take, length-take-le}
 use mathlib.Core.Path.{fun_ext}
 use Rattle.far_word.specs.declared.sizes.TheConstants.{LOG_WORDS}
 use Rattle.far_core.specs.events.Ranges.{with_row}

@@ -1,5 +1,5 @@
 -- A pointer is named to a new span: the law stays, and the world has its object there.
-use Rattle.std.proofs.Common.{◌≡◌, ℕ, ◌*◌, ◌<◌, ◌^◌, true, false, arith, refl, sym, ap, ◌∙◌, Option, Some, None}
+use Rattle.std.proofs.Common.{◌≡◌, ℕ, ◌*◌, ◌<◌, ◌^◌, true, false, arith, refl, sym, ap, ◌∙◌, Some, None}
 use mathlib.Core.Path.{fun_ext}
 use Rattle.far_word.specs.declared.pointer.Place.{Place}
 use Rattle.far_word.specs.declared.pointer.PtrWord.TheVariants.{Near}
@@ -17,7 +17,7 @@ use Rattle.far_core.specs.world.World.{Object}
 use Rattle.far_core.specs.world.WorldOf.{world_of, object_of, is_marked}
 use Rattle.far_core.proofs.Copies.{padded_all}
 use Rattle.far_core.proofs.KeepPlace.{header, law_with_span}
-use Rattle.far_core.proofs.NewSpans.{at_tail, groups_then}
+use Rattle.far_core.proofs.NewSpans.{at_tail, groups_then, unsealed}
 use Rattle.far_core.proofs.Put.{put_both, put_same, put_other}
 use Rattle.far_core.proofs.Worlds.{World-ext}
 
@@ -29,7 +29,7 @@ module _ (s : State) (law : Law s) (p new len ds : ℕ) (place : Place) (says : 
       let back : head_of (s.word (addr place)) ≡ Some (header p len ds) =
       ap head_of span.head ∙ head_back (header p len ds) (record { some = omega (arith, x.0); most = omega (arith, x.0); structure = omega (arith, x.0); cell = omega (arith, cell, law.shape.few_mutators) }) in
       law_with_span s law p len ds place no_marks new says fits cell unheld (λ _. ap in_use says)
-      (omega (arith, x.0)) (omega (arith, x.0)) (omega (arith, x.0)) span.next.0 (at_tail s law place span.next) span.head back
+      (omega (arith, x.0)) (omega (arith, x.0)) (omega (arith, x.0)) span.next.0 (unsealed s place span.next) (at_tail s law place span.next) span.head back
       (padded_all s.word law.spans.word_fits len place (omega (arith, x.0)) padded) blank
 
   -- the object that is meant from then on, unmarked, in a group that is held

@@ -34,7 +34,7 @@ module _ {s : State} {x : Touch} {scope cell word : ℕ → ℕ} {remembered : �
       → ((p : ℕ) → x.part ≢ Uses p → used p ≡ s.used p)
       → ((p : ℕ) → x.part ≢ Rests p → x.part ≢ LetsGo (p / CELLS) → held p ≡ s.held p)
       → Touches s x record s { scope = scope; cell = cell; word = word; remembered = remembered; used = used; held = held }
-  touched a b c d = record { words = a; remembered = b; used = c; held = d; book = λ ne. (refl, refl, refl, refl, refl, refl); rest = (refl, refl, refl, refl, refl) }
+  touched a b c d = record { words = a; remembered = b; used = c; held = d; book = λ ne. (refl, refl, refl, refl, refl, refl, refl, refl); rest = (refl, refl, refl) }
 
 pub untouched : (s : State) (x : Touch) → Touches s x s
 untouched s x = touched (λ a ne. refl) (λ k a b. refl) (λ q a. refl) (λ q a b. refl)

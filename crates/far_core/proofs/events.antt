@@ -1,9 +1,11 @@
 pub mod Adopt
+pub mod Advance
 pub mod Ask
 pub mod Clear
 pub mod Close
 pub mod Get
 pub mod Load
+pub mod Look
 pub mod Mark
 pub mod Name
 pub mod Open

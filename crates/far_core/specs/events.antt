@@ -1,4 +1,5 @@
 pub mod Adopt
+pub mod Advance
 pub mod Ask
 pub mod Clear
 pub mod Close
@@ -7,6 +8,7 @@ pub mod Get
 pub mod Leaves
 pub mod Legal
 pub mod Load
+pub mod Look
 pub mod Mark
 pub mod Name
 pub mod Naming

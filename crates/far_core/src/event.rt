@@ -97,6 +97,17 @@ pub enum Event {
     Clear {
         pointer: u16,
     },
+    /// A round begins, of the logs whose bit is 1 in `logs`, bit `l` for log `l`. Each is sealed, and whatever lies near
+    /// there has EVAC, with DROP too. The epoch rises by 1, to below 2^62, and nobody was seen clear in the round. Answers
+    /// `Epoch` with the new epoch.
+    Advance {
+        logs: u64,
+    },
+    /// The scope word of an owner is read. The owner is seen clear in the round from then on where the word says closed, or
+    /// open at the round's epoch or later. Answers `Word`.
+    Look {
+        owner: u8,
+    },
 }
 
 /// What an event answers.

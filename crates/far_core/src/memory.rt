@@ -10,6 +10,7 @@ mod owner;
 mod quiet;
 mod ranges;
 pub(crate) mod reading;
+mod round;
 mod writing;
 
 use crate::event::Kind;

@@ -10,6 +10,7 @@ mod page;
 mod ranges;
 mod reading;
 mod refusing;
+mod rounds;
 mod values;
 
 use far_core::{Core, Event, Kind, Reply, Shape};

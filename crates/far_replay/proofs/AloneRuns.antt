@@ -11,7 +11,7 @@ use Rattle.far_word.specs.declared.pointer.PtrWord.{PtrWord}
 use Rattle.far_word.specs.declared.pointer.PtrWord.TheVariants.{Free, Near, Far}
 use Rattle.far_word.specs.declared.sizes.TheConstants.{CELLS}
 use Rattle.far_core.specs.declared.event.Event.{Event}
-use Rattle.far_core.specs.declared.event.Event.TheVariants.{ReadEpoch, Open, Pin, Load, Store, Close, Adopt, Put, Name, See, Mark, Ask, Get, Clear}
+use Rattle.far_core.specs.declared.event.Event.TheVariants.{ReadEpoch, Open, Pin, Load, Store, Close, Adopt, Put, Name, See, Mark, Ask, Get, Clear, Advance, Look}
 use Rattle.far_core.specs.declared.event.Reply.{Reply as Answer}
 use Rattle.far_core.specs.declared.event.Reply.TheVariants.{Refused, Done, Epoch, Word, Held}
 use Rattle.far_core.specs.declared.naming.Naming.{Naming}
@@ -100,6 +100,8 @@ IsQuiet (Mark p) = ⊥
 IsQuiet (Ask m p k) = ⊥
 IsQuiet (Get l at free) = ⊥
 IsQuiet (Clear p) = ⊥
+IsQuiet (Advance logs) = ⊥
+IsQuiet (Look m) = ⊥
 
 quiet_fits : (e : Event) → IsQuiet e → Fits e
 quiet_fits (ReadEpoch m) q = tt
@@ -116,6 +118,8 @@ quiet_fits (Mark p) q = absurd q
 quiet_fits (Ask m p k) q = absurd q
 quiet_fits (Get l at free) q = absurd q
 quiet_fits (Clear p) q = absurd q
+quiet_fits (Advance logs) q = absurd q
+quiet_fits (Look m) q = absurd q
 
 pub stays_same : (w v : World) → v ≡ w → Same w v
 stays_same w v e = (ap (λ (x : World). x.object) e, ap (λ (x : World). x.opened) e)
@@ -149,6 +153,8 @@ quiet_happens w v (Mark p) r q h = absurd q
 quiet_happens w v (Ask m p k) r q h = absurd q
 quiet_happens w v (Get l at free) r q h = absurd q
 quiet_happens w v (Clear p) r q h = absurd q
+quiet_happens w v (Advance logs) r q h = absurd q
+quiet_happens w v (Look m) r q h = absurd q
 
 abbrev pub Quiet : List Event → Type 0
 Quiet = Each IsQuiet
@@ -289,3 +295,5 @@ was_legal s e law = cond_both (is_legal s e) (after s e, answer s e) (s, Refused
   no_refusal (Ask m p k) h = h
   no_refusal (Get l at free) h = h
   no_refusal (Clear p) h = h
+  no_refusal (Advance logs) h = h
+  no_refusal (Look m) h = h

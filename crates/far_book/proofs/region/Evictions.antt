@@ -220,6 +220,7 @@ module _ (s : State) (law : Law (own_part s)) (p len ds : ℕ) (place : Place) (
       scopes = law_named.scopes;
       views = law_named.views;
       rounds = law_named.rounds;
+      clears = law_named.clears;
       unadopted = λ e. absurd (false≢true e);
     }
 

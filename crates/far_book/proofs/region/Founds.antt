@@ -9,7 +9,7 @@ use Rattle.far_word.specs.Mark.{field, is_set, marks_of}
 use Rattle.far_log.specs.Spans.{taken_by}
 use Rattle.far_core.specs.events.Naming.{is_dropped}
 use Rattle.far_core.specs.laws.Observed.{live_bytes}
-use Rattle.far_core.specs.state.Law.{Law}
+use Rattle.far_core.specs.state.Law.{Law, HasEvac}
 use Rattle.far_core.specs.state.Spans.{spans_of, is_live, names_place}
 use Rattle.far_core.specs.state.State.{State, put}
 use Rattle.far_core.proofs.Cells.{Remarked, unused}
@@ -21,6 +21,7 @@ use Rattle.far_book.specs.Finds.{Finds, body_of, marks_in}
 use Rattle.far_book.specs.book.Ledger.{Notes}
 use Rattle.far_book.specs.book.Home.{home_of}
 use Rattle.far_book.specs.book.Own.{own_part}
+use Rattle.far_book.proofs.Finding.{near_known}
 use Rattle.far_book.proofs.region.SpanLists.{taken_same}
 
 -- ---- what a word that is found shares with the one that was known
@@ -117,10 +118,14 @@ module _ (s : State) (law : Law (own_part s)) (p w : ℕ) (fits : w < 2 ^ 64) (f
     kept = λ alive. false_from_ne_true (cells.is_dropped (read_of (s.cell p))) (λ h. true≢false (sym (drop_found (s.cell p) w f h) ∙ alive));
   }
 
+  -- EVAC is the book's, so it is found as it was known
+  evac : HasEvac s.round (read_of w)
+  evac len ds place m e inside = let x = near_known (s.cell p) w f len ds place m e in sym x.same ∙ law.rounds.round_evac p len ds place x.marks x.near inside
+
   law_found : Law (own_part record s { cell = put s.cell p w })
   law_found = elim (cases_eq (s.cell p) 0) [
     | inl e ↦ subst (λ (cell : ℕ → ℕ). Law record (own_part s) { cell = cell }) (sym (put_old s.cell p w (e ∙ sym (free_found (s.cell p) w f e)))) law
-    | inr ne ↦ law_with_cell_marks (own_part s) law p w fits remarked ne (λ place h. absurd cc) (λ h. absurd (false≢true h))
+    | inr ne ↦ law_with_cell_marks (own_part s) law p w fits remarked evac ne (λ place h. absurd cc) (λ h. absurd (false≢true h))
   ]
 
   pub notes_found : (ledger : Ledger) → Notes (own_part s) ledger → Notes (own_part record s { cell = put s.cell p w }) ledger

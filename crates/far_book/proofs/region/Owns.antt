@@ -78,6 +78,7 @@ own_law s law = record {
     used_cell = λ p h. absurd (false≢true h);
   };
   rounds = law.rounds;
+  clears = record { clear_unviewed = λ p place h. absurd cc; late_unviewed = λ p e place h. absurd cc };
   unadopted = λ h. absurd (false≢true h);
 }
 

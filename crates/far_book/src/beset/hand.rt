@@ -4,14 +4,17 @@ ghost use Rattle.std.specs.Prelude.{◌≡◌, ◌+◌, ◌*◌, ◌<◌, ℕ, t
 ghost use Rattle.far_word.specs.declared.sizes.TheConstants.{LOG_WORDS};
 ghost use Rattle.far_word.specs.Pointer.{read_of};
 ghost use Rattle.far_book.specs.BesetView.{beset_view};
-ghost use Rattle.far_book.specs.Quiet.{IsQuietAt, is_moved_word};
+ghost use Rattle.std.specs.Vec.{vec_len};
+ghost use Rattle.far_core.specs.state.CoreState.{core_state};
+ghost use Rattle.far_book.specs.Masked.{word_at};
+ghost use Rattle.far_book.specs.Quiet.{IsQuietAt, is_quiet_word};
 
 use crate::beset::Beset;
 use crate::beset::rows::{count, find, forget, found_in, recount};
 use crate::near::Near;
-use crate::plain::shape_of;
+use crate::plain::{may_rise, shape_of};
 use far_core::Shape;
-use far_word::{Mark, PtrWord, words_for};
+use far_word::{CELLS, Mark, PtrWord, Refused, words_for};
 
 impl Near for Beset {
     ghost view = { beset_view };
@@ -69,6 +72,21 @@ impl Near for Beset {
         }
     }
 
+    fn advance(&mut self, logs: u64) -> Result<u64, Refused> {
+        self.turn();
+        if !may_rise(&self.core) {
+            return Err(Refused::EpochsSpent);
+        }
+        let epoch = self.core.advance(logs);
+        forget(&mut self.counted);
+        Ok(epoch)
+    }
+
+    fn look(&mut self, owner: u8) -> u64 {
+        self.turn();
+        self.core.look(owner)
+    }
+
     fn shape(&self) -> Shape {
         shape_of(&self.core)
     }
@@ -82,28 +100,36 @@ impl Beset {
         ensures all { result ≡ false → ¬ IsQuietAt (beset_view self.now) (log * LOG_WORDS + at) }
     {
         for pointer in 0..self.found.len() {
-            if is_moved_word(found_in(&self.found, pointer), log, at) {
+            if self.is_quiet_word(pointer, log, at) {
                 return true;
             }
         }
         false
     }
-}
 
-/// Whether a word of a log is a data word of the object that a cell names, and the cell has MOVE. No log is in a round
-/// yet, so an object is quiet by MOVE alone.
-fn is_moved_word(cell: u64, log: u8, at: u16) -> bool
-    ensures { result ≡ is_moved_word (read_of cell) log at }
-{
-    match PtrWord::read(cell) {
-        Some(
-            PtrWord::Near {
-                len,
-                place,
-                marks,
-                ..
-            },
-        ) => { marks.moved && place.log == log && place.at < at && at <= place.at + words_for(len) }
-        _ => false,
+    /// Whether a word of a log is a data word of the object that a pointer's cell was found to name, and the object is quiet: by
+    /// MOVE, or by the round.
+    fn is_quiet_word(&self, pointer: usize, log: u8, at: u16) -> bool
+        requires { pointer < vec_len self.now.found }
+        ensures { result ≡ is_quiet_word (core_state self.now.core).round (core_state self.now.core).clear pointer (read_of (word_at self.now.found.items pointer)) log at }
+    {
+        let owner = pointer / CELLS as usize;
+        match PtrWord::read(found_in(&self.found, pointer)) {
+            Some(
+                PtrWord::Near {
+                    len,
+                    place,
+                    marks,
+                    ..
+                },
+            ) => {
+                let quiet = marks.moved
+                    || (marks.evac
+                        && self.core.is_in_round(place.log)
+                        && self.core.is_clear(owner as u8));
+                quiet && (place.log == log && place.at < at && at <= place.at + words_for(len))
+            }
+            _ => false,
+        }
     }
 }

@@ -24,6 +24,7 @@ keeps_adopt s p law live = law_with_owners s s.scope s.remembered (put s.used p 
       held_used = λ q h. put_both (λ b. b ≡ true) s.used p true q (λ _. refl) (λ _. law.views.held_used q h);
       used_cell = λ q. put_both (λ b. b ≡ true → in_use (read_of (s.cell q)) ≡ true) s.used p true q (λ e _. rw e live) (λ _. law.views.used_cell q);
     })
+    law.clears
     (λ honest q. put_both (λ b. b ≡ false → IsBlank s.word (s.stored q) (read_of (s.cell q))) s.used p true q (λ _ h. absurd (true≢false h)) (λ _. law.unadopted honest q))
 
 pub adopt_stays : (s : State) (p : ℕ) → world_of record s { used = put s.used p true } ≡ world_of s

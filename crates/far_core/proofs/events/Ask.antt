@@ -19,12 +19,12 @@ use Rattle.far_core.specs.events.Legal.{Legal}
 use Rattle.far_core.specs.events.Step.{after, change_of}
 use Rattle.far_core.specs.events.Touch.{Uses}
 use Rattle.far_core.specs.laws.Worlds.{Caused}
-use Rattle.far_core.specs.state.Law.{Law, IsBlank, held_place, in_use}
+use Rattle.far_core.specs.state.Law.{Law, HasEvac, IsBlank, held_place, in_use}
 use Rattle.far_core.specs.state.State.{State, put}
 use Rattle.far_core.specs.world.Happens.{Happens}
 use Rattle.far_core.specs.world.Steps as world
 use Rattle.far_core.specs.world.WorldOf.{world_of, object_of, is_marked}
-use Rattle.far_core.proofs.Cells.{Remarked, Remarked-map_mark, is_dropped, map_mark, in_use-mark, object_of-mark}
+use Rattle.far_core.proofs.Cells.{Remarked, Remarked-map_mark, HasEvac-mark, is_dropped, map_mark, in_use-mark, object_of-mark}
 use Rattle.far_core.proofs.Frames.{law_with_cell, law_with_cell_marks}
 use Rattle.far_core.proofs.Guards.{none_from}
 use Rattle.far_core.proofs.Marking.{is_owners, read_mark, in_use_nonzero, is_marked-moved, object_of-dropped, is_marked-dropped, in_use_object, marks_world}
@@ -77,8 +77,11 @@ module _ (s : State) (law : Law s) (p : ℕ) (used : s.used p ≡ true) (unheld 
   remarked : (k : Mark) → is_owners k ≡ true → Remarked (read_of (s.cell p)) (read_of (cell k))
   remarked k h = subst (λ o. Remarked (read_of (s.cell p)) o) (sym (reads k h).0) (Remarked-map_mark k _)
 
+  evac : (k : Mark) → is_owners k ≡ true → HasEvac s.round (read_of (cell k))
+  evac k h = subst (HasEvac s.round) (sym (reads k h).0) (HasEvac-mark k s.round _ (law.rounds.round_evac p))
+
   pub keeps_move : Law record s { cell = put s.cell p (cell Moved) }
-  keeps_move = law_with_cell_marks s law p (cell Moved) (reads Moved refl).1 (remarked Moved refl) (in_use_nonzero _ live)
+  keeps_move = law_with_cell_marks s law p (cell Moved) (reads Moved refl).1 (remarked Moved refl) (evac Moved refl) (in_use_nonzero _ live)
       (λ place h. let odd : None ≡ Some place = sym unheld ∙ h in absurd cc)
       (λ u. ap in_use (reads Moved refl).0 ∙ in_use-mark Moved _ (λ e. cc) ∙ live)
 
@@ -96,7 +99,7 @@ module _ (s : State) (law : Law s) (p : ℕ) (used : s.used p ≡ true) (unheld 
   }
 
   pub keeps_drop : Law record s { cell = put s.cell p (cell Dropped); used = put s.used p false }
-  keeps_drop = law_with_cell s law p (cell Dropped) (reads Dropped refl).1 (remarked Dropped refl) (in_use_nonzero _ live) (put s.used p false)
+  keeps_drop = law_with_cell s law p (cell Dropped) (reads Dropped refl).1 (remarked Dropped refl) (evac Dropped refl) (in_use_nonzero _ live) (put s.used p false)
       (record {
         held_open = law.views.held_open;
         held_names = λ q at h. put_both (λ w. held_place (read_of w) ≡ Some at) s.cell p (cell Dropped) q

@@ -1,10 +1,9 @@
 -- What the event Clear owes.
-use Rattle.std.proofs.Common.{inl, inr, ◌≡◌, ◌≢◌, ◌*◌, ◌-◌, ◌<◌, ◌≤◌, ◌^◌, ◌∙◌, ℕ, Bool, true, false, cond, arith, ap, refl, sym, subst, nat_lt, bit_and, Option, Some, None}
+use Rattle.std.proofs.Common.{inl, inr, ◌≡◌, ◌≢◌, ◌*◌, ◌-◌, ◌<◌, ◌≤◌, ◌^◌, ◌∙◌, ℕ, Bool, true, false, cond, arith, ap, refl, sym, subst, nat_lt, Option, Some, None}
 use Rattle.std.specs.Prelude.{◌||◌, ◌&&◌, not, is_some}
 use Rattle.std.proofs.lemmas.Bool.{false≢true}
 use Rattle.std.proofs.lemmas.Bool.Decides.{nat_tests}
 use Rattle.std.proofs.lemmas.Nat.{and_le_l}
-use Rattle.far_word.specs.declared.pointer.Place.{Place}
 use Rattle.far_word.specs.declared.pointer.PtrWord.{PtrWord}
 use Rattle.far_word.specs.declared.pointer.PtrWord.TheVariants.{Free, Near, Far}
 use Rattle.far_word.specs.declared.sizes.TheConstants.{CELLS}
@@ -14,14 +13,14 @@ use Rattle.far_core.specs.declared.event.Event.TheVariants.{Clear}
 use Rattle.far_core.specs.events.Clear.{is_near, IsNear, evac_cleared, round_left, LeavesRound}
 use Rattle.far_core.specs.events.Quiet.{has_move}
 use Rattle.far_core.specs.events.Step.{after, change_of}
-use Rattle.far_core.specs.state.Law.{Law, held_place, in_use}
-use Rattle.far_core.specs.state.State.{State, put}
+use Rattle.far_core.specs.state.Law.{Law, HasEvac, held_place, in_use}
+use Rattle.far_core.specs.state.State.{State}
 use Rattle.far_core.specs.world.Changes.{StepOf, Stays, Unmarks}
 use Rattle.far_core.specs.world.World.{Object}
 use Rattle.far_core.specs.world.WorldOf.{world_of, object_of, is_marked}
 use Rattle.far_core.specs.laws.Worlds.{Caused}
 use Rattle.far_core.proofs.Cells.{Remarked, unused}
-use Rattle.far_core.proofs.Frames.{law_with_cell_marks}
+use Rattle.far_core.proofs.Frames.{law_with_cell_marks, law_with_fewer_chosen}
 use Rattle.far_core.proofs.Marking.{same_world, unmarks_world}
 use Rattle.far_core.proofs.Owed.{Owed, replies}
 use Rattle.far_core.proofs.Put.{put_both, put_same, put_other}
@@ -93,23 +92,20 @@ unmarked f g p (Some (Near len ds place m)) n h = gone m.dropped m.evac m.moved 
 unmarked f g p (Some (Far len ds m)) n h = absurd (false≢true n)
 
 -- ---- the round
-out_still : (round : ℕ → Bool) (o : Option PtrWord) → ((l : ℕ) → round l ≡ false) → (l : ℕ) → round_left round o l ≡ false
-out_still round None none l = none l
-out_still round (Some Free) none l = none l
-out_still round (Some (Near len ds place m)) none l = put_both (λ b. b ≡ false) round place.log false l (λ _. refl) (λ _. none l)
-out_still round (Some (Far len ds m)) none l = none l
+pub out_still : (round : ℕ → Bool) (o : Option PtrWord) (l : ℕ) → round l ≡ false → round_left round o l ≡ false
+out_still round None l out = out
+out_still round (Some Free) l out = out
+out_still round (Some (Near len ds place m)) l out = put_both (λ b. b ≡ false) round place.log false l (λ _. refl) (λ _. out)
+out_still round (Some (Far len ds m)) l out = out
 
-law_with_round : (s : State) (round : ℕ → Bool) → Law s → ((l : ℕ) → round l ≡ false) → Law record s { round = round }
-law_with_round s round law none = record {
-  shape = law.shape;
-  cells = law.cells;
-  spans = law.spans;
-  logs = law.logs;
-  scopes = law.scopes;
-  views = law.views;
-  rounds = record { none_chosen = none; none_clear = law.rounds.none_clear; own_epoch = law.rounds.own_epoch };
-  unadopted = law.unadopted;
-}
+-- the log of what lost EVAC has left the round
+evac_still : (round : ℕ → Bool) (o : Option PtrWord) → HasEvac (round_left round o) (map_clear o)
+evac_still round None len ds place m e inside = absurd cc
+evac_still round (Some Free) len ds place m e inside = absurd cc
+evac_still round (Some (Near n d at k)) len ds place m e inside =
+    let there : place.log ≡ at.log = grind (arith, nat_tests) in
+    absurd (false≢true (sym (put_same round at.log false place.log there) ∙ inside))
+evac_still round (Some (Far n d k)) len ds place m e inside = absurd cc
 
 -- ---- what the event owes
 module _ (p : ℕ) where
@@ -120,10 +116,10 @@ module _ (p : ℕ) where
   keeps_clear : (s : State) → Law s → is_near (read_of (s.cell p)) ≡ true → Law (after s (Clear p))
   keeps_clear s law h =
       let x = read_clear (s.cell p) _ (law.cells.cell_read p).0 refl h in
-      law_with_round _ (round_left s.round (read_of (s.cell p)))
-      (law_with_cell_marks s law p _ x.1 (subst (λ o. Remarked (read_of (s.cell p)) o) (sym x.0) (remarked _)) (nonzero s h)
-      (λ place k. ap held_place x.0 ∙ held_place-clear _ ∙ law.views.held_names p place k) (λ k. ap in_use x.0 ∙ in_use-clear _ ∙ law.views.used_cell p k))
-      (out_still s.round (read_of (s.cell p)) law.rounds.none_chosen)
+      let left : ℕ → Bool = round_left s.round (read_of (s.cell p)) in
+      law_with_cell_marks record s { round = left } (law_with_fewer_chosen s left law (out_still s.round (read_of (s.cell p)))) p _ x.1
+      (subst (λ o. Remarked (read_of (s.cell p)) o) (sym x.0) (remarked _)) (subst (HasEvac left) (sym x.0) (evac_still s.round (read_of (s.cell p)))) (nonzero s h)
+      (λ place k. ap held_place x.0 ∙ held_place-clear _ ∙ law.views.held_names p place k) (λ k. ap in_use x.0 ∙ in_use-clear _ ∙ law.views.used_cell p k)
 
   does_clear : (s : State) → Law s → is_near (read_of (s.cell p)) ≡ true → (b : Bool) → has_move (read_of (s.cell p)) ≡ b →
       StepOf (Some (cond b Stays (Unmarks p))) (world_of s) (world_of (after s (Clear p)))
@@ -157,9 +153,9 @@ module _ (p : ℕ) where
       used = λ q a. refl;
       held = λ q a b. refl;
       book = λ ne. absurd (ne refl);
-      rest = (refl, refl, refl, refl, refl);
+      rest = (refl, refl, refl);
     };
-    part = λ s h. inr (inr (p, refl));
+    part = λ s h. inr (inr (inl (p, refl)));
     word = λ s h. inr (inr (inr (inr refl)));
     reports = λ s law h. (
       refl,

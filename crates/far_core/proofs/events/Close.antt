@@ -47,7 +47,14 @@ keeps_close s m law = law_with_owners s (put s.scope m 0) (put s.remembered m No
       held_used = λ p. left_over s m p (λ o. IsSome o → s.used p ≡ true) (λ o e h. absurd (false≢true (sym (ap (λ x. is_some x) e) ∙ h))) (λ _. law.views.held_used p);
       used_cell = law.views.used_cell;
     })
-    (law.unadopted)
+    (record {
+      clear_unviewed = λ p place. left_over s m p (λ o. o ≡ Some place → s.clear (p / CELLS) ≡ true → s.round place.log ≡ false)
+          (λ o e h. let odd : None ≡ Some place = sym e ∙ h in absurd cc) (λ _. law.clears.clear_unviewed p place);
+      late_unviewed = λ p e place. left_over s m p (λ o. o ≡ Some place → scope_of (put s.scope m 0 (p / CELLS)) ≡ Some (scoped.Open e) → s.round_epoch ≤ e → s.round place.log ≡ false)
+          (λ o is h. let odd : None ≡ Some place = sym is ∙ h in absurd cc)
+          (λ other h is. law.clears.late_unviewed p e place h (sym (ap scope_of (put_other s.scope m 0 (p / CELLS) (eqb-false (p / CELLS) m other))) ∙ is));
+    })
+    law.unadopted
 
 pub close_closes : (s : State) (m : ℕ) → s.scope m ≢ 0 → Closes (world_of s) m (world_of (after_close s m))
 unfolding world_of

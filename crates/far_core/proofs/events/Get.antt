@@ -33,9 +33,10 @@ use Rattle.far_core.specs.world.World.{Object, Group, FarSide}
 use Rattle.far_core.specs.world.WorldOf.{world_of, object_of, is_group}
 use Rattle.far_core.proofs.Bounds.{span_len}
 use Rattle.far_core.proofs.Cells.{live_names}
+use Rattle.far_core.proofs.Frames.{fewer_clear}
 use Rattle.far_core.proofs.Guards.{sealed_fact}
 use Rattle.far_core.proofs.Owed.{Owed, replies}
-use Rattle.far_core.proofs.Put.{put_both, put_same, put_other}
+use Rattle.far_core.proofs.Put.{put_both, put_two, put_same, put_other}
 use Rattle.far_core.proofs.Touching.{untouched}
 use Rattle.far_core.proofs.Worlds.{World-ext}
 
@@ -154,10 +155,11 @@ module _ (s : State) (law : Law s) (l : ℕ) (shut : s.kind l ≡ Sealed) (vacan
     scopes = law.scopes;
     views = law.views;
     rounds = record {
-      none_chosen = λ k. put_both (λ b. b ≡ false) s.round l false k (λ _. refl) (λ _. law.rounds.none_chosen k);
-      none_clear = law.rounds.none_clear;
+      round_sealed = λ k. put_two (λ b x. b ≡ true → x ≡ Sealed) s.round s.kind l false Free k (λ _ h. absurd (false≢true h)) (λ _. law.rounds.round_sealed k);
+      round_evac = λ p len ds place m e. put_both (λ b. b ≡ true → m.evac ≡ true) s.round l false place.log (λ _ h. absurd (false≢true h)) (λ _. law.rounds.round_evac p len ds place m e);
       own_epoch = law.rounds.own_epoch;
     };
+    clears = fewer_clear s (put s.round l false) law (λ k out. put_both (λ b. b ≡ false) s.round l false k (λ _. refl) (λ _. out));
     unadopted = law.unadopted;
   }
 
@@ -204,7 +206,7 @@ module _ (l at : ℕ) where
 
   touch_get : (free : Bool) (s : State) → Touches s (touches s (Get l at free)) (after s (Get l at free))
   touch_get false s = untouched s _
-  touch_get true s = record { words = λ a ne. refl; remembered = λ k a b. refl; used = λ q a. refl; held = λ q a b. refl; book = λ ne. absurd (ne refl); rest = (refl, refl, refl, refl, refl) }
+  touch_get true s = record { words = λ a ne. refl; remembered = λ k a b. refl; used = λ q a. refl; held = λ q a b. refl; book = λ ne. absurd (ne refl); rest = (refl, refl, refl) }
 
   part_get : (free : Bool) → PartBy (Get l at free) (part_of free)
   part_get false = tt

@@ -12,14 +12,14 @@ use Rattle.far_word.specs.Pointer.{read_of}
 use Rattle.far_word.proofs.PointerLaws.{with_mark_read, with_mark_fits}
 use Rattle.far_core.specs.declared.event.Event.TheVariants.{Mark}
 use Rattle.far_core.specs.events.Mark.{may_mark, IsSealedNear}
-use Rattle.far_core.specs.state.Law.{Law, held_place, in_use}
+use Rattle.far_core.specs.state.Law.{Law, HasEvac, held_place, in_use}
 use Rattle.far_core.specs.state.State.{State, put}
 use Rattle.far_core.specs.events.Step.{change_of}
 use Rattle.far_core.specs.world.World.{Object}
 use Rattle.far_core.specs.laws.Worlds.{Caused}
 use Rattle.far_core.specs.world.WorldOf.{world_of, object_of, is_marked}
 use Rattle.far_core.specs.world.Steps as world
-use Rattle.far_core.proofs.Cells.{Remarked, Remarked-map_mark, unused, map_mark, held_place-mark, in_use-mark, object_of-mark}
+use Rattle.far_core.proofs.Cells.{Remarked, Remarked-map_mark, HasEvac-mark, unused, map_mark, held_place-mark, in_use-mark, object_of-mark}
 use Rattle.far_core.proofs.Frames.{law_with_cell_marks}
 use Rattle.far_core.proofs.Guards.{sealed_fact}
 use Rattle.far_core.proofs.Marking.{marks_world}
@@ -76,7 +76,8 @@ module _ (p : ℕ) where
   keeps_mark : (s : State) → Law s → may_mark s (read_of (s.cell p)) ≡ true → Law record s { cell = put s.cell p (evac (s.cell p)) }
   keeps_mark s law h =
       let x = read_evac s (s.cell p) _ (law.cells.cell_read p).0 refl h in
-      law_with_cell_marks s law p _ x.1 (subst (λ o. Remarked (read_of (s.cell p)) o) (sym x.0) (Remarked-map_mark Evac _)) (nonzero s p h)
+      law_with_cell_marks s law p _ x.1 (subst (λ o. Remarked (read_of (s.cell p)) o) (sym x.0) (Remarked-map_mark Evac _))
+      (subst (HasEvac s.round) (sym x.0) (HasEvac-mark Evac s.round _ (law.rounds.round_evac p))) (nonzero s p h)
       (λ place k. ap held_place x.0 ∙ held_place-mark Evac _ (λ e. cc) (λ e. cc) ∙ law.views.held_names p place k) (λ k. ap in_use x.0 ∙ in_use-mark Evac _ (λ e. cc) ∙ law.views.used_cell p k)
 
   pub mark_owed : Owed (Mark p)

@@ -34,8 +34,8 @@ open_word e below =
     let half : (2 * e + 1) / 2 ≡ e = omega arith in
     rw (some, odd, fits, half) refl
 
-pub keeps_open : (s : State) (m e : ℕ) → Law s → m < s.mutators → s.remembered m ≡ Some e → Law record s { scope = put s.scope m (2 * e + 1) }
-keeps_open s m e law within read =
+pub keeps_open : (s : State) (m e : ℕ) → Law s → m < s.mutators → s.scope m ≡ 0 → s.remembered m ≡ Some e → Law record s { scope = put s.scope m (2 * e + 1) }
+keeps_open s m e law within shut read =
     let low : e ≤ s.epoch = law.scopes.remembered_bound m e read in
     let word : scope_of (2 * e + 1) ≡ Some (scoped.Open e) = open_word e (omega (arith, law.scopes.epoch_below)) in
     law_with_owners s (put s.scope m (2 * e + 1)) s.remembered s.used s.held law
@@ -54,11 +54,16 @@ keeps_open s m e law within read =
       held_used = law.views.held_used;
       used_cell = law.views.used_cell;
     })
-    (law.unadopted)
+    (record {
+      clear_unviewed = law.clears.clear_unviewed;
+      late_unviewed = λ p f at h. put_both (λ w. scope_of w ≡ Some (scoped.Open f) → s.round_epoch ≤ f → s.round at.log ≡ false) s.scope m (2 * e + 1) (p / CELLS)
+          (λ own _ _. absurd (law.views.held_open p (rw h refl) (ap s.scope own ∙ shut))) (λ _. law.clears.late_unviewed p f at h);
+    })
+    law.unadopted
 
-at_remembered : (s : State) (m : ℕ) (o : Option ℕ) → Law s → m < s.mutators → s.remembered m ≡ o → IsSome o → Law record s { scope = put s.scope m (scope_word_of o) }
-at_remembered s m None law within e h = absurd (false≢true h)
-at_remembered s m (Some e) law within is h = keeps_open s m e law within is
+at_remembered : (s : State) (m : ℕ) (o : Option ℕ) → Law s → m < s.mutators → s.scope m ≡ 0 → s.remembered m ≡ o → IsSome o → Law record s { scope = put s.scope m (scope_word_of o) }
+at_remembered s m None law within shut e h = absurd (false≢true h)
+at_remembered s m (Some e) law within shut is h = keeps_open s m e law within shut is
 
 pub open_opens : (s : State) (m e : ℕ) → s.scope m ≡ 0 → Opens (world_of s) m (world_of record s { scope = put s.scope m (2 * e + 1) })
 unfolding world_of
@@ -85,7 +90,7 @@ module _ (m : ℕ) where
   open_owed = record {
     fact = λ s law h. (closed_fact s m (grind (arith, nat_tests)), grind (arith, nat_tests));
     test = λ s h. rw (closed_test s m h.0, h.1) refl;
-    keeps = λ s law fits h. at_remembered s m (s.remembered m) law h.0.0 refl h.1;
+    keeps = λ s law fits h. at_remembered s m (s.remembered m) law h.0.0 h.0.1 refl h.1;
     does = λ s law fits h. do_open s m (s.remembered m) h.0.1 h.1;
     within = λ s. touched (one_scope s.epoch s.scope s.cell s.word m _) (λ k a b. refl) (λ q a. refl) (λ q a b. refl);
     part = λ s h. tt;

@@ -1,6 +1,6 @@
 -- What the event Pin owes.
 use Rattle.std.proofs.Common.{inl, Bool, None, Option, Some, ap, arith, bit_or, cond, false, refl, subst, sym, true, ℕ, ◌+◌, ◌/◌, ◌^◌, ◌∙◌, ◌≡◌, ◌≢◌}
-use Rattle.std.proofs.lemmas.Bool.{eq-eqb}
+use Rattle.std.proofs.lemmas.Bool.{eq-eqb, false≢true, false_from_ne_true}
 use Rattle.std.proofs.lemmas.Bool.Decides.{nat_tests}
 use Rattle.std.specs.Prelude.{IsSome, is_some, ◌||◌}
 use Rattle.far_core.proofs.Cells.{held_place-mark, object_of-mark, held_place-place_to_view, read_hot, map_mark}
@@ -34,15 +34,33 @@ use Rattle.far_word.specs.declared.pointer.PtrWord.TheVariants.{Far, Free, Near}
 use Rattle.far_word.specs.declared.sizes.TheConstants.{CELLS}
 use mathlib.Core.Path.{fun_ext}
 
-pub keeps_hold : (s : State) → Law s → (p : ℕ) (place : Place) → held_place (read_of (s.cell p)) ≡ Some place → s.used p ≡ true → s.scope (p / CELLS) ≢ 0 → Law record s { held = put s.held p (Some place) }
-keeps_hold s law p place ok used opened = law_with_held s (put s.held p (Some place)) law
+pub keeps_hold : (s : State) → Law s → (p : ℕ) (place : Place) → held_place (read_of (s.cell p)) ≡ Some place → s.used p ≡ true → s.scope (p / CELLS) ≢ 0 → s.round place.log ≡ false →
+    Law record s { held = put s.held p (Some place) }
+keeps_hold s law p place ok used opened out = law_with_held s (put s.held p (Some place)) law
     (λ q. put_both (λ (o : Option Place). IsSome o → (s.scope (q / CELLS) ≢ 0) × (s.used q ≡ true)) s.held p (Some place) q (λ e _. (rw e opened, rw e used)) (λ _ h. (law.views.held_open q h, law.views.held_used q h)))
     (λ q at. put_both (λ (o : Option Place). o ≡ Some at → held_place (read_of (s.cell q)) ≡ Some at) s.held p (Some place) q (λ e h. rw e (ok ∙ h)) (λ _. law.views.held_names q at))
+    (record {
+      clear_unviewed = λ q at h c. put_both (λ (o : Option Place). o ≡ Some at → s.round at.log ≡ false) s.held p (Some place) q
+          (λ _ is. let same : place ≡ at = cc in ap (λ (x : Place). s.round x.log) (sym same) ∙ out) (λ _ is. law.clears.clear_unviewed q at is c) h;
+      late_unviewed = λ q e at h is late. put_both (λ (o : Option Place). o ≡ Some at → s.round at.log ≡ false) s.held p (Some place) q
+          (λ _ is. let same : place ≡ at = cc in ap (λ (x : Place). s.round x.log) (sym same) ∙ out) (λ _ h. law.clears.late_unviewed q e at h is late) h;
+    })
+
+-- what may be viewed has no EVAC, so it doesn't lie in the round
+view_is_out : (s : State) → Law s → (p : ℕ) (o : Option PtrWord) (place : Place) → read_of (s.cell p) ≡ o → place_to_view o ≡ Some place → s.round place.log ≡ false
+view_is_out s law p None place e view = absurd cc
+view_is_out s law p (Some Free) place e view = absurd cc
+view_is_out s law p (Some (Near len ds at m)) place e view =
+    let same : at ≡ place = grind (arith, nat_tests) in
+    let clean : m.evac ≡ false = grind (arith, nat_tests) in
+    ap (λ (x : Place). s.round x.log) (sym same) ∙ false_from_ne_true (s.round at.log) (λ inside. false≢true (sym clean ∙ law.rounds.round_evac p len ds at m e inside))
+view_is_out s law p (Some (Far len ds m)) place e view = absurd cc
 
 at_view : (s : State) (p : ℕ) (o : Option Place) → Law s → s.used p ≡ true → s.scope (p / CELLS) ≢ 0 → place_to_view (read_of (s.cell p)) ≡ o → Law record (hot_cell s p) { held = with_hold s.held p o }
 at_view s p None law used opened e = keeps_hot s law p used
 at_view s p (Some place) law used opened e = keeps_hold (hot_cell s p) (keeps_hot s law p used) p place
     (ap (λ w. held_place (read_of w)) (put_same s.cell p _ p refl) ∙ ap held_place (hot_read s law p used) ∙ held_place-mark Hot _ (λ e. cc) (λ e. cc) ∙ held_place-place_to_view _ place e) used opened
+    (view_is_out s law p (read_of (s.cell p)) place refl e)
 
 pub keeps_pin : (s : State) (p : ℕ) → Law s → s.used p ≡ true → s.scope (p / CELLS) ≢ 0 → Law (after_pin s p)
 keeps_pin s p law used opened = at_view s p _ law used opened refl

@@ -1,7 +1,7 @@
 -- What each event does: its rule; the step that it makes. Each event stands in its own file.
 use Rattle.std.specs.Prelude.{Option, Some, Bool, if◌then◌else◌}
 use Rattle.far_core.specs.declared.event.Event.{Event}
-use Rattle.far_core.specs.declared.event.Event.TheVariants.{ReadEpoch, Open, Pin, Load, Store, Close, Adopt, Put, Name, See, Mark, Ask, Get, Clear}
+use Rattle.far_core.specs.declared.event.Event.TheVariants.{ReadEpoch, Open, Pin, Load, Store, Close, Adopt, Put, Name, See, Mark, Ask, Get, Clear, Advance, Look}
 use Rattle.far_core.specs.declared.event.Reply.{Reply}
 use Rattle.far_core.specs.declared.event.Reply.TheVariants.{Refused}
 use Rattle.far_core.specs.state.State.{State}
@@ -22,6 +22,8 @@ use Rattle.far_core.specs.events.Mark.{mark_rule, mark_form}
 use Rattle.far_core.specs.events.Ask.{ask_rule, ask_form}
 use Rattle.far_core.specs.events.Get.{get_rule, get_form}
 use Rattle.far_core.specs.events.Clear.{clear_rule, clear_form}
+use Rattle.far_core.specs.events.Advance.{advance_rule, advance_form}
+use Rattle.far_core.specs.events.Look.{look_rule, look_form}
 pub use Rattle.far_core.specs.events.Owners.{is_closed, is_opened, holds, near_len, near_data, data_len, data_word, keeps_padding}
 pub use Rattle.far_core.specs.events.Open.{scope_word_of}
 pub use Rattle.far_core.specs.events.Pin.{with_hold, place_to_view, after_pin, pin_answer}
@@ -44,6 +46,8 @@ rule s (Mark p) = mark_rule s p
 rule s (Ask m p k) = ask_rule s m p k
 rule s (Get l at free) = get_rule s l at free
 rule s (Clear p) = clear_rule s p
+rule s (Advance logs) = advance_rule s logs
+rule s (Look m) = look_rule s m
 
 abbrev pub is_legal : State → Event → Bool
 is_legal s e = (rule s e).test
@@ -76,6 +80,8 @@ form (Mark p) = mark_form p
 form (Ask m p k) = ask_form m p k
 form (Get l at free) = get_form l at free
 form (Clear p) = clear_form p
+form (Advance logs) = advance_form
+form (Look m) = look_form
 
 -- a word that an event carries is 64 bits wide
 abbrev pub Fits : Event → Type 0

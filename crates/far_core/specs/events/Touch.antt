@@ -40,5 +40,5 @@ pub record Touches (s : State) (x : Touch) (t : State) : Type 0 where
   pub remembered : (m : ℕ) → x.part ≢ Remembers m → x.part ≢ LetsGo m → t.remembered m ≡ s.remembered m
   pub used : (p : ℕ) → x.part ≢ Uses p → t.used p ≡ s.used p
   pub held : (p : ℕ) → x.part ≢ Rests p → x.part ≢ LetsGo (p / CELLS) → t.held p ≡ s.held p
-  pub book : x.part ≢ BookView → (t.kind ≡ s.kind) × (t.tail ≡ s.tail) × (t.current ≡ s.current) × (t.starts ≡ s.starts) × (t.round ≡ s.round) × (t.stored ≡ s.stored)
-  pub rest : (t.mutators ≡ s.mutators) × (t.logs ≡ s.logs) × (t.honest ≡ s.honest) × (t.round_epoch ≡ s.round_epoch) × (t.clear ≡ s.clear)
+  pub book : x.part ≢ BookView → (t.kind ≡ s.kind) × (t.tail ≡ s.tail) × (t.current ≡ s.current) × (t.starts ≡ s.starts) × (t.round ≡ s.round) × (t.round_epoch ≡ s.round_epoch) × (t.clear ≡ s.clear) × (t.stored ≡ s.stored)
+  pub rest : (t.mutators ≡ s.mutators) × (t.logs ≡ s.logs) × (t.honest ≡ s.honest)

@@ -14,7 +14,7 @@ use Rattle.far_word.specs.Scope.{scope_of}
 use Rattle.far_word.specs.Sizes.{size_of, words_for}
 pub use Rattle.far_log.specs.Spans.{head_len, len_in}
 use Rattle.far_core.specs.declared.event.Kind.{Kind}
-use Rattle.far_core.specs.declared.event.Kind.TheVariants.{Free, Open}
+use Rattle.far_core.specs.declared.event.Kind.TheVariants.{Free, Open, Sealed}
 use Rattle.far_core.specs.state.State.{State, addr}
 
 -- a span of this length stands at a: it ends below its log's tail, no other span begins in it, and the next follows it
@@ -123,11 +123,21 @@ pub record ViewLaw (cell scope : ℕ → ℕ) (used : ℕ → Bool) (held : ℕ 
 abbrev pub BlankLaw : Bool → (ℕ → ℕ) → (ℕ → ℕ) → (ℕ → ℕ → ℕ) → (ℕ → Bool) → Type 0
 BlankLaw honest cell word stored used = honest ≡ true → (p : ℕ) → used p ≡ false → IsBlank word (stored p) (read_of (cell p))
 
--- the round is empty, nobody was seen clear in it, and its epoch is the epoch: no event of this stage chooses a log
-pub record RoundLaw (epoch : ℕ) (round : ℕ → Bool) (round_epoch : ℕ) (clear : ℕ → Bool) : Type 0 where
-  pub none_chosen : (l : ℕ) → round l ≡ false
-  pub none_clear : (m : ℕ) → clear m ≡ false
+-- a cell that says near has EVAC, if its log is among these, with DROP too
+abbrev pub HasEvac : (ℕ → Bool) → Option PtrWord → Type 0
+HasEvac logs cell = (len ds : ℕ) (place : Place) (m : Marks) → cell ≡ Some (Near len ds place m) → logs place.log ≡ true → m.evac ≡ true
+
+-- the logs of the round are sealed, and whatever lies there has EVAC, so that no new view comes to rest on it; the round's
+-- epoch is the epoch
+pub record RoundLaw (epoch : ℕ) (kind : ℕ → Kind) (cell : ℕ → ℕ) (round : ℕ → Bool) (round_epoch : ℕ) : Type 0 where
+  pub round_sealed : (l : ℕ) → round l ≡ true → kind l ≡ Sealed
+  pub round_evac : (p : ℕ) → HasEvac round (read_of (cell p))
   pub own_epoch : round_epoch ≡ epoch
+
+-- who was seen clear in the round, or is open at its epoch or later, views nothing in its logs
+pub record ClearLaw (scope : ℕ → ℕ) (held : ℕ → Option Place) (round : ℕ → Bool) (round_epoch : ℕ) (clear : ℕ → Bool) : Type 0 where
+  pub clear_unviewed : (p : ℕ) (place : Place) → held p ≡ Some place → clear (p / CELLS) ≡ true → round place.log ≡ false
+  pub late_unviewed : (p e : ℕ) (place : Place) → held p ≡ Some place → scope_of (scope (p / CELLS)) ≡ Some (scoped.Open e) → round_epoch ≤ e → round place.log ≡ false
 
 -- what every event keeps. It is a ghost field of `Core`, so it is so of every core at every moment
 pub record Law (s : State) : Type 0 where
@@ -137,5 +147,6 @@ pub record Law (s : State) : Type 0 where
   pub logs : LogLaw s.logs s.kind s.tail s.current
   pub scopes : ScopeLaw s.mutators s.epoch s.scope s.remembered
   pub views : ViewLaw s.cell s.scope s.used s.held
-  pub rounds : RoundLaw s.epoch s.round s.round_epoch s.clear
+  pub rounds : RoundLaw s.epoch s.kind s.cell s.round s.round_epoch
+  pub clears : ClearLaw s.scope s.held s.round s.round_epoch s.clear
   pub unadopted : BlankLaw s.honest s.cell s.word s.stored s.used

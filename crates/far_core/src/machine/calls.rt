@@ -176,6 +176,28 @@ impl Core {
         self.memory.clear(pointer)
     }
 
+    /// A round begins, of the sealed logs whose bit is 1 in `logs`; whatever lies near there has EVAC. Answers the new epoch, one
+    /// more than the last.
+    #[inline]
+    pub fn advance(&mut self, logs: u64) -> u64
+        requires legal { Legal (core_state self.old) (Event.Advance logs) }
+        ensures state { core_state self.new ≡ after (core_state self.old) (Event.Advance logs) }
+        ensures epoch { answer (core_state self.old) (Event.Advance logs) ≡ Reply.Epoch result }
+    {
+        self.memory.advance(logs)
+    }
+
+    /// The scope word of an owner. The owner is seen clear in the round from then on where the word says closed, or open at the
+    /// round's epoch or later.
+    #[inline]
+    pub fn look(&mut self, owner: u8) -> u64
+        requires legal { Legal (core_state self.old) (Event.Look owner) }
+        ensures state { core_state self.new ≡ after (core_state self.old) (Event.Look owner) }
+        ensures word { answer (core_state self.old) (Event.Look owner) ≡ Reply.Word result }
+    {
+        self.memory.look(owner)
+    }
+
     /// A near pointer whose place lies in a sealed log gets EVAC: its word before.
     #[inline]
     pub fn mark(&mut self, pointer: u16) -> u64
@@ -204,6 +226,15 @@ impl Core {
         ensures { IsTrue result ↔ Legal (core_state self.now) (Event.Get log at free) }
     {
         self.memory.may_get(log, at, free)
+    }
+
+    /// Whether a round of these logs may begin: the epoch may rise, each log is sealed, and whatever lies near there has EVAC. This
+    /// looks at all cells.
+    #[inline]
+    pub fn may_advance(&self, logs: u64) -> bool
+        ensures { IsTrue result ↔ Legal (core_state self.now) (Event.Advance logs) }
+    {
+        self.memory.may_advance(logs)
     }
 }
 
@@ -237,6 +268,8 @@ impl Memory {
             Event::See { pointer } if self.has_pointer(pointer) => Reply::Word(self.cell_at(pointer)),
             Event::Mark { pointer } if self.may_mark(pointer) => Reply::Word(self.mark(pointer)),
             Event::Clear { pointer } if self.may_clear(pointer) => Reply::Word(self.clear(pointer)),
+            Event::Advance { logs } if self.may_advance(logs) => Reply::Epoch(self.advance(logs)),
+            Event::Look { owner } if self.has_owner(owner) => Reply::Word(self.look(owner)),
             _ => Reply::Refused,
         }
     }

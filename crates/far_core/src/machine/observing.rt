@@ -41,6 +41,20 @@ impl Core {
         self.memory.epoch()
     }
 
+    /// Whether a log is in the round; false for a number that is no log's.
+    pub fn is_in_round(&self, log: u8) -> bool
+        ensures { result ≡ (core_state self.now).round log }
+    {
+        self.memory.is_in_round(log)
+    }
+
+    /// Whether an owner was seen clear in the round; false for a number that is no owner's.
+    pub fn is_clear(&self, owner: u8) -> bool
+        ensures { result ≡ (core_state self.now).clear owner }
+    {
+        self.memory.is_clear(owner as u16)
+    }
+
     /// What a log is.
     pub fn kind(&self, log: u8) -> Kind
         requires { log < (core_state self.now).logs }

@@ -301,7 +301,7 @@ fn names_place(cell: u64, log: u8, at: u16) -> bool
 }
 
 /// Whether a log takes no more spans.
-fn is_sealed(kind: Kind) -> bool
+pub(crate) fn is_sealed(kind: Kind) -> bool
     ensures { result ≡ is_sealed kind }
 {
     match kind {

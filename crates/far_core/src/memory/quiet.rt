@@ -11,14 +11,14 @@ use far_word::{CELLS, PtrWord};
 
 impl Memory {
     #[tactic(auto, unfolding(crate::specs::state::Memory::state_of))]
-    fn is_in_round(&self, log: u8) -> bool
+    pub(crate) fn is_in_round(&self, log: u8) -> bool
         ensures { result ≡ (state_of self.now).round log }
     {
         self.round.get(log as usize).copied().unwrap_or(false)
     }
 
     #[tactic(auto, unfolding(crate::specs::state::Memory::state_of))]
-    fn is_clear(&self, owner: u16) -> bool
+    pub(crate) fn is_clear(&self, owner: u16) -> bool
         ensures { result ≡ (state_of self.now).clear owner }
     {
         self.clear.get(owner as usize).copied().unwrap_or(false)

@@ -27,6 +27,13 @@ impl Memory {
     }
 
     #[tactic(auto, unfolding(crate::specs::state::Memory::state_of))]
+    pub(crate) fn round_epoch(&self) -> u64
+        ensures { result ≡ (state_of self.now).round_epoch }
+    {
+        self.round_epoch
+    }
+
+    #[tactic(auto, unfolding(crate::specs::state::Memory::state_of))]
     pub(crate) fn mutators(&self) -> u8
         ensures { result ≡ (state_of self.now).mutators }
     {

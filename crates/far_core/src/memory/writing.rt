@@ -119,6 +119,39 @@ impl Memory {
         self.tails[log as usize] = tail;
     }
 
+    /// The epoch, and the round's own.
+    #[tactic(auto, unfolding(crate::specs::state::Memory::state_of))]
+    pub(crate) fn set_epoch(&mut self, epoch: u64)
+        ensures { state_of self.new ≡ record (state_of self.old) { epoch = epoch; round_epoch = epoch } }
+    {
+        self.epoch = epoch;
+        self.round_epoch = epoch;
+    }
+
+    #[tactic(auto, unfolding(crate::specs::state::Memory::state_of))]
+    pub(crate) fn set_in_round(&mut self, log: u8, inside: bool)
+        requires { log < (state_of self.old).logs }
+        ensures { state_of self.new ≡ record (state_of self.old) { round = put (state_of self.old).round log inside } }
+    {
+        self.round[log as usize] = inside;
+    }
+
+    #[tactic(auto, unfolding(crate::specs::state::Memory::state_of))]
+    pub(crate) fn set_clear(&mut self, owner: u8, clear: bool)
+        requires { owner < (state_of self.old).mutators }
+        ensures { state_of self.new ≡ record (state_of self.old) { clear = put (state_of self.old).clear owner clear } }
+    {
+        self.clear[owner as usize] = clear;
+    }
+
+    /// Nobody was seen clear.
+    #[tactic(auto, unfolding(crate::specs::state::Memory::state_of))]
+    pub(crate) fn forget_clear(&mut self)
+        ensures { state_of self.new ≡ record (state_of self.old) { clear = λ _. false } }
+    {
+        self.clear.fill(false);
+    }
+
     #[tactic(auto, unfolding(crate::specs::state::Memory::state_of))]
     pub(crate) fn leave_round(&mut self, log: u8)
         requires { log < (state_of self.old).logs }

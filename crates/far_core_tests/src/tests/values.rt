@@ -58,6 +58,14 @@ fn ask(owner: u8, pointer: u16, mark: Mark) -> Event {
     }
 }
 
+fn advance(logs: u64) -> Event {
+    Event::Advance { logs }
+}
+
+fn look(owner: u8) -> Event {
+    Event::Look { owner }
+}
+
 fn get(log: u8, at: u16, free: bool) -> Event {
     Event::Get { log, at, free }
 }
@@ -79,7 +87,7 @@ fn moves(len: u16, ds: u8, from: (u8, u16), to: (u8, u16)) -> Naming {
 
 /// A row an event: zeros, and each field changed.
 #[rattlefmt::skip]
-fn events() -> [Event; 44] {
+fn events() -> [Event; 48] {
     [
         read_epoch(0), read_epoch(1),
         open(0), open(1),
@@ -93,6 +101,8 @@ fn events() -> [Event; 44] {
         see(0), see(1),
         mark(0), mark(1),
         clear(0), clear(1),
+        advance(0), advance(1),
+        look(0), look(1),
         ask(0, 0, Mark::Moved), ask(1, 0, Mark::Moved), ask(0, 1, Mark::Moved), ask(0, 0, Mark::Dropped),
         get(0, 0, false), get(1, 0, false), get(0, 1, false), get(0, 0, true),
         Event::Name { pointer: 0, old: 1, new: 1 },

@@ -1,12 +1,11 @@
 -- What the form of naming Evicts owes.
-use Rattle.std.proofs.Common.{◌≡◌, ◌≢◌, ℕ, ◌+◌, ◌*◌, ◌/◌, ◌<◌, ◌≤◌, ◌^◌, ◌-◌, Bool, true, false, cond, nat_lt, refl, sym, ap, arith, ◌∙◌, Option, Some, None}
+use Rattle.std.proofs.Common.{◌≡◌, ◌≢◌, ℕ, ◌+◌, ◌*◌, ◌/◌, ◌<◌, ◌^◌, ◌-◌, true, false, cond, refl, sym, ap, arith, ◌∙◌, Some, None}
 use Rattle.std.specs.Prelude.{IsSome, is_some}
-use Rattle.std.proofs.lemmas.Bool.{false≢true, lt-ltb}
+use Rattle.std.proofs.lemmas.Bool.{lt-ltb}
 use mathlib.Core.Path.{fun_ext}
 use Rattle.far_word.specs.declared.mark.Marks.{Marks}
 use Rattle.far_word.specs.declared.pointer.Place.{Place}
-use Rattle.far_word.specs.declared.pointer.PtrWord.{PtrWord}
-use Rattle.far_word.specs.declared.pointer.PtrWord.TheVariants.{Free, Near, Far}
+use Rattle.far_word.specs.declared.pointer.PtrWord.TheVariants.{Near, Far}
 use Rattle.far_word.specs.declared.sizes.TheConstants.{CELLS}
 use Rattle.far_word.specs.Bytes.{bytes_of}
 use Rattle.far_word.specs.Pointer.{read_of}
@@ -15,16 +14,15 @@ use Rattle.far_word.proofs.ByteLaws.{bytes_of-same}
 use Rattle.far_core.specs.declared.naming.Naming.TheVariants.{Evicts}
 use Rattle.far_core.specs.events.Naming.{no_marks}
 use Rattle.far_core.specs.events.namings.Evicts.{with_kept, evicts_row}
-use Rattle.far_core.specs.events.Quiet.{IsQuiet}
 use Rattle.far_core.specs.events.Touch.{CellAt, BookView, Touches}
-use Rattle.far_core.specs.state.Law.{Law, NamesBack, StoresBack, IsStored, IsBlank, held_place, in_use, head_len}
+use Rattle.far_core.specs.state.Law.{Law, NamesBack, StoresBack, IsBlank, held_place, in_use, head_len}
 use Rattle.far_core.specs.state.State.{State, put, addr}
 use Rattle.far_core.specs.world.Steps.{GoesFar}
 use Rattle.far_core.specs.world.World.{Object, Group, FarSide}
 use Rattle.far_core.specs.world.WorldOf.{world_of, object_of, is_marked}
 use Rattle.far_core.proofs.Bounds.{span_len}
-use Rattle.far_core.proofs.Cells.{unused}
-use Rattle.far_core.proofs.NamingOwed.{IsMade, NamingOwed}
+use Rattle.far_core.proofs.Frames.{rounds_with_cell}
+use Rattle.far_core.proofs.NamingOwed.{NamingOwed}
 use Rattle.far_core.proofs.Put.{put_both, put_two, put_same, put_other}
 use Rattle.far_core.proofs.Quieting.{quiet_fact, quiet_test, quiet_unheld}
 use Rattle.far_core.proofs.Touching.{one_cell}
@@ -85,7 +83,8 @@ module _ (s : State) (law : Law s) (p new len ds : ℕ) (place : Place) (m : Mar
       held_used = law.views.held_used;
       used_cell = λ q u. put_both (λ w. in_use (read_of w) ≡ true) s.cell p new q (λ _. ap in_use says) (λ _. law.views.used_cell q u);
     };
-    rounds = law.rounds;
+    rounds = rounds_with_cell s.epoch s.kind s.cell s.round s.round_epoch p new law.rounds (λ n d at k is. let odd : Some (Far len ds no_marks) ≡ Some (Near n d at k) = sym says ∙ is in absurd cc);
+    clears = law.clears;
     unadopted = λ honest q free. put_two (λ w (r : ℕ → ℕ). IsBlank s.word r (read_of w)) s.cell s.stored p new away q
         (λ e. no_zeros honest (ap s.used (sym e) ∙ free)) (λ _. law.unadopted honest q free);
   }
@@ -134,7 +133,7 @@ module _ (p new len : ℕ) (place : Place) where
     used = λ q a. refl;
     held = λ q a b. refl;
     book = λ ne. absurd (ne refl);
-    rest = (refl, refl, refl, refl, refl);
+    rest = (refl, refl, refl);
   }
 
   pub evicts_owed : NamingOwed p new (Evicts len place)

@@ -1,25 +1,24 @@
 -- What the form of naming Fetches owes.
-use Rattle.std.proofs.Common.{◌≡◌, ◌≢◌, ℕ, ◌+◌, ◌/◌, ◌<◌, nat_eq, nat_lt, Bool, true, false, arith, cond, inl, inr, refl, sym, ap, ◌∙◌, List, Option, Some, None}
-use Rattle.std.specs.Prelude.{is_some, not, ◌||◌, ◌&&◌}
+use Rattle.std.proofs.Common.{◌≡◌, ℕ, ◌/◌, Bool, true, false, arith, cond, refl, sym, ap, ◌∙◌, List, Option, Some, None}
+use Rattle.std.specs.Prelude.{is_some, not, ◌||◌}
 use Rattle.std.proofs.lemmas.Bool.{eq-eqb, false≢true}
 use Rattle.std.proofs.lemmas.Bool.Decides.{nat_tests}
 use Rattle.far_word.specs.declared.mark.Marks.{Marks}
 use Rattle.far_word.specs.declared.pointer.Place.{Place}
-use Rattle.far_word.specs.declared.pointer.PtrWord.TheVariants.{Near, Far}
+use Rattle.far_word.specs.declared.pointer.PtrWord.TheVariants.{Far}
 use Rattle.far_word.specs.declared.sizes.TheConstants.{CELLS}
 use Rattle.far_word.specs.Bytes.{bytes_of}
 use Rattle.far_word.specs.Pointer.{read_of}
 use Rattle.far_word.specs.Sizes.{words_for}
 use Rattle.far_word.proofs.ByteLaws.{bytes_of-same, bytes_of-small, length-bytes_of}
 use Rattle.far_core.specs.declared.naming.Naming.TheVariants.{Fetches}
-use Rattle.far_core.specs.events.Copies.{alike, data_at, ends_padded}
+use Rattle.far_core.specs.events.Copies.{data_at, ends_padded}
 use Rattle.far_core.specs.events.namings.Fetches.{MayFetch, IsStoredAt, is_stored_at, words_stored}
-use Rattle.far_core.specs.events.Naming.{no_marks}
 use Rattle.far_core.specs.events.NewSpans.{is_new_span, with_span}
 use Rattle.far_core.specs.state.Law.{Law, held_place}
 use Rattle.far_core.specs.state.State.{State}
 use Rattle.far_core.specs.world.Steps as world
-use Rattle.far_core.specs.world.World.{Object, Group, FarSide}
+use Rattle.far_core.specs.world.World.{Object, FarSide}
 use Rattle.far_core.specs.world.WorldOf.{world_of, object_of}
 use Rattle.far_core.proofs.Copies.{alike_fact, alike_test}
 use Rattle.far_core.proofs.NamingOwed.{IsMade, NamingOwed}

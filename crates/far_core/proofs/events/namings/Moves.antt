@@ -1,5 +1,5 @@
 -- What the form of naming Moves owes.
-use Rattle.std.proofs.Common.{◌≡◌, ℕ, ◌+◌, ◌/◌, ◌<◌, nat_lt, true, false, arith, cond, refl, sym, ap, ◌∙◌, Option, Some, None}
+use Rattle.std.proofs.Common.{◌≡◌, ℕ, ◌/◌, ◌<◌, nat_lt, true, arith, cond, refl, ap, ◌∙◌, Some, None}
 use Rattle.std.specs.Prelude.{is_some}
 use Rattle.std.proofs.lemmas.Bool.Decides.{nat_tests}
 use Rattle.far_word.specs.declared.mark.Marks.{Marks}
@@ -13,10 +13,9 @@ use Rattle.far_word.proofs.ByteLaws.{bytes_of-same}
 use Rattle.far_core.specs.declared.naming.Naming.TheVariants.{Moves}
 use Rattle.far_core.specs.events.Copies.{alike, data_at, ends_padded}
 use Rattle.far_core.specs.events.namings.Moves.{MayMove}
-use Rattle.far_core.specs.events.Naming.{no_marks}
 use Rattle.far_core.specs.events.NewSpans.{is_new_span, with_span}
 use Rattle.far_core.specs.events.Quiet.{is_quiet_cell}
-use Rattle.far_core.specs.state.Law.{Law, in_use}
+use Rattle.far_core.specs.state.Law.{Law}
 use Rattle.far_core.specs.state.State.{State}
 use Rattle.far_core.specs.world.Steps as world
 use Rattle.far_core.specs.world.World.{Object, Group}

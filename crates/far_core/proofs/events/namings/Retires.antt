@@ -12,6 +12,7 @@ use Rattle.far_core.specs.events.Naming.{is_dropped}
 use Rattle.far_core.specs.state.Law.{Law, NamesBack, StoresBack, IsBlank, held_place, in_use}
 use Rattle.far_core.specs.state.State.{State, put}
 use Rattle.far_core.specs.world.WorldOf.{world_of, object_of, is_marked}
+use Rattle.far_core.proofs.Frames.{rounds_with_cell}
 use Rattle.far_core.proofs.NamingOwed.{NamingOwed}
 use Rattle.far_core.proofs.Put.{put_both, put_same}
 use Rattle.far_core.proofs.Touching.{one_cell, touched}
@@ -62,7 +63,8 @@ module _ (s : State) (law : Law s) (p new : ℕ) (fits : new < 2 ^ 64) (cell : p
       held_used = law.views.held_used;
       used_cell = λ q u. put_both (λ w. in_use (read_of w) ≡ true) s.cell p new q (λ e. absurd (unused q e u)) (λ _. law.views.used_cell q u);
     };
-    rounds = law.rounds;
+    rounds = rounds_with_cell s.epoch s.kind s.cell s.round s.round_epoch p new law.rounds (λ n d at k is. let odd : Some Free ≡ Some (Near n d at k) = sym free ∙ is in absurd cc);
+    clears = law.clears;
     unadopted = λ honest q unadopted. put_both (λ w. IsBlank s.word (s.stored q) (read_of w)) s.cell p new q
         (λ _. record {
           near = λ n d at k is. let odd : Some Free ≡ Some (Near n d at k) = sym free ∙ is in absurd cc;

@@ -1,20 +1,18 @@
-use Rattle.std.proofs.Common.{sym, ap, ◌∙◌, ◌<◌, ◌*◌, arith}
+use Rattle.std.proofs.Common.{sym, ◌∙◌, ◌<◌, ◌*◌, arith}
 use Rattle.std.proofs.lemmas.Bool.{false≢true}
-use Rattle.far_word.specs.Pointer.{read_of}
 use Rattle.far_word.specs.declared.sizes.TheConstants.{CELLS}
 use Rattle.far_core.specs.state.CoreState.{core_state}
 use Rattle.far_book.specs.Masked.{word_at, is_counted}
-use Rattle.far_book.specs.Quiet.{is_moved_word}
 use Rattle.far_book.proofs.Quietness.{quiet_fact, quiet_test}
 use Rattle.far_book.proofs.beset.Beset.is_quiet_at.Goals as goal
 
-pub returns-then-is_moved_word-clause-quiet : goal.returns-then-is_moved_word-clause-quiet
-returns-then-is_moved_word-clause-quiet c = λ _.
+pub returns-then-is_quiet_word-clause-quiet : goal.returns-then-is_quiet_word-clause-quiet
+returns-then-is_quiet_word-clause-quiet c = λ _.
     let hand = c.args.self.now in
     let s = core_state hand.core in
     let small : c.loop-pointer.pointer < CELLS * s.mutators = omega (arith, hand.found_sized, c.len-pointer-end.ensures) in
-    let there = ap (λ w. is_moved_word (read_of w) c.args.log c.args.at) (sym c.found_in.ensures) ∙ (sym c.is_moved_word.ensures ∙ c.if-is_moved_word.true) in
-    quiet_fact s hand.core.law (word_at hand.found.items) (is_counted hand.counted.items) hand.finds c.args.log c.args.at c.loop-pointer.pointer small there
+    quiet_fact s hand.core.law (word_at hand.found.items) (is_counted hand.counted.items) hand.finds c.args.log c.args.at c.loop-pointer.pointer small
+    (sym c.is_quiet_word.ensures ∙ c.if-is_quiet_word.true)
 
 pub returns-clause-all : goal.returns-clause-all
 returns-clause-all c = λ _ x.

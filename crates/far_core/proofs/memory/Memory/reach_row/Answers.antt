@@ -1,4 +1,4 @@
-use Rattle.std.proofs.Common.{◌+◌, ◌*◌, ℕ, ap, arith}
+use Rattle.std.proofs.Common.{◌+◌, ℕ, ap, arith}
 use Rattle.far_word.specs.declared.sizes.TheConstants.{LOG_WORDS}
 use Rattle.far_core.specs.state.Memory.{state_of}
 use Rattle.far_core.proofs.StoredRows.{in_rows, zeros_behind}

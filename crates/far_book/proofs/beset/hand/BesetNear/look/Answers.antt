@@ -1,0 +1,41 @@
+use Rattle.std.proofs.Common.{sym, subst, ap, ◌∙◌, ◌≡◌, ◌*◌}
+use Rattle.far_word.specs.declared.sizes.TheConstants.{CELLS, LOG_WORDS}
+use Rattle.far_word.specs.Scope.{scope_of}
+use Rattle.far_core.specs.events.Look.{shows_clear}
+use Rattle.far_core.specs.state.CoreState.{core_state}
+use Rattle.far_core.specs.state.State.{State}
+use Rattle.far_book.specs.BesetView.{beset_view}
+use Rattle.far_book.specs.Masked.{masked, word_at, is_counted, AllFind, CountsOnQuiet}
+use Rattle.far_book.specs.Rounds.{IsScopeAt, looked_at}
+use Rattle.far_book.proofs.RoundSteps.{counts_looked, scope_at}
+use Rattle.far_book.proofs.beset.hand.BesetNear.look.Goals as goal
+
+pub invariant_of-self : goal.invariant_of-self
+invariant_of-self c =
+    let hand = c.turn.new.self in
+    let s = core_state hand.core in
+    let found = word_at hand.found.items in
+    let counted = is_counted hand.counted.items in
+    record {
+      found_sized = hand.found_sized ∙ ap (λ (u : State). CELLS * u.mutators) (sym c.look.ensures.state);
+      counted_sized = hand.counted_sized ∙ ap (λ (u : State). LOG_WORDS * u.logs) (sym c.look.ensures.state);
+      finds = subst (λ (u : State). AllFind found u.cell) (sym c.look.ensures.state) hand.finds;
+      counts = subst (λ (u : State). CountsOnQuiet u.round u.clear found counted) (sym c.look.ensures.state)
+          (counts_looked s.round s.clear found counted c.args.owner (shows_clear s.round_epoch (scope_of (s.scope c.args.owner))) hand.counts);
+    }
+
+pub returns : goal.returns
+returns c =
+    let hand = c.turn.new.self in
+    let s = core_state hand.core in
+    let found = word_at hand.found.items in
+    let counted = is_counted hand.counted.items in
+    let is : s.scope c.args.owner ≡ c.look.result = cc in
+    record {
+      scope = subst (λ (u : State). IsScopeAt u.epoch c.look.result) c.turn.ensures.view (scope_at s hand.core.law c.args.owner c.look.result is);
+      kept = ap (λ (u : State). masked u found counted) c.look.ensures.state
+          ∙ (ap (looked_at (beset_view hand) c.args.owner) is
+          ∙ ap (λ (u : State). looked_at u c.args.owner c.look.result) c.turn.ensures.view);
+      exact = λ x. absurd x;
+      set = λ x. absurd x;
+    }

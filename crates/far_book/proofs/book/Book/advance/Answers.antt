@@ -1,0 +1,12 @@
+use Rattle.far_book.proofs.book.Book.advance.Goals as goal
+use Rattle.std.proofs.Common.{sym, subst}
+use Rattle.far_book.specs.Rounds.{MayChoose}
+use Rattle.far_book.specs.book.BookOf.{BookOf}
+use Rattle.far_book.proofs.region.Rounding.{advance_keeps}
+
+pub invariant_of-self : goal.invariant_of-self
+invariant_of-self g c =
+    let s = g.N.Near.view c.self.inside.near in
+    let chosen = subst (λ (b : BookOf g.row.N.Denot g.row.D.Denot). MayChoose (g.N.Near.view b.near) c.args.logs) (sym c.self.view_is) c.requires.chosen in
+    advance_keeps s (g.N.Near.view c.advance.new.self) c.self.inside.ledger (g.D.Device.contents c.self.inside.device) (g.D.Device.honest c.self.inside.device) c.self.invariant c.args.logs chosen
+    c.advance.result c.advance.ensures.epoch c.advance.ensures.kept c.advance.ensures.forgot c.advance.ensures.unchanged

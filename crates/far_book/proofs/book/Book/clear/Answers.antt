@@ -1,0 +1,13 @@
+use Rattle.far_book.proofs.book.Book.clear.Goals as goal
+use Rattle.std.proofs.Common.{sym, subst, arith}
+use Rattle.far_core.specs.declared.event.Event.TheVariants.{Clear}
+use Rattle.far_core.specs.events.Legal.{Legal}
+use Rattle.far_book.specs.book.BookOf.{BookOf}
+use Rattle.far_book.proofs.region.Rounding.{cleared_keeps}
+
+pub invariant_of-self : goal.invariant_of-self
+invariant_of-self g c =
+    let s = g.N.Near.view c.self.inside.near in
+    let legal = subst (λ (b : BookOf g.row.N.Denot g.row.D.Denot). Legal (g.N.Near.view b.near) (Clear c.args.pointer)) (sym c.self.view_is) c.requires.legal in
+    cleared_keeps s (g.N.Near.view c.clear.new.self) c.self.inside.ledger (g.D.Device.contents c.self.inside.device) (g.D.Device.honest c.self.inside.device) c.self.invariant
+    c.args.pointer legal c.clear.result (omega arith) c.clear.ensures.found c.clear.ensures.kept c.clear.ensures.forgot

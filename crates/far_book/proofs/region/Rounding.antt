@@ -1,0 +1,146 @@
+-- What a round's steps leave of a book: it stays in order.
+use Rattle.std.proofs.Common.{◌≡◌, ℕ, ◌+◌, ◌<◌, ◌^◌, Bool, false, arith, refl, sym, ap, ◌∙◌, subst, Option, Some, List, Result, Ok, Err, IfOk, IfErr}
+use Rattle.std.specs.Prelude.{◌==◌}
+use Rattle.std.proofs.lemmas.Bool.{ne_eqb}
+use Rattle.far_word.specs.declared.mark.Marks.{Marks}
+use Rattle.far_word.specs.declared.pointer.Place.{Place}
+use Rattle.far_word.specs.declared.pointer.PtrWord.TheVariants.{Free, Near, Far}
+use Rattle.far_word.specs.declared.refused.Refused.{Refused}
+use Rattle.far_word.specs.declared.sizes.TheConstants.{EPOCH_END}
+use Rattle.far_word.specs.Pointer.{read_of, without_evac}
+use Rattle.far_word.proofs.PointerLaws.{without_evac_read}
+use Rattle.far_core.specs.declared.event.Event.TheVariants.{Advance, Clear}
+use Rattle.far_core.specs.events.Advance.{advanced}
+use Rattle.far_core.specs.events.Clear.{evac_cleared, round_left}
+use Rattle.far_core.specs.events.Legal.{Legal}
+use Rattle.far_core.specs.events.Step.{after}
+use Rattle.far_core.specs.laws.Observed.{live_bytes}
+use Rattle.far_core.specs.state.Law.{Law}
+use Rattle.far_core.specs.state.Spans.{names_place, spans_of}
+use Rattle.far_core.specs.state.State.{State, put}
+use Rattle.far_core.proofs.Cells.{unused}
+use Rattle.far_core.proofs.events.Clear.{out_still}
+use Rattle.far_core.proofs.Frames.{law_with_fewer_chosen}
+use Rattle.far_core.proofs.Owing.{keeps}
+use Rattle.far_core.proofs.Put.{put_same}
+use Rattle.far_book.specs.declared.ledger.Ledger.{Ledger}
+use Rattle.far_book.specs.Cleared.{cleared}
+use Rattle.far_book.specs.Finds.{Finds}
+use Rattle.far_book.specs.Known.{Forgets}
+use Rattle.far_book.specs.Rounds.{MayChoose, looked_at}
+use Rattle.far_book.specs.book.FarSide.{InOrder}
+use Rattle.far_book.specs.book.Ledger.{Notes}
+use Rattle.far_book.specs.book.Own.{own_part}
+use Rattle.far_book.proofs.Finding.{near_found}
+use Rattle.far_book.proofs.region.Calls.{put_put}
+use Rattle.far_book.proofs.region.FarSide.{far_without}
+use Rattle.far_book.proofs.region.Founds.{notes_seen}
+use Rattle.far_book.proofs.region.InOrders.{found_keeps, headers_keep}
+
+-- ---- the epoch, the round and who is clear are written down nowhere
+module _ (s : State) (ledger : Ledger) (notes : Notes (own_part s) ledger) (epoch : ℕ) (round : ℕ → Bool) (round_epoch : ℕ) (clear : ℕ → Bool) where
+  abbrev then : State
+  then = record s { epoch = epoch; round = round; round_epoch = round_epoch; clear = clear }
+
+  live_same : (l : ℕ) → live_bytes (own_part then) l ≡ live_bytes (own_part s) l
+  unfolding spans_of
+  live_same l = refl
+
+  pub notes_in_round : Law (own_part then) → Notes (own_part then) ledger
+  notes_in_round law = record {
+    law = law;
+    current = notes.current;
+    free = notes.free;
+    logs = notes.logs;
+    tails = notes.tails;
+    lives = λ l lt. notes.lives l lt ∙ sym (live_same l);
+    sealed = notes.sealed;
+    once = notes.once;
+    room = notes.room;
+    cells = notes.cells;
+    cell = notes.cell;
+  }
+
+module _ (s : State) (ledger : Ledger) (held : ℕ → Option (List ℕ)) (is_honest : Bool) (h : InOrder s ledger held is_honest) where
+  -- ---- a scope is looked at
+  law_looked : (clear : ℕ → Bool) → Law (own_part record s { clear = clear })
+  law_looked clear = let law = h.notes.law in record {
+    shape = law.shape;
+    cells = law.cells;
+    spans = law.spans;
+    logs = law.logs;
+    scopes = law.scopes;
+    views = law.views;
+    rounds = law.rounds;
+    clears = record { clear_unviewed = λ p place v. absurd cc; late_unviewed = λ p e place v. absurd cc };
+    unadopted = law.unadopted;
+  }
+
+  pub looked_keeps : (m w : ℕ) → InOrder (looked_at s m w) ledger held is_honest
+  looked_keeps m w = record {
+    notes = notes_in_round s ledger h.notes s.epoch s.round s.round_epoch (looked_at s m w).clear (law_looked (looked_at s m w).clear);
+    far = h.far;
+    honest = h.honest;
+  }
+
+  -- ---- a round begins
+  begun : (logs : ℕ) → s.epoch + 1 < EPOCH_END → MayChoose s logs → InOrder (advanced s logs) ledger held is_honest
+  begun logs below chosen = record {
+    notes = notes_in_round s ledger h.notes (advanced s logs).epoch (advanced s logs).round (advanced s logs).round_epoch (advanced s logs).clear
+        (keeps (own_part s) (Advance logs) h.notes.law tt (record { below = below; shut = chosen.shut; marked = chosen.marked }));
+    far = h.far;
+    honest = h.honest;
+  }
+
+  pub advanced_keeps : (t : State) (logs : ℕ) → s.epoch + 1 < EPOCH_END → MayChoose s logs → t ≡ record (advanced s logs) { word = t.word } → Forgets s t → InOrder t ledger held is_honest
+  advanced_keeps t logs below chosen is forgot = headers_keep (advanced s logs) ledger held is_honest (begun logs below chosen) t is
+      (λ a start. forgot.headers a (ap (λ (u : State). u.starts a) is ∙ start))
+
+-- ---- EVAC is taken from an object, and its log leaves the round
+module _ (s : State) (ledger : Ledger) (held : ℕ → Option (List ℕ)) (is_honest : Bool) (h : InOrder s ledger held is_honest) (p : ℕ) (legal : Legal s (Clear p)) where
+  near : read_of (evac_cleared (s.cell p)) ≡ Some (without_evac (Near legal.1.0 legal.1.1 legal.1.2 legal.1.3))
+  near = without_evac_read (s.cell p) (Near legal.1.0 legal.1.1 legal.1.2 legal.1.3) (h.notes.law.cells.cell_read p).0 legal.1.4
+
+  same_names : (l at : ℕ) → names_place (read_of (evac_cleared (s.cell p))) l at ≡ names_place (read_of (s.cell p)) l at
+  same_names l at = rw (near, legal.1.4) refl
+
+  -- neither word says that the cell is free
+  used : (w len ds : ℕ) (place : Place) (m : Marks) → read_of w ≡ Some (Near len ds place m) → (w == 0) ≡ false
+  used w len ds place m e = ne_eqb w 0 (λ z. let both : Some Free ≡ Some (Near len ds place m) = sym unused ∙ (ap read_of (sym z) ∙ e) in absurd cc)
+
+  abbrev left : ℕ → Bool
+  left = round_left s.round (read_of (s.cell p))
+
+  pub clears : InOrder (record s { cell = put s.cell p (evac_cleared (s.cell p)); round = left }) ledger held is_honest
+  clears = record {
+    notes = notes_seen record s { round = left } p (evac_cleared (s.cell p)) same_names
+        (used (evac_cleared (s.cell p)) _ _ _ _ near ∙ sym (used (s.cell p) legal.1.0 legal.1.1 legal.1.2 legal.1.3 legal.1.4))
+        ledger (keeps (own_part s) (Clear p) h.notes.law tt legal)
+        (notes_in_round s ledger h.notes s.epoch left s.round_epoch s.clear (law_with_fewer_chosen (own_part s) left h.notes.law (out_still s.round (read_of (s.cell p)))));
+    far = far_without s held h.far p (evac_cleared (s.cell p)) held (λ n d m e. let both : Some (Far n d m) ≡ Some (without_evac (Near legal.1.0 legal.1.1 legal.1.2 legal.1.3)) = sym e ∙ near in absurd cc) (λ q ne. refl);
+    honest = h.honest;
+  }
+
+-- the same by a word that is found
+module _ (s t : State) (ledger : Ledger) (held : ℕ → Option (List ℕ)) (is_honest : Bool) (h : InOrder s ledger held is_honest) (p : ℕ) (legal : Legal s (Clear p)) where
+  found_clears : (w : ℕ) → w < 2 ^ 64 → Finds (s.cell p) w → InOrder (cleared s p w) ledger held is_honest
+  found_clears w fits f =
+      let seen : State = record s { cell = put s.cell p w } in
+      let is : seen.cell p ≡ w = put_same s.cell p w p refl in
+      let x = near_found (s.cell p) w f legal.1.0 legal.1.1 legal.1.2 legal.1.3 legal.1.4 in
+      let may : Legal seen (Clear p) = (legal.0, (legal.1.0, legal.1.1, legal.1.2, x.marks, ap read_of is ∙ x.near)) in
+      let twice : put seen.cell p (evac_cleared (seen.cell p)) ≡ put s.cell p (evac_cleared w) = ap (λ v. put seen.cell p (evac_cleared v)) is ∙ put_put s.cell p w (evac_cleared w) in
+      subst (λ (v : ℕ). InOrder record s { cell = put s.cell p (evac_cleared w); round = round_left s.round (read_of v) } ledger held is_honest) is
+      (subst (λ (cell : ℕ → ℕ). InOrder record s { cell = cell; round = round_left s.round (read_of (seen.cell p)) } ledger held is_honest) twice
+      (clears seen ledger held is_honest (found_keeps s ledger held is_honest h p w fits f) p may))
+
+  pub cleared_keeps : (w : ℕ) → w < 2 ^ 64 → Finds (s.cell p) w → t ≡ record (cleared s p w) { word = t.word } → Forgets s t → InOrder t ledger held is_honest
+  cleared_keeps w fits f is forgot = headers_keep (cleared s p w) ledger held is_honest (found_clears w fits f) t is
+      (λ a start. forgot.headers a (ap (λ (u : State). u.starts a) is ∙ start))
+
+-- ---- a round begins, or there is no later epoch
+module _ (s t : State) (ledger : Ledger) (held : ℕ → Option (List ℕ)) (is_honest : Bool) (h : InOrder s ledger held is_honest) (logs : ℕ) (chosen : MayChoose s logs) where
+  pub advance_keeps : (r : Result ℕ Refused) → IfOk r (λ e. (e ≡ s.epoch + 1) × (e < EPOCH_END)) → IfOk r (λ _. t ≡ record (after s (Advance logs)) { word = t.word }) → IfOk r (λ _. Forgets s t) →
+      IfErr r (λ _. t ≡ s) → InOrder t ledger held is_honest
+  advance_keeps (Ok e) rises kept forgot same = advanced_keeps s ledger held is_honest h t logs (omega (arith, rises.0, rises.1)) chosen kept forgot
+  advance_keeps (Err why) rises kept forgot same = subst (λ (u : State). InOrder u ledger held is_honest) (sym same) h
