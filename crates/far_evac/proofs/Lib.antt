@@ -10,6 +10,7 @@ pub mod LiveOnce
 pub mod Marks
 pub mod Orders
 pub mod Polls
+pub mod Readiness
 pub mod Rounds
 pub mod Subjects
 pub mod Tallies
