@@ -15,5 +15,6 @@ pub mod Rounds
 pub mod Subjects
 pub mod Tallies
 pub mod Tours
+pub mod Unviewed
 pub mod Walks
 pub mod worked

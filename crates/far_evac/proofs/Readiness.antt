@@ -80,7 +80,7 @@ module _ (epoch w : ℕ) where
 pub clear_is_shown : (s : State) (m : ℕ) → IsSome (scope_of (s.scope m)) → is_clear_now s m ≡ shows_clear s.round_epoch (scope_of (s.scope m))
 clear_is_shown s m layout = shown s.round_epoch (s.scope m) layout
 
-clear_one : (clear now : Bool) → not (clear || now) ≡ false → (clear || now) ≡ true
+pub clear_one : (clear now : Bool) → not (clear || now) ≡ false → (clear || now) ≡ true
 clear_one true now h = refl
 clear_one false true h = refl
 clear_one false false h = absurd (true≢false h)

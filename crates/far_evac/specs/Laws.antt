@@ -1,7 +1,8 @@
 -- What the definitions of a round come to, in other words.
-use Rattle.std.specs.Prelude.{◌≡◌, ℕ, ◌+◌, ◌*◌, ◌<◌, ◌≤◌, ◌↔◌, true, false, Some, List, ◌∷◌, length, take, drop, Contains, ◌≢◌, ◌^◌, Option, option_map, IsSome, zero, suc}
+use Rattle.std.specs.Prelude.{◌≡◌, ℕ, ◌+◌, ◌*◌, ◌<◌, ◌≤◌, ◌↔◌, true, false, Some, List, ◌∷◌, length, take, drop, Contains, ◌≢◌, ◌^◌, Option, option_map, IsSome, zero, suc, None}
 use Rattle.std.specs.List.{AllByRecursion}
 use Rattle.far_word.specs.declared.sizes.TheConstants.{CELLS}
+use Rattle.far_word.specs.declared.pointer.Place.{Place}
 use Rattle.far_word.specs.declared.pointer.PtrWord.{PtrWord}
 use Rattle.far_word.specs.Pointer.{read_of, without_evac}
 use Rattle.far_book.specs.book.Dealing.{has_evac}
@@ -88,6 +89,11 @@ looks s (suc k) = after (looks s k) (Look k)
 
 abbrev pub LooksSeeClear : Type 0
 LooksSeeClear = (s : State) → ((m : ℕ) → IsSome (scope_of (s.scope m))) → (k : ℕ) → ((m : ℕ) → m < k → holds_up s m ≡ false) → looks s k ≡ with_clear_below s k
+
+-- where a poll answers that all are clear, nobody views anything in the logs held
+abbrev pub ClearMeansUnviewed : Type 0
+ClearMeansUnviewed = (m : Moment) → Law m.core → MomentLaw m → has_risen m.phase ≡ true → first_open m.core ≡ None →
+    (p : ℕ) (place : Place) → m.core.held p ≡ Some place → among m.held place.log ≡ false
 
 -- what a word says, but for EVAC
 abbrev pub but_evac : Option PtrWord → Option PtrWord

@@ -1,6 +1,6 @@
 //! What the definitions of a round come to, as contracts of functions that do nothing.
 
-ghost use Rattle.far_evac.specs.Laws.{CensusIsExact, ClearIsShown, DealingIsInOrder, ExactIsAllowed, GivingUpIsRight, LooksSeeClear, MarkingIsRight, PollIsAllowed, PollIsOnce, RisenIsReady, RoundIsAllowed, RoundIsEvent, WalkIsTour, WalksJoin};
+ghost use Rattle.far_evac.specs.Laws.{CensusIsExact, ClearIsShown, ClearMeansUnviewed, DealingIsInOrder, ExactIsAllowed, GivingUpIsRight, LooksSeeClear, MarkingIsRight, PollIsAllowed, PollIsOnce, RisenIsReady, RoundIsAllowed, RoundIsEvent, WalkIsTour, WalksJoin};
 
 /// The exact walk, over words that nobody else changes, is one of those that are allowed over any hand.
 pub fn exact_is_allowed()
@@ -65,6 +65,11 @@ pub fn clear_is_shown()
 /// Looks at the first owners, each of which is clear, see them clear, and change nothing else.
 pub fn looks_see_clear()
     ensures { LooksSeeClear }
+{}
+
+/// Where a poll answers that all owners are clear, none of them views anything in the chosen logs.
+pub fn clear_means_unviewed()
+    ensures { ClearMeansUnviewed }
 {}
 
 /// A census lists each pointer whose cell is used and not dropped, with its home, and no other.
