@@ -10,9 +10,11 @@ pub mod LiveOnce
 pub mod Marks
 pub mod Orders
 pub mod Polls
+pub mod Readiness
 pub mod Rounds
 pub mod Subjects
 pub mod Tallies
 pub mod Tours
+pub mod Unviewed
 pub mod Walks
 pub mod worked

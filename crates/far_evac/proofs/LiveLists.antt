@@ -15,7 +15,7 @@ use Rattle.far_core.proofs.Put.{put_other}
 use Rattle.far_book.specs.Finds.{Finds, body_of}
 use Rattle.far_evac.specs.AnyHand.{Knows}
 use Rattle.far_evac.specs.Live.{live_in, pointers_of}
-use Rattle.far_evac.specs.RoundSteps.{released}
+use Rattle.far_book.specs.book.Releasing.{released}
 
 -- ---- a word that was found names the place that was known
 pub names_body : (cell : Option PtrWord) (l at : ℕ) → names_place cell l at ≡ names_place (body_of cell) l at

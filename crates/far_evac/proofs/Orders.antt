@@ -12,7 +12,7 @@ use Rattle.far_evac.specs.AnyHand.{Knows, KnowsWalked, FindsFirst, WalksTo, foun
 use Rattle.far_evac.specs.Dealings.{BeginsLive}
 use Rattle.far_evac.specs.Live.{live_in, live_among, is_empty}
 use Rattle.far_evac.specs.Moment.{Moment, Tally}
-use Rattle.far_evac.specs.RoundSteps.{released}
+use Rattle.far_book.specs.book.Releasing.{released}
 use Rattle.far_evac.specs.Walk.{Walked, Way, Drops, Moves, Goes, begun, dealt_as, dealt_so, freed, left, passed, settled, way_of}
 use Rattle.far_evac.specs.Ready.{Ready, IsHeld, AllMarked}
 use Rattle.far_evac.proofs.LiveLists.{knows_live, live_released}

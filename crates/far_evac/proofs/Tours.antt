@@ -21,7 +21,7 @@ use Rattle.far_evac.specs.declared.phase.Phase.{Phase}
 use Rattle.far_evac.specs.declared.phase.Phase.TheVariants as phases
 use Rattle.far_evac.specs.Live.{live_in, live_among, is_empty}
 use Rattle.far_evac.specs.Moment.{Moment, Tally, nothing}
-use Rattle.far_evac.specs.RoundSteps.{released}
+use Rattle.far_book.specs.book.Releasing.{released}
 use Rattle.far_evac.specs.Stops.{Stop, Object, End, tour, front, stopped, toured}
 use Rattle.far_evac.specs.Walk.{Walked, Way, Drops, Moves, Goes, begun, dealt_first, dealt_so, freed, hot_way, left, passed, settled, walked, way_of}
 use Rattle.far_evac.specs.Ready.{Ready, IsHeld}

@@ -1,10 +1,18 @@
 -- What the definitions of a round come to, in other words.
-use Rattle.std.specs.Prelude.{◌≡◌, ℕ, ◌+◌, ◌*◌, ◌<◌, ◌≤◌, ◌↔◌, true, false, Some, List, ◌∷◌, length, take, drop, Contains, ◌≢◌, ◌^◌, Option, option_map}
+use Rattle.std.specs.Prelude.{◌≡◌, ℕ, ◌+◌, ◌*◌, ◌<◌, ◌≤◌, ◌↔◌, true, false, Some, List, ◌∷◌, length, take, drop, Contains, ◌≢◌, ◌^◌, Option, option_map, IsSome, zero, suc, None}
 use Rattle.std.specs.List.{AllByRecursion}
 use Rattle.far_word.specs.declared.sizes.TheConstants.{CELLS}
+use Rattle.far_word.specs.declared.pointer.Place.{Place}
 use Rattle.far_word.specs.declared.pointer.PtrWord.{PtrWord}
 use Rattle.far_word.specs.Pointer.{read_of, without_evac}
 use Rattle.far_book.specs.book.Dealing.{has_evac}
+use Rattle.far_word.specs.Scope.{scope_of}
+use Rattle.far_core.specs.declared.event.Event.TheVariants.{Advance, Look}
+use Rattle.far_core.specs.events.Advance.{is_among}
+use Rattle.far_core.specs.events.Look.{shows_clear}
+use Rattle.far_core.specs.events.Step.{after}
+use Rattle.far_core.specs.state.Law.{Law}
+use Rattle.far_book.specs.book.Own.{own_part}
 use Rattle.far_core.specs.events.Naming.{is_dropped}
 use Rattle.far_core.specs.state.State.{State}
 use Rattle.far_book.specs.declared.home.Home.{Home}
@@ -16,10 +24,12 @@ use Rattle.far_evac.specs.Dealings.{DealsWith, GivesBack, says}
 use Rattle.far_evac.specs.Live.{live_among}
 use Rattle.far_evac.specs.Marking.{after_marking, leaves_some, newly_marked}
 use Rattle.far_evac.specs.Moment.{Moment, Tally, objects_in, plus}
+use Rattle.far_evac.specs.MomentLaw.{MomentLaw, has_risen}
 use Rattle.far_evac.specs.Ready.{Ready}
+use Rattle.far_evac.specs.RoundSteps.{advanced, among, is_clear_now, with_clear_below}
 use Rattle.far_evac.specs.Stops.{toured}
 use Rattle.far_evac.specs.Turns.{round_end, turns_made}
-use Rattle.far_evac.specs.Waiting.{after_polling, first_open, polled}
+use Rattle.far_evac.specs.Waiting.{after_polling, first_open, holds_up, polled}
 use Rattle.far_evac.specs.Walk.{Walked, is_done, left, walked}
 
 -- what a walk does where no word changes but by it, it may do over any hand
@@ -60,6 +70,30 @@ pub record DealtInOrder (m : Moment) (k : ℕ) (t : Walked) : Type 0 where
 -- over any hand the k-th dealing is with the k-th live object
 abbrev pub DealingIsInOrder : Type 0
 DealingIsInOrder = (m : Moment) (k : ℕ) (t : Walked) → Ready m.core m.held → WalksTo m k t → DealtInOrder m k t
+
+-- once the epoch has risen for a round, the law of the book's part of the core and that of the moment make it ready
+abbrev pub RisenIsReady : Type 0
+RisenIsReady = (m : Moment) → Law (own_part m.core) → MomentLaw m → has_risen m.phase ≡ true → Ready m.core m.held
+
+-- a round of some logs begins by one event, for whose number these logs are the bits
+abbrev pub RoundIsEvent : Type 0
+RoundIsEvent = (s : State) (logs : List ℕ) (bits : ℕ) → ((l : ℕ) → is_among bits l ≡ among logs l) → advanced s logs ≡ after s (Advance bits)
+
+-- an owner is clear now where far_core's look would show it; and after looks at the first k owners, each of which is clear, those are seen clear
+abbrev pub ClearIsShown : Type 0
+ClearIsShown = (s : State) (m : ℕ) → IsSome (scope_of (s.scope m)) → is_clear_now s m ≡ shows_clear s.round_epoch (scope_of (s.scope m))
+
+abbrev pub looks : State → ℕ → State
+looks s zero = s
+looks s (suc k) = after (looks s k) (Look k)
+
+abbrev pub LooksSeeClear : Type 0
+LooksSeeClear = (s : State) → ((m : ℕ) → IsSome (scope_of (s.scope m))) → (k : ℕ) → ((m : ℕ) → m < k → holds_up s m ≡ false) → looks s k ≡ with_clear_below s k
+
+-- where a poll answers that all are clear, nobody views anything in the logs held
+abbrev pub ClearMeansUnviewed : Type 0
+ClearMeansUnviewed = (m : Moment) → Law m.core → MomentLaw m → has_risen m.phase ≡ true → first_open m.core ≡ None →
+    (p : ℕ) (place : Place) → m.core.held p ≡ Some place → among m.held place.log ≡ false
 
 -- what a word says, but for EVAC
 abbrev pub but_evac : Option PtrWord → Option PtrWord

@@ -1,11 +1,11 @@
 -- A heap between two calls of the evacuator, and what a call has done so far.
-use Rattle.std.specs.Prelude.{ℕ, Bool, ◌+◌, ◌==◌, not, List, filter}
+use Rattle.std.specs.Prelude.{ℕ, Bool, ◌+◌, List}
 use Rattle.far_word.specs.declared.pointer.Place.{Place}
 use Rattle.far_core.specs.state.State.{State}
 use Rattle.far_book.specs.book.Effects.{order_after}
+use Rattle.far_book.specs.book.Releasing.{order_without, released}
 use Rattle.far_evac.specs.declared.answers.Progress.{Progress}
 use Rattle.far_evac.specs.declared.phase.Phase.{Phase}
-use Rattle.far_evac.specs.RoundSteps.{released}
 
 -- the core's state; what the book keeps beside it; and the round
 pub record Moment : Type 0 where
@@ -22,7 +22,7 @@ with_placed m place s = record m { core = s; order = order_after m.core m.order 
 
 -- a log is given back
 abbrev pub with_released : Moment → ℕ → Moment
-with_released m l = record m { core = released m.core l; order = filter (λ k. not (k == l)) m.order }
+with_released m l = record m { core = released m.core l; order = order_without l m.order }
 
 -- how many objects were moved to another log, sent far, and retired since their owners had dropped them; how many logs were given back
 pub record Tally : Type 0 where

@@ -1,7 +1,7 @@
 -- What the steps of a round make of a state.
-use Rattle.std.specs.Prelude.{ℕ, ◌+◌, ◌/◌, Bool, true, false, eqb, ◌==◌, ◌||◌, nat_lt, nat_le, List}
+use Rattle.std.specs.Prelude.{ℕ, ◌+◌, ◌/◌, Bool, false, eqb, ◌==◌, ◌||◌, nat_lt, nat_le, List}
 use Rattle.std.specs.List.{list_any}
-use Rattle.far_core.specs.declared.event.Event.TheVariants.{Get, Clear}
+use Rattle.far_core.specs.declared.event.Event.TheVariants.{Clear}
 use Rattle.far_core.specs.events.Step.{after}
 use Rattle.far_core.specs.state.State.{State}
 
@@ -20,10 +20,6 @@ is_clear_now s m = (s.scope m == 0) || nat_le s.round_epoch (s.scope m / 2)
 -- the owners below a number were seen clear
 abbrev pub with_clear_below : State → ℕ → State
 with_clear_below s k = record s { clear = λ m. s.clear m || nat_lt m k }
-
--- a log without live objects is given back
-abbrev pub released : State → ℕ → State
-released s l = after s (Get l 0 true)
 
 -- a near pointer loses EVAC, and its log leaves the round
 abbrev pub unmarked : State → ℕ → State

@@ -1,6 +1,6 @@
 //! What the definitions of a round come to, as contracts of functions that do nothing.
 
-ghost use Rattle.far_evac.specs.Laws.{CensusIsExact, DealingIsInOrder, ExactIsAllowed, GivingUpIsRight, MarkingIsRight, PollIsAllowed, PollIsOnce, RoundIsAllowed, WalkIsTour, WalksJoin};
+ghost use Rattle.far_evac.specs.Laws.{CensusIsExact, ClearIsShown, ClearMeansUnviewed, DealingIsInOrder, ExactIsAllowed, GivingUpIsRight, LooksSeeClear, MarkingIsRight, PollIsAllowed, PollIsOnce, RisenIsReady, RoundIsAllowed, RoundIsEvent, WalkIsTour, WalksJoin};
 
 /// The exact walk, over words that nobody else changes, is one of those that are allowed over any hand.
 pub fn exact_is_allowed()
@@ -45,6 +45,31 @@ pub fn marking_is_right()
 /// After a round is given up no live object of the logs that were held has EVAC, and nothing else in any cell has changed.
 pub fn giving_up_is_right()
     ensures { GivingUpIsRight }
+{}
+
+/// Once the epoch has risen for a round, the law of the book's part of the core and that of the moment make the walk ready.
+pub fn risen_is_ready()
+    ensures { RisenIsReady }
+{}
+
+/// A round of some logs begins by one event of the core.
+pub fn round_is_event()
+    ensures { RoundIsEvent }
+{}
+
+/// An owner's scope is clear as a look at it would show.
+pub fn clear_is_shown()
+    ensures { ClearIsShown }
+{}
+
+/// Looks at the first owners, each of which is clear, see them clear, and change nothing else.
+pub fn looks_see_clear()
+    ensures { LooksSeeClear }
+{}
+
+/// Where a poll answers that all owners are clear, none of them views anything in the chosen logs.
+pub fn clear_means_unviewed()
+    ensures { ClearMeansUnviewed }
 {}
 
 /// A census lists each pointer whose cell is used and not dropped, with its home, and no other.

@@ -12,7 +12,8 @@ mod phase;
 pub use answers::{EvacFault, Marked, Polled, Progress, RoundEnd};
 pub use census::{Census, Housed, LogKind, LogState};
 pub use laws::{
-    census_is_exact, dealing_is_in_order, exact_is_allowed, giving_up_is_right, marking_is_right,
-    poll_is_allowed, poll_is_once, round_is_allowed, walk_is_tour, walks_join,
+    census_is_exact, clear_is_shown, clear_means_unviewed, dealing_is_in_order, exact_is_allowed,
+    giving_up_is_right, looks_see_clear, marking_is_right, poll_is_allowed, poll_is_once,
+    risen_is_ready, round_is_allowed, round_is_event, walk_is_tour, walks_join,
 };
 pub use phase::Phase;
