@@ -17,10 +17,9 @@ use Rattle.far_core.specs.events.namings.Evicts.{with_kept}
 use Rattle.far_core.proofs.Put.{put_both, put_other, put_same}
 use Rattle.far_book.specs.Finds.{Finds, marks_in}
 use Rattle.far_book.specs.Known.{Forgets, IsKnown}
-use Rattle.far_book.specs.book.Dealing.{Leaves}
+use Rattle.far_book.specs.book.Dealing.{Leaves, LeavesSpans}
 use Rattle.far_book.specs.book.Effects.{evicted, far_word, moved, near_word, with_free_cell, with_written_span}
 use Rattle.far_book.specs.book.Evicting.{GoesFar}
-use Rattle.far_book.specs.book.Moving.{LeavesSpans}
 use Rattle.far_book.specs.book.Own.{own_part}
 use Rattle.far_book.specs.book.Renaming.{seen}
 use Rattle.far_book.proofs.Finding.{finds_is, finds_more, finds_same, near_found}
