@@ -54,7 +54,7 @@ pub data Call : Type 0 where
 
 pub data Answer : Type 0 where
   Replies : (reply : Reply) → Answer
-  Ok : Answer
+  Made : Answer
   At : (place : Place) → Answer
   Lies : (home : Option Home) → Answer
   Selected : (logs : List ℕ) → Answer
@@ -121,13 +121,13 @@ turn_of m (Own event) = let step = step_of m.core event in (with_core m step.0, 
 turn_of m (News k p len) = placed_at m k p len (room m.core (size_of len) true)
 turn_of m (MovesNow p) = moved_at m p (goal m.core p)
 turn_of m (Fetches p) = fetched_at m p (room_for m.core p)
-turn_of m (Retires p) = (with_core m (retired m.core p), Ok)
+turn_of m (Retires p) = (with_core m (retired m.core p), Made)
 turn_of m (Locates p) = (m, Lies (home_of (read_of (m.core.cell p))))
 turn_of m (Selects most) = let logs = take most m.order in choosing m (after_selecting m logs, Selected logs)
 turn_of m (Marks n) = only_in (is_marking m.phase) m (after_marking m n, Marked (length (newly_marked m n)) (waiting_for m n))
 turn_of m Waits = only_in (is_waiting m.phase) m (after_polling m, Polls (polled m.core))
 turn_of m (Evacuates n) = only_in (is_evacuating m.phase) m (let w = walked m n in (ended w, Evacuated (progress_of w.tally (is_done w))))
-turn_of m Aborts = only_in (not (is_idle m.phase)) m (after_aborting m, Ok)
+turn_of m Aborts = only_in (not (is_idle m.phase)) m (after_aborting m, Made)
 turn_of m (Rounds most turns) = choosing m (round_of m turns (take most m.order))
 turn_of m (Log l) = (m, LogIs record { kind = kind_in m l; row = row_of m.core l })
 turn_of m Audits = (m, Homes (homes_of m.core))

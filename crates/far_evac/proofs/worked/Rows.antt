@@ -22,7 +22,7 @@ use Rattle.far_evac.specs.declared.census.LogState.{LogState}
 use Rattle.far_evac.specs.declared.phase.Phase.TheVariants.{Marking, Waiting, Evacuating}
 use Rattle.far_evac.specs.Live.{live_in}
 use Rattle.far_evac.specs.Turns.{turn_size}
-use Rattle.far_evac.proofs.worked.Calls.{Own, News, MovesNow, Fetches, Retires, Locates, Selects, Marks as Mark, Waits, Evacuates, Aborts, Rounds, Log, Audits, Replies, Ok, At, Lies, Selected, Marked, Polls, Evacuated, Ends, LogIs, Homes, Refused, start, answers}
+use Rattle.far_evac.proofs.worked.Calls.{Own, News, MovesNow, Fetches, Retires, Locates, Selects, Marks as Mark, Waits, Evacuates, Aborts, Rounds, Log, Audits, Replies, Made, At, Lies, Selected, Marked, Polls, Evacuated, Ends, LogIs, Homes, Refused, start, answers}
 
 abbrev place : ℕ → ℕ → Place
 place log at = record { log = log; at = at }
@@ -54,7 +54,7 @@ housed p home = record { pointer = p; home = home }
 
 -- the last free log is kept for moves; a log without live objects is given back
 reserve_is_kept : answers (start 3 1 0) (News 0 0 1016 ∷ News 0 1 1016 ∷ News 0 2 8 ∷ Own (Ask 0 0 Dropped) ∷ Retires 0 ∷ Rounds 1 9 ∷ News 0 0 8 ∷ Log 0 ∷ [])
-    ≡ At (place 0 0) ∷ At (place 1 0) ∷ Refused NoRoom ∷ Replies (Word 9511602413006554104) ∷ Ok ∷ Ends (Done (did_so 0 0 0 1)) ∷ At (place 0 0) ∷ LogIs (log_is 0 Open 16 0 1008) ∷ []
+    ≡ At (place 0 0) ∷ At (place 1 0) ∷ Refused NoRoom ∷ Replies (Word 9511602413006554104) ∷ Made ∷ Ends (Done (did_so 0 0 0 1)) ∷ At (place 0 0) ∷ LogIs (log_is 0 Open 16 0 1008) ∷ []
 unfolding read_of head_of spans_in spans_of live_in turn_size
 reserve_is_kept = refl
 
@@ -114,7 +114,7 @@ opened_anew = refl
 
 -- a round stands where its turns ran out
 turns_run_out : answers (start 4 1 0) (News 0 0 8 ∷ News 0 1 1016 ∷ Rounds 1 0 ∷ Rounds 1 1 ∷ Aborts ∷ Rounds 1 1 ∷ Aborts ∷ Rounds 1 2 ∷ Evacuates 9 ∷ [])
-    ≡ At (place 0 0) ∷ At (place 1 0) ∷ Ends (Limit Marking) ∷ Refused WrongPhase ∷ Ok ∷ Ends (Limit Waiting) ∷ Ok ∷ Ends (Limit Evacuating) ∷ Evacuated (did_so 0 1 0 1) ∷ []
+    ≡ At (place 0 0) ∷ At (place 1 0) ∷ Ends (Limit Marking) ∷ Refused WrongPhase ∷ Made ∷ Ends (Limit Waiting) ∷ Made ∷ Ends (Limit Evacuating) ∷ Evacuated (did_so 0 1 0 1) ∷ []
 unfolding read_of head_of spans_in spans_of live_in turn_size
 turns_run_out = refl
 
@@ -126,12 +126,12 @@ nothing_to_choose = refl
 
 -- one object at a time: a log is given back once the walk has passed it, and not before
 step_by_step : answers (start 5 1 0) (News 0 0 8 ∷ News 0 1 8 ∷ News 0 2 1016 ∷ News 0 3 1016 ∷ Own (Ask 0 2 Dropped) ∷ Retires 2 ∷ Selects 2 ∷ Mark 0 ∷ Mark 1 ∷ Mark 1 ∷ Waits ∷ Evacuates 0 ∷ Log 0 ∷ Evacuates 1 ∷ Log 0 ∷ Log 1 ∷ Evacuates 1 ∷ [])
-    ≡ At (place 0 0) ∷ At (place 0 2) ∷ At (place 1 0) ∷ At (place 2 0) ∷ Replies (Word 0x84000004000103f8) ∷ Ok ∷ Selected (0 ∷ 1 ∷ []) ∷ Marked 0 None ∷ Marked 1 None ∷ Marked 1 (Some 1) ∷ Polls Clear ∷ Evacuated (so_far 0 0 0 0) ∷ LogIs (log_is 0 Chosen 32 0 992) ∷ Evacuated (so_far 0 1 0 0) ∷ LogIs (log_is 0 Chosen 16 16 992) ∷ LogIs (log_is 1 Chosen 0 1024 0) ∷ Evacuated (did_so 0 1 0 2) ∷ []
+    ≡ At (place 0 0) ∷ At (place 0 2) ∷ At (place 1 0) ∷ At (place 2 0) ∷ Replies (Word 0x84000004000103f8) ∷ Made ∷ Selected (0 ∷ 1 ∷ []) ∷ Marked 0 None ∷ Marked 1 None ∷ Marked 1 (Some 1) ∷ Polls Clear ∷ Evacuated (so_far 0 0 0 0) ∷ LogIs (log_is 0 Chosen 32 0 992) ∷ Evacuated (so_far 0 1 0 0) ∷ LogIs (log_is 0 Chosen 16 16 992) ∷ LogIs (log_is 1 Chosen 0 1024 0) ∷ Evacuated (did_so 0 1 0 2) ∷ []
 unfolding read_of head_of spans_in spans_of live_in turn_size
 step_by_step = refl
 
 -- what an aborted round has marked is unmarked, and the next round deals with it as with any other
 given_up : answers (start 4 1 0) (News 0 0 8 ∷ News 0 1 1016 ∷ Selects 1 ∷ Mark 1 ∷ Locates 0 ∷ Aborts ∷ Locates 0 ∷ Log 0 ∷ Own (Ask 0 0 Dropped) ∷ Selects 1 ∷ Mark 9 ∷ Waits ∷ Evacuates 9 ∷ Locates 0 ∷ Log 0 ∷ [])
-    ≡ At (place 0 0) ∷ At (place 1 0) ∷ Selected (0 ∷ []) ∷ Marked 1 (Some 1) ∷ Lies (Some (near 0 0 wanted)) ∷ Ok ∷ Lies (Some (near 0 0 bare)) ∷ LogIs (log_is 0 Sealed 16 0 1008) ∷ Replies (Word 0x8400000000010008) ∷ Selected (0 ∷ []) ∷ Marked 1 (Some 2) ∷ Polls Clear ∷ Evacuated (did_so 0 0 1 1) ∷ Lies None ∷ LogIs (log_is 0 Free 0 0 1024) ∷ []
+    ≡ At (place 0 0) ∷ At (place 1 0) ∷ Selected (0 ∷ []) ∷ Marked 1 (Some 1) ∷ Lies (Some (near 0 0 wanted)) ∷ Made ∷ Lies (Some (near 0 0 bare)) ∷ LogIs (log_is 0 Sealed 16 0 1008) ∷ Replies (Word 0x8400000000010008) ∷ Selected (0 ∷ []) ∷ Marked 1 (Some 2) ∷ Polls Clear ∷ Evacuated (did_so 0 0 1 1) ∷ Lies None ∷ LogIs (log_is 0 Free 0 0 1024) ∷ []
 unfolding read_of head_of spans_in spans_of live_in turn_size
 given_up = refl
