@@ -10,6 +10,7 @@ use Rattle.far_word.specs.declared.pointer.PtrWord.TheVariants.{Free, Near, Far}
 use Rattle.far_word.specs.declared.sizes.TheConstants.{CELLS}
 use Rattle.far_word.specs.Mark.{marks_with}
 use Rattle.far_word.specs.Pointer.{read_of}
+use Rattle.far_word.specs.Sizes.{words_for}
 use Rattle.far_core.specs.declared.event.Event.TheVariants.{Ask, Name}
 use Rattle.far_core.specs.declared.naming.Naming.{Naming}
 use Rattle.far_core.specs.declared.naming.Naming.TheVariants.{Places, Retires, Evicts, Stays, Moves, Fetches}
@@ -25,13 +26,14 @@ use Rattle.far_core.proofs.KeepOwner.{nonzero}
 use Rattle.far_core.proofs.Marking.{read_mark}
 use Rattle.far_core.proofs.Put.{put_same}
 use Rattle.far_book.specs.book.Dealing.{IsQuietNear, goal, has_evac, moved_now}
-use Rattle.far_core.specs.events.Copies.{data_at}
+use Rattle.far_core.specs.events.Copies.{Alike, data_at}
 use Rattle.far_book.specs.book.Effects.{fetched, fetched_of, moved, moved_of, near_word, stayed, stayed_of, with_written_span}
-use Rattle.far_book.specs.book.Fetching.{IsFar, IsFetched, RefusesFetch, room_for}
+use Rattle.far_book.specs.book.Fetching.{IsFar, IsFetched, RefusesFetch, far_len, room_for}
 use Rattle.far_word.specs.declared.refused.Refused.{Refused as Refusal}
 use Rattle.far_word.specs.declared.refused.Refused.TheVariants.{NoRoom, Memory, Device, Damaged}
 use Rattle.far_replay.specs.Dereference.{RefusesBringing, RefusesView, asked_for, come, come_of, comes_to, comes_to_of, dereferenced, has_no_room, says_near, sought, sought_of}
 use Rattle.far_replay.specs.Effects.{is_slow, with_view}
+use Rattle.far_book.proofs.region.Coming.{fetched_alike}
 use Rattle.far_replay.proofs.Drops.{unheld_is}
 use Rattle.far_replay.proofs.Views.{slow_parts, slow_view}
 
@@ -148,7 +150,8 @@ module _ (s : State) (m p : ℕ) (law : Law s) (used : s.used p ≡ true) (far :
   far_done t o place e found done =
       let there : room_for s p ≡ Some place = subst (λ x. IfSome x (λ y. room_for s p ≡ Some y)) e found in
       let led : IsFetched (Unit {0}) true s t p place = subst (λ x. IfSome x (λ y. IsFetched (Unit {0}) true s t p y)) e done in
-      led.exact tt ∙ ap (fetched s p place) (led.stored refl) ∙ sym (far_come place there) ∙ sym (ap (λ (x : State). come x p) far_unasked)
+      let stored : Alike led.row (s.stored p) (words_for told.len) = subst (λ o. Alike led.row (s.stored p) (words_for (far_len o))) told.is (led.stored refl) in
+      led.exact tt ∙ fetched_alike s p told.len told.ds place led.row told.marks told.is (s.stored p) stored ∙ sym (far_come place there) ∙ sym (ap (λ (x : State). come x p) far_unasked)
 
   far_here : comes_to (asked_for s m p) p ≡ room_for s p
   far_here = ap (λ (x : State). comes_to x p) far_unasked ∙ far_comes
