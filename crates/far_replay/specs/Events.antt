@@ -84,7 +84,8 @@ turn_events now (Mutator m (View p)) = view_events now.core m p
 turn_events now (Mutator m (Try p)) = view_events now.core m p
 turn_events now (Book inquiry) = []
 
--- a refused command makes no event, but the pin that found a mark
+-- a refused command makes no event, but the pin that found a mark. What a dereference makes beside its pin, where that gives no view, isn't told here yet: no command of today
+-- leaves an object so
 abbrev pub refused_events : Moment → Command → Refusal → List Event
 refused_events now (Mutator m (Try p)) (Marked word) = view_events now.core m p
 refused_events now c why = []

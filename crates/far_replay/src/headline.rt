@@ -31,7 +31,7 @@ pub fn moments_are_lawful()
     ensures reach { EventsReach }
 {}
 
-/// What a command reads, writes or tries is viewed until its mutator closes its scope; no other command makes or ends a
+/// What a command reads, writes, views or tries is viewed until its mutator closes its scope; no other command makes or ends a
 /// view. A try makes one exactly where the object is near with none of EVAC, MOVE and DROP, else it is refused 14 with the
 /// word of the cell; either way it leaves HOT, unless the object was viewed already. A log in which an object lies that its
 /// mutator views isn't given back by the next command, after any of its events.
@@ -43,7 +43,7 @@ pub fn views_last()
 
 /// A refused command leaves objects, bytes, places and all else as they were, but for HOT and MOVE in its object's cell,
 /// which it may add for want of room, or where a try finds a mark; any other refusal leaves the moment as it is. A line of a
-/// mutator that the heap hasn't is refused 8. Where the object that it reads, writes or tries is near and unmarked, no command after the
+/// mutator that the heap hasn't is refused 8. Where the object that it reads, writes, views or tries is near and unmarked, no command after the
 /// heap is refused for want of memory, by a device or for a mark; for want of a pointer or of room a new object alone is
 /// refused.
 pub fn refusals_leave_all()
