@@ -65,6 +65,20 @@ pub fn dereference(
     let Err(_) = try_view(book, owner, pointer) else {
         return Ok(());
     };
+    bring_and_view(book, owner, pointer)
+}
+
+// Brings an object to where a view may rest, and pins it there. It stands apart from the common case, which is made in place.
+#[inline(never)]
+fn bring_and_view(book: &mut Book<Plain, MemDevice>, owner: u8, pointer: u16) -> Result<(), Refused>
+    requires opened { is_opened (state_in book.old) owner ≡ true }
+    requires own { pointer / CELLS ≡ owner }
+    requires used { (state_in book.old).used pointer ≡ true }
+    requires unheld { (state_in book.old).held pointer ≡ None }
+    ensures state { IfOk result (λ _. state_in book.new ≡ with_view (come (asked_for (state_in book.old) owner pointer) pointer) pointer) }
+    ensures room { IfOk result (λ _. IsSome (comes_to (asked_for (state_in book.old) owner pointer) pointer)) }
+    ensures refused { IfErr result (λ why. RefusesBringing (asked_for (state_in book.old) owner pointer) pointer why (state_in book.new)) }
+{
     match bring(book, owner, pointer) {
         Ok(()) => {
             let _ = try_view(book, owner, pointer);
@@ -85,7 +99,6 @@ fn is_near(word: u64) -> bool
 }
 
 // Brings an object to where a view may rest.
-#[inline(never)]
 fn bring(book: &mut Book<Plain, MemDevice>, owner: u8, pointer: u16) -> Result<(), Refused>
     requires opened { is_opened (state_in book.old) owner ≡ true }
     requires own { pointer / CELLS ≡ owner }
