@@ -70,7 +70,7 @@ unpack_step f bs new i e before k more lt =
     ap (λ xs. get_or xs k 0) e ∙ unpack_more f bs i k before more (omega (arith, ap length e, length-with_word bs i (f i)))
 
 -- ---- the end of a list, as code slices it
-length-rest : (bs : List ℕ) (a : ℕ) → length (take (length bs - a) (drop a bs)) ≡ length bs - a
+pub length-rest : (bs : List ℕ) (a : ℕ) → length (take (length bs - a) (drop a bs)) ≡ length bs - a
 length-rest bs a = length-take-le (length bs - a) (drop a bs) (omega (arith, length-drop a bs))
 
 rest-get : (bs : List ℕ) (a k : ℕ) → k < length bs - a → get_or (take (length bs - a) (drop a bs)) k 0 ≡ get_or bs (a + k) 0

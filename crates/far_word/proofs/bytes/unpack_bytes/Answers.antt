@@ -1,12 +1,19 @@
-use Rattle.std.proofs.Common.{arith, length, get_or}
+use Rattle.std.proofs.Common.{ℕ, ◌∙◌, ◌/◌, ap, arith, get_or, length}
 use Rattle.std.proofs.lemmas.List.FromFn.{fill_by_all}
 use Rattle.far_word.specs.Bytes.{byte_at, bytes_of}
+use Rattle.far_word.proofs.ByteLaws.{length-with_word}
 use Rattle.far_word.proofs.WordBytes.{unpack_step}
 use Rattle.far_word.proofs.bytes.unpack_bytes.Goals as goal
 
-pub loop-i-preserved : goal.loop-i-preserved
-loop-i-preserved c = unpack_step (λ q. get_or c.args.words.now q 0) c.loop-i.bytes c.overwrite.new.bytes c.loop-i.i c.overwrite.ensures c.loop-i.invariant
-
-pub returns : goal.returns
+pub returns-then-whole-words : goal.returns-then-whole-words
 unfolding bytes_of
-returns c = fill_by_all (byte_at (λ q. get_or c.args.words.now q 0)) c.loop-i.bytes (length c.args.bytes.now) 0 (omega arith) (λ k lt. c.loop-i.invariant k (omega arith) (omega arith))
+returns-then-whole-words c =
+    let f : ℕ → ℕ = λ q. get_or c.args.words.now q 0 in
+    let whole = length c.args.bytes.now / 8 in
+    fill_by_all (byte_at f) c.overwrite_last.new.bytes (length c.args.bytes.now) 0 (ap length c.overwrite_last.ensures ∙ length-with_word c.loop-i.bytes whole (f whole) ∙ omega arith)
+    (λ k lt. unpack_step f c.loop-i.bytes c.overwrite_last.new.bytes whole c.overwrite_last.ensures (λ q low below. c.loop-i.invariant q (omega arith) below) k (omega arith) (omega arith))
+
+pub returns-else-whole-words : goal.returns-else-whole-words
+unfolding bytes_of
+returns-else-whole-words c =
+    fill_by_all (byte_at (λ q. get_or c.args.words.now q 0)) c.loop-i.bytes (length c.args.bytes.now) 0 (omega arith) (λ k lt. c.loop-i.invariant k (omega arith) (omega arith))
