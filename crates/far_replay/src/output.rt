@@ -4,6 +4,7 @@ ghost use Rattle.std.specs.Prelude.{◌≡◌, ◌++◌, ◌+◌, ◌*◌, ◌�
 ghost use Rattle.hex.specs.Hex.{encode_lower};
 ghost use Rattle.far_replay.specs.declared.output.TheConstants.Output.{ROOM};
 
+use crate::stream::grow;
 use itoa::Buffer;
 use std::alloc::{AllocError, Global};
 use std::marker::Model;
@@ -27,7 +28,9 @@ impl Model for Output {
 pub fn zeros(alloc: Global, len: usize) -> Result<Vec<u8>, AllocError>
     ensures { IfOk result (λ v. length v.items ≡ len) }
 {
-    vec![in alloc; 0u8; len]
+    let mut room = Vec::with_capacity(alloc, len)?;
+    grow(&mut room, len);
+    Ok(room)
 }
 
 impl Output {

@@ -14,11 +14,11 @@ pub struct WriteFault;
 const PIECE: usize = 65_536;
 
 // How much of it is filled at once.
-const STEP: usize = 1_024;
+const STEP: usize = 1_920;
 
-// Makes room for so many bytes, of room that was taken before. It is filled a little at a time: where little is filled
-// no instruction is repeated for each byte.
-fn grow(room: &mut Vec<u8>, to: usize)
+/// Makes room for so many bytes, of room that was taken before. It is filled a little at a time: where little is filled
+/// no instruction is repeated for each byte.
+pub fn grow(room: &mut Vec<u8>, to: usize)
     requires taken { to ≤ vec_capacity room.old }
     requires more { vec_len room.old ≤ to }
     ensures len { vec_len room.new ≡ to }

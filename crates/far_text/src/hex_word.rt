@@ -13,8 +13,11 @@ pub const LONGEST_LINE: usize = 4096;
 /// The most bytes that a word in hex spells.
 pub const LONGEST_BYTES: usize = LONGEST_LINE / 2;
 
-// The room that is made at once.
+// The room that is taken at once.
 const PIECE: usize = 65_536;
+
+// How much more than a word needs is filled with it.
+const STEP: usize = 1_536;
 
 fn is_hex_len(len: usize) -> bool
     ensures { result ≡ (nat_lt 0 len && nat_le len LONGEST_LINE && (len % 2 == 0)) }
@@ -34,14 +37,16 @@ fn decode(word: &[u8], room: &mut [u8]) -> bool
     hex::decode_to_slice(word, room).is_ok()
 }
 
-// Makes room for the bytes of one word more.
+// Makes room for the bytes of one word more. Little of what is taken is filled at once: where little is filled no
+// instruction is repeated for each byte.
 fn make_room(room: &mut Vec<u8>, to: usize) -> Result<(), AllocError>
     requires { to ≤ length room.old.items + LONGEST_BYTES }
     ensures enough { IfOk result (λ _. to ≤ length room.new.items) }
     ensures kept { take (length room.old.items) room.new.items ≡ room.old.items }
 {
     if to > room.len() {
-        room.resize(room.len() + PIECE, 0)?;
+        room.reserve(PIECE)?;
+        room.resize(to + STEP, 0)?;
     }
     Ok(())
 }

@@ -1,6 +1,7 @@
 //! A core at the start.
 
-ghost use Rattle.std.specs.Prelude.{◌≡◌, ◌↔◌, ◌≤◌, ◌<◌, false, true, cond, IfOk, IfErr, None};
+ghost use Rattle.std.specs.Prelude.{◌≡◌, ◌↔◌, ◌≤◌, ◌<◌, false, true, cond, IfOk, IfErr, None, replicate};
+ghost use Rattle.std.specs.Vec.{vec_len};
 ghost use Rattle.far_core.specs.state.Agrees.{Agrees};
 ghost use Rattle.far_core.specs.world.World.{start};
 ghost use Rattle.far_core.specs.world.WorldOf.{world_of};
@@ -16,6 +17,22 @@ use crate::memory::Memory;
 use crate::shape::Shape;
 use far_word::{CELLS, LOG_WORDS, Refused};
 use std::alloc::{AllocError, Global};
+
+// How many words are filled at once.
+const STEP: usize = 240;
+
+// So many words of 0. They are filled a few at a time: where little is filled no instruction is repeated for each byte.
+fn zero_words(alloc: Global, len: usize) -> Result<Vec<u64>, AllocError>
+    ensures items { IfOk result (λ words. words.items ≡ replicate len 0) }
+    ensures len { IfOk result (λ words. vec_len words ≡ len) }
+{
+    let mut words = Vec::with_capacity(alloc, len)?;
+    while words.len() < len {
+        let filled = words.len() + STEP.min(len - words.len());
+        words.resize(filled, 0).unwrap();
+    }
+    Ok(words)
+}
 
 impl Memory {
     /// All words but the epoch are 0 and all logs are free.
@@ -33,7 +50,7 @@ impl Memory {
             epoch: shape.epoch,
             scopes: vec![in alloc; 0; mutators]?,
             cells: vec![in alloc; 0; cells]?,
-            words: vec![in alloc; 0; words]?,
+            words: zero_words(alloc, words)?,
             remembered: vec![in alloc; None; mutators]?,
             used: vec![in alloc; false; cells]?,
             held: vec![in alloc; None; cells]?,
