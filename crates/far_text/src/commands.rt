@@ -214,6 +214,9 @@ impl Record {
     }
 }
 
+// How many commands room is taken for at first. So much memory is not copied where more is taken.
+const FIRST: usize = 4_096;
+
 /// Commands, in order.
 #[derive(Drop)]
 pub struct Commands {
@@ -243,14 +246,14 @@ impl Commands {
     ghost use Rattle.far_text.specs.Written.{WritesBytes};
     ghost use Rattle.far_text.specs.Spelled.{command_spelled};
 
-    /// No command yet.
-    pub fn new(alloc: Global) -> Commands
-        ensures { result ≡ [] }
+    /// No command yet. Room for the first of them is taken.
+    pub fn new(alloc: Global) -> Result<Commands, AllocError>
+        ensures { IfOk result (λ commands. commands ≡ []) }
     {
-        Commands {
-            records: Vec::new(alloc),
+        Ok(Commands {
+            records: Vec::with_capacity(alloc, FIRST)?,
             bytes: HexBytes::new(alloc),
-        }
+        })
     }
 
     /// How many they are.

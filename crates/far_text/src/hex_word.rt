@@ -13,8 +13,8 @@ pub const LONGEST_LINE: usize = 4096;
 /// The most bytes that a word in hex spells.
 pub const LONGEST_BYTES: usize = LONGEST_LINE / 2;
 
-// The room that is taken at once.
-const PIECE: usize = 65_536;
+// The room that is taken at first, and is not moved then: as much as the words of the longest text spell.
+const ROOM: usize = 524_288;
 
 // How much more than a word needs is filled with it.
 const STEP: usize = 1_536;
@@ -37,16 +37,27 @@ fn decode(word: &[u8], room: &mut [u8]) -> bool
     hex::decode_to_slice(word, room).is_ok()
 }
 
-// Makes room for the bytes of one word more. Little of what is taken is filled at once: where little is filled no
-// instruction is repeated for each byte.
+// Takes room where there is too little, and fills as much as is asked for and some more: where little is filled no
+// instruction is repeated for each byte. It stands apart from its caller, which seldom needs it.
+#[inline(never)]
+fn fill(room: &mut Vec<u8>, to: usize) -> Result<(), AllocError>
+    requires more { length room.old.items < to }
+    requires near { to ≤ length room.old.items + LONGEST_BYTES }
+    ensures enough { IfOk result (λ _. to ≤ length room.new.items) }
+    ensures kept { take (length room.old.items) room.new.items ≡ room.old.items }
+{
+    room.reserve(ROOM.saturating_sub(room.len()))?;
+    room.resize(to + STEP, 0)
+}
+
+// Makes room for the bytes of one word more.
 fn make_room(room: &mut Vec<u8>, to: usize) -> Result<(), AllocError>
     requires { to ≤ length room.old.items + LONGEST_BYTES }
     ensures enough { IfOk result (λ _. to ≤ length room.new.items) }
     ensures kept { take (length room.old.items) room.new.items ≡ room.old.items }
 {
     if to > room.len() {
-        room.reserve(PIECE)?;
-        room.resize(to + STEP, 0)?;
+        fill(room, to)?;
     }
     Ok(())
 }

@@ -107,7 +107,7 @@ fn commands_after(alloc: Global, number: u64, lines: Option<&[u8]>) -> Result<Co
     ensures commands { IfOk result (λ commands. read_commands (number + 1) (lines_left lines.entry) ≡ Ok commands) }
     ensures fault { IfErr result (λ e. IsFault e (read_commands (number + 1) (lines_left lines.entry))) }
 {
-    let mut commands = Commands::new(alloc);
+    let mut commands = Commands::new(alloc)?;
     let mut number = number;
     let mut lines = lines;
     while let Some(text) = lines {
