@@ -13,7 +13,7 @@ TEXT_LIMIT, LINE_LIMIT, LOG_BYTES, CELLS, MOST = 1_048_576, 4_096, 1_024, 128, 1
 NUMBER = re.compile(rb"0|[1-9][0-9]{0,19}")
 HEX = re.compile(rb"([0-9a-fA-F]{2})+")
 COMMANDS = {b"heap": "nn", b"new": "nnn", b"open": "n", b"close": "n", b"read": "nnnn", b"write": "nnnh", b"where": "nn", b"drop": "nn", b"view": "nn", b"try": "nn"}
-COMMANDS |= {b"logs": "", b"log": "n", b"audit": ""}
+COMMANDS |= {b"logs": "", b"log": "n", b"audit": "", b"epoch": "n"}
 
 
 def operand(kind: str, word: bytes):
@@ -26,7 +26,7 @@ def operand(kind: str, word: bytes):
 def command(line: bytes):
     """A line as a name and its operands; None where the line is off the grammar."""
     name, *words = line.split(b" ")
-    kinds = COMMANDS.get(name)
+    kinds = "nnn" if name == b"heap" and len(words) == 3 else COMMANDS.get(name)
     if kinds is None or len(kinds) != len(words):
         return None
     operands = [operand(kind, word) for kind, word in zip(kinds, words)]
@@ -64,7 +64,8 @@ class Thing:
 class Heap:
     """Objects by their cells, logs as the number of bytes placed in them. What no object takes of those is dead."""
 
-    def __init__(self, logs: int, mutators: int):
+    def __init__(self, logs: int, mutators: int, epoch: int = 0):
+        self.first = epoch
         self.placed, self.newest = [0] + [None] * (logs - 1), 0
         self.objects, self.scopes = [{} for _ in range(mutators)], [False] * mutators
         self.views = [set() for _ in range(mutators)]
@@ -103,6 +104,12 @@ class Heap:
         if not then:
             self.views[m].clear()
         return "ok"
+
+    def epoch(self, m: int) -> str:
+        """Tells the epoch, which no command raises, to a mutator whose scope is closed."""
+        if m >= len(self.scopes):
+            return "refused 8"
+        return "refused 6" if self.scopes[m] else f"epoch {self.first}"
 
     def find(self, m: int, p: int):
         """The object of a mutator's pointer, or the refusal."""
@@ -181,10 +188,10 @@ def interpret(text: bytes) -> tuple[int, bytes]:
         return 2, b"refused 16 %d\n" % commands
     if not commands:
         return 0, b""
-    logs, mutators = commands[0][1]
-    if not (2 <= logs <= 64 and 1 <= mutators <= 8):
+    logs, mutators, epoch = (*commands[0][1], 0)[:3]
+    if not (2 <= logs <= 64 and 1 <= mutators <= 8 and epoch < 2**62):
         return 2, b"refused 15\n"
-    heap = Heap(logs, mutators)
+    heap = Heap(logs, mutators, epoch)
     return 0, "\n".join(["ok", *(heap.answer(*made) for made in commands[1:]), ""]).encode()
 
 
@@ -194,8 +201,12 @@ class Writer:
     def __init__(self, seed: str):
         self.choice = random.Random(seed)
         self.shape = (self.choice.choice((2, 3, 3, 4, 64)), self.choice.randint(1, 8))
+        if self.choice.random() < 0.4:
+            self.shape += (self.choice.choice((0, 1, 9, 2**62 - 1)),)
         self.heap = Heap(*self.shape)
-        if self.choice.random() < 0.05:
+        if self.choice.random() < 0.02:
+            self.shape = (*self.shape[:2], self.choice.choice((2**62, 2**64 - 1)))
+        elif self.choice.random() < 0.05:
             self.shape = (self.choice.choice((0, 1, 2, 64, 65, 2**64 - 1)), self.choice.choice((0, 1, 8, 9, 2**32 + 1)))
         self.largest = self.choice.choice((1, 9, 40, 300, MOST))
 
@@ -234,8 +245,8 @@ class Writer:
 
     def line(self) -> str:
         m = self.choice.randrange(len(self.heap.scopes))
-        kinds = ("new", "access", "open", "close", "where", "drop", "view", "try", "log", "logs", "audit", "", "# words")
-        kind = self.choice.choices(kinds, (10, 30, 8, 2, 4, 4, 3, 3, 2, 1, 1, 1, 1))[0]
+        kinds = ("new", "access", "open", "close", "where", "drop", "view", "try", "epoch", "log", "logs", "audit", "", "# words")
+        kind = self.choice.choices(kinds, (10, 30, 8, 2, 4, 4, 3, 3, 2, 2, 1, 1, 1, 1))[0]
         if kind in ("", "# words"):
             return kind
         made = kind if kind in ("logs", "audit") else self.operands(kind, m)
@@ -249,13 +260,13 @@ class Writer:
         line, wide, byte = lines[at], LINE_LIMIT + self.choice.randrange(2), bytes([self.choice.randrange(256)])
         signs = [line.replace(b" ", sign, 1) for sign in (b"  ", b"\t", b" 0", b" +", b" -", b" 0x")]
         ends = [line + end for end in (b" ", b"\r", b"0", b" 1", b"\t", byte)]
-        others = b"heap 4 1|view 0|select oldest 1|# \xc3\xa9|#\0\t\r|\0|write 0 0 0 0g|write 0 0 0 |open %d|open %d" % (2**64, 10**20)
+        others = b"heap 4 1|heap 4 1 0 0|view 0|epoch|select oldest 1|# \xc3\xa9|#\0\t\r|\0|write 0 0 0 0g|write 0 0 0 |open %d|open %d" % (2**64, 10**20)
         long = [b"#" * wide, (b"write 0 0 0 " + b"ab" * LINE_LIMIT)[: wide + self.choice.randrange(2)]]
         lines[at] = self.choice.choice([b" " + line, byte + line, line[:-1], line.upper(), *signs, *ends, *others.split(b"|"), *long])
         return b"\n".join(lines)
 
     def text(self) -> bytes:
-        lines = [*self.choice.choice(([], [], ["# first", ""])), "heap {} {}".format(*self.shape)]
+        lines = [*self.choice.choice(([], [], ["# first", ""])), " ".join(["heap", *map(str, self.shape)])]
         lines += [self.line() for _ in range(self.choice.choice((4, 40, 200, 1_000)))]
         text = ("\n".join(lines) + self.choice.choice(("\n", "\n", "", "\n\n"))).encode()
         if self.choice.random() < 0.02:

@@ -26,11 +26,11 @@ start_nothing : (m : ℕ) → own_of (start true) m ≡ nothing
 start_nothing m = Own-ext (own_of (start true) m) nothing refl (fun_ext (λ p. cond_both (nat_eq (p / CELLS) m) None None (λ (x : Option (List ℕ)). x ≡ None) (λ _. refl) (λ _. refl)))
     (fun_ext (λ p. none_seen (nat_eq (p / CELLS) m)))
 
-pub first_nothing : (logs mutators m : ℕ) → own_of (world_of (first_moment logs mutators).core) m ≡ nothing
-first_nothing logs mutators m = ap (λ w. own_of w m) (opening_world (shape_of logs mutators) true) ∙ start_nothing m
+pub first_nothing : (logs mutators epoch m : ℕ) → own_of (world_of (first_moment logs mutators epoch).core) m ≡ nothing
+first_nothing logs mutators epoch m = ap (λ w. own_of w m) (opening_world (shape_of logs mutators epoch) true) ∙ start_nothing m
 
 -- from the first moment on, the replies to a mutator's lines are what they say by themselves
-pub alone_first : (logs mutators m : ℕ) (cs : List Command) (rs : List Reply) (moments : List Moment) → is_shape (shape_of logs mutators) ≡ true → m < mutators → AllWriteBytes cs →
-    Answered (first_moment logs mutators) cs rs moments → Alone m nothing cs rs
-alone_first logs mutators m cs rs moments shape within bytes h =
-    subst (λ o. Alone m o cs rs) (first_nothing logs mutators m) (alone (first_moment logs mutators) cs rs moments m (first_lasts logs mutators shape) within bytes h)
+pub alone_first : (logs mutators epoch m : ℕ) (cs : List Command) (rs : List Reply) (moments : List Moment) → is_shape (shape_of logs mutators epoch) ≡ true → m < mutators → AllWriteBytes cs →
+    Answered (first_moment logs mutators epoch) cs rs moments → Alone m nothing cs rs
+alone_first logs mutators epoch m cs rs moments shape within bytes h =
+    subst (λ o. Alone m o cs rs) (first_nothing logs mutators epoch m) (alone (first_moment logs mutators epoch) cs rs moments m (first_lasts logs mutators epoch shape) within bytes h)

@@ -12,7 +12,7 @@ use Rattle.far_core.proofs.Leaving.{events_leave}
 use Rattle.far_replay.specs.Moment.{Moment, moment_of}
 use Rattle.far_replay.specs.Alone.{Own, Knows, Alone, Learns, own_of, is_by, speaker}
 use Rattle.far_replay.specs.Answers.{Answered, Commanded, IsMoment}
-use Rattle.far_text.specs.Command.{Command, New, Open, Write, Read, Close, Where, Drop, View, Try, Mutator, Book}
+use Rattle.far_text.specs.Command.{Command, New, Open, Write, Read, Close, Where, Drop, View, Try, Epoch, Mutator, Book}
 use Rattle.far_text.specs.Written.{WritesBytes, AllWriteBytes}
 use Rattle.far_replay.specs.EventRows.{after_events, AllAtHand}
 use Rattle.far_replay.specs.Reply.{Reply}
@@ -20,7 +20,7 @@ use Rattle.far_replay.specs.Events.{events_for}
 use Rattle.far_replay.specs.Turn.{refusal, unless}
 use Rattle.far_replay.proofs.Lasting.{Lasts, IsCarriedOut, command_carried, moment_lasts, still_lasts}
 use Rattle.far_replay.proofs.AloneNew.{turns_new}
-use Rattle.far_replay.proofs.AloneTurns.{Teaches, Turns, turns_open, turns_close, turns_read, turns_write, turns_where, turns_drop, turns_try, turns_view}
+use Rattle.far_replay.proofs.AloneTurns.{Teaches, Turns, turns_open, turns_epoch, turns_close, turns_read, turns_write, turns_where, turns_drop, turns_try, turns_view}
 
 -- ---- no event changes how many mutators there are
 step_mutators : (s : State) (e : Event) → (step_of s e).0.mutators ≡ s.mutators
@@ -58,6 +58,7 @@ learns s m (Mutator k (Where p)) r t law hand within small h = at_speaker s k m 
 learns s m (Mutator k (Drop p)) r t law hand within small h = at_speaker s k m (Mutator k (Drop p)) r t (nat_eq k m) refl within (teaches s k (Mutator k (Drop p)) r t h (turns_drop s k p law hand))
 learns s m (Mutator k (View p)) r t law hand within small h = at_speaker s k m (Mutator k (View p)) r t (nat_eq k m) refl within (teaches s k (Mutator k (View p)) r t h (turns_view s k p law hand))
 learns s m (Mutator k (Try p)) r t law hand within small h = at_speaker s k m (Mutator k (Try p)) r t (nat_eq k m) refl within (teaches s k (Mutator k (Try p)) r t h (turns_try s k p law hand))
+learns s m (Mutator k Epoch) r t law hand within small h = at_speaker s k m (Mutator k Epoch) r t (nat_eq k m) refl within (teaches s k (Mutator k Epoch) r t h (turns_epoch s k law))
 learns s m (Book inquiry) r t law hand within small h = ap (λ x. own_of (world_of x) m) (h.state ∙ none_made s (refusal (moment_of s) (Book inquiry)))
 
 pub mutators_learn : (now : Moment) (c : Command) (r : Reply) (next : Moment) (m : ℕ) → IsMoment now → WritesBytes c → m < now.core.mutators → Commanded now c r next → Learns now.core m c r next.core

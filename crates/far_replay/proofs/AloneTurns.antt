@@ -19,7 +19,7 @@ use Rattle.far_core.specs.world.WorldOf.{world_of}
 use Rattle.far_core.specs.world.Steps.{with_bytes}
 use Rattle.far_replay.specs.Moment.{moment_of}
 use Rattle.far_replay.specs.Alone.{Knows, own_of, IsOut, IsIn}
-use Rattle.far_text.specs.Command.{Command, Open, Write, Read, Close, Where, Drop, View, Try, Mutator}
+use Rattle.far_text.specs.Command.{Command, Open, Write, Read, Close, Where, Drop, View, Try, Epoch, Mutator}
 use Rattle.far_replay.specs.EventRows.{after_events, AllSucceed, AllAtHand}
 use Rattle.far_replay.specs.Reply.{Reply, Done, Refused}
 use Rattle.far_replay.specs.Events.{turn_events, refused_events, open_events, view_events, part_events, load_events, store_events, starts_inside, ends_inside, first_word, words_touched}
@@ -104,6 +104,17 @@ turns_open s k law = two_causes (Turns s k (Mutator k Open)) (not (nat_lt k s.mu
     let same : u.held ≡ s.held = made_views s (Mutator k Open) ok in (
       λ within. (shut_world s k within shut, own_scope (world_of s) (world_of u) k true (views_of (world_of s) k) run.0 run.1 (views_still s u k same)),
       λ m ne. own_scope_other (world_of s) (world_of u) m k true run.0 run.1 ne (views_still s u m same),
+    ))
+
+pub turns_epoch : (s : State) (k : ℕ) → Law s → Turns s k (Mutator k Epoch) (refusal (moment_of s) (Mutator k Epoch))
+turns_epoch s k law = two_causes (Turns s k (Mutator k Epoch)) (not (nat_lt k s.mutators)) (is_opened s k) Range AlreadyOpen
+    (λ off _. (λ within. absurd (not_outside k s.mutators within off), λ m ne. refl))
+    (λ _ opened _. (λ within. (open_world s k opened, refl), λ m ne. refl))
+    (λ _ shut ok. let run = quiet_run s (ReadsEpoch k ∷ []) law (tt, tt) in
+    let u : State = after_events s (ReadsEpoch k ∷ []) in
+    let same : u.held ≡ s.held = made_views s (Mutator k Epoch) ok in (
+      λ within. (shut_world s k within shut, own_same (world_of s) (world_of u) k (views_of (world_of s) k) run.0 (views_still s u k same)),
+      λ m ne. own_same (world_of s) (world_of u) m (views_of (world_of s) m) run.0 (views_still s u m same),
     ))
 
 pub turns_close : (s : State) (k : ℕ) → Law s → Turns s k (Mutator k Close) (refusal (moment_of s) (Mutator k Close))

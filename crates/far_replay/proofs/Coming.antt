@@ -18,7 +18,7 @@ use Rattle.far_core.specs.state.Room.{room}
 use Rattle.far_core.specs.state.State.{State}
 use Rattle.far_core.specs.events.Step.{step_of, is_legal, is_opened, after, answer, pin_answer}
 use Rattle.far_core.proofs.KeepOwner.{nonzero}
-use Rattle.far_text.specs.Command.{Command, New, Open, Write, Read, Close, Where, Drop, View, Try, Mutator, Book}
+use Rattle.far_text.specs.Command.{Command, New, Open, Write, Read, Close, Where, Drop, View, Try, Epoch, Mutator, Book}
 use Rattle.far_replay.specs.Dereference.{has_no_room}
 use Rattle.far_replay.specs.Effects.{near_word, is_slow}
 use Rattle.far_replay.specs.EventRows.{after_events, ComesToPass, AllComeToPass, AtHand, AllAtHand}
@@ -132,6 +132,7 @@ all_come s (Mutator m (View p)) None e law hand =
 all_come s (Mutator m (Try p)) None e law hand =
     let h = tried (nat_lt m s.mutators) (is_opened s m) (uses s m p) (is_slow s p) Range Closed NotHeld (Marked (s.cell p)) e in
     view_comes s m p (hand (nonzero s law p (and_parts (nat_eq (p / CELLS) m) (s.used p) h.2).1))
+all_come s (Mutator m Epoch) None e law hand = (tt, tt)
 all_come s (Book inquiry) None e law hand = tt
 
 -- where all objects are at hand, so is that of a command
@@ -145,4 +146,5 @@ hand_for s (Mutator m (Where p)) hands = tt
 hand_for s (Mutator m (Drop p)) hands = tt
 hand_for s (Mutator m (View p)) hands = hands p
 hand_for s (Mutator m (Try p)) hands = hands p
+hand_for s (Mutator m Epoch) hands = tt
 hand_for s (Book inquiry) hands = tt

@@ -41,7 +41,7 @@ heap_once s cs false x y e f = e ∙ sym f
 output_once : (read : Result Trace ℕ) (x y : List ℕ) → IsOutput read x → IsOutput read y → x ≡ y
 output_once (Err line) x y h k = h ∙ sym k
 output_once (Ok Nothing) x y h k = h ∙ sym k
-output_once (Ok (Heap logs mutators cs)) x y h k = heap_once (first_moment logs mutators) cs (is_shape (shape_of logs mutators)) x y h k
+output_once (Ok (Heap logs mutators epoch cs)) x y h k = heap_once (first_moment logs mutators epoch) cs (is_shape (shape_of logs mutators epoch)) x y h k
 
 -- two outputs of one text are equal
 pub answers_once : (text a b : List ℕ) → Answers text a → Answers text b → a ≡ b

@@ -71,15 +71,15 @@ still_lasts_after now [] lasts bytes = lasts
 still_lasts_after now (c ∷ cs) lasts bytes = still_lasts_after (effect now c) cs (effect_lasts now c lasts bytes.0) bytes.1
 
 -- from the first moment on
-pub first_lasts : (logs mutators : ℕ) → is_shape (shape_of logs mutators) ≡ true → Lasts (first_moment logs mutators)
-first_lasts logs mutators fits = record { law = opening_law logs mutators fits; between = opening_between logs mutators fits }
+pub first_lasts : (logs mutators epoch : ℕ) → is_shape (shape_of logs mutators epoch) ≡ true → Lasts (first_moment logs mutators epoch)
+first_lasts logs mutators epoch fits = record { law = opening_law logs mutators epoch fits; between = opening_between logs mutators epoch fits }
 
 pub moment_lasts : (now : Moment) → IsMoment now → Lasts now
-moment_lasts now (logs, mutators, cs, fits, bytes, is) = subst Lasts (sym is) (still_lasts_after (first_moment logs mutators) cs (first_lasts logs mutators fits) bytes)
+moment_lasts now (logs, mutators, epoch, cs, fits, bytes, is) = subst Lasts (sym is) (still_lasts_after (first_moment logs mutators epoch) cs (first_lasts logs mutators epoch fits) bytes)
 
 -- ---- which moments there are
-pub first_is_moment : (logs mutators : ℕ) → is_shape (shape_of logs mutators) ≡ true → IsMoment (first_moment logs mutators)
-first_is_moment logs mutators fits = (logs, mutators, [], fits, tt, refl)
+pub first_is_moment : (logs mutators epoch : ℕ) → is_shape (shape_of logs mutators epoch) ≡ true → IsMoment (first_moment logs mutators epoch)
+first_is_moment logs mutators epoch fits = (logs, mutators, epoch, [], fits, tt, refl)
 
 one_after : (now : Moment) (cs : List Command) (c : Command) → moment_after now (cs ++ c ∷ []) ≡ effect (moment_after now cs) c
 one_after now [] c = refl
@@ -90,8 +90,8 @@ bytes_more [] c h k = (k, tt)
 bytes_more (d ∷ cs) c h k = (h.0, bytes_more cs c h.1 k)
 
 pub next_is_moment : (now : Moment) (c : Command) (r : Reply) (next : Moment) → IsMoment now → WritesBytes c → Commanded now c r next → IsMoment next
-next_is_moment now c r next (logs, mutators, cs, fits, bytes, is) more h =
-    (logs, mutators, cs ++ c ∷ [], fits, bytes_more cs c bytes more, h.moment ∙ ap (λ m. effect m c) is ∙ sym (one_after (first_moment logs mutators) cs c))
+next_is_moment now c r next (logs, mutators, epoch, cs, fits, bytes, is) more h =
+    (logs, mutators, epoch, cs ++ c ∷ [], fits, bytes_more cs c bytes more, h.moment ∙ ap (λ m. effect m c) is ∙ sym (one_after (first_moment logs mutators epoch) cs c))
 
 first_or : (now : Moment) (moments : List Moment) (x : Moment) → IsMoment now → (Contains moments x → IsMoment x) → Contains (now ∷ moments) x → IsMoment x
 first_or now moments x is there c = elim (split x now moments c) [
@@ -113,8 +113,8 @@ each_is_moment now (d ∷ cs) (r ∷ rs) (m ∷ ms) is bytes h x c =
 lawful : (now : Moment) → IsMoment now → Lawful now
 lawful now is = let x = moment_lasts now is in record { reached = is; law = x.law; at_hand = x.between.at_hand }
 
-pub first_lawful : (logs mutators : ℕ) → is_shape (shape_of logs mutators) ≡ true → Lawful (first_moment logs mutators)
-first_lawful logs mutators fits = lawful (first_moment logs mutators) (first_is_moment logs mutators fits)
+pub first_lawful : (logs mutators epoch : ℕ) → is_shape (shape_of logs mutators epoch) ≡ true → Lawful (first_moment logs mutators epoch)
+first_lawful logs mutators epoch fits = lawful (first_moment logs mutators epoch) (first_is_moment logs mutators epoch fits)
 
 pub moments_last : (now : Moment) (cs : List Command) (rs : List Reply) (moments : List Moment) → IsMoment now → AllWriteBytes cs → Answered now cs rs moments → All Lawful (now ∷ moments)
 moments_last now cs rs moments is bytes h = All-from Lawful (now ∷ moments) (λ x c. lawful x (each_is_moment now cs rs moments is bytes h x c))

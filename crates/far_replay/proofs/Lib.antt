@@ -12,6 +12,7 @@ pub mod Coming
 pub mod Counted
 pub mod Determined
 pub mod Drops
+pub mod EpochLaws
 pub mod Fronts
 pub mod InquiryLaws
 pub mod Kept

@@ -212,7 +212,7 @@ module _ (s : State) (law : Law s) (m p len ds new : ℕ) (place : Place)
 
     -- so they leave what holds between commands
     pub taking_between : Between s → Between adopted
-    taking_between between = record { at_hand = all_at_hand between; unread = between.unread }
+    taking_between between = record { at_hand = all_at_hand between }
 
   -- the events of a new object
   abbrev row : List Event

@@ -7,9 +7,9 @@ use Rattle.far_replay.specs.Answers.{shape_of, first_moment}
 use Rattle.far_replay.specs.Between.{Between}
 
 -- the law holds of the first state
-pub opening_law : (logs mutators : ℕ) → is_shape (shape_of logs mutators) ≡ true → Law (first_moment logs mutators).core
-opening_law logs mutators fits = begins (shape_of logs mutators) true fits
+pub opening_law : (logs mutators epoch : ℕ) → is_shape (shape_of logs mutators epoch) ≡ true → Law (first_moment logs mutators epoch).core
+opening_law logs mutators epoch fits = begins (shape_of logs mutators epoch) true fits
 
--- in the first state no cell is named, and no owner remembers an epoch
-pub opening_between : (logs mutators : ℕ) → is_shape (shape_of logs mutators) ≡ true → Between (first_moment logs mutators).core
-opening_between logs mutators fits = record { at_hand = λ p ne. absurd (ne refl); unread = λ m e. refl }
+-- in the first state no cell is named
+pub opening_between : (logs mutators epoch : ℕ) → is_shape (shape_of logs mutators epoch) ≡ true → Between (first_moment logs mutators epoch).core
+opening_between logs mutators epoch fits = record { at_hand = λ p ne. absurd (ne refl) }

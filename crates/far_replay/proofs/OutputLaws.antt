@@ -38,7 +38,7 @@ use Rattle.far_replay.proofs.AloneTurns.{quiet_view}
 use Rattle.far_replay.specs.Moment.{Moment, moment_of}
 use Rattle.far_replay.specs.Alone.{Alone, Knows, Own}
 use Rattle.far_replay.specs.Answers.{Answered, Answers, Commanded, IsMoment, IsOutput, shape_of, first_moment}
-use Rattle.far_text.specs.Command.{Command, Trace, Nothing, Heap, New, Open, Write, Read, Close, Where, Drop, View, Try, Logs, Mutator, Book}
+use Rattle.far_text.specs.Command.{Command, Trace, Nothing, Heap, New, Open, Write, Read, Close, Where, Drop, View, Try, Epoch, Logs, Mutator, Book}
 use Rattle.far_text.specs.Grammar.{trace_of}
 use Rattle.far_replay.specs.Headline.{IsSound, IsWhole, Lawful, IsSaidBy, TellsAll, TellsLog}
 use Rattle.far_text.specs.Written.{AllWriteBytes}
@@ -74,15 +74,15 @@ answers_all now (c ∷ cs) =
     let rest = answers_all (effect now c) cs in
     (reply_to now c ∷ rest.0, effect now c ∷ rest.1, (record { reply = refl; moment = refl }, rest.2))
 
-heap_answered : (logs mutators : ℕ) (cs : List Command) (b : Bool) →
-    (output : List ℕ) × MatchBool b ((rs : List Reply) × (moments : List Moment) × Answered (first_moment logs mutators) cs rs moments × (output ≡ flat_map reply_text (Done ∷ rs))) (output ≡ reply_text (Refused Shape))
-heap_answered logs mutators cs true = let x = answers_all (first_moment logs mutators) cs in (flat_map reply_text (Done ∷ x.0), (x.0, x.1, x.2, refl))
-heap_answered logs mutators cs false = (reply_text (Refused Shape), refl)
+heap_answered : (logs mutators epoch : ℕ) (cs : List Command) (b : Bool) →
+    (output : List ℕ) × MatchBool b ((rs : List Reply) × (moments : List Moment) × Answered (first_moment logs mutators epoch) cs rs moments × (output ≡ flat_map reply_text (Done ∷ rs))) (output ≡ reply_text (Refused Shape))
+heap_answered logs mutators epoch cs true = let x = answers_all (first_moment logs mutators epoch) cs in (flat_map reply_text (Done ∷ x.0), (x.0, x.1, x.2, refl))
+heap_answered logs mutators epoch cs false = (reply_text (Refused Shape), refl)
 
 read_answered : (read : Result Trace ℕ) → (output : List ℕ) × IsOutput read output
 read_answered (Err line) = (reply_text (Refused (Syntax line)), refl)
 read_answered (Ok Nothing) = ([], refl)
-read_answered (Ok (Heap logs mutators cs)) = heap_answered logs mutators cs (is_shape (shape_of logs mutators))
+read_answered (Ok (Heap logs mutators epoch cs)) = heap_answered logs mutators epoch cs (is_shape (shape_of logs mutators epoch))
 
 pub each_answered : (text : List ℕ) → (output : List ℕ) × Answers text output
 each_answered text = read_answered (trace_of text)
@@ -244,6 +244,7 @@ refuses_unknown s (Mutator k (Where p)) m e h = first_holds s (Mutator k (Where 
 refuses_unknown s (Mutator k (Drop p)) m e h = first_holds s (Mutator k (Drop p)) (not (nat_lt k s.mutators)) _ refl (ap not (past s m k e h))
 refuses_unknown s (Mutator k (View p)) m e h = first_holds s (Mutator k (View p)) (not (nat_lt k s.mutators)) _ refl (ap not (past s m k e h))
 refuses_unknown s (Mutator k (Try p)) m e h = first_holds s (Mutator k (Try p)) (not (nat_lt k s.mutators)) _ refl (ap not (past s m k e h))
+refuses_unknown s (Mutator k Epoch) m e h = first_holds s (Mutator k Epoch) (not (nat_lt k s.mutators)) _ refl (ap not (past s m k e h))
 refuses_unknown s (Book inquiry) m e h = absurd e
 
 pub unknown_refused : (now : Moment) (c : Command) (r : Reply) (next : Moment) (m : ℕ) → IsSaidBy m c → now.core.mutators ≤ m → Commanded now c r next → r ≡ Refused Range
@@ -399,10 +400,10 @@ makes_its_object now m len ds p next is c =
     (at.0, at.1, ap (λ (x : State). (world_of x).object) (h.state ∙ ap (after_events s) events) ∙ run.2 ∙ ap (λ (o : Object). put (world_of s).object p (Some o)) whole)
 
 -- ---- the first moment
-pub heap_lawful : (logs mutators : ℕ) → is_shape (shape_of logs mutators) ≡ true →
-    ((first_moment logs mutators).core.logs ≡ logs) × ((first_moment logs mutators).core.mutators ≡ mutators) × Lawful (first_moment logs mutators) × IsWhole (first_moment logs mutators).core
-    × ((p : ℕ) → (first_moment logs mutators).core.cell p ≡ 0) × ((l : ℕ) → (first_moment logs mutators).core.tail l ≡ 0)
-heap_lawful logs mutators fits = let lawful = first_lawful logs mutators fits in (refl, refl, lawful, whole (first_moment logs mutators).core lawful.law, (λ p. refl), (λ l. refl))
+pub heap_lawful : (logs mutators epoch : ℕ) → is_shape (shape_of logs mutators epoch) ≡ true →
+    ((first_moment logs mutators epoch).core.logs ≡ logs) × ((first_moment logs mutators epoch).core.mutators ≡ mutators) × ((first_moment logs mutators epoch).core.epoch ≡ epoch) × Lawful (first_moment logs mutators epoch) × IsWhole (first_moment logs mutators epoch).core
+    × ((p : ℕ) → (first_moment logs mutators epoch).core.cell p ≡ 0) × ((l : ℕ) → (first_moment logs mutators epoch).core.tail l ≡ 0)
+heap_lawful logs mutators epoch fits = let lawful = first_lawful logs mutators epoch fits in (refl, refl, refl, lawful, whole (first_moment logs mutators epoch).core lawful.law, (λ p. refl), (λ l. refl))
 
 -- ---- one law from the text
 pub objects_whole : (now : Moment) (cs : List Command) (rs : List Reply) (moments : List Moment) → IsMoment now → AllWriteBytes cs → Answered now cs rs moments →
@@ -410,27 +411,27 @@ pub objects_whole : (now : Moment) (cs : List Command) (rs : List Reply) (moment
 objects_whole now cs rs moments is bytes h =
     All-from (λ (x : Moment). IsWhole x.core) (now ∷ moments) (λ x c. whole x.core (moment_lasts x (each_is_moment now cs rs moments is bytes h x c)).law)
 
-in_shape : (logs mutators : ℕ) (cs : List Command) (output : List ℕ) (b : Bool) → b ≡ true →
-    MatchBool b ((rs : List Reply) × (moments : List Moment) × Answered (first_moment logs mutators) cs rs moments × (output ≡ flat_map reply_text (Done ∷ rs))) (output ≡ reply_text (Refused Shape)) →
-    (rs : List Reply) × (moments : List Moment) × Answered (first_moment logs mutators) cs rs moments × (output ≡ flat_map reply_text (Done ∷ rs))
-in_shape logs mutators cs output true e h = h
-in_shape logs mutators cs output false e h = absurd cc
+in_shape : (logs mutators epoch : ℕ) (cs : List Command) (output : List ℕ) (b : Bool) → b ≡ true →
+    MatchBool b ((rs : List Reply) × (moments : List Moment) × Answered (first_moment logs mutators epoch) cs rs moments × (output ≡ flat_map reply_text (Done ∷ rs))) (output ≡ reply_text (Refused Shape)) →
+    (rs : List Reply) × (moments : List Moment) × Answered (first_moment logs mutators epoch) cs rs moments × (output ≡ flat_map reply_text (Done ∷ rs))
+in_shape logs mutators epoch cs output true e h = h
+in_shape logs mutators epoch cs output false e h = absurd cc
 
-pub outputs_sound : (text output : List ℕ) (logs mutators : ℕ) (cs : List Command) → Answers text output → trace_of text ≡ Ok (Heap logs mutators cs) →
-    is_shape (shape_of logs mutators) ≡ true → IsSound logs mutators cs output
-outputs_sound text output logs mutators cs answers reads fits =
-    let bytes : AllWriteBytes cs = texts_write text logs mutators cs reads in
-    let is : IsMoment (first_moment logs mutators) = first_is_moment logs mutators fits in
-    let (rs, moments, h, e) = in_shape logs mutators cs output (is_shape (shape_of logs mutators)) fits (subst (λ (x : Result Trace ℕ). IsOutput x output) reads answers) in
+pub outputs_sound : (text output : List ℕ) (logs mutators epoch : ℕ) (cs : List Command) → Answers text output → trace_of text ≡ Ok (Heap logs mutators epoch cs) →
+    is_shape (shape_of logs mutators epoch) ≡ true → IsSound logs mutators epoch cs output
+outputs_sound text output logs mutators epoch cs answers reads fits =
+    let bytes : AllWriteBytes cs = texts_write text logs mutators epoch cs reads in
+    let is : IsMoment (first_moment logs mutators epoch) = first_is_moment logs mutators epoch fits in
+    let (rs, moments, h, e) = in_shape logs mutators epoch cs output (is_shape (shape_of logs mutators epoch)) fits (subst (λ (x : Result Trace ℕ). IsOutput x output) reads answers) in
     record {
       replies = rs;
       moments = moments;
       bytes = bytes;
       answered = h;
       printed_so = e;
-      plain = replies_plain (first_moment logs mutators) cs rs moments (first_lasts logs mutators fits) bytes h;
-      lawful = moments_last (first_moment logs mutators) cs rs moments is bytes h;
-      whole = objects_whole (first_moment logs mutators) cs rs moments is bytes h;
-      stay = logs_stay (first_moment logs mutators) cs rs moments is bytes h;
-      alone = λ m within. alone_first logs mutators m cs rs moments fits within bytes h;
+      plain = replies_plain (first_moment logs mutators epoch) cs rs moments (first_lasts logs mutators epoch fits) bytes h;
+      lawful = moments_last (first_moment logs mutators epoch) cs rs moments is bytes h;
+      whole = objects_whole (first_moment logs mutators epoch) cs rs moments is bytes h;
+      stay = logs_stay (first_moment logs mutators epoch) cs rs moments is bytes h;
+      alone = λ m within. alone_first logs mutators epoch m cs rs moments fits within bytes h;
     }

@@ -24,7 +24,7 @@ use Rattle.far_core.proofs.Observations.{bytes_make_log}
 use Rattle.far_book.specs.book.Home.{home_of}
 use Rattle.far_replay.specs.Answers.{Answered}
 use Rattle.far_replay.specs.Audit.{counts_of, lies_near, lies_far, bytes_by_log}
-use Rattle.far_text.specs.Command.{Command, New, Open, Write, Read, Close, Where, Drop, View, Try, Logs, Log, Audit, Mutator, Book}
+use Rattle.far_text.specs.Command.{Command, New, Open, Write, Read, Close, Where, Drop, View, Try, Epoch, Logs, Log, Audit, Mutator, Book}
 use Rattle.far_replay.specs.Headline.{IsToldInFull, IsLineToldInFull, AreToldInFull, IsRefusalToldInFull}
 use Rattle.far_replay.specs.Dereference.{dereferenced}
 use Rattle.far_replay.specs.Moment.{Moment, moment_of}
@@ -107,6 +107,7 @@ plain_causes s (Mutator m (Where p)) law = (tt, (tt, tt))
 plain_causes s (Mutator m (Drop p)) law = (tt, (tt, (tt, tt)))
 plain_causes s (Mutator m (View p)) law = (tt, (tt, (tt, (tt, tt))))
 plain_causes s (Mutator m (Try p)) law = (tt, (tt, (tt, ((law.cells.cell_read p).0, tt))))
+plain_causes s (Mutator m Epoch) law = (tt, (tt, tt))
 plain_causes s (Book Logs) law = tt
 plain_causes s (Book (Log l)) law = (tt, tt)
 plain_causes s (Book Audit) law = tt
@@ -124,6 +125,7 @@ plain_turn s (Mutator m (Where p)) law e = plain_home (read_of (s.cell p)) (λ v
 plain_turn s (Mutator m (Drop p)) law e = tt
 plain_turn s (Mutator m (View p)) law e = tt
 plain_turn s (Mutator m (Try p)) law e = tt
+plain_turn s (Mutator m Epoch) law e = omega (arith, law.scopes.epoch_below)
 plain_turn s (Book Logs) law e = plain_logs s law
 plain_turn s (Book (Log l)) law e = (plain_line s law l (log_inside s l e), tt)
 plain_turn s (Book Audit) law e = plain_counts s law

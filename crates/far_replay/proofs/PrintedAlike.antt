@@ -15,7 +15,7 @@ use Rattle.far_core.specs.declared.event.Kind.{Kind}
 use Rattle.far_core.specs.declared.event.Kind.TheVariants as kinds
 use Rattle.far_book.specs.declared.home.Home.TheVariants.{Near, Far}
 use Rattle.far_replay.specs.Headline.{IsToldInFull, IsHomeToldInFull, AreCountsToldInFull, IsLineToldInFull, AreToldInFull, IsRefusalToldInFull}
-use Rattle.far_replay.specs.Reply.{Reply, Done, Pointer, Data, Logs, Lies, Audited, Refused, LogLine, Counts, kind_word, log_text, letters_of, home_printed, counts_printed, detail, refusal_text, reply_text}
+use Rattle.far_replay.specs.Reply.{Reply, Done, Pointer, Data, Logs, Lies, Audited, EpochRead, Refused, LogLine, Counts, kind_word, log_text, letters_of, home_printed, counts_printed, detail, refusal_text, reply_text}
 use Rattle.std.specs.Int.{byte_at, bytes_high_first, from_be_bytes, to_be_bytes, w64}
 use Rattle.std.specs.Str.Parse.{digits_value}
 use Rattle.std.proofs.lemmas.Nat.{from_be_bytes-to_be_bytes_8, mod_below}
@@ -285,6 +285,9 @@ counts_alike c d p q e =
 pointers_alike : (p q : ℕ) → p < 2 ^ 64 → q < 2 ^ 64 → reply_text (Pointer p) ≡ reply_text (Pointer q) → p ≡ q
 pointers_alike p q a b e = decimal_injective p q a b (append_cancel_left (codes "pointer ") _ _ (append_cancel_right _ _ (codes "\n") e))
 
+epochs_alike : (p q : ℕ) → p < 2 ^ 64 → q < 2 ^ 64 → reply_text (EpochRead p) ≡ reply_text (EpochRead q) → p ≡ q
+epochs_alike p q a b e = decimal_injective p q a b (append_cancel_left (codes "epoch ") _ _ (append_cancel_right _ _ (codes "\n") e))
+
 bytes_alike : (x y : List ℕ) → IsBytes x → IsBytes y → reply_text (Data x) ≡ reply_text (Data y) → x ≡ y
 bytes_alike x y a b e =
     let same : encode_lower x ≡ encode_lower y = append_cancel_left (codes "data ") _ _ (append_cancel_right _ _ (codes "\n") e) in
@@ -300,6 +303,7 @@ printed_alike Done (Logs (k ∷ ks)) a b e = let h : 111 ≡ 108 = ap head_of e 
 printed_alike Done (Lies (Near at n)) a b e = let h : 111 ≡ 110 = ap head_of e in absurd (omega (arith, h))
 printed_alike Done (Lies (Far n)) a b e = let h : 111 ≡ 102 = ap head_of e in absurd (omega (arith, h))
 printed_alike Done (Audited d) a b e = let h : 111 ≡ 97 = ap head_of e in absurd (omega (arith, h))
+printed_alike Done (EpochRead f) a b e = let h : 111 ≡ 101 = ap head_of e in absurd (omega (arith, h))
 printed_alike Done (Refused other) a b e = let h : 111 ≡ 114 = ap head_of e in absurd (omega (arith, h))
 printed_alike (Pointer p) Done a b e = let h : 112 ≡ 111 = ap head_of e in absurd (omega (arith, h))
 printed_alike (Pointer p) (Pointer q) a b e = ap Pointer (pointers_alike p q a b e)
@@ -309,6 +313,7 @@ printed_alike (Pointer p) (Logs (k ∷ ks)) a b e = let h : 112 ≡ 108 = ap hea
 printed_alike (Pointer p) (Lies (Near at n)) a b e = let h : 112 ≡ 110 = ap head_of e in absurd (omega (arith, h))
 printed_alike (Pointer p) (Lies (Far n)) a b e = let h : 112 ≡ 102 = ap head_of e in absurd (omega (arith, h))
 printed_alike (Pointer p) (Audited d) a b e = let h : 112 ≡ 97 = ap head_of e in absurd (omega (arith, h))
+printed_alike (Pointer p) (EpochRead f) a b e = let h : 112 ≡ 101 = ap head_of e in absurd (omega (arith, h))
 printed_alike (Pointer p) (Refused other) a b e = let h : 112 ≡ 114 = ap head_of e in absurd (omega (arith, h))
 printed_alike (Data x) Done a b e = let h : 100 ≡ 111 = ap head_of e in absurd (omega (arith, h))
 printed_alike (Data x) (Pointer q) a b e = let h : 100 ≡ 112 = ap head_of e in absurd (omega (arith, h))
@@ -318,6 +323,7 @@ printed_alike (Data x) (Logs (k ∷ ks)) a b e = let h : 100 ≡ 108 = ap head_o
 printed_alike (Data x) (Lies (Near at n)) a b e = let h : 100 ≡ 110 = ap head_of e in absurd (omega (arith, h))
 printed_alike (Data x) (Lies (Far n)) a b e = let h : 100 ≡ 102 = ap head_of e in absurd (omega (arith, h))
 printed_alike (Data x) (Audited d) a b e = let h : 100 ≡ 97 = ap head_of e in absurd (omega (arith, h))
+printed_alike (Data x) (EpochRead f) a b e = let h : 100 ≡ 101 = ap head_of e in absurd (omega (arith, h))
 printed_alike (Data x) (Refused other) a b e = let h : 100 ≡ 114 = ap head_of e in absurd (omega (arith, h))
 printed_alike (Logs []) Done a b e = let h : 0 ≡ 111 = ap head_of e in absurd (omega (arith, h))
 printed_alike (Logs []) (Pointer q) a b e = let h : 0 ≡ 112 = ap head_of e in absurd (omega (arith, h))
@@ -325,6 +331,7 @@ printed_alike (Logs []) (Data y) a b e = let h : 0 ≡ 100 = ap head_of e in abs
 printed_alike (Logs []) (Lies (Near at n)) a b e = let h : 0 ≡ 110 = ap head_of e in absurd (omega (arith, h))
 printed_alike (Logs []) (Lies (Far n)) a b e = let h : 0 ≡ 102 = ap head_of e in absurd (omega (arith, h))
 printed_alike (Logs []) (Audited d) a b e = let h : 0 ≡ 97 = ap head_of e in absurd (omega (arith, h))
+printed_alike (Logs []) (EpochRead f) a b e = let h : 0 ≡ 101 = ap head_of e in absurd (omega (arith, h))
 printed_alike (Logs []) (Refused other) a b e = let h : 0 ≡ 114 = ap head_of e in absurd (omega (arith, h))
 printed_alike (Logs (l ∷ ls)) Done a b e = let h : 108 ≡ 111 = ap head_of e in absurd (omega (arith, h))
 printed_alike (Logs (l ∷ ls)) (Pointer q) a b e = let h : 108 ≡ 112 = ap head_of e in absurd (omega (arith, h))
@@ -332,6 +339,7 @@ printed_alike (Logs (l ∷ ls)) (Data y) a b e = let h : 108 ≡ 100 = ap head_o
 printed_alike (Logs (l ∷ ls)) (Lies (Near at n)) a b e = let h : 108 ≡ 110 = ap head_of e in absurd (omega (arith, h))
 printed_alike (Logs (l ∷ ls)) (Lies (Far n)) a b e = let h : 108 ≡ 102 = ap head_of e in absurd (omega (arith, h))
 printed_alike (Logs (l ∷ ls)) (Audited d) a b e = let h : 108 ≡ 97 = ap head_of e in absurd (omega (arith, h))
+printed_alike (Logs (l ∷ ls)) (EpochRead f) a b e = let h : 108 ≡ 101 = ap head_of e in absurd (omega (arith, h))
 printed_alike (Logs (l ∷ ls)) (Refused other) a b e = let h : 108 ≡ 114 = ap head_of e in absurd (omega (arith, h))
 printed_alike (Logs ls) (Logs ks) a b e = ap Logs (lines_alike ls ks a b e)
 printed_alike (Lies (Near place m)) Done a b e = let h : 110 ≡ 111 = ap head_of e in absurd (omega (arith, h))
@@ -342,6 +350,7 @@ printed_alike (Lies (Near place m)) (Logs (k ∷ ks)) a b e = let h : 110 ≡ 10
 printed_alike (Lies (Near place m)) (Lies (Near at n)) a b e = near_alike place at m n a b e
 printed_alike (Lies (Near place m)) (Lies (Far n)) a b e = let h : 110 ≡ 102 = ap head_of e in absurd (omega (arith, h))
 printed_alike (Lies (Near place m)) (Audited d) a b e = let h : 110 ≡ 97 = ap head_of e in absurd (omega (arith, h))
+printed_alike (Lies (Near place m)) (EpochRead f) a b e = let h : 110 ≡ 101 = ap head_of e in absurd (omega (arith, h))
 printed_alike (Lies (Near place m)) (Refused other) a b e = let h : 110 ≡ 114 = ap head_of e in absurd (omega (arith, h))
 printed_alike (Lies (Far m)) Done a b e = let h : 102 ≡ 111 = ap head_of e in absurd (omega (arith, h))
 printed_alike (Lies (Far m)) (Pointer q) a b e = let h : 102 ≡ 112 = ap head_of e in absurd (omega (arith, h))
@@ -351,6 +360,7 @@ printed_alike (Lies (Far m)) (Logs (k ∷ ks)) a b e = let h : 102 ≡ 108 = ap 
 printed_alike (Lies (Far m)) (Lies (Near at n)) a b e = let h : 102 ≡ 110 = ap head_of e in absurd (omega (arith, h))
 printed_alike (Lies (Far m)) (Lies (Far n)) a b e = far_alike m n e
 printed_alike (Lies (Far m)) (Audited d) a b e = let h : 102 ≡ 97 = ap head_of e in absurd (omega (arith, h))
+printed_alike (Lies (Far m)) (EpochRead f) a b e = let h : 102 ≡ 101 = ap head_of e in absurd (omega (arith, h))
 printed_alike (Lies (Far m)) (Refused other) a b e = let h : 102 ≡ 114 = ap head_of e in absurd (omega (arith, h))
 printed_alike (Audited c) Done a b e = let h : 97 ≡ 111 = ap head_of e in absurd (omega (arith, h))
 printed_alike (Audited c) (Pointer q) a b e = let h : 97 ≡ 112 = ap head_of e in absurd (omega (arith, h))
@@ -360,7 +370,18 @@ printed_alike (Audited c) (Logs (k ∷ ks)) a b e = let h : 97 ≡ 108 = ap head
 printed_alike (Audited c) (Lies (Near at n)) a b e = let h : 97 ≡ 110 = ap head_of e in absurd (omega (arith, h))
 printed_alike (Audited c) (Lies (Far n)) a b e = let h : 97 ≡ 102 = ap head_of e in absurd (omega (arith, h))
 printed_alike (Audited c) (Audited d) a b e = ap Audited (counts_alike c d a b e)
+printed_alike (Audited c) (EpochRead f) a b e = let h : 97 ≡ 101 = ap head_of e in absurd (omega (arith, h))
 printed_alike (Audited c) (Refused other) a b e = let h : 97 ≡ 114 = ap head_of e in absurd (omega (arith, h))
+printed_alike (EpochRead g) Done a b e = let h : 101 ≡ 111 = ap head_of e in absurd (omega (arith, h))
+printed_alike (EpochRead g) (Pointer q) a b e = let h : 101 ≡ 112 = ap head_of e in absurd (omega (arith, h))
+printed_alike (EpochRead g) (Data y) a b e = let h : 101 ≡ 100 = ap head_of e in absurd (omega (arith, h))
+printed_alike (EpochRead g) (Logs []) a b e = let h : 101 ≡ 0 = ap head_of e in absurd (omega (arith, h))
+printed_alike (EpochRead g) (Logs (k ∷ ks)) a b e = let h : 101 ≡ 108 = ap head_of e in absurd (omega (arith, h))
+printed_alike (EpochRead g) (Lies (Near at n)) a b e = let h : 101 ≡ 110 = ap head_of e in absurd (omega (arith, h))
+printed_alike (EpochRead g) (Lies (Far n)) a b e = let h : 101 ≡ 102 = ap head_of e in absurd (omega (arith, h))
+printed_alike (EpochRead g) (Audited d) a b e = let h : 101 ≡ 97 = ap head_of e in absurd (omega (arith, h))
+printed_alike (EpochRead g) (EpochRead f) a b e = ap EpochRead (epochs_alike g f a b e)
+printed_alike (EpochRead g) (Refused other) a b e = let h : 101 ≡ 114 = ap head_of e in absurd (omega (arith, h))
 printed_alike (Refused why) Done a b e = let h : 114 ≡ 111 = ap head_of e in absurd (omega (arith, h))
 printed_alike (Refused why) (Pointer q) a b e = let h : 114 ≡ 112 = ap head_of e in absurd (omega (arith, h))
 printed_alike (Refused why) (Data y) a b e = let h : 114 ≡ 100 = ap head_of e in absurd (omega (arith, h))
@@ -369,4 +390,5 @@ printed_alike (Refused why) (Logs (k ∷ ks)) a b e = let h : 114 ≡ 108 = ap h
 printed_alike (Refused why) (Lies (Near at n)) a b e = let h : 114 ≡ 110 = ap head_of e in absurd (omega (arith, h))
 printed_alike (Refused why) (Lies (Far n)) a b e = let h : 114 ≡ 102 = ap head_of e in absurd (omega (arith, h))
 printed_alike (Refused why) (Audited d) a b e = let h : 114 ≡ 97 = ap head_of e in absurd (omega (arith, h))
+printed_alike (Refused why) (EpochRead f) a b e = let h : 114 ≡ 101 = ap head_of e in absurd (omega (arith, h))
 printed_alike (Refused why) (Refused other) a b e = ap Refused (refused_alike why other a b e)

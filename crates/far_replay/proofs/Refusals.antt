@@ -11,7 +11,7 @@ use Rattle.far_book.specs.book.Home.{home_of}
 use Rattle.far_book.specs.declared.home.Home.{Home}
 use Rattle.far_replay.specs.Moment.{Moment, moment_of}
 use Rattle.far_replay.specs.Answers.{Commanded}
-use Rattle.far_text.specs.Command.{Command, New, Open, Write, Read, Close, Where, Drop, View, Try, Logs, Log, Audit, Mutator, Book}
+use Rattle.far_text.specs.Command.{Command, New, Open, Write, Read, Close, Where, Drop, View, Try, Epoch, Logs, Log, Audit, Mutator, Book}
 use Rattle.far_replay.specs.Headline.{IsAtHandFor, MayRefuse}
 use Rattle.far_replay.specs.Reply.{Reply, Refused}
 use Rattle.far_replay.specs.Dereference.{has_no_room}
@@ -60,6 +60,7 @@ causes_listed s (Mutator m (Where p)) law hand = ((λ _. tt), λ _. ((λ _. tt),
 causes_listed s (Mutator m (Drop p)) law hand = ((λ _. tt), λ _. ((λ _. tt), λ _. ((λ _. tt), λ _. tt)))
 causes_listed s (Mutator m (View p)) law hand = ((λ _. tt), λ _. ((λ _. tt), λ _. ((λ _. tt), λ used. ((λ full. absurd (true≢false (sym full ∙ room_at s m p law hand used))), λ _. tt))))
 causes_listed s (Mutator m (Try p)) law hand = ((λ _. tt), λ _. ((λ _. tt), λ _. ((λ _. tt), λ used. ((λ slow. absurd (true≢false (sym slow ∙ fast_at s m p law hand used))), λ _. tt))))
+causes_listed s (Mutator m Epoch) law hand = ((λ _. tt), λ _. ((λ _. tt), λ _. tt))
 causes_listed s (Book Logs) law hand = tt
 causes_listed s (Book (Log l)) law hand = ((λ _. tt), λ _. tt)
 causes_listed s (Book Audit) law hand = tt
@@ -83,6 +84,7 @@ turn_is_no_refusal s (Mutator m (Where p)) why e = home_is_no_refusal (home_of (
 turn_is_no_refusal s (Mutator m (Drop p)) why e = cc
 turn_is_no_refusal s (Mutator m (View p)) why e = cc
 turn_is_no_refusal s (Mutator m (Try p)) why e = cc
+turn_is_no_refusal s (Mutator m Epoch) why e = cc
 turn_is_no_refusal s (Book Logs) why e = cc
 turn_is_no_refusal s (Book (Log l)) why e = cc
 turn_is_no_refusal s (Book Audit) why e = cc

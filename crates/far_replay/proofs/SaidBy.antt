@@ -1,7 +1,7 @@
 -- Whose line it is, by the number behind its name.
 use Rattle.std.proofs.Common.{◌≡◌, ◌≢◌, ℕ, ◌<◌, ◌^◌, List, [], ◌∷◌, codes, decimal, arith, sym, ap, ◌∙◌}
 use Rattle.std.proofs.lemmas.Fmt.{decimal_injective}
-use Rattle.far_text.specs.Command.{Command, CommandLine, New, Open, Write, Read, Close, Where, Drop, View, Try, Logs, Log, Audit, Mutator, Book}
+use Rattle.far_text.specs.Command.{Command, CommandLine, New, Open, Write, Read, Close, Where, Drop, View, Try, Epoch, Logs, Log, Audit, Mutator, Book}
 use Rattle.far_replay.specs.Headline.{IsSaidBy}
 use Rattle.far_text.specs.Says.{Says}
 
@@ -54,6 +54,9 @@ view_is_other e = let h : 118 ≡ 108 = ap letter_of e in omega (arith, h)
 try_is_other : codes "try" ≢ codes "log"
 try_is_other e = let h : 116 ≡ 108 = ap letter_of e in omega (arith, h)
 
+epoch_is_other : codes "epoch" ≢ codes "log"
+epoch_is_other e = let h : 101 ≡ 108 = ap letter_of e in omega (arith, h)
+
 no_number : {name word : List ℕ} {rest : List (List ℕ)} {head : List ℕ} → name ∷ word ∷ rest ≢ head ∷ []
 no_number e = cc
 
@@ -69,6 +72,7 @@ lines_numbered words (Mutator k (Where p)) m small h = (numbered words _ k m _ h
 lines_numbered words (Mutator k (Drop p)) m small h = (numbered words _ k m _ h.0 drop_is_other, (λ name rest e ne. number_behind words _ k m _ h.1 small h.0 name rest e))
 lines_numbered words (Mutator k (View p)) m small h = (numbered words _ k m _ h.0 view_is_other, (λ name rest e ne. number_behind words _ k m _ h.1 small h.0 name rest e))
 lines_numbered words (Mutator k (Try p)) m small h = (numbered words _ k m _ h.0 try_is_other, (λ name rest e ne. number_behind words _ k m _ h.1 small h.0 name rest e))
+lines_numbered words (Mutator k Epoch) m small h = (numbered words _ k m _ h.0 epoch_is_other, (λ name rest e ne. number_behind words _ k m _ h.1 small h.0 name rest e))
 lines_numbered words (Book Logs) m small h = ((λ no. absurd no), (λ name rest e ne. absurd (no_number (sym e ∙ h))))
 lines_numbered words (Book (Log l)) m small h = ((λ no. absurd no), (λ name rest e ne. absurd (ne (ap first_of (sym e ∙ h.0)))))
 lines_numbered words (Book Audit) m small h = ((λ no. absurd no), (λ name rest e ne. absurd (no_number (sym e ∙ h))))

@@ -23,7 +23,6 @@ use Rattle.far_core.proofs.Rows.{row_none, row_first}
 between_words : (s : State) (word : ℕ → ℕ) → Between s → Between record s { word = word }
 between_words s word between = record {
   at_hand = λ p ne. let h = between.at_hand p ne in record { len = h.len; ds = h.ds; place = h.place; marks = h.marks; near = h.near; unchosen = h.unchosen; unmoved = h.unmoved; kept = h.kept; used = h.used };
-  unread = between.unread;
 }
 
 -- ---- a row of stores

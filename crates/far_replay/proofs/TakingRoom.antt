@@ -1,5 +1,5 @@
 -- Which shapes a heap line may say, and what each command takes of the logs.
-use Rattle.std.proofs.Common.{◌≡◌, ◌≤◌, ℕ, ◌+◌, true, is_some, sym, refl, ap, subst, arith, Option, Some, None}
+use Rattle.std.proofs.Common.{◌≡◌, ◌≤◌, ◌<◌, ◌^◌, ℕ, ◌+◌, true, is_some, sym, refl, ap, subst, arith, Option, Some, None}
 use Rattle.std.specs.Prelude.{◌↔◌}
 use Rattle.std.proofs.lemmas.Bool.{cond_both, true≢false}
 use Rattle.std.proofs.lemmas.Bool.Decides.{nat_tests}
@@ -18,7 +18,7 @@ use Rattle.far_word.specs.declared.mark.Mark.TheVariants.{Dropped}
 use Rattle.far_core.specs.declared.event.Event.TheVariants.{Ask}
 use Rattle.far_core.specs.events.Step.{after as step_after, after_pin}
 use Rattle.far_replay.specs.Answers.{Commanded, shape_of}
-use Rattle.far_text.specs.Command.{Command, New, Open, Write, Read, Close, Where, Drop, View, Try, Mutator, Book}
+use Rattle.far_text.specs.Command.{Command, New, Open, Write, Read, Close, Where, Drop, View, Try, Epoch, Mutator, Book}
 use Rattle.far_replay.specs.Dereference.{sought_of}
 use Rattle.far_replay.specs.Effects.{with_view, with_object}
 use Rattle.far_replay.specs.Headline.{TakesRoom}
@@ -30,8 +30,8 @@ use Rattle.far_replay.proofs.Drops.{retired_either}
 use Rattle.far_replay.proofs.Views.{fast_dereference}
 use Rattle.far_replay.proofs.Turns.{new_tests, new_object_is}
 
-pub shapes_are : (logs mutators : ℕ) → (is_shape (shape_of logs mutators) ≡ true) ↔ ((2 ≤ logs) × (logs ≤ 64) × (1 ≤ mutators) × (mutators ≤ 8))
-shapes_are logs mutators = ((λ h. (grind (arith, nat_tests), grind (arith, nat_tests), grind (arith, nat_tests), grind (arith, nat_tests))), (λ h. grind (arith, nat_tests)))
+pub shapes_are : (logs mutators epoch : ℕ) → (is_shape (shape_of logs mutators epoch) ≡ true) ↔ ((2 ≤ logs) × (logs ≤ 64) × (1 ≤ mutators) × (mutators ≤ 8) × (epoch < 2 ^ 62))
+shapes_are logs mutators epoch = ((λ h. (grind (arith, nat_tests), grind (arith, nat_tests), grind (arith, nat_tests), grind (arith, nat_tests), grind (arith, nat_tests))), (λ h. grind (arith, nat_tests)))
 
 -- no tail and no kind is changed
 abbrev LeavesRoom : State → State → Type 0
@@ -81,6 +81,8 @@ takes s (Mutator m (View p)) (Some why) law e = (refl, refl)
 takes s (Mutator m (Try p)) None law e = view_leaves s p
 takes s (Mutator m (Try p)) (Some (Marked word)) law e = view_leaves s p
 takes s (Mutator m (Try p)) (Some why) law e = (refl, refl)
+takes s (Mutator m Epoch) None law e = (refl, refl)
+takes s (Mutator m Epoch) (Some why) law e = (refl, refl)
 takes s (Book inquiry) None law e = (refl, refl)
 takes s (Book inquiry) (Some why) law e = (refl, refl)
 

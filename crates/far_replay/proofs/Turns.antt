@@ -29,19 +29,19 @@ use Rattle.far_core.proofs.KeepOwner.{nonzero}
 use Rattle.far_core.proofs.KeepPlace.{header}
 use Rattle.far_core.proofs.Owing.{is_test}
 use Rattle.far_core.proofs.RoomLaws.{room_right}
-use Rattle.far_core.proofs.Put.{put_both, put_same, put_other}
+use Rattle.far_core.proofs.Put.{put_same, put_old}
 use Rattle.far_replay.specs.Moment.{moment_of}
-use Rattle.far_text.specs.Command.{Command, New, Open, Write, Read, Close, Where, Drop, View, Try, Mutator, Book}
+use Rattle.far_text.specs.Command.{Command, New, Open, Write, Read, Close, Where, Drop, View, Try, Epoch, Mutator, Book}
 use Rattle.far_replay.specs.EventRows.{after_events, AllSucceed, AtHand}
 use Rattle.far_replay.specs.Between.{Between}
 use Rattle.far_replay.specs.Events.{new_events, zero_puts, open_events, view_events, first_word, words_touched, load_events, starts_inside, ends_inside, part_events, store_events, drop_events, turn_events, refused_events, events_for}
 use Rattle.far_replay.specs.Objects.{uses, object_len, data_of, with_range, lowest_cell, is_range}
 use Rattle.far_replay.specs.Dereference.{comes_to, has_no_room, sought}
 use Rattle.far_replay.specs.Effects.{near_word}
-use Rattle.far_replay.specs.Effects.{with_row, with_object, with_view, is_slow, with_data, with_scope, without_object, epoch_for}
+use Rattle.far_replay.specs.Effects.{with_row, with_object, with_view, is_slow, with_data, with_epoch, with_scope, without_object, epoch_for}
 use Rattle.far_replay.specs.Turn.{turn_effect, refused_effect, effect, with_new, access_causes, first_cause, refusal, unless}
 use Rattle.far_text.specs.Written.{WritesBytes}
-use Rattle.far_replay.proofs.Drops.{unheld_is, drop_succeeds, drop_ends, drop_is, drop_law, drop_fits, drop_hands}
+use Rattle.far_replay.proofs.Drops.{unheld_is, drop_succeeds, drop_ends, drop_law, drop_fits, drop_hands}
 use Rattle.far_replay.proofs.LoadWords.{loads_stay, load_legal, loads_succeed}
 use Rattle.far_replay.proofs.Lowest.{lowest_cell_is}
 use Rattle.far_replay.proofs.MadeLemmas.{made-append, AllSucceed-append, made_first, first_succeeds, made_law, load_stays}
@@ -434,62 +434,68 @@ same_hands s t cells uses_same hands p ne =
       used = sym (ap (λ (f : ℕ → Bool). f p) uses_same) ∙ h.used;
     }
 
--- other scopes leave what holds between commands, if no closed owner remembers an epoch
-between_scopes : (s : State) (scope : ℕ → ℕ) (remembered : ℕ → Option ℕ) (held : ℕ → Option Place) → Between s → ((m : ℕ) → scope m ≡ 0 → remembered m ≡ None) →
-    Between record s { scope = scope; remembered = remembered; held = held }
-between_scopes s scope remembered held between unread =
-    record { at_hand = same_hands s (record s { scope = scope; remembered = remembered; held = held }) refl refl between.at_hand; unread = unread }
+-- other scopes and epochs leave what holds between commands
+between_scopes : (s : State) (scope : ℕ → ℕ) (remembered : ℕ → Option ℕ) (held : ℕ → Option Place) → Between s → Between record s { scope = scope; remembered = remembered; held = held }
+between_scopes s scope remembered held between =
+    record { at_hand = same_hands s (record s { scope = scope; remembered = remembered; held = held }) refl refl between.at_hand }
 
 -- a scope that isn't open is closed
 pub scope_is_shut : (s : State) (m : ℕ) → nat_lt m s.mutators ≡ true → is_opened s m ≡ false → (m < s.mutators) × (s.scope m ≡ 0)
 scope_is_shut s m within opened = (grind (arith, nat_tests), grind (arith, nat_tests))
 
-module _ (s : State) (m : ℕ) (law : Law s) (between : Between s) (closed_now : (m < s.mutators) × (s.scope m ≡ 0)) where
-  -- the state after the epoch is read
-  abbrev read : State
-  read = record s { remembered = put s.remembered m (Some s.epoch) }
+-- an owner whose scope is closed reads the epoch
+read_turned : (s : State) (m : ℕ) → Law s → Between s → (m < s.mutators) × (s.scope m ≡ 0) → Turned s (ReadsEpoch m ∷ []) (with_epoch s m)
+read_turned s m law between closed_now =
+    let legal : is_legal s (ReadsEpoch m) ≡ true = is_test s (ReadsEpoch m) closed_now in
+    let end : after_events s (ReadsEpoch m ∷ []) ≡ with_epoch s m = made_first s (ReadsEpoch m) [] legal in
+    record {
+      succeed = first_succeeds s (ReadsEpoch m) [] legal tt tt;
+      between = subst Between (sym end) (between_scopes s s.scope (put s.remembered m (Some s.epoch)) s.held between);
+      law = made_law s (ReadsEpoch m ∷ []) law (tt, tt);
+      fit = (tt, tt);
+      ends = end;
+    }
 
-  -- the state after the opening
-  abbrev begun : State
-  begun = record read { scope = put s.scope m (scope_word_of (read.remembered m)) }
+-- a scope opens at the epoch that its owner remembers
+begin_turned : (s : State) (m e : ℕ) → Law s → Between s → (m < s.mutators) × (s.scope m ≡ 0) → s.remembered m ≡ Some e →
+    Turned s (Opens m ∷ []) (record s { remembered = put s.remembered m (Some e); scope = put s.scope m (scope_word_of (Some e)) })
+begin_turned s m e law between closed_now is =
+    let legal : is_legal s (Opens m) ≡ true = is_test s (Opens m) (closed_now, ap is_some is) in
+    let end : after_events s (Opens m ∷ []) ≡ record s { scope = put s.scope m (scope_word_of (s.remembered m)) } = made_first s (Opens m) [] legal in
+    record {
+      succeed = first_succeeds s (Opens m) [] legal tt tt;
+      between = subst Between (sym end) (between_scopes s (put s.scope m (scope_word_of (s.remembered m))) s.remembered s.held between);
+      law = made_law s (Opens m ∷ []) law (tt, tt);
+      fit = (tt, tt);
+      ends = end ∙ ap (λ (o : Option ℕ). record s { scope = put s.scope m (scope_word_of o) }) is
+          ∙ ap (λ (f : ℕ → Option ℕ). record s { remembered = f; scope = put s.scope m (scope_word_of (Some e)) }) (sym (put_old s.remembered m (Some e) is));
+    }
 
-  -- the epoch is remembered
-  read_now : read.remembered m ≡ Some s.epoch
-  read_now = put_same s.remembered m (Some s.epoch) m refl
+-- else at the heap's, which it reads first
+begin_anew : (s : State) (m : ℕ) → Law s → Between s → (m < s.mutators) × (s.scope m ≡ 0) →
+    Turned s (ReadsEpoch m ∷ Opens m ∷ []) (record s { remembered = put s.remembered m (Some s.epoch); scope = put s.scope m (scope_word_of (Some s.epoch)) })
+begin_anew s m law between closed_now =
+    let read : State = with_epoch s m in
+    let now : read.remembered m ≡ Some s.epoch = put_same s.remembered m (Some s.epoch) m refl in
+    let first_legal : is_legal s (ReadsEpoch m) ≡ true = is_test s (ReadsEpoch m) closed_now in
+    let legal : is_legal read (Opens m) ≡ true = is_test read (Opens m) (closed_now, ap is_some now) in
+    let end : after_events s (ReadsEpoch m ∷ Opens m ∷ []) ≡ record read { scope = put s.scope m (scope_word_of (read.remembered m)) } = made_first s (ReadsEpoch m) (Opens m ∷ []) first_legal ∙ made_first read (Opens m) [] legal in
+    record {
+      succeed = first_succeeds s (ReadsEpoch m) (Opens m ∷ []) first_legal tt (first_succeeds read (Opens m) [] legal tt tt);
+      between = subst Between (sym end) (between_scopes s (put s.scope m (scope_word_of (read.remembered m))) (put s.remembered m (Some s.epoch)) s.held between);
+      law = made_law s (ReadsEpoch m ∷ Opens m ∷ []) law (tt, (tt, tt));
+      fit = (tt, (tt, tt));
+      ends = end ∙ ap (λ (o : Option ℕ). record read { scope = put s.scope m (scope_word_of o) }) now;
+    }
 
-  -- the epoch may be read
-  read_legal : is_legal s (ReadsEpoch m) ≡ true
-  read_legal = is_test s (ReadsEpoch m) closed_now
+-- the events of an opening, by what its owner remembers
+open_at : (s : State) (m : ℕ) (o : Option ℕ) → Law s → Between s → (m < s.mutators) × (s.scope m ≡ 0) → s.remembered m ≡ o →
+    Turned s (if is_some o then Opens m ∷ [] else ReadsEpoch m ∷ Opens m ∷ []) (record s { remembered = put s.remembered m (Some (epoch_for o s.epoch)); scope = put s.scope m (scope_word_of (Some (epoch_for o s.epoch))) })
+open_at s m None law between closed_now is = begin_anew s m law between closed_now
+open_at s m (Some e) law between closed_now is = begin_turned s m e law between closed_now is
 
-  -- the scope may be opened
-  open_legal : is_legal read (Opens m) ≡ true
-  open_legal = is_test read (Opens m) (closed_now, ap is_some read_now)
-
-  -- what holds between commands stays
-  begun_between : Between begun
-  begun_between = between_scopes s (put s.scope m (scope_word_of (read.remembered m))) (put s.remembered m (Some s.epoch)) s.held between
-      (λ k z. put_other s.remembered m (Some s.epoch) k (λ e. odd k e z) ∙ between.unread k (sym (put_other s.scope m (scope_word_of (read.remembered m)) k (λ e. odd k e z)) ∙ z)) where
-        odd : (k : ℕ) → k ≡ m → put s.scope m (scope_word_of (read.remembered m)) k ≡ 0 → ⊥
-        odd k e z =
-            let one : 2 * s.epoch + 1 ≡ 0 = sym (ap scope_word_of read_now) ∙ sym (put_same s.scope m (scope_word_of (read.remembered m)) k e) ∙ z in
-            omega arith
-
-  -- the events of an opening
-  pub open_turned : Turned s (open_events s m) (with_scope s m)
-  open_turned =
-      let none : s.remembered m ≡ None = between.unread m closed_now.1 in
-      let same : open_events s m ≡ ReadsEpoch m ∷ Opens m ∷ [] = ap (λ (o : Option ℕ). if is_some o then Opens m ∷ [] else ReadsEpoch m ∷ Opens m ∷ []) none in
-      let end : after_events s (ReadsEpoch m ∷ Opens m ∷ []) ≡ begun = made_first s (ReadsEpoch m) (Opens m ∷ []) read_legal ∙ made_first read (Opens m) [] open_legal in
-      let begins : begun ≡ with_scope s m =
-      ap (λ (o : Option ℕ). record read { scope = put s.scope m (scope_word_of o) }) read_now
-      ∙ ap (λ (o : Option ℕ). record s { remembered = put s.remembered m (Some (epoch_for o s.epoch)); scope = put s.scope m (scope_word_of (Some (epoch_for o s.epoch))) }) (sym none) in
-      subst (λ es. Turned s es (with_scope s m)) (sym same) record {
-        succeed = first_succeeds s (ReadsEpoch m) (Opens m ∷ []) read_legal tt (first_succeeds read (Opens m) [] open_legal tt tt);
-        between = subst Between (sym end) begun_between;
-        law = made_law s (ReadsEpoch m ∷ Opens m ∷ []) law (tt, (tt, tt));
-        fit = (tt, (tt, tt));
-        ends = end ∙ begins;
-      }
+pub open_turned : (s : State) (m : ℕ) → Law s → Between s → (m < s.mutators) × (s.scope m ≡ 0) → Turned s (open_events s m) (with_scope s m)
+open_turned s m law between closed_now = open_at s m (s.remembered m) law between closed_now refl
 
 -- the event of a closing
 close_turned : (s : State) (m : ℕ) → Law s → Between s → is_opened s m ≡ true → Turned s (Closes m ∷ []) (after_close s m)
@@ -499,8 +505,7 @@ close_turned s m law between opened =
     let held : ℕ → Option Place = λ p. cond (nat_eq (p / CELLS) m) None (s.held p) in
     record {
       succeed = first_succeeds s (Closes m) [] legal tt tt;
-      between = subst Between (sym end) (between_scopes s (put s.scope m 0) (put s.remembered m None) (λ p. cond (nat_eq (p / CELLS) m) None (s.held p)) between
-          (λ k z. put_both (λ (o : Option ℕ). o ≡ None) s.remembered m None k (λ _. refl) (λ ne. between.unread k (sym (put_other s.scope m 0 k ne) ∙ z))));
+      between = subst Between (sym end) (between_scopes s (put s.scope m 0) (put s.remembered m None) (λ p. cond (nat_eq (p / CELLS) m) None (s.held p)) between);
       law = made_law s (Closes m ∷ []) law (tt, tt);
       fit = (tt, tt);
       ends = end;
@@ -513,11 +518,7 @@ drop_turned s m p law between h =
     let within : m < s.mutators = ltb-true m s.mutators h.0 in
     let unheld : s.held p ≡ None = unheld_is (s.held p) h.2 in
     let ends = drop_ends s m p law within h.1 unheld in
-    let is = drop_is s m p law within h.1 unheld in
-    let after : Between (without_object s m p) = record {
-      at_hand = drop_hands s m p law within h.1 unheld between.at_hand;
-      unread = subst (λ (t : State). (k : ℕ) → t.scope k ≡ 0 → t.remembered k ≡ None) (sym is) between.unread;
-    } in
+    let after : Between (without_object s m p) = record { at_hand = drop_hands s m p law within h.1 unheld between.at_hand } in
     record {
       succeed = drop_succeeds s m p law within h.1 unheld;
       between = subst Between (sym ends) after;
@@ -552,6 +553,9 @@ command_turned s (Mutator m (New len ds)) law between small e = new_turned s m l
 command_turned s (Mutator m Open) law between small e =
     let h = two (nat_lt m s.mutators) (is_opened s m) Range AlreadyOpen e in
     open_turned s m law between (scope_is_shut s m h.0 h.1)
+command_turned s (Mutator m Epoch) law between small e =
+    let h = two (nat_lt m s.mutators) (is_opened s m) Range AlreadyOpen e in
+    read_turned s m law between (scope_is_shut s m h.0 h.1)
 command_turned s (Mutator m (Write p from bytes)) law between small e =
     let access = access_fact s m p from (length bytes) law between (reaches (nat_lt m s.mutators) (is_opened s m) (uses s m p) (is_range (object_len s p) from (length bytes)) (has_no_room s m p) e) in
     record {

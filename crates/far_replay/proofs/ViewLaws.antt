@@ -22,7 +22,7 @@ use Rattle.far_core.proofs.Leaving.{held_stays}
 use Rattle.far_core.proofs.Put.{put_same, put_other}
 use Rattle.far_replay.specs.Moment.{Moment, moment_of}
 use Rattle.far_replay.specs.Answers.{Answered, Commanded, IsMoment}
-use Rattle.far_text.specs.Command.{Command, New, Open, Write, Read, Close, Where, Drop, View, Try, Mutator, Book}
+use Rattle.far_text.specs.Command.{Command, New, Open, Write, Read, Close, Where, Drop, View, Try, Epoch, Mutator, Book}
 use Rattle.far_text.specs.Written.{WritesBytes, AllWriteBytes}
 use Rattle.far_replay.specs.Headline.{LogsStay, StayThrough, ViewsObject, ViewsNothing, ViewsAfter}
 use Rattle.far_replay.specs.EventRows.{after_events, Succeeds, ComesToPass}
@@ -143,6 +143,7 @@ made_views s (Mutator m (Where p)) ok = refl
 made_views s (Mutator m (Drop p)) ok = row_stays s (drop_events s m p) (drop_leaves_views s m p)
 made_views s (Mutator m (View p)) ok = view_made s m p (s.held p) refl ok
 made_views s (Mutator m (Try p)) ok = view_made s m p (s.held p) refl ok
+made_views s (Mutator m Epoch) ok = row_stays s (ReadsEpoch m ∷ []) (((λ _ _ e. absurd cc), (λ _ e. absurd cc)), tt)
 made_views s (Book inquiry) ok = refl
 
 -- the pin that found a mark leaves the views
@@ -164,6 +165,7 @@ refused_views s (Mutator m (Try p)) (Marked word) law e =
     let h = marked_last (nat_lt m s.mutators) (is_opened s m) (uses s m p) (is_slow s p) (s.cell p) word e in
     slow_stays s m p law h.1 h.2 h.3
 refused_views s (Mutator m (Try p)) why law e = refl
+refused_views s (Mutator m Epoch) why law e = refl
 refused_views s (Book inquiry) why law e = refl
 
 views_after : (s : State) (c : Command) (o : Option Refusal) → Law s → refusal (moment_of s) c ≡ o → Carries s (unless o (refused_events (moment_of s) c) (turn_events (moment_of s) c)) →
@@ -206,6 +208,7 @@ closes_last s (Mutator m (Where p)) = tt
 closes_last s (Mutator m (Drop p)) = none_closes (drop_events s m p) (no_close (drop_events s m p) (drop_leaves_views s m p))
 closes_last s (Mutator m (View p)) = view_closes_last s m p
 closes_last s (Mutator m (Try p)) = view_closes_last s m p
+closes_last s (Mutator m Epoch) = tt
 closes_last s (Book inquiry) = tt
 
 refused_closes_last : (s : State) (c : Command) (why : Refusal) → ClosesLast (refused_events (moment_of s) c why)

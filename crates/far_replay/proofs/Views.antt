@@ -249,7 +249,7 @@ module _ (s : State) (m p : ℕ) (law : Law s) (between : Between s) (opened : i
 
   -- a pin leaves what holds between commands
   pin_between : Between (after_pin s p)
-  pin_between = record { at_hand = pin_hand; unread = between.unread }
+  pin_between = record { at_hand = pin_hand }
 
   -- so does the view
   pub view_between : Between (after_events s (view_events s m p))

@@ -8,8 +8,8 @@ use Rattle.far_core.specs.world.World.{World, Object}
 use Rattle.far_core.specs.world.WorldOf.{world_of}
 use Rattle.far_book.specs.declared.home.Home.{Home}
 use Rattle.far_book.specs.declared.home.Home.TheVariants.{Near, Far}
-use Rattle.far_text.specs.Command.{Command, New, Open, Write, Read, Close, Where, Drop, View, Try, Mutator, Book}
-use Rattle.far_replay.specs.Reply.{Reply, Done, Pointer, Data, Lies, Refused}
+use Rattle.far_text.specs.Command.{Command, New, Open, Write, Read, Close, Where, Drop, View, Try, Epoch, Mutator, Book}
+use Rattle.far_replay.specs.Reply.{Reply, Done, Pointer, Data, Lies, EpochRead, Refused}
 use Rattle.far_replay.specs.Objects.{with_range}
 
 -- what a mutator knows of itself: whether its scope is open, the bytes of its objects, and which of them it views
@@ -73,6 +73,8 @@ Knows m o (Mutator _ (Try p)) Done q = (o.opened ≡ true) × (q ≡ record o { 
 Knows m o (Mutator _ (Try p)) (Refused Closed) q = (o.opened ≡ false) × (q ≡ o)
 Knows m o (Mutator _ (Try p)) (Refused NotHeld) q = (o.opened ≡ true) × (o.object p ≡ None) × (q ≡ o)
 Knows m o (Mutator _ (Try p)) (Refused (Marked word)) q = (o.opened ≡ true) × (o.viewed p ≡ false) × (q ≡ o) × ((all : List ℕ) × (o.object p ≡ Some all))
+Knows m o (Mutator _ Epoch) (EpochRead epoch) q = (o.opened ≡ false) × (q ≡ o)
+Knows m o (Mutator _ Epoch) (Refused AlreadyOpen) q = (o.opened ≡ true) × (q ≡ o)
 Knows m o _ _ q = ⊥
 
 -- whose command it is, none's for the logs

@@ -30,13 +30,13 @@ Answered now [] [] [] = Unit {0}
 Answered now (c ∷ cs) (r ∷ rs) (after ∷ moments) = Commanded now c r after × Answered after cs rs moments
 Answered now _ _ _ = ⊥
 
--- the shape that a heap line says: the first epoch is 0
-abbrev pub shape_of : ℕ → ℕ → Size
-shape_of logs mutators = record { logs = logs; mutators = mutators; epoch = 0 }
+-- the shape that a heap line says
+abbrev pub shape_of : ℕ → ℕ → ℕ → Size
+shape_of logs mutators epoch = record { logs = logs; mutators = mutators; epoch = epoch }
 
 -- the first moment of a heap
-abbrev pub first_moment : ℕ → ℕ → Moment
-first_moment logs mutators = moment_of (opening (shape_of logs mutators) true)
+abbrev pub first_moment : ℕ → ℕ → ℕ → Moment
+first_moment logs mutators epoch = moment_of (opening (shape_of logs mutators epoch) true)
 
 -- the moment after these commands
 abbrev pub moment_after : Moment → List Command → Moment
@@ -45,22 +45,22 @@ moment_after now (c ∷ cs) = moment_after (effect now c) cs
 
 -- a moment to which a heap in range comes by commands
 abbrev pub IsMoment : Moment → Type 0
-IsMoment now = (logs mutators : ℕ) × (cs : List Command) × (is_shape (shape_of logs mutators) ≡ true) × AllWriteBytes cs × (now ≡ moment_after (first_moment logs mutators) cs)
+IsMoment now = (logs mutators epoch : ℕ) × (cs : List Command) × (is_shape (shape_of logs mutators epoch) ≡ true) × AllWriteBytes cs × (now ≡ moment_after (first_moment logs mutators epoch) cs)
 
 -- the output of what a text is read as: off the grammar that refusal alone; for nothing nothing; for a heap out of range its
 -- refusal alone; else `ok` and the lines of the replies, from the heap's first moment on
 abbrev pub IsOutput : Result Trace ℕ → List ℕ → Type 0
 IsOutput (Err line) output = output ≡ reply_text (Refused (Syntax line))
 IsOutput (Ok Nothing) output = output ≡ []
-IsOutput (Ok (Heap logs mutators commands)) output =
-    MatchBool (is_shape (shape_of logs mutators))
-    ((replies : List Reply) × (moments : List Moment) × Answered (first_moment logs mutators) commands replies moments × (output ≡ flat_map reply_text (Done ∷ replies)))
+IsOutput (Ok (Heap logs mutators epoch commands)) output =
+    MatchBool (is_shape (shape_of logs mutators epoch))
+    ((replies : List Reply) × (moments : List Moment) × Answered (first_moment logs mutators epoch) commands replies moments × (output ≡ flat_map reply_text (Done ∷ replies)))
     (output ≡ reply_text (Refused Shape))
 
 -- how a text ends that is read so: `Ran` for nothing and for a heap in range
 abbrev pub end_of : Result Trace ℕ → End
 end_of (Ok Nothing) = Ran
-end_of (Ok (Heap logs mutators commands)) = if is_shape (shape_of logs mutators) then Ran else Turned
+end_of (Ok (Heap logs mutators epoch commands)) = if is_shape (shape_of logs mutators epoch) then Ran else Turned
 end_of (Err line) = Turned
 
 -- what was written is the output of what was read
@@ -69,7 +69,7 @@ WritesOutput old new read = (output : List ℕ) × IsOutput read output × Appen
 
 -- a heap of this shape may be refused memory
 abbrev pub MayMakeHeap : Result Trace ℕ → Type 0
-MayMakeHeap (Ok (Heap logs mutators commands)) = is_shape (shape_of logs mutators) ≡ true
+MayMakeHeap (Ok (Heap logs mutators epoch commands)) = is_shape (shape_of logs mutators epoch) ≡ true
 MayMakeHeap _ = ⊥
 
 -- what a fault leaves: a failed write, a proper prefix of the output; out of memory, nothing, or the one line that says so where

@@ -22,6 +22,10 @@ abbrev pub epoch_for : Option ℕ → ℕ → ℕ
 epoch_for None epoch = epoch
 epoch_for (Some e) epoch = e
 
+-- an owner has read the epoch
+abbrev pub with_epoch : State → ℕ → State
+with_epoch s m = record s { remembered = put s.remembered m (Some s.epoch) }
+
 -- an owner's scope is open
 abbrev pub with_scope : State → ℕ → State
 with_scope s m = let e : Option ℕ = Some (epoch_for (s.remembered m) s.epoch) in

@@ -13,7 +13,7 @@ use Rattle.far_core.specs.declared.event.Event.TheVariants.{ReadEpoch as ReadsEp
 use Rattle.far_core.specs.events.Step.{after}
 use Rattle.far_core.specs.state.Room.{room}
 use Rattle.far_core.specs.state.State.{State}
-use Rattle.far_text.specs.Command.{Command, New, Open, Write, Read, Close, Where, Drop, View, Try, Mutator, Book}
+use Rattle.far_text.specs.Command.{Command, New, Open, Write, Read, Close, Where, Drop, View, Try, Epoch, Mutator, Book}
 use Rattle.far_replay.specs.Effects.{near_word}
 use Rattle.far_replay.specs.Moment.{Moment}
 use Rattle.far_replay.specs.Objects.{data_of, with_range, lowest_cell}
@@ -82,6 +82,7 @@ turn_events now (Mutator m (Where p)) = []
 turn_events now (Mutator m (Drop p)) = drop_events now.core m p
 turn_events now (Mutator m (View p)) = view_events now.core m p
 turn_events now (Mutator m (Try p)) = view_events now.core m p
+turn_events now (Mutator m Epoch) = ReadsEpoch m ∷ []
 turn_events now (Book inquiry) = []
 
 -- a refused command makes no event, but the pin that found a mark. What a dereference makes beside its pin, where that gives no view, isn't told here yet: no command of today

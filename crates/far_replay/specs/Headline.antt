@@ -26,7 +26,7 @@ use Rattle.far_book.specs.declared.home.Home.{Home}
 use Rattle.far_book.specs.declared.home.Home.TheVariants.{Near, Far}
 use Rattle.far_replay.specs.Alone.{Alone, Knows, Learns, Own, nothing}
 use Rattle.far_replay.specs.Answers.{Answered, Answers, Commanded, IsMoment, shape_of, first_moment}
-use Rattle.far_text.specs.Command.{Command, Heap, CommandLine, New, Open, Write, Read, Close, Where, Drop, View, Try, Logs as AsksLogs, Log, Audit, Mutator, Book}
+use Rattle.far_text.specs.Command.{Command, Heap, CommandLine, New, Open, Write, Read, Close, Where, Drop, View, Try, Epoch, Logs as AsksLogs, Log, Audit, Mutator, Book}
 use Rattle.far_text.specs.Grammar.{trace_of}
 use Rattle.far_replay.specs.Moment.{Moment}
 use Rattle.far_replay.specs.EventRows.{after_events, AllPass, AllSucceed, AllComeToPass, AtHand, AllAtHand}
@@ -36,7 +36,7 @@ use Rattle.far_replay.specs.Objects.{with_range, uses}
 use Rattle.far_text.specs.Says.{Says}
 use Rattle.far_replay.specs.Stays.{MayMark, Stays}
 use Rattle.far_text.specs.Written.{WritesBytes, AllWriteBytes}
-use Rattle.far_replay.specs.Reply.{Reply, Done, Pointer, Data, Logs, Lies, Audited, Refused, LogLine, Counts, reply_text}
+use Rattle.far_replay.specs.Reply.{Reply, Done, Pointer, Data, Logs, Lies, Audited, EpochRead, Refused, LogLine, Counts, reply_text}
 
 -- a log in which a view rests in s isn't free in t
 abbrev pub LogStays : State → State → Type 0
@@ -105,6 +105,8 @@ MayRefuse (Mutator m (View p)) NotHeld = Unit {0}
 MayRefuse (Mutator m (Try p)) Range = Unit {0}
 MayRefuse (Mutator m (Try p)) Closed = Unit {0}
 MayRefuse (Mutator m (Try p)) NotHeld = Unit {0}
+MayRefuse (Mutator m Epoch) Range = Unit {0}
+MayRefuse (Mutator m Epoch) AlreadyOpen = Unit {0}
 MayRefuse (Book (Log l)) Range = Unit {0}
 MayRefuse c why = ⊥
 
@@ -221,6 +223,7 @@ IsToldInFull (Data bytes) = IsBytes bytes
 IsToldInFull (Logs lines) = AreToldInFull lines
 IsToldInFull (Lies home) = IsHomeToldInFull home
 IsToldInFull (Audited counts) = AreCountsToldInFull counts
+IsToldInFull (EpochRead epoch) = epoch < 2 ^ 64
 IsToldInFull (Refused why) = IsRefusalToldInFull why
 
 -- ---- the laws
@@ -237,21 +240,21 @@ LinesAreNumbered = (words : List (List ℕ)) (c : Command) (m : ℕ) → m < 2 ^
 -- what an output says, from its text on: where the text is read as a heap in range and commands, there are the replies and the moments of this output; the lines tell
 -- the replies in full; each moment has the law, and in it objects are whole; the logs in which views rest stay; and the replies to each mutator's lines are what its own
 -- lines alone say
-pub record IsSound (logs mutators : ℕ) (cs : List Command) (output : List ℕ) : Type 0 where
+pub record IsSound (logs mutators epoch : ℕ) (cs : List Command) (output : List ℕ) : Type 0 where
   pub replies : List Reply
   pub moments : List Moment
   pub bytes : AllWriteBytes cs
-  pub answered : Answered (first_moment logs mutators) cs replies moments
+  pub answered : Answered (first_moment logs mutators epoch) cs replies moments
   pub printed_so : output ≡ flat_map reply_text (Done ∷ replies)
   pub plain : All IsToldInFull replies
-  pub lawful : All Lawful (first_moment logs mutators ∷ moments)
-  pub whole : All (λ (now : Moment). IsWhole now.core) (first_moment logs mutators ∷ moments)
-  pub stay : LogsStay (first_moment logs mutators) cs moments
+  pub lawful : All Lawful (first_moment logs mutators epoch ∷ moments)
+  pub whole : All (λ (now : Moment). IsWhole now.core) (first_moment logs mutators epoch ∷ moments)
+  pub stay : LogsStay (first_moment logs mutators epoch) cs moments
   pub alone : (m : ℕ) → m < mutators → Alone m nothing cs replies
 
 abbrev pub OutputsAreSound : Type 0
-OutputsAreSound = (text output : List ℕ) (logs mutators : ℕ) (cs : List Command) → Answers text output → trace_of text ≡ Ok (Heap logs mutators cs) →
-    is_shape (shape_of logs mutators) ≡ true → IsSound logs mutators cs output
+OutputsAreSound = (text output : List ℕ) (logs mutators epoch : ℕ) (cs : List Command) → Answers text output → trace_of text ≡ Ok (Heap logs mutators epoch cs) →
+    is_shape (shape_of logs mutators epoch) ≡ true → IsSound logs mutators epoch cs output
 
 -- each text has an output
 abbrev pub EachTextIsAnswered : Type 0
@@ -263,7 +266,7 @@ OneOutput = (text a b : List ℕ) → Answers text a → Answers text b → a �
 
 -- what the commands of a text write is bytes
 abbrev pub TextsWriteBytes : Type 0
-TextsWriteBytes = (text : List ℕ) (logs mutators : ℕ) (cs : List Command) → trace_of text ≡ Ok (Heap logs mutators cs) → AllWriteBytes cs
+TextsWriteBytes = (text : List ℕ) (logs mutators epoch : ℕ) (cs : List Command) → trace_of text ≡ Ok (Heap logs mutators epoch cs) → AllWriteBytes cs
 
 -- what lasts: each moment after a heap and commands has the law, and its pointers at hand
 abbrev pub MomentsLast : Type 0
@@ -294,6 +297,21 @@ abbrev pub WhereTells : Type 0
 WhereTells = (now : Moment) (m p : ℕ) (r : Reply) (after : Moment) → Law now.core → m < now.core.mutators → Commanded now (Mutator m (Where p)) r after →
     (uses now.core m p ≡ true → (home : Home) × (r ≡ Lies home) × TellsHome now.core p home) × (uses now.core m p ≢ true → r ≡ Refused NotHeld)
 
+-- `epoch` of a mutator whose scope is open is refused 6; of any other it tells the heap's epoch, which the mutator remembers, and all else stays
+abbrev pub EpochsAreTold : Type 0
+EpochsAreTold = (now : Moment) (m : ℕ) (r : Reply) (after : Moment) → m < now.core.mutators → Commanded now (Mutator m Epoch) r after →
+    (is_opened now.core m ≡ true → r ≡ Refused AlreadyOpen)
+    × (is_opened now.core m ≡ false → (r ≡ EpochRead now.core.epoch) × (after.core ≡ record now.core { remembered = put now.core.remembered m (Some now.core.epoch) }))
+
+-- a scope opens at the epoch that its mutator remembers, or else at the heap's
+abbrev pub ScopesOpenAtEpochs : Type 0
+ScopesOpenAtEpochs = (now : Moment) (m : ℕ) (r : Reply) (after : Moment) → m < now.core.mutators → is_opened now.core m ≡ false → Commanded now (Mutator m Open) r after →
+    (r ≡ Done) × ((e : ℕ) → now.core.remembered m ≡ Some e → after.core.scope m ≡ 2 * e + 1) × (now.core.remembered m ≡ None → after.core.scope m ≡ 2 * now.core.epoch + 1)
+
+-- a close forgets it
+abbrev pub ClosesForget : Type 0
+ClosesForget = (now : Moment) (m : ℕ) (after : Moment) → Commanded now (Mutator m Close) Done after → after.core.remembered m ≡ None
+
 -- `log` of a log of the heap tells the line that `logs` has for it, and of any other is refused 8
 abbrev pub LogTellsItsLine : Type 0
 LogTellsItsLine = (now : Moment) (l : ℕ) (r : Reply) (after : Moment) → Commanded now (Book (Log l)) r after →
@@ -322,8 +340,8 @@ ViewedLogsStay = (now : Moment) (cs : List Command) (rs : List Reply) (moments :
 
 -- the replies to one mutator's lines are what its own lines alone say
 abbrev pub MutatorsAreAlone : Type 0
-MutatorsAreAlone = (logs mutators m : ℕ) (cs : List Command) (rs : List Reply) (moments : List Moment) → is_shape (shape_of logs mutators) ≡ true → m < mutators → AllWriteBytes cs →
-    Answered (first_moment logs mutators) cs rs moments → Alone m nothing cs rs
+MutatorsAreAlone = (logs mutators epoch m : ℕ) (cs : List Command) (rs : List Reply) (moments : List Moment) → is_shape (shape_of logs mutators epoch) ≡ true → m < mutators → AllWriteBytes cs →
+    Answered (first_moment logs mutators epoch) cs rs moments → Alone m nothing cs rs
 
 -- after each command a mutator knows what the heap says of it; a command of others changes nothing of that
 abbrev pub MutatorsLearn : Type 0
@@ -335,13 +353,13 @@ NearRefusals = (now : Moment) (c : Command) (r : Reply) (after : Moment) (why : 
 
 -- a heap in range begins with the numbers on its line, with the law, so that the laws above hold from its first moment on, and with nothing in it
 abbrev pub HeapsBeginLawful : Type 0
-HeapsBeginLawful = (logs mutators : ℕ) → is_shape (shape_of logs mutators) ≡ true →
-    ((first_moment logs mutators).core.logs ≡ logs) × ((first_moment logs mutators).core.mutators ≡ mutators) × Lawful (first_moment logs mutators) × IsWhole (first_moment logs mutators).core
-    × ((p : ℕ) → (first_moment logs mutators).core.cell p ≡ 0) × ((l : ℕ) → (first_moment logs mutators).core.tail l ≡ 0)
+HeapsBeginLawful = (logs mutators epoch : ℕ) → is_shape (shape_of logs mutators epoch) ≡ true →
+    ((first_moment logs mutators epoch).core.logs ≡ logs) × ((first_moment logs mutators epoch).core.mutators ≡ mutators) × ((first_moment logs mutators epoch).core.epoch ≡ epoch) × Lawful (first_moment logs mutators epoch) × IsWhole (first_moment logs mutators epoch).core
+    × ((p : ℕ) → (first_moment logs mutators epoch).core.cell p ≡ 0) × ((l : ℕ) → (first_moment logs mutators epoch).core.tail l ≡ 0)
 
 -- the shapes that a heap line may say, in numerals
 abbrev pub ShapesAre : Type 0
-ShapesAre = (logs mutators : ℕ) → (is_shape (shape_of logs mutators) ≡ true) ↔ ((2 ≤ logs) × (logs ≤ 64) × (1 ≤ mutators) × (mutators ≤ 8))
+ShapesAre = (logs mutators epoch : ℕ) → (is_shape (shape_of logs mutators epoch) ≡ true) ↔ ((2 ≤ logs) × (logs ≤ 64) × (1 ≤ mutators) × (mutators ≤ 8) × (epoch < 2 ^ 62))
 
 -- a new object's pointer is its owner's lowest cell that is 0
 abbrev pub NewTakesTheLowest : Type 0

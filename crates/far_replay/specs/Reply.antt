@@ -16,7 +16,7 @@ use Rattle.far_book.specs.declared.home.Home.TheVariants.{Near, Far}
 pub use Rattle.far_replay.specs.declared.reply.Counts.{Counts}
 pub use Rattle.far_replay.specs.declared.reply.LogLine.{LogLine}
 use Rattle.far_replay.specs.declared.reply.Reply.{Reply as Given}
-use Rattle.far_replay.specs.declared.reply.Reply.TheVariants.{Done as GivenDone, Pointer as GivenPointer, Data as GivenData, Logs as GivenLogs, Lies as GivenLies, Audited as GivenAudited, Refused as GivenRefused}
+use Rattle.far_replay.specs.declared.reply.Reply.TheVariants.{Done as GivenDone, Pointer as GivenPointer, Data as GivenData, Logs as GivenLogs, Lies as GivenLies, Audited as GivenAudited, EpochRead as GivenEpochRead, Refused as GivenRefused}
 
 pub data Reply : Type 0 where
   Done : Reply
@@ -25,6 +25,7 @@ pub data Reply : Type 0 where
   Logs : (lines : List LogLine) → Reply
   Lies : (home : Home) → Reply
   Audited : (counts : Counts) → Reply
+  EpochRead : (epoch : ℕ) → Reply
   Refused : (why : Refusal) → Reply
 
 abbrev pub kind_word : Kind → List ℕ
@@ -75,6 +76,7 @@ reply_text (Data bytes) = codes "data " ++ encode_lower bytes ++ codes "\n"
 reply_text (Logs lines) = flat_map log_text lines
 reply_text (Lies home) = home_printed home
 reply_text (Audited counts) = counts_printed counts
+reply_text (EpochRead epoch) = codes "epoch " ++ decimal epoch ++ codes "\n"
 reply_text (Refused why) = refusal_text why
 
 -- the reply that the code gives
@@ -85,6 +87,7 @@ reply_of (GivenData bytes) = Data bytes.now
 reply_of (GivenLogs lines) = Logs lines.now
 reply_of (GivenLies home) = Lies home
 reply_of (GivenAudited counts) = Audited counts
+reply_of (GivenEpochRead epoch) = EpochRead epoch
 reply_of (GivenRefused why) = Refused why
 
 -- no more bytes than an object has, and no more lines than a heap has logs
@@ -95,4 +98,5 @@ IsShort (Data bytes) = length bytes ≤ LONGEST
 IsShort (Logs lines) = length lines ≤ MOST_LOGS
 IsShort (Lies home) = Unit {0}
 IsShort (Audited counts) = Unit {0}
+IsShort (EpochRead epoch) = Unit {0}
 IsShort (Refused why) = Unit {0}

@@ -14,12 +14,12 @@ use Rattle.far_word.specs.Pointer.{read_of}
 use Rattle.far_book.specs.book.Home.{home_of}
 use Rattle.far_book.specs.declared.home.Home.{Home}
 use Rattle.far_replay.specs.Audit.{counts_of}
-use Rattle.far_text.specs.Command.{Command, New, Open, Write, Read, Close, Where, Drop, View, Try, Logs, Log, Audit, Mutator, Book}
+use Rattle.far_text.specs.Command.{Command, New, Open, Write, Read, Close, Where, Drop, View, Try, Epoch, Logs, Log, Audit, Mutator, Book}
 use Rattle.far_replay.specs.Dereference.{dereferenced, has_no_room, sought}
-use Rattle.far_replay.specs.Effects.{with_object, with_scope, with_view, is_slow, with_data, without_object}
+use Rattle.far_replay.specs.Effects.{with_object, with_epoch, with_scope, with_view, is_slow, with_data, without_object}
 use Rattle.far_replay.specs.Moment.{Moment}
 use Rattle.far_replay.specs.Objects.{uses, object_len, data_of, lowest_cell, is_range}
-use Rattle.far_replay.specs.Reply.{Reply, Done, Pointer, Data, Logs as Told, Lies, Audited, Refused, LogLine}
+use Rattle.far_replay.specs.Reply.{Reply, Done, Pointer, Data, Logs as Told, Lies, Audited, EpochRead, Refused, LogLine}
 
 -- ---- when a command is refused
 -- the causes by which it may be refused, in their order, each with its test
@@ -41,6 +41,7 @@ causes now (Mutator m (View p)) =
     (not (nat_lt m now.core.mutators), Range) ∷ (not (is_opened now.core m), Closed) ∷ (not (uses now.core m p), NotHeld) ∷ (has_no_room now.core m p, NoRoom) ∷ []
 causes now (Mutator m (Try p)) =
     (not (nat_lt m now.core.mutators), Range) ∷ (not (is_opened now.core m), Closed) ∷ (not (uses now.core m p), NotHeld) ∷ (is_slow now.core p, Marked (now.core.cell p)) ∷ []
+causes now (Mutator m Epoch) = (not (nat_lt m now.core.mutators), Range) ∷ (is_opened now.core m, AlreadyOpen) ∷ []
 causes now (Book Logs) = []
 causes now (Book (Log l)) = (not (nat_lt l now.core.logs), Range) ∷ []
 causes now (Book Audit) = []
@@ -70,6 +71,7 @@ turn_effect now (Mutator m (Where p)) = now
 turn_effect now (Mutator m (Drop p)) = record now { core = without_object now.core m p }
 turn_effect now (Mutator m (View p)) = record now { core = dereferenced now.core m p }
 turn_effect now (Mutator m (Try p)) = record now { core = with_view now.core p }
+turn_effect now (Mutator m Epoch) = record now { core = with_epoch now.core m }
 turn_effect now (Book inquiry) = now
 
 -- ---- the moment after a command that is refused: as before, but for the marks that it left
@@ -104,6 +106,7 @@ turn_reply now (Mutator m (Where p)) = home_reply (home_of (read_of (now.core.ce
 turn_reply now (Mutator m (Drop p)) = Done
 turn_reply now (Mutator m (View p)) = Done
 turn_reply now (Mutator m (Try p)) = Done
+turn_reply now (Mutator m Epoch) = EpochRead now.core.epoch
 turn_reply now (Book Logs) = Told (map (log_line now) (range_with_len 0 now.core.logs))
 turn_reply now (Book (Log l)) = Told (log_line now l ∷ [])
 turn_reply now (Book Audit) = Audited (counts_of now.core)

@@ -1,6 +1,6 @@
 //! What outputs say, over whole texts and whole lists of commands. No function here does anything when it runs.
 
-ghost use Rattle.far_replay.specs.Headline.{OutputsAreSound, OneOutput, EachTextIsAnswered, TextsWriteBytes, LinesAreNumbered, MomentsLast, EventsReach, ShapesAre, HeapsBeginLawful, ObjectsStayWhole, ViewedLogsStay, ViewsLast, RefusalsStay, RefusalsChangeNothing, TriesAreAnswered, UnknownMutatorsAreRefused, NearRefusals, MutatorsAreAlone, OwnLinesCount, MutatorsLearn, NewTakesTheLowest, NoneIsLeft, NewIsMade, NewMakesItsObject, CommandsTakeRoom, WritesChangeTheirRange, LogsAreTold, WhereTells, LogTellsItsLine, AuditCounts, DropEndsObject, PrintedAlike};
+ghost use Rattle.far_replay.specs.Headline.{OutputsAreSound, OneOutput, EachTextIsAnswered, TextsWriteBytes, LinesAreNumbered, MomentsLast, EventsReach, ShapesAre, HeapsBeginLawful, ObjectsStayWhole, ViewedLogsStay, ViewsLast, RefusalsStay, RefusalsChangeNothing, TriesAreAnswered, UnknownMutatorsAreRefused, NearRefusals, MutatorsAreAlone, OwnLinesCount, MutatorsLearn, NewTakesTheLowest, NoneIsLeft, NewIsMade, NewMakesItsObject, CommandsTakeRoom, WritesChangeTheirRange, LogsAreTold, WhereTells, LogTellsItsLine, AuditCounts, DropEndsObject, EpochsAreTold, ScopesOpenAtEpochs, ClosesForget, PrintedAlike};
 
 /// From a text on: its output, where it is read as a heap in range and commands, has a reply, which its lines tell in full,
 /// and a moment for each command. Each moment has the law, and in it objects are whole; through them the logs in which
@@ -18,7 +18,7 @@ pub fn texts_are_answered()
     ensures numbered { LinesAreNumbered }
 {}
 
-/// A heap line may say 2 to 64 logs and 1 to 8 mutators. The heap begins with them, with the law and with nothing in it.
+/// A heap line may say 2 to 64 logs, 1 to 8 mutators and a first epoch below 2^62. The heap begins with them, with the law and with nothing in it.
 /// After commands each moment has the law, its pointers at hand and its objects whole: each in use has exactly one place,
 /// each log's bytes are 1,024 in all, and no two pointers name one place. Each command is carried out by its events: they
 /// are legal, none is refused, they keep the law and what views rest on, and end in the moment after it. Where its object
@@ -101,4 +101,13 @@ pub fn inquiries_tell()
 /// and of any other pointer 7.
 pub fn drops_end_objects()
     ensures { DropEndsObject }
+{}
+
+/// `epoch` tells a mutator whose scope is closed the epoch of the heap, which it remembers, and nothing else changes; where its
+/// scope is open it is refused 6. A scope opens at the epoch that its mutator remembers, or else at the heap's; a close
+/// forgets it.
+pub fn epochs_are_told()
+    ensures told { EpochsAreTold }
+    ensures opens { ScopesOpenAtEpochs }
+    ensures forgotten { ClosesForget }
 {}

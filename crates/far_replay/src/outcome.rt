@@ -21,6 +21,8 @@ pub enum Outcome {
     /// Where an object is.
     Lies(Home),
     Audited(Counts),
+    /// The epoch that a mutator read.
+    EpochRead(u64),
     Refused(Refused),
 }
 
@@ -65,6 +67,7 @@ impl Scratch {
             Outcome::Logs(count) => Reply::Logs(&self.lines[..usize::from(count)]),
             Outcome::Lies(home) => Reply::Lies(home),
             Outcome::Audited(counts) => Reply::Audited(counts),
+            Outcome::EpochRead(epoch) => Reply::EpochRead(epoch),
             Outcome::Refused(why) => Reply::Refused(why),
         }
     }

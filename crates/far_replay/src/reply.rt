@@ -43,6 +43,8 @@ pub enum Reply<'a> {
     /// Where an object is.
     Lies(Home),
     Audited(Counts),
+    /// The epoch that a mutator read.
+    EpochRead(u64),
     Refused(Refused),
 }
 
@@ -189,6 +191,11 @@ impl Reply<'_> {
             Reply::Logs(lines) => push_logs(lines, out),
             Reply::Lies(home) => push_home(*home, out),
             Reply::Audited(counts) => push_counts(*counts, out),
+            Reply::EpochRead(epoch) => {
+                out.push(b"epoch ");
+                out.push_number(*epoch);
+                out.push(b"\n");
+            }
             Reply::Refused(why) => push_refused(*why, out),
         }
     }

@@ -135,10 +135,9 @@ fn answer_heap<W: Write>(
     shape: Shape,
     commands: &Commands,
 ) -> Result<End, RunFault>
-    requires first { shape.epoch ≡ 0 }
-    ensures answered { OnOk result (WritesOutput (W.contents writer.old) (W.contents writer.new) (Ok (Heap shape.logs shape.mutators commands.now))) }
-    ensures end { IfOk result (λ end. end ≡ end_of (Ok (Heap shape.logs shape.mutators commands.now))) }
-    ensures fault { IfErr result (λ fault. LeavesBehind fault (W.contents writer.old) (W.contents writer.new) (Ok (Heap shape.logs shape.mutators commands.now))) }
+    ensures answered { OnOk result (WritesOutput (W.contents writer.old) (W.contents writer.new) (Ok (Heap shape.logs shape.mutators shape.epoch commands.now))) }
+    ensures end { IfOk result (λ end. end ≡ end_of (Ok (Heap shape.logs shape.mutators shape.epoch commands.now))) }
+    ensures fault { IfErr result (λ fault. LeavesBehind fault (W.contents writer.old) (W.contents writer.new) (Ok (Heap shape.logs shape.mutators shape.epoch commands.now))) }
     ensures unread { result ≢ Err RunFault.Read }
     ensures memory { result ≡ Err RunFault.Memory → is_shape shape ≡ true }
 {
@@ -177,12 +176,13 @@ fn answer<W: Write>(
         Trace::Heap {
             logs,
             mutators,
+            epoch,
             commands,
         } => {
             let shape = Shape {
                 logs: *logs,
                 mutators: *mutators,
-                epoch: 0,
+                epoch: *epoch,
             };
             answer_heap(alloc, writer, replies, shape, commands)
         }

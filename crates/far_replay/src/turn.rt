@@ -24,6 +24,7 @@ ghost use Rattle.far_replay.specs.Moment.{moment_of, state_in};
 ghost use Rattle.far_replay.specs.Turn.{effect, access_causes, first_cause, reply_to, turn_reply, refusal, with_new};
 
 use crate::dropping::drop_object;
+use crate::epochs::read_epoch;
 use crate::events::{dereference, open};
 use crate::inquiries::{audit, find_object, tell_log, tell_logs};
 use crate::outcome::{Outcome, Scratch};
@@ -432,6 +433,7 @@ fn make_request(
         Request::Drop { pointer } => drop_object(book, owner, pointer),
         Request::View { pointer } => view_object(book, owner, pointer),
         Request::Try { pointer } => try_object(book, owner, pointer),
+        Request::Epoch => read_epoch(book, owner),
     }
 }
 

@@ -1,5 +1,5 @@
 -- What a line says: comments, commands, and lines off the grammar.
-use Rattle.std.proofs.Common.{◌≡◌, ℕ, ◌<◌, ◌≤◌, ◌+◌, ◌^◌, ◌==◌, ◌&&◌, suc, zero, nat_lt, nat_le, List, [], ◌∷◌, ◌++◌, length, take, drop, get_or, Option, Some, None, true, false, Bool, decimal, cond, sym, ◌∙◌, ap, refl, arith, below_more, add-one, append-nil, eq-eqb}
+use Rattle.std.proofs.Common.{◌≡◌, inl, inr, ℕ, ◌<◌, ◌≤◌, ◌+◌, ◌^◌, ◌==◌, ◌&&◌, suc, zero, nat_lt, nat_le, List, [], ◌∷◌, ◌++◌, length, take, drop, get_or, Option, Some, None, true, false, Bool, decimal, cond, sym, ◌∙◌, ap, refl, arith, below_more, add-one, append-nil, eq-eqb}
 use Rattle.std.specs.List.{list_all, join_with_byte}
 use Rattle.std.proofs.lemmas.Bool.{and_parts, le-leb, lt-leb}
 use Rattle.std.proofs.lemmas.Bool.Decides.{Decides-ltb, nat_tests}
@@ -11,7 +11,7 @@ use Rattle.std.proofs.lemmas.List.Splits.{join_with_byte-slice_split}
 use Rattle.std.proofs.Math.Seq.{drop-cons, drop-length, take-length}
 use Rattle.hex.specs.Hex.{is_hex_digit}
 use Rattle.hex.proofs.HexLemmas.{decode_of-ok}
-use Rattle.far_text.specs.Command.{Entry, HeapLine, CommandLine, New, Open, Write, Read, Close, Where, Drop, View, Try, Logs, Log, Audit, Mutator, Book}
+use Rattle.far_text.specs.Command.{Entry, HeapLine, CommandLine, New, Open, Write, Read, Close, Where, Drop, View, Try, Epoch, Logs, Log, Audit, Mutator, Book}
 use Rattle.far_text.specs.Says.{Says, Spells}
 use Rattle.far_text.specs.Grammar.{Line, Skipped, Saying, Bad, saying, line_of, is_plain, is_skipped, entry_of, lines_of, line_words}
 use Rattle.far_text.specs.Cursor.{front_of, first_line, lines_after_first, words_in}
@@ -47,7 +47,8 @@ spelled_ascii word bytes h = hex_ascii word (list_all-from_AllPass is_hex_digit 
 
 -- the words of an entry are ASCII
 said_ascii : (words : List (List ℕ)) (c : Entry) → Says words c → list_all (list_all is_ascii) words ≡ true
-said_ascii words (HeapLine l m) h = ap (list_all (list_all is_ascii)) h.0 ∙ rw (decimal_ascii l h.1, decimal_ascii m h.2) refl
+said_ascii words (HeapLine l m e) (inl h, first, second, third) = ap (list_all (list_all is_ascii)) h ∙ rw (decimal_ascii l first, decimal_ascii m second, decimal_ascii e third) refl
+said_ascii words (HeapLine l m e) (inr h, first, second, third) = ap (list_all (list_all is_ascii)) h.0 ∙ rw (decimal_ascii l first, decimal_ascii m second) refl
 said_ascii words (CommandLine (Mutator m (New l s))) h = ap (list_all (list_all is_ascii)) h.0 ∙ rw (decimal_ascii m h.1, decimal_ascii l h.2, decimal_ascii s h.3) refl
 said_ascii words (CommandLine (Mutator m Open)) h = ap (list_all (list_all is_ascii)) h.0 ∙ rw (decimal_ascii m h.1) refl
 said_ascii words (CommandLine (Mutator m (Write p f b))) h =
@@ -58,6 +59,7 @@ said_ascii words (CommandLine (Mutator m (Where p))) h = ap (list_all (list_all 
 said_ascii words (CommandLine (Mutator m (Drop p))) h = ap (list_all (list_all is_ascii)) h.0 ∙ rw (decimal_ascii m h.1, decimal_ascii p h.2) refl
 said_ascii words (CommandLine (Mutator m (View p))) h = ap (list_all (list_all is_ascii)) h.0 ∙ rw (decimal_ascii m h.1, decimal_ascii p h.2) refl
 said_ascii words (CommandLine (Mutator m (Try p))) h = ap (list_all (list_all is_ascii)) h.0 ∙ rw (decimal_ascii m h.1, decimal_ascii p h.2) refl
+said_ascii words (CommandLine (Mutator m Epoch)) h = ap (list_all (list_all is_ascii)) h.0 ∙ rw (decimal_ascii m h.1) refl
 said_ascii words (CommandLine (Book Logs)) h = ap (list_all (list_all is_ascii)) h
 said_ascii words (CommandLine (Book (Log l))) h = ap (list_all (list_all is_ascii)) h.0 ∙ rw (decimal_ascii l h.1) refl
 said_ascii words (CommandLine (Book Audit)) h = ap (list_all (list_all is_ascii)) h

@@ -12,7 +12,7 @@ use Rattle.far_text.specs.Command.{Command, Mutator, Write}
 use Rattle.far_text.specs.Records.{number_in, command_in, IsWithin, AreWithin}
 use Rattle.far_text.specs.Written.{WritesBytes}
 use Rattle.far_text.specs.declared.commands.Record.{Record}
-use Rattle.far_text.specs.declared.commands.Record.TheVariants.{New as NewRecord, Open as OpenRecord, Write as WriteRecord, Read as ReadRecord, Close as CloseRecord, Where as WhereRecord, Drop as DropRecord, View as ViewRecord, Try as TryRecord, Logs as LogsRecord, Log as LogRecord, Audit as AuditRecord}
+use Rattle.far_text.specs.declared.commands.Record.TheVariants.{New as NewRecord, Open as OpenRecord, Write as WriteRecord, Read as ReadRecord, Close as CloseRecord, Where as WhereRecord, Drop as DropRecord, View as ViewRecord, Try as TryRecord, Epoch as EpochRecord, Logs as LogsRecord, Log as LogRecord, Audit as AuditRecord}
 use Rattle.far_text.proofs.Reading.{map_append}
 
 -- the front of a room that new bytes were put into
@@ -56,6 +56,7 @@ module _ (old new : List ℕ) (kept : take (length old) new ≡ old) where
   command_stays (DropRecord m p) h = refl
   command_stays (ViewRecord m p) h = refl
   command_stays (TryRecord m p) h = refl
+  command_stays (EpochRecord m) h = refl
   command_stays LogsRecord h = refl
   command_stays (LogRecord l) h = refl
   command_stays AuditRecord h = refl
@@ -82,6 +83,7 @@ within_more a b h (WhereRecord m p) i = tt
 within_more a b h (DropRecord m p) i = tt
 within_more a b h (ViewRecord m p) i = tt
 within_more a b h (TryRecord m p) i = tt
+within_more a b h (EpochRecord m) i = tt
 within_more a b h LogsRecord i = tt
 within_more a b h (LogRecord l) i = tt
 within_more a b h AuditRecord i = tt
@@ -114,6 +116,7 @@ record_writes_bytes bytes small (WhereRecord m p) = tt
 record_writes_bytes bytes small (DropRecord m p) = tt
 record_writes_bytes bytes small (ViewRecord m p) = tt
 record_writes_bytes bytes small (TryRecord m p) = tt
+record_writes_bytes bytes small (EpochRecord m) = tt
 record_writes_bytes bytes small LogsRecord = tt
 record_writes_bytes bytes small (LogRecord l) = tt
 record_writes_bytes bytes small AuditRecord = tt

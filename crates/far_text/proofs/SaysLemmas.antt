@@ -1,10 +1,10 @@
 -- What words say, and what they are read as.
-use Rattle.std.proofs.Common.{◌≡◌, ◌⊎◌, inl, inr, ℕ, zero, suc, ◌<◌, ◌^◌, Bool, true, false, cond, List, [], ◌∷◌, Option, Some, None, codes, decimal, sym, ◌∙◌, ap, refl, subst}
+use Rattle.std.proofs.Common.{◌≡◌, ◌⊎◌, inl, inr, ℕ, zero, suc, ◌<◌, ◌^◌, Bool, true, false, cond, List, [], ◌∷◌, Option, Some, None, codes, decimal, sym, ◌∙◌, ap, refl, subst, arith}
 use Rattle.std.specs.Str.{bytes_eq}
 use Rattle.std.proofs.lemmas.Slice.Eq.{bytes_eq-Decides}
-use Rattle.far_text.specs.Command.{Entry, HeapLine, CommandLine, New, Open, Write, Read, Close, Where, Drop, View, Try, Logs, Log, Audit, Mutator, Book}
+use Rattle.far_text.specs.Command.{Entry, HeapLine, CommandLine, New, Open, Write, Read, Close, Where, Drop, View, Try, Epoch, Logs, Log, Audit, Mutator, Book}
 use Rattle.far_text.specs.Says.{Says, Spells}
-use Rattle.far_text.specs.Grammar.{asks_read, asks_write, asks_open, asks_close, asks_new, asks_where, asks_drop, asks_view, asks_try, asks_log, From, Operands, Numbers, NumbersAndBytes, number_of, bytes_in, next_number, last_bytes, numbers_then, entry_at_end, entry_from, table, found_in, entry_of, ◌>>=◌}
+use Rattle.far_text.specs.Grammar.{says_heap, asks_read, asks_write, asks_open, asks_close, asks_new, asks_where, asks_drop, asks_view, asks_try, asks_epoch, asks_log, From, Operands, Numbers, NumbersAndOneOr, NumbersAndBytes, number_of, bytes_in, next_number, last_bytes, numbers_then, one_or, entry_at_end, entry_from, table, found_in, entry_of, ◌>>=◌}
 use Rattle.far_text.proofs.Each.{Each}
 use Rattle.far_text.proofs.HexLemmas.{spelled_is_hex, hex_is_spelled}
 use Rattle.far_text.proofs.Numbers.{number_is, number_only}
@@ -15,11 +15,14 @@ said_is_read words (CommandLine (Mutator m (Write p f b))) h = ap entry_of h.1 �
 said_is_read words (CommandLine (Mutator m Open)) h = ap entry_of h.0 ∙ rw (number_is (decimal m) m h.1 refl) refl
 said_is_read words (CommandLine (Mutator m Close)) h = ap entry_of h.0 ∙ rw (number_is (decimal m) m h.1 refl) refl
 said_is_read words (CommandLine (Mutator m (New l k))) h = ap entry_of h.0 ∙ rw (number_is (decimal m) m h.1 refl, number_is (decimal l) l h.2 refl, number_is (decimal k) k h.3 refl) refl
-said_is_read words (HeapLine l m) h = ap entry_of h.0 ∙ rw (number_is (decimal l) l h.1 refl, number_is (decimal m) m h.2 refl) refl
+said_is_read words (HeapLine l m e) (inl h, first, second, third) = ap entry_of h ∙ rw (number_is (decimal l) l first refl, number_is (decimal m) m second refl, number_is (decimal e) e third refl) refl
+said_is_read words (HeapLine l m e) (inr h, first, second, third) =
+    ap entry_of h.0 ∙ rw (number_is (decimal l) l first refl, number_is (decimal m) m second refl) (ap (λ n. Some (HeapLine l m n)) (sym h.1))
 said_is_read words (CommandLine (Mutator m (Where p))) h = ap entry_of h.0 ∙ rw (number_is (decimal m) m h.1 refl, number_is (decimal p) p h.2 refl) refl
 said_is_read words (CommandLine (Mutator m (Drop p))) h = ap entry_of h.0 ∙ rw (number_is (decimal m) m h.1 refl, number_is (decimal p) p h.2 refl) refl
 said_is_read words (CommandLine (Mutator m (View p))) h = ap entry_of h.0 ∙ rw (number_is (decimal m) m h.1 refl, number_is (decimal p) p h.2 refl) refl
 said_is_read words (CommandLine (Mutator m (Try p))) h = ap entry_of h.0 ∙ rw (number_is (decimal m) m h.1 refl, number_is (decimal p) p h.2 refl) refl
+said_is_read words (CommandLine (Mutator m Epoch)) h = ap entry_of h.0 ∙ rw (number_is (decimal m) m h.1 refl) refl
 said_is_read words (CommandLine (Book Logs)) h = ap entry_of h
 said_is_read words (CommandLine (Book (Log l))) h = ap entry_of h.0 ∙ rw (number_is (decimal l) l h.1 refl) refl
 said_is_read words (CommandLine (Book Audit)) h = ap entry_of h
@@ -81,6 +84,18 @@ ended_then : (words : List (List ℕ)) (c d : Entry) → entry_at_end words c �
 ended_then [] c d e = (refl, cc e)
 ended_then (w ∷ words) c d e = absurd (cc e)
 
+zero_fits : 0 < 2 ^ 64
+zero_fits = omega arith
+
+-- what the last word is read as, if there is one, and what is made of it
+one_then : (make : ℕ → Entry) (words : List (List ℕ)) (c : Entry) → one_or 0 make words ≡ Some c
+    → (n : ℕ) × (n < 2 ^ 64) × ((words ≡ decimal n ∷ []) ⊎ ((words ≡ []) × (n ≡ 0))) × (make n ≡ c)
+one_then make [] c e = (0, zero_fits, inr (refl, refl), cc e)
+one_then make (w ∷ words) c e =
+    let (n, rest, small, is, last) = number_then (w ∷ words) (λ first. entry_at_end first.1 (make first.0)) c e in
+    let (none, same) = ended_then rest (make n) c last in
+    (n, small, inl (is ∙ ap (λ ws. decimal n ∷ ws) none), same)
+
 -- ---- the operands of a command
 numbers_only : (n : ℕ) (make : From n Entry) (words : List (List ℕ)) (c : Entry) → entry_from (Numbers n make) words ≡ Some c →
     (t : Several n) × Below n t × (words ≡ in_front n t []) × (made_of n make t ≡ c)
@@ -125,10 +140,16 @@ new_said words c e =
     let (t, b, is, same) = numbers_only 3 asks_new words c e in
     subst (Says (codes "new" ∷ words)) same (ap (λ ws. codes "new" ∷ ws) is, b.0, b.1.0, b.1.1.0)
 
-heap_said : IsSaid (codes "heap", Numbers 2 HeapLine)
+heap_said : IsSaid (codes "heap", NumbersAndOneOr 2 0 says_heap)
 heap_said words c e =
-    let (t, b, is, same) = numbers_only 2 HeapLine words c e in
-    subst (Says (codes "heap" ∷ words)) same (ap (λ ws. codes "heap" ∷ ws) is, b.0, b.1.0)
+    let (t, behind, b, is, last) = several_then 2 says_heap (one_or 0) words c e in
+    let (n, small, ends, same) = one_then (made_of 2 says_heap t) behind c last in
+    let front = λ (ws : List (List ℕ)) (k : behind ≡ ws). ap (λ vs. codes "heap" ∷ vs) (is ∙ ap (in_front 2 t) k) in
+    let said = elim ends as (λ _. (codes "heap" ∷ words ≡ codes "heap" ∷ in_front 2 t (decimal n ∷ [])) ⊎ ((codes "heap" ∷ words ≡ codes "heap" ∷ in_front 2 t []) × (n ≡ 0))) [
+      | inl k ↦ inl (front (decimal n ∷ []) k)
+      | inr k ↦ inr (front [] k.0, k.1)
+    ] in
+    subst (Says (codes "heap" ∷ words)) same (said, b.0, b.1.0, small)
 
 logs_said : IsSaid (codes "logs", Numbers 0 (CommandLine (Book Logs)))
 logs_said words c e =
@@ -155,6 +176,11 @@ view_said words c e =
     let (t, b, is, same) = numbers_only 2 asks_view words c e in
     subst (Says (codes "view" ∷ words)) same (ap (λ ws. codes "view" ∷ ws) is, b.0, b.1.0)
 
+epoch_said : IsSaid (codes "epoch", Numbers 1 asks_epoch)
+epoch_said words c e =
+    let (t, b, is, same) = numbers_only 1 asks_epoch words c e in
+    subst (Says (codes "epoch" ∷ words)) same (ap (λ ws. codes "epoch" ∷ ws) is, b.0)
+
 log_said : IsSaid (codes "log", Numbers 1 asks_log)
 log_said words c e =
     let (t, b, is, same) = numbers_only 1 asks_log words c e in
@@ -166,7 +192,7 @@ audit_said words c e =
     subst (Says (codes "audit" ∷ words)) same (ap (λ ws. codes "audit" ∷ ws) is)
 
 rows_said : Each IsSaid table
-rows_said = (read_said, (write_said, (open_said, (close_said, (new_said, (heap_said, (logs_said, (where_said, (drop_said, (view_said, (try_said, (log_said, (audit_said, tt)))))))))))))
+rows_said = (read_said, (write_said, (open_said, (close_said, (new_said, (heap_said, (logs_said, (where_said, (drop_said, (view_said, (try_said, (epoch_said, (log_said, (audit_said, tt))))))))))))))
 
 -- words that begin with a command's name
 named : (name word : List ℕ) (args : List (List ℕ)) (c : Entry) → bytes_eq name word ≡ true → Says (word ∷ args) c → Says (name ∷ args) c

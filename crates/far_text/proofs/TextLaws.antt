@@ -7,7 +7,7 @@ use Rattle.std.proofs.lemmas.Bool.Decides.{nat_tests}
 use Rattle.std.proofs.lemmas.List.Splits.{join_with_byte-slice_split}
 use Rattle.hex.proofs.HexLemmas.{decode_of-ok}
 use Rattle.far_text.specs.declared.text.TheConstants.{LONGEST_TEXT}
-use Rattle.far_text.specs.Command.{Command, Entry, HeapLine, CommandLine, Trace, Nothing, Heap, New, Open, Write, Read, Close, Where, Drop, View, Try, Mutator, Book}
+use Rattle.far_text.specs.Command.{Command, Entry, HeapLine, CommandLine, Trace, Nothing, Heap, New, Open, Write, Read, Close, Where, Drop, View, Try, Epoch, Mutator, Book}
 use Rattle.far_text.specs.Grammar.{Line, Skipped, Saying, Bad, line_of, lines_of, line_words, is_plain, is_skipped, saying, entry_of, trace_of, onto, with_heap, read_command, read_commands, read_heap, read_lines}
 use Rattle.far_text.specs.TraceText.{IsPassed, Speaks, LinesSay, LinesAre, TextSays, FirstBad, HaveNone}
 use Rattle.far_text.specs.Says.{Says}
@@ -97,13 +97,13 @@ onto_err : (c : Command) (later : Result (List Command) ℕ) (n : ℕ) → onto 
 onto_err c (Ok ds) n e = absurd cc
 onto_err c (Err m) n e = let same : m ≡ n = cc in ap Err same
 
-heap_ok : (logs mutators : ℕ) (later : Result (List Command) ℕ) (t : Trace) → with_heap logs mutators later ≡ Ok t → (cs : List Command) × (t ≡ Heap logs mutators cs) × (later ≡ Ok cs)
-heap_ok logs mutators (Ok cs) t e = (cs, cc, refl)
-heap_ok logs mutators (Err n) t e = absurd cc
+heap_ok : (logs mutators epoch : ℕ) (later : Result (List Command) ℕ) (t : Trace) → with_heap logs mutators epoch later ≡ Ok t → (cs : List Command) × (t ≡ Heap logs mutators epoch cs) × (later ≡ Ok cs)
+heap_ok logs mutators epoch (Ok cs) t e = (cs, cc, refl)
+heap_ok logs mutators epoch (Err n) t e = absurd cc
 
-heap_err : (logs mutators : ℕ) (later : Result (List Command) ℕ) (n : ℕ) → with_heap logs mutators later ≡ Err n → later ≡ Err n
-heap_err logs mutators (Ok cs) n e = absurd cc
-heap_err logs mutators (Err m) n e = let same : m ≡ n = cc in ap Err same
+heap_err : (logs mutators epoch : ℕ) (later : Result (List Command) ℕ) (n : ℕ) → with_heap logs mutators epoch later ≡ Err n → later ≡ Err n
+heap_err logs mutators epoch (Ok cs) n e = absurd cc
+heap_err logs mutators epoch (Err m) n e = let same : m ≡ n = cc in ap Err same
 
 -- the commands that lines say are read
 said_commands : (number : ℕ) (lines : List (List ℕ)) (cs : List Command) → LinesSay lines cs → read_commands number lines ≡ Ok cs
@@ -123,28 +123,28 @@ said_nothing number (line ∷ lines) (inl h) =
 said_nothing number (line ∷ lines) (inr h) = let odd : [] ≡ h.0 ∷ h.1 = h.2 in absurd cc
 
 -- a heap's line after them
-said_heap : (number : ℕ) (front : List (List ℕ)) (line : List ℕ) (rest : List (List ℕ)) (logs mutators : ℕ) (cs : List Command) → LinesSay front [] → Speaks line (HeapLine logs mutators) → LinesSay rest cs →
-    read_lines number (front ++ line ∷ rest) ≡ Ok (Heap logs mutators cs)
-said_heap number [] line rest logs mutators cs h speaks says =
-    ap (λ l. read_heap number l (read_lines (number + 1) rest) (read_commands (number + 1) rest)) (speaks_is line (HeapLine logs mutators) speaks)
-    ∙ ap (with_heap logs mutators) (said_commands (number + 1) rest cs says)
-said_heap number (first ∷ front) line rest logs mutators cs (inl h) speaks says =
+said_heap : (number : ℕ) (front : List (List ℕ)) (line : List ℕ) (rest : List (List ℕ)) (logs mutators epoch : ℕ) (cs : List Command) → LinesSay front [] → Speaks line (HeapLine logs mutators epoch) → LinesSay rest cs →
+    read_lines number (front ++ line ∷ rest) ≡ Ok (Heap logs mutators epoch cs)
+said_heap number [] line rest logs mutators epoch cs h speaks says =
+    ap (λ l. read_heap number l (read_lines (number + 1) rest) (read_commands (number + 1) rest)) (speaks_is line (HeapLine logs mutators epoch) speaks)
+    ∙ ap (with_heap logs mutators epoch) (said_commands (number + 1) rest cs says)
+said_heap number (first ∷ front) line rest logs mutators epoch cs (inl h) speaks says =
     ap (λ l. read_heap number l (read_lines (number + 1) (front ++ line ∷ rest)) (read_commands (number + 1) (front ++ line ∷ rest))) (passed_is first h.0)
-    ∙ said_heap (number + 1) front line rest logs mutators cs h.1 speaks says
-said_heap number (first ∷ front) line rest logs mutators cs (inr h) speaks says = let odd : [] ≡ h.0 ∷ h.1 = h.2 in absurd cc
+    ∙ said_heap (number + 1) front line rest logs mutators epoch cs h.1 speaks says
+said_heap number (first ∷ front) line rest logs mutators epoch cs (inr h) speaks says = let odd : [] ≡ h.0 ∷ h.1 = h.2 in absurd cc
 
 -- what lines say is read
 said_lines : (number : ℕ) (lines : List (List ℕ)) (t : Trace) → LinesAre lines t → read_lines number lines ≡ Ok t
 said_lines number lines Nothing h = said_nothing number lines h
-said_lines number lines (Heap logs mutators cs) (front, line, rest, whole, none, speaks, says) =
-    ap (read_lines number) whole ∙ said_heap number front line rest logs mutators cs none speaks says
+said_lines number lines (Heap logs mutators epoch cs) (front, line, rest, whole, none, speaks, says) =
+    ap (read_lines number) whole ∙ said_heap number front line rest logs mutators epoch cs none speaks says
 
 -- the commands that are read of lines, they say
 command_said : (number : ℕ) (line : List ℕ) (lines : List (List ℕ)) (cs : List Command) (l : Line) → line_of line ≡ l →
     ((ds : List Command) → read_commands (number + 1) lines ≡ Ok ds → LinesSay lines ds) →
     read_command number l (read_commands (number + 1) lines) ≡ Ok cs → LinesSay (line ∷ lines) cs
 command_said number line lines cs Skipped is rest e = inl (is_passed line is, rest cs e)
-command_said number line lines cs (Saying (HeapLine logs mutators)) is rest e = absurd cc
+command_said number line lines cs (Saying (HeapLine logs mutators epoch)) is rest e = absurd cc
 command_said number line lines cs (Saying (CommandLine c)) is rest e =
     let x = onto_ok c (read_commands (number + 1) lines) cs e in inr (c, x.0, x.1, is_speaks line (CommandLine c) is, rest x.0 x.2)
 command_said number line lines cs Bad is rest e = absurd cc
@@ -157,7 +157,7 @@ commands_said number (line ∷ lines) cs e = command_said number line lines cs (
 -- one line more in front, passed over
 passed_front : (line : List ℕ) (lines : List (List ℕ)) (t : Trace) → IsPassed line → LinesAre lines t → LinesAre (line ∷ lines) t
 passed_front line lines Nothing passed h = inl (passed, h)
-passed_front line lines (Heap logs mutators cs) passed (front, at, rest, whole, none, speaks, says) =
+passed_front line lines (Heap logs mutators epoch cs) passed (front, at, rest, whole, none, speaks, says) =
     (line ∷ front, at, rest, ap (λ ls. line ∷ ls) whole, inl (passed, none), speaks, says)
 
 -- what is read of lines, they say
@@ -165,15 +165,15 @@ line_said : (number : ℕ) (line : List ℕ) (lines : List (List ℕ)) (t : Trac
     ((u : Trace) → read_lines (number + 1) lines ≡ Ok u → LinesAre lines u) →
     read_heap number l (read_lines (number + 1) lines) (read_commands (number + 1) lines) ≡ Ok t → LinesAre (line ∷ lines) t
 line_said number line lines t Skipped is rest e = passed_front line lines t (is_passed line is) (rest t e)
-line_said number line lines t (Saying (HeapLine logs mutators)) is rest e =
-    let x = heap_ok logs mutators (read_commands (number + 1) lines) t e in
-    subst (LinesAre (line ∷ lines)) (sym x.1) ([], line, lines, refl, tt, is_speaks line (HeapLine logs mutators) is, commands_said (number + 1) lines x.0 x.2)
+line_said number line lines t (Saying (HeapLine logs mutators epoch)) is rest e =
+    let x = heap_ok logs mutators epoch (read_commands (number + 1) lines) t e in
+    subst (LinesAre (line ∷ lines)) (sym x.1) ([], line, lines, refl, tt, is_speaks line (HeapLine logs mutators epoch) is, commands_said (number + 1) lines x.0 x.2)
 line_said number line lines t (Saying (CommandLine c)) is rest e = absurd cc
 line_said number line lines t Bad is rest e = absurd cc
 
 lines_said : (number : ℕ) (lines : List (List ℕ)) (t : Trace) → read_lines number lines ≡ Ok t → LinesAre lines t
 lines_said number [] Nothing e = tt
-lines_said number [] (Heap logs mutators cs) e = absurd cc
+lines_said number [] (Heap logs mutators epoch cs) e = absurd cc
 lines_said number (line ∷ lines) t e = line_said number line lines t (line_of line) refl (λ u h. lines_said (number + 1) lines u h) e
 
 -- ---- whole texts
@@ -206,7 +206,7 @@ bad_command : (number : ℕ) (line : List ℕ) (lines : List (List ℕ)) (n : �
 bad_command number line lines n Skipped is rest e =
     let (front, bad, more, cs, whole, at, says, unpassed, unsaid) = rest e in
     (line ∷ front, bad, more, cs, ap (λ ls. line ∷ ls) whole, omega (arith, at), inl (is_passed line is, says), unpassed, unsaid)
-bad_command number line lines n (Saying (HeapLine logs mutators)) is rest e =
+bad_command number line lines n (Saying (HeapLine logs mutators epoch)) is rest e =
     let at : number ≡ n = cc in (
       [],
       line,
@@ -215,8 +215,8 @@ bad_command number line lines n (Saying (HeapLine logs mutators)) is rest e =
       refl,
       omega (arith, at),
       tt,
-      not_passed line (Saying (HeapLine logs mutators)) is (λ odd. cc),
-      λ c s. let odd : Saying (HeapLine logs mutators) ≡ Saying (CommandLine c) = sym is ∙ speaks_is line (CommandLine c) s in cc,
+      not_passed line (Saying (HeapLine logs mutators epoch)) is (λ odd. cc),
+      λ c s. let odd : Saying (HeapLine logs mutators epoch) ≡ Saying (CommandLine c) = sym is ∙ speaks_is line (CommandLine c) s in cc,
     )
 bad_command number line lines n (Saying (CommandLine c)) is rest e =
     let (front, bad, more, cs, whole, at, says, unpassed, unsaid) = rest (onto_err c (read_commands (number + 1) lines) n e) in
@@ -235,9 +235,9 @@ bad_line : (number : ℕ) (line : List ℕ) (lines : List (List ℕ)) (n : ℕ) 
 bad_line number line lines n Skipped is rest e =
     let (front, bad, more, t, whole, at, says, nothing) = rest e in
     (line ∷ front, bad, more, t, ap (λ ls. line ∷ ls) whole, omega (arith, at), passed_front line front t (is_passed line is) says, nothing)
-bad_line number line lines n (Saying (HeapLine logs mutators)) is rest e =
-    let (front, bad, more, cs, whole, at, says, unpassed, unsaid) = bad_commands (number + 1) lines n (heap_err logs mutators (read_commands (number + 1) lines) n e) in
-    (line ∷ front, bad, more, Heap logs mutators cs, ap (λ ls. line ∷ ls) whole, omega (arith, at), ([], line, front, refl, tt, is_speaks line (HeapLine logs mutators) is, says), (unpassed, unsaid))
+bad_line number line lines n (Saying (HeapLine logs mutators epoch)) is rest e =
+    let (front, bad, more, cs, whole, at, says, unpassed, unsaid) = bad_commands (number + 1) lines n (heap_err logs mutators epoch (read_commands (number + 1) lines) n e) in
+    (line ∷ front, bad, more, Heap logs mutators epoch cs, ap (λ ls. line ∷ ls) whole, omega (arith, at), ([], line, front, refl, tt, is_speaks line (HeapLine logs mutators epoch) is, says), (unpassed, unsaid))
 bad_line number line lines n (Saying (CommandLine c)) is rest e =
     let at : number ≡ n = cc in (
       [],
@@ -249,12 +249,12 @@ bad_line number line lines n (Saying (CommandLine c)) is rest e =
       tt,
       (
         not_passed line (Saying (CommandLine c)) is (λ odd. cc),
-        λ logs mutators s. let odd : Saying (CommandLine c) ≡ Saying (HeapLine logs mutators) = sym is ∙ speaks_is line (HeapLine logs mutators) s in cc,
+        λ logs mutators epoch s. let odd : Saying (CommandLine c) ≡ Saying (HeapLine logs mutators epoch) = sym is ∙ speaks_is line (HeapLine logs mutators epoch) s in cc,
       ),
     )
 bad_line number line lines n Bad is rest e =
     let at : number ≡ n = cc in
-    ([], line, lines, Nothing, refl, omega (arith, at), tt, (not_passed line Bad is (λ odd. cc), λ logs mutators s. let odd : Bad ≡ Saying (HeapLine logs mutators) = sym is ∙ speaks_is line (HeapLine logs mutators) s in cc))
+    ([], line, lines, Nothing, refl, omega (arith, at), tt, (not_passed line Bad is (λ odd. cc), λ logs mutators epoch s. let odd : Bad ≡ Saying (HeapLine logs mutators epoch) = sym is ∙ speaks_is line (HeapLine logs mutators epoch) s in cc))
 
 bad_first : (number : ℕ) (lines : List (List ℕ)) (n : ℕ) → read_lines number lines ≡ Err n → FirstBad number lines n
 bad_first number [] n e = absurd cc
@@ -283,6 +283,7 @@ words_write words (Mutator m (Where p)) h = tt
 words_write words (Mutator m (Drop p)) h = tt
 words_write words (Mutator m (View p)) h = tt
 words_write words (Mutator m (Try p)) h = tt
+words_write words (Mutator m Epoch) h = tt
 words_write words (Book inquiry) h = tt
 
 lines_write : (lines : List (List ℕ)) (cs : List Command) → LinesSay lines cs → AllWriteBytes cs
@@ -291,8 +292,8 @@ lines_write [] (c ∷ cs) h = absurd h
 lines_write (line ∷ lines) cs (inl h) = lines_write lines cs h.1
 lines_write (line ∷ lines) cs (inr h) = subst AllWriteBytes (sym h.2) (words_write (line_words line) h.0 h.3.1, lines_write lines h.1 h.4)
 
-pub texts_write : (text : List ℕ) (logs mutators : ℕ) (cs : List Command) → trace_of text ≡ Ok (Heap logs mutators cs) → AllWriteBytes cs
-texts_write text logs mutators cs e = let x = (texts_read text (Heap logs mutators cs)).1 e in lines_write x.1.2 cs x.1.6
+pub texts_write : (text : List ℕ) (logs mutators epoch : ℕ) (cs : List Command) → trace_of text ≡ Ok (Heap logs mutators epoch cs) → AllWriteBytes cs
+texts_write text logs mutators epoch cs e = let x = (texts_read text (Heap logs mutators epoch cs)).1 e in lines_write x.1.2 cs x.1.6
 
 -- ---- cuts
 -- the parts of a cut have no byte that cuts

@@ -5,7 +5,7 @@ use Rattle.far_text.specs.declared.command.Command.TheVariants.{Mutator as Spell
 use Rattle.far_text.specs.declared.command.Inquiry.{Inquiry as SpelledInquiry}
 use Rattle.far_text.specs.declared.command.Inquiry.TheVariants.{Logs as SpelledLogs, Log as SpelledLog, Audit as SpelledAudit}
 use Rattle.far_text.specs.declared.command.Request.{Request as SpelledRequest}
-use Rattle.far_text.specs.declared.command.Request.TheVariants.{New as SpelledNew, Open as SpelledOpen, Write as SpelledWrite, Read as SpelledRead, Close as SpelledClose, Where as SpelledWhere, Drop as SpelledDrop, View as SpelledView, Try as SpelledTry}
+use Rattle.far_text.specs.declared.command.Request.TheVariants.{New as SpelledNew, Open as SpelledOpen, Write as SpelledWrite, Read as SpelledRead, Close as SpelledClose, Where as SpelledWhere, Drop as SpelledDrop, View as SpelledView, Try as SpelledTry, Epoch as SpelledEpoch}
 
 -- what a mutator asks for
 pub data Request : Type 0 where
@@ -18,6 +18,7 @@ pub data Request : Type 0 where
   Drop : (pointer : ℕ) → Request
   View : (pointer : ℕ) → Request
   Try : (pointer : ℕ) → Request
+  Epoch : Request
 
 -- what the book is asked
 pub data Inquiry : Type 0 where
@@ -31,13 +32,13 @@ pub data Command : Type 0 where
 
 -- what the words of a line say
 pub data Entry : Type 0 where
-  HeapLine : (logs mutators : ℕ) → Entry
+  HeapLine : (logs mutators epoch : ℕ) → Entry
   CommandLine : (command : Command) → Entry
 
 -- what a text says
 pub data Trace : Type 0 where
   Nothing : Trace
-  Heap : (logs mutators : ℕ) (commands : List Command) → Trace
+  Heap : (logs mutators epoch : ℕ) (commands : List Command) → Trace
 
 -- what is asked so
 abbrev pub as_request : SpelledRequest → Request
@@ -50,6 +51,7 @@ as_request (SpelledWhere pointer) = Where pointer
 as_request (SpelledDrop pointer) = Drop pointer
 as_request (SpelledView pointer) = View pointer
 as_request (SpelledTry pointer) = Try pointer
+as_request SpelledEpoch = Epoch
 
 abbrev pub as_inquiry : SpelledInquiry → Inquiry
 as_inquiry SpelledLogs = Logs

@@ -3,7 +3,7 @@ use Rattle.std.specs.Prelude.{◌≡◌, ℕ, Bool, ◌&&◌, ◌^◌, nat_lt, n
 use Rattle.std.specs.Str.{bytes_eq}
 use Rattle.std.specs.Str.Parse.{digits_value}
 use Rattle.std.specs.List.{slice_split, list_all}
-use Rattle.far_text.specs.Command.{Command, Entry, HeapLine, CommandLine, Trace, Nothing, Heap, New, Open, Write, Read, Close, Where, Drop, View, Try, Logs, Log, Audit, Mutator, Book}
+use Rattle.far_text.specs.Command.{Command, Entry, HeapLine, CommandLine, Trace, Nothing, Heap, New, Open, Write, Read, Close, Where, Drop, View, Try, Epoch, Logs, Log, Audit, Mutator, Book}
 use Rattle.far_text.specs.HexWord.{is_hex_word, hex_bytes}
 use Rattle.far_text.specs.declared.hex_word.TheConstants.{LONGEST_LINE}
 use Rattle.far_text.specs.declared.text.TheConstants.{LONGEST_TEXT}
@@ -45,9 +45,10 @@ abbrev pub From : ℕ → Type 0 → Type 0
 From zero X = X
 From (suc n) X = ℕ → From n X
 
--- so many numbers and no more; or so many, a word in hex, and no more
+-- so many numbers and no more; or so many, and one more or none, which stands for the number that is named here; or so many, a word in hex, and no more
 pub data Operands : Type 0 where
   Numbers : (n : ℕ) (make : From n Entry) → Operands
+  NumbersAndOneOr : (n missing : ℕ) (make : From n (ℕ → Entry)) → Operands
   NumbersAndBytes : (n : ℕ) (make : From n (List ℕ → Entry)) → Operands
 
 -- what is made of n numbers and of the words after them
@@ -55,8 +56,14 @@ abbrev pub numbers_then : {X : Type 0} → (n : ℕ) → From n X → (X → Lis
 numbers_then zero make rest words = rest make words
 numbers_then (suc n) make rest words = next_number words >>= λ first. numbers_then n (make first.0) rest first.1
 
+-- what is made of one number and no more, or, where no words are left, of the one that is missing
+abbrev pub one_or : ℕ → (ℕ → Entry) → List (List ℕ) → Option Entry
+one_or missing make [] = Some (make missing)
+one_or missing make (word ∷ words) = next_number (word ∷ words) >>= λ first. entry_at_end first.1 (make first.0)
+
 abbrev pub entry_from : Operands → List (List ℕ) → Option Entry
 entry_from (Numbers n make) words = numbers_then n make (λ entry after. entry_at_end after entry) words
+entry_from (NumbersAndOneOr n missing make) words = numbers_then n make (one_or missing) words
 entry_from (NumbersAndBytes n make) words = numbers_then n make (λ entry after. last_bytes after >>= λ bytes. Some (entry bytes)) words
 
 -- ---- the lines by their names
@@ -88,6 +95,13 @@ asks_view m p = CommandLine (Mutator m (View p))
 abbrev pub asks_try : From 2 Entry
 asks_try m p = CommandLine (Mutator m (Try p))
 
+-- a heap's first epoch, if it is said, stands last
+abbrev pub says_heap : From 2 (ℕ → Entry)
+says_heap logs mutators = λ epoch. HeapLine logs mutators epoch
+
+abbrev pub asks_epoch : From 1 Entry
+asks_epoch m = CommandLine (Mutator m Epoch)
+
 abbrev pub asks_log : From 1 Entry
 asks_log log = CommandLine (Book (Log log))
 
@@ -98,12 +112,13 @@ table =
     ∷ (codes "open", Numbers 1 asks_open)
     ∷ (codes "close", Numbers 1 asks_close)
     ∷ (codes "new", Numbers 3 asks_new)
-    ∷ (codes "heap", Numbers 2 HeapLine)
+    ∷ (codes "heap", NumbersAndOneOr 2 0 says_heap)
     ∷ (codes "logs", Numbers 0 (CommandLine (Book Logs)))
     ∷ (codes "where", Numbers 2 asks_where)
     ∷ (codes "drop", Numbers 2 asks_drop)
     ∷ (codes "view", Numbers 2 asks_view)
     ∷ (codes "try", Numbers 2 asks_try)
+    ∷ (codes "epoch", Numbers 1 asks_epoch)
     ∷ (codes "log", Numbers 1 asks_log)
     ∷ (codes "audit", Numbers 0 (CommandLine (Book Audit)))
     ∷ []
@@ -153,7 +168,7 @@ onto command (Err number) = Err number
 -- what a line after the heap's makes of what the lines after it are read as: it is a command, or passed over
 abbrev pub read_command : ℕ → Line → Result (List Command) ℕ → Result (List Command) ℕ
 read_command number Skipped later = later
-read_command number (Saying (HeapLine logs mutators)) later = Err number
+read_command number (Saying (HeapLine logs mutators epoch)) later = Err number
 read_command number (Saying (CommandLine command)) later = onto command later
 read_command number Bad later = Err number
 
@@ -162,14 +177,14 @@ abbrev pub read_commands : ℕ → List (List ℕ) → Result (List Command) ℕ
 read_commands number [] = Ok []
 read_commands number (line ∷ lines) = read_command number (line_of line) (read_commands (number + 1) lines)
 
-abbrev pub with_heap : ℕ → ℕ → Result (List Command) ℕ → Result Trace ℕ
-with_heap logs mutators (Ok commands) = Ok (Heap logs mutators commands)
-with_heap logs mutators (Err number) = Err number
+abbrev pub with_heap : ℕ → ℕ → ℕ → Result (List Command) ℕ → Result Trace ℕ
+with_heap logs mutators epoch (Ok commands) = Ok (Heap logs mutators epoch commands)
+with_heap logs mutators epoch (Err number) = Err number
 
 -- what a line before any command makes of what the lines after it are read as, before a heap and after one: it is the heap's, or passed over
 abbrev pub read_heap : ℕ → Line → Result Trace ℕ → Result (List Command) ℕ → Result Trace ℕ
 read_heap number Skipped same later = same
-read_heap number (Saying (HeapLine logs mutators)) same later = with_heap logs mutators later
+read_heap number (Saying (HeapLine logs mutators epoch)) same later = with_heap logs mutators epoch later
 read_heap number (Saying (CommandLine command)) same later = Err number
 read_heap number Bad same later = Err number
 

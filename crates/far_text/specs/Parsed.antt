@@ -5,4 +5,4 @@ use Rattle.far_text.specs.declared.text.Trace.TheVariants.{Nothing as ParsedNoth
 
 abbrev pub as_trace : ParsedTrace → Trace
 as_trace ParsedNothing = Nothing
-as_trace (ParsedHeap logs mutators commands) = Heap logs mutators commands
+as_trace (ParsedHeap logs mutators epoch commands) = Heap logs mutators epoch commands

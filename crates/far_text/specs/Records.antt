@@ -1,9 +1,9 @@
 -- What stands in the records of commands.
 use Rattle.std.specs.Prelude.{ℕ, ◌+◌, ◌*◌, ◌≤◌, ◌^◌, List, [], ◌∷◌, slice_range}
-use Rattle.far_text.specs.Command.{Command, Mutator, Book, New, Open, Write, Read, Close, Where, Drop, View, Try, Logs, Log, Audit}
+use Rattle.far_text.specs.Command.{Command, Mutator, Book, New, Open, Write, Read, Close, Where, Drop, View, Try, Epoch, Logs, Log, Audit}
 use Rattle.far_text.specs.declared.commands.Number.{Number}
 use Rattle.far_text.specs.declared.commands.Record.{Record}
-use Rattle.far_text.specs.declared.commands.Record.TheVariants.{New as NewRecord, Open as OpenRecord, Write as WriteRecord, Read as ReadRecord, Close as CloseRecord, Where as WhereRecord, Drop as DropRecord, View as ViewRecord, Try as TryRecord, Logs as LogsRecord, Log as LogRecord, Audit as AuditRecord}
+use Rattle.far_text.specs.declared.commands.Record.TheVariants.{New as NewRecord, Open as OpenRecord, Write as WriteRecord, Read as ReadRecord, Close as CloseRecord, Where as WhereRecord, Drop as DropRecord, View as ViewRecord, Try as TryRecord, Epoch as EpochRecord, Logs as LogsRecord, Log as LogRecord, Audit as AuditRecord}
 
 abbrev pub number_in : Number → ℕ
 number_in n = n.high * 2 ^ 32 + n.low
@@ -20,6 +20,7 @@ command_in bytes (WhereRecord mutator pointer) = Mutator (number_in mutator) (Wh
 command_in bytes (DropRecord mutator pointer) = Mutator (number_in mutator) (Drop (number_in pointer))
 command_in bytes (ViewRecord mutator pointer) = Mutator (number_in mutator) (View (number_in pointer))
 command_in bytes (TryRecord mutator pointer) = Mutator (number_in mutator) (Try (number_in pointer))
+command_in bytes (EpochRecord mutator) = Mutator (number_in mutator) Epoch
 command_in bytes LogsRecord = Book Logs
 command_in bytes (LogRecord log) = Book (Log (number_in log))
 command_in bytes AuditRecord = Book Audit

@@ -26,8 +26,8 @@ LinesSay (line ∷ lines) cs =
 -- these lines say nothing; or one says the heap, those before it say nothing, and those after it say the commands
 abbrev pub LinesAre : List (List ℕ) → Trace → Type 0
 LinesAre lines Nothing = LinesSay lines []
-LinesAre lines (Heap logs mutators cs) = (front : List (List ℕ)) × (line : List ℕ) × (rest : List (List ℕ)) × (lines ≡ front ++ line ∷ rest)
-    × LinesSay front [] × Speaks line (HeapLine logs mutators) × LinesSay rest cs
+LinesAre lines (Heap logs mutators epoch cs) = (front : List (List ℕ)) × (line : List ℕ) × (rest : List (List ℕ)) × (lines ≡ front ++ line ∷ rest)
+    × LinesSay front [] × Speaks line (HeapLine logs mutators epoch) × LinesSay rest cs
 
 -- a text that is not too long and whose lines say this
 abbrev pub TextSays : List ℕ → Trace → Type 0
@@ -35,8 +35,8 @@ TextSays text t = (length text ≤ LONGEST_TEXT) × LinesAre (lines_of text) t
 
 -- a line that is neither passed over nor says what may stand here: the heap where nothing was said, a command after it
 abbrev pub SaysNothing : Trace → List ℕ → Type 0
-SaysNothing Nothing line = (¬ IsPassed line) × ((logs mutators : ℕ) → ¬ Speaks line (HeapLine logs mutators))
-SaysNothing (Heap logs mutators cs) line = (¬ IsPassed line) × ((c : Command) → ¬ Speaks line (CommandLine c))
+SaysNothing Nothing line = (¬ IsPassed line) × ((logs mutators epoch : ℕ) → ¬ Speaks line (HeapLine logs mutators epoch))
+SaysNothing (Heap logs mutators epoch cs) line = (¬ IsPassed line) × ((c : Command) → ¬ Speaks line (CommandLine c))
 
 -- line n of these, counted from a number on, is the first that says nothing
 abbrev pub FirstBad : ℕ → List (List ℕ) → ℕ → Type 0

@@ -5,10 +5,10 @@ ghost use Rattle.std.specs.Str.{bytes_eq};
 ghost use Rattle.std.specs.Option.{option_and_then};
 ghost use Rattle.far_text.specs.Command.{HeapLine, CommandLine, Book, Logs, Audit};
 ghost use Rattle.far_text.specs.Spelled.{entry_spelled};
-ghost use Rattle.far_text.specs.Grammar.{Numbers, NumbersAndBytes, asks_read, asks_write, asks_open, asks_close, asks_new, asks_where, asks_drop, asks_view, asks_try, asks_log, entry_from, entry_of, entry_at_end};
+ghost use Rattle.far_text.specs.Grammar.{Numbers, NumbersAndBytes, NumbersAndOneOr, says_heap, asks_read, asks_write, asks_open, asks_close, asks_new, asks_where, asks_drop, asks_view, asks_try, asks_epoch, asks_log, entry_from, entry_of, entry_at_end, one_or};
 ghost use Rattle.far_text.specs.Cursor.{words_in, words_left, lines_after_first, lines_after, lines_left};
 
-use crate::cursor::{Rest, last_bytes_of, next_number_of, word_first};
+use crate::cursor::{Rest, last_bytes_of, next_number_of, number_first, word_first};
 
 /// What a mutator asks for. The bytes of a write are digits in hex as far as they are only read, and not yet kept.
 #[derive(Clone, Copy)]
@@ -41,6 +41,7 @@ pub enum Request<'a> {
     Try {
         pointer: u64,
     },
+    Epoch,
 }
 
 /// What the book is asked.
@@ -61,7 +62,11 @@ pub enum Command<'a> {
 /// What a line of a trace says: the heap's numbers, or a command.
 #[derive(Clone, Copy)]
 pub enum Entry<'a> {
-    Heap { logs: u64, mutators: u64 },
+    Heap {
+        logs: u64,
+        mutators: u64,
+        epoch: u64,
+    },
     Command(Command<'a>),
 }
 
@@ -80,13 +85,40 @@ fn at_end<'a>(entry: Entry<'a>, rest: Rest<'a>) -> Option<Spelled<'a>>
     }
 }
 
+// A heap's line, where its first epoch, if it is said, ends it.
+fn heap_at_end(logs: u64, mutators: u64, rest: Rest<'_>) -> Option<Spelled<'_>>
+    ensures value { option_and_then (λ found. entry_spelled found.0) result ≡ one_or 0 (says_heap logs mutators) (words_left rest.entry) }
+    ensures lines { IfSome result (λ found. lines_left found.1 ≡ lines_after rest.entry) }
+{
+    match rest {
+        Rest::Lines(lines) => {
+            let epoch = 0;
+            let entry = Entry::Heap {
+                logs,
+                mutators,
+                epoch,
+            };
+            Some((entry, lines))
+        }
+        Rest::Words(text) => {
+            let (epoch, rest) = number_first(text)?;
+            let entry = Entry::Heap {
+                logs,
+                mutators,
+                epoch,
+            };
+            at_end(entry, rest)
+        }
+    }
+}
+
 fn heap_spelled(rest: Rest<'_>) -> Option<Spelled<'_>>
-    ensures value { option_and_then (λ found. entry_spelled found.0) result ≡ entry_from (Numbers 2 HeapLine) (words_left rest.entry) }
+    ensures value { option_and_then (λ found. entry_spelled found.0) result ≡ entry_from (NumbersAndOneOr 2 0 says_heap) (words_left rest.entry) }
     ensures lines { IfSome result (λ found. lines_left found.1 ≡ lines_after rest.entry) }
 {
     let (logs, rest) = next_number_of(rest)?;
     let (mutators, rest) = next_number_of(rest)?;
-    at_end(Entry::Heap { logs, mutators }, rest)
+    heap_at_end(logs, mutators, rest)
 }
 
 fn new_spelled(rest: Rest<'_>) -> Option<Spelled<'_>>
@@ -189,6 +221,15 @@ fn view_spelled(rest: Rest<'_>) -> Option<Spelled<'_>>
     at_end(Entry::Command(Command::Mutator { mutator, request }), rest)
 }
 
+fn epoch_spelled(rest: Rest<'_>) -> Option<Spelled<'_>>
+    ensures value { option_and_then (λ found. entry_spelled found.0) result ≡ entry_from (Numbers 1 asks_epoch) (words_left rest.entry) }
+    ensures lines { IfSome result (λ found. lines_left found.1 ≡ lines_after rest.entry) }
+{
+    let (mutator, rest) = next_number_of(rest)?;
+    let request = Request::Epoch;
+    at_end(Entry::Command(Command::Mutator { mutator, request }), rest)
+}
+
 fn log_spelled(rest: Rest<'_>) -> Option<Spelled<'_>>
     ensures value { option_and_then (λ found. entry_spelled found.0) result ≡ entry_from (Numbers 1 asks_log) (words_left rest.entry) }
     ensures lines { IfSome result (λ found. lines_left found.1 ≡ lines_after rest.entry) }
@@ -240,6 +281,9 @@ fn entry_by_name<'a>(name: &[u8], rest: Rest<'a>) -> Option<Spelled<'a>>
     }
     if is_name(name, b"try") {
         return try_spelled(rest);
+    }
+    if is_name(name, b"epoch") {
+        return epoch_spelled(rest);
     }
     if is_name(name, b"log") {
         return log_spelled(rest);

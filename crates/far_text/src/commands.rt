@@ -55,6 +55,7 @@ pub enum Record {
     Drop(Number, Number),
     View(Number, Number),
     Try(Number, Number),
+    Epoch(Number),
     Logs,
     Log(Number),
     Audit,
@@ -126,6 +127,7 @@ fn request_record(
         Request::Drop { pointer } => Record::Drop(m, Number::of(pointer)),
         Request::View { pointer } => Record::View(m, Number::of(pointer)),
         Request::Try { pointer } => Record::Try(m, Number::of(pointer)),
+        Request::Epoch => Record::Epoch(m),
     }))
 }
 
@@ -205,6 +207,7 @@ impl Record {
                 let pointer = pointer.value();
                 (mutator, Request::Try { pointer })
             }
+            Record::Epoch(mutator) => (mutator, Request::Epoch),
             Record::Logs => return Command::Book(Inquiry::Logs),
             Record::Log(log) => return Command::Book(Inquiry::Log { log: log.value() }),
             Record::Audit => return Command::Book(Inquiry::Audit),

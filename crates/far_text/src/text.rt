@@ -57,6 +57,7 @@ pub enum Trace {
     Heap {
         logs: u64,
         mutators: u64,
+        epoch: u64,
         commands: Commands,
     },
 }
@@ -66,6 +67,7 @@ pub enum Trace {
 struct HeapLine<'a> {
     logs: u64,
     mutators: u64,
+    epoch: u64,
     number: u64,
     lines: Option<&'a [u8]>,
 }
@@ -74,7 +76,7 @@ struct HeapLine<'a> {
 fn heap_line(text: &[u8]) -> Result<Option<HeapLine<'_>>, ParseError>
     requires short { length text.now ≤ LONGEST_TEXT }
     ensures none { result ≡ Ok None → read_lines 1 (lines_of text.now) ≡ Ok Nothing }
-    ensures heap { IfOk result (λ found. IfSome found (λ heap. read_lines 1 (lines_of text.now) ≡ with_heap heap.logs heap.mutators (read_commands (heap.number + 1) (lines_left heap.lines)))) }
+    ensures heap { IfOk result (λ found. IfSome found (λ heap. read_lines 1 (lines_of text.now) ≡ with_heap heap.logs heap.mutators heap.epoch (read_commands (heap.number + 1) (lines_left heap.lines)))) }
     ensures counted { IfOk result (λ found. IfSome found (λ heap. heap.number + length (lines_left heap.lines) ≤ LONGEST_TEXT + 1)) }
     ensures fault { IfErr result (λ e. IsFault e (read_lines 1 (lines_of text.now))) }
 {
@@ -87,9 +89,14 @@ fn heap_line(text: &[u8]) -> Result<Option<HeapLine<'_>>, ParseError>
         };
         if let Line::Said(entry) = line {
             return match entry {
-                Entry::Heap { logs, mutators } => Ok(Some(HeapLine {
+                Entry::Heap {
                     logs,
                     mutators,
+                    epoch,
+                } => Ok(Some(HeapLine {
+                    logs,
+                    mutators,
+                    epoch,
                     number,
                     lines: after,
                 })),
@@ -143,6 +150,7 @@ pub fn parse(alloc: Global, text: &[u8]) -> Result<Trace, ParseError>
     Ok(Trace::Heap {
         logs: heap.logs,
         mutators: heap.mutators,
+        epoch: heap.epoch,
         commands: commands_after(alloc, heap.number, heap.lines)?,
     })
 }

@@ -9,12 +9,13 @@ fn a_text_is_read(rt: HostRuntime) -> Result<(), Fail> {
     let Trace::Heap {
         logs,
         mutators,
+        epoch,
         commands,
     } = parse(rt.alloc(), text)?
     else {
         return Err("it says a heap".into());
     };
-    assert_eq!(rt; (logs, mutators), (4, 2));
+    assert_eq!(rt; (logs, mutators, epoch), (4, 2, 0));
     assert!(rt; commands.len() == 2);
     let Command::Mutator {
         mutator,

@@ -73,6 +73,11 @@ const REFUSED: &str = "\
 8 open 4294967296
 8 open 18446744073709551360
 8 open 18446744073709551615
+6 epoch 0
+8 epoch 2
+8 epoch 8
+8 epoch 256
+8 epoch 18446744073709551615
 5 close 1
 8 close 2
 8 close 3

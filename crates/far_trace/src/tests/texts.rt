@@ -23,7 +23,11 @@ const BAD_TEXTS: &str = "\
 1  
 1  # no comment
 1 heap 4
-1 heap 4 1 0
+1 heap 4 1 0 0
+1 heap 4 1 00
+1 heap 4 1 -1
+1 heap 4 1 0 
+1 heap 4 1 18446744073709551616
 3 heap 4 1//heap 4 1
 2 # the heap is missing/logs
 1 new 0 8 1/heap 4 1
@@ -62,7 +66,9 @@ const BAD_TEXTS: &str = "\
 2 heap 4 1/log 00
 2 heap 4 1/log 18446744073709551616
 2 heap 4 1/audit 0
-2 heap 4 1/epoch 0
+2 heap 4 1/epoch
+2 heap 4 1/epoch 0 0
+2 heap 4 1/epoch 00
 2 heap 4 1/LOGS
 2 heap 4 1/log
 2 heap 4 1/logss
@@ -90,7 +96,7 @@ fn one_bad_line_refuses_the_whole_text(rt: HostRuntime) -> Result<(), Fail> {
     Ok(())
 }
 
-const BAD_SHAPES: [&str; 14] = [
+const BAD_SHAPES: [&str; 17] = [
     "heap 0 0",
     "heap 0 1",
     "heap 1 1",
@@ -104,6 +110,9 @@ const BAD_SHAPES: [&str; 14] = [
     "heap 4 257",
     "heap 4 18446744073709551615",
     "heap 18446744073709551615 1",
+    "heap 4 1 4611686018427387904",
+    "heap 4 1 18446744073709551615",
+    "heap 1 1 0",
     "heap 18446744073709551615 18446744073709551615\nnew 0 8 1\nopen 0\nlogs\n",
 ];
 

@@ -19,7 +19,7 @@ returns-in_default-entry-clause-fault c =
     let entry = rw c.in-Said.is at c.in-Some-line_first.ensures.line in
     let line = rw c.in_default-entry.is at entry in
     sym reads ∙ ap (onto_all c.loop-lines.commands)
-    (after_line (c.loop-lines.number + 1) c.in-Some.text.now (Saying (HeapLine c.in_default-entry.field-0 c.in_default-entry.field-1)) (lines_left c.in-Some-line_first.after) line c.in-Some-line_first.ensures.lines)
+    (after_line (c.loop-lines.number + 1) c.in-Some.text.now (Saying (HeapLine c.in_default-entry.field-0 c.in_default-entry.field-1 c.in_default-entry.field-2)) (lines_left c.in-Some-line_first.after) line c.in-Some-line_first.ensures.lines)
 
 pub push-requires : goal.push-requires
 push-requires c =

@@ -50,7 +50,7 @@ returns-in-Heap-clause-heap c =
     let reads = rw c.in-Some.is at c.loop-lines.invariant.reads in
     let entry = rw c.in-Said.is at c.in-Some-line_first.ensures.line in
     let line = rw c.in-Heap.is at entry in
-    sym reads ∙ first_one (c.loop-lines.number + 1) c.in-Some.text.now (Saying (HeapLine c.in-Heap.logs c.in-Heap.mutators)) (lines_left c.in-Some-line_first.after) line c.in-Some-line_first.ensures.lines
+    sym reads ∙ first_one (c.loop-lines.number + 1) c.in-Some.text.now (Saying (HeapLine c.in-Heap.logs c.in-Heap.mutators c.in-Heap.epoch)) (lines_left c.in-Some-line_first.after) line c.in-Some-line_first.ensures.lines
 
 pub returns-in-Heap-clause-counted : goal.returns-in-Heap-clause-counted
 returns-in-Heap-clause-counted c =
