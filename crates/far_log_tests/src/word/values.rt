@@ -2,22 +2,31 @@
 
 use super::NO_MARKS;
 use far_word::{HeadWord, Mark, Marks, Place, PtrWord, Refused, ScopeWord};
-use std::fmt::Debug;
-use std::process::Abort;
 use std::test::*;
 
-// Compares each two of some values, no two of which are the same.
-fn all_differ<T: Copy + Debug + PartialEq>(rt: &impl Abort, values: &[T]) {
-    for (i, left) in values.iter().enumerate() {
-        assert_eq!(rt; left == left, true, "{left:?}");
-        assert_eq!(rt; left != left, false, "{left:?}");
-        for right in &values[..i] {
-            assert_eq!(rt; left == right, false, "{left:?} and {right:?}");
-            assert_eq!(rt; left != right, true, "{left:?} and {right:?}");
-            assert_eq!(rt; right == left, false, "{right:?} and {left:?}");
-            assert_eq!(rt; right != left, true, "{right:?} and {left:?}");
+// Whether two values are different both ways, by each of the two comparisons.
+fn differ<T: PartialEq>(left: &T, right: &T) -> bool {
+    !(left == right) && left != right && !(right == left) && right != left
+}
+
+// Whether a value is equal to itself, and different from each of these.
+fn is_new<T: PartialEq>(value: &T, others: &[T]) -> bool {
+    for other in others {
+        if !differ(value, other) {
+            return false;
         }
     }
+    value == value && !(value != value)
+}
+
+// Whether no two of some values are the same.
+fn all_differ<T: PartialEq>(values: &[T]) -> bool {
+    for (i, value) in values.iter().enumerate() {
+        if !is_new(value, &values[..i]) {
+            return false;
+        }
+    }
+    true
 }
 
 const PLACE: Place = Place { log: 3, at: 5 };
@@ -44,16 +53,13 @@ const MARKS: [Marks; 5] = [
 
 #[test]
 fn places(rt: HostRuntime) {
-    all_differ(
-        &rt,
-        &[PLACE, Place { log: 4, ..PLACE }, Place { at: 6, ..PLACE }],
-    );
+    assert!(rt; all_differ(&[PLACE, Place { log: 4, ..PLACE }, Place { at: 6, ..PLACE }]));
 }
 
 #[test]
 fn marks(rt: HostRuntime) {
-    all_differ(&rt, &MARKS);
-    all_differ(&rt, &[Mark::Hot, Mark::Evac, Mark::Moved, Mark::Dropped]);
+    assert!(rt; all_differ(&MARKS));
+    assert!(rt; all_differ(&[Mark::Hot, Mark::Evac, Mark::Moved, Mark::Dropped]));
 }
 
 fn near(len: u16, ds: u8, place: Place, marks: Marks) -> PtrWord {
@@ -69,30 +75,30 @@ fn far(len: u16, ds: u8, marks: Marks) -> PtrWord {
     PtrWord::Far { len, ds, marks }
 }
 
+// Near ones that differ in one field, and far ones, and none.
 #[test]
 fn pointers(rt: HostRuntime) {
-    all_differ(
-        &rt,
-        &[
-            PtrWord::Free,
-            near(8, 1, PLACE, NO_MARKS),
+    let base = near(8, 1, PLACE, NO_MARKS);
+    let gone = far(8, 1, NO_MARKS);
+    assert!(rt;
+        all_differ(&[
+            base,
             near(9, 1, PLACE, NO_MARKS),
             near(8, 2, PLACE, NO_MARKS),
             near(8, 1, Place { log: 4, ..PLACE }, NO_MARKS),
             near(8, 1, Place { at: 6, ..PLACE }, NO_MARKS),
             near(8, 1, PLACE, MARKS[1]),
-            near(8, 1, PLACE, MARKS[2]),
-            near(8, 1, PLACE, MARKS[3]),
-            near(8, 1, PLACE, MARKS[4]),
-            far(8, 1, NO_MARKS),
+        ])
+    );
+    assert!(rt;
+        all_differ(&[
+            gone,
             far(9, 1, NO_MARKS),
             far(8, 2, NO_MARKS),
             far(8, 1, MARKS[1]),
-            far(8, 1, MARKS[2]),
-            far(8, 1, MARKS[3]),
-            far(8, 1, MARKS[4]),
-        ],
+        ])
     );
+    assert!(rt; all_differ(&[PtrWord::Free, base, gone]));
 }
 
 #[test]
@@ -102,35 +108,32 @@ fn headers(rt: HostRuntime) {
         len: 8,
         ds: 1,
     };
-    all_differ(
-        &rt,
-        &[
+    assert!(rt;
+        all_differ(&[
             head,
             HeadWord { pointer: 6, ..head },
             HeadWord { len: 9, ..head },
             HeadWord { ds: 2, ..head },
-        ],
+        ])
     );
 }
 
 #[test]
 fn scopes(rt: HostRuntime) {
-    all_differ(
-        &rt,
-        &[
+    assert!(rt;
+        all_differ(&[
             ScopeWord::Closed,
             ScopeWord::Open { epoch: 0 },
             ScopeWord::Open { epoch: 1 },
             ScopeWord::Open { epoch: 1 << 61 },
-        ],
+        ])
     );
 }
 
 #[test]
 fn refusals(rt: HostRuntime) {
-    all_differ(
-        &rt,
-        &[
+    assert!(rt;
+        all_differ(&[
             Refused::Memory,
             Refused::NoRoom,
             Refused::NoPointer,
@@ -154,6 +157,6 @@ fn refusals(rt: HostRuntime) {
             Refused::StillOpen(1, 1),
             Refused::StillOpen(1, 2),
             Refused::StillOpen(2, 1),
-        ],
+        ])
     );
 }

@@ -16,91 +16,110 @@ fn near(log: u8, at: u16, marks: Marks) -> PtrWord {
     }
 }
 
+// Whether a word is read as this, which is packed to the word again.
+fn is_pointer(word: u64, pointer: PtrWord) -> bool {
+    match PtrWord::read(word) {
+        Some(read) => read == pointer && read.pack() == word,
+        None => false,
+    }
+}
+
 #[test]
-fn pointer_words(rt: HostRuntime) -> Result<(), Fail> {
+fn pointer_words(rt: HostRuntime) {
     let far = PtrWord::Far {
         len: 8,
         ds: 1,
         marks: NO_MARKS,
     };
-    for (word, pointer) in [
-        (0, PtrWord::Free),
-        (0x8400_0000_0001_0008, near(0, 0, NO_MARKS)),
-        (0x8400_0000_0201_0008, near(0, 2, NO_MARKS)),
-        (0x8400_0004_0001_0008, near(1, 0, NO_MARKS)),
-        (0xc400_0000_0001_0008, near(0, 0, HOT)),
-        (0xe400_0000_0001_0008, near(0, 0, HOT_EVAC)),
-        (0x0400_0000_0001_0008, far),
-    ] {
-        let read = PtrWord::read(word).ok_or("the word lies on the layout")?;
-        assert_eq!(rt; read, pointer, "at {word:016x}");
-        assert_eq!(rt; read.pack(), word, "at {word:016x}");
+    assert!(rt; is_pointer(0, PtrWord::Free));
+    assert!(rt; is_pointer(0x8400_0000_0001_0008, near(0, 0, NO_MARKS)));
+    assert!(rt; is_pointer(0x8400_0000_0201_0008, near(0, 2, NO_MARKS)));
+    assert!(rt; is_pointer(0x8400_0004_0001_0008, near(1, 0, NO_MARKS)));
+    assert!(rt; is_pointer(0xc400_0000_0001_0008, near(0, 0, HOT)));
+    assert!(rt; is_pointer(0xe400_0000_0001_0008, near(0, 0, HOT_EVAC)));
+    assert!(rt; is_pointer(0x0400_0000_0001_0008, far));
+}
+
+// Whether a word is read as the header of an object of 8 bytes that this pointer names, and packed again.
+fn is_header(word: u64, pointer: u16) -> bool {
+    let head = HeadWord {
+        pointer,
+        len: 8,
+        ds: 1,
+    };
+    match HeadWord::read(word) {
+        Some(read) => read == head && read.pack() == word,
+        None => false,
     }
-    Ok(())
 }
 
 #[test]
-fn header_words(rt: HostRuntime) -> Result<(), Fail> {
-    for (word, pointer) in [(0xa100_0000_0001_0008, 0), (0xa100_0000_0101_0008, 1)] {
-        let read = HeadWord::read(word).ok_or("the word lies on the layout")?;
-        let head = HeadWord {
-            pointer,
-            len: 8,
-            ds: 1,
-        };
-        assert_eq!(rt; read, head, "at {word:016x}");
-        assert_eq!(rt; read.pack(), word, "at {word:016x}");
+fn header_words(rt: HostRuntime) {
+    assert!(rt; is_header(0xa100_0000_0001_0008, 0));
+    assert!(rt; is_header(0xa100_0000_0101_0008, 1));
+}
+
+// Whether a word is read as this scope's, and packed again.
+fn is_scope(word: u64, scope: ScopeWord) -> bool {
+    match ScopeWord::read(word) {
+        Some(read) => read == scope && read.pack() == word,
+        None => false,
     }
-    Ok(())
 }
 
 #[test]
-fn scope_words(rt: HostRuntime) -> Result<(), Fail> {
-    for (word, scope) in [
-        (0, ScopeWord::Closed),
-        (1, ScopeWord::Open { epoch: 0 }),
-        (
-            0x7fff_ffff_ffff_ffff,
-            ScopeWord::Open {
-                epoch: (1 << 62) - 1,
-            },
-        ),
-    ] {
-        let read = ScopeWord::read(word).ok_or("the word lies on the layout")?;
-        assert_eq!(rt; read, scope, "at {word:016x}");
-        assert_eq!(rt; read.pack(), word, "at {word:016x}");
+fn scope_words(rt: HostRuntime) {
+    let last = (1 << 62) - 1;
+    assert!(rt; is_scope(0, ScopeWord::Closed));
+    assert!(rt; is_scope(1, ScopeWord::Open { epoch: 0 }));
+    assert!(rt; is_scope(0x7fff_ffff_ffff_ffff, ScopeWord::Open { epoch: last }));
+}
+
+fn none_is_pointer(words: &[u64]) -> bool {
+    for word in words {
+        if PtrWord::read(*word).is_some() {
+            return false;
+        }
     }
-    Ok(())
+    true
+}
+
+fn none_is_header(words: &[u64]) -> bool {
+    for word in words {
+        if HeadWord::read(*word).is_some() {
+            return false;
+        }
+    }
+    true
 }
 
 #[test]
 fn words_off_the_layout(rt: HostRuntime) {
-    for word in [
-        0x0000_0000_0001_0008,
-        0x8400_0000_0001_0000,
-        0x8400_0000_0001_03f9,
-        0x8400_0000_7f01_0008,
-        0x0400_0000_0101_0008,
-        0x2400_0000_0001_0008,
-        0x8400_0100_0001_0008,
-        0x8400_0400_0001_0008,
-        0x8600_0000_0001_0008,
-    ] {
-        assert_eq!(rt; PtrWord::read(word), None, "at {word:016x}");
-    }
-    for word in [
-        0,
-        0x8400_0000_0001_0008,
-        0xa000_0000_0001_0008,
-        0xa100_0000_0001_0000,
-        0xa100_0000_0001_03f9,
-        0xa100_0004_0001_0008,
-    ] {
-        assert_eq!(rt; HeadWord::read(word), None, "at {word:016x}");
-    }
-    for word in [2, 0x8000_0000_0000_0001] {
-        assert_eq!(rt; ScopeWord::read(word), None, "at {word:016x}");
-    }
+    assert!(rt;
+        none_is_pointer(&[
+            0x0000_0000_0001_0008,
+            0x8400_0000_0001_0000,
+            0x8400_0000_0001_03f9,
+            0x8400_0000_7f01_0008,
+            0x0400_0000_0101_0008,
+            0x2400_0000_0001_0008,
+            0x8400_0100_0001_0008,
+            0x8400_0400_0001_0008,
+            0x8600_0000_0001_0008,
+        ])
+    );
+    assert!(rt;
+        none_is_header(&[
+            0,
+            0x8400_0000_0001_0008,
+            0xa000_0000_0001_0008,
+            0xa100_0000_0001_0000,
+            0xa100_0000_0001_03f9,
+            0xa100_0004_0001_0008,
+        ])
+    );
+    assert!(rt; ScopeWord::read(2).is_none());
+    assert!(rt; ScopeWord::read(0x8000_0000_0000_0001).is_none());
 }
 
 #[test]
@@ -123,100 +142,114 @@ fn no_bytes(rt: HostRuntime) {
     assert_eq!(rt; bytes, []);
 }
 
+// Whether a view may rest on each of these, or on none of them.
+fn all_rest(words: &[u64], wanted: bool) -> bool {
+    for word in words {
+        if rests_view(*word) != wanted {
+            return false;
+        }
+    }
+    true
+}
+
+fn has_mask(mark: Mark, mask: u64) -> bool {
+    mark.mask() == mask
+}
+
+// Whether an object takes so many words.
+fn takes(len: u16, words: u16) -> bool {
+    size_of(len) == words
+}
+
 #[test]
 fn marks_and_masks(rt: HostRuntime) {
-    for (mark, mask) in [
-        (Mark::Dropped, 0x0800_0000_0000_0000),
-        (Mark::Moved, 0x1000_0000_0000_0000),
-        (Mark::Evac, 0x2000_0000_0000_0000),
-        (Mark::Hot, 0x4000_0000_0000_0000),
-    ] {
-        assert_eq!(rt; mark.mask(), mask, "at {mark:?}");
-    }
-    for (word, rests) in [
-        (0x8400_0000_0001_0008, true),
-        (0xc400_0000_0001_0008, true),
-        (0xe400_0000_0001_0008, false),
-        (0x9400_0000_0001_0008, false),
-        (0x8c00_0000_0001_0008, false),
-        (0x0400_0000_0001_0008, false),
-        (0, false),
-    ] {
-        assert_eq!(rt; rests_view(word), rests, "at {word:016x}");
-    }
-    assert_eq!(rt;
-        without_owner_marks(0xfc00_0000_0001_0008),
-        0xa400_0000_0001_0008
+    assert!(rt; has_mask(Mark::Dropped, 0x0800_0000_0000_0000));
+    assert!(rt; has_mask(Mark::Moved, 0x1000_0000_0000_0000));
+    assert!(rt; has_mask(Mark::Evac, 0x2000_0000_0000_0000));
+    assert!(rt; has_mask(Mark::Hot, 0x4000_0000_0000_0000));
+    assert!(rt; all_rest(&[0x8400_0000_0001_0008, 0xc400_0000_0001_0008], true));
+    assert!(rt;
+        all_rest(
+            &[
+                0xe400_0000_0001_0008,
+                0x9400_0000_0001_0008,
+                0x8c00_0000_0001_0008,
+                0x0400_0000_0001_0008,
+                0,
+            ],
+            false
+        )
     );
-    assert_eq!(rt; near(3, 5, HOT).view_place(), Some(Place { log: 3, at: 5 }));
-    assert_eq!(rt; near(3, 5, HOT_EVAC).view_place(), None);
-    assert_eq!(rt;
-        (size_of(1), size_of(8), size_of(9), size_of(1016)),
-        (2, 2, 3, 128)
-    );
+    assert!(rt; without_owner_marks(0xfc00_0000_0001_0008) == 0xa400_0000_0001_0008);
+    assert!(rt; near(3, 5, HOT).view_place() == Some(Place { log: 3, at: 5 }));
+    assert!(rt; near(3, 5, HOT_EVAC).view_place().is_none());
+    assert!(rt; takes(1, 2) && takes(8, 2) && takes(9, 3) && takes(1016, 128));
+}
+
+// Whether these are the length and the resting place that are read from a word alone.
+fn has_fields(word: u64, len: u16, place: Option<Place>) -> bool {
+    pointer_len(word) == len && resting_place(word) == place
 }
 
 #[test]
 fn fields_alone(rt: HostRuntime) {
-    let place = Place { log: 3, at: 5 };
-    for (word, len, rests) in [
-        (0, 0, None),
-        (0x8400_000c_0501_0008, 8, Some(place)),
-        (0xc400_000c_05ff_03f8, 1016, Some(place)),
-        (0xe400_000c_0501_0008, 8, None),
-        (0x9400_000c_0501_0001, 1, None),
-        (0x0400_0000_0001_0009, 9, None),
-    ] {
-        assert_eq!(rt; pointer_len(word), len, "at {word:016x}");
-        assert_eq!(rt; resting_place(word), rests, "at {word:016x}");
-    }
+    let place = Some(Place { log: 3, at: 5 });
+    assert!(rt; has_fields(0, 0, None));
+    assert!(rt; has_fields(0x8400_000c_0501_0008, 8, place));
+    assert!(rt; has_fields(0xc400_000c_05ff_03f8, 1016, place));
+    assert!(rt; has_fields(0xe400_000c_0501_0008, 8, None));
+    assert!(rt; has_fields(0x9400_000c_0501_0001, 1, None));
+    assert!(rt; has_fields(0x0400_0000_0001_0009, 9, None));
 }
+
+/// Each refusal by its number and text.
+const REFUSALS: &str = "\
+1 out of memory
+2 no log has room
+3 all pointer cells of the mutator are used
+4 an object's length is 1 to 1016 bytes
+5 the scope is closed
+6 the scope is open
+7 the pointer is not held
+8 out of range
+9 the scope views the object
+10 the device failed
+11 the device gave bytes of another length
+12 the call does not belong to the phase
+13 no epoch is left
+14 the pointer word is 0400000000010008
+15 logs, mutators or first epoch out of range
+16 line 7 is off the grammar
+17 log 3 may not be chosen
+18 mutator 2 has been open since epoch 5
+";
 
 #[test]
 fn refusals(rt: HostRuntime) -> Result<(), Fail> {
-    for (refused, number, text) in [
-        (Refused::Memory, 1, "out of memory"),
-        (Refused::NoRoom, 2, "no log has room"),
-        (
-            Refused::NoPointer,
-            3,
-            "all pointer cells of the mutator are used",
-        ),
-        (Refused::Length, 4, "an object's length is 1 to 1016 bytes"),
-        (Refused::Closed, 5, "the scope is closed"),
-        (Refused::AlreadyOpen, 6, "the scope is open"),
-        (Refused::NotHeld, 7, "the pointer is not held"),
-        (Refused::Range, 8, "out of range"),
-        (Refused::Held, 9, "the scope views the object"),
-        (Refused::Device, 10, "the device failed"),
-        (
-            Refused::Damaged,
-            11,
-            "the device gave bytes of another length",
-        ),
-        (Refused::Phase, 12, "the call does not belong to the phase"),
-        (Refused::EpochsSpent, 13, "no epoch is left"),
-        (
-            Refused::Marked(0x0400_0000_0001_0008),
-            14,
-            "the pointer word is 0400000000010008",
-        ),
-        (
-            Refused::Shape,
-            15,
-            "logs, mutators or first epoch out of range",
-        ),
-        (Refused::Syntax(7), 16, "line 7 is off the grammar"),
-        (Refused::BadChoice(3), 17, "log 3 may not be chosen"),
-        (
-            Refused::StillOpen(2, 5),
-            18,
-            "mutator 2 has been open since epoch 5",
-        ),
+    let mut told = String::new(rt.alloc());
+    for refused in [
+        Refused::Memory,
+        Refused::NoRoom,
+        Refused::NoPointer,
+        Refused::Length,
+        Refused::Closed,
+        Refused::AlreadyOpen,
+        Refused::NotHeld,
+        Refused::Range,
+        Refused::Held,
+        Refused::Device,
+        Refused::Damaged,
+        Refused::Phase,
+        Refused::EpochsSpent,
+        Refused::Marked(0x0400_0000_0001_0008),
+        Refused::Shape,
+        Refused::Syntax(7),
+        Refused::BadChoice(3),
+        Refused::StillOpen(2, 5),
     ] {
-        assert_eq!(rt; refused.number(), number, "at {refused:?}");
-        let shown = format!(in rt.alloc(); "{refused}")?;
-        assert_eq!(rt; shown.as_str(), text);
+        let line = format!(in rt.alloc(); "{} {refused}\n", refused.number())?;
+        told.push_str(&line)?;
     }
+    assert_eq!(rt; told.as_str(), REFUSALS);
     Ok(())
 }
