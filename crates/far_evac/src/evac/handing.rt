@@ -1,0 +1,1 @@
+//! What a round lets a caller do with the book.
