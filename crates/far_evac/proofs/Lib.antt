@@ -5,6 +5,7 @@ pub mod Given
 pub mod Hands
 pub mod InOrder
 pub mod Joined
+pub mod Keeping
 pub mod LiveLists
 pub mod LiveOnce
 pub mod Marks

@@ -41,7 +41,12 @@ impl<N: Near + Drop, D: Device + Drop> Evac<N, D> {
     ///
     /// Refused as `select` is, where nothing has changed but the policy, and as `turn` is, where the round stands where it is; `so_far` is
     /// then the sum of what was done.
-    pub fn run_round<P: Policy>(&mut self, policy: &mut P, most: usize, turns: u64) -> Result<RoundEnd, EvacFault>
+    pub fn run_round<P: Policy>(
+        &mut self,
+        policy: &mut P,
+        most: usize,
+        turns: u64,
+    ) -> Result<RoundEnd, EvacFault>
         ensures runs { IfOk result (λ end. (logs : List ℕ) × P.gives policy.old (map (row_of (N.view self.old.book.near)) self.old.book.order) most (Ok logs) policy.new
             × RunsRound (moment N.view self.old) logs turns end (moment N.view self.new)
             × (N.still → IsRound (moment N.view self.old) logs turns end (moment N.view self.new))) }
@@ -49,9 +54,9 @@ impl<N: Near + Drop, D: Device + Drop> Evac<N, D> {
             (result ≡ Err record { so_far = progress_of nothing false; why = why }) × (self.new ≡ self.old) × (policy.new ≡ policy.old) }
         ensures refused { unselectable (moment N.view self.old) ≡ None → IfErr result (λ fault.
             ((fault.so_far ≡ progress_of nothing false) × (self.new ≡ self.old)
-                × (((fault.why ≡ Memory) × (policy.new ≡ policy.old)) ⊎ P.gives policy.old (map (row_of (N.view self.old.book.near)) self.old.book.order) most (Err fault.why) policy.new))
+            × (((fault.why ≡ Memory) × (policy.new ≡ policy.old)) ⊎ P.gives policy.old (map (row_of (N.view self.old.book.near)) self.old.book.order) most (Err fault.why) policy.new))
             ⊎ ((logs : List ℕ) × P.gives policy.old (map (row_of (N.view self.old.book.near)) self.old.book.order) most (Ok logs) policy.new
-                × StopsRound (moment N.view self.old) logs turns fault.so_far (moment N.view self.new) × ((fault.why ≡ Memory) ⊎ (fault.why ≡ Failed)))) }
+            × StopsRound (moment N.view self.old) logs turns fault.so_far (moment N.view self.new) × ((fault.why ≡ Memory) ⊎ (fault.why ≡ Failed)))) }
     {
         unreachable!()
     }

@@ -1,6 +1,6 @@
 //! How a round waits until every older scope is closed.
 
-ghost use Rattle.std.specs.Prelude.{◌≡◌, ◌↔◌, false, true, not, Err, IfOk, IfErr};
+ghost use Rattle.std.specs.Prelude.{◌≡◌, ◌≢◌, IfOk, IfErr};
 ghost use Rattle.far_word.specs.declared.refused.Refused.TheVariants.{Phase as WrongPhase};
 ghost use Rattle.far_evac.specs.AnyHand.{Polls};
 ghost use Rattle.far_evac.specs.EvacOf.{moment};
