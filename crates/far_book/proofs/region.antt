@@ -32,6 +32,7 @@ pub mod Readings
 pub mod Releasing
 pub mod Retires
 pub mod Rounding
+pub mod SealedKept
 pub mod Settled
 pub mod SpanLists
 pub mod Starts

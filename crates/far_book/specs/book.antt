@@ -17,3 +17,4 @@ pub mod Reading
 pub mod Releasing
 pub mod Renaming
 pub mod Rows
+pub mod SealedLogs

@@ -3,6 +3,7 @@
 ghost use Rattle.std.specs.Prelude.{◌≡◌, ◌*◌, ◌<◌, ◌≤◌, ℕ, true};
 ghost use Rattle.far_book.specs.book.Deeds.{EventsAreDeeds, LoadsGiveStored};
 ghost use Rattle.far_book.specs.book.Laws.{EvictingIsLegal, PlacingIsLegal, RetiringIsLegal, FetchingIsLegal, MovingIsLegal, StayingIsLegal};
+ghost use Rattle.far_book.specs.book.SealedLogs.{SealedLogsKept};
 
 /// Placing a new object where room is leads from a state to the next by legal events of the core: its header and zeros are
 /// put, and its cell is named. So the law of the core is kept, and the world makes one step: the object. Its cell says near at
@@ -44,6 +45,12 @@ pub fn moving_is_legal()
 /// world the object is marked no more. No other cell, no word, tail or kind of a log changes.
 pub fn staying_is_legal()
     ensures { StayingIsLegal }
+{}
+
+/// The book's effects leave the sealed logs as they are, but that objects may have left them: no object comes to lie in one, and none that stays
+/// there gets EVAC or loses it.
+pub fn sealed_logs_stay()
+    ensures { SealedLogsKept }
 {}
 
 /// From the start on, whatever owners and the book do, in whatever order, a load of a word gives the word that was last
