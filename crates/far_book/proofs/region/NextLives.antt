@@ -19,10 +19,10 @@ use Rattle.far_core.specs.laws.Observed.{span_for}
 use Rattle.far_core.specs.state.Law.{Law}
 use Rattle.far_core.specs.state.Spans.{IsOfHeap, names_place, spans_of, is_live, word_in}
 use Rattle.far_core.specs.state.State.{State, put}
-use Rattle.far_core.proofs.Observations.{listed, walks, of_heap, one_live, live_names}
+use Rattle.far_core.proofs.Observations.{found, listed, walks, of_heap, one_live, live_names}
 use Rattle.far_core.proofs.Put.{put_both}
 use Rattle.far_book.specs.Finds.{Finds}
-use Rattle.far_book.specs.book.NextLive.{IsBoundary, IsHomeOf, live_from, LivesBehind, LivesFromStart}
+use Rattle.far_book.specs.book.NextLive.{IsBoundary, IsHomeOf, live_from, LivesBehind, LivesFromStart, SpansAreBounded}
 use Rattle.far_book.specs.book.Own.{own_part}
 use Rattle.far_book.proofs.Finding.{finds_more, near_found}
 use Rattle.far_book.proofs.region.Founds.{names_found}
@@ -127,11 +127,11 @@ module _ (s : State) (law : Law (own_part s)) (l : ℕ) where
     abbrev x : Span
     x = span_at (word_in s l) at
 
-    own : span_at (word_in (own_part s) l) at ≡ x
-    own = λ i. let w = own_header s (l * LOG_WORDS + at) begins i in record { at = at; p = pointer_in (head_of w); len = head_len w; ds = ds_in (head_of w) }
+    own_is : span_at (word_in (own_part s) l) at ≡ x
+    own_is = λ i. let w = own_header s (l * LOG_WORDS + at) begins i in record { at = at; p = pointer_in (head_of w); len = head_len w; ds = ds_in (head_of w) }
 
     own_member : Contains (spans_of (own_part s) l) x
-    own_member = subst (Contains (spans_of (own_part s) l)) own (listed (own_part s) law l at below begins)
+    own_member = subst (Contains (spans_of (own_part s) l)) own_is (listed (own_part s) law l at below begins)
 
     pub member : Contains (spans_of s l) x
     member = subst (λ xs. Contains xs x) (sym (own_spans s law l)) own_member
@@ -265,6 +265,13 @@ lives_from_start s law l = (first, all_behind (is_live s l) (spans_of s l) 0 0 (
     | inl some ↦ (let at : l * LOG_WORDS ≡ l * LOG_WORDS + 0 = omega arith in inr (some, sym (ap s.starts at) ∙ law.spans.first_span l some))
     | inr none ↦ inl (omega arith)
   ]
+
+pub spans_are_bounded : SpansAreBounded
+spans_are_bounded s law l x member =
+    let own : Contains (spans_of (own_part s) l) x = subst (λ xs. Contains xs x) (own_spans s law l) member in
+    let r = found (own_part s) law l x own in
+    let same : x ≡ span_at (word_in s l) x.at = r.2 ∙ own_is s law l x.at r.0 r.1 in
+    (inr (r.0, r.1), subst (λ (y : Span). IsBoundary s l (x.at + size_of y.len)) (sym same) (next_boundary s law l x.at r.0 r.1))
 
 pub lives_behind : LivesBehind
 lives_behind s law l at edge =

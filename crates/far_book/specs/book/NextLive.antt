@@ -1,10 +1,11 @@
 -- Which live spans of a log lie at a word or behind it, one after the other.
-use Rattle.std.specs.Prelude.{◌≡◌, ◌⊎◌, ◌+◌, ◌*◌, ◌<◌, ◌++◌, ◌&&◌, nat_le, ℕ, true, List, Some}
+use Rattle.std.specs.Prelude.{◌≡◌, ◌⊎◌, ◌+◌, ◌*◌, ◌<◌, ◌++◌, ◌&&◌, nat_le, ℕ, true, List, Contains, Some}
 use Rattle.std.specs.List.{filter}
 use Rattle.far_word.specs.declared.mark.Marks.{Marks}
 use Rattle.far_word.specs.declared.pointer.PtrWord.TheVariants.{Near}
 use Rattle.far_word.specs.declared.sizes.TheConstants.{CELLS, LOG_WORDS}
 use Rattle.far_word.specs.Pointer.{read_of}
+use Rattle.far_word.specs.Sizes.{size_of}
 use Rattle.far_log.specs.declared.span.Span.{Span}
 use Rattle.far_log.specs.Spans.{Tile}
 use Rattle.far_core.specs.state.Law.{Law}
@@ -30,6 +31,10 @@ pub record IsHomeOf (s : State) (l : ℕ) (span : Span) : Type 0 where
 -- from word 0 on these are all live spans of the log, and word 0 is a boundary
 abbrev pub LivesFromStart : Type 0
 LivesFromStart = (s : State) → Law (own_part s) → (l : ℕ) → IsBoundary s l 0 × (live_from s l 0 ≡ filter (is_live s l) (spans_of s l))
+
+-- where a span of the log begins, and where it ends, is a boundary
+abbrev pub SpansAreBounded : Type 0
+SpansAreBounded = (s : State) → Law (own_part s) → (l : ℕ) (span : Span) → Contains (spans_of s l) span → IsBoundary s l span.at × IsBoundary s l (span.at + size_of span.len)
 
 -- a boundary parts the list of spans; from it on are the live ones of those that lie behind it
 abbrev pub LivesBehind : Type 0

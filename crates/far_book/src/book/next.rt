@@ -27,6 +27,7 @@ impl<N: Near + Drop, D: Device + Drop> Book<N, D> {
         ensures first { IfSome result (λ span. live_from (N.view self.old.near) log at ≡ span ∷ live_from (N.view self.old.near) log (span.at + size_of span.len)) }
         ensures none { IfNone result (live_from (N.view self.old.near) log at ≡ []) }
         ensures next { IfSome result (λ span. IsBoundary (N.view self.old.near) log (span.at + size_of span.len)) }
+        ensures inside { IfSome result (λ span. span.at + size_of span.len ≤ LOG_WORDS) }
         ensures lies { IfSome result (λ span. IsHomeOf (N.view self.new.near) log span) }
         ensures found { (p : ℕ) → Finds ((N.view self.old.near).cell p) ((N.view self.new.near).cell p) }
         ensures kept { N.view self.new.near ≡ record (N.view self.old.near) { cell = (N.view self.new.near).cell } }
