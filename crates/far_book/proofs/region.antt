@@ -19,6 +19,7 @@ pub mod Leaving
 pub mod Marked
 pub mod Moved
 pub mod MovesReached
+pub mod NextLives
 pub mod NotesKept
 pub mod Notings
 pub mod NumberSets

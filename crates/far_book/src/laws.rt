@@ -4,6 +4,7 @@ ghost use Rattle.std.specs.Prelude.{◌≡◌, ◌*◌, ◌<◌, ◌≤◌, ℕ,
 ghost use Rattle.far_book.specs.book.Deeds.{EventsAreDeeds, LoadsGiveStored};
 ghost use Rattle.far_book.specs.book.Laws.{EvictingIsLegal, PlacingIsLegal, RetiringIsLegal, FetchingIsLegal, MovingIsLegal, StayingIsLegal};
 ghost use Rattle.far_book.specs.book.SealedLogs.{SealedLogsKept};
+ghost use Rattle.far_book.specs.book.NextLive.{LivesFromStart, LivesBehind, SpansAreBounded};
 
 /// Placing a new object where room is leads from a state to the next by legal events of the core: its header and zeros are
 /// put, and its cell is named. So the law of the core is kept, and the world makes one step: the object. Its cell says near at
@@ -61,4 +62,12 @@ pub fn sealed_logs_stay()
 pub fn loads_give_stored()
     ensures stored { LoadsGiveStored }
     ensures events { EventsAreDeeds }
+{}
+
+/// The live spans of a log that are found from word 0 on are all of them. Where a span begins, and where it ends, is a boundary; and a
+/// boundary parts the spans of a log: those that are found from it on are the live ones of those behind it.
+pub fn live_spans_follow()
+    ensures start { LivesFromStart }
+    ensures bounded { SpansAreBounded }
+    ensures behind { LivesBehind }
 {}

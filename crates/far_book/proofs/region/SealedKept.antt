@@ -17,7 +17,7 @@ use Rattle.far_core.specs.state.Room.{room}
 use Rattle.far_core.specs.state.State.{State, addr, put}
 use Rattle.far_core.proofs.Put.{put_both, put_other}
 use Rattle.far_core.specs.laws.Rooms.{IsRoom, RoomIs}
-use Rattle.far_core.proofs.Rooms.{room_right}
+use Rattle.far_core.proofs.RoomLaws.{room_right}
 use Rattle.far_book.specs.book.Effects.{evicted, far_word, fetched, moved, near_word, placed, stayed, with_blank_span, with_free_cell, with_written_span}
 use Rattle.far_book.specs.book.Own.{own_part}
 use Rattle.far_book.specs.book.SealedLogs.{KeepsSealed, SealedLogsStay}
