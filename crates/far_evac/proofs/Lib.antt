@@ -2,6 +2,7 @@ pub mod Bools
 pub mod Censuses
 pub mod Dealt
 pub mod Given
+pub mod Handing
 pub mod Hands
 pub mod InOrder
 pub mod Joined
