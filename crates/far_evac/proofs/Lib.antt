@@ -1,3 +1,4 @@
+pub mod Auditing
 pub mod Bools
 pub mod Censuses
 pub mod Dealt
