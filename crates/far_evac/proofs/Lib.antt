@@ -1,10 +1,13 @@
+pub mod Auditing
 pub mod Bools
 pub mod Censuses
 pub mod Dealt
 pub mod Given
+pub mod Handing
 pub mod Hands
 pub mod InOrder
 pub mod Joined
+pub mod Keeping
 pub mod LiveLists
 pub mod LiveOnce
 pub mod Marks

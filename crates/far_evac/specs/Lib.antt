@@ -2,13 +2,17 @@ pub mod AnyHand
 pub mod Census
 pub mod Choosing
 pub mod Dealings
+pub mod EvacOf
+pub mod Failing
 pub mod Laws
 pub mod Live
 pub mod Marking
 pub mod Moment
 pub mod MomentLaw
 pub mod Ready
+pub mod Refusals
 pub mod RoundSteps
+pub mod Standing
 pub mod Stops
 pub mod Turns
 pub mod Waiting

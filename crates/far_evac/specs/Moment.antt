@@ -44,3 +44,7 @@ objects_in t = t.moved + t.far + t.dropped
 -- a tally as it is answered
 abbrev pub progress_of : Tally → Bool → Progress
 progress_of tally done = record { moved = tally.moved; far = tally.far; dropped = tally.dropped; freed = tally.freed; done = done }
+
+-- and what an answer has counted
+abbrev pub tally_of : Progress → Tally
+tally_of progress = record { moved = progress.moved; far = progress.far; dropped = progress.dropped; freed = progress.freed }

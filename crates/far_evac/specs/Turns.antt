@@ -1,9 +1,10 @@
 -- Whole rounds: turn after turn, where no word changes but by this.
-use Rattle.std.specs.Prelude.{ℕ, zero, suc, Bool, true, false, cond, if◌then◌else◌}
+use Rattle.std.specs.Prelude.{◌≡◌, ℕ, List, [], ◌∷◌, zero, suc, Bool, true, false, cond, if◌then◌else◌}
 use Rattle.far_evac.specs.declared.answers.RoundEnd.{RoundEnd}
-use Rattle.far_evac.specs.declared.answers.RoundEnd.TheVariants.{Done, Limit}
+use Rattle.far_evac.specs.declared.answers.RoundEnd.TheVariants.{Done, Limit, Nothing}
 use Rattle.far_evac.specs.declared.phase.Phase.{Phase}
 use Rattle.far_evac.specs.declared.phase.Phase.TheVariants.{Idle, Marking, Waiting, Evacuating}
+use Rattle.far_evac.specs.Choosing.{after_selecting}
 use Rattle.far_evac.specs.Marking.{after_marking}
 use Rattle.far_evac.specs.Moment.{Moment, Tally, nothing, plus, progress_of}
 use Rattle.far_evac.specs.Waiting.{after_polling}
@@ -19,6 +20,10 @@ pub record Turned : Type 0 where
   pub tally : Tally
   pub over : Bool
 
+-- before the first turn
+abbrev pub begun_turns : Moment → Turned
+begun_turns m = record { moment = m; tally = nothing; over = false }
+
 -- one turn more, by the phase
 abbrev pub turned : Turned → Phase → Turned
 turned r Idle = r
@@ -29,9 +34,14 @@ turned r Evacuating =
 
 -- so many turns, or until the round is over
 abbrev pub turns_made : Moment → ℕ → Turned
-turns_made m zero = record { moment = m; tally = nothing; over = false }
+turns_made m zero = begun_turns m
 turns_made m (suc n) = let r = turns_made m n in if r.over then r else turned r r.moment.phase
 
 -- how a round ends after so many turns
 abbrev pub round_end : Turned → RoundEnd
 round_end r = cond r.over (Done (progress_of r.tally true)) (Limit r.moment.phase)
+
+-- a round of these logs, exactly: where there are none, none begins
+abbrev pub IsRound : Moment → List ℕ → ℕ → RoundEnd → Moment → Type 0
+IsRound m [] turns end t = (end ≡ Nothing) × (t ≡ m)
+IsRound m (l ∷ ls) turns end t = let r = turns_made (after_selecting m (l ∷ ls)) turns in (end ≡ round_end r) × (t ≡ r.moment)

@@ -6,11 +6,14 @@
 
 mod answers;
 mod census;
+mod evac;
 mod laws;
 mod phase;
+mod round;
 
 pub use answers::{EvacFault, Marked, Polled, Progress, RoundEnd};
 pub use census::{Census, Housed, LogKind, LogState};
+pub use evac::Evac;
 pub use laws::{
     census_is_exact, clear_is_shown, clear_means_unviewed, dealing_is_in_order, exact_is_allowed,
     giving_up_is_right, looks_see_clear, marking_is_right, poll_is_allowed, poll_is_once,

@@ -1,0 +1,16 @@
+-- An evacuator as its callers see it.
+use Rattle.std.specs.Prelude.{ℕ, List}
+use Rattle.far_core.specs.state.State.{State}
+use Rattle.far_book.specs.book.BookOf.{BookOf}
+use Rattle.far_evac.specs.declared.phase.Phase.{Phase}
+use Rattle.far_evac.specs.Moment.{Moment}
+
+-- its book, and its round: the phase, and the chosen logs that weren't given back in it, in the order in which they were chosen
+pub record EvacOf (N D : Type 0) : Type 0 where
+  pub book : BookOf N D
+  pub phase : Phase
+  pub held : List ℕ
+
+-- the moment that it stands at, as far as its hand knows the words
+abbrev pub moment : {N D : Type 0} → (N → State) → EvacOf N D → Moment
+moment view e = record { core = view e.book.near; order = e.book.order; phase = e.phase; held = e.held }

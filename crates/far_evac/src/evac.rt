@@ -1,0 +1,79 @@
+//! The evacuator: a book, and the round that empties some of its logs.
+
+ghost use Rattle.std.specs.Prelude.{◌≡◌, [], false};
+ghost use Rattle.far_core.specs.state.Law.{Law};
+ghost use Rattle.far_book.specs.book.Own.{own_part};
+ghost use Rattle.far_evac.specs.declared.phase.Phase.TheVariants.{Idle};
+ghost use Rattle.far_evac.specs.EvacOf.{moment};
+ghost use Rattle.far_evac.specs.MomentLaw.{MomentLaw};
+
+mod auditing;
+mod evacuating;
+mod handing;
+mod marking;
+mod over_plain;
+mod selecting;
+mod turning;
+mod waiting;
+
+use crate::phase::Phase;
+use crate::round::Round;
+use far_book::{Book, Near};
+use far_device::Device;
+use far_policy::Chosen;
+use std::marker::Model;
+
+/// An evacuator: a region book, and the round that empties some of its logs.
+///
+/// All calls of the book that keep a round's marks are handed on. No call blocks.
+#[derive(Drop)]
+pub struct Evac<N: Near + Drop, D: Device + Drop> {
+    book: Book<N, D>,
+    round: Round,
+}
+
+impl<N: Near + Drop, D: Device + Drop> Model for Evac<N, D> {
+    ghost use Rattle.far_evac.specs.EvacOf.{EvacOf};
+    ghost use Rattle.far_evac.specs.Standing.{InRound, held_in};
+
+    ghost Value = { EvacOf N D };
+
+    ghost view = { λ e. record { book = e.book; phase = e.round.phase; held = held_in e.round } };
+
+    ghost invariant = { λ e. InRound (N.view e.book.near) e.round };
+}
+
+impl<N: Near + Drop, D: Device + Drop> Evac<N, D> {
+    /// An evacuator over a book, in no round.
+    pub fn new(book: Book<N, D>) -> Evac<N, D>
+        ensures book { result.book ≡ book }
+        ensures phase { result.phase ≡ Idle }
+        ensures held { result.held ≡ [] }
+    {
+        Evac {
+            book,
+            round: Round {
+                phase: Phase::Idle,
+                chosen: Chosen::new(),
+                index: 0,
+                at: 0,
+                seen: 0,
+            },
+        }
+    }
+
+    /// Where the round stands.
+    pub fn phase(&self) -> Phase
+        ensures { result ≡ self.now.phase }
+    {
+        self.round.phase
+    }
+
+    /// What the book knows keeps its part of the law of the core, and the round agrees with it.
+    pub fn keeps_law(&self)
+        ensures law { Law (own_part (N.view self.now.book.near)) }
+        ensures moment { MomentLaw (moment N.view self.now) }
+    {
+        self.book.keeps_law();
+    }
+}
