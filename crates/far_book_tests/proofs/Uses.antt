@@ -4,19 +4,27 @@ use Rattle.far_word.specs.declared.mark.Marks.{Marks}
 use Rattle.far_word.specs.declared.pointer.Place.{Place}
 use Rattle.far_word.specs.declared.pointer.PtrWord.{PtrWord}
 use Rattle.far_word.specs.declared.pointer.PtrWord.TheVariants as pointer
-use Rattle.std.specs.Prelude.{◌||◌, ◌&&◌}
-use Rattle.far_word.specs.declared.sizes.TheConstants.{CELLS}
+use Rattle.std.specs.Prelude.{◌||◌, ◌&&◌, ◌^◌, nat_lt, List, Contains}
+use Rattle.std.proofs.Math.Nat.{zero-div}
+use Rattle.std.proofs.lemmas.Bool.{false≢true}
+use Rattle.far_word.specs.declared.sizes.TheConstants.{CELLS, MOST_LOGS}
 use Rattle.far_word.specs.Pointer.{read_of}
+use Rattle.far_log.specs.declared.span.Span.{Span}
 use Rattle.far_core.specs.declared.shape.Shape.{Shape}
+use Rattle.far_core.specs.events.Advance.{is_among}
 use Rattle.far_core.specs.events.Naming.{is_dropped}
+use Rattle.far_core.specs.state.Law.{Law}
 use Rattle.far_core.specs.state.Opening.{opening}
+use Rattle.far_core.specs.state.Spans.{spans_of}
 use Rattle.far_core.specs.state.State.{State}
 use Rattle.far_book.specs.declared.home.Home.TheVariants.{Near, Far}
 use Rattle.far_book.specs.Masked.{masked}
+use Rattle.far_book.specs.Rounds.{MayChoose}
 use Rattle.far_book.specs.book.Dealing.{IsQuietNear, has_evac}
 use Rattle.far_book.specs.book.Fetching.{IsFar}
 use Rattle.far_book.specs.book.Home.{home_of}
-use Rattle.far_book.specs.book.Own.{IsAtStart}
+use Rattle.far_book.specs.book.NextLive.{IsBoundary, SpansAreBounded}
+use Rattle.far_book.specs.book.Own.{IsAtStart, own_part}
 
 pub at_start : (s : State) (shape : Shape) (honest : Bool) → s ≡ opening shape honest → IsAtStart s
 at_start s shape honest e = subst IsAtStart (sym e) refl
@@ -57,3 +65,22 @@ far_cell s p (Some (pointer.Far len ds m)) e marks is = record { len = len; ds =
 
 pub far_home : (s : State) (p : ℕ) (marks : Marks) → Some (Far marks) ≡ home_of (read_of (s.cell p)) → IsFar s p
 far_home s p marks is = far_cell s p (read_of (s.cell p)) refl marks is
+
+-- no logs may always be a round's
+none_among : (l : ℕ) → is_among 0 l ≡ false
+none_among l = rw (zero-div (2 ^ l)) (none (nat_lt l MOST_LOGS)) where
+  none : (b : Bool) → (b && false) ≡ false
+  none true = refl
+  none false = refl
+
+pub none_chosen : (s : State) → MayChoose s 0
+none_chosen s = record {
+  shut = λ l e. absurd (false≢true (sym (none_among l) ∙ e));
+  marked = λ p len ds place m near e. absurd (false≢true (sym (none_among place.log) ∙ e));
+}
+
+-- a span that is listed begins at a boundary
+pub begins_there : (s t : State) → Law (own_part s) → SpansAreBounded → t ≡ record s { word = t.word } → (l : ℕ) (spans : List Span) → spans ≡ spans_of s l → (x : Span) → Contains spans x →
+    IsBoundary t l x.at
+begins_there s t law bounded kept l spans is x member =
+    subst (λ (u : State). IsBoundary u l x.at) (sym kept) (bounded s law l x (subst (λ xs. Contains xs x) is member)).0

@@ -7,3 +7,4 @@ mod leaving;
 mod moving;
 mod owners;
 mod returning;
+mod rounds;
