@@ -108,6 +108,12 @@ fn refuses(rt: &impl Abort, core: &mut Core, events: &[Event]) {
     }
 }
 
+/// The events of a core answer these replies, in order, and then each of these others is refused.
+fn goes_so(rt: &impl Abort, mut core: Core, cases: &[(Event, Reply)], refused: &[Event]) {
+    answers(rt, &mut core, cases);
+    refuses(rt, &mut core, refused);
+}
+
 fn pin(owner: u8, pointer: u16) -> Event {
     Event::Pin { owner, pointer }
 }

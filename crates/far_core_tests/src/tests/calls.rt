@@ -15,7 +15,7 @@ fn put_word(rt: &impl Abort, core: &mut Core, place: Place, word: u64) {
     assert!(rt; log < core.logs() && at < LOG_WORDS);
     assert!(rt; core.kind(log) != Kind::Sealed && core.tail(log) <= at);
     core.put(log, at, word);
-    assert_eq!(rt; core.word(log, at), word);
+    assert!(rt; core.word(log, at) == word);
 }
 
 fn name_new(rt: &impl Abort, core: &mut Core, pointer: u16, old: u64, new: u64) -> Result<(), u64> {
@@ -41,9 +41,9 @@ fn adopt_own(rt: &impl Abort, core: &mut Core, pointer: u16) -> Option<u64> {
 fn open_scope(rt: &impl Abort, core: &mut Core) {
     assert!(rt; !core.is_open(0));
     let epoch = core.read_epoch(0);
-    assert_eq!(rt; (epoch, core.remembered(0)), (5, Some(5)));
+    assert!(rt; (epoch, core.remembered(0)) == (5, Some(5)));
     core.open(0);
-    assert_eq!(rt; core.scope(0), 2 * 5 + 1);
+    assert!(rt; core.scope(0) == 2 * 5 + 1);
 }
 
 fn pin_own(rt: &impl Abort, core: &mut Core, pointer: u16) -> Result<Place, u64> {
@@ -55,22 +55,22 @@ fn pin_own(rt: &impl Abort, core: &mut Core, pointer: u16) -> Result<Place, u64>
 fn store_and_load(rt: &impl Abort, core: &mut Core, pointer: u16, word: u64) {
     assert!(rt; pointer < CELLS && core.is_held(pointer));
     let Some(PtrWord::Near { len: 8, .. }) = PtrWord::read(core.cell(pointer)) else {
-        panic!(rt; "{pointer} isn't near with 8 bytes");
+        panic!(rt; "the object isn't near with 8 bytes");
     };
     core.store(0, pointer, 0, word);
-    assert_eq!(rt; core.load(0, pointer, 0), word);
+    assert!(rt; core.load(0, pointer, 0) == word);
 }
 
 fn close_scope(rt: &impl Abort, core: &mut Core) {
     assert!(rt; core.is_open(0));
     core.close(0);
-    assert_eq!(rt; (core.scope(0), core.remembered(0)), (0, None));
+    assert!(rt; (core.scope(0), core.remembered(0)) == (0, None));
 }
 
 fn mark_near(rt: &impl Abort, core: &mut Core, pointer: u16) -> u64 {
     assert!(rt; pointer < CELLS);
     let Some(PtrWord::Near { place, .. }) = PtrWord::read(core.see(pointer)) else {
-        panic!(rt; "{pointer} isn't near");
+        panic!(rt; "the object isn't near");
     };
     assert!(rt; place.log < core.logs() && core.kind(place.log) == Kind::Sealed);
     core.mark(pointer)
@@ -80,19 +80,19 @@ fn mark_near(rt: &impl Abort, core: &mut Core, pointer: u16) -> u64 {
 fn object_is_made_and_viewed(rt: HostRuntime) -> Result<(), Fail> {
     let mut core = Core::new(rt.alloc(), TWO_OWNERS, true)?;
     put_word(&rt, &mut core, FIRST, HEADER);
-    assert_eq!(rt; name_new(&rt, &mut core, 0, 0, NEAR), Ok(()));
+    assert!(rt; name_new(&rt, &mut core, 0, 0, NEAR) == Ok(()));
     assert!(rt; core.starts(0, 0) && !core.starts(0, 1));
-    assert_eq!(rt; core.see(0), NEAR);
-    assert_eq!(rt; adopt_own(&rt, &mut core, 1), None);
-    assert_eq!(rt; adopt_own(&rt, &mut core, 0), Some(NEAR));
+    assert!(rt; core.see(0) == NEAR);
+    assert!(rt; adopt_own(&rt, &mut core, 1).is_none());
+    assert!(rt; adopt_own(&rt, &mut core, 0) == Some(NEAR));
     open_scope(&rt, &mut core);
-    assert_eq!(rt; pin_own(&rt, &mut core, 0), Ok(FIRST));
-    assert_eq!(rt; core.held(0), Some(FIRST));
+    assert!(rt; pin_own(&rt, &mut core, 0) == Ok(FIRST));
+    assert!(rt; core.held(0) == Some(FIRST));
     store_and_load(&rt, &mut core, 0, 0x0807_0605_0403_0201);
-    assert_eq!(rt; core.word(0, 1), 0x0807_0605_0403_0201);
+    assert!(rt; core.word(0, 1) == 0x0807_0605_0403_0201);
     close_scope(&rt, &mut core);
-    assert_eq!(rt; core.held(0), None);
-    assert_eq!(rt; (core.epoch(), core.is_honest()), (5, true));
+    assert!(rt; core.held(0).is_none());
+    assert!(rt; (core.epoch(), core.is_honest()) == (5, true));
     Ok(())
 }
 
@@ -107,11 +107,11 @@ fn marked_object_is_not_viewed(rt: HostRuntime) -> Result<(), Fail> {
             named(3, 0x8400_0004_0001_0008),
         ],
     );
-    assert_eq!(rt; mark_near(&rt, &mut core, 2), 0x8400_0000_0701_0008);
+    assert!(rt; mark_near(&rt, &mut core, 2) == 0x8400_0000_0701_0008);
     let marked = 0xa400_0000_0701_0008;
-    assert_eq!(rt; core.see(2), marked);
-    assert_eq!(rt; pin_own(&rt, &mut core, 2), Err(marked));
-    assert_eq!(rt; core.held(2), None);
+    assert!(rt; core.see(2) == marked);
+    assert!(rt; pin_own(&rt, &mut core, 2) == Err(marked));
+    assert!(rt; core.held(2).is_none());
     Ok(())
 }
 
@@ -125,7 +125,7 @@ fn named_cell_is_found(rt: HostRuntime) -> Result<(), Fail> {
         0xa100_0000_0101_0008,
     );
     let lost = name_new(&rt, &mut core, 1, 0, 0x8400_0000_0901_0008);
-    assert_eq!(rt; lost, Err(0x8400_0000_0301_0008));
+    assert!(rt; lost == Err(0x8400_0000_0301_0008));
     assert!(rt; !core.starts(0, 9));
     Ok(())
 }
@@ -135,22 +135,16 @@ fn log_of_a_dropped_object_is_given_back(rt: HostRuntime) -> Result<(), Fail> {
     let mut core = Core::new(rt.alloc(), SMALL, true)?;
     let (header, whole) = (0xa100_0000_0001_03f8, 0x8400_0000_0001_03f8);
     put_word(&rt, &mut core, FIRST, header);
-    assert_eq!(rt; name_new(&rt, &mut core, 0, 0, whole), Ok(()));
+    assert!(rt; name_new(&rt, &mut core, 0, 0, whole) == Ok(()));
     let next = Place { log: 1, at: 0 };
     put_word(&rt, &mut core, next, 0xa100_0000_0101_0008);
-    assert_eq!(rt;
-        name_new(&rt, &mut core, 1, 0, 0x8400_0004_0001_0008),
-        Ok(())
-    );
-    assert_eq!(rt; adopt_own(&rt, &mut core, 0), Some(whole));
-    assert_eq!(rt; drop_own(&rt, &mut core, 0), whole);
+    assert!(rt; name_new(&rt, &mut core, 1, 0, 0x8400_0004_0001_0008) == Ok(()));
+    assert!(rt; adopt_own(&rt, &mut core, 0) == Some(whole));
+    assert!(rt; drop_own(&rt, &mut core, 0) == whole);
     assert!(rt; !core.is_used(0) && !core.may_get(0, 0, true));
     assert!(rt; !core.may_name(0, whole, 0));
-    assert_eq!(rt;
-        name_new(&rt, &mut core, 0, 0x8c00_0000_0001_03f8, 0),
-        Ok(())
-    );
-    assert_eq!(rt; give_back(&rt, &mut core, 0), header);
-    assert_eq!(rt; log_shown(&rt, &core, 0), (Kind::Free, 0));
+    assert!(rt; name_new(&rt, &mut core, 0, 0x8c00_0000_0001_03f8, 0) == Ok(()));
+    assert!(rt; give_back(&rt, &mut core, 0) == header);
+    assert!(rt; log_shown(&rt, &core, 0) == (Kind::Free, 0));
     Ok(())
 }

@@ -28,10 +28,11 @@ fn retire(old: u64) -> Event {
 
 #[test]
 fn a_request_of_what_may_not_be_asked(rt: HostRuntime) -> Result<(), Fail> {
-    let mut core = peopled(&rt, rt.alloc())?;
-    refuses(
+    let core = peopled(&rt, rt.alloc())?;
+    goes_so(
         &rt,
-        &mut core,
+        core,
+        &[],
         &[
             ask(0, 0, Mark::Dropped),
             ask(0, 1, Mark::Moved),

@@ -17,7 +17,7 @@ fn longest_object_fills_a_log(rt: HostRuntime) -> Result<(), Fail> {
             named(0, 0x8400_0000_0001_03f8),
         ],
     );
-    assert_eq!(rt; log_shown(&rt, &core, 0), (Kind::Open, 128));
+    assert!(rt; log_shown(&rt, &core, 0) == (Kind::Open, 128));
     answers(
         &rt,
         &mut core,
@@ -26,11 +26,11 @@ fn longest_object_fills_a_log(rt: HostRuntime) -> Result<(), Fail> {
             named(1, 0x8400_0004_0001_0001),
         ],
     );
-    assert_eq!(rt; log_shown(&rt, &core, 0), FULL);
-    assert_eq!(rt; log_shown(&rt, &core, 1), (Kind::Open, 2));
-    assert_eq!(rt; core.open_log(), 1);
-    assert_eq!(rt; core.cell(0), 0x8400_0000_0001_03f8);
-    assert_eq!(rt; core.cell(1), 0x8400_0004_0001_0001);
+    assert!(rt; log_shown(&rt, &core, 0) == FULL);
+    assert!(rt; log_shown(&rt, &core, 1) == (Kind::Open, 2));
+    assert!(rt; core.open_log() == 1);
+    assert!(rt; core.cell(0) == 0x8400_0000_0001_03f8);
+    assert!(rt; core.cell(1) == 0x8400_0004_0001_0001);
     Ok(())
 }
 
@@ -51,7 +51,7 @@ fn shortest_objects_fill_a_log(rt: HostRuntime) -> Result<(), Fail> {
                 named(pointer, 0x8400_0000_0001_0001 | place),
             ],
         );
-        assert_eq!(rt; log_shown(&rt, &core, 0), (Kind::Open, 2 * pointer + 2));
+        assert!(rt; log_shown(&rt, &core, 0) == (Kind::Open, 2 * pointer + 2));
     }
     let refused = Event::Put {
         log: 0,
@@ -67,9 +67,9 @@ fn shortest_objects_fill_a_log(rt: HostRuntime) -> Result<(), Fail> {
             named(64, 0x8400_000c_0001_0008),
         ],
     );
-    assert_eq!(rt; log_shown(&rt, &core, 0), FULL);
-    assert_eq!(rt; log_shown(&rt, &core, 3), (Kind::Open, 2));
-    assert_eq!(rt; core.open_log(), 3);
+    assert!(rt; log_shown(&rt, &core, 0) == FULL);
+    assert!(rt; log_shown(&rt, &core, 3) == (Kind::Open, 2));
+    assert!(rt; core.open_log() == 3);
     Ok(())
 }
 
@@ -92,8 +92,8 @@ fn named_cell_is_not_named_again(rt: HostRuntime) -> Result<(), Fail> {
             old: 0,
             new,
         });
-        assert_eq!(rt; reply, Reply::Word(0x8400_0000_0301_0008));
-        assert_eq!(rt; observed(&rt, &mut core), before);
+        assert!(rt; reply == Reply::Word(0x8400_0000_0301_0008));
+        assert!(rt; observed(&rt, &mut core) == before);
     }
     Ok(())
 }

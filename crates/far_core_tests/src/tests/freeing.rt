@@ -34,10 +34,11 @@ fn sealed(rt: &impl Abort, alloc: Global) -> Result<Core, Refused> {
 
 #[test]
 fn a_log_that_may_not_be_given_back(rt: HostRuntime) -> Result<(), Fail> {
-    let mut core = sealed(&rt, rt.alloc())?;
-    refuses(
+    let core = sealed(&rt, rt.alloc())?;
+    goes_so(
         &rt,
-        &mut core,
+        core,
+        &[],
         &[
             get(0, 0, true),
             get(1, 0, true),
@@ -51,10 +52,11 @@ fn a_log_that_may_not_be_given_back(rt: HostRuntime) -> Result<(), Fail> {
 
 #[test]
 fn a_pointer_that_may_not_be_marked(rt: HostRuntime) -> Result<(), Fail> {
-    let mut core = sealed(&rt, rt.alloc())?;
-    refuses(
+    let core = sealed(&rt, rt.alloc())?;
+    goes_so(
         &rt,
-        &mut core,
+        core,
+        &[],
         &[
             Event::Mark { pointer: 1 },
             Event::Mark { pointer: 2 },
@@ -92,7 +94,7 @@ fn a_log_is_given_back(rt: HostRuntime) -> Result<(), Fail> {
             put(0, 0, 0),
         ],
     );
-    assert_eq!(rt; log_shown(&rt, &core, 0), (Kind::Free, 0));
-    assert_eq!(rt; log_shown(&rt, &core, 1), (Kind::Open, 2));
+    assert!(rt; log_shown(&rt, &core, 0) == (Kind::Free, 0));
+    assert!(rt; log_shown(&rt, &core, 1) == (Kind::Open, 2));
     Ok(())
 }

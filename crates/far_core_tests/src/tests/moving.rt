@@ -100,7 +100,7 @@ fn an_object_moves_to_the_tail(rt: HostRuntime) -> Result<(), Fail> {
             (name(1, MOVING, AT_TAIL), Reply::Refused),
         ],
     );
-    assert_eq!(rt; log_shown(&rt, &core, 0), (Kind::Open, 9));
+    assert!(rt; log_shown(&rt, &core, 0) == (Kind::Open, 9));
     stands_at(&rt, &mut core, 0, 6);
     Ok(())
 }
@@ -116,8 +116,8 @@ fn an_object_moves_into_a_free_log(rt: HostRuntime) -> Result<(), Fail> {
             (name(1, MOVING, AT_START), Reply::Done),
         ],
     );
-    assert_eq!(rt; log_shown(&rt, &core, 0), (Kind::Sealed, 6));
-    assert_eq!(rt; log_shown(&rt, &core, 1), (Kind::Open, 3));
+    assert!(rt; log_shown(&rt, &core, 0) == (Kind::Sealed, 6));
+    assert!(rt; log_shown(&rt, &core, 1) == (Kind::Open, 3));
     stands_at(&rt, &mut core, 1, 0);
     Ok(())
 }
@@ -157,15 +157,11 @@ fn an_object_that_is_only_marked_stays(rt: HostRuntime) -> Result<(), Fail> {
 
 #[test]
 fn words_that_move_nothing_refuse(rt: HostRuntime) -> Result<(), Fail> {
-    let mut core = written(&rt, rt.alloc(), true)?;
-    answers(
+    let core = written(&rt, rt.alloc(), true)?;
+    goes_so(
         &rt,
-        &mut core,
+        core,
         &[(ask(1, Mark::Moved), Reply::Word(VIEWED))],
-    );
-    refuses(
-        &rt,
-        &mut core,
         &[
             // Marks on the new word; another length; another data structure.
             name(1, MOVING, AT_TAIL | 1 << 62),
@@ -186,10 +182,10 @@ fn words_that_move_nothing_refuse(rt: HostRuntime) -> Result<(), Fail> {
 
 #[test]
 fn a_copy_that_is_not_whole_refuses(rt: HostRuntime) -> Result<(), Fail> {
-    let mut core = written(&rt, rt.alloc(), true)?;
-    answers(
+    let core = written(&rt, rt.alloc(), true)?;
+    goes_so(
         &rt,
-        &mut core,
+        core,
         &[
             (ask(1, Mark::Moved), Reply::Word(VIEWED)),
             put(0, 8, 8),
@@ -203,6 +199,7 @@ fn a_copy_that_is_not_whole_refuses(rt: HostRuntime) -> Result<(), Fail> {
             put(0, 6, HEADER),
             (name(1, MOVING, AT_TAIL), Reply::Done),
         ],
+        &[],
     );
     Ok(())
 }
@@ -221,10 +218,10 @@ fn what_is_not_far_is_not_fetched(rt: HostRuntime) -> Result<(), Fail> {
             name(1, FAR | 1 << 59, AT_TAIL),
         ],
     );
-    let mut core = written(&rt, rt.alloc(), false)?;
-    answers(
+    let core = written(&rt, rt.alloc(), false)?;
+    goes_so(
         &rt,
-        &mut core,
+        core,
         &[
             (name(1, FAR, AT_TAIL), Reply::Word(VIEWED)),
             (name(1, FAR | 1 << 59, AT_TAIL), Reply::Refused),
@@ -232,6 +229,7 @@ fn what_is_not_far_is_not_fetched(rt: HostRuntime) -> Result<(), Fail> {
             put(0, 8, 0x100),
             (name(1, FAR, AT_TAIL), Reply::Refused),
         ],
+        &[],
     );
     Ok(())
 }
@@ -268,17 +266,17 @@ fn an_object_goes_away_and_comes_back(rt: HostRuntime) -> Result<(), Fail> {
             (name(1, FAR, BACK), Reply::Refused),
         ],
     );
-    assert_eq!(rt; log_shown(&rt, &core, 2), (Kind::Open, 5));
+    assert!(rt; log_shown(&rt, &core, 2) == (Kind::Open, 5));
     stands_at(&rt, &mut core, 2, 2);
     Ok(())
 }
 
 #[test]
 fn other_words_than_those_stored_refuse(rt: HostRuntime) -> Result<(), Fail> {
-    let mut core = away(&rt, rt.alloc(), true)?;
-    answers(
+    let core = away(&rt, rt.alloc(), true)?;
+    goes_so(
         &rt,
-        &mut core,
+        core,
         &[
             put(2, 2, HEADER),
             put(2, 3, FIRST),
@@ -292,6 +290,7 @@ fn other_words_than_those_stored_refuse(rt: HostRuntime) -> Result<(), Fail> {
             (name(1, FAR | 1 << 62, BACK), Reply::Word(FAR)),
             (name(1, FAR, BACK), Reply::Done),
         ],
+        &[],
     );
     Ok(())
 }

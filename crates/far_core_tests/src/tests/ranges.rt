@@ -27,7 +27,7 @@ fn holding_pair(rt: &impl Abort, alloc: Global) -> Result<Core, Refused> {
 fn store_word(rt: &impl Abort, core: &mut Core, pointer: u16, first: u16, word: u64) {
     assert!(rt; pointer < CELLS && core.is_held(pointer) && first < 2);
     let Some(PtrWord::Near { len: 16, .. }) = PtrWord::read(core.cell(pointer)) else {
-        panic!(rt; "{pointer} isn't near with 16 bytes");
+        panic!(rt; "the object isn't near with 16 bytes");
     };
     core.store_all(0, pointer, first, &[word]);
 }
@@ -35,7 +35,7 @@ fn store_word(rt: &impl Abort, core: &mut Core, pointer: u16, first: u16, word: 
 fn words_of(rt: &impl Abort, core: &Core, pointer: u16) -> [u64; 2] {
     assert!(rt; pointer < CELLS && core.is_held(pointer));
     let Some(PtrWord::Near { len: 16, .. }) = PtrWord::read(core.cell(pointer)) else {
-        panic!(rt; "{pointer} isn't near with 16 bytes");
+        panic!(rt; "the object isn't near with 16 bytes");
     };
     let mut words = [0; 2];
     core.load_all(0, pointer, 0, &mut words);
@@ -57,11 +57,11 @@ fn word_at(rt: &impl Abort, core: &Core, at: u16) -> u64 {
 #[test]
 fn words_are_stored_and_loaded(rt: HostRuntime) -> Result<(), Fail> {
     let mut core = holding_pair(&rt, rt.alloc())?;
-    assert_eq!(rt; words_of(&rt, &core, 0), [0, 0]);
+    assert!(rt; words_of(&rt, &core, 0) == [0, 0]);
     store_word(&rt, &mut core, 0, 1, 7);
-    assert_eq!(rt; words_of(&rt, &core, 0), [0, 7]);
+    assert!(rt; words_of(&rt, &core, 0) == [0, 7]);
     store_word(&rt, &mut core, 0, 0, u64::MAX);
-    assert_eq!(rt; words_of(&rt, &core, 0), [u64::MAX, 7]);
+    assert!(rt; words_of(&rt, &core, 0) == [u64::MAX, 7]);
     answers(&rt, &mut core, &[loaded(0, 0, u64::MAX), loaded(0, 1, 7)]);
     Ok(())
 }
@@ -81,6 +81,6 @@ fn zeros_are_put(rt: HostRuntime) -> Result<(), Fail> {
         word_at(&rt, &core, 5),
         word_at(&rt, &core, 6),
     ];
-    assert_eq!(rt; words, [3, 0, 0, 6]);
+    assert!(rt; words == [3, 0, 0, 6]);
     Ok(())
 }

@@ -5,10 +5,11 @@ use std::test::Fail;
 
 #[test]
 fn scopes_refuse(rt: HostRuntime) -> Result<(), Fail> {
-    let mut core = peopled(&rt, rt.alloc())?;
-    refuses(
+    let core = peopled(&rt, rt.alloc())?;
+    goes_so(
         &rt,
-        &mut core,
+        core,
+        &[],
         &[
             Event::ReadEpoch { owner: 0 },
             Event::ReadEpoch { owner: 2 },
@@ -27,10 +28,11 @@ fn scopes_refuse(rt: HostRuntime) -> Result<(), Fail> {
 
 #[test]
 fn views_refuse(rt: HostRuntime) -> Result<(), Fail> {
-    let mut core = peopled(&rt, rt.alloc())?;
-    refuses(
+    let core = peopled(&rt, rt.alloc())?;
+    goes_so(
         &rt,
-        &mut core,
+        core,
+        &[],
         &[
             pin(0, 0),
             pin(0, 1),
@@ -55,10 +57,11 @@ fn views_refuse(rt: HostRuntime) -> Result<(), Fail> {
 
 #[test]
 fn stores_refuse(rt: HostRuntime) -> Result<(), Fail> {
-    let mut core = peopled(&rt, rt.alloc())?;
-    refuses(
+    let core = peopled(&rt, rt.alloc())?;
+    goes_so(
         &rt,
-        &mut core,
+        core,
+        &[],
         &[
             store(0, 0, 1, 0x100),
             store(0, 0, 1, u64::MAX),
@@ -77,10 +80,11 @@ fn stores_refuse(rt: HostRuntime) -> Result<(), Fail> {
 
 #[test]
 fn adoptions_refuse(rt: HostRuntime) -> Result<(), Fail> {
-    let mut core = peopled(&rt, rt.alloc())?;
-    refuses(
+    let core = peopled(&rt, rt.alloc())?;
+    goes_so(
         &rt,
-        &mut core,
+        core,
+        &[],
         &[
             adopt(0, 0),
             adopt(0, 3),
@@ -95,10 +99,11 @@ fn adoptions_refuse(rt: HostRuntime) -> Result<(), Fail> {
 
 #[test]
 fn puts_refuse(rt: HostRuntime) -> Result<(), Fail> {
-    let mut core = peopled(&rt, rt.alloc())?;
-    refuses(
+    let core = peopled(&rt, rt.alloc())?;
+    goes_so(
         &rt,
-        &mut core,
+        core,
+        &[],
         &[
             write(0, 0, 0),
             write(0, 1, 0),
@@ -148,19 +153,15 @@ fn words_that_name_nothing_refuse(rt: HostRuntime) -> Result<(), Fail> {
 
 #[test]
 fn places_that_are_not_next_refuse(rt: HostRuntime) -> Result<(), Fail> {
-    let mut core = peopled(&rt, rt.alloc())?;
-    answers(
+    let core = peopled(&rt, rt.alloc())?;
+    goes_so(
         &rt,
-        &mut core,
+        core,
         &[
             put(0, 11, 0xa100_0000_0301_0008),
             put(1, 1, 0xa100_0000_0301_0008),
             put(0, 9, 0xa100_0001_0001_0008),
         ],
-    );
-    refuses(
-        &rt,
-        &mut core,
         &[
             name(3, 0, 0x8400_0000_0b01_0008),
             name(3, 0, 0x8400_0004_0101_0008),
@@ -191,7 +192,7 @@ fn data_that_is_not_zero_refuses(rt: HostRuntime) -> Result<(), Fail> {
         &mut core,
         &[put(0, 11, 0), put(0, 12, 1), named(3, new)],
     );
-    assert_eq!(rt; log_shown(&rt, &core, 0), (Kind::Open, 12));
+    assert!(rt; log_shown(&rt, &core, 0) == (Kind::Open, 12));
     Ok(())
 }
 
@@ -207,8 +208,8 @@ fn sealed_log_refuses(rt: HostRuntime) -> Result<(), Fail> {
             named(3, 0x8400_0008_0001_0008),
         ],
     );
-    assert_eq!(rt; log_shown(&rt, &core, 0), (Kind::Sealed, 9));
-    assert_eq!(rt; core.open_log(), 2);
+    assert!(rt; log_shown(&rt, &core, 0) == (Kind::Sealed, 9));
+    assert!(rt; core.open_log() == 2);
     refuses(
         &rt,
         &mut core,

@@ -1,29 +1,27 @@
 //! Whether values of the public types that differ compare as different. All other tests rest on it.
 
-ghost use Rattle.std.specs.Prelude.{◌<◌, length};
-
 use super::*;
 use far_core::Naming;
 use far_word::Mark;
-use std::fmt::Debug;
-use std::test::Fail;
 
-/// The value at `index` equals itself, and no other of these.
-fn equals_itself_alone<T: PartialEq + Debug>(rt: &impl Abort, values: &[T], index: usize)
-    requires { index < length values.now }
-{
-    let one = &values[index];
+/// Whether a value is equal to that of the same number among these, and to no other.
+fn is_alone<T: PartialEq>(values: &[T], index: usize, one: &T) -> bool {
     for (at, other) in values.iter().enumerate() {
-        assert!(rt; (one == other) == (at == index), "at {one:?} and {other:?}");
-        assert!(rt; (one != other) == (at != index), "at {one:?} and {other:?}");
+        if (one == other) != (at == index) || (one != other) != (at != index) {
+            return false;
+        }
     }
+    true
 }
 
-/// No two of these values are equal.
-fn all_differ<T: PartialEq + Debug>(rt: &impl Abort, values: &[T]) {
-    for index in 0..values.len() {
-        equals_itself_alone(rt, values, index);
+/// Whether no two of these values are equal.
+fn all_differ<T: PartialEq>(values: &[T]) -> bool {
+    for (index, one) in values.iter().enumerate() {
+        if !is_alone(values, index, one) {
+            return false;
+        }
     }
+    true
 }
 
 fn read_epoch(owner: u8) -> Event {
@@ -110,16 +108,14 @@ fn events() -> [Event; 48] {
 }
 
 #[test]
-fn events_differ(rt: HostRuntime) -> Result<(), Fail> {
-    all_differ(&rt, &events());
-    Ok(())
+fn events_differ(rt: HostRuntime) {
+    assert!(rt; all_differ(&events()));
 }
 
 #[test]
-fn replies_differ(rt: HostRuntime) -> Result<(), Fail> {
-    all_differ(
-        &rt,
-        &[
+fn replies_differ(rt: HostRuntime) {
+    assert!(rt;
+        all_differ(&[
             Reply::Refused,
             Reply::Done,
             Reply::Epoch(0),
@@ -131,13 +127,12 @@ fn replies_differ(rt: HostRuntime) -> Result<(), Fail> {
             Reply::Held(Place { log: 0, at: 0 }),
             Reply::Held(Place { log: 1, at: 0 }),
             Reply::Held(Place { log: 0, at: 1 }),
-        ],
+        ])
     );
-    Ok(())
 }
 
 #[test]
-fn namings_differ(rt: HostRuntime) -> Result<(), Fail> {
+fn namings_differ(rt: HostRuntime) {
     let places = |len, ds, log, at| Naming::Places {
         len,
         ds,
@@ -152,9 +147,8 @@ fn namings_differ(rt: HostRuntime) -> Result<(), Fail> {
         len,
         place: Place { log, at },
     };
-    all_differ(
-        &rt,
-        &[
+    assert!(rt;
+        all_differ(&[
             Naming::Retires,
             moves(8, 1, (0, 0), (1, 0)),
             moves(9, 1, (0, 0), (1, 0)),
@@ -178,32 +172,28 @@ fn namings_differ(rt: HostRuntime) -> Result<(), Fail> {
             places(8, 2, 0, 0),
             places(8, 1, 1, 0),
             places(8, 1, 0, 1),
-        ],
+        ])
     );
-    Ok(())
 }
 
 #[test]
-fn kinds_differ(rt: HostRuntime) -> Result<(), Fail> {
-    all_differ(&rt, &[Kind::Free, Kind::Open, Kind::Sealed]);
-    Ok(())
+fn kinds_differ(rt: HostRuntime) {
+    assert!(rt; all_differ(&[Kind::Free, Kind::Open, Kind::Sealed]));
 }
 
 #[test]
-fn shapes_differ(rt: HostRuntime) -> Result<(), Fail> {
+fn shapes_differ(rt: HostRuntime) {
     let shape = |logs, mutators, epoch| Shape {
         logs,
         mutators,
         epoch,
     };
-    all_differ(
-        &rt,
-        &[
+    assert!(rt;
+        all_differ(&[
             shape(0, 0, 0),
             shape(1, 0, 0),
             shape(0, 1, 0),
             shape(0, 0, 1),
-        ],
+        ])
     );
-    Ok(())
 }

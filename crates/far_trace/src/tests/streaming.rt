@@ -112,24 +112,27 @@ fn run_written(
     (ended, writer)
 }
 
-#[test]
-fn each_read_may_fail(rt: HostRuntime) -> Result<(), Fail> {
+// Whether a run of the text by a reader whose read of this number fails ends there, writes nothing, and doesn't read again.
+fn fails_to_read(rt: &impl AllocGlobal, fails_at: u64) -> bool {
+    let kind = KINDS[(fails_at % 5) as usize];
+    let (ended, written, reads) = run_read(rt, TEXT, 1, fails_at, kind);
+    ended == Err(RunFault::Read) && written.is_empty() && reads == fails_at
+}
+
+// Whether it is answered by a reader that gives so many bytes a read, of which none fails.
+fn reads_by(rt: &impl AllocGlobal, most: usize) -> bool {
     let end = TEXT.len() as u64 + 1;
-    for fails_at in 1..end + 1 {
-        let kind = KINDS[(fails_at % 5) as usize];
-        let (ended, written, reads) = run_read(&rt, TEXT, 1, fails_at, kind);
-        assert_eq!(rt; ended, Err(RunFault::Read), "at {fails_at}");
-        assert!(rt; written.is_empty());
-        // it is not tried again
-        assert_eq!(rt; reads, fails_at);
+    let (ended, written, reads) = run_read(rt, TEXT, most, end + 1, ErrorKind::Other);
+    ended == Ok(End::Ran) && written.as_slice() == ANSWER.as_bytes() && reads <= end
+}
+
+#[test]
+fn each_read_may_fail(rt: HostRuntime) {
+    for fails_at in 1..TEXT.len() as u64 + 2 {
+        assert!(rt; fails_to_read(&rt, fails_at), "at {fails_at}");
     }
-    for most in [1, 2, 7, 4096] {
-        let (ended, written, reads) = run_read(&rt, TEXT, most, end + 1, ErrorKind::Other);
-        assert_eq!(rt; ended, Ok(End::Ran));
-        assert_eq!(rt; written.as_slice(), ANSWER.as_bytes());
-        assert!(rt; reads <= end);
-    }
-    Ok(())
+    assert!(rt; reads_by(&rt, 1) && reads_by(&rt, 2));
+    assert!(rt; reads_by(&rt, 7) && reads_by(&rt, 4096));
 }
 
 #[test]
@@ -137,32 +140,36 @@ fn nothing_is_read_after_the_first_byte_too_many(rt: HostRuntime) -> Result<(), 
     let mut text = String::new(rt.alloc());
     push_times(&mut text, "\n", 1_048_577)?;
     let (ended, written, reads) = run_read(&rt, &text, 65_536, 18, ErrorKind::Other);
-    assert_eq!(rt; ended, Ok(End::Refused));
-    assert_eq!(rt; written.as_slice(), b"refused 16 0\n".as_slice());
-    assert_eq!(rt; reads, 17);
+    assert!(rt; ended == Ok(End::Refused) && written.as_slice() == b"refused 16 0\n".as_slice());
+    assert!(rt; reads == 17);
     Ok(())
 }
 
+// Whether a run of the text by a writer that fails after so many bytes ends there, with them written, and doesn't write again.
+fn fails_to_write(rt: &impl AllocGlobal, before: u64, failure: Option<ErrorKind>) -> bool {
+    let (ended, writer) = run_written(rt, TEXT, 1, before.saturating_add(1), failure);
+    ended == Err(RunFault::Write)
+        && writer.taken.len() as u64 == before
+        && writer.writes == before.saturating_add(1)
+        && ANSWER.as_bytes().starts_with(&writer.taken)
+}
+
+// Whether the answer is written by a writer that takes so many bytes a write, of which none fails.
+fn writes_by(rt: &impl AllocGlobal, most: usize) -> bool {
+    let (ended, writer) = run_written(rt, TEXT, most, 0, None);
+    ended == Ok(End::Ran) && writer.taken.as_slice() == ANSWER.as_bytes()
+}
+
 #[test]
-fn each_write_may_fail(rt: HostRuntime) -> Result<(), Fail> {
-    let answer = ANSWER.as_bytes();
-    let last = answer.len() as u64 - 1;
+fn each_write_may_fail(rt: HostRuntime) {
+    let last = ANSWER.len() as u64 - 1;
     for before in [0, 1, 2, 3, 100, last - 1, last] {
-        for failure in [None, Some(KINDS[(before % 5) as usize])] {
-            let (ended, writer) = run_written(&rt, TEXT, 1, before + 1, failure);
-            assert_eq!(rt; ended, Err(RunFault::Write), "at {before}");
-            assert_eq!(rt; writer.taken.len() as u64, before);
-            // it is not tried again
-            assert_eq!(rt; writer.writes, before + 1);
-            assert!(rt; answer.starts_with(&writer.taken));
-        }
+        let kind = KINDS[(before % 5) as usize];
+        assert!(rt; fails_to_write(&rt, before, None), "at {before}");
+        assert!(rt; fails_to_write(&rt, before, Some(kind)), "at {before}");
     }
-    for most in [1, 2, 7, 4096] {
-        let (ended, writer) = run_written(&rt, TEXT, most, 0, None);
-        assert_eq!(rt; ended, Ok(End::Ran));
-        assert_eq!(rt; writer.taken.as_slice(), answer);
-    }
-    Ok(())
+    assert!(rt; writes_by(&rt, 1) && writes_by(&rt, 2));
+    assert!(rt; writes_by(&rt, 7) && writes_by(&rt, 4096));
 }
 
 // `logs` of the largest heap, again and again: each time more than 2,500 bytes of answer.
@@ -173,20 +180,23 @@ fn long_text(rt: &impl AllocGlobal) -> Result<String, Fail> {
     Ok(text)
 }
 
+// Whether nothing is written after the piece of this number, which fails, of what is a part of the whole.
+fn ends_at_piece(rt: &impl AllocGlobal, text: &str, whole: &[u8], piece: u64) -> bool {
+    let (ended, writer) = run_written(rt, text, usize::MAX, piece, None);
+    ended == Err(RunFault::Write)
+        && writer.writes == piece
+        && whole.starts_with(&writer.taken)
+        && writer.taken.len() < whole.len()
+}
+
 #[test]
 fn long_answers_are_written_in_few_pieces(rt: HostRuntime) -> Result<(), Fail> {
     let text = long_text(&rt)?;
     let (ended, whole) = run_written(&rt, &text, usize::MAX, 0, None);
-    assert_eq!(rt; ended, Ok(End::Ran));
-    assert!(rt; whole.taken.len() > 400_000);
-    assert!(rt; whole.writes <= 10, "{} writes", whole.writes);
-    for fails_at in 1..whole.writes.saturating_add(1) {
-        let (ended, writer) = run_written(&rt, &text, usize::MAX, fails_at, None);
-        assert_eq!(rt; ended, Err(RunFault::Write), "at {fails_at}");
-        // nothing is written after a failed piece
-        assert_eq!(rt; writer.writes, fails_at);
-        assert!(rt; whole.taken.starts_with(&writer.taken));
-        assert!(rt; writer.taken.len() < whole.taken.len());
+    assert!(rt; ended == Ok(End::Ran) && whole.taken.len() > 400_000);
+    assert!(rt; whole.writes <= 10);
+    for piece in 1..whole.writes.saturating_add(1) {
+        assert!(rt; ends_at_piece(&rt, &text, &whole.taken, piece));
     }
     Ok(())
 }
