@@ -55,6 +55,9 @@ pub(super) fn beset<D: Device + Drop>(
     Book::new(rt.alloc(), hand, device)
 }
 
+/// The cell of pointer 0, an object of 9 bytes of data structure 1 at the start of log 0.
+const NINE: u64 = 0x8400_0000_0001_0009;
+
 /// An event that isn't made, for a turn in which owners do nothing.
 pub(super) const IDLE: Event = Event::Close { owner: 9 };
 
@@ -163,6 +166,55 @@ pub(super) fn home<N: Near + Drop, D: Device + Drop>(
     }
 }
 
+// Whether an owner's event is answered so.
+pub(super) fn answers<D: Device + Drop>(
+    book: &mut Book<Plain, D>,
+    event: Event,
+    reply: Reply,
+) -> bool {
+    book.owner(event) == reply
+}
+
+// Whether a log is and has this.
+pub(super) fn has<N: Near + Drop, D: Device + Drop>(
+    book: &Book<N, D>,
+    log: u8,
+    wanted: Option<(Kind, LogRow)>,
+) -> bool {
+    shown(book, log) == wanted
+}
+
+// Whether a pointer's object is near at this place, with these marks.
+pub(super) fn is_near_at<N: Near + Drop, D: Device + Drop>(
+    book: &mut Book<N, D>,
+    pointer: u16,
+    place: Place,
+    marks: Marks,
+) -> bool {
+    home(book, pointer) == Some(Home::Near { place, marks })
+}
+
+// Whether a new object gets this pointer and place.
+pub(super) fn places_next<N: Near + Drop, D: Device + Drop>(
+    book: &mut Book<N, D>,
+    len: u16,
+    pointer: u16,
+    place: Place,
+) -> bool
+    requires some { 0 < len }
+    requires most { len ≤ LONGEST }
+{
+    place_next(book, len, 1) == Ok((pointer, place))
+}
+
+// Whether a new object of 8 bytes is refused so.
+pub(super) fn refuses_next<N: Near + Drop, D: Device + Drop>(
+    book: &mut Book<N, D>,
+    why: Refused,
+) -> bool {
+    place_next(book, 8, 1) == Err(why)
+}
+
 // Retires a near object whose cell shows DROP, and says whether it did.
 #[tactic(auto, using(crate::proofs::Uses::dropped_home))]
 pub(super) fn retire_dropped<N: Near + Drop, D: Device + Drop>(
@@ -207,55 +259,86 @@ fn drop_next(book: &mut Book<Plain, MemDevice>, pointer: u16) {
     book.owner(ask(pointer, Mark::Dropped));
 }
 
-#[test]
-fn the_largest_object_fills_a_log(rt: HostRuntime) -> Result<(), Fail> {
-    let mut book = opened(&rt, SMALL)?;
-    assert_eq!(rt; shown(&book, 0), line(Kind::Open, 0, 0, 0, 1024));
-    let first = Place { log: 0, at: 0 };
-    assert_eq!(rt; place_next(&mut book, 1016, 1), Ok((0, first)));
-    assert_eq!(rt; shown(&book, 0), line(Kind::Open, 0, 1024, 0, 0));
-    let next = Place { log: 1, at: 0 };
-    assert_eq!(rt; place_next(&mut book, 1, 1), Ok((1, next)));
-    assert_eq!(rt; shown(&book, 0), line(Kind::Sealed, 0, 1024, 0, 0));
-    assert_eq!(rt; shown(&book, 1), line(Kind::Open, 1, 16, 0, 1008));
-    assert_eq!(rt; shown(&book, 3), line(Kind::Free, 3, 0, 0, 1024));
-    assert_eq!(rt; shown(&book, 4), None);
+// Whether the first logs are and have this, and there is no log behind them.
+fn has_four<N: Near + Drop, D: Device + Drop>(
+    book: &Book<N, D>,
+    wanted: [Option<(Kind, LogRow)>; 4],
+) -> bool {
+    has(book, 0, wanted[0])
+        && has(book, 1, wanted[1])
+        && has(book, 2, wanted[2])
+        && has(book, 3, wanted[3])
+        && shown(book, 4).is_none()
+}
+
+// Whether the sealed logs are these.
+fn has_rows(book: &Book<Plain, MemDevice>, rows: &[LogRow]) -> bool {
+    match book.rows() {
+        Ok(found) => found.as_slice() == rows,
+        Err(_) => false,
+    }
+}
+
+fn fills_a_log(book: &mut Book<Plain, MemDevice>) -> bool {
     let sealed = LogRow {
         log: 0,
         live: 1024,
         dead: 0,
         unused: 0,
     };
-    assert_eq!(rt; book.rows()?.as_slice(), [sealed].as_slice());
-    Ok(())
+    has(book, 0, line(Kind::Open, 0, 0, 0, 1024))
+        && places_next(book, 1016, 0, Place { log: 0, at: 0 })
+        && has(book, 0, line(Kind::Open, 0, 1024, 0, 0))
+        && places_next(book, 1, 1, Place { log: 1, at: 0 })
+        && has_four(
+            book,
+            [
+                Some((Kind::Sealed, sealed)),
+                line(Kind::Open, 1, 16, 0, 1008),
+                line(Kind::Free, 2, 0, 0, 1024),
+                line(Kind::Free, 3, 0, 0, 1024),
+            ],
+        )
+        && has_rows(book, &[sealed])
 }
 
 #[test]
-fn an_odd_length_takes_whole_words(rt: HostRuntime) -> Result<(), Fail> {
+fn the_largest_object_fills_a_log(rt: HostRuntime) -> Result<(), Fail> {
     let mut book = opened(&rt, SMALL)?;
-    let (pointer, _) = place_next(&mut book, 9, 2)?;
-    assert_eq!(rt; shown(&book, 0), line(Kind::Open, 0, 24, 0, 1000));
-    let owner = 0;
-    let index = 1;
-    book.owner(Event::Adopt { owner, pointer });
-    assert_eq!(rt; book.owner(Event::ReadEpoch { owner }), Reply::Epoch(0));
-    assert_eq!(rt; book.owner(Event::Open { owner }), Reply::Done);
-    book.owner(Event::Pin { owner, pointer });
-    let word = 0xff;
+    assert!(rt; fills_a_log(&mut book));
+    Ok(())
+}
+
+// Whether an object of 9 bytes takes a word for the last of them.
+fn takes_whole_words(book: &mut Book<Plain, MemDevice>) -> bool {
+    let (owner, pointer, index, word) = (0, 0, 1, 0xff);
+    let load = Event::Load {
+        owner,
+        pointer,
+        index,
+    };
     let store = Event::Store {
         owner,
         pointer,
         index,
         word,
     };
-    assert_eq!(rt; book.owner(store), Reply::Done);
-    let load = Event::Load {
-        owner,
-        pointer,
-        index,
-    };
-    assert_eq!(rt; book.owner(load), Reply::Word(0xff));
-    assert_eq!(rt; book.owner(Event::See { pointer }), Reply::Refused);
+    let place = Place { log: 0, at: 0 };
+    places_next(book, 9, pointer, place)
+        && has(book, 0, line(Kind::Open, 0, 24, 0, 1000))
+        && answers(book, Event::Adopt { owner, pointer }, Reply::Word(NINE))
+        && answers(book, Event::ReadEpoch { owner }, Reply::Epoch(0))
+        && answers(book, Event::Open { owner }, Reply::Done)
+        && answers(book, Event::Pin { owner, pointer }, Reply::Held(place))
+        && answers(book, store, Reply::Done)
+        && answers(book, load, Reply::Word(0xff))
+        && answers(book, Event::See { pointer }, Reply::Refused)
+}
+
+#[test]
+fn an_odd_length_takes_whole_words(rt: HostRuntime) -> Result<(), Fail> {
+    let mut book = opened(&rt, SMALL)?;
+    assert!(rt; takes_whole_words(&mut book));
     Ok(())
 }
 
@@ -309,39 +392,85 @@ fn first_log(book: &Book<Plain, MemDevice>) -> (Kind, LogRow) {
     book.log(0)
 }
 
-#[test]
-fn words_are_stored_and_loaded(rt: HostRuntime) -> Result<(), Fail> {
-    let mut book = holding_pair(&rt)?;
+// Whether the words of the object that is held are stored and loaded, and aren't reached any more after a close.
+fn stores_and_loads(book: &mut Book<Plain, MemDevice>) -> bool {
     let (owner, pointer) = (0, 0);
-    assert_eq!(rt; words_of(&book, pointer), Some([0, 0]));
-    assert!(rt; store_word(&mut book, pointer, 1, 7));
-    assert!(rt; store_word(&mut book, pointer, 0, u64::MAX));
-    assert_eq!(rt; words_of(&book, pointer), Some([u64::MAX, 7]));
     let load = Event::Load {
         owner,
         pointer,
         index: 1,
     };
-    assert_eq!(rt; book.owner(load), Reply::Word(7));
-    assert_eq!(rt; Some(first_log(&book)), line(Kind::Open, 0, 24, 0, 1000));
-    // What isn't held isn't reached.
-    assert_eq!(rt; book.owner(Event::Close { owner }), Reply::Done);
-    assert_eq!(rt; book.owner(load), Reply::Refused);
-    assert_eq!(rt; store_word(&mut book, pointer, 1, 8), false);
-    assert_eq!(rt; words_of(&book, pointer), None);
+    words_of(book, pointer) == Some([0, 0])
+        && store_word(book, pointer, 1, 7)
+        && store_word(book, pointer, 0, u64::MAX)
+        && words_of(book, pointer) == Some([u64::MAX, 7])
+        && answers(book, load, Reply::Word(7))
+        && Some(first_log(book)) == line(Kind::Open, 0, 24, 0, 1000)
+        && answers(book, Event::Close { owner }, Reply::Done)
+        && answers(book, load, Reply::Refused)
+        && !store_word(book, pointer, 1, 8)
+        && words_of(book, pointer).is_none()
+}
+
+#[test]
+fn words_are_stored_and_loaded(rt: HostRuntime) -> Result<(), Fail> {
+    let mut book = holding_pair(&rt)?;
+    assert!(rt; stores_and_loads(&mut book));
     Ok(())
+}
+
+// Whether one of three logs stays free where both others are full.
+fn keeps_the_last(book: &mut Book<Plain, MemDevice>) -> bool {
+    places_next(book, 1016, 0, Place { log: 0, at: 0 })
+        && places_next(book, 1016, 1, Place { log: 1, at: 0 })
+        && refuses_next(book, Refused::NoRoom)
+        && has(book, 1, line(Kind::Open, 1, 1024, 0, 0))
+        && has(book, 2, line(Kind::Free, 2, 0, 0, 1024))
 }
 
 #[test]
 fn the_last_free_log_is_kept(rt: HostRuntime) -> Result<(), Fail> {
-    let three = Shape { logs: 3, ..SMALL };
-    let mut book = opened(&rt, three)?;
-    place_next(&mut book, 1016, 1)?;
-    place_next(&mut book, 1016, 1)?;
-    assert_eq!(rt; place_next(&mut book, 8, 1), Err(Refused::NoRoom));
-    assert_eq!(rt; shown(&book, 1), line(Kind::Open, 1, 1024, 0, 0));
-    assert_eq!(rt; shown(&book, 2), line(Kind::Free, 2, 0, 0, 1024));
+    let mut book = opened(&rt, Shape { logs: 3, ..SMALL })?;
+    assert!(rt; keeps_the_last(&mut book));
     Ok(())
+}
+
+// A span of an object of 328 bytes.
+fn long(at: u16, p: u16) -> Span {
+    Span {
+        at,
+        p,
+        len: 328,
+        ds: 7,
+    }
+}
+
+// Whether log 0 has these spans.
+fn has_spans(book: &mut Book<Plain, MemDevice>, spans: &[Span]) -> bool {
+    if book.shape().logs == 0 {
+        return false;
+    }
+    match book.spans(0) {
+        Ok(found) => found.as_slice() == spans,
+        Err(_) => false,
+    }
+}
+
+// Whether of three objects of 328 bytes and one that fill log 0 the second is dropped and retired, and its span stays.
+fn makes_dead(book: &mut Book<Plain, MemDevice>) -> bool {
+    let last = Span {
+        at: 126,
+        p: 3,
+        len: 8,
+        ds: 1,
+    };
+    let full = !retire_dropped(book, 1);
+    drop_next(book, 1);
+    full && has(book, 0, line(Kind::Open, 0, 1024, 0, 0))
+        && retire_dropped(book, 1)
+        && has(book, 0, line(Kind::Open, 0, 688, 336, 0))
+        && book.core().cell(1) == 0
+        && has_spans(book, &[long(0, 0), long(42, 1), long(84, 2), last])
 }
 
 #[test]
@@ -351,32 +480,24 @@ fn a_dropped_object_is_dead(rt: HostRuntime) -> Result<(), Fail> {
         place_next(&mut book, 328, 7)?;
     }
     place_next(&mut book, 8, 1)?;
-    assert_eq!(rt; retire_dropped(&mut book, 1), false);
-    drop_next(&mut book, 1);
-    assert_eq!(rt; shown(&book, 0), line(Kind::Open, 0, 1024, 0, 0));
-    assert_eq!(rt; retire_dropped(&mut book, 1), true);
-    assert_eq!(rt; shown(&book, 0), line(Kind::Open, 0, 688, 336, 0));
-    assert_eq!(rt; book.core().cell(1), 0);
-    if book.shape().logs > 0 {
-        let spans = book.spans(0)?;
-        let span = |at: u16, p: u16| Span {
-            at,
-            p,
-            len: 328,
-            ds: 7,
-        };
-        let last = Span {
-            at: 126,
-            p: 3,
-            len: 8,
-            ds: 1,
-        };
-        assert_eq!(rt;
-            spans.as_slice(),
-            [span(0, 0), span(42, 1), span(84, 2), last].as_slice()
-        );
-    }
+    assert!(rt; makes_dead(&mut book));
     Ok(())
+}
+
+// Whether an object is dropped and retired.
+fn lets_go(book: &mut Book<Plain, MemDevice>, pointer: u16) -> bool {
+    drop_next(book, pointer);
+    retire_dropped(book, pointer)
+}
+
+// Whether of 128 objects of 16 bytes with their headers two are dropped, and new ones get their cells, the lowest first.
+fn takes_the_lowest(book: &mut Book<Plain, MemDevice>) -> bool {
+    refuses_next(book, Refused::NoPointer)
+        && lets_go(book, 100)
+        && lets_go(book, 64)
+        && places_next(book, 1, 64, Place { log: 2, at: 0 })
+        && places_next(book, 1, 100, Place { log: 2, at: 2 })
+        && has(book, 1, line(Kind::Sealed, 1, 992, 32, 0))
 }
 
 #[test]
@@ -385,44 +506,55 @@ fn the_lowest_free_cell_is_taken(rt: HostRuntime) -> Result<(), Fail> {
     for _ in 0..128u8 {
         place_next(&mut book, 1, 1)?;
     }
-    assert_eq!(rt; place_next(&mut book, 1, 1), Err(Refused::NoPointer));
-    for pointer in [100, 64] {
-        drop_next(&mut book, pointer);
-        assert!(rt; retire_dropped(&mut book, pointer));
-    }
-    let place = Place { log: 2, at: 0 };
-    assert_eq!(rt; place_next(&mut book, 1, 1), Ok((64, place)));
-    let after = Place { log: 2, at: 2 };
-    assert_eq!(rt; place_next(&mut book, 1, 1), Ok((100, after)));
-    assert_eq!(rt; shown(&book, 1), line(Kind::Sealed, 1, 992, 32, 0));
+    assert!(rt; takes_the_lowest(&mut book));
     Ok(())
 }
 
-#[test]
-fn an_object_of_a_sealed_log_is_marked(rt: HostRuntime) -> Result<(), Fail> {
-    let mut book = opened(&rt, SMALL)?;
-    place_next(&mut book, 8, 1)?;
-    assert_eq!(rt; mark_sealed(&mut book, 0), None);
-    place_next(&mut book, 1016, 1)?;
-    assert_eq!(rt; mark_sealed(&mut book, 0), Some(0x8400_0000_0001_0008));
-    assert_eq!(rt; mark_sealed(&mut book, 0), Some(0xa400_0000_0001_0008));
-    assert_eq!(rt; mark_sealed(&mut book, 1), None);
-    assert_eq!(rt; mark_sealed(&mut book, 2), None);
+// Whether an object is marked once its log is sealed, and answers its word before each time.
+fn marks_when_sealed(book: &mut Book<Plain, MemDevice>) -> bool {
     let place = Place { log: 0, at: 0 };
     let marks = Marks {
         evac: true,
         ..NO_MARKS
     };
-    assert_eq!(rt; home(&mut book, 0), Some(Home::Near { place, marks }));
-    assert_eq!(rt; shown(&book, 0), line(Kind::Sealed, 0, 16, 0, 1008));
+    places_next(book, 8, 0, place)
+        && mark_sealed(book, 0).is_none()
+        && places_next(book, 1016, 1, Place { log: 1, at: 0 })
+        && mark_sealed(book, 0) == Some(0x8400_0000_0001_0008)
+        && mark_sealed(book, 0) == Some(0xa400_0000_0001_0008)
+        && mark_sealed(book, 1).is_none()
+        && mark_sealed(book, 2).is_none()
+        && is_near_at(book, 0, place, marks)
+        && has(book, 0, line(Kind::Sealed, 0, 16, 0, 1008))
+}
+
+#[test]
+fn an_object_of_a_sealed_log_is_marked(rt: HostRuntime) -> Result<(), Fail> {
+    let mut book = opened(&rt, SMALL)?;
+    assert!(rt; marks_when_sealed(&mut book));
     Ok(())
+}
+
+// Whether pointer 0's new object is found as it was placed, then with HOT, then dropped, and is retired.
+fn finds_marks(book: &mut Book<Beset, MemDevice>) -> bool {
+    let place = Place { log: 0, at: 0 };
+    let hot = Marks {
+        hot: true,
+        ..NO_MARKS
+    };
+    places_next(book, 8, 0, place)
+        && is_near_at(book, 0, place, NO_MARKS)
+        && is_near_at(book, 0, place, hot)
+        && !retire_dropped(book, 0)
+        && retire_dropped(book, 0)
+        && home(book, 0).is_none()
+        && has(book, 0, line(Kind::Open, 0, 0, 16, 1008))
 }
 
 #[test]
 fn marks_come_between_calls(rt: HostRuntime) -> Result<(), Fail> {
     let (owner, pointer) = (0, 0);
     let mark = Mark::Dropped;
-    let place = Place { log: 0, at: 0 };
     // The first three are made as the object is placed.
     let events = vec![in rt.alloc();
         Event::ReadEpoch { owner },
@@ -438,17 +570,6 @@ fn marks_come_between_calls(rt: HostRuntime) -> Result<(), Fail> {
         },
     ]?;
     let mut book = beset(&rt, events, MemDevice::new(rt.alloc()))?;
-    assert_eq!(rt; place_next(&mut book, 8, 1), Ok((pointer, place)));
-    let marks = NO_MARKS;
-    assert_eq!(rt; home(&mut book, pointer), Some(Home::Near { place, marks }));
-    let marks = Marks {
-        hot: true,
-        ..NO_MARKS
-    };
-    assert_eq!(rt; home(&mut book, pointer), Some(Home::Near { place, marks }));
-    assert_eq!(rt; retire_dropped(&mut book, pointer), false);
-    assert_eq!(rt; retire_dropped(&mut book, pointer), true);
-    assert_eq!(rt; home(&mut book, pointer), None);
-    assert_eq!(rt; shown(&book, 0), line(Kind::Open, 0, 0, 16, 1008));
+    assert!(rt; finds_marks(&mut book));
     Ok(())
 }

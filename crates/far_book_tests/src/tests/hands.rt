@@ -100,11 +100,11 @@ fn plain_words_stay(rt: HostRuntime) -> Result<(), Fail> {
     let named = place_first(&mut hand);
     assert_eq!(rt; named, Ok(()));
     assert_eq!(rt; hand.shape(), SMALL);
-    assert_eq!(rt; hand.core.cell(0), NEAR);
+    assert!(rt; hand.core.cell(0) == NEAR);
     assert!(rt; hand.core.mutators() == 1 && hand.core.logs() == 4);
-    assert_eq!(rt; hand.see(0), NEAR);
-    assert_eq!(rt; hand.get(0, 0, false), HEADER);
-    assert_eq!(rt; hand.get(0, 1, false), 0);
+    assert!(rt; hand.see(0) == NEAR);
+    assert!(rt; hand.get(0, 0, false) == HEADER);
+    assert!(rt; hand.get(0, 1, false) == 0);
     let adopt = Event::Adopt {
         owner: 0,
         pointer: 0,
@@ -113,7 +113,7 @@ fn plain_words_stay(rt: HostRuntime) -> Result<(), Fail> {
     assert_eq!(rt; hand.core.step(ask(Mark::Dropped)), Reply::Word(NEAR));
     assert!(rt; hand.core.mutators() == 1);
     assert_eq!(rt; retire_first(&mut hand), Some(Ok(())));
-    assert_eq!(rt; hand.core.cell(0), 0);
+    assert!(rt; hand.core.cell(0) == 0);
     Ok(())
 }
 
@@ -162,18 +162,18 @@ fn owners_are_at_work(rt: HostRuntime) -> Result<(), Fail> {
         (named, counted(&hand)),
         (Ok(()), (Some(false), Some(false)))
     );
-    assert_eq!(rt; see_first(&rt, &mut hand), NEAR);
-    assert_eq!(rt; see_first(&rt, &mut hand), HOT);
+    assert!(rt; see_first(&rt, &mut hand) == NEAR);
+    assert!(rt; see_first(&rt, &mut hand) == HOT);
     // Its owner stores into the object, so what is read isn't counted on.
-    assert_eq!(rt; get_second(&rt, &mut hand), 7);
-    assert_eq!(rt; get_second(&rt, &mut hand), 8);
-    assert_eq!(rt; counted(&hand), (Some(false), Some(false)));
-    assert_eq!(rt; see_first(&rt, &mut hand), HOT);
-    assert_eq!(rt; see_first(&rt, &mut hand), HOT);
-    assert_eq!(rt; see_first(&rt, &mut hand), MOVED);
+    assert!(rt; get_second(&rt, &mut hand) == 7);
+    assert!(rt; get_second(&rt, &mut hand) == 8);
+    assert!(rt; counted(&hand) == (Some(false), Some(false)));
+    assert!(rt; see_first(&rt, &mut hand) == HOT);
+    assert!(rt; see_first(&rt, &mut hand) == HOT);
+    assert!(rt; see_first(&rt, &mut hand) == MOVED);
     // It has MOVE, so it is quiet.
-    assert_eq!(rt; get_second(&rt, &mut hand), 8);
-    assert_eq!(rt; counted(&hand), (Some(false), Some(true)));
+    assert!(rt; get_second(&rt, &mut hand) == 8);
+    assert!(rt; counted(&hand) == (Some(false), Some(true)));
     assert_eq!(rt; (hand.core.cell(0), hand.shape()), (DROPPED, SMALL));
     assert!(rt; hand.core.mutators() == 1);
     assert_eq!(rt; retire_first(&mut hand), Some(Ok(())));
@@ -258,7 +258,7 @@ fn evac_is_taken_back(rt: HostRuntime) -> Result<(), Fail> {
     let mut hand = Beset::new(rt.alloc(), core, owners)?;
     assert!(rt; hand.core.mutators() == 1);
     assert_eq!(rt; clear_first(&mut hand), Some(0xac00_0000_0001_03f8));
-    assert_eq!(rt; hand.core.cell(0), 0x8c00_0000_0001_03f8);
+    assert!(rt; hand.core.cell(0) == 0x8c00_0000_0001_03f8);
     assert_eq!(rt; hand.found.get(0).copied(), Some(0x8c00_0000_0001_03f8));
     let mut hand = plain_hand(rt.alloc())?;
     assert!(rt; hand.core.mutators() == 1);
@@ -287,7 +287,7 @@ fn beset_log_is_given_back(rt: HostRuntime) -> Result<(), Fail> {
     assert_vacant(&rt, &hand.found, 0);
     assert!(rt; hand.core.logs() == 4);
     assert!(rt; hand.core.kind(0) == Kind::Sealed);
-    assert_eq!(rt; hand.get(0, 0, true), 0xa100_0000_0001_03f8);
+    assert!(rt; hand.get(0, 0, true) == 0xa100_0000_0001_03f8);
     assert!(rt; hand.core.logs() == 4);
     assert_eq!(rt; (hand.core.kind(0), hand.core.tail(0)), (Kind::Free, 0));
     Ok(())

@@ -4,11 +4,11 @@ ghost use Rattle.std.specs.Prelude.{◌<◌, ◌≤◌};
 ghost use Rattle.far_word.specs.declared.sizes.TheConstants.{LONGEST};
 
 use crate::tests::books::{
-    DROP, HOT, IDLE, MOVE, NO_MARKS, SMALL, beset, events_after, home, line, mark_sealed, opened,
+    DROP, HOT, MOVE, NO_MARKS, SMALL, beset, events_after, has, home, line, mark_sealed, opened,
     opened_over, place_next, shown,
 };
 use crate::tests::devices::{Picky, Starved, shown_device};
-use crate::tests::moving::move_asked;
+use crate::tests::moving::moves_to;
 use far_book::{Book, Home, Near, Plain};
 use far_core::{Event, Kind, Reply};
 use far_device::{Device, MemDevice};
@@ -118,28 +118,53 @@ pub(super) fn leaving<D: Device + Drop>(book: &mut Book<Plain, D>, len: u16) -> 
     Ok(())
 }
 
+// Whether an object that is asked to leave goes far.
+pub(super) fn goes<N: Near + Drop, D: Device + Drop>(book: &mut Book<N, D>, pointer: u16) -> bool {
+    evict_asked(book, pointer) == Some(Ok(true))
+}
+
+// An object of so many bytes is to leave for a device that takes so many bytes alone.
+fn leaving_to(rt: &HostRuntime, len: u16, taken: u16) -> Result<Book<Plain, Picky>, Fail>
+    requires some { 0 < len }
+    requires most { len ≤ LONGEST }
+{
+    let device = Picky {
+        inner: MemDevice::new(rt.alloc()),
+        wanted: counted_bytes(rt, taken)?,
+        faults: 0,
+    };
+    let mut book = opened_over(rt, SMALL, device)?;
+    leaving(&mut book, len)?;
+    Ok(book)
+}
+
+// Whether it goes far, and its log has its span of so many bytes, live before and dead after.
+fn goes_far(mut book: Book<Plain, Picky>, len: u16, size: u16) -> bool {
+    let rest = 1024u16.saturating_sub(size);
+    has(&book, 0, sealed(size, 0, rest))
+        && goes(&mut book, 0)
+        && book.core().cell(0) == FAR - 8 + len as u64
+        && has(&book, 0, sealed(0, size, rest))
+        && evict_asked(&mut book, 0).is_none()
+}
+
 #[test]
 fn the_device_is_given_the_bytes(rt: HostRuntime) -> Result<(), Fail> {
-    for len in [1, 7, 8, 9, 16, 1016] {
-        let inner = MemDevice::new(rt.alloc());
-        let wanted = counted_bytes(&rt, len)?;
-        let faults = 0;
-        let device = Picky {
-            inner,
-            wanted,
-            faults,
-        };
-        let mut book = opened_over(&rt, SMALL, device)?;
-        assert!(rt; len > 0 && len <= LONGEST);
-        leaving(&mut book, len)?;
-        let taken = 8 + 8 * words_for(len);
-        assert_eq!(rt; shown(&book, 0), sealed(taken, 0, 1024 - taken));
-        assert_eq!(rt; evict_asked(&mut book, 0), Some(Ok(true)));
-        assert_eq!(rt; book.core().cell(0), FAR - 8 + len as u64);
-        assert_eq!(rt; shown(&book, 0), sealed(0, taken, 1024 - taken));
-        assert_eq!(rt; evict_asked(&mut book, 0), None);
-    }
+    assert!(rt; goes_far(leaving_to(&rt, 1, 1)?, 1, 16));
+    assert!(rt; goes_far(leaving_to(&rt, 7, 7)?, 7, 16));
+    assert!(rt; goes_far(leaving_to(&rt, 8, 8)?, 8, 16));
+    assert!(rt; goes_far(leaving_to(&rt, 9, 9)?, 9, 24));
+    assert!(rt; goes_far(leaving_to(&rt, 16, 16)?, 16, 24));
+    assert!(rt; goes_far(leaving_to(&rt, 1016, 1016)?, 1016, 1024));
     Ok(())
+}
+
+// The cell of an object of 8 bytes after an eviction that is refused so, and leaves its log as it was.
+fn cell_after<D: Device + Drop>(book: &mut Book<Plain, D>, why: Refused) -> Option<u64> {
+    if evict_asked(book, 0) != Some(Err(why)) || !has(book, 0, sealed(16, 0, 1008)) {
+        return None;
+    }
+    Some(book.core().cell(0))
 }
 
 // Alone against an eviction that failed and goes far all the same, or takes a failure for want of memory.
@@ -147,25 +172,11 @@ fn the_device_is_given_the_bytes(rt: HostRuntime) -> Result<(), Fail> {
 fn a_refused_eviction_leaves_the_object(rt: HostRuntime) -> Result<(), Fail> {
     let mut book = opened_over(&rt, SMALL, Starved {})?;
     leaving(&mut book, 8)?;
-    assert_eq!(rt; evict_asked(&mut book, 0), Some(Err(Refused::Memory)));
-    let cell = book.core().cell(0);
-    assert_eq!(rt; cell | 1 << 62, LEAVING | 1 << 62);
-    assert_eq!(rt; shown(&book, 0), sealed(16, 0, 1008));
-    let inner = MemDevice::new(rt.alloc());
-    let wanted = counted_bytes(&rt, 7)?;
-    let faults = 0;
-    let device = Picky {
-        inner,
-        wanted,
-        faults,
-    };
-    let mut book = opened_over(&rt, SMALL, device)?;
-    leaving(&mut book, 8)?;
-    assert_eq!(rt; evict_asked(&mut book, 0), Some(Err(Refused::Device)));
-    assert_eq!(rt; book.core().cell(0), cell);
-    assert_eq!(rt; shown(&book, 0), sealed(16, 0, 1008));
-    let place = Place { log: 2, at: 0 };
-    assert_eq!(rt; move_asked(&mut book, 0), Some(Ok(Some(place))));
+    let cell = cell_after(&mut book, Refused::Memory);
+    assert!(rt; cell == Some(LEAVING) || cell == Some(LEAVING | 1 << 62));
+    let mut book = leaving_to(&rt, 8, 7)?;
+    assert!(rt; cell_after(&mut book, Refused::Device) == cell);
+    assert!(rt; moves_to(&mut book, 0, Place { log: 2, at: 0 }));
     assert!(rt; loads_counted(&mut book, 8));
     Ok(())
 }
@@ -178,12 +189,17 @@ type Beside = (
     Option<(Kind, LogRow)>,
 );
 
-// An object of one word with EVAC and MOVE is evicted while its owner makes these events, one before each step of the book,
-// of which there are three: a look at the cell, a word that is read, the naming.
-fn evicted_beside(rt: &HostRuntime, then: &[Event]) -> Result<Beside, Fail> {
-    let (device, holds) = shown_device(rt, MemDevice::new(rt.alloc()))?;
+// An object of one word with EVAC and MOVE is evicted while its owner makes these events, one before each step of the book from
+// one on, of which there are three: a look at the cell, a word that is read, the naming.
+fn evicted_beside(rt: &HostRuntime, step: u8, then: &[Event]) -> Result<Beside, Refused> {
+    let Ok(made) = shown_device(rt, MemDevice::new(rt.alloc())) else {
+        return Err(Refused::Memory);
+    };
+    let (device, holds) = made;
     // The second object takes 129 steps, its marking two, and the cell is looked at once before the eviction.
-    let events = events_after(rt, 130, then)?;
+    let Ok(events) = events_after(rt, 130u8.saturating_add(step), then) else {
+        return Err(Refused::Memory);
+    };
     let mut book = beset(rt, events, device)?;
     place_next(&mut book, 8, 1)?;
     place_next(&mut book, 1016, 1)?;
@@ -207,44 +223,48 @@ fn is_retired() -> Beside {
     (Some(Ok(false)), None, false, sealed(0, 16, 1008))
 }
 
+// Whether it has gone far, without a mark or with these, where its owner makes these events, the first before the step of this
+// number, from 0 on.
+fn leaves_beside(rt: &HostRuntime, step: u8, then: &[Event], marks: Marks) -> bool {
+    evicted_beside(rt, step, then) == Ok(is_far(marks))
+}
+
+// Whether it was retired.
+fn retires_beside(rt: &HostRuntime, step: u8, then: &[Event]) -> bool {
+    evicted_beside(rt, step, then) == Ok(is_retired())
+}
+
 // Alone against an eviction that tries its naming once.
 #[test]
-fn an_eviction_finds_hot_at_any_step(rt: HostRuntime) -> Result<(), Fail> {
-    let far = is_far(NO_MARKS);
-    assert_eq!(rt; evicted_beside(&rt, &[])?, far);
-    assert_eq!(rt; evicted_beside(&rt, &[HOT])?, far);
-    assert_eq!(rt; evicted_beside(&rt, &[IDLE, HOT])?, far);
+fn an_eviction_finds_hot_at_any_step(rt: HostRuntime) {
+    assert!(rt; leaves_beside(&rt, 0, &[], NO_MARKS));
+    assert!(rt; leaves_beside(&rt, 0, &[HOT], NO_MARKS));
+    assert!(rt; leaves_beside(&rt, 1, &[HOT], NO_MARKS));
     // A second try.
-    assert_eq!(rt; evicted_beside(&rt, &[IDLE, IDLE, HOT])?, far);
+    assert!(rt; leaves_beside(&rt, 2, &[HOT], NO_MARKS));
     // It came after all.
     let hot = Marks {
         hot: true,
         ..NO_MARKS
     };
-    assert_eq!(rt; evicted_beside(&rt, &[IDLE, IDLE, IDLE, HOT])?, is_far(hot));
-    Ok(())
+    assert!(rt; leaves_beside(&rt, 3, &[HOT], hot));
 }
 
 // Alone against an eviction that sends a dropped object far, retires nothing where it finds the DROP late, or leaves its bytes.
 #[test]
-fn an_eviction_finds_a_drop_at_any_step(rt: HostRuntime) -> Result<(), Fail> {
-    let retired = is_retired();
-    assert_eq!(rt; evicted_beside(&rt, &[DROP])?, retired);
+fn an_eviction_finds_a_drop_at_any_step(rt: HostRuntime) {
+    assert!(rt; retires_beside(&rt, 0, &[DROP]));
     // The device holds the bytes when the naming finds the DROP, and forgets them.
-    assert_eq!(rt; evicted_beside(&rt, &[IDLE, DROP])?, retired);
-    assert_eq!(rt; evicted_beside(&rt, &[IDLE, IDLE, DROP])?, retired);
+    assert!(rt; retires_beside(&rt, 1, &[DROP]));
+    assert!(rt; retires_beside(&rt, 2, &[DROP]));
     // At the second try, so the third is the retiring's.
-    assert_eq!(rt; evicted_beside(&rt, &[IDLE, IDLE, HOT, DROP])?, retired);
+    assert!(rt; retires_beside(&rt, 2, &[HOT, DROP]));
     // It came after all.
     let dropped = Marks {
         dropped: true,
         ..NO_MARKS
     };
-    assert_eq!(rt;
-        evicted_beside(&rt, &[IDLE, IDLE, IDLE, DROP])?,
-        is_far(dropped)
-    );
-    Ok(())
+    assert!(rt; leaves_beside(&rt, 3, &[DROP], dropped));
 }
 
 #[test]
@@ -252,8 +272,8 @@ fn a_dropped_object_is_retired(rt: HostRuntime) -> Result<(), Fail> {
     let mut book = opened(&rt, SMALL)?;
     leaving(&mut book, 8)?;
     book.owner(DROP);
-    assert_eq!(rt; evict_asked(&mut book, 0), Some(Ok(false)));
-    assert_eq!(rt; book.core().cell(0), 0);
-    assert_eq!(rt; shown(&book, 0), sealed(0, 16, 1008));
+    assert!(rt; evict_asked(&mut book, 0) == Some(Ok(false)));
+    assert!(rt; book.core().cell(0) == 0);
+    assert!(rt; has(&book, 0, sealed(0, 16, 1008)));
     Ok(())
 }

@@ -1,10 +1,12 @@
 //! What owners are answered, by worked values, of objects that they view, that are marked, and that they drop.
 
 use crate::tests::books::{
-    DROP, HOT, MOVE, SMALL, line, mark_sealed, opened, place_next, retire_dropped, shown,
+    DROP, HOT, MOVE, SMALL, answers, has, line, mark_sealed, opened, places_next, retire_dropped,
 };
-use crate::tests::moving::{loaded, move_asked};
+use crate::tests::moving::{loaded, moves_to};
+use far_book::{Book, Plain};
 use far_core::{Core, Event, Kind, Reply};
+use far_device::MemDevice;
 use far_word::Place;
 use std::test::Fail;
 
@@ -16,26 +18,53 @@ const WAS_HOT: u64 = 0xc400_0000_0001_0008;
 
 const MARKED: u64 = 0xe400_0000_0001_0008;
 
+// Whether what its owner views isn't dropped before it closes, and isn't used after.
+fn drops_after_a_close(book: &mut Book<Plain, MemDevice>) -> bool {
+    let (owner, pointer) = (0, 0);
+    let place = Place { log: 0, at: 0 };
+    places_next(book, 8, pointer, place)
+        && answers(book, Event::Adopt { owner, pointer }, Reply::Word(NEAR))
+        && answers(book, Event::ReadEpoch { owner }, Reply::Epoch(0))
+        && answers(book, Event::Open { owner }, Reply::Done)
+        && answers(book, HOT, Reply::Held(place))
+        && answers(book, DROP, Reply::Refused)
+        && answers(book, Event::Close { owner }, Reply::Done)
+        && answers(book, DROP, Reply::Word(WAS_HOT))
+        && retire_dropped(book, pointer)
+        && has(book, 0, line(Kind::Open, 0, 0, 16, 1008))
+        && answers(book, DROP, Reply::Refused)
+}
+
 // Alone against a core in which what its owner holds may be dropped.
 #[test]
 fn an_object_that_is_viewed_is_not_dropped(rt: HostRuntime) -> Result<(), Fail> {
-    let (owner, pointer) = (0, 0);
     let mut book = opened(&rt, SMALL)?;
-    let place = Place { log: 0, at: 0 };
-    assert_eq!(rt; place_next(&mut book, 8, 1), Ok((pointer, place)));
-    let adopt = Event::Adopt { owner, pointer };
-    assert_eq!(rt; book.owner(adopt), Reply::Word(NEAR));
-    assert_eq!(rt; book.owner(Event::ReadEpoch { owner }), Reply::Epoch(0));
-    assert_eq!(rt; book.owner(Event::Open { owner }), Reply::Done);
-    assert_eq!(rt; book.owner(HOT), Reply::Held(place));
-    assert_eq!(rt; book.owner(DROP), Reply::Refused);
-    assert_eq!(rt; book.owner(Event::Close { owner }), Reply::Done);
-    assert_eq!(rt; book.owner(DROP), Reply::Word(WAS_HOT));
-    assert!(rt; retire_dropped(&mut book, pointer));
-    assert_eq!(rt; shown(&book, 0), line(Kind::Open, 0, 0, 16, 1008));
-    // Its owner uses it no more.
-    assert_eq!(rt; book.owner(DROP), Reply::Refused);
+    assert!(rt; drops_after_a_close(&mut book));
     Ok(())
+}
+
+// Whether none of these events is refused.
+fn makes_all(core: &mut Core, events: &[Event]) -> bool {
+    for event in events {
+        if core.step(*event) == Reply::Refused {
+            return false;
+        }
+    }
+    true
+}
+
+fn steps(core: &mut Core, event: Event, reply: Reply) -> bool {
+    core.step(event) == reply
+}
+
+// Whether pointer 0, whose object is viewed by nobody, is marked, and its owner gets it no more, but asks for it to move.
+fn finds_it_marked(core: &mut Core) -> bool {
+    let (owner, pointer) = (0, 0);
+    steps(core, Event::Mark { pointer }, Reply::Word(WAS_HOT))
+        && steps(core, Event::Open { owner }, Reply::Done)
+        && steps(core, HOT, Reply::Word(MARKED))
+        && steps(core, MOVE, Reply::Word(MARKED))
+        && core.cell(0) == 0xf400_0000_0001_0008
 }
 
 #[test]
@@ -61,45 +90,50 @@ fn a_marked_object_is_not_viewed(rt: HostRuntime) -> Result<(), Fail> {
         name(1, 0x8400_0004_0001_03f8),
         Event::ReadEpoch { owner },
     ];
-    for event in events {
-        let reply = core.step(event);
-        assert!(rt; reply != Reply::Refused, "at {event:?}");
-    }
-    assert_eq!(rt; core.step(Event::Mark { pointer }), Reply::Word(WAS_HOT));
-    assert_eq!(rt; core.step(Event::Open { owner }), Reply::Done);
-    assert_eq!(rt; core.step(HOT), Reply::Word(MARKED));
-    assert_eq!(rt; core.step(MOVE), Reply::Word(MARKED));
-    assert_eq!(rt; core.cell(0), 0xf400_0000_0001_0008);
+    assert!(rt; makes_all(&mut core, &events));
+    assert!(rt; finds_it_marked(&mut core));
     Ok(())
+}
+
+// Whether an owner views a new object, stores a word into it and closes; another object seals its log then.
+fn stores_and_seals(book: &mut Book<Plain, MemDevice>) -> bool {
+    let (owner, pointer, index, word) = (0, 0, 0, 0xaa);
+    let store = Event::Store {
+        owner,
+        pointer,
+        index,
+        word,
+    };
+    let place = Place { log: 0, at: 0 };
+    places_next(book, 8, 0, place)
+        && answers(book, Event::Adopt { owner, pointer }, Reply::Word(NEAR))
+        && answers(book, Event::ReadEpoch { owner }, Reply::Epoch(0))
+        && answers(book, Event::Open { owner }, Reply::Done)
+        && answers(book, HOT, Reply::Held(place))
+        && answers(book, store, Reply::Done)
+        && answers(book, Event::Close { owner }, Reply::Done)
+        && places_next(book, 1016, 1, Place { log: 1, at: 0 })
+}
+
+// Whether its owner isn't given the object once it is marked, asks for it to move, and is given it where it has come.
+fn moves_what_is_marked(book: &mut Book<Plain, MemDevice>) -> bool {
+    let owner = 0;
+    let place = Place { log: 2, at: 0 };
+    answers(book, Event::ReadEpoch { owner }, Reply::Epoch(0))
+        && mark_sealed(book, 0) == Some(WAS_HOT)
+        && answers(book, Event::Open { owner }, Reply::Done)
+        && answers(book, HOT, Reply::Word(MARKED))
+        && answers(book, MOVE, Reply::Word(MARKED))
+        && moves_to(book, 0, place)
+        && answers(book, HOT, Reply::Held(place))
+        && answers(book, Event::Close { owner }, Reply::Done)
+        && loaded(book, 0, 0) == Reply::Word(0xaa)
 }
 
 #[test]
 fn an_owner_moves_what_is_marked(rt: HostRuntime) -> Result<(), Fail> {
-    let (owner, pointer) = (0, 0);
     let mut book = opened(&rt, SMALL)?;
-    place_next(&mut book, 8, 1)?;
-    book.owner(Event::Adopt { owner, pointer });
-    book.owner(Event::ReadEpoch { owner });
-    book.owner(Event::Open { owner });
-    book.owner(HOT);
-    let store = Event::Store {
-        owner,
-        pointer,
-        index: 0,
-        word: 0xaa,
-    };
-    assert_eq!(rt; book.owner(store), Reply::Done);
-    book.owner(Event::Close { owner });
-    place_next(&mut book, 1016, 1)?;
-    book.owner(Event::ReadEpoch { owner });
-    assert_eq!(rt; mark_sealed(&mut book, 0), Some(WAS_HOT));
-    book.owner(Event::Open { owner });
-    assert_eq!(rt; book.owner(HOT), Reply::Word(MARKED));
-    assert_eq!(rt; book.owner(MOVE), Reply::Word(MARKED));
-    let place = Place { log: 2, at: 0 };
-    assert_eq!(rt; move_asked(&mut book, 0), Some(Ok(Some(place))));
-    assert_eq!(rt; book.owner(HOT), Reply::Held(place));
-    book.owner(Event::Close { owner });
-    assert_eq!(rt; loaded(&mut book, 0, 0), Reply::Word(0xaa));
+    assert!(rt; stores_and_seals(&mut book));
+    assert!(rt; moves_what_is_marked(&mut book));
     Ok(())
 }

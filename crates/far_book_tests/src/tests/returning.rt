@@ -4,12 +4,12 @@ ghost use Rattle.std.specs.Prelude.{◌<◌, ◌≤◌};
 ghost use Rattle.far_word.specs.declared.sizes.TheConstants.{LONGEST};
 
 use crate::tests::books::{
-    DROP, HOT, IDLE, MOVE, NO_MARKS, SMALL, ask, beset, events_after, home, line, mark_sealed,
-    opened, opened_over, place_next, shown,
+    DROP, HOT, MOVE, NO_MARKS, SMALL, ask, beset, events_after, has, home, line, mark_sealed,
+    opened, opened_over, place_next, places_next, shown,
 };
 use crate::tests::devices::{Lying, Stumbling, shown_device};
-use crate::tests::leaving::{evict_asked, leaving, loads_counted, store_counted};
-use crate::tests::moving::{loaded, move_asked};
+use crate::tests::leaving::{evict_asked, goes, leaving, loads_counted, store_counted};
+use crate::tests::moving::{loaded, moves_to};
 use far_book::{Book, Home, Near, Plain};
 use far_core::{Core, Event, Kind, Reply};
 use far_device::{Device, DeviceFault, MemDevice};
@@ -53,12 +53,20 @@ fn four_logs<N: Near + Drop, D: Device + Drop>(book: &Book<N, D>) -> [Option<(Ki
     ]
 }
 
-// The cells are words here, which no other test of a fetch looks at.
-#[test]
-fn away_and_back(rt: HostRuntime) -> Result<(), Fail> {
+// Whether pointer 0's object, which is far, comes near at this place.
+fn comes_to<N: Near + Drop, D: Device + Drop>(book: &mut Book<N, D>, place: Place) -> bool {
+    fetch_far(book, 0) == Some(Ok(Some(place)))
+}
+
+// Whether its fetch is refused so.
+fn stays_far<N: Near + Drop, D: Device + Drop>(book: &mut Book<N, D>, why: Refused) -> bool {
+    fetch_far(book, 0) == Some(Err(why))
+}
+
+// An object of 8 bytes that is stored into, with EVAC and MOVE, by words of its cell; whether each was so.
+fn stored_and_asked(book: &mut Book<Plain, MemDevice>) -> Result<bool, Refused> {
     let (owner, pointer) = (0, 0);
-    let mut book = opened(&rt, SMALL)?;
-    place_next(&mut book, 8, 1)?;
+    place_next(book, 8, 1)?;
     book.owner(Event::Adopt { owner, pointer });
     book.owner(Event::ReadEpoch { owner });
     book.owner(Event::Open { owner });
@@ -69,16 +77,24 @@ fn away_and_back(rt: HostRuntime) -> Result<(), Fail> {
         index: 0,
         word: 0xaa,
     };
-    assert_eq!(rt; book.owner(store), Reply::Done);
+    let stored = book.owner(store) == Reply::Done;
     book.owner(Event::Close { owner });
-    place_next(&mut book, 1016, 1)?;
-    assert_eq!(rt; mark_sealed(&mut book, 0), Some(0xc400_0000_0001_0008));
-    assert_eq!(rt; book.owner(MOVE), Reply::Word(0xe400_0000_0001_0008));
-    assert_eq!(rt; evict_asked(&mut book, 0), Some(Ok(true)));
-    assert_eq!(rt; see_first(&mut book), Some(0x0400_0000_0001_0008));
-    assert_eq!(rt; fetch_far(&mut book, 0), Some(Ok(Some(PLACE))));
-    assert_eq!(rt; see_first(&mut book), Some(0x8400_0008_0001_0008));
-    assert_eq!(rt; loaded(&mut book, 0, 0), Reply::Word(0xaa));
+    place_next(book, 1016, 1)?;
+    let marked = mark_sealed(book, 0) == Some(0xc400_0000_0001_0008);
+    let asked = book.owner(MOVE) == Reply::Word(0xe400_0000_0001_0008);
+    Ok(stored && marked && asked)
+}
+
+// The cells are words here, which no other test of a fetch looks at.
+#[test]
+fn away_and_back(rt: HostRuntime) -> Result<(), Fail> {
+    let mut book = opened(&rt, SMALL)?;
+    assert!(rt; stored_and_asked(&mut book)?);
+    assert!(rt; goes(&mut book, 0));
+    assert!(rt; see_first(&mut book) == Some(0x0400_0000_0001_0008));
+    assert!(rt; comes_to(&mut book, PLACE));
+    assert!(rt; see_first(&mut book) == Some(0x8400_0008_0001_0008));
+    assert!(rt; loaded(&mut book, 0, 0) == Reply::Word(0xaa));
     Ok(())
 }
 
@@ -91,11 +107,14 @@ type Back = (
 );
 
 // An object of so many bytes goes far and comes back.
-fn fetched_after(rt: &HostRuntime, len: u16) -> Result<Back, Fail>
+fn fetched_after(rt: &HostRuntime, len: u16) -> Result<Back, Refused>
     requires some { 0 < len }
     requires most { len ≤ LONGEST }
 {
-    let (device, holds) = shown_device(rt, MemDevice::new(rt.alloc()))?;
+    let Ok(made) = shown_device(rt, MemDevice::new(rt.alloc())) else {
+        return Err(Refused::Memory);
+    };
+    let (device, holds) = made;
     let mut book = opened_over(rt, SMALL, device)?;
     leaving(&mut book, len)?;
     evict_asked(&mut book, 0);
@@ -110,15 +129,21 @@ fn is_back(size: u16, unused: u16) -> Back {
     (Some(Ok(Some(PLACE))), log, false, true)
 }
 
+fn comes_back(rt: &HostRuntime, len: u16, size: u16) -> bool
+    requires some { 0 < len }
+    requires most { len ≤ LONGEST }
+{
+    fetched_after(rt, len) == Ok(is_back(size, 1024u16.saturating_sub(size)))
+}
+
 // Alone against a fetch that copies two words at most, and one that takes a word more where the object fills a log.
 #[test]
-fn an_object_comes_back_with_its_bytes(rt: HostRuntime) -> Result<(), Fail> {
-    assert_eq!(rt; fetched_after(&rt, 1)?, is_back(16, 1008));
-    assert_eq!(rt; fetched_after(&rt, 7)?, is_back(16, 1008));
-    assert_eq!(rt; fetched_after(&rt, 8)?, is_back(16, 1008));
-    assert_eq!(rt; fetched_after(&rt, 9)?, is_back(24, 1000));
-    assert_eq!(rt; fetched_after(&rt, 1016)?, is_back(1024, 0));
-    Ok(())
+fn an_object_comes_back_with_its_bytes(rt: HostRuntime) {
+    assert!(rt; comes_back(&rt, 1, 16));
+    assert!(rt; comes_back(&rt, 7, 16));
+    assert!(rt; comes_back(&rt, 8, 16));
+    assert!(rt; comes_back(&rt, 9, 24));
+    assert!(rt; comes_back(&rt, 1016, 1024));
 }
 
 /// What a fetch answers, whether all cells and logs that are looked at stay, what the same fetch answers after it, and whether the
@@ -170,18 +195,22 @@ fn is_refused_once(why: Refused) -> Again {
     (Some(Err(why)), true, Some(Ok(Some(PLACE))), true)
 }
 
+fn fails_once(rt: &HostRuntime, fault: DeviceFault, why: Refused) -> bool {
+    failed_once(rt, fault) == Ok(is_refused_once(why))
+}
+
+fn lies_once(rt: &HostRuntime, len: usize) -> bool {
+    lied_once(rt, len) == Ok(is_refused_once(Refused::Damaged))
+}
+
 // Alone against a fetch that forgets the key of what failed or was damaged, judges a length by `<`, or takes one fault for the other.
 #[test]
-fn a_refused_fetch_may_be_made_again(rt: HostRuntime) -> Result<(), Fail> {
-    let memory = is_refused_once(Refused::Memory);
-    assert_eq!(rt; failed_once(&rt, DeviceFault::Memory)?, memory);
-    let device = is_refused_once(Refused::Device);
-    assert_eq!(rt; failed_once(&rt, DeviceFault::Device)?, device);
-    let damaged = is_refused_once(Refused::Damaged);
-    assert_eq!(rt; lied_once(&rt, 0)?, damaged);
-    assert_eq!(rt; lied_once(&rt, 8)?, damaged);
-    assert_eq!(rt; lied_once(&rt, 10)?, damaged);
-    Ok(())
+fn a_refused_fetch_may_be_made_again(rt: HostRuntime) {
+    assert!(rt; fails_once(&rt, DeviceFault::Memory, Refused::Memory));
+    assert!(rt; fails_once(&rt, DeviceFault::Device, Refused::Device));
+    assert!(rt; lies_once(&rt, 0));
+    assert!(rt; lies_once(&rt, 8));
+    assert!(rt; lies_once(&rt, 10));
 }
 
 // Pointer 0 is far and pointer 1 has EVAC and MOVE; of four logs only the last is free, and the one before it is open and full.
@@ -201,30 +230,35 @@ fn crowded<D: Device + Drop>(book: &mut Book<Plain, D>) -> Result<(), Refused> {
     Ok(())
 }
 
+// Whether a fetch is refused for want of room, and leaves all logs.
+fn finds_no_room<D: Device + Drop>(book: &mut Book<Plain, D>) -> bool {
+    let logs = four_logs(book);
+    stays_far(book, Refused::NoRoom) && four_logs(book) == logs
+}
+
 // Alone against a fetch that takes the last free log, asks the device before there is room, or forgets the key where there is none.
 #[test]
 fn a_fetch_keeps_the_last_free_log(rt: HostRuntime) -> Result<(), Fail> {
     let (device, holds) = shown_device(&rt, stumbling(&rt, DeviceFault::Device))?;
     let mut book = opened_over(&rt, SMALL, device)?;
     crowded(&mut book)?;
-    let logs = four_logs(&book);
-    assert_eq!(rt; fetch_far(&mut book, 0), Some(Err(Refused::NoRoom)));
-    assert_eq!(rt; (four_logs(&book), holds.get()), (logs, true));
-    assert_eq!(rt; shown(&book, 2), line(Kind::Open, 2, 1024, 0, 0));
-    assert_eq!(rt; shown(&book, 3), line(Kind::Free, 3, 0, 0, 1024));
+    assert!(rt; finds_no_room(&mut book) && holds.get());
+    assert!(rt; has(&book, 2, line(Kind::Open, 2, 1024, 0, 0)));
+    assert!(rt; has(&book, 3, line(Kind::Free, 3, 0, 0, 1024)));
     // A move may take it, and then there is room in it.
-    let first = Place { log: 3, at: 0 };
-    let next = Place { log: 3, at: 2 };
-    assert_eq!(rt; move_asked(&mut book, 1), Some(Ok(Some(first))));
+    assert!(rt; moves_to(&mut book, 1, Place { log: 3, at: 0 }));
     // Only now is the device asked, and it fails once.
-    assert_eq!(rt; fetch_far(&mut book, 0), Some(Err(Refused::Device)));
-    assert_eq!(rt; fetch_far(&mut book, 0), Some(Ok(Some(next))));
-    assert!(rt; loads_counted(&mut book, 8));
-    assert_eq!(rt;
-        (shown(&book, 3), holds.get()),
-        (line(Kind::Open, 3, 32, 0, 992), false)
-    );
+    assert!(rt; stays_far(&mut book, Refused::Device));
+    assert!(rt; comes_to(&mut book, Place { log: 3, at: 2 }));
+    assert!(rt; loads_counted(&mut book, 8) && !holds.get());
+    assert!(rt; has(&book, 3, line(Kind::Open, 3, 32, 0, 992)));
     Ok(())
+}
+
+// Whether a fetch finds pointer 0's object dropped, and leaves all logs.
+fn finds_drop<D: Device + Drop>(book: &mut Book<Plain, D>) -> bool {
+    let logs = four_logs(book);
+    fetch_far(book, 0) == Some(Ok(None)) && four_logs(book) == logs
 }
 
 // Alone against a ledger in which the cell of a retired object stays taken if that was far.
@@ -233,12 +267,10 @@ fn a_dropped_far_object_is_retired(rt: HostRuntime) -> Result<(), Fail> {
     let (device, holds) = shown_device(&rt, MemDevice::new(rt.alloc()))?;
     let mut book = opened_over(&rt, SMALL, device)?;
     leaving(&mut book, 8)?;
-    assert_eq!(rt; evict_asked(&mut book, 0), Some(Ok(true)));
+    assert!(rt; goes(&mut book, 0));
     book.owner(DROP);
-    let logs = four_logs(&book);
-    assert_eq!(rt; fetch_far(&mut book, 0), Some(Ok(None)));
-    assert_eq!(rt; (four_logs(&book), holds.get()), (logs, false));
-    assert_eq!(rt; place_next(&mut book, 8, 1), Ok((0, PLACE)));
+    assert!(rt; finds_drop(&mut book) && !holds.get());
+    assert!(rt; places_next(&mut book, 8, 0, PLACE));
     Ok(())
 }
 
@@ -250,12 +282,17 @@ type Beside = (
     Option<(Kind, LogRow)>,
 );
 
-// A far object of one word is fetched while its owner makes these events, one before each step of the book, of which there are
-// four: a look at the cell, the header, a word that is written, the naming.
-fn fetched_beside(rt: &HostRuntime, then: &[Event]) -> Result<Beside, Fail> {
-    let (device, holds) = shown_device(rt, MemDevice::new(rt.alloc()))?;
+// A far object of one word is fetched while its owner makes these events, one before each step of the book from one on, of which
+// there are four: a look at the cell, the header, a word that is written, the naming.
+fn fetched_beside(rt: &HostRuntime, step: u8, then: &[Event]) -> Result<Beside, Refused> {
+    let Ok(made) = shown_device(rt, MemDevice::new(rt.alloc())) else {
+        return Err(Refused::Memory);
+    };
+    let (device, holds) = made;
     // The second object takes 129 steps, its marking two, the eviction four; the cell is looked at once before the fetch.
-    let events = events_after(rt, 134, then)?;
+    let Ok(events) = events_after(rt, 134u8.saturating_add(step), then) else {
+        return Err(Refused::Memory);
+    };
     let mut book = beset(rt, events, device)?;
     place_next(&mut book, 8, 1)?;
     place_next(&mut book, 1016, 1)?;
@@ -281,67 +318,59 @@ fn is_retired() -> Beside {
     (Some(Ok(None)), None, false, line(Kind::Free, 2, 0, 0, 1024))
 }
 
+// Whether it has come, with these marks, where its owner makes these events, the first before the step of this number, from 0 on.
+fn comes_beside(rt: &HostRuntime, step: u8, then: &[Event], marks: Marks) -> bool {
+    fetched_beside(rt, step, then) == Ok(is_near(marks))
+}
+
+// Whether it was retired.
+fn retires_beside(rt: &HostRuntime, step: u8, then: &[Event]) -> bool {
+    fetched_beside(rt, step, then) == Ok(is_retired())
+}
+
 // Alone against a fetch that takes HOT for DROP.
 #[test]
-fn a_fetch_finds_hot_at_any_step(rt: HostRuntime) -> Result<(), Fail> {
-    let near = is_near(NO_MARKS);
-    assert_eq!(rt; fetched_beside(&rt, &[])?, near);
-    assert_eq!(rt; fetched_beside(&rt, &[HOT])?, near);
-    assert_eq!(rt; fetched_beside(&rt, &[IDLE, HOT])?, near);
-    assert_eq!(rt; fetched_beside(&rt, &[IDLE, IDLE, HOT])?, near);
+fn a_fetch_finds_hot_at_any_step(rt: HostRuntime) {
+    assert!(rt; comes_beside(&rt, 0, &[], NO_MARKS));
+    assert!(rt; comes_beside(&rt, 0, &[HOT], NO_MARKS));
+    assert!(rt; comes_beside(&rt, 1, &[HOT], NO_MARKS));
+    assert!(rt; comes_beside(&rt, 2, &[HOT], NO_MARKS));
     // A second try.
-    assert_eq!(rt; fetched_beside(&rt, &[IDLE, IDLE, IDLE, HOT])?, near);
+    assert!(rt; comes_beside(&rt, 3, &[HOT], NO_MARKS));
     // It came after all.
     let hot = Marks {
         hot: true,
         ..NO_MARKS
     };
-    assert_eq!(rt;
-        fetched_beside(&rt, &[IDLE, IDLE, IDLE, IDLE, HOT])?,
-        is_near(hot)
-    );
-    Ok(())
+    assert!(rt; comes_beside(&rt, 4, &[HOT], hot));
 }
 
 // Alone against a fetch that takes MOVE for DROP.
 #[test]
-fn a_fetch_finds_move_at_any_step(rt: HostRuntime) -> Result<(), Fail> {
-    let near = is_near(NO_MARKS);
-    assert_eq!(rt; fetched_beside(&rt, &[MOVE])?, near);
-    assert_eq!(rt; fetched_beside(&rt, &[IDLE, MOVE])?, near);
-    assert_eq!(rt; fetched_beside(&rt, &[IDLE, IDLE, MOVE])?, near);
-    assert_eq!(rt; fetched_beside(&rt, &[IDLE, IDLE, IDLE, MOVE])?, near);
+fn a_fetch_finds_move_at_any_step(rt: HostRuntime) {
+    assert!(rt; comes_beside(&rt, 0, &[MOVE], NO_MARKS));
+    assert!(rt; comes_beside(&rt, 1, &[MOVE], NO_MARKS));
+    assert!(rt; comes_beside(&rt, 2, &[MOVE], NO_MARKS));
+    assert!(rt; comes_beside(&rt, 3, &[MOVE], NO_MARKS));
     // A third try.
-    assert_eq!(rt; fetched_beside(&rt, &[IDLE, IDLE, IDLE, HOT, MOVE])?, near);
-    assert_eq!(rt; fetched_beside(&rt, &[IDLE, IDLE, IDLE, MOVE, HOT])?, near);
-    Ok(())
+    assert!(rt; comes_beside(&rt, 3, &[HOT, MOVE], NO_MARKS));
+    assert!(rt; comes_beside(&rt, 3, &[MOVE, HOT], NO_MARKS));
 }
 
 // Alone against a fetch that finds a DROP at the naming, says so, and retires nothing.
 #[test]
-fn a_fetch_finds_a_drop_at_any_step(rt: HostRuntime) -> Result<(), Fail> {
-    let retired = is_retired();
-    assert_eq!(rt; fetched_beside(&rt, &[DROP])?, retired);
-    assert_eq!(rt; fetched_beside(&rt, &[IDLE, DROP])?, retired);
-    assert_eq!(rt; fetched_beside(&rt, &[IDLE, IDLE, DROP])?, retired);
-    assert_eq!(rt; fetched_beside(&rt, &[IDLE, IDLE, IDLE, DROP])?, retired);
-    assert_eq!(rt;
-        fetched_beside(&rt, &[IDLE, IDLE, IDLE, MOVE, DROP])?,
-        retired
-    );
+fn a_fetch_finds_a_drop_at_any_step(rt: HostRuntime) {
+    assert!(rt; retires_beside(&rt, 0, &[DROP]));
+    assert!(rt; retires_beside(&rt, 1, &[DROP]));
+    assert!(rt; retires_beside(&rt, 2, &[DROP]));
+    assert!(rt; retires_beside(&rt, 3, &[DROP]));
+    assert!(rt; retires_beside(&rt, 3, &[MOVE, DROP]));
     // At the third try, so the fourth is the retiring's.
-    assert_eq!(rt;
-        fetched_beside(&rt, &[IDLE, IDLE, IDLE, HOT, MOVE, DROP])?,
-        retired
-    );
+    assert!(rt; retires_beside(&rt, 3, &[HOT, MOVE, DROP]));
     // It came after all.
     let dropped = Marks {
         dropped: true,
         ..NO_MARKS
     };
-    assert_eq!(rt;
-        fetched_beside(&rt, &[IDLE, IDLE, IDLE, IDLE, DROP])?,
-        is_near(dropped)
-    );
-    Ok(())
+    assert!(rt; comes_beside(&rt, 4, &[DROP], dropped));
 }
