@@ -10,8 +10,6 @@ mod least_live;
 mod oldest;
 mod policy;
 mod scripted;
-#[cfg(test)]
-mod tests;
 
 pub use chosen::{Chosen, MOST_CHOSEN};
 pub use laws::{choices_are_so, least_is_one, rows_tell_of_logs, script_is_one};

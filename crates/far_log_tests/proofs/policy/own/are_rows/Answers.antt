@@ -1,6 +1,6 @@
 use Rattle.std.proofs.Common.{sym, arith}
 use Rattle.far_policy.proofs.Choices.{no_rows, seen_more, room_behind, seen_logs}
-use Rattle.far_policy.proofs.tests.own.are_rows.Goals as goal
+use Rattle.far_log_tests.proofs.policy.own.are_rows.Goals as goal
 
 pub loop-row-init : goal.loop-row-init
 loop-row-init c = (no_rows, c.new-seen.ensures)

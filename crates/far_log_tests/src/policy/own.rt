@@ -3,8 +3,8 @@
 ghost use Rattle.std.specs.Prelude.{◌≡◌, true};
 ghost use Rattle.far_policy.specs.Logs.{AreRows};
 
-use crate::{Chosen, Policy};
 use far_log::LogRow;
+use far_policy::{Chosen, Policy};
 use far_word::{MOST_LOGS, Refused};
 
 /// Takes the youngest log, and so many times no log, and then refuses.

@@ -2,11 +2,11 @@
 
 use super::any::chosen_by;
 use super::own::{Youngest, are_rows};
-use crate::{
+use far_log::LogRow;
+use far_policy::{
     Chosen, LeastLive, MOST_CHOSEN, Oldest, Policy, Scripted, choices_are_so, least_is_one,
     rows_tell_of_logs, script_is_one,
 };
-use far_log::LogRow;
 use far_word::Refused;
 use std::process::Abort;
 use std::test::*;
@@ -48,6 +48,12 @@ const FOUR: [LogRow; 4] = [
     },
 ];
 
+fn has_logs(chosen: &Chosen, wanted: &[u8]) -> bool {
+    chosen.as_slice() == wanted
+        && chosen.len() == wanted.len()
+        && chosen.is_empty() == wanted.is_empty()
+}
+
 // The policy takes exactly the logs that are wanted.
 fn takes<P: Policy>(
     rt: &impl Abort,
@@ -58,10 +64,13 @@ fn takes<P: Policy>(
 ) -> Result<(), Fail> {
     assert!(rt; are_rows(rows));
     let chosen = chosen_by(policy, rows, most)?;
-    assert_eq!(rt; chosen.as_slice(), wanted, "at most {most}");
-    assert_eq!(rt; chosen.len(), wanted.len());
-    assert_eq!(rt; chosen.is_empty(), wanted.is_empty());
+    assert!(rt; has_logs(&chosen, wanted), "at most {most}");
     Ok(())
+}
+
+fn is_refused(answer: Result<(), Refused>, log: u8) -> bool {
+    let bad = Refused::BadChoice(log);
+    answer == Err(bad) && bad.number() == 17
 }
 
 // The script is refused with this log, and the list is empty.
@@ -69,13 +78,10 @@ fn refuses(rt: &impl Abort, named: &[u8], rows: &[LogRow], most: usize, log: u8)
     assert!(rt; are_rows(rows));
     let mut chosen = Chosen::new();
     let answer = Scripted { logs: named }.choose(rows, most, &mut chosen);
-    assert_eq!(rt;
-        answer.err(),
-        Some(Refused::BadChoice(log)),
+    assert!(rt;
+        is_refused(answer, log) && chosen.is_empty(),
         "at most {most}"
     );
-    assert!(rt; chosen.is_empty());
-    assert_eq!(rt; Refused::BadChoice(log).number(), 17);
 }
 
 #[test]

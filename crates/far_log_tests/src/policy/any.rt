@@ -4,8 +4,8 @@ ghost use Rattle.std.specs.Prelude.{IfErr, IfOk};
 ghost use Rattle.far_policy.specs.Choice.{IsBadChoice, IsChoice};
 ghost use Rattle.far_policy.specs.Logs.{AreRows};
 
-use crate::{Chosen, Policy};
 use far_log::LogRow;
+use far_policy::{Chosen, Policy};
 use far_word::Refused;
 
 /// The logs that the policy names, or its refusal.
