@@ -1,5 +1,6 @@
 pub mod Bools
 pub mod Censuses
+pub mod Changing
 pub mod Dealt
 pub mod Given
 pub mod Hands
@@ -9,7 +10,9 @@ pub mod Keeping
 pub mod LiveLists
 pub mod LiveOnce
 pub mod Marks
+pub mod Onward
 pub mod Orders
+pub mod Passing
 pub mod Polls
 pub mod Readiness
 pub mod Rounds
