@@ -38,6 +38,7 @@ ghost use Rattle.far_book.specs.book.Rows.{row_of};
 mod fetching;
 mod leaving;
 mod moving;
+mod next;
 mod over_plain;
 mod renaming;
 mod round;

@@ -3,6 +3,7 @@ pub mod Censuses
 pub mod Changing
 pub mod Dealt
 pub mod Given
+pub mod Handing
 pub mod Hands
 pub mod InOrder
 pub mod Joined
