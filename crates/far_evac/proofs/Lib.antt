@@ -8,8 +8,10 @@ pub mod Hands
 pub mod InOrder
 pub mod Joined
 pub mod Keeping
+pub mod Lacking
 pub mod LiveLists
 pub mod LiveOnce
+pub mod MarkSteps
 pub mod Marks
 pub mod Onward
 pub mod Orders

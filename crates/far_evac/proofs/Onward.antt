@@ -14,48 +14,32 @@ use Rattle.far_core.specs.declared.event.Kind.TheVariants as kinds
 use Rattle.far_core.specs.state.Law.{Law}
 use Rattle.far_core.specs.state.State.{State}
 use Rattle.far_book.specs.book.Own.{own_part}
-use Rattle.far_book.proofs.Finding.{near_known}
+use Rattle.far_book.specs.book.NextLive.{IsBoundary}
+use Rattle.far_book.proofs.region.NextLives.{lives_from_start}
 use Rattle.far_evac.specs.declared.phase.Phase.{Phase}
 use Rattle.far_evac.specs.declared.phase.Phase.TheVariants.{Idle, Marking, Waiting, Evacuating}
 use Rattle.far_evac.specs.declared.round.Round.{Round}
-use Rattle.far_evac.specs.AnyHand.{Knows}
 use Rattle.far_evac.specs.MomentLaw.{is_idle}
 use Rattle.far_evac.specs.Ready.{AllMarked}
 use Rattle.far_evac.specs.RoundSteps.{among}
-use Rattle.far_evac.specs.Standing.{Holds, InRound, IsBoundary, MarkedAmong, MarkedBefore, Stands, held_in, held_of}
+use Rattle.far_evac.specs.Standing.{Holds, InRound, MarkedAmong, MarkedBefore, Stands, held_in, held_of}
 use Rattle.far_evac.proofs.Given.{drop_next}
-use Rattle.far_evac.proofs.Keeping.{KeepsLogs, dropped_among, round_kept}
-
--- ---- what is found in cells leaves a round as it was
-pub knows_keeps : (s t : State) → Knows s t → (logs : List ℕ) → KeepsLogs s t logs
-knows_keeps s t known logs = record {
-  kind = λ l _. ap (λ (u : State). u.kind l) known.rest;
-  tail = λ l _. ap (λ (u : State). u.tail l) known.rest;
-  starts = λ l at _. ap (λ (u : State). u.starts (l * LOG_WORDS + at)) known.rest;
-  round = λ l _. ap (λ (u : State). u.round l) known.rest;
-  near = λ p len ds place marks near _. let x = near_known (s.cell p) (t.cell p) (known.found p) len ds place marks near in (x.marks, x.near, sym x.same);
-  clear = λ k was. ap (λ (u : State). u.clear k) known.rest ∙ was;
-  mutators = ap (λ (u : State). u.mutators) known.rest;
-  epoch = ap (λ (u : State). u.epoch) known.rest;
-}
-
-pub round_known : (s t : State) (r : Round) → Knows s t → InRound s r → InRound t r
-round_known s t r known in_round = round_kept s t r (knows_keeps s t known (held_in r)) in_round
+use Rattle.far_evac.proofs.Keeping.{dropped_among}
 
 -- ---- phases, lists
-not_leaving : Marking ≢ Evacuating
+pub not_leaving : Marking ≢ Evacuating
 not_leaving e = absurd cc
 
-not_waiting : Marking ≢ Waiting
+pub not_waiting : Marking ≢ Waiting
 not_waiting e = absurd cc
 
-held_marking : (phase : Phase) (chosen : List ℕ) (i : ℕ) → phase ≡ Marking → held_of phase chosen i ≡ chosen
+pub held_marking : (phase : Phase) (chosen : List ℕ) (i : ℕ) → phase ≡ Marking → held_of phase chosen i ≡ chosen
 held_marking phase chosen i e = ap (λ (ph : Phase). held_of ph chosen i) e
 
 head_of : (l k : ℕ) (ls ks xs : List ℕ) → xs ≡ l ∷ ls → xs ≡ k ∷ ks → l ≡ k
 head_of l k ls ks xs e f = let both : l ∷ ls ≡ k ∷ ks = sym e ∙ f in cc
 
-or_split : (a b : Bool) → (a || b) ≡ true → (a ≡ true) ⊎ (b ≡ true)
+pub or_split : (a b : Bool) → (a || b) ≡ true → (a ≡ true) ⊎ (b ≡ true)
 or_split true b h = inl refl
 or_split false b h = inr h
 
@@ -86,10 +70,7 @@ pub sealed_inside : (s : State) → Law (own_part s) → (l : ℕ) → s.kind l 
 sealed_inside s law l sealed = law.logs.log_range l (sealed_used (s.kind l) sealed)
 
 pub start_boundary : (s : State) → Law (own_part s) → (l : ℕ) → IsBoundary s l 0
-start_boundary s law l = record {
-  within = omega arith;
-  begins = λ lt. let e : l * LOG_WORDS + 0 ≡ l * LOG_WORDS = omega arith in ap s.starts e ∙ law.spans.first_span l lt;
-}
+start_boundary s law l = (lives_from_start s law l).0
 
 -- ---- a round that marks
 module _ (s : State) (r : Round) (in_round : InRound s r) (marks : r.phase ≡ Marking) where
@@ -122,6 +103,7 @@ module _ (s : State) (r : Round) (in_round : InRound s r) (marks : r.phase ≡ M
         marked_here = λ marking k ks e. subst (λ x. MarkedBefore s x at) (head_of l k ls ks (drop r.index r.chosen) front e) before;
         left = λ leaves. absurd (not_leaving (sym marks ∙ leaves));
         seen = λ waits. absurd (not_waiting (sym marks ∙ waits));
+        unseen = λ waits. absurd (not_waiting (sym marks ∙ waits));
       };
     }
 
@@ -145,5 +127,6 @@ module _ (s : State) (r : Round) (in_round : InRound s r) (marks : r.phase ≡ M
         marked_here = λ marking k ks e p len ds place m near log lt. absurd (omega (arith, lt));
         left = λ leaves. absurd (not_leaving (sym marks ∙ leaves));
         seen = λ waits. absurd (not_waiting (sym marks ∙ waits));
+        unseen = λ waits. absurd (not_waiting (sym marks ∙ waits));
       };
     }

@@ -24,9 +24,10 @@ use Rattle.far_core.proofs.Put.{put_same}
 use Rattle.far_book.proofs.Finding.{near_found, near_known}
 use Rattle.far_book.proofs.region.Owns.{own_spans}
 use Rattle.far_evac.specs.AnyHand.{Knows}
-use Rattle.far_evac.specs.Cursor.{IsHomeOf, IsNextLacking, live_from}
+use Rattle.far_book.specs.book.NextLive.{IsBoundary, IsHomeOf, live_from}
+use Rattle.far_evac.specs.Cursor.{IsNextLacking}
 use Rattle.far_evac.specs.Ready.{AllMarked}
-use Rattle.far_evac.specs.Standing.{IsBoundary, MarkedBefore}
+use Rattle.far_evac.specs.Standing.{MarkedBefore}
 use Rattle.far_evac.proofs.Hands.{knows_more, knows_seen}
 use Rattle.far_evac.proofs.LiveLists.{finds_place}
 
@@ -56,7 +57,7 @@ was_kept f x (y ∷ ys) = cond_both (f y) (y ∷ filter f ys) (filter f ys) (λ 
 -- ---- the objects of a log from a word on
 module _ (s : State) (law : Law (own_part s)) (l at : ℕ) where
   abbrev there_is : Span → Bool
-  there_is span = nat_le at span.at && is_live s l span
+  there_is span = is_live s l span && nat_le at span.at
 
   module _ (p len ds : ℕ) (place : Place) (marks : Marks) (near : read_of (s.cell p) ≡ Some (Near len ds place marks)) (log : place.log ≡ l) where
     abbrev its : Span
@@ -70,14 +71,14 @@ module _ (s : State) (law : Law (own_part s)) (l at : ℕ) where
     alive = ap (λ k. is_live s k its) (sym log) ∙ (observations.one_live (own_part s) law p len ds place marks near).live
 
     pub is_there : at ≤ place.at → Contains (live_from s l at) its
-    is_there from = kept_in there_is its (spans_of s l) (and_true (nat_le at place.at) (is_live s l its) (grind (arith, nat_tests, from)) alive) listed
+    is_there from = kept_in there_is its (spans_of s l) (and_true (is_live s l its) (nat_le at place.at) alive (grind (arith, nat_tests, from))) listed
 
   -- each stands there, and is live
   pub stands_there : (x : Span) → Contains (live_from s l at) x → (at ≤ x.at) × (is_live s l x ≡ true)
   stands_there x member =
-      let both = and_both (nat_le at x.at) (is_live s l x) (was_kept there_is x (spans_of s l) member) in
-      let le : nat_le at x.at ≡ true = both.0 in
-      (grind (arith, nat_tests, le), both.1)
+      let both = and_both (is_live s l x) (nat_le at x.at) (was_kept there_is x (spans_of s l) member) in
+      let le : nat_le at x.at ≡ true = both.1 in
+      (grind (arith, nat_tests, le), both.0)
 
   -- where none is left, each object has EVAC
   pub none_there : live_from s l at ≡ [] → MarkedBefore s l at → AllMarked s l
@@ -120,12 +121,14 @@ module _ (s : State) (law : Law (own_part s)) (l at : ℕ) (span : Span) (first 
   ]
 
 -- ---- where an object lies a span begins
+size_some : (len : ℕ) → 0 < size_of len
+size_some len = omega arith
+
 pub begins_there : (s : State) → Law (own_part s) → (p len ds : ℕ) (place : Place) (marks : Marks) → read_of (s.cell p) ≡ Some (Near len ds place marks) → IsBoundary s place.log place.at
 begins_there s law p len ds place marks near =
-    let range = observations.in_range (own_part s) law p len ds place marks near in record {
-      within = omega (arith, range.0);
-      begins = λ _. range.1;
-    }
+    let range = observations.in_range (own_part s) law p len ds place marks near in
+    let some = size_some len in
+    inr (omega (arith, range.0, some), range.1)
 
 pub ends_within : (s : State) → Law (own_part s) → (p len ds : ℕ) (place : Place) (marks : Marks) → read_of (s.cell p) ≡ Some (Near len ds place marks) → place.at + size_of len ≤ LOG_WORDS
 ends_within s law p len ds place marks near =
@@ -135,14 +138,11 @@ ends_within s law p len ds place marks near =
 -- ---- what is known meanwhile
 pub from_known : (s t : State) → Knows s t → (l at : ℕ) → live_from t l at ≡ live_from s l at
 from_known s t known l at =
-    ap (λ test. filter test (spans_of t l)) (fun_ext (λ (span : Span). ap (λ b. nat_le at span.at && b) (finds_place (s.cell span.p) (t.cell span.p) (known.found span.p) l span.at)))
-    ∙ ap (λ spans. filter (λ (span : Span). nat_le at span.at && is_live s l span) spans) (known.spans l)
+    ap (λ test. filter test (spans_of t l)) (fun_ext (λ (span : Span). ap (λ b. b && nat_le at span.at) (finds_place (s.cell span.p) (t.cell span.p) (known.found span.p) l span.at)))
+    ∙ ap (λ spans. filter (λ (span : Span). is_live s l span && nat_le at span.at) spans) (known.spans l)
 
 pub boundary_known : (s t : State) → Knows s t → (l at : ℕ) → IsBoundary s l at → IsBoundary t l at
-boundary_known s t known l at b = record {
-  within = subst (λ (u : State). at ≤ u.tail l) (sym known.rest) b.within;
-  begins = λ lt. ap (λ (u : State). u.starts (l * LOG_WORDS + at)) known.rest ∙ b.begins (subst (λ (u : State). at < u.tail l) known.rest lt);
-}
+boundary_known s t known l at b = subst (λ (u : State). IsBoundary u l at) (sym known.rest) b
 
 -- words were found in cells
 pub knows_cells : (s t : State) → ((p : ℕ) → Finds (s.cell p) (t.cell p)) → t ≡ record s { cell = t.cell } → Knows s t
@@ -168,9 +168,6 @@ lies_known s t known l span lies =
 
 pub knows_put : (s t : State) (p word : ℕ) → Finds (s.cell p) word → t ≡ record s { cell = put s.cell p word } → Knows s t
 knows_put s t p word finds is = subst (Knows s) (sym is) (knows_seen s p word finds)
-
-pub size_some : (len : ℕ) → 0 < size_of len
-size_some len = omega arith
 
 -- ---- one step: from s to t a span was found, and in u its cell was seen
 module _ (s t u : State) (l at word : ℕ) (span : Span) (cells : (p : ℕ) → Finds (s.cell p) (t.cell p)) (kept : t ≡ record s { cell = t.cell }) (lies : IsHomeOf t l span)
@@ -198,6 +195,12 @@ module _ (s t u : State) (l at word : ℕ) (span : Span) (cells : (p : ℕ) → 
     here = begins_there u law span.p span.len span.ds (record { log = l; at = span.at }) step_lies.marks step_lies.near;
     before = marked_to u law l at span step_first (before_known s u step_known l at before);
     behind = boundary_known s u step_known l past next;
+    alone = λ p len ds place marks near log from to.
+        let le = not_before u law l at span step_first in
+        elim (one_or_behind u law l at span step_first p len ds place marks near log (omega (arith, le, from))) [
+          | inl e ↦ sym (ap (λ (x : Span). x.p) e)
+          | inr more ↦ absurd (omega (arith, more, to))
+        ];
   }
 
   pub step_passes : MarkedBefore s l at → has_evac (read_of word) ≡ true → MarkedBefore u l past

@@ -1,35 +1,27 @@
 -- Where marking stands within the logs, and what one step of it leaves.
-use Rattle.std.specs.Prelude.{◌≡◌, ℕ, ◌+◌, ◌*◌, ◌<◌, ◌&&◌, Bool, true, false, nat_le, Some, List, [], ◌∷◌, drop, filter}
+use Rattle.std.specs.Prelude.{◌≡◌, ℕ, ◌+◌, ◌<◌, ◌≤◌, false, Some, List, [], ◌∷◌, drop}
 use Rattle.far_word.specs.declared.mark.Marks.{Marks}
+use Rattle.far_word.specs.declared.pointer.Place.{Place}
 use Rattle.far_word.specs.declared.pointer.PtrWord.TheVariants.{Near}
-use Rattle.far_word.specs.declared.sizes.TheConstants.{CELLS}
 use Rattle.far_word.specs.Pointer.{read_of}
 use Rattle.far_word.specs.Sizes.{size_of}
 use Rattle.far_log.specs.declared.span.Span.{Span}
-use Rattle.far_core.specs.state.Spans.{spans_of, is_live}
 use Rattle.far_core.specs.state.State.{State}
 use Rattle.far_book.specs.book.Dealing.{has_evac}
 use Rattle.far_book.specs.book.Effects.{marked}
+use Rattle.far_book.specs.book.NextLive.{IsBoundary, IsHomeOf}
 use Rattle.far_evac.specs.declared.round.Round.{Round}
-use Rattle.far_evac.specs.Standing.{IsBoundary, MarkedBefore}
+use Rattle.far_evac.specs.Standing.{MarkedBefore}
 
--- STANDIN
-abbrev pub live_from : State → ℕ → ℕ → List Span
-live_from s l at = filter (λ (span : Span). nat_le at span.at && is_live s l span) (spans_of s l)
-
--- STANDIN
-pub record IsHomeOf (s : State) (l : ℕ) (span : Span) : Type 0 where
-  pub pointer : span.p < CELLS * s.mutators
-  pub marks : Marks
-  pub near : read_of (s.cell span.p) ≡ Some (Near span.len span.ds record { log = l; at = span.at } marks)
-
--- an object lies in a span of a log and lacks EVAC, and each that lies there before has it
+-- an object lies in a span of a log and lacks EVAC, each that lies there before has it, and no other lies in the span
 pub record IsNextLacking (s : State) (l : ℕ) (span : Span) : Type 0 where
   pub lies : IsHomeOf s l span
   pub bare : has_evac (read_of (s.cell span.p)) ≡ false
   pub here : IsBoundary s l span.at
   pub before : MarkedBefore s l span.at
   pub behind : IsBoundary s l (span.at + size_of span.len)
+  pub alone : (p len ds : ℕ) (place : Place) (marks : Marks) → read_of (s.cell p) ≡ Some (Near len ds place marks) → place.log ≡ l →
+      span.at ≤ place.at → place.at < span.at + size_of span.len → p ≡ span.p
 
 -- the round stands at that span
 pub record StandsAt (s : State) (r : Round) (span : Span) : Type 0 where

@@ -4,19 +4,18 @@ ghost use Rattle.std.specs.Prelude.{◌≡◌, ◌≢◌, ◌+◌, ◌*◌, ◌<
 ghost use Rattle.far_word.specs.declared.refused.Refused.TheVariants.{Phase as WrongPhase};
 ghost use Rattle.far_word.specs.declared.sizes.TheConstants.{MOST_LOGS};
 ghost use Rattle.far_word.specs.Pointer.{read_of};
-ghost use Rattle.far_word.specs.Sizes.{size_of};
 ghost use Rattle.far_core.specs.events.Advance.{is_among};
-ghost use Rattle.far_book.specs.Finds.{Finds};
 ghost use Rattle.far_book.specs.book.Dealing.{has_evac};
+ghost use Rattle.far_book.specs.book.NextLive.{IsBoundary};
 ghost use Rattle.far_evac.specs.declared.round.Round.{Round as RoundOf};
 ghost use Rattle.far_evac.specs.AnyHand.{GivesUp, Knows, KnowsMoment, MarksSome};
 ghost use Rattle.far_evac.specs.Choosing.{after_aborting};
-ghost use Rattle.far_evac.specs.Cursor.{IsHomeOf, IsNextLacking, StandsAt, first_marked, live_from};
+ghost use Rattle.far_evac.specs.Cursor.{IsNextLacking, StandsAt, first_marked};
 ghost use Rattle.far_evac.specs.EvacOf.{moment};
 ghost use Rattle.far_evac.specs.Live.{is_empty, lacking, live_among, live_in};
 ghost use Rattle.far_evac.specs.Marking.{after_marking, marked_core, newly_marked, waiting_for};
 ghost use Rattle.far_evac.specs.RoundSteps.{advanced, among, unmarked};
-ghost use Rattle.far_evac.specs.Standing.{InRound, IsBoundary, MarkedBefore};
+ghost use Rattle.far_evac.specs.Standing.{InRound, MarkedBefore};
 ghost use Rattle.far_evac.specs.Ready.{AllMarked};
 ghost use Rattle.far_evac.specs.declared.phase.Phase.TheVariants as phase;
 
@@ -47,6 +46,7 @@ impl<N: Near + Drop, D: Device + Drop> Evac<N, D> {
         if self.round.phase != Phase::Marking {
             return Err(Refused::Phase);
         }
+        self.keeps_law();
         let count = self.mark_up_to(n);
         if self.lacks_some() {
             return Ok(Marked {
@@ -70,14 +70,13 @@ impl<N: Near + Drop, D: Device + Drop> Evac<N, D> {
         ensures count { result ≡ length (newly_marked (moment N.view self.old) n) }
     {
         self.keeps_law();
-        let mut count = 0;
-        for _ in 0..n {
+        for i in 0..n {
+            self.keeps_law();
             if !self.mark_next() {
-                break;
+                return i;
             }
-            count += 1;
         }
-        count
+        n
     }
 
     // Sets EVAC on the first object that lacks it; answers whether there is one.
@@ -132,6 +131,7 @@ impl<N: Near + Drop, D: Device + Drop> Evac<N, D> {
         self.round.index = 0;
         self.round.at = 0;
         self.round.seen = 0;
+        self.book.keeps_law();
         epoch
     }
 
@@ -207,7 +207,7 @@ fn next_unmarked<N: Near + Drop, D: Device + Drop>(book: &mut Book<N, D>, log: u
     ensures device { book.new.device ≡ book.old.device }
 {
     let mut from = at;
-    while let Some(span) = next_live(book, log, from) {
+    while let Some(span) = book.next_live(log, from) {
         let cell = book.see(span.p);
         book.keeps_law();
         if !has_evac(cell) {
@@ -253,7 +253,7 @@ fn unmark_log<N: Near + Drop, D: Device + Drop>(book: &mut Book<N, D>, log: u8)
 {
     book.keeps_law();
     let mut from = 0;
-    while let Some(span) = next_live(book, log, from) {
+    while let Some(span) = book.next_live(log, from) {
         book.clear(span.p);
         book.keeps_law();
         from = span.at + size_of(span.len);
@@ -270,21 +270,4 @@ fn set_of(chosen: &Chosen) -> u64
         logs |= 1 << *log;
     }
     logs
-}
-
-// STANDIN
-fn next_live<N: Near + Drop, D: Device + Drop>(book: &mut Book<N, D>, log: u8, at: u16) -> Option<Span>
-    requires log { log < (N.view book.old.near).logs }
-    requires begins { IsBoundary (N.view book.old.near) log at }
-    ensures first { IfSome result (λ span. live_from (N.view book.old.near) log at ≡ span ∷ live_from (N.view book.old.near) log (span.at + size_of span.len)) }
-    ensures none { IfNone result (live_from (N.view book.old.near) log at ≡ []) }
-    ensures next { IfSome result (λ span. IsBoundary (N.view book.old.near) log (span.at + size_of span.len)) }
-    ensures lies { IfSome result (λ span. IsHomeOf (N.view book.new.near) log span) }
-    ensures found { (p : ℕ) → Finds ((N.view book.old.near).cell p) ((N.view book.new.near).cell p) }
-    ensures kept { N.view book.new.near ≡ record (N.view book.old.near) { cell = (N.view book.new.near).cell } }
-    ensures exact { N.still → N.view book.new.near ≡ N.view book.old.near }
-    ensures order { book.new.order ≡ book.old.order }
-    ensures device { book.new.device ≡ book.old.device }
-{
-    unreachable!()
 }

@@ -1,7 +1,8 @@
 use Rattle.std.proofs.Common.{◌≡◌, ◌-◌}
 use Rattle.far_word.specs.declared.sizes.TheConstants.{LOG_WORDS}
 use Rattle.far_evac.specs.AnyHand.{Knows}
-use Rattle.far_evac.specs.Standing.{IsBoundary, MarkedBefore}
+use Rattle.far_book.specs.book.NextLive.{IsBoundary}
+use Rattle.far_evac.specs.Standing.{MarkedBefore}
 use Rattle.far_evac.proofs.evac.marking.next_unmarked.Given as goal
 
 abbrev pub invariant-loop-span : goal.invariant-loop-span

@@ -1,6 +1,7 @@
 use Rattle.std.proofs.Common.{◌∙◌, ◌+◌, drop, slice_index_or, refl}
 use Rattle.far_evac.proofs.Hands.{knows_more}
-use Rattle.far_evac.proofs.Onward.{front_begins, front_inside, front_is, front_marked, moved_on, next_log, round_known, start_boundary}
+use Rattle.far_evac.proofs.Keeping.{round_found}
+use Rattle.far_evac.proofs.Onward.{front_begins, front_inside, front_is, front_marked, moved_on, next_log, start_boundary}
 use Rattle.far_evac.proofs.Passing.{boundary_known}
 use Rattle.far_evac.proofs.evac.marking.seek.Goals as goal
 
@@ -26,7 +27,7 @@ returns-in-Some-clause-stands g c =
     let t = g.N.Near.view c.next_unmarked.new.book.near in
     let r = record c.args.round { index = c.loop-index.index; at = c.loop-index.at } in
     let e = c.in-Some.ensures in
-    moved_on t r (round_known s t r e.known c.loop-index.invariant.stands) c.requires.marking _ _ front c.in-Some.span.at e.next.here e.next.before
+    moved_on t r (round_found s t r c.loop-index.invariant.stands e.known) c.requires.marking _ _ front c.in-Some.span.at e.next.here e.next.before
 
 pub returns-in-Some-clause-next : goal.returns-in-Some-clause-next
 returns-in-Some-clause-next g c =
@@ -54,7 +55,7 @@ loop-index-preserved g c =
     record {
       known = knows_more (g.N.Near.view c.args.book.now.near) s t h.known e.known;
       exact = λ still. e.exact still ∙ h.exact still;
-      stands = next_log t r (round_known s t r e.known h.stands) c.requires.marking _ _ front (λ k. boundary_known s t e.known k 0 (start_boundary s c.keeps_law.ensures.law k)) e.none;
+      stands = next_log t r (round_found s t r h.stands e.known) c.requires.marking _ _ front (λ k. boundary_known s t e.known k 0 (start_boundary s c.keeps_law.ensures.law k)) e.none;
       order = e.order ∙ h.order;
       device = e.device ∙ h.device;
     }

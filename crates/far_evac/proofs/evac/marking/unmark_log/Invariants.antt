@@ -4,10 +4,9 @@ use Rattle.far_word.specs.declared.sizes.TheConstants.{LOG_WORDS}
 use Rattle.far_core.specs.state.Law.{Law}
 use Rattle.far_book.specs.book.Own.{own_part}
 use Rattle.far_evac.specs.AnyHand.{Knows}
-use Rattle.far_evac.specs.Cursor.{live_from}
+use Rattle.far_book.specs.book.NextLive.{IsBoundary, live_from}
 use Rattle.far_evac.specs.Live.{live_in, pointers_of}
 use Rattle.far_evac.specs.RoundSteps.{unmarked}
-use Rattle.far_evac.specs.Standing.{IsBoundary}
 use Rattle.far_evac.proofs.evac.marking.unmark_log.Given as goal
 
 abbrev pub invariant-loop-span : goal.invariant-loop-span
