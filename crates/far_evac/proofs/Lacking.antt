@@ -1,5 +1,5 @@
 -- The objects that lack EVAC: once the first of them has it, the others are left.
-use Rattle.std.proofs.Common.{◌≡◌, ◌≢◌, ℕ, zero, suc, ◌+◌, ◌^◌, ◌<◌, ◌≤◌, Bool, true, false, cond, not, ◌&&◌, ◌||◌, ◌==◌, eqb, nat_lt, Option, Some, None, List, [], ◌∷◌, ◌++◌, map, filter, take, drop, inl, inr, bit_or, arith, ap, sym, refl, ◌∙◌, subst}
+use Rattle.std.proofs.Common.{◌≡◌, ◌≢◌, ℕ, zero, suc, ◌+◌, ◌^◌, ◌<◌, ◌≤◌, Bool, true, false, cond, not, ◌&&◌, ◌||◌, ◌==◌, eqb, nat_le, nat_lt, Option, Some, None, List, [], ◌∷◌, ◌++◌, map, filter, take, drop, inl, inr, bit_or, arith, ap, sym, refl, ◌∙◌, subst}
 use Rattle.std.specs.Prelude.{⊤, ◌⊎◌, Contains, fold}
 use Rattle.std.proofs.lemmas.List.{take-append-drop}
 use Rattle.std.proofs.lemmas.List.Sums.{fold-append}
@@ -27,6 +27,7 @@ use Rattle.far_core.proofs.Put.{put_both}
 use Rattle.far_book.specs.Finds.{Finds, body_of}
 use Rattle.far_book.specs.book.Dealing.{has_evac}
 use Rattle.far_book.specs.book.Effects.{marked}
+use Rattle.far_book.specs.book.NextLive.{live_from}
 use Rattle.far_book.specs.book.Own.{own_part}
 use Rattle.far_evac.specs.AnyHand.{Knows}
 use Rattle.far_evac.specs.declared.round.Round.{Round}
@@ -87,7 +88,7 @@ cases_bool : (b : Bool) → (b ≡ true) ⊎ (b ≡ false)
 cases_bool true = inl refl
 cases_bool false = inr refl
 
-append-assoc : (xs ys zs : List ℕ) → (xs ++ ys) ++ zs ≡ xs ++ (ys ++ zs)
+pub append-assoc : (xs ys zs : List ℕ) → (xs ++ ys) ++ zs ≡ xs ++ (ys ++ zs)
 append-assoc [] ys zs = refl
 append-assoc (x ∷ xs) ys zs = ap (λ ws. x ∷ ws) (append-assoc xs ys zs)
 
@@ -171,6 +172,12 @@ module _ (s : State) (cell : ℕ → ℕ) (round : ℕ → Bool) (same : (q : �
   live_same l = ap (λ test. pointers_of (filter test (spans_in (word_in s l) (s.tail l))))
       (fun_ext (λ (span : Span). names_but (read_of (cell span.p)) l span.at ∙ ap (λ o. names_place o l span.at) (same span.p) ∙ sym (names_but (read_of (s.cell span.p)) l span.at)))
 
+  pub from_same : (l at : ℕ) → live_from then l at ≡ live_from s l at
+  unfolding spans_of
+  from_same l at = ap (λ test. filter test (spans_in (word_in s l) (s.tail l)))
+      (fun_ext (λ (span : Span). ap (λ b. b && nat_le at span.at)
+      (names_but (read_of (cell span.p)) l span.at ∙ ap (λ o. names_place o l span.at) (same span.p) ∙ sym (names_but (read_of (s.cell span.p)) l span.at))))
+
   among_same : (ls : List ℕ) → live_among then ls ≡ live_among s ls
   among_same [] = refl
   among_same (l ∷ ls) = ap (λ xs. xs ++ live_among then ls) (live_same l) ∙ ap (λ xs. live_in s l ++ xs) (among_same ls)
@@ -184,6 +191,10 @@ live_marked s p near = let new = bit_or (s.cell p) (2 ^ position Evac) in among_
 pub live_unmarked : (s : State) (p : ℕ) → IsNearWord (s.cell p) → (l : ℕ) → live_in (unmarked s p) l ≡ live_in s l
 live_unmarked s p near =
     let new = evac_cleared (s.cell p) in live_same s (put s.cell p new) (round_left s.round (read_of (s.cell p))) (put_same_but s p new (clear_sets (s.cell p) near).like.same)
+
+pub from_unmarked : (s : State) (p : ℕ) → IsNearWord (s.cell p) → (l at : ℕ) → live_from (unmarked s p) l at ≡ live_from s l at
+from_unmarked s p near =
+    let new = evac_cleared (s.cell p) in from_same s (put s.cell p new) (round_left s.round (read_of (s.cell p))) (put_same_but s p new (clear_sets (s.cell p) near).like.same)
 
 -- ---- what was found in cells leaves them lacking
 has_body : (o : Option PtrWord) → has_evac o ≡ has_evac (body_of o)

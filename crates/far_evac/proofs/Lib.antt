@@ -11,6 +11,8 @@ pub mod Keeping
 pub mod Lacking
 pub mod LiveLists
 pub mod LiveOnce
+pub mod LogBits
+pub mod MarkRuns
 pub mod MarkSteps
 pub mod Marks
 pub mod Onward
@@ -22,6 +24,7 @@ pub mod Rounds
 pub mod Subjects
 pub mod Tallies
 pub mod Tours
+pub mod Unmarking
 pub mod Unviewed
 pub mod Walks
 pub mod worked

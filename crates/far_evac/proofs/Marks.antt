@@ -112,7 +112,7 @@ clear_sets w (fits, (len, ds, place, marks, near)) =
 
 -- ---- live objects
 module _ (s : State) (fits : (p : ℕ) → s.cell p < 2 ^ 64) where
-  near_word : (l p : ℕ) → LivesIn s l p → IsNearWord (s.cell p)
+  pub near_word : (l p : ℕ) → LivesIn s l p → IsNearWord (s.cell p)
   near_word l p h = let x = near_at (read_of (s.cell p)) l h.0 h.1 in (fits p, (x.len, x.ds, x.place, x.marks, x.near))
 
   all_append : (xs ys : List ℕ) → AllByRecursion (λ p. IsNearWord (s.cell p)) xs → AllByRecursion (λ p. IsNearWord (s.cell p)) ys → AllByRecursion (λ p. IsNearWord (s.cell p)) (xs ++ ys)

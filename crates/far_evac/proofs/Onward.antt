@@ -1,8 +1,8 @@
 -- A round that marks goes on: past an object that has EVAC, and to the next log.
 use Rattle.std.proofs.Common.{◌≡◌, ◌≢◌, ℕ, zero, suc, ◌+◌, ◌*◌, ◌<◌, ◌≤◌, ◌||◌, Bool, true, false, Some, List, [], ◌∷◌, ◌++◌, length, slice_index_or, take, drop, eqb, inl, inr, arith, ap, sym, refl, ◌∙◌, subst}
 use Rattle.std.specs.Prelude.{◌⊎◌}
-use Rattle.std.specs.List.{list_any}
-use Rattle.std.proofs.lemmas.Bool.{eq-eqb, eqb-true, false≢true}
+use Rattle.std.specs.List.{IsDistinct}
+use Rattle.std.proofs.lemmas.Bool.{eqb-true, false≢true, true≢false}
 use Rattle.std.proofs.lemmas.List.{drop_more, take_all}
 use Rattle.far_word.specs.declared.mark.Marks.{Marks}
 use Rattle.far_word.specs.declared.pointer.Place.{Place}
@@ -130,3 +130,37 @@ module _ (s : State) (r : Round) (in_round : InRound s r) (marks : r.phase ≡ M
         unseen = λ waits. absurd (not_waiting (sym marks ∙ waits));
       };
     }
+
+-- ---- no round
+distinct_none : IsDistinct eqb []
+unfolding IsDistinct
+distinct_none = tt
+
+pub idle_round : (s : State) (chosen : List ℕ) → chosen ≡ [] → InRound s record { phase = Idle; chosen = chosen; index = 0; at = 0; seen = 0 }
+idle_round s chosen none = record {
+  holds = record {
+    sealed = λ l member. absurd (false≢true member);
+    once = distinct_none;
+    runs = refl;
+    round = λ risen. absurd (false≢true risen);
+    clear = λ e. absurd (idle_leaves e);
+    later = λ e. absurd (idle_marks e);
+  };
+  stands = record {
+    index = omega arith;
+    begins = λ running. absurd (true≢false running);
+    marked = λ e. absurd (idle_marks e);
+    marked_here = λ e. absurd (idle_marks e);
+    left = λ e. absurd (idle_leaves e);
+    seen = λ e. absurd (idle_waits e);
+    unseen = λ e. absurd (idle_waits e);
+  };
+} where
+  idle_leaves : Idle ≢ Evacuating
+  idle_leaves e = absurd cc
+
+  idle_marks : Idle ≢ Marking
+  idle_marks e = absurd cc
+
+  idle_waits : Idle ≢ Waiting
+  idle_waits e = absurd cc

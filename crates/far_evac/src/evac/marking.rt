@@ -15,7 +15,7 @@ ghost use Rattle.far_evac.specs.EvacOf.{moment};
 ghost use Rattle.far_evac.specs.Live.{is_empty, lacking, live_among, live_in};
 ghost use Rattle.far_evac.specs.Marking.{after_marking, marked_core, newly_marked, waiting_for};
 ghost use Rattle.far_evac.specs.RoundSteps.{advanced, among, unmarked};
-ghost use Rattle.far_evac.specs.Standing.{InRound, MarkedBefore};
+ghost use Rattle.far_evac.specs.Standing.{InRound, MarkedBefore, held_in};
 ghost use Rattle.far_evac.specs.Ready.{AllMarked};
 ghost use Rattle.far_evac.specs.declared.phase.Phase.TheVariants as phase;
 
@@ -150,10 +150,8 @@ impl<N: Near + Drop, D: Device + Drop> Evac<N, D> {
         if self.round.phase == Phase::Idle {
             return Err(Refused::Phase);
         }
-        let first = match self.round.phase {
-            Phase::Evacuating => self.round.index,
-            _ => 0,
-        };
+        self.book.keeps_law();
+        let first = first_held(&self.round);
         unmark_logs(&mut self.book, &self.round.chosen, first);
         self.round = Round {
             phase: Phase::Idle,
@@ -229,6 +227,19 @@ fn has_evac(cell: u64) -> bool
     }
 }
 
+// Which of the chosen logs is the first that is still held; how many they are, where none is.
+fn first_held(round: &Round) -> usize
+    requires index { round.now.index ≤ length round.now.chosen }
+    ensures within { result ≤ length round.now.chosen }
+    ensures held { drop result round.now.chosen ≡ held_in round.now }
+{
+    match round.phase {
+        Phase::Idle => round.chosen.len(),
+        Phase::Marking | Phase::Waiting => 0,
+        Phase::Evacuating => round.index,
+    }
+}
+
 // Takes EVAC from the live objects of the logs from one of them on.
 fn unmark_logs<N: Near + Drop, D: Device + Drop>(book: &mut Book<N, D>, chosen: &Chosen, first: usize)
     requires first { first ≤ length chosen.now }
@@ -238,7 +249,9 @@ fn unmark_logs<N: Near + Drop, D: Device + Drop>(book: &mut Book<N, D>, chosen: 
     ensures order { book.new.order ≡ book.old.order }
     ensures device { book.new.device ≡ book.old.device }
 {
+    book.keeps_law();
     for log in &chosen.as_slice()[first..] {
+        book.keeps_law();
         unmark_log(book, *log);
     }
 }
@@ -254,6 +267,7 @@ fn unmark_log<N: Near + Drop, D: Device + Drop>(book: &mut Book<N, D>, log: u8)
     book.keeps_law();
     let mut from = 0;
     while let Some(span) = book.next_live(log, from) {
+        book.keeps_law();
         book.clear(span.p);
         book.keeps_law();
         from = span.at + size_of(span.len);
