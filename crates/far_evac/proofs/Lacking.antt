@@ -1,7 +1,7 @@
 -- The objects that lack EVAC: once the first of them has it, the others are left.
 use Rattle.std.proofs.Common.{◌≡◌, ◌≢◌, ℕ, zero, suc, ◌+◌, ◌^◌, ◌<◌, ◌≤◌, Bool, true, false, cond, not, ◌&&◌, ◌||◌, ◌==◌, eqb, nat_le, nat_lt, Option, Some, None, List, [], ◌∷◌, ◌++◌, map, filter, take, drop, inl, inr, bit_or, arith, ap, sym, refl, ◌∙◌, subst}
 use Rattle.std.specs.Prelude.{⊤, ◌⊎◌, Contains, fold}
-use Rattle.std.proofs.lemmas.List.{take-append-drop}
+use Rattle.std.proofs.lemmas.List.{append_assoc, take-append-drop}
 use Rattle.std.proofs.lemmas.List.Sums.{fold-append}
 use Rattle.std.specs.List.{AllByRecursion, IsDistinct, list_any}
 use Rattle.std.proofs.lemmas.Bool.{cases_eq, cond_both, eq-eqb, ne_eqb, eqb-true, true≢false, false≢true}
@@ -52,7 +52,7 @@ lacks s q = not (has_evac (read_of (s.cell q)))
 -- ---- lists
 all_at : {X : Type 0} (P : X → Type 0) (x : X) (xs : List X) → AllByRecursion P xs → Contains xs x → P x
 all_at P x [] h member = absurd (none_in x member)
-all_at P x (y ∷ ys) h member = elim (split x y ys member) [ | inl e ↦ subst P e h.0 | inr more ↦ all_at P x ys h.1 more ]
+all_at P x (y ∷ ys) h member = elim (split x y ys member) [ inl e ↦ subst P e h.0 | inr more ↦ all_at P x ys h.1 more ]
 
 all_append : (P : ℕ → Type 0) (xs ys : List ℕ) → AllByRecursion P xs → AllByRecursion P ys → AllByRecursion P (xs ++ ys)
 all_append P [] ys f g = g
@@ -87,10 +87,6 @@ or_second false b h = h
 cases_bool : (b : Bool) → (b ≡ true) ⊎ (b ≡ false)
 cases_bool true = inl refl
 cases_bool false = inr refl
-
-pub append-assoc : (xs ys zs : List ℕ) → (xs ++ ys) ++ zs ≡ xs ++ (ys ++ zs)
-append-assoc [] ys zs = refl
-append-assoc (x ∷ xs) ys zs = ap (λ ws. x ∷ ws) (append-assoc xs ys zs)
 
 taken_all : (k : ℕ) (xs : List ℕ) → drop k xs ≡ [] → take (suc k) xs ≡ take k xs
 taken_all zero [] e = refl
@@ -307,7 +303,7 @@ module _ (s : State) where
   lacking_append xs ys = ap (filter (lacks s)) (among_append xs ys) ∙ filter-append (lacks s) (live_among s xs) (live_among s ys) where
     among_append : (us vs : List ℕ) → live_among s (us ++ vs) ≡ live_among s us ++ live_among s vs
     among_append [] vs = refl
-    among_append (u ∷ us) vs = ap (λ zs. live_in s u ++ zs) (among_append us vs) ∙ sym (append-assoc (live_in s u) (live_among s us) (live_among s vs))
+    among_append (u ∷ us) vs = ap (λ zs. live_in s u ++ zs) (among_append us vs) ∙ sym (append_assoc (live_in s u) (live_among s us) (live_among s vs))
 
 -- the first that lacks it, where all that lie before in the log have it
 module _ (s : State) (l : ℕ) (span : Span) (before : (x : Span) → is_live s l x ≡ true → x.at < span.at → lacks s x.p ≡ false) (live : is_live s l span ≡ true) (bare : lacks s span.p ≡ true) where
@@ -338,9 +334,9 @@ module _ (s : State) (l : ℕ) (span : Span) (before : (x : Span) → is_live s 
       (λ _ member. elim (split span (span_at word at) rest member) [
         | inl e ↦ at_last (span_at word at) rest e
         | inr more ↦ (
-          let past : next ≤ span.at = all_at (λ (x : Span). next ≤ x.at) span rest (behind s l word tail next fuel) more in
-          passed_by (span_at word at) rest (omega (arith, past)) (first_from word tail next fuel more)
-        )
+            let past : next ≤ span.at = all_at (λ (x : Span). next ≤ x.at) span rest (behind s l word tail next fuel) more in
+            passed_by (span_at word at) rest (omega (arith, past)) (first_from word tail next fuel more)
+            )
       ])
       (λ _ member. absurd (none_in span member))
 
@@ -356,12 +352,11 @@ first_lacks s law r span before stands =
     let here_live : is_live s l span ≡ true = alive s law l span.at span.p span.len span.ds (record { log = l; at = span.at }) next.lies.marks next.lies.near refl in
     let member : Contains (spans_of s l) span = listed s law l span.at span.p span.len span.ds (record { log = l; at = span.at }) next.lies.marks next.lies.near refl in
     let first = first_in s l span
-        (λ x is lt. let y = near_at (read_of (s.cell x.p)) l x.at is in
-        ap (λ o. not (has_evac o)) y.near ∙ ap not (next.before x.p y.len y.ds y.place y.marks y.near y.log (subst (λ a. a < span.at) (sym y.here) lt)))
-        here_live (ap not next.bare) member in
+    (λ x is lt. let y = near_at (read_of (s.cell x.p)) l x.at is in
+    ap (λ o. not (has_evac o)) y.near ∙ ap not (next.before x.p y.len y.ds y.place y.marks y.near y.log (subst (λ a. a < span.at) (sym y.here) lt)))
+    here_live (ap not next.bare) member in
     let parts : lacking s r.chosen ≡ lacking s (take r.index r.chosen) ++ lacking s (drop r.index r.chosen) =
-    ap (lacking s) (sym (take-append-drop r.index r.chosen)) ∙ lacking_append s (take r.index r.chosen) (drop r.index r.chosen) in
-    (
+    ap (lacking s) (sym (take-append-drop r.index r.chosen)) ∙ lacking_append s (take r.index r.chosen) (drop r.index r.chosen) in (
       first.0 ++ lacking s stands.more,
       parts ∙ ap (λ xs. xs ++ lacking s (drop r.index r.chosen)) (none_lack s (take r.index r.chosen) before)
           ∙ ap (lacking s) stands.front
@@ -388,7 +383,7 @@ module _ (s : State) (law : Law (own_part s)) where
   each_has ls none p len ds place m near member = elim (cases_bool m.evac) [
     | inl has ↦ has
     | inr lacking_it ↦ (
-      let bare : lacks s p ≡ true = ap (λ o. not (has_evac o)) near ∙ ap not lacking_it in
-      absurd (none_in p (subst (λ xs. Contains xs p) none (kept_in (lacks s) p (live_among s ls) bare (in_among ls place.log p member (in_live p len ds place m near)))))
-    )
+        let bare : lacks s p ≡ true = ap (λ o. not (has_evac o)) near ∙ ap not lacking_it in
+        absurd (none_in p (subst (λ xs. Contains xs p) none (kept_in (lacks s) p (live_among s ls) bare (in_among ls place.log p member (in_live p len ds place m near)))))
+        )
   ]

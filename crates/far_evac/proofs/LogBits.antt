@@ -20,12 +20,12 @@ or_yes false = refl
 pub with_log : (logs x : ℕ) → x < MOST_LOGS → (k : ℕ) → is_among (bit_or logs (1 * 2 ^ x % 18446744073709551616)) k ≡ (is_among logs k || eqb k x)
 with_log logs x lt k = elim (cases_eq k x) [
   | inl e ↦ (
-    let below : nat_lt x MOST_LOGS ≡ true = grind (arith, nat_tests, lt) in
-    ap (is_among (bit_or logs (1 * 2 ^ x % 18446744073709551616))) e
-    ∙ ap (λ v. nat_lt x MOST_LOGS && (v == 1)) (bit_at_set_same w64 logs x lt)
-    ∙ ap (λ b. b && true) below
-    ∙ sym (ap (λ b. is_among logs k || b) (eq-eqb k x e) ∙ or_yes (is_among logs k))
-  )
+      let below : nat_lt x MOST_LOGS ≡ true = grind (arith, nat_tests, lt) in
+      ap (is_among (bit_or logs (1 * 2 ^ x % 18446744073709551616))) e
+      ∙ ap (λ v. nat_lt x MOST_LOGS && (v == 1)) (bit_at_set_same w64 logs x lt)
+      ∙ ap (λ b. b && true) below
+      ∙ sym (ap (λ b. is_among logs k || b) (eq-eqb k x e) ∙ or_yes (is_among logs k))
+      )
   | inr ne ↦ ap (λ v. nat_lt k MOST_LOGS && (v == 1)) (bit_at_set_other w64 logs x lt k ne)
       ∙ sym (ap (λ b. is_among logs k || b) (ne_eqb k x ne) ∙ or_no (is_among logs k))
 ]

@@ -87,8 +87,7 @@ module _ (s t : State) (r next : Round) (in_round : InRound t next) (marks : r.p
   pub may_mark : Law (own_part t) → (span : Span) → StandsAt t next span → Legal t (Mark span.p)
   may_mark law span stands =
       let lies = stands.next.lies in
-      let sealed = chosen_sealed t next in_round next_marks stands.log (dropped_among next.chosen next.index stands.log stands.more stands.front) in
-      (
+      let sealed = chosen_sealed t next in_round next_marks stands.log (dropped_among next.chosen next.index stands.log stands.more stands.front) in (
         lies.pointer,
         (span.len, span.ds, record { log = stands.log; at = span.at }, lies.marks, lies.near, front_inside t next in_round next_marks stands.log stands.more stands.front law, sealed),
       )
@@ -122,22 +121,22 @@ module _ (s t : State) (r next : Round) (in_round : InRound t next) (marks : r.p
     lay : (q len ds : ℕ) (place : Place) (m : Marks) → read_of (u.cell q) ≡ Some (Near len ds place m) → Lay q len ds place m
     lay q len ds place m near = elim (cases_eq q p) [
       | inl e ↦ (
-        let x = near_found (t.cell p) word finds span.len span.ds (record { log = stands.log; at = span.at }) stands.next.lies.marks stands.next.lies.near in
-        let says = with_mark_read Evac word (Near span.len span.ds record { log = stands.log; at = span.at } x.marks) fits x.near refl in
-        let cell : u.cell q ≡ bit_or word (2 ^ position Evac) = ap (λ (v : State). v.cell q) is ∙ put_same t.cell p (bit_or word (2 ^ position Evac)) q e in
-        let both : Some (Near len ds place m) ≡ Some (Near span.len span.ds record { log = stands.log; at = span.at } (marks_with Evac x.marks)) = sym near ∙ ap read_of cell ∙ says in
-        let lens : span.len ≡ len = cc in
-        let kinds : span.ds ≡ ds = cc in
-        let places : record { log = stands.log; at = span.at } ≡ place = cc in
-        let marks_are : m ≡ marks_with Evac x.marks = cc in
-        let has : m.evac ≡ true = ap (λ (k : Marks). k.evac) marks_are in
-        record {
-          old = stands.next.lies.marks;
-          near = ap (λ x. read_of (t.cell x)) e ∙ stands.next.lies.near ∙ (λ i. Some (Near (lens i) (kinds i) (places i) stands.next.lies.marks));
-          kept = λ _. has;
-          new = λ _. has;
-        }
-      )
+          let x = near_found (t.cell p) word finds span.len span.ds (record { log = stands.log; at = span.at }) stands.next.lies.marks stands.next.lies.near in
+          let says = with_mark_read Evac word (Near span.len span.ds record { log = stands.log; at = span.at } x.marks) fits x.near refl in
+          let cell : u.cell q ≡ bit_or word (2 ^ position Evac) = ap (λ (v : State). v.cell q) is ∙ put_same t.cell p (bit_or word (2 ^ position Evac)) q e in
+          let both : Some (Near len ds place m) ≡ Some (Near span.len span.ds record { log = stands.log; at = span.at } (marks_with Evac x.marks)) = sym near ∙ ap read_of cell ∙ says in
+          let lens : span.len ≡ len = cc in
+          let kinds : span.ds ≡ ds = cc in
+          let places : record { log = stands.log; at = span.at } ≡ place = cc in
+          let marks_are : m ≡ marks_with Evac x.marks = cc in
+          let has : m.evac ≡ true = ap (λ (k : Marks). k.evac) marks_are in
+          record {
+            old = stands.next.lies.marks;
+            near = ap (λ x. read_of (t.cell x)) e ∙ stands.next.lies.near ∙ (λ i. Some (Near (lens i) (kinds i) (places i) stands.next.lies.marks));
+            kept = λ _. has;
+            new = λ _. has;
+          }
+          )
       | inr ne ↦ record {
         old = m;
         near = sym (ap read_of (ap (λ (v : State). v.cell q) is ∙ put_other t.cell p (bit_or word (2 ^ position Evac)) q ne)) ∙ near;

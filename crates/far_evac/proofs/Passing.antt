@@ -51,7 +51,7 @@ kept_in f x (y ∷ ys) is member = elim (split x y ys member) [
 pub was_kept : {X : Type 0} (f : X → Bool) (x : X) (xs : List X) → Contains (filter f xs) x → f x ≡ true
 was_kept f x [] = λ member. absurd (none_in x member)
 was_kept f x (y ∷ ys) = cond_both (f y) (y ∷ filter f ys) (filter f ys) (λ zs. Contains zs x → f x ≡ true)
-    (λ yes member. elim (split x y (filter f ys) member) [ | inl e ↦ ap f (sym e) ∙ yes | inr more ↦ was_kept f x ys more ])
+    (λ yes member. elim (split x y (filter f ys) member) [ inl e ↦ ap f (sym e) ∙ yes | inr more ↦ was_kept f x ys more ])
     (λ _ member. was_kept f x ys member)
 
 -- ---- the objects of a log from a word on

@@ -2,7 +2,7 @@
 use Rattle.std.proofs.Common.{◌≡◌, ℕ, zero, suc, ◌+◌, ◌^◌, ◌<◌, ◌≤◌, ◌-◌, true, false, Some, List, [], ◌∷◌, ◌++◌, take, drop, length, slice_index_or, arith, ap, sym, refl, ◌∙◌, subst}
 use Rattle.std.specs.Prelude.{fold}
 use Rattle.std.specs.List.{AllByRecursion}
-use Rattle.std.proofs.lemmas.List.{take_all}
+use Rattle.std.proofs.lemmas.List.{append-nil, append_assoc, length-drop, take_all}
 use Rattle.std.proofs.lemmas.List.Sums.{fold-append}
 use Rattle.far_word.specs.declared.pointer.PtrWord.TheVariants.{Near}
 use Rattle.far_word.specs.declared.sizes.TheConstants.{LOG_WORDS}
@@ -25,16 +25,12 @@ use Rattle.far_evac.specs.RoundSteps.{unmarked}
 use Rattle.far_evac.proofs.Changing.{clear_leaves, cleared_known, unmarked_fits, unmarked_known}
 use Rattle.far_evac.proofs.Given.{drop_next}
 use Rattle.far_evac.proofs.Hands.{knows_more}
-use Rattle.far_evac.proofs.Lacking.{append-assoc, from_unmarked, live_unmarked}
+use Rattle.far_evac.proofs.Lacking.{from_unmarked, live_unmarked}
 use Rattle.far_evac.proofs.LiveLists.{knows_live}
 use Rattle.far_evac.proofs.LiveOnce.{each_map, live_named}
 use Rattle.far_evac.proofs.Marks.{IsNearWord, all_near, clear_sets, live_near, near_word}
 use Rattle.far_evac.proofs.Onward.{front_is}
 use Rattle.far_evac.proofs.Passing.{boundary_known, from_known, knows_cells, not_before}
-
-pub append_none : (xs : List ℕ) → xs ++ [] ≡ xs
-append_none [] = refl
-append_none (x ∷ xs) = ap (λ ys. x ∷ ys) (append_none xs)
 
 pub live_start : (s : State) → Law (own_part s) → (l : ℕ) → live_in s l ≡ pointers_of (live_from s l 0)
 unfolding live_in
@@ -94,7 +90,7 @@ module _ (start s t u : State) (l at word : ℕ) (span : Span) (done : List ℕ)
   from_left = from_known (unmarked t p) u leaves l past ∙ from_unmarked t p near_t l past ∙ from_known s t meanwhile l past
 
   pub then_parts : live_in start l ≡ (done ++ p ∷ []) ++ pointers_of (live_from u l past)
-  then_parts = parts ∙ ap (λ spans. done ++ pointers_of spans) first ∙ sym (append-assoc done (p ∷ []) (pointers_of (live_from s l past)))
+  then_parts = parts ∙ ap (λ spans. done ++ pointers_of spans) first ∙ sym (append_assoc done (p ∷ []) (pointers_of (live_from s l past)))
       ∙ ap (λ spans. (done ++ p ∷ []) ++ pointers_of spans) (sym from_left)
 
   pub then_begins : IsBoundary u l past
@@ -108,7 +104,7 @@ goes_past s law l at span first = let le = not_before s law l at span first in l
 
 -- the end of a log
 pub all_done : (start s t : State) (l at : ℕ) (done : List ℕ) → live_in start l ≡ done ++ pointers_of (live_from s l at) → live_from s l at ≡ [] → live_in start l ≡ done
-all_done start s t l at done parts none = parts ∙ ap (λ spans. done ++ pointers_of spans) none ∙ append_none done
+all_done start s t l at done parts none = parts ∙ ap (λ spans. done ++ pointers_of spans) none ∙ append-nil done
 
 -- ---- log after log
 unmarked_all : (ps : List ℕ) (s : State) → ((q : ℕ) → s.cell q < 2 ^ 64) → AllByRecursion (λ p. IsNearWord (s.cell p)) ps → (q : ℕ) → (fold unmarked s ps).cell q < 2 ^ 64
@@ -121,7 +117,7 @@ live_all (p ∷ ps) s l near = live_all ps (unmarked s p) l (all_near false unma
 
 among_append : (s : State) (us vs : List ℕ) → live_among s (us ++ vs) ≡ live_among s us ++ live_among s vs
 among_append s [] vs = refl
-among_append s (u ∷ us) vs = ap (λ zs. live_in s u ++ zs) (among_append s us vs) ∙ sym (append-assoc (live_in s u) (live_among s us) (live_among s vs))
+among_append s (u ∷ us) vs = ap (λ zs. live_in s u ++ zs) (among_append s us vs) ∙ sym (append_assoc (live_in s u) (live_among s us) (live_among s vs))
 
 module _ (start t : State) (fits : (q : ℕ) → start.cell q < 2 ^ 64) (passed : List ℕ) (l : ℕ) (known : Knows (fold unmarked start (live_among start passed)) t) (law : Law (own_part t)) where
   abbrev sofar : State
@@ -139,7 +135,7 @@ module _ (start t : State) (fits : (q : ℕ) → start.cell q < 2 ^ 64) (passed 
 
   joined : fold unmarked start (live_among start (passed ++ l ∷ [])) ≡ fold unmarked sofar (live_in t l)
   joined =
-      ap (fold unmarked start) (among_append start passed (l ∷ []) ∙ ap (λ xs. live_among start passed ++ xs) (append_none (live_in start l) ∙ sym live_still))
+      ap (fold unmarked start) (among_append start passed (l ∷ []) ∙ ap (λ xs. live_among start passed ++ xs) (append-nil (live_in start l) ∙ sym live_still))
       ∙ fold-append unmarked start (live_among start passed) (live_in t l)
 
   pub log_known : (u : State) → Knows (fold unmarked t (live_in t l)) u → Knows (fold unmarked start (live_among start (passed ++ l ∷ []))) u
@@ -155,12 +151,7 @@ taken_next xs ys i same lt =
     let front = front_is xs ys i (length ys) same (ap length same) lt in
     ap (λ n. take n xs) one ∙ (drop_next i xs (slice_index_or ys i 0) (drop (i + 1) xs) front).2
 
-dropped_len : (k : ℕ) (zs : List ℕ) → length (drop k zs) ≤ length zs - k
-dropped_len zero zs = omega arith
-dropped_len (suc k) [] = omega arith
-dropped_len (suc k) (z ∷ zs) = let h = dropped_len k zs in omega (arith, h)
-
 pub slice_rest : (xs ys : List ℕ) (n : ℕ) → ys ≡ xs → take (length ys - n) (drop n ys) ≡ drop n xs
 slice_rest xs ys n same = whole n ys ∙ ap (drop n) same where
   whole : (k : ℕ) (zs : List ℕ) → take (length zs - k) (drop k zs) ≡ drop k zs
-  whole k zs = let len = dropped_len k zs in take_all (length zs - k) (drop k zs) (omega (arith, len))
+  whole k zs = let len = length-drop k zs in take_all (length zs - k) (drop k zs) (omega (arith, len))

@@ -165,7 +165,10 @@ impl<N: Near + Drop, D: Device + Drop> Evac<N, D> {
 }
 
 // The round at the next span whose live object lacks EVAC, and that span; behind all logs, where there is none.
-fn seek<N: Near + Drop, D: Device + Drop>(book: &mut Book<N, D>, round: Round) -> (Round, Option<Span>)
+fn seek<N: Near + Drop, D: Device + Drop>(
+    book: &mut Book<N, D>,
+    round: Round,
+) -> (Round, Option<Span>)
     requires stands { InRound (N.view book.old.near) round }
     requires marking { round.phase ≡ phase.Marking }
     ensures stands { InRound (N.view book.new.near) result.0 }
@@ -193,7 +196,11 @@ fn seek<N: Near + Drop, D: Device + Drop>(book: &mut Book<N, D>, round: Round) -
 }
 
 // The first span of a log, at a word or behind it, whose live object lacks EVAC.
-fn next_unmarked<N: Near + Drop, D: Device + Drop>(book: &mut Book<N, D>, log: u8, at: u16) -> Option<Span>
+fn next_unmarked<N: Near + Drop, D: Device + Drop>(
+    book: &mut Book<N, D>,
+    log: u8,
+    at: u16,
+) -> Option<Span>
     requires log { log < (N.view book.old.near).logs }
     requires begins { IsBoundary (N.view book.old.near) log at }
     requires before { MarkedBefore (N.view book.old.near) log at }
@@ -241,7 +248,11 @@ fn first_held(round: &Round) -> usize
 }
 
 // Takes EVAC from the live objects of the logs from one of them on.
-fn unmark_logs<N: Near + Drop, D: Device + Drop>(book: &mut Book<N, D>, chosen: &Chosen, first: usize)
+fn unmark_logs<N: Near + Drop, D: Device + Drop>(
+    book: &mut Book<N, D>,
+    chosen: &Chosen,
+    first: usize,
+)
     requires first { first ≤ length chosen.now }
     requires logs { (l : ℕ) → among (drop first chosen.now) l ≡ true → l < (N.view book.old.near).logs }
     ensures known { Knows (fold unmarked (N.view book.old.near) (live_among (N.view book.old.near) (drop first chosen.now))) (N.view book.new.near) }

@@ -7,7 +7,7 @@ use Rattle.far_evac.specs.Moment.{Moment}
 use Rattle.far_evac.specs.RoundSteps.{advanced}
 use Rattle.far_evac.specs.Standing.{held_in}
 use Rattle.far_evac.specs.declared.phase.Phase.TheVariants.{Marking, Waiting}
-use Rattle.far_evac.proofs.MarkRuns.{may_choose, rises_exactly, rises_known, waiting_held}
+use Rattle.far_evac.proofs.MarkRuns.{may_choose, rises_exactly, rises_known, waiting_held, waits_so}
 use Rattle.far_evac.proofs.MarkSteps.{knows_so, moment_so}
 use Rattle.far_evac.proofs.evac.Evac.wait.Goals as goal
 
@@ -45,3 +45,9 @@ returns-clause-exact g c still =
     c.self.view_is
     (same ∙ moment_so (advanced s (held_in r)) c.self.inside.book.order c.advance.new.self.order Waiting Waiting (held_in r) r.chosen c.in-Ok.ensures.order refl
     (waiting_held s r c.self.invariant marks c.set_of.result c.set_of.ensures))
+
+pub invariant_of-self : goal.invariant_of-self
+invariant_of-self g c =
+    let marks = subst (λ (e : EvacOf g.row.N.Denot g.row.D.Denot). e.phase ≡ Marking) (sym c.self.view_is) c.requires.marking in
+    waits_so (g.N.Near.view c.self.inside.book.near) c.self.inside.round c.self.invariant marks c.set_of.result c.set_of.ensures (g.N.Near.view c.advance.new.self.near)
+    c.keeps_law-2.ensures.law c.in-Ok.ensures.kept
