@@ -8,6 +8,7 @@ pub mod Hands
 pub mod InOrder
 pub mod Joined
 pub mod Keeping
+pub mod Leading
 pub mod LiveLists
 pub mod LiveOnce
 pub mod Marks
