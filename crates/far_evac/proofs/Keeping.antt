@@ -22,7 +22,7 @@ pub record KeepsLogs (s t : State) (logs : List ℕ) : Type 0 where
   pub round : (l : ℕ) → among logs l ≡ true → t.round l ≡ s.round l
   pub near : (p len ds : ℕ) (place : Place) (marks : Marks) → read_of (t.cell p) ≡ Some (Near len ds place marks) → among logs place.log ≡ true →
       (old : Marks) × (read_of (s.cell p) ≡ Some (Near len ds place old)) × (marks.evac ≡ old.evac)
-  pub clear : (k : ℕ) → s.clear k ≡ true → t.clear k ≡ true
+  pub clear : (k : ℕ) → t.clear k ≡ s.clear k
   pub mutators : t.mutators ≡ s.mutators
   pub epoch : t.epoch ≡ s.epoch
 
@@ -65,7 +65,7 @@ module _ (s t : State) (r : Round) (keeps : KeepsLogs s t (held_in r)) (in_round
     once = h.once;
     runs = h.runs;
     round = λ risen l held. keeps.round l held ∙ h.round risen l held;
-    clear = λ leaves k lt. keeps.clear k (h.clear leaves k (subst (λ n. k < n) keeps.mutators lt));
+    clear = λ leaves k lt. keeps.clear k ∙ h.clear leaves k (subst (λ n. k < n) keeps.mutators lt);
     later = λ marks. subst (λ e. e + 1 < EPOCH_END) (sym keeps.epoch) (h.later marks);
   }
 
@@ -99,7 +99,8 @@ module _ (s t : State) (r : Round) (keeps : KeepsLogs s t (held_in r)) (in_round
         let held = subst (λ k. among (held_in r) k ≡ true) (sym here) (held_front (ap is_idle leaves) l ls e) in
         let was = keeps.near p len ds place more near held in
         h.left leaves l ls e p len ds place was.0 was.1 here;
-    seen = λ waits k lt. keeps.clear k (h.seen waits k lt);
+    seen = λ waits k lt. keeps.clear k ∙ h.seen waits k lt;
+    unseen = λ waits k le. keeps.clear k ∙ h.unseen waits k le;
   }
 
   pub round_kept : InRound t r

@@ -1,5 +1,6 @@
 pub mod Bools
 pub mod Censuses
+pub mod Chosen
 pub mod Dealt
 pub mod Given
 pub mod Hands
@@ -13,6 +14,7 @@ pub mod Orders
 pub mod Polls
 pub mod Readiness
 pub mod Rounds
+pub mod Standings
 pub mod Subjects
 pub mod Tallies
 pub mod Tours

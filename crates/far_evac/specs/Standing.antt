@@ -1,5 +1,5 @@
 -- What is true of the record that an evacuator keeps of its round.
-use Rattle.std.specs.Prelude.{◌≡◌, ℕ, ◌+◌, ◌*◌, ◌<◌, ◌≤◌, Bool, true, false, Option, Some, List, [], ◌∷◌, length, take, drop, eqb}
+use Rattle.std.specs.Prelude.{◌≡◌, ℕ, ◌+◌, ◌*◌, ◌<◌, ◌≤◌, true, false, Some, List, [], ◌∷◌, length, take, drop, eqb}
 use Rattle.std.specs.List.{IsDistinct}
 use Rattle.far_word.specs.declared.mark.Marks.{Marks}
 use Rattle.far_word.specs.declared.pointer.Place.{Place}
@@ -53,7 +53,7 @@ pub record Holds (s : State) (phase : Phase) (held : List ℕ) : Type 0 where
   pub later : phase ≡ Marking → s.epoch + 1 < EPOCH_END
 
 -- marking, or the walk, stands where a span of a log begins, or at the log's tail; all that lies before has EVAC while it is marked, and has
--- left while objects leave; the owners that are counted were seen clear
+-- left while objects leave; the owners that are counted were seen clear, and no others
 pub record Stands (s : State) (r : Round) : Type 0 where
   pub index : r.index ≤ length r.chosen
   pub begins : is_idle r.phase ≡ false → (l : ℕ) (ls : List ℕ) → drop r.index r.chosen ≡ l ∷ ls → IsBoundary s l r.at
@@ -61,6 +61,7 @@ pub record Stands (s : State) (r : Round) : Type 0 where
   pub marked_here : r.phase ≡ Marking → (l : ℕ) (ls : List ℕ) → drop r.index r.chosen ≡ l ∷ ls → MarkedBefore s l r.at
   pub left : r.phase ≡ Evacuating → (l : ℕ) (ls : List ℕ) → drop r.index r.chosen ≡ l ∷ ls → LiesFrom s l r.at
   pub seen : r.phase ≡ Waiting → (k : ℕ) → k < r.seen → s.clear k ≡ true
+  pub unseen : r.phase ≡ Waiting → (k : ℕ) → r.seen ≤ k → s.clear k ≡ false
 
 -- a round and what the book knows agree
 pub record InRound (s : State) (r : Round) : Type 0 where
