@@ -9,6 +9,7 @@ pub mod Joined
 pub mod Keeping
 pub mod LiveLists
 pub mod LiveOnce
+pub mod Looks
 pub mod Marks
 pub mod Orders
 pub mod Polls
