@@ -1,4 +1,5 @@
 pub mod Bools
+pub mod Bounds
 pub mod Censuses
 pub mod Chosen
 pub mod Dealt
@@ -19,6 +20,7 @@ pub mod Standings
 pub mod Subjects
 pub mod Tallies
 pub mod Tours
+pub mod TurnsOn
 pub mod Unviewed
 pub mod Walks
 pub mod worked
