@@ -19,6 +19,7 @@ pub mod Leaving
 pub mod Marked
 pub mod Moved
 pub mod MovesReached
+pub mod NextLives
 pub mod NotesKept
 pub mod Notings
 pub mod NumberSets
@@ -32,6 +33,7 @@ pub mod Readings
 pub mod Releasing
 pub mod Retires
 pub mod Rounding
+pub mod SealedKept
 pub mod Settled
 pub mod SpanLists
 pub mod Starts

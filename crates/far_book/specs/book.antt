@@ -9,6 +9,7 @@ pub mod Home
 pub mod Laws
 pub mod Ledger
 pub mod Moving
+pub mod NextLive
 pub mod NumberSet
 pub mod Own
 pub mod Placeable
@@ -17,3 +18,4 @@ pub mod Reading
 pub mod Releasing
 pub mod Renaming
 pub mod Rows
+pub mod SealedLogs

@@ -38,6 +38,7 @@ ghost use Rattle.far_book.specs.book.Rows.{row_of};
 mod fetching;
 mod leaving;
 mod moving;
+mod next;
 mod over_plain;
 mod renaming;
 mod round;
@@ -107,6 +108,11 @@ impl<N: Near + Drop, D: Device + Drop> Book<N, D> {
         ensures range { is_shape result ≡ true }
     {
         self.near.shape()
+    }
+
+    /// What its room was taken from.
+    pub fn allocator(&self) -> Global {
+        self.alloc
     }
 
     /// The lowest free cell of a mutator; `None` where it uses all of them.

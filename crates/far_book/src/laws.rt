@@ -3,6 +3,8 @@
 ghost use Rattle.std.specs.Prelude.{◌≡◌, ◌*◌, ◌<◌, ◌≤◌, ℕ, true};
 ghost use Rattle.far_book.specs.book.Deeds.{EventsAreDeeds, LoadsGiveStored};
 ghost use Rattle.far_book.specs.book.Laws.{EvictingIsLegal, PlacingIsLegal, RetiringIsLegal, FetchingIsLegal, MovingIsLegal, StayingIsLegal};
+ghost use Rattle.far_book.specs.book.SealedLogs.{SealedLogsKept};
+ghost use Rattle.far_book.specs.book.NextLive.{LivesFromStart, LivesBehind, SpansAreBounded};
 
 /// Placing a new object where room is leads from a state to the next by legal events of the core: its header and zeros are
 /// put, and its cell is named. So the law of the core is kept, and the world makes one step: the object. Its cell says near at
@@ -46,6 +48,12 @@ pub fn staying_is_legal()
     ensures { StayingIsLegal }
 {}
 
+/// The book's effects leave the sealed logs as they are, but that objects may have left them: no object comes to lie in one, and none that stays
+/// there gets EVAC or loses it.
+pub fn sealed_logs_stay()
+    ensures { SealedLogsKept }
+{}
+
 /// From the start on, whatever owners and the book do, in whatever order, a load of a word gives the word that was last
 /// stored there since its object was placed, and 0 where none was: where the object lies now, and whether it was far
 /// meanwhile, makes no difference. So it is of each run of deeds with an honest far side, refused ones among them.
@@ -54,4 +62,12 @@ pub fn staying_is_legal()
 pub fn loads_give_stored()
     ensures stored { LoadsGiveStored }
     ensures events { EventsAreDeeds }
+{}
+
+/// The live spans of a log that are found from word 0 on are all of them. Where a span begins, and where it ends, is a boundary; and a
+/// boundary parts the spans of a log: those that are found from it on are the live ones of those behind it.
+pub fn live_spans_follow()
+    ensures start { LivesFromStart }
+    ensures bounded { SpansAreBounded }
+    ensures behind { LivesBehind }
 {}

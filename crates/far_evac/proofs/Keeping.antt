@@ -1,12 +1,25 @@
 -- What leaves a round as it was: steps that leave the logs it holds.
-use Rattle.std.proofs.Common.{◌≡◌, ℕ, zero, suc, ◌+◌, ◌*◌, ◌<◌, ◌≤◌, ◌||◌, Bool, true, false, Some, List, [], ◌∷◌, take, drop, eqb, ap, sym, refl, ◌∙◌, subst}
-use Rattle.std.proofs.lemmas.Bool.{eq-eqb, false≢true, true≢false}
+use Rattle.std.proofs.Common.{◌≡◌, ℕ, zero, suc, ◌+◌, ◌*◌, ◌<◌, ◌≤◌, ◌||◌, Bool, true, false, Some, List, [], ◌∷◌, take, drop, eqb, inl, inr, length, map, ap, sym, refl, ◌∙◌, subst}
+use Rattle.std.specs.List.{range_with_len}
+use Rattle.std.specs.Prelude.{slice_index}
+use Rattle.std.proofs.lemmas.Bool.{cond_both, eq-eqb, false≢true, true≢false}
 use Rattle.far_word.specs.declared.mark.Marks.{Marks}
 use Rattle.far_word.specs.declared.pointer.Place.{Place}
 use Rattle.far_word.specs.declared.pointer.PtrWord.TheVariants.{Near}
 use Rattle.far_word.specs.declared.sizes.TheConstants.{EPOCH_END, LOG_WORDS}
 use Rattle.far_word.specs.Pointer.{read_of}
+use Rattle.far_core.specs.declared.event.Kind.TheVariants.{Sealed}
+use Rattle.far_core.specs.declared.event.Event.TheVariants.{Store}
+use Rattle.far_core.specs.declared.event.Reply.{Reply}
+use Rattle.far_core.specs.declared.event.Reply.TheVariants.{Refused}
+use Rattle.far_core.specs.events.Ranges.{after_events, stores}
+use Rattle.far_core.specs.events.Step.{after, answer, is_legal, step_of}
 use Rattle.far_core.specs.state.State.{State}
+use Rattle.far_book.specs.Owners.{OwnersChange}
+use Rattle.far_book.specs.book.NextLive.{IsBoundary}
+use Rattle.far_book.specs.book.SealedLogs.{KeepsSealed}
+use Rattle.far_book.proofs.Finding.{near_known}
+use Rattle.far_evac.specs.AnyHand.{Knows}
 use Rattle.far_evac.specs.declared.phase.Phase.{Phase}
 use Rattle.far_evac.specs.declared.phase.Phase.TheVariants.{Idle, Marking, Waiting, Evacuating}
 use Rattle.far_evac.specs.declared.round.Round.{Round}
@@ -18,7 +31,7 @@ use Rattle.far_evac.specs.Standing.{Holds, InRound, Stands, held_in, held_of}
 pub record KeepsLogs (s t : State) (logs : List ℕ) : Type 0 where
   pub kind : (l : ℕ) → among logs l ≡ true → t.kind l ≡ s.kind l
   pub tail : (l : ℕ) → among logs l ≡ true → t.tail l ≡ s.tail l
-  pub starts : (l at : ℕ) → among logs l ≡ true → t.starts (l * LOG_WORDS + at) ≡ s.starts (l * LOG_WORDS + at)
+  pub starts : (l at : ℕ) → among logs l ≡ true → at < s.tail l → t.starts (l * LOG_WORDS + at) ≡ s.starts (l * LOG_WORDS + at)
   pub round : (l : ℕ) → among logs l ≡ true → t.round l ≡ s.round l
   pub near : (p len ds : ℕ) (place : Place) (marks : Marks) → read_of (t.cell p) ≡ Some (Near len ds place marks) → among logs place.log ≡ true →
       (old : Marks) × (read_of (s.cell p) ≡ Some (Near len ds place old)) × (marks.evac ≡ old.evac)
@@ -78,16 +91,14 @@ module _ (s t : State) (r : Round) (keeps : KeepsLogs s t (held_in r)) (in_round
   held_marked : r.phase ≡ Marking → (l : ℕ) → among r.chosen l ≡ true → among (held_in r) l ≡ true
   held_marked marks l h = ap (λ phase. among (held_of phase r.chosen r.index) l) marks ∙ h
 
+  bounded_kept : (l at : ℕ) → among (held_in r) l ≡ true → IsBoundary s l at → IsBoundary t l at
+  bounded_kept l at held (inl end) = inl (end ∙ sym (keeps.tail l held))
+  bounded_kept l at held (inr span) = inr (subst (λ n. at < n) (sym (keeps.tail l held)) span.0, keeps.starts l at held span.0 ∙ span.1)
+
   stands_kept : Stands t r
   stands_kept = let h = in_round.stands in record {
     index = h.index;
-    begins = λ running l ls e.
-        let old = h.begins running l ls e in
-        let held = held_front running l ls e in
-        record {
-          within = subst (λ n. r.at ≤ n) (sym (keeps.tail l held)) old.within;
-          begins = λ lt. keeps.starts l r.at held ∙ old.begins (subst (λ n. r.at < n) (keeps.tail l held) lt);
-        };
+    begins = λ running l ls e. bounded_kept l r.at (held_front running l ls e) (h.begins running l ls e);
     marked = λ marks p len ds place more near among_front.
         let was = keeps.near p len ds place more near (held_marked marks place.log (taken_among r.chosen r.index place.log among_front)) in
         was.2 ∙ h.marked marks p len ds place was.0 was.1 among_front;
@@ -105,3 +116,98 @@ module _ (s t : State) (r : Round) (keeps : KeepsLogs s t (held_in r)) (in_round
 
   pub round_kept : InRound t r
   round_kept = record { holds = holds_kept; stands = stands_kept }
+
+-- ---- what keeps the logs
+pub keeps_more : (s t u : State) (logs : List ℕ) → KeepsLogs s t logs → KeepsLogs t u logs → KeepsLogs s u logs
+keeps_more s t u logs f g = record {
+  kind = λ l h. g.kind l h ∙ f.kind l h;
+  tail = λ l h. g.tail l h ∙ f.tail l h;
+  starts = λ l at h lt. g.starts l at h (subst (λ n. at < n) (sym (f.tail l h)) lt) ∙ f.starts l at h lt;
+  round = λ l h. g.round l h ∙ f.round l h;
+  near = λ p len ds place marks near h.
+      let then = g.near p len ds place marks near h in
+      let first = f.near p len ds place then.0 then.1 h in
+      (first.0, first.1, then.2 ∙ first.2);
+  clear = λ k. g.clear k ∙ f.clear k;
+  mutators = g.mutators ∙ f.mutators;
+  epoch = g.epoch ∙ f.epoch;
+}
+
+-- marks were found, and words read or forgotten
+pub keeps_known : (s t : State) (logs : List ℕ) → Knows s t → KeepsLogs s t logs
+keeps_known s t logs known = record {
+  kind = λ l h. ap (λ (u : State). u.kind l) known.rest;
+  tail = λ l h. ap (λ (u : State). u.tail l) known.rest;
+  starts = λ l at h lt. ap (λ (u : State). u.starts (l * LOG_WORDS + at)) known.rest;
+  round = λ l h. ap (λ (u : State). u.round l) known.rest;
+  near = λ p len ds place marks near h. let x = near_known (s.cell p) (t.cell p) (known.found p) len ds place marks near in (x.marks, x.near, sym x.same);
+  clear = λ k. ap (λ (u : State). u.clear k) known.rest;
+  mutators = ap (λ (u : State). u.mutators) known.rest;
+  epoch = ap (λ (u : State). u.epoch) known.rest;
+}
+
+-- an effect of the book leaves the sealed logs, which these are
+pub keeps_sealed : (s t : State) (logs : List ℕ) → ((l : ℕ) → among logs l ≡ true → s.kind l ≡ Sealed) → KeepsSealed s t → KeepsLogs s t logs
+keeps_sealed s t logs sealed keeps = record {
+  kind = λ l h. keeps.kind l (sealed l h) ∙ sym (sealed l h);
+  tail = λ l h. keeps.tail l (sealed l h);
+  starts = λ l at h lt. keeps.starts l at (sealed l h) lt;
+  round = λ l h. ap (λ round. round l) keeps.round;
+  near = λ p len ds place marks near h. keeps.near p len ds place marks near (sealed place.log h);
+  clear = λ k. ap (λ clear. clear k) keeps.clear;
+  mutators = keeps.mutators;
+  epoch = keeps.epoch;
+}
+
+-- one call of the book that makes this of a state, as far as it is known
+pub round_called : (s made t : State) (r : Round) → InRound s r → KeepsSealed s made → Knows made t → InRound t r
+round_called s made t r in_round keeps known =
+    round_kept s t r (keeps_more s made t (held_in r) (keeps_sealed s made (held_in r) in_round.holds.sealed keeps) (keeps_known made t (held_in r) known)) in_round
+
+-- marks were found alone
+pub round_found : (s t : State) (r : Round) → InRound s r → Knows s t → InRound t r
+round_found s t r in_round known = round_kept s t r (keeps_known s t (held_in r) known) in_round
+
+-- owners had a turn
+pub keeps_owners : (s t : State) (logs : List ℕ) → OwnersChange s t → KeepsLogs s t logs
+keeps_owners s t logs change = record {
+  kind = λ l h. ap (λ (u : State). u.kind l) change.rest;
+  tail = λ l h. ap (λ (u : State). u.tail l) change.rest;
+  starts = λ l at h lt. ap (λ (u : State). u.starts (l * LOG_WORDS + at)) change.rest;
+  round = λ l h. ap (λ (u : State). u.round l) change.rest;
+  near = λ p len ds place marks near h. let x = near_known (s.cell p) (t.cell p) (change.cells p) len ds place marks near in (x.marks, x.near, sym x.same);
+  clear = λ k. ap (λ (u : State). u.clear k) change.rest;
+  mutators = ap (λ (u : State). u.mutators) change.rest;
+  epoch = ap (λ (u : State). u.epoch) change.rest;
+}
+
+pub round_of_owners : (s t : State) (r : Round) → InRound s r → OwnersChange s t → InRound t r
+round_of_owners s t r in_round change = round_kept s t r (keeps_owners s t (held_in r) change) in_round
+
+-- words were stored
+module _ (logs : List ℕ) (m p first : ℕ) (words : List ℕ) where
+  pub keeps_word : (s : State) (word : ℕ → ℕ) → KeepsLogs s (record s { word = word }) logs
+  keeps_word s word = record {
+    kind = λ l h. refl;
+    tail = λ l h. refl;
+    starts = λ l at h lt. refl;
+    round = λ l h. refl;
+    near = λ q len ds place marks near h. (marks, near, refl);
+    clear = λ k. refl;
+    mutators = refl;
+    epoch = refl;
+  }
+
+  one_store : (s : State) (i w : ℕ) → KeepsLogs s (step_of s (Store m p i w)).0 logs
+  one_store s i w = cond_both (is_legal s (Store m p i w)) (after s (Store m p i w), answer s (Store m p i w)) (s, Refused) (λ (x : State × Reply). KeepsLogs s x.0 logs)
+      (λ _. keeps_word s _) (λ _. keeps_word s s.word)
+
+  pub keeps_stores : (s : State) (is : List ℕ) → KeepsLogs s (after_events s (map (λ i. Store m p (first + i) (slice_index words i)) is)) logs
+  keeps_stores s [] = keeps_word s s.word
+  keeps_stores s (i ∷ is) =
+      let next = (step_of s (Store m p (first + i) (slice_index words i))).0 in
+      keeps_more s next (after_events next (map (λ k. Store m p (first + k) (slice_index words k)) is)) logs (one_store s (first + i) (slice_index words i)) (keeps_stores next is)
+
+pub round_stored : (s t : State) (r : Round) (m p first : ℕ) (words : List ℕ) → InRound s r → t ≡ after_events s (stores m p first words) → InRound t r
+round_stored s t r m p first words in_round is =
+    round_kept s t r (subst (λ (u : State). KeepsLogs s u (held_in r)) (sym is) (keeps_stores (held_in r) m p first words s (range_with_len 0 (length words)))) in_round

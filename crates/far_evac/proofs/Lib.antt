@@ -1,9 +1,11 @@
+pub mod Auditing
 pub mod Bools
 pub mod Bounds
 pub mod Censuses
 pub mod Chosen
 pub mod Dealt
 pub mod Given
+pub mod Handing
 pub mod Hands
 pub mod InOrder
 pub mod Joined

@@ -1,13 +1,14 @@
 -- What is true of the record that an evacuator keeps of its round.
-use Rattle.std.specs.Prelude.{◌≡◌, ℕ, ◌+◌, ◌*◌, ◌<◌, ◌≤◌, true, false, Some, List, [], ◌∷◌, length, take, drop, eqb}
+use Rattle.std.specs.Prelude.{◌≡◌, ℕ, ◌+◌, ◌<◌, ◌≤◌, Bool, true, false, Option, Some, List, [], ◌∷◌, length, take, drop, eqb}
 use Rattle.std.specs.List.{IsDistinct}
 use Rattle.far_word.specs.declared.mark.Marks.{Marks}
 use Rattle.far_word.specs.declared.pointer.Place.{Place}
 use Rattle.far_word.specs.declared.pointer.PtrWord.TheVariants.{Near}
-use Rattle.far_word.specs.declared.sizes.TheConstants.{EPOCH_END, LOG_WORDS}
+use Rattle.far_word.specs.declared.sizes.TheConstants.{EPOCH_END}
 use Rattle.far_word.specs.Pointer.{read_of}
 use Rattle.far_core.specs.declared.event.Kind.TheVariants.{Sealed}
 use Rattle.far_core.specs.state.State.{State}
+use Rattle.far_book.specs.book.NextLive.{IsBoundary}
 use Rattle.far_evac.specs.declared.phase.Phase.{Phase}
 use Rattle.far_evac.specs.declared.phase.Phase.TheVariants.{Idle, Marking, Waiting, Evacuating}
 use Rattle.far_evac.specs.declared.round.Round.{Round}
@@ -24,11 +25,6 @@ held_of Evacuating chosen index = drop index chosen
 
 abbrev pub held_in : Round → List ℕ
 held_in r = held_of r.phase r.chosen r.index
-
--- a span of a log begins at this word, or the log's spans end there
-pub record IsBoundary (s : State) (l at : ℕ) : Type 0 where
-  pub within : at ≤ s.tail l
-  pub begins : at < s.tail l → s.starts (l * LOG_WORDS + at) ≡ true
 
 -- each object that lies in a log has EVAC, where it lies before a word
 abbrev pub MarkedBefore : State → ℕ → ℕ → Type 0
@@ -53,7 +49,7 @@ pub record Holds (s : State) (phase : Phase) (held : List ℕ) : Type 0 where
   pub later : phase ≡ Marking → s.epoch + 1 < EPOCH_END
 
 -- marking, or the walk, stands where a span of a log begins, or at the log's tail; all that lies before has EVAC while it is marked, and has
--- left while objects leave; the owners that are counted were seen clear, and no others
+-- left while objects leave; the owners that are counted were seen clear, and no other
 pub record Stands (s : State) (r : Round) : Type 0 where
   pub index : r.index ≤ length r.chosen
   pub begins : is_idle r.phase ≡ false → (l : ℕ) (ls : List ℕ) → drop r.index r.chosen ≡ l ∷ ls → IsBoundary s l r.at

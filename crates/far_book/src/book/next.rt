@@ -1,0 +1,93 @@
+//! How the live spans of a log are found one after the other, without a list of them.
+
+ghost use Rattle.std.specs.Prelude.{◌≡◌, ◌+◌, ◌*◌, ◌<◌, ◌≤◌, ◌∷◌, ℕ, true, [], IfSome, IfNone};
+ghost use Rattle.far_word.specs.declared.sizes.TheConstants.{CELLS, LOG_WORDS};
+ghost use Rattle.far_word.specs.Pointer.{read_of};
+ghost use Rattle.far_word.specs.Sizes.{size_of};
+ghost use Rattle.far_log.specs.Spans.{span_at};
+ghost use Rattle.far_core.specs.state.Spans.{names_place, word_in};
+ghost use Rattle.far_book.specs.Finds.{Finds};
+ghost use Rattle.far_book.specs.book.NextLive.{IsBoundary, IsHomeOf, live_from};
+
+use crate::book::Book;
+use crate::near::Near;
+use far_device::Device;
+use far_log::Span;
+use far_word::{HeadWord, PtrWord, size_of};
+
+impl<N: Near + Drop, D: Device + Drop> Book<N, D> {
+    /// The first span at word `at` of a log, or behind it, in which an object lives, dropped or not, by its cell as it is found;
+    /// `None` where there is none. At `at` a span begins, or the log's spans end: so it is of word 0, and of the word behind the span
+    /// that was answered, from which the next call goes on.
+    ///
+    /// Of each span that is passed it reads the header and the cell that the header names. It takes no memory.
+    pub fn next_live(&mut self, log: u8, at: u16) -> Option<Span>
+        requires log { log < (N.view self.old.near).logs }
+        requires begins { IsBoundary (N.view self.old.near) log at }
+        ensures first { IfSome result (λ span. live_from (N.view self.old.near) log at ≡ span ∷ live_from (N.view self.old.near) log (span.at + size_of span.len)) }
+        ensures none { IfNone result (live_from (N.view self.old.near) log at ≡ []) }
+        ensures next { IfSome result (λ span. IsBoundary (N.view self.old.near) log (span.at + size_of span.len)) }
+        ensures inside { IfSome result (λ span. span.at + size_of span.len ≤ LOG_WORDS) }
+        ensures lies { IfSome result (λ span. IsHomeOf (N.view self.new.near) log span) }
+        ensures found { (p : ℕ) → Finds ((N.view self.old.near).cell p) ((N.view self.new.near).cell p) }
+        ensures kept { N.view self.new.near ≡ record (N.view self.old.near) { cell = (N.view self.new.near).cell } }
+        ensures exact { N.still → N.view self.new.near ≡ N.view self.old.near }
+        ensures order { self.new.order ≡ self.old.order }
+        ensures device { self.new.device ≡ self.old.device }
+    {
+        self.keeps_law();
+        let tail = self.tail(log);
+        let mut at = at;
+        while at < tail {
+            let span = self.span_at(log, at);
+            if names_place(self.see(span.p), log, at) {
+                return Some(span);
+            }
+            at += size_of(span.len);
+        }
+        None
+    }
+
+    // Where the spans of a log end, in words.
+    fn tail(&self, log: u8) -> u16
+        requires log { log < (N.view self.now.near).logs }
+        ensures is { result ≡ (N.view self.now.near).tail log }
+        ensures short { result ≤ LOG_WORDS }
+    {
+        self.ledger.tail(log)
+    }
+
+    // The span whose header is a word of a log.
+    fn span_at(&mut self, log: u8, at: u16) -> Span
+        requires log { log < (N.view self.old.near).logs }
+        requires below { at < (N.view self.old.near).tail log }
+        requires begins { (N.view self.old.near).starts (log * LOG_WORDS + at) ≡ true }
+        ensures is { result ≡ span_at (word_in (N.view self.old.near) log) at }
+        ensures pointer { result.p < CELLS * (N.view self.old.near).mutators }
+        ensures short { at + size_of result.len ≤ LOG_WORDS }
+        ensures next { IsBoundary (N.view self.old.near) log (at + size_of result.len) }
+        ensures same { N.view self.new.near ≡ N.view self.old.near }
+        ensures order { self.new.order ≡ self.old.order }
+        ensures device { self.new.device ≡ self.old.device }
+    {
+        let Some(head) = HeadWord::read(self.near.get(log, at, false)) else {
+            unreachable!()
+        };
+        Span {
+            at,
+            p: head.pointer,
+            len: head.len,
+            ds: head.ds,
+        }
+    }
+}
+
+// Whether a cell names a place.
+fn names_place(cell: u64, log: u8, at: u16) -> bool
+    ensures { result ≡ names_place (read_of cell) log at }
+{
+    match PtrWord::read(cell) {
+        Some(PtrWord::Near { place, .. }) => place.log == log && place.at == at,
+        _ => false,
+    }
+}
