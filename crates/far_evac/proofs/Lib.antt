@@ -1,6 +1,8 @@
 pub mod Auditing
 pub mod Bools
+pub mod Bounds
 pub mod Censuses
+pub mod Chosen
 pub mod Dealt
 pub mod Given
 pub mod Handing
@@ -11,14 +13,17 @@ pub mod Keeping
 pub mod Leading
 pub mod LiveLists
 pub mod LiveOnce
+pub mod Looks
 pub mod Marks
 pub mod Orders
 pub mod Polls
 pub mod Readiness
 pub mod Rounds
+pub mod Standings
 pub mod Subjects
 pub mod Tallies
 pub mod Tours
+pub mod TurnsOn
 pub mod Unviewed
 pub mod Walks
 pub mod worked

@@ -15,6 +15,7 @@ pub mod Refusals
 pub mod RoundSteps
 pub mod Standing
 pub mod Stops
+pub mod Turning
 pub mod Turns
 pub mod Waiting
 pub mod Walk
