@@ -36,6 +36,7 @@ use Rattle.far_evac.specs.RoundSteps.{among, unmarked, with_clear_below}
 use Rattle.far_evac.specs.Waiting.{after_polling, first_open, holds_up, polled_to}
 use Rattle.far_evac.proofs.LiveOnce.{LivesIn, each_map, live_named, near_at}
 use Rattle.far_evac.proofs.Readiness.{looks_see}
+use Rattle.far_evac.proofs.Standings.{none_once}
 use Rattle.far_evac.proofs.Unviewed.{none_found}
 
 -- nothing was done
@@ -85,11 +86,13 @@ first_found test k a zero = λ e. absurd cc
 first_found test k a (suc n) = cond_both (test a) (Some a) (find test (range_with_len (a + 1) n)) (λ (o : Option ℕ). o ≡ Some k → (k < a + suc n) × ((m : ℕ) → a ≤ m → m < k → test m ≡ false))
     (λ _ e. let same : a ≡ k = cc in (omega (arith, same), λ m from to. let odd : ⊥ = omega (arith, same, from, to) in absurd odd))
     (λ here e.
-    let x = first_found test k (a + 1) n e in
-    (omega (arith, x.0), λ m from to. elim (cases_lt a m) [
-      | inl past ↦ x.1 m (omega (arith, past)) to
-      | inr le ↦ let same : m ≡ a = omega (arith, from, le) in ap test same ∙ here
-    ]))
+    let x = first_found test k (a + 1) n e in (
+      omega (arith, x.0),
+      λ m from to. elim (cases_lt a m) [
+        | inl past ↦ x.1 m (omega (arith, past)) to
+        | inr le ↦ let same : m ≡ a = omega (arith, from, le) in ap test same ∙ here
+      ],
+    ))
 
 module _ (m : Moment) (law : Law m.core) (moment : MomentLaw m) (waits : m.phase ≡ Waiting) where
   reached_clear : (k : ℕ) → k ≤ m.core.mutators → ((j : ℕ) → j < k → holds_up m.core j ≡ false) → Reached m.core (with_clear_below m.core k)
@@ -153,9 +156,11 @@ live_near s law (l ∷ ls) = all_both (IsNearOf s) (live_in s l) (live_among s l
 
 -- ---- giving up
 still_near : (s : State) → Law s → (p q : ℕ) → IsNearOf s p → IsNearOf s q → IsNearOf (unmarked s p) q
-still_near s law p q (range, (len, ds, place, marks, near)) (inside, (n, d, at, k, is)) =
-    (inside, put_both (λ w. (n d : ℕ) × (at : Place) × (k : Marks) × (read_of w ≡ Some (Near n d at k))) s.cell p (evac_cleared (s.cell p)) q
-    (λ _. (len, ds, place, _, without_evac_read (s.cell p) (Near len ds place marks) (law.cells.cell_read p).0 near)) (λ _. (n, d, at, k, is)))
+still_near s law p q (range, (len, ds, place, marks, near)) (inside, (n, d, at, k, is)) = (
+  inside,
+  put_both (λ w. (n d : ℕ) × (at : Place) × (k : Marks) × (read_of w ≡ Some (Near n d at k))) s.cell p (evac_cleared (s.cell p)) q
+      (λ _. (len, ds, place, _, without_evac_read (s.cell p) (Near len ds place marks) (law.cells.cell_read p).0 near)) (λ _. (n, d, at, k, is)),
+)
 
 reached_unmarked : (ps : List ℕ) (s : State) → Law s → AllByRecursion (IsNearOf s) ps → Reached s (fold unmarked s ps)
 reached_unmarked [] s law each = reached_none s
@@ -179,7 +184,7 @@ aborting m law moment =
         order = λ l. moment.order l ∙ ap (λ kind. is_sealed (kind l)) (sym (kinds_unmarked ps m.core));
         order_once = moment.order_once;
         sealed = λ l h. absurd (false≢true h);
-        held_once = ?;
+        held_once = none_once;
         runs = refl;
         round = λ risen. absurd (false≢true risen);
         clear = λ leaves. absurd cc;
