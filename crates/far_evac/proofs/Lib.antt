@@ -1,6 +1,7 @@
 pub mod Bools
 pub mod Censuses
 pub mod Dealt
+pub mod Fronts
 pub mod Given
 pub mod Handing
 pub mod Hands
@@ -18,5 +19,6 @@ pub mod Subjects
 pub mod Tallies
 pub mod Tours
 pub mod Unviewed
+pub mod Walking
 pub mod Walks
 pub mod worked

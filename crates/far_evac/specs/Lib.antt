@@ -5,6 +5,7 @@ pub mod Dealings
 pub mod EvacOf
 pub mod Failing
 pub mod Laws
+pub mod Leaving
 pub mod Live
 pub mod Marking
 pub mod Moment
