@@ -80,6 +80,14 @@ module _ (s : State) (law : Law (own_part s)) (l at : ℕ) (lies : LiesFrom s l 
   pub vacant : live_from s l at ≡ [] → IsVacant s l
   vacant none p len ds place marks near log = none_in (span_for p len ds place.at) (subst (λ spans. Contains spans (span_for p len ds place.at)) none (listed p len ds place marks near log))
 
+  none_named : (spans : List Span) → pointers_of spans ≡ [] → spans ≡ []
+  none_named [] e = refl
+  none_named (x ∷ xs) e = absurd cc
+
+  pub vacant_in : live_in s l ≡ [] → IsVacant s l
+  unfolding live_in
+  vacant_in none = vacant (all_from ∙ none_named (filter (is_live s l) (spans_of s l)) none)
+
   -- the first of them
   module _ (span : Span) (first : live_from s l at ≡ span ∷ live_from s l (span.at + size_of span.len)) where
     pub first_lives : (rest : List ℕ) × (live_in s l ≡ span.p ∷ rest)

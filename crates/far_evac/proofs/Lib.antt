@@ -1,8 +1,10 @@
 pub mod Bools
 pub mod Censuses
 pub mod Dealt
+pub mod Evacuations
 pub mod Fronts
 pub mod Given
+pub mod GivingBack
 pub mod Handing
 pub mod Hands
 pub mod InOrder
@@ -15,6 +17,9 @@ pub mod Orders
 pub mod Polls
 pub mod Readiness
 pub mod Rounds
+pub mod SendingOff
+pub mod Settling
+pub mod Standings
 pub mod Subjects
 pub mod Tallies
 pub mod Tours

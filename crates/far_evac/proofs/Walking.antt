@@ -5,6 +5,7 @@ use Rattle.far_word.specs.Sizes.{size_of}
 use Rattle.far_log.specs.declared.span.Span.{Span}
 use Rattle.far_core.specs.declared.event.Kind.{Kind}
 use Rattle.far_core.specs.declared.event.Kind.TheVariants as kinds
+use Rattle.far_core.specs.events.Get.{IsVacant}
 use Rattle.far_core.specs.state.Law.{Law}
 use Rattle.far_core.specs.state.State.{State}
 use Rattle.far_book.specs.book.NextLive.{IsBoundary, live_from}
@@ -13,11 +14,12 @@ use Rattle.far_evac.specs.declared.phase.Phase.{Phase}
 use Rattle.far_evac.specs.declared.phase.Phase.TheVariants.{Evacuating, Marking}
 use Rattle.far_evac.specs.declared.round.Round.{Round}
 use Rattle.far_evac.specs.AnyHand.{Knows, KnowsMoment}
+use Rattle.far_evac.specs.Live.{live_in}
 use Rattle.far_evac.specs.Moment.{Moment}
 use Rattle.far_evac.specs.MomentLaw.{is_idle}
 use Rattle.far_evac.specs.RoundSteps.{among}
 use Rattle.far_evac.specs.Standing.{InRound, LiesFrom, held_in, held_of}
-use Rattle.far_evac.proofs.Fronts.{first_begins, first_lies}
+use Rattle.far_evac.proofs.Fronts.{first_begins, first_lies, vacant_in}
 use Rattle.far_evac.proofs.Keeping.{dropped_among}
 
 sealed_used : (kind : Kind) → kind ≡ kinds.Sealed → kind ≢ kinds.Free
@@ -34,9 +36,12 @@ pub found_moment : (m n : Moment) (t : State) (order : List ℕ) → n ≡ m →
 found_moment m n t order is knows same = subst (λ x. KnowsMoment x (record n { core = t; order = order })) is record { core = knows; rest = λ i. record n { core = t; order = same i } }
 
 -- ---- the log in front
+pub drops_front : (r : Round) → r.phase ≡ Evacuating → (l : ℕ) (ls : List ℕ) → held_in r ≡ l ∷ ls → drop r.index r.chosen ≡ l ∷ ls
+drops_front r walks l ls front = sym (ap (λ phase. held_of phase r.chosen r.index) walks) ∙ front
+
 module _ (s : State) (r : Round) (in_round : InRound s r) (law : Law (own_part s)) (walks : r.phase ≡ Evacuating) (l : ℕ) (ls : List ℕ) (front : held_in r ≡ l ∷ ls) where
   fronts : drop r.index r.chosen ≡ l ∷ ls
-  fronts = sym (ap (λ phase. held_of phase r.chosen r.index) walks) ∙ front
+  fronts = drops_front r walks l ls front
 
   pub front_sealed : s.kind l ≡ kinds.Sealed
   front_sealed = in_round.holds.sealed l (among_front (held_in r) l ls front)
@@ -49,6 +54,9 @@ module _ (s : State) (r : Round) (in_round : InRound s r) (law : Law (own_part s
 
   pub front_lies : LiesFrom s l r.at
   front_lies = in_round.stands.left walks l ls fronts
+
+  pub front_vacant : live_in s l ≡ [] → IsVacant s l
+  front_vacant none = vacant_in s law l r.at front_lies none
 
   -- the walk stands at another word of it
   stands_at : (at : ℕ) → IsBoundary s l at → LiesFrom s l at → InRound s (record r { at = at })

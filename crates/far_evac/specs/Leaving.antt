@@ -1,6 +1,11 @@
 -- What one step of a walk makes of the core and of the order of the sealed logs, and where the walk stands then.
-use Rattle.std.specs.Prelude.{◌≡◌, ℕ, ◌+◌, List}
+use Rattle.std.specs.Prelude.{◌≡◌, ℕ, ◌+◌, Bool, true, false, ◌||◌, Option, Some, None, List}
+use Rattle.far_word.specs.declared.pointer.Place.{Place}
+use Rattle.far_word.specs.declared.pointer.PtrWord.{PtrWord}
+use Rattle.far_word.specs.declared.pointer.PtrWord.TheVariants as pointer
+use Rattle.far_word.specs.declared.pointer.PtrWord.TheVariants.{Free, Near}
 use Rattle.far_word.specs.Pointer.{read_of}
+use Rattle.far_core.specs.events.Naming.{is_dropped}
 use Rattle.far_core.specs.state.State.{State}
 use Rattle.far_book.specs.Finds.{Finds}
 use Rattle.far_book.specs.book.Effects.{evicted, moved, order_after, with_free_cell}
@@ -33,10 +38,28 @@ fate_by Drops = Dropped
 fate_by (Moves place) = Moved
 fate_by Goes = Far
 
+-- one that was to move is elsewhere, or was found dropped
+abbrev pub near_fate : Option Place → Fate
+near_fate None = Dropped
+near_fate (Some place) = Moved
+
 abbrev pub counted_as : Tally → Fate → Tally
 counted_as tally Moved = record tally { moved = tally.moved + 1 }
 counted_as tally Far = record tally { far = tally.far + 1 }
 counted_as tally Dropped = record tally { dropped = tally.dropped + 1 }
+
+-- what a cell says of an object that doesn't go far at once: it is hot, or dropped
+abbrev pub goes_near : Option PtrWord → Bool
+goes_near None = false
+goes_near (Some Free) = false
+goes_near (Some (Near len ds place marks)) = marks.dropped || marks.hot
+goes_near (Some (pointer.Far len ds marks)) = false
+
+-- from s to t an object went far; or a word with DROP was found in its cell, and it was retired
+abbrev pub GoesAway : State → State → ℕ → Fate → Type 0
+GoesAway s t p Moved = ⊥
+GoesAway s t p Far = Knows (evicted s p) t
+GoesAway s t p Dropped = (word : ℕ) × Finds (s.cell p) word × (is_dropped (read_of word) ≡ true) × Knows (with_free_cell s p) t
 
 -- from s to t an object left its log, as a word says that was found in its cell
 pub record LeavesBy (s : State) (order : List ℕ) (t : State) (after : List ℕ) (p : ℕ) (fate : Fate) : Type 0 where

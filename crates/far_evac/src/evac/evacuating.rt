@@ -5,16 +5,19 @@ ghost use Rattle.far_device.specs.Faults.{CountsFault, SpendsFault};
 ghost use Rattle.far_word.specs.declared.refused.Refused.TheVariants.{Device as Failed, Memory, Phase as WrongPhase};
 ghost use Rattle.far_word.specs.declared.sizes.TheConstants.{CELLS};
 ghost use Rattle.far_word.specs.Pointer.{read_of};
+ghost use Rattle.far_core.specs.events.Naming.{is_dropped};
 ghost use Rattle.far_book.specs.Finds.{Finds};
 ghost use Rattle.far_book.specs.book.Dealing.{IsQuietNear, has_evac, is_failure};
+ghost use Rattle.far_book.specs.book.Effects.{evicted};
 ghost use Rattle.far_book.specs.book.Releasing.{order_without, released};
 ghost use Rattle.far_evac.specs.AnyHand.{Evacuates, Knows, KnowsMoment, KnowsWalked, StopsAt, Walks};
 ghost use Rattle.far_evac.specs.EvacOf.{moment};
 ghost use Rattle.far_evac.specs.Failing.{fails};
-ghost use Rattle.far_evac.specs.Leaving.{LeavesAs, LeavesBy, counted_as, standing};
+ghost use Rattle.far_evac.specs.Leaving.{GoesAway, LeavesAs, LeavesBy, counted_as, goes_near, near_fate, standing};
 ghost use Rattle.far_evac.specs.Live.{is_empty, live_in};
 ghost use Rattle.far_evac.specs.Moment.{nothing, objects_in, progress_of, tally_of};
 ghost use Rattle.far_evac.specs.Walk.{Walked, dealt_as, ended, is_done, left, settled, walked};
+ghost use Rattle.far_evac.specs.declared.evac.evacuating.Fate.TheVariants as fates;
 ghost use Rattle.far_evac.specs.declared.phase.Phase.TheVariants as phase;
 
 use crate::answers::{EvacFault, Progress};
@@ -22,7 +25,7 @@ use crate::evac::Evac;
 use crate::phase::Phase;
 use far_book::{Book, Near};
 use far_device::Device;
-use far_word::{PtrWord, Refused};
+use far_word::{Place, PtrWord, Refused};
 
 // What became of an object that was to leave its log.
 #[derive(Clone, Copy)]
@@ -126,6 +129,7 @@ impl<N: Near + Drop, D: Device + Drop> Evac<N, D> {
         ensures done { progress.new.done ≡ progress.old.done }
         ensures device { self.new.book.device ≡ self.old.book.device }
     {
+        self.keeps_law();
         while let Some(log) = self.front() {
             if let Some(pointer) = self.first_in(log) {
                 return Some(pointer);
@@ -254,5 +258,60 @@ fn send_off<N: Near + Drop, D: Device + Drop>(book: &mut Book<N, D>, pointer: u1
     ensures spent { SpendsFault (is_failure result) (D.fails_at_most book.old.device) (D.fails_at_most book.new.device) }
     ensures honest { D.honest book.new.device ≡ D.honest book.old.device }
 {
-    unreachable!()
+    book.keeps_law();
+    if !goes_near(book.see(pointer)) {
+        return send_far(book, pointer);
+    }
+    let answer = book.move_now(pointer);
+    book.keeps_law();
+    match answer {
+        Ok(place) => Ok(near_fate(place)),
+        Err(_) => send_far(book, pointer),
+    }
+}
+
+// What became of an object that was to move: it lies elsewhere, or was found dropped.
+fn near_fate(place: Option<Place>) -> Fate
+    ensures { result ≡ near_fate place }
+{
+    match place {
+        Some(_) => Fate::Moved,
+        None => Fate::Dropped,
+    }
+}
+
+// An object that isn't known to be dropped goes far, unless it is found to be.
+fn send_far<N: Near + Drop, D: Device + Drop>(book: &mut Book<N, D>, pointer: u16) -> Result<Fate, Refused>
+    requires pointer { pointer < CELLS * (N.view book.old.near).mutators }
+    requires quiet { IsQuietNear (N.view book.old.near) pointer }
+    requires evac { has_evac (read_of ((N.view book.old.near).cell pointer)) ≡ true }
+    requires alive { is_dropped (read_of ((N.view book.old.near).cell pointer)) ≡ false }
+    ensures goes { IfOk result (λ fate. GoesAway (N.view book.old.near) (N.view book.new.near) pointer fate) }
+    ensures exact { N.still → IfOk result (λ fate. (fate ≡ fates.Far) × (N.view book.new.near ≡ evicted (N.view book.old.near) pointer)) }
+    ensures kept { IfErr result (λ _. Knows (N.view book.old.near) (N.view book.new.near)) }
+    ensures same { N.still → IfErr result (λ _. N.view book.new.near ≡ N.view book.old.near) }
+    ensures order { book.new.order ≡ book.old.order }
+    ensures why { IfErr result (λ why. (why ≡ Memory) ⊎ (why ≡ Failed)) }
+    ensures counted { CountsFault (is_failure result) (D.faults book.old.device) (D.faults book.new.device) }
+    ensures spent { SpendsFault (is_failure result) (D.fails_at_most book.old.device) (D.fails_at_most book.new.device) }
+    ensures honest { D.honest book.new.device ≡ D.honest book.old.device }
+{
+    book.keeps_law();
+    let answer = book.evict(pointer);
+    book.keeps_law();
+    match answer {
+        Ok(true) => Ok(Fate::Far),
+        Ok(false) => Ok(Fate::Dropped),
+        Err(why) => Err(why),
+    }
+}
+
+// Whether a cell says that its object doesn't go far at once: it is hot, or dropped.
+fn goes_near(cell: u64) -> bool
+    ensures { result ≡ goes_near (read_of cell) }
+{
+    match PtrWord::read(cell) {
+        Some(PtrWord::Near { marks, .. }) => marks.dropped || marks.hot,
+        _ => false,
+    }
 }
