@@ -1,13 +1,21 @@
 -- What leaves a round as it was: steps that leave the logs it holds.
-use Rattle.std.proofs.Common.{◌≡◌, ℕ, zero, suc, ◌+◌, ◌*◌, ◌<◌, ◌≤◌, ◌||◌, Bool, true, false, Some, List, [], ◌∷◌, take, drop, eqb, inl, inr, ap, sym, refl, ◌∙◌, subst}
-use Rattle.std.proofs.lemmas.Bool.{eq-eqb, false≢true, true≢false}
+use Rattle.std.proofs.Common.{◌≡◌, ℕ, zero, suc, ◌+◌, ◌*◌, ◌<◌, ◌≤◌, ◌||◌, Bool, true, false, Some, List, [], ◌∷◌, take, drop, eqb, inl, inr, length, map, ap, sym, refl, ◌∙◌, subst}
+use Rattle.std.specs.List.{range_with_len}
+use Rattle.std.specs.Prelude.{slice_index}
+use Rattle.std.proofs.lemmas.Bool.{cond_both, eq-eqb, false≢true, true≢false}
 use Rattle.far_word.specs.declared.mark.Marks.{Marks}
 use Rattle.far_word.specs.declared.pointer.Place.{Place}
 use Rattle.far_word.specs.declared.pointer.PtrWord.TheVariants.{Near}
 use Rattle.far_word.specs.declared.sizes.TheConstants.{EPOCH_END, LOG_WORDS}
 use Rattle.far_word.specs.Pointer.{read_of}
 use Rattle.far_core.specs.declared.event.Kind.TheVariants.{Sealed}
+use Rattle.far_core.specs.declared.event.Event.TheVariants.{Store}
+use Rattle.far_core.specs.declared.event.Reply.{Reply}
+use Rattle.far_core.specs.declared.event.Reply.TheVariants.{Refused}
+use Rattle.far_core.specs.events.Ranges.{after_events, stores}
+use Rattle.far_core.specs.events.Step.{after, answer, is_legal, step_of}
 use Rattle.far_core.specs.state.State.{State}
+use Rattle.far_book.specs.Owners.{OwnersChange}
 use Rattle.far_book.specs.book.NextLive.{IsBoundary}
 use Rattle.far_book.specs.book.SealedLogs.{KeepsSealed}
 use Rattle.far_book.proofs.Finding.{near_known}
@@ -159,3 +167,47 @@ round_called s made t r in_round keeps known =
 -- marks were found alone
 pub round_found : (s t : State) (r : Round) → InRound s r → Knows s t → InRound t r
 round_found s t r in_round known = round_kept s t r (keeps_known s t (held_in r) known) in_round
+
+-- owners had a turn
+pub keeps_owners : (s t : State) (logs : List ℕ) → OwnersChange s t → KeepsLogs s t logs
+keeps_owners s t logs change = record {
+  kind = λ l h. ap (λ (u : State). u.kind l) change.rest;
+  tail = λ l h. ap (λ (u : State). u.tail l) change.rest;
+  starts = λ l at h lt. ap (λ (u : State). u.starts (l * LOG_WORDS + at)) change.rest;
+  round = λ l h. ap (λ (u : State). u.round l) change.rest;
+  near = λ p len ds place marks near h. let x = near_known (s.cell p) (t.cell p) (change.cells p) len ds place marks near in (x.marks, x.near, sym x.same);
+  clear = λ k. ap (λ (u : State). u.clear k) change.rest;
+  mutators = ap (λ (u : State). u.mutators) change.rest;
+  epoch = ap (λ (u : State). u.epoch) change.rest;
+}
+
+pub round_of_owners : (s t : State) (r : Round) → InRound s r → OwnersChange s t → InRound t r
+round_of_owners s t r in_round change = round_kept s t r (keeps_owners s t (held_in r) change) in_round
+
+-- words were stored
+module _ (logs : List ℕ) (m p first : ℕ) (words : List ℕ) where
+  pub keeps_word : (s : State) (word : ℕ → ℕ) → KeepsLogs s (record s { word = word }) logs
+  keeps_word s word = record {
+    kind = λ l h. refl;
+    tail = λ l h. refl;
+    starts = λ l at h lt. refl;
+    round = λ l h. refl;
+    near = λ q len ds place marks near h. (marks, near, refl);
+    clear = λ k. refl;
+    mutators = refl;
+    epoch = refl;
+  }
+
+  one_store : (s : State) (i w : ℕ) → KeepsLogs s (step_of s (Store m p i w)).0 logs
+  one_store s i w = cond_both (is_legal s (Store m p i w)) (after s (Store m p i w), answer s (Store m p i w)) (s, Refused) (λ (x : State × Reply). KeepsLogs s x.0 logs)
+      (λ _. keeps_word s _) (λ _. keeps_word s s.word)
+
+  pub keeps_stores : (s : State) (is : List ℕ) → KeepsLogs s (after_events s (map (λ i. Store m p (first + i) (slice_index words i)) is)) logs
+  keeps_stores s [] = keeps_word s s.word
+  keeps_stores s (i ∷ is) =
+      let next = (step_of s (Store m p (first + i) (slice_index words i))).0 in
+      keeps_more s next (after_events next (map (λ k. Store m p (first + k) (slice_index words k)) is)) logs (one_store s (first + i) (slice_index words i)) (keeps_stores next is)
+
+pub round_stored : (s t : State) (r : Round) (m p first : ℕ) (words : List ℕ) → InRound s r → t ≡ after_events s (stores m p first words) → InRound t r
+round_stored s t r m p first words in_round is =
+    round_kept s t r (subst (λ (u : State). KeepsLogs s u (held_in r)) (sym is) (keeps_stores (held_in r) m p first words s (range_with_len 0 (length words)))) in_round

@@ -1,5 +1,8 @@
+pub mod Auditing
 pub mod Bools
+pub mod Bounds
 pub mod Censuses
+pub mod Chosen
 pub mod Dealt
 pub mod Evacuations
 pub mod Fronts
@@ -10,8 +13,10 @@ pub mod Hands
 pub mod InOrder
 pub mod Joined
 pub mod Keeping
+pub mod Leading
 pub mod LiveLists
 pub mod LiveOnce
+pub mod Looks
 pub mod Marks
 pub mod Orders
 pub mod Polls
@@ -23,6 +28,7 @@ pub mod Standings
 pub mod Subjects
 pub mod Tallies
 pub mod Tours
+pub mod TurnsOn
 pub mod Unviewed
 pub mod Walking
 pub mod Walks

@@ -11,6 +11,7 @@ mod auditing;
 mod evacuating;
 mod handing;
 mod marking;
+mod over_plain;
 mod selecting;
 mod turning;
 mod waiting;

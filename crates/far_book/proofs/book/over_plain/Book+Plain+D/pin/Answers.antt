@@ -19,3 +19,11 @@ invariant_of-self g c =
     owned (core_state core) (core_state c.pin.new.self) core.law c.pin.new.self.law
     (subst (λ (t : State). OwnersChange (core_state core) t) (sym c.pin.ensures.state) (change (core_state core) (Pin c.args.owner c.args.pointer) core.law refl legal))
     c.self.inside.ledger (g.D.Device.contents device) (g.D.Device.honest device) c.self.invariant
+
+pub returns-clause-changes : goal.returns-clause-changes
+returns-clause-changes g c =
+    let core = c.self.inside.near.core in
+    let legal : Legal (core_state core) (Pin c.args.owner c.args.pointer) =
+    subst (λ (b : BookOf Plain g.row.D.Denot). Legal (core_state b.near.core) (Pin c.args.owner c.args.pointer)) (sym c.self.view_is) c.requires.legal in
+    subst (λ (b : BookOf Plain g.row.D.Denot). OwnersChange (core_state b.near.core) (core_state c.pin.new.self)) c.self.view_is
+    (subst (λ (t : State). OwnersChange (core_state core) t) (sym c.pin.ensures.state) (change (core_state core) (Pin c.args.owner c.args.pointer) core.law refl legal))

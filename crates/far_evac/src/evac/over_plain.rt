@@ -1,0 +1,70 @@
+//! The evacuator over a core of its own: what owners do.
+
+ghost use Rattle.std.specs.Prelude.{◌≡◌, ◌+◌, ◌-◌, ◌*◌, ◌/◌, ◌^◌, ◌<◌, ◌≤◌, ℕ, true, false, length, slice_index, IsSome, IfOk, IfErr};
+ghost use Rattle.far_word.specs.declared.sizes.TheConstants.{CELLS};
+ghost use Rattle.far_word.specs.Sizes.{words_for};
+ghost use Rattle.far_core.specs.events.Legal.{Legal};
+ghost use Rattle.far_core.specs.events.Ranges.{AllLegal, after_events, stores};
+ghost use Rattle.far_core.specs.events.Step.{after, answer, data_len, step_of};
+ghost use Rattle.far_core.specs.state.CoreState.{core_state};
+ghost use Rattle.far_core.specs.world.Happens.{Happens};
+ghost use Rattle.far_core.specs.world.WorldOf.{world_of};
+ghost use Rattle.far_book.specs.Owners.{OwnersChange, is_owners};
+ghost use Rattle.far_book.specs.book.Deeds.{Does, Owns};
+
+use crate::evac::Evac;
+use far_book::Plain;
+use far_core::{Event, Reply};
+use far_device::Device;
+use far_word::Place;
+
+impl<D: Device + Drop> Evac<Plain, D> {
+    /// Makes an owner's event. Any other is answered [`Reply::Refused`], and nothing has changed.
+    pub fn owner(&mut self, event: Event) -> Reply
+        ensures made { is_owners event ≡ true → (core_state self.new.book.near.core, result) ≡ step_of (core_state self.old.book.near.core) event }
+        ensures legal { is_owners event ≡ true → Legal (core_state self.old.book.near.core) event →
+            (core_state self.new.book.near.core ≡ after (core_state self.old.book.near.core) event) × (result ≡ answer (core_state self.old.book.near.core) event) }
+        ensures refused { is_owners event ≡ false → (result ≡ Reply.Refused) × (self.new.book.near ≡ self.old.book.near) }
+        ensures world { Happens (world_of (core_state self.old.book.near.core)) event result (world_of (core_state self.new.book.near.core)) }
+        ensures ran { is_owners event ≡ true → Does (core_state self.old.book.near.core) (Owns event result) (core_state self.new.book.near.core) }
+        ensures changes { OwnersChange (core_state self.old.book.near.core) (core_state self.new.book.near.core) }
+        ensures order { self.new.book.order ≡ self.old.book.order }
+        ensures device { self.new.book.device ≡ self.old.book.device }
+        ensures round { (self.new.phase ≡ self.old.phase) × (self.new.held ≡ self.old.held) }
+    {
+        self.book.owner(event)
+    }
+
+    /// An open owner sets HOT on a pointer that it uses and doesn't hold. `Ok` with the object's place, which it holds
+    /// from then on; `Err` with the old word, where that isn't present or has EVAC, MOVE or DROP.
+    #[inline]
+    pub fn pin(&mut self, owner: u8, pointer: u16) -> Result<Place, u64>
+        requires legal { Legal (core_state self.old.book.near.core) (Event.Pin owner pointer) }
+        ensures state { core_state self.new.book.near.core ≡ after (core_state self.old.book.near.core) (Event.Pin owner pointer) }
+        ensures changes { OwnersChange (core_state self.old.book.near.core) (core_state self.new.book.near.core) }
+        ensures held { IfOk result (λ place. answer (core_state self.old.book.near.core) (Event.Pin owner pointer) ≡ Reply.Held place) }
+        ensures word { IfErr result (λ word. answer (core_state self.old.book.near.core) (Event.Pin owner pointer) ≡ Reply.Word word) }
+        ensures order { self.new.book.order ≡ self.old.book.order }
+        ensures device { self.new.book.device ≡ self.old.book.device }
+        ensures round { (self.new.phase ≡ self.old.phase) × (self.new.held ≡ self.old.held) }
+    {
+        self.book.pin(owner, pointer)
+    }
+
+    /// Data words of an object that its owner holds, from its word `first` on, become `words`, whose bytes past the object's
+    /// end are 0: a store each.
+    #[inline]
+    pub fn store_all(&mut self, owner: u8, pointer: u16, first: u16, words: &[u64])
+        requires own { pointer / CELLS ≡ owner }
+        requires held { IsSome ((core_state self.old.book.near.core).held pointer) }
+        requires inside { first + length words.now ≤ words_for (data_len (core_state self.old.book.near.core) pointer) }
+        requires padding { (k : ℕ) → k < length words.now → slice_index words.now k < 2 ^ (8 * (data_len (core_state self.old.book.near.core) pointer - 8 * (first + k))) }
+        ensures state { core_state self.new.book.near.core ≡ after_events (core_state self.old.book.near.core) (stores owner pointer first words.now) }
+        ensures legal { AllLegal (core_state self.old.book.near.core) (stores owner pointer first words.now) }
+        ensures order { self.new.book.order ≡ self.old.book.order }
+        ensures device { self.new.book.device ≡ self.old.book.device }
+        ensures round { (self.new.phase ≡ self.old.phase) × (self.new.held ≡ self.old.held) }
+    {
+        self.book.store_all(owner, pointer, first, words);
+    }
+}
