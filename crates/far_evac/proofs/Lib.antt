@@ -4,7 +4,10 @@ pub mod Bounds
 pub mod Censuses
 pub mod Chosen
 pub mod Dealt
+pub mod Evacuations
+pub mod Fronts
 pub mod Given
+pub mod GivingBack
 pub mod Handing
 pub mod Hands
 pub mod InOrder
@@ -19,11 +22,14 @@ pub mod Orders
 pub mod Polls
 pub mod Readiness
 pub mod Rounds
+pub mod SendingOff
+pub mod Settling
 pub mod Standings
 pub mod Subjects
 pub mod Tallies
 pub mod Tours
 pub mod TurnsOn
 pub mod Unviewed
+pub mod Walking
 pub mod Walks
 pub mod worked

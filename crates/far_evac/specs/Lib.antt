@@ -6,6 +6,7 @@ pub mod EvacOf
 pub mod Failing
 pub mod Laws
 pub mod Leading
+pub mod Leaving
 pub mod Live
 pub mod Marking
 pub mod Moment
