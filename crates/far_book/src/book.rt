@@ -110,6 +110,11 @@ impl<N: Near + Drop, D: Device + Drop> Book<N, D> {
         self.near.shape()
     }
 
+    /// What its room was taken from.
+    pub fn allocator(&self) -> Global {
+        self.alloc
+    }
+
     /// The lowest free cell of a mutator; `None` where it uses all of them.
     pub fn free_cell(&self, owner: u8) -> Option<u16>
         requires owner { owner < (N.view self.now.near).mutators }

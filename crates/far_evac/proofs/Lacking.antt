@@ -37,6 +37,7 @@ use Rattle.far_evac.specs.Live.{lacking, live_in, live_among, pointers_of}
 use Rattle.far_evac.specs.RoundSteps.{among, unmarked}
 use Rattle.far_evac.specs.Standing.{MarkedAmong, MarkedBefore}
 use Rattle.far_evac.proofs.Changing.{marked_fits, marked_known}
+use Rattle.far_evac.proofs.Fronts.{kept_in}
 use Rattle.far_evac.proofs.Given.{drop_next}
 use Rattle.far_evac.proofs.Hands.{knows_more}
 use Rattle.far_evac.proofs.LiveLists.{knows_live}
@@ -44,7 +45,7 @@ use Rattle.far_evac.proofs.LiveOnce.{LivesIn, apart, behind, but, but_first, eac
 use Rattle.far_evac.proofs.Marks.{IsNearWord, all_filter, all_near, clear_sets, live_near, mark_sets}
 use Rattle.far_evac.proofs.Onward.{or_split}
 use Rattle.far_evac.proofs.Orders.{left_known}
-use Rattle.far_evac.proofs.Passing.{alive, kept_in, listed}
+use Rattle.far_evac.proofs.Passing.{alive, listed}
 
 abbrev pub lacks : State → ℕ → Bool
 lacks s q = not (has_evac (read_of (s.cell q)))

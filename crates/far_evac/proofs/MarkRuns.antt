@@ -31,8 +31,9 @@ use Rattle.far_evac.proofs.Given.{drop_next}
 use Rattle.far_evac.proofs.Hands.{knows_forgotten, knows_more}
 use Rattle.far_evac.proofs.Lacking.{each_has, lacking_known, left_to, next_known, next_marked}
 use Rattle.far_evac.proofs.MarkSteps.{none_shown, some_shown}
-use Rattle.far_evac.proofs.Onward.{chosen_sealed, held_marking, not_leaving, not_waiting, sealed_inside, start_boundary}
+use Rattle.far_evac.proofs.Onward.{chosen_sealed, held_marking, not_leaving, not_waiting, sealed_inside}
 use Rattle.far_evac.proofs.Readiness.{round_is_event}
+use Rattle.far_evac.proofs.Standings.{at_start}
 
 -- ---- lists
 drop_none : (k : ℕ) (xs : List ℕ) → drop k xs ≡ [] → length xs ≤ k
@@ -212,7 +213,7 @@ module _ (s : State) (r : Round) (in_round : InRound s r) (marks : r.phase ≡ M
       };
       stands = record {
         index = omega arith;
-        begins = λ _ l ls _. start_boundary t law l;
+        begins = λ _ l ls _. at_start t law l;
         marked = λ e. absurd (not_back e);
         marked_here = λ e. absurd (not_back e);
         left = λ e. absurd (not_far e);

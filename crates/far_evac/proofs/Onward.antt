@@ -69,9 +69,6 @@ sealed_used kind sealed free = absurd cc
 pub sealed_inside : (s : State) → Law (own_part s) → (l : ℕ) → s.kind l ≡ kinds.Sealed → l < s.logs
 sealed_inside s law l sealed = law.logs.log_range l (sealed_used (s.kind l) sealed)
 
-pub start_boundary : (s : State) → Law (own_part s) → (l : ℕ) → IsBoundary s l 0
-start_boundary s law l = (lives_from_start s law l).0
-
 -- ---- a round that marks
 module _ (s : State) (r : Round) (in_round : InRound s r) (marks : r.phase ≡ Marking) where
   pub chosen_sealed : (l : ℕ) → among r.chosen l ≡ true → s.kind l ≡ kinds.Sealed
@@ -130,37 +127,3 @@ module _ (s : State) (r : Round) (in_round : InRound s r) (marks : r.phase ≡ M
         unseen = λ waits. absurd (not_waiting (sym marks ∙ waits));
       };
     }
-
--- ---- no round
-distinct_none : IsDistinct eqb []
-unfolding IsDistinct
-distinct_none = tt
-
-pub idle_round : (s : State) (chosen : List ℕ) → chosen ≡ [] → InRound s record { phase = Idle; chosen = chosen; index = 0; at = 0; seen = 0 }
-idle_round s chosen none = record {
-  holds = record {
-    sealed = λ l member. absurd (false≢true member);
-    once = distinct_none;
-    runs = refl;
-    round = λ risen. absurd (false≢true risen);
-    clear = λ e. absurd (idle_leaves e);
-    later = λ e. absurd (idle_marks e);
-  };
-  stands = record {
-    index = omega arith;
-    begins = λ running. absurd (true≢false running);
-    marked = λ e. absurd (idle_marks e);
-    marked_here = λ e. absurd (idle_marks e);
-    left = λ e. absurd (idle_leaves e);
-    seen = λ e. absurd (idle_waits e);
-    unseen = λ e. absurd (idle_waits e);
-  };
-} where
-  idle_leaves : Idle ≢ Evacuating
-  idle_leaves e = absurd cc
-
-  idle_marks : Idle ≢ Marking
-  idle_marks e = absurd cc
-
-  idle_waits : Idle ≢ Waiting
-  idle_waits e = absurd cc

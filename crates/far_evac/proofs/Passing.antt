@@ -28,6 +28,7 @@ use Rattle.far_book.specs.book.NextLive.{IsBoundary, IsHomeOf, live_from}
 use Rattle.far_evac.specs.Cursor.{IsNextLacking}
 use Rattle.far_evac.specs.Ready.{AllMarked}
 use Rattle.far_evac.specs.Standing.{MarkedBefore}
+use Rattle.far_evac.proofs.Fronts.{kept_in, knows_cells, was_kept}
 use Rattle.far_evac.proofs.Hands.{knows_more, knows_seen}
 use Rattle.far_evac.proofs.LiveLists.{finds_place}
 
@@ -39,20 +40,6 @@ and_both false b h = absurd (false≢true h)
 and_true : (a b : Bool) → a ≡ true → b ≡ true → (a && b) ≡ true
 and_true true b h g = g
 and_true false b h g = absurd (false≢true h)
-
-pub kept_in : {X : Type 0} (f : X → Bool) (x : X) (xs : List X) → f x ≡ true → Contains xs x → Contains (filter f xs) x
-kept_in f x [] is member = absurd (none_in x member)
-kept_in f x (y ∷ ys) is member = elim (split x y ys member) [
-  | inl e ↦ cond_both (f y) (y ∷ filter f ys) (filter f ys) (λ zs. Contains zs x) (λ _. subst (λ z. Contains (z ∷ filter f ys) x) (sym e) (here x (filter f ys)))
-      (λ no. absurd (true≢false (sym is ∙ ap f (sym e) ∙ no)))
-  | inr more ↦ cond_both (f y) (y ∷ filter f ys) (filter f ys) (λ zs. Contains zs x) (λ _. there x y (filter f ys) (kept_in f x ys is more)) (λ _. kept_in f x ys is more)
-]
-
-pub was_kept : {X : Type 0} (f : X → Bool) (x : X) (xs : List X) → Contains (filter f xs) x → f x ≡ true
-was_kept f x [] = λ member. absurd (none_in x member)
-was_kept f x (y ∷ ys) = cond_both (f y) (y ∷ filter f ys) (filter f ys) (λ zs. Contains zs x → f x ≡ true)
-    (λ yes member. elim (split x y (filter f ys) member) [ inl e ↦ ap f (sym e) ∙ yes | inr more ↦ was_kept f x ys more ])
-    (λ _ member. was_kept f x ys member)
 
 -- ---- the objects of a log from a word on
 module _ (s : State) (law : Law (own_part s)) (l at : ℕ) where
@@ -76,7 +63,7 @@ module _ (s : State) (law : Law (own_part s)) (l at : ℕ) where
   -- each stands there, and is live
   pub stands_there : (x : Span) → Contains (live_from s l at) x → (at ≤ x.at) × (is_live s l x ≡ true)
   stands_there x member =
-      let both = and_both (is_live s l x) (nat_le at x.at) (was_kept there_is x (spans_of s l) member) in
+      let both = and_both (is_live s l x) (nat_le at x.at) (was_kept there_is x (spans_of s l) member).0 in
       let le : nat_le at x.at ≡ true = both.1 in
       (grind (arith, nat_tests, le), both.0)
 
@@ -143,16 +130,6 @@ from_known s t known l at =
 
 pub boundary_known : (s t : State) → Knows s t → (l at : ℕ) → IsBoundary s l at → IsBoundary t l at
 boundary_known s t known l at b = subst (λ (u : State). IsBoundary u l at) (sym known.rest) b
-
--- words were found in cells
-pub knows_cells : (s t : State) → ((p : ℕ) → Finds (s.cell p) (t.cell p)) → t ≡ record s { cell = t.cell } → Knows s t
-unfolding spans_of
-knows_cells s t found rest = record {
-  found = found;
-  spans = λ l. ap (λ (u : State). spans_of u l) rest;
-  stored = λ p len ds i marks far lt known. ap (λ (u : State). u.stored p i) rest;
-  rest = rest ∙ (λ i. record s { cell = t.cell; word = (ap (λ (u : State). u.word) (sym rest)) i; stored = (ap (λ (u : State). u.stored) (sym rest)) i });
-}
 
 pub before_known : (s t : State) → Knows s t → (l at : ℕ) → MarkedBefore s l at → MarkedBefore t l at
 before_known s t known l at before p len ds place marks near log lt =

@@ -23,6 +23,7 @@ use Rattle.far_evac.specs.AnyHand.{Knows}
 use Rattle.far_evac.specs.Live.{live_among, live_in, pointers_of}
 use Rattle.far_evac.specs.RoundSteps.{unmarked}
 use Rattle.far_evac.proofs.Changing.{clear_leaves, cleared_known, unmarked_fits, unmarked_known}
+use Rattle.far_evac.proofs.Fronts.{knows_cells}
 use Rattle.far_evac.proofs.Given.{drop_next}
 use Rattle.far_evac.proofs.Hands.{knows_more}
 use Rattle.far_evac.proofs.Lacking.{from_unmarked, live_unmarked}
@@ -30,7 +31,7 @@ use Rattle.far_evac.proofs.LiveLists.{knows_live}
 use Rattle.far_evac.proofs.LiveOnce.{each_map, live_named}
 use Rattle.far_evac.proofs.Marks.{IsNearWord, all_near, clear_sets, live_near, near_word}
 use Rattle.far_evac.proofs.Onward.{front_is}
-use Rattle.far_evac.proofs.Passing.{boundary_known, from_known, knows_cells, not_before}
+use Rattle.far_evac.proofs.Passing.{boundary_known, from_known, not_before}
 
 pub live_start : (s : State) → Law (own_part s) → (l : ℕ) → live_in s l ≡ pointers_of (live_from s l 0)
 unfolding live_in

@@ -9,6 +9,7 @@ use Rattle.far_core.specs.declared.event.Kind.TheVariants as kinds
 use Rattle.far_core.specs.events.Naming.{is_dropped}
 use Rattle.far_core.specs.state.State.{State}
 use Rattle.far_book.specs.declared.home.Home.{Home}
+use Rattle.far_book.specs.declared.home.Home.TheVariants.{Near, Far}
 use Rattle.far_book.specs.book.Home.{home_of}
 use Rattle.far_book.specs.book.Rows.{row_of}
 use Rattle.far_evac.specs.declared.census.Housed.{Housed}
@@ -42,3 +43,8 @@ kind_in m l = kind_named (among m.held l) (m.core.kind l)
 -- all logs, by number
 abbrev pub logs_of : Moment → List LogState
 logs_of m = map (λ l. record { kind = kind_in m l; row = row_of m.core l }) (range_with_len 0 m.core.logs)
+
+-- an object's owner has dropped it
+abbrev pub has_drop : Home → Bool
+has_drop (Near place marks) = marks.dropped
+has_drop (Far marks) = marks.dropped

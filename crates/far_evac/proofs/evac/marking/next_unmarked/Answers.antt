@@ -1,8 +1,9 @@
 use Rattle.std.proofs.Common.{◌+◌, ◌∙◌, sym, subst, arith}
 use Rattle.far_book.specs.book.NextLive.{IsBoundary}
 use Rattle.far_evac.specs.Standing.{MarkedBefore}
+use Rattle.far_evac.proofs.Fronts.{knows_cells}
 use Rattle.far_evac.proofs.Hands.{knows_more}
-use Rattle.far_evac.proofs.Passing.{before_known, from_known, knows_cells, none_there, step_known, step_lacks, step_next, step_on, step_passes}
+use Rattle.far_evac.proofs.Passing.{before_known, from_known, none_there, step_known, step_lacks, step_next, step_on, step_passes}
 use Rattle.far_evac.proofs.evac.marking.next_unmarked.Goals as goal
 
 pub returns-then-not-has_evac-clause-next : goal.returns-then-not-has_evac-clause-next

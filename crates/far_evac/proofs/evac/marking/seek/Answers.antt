@@ -1,8 +1,9 @@
 use Rattle.std.proofs.Common.{◌∙◌, ◌+◌, drop, slice_index_or, refl}
 use Rattle.far_evac.proofs.Hands.{knows_more}
 use Rattle.far_evac.proofs.Keeping.{round_found}
-use Rattle.far_evac.proofs.Onward.{front_begins, front_inside, front_is, front_marked, moved_on, next_log, start_boundary}
+use Rattle.far_evac.proofs.Onward.{front_begins, front_inside, front_is, front_marked, moved_on, next_log}
 use Rattle.far_evac.proofs.Passing.{boundary_known}
+use Rattle.far_evac.proofs.Standings.{at_start}
 use Rattle.far_evac.proofs.evac.marking.seek.Goals as goal
 
 pub next_unmarked-requires-clause-log : goal.next_unmarked-requires-clause-log
@@ -55,7 +56,7 @@ loop-index-preserved g c =
     record {
       known = knows_more (g.N.Near.view c.args.book.now.near) s t h.known e.known;
       exact = λ still. e.exact still ∙ h.exact still;
-      stands = next_log t r (round_found s t r h.stands e.known) c.requires.marking _ _ front (λ k. boundary_known s t e.known k 0 (start_boundary s c.keeps_law.ensures.law k)) e.none;
+      stands = next_log t r (round_found s t r h.stands e.known) c.requires.marking _ _ front (λ k. boundary_known s t e.known k 0 (at_start s c.keeps_law.ensures.law k)) e.none;
       order = e.order ∙ h.order;
       device = e.device ∙ h.device;
     }

@@ -5,9 +5,9 @@ use Rattle.far_book.specs.book.NextLive.{IsBoundary, live_from}
 use Rattle.far_evac.specs.AnyHand.{Knows}
 use Rattle.far_evac.specs.Live.{live_in, pointers_of}
 use Rattle.far_evac.specs.RoundSteps.{unmarked}
+use Rattle.far_evac.proofs.Fronts.{knows_cells}
 use Rattle.far_evac.proofs.Hands.{knows_more}
-use Rattle.far_evac.proofs.Onward.{start_boundary}
-use Rattle.far_evac.proofs.Passing.{knows_cells}
+use Rattle.far_evac.proofs.Standings.{at_start}
 use Rattle.far_evac.proofs.Unmarking.{all_done, goes_past, live_start, logs_known, then_begins, then_exactly, then_fits, then_known, then_parts}
 use Rattle.far_evac.proofs.Walks.{knows_same}
 use Rattle.far_evac.proofs.evac.marking.unmark_log.Goals as goal
@@ -22,7 +22,7 @@ loop-span-init g c =
       fits = λ p. (law.cells.cell_read p).0;
       known = knows_same s;
       exact = λ still. refl;
-      begins = start_boundary s law c.args.log;
+      begins = at_start s law c.args.log;
       law = law;
       order = refl;
       device = refl;

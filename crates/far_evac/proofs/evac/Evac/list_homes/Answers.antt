@@ -1,0 +1,58 @@
+use Rattle.std.proofs.Common.{◌≡◌, ◌≤◌, ℕ, ◌+◌, [], ◌∷◌, ◌++◌, ap, sym, ◌∙◌, arith}
+use Rattle.far_evac.specs.EvacOf.{EvacOf}
+use Rattle.far_evac.proofs.Auditing.{found_more, listed_dropped, listed_none, listed_one, same_but_near}
+use Rattle.far_evac.proofs.evac.Evac.list_homes.Goals as goal
+
+pub loop-pointer-preserved-in_default : goal.loop-pointer-preserved-in_default
+loop-pointer-preserved-in_default g c =
+    let h = c.loop-pointer.invariant in
+    let s = g.N.Near.view c.loop-pointer.self.book.near in
+    let t = g.N.Near.view c.locate.new.self.book.near in
+    let p = c.loop-pointer.pointer in
+    let items = c.loop-pointer.homes.items in
+    let done = c.locate.ensures in
+    record {
+      homes = listed_none s t p items done.kept h.homes (sym done.home ∙ c.in_default.is);
+      count = omega (arith, h.count);
+      room = h.room;
+      end = h.end;
+      known = found_more s t p items done.kept h.homes (g.N.Near.view c.args.self.now.book.near) done.found h.known;
+      rest = same_but_near c.args.self.now c.loop-pointer.self c.locate.new.self h.rest done.order done.device done.round;
+      exact = λ still. done.exact still ∙ h.exact still;
+    }
+
+pub loop-pointer-preserved-then-has_drop : goal.loop-pointer-preserved-then-has_drop
+loop-pointer-preserved-then-has_drop g c =
+    let h = c.loop-pointer.invariant in
+    let s = g.N.Near.view c.loop-pointer.self.book.near in
+    let t = g.N.Near.view c.locate.new.self.book.near in
+    let p = c.loop-pointer.pointer in
+    let items = c.loop-pointer.homes.items in
+    let done = c.locate.ensures in
+    record {
+      homes = listed_dropped s t p items done.kept h.homes c.in-Some.home (sym done.home ∙ c.in-Some.is) (sym c.has_drop.ensures ∙ c.if-has_drop.true);
+      count = omega (arith, h.count);
+      room = h.room;
+      end = h.end;
+      known = found_more s t p items done.kept h.homes (g.N.Near.view c.args.self.now.book.near) done.found h.known;
+      rest = same_but_near c.args.self.now c.loop-pointer.self c.locate.new.self h.rest done.order done.device done.round;
+      exact = λ still. done.exact still ∙ h.exact still;
+    }
+
+pub loop-pointer-preserved : goal.loop-pointer-preserved
+loop-pointer-preserved g c =
+    let h = c.loop-pointer.invariant in
+    let s = g.N.Near.view c.loop-pointer.self.book.near in
+    let t = g.N.Near.view c.locate.new.self.book.near in
+    let p = c.loop-pointer.pointer in
+    let items = c.loop-pointer.homes.items in
+    let done = c.locate.ensures in
+    record {
+      homes = listed_one s t p items done.kept h.homes c.in-Some.home c.push_reserved.new.self.items (sym done.home ∙ c.in-Some.is) (sym c.has_drop.ensures ∙ c.if-has_drop.false) (c.push_reserved.ensures.items);
+      count = omega (arith, c.push_reserved.ensures.len, h.count);
+      room = c.push_reserved.ensures.capacity ∙ h.room;
+      end = h.end;
+      known = found_more s t p items done.kept h.homes (g.N.Near.view c.args.self.now.book.near) done.found h.known;
+      rest = same_but_near c.args.self.now c.loop-pointer.self c.locate.new.self h.rest done.order done.device done.round;
+      exact = λ still. done.exact still ∙ h.exact still;
+    }
