@@ -122,9 +122,6 @@ module _ (s : State) (p : ℕ) (q : IsQuietNear s p) (law : Law (own_part s)) (e
     pub quiet_here : (u : State) → u ≡ seen s p w → IsQuietNear u p
     quiet_here u is = subst (λ (x : State). IsQuietNear x p) (sym is) (quiet_seen s p w finds q)
 
-    pub alive_here : (u : State) → u ≡ seen s p w → goes_near (read_of w) ≡ false → is_dropped (read_of (u.cell p)) ≡ false
-    alive_here u is h = ap (λ (x : State). is_dropped (read_of (x.cell p))) is ∙ ap (λ x. is_dropped (read_of x)) word_here ∙ cold_alive h
-
     later_found : (v : ℕ) → Finds ((seen s p w).cell p) v → Finds (s.cell p) v
     later_found v f = finds_more (s.cell p) w v finds (subst (λ x. Finds x v) word_here f)
 

@@ -95,9 +95,6 @@ module _ (w : Walked) (l : ℕ) (ls : List ℕ) (front : w.moment.held ≡ l ∷
   abbrev front_by : List ℕ → Walked
   front_by live = cond (is_empty live) (passed (freed w l) ls) (record w { moment = record w.moment { held = l ∷ ls } })
 
-  pub front_stays : (p : ℕ) (rest : List ℕ) → live_in w.moment.core l ≡ p ∷ rest → settled w ≡ w
-  front_stays p rest first = ap (passed w) front ∙ ap front_by first ∙ (λ i. record w { moment = record w.moment { held = sym front i } })
-
   pub front_left : (p : ℕ) (rest : List ℕ) → live_in w.moment.core l ≡ p ∷ rest → (more : List ℕ) × (left w ≡ p ∷ more)
   front_left p rest first = (rest ++ live_among w.moment.core ls, ap (live_among w.moment.core) front ∙ ap (λ live. live ++ live_among w.moment.core ls) first)
 
@@ -112,9 +109,6 @@ module _ (w : Walked) (l : ℕ) (ls : List ℕ) (front : w.moment.held ≡ l ∷
     pub next_exact : v ≡ record (freed w l) { moment = record (freed w l).moment { held = ls } } → settled v ≡ settled w
     next_exact is = ap settled is ∙ passed_any (freed w l) ls ls ∙ sym (front_goes none)
 
-pub over_settled : (w : Walked) → w.moment.held ≡ [] → settled w ≡ w
-over_settled w none = ap (passed w) none ∙ (λ i. record w { moment = record w.moment { held = sym none i } })
-
 -- ---- the same of an evacuator
 module _ {N D : Type 0} (view : N → State) where
   pub standing_known : (e f : EvacOf N D) (progress : Progress) → KnowsMoment (moment view e) (moment view f) → KnowsWalked (standing view e progress) (standing view f progress)
@@ -122,9 +116,6 @@ module _ {N D : Type 0} (view : N → State) where
     moment = record { core = known.core; rest = ap (λ (m : Moment). record m { phase = Evacuating }) known.rest };
     tally = refl;
   }
-
-  pub standing_same : (e f : EvacOf N D) (progress : Progress) → moment view f ≡ moment view e → standing view f progress ≡ standing view e progress
-  standing_same e f progress same = ap (λ (m : Moment). record { moment = record m { phase = Evacuating }; tally = (standing view e progress).tally }) same
 
   -- the log in front of e is given back: f is where marks were found in it, and h is after it
   module _ (e f h : EvacOf N D) (progress next : Progress) (l : ℕ) (ls : List ℕ) (front : e.held ≡ l ∷ ls) (none : live_in (view e.book.near) l ≡ [])

@@ -244,7 +244,10 @@ fn count(progress: &mut Progress, fate: Fate)
 
 // An object leaves its log as its cell says: one that its owner has dropped is retired; a hot one goes to another log, or far where no room
 // is; any other goes far. At a refusal it lies as before.
-fn send_off<N: Near + Drop, D: Device + Drop>(book: &mut Book<N, D>, pointer: u16) -> Result<Fate, Refused>
+fn send_off<N: Near + Drop, D: Device + Drop>(
+    book: &mut Book<N, D>,
+    pointer: u16,
+) -> Result<Fate, Refused>
     requires pointer { pointer < CELLS * (N.view book.old.near).mutators }
     requires quiet { IsQuietNear (N.view book.old.near) pointer }
     requires evac { has_evac (read_of ((N.view book.old.near).cell pointer)) ≡ true }
@@ -281,7 +284,10 @@ fn near_fate(place: Option<Place>) -> Fate
 }
 
 // An object that isn't known to be dropped goes far, unless it is found to be.
-fn send_far<N: Near + Drop, D: Device + Drop>(book: &mut Book<N, D>, pointer: u16) -> Result<Fate, Refused>
+fn send_far<N: Near + Drop, D: Device + Drop>(
+    book: &mut Book<N, D>,
+    pointer: u16,
+) -> Result<Fate, Refused>
     requires pointer { pointer < CELLS * (N.view book.old.near).mutators }
     requires quiet { IsQuietNear (N.view book.old.near) pointer }
     requires evac { has_evac (read_of ((N.view book.old.near).cell pointer)) ≡ true }
