@@ -4,6 +4,7 @@ pub mod Bounds
 pub mod Censuses
 pub mod Chosen
 pub mod Dealt
+pub mod Failures
 pub mod Given
 pub mod Handing
 pub mod Hands
