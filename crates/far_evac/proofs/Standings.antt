@@ -19,7 +19,7 @@ use Rattle.far_evac.specs.RoundSteps.{among}
 use Rattle.far_evac.specs.Standing.{InRound, held_in, held_of}
 
 -- ---- no round
-none_once : IsDistinct eqb []
+pub none_once : IsDistinct eqb []
 none_once = IsDistinct-from_apart eqb [] (λ i j d lt le. absurd (omega arith))
 
 no_risen : (phase : Phase) → phase ≡ Idle → has_risen phase ≡ true → ⊥

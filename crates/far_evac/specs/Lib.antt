@@ -5,6 +5,8 @@ pub mod Dealings
 pub mod EvacOf
 pub mod Failing
 pub mod Laws
+pub mod Leading
+pub mod Leaving
 pub mod Live
 pub mod Marking
 pub mod Moment
