@@ -6,6 +6,7 @@ pub mod Changing
 pub mod Chosen
 pub mod Dealt
 pub mod Evacuations
+pub mod Failures
 pub mod Fronts
 pub mod Given
 pub mod GivingBack
