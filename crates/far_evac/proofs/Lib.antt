@@ -11,6 +11,7 @@ pub mod InOrder
 pub mod Joined
 pub mod Keeping
 pub mod Leading
+pub mod LeadingMarks
 pub mod LiveLists
 pub mod LiveOnce
 pub mod Looks
