@@ -2,7 +2,7 @@
 use Rattle.std.proofs.Common.{◌≡◌, ◌≢◌, ℕ, zero, suc, ◌+◌, ◌*◌, ◌<◌, ◌≤◌, ◌||◌, Bool, true, false, not, nat_lt, eqb, Option, Some, None, List, [], ◌∷◌, ◌++◌, inl, inr, arith, ap, sym, refl, ◌∙◌, subst}
 use Rattle.std.specs.Prelude.{fold}
 use Rattle.std.specs.List.{AllByRecursion, IsDistinct, find, range_with_len}
-use Rattle.std.proofs.lemmas.Bool.{cond_both, false≢true, true≢false}
+use Rattle.std.proofs.lemmas.Bool.{cond_both, eq-eqb, false≢true, true≢false}
 use Rattle.std.proofs.lemmas.Bool.Decides.{nat_tests}
 use Rattle.std.proofs.lemmas.Bool.{cases_lt}
 use Rattle.std.proofs.lemmas.List.Elements.{All-nil}
@@ -12,12 +12,14 @@ use Rattle.far_word.specs.declared.pointer.PtrWord.TheVariants.{Near}
 use Rattle.far_word.specs.declared.sizes.TheConstants.{CELLS}
 use Rattle.far_word.specs.Pointer.{read_of}
 use Rattle.far_word.proofs.PointerLaws.{without_evac_read}
+use Rattle.far_core.specs.declared.event.Event.{Event}
 use Rattle.far_core.specs.declared.event.Event.TheVariants.{Clear, Look}
 use Rattle.far_core.specs.declared.event.Kind.{Kind}
 use Rattle.far_core.specs.declared.event.Kind.TheVariants as kinds
 use Rattle.far_core.specs.declared.event.Kind.TheVariants.{Sealed}
 use Rattle.far_core.specs.events.Mark.{is_sealed}
 use Rattle.far_core.specs.events.Clear.{IsNear, evac_cleared}
+use Rattle.far_core.specs.events.Legal.{Legal}
 use Rattle.far_core.specs.events.Step.{Fits, after}
 use Rattle.far_core.specs.state.Law.{Law}
 use Rattle.far_core.specs.state.State.{State}
@@ -129,8 +131,19 @@ module _ (m : Moment) (law : Law m.core) (moment : MomentLaw m) (waits : m.phase
 pub polling : PollingLeads
 polling m law moment waits = polled_leads m law moment waits (first_open m.core) refl
 
--- ---- one event after the other, each at a near pointer of the heap
-abbrev IsNearOf : State → ℕ → Type 0
+-- ---- one event after the other, each at a pointer
+module _ (event : ℕ → Event) (fits : (p : ℕ) → Fits (event p)) (May : State → ℕ → Type 0) (legal : (s : State) (p : ℕ) → May s p → Legal s (event p))
+    (still : (s : State) → Law s → (p q : ℕ) → May s p → May s q → May (after s (event p)) q) where
+  pub reached_each : (ps : List ℕ) (s : State) → Law s → AllByRecursion (May s) ps → Reached s (fold (λ t p. after t (event p)) s ps)
+  reached_each [] s law each = reached_none s
+  reached_each (p ∷ ps) s law each =
+      let one = reached_one s (event p) (legal s p each.0) (fits p) in
+      let then = reached_law s (after s (event p)) law one in
+      reached_more s (after s (event p)) (fold (λ t q. after t (event q)) (after s (event p)) ps) one
+      (reached_each ps (after s (event p)) then (each_map (λ q h. still s law p q each.0 h) ps each.1))
+
+-- ---- near pointers of the heap
+abbrev pub IsNearOf : State → ℕ → Type 0
 IsNearOf s p = (p < CELLS * s.mutators) × IsNear s p
 
 zero_free : (len ds : ℕ) (place : Place) (marks : Marks) → read_of 0 ≡ Some (Near len ds place marks) → ⊥
@@ -140,19 +153,32 @@ zero_free len ds place marks h = absurd cc
 not_zero : (w len ds : ℕ) (place : Place) (marks : Marks) → read_of w ≡ Some (Near len ds place marks) → w ≢ 0
 not_zero w len ds place marks near e = zero_free len ds place marks (subst (λ x. read_of x ≡ Some (Near len ds place marks)) e near)
 
--- a live object of a log is one
+-- a near pointer is one of the heap's
+pub in_heap : (s : State) → Law s → (p len ds : ℕ) (place : Place) (marks : Marks) → read_of (s.cell p) ≡ Some (Near len ds place marks) → p < CELLS * s.mutators
+in_heap s law p len ds place marks near = law.cells.cell_range p (not_zero (s.cell p) len ds place marks near)
+
+-- and so is a live object of a log
 near_of : (s : State) → Law s → (l p : ℕ) → LivesIn s l p → IsNearOf s p
-near_of s law l p h =
-    let x = near_at (read_of (s.cell p)) l h.0 h.1 in
-    (law.cells.cell_range p (not_zero (s.cell p) x.len x.ds x.place x.marks x.near), (x.len, x.ds, x.place, x.marks, x.near))
+near_of s law l p h = let x = near_at (read_of (s.cell p)) l h.0 h.1 in (in_heap s law p x.len x.ds x.place x.marks x.near, (x.len, x.ds, x.place, x.marks, x.near))
 
 all_both : (P : ℕ → Type 0) (xs ys : List ℕ) → AllByRecursion P xs → AllByRecursion P ys → AllByRecursion P (xs ++ ys)
 all_both P [] ys f g = g
 all_both P (x ∷ xs) ys f g = (f.0, all_both P xs ys f.1 g)
 
-live_near : (s : State) → Law s → (ls : List ℕ) → AllByRecursion (IsNearOf s) (live_among s ls)
-live_near s law [] = tt
-live_near s law (l ∷ ls) = all_both (IsNearOf s) (live_in s l) (live_among s ls) (each_map (near_of s law l) (live_in s l) (live_named s l)) (live_near s law ls)
+pub or_here : (a b : Bool) → a ≡ true → (a || b) ≡ true
+or_here true b h = refl
+or_here false b h = absurd (false≢true h)
+
+pub or_there : (a b : Bool) → b ≡ true → (a || b) ≡ true
+or_there true b h = refl
+or_there false b h = h
+
+-- what holds of each pointer that lives in one of some logs holds of their live objects
+pub all_lives : (P : ℕ → Type 0) (s : State) (ls : List ℕ) → ((l p : ℕ) → among ls l ≡ true → LivesIn s l p → P p) → AllByRecursion P (live_among s ls)
+all_lives P s [] each = tt
+all_lives P s (l ∷ ls) each =
+    all_both P (live_in s l) (live_among s ls) (each_map (λ p h. each l p (or_here (eqb l l) (among ls l) (eq-eqb l l refl)) h) (live_in s l) (live_named s l))
+    (all_lives P s ls (λ k p member h. each k p (or_there (eqb k l) (among ls k) member) h))
 
 -- ---- giving up
 still_near : (s : State) → Law s → (p q : ℕ) → IsNearOf s p → IsNearOf s q → IsNearOf (unmarked s p) q
@@ -162,13 +188,6 @@ still_near s law p q (range, (len, ds, place, marks, near)) (inside, (n, d, at, 
       (λ _. (len, ds, place, _, without_evac_read (s.cell p) (Near len ds place marks) (law.cells.cell_read p).0 near)) (λ _. (n, d, at, k, is)),
 )
 
-reached_unmarked : (ps : List ℕ) (s : State) → Law s → AllByRecursion (IsNearOf s) ps → Reached s (fold unmarked s ps)
-reached_unmarked [] s law each = reached_none s
-reached_unmarked (p ∷ ps) s law each =
-    let one = reached_one s (Clear p) each.0 tt in
-    let then = reached_law s (unmarked s p) law one in
-    reached_more s (unmarked s p) (fold unmarked (unmarked s p) ps) one (reached_unmarked ps (unmarked s p) then (each_map (λ q h. still_near s law p q each.0 h) ps each.1))
-
 kinds_unmarked : (ps : List ℕ) (s : State) → (fold unmarked s ps).kind ≡ s.kind
 kinds_unmarked [] s = refl
 kinds_unmarked (p ∷ ps) s = kinds_unmarked ps (unmarked s p)
@@ -176,7 +195,8 @@ kinds_unmarked (p ∷ ps) s = kinds_unmarked ps (unmarked s p)
 pub aborting : AbortingLeads
 aborting m law moment =
     let ps = live_among m.core m.held in
-    let way = reached_unmarked ps m.core law (live_near m.core law m.held) in
+    let way : Reached m.core (fold unmarked m.core ps) =
+    reached_each (λ p. Clear p) (λ p. tt) IsNearOf (λ s p h. h) still_near ps m.core law (all_lives (IsNearOf m.core) m.core m.held (λ l p _ h. near_of m.core law l p h)) in
     record {
       reached = way;
       law = reached_law m.core (fold unmarked m.core ps) law way;

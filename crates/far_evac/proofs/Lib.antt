@@ -17,6 +17,7 @@ pub mod Joined
 pub mod Keeping
 pub mod Lacking
 pub mod Leading
+pub mod LeadingMarks
 pub mod LiveLists
 pub mod LiveOnce
 pub mod LogBits

@@ -127,7 +127,7 @@ pub all_filter : (P : ℕ → Type 0) (f : ℕ → Bool) (xs : List ℕ) → All
 all_filter P f [] h = tt
 all_filter P f (x ∷ xs) h = cond_both (f x) (x ∷ filter f xs) (filter f xs) (AllByRecursion P) (λ _. (h.0, all_filter P f xs h.1)) (λ _. all_filter P f xs h.1)
 
-all_take : (P : ℕ → Type 0) (n : ℕ) (xs : List ℕ) → AllByRecursion P xs → AllByRecursion P (take n xs)
+pub all_take : (P : ℕ → Type 0) (n : ℕ) (xs : List ℕ) → AllByRecursion P xs → AllByRecursion P (take n xs)
 all_take P zero xs h = tt
 all_take P (suc n) [] h = tt
 all_take P (suc n) (x ∷ xs) h = (h.0, all_take P n xs h.1)

@@ -27,3 +27,7 @@ PollingLeads = (m : Moment) → Law m.core → MomentLaw m → m.phase ≡ Waiti
 
 abbrev pub AbortingLeads : Type 0
 AbortingLeads = (m : Moment) → Law m.core → MomentLaw m → Leads m (after_aborting m)
+
+-- an epoch is left for the round
+abbrev pub MarkingLeads : Type 0
+MarkingLeads = (m : Moment) (n : ℕ) → Law m.core → MomentLaw m → m.phase ≡ Marking → is_spent m.core ≡ false → Leads m (after_marking m n)
