@@ -8,14 +8,17 @@ pub mod AloneTurns
 pub mod AloneViews
 pub mod Answering
 pub mod Bringing
+pub mod Brought
 pub mod Coming
 pub mod Counted
+pub mod Dereferences
 pub mod Determined
 pub mod Drops
 pub mod Fronts
 pub mod InquiryLaws
 pub mod Kept
 pub mod Lasting
+pub mod Leading
 pub mod LoadWords
 pub mod Lowest
 pub mod MadeLemmas

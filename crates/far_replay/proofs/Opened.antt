@@ -12,4 +12,4 @@ opening_law logs mutators fits = begins (shape_of logs mutators) true fits
 
 -- in the first state no cell is named, and no owner remembers an epoch
 pub opening_between : (logs mutators : ℕ) → is_shape (shape_of logs mutators) ≡ true → Between (first_moment logs mutators).core
-opening_between logs mutators fits = record { at_hand = λ p ne. absurd (ne refl); unread = λ m e. refl }
+opening_between logs mutators fits = record { named = λ p ne. absurd (ne refl); unread = λ m e. refl }

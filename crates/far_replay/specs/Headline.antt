@@ -29,7 +29,7 @@ use Rattle.far_replay.specs.Answers.{Answered, Answers, Commanded, IsMoment, sha
 use Rattle.far_text.specs.Command.{Command, Heap, CommandLine, New, Open, Write, Read, Close, Where, Drop, View, Try, Logs as AsksLogs, Log, Audit, Mutator, Book}
 use Rattle.far_text.specs.Grammar.{trace_of}
 use Rattle.far_replay.specs.Moment.{Moment}
-use Rattle.far_replay.specs.EventRows.{after_events, AllPass, AllSucceed, AllComeToPass, AtHand, AllAtHand}
+use Rattle.far_replay.specs.EventRows.{after_events, AllPass, AllSucceed, AllComeToPass, AtHand}
 use Rattle.far_replay.specs.Effects.{is_slow}
 use Rattle.far_replay.specs.Events.{events_for}
 use Rattle.far_replay.specs.Objects.{with_range, uses}
@@ -68,11 +68,11 @@ pub record Reaches (now : Moment) (c : Command) (after : Moment) : Type 0 where
   pub succeed : AllSucceed now.core (events_for now c)
   pub come : IsAtHandFor now c → AllComeToPass now.core (events_for now c)
 
--- what is true of each moment of an output
+-- what is true of each moment of an output: each pointer that is named is used by its owner
 pub record Lawful (now : Moment) : Type 0 where
   pub reached : IsMoment now
   pub law : Law now.core
-  pub at_hand : AllAtHand now.core
+  pub named : (p : ℕ) → now.core.cell p ≢ 0 → now.core.used p ≡ true
 
 -- each object that is in use has one place, each log's bytes are 1,024, and no two cells name one place
 abbrev pub IsWhole : State → Type 0
@@ -131,14 +131,17 @@ TellsHome s p (Far marks) = (len ds : ℕ) × (o : Object) × (read_of (s.cell p
 abbrev pub IsHowMany : (ℕ → Type 0) → ℕ → Type 0
 IsHowMany P n = (ks : List ℕ) × (length ks ≡ n) × IsDistinct eqb ks × ((k : ℕ) → Contains ks k ↔ P k)
 
--- a number has an object
-abbrev pub HasObject : State → ℕ → Type 0
-HasObject s p = (o : Object) × ((world_of s).object p ≡ Some o)
+-- a number has an object in a group; or one on the far side
+abbrev pub IsNearObject : State → ℕ → Type 0
+IsNearObject s p = (o : Object) × (group : ℕ) × ((world_of s).object p ≡ Some o) × (o.home ≡ Group group)
 
--- the counts are of what there is: all objects, which are near, and what each log tells of its live bytes
+abbrev pub IsFarObject : State → ℕ → Type 0
+IsFarObject s p = (o : Object) × ((world_of s).object p ≡ Some o) × (o.home ≡ FarSide)
+
+-- the counts are of what there is: each object is near or far, and is counted so; and what each log tells of its live bytes
 pub record CountsAll (now : Moment) (counts : Counts) : Type 0 where
-  pub near : IsHowMany (HasObject now.core) counts.near
-  pub far : counts.far ≡ 0
+  pub near : IsHowMany (IsNearObject now.core) counts.near
+  pub far : IsHowMany (IsFarObject now.core) counts.far
   pub live : (lines : List LogLine) (after : Moment) → Commanded now (Book AsksLogs) (Logs lines) after → counts.live ≡ sum (map (λ line. line.live) lines)
 
 -- what an object leaves that is dropped: no object of its pointer, whose cell is free and which its owner doesn't use; all other objects, the words and spans of
@@ -265,7 +268,7 @@ OneOutput = (text a b : List ℕ) → Answers text a → Answers text b → a �
 abbrev pub TextsWriteBytes : Type 0
 TextsWriteBytes = (text : List ℕ) (logs mutators : ℕ) (cs : List Command) → trace_of text ≡ Ok (Heap logs mutators cs) → AllWriteBytes cs
 
--- what lasts: each moment after a heap and commands has the law, and its pointers at hand
+-- what lasts: each moment after a heap and commands has the law, and what it names is used
 abbrev pub MomentsLast : Type 0
 MomentsLast = (now : Moment) (cs : List Command) (rs : List Reply) (moments : List Moment) → IsMoment now → AllWriteBytes cs → Answered now cs rs moments → All Lawful (now ∷ moments)
 
@@ -300,7 +303,7 @@ LogTellsItsLine = (now : Moment) (l : ℕ) (r : Reply) (after : Moment) → Comm
     (l < now.core.logs → (lines : List LogLine) (later : Moment) → Commanded now (Book AsksLogs) (Logs lines) later → (line : LogLine) × (r ≡ Logs (line ∷ [])) × (line.log ≡ l) × Contains lines line)
     × (now.core.logs ≤ l → r ≡ Refused Range)
 
--- `audit` counts each object, and the bytes that `logs` tells; today none is far
+-- `audit` counts each object, near and far, and the bytes that `logs` tells
 abbrev pub AuditCounts : Type 0
 AuditCounts = (now : Moment) (r : Reply) (after : Moment) → IsMoment now → Commanded now (Book Audit) r after → (counts : Counts) × (r ≡ Audited counts) × CountsAll now counts
 
