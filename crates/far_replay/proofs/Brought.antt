@@ -1,5 +1,6 @@
 -- An object that was asked for is brought to where a view may rest: by which events, and what that leaves.
 use Rattle.std.proofs.Common.{◌≡◌, ◌≢◌, ℕ, ◌+◌, ◌-◌, ◌*◌, ◌^◌, ◌<◌, ◌≤◌, Bool, true, false, cond, refl, sym, ap, subst, ◌∙◌, arith, Option, Some, None, List, [], ◌∷◌, ◌++◌, inl, inr, if◌then◌else◌}
+use Rattle.std.specs.Bool.{MatchBool}
 use Rattle.std.proofs.lemmas.Bool.{cases_eq}
 use Rattle.far_word.specs.declared.mark.Marks.{Marks}
 use Rattle.far_word.specs.declared.pointer.Place.{Place}
@@ -37,13 +38,15 @@ use Rattle.far_book.specs.book.Moving.{Copied, MayCopy}
 use Rattle.far_book.proofs.Finding.{finds_same}
 use Rattle.far_book.proofs.region.Coming.{may_come, stands}
 use Rattle.far_book.proofs.region.Copying.{first, from_outside, head, layout_there, outside}
-use Rattle.far_book.proofs.region.Moved.{may_rename}
+use Rattle.far_book.proofs.region.Fetched.{fetched_come}
+use Rattle.far_book.proofs.region.Moved.{may_rename, moved_is, stayed_is}
 use Rattle.far_book.proofs.region.MovesReached.{moving, staying}
 use Rattle.far_book.proofs.region.Owns.{own_law}
 use Rattle.far_book.proofs.region.ReachingFar.{fetching}
 use Rattle.far_replay.specs.Alone.{bytes_in_world}
 use Rattle.far_replay.specs.Dereference.{come, come_of, comes_to, comes_to_of}
 use Rattle.far_replay.specs.Events.{come_events, come_events_of, name_events, span_events}
+use Rattle.far_replay.specs.Headline.{BringTakes, TakesNone, TakesSpan}
 use Rattle.far_replay.specs.Objects.{object_len, named_len}
 use Rattle.far_replay.proofs.AloneRuns.{SameBytes}
 use Rattle.far_replay.proofs.Bringing.{fetched_keeps, moved_keeps, stayed_keeps}
@@ -64,6 +67,7 @@ pub record Brought (s : State) (p : ℕ) (es : List Event) (t : State) : Type 0 
   pub long : object_len s p ≡ len
   pub bytes : SameBytes (world_of s) (world_of t)
   pub held : t.held ≡ s.held
+  pub takes : BringTakes s (read_of (s.cell p)) t
 
 -- ---- an object that is moved
 module _ (s : State) (law : Law s) (p len ds : ℕ) (from to : Place) (m : Marks) (near : read_of (s.cell p) ≡ Some (Near len ds from m)) (asked : m.moved ≡ true)
@@ -133,6 +137,8 @@ module _ (s : State) (law : Law s) (p len ds : ℕ) (from to : Place) (m : Marks
         long = ap named_len near;
         bytes = ((λ q. ap (λ (w : World). bytes_in_world (w.object q)) is ∙ bytes_at (world_of s) p o _ there refl q), ap (λ (w : World). w.opened) is);
         held = (moved_keeps s p to (read_of (s.cell p))).held;
+        takes = subst (λ o. BringTakes s o (moved s p to)) (sym near) (subst (λ b. MatchBool b (TakesSpan s len false (moved s p to)) (TakesNone s (moved s p to))) (sym wanted)
+            (to, found, ap (λ (t : State). t.tail) (moved_is s p len ds from to m near alive wanted (layout_there s p len ds from to may))));
       }
 
 -- ---- an object that stays where it lies
@@ -164,6 +170,10 @@ module _ (s : State) (law : Law s) (p len ds : ℕ) (place : Place) (m : Marks) 
         long = ap named_len near;
         bytes = ((λ q. ap (λ (w : World). bytes_in_world (w.object q)) is), ap (λ (w : World). w.opened) is);
         held = (stayed_keeps s p (read_of (s.cell p))).held;
+        takes =
+            let is = stayed_is s p len ds place m near alive asked unwanted bare in
+            subst (λ o. BringTakes s o (stayed s p)) (sym near) (subst (λ b. MatchBool b (TakesSpan s len false (stayed s p)) (TakesNone s (stayed s p))) (sym unwanted)
+            (ap (λ (t : State). t.tail) is, ap (λ (t : State). t.kind) is));
       }
 
 -- ---- an object that is fetched
@@ -234,6 +244,7 @@ module _ (s : State) (law : Law s) (p len ds : ℕ) (m : Marks) (place : Place) 
         long = ap named_len far;
         bytes = (bytes_but_one (world_of s) (world_of t) p _ (ap (λ (w : World). w.object) is) equal, ap (λ (w : World). w.opened) is);
         held = (fetched_keeps s p place (s.stored p) (read_of (s.cell p))).held;
+        takes = subst (λ o. BringTakes s o t) (sym far) (place, found, ap (λ (x : State). x.tail) (fetched_come s s p len ds place (s.stored p) m far alive there));
       }
 
 -- ---- either, where there is a place for it

@@ -1,5 +1,6 @@
 -- A dereference that isn't refused, whatever marks its object has and wherever it is: its events, and what it leaves.
 use Rattle.std.proofs.Common.{◌≡◌, ◌≢◌, ℕ, ◌/◌, Bool, true, false, cond, not, nat_eq, refl, sym, ap, subst, ◌∙◌, Option, Some, None, List, [], ◌∷◌, ◌++◌, if◌then◌else◌, is_some}
+use Rattle.std.specs.Bool.{MatchBool}
 use Rattle.std.specs.Prelude.{◌||◌, ◌&&◌}
 use Rattle.std.proofs.lemmas.Bool.{and_parts, cond_both, eqb-true, false≢true, not-true}
 use Rattle.far_word.specs.declared.mark.Mark.TheVariants.{Hot, Moved}
@@ -29,12 +30,14 @@ use Rattle.far_replay.specs.Dereference.{asked_for, come, comes_to, dereferenced
 use Rattle.far_replay.specs.Effects.{is_slow, with_view}
 use Rattle.far_replay.specs.EventRows.{after_events}
 use Rattle.far_replay.specs.Events.{asked_events, asked_events_of, come_events, dereference_events, sought_events, view_events}
-use Rattle.far_replay.specs.Headline.{ViewsObject}
+use Rattle.far_replay.specs.Headline.{BringTakes, DereferenceLacks, DereferenceTakes, TakesNone, ViewsObject}
 use Rattle.far_replay.specs.Objects.{named_len, object_len, uses}
 use Rattle.far_replay.proofs.AloneRuns.{SameBytes, bytes_both, bytes_same, quiet_run, quiet_view}
 use Rattle.far_replay.proofs.Bringing.{KeepsOwners, asked_keeps, brought_keeps, came_opened, came_used, slow_opened, slow_unheld, slow_used}
 use Rattle.far_replay.proofs.Brought.{Brought, MayBring, brought}
 use Rattle.far_replay.proofs.Leading.{Leads, leads_append, leads_law, leads_nowhere, leads_one}
+use Rattle.far_replay.proofs.Drops.{unheld_is}
+use Rattle.far_replay.proofs.TakingView.{asked_on, asked_word, bring_more, bring_same, comes_place, lacks, sought_logs, view_takes}
 use Rattle.far_replay.proofs.Views.{Already, Anew, Seen, Viewed, already_is, anew_is, between_by, fast_dereference, fast_seen, pin_read, slow_parts, slow_view, view_between, view_holds, view_is, view_long, view_succeeds}
 use Rattle.far_text.proofs.Each.{Each}
 
@@ -89,6 +92,7 @@ pub record Derefs (s : State) (m p : ℕ) : Type 0 where
   pub bytes : SameBytes (world_of s) (world_of (dereferenced s m p))
   pub views : ViewsObject s (dereferenced s m p) p
   pub between : Between s → Between (dereferenced s m p)
+  pub takes : DereferenceTakes s p (dereferenced s m p)
 
 -- by a pin alone
 module _ (s : State) (m p : ℕ) (law : Law s) (opened : is_opened s m ≡ true) (ours : uses s m p ≡ true) (fast : is_slow s p ≡ false) where
@@ -96,7 +100,7 @@ module _ (s : State) (m p : ℕ) (law : Law s) (opened : is_opened s m ≡ true)
   events_fast = ap (λ b. if b then sought_events s m p ++ come_events (sought s m p) p ++ view_events (come (sought s m p) p) m p else view_events s m p) fast
 
   abbrev AllFast : State → Type 0
-  AllFast t = Leads s (view_events s m p) t × Law t × Viewed t t m p × (data_len t p ≡ object_len s p) × SameBytes (world_of s) (world_of t) × ViewsObject s t p × (Between s → Between t)
+  AllFast t = Leads s (view_events s m p) t × Law t × Viewed t t m p × (data_len t p ≡ object_len s p) × SameBytes (world_of s) (world_of t) × ViewsObject s t p × (Between s → Between t) × DereferenceTakes s p t
 
   all_fast : AllFast (with_view s p)
   all_fast =
@@ -110,12 +114,13 @@ module _ (s : State) (m p : ℕ) (law : Law s) (opened : is_opened s m ≡ true)
         view_bytes s m p law opened ours,
         view_views s m p law opened ours seen,
         view_between s p (used_so s m p law opened ours),
+        subst (λ b. MatchBool b (BringTakes s (read_of (s.cell p)) (with_view s p)) (TakesNone s (with_view s p))) (sym fast) (view_takes s p),
       )
 
   fast_derefs : Derefs s m p
   fast_derefs =
       let all = subst AllFast (sym (fast_dereference s m p fast)) all_fast in
-      record { leads = subst (λ es. Leads s es (dereferenced s m p)) (sym events_fast) all.0; law = all.1; view = all.2; long = all.3; bytes = all.4; views = all.5; between = all.6 }
+      record { leads = subst (λ es. Leads s es (dereferenced s m p)) (sym events_fast) all.0; law = all.1; view = all.2; long = all.3; bytes = all.4; views = all.5; between = all.6; takes = all.7 }
 
 -- ---- the owner's asking
 record Asked (s : State) (p : ℕ) (es : List Event) (t : State) : Type 0 where
@@ -123,6 +128,7 @@ record Asked (s : State) (p : ℕ) (es : List Event) (t : State) : Type 0 where
   may : MayBring (read_of (t.cell p))
   bytes : SameBytes (world_of s) (world_of t)
   long : object_len t p ≡ object_len s p
+  word : read_of (t.cell p) ≡ asked_on (read_of (s.cell p))
 
 module _ (s : State) (m p : ℕ) (law : Law s) (opened : is_opened s m ≡ true) (own : p / CELLS ≡ m) (used : s.used p ≡ true) (unheld : s.held p ≡ None) where
   ask_legal : Legal s (Asks m p Moved)
@@ -140,8 +146,9 @@ module _ (s : State) (m p : ℕ) (law : Law s) (opened : is_opened s m ≡ true)
         may = subst MayBring (sym says) (refl, not-true marks.dropped u);
         bytes = ((λ q. ap (λ (w : World). bytes_in_world (w.object q)) marked), ap (λ (w : World). w.opened) marked);
         long = ap named_len says ∙ sym (ap named_len e);
+        word = says ∙ sym (ap asked_on e);
       }
-  asked_of (Some (Far len ds marks)) e u = record { leads = leads_nowhere s; may = subst MayBring (sym e) (not-true marks.dropped u); bytes = ((λ q. refl), refl); long = refl }
+  asked_of (Some (Far len ds marks)) e u = record { leads = leads_nowhere s; may = subst MayBring (sym e) (not-true marks.dropped u); bytes = ((λ q. refl), refl); long = refl; word = e ∙ sym (ap asked_on e) }
 
   asked : Asked s p (asked_events s m p) (asked_for s m p)
   asked = asked_of (read_of (s.cell p)) refl (law.views.used_cell p used)
@@ -193,6 +200,17 @@ module _ (s : State) (m p : ℕ) (law : Law s) (opened : is_opened s m ≡ true)
   pub sought_between : Between s → Between (sought s m p)
   sought_between between = between_by pinned (sought s m p) p sought_owners.scope sought_owners.used sought_owners.remembered sought_owners.cells pinned_used (view_between s p parts.1 between)
 
+  -- what the cell says then
+  sought_word : read_of ((sought s m p).cell p) ≡ asked_word (read_of (s.cell p))
+  sought_word = asks.word ∙ ap asked_on (ap (λ (t : State). read_of (t.cell p)) (anew_is s p (unheld_is (s.held p) (slow_parts s p slow).0)) ∙ pin_read s m p law opened ours)
+
+  pub sought_lacks : comes_to (sought s m p) p ≡ None → DereferenceLacks s p (sought s m p)
+  sought_lacks none = (
+    slow,
+    lacks s (sought s m p) (read_of (s.cell p)) (sought_logs s m p) (law.views.used_cell p parts.1) (sym (comes_place (sought s m p) p (asked_word (read_of (s.cell p))) sought_word) ∙ none),
+    (sought_logs s m p).none,
+  )
+
   module _ (place : Place) (found : comes_to (sought s m p) p ≡ Some place) where
     abbrev there : State
     there = come (sought s m p) p
@@ -226,7 +244,7 @@ module _ (s : State) (m p : ℕ) (law : Law s) (opened : is_opened s m ≡ true)
 
     abbrev AllSlow : State → Type 0
     AllSlow t = Leads s (sought_events s m p ++ come_events (sought s m p) p ++ view_events there m p) t × Law t × Viewed t t m p × (data_len t p ≡ object_len s p)
-        × SameBytes (world_of s) (world_of t) × ViewsObject s t p × (Between s → Between t)
+        × SameBytes (world_of s) (world_of t) × ViewsObject s t p × (Between s → Between t) × DereferenceTakes s p t
 
     all_slow : AllSlow (with_view there p)
     all_slow =
@@ -247,6 +265,9 @@ module _ (s : State) (m p : ℕ) (law : Law s) (opened : is_opened s m ≡ true)
           },
           λ between. view_between there p there_used
               (between_by pinned there p there_owners.scope there_owners.used there_owners.remembered there_owners.cells pinned_used (view_between s p parts.1 between)),
+          subst (λ b. MatchBool b (BringTakes s (read_of (s.cell p)) (with_view there p)) (TakesNone s (with_view there p))) (sym slow)
+              (bring_more s there (with_view there p) (read_of (s.cell p)) (view_takes there p)
+              (bring_same s (sought s m p) there (read_of (s.cell p)) (sought_logs s m p) (subst (λ o. BringTakes (sought s m p) o there) sought_word comes.takes))),
         )
 
     slow_derefs : Derefs s m p
@@ -255,7 +276,7 @@ module _ (s : State) (m p : ℕ) (law : Law s) (opened : is_opened s m ≡ true)
         let events : dereference_events s m p ≡ sought_events s m p ++ come_events (sought s m p) p ++ view_events there m p =
         ap (λ b. if b then sought_events s m p ++ come_events (sought s m p) p ++ view_events (come (sought s m p) p) m p else view_events s m p) slow in
         let all = subst AllSlow (sym ends) all_slow in
-        record { leads = subst (λ es. Leads s es (dereferenced s m p)) (sym events) all.0; law = all.1; view = all.2; long = all.3; bytes = all.4; views = all.5; between = all.6 }
+        record { leads = subst (λ es. Leads s es (dereferenced s m p)) (sym events) all.0; law = all.1; view = all.2; long = all.3; bytes = all.4; views = all.5; between = all.6; takes = all.7 }
 
 -- ---- either
 has_place : (o : Option Place) → not (is_some o) ≡ false → (place : Place) × (o ≡ Some place)

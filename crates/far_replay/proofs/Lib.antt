@@ -37,6 +37,7 @@ pub mod Spliced
 pub mod StoreTurns
 pub mod Streams
 pub mod TakingRoom
+pub mod TakingView
 pub mod Tries
 pub mod Turns
 pub mod ViewLaws

@@ -1,5 +1,6 @@
 -- What a trace program's outputs say: the laws over whole texts and whole lists of commands.
-use Rattle.std.specs.Prelude.{◌≡◌, ◌≢◌, ◌↔◌, ℕ, ◌+◌, ◌*◌, ◌/◌, ◌^◌, ◌<◌, ◌≤◌, ◌||◌, true, false, is_some, eqb, sum, codes, decimal, Some, None, Ok, List, [], ◌∷◌, ◌++◌, length, replicate, slice_index, map, All, Contains}
+use Rattle.std.specs.Bool.{MatchBool}
+use Rattle.std.specs.Prelude.{◌≡◌, ◌≢◌, ◌↔◌, ℕ, ◌+◌, ◌*◌, ◌/◌, ◌^◌, ◌<◌, ◌≤◌, ◌||◌, Bool, true, false, is_some, eqb, sum, codes, decimal, Option, Some, None, Ok, List, [], ◌∷◌, ◌++◌, length, replicate, slice_index, map, All, Contains}
 use Rattle.std.specs.List.{flat_map, range_with_len, IsDistinct}
 use Rattle.hex.specs.Hex.{IsBytes}
 use Rattle.far_word.specs.declared.mark.Mark.TheVariants.{Hot}
@@ -174,14 +175,46 @@ ViewsAfter now (Mutator m (Try p)) Done after = ViewsObject now.core after.core 
 ViewsAfter now (Mutator m Close) Done after = ViewsNothing now.core after.core m
 ViewsAfter now c r after = after.core.held ≡ now.core.held
 
--- what a command with its reply takes of the logs: a new object its span, at the end of the log that room says; a dereference nothing, where its pin gives a view; anything else nothing
+-- nothing is taken of the logs; or a span of an object of so many bytes, at the end of the log that room says
+abbrev pub TakesNone : State → State → Type 0
+TakesNone s t = (t.tail ≡ s.tail) × (t.kind ≡ s.kind)
+
+abbrev pub TakesSpan : State → ℕ → Bool → State → Type 0
+TakesSpan s len reserve t = (place : Place) × (room s (size_of len) reserve ≡ Some place) × (t.tail ≡ put s.tail place.log (place.at + size_of len))
+
+-- what it takes to bring an object to where a view may rest, by what its cell says: nothing where it stays; else its span. A near one, which goes where it has EVAC, may take the last
+-- free log; a far one may not
+abbrev pub BringTakes : State → Option PtrWord → State → Type 0
+BringTakes s None t = TakesNone s t
+BringTakes s (Some pointer.Free) t = TakesNone s t
+BringTakes s (Some (pointer.Near len ds place marks)) t = MatchBool marks.evac (TakesSpan s len false t) (TakesNone s t)
+BringTakes s (Some (pointer.Far len ds marks)) t = TakesSpan s len true t
+
+-- there is no room for that
+abbrev pub LacksRoom : State → Option PtrWord → Type 0
+LacksRoom s None = ⊥
+LacksRoom s (Some pointer.Free) = ⊥
+LacksRoom s (Some (pointer.Near len ds place marks)) = (marks.evac ≡ true) × (room s (size_of len) false ≡ None)
+LacksRoom s (Some (pointer.Far len ds marks)) = room s (size_of len) true ≡ None
+
+-- what a dereference takes: nothing where its pin gives a view
+abbrev pub DereferenceTakes : State → ℕ → State → Type 0
+DereferenceTakes s p t = MatchBool (is_slow s p) (BringTakes s (read_of (s.cell p)) t) (TakesNone s t)
+
+-- and where it is refused for want of room: there is none, and it takes nothing
+abbrev pub DereferenceLacks : State → ℕ → State → Type 0
+DereferenceLacks s p t = (is_slow s p ≡ true) × LacksRoom s (read_of (s.cell p)) × TakesNone s t
+
+-- what a command with its reply takes of the logs: a new object its span; a dereference what it takes to bring its object; anything else nothing
 abbrev pub TakesRoom : Moment → Command → Reply → Moment → Type 0
-TakesRoom now (Mutator m (New len ds)) (Pointer p) after = (place : Place) × (room now.core (size_of len) true ≡ Some place)
-    × (after.core.tail ≡ put now.core.tail place.log (place.at + size_of len))
-TakesRoom now (Mutator m (Write p from bytes)) Done after = is_slow now.core p ≡ false → (after.core.tail ≡ now.core.tail) × (after.core.kind ≡ now.core.kind)
-TakesRoom now (Mutator m (Read p from len)) (Data bytes) after = is_slow now.core p ≡ false → (after.core.tail ≡ now.core.tail) × (after.core.kind ≡ now.core.kind)
-TakesRoom now (Mutator m (View p)) Done after = is_slow now.core p ≡ false → (after.core.tail ≡ now.core.tail) × (after.core.kind ≡ now.core.kind)
-TakesRoom now c r after = (after.core.tail ≡ now.core.tail) × (after.core.kind ≡ now.core.kind)
+TakesRoom now (Mutator m (New len ds)) (Pointer p) after = TakesSpan now.core len true after.core
+TakesRoom now (Mutator m (Write p from bytes)) Done after = DereferenceTakes now.core p after.core
+TakesRoom now (Mutator m (Write p from bytes)) (Refused NoRoom) after = DereferenceLacks now.core p after.core
+TakesRoom now (Mutator m (Read p from len)) (Data bytes) after = DereferenceTakes now.core p after.core
+TakesRoom now (Mutator m (Read p from len)) (Refused NoRoom) after = DereferenceLacks now.core p after.core
+TakesRoom now (Mutator m (View p)) Done after = DereferenceTakes now.core p after.core
+TakesRoom now (Mutator m (View p)) (Refused NoRoom) after = DereferenceLacks now.core p after.core
+TakesRoom now c r after = TakesNone now.core after.core
 
 -- a cell has HOT, on what it said before
 abbrev pub IsHotAfter : State → State → ℕ → Type 0
@@ -364,7 +397,7 @@ NewIsMade = (now : Moment) (m len ds : ℕ) (r : Reply) (after : Moment) → m <
     × ((q : ℕ) → m * CELLS ≤ q → q < m * CELLS + CELLS → now.core.cell q ≡ 0 →
     (room now.core (size_of len) true ≡ None → r ≡ Refused NoRoom) × ((place : Place) → room now.core (size_of len) true ≡ Some place → (p : ℕ) × (r ≡ Pointer p)))
 
--- a new object alone takes room, and no more than its span
+-- a new object and one that is brought for a view alone take room, and no more than their span
 abbrev pub CommandsTakeRoom : Type 0
 CommandsTakeRoom = (now : Moment) (c : Command) (r : Reply) (after : Moment) → Law now.core → Commanded now c r after → TakesRoom now c r after
 

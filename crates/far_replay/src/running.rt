@@ -222,12 +222,12 @@ fn answer_text<W: Write>(
 
 /// Reads a text, runs its commands, and writes their replies.
 ///
-/// All room but the heap's is taken before the first command is made. A text that is off the grammar, or whose heap's
-/// shape is out of range, is answered by that one refusal, and nothing else is run.
+/// All room but the heap's and that of a fetch is taken before the first command is made. A text that is off the grammar,
+/// or whose heap's shape is out of range, is answered by that one refusal, and nothing else is run.
 ///
 /// Faults: [`RunFault::Read`] where the reader fails, any error of it; [`RunFault::Memory`] where room is refused: then
-/// nothing was written, but `refused 1` where it was the heap's; [`RunFault::Write`] where the writer fails or takes
-/// nothing: what was written is a proper prefix of the output.
+/// nothing was written, but `refused 1` where it was the heap's, or a prefix of the output where it was a fetch's;
+/// [`RunFault::Write`] where the writer fails or takes nothing: what was written is a proper prefix of the output.
 pub fn run<R: Read, W: Write>(
     alloc: Global,
     reader: &mut R,
