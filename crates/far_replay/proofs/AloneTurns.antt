@@ -1,10 +1,9 @@
 -- What each command's reply tells its mutator, and that it changes nothing of what others know.
-use Rattle.std.proofs.Common.{◌≡◌, ◌≢◌, ℕ, ◌+◌, ◌/◌, ◌<◌, ◌≤◌, Bool, true, false, cond, nat_eq, nat_lt, arith, sym, refl, ap, subst, ◌∙◌, Option, Some, None, List, [], ◌∷◌, ◌++◌, length}
-use Rattle.std.specs.Prelude.{slice_range, not, ◌⊎◌, ◌&&◌, is_some}
+use Rattle.std.proofs.Common.{◌≡◌, ◌≢◌, ℕ, ◌+◌, ◌/◌, ◌<◌, ◌≤◌, Bool, true, false, cond, nat_eq, nat_lt, arith, sym, refl, ap, subst, ◌∙◌, Option, Some, None, List, [], ◌∷◌, length}
+use Rattle.std.specs.Prelude.{not, ◌⊎◌, ◌&&◌, is_some}
 use Rattle.std.proofs.lemmas.Bool.{and_parts, cond_both, eqb-true, eq-eqb, false≢true, ltb-true, not-true, not-false}
 use Rattle.far_word.specs.declared.refused.Refused.{Refused as Refusal}
 use Rattle.far_word.specs.declared.refused.Refused.TheVariants.{NoRoom, Closed, AlreadyOpen, NotHeld, Range, Held, Marked}
-use Rattle.far_word.specs.declared.mark.Marks.{Marks}
 use Rattle.far_word.specs.declared.pointer.Place.{Place}
 use Rattle.far_word.specs.declared.pointer.PtrWord.TheVariants.{Free, Near, Far}
 use Rattle.far_word.specs.declared.sizes.TheConstants.{CELLS}
@@ -12,7 +11,7 @@ use Rattle.far_word.specs.Pointer.{read_of}
 use Rattle.far_word.specs.declared.pointer.PtrWord.{PtrWord}
 use Rattle.far_book.specs.book.Home.{home_of}
 use Rattle.far_core.specs.declared.event.Event.{Event}
-use Rattle.far_core.specs.declared.event.Event.TheVariants.{ReadEpoch as ReadsEpoch, Open as Opens, Pin as Pins, Load as Loads, Close as Closes}
+use Rattle.far_core.specs.declared.event.Event.TheVariants.{ReadEpoch as ReadsEpoch, Open as Opens, Close as Closes}
 use Rattle.far_core.specs.state.Law.{Law, held_place, in_use}
 use Rattle.far_core.specs.state.State.{State, put}
 use Rattle.far_core.specs.events.Step.{is_opened, step_of}

@@ -1,5 +1,5 @@
 -- An object that was asked for is brought to where a view may rest: by which events, and what that leaves.
-use Rattle.std.proofs.Common.{◌≡◌, ◌≢◌, ℕ, ◌+◌, ◌-◌, ◌*◌, ◌^◌, ◌<◌, ◌≤◌, Bool, true, false, cond, refl, sym, ap, subst, ◌∙◌, arith, Option, Some, None, List, [], ◌∷◌, ◌++◌, inl, inr, if◌then◌else◌}
+use Rattle.std.proofs.Common.{◌≡◌, ℕ, ◌+◌, ◌-◌, ◌*◌, ◌^◌, ◌<◌, ◌≤◌, Bool, true, false, cond, refl, sym, ap, subst, ◌∙◌, arith, Option, Some, None, List, ◌++◌, inl, inr, if◌then◌else◌}
 use Rattle.std.specs.Bool.{MatchBool}
 use Rattle.std.proofs.lemmas.Bool.{cases_eq}
 use Rattle.far_word.specs.declared.mark.Marks.{Marks}
@@ -8,7 +8,7 @@ use Rattle.far_word.specs.declared.pointer.PtrWord.{PtrWord}
 use Rattle.far_word.specs.declared.pointer.PtrWord.TheVariants.{Free, Near, Far}
 use Rattle.far_word.specs.declared.sizes.TheConstants.{CELLS, LOG_WORDS}
 use Rattle.far_word.specs.Bytes.{bytes_of}
-use Rattle.far_word.specs.Header.{IsHead, head_word}
+use Rattle.far_word.specs.Header.{IsHead}
 use Rattle.far_word.specs.Pointer.{IsPtr, read_of, word_of}
 use Rattle.far_word.specs.Sizes.{size_of, words_for}
 use Rattle.far_word.proofs.ByteLaws.{bytes_of-same}
@@ -31,7 +31,7 @@ use Rattle.far_core.proofs.Cells.{unused}
 use Rattle.far_core.proofs.Put.{put_both, put_old, put_other}
 use Rattle.far_core.proofs.RoomLaws.{room_right}
 use Rattle.far_book.specs.Quiet.{is_quiet}
-use Rattle.far_book.specs.book.Dealing.{goal_of, has_evac, moved_now}
+use Rattle.far_book.specs.book.Dealing.{goal_of, has_evac}
 use Rattle.far_book.specs.book.Fetching.{far_len}
 use Rattle.far_book.specs.book.Effects.{fetched, fetched_of, moved, moved_of, near_word, stayed, stayed_of, with_written_span}
 use Rattle.far_book.specs.book.Moving.{Copied, MayCopy}

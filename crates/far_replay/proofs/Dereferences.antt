@@ -1,10 +1,9 @@
 -- A dereference that isn't refused, whatever marks its object has and wherever it is: its events, and what it leaves.
-use Rattle.std.proofs.Common.{◌≡◌, ◌≢◌, ℕ, ◌/◌, Bool, true, false, cond, not, nat_eq, refl, sym, ap, subst, ◌∙◌, Option, Some, None, List, [], ◌∷◌, ◌++◌, if◌then◌else◌, is_some}
+use Rattle.std.proofs.Common.{◌≡◌, ℕ, ◌/◌, Bool, true, false, not, nat_eq, refl, sym, ap, subst, ◌∙◌, Option, Some, None, List, [], ◌∷◌, ◌++◌, if◌then◌else◌, is_some}
 use Rattle.std.specs.Bool.{MatchBool}
-use Rattle.std.specs.Prelude.{◌||◌, ◌&&◌}
+use Rattle.std.specs.Prelude.{◌&&◌}
 use Rattle.std.proofs.lemmas.Bool.{and_parts, cond_both, eqb-true, false≢true, not-true}
 use Rattle.far_word.specs.declared.mark.Mark.TheVariants.{Hot, Moved}
-use Rattle.far_word.specs.declared.mark.Marks.{Marks}
 use Rattle.far_word.specs.declared.pointer.Place.{Place}
 use Rattle.far_word.specs.declared.pointer.PtrWord.{PtrWord}
 use Rattle.far_word.specs.declared.pointer.PtrWord.TheVariants.{Free, Near, Far}
@@ -14,11 +13,10 @@ use Rattle.far_word.specs.Mark.{marks_with}
 use Rattle.far_core.specs.declared.event.Event.{Event}
 use Rattle.far_core.specs.declared.event.Event.TheVariants.{Ask as Asks, Pin as Pins}
 use Rattle.far_core.specs.events.Legal.{Legal}
-use Rattle.far_core.specs.events.Naming.{no_marks}
 use Rattle.far_core.specs.events.Step.{Fits, after, after_pin, data_len, is_opened, near_len, place_to_view, with_hold}
 use Rattle.far_core.specs.state.Law.{Law, in_use}
 use Rattle.far_core.specs.state.State.{State, put}
-use Rattle.far_core.specs.world.World.{World, Object}
+use Rattle.far_core.specs.world.World.{World}
 use Rattle.far_core.specs.world.WorldOf.{world_of}
 use Rattle.far_core.proofs.Cells.{map_mark}
 use Rattle.far_core.proofs.Guards.{open_fact}

@@ -1,20 +1,17 @@
 -- The words that are loaded from a view: those of the state before it.
-use Rattle.std.proofs.Common.{◌≡◌, ℕ, zero, suc, ◌+◌, ◌<◌, ◌≤◌, true, refl, ap, subst, ◌∙◌, arith, is_some}
+use Rattle.std.proofs.Common.{◌≡◌, ℕ, zero, suc, ◌+◌, ◌<◌, true, refl, ap, subst, ◌∙◌, arith}
 use Rattle.far_word.specs.Pointer.{read_of}
 use Rattle.far_word.specs.Sizes.{words_for}
 use Rattle.far_core.specs.declared.event.Event.TheVariants.{Load}
 use Rattle.far_core.specs.declared.event.Reply.{Reply}
 use Rattle.far_core.specs.declared.event.Reply.TheVariants.{Word}
-use Rattle.far_core.specs.state.Law.{Law}
 use Rattle.far_core.specs.state.State.{State}
-use Rattle.far_core.specs.events.Step.{step_of, is_legal, is_opened, near_data, near_len, data_len}
+use Rattle.far_core.specs.events.Step.{step_of, is_legal, near_data, data_len}
 use Rattle.far_core.proofs.Owing.{is_test}
 use Rattle.far_replay.specs.EventRows.{after_events, AllSucceed}
-use Rattle.far_replay.specs.Between.{Between}
-use Rattle.far_replay.specs.Events.{view_events, load_events}
-use Rattle.far_replay.specs.Objects.{uses}
+use Rattle.far_replay.specs.Events.{load_events}
 use Rattle.far_replay.proofs.MadeLemmas.{legal_step, load_stays, first_succeeds}
-use Rattle.far_replay.proofs.Views.{Viewed, view_holds}
+use Rattle.far_replay.proofs.Views.{Viewed}
 
 -- loads leave the state
 pub loads_stay : (t : State) (m p first count : ℕ) → after_events t (load_events m p first count) ≡ t

@@ -50,7 +50,7 @@ use Rattle.far_word.specs.declared.pointer.PtrWord.{PtrWord}
 use Rattle.far_word.specs.declared.pointer.PtrWord.TheVariants.{Free, Near, Far}
 use Rattle.far_word.specs.Pointer.{read_of}
 use Rattle.far_replay.specs.Stays.{MayGain, CellStays, MayMark, Stays}
-use Rattle.far_replay.specs.Turn.{turn_effect, refused_effect, effect, causes, first_cause, refusal, unless, turn_reply, reply_to, log_line, pointer_reply}
+use Rattle.far_replay.specs.Turn.{turn_effect, refused_effect, causes, first_cause, refusal, unless, turn_reply, reply_to, log_line, pointer_reply}
 use Rattle.far_replay.proofs.AloneNew.{new_run, is_structure, is_length}
 use Rattle.far_replay.proofs.AloneFirst.{alone_first}
 use Rattle.far_replay.proofs.Answering.{answers_all}

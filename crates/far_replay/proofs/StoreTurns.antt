@@ -10,7 +10,7 @@ use Rattle.far_core.specs.state.Law.{Law}
 use Rattle.far_core.specs.events.Legal.{Legal, HoldsObject}
 use Rattle.far_core.specs.state.State.{State, put}
 use Rattle.far_word.specs.Pointer.{read_of}
-use Rattle.far_core.specs.events.Step.{is_legal, after, data_word, near_data}
+use Rattle.far_core.specs.events.Step.{is_legal, after, near_data}
 use Rattle.far_core.proofs.Keeps.{keeps}
 use Rattle.far_core.proofs.Owing.{is_test}
 use Rattle.far_replay.specs.Effects.{with_row}

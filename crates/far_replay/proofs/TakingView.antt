@@ -1,10 +1,8 @@
 -- What a dereference takes of the logs.
-use Rattle.std.proofs.Common.{◌≡◌, ℕ, ◌+◌, Bool, true, false, cond, refl, sym, ap, subst, ◌∙◌, Option, Some, None, if◌then◌else◌, is_some}
-use Rattle.std.specs.Prelude.{not}
+use Rattle.std.proofs.Common.{◌≡◌, ℕ, ◌+◌, Bool, true, false, cond, refl, sym, ap, ◌∙◌, Option, Some, None, is_some}
 use Rattle.std.specs.Bool.{MatchBool}
-use Rattle.std.proofs.lemmas.Bool.{cond_both, false≢true, true≢false}
+use Rattle.std.proofs.lemmas.Bool.{cond_both, false≢true}
 use Rattle.far_word.specs.declared.mark.Mark.TheVariants.{Hot, Moved}
-use Rattle.far_word.specs.declared.mark.Marks.{Marks}
 use Rattle.far_word.specs.declared.pointer.Place.{Place}
 use Rattle.far_word.specs.declared.pointer.PtrWord.{PtrWord}
 use Rattle.far_word.specs.declared.pointer.PtrWord.TheVariants.{Free, Near, Far}
@@ -18,9 +16,9 @@ use Rattle.far_core.proofs.Cells.{map_mark}
 use Rattle.far_core.specs.state.State.{State, put}
 use Rattle.far_book.specs.book.Dealing.{goal_of}
 use Rattle.far_book.specs.book.Fetching.{far_len}
-use Rattle.far_replay.specs.Dereference.{come, comes_to, comes_to_of, dereferenced, has_no_room, sought, sought_of}
+use Rattle.far_replay.specs.Dereference.{comes_to, comes_to_of, sought, sought_of}
 use Rattle.far_replay.specs.Effects.{is_slow, with_view}
-use Rattle.far_replay.specs.Headline.{BringTakes, DereferenceLacks, DereferenceTakes, LacksRoom, TakesNone, TakesSpan}
+use Rattle.far_replay.specs.Headline.{BringTakes, DereferenceTakes, LacksRoom, TakesNone, TakesSpan}
 
 -- a view takes nothing
 pub view_takes : (s : State) (p : ℕ) → TakesNone s (with_view s p)

@@ -1,7 +1,7 @@
 -- The events of each command succeed, and keep the law and what holds between commands.
 use Rattle.std.proofs.Common.{◌≡◌, ◌≢◌, ℕ, ◌+◌, ◌-◌, ◌*◌, ◌/◌, ◌%◌, ◌^◌, ◌<◌, ◌≤◌, ◌⊎◌, Bool, true, false, cond, not, ◌&&◌, nat_lt, nat_le, nat_eq, refl, sym, ap, subst, ◌∙◌, arith, Option, Some, None, List, [], ◌∷◌, ◌++◌, length, get_or, is_some, if◌then◌else◌, inl, inr, Result, Ok, Err}
 use Rattle.std.specs.Prelude.{OnOk}
-use Rattle.std.proofs.lemmas.Bool.{and_parts, cond_both, ltb-true, true≢false}
+use Rattle.std.proofs.lemmas.Bool.{and_parts, ltb-true}
 use Rattle.std.proofs.lemmas.Bool.Decides.{nat_tests}
 use Rattle.far_word.specs.declared.mark.Marks.{Marks}
 use Rattle.far_word.specs.declared.pointer.Place.{Place}
@@ -9,7 +9,7 @@ use Rattle.far_word.specs.declared.pointer.PtrWord.TheVariants.{Near}
 use Rattle.far_word.specs.declared.refused.Refused.{Refused as Refusal}
 use Rattle.far_word.specs.declared.refused.Refused.TheVariants.{NoRoom, NoPointer, Length, Closed, AlreadyOpen, NotHeld, Range, Held, Marked}
 use Rattle.far_word.specs.declared.sizes.TheConstants.{CELLS, LOG_WORDS, LONGEST}
-use Rattle.far_word.specs.Bytes.{bytes_of, packed_word}
+use Rattle.far_word.specs.Bytes.{packed_word}
 use Rattle.far_word.specs.Header.{head_word}
 use Rattle.far_word.specs.Pointer.{IsPtr, read_of}
 use Rattle.far_word.specs.Sizes.{size_of, words_for}
@@ -17,7 +17,7 @@ use Rattle.far_word.proofs.ByteLaws.{bytes_of-small, length-bytes_of}
 use Rattle.far_word.proofs.HeaderLaws.{head_fits}
 use Rattle.far_word.proofs.PointerLaws.{read_back, word_fits}
 use Rattle.far_core.specs.declared.event.Event.{Event}
-use Rattle.far_core.specs.declared.event.Event.TheVariants.{ReadEpoch as ReadsEpoch, Open as Opens, Pin as Pins, Load as Loads, Store as Stores, Close as Closes, Adopt as Adopts, Put as Puts, Name as Names}
+use Rattle.far_core.specs.declared.event.Event.TheVariants.{ReadEpoch as ReadsEpoch, Open as Opens, Load as Loads, Store as Stores, Close as Closes, Adopt as Adopts, Put as Puts, Name as Names}
 use Rattle.far_core.specs.declared.event.Kind.TheVariants as kinds
 use Rattle.far_core.specs.events.Legal.{IsNext}
 use Rattle.far_core.specs.laws.Rooms.{IsRoom, RoomIs}
@@ -26,7 +26,6 @@ use Rattle.far_core.specs.state.Room.{room}
 use Rattle.far_core.specs.state.State.{State, put, addr}
 use Rattle.far_core.specs.events.Step.{Fits, is_legal, is_opened, data_len, near_data, after_close, scope_word_of, with_span}
 use Rattle.far_core.proofs.Bounds.{some_of}
-use Rattle.far_core.proofs.KeepOwner.{nonzero}
 use Rattle.far_core.proofs.KeepPlace.{header}
 use Rattle.far_core.proofs.Owing.{is_test}
 use Rattle.far_core.proofs.RoomLaws.{room_right}
@@ -45,7 +44,7 @@ use Rattle.far_text.specs.Written.{WritesBytes}
 use Rattle.far_replay.proofs.Drops.{unheld_is, drop_succeeds, drop_ends, drop_law, drop_fits, drop_named}
 use Rattle.far_replay.proofs.LoadWords.{loads_stay, load_legal, loads_succeed}
 use Rattle.far_replay.proofs.Lowest.{lowest_cell_is}
-use Rattle.far_replay.proofs.MadeLemmas.{made-append, AllSucceed-append, made_first, first_succeeds, made_law, load_stays}
+use Rattle.far_replay.proofs.MadeLemmas.{made_first, first_succeeds, made_law, load_stays}
 use Rattle.far_replay.proofs.NewTurns.{new_succeeds, new_between, new_end, object_is}
 use Rattle.far_text.proofs.Each.{Each, Each-append, Each-row}
 use Rattle.far_replay.proofs.Spliced.{AreBytes, with_range_bytes, length-with_range, packed_padded, packed_wide}

@@ -1,5 +1,5 @@
 -- What a view of an object changes, and what it leaves.
-use Rattle.std.proofs.Common.{◌≡◌, ◌≢◌, ℕ, ◌+◌, ◌/◌, ◌^◌, true, false, refl, sym, ap, subst, ◌∙◌, arith, [], ◌∷◌, Option, Some, None, bit_or, if◌then◌else◌, is_some, not, ◌||◌, ◌&&◌, Bool, inl, inr}
+use Rattle.std.proofs.Common.{◌≡◌, ◌≢◌, ℕ, ◌/◌, ◌^◌, true, false, refl, sym, ap, subst, ◌∙◌, arith, [], ◌∷◌, Option, Some, None, bit_or, if◌then◌else◌, is_some, not, ◌||◌, ◌&&◌, Bool, inl, inr}
 use Rattle.std.proofs.lemmas.Bool.{cases_eq, cond_both, false≢true}
 use Rattle.std.proofs.lemmas.Bool.Decides.{nat_tests}
 use Rattle.far_word.specs.declared.mark.Mark.TheVariants.{Hot}

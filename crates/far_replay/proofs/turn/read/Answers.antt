@@ -1,7 +1,6 @@
-use Rattle.std.proofs.Common.{refl}
 use Rattle.far_replay.specs.Moment.{state_in}
 use Rattle.far_replay.specs.Outcome.{reply_by}
-use Rattle.far_replay.proofs.RangeTurns.{read_made, read_refusal, read_refused, read_told, viewed_range}
+use Rattle.far_replay.proofs.RangeTurns.{read_made, read_told, viewed_range}
 use Rattle.far_replay.proofs.turn.read.Goals as goal
 
 pub read_viewed-requires : goal.read_viewed-requires

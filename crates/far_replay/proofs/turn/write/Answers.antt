@@ -1,5 +1,5 @@
 use Rattle.far_replay.specs.Moment.{state_in}
-use Rattle.far_replay.proofs.RangeTurns.{viewed_range, write_made, write_told}
+use Rattle.far_replay.proofs.RangeTurns.{viewed_range, write_made}
 use Rattle.far_replay.proofs.turn.write.Goals as goal
 
 pub write_viewed-requires-clause-viewed : goal.write_viewed-requires-clause-viewed
