@@ -39,7 +39,7 @@ use Rattle.far_replay.proofs.Leading.{Leads}
 use Rattle.far_replay.proofs.Turns.{Access, led, read_leads, stores_lead, write_leads}
 use Rattle.far_replay.proofs.Views.{fast_seen, slow_parts, slow_view, view_is}
 use Rattle.far_replay.proofs.Spliced.{AreBytes, packed_wide, with_range_bytes}
-use Rattle.far_replay.proofs.AloneRuns.{views_of, SameBytes, Scoped, own_same, own_other, own_here, own_scope, own_scope_other, quiet_run, over_all, stores_run, open_step, close_step}
+use Rattle.far_replay.proofs.AloneRuns.{views_of, SameBytes, bytes_same, Scoped, own_same, own_other, own_here, own_scope, own_scope_other, quiet_run, over_all, stores_run, open_step, close_step}
 use Rattle.far_replay.proofs.AloneStates.{not_outside, open_world, shut_world, range_in, range_out, object_viewed, own_used, own_unused, length-data, data_small}
 
 -- the reply tells the mutator what it says, and no other mutator learns anything
@@ -106,11 +106,11 @@ pub turns_epoch : (s : State) (k : ℕ) → Law s → Turns s k (Mutator k Epoch
 turns_epoch s k law = two_causes (Turns s k (Mutator k Epoch)) (not (nat_lt k s.mutators)) (is_opened s k) Range AlreadyOpen
     (λ off _. (λ within. absurd (not_outside k s.mutators within off), λ m ne. refl))
     (λ _ opened _. (λ within. (open_world s k opened, refl), λ m ne. refl))
-    (λ _ shut ok. let run = quiet_run s (ReadsEpoch k ∷ []) law (tt, tt) in
-    let u : State = after_events s (ReadsEpoch k ∷ []) in
+    (λ _ shut ok. let u : State = after_events s (ReadsEpoch k ∷ []) in
+    let bytes = bytes_same (world_of s) (world_of u) (quiet_run s (ReadsEpoch k ∷ []) law (tt, tt)).0 in
     let same : u.held ≡ s.held = row_stays s (ReadsEpoch k ∷ []) (reads k) in (
-      λ within. (shut_world s k within shut, own_same (world_of s) (world_of u) k (views_of (world_of s) k) run.0 (views_still s u k same)),
-      λ m ne. own_same (world_of s) (world_of u) m (views_of (world_of s) m) run.0 (views_still s u m same),
+      λ within. (shut_world s k within shut, own_same (world_of s) (world_of u) k (views_of (world_of s) k) bytes (views_still s u k same)),
+      λ m ne. own_same (world_of s) (world_of u) m (views_of (world_of s) m) bytes (views_still s u m same),
     ))
 
 pub turns_close : (s : State) (k : ℕ) → Law s → Turns s k (Mutator k Close) (refusal (moment_of s) (Mutator k Close))
