@@ -12,9 +12,10 @@ use Rattle.far_core.proofs.Leaving.{events_leave}
 use Rattle.far_replay.specs.Moment.{Moment, moment_of}
 use Rattle.far_replay.specs.Alone.{Own, Knows, Alone, Learns, own_of, is_by, speaker}
 use Rattle.far_replay.specs.Answers.{Answered, Commanded, IsMoment}
+use Rattle.far_replay.specs.Between.{Between}
 use Rattle.far_text.specs.Command.{Command, New, Open, Write, Read, Close, Where, Drop, View, Try, Epoch, Mutator, Book}
 use Rattle.far_text.specs.Written.{WritesBytes, AllWriteBytes}
-use Rattle.far_replay.specs.EventRows.{after_events, AllAtHand}
+use Rattle.far_replay.specs.EventRows.{after_events}
 use Rattle.far_replay.specs.Reply.{Reply}
 use Rattle.far_replay.specs.Events.{events_for}
 use Rattle.far_replay.specs.Turn.{refusal, unless}
@@ -46,25 +47,25 @@ none_made : (s : State) (o : Option Refusal) → after_events s (unless o (λ _.
 none_made s None = refl
 none_made s (Some why) = refl
 
-learns : (s : State) (m : ℕ) (c : Command) (r : Reply) (t : State) → Law s → AllAtHand s → m < s.mutators → WritesBytes c → IsCarriedOut s c r t → Learns s m c r t
-learns s m (Mutator k (New len ds)) r t law hand within small h = at_speaker s k m (Mutator k (New len ds)) r t (nat_eq k m) refl within (teaches s k (Mutator k (New len ds)) r t h (turns_new s k len ds law))
-learns s m (Mutator k Open) r t law hand within small h = at_speaker s k m (Mutator k Open) r t (nat_eq k m) refl within (teaches s k (Mutator k Open) r t h (turns_open s k law))
-learns s m (Mutator k (Write p from bytes)) r t law hand within small h =
-    at_speaker s k m (Mutator k (Write p from bytes)) r t (nat_eq k m) refl within (teaches s k (Mutator k (Write p from bytes)) r t h (turns_write s k p from bytes law hand small))
-learns s m (Mutator k (Read p from len)) r t law hand within small h =
-    at_speaker s k m (Mutator k (Read p from len)) r t (nat_eq k m) refl within (teaches s k (Mutator k (Read p from len)) r t h (turns_read s k p from len law hand))
-learns s m (Mutator k Close) r t law hand within small h = at_speaker s k m (Mutator k Close) r t (nat_eq k m) refl within (teaches s k (Mutator k Close) r t h (turns_close s k law))
-learns s m (Mutator k (Where p)) r t law hand within small h = at_speaker s k m (Mutator k (Where p)) r t (nat_eq k m) refl within (teaches s k (Mutator k (Where p)) r t h (turns_where s k p law hand))
-learns s m (Mutator k (Drop p)) r t law hand within small h = at_speaker s k m (Mutator k (Drop p)) r t (nat_eq k m) refl within (teaches s k (Mutator k (Drop p)) r t h (turns_drop s k p law hand))
-learns s m (Mutator k (View p)) r t law hand within small h = at_speaker s k m (Mutator k (View p)) r t (nat_eq k m) refl within (teaches s k (Mutator k (View p)) r t h (turns_view s k p law hand))
-learns s m (Mutator k (Try p)) r t law hand within small h = at_speaker s k m (Mutator k (Try p)) r t (nat_eq k m) refl within (teaches s k (Mutator k (Try p)) r t h (turns_try s k p law hand))
-learns s m (Mutator k Epoch) r t law hand within small h = at_speaker s k m (Mutator k Epoch) r t (nat_eq k m) refl within (teaches s k (Mutator k Epoch) r t h (turns_epoch s k law))
-learns s m (Book inquiry) r t law hand within small h = ap (λ x. own_of (world_of x) m) (h.state ∙ none_made s (refusal (moment_of s) (Book inquiry)))
+learns : (s : State) (m : ℕ) (c : Command) (r : Reply) (t : State) → Law s → Between s → m < s.mutators → WritesBytes c → IsCarriedOut s c r t → Learns s m c r t
+learns s m (Mutator k (New len ds)) r t law between within small h = at_speaker s k m (Mutator k (New len ds)) r t (nat_eq k m) refl within (teaches s k (Mutator k (New len ds)) r t h (turns_new s k len ds law))
+learns s m (Mutator k Open) r t law between within small h = at_speaker s k m (Mutator k Open) r t (nat_eq k m) refl within (teaches s k (Mutator k Open) r t h (turns_open s k law))
+learns s m (Mutator k (Write p from bytes)) r t law between within small h =
+    at_speaker s k m (Mutator k (Write p from bytes)) r t (nat_eq k m) refl within (teaches s k (Mutator k (Write p from bytes)) r t h (turns_write s k p from bytes law between small))
+learns s m (Mutator k (Read p from len)) r t law between within small h =
+    at_speaker s k m (Mutator k (Read p from len)) r t (nat_eq k m) refl within (teaches s k (Mutator k (Read p from len)) r t h (turns_read s k p from len law between))
+learns s m (Mutator k Close) r t law between within small h = at_speaker s k m (Mutator k Close) r t (nat_eq k m) refl within (teaches s k (Mutator k Close) r t h (turns_close s k law))
+learns s m (Mutator k (Where p)) r t law between within small h = at_speaker s k m (Mutator k (Where p)) r t (nat_eq k m) refl within (teaches s k (Mutator k (Where p)) r t h (turns_where s k p law between))
+learns s m (Mutator k (Drop p)) r t law between within small h = at_speaker s k m (Mutator k (Drop p)) r t (nat_eq k m) refl within (teaches s k (Mutator k (Drop p)) r t h (turns_drop s k p law between))
+learns s m (Mutator k (View p)) r t law between within small h = at_speaker s k m (Mutator k (View p)) r t (nat_eq k m) refl within (teaches s k (Mutator k (View p)) r t h (turns_view s k p law between))
+learns s m (Mutator k (Try p)) r t law between within small h = at_speaker s k m (Mutator k (Try p)) r t (nat_eq k m) refl within (teaches s k (Mutator k (Try p)) r t h (turns_try s k p law between))
+learns s m (Mutator k Epoch) r t law between within small h = at_speaker s k m (Mutator k Epoch) r t (nat_eq k m) refl within (teaches s k (Mutator k Epoch) r t h (turns_epoch s k law))
+learns s m (Book inquiry) r t law between within small h = ap (λ x. own_of (world_of x) m) (h.state ∙ none_made s (refusal (moment_of s) (Book inquiry)))
 
 pub mutators_learn : (now : Moment) (c : Command) (r : Reply) (next : Moment) (m : ℕ) → IsMoment now → WritesBytes c → m < now.core.mutators → Commanded now c r next → Learns now.core m c r next.core
 mutators_learn now c r next m is bytes within h =
     let lasts = moment_lasts now is in
-    learns now.core m c r next.core lasts.law lasts.between.at_hand within bytes (command_carried now c r next lasts bytes h)
+    learns now.core m c r next.core lasts.law lasts.between within bytes (command_carried now c r next lasts bytes h)
 
 -- ---- all commands
 -- one line before others
@@ -84,5 +85,5 @@ alone now (c ∷ cs) (r ∷ rs) [] m lasts within small h = absurd h
 alone now (c ∷ cs) (r ∷ rs) (next ∷ xs) m lasts within small h =
     let x = command_carried now c r next lasts small.0 h.0 in
     let same : next.core.mutators ≡ now.core.mutators = ap (λ (t : State). t.mutators) x.state ∙ made_mutators now.core (events_for now c) in
-    one_more m (own_of (world_of now.core) m) (own_of (world_of next.core) m) c r cs rs (is_by m (speaker c)) (learns now.core m c r next.core lasts.law lasts.between.at_hand within small.0 x)
+    one_more m (own_of (world_of now.core) m) (own_of (world_of next.core) m) c r cs rs (is_by m (speaker c)) (learns now.core m c r next.core lasts.law lasts.between within small.0 x)
     (alone next cs rs xs m (still_lasts now c r next lasts small.0 h.0) (subst (λ n. m < n) (sym same) within) small.1 h.1)

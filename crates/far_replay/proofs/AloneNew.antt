@@ -1,5 +1,5 @@
 -- What a new object tells its mutator.
-use Rattle.std.proofs.Common.{◌≡◌, ℕ, ◌+◌, ◌/◌, ◌<◌, ◌≤◌, ◌^◌, true, false, cond, nat_lt, nat_le, arith, sym, refl, ap, ◌∙◌, Option, Some, None, List, [], ◌∷◌, ◌++◌, inl, inr}
+use Rattle.std.proofs.Common.{◌≡◌, ℕ, ◌+◌, ◌/◌, ◌<◌, ◌≤◌, ◌^◌, true, false, cond, nat_lt, nat_le, arith, sym, refl, ap, subst, ◌∙◌, Option, Some, None, List, [], ◌∷◌, ◌++◌, inl, inr}
 use Rattle.std.specs.Prelude.{not, ◌&&◌, ◌⊎◌, is_some, replicate}
 use Rattle.std.proofs.lemmas.Bool.{true≢false, cases_eq, cases_lt, eq-eqb}
 use Rattle.std.proofs.lemmas.Bool.Decides.{nat_tests}
@@ -27,18 +27,19 @@ use Rattle.far_core.proofs.Keeps.{step_keeps}
 use Rattle.far_replay.specs.Moment.{moment_of}
 use Rattle.far_replay.specs.Alone.{own_of, bytes_in_world, HasLeft}
 use Rattle.far_text.specs.Command.{New, Mutator}
-use Rattle.far_replay.specs.EventRows.{after_events}
+use Rattle.far_replay.specs.EventRows.{after_events, AllSucceed}
 use Rattle.far_replay.specs.Reply.{Refused}
 use Rattle.far_replay.specs.Events.{new_events, zero_puts}
 use Rattle.far_replay.specs.Objects.{lowest_cell}
 use Rattle.far_replay.specs.Effects.{near_word}
 use Rattle.far_replay.specs.Turn.{refusal, first_cause, unless, pointer_reply}
 use Rattle.far_text.proofs.Each.{Each-row}
-use Rattle.far_replay.proofs.MadeLemmas.{made-append, AllSucceed-parts, AllComeToPass-parts, Carries}
+use Rattle.far_replay.proofs.MadeLemmas.{made-append, AllSucceed-parts, AllComeToPass-parts}
 use Rattle.far_replay.proofs.AloneViews.{views_still}
 use Rattle.far_replay.proofs.ViewLaws.{row_stays, news}
 use Rattle.far_replay.proofs.AloneRuns.{views_of, Same, own_other, own_here, IsQuiet, quiet_run, name_step, new_object, makes_object, was_legal}
-use Rattle.far_replay.proofs.AloneStates.{lowest_own, lowest_unknown}
+use Rattle.far_replay.proofs.AloneStates.{lowest_free, lowest_own, lowest_unknown}
+use Rattle.far_replay.proofs.Coming.{new_comes}
 use Rattle.far_replay.proofs.AloneTurns.{Teaches, Turns, four_causes}
 
 -- ---- the words of a new object
@@ -94,12 +95,12 @@ module _ (s : State) (k len ds p : ℕ) (place : Place) (law : Law s) (within : 
       (run.0.0, run.0.1, run.1)
 
   -- the object that the events make
-  pub new_run : Carries s (puts ++ names) →
+  pub new_run : s.cell p ≡ 0 → AllSucceed s (puts ++ names) →
       (o : Object) × ((world_of s).object p ≡ None) × ((world_of (after_events s (puts ++ names))).object ≡ put (world_of s).object p (Some o))
       × ((world_of (after_events s (puts ++ names))).opened ≡ (world_of s).opened) × (o.bytes ≡ replicate len 0) × (o ≡ new_object p len ds place.log)
-  new_run ok =
-      let parts = AllSucceed-parts s puts names ok.succeed in
-      let comes = AllComeToPass-parts s puts names ok.come in
+  new_run free ok =
+      let parts = AllSucceed-parts s puts names ok in
+      let comes = AllComeToPass-parts s puts names (new_comes s k len ds (Some p) (Some place) (λ q e. let same : p ≡ q = cc in subst (λ x. s.cell x ≡ 0) same free)) in
       let legal = was_legal s (Puts place.log place.at (head_word p len ds)) law parts.0.0 in
       let first = put_run in
       let word : near_word len ds place < 2 ^ 64 = new_fits len ds place (omega (arith, legal.0, law.shape.few_logs)) legal.3 most structure in
@@ -117,9 +118,9 @@ module _ (s : State) (k len ds p : ℕ) (place : Place) (law : Law s) (within : 
       (new_object p named.0 named.1 named.2.log, between.0, between.1, between.2, ap (λ n. replicate n 0) long, whole)
 
   -- a new object that isn't turned down
-  makes_new : 0 < len → Carries s (new_events k len ds (Some p) (Some place)) → Teaches s k (Mutator k (New len ds)) (pointer_reply (Some p)) (after_events s (new_events k len ds (Some p) (Some place)))
-  makes_new some ok =
-      let run = new_run ok in
+  makes_new : 0 < len → s.cell p ≡ 0 → AllSucceed s (new_events k len ds (Some p) (Some place)) → Teaches s k (Mutator k (New len ds)) (pointer_reply (Some p)) (after_events s (new_events k len ds (Some p) (Some place)))
+  makes_new some free ok =
+      let run = new_run free ok in
       let u : State = after_events s (new_events k len ds (Some p) (Some place)) in
       let t : World = world_of u in
       let same : u.held ≡ s.held = row_stays s (new_events k len ds (Some p) (Some place)) (news k len ds (Some p) (Some place)) in
@@ -152,12 +153,12 @@ one_left s k (Some p) e h = (p, lowest_own s k p e, lowest_unknown s k p e)
 module _ (s : State) (k len ds : ℕ) (law : Law s) where
   -- with this cell and this place, turned down for this cause or for none
   abbrev NewTurns : Option ℕ → Option Place → Option Refusal → Type 0
-  NewTurns o r x = Carries s (unless x (λ _. []) (new_events k len ds o r)) → Teaches s k (Mutator k (New len ds)) (unless x Refused (pointer_reply o)) (after_events s (unless x (λ _. []) (new_events k len ds o r)))
+  NewTurns o r x = AllSucceed s (unless x (λ _. []) (new_events k len ds o r)) → Teaches s k (Mutator k (New len ds)) (unless x Refused (pointer_reply o)) (after_events s (unless x (λ _. []) (new_events k len ds o r)))
 
   at_cell : (o : Option ℕ) (r : Option Place) → lowest_cell s k ≡ o → k < s.mutators → ds < 256 → 0 < len → len ≤ LONGEST → not (is_some o) ≡ false → not (is_some r) ≡ false → NewTurns o r None
   at_cell None r e within structure some most h i ok = absurd (true≢false h)
   at_cell (Some p) None e within structure some most h i ok = absurd (true≢false i)
-  at_cell (Some p) (Some place) e within structure some most h i ok = makes_new s k len ds p place law within (lowest_own s k p e) most structure some ok
+  at_cell (Some p) (Some place) e within structure some most h i ok = makes_new s k len ds p place law within (lowest_own s k p e) most structure some (lowest_free s k p e) ok
 
   at_causes : (o : Option ℕ) (r : Option Place) → lowest_cell s k ≡ o →
       NewTurns o r (first_cause ((not (nat_lt k s.mutators && nat_lt ds 256), Range) ∷ (not (nat_lt 0 len && nat_le len LONGEST), Length) ∷ (not (is_some o), NoPointer) ∷ (not (is_some r), NoRoom) ∷ []))

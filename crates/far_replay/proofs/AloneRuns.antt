@@ -1,6 +1,6 @@
 -- What the world does at a list of events.
 use Rattle.std.proofs.Common.{◌≡◌, ◌≢◌, ℕ, zero, suc, ◌+◌, ◌/◌, ◌<◌, ◌^◌, Bool, true, false, cond, nat_eq, sym, refl, ap, ◌∙◌, Option, Some, None, List, [], ◌∷◌, inl, inr}
-use Rattle.std.specs.Prelude.{replicate}
+use Rattle.std.specs.Prelude.{is_some, replicate}
 use Rattle.std.proofs.lemmas.Bool.{cases_eq, cond_both, eq-eqb, false≢true, ne_eqb}
 use mathlib.Core.Path.{fun_ext}
 use Rattle.far_word.specs.Bytes.{packed_word, with_word}
@@ -34,7 +34,7 @@ use Rattle.far_core.proofs.Put.{put_same, put_other, put_old}
 use Rattle.far_core.proofs.Steps.{step_does}
 use Rattle.far_replay.specs.Alone.{Own, own_of, bytes_in_world}
 use Rattle.far_replay.specs.EventRows.{after_events, Succeeds, AllSucceed, ComesToPass}
-use Rattle.far_replay.specs.Events.{store_events}
+use Rattle.far_replay.specs.Events.{store_events, view_events}
 use Rattle.far_text.proofs.Each.{Each}
 
 -- ---- what a mutator knows of a world
@@ -49,8 +49,19 @@ views_of w m = (own_of w m).viewed
 abbrev pub Same : World → World → Type 0
 Same w v = (v.object ≡ w.object) × (v.opened ≡ w.opened)
 
-pub own_same : (w v : World) (m : ℕ) (views : ℕ → Bool) → Same w v → views_of v m ≡ views → own_of v m ≡ record (own_of w m) { viewed = views }
-own_same w v m views h e = Own-ext (own_of v m) (record (own_of w m) { viewed = views }) (ap (λ (f : ℕ → Bool). f m) h.1) (ap {B = ℕ → Option (List ℕ)} (λ (f : ℕ → Option Object) p. cond (nat_eq (p / CELLS) m) (bytes_in_world (f p)) None) h.0) e
+-- the bytes of each object, and the open scopes, are
+abbrev pub SameBytes : World → World → Type 0
+SameBytes w v = ((q : ℕ) → bytes_in_world (v.object q) ≡ bytes_in_world (w.object q)) × (v.opened ≡ w.opened)
+
+pub bytes_same : (w v : World) → Same w v → SameBytes w v
+bytes_same w v h = ((λ q. ap (λ (f : ℕ → Option Object). bytes_in_world (f q)) h.0), h.1)
+
+pub bytes_both : (w v z : World) → SameBytes w v → SameBytes v z → SameBytes w z
+bytes_both w v z a b = ((λ q. b.0 q ∙ a.0 q), b.1 ∙ a.1)
+
+pub own_same : (w v : World) (m : ℕ) (views : ℕ → Bool) → SameBytes w v → views_of v m ≡ views → own_of v m ≡ record (own_of w m) { viewed = views }
+own_same w v m views h e = Own-ext (own_of v m) (record (own_of w m) { viewed = views }) (ap (λ (f : ℕ → Bool). f m) h.1)
+    (fun_ext (λ q. ap (λ (o : Option (List ℕ)). cond (nat_eq (q / CELLS) m) o None) (h.0 q))) e
 
 -- an object of another mutator is changed
 pub own_other : (w v : World) (m p : ℕ) (x : Object) → v.object ≡ put w.object p (Some x) → v.opened ≡ w.opened → p / CELLS ≢ m → views_of v m ≡ views_of w m → own_of v m ≡ own_of w m
@@ -166,6 +177,10 @@ quiet_run s (e ∷ es) law q =
     let one : Same (world_of s) (world_of (step_of s e).0) = quiet_happens (world_of s) (world_of (step_of s e).0) e (step_of s e).1 q.0 (step_does s e law (quiet_fits e q.0)) in
     let rest = quiet_run (step_of s e).0 es (step_keeps s e law (quiet_fits e q.0)) q.1 in
     ((rest.0.0 ∙ one.0, rest.0.1 ∙ one.1), rest.1)
+
+-- a view is quiet
+pub quiet_view : (s : State) (k p : ℕ) → Quiet (view_events s k p)
+quiet_view s k p = cond_both (is_some (s.held p)) [] (Pin k p ∷ []) Quiet (λ _. tt) (λ _. (tt, tt))
 
 -- ---- stores
 -- words from first on of some bytes in the place of those of others

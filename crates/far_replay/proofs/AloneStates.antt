@@ -1,25 +1,25 @@
 -- What a mutator knows of a state: its scope, and the bytes of the pointers that it uses.
-use Rattle.std.proofs.Common.{◌≡◌, ℕ, ◌+◌, ◌/◌, ◌<◌, ◌≤◌, true, false, cond, nat_eq, nat_lt, arith, sym, refl, ap, ◌∙◌, Option, Some, None, List, length, inl, inr}
+use Rattle.std.proofs.Common.{◌≡◌, ◌≢◌, ℕ, ◌+◌, ◌/◌, ◌<◌, ◌≤◌, true, false, cond, nat_eq, nat_lt, arith, sym, refl, ap, ◌∙◌, Option, Some, None, List, length, inl, inr}
 use Rattle.std.specs.Prelude.{not, ◌⊎◌}
-use Rattle.std.proofs.lemmas.Bool.{and_parts, and_cases, cases_eq, cond_both, true≢false, cases_lt}
+use Rattle.std.proofs.lemmas.Bool.{and_parts, and_cases, cases_eq, cond_both, false≢true, not-true, true≢false, cases_lt}
 use Rattle.std.proofs.lemmas.Bool.Decides.{nat_tests}
+use Rattle.far_word.specs.declared.mark.Marks.{Marks}
+use Rattle.far_word.specs.declared.pointer.Place.{Place}
 use Rattle.far_word.specs.declared.pointer.PtrWord.{PtrWord}
+use Rattle.far_word.specs.declared.pointer.PtrWord.TheVariants.{Free, Near, Far}
 use Rattle.far_word.specs.declared.sizes.TheConstants.{CELLS}
 use Rattle.far_word.specs.Bytes.{bytes_of}
 use Rattle.far_word.specs.Pointer.{read_of}
 use Rattle.far_word.proofs.ByteLaws.{length-bytes_of, bytes_of-small}
-use Rattle.far_core.specs.state.Law.{Law}
+use Rattle.far_core.specs.state.Law.{Law, in_use}
 use Rattle.far_core.specs.state.State.{State, addr}
 use Rattle.far_core.specs.events.Step.{is_opened, near_data, near_len, data_len}
-use Rattle.far_core.specs.world.World.{Object, Group}
+use Rattle.far_core.specs.world.World.{Object, Group, FarSide}
 use Rattle.far_core.specs.world.WorldOf.{world_of, object_of}
-use Rattle.far_core.proofs.Cells.{unused}
-use Rattle.far_core.proofs.KeepOwner.{nonzero}
+use Rattle.far_core.proofs.Cells.{held_near, unused}
 use Rattle.far_replay.specs.Alone.{own_of, bytes_in_world}
-use Rattle.far_replay.specs.EventRows.{AllAtHand, AtHand}
-use Rattle.far_replay.specs.Objects.{uses, object_len, data_of, is_range, lowest_cell}
+use Rattle.far_replay.specs.Objects.{uses, object_len, named_len, data_of, is_range, lowest_cell}
 use Rattle.far_replay.proofs.Lowest.{lowest_cell_is}
-use Rattle.far_replay.proofs.Views.{len_near}
 use Rattle.far_replay.proofs.Spliced.{AreBytes}
 
 -- ---- tests
@@ -50,47 +50,76 @@ range_out n from count h = elim (cases_eq count 0) [
 ]
 
 -- ---- objects
-module _ (s : State) (law : Law s) (hand : AllAtHand s) where
-  -- a used pointer has an object with the bytes of its data
-  pub object_used : (p : ℕ) → s.used p ≡ true → (o : Object) × ((world_of s).object p ≡ Some o) × (o.bytes ≡ data_of s p)
-  unfolding world_of
-  object_used p u =
-      let a : AtHand s p = hand p (nonzero s law p u) in
-      let o : Object = record { owner = p / CELLS; ds = a.ds; bytes = bytes_of (λ i. s.word (addr a.place + 1 + i)) a.len; home = Group a.place.log } in (
-        o,
-        ap (object_of s.word (s.stored p) p) a.near ∙ ap (λ b. cond b None (Some o)) a.kept,
-        sym (ap (λ (c : Option PtrWord). bytes_of (λ i. s.word (near_data c + i)) (near_len c)) a.near),
-      )
+-- the object of a cell in use has as many bytes as the cell says
+pub record Has (s : State) (p : ℕ) : Type 0 where
+  pub object : Object
+  pub there : (world_of s).object p ≡ Some object
+  pub long : length object.bytes ≡ object_len s p
 
-  -- a pointer that isn't used has none
-  pub object_unused : (p : ℕ) → s.used p ≡ false → (world_of s).object p ≡ None
+module _ (s : State) where
+  object_in : (p : ℕ) (o : Option PtrWord) → read_of (s.cell p) ≡ o → in_use o ≡ true → Has s p
   unfolding world_of
-  object_unused p u = elim (cases_eq (s.cell p) 0) [
+  object_in p None e u = absurd (false≢true u)
+  object_in p (Some Free) e u = absurd (false≢true u)
+  object_in p (Some (Near len ds place marks)) e u =
+      let o : Object = record { owner = p / CELLS; ds = ds; bytes = bytes_of (λ i. s.word (addr place + 1 + i)) len; home = Group place.log } in record {
+        object = o;
+        there = ap (object_of s.word (s.stored p) p) e ∙ ap (λ b. cond b None (Some o)) (not-true marks.dropped u);
+        long = length-bytes_of (λ i. s.word (addr place + 1 + i)) len ∙ sym (ap named_len e);
+      }
+  object_in p (Some (Far len ds marks)) e u =
+      let o : Object = record { owner = p / CELLS; ds = ds; bytes = bytes_of (s.stored p) len; home = FarSide } in record {
+        object = o;
+        there = ap (object_of s.word (s.stored p) p) e ∙ ap (λ b. cond b None (Some o)) (not-true marks.dropped u);
+        long = length-bytes_of (s.stored p) len ∙ sym (ap named_len e);
+      }
+
+  -- a used pointer has one
+  pub object_used : Law s → (p : ℕ) → s.used p ≡ true → Has s p
+  object_used law p u = object_in p (read_of (s.cell p)) refl (law.views.used_cell p u)
+
+  -- a pointer that isn't used has none, where what is named is used
+  pub object_unused : ((p : ℕ) → s.cell p ≢ 0 → s.used p ≡ true) → (p : ℕ) → s.used p ≡ false → (world_of s).object p ≡ None
+  unfolding world_of
+  object_unused named p u = elim (cases_eq (s.cell p) 0) [
     | inl e ↦ ap (object_of s.word (s.stored p) p) (ap read_of e ∙ unused)
-    | inr ne ↦ absurd (true≢false (sym (hand p ne).used ∙ u))
+    | inr ne ↦ absurd (true≢false (sym (named p ne) ∙ u))
   ]
 
   -- the bytes of a pointer that the mutator uses
-  pub own_used : (m p : ℕ) → uses s m p ≡ true → (own_of (world_of s) m).object p ≡ Some (data_of s p)
-  own_used m p h =
+  pub own_used : Law s → (m p : ℕ) → uses s m p ≡ true → (all : List ℕ) × ((own_of (world_of s) m).object p ≡ Some all) × (length all ≡ object_len s p)
+  own_used law m p h =
       let both = and_parts (nat_eq (p / CELLS) m) (s.used p) h in
-      let x = object_used p both.1 in
-      ap (λ b. cond b (bytes_in_world ((world_of s).object p)) None) both.0 ∙ ap bytes_in_world x.1 ∙ ap Some x.2
+      let x = object_used law p both.1 in
+      (x.object.bytes, ap (λ b. cond b (bytes_in_world ((world_of s).object p)) None) both.0 ∙ ap bytes_in_world x.there, x.long)
 
   -- a pointer that it doesn't use is none of its objects
-  pub own_unused : (m p : ℕ) → uses s m p ≡ false → (own_of (world_of s) m).object p ≡ None
-  own_unused m p h = elim (and_cases (nat_eq (p / CELLS) m) (s.used p) h) [
+  pub own_unused : ((p : ℕ) → s.cell p ≢ 0 → s.used p ≡ true) → (m p : ℕ) → uses s m p ≡ false → (own_of (world_of s) m).object p ≡ None
+  own_unused named m p h = elim (and_cases (nat_eq (p / CELLS) m) (s.used p) h) [
     | inl other ↦ ap (λ b. cond b (bytes_in_world ((world_of s).object p)) None) other
-    | inr free ↦ cond_both (nat_eq (p / CELLS) m) (bytes_in_world ((world_of s).object p)) None (λ (x : Option (List ℕ)). x ≡ None) (λ _. ap bytes_in_world (object_unused p free)) (λ _. refl)
+    | inr free ↦ cond_both (nat_eq (p / CELLS) m) (bytes_in_world ((world_of s).object p)) None (λ (x : Option (List ℕ)). x ≡ None) (λ _. ap bytes_in_world (object_unused named p free)) (λ _. refl)
   ]
 
 -- the bytes of an object are as many as its length says, and they are bytes
 pub length-data : (s : State) (p : ℕ) → length (data_of s p) ≡ data_len s p
 length-data s p = length-bytes_of (λ i. s.word (near_data (read_of (s.cell p)) + i)) (data_len s p)
 
--- a pointer that the mutator uses has an object of as many bytes as its cell says
-pub len_used : (s : State) → Law s → AllAtHand s → (m p : ℕ) → uses s m p ≡ true → object_len s p ≡ length (data_of s p)
-len_used s law hand m p h = len_near s law hand p (and_parts (nat_eq (p / CELLS) m) (s.used p) h).1 ∙ sym (length-data s p)
+-- an object that is near, and not dropped, has the bytes at its place
+pub object_near : (s : State) (p len ds : ℕ) (place : Place) (marks : Marks) → read_of (s.cell p) ≡ Some (Near len ds place marks) → marks.dropped ≡ false →
+    (o : Object) × ((world_of s).object p ≡ Some o) × (o.bytes ≡ data_of s p)
+unfolding world_of
+object_near s p len ds place marks e kept =
+    let o : Object = record { owner = p / CELLS; ds = ds; bytes = bytes_of (λ i. s.word (addr place + 1 + i)) len; home = Group place.log } in (
+      o,
+      ap (object_of s.word (s.stored p) p) e ∙ ap (λ b. cond b None (Some o)) kept,
+      sym (ap (λ (c : Option PtrWord). bytes_of (λ i. s.word (near_data c + i)) (near_len c)) e),
+    )
+
+-- so has one that is viewed
+pub object_viewed : (s : State) → Law s → (p : ℕ) (place : Place) → s.held p ≡ Some place → (o : Object) × ((world_of s).object p ≡ Some o) × (o.bytes ≡ data_of s p)
+object_viewed s law p place e =
+    let h = held_near (read_of (s.cell p)) place (law.views.held_names p place e) in
+    object_near s p h.len h.ds place h.marks h.near h.kept
 
 pub data_small : (s : State) (p : ℕ) → AreBytes (data_of s p)
 data_small s p = bytes_of-small (λ i. s.word (near_data (read_of (s.cell p)) + i)) (data_len s p)

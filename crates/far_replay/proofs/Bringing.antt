@@ -1,5 +1,5 @@
 -- A dereference whose pin gives no view: the object is asked for, comes to where a view may rest, and owners stay as they are.
-use Rattle.std.proofs.Common.{◌≡◌, ℕ, ◌*◌, ◌/◌, ◌<◌, ◌&&◌, ◌==◌, Bool, true, false, not, nat_lt, refl, sym, ap, subst, ◌∙◌, if◌then◌else◌, Option, Some, None, IsSome, is_some}
+use Rattle.std.proofs.Common.{◌≡◌, ◌≢◌, ℕ, ◌*◌, ◌/◌, ◌<◌, ◌&&◌, ◌==◌, Bool, true, false, not, nat_lt, refl, sym, ap, subst, ◌∙◌, if◌then◌else◌, Option, Some, None, IsSome, is_some, Result, Err}
 use Rattle.std.specs.Prelude.{IfSome, MatchOption}
 use Rattle.std.proofs.lemmas.Bool.{cond_both, false≢true, true≢false}
 use Rattle.far_word.specs.declared.mark.Mark.TheVariants.{Moved}
@@ -24,8 +24,9 @@ use Rattle.far_core.proofs.Cells.{map_mark}
 use Rattle.far_core.proofs.Guards.{open_fact}
 use Rattle.far_core.proofs.KeepOwner.{nonzero}
 use Rattle.far_core.proofs.Marking.{read_mark}
-use Rattle.far_core.proofs.Put.{put_same}
-use Rattle.far_book.specs.book.Dealing.{IsQuietNear, goal, has_evac, moved_now}
+use Rattle.far_core.proofs.Put.{put_same, put_other}
+use Rattle.far_device.specs.Faults.{SpendsFault}
+use Rattle.far_book.specs.book.Dealing.{IsQuietNear, goal, has_evac, is_failure, moved_now}
 use Rattle.far_core.specs.events.Copies.{Alike, data_at}
 use Rattle.far_book.specs.book.Effects.{fetched, fetched_of, moved, moved_of, near_word, stayed, stayed_of, with_written_span}
 use Rattle.far_book.specs.book.Fetching.{IsFar, IsFetched, RefusesFetch, far_len, room_for}
@@ -159,80 +160,97 @@ module _ (s : State) (m p : ℕ) (law : Law s) (used : s.used p ≡ true) (far :
   pub far_room : (o : Option Place) (place : Place) → o ≡ Some place → IfSome o (λ found. room_for s p ≡ Some found) → IsSome (comes_to (asked_for s m p) p)
   far_room o place e found = ap is_some (far_here ∙ subst (λ x. IfSome x (λ y. room_for s p ≡ Some y)) e found)
 
-  pub far_refused : (t : State) (why : Refusal) → RefusesFetch why (room_for s p) true → t ≡ s → RefusesBringing (asked_for s m p) p why t
-  far_refused t NoRoom h same = (far_here ∙ h, same ∙ sym far_unasked)
-  far_refused t Memory h same = (ap is_some far_here ∙ h, same ∙ sym far_unasked)
-  far_refused t Device h same = (ap is_some far_here ∙ h, same ∙ sym far_unasked)
-  far_refused t Damaged h same = absurd (true≢false h.1)
-  far_refused t why h same = absurd h
+  pub far_refused : (t : State) (why : Refusal) → RefusesFetch why (room_for s p) true → why ≢ Device → t ≡ s → RefusesBringing (asked_for s m p) p why t
+  far_refused t NoRoom h sound same = (far_here ∙ h, same ∙ sym far_unasked)
+  far_refused t Memory h sound same = (ap is_some far_here ∙ h, same ∙ sym far_unasked)
+  far_refused t Device h sound same = absurd (sound refl)
+  far_refused t Damaged h sound same = absurd (true≢false h.1)
+  far_refused t why h sound same = absurd h
 
--- ---- owners stay as they are
-pub record KeepsOwners (s t : State) : Type 0 where
+-- the device never fails
+pub never_fails : {A : Type 0} (result : Result A Refusal) (why : Refusal) → result ≡ Err why → SpendsFault (is_failure result) (λ _. Unit {0}) (λ _. Unit {0}) → why ≢ Device
+never_fails {A = A} result why is spent e = (subst (λ (r : Result A Refusal). SpendsFault (is_failure r) (λ _. Unit {0}) (λ _. Unit {0})) (is ∙ ap Err e) spent).0 tt
+
+-- ---- owners stay as they are, and so do all cells but p's
+pub record KeepsOwners (p : ℕ) (s t : State) : Type 0 where
   pub scope : t.scope ≡ s.scope
   pub used : t.used ≡ s.used
   pub mutators : t.mutators ≡ s.mutators
+  pub remembered : t.remembered ≡ s.remembered
+  pub held : t.held ≡ s.held
+  pub cells : (q : ℕ) → q ≢ p → t.cell q ≡ s.cell q
 
-kept : (s : State) → KeepsOwners s s
-kept s = record { scope = refl; used = refl; mutators = refl }
+kept : (p : ℕ) (s : State) → KeepsOwners p s s
+kept p s = record { scope = refl; used = refl; mutators = refl; remembered = refl; held = refl; cells = λ q ne. refl }
 
-form_keeps : (s : State) (p new : ℕ) (form : Naming) → KeepsOwners s (naming_row s p new form).after
-form_keeps s p new (Places len ds place) = record { scope = refl; used = refl; mutators = refl }
-form_keeps s p new (Moves len ds from to) = record { scope = refl; used = refl; mutators = refl }
-form_keeps s p new (Evicts len place) = record { scope = refl; used = refl; mutators = refl }
-form_keeps s p new (Fetches len ds place) = record { scope = refl; used = refl; mutators = refl }
-form_keeps s p new Stays = record { scope = refl; used = refl; mutators = refl }
-form_keeps s p new Retires = record { scope = refl; used = refl; mutators = refl }
+form_keeps : (s : State) (p new : ℕ) (form : Naming) → KeepsOwners p s (naming_row s p new form).after
+form_keeps s p new (Places len ds place) = record { scope = refl; used = refl; mutators = refl; remembered = refl; held = refl; cells = λ q ne. put_other s.cell p new q ne }
+form_keeps s p new (Moves len ds from to) = record { scope = refl; used = refl; mutators = refl; remembered = refl; held = refl; cells = λ q ne. put_other s.cell p new q ne }
+form_keeps s p new (Evicts len place) = record { scope = refl; used = refl; mutators = refl; remembered = refl; held = refl; cells = λ q ne. put_other s.cell p new q ne }
+form_keeps s p new (Fetches len ds place) = record { scope = refl; used = refl; mutators = refl; remembered = refl; held = refl; cells = λ q ne. put_other s.cell p new q ne }
+form_keeps s p new Stays = record { scope = refl; used = refl; mutators = refl; remembered = refl; held = refl; cells = λ q ne. put_other s.cell p new q ne }
+form_keeps s p new Retires = record { scope = refl; used = refl; mutators = refl; remembered = refl; held = refl; cells = λ q ne. put_other s.cell p new q ne }
 
-naming_keeps : (s : State) (p new : ℕ) (o : Option Naming) → KeepsOwners s (after_naming s p new o)
-naming_keeps s p new None = kept s
+naming_keeps : (s : State) (p new : ℕ) (o : Option Naming) → KeepsOwners p s (after_naming s p new o)
+naming_keeps s p new None = kept p s
 naming_keeps s p new (Some form) = form_keeps s p new form
 
-name_keeps : (s : State) (p old new : ℕ) → KeepsOwners s (after s (Name p old new))
-name_keeps s p old new = cond_both (s.cell p == old) (after_naming s p new (naming_of (read_of old) (read_of new))) s (KeepsOwners s) (λ _. naming_keeps s p new (naming_of (read_of old) (read_of new))) (λ _. kept s)
+name_keeps : (s : State) (p old new : ℕ) → KeepsOwners p s (after s (Name p old new))
+name_keeps s p old new = cond_both (s.cell p == old) (after_naming s p new (naming_of (read_of old) (read_of new))) s (KeepsOwners p s) (λ _. naming_keeps s p new (naming_of (read_of old) (read_of new))) (λ _. kept p s)
 
-moved_keeps : (s : State) (p : ℕ) (place : Place) (o : Option PtrWord) → KeepsOwners s (moved_of s p place o)
-moved_keeps s p place None = kept s
-moved_keeps s p place (Some Free) = kept s
-moved_keeps s p place (Some (Near len ds from marks)) =
-    let k = name_keeps (with_written_span s p len ds place (data_at s.word from)) p (s.cell p) (near_word len ds place) in record { scope = k.scope; used = k.used; mutators = k.mutators }
-moved_keeps s p place (Some (Far len ds marks)) = kept s
+written_keeps : (s : State) (p len ds : ℕ) (place : Place) (row : ℕ → ℕ) → KeepsOwners p s (after (with_written_span s p len ds place row) (Name p (s.cell p) (near_word len ds place)))
+written_keeps s p len ds place row =
+    let k = name_keeps (with_written_span s p len ds place row) p (s.cell p) (near_word len ds place) in
+    record { scope = k.scope; used = k.used; mutators = k.mutators; remembered = k.remembered; held = k.held; cells = k.cells }
 
-stayed_keeps : (s : State) (p : ℕ) (o : Option PtrWord) → KeepsOwners s (stayed_of s p o)
-stayed_keeps s p None = kept s
-stayed_keeps s p (Some Free) = kept s
+pub moved_keeps : (s : State) (p : ℕ) (place : Place) (o : Option PtrWord) → KeepsOwners p s (moved_of s p place o)
+moved_keeps s p place None = kept p s
+moved_keeps s p place (Some Free) = kept p s
+moved_keeps s p place (Some (Near len ds from marks)) = written_keeps s p len ds place (data_at s.word from)
+moved_keeps s p place (Some (Far len ds marks)) = kept p s
+
+pub stayed_keeps : (s : State) (p : ℕ) (o : Option PtrWord) → KeepsOwners p s (stayed_of s p o)
+stayed_keeps s p None = kept p s
+stayed_keeps s p (Some Free) = kept p s
 stayed_keeps s p (Some (Near len ds place marks)) = name_keeps s p (s.cell p) (near_word len ds place)
-stayed_keeps s p (Some (Far len ds marks)) = kept s
+stayed_keeps s p (Some (Far len ds marks)) = kept p s
 
-fetched_keeps : (s : State) (p : ℕ) (place : Place) (row : ℕ → ℕ) (o : Option PtrWord) → KeepsOwners s (fetched_of s p place row o)
-fetched_keeps s p place row None = kept s
-fetched_keeps s p place row (Some Free) = kept s
-fetched_keeps s p place row (Some (Near len ds from marks)) = kept s
-fetched_keeps s p place row (Some (Far len ds marks)) =
-    let k = name_keeps (with_written_span s p len ds place row) p (s.cell p) (near_word len ds place) in record { scope = k.scope; used = k.used; mutators = k.mutators }
+pub fetched_keeps : (s : State) (p : ℕ) (place : Place) (row : ℕ → ℕ) (o : Option PtrWord) → KeepsOwners p s (fetched_of s p place row o)
+fetched_keeps s p place row None = kept p s
+fetched_keeps s p place row (Some Free) = kept p s
+fetched_keeps s p place row (Some (Near len ds from marks)) = kept p s
+fetched_keeps s p place row (Some (Far len ds marks)) = written_keeps s p len ds place row
 
-come_keeps_of : (s : State) (p : ℕ) (x : Option Place) (o : Option PtrWord) → KeepsOwners s (come_of s p x o)
-come_keeps_of s p None o = kept s
-come_keeps_of s p (Some place) None = kept s
-come_keeps_of s p (Some place) (Some Free) = kept s
+come_keeps_of : (s : State) (p : ℕ) (x : Option Place) (o : Option PtrWord) → KeepsOwners p s (come_of s p x o)
+come_keeps_of s p None o = kept p s
+come_keeps_of s p (Some place) None = kept p s
+come_keeps_of s p (Some place) (Some Free) = kept p s
 come_keeps_of s p (Some place) (Some (Near len ds from marks)) =
-    cond_both (has_evac (read_of (s.cell p))) (moved s p place) (stayed s p) (KeepsOwners s) (λ _. moved_keeps s p place (read_of (s.cell p))) (λ _. stayed_keeps s p (read_of (s.cell p)))
+    cond_both (has_evac (read_of (s.cell p))) (moved s p place) (stayed s p) (KeepsOwners p s) (λ _. moved_keeps s p place (read_of (s.cell p))) (λ _. stayed_keeps s p (read_of (s.cell p)))
 come_keeps_of s p (Some place) (Some (Far len ds marks)) = fetched_keeps s p place (s.stored p) (read_of (s.cell p))
 
-come_keeps : (s : State) (p : ℕ) → KeepsOwners s (come s p)
+come_keeps : (s : State) (p : ℕ) → KeepsOwners p s (come s p)
 come_keeps s p = come_keeps_of s p (comes_to s p) (read_of (s.cell p))
 
-sought_keeps : (s : State) (m p : ℕ) (o : Option PtrWord) → KeepsOwners s (sought_of s m p o)
-sought_keeps s m p None = kept s
-sought_keeps s m p (Some Free) = kept s
-sought_keeps s m p (Some (Near len ds place marks)) = record { scope = refl; used = refl; mutators = refl }
-sought_keeps s m p (Some (Far len ds marks)) = kept s
+pub asked_keeps : (s : State) (m p : ℕ) (o : Option PtrWord) → KeepsOwners p s (sought_of s m p o)
+asked_keeps s m p None = kept p s
+asked_keeps s m p (Some Free) = kept p s
+asked_keeps s m p (Some (Near len ds place marks)) = record { scope = refl; used = refl; mutators = refl; remembered = refl; held = refl; cells = λ q ne. put_other s.cell p _ q ne }
+asked_keeps s m p (Some (Far len ds marks)) = kept p s
+
+pub keeps_both : (p : ℕ) (s t u : State) → KeepsOwners p s t → KeepsOwners p t u → KeepsOwners p s u
+keeps_both p s t u a b = record {
+  scope = b.scope ∙ a.scope;
+  used = b.used ∙ a.used;
+  mutators = b.mutators ∙ a.mutators;
+  remembered = b.remembered ∙ a.remembered;
+  held = b.held ∙ a.held;
+  cells = λ q ne. b.cells q ne ∙ a.cells q ne;
+}
 
 -- a dereference leaves what owners use, and their scopes
-pub brought_keeps : (s : State) (m p : ℕ) → KeepsOwners s (come (asked_for s m p) p)
-brought_keeps s m p =
-    let a = sought_keeps s m p (read_of (s.cell p)) in
-    let b = come_keeps (asked_for s m p) p in
-    record { scope = b.scope ∙ a.scope; used = b.used ∙ a.used; mutators = b.mutators ∙ a.mutators }
+pub brought_keeps : (s : State) (m p : ℕ) → KeepsOwners p s (come (asked_for s m p) p)
+brought_keeps s m p = keeps_both p s (asked_for s m p) (come (asked_for s m p) p) (asked_keeps s m p (read_of (s.cell p))) (come_keeps (asked_for s m p) p)
 
 -- ---- the parts of a dereference, put together
 module _ (s t : State) (m p : ℕ) (pinned : t ≡ with_view s p) (slow : is_slow s p ≡ true) where

@@ -1,5 +1,5 @@
 -- What events are for comes to pass: a pin gives a view where its object is at hand, and the naming of a new object wins.
-use Rattle.std.proofs.Common.{◌≡◌, ◌≢◌, ℕ, ◌+◌, ◌/◌, true, cond, nat_eq, nat_lt, refl, sym, ap, subst, ◌∙◌, is_some, Option, Some, None, List, [], ◌∷◌, ◌++◌, length}
+use Rattle.std.proofs.Common.{◌≡◌, ◌≢◌, ℕ, ◌+◌, ◌/◌, true, cond, nat_eq, nat_lt, refl, sym, ap, subst, ◌∙◌, is_some, Option, Some, None, List, [], ◌∷◌, ◌++◌, length, if◌then◌else◌}
 use Rattle.std.proofs.lemmas.Bool.{and_parts, cond_both, eq-eqb, ltb-true, true≢false}
 use Rattle.far_word.specs.declared.pointer.Place.{Place}
 use Rattle.far_word.specs.declared.refused.Refused.{Refused as Refusal}
@@ -19,20 +19,20 @@ use Rattle.far_core.specs.state.State.{State}
 use Rattle.far_core.specs.events.Step.{step_of, is_legal, is_opened, after, answer, pin_answer}
 use Rattle.far_core.proofs.KeepOwner.{nonzero}
 use Rattle.far_text.specs.Command.{Command, New, Open, Write, Read, Close, Where, Drop, View, Try, Epoch, Mutator, Book}
-use Rattle.far_replay.specs.Dereference.{has_no_room}
+use Rattle.far_replay.specs.Dereference.{come, dereferenced, has_no_room, sought}
 use Rattle.far_replay.specs.Effects.{near_word, is_slow}
-use Rattle.far_replay.specs.EventRows.{after_events, ComesToPass, AllComeToPass, AtHand, AllAtHand}
-use Rattle.far_replay.specs.Events.{turn_events, refused_events, zero_puts, new_events, view_events, load_events, store_events, first_loads, last_loads, part_events, first_word, words_touched, starts_inside, ends_inside}
+use Rattle.far_replay.specs.EventRows.{after_events, ComesToPass, AllComeToPass, AtHand}
+use Rattle.far_replay.specs.Events.{turn_events, refused_events, zero_puts, new_events, view_events, sought_events, come_events, dereference_events, load_events, store_events, first_loads, last_loads, part_events, first_word, words_touched, starts_inside, ends_inside}
 use Rattle.far_replay.specs.Headline.{IsAtHandFor}
 use Rattle.far_replay.specs.Moment.{moment_of}
 use Rattle.far_replay.specs.Objects.{uses, object_len, data_of, with_range, lowest_cell, is_range}
-use Rattle.far_replay.specs.Turn.{access_causes, first_cause, refusal, unless}
+use Rattle.far_replay.specs.Turn.{refusal, unless}
 use Rattle.far_replay.proofs.AloneStates.{lowest_free}
 use Rattle.far_replay.proofs.Drops.{drop_comes, unheld_is}
 use Rattle.far_text.proofs.Each.{Each, Each-append, Each-row}
 use Rattle.far_replay.proofs.MadeLemmas.{AllComeToPass-append}
-use Rattle.far_replay.proofs.Turns.{reaches, four, three, tried, marked_last}
-use Rattle.far_replay.proofs.Views.{ready_of, Ready-view, hand_is_fast}
+use Rattle.far_replay.proofs.Turns.{access_fact, room_lacks, room_last, three, tried, marked_last}
+use Rattle.far_replay.proofs.Views.{ready_of, Ready-view, hand_has_room, hand_is_fast}
 
 -- ---- events that any answer serves
 abbrev IsSure : Event → Type 0
@@ -62,6 +62,12 @@ pin_gives s m p hand = cond_both (is_legal s (Pins m p)) (after s (Pins m p), an
 view_comes : (s : State) (m p : ℕ) → AtHand s p → AllComeToPass s (view_events s m p)
 view_comes s m p hand = cond_both (is_some (s.held p)) [] (Pins m p ∷ []) (AllComeToPass s) (λ _. tt) (λ _. (pin_gives s m p hand, tt))
 
+-- so a dereference is a pin then
+deref_comes : (s : State) (m p : ℕ) → AtHand s p → AllComeToPass s (dereference_events s m p)
+deref_comes s m p hand = subst (AllComeToPass s)
+    (sym (ap (λ b. if b then sought_events s m p ++ come_events (sought s m p) p ++ view_events (come (sought s m p) p) m p else view_events s m p) (hand_is_fast s p hand)))
+    (view_comes s m p hand)
+
 -- ---- a new object
 abbrev LeavesCells : Event → Type 0
 LeavesCells e = (t : State) → (step_of t e).0.cell ≡ t.cell
@@ -77,7 +83,7 @@ naming_wins : (s : State) (p new : ℕ) → s.cell p ≡ 0 → ComesToPass (Name
 naming_wins s p new free = cond_both (is_legal s (Names p 0 new)) (after s (Names p 0 new), answer s (Names p 0 new)) (s, Failed) (λ (x : State × Answer). ComesToPass (Names p 0 new) x.1)
     (λ _. subst (ComesToPass (Names p 0 new)) (sym (ap (λ b. cond b Wins (Word (s.cell p))) (eq-eqb (s.cell p) 0 free))) tt) (λ _. tt)
 
-new_comes : (s : State) (m len ds : ℕ) (o : Option ℕ) (x : Option Place) → ((p : ℕ) → o ≡ Some p → s.cell p ≡ 0) → AllComeToPass s (new_events m len ds o x)
+pub new_comes : (s : State) (m len ds : ℕ) (o : Option ℕ) (x : Option Place) → ((p : ℕ) → o ≡ Some p → s.cell p ≡ 0) → AllComeToPass s (new_events m len ds o x)
 new_comes s m len ds None x free = tt
 new_comes s m len ds (Some p) None free = tt
 new_comes s m len ds (Some p) (Some place) free =
@@ -89,13 +95,21 @@ new_comes s m len ds (Some p) (Some place) free =
     AllComeToPass-append s puts (Names p 0 (near_word len ds place) ∷ Adopts m p ∷ []) (all_sure s puts sure) (naming_wins (after_events s puts) p (near_word len ds place) still, (tt, tt))
 
 -- ---- each command
--- an object that may be read or written is named
-is_named : (s : State) (m p from count : ℕ) → Law s → first_cause (access_causes (moment_of s) m p from count) ≡ None → s.cell p ≢ 0
-is_named s m p from count law e =
-    nonzero s law p (and_parts (nat_eq (p / CELLS) m) (s.used p) (four (nat_lt m s.mutators) (is_opened s m) (uses s m p) (is_range (object_len s p) from count) Range Closed NotHeld Range e).2).1
+-- an object that is used is named
+is_named : (s : State) (m p : ℕ) → Law s → uses s m p ≡ true → s.cell p ≢ 0
+is_named s m p law ours = nonzero s law p (and_parts (nat_eq (p / CELLS) m) (s.used p) ours).1
 
 -- a refused command makes no event, where its object is at hand
 refused_come : (s : State) (c : Command) (why : Refusal) → refusal (moment_of s) c ≡ Some why → Law s → IsAtHandFor (moment_of s) c → AllComeToPass s (refused_events (moment_of s) c why)
+refused_come s (Mutator m (Write p from bytes)) NoRoom e law hand =
+    let h = room_lacks (nat_lt m s.mutators) (is_opened s m) (uses s m p) (is_range (object_len s p) from (length bytes)) (has_no_room s m p) e in
+    absurd (true≢false (sym h.3 ∙ hand_has_room s m p (hand (is_named s m p law h.2))))
+refused_come s (Mutator m (Read p from len)) NoRoom e law hand =
+    let h = room_lacks (nat_lt m s.mutators) (is_opened s m) (uses s m p) (is_range (object_len s p) from len) (has_no_room s m p) e in
+    absurd (true≢false (sym h.3 ∙ hand_has_room s m p (hand (is_named s m p law h.2))))
+refused_come s (Mutator m (View p)) NoRoom e law hand =
+    let h = room_last (nat_lt m s.mutators) (is_opened s m) (uses s m p) (has_no_room s m p) e in
+    absurd (true≢false (sym h.3 ∙ hand_has_room s m p (hand (is_named s m p law h.2))))
 refused_come s (Mutator m (Try p)) (Marked word) e law hand =
     let h = marked_last (nat_lt m s.mutators) (is_opened s m) (uses s m p) (is_slow s p) (s.cell p) word e in
     let at_hand : AtHand s p = hand (nonzero s law p (and_parts (nat_eq (p / CELLS) m) (s.used p) h.2).1) in
@@ -109,18 +123,20 @@ all_come s (Mutator m (New len ds)) None e law hand = new_comes s m len ds (lowe
 all_come s (Mutator m Open) None e law hand =
     cond_both (is_some (s.remembered m)) (Opens m ∷ []) (ReadsEpoch m ∷ Opens m ∷ []) (AllComeToPass s) (λ _. (tt, tt)) (λ _. (tt, (tt, tt)))
 all_come s (Mutator m (Write p from bytes)) None e law hand =
-    let view : List Event = view_events s m p in
+    let h = access_fact s m p from (length bytes) e in
+    let view : List Event = dereference_events s m p in
     let part : List Event = part_events m p from (length bytes) in
     let first : ℕ = first_word from in
     let touched : ℕ = words_touched from (length bytes) in
-    let new : List ℕ = with_range (data_of s p) from bytes in
+    let new : List ℕ = with_range (data_of (dereferenced s m p) p) from bytes in
     AllComeToPass-append s (view ++ part) (store_events m p first touched new)
-    (AllComeToPass-append s view part (view_comes s m p (hand (is_named s m p from (length bytes) law (reaches (nat_lt m s.mutators) (is_opened s m) (uses s m p) (is_range (object_len s p) from (length bytes)) (has_no_room s m p) e)))) (all_sure (after_events s view) part (parts m p from (length bytes))))
+    (AllComeToPass-append s view part (deref_comes s m p (hand (is_named s m p law h.ours))) (all_sure (after_events s view) part (parts m p from (length bytes))))
     (all_sure (after_events s (view ++ part)) (store_events m p first touched new) (stores m p first touched new))
 all_come s (Mutator m (Read p from len)) None e law hand =
-    let view : List Event = view_events s m p in
+    let h = access_fact s m p from len e in
+    let view : List Event = dereference_events s m p in
     let loaded : List Event = load_events m p (first_word from) (words_touched from len) in
-    AllComeToPass-append s view loaded (view_comes s m p (hand (is_named s m p from len law (reaches (nat_lt m s.mutators) (is_opened s m) (uses s m p) (is_range (object_len s p) from len) (has_no_room s m p) e)))) (all_sure (after_events s view) loaded (loads m p (first_word from) (words_touched from len)))
+    AllComeToPass-append s view loaded (deref_comes s m p (hand (is_named s m p law h.ours))) (all_sure (after_events s view) loaded (loads m p (first_word from) (words_touched from len)))
 all_come s (Mutator m Close) None e law hand = (tt, tt)
 all_come s (Mutator m (Where p)) None e law hand = tt
 all_come s (Mutator m (Drop p)) None e law hand =
@@ -128,23 +144,9 @@ all_come s (Mutator m (Drop p)) None e law hand =
     drop_comes s m p law (ltb-true m s.mutators h.0) h.1 (unheld_is (s.held p) h.2)
 all_come s (Mutator m (View p)) None e law hand =
     let h = tried (nat_lt m s.mutators) (is_opened s m) (uses s m p) (has_no_room s m p) Range Closed NotHeld NoRoom e in
-    view_comes s m p (hand (nonzero s law p (and_parts (nat_eq (p / CELLS) m) (s.used p) h.2).1))
+    deref_comes s m p (hand (is_named s m p law h.2))
 all_come s (Mutator m (Try p)) None e law hand =
     let h = tried (nat_lt m s.mutators) (is_opened s m) (uses s m p) (is_slow s p) Range Closed NotHeld (Marked (s.cell p)) e in
     view_comes s m p (hand (nonzero s law p (and_parts (nat_eq (p / CELLS) m) (s.used p) h.2).1))
 all_come s (Mutator m Epoch) None e law hand = (tt, tt)
 all_come s (Book inquiry) None e law hand = tt
-
--- where all objects are at hand, so is that of a command
-pub hand_for : (s : State) (c : Command) → AllAtHand s → IsAtHandFor (moment_of s) c
-hand_for s (Mutator m (New len ds)) hands = tt
-hand_for s (Mutator m Open) hands = tt
-hand_for s (Mutator m (Write p from bytes)) hands = hands p
-hand_for s (Mutator m (Read p from len)) hands = hands p
-hand_for s (Mutator m Close) hands = tt
-hand_for s (Mutator m (Where p)) hands = tt
-hand_for s (Mutator m (Drop p)) hands = tt
-hand_for s (Mutator m (View p)) hands = hands p
-hand_for s (Mutator m (Try p)) hands = hands p
-hand_for s (Mutator m Epoch) hands = tt
-hand_for s (Book inquiry) hands = tt

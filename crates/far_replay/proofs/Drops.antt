@@ -42,7 +42,7 @@ use Rattle.far_replay.specs.Alone.{own_of, bytes_in_world}
 use Rattle.far_replay.specs.Answers.{Commanded}
 use Rattle.far_text.specs.Command.{Drop, Mutator}
 use Rattle.far_replay.specs.Effects.{without_object}
-use Rattle.far_replay.specs.EventRows.{after_events, Succeeds, AllSucceed, ComesToPass, AllComeToPass, AllAtHand}
+use Rattle.far_replay.specs.EventRows.{after_events, Succeeds, AllSucceed, ComesToPass, AllComeToPass}
 use Rattle.far_replay.specs.Events.{drop_events, events_for}
 use Rattle.far_replay.specs.Headline.{EndsObject}
 use Rattle.far_replay.specs.Moment.{Moment, moment_of}
@@ -147,23 +147,11 @@ module _ (s : State) (m p : ℕ) (law : Law s) (within : m < s.mutators) (ours :
   pub drop_law : Law (without_object s m p)
   drop_law = subst Law drop_ends (made_law s (drop_events s m p) law drop_fits)
 
-  -- all other objects stay at hand
-  pub drop_hands : AllAtHand s → AllAtHand (without_object s m p)
-  drop_hands hands = subst AllAtHand (sym drop_is) (λ q some.
+  -- all other named pointers stay used
+  pub drop_named : ((q : ℕ) → s.cell q ≢ 0 → s.used q ≡ true) → (q : ℕ) → (without_object s m p).cell q ≢ 0 → (without_object s m p).used q ≡ true
+  drop_named named = subst (λ (t : State). (q : ℕ) → t.cell q ≢ 0 → t.used q ≡ true) (sym drop_is) (λ q some.
       let other : q ≢ p = (λ e. some (put_same s.cell p 0 q e)) in
-      let same : put s.cell p 0 q ≡ s.cell q = put_other s.cell p 0 q other in
-      let h = hands q (λ z. some (same ∙ z)) in
-      record {
-        len = h.len;
-        ds = h.ds;
-        place = h.place;
-        marks = h.marks;
-        near = ap read_of same ∙ h.near;
-        unchosen = h.unchosen;
-        unmoved = h.unmoved;
-        kept = h.kept;
-        used = put_other s.used p false q other ∙ h.used;
-      })
+      put_other s.used p false q other ∙ named q (λ z. some (put_other s.cell p 0 q other ∙ z)))
 
   -- ---- the world: its object is gone
   pub drop_world : world_of (without_object s m p) ≡ record (world_of s) { object = put (world_of s).object p None; marked = put (world_of s).marked p false }

@@ -22,10 +22,9 @@ use Rattle.far_book.specs.book.Home.{home_of}
 use Rattle.far_book.specs.declared.home.Home.{Home}
 use Rattle.far_book.specs.declared.home.Home.TheVariants.{Near, Far}
 use Rattle.far_replay.specs.Answers.{Commanded, IsMoment}
-use Rattle.far_replay.specs.Audit.{lies_near, lies_far, pointers_by, counts_of}
+use Rattle.far_replay.specs.Audit.{lies_near, lies_far, counts_of}
 use Rattle.far_text.specs.Command.{Where, Logs as AsksLogs, Log, Audit, Mutator, Book}
-use Rattle.far_replay.specs.EventRows.{AllAtHand}
-use Rattle.far_replay.specs.Headline.{TellsHome, IsHowMany, HasObject, CountsAll}
+use Rattle.far_replay.specs.Headline.{TellsHome, IsHowMany, IsNearObject, IsFarObject, CountsAll}
 use Rattle.far_replay.specs.Moment.{Moment, moment_of}
 use Rattle.far_replay.specs.Objects.{uses}
 use Rattle.far_replay.specs.Reply.{Reply, Logs, Lies, Audited, Refused, LogLine, Counts}
@@ -130,59 +129,82 @@ is_there f a (suc n) k passing low high =
           (λ _. is_there f (a + 1) n k passing (omega arith) (omega arith))
     ]
 
-none_pass : (f : ℕ → Bool) (a n : ℕ) → ((k : ℕ) → f k ≡ false) → filter f (range_with_len a n) ≡ []
-none_pass f a zero failing = refl
-none_pass f a (suc n) failing = rw (failing a) (none_pass f (a + 1) n failing)
+-- so many pass a test as have what it tests
+how_many : (P : ℕ → Type 0) (f : ℕ → Bool) (n : ℕ) → ((k : ℕ) → f k ≡ true → P k) → ((k : ℕ) → P k → f k ≡ true) → ((k : ℕ) → f k ≡ true → k < n) → IsHowMany P (length (filter f (range_with_len 0 n)))
+how_many P f n sound whole below = (
+  filter f (range_with_len 0 n),
+  refl,
+  distinct_row f 0 n,
+  (λ k. ((λ c. sound k (passes f 0 n k c)), (λ h. let passing = whole k h in is_there f 0 n k passing (omega arith) (omega (arith, below k passing))))),
+)
 
-module _ (s : State) (law : Law s) (hand : AllAtHand s) where
-  abbrev is_near : ℕ → Bool
-  is_near p = lies_near (read_of (s.cell p))
-
-  -- what lies near is an object
-  near_object : (p : ℕ) (o : Option PtrWord) → read_of (s.cell p) ≡ o → lies_near o ≡ true → HasObject s p
+module _ (s : State) (law : Law s) where
+  -- what lies near is an object in a group
+  near_object : (p : ℕ) (o : Option PtrWord) → read_of (s.cell p) ≡ o → lies_near o ≡ true → IsNearObject s p
   unfolding world_of
   near_object p None e n = absurd (false≢true n)
   near_object p (Some pointer.Free) e n = absurd (false≢true n)
   near_object p (Some (pointer.Near len ds place marks)) e n =
       let o : Object = record { owner = p / CELLS; ds = ds; bytes = bytes_of (λ i. s.word (addr place + 1 + i)) len; home = Group place.log } in
-      (o, ap (object_of s.word (s.stored p) p) e ∙ ap (λ b. cond b None (Some o)) (not-true marks.dropped n))
+      (o, place.log, ap (object_of s.word (s.stored p) p) e ∙ ap (λ b. cond b None (Some o)) (not-true marks.dropped n), refl)
   near_object p (Some (pointer.Far len ds marks)) e n = absurd (false≢true n)
 
-  -- what has an object isn't free
-  object_named : (p : ℕ) → HasObject s p → s.cell p ≢ 0
+  -- what lies far is one on the far side
+  far_object : (p : ℕ) (o : Option PtrWord) → read_of (s.cell p) ≡ o → lies_far o ≡ true → IsFarObject s p
   unfolding world_of
-  object_named p (o, is) z = let odd : None ≡ Some o = sym (ap (object_of s.word (s.stored p) p) (ap read_of z ∙ unused)) ∙ is in cc
+  far_object p None e n = absurd (false≢true n)
+  far_object p (Some pointer.Free) e n = absurd (false≢true n)
+  far_object p (Some (pointer.Near len ds place marks)) e n = absurd (false≢true n)
+  far_object p (Some (pointer.Far len ds marks)) e n =
+      let o : Object = record { owner = p / CELLS; ds = ds; bytes = bytes_of (s.stored p) len; home = FarSide } in
+      (o, ap (object_of s.word (s.stored p) p) e ∙ ap (λ b. cond b None (Some o)) (not-true marks.dropped n), refl)
 
-  near_named : (p : ℕ) → is_near p ≡ true → s.cell p ≢ 0
-  near_named p n z = false≢true (sym (ap lies_near (ap read_of z ∙ unused)) ∙ n)
+  -- and there is no other object
+  in_group : (word stored : ℕ → ℕ) (p : ℕ) (o : Option PtrWord) (x : Object) (group : ℕ) → object_of word stored p o ≡ Some x → x.home ≡ Group group → lies_near o ≡ true
+  in_group word stored p None x group e h = absurd cc
+  in_group word stored p (Some pointer.Free) x group e h = absurd cc
+  in_group word stored p (Some (pointer.Near len ds place marks)) x group e h = kept marks.dropped _ e where
+    kept : (b : Bool) (o : Object) → cond b None (Some o) ≡ Some x → not b ≡ true
+    kept true o f = absurd cc
+    kept false o f = refl
+  in_group word stored p (Some (pointer.Far len ds marks)) x group e h = absurd (elsewhere marks.dropped e) where
+    elsewhere : (b : Bool) → cond b None (Some record { owner = p / CELLS; ds = ds; bytes = bytes_of stored len; home = FarSide }) ≡ Some x → ⊥
+    elsewhere true f = absurd cc
+    elsewhere false f = let one : record { owner = p / CELLS; ds = ds; bytes = bytes_of stored len; home = FarSide } ≡ x = cc in
+        let odd : FarSide ≡ Group group = ap (λ (o : Object). o.home) one ∙ h in cc
 
-  -- so it is near
-  object_near : (p : ℕ) → HasObject s p → is_near p ≡ true
-  object_near p h = let a = hand p (object_named p h) in ap lies_near a.near ∙ ap not a.kept
+  on_far_side : (word stored : ℕ → ℕ) (p : ℕ) (o : Option PtrWord) (x : Object) → object_of word stored p o ≡ Some x → x.home ≡ FarSide → lies_far o ≡ true
+  on_far_side word stored p None x e h = absurd cc
+  on_far_side word stored p (Some pointer.Free) x e h = absurd cc
+  on_far_side word stored p (Some (pointer.Near len ds place marks)) x e h = absurd (elsewhere marks.dropped e) where
+    elsewhere : (b : Bool) → cond b None (Some record { owner = p / CELLS; ds = ds; bytes = bytes_of (λ i. word (addr place + 1 + i)) len; home = Group place.log }) ≡ Some x → ⊥
+    elsewhere true f = absurd cc
+    elsewhere false f = let one : record { owner = p / CELLS; ds = ds; bytes = bytes_of (λ i. word (addr place + 1 + i)) len; home = Group place.log } ≡ x = cc in
+        let odd : Group place.log ≡ FarSide = ap (λ (o : Object). o.home) one ∙ h in cc
+  on_far_side word stored p (Some (pointer.Far len ds marks)) x e h = kept marks.dropped _ e where
+    kept : (b : Bool) (o : Object) → cond b None (Some o) ≡ Some x → not b ≡ true
+    kept true o f = absurd cc
+    kept false o f = refl
 
-  none_far : (p : ℕ) → lies_far (read_of (s.cell p)) ≡ false
-  none_far p = elim (cases_eq (s.cell p) 0) [
-    | inl z ↦ ap lies_far (ap read_of z ∙ unused)
-    | inr ne ↦ ap lies_far (hand p ne).near
-  ]
+  object_near : (p : ℕ) → IsNearObject s p → lies_near (read_of (s.cell p)) ≡ true
+  unfolding world_of
+  object_near p (x, group, is, home) = in_group s.word (s.stored p) p (read_of (s.cell p)) x group is home
 
-  counts_near : IsHowMany (HasObject s) (counts_of s).near
+  object_far : (p : ℕ) → IsFarObject s p → lies_far (read_of (s.cell p)) ≡ true
+  unfolding world_of
+  object_far p (x, is, home) = on_far_side s.word (s.stored p) p (read_of (s.cell p)) x is home
+
+  -- a cell that says where isn't free, and so is one of the heap's
+  inside : (f : Option PtrWord → Bool) → f (Some pointer.Free) ≡ false → (p : ℕ) → f (read_of (s.cell p)) ≡ true → p < CELLS * s.mutators
+  inside f none p h = law.cells.cell_range p (λ z. false≢true (sym (ap f (ap read_of z ∙ unused) ∙ none) ∙ h))
+
+  counts_near : IsHowMany (IsNearObject s) (counts_of s).near
   unfolding counts_of
-  counts_near = (
-    pointers_by lies_near s,
-    refl,
-    distinct_row is_near 0 (CELLS * s.mutators),
-    (λ p. (
-      (λ c. near_object p (read_of (s.cell p)) refl (passes is_near 0 (CELLS * s.mutators) p c)),
-      (λ h.
-          let n = object_near p h in
-          is_there is_near 0 (CELLS * s.mutators) p n (omega arith) (omega (arith, law.cells.cell_range p (near_named p n)))),
-    )),
-  )
+  counts_near = how_many (IsNearObject s) (λ p. lies_near (read_of (s.cell p))) (CELLS * s.mutators) (λ p h. near_object p (read_of (s.cell p)) refl h) object_near (inside lies_near refl)
 
-  counts_far : (counts_of s).far ≡ 0
+  counts_far : IsHowMany (IsFarObject s) (counts_of s).far
   unfolding counts_of
-  counts_far = ap length (none_pass (λ p. lies_far (read_of (s.cell p))) 0 (CELLS * s.mutators) none_far)
+  counts_far = how_many (IsFarObject s) (λ p. lies_far (read_of (s.cell p))) (CELLS * s.mutators) (λ p h. far_object p (read_of (s.cell p)) refl h) object_far (inside lies_far refl)
 
 -- the live bytes that lines tell
 lives : (s : State) (ls : List ℕ) → map (λ (line : LogLine). line.live) (map (log_line (moment_of s)) ls) ≡ map (live_bytes s) ls
@@ -200,8 +222,8 @@ audit_counts now r after is h =
       counts_of s,
       h.reply,
       record {
-        near = counts_near s lasts.law lasts.between.at_hand;
-        far = counts_far s lasts.law lasts.between.at_hand;
+        near = counts_near s lasts.law;
+        far = counts_far s lasts.law;
         live = λ lines later k. counts_live s ∙ ap (λ (ls : List LogLine). sum (map (λ (line : LogLine). line.live) ls)) (sym (told_lines now later lines k));
       },
     )

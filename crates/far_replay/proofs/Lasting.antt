@@ -22,9 +22,8 @@ use Rattle.far_replay.specs.Moment.{Moment, moment_of}
 use Rattle.far_replay.specs.Reply.{Reply}
 use Rattle.far_replay.specs.Between.{Between}
 use Rattle.far_replay.specs.Turn.{effect, refusal, reply_to}
-use Rattle.far_replay.proofs.Coming.{all_come, hand_for}
+use Rattle.far_replay.proofs.Coming.{all_come}
 use Rattle.far_text.proofs.Each.{Each}
-use Rattle.far_replay.proofs.MadeLemmas.{Carries}
 use Rattle.far_replay.proofs.Opened.{opening_law, opening_between}
 use Rattle.far_replay.proofs.Turns.{turns}
 
@@ -36,7 +35,7 @@ pub record Lasts (now : Moment) : Type 0 where
 pub record IsCarriedOut (s : State) (c : Command) (r : Reply) (t : State) : Type 0 where
   pub reply : r ≡ reply_to (moment_of s) c
   pub state : t ≡ after_events s (events_for (moment_of s) c)
-  pub made : Carries s (events_for (moment_of s) c)
+  pub made : AllSucceed s (events_for (moment_of s) c)
   pub fit : Each Fits (events_for (moment_of s) c)
   pub law : Law t
 
@@ -47,14 +46,10 @@ command_carried now c r next lasts bytes h =
     record {
       reply = h.reply;
       state = ends;
-      made = record { succeed = x.succeed; come = all_come now.core c (refusal now c) refl lasts.law (hand_for now.core c lasts.between.at_hand) };
+      made = x.succeed;
       fit = x.fit;
       law = subst Law (sym ends) x.law;
     }
-
--- where its events lead, there is the moment after it
-pub moment_reached : (s t : State) (c : Command) → Law s → Between s → WritesBytes c → t ≡ after_events s (events_for (moment_of s) c) → moment_of t ≡ effect (moment_of s) c
-moment_reached s t c law between bytes e = ap moment_of (e ∙ (turns s c law between bytes).ends)
 
 -- it lasts through a command
 pub effect_lasts : (now : Moment) (c : Command) → Lasts now → WritesBytes c → Lasts (effect now c)
@@ -111,7 +106,7 @@ each_is_moment now (d ∷ cs) (r ∷ rs) (m ∷ ms) is bytes h x c =
     first_or now (m ∷ ms) x is (λ k. each_is_moment m cs rs ms (next_is_moment now d r m is bytes.0 h.0) bytes.1 h.1 x k) c
 
 lawful : (now : Moment) → IsMoment now → Lawful now
-lawful now is = let x = moment_lasts now is in record { reached = is; law = x.law; at_hand = x.between.at_hand }
+lawful now is = let x = moment_lasts now is in record { reached = is; law = x.law; named = x.between.named }
 
 pub first_lawful : (logs mutators epoch : ℕ) → is_shape (shape_of logs mutators epoch) ≡ true → Lawful (first_moment logs mutators epoch)
 first_lawful logs mutators epoch fits = lawful (first_moment logs mutators epoch) (first_is_moment logs mutators epoch fits)
@@ -138,7 +133,7 @@ events_reach now c r next is bytes h =
     let x = command_carried now c r next lasts bytes h in
     record {
       ends = x.state;
-      pass = all_pass now.core (events_for now c) lasts.law x.fit x.made.succeed;
-      succeed = x.made.succeed;
+      pass = all_pass now.core (events_for now c) lasts.law x.fit x.made;
+      succeed = x.made;
       come = all_come now.core c (refusal now c) refl lasts.law;
     }

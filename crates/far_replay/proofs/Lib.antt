@@ -8,8 +8,10 @@ pub mod AloneTurns
 pub mod AloneViews
 pub mod Answering
 pub mod Bringing
+pub mod Brought
 pub mod Coming
 pub mod Counted
+pub mod Dereferences
 pub mod Determined
 pub mod Drops
 pub mod EpochLaws
@@ -17,6 +19,7 @@ pub mod Fronts
 pub mod InquiryLaws
 pub mod Kept
 pub mod Lasting
+pub mod Leading
 pub mod LoadWords
 pub mod Lowest
 pub mod MadeLemmas
@@ -35,6 +38,7 @@ pub mod Spliced
 pub mod StoreTurns
 pub mod Streams
 pub mod TakingRoom
+pub mod TakingView
 pub mod Tries
 pub mod Turns
 pub mod ViewLaws

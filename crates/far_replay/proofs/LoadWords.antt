@@ -1,20 +1,17 @@
 -- The words that are loaded from a view: those of the state before it.
-use Rattle.std.proofs.Common.{◌≡◌, ℕ, zero, suc, ◌+◌, ◌<◌, ◌≤◌, true, refl, ap, subst, ◌∙◌, arith, is_some}
+use Rattle.std.proofs.Common.{◌≡◌, ℕ, zero, suc, ◌+◌, ◌<◌, true, refl, ap, subst, ◌∙◌, arith}
 use Rattle.far_word.specs.Pointer.{read_of}
 use Rattle.far_word.specs.Sizes.{words_for}
 use Rattle.far_core.specs.declared.event.Event.TheVariants.{Load}
 use Rattle.far_core.specs.declared.event.Reply.{Reply}
 use Rattle.far_core.specs.declared.event.Reply.TheVariants.{Word}
-use Rattle.far_core.specs.state.Law.{Law}
 use Rattle.far_core.specs.state.State.{State}
-use Rattle.far_core.specs.events.Step.{step_of, is_legal, is_opened, near_data, near_len, data_len}
+use Rattle.far_core.specs.events.Step.{step_of, is_legal, near_data, data_len}
 use Rattle.far_core.proofs.Owing.{is_test}
 use Rattle.far_replay.specs.EventRows.{after_events, AllSucceed}
-use Rattle.far_replay.specs.Between.{Between}
-use Rattle.far_replay.specs.Events.{view_events, load_events}
-use Rattle.far_replay.specs.Objects.{uses}
+use Rattle.far_replay.specs.Events.{load_events}
 use Rattle.far_replay.proofs.MadeLemmas.{legal_step, load_stays, first_succeeds}
-use Rattle.far_replay.proofs.Views.{Viewed, view_holds}
+use Rattle.far_replay.proofs.Views.{Viewed}
 
 -- loads leave the state
 pub loads_stay : (t : State) (m p first count : ℕ) → after_events t (load_events m p first count) ≡ t
@@ -39,30 +36,3 @@ module _ (s t : State) (m p : ℕ) (view : Viewed s t m p) where
       first_succeeds t (Load m p first) (load_events m p (first + 1) count)
       (load_legal first (subst (λ i. i < words_for (data_len s p)) at (inside 0 (omega arith)))) tt
       (loads_succeed (first + 1) count (λ i lt. let e : first + suc i ≡ first + 1 + i = omega arith in subst (λ k. k < words_for (data_len s p)) e (inside (suc i) (omega arith))))
-
-module _ (s : State) (m p : ℕ) (law : Law s) (between : Between s) (opened : is_opened s m ≡ true) (ours : uses s m p ≡ true) where
-  -- after the view the object is held
-  pub view_held : is_some ((after_events s (view_events s m p)).held p) ≡ true
-  view_held = ap is_some (view_holds s m p law between opened ours).holds.rests
-
-  -- the words are as before
-  pub view_words : (after_events s (view_events s m p)).word ≡ s.word
-  view_words = (view_holds s m p law between opened ours).words
-
-  -- so is the object's first data word
-  pub view_data : near_data (read_of ((after_events s (view_events s m p)).cell p)) ≡ near_data (read_of (s.cell p))
-  view_data = (view_holds s m p law between opened ours).same_data
-
-  -- and its length
-  pub view_len : near_len (read_of ((after_events s (view_events s m p)).cell p)) ≡ near_len (read_of (s.cell p))
-  view_len = (view_holds s m p law between opened ours).same_len
-
-  -- a load after the view answers the word that stood there before it
-  pub load_word : (i : ℕ) → i < words_for (data_len s p) → (step_of (after_events s (view_events s m p)) (Load m p i)).1 ≡ Word (s.word (near_data (read_of (s.cell p)) + i))
-  load_word i lt = load_gives s (after_events s (view_events s m p)) m p (view_holds s m p law between opened ours) i lt
-
-  -- the k-th load of a row of them is made from the view and answers the k-th word from the first on
-  pub loads_answer : (first count k : ℕ) → k < count → first + count ≤ words_for (data_len s p) →
-      (step_of (after_events (after_events s (view_events s m p)) (load_events m p first k)) (Load m p (first + k))).1 ≡ Word (s.word (near_data (read_of (s.cell p)) + (first + k)))
-  loads_answer first count k lt inside =
-      ap (λ t. (step_of t (Load m p (first + k))).1) (loads_stay (after_events s (view_events s m p)) m p first k) ∙ load_word (first + k) (omega arith)

@@ -36,15 +36,6 @@ pub AllComeToPass-parts : (s : State) (es fs : List Event) → AllComeToPass s (
 AllComeToPass-parts s [] fs h = (tt, h)
 AllComeToPass-parts s (e ∷ es) fs h = let rest = AllComeToPass-parts (step_of s e).0 es fs h.1 in ((h.0, rest.0), rest.1)
 
--- each event of a row succeeds, and what it is for comes to pass
-pub record Carries (s : State) (es : List Event) : Type 0 where
-  pub succeed : AllSucceed s es
-  pub come : AllComeToPass s es
-
--- so does each of its first events
-pub Carries-front : (s : State) (es fs : List Event) → Carries s (es ++ fs) → Carries s es
-Carries-front s es fs h = record { succeed = (AllSucceed-parts s es fs h.succeed).0; come = (AllComeToPass-parts s es fs h.come).0 }
-
 -- another answer than a refusal
 pub not_refused : (e : Event) (r : Reply) → r ≢ Refused → Succeeds e r
 not_refused e Refused ne = absurd (ne refl)

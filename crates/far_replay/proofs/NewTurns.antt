@@ -26,7 +26,7 @@ use Rattle.far_core.proofs.Owing.{is_test}
 use Rattle.far_core.proofs.Put.{put_same, put_other}
 use Rattle.far_book.specs.book.Effects.{near_word, placed as placed_by}
 use Rattle.far_replay.specs.Effects.{with_row}
-use Rattle.far_replay.specs.EventRows.{after_events, Succeeds, AllSucceed, AtHand}
+use Rattle.far_replay.specs.EventRows.{after_events, Succeeds, AllSucceed}
 use Rattle.far_replay.specs.Between.{Between}
 use Rattle.far_replay.specs.Events.{zero_puts}
 use Rattle.far_core.proofs.Rows.{row_is}
@@ -174,45 +174,16 @@ module _ (s : State) (law : Law s) (m p len ds new : ℕ) (place : Place)
     taking_succeeds = first_succeeds filled (Name p 0 new) (Adopt m p ∷ []) name_legal (subst (Succeeds (Name p 0 new)) (sym name_done) tt)
         (subst (λ t. AllSucceed t (Adopt m p ∷ [])) (sym named_so) (first_succeeds placed (Adopt m p) [] adopt_legal tt tt))
 
-    -- the new object is at hand
-    hand_new : (q : ℕ) → q ≡ p → AtHand adopted q
-    hand_new q e = record {
-      len = len;
-      ds = ds;
-      place = place;
-      marks = no_marks;
-      near = ap read_of (put_same s.cell p new q e) ∙ says;
-      unchosen = refl;
-      unmoved = refl;
-      kept = refl;
-      used = put_same s.used p true q e;
-    }
-
-    -- the others stay so
-    hand_old : Between s → (q : ℕ) → q ≢ p → s.cell q ≢ 0 → AtHand adopted q
-    hand_old between q ne some_old = let h = between.at_hand q some_old in
-        record {
-          len = h.len;
-          ds = h.ds;
-          place = h.place;
-          marks = h.marks;
-          near = ap read_of (put_other s.cell p new q ne) ∙ h.near;
-          unchosen = h.unchosen;
-          unmoved = h.unmoved;
-          kept = h.kept;
-          used = put_other s.used p true q ne ∙ h.used;
-        }
-
-    -- all are at hand
-    all_at_hand : Between s → (q : ℕ) → adopted.cell q ≢ 0 → AtHand adopted q
-    all_at_hand between q ne = elim (cases_eq q p) [
-      | inl e ↦ hand_new q e
-      | inr other ↦ hand_old between q other (λ z. ne (put_other s.cell p new q other ∙ z))
+    -- each named pointer is used, the new one too
+    all_named : Between s → (q : ℕ) → adopted.cell q ≢ 0 → adopted.used q ≡ true
+    all_named between q ne = elim (cases_eq q p) [
+      | inl e ↦ put_same s.used p true q e
+      | inr other ↦ (put_other s.used p true q other ∙ between.named q (λ z. ne (put_other s.cell p new q other ∙ z)))
     ]
 
     -- so they leave what holds between commands
     pub taking_between : Between s → Between adopted
-    taking_between between = record { at_hand = all_at_hand between }
+    taking_between between = record { named = all_named between }
 
   -- the events of a new object
   abbrev row : List Event

@@ -12,4 +12,4 @@ opening_law logs mutators epoch fits = begins (shape_of logs mutators epoch) tru
 
 -- in the first state no cell is named
 pub opening_between : (logs mutators epoch : ℕ) → is_shape (shape_of logs mutators epoch) ≡ true → Between (first_moment logs mutators epoch).core
-opening_between logs mutators epoch fits = record { at_hand = λ p ne. absurd (ne refl) }
+opening_between logs mutators epoch fits = record { named = λ p ne. absurd (ne refl) }

@@ -33,8 +33,7 @@ use Rattle.far_core.proofs.KeepOwner.{hot_read}
 use Rattle.far_core.proofs.Put.{put_both, put_other, put_same}
 use Rattle.far_book.proofs.region.Calls.{put_put}
 use Rattle.far_replay.specs.Effects.{is_slow, with_view}
-use Rattle.far_replay.proofs.AloneRuns.{quiet_run}
-use Rattle.far_replay.proofs.AloneTurns.{quiet_view}
+use Rattle.far_replay.proofs.AloneRuns.{quiet_run, quiet_view}
 use Rattle.far_replay.specs.Moment.{Moment, moment_of}
 use Rattle.far_replay.specs.Alone.{Alone, Knows, Own}
 use Rattle.far_replay.specs.Answers.{Answered, Answers, Commanded, IsMoment, IsOutput, shape_of, first_moment}
@@ -42,7 +41,7 @@ use Rattle.far_text.specs.Command.{Command, Trace, Nothing, Heap, New, Open, Wri
 use Rattle.far_text.specs.Grammar.{trace_of}
 use Rattle.far_replay.specs.Headline.{IsSound, IsWhole, Lawful, IsSaidBy, TellsAll, TellsLog}
 use Rattle.far_text.specs.Written.{AllWriteBytes}
-use Rattle.far_replay.specs.EventRows.{after_events}
+use Rattle.far_replay.specs.EventRows.{after_events, AllSucceed}
 use Rattle.far_replay.specs.Reply.{Reply, Done, Pointer, Refused, LogLine, reply_text}
 use Rattle.far_replay.specs.Events.{turn_events, view_events, events_for, new_events}
 use Rattle.far_replay.specs.Objects.{is_range, lowest_cell, object_len, uses, with_range}
@@ -51,12 +50,12 @@ use Rattle.far_word.specs.declared.pointer.PtrWord.{PtrWord}
 use Rattle.far_word.specs.declared.pointer.PtrWord.TheVariants.{Free, Near, Far}
 use Rattle.far_word.specs.Pointer.{read_of}
 use Rattle.far_replay.specs.Stays.{MayGain, CellStays, MayMark, Stays}
-use Rattle.far_replay.specs.Turn.{turn_effect, refused_effect, effect, causes, first_cause, refusal, unless, turn_reply, reply_to, log_line, pointer_reply}
+use Rattle.far_replay.specs.Turn.{turn_effect, refused_effect, causes, first_cause, refusal, unless, turn_reply, reply_to, log_line, pointer_reply}
 use Rattle.far_replay.proofs.AloneNew.{new_run, is_structure, is_length}
 use Rattle.far_replay.proofs.AloneFirst.{alone_first}
+use Rattle.far_replay.proofs.Answering.{answers_all}
 use Rattle.far_replay.proofs.Kept.{whole}
 use Rattle.far_replay.proofs.Lasting.{first_lasts, first_lawful, command_carried, moment_lasts, moments_last, each_is_moment, first_is_moment}
-use Rattle.far_replay.proofs.MadeLemmas.{Carries}
 use Rattle.far_replay.proofs.PlainReplies.{replies_plain}
 use Rattle.far_replay.proofs.ViewLaws.{logs_stay}
 use Rattle.far_text.proofs.TextLaws.{texts_write}
@@ -67,13 +66,6 @@ use Rattle.far_replay.proofs.Turns.{marked_last, room_lacks, room_last, new_test
 use Rattle.far_replay.proofs.Views.{view_is, view_law, slow_view}
 
 -- ---- each text has an output
--- each list of commands is answered
-answers_all : (now : Moment) (cs : List Command) → (rs : List Reply) × (moments : List Moment) × Answered now cs rs moments
-answers_all now [] = ([], [], tt)
-answers_all now (c ∷ cs) =
-    let rest = answers_all (effect now c) cs in
-    (reply_to now c ∷ rest.0, effect now c ∷ rest.1, (record { reply = refl; moment = refl }, rest.2))
-
 heap_answered : (logs mutators epoch : ℕ) (cs : List Command) (b : Bool) →
     (output : List ℕ) × MatchBool b ((rs : List Reply) × (moments : List Moment) × Answered (first_moment logs mutators epoch) cs rs moments × (output ≡ flat_map reply_text (Done ∷ rs))) (output ≡ reply_text (Refused Shape))
 heap_answered logs mutators epoch cs true = let x = answers_all (first_moment logs mutators epoch) cs in (flat_map reply_text (Done ∷ x.0), (x.0, x.1, x.2, refl))
@@ -394,7 +386,7 @@ makes_its_object now m len ds p next is c =
     let own : p / CELLS ≡ m = omega (arith, where_it_is.0, where_it_is.1) in
     let events : events_for now (Mutator m (New len ds)) ≡ new_events m len ds (Some p) (Some at.0) =
     ap (λ o. unless o (λ _. []) (turn_events now (Mutator m (New len ds)))) none ∙ ap (λ o. new_events m len ds o (room s (size_of len) true)) low ∙ ap (λ r. new_events m len ds (Some p) r) at.1 in
-    let run = new_run s m len ds p at.0 lasts.law numbers.0 own sized.1 numbers.1 (subst (Carries s) events h.made) in
+    let run = new_run s m len ds p at.0 lasts.law numbers.0 own sized.1 numbers.1 where_it_is.2 (subst (AllSucceed s) events h.made) in
     let whole : run.0 ≡ record { owner = m; ds = ds; bytes = replicate len 0; home = Group at.0.log } =
     run.5 ∙ ap (λ (o : ℕ). record { owner = o; ds = ds; bytes = replicate len 0; home = Group at.0.log }) own in
     (at.0, at.1, ap (λ (x : State). (world_of x).object) (h.state ∙ ap (after_events s) events) ∙ run.2 ∙ ap (λ (o : Object). put (world_of s).object p (Some o)) whole)

@@ -1,51 +1,43 @@
--- Reads and writes of a range behind a view: what the calls of the core ask for, and the events that they are.
-use Rattle.std.proofs.Common.{◌≡◌, ℕ, ◌+◌, ◌-◌, ◌*◌, ◌/◌, ◌^◌, ◌<◌, ◌≤◌, Bool, true, false, not, nat_lt, List, [], ◌∷◌, ◌++◌, length, take, get_or, refl, sym, ap, subst, ◌∙◌, arith, is_some, length-take-le, Option, Some, None}
-use Rattle.std.specs.Prelude.{slice_index, IsSome, map}
+-- Reads and writes of a range: what the calls of the core ask for, and what the commands come to.
+use Rattle.std.proofs.Common.{◌≡◌, ◌≢◌, ℕ, ◌+◌, ◌-◌, ◌*◌, ◌/◌, ◌^◌, ◌<◌, ◌≤◌, Bool, true, false, not, nat_eq, nat_lt, List, [], ◌∷◌, ◌++◌, length, take, get_or, refl, sym, ap, subst, ◌∙◌, arith, is_some, length-take-le, Option, Some, None, if◌then◌else◌}
+use Rattle.std.specs.Prelude.{slice_index, slice_range, IsSome, map}
 use Rattle.std.specs.List.{range_with_len}
-use Rattle.far_core.specs.declared.event.Event.{Event}
-use Rattle.std.proofs.lemmas.Bool.{eq-eqb, false≢true, true≢false}
+use Rattle.std.proofs.lemmas.Bool.{and_parts, eq-eqb, false≢true}
+use Rattle.std.proofs.lemmas.Bool.Decides.{nat_tests}
 use Rattle.std.proofs.lemmas.List.{get_or-take}
 use Rattle.far_word.specs.Bytes.{packed_word}
 use Rattle.far_word.specs.Pointer.{IsPtr, pointer_len, read_of}
 use Rattle.far_word.specs.Sizes.{words_for}
 use Rattle.far_word.specs.declared.pointer.PtrWord.{PtrWord}
 use Rattle.far_word.specs.declared.pointer.PtrWord.TheVariants.{Free, Near, Far}
+use Rattle.far_word.specs.declared.refused.Refused.{Refused as Refusal}
+use Rattle.far_word.specs.declared.refused.Refused.TheVariants.{Memory, NoRoom, Closed, NotHeld, Range}
 use Rattle.far_word.specs.declared.sizes.TheConstants.{CELLS, LONGEST}
 use Rattle.far_word.proofs.ByteLaws.{length-bytes_of}
 use Rattle.far_word.proofs.PointerLaws.{read_says}
+use Rattle.far_core.specs.declared.event.Event.{Event}
 use Rattle.far_core.specs.declared.event.Event.TheVariants.{Load as Loads, Store as Stores}
 use Rattle.far_core.specs.events.Ranges.{stores}
-use Rattle.far_core.specs.events.Step.{data_len, data_word, near_data}
+use Rattle.far_core.specs.events.Step.{data_len, is_opened, near_data}
 use Rattle.far_core.specs.state.Law.{Law}
 use Rattle.far_core.specs.state.State.{State}
-use Rattle.far_text.specs.Command.{Mutator, Read, Write}
+use Rattle.far_text.specs.Command.{Command, Mutator, Read, Write}
+use Rattle.far_replay.specs.Dereference.{RefusesView, dereferenced, has_no_room, sought}
+use Rattle.far_replay.specs.Effects.{with_data}
 use Rattle.far_replay.specs.EventRows.{after_events}
-use Rattle.far_replay.specs.Events.{first_word, store_events, turn_events, view_events, words_touched}
+use Rattle.far_replay.specs.Events.{first_word, store_events, words_touched}
 use Rattle.far_replay.specs.Interpreter.{IsAccess, IsViewed}
-use Rattle.far_replay.specs.Moment.{moment_of}
-use Rattle.far_replay.specs.Objects.{data_of, named_len, object_len, with_range, uses}
-use Rattle.far_replay.specs.Between.{Between}
+use Rattle.far_replay.specs.Moment.{Moment, moment_of}
+use Rattle.far_replay.specs.Objects.{data_of, is_range, named_len, object_len, with_range, uses}
+use Rattle.far_replay.specs.Reply.{Reply, Data, Done, Refused}
+use Rattle.far_replay.specs.Turn.{access_causes, effect, first_cause, refused_effect, reply_to, turn_effect, turn_reply, unless}
 use Rattle.far_replay.specs.declared.turn.Access.{Access}
 use Rattle.far_replay.proofs.AloneStates.{data_small}
+use Rattle.far_replay.proofs.Dereferences.{Derefs, derefs}
 use Rattle.far_replay.proofs.RangeWrites.{rows_same}
 use Rattle.far_replay.proofs.Spliced.{AreBytes, length-with_range, packed_padded, with_range_bytes}
-use Rattle.far_word.specs.declared.refused.Refused.{Refused as Refusal}
-use Rattle.far_word.specs.declared.refused.Refused.TheVariants.{NoRoom, Closed, NotHeld, Range}
-use Rattle.far_core.specs.events.Step.{is_opened}
-use Rattle.far_replay.specs.Dereference.{has_no_room}
-use Rattle.far_replay.specs.Interpreter.{StandsFor}
-use Rattle.far_replay.specs.Objects.{is_range}
-use Rattle.far_replay.specs.Outcome.{reply_by}
-use Rattle.far_replay.specs.Reply.{Reply, Done, Refused}
-use Rattle.far_replay.specs.Turn.{access_causes, first_cause, reply_to, turn_reply, unless}
-use Rattle.far_replay.specs.Events.{events_for, refused_events}
-use Rattle.far_replay.specs.declared.outcome.Outcome.{Outcome}
-use Rattle.far_replay.specs.declared.outcome.Outcome.TheVariants as outcomes
-use Rattle.far_replay.proofs.Bringing.{fast_room}
-use Rattle.far_replay.specs.Dereference.{RefusesView, dereferenced}
-use Rattle.far_replay.proofs.Turns.{fast_between, data_same, read_end, viewing, write_end}
+use Rattle.far_replay.proofs.Turns.{stores_lead}
 use Rattle.far_replay.proofs.Turns.{Access as Reached}
-use Rattle.far_replay.proofs.Views.{Viewed, fast_dereference, len_near, view_is}
 
 -- the length that a cell on the layout says
 pub len_named : (o : Option PtrWord) (n : ℕ) → IsSome o → ((v : PtrWord) → o ≡ Some v → n ≡ pointer_len v) → n ≡ named_len o
@@ -67,33 +59,41 @@ len_most w (Some v) n fits e some is = omega (arith, is v refl, ptr_most v (read
 pub uses_own : (s : State) (m p : ℕ) → p / CELLS ≡ m → s.used p ≡ true → uses s m p ≡ true
 uses_own s m p own used = rw (eq-eqb (p / CELLS) m own, used) refl
 
-module _ (s t : State) (a : Access) (law : Law s) (between : Between s) (is : IsAccess s a.owner a.pointer a.from a.count a)
-    (behind : t ≡ after_events s (view_events s a.owner a.pointer)) where
-  pub reached : Reached s a.owner a.pointer a.from a.count
-  reached =
-      let near : object_len s a.pointer ≡ data_len s a.pointer = len_near s law between.at_hand a.pointer is.used in
-      record { opened = is.opened; ours = uses_own s a.owner a.pointer is.own is.used; some = is.some; within = omega (arith, near, is.inside) }
+-- an access is reached
+opened_inside : (s : State) (m : ℕ) → is_opened s m ≡ true → nat_lt m s.mutators ≡ true
+opened_inside s m h = (and_parts (nat_lt m s.mutators) (not (nat_eq (s.scope m) 0)) h).0
 
-  pub viewed_there : Viewed s t a.owner a.pointer
-  viewed_there = subst (λ u. Viewed s u a.owner a.pointer) (sym behind) (viewing s a.owner a.pointer a.from a.count law between reached)
+is_range_in : (n from count : ℕ) → 0 < count → from + count ≤ n → is_range n from count ≡ true
+is_range_in n from count some inside = grind (arith, nat_tests)
 
-  -- behind the view the range is viewed
+-- so that it is refused for want of room alone
+by_room : (a b c d e : Bool) → a ≡ true → b ≡ true → c ≡ true → d ≡ true →
+    first_cause ((not a, Range) ∷ (not b, Closed) ∷ (not c, NotHeld) ∷ (not d, Range) ∷ (e, NoRoom) ∷ []) ≡ (if e then Some NoRoom else None)
+by_room true true true true e w x y z = refl
+by_room true true true false e w x y z = absurd (false≢true z)
+by_room true true false d e w x y z = absurd (false≢true y)
+by_room true false c d e w x y z = absurd (false≢true x)
+by_room false b c d e w x y z = absurd (false≢true w)
+
+module _ (s : State) (a : Access) (is : IsAccess s a.owner a.pointer a.from a.count a) where
+  pub wants_room : (b : Bool) → has_no_room s a.owner a.pointer ≡ b → first_cause (access_causes (moment_of s) a.owner a.pointer a.from a.count ++ (has_no_room s a.owner a.pointer, NoRoom) ∷ []) ≡ (if b then Some NoRoom else None)
+  wants_room b e = by_room (nat_lt a.owner s.mutators) (is_opened s a.owner) (uses s a.owner a.pointer) (is_range (object_len s a.pointer) a.from a.count) (has_no_room s a.owner a.pointer)
+      (opened_inside s a.owner is.opened) is.opened (uses_own s a.owner a.pointer is.own is.used) (is_range_in (object_len s a.pointer) a.from a.count is.some is.inside)
+      ∙ ap (λ x. if x then Some NoRoom else None) e
+
+-- ---- a range that is viewed
+module _ (s t : State) (a : Access) (law : Law s) (is : IsAccess s a.owner a.pointer a.from a.count a) (room : has_no_room s a.owner a.pointer ≡ false) (to : t ≡ dereferenced s a.owner a.pointer) where
+  led : Derefs s a.owner a.pointer
+  led = derefs s a.owner a.pointer law is.opened (uses_own s a.owner a.pointer is.own is.used) room
+
   pub viewed_range : IsViewed t a
-  viewed_range = record {
-    own = viewed_there.holds.own;
-    held = ap is_some viewed_there.holds.rests;
+  viewed_range = subst (λ (u : State). IsViewed u a) (sym to) record {
+    own = led.view.holds.own;
+    held = ap is_some led.view.holds.rests;
     some = is.some;
-    inside = omega (arith, viewed_there.same_len, reached.within);
+    inside = omega (arith, led.long, is.inside);
     most = omega (arith, is.inside, is.most);
   }
-
-  -- each word of the object is what it was
-  pub viewed_word : (i : ℕ) → t.word (data_word t a.pointer i) ≡ s.word (data_word s a.pointer i)
-  viewed_word i = ap (λ d. t.word (d + i)) viewed_there.same_data ∙ ap (λ (f : ℕ → ℕ). f (near_data (read_of (s.cell a.pointer)) + i)) viewed_there.words
-
-  -- the events of a read are those of the view, and loads
-  pub read_made : t ≡ after_events s (turn_events (moment_of s) (Mutator a.owner (Read a.pointer a.from a.count)))
-  read_made = behind ∙ sym (read_end s a.owner a.pointer a.from a.count law between reached)
 
 -- ---- the stores of a write
 -- an object's bytes with others in place are padded words
@@ -133,61 +133,75 @@ module _ (t : State) (a : Access) (new words : List ℕ) (view : IsViewed t a) (
   stores_made u stored =
       stored ∙ ap (after_events t) (front_stores a.owner a.pointer (first_word a.from) (words_touched a.from a.count) words (with_range (data_of t a.pointer) a.from new) fits with_range_in)
 
--- a state after a dereference that is a pin
-pub viewed_by : (s t : State) (a : Access) → Law s → Between s → IsAccess s a.owner a.pointer a.from a.count a → t ≡ dereferenced s a.owner a.pointer → t ≡ after_events s (view_events s a.owner a.pointer)
-viewed_by s t a law between is led =
-    let ours = uses_own s a.owner a.pointer is.own is.used in
-    led ∙ fast_dereference s a.owner a.pointer (fast_between s a.owner a.pointer law between ours) ∙ sym (view_is s a.owner a.pointer law is.opened ours)
-
--- no dereference is refused then
-pub none_refused : (s t : State) (a : Access) (why : Refusal) → Law s → Between s → IsAccess s a.owner a.pointer a.from a.count a → RefusesView s a.owner a.pointer why t → ⊥
-none_refused s t a why law between is h = true≢false (sym h.0 ∙ fast_between s a.owner a.pointer law between (uses_own s a.owner a.pointer is.own is.used))
-
-module _ (s t u : State) (a : Access) (new : List ℕ) (law : Law s) (between : Between s) (is : IsAccess s a.owner a.pointer a.from a.count a)
-    (behind : t ≡ after_events s (view_events s a.owner a.pointer)) (small : AreBytes new) (long : length new ≡ a.count) where
+-- ---- a write
+-- a write's stores end where it does
+module _ (s t u : State) (a : Access) (new : List ℕ) (law : Law s) (is : IsAccess s a.owner a.pointer a.from a.count a) (room : has_no_room s a.owner a.pointer ≡ false)
+    (to : t ≡ dereferenced s a.owner a.pointer) (small : AreBytes new) (long : length new ≡ a.count) where
   here : Reached s a.owner a.pointer a.from (length new)
-  here = subst (λ n. Reached s a.owner a.pointer a.from n) (sym long) (reached s t a law between is behind)
+  here = record { opened = is.opened; ours = uses_own s a.owner a.pointer is.own is.used; some = omega (arith, long, is.some); within = omega (arith, long, is.inside); room = room }
 
-  -- the events of a write are those of the view, loads, and the stores
-  pub write_made : u ≡ after_events t (store_events a.owner a.pointer (first_word a.from) (words_touched a.from a.count) (with_range (data_of t a.pointer) a.from new)) →
-      u ≡ after_events s (turn_events (moment_of s) (Mutator a.owner (Write a.pointer a.from new)))
-  write_made stored =
+  write_stored : u ≡ after_events t (store_events a.owner a.pointer (first_word a.from) (words_touched a.from a.count) (with_range (data_of t a.pointer) a.from new)) →
+      u ≡ with_data (dereferenced s a.owner a.pointer) a.pointer a.from new
+  write_stored stored =
       stored
-      ∙ ap (λ n. after_events t (store_events a.owner a.pointer (first_word a.from) (words_touched a.from n) (with_range (data_of t a.pointer) a.from new))) (sym long)
-      ∙ ap (λ (v : State). after_events v (store_events a.owner a.pointer (first_word a.from) (words_touched a.from (length new)) (with_range (data_of v a.pointer) a.from new))) behind
-      ∙ ap (λ (old : List ℕ). after_events (after_events s (view_events s a.owner a.pointer)) (store_events a.owner a.pointer (first_word a.from) (words_touched a.from (length new)) (with_range old a.from new)))
-      (data_same s a.owner a.pointer a.from new law between here small)
-      ∙ sym (write_end s a.owner a.pointer a.from new law between here small)
+      ∙ ap (λ (v : State). after_events v (store_events a.owner a.pointer (first_word a.from) (words_touched a.from a.count) (with_range (data_of v a.pointer) a.from new))) to
+      ∙ ap (λ n. after_events (dereferenced s a.owner a.pointer) (store_events a.owner a.pointer (first_word a.from) (words_touched a.from n) (with_range (data_of (dereferenced s a.owner a.pointer) a.pointer) a.from new))) (sym long)
+      ∙ (stores_lead s a.owner a.pointer a.from new law here small).ends
 
--- ---- a range that is reached is read or written
-allowed : (a b c d e : Bool) → first_cause ((not a, Range) ∷ (not b, Closed) ∷ (not c, NotHeld) ∷ (not d, Range) ∷ []) ≡ None → e ≡ false →
-    first_cause ((not a, Range) ∷ (not b, Closed) ∷ (not c, NotHeld) ∷ (not d, Range) ∷ (e, NoRoom) ∷ []) ≡ None
-allowed true true true true true h f = absurd (true≢false f)
-allowed true true true true false h f = refl
-allowed true true true false e h f = absurd cc
-allowed true true false d e h f = absurd cc
-allowed true false c d e h f = absurd cc
-allowed false b c d e h f = absurd cc
+  pub write_made : u ≡ after_events t (store_events a.owner a.pointer (first_word a.from) (words_touched a.from a.count) (with_range (data_of t a.pointer) a.from new)) →
+      moment_of u ≡ effect (moment_of s) (Mutator a.owner (Write a.pointer a.from new))
+  write_made stored =
+      let now : Moment = moment_of s in
+      let c : Command = Mutator a.owner (Write a.pointer a.from new) in
+      ap moment_of (write_stored stored) ∙ ap (λ o. unless o (refused_effect now c) (turn_effect now c)) (sym (ap (λ n. first_cause (access_causes now a.owner a.pointer a.from n ++ (has_no_room s a.owner a.pointer, NoRoom) ∷ [])) long ∙ wants_room s a is false room))
 
-module _ (s : State) (m p from count : ℕ) (a : Access) (law : Law s) (between : Between s) (is : IsAccess s m p from count a) (first : None ≡ first_cause (access_causes (moment_of s) m p from count)) where
-  none_left : first_cause (access_causes (moment_of s) m p from count ++ (has_no_room s m p, NoRoom) ∷ []) ≡ None
-  none_left = allowed (nat_lt m s.mutators) (is_opened s m) (uses s m p) (is_range (object_len s p) from count) (has_no_room s m p) (sym first)
-      (fast_room s m p (fast_between s m p law between (uses_own s m p is.own is.used)))
+-- ---- what is refused for want of room, or for want of memory
+-- what isn't want of memory is want of room
+only_room : (s : State) (m p : ℕ) (why : Refusal) (t : State) → RefusesView s m p why t → why ≢ Memory → (why ≡ NoRoom) × (t ≡ sought s m p) × (has_no_room s m p ≡ true)
+only_room s m p NoRoom t h other = (refl, h.1.1, rw (h.0, h.1.0) refl)
+only_room s m p Memory t h other = absurd (other refl)
+only_room s m p why t h other = absurd h.1
 
-  pub range_read : (t : State) → t ≡ after_events s (turn_events (moment_of s) (Mutator a.owner (Read a.pointer a.from a.count))) → t ≡ after_events s (events_for (moment_of s) (Mutator m (Read p from count)))
-  range_read t led = led ∙ (λ i. after_events s (turn_events (moment_of s) (Mutator (is.owner i) (Read (is.pointed i) (is.starts i) (is.counts i)))))
-      ∙ ap (λ o. after_events s (unless o (refused_events (moment_of s) (Mutator m (Read p from count))) (turn_events (moment_of s) (Mutator m (Read p from count))))) (sym none_left)
+module _ (s t : State) (a : Access) (why : Refusal) (is : IsAccess s a.owner a.pointer a.from a.count a) (refuses : RefusesView s a.owner a.pointer why t) (other : why ≢ Memory) where
+  wants : (why ≡ NoRoom) × (t ≡ sought s a.owner a.pointer) × (has_no_room s a.owner a.pointer ≡ true)
+  wants = only_room s a.owner a.pointer why t refuses other
 
-  pub range_told : (r : Reply) → r ≡ turn_reply (moment_of s) (Mutator a.owner (Read a.pointer a.from a.count)) → r ≡ reply_to (moment_of s) (Mutator m (Read p from count))
-  range_told r told = told ∙ (λ i. turn_reply (moment_of s) (Mutator (is.owner i) (Read (is.pointed i) (is.starts i) (is.counts i))))
-      ∙ ap (λ o. unless o Refused (turn_reply (moment_of s) (Mutator m (Read p from count)))) (sym none_left)
+  cause : first_cause (access_causes (moment_of s) a.owner a.pointer a.from a.count ++ (has_no_room s a.owner a.pointer, NoRoom) ∷ []) ≡ Some NoRoom
+  cause = wants_room s a is true wants.2
 
-module _ (s : State) (m p from : ℕ) (bytes : List ℕ) (a : Access) (law : Law s) (between : Between s) (is : IsAccess s m p from (length bytes) a)
-    (first : None ≡ first_cause (access_causes (moment_of s) m p from (length bytes))) where
-  pub range_written : (t : State) → t ≡ after_events s (turn_events (moment_of s) (Mutator a.owner (Write a.pointer a.from bytes))) → t ≡ after_events s (events_for (moment_of s) (Mutator m (Write p from bytes)))
-  range_written t led = led ∙ (λ i. after_events s (turn_events (moment_of s) (Mutator (is.owner i) (Write (is.pointed i) (is.starts i) bytes))))
-      ∙ ap (λ o. after_events s (unless o (refused_events (moment_of s) (Mutator m (Write p from bytes))) (turn_events (moment_of s) (Mutator m (Write p from bytes)))))
-      (sym (none_left s m p from (length bytes) a law between is first))
+  pub read_refused : moment_of t ≡ effect (moment_of s) (Mutator a.owner (Read a.pointer a.from a.count))
+  read_refused =
+      let now : Moment = moment_of s in
+      let c : Command = Mutator a.owner (Read a.pointer a.from a.count) in
+      ap moment_of wants.1 ∙ ap (λ o. unless o (refused_effect now c) (turn_effect now c)) (sym cause)
 
-  pub range_done : (outcome : Outcome) → outcome ≡ outcomes.Done → StandsFor outcome (reply_to (moment_of s) (Mutator m (Write p from bytes)))
-  range_done outcome done texts lines = ap (reply_by texts lines) done ∙ ap (λ o. unless o Refused Done) (sym (none_left s m p from (length bytes) a law between is first))
+  pub read_refusal : Refused why ≡ reply_to (moment_of s) (Mutator a.owner (Read a.pointer a.from a.count))
+  read_refusal = ap Refused wants.0 ∙ ap (λ o. unless o Refused (turn_reply (moment_of s) (Mutator a.owner (Read a.pointer a.from a.count)))) (sym cause)
+
+  module _ (new : List ℕ) (long : length new ≡ a.count) where
+    cause_long : first_cause (access_causes (moment_of s) a.owner a.pointer a.from (length new) ++ (has_no_room s a.owner a.pointer, NoRoom) ∷ []) ≡ Some NoRoom
+    cause_long = ap (λ n. first_cause (access_causes (moment_of s) a.owner a.pointer a.from n ++ (has_no_room s a.owner a.pointer, NoRoom) ∷ [])) long ∙ cause
+
+    pub write_refused : moment_of t ≡ effect (moment_of s) (Mutator a.owner (Write a.pointer a.from new))
+    write_refused =
+        let now : Moment = moment_of s in
+        let c : Command = Mutator a.owner (Write a.pointer a.from new) in
+        ap moment_of wants.1 ∙ ap (λ o. unless o (refused_effect now c) (turn_effect now c)) (sym cause_long)
+
+    pub write_refusal : Refused why ≡ reply_to (moment_of s) (Mutator a.owner (Write a.pointer a.from new))
+    write_refusal = ap Refused wants.0 ∙ ap (λ o. unless o Refused Done) (sym cause_long)
+
+-- ---- what isn't
+module _ (s t : State) (a : Access) (is : IsAccess s a.owner a.pointer a.from a.count a) (room : has_no_room s a.owner a.pointer ≡ false) (to : t ≡ dereferenced s a.owner a.pointer) where
+  pub read_made : moment_of t ≡ effect (moment_of s) (Mutator a.owner (Read a.pointer a.from a.count))
+  read_made =
+      let now : Moment = moment_of s in
+      let c : Command = Mutator a.owner (Read a.pointer a.from a.count) in
+      ap moment_of to ∙ ap (λ o. unless o (refused_effect now c) (turn_effect now c)) (sym (wants_room s a is false room))
+
+  pub read_told : (r : Reply) → r ≡ Data (slice_range (data_of t a.pointer) a.from (a.from + a.count)) → r ≡ reply_to (moment_of s) (Mutator a.owner (Read a.pointer a.from a.count))
+  read_told r told = told ∙ ap (λ (u : State). Data (slice_range (data_of u a.pointer) a.from (a.from + a.count))) to
+      ∙ ap (λ o. unless o Refused (turn_reply (moment_of s) (Mutator a.owner (Read a.pointer a.from a.count)))) (sym (wants_room s a is false room))
+
+  pub write_told : (new : List ℕ) → length new ≡ a.count → Done ≡ reply_to (moment_of s) (Mutator a.owner (Write a.pointer a.from new))
+  write_told new long = ap (λ o. unless o Refused Done) (sym (ap (λ n. first_cause (access_causes (moment_of s) a.owner a.pointer a.from n ++ (has_no_room s a.owner a.pointer, NoRoom) ∷ [])) long ∙ wants_room s a is false room))

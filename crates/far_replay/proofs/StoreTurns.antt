@@ -1,4 +1,4 @@
--- Stores into an object that is held: each is made, and what holds between commands stays.
+-- Stores into an object that is held: each is made, and they make a row of words.
 use mathlib.Core.Path.{fun_ext}
 use Rattle.std.proofs.Common.{◌≡◌, ℕ, zero, suc, ◌+◌, ◌-◌, ◌*◌, ◌^◌, ◌<◌, true, sym, ap, subst, ◌∙◌, arith, List, map}
 use Rattle.std.specs.List.{range_with_len}
@@ -10,20 +10,13 @@ use Rattle.far_core.specs.state.Law.{Law}
 use Rattle.far_core.specs.events.Legal.{Legal, HoldsObject}
 use Rattle.far_core.specs.state.State.{State, put}
 use Rattle.far_word.specs.Pointer.{read_of}
-use Rattle.far_core.specs.events.Step.{is_legal, after, data_word, near_data}
+use Rattle.far_core.specs.events.Step.{is_legal, after, near_data}
 use Rattle.far_core.proofs.Keeps.{keeps}
 use Rattle.far_core.proofs.Owing.{is_test}
 use Rattle.far_replay.specs.Effects.{with_row}
 use Rattle.far_replay.specs.EventRows.{after_events, AllSucceed}
-use Rattle.far_replay.specs.Between.{Between}
 use Rattle.far_replay.proofs.MadeLemmas.{made_first, first_succeeds}
 use Rattle.far_core.proofs.Rows.{row_none, row_first}
-
--- other words leave what holds between commands
-between_words : (s : State) (word : ℕ → ℕ) → Between s → Between record s { word = word }
-between_words s word between = record {
-  at_hand = λ p ne. let h = between.at_hand p ne in record { len = h.len; ds = h.ds; place = h.place; marks = h.marks; near = h.near; unchosen = h.unchosen; unmoved = h.unmoved; kept = h.kept; used = h.used };
-}
 
 -- ---- a row of stores
 module _ (m p len : ℕ) (place : Place) (w : ℕ → ℕ) (wide : (i : ℕ) → w i < 2 ^ 64)
@@ -36,20 +29,18 @@ module _ (m p len : ℕ) (place : Place) (w : ℕ → ℕ) (wide : (i : ℕ) →
   store_holds : (u : State) → HoldsObject u m p len place → (i : ℕ) → HoldsObject (after u (Store m p i (w i))) m p len place
   store_holds u h i = record { own = h.own; rests = h.rests; near = h.near }
 
-  -- the stores succeed and keep what holds between commands
-  pub stores_go : (count first : ℕ) (u : State) → Law u → Between u → HoldsObject u m p len place → ((i : ℕ) → i < count → first + i < words_for len) →
-      AllSucceed u (map (λ i. Store m p i (w i)) (range_with_len first count)) × Between (after_events u (map (λ i. Store m p i (w i)) (range_with_len first count)))
-  stores_go zero first u law between h inside = (tt, between)
-  stores_go (suc count) first u law between h inside =
+  -- the stores succeed
+  pub stores_go : (count first : ℕ) (u : State) → Law u → HoldsObject u m p len place → ((i : ℕ) → i < count → first + i < words_for len) →
+      AllSucceed u (map (λ i. Store m p i (w i)) (range_with_len first count))
+  stores_go zero first u law h inside = tt
+  stores_go (suc count) first u law h inside =
       let at : first + 0 ≡ first = omega arith in
       let lt : first < words_for len = subst (λ i. i < words_for len) at (inside 0 (omega arith)) in
       let fact = store_fact u h first lt in
       let legal : is_legal u (Store m p first (w first)) ≡ true = is_test u (Store m p first (w first)) fact in
-      let rest = stores_go count (first + 1) (after u (Store m p first (w first))) (keeps u (Store m p first (w first)) law (wide first) fact)
-      (between_words u (put u.word (data_word u p first) (w first)) between) (store_holds u h first)
+      let rest = stores_go count (first + 1) (after u (Store m p first (w first))) (keeps u (Store m p first (w first)) law (wide first) fact) (store_holds u h first)
       (λ i less. let e : first + suc i ≡ first + 1 + i = omega arith in subst (λ k. k < words_for len) e (inside (suc i) (omega arith))) in
-      let row : List Event = map (λ i. Store m p i (w i)) (range_with_len (first + 1) count) in
-      (first_succeeds u (Store m p first (w first)) row legal tt rest.0, subst (λ t. Between t) (sym (made_first u (Store m p first (w first)) row legal)) rest.1)
+      first_succeeds u (Store m p first (w first)) (map (λ i. Store m p i (w i)) (range_with_len (first + 1) count)) legal tt rest
 
   -- they make a row of words
   pub stores_end : (count first : ℕ) (u : State) → Law u → HoldsObject u m p len place → ((i : ℕ) → i < count → first + i < words_for len) →

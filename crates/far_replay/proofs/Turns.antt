@@ -1,6 +1,7 @@
 -- The events of each command succeed, and keep the law and what holds between commands.
-use Rattle.std.proofs.Common.{◌≡◌, ◌≢◌, ℕ, ◌+◌, ◌*◌, ◌/◌, ◌%◌, ◌^◌, ◌<◌, ◌≤◌, ◌⊎◌, Bool, true, false, cond, not, ◌&&◌, nat_lt, nat_le, nat_eq, refl, sym, ap, subst, ◌∙◌, arith, Option, Some, None, List, [], ◌∷◌, ◌++◌, length, get_or, is_some, if◌then◌else◌, inl, inr}
-use Rattle.std.proofs.lemmas.Bool.{and_parts, cond_both, ltb-true, true≢false}
+use Rattle.std.proofs.Common.{◌≡◌, ◌≢◌, ℕ, ◌+◌, ◌-◌, ◌*◌, ◌/◌, ◌%◌, ◌^◌, ◌<◌, ◌≤◌, ◌⊎◌, Bool, true, false, cond, not, ◌&&◌, nat_lt, nat_le, nat_eq, refl, sym, ap, subst, ◌∙◌, arith, Option, Some, None, List, [], ◌∷◌, ◌++◌, length, get_or, is_some, if◌then◌else◌, inl, inr, Result, Ok, Err}
+use Rattle.std.specs.Prelude.{OnOk}
+use Rattle.std.proofs.lemmas.Bool.{and_parts, ltb-true}
 use Rattle.std.proofs.lemmas.Bool.Decides.{nat_tests}
 use Rattle.far_word.specs.declared.mark.Marks.{Marks}
 use Rattle.far_word.specs.declared.pointer.Place.{Place}
@@ -8,7 +9,7 @@ use Rattle.far_word.specs.declared.pointer.PtrWord.TheVariants.{Near}
 use Rattle.far_word.specs.declared.refused.Refused.{Refused as Refusal}
 use Rattle.far_word.specs.declared.refused.Refused.TheVariants.{NoRoom, NoPointer, Length, Closed, AlreadyOpen, NotHeld, Range, Held, Marked}
 use Rattle.far_word.specs.declared.sizes.TheConstants.{CELLS, LOG_WORDS, LONGEST}
-use Rattle.far_word.specs.Bytes.{bytes_of, packed_word}
+use Rattle.far_word.specs.Bytes.{packed_word}
 use Rattle.far_word.specs.Header.{head_word}
 use Rattle.far_word.specs.Pointer.{IsPtr, read_of}
 use Rattle.far_word.specs.Sizes.{size_of, words_for}
@@ -16,7 +17,7 @@ use Rattle.far_word.proofs.ByteLaws.{bytes_of-small, length-bytes_of}
 use Rattle.far_word.proofs.HeaderLaws.{head_fits}
 use Rattle.far_word.proofs.PointerLaws.{read_back, word_fits}
 use Rattle.far_core.specs.declared.event.Event.{Event}
-use Rattle.far_core.specs.declared.event.Event.TheVariants.{ReadEpoch as ReadsEpoch, Open as Opens, Pin as Pins, Load as Loads, Store as Stores, Close as Closes, Adopt as Adopts, Put as Puts, Name as Names}
+use Rattle.far_core.specs.declared.event.Event.TheVariants.{ReadEpoch as ReadsEpoch, Open as Opens, Load as Loads, Store as Stores, Close as Closes, Adopt as Adopts, Put as Puts, Name as Names}
 use Rattle.far_core.specs.declared.event.Kind.TheVariants as kinds
 use Rattle.far_core.specs.events.Legal.{IsNext}
 use Rattle.far_core.specs.laws.Rooms.{IsRoom, RoomIs}
@@ -25,33 +26,34 @@ use Rattle.far_core.specs.state.Room.{room}
 use Rattle.far_core.specs.state.State.{State, put, addr}
 use Rattle.far_core.specs.events.Step.{Fits, is_legal, is_opened, data_len, near_data, after_close, scope_word_of, with_span}
 use Rattle.far_core.proofs.Bounds.{some_of}
-use Rattle.far_core.proofs.KeepOwner.{nonzero}
 use Rattle.far_core.proofs.KeepPlace.{header}
 use Rattle.far_core.proofs.Owing.{is_test}
 use Rattle.far_core.proofs.RoomLaws.{room_right}
 use Rattle.far_core.proofs.Put.{put_same, put_old}
-use Rattle.far_replay.specs.Moment.{moment_of}
+use Rattle.far_replay.specs.Moment.{Moment, moment_of}
 use Rattle.far_text.specs.Command.{Command, New, Open, Write, Read, Close, Where, Drop, View, Try, Epoch, Mutator, Book}
-use Rattle.far_replay.specs.EventRows.{after_events, AllSucceed, AtHand}
+use Rattle.far_replay.specs.EventRows.{after_events, AllSucceed}
 use Rattle.far_replay.specs.Between.{Between}
-use Rattle.far_replay.specs.Events.{new_events, zero_puts, open_events, view_events, first_word, words_touched, load_events, starts_inside, ends_inside, part_events, store_events, drop_events, turn_events, refused_events, events_for}
+use Rattle.far_replay.specs.Events.{new_events, zero_puts, open_events, view_events, sought_events, dereference_events, first_word, words_touched, load_events, starts_inside, ends_inside, part_events, store_events, drop_events, turn_events, refused_events, events_for}
 use Rattle.far_replay.specs.Objects.{uses, object_len, data_of, with_range, lowest_cell, is_range}
-use Rattle.far_replay.specs.Dereference.{comes_to, has_no_room, sought}
+use Rattle.far_replay.specs.Dereference.{comes_to, dereferenced, has_no_room, sought}
 use Rattle.far_replay.specs.Effects.{near_word}
 use Rattle.far_replay.specs.Effects.{with_row, with_object, with_view, is_slow, with_data, with_epoch, with_scope, without_object, epoch_for}
 use Rattle.far_replay.specs.Turn.{turn_effect, refused_effect, effect, with_new, access_causes, first_cause, refusal, unless}
 use Rattle.far_text.specs.Written.{WritesBytes}
-use Rattle.far_replay.proofs.Drops.{unheld_is, drop_succeeds, drop_ends, drop_law, drop_fits, drop_hands}
+use Rattle.far_replay.proofs.Drops.{unheld_is, drop_succeeds, drop_ends, drop_law, drop_fits, drop_named}
 use Rattle.far_replay.proofs.LoadWords.{loads_stay, load_legal, loads_succeed}
 use Rattle.far_replay.proofs.Lowest.{lowest_cell_is}
-use Rattle.far_replay.proofs.MadeLemmas.{made-append, AllSucceed-append, made_first, first_succeeds, made_law, load_stays}
+use Rattle.far_replay.proofs.MadeLemmas.{made_first, first_succeeds, made_law, load_stays}
 use Rattle.far_replay.proofs.NewTurns.{new_succeeds, new_between, new_end, object_is}
 use Rattle.far_text.proofs.Each.{Each, Each-append, Each-row}
 use Rattle.far_replay.proofs.Spliced.{AreBytes, with_range_bytes, length-with_range, packed_padded, packed_wide}
 use Rattle.far_replay.proofs.StoreTurns.{stores_go, stores_end}
 use Rattle.far_replay.proofs.RangeWrites.{object_padded}
 use Rattle.far_replay.proofs.WriteEnds.{row_whole}
-use Rattle.far_replay.proofs.Views.{hand_is_fast, hand_has_room, fast_dereference, len_near, Viewed, view_holds, view_is, view_succeeds, view_law, view_between}
+use Rattle.far_replay.proofs.Dereferences.{Derefs, derefs, sought_between, sought_leads, view_leads}
+use Rattle.far_replay.proofs.Leading.{Leads, leads_append, leads_nowhere}
+use Rattle.far_replay.proofs.Views.{view_between}
 
 -- ---- what no refusal says
 -- four causes that aren't there
@@ -86,15 +88,14 @@ room_last true true false d e = absurd cc
 room_last true false c d e = absurd cc
 room_last false b c d e = absurd cc
 
--- what none of five says of the first four; and what want of room says
-pub reaches : (a b c d e : Bool) → first_cause ((not a, Range) ∷ (not b, Closed) ∷ (not c, NotHeld) ∷ (not d, Range) ∷ (e, NoRoom) ∷ []) ≡ None →
-    first_cause ((not a, Range) ∷ (not b, Closed) ∷ (not c, NotHeld) ∷ (not d, Range) ∷ []) ≡ None
-reaches true true true true true h = absurd cc
-reaches true true true true false h = refl
-reaches true true true false e h = absurd cc
-reaches true true false d e h = absurd cc
-reaches true false c d e h = absurd cc
-reaches false b c d e h = absurd cc
+-- what none of five says; and what want of room says
+pub five : (a b c d e : Bool) → first_cause ((not a, Range) ∷ (not b, Closed) ∷ (not c, NotHeld) ∷ (not d, Range) ∷ (e, NoRoom) ∷ []) ≡ None → (a ≡ true) × (b ≡ true) × (c ≡ true) × (d ≡ true) × (e ≡ false)
+five true true true true true h = absurd cc
+five true true true true false h = (refl, refl, refl, refl, refl)
+five true true true false e h = absurd cc
+five true true false d e h = absurd cc
+five true false c d e h = absurd cc
+five false b c d e h = absurd cc
 
 pub room_lacks : (a b c d e : Bool) → first_cause ((not a, Range) ∷ (not b, Closed) ∷ (not c, NotHeld) ∷ (not d, Range) ∷ (e, NoRoom) ∷ []) ≡ Some NoRoom →
     (a ≡ true) × (b ≡ true) × (c ≡ true) × (e ≡ true)
@@ -123,121 +124,94 @@ pub record Access (s : State) (m p from count : ℕ) : Type 0 where
   pub opened : is_opened s m ≡ true
   pub ours : uses s m p ≡ true
   pub some : 0 < count
-  pub within : from + count ≤ data_len s p
+  pub within : from + count ≤ object_len s p
+  pub room : has_no_room s m p ≡ false
 
 -- what a read or a write that isn't refused has
-pub access_fact : (s : State) (m p from count : ℕ) → Law s → Between s → first_cause (access_causes (moment_of s) m p from count) ≡ None → Access s m p from count
-access_fact s m p from count law between e =
-    let h = four (nat_lt m s.mutators) (is_opened s m) (uses s m p) (is_range (object_len s p) from count) Range Closed NotHeld Range e in
-    let used = and_parts (nat_eq (p / CELLS) m) (s.used p) h.2 in
-    let range : is_range (data_len s p) from count ≡ true = ap (λ n. is_range n from count) (sym (len_near s law between.at_hand p used.1)) ∙ h.3 in
+pub access_fact : (s : State) (m p from count : ℕ) → first_cause (access_causes (moment_of s) m p from count ++ (has_no_room s m p, NoRoom) ∷ []) ≡ None → Access s m p from count
+access_fact s m p from count e =
+    let h = five (nat_lt m s.mutators) (is_opened s m) (uses s m p) (is_range (object_len s p) from count) (has_no_room s m p) e in
+    let range : is_range (object_len s p) from count ≡ true = h.3 in
     let some : 0 < count = grind (arith, nat_tests, range) in
-    let within : from + count ≤ data_len s p = grind (arith, nat_tests, range) in
-    record { opened = h.1; ours = h.2; some = some; within = within }
+    let within : from + count ≤ object_len s p = grind (arith, nat_tests, range) in
+    record { opened = h.1; ours = h.2; some = some; within = within; room = h.4 }
 
 -- ---- reads
 -- a read of an object's words
-module _ (s : State) (m p from count : ℕ) (law : Law s) (between : Between s) (access : Access s m p from count) where
-  -- the object is held after the view
-  pub viewing : Viewed s (after_events s (view_events s m p)) m p
-  viewing = view_holds s m p law between access.opened access.ours
+module _ (s : State) (m p from count : ℕ) (law : Law s) (access : Access s m p from count) where
+  -- what its dereference comes to
+  pub led : Derefs s m p
+  led = derefs s m p law access.opened access.ours access.room
+
+  -- the state after it
+  abbrev here : State
+  here = dereferenced s m p
 
   -- the words that are touched are the object's
-  touched_inside : (i : ℕ) → i < words_touched from count → first_word from + i < words_for (data_len s p)
-  touched_inside i lt = omega (arith, access.within, access.some)
+  touched_inside : (i : ℕ) → i < words_touched from count → first_word from + i < words_for (data_len here p)
+  touched_inside i lt = omega (arith, access.within, access.some, led.long)
 
-  -- the events of a read
-  abbrev read_events : List Event
-  read_events = view_events s m p ++ load_events m p (first_word from) (words_touched from count)
+  loads_lead : Leads here (load_events m p (first_word from) (words_touched from count)) here
+  loads_lead = record {
+    succeed = loads_succeed here here m p led.view (first_word from) (words_touched from count) touched_inside;
+    fit = Each-row Fits (λ i. Loads m p i) (first_word from) (words_touched from count) (λ _ _. tt);
+    ends = loads_stay here m p (first_word from) (words_touched from count);
+  }
 
-  -- they succeed
-  pub read_succeeds : AllSucceed s read_events
-  read_succeeds = AllSucceed-append s (view_events s m p) (load_events m p (first_word from) (words_touched from count)) (view_succeeds s m p law access.opened access.ours)
-      (loads_succeed s (after_events s (view_events s m p)) m p viewing (first_word from) (words_touched from count) touched_inside)
-
-  -- they end where the view does
-  pub read_end : after_events s read_events ≡ after_events s (view_events s m p)
-  read_end = made-append s (view_events s m p) (load_events m p (first_word from) (words_touched from count))
-      ∙ loads_stay (after_events s (view_events s m p)) m p (first_word from) (words_touched from count)
-
-  -- they keep what holds between commands
-  pub read_between : Between (after_events s read_events)
-  read_between = subst Between (sym read_end) (view_between s m p law between access.opened access.ours)
-
-  -- and the law
-  pub read_law : Law (after_events s read_events)
-  read_law = subst Law (sym read_end) (view_law s m p law access.opened access.ours)
-
-  -- the words that they carry are 64 bits wide
-  pub view_fits : Each Fits (view_events s m p)
-  view_fits = cond_both (is_some (s.held p)) [] (Pins m p ∷ []) (Each Fits) (λ _. tt) (λ _. (tt, tt))
-
-  pub read_fits : Each Fits read_events
-  read_fits = Each-append Fits (view_events s m p) (load_events m p (first_word from) (words_touched from count)) view_fits (Each-row Fits (λ i. Loads m p i) (first_word from) (words_touched from count) (λ _ _. tt))
-
-  -- they make a view
-  pub read_is : after_events s read_events ≡ with_view s p
-  read_is = read_end ∙ view_is s m p law access.opened access.ours
+  -- the events of a read lead where its dereference does
+  pub read_leads : Leads s (dereference_events s m p ++ load_events m p (first_word from) (words_touched from count)) here
+  read_leads = leads_append s here here (dereference_events s m p) (load_events m p (first_word from) (words_touched from count)) led.leads loads_lead
 
   -- ---- writes
   -- a load that is made or not
-  part_loads : (b : Bool) (i : ℕ) → (b ≡ true → i < words_for (data_len s p)) →
-      AllSucceed (after_events s (view_events s m p)) (if b then Loads m p i ∷ [] else []) × (after_events (after_events s (view_events s m p)) (if b then Loads m p i ∷ [] else []) ≡ after_events s (view_events s m p))
-  part_loads true i inside =
-      (first_succeeds (after_events s (view_events s m p)) (Loads m p i) [] (load_legal s (after_events s (view_events s m p)) m p viewing i (inside refl)) tt tt, load_stays (after_events s (view_events s m p)) m p i)
-  part_loads false i inside = (tt, refl)
+  part_lead : (b : Bool) (i : ℕ) → (b ≡ true → i < words_for (data_len here p)) → Leads here (if b then Loads m p i ∷ [] else []) here
+  part_lead true i inside = record { succeed = first_succeeds here (Loads m p i) [] (load_legal here here m p led.view i (inside refl)) tt tt; fit = (tt, tt); ends = load_stays here m p i }
+  part_lead false i inside = leads_nowhere here
 
   -- the first word that is changed in part is the object's
-  first_part_inside : starts_inside from count ≡ true → from / 8 < words_for (data_len s p)
-  first_part_inside _ = omega (arith, access.within, access.some)
+  first_part_inside : starts_inside from count ≡ true → from / 8 < words_for (data_len here p)
+  first_part_inside _ = omega (arith, access.within, access.some, led.long)
 
   -- so is the last one
-  last_part_inside : ends_inside from count ≡ true → (from + count) / 8 < words_for (data_len s p)
+  last_part_inside : ends_inside from count ≡ true → (from + count) / 8 < words_for (data_len here p)
   last_part_inside h =
       let part : (from + count) % 8 ≢ 0 = grind (arith, nat_tests) in
-      omega (arith, access.within, access.some)
+      omega (arith, access.within, access.some, led.long)
 
-  -- the loads of words that are changed in part succeed, and leave the state
-  parts : AllSucceed (after_events s (view_events s m p)) (part_events m p from count) × (after_events (after_events s (view_events s m p)) (part_events m p from count) ≡ after_events s (view_events s m p))
-  parts =
-      let a = part_loads (starts_inside from count) (from / 8) first_part_inside in
-      let b = part_loads (ends_inside from count) ((from + count) / 8) last_part_inside in
-      let one : List Event = if starts_inside from count then Loads m p (from / 8) ∷ [] else [] in
-      let two : List Event = if ends_inside from count then Loads m p ((from + count) / 8) ∷ [] else [] in (
-        AllSucceed-append (after_events s (view_events s m p)) one two a.0 (subst (λ t. AllSucceed t two) (sym a.1) b.0),
-        made-append (after_events s (view_events s m p)) one two ∙ ap (λ t. after_events t two) a.1 ∙ b.1,
-      )
+  -- the loads of words that are changed in part leave the state
+  pub parts_lead : Leads here (part_events m p from count) here
+  parts_lead = leads_append here here here (if starts_inside from count then Loads m p (from / 8) ∷ [] else []) (if ends_inside from count then Loads m p ((from + count) / 8) ∷ [] else [])
+      (part_lead (starts_inside from count) (from / 8) first_part_inside) (part_lead (ends_inside from count) ((from + count) / 8) last_part_inside)
 
 -- a write of bytes
-module _ (s : State) (m p from : ℕ) (bytes : List ℕ) (law : Law s) (between : Between s) (access : Access s m p from (length bytes))
-    (small : (k : ℕ) → get_or bytes k 0 < 256) where
-  -- the state after the view
-  abbrev view : State
-  view = after_events s (view_events s m p)
+module _ (s : State) (m p from : ℕ) (bytes : List ℕ) (law : Law s) (access : Access s m p from (length bytes)) (small : (k : ℕ) → get_or bytes k 0 < 256) where
+  -- what the dereference comes to
+  led_there : Derefs s m p
+  led_there = led s m p from (length bytes) law access
+
+  -- the state after it
+  abbrev there : State
+  there = dereferenced s m p
 
   -- the bytes after the write
   abbrev changed : List ℕ
-  changed = with_range (data_of s p) from bytes
+  changed = with_range (data_of there p) from bytes
 
   -- as many as the object has
-  data_long : length (data_of s p) ≡ data_len s p
-  data_long = length-bytes_of (λ i. s.word (near_data (read_of (s.cell p)) + i)) (data_len s p)
+  data_long : length (data_of there p) ≡ data_len there p
+  data_long = length-bytes_of (λ i. there.word (near_data (read_of (there.cell p)) + i)) (data_len there p)
 
   -- the range is a part of it
-  within : from + length bytes ≤ length (data_of s p)
-  within = omega (arith, data_long, access.within)
+  within : from + length bytes ≤ length (data_of there p)
+  within = omega (arith, data_long, access.within, led_there.long)
 
   -- they are bytes
   changed_bytes : AreBytes changed
-  changed_bytes = with_range_bytes (data_of s p) from bytes within (bytes_of-small (λ i. s.word (near_data (read_of (s.cell p)) + i)) (data_len s p)) small
+  changed_bytes = with_range_bytes (data_of there p) from bytes within (bytes_of-small (λ i. there.word (near_data (read_of (there.cell p)) + i)) (data_len there p)) small
 
   -- as many as before
-  changed_long : length changed ≡ data_len s p
-  changed_long = length-with_range (data_of s p) from bytes within ∙ data_long
-
-  -- the object is held
-  held : Viewed s view m p
-  held = view_holds s m p law between access.opened access.ours
+  changed_long : length changed ≡ led_there.view.len
+  changed_long = length-with_range (data_of there p) from bytes within ∙ data_long ∙ led_there.view.long
 
   -- the stores
   abbrev stores : List Event
@@ -247,71 +221,27 @@ module _ (s : State) (m p from : ℕ) (bytes : List ℕ) (law : Law s) (between 
   wide : (i : ℕ) → packed_word changed i < 2 ^ 64
   wide = packed_wide changed changed_bytes
 
-  -- they succeed, and keep what holds between commands
-  stores_kept : AllSucceed view stores × Between (after_events view stores)
-  stores_kept = stores_go m p held.len held.place (packed_word changed) wide
-      (λ i lt. packed_padded changed held.len i changed_bytes (changed_long ∙ held.long) lt)
-      (words_touched from (length bytes)) (first_word from) view
-      (view_law s m p law access.opened access.ours) (view_between s m p law between access.opened access.ours) held.holds
-      (λ i lt. subst (λ n. first_word from + i < words_for n) held.long (touched_inside s m p from (length bytes) law between access i lt))
-
-  -- what is made before the stores
-  abbrev looks : List Event
-  looks = view_events s m p ++ part_events m p from (length bytes)
-
-  -- it ends where the view does
-  looks_end : after_events s looks ≡ view
-  looks_end = made-append s (view_events s m p) (part_events m p from (length bytes)) ∙ (parts s m p from (length bytes) law between access).1
-
-  -- the events of a write succeed
-  pub write_succeeds : AllSucceed s (looks ++ stores)
-  write_succeeds = AllSucceed-append s looks stores
-      (AllSucceed-append s (view_events s m p) (part_events m p from (length bytes)) (view_succeeds s m p law access.opened access.ours) (parts s m p from (length bytes) law between access).0)
-      (subst (λ t. AllSucceed t stores) (sym looks_end) stores_kept.0)
-
-  -- they end where the stores do
-  pub write_end : after_events s (looks ++ stores) ≡ after_events view stores
-  write_end = made-append s looks stores ∙ ap (λ t. after_events t stores) looks_end
-
-  -- they keep what holds between commands
-  pub write_between : Between (after_events s (looks ++ stores))
-  write_between = subst Between (sym write_end) stores_kept.1
-
-  -- the words that they carry are 64 bits wide
-  pub write_fits : Each Fits (looks ++ stores)
-  write_fits = Each-append Fits looks stores
-      (Each-append Fits (view_events s m p) (part_events m p from (length bytes)) (view_fits s m p from (length bytes) law between access) part_fits)
-      (Each-row Fits (λ i. Stores m p i (packed_word changed i)) (first_word from) (words_touched from (length bytes)) (λ i _. wide (first_word from + i))) where
-        part_fits : Each Fits (part_events m p from (length bytes))
-        part_fits = Each-append Fits (if starts_inside from (length bytes) then Loads m p (from / 8) ∷ [] else []) (if ends_inside from (length bytes) then Loads m p ((from + length bytes) / 8) ∷ [] else [])
-            (cond_both (starts_inside from (length bytes)) (Loads m p (from / 8) ∷ []) [] (Each Fits) (λ _. (tt, tt)) (λ _. tt))
-            (cond_both (ends_inside from (length bytes)) (Loads m p ((from + length bytes) / 8) ∷ []) [] (Each Fits) (λ _. (tt, tt)) (λ _. tt))
-
-  -- the object's bytes are the same after the view
-  pub data_same : data_of view p ≡ data_of s p
-  data_same i = bytes_of (λ k. held.words i (held.same_data i + k)) (held.same_len i)
+  -- the words that are stored are the object's
+  store_inside : (i : ℕ) → i < words_touched from (length bytes) → first_word from + i < words_for led_there.view.len
+  store_inside i lt = subst (λ n. first_word from + i < words_for n) led_there.view.long (touched_inside s m p from (length bytes) law access i lt)
 
   -- the stores make its words those of the new bytes
-  stores_is : after_events view stores ≡ with_data view p from bytes
-  stores_is =
-      let d : ℕ = near_data (read_of (view.cell p)) in
-      let lawful = view_law s m p law access.opened access.ours in
-      stores_end m p held.len held.place (packed_word changed) wide
-      (λ i lt. packed_padded changed held.len i changed_bytes (changed_long ∙ held.long) lt)
-      (words_touched from (length bytes)) (first_word from) view lawful held.holds
-      (λ i lt. subst (λ n. first_word from + i < words_for n) held.long (touched_inside s m p from (length bytes) law between access i lt))
-      ∙ ap (λ (old : List ℕ). record view { word = with_row view.word (d + first_word from) (words_touched from (length bytes)) (λ i. packed_word (with_range old from bytes) (first_word from + i)) }) (sym data_same)
-      ∙ ap (λ (f : ℕ → ℕ). record view { word = f })
-      (row_whole view.word d (data_len view p) from bytes (omega (arith, access.within, held.same_len)) access.some lawful.spans.word_fits (object_padded view lawful p))
+  pub stores_lead : Leads there stores (with_data there p from bytes)
+  stores_lead =
+      let view = led_there.view in
+      let padded : (i : ℕ) → i < words_for view.len → packed_word changed i < 2 ^ (8 * (view.len - 8 * i)) = (λ i lt. packed_padded changed view.len i changed_bytes changed_long lt) in
+      record {
+        succeed = stores_go m p view.len view.place (packed_word changed) wide padded (words_touched from (length bytes)) (first_word from) there led_there.law view.holds store_inside;
+        fit = Each-row Fits (λ i. Stores m p i (packed_word changed i)) (first_word from) (words_touched from (length bytes)) (λ i _. wide (first_word from + i));
+        ends = stores_end m p view.len view.place (packed_word changed) wide padded (words_touched from (length bytes)) (first_word from) there led_there.law view.holds store_inside
+            ∙ ap (λ (f : ℕ → ℕ). record there { word = f })
+            (row_whole there.word (near_data (read_of (there.cell p))) (data_len there p) from bytes (omega (arith, access.within, led_there.long)) access.some led_there.law.spans.word_fits (object_padded there led_there.law p));
+      }
 
-  -- so a write makes its object's bytes new, after a view
-  pub write_is : after_events s (looks ++ stores) ≡ with_data (with_view s p) p from bytes
-  write_is = write_end ∙ stores_is ∙ ap (λ (t : State). with_data t p from bytes) (view_is s m p law access.opened access.ours)
-
-  -- and the law
-  pub write_law : Law (after_events s (looks ++ stores))
-  write_law = subst Law (sym write_end) (made_law view stores (view_law s m p law access.opened access.ours)
-      (Each-row Fits (λ i. Stores m p i (packed_word changed i)) (first_word from) (words_touched from (length bytes)) (λ i lt. wide (first_word from + i))))
+  -- the events of a write
+  pub write_leads : Leads s (dereference_events s m p ++ part_events m p from (length bytes) ++ stores) (with_data there p from bytes)
+  write_leads = leads_append s there (with_data there p from bytes) (dereference_events s m p ++ part_events m p from (length bytes)) stores
+      (leads_append s there there (dereference_events s m p) (part_events m p from (length bytes)) led_there.leads (parts_lead s m p from (length bytes) law access)) stores_lead
 
 -- ---- a new object
 -- where a new span may stand
@@ -340,6 +270,10 @@ pub record Turned (s : State) (es : List Event) (t : State) : Type 0 where
   pub law : Law (after_events s es)
   pub fit : Each Fits es
   pub ends : after_events s es ≡ t
+
+-- so it is where they lead there, and what holds between commands is so there
+turned_by : (s t : State) (es : List Event) → Law s → Leads s es t → Between t → Turned s es t
+turned_by s t es law way between = record { succeed = way.succeed; between = subst Between (sym way.ends) between; law = made_law s es law way.fit; fit = way.fit; ends = way.ends }
 
 -- what the tests of a new object say
 pub new_sizes : (m mutators len ds : ℕ) → (nat_lt m mutators && nat_lt ds 256) ≡ true → (nat_lt 0 len && nat_le len LONGEST) ≡ true → (m < mutators) × (ds < 256) × (0 < len) × (len ≤ LONGEST)
@@ -418,26 +352,9 @@ new_turned s m len ds law between e =
     }
 
 -- ---- scopes
--- each named cell stays at hand where cells and their use stay
-same_hands : (s t : State) → s.cell ≡ t.cell → s.used ≡ t.used → ((p : ℕ) → s.cell p ≢ 0 → AtHand s p) → (p : ℕ) → t.cell p ≢ 0 → AtHand t p
-same_hands s t cells uses_same hands p ne =
-    let h = hands p (λ z. ne (sym (ap (λ (f : ℕ → ℕ). f p) cells) ∙ z)) in
-    record {
-      len = h.len;
-      ds = h.ds;
-      place = h.place;
-      marks = h.marks;
-      near = sym (ap (λ (f : ℕ → ℕ). read_of (f p)) cells) ∙ h.near;
-      unchosen = h.unchosen;
-      unmoved = h.unmoved;
-      kept = h.kept;
-      used = sym (ap (λ (f : ℕ → Bool). f p) uses_same) ∙ h.used;
-    }
-
 -- other scopes and epochs leave what holds between commands
 between_scopes : (s : State) (scope : ℕ → ℕ) (remembered : ℕ → Option ℕ) (held : ℕ → Option Place) → Between s → Between record s { scope = scope; remembered = remembered; held = held }
-between_scopes s scope remembered held between =
-    record { at_hand = same_hands s (record s { scope = scope; remembered = remembered; held = held }) refl refl between.at_hand }
+between_scopes s scope remembered held between = record { named = between.named }
 
 -- a scope that isn't open is closed
 pub scope_is_shut : (s : State) (m : ℕ) → nat_lt m s.mutators ≡ true → is_opened s m ≡ false → (m < s.mutators) × (s.scope m ≡ 0)
@@ -518,7 +435,7 @@ drop_turned s m p law between h =
     let within : m < s.mutators = ltb-true m s.mutators h.0 in
     let unheld : s.held p ≡ None = unheld_is (s.held p) h.2 in
     let ends = drop_ends s m p law within h.1 unheld in
-    let after : Between (without_object s m p) = record { at_hand = drop_hands s m p law within h.1 unheld between.at_hand } in
+    let after : Between (without_object s m p) = record { named = drop_named s m p law within h.1 unheld between.named } in
     record {
       succeed = drop_succeeds s m p law within h.1 unheld;
       between = subst Between (sym ends) after;
@@ -534,17 +451,8 @@ none_turned s law between = record { succeed = tt; between = between; law = law;
 
 -- the pin of an object that may be viewed or not
 view_turned : (s : State) (m p : ℕ) → Law s → Between s → is_opened s m ≡ true → uses s m p ≡ true → Turned s (view_events s m p) (with_view s p)
-view_turned s m p law between opened ours = record {
-  succeed = view_succeeds s m p law opened ours;
-  between = view_between s m p law between opened ours;
-  law = view_law s m p law opened ours;
-  fit = cond_both (is_some (s.held p)) [] (Pins m p ∷ []) (Each Fits) (λ _. tt) (λ _. (tt, tt));
-  ends = view_is s m p law opened ours;
-}
-
--- a dereference is a pin, where all objects are at hand
-pub fast_between : (s : State) (m p : ℕ) → Law s → Between s → uses s m p ≡ true → is_slow s p ≡ false
-fast_between s m p law between ours = hand_is_fast s p (between.at_hand p (nonzero s law p (and_parts (nat_eq (p / CELLS) m) (s.used p) ours).1))
+view_turned s m p law between opened ours =
+    turned_by s (with_view s p) (view_events s m p) law (view_leads s m p law opened ours) (view_between s p (and_parts (nat_eq (p / CELLS) m) (s.used p) ours).1 between)
 
 -- a command that isn't refused
 command_turned : (s : State) (c : Command) → Law s → Between s → WritesBytes c → refusal (moment_of s) c ≡ None →
@@ -557,23 +465,12 @@ command_turned s (Mutator m Epoch) law between small e =
     let h = two (nat_lt m s.mutators) (is_opened s m) Range AlreadyOpen e in
     read_turned s m law between (scope_is_shut s m h.0 h.1)
 command_turned s (Mutator m (Write p from bytes)) law between small e =
-    let access = access_fact s m p from (length bytes) law between (reaches (nat_lt m s.mutators) (is_opened s m) (uses s m p) (is_range (object_len s p) from (length bytes)) (has_no_room s m p) e) in
-    record {
-      succeed = write_succeeds s m p from bytes law between access small;
-      between = write_between s m p from bytes law between access small;
-      law = write_law s m p from bytes law between access small;
-      fit = write_fits s m p from bytes law between access small;
-      ends = write_is s m p from bytes law between access small ∙ ap (λ (t : State). with_data t p from bytes) (sym (fast_dereference s m p (fast_between s m p law between access.ours)));
-    }
+    let access = access_fact s m p from (length bytes) e in
+    let after = (led s m p from (length bytes) law access).between between in
+    turned_by s (with_data (dereferenced s m p) p from bytes) (turn_events (moment_of s) (Mutator m (Write p from bytes))) law (write_leads s m p from bytes law access small) record { named = after.named }
 command_turned s (Mutator m (Read p from len)) law between small e =
-    let access = access_fact s m p from len law between (reaches (nat_lt m s.mutators) (is_opened s m) (uses s m p) (is_range (object_len s p) from len) (has_no_room s m p) e) in
-    record {
-      succeed = read_succeeds s m p from len law between access;
-      between = read_between s m p from len law between access;
-      law = read_law s m p from len law between access;
-      fit = read_fits s m p from len law between access;
-      ends = read_is s m p from len law between access ∙ sym (fast_dereference s m p (fast_between s m p law between access.ours));
-    }
+    let access = access_fact s m p from len e in
+    turned_by s (dereferenced s m p) (turn_events (moment_of s) (Mutator m (Read p from len))) law (read_leads s m p from len law access) ((led s m p from len law access).between between)
 command_turned s (Mutator m Close) law between small e = close_turned s m law between (two_open (nat_lt m s.mutators) (is_opened s m) e) where
   two_open : (a b : Bool) → first_cause ((not a, Range) ∷ (not b, Closed) ∷ []) ≡ None → b ≡ true
   two_open true true f = refl
@@ -583,31 +480,31 @@ command_turned s (Mutator m (Where p)) law between small e = none_turned s law b
 command_turned s (Mutator m (Drop p)) law between small e = drop_turned s m p law between (three (nat_lt m s.mutators) (uses s m p) (is_some (s.held p)) Range NotHeld Held e)
 command_turned s (Mutator m (View p)) law between small e =
     let h = tried (nat_lt m s.mutators) (is_opened s m) (uses s m p) (has_no_room s m p) Range Closed NotHeld NoRoom e in
-    let used = and_parts (nat_eq (p / CELLS) m) (s.used p) h.2 in
-    subst (Turned s (view_events s m p)) (sym (fast_dereference s m p (hand_is_fast s p (between.at_hand p (nonzero s law p used.1))))) (view_turned s m p law between h.1 h.2)
+    let all = derefs s m p law h.1 h.2 h.3 in
+    turned_by s (dereferenced s m p) (dereference_events s m p) law all.leads (all.between between)
 command_turned s (Mutator m (Try p)) law between small e =
     let h = tried (nat_lt m s.mutators) (is_opened s m) (uses s m p) (is_slow s p) Range Closed NotHeld (Marked (s.cell p)) e in
     view_turned s m p law between h.1 h.2
 command_turned s (Book inquiry) law between small e = none_turned s law between
 
--- a view of an object at hand finds room
-view_has_room : (s : State) (m p : ℕ) → Law s → Between s → refusal (moment_of s) (Mutator m (View p)) ≡ Some NoRoom → ⊥
-view_has_room s m p law between e =
-    let h = room_last (nat_lt m s.mutators) (is_opened s m) (uses s m p) (has_no_room s m p) e in
-    let used = and_parts (nat_eq (p / CELLS) m) (s.used p) h.2 in
-    true≢false (sym h.3 ∙ hand_has_room s m p (between.at_hand p (nonzero s law p used.1)))
+-- where an object finds no place, the pin and its owner's asking
+sought_turned : (s : State) (m p : ℕ) → Law s → Between s → is_opened s m ≡ true → uses s m p ≡ true → has_no_room s m p ≡ true → Turned s (sought_events s m p) (sought s m p)
+sought_turned s m p law between opened ours full =
+    let slow : is_slow s p ≡ true = (and_parts (is_slow s p) (not (is_some (comes_to (sought s m p) p))) full).0 in
+    turned_by s (sought s m p) (sought_events s m p) law (sought_leads s m p law opened ours slow) (sought_between s m p law opened ours slow between)
 
-no_want : (s : State) (m p from count : ℕ) → Law s → Between s → first_cause (access_causes (moment_of s) m p from count ++ (has_no_room s m p, NoRoom) ∷ []) ≡ Some NoRoom → ⊥
-no_want s m p from count law between e =
-    let h = room_lacks (nat_lt m s.mutators) (is_opened s m) (uses s m p) (is_range (object_len s p) from count) (has_no_room s m p) e in
-    true≢false (sym h.3 ∙ ap (λ b. b && not (is_some (comes_to (sought s m p) p))) (fast_between s m p law between h.2))
-
--- a refused one: where a mark was found, the pin; else nothing
+-- a refused one: where a mark was found, the pin; where there was no place, the owner's asking too; else nothing
 refused_turned : (s : State) (c : Command) (why : Refusal) → Law s → Between s → refusal (moment_of s) c ≡ Some why →
     Turned s (refused_events (moment_of s) c why) (refused_effect (moment_of s) c why).core
-refused_turned s (Mutator m (Write p from bytes)) NoRoom law between e = absurd (no_want s m p from (length bytes) law between e)
-refused_turned s (Mutator m (Read p from len)) NoRoom law between e = absurd (no_want s m p from len law between e)
-refused_turned s (Mutator m (View p)) NoRoom law between e = absurd (view_has_room s m p law between e)
+refused_turned s (Mutator m (Write p from bytes)) NoRoom law between e =
+    let h = room_lacks (nat_lt m s.mutators) (is_opened s m) (uses s m p) (is_range (object_len s p) from (length bytes)) (has_no_room s m p) e in
+    sought_turned s m p law between h.1 h.2 h.3
+refused_turned s (Mutator m (Read p from len)) NoRoom law between e =
+    let h = room_lacks (nat_lt m s.mutators) (is_opened s m) (uses s m p) (is_range (object_len s p) from len) (has_no_room s m p) e in
+    sought_turned s m p law between h.1 h.2 h.3
+refused_turned s (Mutator m (View p)) NoRoom law between e =
+    let h = room_last (nat_lt m s.mutators) (is_opened s m) (uses s m p) (has_no_room s m p) e in
+    sought_turned s m p law between h.1 h.2 h.3
 refused_turned s (Mutator m (Try p)) (Marked word) law between e =
     let h = marked_last (nat_lt m s.mutators) (is_opened s m) (uses s m p) (is_slow s p) (s.cell p) word e in
     view_turned s m p law between h.1 h.2
@@ -627,3 +524,14 @@ turns s c law between small = turn_at s c (refusal (moment_of s) c) refl law bet
 pub made_by_events : (s t : State) (c : Command) → Law s → Between s → WritesBytes c → refusal (moment_of s) c ≡ None → t ≡ (turn_effect (moment_of s) c).core → t ≡ after_events s (events_for (moment_of s) c)
 made_by_events s t c law between small none is =
     is ∙ sym (command_turned s c law between small none).ends ∙ ap (λ o. after_events s (unless o (refused_events (moment_of s) c) (turn_events (moment_of s) c))) (sym none)
+
+-- so it is of a call that may be refused
+pub effect_by_events : {A E : Type 0} (result : Result A E) (s t : State) (c : Command) → Law s → Between s → WritesBytes c → OnOk result (moment_of t ≡ effect (moment_of s) c) →
+    OnOk result (t ≡ after_events s (events_for (moment_of s) c))
+effect_by_events (Ok x) s t c law between small h = ap (λ (m : Moment). m.core) h ∙ sym (turns s c law between small).ends
+effect_by_events (Err e) s t c law between small h = tt
+
+pub events_make_effect : {A E : Type 0} (result : Result A E) (s t : State) (c : Command) → Law s → Between s → WritesBytes c → OnOk result (t ≡ after_events s (events_for (moment_of s) c)) →
+    OnOk result (moment_of t ≡ effect (moment_of s) c)
+events_make_effect (Ok x) s t c law between small h = ap moment_of (h ∙ (turns s c law between small).ends)
+events_make_effect (Err e) s t c law between small h = tt

@@ -1,6 +1,6 @@
 -- What a view of an object changes, and what it leaves.
-use Rattle.std.proofs.Common.{◌≡◌, ◌≢◌, ℕ, ◌+◌, ◌/◌, ◌^◌, true, false, refl, sym, ap, subst, ◌∙◌, arith, [], ◌∷◌, Option, Some, None, bit_or, if◌then◌else◌, is_some, not, ◌||◌, ◌&&◌, Bool}
-use Rattle.std.proofs.lemmas.Bool.{cond_both, false≢true}
+use Rattle.std.proofs.Common.{◌≡◌, ◌≢◌, ℕ, ◌/◌, ◌^◌, true, false, refl, sym, ap, subst, ◌∙◌, arith, [], ◌∷◌, Option, Some, None, bit_or, if◌then◌else◌, is_some, not, ◌||◌, ◌&&◌, Bool, inl, inr}
+use Rattle.std.proofs.lemmas.Bool.{cases_eq, cond_both, false≢true}
 use Rattle.std.proofs.lemmas.Bool.Decides.{nat_tests}
 use Rattle.far_word.specs.declared.mark.Mark.TheVariants.{Hot}
 use Rattle.far_word.specs.declared.mark.Marks.{Marks}
@@ -16,19 +16,18 @@ use Rattle.far_core.specs.state.Law.{Law}
 use Rattle.far_core.specs.events.Legal.{HoldsObject}
 use Rattle.far_core.specs.state.State.{State}
 use Rattle.far_core.specs.events.Step.{answer, is_legal, is_opened, near_data, near_len, data_len, place_to_view, after_pin, with_hold}
-use Rattle.far_core.proofs.Cells.{map_mark, held_near}
-use Rattle.far_core.proofs.KeepOwner.{hot_read, nonzero, at_cell}
+use Rattle.far_core.proofs.Cells.{map_mark, IsHeld, held_near, held_place-place_to_view}
+use Rattle.far_core.proofs.KeepOwner.{hot_read}
 use Rattle.far_core.proofs.events.Pin.{keeps_pin}
 use Rattle.far_core.proofs.Guards.{open_fact}
 use Rattle.far_core.proofs.Owing.{is_test, never_refused}
-use Rattle.far_core.proofs.Put.{put_both, put_same}
+use Rattle.far_core.proofs.Put.{put_same, put_other}
 use Rattle.far_replay.specs.Effects.{with_view, is_slow}
 use Rattle.far_replay.specs.Dereference.{come, comes_to, dereferenced, has_no_room, sought}
-use Rattle.far_replay.specs.EventRows.{after_events, AllSucceed, AtHand, AllAtHand}
+use Rattle.far_replay.specs.EventRows.{after_events, AllSucceed, AtHand}
 use Rattle.far_replay.specs.Between.{Between}
 use Rattle.far_replay.specs.Events.{view_events}
-use Rattle.far_word.specs.Bytes.{bytes_of}
-use Rattle.far_replay.specs.Objects.{data_of, uses, object_len, named_len}
+use Rattle.far_replay.specs.Objects.{uses, object_len, named_len}
 use Rattle.far_replay.proofs.MadeLemmas.{made_first, first_succeeds, not_refused}
 
 -- ---- what HOT leaves as it is
@@ -60,18 +59,6 @@ pub record Ready (o : Option PtrWord) : Type 0 where
 -- the cell of such an object says so
 pub ready_of : (s : State) (p : ℕ) → AtHand s p → Ready (read_of (s.cell p))
 ready_of s p h = record { len = h.len; ds = h.ds; place = h.place; marks = h.marks; near = h.near; unchosen = h.unchosen; unmoved = h.unmoved; kept = h.kept }
-
--- and so does a cell that is used
-pub hand_of : (s : State) (p : ℕ) → Ready (read_of (s.cell p)) → s.used p ≡ true → AtHand s p
-hand_of s p h used = record { len = h.len; ds = h.ds; place = h.place; marks = h.marks; near = h.near; unchosen = h.unchosen; unmoved = h.unmoved; kept = h.kept; used = used }
-
--- an object at hand has the length that its cell says near
-pub len_near : (s : State) → Law s → AllAtHand s → (p : ℕ) → s.used p ≡ true → object_len s p ≡ data_len s p
-len_near s law hand p used = let h = hand p (nonzero s law p used) in ap named_len h.near ∙ sym (ap near_len h.near)
-
--- HOT leaves it so
-Ready-hot : (o : Option PtrWord) → Ready o → Ready (map_mark Hot o)
-Ready-hot o h = record { len = h.len; ds = h.ds; place = h.place; marks = marks_with Hot h.marks; near = ap (map_mark Hot) h.near; unchosen = h.unchosen; unmoved = h.unmoved; kept = h.kept }
 
 -- a view of it may rest there
 pub Ready-view : (o : Option PtrWord) (h : Ready o) → place_to_view o ≡ Some h.place
@@ -122,22 +109,6 @@ hand_has_room s m p h = ap (λ b. b && not (is_some (comes_to (sought s m p) p))
 pub fast_dereference : (s : State) (m p : ℕ) → is_slow s p ≡ false → dereferenced s m p ≡ with_view s p
 fast_dereference s m p fast = ap (λ b. if b then with_view (come (sought s m p) p) p else with_view s p) fast
 
--- the bytes of an object are the same after a pin
-pub data_dereferenced : (s : State) (m p : ℕ) → Law s → s.used p ≡ true → is_slow s p ≡ false → data_of (dereferenced s m p) p ≡ data_of s p
-data_dereferenced s m p law used fast = ap (λ (t : State). data_of t p) (fast_dereference s m p fast)
-    ∙ cond_both (is_some (s.held p)) s (after_pin s p) (λ (t : State). data_of t p ≡ data_of s p) (λ _. refl) (λ _. pinned) where
-      hot : read_of ((after_pin s p).cell p) ≡ map_mark Hot (read_of (s.cell p))
-      hot = ap read_of (put_same s.cell p (bit_or (s.cell p) (2 ^ position Hot)) p refl) ∙ hot_read s law p used
-
-      starts : near_data (read_of ((after_pin s p).cell p)) ≡ near_data (read_of (s.cell p))
-      starts = ap near_data hot ∙ near_data-hot (read_of (s.cell p))
-
-      long : data_len (after_pin s p) p ≡ data_len s p
-      long = ap near_len hot ∙ near_len-hot (read_of (s.cell p))
-
-      pinned : data_of (after_pin s p) p ≡ data_of s p
-      pinned i = bytes_of (λ k. s.word (starts i + k)) (long i)
-
 module _ (s : State) (m p : ℕ) (law : Law s) (opened : is_opened s m ≡ true) (ours : uses s m p ≡ true) where
   -- the pointer is the owner's
   own : p / CELLS ≡ m
@@ -186,36 +157,48 @@ module _ (s : State) (m p : ℕ) (law : Law s) (opened : is_opened s m ≡ true)
   pub pin_read : read_of ((after_pin s p).cell p) ≡ map_mark Hot (read_of (s.cell p))
   pin_read = ap read_of (put_same s.cell p (bit_or (s.cell p) (2 ^ position Hot)) p refl) ∙ hot_read s law p used
 
--- no pin of an object that is used is in vain between commands
-pub not_slow : (s : State) (p q : ℕ) → Law s → Between s → p ≡ q → s.used q ≡ true → is_slow s p ≡ true → ⊥
-not_slow s p q law between same used slow =
-    let here : s.used p ≡ true = ap s.used same ∙ used in
-    false≢true (sym (hand_is_fast s p (between.at_hand p (nonzero s law p here))) ∙ slow)
+-- where a new view may rest, the object is near
+view_near : (o : Option PtrWord) (place : Place) → place_to_view o ≡ Some place → IsHeld o place
+view_near o place e = held_near o place (held_place-place_to_view o place e)
 
-module _ (s : State) (m p : ℕ) (law : Law s) (between : Between s) (opened : is_opened s m ≡ true) (ours : uses s m p ≡ true) where
-  -- the object may be dereferenced at once
-  pub ready : Ready (read_of (s.cell p))
-  ready = ready_of s p (between.at_hand p (nonzero s law p (used s m p law opened ours)))
+-- a state that views the object already, or a pin that gives a view
+pub data Seen (s : State) (p : ℕ) : Type 0 where
+  Already : (place : Place) → s.held p ≡ Some place → Seen s p
+  Anew : (place : Place) → s.held p ≡ None → place_to_view (read_of (s.cell p)) ≡ Some place → Seen s p
 
-  -- a new view may rest
-  can_view : place_to_view (read_of (s.cell p)) ≡ Some ready.place
-  can_view = Ready-view (read_of (s.cell p)) ready
+seen_of : (s : State) (p : ℕ) (o x : Option Place) → s.held p ≡ o → place_to_view (read_of (s.cell p)) ≡ x → not (is_some o || is_some x) ≡ false → Seen s p
+seen_of s p (Some place) x e f fast = Already place e
+seen_of s p None (Some place) e f fast = Anew place e f
+seen_of s p None None e f fast = absurd cc
 
-  -- the place that is held after a pin
-  pin_held : (after_pin s p).held p ≡ Some ready.place
-  pin_held = ap (λ o. with_hold s.held p o p) can_view ∙ put_same s.held p (Some ready.place) p refl
+pub fast_seen : (s : State) (p : ℕ) → is_slow s p ≡ false → Seen s p
+fast_seen s p fast = seen_of s p (s.held p) (place_to_view (read_of (s.cell p))) refl refl fast
 
-  -- the object is held after a pin
-  pin_viewed : Viewed s (after_pin s p) m p
-  pin_viewed = record {
-    len = ready.len;
-    place = ready.place;
-    holds = record { own = own s m p law opened ours; rests = pin_held; near = (ready.ds, marks_with Hot ready.marks, (pin_read s m p law opened ours) ∙ ap (map_mark Hot) ready.near) };
-    words = refl;
-    same_data = ap near_data (pin_read s m p law opened ours) ∙ near_data-hot (read_of (s.cell p));
-    same_len = ap near_len (pin_read s m p law opened ours) ∙ near_len-hot (read_of (s.cell p));
-    long = ap near_len ready.near;
-  }
+-- the state after the view
+pub already_is : (s : State) (p : ℕ) (place : Place) → s.held p ≡ Some place → with_view s p ≡ s
+already_is s p place e = ap (λ o. if is_some o then s else after_pin s p) e
+
+pub anew_is : (s : State) (p : ℕ) → s.held p ≡ None → with_view s p ≡ after_pin s p
+anew_is s p e = ap (λ o. if is_some o then s else after_pin s p) e
+
+module _ (s : State) (m p : ℕ) (law : Law s) (opened : is_opened s m ≡ true) (ours : uses s m p ≡ true) where
+  -- the object is held after a pin that gives a view
+  pin_viewed : (place : Place) → place_to_view (read_of (s.cell p)) ≡ Some place → Viewed s (after_pin s p) m p
+  pin_viewed place can_view =
+      let h = view_near (read_of (s.cell p)) place can_view in
+      record {
+        len = h.len;
+        place = place;
+        holds = record {
+          own = own s m p law opened ours;
+          rests = ap (λ o. with_hold s.held p o p) can_view ∙ put_same s.held p (Some place) p refl;
+          near = (h.ds, marks_with Hot h.marks, (pin_read s m p law opened ours) ∙ ap (map_mark Hot) h.near);
+        };
+        words = refl;
+        same_data = ap near_data (pin_read s m p law opened ours) ∙ near_data-hot (read_of (s.cell p));
+        same_len = ap near_len (pin_read s m p law opened ours) ∙ near_len-hot (read_of (s.cell p));
+        long = ap near_len h.near;
+      }
 
   -- an object that was held is so still
   old_viewed : (place : Place) → s.held p ≡ Some place → Viewed s s m p
@@ -231,26 +214,27 @@ module _ (s : State) (m p : ℕ) (law : Law s) (between : Between s) (opened : i
         long = ap near_len h.near;
       }
 
-  -- after the view the object is held, and the words, its place and its length are as before
-  pub view_holds : Viewed s (after_events s (view_events s m p)) m p
-  view_holds = at_view s m p law opened ours (λ t. Viewed s t m p) old_viewed pin_viewed
+  -- after a view that is given the object is held, and the words, its place and its length are as before
+  pub view_holds : Seen s p → Viewed s (with_view s p) m p
+  view_holds (Already place e) = subst (λ t. Viewed s t m p) (sym (already_is s p place e)) (old_viewed place e)
+  view_holds (Anew place e can_view) = subst (λ t. Viewed s t m p) (sym (anew_is s p e)) (pin_viewed place can_view)
 
-  -- a pin leaves at hand what was
-  pin_hand : (q : ℕ) → (after_pin s p).cell q ≢ 0 → AtHand (after_pin s p) q
-  pin_hand q some = put_both (λ w. w ≢ 0 → AtHand (after_pin s p) q) s.cell p (bit_or (s.cell p) (2 ^ position Hot)) q
-      (λ e _. hand q (nonzero_at q e)) (λ _ ne. hand q ne) some where
-        nonzero_at : (r : ℕ) → r ≡ p → s.cell r ≢ 0
-        nonzero_at r e z = nonzero s law p (used s m p law opened ours) (ap s.cell (sym e) ∙ z)
+  -- its length is the one that its cell says
+  pub view_long : Seen s p → object_len s p ≡ data_len s p
+  view_long (Already place e) = let h = held_near (read_of (s.cell p)) place (law.views.held_names p place e) in ap named_len h.near ∙ sym (ap near_len h.near)
+  view_long (Anew place e can_view) = let h = view_near (read_of (s.cell p)) place can_view in ap named_len h.near ∙ sym (ap near_len h.near)
 
-        hand : (r : ℕ) → s.cell r ≢ 0 → AtHand (after_pin s p) r
-        hand r ne =
-            let h = between.at_hand r ne in
-            hand_of (after_pin s p) r (at_cell s law p (used s m p law opened ours) Ready r (Ready-hot (read_of (s.cell r))) (ready_of s r h)) h.used
+-- ---- what holds between commands
+-- it lasts where what is used stays, and no cell but that of a used pointer is another
+pub between_by : (s t : State) (p : ℕ) → t.used ≡ s.used → ((q : ℕ) → q ≢ p → t.cell q ≡ s.cell q) → s.used p ≡ true → Between s → Between t
+between_by s t p uses_same cells used between = record {
+  named = λ q ne. elim (cases_eq q p) [
+    | inl e ↦ (ap (λ (f : ℕ → Bool). f q) uses_same ∙ ap s.used e ∙ used)
+    | inr other ↦ (ap (λ (f : ℕ → Bool). f q) uses_same ∙ between.named q (λ z. ne (cells q other ∙ z)))
+  ];
+}
 
-  -- a pin leaves what holds between commands
-  pin_between : Between (after_pin s p)
-  pin_between = record { at_hand = pin_hand }
-
-  -- so does the view
-  pub view_between : Between (after_events s (view_events s m p))
-  view_between = at_view s m p law opened ours Between (λ _ _. between) pin_between
+-- so it is with a view
+pub view_between : (s : State) (p : ℕ) → s.used p ≡ true → Between s → Between (with_view s p)
+view_between s p used between = cond_both (is_some (s.held p)) s (after_pin s p) Between (λ _. between)
+    (λ _. between_by s (after_pin s p) p refl (λ q ne. put_other s.cell p (bit_or (s.cell p) (2 ^ position Hot)) q ne) used between)

@@ -1,7 +1,7 @@
--- What holds between two commands of this stage, beside the law: every object may be dereferenced at once. `turn` asks for it;
--- neither `run` nor the laws of outputs speak of it.
+-- What holds between two commands of this program, beside the law: each pointer that is named is used by its owner, since a drop is
+-- retired at once. `turn` asks for it; neither `run` nor the laws of outputs speak of it.
+use Rattle.std.specs.Prelude.{◌≡◌, ◌≢◌, ℕ, true}
 use Rattle.far_core.specs.state.State.{State}
-use Rattle.far_replay.specs.EventRows.{AllAtHand}
 
 pub record Between (s : State) : Type 0 where
-  pub at_hand : AllAtHand s
+  pub named : (p : ℕ) → s.cell p ≢ 0 → s.used p ≡ true

@@ -1,5 +1,5 @@
 -- Events made from a state, one after the other.
-use Rattle.std.specs.Prelude.{◌≡◌, ◌≢◌, ℕ, true, false, List, [], ◌∷◌, Some}
+use Rattle.std.specs.Prelude.{◌≡◌, ℕ, true, false, List, [], ◌∷◌, Some}
 use Rattle.far_word.specs.declared.mark.Marks.{Marks}
 use Rattle.far_word.specs.declared.pointer.Place.{Place}
 use Rattle.far_word.specs.declared.pointer.PtrWord.TheVariants.{Near}
@@ -48,7 +48,3 @@ pub record AtHand (s : State) (p : ℕ) : Type 0 where
   pub unmoved : marks.moved ≡ false
   pub kept : marks.dropped ≡ false
   pub used : s.used p ≡ true
-
--- each pointer that is named is used by its owner, near, and may be dereferenced at once
-abbrev pub AllAtHand : State → Type 0
-AllAtHand s = (p : ℕ) → s.cell p ≢ 0 → AtHand s p

@@ -1,20 +1,25 @@
 -- The events of a core by which a command is carried out: a list for each.
 use Rattle.std.specs.Prelude.{ℕ, ◌+◌, ◌-◌, ◌*◌, ◌/◌, ◌%◌, Bool, true, ◌==◌, ◌||◌, ◌&&◌, not, nat_lt, Option, Some, None, is_some, List, [], ◌∷◌, ◌++◌, length, map, if◌then◌else◌}
 use Rattle.std.specs.List.{range_with_len}
-use Rattle.far_word.specs.declared.mark.Mark.TheVariants.{Dropped}
+use Rattle.far_word.specs.declared.mark.Mark.TheVariants.{Dropped, Moved}
 use Rattle.far_word.specs.declared.pointer.Place.{Place}
+use Rattle.far_word.specs.declared.pointer.PtrWord.{PtrWord}
+use Rattle.far_word.specs.declared.pointer.PtrWord.TheVariants.{Free, Near, Far}
 use Rattle.far_word.specs.declared.refused.Refused.{Refused as Refusal}
-use Rattle.far_word.specs.declared.refused.Refused.TheVariants.{Marked}
+use Rattle.far_word.specs.declared.refused.Refused.TheVariants.{NoRoom, Marked}
 use Rattle.far_word.specs.Bytes.{packed_word}
 use Rattle.far_word.specs.Header.{head_word}
+use Rattle.far_word.specs.Pointer.{read_of}
 use Rattle.far_word.specs.Sizes.{size_of, words_for}
+use Rattle.far_core.specs.events.Copies.{data_at}
 use Rattle.far_core.specs.declared.event.Event.{Event}
 use Rattle.far_core.specs.declared.event.Event.TheVariants.{ReadEpoch as ReadsEpoch, Open as Opens, Pin as Pins, Load as Loads, Store as Stores, Close as Closes, Adopt as Adopts, Put as Puts, Name as Names, Ask as Asks, See as Sees}
 use Rattle.far_core.specs.events.Step.{after}
 use Rattle.far_core.specs.state.Room.{room}
 use Rattle.far_core.specs.state.State.{State}
 use Rattle.far_text.specs.Command.{Command, New, Open, Write, Read, Close, Where, Drop, View, Try, Epoch, Mutator, Book}
-use Rattle.far_replay.specs.Effects.{near_word}
+use Rattle.far_replay.specs.Dereference.{come, comes_to, dereferenced, sought}
+use Rattle.far_replay.specs.Effects.{near_word, is_slow, with_view}
 use Rattle.far_replay.specs.Moment.{Moment}
 use Rattle.far_replay.specs.Objects.{data_of, with_range, lowest_cell}
 use Rattle.far_replay.specs.Turn.{refusal, unless}
@@ -36,6 +41,49 @@ open_events s m = if is_some (s.remembered m) then Opens m ∷ [] else ReadsEpoc
 -- one pin, unless the object is held already
 abbrev pub view_events : State → ℕ → ℕ → List Event
 view_events s m p = if is_some (s.held p) then [] else Pins m p ∷ []
+
+-- an object is asked for by its owner, where it is near
+abbrev pub asked_events_of : ℕ → ℕ → Option PtrWord → List Event
+asked_events_of m p None = []
+asked_events_of m p (Some Free) = []
+asked_events_of m p (Some (Near len ds place marks)) = Asks m p Moved ∷ []
+asked_events_of m p (Some (Far len ds marks)) = []
+
+abbrev pub asked_events : State → ℕ → ℕ → List Event
+asked_events s m p = asked_events_of m p (read_of (s.cell p))
+
+-- one pin, which gives no view, and then the owner's asking
+abbrev pub sought_events : State → ℕ → ℕ → List Event
+sought_events s m p = view_events s m p ++ asked_events (with_view s p) m p
+
+-- a span is written: a header for p is put, and a row of data words behind it
+abbrev pub row_puts : Place → ℕ → (ℕ → ℕ) → List Event
+row_puts place count row = map (λ i. Puts place.log (place.at + 1 + i) (row i)) (range_with_len 0 count)
+
+abbrev pub span_events : ℕ → ℕ → ℕ → Place → (ℕ → ℕ) → List Event
+span_events p len ds place row = Puts place.log place.at (head_word p len ds) ∷ row_puts place (words_for len) row
+
+-- the book's naming of p's cell, near and without marks
+abbrev pub name_events : State → ℕ → ℕ → ℕ → Place → List Event
+name_events s p len ds place = Names p (s.cell p) (near_word len ds place) ∷ []
+
+-- an object is brought there: near, its words are written there and its cell is named, with EVAC; without, its cell alone; far, the words that were stored
+-- are written, and its cell is named. What the book looks at before, which changes nothing, isn't told
+abbrev pub come_events_of : State → ℕ → Option Place → Option PtrWord → List Event
+come_events_of s p None o = []
+come_events_of s p (Some place) None = []
+come_events_of s p (Some place) (Some Free) = []
+come_events_of s p (Some place) (Some (Near len ds from marks)) =
+    if marks.evac then span_events p len ds place (data_at s.word from) ++ name_events s p len ds place else name_events s p len ds place
+come_events_of s p (Some place) (Some (Far len ds marks)) = span_events p len ds place (s.stored p) ++ name_events s p len ds place
+
+abbrev pub come_events : State → ℕ → List Event
+come_events s p = come_events_of s p (comes_to s p) (read_of (s.cell p))
+
+-- an object is dereferenced: one pin, and where that gives no view, its owner's asking, what brings it to where a view may rest, and a pin again
+abbrev pub dereference_events : State → ℕ → ℕ → List Event
+dereference_events s m p =
+    if is_slow s p then sought_events s m p ++ come_events (sought s m p) p ++ view_events (come (sought s m p) p) m p else view_events s m p
 
 -- the first word of a range, and how many words it touches
 abbrev pub first_word : ℕ → ℕ
@@ -74,20 +122,22 @@ abbrev pub turn_events : Moment → Command → List Event
 turn_events now (Mutator m (New len ds)) = new_events m len ds (lowest_cell now.core m) (room now.core (size_of len) true)
 turn_events now (Mutator m Open) = open_events now.core m
 turn_events now (Mutator m (Write p from bytes)) =
-    view_events now.core m p ++ part_events m p from (length bytes)
-    ++ store_events m p (first_word from) (words_touched from (length bytes)) (with_range (data_of now.core p) from bytes)
-turn_events now (Mutator m (Read p from len)) = view_events now.core m p ++ load_events m p (first_word from) (words_touched from len)
+    dereference_events now.core m p ++ part_events m p from (length bytes)
+    ++ store_events m p (first_word from) (words_touched from (length bytes)) (with_range (data_of (dereferenced now.core m p) p) from bytes)
+turn_events now (Mutator m (Read p from len)) = dereference_events now.core m p ++ load_events m p (first_word from) (words_touched from len)
 turn_events now (Mutator m Close) = Closes m ∷ []
 turn_events now (Mutator m (Where p)) = []
 turn_events now (Mutator m (Drop p)) = drop_events now.core m p
-turn_events now (Mutator m (View p)) = view_events now.core m p
+turn_events now (Mutator m (View p)) = dereference_events now.core m p
 turn_events now (Mutator m (Try p)) = view_events now.core m p
 turn_events now (Mutator m Epoch) = ReadsEpoch m ∷ []
 turn_events now (Book inquiry) = []
 
--- a refused command makes no event, but the pin that found a mark. What a dereference makes beside its pin, where that gives no view, isn't told here yet: no command of today
--- leaves an object so
+-- a refused command makes no event, but the pin that found a mark, and where an object found no place the pin and its owner's asking
 abbrev pub refused_events : Moment → Command → Refusal → List Event
+refused_events now (Mutator m (Write p from bytes)) NoRoom = sought_events now.core m p
+refused_events now (Mutator m (Read p from len)) NoRoom = sought_events now.core m p
+refused_events now (Mutator m (View p)) NoRoom = sought_events now.core m p
 refused_events now (Mutator m (Try p)) (Marked word) = view_events now.core m p
 refused_events now c why = []
 

@@ -1,5 +1,6 @@
 -- What a trace program's outputs say: the laws over whole texts and whole lists of commands.
-use Rattle.std.specs.Prelude.{◌≡◌, ◌≢◌, ◌↔◌, ℕ, ◌+◌, ◌*◌, ◌/◌, ◌^◌, ◌<◌, ◌≤◌, ◌||◌, true, false, is_some, eqb, sum, codes, decimal, Some, None, Ok, List, [], ◌∷◌, ◌++◌, length, replicate, slice_index, map, All, Contains}
+use Rattle.std.specs.Bool.{MatchBool}
+use Rattle.std.specs.Prelude.{◌≡◌, ◌≢◌, ◌↔◌, ℕ, ◌+◌, ◌*◌, ◌/◌, ◌^◌, ◌<◌, ◌≤◌, ◌||◌, Bool, true, false, is_some, eqb, sum, codes, decimal, Option, Some, None, Ok, List, [], ◌∷◌, ◌++◌, length, replicate, slice_index, map, All, Contains}
 use Rattle.std.specs.List.{flat_map, range_with_len, IsDistinct}
 use Rattle.hex.specs.Hex.{IsBytes}
 use Rattle.far_word.specs.declared.mark.Mark.TheVariants.{Hot}
@@ -29,7 +30,7 @@ use Rattle.far_replay.specs.Answers.{Answered, Answers, Commanded, IsMoment, sha
 use Rattle.far_text.specs.Command.{Command, Heap, CommandLine, New, Open, Write, Read, Close, Where, Drop, View, Try, Epoch, Logs as AsksLogs, Log, Audit, Mutator, Book}
 use Rattle.far_text.specs.Grammar.{trace_of}
 use Rattle.far_replay.specs.Moment.{Moment}
-use Rattle.far_replay.specs.EventRows.{after_events, AllPass, AllSucceed, AllComeToPass, AtHand, AllAtHand}
+use Rattle.far_replay.specs.EventRows.{after_events, AllPass, AllSucceed, AllComeToPass, AtHand}
 use Rattle.far_replay.specs.Effects.{is_slow}
 use Rattle.far_replay.specs.Events.{events_for}
 use Rattle.far_replay.specs.Objects.{with_range, uses}
@@ -68,11 +69,11 @@ pub record Reaches (now : Moment) (c : Command) (after : Moment) : Type 0 where
   pub succeed : AllSucceed now.core (events_for now c)
   pub come : IsAtHandFor now c → AllComeToPass now.core (events_for now c)
 
--- what is true of each moment of an output
+-- what is true of each moment of an output: each pointer that is named is used by its owner
 pub record Lawful (now : Moment) : Type 0 where
   pub reached : IsMoment now
   pub law : Law now.core
-  pub at_hand : AllAtHand now.core
+  pub named : (p : ℕ) → now.core.cell p ≢ 0 → now.core.used p ≡ true
 
 -- each object that is in use has one place, each log's bytes are 1,024, and no two cells name one place
 abbrev pub IsWhole : State → Type 0
@@ -133,14 +134,17 @@ TellsHome s p (Far marks) = (len ds : ℕ) × (o : Object) × (read_of (s.cell p
 abbrev pub IsHowMany : (ℕ → Type 0) → ℕ → Type 0
 IsHowMany P n = (ks : List ℕ) × (length ks ≡ n) × IsDistinct eqb ks × ((k : ℕ) → Contains ks k ↔ P k)
 
--- a number has an object
-abbrev pub HasObject : State → ℕ → Type 0
-HasObject s p = (o : Object) × ((world_of s).object p ≡ Some o)
+-- a number has an object in a group; or one on the far side
+abbrev pub IsNearObject : State → ℕ → Type 0
+IsNearObject s p = (o : Object) × (group : ℕ) × ((world_of s).object p ≡ Some o) × (o.home ≡ Group group)
 
--- the counts are of what there is: all objects, which are near, and what each log tells of its live bytes
+abbrev pub IsFarObject : State → ℕ → Type 0
+IsFarObject s p = (o : Object) × ((world_of s).object p ≡ Some o) × (o.home ≡ FarSide)
+
+-- the counts are of what there is: each object is near or far, and is counted so; and what each log tells of its live bytes
 pub record CountsAll (now : Moment) (counts : Counts) : Type 0 where
-  pub near : IsHowMany (HasObject now.core) counts.near
-  pub far : counts.far ≡ 0
+  pub near : IsHowMany (IsNearObject now.core) counts.near
+  pub far : IsHowMany (IsFarObject now.core) counts.far
   pub live : (lines : List LogLine) (after : Moment) → Commanded now (Book AsksLogs) (Logs lines) after → counts.live ≡ sum (map (λ line. line.live) lines)
 
 -- what an object leaves that is dropped: no object of its pointer, whose cell is free and which its owner doesn't use; all other objects, the words and spans of
@@ -173,14 +177,46 @@ ViewsAfter now (Mutator m (Try p)) Done after = ViewsObject now.core after.core 
 ViewsAfter now (Mutator m Close) Done after = ViewsNothing now.core after.core m
 ViewsAfter now c r after = after.core.held ≡ now.core.held
 
--- what a command with its reply takes of the logs: a new object its span, at the end of the log that room says; a dereference nothing, where its pin gives a view; anything else nothing
+-- nothing is taken of the logs; or a span of an object of so many bytes, at the end of the log that room says
+abbrev pub TakesNone : State → State → Type 0
+TakesNone s t = (t.tail ≡ s.tail) × (t.kind ≡ s.kind)
+
+abbrev pub TakesSpan : State → ℕ → Bool → State → Type 0
+TakesSpan s len reserve t = (place : Place) × (room s (size_of len) reserve ≡ Some place) × (t.tail ≡ put s.tail place.log (place.at + size_of len))
+
+-- what it takes to bring an object to where a view may rest, by what its cell says: nothing where it stays; else its span. A near one, which goes where it has EVAC, may take the last
+-- free log; a far one may not
+abbrev pub BringTakes : State → Option PtrWord → State → Type 0
+BringTakes s None t = TakesNone s t
+BringTakes s (Some pointer.Free) t = TakesNone s t
+BringTakes s (Some (pointer.Near len ds place marks)) t = MatchBool marks.evac (TakesSpan s len false t) (TakesNone s t)
+BringTakes s (Some (pointer.Far len ds marks)) t = TakesSpan s len true t
+
+-- there is no room for that
+abbrev pub LacksRoom : State → Option PtrWord → Type 0
+LacksRoom s None = ⊥
+LacksRoom s (Some pointer.Free) = ⊥
+LacksRoom s (Some (pointer.Near len ds place marks)) = (marks.evac ≡ true) × (room s (size_of len) false ≡ None)
+LacksRoom s (Some (pointer.Far len ds marks)) = room s (size_of len) true ≡ None
+
+-- what a dereference takes: nothing where its pin gives a view
+abbrev pub DereferenceTakes : State → ℕ → State → Type 0
+DereferenceTakes s p t = MatchBool (is_slow s p) (BringTakes s (read_of (s.cell p)) t) (TakesNone s t)
+
+-- and where it is refused for want of room: there is none, and it takes nothing
+abbrev pub DereferenceLacks : State → ℕ → State → Type 0
+DereferenceLacks s p t = (is_slow s p ≡ true) × LacksRoom s (read_of (s.cell p)) × TakesNone s t
+
+-- what a command with its reply takes of the logs: a new object its span; a dereference what it takes to bring its object; anything else nothing
 abbrev pub TakesRoom : Moment → Command → Reply → Moment → Type 0
-TakesRoom now (Mutator m (New len ds)) (Pointer p) after = (place : Place) × (room now.core (size_of len) true ≡ Some place)
-    × (after.core.tail ≡ put now.core.tail place.log (place.at + size_of len))
-TakesRoom now (Mutator m (Write p from bytes)) Done after = is_slow now.core p ≡ false → (after.core.tail ≡ now.core.tail) × (after.core.kind ≡ now.core.kind)
-TakesRoom now (Mutator m (Read p from len)) (Data bytes) after = is_slow now.core p ≡ false → (after.core.tail ≡ now.core.tail) × (after.core.kind ≡ now.core.kind)
-TakesRoom now (Mutator m (View p)) Done after = is_slow now.core p ≡ false → (after.core.tail ≡ now.core.tail) × (after.core.kind ≡ now.core.kind)
-TakesRoom now c r after = (after.core.tail ≡ now.core.tail) × (after.core.kind ≡ now.core.kind)
+TakesRoom now (Mutator m (New len ds)) (Pointer p) after = TakesSpan now.core len true after.core
+TakesRoom now (Mutator m (Write p from bytes)) Done after = DereferenceTakes now.core p after.core
+TakesRoom now (Mutator m (Write p from bytes)) (Refused NoRoom) after = DereferenceLacks now.core p after.core
+TakesRoom now (Mutator m (Read p from len)) (Data bytes) after = DereferenceTakes now.core p after.core
+TakesRoom now (Mutator m (Read p from len)) (Refused NoRoom) after = DereferenceLacks now.core p after.core
+TakesRoom now (Mutator m (View p)) Done after = DereferenceTakes now.core p after.core
+TakesRoom now (Mutator m (View p)) (Refused NoRoom) after = DereferenceLacks now.core p after.core
+TakesRoom now c r after = TakesNone now.core after.core
 
 -- a cell has HOT, on what it said before
 abbrev pub IsHotAfter : State → State → ℕ → Type 0
@@ -268,7 +304,7 @@ OneOutput = (text a b : List ℕ) → Answers text a → Answers text b → a �
 abbrev pub TextsWriteBytes : Type 0
 TextsWriteBytes = (text : List ℕ) (logs mutators epoch : ℕ) (cs : List Command) → trace_of text ≡ Ok (Heap logs mutators epoch cs) → AllWriteBytes cs
 
--- what lasts: each moment after a heap and commands has the law, and its pointers at hand
+-- what lasts: each moment after a heap and commands has the law, and what it names is used
 abbrev pub MomentsLast : Type 0
 MomentsLast = (now : Moment) (cs : List Command) (rs : List Reply) (moments : List Moment) → IsMoment now → AllWriteBytes cs → Answered now cs rs moments → All Lawful (now ∷ moments)
 
@@ -318,7 +354,7 @@ LogTellsItsLine = (now : Moment) (l : ℕ) (r : Reply) (after : Moment) → Comm
     (l < now.core.logs → (lines : List LogLine) (later : Moment) → Commanded now (Book AsksLogs) (Logs lines) later → (line : LogLine) × (r ≡ Logs (line ∷ [])) × (line.log ≡ l) × Contains lines line)
     × (now.core.logs ≤ l → r ≡ Refused Range)
 
--- `audit` counts each object, and the bytes that `logs` tells; today none is far
+-- `audit` counts each object, near and far, and the bytes that `logs` tells
 abbrev pub AuditCounts : Type 0
 AuditCounts = (now : Moment) (r : Reply) (after : Moment) → IsMoment now → Commanded now (Book Audit) r after → (counts : Counts) × (r ≡ Audited counts) × CountsAll now counts
 
@@ -379,7 +415,7 @@ NewIsMade = (now : Moment) (m len ds : ℕ) (r : Reply) (after : Moment) → m <
     × ((q : ℕ) → m * CELLS ≤ q → q < m * CELLS + CELLS → now.core.cell q ≡ 0 →
     (room now.core (size_of len) true ≡ None → r ≡ Refused NoRoom) × ((place : Place) → room now.core (size_of len) true ≡ Some place → (p : ℕ) × (r ≡ Pointer p)))
 
--- a new object alone takes room, and no more than its span
+-- a new object and one that is brought for a view alone take room, and no more than their span
 abbrev pub CommandsTakeRoom : Type 0
 CommandsTakeRoom = (now : Moment) (c : Command) (r : Reply) (after : Moment) → Law now.core → Commanded now c r after → TakesRoom now c r after
 

@@ -19,10 +19,11 @@ pub fn texts_are_answered()
 {}
 
 /// A heap line may say 2 to 64 logs, 1 to 8 mutators and a first epoch below 2^62. The heap begins with them, with the law and with nothing in it.
-/// After commands each moment has the law, its pointers at hand and its objects whole: each in use has exactly one place,
-/// each log's bytes are 1,024 in all, and no two pointers name one place. Each command is carried out by its events: they
-/// are legal, none is refused, they keep the law and what views rest on, and end in the moment after it. Where its object
-/// is at hand, a pin among them gives a view, and a naming wins.
+/// After commands each moment has the law, what it names is used, and its objects are whole: each in use has exactly one
+/// place, each log's bytes are 1,024 in all, and no two pointers name one place. Each command is carried out by its events,
+/// those of a dereference among them, whatever marks its object has and wherever it is: they are legal, none is refused,
+/// they keep the law and what views rest on, and end in the moment after it. Where its object is at hand, a pin among them
+/// gives a view, and a naming wins.
 pub fn moments_are_lawful()
     ensures shapes { ShapesAre }
     ensures begin { HeapsBeginLawful }
@@ -63,7 +64,9 @@ pub fn mutators_are_alone()
 
 /// A new object in range is made where a pointer is free and there is room, else it is refused, 3 before 2, and so only
 /// where there is none; its pointer is the lowest of its mutator's that is free; it has its owner, its data structure and
-/// zeros, in the log that `room` says; all other objects stay. It takes its span of that log; no other command takes any.
+/// zeros, in the log that `room` says; all other objects stay. It takes its span of that log. A dereference takes one where
+/// its object is far, or has EVAC, in the log that `room` says, and is refused 2 only where there is none. No other command
+/// takes any.
 pub fn new_is_made()
     ensures answer { NewIsMade }
     ensures none { NoneIsLeft }
@@ -89,7 +92,8 @@ pub fn logs_are_told()
 {}
 
 /// `where` tells the place of an object that its mutator uses, or that it is far, and its marks. `log` tells the line that
-/// `logs` has for the log. `audit` counts each object once, and the live bytes that `logs` tells; no object is far today.
+/// `logs` has for the log. `audit` counts each object once, those in a log and those on the far side, and the live bytes
+/// that `logs` tells.
 pub fn inquiries_tell()
     ensures place { WhereTells }
     ensures line { LogTellsItsLine }

@@ -1,6 +1,6 @@
 //! What a command comes to, and the room that its reply is read from.
 
-ghost use Rattle.std.specs.Prelude.{◌≡◌};
+ghost use Rattle.std.specs.Prelude.{◌≡◌, ◌≢◌, IfErr, IfOk};
 ghost use Rattle.far_replay.specs.Reply.{reply_of, IsShort};
 ghost use Rattle.far_replay.specs.Outcome.{reply_by, IsInRoom};
 
@@ -8,6 +8,7 @@ use crate::reply::{Counts, LogLine, Reply};
 use far_book::Home;
 use far_core::Kind;
 use far_word::{LOG_WORDS, MOST_LOGS, Refused};
+use std::alloc::AllocError;
 
 /// What a command comes to. The bytes and the log lines of a reply stand in the room.
 #[derive(Clone, Copy)]
@@ -24,6 +25,19 @@ pub enum Outcome {
     /// The epoch that a mutator read.
     EpochRead(u64),
     Refused(Refused),
+}
+
+impl Outcome {
+    /// What a refusal of the book comes to: a reply; but want of memory is none, and ends the run.
+    pub fn refused(why: Refused) -> Result<Outcome, AllocError>
+        ensures told { IfOk result (λ outcome. (outcome ≡ Outcome.Refused why) × (why ≢ Refused.Memory)) }
+        ensures wanted { IfErr result (λ _. why ≡ Refused.Memory) }
+    {
+        match why {
+            Refused::Memory => Err(AllocError),
+            why => Ok(Outcome::Refused(why)),
+        }
+    }
 }
 
 /// Room for the words and bytes of an object and for a line of each log.

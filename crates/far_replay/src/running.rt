@@ -7,7 +7,7 @@ ghost use Rattle.std.specs.List.{flat_map};
 ghost use Rattle.far_core.specs.state.Opening.{opening};
 ghost use Rattle.far_core.specs.state.Shape.{is_shape};
 ghost use Rattle.far_replay.specs.Moment.{Moment, moment_of, state_in};
-ghost use Rattle.far_replay.specs.Answers.{Answered, MayMakeHeap, WritesOutput, WritesAnswer, LeavesBehind, Leaves, end_of};
+ghost use Rattle.far_replay.specs.Answers.{Answered, MayMakeHeap, Leads, WritesOutput, WritesAnswer, LeavesBehind, Leaves, end_of};
 ghost use Rattle.far_text.specs.declared.text.TheConstants.{LONGEST_TEXT};
 ghost use Rattle.far_text.specs.Grammar.{trace_of};
 ghost use Rattle.far_text.specs.Command.{Heap};
@@ -94,27 +94,33 @@ fn refuse<W: Write>(
     replies.finish(writer)
 }
 
-// Makes the commands after the heap, and writes their replies. Once a write has failed it makes them without writing.
+// Makes the commands after the heap, and writes their replies. Once a write has failed it makes them without writing. Where
+// one wants memory and is refused it, no other is made, and replies that wait aren't written.
 fn answer_commands<W: Write>(
     writer: &mut W,
     replies: &mut ReplyWriter,
     book: Book<Plain, MemDevice>,
     scratch: &mut Scratch,
     commands: &Commands,
-) -> Result<(), WriteFault>
+) -> Result<(), RunFault>
     requires between { Between (state_in book) }
     ensures { (replies : List Answer) × (moments : List Moment) × Answered (moment_of (state_in book)) commands.now replies moments
-        × Writes (W.contents writer.old) (W.contents writer.new) result (flat_map reply_text (Done ∷ replies)) }
+        × Leads (W.contents writer.old) (W.contents writer.new) result (flat_map reply_text (Done ∷ replies)) }
 {
     let mut book = book;
     replies.clear();
     replies.add(writer, &Reply::Done);
     for at in 0..commands.len() {
         let command = commands.at(at);
-        let outcome = turn(&mut book, scratch, &command);
+        let Ok(outcome) = turn(&mut book, scratch, &command) else {
+            return Err(RunFault::Memory);
+        };
         replies.add(writer, &scratch.reply(outcome));
     }
-    replies.finish(writer)
+    match replies.finish(writer) {
+        Ok(()) => Ok(()),
+        Err(_) => Err(RunFault::Write),
+    }
 }
 
 // A book over a new heap, whose far side is honest.
@@ -144,8 +150,10 @@ fn answer_heap<W: Write>(
     match new_book(alloc, shape) {
         Ok(book) => {
             let mut scratch = Scratch::new();
-            answer_commands(writer, replies, book, &mut scratch, commands)?;
-            Ok(End::Ran)
+            match answer_commands(writer, replies, book, &mut scratch, commands) {
+                Ok(()) => Ok(End::Ran),
+                Err(fault) => Err(fault),
+            }
         }
         Err(Refused::Memory) => {
             let _ = refuse(writer, replies, Refused::Memory);
@@ -214,12 +222,12 @@ fn answer_text<W: Write>(
 
 /// Reads a text, runs its commands, and writes their replies.
 ///
-/// All room but the heap's is taken before the first command is made. A text that is off the grammar, or whose heap's
-/// shape is out of range, is answered by that one refusal, and nothing else is run.
+/// All room but the heap's and that of a fetch is taken before the first command is made. A text that is off the grammar,
+/// or whose heap's shape is out of range, is answered by that one refusal, and nothing else is run.
 ///
 /// Faults: [`RunFault::Read`] where the reader fails, any error of it; [`RunFault::Memory`] where room is refused: then
-/// nothing was written, but `refused 1` where it was the heap's; [`RunFault::Write`] where the writer fails or takes
-/// nothing: what was written is a proper prefix of the output.
+/// nothing was written, but `refused 1` where it was the heap's, or a prefix of the output where it was a fetch's;
+/// [`RunFault::Write`] where the writer fails or takes nothing: what was written is a proper prefix of the output.
 pub fn run<R: Read, W: Write>(
     alloc: Global,
     reader: &mut R,

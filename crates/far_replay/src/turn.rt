@@ -1,6 +1,6 @@
 //! Commands, each made by calls of a book and events of owners.
 
-ghost use Rattle.std.specs.Prelude.{◌≡◌, ◌+◌, ◌*◌, ◌<◌, ◌≤◌, ◌-◌, ◌/◌, ◌^◌, ℕ, true, Some, Ok, take, drop, length, slice_index, slice_range, IfOk, IfErr, IsSome};
+ghost use Rattle.std.specs.Prelude.{◌≡◌, ◌+◌, ◌*◌, ◌<◌, ◌≤◌, ◌-◌, ◌/◌, ◌^◌, ℕ, true, Some, Ok, take, drop, length, slice_index, slice_range, IfOk, IfErr, IsSome, OnOk};
 ghost use Rattle.far_word.specs.Sizes.{size_of};
 ghost use Rattle.far_word.specs.Bytes.{bytes_of, packed_word, words_of};
 ghost use Rattle.far_word.specs.Pointer.{read_of};
@@ -18,10 +18,10 @@ ghost use Rattle.far_text.specs.Command.{Mutator, Book, New, Open, Write, Read, 
 ghost use Rattle.far_replay.specs.Reply.{Data};
 ghost use Rattle.far_replay.specs.Outcome.{reply_by, IsInRoom};
 ghost use Rattle.far_replay.specs.Between.{Between};
-ghost use Rattle.far_replay.specs.Events.{events_for, turn_events, first_word, store_events, words_touched, starts_inside, ends_inside};
+ghost use Rattle.far_replay.specs.Events.{events_for, first_word, store_events, words_touched, starts_inside, ends_inside};
 ghost use Rattle.far_replay.specs.Objects.{data_of, lowest_cell, named_len, with_range};
 ghost use Rattle.far_replay.specs.Moment.{moment_of, state_in};
-ghost use Rattle.far_replay.specs.Turn.{effect, access_causes, first_cause, reply_to, turn_reply, refusal, with_new};
+ghost use Rattle.far_replay.specs.Turn.{effect, access_causes, first_cause, reply_to, refusal, with_new};
 
 use crate::dropping::drop_object;
 use crate::epochs::read_epoch;
@@ -35,6 +35,7 @@ use far_core::Event;
 use far_device::MemDevice;
 use far_text::{Command, Inquiry, Request};
 use far_word::{LOG_WORDS, LONGEST, Refused, pack_bytes, pointer_len, unpack_bytes};
+use std::alloc::AllocError;
 
 /// Some bytes of an object that its owner may reach: the numbers of the owner and the pointer, and the range.
 #[derive(Clone, Copy)]
@@ -150,18 +151,20 @@ fn read_viewed(book: &Book<Plain, MemDevice>, scratch: &mut Scratch, access: Acc
     }
 }
 
-// Reads a range of bytes.
-fn read(book: &mut Book<Plain, MemDevice>, scratch: &mut Scratch, access: Access) -> Outcome
+// Reads a range of bytes. `Err` where the object is far and its words are refused memory.
+fn read(
+    book: &mut Book<Plain, MemDevice>,
+    scratch: &mut Scratch,
+    access: Access,
+) -> Result<Outcome, AllocError>
     requires access { IsAccess (state_in book.old) access.owner access.pointer access.from access.count access }
-    requires between { Between (state_in book.old) }
-    requires law { Law (state_in book.old) }
-    ensures state { state_in book.new ≡ after_events (state_in book.old) (turn_events (moment_of (state_in book.old)) (Mutator access.owner (Read access.pointer access.from access.count))) }
-    ensures reply { reply_by scratch.new.bytes scratch.new.lines result ≡ turn_reply (moment_of (state_in book.old)) (Mutator access.owner (Read access.pointer access.from access.count)) }
-    ensures fits { IsInRoom result }
+    ensures state { OnOk result (moment_of (state_in book.new) ≡ effect (moment_of (state_in book.old)) (Mutator access.owner (Read access.pointer access.from access.count))) }
+    ensures reply { IfOk result (λ outcome. reply_by scratch.new.bytes scratch.new.lines outcome ≡ reply_to (moment_of (state_in book.old)) (Mutator access.owner (Read access.pointer access.from access.count))) }
+    ensures fits { IfOk result (λ outcome. IsInRoom outcome) }
 {
     match dereference(book, access.owner, access.pointer) {
-        Ok(()) => read_viewed(book, scratch, access),
-        Err(why) => Outcome::Refused(why),
+        Ok(()) => Ok(read_viewed(book, scratch, access)),
+        Err(why) => Outcome::refused(why),
     }
 }
 
@@ -261,27 +264,26 @@ fn write_viewed(
     store_front(book, access, &scratch.words);
 }
 
-// Writes bytes over a range.
+// Writes bytes over a range. `Err` where the object is far and its words are refused memory.
 fn write(
     book: &mut Book<Plain, MemDevice>,
     scratch: &mut Scratch,
     access: Access,
     bytes: &[u8],
-) -> Outcome
+) -> Result<Outcome, AllocError>
     requires access { IsAccess (state_in book.old) access.owner access.pointer access.from access.count access }
-    requires between { Between (state_in book.old) }
-    requires law { Law (state_in book.old) }
     requires bytes { length bytes.now ≡ access.count }
     requires small { IsBytes bytes.now }
-    ensures state { state_in book.new ≡ after_events (state_in book.old) (turn_events (moment_of (state_in book.old)) (Mutator access.owner (Write access.pointer access.from bytes.now))) }
-    ensures done { result ≡ Outcome.Done }
+    ensures state { OnOk result (moment_of (state_in book.new) ≡ effect (moment_of (state_in book.old)) (Mutator access.owner (Write access.pointer access.from bytes.now))) }
+    ensures reply { IfOk result (λ outcome. StandsFor outcome (reply_to (moment_of (state_in book.old)) (Mutator access.owner (Write access.pointer access.from bytes.now)))) }
+    ensures fits { IfOk result (λ outcome. IsInRoom outcome) }
 {
     match dereference(book, access.owner, access.pointer) {
         Ok(()) => {
             write_viewed(book, scratch, access, bytes);
-            Outcome::Done
+            Ok(Outcome::Done)
         }
-        Err(why) => Outcome::Refused(why),
+        Err(why) => Outcome::refused(why),
     }
 }
 
@@ -365,17 +367,16 @@ fn read_range(
     pointer: u64,
     from: u64,
     len: u64,
-) -> Outcome
+) -> Result<Outcome, AllocError>
     requires known { owner < (state_in book.old).mutators }
-    requires between { Between (state_in book.old) }
     requires law { Law (state_in book.old) }
-    ensures state { state_in book.new ≡ after_events (state_in book.old) (events_for (moment_of (state_in book.old)) (Mutator owner (Read pointer from len))) }
-    ensures reply { reply_by scratch.new.bytes scratch.new.lines result ≡ reply_to (moment_of (state_in book.old)) (Mutator owner (Read pointer from len)) }
-    ensures fits { IsInRoom result }
+    ensures state { OnOk result (moment_of (state_in book.new) ≡ effect (moment_of (state_in book.old)) (Mutator owner (Read pointer from len))) }
+    ensures reply { IfOk result (λ outcome. reply_by scratch.new.bytes scratch.new.lines outcome ≡ reply_to (moment_of (state_in book.old)) (Mutator owner (Read pointer from len))) }
+    ensures fits { IfOk result (λ outcome. IsInRoom outcome) }
 {
     match reach(book, owner, pointer, from, len) {
         Ok(access) => read(book, scratch, access),
-        Err(why) => Outcome::Refused(why),
+        Err(why) => Ok(Outcome::Refused(why)),
     }
 }
 
@@ -387,39 +388,39 @@ fn write_range(
     pointer: u64,
     from: u64,
     bytes: &[u8],
-) -> Outcome
+) -> Result<Outcome, AllocError>
     requires known { owner < (state_in book.old).mutators }
-    requires between { Between (state_in book.old) }
     requires law { Law (state_in book.old) }
     requires small { IsBytes bytes.now }
-    ensures state { state_in book.new ≡ after_events (state_in book.old) (events_for (moment_of (state_in book.old)) (Mutator owner (Write pointer from bytes.now))) }
-    ensures reply { StandsFor result (reply_to (moment_of (state_in book.old)) (Mutator owner (Write pointer from bytes.now))) }
-    ensures fits { IsInRoom result }
+    ensures state { OnOk result (moment_of (state_in book.new) ≡ effect (moment_of (state_in book.old)) (Mutator owner (Write pointer from bytes.now))) }
+    ensures reply { IfOk result (λ outcome. StandsFor outcome (reply_to (moment_of (state_in book.old)) (Mutator owner (Write pointer from bytes.now)))) }
+    ensures fits { IfOk result (λ outcome. IsInRoom outcome) }
 {
     match reach(book, owner, pointer, from, bytes.len() as u64) {
         Ok(access) => write(book, scratch, access, bytes),
-        Err(why) => Outcome::Refused(why),
+        Err(why) => Ok(Outcome::Refused(why)),
     }
 }
 
-// Makes the events of an owner's request, and answers what it comes to.
+// Makes the events of an owner's request, and answers what it comes to. `Err` where an object is far and its words are
+// refused memory.
 fn make_request(
     book: &mut Book<Plain, MemDevice>,
     scratch: &mut Scratch,
     owner: u8,
     request: Request,
-) -> Outcome
+) -> Result<Outcome, AllocError>
     requires known { owner < (state_in book.old).mutators }
     requires between { Between (state_in book.old) }
     requires law { Law (state_in book.old) }
     requires small { WritesBytes (Mutator owner (as_request request)) }
-    ensures state { state_in book.new ≡ after_events (state_in book.old) (events_for (moment_of (state_in book.old)) (Mutator owner (as_request request.entry))) }
-    ensures reply { reply_by scratch.new.bytes scratch.new.lines result ≡ reply_to (moment_of (state_in book.old)) (Mutator owner (as_request request.entry)) }
-    ensures fits { IsInRoom result }
+    ensures state { OnOk result (state_in book.new ≡ after_events (state_in book.old) (events_for (moment_of (state_in book.old)) (Mutator owner (as_request request.entry)))) }
+    ensures reply { IfOk result (λ outcome. reply_by scratch.new.bytes scratch.new.lines outcome ≡ reply_to (moment_of (state_in book.old)) (Mutator owner (as_request request.entry))) }
+    ensures fits { IfOk result (λ outcome. IsInRoom outcome) }
 {
     match request {
-        Request::New { len, structure } => make_object(book, owner, len, structure),
-        Request::Open => open_scope(book, owner),
+        Request::New { len, structure } => Ok(make_object(book, owner, len, structure)),
+        Request::Open => Ok(open_scope(book, owner)),
         Request::Write {
             pointer,
             from,
@@ -428,12 +429,12 @@ fn make_request(
         Request::Read { pointer, from, len } => {
             read_range(book, scratch, owner, pointer, from, len)
         }
-        Request::Close => close_scope(book, owner),
-        Request::Where { pointer } => find_object(book, owner, pointer),
-        Request::Drop { pointer } => drop_object(book, owner, pointer),
+        Request::Close => Ok(close_scope(book, owner)),
+        Request::Where { pointer } => Ok(find_object(book, owner, pointer)),
+        Request::Drop { pointer } => Ok(drop_object(book, owner, pointer)),
         Request::View { pointer } => view_object(book, owner, pointer),
-        Request::Try { pointer } => try_object(book, owner, pointer),
-        Request::Epoch => read_epoch(book, owner),
+        Request::Try { pointer } => Ok(try_object(book, owner, pointer)),
+        Request::Epoch => Ok(read_epoch(book, owner)),
     }
 }
 
@@ -442,38 +443,43 @@ fn make_events(
     book: &mut Book<Plain, MemDevice>,
     scratch: &mut Scratch,
     command: &Command,
-) -> Outcome
+) -> Result<Outcome, AllocError>
     requires between { Between (state_in book.old) }
     requires law { Law (state_in book.old) }
     requires small { WritesBytes (as_command command.now) }
-    ensures state { state_in book.new ≡ after_events (state_in book.old) (events_for (moment_of (state_in book.old)) (as_command command.now)) }
-    ensures reply { reply_by scratch.new.bytes scratch.new.lines result ≡ reply_to (moment_of (state_in book.old)) (as_command command.now) }
-    ensures fits { IsInRoom result }
+    ensures state { OnOk result (state_in book.new ≡ after_events (state_in book.old) (events_for (moment_of (state_in book.old)) (as_command command.now))) }
+    ensures reply { IfOk result (λ outcome. reply_by scratch.new.bytes scratch.new.lines outcome ≡ reply_to (moment_of (state_in book.old)) (as_command command.now)) }
+    ensures fits { IfOk result (λ outcome. IsInRoom outcome) }
 {
     match *command {
         Command::Mutator { mutator, request } => {
             let Some(owner) = owner_of(book, mutator) else {
-                return Outcome::Refused(Refused::Range);
+                return Ok(Outcome::Refused(Refused::Range));
             };
             make_request(book, scratch, owner, request)
         }
         Command::Book(Inquiry::Logs) => {
             tell_logs(book, &mut scratch.lines);
-            Outcome::Logs(book.core().logs())
+            Ok(Outcome::Logs(book.core().logs()))
         }
-        Command::Book(Inquiry::Log { log }) => tell_log(book, scratch, log),
-        Command::Book(Inquiry::Audit) => audit(book),
+        Command::Book(Inquiry::Log { log }) => Ok(tell_log(book, scratch, log)),
+        Command::Book(Inquiry::Audit) => Ok(audit(book)),
     }
 }
 
-/// Makes one command, and answers what it comes to.
-pub fn turn(book: &mut Book<Plain, MemDevice>, scratch: &mut Scratch, command: &Command) -> Outcome
+/// Makes one command, and answers what it comes to. `Err` where an object is far and its words are refused memory: that is
+/// no reply, and no command is made after it.
+pub fn turn(
+    book: &mut Book<Plain, MemDevice>,
+    scratch: &mut Scratch,
+    command: &Command,
+) -> Result<Outcome, AllocError>
     requires between { Between (state_in book.old) }
     requires law { Law (state_in book.old) }
     requires small { WritesBytes (as_command command.now) }
-    ensures moment { moment_of (state_in book.new) ≡ effect (moment_of (state_in book.old)) (as_command command.now) }
-    ensures reply { reply_by scratch.new.bytes scratch.new.lines result ≡ reply_to (moment_of (state_in book.old)) (as_command command.now) }
-    ensures fits { IsInRoom result }
+    ensures moment { OnOk result (moment_of (state_in book.new) ≡ effect (moment_of (state_in book.old)) (as_command command.now)) }
+    ensures reply { IfOk result (λ outcome. reply_by scratch.new.bytes scratch.new.lines outcome ≡ reply_to (moment_of (state_in book.old)) (as_command command.now)) }
+    ensures fits { IfOk result (λ outcome. IsInRoom outcome) }
 {
     make_events(book, scratch, command)
 }

@@ -1,9 +1,7 @@
 //! Objects are viewed, or tried: pinned, and not asked for.
 
-ghost use Rattle.std.specs.Prelude.{◌≡◌, ◌<◌};
-ghost use Rattle.far_core.specs.state.Law.{Law};
+ghost use Rattle.std.specs.Prelude.{◌≡◌, ◌<◌, IfOk, OnOk};
 ghost use Rattle.far_text.specs.Command.{Mutator, Try, View};
-ghost use Rattle.far_replay.specs.Between.{Between};
 ghost use Rattle.far_replay.specs.Interpreter.{StandsFor};
 ghost use Rattle.far_replay.specs.Moment.{moment_of, state_in};
 ghost use Rattle.far_replay.specs.Outcome.{IsInRoom};
@@ -15,6 +13,7 @@ use crate::owners::own_pointer;
 use far_book::{Book, Plain};
 use far_device::MemDevice;
 use far_word::Refused;
+use std::alloc::AllocError;
 
 /// Views an owner's object where one pin does, and else answers the cell that the pin found.
 pub fn try_object(book: &mut Book<Plain, MemDevice>, owner: u8, pointer: u64) -> Outcome
@@ -35,23 +34,25 @@ pub fn try_object(book: &mut Book<Plain, MemDevice>, owner: u8, pointer: u64) ->
     }
 }
 
-/// Views an owner's object, whatever marks it has.
-pub fn view_object(book: &mut Book<Plain, MemDevice>, owner: u8, pointer: u64) -> Outcome
+/// Views an owner's object, whatever marks it has. `Err` where it is far and its words are refused memory.
+pub fn view_object(
+    book: &mut Book<Plain, MemDevice>,
+    owner: u8,
+    pointer: u64,
+) -> Result<Outcome, AllocError>
     requires known { owner < (state_in book.old).mutators }
-    requires between { Between (state_in book.old) }
-    requires law { Law (state_in book.old) }
-    ensures state { moment_of (state_in book.new) ≡ effect (moment_of (state_in book.old)) (Mutator owner (View pointer)) }
-    ensures reply { StandsFor result (reply_to (moment_of (state_in book.old)) (Mutator owner (View pointer))) }
-    ensures fits { IsInRoom result }
+    ensures state { OnOk result (moment_of (state_in book.new) ≡ effect (moment_of (state_in book.old)) (Mutator owner (View pointer))) }
+    ensures reply { IfOk result (λ outcome. StandsFor outcome (reply_to (moment_of (state_in book.old)) (Mutator owner (View pointer)))) }
+    ensures fits { IfOk result (λ outcome. IsInRoom outcome) }
 {
     if !book.core().is_open(owner) {
-        return Outcome::Refused(Refused::Closed);
+        return Ok(Outcome::Refused(Refused::Closed));
     }
     let Some(pointer) = own_pointer(book, owner, pointer) else {
-        return Outcome::Refused(Refused::NotHeld);
+        return Ok(Outcome::Refused(Refused::NotHeld));
     };
     match dereference(book, owner, pointer) {
-        Ok(()) => Outcome::Done,
-        Err(why) => Outcome::Refused(why),
+        Ok(()) => Ok(Outcome::Done),
+        Err(why) => Outcome::refused(why),
     }
 }

@@ -1,5 +1,5 @@
 use Rattle.far_replay.specs.Moment.{state_in}
-use Rattle.far_replay.proofs.Bringing.{far_done, far_inside, far_refused, far_room, is_far}
+use Rattle.far_replay.proofs.Bringing.{far_done, far_inside, far_refused, far_room, is_far, never_fails}
 use Rattle.far_replay.proofs.events.fetch_far.Goals as goal
 
 pub fetch-requires-clause-pointer : goal.fetch-requires-clause-pointer
@@ -20,4 +20,4 @@ returns-in-Ok-Some-clause-room c =
 pub returns-in-Err-clause-refused : goal.returns-in-Err-clause-refused
 returns-in-Err-clause-refused c =
     far_refused (state_in c.args.book.now) c.args.owner c.args.pointer c.args.book.now.near.core.law c.requires.used c.requires.far (state_in c.fetch.new.self) c.in-Err.why
-    c.in-Err.ensures.refused (c.in-Err.ensures.exact tt)
+    c.in-Err.ensures.refused (never_fails c.fetch.result c.in-Err.why c.in-Err.is c.fetch.ensures.spent) (c.in-Err.ensures.exact tt)

@@ -8,11 +8,11 @@ use Rattle.far_text.specs.Command.{Command, as_command}
 use Rattle.far_replay.specs.Reply.{Reply, Done, reply_text}
 use Rattle.far_replay.specs.Stream.{Holds}
 use Rattle.far_replay.specs.Turn.{reply_to}
-use Rattle.far_replay.proofs.Answering.{still_between, answered_more, answered_all, printed_more}
+use Rattle.far_replay.proofs.Answering.{answers_all, led_front, still_between, answered_more, answered_all, printed_more}
 use Rattle.far_replay.proofs.running.answer_commands.Goals as goal
 
-pub turn-outcome-requires-clause-law : goal.turn-outcome-requires-clause-law
-turn-outcome-requires-clause-law g c = c.loop-at.book.near.core.law
+pub turn-requires-clause-law : goal.turn-requires-clause-law
+turn-requires-clause-law g c = c.loop-at.book.near.core.law
 
 pub loop-at-init : goal.loop-at-init
 loop-at-init g c =
@@ -27,25 +27,47 @@ loop-at-preserved g c =
     let start = g.W.Write.contents c.args.writer.now in
     let now = g.W.Write.contents c.add-in-loop-at.new.writer in
     let s : State = state_in c.loop-at.book in
-    let t : State = state_in c.turn-outcome.new.book in
+    let t : State = state_in c.turn.new.book in
     let command : Command = as_command c.at-command.result in
     let known = c.loop-at.invariant.ran in
     let r : Reply = reply_to (moment_of s) command in
     let here = c.at-command.ensures.value in
-    let reply = c.reply.ensures.value ∙ c.turn-outcome.ensures.reply in
+    let reply = c.reply.ensures.value ∙ c.in-Ok.ensures.reply in
     let held = c.add-in-loop-at.ensures start (flat_map reply_text (Done ∷ known.0)) known.3 in
     record {
-      between = still_between s t command c.loop-at.book.near.core.law c.loop-at.invariant.between c.at-command.ensures.bytes c.turn-outcome.ensures.moment;
+      between = still_between s t command c.loop-at.book.near.core.law c.loop-at.invariant.between c.at-command.ensures.bytes c.in-Ok.ensures.moment;
       ran = (
         known.0 ++ r ∷ [],
         known.1 ++ moment_of t ∷ [],
         answered_more (moment_of (state_in c.args.book)) (moment_of s) c.args.commands.now (drop (c.loop-at.at + 1) c.args.commands.now) known.0 known.1 command r (moment_of t)
             (λ rest more h. known.2 rest more (subst (λ cs. Answered (moment_of s) cs rest more) (sym here) h))
-            (record { reply = refl; moment = c.turn-outcome.ensures.moment }),
+            (record { reply = refl; moment = c.in-Ok.ensures.moment }),
         subst (λ bytes. Holds start now c.add-in-loop-at.new.self.waiting c.add-in-loop-at.new.self.written bytes)
             (ap (λ x. flat_map reply_text (Done ∷ known.0) ++ reply_text x) reply ∙ sym (printed_more Done known.0 r)) held,
       );
     }
+
+pub returns-in_default : goal.returns-in_default
+returns-in_default g c =
+    let start = g.W.Write.contents c.args.writer.now in
+    let known = c.loop-at.invariant.ran in
+    let rest = answers_all (moment_of (state_in c.loop-at.book)) (drop c.loop-at.at c.args.commands.now) in (
+      known.0 ++ rest.0,
+      known.1 ++ rest.1,
+      known.2 rest.0 rest.1 rest.2,
+      led_front start (g.W.Write.contents c.loop-at.writer) c.loop-at.replies.waiting c.loop-at.replies.written known.0 rest.0 known.3,
+    )
+
+pub returns-in-Ok-finish : goal.returns-in-Ok-finish
+returns-in-Ok-finish g c =
+    let start = g.W.Write.contents c.args.writer.now in
+    let known = c.loop-at.invariant.ran in
+    let none : drop c.loop-at.at c.args.commands.now ≡ [] = drop_all c.loop-at.at c.args.commands.now (omega (arith, c.loop-at-test.false, c.len-at-end.ensures)) in (
+      known.0,
+      known.1,
+      answered_all (moment_of (state_in c.args.book)) (moment_of (state_in c.loop-at.book)) c.args.commands.now known.0 known.1 (drop c.loop-at.at c.args.commands.now) none known.2,
+      c.in-Ok-finish.ensures start (flat_map reply_text (Done ∷ known.0)) known.3,
+    )
 
 pub returns : goal.returns
 returns g c =
@@ -55,5 +77,5 @@ returns g c =
       known.0,
       known.1,
       answered_all (moment_of (state_in c.args.book)) (moment_of (state_in c.loop-at.book)) c.args.commands.now known.0 known.1 (drop c.loop-at.at c.args.commands.now) none known.2,
-      c.finish.ensures start (flat_map reply_text (Done ∷ known.0)) known.3,
+      c.in-Err.ensures start (flat_map reply_text (Done ∷ known.0)) known.3,
     )
