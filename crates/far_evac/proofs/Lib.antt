@@ -1,6 +1,7 @@
 pub mod Auditing
 pub mod Bools
 pub mod Censuses
+pub mod Chosen
 pub mod Dealt
 pub mod Given
 pub mod Handing
@@ -10,11 +11,13 @@ pub mod Joined
 pub mod Keeping
 pub mod LiveLists
 pub mod LiveOnce
+pub mod Looks
 pub mod Marks
 pub mod Orders
 pub mod Polls
 pub mod Readiness
 pub mod Rounds
+pub mod Standings
 pub mod Subjects
 pub mod Tallies
 pub mod Tours

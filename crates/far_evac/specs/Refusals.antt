@@ -1,9 +1,7 @@
 -- Why a call of the evacuator is refused before it does anything.
-use Rattle.std.specs.Prelude.{◌≡◌, ℕ, Bool, cond, Option, Some, None}
+use Rattle.std.specs.Prelude.{cond, Option, Some, None}
 use Rattle.far_word.specs.declared.refused.Refused.{Refused}
 use Rattle.far_word.specs.declared.refused.Refused.TheVariants as refused
-use Rattle.far_evac.specs.declared.phase.Phase.{Phase}
-use Rattle.far_evac.specs.declared.phase.Phase.TheVariants.{Idle, Marking, Waiting, Evacuating}
 use Rattle.far_evac.specs.Choosing.{is_spent}
 use Rattle.far_evac.specs.Moment.{Moment}
 use Rattle.far_evac.specs.MomentLaw.{is_idle}

@@ -1,5 +1,5 @@
 -- Waiting: the owners' scopes are looked at in order, up to the first that is open from before the round.
-use Rattle.std.specs.Prelude.{ℕ, ◌/◌, Bool, not, ◌||◌, Option, Some, None, find}
+use Rattle.std.specs.Prelude.{◌≡◌, ℕ, ◌/◌, ◌<◌, Bool, false, not, ◌||◌, Option, Some, None, find}
 use Rattle.std.specs.List.{range_with_len}
 use Rattle.far_core.specs.state.State.{State}
 use Rattle.far_evac.specs.declared.answers.Polled.{Polled}
@@ -30,3 +30,14 @@ polled_at s (Some k) = StillOpen k (s.scope k / 2)
 
 abbrev pub polled : State → Polled
 polled s = polled_at s (first_open s)
+
+-- what looks at the owners that weren't seen clear leave, up to the first that is open from before the round: this owner, if there is one
+pub record StopsLooking (s t : State) (k epoch : ℕ) : Type 0 where
+  pub leaves : t ≡ with_clear_below s k
+  pub owner : k < s.mutators
+  pub unseen : s.clear k ≡ false
+  pub older : epoch < s.round_epoch
+
+abbrev pub Looked : State → Polled → State → Type 0
+Looked s Clear t = t ≡ with_clear_below s s.mutators
+Looked s (StillOpen k epoch) t = StopsLooking s t k epoch

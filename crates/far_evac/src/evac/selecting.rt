@@ -10,10 +10,12 @@ ghost use Rattle.far_evac.specs.EvacOf.{moment};
 ghost use Rattle.far_evac.specs.Refusals.{unselectable};
 
 use crate::evac::Evac;
+use crate::phase::Phase;
+use crate::round::Round;
 use far_book::Near;
 use far_device::Device;
 use far_policy::{Chosen, Policy};
-use far_word::Refused;
+use far_word::{EPOCH_END, Refused};
 
 impl<N: Near + Drop, D: Device + Drop> Evac<N, D> {
     /// Asks a policy for logs, at most so many, and begins a round of them; where it names none, no round begins. The policy is
@@ -31,6 +33,25 @@ impl<N: Near + Drop, D: Device + Drop> Evac<N, D> {
         ensures refused { IfErr result (λ why. unselectable (moment N.view self.old) ≡ None →
             ((why ≡ Memory) × (policy.new ≡ policy.old)) ⊎ P.gives policy.old (map (row_of (N.view self.old.book.near)) self.old.book.order) most (Err why) policy.new) }
     {
-        unreachable!()
+        if self.round.phase != Phase::Idle {
+            return Err(Refused::Phase);
+        }
+        if self.book.shape().epoch + 1 == EPOCH_END {
+            return Err(Refused::EpochsSpent);
+        }
+        self.book.keeps_law();
+        let rows = self.book.rows()?;
+        let mut chosen = Chosen::new();
+        policy.choose(rows.as_slice(), most, &mut chosen)?;
+        if !chosen.is_empty() {
+            self.round = Round {
+                phase: Phase::Marking,
+                chosen,
+                index: 0,
+                at: 0,
+                seen: 0,
+            };
+        }
+        Ok(chosen)
     }
 }

@@ -1,17 +1,20 @@
 //! How a round waits until every older scope is closed.
 
-ghost use Rattle.std.specs.Prelude.{◌≡◌, ◌≢◌, IfOk, IfErr};
+ghost use Rattle.std.specs.Prelude.{◌≡◌, ◌≢◌, ◌<◌, ◌≤◌, ◌/◌, ℕ, true, false, IfOk, IfErr, IfSome, IfNone, IsSome};
 ghost use Rattle.far_word.specs.declared.refused.Refused.TheVariants.{Phase as WrongPhase};
+ghost use Rattle.far_word.specs.Scope.{scope_of};
+ghost use Rattle.far_core.specs.events.Look.{shows_clear};
 ghost use Rattle.far_evac.specs.AnyHand.{Polls};
 ghost use Rattle.far_evac.specs.EvacOf.{moment};
-ghost use Rattle.far_evac.specs.Waiting.{after_polling, polled};
+ghost use Rattle.far_evac.specs.Waiting.{Looked, after_polling, polled};
 ghost use Rattle.far_evac.specs.declared.phase.Phase.TheVariants as phase;
 
 use crate::answers::Polled;
 use crate::evac::Evac;
-use far_book::Near;
+use crate::phase::Phase;
+use far_book::{Book, Near};
 use far_device::Device;
-use far_word::Refused;
+use far_word::{Refused, ScopeWord};
 
 impl<N: Near + Drop, D: Device + Drop> Evac<N, D> {
     /// Looks at the scopes of the owners that weren't seen clear in this round, in order: one that is closed, or open since the epoch
@@ -26,6 +29,51 @@ impl<N: Near + Drop, D: Device + Drop> Evac<N, D> {
         ensures refused { IfErr result (λ why. (why ≡ WrongPhase) × (self.old.phase ≢ phase.Waiting)) }
         ensures unchanged { IfErr result (λ _. self.new ≡ self.old) }
     {
-        unreachable!()
+        if self.round.phase != Phase::Waiting {
+            return Err(Refused::Phase);
+        }
+        let answer = look_from(&mut self.book, self.round.seen);
+        match answer {
+            Polled::StillOpen(owner, _) => self.round.seen = owner,
+            Polled::Clear => {
+                self.book.keeps_law();
+                self.round.phase = Phase::Evacuating;
+                self.round.index = 0;
+                self.round.at = 0;
+            }
+        }
+        Ok(answer)
+    }
+}
+
+// Looks at the owners from one on, which weren't seen clear, up to the first whose scope is open from before the round.
+fn look_from<N: Near + Drop, D: Device + Drop>(book: &mut Book<N, D>, from: u8) -> Polled
+    requires seen { (k : ℕ) → k < from → (N.view book.old.near).clear k ≡ true }
+    requires unseen { (k : ℕ) → from ≤ k → (N.view book.old.near).clear k ≡ false }
+    ensures looked { Looked (N.view book.old.near) result (N.view book.new.near) }
+    ensures exact { N.still → result ≡ polled (N.view book.old.near) }
+    ensures order { book.new.order ≡ book.old.order }
+    ensures device { book.new.device ≡ book.old.device }
+{
+    book.keeps_law();
+    let shape = book.shape();
+    for owner in from..shape.mutators as u8 {
+        let word = book.look(owner);
+        if let Some(epoch) = open_before(word, shape.epoch) {
+            return Polled::StillOpen(owner, epoch);
+        }
+    }
+    Polled::Clear
+}
+
+// The epoch at which a scope is open, if it is older than the round.
+fn open_before(word: u64, round: u64) -> Option<u64>
+    requires layout { IsSome (scope_of word) }
+    ensures open { IfSome result (λ epoch. (epoch ≡ word / 2) × (epoch < round) × (shows_clear round (scope_of word) ≡ false)) }
+    ensures clear { IfNone result (shows_clear round (scope_of word) ≡ true) }
+{
+    match ScopeWord::read(word)? {
+        ScopeWord::Open { epoch } if epoch < round => Some(epoch),
+        _ => None,
     }
 }
