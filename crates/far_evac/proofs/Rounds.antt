@@ -49,12 +49,12 @@ pub polls_is : (m : Moment) → Polls m (after_polling m) (polled m.core)
 polls_is m = polls_at m (first_open m.core) refl
 
 -- ---- the phase in which a turn leaves a round
-passed_phase : (ls : List ℕ) (v : Walked) → (passed v ls).moment.phase ≡ v.moment.phase
+pub passed_phase : (ls : List ℕ) (v : Walked) → (passed v ls).moment.phase ≡ v.moment.phase
 passed_phase [] v = refl
 passed_phase (l ∷ ls) v = cond_both (is_empty (live_in v.moment.core l)) (passed (freed v l) ls) (record v { moment = record v.moment { held = l ∷ ls } })
     (λ (w : Walked). w.moment.phase ≡ v.moment.phase) (λ _. passed_phase ls (freed v l)) (λ _. refl)
 
-so_phase : (w : Walked) (p : ℕ) (way : Way) → (dealt_so w p way).moment.phase ≡ w.moment.phase
+pub so_phase : (w : Walked) (p : ℕ) (way : Way) → (dealt_so w p way).moment.phase ≡ w.moment.phase
 so_phase w p Drops = refl
 so_phase w p (Moves place) = refl
 so_phase w p Goes = refl
@@ -69,7 +69,7 @@ walked_phase : (m : Moment) (n : ℕ) → (walked m n).moment.phase ≡ m.phase
 walked_phase m zero = passed_phase m.held (begun m)
 walked_phase m (suc n) = first_phase (walked m n) (left (walked m n)) ∙ walked_phase m n
 
-marking_runs : (m : Moment) → m.phase ≡ Marking → is_idle (after_marking m turn_size).phase ≡ false
+pub marking_runs : (m : Moment) → m.phase ≡ Marking → is_idle (after_marking m turn_size).phase ≡ false
 marking_runs m e = cond_both (leaves_some m turn_size) (record m { core = marked_core m turn_size }) (record m { core = advanced (marked_core m turn_size) m.held; phase = Waiting })
     (λ (t : Moment). is_idle t.phase ≡ false) (λ _. ap is_idle e) (λ _. refl)
 

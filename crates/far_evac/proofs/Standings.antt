@@ -7,17 +7,19 @@ use Rattle.far_word.specs.declared.sizes.TheConstants.{EPOCH_END, LOG_WORDS}
 use Rattle.far_core.specs.declared.event.Kind.TheVariants as kinds
 use Rattle.far_core.specs.state.Law.{Law}
 use Rattle.far_core.specs.state.State.{State}
+use Rattle.far_book.specs.book.NextLive.{IsBoundary}
 use Rattle.far_book.specs.book.Own.{own_part}
+use Rattle.far_book.proofs.region.NextLives.{lives_from_start}
 use Rattle.far_evac.specs.declared.phase.Phase.{Phase}
 use Rattle.far_evac.specs.declared.phase.Phase.TheVariants.{Idle, Marking}
 use Rattle.far_evac.specs.declared.round.Round.{Round}
 use Rattle.far_evac.specs.Live.{is_empty}
 use Rattle.far_evac.specs.MomentLaw.{has_risen, is_idle}
 use Rattle.far_evac.specs.RoundSteps.{among}
-use Rattle.far_evac.specs.Standing.{InRound, IsBoundary, held_in, held_of}
+use Rattle.far_evac.specs.Standing.{InRound, held_in, held_of}
 
 -- ---- no round
-none_once : IsDistinct eqb []
+pub none_once : IsDistinct eqb []
 none_once = IsDistinct-from_apart eqb [] (λ i j d lt le. absurd (omega arith))
 
 no_risen : (phase : Phase) → phase ≡ Idle → has_risen phase ≡ true → ⊥
@@ -50,10 +52,7 @@ idle_round s r idle index = record {
 -- ---- a round begins
 -- at word 0 a span of a log begins, or its spans end
 pub at_start : (s : State) → Law (own_part s) → (l : ℕ) → IsBoundary s l 0
-at_start s law l = record {
-  within = omega arith;
-  begins = λ some. let same : l * LOG_WORDS + 0 ≡ l * LOG_WORDS = omega arith in ap s.starts same ∙ law.spans.first_span l some;
-}
+at_start s law l = (lives_from_start s law l).0
 
 pub chosen_round : (s : State) (r : Round) → Law (own_part s) → r.phase ≡ Marking → r.index ≡ 0 → r.at ≡ 0 → ((l : ℕ) → among r.chosen l ≡ true → s.kind l ≡ kinds.Sealed) → IsDistinct eqb r.chosen →
     is_empty r.chosen ≡ false → s.epoch + 1 < EPOCH_END → InRound s r

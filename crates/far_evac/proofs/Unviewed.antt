@@ -16,7 +16,7 @@ use Rattle.far_evac.specs.RoundSteps.{among, is_clear_now}
 use Rattle.far_evac.specs.Waiting.{first_open, holds_up}
 use Rattle.far_evac.proofs.Readiness.{clear_one}
 
-none_found : (test : ℕ → Bool) (k a n : ℕ) → find test (range_with_len a n) ≡ None → a ≤ k → k < a + n → test k ≡ false
+pub none_found : (test : ℕ → Bool) (k a n : ℕ) → find test (range_with_len a n) ≡ None → a ≤ k → k < a + n → test k ≡ false
 none_found test k a zero = λ e from to. let odd : ⊥ = omega (arith, from, to) in absurd odd
 none_found test k a (suc n) = cond_both (test a) (Some a) (find test (range_with_len (a + 1) n)) (λ (o : Option ℕ). o ≡ None → a ≤ k → k < a + suc n → test k ≡ false)
     (λ _ e. absurd cc)

@@ -5,6 +5,8 @@ pub mod Dealings
 pub mod EvacOf
 pub mod Failing
 pub mod Laws
+pub mod Leading
+pub mod Leaving
 pub mod Live
 pub mod Marking
 pub mod Moment
@@ -14,6 +16,7 @@ pub mod Refusals
 pub mod RoundSteps
 pub mod Standing
 pub mod Stops
+pub mod Turning
 pub mod Turns
 pub mod Waiting
 pub mod Walk

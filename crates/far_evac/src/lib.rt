@@ -17,6 +17,6 @@ pub use evac::Evac;
 pub use laws::{
     census_is_exact, clear_is_shown, clear_means_unviewed, dealing_is_in_order, exact_is_allowed,
     giving_up_is_right, looks_see_clear, marking_is_right, poll_is_allowed, poll_is_once,
-    risen_is_ready, round_is_allowed, round_is_event, walk_is_tour, walks_join,
+    risen_is_ready, round_is_allowed, round_is_event, rounds_lead, walk_is_tour, walks_join,
 };
 pub use phase::Phase;

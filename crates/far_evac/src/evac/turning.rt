@@ -7,16 +7,20 @@ ghost use Rattle.far_word.specs.declared.refused.Refused.TheVariants.{Device as 
 ghost use Rattle.far_evac.specs.AnyHand.{TurnsTo, RunsRound, StopsAt, StopsRound};
 ghost use Rattle.far_evac.specs.Choosing.{after_selecting};
 ghost use Rattle.far_evac.specs.EvacOf.{moment};
-ghost use Rattle.far_evac.specs.Moment.{Moment, nothing, progress_of, tally_of};
+ghost use Rattle.far_evac.specs.Moment.{Tally, nothing, plus, progress_of, tally_of};
+ghost use Rattle.far_evac.specs.MomentLaw.{is_idle};
 ghost use Rattle.far_evac.specs.Refusals.{unselectable};
-ghost use Rattle.far_evac.specs.Turns.{IsRound, begun_turns, turn_size, turned};
+ghost use Rattle.far_evac.specs.Turning.{EndsTurns, GoesOn, IsBounded, IsWithin, StopsTurns, turned_at};
+ghost use Rattle.far_evac.specs.Turns.{IsRound, begun_turns, round_end, turn_size, turned, turns_made};
 ghost use Rattle.far_evac.specs.declared.phase.Phase.TheVariants as phase;
 
 use crate::answers::{EvacFault, Progress, RoundEnd};
 use crate::evac::Evac;
+use crate::phase::Phase;
 use far_book::Near;
 use far_device::Device;
 use far_policy::Policy;
+use far_word::Refused;
 
 impl<N: Near + Drop, D: Device + Drop> Evac<N, D> {
     /// Makes one turn: a marking of 16 objects, a look at the owners, or a dealing with 16 objects, by the phase. Marking and waiting
@@ -31,8 +35,27 @@ impl<N: Near + Drop, D: Device + Drop> Evac<N, D> {
         ensures running { IfOk result (λ _. self.old.phase ≢ phase.Idle) }
         ensures barred { self.old.phase ≡ phase.Idle → IfErr result (λ fault. (fault.why ≡ WrongPhase) × (fault.so_far ≡ progress_of nothing false) × (self.new ≡ self.old)) }
         ensures stops { self.old.phase ≢ phase.Idle → IfErr result (λ fault. (self.old.phase ≡ phase.Evacuating) × StopsAt (moment N.view self.old) turn_size (moment N.view self.new) (tally_of fault.so_far)) }
+        ensures why { self.old.phase ≢ phase.Idle → IfErr result (λ fault. (fault.why ≡ Memory) ⊎ (fault.why ≡ Failed)) }
     {
-        unreachable!()
+        match self.phase() {
+            Phase::Idle => Err(EvacFault {
+                so_far: nothing_done(),
+                why: Refused::Phase,
+            }),
+            Phase::Marking => {
+                let Ok(_) = self.mark_some(turn_objects()) else {
+                    unreachable!()
+                };
+                Ok(nothing_done())
+            }
+            Phase::Waiting => {
+                let Ok(_) = self.poll_wait() else {
+                    unreachable!()
+                };
+                Ok(nothing_done())
+            }
+            Phase::Evacuating => self.evacuate_some(turn_objects()),
+        }
     }
 
     /// Makes a round: asks a policy for logs as [`Evac::select`] does, and makes so many turns, or fewer if the round is over before.
@@ -58,6 +81,99 @@ impl<N: Near + Drop, D: Device + Drop> Evac<N, D> {
             ⊎ ((logs : List ℕ) × P.gives policy.old (map (row_of (N.view self.old.book.near)) self.old.book.order) most (Ok logs) policy.new
             × StopsRound (moment N.view self.old) logs turns fault.so_far (moment N.view self.new) × ((fault.why ≡ Memory) ⊎ (fault.why ≡ Failed)))) }
     {
-        unreachable!()
+        let logs = match self.select(policy, most) {
+            Ok(logs) => logs,
+            Err(why) => {
+                return Err(EvacFault {
+                    so_far: nothing_done(),
+                    why,
+                });
+            }
+        };
+        if logs.is_empty() {
+            return Ok(RoundEnd::Nothing);
+        }
+        self.make_turns(turns)
+    }
+
+    // Makes so many turns of a running round, or fewer if it is over before.
+    fn make_turns(&mut self, turns: u64) -> Result<RoundEnd, EvacFault>
+        requires running { is_idle self.old.phase ≡ false }
+        ensures ends { IfOk result (λ end. EndsTurns (moment N.view self.old) turns end (moment N.view self.new)) }
+        ensures exact { N.still → IfOk result (λ end. (end ≡ round_end (turns_made (moment N.view self.old) turns)) × (moment N.view self.new ≡ (turns_made (moment N.view self.old) turns).moment)) }
+        ensures stops { IfErr result (λ fault. StopsTurns (moment N.view self.old) turns fault.so_far (moment N.view self.new)) }
+        ensures why { IfErr result (λ fault. (fault.why ≡ Memory) ⊎ (fault.why ≡ Failed)) }
+    {
+        self.keeps_law();
+        let mut total = nothing_done();
+        for _ in 0..turns {
+            match self.turn_more(total) {
+                Ok(sum) => total = sum,
+                Err(fault) => return Err(fault),
+            }
+            if total.done {
+                return Ok(RoundEnd::Done(total));
+            }
+        }
+        Ok(RoundEnd::Limit(self.phase()))
+    }
+
+    // Makes one turn of a running round, and adds what it did to what was done before.
+    fn turn_more(&mut self, before: Progress) -> Result<Progress, EvacFault>
+        requires running { is_idle self.old.phase ≡ false }
+        requires within { IsWithin (moment N.view self.old) (tally_of before) }
+        ensures turns { IfOk result (λ total. (tally : Tally) × TurnsTo (moment N.view self.old) self.old.phase tally total.done (moment N.view self.new) × (tally_of total ≡ plus (tally_of before) tally)) }
+        ensures exact { N.still → IfOk result (λ total. turned (turned_at (moment N.view self.old) (tally_of before) false) self.old.phase ≡ turned_at (moment N.view self.new) (tally_of total) total.done) }
+        ensures goes_on { IfOk result (λ total. GoesOn (moment N.view self.new) (tally_of total) total.done) }
+        ensures leaving { IfErr result (λ _. self.old.phase ≡ phase.Evacuating) }
+        ensures stops { IfErr result (λ fault. (tally : Tally) × StopsAt (moment N.view self.old) turn_size (moment N.view self.new) tally × (fault.so_far ≡ progress_of (plus (tally_of before) tally) false)) }
+        ensures why { IfErr result (λ fault. (fault.why ≡ Memory) ⊎ (fault.why ≡ Failed)) }
+    {
+        self.keeps_law();
+        match self.turn() {
+            Ok(made) => {
+                self.keeps_law();
+                Ok(sum(before, made, made.done))
+            }
+            Err(fault) => Err(EvacFault {
+                so_far: sum(before, fault.so_far, false),
+                why: fault.why,
+            }),
+        }
+    }
+}
+
+// How many objects a turn marks or deals with at most.
+#[tactic(auto, unfolding(crate::specs::Turns::turn_size))]
+fn turn_objects() -> u64
+    ensures { result ≡ turn_size }
+{
+    16
+}
+
+// Nothing was done, and the round isn't over.
+fn nothing_done() -> Progress
+    ensures { result ≡ progress_of nothing false }
+{
+    Progress {
+        moved: 0,
+        far: 0,
+        dropped: 0,
+        freed: 0,
+        done: false,
+    }
+}
+
+// What was done in two parts.
+fn sum(a: Progress, b: Progress, done: bool) -> Progress
+    requires bounded { IsBounded (plus (tally_of a) (tally_of b)) }
+    ensures { result ≡ progress_of (plus (tally_of a) (tally_of b)) done }
+{
+    Progress {
+        moved: a.moved + b.moved,
+        far: a.far + b.far,
+        dropped: a.dropped + b.dropped,
+        freed: a.freed + b.freed,
+        done,
     }
 }

@@ -1,0 +1,192 @@
+-- Each call of a round leads by legal events, and keeps the laws.
+use Rattle.std.proofs.Common.{◌≡◌, ◌≢◌, ℕ, zero, suc, ◌+◌, ◌*◌, ◌<◌, ◌≤◌, ◌||◌, Bool, true, false, not, nat_lt, eqb, Option, Some, None, List, [], ◌∷◌, ◌++◌, inl, inr, arith, ap, sym, refl, ◌∙◌, subst}
+use Rattle.std.specs.Prelude.{fold}
+use Rattle.std.specs.List.{AllByRecursion, IsDistinct, find, range_with_len}
+use Rattle.std.proofs.lemmas.Bool.{cond_both, false≢true, true≢false}
+use Rattle.std.proofs.lemmas.Bool.Decides.{nat_tests}
+use Rattle.std.proofs.lemmas.Bool.{cases_lt}
+use Rattle.std.proofs.lemmas.List.Elements.{All-nil}
+use Rattle.far_word.specs.declared.mark.Marks.{Marks}
+use Rattle.far_word.specs.declared.pointer.Place.{Place}
+use Rattle.far_word.specs.declared.pointer.PtrWord.TheVariants.{Near}
+use Rattle.far_word.specs.declared.sizes.TheConstants.{CELLS}
+use Rattle.far_word.specs.Pointer.{read_of}
+use Rattle.far_word.proofs.PointerLaws.{without_evac_read}
+use Rattle.far_core.specs.declared.event.Event.TheVariants.{Clear, Look}
+use Rattle.far_core.specs.declared.event.Kind.{Kind}
+use Rattle.far_core.specs.declared.event.Kind.TheVariants as kinds
+use Rattle.far_core.specs.declared.event.Kind.TheVariants.{Sealed}
+use Rattle.far_core.specs.events.Mark.{is_sealed}
+use Rattle.far_core.specs.events.Clear.{IsNear, evac_cleared}
+use Rattle.far_core.specs.events.Step.{Fits, after}
+use Rattle.far_core.specs.state.Law.{Law}
+use Rattle.far_core.specs.state.State.{State}
+use Rattle.far_core.proofs.Put.{put_both}
+use Rattle.far_book.specs.book.Reached.{Reached}
+use Rattle.far_book.proofs.region.Reaching.{reached_law, reached_more, reached_one}
+use Rattle.far_evac.specs.declared.phase.Phase.{Phase}
+use Rattle.far_evac.specs.declared.phase.Phase.TheVariants.{Idle, Marking, Waiting, Evacuating}
+use Rattle.far_evac.specs.Choosing.{after_aborting, after_selecting}
+use Rattle.far_evac.specs.Laws.{looks}
+use Rattle.far_evac.specs.Leading.{AbortingLeads, Leads, PollingLeads, SelectingLeads}
+use Rattle.far_evac.specs.Live.{is_empty, live_among, live_in}
+use Rattle.far_evac.specs.Moment.{Moment}
+use Rattle.far_evac.specs.MomentLaw.{MomentLaw, has_risen, is_idle}
+use Rattle.far_evac.specs.RoundSteps.{among, unmarked, with_clear_below}
+use Rattle.far_evac.specs.Waiting.{after_polling, first_open, holds_up, polled_to}
+use Rattle.far_evac.proofs.LiveOnce.{LivesIn, each_map, live_named, near_at}
+use Rattle.far_evac.proofs.Readiness.{looks_see}
+use Rattle.far_evac.proofs.Standings.{none_once}
+use Rattle.far_evac.proofs.Unviewed.{none_found}
+
+-- nothing was done
+pub reached_none : (s : State) → Reached s s
+reached_none s = record { made = []; legal = tt; fits = All-nil Fits; leads = refl }
+
+-- ---- selecting
+is_sealed_then : (kind : Kind) → is_sealed kind ≡ true → kind ≡ Sealed
+is_sealed_then kinds.Free h = absurd (false≢true h)
+is_sealed_then kinds.Open h = absurd (false≢true h)
+is_sealed_then kinds.Sealed h = refl
+
+-- a log is sealed where the order has it
+sealed_of : (m : Moment) → MomentLaw m → (l : ℕ) → among m.order l ≡ true → m.core.kind l ≡ Sealed
+sealed_of m law l h = is_sealed_then (m.core.kind l) (sym (law.order l) ∙ h)
+
+pub selecting : SelectingLeads
+selecting m [] law moment idle once of_order = record { reached = reached_none m.core; law = law; moment = moment }
+selecting m (l ∷ ls) law moment idle once of_order = record {
+  reached = reached_none m.core;
+  law = law;
+  moment = record {
+    order = moment.order;
+    order_once = moment.order_once;
+    sealed = λ k h. sealed_of m moment k (of_order k h);
+    held_once = once;
+    runs = refl;
+    round = λ risen. absurd (false≢true risen);
+    clear = λ leaves. absurd cc;
+  };
+}
+
+-- ---- polling
+module _ (s : State) (law : Law s) where
+  looks_mutators : (k : ℕ) → (looks s k).mutators ≡ s.mutators
+  looks_mutators zero = refl
+  looks_mutators (suc k) = looks_mutators k
+
+  pub reached_looks : (k : ℕ) → k ≤ s.mutators → Reached s (looks s k)
+  reached_looks zero le = reached_none s
+  reached_looks (suc k) le =
+      reached_more s (looks s k) (looks s (suc k)) (reached_looks k (omega (arith, le))) (reached_one (looks s k) (Look k) (subst (λ n. k < n) (sym (looks_mutators k)) (omega (arith, le))) tt)
+
+-- the first that passes a test, and those before it
+first_found : (test : ℕ → Bool) (k a n : ℕ) → find test (range_with_len a n) ≡ Some k → (k < a + n) × ((m : ℕ) → a ≤ m → m < k → test m ≡ false)
+first_found test k a zero = λ e. absurd cc
+first_found test k a (suc n) = cond_both (test a) (Some a) (find test (range_with_len (a + 1) n)) (λ (o : Option ℕ). o ≡ Some k → (k < a + suc n) × ((m : ℕ) → a ≤ m → m < k → test m ≡ false))
+    (λ _ e. let same : a ≡ k = cc in (omega (arith, same), λ m from to. let odd : ⊥ = omega (arith, same, from, to) in absurd odd))
+    (λ here e.
+    let x = first_found test k (a + 1) n e in (
+      omega (arith, x.0),
+      λ m from to. elim (cases_lt a m) [
+        | inl past ↦ x.1 m (omega (arith, past)) to
+        | inr le ↦ let same : m ≡ a = omega (arith, from, le) in ap test same ∙ here
+      ],
+    ))
+
+module _ (m : Moment) (law : Law m.core) (moment : MomentLaw m) (waits : m.phase ≡ Waiting) where
+  reached_clear : (k : ℕ) → k ≤ m.core.mutators → ((j : ℕ) → j < k → holds_up m.core j ≡ false) → Reached m.core (with_clear_below m.core k)
+  reached_clear k le each = subst (Reached m.core) (looks_see m.core law.scopes.scope_read k each) (reached_looks m.core law k le)
+
+  below : (clear : Bool) (k n : ℕ) → k < n → (clear || nat_lt k n) ≡ true
+  below true k n lt = refl
+  below false k n lt = grind (arith, nat_tests, lt)
+
+  moment_clear : (k : ℕ) (phase : Phase) → is_idle phase ≡ false → (phase ≡ Evacuating → k ≡ m.core.mutators) → MomentLaw (record m { core = with_clear_below m.core k; phase = phase })
+  moment_clear k phase running all = record {
+    order = moment.order;
+    order_once = moment.order_once;
+    sealed = moment.sealed;
+    held_once = moment.held_once;
+    runs = moment.runs ∙ ap is_idle waits ∙ sym running;
+    round = λ _. moment.round (ap has_risen waits);
+    clear = λ leaves j lt. below (m.core.clear j) j k (subst (λ n. j < n) (sym (all leaves)) lt);
+  }
+
+  leads_by : (k : ℕ) (phase : Phase) → k ≤ m.core.mutators → ((j : ℕ) → j < k → holds_up m.core j ≡ false) → is_idle phase ≡ false → (phase ≡ Evacuating → k ≡ m.core.mutators) →
+      Leads m (record m { core = with_clear_below m.core k; phase = phase })
+  leads_by k phase le each running all =
+      let way = reached_clear k le each in record { reached = way; law = reached_law m.core (with_clear_below m.core k) law way; moment = moment_clear k phase running all }
+
+  polled_leads : (o : Option ℕ) → first_open m.core ≡ o → Leads m (polled_to m o)
+  polled_leads None e =
+      leads_by m.core.mutators Evacuating (omega arith) (λ j lt. none_found (holds_up m.core) j 0 m.core.mutators e (omega arith) (omega (arith, lt))) refl (λ _. refl)
+  polled_leads (Some k) e =
+      let x = first_found (holds_up m.core) k 0 m.core.mutators e in
+      let there = leads_by k Waiting (omega (arith, x.0)) (λ j lt. x.1 j (omega arith) lt) refl (λ odd. absurd cc) in
+      subst (Leads m) (λ i. record m { core = with_clear_below m.core k; phase = (sym waits) i }) there
+
+pub polling : PollingLeads
+polling m law moment waits = polled_leads m law moment waits (first_open m.core) refl
+
+-- ---- one event after the other, each at a near pointer of the heap
+abbrev IsNearOf : State → ℕ → Type 0
+IsNearOf s p = (p < CELLS * s.mutators) × IsNear s p
+
+zero_free : (len ds : ℕ) (place : Place) (marks : Marks) → read_of 0 ≡ Some (Near len ds place marks) → ⊥
+unfolding read_of
+zero_free len ds place marks h = absurd cc
+
+not_zero : (w len ds : ℕ) (place : Place) (marks : Marks) → read_of w ≡ Some (Near len ds place marks) → w ≢ 0
+not_zero w len ds place marks near e = zero_free len ds place marks (subst (λ x. read_of x ≡ Some (Near len ds place marks)) e near)
+
+-- a live object of a log is one
+near_of : (s : State) → Law s → (l p : ℕ) → LivesIn s l p → IsNearOf s p
+near_of s law l p h =
+    let x = near_at (read_of (s.cell p)) l h.0 h.1 in
+    (law.cells.cell_range p (not_zero (s.cell p) x.len x.ds x.place x.marks x.near), (x.len, x.ds, x.place, x.marks, x.near))
+
+all_both : (P : ℕ → Type 0) (xs ys : List ℕ) → AllByRecursion P xs → AllByRecursion P ys → AllByRecursion P (xs ++ ys)
+all_both P [] ys f g = g
+all_both P (x ∷ xs) ys f g = (f.0, all_both P xs ys f.1 g)
+
+live_near : (s : State) → Law s → (ls : List ℕ) → AllByRecursion (IsNearOf s) (live_among s ls)
+live_near s law [] = tt
+live_near s law (l ∷ ls) = all_both (IsNearOf s) (live_in s l) (live_among s ls) (each_map (near_of s law l) (live_in s l) (live_named s l)) (live_near s law ls)
+
+-- ---- giving up
+still_near : (s : State) → Law s → (p q : ℕ) → IsNearOf s p → IsNearOf s q → IsNearOf (unmarked s p) q
+still_near s law p q (range, (len, ds, place, marks, near)) (inside, (n, d, at, k, is)) = (
+  inside,
+  put_both (λ w. (n d : ℕ) × (at : Place) × (k : Marks) × (read_of w ≡ Some (Near n d at k))) s.cell p (evac_cleared (s.cell p)) q
+      (λ _. (len, ds, place, _, without_evac_read (s.cell p) (Near len ds place marks) (law.cells.cell_read p).0 near)) (λ _. (n, d, at, k, is)),
+)
+
+reached_unmarked : (ps : List ℕ) (s : State) → Law s → AllByRecursion (IsNearOf s) ps → Reached s (fold unmarked s ps)
+reached_unmarked [] s law each = reached_none s
+reached_unmarked (p ∷ ps) s law each =
+    let one = reached_one s (Clear p) each.0 tt in
+    let then = reached_law s (unmarked s p) law one in
+    reached_more s (unmarked s p) (fold unmarked (unmarked s p) ps) one (reached_unmarked ps (unmarked s p) then (each_map (λ q h. still_near s law p q each.0 h) ps each.1))
+
+kinds_unmarked : (ps : List ℕ) (s : State) → (fold unmarked s ps).kind ≡ s.kind
+kinds_unmarked [] s = refl
+kinds_unmarked (p ∷ ps) s = kinds_unmarked ps (unmarked s p)
+
+pub aborting : AbortingLeads
+aborting m law moment =
+    let ps = live_among m.core m.held in
+    let way = reached_unmarked ps m.core law (live_near m.core law m.held) in
+    record {
+      reached = way;
+      law = reached_law m.core (fold unmarked m.core ps) law way;
+      moment = record {
+        order = λ l. moment.order l ∙ ap (λ kind. is_sealed (kind l)) (sym (kinds_unmarked ps m.core));
+        order_once = moment.order_once;
+        sealed = λ l h. absurd (false≢true h);
+        held_once = none_once;
+        runs = refl;
+        round = λ risen. absurd (false≢true risen);
+        clear = λ leaves. absurd cc;
+      };
+    }

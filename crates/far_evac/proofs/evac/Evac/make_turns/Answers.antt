@@ -1,0 +1,59 @@
+use Rattle.far_evac.proofs.evac.Evac.make_turns.Goals as goal
+use Rattle.std.proofs.Common.{◌≡◌, ◌∙◌, ◌+◌, Bool, true, false, ap, sym, subst, arith}
+use Rattle.far_evac.specs.declared.answers.RoundEnd.{RoundEnd}
+use Rattle.far_evac.specs.declared.answers.RoundEnd.TheVariants.{Done}
+use Rattle.far_evac.specs.AnyHand.{TurnsTo}
+use Rattle.far_evac.specs.EvacOf.{moment}
+use Rattle.far_evac.specs.Moment.{Tally, nothing, progress_of, tally_of}
+use Rattle.far_evac.specs.Turning.{EndsTurns, IsWithin, turned_at}
+use Rattle.far_evac.specs.Turns.{Turned, round_end, turns_made}
+use Rattle.far_evac.proofs.Bounds.{starts_within}
+use Rattle.far_evac.proofs.TurnsOn.{Made, made_done, made_more, none_made, turns_more, turns_over}
+
+pub loop-init : goal.loop-init
+loop-init g c =
+    let m = moment g.N.Near.view c.args.self.now in
+    let none : tally_of c.nothing_done-total.result ≡ nothing = ap tally_of c.nothing_done-total.ensures in
+    record {
+      made = subst (Made m m 0) (sym none) (none_made m);
+      exact = λ _. ap (λ total. turned_at m total false) (sym none);
+      within = subst (IsWithin m) (sym none) (starts_within m c.keeps_law.ensures.law c.keeps_law.ensures.moment);
+      runs = c.requires.running;
+    }
+
+pub returns-then-total-clause-ends : goal.returns-then-total-clause-ends
+returns-then-total-clause-ends g c =
+    let m = moment g.N.Near.view c.args.self.now in
+    let u = moment g.N.Near.view c.loop.self in
+    let t = moment g.N.Near.view c.turn_more.new.self in
+    let turn = c.in-Ok.ensures.turns in
+    subst (λ end. EndsTurns m c.args.turns end t) (ap (λ over. Done (progress_of (tally_of c.in-Ok.sum) over)) (sym c.if-total.true))
+    (made_done m u c.loop.counter (tally_of c.loop.total) c.loop.invariant.made t turn.0 c.args.turns (tally_of c.in-Ok.sum) (omega (arith, c.loop-test.true))
+    (subst (λ over. TurnsTo u u.phase turn.0 over t) c.if-total.true turn.1) turn.2)
+
+pub returns-then-total-clause-exact : goal.returns-then-total-clause-exact
+returns-then-total-clause-exact g c still =
+    let m = moment g.N.Near.view c.args.self.now in
+    let u = moment g.N.Near.view c.loop.self in
+    let t = moment g.N.Near.view c.turn_more.new.self in
+    let total = tally_of c.in-Ok.sum in
+    let last = c.in-Ok.ensures.exact still ∙ ap (turned_at t total) c.if-total.true in
+    let now = turns_more m c.loop.counter u (tally_of c.loop.total) (turned_at t total true) (c.loop.invariant.exact still) last in
+    let all = turns_over m (c.loop.counter + 1) c.args.turns t total (omega (arith, c.loop-test.true)) now in
+    (ap (λ over. Done (progress_of total over)) c.if-total.true ∙ sym (ap round_end all), sym (ap (λ (r : Turned). r.moment) all))
+
+pub loop-preserved : goal.loop-preserved
+loop-preserved g c =
+    let m = moment g.N.Near.view c.args.self.now in
+    let u = moment g.N.Near.view c.loop.self in
+    let t = moment g.N.Near.view c.turn_more.new.self in
+    let total = tally_of c.in-Ok.sum in
+    let turn = c.in-Ok.ensures.turns in
+    let goes = c.in-Ok.ensures.goes_on.more c.if-total.false in
+    record {
+      made = made_more m u c.loop.counter (tally_of c.loop.total) c.loop.invariant.made t turn.0 total (subst (λ over. TurnsTo u u.phase turn.0 over t) c.if-total.false turn.1) turn.2;
+      exact = λ still.
+          turns_more m c.loop.counter u (tally_of c.loop.total) (turned_at t total false) (c.loop.invariant.exact still) (c.in-Ok.ensures.exact still ∙ ap (turned_at t total) c.if-total.false);
+      within = goes.0;
+      runs = goes.1;
+    }

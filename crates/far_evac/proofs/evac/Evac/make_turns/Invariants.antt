@@ -1,0 +1,16 @@
+use Rattle.std.proofs.Common.{◌≡◌, false}
+use Rattle.far_evac.specs.EvacOf.{moment}
+use Rattle.far_evac.specs.Moment.{tally_of}
+use Rattle.far_evac.specs.MomentLaw.{is_idle}
+use Rattle.far_evac.specs.Turning.{IsWithin, turned_at}
+use Rattle.far_evac.specs.Turns.{turns_made}
+use Rattle.far_evac.proofs.TurnsOn.{Made}
+use Rattle.far_evac.proofs.evac.Evac.make_turns.Given as goal
+
+abbrev pub invariant-loop : goal.invariant-loop
+invariant-loop g l = record {
+  made : Made (moment g.N.Near.view l.fn.self) (moment g.N.Near.view l.self) l.counter (tally_of l.total);
+  exact : g.N.Near.still → turns_made (moment g.N.Near.view l.fn.self) l.counter ≡ turned_at (moment g.N.Near.view l.self) (tally_of l.total) false;
+  within : IsWithin (moment g.N.Near.view l.self) (tally_of l.total);
+  runs : is_idle l.self.phase ≡ false;
+}

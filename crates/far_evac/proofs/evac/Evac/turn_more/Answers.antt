@@ -1,0 +1,37 @@
+use Rattle.far_evac.proofs.evac.Evac.turn_more.Goals as goal
+use Rattle.std.proofs.Common.{◌≡◌, ◌∙◌, ap, sym, subst}
+use Rattle.far_evac.specs.declared.answers.Progress.{Progress}
+use Rattle.far_evac.specs.EvacOf.{moment}
+use Rattle.far_evac.specs.Moment.{Tally, plus, progress_of, tally_of}
+use Rattle.far_evac.specs.Turning.{GoesOn}
+use Rattle.far_evac.proofs.Bounds.{stop_bounded, turn_goes_on}
+use Rattle.far_evac.proofs.TurnsOn.{not_idle}
+
+pub sum-requires : goal.sum-requires
+sum-requires g c =
+    let m = moment g.N.Near.view c.args.self.now in
+    let t = moment g.N.Near.view c.turn.new.self in
+    record {
+      bounded = (turn_goes_on m t c.keeps_law.ensures.law c.keeps_law.ensures.moment c.keeps_law-in-Ok.ensures.law c.keeps_law-in-Ok.ensures.moment
+          (tally_of c.args.before) (tally_of c.in-Ok.made) c.in-Ok.made.done c.requires.within c.in-Ok.ensures.turns).bounded;
+    }
+
+pub sum-requires-in-Err : goal.sum-requires-in-Err
+sum-requires-in-Err g c =
+    let m = moment g.N.Near.view c.args.self.now in
+    let t = moment g.N.Near.view c.turn.new.self in
+    let stops = c.in-Err.ensures.stops (not_idle m.phase c.requires.running) in
+    record { bounded = stop_bounded m t c.keeps_law.ensures.law c.keeps_law.ensures.moment (tally_of c.args.before) (tally_of c.in-Err.fault.so_far) c.requires.within stops.0 stops.1 }
+
+pub returns-in-Ok-clause-goes_on : goal.returns-in-Ok-clause-goes_on
+returns-in-Ok-clause-goes_on g c =
+    let m = moment g.N.Near.view c.args.self.now in
+    let t = moment g.N.Near.view c.turn.new.self in
+    subst (λ (p : Progress). GoesOn t (tally_of p) p.done) (sym c.sum.ensures)
+    (turn_goes_on m t c.keeps_law.ensures.law c.keeps_law.ensures.moment c.keeps_law-in-Ok.ensures.law c.keeps_law-in-Ok.ensures.moment
+    (tally_of c.args.before) (tally_of c.in-Ok.made) c.in-Ok.made.done c.requires.within c.in-Ok.ensures.turns)
+
+pub returns-in-Err-clause-stops : goal.returns-in-Err-clause-stops
+returns-in-Err-clause-stops g c =
+    let m = moment g.N.Near.view c.args.self.now in
+    (tally_of c.in-Err.fault.so_far, (c.in-Err.ensures.stops (not_idle m.phase c.requires.running)).1, c.sum-in-Err.ensures)

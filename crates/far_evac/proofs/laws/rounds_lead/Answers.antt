@@ -1,0 +1,11 @@
+use Rattle.far_evac.proofs.laws.rounds_lead.Goals as goal
+use Rattle.far_evac.proofs.Leading.{aborting, polling, selecting}
+
+pub returns-clause-selecting : goal.returns-clause-selecting
+returns-clause-selecting c = selecting
+
+pub returns-clause-polling : goal.returns-clause-polling
+returns-clause-polling c = polling
+
+pub returns-clause-aborting : goal.returns-clause-aborting
+returns-clause-aborting c = aborting

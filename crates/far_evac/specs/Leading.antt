@@ -1,0 +1,29 @@
+-- Each call of a round leads from a heap to the next by legal events of the core, and keeps what is true between two calls.
+use Rattle.std.specs.Prelude.{◌≡◌, ℕ, true, false, List, eqb}
+use Rattle.std.specs.List.{IsDistinct}
+use Rattle.far_core.specs.state.Law.{Law}
+use Rattle.far_book.specs.book.Reached.{Reached}
+use Rattle.far_evac.specs.declared.phase.Phase.TheVariants.{Marking, Waiting, Evacuating}
+use Rattle.far_evac.specs.Choosing.{after_aborting, after_selecting, is_spent}
+use Rattle.far_evac.specs.Marking.{after_marking}
+use Rattle.far_evac.specs.Moment.{Moment}
+use Rattle.far_evac.specs.MomentLaw.{MomentLaw, is_idle}
+use Rattle.far_evac.specs.RoundSteps.{among}
+use Rattle.far_evac.specs.Waiting.{after_polling}
+use Rattle.far_evac.specs.Walk.{ended, walked}
+
+pub record Leads (m t : Moment) : Type 0 where
+  pub reached : Reached m.core t.core
+  pub law : Law t.core
+  pub moment : MomentLaw t
+
+-- a choice of sealed logs, each once
+abbrev pub SelectingLeads : Type 0
+SelectingLeads = (m : Moment) (logs : List ℕ) → Law m.core → MomentLaw m → is_idle m.phase ≡ true → IsDistinct eqb logs → ((l : ℕ) → among logs l ≡ true → among m.order l ≡ true) →
+    Leads m (after_selecting m logs)
+
+abbrev pub PollingLeads : Type 0
+PollingLeads = (m : Moment) → Law m.core → MomentLaw m → m.phase ≡ Waiting → Leads m (after_polling m)
+
+abbrev pub AbortingLeads : Type 0
+AbortingLeads = (m : Moment) → Law m.core → MomentLaw m → Leads m (after_aborting m)

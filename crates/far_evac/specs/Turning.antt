@@ -1,0 +1,44 @@
+-- Turns, one after the other, and what bounds their sums.
+use Rattle.std.specs.Prelude.{◌≡◌, ◌≢◌, ℕ, ◌+◌, ◌*◌, ◌<◌, ◌≤◌, Bool, false, List, length}
+use Rattle.far_word.specs.declared.sizes.TheConstants.{LOG_WORDS, MOST_LOGS}
+use Rattle.far_evac.specs.declared.answers.Progress.{Progress}
+use Rattle.far_evac.specs.declared.answers.RoundEnd.{RoundEnd}
+use Rattle.far_evac.specs.declared.phase.Phase.TheVariants.{Evacuating}
+use Rattle.far_evac.specs.AnyHand.{EndsRound, StopsAt, TurnsMade, sum_of}
+use Rattle.far_evac.specs.Live.{live_among}
+use Rattle.far_evac.specs.Moment.{Moment, Tally, nothing, objects_in, plus, progress_of}
+use Rattle.far_evac.specs.MomentLaw.{is_idle}
+use Rattle.far_evac.specs.Turns.{Turned, turn_size}
+
+-- from a moment on: the round is over after some turns, or so many were made
+abbrev pub EndsTurns : Moment → ℕ → RoundEnd → Moment → Type 0
+EndsTurns m turns end t = (tallies : List Tally) × (over : Bool) × TurnsMade m tallies over t × (length tallies ≤ turns) × EndsRound turns tallies over t.phase end
+
+-- or one of them stopped at an object
+abbrev pub StopsTurns : Moment → ℕ → Progress → Moment → Type 0
+StopsTurns m turns so_far t = (tallies : List Tally) × (u : Moment) × (tally : Tally) × TurnsMade m tallies false u
+    × (length tallies < turns) × (u.phase ≡ Evacuating) × StopsAt u turn_size t tally × (so_far ≡ progress_of (plus (sum_of tallies) tally) false)
+
+-- where turns stand that have counted so much, and whether the round is over
+abbrev pub turned_at : Moment → Tally → Bool → Turned
+turned_at m tally over = record { moment = m; tally = tally; over = over }
+
+-- the most objects that logs have: no word begins two spans
+abbrev pub most_objects : ℕ
+most_objects = MOST_LOGS * LOG_WORDS
+
+-- what was counted and what is left together are no more than a heap can have; nothing was counted before objects leave
+pub record IsWithin (m : Moment) (total : Tally) : Type 0 where
+  pub objects : objects_in total + length (live_among m.core m.held) ≤ most_objects
+  pub logs : total.freed + length m.held ≤ MOST_LOGS
+  pub fresh : m.phase ≢ Evacuating → total ≡ nothing
+
+-- a sum that is no more
+pub record IsBounded (total : Tally) : Type 0 where
+  pub objects : objects_in total ≤ most_objects
+  pub logs : total.freed ≤ MOST_LOGS
+
+-- after a turn the sum is no more, and where the round isn't over turns may go on
+pub record GoesOn (t : Moment) (total : Tally) (over : Bool) : Type 0 where
+  pub bounded : IsBounded total
+  pub more : over ≡ false → IsWithin t total × (is_idle t.phase ≡ false)
