@@ -2,6 +2,7 @@ pub mod Auditing
 pub mod Bools
 pub mod Bounds
 pub mod Censuses
+pub mod Changing
 pub mod Chosen
 pub mod Dealt
 pub mod Evacuations
@@ -13,12 +14,18 @@ pub mod Hands
 pub mod InOrder
 pub mod Joined
 pub mod Keeping
+pub mod Lacking
 pub mod Leading
 pub mod LiveLists
 pub mod LiveOnce
+pub mod LogBits
 pub mod Looks
+pub mod MarkRuns
+pub mod MarkSteps
 pub mod Marks
+pub mod Onward
 pub mod Orders
+pub mod Passing
 pub mod Polls
 pub mod Readiness
 pub mod Rounds
@@ -29,6 +36,7 @@ pub mod Subjects
 pub mod Tallies
 pub mod Tours
 pub mod TurnsOn
+pub mod Unmarking
 pub mod Unviewed
 pub mod Walking
 pub mod Walks

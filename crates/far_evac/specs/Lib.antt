@@ -1,6 +1,7 @@
 pub mod AnyHand
 pub mod Census
 pub mod Choosing
+pub mod Cursor
 pub mod Dealings
 pub mod EvacOf
 pub mod Failing

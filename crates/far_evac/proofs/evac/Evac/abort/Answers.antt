@@ -1,0 +1,5 @@
+use Rattle.far_evac.proofs.Onward.{idle_round}
+use Rattle.far_evac.proofs.evac.Evac.abort.Goals as goal
+
+pub invariant_of-self : goal.invariant_of-self
+invariant_of-self g c = idle_round (g.N.Near.view c.unmark_logs.new.book.near) c.new.result c.new.ensures
