@@ -1,0 +1,12 @@
+//! Whether the clauses say what was meant, by worked values.
+
+mod aborting;
+mod beside;
+mod choosing;
+mod devices;
+mod making;
+mod readme;
+mod refusals;
+mod rounds;
+mod steps;
+mod waiting;
