@@ -81,9 +81,9 @@ listed_by : (P : ℕ → Type 0) (f : Span → Bool) (xs : List Span) (x : Span)
 listed_by P f [] x all member h = absurd (none_in x member)
 listed_by P f (y ∷ ys) x all member h = elim (split x y ys member) [
   | inl e ↦ (
-    let first : AllByRecursion P (y.p ∷ pointers_of (filter f ys)) = subst (λ b. AllByRecursion P (pointers_of (cond b (y ∷ filter f ys) (filter f ys)))) (ap f e ∙ h) all in
-    subst (λ (z : Span). P z.p) e first.0
-  )
+      let first : AllByRecursion P (y.p ∷ pointers_of (filter f ys)) = subst (λ b. AllByRecursion P (pointers_of (cond b (y ∷ filter f ys) (filter f ys)))) (ap f e ∙ h) all in
+      subst (λ (z : Span). P z.p) e first.0
+      )
   | inr more ↦ listed_by P f ys x (cond_both (f y) (y ∷ filter f ys) (filter f ys) (λ zs. AllByRecursion P (pointers_of zs) → AllByRecursion P (pointers_of (filter f ys))) (λ _ g. g.1) (λ _ g. g) all) more h
 ]
 
