@@ -1,7 +1,5 @@
 //! The evacuator: it chooses logs, marks the objects that live there, waits until every older scope is closed, moves what is
 //! hot, sends the rest far, and gives whole logs back.
-//!
-//! So far the crate has the words of its contracts, the types of its answers, and what is proved of them.
 #![tactic(auto)]
 
 mod answers;
