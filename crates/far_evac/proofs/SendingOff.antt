@@ -300,24 +300,3 @@ pub round_sent : (s t : State) (r : Round) → InRound s r → (p : ℕ) (q : Is
 round_sent s t r in_round p q law evac order after (Ok fate) leaves kept =
     round_called s (core_by s p (way_of s (read_of leaves.word))) t r in_round (sealed_kept s p q law evac leaves.word leaves.found (way_of s (read_of leaves.word)) refl) leaves.core
 round_sent s t r in_round p q law evac order after (Err why) leaves kept = round_found s t r in_round kept
-
--- ---- and the walk as its definition says
-way_known : (s t : State) (order after : List ℕ) (phase : Phase) (held : List ℕ) (tally : Tally) (p : ℕ) (fate : Fate) (way : Way) → Knows (core_by s p way) t → after ≡ order_by s order way → fate ≡ fate_by way →
-    KnowsWalked (dealt_so (stand s order phase held tally) p way) (stand t after phase held (counted_as tally fate))
-way_known s t order after phase held tally p fate Drops knows sealed is = record { moment = record { core = knows; rest = λ i. record { core = t; order = sealed i; phase = phase; held = held } }; tally = ap (counted_as tally) is }
-way_known s t order after phase held tally p fate (Moves place) knows sealed is = record { moment = record { core = knows; rest = λ i. record { core = t; order = sealed i; phase = phase; held = held } }; tally = ap (counted_as tally) is }
-way_known s t order after phase held tally p fate Goes knows sealed is = record { moment = record { core = knows; rest = λ i. record { core = t; order = sealed i; phase = phase; held = held } }; tally = ap (counted_as tally) is }
-
-pub sent_known : (s t : State) (order after : List ℕ) (phase : Phase) (held : List ℕ) (tally : Tally) (p : ℕ) (fate : Fate) (leaves : LeavesBy s order t after p fate) →
-    KnowsWalked (dealt_as (stand s order phase held tally) p (read_of leaves.word)) (stand t after phase held (counted_as tally fate))
-sent_known s t order after phase held tally p fate leaves = way_known s t order after phase held tally p fate (way_of s (read_of leaves.word)) leaves.core leaves.sealed leaves.is
-
-way_exact : (s t : State) (order after : List ℕ) (phase : Phase) (held : List ℕ) (tally : Tally) (p : ℕ) (fate : Fate) (way : Way) → t ≡ core_by s p way → after ≡ order_by s order way → fate ≡ fate_by way →
-    stand t after phase held (counted_as tally fate) ≡ dealt_so (stand s order phase held tally) p way
-way_exact s t order after phase held tally p fate Drops core sealed is = λ i. stand (core i) (sealed i) phase held (counted_as tally (is i))
-way_exact s t order after phase held tally p fate (Moves place) core sealed is = λ i. stand (core i) (sealed i) phase held (counted_as tally (is i))
-way_exact s t order after phase held tally p fate Goes core sealed is = λ i. stand (core i) (sealed i) phase held (counted_as tally (is i))
-
-pub sent_exact : (s t : State) (order after : List ℕ) (phase : Phase) (held : List ℕ) (tally : Tally) (p w : ℕ) (fate : Fate) → LeavesAs s order t after p w fate →
-    stand t after phase held (counted_as tally fate) ≡ dealt_as (stand s order phase held tally) p (read_of w)
-sent_exact s t order after phase held tally p w fate leaves = way_exact s t order after phase held tally p fate (way_of s (read_of w)) leaves.core leaves.sealed leaves.is
