@@ -1,21 +1,13 @@
 -- Object after object, a walk does what its definition says.
-use Rattle.std.proofs.Common.{◌≡◌, ℕ, ◌+◌, ◌<◌, ◌≤◌, Bool, true, false, cond, Option, Some, None, IfSome, IfNone, List, [], ◌∷◌, arith, ap, sym, refl, ◌∙◌, subst}
-use Rattle.std.specs.Prelude.{is_none}
-use Rattle.std.proofs.lemmas.Bool.{true≢false}
+use Rattle.std.proofs.Common.{◌≡◌, ℕ, ◌+◌, ◌≤◌, true, List, [], ◌∷◌, ap, sym, ◌∙◌, subst}
 use Rattle.far_word.specs.Pointer.{read_of}
-use Rattle.far_core.specs.state.State.{State}
 use Rattle.far_book.specs.Finds.{Finds}
-use Rattle.far_evac.specs.declared.answers.Progress.{Progress}
-use Rattle.far_evac.specs.declared.phase.Phase.{Phase}
-use Rattle.far_evac.specs.declared.phase.Phase.TheVariants.{Idle, Evacuating}
-use Rattle.far_evac.specs.AnyHand.{KnowsMoment, KnowsWalked, DealsFirst, FindsFirst, StopsAt, Walks, WalksTo, found_first}
-use Rattle.far_evac.specs.EvacOf.{EvacOf, moment}
-use Rattle.far_evac.specs.Leaving.{standing}
+use Rattle.far_evac.specs.AnyHand.{KnowsWalked, FindsFirst, WalksTo, found_first}
 use Rattle.far_evac.specs.Live.{is_empty}
-use Rattle.far_evac.specs.Moment.{Moment, nothing, objects_in, progress_of, tally_of}
-use Rattle.far_evac.specs.Walk.{Walked, begun, dealt_as, dealt_first, ended, is_done, left, settled, walked}
+use Rattle.far_evac.specs.Moment.{Moment}
+use Rattle.far_evac.specs.Walk.{Walked, dealt_as, dealt_first, is_done, left, settled, walked}
 use Rattle.far_evac.proofs.Settling.{settled_known, walked_known_more}
-use Rattle.far_evac.proofs.Walks.{some_left, walked_done, walked_more, walks_more}
+use Rattle.far_evac.proofs.Walks.{walked_done, walked_more, walks_more}
 
 -- ---- one object more
 deals_by : (w v t : Walked) (p : ℕ) (rest : List ℕ) (word : ℕ) (ps : List ℕ) → ps ≡ p ∷ rest → Finds (w.moment.core.cell p) word → KnowsWalked (dealt_as w p (read_of word)) v → KnowsWalked (settled v) t →
