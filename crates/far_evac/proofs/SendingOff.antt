@@ -1,6 +1,6 @@
 -- An object leaves its log as a word says that was found in its cell.
-use Rattle.std.proofs.Common.{◌≡◌, ◌≢◌, ℕ, ◌+◌, ◌*◌, ◌/◌, ◌<◌, ◌||◌, ◌&&◌, Bool, true, false, cond, eqb, Option, Some, None, Result, Ok, Err, List, [], ◌∷◌, ◌++◌, IfOk, IfErr, IfSome, IfNone, MatchOption, arith, ap, sym, refl, ◌∙◌, subst}
-use Rattle.std.proofs.lemmas.Bool.{eq-eqb, true≢false, false≢true, false_from_ne_true}
+use Rattle.std.proofs.Common.{◌≡◌, ◌≢◌, ℕ, ◌*◌, ◌/◌, ◌<◌, ◌||◌, ◌&&◌, Bool, true, false, cond, eqb, Option, Some, None, Result, Ok, Err, List, [], ◌∷◌, ◌++◌, IfOk, IfErr, IfSome, IfNone, MatchOption, arith, ap, sym, refl, ◌∙◌, subst}
+use Rattle.std.proofs.lemmas.Bool.{eq-eqb, true≢false, false_from_ne_true}
 use Rattle.far_word.specs.declared.mark.Marks.{Marks}
 use Rattle.far_word.specs.declared.pointer.Place.{Place}
 use Rattle.far_word.specs.declared.pointer.PtrWord.TheVariants.{Near, Far}
@@ -10,14 +10,13 @@ use Rattle.far_word.specs.Pointer.{IsPtr, read_of}
 use Rattle.far_word.specs.Sizes.{size_of}
 use Rattle.far_word.proofs.PointerLaws.{read_says}
 use Rattle.far_core.specs.events.Naming.{is_dropped, no_marks}
-use Rattle.far_core.specs.events.Quiet.{is_quiet}
 use Rattle.far_core.specs.state.Law.{Law}
 use Rattle.far_core.specs.state.Room.{room}
 use Rattle.far_core.specs.state.State.{State}
 use Rattle.far_core.proofs.Put.{put_same}
 use Rattle.far_book.specs.Finds.{Finds, marks_in}
 use Rattle.far_book.specs.book.Dealing.{IsQuietNear, IsRetired, IsSeen, Leaves, goal, has_evac, moved_now, order_moved}
-use Rattle.far_book.specs.book.Effects.{evicted, moved, order_after, retired, stayed, with_free_cell}
+use Rattle.far_book.specs.book.Effects.{evicted, moved, order_after, stayed, with_free_cell}
 use Rattle.far_book.specs.book.Evicting.{GoesFar}
 use Rattle.far_book.specs.book.Own.{own_part}
 use Rattle.far_book.specs.book.Renaming.{seen}
@@ -27,27 +26,25 @@ use Rattle.far_book.proofs.RoundSteps.{quiet_seen}
 use Rattle.far_book.proofs.region.Calls.{put_put}
 use Rattle.far_book.proofs.region.Evictions.{evicted_is}
 use Rattle.far_book.proofs.region.Moved.{drop_of, evac_of, goal_there}
-use Rattle.far_book.proofs.region.Retires.{retired_is}
 use Rattle.far_book.proofs.region.SealedKept.{sealed_logs_kept}
 use Rattle.far_evac.specs.declared.evac.evacuating.Fate.{Fate}
 use Rattle.far_evac.specs.declared.evac.evacuating.Fate.TheVariants as fates
-use Rattle.far_evac.specs.declared.phase.Phase.{Phase}
 use Rattle.far_evac.specs.declared.phase.Phase.TheVariants.{Evacuating}
 use Rattle.far_evac.specs.declared.round.Round.{Round}
-use Rattle.far_evac.specs.AnyHand.{Knows, KnowsWalked}
-use Rattle.far_evac.specs.Leaving.{GoesAway, LeavesAs, LeavesBy, core_by, counted_as, fate_by, goes_near, near_fate, order_by}
+use Rattle.far_evac.specs.AnyHand.{Knows}
+use Rattle.far_evac.specs.Leaving.{GoesAway, LeavesBy, core_by, fate_by, goes_near, near_fate, order_by}
 use Rattle.far_evac.specs.Live.{live_in, live_among}
-use Rattle.far_evac.specs.Moment.{Moment, Tally}
+use Rattle.far_evac.specs.Moment.{Moment}
 use Rattle.far_evac.specs.MomentLaw.{MomentLaw, has_risen}
 use Rattle.far_evac.specs.RoundSteps.{among}
 use Rattle.far_evac.specs.Standing.{InRound}
-use Rattle.far_evac.specs.Walk.{Walked, Way, Drops, Goes, Moves, dealt_as, dealt_so, hot_way, way_of}
+use Rattle.far_evac.specs.Walk.{Way, Drops, Goes, Moves, hot_way, way_of}
 use Rattle.far_evac.proofs.Bools.{neither}
 use Rattle.far_evac.proofs.Dealt.{NewPlace, room_new}
 use Rattle.far_evac.proofs.Hands.{evicted_seen, freed_seen, knows_far, knows_left, knows_more, knows_seen, knows_spans, knows_words, moved_seen}
 use Rattle.far_evac.proofs.Keeping.{round_called, round_found}
 use Rattle.far_evac.proofs.LiveOnce.{LivesIn, first_named, near_at}
-use Rattle.far_evac.proofs.Tours.{goes_when, moves_when, stand}
+use Rattle.far_evac.proofs.Tours.{goes_when, moves_when}
 
 or_none : (a b : Bool) → (a || b) ≡ false → (a ≡ false) × (b ≡ false)
 or_none true b h = absurd (true≢false h)
@@ -300,24 +297,3 @@ pub round_sent : (s t : State) (r : Round) → InRound s r → (p : ℕ) (q : Is
 round_sent s t r in_round p q law evac order after (Ok fate) leaves kept =
     round_called s (core_by s p (way_of s (read_of leaves.word))) t r in_round (sealed_kept s p q law evac leaves.word leaves.found (way_of s (read_of leaves.word)) refl) leaves.core
 round_sent s t r in_round p q law evac order after (Err why) leaves kept = round_found s t r in_round kept
-
--- ---- and the walk as its definition says
-way_known : (s t : State) (order after : List ℕ) (phase : Phase) (held : List ℕ) (tally : Tally) (p : ℕ) (fate : Fate) (way : Way) → Knows (core_by s p way) t → after ≡ order_by s order way → fate ≡ fate_by way →
-    KnowsWalked (dealt_so (stand s order phase held tally) p way) (stand t after phase held (counted_as tally fate))
-way_known s t order after phase held tally p fate Drops knows sealed is = record { moment = record { core = knows; rest = λ i. record { core = t; order = sealed i; phase = phase; held = held } }; tally = ap (counted_as tally) is }
-way_known s t order after phase held tally p fate (Moves place) knows sealed is = record { moment = record { core = knows; rest = λ i. record { core = t; order = sealed i; phase = phase; held = held } }; tally = ap (counted_as tally) is }
-way_known s t order after phase held tally p fate Goes knows sealed is = record { moment = record { core = knows; rest = λ i. record { core = t; order = sealed i; phase = phase; held = held } }; tally = ap (counted_as tally) is }
-
-pub sent_known : (s t : State) (order after : List ℕ) (phase : Phase) (held : List ℕ) (tally : Tally) (p : ℕ) (fate : Fate) (leaves : LeavesBy s order t after p fate) →
-    KnowsWalked (dealt_as (stand s order phase held tally) p (read_of leaves.word)) (stand t after phase held (counted_as tally fate))
-sent_known s t order after phase held tally p fate leaves = way_known s t order after phase held tally p fate (way_of s (read_of leaves.word)) leaves.core leaves.sealed leaves.is
-
-way_exact : (s t : State) (order after : List ℕ) (phase : Phase) (held : List ℕ) (tally : Tally) (p : ℕ) (fate : Fate) (way : Way) → t ≡ core_by s p way → after ≡ order_by s order way → fate ≡ fate_by way →
-    stand t after phase held (counted_as tally fate) ≡ dealt_so (stand s order phase held tally) p way
-way_exact s t order after phase held tally p fate Drops core sealed is = λ i. stand (core i) (sealed i) phase held (counted_as tally (is i))
-way_exact s t order after phase held tally p fate (Moves place) core sealed is = λ i. stand (core i) (sealed i) phase held (counted_as tally (is i))
-way_exact s t order after phase held tally p fate Goes core sealed is = λ i. stand (core i) (sealed i) phase held (counted_as tally (is i))
-
-pub sent_exact : (s t : State) (order after : List ℕ) (phase : Phase) (held : List ℕ) (tally : Tally) (p w : ℕ) (fate : Fate) → LeavesAs s order t after p w fate →
-    stand t after phase held (counted_as tally fate) ≡ dealt_as (stand s order phase held tally) p (read_of w)
-sent_exact s t order after phase held tally p w fate leaves = way_exact s t order after phase held tally p fate (way_of s (read_of w)) leaves.core leaves.sealed leaves.is

@@ -7,7 +7,6 @@ use Rattle.far_core.specs.state.State.{State}
 use Rattle.far_core.proofs.Put.{put_other, put_same}
 use Rattle.far_book.specs.book.Releasing.{order_without, released}
 use Rattle.far_evac.specs.declared.answers.Progress.{Progress}
-use Rattle.far_evac.specs.declared.phase.Phase.{Phase}
 use Rattle.far_evac.specs.declared.phase.Phase.TheVariants.{Evacuating}
 use Rattle.far_evac.specs.AnyHand.{Knows, KnowsMoment, KnowsWalked}
 use Rattle.far_evac.specs.EvacOf.{EvacOf, moment}

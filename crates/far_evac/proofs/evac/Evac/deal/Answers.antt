@@ -1,4 +1,4 @@
-use Rattle.std.proofs.Common.{◌≡◌, ap, sym, subst}
+use Rattle.std.proofs.Common.{sym, subst}
 use Rattle.far_core.specs.state.Law.{Law}
 use Rattle.far_book.specs.book.Own.{own_part}
 use Rattle.far_evac.specs.EvacOf.{EvacOf, moment}

@@ -1,4 +1,4 @@
-use Rattle.std.proofs.Common.{◌≡◌, ◌+◌, ◌∙◌, ◌∷◌, cond, length, arith, ap, sym, refl}
+use Rattle.std.proofs.Common.{◌+◌, ◌∙◌, cond, length, arith, ap, sym, refl}
 use Rattle.far_evac.specs.declared.answers.Progress.{Progress}
 use Rattle.far_evac.specs.declared.phase.Phase.TheVariants as phase
 use Rattle.far_evac.specs.Leaving.{standing}
@@ -6,7 +6,7 @@ use Rattle.far_evac.specs.Moment.{Moment}
 use Rattle.far_evac.specs.MomentLaw.{is_idle}
 use Rattle.far_evac.specs.Walk.{settled}
 use Rattle.far_evac.proofs.LiveLists.{knows_live}
-use Rattle.far_evac.proofs.Settling.{front_left, standing_known, step_exact, step_known, walked_known_more}
+use Rattle.far_evac.proofs.Settling.{front_left, step_exact, step_known, walked_known_more}
 use Rattle.far_evac.proofs.Walks.{walked_same}
 use Rattle.far_evac.proofs.evac.Evac.settle.Goals as goal
 

@@ -1,4 +1,4 @@
-use Rattle.std.proofs.Common.{◌≡◌, ◌+◌, ◌<◌, ◌∙◌, ◌∷◌, [], ℕ, List, IfSome, IfNone, length, arith, ap, sym, subst}
+use Rattle.std.proofs.Common.{◌≡◌, ◌<◌, ◌∙◌, ◌∷◌, [], ℕ, List, IfSome, IfNone, length, arith, ap, sym, subst}
 use Rattle.far_evac.specs.EvacOf.{moment}
 use Rattle.far_evac.specs.Leaving.{standing}
 use Rattle.far_evac.specs.Walk.{left}

@@ -1,4 +1,4 @@
-use Rattle.std.proofs.Common.{◌≡◌, ◌∙◌, Ok, ap}
+use Rattle.std.proofs.Common.{◌∙◌, Ok, ap}
 use Rattle.far_book.specs.book.Effects.{with_free_cell}
 use Rattle.far_evac.proofs.Hands.{knows_spans}
 use Rattle.far_evac.proofs.SendingOff.{far_known, seen_known}

@@ -1,8 +1,8 @@
-use Rattle.std.proofs.Common.{◌≡◌, ◌∙◌, None, Ok, ap, sym, subst}
+use Rattle.std.proofs.Common.{◌∙◌, None, ap, sym, subst}
 use Rattle.far_book.specs.book.BookOf.{BookOf}
 use Rattle.far_evac.specs.Leaving.{LeavesBy}
 use Rattle.far_evac.proofs.Hands.{knows_more}
-use Rattle.far_evac.proofs.SendingOff.{err_map, evac_found, found_here, ok_map, no_answer, quiet_here, seen_known, sent_away, sent_cold, sent_there}
+use Rattle.far_evac.proofs.SendingOff.{err_map, found_here, ok_map, no_answer, quiet_here, seen_known, sent_away, sent_cold, sent_there}
 use Rattle.far_evac.proofs.evac.evacuating.send_off.Goals as goal
 
 pub send_far-requires-clause-quiet : goal.send_far-requires-clause-quiet
