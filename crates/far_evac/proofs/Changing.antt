@@ -6,7 +6,7 @@ use Rattle.far_word.specs.declared.mark.Mark.TheVariants.{Evac}
 use Rattle.far_word.specs.declared.mark.Marks.{Marks}
 use Rattle.far_word.specs.declared.pointer.Place.{Place}
 use Rattle.far_word.specs.declared.pointer.PtrWord.TheVariants.{Near, Far}
-use Rattle.far_word.specs.Mark.{marks_with, position}
+use Rattle.far_word.specs.Mark.{position}
 use Rattle.far_word.specs.Pointer.{read_of}
 use Rattle.far_word.proofs.PointerLaws.{with_mark_read, without_evac_read}
 use Rattle.far_core.specs.events.Clear.{evac_cleared, round_left}

@@ -1,10 +1,10 @@
 -- The objects that lack EVAC: once the first of them has it, the others are left.
-use Rattle.std.proofs.Common.{◌≡◌, ◌≢◌, ℕ, zero, suc, ◌+◌, ◌^◌, ◌<◌, ◌≤◌, Bool, true, false, cond, not, ◌&&◌, ◌||◌, ◌==◌, eqb, nat_le, nat_lt, Option, Some, None, List, [], ◌∷◌, ◌++◌, map, filter, take, drop, inl, inr, bit_or, arith, ap, sym, refl, ◌∙◌, subst}
+use Rattle.std.proofs.Common.{◌≡◌, ◌≢◌, ℕ, zero, suc, ◌+◌, ◌^◌, ◌<◌, ◌≤◌, Bool, true, false, cond, not, ◌&&◌, ◌||◌, ◌==◌, eqb, nat_le, nat_lt, Option, Some, None, List, [], ◌∷◌, ◌++◌, filter, take, drop, inl, inr, bit_or, arith, ap, sym, refl, ◌∙◌, subst}
 use Rattle.std.specs.Prelude.{⊤, ◌⊎◌, Contains, fold}
 use Rattle.std.proofs.lemmas.List.{append_assoc, take-append-drop}
 use Rattle.std.proofs.lemmas.List.Sums.{fold-append}
-use Rattle.std.specs.List.{AllByRecursion, IsDistinct, list_any}
-use Rattle.std.proofs.lemmas.Bool.{cases_eq, cond_both, eq-eqb, ne_eqb, eqb-true, true≢false, false≢true}
+use Rattle.std.specs.List.{AllByRecursion, IsDistinct}
+use Rattle.std.proofs.lemmas.Bool.{cond_both, eq-eqb, eqb-true, true≢false, false≢true}
 use Rattle.std.proofs.lemmas.List.Elements.{filter-append}
 use mathlib.Core.Path.{fun_ext}
 use Rattle.far_word.specs.declared.mark.Mark.TheVariants.{Evac}
@@ -24,7 +24,7 @@ use Rattle.far_core.specs.state.Law.{Law}
 use Rattle.far_core.specs.state.Spans.{spans_of, is_live, names_place, word_in}
 use Rattle.far_core.specs.state.State.{State, put}
 use Rattle.far_core.proofs.Put.{put_both}
-use Rattle.far_book.specs.Finds.{Finds, body_of}
+use Rattle.far_book.specs.Finds.{body_of}
 use Rattle.far_book.specs.book.Dealing.{has_evac}
 use Rattle.far_book.specs.book.Effects.{marked}
 use Rattle.far_book.specs.book.NextLive.{live_from}
@@ -35,12 +35,11 @@ use Rattle.far_evac.specs.Cursor.{StandsAt, first_marked}
 use Rattle.far_evac.specs.Laws.{but_evac}
 use Rattle.far_evac.specs.Live.{lacking, live_in, live_among, pointers_of}
 use Rattle.far_evac.specs.RoundSteps.{among, unmarked}
-use Rattle.far_evac.specs.Standing.{MarkedAmong, MarkedBefore}
+use Rattle.far_evac.specs.Standing.{MarkedAmong}
 use Rattle.far_evac.proofs.Changing.{marked_fits, marked_known}
 use Rattle.far_evac.proofs.Fronts.{kept_in}
 use Rattle.far_evac.proofs.Given.{drop_next}
 use Rattle.far_evac.proofs.Hands.{knows_more}
-use Rattle.far_evac.proofs.LiveLists.{knows_live}
 use Rattle.far_evac.proofs.LiveOnce.{LivesIn, apart, behind, but, but_first, each_map, live_named, near_at, not_there}
 use Rattle.far_evac.proofs.Marks.{IsNearWord, all_filter, all_near, clear_sets, live_near, mark_sets}
 use Rattle.far_evac.proofs.Onward.{or_split}

@@ -1,5 +1,5 @@
 -- What many steps of marking make of a moment, and where none is left the epoch rises.
-use Rattle.std.proofs.Common.{◌≡◌, ◌≢◌, ℕ, zero, suc, ◌+◌, ◌^◌, ◌<◌, ◌≤◌, Bool, true, false, cond, not, eqb, nat_lt, Option, Some, None, List, [], ◌∷◌, length, take, drop, arith, ap, sym, refl, ◌∙◌, subst}
+use Rattle.std.proofs.Common.{◌≡◌, ◌≢◌, ℕ, zero, suc, ◌+◌, ◌^◌, ◌<◌, ◌≤◌, true, false, cond, not, eqb, Option, Some, None, List, [], ◌∷◌, length, take, drop, arith, ap, sym, refl, ◌∙◌, subst}
 use Rattle.std.specs.Prelude.{IfSome, IfNone, fold, is_some}
 use Rattle.std.specs.List.{IsDistinct}
 use Rattle.std.proofs.lemmas.Bool.{true≢false, false≢true}
@@ -15,13 +15,12 @@ use Rattle.far_book.specs.Known.{Forgets}
 use Rattle.far_book.specs.Rounds.{MayChoose}
 use Rattle.far_book.specs.book.Effects.{marked}
 use Rattle.far_book.specs.book.Own.{own_part}
-use Rattle.far_evac.specs.declared.phase.Phase.{Phase}
-use Rattle.far_evac.specs.declared.phase.Phase.TheVariants.{Idle, Marking, Waiting, Evacuating}
+use Rattle.far_evac.specs.declared.phase.Phase.TheVariants.{Marking, Waiting, Evacuating}
 use Rattle.far_evac.specs.declared.round.Round.{Round}
 use Rattle.far_evac.specs.AnyHand.{Knows, KnowsMoment, MarksSome}
 use Rattle.far_evac.specs.Cursor.{StandsAt, first_marked}
 use Rattle.far_evac.specs.Live.{is_empty, lacking}
-use Rattle.far_evac.specs.Marking.{after_marking, leaves_some, marked_core, newly_marked, waiting_for}
+use Rattle.far_evac.specs.Marking.{after_marking, leaves_some, marked_core, newly_marked}
 use Rattle.far_evac.specs.Moment.{Moment}
 use Rattle.far_evac.specs.MomentLaw.{is_idle}
 use Rattle.far_evac.specs.RoundSteps.{advanced, among}
@@ -31,7 +30,7 @@ use Rattle.far_evac.proofs.Given.{drop_next}
 use Rattle.far_evac.proofs.Hands.{knows_forgotten, knows_more}
 use Rattle.far_evac.proofs.Lacking.{each_has, lacking_known, left_to, next_known, next_marked}
 use Rattle.far_evac.proofs.MarkSteps.{none_shown, some_shown}
-use Rattle.far_evac.proofs.Onward.{chosen_sealed, held_marking, not_leaving, not_waiting, sealed_inside}
+use Rattle.far_evac.proofs.Onward.{chosen_sealed, held_marking, sealed_inside}
 use Rattle.far_evac.proofs.Readiness.{round_is_event}
 use Rattle.far_evac.proofs.Standings.{at_start}
 

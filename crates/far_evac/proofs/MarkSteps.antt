@@ -1,5 +1,5 @@
 -- What marking makes of a moment: the first object that lacks EVAC gets it, and where none lacks it the round waits.
-use Rattle.std.proofs.Common.{◌≡◌, ◌≢◌, ℕ, ◌+◌, ◌*◌, ◌^◌, ◌<◌, ◌≤◌, Bool, true, false, not, eqb, Some, List, [], ◌∷◌, length, take, drop, bit_or, inl, inr, arith, ap, sym, refl, ◌∙◌, subst}
+use Rattle.std.proofs.Common.{◌≡◌, ℕ, ◌+◌, ◌^◌, ◌<◌, true, false, not, Some, List, [], ◌∷◌, length, bit_or, inl, inr, ap, sym, refl, ◌∙◌, subst}
 use Rattle.std.proofs.lemmas.Bool.{cases_eq, cases_lt}
 use Rattle.far_word.specs.declared.mark.Mark.TheVariants.{Evac}
 use Rattle.far_word.specs.declared.mark.Marks.{Marks}
@@ -19,15 +19,14 @@ use Rattle.far_book.specs.Finds.{Finds}
 use Rattle.far_book.specs.book.Effects.{marked}
 use Rattle.far_book.specs.book.NextLive.{IsBoundary}
 use Rattle.far_book.specs.book.Own.{own_part}
-use Rattle.far_book.proofs.Finding.{near_found, near_known}
+use Rattle.far_book.proofs.Finding.{near_found}
 use Rattle.far_evac.specs.declared.phase.Phase.{Phase}
-use Rattle.far_evac.specs.declared.phase.Phase.TheVariants.{Idle, Marking, Waiting, Evacuating}
+use Rattle.far_evac.specs.declared.phase.Phase.TheVariants.{Marking}
 use Rattle.far_evac.specs.declared.round.Round.{Round}
 use Rattle.far_evac.specs.AnyHand.{Knows, KnowsMoment}
 use Rattle.far_evac.specs.Cursor.{StandsAt, first_marked}
 use Rattle.far_evac.specs.Live.{is_empty, lacking}
 use Rattle.far_evac.specs.Moment.{Moment}
-use Rattle.far_evac.specs.RoundSteps.{among}
 use Rattle.far_evac.specs.Standing.{InRound, MarkedBefore, held_in}
 use Rattle.far_evac.proofs.Changing.{mark_leaves, marked_known}
 use Rattle.far_evac.proofs.Hands.{knows_more}

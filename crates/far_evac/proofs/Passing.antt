@@ -1,7 +1,7 @@
 -- What is passed over where the live objects of a log are looked at one after the other, from a word on.
-use Rattle.std.proofs.Common.{◌≡◌, ℕ, ◌+◌, ◌*◌, ◌<◌, ◌≤◌, Bool, true, false, cond, ◌&&◌, nat_le, nat_lt, Some, List, [], ◌∷◌, filter, inl, inr, arith, ap, sym, refl, ◌∙◌, subst}
+use Rattle.std.proofs.Common.{◌≡◌, ℕ, ◌+◌, ◌*◌, ◌<◌, ◌≤◌, Bool, true, false, ◌&&◌, nat_le, Some, [], ◌∷◌, filter, inl, inr, arith, ap, sym, refl, ◌∙◌, subst}
 use Rattle.std.specs.Prelude.{◌⊎◌, Contains}
-use Rattle.std.proofs.lemmas.Bool.{cases_eq, cases_lt, cond_both, true≢false, false≢true}
+use Rattle.std.proofs.lemmas.Bool.{cases_lt, false≢true}
 use Rattle.std.proofs.lemmas.Bool.Decides.{nat_tests}
 use mathlib.Core.Path.{fun_ext}
 use Rattle.far_word.specs.declared.mark.Marks.{Marks}
@@ -11,7 +11,7 @@ use Rattle.far_word.specs.declared.sizes.TheConstants.{CELLS, LOG_WORDS}
 use Rattle.far_word.specs.Pointer.{read_of}
 use Rattle.far_word.specs.Sizes.{size_of}
 use Rattle.far_log.specs.declared.span.Span.{Span}
-use Rattle.far_log.proofs.Members.{here, there, split, none_in}
+use Rattle.far_log.proofs.Members.{here, split, none_in}
 use Rattle.far_core.specs.laws.Observed.{span_for}
 use Rattle.far_core.specs.state.Law.{Law}
 use Rattle.far_core.specs.state.Spans.{spans_of, is_live}

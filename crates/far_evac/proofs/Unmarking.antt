@@ -1,12 +1,9 @@
 -- A round is given up: the live objects of its logs lose EVAC, log after log.
-use Rattle.std.proofs.Common.{◌≡◌, ℕ, zero, suc, ◌+◌, ◌^◌, ◌<◌, ◌≤◌, ◌-◌, true, false, Some, List, [], ◌∷◌, ◌++◌, take, drop, length, slice_index_or, arith, ap, sym, refl, ◌∙◌, subst}
+use Rattle.std.proofs.Common.{◌≡◌, ℕ, suc, ◌+◌, ◌^◌, ◌<◌, ◌-◌, false, List, [], ◌∷◌, ◌++◌, take, drop, length, slice_index_or, arith, ap, sym, refl, ◌∙◌, subst}
 use Rattle.std.specs.Prelude.{fold}
 use Rattle.std.specs.List.{AllByRecursion}
 use Rattle.std.proofs.lemmas.List.{append-nil, append_assoc, length-drop, take_all}
 use Rattle.std.proofs.lemmas.List.Sums.{fold-append}
-use Rattle.far_word.specs.declared.pointer.PtrWord.TheVariants.{Near}
-use Rattle.far_word.specs.declared.sizes.TheConstants.{LOG_WORDS}
-use Rattle.far_word.specs.Pointer.{read_of}
 use Rattle.far_word.specs.Sizes.{size_of}
 use Rattle.far_log.specs.declared.span.Span.{Span}
 use Rattle.far_core.specs.events.Clear.{evac_cleared}

@@ -8,7 +8,6 @@ use Rattle.far_evac.specs.Live.{is_empty, lacking}
 use Rattle.far_evac.specs.Moment.{Moment}
 use Rattle.far_evac.specs.Standing.{held_in}
 use Rattle.far_evac.specs.declared.phase.Phase.TheVariants.{Marking}
-use Rattle.far_evac.specs.declared.round.Round.{Round}
 use Rattle.far_evac.proofs.MarkSteps.{goes_on, knows_so, marks_exactly, marks_known, may_mark, moment_so, next_held, next_phase, none_known, none_same, none_shown, some_shown}
 use Rattle.far_evac.proofs.evac.Evac.mark_next.Goals as goal
 

@@ -1,9 +1,8 @@
-use Rattle.std.proofs.Common.{◌≡◌, ◌∙◌, ◌+◌, ◌<◌, ◌++◌, ◌∷◌, [], ap, sym, subst, arith, refl}
+use Rattle.std.proofs.Common.{◌∙◌, ◌+◌, ◌<◌, ◌++◌, ◌∷◌, [], ap, sym, subst, arith, refl}
 use Rattle.std.specs.Prelude.{fold}
-use Rattle.far_core.specs.state.State.{State}
 use Rattle.far_book.specs.book.NextLive.{IsBoundary, live_from}
 use Rattle.far_evac.specs.AnyHand.{Knows}
-use Rattle.far_evac.specs.Live.{live_in, pointers_of}
+use Rattle.far_evac.specs.Live.{pointers_of}
 use Rattle.far_evac.specs.RoundSteps.{unmarked}
 use Rattle.far_evac.proofs.Fronts.{knows_cells}
 use Rattle.far_evac.proofs.Hands.{knows_more}

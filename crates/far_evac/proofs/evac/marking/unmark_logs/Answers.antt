@@ -1,4 +1,4 @@
-use Rattle.std.proofs.Common.{ℕ, ◌≡◌, ◌∙◌, ◌+◌, ◌-◌, ◌<◌, ap, sym, subst, take, drop, length, slice_index_or}
+use Rattle.std.proofs.Common.{ℕ, ◌∙◌, ◌+◌, ◌-◌, ◌<◌, ap, sym, subst, take, drop, length, slice_index_or}
 use Rattle.std.specs.Prelude.{fold}
 use Rattle.far_evac.specs.AnyHand.{Knows}
 use Rattle.far_evac.specs.Live.{live_among}
