@@ -1,6 +1,11 @@
 -- One command more that was answered.
-use Rattle.std.proofs.Common.{◌≡◌, ◌≤◌, ℕ, List, [], ◌∷◌, ◌++◌, Option, Result, Ok, Err, length, take, arith, refl, ap, sym, ◌∙◌, subst, append_assoc, append-nil, length-append}
-use Rattle.std.specs.List.{flat_map}
+use Rattle.std.proofs.Common.{◌≡◌, ◌≤◌, ◌<◌, ℕ, zero, suc, List, map, [], ◌∷◌, ◌++◌, Option, Some, None, Result, Ok, Err, length, take, arith, refl, ap, sym, ◌∙◌, subst, append_assoc, append-nil, length-append}
+use Rattle.std.specs.List.{flat_map, range_with_len}
+use Rattle.far_word.specs.Pointer.{read_of}
+use Rattle.far_word.specs.declared.refused.Refused.{Refused as Refusal}
+use Rattle.far_book.specs.book.Home.{home_of}
+use Rattle.far_book.specs.declared.home.Home.{Home}
+use Rattle.far_book.specs.declared.home.Home.TheVariants.{Near, Far}
 use Rattle.std.specs.Io.KnownBytes.{Appends}
 use Rattle.std.proofs.Math.Seq.{take-length}
 use Rattle.std.proofs.lemmas.Grind.{flat_map-append}
@@ -9,12 +14,13 @@ use Rattle.far_core.specs.state.Law.{Law}
 use Rattle.far_core.specs.state.State.{State}
 use Rattle.far_replay.specs.Moment.{Moment, moment_of}
 use Rattle.far_replay.specs.Answers.{Answered, Commanded}
-use Rattle.far_text.specs.Command.{Command}
+use Rattle.far_text.specs.Command.{Command, New, Open, Write, Read, Close, Where, Drop, View, Try, Epoch, Logs, Log, Audit, Mutator, Book}
+use Rattle.far_replay.specs.Objects.{lowest_cell}
 use Rattle.far_text.specs.Written.{WritesBytes}
-use Rattle.far_replay.specs.Reply.{Reply, Done, reply_text}
-use Rattle.far_replay.specs.Stream.{AppendsFront, Holds}
+use Rattle.far_replay.specs.Reply.{Reply, Done, Logs as Told, Refused, reply_text}
+use Rattle.far_replay.specs.Stream.{AppendsPart, Holds}
 use Rattle.far_replay.specs.Between.{Between}
-use Rattle.far_replay.specs.Turn.{effect, reply_to}
+use Rattle.far_replay.specs.Turn.{effect, home_reply, log_line, pointer_reply, refusal, reply_to, turn_reply, unless}
 use Rattle.far_replay.proofs.Turns.{turns}
 
 -- what holds between two commands holds after one more
@@ -45,23 +51,72 @@ answers_all now (c ∷ cs) =
     let rest = answers_all (effect now c) cs in
     (reply_to now c ∷ rest.0, effect now c ∷ rest.1, (record { reply = refl; moment = refl }, rest.2))
 
--- what was written of some bytes, of which others wait, is a front of them and more
-held_front : {A E : Type 0} (start now : Option (List ℕ)) (waiting : List ℕ) (result : Result A E) (bytes more : List ℕ) → Holds start now waiting result bytes → AppendsFront start now (bytes ++ more)
-held_front start now waiting (Ok x) bytes more (front, added, is) =
+-- ---- each reply has a line
+abbrev HasBytes : List ℕ → Type 0
+HasBytes [] = ⊥
+HasBytes (byte ∷ bytes) = Unit {0}
+
+has_some : (bytes : List ℕ) → HasBytes bytes → 0 < length bytes
+has_some [] h = absurd h
+has_some (byte ∷ bytes) h = omega arith
+
+some_pointer : (o : Option ℕ) → HasBytes (reply_text (pointer_reply o))
+some_pointer None = tt
+some_pointer (Some p) = tt
+
+some_home : (o : Option Home) → HasBytes (reply_text (home_reply o))
+some_home None = tt
+some_home (Some (Near place marks)) = tt
+some_home (Some (Far marks)) = tt
+
+some_logs : (now : Moment) (first n : ℕ) → 0 < n → HasBytes (reply_text (Told (map (log_line now) (range_with_len first n))))
+some_logs now first zero some = absurd (omega arith)
+some_logs now first (suc n) some = tt
+
+some_turn : (s : State) (c : Command) → Law s → HasBytes (reply_text (turn_reply (moment_of s) c))
+some_turn s (Mutator m (New len ds)) law = some_pointer (lowest_cell s m)
+some_turn s (Mutator m Open) law = tt
+some_turn s (Mutator m (Write p from bytes)) law = tt
+some_turn s (Mutator m (Read p from len)) law = tt
+some_turn s (Mutator m Close) law = tt
+some_turn s (Mutator m (Where p)) law = some_home (home_of (read_of (s.cell p)))
+some_turn s (Mutator m (Drop p)) law = tt
+some_turn s (Mutator m (View p)) law = tt
+some_turn s (Mutator m (Try p)) law = tt
+some_turn s (Mutator m Epoch) law = tt
+some_turn s (Book Logs) law = some_logs (moment_of s) 0 s.logs (omega (arith, law.shape.two_logs))
+some_turn s (Book (Log l)) law = tt
+some_turn s (Book Audit) law = tt
+
+some_reply : (s : State) (c : Command) (o : Option Refusal) → Law s → HasBytes (reply_text (unless o Refused (turn_reply (moment_of s) c)))
+some_reply s c None law = some_turn s c law
+some_reply s c (Some why) law = tt
+
+-- ---- what was written where a command is refused memory
+-- what was written of some bytes, of which others wait, is a proper prefix of them and more
+held_part : {A E : Type 0} (start now : Option (List ℕ)) (waiting : List ℕ) (result : Result A E) (bytes more : List ℕ) → 0 < length more → Holds start now waiting result bytes → AppendsPart start now (bytes ++ more)
+held_part start now waiting (Ok x) bytes more some (front, added, is) =
     let within : length front ≤ length bytes = omega (arith, ap length is, length-append front waiting) in
     let same : take (length front) (bytes ++ more) ≡ front =
     take-append-le (length front) bytes more within ∙ ap (take (length front)) (sym is) ∙ take-append-le (length front) front waiting (omega arith) ∙ take-length front in
-    (length front, subst (Appends start now) (sym same) added)
-held_front start now waiting (Err e) bytes more (n, lt, added) = (n, subst (Appends start now) (sym (take-append-le n bytes more (omega (arith, lt)))) added)
+    (length front, omega (arith, within, some, length-append bytes more), subst (Appends start now) (sym same) added)
+held_part start now waiting (Err e) bytes more some (n, lt, added) =
+    (n, omega (arith, lt, some, length-append bytes more), subst (Appends start now) (sym (take-append-le n bytes more (omega (arith, lt)))) added)
 
--- where a command is refused memory, what was written is a front of the replies that there would be
-pub led_front : {A E : Type 0} (start now : Option (List ℕ)) (waiting : List ℕ) (written : Result A E) (replies rest : List Reply) →
-    Holds start now waiting written (flat_map reply_text (Done ∷ replies)) → AppendsFront start now (flat_map reply_text (Done ∷ (replies ++ rest)))
-led_front start now waiting written replies rest holds =
+-- that of the replies so far is one of all that there would be, since the next has a line
+pub led_part : {A E : Type 0} (start now : Option (List ℕ)) (waiting : List ℕ) (written : Result A E) (replies : List Reply) (s : State) (cs : List Command) → Law s → 0 < length cs →
+    Holds start now waiting written (flat_map reply_text (Done ∷ replies)) → AppendsPart start now (flat_map reply_text (Done ∷ (replies ++ (answers_all (moment_of s) cs).0)))
+unfolding answers_all
+led_part start now waiting written replies s [] law some holds = absurd (omega (arith, some))
+led_part start now waiting written replies s (c ∷ cs) law some holds =
     let bytes : List ℕ = flat_map reply_text (Done ∷ replies) in
+    let rest : List Reply = (answers_all (moment_of s) (c ∷ cs)).0 in
+    let first : List ℕ = reply_text (reply_to (moment_of s) c) in
+    let last : List ℕ = flat_map reply_text (answers_all (effect (moment_of s) c) cs).0 in
+    let more : 0 < length (first ++ last) = omega (arith, has_some first (some_reply s c (refusal (moment_of s) c) law), length-append first last) in
     let all : flat_map reply_text (Done ∷ (replies ++ rest)) ≡ bytes ++ flat_map reply_text rest =
     ap (λ xs. reply_text Done ++ xs) (flat_map-append reply_text replies rest) ∙ sym (append_assoc (reply_text Done) (flat_map reply_text replies) (flat_map reply_text rest)) in
-    subst (AppendsFront start now) (sym all) (held_front start now waiting written bytes (flat_map reply_text rest) holds)
+    subst (AppendsPart start now) (sym all) (held_part start now waiting written bytes (flat_map reply_text rest) more holds)
 
 -- what is printed of one reply more
 pub printed_more : (first : Reply) (replies : List Reply) (r : Reply) → flat_map reply_text (first ∷ (replies ++ r ∷ [])) ≡ flat_map reply_text (first ∷ replies) ++ reply_text r

@@ -67,11 +67,11 @@ end_of (Err line) = Turned
 abbrev pub WritesOutput : Option (List ℕ) → Option (List ℕ) → Result Trace ℕ → Type 0
 WritesOutput old new read = (output : List ℕ) × IsOutput read output × Appends old new output
 
--- replies were written, all; or a proper prefix of them after a failed write; or a prefix where a command was refused memory
+-- replies were written, all; or a proper prefix of them after a failed write, or where a command was refused memory
 abbrev pub Leads : {A : Type 0} → Option (List ℕ) → Option (List ℕ) → Result A RunFault → List ℕ → Type 0
 Leads old new (Ok x) bytes = Appends old new bytes
 Leads old new (Err faults.Write) bytes = AppendsPart old new bytes
-Leads old new (Err faults.Memory) bytes = AppendsFront old new bytes
+Leads old new (Err faults.Memory) bytes = AppendsPart old new bytes
 Leads old new (Err faults.Read) bytes = ⊥
 
 -- a heap of this shape may be refused memory
@@ -80,11 +80,11 @@ MayMakeHeap (Ok (Heap logs mutators epoch commands)) = is_shape (shape_of logs m
 MayMakeHeap _ = ⊥
 
 -- what a fault leaves: a failed write, a proper prefix of the output; out of memory, nothing, or where there is a heap a prefix of the one line that says so,
--- or of the output where a command was refused; a failed read, nothing
+-- or a proper one of the output where a command was refused; a failed read, nothing
 abbrev pub LeavesBehind : RunFault → Option (List ℕ) → Option (List ℕ) → Result Trace ℕ → Type 0
 LeavesBehind faults.Write old new read = (output : List ℕ) × IsOutput read output × AppendsPart old new output
 LeavesBehind faults.Memory old new read =
-    Keeps old new ⊎ (MayMakeHeap read × (AppendsFront old new (reply_text (Refused Memory)) ⊎ ((output : List ℕ) × IsOutput read output × AppendsFront old new output)))
+    Keeps old new ⊎ (MayMakeHeap read × (AppendsFront old new (reply_text (Refused Memory)) ⊎ ((output : List ℕ) × IsOutput read output × AppendsPart old new output)))
 LeavesBehind faults.Read old new read = Keeps old new
 
 -- this is the output for the text

@@ -1,4 +1,4 @@
-use Rattle.std.proofs.Common.{◌≡◌, ◌+◌, [], ◌∷◌, ◌++◌, drop, sym, ap, ◌∙◌, subst, arith, refl}
+use Rattle.std.proofs.Common.{◌≡◌, ◌+◌, [], ◌∷◌, ◌++◌, drop, length-drop, sym, ap, ◌∙◌, subst, arith, refl}
 use Rattle.std.specs.List.{flat_map}
 use Rattle.std.proofs.lemmas.List.{drop_all}
 use Rattle.far_core.specs.state.State.{State}
@@ -8,7 +8,7 @@ use Rattle.far_text.specs.Command.{Command, as_command}
 use Rattle.far_replay.specs.Reply.{Reply, Done, reply_text}
 use Rattle.far_replay.specs.Stream.{Holds}
 use Rattle.far_replay.specs.Turn.{reply_to}
-use Rattle.far_replay.proofs.Answering.{answers_all, led_front, still_between, answered_more, answered_all, printed_more}
+use Rattle.far_replay.proofs.Answering.{answers_all, led_part, still_between, answered_more, answered_all, printed_more}
 use Rattle.far_replay.proofs.running.answer_commands.Goals as goal
 
 pub turn-requires-clause-law : goal.turn-requires-clause-law
@@ -55,7 +55,8 @@ returns-in_default g c =
       known.0 ++ rest.0,
       known.1 ++ rest.1,
       known.2 rest.0 rest.1 rest.2,
-      led_front start (g.W.Write.contents c.loop-at.writer) c.loop-at.replies.waiting c.loop-at.replies.written known.0 rest.0 known.3,
+      led_part start (g.W.Write.contents c.loop-at.writer) c.loop-at.replies.waiting c.loop-at.replies.written known.0 (state_in c.loop-at.book) (drop c.loop-at.at c.args.commands.now) c.loop-at.book.near.core.law
+          (omega (arith, c.loop-at-test.true, c.len-at-end.ensures, length-drop c.loop-at.at c.args.commands.now)) known.3,
     )
 
 pub returns-in-Ok-finish : goal.returns-in-Ok-finish
