@@ -14,7 +14,7 @@ use Rattle.far_core.specs.state.Law.{Law}
 use Rattle.far_core.specs.state.State.{State}
 use Rattle.far_replay.specs.Moment.{Moment, moment_of}
 use Rattle.far_replay.specs.Answers.{Answered, Commanded}
-use Rattle.far_text.specs.Command.{Command, New, Open, Write, Read, Close, Where, Drop, View, Try, Logs, Log, Audit, Mutator, Book}
+use Rattle.far_text.specs.Command.{Command, New, Open, Write, Read, Close, Where, Drop, View, Try, Epoch, Logs, Log, Audit, Mutator, Book}
 use Rattle.far_replay.specs.Objects.{lowest_cell}
 use Rattle.far_text.specs.Written.{WritesBytes}
 use Rattle.far_replay.specs.Reply.{Reply, Done, Logs as Told, Refused, reply_text}
@@ -83,6 +83,7 @@ some_turn s (Mutator m (Where p)) law = some_home (home_of (read_of (s.cell p)))
 some_turn s (Mutator m (Drop p)) law = tt
 some_turn s (Mutator m (View p)) law = tt
 some_turn s (Mutator m (Try p)) law = tt
+some_turn s (Mutator m Epoch) law = tt
 some_turn s (Book Logs) law = some_logs (moment_of s) 0 s.logs (omega (arith, law.shape.two_logs))
 some_turn s (Book (Log l)) law = tt
 some_turn s (Book Audit) law = tt
