@@ -12,6 +12,7 @@ pub mod Joined
 pub mod Keeping
 pub mod Leading
 pub mod LeadingMarks
+pub mod LeadingWalks
 pub mod LiveLists
 pub mod LiveOnce
 pub mod Looks

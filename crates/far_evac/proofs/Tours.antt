@@ -118,13 +118,13 @@ module _ (s : State) (l : ℕ) (ls : List ℕ) (p : ℕ) (ps : List ℕ) (ready 
   left_next = ap (λ live. live ++ live_among t ls) rest_here ∙ ap (λ more. ps ++ more) (left_same ls (rest_there ls (others l ls ready.once) after.lists.1))
 
 -- why an object goes its way
-moves_when : (dropped hot : Bool) (o : Option Place) (place : Place) → cond dropped Drops (cond hot (hot_way o) Goes) ≡ Moves place → (dropped ≡ false) × (o ≡ Some place)
+pub moves_when : (dropped hot : Bool) (o : Option Place) (place : Place) → cond dropped Drops (cond hot (hot_way o) Goes) ≡ Moves place → (dropped ≡ false) × (o ≡ Some place)
 moves_when true hot o place e = absurd cc
 moves_when false true None place e = absurd cc
 moves_when false true (Some to) place e = (refl, cc)
 moves_when false false o place e = absurd cc
 
-goes_when : (dropped hot : Bool) (o : Option Place) → cond dropped Drops (cond hot (hot_way o) Goes) ≡ Goes → dropped ≡ false
+pub goes_when : (dropped hot : Bool) (o : Option Place) → cond dropped Drops (cond hot (hot_way o) Goes) ≡ Goes → dropped ≡ false
 goes_when true hot o e = absurd cc
 goes_when false hot o e = refl
 
