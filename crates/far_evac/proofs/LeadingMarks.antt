@@ -1,26 +1,23 @@
 -- Marking leads by legal events: each mark is one, and where no object lacks EVAC the epoch rises by one more.
-use Rattle.std.proofs.Common.{◌≡◌, ◌≢◌, ℕ, zero, suc, ◌+◌, ◌*◌, ◌^◌, ◌%◌, ◌<◌, ◌==◌, ◌||◌, ◌&&◌, Bool, true, false, cond, not, eqb, nat_lt, Option, Some, None, List, [], ◌∷◌, ◌++◌, filter, bit_or, inl, inr, arith, ap, sym, refl, ◌∙◌, subst}
+use Rattle.std.proofs.Common.{◌≡◌, ◌≢◌, ℕ, ◌+◌, ◌*◌, ◌^◌, ◌%◌, ◌<◌, ◌==◌, ◌||◌, ◌&&◌, Bool, true, false, cond, not, eqb, Option, Some, None, List, [], ◌∷◌, ◌++◌, filter, bit_or, inl, inr, arith, ap, sym, refl, ◌∙◌, subst}
 use Rattle.std.specs.Prelude.{Contains, fold}
 use Rattle.std.specs.List.{AllByRecursion}
 use Rattle.std.proofs.lemmas.Bool.{cases_eq, cases_lt, cond_both, eq-eqb, false_from_ne_true, false≢true, le-ltb, lt-ltb, ne_eqb, true≢false}
-use Rattle.std.proofs.lemmas.Bool.Decides.{nat_tests}
 use Rattle.far_word.specs.declared.mark.Mark.TheVariants.{Evac}
 use Rattle.far_word.specs.declared.mark.Marks.{Marks}
 use Rattle.far_word.specs.declared.pointer.Place.{Place}
 use Rattle.far_word.specs.declared.pointer.PtrWord.{PtrWord}
 use Rattle.far_word.specs.declared.pointer.PtrWord.TheVariants.{Free, Near, Far}
-use Rattle.far_word.specs.declared.sizes.TheConstants.{CELLS, EPOCH_END, MOST_LOGS}
+use Rattle.far_word.specs.declared.sizes.TheConstants.{CELLS, EPOCH_END}
 use Rattle.far_word.specs.Mark.{marks_with, position}
 use Rattle.far_word.specs.Pointer.{read_of}
 use Rattle.far_word.proofs.PointerLaws.{with_mark_read}
 use Rattle.far_log.specs.declared.span.Span.{Span}
 use Rattle.far_log.proofs.Members.{none_in, split}
 use Rattle.far_core.specs.declared.event.Event.TheVariants.{Advance, Mark}
-use Rattle.far_core.specs.declared.event.Kind.{Kind}
 use Rattle.far_core.specs.declared.event.Kind.TheVariants as kinds
 use Rattle.far_core.specs.events.Advance.{MayAdvance, is_among}
 use Rattle.far_core.specs.events.Mark.{IsSealedNear, is_sealed}
-use Rattle.far_core.specs.events.Step.{after}
 use Rattle.far_core.specs.laws.Observed.{span_for}
 use Rattle.far_core.specs.state.Law.{Law}
 use Rattle.far_core.specs.state.Spans.{is_live, names_place, spans_of}
@@ -38,25 +35,23 @@ use Rattle.far_evac.specs.Choosing.{is_spent}
 use Rattle.far_evac.specs.Laws.{IsMarked, but_evac}
 use Rattle.far_evac.specs.Leading.{Leads, MarkingLeads}
 use Rattle.far_evac.specs.Live.{lacking, live_among, live_in, pointers_of}
-use Rattle.far_evac.specs.Marking.{after_marking, leaves_some, marked_core, newly_marked}
+use Rattle.far_evac.specs.Marking.{leaves_some, marked_core, newly_marked}
 use Rattle.far_evac.specs.Moment.{Moment}
 use Rattle.far_evac.specs.MomentLaw.{MomentLaw, has_risen, is_idle}
 use Rattle.far_evac.specs.RoundSteps.{advanced, among}
-use Rattle.far_evac.proofs.Leading.{all_lives, in_heap, or_here, or_there, reached_each}
+use Rattle.far_evac.proofs.Chosen.{sealed_used}
+use Rattle.far_evac.proofs.Leading.{all_lives, in_heap, reached_each}
 use Rattle.far_evac.proofs.LiveOnce.{LivesIn, near_at}
 use Rattle.far_evac.proofs.Marks.{all_filter, all_take, is_marked}
-use Rattle.far_evac.proofs.Readiness.{round_is_event}
+use Rattle.far_evac.proofs.Readiness.{or_left, or_right, round_is_event}
 
 -- ---- marks
 abbrev IsSealedOf : State → ℕ → Type 0
 IsSealedOf s p = (p < CELLS * s.mutators) × IsSealedNear s p
 
-used : (kind : Kind) → kind ≡ kinds.Sealed → kind ≢ kinds.Free
-used kind shut free = absurd cc
-
 -- a sealed log is one of the heap's
 pub sealed_log : (s : State) → Law s → (l : ℕ) → s.kind l ≡ kinds.Sealed → l < s.logs
-sealed_log s law l shut = law.logs.log_range l (used (s.kind l) shut)
+sealed_log s law l shut = law.logs.log_range l (sealed_used (s.kind l) shut)
 
 sealed_near : (s : State) → Law s → (l p : ℕ) → s.kind l ≡ kinds.Sealed → LivesIn s l p → IsSealedOf s p
 sealed_near s law l p shut h =
@@ -81,9 +76,9 @@ listed_by : (P : ℕ → Type 0) (f : Span → Bool) (xs : List Span) (x : Span)
 listed_by P f [] x all member h = absurd (none_in x member)
 listed_by P f (y ∷ ys) x all member h = elim (split x y ys member) [
   | inl e ↦ (
-    let first : AllByRecursion P (y.p ∷ pointers_of (filter f ys)) = subst (λ b. AllByRecursion P (pointers_of (cond b (y ∷ filter f ys) (filter f ys)))) (ap f e ∙ h) all in
-    subst (λ (z : Span). P z.p) e first.0
-  )
+      let first : AllByRecursion P (y.p ∷ pointers_of (filter f ys)) = subst (λ b. AllByRecursion P (pointers_of (cond b (y ∷ filter f ys) (filter f ys)))) (ap f e ∙ h) all in
+      subst (λ (z : Span). P z.p) e first.0
+      )
   | inr more ↦ listed_by P f ys x (cond_both (f y) (y ∷ filter f ys) (filter f ys) (λ zs. AllByRecursion P (pointers_of zs) → AllByRecursion P (pointers_of (filter f ys))) (λ _ g. g.1) (λ _ g. g) all) more h
 ]
 
@@ -119,8 +114,8 @@ bits_of (l ∷ ls) = bit_or (bits_of ls) (1 * 2 ^ l % 2 ^ 64)
 bits_have : (ls : List ℕ) → ((l : ℕ) → among ls l ≡ true → l < 64) → (k : ℕ) → has record { word = bits_of ls } k ≡ among ls k
 bits_have [] few k = has_none k
 bits_have (l ∷ ls) few k =
-    has_more (bits_of ls) l k (few l (or_here (eqb l l) (among ls l) (eq-eqb l l refl)))
-    ∙ ap (λ b. (k == l) || b) (bits_have ls (λ j member. few j (or_there (eqb j l) (among ls j) member)) k)
+    has_more (bits_of ls) l k (few l (or_left (eqb l l) (among ls l) (eq-eqb l l refl)))
+    ∙ ap (λ b. (k == l) || b) (bits_have ls (λ j member. few j (or_right (eqb j l) (among ls j) member)) k)
 
 bits_are : (ls : List ℕ) → ((l : ℕ) → among ls l ≡ true → l < 64) → (k : ℕ) → is_among (bits_of ls) k ≡ among ls k
 unfolding has
@@ -130,7 +125,7 @@ bits_are ls few k = elim (cases_lt k 64) [
 ]
 
 -- ---- a call that marks
-names_but : (o : Option PtrWord) (l at : ℕ) → names_place o l at ≡ names_place (but_evac o) l at
+pub names_but : (o : Option PtrWord) (l at : ℕ) → names_place o l at ≡ names_place (but_evac o) l at
 names_but None l at = refl
 names_but (Some Free) l at = refl
 names_but (Some (Near len ds place m)) l at = refl

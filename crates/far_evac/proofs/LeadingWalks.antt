@@ -1,19 +1,17 @@
 -- A walk leads by legal events: each object that it deals with is moved, sent far or retired by one call's, and each log that it gives back by one.
-use Rattle.std.proofs.Common.{◌≡◌, ◌≢◌, ℕ, zero, suc, ◌+◌, ◌*◌, ◌/◌, ◌<◌, ◌≤◌, ◌==◌, ◌||◌, ◌&&◌, Bool, true, false, cond, not, eqb, Option, Some, None, List, [], ◌∷◌, ◌++◌, filter, inl, inr, arith, ap, sym, refl, ◌∙◌, subst}
+use Rattle.std.proofs.Common.{◌≡◌, ◌≢◌, ℕ, zero, suc, ◌*◌, ◌/◌, ◌<◌, ◌≤◌, ◌==◌, ◌||◌, ◌&&◌, Bool, true, false, cond, not, eqb, Option, Some, None, List, [], ◌∷◌, ◌++◌, inl, inr, arith, ap, sym, refl, ◌∙◌, subst}
 use Rattle.std.specs.Cmp.{nat_eq_equiv}
 use Rattle.std.specs.List.{AllByRecursion, IsDistinct}
+use Rattle.std.proofs.Math.Bool.{or-false}
 use Rattle.std.proofs.lemmas.Bool.{cases_eq, cond_both, eq-eqb, eqb-false, eqb-true, false≢true, ne_eqb, true≢false}
 use Rattle.std.proofs.lemmas.List.Folds.{list_any-append}
 use Rattle.std.proofs.lemmas.Map.Keys.{IsDistinct-push}
 use Rattle.std.proofs.lemmas.Map.Views.{any-filter_same}
-use Rattle.far_word.specs.declared.mark.Marks.{Marks}
 use Rattle.far_word.specs.declared.pointer.Place.{Place}
-use Rattle.far_word.specs.declared.pointer.PtrWord.TheVariants.{Near}
 use Rattle.far_word.specs.declared.sizes.TheConstants.{CELLS, LOG_WORDS}
 use Rattle.far_word.specs.Pointer.{read_of}
 use Rattle.far_word.specs.Sizes.{size_of}
 use Rattle.far_core.specs.declared.event.Event.TheVariants.{Get}
-use Rattle.far_core.specs.declared.event.Kind.{Kind}
 use Rattle.far_core.specs.declared.event.Kind.TheVariants as kinds
 use Rattle.far_core.specs.events.Get.{IsVacant}
 use Rattle.far_core.specs.events.Legal.{IsNext}
@@ -22,12 +20,11 @@ use Rattle.far_core.specs.events.Naming.{is_dropped}
 use Rattle.far_core.specs.laws.Rooms.{IsRoom, RoomIs}
 use Rattle.far_core.specs.state.Law.{Law}
 use Rattle.far_core.specs.state.Room.{room}
-use Rattle.far_core.specs.state.Spans.{names_place}
 use Rattle.far_core.specs.state.State.{State}
 use Rattle.far_core.proofs.Put.{put_other, put_same}
 use Rattle.far_core.proofs.RoomLaws.{room_right}
 use Rattle.far_book.specs.Quiet.{is_quiet}
-use Rattle.far_book.specs.book.Effects.{evicted, moved, order_after, retired, with_free_cell}
+use Rattle.far_book.specs.book.Effects.{evicted, moved, order_after, with_free_cell}
 use Rattle.far_book.specs.book.Laws.{IsMoved}
 use Rattle.far_book.specs.book.Reached.{Reached}
 use Rattle.far_book.specs.book.Releasing.{order_without, released}
@@ -41,19 +38,19 @@ use Rattle.far_book.proofs.region.SealedKept.{sealed_logs_stay}
 use Rattle.far_evac.specs.declared.phase.Phase.{Phase}
 use Rattle.far_evac.specs.declared.phase.Phase.TheVariants.{Evacuating, Idle}
 use Rattle.far_evac.specs.Dealings.{BeginsLive}
-use Rattle.far_evac.specs.Leading.{Leads, WalkLeads, WalkingLeads}
+use Rattle.far_evac.specs.Leading.{Leads, WalkingLeads}
 use Rattle.far_evac.specs.Live.{is_empty, live_among, live_in}
 use Rattle.far_evac.specs.Moment.{Moment, Tally}
 use Rattle.far_evac.specs.MomentLaw.{MomentLaw, has_risen, is_idle}
 use Rattle.far_evac.specs.Ready.{IsHeld, Ready}
 use Rattle.far_evac.specs.RoundSteps.{among}
 use Rattle.far_evac.specs.Walk.{Drops, Goes, Moves, Walked, Way, begun, dealt_first, dealt_so, ended, freed, hot_way, is_done, left, passed, settled, walked, way_of}
-use Rattle.far_evac.proofs.Leading.{in_heap, or_there, reached_none}
+use Rattle.far_evac.proofs.Leading.{in_heap, reached_none}
 use Rattle.far_evac.proofs.LeadingMarks.{listed_in, sealed_log}
 use Rattle.far_evac.proofs.LiveOnce.{NearAt, first_named, near_at}
 use Rattle.far_evac.proofs.Marks.{all_filter}
 use Rattle.far_evac.proofs.Orders.{passed_rests}
-use Rattle.far_evac.proofs.Readiness.{risen_is_ready}
+use Rattle.far_evac.proofs.Readiness.{or_right, risen_is_ready}
 use Rattle.far_evac.proofs.Tours.{core_so, first_live, goes_when, leaves_so, moves_when, ready_released, stand}
 
 -- ---- lists
@@ -67,10 +64,6 @@ of_among P (k ∷ ks) all l member = elim (cases_eq l k) [
   | inl e ↦ subst P (sym e) all.0
   | inr ne ↦ of_among P ks all.1 l (ap (λ b. b || among ks l) (sym (ne_eqb l k ne)) ∙ member)
 ]
-
-or_false : (b : Bool) → (b || false) ≡ b
-or_false true = refl
-or_false false = refl
 
 once_without : (l : ℕ) (xs : List ℕ) → IsDistinct eqb xs → IsDistinct eqb (order_without l xs)
 unfolding IsDistinct
@@ -155,8 +148,8 @@ module _ (s t : State) (law : Law s) (order : List ℕ) (has_sealed : (l : ℕ) 
   sealed_more other l = elim (cases_eq l to.log) [
     | inl e ↦ rw (e, was_free other, is.opens) (ap (λ b. b || false) (ne_eqb to.log s.current other))
     | inr ne ↦ elim (cases_eq l s.current) [
-      | inl e ↦ or_there (is_sealed (s.kind l)) (eqb l s.current || false) (ap (λ b. b || false) (eq-eqb l s.current e)) ∙ ap is_sealed (sym (is.seals l ne (ap s.kind e ∙ law.logs.is_open)))
-      | inr ne2 ↦ ap (λ b. is_sealed (s.kind l) || (b || false)) (ne_eqb l s.current ne2) ∙ or_false (is_sealed (s.kind l)) ∙ ap is_sealed (same_kind l ne ne2)
+      | inl e ↦ or_right (is_sealed (s.kind l)) (eqb l s.current || false) (ap (λ b. b || false) (eq-eqb l s.current e)) ∙ ap is_sealed (sym (is.seals l ne (ap s.kind e ∙ law.logs.is_open)))
+      | inr ne2 ↦ ap (λ b. is_sealed (s.kind l) || (b || false)) (ne_eqb l s.current ne2) ∙ or-false (is_sealed (s.kind l)) ∙ ap is_sealed (same_kind l ne ne2)
     ]
   ]
 
@@ -186,7 +179,7 @@ module _ (m : Moment) (s : State) (order : List ℕ) (phase : Phase) (l : ℕ) (
   seen = h.clear (p / CELLS) (omega (arith, pointer))
 
   quiet : is_quiet s.round s.clear p at_home.place at_home.marks ≡ true
-  quiet = or_there at_home.marks.moved (at_home.marks.evac && s.round at_home.place.log && s.clear (p / CELLS)) (rw (marked, in_round, seen) refl)
+  quiet = or_right at_home.marks.moved (at_home.marks.evac && s.round at_home.place.log && s.clear (p / CELLS)) (rw (marked, in_round, seen) refl)
 
   stay : SealedLogsStay s p at_home.len at_home.ds
   stay = sealed_logs_stay s p at_home.len at_home.ds (own_law s h.law)
