@@ -84,14 +84,14 @@ module _ (s : State) (l : ℕ) where
   not_there k p h other = each_map (λ q g e. other (names_once (read_of (s.cell p)) l k g.0 h.0 (subst (λ x. names_place (read_of (s.cell x)) l g.0 ≡ true) e g.1) h.1).0) (live_in s l) live_named
 
   -- ---- of two spans one stands behind the other
-  behind : (word : ℕ → ℕ) (tail at fuel : ℕ) → AllByRecursion (λ (x : Span). at ≤ x.at) (spans_from word tail at fuel)
+  pub behind : (word : ℕ → ℕ) (tail at fuel : ℕ) → AllByRecursion (λ (x : Span). at ≤ x.at) (spans_from word tail at fuel)
   behind word tail at zero = tt
   behind word tail at (suc fuel) = cond_both (nat_lt at tail) (span_at word at ∷ spans_from word tail (at + size_of (head_len (word at))) fuel) [] (λ (xs : List Span). AllByRecursion (λ (x : Span). at ≤ x.at) xs)
       (λ _. (omega arith, each_map (λ (x : Span) (h : at + size_of (head_len (word at)) ≤ x.at). omega (arith, h)) (spans_from word tail (at + size_of (head_len (word at))) fuel) (behind word tail (at + size_of (head_len (word at))) fuel)))
       (λ _. tt)
 
   -- p, which stands before some spans, is named by none of them
-  apart : (p at : ℕ) → names_place (read_of (s.cell p)) l at ≡ true → (spans : List Span) → AllByRecursion (λ (x : Span). at < x.at) spans →
+  pub apart : (p at : ℕ) → names_place (read_of (s.cell p)) l at ≡ true → (spans : List Span) → AllByRecursion (λ (x : Span). at < x.at) spans →
       AllByRecursion (λ q. q ≢ p) (pointers_of (filter (is_live s l) spans))
   apart p at h [] past = tt
   apart p at h (x ∷ xs) past = cond_both (is_live s l x) (x ∷ filter (is_live s l) xs) (filter (is_live s l) xs) (λ (ys : List Span). AllByRecursion (λ q. q ≢ p) (pointers_of ys))

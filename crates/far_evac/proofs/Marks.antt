@@ -29,14 +29,14 @@ use Rattle.far_evac.proofs.LiveOnce.{LivesIn, each_map, live_named, near_at}
 
 -- ---- one cell
 -- a near word of 64 bits
-abbrev IsNearWord : ℕ → Type 0
+abbrev pub IsNearWord : ℕ → Type 0
 IsNearWord w = (w < 2 ^ 64) × ((len ds : ℕ) × (place : Place) × (marks : Marks) × (read_of w ≡ Some (Near len ds place marks)))
 
 -- from one word to another EVAC alone changes, if anything: to this value
 pub record Like (to : Bool) (old new : ℕ) : Type 0 where
-  same : but_evac (read_of new) ≡ but_evac (read_of old)
-  still : has_evac (read_of old) ≡ to → has_evac (read_of new) ≡ to
-  near : IsNearWord old → IsNearWord new
+  pub same : but_evac (read_of new) ≡ but_evac (read_of old)
+  pub still : has_evac (read_of old) ≡ to → has_evac (read_of new) ≡ to
+  pub near : IsNearWord old → IsNearWord new
 
 like_same : (to : Bool) (w : ℕ) → Like to w w
 like_same to w = record { same = refl; still = λ h. h; near = λ h. h }
@@ -45,13 +45,13 @@ like_more : (to : Bool) (u v w : ℕ) → Like to u v → Like to v w → Like t
 like_more to u v w f g = record { same = g.same ∙ f.same; still = λ h. g.still (f.still h); near = λ h. g.near (f.near h) }
 
 pub record Sets (to : Bool) (old new : ℕ) : Type 0 where
-  like : Like to old new
-  now : has_evac (read_of new) ≡ to
+  pub like : Like to old new
+  pub now : has_evac (read_of new) ≡ to
 
 -- ---- one cell after the other
 module _ (to : Bool) (step : State → ℕ → State) (change : ℕ → ℕ) (cell : (s : State) (p : ℕ) → (step s p).cell ≡ put s.cell p (change (s.cell p)))
     (sets : (w : ℕ) → IsNearWord w → Sets to w (change w)) where
-  one : (s : State) (p q : ℕ) → IsNearWord (s.cell p) → Like to (s.cell q) ((step s p).cell q)
+  pub one : (s : State) (p q : ℕ) → IsNearWord (s.cell p) → Like to (s.cell q) ((step s p).cell q)
   one s p q near = subst (λ f. Like to (s.cell q) (f q)) (sym (cell s p))
       (put_both (λ w. Like to (s.cell q) w) s.cell p (change (s.cell p)) q
       (λ e. subst (λ x. Like to (s.cell x) (change (s.cell p))) (sym e) (sets (s.cell p) near).like) (λ _. like_same to (s.cell q)))
@@ -59,10 +59,10 @@ module _ (to : Bool) (step : State → ℕ → State) (change : ℕ → ℕ) (ce
   now_set : (s : State) (p : ℕ) → IsNearWord (s.cell p) → has_evac (read_of ((step s p).cell p)) ≡ to
   now_set s p near = ap (λ f. has_evac (read_of (f p))) (cell s p) ∙ ap (λ w. has_evac (read_of w)) (put_same s.cell p (change (s.cell p)) p refl) ∙ (sets (s.cell p) near).now
 
-  abbrev AllNear : State → List ℕ → Type 0
+  abbrev pub AllNear : State → List ℕ → Type 0
   AllNear s ps = AllByRecursion (λ p. IsNearWord (s.cell p)) ps
 
-  all_near : (s : State) (p : ℕ) (ps : List ℕ) → IsNearWord (s.cell p) → AllNear s ps → AllNear (step s p) ps
+  pub all_near : (s : State) (p : ℕ) (ps : List ℕ) → IsNearWord (s.cell p) → AllNear s ps → AllNear (step s p) ps
   all_near s p ps near h = each_map (λ q there. (one s p q near).near there) ps h
 
   pub all_like : (ps : List ℕ) (s : State) → AllNear s ps → (q : ℕ) → Like to (s.cell q) ((fold step s ps).cell q)
@@ -79,7 +79,7 @@ module _ (to : Bool) (step : State → ℕ → State) (change : ℕ → ℕ) (ce
   others_stay (p ∷ ps) s q apart = others_stay ps (step s p) q apart.1 ∙ ap (λ f. f q) (cell s p) ∙ put_other s.cell p (change (s.cell p)) q (λ e. apart.0 (sym e))
 
 -- ---- the two changes
-mark_sets : (w : ℕ) → IsNearWord w → Sets true w (bit_or w (2 ^ position Evac))
+pub mark_sets : (w : ℕ) → IsNearWord w → Sets true w (bit_or w (2 ^ position Evac))
 mark_sets w (fits, (len, ds, place, marks, near)) =
     let new : read_of (bit_or w (2 ^ position Evac)) ≡ Some (Near len ds place (marks_with Evac marks)) = with_mark_read Evac w (Near len ds place marks) fits near refl in
     record {
@@ -97,7 +97,7 @@ clear_fits w v fits e =
     let word = ap evac_cleared (sym says.1) ∙ without_evac_word v says.0 in
     subst (λ x. x < 2 ^ 64) (sym word) (word_fits (without_evac v) (IsPtr-without_evac v says.0))
 
-clear_sets : (w : ℕ) → IsNearWord w → Sets false w (evac_cleared w)
+pub clear_sets : (w : ℕ) → IsNearWord w → Sets false w (evac_cleared w)
 clear_sets w (fits, (len, ds, place, marks, near)) =
     let bare : Marks = record { hot = marks.hot; evac = false; moved = marks.moved; dropped = marks.dropped } in
     let new : read_of (evac_cleared w) ≡ Some (Near len ds place bare) = without_evac_read w (Near len ds place marks) fits near in
@@ -112,7 +112,7 @@ clear_sets w (fits, (len, ds, place, marks, near)) =
 
 -- ---- live objects
 module _ (s : State) (fits : (p : ℕ) → s.cell p < 2 ^ 64) where
-  near_word : (l p : ℕ) → LivesIn s l p → IsNearWord (s.cell p)
+  pub near_word : (l p : ℕ) → LivesIn s l p → IsNearWord (s.cell p)
   near_word l p h = let x = near_at (read_of (s.cell p)) l h.0 h.1 in (fits p, (x.len, x.ds, x.place, x.marks, x.near))
 
   all_append : (xs ys : List ℕ) → AllByRecursion (λ p. IsNearWord (s.cell p)) xs → AllByRecursion (λ p. IsNearWord (s.cell p)) ys → AllByRecursion (λ p. IsNearWord (s.cell p)) (xs ++ ys)

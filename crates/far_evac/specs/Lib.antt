@@ -1,11 +1,13 @@
 pub mod AnyHand
 pub mod Census
 pub mod Choosing
+pub mod Cursor
 pub mod Dealings
 pub mod EvacOf
 pub mod Failing
 pub mod Laws
 pub mod Leading
+pub mod Leaving
 pub mod Live
 pub mod Marking
 pub mod Moment

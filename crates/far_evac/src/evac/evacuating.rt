@@ -1,19 +1,39 @@
 //! How the objects of the chosen logs leave, and the logs are given back.
 
-ghost use Rattle.std.specs.Prelude.{◌≡◌, ◌≢◌, ◌⊎◌, ◌<◌, ℕ, false, IfOk, IfErr};
+ghost use Rattle.std.specs.Prelude.{◌≡◌, ◌≢◌, ◌⊎◌, ◌<◌, ◌≤◌, ◌+◌, ◌*◌, ◌^◌, ◌∷◌, ℕ, List, [], false, true, cond, length, IfOk, IfErr, IfSome, IfNone};
 ghost use Rattle.far_device.specs.Faults.{CountsFault, SpendsFault};
 ghost use Rattle.far_word.specs.declared.refused.Refused.TheVariants.{Device as Failed, Memory, Phase as WrongPhase};
-ghost use Rattle.far_evac.specs.AnyHand.{Evacuates, StopsAt};
+ghost use Rattle.far_word.specs.declared.sizes.TheConstants.{CELLS};
+ghost use Rattle.far_word.specs.Pointer.{read_of};
+ghost use Rattle.far_core.specs.events.Naming.{is_dropped};
+ghost use Rattle.far_book.specs.Finds.{Finds};
+ghost use Rattle.far_book.specs.book.Dealing.{IsQuietNear, has_evac, is_failure};
+ghost use Rattle.far_book.specs.book.Effects.{evicted};
+ghost use Rattle.far_book.specs.book.Releasing.{order_without, released};
+ghost use Rattle.far_evac.specs.AnyHand.{Evacuates, Knows, KnowsMoment, KnowsWalked, StopsAt, Walks};
 ghost use Rattle.far_evac.specs.EvacOf.{moment};
 ghost use Rattle.far_evac.specs.Failing.{fails};
-ghost use Rattle.far_evac.specs.Moment.{nothing, progress_of, tally_of};
-ghost use Rattle.far_evac.specs.Walk.{ended, is_done, walked};
+ghost use Rattle.far_evac.specs.Leaving.{GoesAway, LeavesAs, LeavesBy, counted_as, goes_near, near_fate, standing};
+ghost use Rattle.far_evac.specs.Live.{is_empty, live_in};
+ghost use Rattle.far_evac.specs.Moment.{nothing, objects_in, progress_of, tally_of};
+ghost use Rattle.far_evac.specs.Walk.{Walked, dealt_as, ended, is_done, left, settled, walked};
+ghost use Rattle.far_evac.specs.declared.evac.evacuating.Fate.TheVariants as fates;
 ghost use Rattle.far_evac.specs.declared.phase.Phase.TheVariants as phase;
 
 use crate::answers::{EvacFault, Progress};
 use crate::evac::Evac;
-use far_book::Near;
+use crate::phase::Phase;
+use far_book::{Book, Near};
 use far_device::Device;
+use far_word::{Place, PtrWord, Refused};
+
+// What became of an object that was to leave its log.
+#[derive(Clone, Copy)]
+enum Fate {
+    Moved,
+    Far,
+    Dropped,
+}
 
 impl<N: Near + Drop, D: Device + Drop> Evac<N, D> {
     /// Deals with the first n live objects of the chosen logs that are still held, or with all, in order: one that its owner has
@@ -40,6 +60,264 @@ impl<N: Near + Drop, D: Device + Drop> Evac<N, D> {
         ensures spent { SpendsFault (fails result) (D.fails_at_most self.old.book.device) (D.fails_at_most self.new.book.device) }
         ensures honest { D.honest self.new.book.device ≡ D.honest self.old.book.device }
     {
-        unreachable!()
+        let mut progress = Progress {
+            moved: 0,
+            far: 0,
+            dropped: 0,
+            freed: 0,
+            done: false,
+        };
+        if self.round.phase != Phase::Evacuating {
+            return Err(EvacFault {
+                so_far: progress,
+                why: Refused::Phase,
+            });
+        }
+        match self.walk(n, &mut progress) {
+            Ok(done) => {
+                progress.done = done;
+                Ok(progress)
+            }
+            Err(why) => Err(EvacFault {
+                so_far: progress,
+                why,
+            }),
+        }
+    }
+
+    // Deals with n objects, or all, and counts them; whether no log is held any more.
+    fn walk(&mut self, n: u64, progress: &mut Progress) -> Result<bool, Refused>
+        requires phase { self.old.phase ≡ phase.Evacuating }
+        requires begun { progress.old ≡ progress_of nothing false }
+        ensures walks { IfOk result (λ _. (k : ℕ) × Walks (moment N.view self.old) n k (standing N.view self.new progress.new)) }
+        ensures exact { N.still → IfOk result (λ _. standing N.view self.new progress.new ≡ walked (moment N.view self.old) n) }
+        ensures ends { IfOk result (λ done. (moment N.view self.new ≡ ended (standing N.view self.new progress.new)) × (done ≡ is_done (standing N.view self.new progress.new))) }
+        ensures stops { IfErr result (λ _. StopsAt (moment N.view self.old) n (moment N.view self.new) (tally_of progress.new)) }
+        ensures stops_exact { N.still → IfErr result (λ _. (k : ℕ) × (k < n)
+            × (moment N.view self.new ≡ (walked (moment N.view self.old) k).moment) × (tally_of progress.new ≡ (walked (moment N.view self.old) k).tally)) }
+        ensures why { IfErr result (λ why. (why ≡ Memory) ⊎ (why ≡ Failed)) }
+        ensures done { progress.new.done ≡ false }
+        ensures counted { CountsFault (is_failure result) (D.faults self.old.book.device) (D.faults self.new.book.device) }
+        ensures spent { SpendsFault (is_failure result) (D.fails_at_most self.old.book.device) (D.fails_at_most self.new.book.device) }
+        ensures honest { D.honest self.new.book.device ≡ D.honest self.old.book.device }
+    {
+        let _held = self.held().len();
+        let mut first = self.settle(progress);
+        for _ in 0..n {
+            let Some(pointer) = first else {
+                return Ok(true);
+            };
+            if let Err(why) = self.deal(pointer, progress) {
+                return Err(why);
+            }
+            first = self.settle(progress);
+        }
+        Ok(first.is_none())
+    }
+
+    // Gives back the logs in front without live objects, and counts them; the first live object that is left, or none, and then the
+    // round is over.
+    fn settle(&mut self, progress: &mut Progress) -> Option<u16>
+        requires phase { self.old.phase ≡ phase.Evacuating }
+        requires room { progress.old.freed + length self.old.held < 2 ^ 64 }
+        ensures known { KnowsWalked (settled (standing N.view self.old progress.old)) (standing N.view self.new progress.new) }
+        ensures exact { N.still → standing N.view self.new progress.new ≡ settled (standing N.view self.old progress.old) }
+        ensures ends { self.new.phase ≡ cond (is_empty self.new.held) phase.Idle phase.Evacuating }
+        ensures first { IfSome result (λ p. (rest : List ℕ) × (left (standing N.view self.new progress.new) ≡ p ∷ rest)) }
+        ensures none { IfNone result (self.new.held ≡ []) }
+        ensures freed { progress.new.freed + length self.new.held ≡ progress.old.freed + length self.old.held }
+        ensures done { progress.new.done ≡ progress.old.done }
+        ensures device { self.new.book.device ≡ self.old.book.device }
+    {
+        self.keeps_law();
+        while let Some(log) = self.front() {
+            if let Some(pointer) = self.first_in(log) {
+                return Some(pointer);
+            }
+            self.give_back(log);
+            progress.freed += 1;
+        }
+        None
+    }
+
+    // The logs that are held.
+    fn held(&self) -> &[u8]
+        ensures { result.now ≡ self.now.held }
+    {
+        let chosen = self.round.chosen.as_slice();
+        match self.round.phase {
+            Phase::Idle => &chosen[..0],
+            Phase::Marking | Phase::Waiting => chosen,
+            Phase::Evacuating => &chosen[self.round.index..],
+        }
+    }
+
+    // The first of them.
+    fn front(&self) -> Option<u8>
+        ensures some { IfSome result (λ log. (logs : List ℕ) × (self.now.held ≡ log ∷ logs)) }
+        ensures none { IfNone result (self.now.held ≡ []) }
+    {
+        self.held().first().copied()
+    }
+
+    // The first live object of the log in front, where the walk stands then; none, where no object lives there.
+    fn first_in(&mut self, log: u8) -> Option<u16>
+        requires phase { self.old.phase ≡ phase.Evacuating }
+        requires front { (logs : List ℕ) × (self.old.held ≡ log ∷ logs) }
+        ensures known { KnowsMoment (moment N.view self.old) (moment N.view self.new) }
+        ensures exact { N.still → moment N.view self.new ≡ moment N.view self.old }
+        ensures first { IfSome result (λ p. (rest : List ℕ) × (live_in (N.view self.old.book.near) log ≡ p ∷ rest)) }
+        ensures none { IfNone result (live_in (N.view self.old.book.near) log ≡ []) }
+        ensures device { self.new.book.device ≡ self.old.book.device }
+    {
+        self.book.keeps_law();
+        let Some(span) = self.book.next_live(log, self.round.at) else {
+            return None;
+        };
+        self.round.at = span.at;
+        Some(span.p)
+    }
+
+    // Gives the log in front back, where no object lives; after the last the round is over.
+    fn give_back(&mut self, log: u8)
+        requires phase { self.old.phase ≡ phase.Evacuating }
+        requires front { (logs : List ℕ) × (self.old.held ≡ log ∷ logs) }
+        requires none { live_in (N.view self.old.book.near) log ≡ [] }
+        ensures core { Knows (released (N.view self.old.book.near) log) (N.view self.new.book.near) }
+        ensures exact { N.still → N.view self.new.book.near ≡ released (N.view self.old.book.near) log }
+        ensures order { self.new.book.order ≡ order_without log self.old.book.order }
+        ensures held { self.old.held ≡ log ∷ self.new.held }
+        ensures ends { self.new.phase ≡ cond (is_empty self.new.held) phase.Idle phase.Evacuating }
+        ensures device { self.new.book.device ≡ self.old.book.device }
+    {
+        self.book.keeps_law();
+        self.book.release(log);
+        self.book.keeps_law();
+        self.round.index += 1;
+        self.round.at = 0;
+        if self.round.index == self.round.chosen.len() {
+            self.round.phase = Phase::Idle;
+        }
+    }
+
+    // Deals with the first live object that is left, and counts it. At a refusal it lies as before.
+    fn deal(&mut self, pointer: u16, progress: &mut Progress) -> Result<(), Refused>
+        requires phase { self.old.phase ≡ phase.Evacuating }
+        requires first { (rest : List ℕ) × (left (standing N.view self.old progress.old) ≡ pointer ∷ rest) }
+        requires room { objects_in (tally_of progress.old) + 1 < 2 ^ 64 }
+        ensures dealt { IfOk result (λ _. (word : ℕ) × Finds ((N.view self.old.book.near).cell pointer) word
+            × KnowsWalked (dealt_as (standing N.view self.old progress.old) pointer (read_of word)) (standing N.view self.new progress.new)) }
+        ensures exact { N.still → IfOk result (λ _. standing N.view self.new progress.new
+            ≡ dealt_as (standing N.view self.old progress.old) pointer (read_of ((N.view self.old.book.near).cell pointer))) }
+        ensures kept { IfErr result (λ _. KnowsMoment (moment N.view self.old) (moment N.view self.new)) }
+        ensures same { N.still → IfErr result (λ _. moment N.view self.new ≡ moment N.view self.old) }
+        ensures uncounted { IfErr result (λ _. progress.new ≡ progress.old) }
+        ensures round { (self.new.phase ≡ self.old.phase) × (self.new.held ≡ self.old.held) }
+        ensures rest { (progress.new.freed ≡ progress.old.freed) × (progress.new.done ≡ progress.old.done) }
+        ensures why { IfErr result (λ why. (why ≡ Memory) ⊎ (why ≡ Failed)) }
+        ensures counted { CountsFault (is_failure result) (D.faults self.old.book.device) (D.faults self.new.book.device) }
+        ensures spent { SpendsFault (is_failure result) (D.fails_at_most self.old.book.device) (D.fails_at_most self.new.book.device) }
+        ensures honest { D.honest self.new.book.device ≡ D.honest self.old.book.device }
+    {
+        self.keeps_law();
+        match send_off(&mut self.book, pointer) {
+            Ok(fate) => {
+                count(progress, fate);
+                Ok(())
+            }
+            Err(why) => Err(why),
+        }
+    }
+}
+
+// Counts an object.
+fn count(progress: &mut Progress, fate: Fate)
+    requires room { objects_in (tally_of progress.old) + 1 < 2 ^ 64 }
+    ensures { progress.new ≡ progress_of (counted_as (tally_of progress.old) fate) progress.old.done }
+{
+    match fate {
+        Fate::Moved => progress.moved += 1,
+        Fate::Far => progress.far += 1,
+        Fate::Dropped => progress.dropped += 1,
+    }
+}
+
+// An object leaves its log as its cell says: one that its owner has dropped is retired; a hot one goes to another log, or far where no room
+// is; any other goes far. At a refusal it lies as before.
+fn send_off<N: Near + Drop, D: Device + Drop>(
+    book: &mut Book<N, D>,
+    pointer: u16,
+) -> Result<Fate, Refused>
+    requires pointer { pointer < CELLS * (N.view book.old.near).mutators }
+    requires quiet { IsQuietNear (N.view book.old.near) pointer }
+    requires evac { has_evac (read_of ((N.view book.old.near).cell pointer)) ≡ true }
+    ensures leaves { IfOk result (λ fate. LeavesBy (N.view book.old.near) book.old.order (N.view book.new.near) book.new.order pointer fate) }
+    ensures exact { N.still → IfOk result (λ fate. LeavesAs (N.view book.old.near) book.old.order (N.view book.new.near) book.new.order pointer ((N.view book.old.near).cell pointer) fate) }
+    ensures kept { IfErr result (λ _. Knows (N.view book.old.near) (N.view book.new.near)) }
+    ensures same { N.still → IfErr result (λ _. N.view book.new.near ≡ N.view book.old.near) }
+    ensures order { IfErr result (λ _. book.new.order ≡ book.old.order) }
+    ensures why { IfErr result (λ why. (why ≡ Memory) ⊎ (why ≡ Failed)) }
+    ensures counted { CountsFault (is_failure result) (D.faults book.old.device) (D.faults book.new.device) }
+    ensures spent { SpendsFault (is_failure result) (D.fails_at_most book.old.device) (D.fails_at_most book.new.device) }
+    ensures honest { D.honest book.new.device ≡ D.honest book.old.device }
+{
+    book.keeps_law();
+    if !goes_near(book.see(pointer)) {
+        return send_far(book, pointer);
+    }
+    let answer = book.move_now(pointer);
+    book.keeps_law();
+    match answer {
+        Ok(place) => Ok(near_fate(place)),
+        Err(_) => send_far(book, pointer),
+    }
+}
+
+// What became of an object that was to move: it lies elsewhere, or was found dropped.
+fn near_fate(place: Option<Place>) -> Fate
+    ensures { result ≡ near_fate place }
+{
+    match place {
+        Some(_) => Fate::Moved,
+        None => Fate::Dropped,
+    }
+}
+
+// An object that isn't known to be dropped goes far, unless it is found to be.
+fn send_far<N: Near + Drop, D: Device + Drop>(
+    book: &mut Book<N, D>,
+    pointer: u16,
+) -> Result<Fate, Refused>
+    requires pointer { pointer < CELLS * (N.view book.old.near).mutators }
+    requires quiet { IsQuietNear (N.view book.old.near) pointer }
+    requires evac { has_evac (read_of ((N.view book.old.near).cell pointer)) ≡ true }
+    requires alive { is_dropped (read_of ((N.view book.old.near).cell pointer)) ≡ false }
+    ensures goes { IfOk result (λ fate. GoesAway (N.view book.old.near) (N.view book.new.near) pointer fate) }
+    ensures exact { N.still → IfOk result (λ fate. (fate ≡ fates.Far) × (N.view book.new.near ≡ evicted (N.view book.old.near) pointer)) }
+    ensures kept { IfErr result (λ _. Knows (N.view book.old.near) (N.view book.new.near)) }
+    ensures same { N.still → IfErr result (λ _. N.view book.new.near ≡ N.view book.old.near) }
+    ensures order { book.new.order ≡ book.old.order }
+    ensures why { IfErr result (λ why. (why ≡ Memory) ⊎ (why ≡ Failed)) }
+    ensures counted { CountsFault (is_failure result) (D.faults book.old.device) (D.faults book.new.device) }
+    ensures spent { SpendsFault (is_failure result) (D.fails_at_most book.old.device) (D.fails_at_most book.new.device) }
+    ensures honest { D.honest book.new.device ≡ D.honest book.old.device }
+{
+    book.keeps_law();
+    let answer = book.evict(pointer);
+    book.keeps_law();
+    match answer {
+        Ok(true) => Ok(Fate::Far),
+        Ok(false) => Ok(Fate::Dropped),
+        Err(why) => Err(why),
+    }
+}
+
+// Whether a cell says that its object doesn't go far at once: it is hot, or dropped.
+fn goes_near(cell: u64) -> bool
+    ensures { result ≡ goes_near (read_of cell) }
+{
+    match PtrWord::read(cell) {
+        Some(PtrWord::Near { marks, .. }) => marks.dropped || marks.hot,
+        _ => false,
     }
 }

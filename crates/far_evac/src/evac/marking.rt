@@ -1,18 +1,33 @@
 //! How the objects of the chosen logs get EVAC, and lose it where a round is given up.
 
-ghost use Rattle.std.specs.Prelude.{◌≡◌, ◌≢◌, IfOk, IfErr};
+ghost use Rattle.std.specs.Prelude.{◌≡◌, ◌≢◌, ◌+◌, ◌*◌, ◌<◌, ◌≤◌, ℕ, Bool, true, not, fold, List, [], ◌∷◌, length, take, drop, IfOk, IfErr, IfSome, IfNone};
 ghost use Rattle.far_word.specs.declared.refused.Refused.TheVariants.{Phase as WrongPhase};
-ghost use Rattle.far_evac.specs.AnyHand.{GivesUp, MarksSome};
+ghost use Rattle.far_word.specs.declared.sizes.TheConstants.{MOST_LOGS};
+ghost use Rattle.far_word.specs.Pointer.{read_of};
+ghost use Rattle.far_core.specs.events.Advance.{is_among};
+ghost use Rattle.far_book.specs.book.Dealing.{has_evac};
+ghost use Rattle.far_book.specs.book.NextLive.{IsBoundary};
+ghost use Rattle.far_evac.specs.declared.round.Round.{Round as RoundOf};
+ghost use Rattle.far_evac.specs.AnyHand.{GivesUp, Knows, KnowsMoment, MarksSome};
 ghost use Rattle.far_evac.specs.Choosing.{after_aborting};
+ghost use Rattle.far_evac.specs.Cursor.{IsNextLacking, StandsAt, first_marked};
 ghost use Rattle.far_evac.specs.EvacOf.{moment};
-ghost use Rattle.far_evac.specs.Marking.{after_marking, newly_marked, waiting_for};
+ghost use Rattle.far_evac.specs.Live.{is_empty, lacking, live_among, live_in};
+ghost use Rattle.far_evac.specs.Marking.{after_marking, marked_core, newly_marked, waiting_for};
+ghost use Rattle.far_evac.specs.RoundSteps.{advanced, among, unmarked};
+ghost use Rattle.far_evac.specs.Standing.{InRound, MarkedBefore, held_in};
+ghost use Rattle.far_evac.specs.Ready.{AllMarked};
 ghost use Rattle.far_evac.specs.declared.phase.Phase.TheVariants as phase;
 
 use crate::answers::Marked;
 use crate::evac::Evac;
-use far_book::Near;
+use crate::phase::Phase;
+use crate::round::Round;
+use far_book::{Book, Near};
 use far_device::Device;
-use far_word::Refused;
+use far_log::Span;
+use far_policy::Chosen;
+use far_word::{PtrWord, Refused, size_of};
 
 impl<N: Near + Drop, D: Device + Drop> Evac<N, D> {
     /// Sets EVAC on the first n live objects of the chosen logs that lack it, or on all, and counts them. Where none is left, the
@@ -28,7 +43,96 @@ impl<N: Near + Drop, D: Device + Drop> Evac<N, D> {
         ensures refused { IfErr result (λ why. (why ≡ WrongPhase) × (self.old.phase ≢ phase.Marking)) }
         ensures unchanged { IfErr result (λ _. self.new ≡ self.old) }
     {
-        unreachable!()
+        if self.round.phase != Phase::Marking {
+            return Err(Refused::Phase);
+        }
+        self.keeps_law();
+        let count = self.mark_up_to(n);
+        if self.lacks_some() {
+            return Ok(Marked {
+                count,
+                waiting: None,
+            });
+        }
+        let epoch = self.wait();
+        Ok(Marked {
+            count,
+            waiting: Some(epoch),
+        })
+    }
+
+    // Sets EVAC on the first n objects that lack it, or on all, and counts them.
+    fn mark_up_to(&mut self, n: u64) -> u64
+        requires marking { self.old.phase ≡ phase.Marking }
+        ensures known { KnowsMoment (record (moment N.view self.old) { core = marked_core (moment N.view self.old) n }) (moment N.view self.new) }
+        ensures exact { N.still → moment N.view self.new ≡ record (moment N.view self.old) { core = marked_core (moment N.view self.old) n } }
+        ensures device { self.new.book.device ≡ self.old.book.device }
+        ensures count { result ≡ length (newly_marked (moment N.view self.old) n) }
+    {
+        self.keeps_law();
+        for i in 0..n {
+            self.keeps_law();
+            if !self.mark_next() {
+                return i;
+            }
+        }
+        n
+    }
+
+    // Sets EVAC on the first object that lacks it; answers whether there is one.
+    fn mark_next(&mut self) -> bool
+        requires marking { self.old.phase ≡ phase.Marking }
+        ensures known { KnowsMoment (record (moment N.view self.old) { core = first_marked (N.view self.old.book.near) (lacking (N.view self.old.book.near) self.old.held) }) (moment N.view self.new) }
+        ensures exact { N.still → moment N.view self.new ≡ record (moment N.view self.old) { core = first_marked (N.view self.old.book.near) (lacking (N.view self.old.book.near) self.old.held) } }
+        ensures device { self.new.book.device ≡ self.old.book.device }
+        ensures found { result ≡ not (is_empty (lacking (N.view self.old.book.near) self.old.held)) }
+    {
+        self.book.keeps_law();
+        let (round, next) = seek(&mut self.book, self.round);
+        self.round = round;
+        let Some(span) = next else {
+            return false;
+        };
+        self.book.keeps_law();
+        self.book.mark(span.p);
+        self.round.at = span.at + size_of(span.len);
+        true
+    }
+
+    // Whether an object lacks EVAC.
+    fn lacks_some(&mut self) -> bool
+        requires marking { self.old.phase ≡ phase.Marking }
+        ensures known { KnowsMoment (moment N.view self.old) (moment N.view self.new) }
+        ensures exact { N.still → moment N.view self.new ≡ moment N.view self.old }
+        ensures device { self.new.book.device ≡ self.old.book.device }
+        ensures found { result ≡ not (is_empty (lacking (N.view self.old.book.near) self.old.held)) }
+    {
+        self.book.keeps_law();
+        let (round, next) = seek(&mut self.book, self.round);
+        self.round = round;
+        self.book.keeps_law();
+        next.is_some()
+    }
+
+    // The epoch rises for a round of the chosen logs, in which each object has EVAC: the new epoch.
+    fn wait(&mut self) -> u64
+        requires marking { self.old.phase ≡ phase.Marking }
+        requires none { lacking (N.view self.old.book.near) self.old.held ≡ [] }
+        ensures known { KnowsMoment (record (moment N.view self.old) { core = advanced (N.view self.old.book.near) self.old.held; phase = phase.Waiting }) (moment N.view self.new) }
+        ensures exact { N.still → moment N.view self.new ≡ record (moment N.view self.old) { core = advanced (N.view self.old.book.near) self.old.held; phase = phase.Waiting } }
+        ensures device { self.new.book.device ≡ self.old.book.device }
+        ensures epoch { result ≡ (N.view self.old.book.near).epoch + 1 }
+    {
+        self.book.keeps_law();
+        let Ok(epoch) = self.book.advance(set_of(&self.round.chosen)) else {
+            unreachable!()
+        };
+        self.round.phase = Phase::Waiting;
+        self.round.index = 0;
+        self.round.at = 0;
+        self.round.seen = 0;
+        self.book.keeps_law();
+        epoch
     }
 
     /// Gives the round up: the live objects of the logs that are still held lose EVAC, no object has moved, and no round is running.
@@ -43,6 +147,152 @@ impl<N: Near + Drop, D: Device + Drop> Evac<N, D> {
         ensures refused { IfErr result (λ why. (why ≡ WrongPhase) × (self.old.phase ≡ phase.Idle)) }
         ensures unchanged { IfErr result (λ _. self.new ≡ self.old) }
     {
-        unreachable!()
+        if self.round.phase == Phase::Idle {
+            return Err(Refused::Phase);
+        }
+        self.book.keeps_law();
+        let first = first_held(&self.round);
+        unmark_logs(&mut self.book, &self.round.chosen, first);
+        self.round = Round {
+            phase: Phase::Idle,
+            chosen: Chosen::new(),
+            index: 0,
+            at: 0,
+            seen: 0,
+        };
+        Ok(())
     }
+}
+
+// The round at the next span whose live object lacks EVAC, and that span; behind all logs, where there is none.
+fn seek<N: Near + Drop, D: Device + Drop>(
+    book: &mut Book<N, D>,
+    round: Round,
+) -> (Round, Option<Span>)
+    requires stands { InRound (N.view book.old.near) round }
+    requires marking { round.phase ≡ phase.Marking }
+    ensures stands { InRound (N.view book.new.near) result.0 }
+    ensures round { result.0 ≡ record round { index = result.0.index; at = result.0.at } }
+    ensures next { IfSome result.1 (λ span. StandsAt (N.view book.new.near) result.0 span) }
+    ensures none { IfNone result.1 (result.0.index ≡ length round.chosen) }
+    ensures known { Knows (N.view book.old.near) (N.view book.new.near) }
+    ensures exact { N.still → N.view book.new.near ≡ N.view book.old.near }
+    ensures order { book.new.order ≡ book.old.order }
+    ensures device { book.new.device ≡ book.old.device }
+{
+    let mut index = round.index;
+    let mut at = round.at;
+    while index < round.chosen.len() {
+        book.keeps_law();
+        let log = round.chosen.as_slice()[index];
+        if let Some(span) = next_unmarked(book, log, at) {
+            at = span.at;
+            return (Round { index, at, ..round }, Some(span));
+        }
+        index += 1;
+        at = 0;
+    }
+    (Round { index, at, ..round }, None)
+}
+
+// The first span of a log, at a word or behind it, whose live object lacks EVAC.
+fn next_unmarked<N: Near + Drop, D: Device + Drop>(
+    book: &mut Book<N, D>,
+    log: u8,
+    at: u16,
+) -> Option<Span>
+    requires log { log < (N.view book.old.near).logs }
+    requires begins { IsBoundary (N.view book.old.near) log at }
+    requires before { MarkedBefore (N.view book.old.near) log at }
+    ensures next { IfSome result (λ span. IsNextLacking (N.view book.new.near) log span) }
+    ensures none { IfNone result (AllMarked (N.view book.new.near) log) }
+    ensures known { Knows (N.view book.old.near) (N.view book.new.near) }
+    ensures exact { N.still → N.view book.new.near ≡ N.view book.old.near }
+    ensures order { book.new.order ≡ book.old.order }
+    ensures device { book.new.device ≡ book.old.device }
+{
+    let mut from = at;
+    while let Some(span) = book.next_live(log, from) {
+        let cell = book.see(span.p);
+        book.keeps_law();
+        if !has_evac(cell) {
+            return Some(span);
+        }
+        from = span.at + size_of(span.len);
+    }
+    book.keeps_law();
+    None
+}
+
+// Whether the book wants the log that the object of a cell lies in.
+fn has_evac(cell: u64) -> bool
+    ensures { result ≡ has_evac (read_of cell) }
+{
+    match PtrWord::read(cell) {
+        Some(PtrWord::Near { marks, .. }) => marks.evac,
+        _ => false,
+    }
+}
+
+// Which of the chosen logs is the first that is still held; how many they are, where none is.
+fn first_held(round: &Round) -> usize
+    requires index { round.now.index ≤ length round.now.chosen }
+    ensures within { result ≤ length round.now.chosen }
+    ensures held { drop result round.now.chosen ≡ held_in round.now }
+{
+    match round.phase {
+        Phase::Idle => round.chosen.len(),
+        Phase::Marking | Phase::Waiting => 0,
+        Phase::Evacuating => round.index,
+    }
+}
+
+// Takes EVAC from the live objects of the logs from one of them on.
+fn unmark_logs<N: Near + Drop, D: Device + Drop>(
+    book: &mut Book<N, D>,
+    chosen: &Chosen,
+    first: usize,
+)
+    requires first { first ≤ length chosen.now }
+    requires logs { (l : ℕ) → among (drop first chosen.now) l ≡ true → l < (N.view book.old.near).logs }
+    ensures known { Knows (fold unmarked (N.view book.old.near) (live_among (N.view book.old.near) (drop first chosen.now))) (N.view book.new.near) }
+    ensures exact { N.still → N.view book.new.near ≡ fold unmarked (N.view book.old.near) (live_among (N.view book.old.near) (drop first chosen.now)) }
+    ensures order { book.new.order ≡ book.old.order }
+    ensures device { book.new.device ≡ book.old.device }
+{
+    book.keeps_law();
+    for log in &chosen.as_slice()[first..] {
+        book.keeps_law();
+        unmark_log(book, *log);
+    }
+}
+
+// Takes EVAC from the live objects of a log.
+fn unmark_log<N: Near + Drop, D: Device + Drop>(book: &mut Book<N, D>, log: u8)
+    requires log { log < (N.view book.old.near).logs }
+    ensures known { Knows (fold unmarked (N.view book.old.near) (live_in (N.view book.old.near) log)) (N.view book.new.near) }
+    ensures exact { N.still → N.view book.new.near ≡ fold unmarked (N.view book.old.near) (live_in (N.view book.old.near) log) }
+    ensures order { book.new.order ≡ book.old.order }
+    ensures device { book.new.device ≡ book.old.device }
+{
+    book.keeps_law();
+    let mut from = 0;
+    while let Some(span) = book.next_live(log, from) {
+        book.keeps_law();
+        book.clear(span.p);
+        book.keeps_law();
+        from = span.at + size_of(span.len);
+    }
+}
+
+// The logs as bits of a number.
+fn set_of(chosen: &Chosen) -> u64
+    requires range { (l : ℕ) → among chosen.now l ≡ true → l < MOST_LOGS }
+    ensures { (l : ℕ) → is_among result l ≡ among chosen.now l }
+{
+    let mut logs = 0;
+    for log in chosen.as_slice() {
+        logs |= 1 << *log;
+    }
+    logs
 }

@@ -1,7 +1,7 @@
 //! How a round begins.
 
 ghost use Rattle.std.specs.Prelude.{◌≡◌, ◌⊎◌, Some, None, Ok, Err, IfOk, IfErr, map};
-ghost use Rattle.far_policy.specs.Choice.{IsChoice};
+ghost use Rattle.far_policy.specs.Choice.{IsBadChoice, IsChoice};
 ghost use Rattle.far_word.specs.declared.refused.Refused.{Refused as why_refused};
 ghost use Rattle.far_word.specs.declared.refused.Refused.TheVariants.{Memory};
 ghost use Rattle.far_book.specs.book.Rows.{row_of};
@@ -30,6 +30,7 @@ impl<N: Near + Drop, D: Device + Drop> Evac<N, D> {
         ensures device { self.new.book.device ≡ self.old.book.device }
         ensures unchanged { IfErr result (λ _. self.new ≡ self.old) }
         ensures barred { (why : why_refused) → unselectable (moment N.view self.old) ≡ Some why → (result ≡ Err why) × (policy.new ≡ policy.old) }
+        ensures why { IfErr result (λ why. (why ≡ Memory) ⊎ IsBadChoice why ⊎ (unselectable (moment N.view self.old) ≡ Some why)) }
         ensures refused { IfErr result (λ why. unselectable (moment N.view self.old) ≡ None →
             ((why ≡ Memory) × (policy.new ≡ policy.old)) ⊎ P.gives policy.old (map (row_of (N.view self.old.book.near)) self.old.book.order) most (Err why) policy.new) }
     {

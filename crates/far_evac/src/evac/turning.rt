@@ -2,11 +2,13 @@
 
 ghost use Rattle.std.specs.Prelude.{◌≡◌, ◌≢◌, ◌⊎◌, ◌<◌, ℕ, Bool, List, Some, None, Ok, Err, false, IfOk, IfErr, map};
 ghost use Rattle.far_book.specs.book.Rows.{row_of};
+ghost use Rattle.far_device.specs.Faults.{CountsFault, SpendsFault};
 ghost use Rattle.far_word.specs.declared.refused.Refused.{Refused as why_refused};
 ghost use Rattle.far_word.specs.declared.refused.Refused.TheVariants.{Device as Failed, Memory, Phase as WrongPhase};
 ghost use Rattle.far_evac.specs.AnyHand.{TurnsTo, RunsRound, StopsAt, StopsRound};
 ghost use Rattle.far_evac.specs.Choosing.{after_selecting};
 ghost use Rattle.far_evac.specs.EvacOf.{moment};
+ghost use Rattle.far_evac.specs.Failing.{fails};
 ghost use Rattle.far_evac.specs.Moment.{Tally, nothing, plus, progress_of, tally_of};
 ghost use Rattle.far_evac.specs.MomentLaw.{is_idle};
 ghost use Rattle.far_evac.specs.Refusals.{unselectable};
@@ -36,6 +38,9 @@ impl<N: Near + Drop, D: Device + Drop> Evac<N, D> {
         ensures barred { self.old.phase ≡ phase.Idle → IfErr result (λ fault. (fault.why ≡ WrongPhase) × (fault.so_far ≡ progress_of nothing false) × (self.new ≡ self.old)) }
         ensures stops { self.old.phase ≢ phase.Idle → IfErr result (λ fault. (self.old.phase ≡ phase.Evacuating) × StopsAt (moment N.view self.old) turn_size (moment N.view self.new) (tally_of fault.so_far)) }
         ensures why { self.old.phase ≢ phase.Idle → IfErr result (λ fault. (fault.why ≡ Memory) ⊎ (fault.why ≡ Failed)) }
+        ensures counted { CountsFault (fails result) (D.faults self.old.book.device) (D.faults self.new.book.device) }
+        ensures spent { SpendsFault (fails result) (D.fails_at_most self.old.book.device) (D.fails_at_most self.new.book.device) }
+        ensures honest { D.honest self.new.book.device ≡ D.honest self.old.book.device }
     {
         match self.phase() {
             Phase::Idle => Err(EvacFault {
@@ -80,6 +85,9 @@ impl<N: Near + Drop, D: Device + Drop> Evac<N, D> {
             × (((fault.why ≡ Memory) × (policy.new ≡ policy.old)) ⊎ P.gives policy.old (map (row_of (N.view self.old.book.near)) self.old.book.order) most (Err fault.why) policy.new))
             ⊎ ((logs : List ℕ) × P.gives policy.old (map (row_of (N.view self.old.book.near)) self.old.book.order) most (Ok logs) policy.new
             × StopsRound (moment N.view self.old) logs turns fault.so_far (moment N.view self.new) × ((fault.why ≡ Memory) ⊎ (fault.why ≡ Failed)))) }
+        ensures counted { CountsFault (fails result) (D.faults self.old.book.device) (D.faults self.new.book.device) }
+        ensures spent { SpendsFault (fails result) (D.fails_at_most self.old.book.device) (D.fails_at_most self.new.book.device) }
+        ensures honest { D.honest self.new.book.device ≡ D.honest self.old.book.device }
     {
         let logs = match self.select(policy, most) {
             Ok(logs) => logs,
@@ -103,6 +111,9 @@ impl<N: Near + Drop, D: Device + Drop> Evac<N, D> {
         ensures exact { N.still → IfOk result (λ end. (end ≡ round_end (turns_made (moment N.view self.old) turns)) × (moment N.view self.new ≡ (turns_made (moment N.view self.old) turns).moment)) }
         ensures stops { IfErr result (λ fault. StopsTurns (moment N.view self.old) turns fault.so_far (moment N.view self.new)) }
         ensures why { IfErr result (λ fault. (fault.why ≡ Memory) ⊎ (fault.why ≡ Failed)) }
+        ensures counted { CountsFault (fails result) (D.faults self.old.book.device) (D.faults self.new.book.device) }
+        ensures spent { SpendsFault (fails result) (D.fails_at_most self.old.book.device) (D.fails_at_most self.new.book.device) }
+        ensures honest { D.honest self.new.book.device ≡ D.honest self.old.book.device }
     {
         self.keeps_law();
         let mut total = nothing_done();
@@ -128,6 +139,9 @@ impl<N: Near + Drop, D: Device + Drop> Evac<N, D> {
         ensures leaving { IfErr result (λ _. self.old.phase ≡ phase.Evacuating) }
         ensures stops { IfErr result (λ fault. (tally : Tally) × StopsAt (moment N.view self.old) turn_size (moment N.view self.new) tally × (fault.so_far ≡ progress_of (plus (tally_of before) tally) false)) }
         ensures why { IfErr result (λ fault. (fault.why ≡ Memory) ⊎ (fault.why ≡ Failed)) }
+        ensures counted { CountsFault (fails result) (D.faults self.old.book.device) (D.faults self.new.book.device) }
+        ensures spent { SpendsFault (fails result) (D.fails_at_most self.old.book.device) (D.fails_at_most self.new.book.device) }
+        ensures honest { D.honest self.new.book.device ≡ D.honest self.old.book.device }
     {
         self.keeps_law();
         match self.turn() {

@@ -1,7 +1,11 @@
 use Rattle.far_evac.proofs.evac.Evac.make_turns.Goals as goal
-use Rattle.std.proofs.Common.{◌≡◌, ◌∙◌, ◌+◌, Bool, true, false, ap, sym, subst, arith}
+use Rattle.std.proofs.Common.{Err, refl, ◌≡◌, ◌∙◌, ◌+◌, Bool, true, false, ap, sym, subst, arith}
 use Rattle.far_evac.specs.declared.answers.RoundEnd.{RoundEnd}
 use Rattle.far_evac.specs.declared.answers.RoundEnd.TheVariants.{Done}
+use Rattle.far_device.specs.Faults.{CountsFault, SpendsFault}
+use Rattle.far_evac.specs.Failing.{fails}
+use Rattle.far_evac.specs.declared.answers.Progress.{Progress}
+use Rattle.far_evac.proofs.Failures.{fails_alike, spends_on}
 use Rattle.far_evac.specs.AnyHand.{TurnsTo}
 use Rattle.far_evac.specs.EvacOf.{moment}
 use Rattle.far_evac.specs.Moment.{Tally, nothing, progress_of, tally_of}
@@ -19,6 +23,9 @@ loop-init g c =
       exact = λ _. ap (λ total. turned_at m total false) (sym none);
       within = subst (IsWithin m) (sym none) (starts_within m c.keeps_law.ensures.law c.keeps_law.ensures.moment);
       runs = c.requires.running;
+      counted = refl;
+      spent = λ n most. most;
+      honest = refl;
     }
 
 pub returns-then-total-clause-ends : goal.returns-then-total-clause-ends
@@ -56,4 +63,18 @@ loop-preserved g c =
           turns_more m c.loop.counter u (tally_of c.loop.total) (turned_at t total false) (c.loop.invariant.exact still) (c.in-Ok.ensures.exact still ∙ ap (turned_at t total) c.if-total.false);
       within = goes.0;
       runs = goes.1;
+      counted = c.in-Ok.ensures.counted ∙ c.loop.invariant.counted;
+      spent = λ n most. c.in-Ok.ensures.spent n (c.loop.invariant.spent n most);
+      honest = c.turn_more.ensures.honest ∙ c.loop.invariant.honest;
     }
+
+pub returns-in-Err-clause-counted : goal.returns-in-Err-clause-counted
+returns-in-Err-clause-counted g c =
+    subst (λ b. CountsFault b (g.D.Device.faults c.args.self.now.book.device) (g.D.Device.faults c.turn_more.new.self.book.device)) (fails_alike Progress RoundEnd c.in-Err.fault c.in-Err.ensures.why)
+    (subst (λ n. CountsFault (fails {A = Progress} (Err c.in-Err.fault)) n (g.D.Device.faults c.turn_more.new.self.book.device)) c.loop.invariant.counted c.in-Err.ensures.counted)
+
+pub returns-in-Err-clause-spent : goal.returns-in-Err-clause-spent
+returns-in-Err-clause-spent g c =
+    subst (λ b. SpendsFault b (g.D.Device.fails_at_most c.args.self.now.book.device) (g.D.Device.fails_at_most c.turn_more.new.self.book.device)) (fails_alike Progress RoundEnd c.in-Err.fault c.in-Err.ensures.why)
+    (spends_on (fails {A = Progress} (Err c.in-Err.fault)) (g.D.Device.fails_at_most c.args.self.now.book.device) (g.D.Device.fails_at_most c.loop.self.book.device)
+    (g.D.Device.fails_at_most c.turn_more.new.self.book.device) c.loop.invariant.spent c.in-Err.ensures.spent)

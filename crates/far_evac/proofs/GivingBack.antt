@@ -1,0 +1,115 @@
+-- What giving the log in front back leaves of the round.
+use Rattle.std.proofs.Common.{◌≡◌, ◌≢◌, ℕ, suc, ◌+◌, ◌-◌, ◌<◌, ◌≤◌, ◌||◌, Bool, true, false, List, [], ◌∷◌, length, drop, eqb, inl, inr, arith, ap, sym, refl, ◌∙◌, subst}
+use Rattle.std.specs.List.{AllByRecursion, IsDistinct}
+use Rattle.std.proofs.Math.ListN.{drop_of_length-le}
+use Rattle.std.proofs.lemmas.Bool.{cases_eq, ne_eqb, false≢true}
+use Rattle.std.proofs.lemmas.List.{length-drop}
+use Rattle.std.proofs.lemmas.Map.Keys.{IsDistinct-tail}
+use Rattle.far_core.specs.declared.event.Kind.TheVariants as kinds
+use Rattle.far_core.specs.state.Law.{Law}
+use Rattle.far_core.specs.state.State.{State}
+use Rattle.far_core.proofs.Put.{put_other}
+use Rattle.far_book.specs.Known.{Forgets}
+use Rattle.far_book.specs.book.Own.{own_part}
+use Rattle.far_book.specs.book.Releasing.{released}
+use Rattle.far_book.proofs.region.NextLives.{lives_from_start}
+use Rattle.far_evac.specs.declared.phase.Phase.{Phase}
+use Rattle.far_evac.specs.declared.phase.Phase.TheVariants.{Idle, Marking, Waiting, Evacuating}
+use Rattle.far_evac.specs.declared.round.Round.{Round}
+use Rattle.far_evac.specs.AnyHand.{Knows}
+use Rattle.far_evac.specs.Live.{is_empty}
+use Rattle.far_evac.specs.MomentLaw.{is_idle}
+use Rattle.far_evac.specs.RoundSteps.{among}
+use Rattle.far_evac.specs.Standing.{InRound, held_in, held_of}
+use Rattle.far_evac.proofs.Given.{drop_next}
+use Rattle.far_evac.proofs.Hands.{knows_forgotten}
+use Rattle.far_evac.proofs.Standings.{idle_round}
+use Rattle.far_evac.proofs.Tours.{others}
+use Rattle.far_evac.proofs.Walking.{drops_front}
+
+or_right : (a b : Bool) → b ≡ true → (a || b) ≡ true
+or_right true b h = refl
+or_right false b h = h
+
+-- what is true of each is so of a member
+member_each : (P : ℕ → Type 0) (ls : List ℕ) → AllByRecursion P ls → (k : ℕ) → among ls k ≡ true → P k
+member_each P [] all k h = absurd (false≢true h)
+member_each P (x ∷ xs) all k h = elim (cases_eq k x) [
+  | inl e ↦ subst P (sym e) all.0
+  | inr other ↦ member_each P xs all.1 k (sym (ap (λ b. b || among xs k) (ne_eqb k x other)) ∙ h)
+]
+
+not_marking : (phase : Phase) → phase ≡ Evacuating → phase ≡ Marking → ⊥
+not_marking phase walks marks = let odd : Evacuating ≡ Marking = sym walks ∙ marks in absurd cc
+
+not_waiting : (phase : Phase) → phase ≡ Evacuating → phase ≡ Waiting → ⊥
+not_waiting phase walks waits = let odd : Evacuating ≡ Waiting = sym walks ∙ waits in absurd cc
+
+-- ---- what is known of it
+pub given_known : (s t : State) (l : ℕ) → t ≡ record (released s l) { word = t.word } → Forgets s t → Law (own_part t) → Knows (released s l) t
+given_known s t l is forgot law = knows_forgotten (released s l) t is record { known = forgot.known; headers = forgot.headers } law
+
+-- ---- which logs are held then
+module _ (r : Round) (walks : r.phase ≡ Evacuating) (l : ℕ) (ls : List ℕ) (front : held_in r ≡ l ∷ ls) where
+  pub held_next : (drop (r.index + 1) r.chosen ≡ ls) × (r.index + 1 ≤ length r.chosen)
+  held_next =
+      let n = drop_next r.index r.chosen l ls (drops_front r walks l ls front) in
+      let more : suc r.index ≡ r.index + 1 = omega arith in
+      (sym (ap (λ k. drop k r.chosen) more) ∙ n.0, omega (arith, n.1))
+
+  pub held_then : held_of r.phase r.chosen (r.index + 1) ≡ ls
+  held_then = ap (λ phase. held_of phase r.chosen (r.index + 1)) walks ∙ held_next.0
+
+  pub last_held : length r.chosen ≤ r.index + 1 → ls ≡ []
+  last_held all = sym held_next.0 ∙ drop_of_length-le r.chosen all
+
+  some_left : (ks : List ℕ) → 0 < length ks → is_empty ks ≡ false
+  some_left [] h = absurd (omega (arith, h))
+  some_left (k ∷ ks) h = refl
+
+  pub more_held : r.index + 1 < length r.chosen → is_empty ls ≡ false
+  more_held some =
+      let long : length ls ≡ length r.chosen - (r.index + 1) = ap length (sym held_next.0) ∙ length-drop (r.index + 1) r.chosen in
+      some_left ls (omega (arith, long, some))
+
+-- ---- the round goes on, or is over
+module _ (s t : State) (r : Round) (in_round : InRound s r) (law : Law (own_part t)) (walks : r.phase ≡ Evacuating) (l : ℕ) (ls : List ℕ) (front : held_in r ≡ l ∷ ls)
+    (knows : Knows (released s l) t) where
+  once : IsDistinct eqb (l ∷ ls)
+  once = subst (IsDistinct eqb) front in_round.holds.once
+
+  apart : (k : ℕ) → among ls k ≡ true → k ≢ l
+  apart k member = member_each (λ x. x ≢ l) ls (others l ls once) k member
+
+  was_held : (k : ℕ) → among ls k ≡ true → among (held_in r) k ≡ true
+  was_held k member = ap (λ held. among held k) front ∙ or_right (eqb k l) (among ls k) member
+
+  held : held_of r.phase r.chosen (r.index + 1) ≡ ls
+  held = held_then r walks l ls front
+
+  held_among : (k : ℕ) → among (held_of r.phase r.chosen (r.index + 1)) k ≡ true → among ls k ≡ true
+  held_among k h = sym (ap (λ ks. among ks k) held) ∙ h
+
+  pub goes_on : is_empty ls ≡ false → InRound t (record r { index = r.index + 1; at = 0 })
+  goes_on some = record {
+    holds = record {
+      sealed = λ k h. ap (λ (u : State). u.kind k) knows.rest ∙ put_other s.kind l kinds.Free k (apart k (held_among k h)) ∙ in_round.holds.sealed k (was_held k (held_among k h));
+      once = subst (IsDistinct eqb) (sym held) (IsDistinct-tail eqb l ls once);
+      runs = ap is_empty held ∙ some ∙ sym (ap is_idle walks);
+      round = λ risen k h. ap (λ (u : State). u.round k) knows.rest ∙ put_other s.round l false k (apart k (held_among k h)) ∙ in_round.holds.round risen k (was_held k (held_among k h));
+      clear = λ leaves k lt. ap (λ (u : State). u.clear k) knows.rest ∙ in_round.holds.clear leaves k (subst (λ (u : State). k < u.mutators) knows.rest lt);
+      later = λ marks. absurd (not_marking r.phase walks marks);
+    };
+    stands = record {
+      index = (held_next r walks l ls front).1;
+      begins = λ running k ks e. (lives_from_start t law k).0;
+      marked = λ marks. absurd (not_marking r.phase walks marks);
+      marked_here = λ marks. absurd (not_marking r.phase walks marks);
+      left = λ leaves k ks e p len ds place marks near log. omega arith;
+      seen = λ waits. absurd (not_waiting r.phase walks waits);
+      unseen = λ waits. absurd (not_waiting r.phase walks waits);
+    };
+  }
+
+  pub ends : InRound t (record r { phase = Idle; index = r.index + 1; at = 0 })
+  ends = idle_round t (record r { phase = Idle; index = r.index + 1; at = 0 }) refl (held_next r walks l ls front).1

@@ -1,0 +1,323 @@
+-- An object leaves its log as a word says that was found in its cell.
+use Rattle.std.proofs.Common.{◌≡◌, ◌≢◌, ℕ, ◌+◌, ◌*◌, ◌/◌, ◌<◌, ◌||◌, ◌&&◌, Bool, true, false, cond, eqb, Option, Some, None, Result, Ok, Err, List, [], ◌∷◌, ◌++◌, IfOk, IfErr, IfSome, IfNone, MatchOption, arith, ap, sym, refl, ◌∙◌, subst}
+use Rattle.std.proofs.lemmas.Bool.{eq-eqb, true≢false, false≢true, false_from_ne_true}
+use Rattle.far_word.specs.declared.mark.Marks.{Marks}
+use Rattle.far_word.specs.declared.pointer.Place.{Place}
+use Rattle.far_word.specs.declared.pointer.PtrWord.TheVariants.{Near, Far}
+use Rattle.far_word.specs.declared.refused.Refused.{Refused}
+use Rattle.far_word.specs.declared.sizes.TheConstants.{CELLS}
+use Rattle.far_word.specs.Pointer.{IsPtr, read_of}
+use Rattle.far_word.specs.Sizes.{size_of}
+use Rattle.far_word.proofs.PointerLaws.{read_says}
+use Rattle.far_core.specs.events.Naming.{is_dropped, no_marks}
+use Rattle.far_core.specs.events.Quiet.{is_quiet}
+use Rattle.far_core.specs.state.Law.{Law}
+use Rattle.far_core.specs.state.Room.{room}
+use Rattle.far_core.specs.state.State.{State}
+use Rattle.far_core.proofs.Put.{put_same}
+use Rattle.far_book.specs.Finds.{Finds, marks_in}
+use Rattle.far_book.specs.book.Dealing.{IsQuietNear, IsRetired, IsSeen, Leaves, goal, has_evac, moved_now, order_moved}
+use Rattle.far_book.specs.book.Effects.{evicted, moved, order_after, retired, stayed, with_free_cell}
+use Rattle.far_book.specs.book.Evicting.{GoesFar}
+use Rattle.far_book.specs.book.Own.{own_part}
+use Rattle.far_book.specs.book.Renaming.{seen}
+use Rattle.far_book.specs.book.SealedLogs.{KeepsSealed}
+use Rattle.far_book.proofs.Finding.{IsNearTo, finds_more, near_found}
+use Rattle.far_book.proofs.RoundSteps.{quiet_seen}
+use Rattle.far_book.proofs.region.Calls.{put_put}
+use Rattle.far_book.proofs.region.Evictions.{evicted_is}
+use Rattle.far_book.proofs.region.Moved.{drop_of, evac_of, goal_there}
+use Rattle.far_book.proofs.region.Retires.{retired_is}
+use Rattle.far_book.proofs.region.SealedKept.{sealed_logs_kept}
+use Rattle.far_evac.specs.declared.evac.evacuating.Fate.{Fate}
+use Rattle.far_evac.specs.declared.evac.evacuating.Fate.TheVariants as fates
+use Rattle.far_evac.specs.declared.phase.Phase.{Phase}
+use Rattle.far_evac.specs.declared.phase.Phase.TheVariants.{Evacuating}
+use Rattle.far_evac.specs.declared.round.Round.{Round}
+use Rattle.far_evac.specs.AnyHand.{Knows, KnowsWalked}
+use Rattle.far_evac.specs.Leaving.{GoesAway, LeavesAs, LeavesBy, core_by, counted_as, fate_by, goes_near, near_fate, order_by}
+use Rattle.far_evac.specs.Live.{live_in, live_among}
+use Rattle.far_evac.specs.Moment.{Moment, Tally}
+use Rattle.far_evac.specs.MomentLaw.{MomentLaw, has_risen}
+use Rattle.far_evac.specs.RoundSteps.{among}
+use Rattle.far_evac.specs.Standing.{InRound}
+use Rattle.far_evac.specs.Walk.{Walked, Way, Drops, Goes, Moves, dealt_as, dealt_so, hot_way, way_of}
+use Rattle.far_evac.proofs.Bools.{neither}
+use Rattle.far_evac.proofs.Dealt.{NewPlace, room_new}
+use Rattle.far_evac.proofs.Hands.{evicted_seen, freed_seen, knows_far, knows_left, knows_more, knows_seen, knows_spans, knows_words, moved_seen}
+use Rattle.far_evac.proofs.Keeping.{round_called, round_found}
+use Rattle.far_evac.proofs.LiveOnce.{LivesIn, first_named, near_at}
+use Rattle.far_evac.proofs.Tours.{goes_when, moves_when, stand}
+
+or_none : (a b : Bool) → (a || b) ≡ false → (a ≡ false) × (b ≡ false)
+or_none true b h = absurd (true≢false h)
+or_none false b h = (refl, h)
+
+or_other : (a b : Bool) → (a || b) ≡ true → a ≡ false → b ≡ true
+or_other true b h none = absurd (true≢false none)
+or_other false b h none = h
+
+-- ---- a quiet near object with EVAC
+module _ (s : State) (p : ℕ) (q : IsQuietNear s p) (law : Law (own_part s)) (evac : has_evac (read_of (s.cell p)) ≡ true) where
+  wanted : q.marks.evac ≡ true
+  wanted = evac_of (read_of (s.cell p)) true q.len q.ds q.place q.marks q.near evac
+
+  layout : IsPtr (Near q.len q.ds q.place no_marks)
+  layout = (read_says (s.cell p) (Near q.len q.ds q.place q.marks) (law.cells.cell_read p).0 q.near).0
+
+  far_layout : IsPtr (Far q.len q.ds no_marks)
+  far_layout = (layout.0, layout.1, layout.2, refl)
+
+  to_layout : (to : Place) → room s (size_of q.len) false ≡ Some to → IsPtr (Near q.len q.ds to no_marks)
+  to_layout to is =
+      let current = law.logs.log_range s.current (λ free. let odd = sym free ∙ law.logs.is_open in absurd cc) in
+      let new : NewPlace s (size_of q.len) to = room_new s law.logs.is_open current (size_of q.len) (omega (arith, layout.4)) to is in
+      (layout.0, layout.1, layout.2, omega (arith, new.log, law.shape.few_logs), new.fits)
+
+  -- it went far, and its cell said before that it isn't dropped
+  pub far_known : (t : State) → Law (own_part t) → is_dropped (read_of (s.cell p)) ≡ false → GoesFar s t p → Knows (evicted s p) t
+  far_known t new alive goes =
+      let undropped = drop_of (read_of (s.cell p)) q.len q.ds q.place q.marks q.near alive in
+      knows_far s t p q.len q.ds q.place q.marks q.near far_layout (evicted_is s p q.len q.ds q.place far_layout q.marks q.near undropped wanted) goes new
+
+  -- ---- a word that was found in its cell
+  module _ (w : ℕ) (finds : Finds (s.cell p) w) where
+    found : IsNearTo (read_of w) q.len q.ds q.place q.marks.evac
+    found = near_found (s.cell p) w finds q.len q.ds q.place q.marks q.near
+
+    alive_before : found.marks.dropped ≡ false → q.marks.dropped ≡ false
+    alive_before = neither found.marks.dropped q.marks.dropped
+        (λ h. sym (ap (λ o. (marks_in o).dropped) found.near) ∙ finds.dropped (ap (λ o. (marks_in o).dropped) q.near ∙ h))
+
+    abbrev hot_one : Way
+    hot_one = hot_way (room s (size_of q.len) false)
+
+    drops : is_dropped (read_of w) ≡ true → way_of s (read_of w) ≡ Drops
+    drops h = ap (way_of s) found.near ∙ ap (λ b. cond b Drops (cond found.marks.hot hot_one Goes)) (sym (ap is_dropped found.near) ∙ h)
+
+    cold : goes_near (read_of w) ≡ false → way_of s (read_of w) ≡ Goes
+    cold h =
+        let none = or_none found.marks.dropped found.marks.hot (sym (ap goes_near found.near) ∙ h) in
+        ap (way_of s) found.near ∙ ap (λ b. cond b Drops (cond found.marks.hot hot_one Goes)) none.0 ∙ ap (λ b. cond b hot_one Goes) none.1
+
+    cold_alive : goes_near (read_of w) ≡ false → is_dropped (read_of w) ≡ false
+    cold_alive h = ap is_dropped found.near ∙ (or_none found.marks.dropped found.marks.hot (sym (ap goes_near found.near) ∙ h)).0
+
+    hot : goes_near (read_of w) ≡ true → is_dropped (read_of w) ≡ false → way_of s (read_of w) ≡ hot_one
+    hot h alive =
+        let undropped : found.marks.dropped ≡ false = sym (ap is_dropped found.near) ∙ alive in
+        ap (way_of s) found.near ∙ ap (λ b. cond b Drops (cond found.marks.hot hot_one Goes)) undropped
+        ∙ ap (λ b. cond b hot_one Goes) (or_other found.marks.dropped found.marks.hot (sym (ap goes_near found.near) ∙ h) undropped)
+
+    -- ---- the state in which it was found
+    word_here : (seen s p w).cell p ≡ w
+    word_here = put_same s.cell p w p refl
+
+    pub evac_seen : has_evac (read_of ((seen s p w).cell p)) ≡ true
+    evac_seen = ap (λ x. has_evac (read_of x)) word_here ∙ ap has_evac found.near ∙ found.same ∙ wanted
+
+    pub evac_found : (u : State) → u ≡ seen s p w → has_evac (read_of (u.cell p)) ≡ true
+    evac_found u is = subst (λ (x : State). has_evac (read_of (x.cell p)) ≡ true) (sym is) evac_seen
+
+    pub quiet_here : (u : State) → u ≡ seen s p w → IsQuietNear u p
+    quiet_here u is = subst (λ (x : State). IsQuietNear x p) (sym is) (quiet_seen s p w finds q)
+
+    later_found : (v : ℕ) → Finds ((seen s p w).cell p) v → Finds (s.cell p) v
+    later_found v f = finds_more (s.cell p) w v finds (subst (λ x. Finds x v) word_here f)
+
+    evicted_there : is_dropped (read_of w) ≡ false → evicted (seen s p w) p ≡ evicted s p
+    evicted_there alive = evicted_seen s p w q.len q.ds q.place q.marks q.near finds alive wanted far_layout
+
+  -- a DROP was found later
+  drop_leaves : (w : ℕ) → Finds (s.cell p) w → (t : State) (order after : List ℕ) (v : ℕ) → Finds ((seen s p w).cell p) v → is_dropped (read_of v) ≡ true → Knows (with_free_cell (seen s p w) p) t → after ≡ order →
+      LeavesBy s order t after p fates.Dropped
+  drop_leaves w finds t order after v later dropped knows same =
+      let here = later_found w finds v later in
+      let way = drops v here dropped in record {
+        word = v;
+        found = here;
+        core = subst (λ x. Knows (core_by s p x) t) (sym way) (subst (λ x. Knows x t) (freed_seen s p w) knows);
+        sealed = same ∙ sym (ap (order_by s order) way);
+        is = sym (ap fate_by way);
+      }
+
+  -- it went far, or a DROP was found meanwhile, in a state where another word was found than that which sent it
+  away : (w v : ℕ) → Finds (s.cell p) w → Finds (s.cell p) v → is_dropped (read_of v) ≡ false → way_of s (read_of w) ≡ Goes → (t : State) (order after : List ℕ) → after ≡ order → (fate : Fate) →
+      GoesAway (seen s p v) t p fate → LeavesBy s order t after p fate
+  away w v finds later alive way t order after same fates.Moved goes = absurd goes
+  away w v finds later alive way t order after same fates.Far goes = record {
+    word = w;
+    found = finds;
+    core = subst (λ x. Knows (core_by s p x) t) (sym way) (subst (λ x. Knows x t) (evicted_there v later alive) goes);
+    sealed = same ∙ sym (ap (order_by s order) way);
+    is = sym (ap fate_by way);
+  }
+  away w v finds later alive way t order after same fates.Dropped goes = drop_leaves v later t order after goes.0 goes.1 goes.2 goes.3 same
+
+  -- ---- what send_off does: w was found in u, and t is where it ends
+  module _ (w : ℕ) (finds : Finds (s.cell p) w) (u : State) (is : u ≡ seen s p w) (t : State) (order after : List ℕ) where
+    pub sent_cold : goes_near (read_of w) ≡ false → after ≡ order → (fate : Fate) → GoesAway u t p fate → LeavesBy s order t after p fate
+    sent_cold h same fate goes =
+        away w w finds finds (cold_alive w finds h) (cold w finds h) t order after same fate (subst (λ (x : State). GoesAway x t p fate) is goes)
+
+    pub sent_dropped : (still : Type 0) → Law (own_part t) → IsRetired still u t p → after ≡ order → LeavesBy s order t after p fates.Dropped
+    sent_dropped still new gone same =
+        let knows : Knows (with_free_cell u p) t = knows_spans (with_free_cell u p) t gone.leaves new in
+        drop_leaves w finds t order after gone.word (subst (λ (x : State). Finds (x.cell p) gone.word) is gone.found) gone.dropped (subst (λ (x : State). Knows (with_free_cell x p) t) is knows) same
+
+    -- what move_now says of it in u
+    here_evac : IsNearTo (read_of (u.cell p)) q.len q.ds q.place q.marks.evac
+    here_evac = let f = found w finds in record { marks = f.marks; near = ap (λ (x : State). read_of (x.cell p)) is ∙ ap read_of (word_here w finds) ∙ f.near; same = f.same }
+
+    goal_is : goal u p ≡ room s (size_of q.len) false
+    goal_is = goal_there u p (quiet_here w finds u is) q.len q.ds q.place here_evac.marks here_evac.near (here_evac.same ∙ wanted) ∙ ap (λ (x : State). room x (size_of q.len) false) is
+
+    moved_is_moved : (place : Place) → moved_now u p place ≡ moved u p place
+    moved_is_moved place = ap (λ b. cond b (moved u p place) (stayed u p)) (evac_found w finds u is)
+
+    order_is : (place : Place) → order_moved u p order place ≡ order_after s order place
+    order_is place = ap (λ b. cond b (order_after u order place) order) (evac_found w finds u is) ∙ ap (λ (x : State). order_after x order place) is
+
+    pub sent_near : goes_near (read_of w) ≡ true → (is_dropped (read_of (u.cell p)) ≡ true → ⊥) → (place : Place) → goal u p ≡ Some place → Law (own_part t) → Leaves (moved_now u p place) t →
+        after ≡ order_moved u p order place → LeavesBy s order t after p fates.Moved
+    sent_near h undropped place to new leaves sealed =
+        let there : room s (size_of q.len) false ≡ Some place = sym goal_is ∙ to in
+        let alive : is_dropped (read_of w) ≡ false = false_from_ne_true (is_dropped (read_of w)) (λ d. undropped (ap (λ (x : State). is_dropped (read_of (x.cell p))) is ∙ ap (λ x. is_dropped (read_of x)) (word_here w finds) ∙ d)) in
+        let way : way_of s (read_of w) ≡ Moves place = hot w finds h alive ∙ ap hot_way there in
+        let made : moved_now u p place ≡ moved s p place = moved_is_moved place ∙ ap (λ (x : State). moved x p place) is ∙ moved_seen s p w q.len q.ds q.place q.marks q.near finds alive wanted place (to_layout place there) in
+        record {
+          word = w;
+          found = finds;
+          core = subst (λ x. Knows (core_by s p x) t) (sym way) (subst (λ x. Knows x t) made (knows_left (moved_now u p place) t leaves new));
+          sealed = sealed ∙ order_is place ∙ sym (ap (order_by s order) way);
+          is = sym (ap fate_by way);
+        }
+
+    -- it lies elsewhere, or was found dropped
+    pub sent_there : (still : Type 0) → goes_near (read_of w) ≡ true → (o : Option Place) (before : List ℕ) → before ≡ order → ((x y : Result (Option Place) Refused) → x ≡ Ok o → y ≡ Ok None → is_dropped (read_of (u.cell p)) ≡ true → x ≡ y) →
+        IfSome o (λ place. goal u p ≡ Some place) → Law (own_part t) → IfSome o (λ place. Leaves (moved_now u p place) t) → IfNone o (IsRetired still u t p) →
+        MatchOption o (after ≡ before) (λ place. after ≡ order_moved u p before place) → LeavesBy s order t after p (near_fate o)
+    sent_there still h (Some place) before same asked to new leaves gone sealed =
+        sent_near h (λ d. let odd : Ok (Some place) ≡ Ok None = asked (Ok (Some place)) (Ok None) refl refl d in absurd cc) place to new leaves (subst (λ order. after ≡ order_moved u p order place) same sealed)
+    sent_there still h None before same asked to new leaves gone sealed = sent_dropped still new gone (sealed ∙ same)
+
+    -- there was no room: v is where it was sent far from then
+    pub sent_away : goes_near (read_of w) ≡ true → (is_dropped (read_of (u.cell p)) ≡ true → ⊥) → goal u p ≡ None → (v : State) (h : IsSeen u v p) → v.word ≡ u.word → after ≡ order → (fate : Fate) →
+        GoesAway v t p fate → LeavesBy s order t after p fate
+    sent_away near undropped none v h words same fate goes =
+        let alive : is_dropped (read_of w) ≡ false = false_from_ne_true (is_dropped (read_of w)) (λ d. undropped (ap (λ (x : State). is_dropped (read_of (x.cell p))) is ∙ ap (λ x. is_dropped (read_of x)) (word_here w finds) ∙ d)) in
+        let way : way_of s (read_of w) ≡ Goes = hot w finds near alive ∙ ap hot_way (sym goal_is ∙ none) in
+        let later : Finds (s.cell p) h.word = later_found w finds h.word (subst (λ (x : State). Finds (x.cell p) h.word) is h.found) in
+        away w h.word finds later h.alive way t order after same fate (subst (λ (x : State). GoesAway x t p fate) (seen_again v h words) goes) where
+          seen_again : (v : State) (h : IsSeen u v p) → v.word ≡ u.word → v ≡ seen s p h.word
+          seen_again v h words = h.leads ∙ (λ i. record (seen u p h.word) { word = words i }) ∙ ap (λ (x : State). seen x p h.word) is ∙ (λ i. record s { cell = put_put s.cell p w h.word i })
+
+-- ---- what is known where nothing was done
+pub seen_known : (s t : State) (p : ℕ) → IsSeen s t p → Law (own_part t) → Knows s t
+seen_known s t p h law =
+    knows_more s (seen s p h.word) t (knows_seen s p h.word h.found) (knows_words (seen s p h.word) t h.leads (λ a begun. h.keeps.headers a (ap (λ (u : State). u.starts a) h.leads ∙ begun)) law)
+
+pub found_here : (s u : State) (p w : ℕ) → Finds (s.cell p) w → u ≡ seen s p w → Knows s u
+found_here s u p w finds is = subst (Knows s) (sym is) (knows_seen s p w finds)
+
+-- ---- answers
+pub ok_map : {A B : Type 0} {P Q : A → Type 0} → (result : Result A B) → ((x : A) → P x → Q x) → IfOk result P → IfOk result Q
+ok_map (Ok x) f h = f x h
+ok_map (Err why) f h = tt
+
+pub err_map : {A B : Type 0} {P Q : B → Type 0} → (result : Result A B) → ((x : B) → P x → Q x) → IfErr result P → IfErr result Q
+err_map (Ok x) f h = tt
+err_map (Err why) f h = f why h
+
+-- an answer that was refused is no other
+pub no_answer : {A : Type 0} {P : Type 0} → (result : Result A Refused) (why : Refused) (x : A) → result ≡ Err why → (P → result ≡ Ok x) → P → ⊥
+no_answer result why x refused asked h = let odd : Err why ≡ Ok x = sym refused ∙ asked h in absurd cc
+
+-- ---- the object that a walk deals with next
+record FirstAmong (s : State) (held : List ℕ) (p : ℕ) : Type 0 where
+  l : ℕ
+  member : among held l ≡ true
+  lives : LivesIn s l p
+
+first_here : (s : State) (l : ℕ) (ls : List ℕ) (p : ℕ) (rest live : List ℕ) → live_in s l ≡ live → live ++ live_among s ls ≡ p ∷ rest → (live_among s ls ≡ p ∷ rest → FirstAmong s ls p) → FirstAmong s (l ∷ ls) p
+first_here s l ls p rest [] is e next =
+    let more = next e in record { l = more.l; member = ap (λ b. eqb more.l l || b) more.member ∙ or_true (eqb more.l l); lives = more.lives } where
+      or_true : (a : Bool) → (a || true) ≡ true
+      or_true true = refl
+      or_true false = refl
+first_here s l ls p rest (q ∷ qs) is e next =
+    let same : q ≡ p = cc in
+    record { l = l; member = ap (λ b. b || among ls l) (eq-eqb l l refl); lives = first_named s l p qs (is ∙ ap (λ x. x ∷ qs) same) }
+
+first_among : (s : State) (ls : List ℕ) (p : ℕ) (rest : List ℕ) → live_among s ls ≡ p ∷ rest → FirstAmong s ls p
+first_among s [] p rest e = absurd cc
+first_among s (l ∷ ls) p rest e = first_here s l ls p rest (live_in s l) refl e (first_among s ls p rest)
+
+near_used : (w len ds : ℕ) (place : Place) (marks : Marks) → read_of w ≡ Some (Near len ds place marks) → w ≢ 0
+unfolding read_of
+near_used w len ds place marks near zero = let odd : read_of 0 ≡ Some (Near len ds place marks) = sym (ap read_of zero) ∙ near in absurd cc
+
+quiet_by : (m e r c : Bool) → e ≡ true → r ≡ true → c ≡ true → (m || (e && r && c)) ≡ true
+quiet_by true e r c evac round clear = refl
+quiet_by false e r c evac round clear = rw (evac, round, clear) refl
+
+pub record Wanted (s : State) (p : ℕ) : Type 0 where
+  pub pointer : p < CELLS * s.mutators
+  pub quiet : IsQuietNear s p
+  pub evac : has_evac (read_of (s.cell p)) ≡ true
+
+pub first_wanted : (m : Moment) → Law (own_part m.core) → MomentLaw m → m.phase ≡ Evacuating → (p : ℕ) (rest : List ℕ) → live_among m.core m.held ≡ p ∷ rest → Wanted m.core p
+first_wanted m law moment walks p rest e =
+    let s = m.core in
+    let first = first_among s m.held p rest e in
+    let n = near_at (read_of (s.cell p)) first.l first.lives.0 first.lives.1 in
+    let round : s.round n.place.log ≡ true = ap s.round n.log ∙ moment.round (ap has_risen walks) first.l first.member in
+    let evac : n.marks.evac ≡ true = law.rounds.round_evac p n.len n.ds n.place n.marks n.near round in
+    let pointer : p < CELLS * s.mutators = law.cells.cell_range p (near_used (s.cell p) n.len n.ds n.place n.marks n.near) in
+    let clear : s.clear (p / CELLS) ≡ true = moment.clear walks (p / CELLS) (omega (arith, pointer)) in
+    record {
+      pointer = pointer;
+      quiet = record { len = n.len; ds = n.ds; place = n.place; marks = n.marks; near = n.near; quiet = quiet_by n.marks.moved n.marks.evac (s.round n.place.log) (s.clear (p / CELLS)) evac round clear };
+      evac = ap has_evac n.near ∙ evac;
+    }
+
+-- ---- and then the round stands where it stood
+module _ (s : State) (p : ℕ) (q : IsQuietNear s p) (law : Law (own_part s)) (evac : has_evac (read_of (s.cell p)) ≡ true) (w : ℕ) (finds : Finds (s.cell p) w) where
+  abbrev f : IsNearTo (read_of w) q.len q.ds q.place q.marks.evac
+  f = found s p q law evac w finds
+
+  sealed_kept : (way : Way) → way_of s (read_of w) ≡ way → KeepsSealed s (core_by s p way)
+  sealed_kept Drops e = (sealed_logs_kept s p 0 0 law).ends
+  sealed_kept (Moves place) e =
+      let why = moves_when f.marks.dropped f.marks.hot (room s (size_of q.len) false) place (sym (ap (way_of s) f.near) ∙ e) in
+      (sealed_logs_kept s p q.len q.ds law).moves q.place place q.marks q.near (wanted s p q law evac) (alive_before s p q law evac w finds why.0) why.1
+  sealed_kept Goes e =
+      let why = goes_when f.marks.dropped f.marks.hot (room s (size_of q.len) false) (sym (ap (way_of s) f.near) ∙ e) in
+      (sealed_logs_kept s p q.len q.ds law).goes q.place q.marks q.near (wanted s p q law evac) (alive_before s p q law evac w finds why)
+
+pub round_sent : (s t : State) (r : Round) → InRound s r → (p : ℕ) (q : IsQuietNear s p) → Law (own_part s) → has_evac (read_of (s.cell p)) ≡ true → (order after : List ℕ) (result : Result Fate Refused) →
+    IfOk result (λ fate. LeavesBy s order t after p fate) → IfErr result (λ _. Knows s t) → InRound t r
+round_sent s t r in_round p q law evac order after (Ok fate) leaves kept =
+    round_called s (core_by s p (way_of s (read_of leaves.word))) t r in_round (sealed_kept s p q law evac leaves.word leaves.found (way_of s (read_of leaves.word)) refl) leaves.core
+round_sent s t r in_round p q law evac order after (Err why) leaves kept = round_found s t r in_round kept
+
+-- ---- and the walk as its definition says
+way_known : (s t : State) (order after : List ℕ) (phase : Phase) (held : List ℕ) (tally : Tally) (p : ℕ) (fate : Fate) (way : Way) → Knows (core_by s p way) t → after ≡ order_by s order way → fate ≡ fate_by way →
+    KnowsWalked (dealt_so (stand s order phase held tally) p way) (stand t after phase held (counted_as tally fate))
+way_known s t order after phase held tally p fate Drops knows sealed is = record { moment = record { core = knows; rest = λ i. record { core = t; order = sealed i; phase = phase; held = held } }; tally = ap (counted_as tally) is }
+way_known s t order after phase held tally p fate (Moves place) knows sealed is = record { moment = record { core = knows; rest = λ i. record { core = t; order = sealed i; phase = phase; held = held } }; tally = ap (counted_as tally) is }
+way_known s t order after phase held tally p fate Goes knows sealed is = record { moment = record { core = knows; rest = λ i. record { core = t; order = sealed i; phase = phase; held = held } }; tally = ap (counted_as tally) is }
+
+pub sent_known : (s t : State) (order after : List ℕ) (phase : Phase) (held : List ℕ) (tally : Tally) (p : ℕ) (fate : Fate) (leaves : LeavesBy s order t after p fate) →
+    KnowsWalked (dealt_as (stand s order phase held tally) p (read_of leaves.word)) (stand t after phase held (counted_as tally fate))
+sent_known s t order after phase held tally p fate leaves = way_known s t order after phase held tally p fate (way_of s (read_of leaves.word)) leaves.core leaves.sealed leaves.is
+
+way_exact : (s t : State) (order after : List ℕ) (phase : Phase) (held : List ℕ) (tally : Tally) (p : ℕ) (fate : Fate) (way : Way) → t ≡ core_by s p way → after ≡ order_by s order way → fate ≡ fate_by way →
+    stand t after phase held (counted_as tally fate) ≡ dealt_so (stand s order phase held tally) p way
+way_exact s t order after phase held tally p fate Drops core sealed is = λ i. stand (core i) (sealed i) phase held (counted_as tally (is i))
+way_exact s t order after phase held tally p fate (Moves place) core sealed is = λ i. stand (core i) (sealed i) phase held (counted_as tally (is i))
+way_exact s t order after phase held tally p fate Goes core sealed is = λ i. stand (core i) (sealed i) phase held (counted_as tally (is i))
+
+pub sent_exact : (s t : State) (order after : List ℕ) (phase : Phase) (held : List ℕ) (tally : Tally) (p w : ℕ) (fate : Fate) → LeavesAs s order t after p w fate →
+    stand t after phase held (counted_as tally fate) ≡ dealt_as (stand s order phase held tally) p (read_of w)
+sent_exact s t order after phase held tally p w fate leaves = way_exact s t order after phase held tally p fate (way_of s (read_of w)) leaves.core leaves.sealed leaves.is

@@ -1,0 +1,58 @@
+use Rattle.std.proofs.Common.{◌≡◌, ◌+◌, ◌∙◌, ◌∷◌, cond, length, arith, ap, sym, refl}
+use Rattle.far_evac.specs.declared.answers.Progress.{Progress}
+use Rattle.far_evac.specs.declared.phase.Phase.TheVariants as phase
+use Rattle.far_evac.specs.Leaving.{standing}
+use Rattle.far_evac.specs.Moment.{Moment}
+use Rattle.far_evac.specs.MomentLaw.{is_idle}
+use Rattle.far_evac.specs.Walk.{settled}
+use Rattle.far_evac.proofs.LiveLists.{knows_live}
+use Rattle.far_evac.proofs.Settling.{front_left, standing_known, step_exact, step_known, walked_known_more}
+use Rattle.far_evac.proofs.Walks.{walked_same}
+use Rattle.far_evac.proofs.evac.Evac.settle.Goals as goal
+
+pub loop-log-init : goal.loop-log-init
+loop-log-init g c = record {
+  known = walked_same (settled (standing g.N.Near.view c.args.self.now c.args.progress.now));
+  exact = λ still. refl;
+  ends = c.requires.phase ∙ sym (ap (λ none. cond none phase.Idle phase.Evacuating) (c.keeps_law.ensures.moment.runs ∙ ap is_idle c.requires.phase));
+  freed = refl;
+  done = refl;
+  device = refl;
+}
+
+pub returns-in-Some-first_in-clause-first : goal.returns-in-Some-first_in-clause-first
+returns-in-Some-first_in-clause-first g c =
+    let known = c.first_in.ensures.known in
+    let front = ap (λ (m : Moment). m.held) known.rest ∙ c.in-Some.ensures.some.1 in
+    let first = c.in-Some-first_in.ensures.first in
+    front_left (standing g.N.Near.view c.first_in.new.self c.loop-log.progress) c.in-Some.log c.in-Some.ensures.some.0 front c.in-Some-first_in.pointer first.0
+    (knows_live (g.N.Near.view c.loop-log.self.book.near) (g.N.Near.view c.first_in.new.self.book.near) known.core c.in-Some.log ∙ first.1)
+
+pub give_back-requires-clause-none : goal.give_back-requires-clause-none
+give_back-requires-clause-none g c =
+    knows_live (g.N.Near.view c.loop-log.self.book.near) (g.N.Near.view c.first_in.new.self.book.near) c.first_in.ensures.known.core c.in-Some.log ∙ c.in_default-first_in.ensures.none
+
+pub loop-log-preserved : goal.loop-log-preserved
+loop-log-preserved g c =
+    let view = g.N.Near.view in
+    let e = c.loop-log.self in
+    let f = c.first_in.new.self in
+    let h = c.give_back.new.self in
+    let log = c.in-Some.log in
+    let some = c.in-Some.ensures.some in
+    let none = c.in_default-first_in.ensures.none in
+    let held = c.give_back.ensures.held in
+    let order = c.give_back.ensures.order in
+    let before = c.loop-log.invariant in
+    let same = ap (λ (m : Moment). m.held) c.first_in.ensures.known.rest in
+    let next : Progress = record c.loop-log.progress { freed = c.loop-log.progress.freed + 1 } in
+    let long = ap length (sym same ∙ held) in
+    record {
+      known = walked_known_more (settled (standing view c.args.self.now c.args.progress.now)) (settled (standing view e c.loop-log.progress)) (settled (standing view h next)) before.known
+          (step_known view e f h c.loop-log.progress next log some.0 some.1 none order held refl c.first_in.ensures.known c.give_back.ensures.core);
+      exact = λ still. step_exact view e f h c.loop-log.progress next log some.0 some.1 none order held refl (c.first_in.ensures.exact still) (c.give_back.ensures.exact still) ∙ before.exact still;
+      ends = c.give_back.ensures.ends;
+      freed = omega (arith, long, before.freed);
+      done = before.done;
+      device = c.give_back.ensures.device ∙ c.first_in.ensures.device ∙ before.device;
+    }

@@ -1,0 +1,23 @@
+use Rattle.std.proofs.Common.{◌≡◌, ◌+◌, ◌∷◌, [], ℕ, List, false, cond, length, IfSome, IfNone}
+use Rattle.far_device.specs.Faults.{SpendsFault}
+use Rattle.far_evac.specs.declared.phase.Phase.TheVariants as phase
+use Rattle.far_evac.specs.AnyHand.{WalksTo}
+use Rattle.far_evac.specs.EvacOf.{moment}
+use Rattle.far_evac.specs.Leaving.{standing}
+use Rattle.far_evac.specs.Live.{is_empty}
+use Rattle.far_evac.specs.Walk.{left, walked}
+use Rattle.far_evac.proofs.evac.Evac.walk.Given as goal
+
+abbrev pub invariant-loop : goal.invariant-loop
+invariant-loop g l = record {
+  walks : WalksTo (moment g.N.Near.view l.fn.self) l.counter (standing g.N.Near.view l.self l.progress);
+  exact : g.N.Near.still → standing g.N.Near.view l.self l.progress ≡ walked (moment g.N.Near.view l.fn.self) l.counter;
+  ends : l.self.phase ≡ cond (is_empty l.self.held) phase.Idle phase.Evacuating;
+  some : IfSome l.first (λ p. (rest : List ℕ) × (left (standing g.N.Near.view l.self l.progress) ≡ p ∷ rest));
+  none : IfNone l.first (l.self.held ≡ []);
+  freed : l.progress.freed + length l.self.held ≡ length l.fn.self.held;
+  done : l.progress.done ≡ false;
+  faults : g.D.Device.faults l.self.book.device ≡ g.D.Device.faults l.fn.self.book.device;
+  spent : SpendsFault false (g.D.Device.fails_at_most l.fn.self.book.device) (g.D.Device.fails_at_most l.self.book.device);
+  honest : g.D.Device.honest l.self.book.device ≡ g.D.Device.honest l.fn.self.book.device;
+}

@@ -1,0 +1,19 @@
+use Rattle.std.proofs.Common.{◌≡◌, ◌∙◌, Ok, ap}
+use Rattle.far_book.specs.book.Effects.{with_free_cell}
+use Rattle.far_evac.proofs.Hands.{knows_spans}
+use Rattle.far_evac.proofs.SendingOff.{far_known, seen_known}
+use Rattle.far_evac.proofs.evac.evacuating.send_far.Goals as goal
+
+pub returns-in-Ok-true-clause-goes : goal.returns-in-Ok-true-clause-goes
+returns-in-Ok-true-clause-goes g c =
+    far_known (g.N.Near.view c.args.book.now.near) c.args.pointer c.requires.quiet c.keeps_law.ensures.law c.requires.evac (g.N.Near.view c.evict-answer.new.self.near) c.keeps_law-2.ensures.law c.requires.alive
+    (c.evict-answer.ensures.far (c.in-Ok-true.is ∙ ap (λ far. Ok far) c.in-Ok-true.field-0-test))
+
+pub returns-in-Ok-false-clause-goes : goal.returns-in-Ok-false-clause-goes
+returns-in-Ok-false-clause-goes g c =
+    let gone = c.evict-answer.ensures.gone (c.in-Ok-false.is ∙ ap (λ far. Ok far) c.in-Ok-false.field-0-test) in
+    (gone.word, gone.found, gone.dropped, knows_spans (with_free_cell (g.N.Near.view c.args.book.now.near) c.args.pointer) (g.N.Near.view c.evict-answer.new.self.near) gone.leaves c.keeps_law-2.ensures.law)
+
+pub returns-in-Err-clause-kept : goal.returns-in-Err-clause-kept
+returns-in-Err-clause-kept g c =
+    seen_known (g.N.Near.view c.args.book.now.near) (g.N.Near.view c.evict-answer.new.self.near) c.args.pointer c.in-Err.ensures.kept c.keeps_law-2.ensures.law

@@ -1,0 +1,19 @@
+use Rattle.std.proofs.Common.{◌≡◌, ◌-◌}
+use Rattle.far_word.specs.declared.sizes.TheConstants.{LOG_WORDS}
+use Rattle.far_evac.specs.AnyHand.{Knows}
+use Rattle.far_book.specs.book.NextLive.{IsBoundary}
+use Rattle.far_evac.specs.Standing.{MarkedBefore}
+use Rattle.far_evac.proofs.evac.marking.next_unmarked.Given as goal
+
+abbrev pub invariant-loop-span : goal.invariant-loop-span
+invariant-loop-span g l = record {
+  known : Knows (g.N.Near.view l.fn.book.near) (g.N.Near.view l.book.near);
+  exact : g.N.Near.still → g.N.Near.view l.book.near ≡ g.N.Near.view l.fn.book.near;
+  begins : IsBoundary (g.N.Near.view l.book.near) l.log l.from;
+  before : MarkedBefore (g.N.Near.view l.book.near) l.log l.from;
+  order : l.book.order ≡ l.fn.book.order;
+  device : l.book.device ≡ l.fn.book.device;
+}
+
+abbrev pub decreases-loop-span : goal.decreases-loop-span
+decreases-loop-span g l = LOG_WORDS - l.from
