@@ -23,7 +23,7 @@ pub some_chosen : (ls : List ℕ) → (length ls == 0) ≡ false → is_empty ls
 some_chosen [] h = absurd (true≢false h)
 some_chosen (l ∷ ls) h = refl
 
-pub sealed_used : (kind : Kind) → kind ≡ kinds.Sealed → kind ≢ kinds.Free
+sealed_used : (kind : Kind) → kind ≡ kinds.Sealed → kind ≢ kinds.Free
 sealed_used kind shut free = absurd cc
 
 module _ (s : State) (order : List ℕ) (law : Law (own_part s)) (sealed : (l : ℕ) → (list_any (eqb l) order ≡ true) ↔ (s.kind l ≡ kinds.Sealed)) (once : IsDistinct eqb order) where

@@ -45,19 +45,16 @@ use Rattle.far_evac.specs.MomentLaw.{MomentLaw, has_risen, is_idle}
 use Rattle.far_evac.specs.Ready.{IsHeld, Ready}
 use Rattle.far_evac.specs.RoundSteps.{among}
 use Rattle.far_evac.specs.Walk.{Drops, Goes, Moves, Walked, Way, begun, dealt_first, dealt_so, ended, freed, hot_way, is_done, left, passed, settled, walked, way_of}
+use Rattle.far_evac.proofs.Fronts.{vacant_in}
 use Rattle.far_evac.proofs.Leading.{in_heap, reached_none}
-use Rattle.far_evac.proofs.LeadingMarks.{listed_in, sealed_log}
 use Rattle.far_evac.proofs.LiveOnce.{NearAt, first_named, near_at}
 use Rattle.far_evac.proofs.Marks.{all_filter}
-use Rattle.far_evac.proofs.Orders.{passed_rests}
+use Rattle.far_evac.proofs.Onward.{sealed_inside}
+use Rattle.far_evac.proofs.Orders.{none_there, passed_rests}
 use Rattle.far_evac.proofs.Readiness.{or_right, risen_is_ready}
 use Rattle.far_evac.proofs.Tours.{core_so, first_live, goes_when, leaves_so, moves_when, ready_released, stand}
 
 -- ---- lists
-none_any : (P : ℕ → Type 0) (xs : List ℕ) → is_empty xs ≡ true → AllByRecursion P xs
-none_any P [] h = tt
-none_any P (x ∷ xs) h = absurd (false≢true h)
-
 of_among : (P : ℕ → Type 0) (ls : List ℕ) → AllByRecursion P ls → (l : ℕ) → among ls l ≡ true → P l
 of_among P [] all l member = absurd (false≢true member)
 of_among P (k ∷ ks) all l member = elim (cases_eq l k) [
@@ -88,13 +85,13 @@ pub record Walks (m : Moment) (w : Walked) : Type 0 where
 -- ---- the log in front is given back
 module _ (m : Moment) (s : State) (order : List ℕ) (phase : Phase) (l : ℕ) (ls : List ℕ) (h : GoesOn m s order phase (l ∷ ls)) (none : is_empty (live_in s l) ≡ true) where
   vacant : IsVacant s l
-  vacant p len ds place k near is = listed_in (λ _. ⊥) s h.law l (none_any (λ _. ⊥) (live_in s l) none) p (place.at, rw (near, eq-eqb place.log l is, eq-eqb place.at place.at refl) refl)
+  vacant = vacant_in s (own_law s h.law) l 0 (λ p len ds place marks near log. omega arith) (none_there (live_in s l) none)
 
   shut : s.kind l ≡ kinds.Sealed
   shut = h.ready.logs.0.0
 
   way_back : Reached s (released s l)
-  way_back = reached_one s (Get l 0 true) (sealed_log s h.law l shut, omega arith, (shut, vacant)) tt
+  way_back = reached_one s (Get l 0 true) (sealed_inside s (own_law s h.law) l shut, omega arith, (shut, vacant)) tt
 
   released_on : GoesOn m (released s l) (order_without l order) phase ls
   released_on = record {
