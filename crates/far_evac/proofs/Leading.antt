@@ -1,8 +1,8 @@
 -- Each call of a round leads by legal events, and keeps the laws.
-use Rattle.std.proofs.Common.{◌≡◌, ◌≢◌, ℕ, zero, suc, ◌+◌, ◌*◌, ◌<◌, ◌≤◌, ◌||◌, Bool, true, false, not, nat_lt, eqb, Option, Some, None, List, [], ◌∷◌, ◌++◌, inl, inr, arith, ap, sym, refl, ◌∙◌, subst}
+use Rattle.std.proofs.Common.{◌≡◌, ◌≢◌, ℕ, zero, suc, ◌+◌, ◌*◌, ◌<◌, ◌≤◌, ◌||◌, Bool, true, false, nat_lt, eqb, Option, Some, None, List, [], ◌∷◌, ◌++◌, inl, inr, arith, ap, sym, refl, ◌∙◌, subst}
 use Rattle.std.specs.Prelude.{fold}
-use Rattle.std.specs.List.{AllByRecursion, IsDistinct, find, range_with_len}
-use Rattle.std.proofs.lemmas.Bool.{cond_both, eq-eqb, false≢true, true≢false}
+use Rattle.std.specs.List.{AllByRecursion, find, range_with_len}
+use Rattle.std.proofs.lemmas.Bool.{cond_both, eq-eqb, false≢true}
 use Rattle.std.proofs.lemmas.Bool.Decides.{nat_tests}
 use Rattle.std.proofs.lemmas.Bool.{cases_lt}
 use Rattle.std.proofs.lemmas.List.Elements.{All-nil}
@@ -27,17 +27,16 @@ use Rattle.far_core.proofs.Put.{put_both}
 use Rattle.far_book.specs.book.Reached.{Reached}
 use Rattle.far_book.proofs.region.Reaching.{reached_law, reached_more, reached_one}
 use Rattle.far_evac.specs.declared.phase.Phase.{Phase}
-use Rattle.far_evac.specs.declared.phase.Phase.TheVariants.{Idle, Marking, Waiting, Evacuating}
-use Rattle.far_evac.specs.Choosing.{after_aborting, after_selecting}
+use Rattle.far_evac.specs.declared.phase.Phase.TheVariants.{Waiting, Evacuating}
 use Rattle.far_evac.specs.Laws.{looks}
 use Rattle.far_evac.specs.Leading.{AbortingLeads, Leads, PollingLeads, SelectingLeads}
-use Rattle.far_evac.specs.Live.{is_empty, live_among, live_in}
+use Rattle.far_evac.specs.Live.{live_among, live_in}
 use Rattle.far_evac.specs.Moment.{Moment}
 use Rattle.far_evac.specs.MomentLaw.{MomentLaw, has_risen, is_idle}
 use Rattle.far_evac.specs.RoundSteps.{among, unmarked, with_clear_below}
-use Rattle.far_evac.specs.Waiting.{after_polling, first_open, holds_up, polled_to}
+use Rattle.far_evac.specs.Waiting.{first_open, holds_up, polled_to}
 use Rattle.far_evac.proofs.LiveOnce.{LivesIn, each_map, live_named, near_at}
-use Rattle.far_evac.proofs.Readiness.{looks_see}
+use Rattle.far_evac.proofs.Readiness.{looks_see, or_left, or_right}
 use Rattle.far_evac.proofs.Standings.{none_once}
 use Rattle.far_evac.proofs.Unviewed.{none_found}
 
@@ -165,20 +164,12 @@ all_both : (P : ℕ → Type 0) (xs ys : List ℕ) → AllByRecursion P xs → A
 all_both P [] ys f g = g
 all_both P (x ∷ xs) ys f g = (f.0, all_both P xs ys f.1 g)
 
-pub or_here : (a b : Bool) → a ≡ true → (a || b) ≡ true
-or_here true b h = refl
-or_here false b h = absurd (false≢true h)
-
-pub or_there : (a b : Bool) → b ≡ true → (a || b) ≡ true
-or_there true b h = refl
-or_there false b h = h
-
 -- what holds of each pointer that lives in one of some logs holds of their live objects
 pub all_lives : (P : ℕ → Type 0) (s : State) (ls : List ℕ) → ((l p : ℕ) → among ls l ≡ true → LivesIn s l p → P p) → AllByRecursion P (live_among s ls)
 all_lives P s [] each = tt
 all_lives P s (l ∷ ls) each =
-    all_both P (live_in s l) (live_among s ls) (each_map (λ p h. each l p (or_here (eqb l l) (among ls l) (eq-eqb l l refl)) h) (live_in s l) (live_named s l))
-    (all_lives P s ls (λ k p member h. each k p (or_there (eqb k l) (among ls k) member) h))
+    all_both P (live_in s l) (live_among s ls) (each_map (λ p h. each l p (or_left (eqb l l) (among ls l) (eq-eqb l l refl)) h) (live_in s l) (live_named s l))
+    (all_lives P s ls (λ k p member h. each k p (or_right (eqb k l) (among ls k) member) h))
 
 -- ---- giving up
 still_near : (s : State) → Law s → (p q : ℕ) → IsNearOf s p → IsNearOf s q → IsNearOf (unmarked s p) q

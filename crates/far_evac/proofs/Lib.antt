@@ -18,6 +18,7 @@ pub mod Keeping
 pub mod Lacking
 pub mod Leading
 pub mod LeadingMarks
+pub mod LeadingWalks
 pub mod LiveLists
 pub mod LiveOnce
 pub mod LogBits

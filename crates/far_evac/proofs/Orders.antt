@@ -53,7 +53,7 @@ pub record Rests (w : Walked) (rest : List ℕ) : Type 0 where
   pub left : left w ≡ rest
   pub begins : BeginsLive w.moment.core w.moment.held
 
-none_there : (xs : List ℕ) → is_empty xs ≡ true → xs ≡ []
+pub none_there : (xs : List ℕ) → is_empty xs ≡ true → xs ≡ []
 none_there [] h = refl
 none_there (x ∷ xs) h = absurd (false≢true h)
 

@@ -28,11 +28,11 @@ use Rattle.far_evac.specs.RoundSteps.{advanced, among, is_clear_now, with_clear_
 use Rattle.far_evac.specs.Waiting.{holds_up}
 
 -- ---- ready
-or_right : (a b : Bool) → b ≡ true → (a || b) ≡ true
+pub or_right : (a b : Bool) → b ≡ true → (a || b) ≡ true
 or_right true b h = refl
 or_right false b h = h
 
-or_left : (a b : Bool) → a ≡ true → (a || b) ≡ true
+pub or_left : (a b : Bool) → a ≡ true → (a || b) ≡ true
 or_left true b h = refl
 or_left false b h = absurd (false≢true h)
 

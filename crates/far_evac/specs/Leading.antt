@@ -10,7 +10,7 @@ use Rattle.far_evac.specs.Moment.{Moment}
 use Rattle.far_evac.specs.MomentLaw.{MomentLaw, is_idle}
 use Rattle.far_evac.specs.RoundSteps.{among}
 use Rattle.far_evac.specs.Waiting.{after_polling}
-use Rattle.far_evac.specs.Walk.{ended, walked}
+use Rattle.far_evac.specs.Walk.{Walked, ended, is_done, walked}
 
 pub record Leads (m t : Moment) : Type 0 where
   pub reached : Reached m.core t.core
@@ -31,3 +31,11 @@ AbortingLeads = (m : Moment) → Law m.core → MomentLaw m → Leads m (after_a
 -- an epoch is left for the round
 abbrev pub MarkingLeads : Type 0
 MarkingLeads = (m : Moment) (n : ℕ) → Law m.core → MomentLaw m → m.phase ≡ Marking → is_spent m.core ≡ false → Leads m (after_marking m n)
+
+-- where a walk stands before an object that it is refused at, while a log is held; and what it answers, by which the round is over where none is
+pub record WalkLeads (m : Moment) (w : Walked) : Type 0 where
+  pub midst : is_done w ≡ false → Leads m w.moment
+  pub answer : Leads m (ended w)
+
+abbrev pub WalkingLeads : Type 0
+WalkingLeads = (m : Moment) (n : ℕ) → Law m.core → MomentLaw m → m.phase ≡ Evacuating → WalkLeads m (walked m n)

@@ -1,6 +1,6 @@
 //! What the definitions of a round come to, as contracts of functions that do nothing.
 
-ghost use Rattle.far_evac.specs.Leading.{AbortingLeads, MarkingLeads, PollingLeads, SelectingLeads};
+ghost use Rattle.far_evac.specs.Leading.{AbortingLeads, MarkingLeads, PollingLeads, SelectingLeads, WalkingLeads};
 ghost use Rattle.far_evac.specs.Laws.{CensusIsExact, ClearIsShown, ClearMeansUnviewed, DealingIsInOrder, ExactIsAllowed, GivingUpIsRight, LooksSeeClear, MarkingIsRight, PollIsAllowed, PollIsOnce, RisenIsReady, RoundIsAllowed, RoundIsEvent, WalkIsTour, WalksJoin};
 
 /// The exact walk, over words that nobody else changes, is one of those that are allowed over any hand.
@@ -83,11 +83,12 @@ pub fn poll_is_once()
     ensures { PollIsOnce }
 {}
 
-/// Selecting, marking, polling and giving up lead from a heap to the next by legal events of the core, and keep the law of the core and what is true
-/// between two calls.
+/// Selecting, marking, polling, dealing with objects and giving up lead from a heap to the next by legal events of the core, and keep the law of the
+/// core and what is true between two calls.
 pub fn rounds_lead()
     ensures selecting { SelectingLeads }
     ensures marking { MarkingLeads }
     ensures polling { PollingLeads }
+    ensures walking { WalkingLeads }
     ensures aborting { AbortingLeads }
 {}

@@ -1,6 +1,7 @@
 use Rattle.far_evac.proofs.laws.rounds_lead.Goals as goal
 use Rattle.far_evac.proofs.Leading.{aborting, polling, selecting}
 use Rattle.far_evac.proofs.LeadingMarks.{marking}
+use Rattle.far_evac.proofs.LeadingWalks.{walking}
 
 pub returns-clause-selecting : goal.returns-clause-selecting
 returns-clause-selecting c = selecting
@@ -13,3 +14,6 @@ returns-clause-aborting c = aborting
 
 pub returns-clause-marking : goal.returns-clause-marking
 returns-clause-marking c = marking
+
+pub returns-clause-walking : goal.returns-clause-walking
+returns-clause-walking c = walking
