@@ -1,5 +1,5 @@
 -- How a census grows, pointer by pointer.
-use Rattle.std.proofs.Common.{◌≡◌, ◌≢◌, ℕ, zero, suc, ◌+◌, ◌<◌, ◌≤◌, Bool, true, false, cond, Option, Some, None, List, [], ◌∷◌, ◌++◌, arith, ap, sym, refl, ◌∙◌, subst}
+use Rattle.std.proofs.Common.{◌≡◌, ℕ, zero, suc, ◌+◌, ◌≤◌, Bool, true, false, Option, Some, None, List, [], ◌∷◌, ◌++◌, arith, ap, sym, refl, ◌∙◌, subst}
 use Rattle.std.specs.List.{flat_map, range_with_len}
 use Rattle.std.proofs.lemmas.List.{append-nil}
 use Rattle.far_word.specs.declared.pointer.PtrWord.{PtrWord}
@@ -7,7 +7,7 @@ use Rattle.far_word.specs.declared.pointer.PtrWord.TheVariants.{Free, Near, Far}
 use Rattle.far_word.specs.Pointer.{read_of}
 use Rattle.far_core.specs.events.Naming.{is_dropped}
 use Rattle.far_core.specs.state.State.{State, put}
-use Rattle.far_core.proofs.Put.{put_other, put_same}
+use Rattle.far_core.proofs.Put.{put_other}
 use Rattle.far_book.specs.declared.home.Home.{Home}
 use Rattle.far_book.specs.book.Home.{home_of}
 use Rattle.far_book.specs.Finds.{Finds}

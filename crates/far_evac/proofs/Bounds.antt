@@ -1,15 +1,12 @@
 -- How many objects and logs a round deals with at most, so that no sum of its turns is too large.
-use Rattle.std.proofs.Common.{◌≡◌, ◌≢◌, ℕ, zero, suc, ◌+◌, ◌-◌, ◌*◌, ◌<◌, ◌≤◌, Bool, true, false, cond, nat_lt, List, [], ◌∷◌, ◌++◌, length, map, drop, eqb, arith, ap, sym, refl, ◌∙◌, subst, filter}
-use Rattle.std.specs.List.{IsDistinct}
-use Rattle.std.proofs.lemmas.Bool.{cond_both, true≢false, false≢true}
+use Rattle.std.proofs.Common.{◌≡◌, ◌≢◌, ℕ, zero, suc, ◌+◌, ◌*◌, ◌≤◌, Bool, false, cond, nat_lt, List, [], ◌∷◌, length, arith, ap, sym, refl, ◌∙◌, subst, filter}
+use Rattle.std.proofs.lemmas.Bool.{cond_both, true≢false}
 use Rattle.std.proofs.lemmas.List.{length-append, length-drop, length-map}
 use Rattle.std.proofs.lemmas.Map.Steps.{length-le_from_distinct_below}
 use Rattle.far_word.specs.declared.sizes.TheConstants.{LOG_WORDS, MOST_LOGS}
 use Rattle.far_word.specs.Sizes.{size_of}
 use Rattle.far_log.specs.declared.span.Span.{Span}
 use Rattle.far_log.specs.Spans.{head_len, span_at, spans_from, spans_in}
-use Rattle.far_core.specs.declared.event.Kind.{Kind}
-use Rattle.far_core.specs.declared.event.Kind.TheVariants as kinds
 use Rattle.far_core.specs.state.Law.{Law}
 use Rattle.far_core.specs.state.Spans.{spans_of, is_live, word_in}
 use Rattle.far_core.specs.state.State.{State}
@@ -18,20 +15,20 @@ use Rattle.far_evac.specs.declared.answers.Polled.{Polled}
 use Rattle.far_evac.specs.declared.answers.Polled.TheVariants.{Clear, StillOpen}
 use Rattle.far_evac.specs.declared.phase.Phase.{Phase}
 use Rattle.far_evac.specs.declared.phase.Phase.TheVariants.{Idle, Marking, Waiting, Evacuating}
-use Rattle.far_evac.specs.AnyHand.{Evacuates, FindsFirst, KnowsMoment, KnowsWalked, Polls, StopsAt, TurnsTo, WalksTo, found_first}
+use Rattle.far_evac.specs.AnyHand.{Evacuates, FindsFirst, Polls, StopsAt, TurnsTo, WalksTo, found_first}
 use Rattle.far_evac.specs.Laws.{DealtInOrder}
 use Rattle.far_evac.specs.Live.{live_in, live_among, pointers_of}
-use Rattle.far_evac.specs.Marking.{after_marking}
-use Rattle.far_evac.specs.Moment.{Moment, Tally, nothing, objects_in, plus}
+use Rattle.far_evac.specs.Moment.{Moment, Tally, nothing, plus}
 use Rattle.far_evac.specs.MomentLaw.{MomentLaw, has_risen, is_idle}
 use Rattle.far_evac.specs.Ready.{Ready}
 use Rattle.far_evac.specs.Turning.{GoesOn, IsBounded, IsWithin, most_objects}
 use Rattle.far_evac.specs.Turns.{turn_size}
-use Rattle.far_evac.specs.Walk.{Walked, begun, dealt_as, dealt_so, ended, is_done, left, passed, settled, way_of}
+use Rattle.far_evac.specs.Walk.{Walked, begun, dealt_so, ended, is_done, left, way_of}
 use Rattle.far_word.specs.Pointer.{read_of}
 use Rattle.far_evac.proofs.InOrder.{in_order}
 use Rattle.far_evac.proofs.Readiness.{risen_is_ready}
 use Rattle.far_evac.proofs.Rounds.{marking_runs, passed_phase, so_phase}
+use Rattle.far_evac.proofs.OfOneKind.{sealed_used}
 
 -- ---- a log has no more objects than words, and a heap no more logs than a heap may have
 few_spans : (word : ℕ → ℕ) (tail at fuel : ℕ) → length (spans_from word tail at fuel) ≤ fuel
@@ -55,9 +52,6 @@ module _ (s : State) (short : (l : ℕ) → s.tail l ≤ LOG_WORDS) where
   few_among : (ls : List ℕ) → length (live_among s ls) ≤ length ls * LOG_WORDS
   few_among [] = omega arith
   few_among (l ∷ ls) = omega (arith, length-append (live_in s l) (live_among s ls), few_in l, few_among ls)
-
-sealed_used : (kind : Kind) → kind ≡ kinds.Sealed → kind ≢ kinds.Free
-sealed_used kind shut free = absurd cc
 
 module _ (m : Moment) (law : Law (own_part m.core)) (agrees : MomentLaw m) where
   few_held : length m.held ≤ MOST_LOGS

@@ -4,7 +4,6 @@ use Rattle.std.specs.List.{IsDistinct, list_any}
 use Rattle.std.proofs.lemmas.Bool.{true≢false}
 use Rattle.far_word.specs.declared.sizes.TheConstants.{EPOCH_END, MOST_LOGS}
 use Rattle.far_log.specs.declared.row.LogRow.{LogRow}
-use Rattle.far_core.specs.declared.event.Kind.{Kind}
 use Rattle.far_core.specs.declared.event.Kind.TheVariants as kinds
 use Rattle.far_core.specs.state.Law.{Law}
 use Rattle.far_core.specs.state.State.{State}
@@ -18,13 +17,11 @@ use Rattle.far_evac.specs.declared.round.Round.{Round}
 use Rattle.far_evac.specs.Live.{is_empty}
 use Rattle.far_evac.specs.Standing.{InRound}
 use Rattle.far_evac.proofs.Standings.{chosen_round}
+use Rattle.far_evac.proofs.OfOneKind.{sealed_used}
 
 pub some_chosen : (ls : List ℕ) → (length ls == 0) ≡ false → is_empty ls ≡ false
 some_chosen [] h = absurd (true≢false h)
 some_chosen (l ∷ ls) h = refl
-
-sealed_used : (kind : Kind) → kind ≡ kinds.Sealed → kind ≢ kinds.Free
-sealed_used kind shut free = absurd cc
 
 module _ (s : State) (order : List ℕ) (law : Law (own_part s)) (sealed : (l : ℕ) → (list_any (eqb l) order ≡ true) ↔ (s.kind l ≡ kinds.Sealed)) (once : IsDistinct eqb order) where
   in_range : (l : ℕ) → is_among order l ≡ true → l < MOST_LOGS

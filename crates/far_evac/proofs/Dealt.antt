@@ -32,6 +32,7 @@ use Rattle.far_evac.specs.Live.{live_in, pointers_of}
 use Rattle.far_evac.specs.Ready.{Ready, IsHeld, AllMarked, OnLayout}
 use Rattle.far_evac.proofs.LiveLists.{live_left, same_spans}
 use Rattle.far_evac.proofs.LiveOnce.{but}
+use Rattle.far_evac.proofs.OfOneKind.{open_unsealed}
 
 -- ---- where a hot object goes: to no sealed log
 pub record NewPlace (s : State) (size : ℕ) (place : Place) : Type 0 where
@@ -43,9 +44,6 @@ free_unsealed : (kind : Kind) → is_free kind ≡ true → kind ≢ kinds.Seale
 free_unsealed kinds.Free h e = absurd cc
 free_unsealed kinds.Open h e = absurd (false≢true h)
 free_unsealed kinds.Sealed h e = absurd (false≢true h)
-
-open_unsealed : (kind : Kind) → kind ≡ kinds.Open → kind ≢ kinds.Sealed
-open_unsealed kind h e = absurd cc
 
 module _ (s : State) where
   abbrev IsFreeLog : ℕ → Type 0

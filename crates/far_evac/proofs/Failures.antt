@@ -1,17 +1,10 @@
 -- Which refusals say that the device failed, and that faults are counted over calls that come one after the other.
-use Rattle.std.proofs.Common.{◌≡◌, ◌⊎◌, ℕ, zero, suc, Bool, true, false, cond, Option, Some, None, Err, inl, inr, ap, sym, refl, ◌∙◌}
-use Rattle.std.proofs.lemmas.Bool.{cond_both}
+use Rattle.std.proofs.Common.{◌≡◌, ◌⊎◌, ℕ, zero, suc, Bool, true, false, Err, inl, inr, ap, sym, ◌∙◌}
 use Rattle.far_device.specs.Faults.{SpendsFault}
-use Rattle.far_word.specs.declared.refused.Refused.{Refused}
-use Rattle.far_word.specs.declared.refused.Refused.TheVariants.{BadChoice, Device as Failed, EpochsSpent, Memory, Phase as WrongPhase}
+use Rattle.far_word.specs.declared.refused.Refused.TheVariants.{Device as Failed, Memory}
 use Rattle.far_book.specs.book.Dealing.{is_failure}
-use Rattle.far_policy.specs.Choice.{IsBadChoice}
 use Rattle.far_evac.specs.declared.answers.EvacFault.{EvacFault}
-use Rattle.far_evac.specs.Choosing.{is_spent}
 use Rattle.far_evac.specs.Failing.{fails}
-use Rattle.far_evac.specs.Moment.{Moment}
-use Rattle.far_evac.specs.MomentLaw.{is_idle}
-use Rattle.far_evac.specs.Refusals.{unselectable}
 
 -- calls without a fault, and then one
 pub spends_on : (b : Bool) (first then now : ℕ → Type 0) → ((n : ℕ) → first n → then n) → SpendsFault b then now → SpendsFault b first now

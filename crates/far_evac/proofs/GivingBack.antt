@@ -1,5 +1,5 @@
 -- What giving the log in front back leaves of the round.
-use Rattle.std.proofs.Common.{◌≡◌, ◌≢◌, ℕ, suc, ◌+◌, ◌-◌, ◌<◌, ◌≤◌, ◌||◌, Bool, true, false, List, [], ◌∷◌, length, drop, eqb, inl, inr, arith, ap, sym, refl, ◌∙◌, subst}
+use Rattle.std.proofs.Common.{◌≡◌, ◌≢◌, ℕ, suc, ◌+◌, ◌-◌, ◌<◌, ◌≤◌, ◌||◌, true, false, List, [], ◌∷◌, length, drop, eqb, inl, inr, arith, ap, sym, refl, ◌∙◌, subst}
 use Rattle.std.specs.List.{AllByRecursion, IsDistinct}
 use Rattle.std.proofs.Math.ListN.{drop_of_length-le}
 use Rattle.std.proofs.lemmas.Bool.{cases_eq, ne_eqb, false≢true}
@@ -26,10 +26,7 @@ use Rattle.far_evac.proofs.Hands.{knows_forgotten}
 use Rattle.far_evac.proofs.Standings.{idle_round}
 use Rattle.far_evac.proofs.Tours.{others}
 use Rattle.far_evac.proofs.Walking.{drops_front}
-
-or_right : (a b : Bool) → b ≡ true → (a || b) ≡ true
-or_right true b h = refl
-or_right false b h = h
+use Rattle.far_evac.proofs.Bools.{or_right}
 
 -- what is true of each is so of a member
 member_each : (P : ℕ → Type 0) (ls : List ℕ) → AllByRecursion P ls → (k : ℕ) → among ls k ≡ true → P k

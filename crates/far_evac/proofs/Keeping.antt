@@ -1,5 +1,5 @@
 -- What leaves a round as it was: steps that leave the logs it holds.
-use Rattle.std.proofs.Common.{◌≡◌, ℕ, zero, suc, ◌+◌, ◌*◌, ◌<◌, ◌≤◌, ◌||◌, Bool, true, false, Some, List, [], ◌∷◌, take, drop, eqb, inl, inr, length, map, ap, sym, refl, ◌∙◌, subst}
+use Rattle.std.proofs.Common.{◌≡◌, ℕ, zero, suc, ◌+◌, ◌*◌, ◌<◌, ◌||◌, Bool, true, false, Some, List, [], ◌∷◌, take, drop, eqb, inl, inr, length, map, ap, sym, refl, ◌∙◌, subst}
 use Rattle.std.specs.List.{range_with_len}
 use Rattle.std.specs.Prelude.{slice_index}
 use Rattle.std.proofs.lemmas.Bool.{cond_both, eq-eqb, false≢true, true≢false}
@@ -26,6 +26,7 @@ use Rattle.far_evac.specs.declared.round.Round.{Round}
 use Rattle.far_evac.specs.MomentLaw.{is_idle}
 use Rattle.far_evac.specs.RoundSteps.{among}
 use Rattle.far_evac.specs.Standing.{Holds, InRound, Stands, held_in, held_of}
+use Rattle.far_evac.proofs.Bools.{or_left, or_right}
 
 -- from s to t these logs stay as they were, but that objects may have left them; those that lie there lay there before, and have EVAC where they had it
 pub record KeepsLogs (s t : State) (logs : List ℕ) : Type 0 where
@@ -40,14 +41,6 @@ pub record KeepsLogs (s t : State) (logs : List ℕ) : Type 0 where
   pub epoch : t.epoch ≡ s.epoch
 
 -- ---- the front log is held, and so are those that marking has passed
-or_right : (a b : Bool) → b ≡ true → (a || b) ≡ true
-or_right true b h = refl
-or_right false b h = h
-
-or_left : (a b : Bool) → a ≡ true → (a || b) ≡ true
-or_left true b h = refl
-or_left false b h = absurd (false≢true h)
-
 or_more : (a b c : Bool) → (b ≡ true → c ≡ true) → (a || b) ≡ true → (a || c) ≡ true
 or_more true b c more h = refl
 or_more false b c more h = more h

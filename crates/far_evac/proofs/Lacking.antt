@@ -1,5 +1,5 @@
 -- The objects that lack EVAC: once the first of them has it, the others are left.
-use Rattle.std.proofs.Common.{◌≡◌, ◌≢◌, ℕ, zero, suc, ◌+◌, ◌^◌, ◌<◌, ◌≤◌, Bool, true, false, cond, not, ◌&&◌, ◌||◌, ◌==◌, eqb, nat_le, nat_lt, Option, Some, None, List, [], ◌∷◌, ◌++◌, filter, take, drop, inl, inr, bit_or, arith, ap, sym, refl, ◌∙◌, subst}
+use Rattle.std.proofs.Common.{◌≡◌, ◌≢◌, ℕ, zero, suc, ◌+◌, ◌^◌, ◌<◌, ◌≤◌, Bool, true, false, cond, not, ◌&&◌, ◌==◌, eqb, nat_le, nat_lt, Option, Some, None, List, [], ◌∷◌, ◌++◌, filter, take, drop, inl, inr, bit_or, arith, ap, sym, refl, ◌∙◌, subst}
 use Rattle.std.specs.Prelude.{⊤, ◌⊎◌, Contains, fold}
 use Rattle.std.proofs.lemmas.List.{append_assoc, take-append-drop}
 use Rattle.std.proofs.lemmas.List.Sums.{fold-append}
@@ -40,11 +40,12 @@ use Rattle.far_evac.proofs.Changing.{marked_fits, marked_known}
 use Rattle.far_evac.proofs.Fronts.{kept_in}
 use Rattle.far_evac.proofs.Given.{drop_next}
 use Rattle.far_evac.proofs.Hands.{knows_more}
-use Rattle.far_evac.proofs.LiveOnce.{LivesIn, apart, behind, but, but_first, each_map, live_named, near_at, not_there}
+use Rattle.far_evac.proofs.LiveOnce.{LivesIn, all_append, apart, behind, but, but_first, each_map, live_named, near_at, not_there}
 use Rattle.far_evac.proofs.Marks.{IsNearWord, all_filter, all_near, clear_sets, live_near, mark_sets}
 use Rattle.far_evac.proofs.Onward.{or_split}
 use Rattle.far_evac.proofs.Orders.{left_known}
 use Rattle.far_evac.proofs.Passing.{alive, listed}
+use Rattle.far_evac.proofs.Bools.{or_left, or_right}
 
 abbrev pub lacks : State → ℕ → Bool
 lacks s q = not (has_evac (read_of (s.cell q)))
@@ -53,10 +54,6 @@ lacks s q = not (has_evac (read_of (s.cell q)))
 all_at : {X : Type 0} (P : X → Type 0) (x : X) (xs : List X) → AllByRecursion P xs → Contains xs x → P x
 all_at P x [] h member = absurd (none_in x member)
 all_at P x (y ∷ ys) h member = elim (split x y ys member) [ inl e ↦ subst P e h.0 | inr more ↦ all_at P x ys h.1 more ]
-
-all_append : (P : ℕ → Type 0) (xs ys : List ℕ) → AllByRecursion P xs → AllByRecursion P ys → AllByRecursion P (xs ++ ys)
-all_append P [] ys f g = g
-all_append P (x ∷ xs) ys f g = (f.0, all_append P xs ys f.1 g)
 
 in_left : (x : ℕ) (xs ys : List ℕ) → Contains xs x → Contains (xs ++ ys) x
 in_left x [] ys member = absurd (none_in x member)
@@ -75,14 +72,6 @@ in_pointers x (y ∷ ys) member = elim (split x y ys member) [
   | inl e ↦ subst (λ (z : Span). Contains (z.p ∷ pointers_of ys) x.p) (sym e) (here x.p (pointers_of ys))
   | inr more ↦ there x.p y.p (pointers_of ys) (in_pointers x ys more)
 ]
-
-or_first : (a b : Bool) → a ≡ true → (a || b) ≡ true
-or_first true b h = refl
-or_first false b h = absurd (false≢true h)
-
-or_second : (a b : Bool) → b ≡ true → (a || b) ≡ true
-or_second true b h = refl
-or_second false b h = h
 
 cases_bool : (b : Bool) → (b ≡ true) ⊎ (b ≡ false)
 cases_bool true = inl refl
@@ -293,8 +282,8 @@ module _ (s : State) where
   all_bare_not : (ls : List ℕ) → MarkedAmong s ls → AllByRecursion (λ q. lacks s q ≡ false) (live_among s ls)
   all_bare_not [] each = tt
   all_bare_not (l ∷ ls) each = all_append (λ q. lacks s q ≡ false) (live_in s l) (live_among s ls)
-      (bare_not l (λ p len ds place m near log. each p len ds place m near (or_first (eqb place.log l) (among ls place.log) (eq-eqb place.log l log))))
-      (all_bare_not ls (λ p len ds place m near member. each p len ds place m near (or_second (eqb place.log l) (among ls place.log) member)))
+      (bare_not l (λ p len ds place m near log. each p len ds place m near (or_left (eqb place.log l) (among ls place.log) (eq-eqb place.log l log))))
+      (all_bare_not ls (λ p len ds place m near member. each p len ds place m near (or_right (eqb place.log l) (among ls place.log) member)))
 
   pub none_lack : (ls : List ℕ) → MarkedAmong s ls → lacking s ls ≡ []
   none_lack ls each = filter_none (lacks s) (live_among s ls) (all_bare_not ls each)

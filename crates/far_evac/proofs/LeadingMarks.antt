@@ -1,7 +1,7 @@
 -- Marking leads by legal events: each mark is one, and where no object lacks EVAC the epoch rises by one more.
-use Rattle.std.proofs.Common.{◌≡◌, ◌≢◌, ℕ, ◌+◌, ◌*◌, ◌^◌, ◌%◌, ◌<◌, ◌≤◌, ◌==◌, ◌||◌, ◌&&◌, true, false, not, eqb, nat_lt, Some, List, [], ◌∷◌, length, bit_or, arith, ap, sym, refl, ◌∙◌, subst}
+use Rattle.std.proofs.Common.{◌≡◌, ℕ, ◌+◌, ◌*◌, ◌^◌, ◌%◌, ◌<◌, ◌≤◌, ◌==◌, ◌||◌, ◌&&◌, true, false, not, eqb, nat_lt, Some, List, [], ◌∷◌, length, bit_or, arith, ap, sym, refl, ◌∙◌, subst}
 use Rattle.std.specs.Prelude.{fold}
-use Rattle.std.proofs.lemmas.Bool.{cond_both, eq-eqb, false≢true, true≢false}
+use Rattle.std.proofs.lemmas.Bool.{cond_both, eq-eqb, false≢true}
 use Rattle.std.proofs.lemmas.Bool.Decides.{nat_tests}
 use Rattle.std.proofs.lemmas.List.{drop_all}
 use Rattle.std.proofs.lemmas.Nat.Bits.{bit_at-zero}
@@ -27,7 +27,6 @@ use Rattle.far_book.specs.book.Reached.{Reached}
 use Rattle.far_book.proofs.region.Owns.{own_law}
 use Rattle.far_book.proofs.region.Reaching.{reached_law, reached_more, reached_one}
 use Rattle.far_evac.specs.declared.phase.Phase.TheVariants.{Marking, Waiting}
-use Rattle.far_evac.specs.Choosing.{is_spent}
 use Rattle.far_evac.specs.Leading.{Leads, MarkingLeads}
 use Rattle.far_evac.specs.Live.{lacking, live_among}
 use Rattle.far_evac.specs.Marking.{leaves_some, marked_core, newly_marked}
@@ -40,7 +39,8 @@ use Rattle.far_evac.proofs.Lacking.{each_has, left_to}
 use Rattle.far_evac.proofs.LogBits.{with_log}
 use Rattle.far_evac.proofs.Marks.{all_filter, all_take}
 use Rattle.far_evac.proofs.Onward.{sealed_inside}
-use Rattle.far_evac.proofs.Readiness.{or_left, or_right, round_is_event}
+use Rattle.far_evac.proofs.Readiness.{round_is_event}
+use Rattle.far_evac.proofs.Bools.{or_left, or_right}
 
 -- ---- marks
 abbrev IsSealedOf : State → ℕ → Type 0
@@ -60,7 +60,7 @@ still_sealed s law p q (range, (len, ds, place, marks, near, log, shut)) (inside
 )
 
 -- cells alone change
-marks_cells : (ps : List ℕ) (s : State) → fold marked s ps ≡ record s { cell = (fold marked s ps).cell }
+pub marks_cells : (ps : List ℕ) (s : State) → fold marked s ps ≡ record s { cell = (fold marked s ps).cell }
 marks_cells [] s = refl
 marks_cells (p ∷ ps) s = marks_cells ps (marked s p)
 
@@ -85,7 +85,7 @@ module _ (m : Moment) (n : ℕ) (law : Law m.core) (moment : MomentLaw m) (marks
   t = marked_core m n
 
   way : Reached m.core t
-  way = reached_each (λ p. Mark p) (λ p. tt) IsSealedOf (λ s p h. h) still_sealed ps m.core law
+  way = reached_each (λ p. Mark p) (λ p. tt) (λ p. tt) IsSealedOf (λ s p h. h) still_sealed ps m.core law
       (all_take (IsSealedOf m.core) n (lacking m.core m.held) (all_filter (IsSealedOf m.core) (λ p. not (has_evac (read_of (m.core.cell p)))) (live_among m.core m.held)
       (all_lives (IsSealedOf m.core) m.core m.held (λ l p member h. sealed_near m.core law l p (moment.sealed l member) h))))
 
@@ -107,10 +107,11 @@ module _ (m : Moment) (n : ℕ) (law : Law m.core) (moment : MomentLaw m) (marks
       runs = moment.runs;
       round = λ risen. absurd (not_risen risen);
       clear = λ leaves. absurd (not_risen (ap has_risen leaves));
+      later = moment.later;
     };
   }
 
-  module _ (later : is_spent m.core ≡ false) (none : leaves_some m n ≡ false) where
+  module _ (none : leaves_some m n ≡ false) where
     abbrev rises : Moment
     rises = record m { core = advanced t m.held; phase = Waiting }
 
@@ -137,13 +138,13 @@ module _ (m : Moment) (n : ℕ) (law : Law m.core) (moment : MomentLaw m) (marks
 
     may : MayAdvance t bits
     may = record {
-      below = (let not_last : m.core.epoch + 1 ≢ EPOCH_END = λ e. true≢false (sym (eq-eqb (m.core.epoch + 1) EPOCH_END e) ∙ later) in omega (arith, not_last, same_epoch, law.scopes.epoch_below));
+      below = subst (λ e. e + 1 < EPOCH_END) (sym same_epoch) (moment.later marks);
       shut = λ l h. let sealed = held_sealed l (sym (same l) ∙ h) in (sealed_inside t (own_law t law_then) l sealed, sealed);
       marked = λ p len ds place k near member. each_has t (own_law t law_then) m.held none_lacks p len ds place k near (sym (same place.log) ∙ member);
     }
 
     way_up : Reached m.core (advanced t m.held)
-    way_up = reached_more m.core t (advanced t m.held) way (subst (Reached t) (sym (round_is_event t m.held bits same)) (reached_one t (Advance bits) may tt))
+    way_up = reached_more m.core t (advanced t m.held) way (subst (Reached t) (sym (round_is_event t m.held bits same)) (reached_one t (Advance bits) may tt tt))
 
     leads_up : Leads m rises
     leads_up = record {
@@ -157,9 +158,10 @@ module _ (m : Moment) (n : ℕ) (law : Law m.core) (moment : MomentLaw m) (marks
         runs = moment.runs ∙ ap is_idle marks;
         round = λ _ l member. member;
         clear = λ leaves. absurd cc;
+        later = λ odd. absurd cc;
       };
     }
 
 pub marking : MarkingLeads
-marking m n law moment marks later = cond_both (leaves_some m n) (record m { core = marked_core m n }) (record m { core = advanced (marked_core m n) m.held; phase = Waiting }) (Leads m)
-    (λ _. leads_on m n law moment marks) (leads_up m n law moment marks later)
+marking m n law moment marks = cond_both (leaves_some m n) (record m { core = marked_core m n }) (record m { core = advanced (marked_core m n) m.held; phase = Waiting }) (Leads m)
+    (λ _. leads_on m n law moment marks) (leads_up m n law moment marks)

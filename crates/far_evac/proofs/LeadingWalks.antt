@@ -42,17 +42,20 @@ use Rattle.far_evac.specs.Leading.{Leads, WalkingLeads}
 use Rattle.far_evac.specs.Live.{is_empty, live_among, live_in}
 use Rattle.far_evac.specs.Moment.{Moment, Tally}
 use Rattle.far_evac.specs.MomentLaw.{MomentLaw, has_risen, is_idle}
+use Rattle.far_evac.specs.Owned.{KeepsObjects, WalkingKeepsObjects}
 use Rattle.far_evac.specs.Ready.{IsHeld, Ready}
 use Rattle.far_evac.specs.RoundSteps.{among}
 use Rattle.far_evac.specs.Walk.{Drops, Goes, Moves, Walked, Way, begun, dealt_first, dealt_so, ended, freed, hot_way, is_done, left, passed, settled, walked, way_of}
 use Rattle.far_evac.proofs.Fronts.{vacant_in}
+use Rattle.far_evac.proofs.KeptObjects.{evicted_objects, freed_objects, moved_objects, objects_more, objects_none, released_objects}
 use Rattle.far_evac.proofs.Leading.{in_heap, reached_none}
 use Rattle.far_evac.proofs.LiveOnce.{NearAt, first_named, near_at}
 use Rattle.far_evac.proofs.Marks.{all_filter}
 use Rattle.far_evac.proofs.Onward.{sealed_inside}
 use Rattle.far_evac.proofs.Orders.{none_there, passed_rests}
-use Rattle.far_evac.proofs.Readiness.{or_right, risen_is_ready}
+use Rattle.far_evac.proofs.Readiness.{risen_is_ready}
 use Rattle.far_evac.proofs.Tours.{core_so, first_live, goes_when, leaves_so, moves_when, ready_released, stand}
+use Rattle.far_evac.proofs.Bools.{or_right}
 
 -- ---- lists
 of_among : (P : ℕ → Type 0) (ls : List ℕ) → AllByRecursion P ls → (l : ℕ) → among ls l ≡ true → P l
@@ -77,6 +80,7 @@ pub record GoesOn (m : Moment) (s : State) (order : List ℕ) (phase : Phase) (h
   ready : Ready s held
   clear : (k : ℕ) → k < s.mutators → s.clear k ≡ true
   leaves : phase ≡ Evacuating
+  objects : KeepsObjects m.core s
 
 pub record Walks (m : Moment) (w : Walked) : Type 0 where
   goes : GoesOn m w.moment.core w.moment.order w.moment.phase w.moment.held
@@ -91,7 +95,7 @@ module _ (m : Moment) (s : State) (order : List ℕ) (phase : Phase) (l : ℕ) (
   shut = h.ready.logs.0.0
 
   way_back : Reached s (released s l)
-  way_back = reached_one s (Get l 0 true) (sealed_inside s (own_law s h.law) l shut, omega arith, (shut, vacant)) tt
+  way_back = reached_one s (Get l 0 true) (sealed_inside s (own_law s h.law) l shut, omega arith, (shut, vacant)) tt tt
 
   released_on : GoesOn m (released s l) (order_without l order) phase ls
   released_on = record {
@@ -105,6 +109,7 @@ module _ (m : Moment) (s : State) (order : List ℕ) (phase : Phase) (l : ℕ) (
     ready = ready_released s l ls h.ready;
     clear = h.clear;
     leaves = h.leaves;
+    objects = objects_more m.core s (released s l) h.objects (released_objects s l);
   }
 
 passed_goes : (m : Moment) (ls : List ℕ) (v : Walked) → GoesOn m v.moment.core v.moment.order v.moment.phase ls →
@@ -188,9 +193,9 @@ module _ (m : Moment) (s : State) (order : List ℕ) (phase : Phase) (l : ℕ) (
   by_cell : (way : Way) → WayIs way → cond at_home.marks.dropped Drops (cond at_home.marks.hot (hot_way (room s (size_of at_home.len) false)) Goes) ≡ way
   by_cell way is = sym (ap (way_of s) at_home.near) ∙ is
 
-  next_on : (way : Way) → WayIs way → (now : List ℕ) → Reached s (core_so s p way) → ((k : ℕ) → among now k ≡ is_sealed ((core_so s p way).kind k)) → IsDistinct eqb now → KeepsSealed s (core_so s p way) →
+  next_on : (way : Way) → WayIs way → (now : List ℕ) → Reached s (core_so s p way) → ((k : ℕ) → among now k ≡ is_sealed ((core_so s p way).kind k)) → IsDistinct eqb now → KeepsSealed s (core_so s p way) → KeepsObjects s (core_so s p way) →
       GoesOn m (core_so s p way) now phase (l ∷ ls)
-  next_on way is now reached has_sealed once keeps = record {
+  next_on way is now reached has_sealed once keeps objects = record {
     reached = reached_more m.core s (core_so s p way) h.reached reached;
     law = reached_law s (core_so s p way) h.law reached;
     has_sealed = has_sealed;
@@ -198,12 +203,13 @@ module _ (m : Moment) (s : State) (order : List ℕ) (phase : Phase) (l : ℕ) (
     ready = (leaves_so s l ls p ps h.ready first way is).ready;
     clear = λ k lt. ap (λ clear. clear k) keeps.clear ∙ h.clear k (subst (λ n. k < n) keeps.mutators lt);
     leaves = h.leaves;
+    objects = objects_more m.core s (core_so s p way) h.objects objects;
   }
 
   drops_on : WayIs Drops → GoesOn m (with_free_cell s p) order phase (l ∷ ls)
   drops_on is =
       let dropped : is_dropped (read_of (s.cell p)) ≡ true = ap is_dropped at_home.near ∙ drops_when at_home.marks.dropped at_home.marks.hot (room s (size_of at_home.len) false) (by_cell Drops is) in
-      next_on Drops is order (subst (Reached s) (retired_is s p dropped) (retiring s p h.law pointer dropped).0) h.has_sealed h.once stay.ends
+      next_on Drops is order (subst (Reached s) (retired_is s p dropped) (retiring s p h.law pointer dropped).0) h.has_sealed h.once stay.ends (freed_objects s p dropped)
 
   moves_on : (to : Place) → WayIs (Moves to) → GoesOn m (moved s p to) (order_after s order to) phase (l ∷ ls)
   moves_on to is =
@@ -215,12 +221,14 @@ module _ (m : Moment) (s : State) (order : List ℕ) (phase : Phase) (l : ℕ) (
       (sealed_after s (moved s p to) h.law order h.has_sealed p at_home.len at_home.ds at_home.place to is_room.next way.3)
       (once_after s (moved s p to) h.law order h.has_sealed p at_home.len at_home.ds at_home.place to is_room.next way.3 h.once)
       (stay.moves at_home.place to at_home.marks at_home.near marked why.0 why.1)
+      (moved_objects s p at_home.len at_home.ds at_home.place to at_home.marks h.law at_home.near quiet why.0 marked why.1)
 
   goes_on : WayIs Goes → GoesOn m (evicted s p) order phase (l ∷ ls)
   goes_on is =
       let alive = goes_when at_home.marks.dropped at_home.marks.hot (room s (size_of at_home.len) false) (by_cell Goes is) in
       let way = evicting s p at_home.len at_home.ds at_home.place at_home.marks h.law pointer at_home.near quiet marked alive in
       next_on Goes is order way.0 (λ k. h.has_sealed k ∙ ap is_sealed (sym (way.3.kinds k))) h.once (stay.goes at_home.place at_home.marks at_home.near marked alive)
+      (evicted_objects s p at_home.len at_home.ds at_home.place at_home.marks h.law pointer at_home.near quiet marked alive)
 
   dealt_on : (tally : Tally) (way : Way) → WayIs way → Walks m (settled (dealt_so (stand s order phase (l ∷ ls) tally) p way))
   dealt_on tally Drops is = passed_on m (l ∷ ls) (dealt_so (stand s order phase (l ∷ ls) tally) p Drops) (drops_on is)
@@ -252,6 +260,7 @@ begun_on m law moment leaves = record {
   ready = risen_is_ready m (own_law m.core law) moment (ap has_risen leaves);
   clear = moment.clear leaves;
   leaves = leaves;
+  objects = objects_none m.core;
 }
 
 walks_on : (m : Moment) (n : ℕ) → Law m.core → MomentLaw m → m.phase ≡ Evacuating → Walks m (walked m n)
@@ -275,6 +284,7 @@ module _ (m : Moment) (w : Walked) (h : GoesOn m w.moment.core w.moment.order w.
       runs = some ∙ sym (ap is_idle h.leaves);
       round = λ _ l member. (of_among (IsHeld w.moment.core) w.moment.held h.ready.logs l member).2;
       clear = λ _. h.clear;
+      later = λ marks. absurd (false≢true (sym (ap has_risen marks) ∙ ap has_risen h.leaves));
     };
   }
 
@@ -290,6 +300,7 @@ module _ (m : Moment) (w : Walked) (h : GoesOn m w.moment.core w.moment.order w.
       runs = done;
       round = λ risen. absurd (false≢true risen);
       clear = λ leaves. absurd cc;
+      later = λ marks. absurd cc;
     };
   }
 
@@ -300,3 +311,16 @@ pub walking : WalkingLeads
 walking m n law moment leaves =
     let h = (walks_on m n law moment leaves).goes in
     record { midst = midst_leads m (walked m n) h; answer = answer_leads m (walked m n) h }
+
+-- the law stays in its midst too
+pub walking_law : (m : Moment) (n : ℕ) → Law m.core → MomentLaw m → m.phase ≡ Evacuating → Law (walked m n).moment.core
+walking_law m n law moment leaves = (walks_on m n law moment leaves).goes.law
+
+-- ---- what owners have
+ended_core : (w : Walked) → (ended w).core ≡ w.moment.core
+ended_core w = cond_both (is_done w) (record w.moment { phase = Idle }) w.moment (λ (t : Moment). t.core ≡ w.moment.core) (λ _. refl) (λ _. refl)
+
+pub walking_objects : WalkingKeepsObjects
+walking_objects m n law moment leaves =
+    let h = (walks_on m n law moment leaves).goes in
+    record { midst = h.objects; answer = subst (KeepsObjects m.core) (sym (ended_core (walked m n))) h.objects }

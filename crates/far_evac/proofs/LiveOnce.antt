@@ -1,5 +1,5 @@
 -- A pointer lives in one log, once.
-use Rattle.std.proofs.Common.{◌≡◌, ◌≢◌, ℕ, zero, suc, ◌+◌, ◌<◌, ◌≤◌, true, cond, not, ◌==◌, nat_lt, Option, Some, None, List, [], ◌∷◌, filter, arith, ap, sym, refl, ◌∙◌, subst}
+use Rattle.std.proofs.Common.{◌≡◌, ◌≢◌, ℕ, zero, suc, ◌+◌, ◌<◌, ◌≤◌, true, cond, not, ◌==◌, nat_lt, Option, Some, None, List, [], ◌∷◌, ◌++◌, filter, arith, ap, sym, refl, ◌∙◌, subst}
 use Rattle.std.specs.List.{AllByRecursion}
 use Rattle.std.specs.Prelude.{⊤}
 use Rattle.std.proofs.lemmas.Bool.{cond_both, eq-eqb, ne_eqb, true≢false}
@@ -20,6 +20,10 @@ use Rattle.far_evac.specs.Live.{live_in, pointers_of}
 pub each_map : {X : Type 0} {P Q : X → Type 0} → ((x : X) → P x → Q x) → (xs : List X) → AllByRecursion P xs → AllByRecursion Q xs
 each_map f [] h = tt
 each_map f (x ∷ xs) h = (f x h.0, each_map f xs h.1)
+
+pub all_append : (P : ℕ → Type 0) (xs ys : List ℕ) → AllByRecursion P xs → AllByRecursion P ys → AllByRecursion P (xs ++ ys)
+all_append P [] ys f g = g
+all_append P (x ∷ xs) ys f g = (f.0, all_append P xs ys f.1 g)
 
 -- all but p
 abbrev pub but : ℕ → List ℕ → List ℕ

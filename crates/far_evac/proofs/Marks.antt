@@ -1,5 +1,5 @@
 -- What marking and giving up make of cells: EVAC is set or taken, and nothing else changes.
-use Rattle.std.proofs.Common.{◌≡◌, ◌≢◌, ℕ, zero, suc, ◌^◌, ◌<◌, ◌≤◌, Bool, true, false, cond, not, Some, List, [], ◌∷◌, ◌++◌, length, take, filter, bit_or, arith, ap, sym, refl, ◌∙◌, subst}
+use Rattle.std.proofs.Common.{◌≡◌, ◌≢◌, ℕ, zero, suc, ◌^◌, ◌<◌, ◌≤◌, Bool, true, false, cond, not, Some, List, [], ◌∷◌, length, take, filter, bit_or, arith, ap, sym, refl, ◌∙◌, subst}
 use Rattle.std.specs.Prelude.{fold}
 use Rattle.std.specs.List.{AllByRecursion}
 use Rattle.std.proofs.lemmas.Bool.{cond_both}
@@ -25,7 +25,7 @@ use Rattle.far_evac.specs.Marking.{after_marking, leaves_some, marked_core, newl
 use Rattle.far_evac.specs.Moment.{Moment}
 use Rattle.far_evac.specs.Choosing.{after_aborting}
 use Rattle.far_evac.specs.RoundSteps.{advanced, unmarked}
-use Rattle.far_evac.proofs.LiveOnce.{LivesIn, each_map, live_named, near_at}
+use Rattle.far_evac.proofs.LiveOnce.{LivesIn, all_append, each_map, live_named, near_at}
 
 -- ---- one cell
 -- a near word of 64 bits
@@ -115,13 +115,9 @@ module _ (s : State) (fits : (p : ℕ) → s.cell p < 2 ^ 64) where
   pub near_word : (l p : ℕ) → LivesIn s l p → IsNearWord (s.cell p)
   near_word l p h = let x = near_at (read_of (s.cell p)) l h.0 h.1 in (fits p, (x.len, x.ds, x.place, x.marks, x.near))
 
-  all_append : (xs ys : List ℕ) → AllByRecursion (λ p. IsNearWord (s.cell p)) xs → AllByRecursion (λ p. IsNearWord (s.cell p)) ys → AllByRecursion (λ p. IsNearWord (s.cell p)) (xs ++ ys)
-  all_append [] ys f g = g
-  all_append (x ∷ xs) ys f g = (f.0, all_append xs ys f.1 g)
-
   pub live_near : (ls : List ℕ) → AllByRecursion (λ p. IsNearWord (s.cell p)) (live_among s ls)
   live_near [] = tt
-  live_near (l ∷ ls) = all_append (live_in s l) (live_among s ls) (each_map (near_word l) (live_in s l) (live_named s l)) (live_near ls)
+  live_near (l ∷ ls) = all_append (λ p. IsNearWord (s.cell p)) (live_in s l) (live_among s ls) (each_map (near_word l) (live_in s l) (live_named s l)) (live_near ls)
 
 pub all_filter : (P : ℕ → Type 0) (f : ℕ → Bool) (xs : List ℕ) → AllByRecursion P xs → AllByRecursion P (filter f xs)
 all_filter P f [] h = tt

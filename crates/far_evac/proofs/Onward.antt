@@ -3,7 +3,6 @@ use Rattle.std.proofs.Common.{◌≡◌, ◌≢◌, ℕ, suc, ◌+◌, ◌<◌, 
 use Rattle.std.specs.Prelude.{◌⊎◌}
 use Rattle.std.proofs.lemmas.Bool.{eqb-true, false≢true}
 use Rattle.std.proofs.lemmas.List.{drop_more, take_all}
-use Rattle.far_core.specs.declared.event.Kind.{Kind}
 use Rattle.far_core.specs.declared.event.Kind.TheVariants as kinds
 use Rattle.far_core.specs.state.Law.{Law}
 use Rattle.far_core.specs.state.State.{State}
@@ -18,6 +17,8 @@ use Rattle.far_evac.specs.RoundSteps.{among}
 use Rattle.far_evac.specs.Standing.{Holds, InRound, MarkedAmong, MarkedBefore, held_of}
 use Rattle.far_evac.proofs.Given.{drop_next}
 use Rattle.far_evac.proofs.Keeping.{dropped_among}
+use Rattle.far_evac.proofs.Bools.{or_right}
+use Rattle.far_evac.proofs.OfOneKind.{sealed_used}
 
 -- ---- phases, lists
 pub not_leaving : Marking ≢ Evacuating
@@ -44,21 +45,15 @@ last_among [] l k h = elim (or_split (eqb k l) false h) [
 last_among (x ∷ xs) l k h = elim (or_split (eqb k x) (among (xs ++ l ∷ []) k) h) [
   | inl e ↦ inl (ap (λ b. b || among xs k) e)
   | inr more ↦ elim (last_among xs l k more) [
-    | inl e ↦ inl (or_second (eqb k x) (among xs k) e)
+    | inl e ↦ inl (or_right (eqb k x) (among xs k) e)
     | inr e ↦ inr e
   ]
-] where
-  or_second : (a b : Bool) → b ≡ true → (a || b) ≡ true
-  or_second true b h = refl
-  or_second false b h = h
+]
 
 pub front_is : (xs ys : List ℕ) (i n : ℕ) → ys ≡ xs → n ≡ length xs → i < n → drop i xs ≡ slice_index_or ys i 0 ∷ drop (i + 1) xs
 front_is xs ys i n same len lt = drop_more xs i 0 (subst (λ k. i < k) len lt) ∙ ap (λ zs. slice_index_or zs i 0 ∷ drop (i + 1) xs) (sym same)
 
 -- ---- a log that is held is one of the heap's
-sealed_used : (kind : Kind) → kind ≡ kinds.Sealed → kind ≢ kinds.Free
-sealed_used kind sealed free = absurd cc
-
 pub sealed_inside : (s : State) → Law (own_part s) → (l : ℕ) → s.kind l ≡ kinds.Sealed → l < s.logs
 sealed_inside s law l sealed = law.logs.log_range l (sealed_used (s.kind l) sealed)
 

@@ -26,16 +26,9 @@ use Rattle.far_evac.specs.MomentLaw.{MomentLaw, has_risen}
 use Rattle.far_evac.specs.Ready.{IsHeld, Ready}
 use Rattle.far_evac.specs.RoundSteps.{advanced, among, is_clear_now, with_clear_below}
 use Rattle.far_evac.specs.Waiting.{holds_up}
+use Rattle.far_evac.proofs.Bools.{or_left, or_right}
 
 -- ---- ready
-pub or_right : (a b : Bool) → b ≡ true → (a || b) ≡ true
-or_right true b h = refl
-or_right false b h = h
-
-pub or_left : (a b : Bool) → a ≡ true → (a || b) ≡ true
-or_left true b h = refl
-or_left false b h = absurd (false≢true h)
-
 each_among : (P : ℕ → Type 0) (ls : List ℕ) → ((l : ℕ) → among ls l ≡ true → P l) → AllByRecursion P ls
 each_among P [] h = tt
 each_among P (l ∷ ls) h =

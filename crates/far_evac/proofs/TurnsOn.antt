@@ -1,22 +1,14 @@
 -- One turn more: its chain over any hand, and the function where no word changes.
-use Rattle.std.proofs.Common.{◌≡◌, ◌≢◌, ℕ, zero, suc, ◌+◌, ◌-◌, ◌<◌, ◌≤◌, Bool, true, false, cond, ◌==◌, List, [], ◌∷◌, length, arith, ap, sym, refl, ◌∙◌, subst}
+use Rattle.std.proofs.Common.{◌≡◌, ◌≢◌, ℕ, zero, suc, ◌+◌, ◌-◌, ◌<◌, ◌≤◌, true, false, cond, List, [], ◌∷◌, length, arith, ap, sym, refl, ◌∙◌}
 use Rattle.std.proofs.lemmas.Bool.{true≢false}
-use Rattle.std.proofs.lemmas.Bool.Decides.{nat_tests}
-use Rattle.far_evac.specs.declared.answers.Progress.{Progress}
-use Rattle.far_evac.specs.declared.answers.RoundEnd.{RoundEnd}
-use Rattle.far_evac.specs.declared.answers.RoundEnd.TheVariants.{Done, Limit, Nothing}
+use Rattle.far_evac.specs.declared.answers.RoundEnd.TheVariants.{Done}
 use Rattle.far_evac.specs.declared.phase.Phase.{Phase}
-use Rattle.far_evac.specs.declared.phase.Phase.TheVariants.{Idle, Marking, Waiting, Evacuating}
-use Rattle.far_evac.specs.AnyHand.{RunsRound, StopsAt, StopsRound, TurnsMade, TurnsTo, sum_of}
-use Rattle.far_evac.specs.Choosing.{after_selecting}
-use Rattle.far_evac.specs.Marking.{after_marking}
-use Rattle.far_evac.specs.Moment.{Moment, Tally, nothing, plus, progress_of, tally_of}
+use Rattle.far_evac.specs.declared.phase.Phase.TheVariants.{Idle}
+use Rattle.far_evac.specs.AnyHand.{TurnsMade, TurnsTo, sum_of}
+use Rattle.far_evac.specs.Moment.{Moment, Tally, nothing, plus, progress_of}
 use Rattle.far_evac.specs.MomentLaw.{is_idle}
-use Rattle.far_evac.specs.Turning.{EndsTurns, StopsTurns, turned_at}
-use Rattle.far_evac.specs.Turns.{IsRound, Turned, begun_turns, round_end, turn_size, turned, turns_made}
-use Rattle.far_evac.specs.Waiting.{after_polling}
-use Rattle.far_evac.specs.Walk.{ended, is_done, walked}
-use Rattle.far_evac.proofs.Joined.{plus_nothing}
+use Rattle.far_evac.specs.Turning.{EndsTurns, turned_at}
+use Rattle.far_evac.specs.Turns.{Turned, turned, turns_made}
 
 pub not_idle : (phase : Phase) → is_idle phase ≡ false → phase ≢ Idle
 not_idle phase runs e = true≢false (sym (ap is_idle e) ∙ runs)

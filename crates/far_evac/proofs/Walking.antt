@@ -1,8 +1,7 @@
 -- Where a walk stands: the log in front of it, and the round once it stands elsewhere.
-use Rattle.std.proofs.Common.{◌≡◌, ◌≢◌, ℕ, ◌+◌, ◌<◌, true, List, [], ◌∷◌, drop, ap, sym, ◌∙◌, subst}
+use Rattle.std.proofs.Common.{◌≡◌, ℕ, ◌+◌, ◌<◌, true, List, [], ◌∷◌, drop, ap, sym, ◌∙◌, subst}
 use Rattle.far_word.specs.Sizes.{size_of}
 use Rattle.far_log.specs.declared.span.Span.{Span}
-use Rattle.far_core.specs.declared.event.Kind.{Kind}
 use Rattle.far_core.specs.declared.event.Kind.TheVariants as kinds
 use Rattle.far_core.specs.events.Get.{IsVacant}
 use Rattle.far_core.specs.state.Law.{Law}
@@ -19,9 +18,7 @@ use Rattle.far_evac.specs.RoundSteps.{among}
 use Rattle.far_evac.specs.Standing.{InRound, LiesFrom, held_in, held_of}
 use Rattle.far_evac.proofs.Fronts.{first_begins, first_lies, vacant_in}
 use Rattle.far_evac.proofs.Keeping.{dropped_among}
-
-sealed_used : (kind : Kind) → kind ≡ kinds.Sealed → kind ≢ kinds.Free
-sealed_used kind shut free = absurd cc
+use Rattle.far_evac.proofs.OfOneKind.{sealed_used}
 
 same_front : (k l : ℕ) (ks ls : List ℕ) → k ∷ ks ≡ l ∷ ls → k ≡ l
 same_front k l ks ls e = cc

@@ -1,6 +1,8 @@
 -- An evacuator as its callers see it.
 use Rattle.std.specs.Prelude.{ℕ, List}
+use Rattle.far_core.specs.state.CoreState.{core_state}
 use Rattle.far_core.specs.state.State.{State}
+use Rattle.far_book.specs.declared.plain.Plain.{Plain}
 use Rattle.far_book.specs.book.BookOf.{BookOf}
 use Rattle.far_evac.specs.declared.phase.Phase.{Phase}
 use Rattle.far_evac.specs.Moment.{Moment}
@@ -14,3 +16,7 @@ pub record EvacOf (N D : Type 0) : Type 0 where
 -- the moment that it stands at, as far as its hand knows the words
 abbrev pub moment : {N D : Type 0} → (N → State) → EvacOf N D → Moment
 moment view e = record { core = view e.book.near; order = e.book.order; phase = e.phase; held = e.held }
+
+-- the same over a core of its own, whose words are all known
+abbrev pub moment_alone : {D : Type 0} → EvacOf Plain D → Moment
+moment_alone e = moment (λ (near : Plain). core_state near.core) e

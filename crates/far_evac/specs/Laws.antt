@@ -18,6 +18,7 @@ use Rattle.far_core.specs.state.State.{State}
 use Rattle.far_book.specs.declared.home.Home.{Home}
 use Rattle.far_book.specs.book.Home.{home_of}
 use Rattle.far_evac.specs.Census.{homes_of}
+use Rattle.far_evac.specs.declared.phase.Phase.TheVariants.{Waiting}
 use Rattle.far_evac.specs.AnyHand.{Polls, RunsRound, WalksTo, Walks}
 use Rattle.far_evac.specs.Choosing.{after_aborting, after_selecting}
 use Rattle.far_evac.specs.Dealings.{DealsWith, GivesBack, says}
@@ -127,3 +128,8 @@ CensusIsExact = (s : State) (p : ℕ) (home : Home) → Contains (homes_of s) re
 -- a poll that found an owner open finds it again, and leaves what one poll left
 abbrev pub PollIsOnce : Type 0
 PollIsOnce = (m : Moment) (k : ℕ) → first_open m.core ≡ Some k → (first_open (after_polling m).core ≡ Some k) × (after_polling (after_polling m) ≡ after_polling m)
+
+-- where a turn found the round waiting, and left it so, no turn after it changes anything
+abbrev pub WaitingStays : Type 0
+WaitingStays = (m : Moment) (n k : ℕ) → (turns_made m n).moment.phase ≡ Waiting → (turns_made m (n + 1)).moment.phase ≡ Waiting →
+    (turns_made m (n + 1 + k) ≡ turns_made m (n + 1)) × ((turns_made m (n + 1)).over ≡ false)

@@ -1,4 +1,5 @@
 pub mod AnyHand
+pub mod Callers
 pub mod Census
 pub mod Choosing
 pub mod Cursor
@@ -12,6 +13,7 @@ pub mod Live
 pub mod Marking
 pub mod Moment
 pub mod MomentLaw
+pub mod Owned
 pub mod Ready
 pub mod Refusals
 pub mod RoundSteps

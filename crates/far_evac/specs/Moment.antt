@@ -1,5 +1,5 @@
 -- A heap between two calls of the evacuator, and what a call has done so far.
-use Rattle.std.specs.Prelude.{ℕ, Bool, ◌+◌, List}
+use Rattle.std.specs.Prelude.{ℕ, Bool, ◌+◌, ◌==◌, if◌then◌else◌, List, [], ◌∷◌, ◌++◌}
 use Rattle.far_word.specs.declared.pointer.Place.{Place}
 use Rattle.far_core.specs.state.State.{State}
 use Rattle.far_book.specs.book.Effects.{order_after}
@@ -19,6 +19,10 @@ pub record Moment : Type 0 where
 -- a span was placed there, and this is the core then
 abbrev pub with_placed : Moment → Place → State → Moment
 with_placed m place s = record m { core = s; order = order_after m.core m.order place }
+
+-- a caller's step has led to this core; where it opened another log, the one that was open is the youngest of the sealed ones
+abbrev pub with_core : Moment → State → Moment
+with_core m t = record m { core = t; order = if t.current == m.core.current then m.order else m.order ++ m.core.current ∷ [] }
 
 -- a log is given back
 abbrev pub with_released : Moment → ℕ → Moment

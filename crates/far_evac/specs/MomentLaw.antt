@@ -1,6 +1,7 @@
 -- What is true of a heap between two calls of the evacuator, beside the law of its core.
-use Rattle.std.specs.Prelude.{◌≡◌, ℕ, ◌<◌, Bool, true, false, eqb}
+use Rattle.std.specs.Prelude.{◌≡◌, ℕ, ◌+◌, ◌<◌, Bool, true, false, eqb}
 use Rattle.std.specs.List.{IsDistinct}
+use Rattle.far_word.specs.declared.sizes.TheConstants.{EPOCH_END}
 use Rattle.far_core.specs.declared.event.Kind.TheVariants.{Sealed}
 use Rattle.far_core.specs.events.Mark.{is_sealed}
 use Rattle.far_evac.specs.declared.phase.Phase.{Phase}
@@ -14,6 +15,12 @@ is_idle Idle = true
 is_idle Marking = false
 is_idle Waiting = false
 is_idle Evacuating = false
+
+abbrev pub is_waiting : Phase → Bool
+is_waiting Idle = false
+is_waiting Marking = false
+is_waiting Waiting = true
+is_waiting Evacuating = false
 
 -- the epoch has risen for the running round
 abbrev pub has_risen : Phase → Bool
@@ -34,3 +41,5 @@ pub record MomentLaw (m : Moment) : Type 0 where
   pub round : has_risen m.phase ≡ true → (l : ℕ) → among m.held l ≡ true → m.core.round l ≡ true
   -- where objects leave, every owner was seen clear
   pub clear : m.phase ≡ Evacuating → (k : ℕ) → k < m.core.mutators → m.core.clear k ≡ true
+  -- while objects are marked there is a later epoch
+  pub later : m.phase ≡ Marking → m.core.epoch + 1 < EPOCH_END

@@ -7,6 +7,7 @@ ghost use Rattle.far_evac.specs.declared.phase.Phase.TheVariants.{Idle};
 ghost use Rattle.far_evac.specs.EvacOf.{moment};
 ghost use Rattle.far_evac.specs.MomentLaw.{MomentLaw};
 
+mod alone;
 mod auditing;
 mod evacuating;
 mod handing;

@@ -1,7 +1,9 @@
 //! What the definitions of a round come to, as contracts of functions that do nothing.
 
-ghost use Rattle.far_evac.specs.Leading.{AbortingLeads, MarkingLeads, PollingLeads, SelectingLeads, WalkingLeads};
-ghost use Rattle.far_evac.specs.Laws.{CensusIsExact, ClearIsShown, ClearMeansUnviewed, DealingIsInOrder, ExactIsAllowed, GivingUpIsRight, LooksSeeClear, MarkingIsRight, PollIsAllowed, PollIsOnce, RisenIsReady, RoundIsAllowed, RoundIsEvent, WalkIsTour, WalksJoin};
+ghost use Rattle.far_evac.specs.Callers.{CoresJoin, FetchingOrder, FetchingStepsAside, MovingOrder, MovingStepsAside, OwnersStepAside, PlacingOrder, PlacingStepsAside, RetiringOrder, RetiringStepsAside, StepsJoin, StepsKeep, StillOrder, StillStepsAside};
+ghost use Rattle.far_evac.specs.Leading.{AbortingLeads, ChoiceIsOfSealed, MarkingLeads, PollingLeads, RoundLeads, SelectingLeads, TurnsLead, WalkingLeads};
+ghost use Rattle.far_evac.specs.Owned.{AbortingKeepsObjects, MarkingKeepsObjects, PollingKeepsObjects, RoundKeepsObjects, SelectingKeepsObjects, TurnsKeepObjects, TurnsRetireNone, WalkRetiresNone, WalkingKeepsObjects};
+ghost use Rattle.far_evac.specs.Laws.{CensusIsExact, ClearIsShown, ClearMeansUnviewed, DealingIsInOrder, ExactIsAllowed, GivingUpIsRight, LooksSeeClear, MarkingIsRight, PollIsAllowed, PollIsOnce, RisenIsReady, RoundIsAllowed, RoundIsEvent, WaitingStays, WalkIsTour, WalksJoin};
 
 /// The exact walk, over words that nobody else changes, is one of those that are allowed over any hand.
 pub fn exact_is_allowed()
@@ -83,12 +85,61 @@ pub fn poll_is_once()
     ensures { PollIsOnce }
 {}
 
+/// Where a turn found a round waiting, and left it so, no turn after it changes anything, as long as nobody closes or opens a scope.
+pub fn waiting_stays()
+    ensures { WaitingStays }
+{}
+
 /// Selecting, marking, polling, dealing with objects and giving up lead from a heap to the next by legal events of the core, and keep the law of the
-/// core and what is true between two calls.
+/// core and what is true between two calls. So do turns, one after the other, and whole rounds. What a policy chose of the rows that it was handed may be selected.
 pub fn rounds_lead()
+    ensures chosen { ChoiceIsOfSealed }
     ensures selecting { SelectingLeads }
     ensures marking { MarkingLeads }
     ensures polling { PollingLeads }
     ensures walking { WalkingLeads }
     ensures aborting { AbortingLeads }
+    ensures turns { TurnsLead }
+    ensures whole { RoundLeads }
+{}
+
+/// The same calls leave what owners have: what they use, hold and remember, their scopes, and each object with its bytes, wherever it is then. A cell that
+/// isn't dropped isn't dropped then, and it is free exactly where it was.
+pub fn rounds_keep_objects()
+    ensures selecting { SelectingKeepsObjects }
+    ensures marking { MarkingKeepsObjects }
+    ensures polling { PollingKeepsObjects }
+    ensures walking { WalkingKeepsObjects }
+    ensures aborting { AbortingKeepsObjects }
+    ensures turns { TurnsKeepObjects }
+    ensures whole { RoundKeepsObjects }
+{}
+
+/// Where no object is dropped that isn't retired yet, neither a walk nor turns retire any.
+pub fn rounds_retire_none()
+    ensures walking { WalkRetiresNone }
+    ensures turns { TurnsRetireNone }
+{}
+
+/// What callers do between two calls of a round leaves it alone, and keeps what is true between two calls: owners' events, and the book's calls that place, move,
+/// fetch or retire an object. Two such steps are one, unless both open another log.
+pub fn callers_keep()
+    ensures keeps { StepsKeep }
+    ensures joined { StepsJoin }
+    ensures still { StillStepsAside }
+    ensures owners { OwnersStepAside }
+    ensures placed { PlacingStepsAside }
+    ensures moved_now { MovingStepsAside }
+    ensures fetched { FetchingStepsAside }
+    ensures retired { RetiringStepsAside }
+{}
+
+/// After such a step the sealed logs are, oldest first, as the book's call keeps them.
+pub fn callers_keep_order()
+    ensures joined { CoresJoin }
+    ensures still { StillOrder }
+    ensures placed { PlacingOrder }
+    ensures moved_now { MovingOrder }
+    ensures fetched { FetchingOrder }
+    ensures retired { RetiringOrder }
 {}

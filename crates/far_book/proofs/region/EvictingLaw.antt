@@ -51,7 +51,7 @@ evicting s p len ds place m law pointer near quiet evac alive =
     let happens = subst (λ r. Happens (world_of s) e r (world_of (after s e))) done (does s e law fits legal) in
     let step : Step (GoesFar p) (world_of s) (world_of (after s e)) = subst (λ o. StepOf (change_by p o) (world_of s) (world_of (after s e))) form happens in
     let is : evicted s p ≡ after s e = ap (evicted_of s p) near in (
-      subst (Reached s) (sym is) (reached_one s e legal fits),
+      subst (Reached s) (sym is) (reached_one s e legal fits tt),
       subst Law (sym is) (keeps s e law fits legal),
       subst (λ (t : State). Step (GoesFar p) (world_of s) (world_of t)) (sym is) step,
       subst (λ (t : State). IsEvicted s t p len ds place) (sym (evicted_is s p len ds place layout m near alive evac)) (is_evicted s p len ds place layout),

@@ -58,7 +58,7 @@ module _ (s : State) (law : Law s) (l at : ℕ) (row : ℕ → ℕ) (log : l < s
   reached_row : (n : ℕ) → at + n ≤ LOG_WORDS → Reached s (rowed n) × (world_of (rowed n) ≡ world_of s)
   reached_row zero inside =
       let same : rowed 0 ≡ s = (λ i. record s { word = sym (row_none s.word (l * LOG_WORDS + at) row) i }) in
-      (subst (Reached s) (sym same) record { made = []; legal = tt; fits = All-nil _; leads = refl }, ap world_of same)
+      (subst (Reached s) (sym same) record { made = []; legal = tt; fits = All-nil _; of_book = All-nil _; leads = refl }, ap world_of same)
   reached_row (suc n) inside =
       let before = reached_row n (omega arith) in
       let legal : Legal (rowed n) (events.Put l (at + n) (row n)) = (log, unsealed, omega arith, omega arith) in
@@ -66,7 +66,7 @@ module _ (s : State) (law : Law s) (l at : ℕ) (row : ℕ → ℕ) (log : l < s
       let now : after (rowed n) (events.Put l (at + n) (row n)) ≡ rowed (suc n) =
       ap (λ f. record s { word = f }) (row_last s.word (l * LOG_WORDS + at) n row (l * LOG_WORDS + (at + n)) (row n) (omega arith) refl) ∙ ap rowed next in
       let kept : Law (rowed n) = reached_law s (rowed n) law before.0 in (
-        reached_more s (rowed n) (rowed (suc n)) before.0 (subst (Reached (rowed n)) now (reached_one (rowed n) (events.Put l (at + n) (row n)) legal (wide n))),
+        reached_more s (rowed n) (rowed (suc n)) before.0 (subst (Reached (rowed n)) now (reached_one (rowed n) (events.Put l (at + n) (row n)) legal (wide n) tt)),
         ap world_of (sym now) ∙ does (rowed n) (events.Put l (at + n) (row n)) kept (wide n) legal ∙ before.1,
       )
 
@@ -120,7 +120,7 @@ module _ (s : State) (law : Law s) (p len ds : ℕ) (from to : Place) (m : Marks
       (reached_row headed law_headed to.log (to.at + 1) row is_room.next.0 unsealed (omega (arith, at_end s p len ds from to may)) (λ i. law.spans.word_fits (addr from + 1 + i)) (words_for len) (omega (arith, is_room.fits)))
 
   reached_written : Reached s written
-  reached_written = reached_more s headed written (reached_one s put_header header_legal header_wide) rows.0
+  reached_written = reached_more s headed written (reached_one s put_header header_legal header_wide tt) rows.0
 
   unseen : world_of written ≡ world_of s
   unseen = rows.1 ∙ does s put_header law header_wide header_legal
@@ -168,7 +168,7 @@ module _ (s : State) (law : Law s) (p len ds : ℕ) (from to : Place) (m : Marks
   leads = ap (moved_of s p to) near
 
   reached : Reached s (moved s p to)
-  reached = subst (Reached s) (sym leads) (reached_more s written (after written name) reached_written (reached_one written name legal ((law.cells.cell_read p).0, new_wide)))
+  reached = subst (Reached s) (sym leads) (reached_more s written (after written name) reached_written (reached_one written name legal ((law.cells.cell_read p).0, new_wide) tt))
 
   steps : Step (Moves p to.log) (world_of s) (world_of (moved s p to))
   steps =
@@ -235,7 +235,7 @@ module _ (s : State) (law : Law s) (p len ds : ℕ) (place : Place) (m : Marks) 
       naming_only naming.Stays (read_of (s.cell p)) (read_of bare) (len, ds, place, m, near, alive, asked, unwanted, read_back (Near len ds place no_marks) bare_layout) in
       let happens = subst (λ r. Happens (world_of s) unmark r (world_of (after s unmark))) done (does s unmark law unmark_fits unmark_legal) in
       let step = subst (λ o. StepOf (change_by p o) (world_of s) (world_of (after s unmark))) form happens in (
-        subst (Reached s) (sym unmark_leads) (reached_one s unmark unmark_legal unmark_fits),
+        subst (Reached s) (sym unmark_leads) (reached_one s unmark unmark_legal unmark_fits tt),
         subst Law (sym unmark_leads) (keeps s unmark law unmark_fits unmark_legal),
         subst (λ (t : State). Step (Unmarks p) (world_of s) (world_of t)) (sym unmark_leads) step,
         subst (λ (t : State). IsUnmarked s t p len ds place) (sym (stayed_is s p len ds place m near alive asked unwanted bare_layout)) record {

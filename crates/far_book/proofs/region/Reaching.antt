@@ -38,7 +38,7 @@ use Rattle.far_core.proofs.Ranges.{zeros_legal, zeros_end}
 use Rattle.far_core.proofs.RoomLaws.{room_right}
 use Rattle.far_book.specs.book.Effects.{near_word, placed, retired, with_blank_span}
 use Rattle.far_book.specs.book.Laws.{IsPlaced, PlacingIsLegal, RetiringIsLegal}
-use Rattle.far_book.specs.book.Reached.{Reached}
+use Rattle.far_book.specs.book.Reached.{IsOfBook, Reached}
 use Rattle.far_book.proofs.region.Calls.{may_name}
 use Rattle.far_book.proofs.region.Effects.{is_placed, is_freed}
 use Rattle.far_book.proofs.region.Places.{next_unsealed}
@@ -50,8 +50,8 @@ pub made_by : (s : State) (e : Event) → Legal s e → (step_of s e).0 ≡ afte
 made_by s e legal = ap (λ (x : State × Reply). x.0) (ap (λ b. cond b (after s e, answer s e) (s, Refused)) (is_test s e legal))
 
 -- one event leads to the state after it
-pub reached_one : (s : State) (e : Event) → Legal s e → Fits e → Reached s (after s e)
-reached_one s e legal fits = record { made = e ∷ []; legal = (legal, tt); fits = All-cons Fits e [] fits (All-nil Fits); leads = sym (made_by s e legal) }
+pub reached_one : (s : State) (e : Event) → Legal s e → Fits e → IsOfBook e → Reached s (after s e)
+reached_one s e legal fits book = record { made = e ∷ []; legal = (legal, tt); fits = All-cons Fits e [] fits (All-nil Fits); of_book = All-cons IsOfBook e [] book (All-nil IsOfBook); leads = sym (made_by s e legal) }
 
 -- zeros that are put past a tail
 reached_zeros : (s : State) → Law s → (l at count : ℕ) → l < s.logs → s.kind l ≢ Sealed → s.tail l ≤ at → at + count ≤ LOG_WORDS →
@@ -60,6 +60,7 @@ reached_zeros s law l at count log unsealed past inside = record {
   made = zero_puts l at count;
   legal = zeros_legal s law l at count log unsealed past inside;
   fits = All-map Fits (λ i. events.Put l (at + i) 0) (range_with_len 0 count) (λ k d lt. omega arith);
+  of_book = All-map IsOfBook (λ i. events.Put l (at + i) 0) (range_with_len 0 count) (λ k d lt. tt);
   leads = sym (zeros_end s law l at count log unsealed past inside);
 }
 
@@ -77,6 +78,7 @@ reached_more s t u a b = record {
   made = a.made ++ b.made;
   legal = legal_more s a.made b.made a.legal (subst (λ v. AllLegal v b.made) a.leads b.legal);
   fits = All-append Fits a.made b.made a.fits b.fits;
+  of_book = All-append IsOfBook a.made b.made a.of_book b.of_book;
   leads = b.leads ∙ (ap (λ v. after_events v b.made) a.leads ∙ sym (after_more s a.made b.made));
 }
 
@@ -105,7 +107,7 @@ retiring s p law cell dropped =
     let done : answer s e ≡ Done = ap (λ b. cond b Done (Word (s.cell p))) (eq-eqb (s.cell p) (s.cell p) refl) in
     let form : naming_of (read_of (s.cell p)) (read_of 0) ≡ Some naming.Retires = ap (naming_of (read_of (s.cell p))) unused ∙ retires_form (read_of (s.cell p)) dropped in
     let happens = subst (λ r. Happens (world_of s) e r (world_of (retired s p))) done (does s e law fits legal) in (
-      reached_one s e legal fits,
+      reached_one s e legal fits tt,
       keeps s e law fits legal,
       subst (λ o. StepOf (change_by p o) (world_of s) (world_of (retired s p))) form happens,
       is_freed s p dropped,
@@ -153,7 +155,7 @@ module _ (s : State) (law : Law s) (p len ds : ℕ) (place : Place) (pointer : p
   zeroed = ap (λ a. record headed { word = with_row headed.word a (words_for len) (λ _. 0) }) behind
 
   reached_blank : Reached s blank
-  reached_blank = reached_more s headed blank (reached_one s put_header header_legal (head_fits _ head))
+  reached_blank = reached_more s headed blank (reached_one s put_header header_legal (head_fits _ head) tt)
       (subst (Reached headed) zeroed (reached_zeros headed law_headed place.log (place.at + 1) (words_for len) is_room.next.0 (next_unsealed s place is_room.next) (omega (arith, at_end)) room_behind))
 
   -- the cell is named
@@ -164,7 +166,7 @@ module _ (s : State) (law : Law s) (p len ds : ℕ) (place : Place) (pointer : p
   fits = (omega arith, word_fits (Near len ds place no_marks) layout)
 
   placing : Reached s (placed s p len ds place)
-  placing = reached_more s blank (placed s p len ds place) reached_blank (reached_one blank (events.Name p 0 (near_word len ds place)) legal fits)
+  placing = reached_more s blank (placed s p len ds place) reached_blank (reached_one blank (events.Name p 0 (near_word len ds place)) legal fits tt)
 
   -- the world sees the object alone
   unseen : world_of blank ≡ world_of s

@@ -39,7 +39,7 @@ use Rattle.far_core.proofs.Ranges.{row_made}
 use Rattle.far_core.proofs.RoomLaws.{room_right}
 use Rattle.far_book.specs.book.Effects.{fetched, near_word, with_written_span}
 use Rattle.far_book.specs.book.Laws.{FetchingIsLegal, IsCome}
-use Rattle.far_book.specs.book.Reached.{Reached}
+use Rattle.far_book.specs.book.Reached.{IsOfBook, Reached}
 use Rattle.far_book.proofs.Finding.{finds_same}
 use Rattle.far_book.proofs.region.Coming.{fetched_is, header, may_come, stands, written_outside}
 use Rattle.far_book.proofs.region.Fetched.{fetched_come}
@@ -78,6 +78,7 @@ module _ (s : State) (law : Law s) (l at count : ℕ) (row : ℕ → ℕ) (log :
         let below : k < count = omega (arith, length-range_with_len 0 count) in
         let one : 0 + k ≡ k = omega arith in
         subst (λ i. row i < 2 ^ 64) (sym (get_or-range_with_len 0 count k d below ∙ one)) (wide k below));
+    of_book = All-map IsOfBook put_word (range_with_len 0 count) (λ k d lt. tt);
     leads = sym all.2;
   }
 
@@ -134,7 +135,7 @@ module _ (s : State) (law : Law s) (p len ds : ℕ) (m : Marks) (place : Place) 
   room_behind = omega (arith, is_room.fits)
 
   reached_written : Reached s written
-  reached_written = reached_more s headed written (reached_one s put_header header_legal (head_fits _ head))
+  reached_written = reached_more s headed written (reached_one s put_header header_legal (head_fits _ head) tt)
       (subst (Reached headed) written_is (reached_row headed law_headed place.log (place.at + 1) (words_for len) row is_room.next.0 (next_unsealed s place is_room.next) past room_behind (λ k lt. (stored k lt).0)))
 
   unseen : world_of written ≡ world_of s
@@ -161,7 +162,7 @@ module _ (s : State) (law : Law s) (p len ds : ℕ) (m : Marks) (place : Place) 
   named = sym (fetched_is s p len ds place row m far)
 
   reached : Reached s then
-  reached = reached_more s written then reached_written (subst (Reached written) named (reached_one written name legal fits))
+  reached = reached_more s written then reached_written (subst (Reached written) named (reached_one written name legal fits tt))
 
   -- the world sees the object come
   comes : Step (ComesNear p place.log) (world_of s) (world_of then)

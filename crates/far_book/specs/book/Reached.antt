@@ -1,13 +1,27 @@
 -- Which states the legal events of the core lead to.
 use Rattle.std.specs.Prelude.{◌≡◌, List, All}
 use Rattle.far_core.specs.declared.event.Event.{Event}
+use Rattle.far_core.specs.declared.event.Event.TheVariants.{Adopt, Ask, Close, Load, Open, Pin, ReadEpoch, Store}
 use Rattle.far_core.specs.events.Ranges.{AllLegal, after_events}
 use Rattle.far_core.specs.events.Step.{Fits}
 use Rattle.far_core.specs.state.State.{State}
 
--- some events lead from s to t, each legal when it is made and with words of 64 bits
+-- an event that no owner makes: the book's alone
+abbrev pub IsOfBook : Event → Type 0
+IsOfBook (ReadEpoch m) = ⊥
+IsOfBook (Open m) = ⊥
+IsOfBook (Pin m p) = ⊥
+IsOfBook (Load m p i) = ⊥
+IsOfBook (Store m p i w) = ⊥
+IsOfBook (Close m) = ⊥
+IsOfBook (Adopt m p) = ⊥
+IsOfBook (Ask m p mark) = ⊥
+IsOfBook e = Unit {0}
+
+-- some events of the book lead from s to t, each legal when it is made and with words of 64 bits
 pub record Reached (s t : State) : Type 0 where
   pub made : List Event
   pub legal : AllLegal s made
   pub fits : All Fits made
+  pub of_book : All IsOfBook made
   pub leads : t ≡ after_events s made

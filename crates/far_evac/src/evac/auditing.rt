@@ -12,7 +12,6 @@ ghost use Rattle.far_evac.specs.RoundSteps.{among};
 
 use crate::census::{Census, Housed, LogKind, LogState};
 use crate::evac::Evac;
-use crate::phase::Phase;
 use far_book::{Home, Near};
 use far_core::Kind;
 use far_device::Device;
@@ -36,12 +35,7 @@ impl<N: Near + Drop, D: Device + Drop> Evac<N, D> {
     fn is_held(&self, log: u8) -> bool
         ensures { result ≡ among self.now.held log }
     {
-        let chosen = self.round.chosen.as_slice();
-        match self.round.phase {
-            Phase::Idle => false,
-            Phase::Marking | Phase::Waiting => chosen.contains(&log),
-            Phase::Evacuating => chosen[self.round.index..].contains(&log),
-        }
+        self.held().contains(&log)
     }
 
     /// Where each object is that isn't dropped, by pointer, and what each log is and has, by number. Nothing has moved. Refused

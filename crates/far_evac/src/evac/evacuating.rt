@@ -141,7 +141,7 @@ impl<N: Near + Drop, D: Device + Drop> Evac<N, D> {
     }
 
     // The logs that are held.
-    fn held(&self) -> &[u8]
+    pub(super) fn held(&self) -> &[u8]
         ensures { result.now ≡ self.now.held }
     {
         let chosen = self.round.chosen.as_slice();

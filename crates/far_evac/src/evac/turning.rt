@@ -3,6 +3,7 @@
 ghost use Rattle.std.specs.Prelude.{◌≡◌, ◌≢◌, ◌⊎◌, ◌<◌, ℕ, Bool, List, Some, None, Ok, Err, false, IfOk, IfErr, map};
 ghost use Rattle.far_book.specs.book.Rows.{row_of};
 ghost use Rattle.far_device.specs.Faults.{CountsFault, SpendsFault};
+ghost use Rattle.far_policy.specs.Choice.{IsChoice};
 ghost use Rattle.far_word.specs.declared.refused.Refused.{Refused as why_refused};
 ghost use Rattle.far_word.specs.declared.refused.Refused.TheVariants.{Device as Failed, Memory, Phase as WrongPhase};
 ghost use Rattle.far_evac.specs.AnyHand.{TurnsTo, RunsRound, StopsAt, StopsRound};
@@ -10,7 +11,7 @@ ghost use Rattle.far_evac.specs.Choosing.{after_selecting};
 ghost use Rattle.far_evac.specs.EvacOf.{moment};
 ghost use Rattle.far_evac.specs.Failing.{fails};
 ghost use Rattle.far_evac.specs.Moment.{Tally, nothing, plus, progress_of, tally_of};
-ghost use Rattle.far_evac.specs.MomentLaw.{is_idle};
+ghost use Rattle.far_evac.specs.MomentLaw.{is_idle, is_waiting};
 ghost use Rattle.far_evac.specs.Refusals.{unselectable};
 ghost use Rattle.far_evac.specs.Turning.{EndsTurns, GoesOn, IsBounded, IsWithin, StopsTurns, turned_at};
 ghost use Rattle.far_evac.specs.Turns.{IsRound, begun_turns, round_end, turn_size, turned, turns_made};
@@ -77,7 +78,7 @@ impl<N: Near + Drop, D: Device + Drop> Evac<N, D> {
     ) -> Result<RoundEnd, EvacFault>
         ensures runs { IfOk result (λ end. (logs : List ℕ) × P.gives policy.old (map (row_of (N.view self.old.book.near)) self.old.book.order) most (Ok logs) policy.new
             × RunsRound (moment N.view self.old) logs turns end (moment N.view self.new)
-            × (N.still → IsRound (moment N.view self.old) logs turns end (moment N.view self.new))) }
+            × (N.still → IsRound (moment N.view self.old) logs turns end (moment N.view self.new)) × IsChoice (map (row_of (N.view self.old.book.near)) self.old.book.order) most logs) }
         ensures barred { (why : why_refused) → unselectable (moment N.view self.old) ≡ Some why →
             (result ≡ Err record { so_far = progress_of nothing false; why = why }) × (self.new ≡ self.old) × (policy.new ≡ policy.old) }
         ensures refused { unselectable (moment N.view self.old) ≡ None → IfErr result (λ fault.
@@ -101,13 +102,14 @@ impl<N: Near + Drop, D: Device + Drop> Evac<N, D> {
         if logs.is_empty() {
             return Ok(RoundEnd::Nothing);
         }
-        self.make_turns(turns)
+        self.make_turns(turns, false)
     }
 
-    // Makes so many turns of a running round, or fewer if it is over before.
-    fn make_turns(&mut self, turns: u64) -> Result<RoundEnd, EvacFault>
+    // Makes so many turns of a running round, or fewer if it is over before. Where nobody else acts, a turn that leaves the round waiting is the
+    // last: no other would change anything.
+    pub(super) fn make_turns(&mut self, turns: u64, alone: bool) -> Result<RoundEnd, EvacFault>
         requires running { is_idle self.old.phase ≡ false }
-        ensures ends { IfOk result (λ end. EndsTurns (moment N.view self.old) turns end (moment N.view self.new)) }
+        ensures ends { alone ≡ false → IfOk result (λ end. EndsTurns (moment N.view self.old) turns end (moment N.view self.new)) }
         ensures exact { N.still → IfOk result (λ end. (end ≡ round_end (turns_made (moment N.view self.old) turns)) × (moment N.view self.new ≡ (turns_made (moment N.view self.old) turns).moment)) }
         ensures stops { IfErr result (λ fault. StopsTurns (moment N.view self.old) turns fault.so_far (moment N.view self.new)) }
         ensures why { IfErr result (λ fault. (fault.why ≡ Memory) ⊎ (fault.why ≡ Failed)) }
@@ -118,6 +120,7 @@ impl<N: Near + Drop, D: Device + Drop> Evac<N, D> {
         self.keeps_law();
         let mut total = nothing_done();
         for _ in 0..turns {
+            let waited = self.is_waiting();
             match self.turn_more(total) {
                 Ok(sum) => total = sum,
                 Err(fault) => return Err(fault),
@@ -125,8 +128,18 @@ impl<N: Near + Drop, D: Device + Drop> Evac<N, D> {
             if total.done {
                 return Ok(RoundEnd::Done(total));
             }
+            if alone && waited && self.is_waiting() {
+                return Ok(RoundEnd::Limit(Phase::Waiting));
+            }
         }
         Ok(RoundEnd::Limit(self.phase()))
+    }
+
+    // Whether the round waits for owners.
+    fn is_waiting(&self) -> bool
+        ensures { result ≡ is_waiting self.now.phase }
+    {
+        matches!(self.round.phase, Phase::Waiting)
     }
 
     // Makes one turn of a running round, and adds what it did to what was done before.
@@ -166,7 +179,7 @@ fn turn_objects() -> u64
 }
 
 // Nothing was done, and the round isn't over.
-fn nothing_done() -> Progress
+pub(super) fn nothing_done() -> Progress
     ensures { result ≡ progress_of nothing false }
 {
     Progress {

@@ -1,7 +1,7 @@
 //! A round's calls, each with the answer that is wanted, and what a census counts.
 
-use far_book::{Home, Near};
-use far_device::Device;
+use far_book::{Home, Near, Plain};
+use far_device::{Device, MemDevice};
 use far_evac::{Census, Evac, EvacFault, Marked, Phase, Polled, Progress, RoundEnd};
 use far_policy::Policy;
 use far_word::Refused;
@@ -96,6 +96,17 @@ pub(super) fn runs<N: Near + Drop, D: Device + Drop, P: Policy>(
     end: RoundEnd,
 ) -> bool {
     evac.run_round(policy, most, turns) == Ok(end)
+}
+
+// The same of a round where nobody else acts.
+pub(super) fn runs_alone<P: Policy>(
+    evac: &mut Evac<Plain, MemDevice>,
+    policy: &mut P,
+    most: usize,
+    turns: u64,
+    end: RoundEnd,
+) -> bool {
+    evac.run_round_alone(policy, most, turns) == Ok(end)
 }
 
 // Whether it is over, and counts so.

@@ -4,9 +4,9 @@ use crate::tests::making::{
     SMALL, close, evacuator, is_far, is_log, is_near, loads, make, make_sealed, make_three, open,
     pins, reads, stores, views, writes,
 };
-use crate::tests::steps::{deals, is_clear, is_open, marks, selects};
+use crate::tests::steps::{deals, is_clear, is_open, marks, progress, runs_alone, selects};
 use far_core::{Event, Reply};
-use far_evac::LogKind;
+use far_evac::{LogKind, Phase, RoundEnd};
 use far_policy::Oldest;
 use far_word::Place;
 use std::test::Fail;
@@ -26,6 +26,20 @@ fn a_round_waits_for_a_scope(rt: HostRuntime) -> Result<(), Fail> {
     assert!(rt; close(&mut evac));
     assert!(rt; is_clear(&mut evac));
     assert!(rt; deals(&mut evac, 9, [1, 0, 0, 1], true));
+    Ok(())
+}
+
+// The first poll that finds the scope open ends it, however many turns are left; and a round alone goes on where none is.
+#[test]
+fn a_round_alone_ends_where_it_waits(rt: HostRuntime) -> Result<(), Fail> {
+    let waits = RoundEnd::Limit(Phase::Waiting);
+    let done = RoundEnd::Done(progress([1, 0, 0, 1], true));
+    let mut evac = evacuator(&rt, SMALL)?;
+    make_sealed(&mut evac)?;
+    assert!(rt; open(&mut evac) && views(&mut evac, 0));
+    assert!(rt; runs_alone(&mut evac, &mut Oldest, 1, u64::MAX, waits));
+    assert!(rt; close(&mut evac) && evac.abort() == Ok(()));
+    assert!(rt; runs_alone(&mut evac, &mut Oldest, 1, u64::MAX, done));
     Ok(())
 }
 

@@ -1,5 +1,4 @@
-use Rattle.std.proofs.Common.{◌≡◌, ◌≤◌, ℕ, ◌+◌, [], ◌∷◌, ◌++◌, ap, sym, ◌∙◌, arith}
-use Rattle.far_evac.specs.EvacOf.{EvacOf}
+use Rattle.std.proofs.Common.{sym, ◌∙◌, arith}
 use Rattle.far_evac.proofs.Auditing.{found_more, listed_dropped, listed_none, listed_one, same_but_near}
 use Rattle.far_evac.proofs.evac.Evac.list_homes.Goals as goal
 

@@ -1,7 +1,6 @@
-use Rattle.std.proofs.Common.{◌≡◌, ◌≤◌, ℕ, map, vec_len, vec_capacity}
+use Rattle.std.proofs.Common.{◌≡◌, ℕ, map, vec_len, vec_capacity}
 use Rattle.std.specs.List.{range_with_len}
 use Rattle.far_book.specs.book.Rows.{row_of}
-use Rattle.far_evac.specs.declared.census.LogState.{LogState}
 use Rattle.far_evac.specs.Census.{kind_in}
 use Rattle.far_evac.specs.EvacOf.{moment}
 use Rattle.far_evac.proofs.evac.Evac.list_logs.Given as goal

@@ -1,5 +1,5 @@
 use Rattle.far_evac.proofs.evac.Evac.make_turns.Goals as goal
-use Rattle.std.proofs.Common.{Err, refl, ◌≡◌, ◌∙◌, ◌+◌, Bool, true, false, ap, sym, subst, arith}
+use Rattle.std.proofs.Common.{Err, refl, ◌≡◌, ◌∙◌, ◌+◌, true, false, ap, sym, subst, arith}
 use Rattle.far_evac.specs.declared.answers.RoundEnd.{RoundEnd}
 use Rattle.far_evac.specs.declared.answers.RoundEnd.TheVariants.{Done}
 use Rattle.far_device.specs.Faults.{CountsFault, SpendsFault}
@@ -8,11 +8,12 @@ use Rattle.far_evac.specs.declared.answers.Progress.{Progress}
 use Rattle.far_evac.proofs.Failures.{fails_alike, spends_on}
 use Rattle.far_evac.specs.AnyHand.{TurnsTo}
 use Rattle.far_evac.specs.EvacOf.{moment}
-use Rattle.far_evac.specs.Moment.{Tally, nothing, progress_of, tally_of}
+use Rattle.far_evac.specs.Moment.{nothing, progress_of, tally_of}
 use Rattle.far_evac.specs.Turning.{EndsTurns, IsWithin, turned_at}
-use Rattle.far_evac.specs.Turns.{Turned, round_end, turns_made}
+use Rattle.far_evac.specs.Turns.{Turned, round_end}
 use Rattle.far_evac.proofs.Bounds.{starts_within}
 use Rattle.far_evac.proofs.TurnsOn.{Made, made_done, made_more, none_made, turns_more, turns_over}
+use Rattle.far_evac.proofs.Waits.{turns_wait}
 
 pub loop-init : goal.loop-init
 loop-init g c =
@@ -29,7 +30,7 @@ loop-init g c =
     }
 
 pub returns-then-total-clause-ends : goal.returns-then-total-clause-ends
-returns-then-total-clause-ends g c =
+returns-then-total-clause-ends g c others =
     let m = moment g.N.Near.view c.args.self.now in
     let u = moment g.N.Near.view c.loop.self in
     let t = moment g.N.Near.view c.turn_more.new.self in
@@ -78,3 +79,13 @@ returns-in-Err-clause-spent g c =
     subst (λ b. SpendsFault b (g.D.Device.fails_at_most c.args.self.now.book.device) (g.D.Device.fails_at_most c.turn_more.new.self.book.device)) (fails_alike Progress RoundEnd c.in-Err.fault c.in-Err.ensures.why)
     (spends_on (fails {A = Progress} (Err c.in-Err.fault)) (g.D.Device.fails_at_most c.args.self.now.book.device) (g.D.Device.fails_at_most c.loop.self.book.device)
     (g.D.Device.fails_at_most c.turn_more.new.self.book.device) c.loop.invariant.spent c.in-Err.ensures.spent)
+
+pub returns-then-is_waiting-clause-exact : goal.returns-then-is_waiting-clause-exact
+returns-then-is_waiting-clause-exact g c still =
+    let m = moment g.N.Near.view c.args.self.now in
+    let u = moment g.N.Near.view c.loop.self in
+    let t = moment g.N.Near.view c.turn_more.new.self in
+    let total = tally_of c.in-Ok.sum in
+    let before = c.loop.invariant.exact still in
+    let now = turns_more m c.loop.counter u (tally_of c.loop.total) (turned_at t total false) before (c.in-Ok.ensures.exact still ∙ ap (turned_at t total) c.if-total.false) in
+    turns_wait m c.loop.counter c.args.turns u t (tally_of c.loop.total) total (omega (arith, c.loop-test.true)) before now (sym c.is_waiting-waited.ensures ∙ c.if-waited.true) (sym c.is_waiting.ensures ∙ c.if-is_waiting.true)

@@ -1,8 +1,8 @@
 use Rattle.far_evac.proofs.evac.Evac.turn_more.Goals as goal
-use Rattle.std.proofs.Common.{◌≡◌, ◌∙◌, ap, sym, subst}
+use Rattle.std.proofs.Common.{sym, subst}
 use Rattle.far_evac.specs.declared.answers.Progress.{Progress}
 use Rattle.far_evac.specs.EvacOf.{moment}
-use Rattle.far_evac.specs.Moment.{Tally, plus, progress_of, tally_of}
+use Rattle.far_evac.specs.Moment.{tally_of}
 use Rattle.far_evac.specs.Turning.{GoesOn}
 use Rattle.far_evac.proofs.Bounds.{stop_bounded, turn_goes_on}
 use Rattle.far_evac.proofs.TurnsOn.{not_idle}

@@ -1,0 +1,248 @@
+-- Steps of callers that leave a round alone, and that such steps keep what is true between two calls of it.
+use Rattle.std.proofs.Common.{◌≡◌, ◌≢◌, ℕ, ◌+◌, ◌<◌, ◌≤◌, ◌==◌, ◌||◌, Bool, true, false, cond, eqb, Some, List, [], ◌∷◌, ◌++◌, inl, inr, arith, ap, sym, refl, ◌∙◌, subst}
+use Rattle.std.specs.Cmp.{nat_eq_equiv}
+use Rattle.std.specs.List.{IsDistinct}
+use Rattle.std.proofs.Math.Bool.{or-false}
+use Rattle.std.proofs.lemmas.Bool.{cases_eq, cond_both, eq-eqb, eqb-false, eqb-true, ne_eqb}
+use Rattle.std.proofs.lemmas.List.Folds.{list_any-append}
+use Rattle.std.proofs.lemmas.Map.Keys.{IsDistinct-push}
+use Rattle.far_word.specs.declared.pointer.Place.{Place}
+use Rattle.far_word.specs.declared.pointer.PtrWord.TheVariants.{Near, Far}
+use Rattle.far_word.specs.declared.sizes.TheConstants.{EPOCH_END, LONGEST}
+use Rattle.far_word.specs.Pointer.{IsPtr, read_of}
+use Rattle.far_word.specs.Sizes.{size_of}
+use Rattle.far_word.proofs.PointerLaws.{read_says}
+use Rattle.far_core.specs.declared.event.Kind.{Kind}
+use Rattle.far_core.specs.declared.event.Kind.TheVariants as kinds
+use Rattle.far_core.specs.events.Copies.{data_at}
+use Rattle.far_core.specs.events.Mark.{is_sealed}
+use Rattle.far_core.specs.events.Naming.{is_dropped, no_marks}
+use Rattle.far_core.specs.events.NewSpans.{IsNext, with_span}
+use Rattle.far_core.specs.laws.Rooms.{IsRoom, RoomIs}
+use Rattle.far_core.specs.state.Law.{Law}
+use Rattle.far_core.specs.state.Room.{room}
+use Rattle.far_core.specs.state.State.{State, put}
+use Rattle.far_core.proofs.Put.{put_other, put_same}
+use Rattle.far_core.proofs.RoomLaws.{room_right}
+use Rattle.far_book.specs.book.Dealing.{IsQuietNear, goal, has_evac}
+use Rattle.far_book.specs.book.Effects.{fetched, moved, near_word, order_after, placed, retired, stayed, with_blank_span, with_written_span}
+use Rattle.far_book.specs.book.Fetching.{IsFar, far_len, room_for}
+use Rattle.far_book.proofs.region.Fetched.{fetched_come}
+use Rattle.far_book.proofs.region.Moved.{drop_of, evac_of, goal_there, has_moved, moved_is, stayed_is}
+use Rattle.far_book.proofs.region.Places.{named_is, next_unsealed}
+use Rattle.far_book.proofs.region.Retires.{retired_is}
+use Rattle.far_evac.specs.Callers.{CoresJoin, FetchingOrder, FetchingStepsAside, MovingOrder, MovingStepsAside, OwnersStepAside, PlacingOrder, PlacingStepsAside, RetiringOrder, RetiringStepsAside, StepsAside, StepsJoin, StepsKeep, StillOrder, StillStepsAside}
+use Rattle.far_evac.specs.Moment.{Moment, with_core}
+use Rattle.far_evac.specs.MomentLaw.{MomentLaw}
+use Rattle.far_evac.specs.RoundSteps.{among}
+use Rattle.far_evac.proofs.Bools.{or_right}
+use Rattle.far_evac.proofs.OfOneKind.{open_unsealed}
+
+-- ---- what is true between two calls
+unsealed : (kind : Kind) → kind ≢ kinds.Sealed → is_sealed kind ≡ false
+unsealed kinds.Free ne = refl
+unsealed kinds.Open ne = refl
+unsealed kinds.Sealed ne = absurd (ne refl)
+
+module _ (m : Moment) (t : State) (law : Law m.core) (moment : MomentLaw m) (then : Law t) (aside : StepsAside m.core t) where
+  abbrev was : ℕ
+  was = m.core.current
+
+  -- a log that wasn't open is sealed exactly where it was
+  same_elsewhere : (l : ℕ) → l ≢ was → is_sealed (m.core.kind l) ≡ is_sealed (t.kind l)
+  same_elsewhere l ne = elim (cases_eq l t.current) [
+    | inl e ↦ unsealed (m.core.kind l) (λ shut. open_unsealed (t.kind l) (ap t.kind e ∙ then.logs.is_open) (aside.stay l shut)) ∙ sym (ap is_sealed (ap t.kind e ∙ then.logs.is_open))
+    | inr other ↦ ap is_sealed (sym (aside.others l ne other))
+  ]
+
+  -- where the open log is the same, so are the sealed ones
+  same_sealed : t.current ≡ was → (l : ℕ) → is_sealed (m.core.kind l) ≡ is_sealed (t.kind l)
+  same_sealed same l = elim (cases_eq l was) [
+    | inl e ↦ ap is_sealed (ap m.core.kind e ∙ law.logs.is_open) ∙ sym (ap is_sealed (ap t.kind (e ∙ sym same) ∙ then.logs.is_open))
+    | inr ne ↦ same_elsewhere l ne
+  ]
+
+  -- else the one that was open is sealed too
+  more_sealed : t.current ≢ was → (l : ℕ) → (is_sealed (m.core.kind l) || (eqb l was || false)) ≡ is_sealed (t.kind l)
+  more_sealed other l = elim (cases_eq l was) [
+    | inl e ↦ or_right (is_sealed (m.core.kind l)) (eqb l was || false) (ap (λ b. b || false) (eq-eqb l was e)) ∙ ap is_sealed (sym (ap t.kind e ∙ aside.shut other))
+    | inr ne ↦ ap (λ b. is_sealed (m.core.kind l) || (b || false)) (ne_eqb l was ne) ∙ or-false (is_sealed (m.core.kind l)) ∙ same_elsewhere l ne
+  ]
+
+  order_then : (l : ℕ) → among (with_core m t).order l ≡ is_sealed (t.kind l)
+  order_then l = cond_both (t.current == was) m.order (m.order ++ was ∷ []) (λ (xs : List ℕ). among xs l ≡ is_sealed (t.kind l))
+      (λ e. moment.order l ∙ same_sealed (eqb-true t.current was e) l)
+      (λ e. list_any-append (eqb l) m.order (was ∷ []) ∙ ap (λ b. b || (eqb l was || false)) (moment.order l) ∙ more_sealed (eqb-false t.current was e) l)
+
+  once_then : IsDistinct eqb (with_core m t).order
+  once_then = cond_both (t.current == was) m.order (m.order ++ was ∷ []) (IsDistinct eqb)
+      (λ _. moment.order_once) (λ _. IsDistinct-push nat_eq_equiv m.order was moment.order_once (moment.order was ∙ ap is_sealed law.logs.is_open))
+
+  pub law_kept : MomentLaw (with_core m t)
+  law_kept = record {
+    order = order_then;
+    order_once = once_then;
+    sealed = λ l held. aside.stay l (moment.sealed l held);
+    held_once = moment.held_once;
+    runs = moment.runs;
+    round = λ risen l held. ap (λ (round : ℕ → Bool). round l) aside.round ∙ moment.round risen l held;
+    clear = λ leaves k lt. ap (λ (clear : ℕ → Bool). clear k) aside.clear ∙ moment.clear leaves k (subst (λ n. k < n) aside.mutators lt);
+    later = λ marks. subst (λ e. e + 1 < EPOCH_END) (sym aside.epoch) (moment.later marks);
+  }
+
+pub steps_keep : StepsKeep
+steps_keep m t law moment then aside = law_kept m t law moment then aside
+
+-- ---- two steps
+pub steps_join : StepsJoin
+steps_join s t u a b one = record {
+  mutators = b.mutators ∙ a.mutators;
+  logs = b.logs ∙ a.logs;
+  epoch = b.epoch ∙ a.epoch;
+  round = b.round ∙ a.round;
+  round_epoch = b.round_epoch ∙ a.round_epoch;
+  clear = b.clear ∙ a.clear;
+  stay = λ l shut. b.stay l (a.stay l shut);
+  others = λ l ne other. elim one [
+    | inl same ↦ b.others l (λ e. ne (e ∙ same)) other ∙ a.others l ne (λ e. ne (e ∙ same))
+    | inr same ↦ b.others l (λ e. other (e ∙ sym same)) other ∙ a.others l ne (λ e. other (e ∙ sym same))
+  ];
+  shut = λ other. elim one [
+    | inl same ↦ ap u.kind (sym same) ∙ b.shut (λ e. other (e ∙ same))
+    | inr same ↦ b.stay s.current (a.shut (λ e. other (same ∙ e)))
+  ];
+}
+
+-- ---- which steps are such
+pub still_aside : StillStepsAside
+still_aside s t mutators logs epoch round round_epoch clear kind current = record {
+  mutators = mutators;
+  logs = logs;
+  epoch = epoch;
+  round = round;
+  round_epoch = round_epoch;
+  clear = clear;
+  stay = λ l shut. ap (λ (kind : ℕ → Kind). kind l) kind ∙ shut;
+  others = λ l ne other. ap (λ (kind : ℕ → Kind). kind l) kind;
+  shut = λ other. absurd (other current);
+}
+
+pub owners_aside : OwnersStepAside
+owners_aside s t change = still_aside s t (ap (λ (u : State). u.mutators) change.rest) (ap (λ (u : State). u.logs) change.rest) (ap (λ (u : State). u.epoch) change.rest) (ap (λ (u : State). u.round) change.rest)
+    (ap (λ (u : State). u.round_epoch) change.rest) (ap (λ (u : State). u.clear) change.rest) (ap (λ (u : State). u.kind) change.rest) (ap (λ (u : State). u.current) change.rest)
+
+-- a span is taken where the next may stand
+taken_aside : (s : State) → Law s → (word : ℕ → ℕ) (p new len : ℕ) (to : Place) → IsNext s to → StepsAside s (with_span (record s { word = word }) p new len to)
+taken_aside s law word p new len to next = record {
+  mutators = refl;
+  logs = refl;
+  epoch = refl;
+  round = refl;
+  round_epoch = refl;
+  clear = refl;
+  stay = λ l shut.
+      put_other (put s.kind s.current kinds.Sealed) to.log kinds.Open l (λ e. next_unsealed s to next (ap s.kind (sym e) ∙ shut))
+      ∙ put_other s.kind s.current kinds.Sealed l (λ e. open_unsealed (s.kind s.current) law.logs.is_open (ap s.kind (sym e) ∙ shut)) ∙ shut;
+  others = λ l ne other. put_other (put s.kind s.current kinds.Sealed) to.log kinds.Open l other ∙ put_other s.kind s.current kinds.Sealed l ne;
+  shut = λ other. put_other (put s.kind s.current kinds.Sealed) to.log kinds.Open s.current (λ e. other (sym e)) ∙ put_same s.kind s.current kinds.Sealed s.current refl;
+}
+
+module _ (s : State) (law : Law s) (len ds : ℕ) (to : Place) (reserve : Bool) (some : 0 < len) (most : len ≤ LONGEST) (structure : ds < 256) (found : room s (size_of len) reserve ≡ Some to) where
+  is_room : IsRoom s (size_of len) reserve to
+  is_room = subst (RoomIs s (size_of len) reserve) found (room_right s law (size_of len) reserve (omega arith))
+
+  pub layout : IsPtr (Near len ds to no_marks)
+  layout = (some, most, structure, omega (arith, is_room.next.0, law.shape.few_logs), is_room.fits)
+
+module _ (s : State) (p len ds : ℕ) (to : Place) (reserve : Bool) (law : Law s) (free : s.cell p ≡ 0) (some : 0 < len) (most : len ≤ LONGEST) (structure : ds < 256) (found : room s (size_of len) reserve ≡ Some to) where
+  placed_taken : placed s p len ds to ≡ with_span (with_blank_span s p len ds to) p (near_word len ds to) len to
+  placed_taken = named_is (with_blank_span s p len ds to) p len ds to free (layout s law len ds to reserve some most structure found)
+
+  placed_aside : StepsAside s (placed s p len ds to)
+  placed_aside = subst (StepsAside s) (sym placed_taken) (taken_aside s law _ p (near_word len ds to) len to (is_room s law len ds to reserve some most structure found).next)
+
+pub placing_aside : PlacingStepsAside
+placing_aside s p len ds place reserve law free some most structure found = placed_aside s p len ds place reserve law free some most structure found
+
+module _ (s : State) (p : ℕ) (to : Place) (law : Law s) (q : IsQuietNear s p) (alive : is_dropped (read_of (s.cell p)) ≡ false) (found : goal s p ≡ Some to) where
+  says : IsPtr (Near q.len q.ds q.place q.marks)
+  says = (read_says (s.cell p) (Near q.len q.ds q.place q.marks) (law.cells.cell_read p).0 q.near).0
+
+  undropped : q.marks.dropped ≡ false
+  undropped = drop_of (read_of (s.cell p)) q.len q.ds q.place q.marks q.near alive
+
+  module _ (wanted : has_evac (read_of (s.cell p)) ≡ true) where
+    evac : q.marks.evac ≡ true
+    evac = evac_of (read_of (s.cell p)) true q.len q.ds q.place q.marks q.near wanted
+
+    there : room s (size_of q.len) false ≡ Some to
+    there = sym (goal_there s p q q.len q.ds q.place q.marks q.near evac) ∙ found
+
+    moved_taken : moved s p to ≡ with_span (with_written_span s p q.len q.ds to (data_at s.word q.place)) p (near_word q.len q.ds to) q.len to
+    moved_taken = moved_is s p q.len q.ds q.place to q.marks q.near undropped evac (layout s law q.len q.ds to false says.0 says.1 says.2 there)
+
+    moved_aside : StepsAside s (moved s p to)
+    moved_aside = subst (StepsAside s) (sym moved_taken) (taken_aside s law _ p (near_word q.len q.ds to) q.len to (is_room s law q.len q.ds to false says.0 says.1 says.2 there).next)
+
+  module _ (unwanted : has_evac (read_of (s.cell p)) ≡ false) where
+    stayed_cell : stayed s p ≡ record s { cell = put s.cell p (near_word q.len q.ds q.place) }
+    stayed_cell =
+        let bare = evac_of (read_of (s.cell p)) false q.len q.ds q.place q.marks q.near unwanted in
+        stayed_is s p q.len q.ds q.place q.marks q.near undropped (has_moved s p q q.len q.ds q.place q.marks q.near bare) bare (says.0, says.1, says.2, says.3, says.4)
+
+    stayed_aside : StepsAside s (stayed s p)
+    stayed_aside = subst (StepsAside s) (sym stayed_cell) (still_aside s _ refl refl refl refl refl refl refl refl)
+
+pub moving_aside : MovingStepsAside
+moving_aside s p to law q alive found = cond_both (has_evac (read_of (s.cell p))) (moved s p to) (stayed s p) (StepsAside s) (moved_aside s p to law q alive found) (stayed_aside s p to law q alive found)
+
+module _ (s : State) (p : ℕ) (to : Place) (row : ℕ → ℕ) (law : Law s) (far : IsFar s p) (alive : is_dropped (read_of (s.cell p)) ≡ false) (found : room_for s p ≡ Some to) where
+  far_says : IsPtr (Far far.len far.ds far.marks)
+  far_says = (read_says (s.cell p) (Far far.len far.ds far.marks) (law.cells.cell_read p).0 far.far).0
+
+  near_room : room s (size_of far.len) true ≡ Some to
+  near_room = sym (ap (λ o. room s (size_of (far_len o)) true) far.far) ∙ found
+
+  fetched_taken : fetched s p to row ≡ with_span (with_written_span s p far.len far.ds to row) p (near_word far.len far.ds to) far.len to
+  fetched_taken = fetched_come s s p far.len far.ds to row far.marks far.far (sym (ap is_dropped far.far) ∙ alive) (layout s law far.len far.ds to true far_says.0 far_says.1 far_says.2 near_room)
+
+  fetched_aside : StepsAside s (fetched s p to row)
+  fetched_aside = subst (StepsAside s) (sym fetched_taken) (taken_aside s law _ p (near_word far.len far.ds to) far.len to (is_room s law far.len far.ds to true far_says.0 far_says.1 far_says.2 near_room).next)
+
+pub fetching_aside : FetchingStepsAside
+fetching_aside s p place row law far alive found = fetched_aside s p place row law far alive found
+
+pub retiring_aside : RetiringStepsAside
+retiring_aside s p dropped = subst (StepsAside s) (sym (retired_is s p dropped)) (still_aside s _ refl refl refl refl refl refl refl refl)
+
+-- ---- the order of the sealed logs
+abbrev order_then_by : ℕ → ℕ → List ℕ → List ℕ
+order_then_by now was order = cond (now == was) order (order ++ was ∷ [])
+
+order_same : (now was : ℕ) (order : List ℕ) → now ≡ was → order_then_by now was order ≡ order
+order_same now was order same = ap (λ b. cond b order (order ++ was ∷ [])) (eq-eqb now was same)
+
+pub still_order : StillOrder
+still_order m t same = ap (λ order. record m { core = t; order = order }) (order_same t.current m.core.current m.order same)
+
+pub cores_join : CoresJoin
+cores_join m t u (inl same) = ap (λ order. record m { core = u; order = order })
+    (ap (order_then_by u.current t.current) (order_same t.current m.core.current m.order same) ∙ ap (λ was. order_then_by u.current was m.order) same)
+cores_join m t u (inr same) = ap (λ order. record m { core = u; order = order })
+    (order_same u.current t.current (order_then_by t.current m.core.current m.order) same ∙ ap (λ now. order_then_by now m.core.current m.order) (sym same))
+
+pub placing_order : PlacingOrder
+placing_order m p len ds place reserve law free some most structure found =
+    ap (λ (t : State). order_then_by t.current m.core.current m.order) (placed_taken m.core p len ds place reserve law free some most structure found)
+
+pub moving_order : MovingOrder
+moving_order m p to law q alive found = cond_both_is (has_evac (read_of (m.core.cell p))) refl where
+  cond_both_is : (b : Bool) → has_evac (read_of (m.core.cell p)) ≡ b → order_then_by (cond b (moved m.core p to) (stayed m.core p)).current m.core.current m.order ≡ cond b (order_after m.core m.order to) m.order
+  cond_both_is true e = ap (λ (t : State). order_then_by t.current m.core.current m.order) (moved_taken m.core p to law q alive found e)
+  cond_both_is false e = order_same (stayed m.core p).current m.core.current m.order (ap (λ (t : State). t.current) (stayed_cell m.core p to law q alive found e))
+
+pub fetching_order : FetchingOrder
+fetching_order m p place row law far alive found = ap (λ (t : State). order_then_by t.current m.core.current m.order) (fetched_taken m.core p place row law far alive found)
+
+pub retiring_order : RetiringOrder
+retiring_order m p dropped = order_same (retired m.core p).current m.core.current m.order (ap (λ (t : State). t.current) (retired_is m.core p dropped))
