@@ -10,23 +10,39 @@ import subprocess
 import sys
 
 TEXT_LIMIT, LINE_LIMIT, LOG_BYTES, CELLS, MOST = 1_048_576, 4_096, 1_024, 128, 1_016
+LAST_EPOCH, LAST_NUMBER = 2**62 - 1, 2**64 - 1
 NUMBER = re.compile(rb"0|[1-9][0-9]{0,19}")
 HEX = re.compile(rb"([0-9a-fA-F]{2})+")
 COMMANDS = {b"heap": "nn", b"new": "nnn", b"open": "n", b"close": "n", b"read": "nnnn", b"write": "nnnh", b"where": "nn", b"drop": "nn", b"view": "nn", b"try": "nn"}
 COMMANDS |= {b"logs": "", b"log": "n", b"audit": "", b"epoch": "n"}
+COMMANDS |= {b"select": "pm", b"mark": "n", b"wait": "", b"evacuate": "n", b"abort": "", b"round": "pmn"}
+LARGEST = {"n": LAST_NUMBER, "m": 64, "l": 255}
+POLICIES = {"p": (b"oldest", b"leastlive"), "s": (b"script",)}
+MARKS = {"h": 62, "e": 61, "m": 60}
 
 
 def operand(kind: str, word: bytes):
-    """A number or a run of bytes; None where the word is neither."""
+    """A number, a policy or a run of bytes; None where the word is none of its kind."""
     if kind == "h":
         return bytes.fromhex(word.decode()) if HEX.fullmatch(word) else None
-    return int(word) if NUMBER.fullmatch(word) and int(word) < 2**64 else None
+    if kind in POLICIES:
+        return word.decode() if word in POLICIES[kind] else None
+    return int(word) if NUMBER.fullmatch(word) and int(word) <= LARGEST[kind] else None
+
+
+def operand_kinds(name: bytes, words: list):
+    """The kinds of the words that may stand here after a command's name; None where there is no such command."""
+    if name == b"heap" and len(words) == 3:
+        return "nnn"
+    if name == b"select" and words[:1] == [b"script"]:
+        return "sm" + "l" * max(1, len(words) - 2)
+    return COMMANDS.get(name)
 
 
 def command(line: bytes):
     """A line as a name and its operands; None where the line is off the grammar."""
     name, *words = line.split(b" ")
-    kinds = "nnn" if name == b"heap" and len(words) == 3 else COMMANDS.get(name)
+    kinds = operand_kinds(name, words)
     if kinds is None or len(kinds) != len(words):
         return None
     operands = [operand(kind, word) for kind, word in zip(kinds, words)]
@@ -55,31 +71,43 @@ def taken(length: int) -> int:
 
 
 class Thing:
-    """An object: its bytes, its log and the word in it, and whether it was ever read or written."""
+    """An object: its bytes, its data structure, the letters of its marks, its log and the word in it; far it has no log."""
 
-    def __init__(self, length: int, log: int, word: int):
-        self.bytes, self.log, self.word, self.hot = bytearray(length), log, word, False
+    def __init__(self, length: int, ds: int):
+        self.bytes, self.ds, self.marks, self.log, self.word = bytearray(length), ds, set(), None, 0
+
+    def lies(self, log, word: int = 0):
+        """It lies there from now on, without marks."""
+        self.marks, self.log, self.word = set(), log, word
+
+    def cell(self) -> int:
+        """The word of its cell."""
+        at = (self.word << 24 | self.log << 34 | 1 << 63) if self.log is not None else 0
+        return at | 1 << 58 | self.ds << 16 | len(self.bytes) | sum(1 << MARKS[mark] for mark in self.marks)
 
 
 class Heap:
     """Objects by their cells, logs as the number of bytes placed in them. What no object takes of those is dead."""
 
     def __init__(self, logs: int, mutators: int, epoch: int = 0):
-        self.first = epoch
-        self.placed, self.newest = [0] + [None] * (logs - 1), 0
-        self.objects, self.scopes = [{} for _ in range(mutators)], [False] * mutators
+        self.now = epoch
+        self.placed, self.newest, self.sealed = [0] + [None] * (logs - 1), 0, []
+        self.objects, self.scopes, self.told = [{} for _ in range(mutators)], [None] * mutators, [None] * mutators
         self.views = [set() for _ in range(mutators)]
+        self.phase, self.held, self.clear = "idle", [], set()
 
-    def room(self, size: int):
-        """Takes so many bytes after what was placed last, or in a new log, and gives their log and word; the last free log is kept."""
+    def place(self, found: Thing, kept: int) -> bool:
+        """Places it after what was placed last, or in a new log where more than so many are free; answers whether it could."""
+        size = taken(len(found.bytes))
         if self.placed[self.newest] + size > LOG_BYTES:
-            if self.placed.count(None) < 2:
-                return None
+            if self.placed.count(None) <= kept:
+                return False
+            self.sealed.append(self.newest)
             self.newest = self.placed.index(None)
             self.placed[self.newest] = 0
-        place = self.newest, self.placed[self.newest] // 8
+        found.lies(self.newest, self.placed[self.newest] // 8)
         self.placed[self.newest] += size
-        return place
+        return True
 
     def new(self, m: int, length: int, ds: int) -> str:
         if m >= len(self.scopes) or ds > 255:
@@ -88,28 +116,37 @@ class Heap:
             return "refused 4"
         if len(self.objects[m]) == CELLS:
             return "refused 3"
-        if (place := self.room(taken(length))) is None:
+        if not self.place(found := Thing(length, ds), 1):
             return "refused 2"
         cell = next(cell for cell in range(CELLS) if cell not in self.objects[m])
-        self.objects[m][cell] = Thing(length, *place)
+        self.objects[m][cell] = found
         return f"pointer {CELLS * m + cell}"
 
-    def scope(self, m: int, wanted: bool, then: bool) -> str:
-        """Asks for a scope that is open or closed, and leaves it open or closed."""
+    def scope(self, m: int, wanted: bool) -> str:
+        """Asks for a scope that is open, or closed."""
         if m >= len(self.scopes):
             return "refused 8"
-        if self.scopes[m] != wanted:
+        if (self.scopes[m] is not None) != wanted:
             return "refused 5" if wanted else "refused 6"
-        self.scopes[m] = then
-        if not then:
-            self.views[m].clear()
         return "ok"
 
+    def open(self, m: int) -> str:
+        """Opens a scope at the epoch that its mutator was told, or else at the heap's."""
+        if (said := self.scope(m, False)) == "ok":
+            self.scopes[m] = self.now if self.told[m] is None else self.told[m]
+        return said
+
+    def close(self, m: int) -> str:
+        if (said := self.scope(m, True)) == "ok":
+            self.scopes[m] = self.told[m] = None
+            self.views[m].clear()
+        return said
+
     def epoch(self, m: int) -> str:
-        """Tells the epoch, which no command raises, to a mutator whose scope is closed."""
-        if m >= len(self.scopes):
-            return "refused 8"
-        return "refused 6" if self.scopes[m] else f"epoch {self.first}"
+        if (said := self.scope(m, False)) != "ok":
+            return said
+        self.told[m] = self.now
+        return f"epoch {self.now}"
 
     def find(self, m: int, p: int):
         """The object of a mutator's pointer, or the refusal."""
@@ -118,17 +155,33 @@ class Heap:
         found = self.objects[m].get(p % CELLS) if p // CELLS == m else None
         return "refused 7" if found is None else found
 
+    def find_open(self, m: int, p: int):
+        """The same, of a mutator whose scope is open."""
+        said = self.scope(m, True)
+        return self.find(m, p) if said == "ok" else said
+
+    def reach(self, m: int, p: int, found: Thing) -> str:
+        """Views an object: one that is far is fetched, one that is to be evacuated is moved."""
+        if p in self.views[m]:
+            return "ok"
+        found.marks.add("h")
+        if "e" in found.marks:
+            found.marks.add("m")
+        if (found.log is None or "e" in found.marks) and not self.place(found, 1 if found.log is None else 0):
+            return "refused 2"
+        found.marks = {"h"}
+        self.views[m].add(p)
+        return "ok"
+
     def access(self, m: int, p: int, start: int, data) -> str:
         """A write of bytes, or a read of so many."""
-        if (said := self.scope(m, True, True)) != "ok":
-            return said
-        if isinstance(found := self.find(m, p), str):
+        if isinstance(found := self.find_open(m, p), str):
             return found
         end = start + (data if isinstance(data, int) else len(data))
         if end == start or end > len(found.bytes):
             return "refused 8"
-        found.hot = True
-        self.views[m].add(p)
+        if (said := self.reach(m, p, found)) != "ok":
+            return said
         if isinstance(data, int):
             return "data " + found.bytes[start:end].hex()
         found.bytes[start:end] = data
@@ -137,17 +190,22 @@ class Heap:
     def where(self, m: int, p: int) -> str:
         if isinstance(found := self.find(m, p), str):
             return found
-        return f"near {found.log} {found.word} {'h' if found.hot else '-'}"
+        at = "far" if found.log is None else f"near {found.log} {found.word}"
+        return f"{at} {''.join(mark for mark in MARKS if mark in found.marks) or '-'}"
 
     def view(self, m: int, p: int) -> str:
-        """Views an object, which is near without marks that would keep it from being viewed."""
-        if (said := self.scope(m, True, True)) != "ok":
-            return said
-        if isinstance(found := self.find(m, p), str):
+        found = self.find_open(m, p)
+        return found if isinstance(found, str) else self.reach(m, p, found)
+
+    def pin(self, m: int, p: int) -> str:
+        """Views an object only if it needs neither fetch nor move nor a mark taken away; tells its cell as it was before."""
+        if isinstance(found := self.find_open(m, p), str):
             return found
-        found.hot = True
-        self.views[m].add(p)
-        return "ok"
+        if p not in self.views[m] and (found.log is None or found.marks & {"e", "m"}):
+            said = f"refused 14 {found.cell():016x}"
+            found.marks.add("h")
+            return said
+        return self.reach(m, p, found)
 
     def drop(self, m: int, p: int) -> str:
         if isinstance(found := self.find(m, p), str):
@@ -163,22 +221,112 @@ class Heap:
     def log(self, log: int) -> str:
         if log >= len(self.placed):
             return "refused 8"
-        used = self.placed[log]
-        kind = "free" if used is None else "open" if log == self.newest else "sealed"
-        live = sum(taken(len(found.bytes)) for found in self.things() if found.log == log)
-        return f"log {log} {kind} live {live} dead {(used or 0) - live} unused {LOG_BYTES - (used or 0)}"
+        used, live = self.placed[log] or 0, self.live(log)
+        kind = "chosen" if log in self.held else "sealed" if log in self.sealed else "open" if log == self.newest else "free"
+        return f"log {log} {kind} live {live} dead {used - live} unused {LOG_BYTES - used}"
+
+    def live(self, log: int) -> int:
+        return sum(taken(len(found.bytes)) for found in self.things() if found.log == log)
 
     def logs(self) -> str:
         return "\n".join(self.log(log) for log in range(len(self.placed)))
 
     def audit(self) -> str:
-        sizes = [taken(len(found.bytes)) for found in self.things()]
-        return f"audit near {len(sizes)} far 0 live {sum(sizes)}"
+        sizes = [taken(len(found.bytes)) for found in self.things() if found.log is not None]
+        return f"audit near {len(sizes)} far {len(self.things()) - len(sizes)} live {sum(sizes)}"
+
+    def select(self, policy: str, most: int, *named: int) -> str:
+        """Begins a round of sealed logs; those that it still holds, in their order, are the chosen ones."""
+        if self.phase != "idle":
+            return "refused 12"
+        if self.now == LAST_EPOCH:
+            return "refused 13"
+        for at, log in enumerate(named):
+            if log not in self.sealed or log in named[:at] or at >= most:
+                return f"refused 17 {log}"
+        ages = self.sealed if policy == "oldest" else sorted(self.sealed, key=lambda log: (self.live(log), log))
+        self.held = [*(named or ages[:most])]
+        if self.held:
+            self.phase = "marking"
+        return "selected " + (" ".join(map(str, self.held)) or "none")
+
+    def residents(self) -> list:
+        """What lives in the logs that the round holds, in the order in which the round comes to it."""
+        found = [found for found in self.things() if found.log in self.held]
+        return sorted(found, key=lambda found: (self.held.index(found.log), found.word))
+
+    def mark(self, most: int) -> str:
+        if self.phase != "marking":
+            return "refused 12"
+        left = [found for found in self.residents() if "e" not in found.marks]
+        for found in left[:most]:
+            found.marks.add("e")
+        if len(left) > most:
+            return f"marked {most}"
+        self.now += 1
+        self.phase, self.clear = "waiting", set()
+        return f"marked {len(left)} waiting {self.now}"
+
+    def wait(self) -> str:
+        if self.phase != "waiting":
+            return "refused 12"
+        for m, epoch in enumerate(self.scopes):
+            if m not in self.clear and epoch is not None and epoch < self.now:
+                return f"refused 18 {m} {epoch}"
+            self.clear.add(m)
+        self.phase = "evacuating"
+        return "clear"
+
+    def deal(self, most: int):
+        """Deals with so many objects; gives how many were moved and sent far and how many logs were given back."""
+        moved, far, freed = 0, 0, 0
+        while self.held:
+            for found in (found for found in self.residents() if found.log == self.held[0]):
+                if moved + far == most:
+                    return moved, far, freed
+                if "h" in found.marks and self.place(found, 0):
+                    moved += 1
+                else:
+                    found.lies(None)
+                    far += 1
+            self.placed[self.held[0]] = None
+            self.sealed.remove(self.held.pop(0))
+            freed += 1
+        self.phase = "idle"
+        return moved, far, freed
+
+    def evacuate(self, most: int) -> str:
+        if self.phase != "evacuating":
+            return "refused 12"
+        return "evacuated moved %d far %d dropped 0 freed %d" % self.deal(most) + (" done" if self.phase == "idle" else "")
+
+    def abort(self) -> str:
+        if self.phase == "idle":
+            return "refused 12"
+        for found in self.residents():
+            found.marks.discard("e")
+        self.phase, self.held = "idle", []
+        return "ok"
+
+    def round(self, policy: str, most: int, turns: int) -> str:
+        """A whole round, or so many turns of it; a wait that isn't over leaves it where it is, whatever turns are left."""
+        if not (said := self.select(policy, most)).startswith("selected") or self.phase == "idle":
+            return said.replace("selected", "round")
+        counts = [0, 0, 0]
+        for _ in range(turns):
+            if self.phase == "marking":
+                self.mark(16)
+            elif self.phase == "waiting":
+                if self.wait() != "clear":
+                    break
+            else:
+                counts = [sum(pair) for pair in zip(counts, self.deal(16))]
+                if self.phase == "idle":
+                    return "round done moved %d far %d dropped 0 freed %d" % tuple(counts)
+        return f"round limit {self.phase}"
 
     def answer(self, name: str, operands: list) -> str:
-        if name in ("open", "close"):
-            return self.scope(*operands, name == "close", name == "open")
-        return getattr(self, {"read": "access", "write": "access", "try": "view"}.get(name, name))(*operands)
+        return getattr(self, {"read": "access", "write": "access", "try": "pin"}.get(name, name))(*operands)
 
 
 def interpret(text: bytes) -> tuple[int, bytes]:
@@ -189,7 +337,7 @@ def interpret(text: bytes) -> tuple[int, bytes]:
     if not commands:
         return 0, b""
     logs, mutators, epoch = (*commands[0][1], 0)[:3]
-    if not (2 <= logs <= 64 and 1 <= mutators <= 8 and epoch < 2**62):
+    if not (2 <= logs <= 64 and 1 <= mutators <= 8 and epoch <= LAST_EPOCH):
         return 2, b"refused 15\n"
     heap = Heap(logs, mutators, epoch)
     return 0, "\n".join(["ok", *(heap.answer(*made) for made in commands[1:]), ""]).encode()
@@ -200,24 +348,25 @@ class Writer:
 
     def __init__(self, seed: str):
         self.choice = random.Random(seed)
-        self.shape = (self.choice.choice((2, 3, 3, 4, 64)), self.choice.randint(1, 8))
+        self.shape = (self.choice.choice((2, 3, 3, 4, 5, 9, 64)), self.choice.choice((1, 2, self.choice.randint(1, 8))))
         if self.choice.random() < 0.4:
-            self.shape += (self.choice.choice((0, 1, 9, 2**62 - 1)),)
+            self.shape += (self.choice.choice((0, 9, LAST_EPOCH - 9, LAST_EPOCH - 1, LAST_EPOCH - 1, LAST_EPOCH)),)
         self.heap = Heap(*self.shape)
         if self.choice.random() < 0.02:
-            self.shape = (*self.shape[:2], self.choice.choice((2**62, 2**64 - 1)))
+            self.shape = (*self.shape[:2], self.choice.choice((LAST_EPOCH + 1, LAST_NUMBER)))
         elif self.choice.random() < 0.05:
-            self.shape = (self.choice.choice((0, 1, 2, 64, 65, 2**64 - 1)), self.choice.choice((0, 1, 8, 9, 2**32 + 1)))
-        self.largest = self.choice.choice((1, 9, 40, 300, MOST))
+            self.shape = (self.choice.choice((0, 1, 2, 64, 65, LAST_NUMBER)), self.choice.choice((0, 1, 8, 9, 2**32 + 1)))
+        self.largest, self.rounds = self.choice.choice((1, 9, 40, 300, MOST, MOST)), self.choice.choice((0, 4, 20, 20))
 
     def odd(self, good: int) -> int:
         """The number, or now and then one that is seldom good."""
-        return good if self.choice.random() > 0.04 else self.choice.choice((0, 8, 255, 256, MOST, MOST + 1, 2**32, 2**63, 2**64 - 1))
+        return good if self.choice.random() > 0.04 else self.choice.choice((0, 8, 255, 256, MOST, MOST + 1, 2**32, 2**63, LAST_NUMBER))
 
     def pointer(self, m: int) -> int:
         """A pointer of the mutator's, most often of an object."""
         found = self.heap.objects[m]
-        return CELLS * m + self.choice.choice([*sorted(found), min(len(found), CELLS - 1)])
+        asking = [cell for cell in found if "m" in found[cell].marks]
+        return CELLS * m + self.choice.choice([*sorted(found), *asking * 4, min(len(found), CELLS - 1)])
 
     def access(self, m: int) -> str:
         pointer = self.pointer(m)
@@ -231,27 +380,60 @@ class Writer:
             return f"read {place} {self.odd(size)}"
         return f"write {place} " + "".join(self.choice.choice("0123456789abcdefABCDEF") for _ in range(2 * max(size, 1)))
 
+    def policy(self, kind: str) -> str:
+        """A policy, how many logs it may name, and those of a script: sealed ones, most often."""
+        most, sealed = self.choice.choice((0, 1, 1, 2, 3, 5, 64)), self.heap.sealed or [0]
+        if kind != "script":
+            return f"{kind} {most}"
+        named = self.choice.sample(sealed, self.choice.randint(1, min(len(sealed), 4)))
+        if self.choice.random() < 0.8:
+            most = max(most, len(named))
+        else:
+            most = self.choice.choice((most, 64))
+            named += self.choice.choices([*named * 4, *range(self.choice.choice((5, 64, 256)))], k=self.choice.choice((1, 2, 64)))
+        return " ".join(map(str, ["script", most, *named]))
+
+    def turn(self, m: int) -> str:
+        """A command of rounds, most often one that the phase asks for; often a new object where no round can begin, an abort where an object has MOVE."""
+        if (not self.heap.sealed or self.heap.now == LAST_EPOCH) and self.heap.phase == "idle" and self.choice.random() < 0.8:
+            return self.operands("new", m)
+        if self.heap.phase != "idle" and any("m" in found.marks for found in self.heap.things()) and self.choice.random() < 0.5:
+            return "abort"
+        due = {"idle": ("select", "round"), "marking": ("mark",), "waiting": ("wait",), "evacuating": ("evacuate",)}[self.heap.phase]
+        kind = self.choice.choice(due if self.choice.random() < 0.8 else ("select", "mark", "wait", "evacuate", "abort", "abort", "round"))
+        number = self.choice.choice((0, 1, 1, 2, 3, 5, 9, 17, LAST_NUMBER))
+        if kind in ("select", "round"):
+            policy = self.policy(self.choice.choice(("oldest", "leastlive", "script" if kind == "select" else "oldest")))
+            return f"select {policy}" if kind == "select" else f"round {policy} {number}"
+        return kind if kind in ("wait", "abort") else f"{kind} {number}"
+
     def operands(self, kind: str, m: int) -> str:
         """A command with operands, by its name."""
         if kind == "access":
             return self.access(m)
+        if kind == "turn":
+            return self.turn(m)
         if kind == "log":
             return f"log {self.odd(self.choice.randrange(self.shape[0] or 1))}"
         if kind in ("where", "drop", "view", "try"):
             return f"{kind} {self.odd(m)} {self.odd(self.pointer(m))}"
         if kind == "new":
-            return f"new {self.odd(m)} {self.odd(self.choice.randint(1, self.largest))} {self.odd(self.choice.randrange(256))}"
+            length = self.choice.choice((self.largest, self.choice.randint(1, self.largest)))
+            return f"new {self.odd(m)} {self.odd(length)} {self.odd(self.choice.randrange(256))}"
         return f"{kind} {self.odd(m)}"
 
     def line(self) -> str:
         m = self.choice.randrange(len(self.heap.scopes))
-        kinds = ("new", "access", "open", "close", "where", "drop", "view", "try", "epoch", "log", "logs", "audit", "", "# words")
-        kind = self.choice.choices(kinds, (10, 30, 8, 2, 4, 4, 3, 3, 2, 2, 1, 1, 1, 1))[0]
+        kinds = ("new", "access", "open", "close", "where", "drop", "view", "try", "epoch", "log", "logs", "audit", "", "# words", "turn")
+        kind = self.choice.choices(kinds, (10, 30, 8, 2, 4, 4, 3, 3, 4, 2, 1, 1, 1, 1, self.rounds))[0]
         if kind in ("", "# words"):
             return kind
-        made = kind if kind in ("logs", "audit") else self.operands(kind, m)
-        self.heap.answer(*command(made.encode()))
-        return made
+        made = [kind if kind in ("logs", "audit") else self.operands(kind, m)]
+        if kind == "turn" and self.choice.random() < 0.3:
+            made = [f"close {other}" for other, epoch in enumerate(self.heap.scopes) if epoch is not None] + made
+        for line in made:
+            self.heap.answer(*command(line.encode()))
+        return "\n".join(made)
 
     def spoiled(self, text: bytes) -> bytes:
         """The text with one line changed as a person or a fault may change it."""
@@ -260,7 +442,10 @@ class Writer:
         line, wide, byte = lines[at], LINE_LIMIT + self.choice.randrange(2), bytes([self.choice.randrange(256)])
         signs = [line.replace(b" ", sign, 1) for sign in (b"  ", b"\t", b" 0", b" +", b" -", b" 0x")]
         ends = [line + end for end in (b" ", b"\r", b"0", b" 1", b"\t", byte)]
-        others = b"heap 4 1|heap 4 1 0 0|view 0|epoch|select oldest 1|# \xc3\xa9|#\0\t\r|\0|write 0 0 0 0g|write 0 0 0 |open %d|open %d" % (2**64, 10**20)
+        others = b"heap 4 1|heap 4 1 0 0|view 0|epoch|# \xc3\xa9|#\0\t\r|\0|write 0 0 0 0g|write 0 0 0 |open %d|open %d" % (2**64, 10**20)
+        others += b"|select oldest 65|select leastlive|select oldest 1 0|select script 1|select script 1 256|select script 65 0|select newest 1|select 1|select"
+        others += b"|round script 1 9|round script 1 0 9|round oldest 65 1|round oldest 1|round oldest 1 1 1|round leastlive 1 %d|round 1 9|round" % 2**64
+        others += b"|mark|mark 1 1|mark -1|wait 0|evacuate|evacuate 0 0|evacuate done|abort 0|device fail 1"
         long = [b"#" * wide, (b"write 0 0 0 " + b"ab" * LINE_LIMIT)[: wide + self.choice.randrange(2)]]
         lines[at] = self.choice.choice([b" " + line, byte + line, line[:-1], line.upper(), *signs, *ends, *others.split(b"|"), *long])
         return b"\n".join(lines)

@@ -1,48 +1,86 @@
 #!/usr/bin/env bash
-# Refuses each growth of the built program in turn, on the stored trace. Each run must end with the whole output and
-# status 0, or with `memory`, status 1, and nothing written but `refused 1`; both endings must come. Prints only what is
-# wrong.
+# Refuses each growth of the built program in turn, on two texts: the stored trace, and one whose rounds and fetches take
+# memory. Each run must end with the whole output and status 0, or with `memory`, status 1, and nothing written but
+# `refused 1`, or, where a command of rounds or a view was refused memory, a proper prefix of the output. All these endings
+# must come. Prints only what is wrong.
 set -euo pipefail
 here="$(cd "$(dirname "${BASH_SOURCE[0]}")" && pwd)"
 crate="$here/../crates/far_trace"
-trace="${1:-$crate/stdin}"
+program="${1:-$crate/out/far_trace}"
 work="$(mktemp -d)"
 trap 'rm -rf "$work"' EXIT
-"$here/far_trace" <"$trace" >"$work/whole"
+[[ -n "${1:-}" ]] || "$here/far_trace" </dev/null
 cc -O2 -shared -fPIC -o "$work/fail_malloc.so" "$here/fail_malloc.c" -ldl
 echo 'refused 1' >"$work/refused"
+wrong=0
 
-run() { # the number of the growth that is refused
-    FAIL_ALLOC="$1" COUNT_ALLOC="$work/count" LD_PRELOAD="$work/fail_malloc.so" "$crate/out/far_trace" <"$trace" >"$work/out" 2>"$work/err"
+much() { # more output than waits before it is written, so that each command that follows ends after a prefix of its own
+    for ((i = 0; i < 40; i++)); do echo logs; done
 }
 
-wrong=0
-silent=0
-told=0
-run 0 || true
-asked="$(cat "$work/count")"
-for ((nth = 1; nth <= asked; nth++)); do
-    status=0
-    run "$nth" || status=$?
-    if ((status == 0)) && [[ ! -s "$work/err" ]] && cmp -s "$work/out" "$work/whole"; then
-        continue
+rounds() { # a text in which select, evacuate, round and view take memory
+    printf 'heap 64 1\nnew 0 8 1\nnew 0 1016 1\nnew 0 1016 1\n'
+    much
+    printf 'select oldest 1\nmark 9\nwait\n'
+    much
+    printf 'evacuate 9\n'
+    much
+    printf 'round oldest 1 9\nopen 0\n'
+    much
+    printf 'view 0 0\n'
+}
+
+run() { # the text, and the number of the growth that is refused
+    FAIL_ALLOC="$2" COUNT_ALLOC="$work/count" LD_PRELOAD="$work/fail_malloc.so" "$program" <"$1" >"$work/out" 2>"$work/err"
+}
+
+is_prefix() { # whether the output is a proper prefix of the whole, and isn't empty
+    local size
+    size="$(stat -c %s "$work/out")"
+    ((size > 0 && size < $(stat -c %s "$work/whole"))) && cmp -s -n "$size" "$work/out" "$work/whole"
+}
+
+refuse() { # the text, and how many prefixes of its output must be left, each of another length
+    local text="$1" prefixes="$2" asked status silent=0 told=0
+    local -A left=()
+    if ! "$program" <"$text" >"$work/whole"; then
+        echo "refuse_each: $text isn't run: $(head -c 200 "$work/whole")" >&2
+        wrong=1
+        return
     fi
-    if ((status == 1)) && [[ "$(cat "$work/err")" == memory ]]; then
-        if [[ ! -s "$work/out" ]]; then
-            silent=$((silent + 1))
+    run "$text" 0 || true
+    asked="$(cat "$work/count")"
+    for ((nth = 1; nth <= asked; nth++)); do
+        status=0
+        run "$text" "$nth" || status=$?
+        if ((status == 0)) && [[ ! -s "$work/err" ]] && cmp -s "$work/out" "$work/whole"; then
             continue
         fi
-        if cmp -s "$work/out" "$work/refused"; then
-            told=$((told + 1))
-            continue
+        if ((status == 1)) && [[ "$(cat "$work/err")" == memory ]]; then
+            if [[ ! -s "$work/out" ]]; then
+                silent=$((silent + 1))
+                continue
+            fi
+            if cmp -s "$work/out" "$work/refused"; then
+                told=$((told + 1))
+                continue
+            fi
+            if ((prefixes > 0)) && is_prefix; then
+                left[$(stat -c %s "$work/out")]=1
+                continue
+            fi
         fi
+        echo "refuse_each: $text, growth $nth of $asked: status $status, stderr $(cat "$work/err"), stdout:" >&2
+        head -c 400 "$work/out" >&2
+        wrong=1
+    done
+    if ((silent == 0 || told == 0 || ${#left[@]} != prefixes)); then
+        echo "refuse_each: $text, $asked growths: $silent ended without output, $told with 'refused 1', after prefixes of ${!left[*]} bytes" >&2
+        wrong=1
     fi
-    echo "refuse_each: growth $nth of $asked: status $status, stderr $(cat "$work/err"), stdout:" >&2
-    head -c 400 "$work/out" >&2
-    wrong=1
-done
-if ((silent == 0 || told == 0)); then
-    echo "refuse_each: $asked growths, $silent ended without output, $told with 'refused 1'" >&2
-    wrong=1
-fi
+}
+
+rounds >"$work/rounds"
+refuse "$crate/stdin" 0
+refuse "$work/rounds" 4
 exit "$wrong"

@@ -40,6 +40,10 @@ given 'heap 1 1\nx'
 expect 'a line before a shape' 2 'refused 16 2' ''
 given 'heap 4 1\nopen\n'
 expect 'a line' 2 'refused 16 2' ''
+given 'heap 4 1\nselect script 1\n'
+expect 'a script without logs' 2 'refused 16 2' ''
+given 'heap 4 1\nnew 0 8 1\nnew 0 1016 1\nopen 0\nround oldest 1 18446744073709551615\nwait\nabort\nabort\n'
+expect 'commands of rounds, refused and not' 0 "$(printf 'ok\npointer 0\npointer 1\nok\nround limit waiting\nrefused 18 0 0\nok\nrefused 12')" ''
 
 got=0
 head -c 1048577 /dev/zero | tr '\0' '\n' | "$program" >"$work/out" 2>"$work/err" || got=$?

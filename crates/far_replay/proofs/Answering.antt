@@ -12,22 +12,13 @@ use Rattle.std.proofs.lemmas.Grind.{flat_map-append}
 use Rattle.std.proofs.lemmas.List.{take-append-le}
 use Rattle.far_core.specs.state.Law.{Law}
 use Rattle.far_core.specs.state.State.{State}
-use Rattle.far_replay.specs.Moment.{Moment, moment_of}
+use Rattle.far_replay.specs.Moment.{Moment}
 use Rattle.far_replay.specs.Answers.{Answered, Commanded}
-use Rattle.far_text.specs.Command.{Command, New, Open, Write, Read, Close, Where, Drop, View, Try, Epoch, Logs, Log, Audit, Mutator, Book}
+use Rattle.far_text.specs.Command.{Command, New, Open, Write, Read, Close, Where, Drop, View, Try, Epoch, Logs, Log, Audit, Mutator, Book, Evacuator, Select, Mark, Wait, Evacuate, Abort, Round}
 use Rattle.far_replay.specs.Objects.{lowest_cell}
-use Rattle.far_text.specs.Written.{WritesBytes}
 use Rattle.far_replay.specs.Reply.{Reply, Done, Logs as Told, Refused, reply_text}
 use Rattle.far_replay.specs.Stream.{AppendsPart, Holds}
-use Rattle.far_replay.specs.Between.{Between}
 use Rattle.far_replay.specs.Turn.{effect, home_reply, log_line, pointer_reply, refusal, reply_to, turn_reply, unless}
-use Rattle.far_replay.proofs.Turns.{turns}
-
--- what holds between two commands holds after one more
-pub still_between : (s t : State) (c : Command) → Law s → Between s → WritesBytes c → moment_of t ≡ effect (moment_of s) c → Between t
-still_between s t c law between small is =
-    let x = turns s c law between small in
-    subst Between (x.ends ∙ ap (λ (m : Moment). m.core) (sym is)) x.between
 
 -- the run goes on by one command
 pub answered_more : (s t : Moment) (cs later : List Command) (replies : List Reply) (moments : List Moment) (c : Command) (r : Reply) (u : Moment) →
@@ -73,24 +64,30 @@ some_logs : (now : Moment) (first n : ℕ) → 0 < n → HasBytes (reply_text (T
 some_logs now first zero some = absurd (omega arith)
 some_logs now first (suc n) some = tt
 
-some_turn : (s : State) (c : Command) → Law s → HasBytes (reply_text (turn_reply (moment_of s) c))
-some_turn s (Mutator m (New len ds)) law = some_pointer (lowest_cell s m)
-some_turn s (Mutator m Open) law = tt
-some_turn s (Mutator m (Write p from bytes)) law = tt
-some_turn s (Mutator m (Read p from len)) law = tt
-some_turn s (Mutator m Close) law = tt
-some_turn s (Mutator m (Where p)) law = some_home (home_of (read_of (s.cell p)))
-some_turn s (Mutator m (Drop p)) law = tt
-some_turn s (Mutator m (View p)) law = tt
-some_turn s (Mutator m (Try p)) law = tt
-some_turn s (Mutator m Epoch) law = tt
-some_turn s (Book Logs) law = some_logs (moment_of s) 0 s.logs (omega (arith, law.shape.two_logs))
-some_turn s (Book (Log l)) law = tt
-some_turn s (Book Audit) law = tt
+some_turn : (now : Moment) (c : Command) → Law now.core → HasBytes (reply_text (turn_reply now c))
+some_turn now (Mutator m (New len ds)) law = some_pointer (lowest_cell now.core m)
+some_turn now (Mutator m Open) law = tt
+some_turn now (Mutator m (Write p from bytes)) law = tt
+some_turn now (Mutator m (Read p from len)) law = tt
+some_turn now (Mutator m Close) law = tt
+some_turn now (Mutator m (Where p)) law = some_home (home_of (read_of (now.core.cell p)))
+some_turn now (Mutator m (Drop p)) law = tt
+some_turn now (Mutator m (View p)) law = tt
+some_turn now (Mutator m (Try p)) law = tt
+some_turn now (Mutator m Epoch) law = tt
+some_turn now (Book Logs) law = some_logs now 0 now.core.logs (omega (arith, law.shape.two_logs))
+some_turn now (Book (Log l)) law = tt
+some_turn now (Book Audit) law = tt
+some_turn now (Evacuator (Select choice most)) law = tt
+some_turn now (Evacuator (Mark count)) law = tt
+some_turn now (Evacuator Wait) law = tt
+some_turn now (Evacuator (Evacuate count)) law = tt
+some_turn now (Evacuator Abort) law = tt
+some_turn now (Evacuator (Round policy most turns)) law = tt
 
-some_reply : (s : State) (c : Command) (o : Option Refusal) → Law s → HasBytes (reply_text (unless o Refused (turn_reply (moment_of s) c)))
-some_reply s c None law = some_turn s c law
-some_reply s c (Some why) law = tt
+some_reply : (now : Moment) (c : Command) (o : Option Refusal) → Law now.core → HasBytes (reply_text (unless o Refused (turn_reply now c)))
+some_reply now c None law = some_turn now c law
+some_reply now c (Some why) law = tt
 
 -- ---- what was written where a command is refused memory
 -- what was written of some bytes, of which others wait, is a proper prefix of them and more
@@ -104,19 +101,19 @@ held_part start now waiting (Err e) bytes more some (n, lt, added) =
     (n, omega (arith, lt, some, length-append bytes more), subst (Appends start now) (sym (take-append-le n bytes more (omega (arith, lt)))) added)
 
 -- that of the replies so far is one of all that there would be, since the next has a line
-pub led_part : {A E : Type 0} (start now : Option (List ℕ)) (waiting : List ℕ) (written : Result A E) (replies : List Reply) (s : State) (cs : List Command) → Law s → 0 < length cs →
-    Holds start now waiting written (flat_map reply_text (Done ∷ replies)) → AppendsPart start now (flat_map reply_text (Done ∷ (replies ++ (answers_all (moment_of s) cs).0)))
+pub led_part : {A E : Type 0} (start end : Option (List ℕ)) (waiting : List ℕ) (written : Result A E) (replies : List Reply) (now : Moment) (cs : List Command) → Law now.core → 0 < length cs →
+    Holds start end waiting written (flat_map reply_text (Done ∷ replies)) → AppendsPart start end (flat_map reply_text (Done ∷ (replies ++ (answers_all now cs).0)))
 unfolding answers_all
-led_part start now waiting written replies s [] law some holds = absurd (omega (arith, some))
-led_part start now waiting written replies s (c ∷ cs) law some holds =
+led_part start end waiting written replies now [] law some holds = absurd (omega (arith, some))
+led_part start end waiting written replies now (c ∷ cs) law some holds =
     let bytes : List ℕ = flat_map reply_text (Done ∷ replies) in
-    let rest : List Reply = (answers_all (moment_of s) (c ∷ cs)).0 in
-    let first : List ℕ = reply_text (reply_to (moment_of s) c) in
-    let last : List ℕ = flat_map reply_text (answers_all (effect (moment_of s) c) cs).0 in
-    let more : 0 < length (first ++ last) = omega (arith, has_some first (some_reply s c (refusal (moment_of s) c) law), length-append first last) in
+    let rest : List Reply = (answers_all now (c ∷ cs)).0 in
+    let first : List ℕ = reply_text (reply_to now c) in
+    let last : List ℕ = flat_map reply_text (answers_all (effect now c) cs).0 in
+    let more : 0 < length (first ++ last) = omega (arith, has_some first (some_reply now c (refusal now c) law), length-append first last) in
     let all : flat_map reply_text (Done ∷ (replies ++ rest)) ≡ bytes ++ flat_map reply_text rest =
     ap (λ xs. reply_text Done ++ xs) (flat_map-append reply_text replies rest) ∙ sym (append_assoc (reply_text Done) (flat_map reply_text replies) (flat_map reply_text rest)) in
-    subst (AppendsPart start now) (sym all) (held_part start now waiting written bytes (flat_map reply_text rest) more holds)
+    subst (AppendsPart start end) (sym all) (held_part start end waiting written bytes (flat_map reply_text rest) more holds)
 
 -- what is printed of one reply more
 pub printed_more : (first : Reply) (replies : List Reply) (r : Reply) → flat_map reply_text (first ∷ (replies ++ r ∷ [])) ≡ flat_map reply_text (first ∷ replies) ++ reply_text r

@@ -1,5 +1,5 @@
 -- A dereference whose pin gives no view: the object is asked for, comes to where a view may rest, and owners stay as they are.
-use Rattle.std.proofs.Common.{◌≡◌, ◌≢◌, ℕ, ◌*◌, ◌/◌, ◌<◌, ◌&&◌, ◌==◌, Bool, true, false, not, nat_lt, refl, sym, ap, subst, ◌∙◌, if◌then◌else◌, Option, Some, None, IsSome, is_some, Result, Err}
+use Rattle.std.proofs.Common.{◌≡◌, ◌≢◌, ℕ, ◌*◌, ◌/◌, ◌<◌, ◌&&◌, ◌==◌, Bool, true, false, not, nat_lt, refl, sym, ap, subst, ◌∙◌, if◌then◌else◌, Option, Some, None, IsSome, is_some, List, Result, Err}
 use Rattle.std.specs.Prelude.{IfSome, MatchOption}
 use Rattle.std.proofs.lemmas.Bool.{cond_both, false≢true, true≢false}
 use Rattle.far_word.specs.declared.mark.Mark.TheVariants.{Moved}
@@ -26,7 +26,7 @@ use Rattle.far_core.proofs.KeepOwner.{nonzero}
 use Rattle.far_core.proofs.Marking.{read_mark}
 use Rattle.far_core.proofs.Put.{put_same, put_other}
 use Rattle.far_device.specs.Faults.{SpendsFault}
-use Rattle.far_book.specs.book.Dealing.{IsQuietNear, goal, has_evac, is_failure, moved_now}
+use Rattle.far_book.specs.book.Dealing.{IsQuietNear, goal, has_evac, is_failure, moved_now, order_moved}
 use Rattle.far_core.specs.events.Copies.{Alike, data_at}
 use Rattle.far_book.specs.book.Effects.{fetched, fetched_of, moved, moved_of, near_word, stayed, stayed_of, with_written_span}
 use Rattle.far_book.specs.book.Fetching.{IsFar, IsFetched, RefusesFetch, far_len, room_for}
@@ -34,6 +34,7 @@ use Rattle.far_word.specs.declared.refused.Refused.{Refused as Refusal}
 use Rattle.far_word.specs.declared.refused.Refused.TheVariants.{NoRoom, Memory, Device, Damaged}
 use Rattle.far_replay.specs.Dereference.{RefusesBringing, RefusesView, asked_for, come, come_of, comes_to, comes_to_of, dereferenced, has_no_room, says_near, sought, sought_of}
 use Rattle.far_replay.specs.Effects.{is_slow, with_view}
+use Rattle.far_replay.specs.Interpreter.{order_come, order_come_of}
 use Rattle.far_book.proofs.region.Coming.{fetched_alike}
 use Rattle.far_replay.proofs.Drops.{unheld_is}
 use Rattle.far_replay.proofs.Views.{slow_parts, slow_view}
@@ -116,6 +117,17 @@ module _ (s : State) (m p : ℕ) (law : Law s) (opened : is_opened s m ≡ true)
       let there : goal v p ≡ Some place = subst (λ x. IfSome x (λ y. goal v p ≡ Some y)) e found in
       let led : t ≡ moved_now v p place = subst (λ x. MatchOption x X (λ y. t ≡ moved_now v p y)) e done in
       led ∙ ap (λ (x : State). moved_now x p place) is ∙ sym (near_come place (ap (λ (x : State). goal x p) (sym is) ∙ there)) ∙ sym (ap (λ (x : State). come x p) asks_is)
+
+  -- so many logs are sealed then
+  pub near_order : (v : State) (order after : List ℕ) (o : Option Place) (place : Place) → o ≡ Some place → v ≡ asks → IfSome o (λ found. goal v p ≡ Some found) →
+      MatchOption o (after ≡ order) (λ found. after ≡ order_moved v p order found) → after ≡ order_come (asked_for s m p) order p
+  near_order v order after o place e is found done =
+      let there : goal v p ≡ Some place = subst (λ x. IfSome x (λ y. goal v p ≡ Some y)) e found in
+      let led : after ≡ order_moved v p order place = subst (λ x. MatchOption x (after ≡ order) (λ y. after ≡ order_moved v p order y)) e done in
+      led ∙ ap (λ (x : State). order_moved x p order place) is
+      ∙ sym (ap (λ o. order_come_of asks order p (comes_to_of asks p o) o) asked_read
+      ∙ ap (λ x. order_come_of asks order p x (Some (Near said.len said.ds said.place (marks_with Moved said.marks)))) (ap (λ (x : State). goal x p) (sym is) ∙ there))
+      ∙ sym (ap (λ (x : State). order_come x order p) asks_is)
 
   pub near_room : (v : State) (o : Option Place) (place : Place) → o ≡ Some place → v ≡ asks → IfSome o (λ found. goal v p ≡ Some found) → IsSome (comes_to (asked_for s m p) p)
   near_room v o place e is found =

@@ -18,13 +18,13 @@ use Rattle.far_core.specs.state.Room.{room}
 use Rattle.far_core.specs.state.State.{State}
 use Rattle.far_core.specs.events.Step.{step_of, is_legal, is_opened, after, answer, pin_answer}
 use Rattle.far_core.proofs.KeepOwner.{nonzero}
-use Rattle.far_text.specs.Command.{Command, New, Open, Write, Read, Close, Where, Drop, View, Try, Epoch, Mutator, Book}
+use Rattle.far_text.specs.Command.{Command, New, Open, Write, Read, Close, Where, Drop, View, Try, Epoch, Mutator, Book, Evacuator}
 use Rattle.far_replay.specs.Dereference.{come, dereferenced, has_no_room, sought}
 use Rattle.far_replay.specs.Effects.{near_word, is_slow}
 use Rattle.far_replay.specs.EventRows.{after_events, ComesToPass, AllComeToPass, AtHand}
-use Rattle.far_replay.specs.Events.{turn_events, refused_events, zero_puts, new_events, view_events, sought_events, come_events, dereference_events, load_events, store_events, first_loads, last_loads, part_events, first_word, words_touched, starts_inside, ends_inside}
+use Rattle.far_replay.specs.Events.{IsTold, turn_events, refused_events, zero_puts, new_events, view_events, sought_events, come_events, dereference_events, load_events, store_events, first_loads, last_loads, part_events, first_word, words_touched, starts_inside, ends_inside}
 use Rattle.far_replay.specs.Headline.{IsAtHandFor}
-use Rattle.far_replay.specs.Moment.{moment_of}
+use Rattle.far_replay.specs.Moment.{Moment}
 use Rattle.far_replay.specs.Objects.{uses, object_len, data_of, with_range, lowest_cell, is_range}
 use Rattle.far_replay.specs.Turn.{refusal, unless}
 use Rattle.far_replay.proofs.AloneStates.{lowest_free}
@@ -100,53 +100,55 @@ is_named : (s : State) (m p : ℕ) → Law s → uses s m p ≡ true → s.cell 
 is_named s m p law ours = nonzero s law p (and_parts (nat_eq (p / CELLS) m) (s.used p) ours).1
 
 -- a refused command makes no event, where its object is at hand
-refused_come : (s : State) (c : Command) (why : Refusal) → refusal (moment_of s) c ≡ Some why → Law s → IsAtHandFor (moment_of s) c → AllComeToPass s (refused_events (moment_of s) c why)
-refused_come s (Mutator m (Write p from bytes)) NoRoom e law hand =
-    let h = room_lacks (nat_lt m s.mutators) (is_opened s m) (uses s m p) (is_range (object_len s p) from (length bytes)) (has_no_room s m p) e in
-    absurd (true≢false (sym h.3 ∙ hand_has_room s m p (hand (is_named s m p law h.2))))
-refused_come s (Mutator m (Read p from len)) NoRoom e law hand =
-    let h = room_lacks (nat_lt m s.mutators) (is_opened s m) (uses s m p) (is_range (object_len s p) from len) (has_no_room s m p) e in
-    absurd (true≢false (sym h.3 ∙ hand_has_room s m p (hand (is_named s m p law h.2))))
-refused_come s (Mutator m (View p)) NoRoom e law hand =
-    let h = room_last (nat_lt m s.mutators) (is_opened s m) (uses s m p) (has_no_room s m p) e in
-    absurd (true≢false (sym h.3 ∙ hand_has_room s m p (hand (is_named s m p law h.2))))
-refused_come s (Mutator m (Try p)) (Marked word) e law hand =
-    let h = marked_last (nat_lt m s.mutators) (is_opened s m) (uses s m p) (is_slow s p) (s.cell p) word e in
-    let at_hand : AtHand s p = hand (nonzero s law p (and_parts (nat_eq (p / CELLS) m) (s.used p) h.2).1) in
-    absurd (true≢false (sym h.3 ∙ hand_is_fast s p at_hand))
-refused_come s c why e law hand = tt
+refused_come : (now : Moment) (c : Command) (why : Refusal) → IsTold c → refusal now c ≡ Some why → Law now.core → IsAtHandFor now c → AllComeToPass now.core (refused_events now c why)
+refused_come now (Mutator m (Write p from bytes)) NoRoom told e law hand =
+    let h = room_lacks (nat_lt m now.core.mutators) (is_opened now.core m) (uses now.core m p) (is_range (object_len now.core p) from (length bytes)) (has_no_room now.core m p) e in
+    absurd (true≢false (sym h.3 ∙ hand_has_room now.core m p (hand (is_named now.core m p law h.2))))
+refused_come now (Mutator m (Read p from len)) NoRoom told e law hand =
+    let h = room_lacks (nat_lt m now.core.mutators) (is_opened now.core m) (uses now.core m p) (is_range (object_len now.core p) from len) (has_no_room now.core m p) e in
+    absurd (true≢false (sym h.3 ∙ hand_has_room now.core m p (hand (is_named now.core m p law h.2))))
+refused_come now (Mutator m (View p)) NoRoom told e law hand =
+    let h = room_last (nat_lt m now.core.mutators) (is_opened now.core m) (uses now.core m p) (has_no_room now.core m p) e in
+    absurd (true≢false (sym h.3 ∙ hand_has_room now.core m p (hand (is_named now.core m p law h.2))))
+refused_come now (Mutator m (Try p)) (Marked word) told e law hand =
+    let h = marked_last (nat_lt m now.core.mutators) (is_opened now.core m) (uses now.core m p) (is_slow now.core p) (now.core.cell p) word e in
+    let at_hand : AtHand now.core p = hand (nonzero now.core law p (and_parts (nat_eq (p / CELLS) m) (now.core.used p) h.2).1) in
+    absurd (true≢false (sym h.3 ∙ hand_is_fast now.core p at_hand))
+refused_come now (Evacuator step) why told e law hand = absurd told
+refused_come now c why told e law hand = tt
 
-pub all_come : (s : State) (c : Command) (o : Option Refusal) → refusal (moment_of s) c ≡ o → Law s → IsAtHandFor (moment_of s) c →
-    AllComeToPass s (unless o (refused_events (moment_of s) c) (turn_events (moment_of s) c))
-all_come s c (Some why) e law hand = refused_come s c why e law hand
-all_come s (Mutator m (New len ds)) None e law hand = new_comes s m len ds (lowest_cell s m) (room s (size_of len) true) (lowest_free s m)
-all_come s (Mutator m Open) None e law hand =
-    cond_both (is_some (s.remembered m)) (Opens m ∷ []) (ReadsEpoch m ∷ Opens m ∷ []) (AllComeToPass s) (λ _. (tt, tt)) (λ _. (tt, (tt, tt)))
-all_come s (Mutator m (Write p from bytes)) None e law hand =
-    let h = access_fact s m p from (length bytes) e in
-    let view : List Event = dereference_events s m p in
+pub all_come : (now : Moment) (c : Command) (o : Option Refusal) → IsTold c → refusal now c ≡ o → Law now.core → IsAtHandFor now c →
+    AllComeToPass now.core (unless o (refused_events now c) (turn_events now c))
+all_come now c (Some why) told e law hand = refused_come now c why told e law hand
+all_come now (Mutator m (New len ds)) None told e law hand = new_comes now.core m len ds (lowest_cell now.core m) (room now.core (size_of len) true) (lowest_free now.core m)
+all_come now (Mutator m Open) None told e law hand =
+    cond_both (is_some (now.core.remembered m)) (Opens m ∷ []) (ReadsEpoch m ∷ Opens m ∷ []) (AllComeToPass now.core) (λ _. (tt, tt)) (λ _. (tt, (tt, tt)))
+all_come now (Mutator m (Write p from bytes)) None told e law hand =
+    let h = access_fact now.core m p from (length bytes) e in
+    let view : List Event = dereference_events now.core m p in
     let part : List Event = part_events m p from (length bytes) in
     let first : ℕ = first_word from in
     let touched : ℕ = words_touched from (length bytes) in
-    let new : List ℕ = with_range (data_of (dereferenced s m p) p) from bytes in
-    AllComeToPass-append s (view ++ part) (store_events m p first touched new)
-    (AllComeToPass-append s view part (deref_comes s m p (hand (is_named s m p law h.ours))) (all_sure (after_events s view) part (parts m p from (length bytes))))
-    (all_sure (after_events s (view ++ part)) (store_events m p first touched new) (stores m p first touched new))
-all_come s (Mutator m (Read p from len)) None e law hand =
-    let h = access_fact s m p from len e in
-    let view : List Event = dereference_events s m p in
+    let new : List ℕ = with_range (data_of (dereferenced now.core m p) p) from bytes in
+    AllComeToPass-append now.core (view ++ part) (store_events m p first touched new)
+    (AllComeToPass-append now.core view part (deref_comes now.core m p (hand (is_named now.core m p law h.ours))) (all_sure (after_events now.core view) part (parts m p from (length bytes))))
+    (all_sure (after_events now.core (view ++ part)) (store_events m p first touched new) (stores m p first touched new))
+all_come now (Mutator m (Read p from len)) None told e law hand =
+    let h = access_fact now.core m p from len e in
+    let view : List Event = dereference_events now.core m p in
     let loaded : List Event = load_events m p (first_word from) (words_touched from len) in
-    AllComeToPass-append s view loaded (deref_comes s m p (hand (is_named s m p law h.ours))) (all_sure (after_events s view) loaded (loads m p (first_word from) (words_touched from len)))
-all_come s (Mutator m Close) None e law hand = (tt, tt)
-all_come s (Mutator m (Where p)) None e law hand = tt
-all_come s (Mutator m (Drop p)) None e law hand =
-    let h = three (nat_lt m s.mutators) (uses s m p) (is_some (s.held p)) Range NotHeld Held e in
-    drop_comes s m p law (ltb-true m s.mutators h.0) h.1 (unheld_is (s.held p) h.2)
-all_come s (Mutator m (View p)) None e law hand =
-    let h = tried (nat_lt m s.mutators) (is_opened s m) (uses s m p) (has_no_room s m p) Range Closed NotHeld NoRoom e in
-    deref_comes s m p (hand (is_named s m p law h.2))
-all_come s (Mutator m (Try p)) None e law hand =
-    let h = tried (nat_lt m s.mutators) (is_opened s m) (uses s m p) (is_slow s p) Range Closed NotHeld (Marked (s.cell p)) e in
-    view_comes s m p (hand (nonzero s law p (and_parts (nat_eq (p / CELLS) m) (s.used p) h.2).1))
-all_come s (Mutator m Epoch) None e law hand = (tt, tt)
-all_come s (Book inquiry) None e law hand = tt
+    AllComeToPass-append now.core view loaded (deref_comes now.core m p (hand (is_named now.core m p law h.ours))) (all_sure (after_events now.core view) loaded (loads m p (first_word from) (words_touched from len)))
+all_come now (Mutator m Close) None told e law hand = (tt, tt)
+all_come now (Mutator m (Where p)) None told e law hand = tt
+all_come now (Mutator m (Drop p)) None told e law hand =
+    let h = three (nat_lt m now.core.mutators) (uses now.core m p) (is_some (now.core.held p)) Range NotHeld Held e in
+    drop_comes now.core m p law (ltb-true m now.core.mutators h.0) h.1 (unheld_is (now.core.held p) h.2)
+all_come now (Mutator m (View p)) None told e law hand =
+    let h = tried (nat_lt m now.core.mutators) (is_opened now.core m) (uses now.core m p) (has_no_room now.core m p) Range Closed NotHeld NoRoom e in
+    deref_comes now.core m p (hand (is_named now.core m p law h.2))
+all_come now (Mutator m (Try p)) None told e law hand =
+    let h = tried (nat_lt m now.core.mutators) (is_opened now.core m) (uses now.core m p) (is_slow now.core p) Range Closed NotHeld (Marked (now.core.cell p)) e in
+    view_comes now.core m p (hand (nonzero now.core law p (and_parts (nat_eq (p / CELLS) m) (now.core.used p) h.2).1))
+all_come now (Mutator m Epoch) None told e law hand = (tt, tt)
+all_come now (Book inquiry) None told e law hand = tt
+all_come now (Evacuator step) None told e law hand = absurd told

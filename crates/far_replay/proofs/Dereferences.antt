@@ -186,6 +186,9 @@ module _ (s : State) (m p : ℕ) (law : Law s) (opened : is_opened s m ≡ true)
   pub sought_bytes : SameBytes (world_of s) (world_of (sought s m p))
   sought_bytes = bytes_both (world_of s) (world_of pinned) (world_of (sought s m p)) (view_bytes s m p law opened ours) asks.bytes
 
+  pub sought_may : MayBring (read_of ((sought s m p).cell p))
+  sought_may = asks.may
+
   sought_owners : KeepsOwners p pinned (sought s m p)
   sought_owners = asked_keeps pinned m p (read_of (pinned.cell p))
 

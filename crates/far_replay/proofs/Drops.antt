@@ -45,7 +45,7 @@ use Rattle.far_replay.specs.Effects.{without_object}
 use Rattle.far_replay.specs.EventRows.{after_events, Succeeds, AllSucceed, ComesToPass, AllComeToPass}
 use Rattle.far_replay.specs.Events.{drop_events, events_for}
 use Rattle.far_replay.specs.Headline.{EndsObject}
-use Rattle.far_replay.specs.Moment.{Moment, moment_of}
+use Rattle.far_replay.specs.Moment.{Moment, with_core}
 use Rattle.far_replay.specs.Objects.{uses}
 use Rattle.far_replay.specs.Reply.{Reply, Done, Refused}
 use Rattle.far_replay.specs.Turn.{first_cause, refusal, unless}
@@ -211,10 +211,10 @@ unfolding world_of
 viewed_is s p b e = e
 
 -- what a book makes by its owner's asking and its own retiring, the events make
-pub dropped_by_events : (s t : State) (m p : ℕ) → Law s → m < s.mutators → uses s m p ≡ true → s.held p ≡ None → t ≡ without_object s m p → t ≡ after_events s (events_for (moment_of s) (Mutator m (Drop p)))
-dropped_by_events s t m p law within ours unheld is =
-    let none : refusal (moment_of s) (Mutator m (Drop p)) ≡ None = (drop_answer (nat_lt m s.mutators) (uses s m p) (is_some (s.held p)) (lt-ltb m s.mutators within)).2 ours (ap is_some unheld) in
-    is ∙ sym (drop_ends s m p law within ours unheld) ∙ ap (λ o. after_events s (unless o (λ _. []) (drop_events s m p))) (sym none)
+pub dropped_by_events : (now : Moment) (t : State) (m p : ℕ) → Law now.core → m < now.core.mutators → uses now.core m p ≡ true → now.core.held p ≡ None → t ≡ without_object now.core m p → t ≡ after_events now.core (events_for now (Mutator m (Drop p)))
+dropped_by_events now t m p law within ours unheld is =
+    let none : refusal now (Mutator m (Drop p)) ≡ None = (drop_answer (nat_lt m now.core.mutators) (uses now.core m p) (is_some (now.core.held p)) (lt-ltb m now.core.mutators within)).2 ours (ap is_some unheld) in
+    is ∙ sym (drop_ends now.core m p law within ours unheld) ∙ ap (λ o. after_events now.core (unless o (λ _. []) (drop_events now.core m p))) (sym none)
 
 ends_object : (s : State) (m p : ℕ) (law : Law s) → m < s.mutators → uses s m p ≡ true → s.held p ≡ None → EndsObject s (without_object s m p) p
 ends_object s m p law within ours unheld = record {
@@ -237,7 +237,7 @@ drop_ends_object now m p r later law within h =
       (λ ours free.
           let none = told.2 ours (viewed_is s p false free) in
           let unheld : s.held p ≡ None = unheld_is (s.held p) (viewed_is s p false free) in
-          let moved : later.core ≡ without_object s m p = ap (λ (x : Moment). x.core) h.moment ∙ ap (λ o. (unless o (λ _. now) (record now { core = without_object s m p })).core) none in
+          let moved : later.core ≡ without_object s m p = ap (λ (x : Moment). x.core) h.moment ∙ ap (λ o. (unless o (λ _. now) (with_core now (without_object s m p))).core) none in
           (h.reply ∙ ap (λ o. unless o Refused Done) none, subst (λ (t : State). EndsObject s t p) (sym moved) (ends_object s m p law within ours unheld))),
     )
 

@@ -25,7 +25,7 @@ use Rattle.far_replay.specs.Answers.{Commanded, IsMoment}
 use Rattle.far_replay.specs.Audit.{lies_near, lies_far, counts_of}
 use Rattle.far_text.specs.Command.{Where, Logs as AsksLogs, Log, Audit, Mutator, Book}
 use Rattle.far_replay.specs.Headline.{TellsHome, IsHowMany, IsNearObject, IsFarObject, CountsAll}
-use Rattle.far_replay.specs.Moment.{Moment, moment_of}
+use Rattle.far_replay.specs.Moment.{Moment}
 use Rattle.far_replay.specs.Objects.{uses}
 use Rattle.far_replay.specs.Reply.{Reply, Logs, Lies, Audited, Refused, LogLine, Counts}
 use Rattle.far_replay.specs.Turn.{first_cause, unless, home_reply, log_line}
@@ -207,13 +207,13 @@ module _ (s : State) (law : Law s) where
   counts_far = how_many (IsFarObject s) (λ p. lies_far (read_of (s.cell p))) (CELLS * s.mutators) (λ p h. far_object p (read_of (s.cell p)) refl h) object_far (inside lies_far refl)
 
 -- the live bytes that lines tell
-lives : (s : State) (ls : List ℕ) → map (λ (line : LogLine). line.live) (map (log_line (moment_of s)) ls) ≡ map (live_bytes s) ls
-lives s [] = refl
-lives s (l ∷ ls) = ap (λ xs. live_bytes s l ∷ xs) (lives s ls)
+lives : (now : Moment) (ls : List ℕ) → map (λ (line : LogLine). line.live) (map (log_line now) ls) ≡ map (live_bytes now.core) ls
+lives now [] = refl
+lives now (l ∷ ls) = ap (λ xs. live_bytes now.core l ∷ xs) (lives now ls)
 
-counts_live : (s : State) → (counts_of s).live ≡ sum (map (λ (line : LogLine). line.live) (map (log_line (moment_of s)) (range_with_len 0 s.logs)))
+counts_live : (now : Moment) → (counts_of now.core).live ≡ sum (map (λ (line : LogLine). line.live) (map (log_line now) (range_with_len 0 now.core.logs)))
 unfolding counts_of
-counts_live s = ap sum (sym (lives s (range_with_len 0 s.logs)))
+counts_live now = ap sum (sym (lives now (range_with_len 0 now.core.logs)))
 
 pub audit_counts : (now : Moment) (r : Reply) (after : Moment) → IsMoment now → Commanded now (Book Audit) r after → (counts : Counts) × (r ≡ Audited counts) × CountsAll now counts
 audit_counts now r after is h =
@@ -224,6 +224,6 @@ audit_counts now r after is h =
       record {
         near = counts_near s lasts.law;
         far = counts_far s lasts.law;
-        live = λ lines later k. counts_live s ∙ ap (λ (ls : List LogLine). sum (map (λ (line : LogLine). line.live) ls)) (sym (told_lines now later lines k));
+        live = λ lines later k. counts_live now ∙ ap (λ (ls : List LogLine). sum (map (λ (line : LogLine). line.live) ls)) (sym (told_lines now later lines k));
       },
     )

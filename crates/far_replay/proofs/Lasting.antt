@@ -13,36 +13,40 @@ use Rattle.far_core.proofs.Keeps.{step_keeps}
 use Rattle.far_log.proofs.Members.{split, none_in, All-from}
 use Rattle.far_core.proofs.Steps.{agrees}
 use Rattle.far_replay.specs.Answers.{Answered, Commanded, IsMoment, moment_after, shape_of, first_moment}
-use Rattle.far_text.specs.Command.{Command}
-use Rattle.far_replay.specs.Events.{events_for}
+use Rattle.far_text.specs.Command.{Command, Mutator, Book, Evacuator, Step}
+use Rattle.far_evac.specs.MomentLaw.{MomentLaw}
+use Rattle.far_replay.specs.Events.{events_for, IsTold}
 use Rattle.far_replay.specs.Headline.{Lawful, Reaches}
 use Rattle.far_text.specs.Written.{WritesBytes, AllWriteBytes}
 use Rattle.far_replay.specs.EventRows.{after_events, AllSucceed, AllPass, Succeeds}
-use Rattle.far_replay.specs.Moment.{Moment, moment_of}
+use Rattle.far_replay.specs.Moment.{Moment}
 use Rattle.far_replay.specs.Reply.{Reply}
 use Rattle.far_replay.specs.Between.{Between}
 use Rattle.far_replay.specs.Turn.{effect, refusal, reply_to}
 use Rattle.far_replay.proofs.Coming.{all_come}
 use Rattle.far_text.proofs.Each.{Each}
-use Rattle.far_replay.proofs.Opened.{opening_law, opening_between}
+use Rattle.far_replay.proofs.ToldRounds.{told_round}
+use Rattle.far_replay.proofs.Opened.{opening_law, opening_between, opening_round}
+use Rattle.far_replay.proofs.RoundLeads.{between_kept, reached_reaches, step_keeps as step_leaves, step_leads}
 use Rattle.far_replay.proofs.Turns.{turns}
 
 pub record Lasts (now : Moment) : Type 0 where
   pub law : Law now.core
+  pub round : MomentLaw now
   pub between : Between now.core
 
--- a command that is carried out by its events, from a state to the next
-pub record IsCarriedOut (s : State) (c : Command) (r : Reply) (t : State) : Type 0 where
-  pub reply : r ≡ reply_to (moment_of s) c
-  pub state : t ≡ after_events s (events_for (moment_of s) c)
-  pub made : AllSucceed s (events_for (moment_of s) c)
-  pub fit : Each Fits (events_for (moment_of s) c)
+-- a command that is carried out by its events, from a moment to the next core
+pub record IsCarriedOut (now : Moment) (c : Command) (r : Reply) (t : State) : Type 0 where
+  pub reply : r ≡ reply_to now c
+  pub state : t ≡ after_events now.core (events_for now c)
+  pub made : AllSucceed now.core (events_for now c)
+  pub fit : Each Fits (events_for now c)
   pub law : Law t
 
-pub command_carried : (now : Moment) (c : Command) (r : Reply) (next : Moment) → Lasts now → WritesBytes c → Commanded now c r next → IsCarriedOut now.core c r next.core
-command_carried now c r next lasts bytes h =
-    let x = turns now.core c lasts.law lasts.between bytes in
-    let ends : next.core ≡ after_events now.core (events_for (moment_of now.core) c) = ap (λ (m : Moment). m.core) h.moment ∙ sym x.ends in
+pub command_carried : (now : Moment) (c : Command) (r : Reply) (next : Moment) → IsTold c → Lasts now → WritesBytes c → Commanded now c r next → IsCarriedOut now c r next.core
+command_carried now c r next told lasts bytes h =
+    let x = turns now c told lasts.law lasts.between bytes in
+    let ends : next.core ≡ after_events now.core (events_for now c) = ap (λ (m : Moment). m.core) h.moment ∙ sym x.ends in
     record {
       reply = h.reply;
       state = ends;
@@ -52,10 +56,18 @@ command_carried now c r next lasts bytes h =
     }
 
 -- it lasts through a command
+told_lasts : (now : Moment) (c : Command) → IsTold c → Lasts now → WritesBytes c → Lasts (effect now c)
+told_lasts now c told lasts bytes =
+    let x = turns now c told lasts.law lasts.between bytes in
+    let law : Law (effect now c).core = subst Law x.ends x.law in
+    record { law = law; round = told_round now c told lasts.law lasts.between bytes law lasts.round; between = subst Between x.ends x.between }
+
 pub effect_lasts : (now : Moment) (c : Command) → Lasts now → WritesBytes c → Lasts (effect now c)
-effect_lasts now c lasts bytes =
-    let x = turns now.core c lasts.law lasts.between bytes in
-    record { law = subst Law x.ends x.law; between = subst Between x.ends x.between }
+effect_lasts now (Mutator m request) lasts bytes = told_lasts now (Mutator m request) tt lasts bytes
+effect_lasts now (Book inquiry) lasts bytes = told_lasts now (Book inquiry) tt lasts bytes
+effect_lasts now (Evacuator step) lasts bytes =
+    let leads = step_leads now step lasts.law lasts.round in
+    record { law = leads.law; round = leads.moment; between = between_kept now.core (effect now (Evacuator step)).core lasts.between (step_leaves now step lasts.law lasts.round) }
 
 pub still_lasts : (now : Moment) (c : Command) (r : Reply) (next : Moment) → Lasts now → WritesBytes c → Commanded now c r next → Lasts next
 still_lasts now c r next lasts bytes h = subst Lasts (sym h.moment) (effect_lasts now c lasts bytes)
@@ -67,7 +79,7 @@ still_lasts_after now (c ∷ cs) lasts bytes = still_lasts_after (effect now c) 
 
 -- from the first moment on
 pub first_lasts : (logs mutators epoch : ℕ) → is_shape (shape_of logs mutators epoch) ≡ true → Lasts (first_moment logs mutators epoch)
-first_lasts logs mutators epoch fits = record { law = opening_law logs mutators epoch fits; between = opening_between logs mutators epoch fits }
+first_lasts logs mutators epoch fits = record { law = opening_law logs mutators epoch fits; round = opening_round logs mutators epoch fits; between = opening_between logs mutators epoch fits }
 
 pub moment_lasts : (now : Moment) → IsMoment now → Lasts now
 moment_lasts now (logs, mutators, epoch, cs, fits, bytes, is) = subst Lasts (sym is) (still_lasts_after (first_moment logs mutators epoch) cs (first_lasts logs mutators epoch fits) bytes)
@@ -106,7 +118,7 @@ each_is_moment now (d ∷ cs) (r ∷ rs) (m ∷ ms) is bytes h x c =
     first_or now (m ∷ ms) x is (λ k. each_is_moment m cs rs ms (next_is_moment now d r m is bytes.0 h.0) bytes.1 h.1 x k) c
 
 lawful : (now : Moment) → IsMoment now → Lawful now
-lawful now is = let x = moment_lasts now is in record { reached = is; law = x.law; named = x.between.named }
+lawful now is = let x = moment_lasts now is in record { reached = is; law = x.law; round = x.round; named = x.between.named }
 
 pub first_lawful : (logs mutators epoch : ℕ) → is_shape (shape_of logs mutators epoch) ≡ true → Lawful (first_moment logs mutators epoch)
 first_lawful logs mutators epoch fits = lawful (first_moment logs mutators epoch) (first_is_moment logs mutators epoch fits)
@@ -127,13 +139,33 @@ all_pass s (e ∷ es) law fit ok =
     let next = step_keeps s e law fit.0 in
     (legal s e ok.0, record { step = refl; law = next; agrees = agrees (step_of s e).0 next }, all_pass (step_of s e).0 es next fit.1 ok.1)
 
-pub events_reach : (now : Moment) (c : Command) (r : Reply) (next : Moment) → IsMoment now → WritesBytes c → Commanded now c r next → Reaches now c next
-events_reach now c r next is bytes h =
-    let lasts = moment_lasts now is in
-    let x = command_carried now c r next lasts bytes h in
+told_reach : (now : Moment) (c : Command) (r : Reply) (next : Moment) → IsTold c → Lasts now → WritesBytes c → Commanded now c r next → Reaches now c next
+told_reach now c r next told lasts bytes h =
+    let x = command_carried now c r next told lasts bytes h in
     record {
+      events = events_for now c;
+      told = λ _. refl;
+      of_book = λ no. absurd (no told);
       ends = x.state;
       pass = all_pass now.core (events_for now c) lasts.law x.fit x.made;
       succeed = x.made;
-      come = all_come now.core c (refusal now c) refl lasts.law;
+      come = λ _. all_come now c (refusal now c) told refl lasts.law;
     }
+
+step_reach : (now : Moment) (step : Step) (r : Reply) (next : Moment) → Lasts now → Commanded now (Evacuator step) r next → Reaches now (Evacuator step) next
+step_reach now step r next lasts h =
+    let x = reached_reaches now.core (effect now (Evacuator step)).core lasts.law (step_leads now step lasts.law lasts.round).reached in
+    record {
+      events = x.events;
+      told = λ told. absurd told;
+      of_book = λ _. x.of_book;
+      ends = ap (λ (m : Moment). m.core) h.moment ∙ x.ends;
+      pass = x.pass;
+      succeed = x.succeed;
+      come = λ told. absurd told;
+    }
+
+pub events_reach : (now : Moment) (c : Command) (r : Reply) (next : Moment) → IsMoment now → WritesBytes c → Commanded now c r next → Reaches now c next
+events_reach now (Mutator m request) r next is bytes h = told_reach now (Mutator m request) r next tt (moment_lasts now is) bytes h
+events_reach now (Book inquiry) r next is bytes h = told_reach now (Book inquiry) r next tt (moment_lasts now is) bytes h
+events_reach now (Evacuator step) r next is bytes h = step_reach now step r next (moment_lasts now is) h

@@ -7,8 +7,11 @@ pub mod AloneStates
 pub mod AloneTurns
 pub mod AloneViews
 pub mod Answering
+pub mod Asides
 pub mod Bringing
 pub mod Brought
+pub mod Censused
+pub mod Choices
 pub mod Coming
 pub mod Counted
 pub mod Dereferences
@@ -17,6 +20,7 @@ pub mod Drops
 pub mod EpochLaws
 pub mod Fronts
 pub mod InquiryLaws
+pub mod Joining
 pub mod Kept
 pub mod Lasting
 pub mod Leading
@@ -28,10 +32,13 @@ pub mod Opened
 pub mod OutputLaws
 pub mod Placing
 pub mod PlainReplies
+pub mod PlainRounds
 pub mod PrintedAlike
 pub mod RangeTurns
 pub mod RangeWrites
 pub mod Refusals
+pub mod RoundChoices
+pub mod RoundLeads
 pub mod Runs
 pub mod SaidBy
 pub mod Spliced
@@ -39,9 +46,11 @@ pub mod StoreTurns
 pub mod Streams
 pub mod TakingRoom
 pub mod TakingView
+pub mod ToldRounds
 pub mod Tries
 pub mod Turns
 pub mod ViewLaws
 pub mod Views
 pub mod ViewsRest
+pub mod WithCore
 pub mod WriteEnds

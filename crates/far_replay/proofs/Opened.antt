@@ -1,10 +1,16 @@
 -- What holds of the first state.
-use Rattle.std.proofs.Common.{◌≡◌, ℕ, true, refl}
+use Rattle.std.proofs.Common.{◌≡◌, ◌==◌, ℕ, true, false, refl}
+use Rattle.std.proofs.lemmas.Bool.{cond_both, false≢true}
+use Rattle.far_core.specs.declared.event.Kind.{Kind}
+use Rattle.far_core.specs.declared.event.Kind.TheVariants.{Free, Open}
 use Rattle.far_core.specs.state.Law.{Law}
 use Rattle.far_core.specs.state.Shape.{is_shape}
 use Rattle.far_core.proofs.Begins.{begins}
 use Rattle.far_replay.specs.Answers.{shape_of, first_moment}
 use Rattle.far_replay.specs.Between.{Between}
+use Rattle.far_core.specs.events.Mark.{is_sealed}
+use Rattle.far_evac.specs.MomentLaw.{MomentLaw}
+use Rattle.far_evac.proofs.Standings.{none_once}
 
 -- the law holds of the first state
 pub opening_law : (logs mutators epoch : ℕ) → is_shape (shape_of logs mutators epoch) ≡ true → Law (first_moment logs mutators epoch).core
@@ -13,3 +19,16 @@ opening_law logs mutators epoch fits = begins (shape_of logs mutators epoch) tru
 -- in the first state no cell is named
 pub opening_between : (logs mutators epoch : ℕ) → is_shape (shape_of logs mutators epoch) ≡ true → Between (first_moment logs mutators epoch).core
 opening_between logs mutators epoch fits = record { named = λ p ne. absurd (ne refl) }
+
+-- no log is sealed, and no round runs
+pub opening_round : (logs mutators epoch : ℕ) → is_shape (shape_of logs mutators epoch) ≡ true → MomentLaw (first_moment logs mutators epoch)
+opening_round logs mutators epoch fits = record {
+  order = λ l. cond_both (l == 0) Open Free (λ (kind : Kind). false ≡ is_sealed kind) (λ _. refl) (λ _. refl);
+  order_once = none_once;
+  sealed = λ l h. absurd (false≢true h);
+  held_once = none_once;
+  runs = refl;
+  round = λ risen. absurd (false≢true risen);
+  clear = λ leaves. absurd cc;
+  later = λ marks. absurd cc;
+}

@@ -6,7 +6,7 @@ use Rattle.std.specs.List.{flat_map, range_with_len}
 use Rattle.std.proofs.lemmas.Bool.{lt-leb, eqb-true, eqb-false}
 use Rattle.std.proofs.lemmas.Bool.Decides.{nat_tests}
 use Rattle.far_word.specs.declared.refused.Refused.{Refused as Refusal}
-use Rattle.far_word.specs.declared.refused.Refused.TheVariants.{Range, Length, NoPointer, NoRoom, Marked, Shape, Syntax}
+use Rattle.far_word.specs.declared.refused.Refused.TheVariants.{Range, Length, NoPointer, NoRoom, Marked, Shape, StillOpen, Syntax}
 use Rattle.far_word.specs.declared.sizes.TheConstants.{CELLS, LONGEST}
 use Rattle.far_word.specs.Sizes.{size_of}
 use Rattle.far_log.proofs.Members.{split, none_in, All-from}
@@ -34,10 +34,10 @@ use Rattle.far_core.proofs.Put.{put_both, put_other, put_same}
 use Rattle.far_book.proofs.region.Calls.{put_put}
 use Rattle.far_replay.specs.Effects.{is_slow, with_view}
 use Rattle.far_replay.proofs.AloneRuns.{quiet_run, quiet_view}
-use Rattle.far_replay.specs.Moment.{Moment, moment_of}
+use Rattle.far_replay.specs.Moment.{Moment, with_core}
 use Rattle.far_replay.specs.Alone.{Alone, Knows, Own}
 use Rattle.far_replay.specs.Answers.{Answered, Answers, Commanded, IsMoment, IsOutput, shape_of, first_moment}
-use Rattle.far_text.specs.Command.{Command, Trace, Nothing, Heap, New, Open, Write, Read, Close, Where, Drop, View, Try, Epoch, Logs, Mutator, Book}
+use Rattle.far_text.specs.Command.{Command, Trace, Nothing, Heap, New, Open, Write, Read, Close, Where, Drop, View, Try, Epoch, Logs, Mutator, Book, Evacuator, Step, Wait}
 use Rattle.far_text.specs.Grammar.{trace_of}
 use Rattle.far_replay.specs.Headline.{IsSound, IsWhole, Lawful, IsSaidBy, TellsAll, TellsLog}
 use Rattle.far_text.specs.Written.{AllWriteBytes}
@@ -49,7 +49,8 @@ use Rattle.far_word.specs.declared.mark.Marks.{Marks}
 use Rattle.far_word.specs.declared.pointer.PtrWord.{PtrWord}
 use Rattle.far_word.specs.declared.pointer.PtrWord.TheVariants.{Free, Near, Far}
 use Rattle.far_word.specs.Pointer.{read_of}
-use Rattle.far_replay.specs.Stays.{MayGain, CellStays, MayMark, Stays}
+use Rattle.far_replay.specs.Stays.{MayGain, CellStays, MayMark, MaySee, Stays}
+use Rattle.far_replay.specs.Rounds.{refused_step}
 use Rattle.far_replay.specs.Turn.{turn_effect, refused_effect, causes, first_cause, refusal, unless, turn_reply, reply_to, log_line, pointer_reply}
 use Rattle.far_replay.proofs.AloneNew.{new_run, is_structure, is_length}
 use Rattle.far_replay.proofs.AloneFirst.{alone_first}
@@ -61,6 +62,8 @@ use Rattle.far_replay.proofs.ViewLaws.{logs_stay}
 use Rattle.far_text.proofs.TextLaws.{texts_write}
 use Rattle.far_replay.proofs.Lowest.{lowest_cell_is, no_cell_is}
 use Rattle.far_replay.proofs.Refusals.{turn_is_no_refusal, from_cause}
+use Rattle.far_replay.proofs.RoundLeads.{cell_same, stays_same, step_stays}
+use Rattle.far_replay.proofs.WithCore.{same_order}
 use Rattle.far_replay.proofs.Spliced.{length-with_range, with_range_before, with_range_inside, with_range_after}
 use Rattle.far_replay.proofs.Turns.{marked_last, room_lacks, room_last, new_tests}
 use Rattle.far_replay.proofs.Views.{view_is, view_law, slow_view}
@@ -81,33 +84,47 @@ each_answered text = read_answered (trace_of text)
 
 -- ---- what a refused command leaves
 cause_of : (now : Moment) (c : Command) (r : Reply) (next : Moment) (why : Refusal) → Commanded now c r next → r ≡ Refused why → refusal now c ≡ Some why
-cause_of now c r next why h e = from_cause (refusal now c) (turn_reply now c) why (turn_is_no_refusal now.core c why) (sym h.reply ∙ e)
+cause_of now c r next why h e = from_cause (refusal now c) (turn_reply now c) why (turn_is_no_refusal now c why) (sym h.reply ∙ e)
 
 refused_moment : (now : Moment) (c : Command) (r : Reply) (next : Moment) (why : Refusal) → Commanded now c r next → r ≡ Refused why → next ≡ refused_effect now c why
 refused_moment now c r next why h e = h.moment ∙ ap (λ o. unless o (refused_effect now c) (turn_effect now c)) (cause_of now c r next why h e)
 
+-- a step leaves all, unless it is a wait that goes on
+blind_step : (now : Moment) (step : Step) (why : Refusal) → ¬ MaySee (Evacuator step) why → refused_step now step why ≡ now
+blind_step now Wait (StillOpen mutator epoch) blind = absurd (blind tt)
+blind_step now step why blind = refl
+
 -- one that comes before any pin leaves all
-none_marked : (now : Moment) (c : Command) (why : Refusal) → ((p : ℕ) → ¬ MayMark c why p) → refused_effect now c why ≡ now
-none_marked now (Mutator m (Write p from bytes)) NoRoom none = absurd (none p refl)
-none_marked now (Mutator m (Read p from len)) NoRoom none = absurd (none p refl)
-none_marked now (Mutator m (View p)) NoRoom none = absurd (none p refl)
-none_marked now (Mutator m (Try p)) (Marked word) none = absurd (none p refl)
-none_marked now c why none = refl
+none_marked : (now : Moment) (c : Command) (why : Refusal) → ((p : ℕ) → ¬ MayMark c why p) → ¬ MaySee c why → refused_effect now c why ≡ now
+none_marked now (Mutator m (Write p from bytes)) NoRoom none blind = absurd (none p refl)
+none_marked now (Mutator m (Read p from len)) NoRoom none blind = absurd (none p refl)
+none_marked now (Mutator m (View p)) NoRoom none blind = absurd (none p refl)
+none_marked now (Mutator m (Try p)) (Marked word) none blind = absurd (none p refl)
+none_marked now (Evacuator step) why none blind = blind_step now step why blind
+none_marked now c why none blind = refl
 
-pub refused_stays : (now : Moment) (c : Command) (r : Reply) (next : Moment) (why : Refusal) → ((p : ℕ) → ¬ MayMark c why p) → Commanded now c r next → r ≡ Refused why → next ≡ now
-refused_stays now c r next why none h e = refused_moment now c r next why h e ∙ none_marked now c why none
+pub refused_stays : (now : Moment) (c : Command) (r : Reply) (next : Moment) (why : Refusal) → ((p : ℕ) → ¬ MayMark c why p) → ¬ MaySee c why → Commanded now c r next → r ≡ Refused why → next ≡ now
+refused_stays now c r next why none blind h e = refused_moment now c r next why h e ∙ none_marked now c why none blind
 
-gains_none : (a : Marks) → MayGain a a
-gains_none a = record { hot = λ h. h; moved = λ h. h; evac = refl; dropped = refl }
+-- what stays of a core, but for marks
+pub record CoreStays (c : Command) (why : Refusal) (s t : State) : Type 0 where
+  pub objects : (world_of t).object ≡ (world_of s).object
+  pub cells : (p : ℕ) → CellStays (read_of (s.cell p)) (read_of (t.cell p))
+  pub unmarked : (p : ℕ) → ¬ MayMark c why p → t.cell p ≡ s.cell p
+  pub rest : t ≡ record s { cell = t.cell }
 
-cell_same : (o : Option PtrWord) → CellStays o o
-cell_same None = tt
-cell_same (Some Free) = tt
-cell_same (Some (Near len ds place marks)) = (refl, refl, refl, gains_none marks)
-cell_same (Some (Far len ds marks)) = (refl, refl, gains_none marks)
-
-stays_same : (c : Command) (why : Refusal) (now : Moment) → Stays c why now now
-stays_same c why now = record { objects = refl; cells = λ p. cell_same (read_of (now.core.cell p)); unmarked = λ p other. refl; rest = refl }
+stays_with : (c : Command) (why : Refusal) (now : Moment) (t : State) → CoreStays c why now.core t → Stays c why now (with_core now t)
+stays_with c why now t h =
+    let clear : t.clear ≡ now.core.clear = ap (λ (x : State). x.clear) h.rest in
+    record {
+      objects = h.objects;
+      cells = h.cells;
+      unmarked = h.unmarked;
+      seen = λ _. clear;
+      kept = λ m seen. ap (λ (f : ℕ → Bool). f m) clear ∙ seen;
+      rest = h.rest ∙ ap (λ (f : ℕ → Bool). record now.core { cell = t.cell; clear = f }) (sym clear);
+      round = (same_order now t (ap (λ (x : State). x.current) h.rest), refl, refl);
+    }
 
 -- a cell that gets HOT
 gains_hot : (a : Marks) → MayGain a (marks_with Hot a)
@@ -120,11 +137,11 @@ cell_hot (Some (Near len ds place marks)) = (refl, refl, refl, gains_hot marks)
 cell_hot (Some (Far len ds marks)) = (refl, refl, gains_hot marks)
 
 -- a try that found a mark leaves HOT
-stays_hot : (s : State) (m p word : ℕ) → Law s → is_opened s m ≡ true → uses s m p ≡ true → is_slow s p ≡ true → Stays (Mutator m (Try p)) (Marked word) (moment_of s) (moment_of (with_view s p))
+stays_hot : (s : State) (m p word : ℕ) → Law s → is_opened s m ≡ true → uses s m p ≡ true → is_slow s p ≡ true → CoreStays (Mutator m (Try p)) (Marked word) s (with_view s p)
 stays_hot s m p word law opened ours slow =
     let is : with_view s p ≡ record s { cell = (after_pin s p).cell } = slow_view s p slow in
     let hot : ℕ → ℕ = (after_pin s p).cell in
-    subst (λ (t : State). Stays (Mutator m (Try p)) (Marked word) (moment_of s) (moment_of t)) (sym is) record {
+    subst (λ (t : State). CoreStays (Mutator m (Try p)) (Marked word) s t) (sym is) record {
       objects = ap (λ (t : State). (world_of t).object) (sym (view_is s m p law opened ours ∙ is)) ∙ (quiet_run s (view_events s m p) law (quiet_view s m p)).0.0;
       cells = λ q. put_both (λ w. CellStays (read_of (s.cell q)) (read_of w)) s.cell p (bit_or (s.cell p) (2 ^ position Hot)) q
           (λ e. subst (λ x. CellStays (read_of (s.cell x)) (read_of (bit_or (s.cell p) (2 ^ position Hot)))) (sym e)
@@ -136,7 +153,7 @@ stays_hot s m p word law opened ours slow =
 
 -- one cell that gets other marks
 marked_stays : (c : Command) (why : Refusal) (s : State) (p new : ℕ) → MayMark c why p → ((q : ℕ) → ¬ MayMark c why q → q ≢ p) → CellStays (read_of (s.cell p)) (read_of new) →
-    ((f g : ℕ → ℕ) (q : ℕ) → object_of f g q (read_of new) ≡ object_of f g q (read_of (s.cell p))) → Stays c why (moment_of s) (moment_of (record s { cell = put s.cell p new }))
+    ((f g : ℕ → ℕ) (q : ℕ) → object_of f g q (read_of new) ≡ object_of f g q (read_of (s.cell p))) → CoreStays c why s (record s { cell = put s.cell p new })
 unfolding world_of
 marked_stays c why s p new may apart stays object = record {
   objects = fun_ext (λ q. put_both (λ w. object_of s.word (s.stored q) q (read_of w) ≡ object_of s.word (s.stored q) q (read_of (s.cell q))) s.cell p new q
@@ -176,91 +193,93 @@ module _ (c : Command) (s : State) (m p hot : ℕ) (may : MayMark c NoRoom p) (a
   asked_is : read_of asked ≡ map_mark Moved (map_mark Hot (read_of (s.cell p)))
   asked_is = (read_mark Moved (pinned.cell p) refl (law.cells.cell_read p).0 (law.views.used_cell p used)).0 ∙ ap (λ w. map_mark Moved (read_of w)) here ∙ ap (map_mark Moved) is
 
-  only_hot : Stays c NoRoom (moment_of s) (moment_of pinned)
+  only_hot : CoreStays c NoRoom s pinned
   only_hot = marked_stays c NoRoom s p hot may apart (subst (CellStays (read_of (s.cell p))) (sym is) (cell_hot (read_of (s.cell p)))) (λ f g q. hot_stays f g q (read_of (s.cell p)) (read_of hot) is)
 
-  both : Stays c NoRoom (moment_of s) (moment_of (record s { cell = put s.cell p asked }))
+  both : CoreStays c NoRoom s (record s { cell = put s.cell p asked })
   both = marked_stays c NoRoom s p asked may apart (subst (CellStays (read_of (s.cell p))) (sym asked_is) (cell_asked (read_of (s.cell p)))) (λ f g q. asked_stays f g q (read_of (s.cell p)) (read_of asked) asked_is)
 
-  pub stays_asked : (o : Option PtrWord) → Stays c NoRoom (moment_of s) (moment_of (sought_of pinned m p o))
+  pub stays_asked : (o : Option PtrWord) → CoreStays c NoRoom s (sought_of pinned m p o)
   stays_asked None = only_hot
   stays_asked (Some Free) = only_hot
-  stays_asked (Some (Near len ds place marks)) = subst (λ (f : ℕ → ℕ). Stays c NoRoom (moment_of s) (moment_of (record s { cell = f }))) (sym (put_put s.cell p hot asked)) both
+  stays_asked (Some (Near len ds place marks)) = subst (λ (f : ℕ → ℕ). CoreStays c NoRoom s (record s { cell = f })) (sym (put_put s.cell p hot asked)) both
   stays_asked (Some (Far len ds marks)) = only_hot
 
-stays_sought : (c : Command) (s : State) (m p : ℕ) → MayMark c NoRoom p → ((q : ℕ) → ¬ MayMark c NoRoom q → q ≢ p) → Law s → is_opened s m ≡ true → uses s m p ≡ true → is_slow s p ≡ true → Stays c NoRoom (moment_of s) (moment_of (sought s m p))
+stays_sought : (c : Command) (s : State) (m p : ℕ) → MayMark c NoRoom p → ((q : ℕ) → ¬ MayMark c NoRoom q → q ≢ p) → Law s → is_opened s m ≡ true → uses s m p ≡ true → is_slow s p ≡ true → CoreStays c NoRoom s (sought s m p)
 stays_sought c s m p may apart law opened ours slow =
     let used = (and_parts (nat_eq (p / CELLS) m) (s.used p) ours).1 in
     let hot : ℕ = bit_or (s.cell p) (2 ^ position Hot) in
     let is : with_view s p ≡ record s { cell = put s.cell p hot } = slow_view s p slow in
     let later : Law (record s { cell = put s.cell p hot }) = subst Law (view_is s m p law opened ours ∙ is) (view_law s m p law opened ours) in
-    subst (λ (t : State). Stays c NoRoom (moment_of s) (moment_of (asked_for t m p))) (sym is)
+    subst (λ (t : State). CoreStays c NoRoom s (asked_for t m p)) (sym is)
     (stays_asked c s m p hot may apart later used (hot_read s law p used) (read_of ((record s { cell = put s.cell p hot }).cell p)))
 
-refused_leaves : (s : State) (c : Command) (why : Refusal) → Law s → refusal (moment_of s) c ≡ Some why → Stays c why (moment_of s) (refused_effect (moment_of s) c why)
-refused_leaves s (Mutator m (Write p from bytes)) NoRoom law e =
-    let h = room_lacks (nat_lt m s.mutators) (is_opened s m) (uses s m p) (is_range (object_len s p) from (length bytes)) (has_no_room s m p) e in
-    stays_sought (Mutator m (Write p from bytes)) s m p refl (λ q other. other) law h.1 h.2 (and_parts (is_slow s p) (not (is_some (comes_to (sought s m p) p))) h.3).0
-refused_leaves s (Mutator m (Read p from len)) NoRoom law e =
-    let h = room_lacks (nat_lt m s.mutators) (is_opened s m) (uses s m p) (is_range (object_len s p) from len) (has_no_room s m p) e in
-    stays_sought (Mutator m (Read p from len)) s m p refl (λ q other. other) law h.1 h.2 (and_parts (is_slow s p) (not (is_some (comes_to (sought s m p) p))) h.3).0
-refused_leaves s (Mutator m (View p)) NoRoom law e =
-    let h = room_last (nat_lt m s.mutators) (is_opened s m) (uses s m p) (has_no_room s m p) e in
-    stays_sought (Mutator m (View p)) s m p refl (λ q other. other) law h.1 h.2 (and_parts (is_slow s p) (not (is_some (comes_to (sought s m p) p))) h.3).0
-refused_leaves s (Mutator m (Try p)) (Marked word) law e =
-    let h = marked_last (nat_lt m s.mutators) (is_opened s m) (uses s m p) (is_slow s p) (s.cell p) word e in
-    stays_hot s m p word law h.1 h.2 h.3
-refused_leaves s c why law e = stays_same c why (moment_of s)
+refused_leaves : (now : Moment) (c : Command) (why : Refusal) → Law now.core → refusal now c ≡ Some why → Stays c why now (refused_effect now c why)
+refused_leaves now (Mutator m (Write p from bytes)) NoRoom law e =
+    let h = room_lacks (nat_lt m now.core.mutators) (is_opened now.core m) (uses now.core m p) (is_range (object_len now.core p) from (length bytes)) (has_no_room now.core m p) e in
+    stays_with (Mutator m (Write p from bytes)) NoRoom now (sought now.core m p) (stays_sought (Mutator m (Write p from bytes)) now.core m p refl (λ q other. other) law h.1 h.2 (and_parts (is_slow now.core p) (not (is_some (comes_to (sought now.core m p) p))) h.3).0)
+refused_leaves now (Mutator m (Read p from len)) NoRoom law e =
+    let h = room_lacks (nat_lt m now.core.mutators) (is_opened now.core m) (uses now.core m p) (is_range (object_len now.core p) from len) (has_no_room now.core m p) e in
+    stays_with (Mutator m (Read p from len)) NoRoom now (sought now.core m p) (stays_sought (Mutator m (Read p from len)) now.core m p refl (λ q other. other) law h.1 h.2 (and_parts (is_slow now.core p) (not (is_some (comes_to (sought now.core m p) p))) h.3).0)
+refused_leaves now (Mutator m (View p)) NoRoom law e =
+    let h = room_last (nat_lt m now.core.mutators) (is_opened now.core m) (uses now.core m p) (has_no_room now.core m p) e in
+    stays_with (Mutator m (View p)) NoRoom now (sought now.core m p) (stays_sought (Mutator m (View p)) now.core m p refl (λ q other. other) law h.1 h.2 (and_parts (is_slow now.core p) (not (is_some (comes_to (sought now.core m p) p))) h.3).0)
+refused_leaves now (Mutator m (Try p)) (Marked word) law e =
+    let h = marked_last (nat_lt m now.core.mutators) (is_opened now.core m) (uses now.core m p) (is_slow now.core p) (now.core.cell p) word e in
+    stays_with (Mutator m (Try p)) (Marked word) now (with_view now.core p) (stays_hot now.core m p word law h.1 h.2 h.3)
+refused_leaves now (Evacuator step) why law e = step_stays now step why e
+refused_leaves now c why law e = stays_same c why now
 
 pub refusals_stay : (now : Moment) (c : Command) (r : Reply) (next : Moment) (why : Refusal) → Law now.core → Commanded now c r next → r ≡ Refused why → Stays c why now next
-refusals_stay now c r next why law h e = subst (Stays c why now) (sym (refused_moment now c r next why h e)) (refused_leaves now.core c why law (cause_of now c r next why h e))
+refusals_stay now c r next why law h e = subst (Stays c why now) (sym (refused_moment now c r next why h e)) (refused_leaves now c why law (cause_of now c r next why h e))
 
 -- ---- a mutator that the heap hasn't
 -- the first cause holds
-first_holds : (s : State) (c : Command) (b : Bool) (rest : List (Bool × Refusal)) → causes (moment_of s) c ≡ (b, Range) ∷ rest → b ≡ true → reply_to (moment_of s) c ≡ Refused Range
-first_holds s c b rest is holds =
-    let cause : refusal (moment_of s) c ≡ Some Range = ap first_cause is ∙ ap (λ x. cond x (Some Range) (first_cause rest)) holds in
-    ap (λ o. unless o Refused (turn_reply (moment_of s) c)) cause
+first_holds : (now : Moment) (c : Command) (b : Bool) (rest : List (Bool × Refusal)) → causes now c ≡ (b, Range) ∷ rest → b ≡ true → reply_to now c ≡ Refused Range
+first_holds now c b rest is holds =
+    let cause : refusal now c ≡ Some Range = ap first_cause is ∙ ap (λ x. cond x (Some Range) (first_cause rest)) holds in
+    ap (λ o. unless o Refused (turn_reply now c)) cause
 
 -- a number past the last mutator isn't one
 past : (s : State) (m k : ℕ) → m ≡ k → s.mutators ≤ m → nat_lt k s.mutators ≡ false
 past s m k e h = lt-leb (suc k) s.mutators (omega (arith, e, h))
 
-refuses_unknown : (s : State) (c : Command) (m : ℕ) → IsSaidBy m c → s.mutators ≤ m → reply_to (moment_of s) c ≡ Refused Range
-refuses_unknown s (Mutator k (New len ds)) m e h = first_holds s (Mutator k (New len ds)) (not (nat_lt k s.mutators && nat_lt ds 256)) _ refl (ap (λ b. not (b && nat_lt ds 256)) (past s m k e h))
-refuses_unknown s (Mutator k Open) m e h = first_holds s (Mutator k Open) (not (nat_lt k s.mutators)) _ refl (ap not (past s m k e h))
-refuses_unknown s (Mutator k (Write p from bytes)) m e h = first_holds s (Mutator k (Write p from bytes)) (not (nat_lt k s.mutators)) _ refl (ap not (past s m k e h))
-refuses_unknown s (Mutator k (Read p from len)) m e h = first_holds s (Mutator k (Read p from len)) (not (nat_lt k s.mutators)) _ refl (ap not (past s m k e h))
-refuses_unknown s (Mutator k Close) m e h = first_holds s (Mutator k Close) (not (nat_lt k s.mutators)) _ refl (ap not (past s m k e h))
-refuses_unknown s (Mutator k (Where p)) m e h = first_holds s (Mutator k (Where p)) (not (nat_lt k s.mutators)) _ refl (ap not (past s m k e h))
-refuses_unknown s (Mutator k (Drop p)) m e h = first_holds s (Mutator k (Drop p)) (not (nat_lt k s.mutators)) _ refl (ap not (past s m k e h))
-refuses_unknown s (Mutator k (View p)) m e h = first_holds s (Mutator k (View p)) (not (nat_lt k s.mutators)) _ refl (ap not (past s m k e h))
-refuses_unknown s (Mutator k (Try p)) m e h = first_holds s (Mutator k (Try p)) (not (nat_lt k s.mutators)) _ refl (ap not (past s m k e h))
-refuses_unknown s (Mutator k Epoch) m e h = first_holds s (Mutator k Epoch) (not (nat_lt k s.mutators)) _ refl (ap not (past s m k e h))
-refuses_unknown s (Book inquiry) m e h = absurd e
+refuses_unknown : (now : Moment) (c : Command) (m : ℕ) → IsSaidBy m c → now.core.mutators ≤ m → reply_to now c ≡ Refused Range
+refuses_unknown now (Mutator k (New len ds)) m e h = first_holds now (Mutator k (New len ds)) (not (nat_lt k now.core.mutators && nat_lt ds 256)) _ refl (ap (λ b. not (b && nat_lt ds 256)) (past now.core m k e h))
+refuses_unknown now (Mutator k Open) m e h = first_holds now (Mutator k Open) (not (nat_lt k now.core.mutators)) _ refl (ap not (past now.core m k e h))
+refuses_unknown now (Mutator k (Write p from bytes)) m e h = first_holds now (Mutator k (Write p from bytes)) (not (nat_lt k now.core.mutators)) _ refl (ap not (past now.core m k e h))
+refuses_unknown now (Mutator k (Read p from len)) m e h = first_holds now (Mutator k (Read p from len)) (not (nat_lt k now.core.mutators)) _ refl (ap not (past now.core m k e h))
+refuses_unknown now (Mutator k Close) m e h = first_holds now (Mutator k Close) (not (nat_lt k now.core.mutators)) _ refl (ap not (past now.core m k e h))
+refuses_unknown now (Mutator k (Where p)) m e h = first_holds now (Mutator k (Where p)) (not (nat_lt k now.core.mutators)) _ refl (ap not (past now.core m k e h))
+refuses_unknown now (Mutator k (Drop p)) m e h = first_holds now (Mutator k (Drop p)) (not (nat_lt k now.core.mutators)) _ refl (ap not (past now.core m k e h))
+refuses_unknown now (Mutator k (View p)) m e h = first_holds now (Mutator k (View p)) (not (nat_lt k now.core.mutators)) _ refl (ap not (past now.core m k e h))
+refuses_unknown now (Mutator k (Try p)) m e h = first_holds now (Mutator k (Try p)) (not (nat_lt k now.core.mutators)) _ refl (ap not (past now.core m k e h))
+refuses_unknown now (Mutator k Epoch) m e h = first_holds now (Mutator k Epoch) (not (nat_lt k now.core.mutators)) _ refl (ap not (past now.core m k e h))
+refuses_unknown now (Book inquiry) m e h = absurd e
+refuses_unknown now (Evacuator step) m e h = absurd e
 
 pub unknown_refused : (now : Moment) (c : Command) (r : Reply) (next : Moment) (m : ℕ) → IsSaidBy m c → now.core.mutators ≤ m → Commanded now c r next → r ≡ Refused Range
-unknown_refused now c r next m e h k = k.reply ∙ refuses_unknown now.core c m e h
+unknown_refused now c r next m e h k = k.reply ∙ refuses_unknown now c m e h
 
 -- ---- what logs tell
-lines_say_logs : (s : State) (ls : List ℕ) → map (λ (line : LogLine). line.log) (map (log_line (moment_of s)) ls) ≡ ls
-lines_say_logs s [] = refl
-lines_say_logs s (l ∷ ls) = ap (λ xs. l ∷ xs) (lines_say_logs s ls)
+lines_say_logs : (now : Moment) (ls : List ℕ) → map (λ (line : LogLine). line.log) (map (log_line now) ls) ≡ ls
+lines_say_logs now [] = refl
+lines_say_logs now (l ∷ ls) = ap (λ xs. l ∷ xs) (lines_say_logs now ls)
 
 -- what is so of each log's line is so of each line that is told
-of_each : (P : LogLine → Type 0) (s : State) → ((l : ℕ) → P (log_line (moment_of s) l)) → (ls : List ℕ) (line : LogLine) → Contains (map (log_line (moment_of s)) ls) line → P line
-of_each P s h [] line c = absurd (none_in line c)
-of_each P s h (l ∷ ls) line c = elim (split line (log_line (moment_of s) l) (map (log_line (moment_of s)) ls) c) [
+of_each : (P : LogLine → Type 0) (now : Moment) → ((l : ℕ) → P (log_line now l)) → (ls : List ℕ) (line : LogLine) → Contains (map (log_line now) ls) line → P line
+of_each P now h [] line c = absurd (none_in line c)
+of_each P now h (l ∷ ls) line c = elim (split line (log_line now l) (map (log_line now) ls) c) [
   | inl e ↦ subst P e (h l)
-  | inr bytes ↦ of_each P s h ls line bytes
+  | inr bytes ↦ of_each P now h ls line bytes
 ]
 
-tells_log : (s : State) → Law s → (l : ℕ) → TellsLog (moment_of s) (log_line (moment_of s) l)
-tells_log s law l = record { kind = refl; live = refl; dead = refl; unused = refl; whole = bytes_make_log s law l }
+tells_log : (now : Moment) → Law now.core → (l : ℕ) → TellsLog now (log_line now l)
+tells_log now law l = record { kind = refl; live = refl; dead = refl; unused = refl; whole = bytes_make_log now.core law l }
 
 pub logs_tell : (now : Moment) (r : Reply) (next : Moment) → Law now.core → Commanded now (Book Logs) r next → TellsAll now r
 logs_tell now r next law h =
-    subst (TellsAll now) (sym h.reply) (lines_say_logs now.core (range_with_len 0 now.core.logs), of_each (TellsLog now) now.core (tells_log now.core law) (range_with_len 0 now.core.logs))
+    subst (TellsAll now) (sym h.reply) (lines_say_logs now (range_with_len 0 now.core.logs), of_each (TellsLog now) now (tells_log now law) (range_with_len 0 now.core.logs))
 
 -- ---- the lowest cell that is free
 told_pointer : (o : Option Refusal) (x : Option ℕ) (p : ℕ) → Pointer p ≡ unless o Refused (pointer_reply x) → x ≡ Some p
@@ -287,7 +306,7 @@ fourth false false false true e = refl
 fourth false false false false e = absurd cc
 
 why_refused : (now : Moment) (c : Command) (why : Refusal) (next : Moment) → Commanded now c (Refused why) next → refusal now c ≡ Some why
-why_refused now c why next h = from_cause (refusal now c) (turn_reply now c) why (turn_is_no_refusal now.core c why) (sym h.reply)
+why_refused now c why next h = from_cause (refusal now c) (turn_reply now c) why (turn_is_no_refusal now c why) (sym h.reply)
 
 pub none_left : (now : Moment) (m len ds : ℕ) (next : Moment) →
     (Commanded now (Mutator m (New len ds)) (Refused NoPointer) next → (q : ℕ) → m * CELLS ≤ q → q < m * CELLS + CELLS → now.core.cell q ≢ 0)
@@ -364,6 +383,7 @@ pub own_lines : (m : ℕ) (o : Own) (c : Command) (r : Reply) (cs : List Command
     (IsSaidBy m c → (q : Own) × Knows m o c r q × Alone m q cs rs) × (¬ IsSaidBy m c → Alone m o cs rs)
 own_lines m o (Mutator k request) r cs rs h = at_number k m _ _ (nat_eq k m) refl h
 own_lines m o (Book inquiry) r cs rs h = ((λ no. absurd no), (λ _. h))
+own_lines m o (Evacuator step) r cs rs h = ((λ no. absurd no), (λ _. h))
 
 -- ---- what a new object is
 not_refused : (o : Option Refusal) (x : Option ℕ) (p : ℕ) → Pointer p ≡ unless o Refused (pointer_reply x) → o ≡ None
@@ -375,7 +395,7 @@ pub makes_its_object : (now : Moment) (m len ds p : ℕ) (next : Moment) → IsM
 makes_its_object now m len ds p next is c =
     let s : State = now.core in
     let lasts = moment_lasts now is in
-    let h = command_carried now (Mutator m (New len ds)) (Pointer p) next lasts tt c in
+    let h = command_carried now (Mutator m (New len ds)) (Pointer p) next tt lasts tt c in
     let none : refusal now (Mutator m (New len ds)) ≡ None = not_refused (refusal now (Mutator m (New len ds))) (lowest_cell s m) p h.reply in
     let parts = new_tests s m len ds none in
     let low : lowest_cell s m ≡ Some p = told_pointer (refusal now (Mutator m (New len ds))) (lowest_cell s m) p h.reply in

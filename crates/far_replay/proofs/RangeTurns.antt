@@ -21,22 +21,24 @@ use Rattle.far_core.specs.events.Ranges.{stores}
 use Rattle.far_core.specs.events.Step.{data_len, is_opened, near_data}
 use Rattle.far_core.specs.state.Law.{Law}
 use Rattle.far_core.specs.state.State.{State}
-use Rattle.far_text.specs.Command.{Command, Mutator, Read, Write}
+use Rattle.far_text.specs.Command.{Command, Mutator, Read, View, Write}
 use Rattle.far_replay.specs.Dereference.{RefusesView, dereferenced, has_no_room, sought}
 use Rattle.far_replay.specs.Effects.{with_data}
 use Rattle.far_replay.specs.EventRows.{after_events}
 use Rattle.far_replay.specs.Events.{first_word, store_events, words_touched}
 use Rattle.far_replay.specs.Interpreter.{IsAccess, IsViewed}
-use Rattle.far_replay.specs.Moment.{Moment, moment_of}
+use Rattle.far_replay.specs.Moment.{Moment, with_core}
 use Rattle.far_replay.specs.Objects.{data_of, is_range, named_len, object_len, with_range, uses}
 use Rattle.far_replay.specs.Reply.{Reply, Data, Done, Refused}
-use Rattle.far_replay.specs.Turn.{access_causes, effect, first_cause, refused_effect, reply_to, turn_effect, turn_reply, unless}
+use Rattle.far_replay.specs.Turn.{access_causes, effect, first_cause, refusal, refused_effect, reply_to, turn_effect, turn_reply, unless}
 use Rattle.far_replay.specs.declared.turn.Access.{Access}
 use Rattle.far_replay.proofs.AloneStates.{data_small}
 use Rattle.far_replay.proofs.Dereferences.{Derefs, derefs}
 use Rattle.far_replay.proofs.RangeWrites.{rows_same}
 use Rattle.far_replay.proofs.Spliced.{AreBytes, length-with_range, packed_padded, with_range_bytes}
+use Rattle.far_replay.proofs.Asides.{sought_current}
 use Rattle.far_replay.proofs.Turns.{stores_lead}
+use Rattle.far_replay.proofs.WithCore.{moment_joined, same_order}
 use Rattle.far_replay.proofs.Turns.{Access as Reached}
 
 -- the length that a cell on the layout says
@@ -75,10 +77,10 @@ by_room true true false d e w x y z = absurd (false≢true y)
 by_room true false c d e w x y z = absurd (false≢true x)
 by_room false b c d e w x y z = absurd (false≢true w)
 
-module _ (s : State) (a : Access) (is : IsAccess s a.owner a.pointer a.from a.count a) where
-  pub wants_room : (b : Bool) → has_no_room s a.owner a.pointer ≡ b → first_cause (access_causes (moment_of s) a.owner a.pointer a.from a.count ++ (has_no_room s a.owner a.pointer, NoRoom) ∷ []) ≡ (if b then Some NoRoom else None)
-  wants_room b e = by_room (nat_lt a.owner s.mutators) (is_opened s a.owner) (uses s a.owner a.pointer) (is_range (object_len s a.pointer) a.from a.count) (has_no_room s a.owner a.pointer)
-      (opened_inside s a.owner is.opened) is.opened (uses_own s a.owner a.pointer is.own is.used) (is_range_in (object_len s a.pointer) a.from a.count is.some is.inside)
+module _ (now : Moment) (a : Access) (is : IsAccess now.core a.owner a.pointer a.from a.count a) where
+  pub wants_room : (b : Bool) → has_no_room now.core a.owner a.pointer ≡ b → first_cause (access_causes now a.owner a.pointer a.from a.count ++ (has_no_room now.core a.owner a.pointer, NoRoom) ∷ []) ≡ (if b then Some NoRoom else None)
+  wants_room b e = by_room (nat_lt a.owner now.core.mutators) (is_opened now.core a.owner) (uses now.core a.owner a.pointer) (is_range (object_len now.core a.pointer) a.from a.count) (has_no_room now.core a.owner a.pointer)
+      (opened_inside now.core a.owner is.opened) is.opened (uses_own now.core a.owner a.pointer is.own is.used) (is_range_in (object_len now.core a.pointer) a.from a.count is.some is.inside)
       ∙ ap (λ x. if x then Some NoRoom else None) e
 
 -- ---- a range that is viewed
@@ -140,20 +142,13 @@ module _ (s t u : State) (a : Access) (new : List ℕ) (law : Law s) (is : IsAcc
   here : Reached s a.owner a.pointer a.from (length new)
   here = record { opened = is.opened; ours = uses_own s a.owner a.pointer is.own is.used; some = omega (arith, long, is.some); within = omega (arith, long, is.inside); room = room }
 
-  write_stored : u ≡ after_events t (store_events a.owner a.pointer (first_word a.from) (words_touched a.from a.count) (with_range (data_of t a.pointer) a.from new)) →
+  pub write_stored : u ≡ after_events t (store_events a.owner a.pointer (first_word a.from) (words_touched a.from a.count) (with_range (data_of t a.pointer) a.from new)) →
       u ≡ with_data (dereferenced s a.owner a.pointer) a.pointer a.from new
   write_stored stored =
       stored
       ∙ ap (λ (v : State). after_events v (store_events a.owner a.pointer (first_word a.from) (words_touched a.from a.count) (with_range (data_of v a.pointer) a.from new))) to
       ∙ ap (λ n. after_events (dereferenced s a.owner a.pointer) (store_events a.owner a.pointer (first_word a.from) (words_touched a.from n) (with_range (data_of (dereferenced s a.owner a.pointer) a.pointer) a.from new))) (sym long)
       ∙ (stores_lead s a.owner a.pointer a.from new law here small).ends
-
-  pub write_made : u ≡ after_events t (store_events a.owner a.pointer (first_word a.from) (words_touched a.from a.count) (with_range (data_of t a.pointer) a.from new)) →
-      moment_of u ≡ effect (moment_of s) (Mutator a.owner (Write a.pointer a.from new))
-  write_made stored =
-      let now : Moment = moment_of s in
-      let c : Command = Mutator a.owner (Write a.pointer a.from new) in
-      ap moment_of (write_stored stored) ∙ ap (λ o. unless o (refused_effect now c) (turn_effect now c)) (sym (ap (λ n. first_cause (access_causes now a.owner a.pointer a.from n ++ (has_no_room s a.owner a.pointer, NoRoom) ∷ [])) long ∙ wants_room s a is false room))
 
 -- ---- what is refused for want of room, or for want of memory
 -- what isn't want of memory is want of room
@@ -162,46 +157,90 @@ only_room s m p NoRoom t h other = (refl, h.1.1, rw (h.0, h.1.0) refl)
 only_room s m p Memory t h other = absurd (other refl)
 only_room s m p why t h other = absurd h.1
 
-module _ (s t : State) (a : Access) (why : Refusal) (is : IsAccess s a.owner a.pointer a.from a.count a) (refuses : RefusesView s a.owner a.pointer why t) (other : why ≢ Memory) where
-  wants : (why ≡ NoRoom) × (t ≡ sought s a.owner a.pointer) × (has_no_room s a.owner a.pointer ≡ true)
-  wants = only_room s a.owner a.pointer why t refuses other
+module _ (now : Moment) (t : State) (a : Access) (why : Refusal) (is : IsAccess now.core a.owner a.pointer a.from a.count a) (refuses : RefusesView now.core a.owner a.pointer why t) (other : why ≢ Memory) where
+  wants : (why ≡ NoRoom) × (t ≡ sought now.core a.owner a.pointer) × (has_no_room now.core a.owner a.pointer ≡ true)
+  wants = only_room now.core a.owner a.pointer why t refuses other
 
-  cause : first_cause (access_causes (moment_of s) a.owner a.pointer a.from a.count ++ (has_no_room s a.owner a.pointer, NoRoom) ∷ []) ≡ Some NoRoom
-  cause = wants_room s a is true wants.2
+  cause : first_cause (access_causes now a.owner a.pointer a.from a.count ++ (has_no_room now.core a.owner a.pointer, NoRoom) ∷ []) ≡ Some NoRoom
+  cause = wants_room now a is true wants.2
 
-  pub read_refused : moment_of t ≡ effect (moment_of s) (Mutator a.owner (Read a.pointer a.from a.count))
-  read_refused =
-      let now : Moment = moment_of s in
+  -- the moment then, by its parts
+  pub asked_at : (next : Moment) → next.core ≡ t → next.order ≡ now.order → next.phase ≡ now.phase → next.held ≡ now.held → next ≡ with_core now (sought now.core a.owner a.pointer)
+  asked_at next core order phase held =
+      moment_joined now next (sought now.core a.owner a.pointer) (core ∙ wants.1) (order ∙ sym (same_order now (sought now.core a.owner a.pointer) (sought_current now.core a.owner a.pointer))) phase held
+
+  pub read_refused : (next : Moment) → next ≡ with_core now (sought now.core a.owner a.pointer) → next ≡ effect now (Mutator a.owner (Read a.pointer a.from a.count))
+  read_refused next is_asked =
       let c : Command = Mutator a.owner (Read a.pointer a.from a.count) in
-      ap moment_of wants.1 ∙ ap (λ o. unless o (refused_effect now c) (turn_effect now c)) (sym cause)
+      is_asked ∙ ap (λ o. unless o (refused_effect now c) (turn_effect now c)) (sym cause)
 
-  pub read_refusal : Refused why ≡ reply_to (moment_of s) (Mutator a.owner (Read a.pointer a.from a.count))
-  read_refusal = ap Refused wants.0 ∙ ap (λ o. unless o Refused (turn_reply (moment_of s) (Mutator a.owner (Read a.pointer a.from a.count)))) (sym cause)
+  pub read_refusal : Refused why ≡ reply_to now (Mutator a.owner (Read a.pointer a.from a.count))
+  read_refusal = ap Refused wants.0 ∙ ap (λ o. unless o Refused (turn_reply now (Mutator a.owner (Read a.pointer a.from a.count)))) (sym cause)
 
   module _ (new : List ℕ) (long : length new ≡ a.count) where
-    cause_long : first_cause (access_causes (moment_of s) a.owner a.pointer a.from (length new) ++ (has_no_room s a.owner a.pointer, NoRoom) ∷ []) ≡ Some NoRoom
-    cause_long = ap (λ n. first_cause (access_causes (moment_of s) a.owner a.pointer a.from n ++ (has_no_room s a.owner a.pointer, NoRoom) ∷ [])) long ∙ cause
+    cause_long : first_cause (access_causes now a.owner a.pointer a.from (length new) ++ (has_no_room now.core a.owner a.pointer, NoRoom) ∷ []) ≡ Some NoRoom
+    cause_long = ap (λ n. first_cause (access_causes now a.owner a.pointer a.from n ++ (has_no_room now.core a.owner a.pointer, NoRoom) ∷ [])) long ∙ cause
 
-    pub write_refused : moment_of t ≡ effect (moment_of s) (Mutator a.owner (Write a.pointer a.from new))
-    write_refused =
-        let now : Moment = moment_of s in
+    pub write_refused : (next : Moment) → next ≡ with_core now (sought now.core a.owner a.pointer) → next ≡ effect now (Mutator a.owner (Write a.pointer a.from new))
+    write_refused next is_asked =
         let c : Command = Mutator a.owner (Write a.pointer a.from new) in
-        ap moment_of wants.1 ∙ ap (λ o. unless o (refused_effect now c) (turn_effect now c)) (sym cause_long)
+        is_asked ∙ ap (λ o. unless o (refused_effect now c) (turn_effect now c)) (sym cause_long)
 
-    pub write_refusal : Refused why ≡ reply_to (moment_of s) (Mutator a.owner (Write a.pointer a.from new))
+    pub write_refusal : Refused why ≡ reply_to now (Mutator a.owner (Write a.pointer a.from new))
     write_refusal = ap Refused wants.0 ∙ ap (λ o. unless o Refused Done) (sym cause_long)
 
 -- ---- what isn't
-module _ (s t : State) (a : Access) (is : IsAccess s a.owner a.pointer a.from a.count a) (room : has_no_room s a.owner a.pointer ≡ false) (to : t ≡ dereferenced s a.owner a.pointer) where
-  pub read_made : moment_of t ≡ effect (moment_of s) (Mutator a.owner (Read a.pointer a.from a.count))
-  read_made =
-      let now : Moment = moment_of s in
+module _ (now : Moment) (a : Access) (is : IsAccess now.core a.owner a.pointer a.from a.count a) (room : has_no_room now.core a.owner a.pointer ≡ false) where
+  pub read_made : (next : Moment) → next ≡ with_core now (dereferenced now.core a.owner a.pointer) → next ≡ effect now (Mutator a.owner (Read a.pointer a.from a.count))
+  read_made next to =
       let c : Command = Mutator a.owner (Read a.pointer a.from a.count) in
-      ap moment_of to ∙ ap (λ o. unless o (refused_effect now c) (turn_effect now c)) (sym (wants_room s a is false room))
+      to ∙ ap (λ o. unless o (refused_effect now c) (turn_effect now c)) (sym (wants_room now a is false room))
 
-  pub read_told : (r : Reply) → r ≡ Data (slice_range (data_of t a.pointer) a.from (a.from + a.count)) → r ≡ reply_to (moment_of s) (Mutator a.owner (Read a.pointer a.from a.count))
-  read_told r told = told ∙ ap (λ (u : State). Data (slice_range (data_of u a.pointer) a.from (a.from + a.count))) to
-      ∙ ap (λ o. unless o Refused (turn_reply (moment_of s) (Mutator a.owner (Read a.pointer a.from a.count)))) (sym (wants_room s a is false room))
+  pub read_told : (t : State) → t ≡ dereferenced now.core a.owner a.pointer → (r : Reply) → r ≡ Data (slice_range (data_of t a.pointer) a.from (a.from + a.count)) → r ≡ reply_to now (Mutator a.owner (Read a.pointer a.from a.count))
+  read_told t to r told = told ∙ ap (λ (u : State). Data (slice_range (data_of u a.pointer) a.from (a.from + a.count))) to
+      ∙ ap (λ o. unless o Refused (turn_reply now (Mutator a.owner (Read a.pointer a.from a.count)))) (sym (wants_room now a is false room))
 
-  pub write_told : (new : List ℕ) → length new ≡ a.count → Done ≡ reply_to (moment_of s) (Mutator a.owner (Write a.pointer a.from new))
-  write_told new long = ap (λ o. unless o Refused Done) (sym (ap (λ n. first_cause (access_causes (moment_of s) a.owner a.pointer a.from n ++ (has_no_room s a.owner a.pointer, NoRoom) ∷ [])) long ∙ wants_room s a is false room))
+  module _ (new : List ℕ) (long : length new ≡ a.count) where
+    none : first_cause (access_causes now a.owner a.pointer a.from (length new) ++ (has_no_room now.core a.owner a.pointer, NoRoom) ∷ []) ≡ None
+    none = ap (λ n. first_cause (access_causes now a.owner a.pointer a.from n ++ (has_no_room now.core a.owner a.pointer, NoRoom) ∷ [])) long ∙ wants_room now a is false room
+
+    pub write_made : (next : Moment) → next ≡ with_core now (with_data (dereferenced now.core a.owner a.pointer) a.pointer a.from new) → next ≡ effect now (Mutator a.owner (Write a.pointer a.from new))
+    write_made next to =
+        let c : Command = Mutator a.owner (Write a.pointer a.from new) in
+        to ∙ ap (λ o. unless o (refused_effect now c) (turn_effect now c)) (sym none)
+
+    pub write_told : Done ≡ reply_to now (Mutator a.owner (Write a.pointer a.from new))
+    write_told = ap (λ o. unless o Refused Done) (sym none)
+
+-- ---- a refused dereference, by what stands then
+module _ (now next : Moment) (a : Access) (why : Refusal) (is : IsAccess now.core a.owner a.pointer a.from a.count a) (refuses : RefusesView now.core a.owner a.pointer why next.core) (other : why ≢ Memory)
+    (order : next.order ≡ now.order) (phase : next.phase ≡ now.phase) (held : next.held ≡ now.held) where
+  pub refused_read : next ≡ effect now (Mutator a.owner (Read a.pointer a.from a.count))
+  refused_read = read_refused now next.core a why is refuses other next (asked_at now next.core a why is refuses other next refl order phase held)
+
+  pub refused_write : (new : List ℕ) → length new ≡ a.count → next ≡ effect now (Mutator a.owner (Write a.pointer a.from new))
+  refused_write new long = write_refused now next.core a why is refuses other new long next (asked_at now next.core a why is refuses other next refl order phase held)
+
+-- ---- a view
+by_view : (a b c d : Bool) → a ≡ true → b ≡ true → c ≡ true → first_cause ((not a, Range) ∷ (not b, Closed) ∷ (not c, NotHeld) ∷ (d, NoRoom) ∷ []) ≡ (if d then Some NoRoom else None)
+by_view true true true d x y z = refl
+by_view true true false d x y z = absurd (false≢true z)
+by_view true false c d x y z = absurd (false≢true y)
+by_view false b c d x y z = absurd (false≢true x)
+
+module _ (now next : Moment) (m p : ℕ) (opened : is_opened now.core m ≡ true) (own : p / CELLS ≡ m) (used : now.core.used p ≡ true) where
+  view_cause : (b : Bool) → has_no_room now.core m p ≡ b → refusal now (Mutator m (View p)) ≡ (if b then Some NoRoom else None)
+  view_cause b e = by_view (nat_lt m now.core.mutators) (is_opened now.core m) (uses now.core m p) (has_no_room now.core m p) (opened_inside now.core m opened) opened (uses_own now.core m p own used)
+      ∙ ap (λ x. if x then Some NoRoom else None) e
+
+  pub view_made : has_no_room now.core m p ≡ false → next ≡ with_core now (dereferenced now.core m p) → next ≡ effect now (Mutator m (View p))
+  view_made room to =
+      let c : Command = Mutator m (View p) in
+      to ∙ ap (λ o. unless o (refused_effect now c) (turn_effect now c)) (sym (view_cause false room))
+
+  pub refused_view : (why : Refusal) → RefusesView now.core m p why next.core → why ≢ Memory → next.order ≡ now.order → next.phase ≡ now.phase → next.held ≡ now.held → next ≡ effect now (Mutator m (View p))
+  refused_view why refuses other order phase held =
+      let c : Command = Mutator m (View p) in
+      let wants = only_room now.core m p why next.core refuses other in
+      moment_joined now next (sought now.core m p) wants.1 (order ∙ sym (same_order now (sought now.core m p) (sought_current now.core m p))) phase held
+      ∙ ap (λ o. unless o (refused_effect now c) (turn_effect now c)) (sym (view_cause true wants.2))

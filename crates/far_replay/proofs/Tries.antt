@@ -18,12 +18,13 @@ use Rattle.far_replay.specs.Answers.{Commanded}
 use Rattle.far_text.specs.Command.{Mutator, Try}
 use Rattle.far_replay.specs.Effects.{is_slow, with_view}
 use Rattle.far_replay.specs.Headline.{IsHotAfter}
-use Rattle.far_replay.specs.Moment.{Moment, moment_of}
+use Rattle.far_replay.specs.Moment.{Moment, with_core}
 use Rattle.far_replay.specs.Objects.{uses}
 use Rattle.far_replay.specs.Reply.{Reply, Done, Refused}
 use Rattle.far_replay.specs.Turn.{first_cause, unless, refused_effect, turn_effect}
 use Rattle.far_replay.proofs.Drops.{viewed_is}
 use Rattle.far_replay.proofs.Views.{pin_read}
+use Rattle.far_replay.proofs.WithCore.{same_core}
 
 -- of an object that its mutator uses in its open scope, the refusal hangs on the pin alone
 by_pin : (a b c d : Bool) (word : ℕ) → a ≡ true → b ≡ true → c ≡ true →
@@ -34,17 +35,18 @@ by_pin true false c d word x y z = absurd (false≢true y)
 by_pin false b c d word x y z = absurd (false≢true x)
 
 -- what a try answers, and where it leads, by whether the pin gives a view
-answered : (s : State) (m p : ℕ) (r : Reply) (after : Moment) (b : Bool) → m < s.mutators → is_opened s m ≡ true → uses s m p ≡ true → is_slow s p ≡ b → Commanded (moment_of s) (Mutator m (Try p)) r after →
-    (r ≡ cond b (Refused (Marked (s.cell p))) Done) × (after ≡ moment_of (with_view s p))
-answered s m p r after b within opened ours is h =
+answered : (now : Moment) (m p : ℕ) (r : Reply) (after : Moment) (b : Bool) → m < now.core.mutators → is_opened now.core m ≡ true → uses now.core m p ≡ true → is_slow now.core p ≡ b → Commanded now (Mutator m (Try p)) r after →
+    (r ≡ cond b (Refused (Marked (now.core.cell p))) Done) × (after ≡ with_core now (with_view now.core p))
+answered now m p r after b within opened ours is h =
+    let s : State = now.core in
     let o = by_pin (nat_lt m s.mutators) (is_opened s m) (uses s m p) (is_slow s p) (s.cell p) (lt-ltb m s.mutators within) opened ours in
     let found = o ∙ ap (λ x. cond x (Some (Marked (s.cell p))) None) is in
-    (h.reply ∙ ap (λ x. unless x Refused Done) found ∙ told b, h.moment ∙ ap (λ x. unless x (refused_effect (moment_of s) (Mutator m (Try p))) (turn_effect (moment_of s) (Mutator m (Try p)))) found ∙ led b) where
-      told : (b : Bool) → unless (cond b (Some (Marked (s.cell p))) None) Refused Done ≡ cond b (Refused (Marked (s.cell p))) Done
+    (h.reply ∙ ap (λ x. unless x Refused Done) found ∙ told b, h.moment ∙ ap (λ x. unless x (refused_effect now (Mutator m (Try p))) (turn_effect now (Mutator m (Try p)))) found ∙ led b) where
+      told : (b : Bool) → unless (cond b (Some (Marked (now.core.cell p))) None) Refused Done ≡ cond b (Refused (Marked (now.core.cell p))) Done
       told true = refl
       told false = refl
 
-      led : (b : Bool) → unless (cond b (Some (Marked (s.cell p))) None) (refused_effect (moment_of s) (Mutator m (Try p))) (turn_effect (moment_of s) (Mutator m (Try p))) ≡ moment_of (with_view s p)
+      led : (b : Bool) → unless (cond b (Some (Marked (now.core.cell p))) None) (refused_effect now (Mutator m (Try p))) (turn_effect now (Mutator m (Try p))) ≡ with_core now (with_view now.core p)
       led true = refl
       led false = refl
 
@@ -83,15 +85,15 @@ tries_answered now m p r after law within opened ours h =
     let o : Option PtrWord = read_of (s.cell p) in (
       (λ viewed.
           let e = viewed_is s p true viewed in
-          let x = answered s m p r after false within opened ours (held_is_fast s p e) h in
-          (x.0, x.1 ∙ ap (λ b. moment_of (cond b s (after_pin s p))) e)),
+          let x = answered now m p r after false within opened ours (held_is_fast s p e) h in
+          (x.0, x.1 ∙ ap (λ b. with_core now (cond b s (after_pin s p))) e ∙ same_core now)),
       (λ free.
           let e = viewed_is s p false free in
-          let moved = (answered s m p r after (is_slow s p) within opened ours refl h).1 in (
+          let moved = (answered now m p r after (is_slow s p) within opened ours refl h).1 in (
             subst (λ (x : Moment). IsHotAfter s x.core p) (sym moved) (hot_after s m p law opened ours e),
             (
-              (λ len ds place marks is bare. (answered s m p r after false within opened ours (unheld_by s p true e (gives o len ds place marks is bare)) h).0),
-              (λ none. (answered s m p r after true within opened ours (unheld_by s p false e (gives_none o none)) h).0),
+              (λ len ds place marks is bare. (answered now m p r after false within opened ours (unheld_by s p true e (gives o len ds place marks is bare)) h).0),
+              (λ none. (answered now m p r after true within opened ours (unheld_by s p false e (gives_none o none)) h).0),
             ),
           )),
     )

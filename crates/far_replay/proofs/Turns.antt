@@ -31,10 +31,10 @@ use Rattle.far_core.proofs.Owing.{is_test}
 use Rattle.far_core.proofs.RoomLaws.{room_right}
 use Rattle.far_core.proofs.Put.{put_same, put_old}
 use Rattle.far_replay.specs.Moment.{Moment, moment_of}
-use Rattle.far_text.specs.Command.{Command, New, Open, Write, Read, Close, Where, Drop, View, Try, Epoch, Mutator, Book}
+use Rattle.far_text.specs.Command.{Command, New, Open, Write, Read, Close, Where, Drop, View, Try, Epoch, Mutator, Book, Evacuator}
 use Rattle.far_replay.specs.EventRows.{after_events, AllSucceed}
 use Rattle.far_replay.specs.Between.{Between}
-use Rattle.far_replay.specs.Events.{new_events, zero_puts, open_events, view_events, sought_events, dereference_events, first_word, words_touched, load_events, starts_inside, ends_inside, part_events, store_events, drop_events, turn_events, refused_events, events_for}
+use Rattle.far_replay.specs.Events.{new_events, zero_puts, open_events, view_events, sought_events, dereference_events, first_word, words_touched, load_events, starts_inside, ends_inside, part_events, store_events, drop_events, turn_events, refused_events, events_for, IsTold}
 use Rattle.far_replay.specs.Objects.{uses, object_len, data_of, with_range, lowest_cell, is_range}
 use Rattle.far_replay.specs.Dereference.{comes_to, dereferenced, has_no_room, sought}
 use Rattle.far_replay.specs.Effects.{near_word}
@@ -296,7 +296,7 @@ pub record NewParts (s : State) (m len ds p : ℕ) (place : Place) : Type 0 wher
   pub room : NewRoom s (size_of len) place
   pub lies : IsPtr (Near len ds place clean)
 
-new_parts : (s : State) (m len ds p : ℕ) (place : Place) → Law s → refusal (moment_of s) (Mutator m (New len ds)) ≡ None → lowest_cell s m ≡ Some p → room s (size_of len) true ≡ Some place → NewParts s m len ds p place
+pub new_parts : (s : State) (m len ds p : ℕ) (place : Place) → Law s → refusal (moment_of s) (Mutator m (New len ds)) ≡ None → lowest_cell s m ≡ Some p → room s (size_of len) true ≡ Some place → NewParts s m len ds p place
 new_parts s m len ds p place law e cell found =
     let tests = new_tests s m len ds e in
     let sizes = new_sizes m s.mutators len ds tests.0 tests.1 in
@@ -455,37 +455,38 @@ view_turned s m p law between opened ours =
     turned_by s (with_view s p) (view_events s m p) law (view_leads s m p law opened ours) (view_between s p (and_parts (nat_eq (p / CELLS) m) (s.used p) ours).1 between)
 
 -- a command that isn't refused
-command_turned : (s : State) (c : Command) → Law s → Between s → WritesBytes c → refusal (moment_of s) c ≡ None →
-    Turned s (turn_events (moment_of s) c) (turn_effect (moment_of s) c).core
-command_turned s (Mutator m (New len ds)) law between small e = new_turned s m len ds law between e
-command_turned s (Mutator m Open) law between small e =
-    let h = two (nat_lt m s.mutators) (is_opened s m) Range AlreadyOpen e in
-    open_turned s m law between (scope_is_shut s m h.0 h.1)
-command_turned s (Mutator m Epoch) law between small e =
-    let h = two (nat_lt m s.mutators) (is_opened s m) Range AlreadyOpen e in
-    read_turned s m law between (scope_is_shut s m h.0 h.1)
-command_turned s (Mutator m (Write p from bytes)) law between small e =
-    let access = access_fact s m p from (length bytes) e in
-    let after = (led s m p from (length bytes) law access).between between in
-    turned_by s (with_data (dereferenced s m p) p from bytes) (turn_events (moment_of s) (Mutator m (Write p from bytes))) law (write_leads s m p from bytes law access small) record { named = after.named }
-command_turned s (Mutator m (Read p from len)) law between small e =
-    let access = access_fact s m p from len e in
-    turned_by s (dereferenced s m p) (turn_events (moment_of s) (Mutator m (Read p from len))) law (read_leads s m p from len law access) ((led s m p from len law access).between between)
-command_turned s (Mutator m Close) law between small e = close_turned s m law between (two_open (nat_lt m s.mutators) (is_opened s m) e) where
+command_turned : (now : Moment) (c : Command) → IsTold c → Law now.core → Between now.core → WritesBytes c → refusal now c ≡ None →
+    Turned now.core (turn_events now c) (turn_effect now c).core
+command_turned now (Mutator m (New len ds)) told law between small e = new_turned now.core m len ds law between e
+command_turned now (Mutator m Open) told law between small e =
+    let h = two (nat_lt m now.core.mutators) (is_opened now.core m) Range AlreadyOpen e in
+    open_turned now.core m law between (scope_is_shut now.core m h.0 h.1)
+command_turned now (Mutator m Epoch) told law between small e =
+    let h = two (nat_lt m now.core.mutators) (is_opened now.core m) Range AlreadyOpen e in
+    read_turned now.core m law between (scope_is_shut now.core m h.0 h.1)
+command_turned now (Mutator m (Write p from bytes)) told law between small e =
+    let access = access_fact now.core m p from (length bytes) e in
+    let after = (led now.core m p from (length bytes) law access).between between in
+    turned_by now.core (with_data (dereferenced now.core m p) p from bytes) (turn_events now (Mutator m (Write p from bytes))) law (write_leads now.core m p from bytes law access small) record { named = after.named }
+command_turned now (Mutator m (Read p from len)) told law between small e =
+    let access = access_fact now.core m p from len e in
+    turned_by now.core (dereferenced now.core m p) (turn_events now (Mutator m (Read p from len))) law (read_leads now.core m p from len law access) ((led now.core m p from len law access).between between)
+command_turned now (Mutator m Close) told law between small e = close_turned now.core m law between (two_open (nat_lt m now.core.mutators) (is_opened now.core m) e) where
   two_open : (a b : Bool) → first_cause ((not a, Range) ∷ (not b, Closed) ∷ []) ≡ None → b ≡ true
   two_open true true f = refl
   two_open true false f = absurd cc
   two_open false b f = absurd cc
-command_turned s (Mutator m (Where p)) law between small e = none_turned s law between
-command_turned s (Mutator m (Drop p)) law between small e = drop_turned s m p law between (three (nat_lt m s.mutators) (uses s m p) (is_some (s.held p)) Range NotHeld Held e)
-command_turned s (Mutator m (View p)) law between small e =
-    let h = tried (nat_lt m s.mutators) (is_opened s m) (uses s m p) (has_no_room s m p) Range Closed NotHeld NoRoom e in
-    let all = derefs s m p law h.1 h.2 h.3 in
-    turned_by s (dereferenced s m p) (dereference_events s m p) law all.leads (all.between between)
-command_turned s (Mutator m (Try p)) law between small e =
-    let h = tried (nat_lt m s.mutators) (is_opened s m) (uses s m p) (is_slow s p) Range Closed NotHeld (Marked (s.cell p)) e in
-    view_turned s m p law between h.1 h.2
-command_turned s (Book inquiry) law between small e = none_turned s law between
+command_turned now (Mutator m (Where p)) told law between small e = none_turned now.core law between
+command_turned now (Mutator m (Drop p)) told law between small e = drop_turned now.core m p law between (three (nat_lt m now.core.mutators) (uses now.core m p) (is_some (now.core.held p)) Range NotHeld Held e)
+command_turned now (Mutator m (View p)) told law between small e =
+    let h = tried (nat_lt m now.core.mutators) (is_opened now.core m) (uses now.core m p) (has_no_room now.core m p) Range Closed NotHeld NoRoom e in
+    let all = derefs now.core m p law h.1 h.2 h.3 in
+    turned_by now.core (dereferenced now.core m p) (dereference_events now.core m p) law all.leads (all.between between)
+command_turned now (Mutator m (Try p)) told law between small e =
+    let h = tried (nat_lt m now.core.mutators) (is_opened now.core m) (uses now.core m p) (is_slow now.core p) Range Closed NotHeld (Marked (now.core.cell p)) e in
+    view_turned now.core m p law between h.1 h.2
+command_turned now (Book inquiry) told law between small e = none_turned now.core law between
+command_turned now (Evacuator step) told law between small e = absurd told
 
 -- where an object finds no place, the pin and its owner's asking
 sought_turned : (s : State) (m p : ℕ) → Law s → Between s → is_opened s m ≡ true → uses s m p ≡ true → has_no_room s m p ≡ true → Turned s (sought_events s m p) (sought s m p)
@@ -494,44 +495,38 @@ sought_turned s m p law between opened ours full =
     turned_by s (sought s m p) (sought_events s m p) law (sought_leads s m p law opened ours slow) (sought_between s m p law opened ours slow between)
 
 -- a refused one: where a mark was found, the pin; where there was no place, the owner's asking too; else nothing
-refused_turned : (s : State) (c : Command) (why : Refusal) → Law s → Between s → refusal (moment_of s) c ≡ Some why →
-    Turned s (refused_events (moment_of s) c why) (refused_effect (moment_of s) c why).core
-refused_turned s (Mutator m (Write p from bytes)) NoRoom law between e =
-    let h = room_lacks (nat_lt m s.mutators) (is_opened s m) (uses s m p) (is_range (object_len s p) from (length bytes)) (has_no_room s m p) e in
-    sought_turned s m p law between h.1 h.2 h.3
-refused_turned s (Mutator m (Read p from len)) NoRoom law between e =
-    let h = room_lacks (nat_lt m s.mutators) (is_opened s m) (uses s m p) (is_range (object_len s p) from len) (has_no_room s m p) e in
-    sought_turned s m p law between h.1 h.2 h.3
-refused_turned s (Mutator m (View p)) NoRoom law between e =
-    let h = room_last (nat_lt m s.mutators) (is_opened s m) (uses s m p) (has_no_room s m p) e in
-    sought_turned s m p law between h.1 h.2 h.3
-refused_turned s (Mutator m (Try p)) (Marked word) law between e =
-    let h = marked_last (nat_lt m s.mutators) (is_opened s m) (uses s m p) (is_slow s p) (s.cell p) word e in
-    view_turned s m p law between h.1 h.2
-refused_turned s c why law between e = none_turned s law between
+refused_turned : (now : Moment) (c : Command) (why : Refusal) → IsTold c → Law now.core → Between now.core → refusal now c ≡ Some why →
+    Turned now.core (refused_events now c why) (refused_effect now c why).core
+refused_turned now (Mutator m (Write p from bytes)) NoRoom told law between e =
+    let h = room_lacks (nat_lt m now.core.mutators) (is_opened now.core m) (uses now.core m p) (is_range (object_len now.core p) from (length bytes)) (has_no_room now.core m p) e in
+    sought_turned now.core m p law between h.1 h.2 h.3
+refused_turned now (Mutator m (Read p from len)) NoRoom told law between e =
+    let h = room_lacks (nat_lt m now.core.mutators) (is_opened now.core m) (uses now.core m p) (is_range (object_len now.core p) from len) (has_no_room now.core m p) e in
+    sought_turned now.core m p law between h.1 h.2 h.3
+refused_turned now (Mutator m (View p)) NoRoom told law between e =
+    let h = room_last (nat_lt m now.core.mutators) (is_opened now.core m) (uses now.core m p) (has_no_room now.core m p) e in
+    sought_turned now.core m p law between h.1 h.2 h.3
+refused_turned now (Mutator m (Try p)) (Marked word) told law between e =
+    let h = marked_last (nat_lt m now.core.mutators) (is_opened now.core m) (uses now.core m p) (is_slow now.core p) (now.core.cell p) word e in
+    view_turned now.core m p law between h.1 h.2
+refused_turned now (Evacuator step) why told law between e = absurd told
+refused_turned now c why told law between e = none_turned now.core law between
 
 -- each command
-turn_at : (s : State) (c : Command) (o : Option Refusal) → refusal (moment_of s) c ≡ o → Law s → Between s → WritesBytes c →
-    Turned s (unless o (refused_events (moment_of s) c) (turn_events (moment_of s) c)) (unless o (refused_effect (moment_of s) c) (turn_effect (moment_of s) c)).core
-turn_at s c None e law between small = command_turned s c law between small e
-turn_at s c (Some why) e law between small = refused_turned s c why law between e
+turn_at : (now : Moment) (c : Command) (o : Option Refusal) → IsTold c → refusal now c ≡ o → Law now.core → Between now.core → WritesBytes c →
+    Turned now.core (unless o (refused_events now c) (turn_events now c)) (unless o (refused_effect now c) (turn_effect now c)).core
+turn_at now c None told e law between small = command_turned now c told law between small e
+turn_at now c (Some why) told e law between small = refused_turned now c why told law between e
 
 -- the events of a command lead to the moment after it
-pub turns : (s : State) (c : Command) → Law s → Between s → WritesBytes c → Turned s (events_for (moment_of s) c) (effect (moment_of s) c).core
-turns s c law between small = turn_at s c (refusal (moment_of s) c) refl law between small
+pub turns : (now : Moment) (c : Command) → IsTold c → Law now.core → Between now.core → WritesBytes c → Turned now.core (events_for now c) (effect now c).core
+turns now c told law between small = turn_at now c (refusal now c) told refl law between small
 
 -- what a command that isn't refused makes of the heap is what its events make
-pub made_by_events : (s t : State) (c : Command) → Law s → Between s → WritesBytes c → refusal (moment_of s) c ≡ None → t ≡ (turn_effect (moment_of s) c).core → t ≡ after_events s (events_for (moment_of s) c)
-made_by_events s t c law between small none is =
-    is ∙ sym (command_turned s c law between small none).ends ∙ ap (λ o. after_events s (unless o (refused_events (moment_of s) c) (turn_events (moment_of s) c))) (sym none)
+pub made_by_events : (now : Moment) (t : State) (c : Command) → IsTold c → Law now.core → Between now.core → WritesBytes c → refusal now c ≡ None → t ≡ (turn_effect now c).core → t ≡ after_events now.core (events_for now c)
+made_by_events now t c told law between small none is =
+    is ∙ sym (command_turned now c told law between small none).ends ∙ ap (λ o. after_events now.core (unless o (refused_events now c) (turn_events now c))) (sym none)
 
--- so it is of a call that may be refused
-pub effect_by_events : {A E : Type 0} (result : Result A E) (s t : State) (c : Command) → Law s → Between s → WritesBytes c → OnOk result (moment_of t ≡ effect (moment_of s) c) →
-    OnOk result (t ≡ after_events s (events_for (moment_of s) c))
-effect_by_events (Ok x) s t c law between small h = ap (λ (m : Moment). m.core) h ∙ sym (turns s c law between small).ends
-effect_by_events (Err e) s t c law between small h = tt
-
-pub events_make_effect : {A E : Type 0} (result : Result A E) (s t : State) (c : Command) → Law s → Between s → WritesBytes c → OnOk result (t ≡ after_events s (events_for (moment_of s) c)) →
-    OnOk result (moment_of t ≡ effect (moment_of s) c)
-events_make_effect (Ok x) s t c law between small h = ap moment_of (h ∙ (turns s c law between small).ends)
-events_make_effect (Err e) s t c law between small h = tt
+-- what its events make is what it makes of the core
+pub events_make : (now : Moment) (t : State) (c : Command) → IsTold c → Law now.core → Between now.core → WritesBytes c → t ≡ after_events now.core (events_for now c) → t ≡ (effect now c).core
+events_make now t c told law between small is = is ∙ (turns now c told law between small).ends

@@ -22,19 +22,20 @@ use Rattle.far_core.specs.state.State.{State}
 use Rattle.far_core.specs.events.Copies.{data_at}
 use Rattle.far_core.specs.events.Step.{is_opened, step_of, is_legal, after, answer, Fits}
 use Rattle.far_core.proofs.Leaving.{held_stays}
-use Rattle.far_replay.specs.Moment.{Moment, moment_of}
+use Rattle.far_replay.specs.Moment.{Moment}
 use Rattle.far_replay.specs.Answers.{Answered, Commanded, IsMoment}
-use Rattle.far_text.specs.Command.{Command, New, Open, Write, Read, Close, Where, Drop, View, Try, Epoch, Mutator, Book}
+use Rattle.far_text.specs.Command.{Command, New, Open, Write, Read, Close, Where, Drop, View, Try, Epoch, Mutator, Book, Evacuator, Step}
 use Rattle.far_text.specs.Written.{WritesBytes, AllWriteBytes}
-use Rattle.far_replay.specs.Headline.{LogsStay, StayThrough, ViewsObject, ViewsNothing, ViewsAfter}
+use Rattle.far_replay.specs.Headline.{LogsStay, StaysThrough, ViewsObject, ViewsNothing, ViewsAfter}
 use Rattle.far_replay.specs.EventRows.{after_events, AllSucceed, Succeeds}
 use Rattle.far_replay.specs.Reply.{Reply, Refused}
-use Rattle.far_replay.specs.Events.{turn_events, refused_events, zero_puts, new_events, open_events, view_events, asked_events, asked_events_of, sought_events, span_events, name_events, come_events, come_events_of, dereference_events, load_events, store_events, first_loads, last_loads, part_events, drop_events, first_word, words_touched, starts_inside, ends_inside}
+use Rattle.far_replay.specs.Events.{events_for, IsTold, turn_events, refused_events, zero_puts, new_events, open_events, view_events, asked_events, asked_events_of, sought_events, span_events, name_events, come_events, come_events_of, dereference_events, load_events, store_events, first_loads, last_loads, part_events, drop_events, first_word, words_touched, starts_inside, ends_inside}
 use Rattle.far_replay.specs.Objects.{lowest_cell, with_range, data_of, is_range, object_len, uses}
 use Rattle.far_replay.specs.Dereference.{come, comes_to, dereferenced, has_no_room, sought}
 use Rattle.far_replay.specs.Effects.{near_word, is_slow, with_view}
-use Rattle.far_replay.specs.Turn.{refusal, unless, turn_reply, reply_to}
+use Rattle.far_replay.specs.Turn.{effect, refusal, unless, turn_reply, reply_to}
 use Rattle.far_replay.proofs.Lasting.{Lasts, command_carried, moment_lasts, still_lasts}
+use Rattle.far_replay.proofs.RoundLeads.{reached_reaches, step_keeps, step_leads}
 use Rattle.far_replay.proofs.Turns.{access_fact, led, marked_last, read_leads, room_lacks, room_last, tried, turns, write_leads}
 use Rattle.far_replay.proofs.Dereferences.{derefs, sought_held, sought_leads, view_views}
 use Rattle.far_replay.proofs.Views.{fast_seen, view_is, slow_view}
@@ -94,29 +95,30 @@ close_views s m = cond_both (is_legal s (Closes m)) (after s (Closes m), answer 
     (λ _ ok. absurd ok)
 
 -- what the events of a command leave that isn't refused
-made_views : (s : State) (c : Command) → Law s → refusal (moment_of s) c ≡ None → WritesBytes c → AllSucceed s (turn_events (moment_of s) c) →
-    ViewsAfter (moment_of s) c (turn_reply (moment_of s) c) (moment_of (after_events s (turn_events (moment_of s) c)))
-made_views s (Mutator m (New len ds)) law e small ok = row_stays s (turn_events (moment_of s) (Mutator m (New len ds))) (news m len ds (lowest_cell s m) (room s (size_of len) true))
-made_views s (Mutator m Open) law e small ok = row_stays s (open_events s m) (opens s m)
-made_views s (Mutator m (Write p from bytes)) law e small ok =
-    let access = access_fact s m p from (length bytes) e in
-    let views = (led s m p from (length bytes) law access).views in
-    subst (λ (t : State). ViewsObject s t p) (sym (write_leads s m p from bytes law access small).ends) record { viewed = views.viewed; kept = views.kept; others = views.others }
-made_views s (Mutator m (Read p from len)) law e small ok =
-    let access = access_fact s m p from len e in
-    subst (λ (t : State). ViewsObject s t p) (sym (read_leads s m p from len law access).ends) (led s m p from len law access).views
-made_views s (Mutator m Close) law e small ok = close_views s m ok.0
-made_views s (Mutator m (Where p)) law e small ok = refl
-made_views s (Mutator m (Drop p)) law e small ok = row_stays s (drop_events s m p) (drop_leaves_views s m p)
-made_views s (Mutator m (View p)) law e small ok =
-    let h = tried (nat_lt m s.mutators) (is_opened s m) (uses s m p) (has_no_room s m p) Range Closed NotHeld NoRoom e in
-    let all = derefs s m p law h.1 h.2 h.3 in
-    subst (λ (t : State). ViewsObject s t p) (sym all.leads.ends) all.views
-made_views s (Mutator m (Try p)) law e small ok =
-    let h = tried (nat_lt m s.mutators) (is_opened s m) (uses s m p) (is_slow s p) Range Closed NotHeld (Marked (s.cell p)) e in
-    subst (λ (t : State). ViewsObject s t p) (sym (view_is s m p law h.1 h.2)) (view_views s m p law h.1 h.2 (fast_seen s p h.3))
-made_views s (Mutator m Epoch) law e small ok = row_stays s (ReadsEpoch m ∷ []) (reads m)
-made_views s (Book inquiry) law e small ok = refl
+made_views : (now : Moment) (c : Command) → IsTold c → Law now.core → refusal now c ≡ None → WritesBytes c → AllSucceed now.core (turn_events now c) →
+    ViewsAfter now.core c (turn_reply now c) (after_events now.core (turn_events now c))
+made_views now (Mutator m (New len ds)) told law e small ok = row_stays now.core (turn_events now (Mutator m (New len ds))) (news m len ds (lowest_cell now.core m) (room now.core (size_of len) true))
+made_views now (Mutator m Open) told law e small ok = row_stays now.core (open_events now.core m) (opens now.core m)
+made_views now (Mutator m (Write p from bytes)) told law e small ok =
+    let access = access_fact now.core m p from (length bytes) e in
+    let views = (led now.core m p from (length bytes) law access).views in
+    subst (λ (t : State). ViewsObject now.core t p) (sym (write_leads now.core m p from bytes law access small).ends) record { viewed = views.viewed; kept = views.kept; others = views.others }
+made_views now (Mutator m (Read p from len)) told law e small ok =
+    let access = access_fact now.core m p from len e in
+    subst (λ (t : State). ViewsObject now.core t p) (sym (read_leads now.core m p from len law access).ends) (led now.core m p from len law access).views
+made_views now (Mutator m Close) told law e small ok = close_views now.core m ok.0
+made_views now (Mutator m (Where p)) told law e small ok = refl
+made_views now (Mutator m (Drop p)) told law e small ok = row_stays now.core (drop_events now.core m p) (drop_leaves_views now.core m p)
+made_views now (Mutator m (View p)) told law e small ok =
+    let h = tried (nat_lt m now.core.mutators) (is_opened now.core m) (uses now.core m p) (has_no_room now.core m p) Range Closed NotHeld NoRoom e in
+    let all = derefs now.core m p law h.1 h.2 h.3 in
+    subst (λ (t : State). ViewsObject now.core t p) (sym all.leads.ends) all.views
+made_views now (Mutator m (Try p)) told law e small ok =
+    let h = tried (nat_lt m now.core.mutators) (is_opened now.core m) (uses now.core m p) (is_slow now.core p) Range Closed NotHeld (Marked (now.core.cell p)) e in
+    subst (λ (t : State). ViewsObject now.core t p) (sym (view_is now.core m p law h.1 h.2)) (view_views now.core m p law h.1 h.2 (fast_seen now.core p h.3))
+made_views now (Mutator m Epoch) told law e small ok = row_stays now.core (ReadsEpoch m ∷ []) (reads m)
+made_views now (Book inquiry) told law e small ok = refl
+made_views now (Evacuator step) told law e small ok = absurd told
 
 -- the pin that found a mark leaves the views
 slow_stays : (s : State) (m p : ℕ) → Law s → is_opened s m ≡ true → uses s m p ≡ true → is_slow s p ≡ true → (after_events s (view_events s m p)).held ≡ s.held
@@ -129,42 +131,50 @@ asked_stays s m p law opened ours full =
     ap (λ (t : State). t.held) (sought_leads s m p law opened ours slow).ends ∙ sought_held s m p law opened ours slow
 
 -- what a refusal leaves
-refused_views : (s : State) (c : Command) (why : Refusal) → Law s → refusal (moment_of s) c ≡ Some why →
-    ViewsAfter (moment_of s) c (Refused why) (moment_of (after_events s (refused_events (moment_of s) c why)))
-refused_views s (Mutator m (New len ds)) why law e = refl
-refused_views s (Mutator m Open) why law e = refl
-refused_views s (Mutator m (Write p from bytes)) NoRoom law e =
-    let h = room_lacks (nat_lt m s.mutators) (is_opened s m) (uses s m p) (is_range (object_len s p) from (length bytes)) (has_no_room s m p) e in
-    asked_stays s m p law h.1 h.2 h.3
-refused_views s (Mutator m (Write p from bytes)) why law e = refl
-refused_views s (Mutator m (Read p from len)) NoRoom law e =
-    let h = room_lacks (nat_lt m s.mutators) (is_opened s m) (uses s m p) (is_range (object_len s p) from len) (has_no_room s m p) e in
-    asked_stays s m p law h.1 h.2 h.3
-refused_views s (Mutator m (Read p from len)) why law e = refl
-refused_views s (Mutator m Close) why law e = refl
-refused_views s (Mutator m (Where p)) why law e = refl
-refused_views s (Mutator m (Drop p)) why law e = refl
-refused_views s (Mutator m (View p)) NoRoom law e =
-    let h = room_last (nat_lt m s.mutators) (is_opened s m) (uses s m p) (has_no_room s m p) e in
-    asked_stays s m p law h.1 h.2 h.3
-refused_views s (Mutator m (View p)) why law e = refl
-refused_views s (Mutator m (Try p)) (Marked word) law e =
-    let h = marked_last (nat_lt m s.mutators) (is_opened s m) (uses s m p) (is_slow s p) (s.cell p) word e in
-    slow_stays s m p law h.1 h.2 h.3
-refused_views s (Mutator m (Try p)) why law e = refl
-refused_views s (Mutator m Epoch) why law e = refl
-refused_views s (Book inquiry) why law e = refl
+refused_views : (now : Moment) (c : Command) (why : Refusal) → Law now.core → refusal now c ≡ Some why →
+    ViewsAfter now.core c (Refused why) (after_events now.core (refused_events now c why))
+refused_views now (Mutator m (New len ds)) why law e = refl
+refused_views now (Mutator m Open) why law e = refl
+refused_views now (Mutator m (Write p from bytes)) NoRoom law e =
+    let h = room_lacks (nat_lt m now.core.mutators) (is_opened now.core m) (uses now.core m p) (is_range (object_len now.core p) from (length bytes)) (has_no_room now.core m p) e in
+    asked_stays now.core m p law h.1 h.2 h.3
+refused_views now (Mutator m (Write p from bytes)) why law e = refl
+refused_views now (Mutator m (Read p from len)) NoRoom law e =
+    let h = room_lacks (nat_lt m now.core.mutators) (is_opened now.core m) (uses now.core m p) (is_range (object_len now.core p) from len) (has_no_room now.core m p) e in
+    asked_stays now.core m p law h.1 h.2 h.3
+refused_views now (Mutator m (Read p from len)) why law e = refl
+refused_views now (Mutator m Close) why law e = refl
+refused_views now (Mutator m (Where p)) why law e = refl
+refused_views now (Mutator m (Drop p)) why law e = refl
+refused_views now (Mutator m (View p)) NoRoom law e =
+    let h = room_last (nat_lt m now.core.mutators) (is_opened now.core m) (uses now.core m p) (has_no_room now.core m p) e in
+    asked_stays now.core m p law h.1 h.2 h.3
+refused_views now (Mutator m (View p)) why law e = refl
+refused_views now (Mutator m (Try p)) (Marked word) law e =
+    let h = marked_last (nat_lt m now.core.mutators) (is_opened now.core m) (uses now.core m p) (is_slow now.core p) (now.core.cell p) word e in
+    slow_stays now.core m p law h.1 h.2 h.3
+refused_views now (Mutator m (Try p)) why law e = refl
+refused_views now (Mutator m Epoch) why law e = refl
+refused_views now (Book inquiry) why law e = refl
+refused_views now (Evacuator step) why law e = refl
 
-views_after : (s : State) (c : Command) (o : Option Refusal) → Law s → refusal (moment_of s) c ≡ o → WritesBytes c → AllSucceed s (unless o (refused_events (moment_of s) c) (turn_events (moment_of s) c)) →
-    ViewsAfter (moment_of s) c (unless o Refused (turn_reply (moment_of s) c)) (moment_of (after_events s (unless o (refused_events (moment_of s) c) (turn_events (moment_of s) c))))
-views_after s c None law e small ok = made_views s c law e small ok
-views_after s c (Some why) law e small ok = refused_views s c why law e
+views_after : (now : Moment) (c : Command) (o : Option Refusal) → IsTold c → Law now.core → refusal now c ≡ o → WritesBytes c → AllSucceed now.core (unless o (refused_events now c) (turn_events now c)) →
+    ViewsAfter now.core c (unless o Refused (turn_reply now c)) (after_events now.core (unless o (refused_events now c) (turn_events now c)))
+views_after now c None told law e small ok = made_views now c told law e small ok
+views_after now c (Some why) told law e small ok = refused_views now c why law e
 
-pub views_last : (now : Moment) (c : Command) (r : Reply) (next : Moment) → IsMoment now → WritesBytes c → Commanded now c r next → ViewsAfter now c r next
-views_last now c r next is later h =
-    let x = command_carried now c r next (moment_lasts now is) later h in
-    subst (λ y. ViewsAfter now c y next) (sym x.reply)
-    (subst (λ (t : State). ViewsAfter now c (reply_to now c) (moment_of t)) (sym x.state) (views_after now.core c (refusal now c) (moment_lasts now is).law refl later x.made))
+told_views : (now : Moment) (c : Command) (r : Reply) (next : Moment) → IsTold c → Lasts now → WritesBytes c → Commanded now c r next → ViewsAfter now.core c r next.core
+told_views now c r next told lasts later h =
+    let x = command_carried now c r next told lasts later h in
+    subst (λ y. ViewsAfter now.core c y next.core) (sym x.reply)
+    (subst (λ (t : State). ViewsAfter now.core c (reply_to now c) t) (sym x.state) (views_after now c (refusal now c) told lasts.law refl later x.made))
+
+pub views_last : (now : Moment) (c : Command) (r : Reply) (next : Moment) → IsMoment now → WritesBytes c → Commanded now c r next → ViewsAfter now.core c r next.core
+views_last now (Mutator m request) r next is later h = told_views now (Mutator m request) r next tt (moment_lasts now is) later h
+views_last now (Book inquiry) r next is later h = told_views now (Book inquiry) r next tt (moment_lasts now is) later h
+views_last now (Evacuator step) r next is later h =
+    let lasts = moment_lasts now is in
+    ap (λ (x : Moment). x.core.held) h.moment ∙ (step_keeps now step lasts.law lasts.round).held
 
 -- ---- the logs in which views rest stay
 -- a close is the last event of its command
@@ -206,41 +216,57 @@ deref_no_close s m p =
     (Each-append NoClose (sought_events s m p) came (sought_no_close s m p) (come_no_close (sought s m p) p (comes_to (sought s m p) p) (read_of ((sought s m p).cell p)))) (view_no_close (come (sought s m p) p) m p))
     (λ _. view_no_close s m p)
 
-closes_last : (s : State) (c : Command) → ClosesLast (turn_events (moment_of s) c)
-closes_last s (Mutator m (New len ds)) = none_closes (turn_events (moment_of s) (Mutator m (New len ds))) (no_close (turn_events (moment_of s) (Mutator m (New len ds))) (news m len ds (lowest_cell s m) (room s (size_of len) true)))
-closes_last s (Mutator m Open) = none_closes (open_events s m) (no_close (open_events s m) (opens s m))
-closes_last s (Mutator m (Write p from bytes)) =
-    let new : List ℕ = with_range (data_of (dereferenced s m p) p) from bytes in
+closes_last : (now : Moment) (c : Command) → ClosesLast (turn_events now c)
+closes_last now (Mutator m (New len ds)) = none_closes (turn_events now (Mutator m (New len ds))) (no_close (turn_events now (Mutator m (New len ds))) (news m len ds (lowest_cell now.core m) (room now.core (size_of len) true)))
+closes_last now (Mutator m Open) = none_closes (open_events now.core m) (no_close (open_events now.core m) (opens now.core m))
+closes_last now (Mutator m (Write p from bytes)) =
+    let new : List ℕ = with_range (data_of (dereferenced now.core m p) p) from bytes in
     let part : List Event = part_events m p from (length bytes) in
     let stored : List Event = store_events m p (first_word from) (words_touched from (length bytes)) new in
-    none_closes (dereference_events s m p ++ part ++ stored) (Each-append NoClose (dereference_events s m p ++ part) stored
-    (Each-append NoClose (dereference_events s m p) part (deref_no_close s m p) (no_close part (parts m p from (length bytes)))) (no_close stored (stores m p (first_word from) (words_touched from (length bytes)) new)))
-closes_last s (Mutator m (Read p from len)) =
+    none_closes (dereference_events now.core m p ++ part ++ stored) (Each-append NoClose (dereference_events now.core m p ++ part) stored
+    (Each-append NoClose (dereference_events now.core m p) part (deref_no_close now.core m p) (no_close part (parts m p from (length bytes)))) (no_close stored (stores m p (first_word from) (words_touched from (length bytes)) new)))
+closes_last now (Mutator m (Read p from len)) =
     let loaded : List Event = load_events m p (first_word from) (words_touched from len) in
-    none_closes (dereference_events s m p ++ loaded) (Each-append NoClose (dereference_events s m p) loaded (deref_no_close s m p) (no_close loaded (loads m p (first_word from) (words_touched from len))))
-closes_last s (Mutator m Close) = tt
-closes_last s (Mutator m (Where p)) = tt
-closes_last s (Mutator m (Drop p)) = none_closes (drop_events s m p) (no_close (drop_events s m p) (drop_leaves_views s m p))
-closes_last s (Mutator m (View p)) = none_closes (dereference_events s m p) (deref_no_close s m p)
-closes_last s (Mutator m (Try p)) = none_closes (view_events s m p) (view_no_close s m p)
-closes_last s (Mutator m Epoch) = tt
-closes_last s (Book inquiry) = tt
+    none_closes (dereference_events now.core m p ++ loaded) (Each-append NoClose (dereference_events now.core m p) loaded (deref_no_close now.core m p) (no_close loaded (loads m p (first_word from) (words_touched from len))))
+closes_last now (Mutator m Close) = tt
+closes_last now (Mutator m (Where p)) = tt
+closes_last now (Mutator m (Drop p)) = none_closes (drop_events now.core m p) (no_close (drop_events now.core m p) (drop_leaves_views now.core m p))
+closes_last now (Mutator m (View p)) = none_closes (dereference_events now.core m p) (deref_no_close now.core m p)
+closes_last now (Mutator m (Try p)) = none_closes (view_events now.core m p) (view_no_close now.core m p)
+closes_last now (Mutator m Epoch) = tt
+closes_last now (Book inquiry) = tt
+closes_last now (Evacuator step) = tt
 
-refused_closes_last : (s : State) (c : Command) (why : Refusal) → ClosesLast (refused_events (moment_of s) c why)
-refused_closes_last s (Mutator m (Write p from bytes)) NoRoom = none_closes (sought_events s m p) (sought_no_close s m p)
-refused_closes_last s (Mutator m (Read p from len)) NoRoom = none_closes (sought_events s m p) (sought_no_close s m p)
-refused_closes_last s (Mutator m (View p)) NoRoom = none_closes (sought_events s m p) (sought_no_close s m p)
-refused_closes_last s (Mutator m (Try p)) (Marked word) = none_closes (view_events s m p) (view_no_close s m p)
-refused_closes_last s c why = tt
+refused_closes_last : (now : Moment) (c : Command) (why : Refusal) → ClosesLast (refused_events now c why)
+refused_closes_last now (Mutator m (Write p from bytes)) NoRoom = none_closes (sought_events now.core m p) (sought_no_close now.core m p)
+refused_closes_last now (Mutator m (Read p from len)) NoRoom = none_closes (sought_events now.core m p) (sought_no_close now.core m p)
+refused_closes_last now (Mutator m (View p)) NoRoom = none_closes (sought_events now.core m p) (sought_no_close now.core m p)
+refused_closes_last now (Mutator m (Try p)) (Marked word) = none_closes (view_events now.core m p) (view_no_close now.core m p)
+refused_closes_last now c why = tt
 
-command_closes_last : (s : State) (c : Command) (o : Option Refusal) → ClosesLast (unless o (refused_events (moment_of s) c) (turn_events (moment_of s) c))
-command_closes_last s c None = closes_last s c
-command_closes_last s c (Some why) = refused_closes_last s c why
+command_closes_last : (now : Moment) (c : Command) (o : Option Refusal) → ClosesLast (unless o (refused_events now c) (turn_events now c))
+command_closes_last now c None = closes_last now c
+command_closes_last now c (Some why) = refused_closes_last now c why
 
-stay_through : (now : Moment) (c : Command) → Lasts now → WritesBytes c → StayThrough now c
-stay_through now c lasts later es mid rest front p place =
-    fronts_stay now.core es mid rest lasts.law (subst (Each Fits) (sym front) (turns now.core c lasts.law lasts.between later).fit)
-    (subst ClosesLast (sym front) (command_closes_last now.core c (refusal now c))) p place
+told_stay : (now : Moment) (c : Command) (r : Reply) (next : Moment) → IsTold c → Lasts now → WritesBytes c → Commanded now c r next → StaysThrough now c next
+told_stay now c r next told lasts later h = record {
+  events = events_for now c;
+  told = λ _. refl;
+  of_book = λ no. absurd (no told);
+  ends = (command_carried now c r next told lasts later h).state;
+  stay = λ es mid rest front p place. fronts_stay now.core es mid rest lasts.law (subst (Each Fits) (sym front) (turns now c told lasts.law lasts.between later).fit)
+      (subst ClosesLast (sym front) (command_closes_last now c (refusal now c))) p place;
+}
+
+step_stay : (now : Moment) (step : Step) (r : Reply) (next : Moment) → Lasts now → Commanded now (Evacuator step) r next → StaysThrough now (Evacuator step) next
+step_stay now step r next lasts h =
+    let x = reached_reaches now.core (effect now (Evacuator step)).core lasts.law (step_leads now step lasts.law lasts.round).reached in
+    record { events = x.events; told = λ told. absurd told; of_book = λ _. x.of_book; ends = ap (λ (m : Moment). m.core) h.moment ∙ x.ends; stay = x.stay }
+
+stay_through : (now : Moment) (c : Command) (r : Reply) (next : Moment) → Lasts now → WritesBytes c → Commanded now c r next → StaysThrough now c next
+stay_through now (Mutator m request) r next lasts later h = told_stay now (Mutator m request) r next tt lasts later h
+stay_through now (Book inquiry) r next lasts later h = told_stay now (Book inquiry) r next tt lasts later h
+stay_through now (Evacuator step) r next lasts later h = step_stay now step r next lasts h
 
 -- the logs in which views rest stay through each command
 stay_all : (now : Moment) (cs : List Command) (rs : List Reply) (moments : List Moment) → Lasts now → AllWriteBytes cs → Answered now cs rs moments → LogsStay now cs moments
@@ -250,7 +276,7 @@ stay_all now [] (r ∷ rs) ms lasts later h = absurd h
 stay_all now (c ∷ cs) [] ms lasts later h = absurd h
 stay_all now (c ∷ cs) (r ∷ rs) [] lasts later h = absurd h
 stay_all now (c ∷ cs) (r ∷ rs) (next ∷ ms) lasts later h =
-    (stay_through now c lasts later.0, stay_all next cs rs ms (still_lasts now c r next lasts later.0 h.0) later.1 h.1)
+    (stay_through now c r next lasts later.0 h.0, stay_all next cs rs ms (still_lasts now c r next lasts later.0 h.0) later.1 h.1)
 
 pub logs_stay : (now : Moment) (cs : List Command) (rs : List Reply) (moments : List Moment) → IsMoment now → AllWriteBytes cs → Answered now cs rs moments → LogsStay now cs moments
 logs_stay now cs rs moments is later h = stay_all now cs rs moments (moment_lasts now is) later h

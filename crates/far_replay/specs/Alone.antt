@@ -8,7 +8,7 @@ use Rattle.far_core.specs.world.World.{World, Object}
 use Rattle.far_core.specs.world.WorldOf.{world_of}
 use Rattle.far_book.specs.declared.home.Home.{Home}
 use Rattle.far_book.specs.declared.home.Home.TheVariants.{Near, Far}
-use Rattle.far_text.specs.Command.{Command, New, Open, Write, Read, Close, Where, Drop, View, Try, Epoch, Mutator, Book}
+use Rattle.far_text.specs.Command.{Command, New, Open, Write, Read, Close, Where, Drop, View, Try, Epoch, Mutator, Book, Evacuator}
 use Rattle.far_replay.specs.Reply.{Reply, Done, Pointer, Data, Lies, EpochRead, Refused}
 use Rattle.far_replay.specs.Objects.{with_range}
 
@@ -77,10 +77,11 @@ Knows m o (Mutator _ Epoch) (EpochRead epoch) q = (o.opened ≡ false) × (q ≡
 Knows m o (Mutator _ Epoch) (Refused AlreadyOpen) q = (o.opened ≡ true) × (q ≡ o)
 Knows m o _ _ q = ⊥
 
--- whose command it is, none's for the logs
+-- whose command it is, none's for an inquiry and for a step of the evacuator
 abbrev pub speaker : Command → Option ℕ
 speaker (Mutator m request) = Some m
 speaker (Book inquiry) = None
+speaker (Evacuator step) = None
 
 abbrev pub is_by : ℕ → Option ℕ → Bool
 is_by m None = false

@@ -1,4 +1,4 @@
--- The events of a core by which a command is carried out: a list for each.
+-- The events of a core by which a mutator's command is carried out: a list for each. An inquiry makes none. Those of a step of the evacuator aren't told one by one.
 use Rattle.std.specs.Prelude.{ℕ, ◌+◌, ◌-◌, ◌*◌, ◌/◌, ◌%◌, Bool, true, ◌==◌, ◌||◌, ◌&&◌, not, nat_lt, Option, Some, None, is_some, List, [], ◌∷◌, ◌++◌, length, map, if◌then◌else◌}
 use Rattle.std.specs.List.{range_with_len}
 use Rattle.far_word.specs.declared.mark.Mark.TheVariants.{Dropped, Moved}
@@ -17,7 +17,7 @@ use Rattle.far_core.specs.declared.event.Event.TheVariants.{ReadEpoch as ReadsEp
 use Rattle.far_core.specs.events.Step.{after}
 use Rattle.far_core.specs.state.Room.{room}
 use Rattle.far_core.specs.state.State.{State}
-use Rattle.far_text.specs.Command.{Command, New, Open, Write, Read, Close, Where, Drop, View, Try, Epoch, Mutator, Book}
+use Rattle.far_text.specs.Command.{Command, New, Open, Write, Read, Close, Where, Drop, View, Try, Epoch, Mutator, Book, Evacuator}
 use Rattle.far_replay.specs.Dereference.{come, comes_to, dereferenced, sought}
 use Rattle.far_replay.specs.Effects.{near_word, is_slow, with_view}
 use Rattle.far_replay.specs.Moment.{Moment}
@@ -132,6 +132,7 @@ turn_events now (Mutator m (View p)) = dereference_events now.core m p
 turn_events now (Mutator m (Try p)) = view_events now.core m p
 turn_events now (Mutator m Epoch) = ReadsEpoch m ∷ []
 turn_events now (Book inquiry) = []
+turn_events now (Evacuator step) = []
 
 -- a refused command makes no event, but the pin that found a mark, and where an object found no place the pin and its owner's asking
 abbrev pub refused_events : Moment → Command → Refusal → List Event
@@ -140,6 +141,12 @@ refused_events now (Mutator m (Read p from len)) NoRoom = sought_events now.core
 refused_events now (Mutator m (View p)) NoRoom = sought_events now.core m p
 refused_events now (Mutator m (Try p)) (Marked word) = view_events now.core m p
 refused_events now c why = []
+
+-- these are all events of a command
+abbrev pub IsTold : Command → Type 0
+IsTold (Mutator m request) = Unit {0}
+IsTold (Book inquiry) = Unit {0}
+IsTold (Evacuator step) = ⊥
 
 abbrev pub events_for : Moment → Command → List Event
 events_for now c = unless (refusal now c) (refused_events now c) (turn_events now c)

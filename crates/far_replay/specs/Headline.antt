@@ -1,6 +1,6 @@
 -- What a trace program's outputs say: the laws over whole texts and whole lists of commands.
 use Rattle.std.specs.Bool.{MatchBool}
-use Rattle.std.specs.Prelude.{◌≡◌, ◌≢◌, ◌↔◌, ℕ, ◌+◌, ◌*◌, ◌/◌, ◌^◌, ◌<◌, ◌≤◌, ◌||◌, Bool, true, false, is_some, eqb, sum, codes, decimal, Option, Some, None, Ok, List, [], ◌∷◌, ◌++◌, length, replicate, slice_index, map, All, Contains}
+use Rattle.std.specs.Prelude.{◌≡◌, ◌≢◌, ◌↔◌, ℕ, ◌+◌, ◌*◌, ◌/◌, ◌^◌, ◌<◌, ◌≤◌, ◌||◌, ◌⊎◌, Bool, true, false, is_some, eqb, sum, codes, decimal, Option, Some, None, Ok, List, [], ◌∷◌, ◌++◌, length, replicate, slice_index, map, All, Contains}
 use Rattle.std.specs.List.{flat_map, range_with_len, IsDistinct}
 use Rattle.hex.specs.Hex.{IsBytes}
 use Rattle.far_word.specs.declared.mark.Mark.TheVariants.{Hot}
@@ -9,7 +9,7 @@ use Rattle.far_word.specs.declared.pointer.Place.{Place}
 use Rattle.far_word.specs.declared.pointer.PtrWord.{PtrWord}
 use Rattle.far_word.specs.declared.pointer.PtrWord.TheVariants as pointer
 use Rattle.far_word.specs.declared.refused.Refused.{Refused as Refusal}
-use Rattle.far_word.specs.declared.refused.Refused.TheVariants.{NoRoom, NoPointer, Length, Closed, AlreadyOpen, NotHeld, Range, Held, Marked, Syntax, BadChoice, StillOpen}
+use Rattle.far_word.specs.declared.refused.Refused.TheVariants.{NoRoom, NoPointer, Length, Closed, AlreadyOpen, NotHeld, Range, Held, Marked as MarkFound, Syntax, BadChoice, StillOpen, Phase as WrongPhase, EpochsSpent}
 use Rattle.far_word.specs.declared.sizes.TheConstants.{CELLS, LOG_WORDS, LONGEST}
 use Rattle.far_word.specs.Pointer.{read_of, with_mark}
 use Rattle.far_word.specs.Sizes.{size_of, bytes_taken}
@@ -23,35 +23,49 @@ use Rattle.far_core.specs.state.Shape.{is_shape}
 use Rattle.far_core.specs.state.State.{State, put}
 use Rattle.far_core.specs.world.World.{Object, Group, FarSide}
 use Rattle.far_core.specs.world.WorldOf.{world_of}
+use Rattle.far_book.specs.book.Reached.{IsOfBook}
 use Rattle.far_book.specs.declared.home.Home.{Home}
 use Rattle.far_book.specs.declared.home.Home.TheVariants.{Near, Far}
+use Rattle.far_evac.specs.Census.{kind_in}
+use Rattle.far_evac.specs.MomentLaw.{MomentLaw}
+use Rattle.far_evac.specs.declared.answers.Progress.{Progress}
+use Rattle.far_evac.specs.declared.answers.RoundEnd.{RoundEnd}
+use Rattle.far_evac.specs.declared.answers.RoundEnd.TheVariants as ends
 use Rattle.far_replay.specs.Alone.{Alone, Knows, Learns, Own, nothing}
 use Rattle.far_replay.specs.Answers.{Answered, Answers, Commanded, IsMoment, shape_of, first_moment}
-use Rattle.far_text.specs.Command.{Command, Heap, CommandLine, New, Open, Write, Read, Close, Where, Drop, View, Try, Epoch, Logs as AsksLogs, Log, Audit, Mutator, Book}
+use Rattle.far_text.specs.Command.{Command, Heap, CommandLine, New, Open, Write, Read, Close, Where, Drop, View, Try, Epoch, Logs as AsksLogs, Log, Audit, Mutator, Book, Evacuator, Script, Select, Mark, Wait, Evacuate, Abort, Round}
 use Rattle.far_text.specs.Grammar.{trace_of}
 use Rattle.far_replay.specs.Moment.{Moment}
 use Rattle.far_replay.specs.EventRows.{after_events, AllPass, AllSucceed, AllComeToPass, AtHand}
 use Rattle.far_replay.specs.Effects.{is_slow}
-use Rattle.far_replay.specs.Events.{events_for}
+use Rattle.far_replay.specs.Events.{events_for, IsTold}
 use Rattle.far_replay.specs.Objects.{with_range, uses}
 use Rattle.far_text.specs.Says.{Says}
-use Rattle.far_replay.specs.Stays.{MayMark, Stays}
+use Rattle.far_replay.specs.Stays.{MayMark, MaySee, Stays}
 use Rattle.far_text.specs.Written.{WritesBytes, AllWriteBytes}
-use Rattle.far_replay.specs.Reply.{Reply, Done, Pointer, Data, Logs, Lies, Audited, EpochRead, Refused, LogLine, Counts, reply_text}
+use Rattle.far_replay.specs.Reply.{Reply, Done, Pointer, Data, Logs, Lies, Audited, EpochRead, Selected, Marked, Clear, Evacuated, Ended, Refused, LogLine, Counts, reply_text}
 
 -- a log in which a view rests in s isn't free in t
 abbrev pub LogStays : State → State → Type 0
 LogStays s t = (p : ℕ) (place : Place) → s.held p ≡ Some place → t.kind place.log ≢ kinds.Free
 
--- through a command: a log that holds a view after the first i of its events isn't free after its first k, for i ≤ k
-abbrev pub StayThrough : Moment → Command → Type 0
-StayThrough now c = (es mid rest : List Event) → es ++ mid ++ rest ≡ events_for now c → LogStays (after_events now.core es) (after_events now.core (es ++ mid))
+-- through a row of events: a log that holds a view after the first i of them isn't free after its first k, for i ≤ k
+abbrev pub StayThrough : State → List Event → Type 0
+StayThrough s events = (es mid rest : List Event) → es ++ mid ++ rest ≡ events → LogStays (after_events s es) (after_events s (es ++ mid))
+
+-- through a command, which events carry out: those that are told of it, or, of a step of the evacuator, some of the book's own
+pub record StaysThrough (now : Moment) (c : Command) (after : Moment) : Type 0 where
+  pub events : List Event
+  pub told : IsTold c → events ≡ events_for now c
+  pub of_book : ¬ IsTold c → All IsOfBook events
+  pub ends : after.core ≡ after_events now.core events
+  pub stay : StayThrough now.core events
 
 -- through each command of a list; and in the last moment no view rests in a free log
 abbrev pub LogsStay : Moment → List Command → List Moment → Type 0
 LogsStay now [] moments = LogStays now.core now.core
 LogsStay now (c ∷ cs) [] = ⊥
-LogsStay now (c ∷ cs) (after ∷ moments) = StayThrough now c × LogsStay after cs moments
+LogsStay now (c ∷ cs) (after ∷ moments) = StaysThrough now c after × LogsStay after cs moments
 
 -- the object that a command reads, writes or views, if there is one, may be dereferenced at once
 abbrev pub IsAtHandFor : Moment → Command → Type 0
@@ -61,18 +75,22 @@ IsAtHandFor now (Mutator m (View p)) = now.core.cell p ≢ 0 → AtHand now.core
 IsAtHandFor now (Mutator m (Try p)) = now.core.cell p ≢ 0 → AtHand now.core p
 IsAtHandFor now c = Unit {0}
 
--- the events of a command lead from a moment to the next: each is legal, none is refused, and each keeps the law and agreement; where the command's object is at hand
--- a pin gives a view, and a naming wins
+-- events lead from a moment to the next: each is legal, none is refused, and each keeps the law and agreement. A mutator's are told one by one; where its command's object is at
+-- hand a pin gives a view, and a naming wins. A step of the evacuator makes none of an owner
 pub record Reaches (now : Moment) (c : Command) (after : Moment) : Type 0 where
-  pub ends : after.core ≡ after_events now.core (events_for now c)
-  pub pass : AllPass now.core (events_for now c)
-  pub succeed : AllSucceed now.core (events_for now c)
-  pub come : IsAtHandFor now c → AllComeToPass now.core (events_for now c)
+  pub events : List Event
+  pub told : IsTold c → events ≡ events_for now c
+  pub of_book : ¬ IsTold c → All IsOfBook events
+  pub ends : after.core ≡ after_events now.core events
+  pub pass : AllPass now.core events
+  pub succeed : AllSucceed now.core events
+  pub come : IsTold c → IsAtHandFor now c → AllComeToPass now.core events
 
--- what is true of each moment of an output: each pointer that is named is used by its owner
+-- what is true of each moment of an output: the law of its core and that of its round hold, and each pointer that is named is used by its owner
 pub record Lawful (now : Moment) : Type 0 where
   pub reached : IsMoment now
   pub law : Law now.core
+  pub round : MomentLaw now
   pub named : (p : ℕ) → now.core.cell p ≢ 0 → now.core.used p ≡ true
 
 -- each object that is in use has one place, each log's bytes are 1,024, and no two cells name one place
@@ -109,11 +127,21 @@ MayRefuse (Mutator m (Try p)) NotHeld = Unit {0}
 MayRefuse (Mutator m Epoch) Range = Unit {0}
 MayRefuse (Mutator m Epoch) AlreadyOpen = Unit {0}
 MayRefuse (Book (Log l)) Range = Unit {0}
+MayRefuse (Evacuator (Select choice most)) WrongPhase = Unit {0}
+MayRefuse (Evacuator (Select choice most)) EpochsSpent = Unit {0}
+MayRefuse (Evacuator (Select (Script logs) most)) (BadChoice log) = Unit {0}
+MayRefuse (Evacuator (Mark count)) WrongPhase = Unit {0}
+MayRefuse (Evacuator Wait) WrongPhase = Unit {0}
+MayRefuse (Evacuator Wait) (StillOpen mutator epoch) = Unit {0}
+MayRefuse (Evacuator (Evacuate count)) WrongPhase = Unit {0}
+MayRefuse (Evacuator Abort) WrongPhase = Unit {0}
+MayRefuse (Evacuator (Round policy most turns)) WrongPhase = Unit {0}
+MayRefuse (Evacuator (Round policy most turns)) EpochsSpent = Unit {0}
 MayRefuse c why = ⊥
 
 -- a line tells a log's kind and its live, dead and unused bytes, which make 1,024
 pub record TellsLog (now : Moment) (line : LogLine) : Type 0 where
-  pub kind : line.kind ≡ now.core.kind line.log
+  pub kind : line.kind ≡ kind_in now line.log
   pub live : line.live ≡ live_bytes now.core line.log
   pub dead : line.dead ≡ dead_bytes now.core line.log
   pub unused : line.unused ≡ unused_bytes now.core line.log
@@ -169,13 +197,13 @@ pub record ViewsNothing (s t : State) (m : ℕ) : Type 0 where
   pub others : (q : ℕ) → q / CELLS ≢ m → t.held q ≡ s.held q
 
 -- what a command with its reply does to the views
-abbrev pub ViewsAfter : Moment → Command → Reply → Moment → Type 0
-ViewsAfter now (Mutator m (Read p from len)) (Data bytes) after = ViewsObject now.core after.core p
-ViewsAfter now (Mutator m (Write p from bytes)) Done after = ViewsObject now.core after.core p
-ViewsAfter now (Mutator m (View p)) Done after = ViewsObject now.core after.core p
-ViewsAfter now (Mutator m (Try p)) Done after = ViewsObject now.core after.core p
-ViewsAfter now (Mutator m Close) Done after = ViewsNothing now.core after.core m
-ViewsAfter now c r after = after.core.held ≡ now.core.held
+abbrev pub ViewsAfter : State → Command → Reply → State → Type 0
+ViewsAfter s (Mutator m (Read p from len)) (Data bytes) t = ViewsObject s t p
+ViewsAfter s (Mutator m (Write p from bytes)) Done t = ViewsObject s t p
+ViewsAfter s (Mutator m (View p)) Done t = ViewsObject s t p
+ViewsAfter s (Mutator m (Try p)) Done t = ViewsObject s t p
+ViewsAfter s (Mutator m Close) Done t = ViewsNothing s t m
+ViewsAfter s c r t = t.held ≡ s.held
 
 -- nothing is taken of the logs; or a span of an object of so many bytes, at the end of the log that room says
 abbrev pub TakesNone : State → State → Type 0
@@ -207,16 +235,19 @@ DereferenceTakes s p t = MatchBool (is_slow s p) (BringTakes s (read_of (s.cell 
 abbrev pub DereferenceLacks : State → ℕ → State → Type 0
 DereferenceLacks s p t = (is_slow s p ≡ true) × LacksRoom s (read_of (s.cell p)) × TakesNone s t
 
--- what a command with its reply takes of the logs: a new object its span; a dereference what it takes to bring its object; anything else nothing
-abbrev pub TakesRoom : Moment → Command → Reply → Moment → Type 0
-TakesRoom now (Mutator m (New len ds)) (Pointer p) after = TakesSpan now.core len true after.core
-TakesRoom now (Mutator m (Write p from bytes)) Done after = DereferenceTakes now.core p after.core
-TakesRoom now (Mutator m (Write p from bytes)) (Refused NoRoom) after = DereferenceLacks now.core p after.core
-TakesRoom now (Mutator m (Read p from len)) (Data bytes) after = DereferenceTakes now.core p after.core
-TakesRoom now (Mutator m (Read p from len)) (Refused NoRoom) after = DereferenceLacks now.core p after.core
-TakesRoom now (Mutator m (View p)) Done after = DereferenceTakes now.core p after.core
-TakesRoom now (Mutator m (View p)) (Refused NoRoom) after = DereferenceLacks now.core p after.core
-TakesRoom now c r after = TakesNone now.core after.core
+-- what a command with its reply takes of the logs: a new object its span; a dereference what it takes to bring its object; anything else nothing. A round that evacuates takes
+-- room for what it moves, and gives logs back
+abbrev pub TakesRoom : State → Command → Reply → State → Type 0
+TakesRoom s (Mutator m (New len ds)) (Pointer p) t = TakesSpan s len true t
+TakesRoom s (Mutator m (Write p from bytes)) Done t = DereferenceTakes s p t
+TakesRoom s (Mutator m (Write p from bytes)) (Refused NoRoom) t = DereferenceLacks s p t
+TakesRoom s (Mutator m (Read p from len)) (Data bytes) t = DereferenceTakes s p t
+TakesRoom s (Mutator m (Read p from len)) (Refused NoRoom) t = DereferenceLacks s p t
+TakesRoom s (Mutator m (View p)) Done t = DereferenceTakes s p t
+TakesRoom s (Mutator m (View p)) (Refused NoRoom) t = DereferenceLacks s p t
+TakesRoom s (Evacuator (Evacuate count)) (Evacuated progress) t = Unit {0}
+TakesRoom s (Evacuator (Round policy most turns)) (Ended end) t = Unit {0}
+TakesRoom s c r t = TakesNone s t
 
 -- a cell has HOT, on what it said before
 abbrev pub IsHotAfter : State → State → ℕ → Type 0
@@ -226,8 +257,9 @@ IsHotAfter s t p = (v : PtrWord) → read_of (s.cell p) ≡ Some v → read_of (
 abbrev pub IsSaidBy : ℕ → Command → Type 0
 IsSaidBy m (Mutator k request) = m ≡ k
 IsSaidBy m (Book inquiry) = ⊥
+IsSaidBy m (Evacuator step) = ⊥
 
--- a reply that its lines tell in full: its numbers have 64 bits, its bytes are bytes, and it is no refusal 17 or 18, whose words aren't printed yet
+-- a reply that its lines tell in full: its numbers have 64 bits, and its bytes are bytes
 pub record IsLineToldInFull (line : LogLine) : Type 0 where
   pub log : line.log < 2 ^ 64
   pub live : line.live < 2 ^ 64
@@ -239,9 +271,9 @@ AreToldInFull [] = Unit {0}
 AreToldInFull (line ∷ lines) = IsLineToldInFull line × AreToldInFull lines
 
 abbrev pub IsRefusalToldInFull : Refusal → Type 0
-IsRefusalToldInFull (Marked word) = word < 2 ^ 64
-IsRefusalToldInFull (BadChoice log) = ⊥
-IsRefusalToldInFull (StillOpen mutator epoch) = ⊥
+IsRefusalToldInFull (MarkFound word) = word < 2 ^ 64
+IsRefusalToldInFull (BadChoice log) = log < 2 ^ 64
+IsRefusalToldInFull (StillOpen mutator epoch) = (mutator < 2 ^ 64) × (epoch < 2 ^ 64)
 IsRefusalToldInFull (Syntax line) = line < 2 ^ 64
 IsRefusalToldInFull why = Unit {0}
 
@@ -252,6 +284,26 @@ IsHomeToldInFull (Far marks) = Unit {0}
 abbrev pub AreCountsToldInFull : Counts → Type 0
 AreCountsToldInFull counts = (counts.near < 2 ^ 64) × (counts.far < 2 ^ 64) × (counts.live < 2 ^ 64)
 
+abbrev pub IsWaitToldInFull : Option ℕ → Type 0
+IsWaitToldInFull None = Unit {0}
+IsWaitToldInFull (Some epoch) = epoch < 2 ^ 64
+
+abbrev pub AreToldAsNumbers : List ℕ → Type 0
+AreToldAsNumbers [] = Unit {0}
+AreToldAsNumbers (log ∷ logs) = (log < 2 ^ 64) × AreToldAsNumbers logs
+
+pub record IsProgressToldInFull (progress : Progress) : Type 0 where
+  pub moved : progress.moved < 2 ^ 64
+  pub far : progress.far < 2 ^ 64
+  pub dropped : progress.dropped < 2 ^ 64
+  pub freed : progress.freed < 2 ^ 64
+
+-- a round that is done says so
+abbrev pub IsEndToldInFull : RoundEnd → Type 0
+IsEndToldInFull (ends.Done progress) = IsProgressToldInFull progress × (progress.done ≡ true)
+IsEndToldInFull ends.Nothing = Unit {0}
+IsEndToldInFull (ends.Limit phase) = Unit {0}
+
 abbrev pub IsToldInFull : Reply → Type 0
 IsToldInFull Done = Unit {0}
 IsToldInFull (Pointer pointer) = pointer < 2 ^ 64
@@ -260,6 +312,11 @@ IsToldInFull (Logs lines) = AreToldInFull lines
 IsToldInFull (Lies home) = IsHomeToldInFull home
 IsToldInFull (Audited counts) = AreCountsToldInFull counts
 IsToldInFull (EpochRead epoch) = epoch < 2 ^ 64
+IsToldInFull (Selected logs) = AreToldAsNumbers logs
+IsToldInFull (Marked count waiting) = (count < 2 ^ 64) × IsWaitToldInFull waiting
+IsToldInFull Clear = Unit {0}
+IsToldInFull (Evacuated progress) = IsProgressToldInFull progress
+IsToldInFull (Ended end) = IsEndToldInFull end
 IsToldInFull (Refused why) = IsRefusalToldInFull why
 
 -- ---- the laws
@@ -267,11 +324,16 @@ IsToldInFull (Refused why) = IsRefusalToldInFull why
 abbrev pub PrintedAlike : Type 0
 PrintedAlike = (r q : Reply) → IsToldInFull r → IsToldInFull q → reply_text r ≡ reply_text q → r ≡ q
 
--- among lines that say commands, a line says a mutator's exactly where the word after its name is the mutator's number, but for `log`, after which a log's number stands
+-- a name after which the number of a log, or of objects, stands
+abbrev pub CountsOthers : List ℕ → Type 0
+CountsOthers name = (name ≡ codes "log") ⊎ (name ≡ codes "mark") ⊎ (name ≡ codes "evacuate")
+
+-- among lines that say commands, a line says a mutator's exactly where the word after its name is the mutator's number, but for `log`, after which a log's number stands, and
+-- for `mark` and `evacuate`, after which it says of how many objects
 abbrev pub LinesAreNumbered : Type 0
 LinesAreNumbered = (words : List (List ℕ)) (c : Command) (m : ℕ) → m < 2 ^ 64 → Says words (CommandLine c) →
-    (IsSaidBy m c → (name : List ℕ) × (rest : List (List ℕ)) × (words ≡ name ∷ decimal m ∷ rest) × (name ≢ codes "log"))
-    × ((name : List ℕ) (rest : List (List ℕ)) → words ≡ name ∷ decimal m ∷ rest → name ≢ codes "log" → IsSaidBy m c)
+    (IsSaidBy m c → (name : List ℕ) × (rest : List (List ℕ)) × (words ≡ name ∷ decimal m ∷ rest) × ¬ CountsOthers name)
+    × ((name : List ℕ) (rest : List (List ℕ)) → words ≡ name ∷ decimal m ∷ rest → ¬ CountsOthers name → IsSaidBy m c)
 
 -- what an output says, from its text on: where the text is read as a heap in range and commands, there are the replies and the moments of this output; the lines tell
 -- the replies in full; each moment has the law, and in it objects are whole; the logs in which views rest stay; and the replies to each mutator's lines are what its own
@@ -316,9 +378,9 @@ EventsReach = (now : Moment) (c : Command) (r : Reply) (after : Moment) → IsMo
 abbrev pub RefusalsStay : Type 0
 RefusalsStay = (now : Moment) (c : Command) (r : Reply) (after : Moment) (why : Refusal) → Law now.core → Commanded now c r after → r ≡ Refused why → Stays c why now after
 
--- a refusal that comes before any pin adds none
+-- a refusal that comes before any pin leaves all, but that of a wait which goes on
 abbrev pub RefusalsChangeNothing : Type 0
-RefusalsChangeNothing = (now : Moment) (c : Command) (r : Reply) (after : Moment) (why : Refusal) → ((p : ℕ) → ¬ MayMark c why p) → Commanded now c r after → r ≡ Refused why → after ≡ now
+RefusalsChangeNothing = (now : Moment) (c : Command) (r : Reply) (after : Moment) (why : Refusal) → ((p : ℕ) → ¬ MayMark c why p) → ¬ MaySee c why → Commanded now c r after → r ≡ Refused why → after ≡ now
 
 -- a line of a mutator that the heap hasn't is refused 8
 abbrev pub UnknownMutatorsAreRefused : Type 0
@@ -417,7 +479,7 @@ NewIsMade = (now : Moment) (m len ds : ℕ) (r : Reply) (after : Moment) → m <
 
 -- a new object and one that is brought for a view alone take room, and no more than their span
 abbrev pub CommandsTakeRoom : Type 0
-CommandsTakeRoom = (now : Moment) (c : Command) (r : Reply) (after : Moment) → Law now.core → Commanded now c r after → TakesRoom now c r after
+CommandsTakeRoom = (now : Moment) (c : Command) (r : Reply) (after : Moment) → Law now.core → Commanded now c r after → TakesRoom now.core c r after.core
 
 -- a try of an object that its mutator uses, in its open scope, views it where it was viewed already, or its cell is near with none of EVAC, MOVE and DROP; else it is
 -- refused 14 with the cell's word as it was. Unless it was viewed already, the cell has HOT from then on, whatever the answer
@@ -427,11 +489,11 @@ TriesAreAnswered = (now : Moment) (m p : ℕ) (r : Reply) (after : Moment) → L
     × ((world_of now.core).viewed p ≡ false → IsHotAfter now.core after.core p
     × (((len ds : ℕ) (place : Place) (marks : Marks) → read_of (now.core.cell p) ≡ Some (pointer.Near len ds place marks) → (marks.evac || marks.moved || marks.dropped) ≡ false → r ≡ Done)
     × (((len ds : ℕ) (place : Place) (marks : Marks) → read_of (now.core.cell p) ≡ Some (pointer.Near len ds place marks) → (marks.evac || marks.moved || marks.dropped) ≡ true) →
-    r ≡ Refused (Marked (now.core.cell p)))))
+    r ≡ Refused (MarkFound (now.core.cell p)))))
 
 -- what is read, written or tried is viewed until its mutator closes its scope; nothing else makes a view or takes one away
 abbrev pub ViewsLast : Type 0
-ViewsLast = (now : Moment) (c : Command) (r : Reply) (after : Moment) → IsMoment now → WritesBytes c → Commanded now c r after → ViewsAfter now c r after
+ViewsLast = (now : Moment) (c : Command) (r : Reply) (after : Moment) → IsMoment now → WritesBytes c → Commanded now c r after → ViewsAfter now.core c r after.core
 
 -- a write changes the bytes of its range to the new ones, and no others
 abbrev pub WritesChangeTheirRange : Type 0

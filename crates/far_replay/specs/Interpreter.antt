@@ -1,13 +1,22 @@
 -- The words that the interpreter's own contracts need.
-use Rattle.std.specs.Prelude.{◌≡◌, ℕ, ◌+◌, ◌/◌, ◌<◌, ◌≤◌, true, List, Option, Some, None, IsSome, Result, Ok, Err}
+use Rattle.std.specs.Prelude.{◌≡◌, ℕ, ◌+◌, ◌/◌, ◌<◌, ◌≤◌, true, List, Option, Some, None, IsSome, Result, Ok, Err, if◌then◌else◌}
 use Rattle.far_word.specs.declared.refused.Refused.{Refused as Refusal}
 use Rattle.far_word.specs.declared.sizes.TheConstants.{CELLS, LONGEST}
+use Rattle.far_word.specs.declared.pointer.Place.{Place}
+use Rattle.far_word.specs.declared.pointer.PtrWord.{PtrWord}
+use Rattle.far_word.specs.declared.pointer.PtrWord.TheVariants.{Free, Near, Far}
+use Rattle.far_word.specs.Pointer.{read_of}
+use Rattle.far_book.specs.book.Dealing.{order_moved}
+use Rattle.far_book.specs.book.Effects.{order_after}
 use Rattle.far_core.specs.state.State.{State}
 use Rattle.far_core.specs.events.Step.{data_len, is_opened}
 use Rattle.far_replay.specs.declared.turn.Access.{Access}
 use Rattle.far_replay.specs.Outcome.{reply_by}
-use Rattle.far_replay.specs.Reply.{Reply, LogLine}
+use Rattle.far_replay.specs.Reply.{Reply}
 use Rattle.far_replay.specs.declared.outcome.Outcome.{Outcome}
+use Rattle.far_replay.specs.declared.outcome.Scratch.{Scratch}
+use Rattle.far_replay.specs.Dereference.{comes_to, sought}
+use Rattle.far_replay.specs.Effects.{is_slow}
 use Rattle.far_replay.specs.Objects.{object_len}
 
 -- why a call was refused, if it was
@@ -38,4 +47,18 @@ pub record IsViewed (s : State) (a : Access) : Type 0 where
 
 -- the outcome tells the reply, whatever stands in the room
 abbrev pub StandsFor : Outcome → Reply → Type 0
-StandsFor outcome reply = (bytes : List ℕ) (lines : List LogLine) → reply_by bytes lines outcome ≡ reply
+StandsFor outcome reply = (scratch : Scratch) → reply_by scratch outcome ≡ reply
+
+-- the sealed logs once it has come, oldest first: where it opened another log, the one that was open is the youngest
+abbrev pub order_come_of : State → List ℕ → ℕ → Option Place → Option PtrWord → List ℕ
+order_come_of s order p None o = order
+order_come_of s order p (Some place) None = order
+order_come_of s order p (Some place) (Some Free) = order
+order_come_of s order p (Some place) (Some (Near len ds from marks)) = order_moved s p order place
+order_come_of s order p (Some place) (Some (Far len ds marks)) = order_after s order place
+
+abbrev pub order_come : State → List ℕ → ℕ → List ℕ
+order_come s order p = order_come_of s order p (comes_to s p) (read_of (s.cell p))
+
+abbrev pub order_dereferenced : State → List ℕ → ℕ → ℕ → List ℕ
+order_dereferenced s order m p = if is_slow s p then order_come (sought s m p) order p else order

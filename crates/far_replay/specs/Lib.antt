@@ -2,6 +2,7 @@ pub mod Alone
 pub mod Answers
 pub mod Audit
 pub mod Between
+pub mod Census
 pub mod Dereference
 pub mod Effects
 pub mod EventRows
@@ -12,6 +13,7 @@ pub mod Moment
 pub mod Objects
 pub mod Outcome
 pub mod Reply
+pub mod Rounds
 pub mod Stays
 pub mod Stream
 pub mod Turn

@@ -1,17 +1,21 @@
 -- A heap between two commands: all that a command's refusal, effect and reply may hang on.
+use Rattle.std.specs.Prelude.{[]}
 use Rattle.far_core.specs.state.CoreState.{core_state}
 use Rattle.far_core.specs.state.State.{State}
 use Rattle.far_device.specs.declared.mem.MemDevice.{MemDevice}
 use Rattle.far_book.specs.declared.plain.Plain.{Plain}
-use Rattle.far_book.specs.book.BookOf.{BookOf}
+use Rattle.far_evac.specs.EvacOf.{EvacOf}
+pub use Rattle.far_evac.specs.Moment.{Moment, with_core}
+use Rattle.far_evac.specs.declared.phase.Phase.TheVariants.{Idle}
 
-pub record Moment : Type 0 where
-  pub core : State
-
--- the moment of a core
+-- a core of which no log was ever sealed, in no round
 abbrev pub moment_of : State → Moment
-moment_of s = record { core = s }
+moment_of s = record { core = s; order = []; phase = Idle; held = [] }
 
--- the state of the core that a book has in its hand
-abbrev pub state_in : BookOf Plain MemDevice → State
-state_in book = core_state book.near.core
+-- the state of the core that an evacuator's book has in its hand
+abbrev pub state_in : EvacOf Plain MemDevice → State
+state_in evac = core_state evac.book.near.core
+
+-- where an evacuator stands
+abbrev pub moment_in : EvacOf Plain MemDevice → Moment
+moment_in evac = record { core = state_in evac; order = evac.book.order; phase = evac.phase; held = evac.held }

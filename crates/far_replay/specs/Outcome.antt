@@ -3,25 +3,34 @@ use Rattle.std.specs.Prelude.{ℕ, ◌+◌, ◌*◌, ◌≤◌, List, take, slic
 use Rattle.far_word.specs.declared.sizes.TheConstants.{LOG_WORDS, LONGEST, MOST_LOGS}
 use Rattle.far_replay.specs.declared.outcome.Outcome.{Outcome}
 use Rattle.far_replay.specs.declared.outcome.Outcome.TheVariants as outcomes
-use Rattle.far_replay.specs.Reply.{Reply, Done, Pointer, Data, Logs, Lies, Audited, EpochRead, Refused, LogLine}
+use Rattle.far_replay.specs.declared.outcome.Scratch.{Scratch}
+use Rattle.far_replay.specs.declared.outcome.Stepped.{Stepped}
+use Rattle.far_replay.specs.declared.outcome.Stepped.TheVariants as steps
+use Rattle.far_replay.specs.Reply.{Reply, Done, Pointer, Data, Logs, Lies, Audited, EpochRead, Selected, Marked, Clear, Evacuated, Ended, Refused, LogLine}
 
-abbrev pub reply_by : List ℕ → List LogLine → Outcome → Reply
-reply_by bytes lines outcomes.Done = Done
-reply_by bytes lines (outcomes.Pointer pointer) = Pointer pointer
-reply_by bytes lines (outcomes.Data from count) = Data (slice_range bytes from (from + count))
-reply_by bytes lines (outcomes.Logs count) = Logs (take count lines)
-reply_by bytes lines (outcomes.Lies home) = Lies home
-reply_by bytes lines (outcomes.Audited counts) = Audited counts
-reply_by bytes lines (outcomes.EpochRead epoch) = EpochRead epoch
-reply_by bytes lines (outcomes.Refused why) = Refused why
+-- what a step of the evacuator comes to
+abbrev pub told_by : Scratch → Stepped → Reply
+told_by scratch steps.Done = Done
+told_by scratch (steps.Selected count) = Selected (take count scratch.bytes)
+told_by scratch steps.Marked = Marked scratch.marked.count scratch.marked.waiting
+told_by scratch steps.Clear = Clear
+told_by scratch steps.Evacuated = Evacuated scratch.progress
+told_by scratch steps.Ended = Ended scratch.end
+told_by scratch (steps.Refused why) = Refused why
+
+abbrev pub reply_by : Scratch → Outcome → Reply
+reply_by scratch outcomes.Done = Done
+reply_by scratch (outcomes.Pointer pointer) = Pointer pointer
+reply_by scratch (outcomes.Data from count) = Data (slice_range scratch.bytes from (from + count))
+reply_by scratch (outcomes.Logs count) = Logs (take count scratch.lines)
+reply_by scratch (outcomes.Lies home) = Lies home
+reply_by scratch (outcomes.Audited counts) = Audited counts
+reply_by scratch (outcomes.EpochRead epoch) = EpochRead epoch
+reply_by scratch outcomes.Stepped = told_by scratch scratch.stepped
+reply_by scratch (outcomes.Refused why) = Refused why
 
 -- the outcome speaks of room that there is
 abbrev pub IsInRoom : Outcome → Type 0
-IsInRoom outcomes.Done = Unit {0}
-IsInRoom (outcomes.Pointer pointer) = Unit {0}
 IsInRoom (outcomes.Data from count) = (from + count ≤ 8 * LOG_WORDS) × (count ≤ LONGEST)
 IsInRoom (outcomes.Logs count) = count ≤ MOST_LOGS
-IsInRoom (outcomes.Lies home) = Unit {0}
-IsInRoom (outcomes.Audited counts) = Unit {0}
-IsInRoom (outcomes.EpochRead epoch) = Unit {0}
-IsInRoom (outcomes.Refused why) = Unit {0}
+IsInRoom outcome = Unit {0}

@@ -1,22 +1,27 @@
 -- Replies, and the lines that they are printed as.
-use Rattle.std.specs.Prelude.{ℕ, ◌≤◌, Bool, List, [], ◌++◌, length, codes, decimal, if◌then◌else◌}
+use Rattle.std.specs.Prelude.{ℕ, ◌<◌, ◌≤◌, Bool, Option, Some, None, List, [], ◌∷◌, ◌++◌, length, codes, decimal, if◌then◌else◌}
 use Rattle.std.specs.Int.{to_be_bytes, w64}
 use Rattle.std.specs.List.{flat_map}
 use Rattle.hex.specs.Hex.{encode_lower}
 use Rattle.far_word.specs.declared.mark.Marks.{Marks}
 use Rattle.far_word.specs.declared.refused.Refused.{Refused as Refusal}
-use Rattle.far_word.specs.declared.refused.Refused.TheVariants.{Marked, Syntax}
+use Rattle.far_word.specs.declared.refused.Refused.TheVariants.{Marked as MarkFound, Syntax, BadChoice, StillOpen}
 use Rattle.far_word.specs.Refused.{refusal_number}
 use Rattle.far_word.specs.declared.sizes.TheConstants.{LONGEST, MOST_LOGS}
-use Rattle.far_core.specs.declared.event.Kind.{Kind}
-use Rattle.far_core.specs.declared.event.Kind.TheVariants.{Free, Open, Sealed}
+use Rattle.far_evac.specs.declared.answers.Progress.{Progress}
+use Rattle.far_evac.specs.declared.answers.RoundEnd.{RoundEnd}
+use Rattle.far_evac.specs.declared.answers.RoundEnd.TheVariants as ends
+use Rattle.far_evac.specs.declared.phase.Phase.{Phase}
+use Rattle.far_evac.specs.declared.phase.Phase.TheVariants.{Idle, Marking, Waiting, Evacuating}
+use Rattle.far_evac.specs.declared.census.LogKind.{LogKind}
+use Rattle.far_evac.specs.declared.census.LogKind.TheVariants.{Free, Open, Sealed, Chosen}
 use Rattle.far_core.specs.events.Naming.{is_unmarked}
 use Rattle.far_book.specs.declared.home.Home.{Home}
 use Rattle.far_book.specs.declared.home.Home.TheVariants.{Near, Far}
 pub use Rattle.far_replay.specs.declared.reply.Counts.{Counts}
 pub use Rattle.far_replay.specs.declared.reply.LogLine.{LogLine}
 use Rattle.far_replay.specs.declared.reply.Reply.{Reply as Given}
-use Rattle.far_replay.specs.declared.reply.Reply.TheVariants.{Done as GivenDone, Pointer as GivenPointer, Data as GivenData, Logs as GivenLogs, Lies as GivenLies, Audited as GivenAudited, EpochRead as GivenEpochRead, Refused as GivenRefused}
+use Rattle.far_replay.specs.declared.reply.Reply.TheVariants.{Done as GivenDone, Pointer as GivenPointer, Data as GivenData, Logs as GivenLogs, Lies as GivenLies, Audited as GivenAudited, EpochRead as GivenEpochRead, Selected as GivenSelected, Marked as GivenMarked, Clear as GivenClear, Evacuated as GivenEvacuated, Ended as GivenEnded, Refused as GivenRefused}
 
 pub data Reply : Type 0 where
   Done : Reply
@@ -26,12 +31,18 @@ pub data Reply : Type 0 where
   Lies : (home : Home) → Reply
   Audited : (counts : Counts) → Reply
   EpochRead : (epoch : ℕ) → Reply
+  Selected : (logs : List ℕ) → Reply
+  Marked : (count : ℕ) (waiting : Option ℕ) → Reply
+  Clear : Reply
+  Evacuated : (progress : Progress) → Reply
+  Ended : (end : RoundEnd) → Reply
   Refused : (why : Refusal) → Reply
 
-abbrev pub kind_word : Kind → List ℕ
+abbrev pub kind_word : LogKind → List ℕ
 kind_word Free = codes "free"
 kind_word Open = codes "open"
 kind_word Sealed = codes "sealed"
+kind_word Chosen = codes "chosen"
 
 -- what `logs` says of one log: its number, its kind, and its bytes
 abbrev pub log_text : LogLine → List ℕ
@@ -58,15 +69,48 @@ home_printed (Far marks) = codes "far " ++ letters_of marks ++ codes "\n"
 abbrev pub counts_printed : Counts → List ℕ
 counts_printed counts = codes "audit near " ++ decimal counts.near ++ codes " far " ++ decimal counts.far ++ codes " live " ++ decimal counts.live ++ codes "\n"
 
--- what follows a refusal's number: a line; or a word, in 16 digits
+-- what follows a refusal's number: a line; a log; a mutator and an epoch; or a word, in 16 digits
 abbrev pub detail : Refusal → List ℕ
-detail (Marked word) = codes " " ++ encode_lower (to_be_bytes w64 word)
+detail (MarkFound word) = codes " " ++ encode_lower (to_be_bytes w64 word)
 detail (Syntax line) = codes " " ++ decimal line
+detail (BadChoice log) = codes " " ++ decimal log
+detail (StillOpen mutator epoch) = codes " " ++ decimal mutator ++ codes " " ++ decimal epoch
 detail _ = []
 
 -- a refusal's line
 abbrev pub refusal_text : Refusal → List ℕ
 refusal_text why = codes "refused " ++ decimal (refusal_number why) ++ detail why ++ codes "\n"
+
+-- logs that were chosen, each after a space; a word where there is none
+abbrev pub log_listed : ℕ → List ℕ
+log_listed log = codes " " ++ decimal log
+
+abbrev pub chosen_text : List ℕ → List ℕ
+chosen_text [] = codes " none"
+chosen_text (log ∷ logs) = flat_map log_listed (log ∷ logs)
+
+-- the epoch that the round waits for, where it waits
+abbrev pub waiting_text : Option ℕ → List ℕ
+waiting_text None = []
+waiting_text (Some epoch) = codes " waiting " ++ decimal epoch
+
+-- what became of objects, and how many logs were given back
+abbrev pub counted_text : Progress → List ℕ
+counted_text done = codes " moved " ++ decimal done.moved ++ codes " far " ++ decimal done.far ++ codes " dropped " ++ decimal done.dropped ++ codes " freed " ++ decimal done.freed
+
+abbrev pub done_text : Bool → List ℕ
+done_text done = if done then codes " done" else []
+
+abbrev pub phase_word : Phase → List ℕ
+phase_word Idle = codes "idle"
+phase_word Marking = codes "marking"
+phase_word Waiting = codes "waiting"
+phase_word Evacuating = codes "evacuating"
+
+abbrev pub end_text : RoundEnd → List ℕ
+end_text (ends.Done progress) = codes "done" ++ counted_text progress
+end_text ends.Nothing = codes "none"
+end_text (ends.Limit phase) = codes "limit " ++ phase_word phase
 
 -- the lines of a reply, each with its newline
 abbrev pub reply_text : Reply → List ℕ
@@ -77,6 +121,11 @@ reply_text (Logs lines) = flat_map log_text lines
 reply_text (Lies home) = home_printed home
 reply_text (Audited counts) = counts_printed counts
 reply_text (EpochRead epoch) = codes "epoch " ++ decimal epoch ++ codes "\n"
+reply_text (Selected logs) = codes "selected" ++ chosen_text logs ++ codes "\n"
+reply_text (Marked count waiting) = codes "marked " ++ decimal count ++ waiting_text waiting ++ codes "\n"
+reply_text Clear = codes "clear\n"
+reply_text (Evacuated progress) = codes "evacuated" ++ counted_text progress ++ done_text progress.done ++ codes "\n"
+reply_text (Ended end) = codes "round " ++ end_text end ++ codes "\n"
 reply_text (Refused why) = refusal_text why
 
 -- the reply that the code gives
@@ -88,9 +137,14 @@ reply_of (GivenLogs lines) = Logs lines.now
 reply_of (GivenLies home) = Lies home
 reply_of (GivenAudited counts) = Audited counts
 reply_of (GivenEpochRead epoch) = EpochRead epoch
+reply_of (GivenSelected logs) = Selected logs.now
+reply_of (GivenMarked marked) = Marked marked.now.count marked.now.waiting
+reply_of GivenClear = Clear
+reply_of (GivenEvacuated progress) = Evacuated progress.now
+reply_of (GivenEnded end) = Ended end.now
 reply_of (GivenRefused why) = Refused why
 
--- no more bytes than an object has, and no more lines than a heap has logs
+-- no more bytes than an object has, no more lines than a heap has logs, and few logs that were chosen
 abbrev pub IsShort : Reply → Type 0
 IsShort Done = Unit {0}
 IsShort (Pointer pointer) = Unit {0}
@@ -99,4 +153,9 @@ IsShort (Logs lines) = length lines ≤ MOST_LOGS
 IsShort (Lies home) = Unit {0}
 IsShort (Audited counts) = Unit {0}
 IsShort (EpochRead epoch) = Unit {0}
+IsShort (Selected logs) = length logs < 256
+IsShort (Marked count waiting) = Unit {0}
+IsShort Clear = Unit {0}
+IsShort (Evacuated progress) = Unit {0}
+IsShort (Ended end) = Unit {0}
 IsShort (Refused why) = Unit {0}

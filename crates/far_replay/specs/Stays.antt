@@ -1,13 +1,13 @@
--- What a refused command leaves as it was: all but two marks of one cell, which it may have added.
+-- What a refused command leaves as it was: all but two marks of one cell, which it may have added, and whom a wait has seen clear.
 use Rattle.std.specs.Prelude.{◌≡◌, ℕ, true, Option, Some, None}
 use Rattle.far_word.specs.declared.mark.Marks.{Marks}
 use Rattle.far_word.specs.declared.pointer.PtrWord.{PtrWord}
 use Rattle.far_word.specs.declared.pointer.PtrWord.TheVariants.{Free, Near, Far}
 use Rattle.far_word.specs.declared.refused.Refused.{Refused as Refusal}
-use Rattle.far_word.specs.declared.refused.Refused.TheVariants.{NoRoom, Marked}
+use Rattle.far_word.specs.declared.refused.Refused.TheVariants.{NoRoom, Marked, StillOpen}
 use Rattle.far_word.specs.Pointer.{read_of}
 use Rattle.far_core.specs.world.WorldOf.{world_of}
-use Rattle.far_text.specs.Command.{Command, Write, Read, View, Try, Mutator}
+use Rattle.far_text.specs.Command.{Command, Write, Read, View, Try, Wait, Mutator, Evacuator}
 use Rattle.far_replay.specs.Moment.{Moment}
 
 -- HOT and MOVE may have been added; EVAC and DROP are as they were
@@ -33,9 +33,17 @@ MayMark (Mutator m (View p)) NoRoom q = q ≡ p
 MayMark (Mutator m (Try p)) (Marked word) q = q ≡ p
 MayMark c why q = ⊥
 
--- objects, bytes and places are as before, and so is all else of the core but for marks in that cell
+-- a wait that is refused since a mutator's scope is open has seen clear those before it
+abbrev pub MaySee : Command → Refusal → Type 0
+MaySee (Evacuator Wait) (StillOpen mutator epoch) = Unit {0}
+MaySee c why = ⊥
+
+-- objects, bytes and places are as before, and so is all else of the core but for marks in that cell, and whom a wait has seen clear. A round stands where it stood
 pub record Stays (c : Command) (why : Refusal) (now next : Moment) : Type 0 where
   pub objects : (world_of next.core).object ≡ (world_of now.core).object
   pub cells : (p : ℕ) → CellStays (read_of (now.core.cell p)) (read_of (next.core.cell p))
   pub unmarked : (p : ℕ) → ¬ MayMark c why p → next.core.cell p ≡ now.core.cell p
-  pub rest : next.core ≡ record now.core { cell = next.core.cell }
+  pub seen : ¬ MaySee c why → next.core.clear ≡ now.core.clear
+  pub kept : (m : ℕ) → now.core.clear m ≡ true → next.core.clear m ≡ true
+  pub rest : next.core ≡ record now.core { cell = next.core.cell; clear = next.core.clear }
+  pub round : (next.order ≡ now.order) × (next.phase ≡ now.phase) × (next.held ≡ now.held)

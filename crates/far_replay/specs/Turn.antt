@@ -13,13 +13,15 @@ use Rattle.far_core.specs.state.State.{State}
 use Rattle.far_word.specs.Pointer.{read_of}
 use Rattle.far_book.specs.book.Home.{home_of}
 use Rattle.far_book.specs.declared.home.Home.{Home}
+use Rattle.far_evac.specs.Census.{kind_in}
 use Rattle.far_replay.specs.Audit.{counts_of}
-use Rattle.far_text.specs.Command.{Command, New, Open, Write, Read, Close, Where, Drop, View, Try, Epoch, Logs, Log, Audit, Mutator, Book}
+use Rattle.far_text.specs.Command.{Command, New, Open, Write, Read, Close, Where, Drop, View, Try, Epoch, Logs, Log, Audit, Mutator, Book, Evacuator}
 use Rattle.far_replay.specs.Dereference.{dereferenced, has_no_room, sought}
 use Rattle.far_replay.specs.Effects.{with_object, with_epoch, with_scope, with_view, is_slow, with_data, without_object}
-use Rattle.far_replay.specs.Moment.{Moment}
+use Rattle.far_replay.specs.Moment.{Moment, with_core}
 use Rattle.far_replay.specs.Objects.{uses, object_len, data_of, lowest_cell, is_range}
 use Rattle.far_replay.specs.Reply.{Reply, Done, Pointer, Data, Logs as Told, Lies, Audited, EpochRead, Refused, LogLine}
+use Rattle.far_replay.specs.Rounds.{refused_step, step_causes, step_effect, step_reply}
 
 -- ---- when a command is refused
 -- the causes by which it may be refused, in their order, each with its test
@@ -45,6 +47,7 @@ causes now (Mutator m Epoch) = (not (nat_lt m now.core.mutators), Range) ∷ (is
 causes now (Book Logs) = []
 causes now (Book (Log l)) = (not (nat_lt l now.core.logs), Range) ∷ []
 causes now (Book Audit) = []
+causes now (Evacuator step) = step_causes now step
 
 -- the first cause that holds
 abbrev pub first_cause : List (Bool × Refusal) → Option Refusal
@@ -62,30 +65,32 @@ with_new s m len ds (Some p) None = s
 with_new s m len ds (Some p) (Some place) = with_object s m p len ds place
 
 abbrev pub turn_effect : Moment → Command → Moment
-turn_effect now (Mutator m (New len ds)) = record now { core = with_new now.core m len ds (lowest_cell now.core m) (room now.core (size_of len) true) }
-turn_effect now (Mutator m Open) = record now { core = with_scope now.core m }
-turn_effect now (Mutator m (Write p from bytes)) = record now { core = with_data (dereferenced now.core m p) p from bytes }
-turn_effect now (Mutator m (Read p from len)) = record now { core = dereferenced now.core m p }
-turn_effect now (Mutator m Close) = record now { core = after_close now.core m }
+turn_effect now (Mutator m (New len ds)) = with_core now (with_new now.core m len ds (lowest_cell now.core m) (room now.core (size_of len) true))
+turn_effect now (Mutator m Open) = with_core now (with_scope now.core m)
+turn_effect now (Mutator m (Write p from bytes)) = with_core now (with_data (dereferenced now.core m p) p from bytes)
+turn_effect now (Mutator m (Read p from len)) = with_core now (dereferenced now.core m p)
+turn_effect now (Mutator m Close) = with_core now (after_close now.core m)
 turn_effect now (Mutator m (Where p)) = now
-turn_effect now (Mutator m (Drop p)) = record now { core = without_object now.core m p }
-turn_effect now (Mutator m (View p)) = record now { core = dereferenced now.core m p }
-turn_effect now (Mutator m (Try p)) = record now { core = with_view now.core p }
-turn_effect now (Mutator m Epoch) = record now { core = with_epoch now.core m }
+turn_effect now (Mutator m (Drop p)) = with_core now (without_object now.core m p)
+turn_effect now (Mutator m (View p)) = with_core now (dereferenced now.core m p)
+turn_effect now (Mutator m (Try p)) = with_core now (with_view now.core p)
+turn_effect now (Mutator m Epoch) = with_core now (with_epoch now.core m)
 turn_effect now (Book inquiry) = now
+turn_effect now (Evacuator step) = step_effect now step
 
--- ---- the moment after a command that is refused: as before, but for the marks that it left
+-- ---- the moment after a command that is refused: as before, but for the marks that it left, and whom a wait saw clear
 abbrev pub refused_effect : Moment → Command → Refusal → Moment
-refused_effect now (Mutator m (Write p from bytes)) NoRoom = record now { core = sought now.core m p }
-refused_effect now (Mutator m (Read p from len)) NoRoom = record now { core = sought now.core m p }
-refused_effect now (Mutator m (View p)) NoRoom = record now { core = sought now.core m p }
-refused_effect now (Mutator m (Try p)) (Marked word) = record now { core = with_view now.core p }
+refused_effect now (Mutator m (Write p from bytes)) NoRoom = with_core now (sought now.core m p)
+refused_effect now (Mutator m (Read p from len)) NoRoom = with_core now (sought now.core m p)
+refused_effect now (Mutator m (View p)) NoRoom = with_core now (sought now.core m p)
+refused_effect now (Mutator m (Try p)) (Marked word) = with_core now (with_view now.core p)
+refused_effect now (Evacuator step) why = refused_step now step why
 refused_effect now c why = now
 
 -- ---- the reply of a command that isn't refused
 abbrev pub log_line : Moment → ℕ → LogLine
 log_line now l =
-    record { log = l; kind = now.core.kind l; live = live_bytes now.core l; dead = dead_bytes now.core l; unused = unused_bytes now.core l }
+    record { log = l; kind = kind_in now l; live = live_bytes now.core l; dead = dead_bytes now.core l; unused = unused_bytes now.core l }
 
 abbrev pub pointer_reply : Option ℕ → Reply
 pointer_reply None = Done
@@ -110,6 +115,7 @@ turn_reply now (Mutator m Epoch) = EpochRead now.core.epoch
 turn_reply now (Book Logs) = Told (map (log_line now) (range_with_len 0 now.core.logs))
 turn_reply now (Book (Log l)) = Told (log_line now l ∷ [])
 turn_reply now (Book Audit) = Audited (counts_of now.core)
+turn_reply now (Evacuator step) = step_reply now step
 
 -- ---- all together
 abbrev pub unless : {X : Type 0} → Option Refusal → (Refusal → X) → X → X

@@ -5,26 +5,30 @@ ghost use Rattle.far_text.specs.Command.{Mutator, Epoch};
 ghost use Rattle.far_replay.specs.Events.{events_for};
 ghost use Rattle.far_replay.specs.EventRows.{after_events};
 ghost use Rattle.far_replay.specs.Interpreter.{StandsFor};
-ghost use Rattle.far_replay.specs.Moment.{moment_of, state_in};
+ghost use Rattle.far_replay.specs.Moment.{moment_in, state_in};
 ghost use Rattle.far_replay.specs.Outcome.{IsInRoom};
 ghost use Rattle.far_replay.specs.Turn.{reply_to};
 
 use crate::outcome::Outcome;
-use far_book::{Book, Plain};
+use crate::owners::core_of;
+use far_book::Plain;
 use far_core::Event;
 use far_device::MemDevice;
+use far_evac::Evac;
 use far_word::Refused;
 
 /// Reads the epoch for an owner whose scope is closed, and tells it.
-pub fn read_epoch(book: &mut Book<Plain, MemDevice>, owner: u8) -> Outcome
-    requires known { owner < (state_in book.old).mutators }
-    ensures state { state_in book.new ≡ after_events (state_in book.old) (events_for (moment_of (state_in book.old)) (Mutator owner Epoch)) }
-    ensures reply { StandsFor result (reply_to (moment_of (state_in book.old)) (Mutator owner Epoch)) }
+pub fn read_epoch(evac: &mut Evac<Plain, MemDevice>, owner: u8) -> Outcome
+    requires known { owner < (state_in evac.old).mutators }
+    ensures state { state_in evac.new ≡ after_events (state_in evac.old) (events_for (moment_in evac.old) (Mutator owner Epoch)) }
+    ensures reply { StandsFor result (reply_to (moment_in evac.old) (Mutator owner Epoch)) }
     ensures fits { IsInRoom result }
+    ensures order { evac.new.book.order ≡ evac.old.book.order }
+    ensures round { (evac.new.phase ≡ evac.old.phase) × (evac.new.held ≡ evac.old.held) }
 {
-    if book.core().is_open(owner) {
+    if core_of(evac).is_open(owner) {
         return Outcome::Refused(Refused::AlreadyOpen);
     }
-    book.owner(Event::ReadEpoch { owner });
-    Outcome::EpochRead(book.core().epoch())
+    evac.owner(Event::ReadEpoch { owner });
+    Outcome::EpochRead(core_of(evac).epoch())
 }

@@ -8,37 +8,44 @@ ghost use Rattle.far_replay.specs.Dereference.{RefusesBringing, RefusesView, ask
 ghost use Rattle.far_replay.specs.Effects.{is_slow, with_view};
 ghost use Rattle.far_replay.specs.EventRows.{after_events};
 ghost use Rattle.far_replay.specs.Events.{open_events};
+ghost use Rattle.far_replay.specs.Interpreter.{order_come, order_dereferenced};
 ghost use Rattle.far_replay.specs.Moment.{state_in};
 
-use far_book::{Book, Plain};
+use crate::owners::core_of;
+use far_book::Plain;
 use far_core::Event;
 use far_device::MemDevice;
+use far_evac::Evac;
 use far_word::{Mark, PtrWord, Refused};
 
 /// Opens an owner's scope, at the epoch that it reads unless it has read one already.
-pub fn open(book: &mut Book<Plain, MemDevice>, owner: u8)
-    ensures { state_in book.new ≡ after_events (state_in book.old) (open_events (state_in book.old) owner) }
+pub fn open(evac: &mut Evac<Plain, MemDevice>, owner: u8)
+    ensures state { state_in evac.new ≡ after_events (state_in evac.old) (open_events (state_in evac.old) owner) }
+    ensures order { evac.new.book.order ≡ evac.old.book.order }
+    ensures round { (evac.new.phase ≡ evac.old.phase) × (evac.new.held ≡ evac.old.held) }
 {
-    if !book.core().has_epoch(owner) {
-        book.owner(Event::ReadEpoch { owner });
+    if !core_of(evac).has_epoch(owner) {
+        evac.owner(Event::ReadEpoch { owner });
     }
-    book.owner(Event::Open { owner });
+    evac.owner(Event::Open { owner });
 }
 
 /// Pins an owner's object, unless it is held already. `Err` with the cell as it was, where the pin gave no view.
 #[inline]
-pub fn try_view(book: &mut Book<Plain, MemDevice>, owner: u8, pointer: u16) -> Result<(), u64>
-    requires opened { is_opened (state_in book.old) owner ≡ true }
+pub fn try_view(evac: &mut Evac<Plain, MemDevice>, owner: u8, pointer: u16) -> Result<(), u64>
+    requires opened { is_opened (state_in evac.old) owner ≡ true }
     requires own { pointer / CELLS ≡ owner }
-    requires used { (state_in book.old).used pointer ≡ true }
-    ensures state { state_in book.new ≡ with_view (state_in book.old) pointer }
-    ensures viewed { IfOk result (λ _. is_slow (state_in book.old) pointer ≡ false) }
-    ensures word { IfErr result (λ word. (is_slow (state_in book.old) pointer ≡ true) × (word ≡ (state_in book.old).cell pointer)) }
+    requires used { (state_in evac.old).used pointer ≡ true }
+    ensures state { state_in evac.new ≡ with_view (state_in evac.old) pointer }
+    ensures viewed { IfOk result (λ _. is_slow (state_in evac.old) pointer ≡ false) }
+    ensures word { IfErr result (λ word. (is_slow (state_in evac.old) pointer ≡ true) × (word ≡ (state_in evac.old).cell pointer)) }
+    ensures order { evac.new.book.order ≡ evac.old.book.order }
+    ensures round { (evac.new.phase ≡ evac.old.phase) × (evac.new.held ≡ evac.old.held) }
 {
-    if book.core().is_held(pointer) {
+    if core_of(evac).is_held(pointer) {
         return Ok(());
     }
-    match book.pin(owner, pointer) {
+    match evac.pin(owner, pointer) {
         Ok(_) => Ok(()),
         Err(word) => Err(word),
     }
@@ -51,37 +58,43 @@ pub fn try_view(book: &mut Book<Plain, MemDevice>, owner: u8, pointer: u16) -> R
 /// object is near, MOVE.
 #[inline]
 pub fn dereference(
-    book: &mut Book<Plain, MemDevice>,
+    evac: &mut Evac<Plain, MemDevice>,
     owner: u8,
     pointer: u16,
 ) -> Result<(), Refused>
-    requires opened { is_opened (state_in book.old) owner ≡ true }
+    requires opened { is_opened (state_in evac.old) owner ≡ true }
     requires own { pointer / CELLS ≡ owner }
-    requires used { (state_in book.old).used pointer ≡ true }
-    ensures state { IfOk result (λ _. state_in book.new ≡ dereferenced (state_in book.old) owner pointer) }
-    ensures room { IfOk result (λ _. has_no_room (state_in book.old) owner pointer ≡ false) }
-    ensures refused { IfErr result (λ why. RefusesView (state_in book.old) owner pointer why (state_in book.new)) }
+    requires used { (state_in evac.old).used pointer ≡ true }
+    ensures state { IfOk result (λ _. state_in evac.new ≡ dereferenced (state_in evac.old) owner pointer) }
+    ensures room { IfOk result (λ _. has_no_room (state_in evac.old) owner pointer ≡ false) }
+    ensures refused { IfErr result (λ why. RefusesView (state_in evac.old) owner pointer why (state_in evac.new)) }
+    ensures order { IfOk result (λ _. evac.new.book.order ≡ order_dereferenced (state_in evac.old) evac.old.book.order owner pointer) }
+    ensures shut { IfErr result (λ _. evac.new.book.order ≡ evac.old.book.order) }
+    ensures round { (evac.new.phase ≡ evac.old.phase) × (evac.new.held ≡ evac.old.held) }
 {
-    let Err(_) = try_view(book, owner, pointer) else {
+    let Err(_) = try_view(evac, owner, pointer) else {
         return Ok(());
     };
-    bring_and_view(book, owner, pointer)
+    bring_and_view(evac, owner, pointer)
 }
 
 // Brings an object to where a view may rest, and pins it there. It stands apart from the common case, which is made in place.
 #[inline(never)]
-fn bring_and_view(book: &mut Book<Plain, MemDevice>, owner: u8, pointer: u16) -> Result<(), Refused>
-    requires opened { is_opened (state_in book.old) owner ≡ true }
+fn bring_and_view(evac: &mut Evac<Plain, MemDevice>, owner: u8, pointer: u16) -> Result<(), Refused>
+    requires opened { is_opened (state_in evac.old) owner ≡ true }
     requires own { pointer / CELLS ≡ owner }
-    requires used { (state_in book.old).used pointer ≡ true }
-    requires unheld { (state_in book.old).held pointer ≡ None }
-    ensures state { IfOk result (λ _. state_in book.new ≡ with_view (come (asked_for (state_in book.old) owner pointer) pointer) pointer) }
-    ensures room { IfOk result (λ _. IsSome (comes_to (asked_for (state_in book.old) owner pointer) pointer)) }
-    ensures refused { IfErr result (λ why. RefusesBringing (asked_for (state_in book.old) owner pointer) pointer why (state_in book.new)) }
+    requires used { (state_in evac.old).used pointer ≡ true }
+    requires unheld { (state_in evac.old).held pointer ≡ None }
+    ensures state { IfOk result (λ _. state_in evac.new ≡ with_view (come (asked_for (state_in evac.old) owner pointer) pointer) pointer) }
+    ensures room { IfOk result (λ _. IsSome (comes_to (asked_for (state_in evac.old) owner pointer) pointer)) }
+    ensures refused { IfErr result (λ why. RefusesBringing (asked_for (state_in evac.old) owner pointer) pointer why (state_in evac.new)) }
+    ensures order { IfOk result (λ _. evac.new.book.order ≡ order_come (asked_for (state_in evac.old) owner pointer) evac.old.book.order pointer) }
+    ensures shut { IfErr result (λ _. evac.new.book.order ≡ evac.old.book.order) }
+    ensures round { (evac.new.phase ≡ evac.old.phase) × (evac.new.held ≡ evac.old.held) }
 {
-    match bring(book, owner, pointer) {
+    match bring(evac, owner, pointer) {
         Ok(()) => {
-            let _ = try_view(book, owner, pointer);
+            let _ = try_view(evac, owner, pointer);
             Ok(())
         }
         Err(why) => Err(why),
@@ -99,39 +112,45 @@ fn is_near(word: u64) -> bool
 }
 
 // Brings an object to where a view may rest.
-fn bring(book: &mut Book<Plain, MemDevice>, owner: u8, pointer: u16) -> Result<(), Refused>
-    requires opened { is_opened (state_in book.old) owner ≡ true }
+fn bring(evac: &mut Evac<Plain, MemDevice>, owner: u8, pointer: u16) -> Result<(), Refused>
+    requires opened { is_opened (state_in evac.old) owner ≡ true }
     requires own { pointer / CELLS ≡ owner }
-    requires used { (state_in book.old).used pointer ≡ true }
-    requires unheld { (state_in book.old).held pointer ≡ None }
-    ensures state { IfOk result (λ _. state_in book.new ≡ come (asked_for (state_in book.old) owner pointer) pointer) }
-    ensures room { IfOk result (λ _. IsSome (comes_to (asked_for (state_in book.old) owner pointer) pointer)) }
-    ensures refused { IfErr result (λ why. RefusesBringing (asked_for (state_in book.old) owner pointer) pointer why (state_in book.new)) }
+    requires used { (state_in evac.old).used pointer ≡ true }
+    requires unheld { (state_in evac.old).held pointer ≡ None }
+    ensures state { IfOk result (λ _. state_in evac.new ≡ come (asked_for (state_in evac.old) owner pointer) pointer) }
+    ensures room { IfOk result (λ _. IsSome (comes_to (asked_for (state_in evac.old) owner pointer) pointer)) }
+    ensures refused { IfErr result (λ why. RefusesBringing (asked_for (state_in evac.old) owner pointer) pointer why (state_in evac.new)) }
+    ensures order { IfOk result (λ _. evac.new.book.order ≡ order_come (asked_for (state_in evac.old) owner pointer) evac.old.book.order pointer) }
+    ensures shut { IfErr result (λ _. evac.new.book.order ≡ evac.old.book.order) }
+    ensures round { (evac.new.phase ≡ evac.old.phase) × (evac.new.held ≡ evac.old.held) }
 {
-    if is_near(book.core().cell(pointer)) {
-        move_near(book, owner, pointer)
+    if is_near(core_of(evac).cell(pointer)) {
+        move_near(evac, owner, pointer)
     } else {
-        fetch_far(book, owner, pointer)
+        fetch_far(evac, owner, pointer)
     }
 }
 
 // Has a near object moved, or its marks taken where it lies.
-fn move_near(book: &mut Book<Plain, MemDevice>, owner: u8, pointer: u16) -> Result<(), Refused>
-    requires opened { is_opened (state_in book.old) owner ≡ true }
+fn move_near(evac: &mut Evac<Plain, MemDevice>, owner: u8, pointer: u16) -> Result<(), Refused>
+    requires opened { is_opened (state_in evac.old) owner ≡ true }
     requires own { pointer / CELLS ≡ owner }
-    requires used { (state_in book.old).used pointer ≡ true }
-    requires unheld { (state_in book.old).held pointer ≡ None }
-    requires near { says_near (read_of ((state_in book.old).cell pointer)) ≡ true }
-    ensures state { IfOk result (λ _. state_in book.new ≡ come (asked_for (state_in book.old) owner pointer) pointer) }
-    ensures room { IfOk result (λ _. IsSome (comes_to (asked_for (state_in book.old) owner pointer) pointer)) }
-    ensures refused { IfErr result (λ why. RefusesBringing (asked_for (state_in book.old) owner pointer) pointer why (state_in book.new)) }
+    requires used { (state_in evac.old).used pointer ≡ true }
+    requires unheld { (state_in evac.old).held pointer ≡ None }
+    requires near { says_near (read_of ((state_in evac.old).cell pointer)) ≡ true }
+    ensures state { IfOk result (λ _. state_in evac.new ≡ come (asked_for (state_in evac.old) owner pointer) pointer) }
+    ensures room { IfOk result (λ _. IsSome (comes_to (asked_for (state_in evac.old) owner pointer) pointer)) }
+    ensures refused { IfErr result (λ why. RefusesBringing (asked_for (state_in evac.old) owner pointer) pointer why (state_in evac.new)) }
+    ensures order { IfOk result (λ _. evac.new.book.order ≡ order_come (asked_for (state_in evac.old) owner pointer) evac.old.book.order pointer) }
+    ensures shut { IfErr result (λ _. evac.new.book.order ≡ evac.old.book.order) }
+    ensures round { (evac.new.phase ≡ evac.old.phase) × (evac.new.held ≡ evac.old.held) }
 {
-    book.owner(Event::Ask {
+    evac.owner(Event::Ask {
         owner,
         pointer,
         mark: Mark::Moved,
     });
-    match book.move_now(pointer) {
+    match evac.move_now(pointer) {
         Ok(Some(_)) => Ok(()),
         Ok(None) => unreachable!(),
         Err(why) => Err(why),
@@ -139,15 +158,18 @@ fn move_near(book: &mut Book<Plain, MemDevice>, owner: u8, pointer: u16) -> Resu
 }
 
 // Has a far object fetched.
-fn fetch_far(book: &mut Book<Plain, MemDevice>, owner: u8, pointer: u16) -> Result<(), Refused>
-    requires used { (state_in book.old).used pointer ≡ true }
-    requires far { says_near (read_of ((state_in book.old).cell pointer)) ≡ false }
-    ensures state { IfOk result (λ _. state_in book.new ≡ come (asked_for (state_in book.old) owner pointer) pointer) }
-    ensures room { IfOk result (λ _. IsSome (comes_to (asked_for (state_in book.old) owner pointer) pointer)) }
-    ensures refused { IfErr result (λ why. RefusesBringing (asked_for (state_in book.old) owner pointer) pointer why (state_in book.new)) }
+fn fetch_far(evac: &mut Evac<Plain, MemDevice>, owner: u8, pointer: u16) -> Result<(), Refused>
+    requires used { (state_in evac.old).used pointer ≡ true }
+    requires far { says_near (read_of ((state_in evac.old).cell pointer)) ≡ false }
+    ensures state { IfOk result (λ _. state_in evac.new ≡ come (asked_for (state_in evac.old) owner pointer) pointer) }
+    ensures room { IfOk result (λ _. IsSome (comes_to (asked_for (state_in evac.old) owner pointer) pointer)) }
+    ensures refused { IfErr result (λ why. RefusesBringing (asked_for (state_in evac.old) owner pointer) pointer why (state_in evac.new)) }
+    ensures order { IfOk result (λ _. evac.new.book.order ≡ order_come (asked_for (state_in evac.old) owner pointer) evac.old.book.order pointer) }
+    ensures shut { IfErr result (λ _. evac.new.book.order ≡ evac.old.book.order) }
+    ensures round { (evac.new.phase ≡ evac.old.phase) × (evac.new.held ≡ evac.old.held) }
 {
     let _ = owner;
-    match book.fetch(pointer) {
+    match evac.fetch(pointer) {
         Ok(Some(_)) => Ok(()),
         Ok(None) => unreachable!(),
         Err(why) => Err(why),

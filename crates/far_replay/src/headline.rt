@@ -1,5 +1,6 @@
 //! What outputs say, over whole texts and whole lists of commands. No function here does anything when it runs.
 
+ghost use Rattle.far_replay.specs.Census.{AuditsByCensus};
 ghost use Rattle.far_replay.specs.Headline.{OutputsAreSound, OneOutput, EachTextIsAnswered, TextsWriteBytes, LinesAreNumbered, MomentsLast, EventsReach, ShapesAre, HeapsBeginLawful, ObjectsStayWhole, ViewedLogsStay, ViewsLast, RefusalsStay, RefusalsChangeNothing, TriesAreAnswered, UnknownMutatorsAreRefused, NearRefusals, MutatorsAreAlone, OwnLinesCount, MutatorsLearn, NewTakesTheLowest, NoneIsLeft, NewIsMade, NewMakesItsObject, CommandsTakeRoom, WritesChangeTheirRange, LogsAreTold, WhereTells, LogTellsItsLine, AuditCounts, DropEndsObject, EpochsAreTold, ScopesOpenAtEpochs, ClosesForget, PrintedAlike};
 
 /// From a text on: its output, where it is read as a heap in range and commands, has a reply, which its lines tell in full,
@@ -43,7 +44,8 @@ pub fn views_last()
 {}
 
 /// A refused command leaves objects, bytes, places and all else as they were, but for HOT and MOVE in its object's cell,
-/// which it may add for want of room, or where a try finds a mark; any other refusal leaves the moment as it is. A line of a
+/// which it may add for want of room, or where a try finds a mark, and for the mutators that a wait saw clear before the one
+/// that it waits for; any other refusal leaves the moment as it is. A line of a
 /// mutator that the heap hasn't is refused 8. Where the object that it reads, writes, views or tries is near and unmarked, no command after the
 /// heap is refused for want of memory, by a device or for a mark; for want of a pointer or of room a new object alone is
 /// refused.
@@ -93,11 +95,12 @@ pub fn logs_are_told()
 
 /// `where` tells the place of an object that its mutator uses, or that it is far, and its marks. `log` tells the line that
 /// `logs` has for the log. `audit` counts each object once, those in a log and those on the far side, and the live bytes
-/// that `logs` tells.
+/// that `logs` tells; they are the counts of the evacuator's census.
 pub fn inquiries_tell()
     ensures place { WhereTells }
     ensures line { LogTellsItsLine }
     ensures counts { AuditCounts }
+    ensures census { AuditsByCensus }
 {}
 
 /// A drop of an object that its mutator uses and doesn't view ends it: it is no object any more, its cell is free, and its

@@ -10,40 +10,43 @@ ghost use Rattle.far_text.specs.Command.{Mutator, Book as AsksBook, Where, Log, 
 ghost use Rattle.far_replay.specs.Events.{events_for};
 ghost use Rattle.far_replay.specs.EventRows.{after_events};
 ghost use Rattle.far_replay.specs.Interpreter.{StandsFor};
-ghost use Rattle.far_replay.specs.Moment.{moment_of, state_in};
+ghost use Rattle.far_replay.specs.Moment.{moment_in, state_in};
 ghost use Rattle.far_replay.specs.Outcome.{reply_by, IsInRoom};
 ghost use Rattle.far_replay.specs.Turn.{log_line, reply_to};
 
 use crate::outcome::{Outcome, Scratch};
-use crate::owners::own_pointer;
+use crate::owners::{core_of, own_pointer};
 use crate::reply::{Counts, LogLine};
-use far_book::{Book, Plain};
+use far_book::Plain;
 use far_device::MemDevice;
+use far_evac::{Evac, LogState};
 use far_word::{CELLS, PtrWord, Refused};
 
 /// Tells where an owner's object is.
-pub fn find_object(book: &mut Book<Plain, MemDevice>, owner: u8, pointer: u64) -> Outcome
-    requires known { owner < (state_in book.old).mutators }
-    requires law { Law (state_in book.old) }
-    ensures state { state_in book.new ≡ after_events (state_in book.old) (events_for (moment_of (state_in book.old)) (Mutator owner (Where pointer))) }
-    ensures reply { StandsFor result (reply_to (moment_of (state_in book.old)) (Mutator owner (Where pointer))) }
+pub fn find_object(evac: &mut Evac<Plain, MemDevice>, owner: u8, pointer: u64) -> Outcome
+    requires known { owner < (state_in evac.old).mutators }
+    requires law { Law (state_in evac.old) }
+    ensures state { state_in evac.new ≡ after_events (state_in evac.old) (events_for (moment_in evac.old) (Mutator owner (Where pointer))) }
+    ensures reply { StandsFor result (reply_to (moment_in evac.old) (Mutator owner (Where pointer))) }
     ensures fits { IsInRoom result }
+    ensures order { evac.new.book.order ≡ evac.old.book.order }
+    ensures round { (evac.new.phase ≡ evac.old.phase) × (evac.new.held ≡ evac.old.held) }
 {
-    let Some(pointer) = own_pointer(book, owner, pointer) else {
+    let Some(pointer) = own_pointer(evac, owner, pointer) else {
         return Outcome::Refused(Refused::NotHeld);
     };
-    let Some(home) = book.locate(pointer) else {
+    let Some(home) = evac.locate(pointer) else {
         unreachable!()
     };
     Outcome::Lies(home)
 }
 
 // What is told of a log.
-fn log_told(book: &Book<Plain, MemDevice>, log: u8) -> LogLine
-    requires log { log < (state_in book.now).logs }
-    ensures { result ≡ log_line (moment_of (state_in book.now)) log }
+fn log_told(evac: &Evac<Plain, MemDevice>, log: u8) -> LogLine
+    requires log { log < (state_in evac.now).logs }
+    ensures { result ≡ log_line (moment_in evac.now) log }
 {
-    let (kind, row) = book.log(log);
+    let LogState { kind, row } = evac.log(log);
     LogLine {
         log,
         kind,
@@ -54,24 +57,24 @@ fn log_told(book: &Book<Plain, MemDevice>, log: u8) -> LogLine
 }
 
 /// Fills the room with a line of each log, by number.
-pub fn tell_logs(book: &Book<Plain, MemDevice>, lines: &mut [LogLine])
+pub fn tell_logs(evac: &Evac<Plain, MemDevice>, lines: &mut [LogLine])
     requires room { length lines.old ≡ MOST_LOGS }
-    ensures { take (state_in book.now).logs lines.new ≡ map (log_line (moment_of (state_in book.now))) (range_with_len 0 (state_in book.now).logs) }
+    ensures { take (state_in evac.now).logs lines.new ≡ map (log_line (moment_in evac.now)) (range_with_len 0 (state_in evac.now).logs) }
 {
-    for log in 0..book.core().logs() {
-        lines[log as usize] = log_told(book, log);
+    for log in 0..core_of(evac).logs() {
+        lines[log as usize] = log_told(evac, log);
     }
 }
 
 /// Tells the line of one log.
-pub fn tell_log(book: &Book<Plain, MemDevice>, scratch: &mut Scratch, log: u64) -> Outcome
-    ensures reply { reply_by scratch.new.bytes scratch.new.lines result ≡ reply_to (moment_of (state_in book.now)) (AsksBook (Log log)) }
+pub fn tell_log(evac: &Evac<Plain, MemDevice>, scratch: &mut Scratch, log: u64) -> Outcome
+    ensures reply { reply_by scratch.new result ≡ reply_to (moment_in evac.now) (AsksBook (Log log)) }
     ensures fits { IsInRoom result }
 {
-    if log >= u64::from(book.core().logs()) {
+    if log >= u64::from(core_of(evac).logs()) {
         return Outcome::Refused(Refused::Range);
     }
-    scratch.lines[0] = log_told(book, log as u8);
+    scratch.lines[0] = log_told(evac, log as u8);
     Outcome::Logs(1)
 }
 
@@ -88,14 +91,14 @@ fn lies(cell: u64) -> (bool, bool)
 }
 
 // How many objects are near, and how many are far.
-fn count_objects(book: &Book<Plain, MemDevice>) -> (u16, u16)
-    ensures near { result.0 ≡ length (pointers_by lies_near (state_in book.now)) }
-    ensures far { result.1 ≡ length (pointers_by lies_far (state_in book.now)) }
+fn count_objects(evac: &Evac<Plain, MemDevice>) -> (u16, u16)
+    ensures near { result.0 ≡ length (pointers_by lies_near (state_in evac.now)) }
+    ensures far { result.1 ≡ length (pointers_by lies_far (state_in evac.now)) }
 {
     let mut near = 0;
     let mut far = 0;
-    for pointer in 0..CELLS * u16::from(book.core().mutators()) {
-        let cell = book.core().cell(pointer);
+    for pointer in 0..CELLS * u16::from(core_of(evac).mutators()) {
+        let cell = core_of(evac).cell(pointer);
         let (is_near, is_far) = lies(cell);
         near += u16::from(is_near);
         far += u16::from(is_far);
@@ -104,22 +107,22 @@ fn count_objects(book: &Book<Plain, MemDevice>) -> (u16, u16)
 }
 
 // The bytes that live spans take in all logs.
-fn count_bytes(book: &Book<Plain, MemDevice>) -> u64
-    ensures { result ≡ sum (bytes_by_log (state_in book.now)) }
+fn count_bytes(evac: &Evac<Plain, MemDevice>) -> u64
+    ensures { result ≡ sum (bytes_by_log (state_in evac.now)) }
 {
     let mut live = 0;
-    for log in 0..book.core().logs() {
-        live += u64::from(book.log(log).1.live);
+    for log in 0..core_of(evac).logs() {
+        live += u64::from(evac.log(log).row.live);
     }
     live
 }
 
 /// Counts all objects, and the bytes that they take.
-pub fn audit(book: &Book<Plain, MemDevice>) -> Outcome
-    ensures reply { StandsFor result (reply_to (moment_of (state_in book.now)) (AsksBook Audit)) }
+pub fn audit(evac: &Evac<Plain, MemDevice>) -> Outcome
+    ensures reply { StandsFor result (reply_to (moment_in evac.now) (AsksBook Audit)) }
     ensures fits { IsInRoom result }
 {
-    let (near, far) = count_objects(book);
-    let live = count_bytes(book);
+    let (near, far) = count_objects(evac);
+    let live = count_bytes(evac);
     Outcome::Audited(Counts { near, far, live })
 }

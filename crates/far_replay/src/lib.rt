@@ -16,6 +16,7 @@ mod output;
 mod owners;
 mod reply;
 mod reply_writer;
+mod rounds;
 mod running;
 mod stream;
 mod turn;

@@ -2,15 +2,15 @@
 
 ghost use Rattle.std.specs.Prelude.{◌≡◌, ◌≢◌, IfErr, IfOk};
 ghost use Rattle.far_replay.specs.Reply.{reply_of, IsShort};
-ghost use Rattle.far_replay.specs.Outcome.{reply_by, IsInRoom};
+ghost use Rattle.far_replay.specs.Outcome.{reply_by, told_by, IsInRoom};
 
 use crate::reply::{Counts, LogLine, Reply};
 use far_book::Home;
-use far_core::Kind;
+use far_evac::{LogKind, Marked, Progress, RoundEnd};
 use far_word::{LOG_WORDS, MOST_LOGS, Refused};
 use std::alloc::AllocError;
 
-/// What a command comes to. The bytes and the log lines of a reply stand in the room.
+/// What a command comes to. What a reply tells at length stands in the room.
 #[derive(Clone, Copy)]
 pub enum Outcome {
     Done,
@@ -24,7 +24,38 @@ pub enum Outcome {
     Audited(Counts),
     /// The epoch that a mutator read.
     EpochRead(u64),
+    /// What a step of the evacuator comes to stands in the room.
+    Stepped,
     Refused(Refused),
+}
+
+/// What a step of the evacuator comes to. It stands apart, so that other commands pay nothing for it.
+#[derive(Clone, Copy)]
+pub enum Stepped {
+    Done,
+    /// So many logs were chosen, which stand in front of the room's bytes.
+    Selected(u8),
+    /// What was marked stands in the room.
+    Marked,
+    Clear,
+    /// What was done stands in the room.
+    Evacuated,
+    /// How the round ended stands in the room.
+    Ended,
+    Refused(Refused),
+}
+
+impl Stepped {
+    /// What a refusal of the evacuator comes to: a reply; but want of memory is none, and ends the run.
+    pub fn refused(why: Refused) -> Result<Stepped, AllocError>
+        ensures told { IfOk result (λ stepped. (stepped ≡ Stepped.Refused why) × (why ≢ Refused.Memory)) }
+        ensures wanted { IfErr result (λ _. why ≡ Refused.Memory) }
+    {
+        match why {
+            Refused::Memory => Err(AllocError),
+            why => Ok(Stepped::Refused(why)),
+        }
+    }
 }
 
 impl Outcome {
@@ -40,12 +71,16 @@ impl Outcome {
     }
 }
 
-/// Room for the words and bytes of an object and for a line of each log.
+/// Room for the words and bytes of an object, for a line of each log, and for what a round's step tells.
 #[derive(Clone, Copy)]
 pub struct Scratch {
     pub words: [u64; LOG_WORDS as usize],
     pub bytes: [u8; 8 * LOG_WORDS as usize],
     pub lines: [LogLine; MOST_LOGS as usize],
+    pub marked: Marked,
+    pub progress: Progress,
+    pub end: RoundEnd,
+    pub stepped: Stepped,
 }
 
 impl Scratch {
@@ -53,7 +88,7 @@ impl Scratch {
     pub fn new() -> Scratch {
         let line = LogLine {
             log: 0,
-            kind: Kind::Free,
+            kind: LogKind::Free,
             live: 0,
             dead: 0,
             unused: 0,
@@ -62,13 +97,26 @@ impl Scratch {
             words: [0; LOG_WORDS as usize],
             bytes: [0; 8 * LOG_WORDS as usize],
             lines: [line; MOST_LOGS as usize],
+            marked: Marked {
+                count: 0,
+                waiting: None,
+            },
+            progress: Progress {
+                moved: 0,
+                far: 0,
+                dropped: 0,
+                freed: 0,
+                done: false,
+            },
+            end: RoundEnd::Nothing,
+            stepped: Stepped::Done,
         }
     }
 
     /// The reply to a command.
     pub fn reply(&self, outcome: Outcome) -> Reply<'_>
         requires { IsInRoom outcome }
-        ensures value { reply_of result ≡ reply_by self.now.bytes self.now.lines outcome }
+        ensures value { reply_of result ≡ reply_by self.now outcome }
         ensures short { IsShort (reply_of result) }
     {
         match outcome {
@@ -82,7 +130,25 @@ impl Scratch {
             Outcome::Lies(home) => Reply::Lies(home),
             Outcome::Audited(counts) => Reply::Audited(counts),
             Outcome::EpochRead(epoch) => Reply::EpochRead(epoch),
+            Outcome::Stepped => self.step_reply(),
             Outcome::Refused(why) => Reply::Refused(why),
+        }
+    }
+
+    // The reply to a step of the evacuator.
+    #[inline(never)]
+    fn step_reply(&self) -> Reply<'_>
+        ensures value { reply_of result ≡ told_by self.now self.now.stepped }
+        ensures short { IsShort (reply_of result) }
+    {
+        match self.stepped {
+            Stepped::Done => Reply::Done,
+            Stepped::Selected(count) => Reply::Selected(&self.bytes[..usize::from(count)]),
+            Stepped::Marked => Reply::Marked(&self.marked),
+            Stepped::Clear => Reply::Clear,
+            Stepped::Evacuated => Reply::Evacuated(&self.progress),
+            Stepped::Ended => Reply::Ended(&self.end),
+            Stepped::Refused(why) => Reply::Refused(why),
         }
     }
 }

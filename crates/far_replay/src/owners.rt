@@ -2,31 +2,50 @@
 
 ghost use Rattle.std.specs.Prelude.{◌≡◌, ◌<◌, ◌≤◌, ◌/◌, true, false, IfSome, IfNone};
 ghost use Rattle.far_word.specs.declared.sizes.TheConstants.{CELLS};
+ghost use Rattle.far_book.specs.book.Ledger.{IsLowestFree};
 ghost use Rattle.far_replay.specs.Moment.{state_in};
 ghost use Rattle.far_replay.specs.Objects.{uses};
 
-use far_book::{Book, Plain};
+use far_book::Plain;
+use far_core::Core;
 use far_device::MemDevice;
+use far_evac::Evac;
 use far_word::CELLS;
 
-/// The owner that a line's number of a mutator is, if the heap has it.
-pub fn owner_of(book: &Book<Plain, MemDevice>, mutator: u64) -> Option<u8>
-    ensures owner { IfSome result (λ owner. (owner ≡ mutator) × (mutator < (state_in book.now).mutators)) }
-    ensures unknown { IfNone result ((state_in book.now).mutators ≤ mutator) }
+/// The core of the heap.
+#[inline(always)]
+pub fn core_of(evac: &Evac<Plain, MemDevice>) -> &Core
+    ensures { result.now ≡ evac.now.book.near.core }
 {
-    if mutator < u64::from(book.core().mutators()) {
+    evac.book().core()
+}
+
+/// The lowest free cell of an owner; `None` where it uses all of them.
+pub fn free_cell(evac: &Evac<Plain, MemDevice>, owner: u8) -> Option<u16>
+    requires owner { owner < (state_in evac.now).mutators }
+    ensures { IsLowestFree (state_in evac.now) owner result }
+{
+    evac.book().free_cell(owner)
+}
+
+/// The owner that a line's number of a mutator is, if the heap has it.
+pub fn owner_of(evac: &Evac<Plain, MemDevice>, mutator: u64) -> Option<u8>
+    ensures owner { IfSome result (λ owner. (owner ≡ mutator) × (mutator < (state_in evac.now).mutators)) }
+    ensures unknown { IfNone result ((state_in evac.now).mutators ≤ mutator) }
+{
+    if mutator < u64::from(core_of(evac).mutators()) {
         return Some(mutator as u8);
     }
     None
 }
 
 /// The pointer that a number is, if the owner uses it.
-pub fn own_pointer(book: &Book<Plain, MemDevice>, owner: u8, pointer: u64) -> Option<u16>
-    requires owner { owner < (state_in book.now).mutators }
-    ensures own { IfSome result (λ p. (p ≡ pointer) × (pointer / CELLS ≡ owner) × ((state_in book.now).used pointer ≡ true)) }
-    ensures other { IfNone result (uses (state_in book.now) owner pointer ≡ false) }
+pub fn own_pointer(evac: &Evac<Plain, MemDevice>, owner: u8, pointer: u64) -> Option<u16>
+    requires owner { owner < (state_in evac.now).mutators }
+    ensures own { IfSome result (λ p. (p ≡ pointer) × (pointer / CELLS ≡ owner) × ((state_in evac.now).used pointer ≡ true)) }
+    ensures other { IfNone result (uses (state_in evac.now) owner pointer ≡ false) }
 {
-    if pointer / u64::from(CELLS) != u64::from(owner) || !book.core().is_used(pointer as u16) {
+    if pointer / u64::from(CELLS) != u64::from(owner) || !core_of(evac).is_used(pointer as u16) {
         return None;
     }
     Some(pointer as u16)

@@ -1,15 +1,15 @@
 //! Replies, and the lines that they are printed as.
 
-ghost use Rattle.std.specs.Prelude.{◌≡◌, ◌≤◌, ◌+◌, ◌*◌, ◌++◌, length};
+ghost use Rattle.std.specs.Prelude.{◌≡◌, ◌<◌, ◌≤◌, ◌+◌, ◌*◌, ◌++◌, codes, decimal, length};
 ghost use Rattle.std.specs.List.{flat_map};
 ghost use Rattle.far_word.specs.declared.sizes.TheConstants.{MOST_LOGS};
 ghost use Rattle.far_replay.specs.declared.reply.TheConstants.{LONGEST_REPLY};
 ghost use Rattle.far_word.specs.Refused.{refusal_number};
-ghost use Rattle.far_replay.specs.Reply.{IsShort, counts_printed, detail, home_printed, kind_word, letters_of, log_text, mark_letter, reply_text, refusal_text, reply_of};
+ghost use Rattle.far_replay.specs.Reply.{IsShort, chosen_text, counted_text, counts_printed, detail, done_text, end_text, home_printed, kind_word, letters_of, log_listed, log_text, mark_letter, phase_word, reply_text, refusal_text, reply_of, waiting_text};
 
 use crate::output::Output;
 use far_book::Home;
-use far_core::Kind;
+use far_evac::{LogKind, Marked, Phase, Progress, RoundEnd};
 use far_word::{Marks, Refused};
 
 /// Room for any reply.
@@ -19,7 +19,7 @@ pub const LONGEST_REPLY: usize = 16_384;
 #[derive(Clone, Copy)]
 pub struct LogLine {
     pub log: u8,
-    pub kind: Kind,
+    pub kind: LogKind,
     pub live: u64,
     pub dead: u64,
     pub unused: u64,
@@ -45,18 +45,26 @@ pub enum Reply<'a> {
     Audited(Counts),
     /// The epoch that a mutator read.
     EpochRead(u64),
+    /// The logs that were chosen for a round.
+    Selected(&'a [u8]),
+    Marked(&'a Marked),
+    /// No mutator holds the round up.
+    Clear,
+    Evacuated(&'a Progress),
+    Ended(&'a RoundEnd),
     Refused(Refused),
 }
 
-fn push_kind(kind: Kind, out: &mut Output)
+fn push_kind(kind: LogKind, out: &mut Output)
     requires { length out.old + 10 ≤ Output.ROOM }
     ensures grown { out.new ≡ out.old ++ kind_word kind }
     ensures short { length out.new ≤ length out.old + 6 }
 {
     match kind {
-        Kind::Free => out.push(b"free"),
-        Kind::Open => out.push(b"open"),
-        Kind::Sealed => out.push(b"sealed"),
+        LogKind::Free => out.push(b"free"),
+        LogKind::Open => out.push(b"open"),
+        LogKind::Sealed => out.push(b"sealed"),
+        LogKind::Chosen => out.push(b"chosen"),
     }
 }
 
@@ -149,6 +157,105 @@ fn push_counts(counts: Counts, out: &mut Output)
     out.push(b"\n");
 }
 
+// Logs, each after a space.
+fn push_listed(logs: &[u8], out: &mut Output)
+    requires few { length logs.now < 256 }
+    requires room { length out.old + 13000 ≤ Output.ROOM }
+    ensures grown { out.new ≡ out.old ++ flat_map log_listed logs.now }
+    ensures short { length out.new ≤ length out.old + 50 * length logs.now }
+{
+    for log in logs {
+        out.push(b" ");
+        out.push_number(u64::from(*log));
+    }
+}
+
+fn push_selected(logs: &[u8], out: &mut Output)
+    requires few { length logs.now < 256 }
+    requires room { length out.old + LONGEST_REPLY ≤ Output.ROOM }
+    ensures { out.new ≡ out.old ++ codes "selected" ++ chosen_text logs.now ++ codes "\n" }
+{
+    out.push(b"selected");
+    if logs.is_empty() {
+        out.push(b" none");
+    } else {
+        push_listed(logs, out);
+    }
+    out.push(b"\n");
+}
+
+fn push_marked(marked: &Marked, out: &mut Output)
+    requires { length out.old + 200 ≤ Output.ROOM }
+    ensures { out.new ≡ out.old ++ codes "marked " ++ decimal marked.now.count ++ waiting_text marked.now.waiting ++ codes "\n" }
+{
+    out.push(b"marked ");
+    out.push_number(marked.count);
+    if let Some(epoch) = marked.waiting {
+        out.push(b" waiting ");
+        out.push_number(epoch);
+    }
+    out.push(b"\n");
+}
+
+fn push_counted(progress: &Progress, out: &mut Output)
+    requires { length out.old + 200 ≤ Output.ROOM }
+    ensures grown { out.new ≡ out.old ++ counted_text progress.now }
+    ensures short { length out.new ≤ length out.old + 200 }
+{
+    out.push(b" moved ");
+    out.push_number(progress.moved);
+    out.push(b" far ");
+    out.push_number(progress.far);
+    out.push(b" dropped ");
+    out.push_number(progress.dropped);
+    out.push(b" freed ");
+    out.push_number(progress.freed);
+}
+
+fn push_evacuated(progress: &Progress, out: &mut Output)
+    requires { length out.old + 300 ≤ Output.ROOM }
+    ensures { out.new ≡ out.old ++ codes "evacuated" ++ counted_text progress.now ++ done_text progress.now.done ++ codes "\n" }
+{
+    out.push(b"evacuated");
+    push_counted(progress, out);
+    if progress.done {
+        out.push(b" done");
+    }
+    out.push(b"\n");
+}
+
+fn push_phase(phase: Phase, out: &mut Output)
+    requires { length out.old + 20 ≤ Output.ROOM }
+    ensures grown { out.new ≡ out.old ++ phase_word phase }
+    ensures short { length out.new ≤ length out.old + 10 }
+{
+    match phase {
+        Phase::Idle => out.push(b"idle"),
+        Phase::Marking => out.push(b"marking"),
+        Phase::Waiting => out.push(b"waiting"),
+        Phase::Evacuating => out.push(b"evacuating"),
+    }
+}
+
+fn push_ended(end: &RoundEnd, out: &mut Output)
+    requires { length out.old + 300 ≤ Output.ROOM }
+    ensures { out.new ≡ out.old ++ codes "round " ++ end_text end.now ++ codes "\n" }
+{
+    out.push(b"round ");
+    match end {
+        RoundEnd::Done(progress) => {
+            out.push(b"done");
+            push_counted(progress, out);
+        }
+        RoundEnd::Nothing => out.push(b"none"),
+        RoundEnd::Limit(phase) => {
+            out.push(b"limit ");
+            push_phase(*phase, out);
+        }
+    }
+    out.push(b"\n");
+}
+
 fn push_refused(why: Refused, out: &mut Output)
     requires { length out.old + 200 ≤ Output.ROOM }
     ensures { out.new ≡ out.old ++ refusal_text why }
@@ -163,6 +270,16 @@ fn push_refused(why: Refused, out: &mut Output)
         Refused::Marked(word) => {
             out.push(b" ");
             out.push_hex(&word.to_be_bytes());
+        }
+        Refused::BadChoice(log) => {
+            out.push(b" ");
+            out.push_number(u64::from(log));
+        }
+        Refused::StillOpen(mutator, epoch) => {
+            out.push(b" ");
+            out.push_number(u64::from(mutator));
+            out.push(b" ");
+            out.push_number(epoch);
         }
         _ => {}
     }
@@ -196,6 +313,11 @@ impl Reply<'_> {
                 out.push_number(*epoch);
                 out.push(b"\n");
             }
+            Reply::Selected(logs) => push_selected(logs, out),
+            Reply::Marked(marked) => push_marked(marked, out),
+            Reply::Clear => out.push(b"clear\n"),
+            Reply::Evacuated(progress) => push_evacuated(progress, out),
+            Reply::Ended(end) => push_ended(end, out),
             Reply::Refused(why) => push_refused(*why, out),
         }
     }

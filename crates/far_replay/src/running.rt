@@ -6,7 +6,7 @@ ghost use Rattle.far_replay.specs.Stream.{Writes};
 ghost use Rattle.std.specs.List.{flat_map};
 ghost use Rattle.far_core.specs.state.Opening.{opening};
 ghost use Rattle.far_core.specs.state.Shape.{is_shape};
-ghost use Rattle.far_replay.specs.Moment.{Moment, moment_of, state_in};
+ghost use Rattle.far_replay.specs.Moment.{Moment, moment_in, moment_of, state_in};
 ghost use Rattle.far_replay.specs.Answers.{Answered, MayMakeHeap, Leads, WritesOutput, WritesAnswer, LeavesBehind, Leaves, end_of};
 ghost use Rattle.far_text.specs.declared.text.TheConstants.{LONGEST_TEXT};
 ghost use Rattle.far_text.specs.Grammar.{trace_of};
@@ -14,6 +14,7 @@ ghost use Rattle.far_text.specs.Command.{Heap};
 ghost use Rattle.far_text.specs.Parsed.{as_trace};
 ghost use Rattle.far_replay.specs.Reply.{Reply as Answer, Done, reply_text};
 ghost use Rattle.far_replay.specs.Between.{Between};
+ghost use Rattle.far_evac.specs.MomentLaw.{MomentLaw};
 
 use crate::outcome::Scratch;
 use crate::reply::Reply;
@@ -23,6 +24,7 @@ use crate::turn::turn;
 use far_book::{Book, Plain};
 use far_core::{Core, Shape};
 use far_device::MemDevice;
+use far_evac::Evac;
 use far_text::{Commands, LONGEST_TEXT, ParseError, Trace, parse};
 use far_word::Refused;
 use std::alloc::{AllocError, Global};
@@ -99,20 +101,21 @@ fn refuse<W: Write>(
 fn answer_commands<W: Write>(
     writer: &mut W,
     replies: &mut ReplyWriter,
-    book: Book<Plain, MemDevice>,
+    evac: Evac<Plain, MemDevice>,
     scratch: &mut Scratch,
     commands: &Commands,
 ) -> Result<(), RunFault>
-    requires between { Between (state_in book) }
-    ensures { (replies : List Answer) × (moments : List Moment) × Answered (moment_of (state_in book)) commands.now replies moments
+    requires between { Between (state_in evac) }
+    requires round { MomentLaw (moment_in evac) }
+    ensures { (replies : List Answer) × (moments : List Moment) × Answered (moment_in evac) commands.now replies moments
         × Leads (W.contents writer.old) (W.contents writer.new) result (flat_map reply_text (Done ∷ replies)) }
 {
-    let mut book = book;
+    let mut evac = evac;
     replies.clear();
     replies.add(writer, &Reply::Done);
     for at in 0..commands.len() {
         let command = commands.at(at);
-        let Ok(outcome) = turn(&mut book, scratch, &command) else {
+        let Ok(outcome) = turn(&mut evac, scratch, &command) else {
             return Err(RunFault::Memory);
         };
         replies.add(writer, &scratch.reply(outcome));
@@ -123,14 +126,15 @@ fn answer_commands<W: Write>(
     }
 }
 
-// A book over a new heap, whose far side is honest.
-fn new_book(alloc: Global, shape: Shape) -> Result<Book<Plain, MemDevice>, Refused>
-    ensures state { IfOk result (λ book. state_in book ≡ opening shape true) }
+// An evacuator over a new heap, whose far side is honest.
+fn new_heap(alloc: Global, shape: Shape) -> Result<Evac<Plain, MemDevice>, Refused>
+    ensures moment { IfOk result (λ evac. moment_in evac ≡ moment_of (opening shape true)) }
     ensures range { IfOk result (λ _. is_shape shape ≡ true) }
     ensures refused { IfErr result (λ why. why ≡ cond (is_shape shape) Refused.Memory Refused.Shape) }
 {
     let core = Core::new(alloc, shape, true)?;
-    Book::new(alloc, Plain { core }, MemDevice::new(alloc))
+    let book = Book::new(alloc, Plain { core }, MemDevice::new(alloc))?;
+    Ok(Evac::new(book))
 }
 
 // Makes a heap and the commands after it, and writes their replies. Out of memory for the heap, it writes that line alone.
@@ -147,10 +151,10 @@ fn answer_heap<W: Write>(
     ensures unread { result ≢ Err RunFault.Read }
     ensures memory { result ≡ Err RunFault.Memory → is_shape shape ≡ true }
 {
-    match new_book(alloc, shape) {
-        Ok(book) => {
+    match new_heap(alloc, shape) {
+        Ok(evac) => {
             let mut scratch = Scratch::new();
-            match answer_commands(writer, replies, book, &mut scratch, commands) {
+            match answer_commands(writer, replies, evac, &mut scratch, commands) {
                 Ok(()) => Ok(End::Ran),
                 Err(fault) => Err(fault),
             }

@@ -3,32 +3,33 @@
 ghost use Rattle.std.specs.Prelude.{◌≡◌, ◌<◌, IfOk, OnOk};
 ghost use Rattle.far_text.specs.Command.{Mutator, Try, View};
 ghost use Rattle.far_replay.specs.Interpreter.{StandsFor};
-ghost use Rattle.far_replay.specs.Moment.{moment_of, state_in};
+ghost use Rattle.far_replay.specs.Moment.{moment_in, state_in};
 ghost use Rattle.far_replay.specs.Outcome.{IsInRoom};
 ghost use Rattle.far_replay.specs.Turn.{effect, reply_to};
 
 use crate::events::{dereference, try_view};
 use crate::outcome::Outcome;
-use crate::owners::own_pointer;
-use far_book::{Book, Plain};
+use crate::owners::{core_of, own_pointer};
+use far_book::Plain;
 use far_device::MemDevice;
+use far_evac::Evac;
 use far_word::Refused;
 use std::alloc::AllocError;
 
 /// Views an owner's object where one pin does, and else answers the cell that the pin found.
-pub fn try_object(book: &mut Book<Plain, MemDevice>, owner: u8, pointer: u64) -> Outcome
-    requires known { owner < (state_in book.old).mutators }
-    ensures state { moment_of (state_in book.new) ≡ effect (moment_of (state_in book.old)) (Mutator owner (Try pointer)) }
-    ensures reply { StandsFor result (reply_to (moment_of (state_in book.old)) (Mutator owner (Try pointer))) }
+pub fn try_object(evac: &mut Evac<Plain, MemDevice>, owner: u8, pointer: u64) -> Outcome
+    requires known { owner < (state_in evac.old).mutators }
+    ensures moment { moment_in evac.new ≡ effect (moment_in evac.old) (Mutator owner (Try pointer)) }
+    ensures reply { StandsFor result (reply_to (moment_in evac.old) (Mutator owner (Try pointer))) }
     ensures fits { IsInRoom result }
 {
-    if !book.core().is_open(owner) {
+    if !core_of(evac).is_open(owner) {
         return Outcome::Refused(Refused::Closed);
     }
-    let Some(pointer) = own_pointer(book, owner, pointer) else {
+    let Some(pointer) = own_pointer(evac, owner, pointer) else {
         return Outcome::Refused(Refused::NotHeld);
     };
-    match try_view(book, owner, pointer) {
+    match try_view(evac, owner, pointer) {
         Ok(()) => Outcome::Done,
         Err(word) => Outcome::Refused(Refused::Marked(word)),
     }
@@ -36,22 +37,22 @@ pub fn try_object(book: &mut Book<Plain, MemDevice>, owner: u8, pointer: u64) ->
 
 /// Views an owner's object, whatever marks it has. `Err` where it is far and its words are refused memory.
 pub fn view_object(
-    book: &mut Book<Plain, MemDevice>,
+    evac: &mut Evac<Plain, MemDevice>,
     owner: u8,
     pointer: u64,
 ) -> Result<Outcome, AllocError>
-    requires known { owner < (state_in book.old).mutators }
-    ensures state { OnOk result (moment_of (state_in book.new) ≡ effect (moment_of (state_in book.old)) (Mutator owner (View pointer))) }
-    ensures reply { IfOk result (λ outcome. StandsFor outcome (reply_to (moment_of (state_in book.old)) (Mutator owner (View pointer)))) }
+    requires known { owner < (state_in evac.old).mutators }
+    ensures moment { OnOk result (moment_in evac.new ≡ effect (moment_in evac.old) (Mutator owner (View pointer))) }
+    ensures reply { IfOk result (λ outcome. StandsFor outcome (reply_to (moment_in evac.old) (Mutator owner (View pointer)))) }
     ensures fits { IfOk result (λ outcome. IsInRoom outcome) }
 {
-    if !book.core().is_open(owner) {
+    if !core_of(evac).is_open(owner) {
         return Ok(Outcome::Refused(Refused::Closed));
     }
-    let Some(pointer) = own_pointer(book, owner, pointer) else {
+    let Some(pointer) = own_pointer(evac, owner, pointer) else {
         return Ok(Outcome::Refused(Refused::NotHeld));
     };
-    match dereference(book, owner, pointer) {
+    match dereference(evac, owner, pointer) {
         Ok(()) => Ok(Outcome::Done),
         Err(why) => Outcome::refused(why),
     }

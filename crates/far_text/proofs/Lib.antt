@@ -8,6 +8,7 @@ pub mod Parts
 pub mod Reading
 pub mod RecordLemmas
 pub mod SaysLemmas
+pub mod Scripts
 pub mod Searches
 pub mod TextLaws
 pub mod WordLemmas

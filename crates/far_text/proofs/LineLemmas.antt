@@ -1,5 +1,5 @@
 -- What a line says: comments, commands, and lines off the grammar.
-use Rattle.std.proofs.Common.{◌≡◌, inl, inr, ℕ, ◌<◌, ◌≤◌, ◌+◌, ◌^◌, ◌==◌, ◌&&◌, suc, zero, nat_lt, nat_le, List, [], ◌∷◌, ◌++◌, length, take, drop, get_or, Option, Some, None, true, false, Bool, decimal, cond, sym, ◌∙◌, ap, refl, arith, below_more, add-one, append-nil, eq-eqb}
+use Rattle.std.proofs.Common.{◌≡◌, inl, inr, ℕ, ◌<◌, ◌≤◌, ◌+◌, ◌^◌, ◌==◌, ◌&&◌, suc, zero, nat_lt, nat_le, List, [], ◌∷◌, ◌++◌, length, map, take, drop, get_or, Option, Some, None, true, false, Bool, decimal, cond, sym, ◌∙◌, ap, refl, arith, below_more, add-one, append-nil, eq-eqb}
 use Rattle.std.specs.List.{list_all, join_with_byte}
 use Rattle.std.proofs.lemmas.Bool.{and_parts, le-leb, lt-leb}
 use Rattle.std.proofs.lemmas.Bool.Decides.{Decides-ltb, nat_tests}
@@ -9,10 +9,10 @@ use Rattle.std.proofs.lemmas.List.Folds.{list_all-append, list_all_at}
 use Rattle.std.proofs.lemmas.List.Sums.{list_all-from_AllPass}
 use Rattle.std.proofs.lemmas.List.Splits.{join_with_byte-slice_split}
 use Rattle.std.proofs.Math.Seq.{drop-cons, drop-length, take-length}
-use Rattle.hex.specs.Hex.{is_hex_digit}
+use Rattle.hex.specs.Hex.{is_hex_digit, IsBytes}
 use Rattle.hex.proofs.HexLemmas.{decode_of-ok}
-use Rattle.far_text.specs.Command.{Entry, HeapLine, CommandLine, New, Open, Write, Read, Close, Where, Drop, View, Try, Epoch, Logs, Log, Audit, Mutator, Book}
-use Rattle.far_text.specs.Says.{Says, Spells}
+use Rattle.far_text.specs.Command.{Entry, HeapLine, CommandLine, New, Open, Write, Read, Close, Where, Drop, View, Try, Epoch, Logs, Log, Audit, Mutator, Book, Evacuator, Policy, Oldest, LeastLive, By, Script, Select, Mark, Wait, Evacuate, Abort, Round}
+use Rattle.far_text.specs.Says.{Says, Spells, policy_name}
 use Rattle.far_text.specs.Grammar.{Line, Skipped, Saying, Bad, saying, line_of, is_plain, is_skipped, entry_of, lines_of, line_words}
 use Rattle.far_text.specs.Cursor.{front_of, first_line, lines_after_first, words_in}
 use Rattle.far_text.proofs.Cuts.{split_on, line_at}
@@ -45,6 +45,16 @@ hex_ascii (x ∷ xs) e =
 spelled_ascii : (word bytes : List ℕ) → Spells word bytes → list_all is_ascii word ≡ true
 spelled_ascii word bytes h = hex_ascii word (list_all-from_AllPass is_hex_digit word (decode_of-ok word bytes h.0).1)
 
+policy_ascii : (policy : Policy) → list_all is_ascii (policy_name policy) ≡ true
+policy_ascii Oldest = refl
+policy_ascii LeastLive = refl
+
+logs_ascii : (logs : List ℕ) → IsBytes logs → list_all (list_all is_ascii) (map decimal logs) ≡ true
+logs_ascii [] small = refl
+logs_ascii (log ∷ logs) small =
+    let first : log < 256 = small 0 in
+    rw (decimal_ascii log (omega arith), logs_ascii logs (λ k. small (suc k))) refl
+
 -- the words of an entry are ASCII
 said_ascii : (words : List (List ℕ)) (c : Entry) → Says words c → list_all (list_all is_ascii) words ≡ true
 said_ascii words (HeapLine l m e) (inl h, first, second, third) = ap (list_all (list_all is_ascii)) h ∙ rw (decimal_ascii l first, decimal_ascii m second, decimal_ascii e third) refl
@@ -63,6 +73,15 @@ said_ascii words (CommandLine (Mutator m Epoch)) h = ap (list_all (list_all is_a
 said_ascii words (CommandLine (Book Logs)) h = ap (list_all (list_all is_ascii)) h
 said_ascii words (CommandLine (Book (Log l))) h = ap (list_all (list_all is_ascii)) h.0 ∙ rw (decimal_ascii l h.1) refl
 said_ascii words (CommandLine (Book Audit)) h = ap (list_all (list_all is_ascii)) h
+said_ascii words (CommandLine (Evacuator (Select (By policy) most))) h = ap (list_all (list_all is_ascii)) h.0 ∙ rw (policy_ascii policy, decimal_ascii most (omega (arith, h.1))) refl
+said_ascii words (CommandLine (Evacuator (Select (Script logs) most))) h =
+    ap (list_all (list_all is_ascii)) h.0 ∙ rw (decimal_ascii most (omega (arith, h.1)), logs_ascii logs h.2.0) refl
+said_ascii words (CommandLine (Evacuator (Mark count))) h = ap (list_all (list_all is_ascii)) h.0 ∙ rw (decimal_ascii count h.1) refl
+said_ascii words (CommandLine (Evacuator Wait)) h = ap (list_all (list_all is_ascii)) h
+said_ascii words (CommandLine (Evacuator (Evacuate count))) h = ap (list_all (list_all is_ascii)) h.0 ∙ rw (decimal_ascii count h.1) refl
+said_ascii words (CommandLine (Evacuator Abort)) h = ap (list_all (list_all is_ascii)) h
+said_ascii words (CommandLine (Evacuator (Round policy most turns))) h =
+    ap (list_all (list_all is_ascii)) h.0 ∙ rw (policy_ascii policy, decimal_ascii most (omega (arith, h.1)), decimal_ascii turns h.2) refl
 
 joined_ascii : (words : List (List ℕ)) → list_all (list_all is_ascii) words ≡ true → list_all is_ascii (join_with_byte 32 words) ≡ true
 joined_ascii [] e = refl

@@ -1,13 +1,41 @@
 -- What words say, and what they are read as.
-use Rattle.std.proofs.Common.{◌≡◌, ◌⊎◌, inl, inr, ℕ, zero, suc, ◌<◌, ◌^◌, Bool, true, false, cond, List, [], ◌∷◌, Option, Some, None, codes, decimal, sym, ◌∙◌, ap, refl, subst, arith}
+use Rattle.std.proofs.Common.{◌≡◌, ◌⊎◌, inl, inr, ℕ, zero, suc, ◌<◌, ◌≤◌, ◌^◌, nat_lt, nat_le, length, map, Bool, true, false, cond, List, [], ◌∷◌, Option, Some, None, codes, decimal, sym, ◌∙◌, ap, refl, subst, arith}
 use Rattle.std.specs.Str.{bytes_eq}
+use Rattle.std.specs.Option.{option_map, option_and_then}
+use Rattle.std.proofs.lemmas.Bool.{le-leb, leb-true}
+use Rattle.std.proofs.lemmas.Bool.Decides.{Decides-ltb}
+use Rattle.std.proofs.lemmas.List.{length-map}
+use Rattle.hex.specs.Hex.{IsBytes}
 use Rattle.std.proofs.lemmas.Slice.Eq.{bytes_eq-Decides}
-use Rattle.far_text.specs.Command.{Entry, HeapLine, CommandLine, New, Open, Write, Read, Close, Where, Drop, View, Try, Epoch, Logs, Log, Audit, Mutator, Book}
-use Rattle.far_text.specs.Says.{Says, Spells}
-use Rattle.far_text.specs.Grammar.{says_heap, asks_read, asks_write, asks_open, asks_close, asks_new, asks_where, asks_drop, asks_view, asks_try, asks_epoch, asks_log, From, Operands, Numbers, NumbersAndOneOr, NumbersAndBytes, number_of, bytes_in, next_number, last_bytes, numbers_then, one_or, entry_at_end, entry_from, table, found_in, entry_of, ◌>>=◌}
+use Rattle.far_text.specs.Command.{Entry, HeapLine, CommandLine, New, Open, Write, Read, Close, Where, Drop, View, Try, Epoch, Logs, Log, Audit, Mutator, Book, Evacuator, Policy, Oldest, LeastLive, By, Script, Step, Select, Mark, Wait, Evacuate, Abort, Round}
+use Rattle.far_text.specs.Says.{Says, Spells, AreLogs, policy_name}
+use Rattle.far_text.specs.Grammar.{says_heap, asks_read, asks_write, asks_open, asks_close, asks_new, asks_where, asks_drop, asks_view, asks_try, asks_epoch, asks_log, asks_mark, asks_evacuate, asks_select, asks_round, asks_script, select_by, round_by, policy_of, log_of, each_log, logs_of, limited, step_line, perhaps, From, Operands, Numbers, NumbersAndOneOr, NumbersAndBytes, WordThen, number_of, bytes_in, next_number, last_bytes, numbers_then, one_or, entry_at_end, entry_from, steps, table, found_in, entry_of, ◌>>=◌}
 use Rattle.far_text.proofs.Each.{Each}
 use Rattle.far_text.proofs.HexLemmas.{spelled_is_hex, hex_is_spelled}
 use Rattle.far_text.proofs.Numbers.{number_is, number_only}
+
+-- ---- logs and policies
+-- a log that is printed is read
+log_read : (log : ℕ) → log < 256 → log_of (decimal log) ≡ Some log
+log_read log h = rw (number_is (decimal log) log (omega arith) refl, (Decides-ltb log 256).1 h) refl
+
+logs_read : (logs : List ℕ) → IsBytes logs → each_log (map decimal logs) ≡ Some logs
+logs_read [] small = refl
+logs_read (log ∷ logs) small = rw (log_read log (small 0), logs_read logs (λ k. small (suc k))) refl
+
+script_read : (logs : List ℕ) → AreLogs logs → logs_of (map decimal logs) ≡ Some logs
+script_read [] h = absurd (omega (arith, h.1))
+script_read (log ∷ logs) h =
+    let fits : nat_le (length (decimal log ∷ map decimal logs)) 2048 ≡ true = le-leb _ 2048 (omega (arith, h.2, length-map logs decimal)) in
+    rw fits (logs_read (log ∷ logs) h.0)
+
+policy_read : (policy : Policy) → policy_of (policy_name policy) ≡ Some policy
+policy_read Oldest = refl
+policy_read LeastLive = refl
+
+no_script : (policy : Policy) → bytes_eq (policy_name policy) (codes "script") ≡ false
+no_script Oldest = refl
+no_script LeastLive = refl
 
 pub said_is_read : (words : List (List ℕ)) (c : Entry) → Says words c → entry_of words ≡ Some c
 said_is_read words (CommandLine (Mutator m (Read p f l))) h = ap entry_of h.0 ∙ rw (number_is (decimal m) m h.1 refl, number_is (decimal p) p h.2 refl, number_is (decimal f) f h.3 refl, number_is (decimal l) l h.4 refl) refl
@@ -26,6 +54,16 @@ said_is_read words (CommandLine (Mutator m Epoch)) h = ap entry_of h.0 ∙ rw (n
 said_is_read words (CommandLine (Book Logs)) h = ap entry_of h
 said_is_read words (CommandLine (Book (Log l))) h = ap entry_of h.0 ∙ rw (number_is (decimal l) l h.1 refl) refl
 said_is_read words (CommandLine (Book Audit)) h = ap entry_of h
+said_is_read words (CommandLine (Evacuator (Select (By policy) most))) h =
+    ap entry_of h.0 ∙ rw (no_script policy, policy_read policy, number_is (decimal most) most (omega (arith, h.1)) refl, le-leb most 64 h.1) refl
+said_is_read words (CommandLine (Evacuator (Select (Script logs) most))) h =
+    ap entry_of h.0 ∙ rw (number_is (decimal most) most (omega (arith, h.1)) refl, script_read logs h.2, le-leb most 64 h.1) refl
+said_is_read words (CommandLine (Evacuator (Mark n))) h = ap entry_of h.0 ∙ rw (number_is (decimal n) n h.1 refl) refl
+said_is_read words (CommandLine (Evacuator Wait)) h = ap entry_of h
+said_is_read words (CommandLine (Evacuator (Evacuate n))) h = ap entry_of h.0 ∙ rw (number_is (decimal n) n h.1 refl) refl
+said_is_read words (CommandLine (Evacuator Abort)) h = ap entry_of h
+said_is_read words (CommandLine (Evacuator (Round policy most turns))) h =
+    ap entry_of h.0 ∙ rw (policy_read policy, number_is (decimal most) most (omega (arith, h.1)) refl, number_is (decimal turns) turns h.2 refl, le-leb most 64 h.1) refl
 
 chosen : {X : Type 0} (b : Bool) (x y z : X) → cond b x y ≡ z → ((b ≡ true) × (x ≡ z)) ⊎ ((b ≡ false) × (y ≡ z))
 chosen true x y z e = inl (refl, e)
@@ -191,8 +229,147 @@ audit_said words c e =
     let (t, b, is, same) = numbers_only 0 (CommandLine (Book Audit)) words c e in
     subst (Says (codes "audit" ∷ words)) same (ap (λ ws. codes "audit" ∷ ws) is)
 
+-- ---- the steps
+mark_said : IsSaid (codes "mark", Numbers 1 asks_mark)
+mark_said words c e =
+    let (t, b, is, same) = numbers_only 1 asks_mark words c e in
+    subst (Says (codes "mark" ∷ words)) same (ap (λ ws. codes "mark" ∷ ws) is, b.0)
+
+wait_said : IsSaid (codes "wait", Numbers 0 (CommandLine (Evacuator Wait)))
+wait_said words c e =
+    let (t, b, is, same) = numbers_only 0 (CommandLine (Evacuator Wait)) words c e in
+    subst (Says (codes "wait" ∷ words)) same (ap (λ ws. codes "wait" ∷ ws) is)
+
+evacuate_said : IsSaid (codes "evacuate", Numbers 1 asks_evacuate)
+evacuate_said words c e =
+    let (t, b, is, same) = numbers_only 1 asks_evacuate words c e in
+    subst (Says (codes "evacuate" ∷ words)) same (ap (λ ws. codes "evacuate" ∷ ws) is, b.0)
+
+abort_said : IsSaid (codes "abort", Numbers 0 (CommandLine (Evacuator Abort)))
+abort_said words c e =
+    let (t, b, is, same) = numbers_only 0 (CommandLine (Evacuator Abort)) words c e in
+    subst (Says (codes "abort" ∷ words)) same (ap (λ ws. codes "abort" ∷ ws) is)
+
+-- a word that is read as a policy is its name
+policy_only : (word : List ℕ) (policy : Policy) → policy_of word ≡ Some policy → word ≡ policy_name policy
+policy_only word policy e = elim (chosen (bytes_eq word (codes "oldest")) _ _ (Some policy) e) [
+  | inl k ↦ let same : Oldest ≡ policy = cc k.1 in (bytes_eq-Decides word (codes "oldest")).0 k.0 ∙ ap policy_name same
+  | inr k ↦ elim (chosen (bytes_eq word (codes "leastlive")) _ _ (Some policy) k.1) [
+    | inl j ↦ let same : LeastLive ≡ policy = cc j.1 in (bytes_eq-Decides word (codes "leastlive")).0 j.0 ∙ ap policy_name same
+    | inr j ↦ absurd (cc j.1)
+  ]
+]
+
+-- what a policy is asked with, where a word names one
+policy_then : (word : List ℕ) (f : Policy → Option Entry) (c : Entry) → (policy_of word >>= f) ≡ Some c → (policy : Policy) × (word ≡ policy_name policy) × (f policy ≡ Some c)
+policy_then word f c e = elim (policy_of word) as (λ o. policy_of word ≡ o → (o >>= f) ≡ Some c → (policy : Policy) × (word ≡ policy_name policy) × (f policy ≡ Some c)) [
+  | Some policy ↦ λ is k. (policy, policy_only word policy is, k)
+  | None ↦ λ is k. absurd (cc k)
+] refl e
+
+-- what numbers that may make nothing make
+perhaps_said : (n : ℕ) (make : From n (Option Entry)) (words : List (List ℕ)) (c : Entry) → perhaps n make words ≡ Some c →
+    (t : Several n) × Below n t × (words ≡ in_front n t []) × (made_of n make t ≡ Some c)
+perhaps_said n make words c e =
+    let (t, behind, below, is, last) = several_then n make (λ entry after. option_and_then (entry_at_end after) entry) words c e in
+    let (none, same) = ended (made_of n make t) behind last in
+    (t, below, is ∙ ap (in_front n t) none, same)
+  where
+    ended : (o : Option Entry) (after : List (List ℕ)) → option_and_then (entry_at_end after) o ≡ Some c → (after ≡ []) × (o ≡ Some c)
+    ended None after k = absurd (cc k)
+    ended (Some d) after k = let (none, same) = ended_then after d c k in (none, ap Some same)
+
+-- a step that is within the limit
+limited_only : (most : ℕ) (step : Option Step) (c : Entry) → step_line (limited most step) ≡ Some c → (most ≤ 64) × (step_line step ≡ Some c)
+limited_only most step c e = elim (chosen (nat_le most 64) (step_line step) None (Some c) (spread (nat_le most 64) ∙ e)) [
+  | inl k ↦ (leb-true most 64 k.0, k.1)
+  | inr k ↦ absurd (cc k.1)
+]
+  where
+    spread : (b : Bool) → cond b (step_line step) None ≡ step_line (cond b step None)
+    spread true = refl
+    spread false = refl
+
+-- words that are read as logs print them
+log_only : (word : List ℕ) (log : ℕ) → log_of word ≡ Some log → (log < 256) × (word ≡ decimal log)
+log_only word log e = elim (number_of word) as (λ o. number_of word ≡ o → (o >>= λ n. cond (nat_lt n 256) (Some n) None) ≡ Some log → (log < 256) × (word ≡ decimal log)) [
+  | Some n ↦ λ is k. elim (chosen (nat_lt n 256) (Some n) None (Some log) k) [
+    | inl j ↦ let same : n ≡ log = cc j.1 in subst (λ m. (m < 256) × (word ≡ decimal m)) same ((Decides-ltb n 256).0 j.0, (number_only word n is).1)
+    | inr j ↦ absurd (cc j.1)
+  ]
+  | None ↦ λ is k. absurd (cc k)
+] refl e
+
+bytes_more : (log : ℕ) (logs : List ℕ) → log < 256 → IsBytes logs → IsBytes (log ∷ logs)
+bytes_more log logs first rest zero = first
+bytes_more log logs first rest (suc k) = rest k
+
+logs_only : (words : List (List ℕ)) (logs : List ℕ) → each_log words ≡ Some logs → IsBytes logs × (words ≡ map decimal logs)
+logs_only [] logs e = let none : [] ≡ logs = cc e in subst (λ l. IsBytes l × ([] ≡ map decimal l)) none (no_bytes, refl)
+  where
+    no_bytes : IsBytes []
+    no_bytes k = omega arith
+logs_only (word ∷ words) logs e = elim (log_of word) as (λ o. log_of word ≡ o → (o >>= λ log. option_map (λ logs. log ∷ logs) (each_log words)) ≡ Some logs → IsBytes logs × (word ∷ words ≡ map decimal logs)) [
+  | Some log ↦ λ is k. elim (each_log words) as (λ o. each_log words ≡ o → option_map (λ logs. log ∷ logs) o ≡ Some logs → IsBytes logs × (word ∷ words ≡ map decimal logs)) [
+    | Some more ↦ λ are j.
+        let first = log_only word log is in
+        let rest = logs_only words more are in
+        let all : log ∷ more ≡ logs = cc j in
+        subst (λ l. IsBytes l × (word ∷ words ≡ map decimal l)) all (bytes_more log more first.0 rest.0, rw (first.1, rest.1) refl)
+    | None ↦ λ are j. absurd (cc j)
+  ] refl k
+  | None ↦ λ is k. absurd (cc k)
+] refl e
+
+script_only : (words : List (List ℕ)) (logs : List ℕ) → logs_of words ≡ Some logs → AreLogs logs × (words ≡ map decimal logs)
+script_only [] logs e = absurd (cc e)
+script_only (word ∷ words) logs e = elim (chosen (nat_le (length (word ∷ words)) 2048) (each_log (word ∷ words)) None (Some logs) e) [
+  | inl k ↦ (
+      let are = logs_only (word ∷ words) logs k.1 in
+      let many : length (word ∷ words) ≡ length logs = ap length are.1 ∙ length-map logs decimal in
+      let few : length (word ∷ words) ≤ 2048 = leb-true (length (word ∷ words)) 2048 k.0 in
+      ((are.0, omega arith, omega arith), are.1))
+  | inr k ↦ absurd (cc k.1)
+]
+
+script_said : (words : List (List ℕ)) (c : Entry) → asks_script words ≡ Some c → Says (codes "select" ∷ codes "script" ∷ words) c
+script_said words c e =
+    let (most, rest, small, is, more) = number_then words (λ first. step_line (limited first.0 (option_map (λ choice. Select choice first.0) (option_map Script (logs_of first.1))))) c e in
+    let (few, line) = limited_only most (option_map (λ choice. Select choice most) (option_map Script (logs_of rest))) c more in
+    elim (logs_of rest) as (λ o. logs_of rest ≡ o → step_line (option_map (λ choice. Select choice most) (option_map Script o)) ≡ Some c → Says (codes "select" ∷ codes "script" ∷ words) c) [
+      | Some logs ↦ λ are k.
+          let (logs_are, printed) = script_only rest logs are in
+          let made : CommandLine (Evacuator (Select (Script logs) most)) ≡ c = cc k in
+          subst (Says (codes "select" ∷ codes "script" ∷ words)) made (ap (λ ws. codes "select" ∷ codes "script" ∷ ws) (is ∙ ap (λ ws. decimal most ∷ ws) printed), few, logs_are)
+      | None ↦ λ are k. absurd (cc k)
+    ] refl line
+
+select_said : IsSaid (codes "select", WordThen select_by)
+select_said [] c e = absurd (cc e)
+select_said (word ∷ words) c e = elim (chosen (bytes_eq word (codes "script")) (asks_script words) (policy_of word >>= λ policy. perhaps 1 (asks_select policy) words) (Some c) e) [
+  | inl k ↦ subst (λ w. Says (codes "select" ∷ w ∷ words) c) (sym ((bytes_eq-Decides word (codes "script")).0 k.0)) (script_said words c k.1)
+  | inr k ↦ (
+      let (policy, name, more) = policy_then word (λ policy. perhaps 1 (asks_select policy) words) c k.1 in
+      let (t, b, is, same) = perhaps_said 1 (asks_select policy) words c more in
+      let (few, line) = limited_only t.0 (Some (Select (By policy) t.0)) c same in
+      let made : CommandLine (Evacuator (Select (By policy) t.0)) ≡ c = cc in
+      subst (Says (codes "select" ∷ word ∷ words)) made (ap (λ w. codes "select" ∷ w ∷ words) name ∙ ap (λ ws. codes "select" ∷ policy_name policy ∷ ws) is, few))
+]
+
+round_said : IsSaid (codes "round", WordThen round_by)
+round_said [] c e = absurd (cc e)
+round_said (word ∷ words) c e =
+    let (policy, name, more) = policy_then word (λ policy. perhaps 2 (asks_round policy) words) c e in
+    let (t, b, is, same) = perhaps_said 2 (asks_round policy) words c more in
+    let (few, line) = limited_only t.0 (Some (Round policy t.0 t.1.0)) c same in
+    let made : CommandLine (Evacuator (Round policy t.0 t.1.0)) ≡ c = cc in
+    subst (Says (codes "round" ∷ word ∷ words)) made (ap (λ w. codes "round" ∷ w ∷ words) name ∙ ap (λ ws. codes "round" ∷ policy_name policy ∷ ws) is, few, b.1.0)
+
+steps_said : Each IsSaid steps
+steps_said = (select_said, (mark_said, (wait_said, (evacuate_said, (abort_said, (round_said, tt))))))
+
 rows_said : Each IsSaid table
-rows_said = (read_said, (write_said, (open_said, (close_said, (new_said, (heap_said, (logs_said, (where_said, (drop_said, (view_said, (try_said, (epoch_said, (log_said, (audit_said, tt))))))))))))))
+rows_said = (read_said, (write_said, (open_said, (close_said, (new_said, (heap_said, (logs_said, (where_said, (drop_said, (view_said, (try_said, (epoch_said, (log_said, (audit_said, steps_said))))))))))))))
 
 -- words that begin with a command's name
 named : (name word : List ℕ) (args : List (List ℕ)) (c : Entry) → bytes_eq name word ≡ true → Says (word ∷ args) c → Says (name ∷ args) c

@@ -7,7 +7,7 @@ use Rattle.std.proofs.lemmas.Bool.Decides.{nat_tests}
 use Rattle.std.proofs.lemmas.List.Splits.{join_with_byte-slice_split}
 use Rattle.hex.proofs.HexLemmas.{decode_of-ok}
 use Rattle.far_text.specs.declared.text.TheConstants.{LONGEST_TEXT}
-use Rattle.far_text.specs.Command.{Command, Entry, HeapLine, CommandLine, Trace, Nothing, Heap, New, Open, Write, Read, Close, Where, Drop, View, Try, Epoch, Mutator, Book}
+use Rattle.far_text.specs.Command.{Command, Entry, HeapLine, CommandLine, Trace, Nothing, Heap, New, Open, Write, Read, Close, Where, Drop, View, Try, Epoch, Mutator, Book, Evacuator, By, Script, Select, Mark, Wait, Evacuate, Abort, Round}
 use Rattle.far_text.specs.Grammar.{Line, Skipped, Saying, Bad, line_of, lines_of, line_words, is_plain, is_skipped, saying, entry_of, trace_of, onto, with_heap, read_command, read_commands, read_heap, read_lines}
 use Rattle.far_text.specs.TraceText.{IsPassed, Speaks, LinesSay, LinesAre, TextSays, FirstBad, HaveNone}
 use Rattle.far_text.specs.Says.{Says}
@@ -285,6 +285,13 @@ words_write words (Mutator m (View p)) h = tt
 words_write words (Mutator m (Try p)) h = tt
 words_write words (Mutator m Epoch) h = tt
 words_write words (Book inquiry) h = tt
+words_write words (Evacuator (Select (By policy) most)) h = h.1
+words_write words (Evacuator (Select (Script logs) most)) h = (h.2.0, h.1)
+words_write words (Evacuator (Mark count)) h = tt
+words_write words (Evacuator Wait) h = tt
+words_write words (Evacuator (Evacuate count)) h = tt
+words_write words (Evacuator Abort) h = tt
+words_write words (Evacuator (Round policy most turns)) h = h.1
 
 lines_write : (lines : List (List ℕ)) (cs : List Command) → LinesSay lines cs → AllWriteBytes cs
 lines_write [] [] h = tt

@@ -1,12 +1,9 @@
 -- How far a text is read: what the words and the lines are that are left of it.
 use Rattle.std.specs.Prelude.{ℕ, Bool, ◌||◌, ◌==◌, List, [], ◌∷◌, Option, Some, None}
 use Rattle.std.specs.Borrow.{Bor}
-use Rattle.far_text.specs.Spelled.{entry_spelled}
-use Rattle.far_text.specs.Grammar.{Line, Skipped, saying, line_words, lines_of}
+use Rattle.far_text.specs.Grammar.{line_words, lines_of}
 use Rattle.far_text.specs.declared.cursor.Rest.{Rest}
 use Rattle.far_text.specs.declared.cursor.Rest.TheVariants.{Words, Lines}
-use Rattle.far_text.specs.declared.line.Line.{Line as Spelled}
-use Rattle.far_text.specs.declared.line.Line.TheVariants.{Skipped as SpelledSkipped, Said as SpelledSaid}
 
 -- a space or a newline ends a word
 abbrev pub is_end : ℕ → Bool
@@ -45,8 +42,3 @@ words_left (Lines lines) = []
 abbrev pub lines_after : Rest → List (List ℕ)
 lines_after (Words text) = lines_after_first text.now
 lines_after (Lines lines) = lines_left lines
-
--- the line that is spelled so
-abbrev pub as_line : Spelled → Line
-as_line SpelledSkipped = Skipped
-as_line (SpelledSaid entry) = saying (entry_spelled entry)

@@ -3,9 +3,11 @@ use Rattle.std.specs.Prelude.{◌≡◌, ℕ, Bool, ◌&&◌, ◌^◌, nat_lt, n
 use Rattle.std.specs.Str.{bytes_eq}
 use Rattle.std.specs.Str.Parse.{digits_value}
 use Rattle.std.specs.List.{slice_split, list_all}
-use Rattle.far_text.specs.Command.{Command, Entry, HeapLine, CommandLine, Trace, Nothing, Heap, New, Open, Write, Read, Close, Where, Drop, View, Try, Epoch, Logs, Log, Audit, Mutator, Book}
+use Rattle.std.specs.Option.{option_map, option_and_then}
+use Rattle.far_text.specs.Command.{Command, Entry, HeapLine, CommandLine, Trace, Nothing, Heap, New, Open, Write, Read, Close, Where, Drop, View, Try, Epoch, Logs, Log, Audit, Mutator, Book, Evacuator, Policy, Oldest, LeastLive, By, Script, Step, Select, Mark, Wait, Evacuate, Abort, Round}
 use Rattle.far_text.specs.HexWord.{is_hex_word, hex_bytes}
-use Rattle.far_text.specs.declared.hex_word.TheConstants.{LONGEST_LINE}
+use Rattle.far_text.specs.declared.command.TheConstants.{MOST_CHOSEN, LOG_NAMES}
+use Rattle.far_text.specs.declared.hex_word.TheConstants.{LONGEST_LINE, LONGEST_BYTES}
 use Rattle.far_text.specs.declared.text.TheConstants.{LONGEST_TEXT}
 use Rattle.far_text.specs.declared.text.ParseError.{ParseError}
 use Rattle.far_text.specs.declared.text.ParseError.TheVariants.{Memory, Syntax}
@@ -45,11 +47,13 @@ abbrev pub From : ℕ → Type 0 → Type 0
 From zero X = X
 From (suc n) X = ℕ → From n X
 
--- so many numbers and no more; or so many, and one more or none, which stands for the number that is named here; or so many, a word in hex, and no more
+-- so many numbers and no more; or so many, and one more or none, which stands for the number that is named here; or so many, a word in hex, and no more; or a word,
+-- and what it makes of those after it
 pub data Operands : Type 0 where
   Numbers : (n : ℕ) (make : From n Entry) → Operands
   NumbersAndOneOr : (n missing : ℕ) (make : From n (ℕ → Entry)) → Operands
   NumbersAndBytes : (n : ℕ) (make : From n (List ℕ → Entry)) → Operands
+  WordThen : (make : List ℕ → List (List ℕ) → Option Entry) → Operands
 
 -- what is made of n numbers and of the words after them
 abbrev pub numbers_then : {X : Type 0} → (n : ℕ) → From n X → (X → List (List ℕ) → Option Entry) → List (List ℕ) → Option Entry
@@ -61,10 +65,20 @@ abbrev pub one_or : ℕ → (ℕ → Entry) → List (List ℕ) → Option Entry
 one_or missing make [] = Some (make missing)
 one_or missing make (word ∷ words) = next_number (word ∷ words) >>= λ first. entry_at_end first.1 (make first.0)
 
+-- what n numbers and no more make, if they make anything
+abbrev pub perhaps : (n : ℕ) → From n (Option Entry) → List (List ℕ) → Option Entry
+perhaps n make words = numbers_then n make (λ entry after. option_and_then (entry_at_end after) entry) words
+
+-- what a word makes of those after it
+abbrev pub word_then : (List ℕ → List (List ℕ) → Option Entry) → List (List ℕ) → Option Entry
+word_then make [] = None
+word_then make (word ∷ words) = make word words
+
 abbrev pub entry_from : Operands → List (List ℕ) → Option Entry
 entry_from (Numbers n make) words = numbers_then n make (λ entry after. entry_at_end after entry) words
 entry_from (NumbersAndOneOr n missing make) words = numbers_then n make (one_or missing) words
 entry_from (NumbersAndBytes n make) words = numbers_then n make (λ entry after. last_bytes after >>= λ bytes. Some (entry bytes)) words
+entry_from (WordThen make) words = word_then make words
 
 -- ---- the lines by their names
 -- a mutator's number stands before what it asks for
@@ -105,6 +119,65 @@ asks_epoch m = CommandLine (Mutator m Epoch)
 abbrev pub asks_log : From 1 Entry
 asks_log log = CommandLine (Book (Log log))
 
+-- ---- the steps of the evacuator
+-- the policy that a word names
+abbrev pub policy_of : List ℕ → Option Policy
+policy_of word = if bytes_eq word (codes "oldest") then Some Oldest else (if bytes_eq word (codes "leastlive") then Some LeastLive else None)
+
+-- the log that a word prints
+abbrev pub log_of : List ℕ → Option ℕ
+log_of word = number_of word >>= λ n. if nat_lt n LOG_NAMES then Some n else None
+
+-- the logs that words print, each of them
+abbrev pub each_log : List (List ℕ) → Option (List ℕ)
+each_log [] = Some []
+each_log (word ∷ words) = log_of word >>= λ log. option_map (λ logs. log ∷ logs) (each_log words)
+
+-- the logs of a script: one at least, and no more than a line has room for
+abbrev pub logs_of : List (List ℕ) → Option (List ℕ)
+logs_of [] = None
+logs_of (word ∷ words) = if nat_le (length (word ∷ words)) LONGEST_BYTES then each_log (word ∷ words) else None
+
+-- a step, where it chooses no more logs than may be chosen
+abbrev pub limited : ℕ → Option Step → Option Step
+limited most step = if nat_le most MOST_CHOSEN then step else None
+
+abbrev pub step_line : Option Step → Option Entry
+step_line step = option_map CommandLine (option_map Evacuator step)
+
+abbrev pub asks_mark : From 1 Entry
+asks_mark count = CommandLine (Evacuator (Mark count))
+
+abbrev pub asks_evacuate : From 1 Entry
+asks_evacuate count = CommandLine (Evacuator (Evacuate count))
+
+abbrev pub asks_select : Policy → From 1 (Option Entry)
+asks_select policy most = step_line (limited most (Some (Select (By policy) most)))
+
+abbrev pub asks_round : Policy → From 2 (Option Entry)
+asks_round policy most turns = step_line (limited most (Some (Round policy most turns)))
+
+abbrev pub asks_script : List (List ℕ) → Option Entry
+asks_script words = next_number words >>= λ first. step_line (limited first.0 (option_map (λ choice. Select choice first.0) (option_map Script (logs_of first.1))))
+
+-- the word names a policy, or says that a script stands after it
+abbrev pub select_by : List ℕ → List (List ℕ) → Option Entry
+select_by word words = if bytes_eq word (codes "script") then asks_script words else (policy_of word >>= λ policy. perhaps 1 (asks_select policy) words)
+
+abbrev pub round_by : List ℕ → List (List ℕ) → Option Entry
+round_by word words = policy_of word >>= λ policy. perhaps 2 (asks_round policy) words
+
+abbrev pub steps : List (List ℕ × Operands)
+steps =
+    (codes "select", WordThen select_by)
+    ∷ (codes "mark", Numbers 1 asks_mark)
+    ∷ (codes "wait", Numbers 0 (CommandLine (Evacuator Wait)))
+    ∷ (codes "evacuate", Numbers 1 asks_evacuate)
+    ∷ (codes "abort", Numbers 0 (CommandLine (Evacuator Abort)))
+    ∷ (codes "round", WordThen round_by)
+    ∷ []
+
+-- ---- all lines
 abbrev pub table : List (List ℕ × Operands)
 table =
     (codes "read", Numbers 4 asks_read)
@@ -121,7 +194,7 @@ table =
     ∷ (codes "epoch", Numbers 1 asks_epoch)
     ∷ (codes "log", Numbers 1 asks_log)
     ∷ (codes "audit", Numbers 0 (CommandLine (Book Audit)))
-    ∷ []
+    ∷ steps
 
 -- the entry of this name in a table, by the words after the name
 abbrev pub found_in : List (List ℕ × Operands) → List ℕ → List (List ℕ) → Option Entry

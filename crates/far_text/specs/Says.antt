@@ -1,12 +1,22 @@
--- Which words say the heap's line, and which a command: its name, its numbers as they are printed, its bytes in hex.
-use Rattle.std.specs.Prelude.{◌≡◌, ◌⊎◌, ℕ, ◌<◌, ◌≤◌, ◌^◌, List, [], ◌∷◌, length, codes, decimal, Ok}
-use Rattle.hex.specs.Hex.{decode_of}
-use Rattle.far_text.specs.declared.hex_word.TheConstants.{LONGEST_LINE}
-use Rattle.far_text.specs.Command.{Entry, HeapLine, CommandLine, New, Open, Write, Read, Close, Where, Drop, View, Try, Epoch, Logs, Log, Audit, Mutator, Book}
+-- Which words say the heap's line, and which a command: its name, its numbers as they are printed, its bytes in hex, its policy by name.
+use Rattle.std.specs.Prelude.{◌≡◌, ◌⊎◌, ℕ, ◌<◌, ◌≤◌, ◌^◌, List, [], ◌∷◌, length, map, codes, decimal, Ok}
+use Rattle.hex.specs.Hex.{decode_of, IsBytes}
+use Rattle.far_text.specs.declared.command.TheConstants.{MOST_CHOSEN}
+use Rattle.far_text.specs.declared.hex_word.TheConstants.{LONGEST_LINE, LONGEST_BYTES}
+use Rattle.far_text.specs.Command.{Entry, HeapLine, CommandLine, New, Open, Write, Read, Close, Where, Drop, View, Try, Epoch, Logs, Log, Audit, Mutator, Book, Evacuator, Policy, Oldest, LeastLive, By, Script, Select, Mark, Wait, Evacuate, Abort, Round}
 
 -- A word in hex stands for these bytes, one at least; a word is no longer than a line.
 abbrev pub Spells : List ℕ → List ℕ → Type 0
 Spells word bytes = (decode_of word ≡ Ok bytes) × (0 < length bytes) × (length word ≤ LONGEST_LINE)
+
+-- The name of a policy.
+abbrev pub policy_name : Policy → List ℕ
+policy_name Oldest = codes "oldest"
+policy_name LeastLive = codes "leastlive"
+
+-- Numbers that a script may name as logs: bytes, one at least, and no more than a line has room for.
+abbrev pub AreLogs : List ℕ → Type 0
+AreLogs logs = IsBytes logs × (0 < length logs) × (length logs ≤ LONGEST_BYTES)
 
 -- These words say the entry. A heap's line needs no first epoch, which is 0 then.
 abbrev pub Says : List (List ℕ) → Entry → Type 0
@@ -36,3 +46,12 @@ Says words (CommandLine (Mutator mutator Epoch)) = (words ≡ codes "epoch" ∷ 
 Says words (CommandLine (Book Logs)) = words ≡ codes "logs" ∷ []
 Says words (CommandLine (Book (Log log))) = (words ≡ codes "log" ∷ decimal log ∷ []) × (log < 2 ^ 64)
 Says words (CommandLine (Book Audit)) = words ≡ codes "audit" ∷ []
+Says words (CommandLine (Evacuator (Select (By policy) most))) = (words ≡ codes "select" ∷ policy_name policy ∷ decimal most ∷ []) × (most ≤ MOST_CHOSEN)
+Says words (CommandLine (Evacuator (Select (Script logs) most))) =
+    (words ≡ codes "select" ∷ codes "script" ∷ decimal most ∷ map decimal logs) × (most ≤ MOST_CHOSEN) × AreLogs logs
+Says words (CommandLine (Evacuator (Mark count))) = (words ≡ codes "mark" ∷ decimal count ∷ []) × (count < 2 ^ 64)
+Says words (CommandLine (Evacuator Wait)) = words ≡ codes "wait" ∷ []
+Says words (CommandLine (Evacuator (Evacuate count))) = (words ≡ codes "evacuate" ∷ decimal count ∷ []) × (count < 2 ^ 64)
+Says words (CommandLine (Evacuator Abort)) = words ≡ codes "abort" ∷ []
+Says words (CommandLine (Evacuator (Round policy most turns))) =
+    (words ≡ codes "round" ∷ policy_name policy ∷ decimal most ∷ decimal turns ∷ []) × (most ≤ MOST_CHOSEN) × (turns < 2 ^ 64)

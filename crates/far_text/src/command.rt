@@ -1,14 +1,22 @@
 //! Commands and the heap's line, and which words spell them.
 
-ghost use Rattle.std.specs.Prelude.{◌≡◌, ◌∷◌, IfSome};
+ghost use Rattle.std.specs.Prelude.{◌≡◌, ◌<◌, ◌∷◌, IfSome, IfNone};
 ghost use Rattle.std.specs.Str.{bytes_eq};
-ghost use Rattle.std.specs.Option.{option_and_then};
-ghost use Rattle.far_text.specs.Command.{HeapLine, CommandLine, Book, Logs, Audit};
+ghost use Rattle.std.specs.Option.{option_and_then, option_map};
+ghost use Rattle.far_text.specs.Command.{HeapLine, CommandLine, Book, Logs, Audit, Evacuator, Wait, Abort, as_policy};
 ghost use Rattle.far_text.specs.Spelled.{entry_spelled};
-ghost use Rattle.far_text.specs.Grammar.{Numbers, NumbersAndBytes, NumbersAndOneOr, says_heap, asks_read, asks_write, asks_open, asks_close, asks_new, asks_where, asks_drop, asks_view, asks_try, asks_epoch, asks_log, entry_from, entry_of, entry_at_end, one_or};
+ghost use Rattle.far_text.specs.Grammar.{Numbers, NumbersAndBytes, NumbersAndOneOr, says_heap, asks_read, asks_write, asks_open, asks_close, asks_new, asks_where, asks_drop, asks_view, asks_try, asks_epoch, asks_log, asks_mark, asks_evacuate, asks_select, asks_round, asks_script, policy_of, select_by, round_by, perhaps, word_then, steps, entry_from, entry_of, entry_at_end, found_in, one_or};
 ghost use Rattle.far_text.specs.Cursor.{words_in, words_left, lines_after_first, lines_after, lines_left};
 
-use crate::cursor::{Rest, last_bytes_of, next_number_of, number_first, word_first};
+use crate::cursor::{
+    Rest, last_bytes_of, last_words_of, next_number_of, next_word_of, number_first, word_first,
+};
+
+/// The most logs that a step may choose.
+pub const MOST_CHOSEN: u8 = 64;
+
+/// How many numbers may name a log in a script: those below this, which a byte holds.
+pub const LOG_NAMES: u64 = 256;
 
 /// What a mutator asks for. The bytes of a write are digits in hex as far as they are only read, and not yet kept.
 #[derive(Clone, Copy)]
@@ -52,11 +60,52 @@ pub enum Inquiry {
     Audit,
 }
 
+/// Which logs a round is to empty first.
+#[derive(Clone, Copy)]
+pub enum Policy {
+    /// Those that were sealed first.
+    Oldest,
+    /// Those with the fewest live bytes.
+    LeastLive,
+}
+
+/// How logs are chosen.
+#[derive(Clone, Copy)]
+pub enum Choice<'a> {
+    By(Policy),
+    /// These logs, one at least, a byte for each. They are words as far as they are only read, and not yet kept.
+    Script(&'a [u8]),
+}
+
+/// What the evacuator is asked for. A `most` is 0 to 64 logs, where the step is kept; a `count` is how many live objects are
+/// marked or emptied at most, and `turns` how often a round goes on before it stops.
+#[derive(Clone, Copy)]
+pub enum Step<'a> {
+    Select {
+        choice: Choice<'a>,
+        most: u8,
+    },
+    Mark {
+        count: u64,
+    },
+    Wait,
+    Evacuate {
+        count: u64,
+    },
+    Abort,
+    Round {
+        policy: Policy,
+        most: u8,
+        turns: u64,
+    },
+}
+
 /// One command of a trace.
 #[derive(Clone, Copy)]
 pub enum Command<'a> {
     Mutator { mutator: u64, request: Request<'a> },
     Book(Inquiry),
+    Evacuator(Step<'a>),
 }
 
 /// What a line of a trace says: the heap's numbers, or a command.
@@ -244,6 +293,133 @@ fn is_name(word: &[u8], name: &[u8]) -> bool
     word == name
 }
 
+fn policy_named(word: &[u8]) -> Option<Policy>
+    ensures { option_map as_policy result ≡ policy_of word.now }
+{
+    if is_name(word, b"oldest") {
+        return Some(Policy::Oldest);
+    }
+    if is_name(word, b"leastlive") {
+        return Some(Policy::LeastLive);
+    }
+    None
+}
+
+// A number as a byte, if it is one. Whether so many logs may be chosen is seen where the step is kept.
+fn byte_of(n: u64) -> Option<u8>
+    ensures value { IfSome result (λ byte. byte ≡ n) }
+    ensures large { IfNone result (255 < n) }
+{
+    if n > 255 {
+        return None;
+    }
+    Some(n as u8)
+}
+
+fn policy_selected(policy: Policy, rest: Rest<'_>) -> Option<Spelled<'_>>
+    ensures value { option_and_then (λ found. entry_spelled found.0) result ≡ perhaps 1 (asks_select (as_policy policy)) (words_left rest.entry) }
+    ensures lines { IfSome result (λ found. lines_left found.1 ≡ lines_after rest.entry) }
+{
+    let (most, rest) = next_number_of(rest)?;
+    let most = byte_of(most)?;
+    let choice = Choice::By(policy);
+    let step = Step::Select { choice, most };
+    at_end(Entry::Command(Command::Evacuator(step)), rest)
+}
+
+fn script_selected(rest: Rest<'_>) -> Option<Spelled<'_>>
+    ensures value { option_and_then (λ found. entry_spelled found.0) result ≡ asks_script (words_left rest.entry) }
+    ensures lines { IfSome result (λ found. lines_left found.1 ≡ lines_after rest.entry) }
+{
+    let (most, rest) = next_number_of(rest)?;
+    let most = byte_of(most)?;
+    let (words, lines) = last_words_of(rest)?;
+    let choice = Choice::Script(words);
+    let step = Step::Select { choice, most };
+    Some((Entry::Command(Command::Evacuator(step)), lines))
+}
+
+fn select_spelled(rest: Rest<'_>) -> Option<Spelled<'_>>
+    ensures value { option_and_then (λ found. entry_spelled found.0) result ≡ word_then select_by (words_left rest.entry) }
+    ensures lines { IfSome result (λ found. lines_left found.1 ≡ lines_after rest.entry) }
+{
+    let (word, rest) = next_word_of(rest)?;
+    if is_name(word, b"script") {
+        return script_selected(rest);
+    }
+    policy_selected(policy_named(word)?, rest)
+}
+
+fn round_made(policy: Policy, rest: Rest<'_>) -> Option<Spelled<'_>>
+    ensures value { option_and_then (λ found. entry_spelled found.0) result ≡ perhaps 2 (asks_round (as_policy policy)) (words_left rest.entry) }
+    ensures lines { IfSome result (λ found. lines_left found.1 ≡ lines_after rest.entry) }
+{
+    let (most, rest) = next_number_of(rest)?;
+    let (turns, rest) = next_number_of(rest)?;
+    let most = byte_of(most)?;
+    let step = Step::Round {
+        policy,
+        most,
+        turns,
+    };
+    at_end(Entry::Command(Command::Evacuator(step)), rest)
+}
+
+fn round_spelled(rest: Rest<'_>) -> Option<Spelled<'_>>
+    ensures value { option_and_then (λ found. entry_spelled found.0) result ≡ word_then round_by (words_left rest.entry) }
+    ensures lines { IfSome result (λ found. lines_left found.1 ≡ lines_after rest.entry) }
+{
+    let (word, rest) = next_word_of(rest)?;
+    round_made(policy_named(word)?, rest)
+}
+
+fn mark_spelled(rest: Rest<'_>) -> Option<Spelled<'_>>
+    ensures value { option_and_then (λ found. entry_spelled found.0) result ≡ entry_from (Numbers 1 asks_mark) (words_left rest.entry) }
+    ensures lines { IfSome result (λ found. lines_left found.1 ≡ lines_after rest.entry) }
+{
+    let (count, rest) = next_number_of(rest)?;
+    at_end(
+        Entry::Command(Command::Evacuator(Step::Mark { count })),
+        rest,
+    )
+}
+
+fn evacuate_spelled(rest: Rest<'_>) -> Option<Spelled<'_>>
+    ensures value { option_and_then (λ found. entry_spelled found.0) result ≡ entry_from (Numbers 1 asks_evacuate) (words_left rest.entry) }
+    ensures lines { IfSome result (λ found. lines_left found.1 ≡ lines_after rest.entry) }
+{
+    let (count, rest) = next_number_of(rest)?;
+    let step = Step::Evacuate { count };
+    at_end(Entry::Command(Command::Evacuator(step)), rest)
+}
+
+// The step of this name, by the words after it. It stands apart, so that no other line pays for it.
+#[inline(never)]
+fn step_by_name<'a>(name: &[u8], rest: Rest<'a>) -> Option<Spelled<'a>>
+    ensures value { option_and_then (λ found. entry_spelled found.0) result ≡ found_in steps name.now (words_left rest.entry) }
+    ensures lines { IfSome result (λ found. lines_left found.1 ≡ lines_after rest.entry) }
+{
+    if is_name(name, b"select") {
+        return select_spelled(rest);
+    }
+    if is_name(name, b"mark") {
+        return mark_spelled(rest);
+    }
+    if is_name(name, b"wait") {
+        return at_end(Entry::Command(Command::Evacuator(Step::Wait)), rest);
+    }
+    if is_name(name, b"evacuate") {
+        return evacuate_spelled(rest);
+    }
+    if is_name(name, b"abort") {
+        return at_end(Entry::Command(Command::Evacuator(Step::Abort)), rest);
+    }
+    if is_name(name, b"round") {
+        return round_spelled(rest);
+    }
+    None
+}
+
 // The entry of this name, by the words after it.
 fn entry_by_name<'a>(name: &[u8], rest: Rest<'a>) -> Option<Spelled<'a>>
     ensures value { option_and_then (λ found. entry_spelled found.0) result ≡ entry_of (name.now ∷ words_left rest.entry) }
@@ -291,7 +467,7 @@ fn entry_by_name<'a>(name: &[u8], rest: Rest<'a>) -> Option<Spelled<'a>>
     if is_name(name, b"audit") {
         return at_end(Entry::Command(Command::Book(Inquiry::Audit)), rest);
     }
-    None
+    step_by_name(name, rest)
 }
 
 /// What the first line of a text spells, by its first word.

@@ -3,47 +3,20 @@
 ghost use Rattle.std.specs.Prelude.{◌≡◌, ◌≢◌, ◌≤◌, ◌<◌, ◌+◌, ◌*◌, ◌^◌, ◌++◌, ◌∷◌, ℕ, List, [], length, take, drop, cond, true, Ok, Some, None, IfOk, IfErr, IfSome};
 ghost use Rattle.std.specs.Option.{option_map};
 ghost use Rattle.far_text.specs.declared.hex_word.TheConstants.{LONGEST_BYTES};
-ghost use Rattle.far_text.specs.Command.{Mutator, Book, Write, as_command, as_inquiry};
+ghost use Rattle.far_text.specs.Command.{Mutator, Book, Evacuator, Write, as_command, as_inquiry};
 ghost use Rattle.far_text.specs.Grammar.{bytes_in};
-ghost use Rattle.far_text.specs.Spelled.{command_spelled, request_spelled};
+ghost use Rattle.far_text.specs.Spelled.{command_spelled, request_spelled, step_spelled};
 ghost use Rattle.far_text.specs.Records.{command_in, IsWithin};
 
-use crate::command::{Command, Inquiry, Request};
+use crate::command::{Command, Inquiry, Request, Step};
 use crate::hex_word::HexBytes;
+use crate::number::Number;
+use crate::steps::{StepRecord, step_record};
 use std::alloc::{AllocError, Global};
 use std::marker::Model;
 
-/// A number in two halves, which lie anywhere.
-#[derive(Clone, Copy)]
-pub struct Number {
-    low: u32,
-    high: u32,
-}
-
-impl Number {
-    ghost use Rattle.std.specs.Prelude.{◌≡◌};
-    ghost use Rattle.far_text.specs.Records.{number_in};
-
-    #[inline(always)]
-    fn of(n: u64) -> Number
-        ensures { number_in result ≡ n }
-    {
-        Number {
-            low: (n % 4_294_967_296) as u32,
-            high: (n / 4_294_967_296) as u32,
-        }
-    }
-
-    #[inline(always)]
-    fn value(self) -> u64
-        ensures { result ≡ number_in self }
-    {
-        u64::from(self.high) * 4_294_967_296 + u64::from(self.low)
-    }
-}
-
 /// A command: its numbers, in the order of its line. The last two of a write are where its bytes begin among those of all
-/// writes, and how many they are.
+/// writes and scripts, and how many they are.
 #[derive(Clone, Copy)]
 pub enum Record {
     New(Number, Number, Number),
@@ -59,6 +32,7 @@ pub enum Record {
     Logs,
     Log(Number),
     Audit,
+    Evacuator(StepRecord),
 }
 
 // The record of a write of what a word spells, if it is in hex. The bytes are added to those before.
@@ -143,7 +117,25 @@ fn inquiry_record(inquiry: Inquiry) -> Record
     }
 }
 
-// The record of a command that was read, unless it writes what is no word in hex. The bytes of a write are added to those before.
+// The record of a step, unless it chooses more logs than may be chosen, or what is no log. The logs of a script are added to
+// the bytes before.
+fn evacuator_record(bytes: &mut HexBytes, step: Step) -> Result<Option<Record>, AllocError>
+    requires few { length bytes.old + LONGEST_BYTES < 2 ^ 32 }
+    ensures value { IfOk result (λ found. option_map (command_in bytes.new) found ≡ option_map Evacuator (step_spelled step.entry)) }
+    ensures within { IfOk result (λ found. IfSome found (IsWithin (length bytes.new))) }
+    ensures kept { take (length bytes.old) bytes.new ≡ bytes.old }
+    ensures short { length bytes.new ≤ length bytes.old + LONGEST_BYTES }
+    ensures none { result ≡ Ok None → bytes.new ≡ bytes.old }
+    ensures fault { IfErr result (λ _. bytes.new ≡ bytes.old) }
+{
+    let Some(step) = step_record(bytes, step)? else {
+        return Ok(None);
+    };
+    Ok(Some(Record::Evacuator(step)))
+}
+
+// The record of a command that was read, unless it writes what is no word in hex, or chooses what can't be chosen. The bytes
+// of a write or a script are added to those before.
 #[inline(always)]
 fn record_of(bytes: &mut HexBytes, command: Command) -> Result<Option<Record>, AllocError>
     requires few { length bytes.old + LONGEST_BYTES < 2 ^ 32 }
@@ -157,6 +149,7 @@ fn record_of(bytes: &mut HexBytes, command: Command) -> Result<Option<Record>, A
     match command {
         Command::Mutator { mutator, request } => request_record(bytes, mutator, request),
         Command::Book(inquiry) => Ok(Some(inquiry_record(inquiry))),
+        Command::Evacuator(step) => evacuator_record(bytes, step),
     }
 }
 
@@ -211,6 +204,7 @@ impl Record {
             Record::Logs => return Command::Book(Inquiry::Logs),
             Record::Log(log) => return Command::Book(Inquiry::Log { log: log.value() }),
             Record::Audit => return Command::Book(Inquiry::Audit),
+            Record::Evacuator(step) => return Command::Evacuator(step.step(bytes)),
         };
         let mutator = mutator.value();
         Command::Mutator { mutator, request }
@@ -277,15 +271,38 @@ impl Commands {
         record.command(self.bytes.as_slice())
     }
 
-    /// Adds a command that was read, unless it writes what is no word in hex. Whether it did; if not, nothing has changed.
-    #[inline(always)]
-    pub fn push(&mut self, command: Command<'_>) -> Result<bool, AllocError>
+    // Adds a command that was read, unless it says what can't be kept. Whether it did; if not, nothing has changed. It stands
+    // apart, so that the commands of mutators don't pay for the others.
+    #[inline(never)]
+    fn push_rarer(&mut self, command: Command<'_>) -> Result<bool, AllocError>
         requires { length self.old ≤ LONGEST_TEXT }
         ensures value { IfOk result (λ kept. option_map (λ c. self.old ++ c ∷ []) (command_spelled command.entry) ≡ cond kept (Some self.new) None) }
         ensures same { result ≢ Ok true → self.new ≡ self.old }
     {
         let before = self.bytes.len();
         let Some(record) = record_of(&mut self.bytes, command)? else {
+            return Ok(false);
+        };
+        if let Err(_) = self.records.push(record) {
+            self.bytes.truncate(before);
+            return Err(AllocError);
+        }
+        Ok(true)
+    }
+
+    /// Adds a command that was read, unless it writes what is no word in hex, or chooses what can't be chosen. Whether it did;
+    /// if not, nothing has changed.
+    #[inline(always)]
+    pub fn push(&mut self, command: Command<'_>) -> Result<bool, AllocError>
+        requires { length self.old ≤ LONGEST_TEXT }
+        ensures value { IfOk result (λ kept. option_map (λ c. self.old ++ c ∷ []) (command_spelled command.entry) ≡ cond kept (Some self.new) None) }
+        ensures same { result ≢ Ok true → self.new ≡ self.old }
+    {
+        let Command::Mutator { mutator, request } = command else {
+            return self.push_rarer(command);
+        };
+        let before = self.bytes.len();
+        let Some(record) = request_record(&mut self.bytes, mutator, request)? else {
             return Ok(false);
         };
         if let Err(_) = self.records.push(record) {

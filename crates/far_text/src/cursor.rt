@@ -141,6 +141,18 @@ pub fn next_number_of(rest: Rest<'_>) -> Option<(u64, Rest<'_>)>
     }
 }
 
+/// The next word, and what is left after it.
+pub fn next_word_of(rest: Rest<'_>) -> Option<(&[u8], Rest<'_>)>
+    ensures none { IfNone result (words_left rest.entry ≡ []) }
+    ensures words { IfSome result (λ found. words_left rest.entry ≡ found.0.now ∷ words_left found.1) }
+    ensures lines { IfSome result (λ found. lines_after found.1 ≡ lines_after rest.entry) }
+{
+    match rest {
+        Rest::Words(text) => Some(word_first(text)),
+        Rest::Lines(_) => None,
+    }
+}
+
 /// Where the first line of a text ends.
 #[inline(always)]
 pub fn line_end(text: &[u8]) -> usize
@@ -186,6 +198,18 @@ pub fn last_bytes_of(rest: Rest<'_>) -> Option<(&[u8], Option<&[u8]>)>
 {
     match rest {
         Rest::Words(text) => Some(line_bytes(text)),
+        Rest::Lines(_) => None,
+    }
+}
+
+/// A text that begins with all words that are left of the line, if there are any, and the lines after it.
+pub fn last_words_of(rest: Rest<'_>) -> Option<(&[u8], Option<&[u8]>)>
+    ensures none { IfNone result (words_left rest.entry ≡ []) }
+    ensures words { IfSome result (λ found. words_in found.0.now ≡ words_left rest.entry) }
+    ensures lines { IfSome result (λ found. lines_left found.1 ≡ lines_after rest.entry) }
+{
+    match rest {
+        Rest::Words(text) => Some((text, split_line(text).1)),
         Rest::Lines(_) => None,
     }
 }

@@ -62,7 +62,7 @@ fn make_room(room: &mut Vec<u8>, to: usize) -> Result<(), AllocError>
     Ok(())
 }
 
-/// The bytes that words in hex spell, those of one behind those of another.
+/// The bytes that words in hex spell, and other bytes, those of one word behind those of another.
 #[derive(Drop)]
 pub struct HexBytes {
     room: Vec<u8>,
@@ -81,7 +81,7 @@ impl Model for HexBytes {
 }
 
 impl HexBytes {
-    ghost use Rattle.std.specs.Prelude.{◌≡◌, ◌≢◌, ◌≤◌, ◌+◌, [], length, take, drop, true, cond, Ok, Some, None, IfOk};
+    ghost use Rattle.std.specs.Prelude.{◌≡◌, ◌≢◌, ◌≤◌, ◌+◌, ◌++◌, ◌∷◌, [], length, take, drop, true, cond, Ok, Some, None, IfOk, IfErr};
     ghost use Rattle.hex.specs.Hex.{IsBytes};
     ghost use Rattle.far_text.specs.Grammar.{bytes_in};
     ghost use Rattle.far_text.specs.declared.hex_word.TheConstants.{LONGEST_BYTES};
@@ -117,6 +117,18 @@ impl HexBytes {
         ensures { self.new ≡ take len self.old }
     {
         self.len = len;
+    }
+
+    /// Adds a byte.
+    pub fn push(&mut self, byte: u8) -> Result<(), AllocError>
+        ensures value { IfOk result (λ _. self.new ≡ self.old ++ byte ∷ []) }
+        ensures fault { IfErr result (λ _. self.new ≡ self.old) }
+    {
+        let len = self.len + 1;
+        make_room(&mut self.room, len)?;
+        self.room[self.len] = byte;
+        self.len = len;
+        Ok(())
     }
 
     /// Adds the bytes that a word spells, if it is a word in hex. Whether it is.

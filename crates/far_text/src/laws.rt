@@ -2,6 +2,7 @@
 
 ghost use Rattle.std.specs.Prelude.{◌≡◌, ◌↔◌, ℕ, List, Some};
 ghost use Rattle.far_text.specs.declared.text.TheConstants.{LONGEST_TEXT};
+ghost use Rattle.far_text.specs.declared.command.TheConstants.{MOST_CHOSEN, LOG_NAMES};
 ghost use Rattle.far_text.specs.declared.hex_word.TheConstants.{LONGEST_LINE, LONGEST_BYTES};
 ghost use Rattle.far_text.specs.Command.{Entry};
 ghost use Rattle.far_text.specs.Grammar.{entry_of};
@@ -19,9 +20,12 @@ pub fn grammar_is_said()
     ensures cuts { CutsJoin }
 {}
 
-/// A text has at most 1,048,576 bytes, a line 4,096, its newline not counted, and what a word in hex spells 2,048.
+/// A text has at most 1,048,576 bytes, a line 4,096, its newline not counted, and what a word in hex spells 2,048. A step
+/// chooses at most 64 logs, and those of a script are below 256.
 pub fn limits_are()
     ensures text { LONGEST_TEXT ≡ 1048576 }
     ensures line { LONGEST_LINE ≡ 4096 }
     ensures bytes { LONGEST_BYTES ≡ 2048 }
+    ensures chosen { MOST_CHOSEN ≡ 64 }
+    ensures logs { LOG_NAMES ≡ 256 }
 {}

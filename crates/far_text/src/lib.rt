@@ -10,9 +10,11 @@ mod cursor;
 mod hex_word;
 mod laws;
 mod line;
+mod number;
+mod steps;
 mod text;
 
-pub use command::{Command, Inquiry, Request};
+pub use command::{Choice, Command, Inquiry, LOG_NAMES, MOST_CHOSEN, Policy, Request, Step};
 pub use commands::Commands;
 pub use laws::{grammar_is_said, limits_are};
 pub use text::{LONGEST_TEXT, ParseError, Trace, parse};

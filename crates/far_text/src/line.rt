@@ -2,9 +2,9 @@
 
 ghost use Rattle.std.specs.Prelude.{◌≡◌, ◌≤◌, ◌<◌, ◌+◌, ◌==◌, ℕ, length, true, false, slice_index, IfSome, IfNone};
 ghost use Rattle.std.specs.Option.{option_and_then};
-ghost use Rattle.far_text.specs.Spelled.{entry_spelled};
+ghost use Rattle.far_text.specs.Spelled.{entry_spelled, as_line};
 ghost use Rattle.far_text.specs.Grammar.{entry_of, line_of, Bad};
-ghost use Rattle.far_text.specs.Cursor.{first_line, lines_after_first, lines_left, words_in, as_line};
+ghost use Rattle.far_text.specs.Cursor.{first_line, lines_after_first, lines_left, words_in};
 
 use crate::command::{Entry, Spelled, entry_by_first_word, entry_first};
 use crate::cursor::line_end;

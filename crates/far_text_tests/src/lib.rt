@@ -4,3 +4,5 @@
 
 #[cfg(test)]
 mod example;
+#[cfg(test)]
+mod steps;

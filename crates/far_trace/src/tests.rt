@@ -3,6 +3,7 @@
 mod differing;
 mod limits;
 mod refusing;
+mod rounds;
 mod streaming;
 mod talk;
 mod talks;

@@ -224,6 +224,11 @@ const REFUSED: &str = "\
 7 drop 0 1024
 7 drop 0 65536
 7 drop 0 18446744073709551615
+12 mark 0
+12 mark 18446744073709551615
+12 wait
+12 evacuate 0
+12 abort
 9 drop 0 0
 9 drop 0 1
 8 log 4

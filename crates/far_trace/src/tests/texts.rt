@@ -69,6 +69,32 @@ const BAD_TEXTS: &str = "\
 2 heap 4 1/epoch
 2 heap 4 1/epoch 0 0
 2 heap 4 1/epoch 00
+2 heap 4 1/select
+2 heap 4 1/select 1
+2 heap 4 1/select oldest
+2 heap 4 1/select oldest 65
+2 heap 4 1/select oldest 1 0
+2 heap 4 1/select leastlive 01
+2 heap 4 1/select newest 1
+2 heap 4 1/select script 1
+2 heap 4 1/select script 65 0
+2 heap 4 1/select script 1 256
+2 heap 4 1/select script 2 0 256
+2 heap 4 1/select script 1 0 
+2 heap 4 1/mark
+2 heap 4 1/mark 0 0
+2 heap 4 1/mark -1
+2 heap 4 1/wait 0
+2 heap 4 1/evacuate
+2 heap 4 1/evacuate 0 0
+2 heap 4 1/abort 0
+2 heap 4 1/round oldest 1
+2 heap 4 1/round oldest 1 0 0
+2 heap 4 1/round oldest 65 0
+2 heap 4 1/round leastlive 1 18446744073709551616
+2 heap 4 1/round script 1 0
+2 heap 4 1/round script 1 0 0
+2 heap 4 1/device fail 1
 2 heap 4 1/LOGS
 2 heap 4 1/log
 2 heap 4 1/logss

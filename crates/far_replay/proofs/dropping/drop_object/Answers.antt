@@ -8,7 +8,7 @@ use Rattle.far_book.specs.book.Effects.{retired}
 use Rattle.far_text.specs.Command.{Mutator, Drop}
 use Rattle.far_replay.specs.EventRows.{after_events}
 use Rattle.far_replay.specs.Events.{events_for}
-use Rattle.far_replay.specs.Moment.{moment_of, state_in}
+use Rattle.far_replay.specs.Moment.{moment_in, state_in}
 use Rattle.far_replay.specs.Objects.{uses}
 use Rattle.far_replay.proofs.Drops.{ask_fact, asked_is_dropped, dropped_by_events, unheld_is}
 use Rattle.far_replay.proofs.RangeTurns.{uses_own}
@@ -16,21 +16,21 @@ use Rattle.far_replay.proofs.dropping.drop_object.Goals as goal
 
 pub retire-requires-clause-dropped : goal.retire-requires-clause-dropped
 retire-requires-clause-dropped c =
-    let s : State = state_in c.args.book.now in
+    let s : State = state_in c.args.evac.now in
     let p : ℕ = c.in-Some.pointer in
     let own = c.in-Some.ensures.own in
     let ours : uses s c.args.owner p ≡ true = ap (uses s c.args.owner) own.0 ∙ uses_own s c.args.owner c.args.pointer own.1 own.2 in
-    let unheld : s.held p ≡ None = unheld_is (s.held p) (sym (ap (λ (x : Core). is_some ((core_state x).held p)) c.core.ensures) ∙ sym c.is_held.ensures ∙ c.if-is_held.false) in
+    let unheld : s.held p ≡ None = unheld_is (s.held p) (sym (ap (λ (x : Core). is_some ((core_state x).held p)) c.core_of.ensures) ∙ sym c.is_held.ensures ∙ c.if-is_held.false) in
     let asked = (c.owner.ensures.legal refl (ask_fact s c.args.owner p c.requires.law c.requires.known ours unheld)).0 in
     ap (λ (t : State). is_dropped (read_of (t.cell p))) asked ∙ asked_is_dropped s c.args.owner p c.requires.law c.requires.known ours unheld
 
 pub returns-clause-state : goal.returns-clause-state
 returns-clause-state c =
-    let s : State = state_in c.args.book.now in
+    let s : State = state_in c.args.evac.now in
     let p : ℕ = c.in-Some.pointer in
     let own = c.in-Some.ensures.own in
     let ours : uses s c.args.owner p ≡ true = ap (uses s c.args.owner) own.0 ∙ uses_own s c.args.owner c.args.pointer own.1 own.2 in
-    let unheld : s.held p ≡ None = unheld_is (s.held p) (sym (ap (λ (x : Core). is_some ((core_state x).held p)) c.core.ensures) ∙ sym c.is_held.ensures ∙ c.if-is_held.false) in
+    let unheld : s.held p ≡ None = unheld_is (s.held p) (sym (ap (λ (x : Core). is_some ((core_state x).held p)) c.core_of.ensures) ∙ sym c.is_held.ensures ∙ c.if-is_held.false) in
     let asked = (c.owner.ensures.legal refl (ask_fact s c.args.owner p c.requires.law c.requires.known ours unheld)).0 in
-    dropped_by_events s (state_in c.retire.new.self) c.args.owner p c.requires.law c.requires.known ours unheld (c.retire.ensures.exact tt ∙ ap (λ (t : State). retired t p) asked)
-    ∙ ap (λ q. after_events s (events_for (moment_of s) (Mutator c.args.owner (Drop q)))) own.0
+    dropped_by_events (moment_in c.args.evac.now) (state_in c.retire.new.self) c.args.owner p c.requires.law c.requires.known ours unheld (c.retire.ensures.exact tt ∙ ap (λ (t : State). retired t p) asked)
+    ∙ ap (λ q. after_events s (events_for (moment_in c.args.evac.now) (Mutator c.args.owner (Drop q)))) own.0

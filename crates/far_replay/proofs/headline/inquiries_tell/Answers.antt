@@ -1,5 +1,6 @@
 use Rattle.far_replay.proofs.InquiryLaws.{where_tells, log_tells, audit_counts}
+use Rattle.far_replay.proofs.Censused.{audits_by_census}
 use Rattle.far_replay.proofs.headline.inquiries_tell.Goals as goal
 
 pub returns : goal.returns
-returns c = record { place = where_tells; line = log_tells; counts = audit_counts }
+returns c = record { place = where_tells; line = log_tells; counts = audit_counts; census = audits_by_census }

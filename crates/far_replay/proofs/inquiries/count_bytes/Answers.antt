@@ -12,6 +12,6 @@ pub loop-log-preserved : goal.loop-log-preserved
 loop-log-preserved c = record {
   live =
       (λ i. c.loop-log.invariant.live i + (c.from-live.ensures ∙ ap (λ (row : LogRow). row.live) c.log.ensures.row) i)
-      ∙ sym (summed_more (live_bytes (state_in c.args.book.now)) c.loop-log.log);
+      ∙ sym (summed_more (live_bytes (state_in c.args.evac.now)) c.loop-log.log);
   most = omega (arith, c.loop-log.invariant.most, c.from-live.ensures);
 }

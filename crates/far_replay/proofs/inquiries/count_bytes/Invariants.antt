@@ -7,6 +7,6 @@ use Rattle.far_replay.proofs.inquiries.count_bytes.Given as goal
 
 abbrev pub invariant-loop-log : goal.invariant-loop-log
 invariant-loop-log l = record {
-  live : l.live ≡ sum (map (live_bytes (state_in l.book)) (range_with_len 0 l.log));
+  live : l.live ≡ sum (map (live_bytes (state_in l.evac)) (range_with_len 0 l.log));
   most : l.live ≤ 65536 * l.log;
 }

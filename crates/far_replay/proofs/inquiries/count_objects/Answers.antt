@@ -17,11 +17,11 @@ overflow_add-far c = omega (arith, c.loop-pointer.invariant.far_most, c.from-far
 pub loop-pointer-preserved : goal.loop-pointer-preserved
 loop-pointer-preserved c = record {
   near =
-      (λ i. c.loop-pointer.invariant.near i + (c.from-near.ensures ∙ ap bool_byte (c.lies-is_near.ensures.near ∙ ap (λ w. lies_near (read_of w)) (c.cell-cell.ensures ∙ ap (λ (x : Core). (core_state x).cell c.loop-pointer.pointer) c.core-in-loop-pointer.ensures))) i)
-      ∙ sym (counted_more (λ p. lies_near (read_of ((state_in c.args.book.now).cell p))) c.loop-pointer.pointer);
+      (λ i. c.loop-pointer.invariant.near i + (c.from-near.ensures ∙ ap bool_byte (c.lies-is_near.ensures.near ∙ ap (λ w. lies_near (read_of w)) (c.cell-cell.ensures ∙ ap (λ (x : Core). (core_state x).cell c.loop-pointer.pointer) c.core_of-in-loop-pointer.ensures))) i)
+      ∙ sym (counted_more (λ p. lies_near (read_of ((state_in c.args.evac.now).cell p))) c.loop-pointer.pointer);
   far =
-      (λ i. c.loop-pointer.invariant.far i + (c.from-far.ensures ∙ ap bool_byte (c.lies-is_near.ensures.far ∙ ap (λ w. lies_far (read_of w)) (c.cell-cell.ensures ∙ ap (λ (x : Core). (core_state x).cell c.loop-pointer.pointer) c.core-in-loop-pointer.ensures))) i)
-      ∙ sym (counted_more (λ p. lies_far (read_of ((state_in c.args.book.now).cell p))) c.loop-pointer.pointer);
+      (λ i. c.loop-pointer.invariant.far i + (c.from-far.ensures ∙ ap bool_byte (c.lies-is_near.ensures.far ∙ ap (λ w. lies_far (read_of w)) (c.cell-cell.ensures ∙ ap (λ (x : Core). (core_state x).cell c.loop-pointer.pointer) c.core_of-in-loop-pointer.ensures))) i)
+      ∙ sym (counted_more (λ p. lies_far (read_of ((state_in c.args.evac.now).cell p))) c.loop-pointer.pointer);
   near_most = omega (arith, c.loop-pointer.invariant.near_most, c.from-near.ensures, byte_most c.lies-is_near.result.0);
   far_most = omega (arith, c.loop-pointer.invariant.far_most, c.from-far.ensures, byte_most c.lies-is_near.result.1);
 }

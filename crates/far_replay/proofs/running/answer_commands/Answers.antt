@@ -1,48 +1,52 @@
 use Rattle.std.proofs.Common.{◌≡◌, ◌+◌, [], ◌∷◌, ◌++◌, drop, length-drop, sym, ap, ◌∙◌, subst, arith, refl}
 use Rattle.std.specs.List.{flat_map}
 use Rattle.std.proofs.lemmas.List.{drop_all}
-use Rattle.far_core.specs.state.State.{State}
-use Rattle.far_replay.specs.Moment.{moment_of, state_in}
+use Rattle.far_replay.specs.Moment.{Moment, moment_in}
 use Rattle.far_replay.specs.Answers.{Answered}
 use Rattle.far_text.specs.Command.{Command, as_command}
 use Rattle.far_replay.specs.Reply.{Reply, Done, reply_text}
 use Rattle.far_replay.specs.Stream.{Holds}
 use Rattle.far_replay.specs.Turn.{reply_to}
-use Rattle.far_replay.proofs.Answering.{answers_all, led_part, still_between, answered_more, answered_all, printed_more}
+use Rattle.far_replay.proofs.Answering.{answers_all, led_part, answered_more, answered_all, printed_more}
+use Rattle.far_replay.proofs.Lasting.{still_lasts}
 use Rattle.far_replay.proofs.running.answer_commands.Goals as goal
 
 pub turn-requires-clause-law : goal.turn-requires-clause-law
-turn-requires-clause-law g c = c.loop-at.book.near.core.law
+turn-requires-clause-law g c = c.loop-at.evac.book.near.core.law
 
 pub loop-at-init : goal.loop-at-init
 loop-at-init g c =
     let start = g.W.Write.contents c.args.writer.now in
     record {
       between = c.requires.between;
+      round = c.requires.round;
       ran = ([], [], (λ rest more h. h), c.add.ensures start [] (c.clear.ensures start));
     }
 
 pub loop-at-preserved : goal.loop-at-preserved
 loop-at-preserved g c =
     let start = g.W.Write.contents c.args.writer.now in
-    let now = g.W.Write.contents c.add-in-loop-at.new.writer in
-    let s : State = state_in c.loop-at.book in
-    let t : State = state_in c.turn.new.book in
+    let end = g.W.Write.contents c.add-in-loop-at.new.writer in
+    let now : Moment = moment_in c.loop-at.evac in
+    let next : Moment = moment_in c.turn.new.evac in
     let command : Command = as_command c.at-command.result in
     let known = c.loop-at.invariant.ran in
-    let r : Reply = reply_to (moment_of s) command in
+    let r : Reply = reply_to now command in
     let here = c.at-command.ensures.value in
     let reply = c.reply.ensures.value ∙ c.in-Ok.ensures.reply in
     let held = c.add-in-loop-at.ensures start (flat_map reply_text (Done ∷ known.0)) known.3 in
+    let lasts = still_lasts now command r next (record { law = c.loop-at.evac.book.near.core.law; round = c.loop-at.invariant.round; between = c.loop-at.invariant.between }) c.at-command.ensures.bytes
+    (record { reply = refl; moment = c.in-Ok.ensures.moment }) in
     record {
-      between = still_between s t command c.loop-at.book.near.core.law c.loop-at.invariant.between c.at-command.ensures.bytes c.in-Ok.ensures.moment;
+      between = lasts.between;
+      round = lasts.round;
       ran = (
         known.0 ++ r ∷ [],
-        known.1 ++ moment_of t ∷ [],
-        answered_more (moment_of (state_in c.args.book)) (moment_of s) c.args.commands.now (drop (c.loop-at.at + 1) c.args.commands.now) known.0 known.1 command r (moment_of t)
-            (λ rest more h. known.2 rest more (subst (λ cs. Answered (moment_of s) cs rest more) (sym here) h))
+        known.1 ++ next ∷ [],
+        answered_more (moment_in c.args.evac) now c.args.commands.now (drop (c.loop-at.at + 1) c.args.commands.now) known.0 known.1 command r next
+            (λ rest more h. known.2 rest more (subst (λ cs. Answered now cs rest more) (sym here) h))
             (record { reply = refl; moment = c.in-Ok.ensures.moment }),
-        subst (λ bytes. Holds start now c.add-in-loop-at.new.self.waiting c.add-in-loop-at.new.self.written bytes)
+        subst (λ bytes. Holds start end c.add-in-loop-at.new.self.waiting c.add-in-loop-at.new.self.written bytes)
             (ap (λ x. flat_map reply_text (Done ∷ known.0) ++ reply_text x) reply ∙ sym (printed_more Done known.0 r)) held,
       );
     }
@@ -51,11 +55,11 @@ pub returns-in_default : goal.returns-in_default
 returns-in_default g c =
     let start = g.W.Write.contents c.args.writer.now in
     let known = c.loop-at.invariant.ran in
-    let rest = answers_all (moment_of (state_in c.loop-at.book)) (drop c.loop-at.at c.args.commands.now) in (
+    let rest = answers_all (moment_in c.loop-at.evac) (drop c.loop-at.at c.args.commands.now) in (
       known.0 ++ rest.0,
       known.1 ++ rest.1,
       known.2 rest.0 rest.1 rest.2,
-      led_part start (g.W.Write.contents c.loop-at.writer) c.loop-at.replies.waiting c.loop-at.replies.written known.0 (state_in c.loop-at.book) (drop c.loop-at.at c.args.commands.now) c.loop-at.book.near.core.law
+      led_part start (g.W.Write.contents c.loop-at.writer) c.loop-at.replies.waiting c.loop-at.replies.written known.0 (moment_in c.loop-at.evac) (drop c.loop-at.at c.args.commands.now) c.loop-at.evac.book.near.core.law
           (omega (arith, c.loop-at-test.true, c.len-at-end.ensures, length-drop c.loop-at.at c.args.commands.now)) known.3,
     )
 
@@ -66,7 +70,7 @@ returns-in-Ok-finish g c =
     let none : drop c.loop-at.at c.args.commands.now ≡ [] = drop_all c.loop-at.at c.args.commands.now (omega (arith, c.loop-at-test.false, c.len-at-end.ensures)) in (
       known.0,
       known.1,
-      answered_all (moment_of (state_in c.args.book)) (moment_of (state_in c.loop-at.book)) c.args.commands.now known.0 known.1 (drop c.loop-at.at c.args.commands.now) none known.2,
+      answered_all (moment_in c.args.evac) (moment_in c.loop-at.evac) c.args.commands.now known.0 known.1 (drop c.loop-at.at c.args.commands.now) none known.2,
       c.in-Ok-finish.ensures start (flat_map reply_text (Done ∷ known.0)) known.3,
     )
 
@@ -77,6 +81,6 @@ returns g c =
     let none : drop c.loop-at.at c.args.commands.now ≡ [] = drop_all c.loop-at.at c.args.commands.now (omega (arith, c.loop-at-test.false, c.len-at-end.ensures)) in (
       known.0,
       known.1,
-      answered_all (moment_of (state_in c.args.book)) (moment_of (state_in c.loop-at.book)) c.args.commands.now known.0 known.1 (drop c.loop-at.at c.args.commands.now) none known.2,
+      answered_all (moment_in c.args.evac) (moment_in c.loop-at.evac) c.args.commands.now known.0 known.1 (drop c.loop-at.at c.args.commands.now) none known.2,
       c.in-Err.ensures start (flat_map reply_text (Done ∷ known.0)) known.3,
     )

@@ -1,7 +1,8 @@
 use Rattle.std.proofs.Common.{List, ◌∷◌, ◌++◌, drop}
 use Rattle.std.specs.List.{flat_map}
+use Rattle.far_evac.specs.MomentLaw.{MomentLaw}
 use Rattle.far_replay.specs.Answers.{Answered}
-use Rattle.far_replay.specs.Moment.{Moment, moment_of, state_in}
+use Rattle.far_replay.specs.Moment.{Moment, moment_in, state_in}
 use Rattle.far_replay.specs.Reply.{Reply, Done, reply_text}
 use Rattle.far_replay.specs.Stream.{Holds}
 use Rattle.far_replay.specs.Between.{Between}
@@ -9,9 +10,10 @@ use Rattle.far_replay.proofs.running.answer_commands.Given as goal
 
 abbrev pub invariant-loop-at : goal.invariant-loop-at
 invariant-loop-at g l = let contents = g.W.Write.contents in record {
-  between : Between (state_in l.book);
+  between : Between (state_in l.evac);
+  round : MomentLaw (moment_in l.evac);
   ran : (replies : List Reply) × (moments : List Moment)
-      × ((rest : List Reply) (more : List Moment) → Answered (moment_of (state_in l.book)) (drop l.at l.commands) rest more
-      → Answered (moment_of (state_in l.fn.book)) l.commands (replies ++ rest) (moments ++ more))
+      × ((rest : List Reply) (more : List Moment) → Answered (moment_in l.evac) (drop l.at l.commands) rest more
+      → Answered (moment_in l.fn.evac) l.commands (replies ++ rest) (moments ++ more))
       × Holds (contents l.fn.writer) (contents l.writer) l.replies.waiting l.replies.written (flat_map reply_text (Done ∷ replies));
 }

@@ -1,5 +1,9 @@
-use Rattle.std.proofs.Common.{inl, inr}
+use Rattle.std.proofs.Common.{inl, inr, subst, sym}
 use Rattle.far_core.specs.state.Shape.{is_shape}
+use Rattle.far_evac.specs.MomentLaw.{MomentLaw}
+use Rattle.far_replay.specs.Between.{Between}
+use Rattle.far_replay.specs.Moment.{Moment}
+use Rattle.far_replay.proofs.Opened.{opening_between, opening_round}
 use Rattle.far_replay.proofs.Runs.{in_range, written_front}
 use Rattle.far_replay.proofs.running.answer_heap.Goals as goal
 
@@ -7,3 +11,13 @@ pub returns-in-Err-Memory-clause-fault : goal.returns-in-Err-Memory-clause-fault
 returns-in-Err-Memory-clause-fault g c =
     let shape = c.args.shape in
     inr (in_range c.in-Err-Memory.field-0 (is_shape shape) c.in-Err-Memory.field-0-is c.in-Err-Memory.ensures.refused, inl (written_front _ _ c.refuse.result _ c.refuse.ensures))
+
+pub answer_commands-requires-clause-between : goal.answer_commands-requires-clause-between
+answer_commands-requires-clause-between g c =
+    let shape = c.args.shape in
+    subst (λ (m : Moment). Between m.core) (sym c.in-Ok.ensures.moment) (opening_between shape.logs shape.mutators shape.epoch c.in-Ok.ensures.range)
+
+pub answer_commands-requires-clause-round : goal.answer_commands-requires-clause-round
+answer_commands-requires-clause-round g c =
+    let shape = c.args.shape in
+    subst MomentLaw (sym c.in-Ok.ensures.moment) (opening_round shape.logs shape.mutators shape.epoch c.in-Ok.ensures.range)

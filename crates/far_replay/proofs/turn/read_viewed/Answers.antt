@@ -9,7 +9,7 @@ use Rattle.far_replay.proofs.turn.read_viewed.Goals as goal
 
 pub returns-clause-reply : goal.returns-clause-reply
 returns-clause-reply c =
-    let s : State = state_in c.args.book.now in
+    let s : State = state_in c.args.evac.now in
     let p : ℕ = c.args.access.pointer in
     let from : ℕ = c.args.access.from in
     let count : ℕ = c.args.access.count in

@@ -13,7 +13,7 @@ use Rattle.far_replay.proofs.turn.splice.Goals as goal
 
 pub returns : goal.returns
 returns c =
-    let t : State = state_in c.args.book.now in
+    let t : State = state_in c.args.evac.now in
     let p : ℕ = c.args.access.pointer in
     let from : ℕ = c.args.access.from in
     let count : ℕ = c.args.access.count in

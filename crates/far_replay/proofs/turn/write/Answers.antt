@@ -1,11 +1,23 @@
-use Rattle.far_replay.specs.Moment.{state_in}
-use Rattle.far_replay.proofs.RangeTurns.{viewed_range, write_made}
+use Rattle.std.proofs.Common.{sym, ◌∙◌}
+use Rattle.far_replay.specs.Dereference.{dereferenced}
+use Rattle.far_replay.specs.Effects.{with_data}
+use Rattle.far_replay.specs.Moment.{Moment, moment_in, state_in}
+use Rattle.far_replay.proofs.Asides.{order_derefs}
+use Rattle.far_replay.proofs.RangeTurns.{uses_own, viewed_range, write_made, write_stored}
+use Rattle.far_replay.proofs.WithCore.{moment_joined}
 use Rattle.far_replay.proofs.turn.write.Goals as goal
 
 pub write_viewed-requires-clause-viewed : goal.write_viewed-requires-clause-viewed
-write_viewed-requires-clause-viewed c = viewed_range (state_in c.args.book.now) (state_in c.dereference.new.book) c.args.access c.args.book.now.near.core.law c.requires.access c.in-Ok.ensures.room c.in-Ok.ensures.state
+write_viewed-requires-clause-viewed c = viewed_range (state_in c.args.evac.now) (state_in c.dereference.new.evac) c.args.access c.args.evac.now.book.near.core.law c.requires.access c.in-Ok.ensures.room c.in-Ok.ensures.state
 
-pub returns-in-Ok-clause-state : goal.returns-in-Ok-clause-state
-returns-in-Ok-clause-state c =
-    write_made (state_in c.args.book.now) (state_in c.dereference.new.book) (state_in c.write_viewed.new.book) c.args.access c.args.bytes.now c.args.book.now.near.core.law c.requires.access
-    c.in-Ok.ensures.room c.in-Ok.ensures.state c.requires.small c.requires.bytes c.write_viewed.ensures
+pub returns-in-Ok-clause-moment : goal.returns-in-Ok-clause-moment
+returns-in-Ok-clause-moment c =
+    let now : Moment = moment_in c.args.evac.now in
+    let a = c.args.access in
+    let is = c.requires.access in
+    let law = c.args.evac.now.book.near.core.law in
+    write_made now a is c.in-Ok.ensures.room c.args.bytes.now c.requires.bytes (moment_in c.write_viewed.new.evac)
+    (moment_joined now (moment_in c.write_viewed.new.evac) (with_data (dereferenced now.core a.owner a.pointer) a.pointer a.from c.args.bytes.now)
+    (write_stored now.core (state_in c.dereference.new.evac) (state_in c.write_viewed.new.evac) a c.args.bytes.now law is c.in-Ok.ensures.room c.in-Ok.ensures.state c.requires.small c.requires.bytes c.write_viewed.ensures.state)
+    (c.write_viewed.ensures.order ∙ c.in-Ok.ensures.order ∙ sym (order_derefs now a.owner a.pointer law is.opened (uses_own now.core a.owner a.pointer is.own is.used) c.in-Ok.ensures.room))
+    (c.write_viewed.ensures.round.0 ∙ c.dereference.ensures.round.0) (c.write_viewed.ensures.round.1 ∙ c.dereference.ensures.round.1))

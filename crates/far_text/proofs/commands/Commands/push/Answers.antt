@@ -8,7 +8,7 @@ use Rattle.far_text.proofs.commands.Commands.push.Goals as goal
 pub invariant_of-self-in_default-push : goal.invariant_of-self-in_default-push
 invariant_of-self-in_default-push c =
     let old = c.self.inside.bytes in
-    let new = c.record_of.new.bytes in
+    let new = c.request_record.new.bytes in
     let records = c.self.inside.records.items in
     let within = rw c.in-Some.is at c.in_ok-record.ensures.within in
     rw c.in_default-push.ensures.items (
@@ -19,9 +19,10 @@ invariant_of-self-in_default-push c =
 pub returns-clause-value : goal.returns-clause-value
 returns-clause-value c =
     let old = c.self.inside.bytes in
-    let new = c.record_of.new.bytes in
+    let new = c.request_record.new.bytes in
     let records = c.self.inside.records.items in
     let value = rw c.in-Some.is at c.in_ok-record.ensures.value in
+    let spelled = ap command_spelled c.in-Mutator.is in
     ap (λ now. option_map (λ x. now ++ x ∷ []) (command_spelled c.args.command)) (sym c.self.view_is)
-    ∙ one_command_more old new c.in_ok-record.ensures.kept records c.in-Some.record (command_spelled c.args.command) c.self.invariant.0 value
+    ∙ one_command_more old new c.in_ok-record.ensures.kept records c.in-Some.record (command_spelled c.args.command) c.self.invariant.0 (value ∙ sym spelled)
     ∙ ap (λ all. Some (map (command_in new) all)) (sym c.in_default-push.ensures.items)

@@ -1,0 +1,214 @@
+//! What the evacuator is asked: to choose logs, to mark, to wait, to have objects leave, to give up, and a whole round.
+
+ghost use Rattle.std.specs.Prelude.{◌≡◌, ◌≢◌, ◌≤◌, None, Some, length, take, IfErr, IfOk, OnOk};
+ghost use Rattle.far_word.specs.declared.sizes.TheConstants.{MOST_LOGS};
+ghost use Rattle.far_word.specs.declared.refused.Refused.TheVariants.{Memory};
+ghost use Rattle.far_evac.specs.Choosing.{after_selecting};
+ghost use Rattle.far_text.specs.Command.{Abort, Evacuate, Evacuator, Mark, Round, Select, Wait, as_choice, as_policy, as_step};
+ghost use Rattle.far_text.specs.Written.{WritesBytes};
+ghost use Rattle.far_replay.specs.Moment.{moment_in};
+ghost use Rattle.far_replay.specs.declared.outcome.Scratch.{Scratch};
+ghost use Rattle.far_replay.specs.Outcome.{told_by};
+ghost use Rattle.far_replay.specs.Rounds.{given_by, logs_given, rows_in, step_effect, step_reply};
+ghost use Rattle.far_replay.specs.Reply.{Ended};
+ghost use Rattle.far_replay.specs.Turn.{effect, refusal, reply_to};
+
+use crate::outcome::{Scratch, Stepped};
+use far_book::Plain;
+use far_device::MemDevice;
+use far_evac::{Evac, EvacFault, Polled, RoundEnd};
+use far_policy::{Chosen, LeastLive, Oldest, Scripted};
+use far_text::{Choice, Policy, Step};
+use far_word::Refused;
+use std::alloc::AllocError;
+
+// Begins a round of the logs that a choice gives, at most so many.
+fn choose(evac: &mut Evac<Plain, MemDevice>, choice: Choice, most: u8) -> Result<Chosen, Refused>
+    ensures allowed { IfOk result (λ _. refusal (moment_in evac.old) (Evacuator (Select (as_choice choice.entry) most)) ≡ None) }
+    ensures given { IfOk result (λ chosen. logs_given (given_by (as_choice choice.entry) (rows_in (moment_in evac.old)) most) ≡ chosen) }
+    ensures few { IfOk result (λ chosen. length chosen ≤ MOST_LOGS) }
+    ensures begun { IfOk result (λ chosen. moment_in evac.new ≡ after_selecting (moment_in evac.old) chosen) }
+    ensures refused { IfErr result (λ why. why ≢ Memory → refusal (moment_in evac.old) (Evacuator (Select (as_choice choice.entry) most)) ≡ Some why) }
+    ensures unchanged { IfErr result (λ _. moment_in evac.new ≡ moment_in evac.old) }
+{
+    evac.keeps_law();
+    let most = usize::from(most);
+    match choice {
+        Choice::By(policy) => match policy {
+            Policy::Oldest => evac.select(&mut Oldest, most),
+            Policy::LeastLive => evac.select(&mut LeastLive, most),
+        },
+        Choice::Script(logs) => evac.select(&mut Scripted { logs }, most),
+    }
+}
+
+// Copies the logs that were chosen in front of the room for bytes, and counts them.
+fn list_chosen(chosen: &Chosen, bytes: &mut [u8]) -> u8
+    requires few { length chosen.now ≤ MOST_LOGS }
+    requires room { MOST_LOGS ≤ length bytes.old }
+    ensures listed { take result bytes.new ≡ chosen.now }
+    ensures few { result ≤ MOST_LOGS }
+{
+    let logs = chosen.as_slice();
+    bytes[..logs.len()].copy_from_slice(logs);
+    logs.len() as u8
+}
+
+// Begins a round of the logs that a choice gives, and tells them. `Err` where it is refused memory.
+fn select(
+    evac: &mut Evac<Plain, MemDevice>,
+    scratch: &mut Scratch,
+    choice: Choice,
+    most: u8,
+) -> Result<Stepped, AllocError>
+    ensures moment { OnOk result (moment_in evac.new ≡ effect (moment_in evac.old) (Evacuator (Select (as_choice choice.entry) most))) }
+    ensures reply { IfOk result (λ stepped. told_by scratch.new stepped ≡ reply_to (moment_in evac.old) (Evacuator (Select (as_choice choice.entry) most))) }
+{
+    match choose(evac, choice, most) {
+        Ok(chosen) => {
+            let count = list_chosen(&chosen, &mut scratch.bytes);
+            Ok(Stepped::Selected(count))
+        }
+        Err(why) => Stepped::refused(why),
+    }
+}
+
+// Marks so many objects, or all that are left.
+fn mark(evac: &mut Evac<Plain, MemDevice>, scratch: &mut Scratch, count: u64) -> Stepped
+    ensures moment { moment_in evac.new ≡ effect (moment_in evac.old) (Evacuator (Mark count)) }
+    ensures reply { told_by scratch.new result ≡ reply_to (moment_in evac.old) (Evacuator (Mark count)) }
+{
+    match evac.mark_some(count) {
+        Ok(marked) => {
+            scratch.marked = marked;
+            Stepped::Marked
+        }
+        Err(why) => Stepped::Refused(why),
+    }
+}
+
+// Looks whether each older scope is closed.
+fn wait(evac: &mut Evac<Plain, MemDevice>) -> Stepped
+    ensures moment { moment_in evac.new ≡ effect (moment_in evac.old) (Evacuator Wait) }
+    ensures reply { (scratch : Scratch) → told_by scratch result ≡ (reply_to (moment_in evac.old) (Evacuator Wait)) }
+{
+    match evac.poll_wait() {
+        Ok(Polled::Clear) => Stepped::Clear,
+        Ok(Polled::StillOpen(owner, epoch)) => Stepped::Refused(Refused::StillOpen(owner, epoch)),
+        Err(why) => Stepped::Refused(why),
+    }
+}
+
+// Has so many objects leave, or all that are left. `Err` where the device is refused memory.
+fn evacuate(
+    evac: &mut Evac<Plain, MemDevice>,
+    scratch: &mut Scratch,
+    count: u64,
+) -> Result<Stepped, AllocError>
+    ensures moment { OnOk result (moment_in evac.new ≡ effect (moment_in evac.old) (Evacuator (Evacuate count))) }
+    ensures reply { IfOk result (λ stepped. told_by scratch.new stepped ≡ reply_to (moment_in evac.old) (Evacuator (Evacuate count))) }
+{
+    match evac.evacuate_some(count) {
+        Ok(progress) => {
+            scratch.progress = progress;
+            Ok(Stepped::Evacuated)
+        }
+        Err(EvacFault { why, .. }) => Stepped::refused(why),
+    }
+}
+
+// Gives the round up.
+fn abort(evac: &mut Evac<Plain, MemDevice>) -> Stepped
+    ensures moment { moment_in evac.new ≡ effect (moment_in evac.old) (Evacuator Abort) }
+    ensures reply { (scratch : Scratch) → told_by scratch result ≡ (reply_to (moment_in evac.old) (Evacuator Abort)) }
+{
+    match evac.abort() {
+        Ok(()) => Stepped::Done,
+        Err(why) => Stepped::Refused(why),
+    }
+}
+
+// Makes a round of the logs that a policy chooses.
+fn run_by(
+    evac: &mut Evac<Plain, MemDevice>,
+    policy: Policy,
+    most: u8,
+    turns: u64,
+) -> Result<RoundEnd, EvacFault>
+    ensures allowed { IfOk result (λ _. refusal (moment_in evac.old) (Evacuator (Round (as_policy policy) most turns)) ≡ None) }
+    ensures moment { OnOk result (moment_in evac.new ≡ step_effect (moment_in evac.old) (Round (as_policy policy) most turns)) }
+    ensures end { IfOk result (λ end. Ended end ≡ step_reply (moment_in evac.old) (Round (as_policy policy) most turns)) }
+    ensures refused { IfErr result (λ fault. fault.why ≢ Memory → refusal (moment_in evac.old) (Evacuator (Round (as_policy policy) most turns)) ≡ Some fault.why) }
+    ensures unchanged { IfErr result (λ fault. fault.why ≢ Memory → moment_in evac.new ≡ moment_in evac.old) }
+{
+    evac.keeps_law();
+    let most = usize::from(most);
+    match policy {
+        Policy::Oldest => evac.run_round_alone(&mut Oldest, most, turns),
+        Policy::LeastLive => evac.run_round_alone(&mut LeastLive, most, turns),
+    }
+}
+
+// Makes a round, and tells how it ends. `Err` where it is refused memory.
+fn round(
+    evac: &mut Evac<Plain, MemDevice>,
+    scratch: &mut Scratch,
+    policy: Policy,
+    most: u8,
+    turns: u64,
+) -> Result<Stepped, AllocError>
+    ensures moment { OnOk result (moment_in evac.new ≡ effect (moment_in evac.old) (Evacuator (Round (as_policy policy) most turns))) }
+    ensures reply { IfOk result (λ stepped. told_by scratch.new stepped ≡ reply_to (moment_in evac.old) (Evacuator (Round (as_policy policy) most turns))) }
+{
+    match run_by(evac, policy, most, turns) {
+        Ok(end) => {
+            scratch.end = end;
+            Ok(Stepped::Ended)
+        }
+        Err(EvacFault { why, .. }) => Stepped::refused(why),
+    }
+}
+
+// Makes a step of the evacuator, and answers what it comes to. `Err` where it is refused memory.
+fn step_made(
+    evac: &mut Evac<Plain, MemDevice>,
+    scratch: &mut Scratch,
+    step: Step,
+) -> Result<Stepped, AllocError>
+    requires small { WritesBytes (Evacuator (as_step step)) }
+    ensures moment { OnOk result (moment_in evac.new ≡ effect (moment_in evac.old) (Evacuator (as_step step.entry))) }
+    ensures reply { IfOk result (λ stepped. told_by scratch.new stepped ≡ reply_to (moment_in evac.old) (Evacuator (as_step step.entry))) }
+{
+    match step {
+        Step::Select { choice, most } => select(evac, scratch, choice, most),
+        Step::Mark { count } => Ok(mark(evac, scratch, count)),
+        Step::Wait => Ok(wait(evac)),
+        Step::Evacuate { count } => evacuate(evac, scratch, count),
+        Step::Abort => Ok(abort(evac)),
+        Step::Round {
+            policy,
+            most,
+            turns,
+        } => round(evac, scratch, policy, most, turns),
+    }
+}
+
+/// Makes a step of the evacuator; what it comes to stands in the room then. `Err` where it is refused memory.
+#[inline(never)]
+pub fn make_step(
+    evac: &mut Evac<Plain, MemDevice>,
+    scratch: &mut Scratch,
+    step: Step,
+) -> Result<(), AllocError>
+    requires small { WritesBytes (Evacuator (as_step step)) }
+    ensures moment { OnOk result (moment_in evac.new ≡ effect (moment_in evac.old) (Evacuator (as_step step.entry))) }
+    ensures reply { IfOk result (λ _. told_by scratch.new scratch.new.stepped ≡ reply_to (moment_in evac.old) (Evacuator (as_step step.entry))) }
+{
+    match step_made(evac, scratch, step) {
+        Ok(stepped) => {
+            scratch.stepped = stepped;
+            Ok(())
+        }
+        Err(e) => Err(e),
+    }
+}
