@@ -1,6 +1,6 @@
 //! The header word of an object.
 
-ghost use Rattle.std.specs.Prelude.{◌≡◌, IfSome};
+ghost use Rattle.std.specs.Prelude.{◌≡◌, IfSome, IsSome, Some};
 ghost use Rattle.far_word.specs.declared.header.HeadWord.{HeadWord};
 ghost use Rattle.far_word.specs.Header.{IsHead, head_word, head_of};
 
@@ -63,5 +63,17 @@ impl HeadWord {
             len: len as u16,
             ds: field(word, DS, 8) as u8,
         })
+    }
+
+    /// What a word on the layout says: [`HeadWord::read`] of a word that is known to read, by its fields alone.
+    #[inline]
+    #[tactic(auto, unfolding(crate::specs::Header::head_of))]
+    pub fn known(word: u64) -> HeadWord
+        requires { IsSome (head_of word) }
+        ensures { head_of word ≡ Some result }
+    {
+        let (pointer, len) = (field(word, POINTER, 32) as u16, field(word, 0, 16) as u16);
+        let ds = field(word, DS, 8) as u8;
+        HeadWord { pointer, len, ds }
     }
 }

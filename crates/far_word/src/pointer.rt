@@ -1,6 +1,6 @@
 //! The pointer word: what the cell of a remoteable pointer says.
 
-ghost use Rattle.std.specs.Prelude.{◌≡◌, IfSome, is_some};
+ghost use Rattle.std.specs.Prelude.{◌≡◌, IfSome, IsSome, Some, is_some};
 ghost use Rattle.far_word.specs.declared.pointer.PtrWord.{PtrWord};
 ghost use Rattle.far_word.specs.Pointer.{IsPtr, word_of, read_of, pointer_len, view_place, without_owner_marks};
 
@@ -122,6 +122,32 @@ impl PtrWord {
             return Some(PtrWord::Far { len, ds, marks });
         }
         None
+    }
+
+    /// What a word on the layout says: [`PtrWord::read`] of a word that is known to read, by its fields alone.
+    #[inline]
+    #[tactic(auto, unfolding(crate::specs::Pointer::read_of))]
+    pub fn known(word: u64) -> PtrWord
+        requires { IsSome (read_of word) }
+        ensures { read_of word ≡ Some result }
+    {
+        if word == 0 {
+            return PtrWord::Free;
+        }
+        let len = field(word, 0, 16) as u16;
+        let ds = field(word, DS, 8) as u8;
+        let marks = Marks::read(word);
+        if !is_set(word, PRESENT) {
+            return PtrWord::Far { len, ds, marks };
+        }
+        let (log, at) = (field(word, LOG, 8) as u8, field(word, AT, 10) as u16);
+        let place = Place { log, at };
+        PtrWord::Near {
+            len,
+            ds,
+            place,
+            marks,
+        }
     }
 
     /// Where a new view may rest: the place of a near pointer with none of EVAC, MOVE and DROP.
