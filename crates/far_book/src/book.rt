@@ -1,6 +1,6 @@
 //! The book: where each object lies, and what each log has.
 
-ghost use Rattle.std.specs.Prelude.{◌≡◌, ◌≢◌, ◌+◌, ◌*◌, ◌^◌, ◌<◌, ◌≤◌, ◌↔◌, ℕ, bit_or, true, false, eqb, List, [], map, length, slice_index, Some, None, IfOk, IfErr};
+ghost use Rattle.std.specs.Prelude.{◌≡◌, ◌≢◌, ◌+◌, ◌*◌, ◌^◌, ◌<◌, ◌≤◌, ◌↔◌, ℕ, bit_or, true, false, eqb, List, [], map, length, slice_index, Some, None, IsSome, IfOk, IfErr};
 ghost use Rattle.std.specs.List.{IsDistinct, list_any};
 ghost use Rattle.far_word.specs.declared.mark.Mark.TheVariants.{Evac};
 ghost use Rattle.far_word.specs.declared.pointer.PtrWord.TheVariants.{Near as near_at};
@@ -266,9 +266,10 @@ impl<N: Near + Drop, D: Device + Drop> Book<N, D> {
 
 // Where the object of a cell is.
 fn home_in(cell: u64) -> Option<Home>
+    requires { IsSome (read_of cell) }
     ensures { result ≡ home_of (read_of cell) }
 {
-    match PtrWord::read(cell)? {
+    match PtrWord::known(cell) {
         PtrWord::Free => None,
         PtrWord::Near { place, marks, .. } => Some(Home::Near { place, marks }),
         PtrWord::Far { marks, .. } => Some(Home::Far { marks }),
@@ -341,10 +342,7 @@ fn says(word: u64) -> PtrWord
     ensures layout { IsPtr result }
     ensures word { word_of result ≡ word }
 {
-    let Some(says) = PtrWord::read(word) else {
-        unreachable!()
-    };
-    says
+    PtrWord::known(word)
 }
 
 // The first `tail` words of a log, each as it was when it was read.

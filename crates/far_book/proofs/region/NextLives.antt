@@ -1,6 +1,6 @@
 -- The live spans of a log, one after the other: what lies at a boundary, and behind it.
 use Rattle.std.proofs.Common.{◌≡◌, ℕ, ◌+◌, ◌*◌, ◌/◌, ◌%◌, ◌<◌, ◌≤◌, Bool, true, false, cond, nat_le, arith, refl, sym, ap, subst, ◌∙◌, Some, None, List, [], ◌∷◌, ◌++◌, inl, inr}
-use Rattle.std.specs.Prelude.{◌&&◌, Contains}
+use Rattle.std.specs.Prelude.{◌&&◌, Contains, IsSome, is_some}
 use Rattle.std.specs.List.{filter}
 use Rattle.std.proofs.lemmas.Bool.{cases_lt}
 use Rattle.std.proofs.lemmas.Bool.Decides.{nat_tests}
@@ -24,7 +24,7 @@ use Rattle.far_core.proofs.Put.{put_both}
 use Rattle.far_book.specs.Finds.{Finds}
 use Rattle.far_book.specs.book.NextLive.{IsBoundary, IsHomeOf, live_from, LivesBehind, LivesFromStart, SpansAreBounded}
 use Rattle.far_book.specs.book.Own.{own_part}
-use Rattle.far_book.proofs.Finding.{finds_more, near_found}
+use Rattle.far_book.proofs.Finding.{finds_more, near_found, some_found}
 use Rattle.far_book.proofs.region.Founds.{names_found}
 use Rattle.far_book.proofs.region.Owns.{own_header, own_spans}
 
@@ -188,8 +188,8 @@ module _ (s : State) (law : Law (own_part s)) (l : ℕ) where
           next = subst (λ (h : HeadWord). IsBoundary s l (at + size_of h.len)) (sym is) next_boundary;
         }
 
-    pub some_header : (w : ℕ) → w ≡ s.word (l * LOG_WORDS + at) → head_of w ≡ None → ⊥
-    some_header w same none = let odd : None ≡ Some (header_of x) = sym none ∙ ap head_of same ∙ says in cc
+    pub some_header : (w : ℕ) → w ≡ s.word (l * LOG_WORDS + at) → IsSome (head_of w)
+    some_header w same = ap is_some (ap head_of same ∙ says)
 
     -- a live span is named by its cell, as the header says
     pub is_home : is_live s l x ≡ true → IsHomeOf s l x
@@ -237,6 +237,9 @@ module _ (s t r u : State) (law : Law (own_part s)) (l at : ℕ) (below : at < s
 
   pub kept_more : u ≡ record s { cell = u.cell }
   kept_more = noted ∙ (λ i. record r { cell = sym (ap (λ (v : State). v.cell) noted) i }) ∙ ap (λ (v : State). record v { cell = u.cell }) (same ∙ kept)
+
+  pub here_reads : IsSome (read_of w)
+  here_reads = some_found (s.cell x.p) w finds (law.cells.cell_read x.p).1
 
   live_is : is_live s l x ≡ names_place (read_of w) l at
   live_is = sym (names_found (s.cell x.p) w finds l x.at) ∙ ap (λ n. names_place (read_of w) l n) (ap (λ (y : Span). y.at) is)

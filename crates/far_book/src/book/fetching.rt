@@ -59,7 +59,7 @@ impl<N: Near + Drop, D: Device + Drop> Book<N, D> {
         ensures ran { N.still → Does (N.view self.old.near) (Fetches pointer result) (N.view self.new.near) }
     {
         let word = self.see(pointer);
-        let Some(PtrWord::Far { len, ds, marks }) = PtrWord::read(word) else {
+        let PtrWord::Far { len, ds, marks } = PtrWord::known(word) else {
             unreachable!()
         };
         if marks.dropped {
@@ -146,6 +146,7 @@ fn put_object<N: Near>(near: &mut N, pointer: u16, len: u16, ds: u8, place: Plac
 }
 
 // The word of the eight bytes from 8i on, or of those that are left.
+#[inline]
 fn packed(bytes: &[u8], i: usize) -> u64
     requires { 8 * i < length bytes.now }
     ensures { result ≡ packed_word bytes.now i }

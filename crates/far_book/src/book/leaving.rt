@@ -26,6 +26,9 @@ use crate::near::Near;
 use far_device::{Device, DeviceFault};
 use far_word::{LONGEST, Place, PtrWord, Refused, size_of, unpack_bytes, words_for};
 
+// The bytes of an object that are read into a short row.
+const SHORT: u16 = 64;
+
 impl<N: Near + Drop, D: Device + Drop> Book<N, D> {
     /// Sends a quiet near object with EVAC far: the device holds its bytes, its cell says far, without marks, and its span is
     /// dead. `false` where its owner was found to have dropped it: it is retired then, and the device forgets its bytes.
@@ -51,14 +54,12 @@ impl<N: Near + Drop, D: Device + Drop> Book<N, D> {
         ensures ran { N.still → Does (N.view self.old.near) (Evicts pointer result) (N.view self.new.near) }
     {
         let found = self.see(pointer);
-        let Some(
-            PtrWord::Near {
-                len,
-                ds,
-                place,
-                marks,
-            },
-        ) = PtrWord::read(found)
+        let PtrWord::Near {
+            len,
+            ds,
+            place,
+            marks,
+        } = PtrWord::known(found)
         else {
             unreachable!()
         };
@@ -78,7 +79,7 @@ impl<N: Near + Drop, D: Device + Drop> Book<N, D> {
         }
     }
 
-    // Reads the words of a quiet object, and has the device hold its bytes.
+    // Reads the words of a quiet object, and has the device hold its bytes: by way of a short row where they fit into one.
     fn send(&mut self, pointer: u16, len: u16, ds: u8, place: Place) -> Result<(), Refused>
         requires pointer { pointer < CELLS * (N.view self.old.near).mutators }
         requires near { IsQuietIn (N.view self.old.near) pointer len ds place }
@@ -93,8 +94,41 @@ impl<N: Near + Drop, D: Device + Drop> Book<N, D> {
         ensures others { KeepsOthers (D.contents self.old.device) (D.contents self.new.device) pointer }
         ensures honest { D.honest self.new.device ≡ D.honest self.old.device }
     {
-        let bytes = read_object(&mut self.near, len, place);
-        match self.device.write(pointer as u32, &bytes[..len as usize]) {
+        self.keeps_law();
+        if len <= SHORT {
+            let mut row = [0; SHORT as usize];
+            self.send_by(pointer, len, ds, place, &mut row)
+        } else {
+            let mut row = [0; LONGEST as usize];
+            self.send_by(pointer, len, ds, place, &mut row)
+        }
+    }
+
+    // The same, by way of a row of bytes that has room for the object's words.
+    fn send_by(
+        &mut self,
+        pointer: u16,
+        len: u16,
+        ds: u8,
+        place: Place,
+        row: &mut [u8],
+    ) -> Result<(), Refused>
+        requires pointer { pointer < CELLS * (N.view self.old.near).mutators }
+        requires near { IsQuietIn (N.view self.old.near) pointer len ds place }
+        requires room { 8 * words_for len ≤ length row.old }
+        ensures kept { Leaves (N.view self.old.near) (N.view self.new.near) }
+        ensures exact { N.still → N.view self.new.near ≡ N.view self.old.near }
+        ensures words { IsStored (data_at (N.view self.new.near).word place) len }
+        ensures held { OnOk result (D.contents self.new.device pointer ≡ Some (bytes_of (data_at (N.view self.new.near).word place) len)) }
+        ensures refused { IfErr result (λ why. (why ≡ Memory) ⊎ (why ≡ Failed)) }
+        ensures cause { CountsFault (is_failure result) (D.faults self.old.device) (D.faults self.new.device) }
+        ensures spent { SpendsFault (is_failure result) (D.fails_at_most self.old.device) (D.fails_at_most self.new.device) }
+        ensures order { self.new.order ≡ self.old.order }
+        ensures others { KeepsOthers (D.contents self.old.device) (D.contents self.new.device) pointer }
+        ensures honest { D.honest self.new.device ≡ D.honest self.old.device }
+    {
+        read_object(&mut self.near, len, place, row);
+        match self.device.write(pointer as u32, &row[..len as usize]) {
             Ok(()) => Ok(()),
             Err(DeviceFault::Memory) => Err(Refused::Memory),
             Err(DeviceFault::Device) => Err(Refused::Device),
@@ -136,21 +170,20 @@ impl<N: Near + Drop, D: Device + Drop> Book<N, D> {
     }
 }
 
-// The bytes of a quiet object, read word by word. Its words are known from then on.
-fn read_object<N: Near>(near: &mut N, len: u16, place: Place) -> [u8; LONGEST as usize]
+// The bytes of a quiet object, read word by word to the front of a row. Its words are known from then on.
+fn read_object<N: Near>(near: &mut N, len: u16, place: Place, row: &mut [u8])
     requires object { IsQuietData (N.view near.old) len place }
+    requires room { 8 * words_for len ≤ length row.old }
     ensures kept { N.view near.new ≡ record (N.view near.old) { word = (N.view near.new).word } }
     ensures learned { Learns (N.view near.old) (N.view near.new).word place (words_for len) }
     ensures exact { N.still → N.view near.new ≡ N.view near.old }
-    ensures bytes { take len result ≡ bytes_of (data_at (N.view near.new).word place) len }
-    ensures length { length result ≡ LONGEST }
+    ensures bytes { take len row.new ≡ bytes_of (data_at (N.view near.new).word place) len }
+    ensures length { length row.new ≡ length row.old }
 {
-    let mut bytes = [0; LONGEST as usize];
     for i in 0..words_for(len) {
         let word = near.get(place.log, place.at + 1 + i, false);
-        unpack_word(&mut bytes, i as usize, word);
+        unpack_word(row, i as usize, word);
     }
-    bytes
 }
 
 // Writes the bytes of a word over the eight from 8i on.

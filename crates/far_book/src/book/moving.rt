@@ -1,6 +1,6 @@
 //! How a near object that is to move does: to another place, where the book wants its log, or nowhere.
 
-ghost use Rattle.std.specs.Prelude.{◌≡◌, ◌*◌, ◌<◌, true, false, Some, None, Ok, IfOk, IfErr, IfSome, IfNone, MatchOption};
+ghost use Rattle.std.specs.Prelude.{◌≡◌, ◌*◌, ◌<◌, true, false, Some, None, Ok, IsSome, IfOk, IfErr, IfSome, IfNone, MatchOption};
 ghost use Rattle.far_word.specs.declared.refused.Refused.TheVariants.{NoRoom};
 ghost use Rattle.far_word.specs.declared.sizes.TheConstants.{CELLS};
 ghost use Rattle.far_word.specs.Pointer.{read_of};
@@ -106,9 +106,7 @@ impl<N: Near + Drop, D: Device + Drop> Book<N, D> {
         ensures none { IfErr result (λ _. goal (N.view self.old.near) pointer ≡ None) }
         ensures unchanged { IfErr result (λ _. self.new ≡ self.old) }
     {
-        let Some(was) = PtrWord::read(found) else {
-            unreachable!()
-        };
+        let was = PtrWord::known(found);
         let PtrWord::Near { len, ds, place, .. } = was else {
             unreachable!()
         };
@@ -140,7 +138,7 @@ impl<N: Near + Drop, D: Device + Drop> Book<N, D> {
         ensures order { self.new.order ≡ self.old.order }
         ensures device { self.new.device ≡ self.old.device }
     {
-        let Some(PtrWord::Near { len, ds, place, .. }) = PtrWord::read(found) else {
+        let PtrWord::Near { len, ds, place, .. } = PtrWord::known(found) else {
             unreachable!()
         };
         if unmark_object(&mut self.near, pointer, found, len, ds, place) {
@@ -218,10 +216,11 @@ fn unmark_object<N: Near>(
 
 // Whether the book wants the log that a near object lies in.
 fn has_evac(word: u64) -> bool
+    requires { IsSome (read_of word) }
     ensures { result ≡ has_evac (read_of word) }
 {
-    match PtrWord::read(word) {
-        Some(PtrWord::Near { marks, .. }) => marks.evac,
+    match PtrWord::known(word) {
+        PtrWord::Near { marks, .. } => marks.evac,
         _ => false,
     }
 }

@@ -1,6 +1,6 @@
 //! How the live spans of a log are found one after the other, without a list of them.
 
-ghost use Rattle.std.specs.Prelude.{◌≡◌, ◌+◌, ◌*◌, ◌<◌, ◌≤◌, ◌∷◌, ℕ, true, [], IfSome, IfNone};
+ghost use Rattle.std.specs.Prelude.{◌≡◌, ◌+◌, ◌*◌, ◌<◌, ◌≤◌, ◌∷◌, ℕ, true, [], IsSome, IfSome, IfNone};
 ghost use Rattle.far_word.specs.declared.sizes.TheConstants.{CELLS, LOG_WORDS};
 ghost use Rattle.far_word.specs.Pointer.{read_of};
 ghost use Rattle.far_word.specs.Sizes.{size_of};
@@ -70,9 +70,7 @@ impl<N: Near + Drop, D: Device + Drop> Book<N, D> {
         ensures order { self.new.order ≡ self.old.order }
         ensures device { self.new.device ≡ self.old.device }
     {
-        let Some(head) = HeadWord::read(self.near.get(log, at, false)) else {
-            unreachable!()
-        };
+        let head = HeadWord::known(self.near.get(log, at, false));
         Span {
             at,
             p: head.pointer,
@@ -84,10 +82,11 @@ impl<N: Near + Drop, D: Device + Drop> Book<N, D> {
 
 // Whether a cell names a place.
 fn names_place(cell: u64, log: u8, at: u16) -> bool
+    requires { IsSome (read_of cell) }
     ensures { result ≡ names_place (read_of cell) log at }
 {
-    match PtrWord::read(cell) {
-        Some(PtrWord::Near { place, .. }) => place.log == log && place.at == at,
+    match PtrWord::known(cell) {
+        PtrWord::Near { place, .. } => place.log == log && place.at == at,
         _ => false,
     }
 }

@@ -36,6 +36,7 @@ impl<D: Device + Drop> Book<Plain, D> {
     {}
 
     /// Makes an owner's event. Any other is answered [`Reply::Refused`], and nothing has changed.
+    #[inline(always)]
     pub fn owner(&mut self, event: Event) -> Reply
         ensures made { is_owners event ≡ true → (core_state self.new.near.core, result) ≡ step_of (core_state self.old.near.core) event }
         ensures legal { is_owners event ≡ true → Legal (core_state self.old.near.core) event →

@@ -14,7 +14,35 @@ use far_word::PtrWord;
 
 /// Gives a cell a new word, by the word that was last found there. `Err` with the word that was found, where its owner has
 /// dropped the object meanwhile.
+#[inline]
 pub(crate) fn rename<N: Near>(near: &mut N, pointer: u16, found: u64, new: u64) -> Result<(), u64>
+    requires pointer { pointer < CELLS * (N.view near.old).mutators }
+    requires found { found ≡ (N.view near.old).cell pointer }
+    requires readable { IsSome (read_of found) }
+    requires alive { is_dropped (read_of found) ≡ false }
+    requires may { MayRename (N.view near.old) pointer new }
+    ensures done { IfOk result (λ _. Renamed (N.view near.old) (N.view near.new) pointer new) }
+    ensures set { N.still → IfOk result (λ _. N.view near.new ≡ after (N.view near.old) (Event.Name pointer found new)) }
+    ensures won { N.still → IfErr result (λ _. ⊥) }
+    ensures fits { IfErr result (λ word. word < 2 ^ 64) }
+    ensures found { IfErr result (λ word. Finds found word) }
+    ensures dropped { IfErr result (λ word. is_dropped (read_of word) ≡ true) }
+    ensures kept { IfErr result (λ word. N.view near.new ≡ seen (N.view near.old) pointer word) }
+{
+    match near.name(pointer, found, new) {
+        Ok(()) => Ok(()),
+        Err(other) => {
+            if is_dropped(other) {
+                return Err(other);
+            }
+            rename_marked(near, pointer, other, new)
+        }
+    }
+}
+
+// The same, where marks were just found added: as often as more of them are found.
+#[cold]
+fn rename_marked<N: Near>(near: &mut N, pointer: u16, found: u64, new: u64) -> Result<(), u64>
     requires pointer { pointer < CELLS * (N.view near.old).mutators }
     requires found { found ≡ (N.view near.old).cell pointer }
     requires readable { IsSome (read_of found) }
@@ -46,11 +74,12 @@ pub(crate) fn rename<N: Near>(near: &mut N, pointer: u16, found: u64, new: u64) 
 
 /// Whether a word says that its object was dropped.
 pub(crate) fn is_dropped(word: u64) -> bool
+    requires { IsSome (read_of word) }
     ensures value { result ≡ is_dropped (read_of word) }
     ensures fits { word < 2 ^ 64 }
 {
-    match PtrWord::read(word) {
-        Some(PtrWord::Near { marks, .. } | PtrWord::Far { marks, .. }) => marks.dropped,
-        _ => false,
+    match PtrWord::known(word) {
+        PtrWord::Near { marks, .. } | PtrWord::Far { marks, .. } => marks.dropped,
+        PtrWord::Free => false,
     }
 }

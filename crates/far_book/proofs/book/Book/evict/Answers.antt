@@ -13,7 +13,7 @@ use Rattle.far_book.proofs.region.Evicted.{goes_far, gone_keeps, is_gone}
 
 pub returns-in-Ok-clause-far : goal.returns-in-Ok-clause-far
 returns-in-Ok-clause-far g c _ =
-    let x = c.in-Some-Near in
+    let x = c.in-Near in
     let near : read_of c.see-found.result ≡ Some (Near x.len x.ds x.place x.marks) = search rules in
     let says = read_says c.see-found.result (Near x.len x.ds x.place x.marks) (omega arith) near in
     let layout : IsPtr (Far x.len x.ds no_marks) = (says.0.0, says.0.1, says.0.2, refl) in

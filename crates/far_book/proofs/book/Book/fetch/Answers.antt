@@ -4,6 +4,8 @@ use Rattle.std.specs.Prelude.{Option, List}
 use Rattle.std.proofs.lemmas.Bool.{false_from_ne_true}
 use Rattle.far_word.specs.Bytes.{packed_word}
 use Rattle.far_word.specs.Pointer.{read_of}
+use Rattle.far_word.specs.declared.pointer.PtrWord.TheVariants.{Far}
+use Rattle.far_word.proofs.PointerLaws.{read_says}
 use Rattle.far_word.specs.Sizes.{size_of}
 use Rattle.far_core.specs.events.Naming.{is_dropped}
 use Rattle.far_core.specs.state.State.{State}
@@ -22,13 +24,24 @@ use Rattle.far_book.proofs.region.Dropping.{retired_by}
 use Rattle.far_book.proofs.region.Fetched.{come_in_order, come_forgot, come_kept, fetched_by, fetched_seen, known, known_alive, written_in_order}
 use Rattle.far_book.proofs.region.Fetching.{FarFound, able, as_long, as_stored, at_tail, finds_now, is_held, is_seen, left_here, left_written, may, now, room_was, some_room, spent_by, unasked, unread_written, words_same}
 
+pub room-requires-clause-size : goal.room-requires-clause-size
+room-requires-clause-size g c =
+    let layout = (read_says c.see-word.result (Far c.in-Far.len c.in-Far.ds c.in-Far.marks) (omega arith) (c.known.ensures ∙ ap (λ v. Some v) c.in-Far.is)).0 in
+    omega (arith, c.size_of-size.ensures, layout.1)
+
+pub come_near-requires-clause-head : goal.come_near-requires-clause-head
+come_near-requires-clause-head g c =
+    let layout = (read_says c.see-word.result (Far c.in-Far.len c.in-Far.ds c.in-Far.marks) (omega arith) (c.known.ensures ∙ ap (λ v. Some v) c.in-Far.is)).0 in
+    let same = ap (λ (b : BookOf g.row.N.Denot g.row.D.Denot). (g.N.Near.view b.near).mutators) c.self.view_is ∙ ap (λ (t : State). t.mutators) c.see-word.ensures.kept in
+    record { some = layout.0; most = layout.1; structure = layout.2; cell = omega (arith, c.requires.pointer, same, c.self.invariant.notes.law.shape.few_mutators) }
+
 pub returns-in_default-room-clause-refused : goal.returns-in_default-room-clause-refused
 returns-in_default-room-clause-refused g c =
     let s0 = g.N.Near.view c.args.self.now.near in
     let s = g.N.Near.view c.self.inside.near in
     let p = c.args.pointer in
-    let f = c.in-Some-Far in
-    let x : FarFound s0 s p c.see-word.result f.len f.ds f.marks = record { finds = c.see-word.ensures.found; fits = c.see-word.type_inv; far = sym c.read.ensures.exact ∙ f.is ∙ ap (λ v. Some v) f.field-0-is; same = ap (λ (b : BookOf g.row.N.Denot g.row.D.Denot). g.N.Near.view b.near) c.self.view_is ∙ c.see-word.ensures.kept; pointer = c.requires.pointer } in
+    let f = c.in-Far in
+    let x : FarFound s0 s p c.see-word.result f.len f.ds f.marks = record { finds = c.see-word.ensures.found; fits = c.see-word.type_inv; far = c.known.ensures ∙ ap (λ v. Some v) f.is; same = ap (λ (b : BookOf g.row.N.Denot g.row.D.Denot). g.N.Near.view b.near) c.self.view_is ∙ c.see-word.ensures.kept; pointer = c.requires.pointer } in
     room_was s0 s p c.see-word.result f.len f.ds f.marks x c.self.inside.ledger (g.D.Device.contents c.self.inside.device) (g.D.Device.honest c.self.inside.device) c.self.invariant c.size_of-size.result c.size_of-size.ensures c.room.result (c.room.ensures (own_part s) c.self.invariant.notes) ∙ c.in_default-room.is
 
 pub returns-in-Err-Memory-clause-refused : goal.returns-in-Err-Memory-clause-refused
@@ -36,8 +49,8 @@ returns-in-Err-Memory-clause-refused g c =
     let s0 = g.N.Near.view c.args.self.now.near in
     let s = g.N.Near.view c.self.inside.near in
     let p = c.args.pointer in
-    let f = c.in-Some-Far in
-    let x : FarFound s0 s p c.see-word.result f.len f.ds f.marks = record { finds = c.see-word.ensures.found; fits = c.see-word.type_inv; far = sym c.read.ensures.exact ∙ f.is ∙ ap (λ v. Some v) f.field-0-is; same = ap (λ (b : BookOf g.row.N.Denot g.row.D.Denot). g.N.Near.view b.near) c.self.view_is ∙ c.see-word.ensures.kept; pointer = c.requires.pointer } in
+    let f = c.in-Far in
+    let x : FarFound s0 s p c.see-word.result f.len f.ds f.marks = record { finds = c.see-word.ensures.found; fits = c.see-word.type_inv; far = c.known.ensures ∙ ap (λ v. Some v) f.is; same = ap (λ (b : BookOf g.row.N.Denot g.row.D.Denot). g.N.Near.view b.near) c.self.view_is ∙ c.see-word.ensures.kept; pointer = c.requires.pointer } in
     some_room s0 s p c.see-word.result f.len f.ds f.marks x c.self.inside.ledger (g.D.Device.contents c.self.inside.device) (g.D.Device.honest c.self.inside.device) c.self.invariant c.size_of-size.result c.size_of-size.ensures c.room.result (c.room.ensures (own_part s) c.self.invariant.notes) c.in-Some.place c.in-Some.is
 
 pub returns-in-Err-Device-clause-refused : goal.returns-in-Err-Device-clause-refused
@@ -45,8 +58,8 @@ returns-in-Err-Device-clause-refused g c =
     let s0 = g.N.Near.view c.args.self.now.near in
     let s = g.N.Near.view c.self.inside.near in
     let p = c.args.pointer in
-    let f = c.in-Some-Far in
-    let x : FarFound s0 s p c.see-word.result f.len f.ds f.marks = record { finds = c.see-word.ensures.found; fits = c.see-word.type_inv; far = sym c.read.ensures.exact ∙ f.is ∙ ap (λ v. Some v) f.field-0-is; same = ap (λ (b : BookOf g.row.N.Denot g.row.D.Denot). g.N.Near.view b.near) c.self.view_is ∙ c.see-word.ensures.kept; pointer = c.requires.pointer } in
+    let f = c.in-Far in
+    let x : FarFound s0 s p c.see-word.result f.len f.ds f.marks = record { finds = c.see-word.ensures.found; fits = c.see-word.type_inv; far = c.known.ensures ∙ ap (λ v. Some v) f.is; same = ap (λ (b : BookOf g.row.N.Denot g.row.D.Denot). g.N.Near.view b.near) c.self.view_is ∙ c.see-word.ensures.kept; pointer = c.requires.pointer } in
     some_room s0 s p c.see-word.result f.len f.ds f.marks x c.self.inside.ledger (g.D.Device.contents c.self.inside.device) (g.D.Device.honest c.self.inside.device) c.self.invariant c.size_of-size.result c.size_of-size.ensures c.room.result (c.room.ensures (own_part s) c.self.invariant.notes) c.in-Some.place c.in-Some.is
 
 pub returns-clause-place : goal.returns-clause-place
@@ -54,8 +67,8 @@ returns-clause-place g c =
     let s0 = g.N.Near.view c.args.self.now.near in
     let s = g.N.Near.view c.self.inside.near in
     let p = c.args.pointer in
-    let f = c.in-Some-Far in
-    let x : FarFound s0 s p c.see-word.result f.len f.ds f.marks = record { finds = c.see-word.ensures.found; fits = c.see-word.type_inv; far = sym c.read.ensures.exact ∙ f.is ∙ ap (λ v. Some v) f.field-0-is; same = ap (λ (b : BookOf g.row.N.Denot g.row.D.Denot). g.N.Near.view b.near) c.self.view_is ∙ c.see-word.ensures.kept; pointer = c.requires.pointer } in
+    let f = c.in-Far in
+    let x : FarFound s0 s p c.see-word.result f.len f.ds f.marks = record { finds = c.see-word.ensures.found; fits = c.see-word.type_inv; far = c.known.ensures ∙ ap (λ v. Some v) f.is; same = ap (λ (b : BookOf g.row.N.Denot g.row.D.Denot). g.N.Near.view b.near) c.self.view_is ∙ c.see-word.ensures.kept; pointer = c.requires.pointer } in
     room_was s0 s p c.see-word.result f.len f.ds f.marks x c.self.inside.ledger (g.D.Device.contents c.self.inside.device) (g.D.Device.honest c.self.inside.device) c.self.invariant c.size_of-size.result c.size_of-size.ensures c.room.result (c.room.ensures (own_part s) c.self.invariant.notes) ∙ c.in-Some.is
 
 pub returns-then-len-clause-refused : goal.returns-then-len-clause-refused
@@ -63,8 +76,8 @@ returns-then-len-clause-refused g c =
     let s0 = g.N.Near.view c.args.self.now.near in
     let s = g.N.Near.view c.self.inside.near in
     let p = c.args.pointer in
-    let f = c.in-Some-Far in
-    let x : FarFound s0 s p c.see-word.result f.len f.ds f.marks = record { finds = c.see-word.ensures.found; fits = c.see-word.type_inv; far = sym c.read.ensures.exact ∙ f.is ∙ ap (λ v. Some v) f.field-0-is; same = ap (λ (b : BookOf g.row.N.Denot g.row.D.Denot). g.N.Near.view b.near) c.self.view_is ∙ c.see-word.ensures.kept; pointer = c.requires.pointer } in
+    let f = c.in-Far in
+    let x : FarFound s0 s p c.see-word.result f.len f.ds f.marks = record { finds = c.see-word.ensures.found; fits = c.see-word.type_inv; far = c.known.ensures ∙ ap (λ v. Some v) f.is; same = ap (λ (b : BookOf g.row.N.Denot g.row.D.Denot). g.N.Near.view b.near) c.self.view_is ∙ c.see-word.ensures.kept; pointer = c.requires.pointer } in
     let honest : g.D.Device.honest c.args.self.now.device ≡ g.D.Device.honest c.self.inside.device = sym (ap g.D.Device.honest (ap (λ (b : BookOf g.row.N.Denot g.row.D.Denot). b.device) c.self.view_is ∙ c.see-word.ensures.device)) in
     (some_room s0 s p c.see-word.result f.len f.ds f.marks x c.self.inside.ledger (g.D.Device.contents c.self.inside.device) (g.D.Device.honest c.self.inside.device) c.self.invariant c.size_of-size.result c.size_of-size.ensures c.room.result (c.room.ensures (own_part s) c.self.invariant.notes) c.in-Some.place c.in-Some.is, false_from_ne_true (g.D.Device.honest c.args.self.now.device) (λ h. let long = as_long s0 s p c.see-word.result f.len f.ds f.marks x c.self.inside.ledger (g.D.Device.contents c.self.inside.device) (g.D.Device.honest c.self.inside.device) c.self.invariant c.size_of-size.result c.size_of-size.ensures c.room.result (c.room.ensures (own_part s) c.self.invariant.notes) c.in-Ok.bytes.items (c.in-Ok.ensures.given (sym honest ∙ h)) in absurd (omega arith)))
 
@@ -73,8 +86,8 @@ come_near-requires-clause-layout g c =
     let s0 = g.N.Near.view c.args.self.now.near in
     let s = g.N.Near.view c.self.inside.near in
     let p = c.args.pointer in
-    let f = c.in-Some-Far in
-    let x : FarFound s0 s p c.see-word.result f.len f.ds f.marks = record { finds = c.see-word.ensures.found; fits = c.see-word.type_inv; far = sym c.read.ensures.exact ∙ f.is ∙ ap (λ v. Some v) f.field-0-is; same = ap (λ (b : BookOf g.row.N.Denot g.row.D.Denot). g.N.Near.view b.near) c.self.view_is ∙ c.see-word.ensures.kept; pointer = c.requires.pointer } in
+    let f = c.in-Far in
+    let x : FarFound s0 s p c.see-word.result f.len f.ds f.marks = record { finds = c.see-word.ensures.found; fits = c.see-word.type_inv; far = c.known.ensures ∙ ap (λ v. Some v) f.is; same = ap (λ (b : BookOf g.row.N.Denot g.row.D.Denot). g.N.Near.view b.near) c.self.view_is ∙ c.see-word.ensures.kept; pointer = c.requires.pointer } in
     (able s0 s p c.see-word.result f.len f.ds f.marks x c.self.inside.ledger (g.D.Device.contents c.self.inside.device) (g.D.Device.honest c.self.inside.device) c.self.invariant c.size_of-size.result c.size_of-size.ensures c.room.result (c.room.ensures (own_part s) c.self.invariant.notes) c.in-Some.place c.in-Some.is).layout
 
 pub come_near-requires-clause-next : goal.come_near-requires-clause-next
@@ -82,8 +95,8 @@ come_near-requires-clause-next g c =
     let s0 = g.N.Near.view c.args.self.now.near in
     let s = g.N.Near.view c.self.inside.near in
     let p = c.args.pointer in
-    let f = c.in-Some-Far in
-    let x : FarFound s0 s p c.see-word.result f.len f.ds f.marks = record { finds = c.see-word.ensures.found; fits = c.see-word.type_inv; far = sym c.read.ensures.exact ∙ f.is ∙ ap (λ v. Some v) f.field-0-is; same = ap (λ (b : BookOf g.row.N.Denot g.row.D.Denot). g.N.Near.view b.near) c.self.view_is ∙ c.see-word.ensures.kept; pointer = c.requires.pointer } in
+    let f = c.in-Far in
+    let x : FarFound s0 s p c.see-word.result f.len f.ds f.marks = record { finds = c.see-word.ensures.found; fits = c.see-word.type_inv; far = c.known.ensures ∙ ap (λ v. Some v) f.is; same = ap (λ (b : BookOf g.row.N.Denot g.row.D.Denot). g.N.Near.view b.near) c.self.view_is ∙ c.see-word.ensures.kept; pointer = c.requires.pointer } in
     (able s0 s p c.see-word.result f.len f.ds f.marks x c.self.inside.ledger (g.D.Device.contents c.self.inside.device) (g.D.Device.honest c.self.inside.device) c.self.invariant c.size_of-size.result c.size_of-size.ensures c.room.result (c.room.ensures (own_part s) c.self.invariant.notes) c.in-Some.place c.in-Some.is).next
 
 pub come_near-requires-clause-tail : goal.come_near-requires-clause-tail
@@ -91,8 +104,8 @@ come_near-requires-clause-tail g c =
     let s0 = g.N.Near.view c.args.self.now.near in
     let s = g.N.Near.view c.self.inside.near in
     let p = c.args.pointer in
-    let f = c.in-Some-Far in
-    let x : FarFound s0 s p c.see-word.result f.len f.ds f.marks = record { finds = c.see-word.ensures.found; fits = c.see-word.type_inv; far = sym c.read.ensures.exact ∙ f.is ∙ ap (λ v. Some v) f.field-0-is; same = ap (λ (b : BookOf g.row.N.Denot g.row.D.Denot). g.N.Near.view b.near) c.self.view_is ∙ c.see-word.ensures.kept; pointer = c.requires.pointer } in
+    let f = c.in-Far in
+    let x : FarFound s0 s p c.see-word.result f.len f.ds f.marks = record { finds = c.see-word.ensures.found; fits = c.see-word.type_inv; far = c.known.ensures ∙ ap (λ v. Some v) f.is; same = ap (λ (b : BookOf g.row.N.Denot g.row.D.Denot). g.N.Near.view b.near) c.self.view_is ∙ c.see-word.ensures.kept; pointer = c.requires.pointer } in
     at_tail s0 s p c.see-word.result f.len f.ds f.marks x c.self.inside.ledger (g.D.Device.contents c.self.inside.device) (g.D.Device.honest c.self.inside.device) c.self.invariant c.size_of-size.result c.size_of-size.ensures c.room.result (c.room.ensures (own_part s) c.self.invariant.notes) c.in-Some.place c.in-Some.is
 
 pub come_near-requires-clause-stored : goal.come_near-requires-clause-stored
@@ -100,8 +113,8 @@ come_near-requires-clause-stored g c promised i lt =
     let s0 = g.N.Near.view c.args.self.now.near in
     let s = g.N.Near.view c.self.inside.near in
     let p = c.args.pointer in
-    let f = c.in-Some-Far in
-    let x : FarFound s0 s p c.see-word.result f.len f.ds f.marks = record { finds = c.see-word.ensures.found; fits = c.see-word.type_inv; far = sym c.read.ensures.exact ∙ f.is ∙ ap (λ v. Some v) f.field-0-is; same = ap (λ (b : BookOf g.row.N.Denot g.row.D.Denot). g.N.Near.view b.near) c.self.view_is ∙ c.see-word.ensures.kept; pointer = c.requires.pointer } in
+    let f = c.in-Far in
+    let x : FarFound s0 s p c.see-word.result f.len f.ds f.marks = record { finds = c.see-word.ensures.found; fits = c.see-word.type_inv; far = c.known.ensures ∙ ap (λ v. Some v) f.is; same = ap (λ (b : BookOf g.row.N.Denot g.row.D.Denot). g.N.Near.view b.near) c.self.view_is ∙ c.see-word.ensures.kept; pointer = c.requires.pointer } in
     ap (λ b. packed_word b i) c.as_slice.ensures.value ∙ as_stored s0 s p c.see-word.result f.len f.ds f.marks x c.self.inside.ledger (g.D.Device.contents c.self.inside.device) (g.D.Device.honest c.self.inside.device) c.self.invariant c.size_of-size.result c.size_of-size.ensures c.room.result (c.room.ensures (own_part s) c.self.invariant.notes) c.in-Ok.bytes.items (c.in-Ok.ensures.given (c.self.invariant.honest promised)) i lt
 
 pub take-requires : goal.take-requires
@@ -109,8 +122,8 @@ take-requires g c =
     let s0 = g.N.Near.view c.args.self.now.near in
     let s = g.N.Near.view c.self.inside.near in
     let p = c.args.pointer in
-    let f = c.in-Some-Far in
-    let x : FarFound s0 s p c.see-word.result f.len f.ds f.marks = record { finds = c.see-word.ensures.found; fits = c.see-word.type_inv; far = sym c.read.ensures.exact ∙ f.is ∙ ap (λ v. Some v) f.field-0-is; same = ap (λ (b : BookOf g.row.N.Denot g.row.D.Denot). g.N.Near.view b.near) c.self.view_is ∙ c.see-word.ensures.kept; pointer = c.requires.pointer } in
+    let f = c.in-Far in
+    let x : FarFound s0 s p c.see-word.result f.len f.ds f.marks = record { finds = c.see-word.ensures.found; fits = c.see-word.type_inv; far = c.known.ensures ∙ ap (λ v. Some v) f.is; same = ap (λ (b : BookOf g.row.N.Denot g.row.D.Denot). g.N.Near.view b.near) c.self.view_is ∙ c.see-word.ensures.kept; pointer = c.requires.pointer } in
     may s0 s p c.see-word.result f.len f.ds f.marks x c.self.inside.ledger (g.D.Device.contents c.self.inside.device) (g.D.Device.honest c.self.inside.device) c.self.invariant c.size_of-size.result c.size_of-size.ensures c.room.result (c.room.ensures (own_part s) c.self.invariant.notes) c.in-Some.place c.in-Some.is
 
 pub invariant_of-self-in_default-come_near : goal.invariant_of-self-in_default-come_near
@@ -118,15 +131,15 @@ invariant_of-self-in_default-come_near g c =
     let s0 = g.N.Near.view c.args.self.now.near in
     let s = g.N.Near.view c.self.inside.near in
     let p = c.args.pointer in
-    let f = c.in-Some-Far in
-    let x : FarFound s0 s p c.see-word.result f.len f.ds f.marks = record { finds = c.see-word.ensures.found; fits = c.see-word.type_inv; far = sym c.read.ensures.exact ∙ f.is ∙ ap (λ v. Some v) f.field-0-is; same = ap (λ (b : BookOf g.row.N.Denot g.row.D.Denot). g.N.Near.view b.near) c.self.view_is ∙ c.see-word.ensures.kept; pointer = c.requires.pointer } in
+    let f = c.in-Far in
+    let x : FarFound s0 s p c.see-word.result f.len f.ds f.marks = record { finds = c.see-word.ensures.found; fits = c.see-word.type_inv; far = c.known.ensures ∙ ap (λ v. Some v) f.is; same = ap (λ (b : BookOf g.row.N.Denot g.row.D.Denot). g.N.Near.view b.near) c.self.view_is ∙ c.see-word.ensures.kept; pointer = c.requires.pointer } in
     let row = packed_word c.as_slice.result.now in
     let y = c.in_default-come_near in
     let held = g.D.Device.contents c.self.inside.device in
     let is_honest = g.D.Device.honest c.self.inside.device in
-    subst (λ (u : State). InOrder u c.self.inside.ledger (g.D.Device.contents c.read-2.new.self) (g.D.Device.honest c.read-2.new.self)) (sym y.ensures.kept)
-    (subst (λ h. InOrder (seen (with_written_span s p f.len f.ds c.in-Some.place row) p y.field-0) c.self.inside.ledger (g.D.Device.contents c.read-2.new.self) h) (sym c.read-2.ensures.honest)
-    (subst (λ h. InOrder (seen (with_written_span s p f.len f.ds c.in-Some.place row) p y.field-0) c.self.inside.ledger h is_honest) (sym c.read-2.ensures.kept)
+    subst (λ (u : State). InOrder u c.self.inside.ledger (g.D.Device.contents c.read.new.self) (g.D.Device.honest c.read.new.self)) (sym y.ensures.kept)
+    (subst (λ h. InOrder (seen (with_written_span s p f.len f.ds c.in-Some.place row) p y.field-0) c.self.inside.ledger (g.D.Device.contents c.read.new.self) h) (sym c.read.ensures.honest)
+    (subst (λ h. InOrder (seen (with_written_span s p f.len f.ds c.in-Some.place row) p y.field-0) c.self.inside.ledger h is_honest) (sym c.read.ensures.kept)
     (written_in_order s c.self.invariant.notes.law p f.len f.ds c.in-Some.place row (able s0 s p c.see-word.result f.len f.ds f.marks x c.self.inside.ledger (g.D.Device.contents c.self.inside.device) (g.D.Device.honest c.self.inside.device) c.self.invariant c.size_of-size.result c.size_of-size.ensures c.room.result (c.room.ensures (own_part s) c.self.invariant.notes) c.in-Some.place c.in-Some.is) c.self.inside.ledger held is_honest c.self.invariant y.field-0 y.ensures.fits
     (finds_more (s.cell p) c.see-word.result y.field-0 (finds_now s0 s p c.see-word.result f.len f.ds f.marks x) y.ensures.found))))
 
@@ -135,8 +148,8 @@ returns-then-marks-clause-gone g c =
     let s0 = g.N.Near.view c.args.self.now.near in
     let s = g.N.Near.view c.see-word.new.self.near in
     let p = c.args.pointer in
-    let f = c.in-Some-Far in
-    let x : FarFound s0 s p c.see-word.result f.len f.ds f.marks = record { finds = c.see-word.ensures.found; fits = c.see-word.type_inv; far = sym c.read.ensures.exact ∙ f.is ∙ ap (λ v. Some v) f.field-0-is; same = c.see-word.ensures.kept; pointer = c.requires.pointer } in
+    let f = c.in-Far in
+    let x : FarFound s0 s p c.see-word.result f.len f.ds f.marks = record { finds = c.see-word.ensures.found; fits = c.see-word.type_inv; far = c.known.ensures ∙ ap (λ v. Some v) f.is; same = c.see-word.ensures.kept; pointer = c.requires.pointer } in
     let dropped : is_dropped (read_of c.see-word.result) ≡ true = ap is_dropped x.far ∙ c.if-marks.true in
     retired_by g.N.Near.still s0 s (g.N.Near.view c.retire.new.self.near) p c.see-word.result c.see-word.ensures.found dropped (left_here s0 s p c.see-word.result f.len f.ds f.marks x) c.retire.ensures.kept c.retire.ensures.forgot
     (λ still. ap (λ v. is_dropped (read_of v)) (sym (c.see-word.ensures.exact still)) ∙ dropped)
@@ -147,8 +160,8 @@ returns-then-marks-clause-unread g c a _ k =
     let s0 = g.N.Near.view c.args.self.now.near in
     let s = g.N.Near.view c.see-word.new.self.near in
     let p = c.args.pointer in
-    let f = c.in-Some-Far in
-    let x : FarFound s0 s p c.see-word.result f.len f.ds f.marks = record { finds = c.see-word.ensures.found; fits = c.see-word.type_inv; far = sym c.read.ensures.exact ∙ f.is ∙ ap (λ v. Some v) f.field-0-is; same = c.see-word.ensures.kept; pointer = c.requires.pointer } in
+    let f = c.in-Far in
+    let x : FarFound s0 s p c.see-word.result f.len f.ds f.marks = record { finds = c.see-word.ensures.found; fits = c.see-word.type_inv; far = c.known.ensures ∙ ap (λ v. Some v) f.is; same = c.see-word.ensures.kept; pointer = c.requires.pointer } in
     subst (λ n. n < 2 ^ 64) (c.retire.ensures.forgot.known a k ∙ ap (λ (h : ℕ → ℕ). h a) (words_same s0 s p c.see-word.result f.len f.ds f.marks x)) k
 
 pub returns-in_default-come_near-clause-gone : goal.returns-in_default-come_near-clause-gone
@@ -156,8 +169,8 @@ returns-in_default-come_near-clause-gone g c =
     let s0 = g.N.Near.view c.args.self.now.near in
     let s = g.N.Near.view c.self.inside.near in
     let p = c.args.pointer in
-    let f = c.in-Some-Far in
-    let x : FarFound s0 s p c.see-word.result f.len f.ds f.marks = record { finds = c.see-word.ensures.found; fits = c.see-word.type_inv; far = sym c.read.ensures.exact ∙ f.is ∙ ap (λ v. Some v) f.field-0-is; same = ap (λ (b : BookOf g.row.N.Denot g.row.D.Denot). g.N.Near.view b.near) c.self.view_is ∙ c.see-word.ensures.kept; pointer = c.requires.pointer } in
+    let f = c.in-Far in
+    let x : FarFound s0 s p c.see-word.result f.len f.ds f.marks = record { finds = c.see-word.ensures.found; fits = c.see-word.type_inv; far = c.known.ensures ∙ ap (λ v. Some v) f.is; same = ap (λ (b : BookOf g.row.N.Denot g.row.D.Denot). g.N.Near.view b.near) c.self.view_is ∙ c.see-word.ensures.kept; pointer = c.requires.pointer } in
     let row = packed_word c.as_slice.result.now in
     let y = c.in_default-come_near in
     let u = g.N.Near.view c.come_near.new.near in
@@ -171,8 +184,8 @@ returns-in_default-come_near-clause-unread g c =
     let s0 = g.N.Near.view c.args.self.now.near in
     let s = g.N.Near.view c.self.inside.near in
     let p = c.args.pointer in
-    let f = c.in-Some-Far in
-    let x : FarFound s0 s p c.see-word.result f.len f.ds f.marks = record { finds = c.see-word.ensures.found; fits = c.see-word.type_inv; far = sym c.read.ensures.exact ∙ f.is ∙ ap (λ v. Some v) f.field-0-is; same = ap (λ (b : BookOf g.row.N.Denot g.row.D.Denot). g.N.Near.view b.near) c.self.view_is ∙ c.see-word.ensures.kept; pointer = c.requires.pointer } in
+    let f = c.in-Far in
+    let x : FarFound s0 s p c.see-word.result f.len f.ds f.marks = record { finds = c.see-word.ensures.found; fits = c.see-word.type_inv; far = c.known.ensures ∙ ap (λ v. Some v) f.is; same = ap (λ (b : BookOf g.row.N.Denot g.row.D.Denot). g.N.Near.view b.near) c.self.view_is ∙ c.see-word.ensures.kept; pointer = c.requires.pointer } in
     let row = packed_word c.as_slice.result.now in
     let y = c.in_default-come_near in
     let u = g.N.Near.view c.come_near.new.near in
@@ -185,13 +198,13 @@ invariant_of-self-2 g c =
     let s0 = g.N.Near.view c.args.self.now.near in
     let s = g.N.Near.view c.self.inside.near in
     let p = c.args.pointer in
-    let f = c.in-Some-Far in
-    let x : FarFound s0 s p c.see-word.result f.len f.ds f.marks = record { finds = c.see-word.ensures.found; fits = c.see-word.type_inv; far = sym c.read.ensures.exact ∙ f.is ∙ ap (λ v. Some v) f.field-0-is; same = ap (λ (b : BookOf g.row.N.Denot g.row.D.Denot). g.N.Near.view b.near) c.self.view_is ∙ c.see-word.ensures.kept; pointer = c.requires.pointer } in
+    let f = c.in-Far in
+    let x : FarFound s0 s p c.see-word.result f.len f.ds f.marks = record { finds = c.see-word.ensures.found; fits = c.see-word.type_inv; far = c.known.ensures ∙ ap (λ v. Some v) f.is; same = ap (λ (b : BookOf g.row.N.Denot g.row.D.Denot). g.N.Near.view b.near) c.self.view_is ∙ c.see-word.ensures.kept; pointer = c.requires.pointer } in
     let row = packed_word c.as_slice.result.now in
     let t = g.N.Near.view c.come_near.new.near in
     let takes : Takes c.self.inside.ledger c.take.new.self p (size_of f.len) c.in-Some.place = subst (λ n. Takes c.self.inside.ledger c.take.new.self p n c.in-Some.place) c.size_of-size.ensures c.take.ensures in
-    let others : KeepsOthers (g.D.Device.contents c.self.inside.device) (g.D.Device.contents c.forget.new.self) p = (λ q ne. c.forget.ensures.others q ne ∙ ap (λ (h : ℕ → Option (List ℕ)). h q) c.read-2.ensures.kept) in
-    subst (λ h. InOrder t c.take.new.self (g.D.Device.contents c.forget.new.self) h) (sym (c.forget.ensures.honest ∙ c.read-2.ensures.honest))
+    let others : KeepsOthers (g.D.Device.contents c.self.inside.device) (g.D.Device.contents c.forget.new.self) p = (λ q ne. c.forget.ensures.others q ne ∙ ap (λ (h : ℕ → Option (List ℕ)). h q) c.read.ensures.kept) in
+    subst (λ h. InOrder t c.take.new.self (g.D.Device.contents c.forget.new.self) h) (sym (c.forget.ensures.honest ∙ c.read.ensures.honest))
     (come_in_order s t p f.len f.ds c.in-Some.place row f.marks (now s0 s p c.see-word.result f.len f.ds f.marks x) c.if-marks.false (able s0 s p c.see-word.result f.len f.ds f.marks x c.self.inside.ledger (g.D.Device.contents c.self.inside.device) (g.D.Device.honest c.self.inside.device) c.self.invariant c.size_of-size.result c.size_of-size.ensures c.room.result (c.room.ensures (own_part s) c.self.invariant.notes) c.in-Some.place c.in-Some.is).layout c.in-Ok-come_near.ensures.done c.self.inside.ledger c.take.new.self (g.D.Device.contents c.self.inside.device) (g.D.Device.contents c.forget.new.self)
     (g.D.Device.honest c.self.inside.device) c.self.invariant (able s0 s p c.see-word.result f.len f.ds f.marks x c.self.inside.ledger (g.D.Device.contents c.self.inside.device) (g.D.Device.honest c.self.inside.device) c.self.invariant c.size_of-size.result c.size_of-size.ensures c.room.result (c.room.ensures (own_part s) c.self.invariant.notes) c.in-Some.place c.in-Some.is) takes others)
 
@@ -200,8 +213,8 @@ returns-clause-near g c =
     let s0 = g.N.Near.view c.args.self.now.near in
     let s = g.N.Near.view c.self.inside.near in
     let p = c.args.pointer in
-    let f = c.in-Some-Far in
-    let x : FarFound s0 s p c.see-word.result f.len f.ds f.marks = record { finds = c.see-word.ensures.found; fits = c.see-word.type_inv; far = sym c.read.ensures.exact ∙ f.is ∙ ap (λ v. Some v) f.field-0-is; same = ap (λ (b : BookOf g.row.N.Denot g.row.D.Denot). g.N.Near.view b.near) c.self.view_is ∙ c.see-word.ensures.kept; pointer = c.requires.pointer } in
+    let f = c.in-Far in
+    let x : FarFound s0 s p c.see-word.result f.len f.ds f.marks = record { finds = c.see-word.ensures.found; fits = c.see-word.type_inv; far = c.known.ensures ∙ ap (λ v. Some v) f.is; same = ap (λ (b : BookOf g.row.N.Denot g.row.D.Denot). g.N.Near.view b.near) c.self.view_is ∙ c.see-word.ensures.kept; pointer = c.requires.pointer } in
     let honest : g.D.Device.honest c.args.self.now.device ≡ g.D.Device.honest c.self.inside.device = sym (ap g.D.Device.honest (ap (λ (b : BookOf g.row.N.Denot g.row.D.Denot). b.device) c.self.view_is ∙ c.see-word.ensures.device)) in
     let row = packed_word c.as_slice.result.now in
     let y = c.in-Ok-come_near in
@@ -223,8 +236,8 @@ returns-in_default-room-clause-asked g c h =
     let s0 = g.N.Near.view c.args.self.now.near in
     let s = g.N.Near.view c.self.inside.near in
     let p = c.args.pointer in
-    let f = c.in-Some-Far in
-    let x : FarFound s0 s p c.see-word.result f.len f.ds f.marks = record { finds = c.see-word.ensures.found; fits = c.see-word.type_inv; far = sym c.read.ensures.exact ∙ f.is ∙ ap (λ v. Some v) f.field-0-is; same = ap (λ (b : BookOf g.row.N.Denot g.row.D.Denot). g.N.Near.view b.near) c.self.view_is ∙ c.see-word.ensures.kept; pointer = c.requires.pointer } in
+    let f = c.in-Far in
+    let x : FarFound s0 s p c.see-word.result f.len f.ds f.marks = record { finds = c.see-word.ensures.found; fits = c.see-word.type_inv; far = c.known.ensures ∙ ap (λ v. Some v) f.is; same = ap (λ (b : BookOf g.row.N.Denot g.row.D.Denot). g.N.Near.view b.near) c.self.view_is ∙ c.see-word.ensures.kept; pointer = c.requires.pointer } in
     absurd (unasked s0 s p c.see-word.result f.len f.ds f.marks x c.if-marks.false h)
 
 pub returns-in_default-room-clause-seen : goal.returns-in_default-room-clause-seen
@@ -232,8 +245,8 @@ returns-in_default-room-clause-seen g c =
     let s0 = g.N.Near.view c.args.self.now.near in
     let s = g.N.Near.view c.see-word.new.self.near in
     let p = c.args.pointer in
-    let f = c.in-Some-Far in
-    let x : FarFound s0 s p c.see-word.result f.len f.ds f.marks = record { finds = c.see-word.ensures.found; fits = c.see-word.type_inv; far = sym c.read.ensures.exact ∙ f.is ∙ ap (λ v. Some v) f.field-0-is; same = c.see-word.ensures.kept; pointer = c.requires.pointer } in
+    let f = c.in-Far in
+    let x : FarFound s0 s p c.see-word.result f.len f.ds f.marks = record { finds = c.see-word.ensures.found; fits = c.see-word.type_inv; far = c.known.ensures ∙ ap (λ v. Some v) f.is; same = c.see-word.ensures.kept; pointer = c.requires.pointer } in
     is_seen s0 s p c.see-word.result f.len f.ds f.marks x c.if-marks.false
 
 pub returns-in-Err-Memory-clause-asked : goal.returns-in-Err-Memory-clause-asked
@@ -241,8 +254,8 @@ returns-in-Err-Memory-clause-asked g c h =
     let s0 = g.N.Near.view c.args.self.now.near in
     let s = g.N.Near.view c.self.inside.near in
     let p = c.args.pointer in
-    let f = c.in-Some-Far in
-    let x : FarFound s0 s p c.see-word.result f.len f.ds f.marks = record { finds = c.see-word.ensures.found; fits = c.see-word.type_inv; far = sym c.read.ensures.exact ∙ f.is ∙ ap (λ v. Some v) f.field-0-is; same = ap (λ (b : BookOf g.row.N.Denot g.row.D.Denot). g.N.Near.view b.near) c.self.view_is ∙ c.see-word.ensures.kept; pointer = c.requires.pointer } in
+    let f = c.in-Far in
+    let x : FarFound s0 s p c.see-word.result f.len f.ds f.marks = record { finds = c.see-word.ensures.found; fits = c.see-word.type_inv; far = c.known.ensures ∙ ap (λ v. Some v) f.is; same = ap (λ (b : BookOf g.row.N.Denot g.row.D.Denot). g.N.Near.view b.near) c.self.view_is ∙ c.see-word.ensures.kept; pointer = c.requires.pointer } in
     absurd (unasked s0 s p c.see-word.result f.len f.ds f.marks x c.if-marks.false h)
 
 pub returns-in-Err-Memory-clause-seen : goal.returns-in-Err-Memory-clause-seen
@@ -250,8 +263,8 @@ returns-in-Err-Memory-clause-seen g c =
     let s0 = g.N.Near.view c.args.self.now.near in
     let s = g.N.Near.view c.self.inside.near in
     let p = c.args.pointer in
-    let f = c.in-Some-Far in
-    let x : FarFound s0 s p c.see-word.result f.len f.ds f.marks = record { finds = c.see-word.ensures.found; fits = c.see-word.type_inv; far = sym c.read.ensures.exact ∙ f.is ∙ ap (λ v. Some v) f.field-0-is; same = ap (λ (b : BookOf g.row.N.Denot g.row.D.Denot). g.N.Near.view b.near) c.self.view_is ∙ c.see-word.ensures.kept; pointer = c.requires.pointer } in
+    let f = c.in-Far in
+    let x : FarFound s0 s p c.see-word.result f.len f.ds f.marks = record { finds = c.see-word.ensures.found; fits = c.see-word.type_inv; far = c.known.ensures ∙ ap (λ v. Some v) f.is; same = ap (λ (b : BookOf g.row.N.Denot g.row.D.Denot). g.N.Near.view b.near) c.self.view_is ∙ c.see-word.ensures.kept; pointer = c.requires.pointer } in
     is_seen s0 s p c.see-word.result f.len f.ds f.marks x c.if-marks.false
 
 pub returns-in-Err-Device-clause-asked : goal.returns-in-Err-Device-clause-asked
@@ -259,8 +272,8 @@ returns-in-Err-Device-clause-asked g c h =
     let s0 = g.N.Near.view c.args.self.now.near in
     let s = g.N.Near.view c.self.inside.near in
     let p = c.args.pointer in
-    let f = c.in-Some-Far in
-    let x : FarFound s0 s p c.see-word.result f.len f.ds f.marks = record { finds = c.see-word.ensures.found; fits = c.see-word.type_inv; far = sym c.read.ensures.exact ∙ f.is ∙ ap (λ v. Some v) f.field-0-is; same = ap (λ (b : BookOf g.row.N.Denot g.row.D.Denot). g.N.Near.view b.near) c.self.view_is ∙ c.see-word.ensures.kept; pointer = c.requires.pointer } in
+    let f = c.in-Far in
+    let x : FarFound s0 s p c.see-word.result f.len f.ds f.marks = record { finds = c.see-word.ensures.found; fits = c.see-word.type_inv; far = c.known.ensures ∙ ap (λ v. Some v) f.is; same = ap (λ (b : BookOf g.row.N.Denot g.row.D.Denot). g.N.Near.view b.near) c.self.view_is ∙ c.see-word.ensures.kept; pointer = c.requires.pointer } in
     absurd (unasked s0 s p c.see-word.result f.len f.ds f.marks x c.if-marks.false h)
 
 pub returns-in-Err-Device-clause-seen : goal.returns-in-Err-Device-clause-seen
@@ -268,8 +281,8 @@ returns-in-Err-Device-clause-seen g c =
     let s0 = g.N.Near.view c.args.self.now.near in
     let s = g.N.Near.view c.self.inside.near in
     let p = c.args.pointer in
-    let f = c.in-Some-Far in
-    let x : FarFound s0 s p c.see-word.result f.len f.ds f.marks = record { finds = c.see-word.ensures.found; fits = c.see-word.type_inv; far = sym c.read.ensures.exact ∙ f.is ∙ ap (λ v. Some v) f.field-0-is; same = ap (λ (b : BookOf g.row.N.Denot g.row.D.Denot). g.N.Near.view b.near) c.self.view_is ∙ c.see-word.ensures.kept; pointer = c.requires.pointer } in
+    let f = c.in-Far in
+    let x : FarFound s0 s p c.see-word.result f.len f.ds f.marks = record { finds = c.see-word.ensures.found; fits = c.see-word.type_inv; far = c.known.ensures ∙ ap (λ v. Some v) f.is; same = ap (λ (b : BookOf g.row.N.Denot g.row.D.Denot). g.N.Near.view b.near) c.self.view_is ∙ c.see-word.ensures.kept; pointer = c.requires.pointer } in
     is_seen s0 s p c.see-word.result f.len f.ds f.marks x c.if-marks.false
 
 pub returns-then-len-clause-asked : goal.returns-then-len-clause-asked
@@ -277,8 +290,8 @@ returns-then-len-clause-asked g c h =
     let s0 = g.N.Near.view c.args.self.now.near in
     let s = g.N.Near.view c.self.inside.near in
     let p = c.args.pointer in
-    let f = c.in-Some-Far in
-    let x : FarFound s0 s p c.see-word.result f.len f.ds f.marks = record { finds = c.see-word.ensures.found; fits = c.see-word.type_inv; far = sym c.read.ensures.exact ∙ f.is ∙ ap (λ v. Some v) f.field-0-is; same = ap (λ (b : BookOf g.row.N.Denot g.row.D.Denot). g.N.Near.view b.near) c.self.view_is ∙ c.see-word.ensures.kept; pointer = c.requires.pointer } in
+    let f = c.in-Far in
+    let x : FarFound s0 s p c.see-word.result f.len f.ds f.marks = record { finds = c.see-word.ensures.found; fits = c.see-word.type_inv; far = c.known.ensures ∙ ap (λ v. Some v) f.is; same = ap (λ (b : BookOf g.row.N.Denot g.row.D.Denot). g.N.Near.view b.near) c.self.view_is ∙ c.see-word.ensures.kept; pointer = c.requires.pointer } in
     absurd (unasked s0 s p c.see-word.result f.len f.ds f.marks x c.if-marks.false h)
 
 pub returns-then-len-clause-seen : goal.returns-then-len-clause-seen
@@ -286,8 +299,8 @@ returns-then-len-clause-seen g c =
     let s0 = g.N.Near.view c.args.self.now.near in
     let s = g.N.Near.view c.self.inside.near in
     let p = c.args.pointer in
-    let f = c.in-Some-Far in
-    let x : FarFound s0 s p c.see-word.result f.len f.ds f.marks = record { finds = c.see-word.ensures.found; fits = c.see-word.type_inv; far = sym c.read.ensures.exact ∙ f.is ∙ ap (λ v. Some v) f.field-0-is; same = ap (λ (b : BookOf g.row.N.Denot g.row.D.Denot). g.N.Near.view b.near) c.self.view_is ∙ c.see-word.ensures.kept; pointer = c.requires.pointer } in
+    let f = c.in-Far in
+    let x : FarFound s0 s p c.see-word.result f.len f.ds f.marks = record { finds = c.see-word.ensures.found; fits = c.see-word.type_inv; far = c.known.ensures ∙ ap (λ v. Some v) f.is; same = ap (λ (b : BookOf g.row.N.Denot g.row.D.Denot). g.N.Near.view b.near) c.self.view_is ∙ c.see-word.ensures.kept; pointer = c.requires.pointer } in
     is_seen s0 s p c.see-word.result f.len f.ds f.marks x c.if-marks.false
 
 pub returns-clause-asked : goal.returns-clause-asked
@@ -295,8 +308,8 @@ returns-clause-asked g c h =
     let s0 = g.N.Near.view c.args.self.now.near in
     let s = g.N.Near.view c.self.inside.near in
     let p = c.args.pointer in
-    let f = c.in-Some-Far in
-    let x : FarFound s0 s p c.see-word.result f.len f.ds f.marks = record { finds = c.see-word.ensures.found; fits = c.see-word.type_inv; far = sym c.read.ensures.exact ∙ f.is ∙ ap (λ v. Some v) f.field-0-is; same = ap (λ (b : BookOf g.row.N.Denot g.row.D.Denot). g.N.Near.view b.near) c.self.view_is ∙ c.see-word.ensures.kept; pointer = c.requires.pointer } in
+    let f = c.in-Far in
+    let x : FarFound s0 s p c.see-word.result f.len f.ds f.marks = record { finds = c.see-word.ensures.found; fits = c.see-word.type_inv; far = c.known.ensures ∙ ap (λ v. Some v) f.is; same = ap (λ (b : BookOf g.row.N.Denot g.row.D.Denot). g.N.Near.view b.near) c.self.view_is ∙ c.see-word.ensures.kept; pointer = c.requires.pointer } in
     absurd (unasked s0 s p c.see-word.result f.len f.ds f.marks x c.if-marks.false h)
 
 pub returns-in-Err-Memory-clause-spent : goal.returns-in-Err-Memory-clause-spent
@@ -304,10 +317,10 @@ returns-in-Err-Memory-clause-spent g c =
     let s0 = g.N.Near.view c.args.self.now.near in
     let s = g.N.Near.view c.self.inside.near in
     let p = c.args.pointer in
-    let f = c.in-Some-Far in
-    let x : FarFound s0 s p c.see-word.result f.len f.ds f.marks = record { finds = c.see-word.ensures.found; fits = c.see-word.type_inv; far = sym c.read.ensures.exact ∙ f.is ∙ ap (λ v. Some v) f.field-0-is; same = ap (λ (b : BookOf g.row.N.Denot g.row.D.Denot). g.N.Near.view b.near) c.self.view_is ∙ c.see-word.ensures.kept; pointer = c.requires.pointer } in
+    let f = c.in-Far in
+    let x : FarFound s0 s p c.see-word.result f.len f.ds f.marks = record { finds = c.see-word.ensures.found; fits = c.see-word.type_inv; far = c.known.ensures ∙ ap (λ v. Some v) f.is; same = ap (λ (b : BookOf g.row.N.Denot g.row.D.Denot). g.N.Near.view b.near) c.self.view_is ∙ c.see-word.ensures.kept; pointer = c.requires.pointer } in
     let device : c.self.inside.device ≡ c.args.self.now.device = ap (λ (b : BookOf g.row.N.Denot g.row.D.Denot). b.device) c.self.view_is ∙ c.see-word.ensures.device in
-    let read = subst (λ (d : g.row.D.Denot). SpendsFault false (g.D.Device.fails_at_most d) (g.D.Device.fails_at_most c.read-2.new.self)) device (spent_by (Vec ℕ Global) c.in-Err-Memory.field-0 Memory _ _ c.in-Err-Memory.field-0-is (c.in-Err-Memory.ensures.spent (is_held s0 s p c.see-word.result f.len f.ds f.marks x c.self.inside.ledger (g.D.Device.contents c.self.inside.device) (g.D.Device.honest c.self.inside.device) c.self.invariant c.size_of-size.result c.size_of-size.ensures c.room.result (c.room.ensures (own_part s) c.self.invariant.notes)))) in
+    let read = subst (λ (d : g.row.D.Denot). SpendsFault false (g.D.Device.fails_at_most d) (g.D.Device.fails_at_most c.read.new.self)) device (spent_by (Vec ℕ Global) c.in-Err-Memory.field-0 Memory _ _ c.in-Err-Memory.field-0-is (c.in-Err-Memory.ensures.spent (is_held s0 s p c.see-word.result f.len f.ds f.marks x c.self.inside.ledger (g.D.Device.contents c.self.inside.device) (g.D.Device.honest c.self.inside.device) c.self.invariant c.size_of-size.result c.size_of-size.ensures c.room.result (c.room.ensures (own_part s) c.self.invariant.notes)))) in
     read
 
 pub returns-in-Err-Device-clause-spent : goal.returns-in-Err-Device-clause-spent
@@ -315,10 +328,10 @@ returns-in-Err-Device-clause-spent g c =
     let s0 = g.N.Near.view c.args.self.now.near in
     let s = g.N.Near.view c.self.inside.near in
     let p = c.args.pointer in
-    let f = c.in-Some-Far in
-    let x : FarFound s0 s p c.see-word.result f.len f.ds f.marks = record { finds = c.see-word.ensures.found; fits = c.see-word.type_inv; far = sym c.read.ensures.exact ∙ f.is ∙ ap (λ v. Some v) f.field-0-is; same = ap (λ (b : BookOf g.row.N.Denot g.row.D.Denot). g.N.Near.view b.near) c.self.view_is ∙ c.see-word.ensures.kept; pointer = c.requires.pointer } in
+    let f = c.in-Far in
+    let x : FarFound s0 s p c.see-word.result f.len f.ds f.marks = record { finds = c.see-word.ensures.found; fits = c.see-word.type_inv; far = c.known.ensures ∙ ap (λ v. Some v) f.is; same = ap (λ (b : BookOf g.row.N.Denot g.row.D.Denot). g.N.Near.view b.near) c.self.view_is ∙ c.see-word.ensures.kept; pointer = c.requires.pointer } in
     let device : c.self.inside.device ≡ c.args.self.now.device = ap (λ (b : BookOf g.row.N.Denot g.row.D.Denot). b.device) c.self.view_is ∙ c.see-word.ensures.device in
-    let read = subst (λ (d : g.row.D.Denot). SpendsFault true (g.D.Device.fails_at_most d) (g.D.Device.fails_at_most c.read-2.new.self)) device (spent_by (Vec ℕ Global) c.in-Err-Device.field-0 Device _ _ c.in-Err-Device.field-0-is (c.in-Err-Device.ensures.spent (is_held s0 s p c.see-word.result f.len f.ds f.marks x c.self.inside.ledger (g.D.Device.contents c.self.inside.device) (g.D.Device.honest c.self.inside.device) c.self.invariant c.size_of-size.result c.size_of-size.ensures c.room.result (c.room.ensures (own_part s) c.self.invariant.notes)))) in
+    let read = subst (λ (d : g.row.D.Denot). SpendsFault true (g.D.Device.fails_at_most d) (g.D.Device.fails_at_most c.read.new.self)) device (spent_by (Vec ℕ Global) c.in-Err-Device.field-0 Device _ _ c.in-Err-Device.field-0-is (c.in-Err-Device.ensures.spent (is_held s0 s p c.see-word.result f.len f.ds f.marks x c.self.inside.ledger (g.D.Device.contents c.self.inside.device) (g.D.Device.honest c.self.inside.device) c.self.invariant c.size_of-size.result c.size_of-size.ensures c.room.result (c.room.ensures (own_part s) c.self.invariant.notes)))) in
     read
 
 pub returns-then-len-clause-spent : goal.returns-then-len-clause-spent
@@ -326,10 +339,10 @@ returns-then-len-clause-spent g c =
     let s0 = g.N.Near.view c.args.self.now.near in
     let s = g.N.Near.view c.self.inside.near in
     let p = c.args.pointer in
-    let f = c.in-Some-Far in
-    let x : FarFound s0 s p c.see-word.result f.len f.ds f.marks = record { finds = c.see-word.ensures.found; fits = c.see-word.type_inv; far = sym c.read.ensures.exact ∙ f.is ∙ ap (λ v. Some v) f.field-0-is; same = ap (λ (b : BookOf g.row.N.Denot g.row.D.Denot). g.N.Near.view b.near) c.self.view_is ∙ c.see-word.ensures.kept; pointer = c.requires.pointer } in
+    let f = c.in-Far in
+    let x : FarFound s0 s p c.see-word.result f.len f.ds f.marks = record { finds = c.see-word.ensures.found; fits = c.see-word.type_inv; far = c.known.ensures ∙ ap (λ v. Some v) f.is; same = ap (λ (b : BookOf g.row.N.Denot g.row.D.Denot). g.N.Near.view b.near) c.self.view_is ∙ c.see-word.ensures.kept; pointer = c.requires.pointer } in
     let device : c.self.inside.device ≡ c.args.self.now.device = ap (λ (b : BookOf g.row.N.Denot g.row.D.Denot). b.device) c.self.view_is ∙ c.see-word.ensures.device in
-    let read = subst (λ (d : g.row.D.Denot). SpendsFault false (g.D.Device.fails_at_most d) (g.D.Device.fails_at_most c.read-2.new.self)) device (c.in-Ok.ensures.spent (is_held s0 s p c.see-word.result f.len f.ds f.marks x c.self.inside.ledger (g.D.Device.contents c.self.inside.device) (g.D.Device.honest c.self.inside.device) c.self.invariant c.size_of-size.result c.size_of-size.ensures c.room.result (c.room.ensures (own_part s) c.self.invariant.notes))) in
+    let read = subst (λ (d : g.row.D.Denot). SpendsFault false (g.D.Device.fails_at_most d) (g.D.Device.fails_at_most c.read.new.self)) device (c.in-Ok.ensures.spent (is_held s0 s p c.see-word.result f.len f.ds f.marks x c.self.inside.ledger (g.D.Device.contents c.self.inside.device) (g.D.Device.honest c.self.inside.device) c.self.invariant c.size_of-size.result c.size_of-size.ensures c.room.result (c.room.ensures (own_part s) c.self.invariant.notes))) in
     read
 
 pub returns-in_default-come_near-clause-spent : goal.returns-in_default-come_near-clause-spent
@@ -337,10 +350,10 @@ returns-in_default-come_near-clause-spent g c =
     let s0 = g.N.Near.view c.args.self.now.near in
     let s = g.N.Near.view c.self.inside.near in
     let p = c.args.pointer in
-    let f = c.in-Some-Far in
-    let x : FarFound s0 s p c.see-word.result f.len f.ds f.marks = record { finds = c.see-word.ensures.found; fits = c.see-word.type_inv; far = sym c.read.ensures.exact ∙ f.is ∙ ap (λ v. Some v) f.field-0-is; same = ap (λ (b : BookOf g.row.N.Denot g.row.D.Denot). g.N.Near.view b.near) c.self.view_is ∙ c.see-word.ensures.kept; pointer = c.requires.pointer } in
+    let f = c.in-Far in
+    let x : FarFound s0 s p c.see-word.result f.len f.ds f.marks = record { finds = c.see-word.ensures.found; fits = c.see-word.type_inv; far = c.known.ensures ∙ ap (λ v. Some v) f.is; same = ap (λ (b : BookOf g.row.N.Denot g.row.D.Denot). g.N.Near.view b.near) c.self.view_is ∙ c.see-word.ensures.kept; pointer = c.requires.pointer } in
     let device : c.self.inside.device ≡ c.args.self.now.device = ap (λ (b : BookOf g.row.N.Denot g.row.D.Denot). b.device) c.self.view_is ∙ c.see-word.ensures.device in
-    let read = subst (λ (d : g.row.D.Denot). SpendsFault false (g.D.Device.fails_at_most d) (g.D.Device.fails_at_most c.read-2.new.self)) device (c.in-Ok.ensures.spent (is_held s0 s p c.see-word.result f.len f.ds f.marks x c.self.inside.ledger (g.D.Device.contents c.self.inside.device) (g.D.Device.honest c.self.inside.device) c.self.invariant c.size_of-size.result c.size_of-size.ensures c.room.result (c.room.ensures (own_part s) c.self.invariant.notes))) in
+    let read = subst (λ (d : g.row.D.Denot). SpendsFault false (g.D.Device.fails_at_most d) (g.D.Device.fails_at_most c.read.new.self)) device (c.in-Ok.ensures.spent (is_held s0 s p c.see-word.result f.len f.ds f.marks x c.self.inside.ledger (g.D.Device.contents c.self.inside.device) (g.D.Device.honest c.self.inside.device) c.self.invariant c.size_of-size.result c.size_of-size.ensures c.room.result (c.room.ensures (own_part s) c.self.invariant.notes))) in
     λ n h. c.retire-in_default-come_near.ensures.spent n (read n h)
 
 pub returns-clause-spent : goal.returns-clause-spent
@@ -348,10 +361,10 @@ returns-clause-spent g c =
     let s0 = g.N.Near.view c.args.self.now.near in
     let s = g.N.Near.view c.self.inside.near in
     let p = c.args.pointer in
-    let f = c.in-Some-Far in
-    let x : FarFound s0 s p c.see-word.result f.len f.ds f.marks = record { finds = c.see-word.ensures.found; fits = c.see-word.type_inv; far = sym c.read.ensures.exact ∙ f.is ∙ ap (λ v. Some v) f.field-0-is; same = ap (λ (b : BookOf g.row.N.Denot g.row.D.Denot). g.N.Near.view b.near) c.self.view_is ∙ c.see-word.ensures.kept; pointer = c.requires.pointer } in
+    let f = c.in-Far in
+    let x : FarFound s0 s p c.see-word.result f.len f.ds f.marks = record { finds = c.see-word.ensures.found; fits = c.see-word.type_inv; far = c.known.ensures ∙ ap (λ v. Some v) f.is; same = ap (λ (b : BookOf g.row.N.Denot g.row.D.Denot). g.N.Near.view b.near) c.self.view_is ∙ c.see-word.ensures.kept; pointer = c.requires.pointer } in
     let device : c.self.inside.device ≡ c.args.self.now.device = ap (λ (b : BookOf g.row.N.Denot g.row.D.Denot). b.device) c.self.view_is ∙ c.see-word.ensures.device in
-    let read = subst (λ (d : g.row.D.Denot). SpendsFault false (g.D.Device.fails_at_most d) (g.D.Device.fails_at_most c.read-2.new.self)) device (c.in-Ok.ensures.spent (is_held s0 s p c.see-word.result f.len f.ds f.marks x c.self.inside.ledger (g.D.Device.contents c.self.inside.device) (g.D.Device.honest c.self.inside.device) c.self.invariant c.size_of-size.result c.size_of-size.ensures c.room.result (c.room.ensures (own_part s) c.self.invariant.notes))) in
+    let read = subst (λ (d : g.row.D.Denot). SpendsFault false (g.D.Device.fails_at_most d) (g.D.Device.fails_at_most c.read.new.self)) device (c.in-Ok.ensures.spent (is_held s0 s p c.see-word.result f.len f.ds f.marks x c.self.inside.ledger (g.D.Device.contents c.self.inside.device) (g.D.Device.honest c.self.inside.device) c.self.invariant c.size_of-size.result c.size_of-size.ensures c.room.result (c.room.ensures (own_part s) c.self.invariant.notes))) in
     λ n h. c.forget.ensures.spent n (read n h)
 
 pub returns-then-marks-clause-ran : goal.returns-then-marks-clause-ran
@@ -359,8 +372,8 @@ returns-then-marks-clause-ran g c still =
     let s0 = g.N.Near.view c.args.self.now.near in
     let s = g.N.Near.view c.see-word.new.self.near in
     let p = c.args.pointer in
-    let f = c.in-Some-Far in
-    let x : FarFound s0 s p c.see-word.result f.len f.ds f.marks = record { finds = c.see-word.ensures.found; fits = c.see-word.type_inv; far = sym c.read.ensures.exact ∙ f.is ∙ ap (λ v. Some v) f.field-0-is; same = c.see-word.ensures.kept; pointer = c.requires.pointer } in
+    let f = c.in-Far in
+    let x : FarFound s0 s p c.see-word.result f.len f.ds f.marks = record { finds = c.see-word.ensures.found; fits = c.see-word.type_inv; far = c.known.ensures ∙ ap (λ v. Some v) f.is; same = c.see-word.ensures.kept; pointer = c.requires.pointer } in
     let dropped : is_dropped (read_of c.see-word.result) ≡ true = ap is_dropped x.far ∙ c.if-marks.true in
     record {
       pointer = c.requires.pointer;
@@ -376,8 +389,8 @@ returns-clause-ran g c still =
     let s0 = g.N.Near.view c.args.self.now.near in
     let s = g.N.Near.view c.self.inside.near in
     let p = c.args.pointer in
-    let f = c.in-Some-Far in
-    let x : FarFound s0 s p c.see-word.result f.len f.ds f.marks = record { finds = c.see-word.ensures.found; fits = c.see-word.type_inv; far = sym c.read.ensures.exact ∙ f.is ∙ ap (λ v. Some v) f.field-0-is; same = ap (λ (b : BookOf g.row.N.Denot g.row.D.Denot). g.N.Near.view b.near) c.self.view_is ∙ c.see-word.ensures.kept; pointer = c.requires.pointer } in
+    let f = c.in-Far in
+    let x : FarFound s0 s p c.see-word.result f.len f.ds f.marks = record { finds = c.see-word.ensures.found; fits = c.see-word.type_inv; far = c.known.ensures ∙ ap (λ v. Some v) f.is; same = ap (λ (b : BookOf g.row.N.Denot g.row.D.Denot). g.N.Near.view b.near) c.self.view_is ∙ c.see-word.ensures.kept; pointer = c.requires.pointer } in
     let near = returns-clause-near g c in
     let honest : g.D.Device.honest c.args.self.now.device ≡ g.D.Device.honest c.self.inside.device = sym (ap g.D.Device.honest (ap (λ (b : BookOf g.row.N.Denot g.row.D.Denot). b.device) c.self.view_is ∙ c.see-word.ensures.device)) in
     record {

@@ -3,7 +3,18 @@ use Rattle.std.proofs.Common.{◌≡◌, ◌+◌, ◌∙◌, arith, ap, sym, sub
 use Rattle.far_word.specs.Sizes.{size_of}
 use Rattle.far_log.specs.declared.span.Span.{Span}
 use Rattle.far_book.specs.book.NextLive.{IsBoundary, live_from}
-use Rattle.far_book.proofs.region.NextLives.{begun, below_tail, ended, found_more, here_dead, here_lies, here_live, here_next, kept_more}
+use Rattle.far_book.proofs.region.NextLives.{begun, below_tail, ended, found_more, here_dead, here_lies, here_live, here_next, here_reads, kept_more}
+
+pub names_place-requires : goal.names_place-requires
+names_place-requires g c =
+    let s = g.N.Near.view c.args.self.now.near in
+    let t = g.N.Near.view c.loop-at.self.near in
+    let r = g.N.Near.view c.span_at-span.new.self.near in
+    let u = g.N.Near.view c.see.new.self.near in
+    let h = c.loop-at.invariant in
+    let below = below_tail s c.args.log c.loop-at.at c.tail-tail.result c.tail-tail.ensures.is c.loop-at-test.true in
+    let begins = begun s c.args.log c.loop-at.at h.edge below in
+    here_reads s t r u c.keeps_law.ensures.law c.args.log c.loop-at.at below begins h.kept h.found c.span_at-span.ensures.same c.span_at-span.result c.span_at-span.ensures.is c.see.result c.see.ensures.found c.see.ensures.kept
 
 pub returns-then-names_place-clause-first : goal.returns-then-names_place-clause-first
 returns-then-names_place-clause-first g c =

@@ -1,62 +1,7 @@
 use Rattle.far_book.proofs.book.Book.send.Goals as goal
-use Rattle.std.proofs.Common.{◌<◌, ◌*◌, ap, sym, subst, arith, length-take-le}
-use Rattle.far_word.specs.declared.sizes.TheConstants.{CELLS}
-use Rattle.far_word.specs.Sizes.{words_for}
-use Rattle.far_core.specs.state.State.{State}
-use Rattle.far_book.specs.book.BookOf.{BookOf}
-use Rattle.far_book.specs.book.Dealing.{Leaves}
-use Rattle.far_book.specs.book.Evicting.{IsQuietIn}
-use Rattle.far_book.proofs.region.Evictions.{layout, learned_stored, quiet_object, sent_order}
-use Rattle.far_book.proofs.region.Learning.{learned_leaves}
+use Rattle.std.proofs.Common.{arith}
+use Rattle.far_book.proofs.region.Evictions.{layout}
 
-pub read_object-bytes-requires : goal.read_object-bytes-requires
-read_object-bytes-requires g c =
-    let s = g.N.Near.view c.self.inside.near in
-    let same = ap (λ (b : BookOf g.row.N.Denot g.row.D.Denot). g.N.Near.view b.near) c.self.view_is in
-    let pointer : c.args.pointer < CELLS * s.mutators = subst (λ (t : State). c.args.pointer < CELLS * t.mutators) (sym same) c.requires.pointer in
-    let near : IsQuietIn s c.args.pointer c.args.len c.args.ds c.args.place = subst (λ (t : State). IsQuietIn t c.args.pointer c.args.len c.args.ds c.args.place) (sym same) c.requires.near in
-    record { object = quiet_object s c.self.invariant.notes.law c.args.pointer c.args.len c.args.ds c.args.place near pointer }
-
-pub slice_bounds-bytes-end : goal.slice_bounds-bytes-end
-slice_bounds-bytes-end g c =
-    let s = g.N.Near.view c.self.inside.near in
-    let same = ap (λ (b : BookOf g.row.N.Denot g.row.D.Denot). g.N.Near.view b.near) c.self.view_is in
-    let near : IsQuietIn s c.args.pointer c.args.len c.args.ds c.args.place = subst (λ (t : State). IsQuietIn t c.args.pointer c.args.len c.args.ds c.args.place) (sym same) c.requires.near in
-    omega (arith, (layout s c.self.invariant.notes.law c.args.pointer c.args.len c.args.ds c.args.place near), c.read_object-bytes.ensures.length)
-
-pub slice_bounds-write-end : goal.slice_bounds-write-end
-slice_bounds-write-end g c =
-    let s = g.N.Near.view c.self.inside.near in
-    let same = ap (λ (b : BookOf g.row.N.Denot g.row.D.Denot). g.N.Near.view b.near) c.self.view_is in
-    let near : IsQuietIn s c.args.pointer c.args.len c.args.ds c.args.place = subst (λ (t : State). IsQuietIn t c.args.pointer c.args.len c.args.ds c.args.place) (sym same) c.requires.near in
-    sym (length-take-le c.args.len c.read_object-bytes.result (omega (arith, (layout s c.self.invariant.notes.law c.args.pointer c.args.len c.args.ds c.args.place near), c.read_object-bytes.ensures.length)))
-
-pub invariant_of-self : goal.invariant_of-self
-invariant_of-self g c =
-    let s = g.N.Near.view c.self.inside.near in
-    let t = g.N.Near.view c.read_object-bytes.new.near in
-    let same = ap (λ (b : BookOf g.row.N.Denot g.row.D.Denot). g.N.Near.view b.near) c.self.view_is in
-    let pointer : c.args.pointer < CELLS * s.mutators = subst (λ (t : State). c.args.pointer < CELLS * t.mutators) (sym same) c.requires.pointer in
-    let near : IsQuietIn s c.args.pointer c.args.len c.args.ds c.args.place = subst (λ (t : State). IsQuietIn t c.args.pointer c.args.len c.args.ds c.args.place) (sym same) c.requires.near in
-    let object = quiet_object s c.self.invariant.notes.law c.args.pointer c.args.len c.args.ds c.args.place near pointer in
-    let leaves = learned_leaves s t c.args.place (words_for c.args.len) c.read_object-bytes.ensures.kept object.bare c.read_object-bytes.ensures.learned in
-    sent_order s t c.self.inside.ledger (g.D.Device.contents c.self.inside.device) (g.D.Device.contents c.write.new.self) (g.D.Device.honest c.self.inside.device) (g.D.Device.honest c.write.new.self)
-    c.self.invariant leaves c.args.pointer c.args.len c.args.ds c.args.place near c.write.ensures.others c.write.ensures.honest
-
-pub returns-clause-kept : goal.returns-clause-kept
-returns-clause-kept g c =
-    let s = g.N.Near.view c.self.inside.near in
-    let same = ap (λ (b : BookOf g.row.N.Denot g.row.D.Denot). g.N.Near.view b.near) c.self.view_is in
-    let near : IsQuietIn s c.args.pointer c.args.len c.args.ds c.args.place = subst (λ (t : State). IsQuietIn t c.args.pointer c.args.len c.args.ds c.args.place) (sym same) c.requires.near in
-    let t = g.N.Near.view c.read_object-bytes.new.near in
-    let pointer : c.args.pointer < CELLS * s.mutators = subst (λ (t : State). c.args.pointer < CELLS * t.mutators) (sym same) c.requires.pointer in
-    let object = quiet_object s c.self.invariant.notes.law c.args.pointer c.args.len c.args.ds c.args.place near pointer in
-    let leaves = learned_leaves s t c.args.place (words_for c.args.len) c.read_object-bytes.ensures.kept object.bare c.read_object-bytes.ensures.learned in
-    subst (λ (u : State). Leaves u t) same leaves
-
-pub returns-clause-words : goal.returns-clause-words
-returns-clause-words g c =
-    let s = g.N.Near.view c.self.inside.near in
-    let same = ap (λ (b : BookOf g.row.N.Denot g.row.D.Denot). g.N.Near.view b.near) c.self.view_is in
-    let near : IsQuietIn s c.args.pointer c.args.len c.args.ds c.args.place = subst (λ (t : State). IsQuietIn t c.args.pointer c.args.len c.args.ds c.args.place) (sym same) c.requires.near in
-    learned_stored s c.self.invariant.notes.law c.args.pointer c.args.len c.args.ds c.args.place near (g.N.Near.view c.read_object-bytes.new.near).word c.read_object-bytes.ensures.learned
+pub send_by-requires-else-len-le-SHORT-clause-room : goal.send_by-requires-else-len-le-SHORT-clause-room
+send_by-requires-else-len-le-SHORT-clause-room g c =
+    omega (arith, layout (g.N.Near.view c.args.self.now.near) c.keeps_law.ensures.law c.args.pointer c.args.len c.args.ds c.args.place c.requires.near)

@@ -11,14 +11,14 @@ use Rattle.far_book.specs.book.NextLive.{IsBoundary}
 use Rattle.far_book.proofs.region.NextLives.{reads, some_header}
 use Rattle.far_book.proofs.region.Readings.{headers_known}
 
-pub unreachable-requires : goal.unreachable-requires
-unreachable-requires g c =
+pub known-head-requires : goal.known-head-requires
+known-head-requires g c =
     let s = g.N.Near.view c.self.inside.near in
     let same = ap (λ (b : BookOf g.row.N.Denot g.row.D.Denot). g.N.Near.view b.near) c.self.view_is in
     let below : c.args.at < s.tail c.args.log = subst (λ (t : State). c.args.at < t.tail c.args.log) (sym same) c.requires.below in
     let begins : s.starts (c.args.log * LOG_WORDS + c.args.at) ≡ true = ap (λ (t : State). t.starts (c.args.log * LOG_WORDS + c.args.at)) same ∙ c.requires.begins in
     let known = headers_known s c.self.invariant.notes.law (c.args.log * LOG_WORDS + c.args.at) begins in
-    some_header s c.self.invariant.notes.law c.args.log c.args.at below begins c.get.result (c.get.ensures.known known) (sym c.read.ensures.exact ∙ c.in_default.is)
+    some_header s c.self.invariant.notes.law c.args.log c.args.at below begins c.get.result (c.get.ensures.known known)
 
 pub invariant_of-self : goal.invariant_of-self
 invariant_of-self g c =
@@ -36,7 +36,7 @@ returns-clause-is g c =
     let below : c.args.at < s.tail c.args.log = subst (λ (t : State). c.args.at < t.tail c.args.log) (sym same) c.requires.below in
     let begins : s.starts (c.args.log * LOG_WORDS + c.args.at) ≡ true = ap (λ (t : State). t.starts (c.args.log * LOG_WORDS + c.args.at)) same ∙ c.requires.begins in
     let known = headers_known s c.self.invariant.notes.law (c.args.log * LOG_WORDS + c.args.at) begins in
-    let read = reads s c.self.invariant.notes.law c.args.log c.args.at below begins c.get.result c.in-Some.head (c.get.ensures.known known) (sym c.read.ensures.exact ∙ c.in-Some.is) in
+    let read = reads s c.self.invariant.notes.law c.args.log c.args.at below begins c.get.result c.known-head.result (c.get.ensures.known known) c.known-head.ensures in
     read.is ∙ ap (λ (t : State). span_at (word_in t c.args.log) c.args.at) same
 
 pub returns-clause-pointer : goal.returns-clause-pointer
@@ -46,8 +46,8 @@ returns-clause-pointer g c =
     let below : c.args.at < s.tail c.args.log = subst (λ (t : State). c.args.at < t.tail c.args.log) (sym same) c.requires.below in
     let begins : s.starts (c.args.log * LOG_WORDS + c.args.at) ≡ true = ap (λ (t : State). t.starts (c.args.log * LOG_WORDS + c.args.at)) same ∙ c.requires.begins in
     let known = headers_known s c.self.invariant.notes.law (c.args.log * LOG_WORDS + c.args.at) begins in
-    let read = reads s c.self.invariant.notes.law c.args.log c.args.at below begins c.get.result c.in-Some.head (c.get.ensures.known known) (sym c.read.ensures.exact ∙ c.in-Some.is) in
-    subst (λ (t : State). c.in-Some.head.pointer < CELLS * t.mutators) same read.pointer
+    let read = reads s c.self.invariant.notes.law c.args.log c.args.at below begins c.get.result c.known-head.result (c.get.ensures.known known) c.known-head.ensures in
+    subst (λ (t : State). c.known-head.result.pointer < CELLS * t.mutators) same read.pointer
 
 pub returns-clause-short : goal.returns-clause-short
 returns-clause-short g c =
@@ -56,7 +56,7 @@ returns-clause-short g c =
     let below : c.args.at < s.tail c.args.log = subst (λ (t : State). c.args.at < t.tail c.args.log) (sym same) c.requires.below in
     let begins : s.starts (c.args.log * LOG_WORDS + c.args.at) ≡ true = ap (λ (t : State). t.starts (c.args.log * LOG_WORDS + c.args.at)) same ∙ c.requires.begins in
     let known = headers_known s c.self.invariant.notes.law (c.args.log * LOG_WORDS + c.args.at) begins in
-    let read = reads s c.self.invariant.notes.law c.args.log c.args.at below begins c.get.result c.in-Some.head (c.get.ensures.known known) (sym c.read.ensures.exact ∙ c.in-Some.is) in
+    let read = reads s c.self.invariant.notes.law c.args.log c.args.at below begins c.get.result c.known-head.result (c.get.ensures.known known) c.known-head.ensures in
     read.short
 
 pub returns-clause-next : goal.returns-clause-next
@@ -66,8 +66,8 @@ returns-clause-next g c =
     let below : c.args.at < s.tail c.args.log = subst (λ (t : State). c.args.at < t.tail c.args.log) (sym same) c.requires.below in
     let begins : s.starts (c.args.log * LOG_WORDS + c.args.at) ≡ true = ap (λ (t : State). t.starts (c.args.log * LOG_WORDS + c.args.at)) same ∙ c.requires.begins in
     let known = headers_known s c.self.invariant.notes.law (c.args.log * LOG_WORDS + c.args.at) begins in
-    let read = reads s c.self.invariant.notes.law c.args.log c.args.at below begins c.get.result c.in-Some.head (c.get.ensures.known known) (sym c.read.ensures.exact ∙ c.in-Some.is) in
-    subst (λ (t : State). IsBoundary t c.args.log (c.args.at + size_of c.in-Some.head.len)) same read.next
+    let read = reads s c.self.invariant.notes.law c.args.log c.args.at below begins c.get.result c.known-head.result (c.get.ensures.known known) c.known-head.ensures in
+    subst (λ (t : State). IsBoundary t c.args.log (c.args.at + size_of c.known-head.result.len)) same read.next
 
 pub returns-clause-same : goal.returns-clause-same
 returns-clause-same g c =

@@ -19,14 +19,14 @@ invariant_of-self g c =
     let is_honest = g.D.Device.honest c.self.inside.device in
     let same = ap (λ (b : BookOf g.row.N.Denot g.row.D.Denot). g.N.Near.view b.near) c.self.view_is in
     let word : c.args.found ≡ s.cell c.args.pointer = c.requires.found ∙ ap (λ (x : State). x.cell c.args.pointer) (sym same) in
-    let says : read_of c.args.found ≡ Some (Near c.in-Some-Near.len c.in-Some-Near.ds c.in-Some-Near.place c.in-Some-Near.field-0-3) = sym c.read.ensures.exact ∙ c.in-Some-Near.is ∙ ap (λ v. Some v) c.in-Some-Near.field-0-is in
-    let near : read_of (s.cell c.args.pointer) ≡ Some (Near c.in-Some-Near.len c.in-Some-Near.ds c.in-Some-Near.place c.in-Some-Near.field-0-3) = ap read_of (sym word) ∙ says in
+    let says : read_of c.args.found ≡ Some (Near c.in-Near.len c.in-Near.ds c.in-Near.place c.in-Near.marks) = c.known.ensures ∙ ap (λ v. Some v) c.in-Near.is in
+    let near : read_of (s.cell c.args.pointer) ≡ Some (Near c.in-Near.len c.in-Near.ds c.in-Near.place c.in-Near.marks) = ap read_of (sym word) ∙ says in
     let pointer : c.args.pointer < CELLS * s.mutators = subst (λ (x : State). c.args.pointer < CELLS * x.mutators) (sym same) c.requires.pointer in
     let quiet : IsQuietNear s c.args.pointer = subst (λ (x : State). IsQuietNear x c.args.pointer) (sym same) c.requires.quiet in
     let alive : is_dropped (read_of (s.cell c.args.pointer)) ≡ false = ap (λ w. is_dropped (read_of w)) (sym word) ∙ c.requires.alive in
-    let unwanted = evac_of (read_of c.args.found) false c.in-Some-Near.len c.in-Some-Near.ds c.in-Some-Near.place c.in-Some-Near.field-0-3 says c.requires.unwanted in
+    let unwanted = evac_of (read_of c.args.found) false c.in-Near.len c.in-Near.ds c.in-Near.place c.in-Near.marks says c.requires.unwanted in
     elim c.if-unmark_object.branch [
-      | then-unmark_object w ↦ kept s c.self.inside.ledger held is_honest c.self.invariant c.args.pointer c.in-Some-Near.len c.in-Some-Near.ds c.in-Some-Near.place c.in-Some-Near.field-0-3 pointer near u alive
-          (may_stay s c.args.pointer quiet c.in-Some-Near.len c.in-Some-Near.ds c.in-Some-Near.place c.in-Some-Near.field-0-3 near pointer unwanted) (c.unmark_object.ensures.stayed w.if-unmark_object.true)
+      | then-unmark_object w ↦ kept s c.self.inside.ledger held is_honest c.self.invariant c.args.pointer c.in-Near.len c.in-Near.ds c.in-Near.place c.in-Near.marks pointer near u alive
+          (may_stay s c.args.pointer quiet c.in-Near.len c.in-Near.ds c.in-Near.place c.in-Near.marks near pointer unwanted) (c.unmark_object.ensures.stayed w.if-unmark_object.true)
       | else-unmark_object w ↦ drop_keeps s u c.self.inside.ledger held is_honest c.self.invariant c.args.pointer (c.unmark_object.ensures.dropped w.if-unmark_object.false)
     ]

@@ -29,7 +29,7 @@ loop-i-preserved g c =
       kept = c.get-word.ensures.rest ∙ ap (λ (v : State). record v { word = u.word }) h.kept;
       learned = learned_more s t u c.args.len c.args.place c.loop-i.i at c.get-word.result c.requires.object h.kept h.learned lt here read (omega arith) c.get-word.ensures.known c.get-word.ensures.padding;
       exact = λ still. c.get-word.ensures.set still ∙ h.exact still;
-      bytes = bytes_then s t u c.args.len c.args.place c.loop-i.i at c.get-word.result c.requires.object h.kept h.learned lt here read c.loop-i.bytes c.unpack_word.new.bytes h.bytes c.unpack_word.ensures;
+      bytes = bytes_then s t u c.args.len c.args.place c.loop-i.i at c.get-word.result c.requires.object h.kept h.learned lt here read c.loop-i.row c.unpack_word.new.bytes h.bytes c.unpack_word.ensures;
       long = search rules;
     }
 
@@ -37,5 +37,5 @@ pub returns-clause-bytes : goal.returns-clause-bytes
 returns-clause-bytes g c =
     let h = c.loop-i.invariant in
     let f = data_at (g.N.Near.view c.loop-i.near).word c.args.place in
-    bytes_front f c.loop-i.bytes c.loop-i.i c.args.len (omega (arith, c.loop-i-test.false, c.words_for-i-end.ensures))
+    bytes_front f c.loop-i.row c.loop-i.i c.args.len (omega (arith, c.loop-i-test.false, c.words_for-i-end.ensures))
     (omega (arith, h.long, c.loop-i.auto.i-end, c.words_for-i-end.ensures, c.requires.object.most)) h.bytes

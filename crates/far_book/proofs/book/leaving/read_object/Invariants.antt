@@ -1,5 +1,4 @@
 use Rattle.std.proofs.Common.{◌≡◌, ◌*◌, length, take}
-use Rattle.far_word.specs.declared.sizes.TheConstants.{LONGEST}
 use Rattle.far_word.specs.Bytes.{bytes_of}
 use Rattle.far_core.specs.events.Copies.{data_at}
 use Rattle.far_book.specs.book.Evicting.{Learns}
@@ -10,6 +9,6 @@ invariant-loop-i g l = record {
   kept : g.N.Near.view l.near ≡ record (g.N.Near.view l.fn.near) { word = (g.N.Near.view l.near).word };
   learned : Learns (g.N.Near.view l.fn.near) (g.N.Near.view l.near).word l.fn.place l.i;
   exact : g.N.Near.still → g.N.Near.view l.near ≡ g.N.Near.view l.fn.near;
-  bytes : take (8 * l.i) l.bytes ≡ bytes_of (data_at (g.N.Near.view l.near).word l.fn.place) (8 * l.i);
-  long : length l.bytes ≡ LONGEST;
+  bytes : take (8 * l.i) l.row ≡ bytes_of (data_at (g.N.Near.view l.near).word l.fn.place) (8 * l.i);
+  long : length l.row ≡ length l.fn.row;
 }

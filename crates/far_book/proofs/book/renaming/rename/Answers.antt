@@ -1,20 +1,28 @@
-use Rattle.std.proofs.Common.{◌∙◌, ap, arith}
-use Rattle.far_core.specs.state.State.{State, put}
-use Rattle.far_book.proofs.Finding.{finds_more, some_found}
-use Rattle.far_book.proofs.region.Calls.{put_put, count_more}
 use Rattle.far_book.proofs.book.renaming.rename.Goals as goal
+use Rattle.std.proofs.Common.{arith, subst}
+use Rattle.far_book.specs.Finds.{Finds}
+use Rattle.far_book.proofs.region.Renamings.{done_after, kept_after, may_after, may_now, renamed_now}
 
-pub loop-preserved : goal.loop-preserved
-loop-preserved g c =
-    let h = c.loop.invariant in
+pub name-requires-clause-legal : goal.name-requires-clause-legal
+name-requires-clause-legal g c = may_now (g.N.Near.view c.args.near.now) c.args.pointer c.args.found c.args.new c.requires.found (omega arith) c.requires.alive c.requires.may
+
+pub rename_marked-requires-clause-may : goal.rename_marked-requires-clause-may
+rename_marked-requires-clause-may g c =
     let s = g.N.Near.view c.args.near.now in
-    record {
-      fits = c.is_dropped.ensures.fits;
-      found = finds_more (s.cell c.args.pointer) c.loop.word c.in-Err.other h.found c.in-Err.ensures.found;
-      kept = c.in-Err.ensures.kept ∙ ap (λ (u : State). record u { cell = put u.cell c.args.pointer c.in-Err.other }) h.kept
-          ∙ (λ i. record s { cell = put_put s.cell c.args.pointer c.loop.word c.in-Err.other i });
-      readable = some_found c.loop.word c.in-Err.other c.in-Err.ensures.found h.readable;
-      alive = cc;
-      same = λ still. absurd (c.in-Err.ensures.won still);
-      tries = omega (arith, h.tries, count_more c.loop.word c.in-Err.other h.fits c.is_dropped.ensures.fits h.readable c.in-Err.ensures.found c.in-Err.ensures.other);
-    }
+    may_after s (g.N.Near.view c.name.new.self) c.args.pointer c.in-Err.other c.in-Err.ensures.kept (subst (λ v. Finds v c.in-Err.other) c.requires.found c.in-Err.ensures.found) c.args.new c.requires.may
+
+pub returns-in-Ok-clause-done : goal.returns-in-Ok-clause-done
+returns-in-Ok-clause-done g c =
+    renamed_now (g.N.Near.view c.args.near.now) c.args.pointer c.args.found c.args.new c.requires.found (g.N.Near.view c.name.new.self) c.requires.alive c.in-Ok.ensures.done c.in-Ok.ensures.forgot
+
+pub returns-else-is_dropped-clause-done : goal.returns-else-is_dropped-clause-done
+returns-else-is_dropped-clause-done g c =
+    let s = g.N.Near.view c.args.near.now in
+    done_after s (g.N.Near.view c.name.new.self) c.args.pointer c.in-Err.other c.in-Err.ensures.kept (subst (λ v. Finds v c.in-Err.other) c.requires.found c.in-Err.ensures.found)
+    c.rename_marked.result c.args.new (g.N.Near.view c.rename_marked.new.near) c.rename_marked.ensures.done
+
+pub returns-else-is_dropped-clause-kept : goal.returns-else-is_dropped-clause-kept
+returns-else-is_dropped-clause-kept g c =
+    let s = g.N.Near.view c.args.near.now in
+    kept_after s (g.N.Near.view c.name.new.self) c.args.pointer c.in-Err.other c.in-Err.ensures.kept (subst (λ v. Finds v c.in-Err.other) c.requires.found c.in-Err.ensures.found)
+    c.rename_marked.result (g.N.Near.view c.rename_marked.new.near) c.rename_marked.ensures.kept

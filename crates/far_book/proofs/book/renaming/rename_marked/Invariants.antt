@@ -4,7 +4,7 @@ use Rattle.far_core.specs.events.Naming.{is_dropped}
 use Rattle.far_book.specs.Finds.{Finds}
 use Rattle.far_book.specs.book.Renaming.{seen}
 use Rattle.far_book.proofs.region.Calls.{count}
-use Rattle.far_book.proofs.book.renaming.rename.Given as goal
+use Rattle.far_book.proofs.book.renaming.rename_marked.Given as goal
 
 abbrev pub invariant-loop : goal.invariant-loop
 invariant-loop g l = record {

@@ -1,0 +1,20 @@
+use Rattle.std.proofs.Common.{◌∙◌, ap, arith}
+use Rattle.far_core.specs.state.State.{State, put}
+use Rattle.far_book.proofs.Finding.{finds_more, some_found}
+use Rattle.far_book.proofs.region.Calls.{put_put, count_more}
+use Rattle.far_book.proofs.book.renaming.rename_marked.Goals as goal
+
+pub loop-preserved : goal.loop-preserved
+loop-preserved g c =
+    let h = c.loop.invariant in
+    let s = g.N.Near.view c.args.near.now in
+    record {
+      fits = c.is_dropped.ensures.fits;
+      found = finds_more (s.cell c.args.pointer) c.loop.word c.in-Err.other h.found c.in-Err.ensures.found;
+      kept = c.in-Err.ensures.kept ∙ ap (λ (u : State). record u { cell = put u.cell c.args.pointer c.in-Err.other }) h.kept
+          ∙ (λ i. record s { cell = put_put s.cell c.args.pointer c.loop.word c.in-Err.other i });
+      readable = some_found c.loop.word c.in-Err.other c.in-Err.ensures.found h.readable;
+      alive = cc;
+      same = λ still. absurd (c.in-Err.ensures.won still);
+      tries = omega (arith, h.tries, count_more c.loop.word c.in-Err.other h.fits c.is_dropped.ensures.fits h.readable c.in-Err.ensures.found c.in-Err.ensures.other);
+    }
