@@ -60,11 +60,11 @@ fn rename_marked<N: Near>(near: &mut N, pointer: u16, found: u64, new: u64) -> R
     for _ in 0..4u8 {
         match near.name(pointer, word, new) {
             Ok(()) => return Ok(()),
-            Err(other) => {
-                if is_dropped(other) {
-                    return Err(other);
+            Err(more) => {
+                if is_dropped(more) {
+                    return Err(more);
                 }
-                word = other;
+                word = more;
             }
         }
     }

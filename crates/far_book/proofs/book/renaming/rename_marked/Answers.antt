@@ -10,11 +10,11 @@ loop-preserved g c =
     let s = g.N.Near.view c.args.near.now in
     record {
       fits = c.is_dropped.ensures.fits;
-      found = finds_more (s.cell c.args.pointer) c.loop.word c.in-Err.other h.found c.in-Err.ensures.found;
-      kept = c.in-Err.ensures.kept ∙ ap (λ (u : State). record u { cell = put u.cell c.args.pointer c.in-Err.other }) h.kept
-          ∙ (λ i. record s { cell = put_put s.cell c.args.pointer c.loop.word c.in-Err.other i });
-      readable = some_found c.loop.word c.in-Err.other c.in-Err.ensures.found h.readable;
+      found = finds_more (s.cell c.args.pointer) c.loop.word c.in-Err.more h.found c.in-Err.ensures.found;
+      kept = c.in-Err.ensures.kept ∙ ap (λ (u : State). record u { cell = put u.cell c.args.pointer c.in-Err.more }) h.kept
+          ∙ (λ i. record s { cell = put_put s.cell c.args.pointer c.loop.word c.in-Err.more i });
+      readable = some_found c.loop.word c.in-Err.more c.in-Err.ensures.found h.readable;
       alive = cc;
       same = λ still. absurd (c.in-Err.ensures.won still);
-      tries = omega (arith, h.tries, count_more c.loop.word c.in-Err.other h.fits c.is_dropped.ensures.fits h.readable c.in-Err.ensures.found c.in-Err.ensures.other);
+      tries = omega (arith, h.tries, count_more c.loop.word c.in-Err.more h.fits c.is_dropped.ensures.fits h.readable c.in-Err.ensures.found c.in-Err.ensures.other);
     }
