@@ -311,14 +311,12 @@ fn is_near(cell: u64) -> bool
     matches!(PtrWord::known(cell), PtrWord::Near { .. })
 }
 
-/// The pointer that a header names; 0 where the word is none.
+/// The pointer that a header names.
 fn pointer_in(word: u64) -> u16
+    requires { IsSome (head_of word) }
     ensures { result ≡ pointer_in (head_of word) }
 {
-    match HeadWord::read(word) {
-        Some(header) => header.pointer,
-        None => 0,
-    }
+    HeadWord::known(word).pointer
 }
 
 /// Whether a cell names a place.
