@@ -49,5 +49,6 @@ pub mod Unmarking
 pub mod Unviewed
 pub mod Waits
 pub mod Walking
+pub mod WalkingOn
 pub mod Walks
 pub mod worked

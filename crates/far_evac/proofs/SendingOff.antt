@@ -79,7 +79,7 @@ module _ (s : State) (p : ℕ) (q : IsQuietNear s p) (law : Law (own_part s)) (e
 
   -- ---- a word that was found in its cell
   module _ (w : ℕ) (finds : Finds (s.cell p) w) where
-    found : IsNearTo (read_of w) q.len q.ds q.place q.marks.evac
+    pub found : IsNearTo (read_of w) q.len q.ds q.place q.marks.evac
     found = near_found (s.cell p) w finds q.len q.ds q.place q.marks q.near
 
     alive_before : found.marks.dropped ≡ false → q.marks.dropped ≡ false
@@ -283,7 +283,7 @@ module _ (s : State) (p : ℕ) (q : IsQuietNear s p) (law : Law (own_part s)) (e
   abbrev f : IsNearTo (read_of w) q.len q.ds q.place q.marks.evac
   f = found s p q law evac w finds
 
-  sealed_kept : (way : Way) → way_of s (read_of w) ≡ way → KeepsSealed s (core_by s p way)
+  pub sealed_kept : (way : Way) → way_of s (read_of w) ≡ way → KeepsSealed s (core_by s p way)
   sealed_kept Drops e = (sealed_logs_kept s p 0 0 law).ends
   sealed_kept (Moves place) e =
       let why = moves_when f.marks.dropped f.marks.hot (room s (size_of q.len) false) place (sym (ap (way_of s) f.near) ∙ e) in
