@@ -6,7 +6,7 @@ use Rattle.far_word.specs.declared.refused.Refused.{Refused as Refusal}
 use Rattle.far_word.specs.declared.refused.Refused.TheVariants.{Memory, Phase as WrongPhase, EpochsSpent}
 use Rattle.far_word.specs.declared.sizes.TheConstants.{MOST_LOGS}
 use Rattle.far_log.specs.declared.row.LogRow.{LogRow}
-use Rattle.far_policy.specs.Choice.{IsBadChoice, IsChoice}
+use Rattle.far_policy.specs.Choice.{IsChoice}
 use Rattle.far_policy.specs.LeastLive.{TakesLeast, least_live}
 use Rattle.far_policy.specs.Logs.{AreRows, is_among, logs_of}
 use Rattle.far_policy.specs.Scripted.{FollowsScript, scripted}
@@ -25,9 +25,9 @@ use Rattle.far_evac.specs.Moment.{Moment}
 use Rattle.far_evac.specs.MomentLaw.{MomentLaw, is_idle}
 use Rattle.far_evac.specs.Refusals.{unselectable}
 use Rattle.far_evac.specs.Turns.{IsRound}
-use Rattle.far_text.specs.Command.{Choice, By, Script, LeastLive, Policy, Evacuator, Round, Select}
+use Rattle.far_text.specs.Command.{Choice, By, Script, LeastLive, Policy, Evacuator, Select}
 use Rattle.far_replay.specs.Reply.{Ended}
-use Rattle.far_replay.specs.Rounds.{after_round, choice_causes, chosen_by, given_by, logs_given, round_told, rows_in, step_effect, step_reply}
+use Rattle.far_replay.specs.Rounds.{after_round, choice_causes, chosen_by, given_by, logs_given, round_told, rows_in}
 use Rattle.far_replay.specs.Turn.{first_cause, refusal}
 
 abbrev Same : Result (List ℕ) Refusal → Result (List ℕ) Refusal → Type 0

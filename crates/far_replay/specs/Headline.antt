@@ -53,20 +53,6 @@ LogStays s t = (p : ℕ) (place : Place) → s.held p ≡ Some place → t.kind 
 abbrev pub StayThrough : State → List Event → Type 0
 StayThrough s events = (es mid rest : List Event) → es ++ mid ++ rest ≡ events → LogStays (after_events s es) (after_events s (es ++ mid))
 
--- through a command, which events carry out: those that are told of it, or, of a step of the evacuator, some of the book's own
-pub record StaysThrough (now : Moment) (c : Command) (after : Moment) : Type 0 where
-  pub events : List Event
-  pub told : IsTold c → events ≡ events_for now c
-  pub of_book : ¬ IsTold c → All IsOfBook events
-  pub ends : after.core ≡ after_events now.core events
-  pub stay : StayThrough now.core events
-
--- through each command of a list; and in the last moment no view rests in a free log
-abbrev pub LogsStay : Moment → List Command → List Moment → Type 0
-LogsStay now [] moments = LogStays now.core now.core
-LogsStay now (c ∷ cs) [] = ⊥
-LogsStay now (c ∷ cs) (after ∷ moments) = StaysThrough now c after × LogsStay after cs moments
-
 -- the object that a command reads, writes or views, if there is one, may be dereferenced at once
 abbrev pub IsAtHandFor : Moment → Command → Type 0
 IsAtHandFor now (Mutator m (Write p from bytes)) = now.core.cell p ≢ 0 → AtHand now.core p
@@ -75,8 +61,8 @@ IsAtHandFor now (Mutator m (View p)) = now.core.cell p ≢ 0 → AtHand now.core
 IsAtHandFor now (Mutator m (Try p)) = now.core.cell p ≢ 0 → AtHand now.core p
 IsAtHandFor now c = Unit {0}
 
--- events lead from a moment to the next: each is legal, none is refused, and each keeps the law and agreement. A mutator's are told one by one; where its command's object is at
--- hand a pin gives a view, and a naming wins. A step of the evacuator makes none of an owner
+-- events lead from a moment to the next: each is legal, none is refused, each keeps the law and agreement, and through them the logs in which views rest stay. A mutator's are told
+-- one by one; where its command's object is at hand a pin gives a view, and a naming wins. A step of the evacuator makes none of an owner
 pub record Reaches (now : Moment) (c : Command) (after : Moment) : Type 0 where
   pub events : List Event
   pub told : IsTold c → events ≡ events_for now c
@@ -85,6 +71,13 @@ pub record Reaches (now : Moment) (c : Command) (after : Moment) : Type 0 where
   pub pass : AllPass now.core events
   pub succeed : AllSucceed now.core events
   pub come : IsTold c → IsAtHandFor now c → AllComeToPass now.core events
+  pub stay : StayThrough now.core events
+
+-- through each command of a list, by one row of events; and in the last moment no view rests in a free log
+abbrev pub LogsStay : Moment → List Command → List Moment → Type 0
+LogsStay now [] moments = LogStays now.core now.core
+LogsStay now (c ∷ cs) [] = ⊥
+LogsStay now (c ∷ cs) (after ∷ moments) = Reaches now c after × LogsStay after cs moments
 
 -- what is true of each moment of an output: the law of its core and that of its round hold, and each pointer that is named is used by its owner
 pub record Lawful (now : Moment) : Type 0 where

@@ -11,7 +11,8 @@ pub fn outputs_are_sound()
 {}
 
 /// Each text has an output, and one alone. Its commands that write, write bytes. Among lines that say commands, a
-/// mutator's are those that have its number after the name, but for `log`, after which a log's number stands.
+/// mutator's are those that have its number after the name, but for `log`, after which a log's number stands, and for `mark` and
+/// `evacuate`, after which a number of objects stands.
 pub fn texts_are_answered()
     ensures answered { EachTextIsAnswered }
     ensures once { OneOutput }
@@ -67,8 +68,8 @@ pub fn mutators_are_alone()
 /// A new object in range is made where a pointer is free and there is room, else it is refused, 3 before 2, and so only
 /// where there is none; its pointer is the lowest of its mutator's that is free; it has its owner, its data structure and
 /// zeros, in the log that `room` says; all other objects stay. It takes its span of that log. A dereference takes one where
-/// its object is far, or has EVAC, in the log that `room` says, and is refused 2 only where there is none. No other command
-/// takes any.
+/// its object is far, or has EVAC, in the log that `room` says, and is refused 2 only where there is none. Of other commands
+/// `evacuate` and `round` alone take some, or give logs back.
 pub fn new_is_made()
     ensures answer { NewIsMade }
     ensures none { NoneIsLeft }
@@ -82,8 +83,7 @@ pub fn writes_change_their_range()
     ensures { WritesChangeTheirRange }
 {}
 
-/// Replies that their lines tell in full (numbers of 64 bits, bytes; not 17 and 18, whose words aren't printed yet) are
-/// equal where they are printed alike.
+/// Replies that their lines tell in full (numbers of 64 bits, bytes) are equal where they are printed alike.
 pub fn lines_tell_replies()
     ensures { PrintedAlike }
 {}
