@@ -104,7 +104,7 @@ once_append : (xs ys : List ℕ) → Once xs → Once ys → AllByRecursion (λ 
 once_append [] ys f g h = g
 once_append (x ∷ xs) ys f g h = (all_append (λ q. q ≢ x) xs ys f.0 h.0, once_append xs ys f.1 g h.1)
 
-once_filter : (f : ℕ → Bool) (xs : List ℕ) → Once xs → Once (filter f xs)
+pub once_filter : (f : ℕ → Bool) (xs : List ℕ) → Once xs → Once (filter f xs)
 once_filter f [] h = tt
 once_filter f (x ∷ xs) h = cond_both (f x) (x ∷ filter f xs) (filter f xs) Once (λ _. (all_filter (λ q. q ≢ x) f xs h.0, once_filter f xs h.1)) (λ _. once_filter f xs h.1)
 

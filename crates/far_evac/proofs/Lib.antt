@@ -4,6 +4,7 @@ pub mod Bounds
 pub mod Censuses
 pub mod Changing
 pub mod Chosen
+pub mod Counted
 pub mod Dealt
 pub mod Evacuations
 pub mod Failures

@@ -1,6 +1,6 @@
 -- What the definitions of a round come to, in other words.
-use Rattle.std.specs.Prelude.{◌≡◌, ℕ, ◌+◌, ◌*◌, ◌<◌, ◌≤◌, ◌↔◌, true, false, Some, List, ◌∷◌, length, take, drop, Contains, ◌≢◌, ◌^◌, Option, option_map, IsSome, zero, suc, None}
-use Rattle.std.specs.List.{AllByRecursion}
+use Rattle.std.specs.Prelude.{◌≡◌, ℕ, ◌+◌, ◌*◌, ◌<◌, ◌≤◌, ◌↔◌, true, false, Some, eqb, List, [], ◌∷◌, length, take, drop, Contains, ◌≢◌, ◌^◌, Option, option_map, IsSome, zero, suc, None}
+use Rattle.std.specs.List.{AllByRecursion, IsDistinct}
 use Rattle.far_word.specs.declared.sizes.TheConstants.{CELLS}
 use Rattle.far_word.specs.declared.pointer.Place.{Place}
 use Rattle.far_word.specs.declared.pointer.PtrWord.{PtrWord}
@@ -22,8 +22,8 @@ use Rattle.far_evac.specs.declared.phase.Phase.TheVariants.{Waiting}
 use Rattle.far_evac.specs.AnyHand.{Polls, RunsRound, WalksTo, Walks}
 use Rattle.far_evac.specs.Choosing.{after_aborting, after_selecting}
 use Rattle.far_evac.specs.Dealings.{DealsWith, GivesBack, says}
-use Rattle.far_evac.specs.Live.{live_among}
-use Rattle.far_evac.specs.Marking.{after_marking, leaves_some, newly_marked}
+use Rattle.far_evac.specs.Live.{is_empty, lacking, live_among}
+use Rattle.far_evac.specs.Marking.{after_marking, leaves_some, newly_marked, waiting_for}
 use Rattle.far_evac.specs.Moment.{Moment, Tally, objects_in, plus}
 use Rattle.far_evac.specs.MomentLaw.{MomentLaw, has_risen}
 use Rattle.far_evac.specs.Ready.{Ready}
@@ -110,6 +110,23 @@ pub record IsMarked (m t : Moment) (n : ℕ) : Type 0 where
 
 abbrev pub MarkingIsRight : Type 0
 MarkingIsRight = (m : Moment) (n : ℕ) → ((p : ℕ) → m.core.cell p < 2 ^ 64) → IsMarked m (after_marking m n) n
+
+-- the objects that are counted are live ones that lacked EVAC, each once, and n at most; those that lack it then are the others, in their order. While the
+-- answer names no epoch there were n, one lacks it still, and nothing but cells has changed. Else none lacks it; the epoch that is named is the next one,
+-- the round waits in it with the logs held, and nobody was seen clear yet
+pub record IsCounted (m t : Moment) (n : ℕ) : Type 0 where
+  pub bare : AllByRecursion (λ p. has_evac (says m p) ≡ false) (newly_marked m n)
+  pub live : AllByRecursion (λ p. Contains (live_among m.core m.held) p) (newly_marked m n)
+  pub once : IsDistinct eqb (newly_marked m n)
+  pub most : length (newly_marked m n) ≤ n
+  pub left : lacking t.core t.held ≡ drop (length (newly_marked m n)) (lacking m.core m.held)
+  pub goes_on : waiting_for m n ≡ None → (length (newly_marked m n) ≡ n) × (is_empty (lacking t.core t.held) ≡ false) × (t ≡ record m { core = record m.core { cell = t.core.cell } })
+  pub waits : (epoch : ℕ) → waiting_for m n ≡ Some epoch → (epoch ≡ m.core.epoch + 1) × (lacking t.core t.held ≡ [])
+      × (t ≡ record m { core = record m.core { cell = t.core.cell; epoch = epoch; round = among m.held; round_epoch = epoch; clear = λ _. false }; phase = Waiting })
+
+-- where each log is held once
+abbrev pub MarkingIsCounted : Type 0
+MarkingIsCounted = (m : Moment) (n : ℕ) → ((p : ℕ) → m.core.cell p < 2 ^ 64) → IsDistinct eqb m.held → IsCounted m (after_marking m n) n
 
 -- no live object of the logs that were held has EVAC; in no cell anything else has changed, and in the cells of others nothing
 pub record IsGivenUp (m t : Moment) : Type 0 where
