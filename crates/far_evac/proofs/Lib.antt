@@ -51,4 +51,5 @@ pub mod Waits
 pub mod Walking
 pub mod WalkingOn
 pub mod Walks
+pub mod Ways
 pub mod worked

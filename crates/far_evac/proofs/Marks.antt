@@ -1,24 +1,24 @@
 -- What marking and giving up make of cells: EVAC is set or taken, and nothing else changes.
-use Rattle.std.proofs.Common.{◌≡◌, ◌≢◌, ℕ, zero, suc, ◌^◌, ◌<◌, ◌≤◌, Bool, true, false, cond, not, Some, List, [], ◌∷◌, length, take, filter, bit_or, arith, ap, sym, refl, ◌∙◌, subst}
+use Rattle.std.proofs.Common.{◌≡◌, ◌≢◌, ℕ, zero, suc, ◌^◌, ◌<◌, ◌≤◌, Bool, true, false, cond, not, Option, Some, None, List, [], ◌∷◌, length, take, filter, bit_or, arith, ap, sym, refl, ◌∙◌, subst}
 use Rattle.std.specs.Prelude.{fold}
 use Rattle.std.specs.List.{AllByRecursion}
-use Rattle.std.proofs.lemmas.Bool.{cond_both}
+use Rattle.std.proofs.lemmas.Bool.{cond_both, false≢true}
 use Rattle.std.proofs.lemmas.Bool.Decides.{nat_tests}
 use Rattle.std.proofs.lemmas.List.{take_all}
 use Rattle.far_word.specs.declared.mark.Mark.TheVariants.{Evac}
 use Rattle.far_word.specs.declared.mark.Marks.{Marks}
 use Rattle.far_word.specs.declared.pointer.Place.{Place}
 use Rattle.far_word.specs.declared.pointer.PtrWord.{PtrWord}
-use Rattle.far_word.specs.declared.pointer.PtrWord.TheVariants.{Near}
+use Rattle.far_word.specs.declared.pointer.PtrWord.TheVariants.{Free, Near, Far}
 use Rattle.far_word.specs.Mark.{marks_with, position}
 use Rattle.far_word.specs.Pointer.{read_of, without_evac}
 use Rattle.far_word.proofs.PointerLaws.{IsPtr-without_evac, read_says, with_mark_fits, with_mark_read, without_evac_read, without_evac_word, word_fits}
-use Rattle.far_core.specs.events.Clear.{evac_cleared}
+use Rattle.far_core.specs.events.Clear.{evac_cleared, round_left}
 use Rattle.far_core.specs.state.State.{State, put}
 use Rattle.far_core.proofs.Put.{put_both, put_other, put_same}
 use Rattle.far_book.specs.book.Dealing.{has_evac}
 use Rattle.far_book.specs.book.Effects.{marked}
-use Rattle.far_evac.specs.declared.phase.Phase.TheVariants.{Waiting}
+use Rattle.far_evac.specs.declared.phase.Phase.TheVariants.{Idle, Waiting}
 use Rattle.far_evac.specs.Laws.{IsGivenUp, IsMarked, but_evac}
 use Rattle.far_evac.specs.Live.{lacking, live_in, live_among}
 use Rattle.far_evac.specs.Marking.{after_marking, leaves_some, marked_core, newly_marked}
@@ -174,6 +174,20 @@ module _ (m : Moment) (n : ℕ) (fits : (p : ℕ) → m.core.cell p < 2 ^ 64) wh
   }
 
 -- ---- giving up
+clears_leave : (s : State) (ps : List ℕ) → fold unmarked s ps ≡ record s { cell = (fold unmarked s ps).cell; round = (fold unmarked s ps).round }
+clears_leave s [] = refl
+clears_leave s (p ∷ ps) = clears_leave (unmarked s p) ps
+
+round_out : (round : ℕ → Bool) (o : Option PtrWord) (l : ℕ) → round_left round o l ≡ true → round l ≡ true
+round_out round None l h = h
+round_out round (Some Free) l h = h
+round_out round (Some (Near len ds place marks)) l h = put_both (λ b. b ≡ true → round l ≡ true) round place.log false l (λ _ odd. absurd (false≢true odd)) (λ _ same. same) h
+round_out round (Some (Far len ds marks)) l h = h
+
+none_comes : (ps : List ℕ) (s : State) (l : ℕ) → (fold unmarked s ps).round l ≡ true → s.round l ≡ true
+none_comes [] s l h = h
+none_comes (p ∷ ps) s l h = round_out s.round (read_of (s.cell p)) l (none_comes ps (unmarked s p) l h)
+
 pub is_given_up : (m : Moment) → ((p : ℕ) → m.core.cell p < 2 ^ 64) → IsGivenUp m (after_aborting m)
 is_given_up m fits =
     let ps = live_among m.core m.held in
@@ -182,4 +196,6 @@ is_given_up m fits =
       bare = all_set false unmarked evac_cleared (λ s p. refl) clear_sets ps m.core near;
       same = λ p. (all_like false unmarked evac_cleared (λ s q. refl) clear_sets ps m.core near p).same;
       others = λ p apart. others_stay false unmarked evac_cleared (λ s q. refl) clear_sets ps m.core p apart;
+      round = λ l. none_comes ps m.core l;
+      rest = λ i. record { core = (clears_leave m.core ps) i; order = m.order; phase = Idle; held = [] };
     }

@@ -3,7 +3,7 @@
 ghost use Rattle.far_evac.specs.Callers.{CoresJoin, FetchingOrder, FetchingStepsAside, MovingOrder, MovingStepsAside, OwnersStepAside, PlacingOrder, PlacingStepsAside, RetiringOrder, RetiringStepsAside, StepsJoin, StepsKeep, StillOrder, StillStepsAside};
 ghost use Rattle.far_evac.specs.Leading.{AbortingLeads, ChoiceIsOfSealed, MarkingLeads, PollingLeads, RoundLeads, SelectingLeads, TurnsLead, WalkingLeads};
 ghost use Rattle.far_evac.specs.Owned.{AbortingKeepsObjects, MarkingKeepsObjects, PollingKeepsObjects, RoundKeepsObjects, SelectingKeepsObjects, TurnsKeepObjects, TurnsRetireNone, WalkRetiresNone, WalkingKeepsObjects};
-ghost use Rattle.far_evac.specs.Laws.{CensusIsExact, ClearIsShown, ClearMeansUnviewed, DealingIsInOrder, ExactIsAllowed, GivingUpIsRight, LooksSeeClear, MarkingIsRight, PollIsAllowed, PollIsOnce, RisenIsReady, RoundIsAllowed, RoundIsEvent, WaitingStays, WalkIsTour, WalksJoin};
+ghost use Rattle.far_evac.specs.Laws.{CensusIsExact, ClearIsShown, ClearMeansUnviewed, DealingIsInOrder, ExactIsAllowed, GivingUpIsRight, LiveRise, LooksSeeClear, MarkingIsRight, PollIsAllowed, PollIsOnce, RisenIsReady, RoundIsAllowed, RoundIsEvent, WaitingStays, WalkIsTour, WalksJoin, WaysAreSo};
 
 /// The exact walk, over words that nobody else changes, is one of those that are allowed over any hand.
 pub fn exact_is_allowed()
@@ -39,13 +39,25 @@ pub fn dealing_is_in_order()
     ensures { DealingIsInOrder }
 {}
 
+/// A live object is dealt with as the word says that was found in its cell: a hot one goes far only where no room is for it, and another exactly
+/// where it wasn't dropped.
+pub fn ways_are_so()
+    ensures { WaysAreSo }
+{}
+
+/// The live objects of a log, in the order in which a round marks them and deals with them, lie one behind the other.
+pub fn live_objects_rise()
+    ensures { LiveRise }
+{}
+
 /// Marking sets EVAC in the first n live objects that lack it, or in all, and changes nothing else in any cell; where none is left, each
 /// live object of the chosen logs has it.
 pub fn marking_is_right()
     ensures { MarkingIsRight }
 {}
 
-/// After a round is given up no live object of the logs that were held has EVAC, and nothing else in any cell has changed.
+/// After a round is given up no live object of the logs that were held has EVAC, and nothing else in any cell has changed. No log comes into the round, and all
+/// else is as it was.
 pub fn giving_up_is_right()
     ensures { GivingUpIsRight }
 {}
