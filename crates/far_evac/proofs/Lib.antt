@@ -18,6 +18,7 @@ pub mod Joined
 pub mod Keeping
 pub mod KeptObjects
 pub mod KeptTurns
+pub mod Named
 pub mod OfOneKind
 pub mod Lacking
 pub mod Leading
@@ -26,6 +27,7 @@ pub mod LeadingTurns
 pub mod LeadingWalks
 pub mod LiveLists
 pub mod LiveOnce
+pub mod LiveOrder
 pub mod LogBits
 pub mod Looks
 pub mod MarkRuns

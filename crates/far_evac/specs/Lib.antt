@@ -10,6 +10,7 @@ pub mod Laws
 pub mod Leading
 pub mod Leaving
 pub mod Live
+pub mod LiveLaws
 pub mod Marking
 pub mod Moment
 pub mod MomentLaw

@@ -3,7 +3,8 @@
 ghost use Rattle.far_evac.specs.Callers.{CoresJoin, FetchingOrder, FetchingStepsAside, MovingOrder, MovingStepsAside, OwnersStepAside, PlacingOrder, PlacingStepsAside, RetiringOrder, RetiringStepsAside, StepsJoin, StepsKeep, StillOrder, StillStepsAside};
 ghost use Rattle.far_evac.specs.Leading.{AbortingLeads, ChoiceIsOfSealed, MarkingLeads, PollingLeads, RoundLeads, SelectingLeads, TurnsLead, WalkingLeads};
 ghost use Rattle.far_evac.specs.Owned.{AbortingKeepsObjects, MarkingKeepsObjects, PollingKeepsObjects, RoundKeepsObjects, SelectingKeepsObjects, TurnsKeepObjects, TurnsRetireNone, WalkRetiresNone, WalkingKeepsObjects};
-ghost use Rattle.far_evac.specs.Laws.{CensusIsExact, ClearIsShown, ClearMeansUnviewed, DealingIsInOrder, ExactIsAllowed, GivingUpIsRight, LooksSeeClear, MarkingIsCounted, MarkingIsRight, PollIsAllowed, PollIsOnce, RisenIsReady, RoundIsAllowed, RoundIsEvent, WaitingStays, WalkIsTour, WalksJoin};
+ghost use Rattle.far_evac.specs.LiveLaws.{LiveIsInOrder};
+ghost use Rattle.far_evac.specs.Laws.{CensusIsExact, ClearIsShown, ClearMeansUnviewed, ClearViewsNothing, DealingIsInOrder, ExactIsAllowed, GivingUpIsRight, LooksSeeClear, MarkingIsCounted, MarkingIsRight, PollIsAllowed, PollIsOnce, RisenIsReady, RoundIsAllowed, RoundIsEvent, WaitIsNamed, WaitingStays, WalkIsTour, WalksJoin};
 
 /// The exact walk, over words that nobody else changes, is one of those that are allowed over any hand.
 pub fn exact_is_allowed()
@@ -47,9 +48,15 @@ pub fn marking_is_right()
     ensures counted { MarkingIsCounted }
 {}
 
-/// After a round is given up no live object of the logs that were held has EVAC, and nothing else in any cell has changed.
+/// After a round is given up no live object of the logs that were held has EVAC, and these logs are out of the core's round, but for those without
+/// a live object. Nothing else has changed.
 pub fn giving_up_is_right()
     ensures { GivingUpIsRight }
+{}
+
+/// The live objects of some logs are those that lie near there, dropped or not, each once: log after log, and within a log by rising words.
+pub fn live_objects_are_in_order()
+    ensures { LiveIsInOrder }
 {}
 
 /// Once the epoch has risen for a round, the law of the book's part of the core and that of the moment make the walk ready.
@@ -72,9 +79,11 @@ pub fn looks_see_clear()
     ensures { LooksSeeClear }
 {}
 
-/// Where a poll answers that all owners are clear, none of them views anything in the chosen logs.
+/// Where a poll answers that all owners are clear, none of them views anything in the chosen logs. Nor does any later in the round, in the heap as it
+/// is, whatever a hand knows of it; nor one who was seen clear while others are waited for.
 pub fn clear_means_unviewed()
-    ensures { ClearMeansUnviewed }
+    ensures polled { ClearMeansUnviewed }
+    ensures later { ClearViewsNothing }
 {}
 
 /// A census lists each pointer whose cell is used and not dropped, with its home, and no other.
@@ -82,9 +91,11 @@ pub fn census_is_exact()
     ensures { CensusIsExact }
 {}
 
-/// As long as nobody closes or opens a scope, a second poll finds the same owner open, and changes nothing.
+/// A poll names the first owner who holds the round up, and the epoch at which its scope is open. As long as nobody closes or opens a scope, a second
+/// poll finds the same owner open, and changes nothing.
 pub fn poll_is_once()
-    ensures { PollIsOnce }
+    ensures once { PollIsOnce }
+    ensures named { WaitIsNamed }
 {}
 
 /// Where a turn found a round waiting, and left it so, no turn after it changes anything, as long as nobody closes or opens a scope.
