@@ -1,3 +1,4 @@
+pub mod Ageing
 pub mod Auditing
 pub mod Bools
 pub mod Bounds
@@ -11,6 +12,7 @@ pub mod Failures
 pub mod Fronts
 pub mod Given
 pub mod GivingBack
+pub mod Going
 pub mod Handing
 pub mod Hands
 pub mod InOrder

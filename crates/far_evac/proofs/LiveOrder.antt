@@ -26,7 +26,7 @@ use Rattle.far_evac.proofs.Lacking.{all_at, in_among, in_live, once_among}
 use Rattle.far_evac.proofs.LiveOnce.{LivesIn, all_append, behind, each_map, live_named, near_at}
 
 -- what a cell says that names a place
-place_named : (o : Option PtrWord) (l at len ds : ℕ) (place : Place) (marks : Marks) → names_place o l at ≡ true → o ≡ Some (Near len ds place marks) → (place.log ≡ l) × (place.at ≡ at)
+pub place_named : (o : Option PtrWord) (l at len ds : ℕ) (place : Place) (marks : Marks) → names_place o l at ≡ true → o ≡ Some (Near len ds place marks) → (place.log ≡ l) × (place.at ≡ at)
 place_named o l at len ds place marks h e =
     let x = near_at o l at h in
     let same : Some (Near len ds place marks) ≡ Some (Near x.len x.ds x.place x.marks) = sym e ∙ x.near in

@@ -24,3 +24,4 @@ pub mod Turning
 pub mod Turns
 pub mod Waiting
 pub mod Walk
+pub mod WayLaws

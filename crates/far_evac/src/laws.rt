@@ -1,9 +1,10 @@
 //! What the definitions of a round come to, as contracts of functions that do nothing.
 
-ghost use Rattle.far_evac.specs.Callers.{CoresJoin, FetchingOrder, FetchingStepsAside, MovingOrder, MovingStepsAside, OwnersStepAside, PlacingOrder, PlacingStepsAside, RetiringOrder, RetiringStepsAside, StepsJoin, StepsKeep, StillOrder, StillStepsAside};
+ghost use Rattle.far_evac.specs.Callers.{CallersSealBehind, CoresJoin, FetchingOrder, FetchingStepsAside, MovingOrder, MovingStepsAside, OwnersStepAside, PlacingOrder, PlacingStepsAside, RetiringOrder, RetiringStepsAside, StepsJoin, StepsKeep, StillOrder, StillStepsAside};
 ghost use Rattle.far_evac.specs.Leading.{AbortingLeads, ChoiceIsOfSealed, MarkingLeads, PollingLeads, RoundLeads, SelectingLeads, TurnsLead, WalkingLeads};
 ghost use Rattle.far_evac.specs.Owned.{AbortingKeepsObjects, MarkingKeepsObjects, PollingKeepsObjects, RoundKeepsObjects, SelectingKeepsObjects, TurnsKeepObjects, TurnsRetireNone, WalkRetiresNone, WalkingKeepsObjects};
 ghost use Rattle.far_evac.specs.LiveLaws.{LiveIsInOrder};
+ghost use Rattle.far_evac.specs.WayLaws.{ObjectsGoTheirWay};
 ghost use Rattle.far_evac.specs.Laws.{CensusIsExact, ClearIsShown, ClearMeansUnviewed, ClearViewsNothing, DealingIsInOrder, ExactIsAllowed, GivingUpIsRight, LooksSeeClear, MarkingIsCounted, MarkingIsRight, PollIsAllowed, PollIsOnce, RisenIsReady, RoundIsAllowed, RoundIsEvent, WaitIsNamed, WaitingStays, WalkIsTour, WalksJoin};
 
 /// The exact walk, over words that nobody else changes, is one of those that are allowed over any hand.
@@ -38,6 +39,12 @@ pub fn walks_join()
 /// order, each is counted once, and after the last one each log was given back.
 pub fn dealing_is_in_order()
     ensures { DealingIsInOrder }
+{}
+
+/// The object that k live ones stand before is dealt with by the marks that it had when the walk began, where no word changes but by it: a dropped one is
+/// retired, a cold one goes far, and a hot one to where there is room then, or far where there is none. It has no marks after.
+pub fn objects_go_their_way()
+    ensures { ObjectsGoTheirWay }
 {}
 
 /// Marking sets EVAC in the first n live objects that lack it, or in all, and changes nothing else in any cell; where none is left, each
@@ -147,8 +154,9 @@ pub fn callers_keep()
     ensures retired { RetiringStepsAside }
 {}
 
-/// After such a step the sealed logs are, oldest first, as the book's call keeps them.
+/// After such a step the sealed logs are, oldest first, as the book's call keeps them: what was sealed in it stands behind those that were sealed before.
 pub fn callers_keep_order()
+    ensures ages { CallersSealBehind }
     ensures joined { CoresJoin }
     ensures still { StillOrder }
     ensures placed { PlacingOrder }
