@@ -5,6 +5,7 @@ pub mod Bounds
 pub mod Censuses
 pub mod Changing
 pub mod Chosen
+pub mod ComingBack
 pub mod Counted
 pub mod Dealt
 pub mod Evacuations

@@ -4,6 +4,7 @@ pub mod Census
 pub mod Choosing
 pub mod Cursor
 pub mod Dealings
+pub mod Emptied
 pub mod EvacOf
 pub mod Failing
 pub mod Laws
@@ -25,3 +26,4 @@ pub mod Turns
 pub mod Waiting
 pub mod Walk
 pub mod WayLaws
+pub mod worked

@@ -3,9 +3,11 @@
 ghost use Rattle.far_evac.specs.Callers.{CallersSealBehind, CoresJoin, FetchingOrder, FetchingStepsAside, MovingOrder, MovingStepsAside, OwnersStepAside, PlacingOrder, PlacingStepsAside, RetiringOrder, RetiringStepsAside, StepsJoin, StepsKeep, StillOrder, StillStepsAside};
 ghost use Rattle.far_evac.specs.Leading.{AbortingLeads, ChoiceIsOfSealed, MarkingLeads, PollingLeads, RoundLeads, SelectingLeads, TurnsLead, WalkingLeads};
 ghost use Rattle.far_evac.specs.Owned.{AbortingKeepsObjects, MarkingKeepsObjects, PollingKeepsObjects, RoundKeepsObjects, SelectingKeepsObjects, TurnsKeepObjects, TurnsRetireNone, WalkRetiresNone, WalkingKeepsObjects};
+ghost use Rattle.far_evac.specs.Emptied.{LogsComeBackEmpty};
 ghost use Rattle.far_evac.specs.LiveLaws.{LiveIsInOrder};
 ghost use Rattle.far_evac.specs.WayLaws.{ObjectsGoTheirWay};
 ghost use Rattle.far_evac.specs.Laws.{CensusIsExact, ClearIsShown, ClearMeansUnviewed, ClearViewsNothing, DealingIsInOrder, ExactIsAllowed, GivingUpIsRight, LooksSeeClear, MarkingIsCounted, MarkingIsRight, PollIsAllowed, PollIsOnce, RisenIsReady, RoundIsAllowed, RoundIsEvent, WaitIsNamed, WaitingStays, WalkIsTour, WalksJoin};
+ghost use Rattle.far_evac.specs.worked.Rows.{EpochsAreNamed, FirstLiesFirst, GivenUp, HotWithoutRoom, LastEpoch, NothingToChoose, OldEpoch, OldView, OldestIsFirst, OpenScopeIsWaitedFor, OpenedAnew, OwnerIsFirst, PhasesAreKept, PlainRound, ReserveIsKept, StepByStep, TurnsRunOut};
 
 /// The exact walk, over words that nobody else changes, is one of those that are allowed over any hand.
 pub fn exact_is_allowed()
@@ -36,9 +38,11 @@ pub fn walks_join()
 {}
 
 /// Over any hand, whatever is found in the cells: k dealings are with the first k live objects of the chosen logs, in their
-/// order, each is counted once, and after the last one each log was given back.
+/// order, each is counted once, and after the last one each log was given back. A log that is counted as given back is free then, and has no bytes, live or
+/// dead.
 pub fn dealing_is_in_order()
-    ensures { DealingIsInOrder }
+    ensures order { DealingIsInOrder }
+    ensures emptied { LogsComeBackEmpty }
 {}
 
 /// The object that k live ones stand before is dealt with by the marks that it had when the walk began, where no word changes but by it: a dropped one is
@@ -163,4 +167,25 @@ pub fn callers_keep_order()
     ensures moved_now { MovingOrder }
     ensures fetched { FetchingOrder }
     ensures retired { RetiringOrder }
+{}
+
+/// Worked examples: whole lists of calls on a heap that nobody else steps, and what they answer.
+pub fn rounds_are_so()
+    ensures reserve_is_kept { ReserveIsKept }
+    ensures plain_round { PlainRound }
+    ensures open_scope_is_waited_for { OpenScopeIsWaitedFor }
+    ensures old_epoch { OldEpoch }
+    ensures old_view { OldView }
+    ensures owner_is_first { OwnerIsFirst }
+    ensures hot_without_room { HotWithoutRoom }
+    ensures phases_are_kept { PhasesAreKept }
+    ensures last_epoch { LastEpoch }
+    ensures opened_anew { OpenedAnew }
+    ensures turns_run_out { TurnsRunOut }
+    ensures nothing_to_choose { NothingToChoose }
+    ensures step_by_step { StepByStep }
+    ensures given_up { GivenUp }
+    ensures first_lies_first { FirstLiesFirst }
+    ensures oldest_is_first { OldestIsFirst }
+    ensures epochs_are_named { EpochsAreNamed }
 {}
