@@ -16,7 +16,7 @@ module _ (s t : State) (law : Law s) (then : Law t) (aside : StepsAside s t) (or
   not_open l shut e = open_unsealed (t.kind l) (ap t.kind e ∙ then.logs.is_open) shut
 
   was_open : (l : ℕ) → s.kind l ≢ Sealed → t.kind l ≡ Sealed → l ≡ s.current
-  was_open l before now = elim (cases_eq l s.current) [ | inl e ↦ e | inr other ↦ absurd (before (sym (aside.others l other (not_open l now)) ∙ now)) ]
+  was_open l before now = elim (cases_eq l s.current) [ inl e ↦ e | inr other ↦ absurd (before (sym (aside.others l other (not_open l now)) ∙ now)) ]
 
   by_core : (same : Bool) → (t.current == s.current) ≡ same → SealsBehind s t order (cond same order (order ++ s.current ∷ []))
   by_core true e = record {
@@ -30,7 +30,7 @@ module _ (s t : State) (law : Law s) (then : Law t) (aside : StepsAside s t) (or
     sealed = λ l. (
       λ member. elim (split l s.current [] member) [
         | inl is ↦ subst (λ k. (s.kind k ≢ Sealed) × (t.kind k ≡ Sealed)) is
-              (open_unsealed (s.kind s.current) law.logs.is_open, aside.shut (λ same. true≢false (sym (eq-eqb t.current s.current same) ∙ e)))
+            (open_unsealed (s.kind s.current) law.logs.is_open, aside.shut (λ same. true≢false (sym (eq-eqb t.current s.current same) ∙ e)))
         | inr more ↦ absurd (none_in l more)
       ],
       λ both. subst (λ k. Contains (k ∷ []) l) (was_open l both.0 both.1) (here l []),

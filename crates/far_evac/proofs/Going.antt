@@ -66,10 +66,10 @@ module _ (m : Moment) (ready : Ready m.core m.held) where
       let walk = walk_is m k in
       let h = in_order m walk.0 (walked m k) ready walk.1.walks in
       by_end walk.0 walk.1 h.left h.ready (is_done (walked m k)) refl where
-    by_end : (d : ℕ) → Walks m k d (walked m k) → left (walked m k) ≡ drop d lives → Ready (walked m k).moment.core (walked m k).moment.held → (done : Bool) → is_done (walked m k) ≡ done →
-        (left (walked m k) ≡ drop k lives) × Ready (walked m k).moment.core (walked m k).moment.held
-    by_end d walk is then true done = absurd (short_of k d (sym is ∙ none_left (walked m k) done) walk.most lt)
-    by_end d walk is then false more = (is ∙ ap (λ n. drop n lives) (walk.enough more), then)
+        by_end : (d : ℕ) → Walks m k d (walked m k) → left (walked m k) ≡ drop d lives → Ready (walked m k).moment.core (walked m k).moment.held → (done : Bool) → is_done (walked m k) ≡ done →
+            (left (walked m k) ≡ drop k lives) × Ready (walked m k).moment.core (walked m k).moment.held
+        by_end d walk is then true done = absurd (short_of k d (sym is ∙ none_left (walked m k) done) walk.most lt)
+        by_end d walk is then false more = (is ∙ ap (λ n. drop n lives) (walk.enough more), then)
 
   -- a cell stays while others are dealt with
   dealt_cell : (w : Walked) (p q : ℕ) (way : Way) → q ≢ p → (dealt_so w p way).moment.core.cell q ≡ w.moment.core.cell q

@@ -264,9 +264,9 @@ any_among s l (k ∷ ks) =
     ∙ ap (λ b. b || any_in s (live_among s ks) l) (any_of s k l (live_in s k) (live_named s k))
     ∙ ap (λ b. (eqb l k && not (is_empty (live_in s k))) || b) (any_among s l ks)
     ∙ here_or_there (eqb l k) refl where
-  here_or_there : (here : Bool) → eqb l k ≡ here → ((here && not (is_empty (live_in s k))) || (among ks l && not (is_empty (live_in s l)))) ≡ ((here || among ks l) && not (is_empty (live_in s l)))
-  here_or_there true e = ap (λ j. not (is_empty (live_in s j)) || (among ks l && not (is_empty (live_in s l)))) (sym (eqb-true l k e)) ∙ absorbs (not (is_empty (live_in s l))) (among ks l)
-  here_or_there false e = refl
+      here_or_there : (here : Bool) → eqb l k ≡ here → ((here && not (is_empty (live_in s k))) || (among ks l && not (is_empty (live_in s l)))) ≡ ((here || among ks l) && not (is_empty (live_in s l)))
+      here_or_there true e = ap (λ j. not (is_empty (live_in s j)) || (among ks l && not (is_empty (live_in s l)))) (sym (eqb-true l k e)) ∙ absorbs (not (is_empty (live_in s l))) (among ks l)
+      here_or_there false e = refl
 
 round_given_up : (m : Moment) → AllByRecursion (λ p. IsNearWord (m.core.cell p)) (live_among m.core m.held) → (l : ℕ) →
     (after_aborting m).core.round l ≡ cond (among m.held l) (m.core.round l && is_empty (live_in m.core l)) (m.core.round l)

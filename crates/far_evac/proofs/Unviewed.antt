@@ -68,7 +68,7 @@ module _ (m : Moment) (s : State) (law : Law s) (round : s.round ≡ m.core.roun
     (risen : has_risen m.phase ≡ true) (p : ℕ) (place : Place) (views : s.held p ≡ Some place) where
   seen_clear : m.core.clear (p / CELLS) ≡ true → among m.held place.log ≡ false
   seen_clear seen = false_from_ne_true (among m.held place.log) (λ held. true≢false (
-    sym (moment.round risen place.log held) ∙ ap (λ f. f place.log) (sym round) ∙ law.clears.clear_unviewed p place views (ap (λ f. f (p / CELLS)) clear ∙ seen)))
+      sym (moment.round risen place.log held) ∙ ap (λ f. f place.log) (sym round) ∙ law.clears.clear_unviewed p place views (ap (λ f. f (p / CELLS)) clear ∙ seen)))
 
   owned : p / CELLS < m.core.mutators
   owned = subst (λ n. p / CELLS < n) mutators (law.scopes.scope_range (p / CELLS) (law.views.held_open p (ap is_some views)))

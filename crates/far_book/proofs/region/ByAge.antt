@@ -28,7 +28,7 @@ module _ (s t : State) (law : Law s) (place : Place) (opens : t.kind place.log �
   was_open : (l : ℕ) → s.kind l ≢ Sealed → t.kind l ≡ Sealed → (l ≡ s.current) × (l ≢ place.log)
   was_open l before now =
       let other : l ≢ place.log = λ e. open_unsealed (t.kind l) (ap t.kind e ∙ opens) now in
-      elim (open_or_not (s.kind l)) [ | inl is ↦ (law.logs.one_open l is, other) | inr closed ↦ absurd (before (sym (kinds l other closed) ∙ now)) ]
+      elim (open_or_not (s.kind l)) [ inl is ↦ (law.logs.one_open l is, other) | inr closed ↦ absurd (before (sym (kinds l other closed) ∙ now)) ]
 
   module _ (order : List ℕ) where
     by_log : (same : Bool) → (place.log == s.current) ≡ same → SealsBehind s t order (cond same order (order ++ s.current ∷ []))
