@@ -1,9 +1,11 @@
+pub mod Ageing
 pub mod Auditing
 pub mod Bools
 pub mod Bounds
 pub mod Censuses
 pub mod Changing
 pub mod Chosen
+pub mod ComingBack
 pub mod Counted
 pub mod Dealt
 pub mod Evacuations
@@ -11,6 +13,7 @@ pub mod Failures
 pub mod Fronts
 pub mod Given
 pub mod GivingBack
+pub mod Going
 pub mod Handing
 pub mod Hands
 pub mod InOrder
@@ -18,6 +21,7 @@ pub mod Joined
 pub mod Keeping
 pub mod KeptObjects
 pub mod KeptTurns
+pub mod Named
 pub mod OfOneKind
 pub mod Lacking
 pub mod Leading
@@ -26,6 +30,7 @@ pub mod LeadingTurns
 pub mod LeadingWalks
 pub mod LiveLists
 pub mod LiveOnce
+pub mod LiveOrder
 pub mod LogBits
 pub mod Looks
 pub mod MarkRuns
