@@ -39,9 +39,11 @@ use Rattle.far_replay.specs.Moment.{Moment}
 use Rattle.far_replay.specs.EventRows.{after_events, AllPass, AllSucceed, AllComeToPass, AtHand}
 use Rattle.far_replay.specs.Effects.{is_slow}
 use Rattle.far_replay.specs.Events.{events_for, IsTold}
+use Rattle.far_replay.specs.HowMany.{IsHowMany}
 use Rattle.far_replay.specs.Objects.{with_range, uses}
 use Rattle.far_text.specs.Says.{Says}
 use Rattle.far_replay.specs.Stays.{MayMark, MaySee, Stays}
+use Rattle.far_replay.specs.Steps.{AllTold}
 use Rattle.far_text.specs.Written.{WritesBytes, AllWriteBytes}
 use Rattle.far_replay.specs.Reply.{Reply, Done, Pointer, Data, Logs, Lies, Audited, EpochRead, Selected, Marked, Clear, Evacuated, Ended, Refused, LogLine, Counts, reply_text}
 
@@ -150,10 +152,6 @@ abbrev pub TellsHome : State → ℕ → Home → Type 0
 TellsHome s p (Near place marks) = (len ds : ℕ) × (o : Object) × (read_of (s.cell p) ≡ Some (pointer.Near len ds place marks)) × OneLive s p len ds place
     × ((world_of s).object p ≡ Some o) × (o.home ≡ Group place.log)
 TellsHome s p (Far marks) = (len ds : ℕ) × (o : Object) × (read_of (s.cell p) ≡ Some (pointer.Far len ds marks)) × ((world_of s).object p ≡ Some o) × (o.home ≡ FarSide)
-
--- so many numbers have a property: a list has each of them once, and no other
-abbrev pub IsHowMany : (ℕ → Type 0) → ℕ → Type 0
-IsHowMany P n = (ks : List ℕ) × (length ks ≡ n) × IsDistinct eqb ks × ((k : ℕ) → Contains ks k ↔ P k)
 
 -- a number has an object in a group; or one on the far side
 abbrev pub IsNearObject : State → ℕ → Type 0
@@ -329,8 +327,8 @@ LinesAreNumbered = (words : List (List ℕ)) (c : Command) (m : ℕ) → m < 2 ^
     × ((name : List ℕ) (rest : List (List ℕ)) → words ≡ name ∷ decimal m ∷ rest → ¬ CountsOthers name → IsSaidBy m c)
 
 -- what an output says, from its text on: where the text is read as a heap in range and commands, there are the replies and the moments of this output; the lines tell
--- the replies in full; each moment has the law, and in it objects are whole; the logs in which views rest stay; and the replies to each mutator's lines are what its own
--- lines alone say
+-- the replies in full; each moment has the law, and in it objects are whole; the logs in which views rest stay; the replies to each mutator's lines are what its own
+-- lines alone say; and each step of the evacuator tells what has happened
 pub record IsSound (logs mutators epoch : ℕ) (cs : List Command) (output : List ℕ) : Type 0 where
   pub replies : List Reply
   pub moments : List Moment
@@ -342,6 +340,7 @@ pub record IsSound (logs mutators epoch : ℕ) (cs : List Command) (output : Lis
   pub whole : All (λ (now : Moment). IsWhole now.core) (first_moment logs mutators epoch ∷ moments)
   pub stay : LogsStay (first_moment logs mutators epoch) cs moments
   pub alone : (m : ℕ) → m < mutators → Alone m nothing cs replies
+  pub told : AllTold (first_moment logs mutators epoch) cs replies moments
 
 abbrev pub OutputsAreSound : Type 0
 OutputsAreSound = (text output : List ℕ) (logs mutators epoch : ℕ) (cs : List Command) → Answers text output → trace_of text ≡ Ok (Heap logs mutators epoch cs) →

@@ -2,10 +2,11 @@
 
 ghost use Rattle.far_replay.specs.Census.{AuditsByCensus};
 ghost use Rattle.far_replay.specs.Headline.{OutputsAreSound, OneOutput, EachTextIsAnswered, TextsWriteBytes, LinesAreNumbered, MomentsLast, EventsReach, ShapesAre, HeapsBeginLawful, ObjectsStayWhole, ViewedLogsStay, ViewsLast, RefusalsStay, RefusalsChangeNothing, TriesAreAnswered, UnknownMutatorsAreRefused, NearRefusals, MutatorsAreAlone, OwnLinesCount, MutatorsLearn, NewTakesTheLowest, NoneIsLeft, NewIsMade, NewMakesItsObject, CommandsTakeRoom, WritesChangeTheirRange, LogsAreTold, WhereTells, LogTellsItsLine, AuditCounts, DropEndsObject, EpochsAreTold, ScopesOpenAtEpochs, ClosesForget, PrintedAlike};
+ghost use Rattle.far_replay.specs.Steps.{StepsAreTold};
 
 /// From a text on: its output, where it is read as a heap in range and commands, has a reply, which its lines tell in full,
 /// and a moment for each command. Each moment has the law, and in it objects are whole; through them the logs in which
-/// views rest stay; and each mutator's replies are what its own lines alone say.
+/// views rest stay; each mutator's replies are what its own lines alone say; and each step of the evacuator tells what has happened.
 pub fn outputs_are_sound()
     ensures { OutputsAreSound }
 {}
@@ -108,6 +109,17 @@ pub fn inquiries_tell()
 /// and of any other pointer 7.
 pub fn drops_end_objects()
     ensures { DropEndsObject }
+{}
+
+/// Each step of the evacuator tells what has happened. `select` tells the logs that its policy or script takes of the sealed
+/// ones, in that order. `mark` counts the pointers that gained EVAC, and names the epoch that is reached once each object of the chosen
+/// logs has it. `wait` is clear exactly where no scope from before the round is open that wasn't seen clear, and refused 18 by such a
+/// one alone. `evacuate` counts the objects that lie in another log then, that went far, that were retired, and the logs given
+/// back; it is done where no log is chosen any more. `round` is a `select` and turns, each answered as `mark 16`, `wait` or `evacuate 16`
+/// would be, by the phase, and its counts are their sums. The phase follows from commands and replies, and 12 is answered
+/// exactly out of phase.
+pub fn steps_are_told()
+    ensures { StepsAreTold }
 {}
 
 /// `epoch` tells a mutator whose scope is closed the epoch of the heap, which it remembers, and nothing else changes; where its
