@@ -38,4 +38,5 @@ pub mod SealedKept
 pub mod Settled
 pub mod SpanLists
 pub mod Starts
+pub mod Whole
 pub mod Written
