@@ -31,6 +31,7 @@ pub mod Reaching
 pub mod ReachingFar
 pub mod Readings
 pub mod Releasing
+pub mod ReleasingLaw
 pub mod Renamings
 pub mod Retires
 pub mod Rounding
