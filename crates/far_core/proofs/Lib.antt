@@ -11,6 +11,7 @@ pub mod KeepWords
 pub mod Keeps
 pub mod Leaving
 pub mod LiveLaws
+pub mod MadeNamings
 pub mod Marking
 pub mod NamingOwed
 pub mod Namings
