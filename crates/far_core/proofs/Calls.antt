@@ -1,5 +1,5 @@
 -- What a typed call leaves: the state after its event, which keeps the law.
-use Rattle.std.proofs.Common.{◌≢◌, ◌≡◌, ◌∙◌, ℕ, ◌+◌, ◌-◌, ◌*◌, ◌^◌, ◌/◌, ◌<◌, ◌≤◌, Bool, Some, ap, arith, refl, sym, true}
+use Rattle.std.proofs.Common.{◌≡◌, ◌∙◌, ℕ, ◌+◌, ◌-◌, ◌*◌, ◌^◌, ◌/◌, ◌<◌, ◌≤◌, Bool, Some, ap, arith, refl, sym, true}
 use Rattle.std.proofs.lemmas.Bool.Decides.{nat_tests}
 use Rattle.std.specs.Prelude.{is_some, IsSome, IsTrue, ◌==◌, ◌↔◌}
 use Rattle.far_word.specs.declared.sizes.TheConstants.{CELLS, LOG_WORDS}
@@ -11,7 +11,7 @@ use Rattle.far_core.specs.declared.event.Event.{Event}
 use Rattle.far_core.specs.declared.event.Event.TheVariants.{Store}
 use Rattle.far_core.specs.events.Legal.{Legal}
 use Rattle.far_core.specs.events.Next.{next_state}
-use Rattle.far_core.specs.events.Step.{Fits, after, answer, data_len, data_word, holds, is_legal, near_data, near_len}
+use Rattle.far_core.specs.events.Step.{Fits, after, data_len, data_word, holds, is_legal, near_data, near_len}
 use Rattle.far_core.specs.state.Law.{Law}
 use Rattle.far_core.specs.state.State.{State, addr}
 use Rattle.far_core.proofs.Cells.{held_near}

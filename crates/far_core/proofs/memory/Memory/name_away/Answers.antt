@@ -1,6 +1,5 @@
-use Rattle.std.proofs.Common.{◌≡◌, ap, inl, inr, sym, ◌∙◌, Some}
+use Rattle.std.proofs.Common.{ap, ◌∙◌, Some}
 use Rattle.far_core.specs.state.Memory.{state_of}
-use Rattle.far_core.specs.events.namings.Evicts.{evicts_row}
 use Rattle.far_core.proofs.MadeNamings.{away_freed, away_near, away_far}
 use Rattle.far_core.proofs.memory.Memory.name_away.Goals as goal
 
