@@ -1,5 +1,5 @@
 -- How many of a list, in which each is once, have a property.
-use Rattle.std.proofs.Common.{◌≡◌, ◌≢◌, ℕ, zero, suc, ◌<◌, arith, Bool, true, false, sym, refl, ap, subst, ◌∙◌, List, [], ◌∷◌, ◌++◌, length, filter, take, drop, eqb, inl, inr}
+use Rattle.std.proofs.Common.{◌≡◌, ◌≢◌, ℕ, zero, suc, ◌<◌, arith, Bool, true, sym, refl, ap, subst, ◌∙◌, List, [], ◌∷◌, length, filter, take, drop, eqb, inl, inr}
 use Rattle.std.specs.Prelude.{◌⊎◌, Contains, count_by}
 use Rattle.std.specs.List.{AllByRecursion, IsDistinct}
 use Rattle.std.proofs.lemmas.Bool.{cond_both, cases_eq, ne_eqb, eqb-true, eq-eqb}

@@ -1,3 +1,4 @@
+pub mod AgesKept
 pub mod AloneBytes
 pub mod AloneFirst
 pub mod AloneLaw

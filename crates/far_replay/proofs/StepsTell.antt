@@ -1,8 +1,8 @@
 -- What a step of the evacuator tells is so.
-use Rattle.std.proofs.Common.{◌≡◌, ◌≢◌, ℕ, zero, suc, ◌+◌, ◌*◌, ◌/◌, ◌%◌, ◌^◌, ◌<◌, ◌≤◌, ◌==◌, ◌&&◌, ◌||◌, Bool, true, false, not, cond, nat_lt, nat_le, eqb, Option, Some, None, List, [], ◌∷◌, ◌++◌, length, filter, map, take, drop, Ok, Err, ap, sym, refl, ◌∙◌, subst, arith, inl, inr, if◌then◌else◌}
+use Rattle.std.proofs.Common.{◌≡◌, ◌≢◌, ℕ, zero, suc, ◌+◌, ◌*◌, ◌/◌, ◌%◌, ◌^◌, ◌<◌, ◌≤◌, ◌==◌, ◌&&◌, ◌||◌, Bool, true, false, not, cond, nat_lt, nat_le, Option, Some, None, List, [], ◌∷◌, length, filter, take, Ok, ap, sym, refl, ◌∙◌, subst, arith, inl, inr, if◌then◌else◌}
 use Rattle.std.specs.Prelude.{◌↔◌, bit_or, Contains, IsSome, find}
-use Rattle.std.specs.List.{AllByRecursion, IsDistinct, range_with_len}
-use Rattle.std.proofs.lemmas.Bool.{cond_both, eq-eqb, eqb-true, false≢true, true≢false, not-false, not-true}
+use Rattle.std.specs.List.{AllByRecursion, range_with_len}
+use Rattle.std.proofs.lemmas.Bool.{cond_both, eq-eqb, eqb-true, false≢true, true≢false, not-true}
 use Rattle.std.proofs.lemmas.Bool.Decides.{nat_tests}
 use Rattle.std.proofs.lemmas.List.{length-take, length-take-le}
 use Rattle.std.proofs.lemmas.List.Elements.{Contains-append_cases, Contains-append_left, Contains-append_right}
@@ -11,18 +11,16 @@ use Rattle.far_word.specs.declared.mark.Marks.{Marks}
 use Rattle.far_word.specs.declared.pointer.Place.{Place}
 use Rattle.far_word.specs.declared.pointer.PtrWord.{PtrWord}
 use Rattle.far_word.specs.declared.pointer.PtrWord.TheVariants.{Free, Near, Far}
-use Rattle.far_word.specs.declared.refused.Refused.{Refused as Refusal}
-use Rattle.far_word.specs.declared.refused.Refused.TheVariants.{BadChoice, EpochsSpent, Phase as WrongPhase, StillOpen}
 use Rattle.far_word.specs.declared.scope.ScopeWord.TheVariants as scoped
-use Rattle.far_word.specs.declared.sizes.TheConstants.{EPOCH_END, MOST_LOGS}
+use Rattle.far_word.specs.declared.sizes.TheConstants.{EPOCH_END}
 use Rattle.far_word.specs.Mark.{position}
 use Rattle.far_word.specs.Pointer.{read_of}
 use Rattle.far_word.specs.Scope.{scope_of}
 use Rattle.far_log.proofs.Members.{here, none_in, split, there}
 use Rattle.far_log.specs.declared.span.Span.{Span}
 use Rattle.far_policy.specs.LeastLive.{least_live}
-use Rattle.far_policy.specs.Logs.{AreRows, logs_of}
-use Rattle.far_policy.specs.Scripted.{FollowsScript, scripted}
+use Rattle.far_policy.specs.Logs.{AreRows}
+use Rattle.far_policy.specs.Scripted.{FollowsScript}
 use Rattle.far_policy.proofs.Choices.{first_once, rows_told}
 use Rattle.far_policy.proofs.LeastOnes.{least_is_there}
 use Rattle.far_policy.proofs.Scripts.{follows_script}
@@ -44,19 +42,15 @@ use Rattle.far_evac.specs.Census.{kind_in, kind_named}
 use Rattle.far_evac.specs.Choosing.{after_aborting, after_selecting}
 use Rattle.far_evac.specs.Dealings.{HasLeft, is_away, is_nowhere, says}
 use Rattle.far_evac.specs.Laws.{DealtInOrder, IsGivenUp, but_evac}
-use Rattle.far_evac.specs.Leading.{Leads}
 use Rattle.far_evac.specs.Live.{is_empty, lacking, live_among, live_in, pointers_of}
 use Rattle.far_evac.specs.Marking.{after_marking, leaves_some, marked_core, newly_marked}
 use Rattle.far_evac.specs.Moment.{Moment, progress_of}
 use Rattle.far_evac.specs.MomentLaw.{MomentLaw, has_risen, is_idle}
-use Rattle.far_evac.specs.RoundSteps.{advanced, among, is_clear_now}
-use Rattle.far_evac.specs.Waiting.{after_polling, first_open, holds_up, polled, polled_at, polled_to}
+use Rattle.far_evac.specs.RoundSteps.{advanced, among}
+use Rattle.far_evac.specs.Waiting.{first_open, holds_up, polled, polled_at}
 use Rattle.far_evac.specs.Walk.{Walked, begun, dealt_first, dealt_so, ended, is_done, left, walked, way_of}
-use Rattle.far_evac.specs.declared.answers.Polled.{Polled}
 use Rattle.far_evac.specs.declared.answers.Polled.TheVariants as polls
-use Rattle.far_evac.specs.declared.census.LogKind.{LogKind}
 use Rattle.far_evac.specs.declared.census.LogKind.TheVariants.{Chosen}
-use Rattle.far_evac.specs.declared.phase.Phase.{Phase}
 use Rattle.far_evac.specs.declared.phase.Phase.TheVariants.{Idle, Marking, Waiting, Evacuating}
 use Rattle.far_evac.proofs.Fronts.{kept_in}
 use Rattle.far_evac.proofs.InOrder.{in_order}
@@ -66,15 +60,15 @@ use Rattle.far_evac.proofs.LeadingWalks.{walking_law}
 use Rattle.far_evac.proofs.LiveOnce.{LivesIn, live_named, near_at}
 use Rattle.far_evac.proofs.Marks.{is_given_up, is_marked, mark_sets, others_stay}
 use Rattle.far_evac.proofs.Passing.{alive, listed}
-use Rattle.far_evac.proofs.Readiness.{clear_one, risen_is_ready}
+use Rattle.far_evac.proofs.Readiness.{risen_is_ready}
 use Rattle.far_evac.proofs.Rounds.{passed_phase, so_phase}
 use Rattle.far_evac.proofs.Unviewed.{none_found}
 use Rattle.far_evac.proofs.Walks.{walk_is}
 use Rattle.far_text.specs.Command.{By, Choice, LeastLive, Mark, Oldest, Policy, Script, Select}
 use Rattle.far_replay.specs.HowMany.{IsHowMany}
 use Rattle.far_replay.specs.Reply.{Marked, Selected}
-use Rattle.far_replay.specs.Rounds.{chosen_by, given_by, logs_given, rows_in}
-use Rattle.far_replay.specs.Steps.{GainsEvac, HoldsUp, IsChosen, IsFar, IsGivenBack, IsMoved, IsNear, IsRetired, IsSentFar, LiesIn, NobodyHoldsUp, ReachesEpoch, ShowsEvac, Takes, TellsChoice, TellsEnd, TellsLeaving, TellsMarks, phase_after}
+use Rattle.far_replay.specs.Rounds.{chosen_by, given_by, rows_in}
+use Rattle.far_replay.specs.Steps.{GainsEvac, HoldsUp, IsChosen, IsGivenBack, IsMoved, IsNear, IsRetired, IsSentFar, LiesIn, NobodyHoldsUp, ReachesEpoch, ShowsEvac, Takes, TellsChoice, TellsEnd, TellsLeaving, TellsMarks, phase_after}
 use Rattle.far_replay.proofs.CountedOnce.{all_at, among_in, beyond, filtered, front_or_rest, how_many_in, how_many_of, in_among, in_front, member_or_apart, once_filter, once_take}
 use Rattle.far_replay.proofs.RoundChoices.{rows_are}
 
@@ -118,6 +112,9 @@ held_by false kinds.Sealed e = absurd cc
 
 chosen_by_both : (held : Bool) (kind : Kind) → held ≡ true → kind ≡ kinds.Sealed → kind_named held kind ≡ Chosen
 chosen_by_both held kind h e = ap (λ b. kind_named b kind) h ∙ ap (kind_named true) e
+
+pub held_chosen : (now : Moment) → MomentLaw now → (l : ℕ) → among now.held l ≡ true → IsChosen now l
+held_chosen now moment l h = chosen_by_both (among now.held l) (now.core.kind l) h (moment.sealed l h)
 
 none_named : (ls : List ℕ) (l : ℕ) (kind : Kind) → is_empty ls ≡ true → kind_named (among ls l) kind ≢ Chosen
 none_named [] l kind e h = false≢true (held_by false kind h)

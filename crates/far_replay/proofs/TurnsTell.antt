@@ -1,17 +1,17 @@
 -- A round tells what its turns add up to; and so each step of the evacuator tells what is so.
-use Rattle.std.proofs.Common.{◌≡◌, ◌≢◌, ℕ, zero, suc, ◌+◌, ◌≤◌, ◌==◌, Bool, true, false, not, cond, Option, Some, None, List, [], ◌∷◌, length, Result, Ok, Err, ap, sym, refl, ◌∙◌, subst, arith}
+use Rattle.std.proofs.Common.{◌≡◌, ◌≢◌, ℕ, zero, suc, ◌+◌, ◌≤◌, Bool, true, false, not, cond, Option, Some, None, List, [], ◌∷◌, length, Result, Ok, Err, ap, sym, refl, ◌∙◌, subst, arith}
 use Rattle.std.proofs.lemmas.Bool.{cond_both, eqb-true, false≢true, true≢false}
 use Rattle.far_word.specs.declared.refused.Refused.{Refused as Refusal}
-use Rattle.far_word.specs.declared.refused.Refused.TheVariants.{BadChoice, EpochsSpent, Phase as WrongPhase, StillOpen}
+use Rattle.far_word.specs.declared.refused.Refused.TheVariants.{Phase as WrongPhase, StillOpen}
 use Rattle.far_word.specs.declared.sizes.TheConstants.{EPOCH_END}
 use Rattle.far_policy.specs.Scripted.{FollowsScript, scripted}
 use Rattle.far_policy.proofs.Scripts.{follows_script}
 use Rattle.far_core.specs.state.Law.{Law}
-use Rattle.far_evac.specs.Choosing.{after_selecting, is_spent}
+use Rattle.far_evac.specs.Choosing.{after_selecting}
 use Rattle.far_evac.specs.Marking.{after_marking}
 use Rattle.far_evac.specs.Moment.{Moment, progress_of}
 use Rattle.far_evac.specs.MomentLaw.{MomentLaw, is_idle}
-use Rattle.far_evac.specs.Turns.{Turned, round_end, turn_size, turned, turns_made}
+use Rattle.far_evac.specs.Turns.{Turned, turn_size, turned, turns_made}
 use Rattle.far_evac.specs.Waiting.{after_polling, first_open, polled, polled_at, polled_to}
 use Rattle.far_evac.specs.Walk.{ended, is_done, walked}
 use Rattle.far_evac.specs.declared.answers.Polled.{Polled}
@@ -24,9 +24,9 @@ use Rattle.far_evac.specs.declared.phase.Phase.TheVariants.{Idle, Marking, Waiti
 use Rattle.far_text.specs.Command.{Command, Mutator, Book, Evacuator, Choice, By, Script, Policy, Step, Select, Mark, Wait, Evacuate, Abort, Round}
 use Rattle.far_text.specs.Written.{AllWriteBytes}
 use Rattle.far_replay.specs.Answers.{Answered, Commanded, IsMoment}
-use Rattle.far_replay.specs.Reply.{Reply, Done, Selected, Marked, Clear, Evacuated, Ended, Refused}
+use Rattle.far_replay.specs.Reply.{Reply, Selected, Clear, Evacuated, Ended, Refused}
 use Rattle.far_replay.specs.Rounds.{after_round, choice_causes, chosen_by, given_by, is_evacuating, is_marking, is_waiting, logs_given, refused_step, round_told, rows_in, step_causes, step_effect, step_reply, wait_causes}
-use Rattle.far_replay.specs.Steps.{AllTold, AreTurns, Ends, IsTimeFor, NoneDone, Takes, Tells, TellsRefusal, TellsRound, TellsStep, Told, counted_by, phase_after, says_done, sum_of, turn_step}
+use Rattle.far_replay.specs.Steps.{AllTold, AreTurns, IsTimeFor, NoneDone, Takes, TellsRefusal, TellsRound, TellsStep, Told, counted_by, phase_after, says_done, sum_of, turn_step}
 use Rattle.far_replay.specs.Turn.{effect, first_cause, refusal, refused_effect, turn_effect, turn_reply, unless}
 use Rattle.far_replay.proofs.Lasting.{Lasts, moment_lasts, still_lasts}
 use Rattle.far_replay.proofs.Refusals.{EachFirst, among}

@@ -1,7 +1,7 @@
 -- What a trace program's outputs say: the laws over whole texts and whole lists of commands.
 use Rattle.std.specs.Bool.{MatchBool}
-use Rattle.std.specs.Prelude.{◌≡◌, ◌≢◌, ◌↔◌, ℕ, ◌+◌, ◌*◌, ◌/◌, ◌^◌, ◌<◌, ◌≤◌, ◌||◌, ◌⊎◌, Bool, true, false, is_some, eqb, sum, codes, decimal, Option, Some, None, Ok, List, [], ◌∷◌, ◌++◌, length, replicate, slice_index, map, All, Contains}
-use Rattle.std.specs.List.{flat_map, range_with_len, IsDistinct}
+use Rattle.std.specs.Prelude.{◌≡◌, ◌≢◌, ◌↔◌, ℕ, ◌+◌, ◌*◌, ◌/◌, ◌^◌, ◌<◌, ◌≤◌, ◌||◌, ◌⊎◌, Bool, true, false, is_some, sum, codes, decimal, Option, Some, None, Ok, List, [], ◌∷◌, ◌++◌, length, replicate, slice_index, map, All, Contains}
+use Rattle.std.specs.List.{flat_map, range_with_len}
 use Rattle.hex.specs.Hex.{IsBytes}
 use Rattle.far_word.specs.declared.mark.Mark.TheVariants.{Hot}
 use Rattle.far_word.specs.declared.mark.Marks.{Marks}

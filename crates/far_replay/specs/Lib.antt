@@ -1,3 +1,4 @@
+pub mod Ages
 pub mod Alone
 pub mod Answers
 pub mod Audit

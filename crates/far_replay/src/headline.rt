@@ -2,6 +2,7 @@
 
 ghost use Rattle.far_replay.specs.Census.{AuditsByCensus};
 ghost use Rattle.far_replay.specs.Headline.{OutputsAreSound, OneOutput, EachTextIsAnswered, TextsWriteBytes, LinesAreNumbered, MomentsLast, EventsReach, ShapesAre, HeapsBeginLawful, ObjectsStayWhole, ViewedLogsStay, ViewsLast, RefusalsStay, RefusalsChangeNothing, TriesAreAnswered, UnknownMutatorsAreRefused, NearRefusals, MutatorsAreAlone, OwnLinesCount, MutatorsLearn, NewTakesTheLowest, NoneIsLeft, NewIsMade, NewMakesItsObject, CommandsTakeRoom, WritesChangeTheirRange, LogsAreTold, WhereTells, LogTellsItsLine, AuditCounts, DropEndsObject, EpochsAreTold, ScopesOpenAtEpochs, ClosesForget, PrintedAlike};
+ghost use Rattle.far_replay.specs.Ages.{AgesStay};
 ghost use Rattle.far_replay.specs.Steps.{StepsAreTold};
 
 /// From a text on: its output, where it is read as a heap in range and commands, has a reply, which its lines tell in full,
@@ -117,9 +118,11 @@ pub fn drops_end_objects()
 /// one alone. `evacuate` counts the objects that lie in another log then, that went far, that were retired, and the logs given
 /// back; it is done where no log is chosen any more. `round` is a `select` and turns, each answered as `mark 16`, `wait` or `evacuate 16`
 /// would be, by the phase, and its counts are their sums. The phase follows from commands and replies, and 12 is answered
-/// exactly out of phase.
+/// exactly out of phase. Through any command the sealed logs keep their order, but for those that were given back, and those sealed
+/// since come last; so from the heap's start on the first is the oldest.
 pub fn steps_are_told()
-    ensures { StepsAreTold }
+    ensures told { StepsAreTold }
+    ensures ages { AgesStay }
 {}
 
 /// `epoch` tells a mutator whose scope is closed the epoch of the heap, which it remembers, and nothing else changes; where its
