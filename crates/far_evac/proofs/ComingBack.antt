@@ -1,21 +1,18 @@
 -- Logs come back empty.
-use Rattle.std.proofs.Common.{◌≡◌, ℕ, zero, suc, ◌+◌, Bool, true, false, cond, not, Option, Some, List, [], ◌∷◌, take, drop, arith, ap, sym, refl, ◌∙◌, subst}
+use Rattle.std.proofs.Common.{◌≡◌, ℕ, suc, ◌+◌, false, not, List, [], ◌∷◌, take, drop, arith, ap, refl, ◌∙◌, subst}
 use Rattle.std.specs.List.{AllByRecursion}
 use Rattle.std.proofs.lemmas.Bool.{cond_both}
-use Rattle.far_word.specs.declared.pointer.PtrWord.{PtrWord}
 use Rattle.far_word.specs.Pointer.{read_of}
-use Rattle.far_log.specs.declared.span.Span.{Span}
 use Rattle.far_log.specs.Spans.{spans_in, taken_by}
 use Rattle.far_core.specs.declared.event.Kind.TheVariants.{Free}
-use Rattle.far_core.specs.laws.Observed.{dead_bytes, live_bytes}
 use Rattle.far_core.specs.state.Spans.{is_live, spans_of, word_in}
-use Rattle.far_core.specs.state.State.{State, put}
+use Rattle.far_core.specs.state.State.{State}
 use Rattle.far_core.proofs.Put.{put_both, put_same}
-use Rattle.far_evac.specs.AnyHand.{DealsFirst, FindsFirst, KnowsWalked, found_first}
+use Rattle.far_evac.specs.AnyHand.{FindsFirst, KnowsWalked, found_first}
 use Rattle.far_evac.specs.Emptied.{EmptiesLogs, IsEmptied, LogsComeBackEmpty}
 use Rattle.far_evac.specs.Live.{is_empty, live_in}
 use Rattle.far_evac.specs.Moment.{Moment}
-use Rattle.far_evac.specs.Walk.{Walked, Way, Drops, Goes, Moves, begun, dealt_as, dealt_so, freed, left, passed, settled, way_of}
+use Rattle.far_evac.specs.Walk.{Walked, Way, Drops, Goes, Moves, begun, dealt_so, freed, left, passed, settled, way_of}
 use Rattle.far_evac.proofs.LiveOnce.{each_map}
 
 -- a log that is free, has tail 0, and isn't in the round, in parts

@@ -55,5 +55,7 @@ pub mod Unmarking
 pub mod Unviewed
 pub mod Waits
 pub mod Walking
+pub mod WalkingOn
 pub mod Walks
+pub mod Ways
 pub mod worked
