@@ -21,6 +21,7 @@ pub record EmptiesLogs (u t : Walked) : Type 0 where
   pub counted : t.tally.freed ≡ u.tally.freed + count
   pub held : t.moment.held ≡ drop count u.moment.held
   pub emptied : AllByRecursion (IsEmptied t.moment.core) (take count u.moment.held)
+  pub epoch : t.moment.core.epoch ≡ u.moment.core.epoch
 
 -- where a walk begins, and with each object that is dealt with over any hand
 pub record GivingBackEmpties (m : Moment) (u t : Walked) (word : ℕ) : Type 0 where

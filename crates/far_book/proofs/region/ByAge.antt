@@ -1,8 +1,8 @@
 -- Logs that are sealed stand behind those that were sealed before.
-use Rattle.std.proofs.Common.{◌≡◌, ◌≢◌, ℕ, Bool, true, false, cond, not, ◌==◌, eqb, inl, inr, List, [], ◌∷◌, ◌++◌, filter, ap, sym, refl, ◌∙◌, subst}
-use Rattle.std.specs.Prelude.{◌⊎◌, ◌↔◌, Contains}
+use Rattle.std.proofs.Common.{◌≡◌, ◌≢◌, ℕ, Bool, true, false, cond, not, ◌==◌, eqb, inl, inr, List, [], ◌∷◌, ◌++◌, ap, sym, refl, ◌∙◌, subst}
+use Rattle.std.specs.Prelude.{◌⊎◌, Contains}
 use Rattle.std.specs.List.{AllByRecursion, IsDistinct}
-use Rattle.std.proofs.lemmas.Bool.{cases_eq, eq-eqb, eqb-true, false≢true, ne_eqb, true≢false}
+use Rattle.std.proofs.lemmas.Bool.{eq-eqb, eqb-true, ne_eqb, true≢false}
 use Rattle.std.proofs.lemmas.List.{append-nil}
 use Rattle.far_word.specs.declared.pointer.Place.{Place}
 use Rattle.far_log.proofs.Members.{here, none_in, split}
