@@ -7,7 +7,7 @@ ghost use Rattle.far_evac.specs.Emptied.{LogsComeBackEmpty};
 ghost use Rattle.far_evac.specs.LiveLaws.{LiveIsInOrder};
 ghost use Rattle.far_evac.specs.WayLaws.{ObjectsGoTheirWay};
 ghost use Rattle.far_evac.specs.Laws.{CensusIsExact, ClearIsShown, ClearMeansUnviewed, ClearViewsNothing, DealingIsInOrder, ExactIsAllowed, GivingUpIsRight, LiveRise, LooksSeeClear, MarkingIsCounted, MarkingIsRight, PollIsAllowed, PollIsOnce, RisenIsReady, RoundIsAllowed, RoundIsEvent, WaitIsNamed, WaitingStays, WalkIsTour, WalksJoin, WaysAreSo};
-ghost use Rattle.far_evac.specs.worked.Rows.{EpochsAreNamed, FirstLiesFirst, GivenUp, HotWithoutRoom, LastEpoch, NothingToChoose, OldEpoch, OldView, OldestIsFirst, OpenScopeIsWaitedFor, OpenedAnew, OwnerIsFirst, PhasesAreKept, PlainRound, ReserveIsKept, StepByStep, TurnsRunOut};
+ghost use Rattle.far_evac.specs.worked.Rows.{EmptiestIsFirst, EpochsAreNamed, FirstLiesFirst, GivenUp, HotWithoutRoom, LastEpoch, NothingToChoose, OldEpoch, OldView, OldestIsFirst, OpenScopeIsWaitedFor, OpenedAnew, OwnerIsFirst, PhasesAreKept, PlainRound, ReserveIsKept, StepByStep, TurnsRunOut};
 
 /// The exact walk, over words that nobody else changes, is one of those that are allowed over any hand.
 pub fn exact_is_allowed()
@@ -199,4 +199,5 @@ pub fn rounds_are_so()
     ensures first_lies_first { FirstLiesFirst }
     ensures oldest_is_first { OldestIsFirst }
     ensures epochs_are_named { EpochsAreNamed }
+    ensures emptiest_is_first { EmptiestIsFirst }
 {}

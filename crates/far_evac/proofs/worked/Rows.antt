@@ -6,7 +6,7 @@ use Rattle.far_log.specs.Spans.{spans_in}
 use Rattle.far_core.specs.state.Spans.{spans_of}
 use Rattle.far_evac.specs.Live.{live_in}
 use Rattle.far_evac.specs.Turns.{turn_size}
-use Rattle.far_evac.specs.worked.Rows.{EpochsAreNamed, FirstLiesFirst, GivenUp, HotWithoutRoom, LastEpoch, NothingToChoose, OldEpoch, OldView, OldestIsFirst, OpenScopeIsWaitedFor, OpenedAnew, OwnerIsFirst, PlainRound, ReserveIsKept, StepByStep, TurnsRunOut, PhasesAreKept}
+use Rattle.far_evac.specs.worked.Rows.{EmptiestIsFirst, EpochsAreNamed, FirstLiesFirst, GivenUp, HotWithoutRoom, LastEpoch, NothingToChoose, OldEpoch, OldView, OldestIsFirst, OpenScopeIsWaitedFor, OpenedAnew, OwnerIsFirst, PlainRound, ReserveIsKept, StepByStep, TurnsRunOut, PhasesAreKept}
 
 pub reserve_is_kept : ReserveIsKept
 unfolding read_of head_of spans_in spans_of live_in turn_size
@@ -75,3 +75,7 @@ oldest_is_first = refl
 pub epochs_are_named : EpochsAreNamed
 unfolding read_of head_of spans_in spans_of live_in turn_size
 epochs_are_named = refl
+
+pub emptiest_is_first : EmptiestIsFirst
+unfolding read_of head_of spans_in spans_of live_in turn_size
+emptiest_is_first = refl

@@ -1,5 +1,5 @@
 -- Lists of calls on a heap that nobody else steps, and what they answer: for worked examples of the definitions.
-use Rattle.std.specs.Prelude.{ℕ, Bool, true, false, cond, not, Option, Some, None, List, [], ◌∷◌, length, take}
+use Rattle.std.specs.Prelude.{ℕ, Bool, true, false, cond, not, Option, Some, None, List, [], ◌∷◌, length, map, take}
 use Rattle.far_word.specs.declared.pointer.Place.{Place}
 use Rattle.far_word.specs.declared.refused.Refused.{Refused as Refusal}
 use Rattle.far_word.specs.declared.refused.Refused.TheVariants.{NoRoom, Phase as WrongPhase, EpochsSpent}
@@ -12,6 +12,8 @@ use Rattle.far_core.specs.events.Step.{step_of}
 use Rattle.far_core.specs.state.Opening.{opening}
 use Rattle.far_core.specs.state.Room.{room}
 use Rattle.far_core.specs.state.State.{State}
+use Rattle.far_policy.specs.LeastLive.{least_live}
+use Rattle.far_policy.specs.Logs.{logs_of}
 use Rattle.far_book.specs.book.Dealing.{goal, moved_now, order_moved}
 use Rattle.far_book.specs.book.Effects.{placed, fetched, retired}
 use Rattle.far_book.specs.book.Fetching.{room_for}
@@ -35,7 +37,7 @@ use Rattle.far_evac.specs.Turns.{round_end, turns_made}
 use Rattle.far_evac.specs.Waiting.{after_polling, polled}
 use Rattle.far_evac.specs.Walk.{walked, ended, is_done}
 
--- an owner's event; a new object, for an owner; the book's calls on an object; and the evacuator's calls. `Selects` and `Rounds` choose the oldest logs
+-- an owner's event; a new object, for an owner; the book's calls on an object; and the evacuator's calls. `Selects` and `Rounds` choose the oldest logs, `SelectsEmptiest` those with the fewest live bytes
 pub data Call : Type 0 where
   Own : (event : Event) → Call
   News : (owner pointer len : ℕ) → Call
@@ -44,6 +46,7 @@ pub data Call : Type 0 where
   Retires : (pointer : ℕ) → Call
   Locates : (pointer : ℕ) → Call
   Selects : (most : ℕ) → Call
+  SelectsEmptiest : (most : ℕ) → Call
   Marks : (most : ℕ) → Call
   Waits : Call
   Evacuates : (most : ℕ) → Call
@@ -124,6 +127,7 @@ turn_of m (Fetches p) = fetched_at m p (room_for m.core p)
 turn_of m (Retires p) = (with_core m (retired m.core p), Made)
 turn_of m (Locates p) = (m, Lies (home_of (read_of (m.core.cell p))))
 turn_of m (Selects most) = let logs = take most m.order in choosing m (after_selecting m logs, Selected logs)
+turn_of m (SelectsEmptiest most) = let logs = logs_of (least_live (map (row_of m.core) m.order) most) in choosing m (after_selecting m logs, Selected logs)
 turn_of m (Marks n) = only_in (is_marking m.phase) m (after_marking m n, Marked (length (newly_marked m n)) (waiting_for m n))
 turn_of m Waits = only_in (is_waiting m.phase) m (after_polling m, Polls (polled m.core))
 turn_of m (Evacuates n) = only_in (is_evacuating m.phase) m (let w = walked m n in (ended w, Evacuated (progress_of w.tally (is_done w))))

@@ -16,7 +16,7 @@ use Rattle.far_evac.specs.declared.census.LogKind.TheVariants.{Free, Open, Seale
 use Rattle.far_evac.specs.declared.census.Housed.{Housed}
 use Rattle.far_evac.specs.declared.census.LogState.{LogState}
 use Rattle.far_evac.specs.declared.phase.Phase.TheVariants.{Marking, Waiting, Evacuating}
-use Rattle.far_evac.specs.worked.Calls.{Own, News, MovesNow, Fetches, Retires, Locates, Selects, Marks as Mark, Waits, Evacuates, Aborts, Rounds, Log, Audits, Replies, Made, At, Lies, Selected, Marked, Polls, Evacuated, Ends, LogIs, Homes, Refused, start, answers}
+use Rattle.far_evac.specs.worked.Calls.{Own, News, MovesNow, Fetches, Retires, Locates, Selects, SelectsEmptiest, Marks as Mark, Waits, Evacuates, Aborts, Rounds, Log, Audits, Replies, Made, At, Lies, Selected, Marked, Polls, Evacuated, Ends, LogIs, Homes, Refused, start, answers}
 
 abbrev pub place : ℕ → ℕ → Place
 place log at = record { log = log; at = at }
@@ -147,3 +147,9 @@ abbrev pub EpochsAreNamed : Type 0
 EpochsAreNamed =
     answers (start 4 2 5) (News 0 0 8 ∷ News 0 1 1016 ∷ Own (ReadEpoch 1) ∷ Own (Opens 1) ∷ Selects 1 ∷ Mark 9 ∷ Waits ∷ Own (ReadEpoch 0) ∷ Own (Opens 0) ∷ Waits ∷ Own (Close 1) ∷ Waits ∷ [])
     ≡ At (place 0 0) ∷ At (place 1 0) ∷ Replies (Epoch 5) ∷ Replies did ∷ Selected (0 ∷ []) ∷ Marked 1 (Some 6) ∷ Polls (StillOpen 1 5) ∷ Replies (Epoch 6) ∷ Replies did ∷ Polls (StillOpen 1 5) ∷ Replies did ∷ Polls Clear ∷ []
+
+-- another policy chooses other logs, and a round begins with them in the order in which they were named
+abbrev pub EmptiestIsFirst : Type 0
+EmptiestIsFirst =
+    answers (start 5 1 0) (News 0 0 1016 ∷ News 0 1 8 ∷ News 0 2 1016 ∷ SelectsEmptiest 1 ∷ Aborts ∷ Selects 1 ∷ Aborts ∷ SelectsEmptiest 9 ∷ Mark 1 ∷ Locates 0 ∷ Locates 1 ∷ [])
+    ≡ At (place 0 0) ∷ At (place 1 0) ∷ At (place 2 0) ∷ Selected (1 ∷ []) ∷ Made ∷ Selected (0 ∷ []) ∷ Made ∷ Selected (1 ∷ 0 ∷ []) ∷ Marked 1 None ∷ Lies (Some (near 0 0 bare)) ∷ Lies (Some (near 1 0 wanted)) ∷ []
