@@ -33,6 +33,7 @@ pub mod Reaching
 pub mod ReachingFar
 pub mod Readings
 pub mod Releasing
+pub mod ReleasingLaw
 pub mod Renamings
 pub mod Retires
 pub mod Rounding
@@ -40,4 +41,5 @@ pub mod SealedKept
 pub mod Settled
 pub mod SpanLists
 pub mod Starts
+pub mod Whole
 pub mod Written

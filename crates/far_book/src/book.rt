@@ -42,6 +42,7 @@ mod next;
 mod over_plain;
 mod renaming;
 mod round;
+mod whole;
 mod words;
 
 use crate::book::words::near_word;

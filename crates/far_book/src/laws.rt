@@ -3,7 +3,7 @@
 ghost use Rattle.std.specs.Prelude.{◌≡◌, ◌*◌, ◌<◌, ◌≤◌, ℕ, true};
 ghost use Rattle.far_book.specs.book.Ages.{FetchingSealsBehind, MovingSealsBehind, PlacingSealsBehind, WithoutKeepsAges};
 ghost use Rattle.far_book.specs.book.Deeds.{EventsAreDeeds, LoadsGiveStored};
-ghost use Rattle.far_book.specs.book.Laws.{EvictingIsLegal, PlacingIsLegal, RetiringIsLegal, FetchingIsLegal, MovingIsLegal, StayingIsLegal};
+ghost use Rattle.far_book.specs.book.Laws.{EvictingIsLegal, PlacingIsLegal, RetiringIsLegal, FetchingIsLegal, MovingIsLegal, ReleasingIsLegal, StayingIsLegal};
 ghost use Rattle.far_book.specs.book.SealedLogs.{SealedLogsKept};
 ghost use Rattle.far_book.specs.book.NextLive.{LivesFromStart, LivesBehind, SpansAreBounded};
 
@@ -47,6 +47,12 @@ pub fn moving_is_legal()
 /// world the object is marked no more. No other cell, no word, tail or kind of a log changes.
 pub fn staying_is_legal()
     ensures { StayingIsLegal }
+{}
+
+/// Giving back a sealed log in which no object lies is one legal event of the core; the law of the core is kept, and in the world
+/// its group is given back. The log is free and empty, and out of the round; all else stays, who was seen clear in the round too.
+pub fn releasing_is_legal()
+    ensures { ReleasingIsLegal }
 {}
 
 /// The book's effects leave the sealed logs as they are, but that objects may have left them: no object comes to lie in one, and none that stays

@@ -1,6 +1,5 @@
 -- What a typed call leaves: the state after its event, which keeps the law.
-use Rattle.std.proofs.Common.{◌≢◌, ◌≡◌, ◌∙◌, ℕ, ◌+◌, ◌-◌, ◌*◌, ◌^◌, ◌/◌, ◌<◌, ◌≤◌, Bool, Some, ap, arith, refl, sym, true}
-use Rattle.std.proofs.lemmas.Bool.{cond_both}
+use Rattle.std.proofs.Common.{◌≡◌, ◌∙◌, ℕ, ◌+◌, ◌-◌, ◌*◌, ◌^◌, ◌/◌, ◌<◌, ◌≤◌, Bool, Some, ap, arith, refl, sym, true}
 use Rattle.std.proofs.lemmas.Bool.Decides.{nat_tests}
 use Rattle.std.specs.Prelude.{is_some, IsSome, IsTrue, ◌==◌, ◌↔◌}
 use Rattle.far_word.specs.declared.sizes.TheConstants.{CELLS, LOG_WORDS}
@@ -9,12 +8,10 @@ use Rattle.far_word.proofs.PointerLaws.{read_says}
 use Rattle.far_word.specs.declared.pointer.Place.{Place}
 use Rattle.far_word.specs.declared.pointer.PtrWord.TheVariants.{Near}
 use Rattle.far_core.specs.declared.event.Event.{Event}
-use Rattle.far_core.specs.declared.event.Event.TheVariants.{Name, Store}
-use Rattle.far_core.specs.declared.event.Reply.{Reply}
-use Rattle.far_core.specs.declared.event.Reply.TheVariants.{Done, Word}
+use Rattle.far_core.specs.declared.event.Event.TheVariants.{Store}
 use Rattle.far_core.specs.events.Legal.{Legal}
 use Rattle.far_core.specs.events.Next.{next_state}
-use Rattle.far_core.specs.events.Step.{Fits, after, answer, data_len, data_word, holds, is_legal, near_data, near_len}
+use Rattle.far_core.specs.events.Step.{Fits, after, data_len, data_word, holds, is_legal, near_data, near_len}
 use Rattle.far_core.specs.state.Law.{Law}
 use Rattle.far_core.specs.state.State.{State, addr}
 use Rattle.far_core.proofs.Cells.{held_near}
@@ -51,10 +48,6 @@ data_inside s law p place held =
     let len : data_len s p ≡ near.len = ap near_len near.near in
     let says = read_says (s.cell p) (Near near.len near.ds place near.marks) (law.cells.cell_read p).0 near.near in
     omega (arith, word_inside s law p (words_for (data_len s p) - 1) place held (omega (arith, says.0, len)))
-
--- a legal naming wins or finds another word
-pub name_replies : (s : State) (p old new : ℕ) (r : Reply) → r ≡ answer s (Name p old new) → r ≢ Done → ¬ ((x : ℕ) → r ≢ Word x)
-name_replies s p old new r is done word = cond_both (s.cell p == old) Done (Word (s.cell p)) (λ a. r ≢ a) (λ _ e. done e) (λ _ e. word (s.cell p) e) is
 
 -- the guard of a store by what its caller knows
 pub store_legal : (s : State) (m p i w : ℕ) → Law s → p / CELLS ≡ m → IsSome (s.held p) → i < words_for (data_len s p) → w < 2 ^ (8 * (data_len s p - 8 * i)) → Legal s (Store m p i w)

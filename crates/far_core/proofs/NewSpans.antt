@@ -57,6 +57,7 @@ takes_span s law p new len place = record {
   begins = put_same s.starts (addr place) true (addr place) refl;
   starts = λ a ne. put_other s.starts (addr place) true a ne;
   round = refl;
+  clear = refl;
   stored = refl;
 }
 

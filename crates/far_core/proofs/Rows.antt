@@ -1,11 +1,11 @@
 -- Words of which some are those of a row.
-use Rattle.std.proofs.Common.{◌≢◌, ◌≡◌, ℕ, suc, ◌+◌, ◌-◌, ◌<◌, ◌≤◌, ◌⊎◌, true, false, cond, ◌&&◌, nat_lt, nat_le, refl, sym, ap, ◌∙◌, arith, inl, inr, List, ◌++◌, length, take, drop, get_or}
-use Rattle.std.specs.Prelude.{replicate}
-use Rattle.std.proofs.lemmas.List.{get_or-append_right, get_or_append_left, get_or-take, get_or-drop, length-drop, length-replicate, length-take-le, length-append, with_items_is}
+use Rattle.std.proofs.Common.{◌≢◌, ◌≡◌, ℕ, suc, ◌+◌, ◌-◌, ◌*◌, ◌/◌, ◌<◌, ◌≤◌, ◌⊎◌, true, false, cond, ◌&&◌, nat_lt, nat_le, refl, sym, ap, ◌∙◌, arith, inl, inr, List, ◌++◌, length, take, drop, get_or}
+use Rattle.std.specs.Prelude.{◌==◌, replicate}
+use Rattle.std.proofs.lemmas.List.{get_or-append_right, get_or_append_left, get_or-replicate, get_or-take, get_or-drop, length-drop, length-replicate, length-take-le, length-append, with_items_is}
 use Rattle.std.specs.Vec.{with_items}
 use Rattle.std.specs.declared.vec.Vec.{Vec}
 use borrow.Rule.Slice.PartMut.{put_mid, post_of, mid_of}
-use Rattle.std.proofs.lemmas.Bool.{cases_lt, cases_eq}
+use Rattle.std.proofs.lemmas.Bool.{cases_lt, cases_eq, eq-eqb, ne_eqb}
 use Rattle.std.proofs.lemmas.Bool.Decides.{nat_tests}
 use mathlib.Core.Path.{fun_ext}
 use Rattle.far_core.specs.state.State.{put}
@@ -59,22 +59,22 @@ row_first word a n x row e = row_is word (with_row (put word a x) (a + 1) n (λ 
       apart k (inr high) h = omega arith
 
 -- ---- a row written over a part of a list
-written_in : (xs ys : List ℕ) (a k q : ℕ) → k ≡ length ys → a + k ≤ length xs → a ≤ q → q < a + length ys → get_or (put_mid a k xs ys) q 0 ≡ get_or ys (q - a) 0
-written_in xs ys a k q n fits low high =
-    get_or-append_right (take a xs) (ys ++ post_of a k xs) a q 0 (length-take-le a xs (omega arith)) low
-    ∙ get_or_append_left ys (post_of a k xs) 0 (q - a) (omega arith)
+written_in : {X : Type 0} (xs ys : List X) (d : X) (a k q : ℕ) → k ≡ length ys → a + k ≤ length xs → a ≤ q → q < a + length ys → get_or (put_mid a k xs ys) q d ≡ get_or ys (q - a) d
+written_in xs ys d a k q n fits low high =
+    get_or-append_right (take a xs) (ys ++ post_of a k xs) a q d (length-take-le a xs (omega arith)) low
+    ∙ get_or_append_left ys (post_of a k xs) d (q - a) (omega arith)
 
-written_out : (xs ys : List ℕ) (a k q : ℕ) → k ≡ length ys → a + k ≤ length xs → (q < a) ⊎ (a + length ys ≤ q) → get_or (put_mid a k xs ys) q 0 ≡ get_or xs q 0
-written_out xs ys a k q n fits (inl low) =
+written_out : {X : Type 0} (xs ys : List X) (d : X) (a k q : ℕ) → k ≡ length ys → a + k ≤ length xs → (q < a) ⊎ (a + length ys ≤ q) → get_or (put_mid a k xs ys) q d ≡ get_or xs q d
+written_out xs ys d a k q n fits (inl low) =
     let long : length (take a xs) ≡ a = length-take-le a xs (omega arith) in
-    get_or_append_left (take a xs) (ys ++ post_of a k xs) 0 q (omega (arith, long)) ∙ get_or-take a xs q 0 low
-written_out xs ys a k q n fits (inr high) =
-    get_or-append_right (take a xs) (ys ++ post_of a k xs) a q 0 (length-take-le a xs (omega arith)) (omega arith)
-    ∙ get_or-append_right ys (post_of a k xs) (length ys) (q - a) 0 refl (omega arith)
-    ∙ get_or-drop k (drop a xs) (q - a - length ys) 0 ∙ get_or-drop a xs (k + (q - a - length ys)) 0
-    ∙ (let at : a + (k + (q - a - length ys)) ≡ q = omega arith in ap (λ i. get_or xs i 0) at)
+    get_or_append_left (take a xs) (ys ++ post_of a k xs) d q (omega (arith, long)) ∙ get_or-take a xs q d low
+written_out xs ys d a k q n fits (inr high) =
+    get_or-append_right (take a xs) (ys ++ post_of a k xs) a q d (length-take-le a xs (omega arith)) (omega arith)
+    ∙ get_or-append_right ys (post_of a k xs) (length ys) (q - a) d refl (omega arith)
+    ∙ get_or-drop k (drop a xs) (q - a - length ys) d ∙ get_or-drop a xs (k + (q - a - length ys)) d
+    ∙ (let at : a + (k + (q - a - length ys)) ≡ q = omega arith in ap (λ i. get_or xs i d) at)
 
-written_len : (a k : ℕ) (xs ys : List ℕ) → a + k ≤ length xs → length ys ≡ k → length (put_mid a k xs ys) ≡ length xs
+written_len : {X : Type 0} (a k : ℕ) (xs ys : List X) → a + k ≤ length xs → length ys ≡ k → length (put_mid a k xs ys) ≡ length xs
 written_len a k xs ys fits same = omega (arith, length-append (take a xs) (ys ++ post_of a k xs), length-append ys (post_of a k xs), length-take-le a xs (omega arith), length-drop k (drop a xs), length-drop a xs)
 
 module _ {Z : Type 0} (v : Vec ℕ Z) (xs ys : List ℕ) (a k : ℕ) (same : xs ≡ v.items) where
@@ -86,7 +86,7 @@ module _ {Z : Type 0} (v : Vec ℕ Z) (xs ys : List ℕ) (a k : ℕ) (same : xs 
       (λ i q. get_or (with_items v (put_mid a k (same i) (is i))).items q 0)
       ∙ (λ i q. get_or (with_items_is v (put_mid a k v.items zs) long i) q 0)
       ∙ row_is (λ q. get_or v.items q 0) (λ q. get_or (put_mid a k v.items zs) q 0) a (length zs) (λ i. get_or zs i 0)
-      (λ q low high. written_in v.items zs a k q n (omega arith) low high) (λ q out. written_out v.items zs a k q n (omega arith) out)
+      (λ q low high. written_in v.items zs 0 a k q n (omega arith) low high) (λ q out. written_out v.items zs 0 a k q n (omega arith) out)
 
   -- a `Vec` with its part from a on filled with 0
   pub zeros_written : (n : ℕ) → ys ≡ replicate (length (mid_of a k xs)) 0 → k ≡ n → a + n ≤ length v.items →
@@ -97,3 +97,36 @@ module _ {Z : Type 0} (v : Vec ℕ Z) (xs ys : List ℕ) (a k : ℕ) (same : xs 
       let long : length (replicate n 0) ≡ n = length-replicate n 0 in
       row_written (replicate n 0) (is ∙ ap (λ m. replicate m 0) part) (size ∙ sym long) (omega (arith, long))
       ∙ (λ i. with_row (λ q. get_or v.items q 0) a (long i) (λ q. row_of (replicate n 0) n 0 refl q i))
+
+-- a row whose part m, of the parts of 128, is x
+abbrev with_part : {X : Type 0} → (ℕ → X) → X → ℕ → ℕ → X
+with_part f x m q = cond (q / 128 == m) x (f q)
+
+-- one of the parts of 128 of a `Vec` filled with x
+module _ {X Z : Type 0} (v : Vec X Z) (xs ys : List X) (a k : ℕ) (same : xs ≡ v.items) (x d : X) (m : ℕ) (first : a ≡ m * 128) (size : k ≡ 128)
+    (is : ys ≡ replicate (length (mid_of a k xs)) x) (fits : a + 128 ≤ length v.items) where
+  filled_list : (with_items v (put_mid a k xs ys)).items ≡ put_mid a k v.items (replicate k x)
+  filled_list =
+      let behind : length (drop a xs) ≡ length v.items - a = length-drop a xs ∙ ap (λ l. length l - a) same in
+      let part : length (mid_of a k xs) ≡ k = length-take-le k (drop a xs) (omega (arith, behind)) in
+      let long : length (put_mid a k v.items (replicate k x)) ≡ v.len = written_len a k v.items (replicate k x) (omega arith) (length-replicate k x) ∙ sym v.ok.0 in
+      (λ i. (with_items v (put_mid a k (same i) ((is ∙ ap (λ n. replicate n x) part) i))).items) ∙ with_items_is v (put_mid a k v.items (replicate k x)) long
+
+  filled_at : (q : ℕ) → get_or (put_mid a k v.items (replicate k x)) q d ≡ with_part (λ q. get_or v.items q d) x m q
+  filled_at q = elim (cases_eq (q / 128) m) [
+    | inl e ↦ written_in v.items (replicate k x) d a k q (sym long) (omega arith) (omega arith) (omega (arith, long))
+        ∙ get_or-replicate k (q - a) x d (omega arith) ∙ sym (ap (λ b. cond b x (get_or v.items q d)) (eq-eqb (q / 128) m e))
+    | inr ne ↦ written_out v.items (replicate k x) d a k q (sym long) (omega arith) (outside ne)
+        ∙ sym (ap (λ b. cond b x (get_or v.items q d)) (ne_eqb (q / 128) m ne))
+  ] where
+    long : length (replicate k x) ≡ k
+    long = length-replicate k x
+
+    outside : q / 128 ≢ m → (q < a) ⊎ (a + length (replicate k x) ≤ q)
+    outside ne = elim (cases_lt q a) [
+      | inl low ↦ inl low
+      | inr high ↦ inr (omega (arith, long))
+    ]
+
+  pub part_filled : (λ (q : ℕ). get_or (with_items v (put_mid a k xs ys)).items q d) ≡ with_part (λ q. get_or v.items q d) x m
+  part_filled = fun_ext (λ q. ap (λ l. get_or l q d) filled_list ∙ filled_at q)

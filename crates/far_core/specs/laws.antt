@@ -1,5 +1,7 @@
 pub mod Agreement
 pub mod Live
+pub mod Namings
 pub mod Observed
 pub mod Rooms
+pub mod Rounds
 pub mod Worlds

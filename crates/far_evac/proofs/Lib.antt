@@ -57,5 +57,4 @@ pub mod Waits
 pub mod Walking
 pub mod WalkingOn
 pub mod Walks
-pub mod Ways
 pub mod worked

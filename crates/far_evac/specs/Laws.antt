@@ -1,14 +1,10 @@
 -- What the definitions of a round come to, in other words.
-use Rattle.std.specs.Prelude.{◌≡◌, ℕ, ◌+◌, ◌*◌, ◌/◌, ◌<◌, ◌≤◌, ◌↔◌, ◌⊎◌, ◌&&◌, cond, Bool, true, false, Some, eqb, List, [], ◌∷◌, length, take, drop, Contains, ◌≢◌, ◌^◌, Option, option_map, IsSome, zero, suc, None}
+use Rattle.std.specs.Prelude.{◌≡◌, ℕ, ◌+◌, ◌*◌, ◌/◌, ◌<◌, ◌≤◌, ◌↔◌, ◌⊎◌, ◌&&◌, cond, true, false, Some, eqb, List, [], ◌∷◌, length, take, drop, Contains, ◌≢◌, ◌^◌, Option, option_map, IsSome, zero, suc, None}
 use Rattle.std.specs.List.{AllByRecursion, IsDistinct}
 use Rattle.far_word.specs.declared.sizes.TheConstants.{CELLS}
 use Rattle.far_word.specs.declared.pointer.Place.{Place}
-use Rattle.far_word.specs.declared.mark.Marks.{Marks}
 use Rattle.far_word.specs.declared.pointer.PtrWord.{PtrWord}
-use Rattle.far_word.specs.declared.pointer.PtrWord.TheVariants.{Near}
 use Rattle.far_word.specs.Pointer.{read_of, without_evac}
-use Rattle.far_word.specs.Sizes.{size_of}
-use Rattle.far_log.specs.declared.span.Span.{Span}
 use Rattle.far_book.specs.book.Dealing.{has_evac}
 use Rattle.far_word.specs.declared.scope.ScopeWord.TheVariants.{Closed, Open}
 use Rattle.far_word.specs.Scope.{scope_of}
@@ -19,8 +15,6 @@ use Rattle.far_core.specs.events.Step.{after}
 use Rattle.far_core.specs.state.Law.{Law}
 use Rattle.far_book.specs.book.Own.{own_part}
 use Rattle.far_core.specs.events.Naming.{is_dropped}
-use Rattle.far_core.specs.state.Room.{room}
-use Rattle.far_core.specs.state.Spans.{names_place}
 use Rattle.far_core.specs.state.State.{State}
 use Rattle.far_book.specs.declared.home.Home.{Home}
 use Rattle.far_book.specs.book.Home.{home_of}
@@ -31,7 +25,7 @@ use Rattle.far_evac.specs.declared.phase.Phase.TheVariants.{Idle, Waiting, Evacu
 use Rattle.far_evac.specs.AnyHand.{Polls, RunsRound, WalksTo, Walks}
 use Rattle.far_evac.specs.Choosing.{after_aborting, after_selecting}
 use Rattle.far_evac.specs.Dealings.{DealsWith, GivesBack, says}
-use Rattle.far_evac.specs.Live.{is_empty, lacking, live_among, live_in, pointers_of}
+use Rattle.far_evac.specs.Live.{is_empty, lacking, live_among, live_in}
 use Rattle.far_evac.specs.Marking.{after_marking, leaves_some, newly_marked, waiting_for}
 use Rattle.far_evac.specs.Moment.{Moment, Tally, objects_in, plus}
 use Rattle.far_evac.specs.MomentLaw.{MomentLaw, has_risen}
@@ -40,7 +34,7 @@ use Rattle.far_evac.specs.RoundSteps.{advanced, among, is_clear_now, with_clear_
 use Rattle.far_evac.specs.Stops.{toured}
 use Rattle.far_evac.specs.Turns.{round_end, turns_made}
 use Rattle.far_evac.specs.Waiting.{after_polling, first_open, holds_up, polled}
-use Rattle.far_evac.specs.Walk.{Drops, Goes, Moves, Walked, Way, is_done, left, walked, way_of}
+use Rattle.far_evac.specs.Walk.{Walked, is_done, left, walked}
 
 -- what a walk does where no word changes but by it, it may do over any hand
 abbrev pub ExactIsAllowed : Type 0
@@ -80,26 +74,6 @@ pub record DealtInOrder (m : Moment) (k : ℕ) (t : Walked) : Type 0 where
 -- over any hand the k-th dealing is with the k-th live object
 abbrev pub DealingIsInOrder : Type 0
 DealingIsInOrder = (m : Moment) (k : ℕ) (t : Walked) → Ready m.core m.held → WalksTo m k t → DealtInOrder m k t
-
--- how a live object is dealt with, by the marks that were found and by the place that there is for a hot one: it is retired exactly where its owner has dropped it; it goes to that
--- place exactly where it is hot, and wasn't dropped; and far exactly where it wasn't dropped, and is cold, or no place is there
-pub record IsWay (dropped hot : Bool) (place : Option Place) (way : Way) : Type 0 where
-  pub drops : (way ≡ Drops) ↔ (dropped ≡ true)
-  pub moves : (to : Place) → (way ≡ Moves to) ↔ ((dropped ≡ false) × (hot ≡ true) × (place ≡ Some to))
-  pub goes : (way ≡ Goes) ↔ ((dropped ≡ false) × ((hot ≡ false) ⊎ (place ≡ None)))
-
-abbrev pub WaysAreSo : Type 0
-WaysAreSo = (s : State) (word len ds : ℕ) (place : Place) (marks : Marks) → read_of word ≡ Some (Near len ds place marks) →
-    IsWay marks.dropped marks.hot (room s (size_of len) false) (way_of s (read_of word))
-
--- the live objects of a log, in the order in which they are dealt with, lie one behind the other
-abbrev pub Rises : List Span → Type 0
-Rises [] = Unit {0}
-Rises (span ∷ spans) = AllByRecursion (λ (next : Span). span.at + size_of span.len ≤ next.at) spans × Rises spans
-
-abbrev pub LiveRise : Type 0
-LiveRise = (s : State) (l : ℕ) → (spans : List Span) × (live_in s l ≡ pointers_of spans)
-    × AllByRecursion (λ (span : Span). names_place (read_of (s.cell span.p)) l span.at ≡ true) spans × Rises spans
 
 -- once the epoch has risen for a round, the law of the book's part of the core and that of the moment make it ready
 abbrev pub RisenIsReady : Type 0

@@ -6,7 +6,7 @@ ghost use Rattle.far_evac.specs.Owned.{AbortingKeepsObjects, MarkingKeepsObjects
 ghost use Rattle.far_evac.specs.Emptied.{LogsComeBackEmpty};
 ghost use Rattle.far_evac.specs.LiveLaws.{LiveIsInOrder};
 ghost use Rattle.far_evac.specs.WayLaws.{ObjectsGoTheirWay};
-ghost use Rattle.far_evac.specs.Laws.{CensusIsExact, ClearIsShown, ClearMeansUnviewed, ClearViewsNothing, DealingIsInOrder, ExactIsAllowed, GivingUpIsRight, LiveRise, LooksSeeClear, MarkingIsCounted, MarkingIsRight, PollIsAllowed, PollIsOnce, RisenIsReady, RoundIsAllowed, RoundIsEvent, WaitIsNamed, WaitingStays, WalkIsTour, WalksJoin, WaysAreSo};
+ghost use Rattle.far_evac.specs.Laws.{CensusIsExact, ClearIsShown, ClearMeansUnviewed, ClearViewsNothing, DealingIsInOrder, ExactIsAllowed, GivingUpIsRight, LooksSeeClear, MarkingIsCounted, MarkingIsRight, PollIsAllowed, PollIsOnce, RisenIsReady, RoundIsAllowed, RoundIsEvent, WaitIsNamed, WaitingStays, WalkIsTour, WalksJoin};
 ghost use Rattle.far_evac.specs.worked.Rows.{EmptiestIsFirst, EpochsAreNamed, FirstLiesFirst, GivenUp, HotWithoutRoom, LastEpoch, NothingToChoose, OldEpoch, OldView, OldestIsFirst, OpenScopeIsWaitedFor, OpenedAnew, OwnerIsFirst, PhasesAreKept, PlainRound, ReserveIsKept, StepByStep, TurnsRunOut};
 
 /// The exact walk, over words that nobody else changes, is one of those that are allowed over any hand.
@@ -49,17 +49,6 @@ pub fn dealing_is_in_order()
 /// retired, a cold one goes far, and a hot one to where there is room then, or far where there is none. It has no marks after.
 pub fn objects_go_their_way()
     ensures { ObjectsGoTheirWay }
-{}
-
-/// A live object is dealt with as the word says that was found in its cell: a hot one goes far only where no room is for it, and another exactly
-/// where it wasn't dropped.
-pub fn ways_are_so()
-    ensures { WaysAreSo }
-{}
-
-/// The live objects of a log, in the order in which a round marks them and deals with them, lie one behind the other.
-pub fn live_objects_rise()
-    ensures { LiveRise }
 {}
 
 /// Marking sets EVAC in the first n live objects that lack it, or in all, and changes nothing else in any cell; where none is left, each

@@ -1,3 +1,4 @@
+pub mod Ages
 pub mod Alone
 pub mod Answers
 pub mod Audit
@@ -8,6 +9,7 @@ pub mod Effects
 pub mod EventRows
 pub mod Events
 pub mod Headline
+pub mod HowMany
 pub mod Interpreter
 pub mod Moment
 pub mod Objects
@@ -15,5 +17,6 @@ pub mod Outcome
 pub mod Reply
 pub mod Rounds
 pub mod Stays
+pub mod Steps
 pub mod Stream
 pub mod Turn

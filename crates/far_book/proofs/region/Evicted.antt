@@ -6,6 +6,7 @@ use Rattle.far_word.specs.declared.pointer.Place.{Place}
 use Rattle.far_word.specs.declared.pointer.PtrWord.TheVariants.{Near, Far}
 use Rattle.far_word.specs.Pointer.{IsPtr, read_of}
 use Rattle.far_word.specs.Sizes.{words_for}
+use Rattle.far_word.proofs.PointerLaws.{read_back}
 use Rattle.far_core.specs.events.Copies.{data_at}
 use Rattle.far_core.specs.events.Naming.{is_dropped, no_marks}
 use Rattle.far_core.specs.events.namings.Evicts.{with_kept}
@@ -79,6 +80,8 @@ module _ (s t u : State) (p w : ℕ) (seen_is : t ≡ seen s p w) (leaves : Leav
 
       pub goes_far : GoesFar s v p
       goes_far = record {
+        alive = ap is_dropped known_near.1 ∙ known_near.2;
+        far = (len, ds, ap read_of (ap (λ (x : State). x.cell p) far_is ∙ put_same s.cell p (far_word len ds) p refl) ∙ read_back (Far len ds no_marks) layout);
         leads = far_is ∙ (λ i. record s { cell = put s.cell p (far_word len ds); word = v.word; stored = sym stored_is i })
             ∙ ap (λ (x : State). record x { word = v.word; stored = v.stored }) (sym (evicted_is s p len ds place layout known_near.0 known_near.1 known_near.2 known_near.3));
         stored = λ n d at k is i lt.

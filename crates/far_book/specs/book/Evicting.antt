@@ -2,10 +2,11 @@
 use Rattle.std.specs.Prelude.{◌≡◌, ◌≢◌, ℕ, ◌+◌, ◌<◌, ◌≤◌, true, false, Some}
 use Rattle.far_word.specs.declared.mark.Marks.{Marks}
 use Rattle.far_word.specs.declared.pointer.Place.{Place}
-use Rattle.far_word.specs.declared.pointer.PtrWord.TheVariants.{Near}
+use Rattle.far_word.specs.declared.pointer.PtrWord.TheVariants.{Near, Far}
 use Rattle.far_word.specs.declared.sizes.TheConstants.{LOG_WORDS, LONGEST}
 use Rattle.far_word.specs.Pointer.{read_of}
 use Rattle.far_word.specs.Sizes.{words_for}
+use Rattle.far_core.specs.events.Naming.{is_dropped, no_marks}
 use Rattle.far_core.specs.state.State.{State, addr}
 use Rattle.far_book.specs.Known.{IsKnown, IsPaddedAt, KeepsKnown}
 use Rattle.far_book.specs.Quiet.{IsQuietAt, is_quiet}
@@ -32,8 +33,11 @@ pub record Learns (s : State) (word : ℕ → ℕ) (place : Place) (n : ℕ) : T
   pub padded : (i : ℕ) → i < n → IsPaddedAt s (addr place + 1 + i) (word (addr place + 1 + i))
   pub others : (a : ℕ) → ((i : ℕ) → i < n → a ≢ addr place + 1 + i) → word a ≡ s.word a
 
--- from s to t p's object has gone far, in a state as far as it is known: what is stored are words that it had
+-- from s to t p's object has gone far, in a state as far as it is known: what is stored are words that it had;
+-- its owner hadn't asked for it to be dropped, and its cell says far, without marks
 pub record GoesFar (s t : State) (p : ℕ) : Type 0 where
+  pub alive : is_dropped (read_of (s.cell p)) ≡ false
+  pub far : (len ds : ℕ) × (read_of (t.cell p) ≡ Some (Far len ds no_marks))
   pub leads : t ≡ record (evicted s p) { word = t.word; stored = t.stored }
   pub stored : (len ds : ℕ) (place : Place) (marks : Marks) → read_of (s.cell p) ≡ Some (Near len ds place marks) → (i : ℕ) → i < words_for len →
       IsKnown (t.stored p i) × (IsKnown (s.word (addr place + 1 + i)) → t.stored p i ≡ s.word (addr place + 1 + i))

@@ -1,6 +1,6 @@
 -- That the effects of the book's calls are reached by legal events, keep the law of the core, and make one step of the world; and
 -- what they are in the subject's words.
-use Rattle.std.specs.Prelude.{◌≡◌, ◌≢◌, ◌⊎◌, ℕ, ◌+◌, ◌*◌, ◌<◌, ◌≤◌, true, false, Some}
+use Rattle.std.specs.Prelude.{◌≡◌, ◌≢◌, ◌⊎◌, ℕ, ◌+◌, ◌*◌, ◌<◌, ◌≤◌, true, false, Some, []}
 use Rattle.far_word.specs.declared.mark.Marks.{Marks}
 use Rattle.far_word.specs.declared.pointer.Place.{Place}
 use Rattle.far_word.specs.declared.pointer.PtrWord.TheVariants.{Near, Far}
@@ -8,17 +8,20 @@ use Rattle.far_word.specs.declared.sizes.TheConstants.{CELLS, LONGEST}
 use Rattle.far_word.specs.Header.{head_word}
 use Rattle.far_word.specs.Pointer.{read_of}
 use Rattle.far_word.specs.Sizes.{size_of, words_for}
-use Rattle.far_core.specs.declared.event.Kind.TheVariants.{Open, Sealed}
+use Rattle.far_core.specs.declared.event.Kind.TheVariants.{Free, Open, Sealed}
 use Rattle.far_core.specs.events.Copies.{Alike, data_at}
+use Rattle.far_core.specs.events.Get.{IsVacant}
 use Rattle.far_core.specs.events.Naming.{is_dropped, no_marks}
 use Rattle.far_core.specs.events.Quiet.{is_quiet}
 use Rattle.far_core.specs.state.Law.{Law, Blank, IsStored}
 use Rattle.far_core.specs.state.Room.{room}
+use Rattle.far_core.specs.state.Spans.{spans_of}
 use Rattle.far_core.specs.state.State.{State, addr}
-use Rattle.far_core.specs.world.Changes.{Step, GoesFar, Makes, ComesNear, Moves, Unmarks}
+use Rattle.far_core.specs.world.Changes.{Step, GoesFar, Makes, ComesNear, Moves, Releases, Unmarks}
 use Rattle.far_core.specs.world.WorldOf.{world_of}
 use Rattle.far_book.specs.book.Effects.{evicted, placed, retired, fetched, moved, stayed}
 use Rattle.far_book.specs.book.Reached.{Reached}
+use Rattle.far_book.specs.book.Releasing.{released}
 
 -- from s to t p has got an object: its cell says near, at the place, with the length and the data structure and without marks; its
 -- header stands there, and zeros behind it; its log is the open one, and ends later by the object's size. All other cells, words
@@ -128,3 +131,22 @@ MovingIsLegal = (s : State) (p len ds : ℕ) (from to : Place) (marks : Marks) �
 abbrev pub StayingIsLegal : Type 0
 StayingIsLegal = (s : State) (p len ds : ℕ) (place : Place) (marks : Marks) → Law s → read_of (s.cell p) ≡ Some (Near len ds place marks) → marks.moved ≡ true → marks.dropped ≡ false → marks.evac ≡ false →
     Reached s (stayed s p) × Law (stayed s p) × Step (Unmarks p) (world_of s) (world_of (stayed s p)) × IsUnmarked s (stayed s p) p len ds place
+
+-- from s to t a log has been given back: it is free and empty, has no spans, and is out of the round. The kind, the tail and the
+-- spans of all other logs stay, and whether the round has them; and so does all else: cells, words and stored words, the open log, the epoch,
+-- who was seen clear in the round, and what owners have
+pub record IsReleased (s t : State) (l : ℕ) : Type 0 where
+  pub kind : t.kind l ≡ Free
+  pub tail : t.tail l ≡ 0
+  pub round : t.round l ≡ false
+  pub empty : spans_of t l ≡ []
+  pub kinds : (k : ℕ) → k ≢ l → t.kind k ≡ s.kind k
+  pub tails : (k : ℕ) → k ≢ l → t.tail k ≡ s.tail k
+  pub rounds : (k : ℕ) → k ≢ l → t.round k ≡ s.round k
+  pub spans : (k : ℕ) → k ≢ l → spans_of t k ≡ spans_of s k
+  pub rest : t ≡ record s { kind = t.kind; tail = t.tail; starts = t.starts; round = t.round }
+
+-- a sealed log in which no object lies, dropped or not: in the world its group is given back, and nothing else changes
+abbrev pub ReleasingIsLegal : Type 0
+ReleasingIsLegal = (s : State) (l : ℕ) → Law s → s.kind l ≡ Sealed → IsVacant s l →
+    Reached s (released s l) × Law (released s l) × Step (Releases l) (world_of s) (world_of (released s l)) × IsReleased s (released s l) l

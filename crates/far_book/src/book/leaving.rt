@@ -41,6 +41,7 @@ impl<N: Near + Drop, D: Device + Drop> Book<N, D> {
         ensures away { N.still → result ≡ Ok true → N.view self.new.near ≡ evicted (N.view self.old.near) pointer }
         ensures gone { result ≡ Ok false → IsRetired N.still (N.view self.old.near) (N.view self.new.near) pointer }
         ensures freed { result ≡ Ok false → KeepsKnown (N.view self.old.near) (N.view self.new.near) }
+        ensures asked { is_dropped (read_of ((N.view self.old.near).cell pointer)) ≡ true → result ≡ Ok false }
         ensures alive { N.still → IfOk result (λ far. far ≡ not (is_dropped (read_of ((N.view self.old.near).cell pointer)))) }
         ensures kept { IfErr result (λ _. IsSeen (N.view self.old.near) (N.view self.new.near) pointer) }
         ensures same { N.still → IfErr result (λ _. N.view self.new.near ≡ N.view self.old.near) }

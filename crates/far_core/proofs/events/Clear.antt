@@ -166,6 +166,8 @@ module _ (p : ℕ) where
       refl,
       refl,
       refl,
+      refl,
+      refl,
     );
     silent = λ s t h. h;
     answers = λ s x. cc;

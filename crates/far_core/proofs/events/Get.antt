@@ -192,6 +192,7 @@ frees s l = record {
   begins = λ a e. cond_both (nat_eq (a / LOG_WORDS) l) false (s.starts a) (λ b. b ≡ false) (λ _. refl) (λ ne. absurd (false≢true (sym ne ∙ eq-eqb _ _ e)));
   others = λ k ne. (put_other s.kind l Free k ne, put_other s.tail l 0 k ne, put_other s.round l false k ne);
   starts = λ a ne. cond_both (nat_eq (a / LOG_WORDS) l) false (s.starts a) (λ b. b ≡ s.starts a) (λ e. absurd (ne (eqb-true _ _ e))) (λ _. refl);
+  rest = refl;
 }
 
 -- ---- by whether the log is given back

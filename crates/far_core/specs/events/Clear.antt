@@ -39,10 +39,10 @@ round_left round (Some (Far len ds m)) = round
 abbrev pub LeavesRound : State → ℕ → State → Type 0
 LeavesRound s w t = (len ds : ℕ) (place : Place) (m : Marks) → read_of w ≡ Some (Near len ds place m) → (t.round place.log ≡ false) × ((l : ℕ) → l ≢ place.log → t.round l ≡ s.round l)
 
--- the cell has no EVAC, and is as it was but for that; its log is out of the round; no log and no stored word changes
+-- the cell has no EVAC, and is as it was but for that; its log is out of the round, who was seen clear stays so, and no log and no stored word changes
 abbrev pub ClearReports : State → ℕ → Reply → State → Type 0
 ClearReports s p (Word w) t = (w ≡ s.cell p) × ((v : PtrWord) → read_of w ≡ Some v → read_of (t.cell p) ≡ Some (without_evac v)) × LeavesRound s w t
-    × (t.kind ≡ s.kind) × (t.tail ≡ s.tail) × (t.current ≡ s.current) × (t.starts ≡ s.starts) × (t.stored ≡ s.stored)
+    × (t.kind ≡ s.kind) × (t.tail ≡ s.tail) × (t.current ≡ s.current) × (t.starts ≡ s.starts) × (t.stored ≡ s.stored) × (t.clear ≡ s.clear) × (t.round_epoch ≡ s.round_epoch)
 ClearReports s p r t = ⊥
 
 abbrev pub clear_rule : State → ℕ → Rule

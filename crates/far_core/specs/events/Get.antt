@@ -53,12 +53,13 @@ abbrev pub after_get : State → ℕ → Bool → State
 after_get s l false = s
 after_get s l true = with_free_log s l
 
--- a log is given back: it is free, empty and out of the round; all other logs stay
+-- a log is given back: it is free, empty and out of the round; all other logs stay, and all that isn't said of logs and spans
 pub record Frees (s : State) (l : ℕ) (t : State) : Type 0 where
   pub free : (t.kind l ≡ Free) × (t.tail l ≡ 0) × (t.round l ≡ false)
   pub begins : (a : ℕ) → a / LOG_WORDS ≡ l → t.starts a ≡ false
   pub others : (k : ℕ) → k ≢ l → (t.kind k ≡ s.kind k) × (t.tail k ≡ s.tail k) × (t.round k ≡ s.round k)
   pub starts : (a : ℕ) → a / LOG_WORDS ≢ l → t.starts a ≡ s.starts a
+  pub rest : t ≡ record s { kind = t.kind; tail = t.tail; starts = t.starts; round = t.round }
 
 abbrev pub FreeReports : State → ℕ → Bool → State → Type 0
 FreeReports s l false t = t ≡ s

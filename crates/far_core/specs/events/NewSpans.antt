@@ -41,7 +41,7 @@ with_span s p new len place = record s {
 }
 
 -- a span is taken: its log ends after it and is the open one; the log that was open is sealed, if it is another; no other log
--- and no other beginning changes, nor do the round and the stored words
+-- and no other beginning changes, nor do the round, who was seen clear in it, and the stored words
 pub record Takes (s : State) (len : ℕ) (place : Place) (t : State) : Type 0 where
   pub ends : t.tail place.log ≡ place.at + size_of len
   pub opens : (t.kind place.log ≡ Open) × (t.current ≡ place.log)
@@ -50,4 +50,5 @@ pub record Takes (s : State) (len : ℕ) (place : Place) (t : State) : Type 0 wh
   pub begins : t.starts (addr place) ≡ true
   pub starts : (a : ℕ) → a ≢ addr place → t.starts a ≡ s.starts a
   pub round : t.round ≡ s.round
+  pub clear : t.clear ≡ s.clear
   pub stored : t.stored ≡ s.stored

@@ -139,11 +139,7 @@ impl Core {
         ensures won { IfOk result (λ _. answer (core_state self.old) (Event.Name pointer old new) ≡ Reply.Done) }
         ensures found { IfErr result (λ cell. answer (core_state self.old) (Event.Name pointer old new) ≡ Reply.Word cell) }
     {
-        match self.memory.name(pointer, old, new) {
-            Reply::Done => Ok(()),
-            Reply::Word(cell) => Err(cell),
-            _ => unreachable!(),
-        }
+        self.memory.name(pointer, old, new)
     }
 
     /// Word `at` of a log. With `free` the log, which is sealed and has no live span, is given back too: its spans, at most
@@ -241,7 +237,7 @@ impl Core {
 #[tactic(auto, using(crate::proofs::Calls::next_is_after))]
 impl Memory {
     /// A row an event: its test, its call and the reply.
-    #[inline]
+    #[inline(always)]
     #[rattlefmt::skip]
     fn apply(&mut self, event: Event) -> Reply
         requires { Law (state_of self.old) }
@@ -264,7 +260,8 @@ impl Memory {
                 Reply::Word(self.ask(owner, pointer, mark)),
             Event::Get { log, at, free } if self.may_get(log, at, free) => Reply::Word(self.get(log, at, free)),
             Event::Put { log, at, word } if self.may_put(log, at, word) => { self.put(log, at, word); Reply::Done }
-            Event::Name { pointer, old, new } => self.name(pointer, old, new),
+            Event::Name { pointer, old, new } if self.may_name(pointer, old, new) =>
+                match self.name(pointer, old, new) { Ok(()) => Reply::Done, Err(cell) => Reply::Word(cell) },
             Event::See { pointer } if self.has_pointer(pointer) => Reply::Word(self.cell_at(pointer)),
             Event::Mark { pointer } if self.may_mark(pointer) => Reply::Word(self.mark(pointer)),
             Event::Clear { pointer } if self.may_clear(pointer) => Reply::Word(self.clear(pointer)),
@@ -277,6 +274,7 @@ impl Memory {
 
 impl Core {
     /// Makes one event. One that isn't legal is answered [`Reply::Refused`] and changes nothing at all. Takes no memory.
+    #[inline(always)]
     pub fn step(&mut self, event: Event) -> Reply
         ensures step { (core_state self.new, result) ≡ step_of (core_state self.old) event }
         ensures legal { Legal (core_state self.old) event → (core_state self.new ≡ after (core_state self.old) event) × (result ≡ answer (core_state self.old) event) }

@@ -1,12 +1,13 @@
 //! What is true of every core, as contracts. No function here does anything when it runs.
 
-ghost use Rattle.std.specs.Prelude.{◌≡◌, ◌≢◌, ◌↔◌, ◌+◌, ◌*◌, ◌<◌, ◌≤◌, ◌||◌, ℕ, Bool, true, false, Some, None, IsSome, All};
+ghost use Rattle.std.specs.Prelude.{◌≡◌, ◌≢◌, ◌↔◌, ◌+◌, ◌*◌, ◌<◌, ◌≤◌, ◌||◌, ◌==◌, if◌then◌else◌, ℕ, Bool, true, false, Some, None, IsSome, All};
 ghost use Rattle.far_word.specs.declared.mark.Marks.{Marks};
 ghost use Rattle.far_word.specs.declared.sizes.TheConstants.{LOG_WORDS};
 ghost use Rattle.far_word.specs.Pointer.{read_of};
 ghost use Rattle.far_log.specs.declared.span.Span.{Span};
 ghost use Rattle.far_log.specs.Spans.{HasOneSpan, HasNoSpan};
 ghost use Rattle.far_log.specs.Walk.{IsWalk};
+ghost use Rattle.far_core.specs.declared.event.Kind.TheVariants.{Free, Open};
 ghost use Rattle.far_core.specs.state.Agrees.{Agrees};
 ghost use Rattle.far_core.specs.state.CoreState.{core_state};
 ghost use Rattle.far_core.specs.state.Law.{Law};
@@ -21,8 +22,10 @@ ghost use Rattle.far_core.specs.state.State.{State};
 ghost use Rattle.far_core.specs.events.Step.{is_legal};
 ghost use Rattle.far_core.specs.events.Reports.{RepliesReport, RefusalsReportNothing};
 ghost use Rattle.far_core.specs.world.World.{start};
-ghost use Rattle.far_core.specs.laws.Agreement.{ViewRests, MarksAgree, MarksExist};
+ghost use Rattle.far_core.specs.laws.Agreement.{ViewRests, MarksAgree, MarksExist, ObjectAgrees};
+ghost use Rattle.far_core.specs.laws.Namings.{NamingsArePlain};
 ghost use Rattle.far_core.specs.laws.Rooms.{RoomIsRight};
+ghost use Rattle.far_core.specs.laws.Rounds.{RoundStands, ScopesShow, OneLogIsABit, SetsAreJoined, NoLogIsZero, FiveIsTwoLogs};
 ghost use Rattle.far_core.specs.laws.Worlds.{ObjectsStand, StepsKeep, LoadsRead, StepsAreOne, LyingIsOpen, ChangesKeep, ChangesAreOne, EventsCause};
 ghost use Rattle.far_core.specs.world.WorldOf.{world_of};
 
@@ -69,7 +72,8 @@ impl Core {
     /// stored words of its length and no live span. A near cell with DROP has its one live span too, and two cells never
     /// name one place. Each object of the world has a number below 1,024, that number's owner and 1 to 1,016 bytes, and a
     /// near one lies in a held group. A view is of a near object in a held group, under an open scope; an object is marked
-    /// exactly where its word has EVAC or MOVE, and nothing else is marked.
+    /// exactly where its word has EVAC or MOVE, and nothing else is marked. The objects of the world are those of used cells without
+    /// DROP, with the bytes of their words.
     pub fn objects_have_one_place(&self)
         ensures one { (p : ℕ) → HasOnePlace (core_state self.now) p }
         ensures near { (p : ℕ) → NearHasOneLive (core_state self.now) p }
@@ -78,6 +82,15 @@ impl Core {
         ensures views { (p : ℕ) → (world_of (core_state self.now)).viewed p ≡ true → ViewRests (world_of (core_state self.now)) p }
         ensures marks { (p : ℕ) → MarksAgree (core_state self.now) p }
         ensures exist { (p : ℕ) → MarksExist (core_state self.now) p }
+        ensures agree { (p : ℕ) → ObjectAgrees (core_state self.now) p }
+    {
+        let _memory = &self.memory;
+    }
+
+    /// The logs of the round are held groups, in which each object is marked. An owner that was seen clear views none of them, nor
+    /// does one whose scope is open at the epoch or later. A scope word is 0, or says an epoch that isn't above the epoch.
+    pub fn round_stands(&self)
+        ensures { RoundStands (core_state self.now) }
     {
         let _memory = &self.memory;
     }
@@ -102,14 +115,20 @@ impl Core {
     }
 }
 
-/// The state at the start means the world at the start, and has what its shape says; nothing is remembered, and all
-/// words of the logs are 0.
+/// The state at the start means the world at the start, and has what its shape says. Nothing is remembered, no cell is
+/// used, all words of the logs are 0, and no log has a span; log 0 is open, all others are free, and there is no round.
 pub fn opening_is_start(shape: Shape, honest: bool)
     ensures world { world_of (opening shape honest) ≡ start honest }
     ensures shape { ((opening shape honest).logs ≡ shape.logs) × ((opening shape honest).mutators ≡ shape.mutators) × ((opening shape honest).epoch ≡ shape.epoch) }
     ensures honesty { (opening shape honest).honest ≡ honest }
     ensures memory { (m : ℕ) → (opening shape honest).remembered m ≡ None }
     ensures words { (a : ℕ) → (opening shape honest).word a ≡ 0 }
+    ensures cells { (p : ℕ) → (opening shape honest).cell p ≡ 0 }
+    ensures tails { (l : ℕ) → (opening shape honest).tail l ≡ 0 }
+    ensures begins { (a : ℕ) → (opening shape honest).starts a ≡ false }
+    ensures kinds { (l : ℕ) → (opening shape honest).kind l ≡ (if l == 0 then Open else Free) }
+    ensures round { (l : ℕ) → (opening shape honest).round l ≡ false }
+    ensures clear { (m : ℕ) → (opening shape honest).clear m ≡ false }
 {}
 
 /// No step of a world changes honesty, moves or changes what is viewed but by its owner's store, ends a view but by its
@@ -131,4 +150,23 @@ pub fn steps_keep_views()
 /// view of its own mutator alone, or of the book.
 pub fn events_leave_others()
     ensures { EventsLeave }
+{}
+
+/// A set of logs is a number of 64 bits: 2 to the power of l is log l alone, the bits of two sets together are both, and 0 is none.
+pub fn sets_of_logs()
+    ensures one { OneLogIsABit }
+    ensures both { SetsAreJoined }
+    ensures none { NoLogIsZero }
+    ensures five { FiveIsTwoLogs }
+{}
+
+/// The scope words that show an owner clear in a round of some epoch: 0, and 2e + 1 for each epoch e that isn't below it.
+pub fn scopes_show()
+    ensures { ScopesShow }
+{}
+
+/// A naming's new word is 0 where the old one has DROP. Else it has no mark, not HOT either, and the length and the data structure of the old
+/// one, if that wasn't 0.
+pub fn namings_are_plain()
+    ensures { NamingsArePlain }
 {}

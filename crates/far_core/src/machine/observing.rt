@@ -144,7 +144,7 @@ impl Core {
     pub fn is_held(&self, pointer: u16) -> bool
         ensures { result ≡ is_some ((core_state self.now).held pointer) }
     {
-        self.held(pointer).is_some()
+        self.memory.is_held(pointer)
     }
 
     /// The cell of a pointer; 0 for a number that is no pointer's.

@@ -1,33 +1,39 @@
 //! The events of the book.
 
-ghost use Rattle.std.specs.Prelude.{◌≡◌, ◌<◌, ◌≤◌, ◌+◌, ◌*◌, ℕ, true};
+ghost use Rattle.std.specs.Prelude.{◌≡◌, ◌<◌, ◌≤◌, ◌+◌, ◌*◌, ℕ, true, IfErr, IfOk, IsSome, None, Some};
 ghost use Rattle.far_core.specs.state.State.{State};
 ghost use Rattle.far_core.specs.declared.event.Event.{Event};
+ghost use Rattle.far_core.specs.declared.event.Reply.{Reply};
 ghost use Rattle.far_core.specs.state.Law.{Law};
 ghost use Rattle.far_core.specs.events.Clear.{is_near};
-ghost use Rattle.far_core.specs.events.Naming.{IsNaming, IsOnLayout, naming_row, no_marks};
+ghost use Rattle.far_core.specs.events.Name.{after_naming};
+ghost use Rattle.far_core.specs.events.Naming.{IsOnLayout, naming_of, naming_row, no_marks};
 ghost use Rattle.far_core.specs.events.namings.Evicts.{evicts_row, IsAt};
 ghost use Rattle.far_core.specs.events.NewSpans.{goes_at, is_new_span, with_span};
 ghost use Rattle.far_core.specs.events.Next.{next_state};
-ghost use Rattle.far_core.specs.events.Step.{answer, is_legal, step_of, is_past};
+ghost use Rattle.far_core.specs.events.Step.{answer, is_legal, is_past};
 ghost use Rattle.far_core.specs.events.Get.{is_live_at, may_free, none_live, with_free_log};
 ghost use Rattle.far_core.specs.events.Mark.{may_mark, is_sealed};
 ghost use Rattle.far_core.specs.state.Spans.{names_place};
 ghost use Rattle.far_log.specs.Spans.{pointer_in};
 ghost use Rattle.far_word.specs.Header.{head_of};
 ghost use Rattle.far_core.specs.state.Memory.{state_of};
-ghost use Rattle.far_word.specs.Pointer.{IsPtr, read_of};
+ghost use Rattle.far_word.specs.Pointer.{IsPtr, read_of, view_place};
 ghost use Rattle.far_word.specs.Sizes.{size_of};
 
-use crate::event::{Kind, Reply};
+use crate::event::Kind;
 use crate::memory::Memory;
 use crate::memory::reading::first_word;
 use crate::naming::Naming;
-use far_word::{CELLS, HeadWord, LOG_WORDS, Mark, Place, PtrWord, size_of, words_for};
+use far_word::{
+    CELLS, HeadWord, LOG_WORDS, Mark, Place, PtrWord, pointer_len, resting_place, size_of,
+    words_for,
+};
 
 #[tactic(auto, unfolding(crate::specs::events::Next::next_state))]
 impl Memory {
     pub(crate) fn may_get(&self, log: u8, at: u16, free: bool) -> bool
+        requires { Law (state_of self.now) }
         ensures { result ≡ is_legal (state_of self.now) (Event.Get log at free) }
     {
         self.has_log(log) && at < LOG_WORDS && self.may_free(log, free)
@@ -35,7 +41,8 @@ impl Memory {
 
     /// Whether a log may be given back, where it is to be.
     fn may_free(&self, log: u8, free: bool) -> bool
-        requires { log < (state_of self.now).logs }
+        requires law { Law (state_of self.now) }
+        requires log { log < (state_of self.now).logs }
         ensures { result ≡ may_free (state_of self.now) log free }
     {
         if free {
@@ -71,6 +78,7 @@ impl Memory {
 
     /// Whether none of the first words of a log is the header of a live span.
     fn none_live(&self, log: u8, words: u16) -> bool
+        requires law { Law (state_of self.now) }
         requires log { log < (state_of self.now).logs }
         requires words { words ≤ LOG_WORDS }
         ensures { result ≡ none_live (state_of self.now) log words }
@@ -85,6 +93,7 @@ impl Memory {
 
     /// Whether a word of a log is the header of a live span.
     fn is_live_at(&self, log: u8, at: u16) -> bool
+        requires law { Law (state_of self.now) }
         requires log { log < (state_of self.now).logs }
         requires at { at < LOG_WORDS }
         ensures { result ≡ is_live_at (state_of self.now) log at }
@@ -107,22 +116,20 @@ impl Memory {
         self.set_word(first_word(Place { log, at }), word);
     }
 
-    pub(crate) fn name(&mut self, pointer: u16, old: u64, new: u64) -> Reply
-        requires { Law (state_of self.old) }
-        ensures { (state_of self.new, result) ≡ step_of (state_of self.old) (Event.Name pointer old new) }
+    /// The cell of a pointer goes from `old` to `new`, where it is `old`; else `Err` with the cell.
+    pub(crate) fn name(&mut self, pointer: u16, old: u64, new: u64) -> Result<(), u64>
+        requires law { Law (state_of self.old) }
+        requires legal { is_legal (state_of self.old) (Event.Name pointer old new) ≡ true }
+        ensures state { state_of self.new ≡ next_state (state_of self.old) (Event.Name pointer old new) }
+        ensures won { IfOk result (λ _. answer (state_of self.old) (Event.Name pointer old new) ≡ Reply.Done) }
+        ensures found { IfErr result (λ cell. answer (state_of self.old) (Event.Name pointer old new) ≡ Reply.Word cell) }
     {
-        let Some(form) = Naming::of(old, new) else {
-            return Reply::Refused;
-        };
-        if !self.has_pointer(pointer) || !self.may_make(pointer, form) {
-            return Reply::Refused;
-        }
-        let cell = self.cell(pointer);
+        let cell = self.cell_at(pointer);
         if cell != old {
-            return Reply::Word(cell);
+            return Err(cell);
         }
-        self.make_naming(pointer, new, form);
-        Reply::Done
+        self.make_naming(pointer, old, new);
+        Ok(())
     }
 
     pub(crate) fn may_name(&self, pointer: u16, old: u64, new: u64) -> bool
@@ -155,26 +162,46 @@ impl Memory {
         }
     }
 
-    /// Makes a form that may be made, where the pointer's cell is the old word.
-    fn make_naming(&mut self, pointer: u16, new: u64, form: Naming)
-        requires pointer { pointer < CELLS * (state_of self.old).mutators }
-        requires layout { IsOnLayout form }
-        requires test { (naming_row (state_of self.old) pointer new form).test ≡ true }
+    /// Makes a legal naming of the pointer's cell, which is the old word. What it does shows in the new one: an object comes to
+    /// a place, where a span begins already if it stays there; or it leaves its place.
+    fn make_naming(&mut self, pointer: u16, old: u64, new: u64)
         requires law { Law (state_of self.old) }
-        requires says { IsNaming form (read_of ((state_of self.old).cell pointer)) (read_of new) }
-        ensures { state_of self.new ≡ (naming_row (state_of self.old) pointer new form).after }
+        requires legal { is_legal (state_of self.old) (Event.Name pointer old new) ≡ true }
+        requires cell { (state_of self.old).cell pointer ≡ old }
+        ensures { state_of self.new ≡ after_naming (state_of self.old) pointer new (naming_of (read_of old) (read_of new)) }
     {
-        match form {
-            Naming::Places { len, place, .. } => self.take(pointer, new, len, place),
-            Naming::Retires => self.set_cell(pointer, new),
-            Naming::Evicts { len, place } => self.evict(pointer, new, len, place),
-            Naming::Stays => self.set_cell(pointer, new),
-            Naming::Moves { len, to, .. } => self.take(pointer, new, len, to),
-            Naming::Fetches { len, place, .. } => self.take(pointer, new, len, place),
+        match resting_place(new) {
+            Some(place) => {
+                if self.starts(first_word(place)) {
+                    self.set_cell(pointer, new);
+                } else {
+                    self.take(pointer, new, pointer_len(new), place);
+                }
+            }
+            None => self.name_away(pointer, old, new),
         }
     }
 
+    /// Makes a legal naming by which an object has no place from then on: its cell is free, or it goes far.
+    fn name_away(&mut self, pointer: u16, old: u64, new: u64)
+        requires law { Law (state_of self.old) }
+        requires legal { is_legal (state_of self.old) (Event.Name pointer old new) ≡ true }
+        requires cell { (state_of self.old).cell pointer ≡ old }
+        requires away { (v : PtrWord) → read_of new ≡ Some v → view_place v ≡ None }
+        ensures { state_of self.new ≡ after_naming (state_of self.old) pointer new (naming_of (read_of old) (read_of new)) }
+    {
+        if new == 0 {
+            self.set_cell(pointer, new);
+            return;
+        }
+        let PtrWord::Near { len, place, .. } = PtrWord::known(old) else {
+            unreachable!()
+        };
+        self.evict(pointer, new, len, place);
+    }
+
     /// Stores an object's words, and names it far.
+    #[inline(never)]
     fn evict(&mut self, pointer: u16, new: u64, len: u16, place: Place)
         requires pointer { pointer < CELLS * (state_of self.old).mutators }
         requires law { Law (state_of self.old) }
@@ -186,6 +213,7 @@ impl Memory {
     }
 
     pub(crate) fn may_clear(&self, pointer: u16) -> bool
+        requires { Law (state_of self.now) }
         ensures { result ≡ is_legal (state_of self.now) (Event.Clear pointer) }
     {
         self.has_pointer(pointer) && is_near(self.cell_at(pointer))
@@ -199,13 +227,14 @@ impl Memory {
     {
         let old = self.cell_at(pointer);
         self.set_cell(pointer, old & !Mark::Evac.mask());
-        if let Some(PtrWord::Near { place, .. }) = PtrWord::read(old) {
+        if let PtrWord::Near { place, .. } = PtrWord::known(old) {
             self.leave_round(place.log);
         }
         old
     }
 
     pub(crate) fn may_mark(&self, pointer: u16) -> bool
+        requires { Law (state_of self.now) }
         ensures { result ≡ is_legal (state_of self.now) (Event.Mark pointer) }
     {
         self.has_pointer(pointer) && self.is_sealed_near(self.cell_at(pointer))
@@ -223,13 +252,14 @@ impl Memory {
 
     /// Whether a cell is near in a sealed log.
     fn is_sealed_near(&self, cell: u64) -> bool
+        requires { IsSome (read_of cell) }
         ensures { result ≡ may_mark (state_of self.now) (read_of cell) }
     {
-        match PtrWord::read(cell) {
-            Some(PtrWord::Near { place, .. }) => {
+        match PtrWord::known(cell) {
+            PtrWord::Near { place, .. } => {
                 self.has_log(place.log) && is_sealed(self.kind(place.log))
             }
-            _ => false,
+            PtrWord::Free | PtrWord::Far { .. } => false,
         }
     }
 
@@ -275,28 +305,28 @@ fn goes_at(kind: Kind, at: u16, tail: u16) -> bool
 
 /// Whether a cell is near.
 fn is_near(cell: u64) -> bool
+    requires { IsSome (read_of cell) }
     ensures { result ≡ is_near (read_of cell) }
 {
-    matches!(PtrWord::read(cell), Some(PtrWord::Near { .. }))
+    matches!(PtrWord::known(cell), PtrWord::Near { .. })
 }
 
-/// The pointer that a header names; 0 where the word is none.
+/// The pointer that a header names.
 fn pointer_in(word: u64) -> u16
+    requires { IsSome (head_of word) }
     ensures { result ≡ pointer_in (head_of word) }
 {
-    match HeadWord::read(word) {
-        Some(header) => header.pointer,
-        None => 0,
-    }
+    HeadWord::known(word).pointer
 }
 
 /// Whether a cell names a place.
 fn names_place(cell: u64, log: u8, at: u16) -> bool
+    requires { IsSome (read_of cell) }
     ensures { result ≡ names_place (read_of cell) log at }
 {
-    match PtrWord::read(cell) {
-        Some(PtrWord::Near { place, .. }) => place.log == log && place.at == at,
-        _ => false,
+    match PtrWord::known(cell) {
+        PtrWord::Near { place, .. } => place.log == log && place.at == at,
+        PtrWord::Free | PtrWord::Far { .. } => false,
     }
 }
 

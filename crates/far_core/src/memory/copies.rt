@@ -1,6 +1,6 @@
 //! Whether the words of an object stand at a new span.
 
-ghost use Rattle.std.specs.Prelude.{◌≡◌, ◌*◌, ◌+◌, ◌<◌, ◌≤◌, ℕ};
+ghost use Rattle.std.specs.Prelude.{◌≡◌, ◌*◌, ◌+◌, ◌<◌, ◌≤◌, ℕ, IsSome};
 ghost use Rattle.far_core.specs.events.Copies.{alike, data_at, ends_padded};
 ghost use Rattle.far_core.specs.events.NewSpans.{is_new_span};
 ghost use Rattle.far_core.specs.events.Naming.{no_marks, naming_row};
@@ -59,6 +59,7 @@ impl Memory {
 
     /// Whether as many words are stored of a pointer, and they stand at a place.
     fn is_stored_at(&self, pointer: u16, len: u16, place: Place) -> bool
+        requires law { Law (state_of self.now) }
         requires inside { place.at + words_for len < LOG_WORDS }
         requires log { place.log < (state_of self.now).logs }
         ensures { result ≡ is_stored_at (state_of self.now) pointer len place }
@@ -100,10 +101,11 @@ impl Memory {
 
 /// How many words are stored of what a cell names: those of a far object.
 fn words_stored(cell: u64) -> u16
+    requires { IsSome (read_of cell) }
     ensures { result ≡ words_stored (read_of cell) }
 {
-    match PtrWord::read(cell) {
-        Some(PtrWord::Far { len, .. }) => words_for(len),
-        _ => 0,
+    match PtrWord::known(cell) {
+        PtrWord::Far { len, .. } => words_for(len),
+        PtrWord::Free | PtrWord::Near { .. } => 0,
     }
 }

@@ -51,7 +51,7 @@ impl Memory {
         self.is_opened(owner)
             && pointer / CELLS == owner as u16
             && self.uses(pointer)
-            && self.held(pointer).is_none()
+            && !self.is_held(pointer)
     }
 
     pub(crate) fn pin(&mut self, owner: u8, pointer: u16) -> Result<Place, u64>
@@ -73,6 +73,7 @@ impl Memory {
     }
 
     pub(crate) fn may_load(&self, owner: u8, pointer: u16, index: u16) -> bool
+        requires { Law (state_of self.now) }
         ensures { result ≡ is_legal (state_of self.now) (Event.Load owner pointer index) }
     {
         self.holds(owner, pointer) && index < words_for(near_len(self.cell(pointer)))
@@ -88,6 +89,7 @@ impl Memory {
     }
 
     pub(crate) fn may_store(&self, owner: u8, pointer: u16, index: u16, word: u64) -> bool
+        requires { Law (state_of self.now) }
         ensures { result ≡ is_legal (state_of self.now) (Event.Store owner pointer index word) }
     {
         if !self.holds(owner, pointer) {
@@ -133,7 +135,7 @@ impl Memory {
             && self.has_owner(owner)
             && pointer / CELLS == owner as u16
             && self.uses(pointer)
-            && self.held(pointer).is_none()
+            && !self.is_held(pointer)
     }
 
     pub(crate) fn ask(&mut self, owner: u8, pointer: u16, mark: Mark) -> u64
@@ -150,6 +152,7 @@ impl Memory {
     }
 
     pub(crate) fn may_adopt(&self, owner: u8, pointer: u16) -> bool
+        requires { Law (state_of self.now) }
         ensures { result ≡ is_legal (state_of self.now) (Event.Adopt owner pointer) }
     {
         if !self.has_owner(owner) || pointer / CELLS != owner as u16 {
@@ -160,7 +163,8 @@ impl Memory {
 
     /// Whether a pointer's word is used and not dropped.
     pub(crate) fn is_in_use(&self, pointer: u16) -> bool
-        requires { pointer < CELLS * (state_of self.now).mutators }
+        requires law { Law (state_of self.now) }
+        requires pointer { pointer < CELLS * (state_of self.now).mutators }
         ensures { result ≡ in_use (read_of ((state_of self.now).cell pointer)) }
     {
         in_use(self.cell_at(pointer))

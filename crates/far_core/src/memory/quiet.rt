@@ -3,6 +3,7 @@
 ghost use Rattle.std.specs.Prelude.{◌≡◌};
 ghost use Rattle.far_core.specs.state.Memory.{state_of};
 ghost use Rattle.far_core.specs.events.Quiet.{is_quiet_cell};
+ghost use Rattle.far_core.specs.state.Law.{Law};
 ghost use Rattle.far_core.specs.state.State.{State};
 ghost use Rattle.far_word.specs.Pointer.{read_of};
 
@@ -27,15 +28,16 @@ impl Memory {
     /// Whether the bytes of a pointer's object stay: it has MOVE; or it is near with EVAC, its log is in the round and its
     /// owner was seen clear in it.
     pub(crate) fn is_quiet(&self, pointer: u16) -> bool
+        requires { Law (state_of self.now) }
         ensures { result ≡ is_quiet_cell (state_of self.now) pointer (read_of ((state_of self.now).cell pointer)) }
     {
-        match PtrWord::read(self.cell(pointer)) {
-            Some(PtrWord::Near { place, marks, .. }) => {
+        match PtrWord::known(self.cell(pointer)) {
+            PtrWord::Near { place, marks, .. } => {
                 marks.moved
                     || (marks.evac && self.is_in_round(place.log) && self.is_clear(pointer / CELLS))
             }
-            Some(PtrWord::Far { marks, .. }) => marks.moved,
-            _ => false,
+            PtrWord::Far { marks, .. } => marks.moved,
+            PtrWord::Free => false,
         }
     }
 }

@@ -1,6 +1,6 @@
 //! One place of the memory read.
 
-ghost use Rattle.std.specs.Prelude.{◌≡◌, ◌*◌, ◌<◌, ◌≤◌, ◌+◌, nat_lt, IsSome, Some};
+ghost use Rattle.std.specs.Prelude.{◌≡◌, ◌*◌, ◌<◌, ◌≤◌, ◌+◌, nat_lt, is_some, IsSome, Some};
 ghost use Rattle.far_core.specs.state.State.{State, addr};
 ghost use Rattle.far_core.specs.state.Law.{in_use};
 ghost use Rattle.far_core.specs.events.Step.{is_closed, is_opened, holds, place_to_view, zeros, near_len};
@@ -119,11 +119,21 @@ impl Memory {
     }
 
     #[tactic(auto, unfolding(crate::specs::state::Memory::state_of))]
+    pub(crate) fn is_held(&self, pointer: u16) -> bool
+        ensures { result ≡ is_some ((state_of self.now).held pointer) }
+    {
+        (pointer as usize) < self.held.len() && self.held[pointer as usize].is_some()
+    }
+
+    #[tactic(auto, unfolding(crate::specs::state::Memory::state_of))]
     pub(crate) fn held_place(&self, pointer: u16) -> Place
         requires { IsSome ((state_of self.now).held pointer) }
         ensures { (state_of self.now).held pointer ≡ Some result }
     {
-        self.held[pointer as usize].unwrap()
+        match &self.held[pointer as usize] {
+            Some(place) => *place,
+            None => unreachable!(),
+        }
     }
 
     #[tactic(auto, unfolding(crate::specs::state::Memory::state_of))]
@@ -196,7 +206,7 @@ impl Memory {
     pub(crate) fn holds(&self, owner: u8, pointer: u16) -> bool
         ensures { result ≡ holds (state_of self.now) owner pointer }
     {
-        pointer / CELLS == owner as u16 && self.held(pointer).is_some()
+        pointer / CELLS == owner as u16 && self.is_held(pointer)
     }
 
     /// Whether `n` words from `from` on are 0.
@@ -224,11 +234,12 @@ pub(crate) fn place_to_view(cell: u64) -> Option<Place>
 
 /// The length of a near cell's object; 0 for any other cell.
 pub(crate) fn near_len(cell: u64) -> u16
+    requires { IsSome (read_of cell) }
     ensures { result ≡ near_len (read_of cell) }
 {
-    match PtrWord::read(cell) {
-        Some(PtrWord::Near { len, .. }) => len,
-        _ => 0,
+    match PtrWord::known(cell) {
+        PtrWord::Near { len, .. } => len,
+        PtrWord::Free | PtrWord::Far { .. } => 0,
     }
 }
 
@@ -248,10 +259,11 @@ pub(crate) fn first_stored(pointer: u16) -> usize
 
 /// Whether a cell is used and not dropped.
 pub(crate) fn in_use(cell: u64) -> bool
+    requires { IsSome (read_of cell) }
     ensures { result ≡ in_use (read_of cell) }
 {
-    match PtrWord::read(cell) {
-        Some(PtrWord::Near { marks, .. } | PtrWord::Far { marks, .. }) => !marks.dropped,
-        _ => false,
+    match PtrWord::known(cell) {
+        PtrWord::Near { marks, .. } | PtrWord::Far { marks, .. } => !marks.dropped,
+        PtrWord::Free => false,
     }
 }

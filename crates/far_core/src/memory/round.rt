@@ -1,6 +1,6 @@
 //! The events of a round.
 
-ghost use Rattle.std.specs.Prelude.{◌≡◌, ◌*◌, ◌<◌, ◌≤◌, true};
+ghost use Rattle.std.specs.Prelude.{◌≡◌, ◌*◌, ◌<◌, ◌≤◌, true, IsSome};
 ghost use Rattle.far_core.specs.declared.event.Event.{Event};
 ghost use Rattle.far_core.specs.declared.event.Reply.{Reply};
 ghost use Rattle.far_core.specs.events.Advance.{all_marked, all_sealed, is_among, is_marked_among, is_sealed_among};
@@ -51,6 +51,7 @@ impl Memory {
 
     /// Whether each of the first cells has EVAC, if it is near in a log of a set.
     fn all_marked(&self, logs: u64, cells: u16) -> bool
+        requires { Law (state_of self.now) }
         ensures { result ≡ all_marked (state_of self.now) logs cells }
     {
         for pointer in 0..cells {
@@ -106,11 +107,12 @@ fn is_among(logs: u64, log: u8) -> bool
 
 /// Whether a cell has EVAC, if it is near in a log of a set.
 fn is_marked_among(logs: u64, cell: u64) -> bool
+    requires { IsSome (read_of cell) }
     ensures { result ≡ is_marked_among logs (read_of cell) }
 {
-    match PtrWord::read(cell) {
-        Some(PtrWord::Near { place, marks, .. }) => !is_among(logs, place.log) || marks.evac,
-        _ => true,
+    match PtrWord::known(cell) {
+        PtrWord::Near { place, marks, .. } => !is_among(logs, place.log) || marks.evac,
+        PtrWord::Free | PtrWord::Far { .. } => true,
     }
 }
 

@@ -93,22 +93,13 @@ impl Memory {
     }
 
     /// No span begins in the log from now on.
+    #[tactic(auto, unfolding(crate::specs::state::Memory::state_of))]
     pub(crate) fn empty_log(&mut self, log: u8)
         requires { log < (state_of self.old).logs }
         ensures { state_of self.new ≡ record (state_of self.old) { starts = λ a. cond (a / LOG_WORDS == log) false ((state_of self.old).starts a) } }
     {
         let from = log as usize * LOG_WORDS as usize;
-        for at in from..from + LOG_WORDS as usize {
-            self.end_span(at);
-        }
-    }
-
-    #[tactic(auto, unfolding(crate::specs::state::Memory::state_of))]
-    fn end_span(&mut self, at: usize)
-        requires { at < LOG_WORDS * (state_of self.old).logs }
-        ensures { state_of self.new ≡ record (state_of self.old) { starts = put (state_of self.old).starts at false } }
-    {
-        self.starts[at] = false;
+        self.starts[from..from + LOG_WORDS as usize].fill(false);
     }
 
     #[tactic(auto, unfolding(crate::specs::state::Memory::state_of))]
@@ -199,13 +190,12 @@ impl Memory {
     }
 
     /// The owner holds nothing from now on.
+    #[tactic(auto, unfolding(crate::specs::state::Memory::state_of))]
     pub(crate) fn let_go(&mut self, owner: u8)
         requires { owner < (state_of self.old).mutators }
         ensures { state_of self.new ≡ record (state_of self.old) { held = λ p. cond (p / CELLS == owner) None ((state_of self.old).held p) } }
     {
         let from = owner as usize * CELLS as usize;
-        for pointer in from..from + CELLS as usize {
-            self.hold(pointer, None);
-        }
+        self.held[from..from + CELLS as usize].fill(None);
     }
 }

@@ -33,3 +33,28 @@ pub(crate) fn never_fails<D: Device>(device: &mut D, id: u32, bytes: &[u8]) -> b
 {
     matches!(there_and_back(device, id, bytes), Err(DeviceFault::Device))
 }
+
+/// Whether the count changed exactly where the device failed, at a write, a read and a key let go of: so it is, of any device.
+pub(crate) fn count_tells<D: Device>(device: &mut D, id: u32, bytes: &[u8]) -> bool
+    ensures { result ≡ true }
+{
+    let before = device.faults();
+    let failed = matches!(device.write(id, bytes), Err(DeviceFault::Device));
+    let written = device.faults();
+    let told = failed == (written != before);
+    let failed = matches!(device.read(id), Err(DeviceFault::Device));
+    let read = device.faults();
+    let told_again = failed == (read != written);
+    device.forget(id);
+    told && told_again && device.faults() == read
+}
+
+/// Of a device that is to fail once at most, whether two writes in a row both failed: they don't.
+pub(crate) fn fails_twice<D: Device>(device: &mut D, id: u32, bytes: &[u8]) -> bool
+    requires { D.fails_at_most device.old 1 }
+    ensures { result ≡ false }
+{
+    let first = matches!(device.write(id, bytes), Err(DeviceFault::Device));
+    let second = matches!(device.write(id, bytes), Err(DeviceFault::Device));
+    first && second
+}

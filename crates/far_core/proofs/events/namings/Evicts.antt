@@ -149,6 +149,7 @@ module _ (p new len : ℕ) (place : Place) where
       others = λ q ne. put_other s.stored p _ q ne;
       logs = (refl, refl, refl, refl);
       round = refl;
+      clear = refl;
     };
     causes = λ old. (old, new, refl);
   }

@@ -18,12 +18,13 @@ with_kept word stored p a n i = cond (nat_lt i n) (word (a + i)) (stored p i)
 abbrev pub IsAt : State → ℕ → ℕ → Place → Type 0
 IsAt s p len place = (ds : ℕ) × (m : Marks) × (read_of (s.cell p) ≡ Some (Near len ds place m))
 
--- the data words at a place are stored for p, and no other pointer's; no span, log or round changes
+-- the data words at a place are stored for p, and no other pointer's; no span, log or round changes, nor who was seen clear
 pub record StoresAway (s : State) (p len : ℕ) (place : Place) (t : State) : Type 0 where
   pub words : (i : ℕ) → i < words_for len → t.stored p i ≡ s.word (addr place + 1 + i)
   pub others : (q : ℕ) → q ≢ p → t.stored q ≡ s.stored q
   pub logs : (t.kind ≡ s.kind) × (t.tail ≡ s.tail) × (t.current ≡ s.current) × (t.starts ≡ s.starts)
   pub round : t.round ≡ s.round
+  pub clear : t.clear ≡ s.clear
 
 abbrev pub evicts_row : State → ℕ → ℕ → ℕ → Place → NamingRow
 evicts_row s p new len place = record {

@@ -1,4 +1,5 @@
 use Rattle.far_core.specs.state.Memory.{state_of}
+use Rattle.far_core.proofs.ObjectFacts.{object_agrees}
 use Rattle.far_core.proofs.Observations.{has_one_place, names_once, near_has_one_live}
 use Rattle.far_core.proofs.WorldFacts.{marks_agree, marks_exist, view_rests}
 use Rattle.far_core.proofs.WorldLaws.{objects_stand}
@@ -24,3 +25,6 @@ returns-clause-marks c = λ p. marks_agree (state_of c.args.self.now.memory) c.a
 
 pub returns-clause-exist : goal.returns-clause-exist
 returns-clause-exist c = λ p. marks_exist (state_of c.args.self.now.memory) p
+
+pub returns-clause-agree : goal.returns-clause-agree
+returns-clause-agree c = λ p. object_agrees (state_of c.args.self.now.memory) p
