@@ -1,6 +1,6 @@
 -- A caller's step seals a log behind those that were sealed before.
 use Rattle.std.proofs.Common.{◌≡◌, ◌≢◌, ℕ, Bool, true, false, cond, ◌==◌, inl, inr, List, [], ◌∷◌, ◌++◌, ap, sym, refl, ◌∙◌, subst}
-use Rattle.std.specs.Prelude.{◌⊎◌, Contains}
+use Rattle.std.specs.Prelude.{Contains}
 use Rattle.std.proofs.lemmas.Bool.{cases_eq, eq-eqb, eqb-true, true≢false}
 use Rattle.std.proofs.lemmas.List.{append-nil}
 use Rattle.far_log.proofs.Members.{here, none_in, split}

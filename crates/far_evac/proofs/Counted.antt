@@ -1,22 +1,22 @@
 -- What marking counts, where it goes on, and where the epoch rises.
-use Rattle.std.proofs.Common.{◌≡◌, ◌≢◌, ℕ, zero, suc, ◌+◌, ◌^◌, ◌<◌, ◌≤◌, Bool, true, false, cond, not, ◌==◌, eqb, nat_lt, Option, Some, None, List, [], ◌∷◌, length, take, drop, filter, arith, ap, sym, refl, ◌∙◌, subst}
-use Rattle.std.specs.Prelude.{Contains, fold}
+use Rattle.std.proofs.Common.{◌≡◌, ◌≢◌, ℕ, zero, suc, ◌+◌, ◌^◌, ◌<◌, ◌≤◌, Bool, true, false, cond, not, eqb, Some, None, List, [], ◌∷◌, length, take, drop, filter, arith, ap, sym, refl, ◌∙◌, subst}
+use Rattle.std.specs.Prelude.{Contains}
 use Rattle.std.specs.List.{AllByRecursion, IsDistinct}
-use Rattle.std.proofs.lemmas.Bool.{cond_both, ne_eqb, true≢false, false≢true}
+use Rattle.std.proofs.lemmas.Bool.{cond_both, ne_eqb, false≢true}
 use Rattle.std.proofs.lemmas.Bool.Decides.{nat_tests}
 use Rattle.far_word.specs.Pointer.{read_of}
 use Rattle.far_log.proofs.Members.{here, there}
 use Rattle.far_core.specs.state.Spans.{spans_of}
 use Rattle.far_core.specs.state.State.{State}
 use Rattle.far_book.specs.book.Dealing.{has_evac}
-use Rattle.far_book.specs.book.Effects.{marked}
 use Rattle.far_evac.specs.declared.phase.Phase.TheVariants.{Waiting}
 use Rattle.far_evac.specs.Laws.{IsCounted, MarkingIsCounted}
 use Rattle.far_evac.specs.Live.{is_empty, lacking, live_among, live_in}
-use Rattle.far_evac.specs.Marking.{after_marking, leaves_some, marked_core, newly_marked, waiting_for}
+use Rattle.far_evac.specs.Marking.{after_marking, leaves_some, marked_core, newly_marked}
 use Rattle.far_evac.specs.Moment.{Moment}
 use Rattle.far_evac.specs.RoundSteps.{advanced, among}
 use Rattle.far_evac.proofs.Lacking.{Once, left_to, once_among, once_filter}
+use Rattle.far_evac.proofs.LeadingMarks.{marks_cells}
 use Rattle.far_evac.proofs.LiveOnce.{each_map}
 use Rattle.far_evac.proofs.Marks.{all_filter, all_take}
 
@@ -78,11 +78,7 @@ bare_of : (b : Bool) → not b ≡ true → b ≡ false
 bare_of true h = absurd (false≢true h)
 bare_of false h = refl
 
--- ---- marking changes cells alone
-cells_alone : (ps : List ℕ) (s : State) → fold marked s ps ≡ record s { cell = (fold marked s ps).cell }
-cells_alone [] s = refl
-cells_alone (p ∷ ps) s = cells_alone ps (marked s p)
-
+-- ---- once the epoch has risen the same objects lack it
 risen_lacks : (s : State) (held logs : List ℕ) → lacking (advanced s held) logs ≡ lacking s logs
 unfolding live_in spans_of
 risen_lacks s held logs = refl
@@ -122,10 +118,10 @@ module _ (m : Moment) (n : ℕ) (fits : (p : ℕ) → m.core.cell p < 2 ^ 64) (o
   next = m.core.epoch + 1
 
   goes_so : t ≡ goes → t ≡ only_cells t.core.cell
-  goes_so is = is ∙ ap (λ (s : State). record m { core = s }) (cells_alone (newly_marked m n) m.core) ∙ ap only_cells (sym (ap (λ (u : Moment). u.core.cell) is))
+  goes_so is = is ∙ ap (λ (s : State). record m { core = s }) (marks_cells (newly_marked m n) m.core) ∙ ap only_cells (sym (ap (λ (u : Moment). u.core.cell) is))
 
   rises_so : t ≡ rises → t ≡ risen next t.core.cell
-  rises_so is = is ∙ ap (λ (s : State). record m { core = advanced s m.held; phase = Waiting }) (cells_alone (newly_marked m n) m.core)
+  rises_so is = is ∙ ap (λ (s : State). record m { core = advanced s m.held; phase = Waiting }) (marks_cells (newly_marked m n) m.core)
       ∙ ap (risen next) (sym (ap (λ (u : Moment). u.core.cell) is))
 
   is_counted : IsCounted m t n

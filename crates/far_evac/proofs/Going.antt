@@ -1,11 +1,9 @@
 -- That each object goes its way: what its cell says after it was dealt with.
-use Rattle.std.proofs.Common.{◌≡◌, ◌≢◌, ℕ, zero, suc, ◌+◌, ◌<◌, ◌≤◌, Bool, true, false, cond, eqb, Option, Some, None, List, [], ◌∷◌, ◌++◌, length, take, drop, inl, inr, arith, ap, sym, refl, ◌∙◌, subst}
-use Rattle.std.specs.Prelude.{◌⊎◌, Contains}
+use Rattle.std.proofs.Common.{◌≡◌, ◌≢◌, ℕ, zero, suc, ◌+◌, ◌<◌, ◌≤◌, Bool, true, false, cond, Option, Some, None, List, [], ◌∷◌, length, take, drop, arith, ap, sym, refl, ◌∙◌, subst}
+use Rattle.std.specs.Prelude.{Contains}
 use Rattle.std.specs.List.{AllByRecursion}
-use Rattle.std.proofs.lemmas.Bool.{true≢false}
 use Rattle.far_word.specs.declared.mark.Marks.{Marks}
 use Rattle.far_word.specs.declared.pointer.Place.{Place}
-use Rattle.far_word.specs.declared.pointer.PtrWord.{PtrWord}
 use Rattle.far_word.specs.declared.pointer.PtrWord.TheVariants.{Near, Far}
 use Rattle.far_word.specs.Pointer.{read_of}
 use Rattle.far_word.specs.Sizes.{size_of}
@@ -16,10 +14,10 @@ use Rattle.far_core.specs.state.State.{State}
 use Rattle.far_core.proofs.Put.{put_same}
 use Rattle.far_evac.specs.AnyHand.{Walks}
 use Rattle.far_evac.specs.Dealings.{says}
-use Rattle.far_evac.specs.Live.{is_empty, live_among, live_in}
+use Rattle.far_evac.specs.Live.{live_among, live_in}
 use Rattle.far_evac.specs.Moment.{Moment}
 use Rattle.far_evac.specs.Ready.{IsHeld, Ready}
-use Rattle.far_evac.specs.Walk.{Walked, Way, Drops, Goes, Moves, dealt_as, dealt_first, dealt_so, hot_way, is_done, left, settled, walked, way_of, begun}
+use Rattle.far_evac.specs.Walk.{Walked, Way, Drops, Goes, Moves, dealt_as, dealt_first, dealt_so, hot_way, is_done, left, walked, way_of, begun}
 use Rattle.far_evac.specs.WayLaws.{GoesItsWay, ObjectsGoTheirWay}
 use Rattle.far_evac.proofs.Dealt.{says_far, says_moved}
 use Rattle.far_evac.proofs.Given.{drop_next}
@@ -29,7 +27,7 @@ use Rattle.far_evac.proofs.LiveOnce.{all_append, each_map, live_named}
 use Rattle.far_evac.proofs.LiveOrder.{place_named}
 use Rattle.far_evac.proofs.Subjects.{all_front, passed_cell, so_cell}
 use Rattle.far_evac.proofs.Tours.{core_so}
-use Rattle.far_evac.proofs.Walks.{none_left, some_left, walk_is}
+use Rattle.far_evac.proofs.Walks.{none_left, walk_is}
 
 -- ---- lists
 in_dropped : (k : ℕ) (xs : List ℕ) (p : ℕ) (rest : List ℕ) → drop k xs ≡ p ∷ rest → Contains xs p

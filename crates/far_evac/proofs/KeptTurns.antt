@@ -1,5 +1,5 @@
 -- What the calls of a round leave of what owners have: all of it.
-use Rattle.std.proofs.Common.{◌≡◌, ℕ, zero, suc, ◌^◌, ◌<◌, Option, Some, None, List, [], ◌∷◌, ap, sym, refl, ◌∙◌, subst}
+use Rattle.std.proofs.Common.{◌≡◌, ℕ, zero, suc, ◌^◌, ◌<◌, Option, Some, None, [], ◌∷◌, ap, sym, refl, ◌∙◌, subst}
 use Rattle.std.specs.Prelude.{fold}
 use Rattle.std.proofs.lemmas.Bool.{cond_both}
 use Rattle.far_core.specs.state.Law.{Law}
@@ -20,7 +20,7 @@ use Rattle.far_evac.proofs.Leading.{aborting, selecting}
 use Rattle.far_evac.proofs.LeadingMarks.{marking, marks_cells}
 use Rattle.far_evac.proofs.LeadingTurns.{turns_lead}
 use Rattle.far_evac.proofs.LeadingWalks.{walking_objects}
-use Rattle.far_evac.proofs.Marks.{is_given_up, is_marked}
+use Rattle.far_evac.proofs.Marks.{clears_cells, is_given_up, is_marked}
 
 pub selecting_objects : SelectingKeepsObjects
 selecting_objects m [] = objects_none m.core
@@ -55,10 +55,6 @@ module _ (m : Moment) (n : ℕ) where
 pub marking_objects : MarkingKeepsObjects
 marking_objects m n law moment marks =
     evac_objects m.core (after_marking m n).core (marking_frame m n) (fits m.core law) (fits (after_marking m n).core (marking m n law moment marks).law) (is_marked m n (fits m.core law)).same
-
-clears_cells : (ps : List ℕ) (s : State) → fold unmarked s ps ≡ record s { cell = (fold unmarked s ps).cell; round = (fold unmarked s ps).round }
-clears_cells [] s = refl
-clears_cells (p ∷ ps) s = clears_cells ps (unmarked s p)
 
 pub aborting_objects : AbortingKeepsObjects
 aborting_objects m law moment =

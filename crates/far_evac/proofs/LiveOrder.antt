@@ -1,9 +1,7 @@
 -- The live objects of some logs, in their order.
-use Rattle.std.proofs.Common.{◌≡◌, ℕ, zero, suc, ◌+◌, ◌<◌, ◌≤◌, true, false, cond, eqb, nat_lt, Option, Some, inl, inr, List, [], ◌∷◌, ◌++◌, filter, arith, ap, sym, refl, ◌∙◌, subst}
-use Rattle.std.specs.Prelude.{◌⊎◌, Contains}
-use Rattle.std.specs.List.{AllByRecursion, IsDistinct}
+use Rattle.std.proofs.Common.{◌≡◌, ℕ, zero, suc, ◌+◌, ◌<◌, ◌≤◌, true, eqb, nat_lt, Option, Some, inl, inr, List, [], ◌∷◌, ◌++◌, filter, arith, ap, sym, refl, ◌∙◌}
+use Rattle.std.specs.List.{AllByRecursion}
 use Rattle.std.proofs.lemmas.Bool.{cond_both, eq-eqb}
-use Rattle.std.proofs.lemmas.Bool.Decides.{nat_tests}
 use Rattle.std.proofs.lemmas.List.{append_assoc}
 use Rattle.far_word.specs.declared.mark.Marks.{Marks}
 use Rattle.far_word.specs.declared.pointer.Place.{Place}
@@ -13,12 +11,10 @@ use Rattle.far_word.specs.Pointer.{read_of}
 use Rattle.far_word.specs.Sizes.{size_of}
 use Rattle.far_log.specs.declared.span.Span.{Span}
 use Rattle.far_log.specs.Spans.{head_len, span_at, spans_from, spans_in}
-use Rattle.far_core.specs.state.Law.{Law}
 use Rattle.far_core.specs.state.Spans.{spans_of, is_live, names_place, word_in}
 use Rattle.far_core.specs.state.State.{State}
-use Rattle.far_book.specs.book.Own.{own_part}
 use Rattle.far_evac.specs.Live.{live_among, live_in, pointers_of}
-use Rattle.far_evac.specs.LiveLaws.{ComesFirst, IsBehind, IsInTurn, IsNearIn, LiveIsInOrder, ListsLive}
+use Rattle.far_evac.specs.LiveLaws.{ComesFirst, IsInTurn, IsNearIn, LiveIsInOrder}
 use Rattle.far_evac.specs.RoundSteps.{among}
 use Rattle.far_evac.proofs.Bools.{or_left, or_right}
 use Rattle.far_evac.proofs.Counted.{distinct_of}

@@ -275,7 +275,7 @@ round_given_up m near l =
     ∙ ap (λ b. m.core.round l && not b) (any_among m.core l m.held)
     ∙ by_held (m.core.round l) (among m.held l) (is_empty (live_in m.core l))
 
-clears_cells : (ps : List ℕ) (s : State) → fold unmarked s ps ≡ record s { cell = (fold unmarked s ps).cell; round = (fold unmarked s ps).round }
+pub clears_cells : (ps : List ℕ) (s : State) → fold unmarked s ps ≡ record s { cell = (fold unmarked s ps).cell; round = (fold unmarked s ps).round }
 clears_cells [] s = refl
 clears_cells (p ∷ ps) s = clears_cells ps (unmarked s p)
 

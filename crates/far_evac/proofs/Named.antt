@@ -1,14 +1,14 @@
 -- Whom a poll names, and at which epoch.
-use Rattle.std.proofs.Common.{inl, inr, ◌≡◌, ◌≢◌, ℕ, zero, suc, ◌+◌, ◌*◌, ◌/◌, ◌%◌, ◌<◌, ◌≤◌, Bool, true, false, cond, not, ◌||◌, ◌&&◌, ◌==◌, nat_lt, nat_le, Option, Some, None, arith, ap, sym, refl, ◌∙◌}
-use Rattle.std.specs.Prelude.{◌⊎◌, IsSome, find}
+use Rattle.std.proofs.Common.{inl, inr, ◌≡◌, ◌≢◌, ℕ, zero, suc, ◌+◌, ◌*◌, ◌/◌, ◌%◌, ◌<◌, ◌≤◌, Bool, true, false, cond, ◌||◌, ◌&&◌, ◌==◌, nat_lt, nat_le, Option, Some, None, arith, ap, refl, ◌∙◌}
+use Rattle.std.specs.Prelude.{IsSome, find}
 use Rattle.std.specs.List.{range_with_len}
-use Rattle.std.proofs.lemmas.Bool.{cases_eq, cases_lt, cond_both, eqb-true, false≢true, true≢false}
+use Rattle.std.proofs.lemmas.Bool.{cases_eq, cases_lt, cond_both, eqb-true, false≢true}
 use Rattle.std.proofs.lemmas.Bool.Decides.{nat_tests}
 use Rattle.far_word.specs.declared.scope.ScopeWord.TheVariants as scoped
 use Rattle.far_word.specs.declared.sizes.TheConstants.{EPOCH_END}
 use Rattle.far_word.specs.Scope.{scope_of}
 use Rattle.far_core.specs.state.State.{State}
-use Rattle.far_evac.specs.Laws.{HoldsUpNone, IsFirstOpen, IsTold, WaitIsNamed}
+use Rattle.far_evac.specs.Laws.{HoldsUpNone, IsTold, WaitIsNamed}
 use Rattle.far_evac.specs.RoundSteps.{is_clear_now}
 use Rattle.far_evac.specs.Waiting.{first_open, holds_up, polled_at}
 use Rattle.far_evac.proofs.Readiness.{clear_one}
