@@ -1,3 +1,5 @@
+pub mod Ageing
+pub mod ByAge
 pub mod Calls
 pub mod Carrying
 pub mod Coming

@@ -1,3 +1,4 @@
+pub mod Ages
 pub mod BookOf
 pub mod Dealing
 pub mod Deeds

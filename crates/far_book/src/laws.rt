@@ -1,6 +1,7 @@
 //! What the effects of the book's calls are made of, as contracts of functions that do nothing.
 
 ghost use Rattle.std.specs.Prelude.{◌≡◌, ◌*◌, ◌<◌, ◌≤◌, ℕ, true};
+ghost use Rattle.far_book.specs.book.Ages.{FetchingSealsBehind, MovingSealsBehind, PlacingSealsBehind, WithoutKeepsAges};
 ghost use Rattle.far_book.specs.book.Deeds.{EventsAreDeeds, LoadsGiveStored};
 ghost use Rattle.far_book.specs.book.Laws.{EvictingIsLegal, PlacingIsLegal, RetiringIsLegal, FetchingIsLegal, MovingIsLegal, ReleasingIsLegal, StayingIsLegal};
 ghost use Rattle.far_book.specs.book.SealedLogs.{SealedLogsKept};
@@ -58,6 +59,15 @@ pub fn releasing_is_legal()
 /// there gets EVAC or loses it.
 pub fn sealed_logs_stay()
     ensures { SealedLogsKept }
+{}
+
+/// The sealed logs stand by their age: what placing, fetching and moving seal comes behind those that were sealed before, and nothing else does; a log that is
+/// given back leaves the others in their order.
+pub fn order_is_by_age()
+    ensures placed { PlacingSealsBehind }
+    ensures fetched { FetchingSealsBehind }
+    ensures moved { MovingSealsBehind }
+    ensures released { WithoutKeepsAges }
 {}
 
 /// From the start on, whatever owners and the book do, in whatever order, a load of a word gives the word that was last

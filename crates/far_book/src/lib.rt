@@ -18,7 +18,8 @@ pub use book::Book;
 pub use home::Home;
 pub use laws::{
     evicting_is_legal, fetching_is_legal, live_spans_follow, loads_give_stored, moving_is_legal,
-    placing_is_legal, retiring_is_legal, sealed_logs_stay, staying_is_legal,
+    order_is_by_age, placing_is_legal, releasing_is_legal, retiring_is_legal, sealed_logs_stay,
+    staying_is_legal,
 };
 pub use near::Near;
 pub use plain::Plain;

@@ -2,6 +2,7 @@
 
 ghost use Rattle.std.specs.Prelude.{◌≡◌, IfSome, Some};
 ghost use Rattle.far_word.specs.Pointer.{IsPtr, read_of};
+ghost use Rattle.far_core.specs.declared.naming.Naming.{Naming};
 ghost use Rattle.far_core.specs.events.Naming.{naming_of, near_form, IsNaming, IsOnLayout, is_kept, is_stay, is_unmarked};
 
 use far_word::{Marks, Place, PtrWord};
@@ -44,6 +45,14 @@ impl Naming {
     pub fn of(old: u64, new: u64) -> Option<Naming>
         ensures value { result ≡ naming_of (read_of old) (read_of new) }
         ensures says { IfSome result (λ form. IsNaming form (read_of old) (read_of new)) }
+        ensures only { (form : Naming) → IsNaming form (read_of old) (read_of new) → result ≡ Some form }
+        ensures layout { IfSome result IsOnLayout }
+    {
+        Naming::decide(old, new)
+    }
+
+    fn decide(old: u64, new: u64) -> Option<Naming>
+        ensures value { result ≡ naming_of (read_of old) (read_of new) }
         ensures layout { IfSome result IsOnLayout }
     {
         let old = PtrWord::read(old)?;

@@ -6,6 +6,7 @@
 mod device;
 mod fault;
 mod mem;
+mod spares;
 #[cfg(test)]
 mod tests;
 

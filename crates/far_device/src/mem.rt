@@ -6,14 +6,17 @@ ghost use Rattle.far_device.specs.declared.fault.DeviceFault.TheVariants.{Memory
 
 use crate::device::Device;
 use crate::fault::DeviceFault;
+use crate::spares::Spares;
 use std::alloc::Global;
-use std::collections::BTreeMap;
+use std::collections::HashMap;
+use std::collections::hash_map::Entry;
 
 /// A device in memory. It is honest, and its one fault is a read of a key under which nothing is.
 #[derive(Debug, Drop)]
 pub struct MemDevice {
     pub(crate) alloc: Global,
-    pub(crate) objects: BTreeMap<u32, Vec<u8>>,
+    pub(crate) objects: HashMap<u32, Vec<u8>>,
+    pub(crate) spares: Spares,
     pub(crate) faults: u64,
 }
 
@@ -27,7 +30,8 @@ impl MemDevice {
     {
         MemDevice {
             alloc,
-            objects: BTreeMap::new(alloc),
+            objects: HashMap::new(alloc),
+            spares: Spares::new(alloc),
             faults: 0,
         }
     }
@@ -57,13 +61,21 @@ impl Device for MemDevice {
         ensures unchanged { OnErr result (bytes_at self.new ≡ bytes_at self.old) }
         ensures faults { faults_of self.new ≡ faults_of self.old }
     {
-        let Ok(held) = Vec::from_slice(self.alloc, bytes) else {
-            return Err(DeviceFault::Memory);
-        };
-        match self.objects.insert(id, held) {
-            Ok(_) => Ok(()),
-            Err(_) => Err(DeviceFault::Memory),
+        match self.objects.entry(id) {
+            Ok(Entry::Occupied(mut entry)) => {
+                if !self.spares.replace(entry.get_mut(), bytes) {
+                    return Err(DeviceFault::Memory);
+                }
+            }
+            Ok(Entry::Vacant(entry)) => {
+                let Some(held) = self.spares.copied(bytes) else {
+                    return Err(DeviceFault::Memory);
+                };
+                entry.insert(held);
+            }
+            Err(_) => return Err(DeviceFault::Memory),
         }
+        Ok(())
     }
 
     /// Answers [`DeviceFault::Device`] exactly where nothing is under the key.
@@ -90,7 +102,9 @@ impl Device for MemDevice {
         ensures others { KeepsOthers (bytes_at self.old) (bytes_at self.new) id }
         ensures faults { faults_of self.new ≡ faults_of self.old }
     {
-        self.objects.remove(&id);
+        if let Some(buffer) = self.objects.remove(&id) {
+            self.spares.keep(buffer);
+        }
     }
 
     fn faults(&self) -> u64 {

@@ -186,6 +186,9 @@ module _ (s : State) (held : List ℕ) (ready : Ready s held) (p : ℕ) where
     pub gone_far : Gone s p (evicted s p) held is_away
     gone_far = subst (λ t. Gone s p t held is_away) (sym (evicted_is s p len ds from far_layout marks near alive evac)) gone_sent
 
+    pub says_far : read_of ((evicted s p).cell p) ≡ Some (Far len ds no_marks)
+    says_far = ap (λ (t : State). read_of (t.cell p)) (evicted_is s p len ds from far_layout marks near alive evac) ∙ here_far
+
     -- it goes to another log
     module _ (to : Place) (goes : room s (size_of len) false ≡ Some to) where
       new : NewPlace s (size_of len) to
@@ -274,6 +277,9 @@ module _ (s : State) (held : List ℕ) (ready : Ready s held) (p : ℕ) where
 
       here_near : read_of (then.cell p) ≡ Some (Near len ds to no_marks)
       here_near = ap read_of (put_same s.cell p (near_word len ds to) p refl) ∙ near_says
+
+      pub says_moved : read_of ((moved s p to).cell p) ≡ Some (Near len ds to no_marks)
+      says_moved = ap (λ (t : State). read_of (t.cell p)) (moved_is s p len ds from to marks near alive evac near_layout) ∙ here_near
 
       off_moved : (ls : List ℕ) → AllByRecursion (IsHeld s) ls → AllByRecursion (λ l. (at : ℕ) → names_place (read_of (then.cell p)) l at ≡ false) ls
       off_moved [] h = tt

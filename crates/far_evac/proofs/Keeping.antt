@@ -84,7 +84,7 @@ module _ (s t : State) (r : Round) (keeps : KeepsLogs s t (held_in r)) (in_round
   held_marked : r.phase ≡ Marking → (l : ℕ) → among r.chosen l ≡ true → among (held_in r) l ≡ true
   held_marked marks l h = ap (λ phase. among (held_of phase r.chosen r.index) l) marks ∙ h
 
-  bounded_kept : (l at : ℕ) → among (held_in r) l ≡ true → IsBoundary s l at → IsBoundary t l at
+  pub bounded_kept : (l at : ℕ) → among (held_in r) l ≡ true → IsBoundary s l at → IsBoundary t l at
   bounded_kept l at held (inl end) = inl (end ∙ sym (keeps.tail l held))
   bounded_kept l at held (inr span) = inr (subst (λ n. at < n) (sym (keeps.tail l held)) span.0, keeps.starts l at held span.0 ∙ span.1)
 

@@ -51,7 +51,7 @@ abbrev pub lacks : State → ℕ → Bool
 lacks s q = not (has_evac (read_of (s.cell q)))
 
 -- ---- lists
-all_at : {X : Type 0} (P : X → Type 0) (x : X) (xs : List X) → AllByRecursion P xs → Contains xs x → P x
+pub all_at : {X : Type 0} (P : X → Type 0) (x : X) (xs : List X) → AllByRecursion P xs → Contains xs x → P x
 all_at P x [] h member = absurd (none_in x member)
 all_at P x (y ∷ ys) h member = elim (split x y ys member) [ inl e ↦ subst P e h.0 | inr more ↦ all_at P x ys h.1 more ]
 
@@ -104,7 +104,7 @@ once_append : (xs ys : List ℕ) → Once xs → Once ys → AllByRecursion (λ 
 once_append [] ys f g h = g
 once_append (x ∷ xs) ys f g h = (all_append (λ q. q ≢ x) xs ys f.0 h.0, once_append xs ys f.1 g h.1)
 
-once_filter : (f : ℕ → Bool) (xs : List ℕ) → Once xs → Once (filter f xs)
+pub once_filter : (f : ℕ → Bool) (xs : List ℕ) → Once xs → Once (filter f xs)
 once_filter f [] h = tt
 once_filter f (x ∷ xs) h = cond_both (f x) (x ∷ filter f xs) (filter f xs) Once (λ _. (all_filter (λ q. q ≢ x) f xs h.0, once_filter f xs h.1)) (λ _. once_filter f xs h.1)
 
@@ -355,13 +355,13 @@ first_lacks s law r span before stands =
 
 -- where none lacks it, each object has it
 module _ (s : State) (law : Law (own_part s)) where
-  in_live : (p len ds : ℕ) (place : Place) (m : Marks) → read_of (s.cell p) ≡ Some (Near len ds place m) → Contains (live_in s place.log) p
+  pub in_live : (p len ds : ℕ) (place : Place) (m : Marks) → read_of (s.cell p) ≡ Some (Near len ds place m) → Contains (live_in s place.log) p
   unfolding live_in
   in_live p len ds place m near =
       in_pointers (span_for p len ds place.at) (filter (is_live s place.log) (spans_of s place.log))
       (kept_in (is_live s place.log) (span_for p len ds place.at) (spans_of s place.log) (alive s law place.log place.at p len ds place m near refl) (listed s law place.log place.at p len ds place m near refl))
 
-  in_among : (ls : List ℕ) (l p : ℕ) → among ls l ≡ true → Contains (live_in s l) p → Contains (live_among s ls) p
+  pub in_among : (ls : List ℕ) (l p : ℕ) → among ls l ≡ true → Contains (live_in s l) p → Contains (live_among s ls) p
   in_among [] l p member live = absurd (false≢true member)
   in_among (k ∷ ks) l p member live = elim (or_split (eqb l k) (among ks l) member) [
     | inl e ↦ in_left p (live_in s k) (live_among s ks) (subst (λ j. Contains (live_in s j) p) (eqb-true l k e) live)

@@ -1,15 +1,19 @@
+pub mod Ageing
 pub mod Auditing
 pub mod Bools
 pub mod Bounds
 pub mod Censuses
 pub mod Changing
 pub mod Chosen
+pub mod ComingBack
+pub mod Counted
 pub mod Dealt
 pub mod Evacuations
 pub mod Failures
 pub mod Fronts
 pub mod Given
 pub mod GivingBack
+pub mod Going
 pub mod Handing
 pub mod Hands
 pub mod InOrder
@@ -17,6 +21,7 @@ pub mod Joined
 pub mod Keeping
 pub mod KeptObjects
 pub mod KeptTurns
+pub mod Named
 pub mod OfOneKind
 pub mod Lacking
 pub mod Leading
@@ -25,6 +30,7 @@ pub mod LeadingTurns
 pub mod LeadingWalks
 pub mod LiveLists
 pub mod LiveOnce
+pub mod LiveOrder
 pub mod LogBits
 pub mod Looks
 pub mod MarkRuns
@@ -49,5 +55,6 @@ pub mod Unmarking
 pub mod Unviewed
 pub mod Waits
 pub mod Walking
+pub mod WalkingOn
 pub mod Walks
 pub mod worked

@@ -1,31 +1,66 @@
 -- What marking and giving up make of cells: EVAC is set or taken, and nothing else changes.
-use Rattle.std.proofs.Common.{◌≡◌, ◌≢◌, ℕ, zero, suc, ◌^◌, ◌<◌, ◌≤◌, Bool, true, false, cond, not, Some, List, [], ◌∷◌, length, take, filter, bit_or, arith, ap, sym, refl, ◌∙◌, subst}
+use Rattle.std.proofs.Common.{◌≡◌, ◌≢◌, ℕ, zero, suc, ◌^◌, ◌<◌, ◌≤◌, Bool, true, false, cond, not, ◌||◌, ◌&&◌, ◌==◌, eqb, Option, Some, None, List, [], ◌∷◌, ◌++◌, length, take, filter, bit_or, arith, ap, sym, refl, ◌∙◌, subst}
 use Rattle.std.specs.Prelude.{fold}
-use Rattle.std.specs.List.{AllByRecursion}
-use Rattle.std.proofs.lemmas.Bool.{cond_both}
+use Rattle.std.specs.List.{AllByRecursion, list_any}
+use Rattle.std.proofs.lemmas.Bool.{cond_both, eqb-true}
 use Rattle.std.proofs.lemmas.Bool.Decides.{nat_tests}
 use Rattle.std.proofs.lemmas.List.{take_all}
 use Rattle.far_word.specs.declared.mark.Mark.TheVariants.{Evac}
 use Rattle.far_word.specs.declared.mark.Marks.{Marks}
 use Rattle.far_word.specs.declared.pointer.Place.{Place}
 use Rattle.far_word.specs.declared.pointer.PtrWord.{PtrWord}
-use Rattle.far_word.specs.declared.pointer.PtrWord.TheVariants.{Near}
+use Rattle.far_word.specs.declared.pointer.PtrWord.TheVariants.{Free, Near, Far}
 use Rattle.far_word.specs.Mark.{marks_with, position}
 use Rattle.far_word.specs.Pointer.{read_of, without_evac}
 use Rattle.far_word.proofs.PointerLaws.{IsPtr-without_evac, read_says, with_mark_fits, with_mark_read, without_evac_read, without_evac_word, word_fits}
-use Rattle.far_core.specs.events.Clear.{evac_cleared}
+use Rattle.far_core.specs.events.Clear.{evac_cleared, round_left}
 use Rattle.far_core.specs.state.State.{State, put}
 use Rattle.far_core.proofs.Put.{put_both, put_other, put_same}
 use Rattle.far_book.specs.book.Dealing.{has_evac}
 use Rattle.far_book.specs.book.Effects.{marked}
-use Rattle.far_evac.specs.declared.phase.Phase.TheVariants.{Waiting}
+use Rattle.far_evac.specs.declared.phase.Phase.TheVariants.{Idle, Waiting}
 use Rattle.far_evac.specs.Laws.{IsGivenUp, IsMarked, but_evac}
-use Rattle.far_evac.specs.Live.{lacking, live_in, live_among}
+use Rattle.far_evac.specs.Live.{is_empty, lacking, live_in, live_among}
 use Rattle.far_evac.specs.Marking.{after_marking, leaves_some, marked_core, newly_marked}
 use Rattle.far_evac.specs.Moment.{Moment}
 use Rattle.far_evac.specs.Choosing.{after_aborting}
-use Rattle.far_evac.specs.RoundSteps.{advanced, unmarked}
+use Rattle.far_evac.specs.RoundSteps.{advanced, among, unmarked}
 use Rattle.far_evac.proofs.LiveOnce.{LivesIn, all_append, each_map, live_named, near_at}
+
+-- ---- truth values
+and_yes : (b : Bool) → (b && true) ≡ b
+and_yes true = refl
+and_yes false = refl
+
+and_no : (b : Bool) → (b && false) ≡ false
+and_no true = refl
+and_no false = refl
+
+left_so : (here round : Bool) → cond here false round ≡ (round && not here)
+left_so true round = sym (and_no round)
+left_so false round = sym (and_yes round)
+
+not_either : (r a b : Bool) → ((r && not a) && not b) ≡ (r && not (a || b))
+not_either true true b = refl
+not_either true false b = refl
+not_either false a b = refl
+
+or_more : (a b c : Bool) → (a || (b || c)) ≡ ((a || b) || c)
+or_more true b c = refl
+or_more false b c = refl
+
+or_and : (a b : Bool) → (a || (a && b)) ≡ a
+or_and true b = refl
+or_and false b = refl
+
+absorbs : (some other : Bool) → (some || (other && some)) ≡ some
+absorbs true other = refl
+absorbs false other = and_no other
+
+by_held : (r held none : Bool) → (r && not (held && not none)) ≡ cond held (r && none) r
+by_held r true true = refl
+by_held r true false = refl
+by_held r false none = and_yes r
 
 -- ---- one cell
 -- a near word of 64 bits
@@ -173,6 +208,77 @@ module _ (m : Moment) (n : ℕ) (fits : (p : ℕ) → m.core.cell p < 2 ^ 64) wh
         ∙ others_stay true marked (λ w. bit_or w (2 ^ position Evac)) (λ s q. refl) mark_sets (newly_marked m n) m.core p apart;
   }
 
+-- ---- giving up: which logs leave the core's round
+-- a cell names a place in a log
+abbrev in_log : Option PtrWord → ℕ → Bool
+in_log None l = false
+in_log (Some Free) l = false
+in_log (Some (Near len ds place marks)) l = l == place.log
+in_log (Some (Far len ds marks)) l = false
+
+left_by : (round : ℕ → Bool) (o : Option PtrWord) (l : ℕ) → round_left round o l ≡ (round l && not (in_log o l))
+left_by round None l = sym (and_yes (round l))
+left_by round (Some Free) l = sym (and_yes (round l))
+left_by round (Some (Near len ds place marks)) l = left_so (l == place.log) (round l)
+left_by round (Some (Far len ds marks)) l = sym (and_yes (round l))
+
+log_but : (o : Option PtrWord) (l : ℕ) → in_log o l ≡ in_log (but_evac o) l
+log_but None l = refl
+log_but (Some Free) l = refl
+log_but (Some (Near len ds place marks)) l = refl
+log_but (Some (Far len ds marks)) l = refl
+
+abbrev any_in : State → List ℕ → ℕ → Bool
+any_in s ps l = list_any (λ p. in_log (read_of (s.cell p)) l) ps
+
+any_same : (s t : State) (ps : List ℕ) (l : ℕ) → ((p : ℕ) → but_evac (read_of (t.cell p)) ≡ but_evac (read_of (s.cell p))) → any_in t ps l ≡ any_in s ps l
+any_same s t [] l same = refl
+any_same s t (p ∷ ps) l same =
+    ap (λ b. b || any_in t ps l) (log_but (read_of (t.cell p)) l ∙ ap (λ o. in_log o l) (same p) ∙ sym (log_but (read_of (s.cell p)) l))
+    ∙ ap (λ b. in_log (read_of (s.cell p)) l || b) (any_same s t ps l same)
+
+round_cleared : (ps : List ℕ) (s : State) (l : ℕ) → AllByRecursion (λ p. IsNearWord (s.cell p)) ps → (fold unmarked s ps).round l ≡ (s.round l && not (any_in s ps l))
+round_cleared [] s l near = sym (and_yes (s.round l))
+round_cleared (p ∷ ps) s l near =
+    round_cleared ps (unmarked s p) l (all_near false unmarked evac_cleared (λ u q. refl) clear_sets s p ps near.0 near.1)
+    ∙ ap (λ b. (unmarked s p).round l && not b) (any_same s (unmarked s p) ps l (λ q. (one false unmarked evac_cleared (λ u x. refl) clear_sets s p q near.0).same))
+    ∙ ap (λ b. b && not (any_in s ps l)) (left_by s.round (read_of (s.cell p)) l)
+    ∙ not_either (s.round l) (in_log (read_of (s.cell p)) l) (any_in s ps l)
+
+any_append : (s : State) (l : ℕ) (ps qs : List ℕ) → any_in s (ps ++ qs) l ≡ (any_in s ps l || any_in s qs l)
+any_append s l [] qs = refl
+any_append s l (p ∷ ps) qs = ap (λ b. in_log (read_of (s.cell p)) l || b) (any_append s l ps qs) ∙ or_more (in_log (read_of (s.cell p)) l) (any_in s ps l) (any_in s qs l)
+
+-- whether some of these objects, which live in log k, live in log l
+any_of : (s : State) (k l : ℕ) (ps : List ℕ) → AllByRecursion (LivesIn s k) ps → any_in s ps l ≡ (eqb l k && not (is_empty ps))
+any_of s k l [] lives = sym (and_no (eqb l k))
+any_of s k l (p ∷ ps) lives =
+    let x = near_at (read_of (s.cell p)) k lives.0.0 lives.0.1 in
+    ap (λ b. b || any_in s ps l) (ap (λ o. in_log o l) x.near ∙ ap (λ j. l == j) x.log)
+    ∙ ap (λ b. eqb l k || b) (any_of s k l ps lives.1) ∙ or_and (eqb l k) (not (is_empty ps)) ∙ sym (and_yes (eqb l k))
+
+any_among : (s : State) (l : ℕ) (ls : List ℕ) → any_in s (live_among s ls) l ≡ (among ls l && not (is_empty (live_in s l)))
+any_among s l [] = refl
+any_among s l (k ∷ ks) =
+    any_append s l (live_in s k) (live_among s ks)
+    ∙ ap (λ b. b || any_in s (live_among s ks) l) (any_of s k l (live_in s k) (live_named s k))
+    ∙ ap (λ b. (eqb l k && not (is_empty (live_in s k))) || b) (any_among s l ks)
+    ∙ here_or_there (eqb l k) refl where
+      here_or_there : (here : Bool) → eqb l k ≡ here → ((here && not (is_empty (live_in s k))) || (among ks l && not (is_empty (live_in s l)))) ≡ ((here || among ks l) && not (is_empty (live_in s l)))
+      here_or_there true e = ap (λ j. not (is_empty (live_in s j)) || (among ks l && not (is_empty (live_in s l)))) (sym (eqb-true l k e)) ∙ absorbs (not (is_empty (live_in s l))) (among ks l)
+      here_or_there false e = refl
+
+round_given_up : (m : Moment) → AllByRecursion (λ p. IsNearWord (m.core.cell p)) (live_among m.core m.held) → (l : ℕ) →
+    (after_aborting m).core.round l ≡ cond (among m.held l) (m.core.round l && is_empty (live_in m.core l)) (m.core.round l)
+round_given_up m near l =
+    round_cleared (live_among m.core m.held) m.core l near
+    ∙ ap (λ b. m.core.round l && not b) (any_among m.core l m.held)
+    ∙ by_held (m.core.round l) (among m.held l) (is_empty (live_in m.core l))
+
+clears_cells : (ps : List ℕ) (s : State) → fold unmarked s ps ≡ record s { cell = (fold unmarked s ps).cell; round = (fold unmarked s ps).round }
+clears_cells [] s = refl
+clears_cells (p ∷ ps) s = clears_cells ps (unmarked s p)
+
 -- ---- giving up
 pub is_given_up : (m : Moment) → ((p : ℕ) → m.core.cell p < 2 ^ 64) → IsGivenUp m (after_aborting m)
 is_given_up m fits =
@@ -182,4 +288,6 @@ is_given_up m fits =
       bare = all_set false unmarked evac_cleared (λ s p. refl) clear_sets ps m.core near;
       same = λ p. (all_like false unmarked evac_cleared (λ s q. refl) clear_sets ps m.core near p).same;
       others = λ p apart. others_stay false unmarked evac_cleared (λ s q. refl) clear_sets ps m.core p apart;
+      round = round_given_up m near;
+      rest = ap (λ (s : State). record m { core = s; phase = Idle; held = [] }) (clears_cells ps m.core);
     }

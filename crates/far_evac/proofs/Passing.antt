@@ -80,7 +80,7 @@ module _ (s : State) (law : Law (own_part s)) (l at : ℕ) (span : Span) (first 
   not_before = (stands_there s law l at span (subst (λ xs. Contains xs span) (sym first) (here span (live_from s l (span.at + size_of span.len))))).0
 
   -- each object that lies from the word on is the first, or lies behind it
-  one_or_behind : (p len ds : ℕ) (place : Place) (marks : Marks) → read_of (s.cell p) ≡ Some (Near len ds place marks) → place.log ≡ l → at ≤ place.at →
+  pub one_or_behind : (p len ds : ℕ) (place : Place) (marks : Marks) → read_of (s.cell p) ≡ Some (Near len ds place marks) → place.log ≡ l → at ≤ place.at →
       (span ≡ span_for p len ds place.at) ⊎ (span.at + size_of span.len ≤ place.at)
   one_or_behind p len ds place marks near log le =
       elim (split (span_for p len ds place.at) span (live_from s l (span.at + size_of span.len))

@@ -22,13 +22,13 @@ use Rattle.far_evac.proofs.Joined.{plus_nothing}
 use Rattle.far_evac.proofs.Walks.{moment_same, walk_is}
 
 -- ---- a poll
-found_in : (test : ℕ → Bool) (k a n : ℕ) → find test (range_with_len a n) ≡ Some k → (test k ≡ true) × (k < a + n)
+pub found_in : (test : ℕ → Bool) (k a n : ℕ) → find test (range_with_len a n) ≡ Some k → (test k ≡ true) × (k < a + n)
 found_in test k a zero = λ e. absurd cc
 found_in test k a (suc n) = cond_both (test a) (Some a) (find test (range_with_len (a + 1) n)) (λ (o : Option ℕ). o ≡ Some k → (test k ≡ true) × (k < a + suc n))
     (λ h e. let same : a ≡ k = cc in (ap test (sym same) ∙ h, omega (arith, same)))
     (λ _ e. let rest = found_in test k (a + 1) n e in (rest.0, omega (arith, rest.1)))
 
-unseen : (clear now : Bool) → not (clear || now) ≡ true → (clear ≡ false) × (now ≡ false)
+pub unseen : (clear now : Bool) → not (clear || now) ≡ true → (clear ≡ false) × (now ≡ false)
 unseen true now h = absurd (false≢true h)
 unseen false true h = absurd (false≢true h)
 unseen false false h = (refl, refl)

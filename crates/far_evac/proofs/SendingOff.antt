@@ -79,7 +79,7 @@ module _ (s : State) (p : ℕ) (q : IsQuietNear s p) (law : Law (own_part s)) (e
 
   -- ---- a word that was found in its cell
   module _ (w : ℕ) (finds : Finds (s.cell p) w) where
-    found : IsNearTo (read_of w) q.len q.ds q.place q.marks.evac
+    pub found : IsNearTo (read_of w) q.len q.ds q.place q.marks.evac
     found = near_found (s.cell p) w finds q.len q.ds q.place q.marks q.near
 
     alive_before : found.marks.dropped ≡ false → q.marks.dropped ≡ false
@@ -226,6 +226,10 @@ pub err_map : {A B : Type 0} {P Q : B → Type 0} → (result : Result A B) → 
 err_map (Ok x) f h = tt
 err_map (Err why) f h = f why h
 
+pub err_both : {A B : Type 0} {P Q R : B → Type 0} → (result : Result A B) → ((x : B) → P x → Q x → R x) → IfErr result P → IfErr result Q → IfErr result R
+err_both (Ok x) f h g = tt
+err_both (Err why) f h g = f why h g
+
 -- an answer that was refused is no other
 pub no_answer : {A : Type 0} {P : Type 0} → (result : Result A Refused) (why : Refused) (x : A) → result ≡ Err why → (P → result ≡ Ok x) → P → ⊥
 no_answer result why x refused asked h = let odd : Err why ≡ Ok x = sym refused ∙ asked h in absurd cc
@@ -283,7 +287,7 @@ module _ (s : State) (p : ℕ) (q : IsQuietNear s p) (law : Law (own_part s)) (e
   abbrev f : IsNearTo (read_of w) q.len q.ds q.place q.marks.evac
   f = found s p q law evac w finds
 
-  sealed_kept : (way : Way) → way_of s (read_of w) ≡ way → KeepsSealed s (core_by s p way)
+  pub sealed_kept : (way : Way) → way_of s (read_of w) ≡ way → KeepsSealed s (core_by s p way)
   sealed_kept Drops e = (sealed_logs_kept s p 0 0 law).ends
   sealed_kept (Moves place) e =
       let why = moves_when f.marks.dropped f.marks.hot (room s (size_of q.len) false) place (sym (ap (way_of s) f.near) ∙ e) in

@@ -97,6 +97,9 @@ module _ (w : Walked) (l : ℕ) (ls : List ℕ) (front : w.moment.held ≡ l ∷
   pub front_left : (p : ℕ) (rest : List ℕ) → live_in w.moment.core l ≡ p ∷ rest → (more : List ℕ) × (left w ≡ p ∷ more)
   front_left p rest first = (rest ++ live_among w.moment.core ls, ap (live_among w.moment.core) front ∙ ap (λ live. live ++ live_among w.moment.core ls) first)
 
+  pub front_stays : (p : ℕ) (rest : List ℕ) → live_in w.moment.core l ≡ p ∷ rest → settled w ≡ w
+  front_stays p rest first = ap (passed w) front ∙ ap front_by first ∙ (λ i. record w { moment = record w.moment { held = (sym front) i } })
+
   pub front_goes : live_in w.moment.core l ≡ [] → settled w ≡ passed (freed w l) ls
   front_goes none = ap (passed w) front ∙ ap front_by none
 

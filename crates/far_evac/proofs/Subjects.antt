@@ -70,7 +70,7 @@ module _ (p q : ℕ) (other : q ≢ p) where
   so_cell s Goes = evicted_cell s (read_of (s.cell p))
 
 -- a log that is given back leaves all cells
-passed_cell : (ls : List ℕ) (v : Walked) → (passed v ls).moment.core.cell ≡ v.moment.core.cell
+pub passed_cell : (ls : List ℕ) (v : Walked) → (passed v ls).moment.core.cell ≡ v.moment.core.cell
 passed_cell [] v = refl
 passed_cell (l ∷ ls) v = cond_both (is_empty (live_in v.moment.core l)) (passed (freed v l) ls) (record v { moment = record v.moment { held = l ∷ ls } })
     (λ (w : Walked). w.moment.core.cell ≡ v.moment.core.cell) (λ _. passed_cell ls (freed v l)) (λ _. refl)
@@ -183,7 +183,7 @@ all_end : (P : ℕ → Type 0) (xs : List ℕ) (x : ℕ) → AllByRecursion P xs
 all_end P [] x h here = (here, tt)
 all_end P (y ∷ ys) x h here = (h.0, all_end P ys x h.1 here)
 
-all_front : (P : ℕ → Type 0) (xs : List ℕ) (x : ℕ) → AllByRecursion P (xs ++ (x ∷ [])) → AllByRecursion P xs × P x
+pub all_front : (P : ℕ → Type 0) (xs : List ℕ) (x : ℕ) → AllByRecursion P (xs ++ (x ∷ [])) → AllByRecursion P xs × P x
 all_front P [] x h = (tt, h.0)
 all_front P (y ∷ ys) x h = let rest = all_front P ys x h.1 in ((h.0, rest.0), rest.1)
 

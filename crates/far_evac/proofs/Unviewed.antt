@@ -1,5 +1,5 @@
 -- Once all owners are clear nobody views anything in the logs of the round.
-use Rattle.std.proofs.Common.{inl, inr, ◌≡◌, ◌≢◌, ℕ, zero, suc, ◌+◌, ◌*◌, ◌/◌, ◌%◌, ◌<◌, ◌≤◌, Bool, true, false, cond, ◌||◌, ◌&&◌, ◌==◌, nat_lt, nat_le, Option, Some, None, arith, ap, sym, refl, ◌∙◌}
+use Rattle.std.proofs.Common.{inl, inr, ◌≡◌, ◌≢◌, ℕ, zero, suc, ◌+◌, ◌*◌, ◌/◌, ◌%◌, ◌<◌, ◌≤◌, Bool, true, false, cond, ◌||◌, ◌&&◌, ◌==◌, nat_lt, nat_le, Option, Some, None, arith, ap, sym, refl, ◌∙◌, subst}
 use Rattle.std.specs.Prelude.{IsSome, find, is_some}
 use Rattle.std.specs.List.{range_with_len}
 use Rattle.std.proofs.lemmas.Bool.{cases_lt, cond_both, eqb-true, false≢true, false_from_ne_true, true≢false}
@@ -10,6 +10,8 @@ use Rattle.far_word.specs.declared.sizes.TheConstants.{CELLS, EPOCH_END}
 use Rattle.far_word.specs.Scope.{scope_of}
 use Rattle.far_core.specs.state.Law.{Law}
 use Rattle.far_core.specs.state.State.{State}
+use Rattle.far_evac.specs.declared.phase.Phase.TheVariants.{Evacuating}
+use Rattle.far_evac.specs.Laws.{ClearViewsNothing}
 use Rattle.far_evac.specs.Moment.{Moment}
 use Rattle.far_evac.specs.MomentLaw.{MomentLaw, has_risen}
 use Rattle.far_evac.specs.RoundSteps.{among, is_clear_now}
@@ -26,7 +28,7 @@ none_found test k a (suc n) = cond_both (test a) (Some a) (find test (range_with
     ])
 
 -- a word of a scope that isn't closed is that of one that is open
-open_of : (w : ℕ) → w ≢ 0 → IsSome (scope_of w) → scope_of w ≡ Some (scoped.Open (w / 2))
+pub open_of : (w : ℕ) → w ≢ 0 → IsSome (scope_of w) → scope_of w ≡ Some (scoped.Open (w / 2))
 unfolding scope_of
 open_of w opened = cond_both (w == 0) (Some scoped.Closed) (cond ((w % 2 == 1) && nat_lt w (2 * EPOCH_END)) (Some (scoped.Open (w / 2))) None)
     (λ (o : Option _). IsSome o → o ≡ Some (scoped.Open (w / 2)))
@@ -34,7 +36,7 @@ open_of w opened = cond_both (w == 0) (Some scoped.Closed) (cond ((w % 2 == 1) &
     (λ _. cond_both ((w % 2 == 1) && nat_lt w (2 * EPOCH_END)) (Some (scoped.Open (w / 2))) None (λ (o : Option _). IsSome o → o ≡ Some (scoped.Open (w / 2)))
     (λ _ _. refl) (λ _ none. absurd (false≢true none)))
 
-late_of : (w epoch : ℕ) → w ≢ 0 → ((w == 0) || nat_le epoch (w / 2)) ≡ true → epoch ≤ w / 2
+pub late_of : (w epoch : ℕ) → w ≢ 0 → ((w == 0) || nat_le epoch (w / 2)) ≡ true → epoch ≤ w / 2
 late_of w epoch opened h = grind (arith, nat_tests, opened, h)
 
 module _ (s : State) (law : Law s) (all : first_open s ≡ None) (p : ℕ) (place : Place) (views : s.held p ≡ Some place) where
@@ -60,3 +62,19 @@ pub clear_means_unviewed : (m : Moment) → Law m.core → MomentLaw m → has_r
     (p : ℕ) (place : Place) → m.core.held p ≡ Some place → among m.held place.log ≡ false
 clear_means_unviewed m law moment risen all p place views =
     false_from_ne_true (among m.held place.log) (λ held. true≢false (sym (moment.round risen place.log held) ∙ out_of_round m.core law all p place views))
+
+-- ---- later in the round
+module _ (m : Moment) (s : State) (law : Law s) (round : s.round ≡ m.core.round) (clear : s.clear ≡ m.core.clear) (mutators : s.mutators ≡ m.core.mutators) (moment : MomentLaw m)
+    (risen : has_risen m.phase ≡ true) (p : ℕ) (place : Place) (views : s.held p ≡ Some place) where
+  seen_clear : m.core.clear (p / CELLS) ≡ true → among m.held place.log ≡ false
+  seen_clear seen = false_from_ne_true (among m.held place.log) (λ held. true≢false (
+      sym (moment.round risen place.log held) ∙ ap (λ f. f place.log) (sym round) ∙ law.clears.clear_unviewed p place views (ap (λ f. f (p / CELLS)) clear ∙ seen)))
+
+  owned : p / CELLS < m.core.mutators
+  owned = subst (λ n. p / CELLS < n) mutators (law.scopes.scope_range (p / CELLS) (law.views.held_open p (ap is_some views)))
+
+  pub nothing_viewed : (m.core.clear (p / CELLS) ≡ true → among m.held place.log ≡ false) × (m.phase ≡ Evacuating → among m.held place.log ≡ false)
+  nothing_viewed = (seen_clear, λ leaves. seen_clear (moment.clear leaves (p / CELLS) owned))
+
+pub clear_views_nothing : ClearViewsNothing
+clear_views_nothing m s law round clear mutators moment risen p place views = nothing_viewed m s law round clear mutators moment risen p place views

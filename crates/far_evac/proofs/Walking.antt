@@ -23,7 +23,7 @@ use Rattle.far_evac.proofs.OfOneKind.{sealed_used}
 same_front : (k l : ℕ) (ks ls : List ℕ) → k ∷ ks ≡ l ∷ ls → k ≡ l
 same_front k l ks ls e = cc
 
-among_front : (held : List ℕ) (l : ℕ) (ls : List ℕ) → held ≡ l ∷ ls → among held l ≡ true
+pub among_front : (held : List ℕ) (l : ℕ) (ls : List ℕ) → held ≡ l ∷ ls → among held l ≡ true
 among_front held l ls e = dropped_among held 0 l ls e
 
 -- ---- marks were found, and nothing else was done
@@ -54,7 +54,7 @@ module _ (s : State) (r : Round) (in_round : InRound s r) (law : Law (own_part s
   front_vacant none = vacant_in s law l r.at front_lies none
 
   -- the walk stands at another word of it
-  stands_at : (at : ℕ) → IsBoundary s l at → LiesFrom s l at → InRound s (record r { at = at })
+  pub stands_at : (at : ℕ) → IsBoundary s l at → LiesFrom s l at → InRound s (record r { at = at })
   stands_at at begins lies = let h = in_round.stands in record {
     holds = in_round.holds;
     stands = record {

@@ -10,6 +10,7 @@ use Rattle.far_core.specs.state.Law.{Law}
 use Rattle.far_core.specs.state.Room.{room}
 use Rattle.far_core.specs.state.State.{State}
 use Rattle.far_book.specs.Owners.{OwnersChange}
+use Rattle.far_book.specs.book.Ages.{SealsBehind}
 use Rattle.far_book.specs.book.Dealing.{IsQuietNear, goal, moved_now, order_moved}
 use Rattle.far_book.specs.book.Effects.{fetched, order_after, placed, retired}
 use Rattle.far_book.specs.book.Fetching.{IsFar, room_for}
@@ -68,6 +69,10 @@ RetiringStepsAside = (s : State) (p : ℕ) → is_dropped (read_of (s.cell p)) �
 -- after two steps they are as after one, unless both open another log
 abbrev pub CoresJoin : Type 0
 CoresJoin = (m : Moment) (t u : State) → (t.current ≡ m.core.current) ⊎ (u.current ≡ t.current) → with_core (with_core m t) u ≡ with_core m u
+
+-- what was sealed in a step stands behind those that were sealed before, which stay in their order
+abbrev pub CallersSealBehind : Type 0
+CallersSealBehind = (m : Moment) (t : State) → Law m.core → Law t → StepsAside m.core t → SealsBehind m.core t m.order (with_core m t).order
 
 abbrev pub StillOrder : Type 0
 StillOrder = (m : Moment) (t : State) → t.current ≡ m.core.current → with_core m t ≡ record m { core = t }

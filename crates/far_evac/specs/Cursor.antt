@@ -1,8 +1,9 @@
--- Where marking stands within the logs, and what one step of it leaves.
-use Rattle.std.specs.Prelude.{◌≡◌, ℕ, ◌+◌, ◌<◌, ◌≤◌, false, Some, List, [], ◌∷◌, drop}
+-- Where marking and the walk stand within the logs, and what one step of marking leaves.
+use Rattle.std.specs.Prelude.{◌≡◌, ◌≢◌, ℕ, ◌+◌, ◌<◌, ◌≤◌, false, Some, List, [], ◌∷◌, drop}
 use Rattle.far_word.specs.declared.mark.Marks.{Marks}
 use Rattle.far_word.specs.declared.pointer.Place.{Place}
 use Rattle.far_word.specs.declared.pointer.PtrWord.TheVariants.{Near}
+use Rattle.far_word.specs.declared.sizes.TheConstants.{LOG_WORDS}
 use Rattle.far_word.specs.Pointer.{read_of}
 use Rattle.far_word.specs.Sizes.{size_of}
 use Rattle.far_log.specs.declared.span.Span.{Span}
@@ -10,8 +11,14 @@ use Rattle.far_core.specs.state.State.{State}
 use Rattle.far_book.specs.book.Dealing.{has_evac}
 use Rattle.far_book.specs.book.Effects.{marked}
 use Rattle.far_book.specs.book.NextLive.{IsBoundary, IsHomeOf}
+use Rattle.far_evac.specs.declared.round.Cursor.{Cursor}
 use Rattle.far_evac.specs.declared.round.Round.{Round}
+use Rattle.far_evac.specs.Live.{live_in}
 use Rattle.far_evac.specs.Standing.{MarkedBefore}
+
+-- a round once it stands there
+abbrev pub standing_at : Round → Cursor → Round
+standing_at r cursor = record r { index = cursor.index; at = cursor.at }
 
 -- an object lies in a span of a log and lacks EVAC, each that lies there before has it, and no other lies in the span
 pub record IsNextLacking (s : State) (l : ℕ) (span : Span) : Type 0 where
@@ -35,3 +42,15 @@ pub record StandsAt (s : State) (r : Round) (span : Span) : Type 0 where
 abbrev pub first_marked : State → List ℕ → State
 first_marked s [] = s
 first_marked s (p ∷ ps) = marked s p
+
+-- the first live object of the log in front lies in a span, and each other that lies in the log lies behind the span
+pub record IsNextLeaving (s : State) (held : List ℕ) (span : Span) : Type 0 where
+  pub log : ℕ
+  pub more : List ℕ
+  pub front : held ≡ log ∷ more
+  pub rest : List ℕ
+  pub first : live_in s log ≡ span.p ∷ rest
+  pub behind : IsBoundary s log (span.at + size_of span.len)
+  pub inside : span.at + size_of span.len ≤ LOG_WORDS
+  pub others : (p len ds : ℕ) (place : Place) (marks : Marks) → read_of (s.cell p) ≡ Some (Near len ds place marks) → place.log ≡ log → p ≢ span.p →
+      span.at + size_of span.len ≤ place.at

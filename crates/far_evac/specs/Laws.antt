@@ -1,11 +1,12 @@
 -- What the definitions of a round come to, in other words.
-use Rattle.std.specs.Prelude.{◌≡◌, ℕ, ◌+◌, ◌*◌, ◌<◌, ◌≤◌, ◌↔◌, true, false, Some, List, ◌∷◌, length, take, drop, Contains, ◌≢◌, ◌^◌, Option, option_map, IsSome, zero, suc, None}
-use Rattle.std.specs.List.{AllByRecursion}
+use Rattle.std.specs.Prelude.{◌≡◌, ℕ, ◌+◌, ◌*◌, ◌/◌, ◌<◌, ◌≤◌, ◌↔◌, ◌⊎◌, ◌&&◌, cond, true, false, Some, eqb, List, [], ◌∷◌, length, take, drop, Contains, ◌≢◌, ◌^◌, Option, option_map, IsSome, zero, suc, None}
+use Rattle.std.specs.List.{AllByRecursion, IsDistinct}
 use Rattle.far_word.specs.declared.sizes.TheConstants.{CELLS}
 use Rattle.far_word.specs.declared.pointer.Place.{Place}
 use Rattle.far_word.specs.declared.pointer.PtrWord.{PtrWord}
 use Rattle.far_word.specs.Pointer.{read_of, without_evac}
 use Rattle.far_book.specs.book.Dealing.{has_evac}
+use Rattle.far_word.specs.declared.scope.ScopeWord.TheVariants.{Closed, Open}
 use Rattle.far_word.specs.Scope.{scope_of}
 use Rattle.far_core.specs.declared.event.Event.TheVariants.{Advance, Look}
 use Rattle.far_core.specs.events.Advance.{is_among}
@@ -18,12 +19,14 @@ use Rattle.far_core.specs.state.State.{State}
 use Rattle.far_book.specs.declared.home.Home.{Home}
 use Rattle.far_book.specs.book.Home.{home_of}
 use Rattle.far_evac.specs.Census.{homes_of}
-use Rattle.far_evac.specs.declared.phase.Phase.TheVariants.{Waiting}
+use Rattle.far_evac.specs.declared.answers.Polled.{Polled}
+use Rattle.far_evac.specs.declared.answers.Polled.TheVariants.{Clear, StillOpen}
+use Rattle.far_evac.specs.declared.phase.Phase.TheVariants.{Idle, Waiting, Evacuating}
 use Rattle.far_evac.specs.AnyHand.{Polls, RunsRound, WalksTo, Walks}
 use Rattle.far_evac.specs.Choosing.{after_aborting, after_selecting}
 use Rattle.far_evac.specs.Dealings.{DealsWith, GivesBack, says}
-use Rattle.far_evac.specs.Live.{live_among}
-use Rattle.far_evac.specs.Marking.{after_marking, leaves_some, newly_marked}
+use Rattle.far_evac.specs.Live.{is_empty, lacking, live_among, live_in}
+use Rattle.far_evac.specs.Marking.{after_marking, leaves_some, newly_marked, waiting_for}
 use Rattle.far_evac.specs.Moment.{Moment, Tally, objects_in, plus}
 use Rattle.far_evac.specs.MomentLaw.{MomentLaw, has_risen}
 use Rattle.far_evac.specs.Ready.{Ready}
@@ -96,6 +99,12 @@ abbrev pub ClearMeansUnviewed : Type 0
 ClearMeansUnviewed = (m : Moment) → Law m.core → MomentLaw m → has_risen m.phase ≡ true → first_open m.core ≡ None →
     (p : ℕ) (place : Place) → m.core.held p ≡ Some place → among m.held place.log ≡ false
 
+-- and nobody does in the heap as it is then, or ever after in the round, also once owners have opened again: s is any state whose round and whose owners
+-- seen clear are those that the moment knows. While owners are waited for, those that were seen clear view nothing there
+abbrev pub ClearViewsNothing : Type 0
+ClearViewsNothing = (m : Moment) (s : State) → Law s → s.round ≡ m.core.round → s.clear ≡ m.core.clear → s.mutators ≡ m.core.mutators → MomentLaw m → has_risen m.phase ≡ true →
+    (p : ℕ) (place : Place) → s.held p ≡ Some place → (m.core.clear (p / CELLS) ≡ true → among m.held place.log ≡ false) × (m.phase ≡ Evacuating → among m.held place.log ≡ false)
+
 -- what a word says, but for EVAC
 abbrev pub but_evac : Option PtrWord → Option PtrWord
 but_evac = option_map without_evac
@@ -111,11 +120,32 @@ pub record IsMarked (m t : Moment) (n : ℕ) : Type 0 where
 abbrev pub MarkingIsRight : Type 0
 MarkingIsRight = (m : Moment) (n : ℕ) → ((p : ℕ) → m.core.cell p < 2 ^ 64) → IsMarked m (after_marking m n) n
 
--- no live object of the logs that were held has EVAC; in no cell anything else has changed, and in the cells of others nothing
+-- the objects that are counted are live ones that lacked EVAC, each once, and n at most; those that lack it then are the others, in their order. While the
+-- answer names no epoch there were n, one lacks it still, and nothing but cells has changed. Else none lacks it; the epoch that is named is the next one,
+-- the round waits in it with the logs held, and nobody was seen clear yet
+pub record IsCounted (m t : Moment) (n : ℕ) : Type 0 where
+  pub bare : AllByRecursion (λ p. has_evac (says m p) ≡ false) (newly_marked m n)
+  pub live : AllByRecursion (λ p. Contains (live_among m.core m.held) p) (newly_marked m n)
+  pub once : IsDistinct eqb (newly_marked m n)
+  pub most : length (newly_marked m n) ≤ n
+  pub left : lacking t.core t.held ≡ drop (length (newly_marked m n)) (lacking m.core m.held)
+  pub goes_on : waiting_for m n ≡ None → (length (newly_marked m n) ≡ n) × (is_empty (lacking t.core t.held) ≡ false) × (t ≡ record m { core = record m.core { cell = t.core.cell } })
+  pub waits : (epoch : ℕ) → waiting_for m n ≡ Some epoch → (epoch ≡ m.core.epoch + 1) × (lacking t.core t.held ≡ [])
+      × (t ≡ record m { core = record m.core { cell = t.core.cell; epoch = epoch; round = among m.held; round_epoch = epoch; clear = λ _. false }; phase = Waiting })
+
+-- where each log is held once
+abbrev pub MarkingIsCounted : Type 0
+MarkingIsCounted = (m : Moment) (n : ℕ) → ((p : ℕ) → m.core.cell p < 2 ^ 64) → IsDistinct eqb m.held → IsCounted m (after_marking m n) n
+
+-- no live object of the logs that were held has EVAC; in no cell anything else has changed, and in the cells of others nothing. The logs that were held
+-- are out of the core's round, but for those without a live object, and no other log is; no round is running, and all else is as it was: also the order and
+-- the kinds of the logs, words, epochs and who was seen clear
 pub record IsGivenUp (m t : Moment) : Type 0 where
   pub bare : AllByRecursion (λ p. has_evac (says t p) ≡ false) (live_among m.core m.held)
   pub same : (p : ℕ) → but_evac (says t p) ≡ but_evac (says m p)
   pub others : (p : ℕ) → AllByRecursion (λ q. q ≢ p) (live_among m.core m.held) → t.core.cell p ≡ m.core.cell p
+  pub round : (l : ℕ) → t.core.round l ≡ cond (among m.held l) (m.core.round l && is_empty (live_in m.core l)) (m.core.round l)
+  pub rest : t ≡ record m { core = record m.core { cell = t.core.cell; round = t.core.round }; phase = Idle; held = [] }
 
 abbrev pub GivingUpIsRight : Type 0
 GivingUpIsRight = (m : Moment) → ((p : ℕ) → m.core.cell p < 2 ^ 64) → IsGivenUp m (after_aborting m)
@@ -128,6 +158,26 @@ CensusIsExact = (s : State) (p : ℕ) (home : Home) → Contains (homes_of s) re
 -- a poll that found an owner open finds it again, and leaves what one poll left
 abbrev pub PollIsOnce : Type 0
 PollIsOnce = (m : Moment) (k : ℕ) → first_open m.core ≡ Some k → (first_open (after_polling m).core ≡ Some k) × (after_polling (after_polling m) ≡ after_polling m)
+
+-- an owner was seen clear, or its scope is closed, or open at the round's epoch or later
+abbrev pub HoldsUpNone : State → ℕ → Type 0
+HoldsUpNone s k = (s.clear k ≡ true) ⊎ (scope_of (s.scope k) ≡ Some Closed) ⊎ ((epoch : ℕ) × (scope_of (s.scope k) ≡ Some (Open epoch)) × (s.round_epoch ≤ epoch))
+
+-- an owner who wasn't seen clear is open at this epoch, which is older than the round's, and those before it hold up nothing
+pub record IsFirstOpen (s : State) (k epoch : ℕ) : Type 0 where
+  pub owner : k < s.mutators
+  pub scope : s.scope k ≡ 2 * epoch + 1
+  pub older : epoch < s.round_epoch
+  pub unseen : s.clear k ≡ false
+  pub before : (j : ℕ) → j < k → HoldsUpNone s j
+
+-- what an answer of a poll says of the owners
+abbrev pub IsTold : State → Polled → Type 0
+IsTold s Clear = (k : ℕ) → k < s.mutators → HoldsUpNone s k
+IsTold s (StillOpen k epoch) = IsFirstOpen s k epoch
+
+abbrev pub WaitIsNamed : Type 0
+WaitIsNamed = (s : State) → ((k : ℕ) → IsSome (scope_of (s.scope k))) → IsTold s (polled s)
 
 -- where a turn found the round waiting, and left it so, no turn after it changes anything
 abbrev pub WaitingStays : Type 0

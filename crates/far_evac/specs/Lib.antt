@@ -4,12 +4,14 @@ pub mod Census
 pub mod Choosing
 pub mod Cursor
 pub mod Dealings
+pub mod Emptied
 pub mod EvacOf
 pub mod Failing
 pub mod Laws
 pub mod Leading
 pub mod Leaving
 pub mod Live
+pub mod LiveLaws
 pub mod Marking
 pub mod Moment
 pub mod MomentLaw
@@ -23,3 +25,5 @@ pub mod Turning
 pub mod Turns
 pub mod Waiting
 pub mod Walk
+pub mod WayLaws
+pub mod worked

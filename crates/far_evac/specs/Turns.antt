@@ -1,5 +1,6 @@
 -- Whole rounds: turn after turn, where no word changes but by this.
-use Rattle.std.specs.Prelude.{◌≡◌, ℕ, List, [], ◌∷◌, zero, suc, Bool, true, false, cond, if◌then◌else◌}
+use Rattle.std.specs.Prelude.{◌≡◌, ◌<◌, ℕ, List, [], ◌∷◌, zero, suc, Bool, true, false, cond, if◌then◌else◌}
+use Rattle.far_evac.specs.declared.answers.Progress.{Progress}
 use Rattle.far_evac.specs.declared.answers.RoundEnd.{RoundEnd}
 use Rattle.far_evac.specs.declared.answers.RoundEnd.TheVariants.{Done, Limit, Nothing}
 use Rattle.far_evac.specs.declared.phase.Phase.{Phase}
@@ -45,3 +46,12 @@ round_end r = cond r.over (Done (progress_of r.tally true)) (Limit r.moment.phas
 abbrev pub IsRound : Moment → List ℕ → ℕ → RoundEnd → Moment → Type 0
 IsRound m [] turns end t = (end ≡ Nothing) × (t ≡ m)
 IsRound m (l ∷ ls) turns end t = let r = turns_made (after_selecting m (l ∷ ls)) turns in (end ≡ round_end r) × (t ≡ r.moment)
+
+-- a walk over n objects was refused at one of them: it stands, and has counted, as after those before it
+abbrev pub Halts : Moment → ℕ → Moment → Tally → Type 0
+Halts m n t tally = (k : ℕ) × (k < n) × (t ≡ (walked m k).moment) × (tally ≡ (walked m k).tally)
+
+-- so many turns were to be made, and one was refused, in which objects leave: what the turns before it made, and what was done in it, stays and is counted
+abbrev pub HaltsTurns : Moment → ℕ → Progress → Moment → Type 0
+HaltsTurns m turns so_far t = (n : ℕ) × (tally : Tally) × (n < turns) × ((turns_made m n).over ≡ false) × ((turns_made m n).moment.phase ≡ Evacuating)
+    × Halts (turns_made m n).moment turn_size t tally × (so_far ≡ progress_of (plus (turns_made m n).tally tally) false)

@@ -1,9 +1,13 @@
 //! What the definitions of a round come to, as contracts of functions that do nothing.
 
-ghost use Rattle.far_evac.specs.Callers.{CoresJoin, FetchingOrder, FetchingStepsAside, MovingOrder, MovingStepsAside, OwnersStepAside, PlacingOrder, PlacingStepsAside, RetiringOrder, RetiringStepsAside, StepsJoin, StepsKeep, StillOrder, StillStepsAside};
+ghost use Rattle.far_evac.specs.Callers.{CallersSealBehind, CoresJoin, FetchingOrder, FetchingStepsAside, MovingOrder, MovingStepsAside, OwnersStepAside, PlacingOrder, PlacingStepsAside, RetiringOrder, RetiringStepsAside, StepsJoin, StepsKeep, StillOrder, StillStepsAside};
 ghost use Rattle.far_evac.specs.Leading.{AbortingLeads, ChoiceIsOfSealed, MarkingLeads, PollingLeads, RoundLeads, SelectingLeads, TurnsLead, WalkingLeads};
 ghost use Rattle.far_evac.specs.Owned.{AbortingKeepsObjects, MarkingKeepsObjects, PollingKeepsObjects, RoundKeepsObjects, SelectingKeepsObjects, TurnsKeepObjects, TurnsRetireNone, WalkRetiresNone, WalkingKeepsObjects};
-ghost use Rattle.far_evac.specs.Laws.{CensusIsExact, ClearIsShown, ClearMeansUnviewed, DealingIsInOrder, ExactIsAllowed, GivingUpIsRight, LooksSeeClear, MarkingIsRight, PollIsAllowed, PollIsOnce, RisenIsReady, RoundIsAllowed, RoundIsEvent, WaitingStays, WalkIsTour, WalksJoin};
+ghost use Rattle.far_evac.specs.Emptied.{LogsComeBackEmpty};
+ghost use Rattle.far_evac.specs.LiveLaws.{LiveIsInOrder};
+ghost use Rattle.far_evac.specs.WayLaws.{ObjectsGoTheirWay};
+ghost use Rattle.far_evac.specs.Laws.{CensusIsExact, ClearIsShown, ClearMeansUnviewed, ClearViewsNothing, DealingIsInOrder, ExactIsAllowed, GivingUpIsRight, LooksSeeClear, MarkingIsCounted, MarkingIsRight, PollIsAllowed, PollIsOnce, RisenIsReady, RoundIsAllowed, RoundIsEvent, WaitIsNamed, WaitingStays, WalkIsTour, WalksJoin};
+ghost use Rattle.far_evac.specs.worked.Rows.{EpochsAreNamed, FirstLiesFirst, GivenUp, HotWithoutRoom, LastEpoch, NothingToChoose, OldEpoch, OldView, OldestIsFirst, OpenScopeIsWaitedFor, OpenedAnew, OwnerIsFirst, PhasesAreKept, PlainRound, ReserveIsKept, StepByStep, TurnsRunOut};
 
 /// The exact walk, over words that nobody else changes, is one of those that are allowed over any hand.
 pub fn exact_is_allowed()
@@ -34,20 +38,36 @@ pub fn walks_join()
 {}
 
 /// Over any hand, whatever is found in the cells: k dealings are with the first k live objects of the chosen logs, in their
-/// order, each is counted once, and after the last one each log was given back.
+/// order, each is counted once, and after the last one each log was given back. A log that is counted as given back is free then, and has no bytes, live or
+/// dead.
 pub fn dealing_is_in_order()
-    ensures { DealingIsInOrder }
+    ensures order { DealingIsInOrder }
+    ensures emptied { LogsComeBackEmpty }
+{}
+
+/// The object that k live ones stand before is dealt with by the marks that it had when the walk began, where no word changes but by it: a dropped one is
+/// retired, a cold one goes far, and a hot one to where there is room then, or far where there is none. It has no marks after.
+pub fn objects_go_their_way()
+    ensures { ObjectsGoTheirWay }
 {}
 
 /// Marking sets EVAC in the first n live objects that lack it, or in all, and changes nothing else in any cell; where none is left, each
-/// live object of the chosen logs has it.
+/// live object of the chosen logs has it. What is counted are objects that lacked it, each once; marking goes on exactly while one lacks it, and
+/// where none does the epoch that is named has risen for a round of the chosen logs.
 pub fn marking_is_right()
-    ensures { MarkingIsRight }
+    ensures cells { MarkingIsRight }
+    ensures counted { MarkingIsCounted }
 {}
 
-/// After a round is given up no live object of the logs that were held has EVAC, and nothing else in any cell has changed.
+/// After a round is given up no live object of the logs that were held has EVAC, and these logs are out of the core's round, but for those without
+/// a live object. Nothing else has changed.
 pub fn giving_up_is_right()
     ensures { GivingUpIsRight }
+{}
+
+/// The live objects of some logs are those that lie near there, dropped or not, each once: log after log, and within a log by rising words.
+pub fn live_objects_are_in_order()
+    ensures { LiveIsInOrder }
 {}
 
 /// Once the epoch has risen for a round, the law of the book's part of the core and that of the moment make the walk ready.
@@ -70,9 +90,11 @@ pub fn looks_see_clear()
     ensures { LooksSeeClear }
 {}
 
-/// Where a poll answers that all owners are clear, none of them views anything in the chosen logs.
+/// Where a poll answers that all owners are clear, none of them views anything in the chosen logs. Nor does any later in the round, in the heap as it
+/// is, whatever a hand knows of it; nor one who was seen clear while others are waited for.
 pub fn clear_means_unviewed()
-    ensures { ClearMeansUnviewed }
+    ensures polled { ClearMeansUnviewed }
+    ensures later { ClearViewsNothing }
 {}
 
 /// A census lists each pointer whose cell is used and not dropped, with its home, and no other.
@@ -80,9 +102,11 @@ pub fn census_is_exact()
     ensures { CensusIsExact }
 {}
 
-/// As long as nobody closes or opens a scope, a second poll finds the same owner open, and changes nothing.
+/// A poll names the first owner who holds the round up, and the epoch at which its scope is open. As long as nobody closes or opens a scope, a second
+/// poll finds the same owner open, and changes nothing.
 pub fn poll_is_once()
-    ensures { PollIsOnce }
+    ensures once { PollIsOnce }
+    ensures named { WaitIsNamed }
 {}
 
 /// Where a turn found a round waiting, and left it so, no turn after it changes anything, as long as nobody closes or opens a scope.
@@ -134,12 +158,34 @@ pub fn callers_keep()
     ensures retired { RetiringStepsAside }
 {}
 
-/// After such a step the sealed logs are, oldest first, as the book's call keeps them.
+/// After such a step the sealed logs are, oldest first, as the book's call keeps them: what was sealed in it stands behind those that were sealed before.
 pub fn callers_keep_order()
+    ensures ages { CallersSealBehind }
     ensures joined { CoresJoin }
     ensures still { StillOrder }
     ensures placed { PlacingOrder }
     ensures moved_now { MovingOrder }
     ensures fetched { FetchingOrder }
     ensures retired { RetiringOrder }
+{}
+
+/// Worked examples: whole lists of calls on a heap that nobody else steps, and what they answer.
+pub fn rounds_are_so()
+    ensures reserve_is_kept { ReserveIsKept }
+    ensures plain_round { PlainRound }
+    ensures open_scope_is_waited_for { OpenScopeIsWaitedFor }
+    ensures old_epoch { OldEpoch }
+    ensures old_view { OldView }
+    ensures owner_is_first { OwnerIsFirst }
+    ensures hot_without_room { HotWithoutRoom }
+    ensures phases_are_kept { PhasesAreKept }
+    ensures last_epoch { LastEpoch }
+    ensures opened_anew { OpenedAnew }
+    ensures turns_run_out { TurnsRunOut }
+    ensures nothing_to_choose { NothingToChoose }
+    ensures step_by_step { StepByStep }
+    ensures given_up { GivenUp }
+    ensures first_lies_first { FirstLiesFirst }
+    ensures oldest_is_first { OldestIsFirst }
+    ensures epochs_are_named { EpochsAreNamed }
 {}

@@ -16,3 +16,10 @@ pub(crate) struct Round {
     /// How many owners were seen clear: those of lower number.
     pub(crate) seen: u8,
 }
+
+/// Where marking stands within the chosen logs: in which of them, and at which word of it.
+#[derive(Clone, Copy)]
+pub(crate) struct Cursor {
+    pub(crate) index: usize,
+    pub(crate) at: u16,
+}

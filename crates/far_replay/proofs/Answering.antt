@@ -11,7 +11,6 @@ use Rattle.std.proofs.Math.Seq.{take-length}
 use Rattle.std.proofs.lemmas.Grind.{flat_map-append}
 use Rattle.std.proofs.lemmas.List.{take-append-le}
 use Rattle.far_core.specs.state.Law.{Law}
-use Rattle.far_core.specs.state.State.{State}
 use Rattle.far_replay.specs.Moment.{Moment}
 use Rattle.far_replay.specs.Answers.{Answered, Commanded}
 use Rattle.far_text.specs.Command.{Command, New, Open, Write, Read, Close, Where, Drop, View, Try, Epoch, Logs, Log, Audit, Mutator, Book, Evacuator, Select, Mark, Wait, Evacuate, Abort, Round}

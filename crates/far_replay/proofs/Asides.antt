@@ -35,6 +35,7 @@ use Rattle.far_replay.proofs.Brought.{MayBring}
 use Rattle.far_replay.proofs.Dereferences.{sought_law, sought_may}
 use Rattle.far_replay.proofs.Drops.{retired_either}
 use Rattle.far_replay.proofs.Lowest.{lowest_cell_is}
+use Rattle.far_replay.proofs.WithCore.{same_order}
 
 -- ---- the order, by which log is open
 -- where the open log was another, it is the youngest of the sealed ones
@@ -43,10 +44,6 @@ grown order was open_now = if open_now == was then order else order ++ was ∷ [
 
 pub grown_not : (order : List ℕ) (was open_now : ℕ) → open_now ≡ was → grown order was open_now ≡ order
 grown_not order was open_now same = ap (λ b. if b then order else order ++ was ∷ []) (eq-eqb open_now was same)
-
--- where the same log is open, the order stays
-pub order_stays : (now : Moment) (t : State) → t.current ≡ now.core.current → (with_core now t).order ≡ now.order
-order_stays now t same = grown_not now.order now.core.current t.current same
 
 -- ---- the same log is open after all that takes no span
 pub view_current : (s : State) (p : ℕ) → (with_view s p).current ≡ s.current
@@ -66,22 +63,22 @@ without_current s m p = retired_either (λ (t : State). t.current ≡ s.current)
 
 -- so that the order stays
 pub scope_order : (now : Moment) (m : ℕ) → (with_core now (with_scope now.core m)).order ≡ now.order
-scope_order now m = order_stays now (with_scope now.core m) refl
+scope_order now m = same_order now (with_scope now.core m) refl
 
 pub epoch_order : (now : Moment) (m : ℕ) → (with_core now (with_epoch now.core m)).order ≡ now.order
-epoch_order now m = order_stays now (with_epoch now.core m) refl
+epoch_order now m = same_order now (with_epoch now.core m) refl
 
 pub close_order : (now : Moment) (m : ℕ) → (with_core now (after_close now.core m)).order ≡ now.order
-close_order now m = order_stays now (after_close now.core m) refl
+close_order now m = same_order now (after_close now.core m) refl
 
 pub view_order : (now : Moment) (p : ℕ) → (with_core now (with_view now.core p)).order ≡ now.order
-view_order now p = order_stays now (with_view now.core p) (view_current now.core p)
+view_order now p = same_order now (with_view now.core p) (view_current now.core p)
 
 pub sought_order : (now : Moment) (m p : ℕ) → (with_core now (sought now.core m p)).order ≡ now.order
-sought_order now m p = order_stays now (sought now.core m p) (sought_current now.core m p)
+sought_order now m p = same_order now (sought now.core m p) (sought_current now.core m p)
 
 pub drop_order : (now : Moment) (m p : ℕ) → (with_core now (without_object now.core m p)).order ≡ now.order
-drop_order now m p = order_stays now (without_object now.core m p) (without_current now.core m p)
+drop_order now m p = same_order now (without_object now.core m p) (without_current now.core m p)
 
 -- ---- and the round is left alone
 pub same_aside : (s : State) → StepsAside s s

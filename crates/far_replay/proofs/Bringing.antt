@@ -188,20 +188,19 @@ pub record KeepsOwners (p : ℕ) (s t : State) : Type 0 where
   pub scope : t.scope ≡ s.scope
   pub used : t.used ≡ s.used
   pub mutators : t.mutators ≡ s.mutators
-  pub remembered : t.remembered ≡ s.remembered
   pub held : t.held ≡ s.held
   pub cells : (q : ℕ) → q ≢ p → t.cell q ≡ s.cell q
 
 kept : (p : ℕ) (s : State) → KeepsOwners p s s
-kept p s = record { scope = refl; used = refl; mutators = refl; remembered = refl; held = refl; cells = λ q ne. refl }
+kept p s = record { scope = refl; used = refl; mutators = refl; held = refl; cells = λ q ne. refl }
 
 form_keeps : (s : State) (p new : ℕ) (form : Naming) → KeepsOwners p s (naming_row s p new form).after
-form_keeps s p new (Places len ds place) = record { scope = refl; used = refl; mutators = refl; remembered = refl; held = refl; cells = λ q ne. put_other s.cell p new q ne }
-form_keeps s p new (Moves len ds from to) = record { scope = refl; used = refl; mutators = refl; remembered = refl; held = refl; cells = λ q ne. put_other s.cell p new q ne }
-form_keeps s p new (Evicts len place) = record { scope = refl; used = refl; mutators = refl; remembered = refl; held = refl; cells = λ q ne. put_other s.cell p new q ne }
-form_keeps s p new (Fetches len ds place) = record { scope = refl; used = refl; mutators = refl; remembered = refl; held = refl; cells = λ q ne. put_other s.cell p new q ne }
-form_keeps s p new Stays = record { scope = refl; used = refl; mutators = refl; remembered = refl; held = refl; cells = λ q ne. put_other s.cell p new q ne }
-form_keeps s p new Retires = record { scope = refl; used = refl; mutators = refl; remembered = refl; held = refl; cells = λ q ne. put_other s.cell p new q ne }
+form_keeps s p new (Places len ds place) = record { scope = refl; used = refl; mutators = refl; held = refl; cells = λ q ne. put_other s.cell p new q ne }
+form_keeps s p new (Moves len ds from to) = record { scope = refl; used = refl; mutators = refl; held = refl; cells = λ q ne. put_other s.cell p new q ne }
+form_keeps s p new (Evicts len place) = record { scope = refl; used = refl; mutators = refl; held = refl; cells = λ q ne. put_other s.cell p new q ne }
+form_keeps s p new (Fetches len ds place) = record { scope = refl; used = refl; mutators = refl; held = refl; cells = λ q ne. put_other s.cell p new q ne }
+form_keeps s p new Stays = record { scope = refl; used = refl; mutators = refl; held = refl; cells = λ q ne. put_other s.cell p new q ne }
+form_keeps s p new Retires = record { scope = refl; used = refl; mutators = refl; held = refl; cells = λ q ne. put_other s.cell p new q ne }
 
 naming_keeps : (s : State) (p new : ℕ) (o : Option Naming) → KeepsOwners p s (after_naming s p new o)
 naming_keeps s p new None = kept p s
@@ -213,7 +212,7 @@ name_keeps s p old new = cond_both (s.cell p == old) (after_naming s p new (nami
 written_keeps : (s : State) (p len ds : ℕ) (place : Place) (row : ℕ → ℕ) → KeepsOwners p s (after (with_written_span s p len ds place row) (Name p (s.cell p) (near_word len ds place)))
 written_keeps s p len ds place row =
     let k = name_keeps (with_written_span s p len ds place row) p (s.cell p) (near_word len ds place) in
-    record { scope = k.scope; used = k.used; mutators = k.mutators; remembered = k.remembered; held = k.held; cells = k.cells }
+    record { scope = k.scope; used = k.used; mutators = k.mutators; held = k.held; cells = k.cells }
 
 pub moved_keeps : (s : State) (p : ℕ) (place : Place) (o : Option PtrWord) → KeepsOwners p s (moved_of s p place o)
 moved_keeps s p place None = kept p s
@@ -247,7 +246,7 @@ come_keeps s p = come_keeps_of s p (comes_to s p) (read_of (s.cell p))
 pub asked_keeps : (s : State) (m p : ℕ) (o : Option PtrWord) → KeepsOwners p s (sought_of s m p o)
 asked_keeps s m p None = kept p s
 asked_keeps s m p (Some Free) = kept p s
-asked_keeps s m p (Some (Near len ds place marks)) = record { scope = refl; used = refl; mutators = refl; remembered = refl; held = refl; cells = λ q ne. put_other s.cell p _ q ne }
+asked_keeps s m p (Some (Near len ds place marks)) = record { scope = refl; used = refl; mutators = refl; held = refl; cells = λ q ne. put_other s.cell p _ q ne }
 asked_keeps s m p (Some (Far len ds marks)) = kept p s
 
 pub keeps_both : (p : ℕ) (s t u : State) → KeepsOwners p s t → KeepsOwners p t u → KeepsOwners p s u
@@ -255,7 +254,6 @@ keeps_both p s t u a b = record {
   scope = b.scope ∙ a.scope;
   used = b.used ∙ a.used;
   mutators = b.mutators ∙ a.mutators;
-  remembered = b.remembered ∙ a.remembered;
   held = b.held ∙ a.held;
   cells = λ q ne. b.cells q ne ∙ a.cells q ne;
 }

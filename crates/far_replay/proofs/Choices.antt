@@ -1,12 +1,12 @@
 -- What a policy gives is what its function says, and a round of these logs is the one that is told.
-use Rattle.std.proofs.Common.{◌≡◌, ◌≢◌, ◌⊎◌, inl, inr, ℕ, ◌<◌, Bool, true, false, cond, not, Option, Some, None, List, [], ◌∷◌, Result, Ok, Err, arith, ap, sym, refl, ◌∙◌, subst}
+use Rattle.std.proofs.Common.{◌≡◌, ◌≢◌, ◌⊎◌, inl, inr, ℕ, ◌<◌, Bool, true, false, cond, not, Option, Some, None, List, [], ◌∷◌, take, Result, Ok, Err, arith, ap, sym, refl, ◌∙◌, subst}
 use Rattle.std.specs.Prelude.{IfErr, IfOk, OnOk}
 use Rattle.std.proofs.lemmas.Bool.{false≢true}
 use Rattle.far_word.specs.declared.refused.Refused.{Refused as Refusal}
 use Rattle.far_word.specs.declared.refused.Refused.TheVariants.{Memory, Phase as WrongPhase, EpochsSpent}
 use Rattle.far_word.specs.declared.sizes.TheConstants.{MOST_LOGS}
 use Rattle.far_log.specs.declared.row.LogRow.{LogRow}
-use Rattle.far_policy.specs.Choice.{IsBadChoice, IsChoice}
+use Rattle.far_policy.specs.Choice.{IsChoice}
 use Rattle.far_policy.specs.LeastLive.{TakesLeast, least_live}
 use Rattle.far_policy.specs.Logs.{AreRows, is_among, logs_of}
 use Rattle.far_policy.specs.Scripted.{FollowsScript, scripted}
@@ -25,9 +25,9 @@ use Rattle.far_evac.specs.Moment.{Moment}
 use Rattle.far_evac.specs.MomentLaw.{MomentLaw, is_idle}
 use Rattle.far_evac.specs.Refusals.{unselectable}
 use Rattle.far_evac.specs.Turns.{IsRound}
-use Rattle.far_text.specs.Command.{Choice, By, Script, LeastLive, Policy, Evacuator, Round, Select}
+use Rattle.far_text.specs.Command.{Choice, By, Script, LeastLive, Oldest, Policy, Evacuator, Select}
 use Rattle.far_replay.specs.Reply.{Ended}
-use Rattle.far_replay.specs.Rounds.{after_round, choice_causes, chosen_by, given_by, logs_given, round_told, rows_in, step_effect, step_reply}
+use Rattle.far_replay.specs.Rounds.{after_round, choice_causes, chosen_by, given_by, logs_given, round_told, rows_in}
 use Rattle.far_replay.specs.Turn.{first_cause, refusal}
 
 abbrev Same : Result (List ℕ) Refusal → Result (List ℕ) Refusal → Type 0
@@ -98,6 +98,15 @@ module _ (now : Moment) (law : Law now.core) (agrees : MomentLaw now) where
   least_ends policy n most turns (Ok end) t chosen same runs =
       ap Ended ((least_ran policy n most turns end t chosen same runs).0 ∙ ap (λ (x : Policy). round_told now (chosen_by x (rows_in now) most) turns) (sym chosen))
   least_ends policy n most turns (Err fault) t chosen same runs = tt
+
+  -- a round of the oldest logs ends so too
+  pub oldest_ends : (policy : Policy) (n most turns : ℕ) (r : Result RoundEnd EvacFault) (t : Moment) → policy ≡ Oldest → n ≡ most →
+      IfOk r (λ end. (logs : List ℕ) × Same (Ok logs) (Ok (take n (logs_of (rows_in now)))) × IsRound now logs turns end t × IsChoice (rows_in now) n logs) →
+      IfOk r (λ end. Ended end ≡ Ended (round_told now (chosen_by policy (rows_in now) most) turns))
+  oldest_ends policy n most turns (Ok end) t chosen same (logs, gives, ran, choice) =
+      let is : logs ≡ chosen_by policy (rows_in now) most = ok_alike logs (take n (logs_of (rows_in now))) gives ∙ ap (λ k. take k (logs_of (rows_in now))) same ∙ ap (λ (x : Policy). chosen_by x (rows_in now) most) (sym chosen) in
+      ap Ended ((ran_so now logs turns end t ran).0 ∙ ap (λ ls. round_told now ls turns) is)
+  oldest_ends policy n most turns (Err fault) t chosen same runs = tt
 
 -- ---- a script gives what its function says
 -- no step is barred, or its first cause is why

@@ -24,7 +24,8 @@ use Rattle.far_book.specs.declared.home.Home.TheVariants.{Near, Far}
 use Rattle.far_replay.specs.Answers.{Commanded, IsMoment}
 use Rattle.far_replay.specs.Audit.{lies_near, lies_far, counts_of}
 use Rattle.far_text.specs.Command.{Where, Logs as AsksLogs, Log, Audit, Mutator, Book}
-use Rattle.far_replay.specs.Headline.{TellsHome, IsHowMany, IsNearObject, IsFarObject, CountsAll}
+use Rattle.far_replay.specs.HowMany.{IsHowMany}
+use Rattle.far_replay.specs.Headline.{TellsHome, IsNearObject, IsFarObject, CountsAll}
 use Rattle.far_replay.specs.Moment.{Moment}
 use Rattle.far_replay.specs.Objects.{uses}
 use Rattle.far_replay.specs.Reply.{Reply, Logs, Lies, Audited, Refused, LogLine, Counts}

@@ -1,5 +1,5 @@
 -- What a command makes of a moment, from what its events make of the core.
-use Rattle.std.proofs.Common.{◌≡◌, ℕ, true, Option, Some, None, List, ap, refl, sym, ◌∙◌}
+use Rattle.std.proofs.Common.{◌≡◌, ℕ, true, Option, Some, None, ap, refl, sym, ◌∙◌}
 use Rattle.far_word.specs.declared.mark.Mark.TheVariants.{Dropped}
 use Rattle.far_word.specs.declared.refused.Refused.{Refused as Refusal}
 use Rattle.far_core.specs.declared.event.Event.TheVariants.{Ask}

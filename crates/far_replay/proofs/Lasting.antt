@@ -13,21 +13,20 @@ use Rattle.far_core.proofs.Keeps.{step_keeps}
 use Rattle.far_log.proofs.Members.{split, none_in, All-from}
 use Rattle.far_core.proofs.Steps.{agrees}
 use Rattle.far_replay.specs.Answers.{Answered, Commanded, IsMoment, moment_after, shape_of, first_moment}
-use Rattle.far_text.specs.Command.{Command, Mutator, Book, Evacuator, Step}
+use Rattle.far_text.specs.Command.{Command, Mutator, Book, Evacuator}
 use Rattle.far_evac.specs.MomentLaw.{MomentLaw}
 use Rattle.far_replay.specs.Events.{events_for, IsTold}
-use Rattle.far_replay.specs.Headline.{Lawful, Reaches}
+use Rattle.far_replay.specs.Headline.{Lawful}
 use Rattle.far_text.specs.Written.{WritesBytes, AllWriteBytes}
 use Rattle.far_replay.specs.EventRows.{after_events, AllSucceed, AllPass, Succeeds}
 use Rattle.far_replay.specs.Moment.{Moment}
 use Rattle.far_replay.specs.Reply.{Reply}
 use Rattle.far_replay.specs.Between.{Between}
-use Rattle.far_replay.specs.Turn.{effect, refusal, reply_to}
-use Rattle.far_replay.proofs.Coming.{all_come}
+use Rattle.far_replay.specs.Turn.{effect, reply_to}
 use Rattle.far_text.proofs.Each.{Each}
 use Rattle.far_replay.proofs.ToldRounds.{told_round}
 use Rattle.far_replay.proofs.Opened.{opening_law, opening_between, opening_round}
-use Rattle.far_replay.proofs.RoundLeads.{between_kept, reached_reaches, step_keeps as step_leaves, step_leads}
+use Rattle.far_replay.proofs.RoundLeads.{between_kept, step_keeps as step_leaves, step_leads}
 use Rattle.far_replay.proofs.Turns.{turns}
 
 pub record Lasts (now : Moment) : Type 0 where
@@ -60,7 +59,7 @@ told_lasts : (now : Moment) (c : Command) → IsTold c → Lasts now → WritesB
 told_lasts now c told lasts bytes =
     let x = turns now c told lasts.law lasts.between bytes in
     let law : Law (effect now c).core = subst Law x.ends x.law in
-    record { law = law; round = told_round now c told lasts.law lasts.between bytes law lasts.round; between = subst Between x.ends x.between }
+    record { law = law; round = told_round now c told lasts.law law lasts.round; between = subst Between x.ends x.between }
 
 pub effect_lasts : (now : Moment) (c : Command) → Lasts now → WritesBytes c → Lasts (effect now c)
 effect_lasts now (Mutator m request) lasts bytes = told_lasts now (Mutator m request) tt lasts bytes
@@ -133,39 +132,8 @@ legal s e = cond_both (is_legal s e) (after s e, answer s e) (s, Failed) (λ (x 
   no_failure : (e : Event) → Succeeds e Failed → ⊥
   no_failure e ok = ok
 
-all_pass : (s : State) (es : List Event) → Law s → Each Fits es → AllSucceed s es → AllPass s es
+pub all_pass : (s : State) (es : List Event) → Law s → Each Fits es → AllSucceed s es → AllPass s es
 all_pass s [] law fit ok = tt
 all_pass s (e ∷ es) law fit ok =
     let next = step_keeps s e law fit.0 in
     (legal s e ok.0, record { step = refl; law = next; agrees = agrees (step_of s e).0 next }, all_pass (step_of s e).0 es next fit.1 ok.1)
-
-told_reach : (now : Moment) (c : Command) (r : Reply) (next : Moment) → IsTold c → Lasts now → WritesBytes c → Commanded now c r next → Reaches now c next
-told_reach now c r next told lasts bytes h =
-    let x = command_carried now c r next told lasts bytes h in
-    record {
-      events = events_for now c;
-      told = λ _. refl;
-      of_book = λ no. absurd (no told);
-      ends = x.state;
-      pass = all_pass now.core (events_for now c) lasts.law x.fit x.made;
-      succeed = x.made;
-      come = λ _. all_come now c (refusal now c) told refl lasts.law;
-    }
-
-step_reach : (now : Moment) (step : Step) (r : Reply) (next : Moment) → Lasts now → Commanded now (Evacuator step) r next → Reaches now (Evacuator step) next
-step_reach now step r next lasts h =
-    let x = reached_reaches now.core (effect now (Evacuator step)).core lasts.law (step_leads now step lasts.law lasts.round).reached in
-    record {
-      events = x.events;
-      told = λ told. absurd told;
-      of_book = λ _. x.of_book;
-      ends = ap (λ (m : Moment). m.core) h.moment ∙ x.ends;
-      pass = x.pass;
-      succeed = x.succeed;
-      come = λ told. absurd told;
-    }
-
-pub events_reach : (now : Moment) (c : Command) (r : Reply) (next : Moment) → IsMoment now → WritesBytes c → Commanded now c r next → Reaches now c next
-events_reach now (Mutator m request) r next is bytes h = told_reach now (Mutator m request) r next tt (moment_lasts now is) bytes h
-events_reach now (Book inquiry) r next is bytes h = told_reach now (Book inquiry) r next tt (moment_lasts now is) bytes h
-events_reach now (Evacuator step) r next is bytes h = step_reach now step r next (moment_lasts now is) h

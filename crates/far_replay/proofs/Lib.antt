@@ -14,6 +14,7 @@ pub mod Censused
 pub mod Choices
 pub mod Coming
 pub mod Counted
+pub mod CountedOnce
 pub mod Dereferences
 pub mod Determined
 pub mod Drops
@@ -42,6 +43,7 @@ pub mod RoundLeads
 pub mod Runs
 pub mod SaidBy
 pub mod Spliced
+pub mod StepsTell
 pub mod StoreTurns
 pub mod Streams
 pub mod TakingRoom
@@ -49,6 +51,7 @@ pub mod TakingView
 pub mod ToldRounds
 pub mod Tries
 pub mod Turns
+pub mod TurnsTell
 pub mod ViewLaws
 pub mod Views
 pub mod ViewsRest

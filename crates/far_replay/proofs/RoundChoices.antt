@@ -29,7 +29,7 @@ pub record Chooses (now : Moment) (logs : List ℕ) : Type 0 where
   pub of_order : (l : ℕ) → among logs l ≡ true → among now.order l ≡ true
 
 -- the logs of the rows are the sealed ones, in their order
-rows_are : (s : State) (ls : List ℕ) → logs_of (map (row_of s) ls) ≡ ls
+pub rows_are : (s : State) (ls : List ℕ) → logs_of (map (row_of s) ls) ≡ ls
 rows_are s [] = refl
 rows_are s (l ∷ ls) = ap (λ (rest : List ℕ). l ∷ rest) (rows_are s ls)
 

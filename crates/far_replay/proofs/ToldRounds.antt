@@ -1,5 +1,5 @@
 -- Each command that is told by events leaves a round alone, and so keeps what is true of a heap between two calls of the evacuator.
-use Rattle.std.proofs.Common.{◌≡◌, ℕ, true, ◌&&◌, nat_lt, nat_le, refl, sym, ap, subst, Option, Some, None, is_some, List, length}
+use Rattle.std.proofs.Common.{◌≡◌, ℕ, true, ◌&&◌, nat_lt, nat_le, refl, sym, subst, Option, Some, None, is_some, length}
 use Rattle.far_word.specs.declared.pointer.Place.{Place}
 use Rattle.far_word.specs.declared.refused.Refused.{Refused as Refusal}
 use Rattle.far_word.specs.declared.refused.Refused.TheVariants.{NoRoom, NoPointer, Length, Closed, NotHeld, Range, Marked}
@@ -13,33 +13,28 @@ use Rattle.far_evac.specs.Callers.{StepsAside}
 use Rattle.far_evac.specs.MomentLaw.{MomentLaw}
 use Rattle.far_evac.proofs.StepsAside.{steps_keep}
 use Rattle.far_text.specs.Command.{Command, New, Open, Write, Read, Close, Where, Drop, View, Try, Epoch, Mutator, Book, Evacuator}
-use Rattle.far_text.specs.Written.{WritesBytes}
-use Rattle.far_replay.specs.Between.{Between}
 use Rattle.far_replay.specs.Dereference.{has_no_room}
 use Rattle.far_replay.specs.Events.{IsTold}
 use Rattle.far_replay.specs.Moment.{Moment, with_core}
 use Rattle.far_replay.specs.Objects.{is_range, lowest_cell, object_len, uses}
 use Rattle.far_replay.specs.Turn.{effect, refusal, refused_effect, turn_effect, unless, with_new}
-use Rattle.far_replay.proofs.Asides.{close_aside, derefs_aside, epoch_aside, new_aside, order_stays, same_aside, scope_aside, sought_aside, view_aside, without_aside, writes_aside}
+use Rattle.far_replay.proofs.Asides.{close_aside, derefs_aside, epoch_aside, new_aside, same_aside, scope_aside, sought_aside, view_aside, without_aside, writes_aside}
 use Rattle.far_replay.proofs.Turns.{five, four, new_sizes, tried}
+use Rattle.far_replay.proofs.WithCore.{same_core}
 
 -- ---- the core that a command makes is all that it makes
--- a core that stays leaves the moment
-same_core : (now : Moment) → now ≡ with_core now now.core
-same_core now = ap (λ (order : List ℕ). record now { order = order }) (sym (order_stays now now.core refl))
-
 told_turn : (now : Moment) (c : Command) → IsTold c → turn_effect now c ≡ with_core now (turn_effect now c).core
 told_turn now (Mutator m (New len ds)) told = refl
 told_turn now (Mutator m Open) told = refl
 told_turn now (Mutator m (Write p from bytes)) told = refl
 told_turn now (Mutator m (Read p from len)) told = refl
 told_turn now (Mutator m Close) told = refl
-told_turn now (Mutator m (Where p)) told = same_core now
+told_turn now (Mutator m (Where p)) told = sym (same_core now)
 told_turn now (Mutator m (Drop p)) told = refl
 told_turn now (Mutator m (View p)) told = refl
 told_turn now (Mutator m (Try p)) told = refl
 told_turn now (Mutator m Epoch) told = refl
-told_turn now (Book inquiry) told = same_core now
+told_turn now (Book inquiry) told = sym (same_core now)
 told_turn now (Evacuator step) told = absurd told
 
 told_refused : (now : Moment) (c : Command) (why : Refusal) → IsTold c → refused_effect now c why ≡ with_core now (refused_effect now c why).core
@@ -48,7 +43,7 @@ told_refused now (Mutator m (Read p from len)) NoRoom told = refl
 told_refused now (Mutator m (View p)) NoRoom told = refl
 told_refused now (Mutator m (Try p)) (Marked word) told = refl
 told_refused now (Evacuator step) why told = absurd told
-told_refused now c why told = same_core now
+told_refused now c why told = sym (same_core now)
 
 told_at : (now : Moment) (c : Command) (o : Option Refusal) → IsTold c → unless o (refused_effect now c) (turn_effect now c) ≡ with_core now (unless o (refused_effect now c) (turn_effect now c)).core
 told_at now c None told = told_turn now c told
@@ -102,9 +97,9 @@ aside_at : (now : Moment) (c : Command) (o : Option Refusal) → IsTold c → La
 aside_at now c None told law e = turn_aside now c told law e
 aside_at now c (Some why) told law e = refused_aside now c why told
 
-pub aside : (now : Moment) (c : Command) → IsTold c → Law now.core → Between now.core → WritesBytes c → StepsAside now.core (effect now c).core
-aside now c told law between small = aside_at now c (refusal now c) told law refl
+pub aside : (now : Moment) (c : Command) → IsTold c → Law now.core → StepsAside now.core (effect now c).core
+aside now c told law = aside_at now c (refusal now c) told law refl
 
 -- ---- and keeps what is true between two calls
-pub told_round : (now : Moment) (c : Command) → IsTold c → Law now.core → Between now.core → WritesBytes c → Law (effect now c).core → MomentLaw now → MomentLaw (effect now c)
-told_round now c told law between small then moment = subst MomentLaw (sym (told_effect now c told)) (steps_keep now (effect now c).core law moment then (aside now c told law between small))
+pub told_round : (now : Moment) (c : Command) → IsTold c → Law now.core → Law (effect now c).core → MomentLaw now → MomentLaw (effect now c)
+told_round now c told law then moment = subst MomentLaw (sym (told_effect now c told)) (steps_keep now (effect now c).core law moment then (aside now c told law))

@@ -26,7 +26,7 @@ use Rattle.far_replay.specs.Moment.{Moment}
 use Rattle.far_replay.specs.Answers.{Answered, Commanded, IsMoment}
 use Rattle.far_text.specs.Command.{Command, New, Open, Write, Read, Close, Where, Drop, View, Try, Epoch, Mutator, Book, Evacuator, Step}
 use Rattle.far_text.specs.Written.{WritesBytes, AllWriteBytes}
-use Rattle.far_replay.specs.Headline.{LogsStay, StaysThrough, ViewsObject, ViewsNothing, ViewsAfter}
+use Rattle.far_replay.specs.Headline.{LogsStay, Reaches, ViewsObject, ViewsNothing, ViewsAfter}
 use Rattle.far_replay.specs.EventRows.{after_events, AllSucceed, Succeeds}
 use Rattle.far_replay.specs.Reply.{Reply, Refused}
 use Rattle.far_replay.specs.Events.{events_for, IsTold, turn_events, refused_events, zero_puts, new_events, open_events, view_events, asked_events, asked_events_of, sought_events, span_events, name_events, come_events, come_events_of, dereference_events, load_events, store_events, first_loads, last_loads, part_events, drop_events, first_word, words_touched, starts_inside, ends_inside}
@@ -34,9 +34,10 @@ use Rattle.far_replay.specs.Objects.{lowest_cell, with_range, data_of, is_range,
 use Rattle.far_replay.specs.Dereference.{come, comes_to, dereferenced, has_no_room, sought}
 use Rattle.far_replay.specs.Effects.{near_word, is_slow, with_view}
 use Rattle.far_replay.specs.Turn.{effect, refusal, unless, turn_reply, reply_to}
-use Rattle.far_replay.proofs.Lasting.{Lasts, command_carried, moment_lasts, still_lasts}
+use Rattle.far_replay.proofs.Coming.{all_come}
+use Rattle.far_replay.proofs.Lasting.{Lasts, all_pass, command_carried, moment_lasts, still_lasts}
 use Rattle.far_replay.proofs.RoundLeads.{reached_reaches, step_keeps, step_leads}
-use Rattle.far_replay.proofs.Turns.{access_fact, led, marked_last, read_leads, room_lacks, room_last, tried, turns, write_leads}
+use Rattle.far_replay.proofs.Turns.{access_fact, led, marked_last, read_leads, room_lacks, room_last, tried, write_leads}
 use Rattle.far_replay.proofs.Dereferences.{derefs, sought_held, sought_leads, view_views}
 use Rattle.far_replay.proofs.Views.{fast_seen, view_is, slow_view}
 use Rattle.far_replay.proofs.ViewsRest.{NoClose, ClosesLast, none_closes, fronts_stay, held_now}
@@ -248,25 +249,43 @@ command_closes_last : (now : Moment) (c : Command) (o : Option Refusal) → Clos
 command_closes_last now c None = closes_last now c
 command_closes_last now c (Some why) = refused_closes_last now c why
 
-told_stay : (now : Moment) (c : Command) (r : Reply) (next : Moment) → IsTold c → Lasts now → WritesBytes c → Commanded now c r next → StaysThrough now c next
-told_stay now c r next told lasts later h = record {
-  events = events_for now c;
-  told = λ _. refl;
-  of_book = λ no. absurd (no told);
-  ends = (command_carried now c r next told lasts later h).state;
-  stay = λ es mid rest front p place. fronts_stay now.core es mid rest lasts.law (subst (Each Fits) (sym front) (turns now c told lasts.law lasts.between later).fit)
-      (subst ClosesLast (sym front) (command_closes_last now c (refusal now c))) p place;
-}
+-- ---- each command is carried out by events
+told_reach : (now : Moment) (c : Command) (r : Reply) (next : Moment) → IsTold c → Lasts now → WritesBytes c → Commanded now c r next → Reaches now c next
+told_reach now c r next told lasts bytes h =
+    let x = command_carried now c r next told lasts bytes h in
+    record {
+      events = events_for now c;
+      told = λ _. refl;
+      of_book = λ no. absurd (no told);
+      ends = x.state;
+      pass = all_pass now.core (events_for now c) lasts.law x.fit x.made;
+      succeed = x.made;
+      come = λ _. all_come now c (refusal now c) told refl lasts.law;
+      stay = λ es mid rest front p place. fronts_stay now.core es mid rest lasts.law (subst (Each Fits) (sym front) x.fit)
+          (subst ClosesLast (sym front) (command_closes_last now c (refusal now c))) p place;
+    }
 
-step_stay : (now : Moment) (step : Step) (r : Reply) (next : Moment) → Lasts now → Commanded now (Evacuator step) r next → StaysThrough now (Evacuator step) next
-step_stay now step r next lasts h =
+step_reach : (now : Moment) (step : Step) (r : Reply) (next : Moment) → Lasts now → Commanded now (Evacuator step) r next → Reaches now (Evacuator step) next
+step_reach now step r next lasts h =
     let x = reached_reaches now.core (effect now (Evacuator step)).core lasts.law (step_leads now step lasts.law lasts.round).reached in
-    record { events = x.events; told = λ told. absurd told; of_book = λ _. x.of_book; ends = ap (λ (m : Moment). m.core) h.moment ∙ x.ends; stay = x.stay }
+    record {
+      events = x.events;
+      told = λ told. absurd told;
+      of_book = λ _. x.of_book;
+      ends = ap (λ (m : Moment). m.core) h.moment ∙ x.ends;
+      pass = x.pass;
+      succeed = x.succeed;
+      come = λ told. absurd told;
+      stay = x.stay;
+    }
 
-stay_through : (now : Moment) (c : Command) (r : Reply) (next : Moment) → Lasts now → WritesBytes c → Commanded now c r next → StaysThrough now c next
-stay_through now (Mutator m request) r next lasts later h = told_stay now (Mutator m request) r next tt lasts later h
-stay_through now (Book inquiry) r next lasts later h = told_stay now (Book inquiry) r next tt lasts later h
-stay_through now (Evacuator step) r next lasts later h = step_stay now step r next lasts h
+reach : (now : Moment) (c : Command) (r : Reply) (next : Moment) → Lasts now → WritesBytes c → Commanded now c r next → Reaches now c next
+reach now (Mutator m request) r next lasts bytes h = told_reach now (Mutator m request) r next tt lasts bytes h
+reach now (Book inquiry) r next lasts bytes h = told_reach now (Book inquiry) r next tt lasts bytes h
+reach now (Evacuator step) r next lasts bytes h = step_reach now step r next lasts h
+
+pub events_reach : (now : Moment) (c : Command) (r : Reply) (next : Moment) → IsMoment now → WritesBytes c → Commanded now c r next → Reaches now c next
+events_reach now c r next is bytes h = reach now c r next (moment_lasts now is) bytes h
 
 -- the logs in which views rest stay through each command
 stay_all : (now : Moment) (cs : List Command) (rs : List Reply) (moments : List Moment) → Lasts now → AllWriteBytes cs → Answered now cs rs moments → LogsStay now cs moments
@@ -276,7 +295,7 @@ stay_all now [] (r ∷ rs) ms lasts later h = absurd h
 stay_all now (c ∷ cs) [] ms lasts later h = absurd h
 stay_all now (c ∷ cs) (r ∷ rs) [] lasts later h = absurd h
 stay_all now (c ∷ cs) (r ∷ rs) (next ∷ ms) lasts later h =
-    (stay_through now c r next lasts later.0 h.0, stay_all next cs rs ms (still_lasts now c r next lasts later.0 h.0) later.1 h.1)
+    (reach now c r next lasts later.0 h.0, stay_all next cs rs ms (still_lasts now c r next lasts later.0 h.0) later.1 h.1)
 
 pub logs_stay : (now : Moment) (cs : List Command) (rs : List Reply) (moments : List Moment) → IsMoment now → AllWriteBytes cs → Answered now cs rs moments → LogsStay now cs moments
 logs_stay now cs rs moments is later h = stay_all now cs rs moments (moment_lasts now is) later h

@@ -8,6 +8,7 @@ pub mod Effects
 pub mod EventRows
 pub mod Events
 pub mod Headline
+pub mod HowMany
 pub mod Interpreter
 pub mod Moment
 pub mod Objects
@@ -15,5 +16,6 @@ pub mod Outcome
 pub mod Reply
 pub mod Rounds
 pub mod Stays
+pub mod Steps
 pub mod Stream
 pub mod Turn

@@ -1,12 +1,12 @@
 -- The reply that an outcome reports, read from the room.
-use Rattle.std.specs.Prelude.{ℕ, ◌+◌, ◌*◌, ◌≤◌, List, take, slice_range}
+use Rattle.std.specs.Prelude.{◌+◌, ◌*◌, ◌≤◌, take, slice_range}
 use Rattle.far_word.specs.declared.sizes.TheConstants.{LOG_WORDS, LONGEST, MOST_LOGS}
 use Rattle.far_replay.specs.declared.outcome.Outcome.{Outcome}
 use Rattle.far_replay.specs.declared.outcome.Outcome.TheVariants as outcomes
 use Rattle.far_replay.specs.declared.outcome.Scratch.{Scratch}
 use Rattle.far_replay.specs.declared.outcome.Stepped.{Stepped}
 use Rattle.far_replay.specs.declared.outcome.Stepped.TheVariants as steps
-use Rattle.far_replay.specs.Reply.{Reply, Done, Pointer, Data, Logs, Lies, Audited, EpochRead, Selected, Marked, Clear, Evacuated, Ended, Refused, LogLine}
+use Rattle.far_replay.specs.Reply.{Reply, Done, Pointer, Data, Logs, Lies, Audited, EpochRead, Selected, Marked, Clear, Evacuated, Ended, Refused}
 
 -- what a step of the evacuator comes to
 abbrev pub told_by : Scratch → Stepped → Reply

@@ -1,5 +1,5 @@
 -- What the evacuator's commands make of a heap: when each is refused, the moment after it, and what it tells.
-use Rattle.std.specs.Prelude.{ℕ, Bool, true, false, not, Option, Some, None, List, [], ◌∷◌, length, map, take, Result, Ok, Err}
+use Rattle.std.specs.Prelude.{ℕ, Bool, true, false, not, List, [], ◌∷◌, length, map, take, Result, Ok, Err}
 use Rattle.far_word.specs.declared.refused.Refused.{Refused as Refusal}
 use Rattle.far_word.specs.declared.refused.Refused.TheVariants.{Phase as WrongPhase, EpochsSpent, StillOpen}
 use Rattle.far_log.specs.declared.row.LogRow.{LogRow}
@@ -7,7 +7,6 @@ use Rattle.far_policy.specs.LeastLive.{least_live}
 use Rattle.far_policy.specs.Logs.{logs_of}
 use Rattle.far_policy.specs.Scripted.{scripted}
 use Rattle.far_book.specs.book.Rows.{row_of}
-use Rattle.far_core.specs.state.State.{State}
 use Rattle.far_evac.specs.declared.answers.RoundEnd.{RoundEnd}
 use Rattle.far_evac.specs.declared.answers.RoundEnd.TheVariants as ends
 use Rattle.far_evac.specs.declared.answers.Polled.{Polled}

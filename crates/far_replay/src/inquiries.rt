@@ -1,6 +1,6 @@
 //! What a heap is asked: where an object is, what a log has, and how many objects there are.
 
-ghost use Rattle.std.specs.Prelude.{◌≡◌, ◌<◌, ◌*◌, length, map, take, sum};
+ghost use Rattle.std.specs.Prelude.{◌≡◌, ◌<◌, ◌*◌, IsSome, length, map, take, sum};
 ghost use Rattle.std.specs.List.{range_with_len};
 ghost use Rattle.far_word.specs.declared.sizes.TheConstants.{MOST_LOGS};
 ghost use Rattle.far_word.specs.Pointer.{read_of};
@@ -80,13 +80,14 @@ pub fn tell_log(evac: &Evac<Plain, MemDevice>, scratch: &mut Scratch, log: u64) 
 
 // Whether the object of a cell lies near, and whether far; neither, once it is dropped.
 fn lies(cell: u64) -> (bool, bool)
+    requires { IsSome (read_of cell) }
     ensures near { result.0 ≡ lies_near (read_of cell) }
     ensures far { result.1 ≡ lies_far (read_of cell) }
 {
-    match PtrWord::read(cell) {
-        Some(PtrWord::Near { marks, .. }) => (!marks.dropped, false),
-        Some(PtrWord::Far { marks, .. }) => (false, !marks.dropped),
-        Some(PtrWord::Free) | None => (false, false),
+    match PtrWord::known(cell) {
+        PtrWord::Near { marks, .. } => (!marks.dropped, false),
+        PtrWord::Far { marks, .. } => (false, !marks.dropped),
+        PtrWord::Free => (false, false),
     }
 }
 

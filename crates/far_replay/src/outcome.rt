@@ -113,9 +113,11 @@ impl Scratch {
         }
     }
 
-    /// The reply to a command.
+    /// The reply to a command, but to a step of the evacuator.
+    #[inline(always)]
     pub fn reply(&self, outcome: Outcome) -> Reply<'_>
-        requires { IsInRoom outcome }
+        requires room { IsInRoom outcome }
+        requires apart { outcome ≢ Outcome.Stepped }
         ensures value { reply_of result ≡ reply_by self.now outcome }
         ensures short { IsShort (reply_of result) }
     {
@@ -130,14 +132,13 @@ impl Scratch {
             Outcome::Lies(home) => Reply::Lies(home),
             Outcome::Audited(counts) => Reply::Audited(counts),
             Outcome::EpochRead(epoch) => Reply::EpochRead(epoch),
-            Outcome::Stepped => self.step_reply(),
+            Outcome::Stepped => unreachable!(),
             Outcome::Refused(why) => Reply::Refused(why),
         }
     }
 
-    // The reply to a step of the evacuator.
-    #[inline(never)]
-    fn step_reply(&self) -> Reply<'_>
+    /// The reply to a step of the evacuator.
+    pub fn step_reply(&self) -> Reply<'_>
         ensures value { reply_of result ≡ told_by self.now self.now.stepped }
         ensures short { IsShort (reply_of result) }
     {

@@ -288,6 +288,7 @@ fn push_refused(why: Refused, out: &mut Output)
 
 impl Reply<'_> {
     /// Adds the reply's lines to the output.
+    #[inline(always)]
     pub fn print_to(&self, out: &mut Output)
         requires short { IsShort (reply_of self.now) }
         requires room { length out.old + LONGEST_REPLY ≤ Output.ROOM }

@@ -62,6 +62,7 @@ impl ReplyWriter {
     }
 
     /// Adds a reply to those that wait.
+    #[inline(always)]
     pub fn add<W: Write>(&mut self, writer: &mut W, reply: &Reply)
         requires { IsShort (reply_of reply.now) }
         ensures { (start : Option (List ℕ)) (bytes : List ℕ) → Holds start (W.contents writer.old) self.old.waiting self.old.written bytes

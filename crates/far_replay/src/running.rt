@@ -1,8 +1,9 @@
 //! A whole run: a text in, replies out.
 
-ghost use Rattle.std.specs.Prelude.{◌≡◌, ◌≢◌, ◌<◌, ◌∷◌, true, cond, List, length, slice_index, take, Ok, Err, IfOk, IfErr, IfSome, OnOk};
+ghost use Rattle.std.specs.Prelude.{◌≡◌, ◌≢◌, ◌<◌, ◌∷◌, ◌++◌, ℕ, Option, true, cond, List, length, slice_index, take, Ok, Err, IfOk, IfErr, IfSome, OnOk};
 ghost use Rattle.far_replay.specs.Reply.{refusal_text};
-ghost use Rattle.far_replay.specs.Stream.{Writes};
+ghost use Rattle.far_replay.specs.Outcome.{reply_by, told_by, IsInRoom};
+ghost use Rattle.far_replay.specs.Stream.{Holds, Writes};
 ghost use Rattle.std.specs.List.{flat_map};
 ghost use Rattle.far_core.specs.state.Opening.{opening};
 ghost use Rattle.far_core.specs.state.Shape.{is_shape};
@@ -16,7 +17,7 @@ ghost use Rattle.far_replay.specs.Reply.{Reply as Answer, Done, reply_text};
 ghost use Rattle.far_replay.specs.Between.{Between};
 ghost use Rattle.far_evac.specs.MomentLaw.{MomentLaw};
 
-use crate::outcome::Scratch;
+use crate::outcome::{Outcome, Scratch};
 use crate::reply::Reply;
 use crate::reply_writer::ReplyWriter;
 use crate::stream::{WriteFault, read_text};
@@ -96,6 +97,34 @@ fn refuse<W: Write>(
     replies.finish(writer)
 }
 
+// Adds the reply to a step of the evacuator to those that wait. It stands apart: made in place, it would have each other reply put
+// together in memory.
+#[inline(never)]
+fn answer_step<W: Write>(writer: &mut W, replies: &mut ReplyWriter, scratch: &Scratch)
+    ensures { (start : Option (List ℕ)) (bytes : List ℕ) → Holds start (W.contents writer.old) replies.old.waiting replies.old.written bytes
+        → Holds start (W.contents writer.new) replies.new.waiting replies.new.written (bytes ++ reply_text (told_by scratch.now scratch.now.stepped)) }
+{
+    replies.add(writer, &scratch.step_reply());
+}
+
+// Adds the reply to a command to those that wait.
+#[inline(always)]
+fn answer_one<W: Write>(
+    writer: &mut W,
+    replies: &mut ReplyWriter,
+    scratch: &Scratch,
+    outcome: Outcome,
+)
+    requires { IsInRoom outcome }
+    ensures { (start : Option (List ℕ)) (bytes : List ℕ) → Holds start (W.contents writer.old) replies.old.waiting replies.old.written bytes
+        → Holds start (W.contents writer.new) replies.new.waiting replies.new.written (bytes ++ reply_text (reply_by scratch.now outcome)) }
+{
+    match outcome {
+        Outcome::Stepped => answer_step(writer, replies, scratch),
+        outcome => replies.add(writer, &scratch.reply(outcome)),
+    }
+}
+
 // Makes the commands after the heap, and writes their replies. Once a write has failed it makes them without writing. Where
 // one wants memory and is refused it, no other is made, and replies that wait aren't written.
 fn answer_commands<W: Write>(
@@ -118,7 +147,7 @@ fn answer_commands<W: Write>(
         let Ok(outcome) = turn(&mut evac, scratch, &command) else {
             return Err(RunFault::Memory);
         };
-        replies.add(writer, &scratch.reply(outcome));
+        answer_one(writer, replies, scratch, outcome);
     }
     match replies.finish(writer) {
         Ok(()) => Ok(()),

@@ -510,7 +510,7 @@ fn entry_by_rarer_name(text: &[u8]) -> Option<Spelled<'_>>
     entry_by_name_first(text)
 }
 
-/// What the first line of a text spells. The two commands that traces are full of are known by their first bytes.
+/// What the first line of a text spells. The commands that traces are full of, by which objects are reached, are known by their first bytes.
 #[inline(always)]
 pub fn entry_first(text: &[u8]) -> Option<Spelled<'_>>
     ensures value { option_and_then (λ found. entry_spelled found.0) result ≡ entry_of (words_in text.now) }
@@ -521,6 +521,9 @@ pub fn entry_first(text: &[u8]) -> Option<Spelled<'_>>
     }
     if let [b'w', b'r', b'i', b't', b'e', b' ', rest @ ..] = text {
         return write_spelled(Rest::Words(rest));
+    }
+    if let [b'v', b'i', b'e', b'w', b' ', rest @ ..] = text {
+        return view_spelled(Rest::Words(rest));
     }
     entry_by_rarer_name(text)
 }

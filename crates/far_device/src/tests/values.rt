@@ -82,6 +82,32 @@ fn many_keys(rt: HostRuntime) -> Result<(), Fail> {
 }
 
 #[test]
+fn buffers_are_used_again(rt: HostRuntime) -> Result<(), Fail> {
+    let mut device = MemDevice::new(rt.alloc());
+    for id in 0..65u32 {
+        device.write(id, &[7; 64])?;
+    }
+    for id in 0..65u32 {
+        device.forget(id);
+    }
+    assert_eq!(rt; device.spares.buffers.len(), 64);
+    let rows: [(u32, &[u8], usize); 4] = [
+        (1, &[8, 9], 63),
+        (2, &[5; 65], 63),
+        (1, &[6; 64], 63),
+        (1, &[4; 128], 64),
+    ];
+    for (id, bytes, left) in rows {
+        device.write(id, bytes)?;
+        gives(&rt, &mut device, id, bytes)?;
+        assert_eq!(rt; device.spares.buffers.len(), left, "under {id}");
+    }
+    device.forget(1);
+    assert_eq!(rt; device.spares.buffers.len(), 64);
+    Ok(())
+}
+
+#[test]
 fn faults_wrap(rt: HostRuntime) {
     let mut device = MemDevice::new(rt.alloc());
     device.faults = u64::MAX;

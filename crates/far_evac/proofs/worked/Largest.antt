@@ -9,7 +9,7 @@ use Rattle.far_evac.specs.declared.answers.RoundEnd.TheVariants.{Done}
 use Rattle.far_evac.specs.Live.{live_in}
 use Rattle.far_evac.specs.Turns.{turn_size}
 use Rattle.far_evac.specs.Moment.{Moment}
-use Rattle.far_evac.proofs.worked.Calls.{Call, News, Rounds, Ends, start, turn_of}
+use Rattle.far_evac.specs.worked.Calls.{Call, News, Rounds, Ends, start, turn_of}
 
 abbrev after_calls : Moment → List Call → Moment
 after_calls m [] = m

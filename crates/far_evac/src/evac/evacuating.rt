@@ -1,6 +1,6 @@
 //! How the objects of the chosen logs leave, and the logs are given back.
 
-ghost use Rattle.std.specs.Prelude.{◌≡◌, ◌≢◌, ◌⊎◌, ◌<◌, ◌≤◌, ◌+◌, ◌*◌, ◌^◌, ◌∷◌, ℕ, List, [], false, true, cond, length, IfOk, IfErr, IfSome, IfNone};
+ghost use Rattle.std.specs.Prelude.{◌≡◌, ◌≢◌, ◌⊎◌, ◌<◌, ◌≤◌, ◌+◌, ◌*◌, ◌^◌, ◌∷◌, ℕ, List, [], false, true, cond, length, IfOk, IfErr, IfSome, IfNone, IsSome};
 ghost use Rattle.far_device.specs.Faults.{CountsFault, SpendsFault};
 ghost use Rattle.far_word.specs.declared.refused.Refused.TheVariants.{Device as Failed, Memory, Phase as WrongPhase};
 ghost use Rattle.far_word.specs.declared.sizes.TheConstants.{CELLS};
@@ -11,6 +11,7 @@ ghost use Rattle.far_book.specs.book.Dealing.{IsQuietNear, has_evac, is_failure}
 ghost use Rattle.far_book.specs.book.Effects.{evicted};
 ghost use Rattle.far_book.specs.book.Releasing.{order_without, released};
 ghost use Rattle.far_evac.specs.AnyHand.{Evacuates, Knows, KnowsMoment, KnowsWalked, StopsAt, Walks};
+ghost use Rattle.far_evac.specs.Cursor.{IsNextLeaving};
 ghost use Rattle.far_evac.specs.EvacOf.{moment};
 ghost use Rattle.far_evac.specs.Failing.{fails};
 ghost use Rattle.far_evac.specs.Leaving.{GoesAway, LeavesAs, LeavesBy, counted_as, goes_near, near_fate, standing};
@@ -25,7 +26,8 @@ use crate::evac::Evac;
 use crate::phase::Phase;
 use far_book::{Book, Near};
 use far_device::Device;
-use far_word::{Place, PtrWord, Refused};
+use far_log::Span;
+use far_word::{Place, PtrWord, Refused, size_of};
 
 // What became of an object that was to leave its log.
 #[derive(Clone, Copy)]
@@ -104,10 +106,10 @@ impl<N: Near + Drop, D: Device + Drop> Evac<N, D> {
         let _held = self.held().len();
         let mut first = self.settle(progress);
         for _ in 0..n {
-            let Some(pointer) = first else {
+            let Some(span) = first else {
                 return Ok(true);
             };
-            if let Err(why) = self.deal(pointer, progress) {
+            if let Err(why) = self.deal(span, progress) {
                 return Err(why);
             }
             first = self.settle(progress);
@@ -115,15 +117,17 @@ impl<N: Near + Drop, D: Device + Drop> Evac<N, D> {
         Ok(first.is_none())
     }
 
-    // Gives back the logs in front without live objects, and counts them; the first live object that is left, or none, and then the
-    // round is over.
-    fn settle(&mut self, progress: &mut Progress) -> Option<u16>
+    // Gives back the logs in front without live objects, and counts them; the span of the first live object that is left, or none, and
+    // then the round is over.
+    #[inline(always)]
+    fn settle(&mut self, progress: &mut Progress) -> Option<Span>
         requires phase { self.old.phase ≡ phase.Evacuating }
         requires room { progress.old.freed + length self.old.held < 2 ^ 64 }
         ensures known { KnowsWalked (settled (standing N.view self.old progress.old)) (standing N.view self.new progress.new) }
         ensures exact { N.still → standing N.view self.new progress.new ≡ settled (standing N.view self.old progress.old) }
         ensures ends { self.new.phase ≡ cond (is_empty self.new.held) phase.Idle phase.Evacuating }
-        ensures first { IfSome result (λ p. (rest : List ℕ) × (left (standing N.view self.new progress.new) ≡ p ∷ rest)) }
+        ensures first { IfSome result (λ span. (rest : List ℕ) × (left (standing N.view self.new progress.new) ≡ span.p ∷ rest)) }
+        ensures next { IfSome result (λ span. IsNextLeaving (N.view self.new.book.near) self.new.held span) }
         ensures none { IfNone result (self.new.held ≡ []) }
         ensures freed { progress.new.freed + length self.new.held ≡ progress.old.freed + length self.old.held }
         ensures done { progress.new.done ≡ progress.old.done }
@@ -131,8 +135,8 @@ impl<N: Near + Drop, D: Device + Drop> Evac<N, D> {
     {
         self.keeps_law();
         while let Some(log) = self.front() {
-            if let Some(pointer) = self.first_in(log) {
-                return Some(pointer);
+            if let Some(span) = self.first_in(log) {
+                return Some(span);
             }
             self.give_back(log);
             progress.freed += 1;
@@ -160,13 +164,14 @@ impl<N: Near + Drop, D: Device + Drop> Evac<N, D> {
         self.held().first().copied()
     }
 
-    // The first live object of the log in front, where the walk stands then; none, where no object lives there.
-    fn first_in(&mut self, log: u8) -> Option<u16>
+    // The span of the first live object of the log in front, where the walk stands then; none, where no object lives there.
+    fn first_in(&mut self, log: u8) -> Option<Span>
         requires phase { self.old.phase ≡ phase.Evacuating }
         requires front { (logs : List ℕ) × (self.old.held ≡ log ∷ logs) }
         ensures known { KnowsMoment (moment N.view self.old) (moment N.view self.new) }
         ensures exact { N.still → moment N.view self.new ≡ moment N.view self.old }
-        ensures first { IfSome result (λ p. (rest : List ℕ) × (live_in (N.view self.old.book.near) log ≡ p ∷ rest)) }
+        ensures first { IfSome result (λ span. (rest : List ℕ) × (live_in (N.view self.old.book.near) log ≡ span.p ∷ rest)) }
+        ensures next { IfSome result (λ span. IsNextLeaving (N.view self.new.book.near) self.new.held span) }
         ensures none { IfNone result (live_in (N.view self.old.book.near) log ≡ []) }
         ensures device { self.new.book.device ≡ self.old.book.device }
     {
@@ -175,7 +180,7 @@ impl<N: Near + Drop, D: Device + Drop> Evac<N, D> {
             return None;
         };
         self.round.at = span.at;
-        Some(span.p)
+        Some(span)
     }
 
     // Gives the log in front back, where no object lives; after the last the round is over.
@@ -200,15 +205,16 @@ impl<N: Near + Drop, D: Device + Drop> Evac<N, D> {
         }
     }
 
-    // Deals with the first live object that is left, and counts it. At a refusal it lies as before.
-    fn deal(&mut self, pointer: u16, progress: &mut Progress) -> Result<(), Refused>
+    // Deals with the first live object that is left, and counts it: the walk stands behind its span then. At a refusal it lies as before.
+    fn deal(&mut self, span: Span, progress: &mut Progress) -> Result<(), Refused>
         requires phase { self.old.phase ≡ phase.Evacuating }
-        requires first { (rest : List ℕ) × (left (standing N.view self.old progress.old) ≡ pointer ∷ rest) }
+        requires first { (rest : List ℕ) × (left (standing N.view self.old progress.old) ≡ span.p ∷ rest) }
+        requires next { IsNextLeaving (N.view self.old.book.near) self.old.held span }
         requires room { objects_in (tally_of progress.old) + 1 < 2 ^ 64 }
-        ensures dealt { IfOk result (λ _. (word : ℕ) × Finds ((N.view self.old.book.near).cell pointer) word
-            × KnowsWalked (dealt_as (standing N.view self.old progress.old) pointer (read_of word)) (standing N.view self.new progress.new)) }
+        ensures dealt { IfOk result (λ _. (word : ℕ) × Finds ((N.view self.old.book.near).cell span.p) word
+            × KnowsWalked (dealt_as (standing N.view self.old progress.old) span.p (read_of word)) (standing N.view self.new progress.new)) }
         ensures exact { N.still → IfOk result (λ _. standing N.view self.new progress.new
-            ≡ dealt_as (standing N.view self.old progress.old) pointer (read_of ((N.view self.old.book.near).cell pointer))) }
+            ≡ dealt_as (standing N.view self.old progress.old) span.p (read_of ((N.view self.old.book.near).cell span.p))) }
         ensures kept { IfErr result (λ _. KnowsMoment (moment N.view self.old) (moment N.view self.new)) }
         ensures same { N.still → IfErr result (λ _. moment N.view self.new ≡ moment N.view self.old) }
         ensures uncounted { IfErr result (λ _. progress.new ≡ progress.old) }
@@ -220,8 +226,10 @@ impl<N: Near + Drop, D: Device + Drop> Evac<N, D> {
         ensures honest { D.honest self.new.book.device ≡ D.honest self.old.book.device }
     {
         self.keeps_law();
-        match send_off(&mut self.book, pointer) {
+        match send_off(&mut self.book, span.p) {
             Ok(fate) => {
+                self.book.keeps_law();
+                self.round.at = span.at + size_of(span.len);
                 count(progress, fate);
                 Ok(())
             }
@@ -284,6 +292,7 @@ fn near_fate(place: Option<Place>) -> Fate
 }
 
 // An object that isn't known to be dropped goes far, unless it is found to be.
+#[inline(always)]
 fn send_far<N: Near + Drop, D: Device + Drop>(
     book: &mut Book<N, D>,
     pointer: u16,
@@ -314,10 +323,11 @@ fn send_far<N: Near + Drop, D: Device + Drop>(
 
 // Whether a cell says that its object doesn't go far at once: it is hot, or dropped.
 fn goes_near(cell: u64) -> bool
+    requires layout { IsSome (read_of cell) }
     ensures { result ≡ goes_near (read_of cell) }
 {
-    match PtrWord::read(cell) {
-        Some(PtrWord::Near { marks, .. }) => marks.dropped || marks.hot,
+    match PtrWord::known(cell) {
+        PtrWord::Near { marks, .. } => marks.dropped || marks.hot,
         _ => false,
     }
 }

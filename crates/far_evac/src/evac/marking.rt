@@ -1,6 +1,6 @@
 //! How the objects of the chosen logs get EVAC, and lose it where a round is given up.
 
-ghost use Rattle.std.specs.Prelude.{◌≡◌, ◌≢◌, ◌+◌, ◌<◌, ◌≤◌, ℕ, true, not, fold, [], length, drop, IfOk, IfErr, IfSome, IfNone};
+ghost use Rattle.std.specs.Prelude.{◌≡◌, ◌≢◌, ◌+◌, ◌<◌, ◌≤◌, ℕ, true, not, fold, [], length, drop, IfOk, IfErr, IfSome, IfNone, IsSome};
 ghost use Rattle.far_word.specs.declared.refused.Refused.TheVariants.{Phase as WrongPhase};
 ghost use Rattle.far_word.specs.declared.sizes.TheConstants.{MOST_LOGS};
 ghost use Rattle.far_word.specs.Pointer.{read_of};
@@ -9,7 +9,7 @@ ghost use Rattle.far_book.specs.book.Dealing.{has_evac};
 ghost use Rattle.far_book.specs.book.NextLive.{IsBoundary};
 ghost use Rattle.far_evac.specs.AnyHand.{GivesUp, Knows, KnowsMoment, MarksSome};
 ghost use Rattle.far_evac.specs.Choosing.{after_aborting};
-ghost use Rattle.far_evac.specs.Cursor.{IsNextLacking, StandsAt, first_marked};
+ghost use Rattle.far_evac.specs.Cursor.{IsNextLacking, StandsAt, first_marked, standing_at};
 ghost use Rattle.far_evac.specs.EvacOf.{moment};
 ghost use Rattle.far_evac.specs.Live.{is_empty, lacking, live_among, live_in};
 ghost use Rattle.far_evac.specs.Marking.{after_marking, marked_core, newly_marked, waiting_for};
@@ -21,7 +21,7 @@ ghost use Rattle.far_evac.specs.declared.phase.Phase.TheVariants as phase;
 use crate::answers::Marked;
 use crate::evac::Evac;
 use crate::phase::Phase;
-use crate::round::Round;
+use crate::round::{Cursor, Round};
 use far_book::{Book, Near};
 use far_device::Device;
 use far_log::Span;
@@ -87,8 +87,9 @@ impl<N: Near + Drop, D: Device + Drop> Evac<N, D> {
         ensures found { result ≡ not (is_empty (lacking (N.view self.old.book.near) self.old.held)) }
     {
         self.book.keeps_law();
-        let (round, next) = seek(&mut self.book, self.round);
-        self.round = round;
+        let (cursor, next) = seek(&mut self.book, &self.round);
+        self.round.index = cursor.index;
+        self.round.at = cursor.at;
         let Some(span) = next else {
             return false;
         };
@@ -107,8 +108,9 @@ impl<N: Near + Drop, D: Device + Drop> Evac<N, D> {
         ensures found { result ≡ not (is_empty (lacking (N.view self.old.book.near) self.old.held)) }
     {
         self.book.keeps_law();
-        let (round, next) = seek(&mut self.book, self.round);
-        self.round = round;
+        let (cursor, next) = seek(&mut self.book, &self.round);
+        self.round.index = cursor.index;
+        self.round.at = cursor.at;
         self.book.keeps_law();
         next.is_some()
     }
@@ -163,17 +165,17 @@ impl<N: Near + Drop, D: Device + Drop> Evac<N, D> {
     }
 }
 
-// The round at the next span whose live object lacks EVAC, and that span; behind all logs, where there is none.
+// The next span whose live object lacks EVAC, and where the round stands then; behind all logs, where there is none.
+#[inline(always)]
 fn seek<N: Near + Drop, D: Device + Drop>(
     book: &mut Book<N, D>,
-    round: Round,
-) -> (Round, Option<Span>)
-    requires stands { InRound (N.view book.old.near) round }
-    requires marking { round.phase ≡ phase.Marking }
-    ensures stands { InRound (N.view book.new.near) result.0 }
-    ensures round { result.0 ≡ record round { index = result.0.index; at = result.0.at } }
-    ensures next { IfSome result.1 (λ span. StandsAt (N.view book.new.near) result.0 span) }
-    ensures none { IfNone result.1 (result.0.index ≡ length round.chosen) }
+    round: &Round,
+) -> (Cursor, Option<Span>)
+    requires stands { InRound (N.view book.old.near) round.now }
+    requires marking { round.now.phase ≡ phase.Marking }
+    ensures stands { InRound (N.view book.new.near) (standing_at round.now result.0) }
+    ensures next { IfSome result.1 (λ span. StandsAt (N.view book.new.near) (standing_at round.now result.0) span) }
+    ensures none { IfNone result.1 (result.0.index ≡ length round.now.chosen) }
     ensures known { Knows (N.view book.old.near) (N.view book.new.near) }
     ensures exact { N.still → N.view book.new.near ≡ N.view book.old.near }
     ensures order { book.new.order ≡ book.old.order }
@@ -186,12 +188,12 @@ fn seek<N: Near + Drop, D: Device + Drop>(
         let log = round.chosen.as_slice()[index];
         if let Some(span) = next_unmarked(book, log, at) {
             at = span.at;
-            return (Round { index, at, ..round }, Some(span));
+            return (Cursor { index, at }, Some(span));
         }
         index += 1;
         at = 0;
     }
-    (Round { index, at, ..round }, None)
+    (Cursor { index, at }, None)
 }
 
 // The first span of a log, at a word or behind it, whose live object lacks EVAC.
@@ -225,10 +227,11 @@ fn next_unmarked<N: Near + Drop, D: Device + Drop>(
 
 // Whether the book wants the log that the object of a cell lies in.
 fn has_evac(cell: u64) -> bool
+    requires layout { IsSome (read_of cell) }
     ensures { result ≡ has_evac (read_of cell) }
 {
-    match PtrWord::read(cell) {
-        Some(PtrWord::Near { marks, .. }) => marks.evac,
+    match PtrWord::known(cell) {
+        PtrWord::Near { marks, .. } => marks.evac,
         _ => false,
     }
 }

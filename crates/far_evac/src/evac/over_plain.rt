@@ -20,6 +20,7 @@ use far_word::Place;
 
 impl<D: Device + Drop> Evac<Plain, D> {
     /// Makes an owner's event. Any other is answered [`Reply::Refused`], and nothing has changed.
+    #[inline(always)]
     pub fn owner(&mut self, event: Event) -> Reply
         ensures made { is_owners event ≡ true → (core_state self.new.book.near.core, result) ≡ step_of (core_state self.old.book.near.core) event }
         ensures legal { is_owners event ≡ true → Legal (core_state self.old.book.near.core) event →

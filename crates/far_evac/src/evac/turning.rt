@@ -14,7 +14,7 @@ ghost use Rattle.far_evac.specs.Moment.{Tally, nothing, plus, progress_of, tally
 ghost use Rattle.far_evac.specs.MomentLaw.{is_idle, is_waiting};
 ghost use Rattle.far_evac.specs.Refusals.{unselectable};
 ghost use Rattle.far_evac.specs.Turning.{EndsTurns, GoesOn, IsBounded, IsWithin, StopsTurns, turned_at};
-ghost use Rattle.far_evac.specs.Turns.{IsRound, begun_turns, round_end, turn_size, turned, turns_made};
+ghost use Rattle.far_evac.specs.Turns.{Halts, HaltsTurns, IsRound, begun_turns, round_end, turn_size, turned, turns_made};
 ghost use Rattle.far_evac.specs.declared.phase.Phase.TheVariants as phase;
 
 use crate::answers::{EvacFault, Progress, RoundEnd};
@@ -38,6 +38,7 @@ impl<N: Near + Drop, D: Device + Drop> Evac<N, D> {
         ensures running { IfOk result (λ _. self.old.phase ≢ phase.Idle) }
         ensures barred { self.old.phase ≡ phase.Idle → IfErr result (λ fault. (fault.why ≡ WrongPhase) × (fault.so_far ≡ progress_of nothing false) × (self.new ≡ self.old)) }
         ensures stops { self.old.phase ≢ phase.Idle → IfErr result (λ fault. (self.old.phase ≡ phase.Evacuating) × StopsAt (moment N.view self.old) turn_size (moment N.view self.new) (tally_of fault.so_far)) }
+        ensures halts { N.still → self.old.phase ≢ phase.Idle → IfErr result (λ fault. (tally : Tally) × Halts (moment N.view self.old) turn_size (moment N.view self.new) tally × (fault.so_far ≡ progress_of tally false)) }
         ensures why { self.old.phase ≢ phase.Idle → IfErr result (λ fault. (fault.why ≡ Memory) ⊎ (fault.why ≡ Failed)) }
         ensures counted { CountsFault (fails result) (D.faults self.old.book.device) (D.faults self.new.book.device) }
         ensures spent { SpendsFault (fails result) (D.fails_at_most self.old.book.device) (D.fails_at_most self.new.book.device) }
@@ -86,6 +87,9 @@ impl<N: Near + Drop, D: Device + Drop> Evac<N, D> {
             × (((fault.why ≡ Memory) × (policy.new ≡ policy.old)) ⊎ P.gives policy.old (map (row_of (N.view self.old.book.near)) self.old.book.order) most (Err fault.why) policy.new))
             ⊎ ((logs : List ℕ) × P.gives policy.old (map (row_of (N.view self.old.book.near)) self.old.book.order) most (Ok logs) policy.new
             × StopsRound (moment N.view self.old) logs turns fault.so_far (moment N.view self.new) × ((fault.why ≡ Memory) ⊎ (fault.why ≡ Failed)))) }
+        ensures halts { N.still → unselectable (moment N.view self.old) ≡ None → IfErr result (λ fault. ((fault.so_far ≡ progress_of nothing false) × (self.new ≡ self.old))
+            ⊎ ((logs : List ℕ) × P.gives policy.old (map (row_of (N.view self.old.book.near)) self.old.book.order) most (Ok logs) policy.new
+            × HaltsTurns (after_selecting (moment N.view self.old) logs) turns fault.so_far (moment N.view self.new))) }
         ensures counted { CountsFault (fails result) (D.faults self.old.book.device) (D.faults self.new.book.device) }
         ensures spent { SpendsFault (fails result) (D.fails_at_most self.old.book.device) (D.fails_at_most self.new.book.device) }
         ensures honest { D.honest self.new.book.device ≡ D.honest self.old.book.device }
@@ -112,6 +116,7 @@ impl<N: Near + Drop, D: Device + Drop> Evac<N, D> {
         ensures ends { alone ≡ false → IfOk result (λ end. EndsTurns (moment N.view self.old) turns end (moment N.view self.new)) }
         ensures exact { N.still → IfOk result (λ end. (end ≡ round_end (turns_made (moment N.view self.old) turns)) × (moment N.view self.new ≡ (turns_made (moment N.view self.old) turns).moment)) }
         ensures stops { IfErr result (λ fault. StopsTurns (moment N.view self.old) turns fault.so_far (moment N.view self.new)) }
+        ensures halts { N.still → IfErr result (λ fault. HaltsTurns (moment N.view self.old) turns fault.so_far (moment N.view self.new)) }
         ensures why { IfErr result (λ fault. (fault.why ≡ Memory) ⊎ (fault.why ≡ Failed)) }
         ensures counted { CountsFault (fails result) (D.faults self.old.book.device) (D.faults self.new.book.device) }
         ensures spent { SpendsFault (fails result) (D.fails_at_most self.old.book.device) (D.fails_at_most self.new.book.device) }
@@ -151,6 +156,7 @@ impl<N: Near + Drop, D: Device + Drop> Evac<N, D> {
         ensures goes_on { IfOk result (λ total. GoesOn (moment N.view self.new) (tally_of total) total.done) }
         ensures leaving { IfErr result (λ _. self.old.phase ≡ phase.Evacuating) }
         ensures stops { IfErr result (λ fault. (tally : Tally) × StopsAt (moment N.view self.old) turn_size (moment N.view self.new) tally × (fault.so_far ≡ progress_of (plus (tally_of before) tally) false)) }
+        ensures halts { N.still → IfErr result (λ fault. (tally : Tally) × Halts (moment N.view self.old) turn_size (moment N.view self.new) tally × (fault.so_far ≡ progress_of (plus (tally_of before) tally) false)) }
         ensures why { IfErr result (λ fault. (fault.why ≡ Memory) ⊎ (fault.why ≡ Failed)) }
         ensures counted { CountsFault (fails result) (D.faults self.old.book.device) (D.faults self.new.book.device) }
         ensures spent { SpendsFault (fails result) (D.fails_at_most self.old.book.device) (D.fails_at_most self.new.book.device) }

@@ -1,4 +1,5 @@
 use Rattle.far_evac.proofs.laws.callers_keep_order.Goals as goal
+use Rattle.far_evac.proofs.Ageing.{callers_seal_behind}
 use Rattle.far_evac.proofs.StepsAside.{cores_join, fetching_order, moving_order, placing_order, retiring_order, still_order}
 
 pub returns-clause-joined : goal.returns-clause-joined
@@ -18,3 +19,6 @@ returns-clause-fetched c = fetching_order
 
 pub returns-clause-retired : goal.returns-clause-retired
 returns-clause-retired c = retiring_order
+
+pub returns-clause-ages : goal.returns-clause-ages
+returns-clause-ages c = callers_seal_behind

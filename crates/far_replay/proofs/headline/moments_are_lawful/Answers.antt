@@ -1,6 +1,7 @@
-use Rattle.far_replay.proofs.Lasting.{moments_last, events_reach}
+use Rattle.far_replay.proofs.Lasting.{moments_last}
 use Rattle.far_replay.proofs.OutputLaws.{objects_whole, heap_lawful}
 use Rattle.far_replay.proofs.TakingRoom.{shapes_are}
+use Rattle.far_replay.proofs.ViewLaws.{events_reach}
 use Rattle.far_replay.proofs.headline.moments_are_lawful.Goals as goal
 
 pub returns : goal.returns

@@ -1,6 +1,6 @@
 use Rattle.std.proofs.Common.{◌++◌, ◌∷◌, [], sym, ◌∙◌, arith}
 use Rattle.std.proofs.lemmas.List.FromFn.{map-range_with_len_more}
-use Rattle.far_replay.specs.Moment.{moment_in, state_in}
+use Rattle.far_replay.specs.Moment.{moment_in}
 use Rattle.far_replay.specs.Turn.{log_line}
 use Rattle.std.proofs.lemmas.List.{take_more_set}
 use Rattle.far_replay.proofs.inquiries.tell_logs.Goals as goal

@@ -1,7 +1,7 @@
 use Rattle.std.proofs.Common.{◌≡◌, take}
 use Rattle.std.specs.Prelude.{map}
 use Rattle.std.specs.List.{range_with_len}
-use Rattle.far_replay.specs.Moment.{moment_in, state_in}
+use Rattle.far_replay.specs.Moment.{moment_in}
 use Rattle.far_replay.specs.Turn.{log_line}
 use Rattle.far_replay.proofs.inquiries.tell_logs.Given as goal
 

@@ -26,15 +26,14 @@ loop-at-init g c =
 pub loop-at-preserved : goal.loop-at-preserved
 loop-at-preserved g c =
     let start = g.W.Write.contents c.args.writer.now in
-    let end = g.W.Write.contents c.add-in-loop-at.new.writer in
+    let end = g.W.Write.contents c.answer_one.new.writer in
     let now : Moment = moment_in c.loop-at.evac in
     let next : Moment = moment_in c.turn.new.evac in
     let command : Command = as_command c.at-command.result in
     let known = c.loop-at.invariant.ran in
     let r : Reply = reply_to now command in
     let here = c.at-command.ensures.value in
-    let reply = c.reply.ensures.value ∙ c.in-Ok.ensures.reply in
-    let held = c.add-in-loop-at.ensures start (flat_map reply_text (Done ∷ known.0)) known.3 in
+    let held = c.answer_one.ensures start (flat_map reply_text (Done ∷ known.0)) known.3 in
     let lasts = still_lasts now command r next (record { law = c.loop-at.evac.book.near.core.law; round = c.loop-at.invariant.round; between = c.loop-at.invariant.between }) c.at-command.ensures.bytes
     (record { reply = refl; moment = c.in-Ok.ensures.moment }) in
     record {
@@ -46,8 +45,8 @@ loop-at-preserved g c =
         answered_more (moment_in c.args.evac) now c.args.commands.now (drop (c.loop-at.at + 1) c.args.commands.now) known.0 known.1 command r next
             (λ rest more h. known.2 rest more (subst (λ cs. Answered now cs rest more) (sym here) h))
             (record { reply = refl; moment = c.in-Ok.ensures.moment }),
-        subst (λ bytes. Holds start end c.add-in-loop-at.new.self.waiting c.add-in-loop-at.new.self.written bytes)
-            (ap (λ x. flat_map reply_text (Done ∷ known.0) ++ reply_text x) reply ∙ sym (printed_more Done known.0 r)) held,
+        subst (λ bytes. Holds start end c.answer_one.new.replies.waiting c.answer_one.new.replies.written bytes)
+            (ap (λ x. flat_map reply_text (Done ∷ known.0) ++ reply_text x) c.in-Ok.ensures.reply ∙ sym (printed_more Done known.0 r)) held,
       );
     }
 

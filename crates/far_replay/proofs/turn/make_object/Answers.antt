@@ -1,10 +1,9 @@
 use Rattle.std.proofs.Common.{ap, sym, ◌∙◌, true}
 use Rattle.far_word.specs.Sizes.{size_of}
 use Rattle.far_core.specs.state.Room.{room}
-use Rattle.far_core.specs.state.State.{State}
 use Rattle.far_text.specs.Command.{Mutator, New}
 use Rattle.far_replay.specs.Moment.{Moment, moment_in}
-use Rattle.far_replay.specs.Turn.{refused_effect, turn_effect, unless, with_new}
+use Rattle.far_replay.specs.Turn.{with_new}
 use Rattle.far_replay.proofs.Joining.{new_order}
 use Rattle.far_replay.proofs.Turns.{made_by_events}
 use Rattle.far_replay.proofs.turn.make_object.Goals as goal

@@ -1,5 +1,5 @@
 use Rattle.std.proofs.Common.{◌≡◌, ap, subst, sym, ◌∙◌}
-use Rattle.far_text.specs.Command.{Command, Request, Mutator, New, Open, Close, Where, Drop, Epoch, as_request}
+use Rattle.far_text.specs.Command.{Request, Mutator, New, Open, Close, Where, Drop, Epoch, as_request}
 use Rattle.far_replay.specs.Moment.{Moment, moment_in}
 use Rattle.far_replay.specs.Turn.{effect}
 use Rattle.far_replay.proofs.Joining.{close_keeps, drop_keeps, epoch_keeps, made_whole, open_keeps, where_keeps}

@@ -13,3 +13,8 @@ pub returns-in-119-clause-value : goal.returns-in-119-clause-value
 returns-in-119-clause-value c =
     let words : words_in c.args.text.now ≡ codes "write" ∷ words_in (take (length c.args.text.now - 6) (drop 6 c.args.text.now)) = grind (arith, common_steps) in
     c.write_spelled.ensures.value ∙ sym (ap entry_of words)
+
+pub returns-in-118-clause-value : goal.returns-in-118-clause-value
+returns-in-118-clause-value c =
+    let words : words_in c.args.text.now ≡ codes "view" ∷ words_in (take (length c.args.text.now - 5) (drop 5 c.args.text.now)) = grind (arith, common_steps) in
+    c.view_spelled.ensures.value ∙ sym (ap entry_of words)

@@ -1,32 +1,58 @@
-use Rattle.std.proofs.Common.{sym, subst}
+use Rattle.std.proofs.Common.{◌∙◌, ap, sym, refl, subst}
 use Rattle.far_core.specs.state.Law.{Law}
 use Rattle.far_book.specs.book.Own.{own_part}
+use Rattle.far_evac.specs.declared.phase.Phase.TheVariants.{Evacuating}
+use Rattle.far_evac.specs.Cursor.{IsNextLeaving}
 use Rattle.far_evac.specs.EvacOf.{EvacOf, moment}
-use Rattle.far_evac.proofs.SendingOff.{Wanted, first_wanted, round_sent}
+use Rattle.far_evac.specs.Leaving.{LeavesBy, standing}
+use Rattle.far_evac.specs.Moment.{tally_of}
+use Rattle.far_evac.specs.MomentLaw.{has_risen}
+use Rattle.far_evac.specs.Ready.{Ready}
+use Rattle.far_evac.specs.Standing.{held_in}
+use Rattle.far_evac.proofs.Keeping.{round_found}
+use Rattle.far_evac.proofs.Readiness.{risen_is_ready}
+use Rattle.far_evac.proofs.SendingOff.{Wanted, first_wanted}
+use Rattle.far_evac.proofs.WalkingOn.{dealt_known, walks_on}
 use Rattle.far_evac.proofs.evac.Evac.deal.Goals as goal
 
 pub send_off-requires-clause-pointer : goal.send_off-requires-clause-pointer
 send_off-requires-clause-pointer g c =
-    let here = first_wanted (moment g.N.Near.view c.args.self.now) c.keeps_law.ensures.law c.keeps_law.ensures.moment c.requires.phase c.args.pointer c.requires.first.0 c.requires.first.1 in
-    let wanted = subst (λ (e : EvacOf g.row.N.Denot g.row.D.Denot). Wanted (g.N.Near.view e.book.near) c.args.pointer) (sym c.self.view_is) here in
+    let here = first_wanted (moment g.N.Near.view c.args.self.now) c.keeps_law.ensures.law c.keeps_law.ensures.moment c.requires.phase c.args.span.p c.requires.first.0 c.requires.first.1 in
+    let wanted = subst (λ (e : EvacOf g.row.N.Denot g.row.D.Denot). Wanted (g.N.Near.view e.book.near) c.args.span.p) (sym c.self.view_is) here in
     wanted.pointer
 
 pub send_off-requires-clause-quiet : goal.send_off-requires-clause-quiet
 send_off-requires-clause-quiet g c =
-    let here = first_wanted (moment g.N.Near.view c.args.self.now) c.keeps_law.ensures.law c.keeps_law.ensures.moment c.requires.phase c.args.pointer c.requires.first.0 c.requires.first.1 in
-    let wanted = subst (λ (e : EvacOf g.row.N.Denot g.row.D.Denot). Wanted (g.N.Near.view e.book.near) c.args.pointer) (sym c.self.view_is) here in
+    let here = first_wanted (moment g.N.Near.view c.args.self.now) c.keeps_law.ensures.law c.keeps_law.ensures.moment c.requires.phase c.args.span.p c.requires.first.0 c.requires.first.1 in
+    let wanted = subst (λ (e : EvacOf g.row.N.Denot g.row.D.Denot). Wanted (g.N.Near.view e.book.near) c.args.span.p) (sym c.self.view_is) here in
     wanted.quiet
 
 pub send_off-requires-clause-evac : goal.send_off-requires-clause-evac
 send_off-requires-clause-evac g c =
-    let here = first_wanted (moment g.N.Near.view c.args.self.now) c.keeps_law.ensures.law c.keeps_law.ensures.moment c.requires.phase c.args.pointer c.requires.first.0 c.requires.first.1 in
-    let wanted = subst (λ (e : EvacOf g.row.N.Denot g.row.D.Denot). Wanted (g.N.Near.view e.book.near) c.args.pointer) (sym c.self.view_is) here in
+    let here = first_wanted (moment g.N.Near.view c.args.self.now) c.keeps_law.ensures.law c.keeps_law.ensures.moment c.requires.phase c.args.span.p c.requires.first.0 c.requires.first.1 in
+    let wanted = subst (λ (e : EvacOf g.row.N.Denot g.row.D.Denot). Wanted (g.N.Near.view e.book.near) c.args.span.p) (sym c.self.view_is) here in
     wanted.evac
 
 pub invariant_of-self : goal.invariant_of-self
 invariant_of-self g c =
-    let here = first_wanted (moment g.N.Near.view c.args.self.now) c.keeps_law.ensures.law c.keeps_law.ensures.moment c.requires.phase c.args.pointer c.requires.first.0 c.requires.first.1 in
-    let wanted = subst (λ (e : EvacOf g.row.N.Denot g.row.D.Denot). Wanted (g.N.Near.view e.book.near) c.args.pointer) (sym c.self.view_is) here in
-    let law = subst (λ (e : EvacOf g.row.N.Denot g.row.D.Denot). Law (own_part (g.N.Near.view e.book.near))) (sym c.self.view_is) c.keeps_law.ensures.law in
-    round_sent (g.N.Near.view c.self.inside.book.near) (g.N.Near.view c.send_off.new.book.near) c.self.inside.round c.self.invariant c.args.pointer wanted.quiet law wanted.evac
-    c.self.inside.book.order c.send_off.new.book.order c.send_off.result c.send_off.ensures.leaves c.send_off.ensures.kept
+    let view = g.N.Near.view in
+    let here = first_wanted (moment view c.args.self.now) c.keeps_law.ensures.law c.keeps_law.ensures.moment c.requires.phase c.args.span.p c.requires.first.0 c.requires.first.1 in
+    let wanted = subst (λ (e : EvacOf g.row.N.Denot g.row.D.Denot). Wanted (view e.book.near) c.args.span.p) (sym c.self.view_is) here in
+    let law = subst (λ (e : EvacOf g.row.N.Denot g.row.D.Denot). Law (own_part (view e.book.near))) (sym c.self.view_is) c.keeps_law.ensures.law in
+    let phase = ap (λ (e : EvacOf g.row.N.Denot g.row.D.Denot). e.phase) c.self.view_is ∙ c.requires.phase in
+    let next = subst (λ (e : EvacOf g.row.N.Denot g.row.D.Denot). IsNextLeaving (view e.book.near) e.held c.args.span) (sym c.self.view_is) c.requires.next in
+    let risen = risen_is_ready (moment view c.args.self.now) c.keeps_law.ensures.law c.keeps_law.ensures.moment (ap has_risen c.requires.phase) in
+    let ready = subst (λ (e : EvacOf g.row.N.Denot g.row.D.Denot). Ready (view e.book.near) e.held) (sym c.self.view_is) risen in
+    walks_on (view c.self.inside.book.near) (view c.send_off.new.book.near) c.self.inside.round c.self.invariant phase c.args.span next ready wanted.quiet law c.keeps_law-in-Ok.ensures.law wanted.evac
+    c.self.inside.book.order c.send_off.new.book.order c.in-Ok.fate c.in-Ok.ensures.leaves c.size_of.result c.size_of.ensures
+
+pub invariant_of-self-in-Err : goal.invariant_of-self-in-Err
+invariant_of-self-in-Err g c = round_found (g.N.Near.view c.self.inside.book.near) (g.N.Near.view c.send_off.new.book.near) c.self.inside.round c.self.invariant c.in-Err.ensures.kept
+
+pub returns-in-Ok-clause-dealt : goal.returns-in-Ok-clause-dealt
+returns-in-Ok-clause-dealt g c =
+    let view = g.N.Near.view in
+    let t = view c.send_off.new.book.near in
+    let leaves = subst (λ (e : EvacOf g.row.N.Denot g.row.D.Denot). LeavesBy (view e.book.near) e.book.order t c.send_off.new.book.order c.args.span.p c.in-Ok.fate) c.self.view_is c.in-Ok.ensures.leaves in
+    dealt_known (standing view c.args.self.now c.args.progress.now) (record { core = t; order = c.send_off.new.book.order; phase = Evacuating; held = held_in c.self.inside.round })
+    (tally_of c.count.new.progress) c.args.span.p c.in-Ok.fate leaves refl (ap (λ (e : EvacOf g.row.N.Denot g.row.D.Denot). e.held) c.self.view_is) (ap tally_of c.count.ensures)

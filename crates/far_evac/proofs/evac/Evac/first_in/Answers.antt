@@ -4,6 +4,7 @@ use Rattle.far_evac.specs.Live.{live_in}
 use Rattle.far_evac.proofs.Fronts.{first_lives, knows_cells, none_lives}
 use Rattle.far_evac.proofs.Keeping.{round_found}
 use Rattle.far_evac.proofs.Walking.{found_moment, front_begins, front_lies, front_range, stands_first}
+use Rattle.far_evac.proofs.WalkingOn.{next_leaving}
 use Rattle.far_evac.proofs.evac.Evac.first_in.Goals as goal
 
 pub next_live-requires-clause-log : goal.next_live-requires-clause-log
@@ -64,3 +65,14 @@ returns-clause-first g c =
     let lies = front_lies s c.self.inside.round c.self.invariant law phase c.args.log c.requires.front.0 held in
     let lives = first_lives s law c.args.log c.self.inside.round.at lies c.in-Some.span c.in-Some.ensures.first in
     (lives.0, subst (λ (e : EvacOf g.row.N.Denot g.row.D.Denot). live_in (g.N.Near.view e.book.near) c.args.log ≡ c.in-Some.span.p ∷ lives.0) c.self.view_is lives.1)
+
+pub returns-clause-next : goal.returns-clause-next
+returns-clause-next g c =
+    let phase = ap (λ (e : EvacOf g.row.N.Denot g.row.D.Denot). e.phase) c.self.view_is ∙ c.requires.phase in
+    let held = ap (λ (e : EvacOf g.row.N.Denot g.row.D.Denot). e.held) c.self.view_is ∙ c.requires.front.1 in
+    let s = g.N.Near.view c.self.inside.book.near in
+    let t = g.N.Near.view c.next_live.new.self.near in
+    let law = c.keeps_law.ensures.law in
+    let lies = front_lies s c.self.inside.round c.self.invariant law phase c.args.log c.requires.front.0 held in
+    next_leaving s t law (knows_cells s t c.next_live.ensures.found c.next_live.ensures.kept) c.args.log c.self.inside.round.at lies c.in-Some.span c.in-Some.ensures.first
+    _ c.requires.front.0 held c.in-Some.ensures.next c.in-Some.ensures.inside

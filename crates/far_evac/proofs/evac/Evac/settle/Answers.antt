@@ -1,12 +1,13 @@
-use Rattle.std.proofs.Common.{◌+◌, ◌∙◌, cond, length, arith, ap, sym, refl}
+use Rattle.std.proofs.Common.{◌+◌, ◌∙◌, cond, length, arith, ap, sym, refl, subst}
 use Rattle.far_evac.specs.declared.answers.Progress.{Progress}
 use Rattle.far_evac.specs.declared.phase.Phase.TheVariants as phase
+use Rattle.far_evac.specs.AnyHand.{KnowsWalked}
 use Rattle.far_evac.specs.Leaving.{standing}
 use Rattle.far_evac.specs.Moment.{Moment}
 use Rattle.far_evac.specs.MomentLaw.{is_idle}
-use Rattle.far_evac.specs.Walk.{settled}
+use Rattle.far_evac.specs.Walk.{Walked, settled}
 use Rattle.far_evac.proofs.LiveLists.{knows_live}
-use Rattle.far_evac.proofs.Settling.{front_left, step_exact, step_known, walked_known_more}
+use Rattle.far_evac.proofs.Settling.{front_left, front_stays, standing_known, step_exact, step_known, walked_known_more}
 use Rattle.far_evac.proofs.Walks.{walked_same}
 use Rattle.far_evac.proofs.evac.Evac.settle.Goals as goal
 
@@ -25,7 +26,7 @@ returns-in-Some-first_in-clause-first g c =
     let known = c.first_in.ensures.known in
     let front = ap (λ (m : Moment). m.held) known.rest ∙ c.in-Some.ensures.some.1 in
     let first = c.in-Some-first_in.ensures.first in
-    front_left (standing g.N.Near.view c.first_in.new.self c.loop-log.progress) c.in-Some.log c.in-Some.ensures.some.0 front c.in-Some-first_in.pointer first.0
+    front_left (standing g.N.Near.view c.first_in.new.self c.loop-log.progress) c.in-Some.log c.in-Some.ensures.some.0 front c.in-Some-first_in.span.p first.0
     (knows_live (g.N.Near.view c.loop-log.self.book.near) (g.N.Near.view c.first_in.new.self.book.near) known.core c.in-Some.log ∙ first.1)
 
 pub give_back-requires-clause-none : goal.give_back-requires-clause-none
@@ -56,3 +57,14 @@ loop-log-preserved g c =
       done = before.done;
       device = c.give_back.ensures.device ∙ c.first_in.ensures.device ∙ before.device;
     }
+
+pub returns-in-Some-first_in-clause-known : goal.returns-in-Some-first_in-clause-known
+returns-in-Some-first_in-clause-known g c =
+    let view = g.N.Near.view in
+    let w = standing view c.loop-log.self c.loop-log.progress in
+    let t = standing view c.first_in.new.self c.loop-log.progress in
+    let first = c.in-Some-first_in.ensures.first in
+    let some = c.in-Some.ensures.some in
+    walked_known_more (settled (standing view c.args.self.now c.args.progress.now)) (settled w) t c.loop-log.invariant.known
+    (subst (λ (x : Walked). KnowsWalked x t) (sym (front_stays w c.in-Some.log some.0 some.1 c.in-Some-first_in.span.p first.0 first.1))
+    (standing_known view c.loop-log.self c.first_in.new.self c.loop-log.progress c.first_in.ensures.known))

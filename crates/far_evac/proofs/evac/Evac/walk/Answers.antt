@@ -1,4 +1,5 @@
 use Rattle.std.proofs.Common.{◌≡◌, ◌<◌, ◌∙◌, ◌∷◌, [], ℕ, List, IfSome, IfNone, length, arith, ap, sym, subst}
+use Rattle.far_log.specs.declared.span.Span.{Span}
 use Rattle.far_evac.specs.EvacOf.{moment}
 use Rattle.far_evac.specs.Leaving.{standing}
 use Rattle.far_evac.specs.Walk.{left}
@@ -25,15 +26,16 @@ loop-preserved g c =
     let v = standing view c.deal.new.self c.deal.new.progress in
     let t = standing view c.settle-first-in-loop.new.self c.settle-first-in-loop.new.progress in
     let before = c.loop.invariant in
-    let some = subst (λ o. IfSome o (λ p. (rest : List ℕ) × (left w ≡ p ∷ rest))) c.in-Some.is before.some in
+    let some = subst (λ o. IfSome o (λ (span : Span). (rest : List ℕ) × (left w ≡ span.p ∷ rest))) c.in-Some.is before.some in
     let did = c.in_default-deal.ensures in
     let then = c.settle-first-in-loop.ensures in
     let long = ap length did.round.1 in
     record {
-      walks = one_more m c.loop.counter w v t c.in-Some.pointer some.0 did.dealt.0 some.1 did.dealt.1 did.dealt.2 then.known before.walks;
-      exact = λ still. one_exact m c.loop.counter w v t c.in-Some.pointer some.0 some.1 (did.exact still) (then.exact still) (before.exact still);
+      walks = one_more m c.loop.counter w v t c.in-Some.span.p some.0 did.dealt.0 some.1 did.dealt.1 did.dealt.2 then.known before.walks;
+      exact = λ still. one_exact m c.loop.counter w v t c.in-Some.span.p some.0 some.1 (did.exact still) (then.exact still) (before.exact still);
       ends = then.ends;
       some = then.first;
+      next = then.next;
       none = then.none;
       freed = omega (arith, then.freed, did.rest.0, long, before.freed);
       done = then.done ∙ did.rest.1 ∙ before.done;

@@ -1,7 +1,9 @@
 use Rattle.std.proofs.Common.{◌≡◌, ◌+◌, ◌∷◌, [], ℕ, List, false, cond, length, IfSome, IfNone}
 use Rattle.far_device.specs.Faults.{SpendsFault}
 use Rattle.far_evac.specs.declared.phase.Phase.TheVariants as phase
+use Rattle.far_log.specs.declared.span.Span.{Span}
 use Rattle.far_evac.specs.AnyHand.{WalksTo}
+use Rattle.far_evac.specs.Cursor.{IsNextLeaving}
 use Rattle.far_evac.specs.EvacOf.{moment}
 use Rattle.far_evac.specs.Leaving.{standing}
 use Rattle.far_evac.specs.Live.{is_empty}
@@ -13,7 +15,8 @@ invariant-loop g l = record {
   walks : WalksTo (moment g.N.Near.view l.fn.self) l.counter (standing g.N.Near.view l.self l.progress);
   exact : g.N.Near.still → standing g.N.Near.view l.self l.progress ≡ walked (moment g.N.Near.view l.fn.self) l.counter;
   ends : l.self.phase ≡ cond (is_empty l.self.held) phase.Idle phase.Evacuating;
-  some : IfSome l.first (λ p. (rest : List ℕ) × (left (standing g.N.Near.view l.self l.progress) ≡ p ∷ rest));
+  some : IfSome l.first (λ (span : Span). (rest : List ℕ) × (left (standing g.N.Near.view l.self l.progress) ≡ span.p ∷ rest));
+  next : IfSome l.first (λ (span : Span). IsNextLeaving (g.N.Near.view l.self.book.near) l.self.held span);
   none : IfNone l.first (l.self.held ≡ []);
   freed : l.progress.freed + length l.self.held ≡ length l.fn.self.held;
   done : l.progress.done ≡ false;

@@ -8,34 +8,34 @@ use Rattle.far_evac.proofs.evac.marking.seek.Goals as goal
 
 pub next_unmarked-requires-clause-log : goal.next_unmarked-requires-clause-log
 next_unmarked-requires-clause-log g c =
-    let front = front_is c.args.round.chosen c.as_slice.result.now c.loop-index.index c.len.result c.as_slice.ensures c.len.ensures c.loop-index-test.true in
+    let front = front_is c.args.round.now.chosen c.as_slice.result.now c.loop-index.index c.len.result c.as_slice.ensures c.len.ensures c.loop-index-test.true in
     front_inside (g.N.Near.view c.loop-index.book.near) _ c.loop-index.invariant.stands c.requires.marking _ _ front c.keeps_law.ensures.law
 
 pub next_unmarked-requires-clause-begins : goal.next_unmarked-requires-clause-begins
 next_unmarked-requires-clause-begins g c =
-    let front = front_is c.args.round.chosen c.as_slice.result.now c.loop-index.index c.len.result c.as_slice.ensures c.len.ensures c.loop-index-test.true in
+    let front = front_is c.args.round.now.chosen c.as_slice.result.now c.loop-index.index c.len.result c.as_slice.ensures c.len.ensures c.loop-index-test.true in
     front_begins (g.N.Near.view c.loop-index.book.near) _ c.loop-index.invariant.stands c.requires.marking _ _ front
 
 pub next_unmarked-requires-clause-before : goal.next_unmarked-requires-clause-before
 next_unmarked-requires-clause-before g c =
-    let front = front_is c.args.round.chosen c.as_slice.result.now c.loop-index.index c.len.result c.as_slice.ensures c.len.ensures c.loop-index-test.true in
+    let front = front_is c.args.round.now.chosen c.as_slice.result.now c.loop-index.index c.len.result c.as_slice.ensures c.len.ensures c.loop-index-test.true in
     front_marked (g.N.Near.view c.loop-index.book.near) _ c.loop-index.invariant.stands c.requires.marking _ _ front
 
 pub returns-in-Some-clause-stands : goal.returns-in-Some-clause-stands
 returns-in-Some-clause-stands g c =
-    let front = front_is c.args.round.chosen c.as_slice.result.now c.loop-index.index c.len.result c.as_slice.ensures c.len.ensures c.loop-index-test.true in
+    let front = front_is c.args.round.now.chosen c.as_slice.result.now c.loop-index.index c.len.result c.as_slice.ensures c.len.ensures c.loop-index-test.true in
     let s = g.N.Near.view c.loop-index.book.near in
     let t = g.N.Near.view c.next_unmarked.new.book.near in
-    let r = record c.args.round { index = c.loop-index.index; at = c.loop-index.at } in
+    let r = record c.args.round.now { index = c.loop-index.index; at = c.loop-index.at } in
     let e = c.in-Some.ensures in
     moved_on t r (round_found s t r c.loop-index.invariant.stands e.known) c.requires.marking _ _ front c.in-Some.span.at e.next.here e.next.before
 
 pub returns-in-Some-clause-next : goal.returns-in-Some-clause-next
 returns-in-Some-clause-next g c =
-    let front = front_is c.args.round.chosen c.as_slice.result.now c.loop-index.index c.len.result c.as_slice.ensures c.len.ensures c.loop-index-test.true in
+    let front = front_is c.args.round.now.chosen c.as_slice.result.now c.loop-index.index c.len.result c.as_slice.ensures c.len.ensures c.loop-index-test.true in
     record {
       log = slice_index_or c.as_slice.result.now c.loop-index.index 0;
-      more = drop (c.loop-index.index + 1) c.args.round.chosen;
+      more = drop (c.loop-index.index + 1) c.args.round.now.chosen;
       front = front;
       next = c.in-Some.ensures.next;
       at = refl;
@@ -47,10 +47,10 @@ returns-in-Some-clause-known g c =
 
 pub loop-index-preserved : goal.loop-index-preserved
 loop-index-preserved g c =
-    let front = front_is c.args.round.chosen c.as_slice.result.now c.loop-index.index c.len.result c.as_slice.ensures c.len.ensures c.loop-index-test.true in
+    let front = front_is c.args.round.now.chosen c.as_slice.result.now c.loop-index.index c.len.result c.as_slice.ensures c.len.ensures c.loop-index-test.true in
     let s = g.N.Near.view c.loop-index.book.near in
     let t = g.N.Near.view c.next_unmarked.new.book.near in
-    let r = record c.args.round { index = c.loop-index.index; at = c.loop-index.at } in
+    let r = record c.args.round.now { index = c.loop-index.index; at = c.loop-index.at } in
     let e = c.in_default.ensures in
     let h = c.loop-index.invariant in
     record {
