@@ -14,6 +14,9 @@ mod shape;
 
 pub use event::{Event, Kind, Reply};
 pub use machine::Core;
-pub use machine::laws::{events_leave_others, opening_is_start, steps_keep_views};
+pub use machine::laws::{
+    events_leave_others, namings_are_plain, opening_is_start, scopes_show, sets_of_logs,
+    steps_keep_views,
+};
 pub use naming::Naming;
 pub use shape::Shape;
