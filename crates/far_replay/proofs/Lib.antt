@@ -40,6 +40,7 @@ pub mod RangeTurns
 pub mod RangeWrites
 pub mod Refusals
 pub mod RoundChoices
+pub mod RoundCounts
 pub mod RoundLeads
 pub mod Runs
 pub mod SaidBy

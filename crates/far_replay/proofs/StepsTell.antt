@@ -1,5 +1,5 @@
 -- What a step of the evacuator tells is so.
-use Rattle.std.proofs.Common.{◌≡◌, ◌≢◌, ℕ, zero, suc, ◌+◌, ◌*◌, ◌/◌, ◌%◌, ◌^◌, ◌<◌, ◌≤◌, ◌==◌, ◌&&◌, ◌||◌, Bool, true, false, not, cond, nat_lt, nat_le, Option, Some, None, List, [], ◌∷◌, length, filter, take, Ok, ap, sym, refl, ◌∙◌, subst, arith, inl, inr, if◌then◌else◌}
+use Rattle.std.proofs.Common.{◌≡◌, ◌≢◌, ℕ, zero, suc, ◌+◌, ◌*◌, ◌/◌, ◌%◌, ◌^◌, ◌<◌, ◌≤◌, ◌==◌, ◌&&◌, ◌||◌, Bool, true, false, not, cond, nat_lt, nat_le, Option, Some, None, List, [], ◌∷◌, length, filter, take, drop, length-drop, Ok, ap, sym, refl, ◌∙◌, subst, arith, inl, inr, if◌then◌else◌}
 use Rattle.std.specs.Prelude.{◌↔◌, bit_or, Contains, IsSome, find}
 use Rattle.std.specs.List.{AllByRecursion, range_with_len}
 use Rattle.std.proofs.lemmas.Bool.{cond_both, eq-eqb, eqb-true, false≢true, true≢false, not-true}
@@ -90,7 +90,7 @@ near_body (Some Free) = refl
 near_body (Some (Near len ds place marks)) = refl
 near_body (Some (Far len ds marks)) = refl
 
-abbrev place_or : Place → Option PtrWord → Place
+abbrev pub place_or : Place → Option PtrWord → Place
 place_or other None = other
 place_or other (Some Free) = other
 place_or other (Some (Near len ds place marks)) = place
@@ -112,6 +112,10 @@ held_by false kinds.Sealed e = absurd cc
 
 chosen_by_both : (held : Bool) (kind : Kind) → held ≡ true → kind ≡ kinds.Sealed → kind_named held kind ≡ Chosen
 chosen_by_both held kind h e = ap (λ b. kind_named b kind) h ∙ ap (kind_named true) e
+
+none_held : (held : List ℕ) → is_empty held ≡ true → held ≡ []
+none_held [] e = refl
+none_held (l ∷ ls) e = absurd (false≢true e)
 
 pub held_chosen : (now : Moment) → MomentLaw now → (l : ℕ) → among now.held l ≡ true → IsChosen now l
 held_chosen now moment l h = chosen_by_both (among now.held l) (now.core.kind l) h (moment.sealed l h)
@@ -250,6 +254,13 @@ module _ (now : Moment) (count : ℕ) (law : Law now.core) (moment : MomentLaw n
     enough = λ more. dealt.counted ∙ (walk_is now count).1.enough more;
     done = done_so;
   }
+
+  -- where no log is left each was given back
+  pub all_freed : is_done w ≡ true → w.tally.freed ≡ length now.held
+  all_freed done =
+      let none : drop w.tally.freed now.held ≡ [] = sym dealt.gives.held ∙ none_held w.moment.held done in
+      let rest = length-drop w.tally.freed now.held in
+      omega (arith, dealt.gives.most, rest, ap (λ (xs : List ℕ). length xs) none)
 
   pub tells_leaving : TellsLeaving now count (progress_of w.tally (is_done w)) (ended w)
   tells_leaving = cond_both (is_done w) (record w.moment { phase = Idle }) w.moment (TellsLeaving now count (progress_of w.tally (is_done w)))
@@ -468,10 +479,6 @@ module _ (now : Moment) (law : Law now.core) (moment : MomentLaw now) where
   choice_takes : (choice : Choice) (most : ℕ) (logs : List ℕ) → given_by choice (rows_in now) most ≡ Ok logs → Takes now choice most logs
   choice_takes (By policy) most logs is = let same : chosen_by policy (rows_in now) most ≡ logs = cc in subst (Takes now (By policy) most) same (policy_takes policy most)
   choice_takes (Script named) most logs is = subst (FollowsScript (rows_in now) most named) is (follows_script (rows_in now) most named)
-
-  none_held : (held : List ℕ) → is_empty held ≡ true → held ≡ []
-  none_held [] e = refl
-  none_held (l ∷ ls) e = absurd (false≢true e)
 
   pub tells_choice : (choice : Choice) (most : ℕ) (logs : List ℕ) → is_idle now.phase ≡ true → given_by choice (rows_in now) most ≡ Ok logs → TellsChoice now choice most logs (after_selecting now logs)
   tells_choice choice most [] idle is = record { takes = choice_takes choice most [] is; held = none_held now.held (moment.runs ∙ idle); core = refl }

@@ -21,15 +21,18 @@ use Rattle.far_evac.specs.declared.answers.RoundEnd.{RoundEnd}
 use Rattle.far_evac.specs.declared.answers.RoundEnd.TheVariants as ends
 use Rattle.far_evac.specs.declared.phase.Phase.{Phase}
 use Rattle.far_evac.specs.declared.phase.Phase.TheVariants.{Idle, Marking, Waiting, Evacuating}
+use Rattle.far_evac.proofs.Leading.{selecting}
 use Rattle.far_text.specs.Command.{Command, Mutator, Book, Evacuator, Choice, By, Script, Policy, Step, Select, Mark, Wait, Evacuate, Abort, Round}
 use Rattle.far_text.specs.Written.{AllWriteBytes}
 use Rattle.far_replay.specs.Answers.{Answered, Commanded, IsMoment}
 use Rattle.far_replay.specs.Reply.{Reply, Selected, Clear, Evacuated, Ended, Refused}
 use Rattle.far_replay.specs.Rounds.{after_round, choice_causes, chosen_by, given_by, is_evacuating, is_marking, is_waiting, logs_given, refused_step, round_told, rows_in, step_causes, step_effect, step_reply, wait_causes}
-use Rattle.far_replay.specs.Steps.{AllTold, AreTurns, IsTimeFor, NoneDone, Takes, TellsRefusal, TellsRound, TellsStep, Told, counted_by, phase_after, says_done, sum_of, turn_step}
+use Rattle.far_replay.specs.Steps.{AllTold, AreTurns, CountsRound, IsTimeFor, NoneDone, Takes, TellsRefusal, TellsRound, TellsStep, Told, counted_by, phase_after, says_done, sum_of, turn_step}
 use Rattle.far_replay.specs.Turn.{effect, first_cause, refusal, refused_effect, turn_effect, turn_reply, unless}
 use Rattle.far_replay.proofs.Lasting.{Lasts, moment_lasts, still_lasts}
 use Rattle.far_replay.proofs.Refusals.{EachFirst, among}
+use Rattle.far_replay.proofs.RoundChoices.{policy_chooses}
+use Rattle.far_replay.proofs.RoundCounts.{counts_round}
 use Rattle.far_replay.proofs.RoundLeads.{begins, evacuating_is, marking_is, none_first, step_stays, waiting_is}
 use Rattle.far_replay.proofs.StepsTell.{chosen_phase, ended_phase, marked_phase, policy_takes, tells_choice, tells_clear, tells_end, tells_leaving, tells_marks, tells_open}
 
@@ -155,6 +158,14 @@ module _ (now : Moment) (law : Law now.core) (moment : MomentLaw now) (policy : 
   idle : now.phase ≡ Idle
   idle = idle_phase now.phase (begins now [] may).0.idle
 
+  counts : (l : ℕ) (ls : List ℕ) → chosen_by policy (rows_in now) most ≡ l ∷ ls → (turns_made (after_selecting now (l ∷ ls)) turns).over ≡ true →
+      CountsRound now (l ∷ ls) (progress_of (turns_made (after_selecting now (l ∷ ls)) turns).tally true) (turns_made (after_selecting now (l ∷ ls)) turns).moment
+  counts l ls e over =
+      let chosen = policy_chooses now policy most moment in
+      let begun = selecting now (chosen_by policy (rows_in now) most) law moment (begins now [] may).0.idle (begins now [] may).0.left chosen.once chosen.of_order in
+      let x = counts_round (after_selecting now (l ∷ ls)) law (subst (λ (xs : List ℕ). MomentLaw (after_selecting now xs)) e begun.moment) refl turns over in
+      record { moved = x.moved; far = x.far; dropped = x.dropped; freed = x.freed }
+
   tells_logs : (logs : List ℕ) → chosen_by policy (rows_in now) most ≡ logs → TellsRound now policy most turns (round_told now logs turns) (after_round now logs turns)
   tells_logs [] e = (subst (Takes now (By policy) most) e (policy_takes now law moment policy most), refl)
   tells_logs (l ∷ ls) e =
@@ -166,8 +177,8 @@ module _ (now : Moment) (law : Law now.core) (moment : MomentLaw now) (policy : 
       cond_both r.over (ends.Done (progress_of r.tally true)) (ends.Limit r.moment.phase) (λ (end : RoundEnd). TellsRound now policy most turns end r.moment)
       (λ over.
       let (last, rest, is, done, none, few, last_idle) = run.over over in
-      (l, ls, m, run.replies, chosen, run.turns, (last, rest, is, done, none, few, record { moved = run.moved; far = run.far; dropped = run.dropped; freed = run.freed }, last_idle)))
-      (λ goes. let before = run.going goes in (l, ls, m, run.replies, chosen, run.turns, (before.0, before.1, refl)))
+      (l, ls, m, run.replies, chosen, run.turns, (last, rest, is, done, none, few, record { moved = run.moved; far = run.far; dropped = run.dropped; freed = run.freed }, last_idle), counts l ls e over))
+      (λ goes. let before = run.going goes in (l, ls, m, run.replies, chosen, run.turns, (before.0, before.1, refl), tt))
 
   phase_logs : (logs : List ℕ) → (after_round now logs turns).phase ≡ phase_after now.phase (Round policy most turns) (Ended (round_told now logs turns))
   phase_logs [] = refl
@@ -234,13 +245,13 @@ module _ (now : Moment) (law : Law now.core) (moment : MomentLaw now) where
     idle_from false h = absurd (true≢false h)
 
   script_says : (named : List ℕ) (most : ℕ) (given : Result (List ℕ) Refusal) → now.phase ≡ Idle → FollowsScript (rows_in now) most named given → EachFirst (Why (Select (Script named) most)) (choice_causes given)
-  script_says named most (Ok logs) idle follows = tt
-  script_says named most (Err why) idle (k, within, bad, good, is) =
-      ((λ _. (subst (TellsRefusal now (Select (Script named) most)) (sym is) (k, within, bad, good, refl), λ _. idle)), λ _. tt)
+  script_says named most (Ok logs) rests follows = tt
+  script_says named most (Err why) rests (k, within, bad, good, is) =
+      ((λ _. (subst (TellsRefusal now (Select (Script named) most)) (sym is) (k, within, bad, good, refl), λ _. rests)), λ _. tt)
 
   choice_says : (choice : Choice) (most : ℕ) → now.phase ≡ Idle → EachFirst (Why (Select choice most)) (choice_causes (given_by choice (rows_in now) most))
-  choice_says (By policy) most idle = tt
-  choice_says (Script named) most idle = script_says named most (scripted (rows_in now) most named) idle (follows_script (rows_in now) most named)
+  choice_says (By policy) most rests = tt
+  choice_says (Script named) most rests = script_says named most (scripted (rows_in now) most named) rests (follows_script (rows_in now) most named)
 
   poll_says : (o : Polled) → polled now.core ≡ o → now.phase ≡ Waiting → EachFirst (Why Wait) (wait_causes o)
   poll_says polls.Clear is waits = tt

@@ -165,11 +165,23 @@ Ends turns rs (ends.Done progress) after =
 Ends turns rs ends.Nothing after = ⊥
 Ends turns rs (ends.Limit phase) after = NoneDone rs × (length rs ≡ turns) × (after.phase ≡ phase)
 
+-- where it was done, the counts are of what has changed so from its first moment to its last, and each chosen log was given back
+pub record CountsRound (now : Moment) (logs : List ℕ) (progress : Progress) (after : Moment) : Type 0 where
+  pub moved : IsHowMany (IsMoved now.core after.core) progress.moved
+  pub far : IsHowMany (IsSentFar now.core after.core) progress.far
+  pub dropped : IsHowMany (IsRetired now.core after.core) progress.dropped
+  pub freed : progress.freed ≡ length logs
+
+abbrev pub CountsAtEnd : Moment → List ℕ → RoundEnd → Moment → Type 0
+CountsAtEnd now logs (ends.Done progress) after = CountsRound now logs progress after
+CountsAtEnd now logs ends.Nothing after = Unit {0}
+CountsAtEnd now logs (ends.Limit phase) after = Unit {0}
+
 -- no log was chosen, and nothing has changed; or some were, as `select` would, and turns were made
 abbrev pub TellsRound : Moment → Policy → ℕ → ℕ → RoundEnd → Moment → Type 0
 TellsRound now policy most turns ends.Nothing after = Takes now (By policy) most [] × (after ≡ now)
 TellsRound now policy most turns end after =
-    (l : ℕ) × (ls : List ℕ) × (chosen : Moment) × (rs : List Reply) × Commanded now (Evacuator (Select (By policy) most)) (Selected (l ∷ ls)) chosen × AreTurns chosen rs after × Ends turns rs end after
+    (l : ℕ) × (ls : List ℕ) × (chosen : Moment) × (rs : List Reply) × Commanded now (Evacuator (Select (By policy) most)) (Selected (l ∷ ls)) chosen × AreTurns chosen rs after × Ends turns rs end after × CountsAtEnd now (l ∷ ls) end after
 
 -- ---- the phase
 -- in which a step may be made

@@ -117,7 +117,8 @@ pub fn drops_end_objects()
 /// logs has it. `wait` is clear exactly where no scope from before the round is open that wasn't seen clear, and refused 18 by such a
 /// one alone. `evacuate` counts the objects that lie in another log then, that went far, that were retired, and the logs given
 /// back; it is done where no log is chosen any more. `round` is a `select` and turns, each answered as `mark 16`, `wait` or `evacuate 16`
-/// would be, by the phase, and its counts are their sums. The phase follows from commands and replies, and 12 is answered
+/// would be, by the phase, and its counts are their sums, and where it is done of what has changed so from its first moment to
+/// its last. The phase follows from commands and replies, and 12 is answered
 /// exactly out of phase. Through any command the sealed logs keep their order, but for those that were given back, and those sealed
 /// since come last; so from the heap's start on the first is the oldest.
 pub fn steps_are_told()
