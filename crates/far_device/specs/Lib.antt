@@ -1,4 +1,5 @@
 pub mod Contents
 pub mod Faults
 pub mod Mem
+pub mod Row
 pub mod Wrapping

@@ -1,7 +1,9 @@
 //! A device in memory.
 
-ghost use Rattle.std.specs.Prelude.{◌≡◌, ◌+◌, ◌%◌, ◌^◌, true, Some, None, IfOk, IfErr, IfNone, IfSome, OnOk, OnErr};
+ghost use Rattle.std.specs.Prelude.{ℕ, ◌≡◌, ◌+◌, ◌%◌, ◌^◌, ◌<◌, ◌≤◌, true, IsTrue, Some, None, IfOk, IfErr, IfNone, IfSome, OnOk, OnErr};
+ghost use Rattle.std.specs.Vec.{vec_len};
 ghost use Rattle.far_device.specs.Contents.{KeepsOthers};
+ghost use Rattle.far_device.specs.Row.{bytes_in};
 ghost use Rattle.far_device.specs.declared.fault.DeviceFault.TheVariants.{Memory, Device as Failed};
 
 use crate::device::Device;
@@ -11,11 +13,17 @@ use std::alloc::Global;
 use std::collections::HashMap;
 use std::collections::hash_map::Entry;
 
+/// Keys below this one, as the numbers of a heap's pointers are, stand in a row, where each is found by its number.
+const ROW: u32 = 1024;
+
 /// A device in memory. It is honest, and its one fault is a read of a key under which nothing is.
 #[derive(Debug, Drop)]
 pub struct MemDevice {
     pub(crate) alloc: Global,
-    pub(crate) objects: HashMap<u32, Vec<u8>>,
+    // What is under the keys below ROW, as far as one was written.
+    pub(crate) row: Vec<Option<Vec<u8>>>,
+    // What is under all others.
+    pub(crate) others: HashMap<u32, Vec<u8>>,
     pub(crate) spares: Spares,
     pub(crate) faults: u64,
 }
@@ -30,10 +38,88 @@ impl MemDevice {
     {
         MemDevice {
             alloc,
-            objects: HashMap::new(alloc),
+            row: Vec::new(alloc),
+            others: HashMap::new(alloc),
             spares: Spares::new(alloc),
             faults: 0,
         }
+    }
+}
+
+impl MemDevice {
+    ghost use Rattle.far_device.specs.Mem.{bytes_at, faults_of};
+
+    // What is under a key.
+    #[inline]
+    fn held(&self, id: u32) -> Option<&[u8]>
+        ensures some { IfSome result (λ held. bytes_at self.now id ≡ Some held.now) }
+        ensures none { IfNone result (bytes_at self.now id ≡ None) }
+    {
+        if id < ROW {
+            let held = self.row.get(id as usize)?.as_ref()?;
+            return Some(held.as_slice());
+        }
+        let held = self.others.get(&id)?;
+        Some(held.as_slice())
+    }
+
+    // Puts bytes under a key that stands in the row.
+    #[inline]
+    fn write_row(&mut self, id: usize, bytes: &[u8]) -> Result<(), DeviceFault>
+        requires { id < 1024 }
+        ensures set { OnOk result (bytes_at self.new id ≡ Some bytes.now) }
+        ensures others { KeepsOthers (bytes_at self.old) (bytes_at self.new) id }
+        ensures refused { IfErr result (λ why. why ≡ Memory) }
+        ensures unchanged { OnErr result (bytes_at self.new ≡ bytes_at self.old) }
+        ensures faults { faults_of self.new ≡ faults_of self.old }
+    {
+        if self.row.len() <= id && !lengthen(&mut self.row, id) {
+            return Err(DeviceFault::Memory);
+        }
+        if !self.spares.put(&mut self.row[id], bytes) {
+            return Err(DeviceFault::Memory);
+        }
+        Ok(())
+    }
+
+    // Puts bytes under any other key.
+    #[inline(never)]
+    fn write_other(&mut self, id: u32, bytes: &[u8]) -> Result<(), DeviceFault>
+        requires { 1024 ≤ id }
+        ensures set { OnOk result (bytes_at self.new id ≡ Some bytes.now) }
+        ensures others { KeepsOthers (bytes_at self.old) (bytes_at self.new) id }
+        ensures refused { IfErr result (λ why. why ≡ Memory) }
+        ensures unchanged { OnErr result (bytes_at self.new ≡ bytes_at self.old) }
+        ensures faults { faults_of self.new ≡ faults_of self.old }
+    {
+        match self.others.entry(id) {
+            Ok(Entry::Occupied(mut entry)) => {
+                if !self.spares.replace(entry.get_mut(), bytes) {
+                    return Err(DeviceFault::Memory);
+                }
+            }
+            Ok(Entry::Vacant(entry)) => {
+                let Some(held) = self.spares.copied(bytes) else {
+                    return Err(DeviceFault::Memory);
+                };
+                entry.insert(held);
+            }
+            Err(_) => return Err(DeviceFault::Memory),
+        }
+        Ok(())
+    }
+
+    // Takes the key away, with what is under it.
+    #[inline]
+    fn taken(&mut self, id: u32) -> Option<Vec<u8>>
+        ensures gone { bytes_at self.new id ≡ None }
+        ensures others { KeepsOthers (bytes_at self.old) (bytes_at self.new) id }
+        ensures faults { faults_of self.new ≡ faults_of self.old }
+    {
+        if id < ROW {
+            return self.row.get_mut(id as usize)?.take();
+        }
+        self.others.remove(&id)
     }
 }
 
@@ -61,21 +147,11 @@ impl Device for MemDevice {
         ensures unchanged { OnErr result (bytes_at self.new ≡ bytes_at self.old) }
         ensures faults { faults_of self.new ≡ faults_of self.old }
     {
-        match self.objects.entry(id) {
-            Ok(Entry::Occupied(mut entry)) => {
-                if !self.spares.replace(entry.get_mut(), bytes) {
-                    return Err(DeviceFault::Memory);
-                }
-            }
-            Ok(Entry::Vacant(entry)) => {
-                let Some(held) = self.spares.copied(bytes) else {
-                    return Err(DeviceFault::Memory);
-                };
-                entry.insert(held);
-            }
-            Err(_) => return Err(DeviceFault::Memory),
+        if id < ROW {
+            self.write_row(id as usize, bytes)
+        } else {
+            self.write_other(id, bytes)
         }
-        Ok(())
     }
 
     /// Answers [`DeviceFault::Device`] exactly where nothing is under the key.
@@ -87,11 +163,11 @@ impl Device for MemDevice {
         ensures counted { IfNone (bytes_at self.old id) (faults_of self.new ≡ (faults_of self.old + 1) % 2 ^ 64) }
         ensures uncounted { IfSome (bytes_at self.old id) (λ _. faults_of self.new ≡ faults_of self.old) }
     {
-        let Some(held) = self.objects.get(&id) else {
+        let Some(held) = self.held(id) else {
             self.faults = self.faults.wrapping_add(1);
             return Err(DeviceFault::Device);
         };
-        let Ok(bytes) = Vec::from_slice(self.alloc, held.as_slice()) else {
+        let Ok(bytes) = Vec::from_slice(self.alloc, held) else {
             return Err(DeviceFault::Memory);
         };
         Ok(bytes)
@@ -102,7 +178,7 @@ impl Device for MemDevice {
         ensures others { KeepsOthers (bytes_at self.old) (bytes_at self.new) id }
         ensures faults { faults_of self.new ≡ faults_of self.old }
     {
-        if let Some(buffer) = self.objects.remove(&id) {
+        if let Some(buffer) = self.taken(id) {
             self.spares.keep(buffer);
         }
     }
@@ -110,4 +186,20 @@ impl Device for MemDevice {
     fn faults(&self) -> u64 {
         self.faults
     }
+}
+
+/// Makes the row longer than a number. After `false`, where memory was refused, it may not be.
+#[inline(never)]
+#[tactic(auto, using(crate::proofs::Rows::longer))]
+fn lengthen(row: &mut Vec<Option<Vec<u8>>>, id: usize) -> bool
+    requires { id < 1024 }
+    ensures long { IsTrue result → id < vec_len row.new }
+    ensures same { (k : ℕ) → bytes_in row.new k ≡ bytes_in row.old k }
+{
+    for _ in row.len()..id + 1 {
+        let Ok(()) = row.push(None) else {
+            return false;
+        };
+    }
+    true
 }

@@ -1,6 +1,7 @@
 //! Buffers of objects that are gone, for objects to come.
 
-ghost use Rattle.std.specs.Prelude.{◌≡◌, ◌≤◌, length, cond, IfSome, IsTrue};
+ghost use Rattle.std.specs.Prelude.{◌≡◌, ◌≤◌, length, cond, Some, IfSome, IsTrue};
+ghost use Rattle.far_device.specs.Row.{bytes_of};
 ghost use Rattle.std.specs.Vec.{vec_capacity};
 
 use std::alloc::Global;
@@ -50,6 +51,21 @@ impl Spares {
             return None;
         }
         Vec::from_slice(self.alloc, bytes).ok()
+    }
+
+    /// Puts these bytes in a place, in place of what is held there, if anything is. After `false`, where memory was refused,
+    /// the place holds what it held.
+    #[inline]
+    pub(crate) fn put(&mut self, place: &mut Option<Vec<u8>>, bytes: &[u8]) -> bool
+        ensures { bytes_of place.new ≡ cond result (Some bytes.now) (bytes_of place.old) }
+    {
+        match place {
+            Some(held) => self.replace(held, bytes),
+            None => {
+                *place = self.copied(bytes);
+                place.is_some()
+            }
+        }
     }
 
     /// Puts these bytes in place of what is held, into the same buffer where it has room for them. After `false`, where

@@ -82,6 +82,26 @@ fn many_keys(rt: HostRuntime) -> Result<(), Fail> {
 }
 
 #[test]
+fn the_row_ends_at_1024(rt: HostRuntime) -> Result<(), Fail> {
+    let mut device = MemDevice::new(rt.alloc());
+    let rows: [(u32, &[u8]); 4] = [(1024, &[4; 100]), (1023, &[3]), (1024, &[4]), (1023, &[])];
+    for (id, bytes) in rows {
+        device.write(id, bytes)?;
+        gives(&rt, &mut device, id, bytes)?;
+    }
+    assert_eq!(rt; device.row.len(), 1024);
+    has_nothing(&rt, &mut device, 0);
+    has_nothing(&rt, &mut device, 1025);
+    device.forget(1024);
+    has_nothing(&rt, &mut device, 1024);
+    gives(&rt, &mut device, 1023, &[])?;
+    device.write(1024, &[5; 8])?;
+    device.forget(1023);
+    has_nothing(&rt, &mut device, 1023);
+    gives(&rt, &mut device, 1024, &[5; 8])
+}
+
+#[test]
 fn buffers_are_used_again(rt: HostRuntime) -> Result<(), Fail> {
     let mut device = MemDevice::new(rt.alloc());
     for id in 0..65u32 {
