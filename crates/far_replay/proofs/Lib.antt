@@ -24,6 +24,7 @@ pub mod Fronts
 pub mod InquiryLaws
 pub mod Joining
 pub mod Kept
+pub mod KeptCounts
 pub mod Lasting
 pub mod Leading
 pub mod LoadWords

@@ -1,9 +1,8 @@
 //! What a heap is asked: where an object is, what a log has, and how many objects there are.
 
-ghost use Rattle.std.specs.Prelude.{◌≡◌, ◌<◌, ◌*◌, IsSome, length, map, take, sum};
+ghost use Rattle.std.specs.Prelude.{◌≡◌, ◌<◌, ◌*◌, length, map, take, sum};
 ghost use Rattle.std.specs.List.{range_with_len};
 ghost use Rattle.far_word.specs.declared.sizes.TheConstants.{MOST_LOGS};
-ghost use Rattle.far_word.specs.Pointer.{read_of};
 ghost use Rattle.far_core.specs.state.Law.{Law};
 ghost use Rattle.far_replay.specs.Audit.{bytes_by_log, lies_near, lies_far, pointers_by};
 ghost use Rattle.far_text.specs.Command.{Mutator, Book as AsksBook, Where, Log, Audit};
@@ -20,7 +19,7 @@ use crate::reply::{Counts, LogLine};
 use far_book::Plain;
 use far_device::MemDevice;
 use far_evac::{Evac, LogState};
-use far_word::{CELLS, PtrWord, Refused};
+use far_word::{Refused, object_counts};
 
 /// Tells where an owner's object is.
 pub fn find_object(evac: &mut Evac<Plain, MemDevice>, owner: u8, pointer: u64) -> Outcome
@@ -78,33 +77,20 @@ pub fn tell_log(evac: &Evac<Plain, MemDevice>, scratch: &mut Scratch, log: u64) 
     Outcome::Logs(1)
 }
 
-// Whether the object of a cell lies near, and whether far; neither, once it is dropped.
-fn lies(cell: u64) -> (bool, bool)
-    requires { IsSome (read_of cell) }
-    ensures near { result.0 ≡ lies_near (read_of cell) }
-    ensures far { result.1 ≡ lies_far (read_of cell) }
-{
-    match PtrWord::known(cell) {
-        PtrWord::Near { marks, .. } => (!marks.dropped, false),
-        PtrWord::Far { marks, .. } => (false, !marks.dropped),
-        PtrWord::Free => (false, false),
-    }
-}
-
 // How many objects are near, and how many are far.
 fn count_objects(evac: &Evac<Plain, MemDevice>) -> (u16, u16)
     ensures near { result.0 ≡ length (pointers_by lies_near (state_in evac.now)) }
     ensures far { result.1 ≡ length (pointers_by lies_far (state_in evac.now)) }
 {
+    let cells = core_of(evac).cells();
+    let mut all = 0;
     let mut near = 0;
-    let mut far = 0;
-    for pointer in 0..CELLS * u16::from(core_of(evac).mutators()) {
-        let cell = core_of(evac).cell(pointer);
-        let (is_near, is_far) = lies(cell);
-        near += u16::from(is_near);
-        far += u16::from(is_far);
+    for pointer in 0..cells.len() {
+        let (is_kept, is_near) = object_counts(cells[pointer]);
+        all += is_kept;
+        near += is_near;
     }
-    (near, far)
+    (near as u16, (all - near) as u16)
 }
 
 // The bytes that live spans take in all logs.

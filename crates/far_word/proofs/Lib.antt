@@ -1,4 +1,5 @@
 pub mod ByteLaws
+pub mod CountLaws
 pub mod FieldLaws
 pub mod HeaderLaws
 pub mod MaskLaws

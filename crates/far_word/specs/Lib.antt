@@ -1,4 +1,5 @@
 pub mod Bytes
+pub mod Counts
 pub mod Header
 pub mod Laws
 pub mod Mark

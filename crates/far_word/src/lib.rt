@@ -20,7 +20,9 @@ pub use laws::{
     sizes_are, words_are,
 };
 pub use mark::{Mark, Marks};
-pub use pointer::{Place, PtrWord, pointer_len, resting_place, rests_view, without_owner_marks};
+pub use pointer::{
+    Place, PtrWord, object_counts, pointer_len, resting_place, rests_view, without_owner_marks,
+};
 pub use refused::Refused;
 pub use scope::ScopeWord;
 pub use sizes::{

@@ -2,6 +2,8 @@
 
 ghost use Rattle.std.specs.Prelude.{◌≡◌, IfSome, IsSome, Some, is_some};
 ghost use Rattle.far_word.specs.declared.pointer.PtrWord.{PtrWord};
+ghost use Rattle.far_word.specs.Mark.{bit_of};
+ghost use Rattle.far_word.specs.Counts.{names_kept, names_near};
 ghost use Rattle.far_word.specs.Pointer.{IsPtr, word_of, read_of, pointer_len, view_place, without_owner_marks};
 
 use crate::field::{field, is_set};
@@ -192,6 +194,18 @@ pub fn pointer_len(word: u64) -> u16
 {
     let len = field(word, 0, 16);
     len as u16
+}
+
+/// What a word on the layout adds to the number of objects that aren't dropped, and to the number of those that lie near: 0
+/// or 1 each, by one field and one bit.
+#[inline]
+pub fn object_counts(word: u64) -> (u64, u64)
+    ensures kept { (v : PtrWord) → read_of word ≡ Some v → result.0 ≡ bit_of (names_kept v) }
+    ensures near { (v : PtrWord) → read_of word ≡ Some v → result.1 ≡ bit_of (names_near v) }
+{
+    // USED without DROP
+    let kept = u64::from(field(word, USED, 2) == 1);
+    (kept, kept * (word >> PRESENT))
 }
 
 /// A pointer's word without the marks that its owner may add at any moment: HOT, MOVE and DROP.

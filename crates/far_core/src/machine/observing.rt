@@ -1,7 +1,7 @@
 //! What a core shows: shape, words and views, one at a time.
 
-ghost use Rattle.std.specs.Prelude.{◌≡◌, ◌+◌, ◌*◌, ◌<◌, not, ◌==◌, is_some};
-ghost use Rattle.far_word.specs.declared.sizes.TheConstants.{EPOCH_END, LOG_WORDS};
+ghost use Rattle.std.specs.Prelude.{◌≡◌, ◌+◌, ◌*◌, ◌<◌, not, ◌==◌, is_some, ℕ, length, slice_index};
+ghost use Rattle.far_word.specs.declared.sizes.TheConstants.{CELLS, EPOCH_END, LOG_WORDS};
 ghost use Rattle.far_core.specs.state.CoreState.{core_state};
 ghost use Rattle.far_core.specs.state.Memory.{state_of};
 ghost use Rattle.far_core.specs.events.Step.{is_opened};
@@ -152,5 +152,14 @@ impl Core {
         ensures { result ≡ (core_state self.now).cell pointer }
     {
         self.memory.cell(pointer)
+    }
+
+    /// The cells of all pointers, by number.
+    #[inline]
+    pub fn cells(&self) -> &[u64]
+        ensures sized { length result.now ≡ CELLS * (core_state self.now).mutators }
+        ensures each { (p : ℕ) → slice_index result.now p ≡ (core_state self.now).cell p }
+    {
+        self.memory.cells()
     }
 }

@@ -1,6 +1,7 @@
 //! One place of the memory read.
 
-ghost use Rattle.std.specs.Prelude.{◌≡◌, ◌*◌, ◌<◌, ◌≤◌, ◌+◌, nat_lt, is_some, IsSome, Some};
+ghost use Rattle.std.specs.Prelude.{◌≡◌, ◌*◌, ◌<◌, ◌≤◌, ◌+◌, nat_lt, is_some, IsSome, Some, ℕ, length, slice_index};
+ghost use Rattle.far_word.specs.declared.sizes.TheConstants.{CELLS};
 ghost use Rattle.far_core.specs.state.State.{State, addr};
 ghost use Rattle.far_core.specs.state.Law.{in_use};
 ghost use Rattle.far_core.specs.events.Step.{is_closed, is_opened, holds, place_to_view, zeros, near_len};
@@ -149,6 +150,14 @@ impl Memory {
         ensures { result ≡ (state_of self.now).cell pointer }
     {
         self.cells[pointer as usize]
+    }
+
+    #[tactic(auto, unfolding(crate::specs::state::Memory::state_of))]
+    pub(crate) fn cells(&self) -> &[u64]
+        ensures sized { length result.now ≡ CELLS * (state_of self.now).mutators }
+        ensures each { (p : ℕ) → slice_index result.now p ≡ (state_of self.now).cell p }
+    {
+        self.cells.as_slice()
     }
 
     #[tactic(auto, unfolding(crate::specs::state::Memory::state_of))]
