@@ -40,6 +40,7 @@ impl Near for Plain {
         self.core.put(log, at, word);
     }
 
+    #[inline(always)]
     fn name(&mut self, pointer: u16, old: u64, new: u64) -> Result<(), u64> {
         self.core.name(pointer, old, new)
     }

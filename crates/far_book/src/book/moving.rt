@@ -165,6 +165,7 @@ fn copy_object<N: Near>(near: &mut N, pointer: u16, len: u16, ds: u8, from: Plac
 
 // Copies an object to a place, which its cell names from then on. `false` where its owner has dropped it meanwhile, as its
 // cell says then.
+#[inline(always)]
 fn move_object<N: Near>(
     near: &mut N,
     pointer: u16,

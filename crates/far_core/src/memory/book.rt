@@ -117,6 +117,7 @@ impl Memory {
     }
 
     /// The cell of a pointer goes from `old` to `new`, where it is `old`; else `Err` with the cell.
+    #[inline(always)]
     pub(crate) fn name(&mut self, pointer: u16, old: u64, new: u64) -> Result<(), u64>
         requires law { Law (state_of self.old) }
         requires legal { is_legal (state_of self.old) (Event.Name pointer old new) ≡ true }
@@ -164,6 +165,7 @@ impl Memory {
 
     /// Makes a legal naming of the pointer's cell, which is the old word. What it does shows in the new one: an object comes to
     /// a place, where a span begins already if it stays there; or it leaves its place.
+    #[inline(always)]
     fn make_naming(&mut self, pointer: u16, old: u64, new: u64)
         requires law { Law (state_of self.old) }
         requires legal { is_legal (state_of self.old) (Event.Name pointer old new) ≡ true }
@@ -183,6 +185,7 @@ impl Memory {
     }
 
     /// Makes a legal naming by which an object has no place from then on: its cell is free, or it goes far.
+    #[inline(always)]
     fn name_away(&mut self, pointer: u16, old: u64, new: u64)
         requires law { Law (state_of self.old) }
         requires legal { is_legal (state_of self.old) (Event.Name pointer old new) ≡ true }
