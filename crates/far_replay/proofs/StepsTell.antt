@@ -73,11 +73,11 @@ use Rattle.far_replay.proofs.CountedOnce.{all_at, among_in, beyond, filtered, fr
 use Rattle.far_replay.proofs.RoundChoices.{rows_are}
 
 -- ---- cells
-near_in : (s : State) (l p : ℕ) → LivesIn s l p → LiesIn s p l
+pub near_in : (s : State) (l p : ℕ) → LivesIn s l p → LiesIn s p l
 near_in s l p (at, h) = let x = near_at (read_of (s.cell p)) l at h in (x.len, x.ds, x.place, x.marks, x.near, x.log)
 
 -- who is among the live objects of logs lives in one of them
-live_of : (s : State) (ls : List ℕ) (p : ℕ) → Contains (live_among s ls) p → (l : ℕ) × Contains ls l × LivesIn s l p
+pub live_of : (s : State) (ls : List ℕ) (p : ℕ) → Contains (live_among s ls) p → (l : ℕ) × Contains ls l × LivesIn s l p
 live_of s [] p h = absurd (none_in p h)
 live_of s (l ∷ ls) p h = elim (Contains-append_cases (live_in s l) (live_among s ls) p h) [
   | inl lives ↦ (l, here l ls, all_at (LivesIn s l) p (live_in s l) (live_named s l) lives)
@@ -104,13 +104,13 @@ shows_evac s p (Some (Near len ds place marks)) e h = (len, ds, place, marks, e,
 shows_evac s p (Some (Far len ds marks)) e h = absurd (false≢true h)
 
 -- ---- which logs are chosen
-held_by : (held : Bool) (kind : Kind) → kind_named held kind ≡ Chosen → held ≡ true
+pub held_by : (held : Bool) (kind : Kind) → kind_named held kind ≡ Chosen → held ≡ true
 held_by held kinds.Free e = absurd cc
 held_by held kinds.Open e = absurd cc
 held_by true kinds.Sealed e = refl
 held_by false kinds.Sealed e = absurd cc
 
-chosen_by_both : (held : Bool) (kind : Kind) → held ≡ true → kind ≡ kinds.Sealed → kind_named held kind ≡ Chosen
+pub chosen_by_both : (held : Bool) (kind : Kind) → held ≡ true → kind ≡ kinds.Sealed → kind_named held kind ≡ Chosen
 chosen_by_both held kind h e = ap (λ b. kind_named b kind) h ∙ ap (kind_named true) e
 
 none_held : (held : List ℕ) → is_empty held ≡ true → held ≡ []
@@ -274,7 +274,7 @@ first_phase v (p ∷ ps) =
     let way = way_of v.moment.core (read_of (v.moment.core.cell p)) in
     passed_phase (dealt_so v p way).moment.held (dealt_so v p way) ∙ so_phase v p way
 
-walked_phase : (m : Moment) (n : ℕ) → (walked m n).moment.phase ≡ m.phase
+pub walked_phase : (m : Moment) (n : ℕ) → (walked m n).moment.phase ≡ m.phase
 walked_phase m zero = passed_phase m.held (begun m)
 walked_phase m (suc n) = first_phase (walked m n) (left (walked m n)) ∙ walked_phase m n
 
