@@ -1,10 +1,7 @@
 -- What each step of the evacuator leaves of objects.
-use Rattle.std.proofs.Common.{◌≡◌, ◌≢◌, ℕ, ◌^◌, ◌<◌, Bool, true, false, not, cond, Option, Some, None, List, [], ◌∷◌, ap, sym, refl, ◌∙◌, subst, inl, inr}
-use Rattle.std.specs.Prelude.{◌⊎◌, Contains, fold}
-use Rattle.std.specs.List.{AllByRecursion}
-use Rattle.std.proofs.lemmas.Bool.{cond_both, false≢true, true≢false}
+use Rattle.std.proofs.Common.{◌≡◌, ℕ, ◌^◌, ◌<◌, Bool, true, false, not, Option, Some, None, List, [], ◌∷◌, ap, sym, refl, ◌∙◌, subst, inl, inr}
+use Rattle.std.specs.Prelude.{◌⊎◌}
 use Rattle.far_word.specs.declared.mark.Marks.{Marks}
-use Rattle.far_word.specs.declared.pointer.Place.{Place}
 use Rattle.far_word.specs.declared.pointer.PtrWord.{PtrWord}
 use Rattle.far_word.specs.declared.pointer.PtrWord.TheVariants.{Free, Near, Far}
 use Rattle.far_word.specs.declared.refused.Refused.{Refused as Refusal}
@@ -17,17 +14,13 @@ use Rattle.far_core.specs.world.World.{FarSide, Object}
 use Rattle.far_core.specs.world.WorldOf.{object_of, world_of}
 use Rattle.far_book.specs.book.Dealing.{has_evac}
 use Rattle.far_evac.specs.Choosing.{after_aborting, after_selecting}
-use Rattle.far_evac.specs.Dealings.{says}
 use Rattle.far_evac.specs.Laws.{but_evac}
 use Rattle.far_evac.specs.Live.{live_among}
-use Rattle.far_evac.specs.Marking.{after_marking, newly_marked, waiting_for}
+use Rattle.far_evac.specs.Marking.{after_marking, newly_marked}
 use Rattle.far_evac.specs.Moment.{Moment}
 use Rattle.far_evac.specs.MomentLaw.{MomentLaw}
-use Rattle.far_evac.specs.Owned.{KeepsObjects, anywhere}
-use Rattle.far_evac.specs.RoundSteps.{among}
-use Rattle.far_evac.specs.Turns.{turns_made}
+use Rattle.far_evac.specs.Owned.{anywhere}
 use Rattle.far_evac.specs.Waiting.{first_open, polled_to}
-use Rattle.far_evac.specs.Walk.{ended, walked}
 use Rattle.far_evac.specs.declared.phase.Phase.TheVariants.{Evacuating}
 use Rattle.far_evac.proofs.Leading.{selecting}
 use Rattle.far_evac.proofs.Marks.{is_given_up, is_marked}
@@ -35,13 +28,13 @@ use Rattle.far_text.specs.Command.{Command, Mutator, Book, Evacuator, By, Policy
 use Rattle.far_text.specs.Written.{AllWriteBytes}
 use Rattle.far_replay.specs.Answers.{Answered, Commanded, IsMoment}
 use Rattle.far_replay.specs.Left.{AllLeave, AllStayPut, CellBy, DealsWith, IsAnywhere, Leaves, LeavesRest, MarksBy, StaysPut, StepLeaves}
-use Rattle.far_replay.specs.Reply.{Reply, Done, Marked, Refused, Selected}
+use Rattle.far_replay.specs.Reply.{Reply, Done, Refused, Selected}
 use Rattle.far_replay.specs.Rounds.{after_round, chosen_by, given_by, is_evacuating, logs_given, refused_step, rows_in, step_effect, step_reply}
 use Rattle.far_replay.specs.Steps.{IsChosen, LiesIn}
 use Rattle.far_replay.specs.Turn.{effect, reply_to, refusal, refused_effect, turn_effect, turn_reply, unless}
 use Rattle.far_replay.proofs.CountedOnce.{all_at, in_among, member_or_apart}
 use Rattle.far_replay.proofs.Lasting.{Lasts, moment_lasts, still_lasts}
-use Rattle.far_replay.proofs.LeftByWalks.{IsApart, apart_from, ended_put, framed_put, lacking_live, marked_frame, marking_frame, marking_put, polling_put, put_none, turns_put}
+use Rattle.far_replay.proofs.LeftByWalks.{IsApart, apart_from, ended_put, framed_put, marked_frame, marking_frame, marking_put, polling_put, put_none, turns_put}
 use Rattle.far_replay.proofs.RoundChoices.{policy_chooses}
 use Rattle.far_replay.proofs.RoundLeads.{begins, evacuating_is, none_first, step_keeps}
 use Rattle.far_replay.proofs.Standing.{stands}

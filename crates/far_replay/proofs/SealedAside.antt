@@ -1,5 +1,5 @@
 -- Each command that is told by events leaves the sealed logs: nothing comes to lie there, and what lies there has EVAC where it had it.
-use Rattle.std.proofs.Common.{◌≡◌, ◌≢◌, ℕ, ◌+◌, ◌*◌, ◌/◌, ◌^◌, ◌<◌, ◌≤◌, ◌&&◌, Bool, true, false, not, cond, nat_eq, nat_lt, nat_le, Option, Some, None, is_some, List, length, bit_or, arith, ap, sym, refl, ◌∙◌, subst}
+use Rattle.std.proofs.Common.{◌≡◌, ℕ, ◌+◌, ◌*◌, ◌/◌, ◌^◌, ◌<◌, ◌≤◌, ◌&&◌, Bool, true, false, not, cond, nat_eq, nat_lt, nat_le, Option, Some, None, is_some, List, length, bit_or, arith, ap, sym, refl, ◌∙◌, subst}
 use Rattle.std.proofs.lemmas.Bool.{and_parts, cond_both, false≢true}
 use Rattle.std.proofs.lemmas.Bool.Decides.{nat_tests}
 use Rattle.far_word.specs.declared.mark.Mark.{Mark}
@@ -14,10 +14,8 @@ use Rattle.far_word.specs.declared.sizes.TheConstants.{CELLS, LOG_WORDS, LONGEST
 use Rattle.far_word.specs.Mark.{marks_with, position}
 use Rattle.far_word.specs.Pointer.{read_of}
 use Rattle.far_word.specs.Sizes.{size_of}
-use Rattle.far_core.specs.declared.event.Event.TheVariants.{Ask}
 use Rattle.far_core.specs.declared.event.Kind.{Kind}
-use Rattle.far_core.specs.events.Naming.{no_marks}
-use Rattle.far_core.specs.events.Step.{after, after_close, after_pin, is_opened}
+use Rattle.far_core.specs.events.Step.{after_close, after_pin, is_opened}
 use Rattle.far_core.specs.state.Law.{Law, in_use}
 use Rattle.far_core.specs.state.Room.{room}
 use Rattle.far_core.specs.state.State.{State, put}

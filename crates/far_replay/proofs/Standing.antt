@@ -1,7 +1,5 @@
 -- A command that is no step of the evacuator leaves the round.
-use Rattle.std.proofs.Common.{◌≡◌, ℕ, Bool, true, Some, ap, sym, refl, ◌∙◌, subst}
-use Rattle.std.specs.Prelude.{◌↔◌}
-use Rattle.far_core.specs.declared.event.Kind.TheVariants.{Sealed}
+use Rattle.std.proofs.Common.{◌≡◌, ℕ, Bool, true, ap, sym, refl, subst}
 use Rattle.far_core.specs.state.State.{State}
 use Rattle.far_book.specs.book.SealedLogs.{KeepsSealed}
 use Rattle.far_evac.specs.Callers.{StepsAside}
@@ -56,8 +54,8 @@ stands_by now (Mutator m request) lasts = told_stands now (Mutator m request) tt
 stands_by now (Book inquiry) lasts = told_stands now (Book inquiry) tt lasts
 stands_by now (Evacuator step) lasts = tt
 
-pub stands : (now : Moment) (c : Command) (r : Reply) (next : Moment) → Lasts now → Commanded now c r next → Stands now c next
-stands now c r next lasts h = subst (Stands now c) (sym h.moment) (stands_by now c lasts)
+pub stands : (now : Moment) (c : Command) (r : Reply) (later : Moment) → Lasts now → Commanded now c r later → Stands now c later
+stands now c r later lasts h = subst (Stands now c) (sym h.moment) (stands_by now c lasts)
 
-pub rounds_stand : (now : Moment) (c : Command) (r : Reply) (next : Moment) → IsMoment now → Commanded now c r next → Stands now c next
-rounds_stand now c r next is h = stands now c r next (moment_lasts now is) h
+pub rounds_stand : (now : Moment) (c : Command) (r : Reply) (later : Moment) → IsMoment now → Commanded now c r later → Stands now c later
+rounds_stand now c r later is h = stands now c r later (moment_lasts now is) h

@@ -1,5 +1,5 @@
 -- What steps of the evacuator leave of objects: each is what it was, and lies where it lay, but for those of the chosen logs, which may leave them.
-use Rattle.std.specs.Prelude.{◌≡◌, ◌⊎◌, ℕ, true, false, Option, Some, None, List, [], ◌∷◌, Contains}
+use Rattle.std.specs.Prelude.{◌≡◌, ◌⊎◌, ℕ, true, false, Option, Some, None, List, ◌∷◌, Contains}
 use Rattle.far_word.specs.declared.mark.Marks.{Marks}
 use Rattle.far_word.specs.declared.pointer.PtrWord.{PtrWord}
 use Rattle.far_word.specs.declared.pointer.PtrWord.TheVariants.{Free, Near, Far}
@@ -7,7 +7,7 @@ use Rattle.far_word.specs.Pointer.{read_of}
 use Rattle.far_core.specs.state.State.{State}
 use Rattle.far_core.specs.world.World.{Object}
 use Rattle.far_core.specs.world.WorldOf.{world_of}
-use Rattle.far_text.specs.Command.{Command, Mutator, Book, Evacuator, By, Step, Select, Mark, Wait, Evacuate, Abort, Round}
+use Rattle.far_text.specs.Command.{Command, Evacuator, By, Step, Select, Mark, Wait, Evacuate, Abort, Round}
 use Rattle.far_replay.specs.Answers.{Commanded, IsMoment}
 use Rattle.far_replay.specs.Moment.{Moment}
 use Rattle.far_replay.specs.Reply.{Reply, Done, Selected, Marked, Evacuated, Ended}
