@@ -27,6 +27,8 @@ pub mod Kept
 pub mod KeptCounts
 pub mod Lasting
 pub mod Leading
+pub mod LeftBySteps
+pub mod LeftByWalks
 pub mod LoadWords
 pub mod Lowest
 pub mod MadeLemmas
@@ -45,7 +47,9 @@ pub mod RoundCounts
 pub mod RoundLeads
 pub mod Runs
 pub mod SaidBy
+pub mod SealedAside
 pub mod Spliced
+pub mod Standing
 pub mod StepsTell
 pub mod StoreTurns
 pub mod Streams

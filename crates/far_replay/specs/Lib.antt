@@ -11,11 +11,13 @@ pub mod Events
 pub mod Headline
 pub mod HowMany
 pub mod Interpreter
+pub mod Left
 pub mod Moment
 pub mod Objects
 pub mod Outcome
 pub mod Reply
 pub mod Rounds
+pub mod Stands
 pub mod Stays
 pub mod Steps
 pub mod Stream

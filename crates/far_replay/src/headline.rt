@@ -3,11 +3,14 @@
 ghost use Rattle.far_replay.specs.Census.{AuditsByCensus};
 ghost use Rattle.far_replay.specs.Headline.{OutputsAreSound, OneOutput, EachTextIsAnswered, TextsWriteBytes, LinesAreNumbered, MomentsLast, EventsReach, ShapesAre, HeapsBeginLawful, ObjectsStayWhole, ViewedLogsStay, ViewsLast, RefusalsStay, RefusalsChangeNothing, TriesAreAnswered, UnknownMutatorsAreRefused, NearRefusals, MutatorsAreAlone, OwnLinesCount, MutatorsLearn, NewTakesTheLowest, NoneIsLeft, NewIsMade, NewMakesItsObject, CommandsTakeRoom, WritesChangeTheirRange, LogsAreTold, WhereTells, LogTellsItsLine, AuditCounts, DropEndsObject, EpochsAreTold, ScopesOpenAtEpochs, ClosesForget, PrintedAlike};
 ghost use Rattle.far_replay.specs.Ages.{AgesStay};
+ghost use Rattle.far_replay.specs.Left.{StepsLeave};
+ghost use Rattle.far_replay.specs.Stands.{RoundsStand};
 ghost use Rattle.far_replay.specs.Steps.{StepsAreTold};
 
 /// From a text on: its output, where it is read as a heap in range and commands, has a reply, which its lines tell in full,
 /// and a moment for each command. Each moment has the law, and in it objects are whole; through them the logs in which
-/// views rest stay; each mutator's replies are what its own lines alone say; and each step of the evacuator tells what has happened.
+/// views rest stay; each mutator's replies are what its own lines alone say; each step of the evacuator tells what has happened,
+/// and leaves objects as `steps_leave` says; and any other command leaves the round, as `rounds_stand` says.
 pub fn outputs_are_sound()
     ensures { OutputsAreSound }
 {}
@@ -124,6 +127,21 @@ pub fn drops_end_objects()
 pub fn steps_are_told()
     ensures told { StepsAreTold }
     ensures ages { AgesStay }
+{}
+
+/// A command that is no step of the evacuator leaves the round: its phase, its logs that are still held, in their order, the
+/// epoch of the core's round and its logs, and who was seen clear, whichever scope opens or closes. Nothing comes to lie in a chosen log, and
+/// what lies there has EVAC where it had it; objects may only leave.
+pub fn rounds_stand()
+    ensures stand { RoundsStand }
+{}
+
+/// Through each step of the evacuator each object keeps its owner, data structure and bytes. Through `select`, `mark`, `wait` and
+/// `abort`, and through any step that is refused, it stays at its place too: marking adds EVAC, giving up takes it away, and
+/// but for that and the round nothing changes. Through `evacuate` and `round` each object stays that lies in none of the logs that were chosen, with
+/// its marks, as do those that are far.
+pub fn steps_leave()
+    ensures leave { StepsLeave }
 {}
 
 /// `epoch` tells a mutator whose scope is closed the epoch of the heap, which it remembers, and nothing else changes; where its

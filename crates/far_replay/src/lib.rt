@@ -26,7 +26,8 @@ pub use far_text::{grammar_is_said, limits_are};
 pub use headline::{
     drops_end_objects, epochs_are_told, inquiries_tell, lines_tell_replies, logs_are_told,
     moments_are_lawful, mutators_are_alone, new_is_made, outputs_are_sound, refusals_leave_all,
-    steps_are_told, texts_are_answered, views_last, writes_change_their_range,
+    rounds_stand, steps_are_told, steps_leave, texts_are_answered, views_last,
+    writes_change_their_range,
 };
 pub use limits::reply_limits_are;
 pub use running::{End, RunFault, run};
