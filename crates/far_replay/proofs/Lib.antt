@@ -27,6 +27,7 @@ pub mod Kept
 pub mod KeptCounts
 pub mod Lasting
 pub mod Leading
+pub mod Listed
 pub mod LoadWords
 pub mod Lowest
 pub mod MadeLemmas
@@ -41,6 +42,7 @@ pub mod RangeTurns
 pub mod RangeWrites
 pub mod Refusals
 pub mod RoundChoices
+pub mod RoundChosen
 pub mod RoundCounts
 pub mod RoundLeads
 pub mod Runs
@@ -49,6 +51,7 @@ pub mod Spliced
 pub mod StepsTell
 pub mod StoreTurns
 pub mod Streams
+pub mod Strays
 pub mod TakingRoom
 pub mod TakingView
 pub mod ToldRounds
