@@ -29,6 +29,7 @@ pub mod Lasting
 pub mod Leading
 pub mod LeftBySteps
 pub mod LeftByWalks
+pub mod Listed
 pub mod LoadWords
 pub mod Lowest
 pub mod MadeLemmas
@@ -43,6 +44,7 @@ pub mod RangeTurns
 pub mod RangeWrites
 pub mod Refusals
 pub mod RoundChoices
+pub mod RoundChosen
 pub mod RoundCounts
 pub mod RoundLeads
 pub mod Runs
@@ -53,6 +55,7 @@ pub mod Standing
 pub mod StepsTell
 pub mod StoreTurns
 pub mod Streams
+pub mod Strays
 pub mod TakingRoom
 pub mod TakingView
 pub mod ToldRounds

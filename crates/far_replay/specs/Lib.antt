@@ -4,6 +4,7 @@ pub mod Answers
 pub mod Audit
 pub mod Between
 pub mod Census
+pub mod Chosen
 pub mod Dereference
 pub mod Effects
 pub mod EventRows
@@ -12,6 +13,7 @@ pub mod Headline
 pub mod HowMany
 pub mod Interpreter
 pub mod Left
+pub mod Listed
 pub mod Moment
 pub mod Objects
 pub mod Outcome
