@@ -306,8 +306,8 @@ module _ (m : Moment) (w : Walked) (h : GoesOn m w.moment.core w.moment.order w.
       sealed = held_sealed;
       held_once = h.ready.once;
       runs = done;
-      round = λ risen. absurd (false≢true risen);
-      only = λ risen. absurd (false≢true risen);
+      round = λ _ l member. (of_among (IsHeld w.moment.core) w.moment.held h.ready.logs l member).2;
+      only = λ _. h.only;
       clear = λ leaves. absurd cc;
       later = λ marks. absurd cc;
     };
