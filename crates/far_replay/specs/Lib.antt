@@ -11,10 +11,12 @@ pub mod Events
 pub mod Headline
 pub mod HowMany
 pub mod Interpreter
+pub mod LeftMarks
 pub mod Moment
 pub mod Objects
 pub mod Outcome
 pub mod Reply
+pub mod ReplyWords
 pub mod Rounds
 pub mod Stays
 pub mod Steps
