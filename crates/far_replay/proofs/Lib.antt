@@ -21,12 +21,14 @@ pub mod Determined
 pub mod Drops
 pub mod EpochLaws
 pub mod Fronts
+pub mod HotViews
 pub mod InquiryLaws
 pub mod Joining
 pub mod Kept
 pub mod KeptCounts
 pub mod Lasting
 pub mod Leading
+pub mod LeavingMarks
 pub mod LeftBySteps
 pub mod LeftByWalks
 pub mod Listed

@@ -13,11 +13,13 @@ pub mod Headline
 pub mod HowMany
 pub mod Interpreter
 pub mod Left
+pub mod LeftMarks
 pub mod Listed
 pub mod Moment
 pub mod Objects
 pub mod Outcome
 pub mod Reply
+pub mod ReplyWords
 pub mod Rounds
 pub mod Stands
 pub mod Stays

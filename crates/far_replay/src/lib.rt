@@ -10,11 +10,13 @@ mod epochs;
 mod events;
 mod headline;
 mod inquiries;
+mod left_marks;
 mod limits;
 mod outcome;
 mod output;
 mod owners;
 mod reply;
+mod reply_words;
 mod reply_writer;
 mod rounds;
 mod running;
@@ -29,5 +31,7 @@ pub use headline::{
     rounds_stand, steps_are_told, steps_leave, texts_are_answered, views_last,
     writes_change_their_range,
 };
+pub use left_marks::views_mark;
 pub use limits::reply_limits_are;
+pub use reply_words::replies_read;
 pub use running::{End, RunFault, run};
