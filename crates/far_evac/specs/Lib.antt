@@ -23,6 +23,7 @@ pub mod RoundSteps
 pub mod Standing
 pub mod Stops
 pub mod Strays
+pub mod TakesRoom
 pub mod Turning
 pub mod Turns
 pub mod Waiting
