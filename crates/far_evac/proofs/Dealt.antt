@@ -46,10 +46,10 @@ free_unsealed kinds.Open h e = absurd (false≢true h)
 free_unsealed kinds.Sealed h e = absurd (false≢true h)
 
 module _ (s : State) where
-  abbrev IsFreeLog : ℕ → Type 0
+  abbrev pub IsFreeLog : ℕ → Type 0
   IsFreeLog l = (l < s.logs) × (is_free (s.kind l) ≡ true)
 
-  frees : (a n : ℕ) → a + n ≤ s.logs → AllByRecursion IsFreeLog (filter (λ l. is_free (s.kind l)) (range_with_len a n))
+  pub frees : (a n : ℕ) → a + n ≤ s.logs → AllByRecursion IsFreeLog (filter (λ l. is_free (s.kind l)) (range_with_len a n))
   frees a zero le = tt
   frees a (suc n) le = let more : a + 1 + n ≤ s.logs = omega (arith, le) in
       cond_both (is_free (s.kind a)) (a ∷ filter (λ l. is_free (s.kind l)) (range_with_len (a + 1) n)) (filter (λ l. is_free (s.kind l)) (range_with_len (a + 1) n)) (AllByRecursion IsFreeLog)

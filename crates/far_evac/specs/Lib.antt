@@ -21,6 +21,7 @@ pub mod Refusals
 pub mod RoundSteps
 pub mod Standing
 pub mod Stops
+pub mod TakesRoom
 pub mod Turning
 pub mod Turns
 pub mod Waiting

@@ -5,6 +5,7 @@ ghost use Rattle.far_evac.specs.Leading.{AbortingLeads, ChoiceIsOfSealed, Markin
 ghost use Rattle.far_evac.specs.Owned.{AbortingKeepsObjects, MarkingKeepsObjects, PollingKeepsObjects, RoundKeepsObjects, SelectingKeepsObjects, TurnsKeepObjects, TurnsRetireNone, WalkRetiresNone, WalkingKeepsObjects};
 ghost use Rattle.far_evac.specs.Emptied.{LogsComeBackEmpty};
 ghost use Rattle.far_evac.specs.LiveLaws.{LiveIsInOrder};
+ghost use Rattle.far_evac.specs.TakesRoom.{CallTakesRoom, RoundTakesRoom, TurnsTakeRoom, WalkTakesRoom};
 ghost use Rattle.far_evac.specs.WayLaws.{ObjectsGoTheirWay};
 ghost use Rattle.far_evac.specs.Laws.{CensusIsExact, ClearIsShown, ClearMeansUnviewed, ClearViewsNothing, DealingIsInOrder, ExactIsAllowed, GivingUpIsRight, LooksSeeClear, MarkingIsCounted, MarkingIsRight, PollIsAllowed, PollIsOnce, RisenIsReady, RoundIsAllowed, RoundIsEvent, WaitIsNamed, WaitingStays, WalkIsTour, WalksJoin};
 ghost use Rattle.far_evac.specs.worked.Rows.{EmptiestIsFirst, EpochsAreNamed, FirstLiesFirst, GivenUp, HotWithoutRoom, LastEpoch, NothingToChoose, OldEpoch, OldView, OldestIsFirst, OpenScopeIsWaitedFor, OpenedAnew, OwnerIsFirst, PhasesAreKept, PlainRound, ReserveIsKept, StepByStep, TurnsRunOut};
@@ -49,6 +50,16 @@ pub fn dealing_is_in_order()
 /// retired, a cold one goes far, and a hot one to where there is room then, or far where there is none. It has no marks after.
 pub fn objects_go_their_way()
     ensures { ObjectsGoTheirWay }
+{}
+
+/// Over any hand: the room that dealing with objects takes is that of those that moved. In a log that isn't held dead bytes stay, live ones rise by the objects
+/// that came, and unused ones fall by as much; in one that still is what left is dead; one that was given back has what came since. Of all logs together
+/// live bytes fall by the objects that went far or were retired. So it is with each call of a round, and where no word changes but by it with whole rounds.
+pub fn walks_take_room()
+    ensures walking { WalkTakesRoom }
+    ensures call { CallTakesRoom }
+    ensures turns { TurnsTakeRoom }
+    ensures whole { RoundTakesRoom }
 {}
 
 /// Marking sets EVAC in the first n live objects that lack it, or in all, and changes nothing else in any cell; where none is left, each

@@ -30,6 +30,7 @@ pub mod Leading
 pub mod LoadWords
 pub mod Lowest
 pub mod MadeLemmas
+pub mod MovesTaken
 pub mod NewTurns
 pub mod Opened
 pub mod OutputLaws

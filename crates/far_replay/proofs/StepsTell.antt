@@ -104,7 +104,7 @@ shows_evac s p (Some (Near len ds place marks)) e h = (len, ds, place, marks, e,
 shows_evac s p (Some (Far len ds marks)) e h = absurd (false≢true h)
 
 -- ---- which logs are chosen
-held_by : (held : Bool) (kind : Kind) → kind_named held kind ≡ Chosen → held ≡ true
+pub held_by : (held : Bool) (kind : Kind) → kind_named held kind ≡ Chosen → held ≡ true
 held_by held kinds.Free e = absurd cc
 held_by held kinds.Open e = absurd cc
 held_by true kinds.Sealed e = refl
@@ -113,7 +113,7 @@ held_by false kinds.Sealed e = absurd cc
 chosen_by_both : (held : Bool) (kind : Kind) → held ≡ true → kind ≡ kinds.Sealed → kind_named held kind ≡ Chosen
 chosen_by_both held kind h e = ap (λ b. kind_named b kind) h ∙ ap (kind_named true) e
 
-none_held : (held : List ℕ) → is_empty held ≡ true → held ≡ []
+pub none_held : (held : List ℕ) → is_empty held ≡ true → held ≡ []
 none_held [] e = refl
 none_held (l ∷ ls) e = absurd (false≢true e)
 

@@ -12,6 +12,7 @@ pub mod Headline
 pub mod HowMany
 pub mod Interpreter
 pub mod Moment
+pub mod MovesTake
 pub mod Objects
 pub mod Outcome
 pub mod Reply
