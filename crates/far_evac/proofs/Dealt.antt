@@ -100,11 +100,11 @@ module _ (s : State) (p : ℕ) where
     layout_still here there q = subst (λ f. OnLayout (f q)) (sym cell) (put_both OnLayout s.cell p new q (λ _. here) (λ _. there q))
 
 -- no word of these says a place
-free_gone : (l at : ℕ) → names_place (read_of 0) l at ≡ false
+pub free_gone : (l at : ℕ) → names_place (read_of 0) l at ≡ false
 unfolding read_of
 free_gone l at = refl
 
-free_place : (len ds : ℕ) (place : Place) (marks : Marks) → read_of 0 ≡ Some (Near len ds place marks) → ⊥
+pub free_place : (len ds : ℕ) (place : Place) (marks : Marks) → read_of 0 ≡ Some (Near len ds place marks) → ⊥
 unfolding read_of
 free_place len ds place marks e = absurd cc
 

@@ -184,7 +184,7 @@ module _ (k n : ℕ) where
 at_one : (n : ℕ) (o : Option PtrWord) → ((len ds : ℕ) (place : Place) (marks : Marks) → o ≡ Some (Near len ds place marks) → place.log < n) → sum_by (λ l. bytes_at l o) (range_with_len 0 n) ≡ bytes_near o
 at_one n None inside = sum_none (λ l. 0) (range_with_len 0 n) (all_of (λ x. 0 ≡ 0) (λ x. refl) (range_with_len 0 n))
 at_one n (Some Free) inside = sum_none (λ l. 0) (range_with_len 0 n) (all_of (λ x. 0 ≡ 0) (λ x. refl) (range_with_len 0 n))
-at_one n (Some (Near len ds place marks)) inside = one_log place.log (bytes_taken len) 0 n (omega arith) (inside len ds place marks refl)
+at_one n (Some (Near len ds place marks)) inside = one_log place.log (bytes_taken len) 0 n (omega arith) (let lt = inside len ds place marks refl in omega (arith, lt))
 at_one n (Some (Far len ds marks)) inside = sum_none (λ l. 0) (range_with_len 0 n) (all_of (λ x. 0 ≡ 0) (λ x. refl) (range_with_len 0 n))
 
 abbrev near_of : State → ℕ → ℕ

@@ -143,7 +143,7 @@ pub record Taken (m : Moment) (s : State) (held objects : List ℕ) : Type 0 whe
 
 -- ---- before the first object
 not_both : (b : Bool) → b ≡ true → b ≡ false → ⊥
-not_both b yes no = true≢false (sym yes ∙ no)
+not_both b on off = true≢false (sym on ∙ off)
 
 pub none_taken : (m : Moment) → Sound m.core → Taken m m.core m.held []
 unfolding IsDistinct
@@ -248,13 +248,13 @@ none_live f (y ∷ xs) none x h = elim (split x y xs h) [
 ] where
   first : is_empty (pointers_of (filter f (y ∷ xs))) ≡ true → (f y ≡ false) × (is_empty (pointers_of (filter f xs)) ≡ true)
   first = cond_both (f y) (y ∷ filter f xs) (filter f xs) (λ (ys : List Span). is_empty (pointers_of ys) ≡ true → (f y ≡ false) × (is_empty (pointers_of (filter f xs)) ≡ true))
-      (λ _ odd. absurd (false≢true odd)) (λ no rest. (no, rest))
+      (λ _ odd. absurd (false≢true odd)) (λ off rest. (off, rest))
 
 taken_none : (f : Span → Bool) (xs : List Span) → ((x : Span) → Contains xs x → f x ≡ false) → taken_by f xs ≡ 0
-taken_none f [] no = refl
-taken_none f (x ∷ xs) no =
-    let first : cond (f x) (bytes_taken x.len) 0 ≡ 0 = ap (λ b. cond b (bytes_taken x.len) 0) (no x (here x xs)) in
-    let rest = taken_none f xs (λ y h. no y (there y x xs h)) in omega (arith, first, rest)
+taken_none f [] dead = refl
+taken_none f (x ∷ xs) dead =
+    let first : cond (f x) (bytes_taken x.len) 0 ≡ 0 = ap (λ b. cond b (bytes_taken x.len) 0) (dead x (here x xs)) in
+    let rest = taken_none f xs (λ y h. dead y (there y x xs h)) in omega (arith, first, rest)
 
 module _ (s : State) (l : ℕ) (sound : Sound s) (none : is_empty (live_in s l) ≡ true) where
   no_live : (x : Span) → Contains (spans_of s l) x → is_live s l x ≡ false
