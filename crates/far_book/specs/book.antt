@@ -1,4 +1,5 @@
 pub mod Ages
+pub mod Asking
 pub mod BookOf
 pub mod Dealing
 pub mod Deeds

@@ -39,6 +39,7 @@ mod fetching;
 mod leaving;
 mod moving;
 mod next;
+mod over_beset;
 mod over_plain;
 mod renaming;
 mod round;
@@ -160,6 +161,7 @@ impl<N: Near + Drop, D: Device + Drop> Book<N, D> {
         ensures forgot { Forgets (N.view self.old.near) (N.view self.new.near) }
         ensures exact { N.still → N.view self.new.near ≡ retired (N.view self.old.near) pointer }
         ensures order { self.new.order ≡ self.old.order }
+        ensures called { D.lets_go self.old.device pointer self.new.device }
         ensures gone { D.forgets → D.contents self.new.device pointer ≡ None }
         ensures others { KeepsOthers (D.contents self.old.device) (D.contents self.new.device) pointer }
         ensures honest { D.honest self.new.device ≡ D.honest self.old.device }

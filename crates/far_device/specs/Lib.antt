@@ -1,3 +1,4 @@
+pub mod Calls
 pub mod Contents
 pub mod Faults
 pub mod Mem

@@ -1,8 +1,10 @@
 //! What may be counted on of a far side.
 
-ghost use Rattle.std.specs.Prelude.{◌≡◌, ◌⊎◌, ◌^◌, ◌<◌, ℕ, Bool, true, false, List, Option, Some, None, IsSome, IfOk, IfSome, OnOk};
+ghost use Rattle.std.specs.Prelude.{◌≡◌, ◌⊎◌, ◌^◌, ◌<◌, ℕ, Bool, true, false, List, Option, Some, None, IsSome, Result, IfOk, IfSome, OnOk};
+ghost use Rattle.far_device.specs.Calls.{given};
 ghost use Rattle.far_device.specs.Contents.{KeepsOthers};
 ghost use Rattle.far_device.specs.Faults.{is_fault, CountsFault, SpendsFault};
+ghost use Rattle.far_device.specs.declared.fault.DeviceFault.{DeviceFault};
 
 use crate::fault::DeviceFault;
 
@@ -24,9 +26,20 @@ pub trait Device {
     /// No more calls than so many will answer [`DeviceFault::Device`], as long as no key is read under which nothing is.
     ghost fails_at_most: { Self → ℕ → Type 0 };
 
+    /// One write: the device before, a key, the bytes, the answer, and the device after. A caller who says so of two states has
+    /// made that call, and no other between them.
+    ghost writes: { Self → ℕ → List ℕ → Result (Unit {0}) DeviceFault → Self → Type 0 };
+
+    /// One read: the device before, a key, the bytes that it gave or its fault, and the device after.
+    ghost reads: { Self → ℕ → Result (List ℕ) DeviceFault → Self → Type 0 };
+
+    /// One call of `forget`: the device before, a key, and the device after.
+    ghost lets_go: { Self → ℕ → Self → Type 0 };
+
     /// Holds these bytes under the key, in place of what was there. After an error all other keys are as before, and
     /// under this one anything may be.
     fn write(&mut self, id: u32, bytes: &[u8]) -> Result<(), DeviceFault>
+        ensures called { writes self.old id bytes.now result self.new }
         ensures set { OnOk result (contents self.new id ≡ Some bytes.now) }
         ensures others { KeepsOthers (contents self.old) (contents self.new) id }
         ensures honest { honest self.new ≡ honest self.old }
@@ -36,6 +49,7 @@ pub trait Device {
     /// The bytes under the key; of a device that isn't honest any bytes, of any length. Of a key under which nothing is
     /// the answer is left open. The contents stay.
     fn read(&mut self, id: u32) -> Result<Vec<u8>, DeviceFault>
+        ensures called { reads self.old id (given result) self.new }
         ensures given { honest self.old ≡ true → IfOk result (λ bytes. IfSome (contents self.old id) (λ held. bytes.items ≡ held)) }
         ensures kept { contents self.new ≡ contents self.old }
         ensures honest { honest self.new ≡ honest self.old }
@@ -44,6 +58,7 @@ pub trait Device {
 
     /// Takes the key away, with what is under it, or leaves all as it was.
     fn forget(&mut self, id: u32)
+        ensures called { lets_go self.old id self.new }
         ensures gone { forgets → contents self.new id ≡ None }
         ensures left { (contents self.new id ≡ None) ⊎ (contents self.new id ≡ contents self.old id) }
         ensures others { KeepsOthers (contents self.old) (contents self.new) id }

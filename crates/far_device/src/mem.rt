@@ -44,10 +44,6 @@ impl MemDevice {
             faults: 0,
         }
     }
-}
-
-impl MemDevice {
-    ghost use Rattle.far_device.specs.Mem.{bytes_at, faults_of};
 
     // What is under a key.
     #[inline]
@@ -125,7 +121,7 @@ impl MemDevice {
 
 impl Device for MemDevice {
     ghost use Rattle.far_device.specs.Wrapping.{wrapped_below};
-    ghost use Rattle.far_device.specs.Mem.{bytes_at, faults_of};
+    ghost use Rattle.far_device.specs.Mem.{bytes_at, faults_of, MemWrites, MemReads, MemLetsGo};
 
     ghost contents = { bytes_at };
 
@@ -138,6 +134,12 @@ impl Device for MemDevice {
     ghost fails_at_most = { λ _ _. Unit {0} };
 
     ghost wraps = { λ d. wrapped_below d.faults };
+
+    ghost writes = { MemWrites };
+
+    ghost reads = { MemReads };
+
+    ghost lets_go = { MemLetsGo };
 
     /// Refused [`DeviceFault::Memory`] alone, and then nothing has changed.
     fn write(&mut self, id: u32, bytes: &[u8]) -> Result<(), DeviceFault>

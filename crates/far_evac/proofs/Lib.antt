@@ -5,6 +5,7 @@ pub mod Bounds
 pub mod Censuses
 pub mod Changing
 pub mod Chosen
+pub mod Comers
 pub mod ComingBack
 pub mod Counted
 pub mod Dealt
@@ -26,6 +27,7 @@ pub mod Leading
 pub mod LeadingMarks
 pub mod LeadingTurns
 pub mod LeadingWalks
+pub mod Listing
 pub mod LiveLists
 pub mod LiveOnce
 pub mod LiveOrder
@@ -52,6 +54,7 @@ pub mod SpanBytes
 pub mod SpansDealt
 pub mod Standings
 pub mod StepsAside
+pub mod Strays
 pub mod Subjects
 pub mod Tallies
 pub mod Tours

@@ -4,6 +4,7 @@ use Rattle.std.proofs.lemmas.Bool.{false≢true, false_from_ne_true, lt-ltb}
 use Rattle.far_word.specs.declared.mark.Marks.{Marks}
 use Rattle.far_word.specs.declared.pointer.Place.{Place}
 use Rattle.far_word.specs.declared.pointer.PtrWord.TheVariants.{Near, Far}
+use Rattle.far_word.specs.Bytes.{bytes_of}
 use Rattle.far_word.specs.Pointer.{IsPtr, read_of}
 use Rattle.far_word.specs.Sizes.{words_for}
 use Rattle.far_word.proofs.PointerLaws.{read_back}
@@ -15,6 +16,7 @@ use Rattle.far_core.specs.state.State.{State, put, addr}
 use Rattle.far_core.proofs.Put.{put_other, put_same}
 use Rattle.far_book.specs.Finds.{Finds}
 use Rattle.far_book.specs.Known.{Forgets, IsKnown, KeepsKnown}
+use Rattle.far_book.specs.book.Asking.{HasBytes}
 use Rattle.far_book.specs.book.Dealing.{IsRetired, Leaves, LeavesSpans, has_evac}
 use Rattle.far_book.specs.book.Effects.{evicted, far_word, retired}
 use Rattle.far_book.specs.book.Evicting.{GoesFar}
@@ -42,6 +44,26 @@ module _ (s t u : State) (p w : ℕ) (seen_is : t ≡ seen s p w) (leaves : Leav
     known = λ a old now. (let same : t.word a ≡ s.word a = ap (λ (x : State). x.word a) seen_is in leaves.1.known a (subst IsKnown (sym same) old) now ∙ same);
     headers = λ a begun. leaves.1.headers a begun ∙ ap (λ (x : State). x.word a) seen_is;
   }
+
+  -- the bytes of the words that were read are the object's
+  pub has_bytes : (len ds : ℕ) (place : Place) (m : Marks) → Finds (s.cell p) w → read_of w ≡ Some (Near len ds place m) → IsStored (data_at u.word place) len →
+      HasBytes s p (bytes_of (data_at u.word place) len)
+  has_bytes len ds place m finds near words = let x = near_known (s.cell p) w finds len ds place m near in record {
+    len = len;
+    ds = ds;
+    place = place;
+    marks = x.marks;
+    near = x.near;
+    row = data_at u.word place;
+    stored = words;
+    own = λ i lt old. keeps_read.known (addr place + 1 + i) old (words i lt).0;
+    are = refl;
+  }
+
+  -- it wasn't known to be dropped, if it isn't
+  pub was_alive : (len ds : ℕ) (place : Place) (m : Marks) → Finds (s.cell p) w → read_of w ≡ Some (Near len ds place m) → m.dropped ≡ false → is_dropped (read_of (s.cell p)) ≡ false
+  was_alive len ds place m finds near alive =
+      false_from_ne_true (is_dropped (read_of (s.cell p))) (λ e. false≢true (sym alive ∙ (sym (ap is_dropped near) ∙ drop_found (s.cell p) w finds e)))
 
   -- in v the object is far
   module _ (v : State) (len ds : ℕ) (place : Place) (m : Marks) (finds : Finds (s.cell p) w) (near : read_of w ≡ Some (Near len ds place m)) (alive : m.dropped ≡ false)

@@ -14,6 +14,7 @@ ghost use Rattle.far_core.specs.state.Law.{IsStored};
 ghost use Rattle.far_device.specs.Contents.{KeepsOthers};
 ghost use Rattle.far_device.specs.Faults.{CountsFault, SpendsFault};
 ghost use Rattle.far_book.specs.Finds.{Finds};
+ghost use Rattle.far_book.specs.book.Asking.{AsksToFetch};
 ghost use Rattle.far_book.specs.book.Dealing.{IsRetired, IsSeen, LearnsNone, is_failure};
 ghost use Rattle.far_book.specs.book.Deeds.{Does, Fetches};
 ghost use Rattle.far_book.specs.book.Effects.{fetched, near_word, with_written_span};
@@ -44,6 +45,7 @@ impl<N: Near + Drop, D: Device + Drop> Book<N, D> {
         ensures unread { IfOk result (λ found. IfNone found (LearnsNone (N.view self.old.near) (N.view self.new.near))) }
         ensures asked { is_dropped (read_of ((N.view self.old.near).cell pointer)) ≡ true → result ≡ Ok None }
         ensures order { IfOk result (λ found. self.new.order ≡ order_fetched (N.view self.old.near) self.old.order found) }
+        ensures called { AsksToFetch D D.reads D.lets_go N.still (N.view self.old.near) (N.view self.new.near) pointer result self.old.device self.new.device }
         ensures forgot { D.forgets → IfOk result (λ _. D.contents self.new.device pointer ≡ None) }
         ensures others { KeepsOthers (D.contents self.old.device) (D.contents self.new.device) pointer }
         ensures honest { D.honest self.new.device ≡ D.honest self.old.device }

@@ -13,6 +13,7 @@ ghost use Rattle.far_device.specs.Contents.{KeepsOthers};
 ghost use Rattle.far_device.specs.Faults.{CountsFault, SpendsFault};
 ghost use Rattle.far_book.specs.Finds.{Finds};
 ghost use Rattle.far_book.specs.Known.{Forgets, KeepsKnown};
+ghost use Rattle.far_book.specs.book.Asking.{AsksToEvict, answer_of};
 ghost use Rattle.far_book.specs.book.Dealing.{IsQuietNear, IsRetired, IsSeen, Leaves, has_evac, is_failure};
 ghost use Rattle.far_book.specs.book.Deeds.{Does, Evicts};
 ghost use Rattle.far_book.specs.book.Effects.{evicted, far_word};
@@ -46,6 +47,7 @@ impl<N: Near + Drop, D: Device + Drop> Book<N, D> {
         ensures kept { IfErr result (λ _. IsSeen (N.view self.old.near) (N.view self.new.near) pointer) }
         ensures same { N.still → IfErr result (λ _. N.view self.new.near ≡ N.view self.old.near) }
         ensures refused { IfErr result (λ why. (why ≡ Memory) ⊎ (why ≡ Failed)) }
+        ensures called { AsksToEvict D D.writes D.lets_go (N.view self.old.near) pointer result self.old.device self.new.device }
         ensures cause { CountsFault (is_failure result) (D.faults self.old.device) (D.faults self.new.device) }
         ensures spent { SpendsFault (is_failure result) (D.fails_at_most self.old.device) (D.fails_at_most self.new.device) }
         ensures order { self.new.order ≡ self.old.order }
@@ -89,6 +91,7 @@ impl<N: Near + Drop, D: Device + Drop> Book<N, D> {
         ensures words { IsStored (data_at (N.view self.new.near).word place) len }
         ensures held { OnOk result (D.contents self.new.device pointer ≡ Some (bytes_of (data_at (N.view self.new.near).word place) len)) }
         ensures refused { IfErr result (λ why. (why ≡ Memory) ⊎ (why ≡ Failed)) }
+        ensures called { D.writes self.old.device pointer (bytes_of (data_at (N.view self.new.near).word place) len) (answer_of result) self.new.device }
         ensures cause { CountsFault (is_failure result) (D.faults self.old.device) (D.faults self.new.device) }
         ensures spent { SpendsFault (is_failure result) (D.fails_at_most self.old.device) (D.fails_at_most self.new.device) }
         ensures order { self.new.order ≡ self.old.order }
@@ -122,6 +125,7 @@ impl<N: Near + Drop, D: Device + Drop> Book<N, D> {
         ensures words { IsStored (data_at (N.view self.new.near).word place) len }
         ensures held { OnOk result (D.contents self.new.device pointer ≡ Some (bytes_of (data_at (N.view self.new.near).word place) len)) }
         ensures refused { IfErr result (λ why. (why ≡ Memory) ⊎ (why ≡ Failed)) }
+        ensures called { D.writes self.old.device pointer (bytes_of (data_at (N.view self.new.near).word place) len) (answer_of result) self.new.device }
         ensures cause { CountsFault (is_failure result) (D.faults self.old.device) (D.faults self.new.device) }
         ensures spent { SpendsFault (is_failure result) (D.fails_at_most self.old.device) (D.fails_at_most self.new.device) }
         ensures order { self.new.order ≡ self.old.order }

@@ -34,6 +34,7 @@ impl<N: Near + Drop, D: Device + Drop> Book<N, D> {
         ensures device { IfOk result (λ o. IfSome o (λ _. self.new.device ≡ self.old.device)) }
         ensures asked { is_dropped (read_of ((N.view self.old.near).cell pointer)) ≡ true → result ≡ Ok None }
         ensures gone { IfOk result (λ o. IfNone o (IsRetired N.still (N.view self.old.near) (N.view self.new.near) pointer)) }
+        ensures called { IfOk result (λ o. IfNone o (D.lets_go self.old.device pointer self.new.device)) }
         ensures forgotten { IfOk result (λ o. IfNone o (D.forgets → D.contents self.new.device pointer ≡ None)) }
         ensures others { KeepsOthers (D.contents self.old.device) (D.contents self.new.device) pointer }
         ensures honest { D.honest self.new.device ≡ D.honest self.old.device }

@@ -30,6 +30,12 @@ impl Device for Picky {
 
     ghost wraps = { λ s. wrapped_below (faults_of s.inner + s.faults) };
 
+    ghost writes = { λ _ _ _ _ _. Unit {0} };
+
+    ghost reads = { λ _ _ _ _. Unit {0} };
+
+    ghost lets_go = { λ _ _ _. Unit {0} };
+
     fn write(&mut self, id: u32, bytes: &[u8]) -> Result<(), DeviceFault> {
         if bytes != self.wanted.as_slice() {
             self.faults = self.faults.wrapping_add(1);
@@ -68,6 +74,12 @@ impl Device for Starved {
 
     ghost wraps = { λ _. wrapped_below 0 };
 
+    ghost writes = { λ _ _ _ _ _. Unit {0} };
+
+    ghost reads = { λ _ _ _ _. Unit {0} };
+
+    ghost lets_go = { λ _ _ _. Unit {0} };
+
     fn write(&mut self, _id: u32, _bytes: &[u8]) -> Result<(), DeviceFault> {
         Err(DeviceFault::Memory)
     }
@@ -103,6 +115,12 @@ impl Device for Stumbling {
     ghost fails_at_most = { λ _ _. ⊥ };
 
     ghost wraps = { λ s. wrapped_below (faults_of s.inner + s.faults) };
+
+    ghost writes = { λ _ _ _ _ _. Unit {0} };
+
+    ghost reads = { λ _ _ _ _. Unit {0} };
+
+    ghost lets_go = { λ _ _ _. Unit {0} };
 
     fn write(&mut self, id: u32, bytes: &[u8]) -> Result<(), DeviceFault> {
         self.inner.write(id, bytes)
@@ -147,6 +165,12 @@ impl Device for Lying {
 
     ghost wraps = { λ s. wrapped_below s.inner.faults };
 
+    ghost writes = { λ _ _ _ _ _. Unit {0} };
+
+    ghost reads = { λ _ _ _ _. Unit {0} };
+
+    ghost lets_go = { λ _ _ _. Unit {0} };
+
     fn write(&mut self, id: u32, bytes: &[u8]) -> Result<(), DeviceFault> {
         self.inner.write(id, bytes)
     }
@@ -189,6 +213,12 @@ impl<D: Device + Drop> Device for Shown<D> {
     ghost fails_at_most = { λ s. D.fails_at_most s.inner };
 
     ghost wraps = { λ s. D.wraps s.inner };
+
+    ghost writes = { λ _ _ _ _ _. Unit {0} };
+
+    ghost reads = { λ _ _ _ _. Unit {0} };
+
+    ghost lets_go = { λ _ _ _. Unit {0} };
 
     fn write(&mut self, id: u32, bytes: &[u8]) -> Result<(), DeviceFault> {
         self.inner.write(id, bytes)?;

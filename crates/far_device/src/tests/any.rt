@@ -1,6 +1,6 @@
 //! What a caller can say of any device, by the trait alone.
 
-ghost use Rattle.std.specs.Prelude.{◌≡◌, true, false, None, IfOk, OnOk};
+ghost use Rattle.std.specs.Prelude.{◌≡◌, true, false, None, Ok, IfOk, OnOk};
 ghost use Rattle.far_device.specs.Contents.{KeepsOthers};
 ghost use Rattle.far_device.specs.Faults.{is_fault, CountsFault, SpendsFault};
 
@@ -13,6 +13,8 @@ pub(crate) fn there_and_back<D: Device>(
     bytes: &[u8],
 ) -> Result<Vec<u8>, DeviceFault>
     ensures given { D.honest device.old ≡ true → IfOk result (λ given. given.items ≡ bytes.now) }
+    ensures calls { IfOk result (λ given. (written : D) × (read : D) × D.writes device.old id bytes.now (Ok tt) written
+        × D.reads written id (Ok given.items) read × D.lets_go read id device.new) }
     ensures gone { D.forgets → OnOk result (D.contents device.new id ≡ None) }
     ensures others { KeepsOthers (D.contents device.old) (D.contents device.new) id }
     ensures honest { D.honest device.new ≡ D.honest device.old }

@@ -1,6 +1,7 @@
 //! Devices that fail.
 
-ghost use Rattle.std.specs.Prelude.{◌+◌, ◌-◌, ◌%◌, ◌^◌, ◌≤◌, None, true, min};
+ghost use Rattle.std.specs.Prelude.{◌≡◌, ◌+◌, ◌-◌, ◌%◌, ◌^◌, ◌≤◌, ◌==◌, None, Err, true, cond, min};
+ghost use Rattle.far_device.specs.declared.fault.DeviceFault.TheVariants as fault;
 ghost use Rattle.far_device.specs.Wrapping.{wrapped_below};
 
 use crate::{Device, DeviceFault};
@@ -23,6 +24,12 @@ impl Device for Broken {
     ghost fails_at_most = { λ _ _. ⊥ };
 
     ghost wraps = { λ s. wrapped_below s.faults };
+
+    ghost writes = { λ _ _ _ answer _. answer ≡ Err fault.Device };
+
+    ghost reads = { λ _ _ answer _. answer ≡ Err fault.Device };
+
+    ghost lets_go = { λ old _ new. new ≡ old };
 
     fn write(&mut self, _id: u32, _bytes: &[u8]) -> Result<(), DeviceFault> {
         self.faults = self.faults.wrapping_add(1);
@@ -57,6 +64,12 @@ impl Device for Starved {
     ghost fails_at_most = { λ _ _. Unit {0} };
 
     ghost wraps = { λ _. wrapped_below 0 };
+
+    ghost writes = { λ old _ _ answer new. (answer ≡ Err fault.Memory) × (new ≡ old) };
+
+    ghost reads = { λ old _ answer new. (answer ≡ Err fault.Memory) × (new ≡ old) };
+
+    ghost lets_go = { λ old _ new. new ≡ old };
 
     fn write(&mut self, _id: u32, _bytes: &[u8]) -> Result<(), DeviceFault> {
         Err(DeviceFault::Memory)
@@ -93,6 +106,12 @@ impl<D: Device + Drop> Device for FailsOnce<D> {
     ghost fails_at_most = { λ s n. (min s.left 1 ≤ n) × D.fails_at_most s.inner (n - min s.left 1) };
 
     ghost wraps = { λ s. wrapped_below (D.faults s.inner + s.faults) };
+
+    ghost writes = { λ old id bytes answer new. cond (old.left == 1) (answer ≡ Err fault.Device) (D.writes old.inner id bytes answer new.inner) };
+
+    ghost reads = { λ old id answer new. cond (old.left == 1) (answer ≡ Err fault.Device) (D.reads old.inner id answer new.inner) };
+
+    ghost lets_go = { λ old id new. D.lets_go old.inner id new.inner };
 
     fn write(&mut self, id: u32, bytes: &[u8]) -> Result<(), DeviceFault> {
         if self.left == 1 {

@@ -1,6 +1,7 @@
 //! Devices that lie.
 
-ghost use Rattle.std.specs.Prelude.{false};
+ghost use Rattle.std.specs.Prelude.{◌≡◌, ℕ, List, Result, false};
+ghost use Rattle.far_device.specs.declared.fault.DeviceFault.{DeviceFault};
 
 use crate::{Device, DeviceFault};
 
@@ -22,6 +23,12 @@ impl<D: Device + Drop> Device for Short<D> {
     ghost fails_at_most = { λ s. D.fails_at_most s.inner };
 
     ghost wraps = { λ s. D.wraps s.inner };
+
+    ghost writes = { λ old id bytes answer new. D.writes old.inner id bytes answer new.inner };
+
+    ghost reads = { λ old id answer new. (held : Result (List ℕ) DeviceFault) × D.reads old.inner id held new.inner };
+
+    ghost lets_go = { λ old _ new. new ≡ old };
 
     fn write(&mut self, id: u32, bytes: &[u8]) -> Result<(), DeviceFault> {
         self.inner.write(id, bytes)

@@ -37,6 +37,12 @@ impl Device for Stumbling {
 
     ghost wraps = { λ s. wrapped_below (faults_of s.inner + s.faults) };
 
+    ghost writes = { λ _ _ _ _ _. Unit {0} };
+
+    ghost reads = { λ _ _ _ _. Unit {0} };
+
+    ghost lets_go = { λ _ _ _. Unit {0} };
+
     fn write(&mut self, id: u32, bytes: &[u8]) -> Result<(), DeviceFault> {
         if self.writes > 0 {
             self.writes -= 1;

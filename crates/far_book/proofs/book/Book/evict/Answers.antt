@@ -1,15 +1,19 @@
 use Rattle.far_book.proofs.book.Book.evict.Goals as goal
-use Rattle.std.proofs.Common.{rules, ◌≡◌, ◌∙◌, true, false, ap, sym, subst, arith, refl, Some}
+use Rattle.std.proofs.Common.{rules, ◌≡◌, ◌∙◌, true, false, ap, sym, subst, arith, refl, inl, inr, Some}
+use Rattle.std.specs.Prelude.{Ok, Err}
 use Rattle.far_word.specs.declared.pointer.PtrWord.TheVariants.{Near, Far}
+use Rattle.far_word.specs.Bytes.{bytes_of}
 use Rattle.far_word.specs.Pointer.{IsPtr, read_of}
 use Rattle.far_word.proofs.PointerLaws.{read_says}
+use Rattle.far_core.specs.events.Copies.{data_at}
 use Rattle.far_core.specs.events.Naming.{is_dropped, no_marks}
 use Rattle.far_core.specs.state.State.{State}
 use Rattle.far_book.specs.Known.{Forgets}
+use Rattle.far_book.specs.book.Asking.{fault_of}
 use Rattle.far_book.specs.book.Effects.{evicted, retired}
 use Rattle.far_book.specs.book.Renaming.{seen}
 use Rattle.far_book.proofs.region.Dropping.{retired_by}
-use Rattle.far_book.proofs.region.Evicted.{goes_far, gone_keeps, is_gone}
+use Rattle.far_book.proofs.region.Evicted.{goes_far, gone_keeps, has_bytes, is_gone, was_alive}
 
 pub returns-in-Ok-clause-far : goal.returns-in-Ok-clause-far
 returns-in-Ok-clause-far g c _ =
@@ -77,3 +81,43 @@ returns-in-Ok-clause-ran g c still =
       alive = ap (λ v. is_dropped (read_of v)) (sym (c.see-found.ensures.exact still)) ∙ alive;
       after = c.in-Ok.ensures.set still ∙ ap (λ (x : State). evicted x c.args.pointer) (c.send.ensures.exact still ∙ c.see-found.ensures.set still);
     }
+
+pub returns-then-marks-clause-called : goal.returns-then-marks-clause-called
+returns-then-marks-clause-called g c = inl (subst (λ (d : g.row.D.Denot). g.D.Device.lets_go d c.args.pointer c.retire.new.self.device) c.see-found.ensures.device c.retire.ensures.called)
+
+pub returns-in-Err-clause-called : goal.returns-in-Err-clause-called
+returns-in-Err-clause-called g c =
+    let x = c.in-Near in
+    let near : read_of c.see-found.result ≡ Some (Near x.len x.ds x.place x.marks) = search rules in
+    let s = g.N.Near.view c.args.self.now.near in
+    let t = g.N.Near.view c.see-found.new.self.near in
+    let u = g.N.Near.view c.send.new.self.near in
+    let bytes = bytes_of (data_at u.word x.place) x.len in
+    let own = has_bytes s t u c.args.pointer c.see-found.result c.see-found.ensures.kept c.send.ensures.kept x.len x.ds x.place x.marks c.see-found.ensures.found near c.send.ensures.words in
+    (bytes, own, subst (λ (d : g.row.D.Denot). g.D.Device.writes d c.args.pointer bytes (Err (fault_of c.in-Err.why)) c.send.new.self.device) c.see-found.ensures.device c.in-Err.ensures.called)
+
+pub returns-in-Ok-clause-called : goal.returns-in-Ok-clause-called
+returns-in-Ok-clause-called g c =
+    let x = c.in-Near in
+    let near : read_of c.see-found.result ≡ Some (Near x.len x.ds x.place x.marks) = search rules in
+    let s = g.N.Near.view c.args.self.now.near in
+    let t = g.N.Near.view c.see-found.new.self.near in
+    let u = g.N.Near.view c.send.new.self.near in
+    let bytes = bytes_of (data_at u.word x.place) x.len in
+    let own = has_bytes s t u c.args.pointer c.see-found.result c.see-found.ensures.kept c.send.ensures.kept x.len x.ds x.place x.marks c.see-found.ensures.found near c.send.ensures.words in
+    let wrote = subst (λ (d : g.row.D.Denot). g.D.Device.writes d c.args.pointer bytes (Ok tt) c.send.new.self.device) c.see-found.ensures.device c.in_default-send.ensures.called in
+    (bytes, own, subst (λ (d : g.row.D.Denot). g.D.Device.writes c.args.self.now.device c.args.pointer bytes (Ok tt) d) (sym c.name_far.ensures.device) wrote)
+
+pub returns-in-Err-name_far-clause-called : goal.returns-in-Err-name_far-clause-called
+returns-in-Err-name_far-clause-called g c =
+    let x = c.in-Near in
+    let near : read_of c.see-found.result ≡ Some (Near x.len x.ds x.place x.marks) = search rules in
+    let s = g.N.Near.view c.args.self.now.near in
+    let t = g.N.Near.view c.see-found.new.self.near in
+    let u = g.N.Near.view c.send.new.self.near in
+    let bytes = bytes_of (data_at u.word x.place) x.len in
+    let own = has_bytes s t u c.args.pointer c.see-found.result c.see-found.ensures.kept c.send.ensures.kept x.len x.ds x.place x.marks c.see-found.ensures.found near c.send.ensures.words in
+    let wrote = subst (λ (d : g.row.D.Denot). g.D.Device.writes d c.args.pointer bytes (Ok tt) c.send.new.self.device) c.see-found.ensures.device c.in_default-send.ensures.called in
+    let gone = subst (λ (d : g.row.D.Denot). g.D.Device.lets_go d c.args.pointer c.retire-in-Err-name_far.new.self.device) c.name_far.ensures.device c.retire-in-Err-name_far.ensures.called in
+    let alive = was_alive s t u c.args.pointer c.see-found.result c.see-found.ensures.kept c.send.ensures.kept x.len x.ds x.place x.marks c.see-found.ensures.found near c.if-marks.false in
+    inr (c.send.new.self.device, (bytes, own, wrote), gone, alive)

@@ -1,6 +1,6 @@
 use Rattle.far_book.proofs.book.Book.fetch.Goals as goal
-use Rattle.std.proofs.Common.{◌≡◌, ◌∙◌, ◌^◌, ◌<◌, ℕ, true, false, ap, arith, sym, subst, Some, Global, Vec}
-use Rattle.std.specs.Prelude.{Option, List}
+use Rattle.std.proofs.Common.{◌≡◌, ◌∙◌, ◌^◌, ◌<◌, ℕ, true, false, ap, arith, sym, subst, inl, inr, length, Some, Global, Vec}
+use Rattle.std.specs.Prelude.{Option, List, Ok, Err}
 use Rattle.std.proofs.lemmas.Bool.{false_from_ne_true}
 use Rattle.far_word.specs.Bytes.{packed_word}
 use Rattle.far_word.specs.Pointer.{read_of}
@@ -10,12 +10,15 @@ use Rattle.far_word.specs.Sizes.{size_of}
 use Rattle.far_core.specs.events.Naming.{is_dropped}
 use Rattle.far_core.specs.state.State.{State}
 use Rattle.far_device.specs.Contents.{KeepsOthers}
+use Rattle.far_device.specs.declared.fault.DeviceFault.{DeviceFault}
 use Rattle.far_device.specs.declared.fault.DeviceFault.TheVariants.{Memory, Device}
 use Rattle.far_device.specs.Faults.{SpendsFault}
+use Rattle.far_book.specs.book.Asking.{HasGiven}
 use Rattle.far_book.specs.book.BookOf.{BookOf}
 use Rattle.far_book.specs.Known.{Forgets}
 use Rattle.far_book.specs.book.Effects.{fetched, retired, with_written_span}
 use Rattle.far_book.specs.book.FarSide.{InOrder}
+use Rattle.far_book.specs.book.Fetching.{far_len}
 use Rattle.far_book.specs.book.Ledger.{Takes}
 use Rattle.far_book.specs.book.Own.{own_part}
 use Rattle.far_book.specs.book.Renaming.{seen}
@@ -402,3 +405,71 @@ returns-clause-ran g c still =
       stored = λ e. near.stored (honest ∙ c.self.invariant.honest (ap (λ (u : State). u.honest) x.same ∙ e));
       after = near.exact still;
     }
+
+pub returns-then-marks-clause-called : goal.returns-then-marks-clause-called
+returns-then-marks-clause-called g c = inl (subst (λ (d : g.row.D.Denot). g.D.Device.lets_go d c.args.pointer c.retire.new.self.device) c.see-word.ensures.device c.retire.ensures.called)
+
+pub returns-in-Err-Memory-clause-called : goal.returns-in-Err-Memory-clause-called
+returns-in-Err-Memory-clause-called g c =
+    let device : c.self.inside.device ≡ c.args.self.now.device = ap (λ (b : BookOf g.row.N.Denot g.row.D.Denot). b.device) c.self.view_is ∙ c.see-word.ensures.device in
+    subst (λ (d : g.row.D.Denot). g.D.Device.reads d c.args.pointer (Err Memory) c.read.new.self) device
+    (subst (λ (w : DeviceFault). g.D.Device.reads c.self.inside.device c.args.pointer (Err w) c.read.new.self) c.in-Err-Memory.field-0-is c.in-Err-Memory.ensures.called)
+
+pub returns-in-Err-Device-clause-called : goal.returns-in-Err-Device-clause-called
+returns-in-Err-Device-clause-called g c =
+    let device : c.self.inside.device ≡ c.args.self.now.device = ap (λ (b : BookOf g.row.N.Denot g.row.D.Denot). b.device) c.self.view_is ∙ c.see-word.ensures.device in
+    subst (λ (d : g.row.D.Denot). g.D.Device.reads d c.args.pointer (Err Device) c.read.new.self) device
+    (subst (λ (w : DeviceFault). g.D.Device.reads c.self.inside.device c.args.pointer (Err w) c.read.new.self) c.in-Err-Device.field-0-is c.in-Err-Device.ensures.called)
+
+pub returns-then-len-clause-called : goal.returns-then-len-clause-called
+returns-then-len-clause-called g c =
+    let s0 = g.N.Near.view c.args.self.now.near in
+    let s = g.N.Near.view c.self.inside.near in
+    let p = c.args.pointer in
+    let f = c.in-Far in
+    let x : FarFound s0 s p c.see-word.result f.len f.ds f.marks = record { finds = c.see-word.ensures.found; fits = c.see-word.type_inv; far = c.known.ensures ∙ ap (λ v. Some v) f.is; same = ap (λ (b : BookOf g.row.N.Denot g.row.D.Denot). g.N.Near.view b.near) c.self.view_is ∙ c.see-word.ensures.kept; pointer = c.requires.pointer } in
+    let device : c.self.inside.device ≡ c.args.self.now.device = ap (λ (b : BookOf g.row.N.Denot g.row.D.Denot). b.device) c.self.view_is ∙ c.see-word.ensures.device in
+    let read = subst (λ (d : g.row.D.Denot). g.D.Device.reads d c.args.pointer (Ok c.in-Ok.bytes.items) c.read.new.self) device c.in-Ok.ensures.called in
+    let was = known s0 p c.see-word.result c.see-word.ensures.found f.len f.ds f.marks x.far in
+    (c.in-Ok.bytes.items, read, λ (e : length c.in-Ok.bytes.items ≡ far_len (read_of (s0.cell p))). let long : length c.in-Ok.bytes.items ≡ f.len = e ∙ ap far_len was.1 in absurd (omega arith))
+
+pub returns-in_default-come_near-clause-called : goal.returns-in_default-come_near-clause-called
+returns-in_default-come_near-clause-called g c =
+    let s0 = g.N.Near.view c.args.self.now.near in
+    let s = g.N.Near.view c.self.inside.near in
+    let p = c.args.pointer in
+    let f = c.in-Far in
+    let x : FarFound s0 s p c.see-word.result f.len f.ds f.marks = record { finds = c.see-word.ensures.found; fits = c.see-word.type_inv; far = c.known.ensures ∙ ap (λ v. Some v) f.is; same = ap (λ (b : BookOf g.row.N.Denot g.row.D.Denot). g.N.Near.view b.near) c.self.view_is ∙ c.see-word.ensures.kept; pointer = c.requires.pointer } in
+    let device : c.self.inside.device ≡ c.args.self.now.device = ap (λ (b : BookOf g.row.N.Denot g.row.D.Denot). b.device) c.self.view_is ∙ c.see-word.ensures.device in
+    let read = subst (λ (d : g.row.D.Denot). g.D.Device.reads d c.args.pointer (Ok c.in-Ok.bytes.items) c.read.new.self) device c.in-Ok.ensures.called in
+    let alive = false_from_ne_true (is_dropped (read_of (s0.cell p))) (λ h. unasked s0 s p c.see-word.result f.len f.ds f.marks x c.if-marks.false h) in
+    inr (c.in-Ok.bytes.items, c.read.new.self, read, c.retire-in_default-come_near.ensures.called, alive)
+
+pub returns-clause-called : goal.returns-clause-called
+returns-clause-called g c =
+    let s0 = g.N.Near.view c.args.self.now.near in
+    let s = g.N.Near.view c.self.inside.near in
+    let p = c.args.pointer in
+    let f = c.in-Far in
+    let x : FarFound s0 s p c.see-word.result f.len f.ds f.marks = record { finds = c.see-word.ensures.found; fits = c.see-word.type_inv; far = c.known.ensures ∙ ap (λ v. Some v) f.is; same = ap (λ (b : BookOf g.row.N.Denot g.row.D.Denot). g.N.Near.view b.near) c.self.view_is ∙ c.see-word.ensures.kept; pointer = c.requires.pointer } in
+    let device : c.self.inside.device ≡ c.args.self.now.device = ap (λ (b : BookOf g.row.N.Denot g.row.D.Denot). b.device) c.self.view_is ∙ c.see-word.ensures.device in
+    let read = subst (λ (d : g.row.D.Denot). g.D.Device.reads d c.args.pointer (Ok c.in-Ok.bytes.items) c.read.new.self) device c.in-Ok.ensures.called in
+    let row = packed_word c.as_slice.result.now in
+    let y = c.in-Ok-come_near in
+    let t = g.N.Near.view c.come_near.new.near in
+    let alive : f.marks.dropped ≡ false = c.if-marks.false in
+    let there = (able s0 s p c.see-word.result f.len f.ds f.marks x c.self.inside.ledger (g.D.Device.contents c.self.inside.device) (g.D.Device.honest c.self.inside.device) c.self.invariant c.size_of-size.result c.size_of-size.ensures c.room.result (c.room.ensures (own_part s) c.self.invariant.notes) c.in-Some.place c.in-Some.is).layout in
+    let was = known s0 p c.see-word.result c.see-word.ensures.found f.len f.ds f.marks x.far in
+    let was_alive = known_alive s0 p c.see-word.result c.see-word.ensures.found f.len f.ds f.marks x.far alive in
+    let as_seen : fetched s p c.in-Some.place row ≡ fetched s0 p c.in-Some.place row = ap (λ (u : State). fetched u p c.in-Some.place row) x.same
+    ∙ fetched_seen s0 p c.see-word.result f.len f.ds c.in-Some.place row f.marks was.0 x.far alive was.1 was_alive there in
+    let kept = come_kept s t p f.len f.ds c.in-Some.place row f.marks (now s0 s p c.see-word.result f.len f.ds f.marks x) alive there y.ensures.done in
+    let forgot = come_forgot s t p f.len f.ds c.in-Some.place row f.marks (now s0 s p c.see-word.result f.len f.ds f.marks x) alive there y.ensures.done in
+    let long : length c.in-Ok.bytes.items ≡ f.len = omega arith in
+    let has : HasGiven g.N.Near.still s0 t p c.in-Some.place c.as_slice.result.now = record {
+      long = ap length c.as_slice.ensures.value ∙ long ∙ sym (ap far_len was.1);
+      kept = kept ∙ (λ i. record (as_seen i) { word = t.word });
+      forgot = subst (λ (u : State). Forgets u t) as_seen forgot;
+      exact = λ still. y.ensures.set still ∙ as_seen;
+    } in
+    (c.in-Ok.bytes.items, c.read.new.self, read, c.forget.ensures.called, subst (λ (b : List ℕ). HasGiven g.N.Near.still s0 t p c.in-Some.place b) c.as_slice.ensures.value has)
