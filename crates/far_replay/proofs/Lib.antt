@@ -35,6 +35,7 @@ pub mod Listed
 pub mod LoadWords
 pub mod Lowest
 pub mod MadeLemmas
+pub mod MovesTaken
 pub mod NewTurns
 pub mod Opened
 pub mod OutputLaws

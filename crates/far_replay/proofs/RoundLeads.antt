@@ -45,7 +45,7 @@ use Rattle.far_text.proofs.Each.{Each}
 use Rattle.far_replay.specs.Alone.{bytes_in_world, own_of}
 use Rattle.far_replay.specs.Between.{Between}
 use Rattle.far_replay.specs.EventRows.{after_events, AllPass, AllSucceed}
-use Rattle.far_replay.specs.Headline.{StayThrough, TakesNone, TakesRoom}
+use Rattle.far_replay.specs.Headline.{StayThrough, TakesNone}
 use Rattle.far_replay.specs.Reply.{Refused}
 use Rattle.far_replay.specs.Rounds.{after_round, choice_causes, chosen_by, given_by, is_evacuating, is_marking, is_waiting, logs_given, refused_step, round_told, rows_in, step_effect, wait_causes}
 use Rattle.far_replay.specs.Stays.{CellStays, MayGain, Stays}
@@ -138,7 +138,7 @@ module _ (now : Moment) (law : Law now.core) (moment : MomentLaw now) where
   refused_leads Abort why e = leads_nowhere
   refused_leads (Round policy most turns) why e = leads_nowhere
 
-  made_leads : (step : Step) → refusal now (Evacuator step) ≡ None → Leads now (step_effect now step)
+  pub made_leads : (step : Step) → refusal now (Evacuator step) ≡ None → Leads now (step_effect now step)
   made_leads (Select choice most) e =
       let given = given_by choice (rows_in now) most in
       let may = begins now (choice_causes given) e in
@@ -296,39 +296,24 @@ step_stays now Abort why e = stays_same (Evacuator Abort) why now
 step_stays now (Round policy most turns) why e = stays_same (Evacuator (Round policy most turns)) why now
 
 -- ---- what a step takes of the logs
-polled_takes : (now : Moment) (o : Option ℕ) → TakesNone now.core (polled_to now o).core
+pub polled_takes : (now : Moment) (o : Option ℕ) → TakesNone now.core (polled_to now o).core
 polled_takes now None = (refl, refl)
 polled_takes now (Some k) = (refl, refl)
 
-wait_takes : (now : Moment) (why : Refusal) → TakesNone now.core (refused_step now Wait why).core
+pub wait_takes : (now : Moment) (why : Refusal) → TakesNone now.core (refused_step now Wait why).core
 wait_takes now (StillOpen mutator epoch) = polled_takes now (first_open now.core)
 wait_takes now why = (refl, refl)
 
-select_takes : (now : Moment) (logs : List ℕ) → TakesNone now.core (after_selecting now logs).core
+pub select_takes : (now : Moment) (logs : List ℕ) → TakesNone now.core (after_selecting now logs).core
 select_takes now [] = (refl, refl)
 select_takes now (l ∷ ls) = (refl, refl)
 
-mark_takes : (now : Moment) (count : ℕ) → TakesNone now.core (after_marking now count).core
+pub mark_takes : (now : Moment) (count : ℕ) → TakesNone now.core (after_marking now count).core
 mark_takes now count =
     let same = marks_cells (newly_marked now count) now.core in
     cond_both (leaves_some now count) (record now { core = marked_core now count }) (record now { core = advanced (marked_core now count) now.held; phase = Waiting }) (λ (x : Moment). TakesNone now.core x.core)
     (λ _. (ap (λ (t : State). t.tail) same, ap (λ (t : State). t.kind) same)) (λ _. (ap (λ (t : State). t.tail) same, ap (λ (t : State). t.kind) same))
 
-unmark_takes : (ps : List ℕ) (s : State) → TakesNone s (fold unmarked s ps)
+pub unmark_takes : (ps : List ℕ) (s : State) → TakesNone s (fold unmarked s ps)
 unmark_takes [] s = (refl, refl)
 unmark_takes (p ∷ ps) s = unmark_takes ps (unmarked s p)
-
-pub takes_step : (now : Moment) (step : Step) (o : Option Refusal) → Law now.core → refusal now (Evacuator step) ≡ o →
-    TakesRoom now.core (Evacuator step) (unless o Refused (turn_reply now (Evacuator step))) (unless o (refused_effect now (Evacuator step)) (turn_effect now (Evacuator step))).core
-takes_step now (Select choice most) None law e = select_takes now (logs_given (given_by choice (rows_in now) most))
-takes_step now (Select choice most) (Some why) law e = (refl, refl)
-takes_step now (Mark count) None law e = mark_takes now count
-takes_step now (Mark count) (Some why) law e = (refl, refl)
-takes_step now Wait None law e = polled_takes now (first_open now.core)
-takes_step now Wait (Some why) law e = wait_takes now why
-takes_step now (Evacuate count) None law e = tt
-takes_step now (Evacuate count) (Some why) law e = (refl, refl)
-takes_step now Abort None law e = unmark_takes (live_among now.core now.held) now.core
-takes_step now Abort (Some why) law e = (refl, refl)
-takes_step now (Round policy most turns) None law e = tt
-takes_step now (Round policy most turns) (Some why) law e = (refl, refl)

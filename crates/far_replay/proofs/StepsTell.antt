@@ -109,7 +109,7 @@ held_by false kinds.Sealed e = absurd cc
 pub chosen_by_both : (held : Bool) (kind : Kind) → held ≡ true → kind ≡ kinds.Sealed → kind_named held kind ≡ Chosen
 chosen_by_both held kind h e = ap (λ b. kind_named b kind) h ∙ ap (kind_named true) e
 
-none_held : (held : List ℕ) → is_empty held ≡ true → held ≡ []
+pub none_held : (held : List ℕ) → is_empty held ≡ true → held ≡ []
 none_held [] e = refl
 none_held (l ∷ ls) e = absurd (false≢true e)
 

@@ -33,7 +33,7 @@ use Rattle.far_evac.specs.declared.answers.RoundEnd.{RoundEnd}
 use Rattle.far_evac.specs.declared.answers.RoundEnd.TheVariants as ends
 use Rattle.far_replay.specs.Alone.{Alone, Knows, Learns, Own, nothing}
 use Rattle.far_replay.specs.Answers.{Answered, Answers, Commanded, IsMoment, shape_of, first_moment}
-use Rattle.far_text.specs.Command.{Command, Heap, CommandLine, New, Open, Write, Read, Close, Where, Drop, View, Try, Epoch, Logs as AsksLogs, Log, Audit, Mutator, Book, Evacuator, Script, Select, Mark, Wait, Evacuate, Abort, Round}
+use Rattle.far_text.specs.Command.{Command, Heap, CommandLine, New, Open, Write, Read, Close, Where, Drop, View, Try, Epoch, Logs as AsksLogs, Log, Audit, Mutator, Book, Evacuator, By, Script, Select, Mark, Wait, Evacuate, Abort, Round}
 use Rattle.far_text.specs.Grammar.{trace_of}
 use Rattle.far_replay.specs.Moment.{Moment}
 use Rattle.far_replay.specs.EventRows.{after_events, AllPass, AllSucceed, AllComeToPass, AtHand}
@@ -45,7 +45,8 @@ use Rattle.far_replay.specs.Listed.{AllCounted}
 use Rattle.far_replay.specs.Objects.{with_range, uses}
 use Rattle.far_text.specs.Says.{Says}
 use Rattle.far_replay.specs.Stays.{MayMark, MaySee, Stays}
-use Rattle.far_replay.specs.Steps.{AllTold}
+use Rattle.far_replay.specs.MovesTake.{MovesTake}
+use Rattle.far_replay.specs.Steps.{AllTold, IsChosen, Takes}
 use Rattle.far_text.specs.Written.{WritesBytes, AllWriteBytes}
 use Rattle.far_replay.specs.Reply.{Reply, Done, Pointer, Data, Logs, Lies, Audited, EpochRead, Selected, Marked, Clear, Evacuated, Ended, Refused, LogLine, Counts, reply_text}
 
@@ -228,19 +229,22 @@ DereferenceTakes s p t = MatchBool (is_slow s p) (BringTakes s (read_of (s.cell 
 abbrev pub DereferenceLacks : State → ℕ → State → Type 0
 DereferenceLacks s p t = (is_slow s p ≡ true) × LacksRoom s (read_of (s.cell p)) × TakesNone s t
 
--- what a command with its reply takes of the logs: a new object its span; a dereference what it takes to bring its object; anything else nothing. A round that evacuates takes
--- room for what it moves, and gives logs back
-abbrev pub TakesRoom : State → Command → Reply → State → Type 0
-TakesRoom s (Mutator m (New len ds)) (Pointer p) t = TakesSpan s len true t
-TakesRoom s (Mutator m (Write p from bytes)) Done t = DereferenceTakes s p t
-TakesRoom s (Mutator m (Write p from bytes)) (Refused NoRoom) t = DereferenceLacks s p t
-TakesRoom s (Mutator m (Read p from len)) (Data bytes) t = DereferenceTakes s p t
-TakesRoom s (Mutator m (Read p from len)) (Refused NoRoom) t = DereferenceLacks s p t
-TakesRoom s (Mutator m (View p)) Done t = DereferenceTakes s p t
-TakesRoom s (Mutator m (View p)) (Refused NoRoom) t = DereferenceLacks s p t
-TakesRoom s (Evacuator (Evacuate count)) (Evacuated progress) t = Unit {0}
-TakesRoom s (Evacuator (Round policy most turns)) (Ended end) t = Unit {0}
-TakesRoom s c r t = TakesNone s t
+-- what a command that is no step takes of the logs: a new object its span; a dereference what it takes to bring its object; anything else nothing
+abbrev pub CommandTakes : State → Command → Reply → State → Type 0
+CommandTakes s (Mutator m (New len ds)) (Pointer p) t = TakesSpan s len true t
+CommandTakes s (Mutator m (Write p from bytes)) Done t = DereferenceTakes s p t
+CommandTakes s (Mutator m (Write p from bytes)) (Refused NoRoom) t = DereferenceLacks s p t
+CommandTakes s (Mutator m (Read p from len)) (Data bytes) t = DereferenceTakes s p t
+CommandTakes s (Mutator m (Read p from len)) (Refused NoRoom) t = DereferenceLacks s p t
+CommandTakes s (Mutator m (View p)) Done t = DereferenceTakes s p t
+CommandTakes s (Mutator m (View p)) (Refused NoRoom) t = DereferenceLacks s p t
+CommandTakes s c r t = TakesNone s t
+
+-- what any command with its reply takes of them: `evacuate` the room of what moves out of the logs that are chosen, a round that of what moves out of those that its policy takes; other steps nothing
+abbrev pub TakesRoom : Moment → Command → Reply → Moment → Type 0
+TakesRoom now (Evacuator (Evacuate count)) (Evacuated progress) after = MovesTake now (IsChosen now) after
+TakesRoom now (Evacuator (Round policy most turns)) (Ended end) after = (logs : List ℕ) × Takes now (By policy) most logs × MovesTake now (Contains logs) after
+TakesRoom now c r after = CommandTakes now.core c r after.core
 
 -- a cell has HOT, on what it said before
 abbrev pub IsHotAfter : State → State → ℕ → Type 0
@@ -476,7 +480,7 @@ NewIsMade = (now : Moment) (m len ds : ℕ) (r : Reply) (after : Moment) → m <
 
 -- a new object and one that is brought for a view alone take room, and no more than their span
 abbrev pub CommandsTakeRoom : Type 0
-CommandsTakeRoom = (now : Moment) (c : Command) (r : Reply) (after : Moment) → Law now.core → Commanded now c r after → TakesRoom now.core c r after.core
+CommandsTakeRoom = (now : Moment) (c : Command) (r : Reply) (after : Moment) → IsMoment now → Commanded now c r after → TakesRoom now c r after
 
 -- a try of an object that its mutator uses, in its open scope, views it where it was viewed already, or its cell is near with none of EVAC, MOVE and DROP; else it is
 -- refused 14 with the cell's word as it was. Unless it was viewed already, the cell has HOT from then on, whatever the answer

@@ -16,6 +16,7 @@ pub mod Left
 pub mod LeftMarks
 pub mod Listed
 pub mod Moment
+pub mod MovesTake
 pub mod Objects
 pub mod Outcome
 pub mod Reply

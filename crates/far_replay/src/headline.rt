@@ -78,7 +78,9 @@ pub fn mutators_are_alone()
 /// where there is none; its pointer is the lowest of its mutator's that is free; it has its owner, its data structure and
 /// zeros, in the log that `room` says; all other objects stay. It takes its span of that log. A dereference takes one where
 /// its object is far, or has EVAC, in the log that `room` says, and is refused 2 only where there is none. Of other commands
-/// `evacuate` and `round` alone take some, or give logs back.
+/// `evacuate` and `round` alone take some, or give logs back: in a log that wasn't chosen dead bytes stay, live ones rise and unused
+/// ones fall by the objects that came; in one that still is, what left it is dead; one that was given back has what came since; and
+/// all live bytes together fall by the objects that went far or were retired.
 pub fn new_is_made()
     ensures answer { NewIsMade }
     ensures none { NoneIsLeft }
