@@ -3,6 +3,7 @@
 ghost use Rattle.std.specs.Prelude.{◌≡◌, ◌+◌, ◌<◌, true, false};
 ghost use Rattle.far_core.specs.state.CoreState.{core_state};
 ghost use Rattle.far_core.specs.state.Shape.{is_shape};
+ghost use Rattle.far_book.specs.MayBe.{Made, alone_lawful, alone_shown, alone_there, alone_told};
 ghost use Rattle.far_book.specs.ShapeOf.{shape_of};
 
 use crate::near::Near;
@@ -19,6 +20,20 @@ impl Near for Plain {
     ghost view = { λ s. core_state s.core };
 
     ghost still = { Unit {0} };
+
+    ghost may_be = { λ s x. x ≡ core_state s.core };
+
+    ghost makes = { λ s e r t. Made (core_state s.core) e r (core_state t.core) };
+
+    ghost lawful = { λ s x is. alone_lawful (core_state s.core) x s.core.law is };
+
+    ghost shown = { λ s x is. alone_shown (core_state s.core) x is };
+
+    ghost there = { λ s. alone_there (core_state s.core) };
+
+    ghost alone = { λ s _ x is. is };
+
+    ghost told = { λ s t e r made. alone_told (core_state s.core) (core_state t.core) e r made };
 
     fn see(&mut self, pointer: u16) -> u64 {
         self.core.see(pointer)

@@ -1,18 +1,20 @@
 //! The evacuator: a book, and the round that empties some of its logs.
 
-ghost use Rattle.std.specs.Prelude.{◌≡◌, [], false};
+ghost use Rattle.std.specs.Prelude.{◌≡◌, ℕ, [], false, true};
 ghost use Rattle.far_core.specs.state.Law.{Law};
+ghost use Rattle.far_core.specs.state.State.{State};
+ghost use Rattle.far_book.specs.MayBe.{NoneViews, ViewsNone};
 ghost use Rattle.far_book.specs.book.Own.{own_part};
-ghost use Rattle.far_evac.specs.declared.phase.Phase.TheVariants.{Idle};
+ghost use Rattle.far_evac.specs.declared.phase.Phase.TheVariants.{Evacuating, Idle};
 ghost use Rattle.far_evac.specs.EvacOf.{moment};
-ghost use Rattle.far_evac.specs.MomentLaw.{MomentLaw};
+ghost use Rattle.far_evac.specs.MomentLaw.{MomentLaw, has_risen};
+ghost use Rattle.far_evac.specs.RoundSteps.{among};
 
 mod alone;
 mod auditing;
 mod evacuating;
 mod handing;
 mod marking;
-mod over_beset;
 mod over_plain;
 mod selecting;
 mod turning;
@@ -77,5 +79,13 @@ impl<N: Near + Drop, D: Device + Drop> Evac<N, D> {
         ensures moment { MomentLaw (moment N.view self.now) }
     {
         self.book.keeps_law();
+    }
+    /// Once a poll has answered that all owners are clear, nobody views anything in the logs held, in whatever state the words may be beside the hand.
+    /// While owners are waited for, none does who was seen clear.
+    pub fn nobody_views(&self)
+        ensures leaving { self.now.phase ≡ Evacuating → (x : State) → N.may_be self.now.book.near x → NoneViews (among self.now.held) x }
+        ensures waiting { has_risen self.now.phase ≡ true → (x : State) → N.may_be self.now.book.near x → (m : ℕ) → (N.view self.now.book.near).clear m ≡ true → ViewsNone (among self.now.held) m x }
+    {
+        self.keeps_law();
     }
 }

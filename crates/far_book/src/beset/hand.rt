@@ -3,7 +3,7 @@
 ghost use Rattle.std.specs.Prelude.{◌≡◌, ◌+◌, ◌*◌, ◌<◌, ℕ, true, false};
 ghost use Rattle.far_word.specs.declared.sizes.TheConstants.{LOG_WORDS};
 ghost use Rattle.far_word.specs.Pointer.{read_of};
-ghost use Rattle.far_book.specs.BesetView.{beset_view};
+ghost use Rattle.far_book.specs.BesetView.{TurnThen, beset_alone, beset_lawful, beset_may_be, beset_shown, beset_there, beset_told, beset_view};
 ghost use Rattle.std.specs.Vec.{vec_len};
 ghost use Rattle.far_core.specs.state.CoreState.{core_state};
 ghost use Rattle.far_book.specs.Masked.{word_at};
@@ -20,6 +20,20 @@ impl Near for Beset {
     ghost view = { beset_view };
 
     ghost still = { ⊥ };
+
+    ghost may_be = { beset_may_be };
+
+    ghost makes = { TurnThen };
+
+    ghost lawful = { beset_lawful };
+
+    ghost shown = { beset_shown };
+
+    ghost there = { beset_there };
+
+    ghost alone = { beset_alone };
+
+    ghost told = { beset_told };
 
     fn see(&mut self, pointer: u16) -> u64 {
         self.turn();

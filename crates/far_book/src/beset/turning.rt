@@ -1,10 +1,10 @@
 //! What owners do before a call.
 
-ghost use Rattle.std.specs.Prelude.{◌≡◌, ◌+◌, true, slice_get, IsSome};
+ghost use Rattle.std.specs.Prelude.{◌≡◌, true};
 ghost use Rattle.far_core.specs.events.Step.{step_of};
 ghost use Rattle.far_core.specs.state.CoreState.{core_state};
-ghost use Rattle.far_book.specs.BesetView.{beset_view};
-ghost use Rattle.far_book.specs.Owners.{OwnersChange, after_turn, is_owners};
+ghost use Rattle.far_book.specs.BesetView.{beset_view, next_event, passed, turned};
+ghost use Rattle.far_book.specs.Owners.{OwnersChange, is_owners};
 
 use crate::beset::Beset;
 use crate::owners::is_owners;
@@ -14,9 +14,9 @@ impl Beset {
     /// Owners make the next event of the list, if it is one of theirs and legal. The book doesn't see it.
     pub(crate) fn turn(&mut self)
         ensures view { beset_view self.new ≡ beset_view self.old }
-        ensures made { core_state self.new.core ≡ after_turn (core_state self.old.core) (slice_get self.old.events.items self.old.made) }
+        ensures made { core_state self.new.core ≡ turned self.old }
         ensures events { self.new.events ≡ self.old.events }
-        ensures next { IsSome (slice_get self.old.events.items self.old.made) → self.new.made ≡ self.old.made + 1 }
+        ensures next { self.new.made ≡ passed (next_event self.old) self.old.made }
         ensures change { OwnersChange (core_state self.old.core) (core_state self.new.core) }
     {
         let Some(event) = self.events.get(self.made).copied() else {

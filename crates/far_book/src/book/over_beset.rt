@@ -1,27 +1,32 @@
 //! The book over a beset hand: what the core shows.
 
 ghost use Rattle.std.specs.Prelude.{◌≡◌, ◌<◌, ℕ, true};
+ghost use Rattle.far_core.specs.declared.event.Event.{Event as event};
+ghost use Rattle.far_core.specs.events.Step.{Fits, step_of};
 ghost use Rattle.far_core.specs.state.Agrees.{Agrees};
 ghost use Rattle.far_core.specs.state.CoreState.{core_state};
 ghost use Rattle.far_core.specs.state.Law.{Law};
-ghost use Rattle.far_book.specs.BesetView.{beset_view};
-ghost use Rattle.far_book.specs.MayBe.{NoneViews, Shows, ViewsNone};
+ghost use Rattle.far_core.specs.state.State.{State};
+ghost use Rattle.far_book.specs.BesetView.{beset_may_be, beset_view};
+ghost use Rattle.far_book.specs.MayBe.{NoneViews, ViewsNone};
+ghost use Rattle.far_book.specs.Owners.{is_owners};
 
 use crate::beset::Beset;
 use crate::book::Book;
 use far_device::Device;
 
 impl<D: Device + Drop> Book<Beset, D> {
-    /// The core keeps the whole law, what owners change included, and its views rest on words that it says they may. What the
-    /// book knows of it is so.
+    /// The core keeps the whole law, what owners change included, and its views rest on words that it says they may. It is a
+    /// state that the words may be in, as far as the hand knows: so the book's view is right about it.
     ///
-    /// An owner who was seen clear views nothing in the round's logs; where all were, nobody does.
+    /// An owner who was seen clear views nothing in the round's logs; where all were, nobody does. What an owner makes of a state that may be is one too.
     pub fn core_keeps_law(&self)
         ensures law { Law (core_state self.now.near.core) }
         ensures agrees { Agrees (core_state self.now.near.core) }
-        ensures shown { Shows (beset_view self.now.near) (core_state self.now.near.core) }
+        ensures may_be { beset_may_be self.now.near (core_state self.now.near.core) }
         ensures clear { (m : ℕ) → (beset_view self.now.near).clear m ≡ true → ViewsNone (beset_view self.now.near).round m (core_state self.now.near.core) }
         ensures unviewed { ((m : ℕ) → m < (beset_view self.now.near).mutators → (beset_view self.now.near).clear m ≡ true) →
             NoneViews (beset_view self.now.near).round (core_state self.now.near.core) }
+        ensures acts { (x : State) (e : event) → is_owners e ≡ true → Fits e → beset_may_be self.now.near x → beset_may_be self.now.near (step_of x e).0 }
     {}
 }

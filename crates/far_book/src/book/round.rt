@@ -86,6 +86,7 @@ impl<N: Near + Drop, D: Device + Drop> Book<N, D> {
         ensures exact { N.still → result ≡ (N.view self.old.near).scope owner }
         ensures set { N.still → N.view self.new.near ≡ after (N.view self.old.near) (Event.Look owner) }
         ensures ran { N.still → Does (N.view self.old.near) (Steps (Event.Look owner)) (N.view self.new.near) }
+        ensures saw { ∥ ((x : State) × N.may_be self.new.near x × (x.scope owner ≡ result)) ∥₁ }
         ensures order { self.new.order ≡ self.old.order }
         ensures device { self.new.device ≡ self.old.device }
     {

@@ -4,9 +4,13 @@ ghost use Rattle.std.specs.Prelude.{◌≡◌, ◌≢◌, ◌<◌, ◌≤◌, �
 ghost use Rattle.far_word.specs.declared.refused.Refused.TheVariants.{Phase as WrongPhase};
 ghost use Rattle.far_word.specs.Scope.{scope_of};
 ghost use Rattle.far_core.specs.events.Look.{shows_clear};
+ghost use Rattle.far_core.specs.state.State.{State};
+ghost use Rattle.far_book.specs.MayBe.{NoneViews};
 ghost use Rattle.far_evac.specs.AnyHand.{Polls};
 ghost use Rattle.far_evac.specs.EvacOf.{moment};
+ghost use Rattle.far_evac.specs.RoundSteps.{among};
 ghost use Rattle.far_evac.specs.Waiting.{Looked, after_polling, polled};
+ghost use Rattle.far_evac.specs.declared.answers.Polled.TheVariants.{Clear};
 ghost use Rattle.far_evac.specs.declared.phase.Phase.TheVariants as phase;
 
 use crate::answers::Polled;
@@ -18,12 +22,14 @@ use far_word::{Refused, ScopeWord};
 
 impl<N: Near + Drop, D: Device + Drop> Evac<N, D> {
     /// Looks at the scopes of the owners that weren't seen clear in this round, in order: one that is closed, or open since the epoch
-    /// rose, is clear from then on. [`Polled::Clear`] where all are, and the objects may leave then; else the first other.
+    /// rose, is clear from then on. [`Polled::Clear`] where all are: nobody views anything in the chosen logs then, in whatever state the words may be beside the
+    /// hand, and the objects may leave. Else the first other.
     ///
     /// Refused [`Refused::Phase`] exactly where the round isn't waiting; nothing has changed then. It never blocks.
     pub fn poll_wait(&mut self) -> Result<Polled, Refused>
         ensures polls { IfOk result (λ answer. Polls (moment N.view self.old) (moment N.view self.new) answer) }
         ensures exact { N.still → IfOk result (λ answer. (moment N.view self.new ≡ after_polling (moment N.view self.old)) × (answer ≡ polled (N.view self.old.book.near))) }
+        ensures unviewed { IfOk result (λ answer. answer ≡ Clear → (x : State) → N.may_be self.new.book.near x → NoneViews (among self.new.held) x) }
         ensures device { self.new.book.device ≡ self.old.book.device }
         ensures waiting { IfOk result (λ _. self.old.phase ≡ phase.Waiting) }
         ensures refused { IfErr result (λ why. (why ≡ WrongPhase) × (self.old.phase ≢ phase.Waiting)) }
@@ -40,6 +46,7 @@ impl<N: Near + Drop, D: Device + Drop> Evac<N, D> {
                 self.round.phase = Phase::Evacuating;
                 self.round.index = 0;
                 self.round.at = 0;
+                self.nobody_views();
             }
         }
         Ok(answer)

@@ -12,6 +12,10 @@ use Rattle.far_book.specs.Rounds.{MayChoose}
 use Rattle.far_book.proofs.Counting.{counts_none}
 use Rattle.far_book.proofs.Reading.{forgets, header_known}
 use Rattle.far_book.proofs.RoundSteps.{may_advance}
+use Rattle.far_core.specs.declared.event.Reply.TheVariants.{Epoch, Refused}
+use Rattle.far_book.proofs.Making.{spent_made}
+use Rattle.far_book.specs.MayBe.{Made}
+use Rattle.far_book.proofs.Making.{turn_may_be, turned_made}
 use Rattle.far_book.proofs.beset.hand.BesetNear.advance.Goals as goal
 
 pub advance-epoch-requires : goal.advance-epoch-requires
@@ -40,6 +44,14 @@ returns-then-not-may_rise c = record {
   refused = (refl, ap (λ (u : State). u.epoch + 1) (sym c.turn.ensures.view) ∙ c.may_rise.ensures.spent c.if-not-may_rise.true);
   unchanged = c.turn.ensures.view;
   set = λ x. absurd x;
+  made = tt;
+  spent = let hand = c.turn.new.self in record {
+    turn = turn_may_be c.args.self.now hand c.turn.ensures.view c.turn.ensures.made c.turn.ensures.change;
+    call = subst (λ (u : State). Made u (Advance c.args.logs) Refused (core_state hand.core)) c.turn.ensures.made
+        (spent_made (core_state hand.core) (core_state hand.core) c.args.logs hand.core.law refl (c.may_rise.ensures.spent c.if-not-may_rise.true));
+    list = c.turn.ensures.events;
+    past = c.turn.ensures.next;
+  };
 }
 
 pub returns : goal.returns
@@ -57,6 +69,8 @@ returns c =
     let bare = forgets (masked s found counted) (masked (advanced s logs) found (λ _. false)) s.starts refl s.word refl (λ a st. sym (header_known s.word s.starts counted a st)) in
     let old = subst (λ (o : State). Forgets o (masked (advanced s logs) found (λ _. false))) c.turn.ensures.view bare in
     let forgot = subst (λ (k : ℕ → Bool). Forgets (beset_view c.args.self.now) (masked (advanced s logs) found k)) (sym c.forget.ensures.none) old in
+    let chosen : MayChoose (beset_view hand) logs = subst (λ (u : State). MayChoose u logs) (sym c.turn.ensures.view) c.requires.chosen in
+    let own = may_advance s found counted logs hand.finds (c.may_rise.ensures.rises c.if-not-may_rise.false) chosen in
     record {
       epoch = (sym is ∙ ap (λ (u : State). u.epoch + 1) c.turn.ensures.view, subst (λ n. n < EPOCH_END) is (c.may_rise.ensures.rises c.if-not-may_rise.false));
       kept = subst (λ (u : State). masked u found later ≡ record (after (beset_view c.args.self.now) (Advance logs)) { word = (masked u found later).word }) (sym c.advance-epoch.ensures.state) kept;
@@ -64,4 +78,11 @@ returns c =
       refused = tt;
       unchanged = tt;
       set = λ x. absurd x;
+      made = record {
+        turn = turn_may_be c.args.self.now hand c.turn.ensures.view c.turn.ensures.made c.turn.ensures.change;
+        call = turned_made c.args.self.now hand (Advance logs) (Epoch c.advance-epoch.result) (core_state c.advance-epoch.new.self) c.turn.ensures.made own c.advance-epoch.ensures.state c.advance-epoch.ensures.epoch;
+        list = c.turn.ensures.events;
+        past = c.turn.ensures.next;
+      };
+      spent = tt;
     }

@@ -10,6 +10,10 @@ use Rattle.far_book.specs.Known.{Forgets}
 use Rattle.far_book.specs.Masked.{masked, word_at, is_counted, AllFind, CountsOnQuiet}
 use Rattle.far_book.proofs.Counting.{counts_none, finds_named}
 use Rattle.far_book.proofs.Reading.{forgets, header_known}
+use Rattle.far_core.specs.declared.event.Reply.TheVariants.{Word}
+use Rattle.far_core.specs.events.Legal.{Legal}
+use Rattle.far_book.proofs.Finding.{near_found}
+use Rattle.far_book.proofs.Making.{turn_may_be, turned_made}
 use Rattle.far_book.proofs.beset.hand.BesetNear.clear.Goals as goal
 
 pub invariant_of-self : goal.invariant_of-self
@@ -41,3 +45,19 @@ returns-clause-forgot c =
     let old = subst (λ (o : State). Forgets o (masked next found (λ _. false))) c.turn.ensures.view bare in
     let none = subst (λ (k : ℕ → Bool). Forgets (beset_view c.args.self.now) (masked next found k)) (sym c.forget.ensures.none) old in
     subst (λ (u : State). Forgets (beset_view c.args.self.now) (masked u found (is_counted c.forget.new.counted.items))) (sym c.clear-cell.ensures.state) none
+
+pub returns-clause-made : goal.returns-clause-made
+returns-clause-made c =
+    let hand = c.turn.new.self in
+    let s = core_state hand.core in
+    let p = c.args.pointer in
+    let legal : Legal (beset_view hand) (Clear p) = subst (λ (u : State). Legal u (Clear p)) (sym c.turn.ensures.view) c.requires.legal in
+    let near = legal.1 in
+    let x = near_found (word_at hand.found.items p) (s.cell p) (hand.finds p) near.0 near.1 near.2 near.3 near.4 in
+    let own : Legal s (Clear p) = (legal.0, (near.0, near.1, near.2, x.marks, x.near)) in
+    record {
+      turn = turn_may_be c.args.self.now hand c.turn.ensures.view c.turn.ensures.made c.turn.ensures.change;
+      call = turned_made c.args.self.now hand (Clear p) (Word c.clear-cell.result) (core_state c.clear-cell.new.self) c.turn.ensures.made own c.clear-cell.ensures.state c.clear-cell.ensures.word;
+      list = c.turn.ensures.events;
+      past = c.turn.ensures.next;
+    }

@@ -9,6 +9,8 @@ use Rattle.far_book.specs.BesetView.{beset_view}
 use Rattle.far_book.specs.Masked.{masked, word_at, is_counted, recounted, AllFind, CountsOnQuiet}
 use Rattle.far_book.proofs.Counting.{counts_read}
 use Rattle.far_book.proofs.Reading.{Gets, gets, may_free, stays_after}
+use Rattle.far_core.specs.declared.event.Reply.TheVariants.{Word}
+use Rattle.far_book.proofs.Making.{turn_may_be, turned_made}
 use Rattle.far_book.proofs.beset.hand.BesetNear.get.Goals as goal
 
 pub get-word-requires : goal.get-word-requires
@@ -51,6 +53,8 @@ returns c =
     let old = subst (λ (o : State). Gets o (masked (after_get s c.args.log free) found (recounted counted free c.is_quiet_at-quiet.result a)) c.args.log c.args.at free (s.word a)) c.turn.ensures.view tells in
     let both = subst (λ (v : State). Gets (beset_view c.args.self.now) v c.args.log c.args.at free (s.word a)) (sym new) old in
     let all = subst (λ w. Gets (beset_view c.args.self.now) (masked (core_state c.get-word.new.self) found (is_counted c.recount.new.counted.items)) c.args.log c.args.at free w) word both in
+    let legal : Legal (beset_view hand) (Get c.args.log c.args.at free) = subst (λ (u : State). Legal u (Get c.args.log c.args.at free)) (sym c.turn.ensures.view) c.requires.legal in
+    let own : Legal s (Get c.args.log c.args.at free) = (legal.0, legal.1, may_free s found counted c.args.log free hand.finds legal.2) in
     record {
       known = all.known;
       padding = all.padding;
@@ -62,4 +66,10 @@ returns c =
       rest = all.rest;
       exact = λ x. absurd x;
       set = λ x. absurd x;
+      made = record {
+        turn = turn_may_be c.args.self.now hand c.turn.ensures.view c.turn.ensures.made c.turn.ensures.change;
+        call = turned_made c.args.self.now hand (Get c.args.log c.args.at free) (Word c.get-word.result) (core_state c.get-word.new.self) c.turn.ensures.made own c.get-word.ensures.state c.get-word.ensures.word;
+        list = c.turn.ensures.events;
+        past = c.turn.ensures.next;
+      };
     }

@@ -8,6 +8,11 @@ use Rattle.far_book.specs.BesetView.{beset_view}
 use Rattle.far_book.specs.Masked.{masked, word_at, is_counted, AllFind, CountsOnQuiet}
 use Rattle.far_book.specs.Rounds.{IsScopeAt, looked_at}
 use Rattle.far_book.proofs.RoundSteps.{counts_looked, scope_at}
+use Rattle.far_core.specs.declared.event.Event.TheVariants.{Look}
+use Rattle.far_core.specs.declared.event.Reply.TheVariants.{Word}
+use Rattle.far_core.specs.events.Legal.{Legal}
+use Rattle.far_book.specs.MayBe.{beside_itself}
+use Rattle.far_book.proofs.Making.{turn_may_be, turned_made}
 use Rattle.far_book.proofs.beset.hand.BesetNear.look.Goals as goal
 
 pub invariant_of-self : goal.invariant_of-self
@@ -31,6 +36,7 @@ returns c =
     let found = word_at hand.found.items in
     let counted = is_counted hand.counted.items in
     let is : s.scope c.args.owner ≡ c.look.result = cc in
+    let legal : Legal (beset_view hand) (Look c.args.owner) = subst (λ (u : State). Legal u (Look c.args.owner)) (sym c.turn.ensures.view) c.requires.legal in
     record {
       scope = subst (λ (u : State). IsScopeAt u.epoch c.look.result) c.turn.ensures.view (scope_at s hand.core.law c.args.owner c.look.result is);
       kept = ap (λ (u : State). masked u found counted) c.look.ensures.state
@@ -38,4 +44,11 @@ returns c =
           ∙ ap (λ (u : State). looked_at u c.args.owner c.look.result) c.turn.ensures.view);
       exact = λ x. absurd x;
       set = λ x. absurd x;
+      made = record {
+        turn = turn_may_be c.args.self.now hand c.turn.ensures.view c.turn.ensures.made c.turn.ensures.change;
+        call = turned_made c.args.self.now hand (Look c.args.owner) (Word c.look.result) (core_state c.look.new.self) c.turn.ensures.made legal c.look.ensures.state c.look.ensures.word;
+        list = c.turn.ensures.events;
+        past = c.turn.ensures.next;
+      };
+      saw = ∣ (core_state c.look.new.self, beside_itself (core_state c.look.new.self) found counted c.look.new.self.law (subst (λ (u : State). AllFind found u.cell) (sym c.look.ensures.state) hand.finds), ap (λ (u : State). u.scope c.args.owner) c.look.ensures.state ∙ is) ∣₁;
     }

@@ -7,7 +7,9 @@ use Rattle.far_core.specs.state.State.{State, put}
 use Rattle.far_book.specs.BesetView.{beset_view}
 use Rattle.far_book.specs.Masked.{word_at, is_counted, AllFind, CountsOnQuiet}
 use Rattle.far_book.proofs.Counting.{finds_named}
-use Rattle.far_book.proofs.EvacMarks.{with_evac, counts_marked}
+use Rattle.far_book.proofs.EvacMarks.{with_evac, counts_marked, legal_mark}
+use Rattle.far_core.specs.declared.event.Reply.TheVariants.{Word}
+use Rattle.far_book.proofs.Making.{turn_may_be, turned_made}
 use Rattle.far_book.proofs.beset.hand.BesetNear.mark.Goals as goal
 
 pub invariant_of-self : goal.invariant_of-self
@@ -28,4 +30,16 @@ invariant_of-self c =
       counted_sized = hand.counted_sized ∙ ap (λ (u : State). LOG_WORDS * u.logs) (sym c.mark-cell.ensures.state);
       finds = subst (λ (u : State). AllFind (word_at c.find.new.found.items) u.cell) (sym c.mark-cell.ensures.state) finds;
       counts = subst (λ (u : State). CountsOnQuiet u.round u.clear (word_at c.find.new.found.items) counted) (sym c.mark-cell.ensures.state) counts;
+    }
+
+pub returns-clause-made : goal.returns-clause-made
+returns-clause-made c =
+    let hand = c.turn.new.self in
+    let legal : Legal (beset_view hand) (Mark c.args.pointer) = subst (λ (u : State). Legal u (Mark c.args.pointer)) (sym c.turn.ensures.view) c.requires.legal in
+    let own = legal_mark (core_state hand.core) hand.core.law (word_at hand.found.items) (is_counted hand.counted.items) hand.finds c.args.pointer legal in
+    record {
+      turn = turn_may_be c.args.self.now hand c.turn.ensures.view c.turn.ensures.made c.turn.ensures.change;
+      call = turned_made c.args.self.now hand (Mark c.args.pointer) (Word c.mark-cell.result) (core_state c.mark-cell.new.self) c.turn.ensures.made own c.mark-cell.ensures.state c.mark-cell.ensures.word;
+      list = c.turn.ensures.events;
+      past = c.turn.ensures.next;
     }

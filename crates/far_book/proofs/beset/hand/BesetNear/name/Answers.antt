@@ -12,6 +12,8 @@ use Rattle.far_book.specs.Masked.{masked, word_at, is_counted, AllFind, CountsOn
 use Rattle.far_book.proofs.Counting.{counts_found, counts_none, finds_named, finds_put}
 use Rattle.far_book.proofs.Finding.{finds_seen}
 use Rattle.far_book.proofs.Naming.{Names, legal_name, names, cells_named, sizes_named, won, lost, lost_word, lost_state}
+use Rattle.far_core.specs.declared.event.Reply.TheVariants.{Done, Word}
+use Rattle.far_book.proofs.Making.{turn_may_be, turned_made}
 use Rattle.far_book.proofs.beset.hand.BesetNear.name.Goals as goal
 
 pub name-requires : goal.name-requires
@@ -116,3 +118,31 @@ returns-in-Err-clause-found c =
     let p = c.args.pointer in
     let seen : c.args.old ≡ found p = c.requires.seen ∙ ap (λ (u : State). u.cell p) (sym c.turn.ensures.view) in
     subst (λ v. Finds v c.in-Err.found) (sym seen) (finds_seen found s.cell p c.in-Err.found hand.finds (lost_word s p c.args.old c.args.new c.in-Err.found c.in-Err.ensures.found))
+
+pub returns-in-Ok-clause-made : goal.returns-in-Ok-clause-made
+returns-in-Ok-clause-made c =
+    let hand = c.turn.new.self in
+    let s = core_state hand.core in
+    let p = c.args.pointer in
+    let legal : Legal (beset_view hand) (Name p c.args.old c.args.new) = subst (λ (u : State). Legal u (Name p c.args.old c.args.new)) (sym c.turn.ensures.view) c.requires.legal in
+    let own = legal_name s hand.core.law (word_at hand.found.items) (is_counted hand.counted.items) hand.finds p c.args.old c.args.new legal.0 c.ranges.new.fits legal in
+    record {
+      turn = turn_may_be c.args.self.now hand c.turn.ensures.view c.turn.ensures.made c.turn.ensures.change;
+      call = turned_made c.args.self.now hand (Name p c.args.old c.args.new) Done (core_state c.name.new.self) c.turn.ensures.made own c.name.ensures.state c.in-Ok.ensures.won;
+      list = c.turn.ensures.events;
+      past = c.turn.ensures.next;
+    }
+
+pub returns-in-Err-clause-lost : goal.returns-in-Err-clause-lost
+returns-in-Err-clause-lost c =
+    let hand = c.turn.new.self in
+    let s = core_state hand.core in
+    let p = c.args.pointer in
+    let legal : Legal (beset_view hand) (Name p c.args.old c.args.new) = subst (λ (u : State). Legal u (Name p c.args.old c.args.new)) (sym c.turn.ensures.view) c.requires.legal in
+    let own = legal_name s hand.core.law (word_at hand.found.items) (is_counted hand.counted.items) hand.finds p c.args.old c.args.new legal.0 c.ranges.new.fits legal in
+    record {
+      turn = turn_may_be c.args.self.now hand c.turn.ensures.view c.turn.ensures.made c.turn.ensures.change;
+      call = turned_made c.args.self.now hand (Name p c.args.old c.args.new) (Word c.in-Err.found) (core_state c.name.new.self) c.turn.ensures.made own c.name.ensures.state c.in-Err.ensures.found;
+      list = c.turn.ensures.events;
+      past = c.turn.ensures.next;
+    }
