@@ -1,7 +1,10 @@
 use Rattle.std.proofs.Common.{◌∙◌, ap, sym, refl, subst}
+use Rattle.std.specs.Prelude.{Err}
 use Rattle.far_core.specs.state.Law.{Law}
+use Rattle.far_book.specs.book.Asking.{AsksToEvict}
 use Rattle.far_book.specs.book.Own.{own_part}
 use Rattle.far_evac.specs.declared.phase.Phase.TheVariants.{Evacuating}
+use Rattle.far_evac.specs.Asked.{AsksAs}
 use Rattle.far_evac.specs.Cursor.{IsNextLeaving}
 use Rattle.far_evac.specs.EvacOf.{EvacOf, moment}
 use Rattle.far_evac.specs.Leaving.{LeavesBy, standing}
@@ -56,3 +59,11 @@ returns-in-Ok-clause-dealt g c =
     let leaves = subst (λ (e : EvacOf g.row.N.Denot g.row.D.Denot). LeavesBy (view e.book.near) e.book.order t c.send_off.new.book.order c.args.span.p c.in-Ok.fate) c.self.view_is c.in-Ok.ensures.leaves in
     dealt_known (standing view c.args.self.now c.args.progress.now) (record { core = t; order = c.send_off.new.book.order; phase = Evacuating; held = held_in c.self.inside.round })
     (tally_of c.count.new.progress) c.args.span.p c.in-Ok.fate leaves refl (ap (λ (e : EvacOf g.row.N.Denot g.row.D.Denot). e.held) c.self.view_is) (ap tally_of c.count.ensures)
+
+pub returns-in-Ok-clause-asked : goal.returns-in-Ok-clause-asked
+returns-in-Ok-clause-asked g c =
+    (c.in-Ok.fate, subst (λ (e : EvacOf g.row.N.Denot g.row.D.Denot). AsksAs g.row.D.Denot g.D.Device.writes g.D.Device.lets_go c.args.span.p c.in-Ok.fate e.book.device c.send_off.new.book.device) c.self.view_is c.in-Ok.ensures.asked)
+
+pub returns-in-Err-clause-refused : goal.returns-in-Err-clause-refused
+returns-in-Err-clause-refused g c =
+    subst (λ (e : EvacOf g.row.N.Denot g.row.D.Denot). AsksToEvict g.row.D.Denot g.D.Device.writes g.D.Device.lets_go (g.N.Near.view e.book.near) c.args.span.p (Err c.in-Err.why) e.book.device c.send_off.new.book.device) c.self.view_is c.in-Err.ensures.refused
