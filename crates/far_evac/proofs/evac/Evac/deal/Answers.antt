@@ -7,7 +7,7 @@ use Rattle.far_evac.specs.declared.phase.Phase.TheVariants.{Evacuating}
 use Rattle.far_evac.specs.Asked.{AsksAs}
 use Rattle.far_evac.specs.Cursor.{IsNextLeaving}
 use Rattle.far_evac.specs.EvacOf.{EvacOf, moment}
-use Rattle.far_evac.specs.Leaving.{LeavesBy, standing}
+use Rattle.far_evac.specs.Leaving.{LeavesAs, LeavesBy, standing}
 use Rattle.far_evac.specs.Moment.{tally_of}
 use Rattle.far_evac.specs.MomentLaw.{has_risen}
 use Rattle.far_evac.specs.Ready.{Ready}
@@ -15,7 +15,7 @@ use Rattle.far_evac.specs.Standing.{held_in}
 use Rattle.far_evac.proofs.Keeping.{round_found}
 use Rattle.far_evac.proofs.Readiness.{risen_is_ready}
 use Rattle.far_evac.proofs.SendingOff.{Wanted, first_wanted}
-use Rattle.far_evac.proofs.WalkingOn.{dealt_known, walks_on}
+use Rattle.far_evac.proofs.WalkingOn.{dealt_exact, dealt_known, walks_on}
 use Rattle.far_evac.proofs.evac.Evac.deal.Goals as goal
 
 pub send_off-requires-clause-pointer : goal.send_off-requires-clause-pointer
@@ -59,6 +59,18 @@ returns-in-Ok-clause-dealt g c =
     let leaves = subst (λ (e : EvacOf g.row.N.Denot g.row.D.Denot). LeavesBy (view e.book.near) e.book.order t c.send_off.new.book.order c.args.span.p c.in-Ok.fate) c.self.view_is c.in-Ok.ensures.leaves in
     dealt_known (standing view c.args.self.now c.args.progress.now) (record { core = t; order = c.send_off.new.book.order; phase = Evacuating; held = held_in c.self.inside.round })
     (tally_of c.count.new.progress) c.args.span.p c.in-Ok.fate leaves refl (ap (λ (e : EvacOf g.row.N.Denot g.row.D.Denot). e.held) c.self.view_is) (ap tally_of c.count.ensures)
+
+pub returns-in-Ok-clause-exact : goal.returns-in-Ok-clause-exact
+returns-in-Ok-clause-exact g c still =
+    let view = g.N.Near.view in
+    let t = view c.send_off.new.book.near in
+    let p = c.args.span.p in
+    let leaves = subst (λ (e : EvacOf g.row.N.Denot g.row.D.Denot). LeavesAs (view e.book.near) e.book.order t c.send_off.new.book.order p ((view e.book.near).cell p) c.in-Ok.fate) c.self.view_is
+        (c.in-Ok.ensures.exact still) in
+    dealt_exact (standing view c.args.self.now c.args.progress.now) (record {
+      moment = record { core = t; order = c.send_off.new.book.order; phase = Evacuating; held = held_in c.self.inside.round };
+      tally = tally_of c.count.new.progress;
+    }) p ((view c.args.self.now.book.near).cell p) c.in-Ok.fate leaves refl (ap (λ (e : EvacOf g.row.N.Denot g.row.D.Denot). e.held) c.self.view_is) (ap tally_of c.count.ensures)
 
 pub returns-in-Ok-clause-asked : goal.returns-in-Ok-clause-asked
 returns-in-Ok-clause-asked g c =
