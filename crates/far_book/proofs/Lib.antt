@@ -8,4 +8,5 @@ pub mod OwnersWork
 pub mod Quietness
 pub mod Reading
 pub mod RoundSteps
+pub mod Unviewed
 pub mod region

@@ -3,6 +3,7 @@ pub mod Cleared
 pub mod Finds
 pub mod Known
 pub mod Masked
+pub mod MayBe
 pub mod Owners
 pub mod Quiet
 pub mod Rounds

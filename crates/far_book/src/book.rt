@@ -39,6 +39,7 @@ mod fetching;
 mod leaving;
 mod moving;
 mod next;
+mod over_beset;
 mod over_plain;
 mod renaming;
 mod round;

@@ -1,6 +1,6 @@
 -- What a walk asks of the device, one object more; and which keys it leaves.
-use Rattle.std.proofs.Common.{◌≡◌, ◌≢◌, ◌∙◌, ℕ, ◌+◌, suc, List, [], ◌∷◌, ◌++◌, Option, Some, None, arith, ap, sym, refl, subst, inl, inr, take, drop}
-use Rattle.std.specs.Prelude.{Bool, true, false, Result, Ok, Err, IfNone, IfSome}
+use Rattle.std.proofs.Common.{◌≡◌, ◌≢◌, ◌∙◌, ℕ, ◌+◌, suc, List, [], ◌∷◌, ◌++◌, Option, Some, None, arith, ap, sym, refl, subst, inl, inr, take}
+use Rattle.std.specs.Prelude.{true, false, Result, Ok, Err, IfNone, IfSome}
 use Rattle.std.specs.List.{AllByRecursion}
 use Rattle.far_word.specs.declared.pointer.Place.{Place}
 use Rattle.far_device.specs.Contents.{KeepsOthers}
@@ -15,7 +15,7 @@ use Rattle.far_book.specs.book.Dealing.{IsSeen}
 use Rattle.far_book.specs.book.Renaming.{seen}
 use Rattle.far_book.proofs.Finding.{finds_more, near_known}
 use Rattle.far_evac.specs.declared.evac.evacuating.Fate.{Fate}
-use Rattle.far_evac.specs.declared.evac.evacuating.Fate.TheVariants.{Dropped, Far, Moved}
+use Rattle.far_evac.specs.declared.evac.evacuating.Fate.TheVariants.{Dropped, Far}
 use Rattle.far_evac.specs.AnyHand.{WalksTo}
 use Rattle.far_evac.specs.Asked.{AsksAs, AsksForAll, EndsInWrite, IsRefusedWrite, KeepsKeys, first_live}
 use Rattle.far_evac.specs.Leaving.{near_fate}

@@ -46,10 +46,10 @@ free_unsealed kinds.Open h e = absurd (false≢true h)
 free_unsealed kinds.Sealed h e = absurd (false≢true h)
 
 module _ (s : State) where
-  abbrev IsFreeLog : ℕ → Type 0
+  abbrev pub IsFreeLog : ℕ → Type 0
   IsFreeLog l = (l < s.logs) × (is_free (s.kind l) ≡ true)
 
-  frees : (a n : ℕ) → a + n ≤ s.logs → AllByRecursion IsFreeLog (filter (λ l. is_free (s.kind l)) (range_with_len a n))
+  pub frees : (a n : ℕ) → a + n ≤ s.logs → AllByRecursion IsFreeLog (filter (λ l. is_free (s.kind l)) (range_with_len a n))
   frees a zero le = tt
   frees a (suc n) le = let more : a + 1 + n ≤ s.logs = omega (arith, le) in
       cond_both (is_free (s.kind a)) (a ∷ filter (λ l. is_free (s.kind l)) (range_with_len (a + 1) n)) (filter (λ l. is_free (s.kind l)) (range_with_len (a + 1) n)) (AllByRecursion IsFreeLog)
@@ -100,11 +100,11 @@ module _ (s : State) (p : ℕ) where
     layout_still here there q = subst (λ f. OnLayout (f q)) (sym cell) (put_both OnLayout s.cell p new q (λ _. here) (λ _. there q))
 
 -- no word of these says a place
-free_gone : (l at : ℕ) → names_place (read_of 0) l at ≡ false
+pub free_gone : (l at : ℕ) → names_place (read_of 0) l at ≡ false
 unfolding read_of
 free_gone l at = refl
 
-free_place : (len ds : ℕ) (place : Place) (marks : Marks) → read_of 0 ≡ Some (Near len ds place marks) → ⊥
+pub free_place : (len ds : ℕ) (place : Place) (marks : Marks) → read_of 0 ≡ Some (Near len ds place marks) → ⊥
 unfolding read_of
 free_place len ds place marks e = absurd cc
 

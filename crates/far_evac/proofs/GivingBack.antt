@@ -8,7 +8,7 @@ use Rattle.std.proofs.lemmas.Map.Keys.{IsDistinct-tail}
 use Rattle.far_core.specs.declared.event.Kind.TheVariants as kinds
 use Rattle.far_core.specs.state.Law.{Law}
 use Rattle.far_core.specs.state.State.{State}
-use Rattle.far_core.proofs.Put.{put_other}
+use Rattle.far_core.proofs.Put.{put_other, put_same}
 use Rattle.far_book.specs.Known.{Forgets}
 use Rattle.far_book.specs.book.Own.{own_part}
 use Rattle.far_book.specs.book.Releasing.{released}
@@ -18,7 +18,7 @@ use Rattle.far_evac.specs.declared.phase.Phase.TheVariants.{Idle, Marking, Waiti
 use Rattle.far_evac.specs.declared.round.Round.{Round}
 use Rattle.far_evac.specs.AnyHand.{Knows}
 use Rattle.far_evac.specs.Live.{is_empty}
-use Rattle.far_evac.specs.MomentLaw.{is_idle}
+use Rattle.far_evac.specs.MomentLaw.{has_risen, is_idle}
 use Rattle.far_evac.specs.RoundSteps.{among}
 use Rattle.far_evac.specs.Standing.{InRound, held_in, held_of}
 use Rattle.far_evac.proofs.Given.{drop_next}
@@ -87,6 +87,16 @@ module _ (s t : State) (r : Round) (in_round : InRound s r) (law : Law (own_part
   held_among : (k : ℕ) → among (held_of r.phase r.chosen (r.index + 1)) k ≡ true → among ls k ≡ true
   held_among k h = sym (ap (λ ks. among ks k) held) ∙ h
 
+  -- the log that was given back is out of the round, and every other log of the round is held still
+  held_only : has_risen r.phase ≡ true → (k : ℕ) → t.round k ≡ true → among (held_of r.phase r.chosen (r.index + 1)) k ≡ true
+  held_only risen k is =
+      let then : (released s l).round k ≡ true = sym (ap (λ (u : State). u.round k) knows.rest) ∙ is in
+      elim (cases_eq k l) [
+        | inl e ↦ absurd (false≢true (sym (put_same s.round l false k e) ∙ then))
+        | inr ne ↦ ap (λ ks. among ks k) held ∙ sym (ap (λ b. b || among ls k) (ne_eqb k l ne)) ∙ sym (ap (λ ks. among ks k) front)
+            ∙ in_round.holds.only risen k (sym (put_other s.round l false k ne) ∙ then)
+      ]
+
   pub goes_on : is_empty ls ≡ false → InRound t (record r { index = r.index + 1; at = 0 })
   goes_on some = record {
     holds = record {
@@ -94,6 +104,7 @@ module _ (s t : State) (r : Round) (in_round : InRound s r) (law : Law (own_part
       once = subst (IsDistinct eqb) (sym held) (IsDistinct-tail eqb l ls once);
       runs = ap is_empty held ∙ some ∙ sym (ap is_idle walks);
       round = λ risen k h. ap (λ (u : State). u.round k) knows.rest ∙ put_other s.round l false k (apart k (held_among k h)) ∙ in_round.holds.round risen k (was_held k (held_among k h));
+      only = held_only;
       clear = λ leaves k lt. ap (λ (u : State). u.clear k) knows.rest ∙ in_round.holds.clear leaves k (subst (λ (u : State). k < u.mutators) knows.rest lt);
       later = λ marks. absurd (not_marking r.phase walks marks);
     };

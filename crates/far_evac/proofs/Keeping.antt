@@ -28,12 +28,14 @@ use Rattle.far_evac.specs.RoundSteps.{among}
 use Rattle.far_evac.specs.Standing.{Holds, InRound, Stands, held_in, held_of}
 use Rattle.far_evac.proofs.Bools.{or_left, or_right}
 
--- from s to t these logs stay as they were, but that objects may have left them; those that lie there lay there before, and have EVAC where they had it
+-- from s to t these logs stay as they were, but that objects may have left them; those that lie there lay there before, and have EVAC where they had it.
+-- No log has come into the round
 pub record KeepsLogs (s t : State) (logs : List ℕ) : Type 0 where
   pub kind : (l : ℕ) → among logs l ≡ true → t.kind l ≡ s.kind l
   pub tail : (l : ℕ) → among logs l ≡ true → t.tail l ≡ s.tail l
   pub starts : (l at : ℕ) → among logs l ≡ true → at < s.tail l → t.starts (l * LOG_WORDS + at) ≡ s.starts (l * LOG_WORDS + at)
   pub round : (l : ℕ) → among logs l ≡ true → t.round l ≡ s.round l
+  pub only : (l : ℕ) → t.round l ≡ true → s.round l ≡ true
   pub near : (p len ds : ℕ) (place : Place) (marks : Marks) → read_of (t.cell p) ≡ Some (Near len ds place marks) → among logs place.log ≡ true →
       (old : Marks) × (read_of (s.cell p) ≡ Some (Near len ds place old)) × (marks.evac ≡ old.evac)
   pub clear : (k : ℕ) → t.clear k ≡ s.clear k
@@ -71,6 +73,7 @@ module _ (s t : State) (r : Round) (keeps : KeepsLogs s t (held_in r)) (in_round
     once = h.once;
     runs = h.runs;
     round = λ risen l held. keeps.round l held ∙ h.round risen l held;
+    only = λ risen l is. h.only risen l (keeps.only l is);
     clear = λ leaves k lt. keeps.clear k ∙ h.clear leaves k (subst (λ n. k < n) keeps.mutators lt);
     later = λ marks. subst (λ e. e + 1 < EPOCH_END) (sym keeps.epoch) (h.later marks);
   }
@@ -117,6 +120,7 @@ keeps_more s t u logs f g = record {
   tail = λ l h. g.tail l h ∙ f.tail l h;
   starts = λ l at h lt. g.starts l at h (subst (λ n. at < n) (sym (f.tail l h)) lt) ∙ f.starts l at h lt;
   round = λ l h. g.round l h ∙ f.round l h;
+  only = λ l is. f.only l (g.only l is);
   near = λ p len ds place marks near h.
       let then = g.near p len ds place marks near h in
       let first = f.near p len ds place then.0 then.1 h in
@@ -133,6 +137,7 @@ keeps_known s t logs known = record {
   tail = λ l h. ap (λ (u : State). u.tail l) known.rest;
   starts = λ l at h lt. ap (λ (u : State). u.starts (l * LOG_WORDS + at)) known.rest;
   round = λ l h. ap (λ (u : State). u.round l) known.rest;
+  only = λ l is. sym (ap (λ (u : State). u.round l) known.rest) ∙ is;
   near = λ p len ds place marks near h. let x = near_known (s.cell p) (t.cell p) (known.found p) len ds place marks near in (x.marks, x.near, sym x.same);
   clear = λ k. ap (λ (u : State). u.clear k) known.rest;
   mutators = ap (λ (u : State). u.mutators) known.rest;
@@ -146,6 +151,7 @@ keeps_sealed s t logs sealed keeps = record {
   tail = λ l h. keeps.tail l (sealed l h);
   starts = λ l at h lt. keeps.starts l at (sealed l h) lt;
   round = λ l h. ap (λ round. round l) keeps.round;
+  only = λ l is. sym (ap (λ (round : ℕ → Bool). round l) keeps.round) ∙ is;
   near = λ p len ds place marks near h. keeps.near p len ds place marks near (sealed place.log h);
   clear = λ k. ap (λ clear. clear k) keeps.clear;
   mutators = keeps.mutators;
@@ -168,6 +174,7 @@ keeps_owners s t logs change = record {
   tail = λ l h. ap (λ (u : State). u.tail l) change.rest;
   starts = λ l at h lt. ap (λ (u : State). u.starts (l * LOG_WORDS + at)) change.rest;
   round = λ l h. ap (λ (u : State). u.round l) change.rest;
+  only = λ l is. sym (ap (λ (u : State). u.round l) change.rest) ∙ is;
   near = λ p len ds place marks near h. let x = near_known (s.cell p) (t.cell p) (change.cells p) len ds place marks near in (x.marks, x.near, sym x.same);
   clear = λ k. ap (λ (u : State). u.clear k) change.rest;
   mutators = ap (λ (u : State). u.mutators) change.rest;
@@ -185,6 +192,7 @@ module _ (logs : List ℕ) (m p first : ℕ) (words : List ℕ) where
     tail = λ l h. refl;
     starts = λ l at h lt. refl;
     round = λ l h. refl;
+    only = λ l is. is;
     near = λ q len ds place marks near h. (marks, near, refl);
     clear = λ k. refl;
     mutators = refl;

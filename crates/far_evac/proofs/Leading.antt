@@ -82,6 +82,7 @@ selecting m (l ∷ ls) law moment idle left once of_order = record {
     held_once = once;
     runs = refl;
     round = λ risen. absurd (false≢true risen);
+    only = λ risen. absurd (false≢true risen);
     clear = λ leaves. absurd cc;
     later = λ _. epoch_left m.core law left;
   };
@@ -128,6 +129,7 @@ module _ (m : Moment) (law : Law m.core) (moment : MomentLaw m) (waits : m.phase
     held_once = moment.held_once;
     runs = moment.runs ∙ ap is_idle waits ∙ sym running;
     round = λ _. moment.round (ap has_risen waits);
+    only = λ _. moment.only (ap has_risen waits);
     clear = λ leaves j lt. below (m.core.clear j) j k (subst (λ n. j < n) (sym (all leaves)) lt);
     later = λ marks. absurd (false≢true (sym (ap has_risen marks) ∙ risen));
   }
@@ -211,7 +213,8 @@ aborting m law moment =
         sealed = λ l h. absurd (false≢true h);
         held_once = none_once;
         runs = refl;
-        round = λ risen. absurd (false≢true risen);
+        round = λ risen l h. absurd (false≢true h);
+        only = λ risen. absurd (false≢true risen);
         clear = λ leaves. absurd cc;
         later = λ marks. absurd cc;
       };

@@ -106,6 +106,7 @@ module _ (m : Moment) (n : ℕ) (law : Law m.core) (moment : MomentLaw m) (marks
       held_once = moment.held_once;
       runs = moment.runs;
       round = λ risen. absurd (not_risen risen);
+      only = λ risen. absurd (not_risen risen);
       clear = λ leaves. absurd (not_risen (ap has_risen leaves));
       later = moment.later;
     };
@@ -157,6 +158,7 @@ module _ (m : Moment) (n : ℕ) (law : Law m.core) (moment : MomentLaw m) (marks
         held_once = moment.held_once;
         runs = moment.runs ∙ ap is_idle marks;
         round = λ _ l member. member;
+        only = λ _ l member. member;
         clear = λ leaves. absurd cc;
         later = λ odd. absurd cc;
       };

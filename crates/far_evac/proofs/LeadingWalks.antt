@@ -78,6 +78,7 @@ pub record GoesOn (m : Moment) (s : State) (order : List ℕ) (phase : Phase) (h
   has_sealed : (l : ℕ) → among order l ≡ is_sealed (s.kind l)
   once : IsDistinct eqb order
   ready : Ready s held
+  only : (l : ℕ) → s.round l ≡ true → among held l ≡ true
   clear : (k : ℕ) → k < s.mutators → s.clear k ≡ true
   leaves : phase ≡ Evacuating
   objects : KeepsObjects m.core s
@@ -107,6 +108,10 @@ module _ (m : Moment) (s : State) (order : List ℕ) (phase : Phase) (l : ℕ) (
     ];
     once = once_without l order h.once;
     ready = ready_released s l ls h.ready;
+    only = λ k is. elim (cases_eq k l) [
+      | inl e ↦ absurd (false≢true (sym (put_same s.round l false k e) ∙ is))
+      | inr ne ↦ sym (ap (λ b. b || among ls k) (ne_eqb k l ne)) ∙ h.only k (sym (put_other s.round l false k ne) ∙ is)
+    ];
     clear = h.clear;
     leaves = h.leaves;
     objects = objects_more m.core s (released s l) h.objects (released_objects s l);
@@ -201,6 +206,7 @@ module _ (m : Moment) (s : State) (order : List ℕ) (phase : Phase) (l : ℕ) (
     has_sealed = has_sealed;
     once = once;
     ready = (leaves_so s l ls p ps h.ready first way is).ready;
+    only = λ k in_it. h.only k (sym (ap (λ (round : ℕ → Bool). round k) keeps.round) ∙ in_it);
     clear = λ k lt. ap (λ clear. clear k) keeps.clear ∙ h.clear k (subst (λ n. k < n) keeps.mutators lt);
     leaves = h.leaves;
     objects = objects_more m.core s (core_so s p way) h.objects objects;
@@ -258,6 +264,7 @@ begun_on m law moment leaves = record {
   has_sealed = moment.order;
   once = moment.order_once;
   ready = risen_is_ready m (own_law m.core law) moment (ap has_risen leaves);
+  only = moment.only (ap has_risen leaves);
   clear = moment.clear leaves;
   leaves = leaves;
   objects = objects_none m.core;
@@ -283,6 +290,7 @@ module _ (m : Moment) (w : Walked) (h : GoesOn m w.moment.core w.moment.order w.
       held_once = h.ready.once;
       runs = some ∙ sym (ap is_idle h.leaves);
       round = λ _ l member. (of_among (IsHeld w.moment.core) w.moment.held h.ready.logs l member).2;
+      only = λ _. h.only;
       clear = λ _. h.clear;
       later = λ marks. absurd (false≢true (sym (ap has_risen marks) ∙ ap has_risen h.leaves));
     };
@@ -298,7 +306,8 @@ module _ (m : Moment) (w : Walked) (h : GoesOn m w.moment.core w.moment.order w.
       sealed = held_sealed;
       held_once = h.ready.once;
       runs = done;
-      round = λ risen. absurd (false≢true risen);
+      round = λ _ l member. (of_among (IsHeld w.moment.core) w.moment.held h.ready.logs l member).2;
+      only = λ _. h.only;
       clear = λ leaves. absurd cc;
       later = λ marks. absurd cc;
     };
@@ -315,6 +324,10 @@ walking m n law moment leaves =
 -- the law stays in its midst too
 pub walking_law : (m : Moment) (n : ℕ) → Law m.core → MomentLaw m → m.phase ≡ Evacuating → Law (walked m n).moment.core
 walking_law m n law moment leaves = (walks_on m n law moment leaves).goes.law
+
+-- once the epoch has risen no other log than those held is in the round; so it is to the end
+pub walking_only : (m : Moment) (n : ℕ) → Law m.core → MomentLaw m → m.phase ≡ Evacuating → (l : ℕ) → (walked m n).moment.core.round l ≡ true → among (walked m n).moment.held l ≡ true
+walking_only m n law moment leaves = (walks_on m n law moment leaves).goes.only
 
 -- ---- what owners have
 ended_core : (w : Walked) → (ended w).core ≡ w.moment.core

@@ -207,6 +207,7 @@ module _ (s : State) (r : Round) (in_round : InRound s r) (marks : r.phase ≡ M
         once = subst (IsDistinct eqb) held_are in_round.holds.once;
         runs = ap is_empty (sym held_are) ∙ in_round.holds.runs ∙ ap is_idle marks;
         round = λ _ l member. ap (λ (u : State). u.round l) rises_so ∙ member;
+        only = λ _ l is. sym (ap (λ (u : State). u.round l) rises_so) ∙ is;
         clear = λ e. absurd (not_far e);
         later = λ e. absurd (not_back e);
       };

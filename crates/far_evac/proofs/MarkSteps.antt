@@ -149,7 +149,7 @@ module _ (s t : State) (r next : Round) (in_round : InRound t next) (marks : r.p
         let h = in_round.holds in
         let g = in_round.stands in
         record {
-          holds = record { sealed = h.sealed; once = h.once; runs = h.runs; round = h.round; clear = h.clear; later = h.later };
+          holds = record { sealed = h.sealed; once = h.once; runs = h.runs; round = h.round; only = h.only; clear = h.clear; later = h.later };
           stands = record {
             index = g.index;
             begins = g.begins;

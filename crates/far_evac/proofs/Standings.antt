@@ -34,7 +34,8 @@ idle_round s r idle index = record {
     sealed = λ l held. absurd (false≢true (sym (ap (λ ls. among ls l) (idle_held r idle)) ∙ held));
     once = subst (IsDistinct eqb) (sym (idle_held r idle)) none_once;
     runs = ap is_empty (idle_held r idle) ∙ sym (ap is_idle idle);
-    round = λ risen l held. absurd (no_risen r.phase idle risen);
+    round = λ risen l held. absurd (false≢true (sym (ap (λ ls. among ls l) (idle_held r idle)) ∙ held));
+    only = λ risen l is. absurd (no_risen r.phase idle risen);
     clear = λ leaves k lt. absurd (true≢false (sym (ap is_idle idle) ∙ ap is_idle leaves));
     later = λ marks. absurd (true≢false (sym (ap is_idle idle) ∙ ap is_idle marks));
   };
@@ -63,6 +64,7 @@ chosen_round s r law marks index at sealed once some later =
         once = subst (IsDistinct eqb) (sym held) once;
         runs = ap is_empty held ∙ some ∙ sym (ap is_idle marks);
         round = λ risen l is. absurd (false≢true (sym (ap has_risen marks) ∙ risen));
+        only = λ risen l is. absurd (false≢true (sym (ap has_risen marks) ∙ risen));
         clear = λ leaves k lt. absurd (false≢true (sym (ap has_risen marks) ∙ ap has_risen leaves));
         later = λ _. later;
       };

@@ -86,6 +86,7 @@ module _ (m : Moment) (t : State) (law : Law m.core) (moment : MomentLaw m) (the
     held_once = moment.held_once;
     runs = moment.runs;
     round = λ risen l held. ap (λ (round : ℕ → Bool). round l) aside.round ∙ moment.round risen l held;
+    only = λ risen l is. moment.only risen l (sym (ap (λ (round : ℕ → Bool). round l) aside.round) ∙ is);
     clear = λ leaves k lt. ap (λ (clear : ℕ → Bool). clear k) aside.clear ∙ moment.clear leaves k (subst (λ n. k < n) aside.mutators lt);
     later = λ marks. subst (λ e. e + 1 < EPOCH_END) (sym aside.epoch) (moment.later marks);
   }

@@ -1,5 +1,5 @@
 -- What a walk asked of the device, object after object; and under which keys the device has what it had.
-use Rattle.std.specs.Prelude.{◌≡◌, ◌≢◌, ◌⊎◌, ◌+◌, ℕ, List, [], ◌∷◌, take, Option, Some, None, Result, Ok, Err}
+use Rattle.std.specs.Prelude.{◌≡◌, ◌≢◌, ◌⊎◌, ◌+◌, ℕ, List, [], ◌∷◌, take, Option, Result, Ok, Err}
 use Rattle.std.specs.List.{AllByRecursion}
 use Rattle.far_word.specs.declared.refused.Refused.{Refused}
 use Rattle.far_device.specs.declared.fault.DeviceFault.{DeviceFault}

@@ -11,6 +11,7 @@ pub mod Failing
 pub mod Laws
 pub mod Leading
 pub mod Leaving
+pub mod Listing
 pub mod Live
 pub mod LiveLaws
 pub mod Marking
@@ -22,6 +23,8 @@ pub mod Refusals
 pub mod RoundSteps
 pub mod Standing
 pub mod Stops
+pub mod Strays
+pub mod TakesRoom
 pub mod Turning
 pub mod Turns
 pub mod Waiting

@@ -37,8 +37,9 @@ pub record MomentLaw (m : Moment) : Type 0 where
   pub sealed : (l : ℕ) → among m.held l ≡ true → m.core.kind l ≡ Sealed
   pub held_once : IsDistinct eqb m.held
   pub runs : is_empty m.held ≡ is_idle m.phase
-  -- once the epoch has risen they are the round's
+  -- once the epoch has risen they are the round's, and no other log is
   pub round : has_risen m.phase ≡ true → (l : ℕ) → among m.held l ≡ true → m.core.round l ≡ true
+  pub only : has_risen m.phase ≡ true → (l : ℕ) → m.core.round l ≡ true → among m.held l ≡ true
   -- where objects leave, every owner was seen clear
   pub clear : m.phase ≡ Evacuating → (k : ℕ) → k < m.core.mutators → m.core.clear k ≡ true
   -- while objects are marked there is a later epoch

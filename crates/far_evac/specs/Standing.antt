@@ -39,12 +39,13 @@ abbrev pub MarkedAmong : State → List ℕ → Type 0
 MarkedAmong s logs = (p len ds : ℕ) (place : Place) (marks : Marks) → read_of (s.cell p) ≡ Some (Near len ds place marks) → among logs place.log ≡ true → marks.evac ≡ true
 
 -- the logs that are held are sealed, each is held once, and there are some exactly while a round is running; once the epoch has risen they are
--- the round's, and every owner was seen clear where objects leave; while they are marked there is a later epoch
+-- the round's, and no other is, and every owner was seen clear where objects leave; while they are marked there is a later epoch
 pub record Holds (s : State) (phase : Phase) (held : List ℕ) : Type 0 where
   pub sealed : (l : ℕ) → among held l ≡ true → s.kind l ≡ Sealed
   pub once : IsDistinct eqb held
   pub runs : is_empty held ≡ is_idle phase
   pub round : has_risen phase ≡ true → (l : ℕ) → among held l ≡ true → s.round l ≡ true
+  pub only : has_risen phase ≡ true → (l : ℕ) → s.round l ≡ true → among held l ≡ true
   pub clear : phase ≡ Evacuating → (k : ℕ) → k < s.mutators → s.clear k ≡ true
   pub later : phase ≡ Marking → s.epoch + 1 < EPOCH_END
 

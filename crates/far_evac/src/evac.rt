@@ -12,6 +12,7 @@ mod auditing;
 mod evacuating;
 mod handing;
 mod marking;
+mod over_beset;
 mod over_plain;
 mod selecting;
 mod turning;

@@ -4,7 +4,10 @@ ghost use Rattle.far_evac.specs.Callers.{CallersSealBehind, CoresJoin, FetchingO
 ghost use Rattle.far_evac.specs.Leading.{AbortingLeads, ChoiceIsOfSealed, MarkingLeads, PollingLeads, RoundLeads, SelectingLeads, TurnsLead, WalkingLeads};
 ghost use Rattle.far_evac.specs.Owned.{AbortingKeepsObjects, MarkingKeepsObjects, PollingKeepsObjects, RoundKeepsObjects, SelectingKeepsObjects, TurnsKeepObjects, TurnsRetireNone, WalkRetiresNone, WalkingKeepsObjects};
 ghost use Rattle.far_evac.specs.Emptied.{LogsComeBackEmpty};
+ghost use Rattle.far_evac.specs.Listing.{CensusListsEach};
 ghost use Rattle.far_evac.specs.LiveLaws.{LiveIsInOrder};
+ghost use Rattle.far_evac.specs.Strays.{AbortingStraysNone, CallersStrayNone, ComersJoin, EventsBringNone, MarkingStraysNone, NoRoundStraysNone, OwnersBringNone, PollingStraysNone, RisenStraysNone, RoundStraysNone, SelectingStraysNone, TurnsStrayNone, WalkingStraysNone};
+ghost use Rattle.far_evac.specs.TakesRoom.{CallTakesRoom, RoundTakesRoom, TurnsTakeRoom, WalkTakesRoom};
 ghost use Rattle.far_evac.specs.WayLaws.{ObjectsGoTheirWay};
 ghost use Rattle.far_evac.specs.Laws.{CensusIsExact, ClearIsShown, ClearMeansUnviewed, ClearViewsNothing, DealingIsInOrder, ExactIsAllowed, GivingUpIsRight, LooksSeeClear, MarkingIsCounted, MarkingIsRight, PollIsAllowed, PollIsOnce, RisenIsReady, RoundIsAllowed, RoundIsEvent, WaitIsNamed, WaitingStays, WalkIsTour, WalksJoin};
 ghost use Rattle.far_evac.specs.worked.Rows.{EmptiestIsFirst, EpochsAreNamed, FirstLiesFirst, GivenUp, HotWithoutRoom, LastEpoch, NothingToChoose, OldEpoch, OldView, OldestIsFirst, OpenScopeIsWaitedFor, OpenedAnew, OwnerIsFirst, PhasesAreKept, PlainRound, ReserveIsKept, StepByStep, TurnsRunOut};
@@ -49,6 +52,16 @@ pub fn dealing_is_in_order()
 /// retired, a cold one goes far, and a hot one to where there is room then, or far where there is none. It has no marks after.
 pub fn objects_go_their_way()
     ensures { ObjectsGoTheirWay }
+{}
+
+/// Over any hand: the room that dealing with objects takes is that of those that moved. In a log that isn't held dead bytes stay, live ones rise by the objects
+/// that came, and unused ones fall by as much; in one that still is what left is dead; one that was given back has what came since. Of all logs together
+/// live bytes fall by the objects that went far or were retired. So it is with each call of a round, and where no word changes but by it with whole rounds.
+pub fn walks_take_room()
+    ensures walking { WalkTakesRoom }
+    ensures call { CallTakesRoom }
+    ensures turns { TurnsTakeRoom }
+    ensures whole { RoundTakesRoom }
 {}
 
 /// Marking sets EVAC in the first n live objects that lack it, or in all, and changes nothing else in any cell; where none is left, each
@@ -97,9 +110,11 @@ pub fn clear_means_unviewed()
     ensures later { ClearViewsNothing }
 {}
 
-/// A census lists each pointer whose cell is used and not dropped, with its home, and no other.
+/// A census lists each pointer whose cell is used and not dropped, with its home, and no other: once, by rising numbers. It tells what each log is and
+/// has, from log 0 on, each once.
 pub fn census_is_exact()
-    ensures { CensusIsExact }
+    ensures exact { CensusIsExact }
+    ensures each { CensusListsEach }
 {}
 
 /// A poll names the first owner who holds the round up, and the epoch at which its scope is open. As long as nobody closes or opens a scope, a second
@@ -167,6 +182,25 @@ pub fn callers_keep_order()
     ensures moved_now { MovingOrder }
     ensures fetched { FetchingOrder }
     ensures retired { RetiringOrder }
+{}
+
+/// Each object that lies in a log of the core's round lies in one that is held: once the epoch has risen, where no other log is in that round; and in a heap
+/// that began without a round also before, when a round that was given up may have left logs there in which nothing lies. So it stays through each call of a
+/// round, turns and whole rounds, and through what callers do between two of them.
+pub fn none_strays()
+    ensures start { NoRoundStraysNone }
+    ensures risen { RisenStraysNone }
+    ensures selecting { SelectingStraysNone }
+    ensures marking { MarkingStraysNone }
+    ensures polling { PollingStraysNone }
+    ensures walking { WalkingStraysNone }
+    ensures aborting { AbortingStraysNone }
+    ensures turns { TurnsStrayNone }
+    ensures whole { RoundStraysNone }
+    ensures callers { CallersStrayNone }
+    ensures joined { ComersJoin }
+    ensures owners { OwnersBringNone }
+    ensures events { EventsBringNone }
 {}
 
 /// Worked examples: whole lists of calls on a heap that nobody else steps, and what they answer.

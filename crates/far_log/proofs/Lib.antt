@@ -1,3 +1,4 @@
+pub mod BadLaws
 pub mod Members
 pub mod Padding
 pub mod SpanLaws

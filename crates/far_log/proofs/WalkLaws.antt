@@ -54,9 +54,9 @@ module _ (word : ℕ → ℕ) (tail from at : ℕ) where
 -- a span is bad at one word alone
 pub one_place : (word : ℕ → ℕ) (tail from a b : ℕ) → IsBadSpan word tail from a → IsBadSpan word tail from b → a ≡ b
 one_place word tail from a b (inl x) (inl y) = x.named ∙ sym y.named
-one_place word tail from a b (inl x) (inr (inl y)) = x.named ∙ sym y.named
+one_place word tail from a b (inl x) (inr (inl y)) = absurd (x.none y.span y.place y.header)
 one_place word tail from a b (inl x) (inr (inr y)) = absurd (x.none y.span y.place y.header)
-one_place word tail from a b (inr (inl x)) (inl y) = x.named ∙ sym y.named
+one_place word tail from a b (inr (inl x)) (inl y) = absurd (y.none x.span x.place x.header)
 one_place word tail from a b (inr (inl x)) (inr (inl y)) = x.named ∙ sym y.named
 one_place word tail from a b (inr (inl x)) (inr (inr y)) =
     let same : x.span ≡ y.span = same_span word x.span y.span (x.place ∙ sym y.place) x.header y.header in
@@ -92,7 +92,7 @@ first_is_one word tail at w a v first other = elim (cases_order other.from first
 
 -- ---- other words that agree as far as is read
 module _ (word other : ℕ → ℕ) (end : ℕ) (same : (i : ℕ) → i < end → other i ≡ word i) where
-  same_header : (x : Span) → x.at < end → HasHeader word x → HasHeader other x
+  pub same_header : (x : Span) → x.at < end → HasHeader word x → HasHeader other x
   same_header x lt has = record { layout = has.layout; header = same x.at lt ∙ has.header }
 
   same_span_stands : (x : Span) → x.at + size_of x.len ≤ end → Stands word x → Stands other x
@@ -107,19 +107,19 @@ module _ (word other : ℕ → ℕ) (end : ℕ) (same : (i : ℕ) → i < end �
     stand = All-from (Stands other) spans (λ x h. same_span_stands x (omega (arith, (tile_bounds spans 0 tail x walk.tile h).1)) (All-contains (Stands word) spans x walk.stand h));
   }
 
-pub same_bad : (word other : ℕ → ℕ) (tail from at : ℕ) → ((i : ℕ) → i < at + 1 → other i ≡ word i) → IsBadSpan word tail from at → IsBadSpan other tail from at
-same_bad word other tail from at same (inl off) = inl record {
+pub same_bad : (word other : ℕ → ℕ) (tail from at : ℕ) → from < tail → ((i : ℕ) → i < at + 1 → other i ≡ word i) → IsBadSpan word tail from at → IsBadSpan other tail from at
+same_bad word other tail from at below same (inl off) = inl record {
   none = λ x place has. off.none x place (same_header other word (at + 1) (λ i lt. sym (same i lt)) x (omega (arith, off.named)) has);
   named = off.named;
 }
-same_bad word other tail from at same (inr (inl past)) = inr (inl record {
+same_bad word other tail from at below same (inr (inl past)) = inr (inl record {
   span = past.span;
   place = past.place;
-  header = same_header word other (at + 1) same past.span (omega (arith, past.place, past.named)) past.header;
+  header = same_header word other (at + 1) same past.span (omega (arith, below, past.place, past.named)) past.header;
   past = past.past;
   named = past.named;
 })
-same_bad word other tail from at same (inr (inr ill)) = inr (inr record {
+same_bad word other tail from at below same (inr (inr ill)) = inr (inr record {
   span = ill.span;
   place = ill.place;
   header = same_header word other (at + 1) same ill.span (omega (arith, ill.place, ill.named)) ill.header;
@@ -129,18 +129,18 @@ same_bad word other tail from at same (inr (inr ill)) = inr (inr record {
 })
 
 -- a bad word stands at its span's place or behind it
-bad_from : (word : ℕ → ℕ) (tail from at : ℕ) → IsBadSpan word tail from at → from ≤ at
-bad_from word tail from at (inl off) = omega (arith, off.named)
-bad_from word tail from at (inr (inl past)) = omega (arith, past.named)
-bad_from word tail from at (inr (inr ill)) = omega (arith, ill.named)
+pub bad_low : (word : ℕ → ℕ) (tail from at : ℕ) → from < tail → IsBadSpan word tail from at → from ≤ at
+bad_low word tail from at below (inl off) = omega (arith, off.named)
+bad_low word tail from at below (inr (inl past)) = omega (arith, past.named)
+bad_low word tail from at below (inr (inr ill)) = omega (arith, ill.named)
 
 pub same_first : (word other : ℕ → ℕ) (tail at w : ℕ) → ((i : ℕ) → i < at + 1 → other i ≡ word i) → FirstBad word tail at w → FirstBad other tail at w
 same_first word other tail at w same first = record {
   from = first.from;
   spans = first.spans;
-  before = same_walk word other (at + 1) same first.from first.spans (omega (arith, bad_from word tail first.from at first.bad)) first.before;
+  before = same_walk word other (at + 1) same first.from first.spans (omega (arith, bad_low word tail first.from at first.below first.bad)) first.before;
   below = first.below;
-  bad = same_bad word other tail first.from at same first.bad;
+  bad = same_bad word other tail first.from at first.below same first.bad;
   is = first.is ∙ sym (same at (omega arith));
 }
 

@@ -1,6 +1,8 @@
 -- What holds of the words of any log: one list of spans or a first bad word, each word in one span, bytes that add up.
-use Rattle.std.specs.Prelude.{◌≡◌, ℕ, ◌+◌, ◌*◌, ◌^◌, ◌<◌, ◌≤◌, ◌↔◌, ◌⊎◌, Bool, not, List}
+use Rattle.std.specs.Prelude.{◌≡◌, ℕ, ◌+◌, ◌-◌, ◌*◌, ◌/◌, ◌%◌, ◌^◌, ◌<◌, ◌≤◌, ◌↔◌, ◌⊎◌, Bool, not, Some, None, List}
 use Rattle.std.specs.List.{filter, sum_by}
+use Rattle.far_word.specs.declared.header.HeadWord.{HeadWord}
+use Rattle.far_word.specs.Header.{head_of}
 use Rattle.far_word.specs.Sizes.{bytes_taken}
 use Rattle.far_log.specs.declared.span.Span.{Span}
 use Rattle.far_log.specs.Spans.{Stands, HasOneSpan, HasNoSpan, HoldsBytes, spans_in, taken_by}
@@ -35,6 +37,43 @@ TailEndsWalk = (word other : ℕ → ℕ) (tail : ℕ) (spans : List Span) → (
 -- words behind the first bad one don't mend it
 abbrev pub BadEndsWalk : Type 0
 BadEndsWalk = (word other : ℕ → ℕ) (tail at w : ℕ) → ((i : ℕ) → i ≤ at → other i ≡ word i) → FirstBad word tail at w → FirstBad other tail at w
+
+-- ---- the first bad word again, by what words behind it could make of it
+
+-- the words up to i, with others behind them, make a log whose spans go through word i and end at the tail or before it
+pub record CanBegin (word : ℕ → ℕ) (tail i : ℕ) : Type 0 where
+  pub other : ℕ → ℕ
+  pub fits : (j : ℕ) → other j < 2 ^ 64
+  pub same : (j : ℕ) → j ≤ i → other j ≡ word j
+  pub end : ℕ
+  pub through : i < end
+  pub inside : end ≤ tail
+  pub spans : List Span
+  pub walk : IsWalk other end spans
+
+-- a word is the first bad one exactly where nothing behind it could mend it, while any earlier word could still be a log's
+abbrev pub BadIsFirst : Type 0
+BadIsFirst = (word : ℕ → ℕ) (tail at w : ℕ) → ((i : ℕ) → word i < 2 ^ 64) →
+    FirstBad word tail at w ↔ ((at < tail) × (w ≡ word at) × (¬ CanBegin word tail at) × ((i : ℕ) → i < at → CanBegin word tail i))
+
+-- no header is read where a span would begin: that word is bad
+abbrev pub ReadsNone : (ℕ → ℕ) → ℕ → ℕ → Type 0
+ReadsNone word begin at = (at ≡ begin) × (head_of (word at) ≡ None)
+
+-- a header is read there, of more bytes than the words behind it hold up to the tail: the header is bad
+abbrev pub ReadsTooLong : (ℕ → ℕ) → ℕ → ℕ → ℕ → Type 0
+ReadsTooLong word tail begin at = (at ≡ begin) × ((h : HeadWord) × (head_of (word at) ≡ Some h) × (8 * (tail - 1 - at) < h.len))
+
+-- a header is read there whose bytes lie below the tail, and the word with the last of them says something behind it: that word is bad
+abbrev pub ReadsMore : (ℕ → ℕ) → ℕ → ℕ → ℕ → Type 0
+ReadsMore word tail begin at = (h : HeadWord) × (head_of (word begin) ≡ Some h) × (at ≡ begin + 1 + (h.len - 1) / 8) × (at < tail)
+    × (2 ^ (8 * ((h.len - 1) % 8 + 1)) ≤ word at)
+
+-- the first bad word by what is read: the headers spell spans that end where another would begin, and one of three things is so there
+abbrev pub BadIsRead : Type 0
+BadIsRead = (word : ℕ → ℕ) (tail at w : ℕ) → ((i : ℕ) → word i < 2 ^ 64) →
+    FirstBad word tail at w ↔ ((w ≡ word at) × ((begin : ℕ) × (begin < tail) × IsWalk word begin (spans_in word begin)
+    × (ReadsNone word begin at ⊎ (ReadsTooLong word tail begin at ⊎ ReadsMore word tail begin at))))
 
 -- a word below the tail is header or data of exactly one span
 abbrev pub WordsHaveOneSpan : Type 0

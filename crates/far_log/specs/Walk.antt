@@ -16,13 +16,13 @@ pub record IsOffLayout (word : ℕ → ℕ) (from at : ℕ) : Type 0 where
   pub none : (span : Span) → span.at ≡ from → ¬ HasHeader word span
   pub named : at ≡ from
 
--- the span whose header is the word at from passes the tail; that word is the bad one
+-- the span whose header is the word at from passes the tail; that header is the bad word
 pub record PassesTail (word : ℕ → ℕ) (tail from at : ℕ) : Type 0 where
   pub span : Span
   pub place : span.at ≡ from
   pub header : HasHeader word span
   pub past : tail < from + size_of span.len
-  pub named : at ≡ from
+  pub named : at ≡ from  -- the header's place
 
 -- the last data word of an object of so many bytes stays below this, where the bits behind the last byte are zero
 abbrev pub last_limit : ℕ → ℕ

@@ -1,6 +1,6 @@
 //! What holds of the words of any log, as contracts of functions that do nothing.
 
-ghost use Rattle.far_log.specs.Laws.{WalksAreOne, WalksOrBad, NeverBoth, FirstBadIsOne, SpansAreListed, TailEndsWalk, BadEndsWalk, WordsHaveOneSpan, WordsPastHaveNone, SpansHoldBytes, SpansTakeAll, TakenIsSum};
+ghost use Rattle.far_log.specs.Laws.{WalksAreOne, WalksOrBad, NeverBoth, FirstBadIsOne, SpansAreListed, TailEndsWalk, BadEndsWalk, BadIsFirst, BadIsRead, WordsHaveOneSpan, WordsPastHaveNone, SpansHoldBytes, SpansTakeAll, TakenIsSum};
 
 /// The words below a tail have one list of spans, or a first bad word, never both and never two; and the list is the one
 /// that the headers spell.
@@ -16,6 +16,13 @@ pub fn walks_are_one()
 pub fn later_words_say_nothing()
     ensures tail { TailEndsWalk }
     ensures bad { BadEndsWalk }
+{}
+
+/// The word that is named is the first bad one: no words behind it could make a log of those up to it, while each earlier
+/// word could still be one of a log's. And it is bad for one of three reasons, read where the spans before it end.
+pub fn bad_words_are_first()
+    ensures first { BadIsFirst }
+    ensures read { BadIsRead }
 {}
 
 /// Each word below the tail is header or data of exactly one span, and a word at or past it of none.

@@ -9,7 +9,8 @@ mod span;
 mod walking;
 
 pub use laws::{
-    later_words_say_nothing, spans_hold_bytes, spans_take_all, walks_are_one, words_have_one_span,
+    bad_words_are_first, later_words_say_nothing, spans_hold_bytes, spans_take_all, walks_are_one,
+    words_have_one_span,
 };
 pub use row::LogRow;
 pub use span::{Span, size_of};

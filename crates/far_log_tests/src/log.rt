@@ -1,8 +1,8 @@
 //! Whether the clauses say what was meant, by worked images of logs: each header is written out by its layout.
 
 use far_log::{
-    BadWord, LogRow, Span, WalkFault, later_words_say_nothing, size_of, spans_hold_bytes,
-    spans_take_all, walk, walks_are_one, words_have_one_span,
+    BadWord, LogRow, Span, WalkFault, bad_words_are_first, later_words_say_nothing, size_of,
+    spans_hold_bytes, spans_take_all, walk, walks_are_one, words_have_one_span,
 };
 use far_word::HeadWord;
 use std::alloc::Global;
@@ -203,6 +203,7 @@ fn texts(rt: HostRuntime) -> Result<(), Fail> {
 fn laws(_rt: HostRuntime) {
     walks_are_one();
     later_words_say_nothing();
+    bad_words_are_first();
     words_have_one_span();
     spans_hold_bytes();
     spans_take_all();

@@ -1,5 +1,5 @@
 -- Counts and sums over numbers in a row, one number more.
-use Rattle.std.proofs.Common.{◌≡◌, ℕ, zero, suc, ◌+◌, ◌≤◌, Bool, true, false, filter, [], ◌∷◌, ◌++◌, length, refl, ap, ◌∙◌, arith}
+use Rattle.std.proofs.Common.{◌≡◌, ℕ, zero, suc, ◌+◌, Bool, true, false, filter, [], ◌∷◌, ◌++◌, length, refl, ap, ◌∙◌, arith}
 use Rattle.std.specs.Prelude.{sum, map}
 use Rattle.std.specs.List.{range_with_len}
 use Rattle.std.proofs.lemmas.List.{length-append}
@@ -20,10 +20,6 @@ pub counted_more : (f : ℕ → Bool) (n : ℕ) → length (filter f (range_with
 counted_more f n =
     ap (λ xs. length (filter f xs)) (row_more 0 n n (omega arith)) ∙ ap length (filter-append f (range_with_len 0 n) (n ∷ []))
     ∙ length-append (filter f (range_with_len 0 n)) (filter f (n ∷ [])) ∙ ap (λ k. length (filter f (range_with_len 0 n)) + k) (one_counted f n (f n) refl)
-
-pub byte_most : (b : Bool) → bool_byte b ≤ 1
-byte_most true = omega arith
-byte_most false = omega arith
 
 -- the sum of what a function gives for the first numbers
 pub summed_more : (f : ℕ → ℕ) (n : ℕ) → sum (map f (range_with_len 0 (n + 1))) ≡ sum (map f (range_with_len 0 n)) + f n

@@ -9,6 +9,7 @@ use Rattle.far_evac.specs.RoundSteps.{among}
 use Rattle.far_evac.proofs.Bools.{or_left, or_right}
 use Rattle.far_evac.proofs.Fronts.{kept_in}
 use Rattle.far_evac.proofs.Lacking.{Once}
+pub use Rattle.far_evac.proofs.Lacking.{all_at}
 use Rattle.far_evac.proofs.LiveOnce.{each_map}
 use Rattle.far_evac.proofs.Marks.{all_filter, all_take}
 use Rattle.far_evac.proofs.Onward.{or_split}
@@ -21,10 +22,6 @@ member_or_apart k (x ∷ xs) = elim (cases_eq x k) [
   | inl e ↦ inl (subst (λ y. Contains (y ∷ xs) k) (sym e) (here k xs))
   | inr ne ↦ elim (member_or_apart k xs) [ inl c ↦ inl (there k x xs c) | inr apart ↦ inr (ne, apart) ]
 ]
-
-pub all_at : (P : ℕ → Type 0) (x : ℕ) (xs : List ℕ) → AllByRecursion P xs → Contains xs x → P x
-all_at P x [] h member = absurd (none_in x member)
-all_at P x (y ∷ ys) h member = elim (split x y ys member) [ inl e ↦ subst P e h.0 | inr more ↦ all_at P x ys h.1 more ]
 
 pub among_in : (l : ℕ) (ls : List ℕ) → among ls l ≡ true → Contains ls l
 among_in l [] h = absurd cc

@@ -202,7 +202,7 @@ module _ (s : State) (m p : ℕ) (law : Law s) (opened : is_opened s m ≡ true)
   sought_between between = between_by pinned (sought s m p) p sought_owners.used sought_owners.cells pinned_used (view_between s p parts.1 between)
 
   -- what the cell says then
-  sought_word : read_of ((sought s m p).cell p) ≡ asked_word (read_of (s.cell p))
+  pub sought_word : read_of ((sought s m p).cell p) ≡ asked_word (read_of (s.cell p))
   sought_word = asks.word ∙ ap asked_on (ap (λ (t : State). read_of (t.cell p)) (anew_is s p (unheld_is (s.held p) (slow_parts s p slow).0)) ∙ pin_read s m p law opened ours)
 
   pub sought_lacks : comes_to (sought s m p) p ≡ None → DereferenceLacks s p (sought s m p)

@@ -15,6 +15,7 @@ use Rattle.far_core.proofs.Steps.{agrees}
 use Rattle.far_replay.specs.Answers.{Answered, Commanded, IsMoment, moment_after, shape_of, first_moment}
 use Rattle.far_text.specs.Command.{Command, Mutator, Book, Evacuator}
 use Rattle.far_evac.specs.MomentLaw.{MomentLaw}
+use Rattle.far_evac.specs.Strays.{NoneStrays}
 use Rattle.far_replay.specs.Events.{events_for, IsTold}
 use Rattle.far_replay.specs.Headline.{Lawful}
 use Rattle.far_text.specs.Written.{WritesBytes, AllWriteBytes}
@@ -25,14 +26,16 @@ use Rattle.far_replay.specs.Between.{Between}
 use Rattle.far_replay.specs.Turn.{effect, reply_to}
 use Rattle.far_text.proofs.Each.{Each}
 use Rattle.far_replay.proofs.ToldRounds.{told_round}
-use Rattle.far_replay.proofs.Opened.{opening_law, opening_between, opening_round}
+use Rattle.far_replay.proofs.Opened.{opening_law, opening_between, opening_round, opening_strays}
 use Rattle.far_replay.proofs.RoundLeads.{between_kept, step_keeps as step_leaves, step_leads}
+use Rattle.far_replay.proofs.Strays.{step_strays, told_strays}
 use Rattle.far_replay.proofs.Turns.{turns}
 
 pub record Lasts (now : Moment) : Type 0 where
   pub law : Law now.core
   pub round : MomentLaw now
   pub between : Between now.core
+  pub strays : NoneStrays now
 
 -- a command that is carried out by its events, from a moment to the next core
 pub record IsCarriedOut (now : Moment) (c : Command) (r : Reply) (t : State) : Type 0 where
@@ -59,14 +62,24 @@ told_lasts : (now : Moment) (c : Command) → IsTold c → Lasts now → WritesB
 told_lasts now c told lasts bytes =
     let x = turns now c told lasts.law lasts.between bytes in
     let law : Law (effect now c).core = subst Law x.ends x.law in
-    record { law = law; round = told_round now c told lasts.law law lasts.round; between = subst Between x.ends x.between }
+    record {
+      law = law;
+      round = told_round now c told lasts.law law lasts.round;
+      between = subst Between x.ends x.between;
+      strays = told_strays now c (events_for now c) told lasts.law x.fit x.ends lasts.strays;
+    }
 
 pub effect_lasts : (now : Moment) (c : Command) → Lasts now → WritesBytes c → Lasts (effect now c)
 effect_lasts now (Mutator m request) lasts bytes = told_lasts now (Mutator m request) tt lasts bytes
 effect_lasts now (Book inquiry) lasts bytes = told_lasts now (Book inquiry) tt lasts bytes
 effect_lasts now (Evacuator step) lasts bytes =
     let leads = step_leads now step lasts.law lasts.round in
-    record { law = leads.law; round = leads.moment; between = between_kept now.core (effect now (Evacuator step)).core lasts.between (step_leaves now step lasts.law lasts.round) }
+    record {
+      law = leads.law;
+      round = leads.moment;
+      between = between_kept now.core (effect now (Evacuator step)).core lasts.between (step_leaves now step lasts.law lasts.round);
+      strays = step_strays now step lasts.law lasts.round lasts.strays;
+    }
 
 pub still_lasts : (now : Moment) (c : Command) (r : Reply) (next : Moment) → Lasts now → WritesBytes c → Commanded now c r next → Lasts next
 still_lasts now c r next lasts bytes h = subst Lasts (sym h.moment) (effect_lasts now c lasts bytes)
@@ -78,7 +91,12 @@ still_lasts_after now (c ∷ cs) lasts bytes = still_lasts_after (effect now c) 
 
 -- from the first moment on
 pub first_lasts : (logs mutators epoch : ℕ) → is_shape (shape_of logs mutators epoch) ≡ true → Lasts (first_moment logs mutators epoch)
-first_lasts logs mutators epoch fits = record { law = opening_law logs mutators epoch fits; round = opening_round logs mutators epoch fits; between = opening_between logs mutators epoch fits }
+first_lasts logs mutators epoch fits = record {
+  law = opening_law logs mutators epoch fits;
+  round = opening_round logs mutators epoch fits;
+  between = opening_between logs mutators epoch fits;
+  strays = opening_strays logs mutators epoch fits;
+}
 
 pub moment_lasts : (now : Moment) → IsMoment now → Lasts now
 moment_lasts now (logs, mutators, epoch, cs, fits, bytes, is) = subst Lasts (sym is) (still_lasts_after (first_moment logs mutators epoch) cs (first_lasts logs mutators epoch fits) bytes)

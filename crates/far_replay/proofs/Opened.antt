@@ -10,7 +10,9 @@ use Rattle.far_replay.specs.Answers.{shape_of, first_moment}
 use Rattle.far_replay.specs.Between.{Between}
 use Rattle.far_core.specs.events.Mark.{is_sealed}
 use Rattle.far_evac.specs.MomentLaw.{MomentLaw}
+use Rattle.far_evac.specs.Strays.{NoneStrays}
 use Rattle.far_evac.proofs.Standings.{none_once}
+use Rattle.far_evac.proofs.Strays.{no_round}
 
 -- the law holds of the first state
 pub opening_law : (logs mutators epoch : ℕ) → is_shape (shape_of logs mutators epoch) ≡ true → Law (first_moment logs mutators epoch).core
@@ -29,6 +31,11 @@ opening_round logs mutators epoch fits = record {
   held_once = none_once;
   runs = refl;
   round = λ risen. absurd (false≢true risen);
+  only = λ risen. absurd (false≢true risen);
   clear = λ leaves. absurd cc;
   later = λ marks. absurd cc;
 }
+
+-- and the core has none
+pub opening_strays : (logs mutators epoch : ℕ) → is_shape (shape_of logs mutators epoch) ≡ true → NoneStrays (first_moment logs mutators epoch)
+opening_strays logs mutators epoch fits = no_round (first_moment logs mutators epoch) (λ l. refl)

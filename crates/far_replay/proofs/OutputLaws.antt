@@ -57,7 +57,9 @@ use Rattle.far_replay.proofs.AloneFirst.{alone_first}
 use Rattle.far_replay.proofs.Answering.{answers_all}
 use Rattle.far_replay.proofs.Kept.{whole}
 use Rattle.far_replay.proofs.Lasting.{first_lasts, first_lawful, command_carried, moment_lasts, moments_last, each_is_moment, first_is_moment}
+use Rattle.far_replay.proofs.Listed.{all_counted}
 use Rattle.far_replay.proofs.PlainReplies.{replies_plain}
+use Rattle.far_replay.proofs.LeftBySteps.{all_leave}
 use Rattle.far_replay.proofs.TurnsTell.{all_told}
 use Rattle.far_replay.proofs.ViewLaws.{logs_stay}
 use Rattle.far_text.proofs.TextLaws.{texts_write}
@@ -448,4 +450,6 @@ outputs_sound text output logs mutators epoch cs answers reads fits =
       stay = logs_stay (first_moment logs mutators epoch) cs rs moments is bytes h;
       alone = λ m within. alone_first logs mutators epoch m cs rs moments fits within bytes h;
       told = all_told (first_moment logs mutators epoch) cs rs moments (first_lasts logs mutators epoch fits) bytes h;
+      left = all_leave (first_moment logs mutators epoch) cs rs moments (first_lasts logs mutators epoch fits) bytes h;
+      counted = all_counted (first_moment logs mutators epoch) cs rs moments (first_lasts logs mutators epoch fits) bytes h;
     }

@@ -1,7 +1,7 @@
 -- What a step of the evacuator tells is so.
-use Rattle.std.proofs.Common.{◌≡◌, ◌≢◌, ℕ, zero, suc, ◌+◌, ◌*◌, ◌/◌, ◌%◌, ◌^◌, ◌<◌, ◌≤◌, ◌==◌, ◌&&◌, ◌||◌, Bool, true, false, not, cond, nat_lt, nat_le, Option, Some, None, List, [], ◌∷◌, length, filter, take, drop, length-drop, Ok, ap, sym, refl, ◌∙◌, subst, arith, inl, inr, if◌then◌else◌}
-use Rattle.std.specs.Prelude.{◌↔◌, bit_or, Contains, IsSome, find}
-use Rattle.std.specs.List.{AllByRecursion, range_with_len}
+use Rattle.std.proofs.Common.{◌≡◌, ◌≢◌, ℕ, zero, suc, ◌+◌, ◌*◌, ◌/◌, ◌%◌, ◌^◌, ◌<◌, ◌≤◌, ◌==◌, ◌&&◌, ◌||◌, Bool, true, false, not, cond, nat_lt, nat_le, Option, Some, None, List, [], ◌∷◌, length, take, drop, length-drop, Ok, ap, sym, refl, ◌∙◌, subst, arith, inl, inr, if◌then◌else◌}
+use Rattle.std.specs.Prelude.{◌↔◌, bit_or, Contains, IsSome}
+use Rattle.std.specs.List.{AllByRecursion}
 use Rattle.std.proofs.lemmas.Bool.{cond_both, eq-eqb, eqb-true, false≢true, true≢false, not-true}
 use Rattle.std.proofs.lemmas.Bool.Decides.{nat_tests}
 use Rattle.std.proofs.lemmas.List.{length-take, length-take-le}
@@ -17,7 +17,6 @@ use Rattle.far_word.specs.Mark.{position}
 use Rattle.far_word.specs.Pointer.{read_of}
 use Rattle.far_word.specs.Scope.{scope_of}
 use Rattle.far_log.proofs.Members.{here, none_in, split, there}
-use Rattle.far_log.specs.declared.span.Span.{Span}
 use Rattle.far_policy.specs.LeastLive.{least_live}
 use Rattle.far_policy.specs.Logs.{AreRows}
 use Rattle.far_policy.specs.Scripted.{FollowsScript}
@@ -29,8 +28,7 @@ use Rattle.far_core.specs.declared.event.Kind.TheVariants as kinds
 use Rattle.far_core.specs.events.Clear.{is_near}
 use Rattle.far_core.specs.events.Mark.{is_sealed}
 use Rattle.far_core.specs.state.Law.{Law}
-use Rattle.far_core.specs.laws.Observed.{span_for}
-use Rattle.far_core.specs.state.Spans.{is_live, names_place, spans_of}
+use Rattle.far_core.specs.state.Spans.{names_place}
 use Rattle.far_core.specs.state.State.{State}
 use Rattle.far_book.specs.Finds.{body_of}
 use Rattle.far_book.specs.book.Dealing.{has_evac}
@@ -42,7 +40,7 @@ use Rattle.far_evac.specs.Census.{kind_in, kind_named}
 use Rattle.far_evac.specs.Choosing.{after_aborting, after_selecting}
 use Rattle.far_evac.specs.Dealings.{HasLeft, is_away, is_nowhere, says}
 use Rattle.far_evac.specs.Laws.{DealtInOrder, IsGivenUp, but_evac}
-use Rattle.far_evac.specs.Live.{is_empty, lacking, live_among, live_in, pointers_of}
+use Rattle.far_evac.specs.Live.{is_empty, lacking, live_among, live_in}
 use Rattle.far_evac.specs.Marking.{after_marking, leaves_some, marked_core, newly_marked}
 use Rattle.far_evac.specs.Moment.{Moment, progress_of}
 use Rattle.far_evac.specs.MomentLaw.{MomentLaw, has_risen, is_idle}
@@ -52,16 +50,14 @@ use Rattle.far_evac.specs.Walk.{Walked, begun, dealt_first, dealt_so, ended, is_
 use Rattle.far_evac.specs.declared.answers.Polled.TheVariants as polls
 use Rattle.far_evac.specs.declared.census.LogKind.TheVariants.{Chosen}
 use Rattle.far_evac.specs.declared.phase.Phase.TheVariants.{Idle, Marking, Waiting, Evacuating}
-use Rattle.far_evac.proofs.Fronts.{kept_in}
 use Rattle.far_evac.proofs.InOrder.{in_order}
-use Rattle.far_evac.proofs.Lacking.{Once, once_among}
+use Rattle.far_evac.proofs.Lacking.{Once, in_live, once_among}
 use Rattle.far_evac.proofs.LeadingMarks.{marking, marks_cells}
 use Rattle.far_evac.proofs.LeadingWalks.{walking_law}
 use Rattle.far_evac.proofs.LiveOnce.{LivesIn, live_named, near_at}
 use Rattle.far_evac.proofs.Marks.{is_given_up, is_marked, mark_sets, others_stay}
-use Rattle.far_evac.proofs.Passing.{alive, listed}
 use Rattle.far_evac.proofs.Readiness.{risen_is_ready}
-use Rattle.far_evac.proofs.Rounds.{passed_phase, so_phase}
+use Rattle.far_evac.proofs.Rounds.{found_in, passed_phase, so_phase}
 use Rattle.far_evac.proofs.Unviewed.{none_found}
 use Rattle.far_evac.proofs.Walks.{walk_is}
 use Rattle.far_text.specs.Command.{By, Choice, LeastLive, Mark, Oldest, Policy, Script, Select}
@@ -73,11 +69,11 @@ use Rattle.far_replay.proofs.CountedOnce.{all_at, among_in, beyond, filtered, fr
 use Rattle.far_replay.proofs.RoundChoices.{rows_are}
 
 -- ---- cells
-near_in : (s : State) (l p : ℕ) → LivesIn s l p → LiesIn s p l
+pub near_in : (s : State) (l p : ℕ) → LivesIn s l p → LiesIn s p l
 near_in s l p (at, h) = let x = near_at (read_of (s.cell p)) l at h in (x.len, x.ds, x.place, x.marks, x.near, x.log)
 
 -- who is among the live objects of logs lives in one of them
-live_of : (s : State) (ls : List ℕ) (p : ℕ) → Contains (live_among s ls) p → (l : ℕ) × Contains ls l × LivesIn s l p
+pub live_of : (s : State) (ls : List ℕ) (p : ℕ) → Contains (live_among s ls) p → (l : ℕ) × Contains ls l × LivesIn s l p
 live_of s [] p h = absurd (none_in p h)
 live_of s (l ∷ ls) p h = elim (Contains-append_cases (live_in s l) (live_among s ls) p h) [
   | inl lives ↦ (l, here l ls, all_at (LivesIn s l) p (live_in s l) (live_named s l) lives)
@@ -104,13 +100,13 @@ shows_evac s p (Some (Near len ds place marks)) e h = (len, ds, place, marks, e,
 shows_evac s p (Some (Far len ds marks)) e h = absurd (false≢true h)
 
 -- ---- which logs are chosen
-held_by : (held : Bool) (kind : Kind) → kind_named held kind ≡ Chosen → held ≡ true
+pub held_by : (held : Bool) (kind : Kind) → kind_named held kind ≡ Chosen → held ≡ true
 held_by held kinds.Free e = absurd cc
 held_by held kinds.Open e = absurd cc
 held_by true kinds.Sealed e = refl
 held_by false kinds.Sealed e = absurd cc
 
-chosen_by_both : (held : Bool) (kind : Kind) → held ≡ true → kind ≡ kinds.Sealed → kind_named held kind ≡ Chosen
+pub chosen_by_both : (held : Bool) (kind : Kind) → held ≡ true → kind ≡ kinds.Sealed → kind_named held kind ≡ Chosen
 chosen_by_both held kind h e = ap (λ b. kind_named b kind) h ∙ ap (kind_named true) e
 
 none_held : (held : List ℕ) → is_empty held ≡ true → held ≡ []
@@ -274,7 +270,7 @@ first_phase v (p ∷ ps) =
     let way = way_of v.moment.core (read_of (v.moment.core.cell p)) in
     passed_phase (dealt_so v p way).moment.held (dealt_so v p way) ∙ so_phase v p way
 
-walked_phase : (m : Moment) (n : ℕ) → (walked m n).moment.phase ≡ m.phase
+pub walked_phase : (m : Moment) (n : ℕ) → (walked m n).moment.phase ≡ m.phase
 walked_phase m zero = passed_phase m.held (begun m)
 walked_phase m (suc n) = first_phase (walked m n) (left (walked m n)) ∙ walked_phase m n
 
@@ -285,23 +281,11 @@ ended_phase m n = either (is_done (walked m n)) where
   either false = walked_phase m n
 
 -- ---- who lies in a log lives there
-in_pointers : (x : Span) (xs : List Span) → Contains xs x → Contains (pointers_of xs) x.p
-in_pointers x [] member = absurd (none_in x member)
-in_pointers x (y ∷ ys) member = elim (split x y ys member) [
-  | inl e ↦ subst (λ (z : Span). Contains (z.p ∷ pointers_of ys) x.p) (sym e) (here x.p (pointers_of ys))
-  | inr more ↦ there x.p y.p (pointers_of ys) (in_pointers x ys more)
-]
-
 module _ (s : State) (law : Law (own_part s)) (p len ds : ℕ) (place : Place) (marks : Marks) (near : read_of (s.cell p) ≡ Some (Near len ds place marks)) where
-  in_live : Contains (live_in s place.log) p
-  unfolding live_in
-  in_live = in_pointers (span_for p len ds place.at) (filter (is_live s place.log) (spans_of s place.log))
-      (kept_in (is_live s place.log) (span_for p len ds place.at) (spans_of s place.log) (alive s law place.log place.at p len ds place marks near refl) (listed s law place.log place.at p len ds place marks near refl))
-
   in_logs : (ls : List ℕ) → Contains ls place.log → Contains (live_among s ls) p
   in_logs [] h = absurd (none_in place.log h)
   in_logs (l ∷ ls) h = elim (split place.log l ls h) [
-    | inl e ↦ Contains-append_left (live_in s l) (live_among s ls) p (subst (λ k. Contains (live_in s k) p) (sym e) in_live)
+    | inl e ↦ Contains-append_left (live_in s l) (live_among s ls) p (subst (λ k. Contains (live_in s k) p) (sym e) (in_live s law p len ds place marks near))
     | inr more ↦ Contains-append_right (live_in s l) (live_among s ls) p (in_logs ls more)
   ]
 
@@ -415,12 +399,6 @@ module _ (now : Moment) (count : ℕ) (law : Law now.core) (moment : MomentLaw n
     either false = refl
 
 -- ---- waiting
-found_in : (test : ℕ → Bool) (k a n : ℕ) → find test (range_with_len a n) ≡ Some k → (test k ≡ true) × (k < a + n)
-found_in test k a zero = λ e. absurd cc
-found_in test k a (suc n) = cond_both (test a) (Some a) (find test (range_with_len (a + 1) n)) (λ (o : Option ℕ). o ≡ Some k → (test k ≡ true) × (k < a + suc n))
-    (λ yes e. let same : a ≡ k = cc in (ap test (sym same) ∙ yes, omega (arith, same)))
-    (λ _ e. let rest = found_in test k (a + 1) n e in (rest.0, omega (arith, rest.1)))
-
 odd_of : (w : ℕ) → w ≢ 0 → IsSome (scope_of w) → w ≡ 2 * (w / 2) + 1
 unfolding scope_of
 odd_of w opened = cond_both (w == 0) (Some scoped.Closed) (cond ((w % 2 == 1) && nat_lt w (2 * EPOCH_END)) (Some (scoped.Open (w / 2))) None)

@@ -37,7 +37,7 @@ use Rattle.far_replay.proofs.RoundLeads.{begins, evacuating_is, marking_is, none
 use Rattle.far_replay.proofs.StepsTell.{chosen_phase, ended_phase, marked_phase, policy_takes, tells_choice, tells_clear, tells_end, tells_leaving, tells_marks, tells_open}
 
 -- ---- a step as a command
-made_so : (now : Moment) (step : Step) → refusal now (Evacuator step) ≡ None → Commanded now (Evacuator step) (step_reply now step) (step_effect now step)
+pub made_so : (now : Moment) (step : Step) → refusal now (Evacuator step) ≡ None → Commanded now (Evacuator step) (step_reply now step) (step_effect now step)
 made_so now step e = record {
   reply = sym (ap (λ o. unless o Refused (turn_reply now (Evacuator step))) e);
   moment = sym (ap (λ o. unless o (refused_effect now (Evacuator step)) (turn_effect now (Evacuator step))) e);

@@ -40,6 +40,8 @@ use Rattle.far_replay.specs.EventRows.{after_events, AllPass, AllSucceed, AllCom
 use Rattle.far_replay.specs.Effects.{is_slow}
 use Rattle.far_replay.specs.Events.{events_for, IsTold}
 use Rattle.far_replay.specs.HowMany.{IsHowMany}
+use Rattle.far_replay.specs.Left.{AllLeave}
+use Rattle.far_replay.specs.Listed.{AllCounted}
 use Rattle.far_replay.specs.Objects.{with_range, uses}
 use Rattle.far_text.specs.Says.{Says}
 use Rattle.far_replay.specs.Stays.{MayMark, MaySee, Stays}
@@ -328,7 +330,8 @@ LinesAreNumbered = (words : List (List ℕ)) (c : Command) (m : ℕ) → m < 2 ^
 
 -- what an output says, from its text on: where the text is read as a heap in range and commands, there are the replies and the moments of this output; the lines tell
 -- the replies in full; each moment has the law, and in it objects are whole; the logs in which views rest stay; the replies to each mutator's lines are what its own
--- lines alone say; and each step of the evacuator tells what has happened
+-- lines alone say; each step of the evacuator tells what has happened, and leaves objects elsewhere, and any other command leaves the round; and each audit counts a
+-- list of all objects and logs
 pub record IsSound (logs mutators epoch : ℕ) (cs : List Command) (output : List ℕ) : Type 0 where
   pub replies : List Reply
   pub moments : List Moment
@@ -341,6 +344,8 @@ pub record IsSound (logs mutators epoch : ℕ) (cs : List Command) (output : Lis
   pub stay : LogsStay (first_moment logs mutators epoch) cs moments
   pub alone : (m : ℕ) → m < mutators → Alone m nothing cs replies
   pub told : AllTold (first_moment logs mutators epoch) cs replies moments
+  pub left : AllLeave (first_moment logs mutators epoch) cs replies moments
+  pub counted : AllCounted (first_moment logs mutators epoch) cs replies moments
 
 abbrev pub OutputsAreSound : Type 0
 OutputsAreSound = (text output : List ℕ) (logs mutators epoch : ℕ) (cs : List Command) → Answers text output → trace_of text ≡ Ok (Heap logs mutators epoch cs) →

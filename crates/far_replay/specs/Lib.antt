@@ -4,6 +4,7 @@ pub mod Answers
 pub mod Audit
 pub mod Between
 pub mod Census
+pub mod Chosen
 pub mod Dereference
 pub mod Effects
 pub mod EventRows
@@ -11,11 +12,16 @@ pub mod Events
 pub mod Headline
 pub mod HowMany
 pub mod Interpreter
+pub mod Left
+pub mod LeftMarks
+pub mod Listed
 pub mod Moment
 pub mod Objects
 pub mod Outcome
 pub mod Reply
+pub mod ReplyWords
 pub mod Rounds
+pub mod Stands
 pub mod Stays
 pub mod Steps
 pub mod Stream

@@ -1,13 +1,18 @@
 //! What outputs say, over whole texts and whole lists of commands. No function here does anything when it runs.
 
 ghost use Rattle.far_replay.specs.Census.{AuditsByCensus};
+ghost use Rattle.far_replay.specs.Chosen.{RoundsAreChosen};
+ghost use Rattle.far_replay.specs.Listed.{AuditCountsList};
 ghost use Rattle.far_replay.specs.Headline.{OutputsAreSound, OneOutput, EachTextIsAnswered, TextsWriteBytes, LinesAreNumbered, MomentsLast, EventsReach, ShapesAre, HeapsBeginLawful, ObjectsStayWhole, ViewedLogsStay, ViewsLast, RefusalsStay, RefusalsChangeNothing, TriesAreAnswered, UnknownMutatorsAreRefused, NearRefusals, MutatorsAreAlone, OwnLinesCount, MutatorsLearn, NewTakesTheLowest, NoneIsLeft, NewIsMade, NewMakesItsObject, CommandsTakeRoom, WritesChangeTheirRange, LogsAreTold, WhereTells, LogTellsItsLine, AuditCounts, DropEndsObject, EpochsAreTold, ScopesOpenAtEpochs, ClosesForget, PrintedAlike};
 ghost use Rattle.far_replay.specs.Ages.{AgesStay};
+ghost use Rattle.far_replay.specs.Left.{StepsLeave};
+ghost use Rattle.far_replay.specs.Stands.{RoundsStand};
 ghost use Rattle.far_replay.specs.Steps.{StepsAreTold};
 
 /// From a text on: its output, where it is read as a heap in range and commands, has a reply, which its lines tell in full,
 /// and a moment for each command. Each moment has the law, and in it objects are whole; through them the logs in which
-/// views rest stay; each mutator's replies are what its own lines alone say; and each step of the evacuator tells what has happened.
+/// views rest stay; each mutator's replies are what its own lines alone say; each step of the evacuator tells what has happened,
+/// and leaves objects as `steps_leave` says; and any other command leaves the round, as `rounds_stand` says.
 pub fn outputs_are_sound()
     ensures { OutputsAreSound }
 {}
@@ -27,13 +32,15 @@ pub fn texts_are_answered()
 /// place, each log's bytes are 1,024 in all, and no two pointers name one place. Each command is carried out by its events,
 /// those of a dereference among them, whatever marks its object has and wherever it is: they are legal, none is refused,
 /// they keep the law and what views rest on, and end in the moment after it. Where its object is at hand, a pin among them
-/// gives a view, and a naming wins.
+/// gives a view, and a naming wins. While a round waits, and while objects leave, the logs of the core's round are the chosen ones; else
+/// what a round that was given up has left there has no object in it.
 pub fn moments_are_lawful()
     ensures shapes { ShapesAre }
     ensures begin { HeapsBeginLawful }
     ensures last { MomentsLast }
     ensures whole { ObjectsStayWhole }
     ensures reach { EventsReach }
+    ensures chosen { RoundsAreChosen }
 {}
 
 /// What a command reads, writes, views or tries is viewed until its mutator closes its scope; no other command makes or ends a
@@ -97,12 +104,13 @@ pub fn logs_are_told()
 
 /// `where` tells the place of an object that its mutator uses, or that it is far, and its marks. `log` tells the line that
 /// `logs` has for the log. `audit` counts each object once, those in a log and those on the far side, and the live bytes
-/// that `logs` tells; they are the counts of the evacuator's census.
+/// that `logs` tells; they are the counts of the evacuator's census, which lists each object once, by rising pointers, and each log once, by number.
 pub fn inquiries_tell()
     ensures place { WhereTells }
     ensures line { LogTellsItsLine }
     ensures counts { AuditCounts }
     ensures census { AuditsByCensus }
+    ensures listed { AuditCountsList }
 {}
 
 /// A drop of an object that its mutator uses and doesn't view ends it: it is no object any more, its cell is free, and its
@@ -124,6 +132,21 @@ pub fn drops_end_objects()
 pub fn steps_are_told()
     ensures told { StepsAreTold }
     ensures ages { AgesStay }
+{}
+
+/// A command that is no step of the evacuator leaves the round: its phase, its logs that are still held, in their order, the
+/// epoch of the core's round and its logs, and who was seen clear, whichever scope opens or closes. Nothing comes to lie in a chosen log, and
+/// what lies there has EVAC where it had it; objects may only leave.
+pub fn rounds_stand()
+    ensures stand { RoundsStand }
+{}
+
+/// Through each step of the evacuator each object keeps its owner, data structure and bytes. Through `select`, `mark`, `wait` and
+/// `abort`, and through any step that is refused, it stays at its place too: marking adds EVAC, giving up takes it away, and
+/// but for that and the round nothing changes. Through `evacuate` and `round` each object stays that lies in none of the logs that were chosen, with
+/// its marks, as do those that are far.
+pub fn steps_leave()
+    ensures leave { StepsLeave }
 {}
 
 /// `epoch` tells a mutator whose scope is closed the epoch of the heap, which it remembers, and nothing else changes; where its

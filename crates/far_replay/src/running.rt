@@ -16,6 +16,7 @@ ghost use Rattle.far_text.specs.Parsed.{as_trace};
 ghost use Rattle.far_replay.specs.Reply.{Reply as Answer, Done, reply_text};
 ghost use Rattle.far_replay.specs.Between.{Between};
 ghost use Rattle.far_evac.specs.MomentLaw.{MomentLaw};
+ghost use Rattle.far_evac.specs.Strays.{NoneStrays};
 
 use crate::outcome::{Outcome, Scratch};
 use crate::reply::Reply;
@@ -136,6 +137,7 @@ fn answer_commands<W: Write>(
 ) -> Result<(), RunFault>
     requires between { Between (state_in evac) }
     requires round { MomentLaw (moment_in evac) }
+    requires strays { NoneStrays (moment_in evac) }
     ensures { (replies : List Answer) × (moments : List Moment) × Answered (moment_in evac) commands.now replies moments
         × Leads (W.contents writer.old) (W.contents writer.new) result (flat_map reply_text (Done ∷ replies)) }
 {

@@ -1,6 +1,6 @@
 -- The live spans of a log, one after the other: what lies at a boundary, and behind it.
 use Rattle.std.proofs.Common.{◌≡◌, ℕ, ◌+◌, ◌*◌, ◌/◌, ◌%◌, ◌<◌, ◌≤◌, Bool, true, false, cond, nat_le, arith, refl, sym, ap, subst, ◌∙◌, Some, None, List, [], ◌∷◌, ◌++◌, inl, inr}
-use Rattle.std.specs.Prelude.{◌&&◌, Contains, IsSome, is_some}
+use Rattle.std.specs.Prelude.{◌&&◌, ◌⊎◌, Contains, IsSome, is_some}
 use Rattle.std.specs.List.{filter}
 use Rattle.std.proofs.lemmas.Bool.{cases_lt}
 use Rattle.std.proofs.lemmas.Bool.Decides.{nat_tests}
@@ -22,7 +22,7 @@ use Rattle.far_core.specs.state.State.{State, put}
 use Rattle.far_core.proofs.Observations.{found, listed, walks, of_heap, one_live, live_names}
 use Rattle.far_core.proofs.Put.{put_both}
 use Rattle.far_book.specs.Finds.{Finds}
-use Rattle.far_book.specs.book.NextLive.{IsBoundary, IsHomeOf, live_from, LivesBehind, LivesFromStart, SpansAreBounded}
+use Rattle.far_book.specs.book.NextLive.{IsBoundary, IsHomeOf, IsNamedBetween, live_from, LivesBehind, LivesFromStart, SpansAreBounded}
 use Rattle.far_book.specs.book.Own.{own_part}
 use Rattle.far_book.proofs.Finding.{finds_more, near_found, some_found}
 use Rattle.far_book.proofs.region.Founds.{names_found}
@@ -220,6 +220,28 @@ pub ended : (s : State) → Law (own_part s) → (l at n : ℕ) → IsBoundary s
 ended s law l at n (inl e) is past = ap (live_from s l) e ∙ none_from_tail s law l
 ended s law l at n (inr begins) is past = absurd (omega (arith, begins.0, is))
 
+-- a span between two words lies between wider ones
+pub named_more : (s : State) (l first at end p : ℕ) → at ≤ end → IsNamedBetween s l first at p → IsNamedBetween s l first end p
+named_more s l first at end p le named = (named.0, named.1, named.2, named.3, omega (arith, le, named.4))
+
+-- where a search ended without a span
+pub none_more : (s t : State) (l first at : ℕ) → IsBoundary s l at → (p : ℕ) → IsNamedBetween s l first at p ⊎ (t.cell p ≡ s.cell p) → IsNamedBetween s l first (s.tail l) p ⊎ (t.cell p ≡ s.cell p)
+none_more s t l first at edge p (inl named) = inl (named_more s l first at (s.tail l) p (low edge) named) where
+  low : IsBoundary s l at → at ≤ s.tail l
+  low (inl e) = omega (arith, e)
+  low (inr begins) = omega (arith, begins.0)
+none_more s t l first at edge p (inr same) = inr same
+
+-- one cell is found anew, in a state that is s but for cells that were found
+module _ (s r u : State) (q w : ℕ) (noted : u ≡ record r { cell = put r.cell q w }) where
+  pub found_once : ((p : ℕ) → Finds (s.cell p) (r.cell p)) → Finds (r.cell q) w → (p : ℕ) → Finds (s.cell p) (u.cell p)
+  found_once found seen p = subst (Finds (s.cell p)) (ap (λ (v : State). v.cell p) (sym noted)) (put_both (λ (v : ℕ). Finds (s.cell p) v) r.cell q w p
+      (λ e. subst (λ n. Finds (s.cell n) w) (sym e) (finds_more (s.cell q) (r.cell q) w (found q) seen))
+      (λ _. found p))
+
+  pub kept_once : r ≡ record s { cell = r.cell } → u ≡ record s { cell = u.cell }
+  kept_once kept = noted ∙ (λ i. record r { cell = sym (ap (λ (v : State). v.cell) noted) i }) ∙ ap (λ (v : State). record v { cell = u.cell }) kept
+
 -- s is the state at first, t the one at the boundary, r once the header is read, u once the cell was found
 module _ (s t r u : State) (law : Law (own_part s)) (l at : ℕ) (below : at < s.tail l) (begins : s.starts (l * LOG_WORDS + at) ≡ true)
     (kept : t ≡ record s { cell = t.cell }) (found : (p : ℕ) → Finds (s.cell p) (t.cell p)) (same : r ≡ t)
@@ -231,12 +253,24 @@ module _ (s t r u : State) (law : Law (own_part s)) (l at : ℕ) (below : at < s
   finds = finds_more (s.cell x.p) (t.cell x.p) w (found x.p) (subst (λ (v : State). Finds (v.cell x.p) w) same seen)
 
   pub found_more : (p : ℕ) → Finds (s.cell p) (u.cell p)
-  found_more p = subst (Finds (s.cell p)) (ap (λ (v : State). v.cell p) (sym noted)) (put_both (λ (v : ℕ). Finds (s.cell p) v) r.cell x.p w p
-      (λ e. subst (λ q. Finds (s.cell q) w) (sym e) finds)
-      (λ _. subst (λ (v : State). Finds (s.cell p) (v.cell p)) (sym same) (found p)))
+  found_more = found_once s r u x.p w noted (λ p. subst (λ (v : State). Finds (s.cell p) (v.cell p)) (sym same) (found p)) seen
+
+  -- the cell that was found anew is named by the header here
+  pub named_here : (first : ℕ) → first ≤ at → IsNamedBetween s l first (at + size_of x.len) x.p
+  named_here first low =
+      let in_list : Contains (spans_of s l) x = subst (Contains (spans_of s l)) here_is (member s law l at below begins) in
+      let place : x.at ≡ at = ap (λ (y : Span). y.at) is in
+      (x, in_list, refl, omega (arith, low, place), omega (arith, place))
+
+  pub others_more : (first : ℕ) → first ≤ at → (p : ℕ) → IsNamedBetween s l first at p ⊎ (t.cell p ≡ s.cell p) → IsNamedBetween s l first (at + size_of x.len) p ⊎ (u.cell p ≡ s.cell p)
+  others_more first low p (inl named) = inl (named_more s l first at (at + size_of x.len) p (omega arith) named)
+  others_more first low p (inr as_before) = subst (λ (v : ℕ). IsNamedBetween s l first (at + size_of x.len) p ⊎ (v ≡ s.cell p)) (ap (λ (v : State). v.cell p) (sym noted))
+      (put_both (λ (v : ℕ). IsNamedBetween s l first (at + size_of x.len) p ⊎ (v ≡ s.cell p)) r.cell x.p w p
+      (λ e. inl (subst (IsNamedBetween s l first (at + size_of x.len)) (sym e) (named_here first low)))
+      (λ _. inr (ap (λ (v : State). v.cell p) same ∙ as_before)))
 
   pub kept_more : u ≡ record s { cell = u.cell }
-  kept_more = noted ∙ (λ i. record r { cell = sym (ap (λ (v : State). v.cell) noted) i }) ∙ ap (λ (v : State). record v { cell = u.cell }) (same ∙ kept)
+  kept_more = kept_once s r u x.p w noted (subst (λ (v : State). v ≡ record s { cell = v.cell }) (sym same) kept)
 
   pub here_reads : IsSome (read_of w)
   here_reads = some_found (s.cell x.p) w finds (law.cells.cell_read x.p).1

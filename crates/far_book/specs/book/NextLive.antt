@@ -1,5 +1,5 @@
 -- Which live spans of a log lie at a word or behind it, one after the other.
-use Rattle.std.specs.Prelude.{◌≡◌, ◌⊎◌, ◌+◌, ◌*◌, ◌<◌, ◌++◌, ◌&&◌, nat_le, ℕ, true, List, Contains, Some}
+use Rattle.std.specs.Prelude.{◌≡◌, ◌⊎◌, ◌+◌, ◌*◌, ◌<◌, ◌≤◌, ◌++◌, ◌&&◌, nat_le, ℕ, true, List, Contains, Option, Some, None}
 use Rattle.std.specs.List.{filter}
 use Rattle.far_word.specs.declared.mark.Marks.{Marks}
 use Rattle.far_word.specs.declared.pointer.PtrWord.TheVariants.{Near}
@@ -20,6 +20,15 @@ IsBoundary s l at = (at ≡ s.tail l) ⊎ ((at < s.tail l) × (s.starts (l * LOG
 -- the spans of a log that begin at a word or behind it and in which an object lives, dropped or not
 abbrev pub live_from : State → ℕ → ℕ → List Span
 live_from s l at = filter (λ span. is_live s l span && nat_le at span.at) (spans_of s l)
+
+-- where a search for a live span ended: behind the span that was found, or else where the log's spans end
+abbrev pub searched_to : State → ℕ → Option Span → ℕ
+searched_to s l None = s.tail l
+searched_to s l (Some span) = span.at + size_of span.len
+
+-- the header of a span of the log names this pointer, and the span lies between these words
+abbrev pub IsNamedBetween : State → ℕ → ℕ → ℕ → ℕ → Type 0
+IsNamedBetween s l at end p = (span : Span) × Contains (spans_of s l) span × (span.p ≡ p) × (at ≤ span.at) × (span.at + size_of span.len ≤ end)
 
 -- an object lies in a span: its cell says near, at the span's place, with the length and the data structure that the header says
 pub record IsHomeOf (s : State) (l : ℕ) (span : Span) : Type 0 where

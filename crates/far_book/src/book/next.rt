@@ -1,13 +1,13 @@
 //! How the live spans of a log are found one after the other, without a list of them.
 
-ghost use Rattle.std.specs.Prelude.{◌≡◌, ◌+◌, ◌*◌, ◌<◌, ◌≤◌, ◌∷◌, ℕ, true, [], IsSome, IfSome, IfNone};
+ghost use Rattle.std.specs.Prelude.{◌≡◌, ◌⊎◌, ◌+◌, ◌*◌, ◌<◌, ◌≤◌, ◌∷◌, ℕ, true, [], IsSome, IfSome, IfNone};
 ghost use Rattle.far_word.specs.declared.sizes.TheConstants.{CELLS, LOG_WORDS};
 ghost use Rattle.far_word.specs.Pointer.{read_of};
 ghost use Rattle.far_word.specs.Sizes.{size_of};
 ghost use Rattle.far_log.specs.Spans.{span_at};
 ghost use Rattle.far_core.specs.state.Spans.{names_place, word_in};
 ghost use Rattle.far_book.specs.Finds.{Finds};
-ghost use Rattle.far_book.specs.book.NextLive.{IsBoundary, IsHomeOf, live_from};
+ghost use Rattle.far_book.specs.book.NextLive.{IsBoundary, IsHomeOf, IsNamedBetween, live_from, searched_to};
 
 use crate::book::Book;
 use crate::near::Near;
@@ -20,7 +20,8 @@ impl<N: Near + Drop, D: Device + Drop> Book<N, D> {
     /// `None` where there is none. At `at` a span begins, or the log's spans end: so it is of word 0, and of the word behind the span
     /// that was answered, from which the next call goes on.
     ///
-    /// Of each span that is passed it reads the header and the cell that the header names. It takes no memory.
+    /// Of each span that is passed, up to the one that is answered, it reads the header and the cell that the header names; of no
+    /// other cell anything. It takes no memory.
     pub fn next_live(&mut self, log: u8, at: u16) -> Option<Span>
         requires log { log < (N.view self.old.near).logs }
         requires begins { IsBoundary (N.view self.old.near) log at }
@@ -30,6 +31,7 @@ impl<N: Near + Drop, D: Device + Drop> Book<N, D> {
         ensures inside { IfSome result (λ span. span.at + size_of span.len ≤ LOG_WORDS) }
         ensures lies { IfSome result (λ span. IsHomeOf (N.view self.new.near) log span) }
         ensures found { (p : ℕ) → Finds ((N.view self.old.near).cell p) ((N.view self.new.near).cell p) }
+        ensures others { (p : ℕ) → IsNamedBetween (N.view self.old.near) log at (searched_to (N.view self.old.near) log result) p ⊎ ((N.view self.new.near).cell p ≡ (N.view self.old.near).cell p) }
         ensures kept { N.view self.new.near ≡ record (N.view self.old.near) { cell = (N.view self.new.near).cell } }
         ensures exact { N.still → N.view self.new.near ≡ N.view self.old.near }
         ensures order { self.new.order ≡ self.old.order }

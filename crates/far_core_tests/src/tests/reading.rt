@@ -24,6 +24,31 @@ fn first_object_is_read(rt: HostRuntime) -> Result<(), Fail> {
     Ok(())
 }
 
+/// Whether the cell of this number stands so among all cells of a core.
+fn has_cell(core: &Core, pointer: usize, cell: u64) -> bool {
+    core.cells().get(pointer).copied() == Some(cell)
+}
+
+/// Whether a core of two owners shows the cells that [`peopled`] makes, and no other that is used at the ends of their rows.
+fn shows_people(core: &Core) -> bool {
+    core.cells().len() == 256
+        && has_cell(core, 0, 0xc400_0000_0001_0009)
+        && has_cell(core, 1, 0x8400_0000_0301_0008)
+        && has_cell(core, 2, 0x8400_0000_0701_0008)
+        && has_cell(core, 3, 0)
+        && has_cell(core, 127, 0)
+        && has_cell(core, 128, 0x8400_0000_0501_0008)
+        && has_cell(core, 129, 0)
+        && has_cell(core, 255, 0)
+}
+
+#[test]
+fn cells_stand_by_number(rt: HostRuntime) -> Result<(), Fail> {
+    let core = peopled(&rt, rt.alloc())?;
+    assert!(rt; shows_people(&core));
+    Ok(())
+}
+
 #[test]
 fn start_shows_nothing(rt: HostRuntime) -> Result<(), Fail> {
     let mut core = Core::new(rt.alloc(), SMALL, false)?;

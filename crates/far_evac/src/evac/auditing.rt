@@ -8,6 +8,7 @@ ghost use Rattle.far_book.specs.book.Rows.{row_of};
 ghost use Rattle.far_evac.specs.AnyHand.{Audits, Knows, KnowsMoment};
 ghost use Rattle.far_evac.specs.Census.{has_drop, homes_of, kind_in, kind_named, logs_of};
 ghost use Rattle.far_evac.specs.EvacOf.{moment};
+ghost use Rattle.far_evac.specs.Listing.{ListsEach};
 ghost use Rattle.far_evac.specs.RoundSteps.{among};
 
 use crate::census::{Census, Housed, LogKind, LogState};
@@ -38,10 +39,11 @@ impl<N: Near + Drop, D: Device + Drop> Evac<N, D> {
         self.held().contains(&log)
     }
 
-    /// Where each object is that isn't dropped, by pointer, and what each log is and has, by number. Nothing has moved. Refused
-    /// [`Refused::Memory`] alone.
+    /// Where each object is that isn't dropped, once, by rising pointers, and what each log is and has, once, by number. Nothing
+    /// has moved. Refused [`Refused::Memory`] alone.
     pub fn audit(&mut self) -> Result<Census, Refused>
         ensures lists { IfOk result (λ census. Audits (moment N.view self.old) (moment N.view self.new) census.homes.items census.logs.items) }
+        ensures each { IfOk result (λ census. ListsEach (moment N.view self.new) census.homes.items census.logs.items) }
         ensures exact { N.still → moment N.view self.new ≡ moment N.view self.old }
         ensures device { self.new.book.device ≡ self.old.book.device }
         ensures refused { IfErr result (λ why. why ≡ Memory) }
@@ -58,6 +60,7 @@ impl<N: Near + Drop, D: Device + Drop> Evac<N, D> {
         };
         self.list_homes(&mut homes);
         self.list_logs(&mut logs);
+        self.keeps_law();
         Ok(Census { homes, logs })
     }
 

@@ -2,8 +2,8 @@
 
 use super::{HOT, HOT_EVAC, NO_MARKS};
 use far_word::{
-    HeadWord, Mark, Marks, Place, PtrWord, Refused, ScopeWord, pack_bytes, pointer_len,
-    resting_place, rests_view, size_of, unpack_bytes, without_owner_marks,
+    HeadWord, Mark, Marks, Place, PtrWord, Refused, ScopeWord, object_counts, pack_bytes,
+    pointer_len, resting_place, rests_view, size_of, unpack_bytes, without_owner_marks,
 };
 use std::test::*;
 
@@ -200,6 +200,20 @@ fn fields_alone(rt: HostRuntime) {
     assert!(rt; has_fields(0xe400_000c_0501_0008, 8, None));
     assert!(rt; has_fields(0x9400_000c_0501_0001, 1, None));
     assert!(rt; has_fields(0x0400_0000_0001_0009, 9, None));
+}
+
+// Whether a word on the layout adds this to the objects that aren't dropped, and to those of them that lie near.
+fn adds(word: u64, kept: u64, near: u64) -> bool {
+    PtrWord::read(word).is_some() && object_counts(word) == (kept, near)
+}
+
+#[test]
+fn objects_counted(rt: HostRuntime) {
+    assert!(rt; adds(0, 0, 0));
+    assert!(rt; adds(0x8400_0000_0001_0008, 1, 1) && adds(0xf400_000c_05ff_0008, 1, 1));
+    assert!(rt; adds(0x0400_0000_0001_0009, 1, 0));
+    assert!(rt; adds(0x8c00_0000_0001_0008, 0, 0) && adds(0xfc00_000c_05ff_0008, 0, 0));
+    assert!(rt; adds(0x0c00_0000_0001_0009, 0, 0));
 }
 
 /// Each refusal by its number and text.

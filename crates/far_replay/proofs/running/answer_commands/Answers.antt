@@ -20,6 +20,7 @@ loop-at-init g c =
     record {
       between = c.requires.between;
       round = c.requires.round;
+      strays = c.requires.strays;
       ran = ([], [], (λ rest more h. h), c.add.ensures start [] (c.clear.ensures start));
     }
 
@@ -34,11 +35,12 @@ loop-at-preserved g c =
     let r : Reply = reply_to now command in
     let here = c.at-command.ensures.value in
     let held = c.answer_one.ensures start (flat_map reply_text (Done ∷ known.0)) known.3 in
-    let lasts = still_lasts now command r next (record { law = c.loop-at.evac.book.near.core.law; round = c.loop-at.invariant.round; between = c.loop-at.invariant.between }) c.at-command.ensures.bytes
+    let lasts = still_lasts now command r next (record { law = c.loop-at.evac.book.near.core.law; round = c.loop-at.invariant.round; between = c.loop-at.invariant.between; strays = c.loop-at.invariant.strays }) c.at-command.ensures.bytes
     (record { reply = refl; moment = c.in-Ok.ensures.moment }) in
     record {
       between = lasts.between;
       round = lasts.round;
+      strays = lasts.strays;
       ran = (
         known.0 ++ r ∷ [],
         known.1 ++ next ∷ [],

@@ -1,6 +1,7 @@
 use Rattle.std.proofs.Common.{List, ◌∷◌, ◌++◌, drop}
 use Rattle.std.specs.List.{flat_map}
 use Rattle.far_evac.specs.MomentLaw.{MomentLaw}
+use Rattle.far_evac.specs.Strays.{NoneStrays}
 use Rattle.far_replay.specs.Answers.{Answered}
 use Rattle.far_replay.specs.Moment.{Moment, moment_in, state_in}
 use Rattle.far_replay.specs.Reply.{Reply, Done, reply_text}
@@ -12,6 +13,7 @@ abbrev pub invariant-loop-at : goal.invariant-loop-at
 invariant-loop-at g l = let contents = g.W.Write.contents in record {
   between : Between (state_in l.evac);
   round : MomentLaw (moment_in l.evac);
+  strays : NoneStrays (moment_in l.evac);
   ran : (replies : List Reply) × (moments : List Moment)
       × ((rest : List Reply) (more : List Moment) → Answered (moment_in l.evac) (drop l.at l.commands) rest more
       → Answered (moment_in l.fn.evac) l.commands (replies ++ rest) (moments ++ more))

@@ -1,9 +1,10 @@
 use Rattle.std.proofs.Common.{inl, inr, subst, sym}
 use Rattle.far_core.specs.state.Shape.{is_shape}
 use Rattle.far_evac.specs.MomentLaw.{MomentLaw}
+use Rattle.far_evac.specs.Strays.{NoneStrays}
 use Rattle.far_replay.specs.Between.{Between}
 use Rattle.far_replay.specs.Moment.{Moment}
-use Rattle.far_replay.proofs.Opened.{opening_between, opening_round}
+use Rattle.far_replay.proofs.Opened.{opening_between, opening_round, opening_strays}
 use Rattle.far_replay.proofs.Runs.{in_range, written_front}
 use Rattle.far_replay.proofs.running.answer_heap.Goals as goal
 
@@ -21,3 +22,8 @@ pub answer_commands-requires-clause-round : goal.answer_commands-requires-clause
 answer_commands-requires-clause-round g c =
     let shape = c.args.shape in
     subst MomentLaw (sym c.in-Ok.ensures.moment) (opening_round shape.logs shape.mutators shape.epoch c.in-Ok.ensures.range)
+
+pub answer_commands-requires-clause-strays : goal.answer_commands-requires-clause-strays
+answer_commands-requires-clause-strays g c =
+    let shape = c.args.shape in
+    subst NoneStrays (sym c.in-Ok.ensures.moment) (opening_strays shape.logs shape.mutators shape.epoch c.in-Ok.ensures.range)

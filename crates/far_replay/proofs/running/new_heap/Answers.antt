@@ -1,4 +1,4 @@
-use Rattle.std.proofs.Common.{◌≡◌, ◌∙◌, sym}
+use Rattle.std.proofs.Common.{◌∙◌, sym}
 use Rattle.std.proofs.lemmas.Bool.{true_from_ne_false}
 use Rattle.far_core.specs.state.Shape.{is_shape}
 use Rattle.far_replay.proofs.running.new_heap.Goals as goal

@@ -1,9 +1,10 @@
 use Rattle.far_book.proofs.book.Book.next_live.Goals as goal
 use Rattle.std.proofs.Common.{◌≡◌, ◌+◌, ◌∙◌, arith, ap, sym, subst}
+use Rattle.std.specs.Prelude.{◌⊎◌}
 use Rattle.far_word.specs.Sizes.{size_of}
 use Rattle.far_log.specs.declared.span.Span.{Span}
-use Rattle.far_book.specs.book.NextLive.{IsBoundary, live_from}
-use Rattle.far_book.proofs.region.NextLives.{begun, below_tail, ended, found_more, here_dead, here_lies, here_live, here_next, here_reads, kept_more}
+use Rattle.far_book.specs.book.NextLive.{IsBoundary, IsNamedBetween, live_from}
+use Rattle.far_book.proofs.region.NextLives.{begun, below_tail, ended, found_more, here_dead, here_lies, here_live, here_next, here_reads, kept_more, none_more, others_more}
 
 pub names_place-requires : goal.names_place-requires
 names_place-requires g c =
@@ -60,6 +61,18 @@ returns-then-names_place-clause-found g c =
     let begins = begun s c.args.log c.loop-at.at h.edge below in
     found_more s t r u c.keeps_law.ensures.law c.args.log c.loop-at.at below begins h.kept h.found c.span_at-span.ensures.same c.span_at-span.result c.span_at-span.ensures.is c.see.result c.see.ensures.found c.see.ensures.kept
 
+pub returns-then-names_place-clause-others : goal.returns-then-names_place-clause-others
+returns-then-names_place-clause-others g c =
+    let s = g.N.Near.view c.args.self.now.near in
+    let t = g.N.Near.view c.loop-at.self.near in
+    let r = g.N.Near.view c.span_at-span.new.self.near in
+    let u = g.N.Near.view c.see.new.self.near in
+    let h = c.loop-at.invariant in
+    let below = below_tail s c.args.log c.loop-at.at c.tail-tail.result c.tail-tail.ensures.is c.loop-at-test.true in
+    let begins = begun s c.args.log c.loop-at.at h.edge below in
+    let place = ap (λ (y : Span). y.at) c.span_at-span.ensures.is in
+    λ p. subst (λ n. IsNamedBetween s c.args.log c.args.at (n + size_of c.span_at-span.result.len) p ⊎ (u.cell p ≡ s.cell p)) (sym place) (others_more s t r u c.keeps_law.ensures.law c.args.log c.loop-at.at below begins h.kept h.found c.span_at-span.ensures.same c.span_at-span.result c.span_at-span.ensures.is c.see.result c.see.ensures.found c.see.ensures.kept c.args.at h.low p (h.others p))
+
 pub returns-then-names_place-clause-exact : goal.returns-then-names_place-clause-exact
 returns-then-names_place-clause-exact g c still = c.see.ensures.set still ∙ c.span_at-span.ensures.same ∙ c.loop-at.invariant.exact still
 
@@ -73,14 +86,21 @@ loop-at-preserved g c =
     let below = below_tail s c.args.log c.loop-at.at c.tail-tail.result c.tail-tail.ensures.is c.loop-at-test.true in
     let begins = begun s c.args.log c.loop-at.at h.edge below in
     record {
+      low = omega (arith, h.low);
       edge = subst (λ n. IsBoundary s c.args.log (c.loop-at.at + n)) (sym c.size_of-at.ensures) (here_next s t r u c.keeps_law.ensures.law c.args.log c.loop-at.at below begins h.kept h.found c.span_at-span.ensures.same c.span_at-span.result c.span_at-span.ensures.is c.see.result c.see.ensures.found c.see.ensures.kept);
       rest = subst (λ n. live_from s c.args.log c.args.at ≡ live_from s c.args.log (c.loop-at.at + n)) (sym c.size_of-at.ensures) (h.rest ∙ here_dead s t r u c.keeps_law.ensures.law c.args.log c.loop-at.at below begins h.kept h.found c.span_at-span.ensures.same c.span_at-span.result c.span_at-span.ensures.is c.see.result c.see.ensures.found c.see.ensures.kept (sym c.names_place.ensures ∙ c.if-names_place.false));
       found = found_more s t r u c.keeps_law.ensures.law c.args.log c.loop-at.at below begins h.kept h.found c.span_at-span.ensures.same c.span_at-span.result c.span_at-span.ensures.is c.see.result c.see.ensures.found c.see.ensures.kept;
       kept = kept_more s t r u c.keeps_law.ensures.law c.args.log c.loop-at.at below begins h.kept h.found c.span_at-span.ensures.same c.span_at-span.result c.span_at-span.ensures.is c.see.result c.see.ensures.found c.see.ensures.kept;
+      others = λ p. subst (λ n. IsNamedBetween s c.args.log c.args.at (c.loop-at.at + n) p ⊎ (u.cell p ≡ s.cell p)) (sym c.size_of-at.ensures) (others_more s t r u c.keeps_law.ensures.law c.args.log c.loop-at.at below begins h.kept h.found c.span_at-span.ensures.same c.span_at-span.result c.span_at-span.ensures.is c.see.result c.see.ensures.found c.see.ensures.kept c.args.at h.low p (h.others p));
       exact = λ still. c.see.ensures.set still ∙ c.span_at-span.ensures.same ∙ h.exact still;
       order = c.see.ensures.order ∙ c.span_at-span.ensures.order ∙ h.order;
       device = c.see.ensures.device ∙ c.span_at-span.ensures.device ∙ h.device;
     }
+
+pub returns-clause-others : goal.returns-clause-others
+returns-clause-others g c =
+    let h = c.loop-at.invariant in
+    λ p. none_more (g.N.Near.view c.args.self.now.near) (g.N.Near.view c.loop-at.self.near) c.args.log c.args.at c.loop-at.at h.edge p (h.others p)
 
 pub returns-clause-none : goal.returns-clause-none
 returns-clause-none g c =

@@ -66,7 +66,7 @@ returns-in-Ok-clause-exact g c still =
     let t = view c.send_off.new.book.near in
     let p = c.args.span.p in
     let leaves = subst (λ (e : EvacOf g.row.N.Denot g.row.D.Denot). LeavesAs (view e.book.near) e.book.order t c.send_off.new.book.order p ((view e.book.near).cell p) c.in-Ok.fate) c.self.view_is
-        (c.in-Ok.ensures.exact still) in
+    (c.in-Ok.ensures.exact still) in
     dealt_exact (standing view c.args.self.now c.args.progress.now) (record {
       moment = record { core = t; order = c.send_off.new.book.order; phase = Evacuating; held = held_in c.self.inside.round };
       tally = tally_of c.count.new.progress;

@@ -1,0 +1,292 @@
+-- What walks take of the logs, over any hand.
+use Rattle.std.proofs.Common.{◌≡◌, ◌≢◌, ℕ, zero, suc, ◌+◌, ◌*◌, ◌<◌, ◌≤◌, ◌==◌, Bool, true, false, cond, ◌||◌, eqb, nat_eq, Option, Some, None, List, [], ◌∷◌, ◌++◌, take, drop, inl, inr, arith, ap, sym, refl, ◌∙◌, subst}
+use Rattle.std.specs.List.{AllByRecursion, IsDistinct, range_with_len, sum_by}
+use Rattle.std.proofs.lemmas.Bool.{cases_eq, cond_both, eq-eqb, eqb-true, ne_eqb, true≢false, false≢true}
+use Rattle.std.proofs.lemmas.List.Sums.{sum_by-cons}
+use Rattle.std.proofs.lemmas.Map.Keys.{IsDistinct-tail}
+use Rattle.far_word.specs.declared.mark.Marks.{Marks}
+use Rattle.far_word.specs.declared.pointer.Place.{Place}
+use Rattle.far_word.specs.declared.pointer.PtrWord.{PtrWord}
+use Rattle.far_word.specs.declared.pointer.PtrWord.TheVariants.{Free, Near, Far}
+use Rattle.far_word.specs.declared.sizes.TheConstants.{CELLS, LOG_WORDS, MOST_MUTATORS, POINTERS}
+use Rattle.far_word.specs.Pointer.{read_of}
+use Rattle.far_word.specs.Sizes.{bytes_taken, size_of}
+use Rattle.far_core.specs.declared.event.Kind.TheVariants as kinds
+use Rattle.far_core.specs.events.Clear.{is_near}
+use Rattle.far_core.specs.laws.Observed.{dead_bytes, live_bytes, unused_bytes}
+use Rattle.far_core.specs.state.Law.{Law}
+use Rattle.far_core.specs.state.Spans.{names_place}
+use Rattle.far_core.specs.state.State.{State}
+use Rattle.far_core.proofs.Observations.{in_range}
+use Rattle.far_book.specs.Finds.{Finds}
+use Rattle.far_book.specs.book.Own.{own_part}
+use Rattle.far_book.proofs.region.Whole.{near_has_one_live, walks}
+use Rattle.far_evac.specs.declared.phase.Phase.{Phase}
+use Rattle.far_evac.specs.AnyHand.{FindsFirst, KnowsMoment, KnowsWalked, WalksTo, found_first}
+use Rattle.far_evac.specs.Dealings.{BeginsLive}
+use Rattle.far_evac.specs.Live.{is_empty, live_among, live_in}
+use Rattle.far_evac.specs.LiveLaws.{IsNearIn}
+use Rattle.far_evac.specs.Moment.{Moment, Tally}
+use Rattle.far_evac.specs.Ready.{Ready}
+use Rattle.far_evac.specs.RoundSteps.{among}
+use Rattle.far_evac.specs.TakesRoom.{IsAside, IsBack, IsLeft, TakesRoom, WalkTakesRoom, all_live, bytes_at, bytes_gone, bytes_in, bytes_near, gone_of}
+use Rattle.far_evac.specs.Walk.{Drops, Goes, Moves, Walked, Way, begun, dealt_as, dealt_so, freed, left, passed, settled, way_of}
+use Rattle.far_evac.proofs.Dealt.{Gone}
+use Rattle.far_evac.proofs.Given.{drop_next}
+use Rattle.far_evac.proofs.Leading.{not_zero}
+use Rattle.far_evac.proofs.LiveOnce.{LivesIn, each_map, first_named, near_at}
+use Rattle.far_evac.proofs.Orders.{Left, walks_left}
+use Rattle.far_evac.proofs.RoomTaken.{IsOff, Taken, alike_known, elsewhere_none, none_taken, off_none, sum_none, taken_alike, taken_back, taken_more}
+use Rattle.far_evac.proofs.SpanBytes.{Dealt, Sound, all_used}
+use Rattle.far_evac.proofs.SpansDealt.{way_dealt}
+use Rattle.far_evac.proofs.Subjects.{so_cell}
+use Rattle.far_evac.proofs.Tours.{core_so, first_live, gone_found, others, stand, test_of}
+
+-- ---- the book's part of the law
+used_log : (s : State) → Law (own_part s) → (p len ds : ℕ) (place : Place) (marks : Marks) → read_of (s.cell p) ≡ Some (Near len ds place marks) → place.log < s.logs
+used_log s law p len ds place marks near =
+    let fits = (in_range (own_part s) law p len ds place marks near).0 in
+    law.logs.log_range place.log (λ free. (let none : s.tail place.log ≡ 0 = law.logs.free_tail place.log free in omega (arith, fits, none)))
+
+pub sound_of : (s : State) → Law (own_part s) → Sound s
+sound_of s law = record {
+  tile = λ l. (walks s law l).tile;
+  placed = λ p len ds place marks near. (near_has_one_live s law p len ds place marks near).placed;
+  inside = used_log s law;
+  bare = law.logs.free_tail;
+  short = law.logs.tail_end;
+  pointer = λ p len ds place marks near.
+      let range = law.cells.cell_range p (not_zero (s.cell p) len ds place marks near) in
+      let few = law.shape.few_mutators in omega (arith, range, few);
+}
+
+-- ---- logs in front are given back
+passed_taken : (m : Moment) (objects ls : List ℕ) (v : Walked) → IsDistinct eqb ls → Taken m v.moment.core ls objects → Taken m (passed v ls).moment.core (passed v ls).moment.held objects
+passed_taken m objects [] v once h = h
+passed_taken m objects (l ∷ ls) v once h = cond_both (is_empty (live_in v.moment.core l)) (passed (freed v l) ls) (record v { moment = record v.moment { held = l ∷ ls } })
+    (λ (w : Walked). Taken m w.moment.core w.moment.held objects)
+    (λ none. passed_taken m objects ls (freed v l) (IsDistinct-tail eqb l ls once) (taken_back v.moment.core l h.sound none m ls objects once (apart ls (others l ls once)) h))
+    (λ _. h) where
+      apart : (ks : List ℕ) → AllByRecursion (λ k. k ≢ l) ks → (k : ℕ) → among ks k ≡ true → k ≢ l
+      apart [] each k is = absurd (false≢true is)
+      apart (j ∷ js) each k is = elim (cases_eq k j) [
+        | inl e ↦ (λ same. each.0 (sym e ∙ same))
+        | inr ne ↦ apart js each.1 k (sym (ap (λ b. b || among js k) (ne_eqb k j ne)) ∙ is)
+      ]
+
+known_taken : (m : Moment) (objects : List ℕ) (w t : Walked) → KnowsWalked w t → Taken m w.moment.core w.moment.held objects → Taken m t.moment.core t.moment.held objects
+known_taken m objects w t known h =
+    subst (λ held. Taken m t.moment.core held objects) (sym (ap (λ (n : Moment). n.held) known.moment.rest))
+    (taken_alike w.moment.core t.moment.core (alike_known w.moment.core t.moment.core known.moment.core) m w.moment.held objects h)
+
+-- ---- the first object is dealt with
+off_each : (s : State) (p : ℕ) (held : List ℕ) → AllByRecursion (λ l. (at : ℕ) → names_place (read_of (s.cell p)) l at ≡ false) held → IsOff s held p
+off_each s p [] each l at is = absurd (false≢true is)
+off_each s p (k ∷ ks) each l at is = elim (cases_eq l k) [
+  | inl e ↦ ap (λ x. names_place (read_of (s.cell p)) x at) e ∙ each.0 at
+  | inr ne ↦ off_each s p ks each.1 l at (sym (ap (λ b. b || among ks l) (ne_eqb l k ne)) ∙ is)
+]
+
+module _ (m : Moment) (objects : List ℕ) (s : State) (order : List ℕ) (phase : Phase) (l : ℕ) (ls : List ℕ) (tally : Tally) (p : ℕ) (ps : List ℕ) (ready : Ready s (l ∷ ls)) (first : live_in s l ≡ p ∷ ps)
+    (word : ℕ) (finds : Finds (s.cell p) word) (h : Taken m s (l ∷ ls) objects) where
+  front : among (l ∷ ls) l ≡ true
+  front = ap (λ b. b || among ls l) (eq-eqb l l refl)
+
+  so_taken : (way : Way) → way_of s (read_of word) ≡ way → Taken m (core_so s p way) (l ∷ ls) (objects ++ p ∷ [])
+  so_taken way is =
+      taken_more m s (core_so s p way) (l ∷ ls) objects h p l (first_named s l p ps first) front (way_dealt s h.sound l ls p ps ready first word finds way is)
+      (λ q ne. so_cell p q ne s way) (off_each (core_so s p way) p (l ∷ ls) (gone_found s l ls p ps ready first word finds way is).off)
+
+  way_taken : (way : Way) → way_of s (read_of word) ≡ way →
+      let w = settled (dealt_so (stand s order phase (l ∷ ls) tally) p way) in Taken m w.moment.core w.moment.held (objects ++ p ∷ [])
+  way_taken Drops is = passed_taken m (objects ++ p ∷ []) (l ∷ ls) (dealt_so (stand s order phase (l ∷ ls) tally) p Drops) ready.once (so_taken Drops is)
+  way_taken (Moves place) is = passed_taken m (objects ++ p ∷ []) (l ∷ ls) (dealt_so (stand s order phase (l ∷ ls) tally) p (Moves place)) ready.once (so_taken (Moves place) is)
+  way_taken Goes is = passed_taken m (objects ++ p ∷ []) (l ∷ ls) (dealt_so (stand s order phase (l ∷ ls) tally) p Goes) ready.once (so_taken Goes is)
+
+front_taken : (m : Moment) (objects : List ℕ) (s : State) (order : List ℕ) (phase : Phase) (held : List ℕ) (tally : Tally) (live : List ℕ) (p : ℕ) (rest : List ℕ) (word : ℕ) →
+    Ready s held → BeginsLive s held → live_among s held ≡ p ∷ rest → Finds (s.cell p) word → first_live s held ≡ live → Taken m s held objects →
+    let w = settled (dealt_as (stand s order phase held tally) p (read_of word)) in Taken m w.moment.core w.moment.held (objects ++ p ∷ [])
+front_taken m objects s order phase [] tally live p rest word ready begins is finds front h = absurd cc
+front_taken m objects s order phase (l ∷ ls) tally [] p rest word ready begins is finds front h = absurd (true≢false (sym (ap is_empty front) ∙ begins))
+front_taken m objects s order phase (l ∷ ls) tally (q ∷ qs) p rest word ready begins is finds front h =
+    let both : q ∷ (qs ++ live_among s ls) ≡ p ∷ rest = sym (ap (λ live. live ++ live_among s ls) front) ∙ is in
+    let same : q ≡ p = cc in
+    let here : live_in s l ≡ p ∷ qs = front ∙ ap (λ x. x ∷ qs) same in
+    way_taken m objects s order phase l ls tally p qs ready here word finds h (way_of s (read_of word)) refl
+
+-- ---- object after object, from where other walks have led
+append_assoc : (xs ys zs : List ℕ) → (xs ++ ys) ++ zs ≡ xs ++ (ys ++ zs)
+append_assoc [] ys zs = refl
+append_assoc (x ∷ xs) ys zs = ap (λ rest. x ∷ rest) (append_assoc xs ys zs)
+
+append_none : (xs : List ℕ) → xs ≡ xs ++ []
+append_none [] = refl
+append_none (x ∷ xs) = ap (λ rest. x ∷ rest) (append_none xs)
+
+next_taken : (m v : Moment) (before : List ℕ) (k : ℕ) (u : Walked) (word : ℕ) (t : Walked) → Left v k u → Taken m u.moment.core u.moment.held (before ++ take k (live_among v.core v.held)) →
+    (xs : List ℕ) → left u ≡ xs → FindsFirst u word xs → KnowsWalked (found_first u word xs) t → Taken m t.moment.core t.moment.held (before ++ take (suc k) (live_among v.core v.held))
+next_taken m v before k u word t h d [] e finds leaves = absurd finds
+next_taken m v before k u word t h d (p ∷ rest) e finds leaves =
+    let objects = take k (live_among v.core v.held) in
+    let more = (drop_next k (live_among v.core v.held) p rest (sym h.rests.left ∙ e)).2 in
+    subst (Taken m t.moment.core t.moment.held) (append_assoc before objects (p ∷ []) ∙ ap (λ xs. before ++ xs) (sym more))
+    (known_taken m ((before ++ objects) ++ (p ∷ [])) (settled (dealt_as u p (read_of word))) t leaves
+    (front_taken m (before ++ objects) u.moment.core u.moment.order u.moment.phase u.moment.held u.tally (first_live u.moment.core u.moment.held) p rest word h.rests.ready h.rests.begins e finds refl d))
+
+pub walks_taken : (m v : Moment) (before : List ℕ) → Taken m v.core v.held before → (k : ℕ) (t : Walked) → Ready v.core v.held → WalksTo v k t →
+    Taken m t.moment.core t.moment.held (before ++ take k (live_among v.core v.held))
+walks_taken m v before h zero t ready walks =
+    subst (Taken m t.moment.core t.moment.held) (append_none before) (known_taken m before (settled (begun v)) t walks (passed_taken m before v.held (begun v) ready.once h))
+walks_taken m v before h (suc k) t ready (u, word, walks, deals) =
+    next_taken m v before k u word t (walks_left v k u ready walks) (walks_taken m v before h k u ready walks) (left u) refl deals.finds deals.leaves
+
+-- ---- all logs together
+sums_same : (a b c d : ℕ → ℕ) → ((x : ℕ) → a x + b x ≡ c x + d x) → (xs : List ℕ) → sum_by a xs + sum_by b xs ≡ sum_by c xs + sum_by d xs
+sums_same a b c d each [] = refl
+sums_same a b c d each (x ∷ xs) =
+    let e = each x in let rest = sums_same a b c d each xs in
+    omega (arith, e, rest, sum_by-cons a x xs, sum_by-cons b x xs, sum_by-cons c x xs, sum_by-cons d x xs)
+
+sum_two : (f g h : ℕ → ℕ) → ((x : ℕ) → f x ≡ g x + h x) → (xs : List ℕ) → sum_by f xs ≡ sum_by g xs + sum_by h xs
+sum_two f g h each [] = refl
+sum_two f g h each (x ∷ xs) =
+    let e = each x in let rest = sum_two f g h each xs in
+    omega (arith, e, rest, sum_by-cons f x xs, sum_by-cons g x xs, sum_by-cons h x xs)
+
+all_of : (P : ℕ → Type 0) → ((x : ℕ) → P x) → (xs : List ℕ) → AllByRecursion P xs
+all_of P each [] = tt
+all_of P each (x ∷ xs) = (each x, all_of P each xs)
+
+module _ (k n : ℕ) where
+  abbrev here : ℕ → ℕ
+  here l = cond (k == l) n 0
+
+  none_behind : (a b : ℕ) → k < a → sum_by here (range_with_len a b) ≡ 0
+  none_behind a zero lt = refl
+  none_behind a (suc b) lt =
+      let first : here a ≡ 0 = ap (λ x. cond x n 0) (ne_eqb k a (λ e. omega (arith, lt, e))) in
+      let rest = none_behind (a + 1) b (omega (arith, lt)) in
+      omega (arith, first, rest, sum_by-cons here a (range_with_len (a + 1) b))
+
+  one_log : (a b : ℕ) → a ≤ k → k < a + b → sum_by here (range_with_len a b) ≡ n
+  one_log a zero low high = absurd (omega (arith, low, high))
+  one_log a (suc b) low high = elim (cases_eq k a) [
+    | inl e ↦
+        let first : here a ≡ n = ap (λ x. cond x n 0) (eq-eqb k a e) in
+        let rest = none_behind (a + 1) b (omega (arith, e)) in
+        omega (arith, first, rest, sum_by-cons here a (range_with_len (a + 1) b))
+    | inr ne ↦
+        let first : here a ≡ 0 = ap (λ x. cond x n 0) (ne_eqb k a ne) in
+        let rest = one_log (a + 1) b (omega (arith, low, ne)) (omega (arith, high)) in
+        omega (arith, first, rest, sum_by-cons here a (range_with_len (a + 1) b))
+  ]
+
+at_one : (n : ℕ) (o : Option PtrWord) → ((len ds : ℕ) (place : Place) (marks : Marks) → o ≡ Some (Near len ds place marks) → place.log < n) → sum_by (λ l. bytes_at l o) (range_with_len 0 n) ≡ bytes_near o
+at_one n None inside = sum_none (λ l. 0) (range_with_len 0 n) (all_of (λ x. 0 ≡ 0) (λ x. refl) (range_with_len 0 n))
+at_one n (Some Free) inside = sum_none (λ l. 0) (range_with_len 0 n) (all_of (λ x. 0 ≡ 0) (λ x. refl) (range_with_len 0 n))
+at_one n (Some (Near len ds place marks)) inside = one_log place.log (bytes_taken len) 0 n (omega arith) (let lt = inside len ds place marks refl in omega (arith, lt))
+at_one n (Some (Far len ds marks)) inside = sum_none (λ l. 0) (range_with_len 0 n) (all_of (λ x. 0 ≡ 0) (λ x. refl) (range_with_len 0 n))
+
+abbrev near_of : State → ℕ → ℕ
+near_of s p = bytes_near (read_of (s.cell p))
+
+in_all : (s : State) → Sound s → (objects : List ℕ) → sum_by (λ l. bytes_in s l objects) (range_with_len 0 s.logs) ≡ sum_by (near_of s) objects
+in_all s sound [] = sum_none (λ l. bytes_in s l []) (range_with_len 0 s.logs) (all_of (λ l. bytes_in s l [] ≡ 0) (λ l. refl) (range_with_len 0 s.logs))
+in_all s sound (p ∷ ps) =
+    let two = sum_two (λ l. bytes_in s l (p ∷ ps)) (λ l. bytes_at l (read_of (s.cell p))) (λ l. bytes_in s l ps) (λ l. sum_by-cons (λ q. bytes_at l (read_of (s.cell q))) p ps) (range_with_len 0 s.logs) in
+    let one = at_one s.logs (read_of (s.cell p)) (sound.inside p) in
+    let rest = in_all s sound ps in
+    omega (arith, two, one, rest, sum_by-cons (near_of s) p ps)
+
+away_none : (o : Option PtrWord) → is_near o ≡ false → bytes_near o ≡ 0
+away_none None h = refl
+away_none (Some Free) h = refl
+away_none (Some (Near len ds place marks)) h = absurd (true≢false h)
+away_none (Some (Far len ds marks)) h = refl
+
+gone_one : (s t : State) (p : ℕ) → (is_near (read_of (t.cell p)) ≡ true → near_of t p ≡ near_of s p) → (b : Bool) → is_near (read_of (t.cell p)) ≡ b → near_of s p ≡ near_of t p + gone_of s t p
+gone_one s t p size true is = (let a = size is in let b : gone_of s t p ≡ 0 = ap (λ x. cond x 0 (near_of s p)) is in omega (arith, a, b))
+gone_one s t p size false is = (let a = away_none (read_of (t.cell p)) is in let b : gone_of s t p ≡ near_of s p = ap (λ x. cond x 0 (near_of s p)) is in omega (arith, a, b))
+
+gone_all : (s t : State) (objects : List ℕ) → AllByRecursion (λ p. is_near (read_of (t.cell p)) ≡ true → near_of t p ≡ near_of s p) objects → sum_by (near_of s) objects ≡ sum_by (near_of t) objects + bytes_gone s t objects
+gone_all s t [] sizes = refl
+gone_all s t (p ∷ ps) sizes =
+    let first = gone_one s t p sizes.0 (is_near (read_of (t.cell p))) refl in
+    let rest = gone_all s t ps sizes.1 in
+    omega (arith, first, rest, sum_by-cons (near_of s) p ps, sum_by-cons (near_of t) p ps, sum_by-cons (gone_of s t) p ps)
+
+-- ---- what was taken, in the words of the law
+module _ (m t : Moment) (sound : Sound m.core) (objects : List ℕ) (h : Taken m t.core t.held objects) where
+  total : all_live t.core + bytes_gone m.core t.core objects ≡ all_live m.core
+  total =
+      let range = range_with_len 0 m.core.logs in
+      let logs = sums_same (live_bytes t.core) (λ l. bytes_in m.core l objects) (live_bytes m.core) (λ l. bytes_in t.core l objects) h.live range in
+      let before = in_all m.core sound objects in
+      let after : sum_by (λ l. bytes_in t.core l objects) range ≡ sum_by (near_of t.core) objects = ap (λ n. sum_by (λ l. bytes_in t.core l objects) (range_with_len 0 n)) (sym h.logs) ∙ in_all t.core h.sound objects in
+      let same : all_live t.core ≡ sum_by (live_bytes t.core) range = ap (λ n. sum_by (live_bytes t.core) (range_with_len 0 n)) h.logs in
+      let gone = gone_all m.core t.core objects h.sizes in
+      omega (arith, logs, before, after, same, gone)
+
+  -- nothing of a log that wasn't held
+  none_left : (l : ℕ) → among m.held l ≡ false → bytes_in m.core l objects ≡ 0
+  none_left l aside = sum_none (λ p. bytes_at l (read_of (m.core.cell p))) objects (each_map (λ p (x : IsNearIn m.core m.held p).
+      ap (bytes_at l) x.near ∙ ap (λ b. cond b (bytes_taken x.len) 0) (ne_eqb x.place.log l (λ e. true≢false (sym x.log ∙ ap (among m.held) e ∙ aside)))) objects h.from)
+
+  -- and nothing comes to one that is
+  none_came : (l : ℕ) → among t.held l ≡ true → bytes_in t.core l objects ≡ 0
+  none_came l is = sum_none (λ p. bytes_at l (read_of (t.core.cell p))) objects (each_map (λ p (off : IsOff t.core t.held p). off_none l (read_of (t.core.cell p)) (λ at. off l at is)) objects h.off)
+
+  is_aside : (l : ℕ) → among m.held l ≡ false → IsAside m.core t.core objects l
+  is_aside l aside =
+      let none = none_left l aside in
+      let live = h.live l in
+      let tail = h.kept l (inl aside) in
+      let now = all_used t.core h.sound l in
+      let was = all_used m.core sound l in
+      let short = h.sound.short l in
+      record {
+        live = omega (arith, none, live);
+        dead = omega (arith, none, live, tail, now, was);
+        unused = omega (arith, tail, short);
+        sealed = λ shut. (let x = h.sealed l aside shut in let same = x.1 in (x.0, omega (arith, tail, same)));
+        opened = λ free some. (let x = h.opened l aside free some in let bare = sound.bare l free in omega (arith, tail, x, bare));
+        used = h.used l aside;
+      }
+
+  is_left : (l : ℕ) → among t.held l ≡ true → IsLeft m.core t.core objects l
+  is_left l is =
+      let none = none_came l is in
+      let live = h.live l in
+      let tail = h.kept l (inr is) in
+      let now = all_used t.core h.sound l in
+      let was = all_used m.core sound l in
+      record { live = omega (arith, none, live); dead = omega (arith, none, live, tail, now, was); unused = omega (arith, none, tail) }
+
+  is_back : (l : ℕ) → among m.held l ≡ true → among t.held l ≡ false → IsBack m.core t.core objects l
+  is_back l was is =
+      let live = h.live l in
+      let back = h.back l was is in
+      let tail = back.0 in
+      let came = back.1 in
+      let now = all_used t.core h.sound l in
+      let short = h.sound.short l in
+      record { left = omega (arith, live, came); live = came; dead = omega (arith, tail, came, now); unused = omega (arith, tail, short) }
+
+  pub room_taken : TakesRoom m t objects
+  room_taken = record {
+    once = h.once;
+    of_held = h.from;
+    away = h.away;
+    others = h.others;
+    sizes = h.sizes;
+    aside = is_aside;
+    left = is_left;
+    back = is_back;
+    logs = h.logs;
+    total = total;
+  }
+
+pub walk_takes_room : WalkTakesRoom
+walk_takes_room m k t law ready walks =
+    let sound = sound_of m.core law in
+    room_taken m t.moment sound (take k (live_among m.core m.held)) (walks_taken m m [] (none_taken m sound) k t ready walks)
