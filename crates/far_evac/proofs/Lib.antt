@@ -1,4 +1,5 @@
 pub mod Ageing
+pub mod Asking
 pub mod Auditing
 pub mod Bools
 pub mod Bounds

@@ -22,7 +22,7 @@ use Rattle.far_evac.specs.declared.phase.Phase.TheVariants.{Evacuating}
 use Rattle.far_evac.specs.declared.round.Round.{Round}
 use Rattle.far_evac.specs.AnyHand.{Knows, KnowsWalked}
 use Rattle.far_evac.specs.Cursor.{IsNextLeaving}
-use Rattle.far_evac.specs.Leaving.{LeavesBy, core_by, counted_as, fate_by, order_by}
+use Rattle.far_evac.specs.Leaving.{LeavesAs, LeavesBy, core_by, counted_as, fate_by, order_by}
 use Rattle.far_evac.specs.Moment.{Moment, Tally}
 use Rattle.far_evac.specs.Ready.{Ready}
 use Rattle.far_evac.specs.RoundSteps.{among}
@@ -123,6 +123,26 @@ pub dealt_known : (w : Walked) (t : Moment) (tally : Tally) (p : ℕ) (fate : Fa
     tally ≡ counted_as w.tally fate → (word : ℕ) × Finds (w.moment.core.cell p) word × KnowsWalked (dealt_as w p (read_of word)) (record { moment = t; tally = tally })
 dealt_known w t tally p fate leaves phase held counted =
     (leaves.word, leaves.found, dealt_way w t tally p fate (way_of w.moment.core (read_of leaves.word)) leaves.core leaves.sealed leaves.is phase held counted)
+
+-- ---- the same, where no word changes but by this
+exact_way : (w v : Walked) (p : ℕ) (fate : Fate) (way : Way) → v.moment.core ≡ core_by w.moment.core p way → v.moment.order ≡ order_by w.moment.core w.moment.order way → fate ≡ fate_by way →
+    v.moment.phase ≡ w.moment.phase → v.moment.held ≡ w.moment.held → v.tally ≡ counted_as w.tally fate → v ≡ dealt_so w p way
+exact_way w v p fate Drops core order is phase held counted = λ i. record {
+  moment = record { core = core i; order = order i; phase = phase i; held = held i };
+  tally = (counted ∙ ap (counted_as w.tally) is) i;
+}
+exact_way w v p fate (Moves place) core order is phase held counted = λ i. record {
+  moment = record { core = core i; order = order i; phase = phase i; held = held i };
+  tally = (counted ∙ ap (counted_as w.tally) is) i;
+}
+exact_way w v p fate Goes core order is phase held counted = λ i. record {
+  moment = record { core = core i; order = order i; phase = phase i; held = held i };
+  tally = (counted ∙ ap (counted_as w.tally) is) i;
+}
+
+pub dealt_exact : (w v : Walked) (p word : ℕ) (fate : Fate) → LeavesAs w.moment.core w.moment.order v.moment.core v.moment.order p word fate → v.moment.phase ≡ w.moment.phase → v.moment.held ≡ w.moment.held →
+    v.tally ≡ counted_as w.tally fate → v ≡ dealt_as w p (read_of word)
+dealt_exact w v p word fate leaves phase held counted = exact_way w v p fate (way_of w.moment.core (read_of word)) leaves.core leaves.sealed leaves.is phase held counted
 
 -- ---- what is found in a near object's cell can be read
 pub quiet_reads : (s : State) (p : ℕ) (q : IsQuietNear s p) → Law (own_part s) → has_evac (read_of (s.cell p)) ≡ true → (w : ℕ) → Finds (s.cell p) w → IsSome (read_of w)

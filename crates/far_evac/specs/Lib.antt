@@ -1,4 +1,5 @@
 pub mod AnyHand
+pub mod Asked
 pub mod Callers
 pub mod Census
 pub mod Choosing

@@ -2,6 +2,7 @@
 
 ghost use Rattle.far_book.specs.Finds.{Finds};
 ghost use Rattle.far_book.specs.Known.{Forgets};
+ghost use Rattle.far_book.specs.book.Asking.{AsksToFetch};
 ghost use Rattle.far_book.specs.book.Dealing.{IsQuietNear, IsRetired, IsSeen, LearnsNone, Leaves, goal, is_failure, moved_now, order_moved};
 ghost use Rattle.far_book.specs.book.Deeds.{Does, Fetches, Moves, Places, Retires};
 ghost use Rattle.far_book.specs.book.Effects.{moved, order_after, placed, retired};
@@ -73,6 +74,7 @@ impl<N: Near + Drop, D: Device + Drop> Evac<N, D> {
         ensures device { IfOk result (λ o. IfSome o (λ _. self.new.book.device ≡ self.old.book.device)) }
         ensures asked { is_dropped (read_of ((N.view self.old.book.near).cell pointer)) ≡ true → result ≡ Ok None }
         ensures gone { IfOk result (λ o. IfNone o (IsRetired N.still (N.view self.old.book.near) (N.view self.new.book.near) pointer)) }
+        ensures called { IfOk result (λ o. IfNone o (D.lets_go self.old.book.device pointer self.new.book.device)) }
         ensures forgotten { IfOk result (λ o. IfNone o (D.forgets → D.contents self.new.book.device pointer ≡ None)) }
         ensures others { KeepsOthers (D.contents self.old.book.device) (D.contents self.new.book.device) pointer }
         ensures honest { D.honest self.new.book.device ≡ D.honest self.old.book.device }
@@ -109,6 +111,7 @@ impl<N: Near + Drop, D: Device + Drop> Evac<N, D> {
         ensures unread { IfOk result (λ found. IfNone found (LearnsNone (N.view self.old.book.near) (N.view self.new.book.near))) }
         ensures asked { is_dropped (read_of ((N.view self.old.book.near).cell pointer)) ≡ true → result ≡ Ok None }
         ensures order { IfOk result (λ found. self.new.book.order ≡ order_fetched (N.view self.old.book.near) self.old.book.order found) }
+        ensures called { AsksToFetch D D.reads D.lets_go N.still (N.view self.old.book.near) (N.view self.new.book.near) pointer result self.old.book.device self.new.book.device }
         ensures forgot { D.forgets → IfOk result (λ _. D.contents self.new.book.device pointer ≡ None) }
         ensures others { KeepsOthers (D.contents self.old.book.device) (D.contents self.new.book.device) pointer }
         ensures honest { D.honest self.new.book.device ≡ D.honest self.old.book.device }
@@ -139,6 +142,7 @@ impl<N: Near + Drop, D: Device + Drop> Evac<N, D> {
         ensures forgot { Forgets (N.view self.old.book.near) (N.view self.new.book.near) }
         ensures exact { N.still → N.view self.new.book.near ≡ retired (N.view self.old.book.near) pointer }
         ensures order { self.new.book.order ≡ self.old.book.order }
+        ensures called { D.lets_go self.old.book.device pointer self.new.book.device }
         ensures gone { D.forgets → D.contents self.new.book.device pointer ≡ None }
         ensures others { KeepsOthers (D.contents self.old.book.device) (D.contents self.new.book.device) pointer }
         ensures honest { D.honest self.new.book.device ≡ D.honest self.old.book.device }

@@ -7,6 +7,7 @@ ghost use Rattle.far_policy.specs.Choice.{IsChoice};
 ghost use Rattle.far_word.specs.declared.refused.Refused.{Refused as why_refused};
 ghost use Rattle.far_word.specs.declared.refused.Refused.TheVariants.{Device as Failed, Memory, Phase as WrongPhase};
 ghost use Rattle.far_evac.specs.AnyHand.{TurnsTo, RunsRound, StopsAt, StopsRound};
+ghost use Rattle.far_evac.specs.Asked.{EndsInWrite, IsRefusedWrite, KeepsKeys, asked_of, first_live};
 ghost use Rattle.far_evac.specs.Choosing.{after_selecting};
 ghost use Rattle.far_evac.specs.EvacOf.{moment};
 ghost use Rattle.far_evac.specs.Failing.{fails};
@@ -40,6 +41,8 @@ impl<N: Near + Drop, D: Device + Drop> Evac<N, D> {
         ensures stops { self.old.phase ≢ phase.Idle → IfErr result (λ fault. (self.old.phase ≡ phase.Evacuating) × StopsAt (moment N.view self.old) turn_size (moment N.view self.new) (tally_of fault.so_far)) }
         ensures halts { N.still → self.old.phase ≢ phase.Idle → IfErr result (λ fault. (tally : Tally) × Halts (moment N.view self.old) turn_size (moment N.view self.new) tally × (fault.so_far ≡ progress_of tally false)) }
         ensures why { self.old.phase ≢ phase.Idle → IfErr result (λ fault. (fault.why ≡ Memory) ⊎ (fault.why ≡ Failed)) }
+        ensures refused { self.old.phase ≢ phase.Idle → IfErr result (λ fault. IsRefusedWrite D D.writes D.lets_go (moment N.view self.old) (tally_of fault.so_far) fault.why self.old.book.device self.new.book.device) }
+        ensures keys { KeepsKeys (first_live (moment N.view self.old) (asked_of result)) (D.contents self.old.book.device) (D.contents self.new.book.device) }
         ensures counted { CountsFault (fails result) (D.faults self.old.book.device) (D.faults self.new.book.device) }
         ensures spent { SpendsFault (fails result) (D.fails_at_most self.old.book.device) (D.fails_at_most self.new.book.device) }
         ensures honest { D.honest self.new.book.device ≡ D.honest self.old.book.device }
@@ -87,6 +90,7 @@ impl<N: Near + Drop, D: Device + Drop> Evac<N, D> {
             × (((fault.why ≡ Memory) × (policy.new ≡ policy.old)) ⊎ P.gives policy.old (map (row_of (N.view self.old.book.near)) self.old.book.order) most (Err fault.why) policy.new))
             ⊎ ((logs : List ℕ) × P.gives policy.old (map (row_of (N.view self.old.book.near)) self.old.book.order) most (Ok logs) policy.new
             × StopsRound (moment N.view self.old) logs turns fault.so_far (moment N.view self.new) × ((fault.why ≡ Memory) ⊎ (fault.why ≡ Failed)))) }
+        ensures called { IfErr result (λ fault. (self.new ≡ self.old) ⊎ EndsInWrite D D.writes fault.why self.new.book.device) }
         ensures halts { N.still → unselectable (moment N.view self.old) ≡ None → IfErr result (λ fault. ((fault.so_far ≡ progress_of nothing false) × (self.new ≡ self.old))
             ⊎ ((logs : List ℕ) × P.gives policy.old (map (row_of (N.view self.old.book.near)) self.old.book.order) most (Ok logs) policy.new
             × HaltsTurns (after_selecting (moment N.view self.old) logs) turns fault.so_far (moment N.view self.new))) }
@@ -118,6 +122,7 @@ impl<N: Near + Drop, D: Device + Drop> Evac<N, D> {
         ensures stops { IfErr result (λ fault. StopsTurns (moment N.view self.old) turns fault.so_far (moment N.view self.new)) }
         ensures halts { N.still → IfErr result (λ fault. HaltsTurns (moment N.view self.old) turns fault.so_far (moment N.view self.new)) }
         ensures why { IfErr result (λ fault. (fault.why ≡ Memory) ⊎ (fault.why ≡ Failed)) }
+        ensures called { IfErr result (λ fault. EndsInWrite D D.writes fault.why self.new.book.device) }
         ensures counted { CountsFault (fails result) (D.faults self.old.book.device) (D.faults self.new.book.device) }
         ensures spent { SpendsFault (fails result) (D.fails_at_most self.old.book.device) (D.fails_at_most self.new.book.device) }
         ensures honest { D.honest self.new.book.device ≡ D.honest self.old.book.device }
@@ -158,6 +163,7 @@ impl<N: Near + Drop, D: Device + Drop> Evac<N, D> {
         ensures stops { IfErr result (λ fault. (tally : Tally) × StopsAt (moment N.view self.old) turn_size (moment N.view self.new) tally × (fault.so_far ≡ progress_of (plus (tally_of before) tally) false)) }
         ensures halts { N.still → IfErr result (λ fault. (tally : Tally) × Halts (moment N.view self.old) turn_size (moment N.view self.new) tally × (fault.so_far ≡ progress_of (plus (tally_of before) tally) false)) }
         ensures why { IfErr result (λ fault. (fault.why ≡ Memory) ⊎ (fault.why ≡ Failed)) }
+        ensures called { IfErr result (λ fault. EndsInWrite D D.writes fault.why self.new.book.device) }
         ensures counted { CountsFault (fails result) (D.faults self.old.book.device) (D.faults self.new.book.device) }
         ensures spent { SpendsFault (fails result) (D.fails_at_most self.old.book.device) (D.fails_at_most self.new.book.device) }
         ensures honest { D.honest self.new.book.device ≡ D.honest self.old.book.device }

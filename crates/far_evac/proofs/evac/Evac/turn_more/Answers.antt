@@ -4,6 +4,7 @@ use Rattle.far_evac.specs.declared.answers.Progress.{Progress}
 use Rattle.far_evac.specs.EvacOf.{moment}
 use Rattle.far_evac.specs.Moment.{tally_of}
 use Rattle.far_evac.specs.Turning.{GoesOn}
+use Rattle.far_evac.proofs.Asking.{ends_so}
 use Rattle.far_evac.proofs.Bounds.{stop_bounded, turn_goes_on}
 use Rattle.far_evac.proofs.TurnsOn.{not_idle}
 
@@ -35,3 +36,9 @@ pub returns-in-Err-clause-stops : goal.returns-in-Err-clause-stops
 returns-in-Err-clause-stops g c =
     let m = moment g.N.Near.view c.args.self.now in
     (tally_of c.in-Err.fault.so_far, (c.in-Err.ensures.stops (not_idle m.phase c.requires.running)).1, c.sum-in-Err.ensures)
+
+pub returns-in-Err-clause-called : goal.returns-in-Err-clause-called
+returns-in-Err-clause-called g c =
+    let m = moment g.N.Near.view c.args.self.now in
+    ends_so g.row.D.Denot g.D.Device.writes g.D.Device.lets_go m (tally_of c.in-Err.fault.so_far) c.in-Err.fault.why c.args.self.now.book.device c.turn.new.self.book.device
+    (c.in-Err.ensures.refused (not_idle m.phase c.requires.running))
