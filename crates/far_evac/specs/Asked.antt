@@ -32,7 +32,7 @@ AsksAs D writes lets_go p Moved old new = new ≡ old
 AsksAs D writes lets_go p Far old new = (bytes : List ℕ) × writes old p bytes (Ok tt) new
 AsksAs D writes lets_go p Dropped old new = lets_go old p new ⊎ ((bytes : List ℕ) × (between : D) × writes old p bytes (Ok tt) between × lets_go between p new)
 
--- objects left so, one after the other
+-- objects left so, one after the other. Which of the three ways each one went is left open here
 abbrev pub AsksForAll : (D : Type 0) (writes : D → ℕ → List ℕ → Result (Unit {0}) DeviceFault → D → Type 0) (lets_go : D → ℕ → D → Type 0) → List ℕ → D → D → Type 0
 AsksForAll D writes lets_go [] old new = new ≡ old
 AsksForAll D writes lets_go (p ∷ ps) old new = (fate : Fate) × (between : D) × AsksAs D writes lets_go p fate old between × AsksForAll D writes lets_go ps between new

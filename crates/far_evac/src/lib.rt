@@ -18,5 +18,6 @@ pub use laws::{
     looks_see_clear, marking_is_right, none_strays, objects_go_their_way, poll_is_allowed,
     poll_is_once, risen_is_ready, round_is_allowed, round_is_event, rounds_are_so,
     rounds_keep_objects, rounds_lead, rounds_retire_none, waiting_stays, walk_is_tour, walks_join,
+    walks_take_room,
 };
 pub use phase::Phase;

@@ -478,7 +478,7 @@ NewIsMade = (now : Moment) (m len ds : ℕ) (r : Reply) (after : Moment) → m <
     × ((q : ℕ) → m * CELLS ≤ q → q < m * CELLS + CELLS → now.core.cell q ≡ 0 →
     (room now.core (size_of len) true ≡ None → r ≡ Refused NoRoom) × ((place : Place) → room now.core (size_of len) true ≡ Some place → (p : ℕ) × (r ≡ Pointer p)))
 
--- a new object and one that is brought for a view alone take room, and no more than their span
+-- what any command takes of the logs is what `TakesRoom` says: a new object and one that is brought for a view their span, steps that move objects the room of those that came
 abbrev pub CommandsTakeRoom : Type 0
 CommandsTakeRoom = (now : Moment) (c : Command) (r : Reply) (after : Moment) → IsMoment now → Commanded now c r after → TakesRoom now c r after
 
