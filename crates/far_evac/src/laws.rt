@@ -6,7 +6,7 @@ ghost use Rattle.far_evac.specs.Owned.{AbortingKeepsObjects, MarkingKeepsObjects
 ghost use Rattle.far_evac.specs.Emptied.{LogsComeBackEmpty};
 ghost use Rattle.far_evac.specs.Listing.{CensusListsEach};
 ghost use Rattle.far_evac.specs.LiveLaws.{LiveIsInOrder};
-ghost use Rattle.far_evac.specs.Strays.{AbortingStraysNone, CallersStrayNone, ComersJoin, EventsBringNone, MarkingStraysNone, NoRoundStraysNone, OwnersBringNone, PollingStraysNone, RisenStraysNone, RoundStraysNone, SelectingStraysNone, TurnsStrayNone, WalkingStraysNone};
+ghost use Rattle.far_evac.specs.Strays.{AbortingStraysNone, CallersStrayNone, CallsStrayNone, ComersJoin, EventsBringNone, FoundStrayNone, MarkingStraysNone, NoRoundStraysNone, OwnersBringNone, PollingStraysNone, RisenStraysNone, RoundStraysNone, SelectingStraysNone, TurnsStrayNone, WalkingStraysNone};
 ghost use Rattle.far_evac.specs.TakesRoom.{CallTakesRoom, RoundTakesRoom, TurnsTakeRoom, WalkTakesRoom};
 ghost use Rattle.far_evac.specs.WayLaws.{ObjectsGoTheirWay};
 ghost use Rattle.far_evac.specs.Laws.{CensusIsExact, ClearIsShown, ClearMeansUnviewed, ClearViewsNothing, DealingIsInOrder, ExactIsAllowed, GivingUpIsRight, LooksSeeClear, MarkingIsCounted, MarkingIsRight, PollIsAllowed, PollIsOnce, RisenIsReady, RoundIsAllowed, RoundIsEvent, WaitIsNamed, WaitingStays, WalkIsTour, WalksJoin};
@@ -185,8 +185,8 @@ pub fn callers_keep_order()
 {}
 
 /// Each object that lies in a log of the core's round lies in one that is held: once the epoch has risen, where no other log is in that round; and in a heap
-/// that began without a round also before, when a round that was given up may have left logs there in which nothing lies. So it stays through each call of a
-/// round, turns and whole rounds, and through what callers do between two of them.
+/// that began without a round also before, when a round that was given up may have left logs there in which nothing lies. So it stays, over any hand, through each
+/// call of a round, and where no word changes but by it through turns and whole rounds; and through what callers do between two of them.
 pub fn none_strays()
     ensures start { NoRoundStraysNone }
     ensures risen { RisenStraysNone }
@@ -197,6 +197,8 @@ pub fn none_strays()
     ensures aborting { AbortingStraysNone }
     ensures turns { TurnsStrayNone }
     ensures whole { RoundStraysNone }
+    ensures found { FoundStrayNone }
+    ensures calls { CallsStrayNone }
     ensures callers { CallersStrayNone }
     ensures joined { ComersJoin }
     ensures owners { OwnersBringNone }
