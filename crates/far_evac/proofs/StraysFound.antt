@@ -20,19 +20,20 @@ use Rattle.far_book.specs.book.Own.{own_part}
 use Rattle.far_book.proofs.Finding.{near_known}
 use Rattle.far_evac.specs.declared.answers.Polled.{Polled}
 use Rattle.far_evac.specs.declared.answers.Polled.TheVariants.{Clear, StillOpen}
+use Rattle.far_evac.specs.declared.answers.RoundEnd.{RoundEnd}
 use Rattle.far_evac.specs.declared.phase.Phase.{Phase}
 use Rattle.far_evac.specs.declared.phase.Phase.TheVariants.{Idle, Marking, Waiting, Evacuating}
-use Rattle.far_evac.specs.AnyHand.{Evacuates, FindsFirst, GivesUp, KnowsWalked, MarksSome, Polls, StopsAt, TurnsTo, WalksTo, found_first}
-use Rattle.far_evac.specs.Choosing.{after_aborting}
+use Rattle.far_evac.specs.AnyHand.{Evacuates, FindsFirst, GivesUp, KnowsWalked, MarksSome, Polls, RunsRound, StopsAt, TurnsMade, TurnsTo, WalksTo, found_first}
+use Rattle.far_evac.specs.Choosing.{after_aborting, after_selecting}
 use Rattle.far_evac.specs.Live.{is_empty, live_in}
 use Rattle.far_evac.specs.Marking.{after_marking}
 use Rattle.far_evac.specs.Moment.{Moment, Tally}
-use Rattle.far_evac.specs.MomentLaw.{MomentLaw, has_risen}
+use Rattle.far_evac.specs.MomentLaw.{MomentLaw, has_risen, is_idle}
 use Rattle.far_evac.specs.RoundSteps.{among, with_clear_below}
-use Rattle.far_evac.specs.Strays.{CallsStrayNone, FoundStrayNone, NoneStrays}
+use Rattle.far_evac.specs.Strays.{CallsStrayNone, FoundStrayNone, NoneStrays, RoundsStrayNone, RowsStrayNone}
 use Rattle.far_evac.specs.Turns.{turn_size}
 use Rattle.far_evac.specs.Walk.{Drops, Goes, Moves, Walked, Way, begun, dealt_as, dealt_so, ended, freed, is_done, left, passed, settled, way_of}
-use Rattle.far_evac.proofs.Strays.{aborting_own, marking_own}
+use Rattle.far_evac.proofs.Strays.{aborting_own, marking_own, selecting_none}
 
 -- ---- marks that are found
 pub found_none : FoundStrayNone
@@ -143,4 +144,24 @@ calls_none m t law moment none = (
   λ n tally leaves. stops_none m t law moment none leaves n tally,
   gives_up_none m t law moment none,
   λ tally done. turn_none m t law moment none m.phase tally done refl,
+)
+
+-- ---- turn after turn
+rows : (m t : Moment) (tallies : List Tally) (over : Bool) → TurnsMade m tallies over t → NoneStrays m → NoneStrays t
+rows m t [] over made none = subst NoneStrays (sym made.0) none
+rows m t (tally ∷ tallies) over (u, made, turn, lawful) none = turn_none u t lawful.0 lawful.1 (rows m u tallies false made none) u.phase tally over refl turn
+
+pub rows_none : RowsStrayNone
+rows_none = rows
+
+runs : (m t : Moment) (logs : List ℕ) (turns : ℕ) → MomentLaw m → is_idle m.phase ≡ true → NoneStrays m → (end : RoundEnd) → RunsRound m logs turns end t → NoneStrays t
+runs m t [] turns moment idle none end is = subst NoneStrays (sym is.1) none
+runs m t (l ∷ ls) turns moment idle none end (tallies, over, made, _, _) =
+    rows (after_selecting m (l ∷ ls)) t tallies over made (selecting_none m (l ∷ ls) moment idle none)
+
+pub rounds_none : RoundsStrayNone
+rounds_none m t logs turns moment idle none = (
+  runs m t logs turns moment idle none,
+  λ so_far (tallies, u, tally, made, _, leaves, stops, _, lawful).
+      stops_none u t lawful.0 lawful.1 (rows (after_selecting m logs) u tallies false made (selecting_none m logs moment idle none)) leaves turn_size tally stops,
 )

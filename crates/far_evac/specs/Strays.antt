@@ -14,9 +14,10 @@ use Rattle.far_core.specs.state.State.{State}
 use Rattle.far_book.specs.Owners.{OwnersChange}
 use Rattle.far_book.specs.book.Own.{own_part}
 use Rattle.far_evac.specs.declared.answers.Polled.{Polled}
+use Rattle.far_evac.specs.declared.answers.Progress.{Progress}
 use Rattle.far_evac.specs.declared.answers.RoundEnd.{RoundEnd}
 use Rattle.far_evac.specs.declared.phase.Phase.TheVariants.{Marking, Evacuating}
-use Rattle.far_evac.specs.AnyHand.{Evacuates, GivesUp, KnowsMoment, MarksSome, Polls, StopsAt, TurnsTo}
+use Rattle.far_evac.specs.AnyHand.{Evacuates, GivesUp, KnowsMoment, MarksSome, Polls, RunsRound, StopsAt, StopsRound, TurnsMade, TurnsTo}
 use Rattle.far_evac.specs.Choosing.{after_aborting, after_selecting, is_spent}
 use Rattle.far_evac.specs.Marking.{after_marking}
 use Rattle.far_evac.specs.Moment.{Moment, Tally, with_core}
@@ -76,6 +77,14 @@ CallsStrayNone = (m t : Moment) → Law (own_part m.core) → MomentLaw m → No
     × ((n : ℕ) (tally : Tally) → m.phase ≡ Evacuating → StopsAt m n t tally → NoneStrays t)
     × (GivesUp m t → NoneStrays t)
     × ((tally : Tally) (done : Bool) → TurnsTo m m.phase tally done t → NoneStrays t)
+
+-- turns, one after the other; and a whole round, also one that stopped at an object
+abbrev pub RowsStrayNone : Type 0
+RowsStrayNone = (m t : Moment) (tallies : List Tally) (over : Bool) → TurnsMade m tallies over t → NoneStrays m → NoneStrays t
+
+abbrev pub RoundsStrayNone : Type 0
+RoundsStrayNone = (m t : Moment) (logs : List ℕ) (turns : ℕ) → MomentLaw m → is_idle m.phase ≡ true → NoneStrays m →
+    ((end : RoundEnd) → RunsRound m logs turns end t → NoneStrays t) × ((so_far : Progress) → StopsRound m logs turns so_far t → NoneStrays t)
 
 -- ---- and through what callers do between two of them
 -- from s to t no log comes into the round, and what lies in one of its logs then lay there
