@@ -56,6 +56,7 @@ pub mod SpansDealt
 pub mod Standings
 pub mod StepsAside
 pub mod Strays
+pub mod StraysFound
 pub mod Subjects
 pub mod Tallies
 pub mod Tours

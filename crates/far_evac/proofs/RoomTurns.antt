@@ -1,5 +1,5 @@
 -- What calls, turns and rounds take of the logs.
-use Rattle.std.proofs.Common.{◌≡◌, ℕ, zero, suc, ◌^◌, ◌<◌, Bool, true, false, Option, Some, None, List, [], ◌∷◌, ◌++◌, take, ap, sym, refl, ◌∙◌, subst}
+use Rattle.std.proofs.Common.{◌≡◌, ℕ, ◌^◌, ◌<◌, Bool, true, false, Option, Some, None, List, [], ◌∷◌, ◌++◌, take, ap, sym, refl, ◌∙◌, subst}
 use Rattle.std.specs.Prelude.{fold}
 use Rattle.std.proofs.lemmas.Bool.{cond_both}
 use Rattle.far_word.specs.declared.pointer.PtrWord.{PtrWord}
@@ -13,28 +13,27 @@ use Rattle.far_book.specs.book.Own.{own_part}
 use Rattle.far_book.proofs.region.Owns.{own_law}
 use Rattle.far_evac.specs.declared.answers.Polled.{Polled}
 use Rattle.far_evac.specs.declared.answers.Polled.TheVariants.{Clear, StillOpen}
+use Rattle.far_evac.specs.declared.answers.Progress.{Progress}
+use Rattle.far_evac.specs.declared.answers.RoundEnd.{RoundEnd}
 use Rattle.far_evac.specs.declared.phase.Phase.{Phase}
 use Rattle.far_evac.specs.declared.phase.Phase.TheVariants.{Idle, Marking, Waiting, Evacuating}
-use Rattle.far_evac.specs.AnyHand.{Evacuates, KnowsMoment, MarksSome, Polls, StopsAt, TurnsTo}
+use Rattle.far_evac.specs.AnyHand.{Evacuates, KnowsMoment, MarksSome, Polls, RunsRound, StopsAt, StopsRound, TurnsMade, TurnsTo}
 use Rattle.far_evac.specs.Choosing.{after_selecting}
 use Rattle.far_evac.specs.Laws.{but_evac}
 use Rattle.far_evac.specs.Live.{live_among}
 use Rattle.far_evac.specs.Marking.{after_marking, leaves_some, marked_core, newly_marked}
 use Rattle.far_evac.specs.Moment.{Moment, Tally}
-use Rattle.far_evac.specs.MomentLaw.{MomentLaw, has_risen, is_idle}
+use Rattle.far_evac.specs.MomentLaw.{IsLawful, has_risen}
 use Rattle.far_evac.specs.RoundSteps.{advanced, with_clear_below}
-use Rattle.far_evac.specs.TakesRoom.{CallTakesRoom, RoundTakesRoom, TakesSome, TurnsTakeRoom, spot_of}
-use Rattle.far_evac.specs.Turns.{Turned, turn_size, turned, turns_made}
-use Rattle.far_evac.specs.Waiting.{after_polling, first_open, polled_to}
-use Rattle.far_evac.specs.Walk.{Walked, ended, is_done, walked}
-use Rattle.far_evac.proofs.LeadingTurns.{turns_lead}
+use Rattle.far_evac.specs.TakesRoom.{CallTakesRoom, RoundTakesRoom, RoundTakesSome, TakesSome, TurnsTakeRoom, TurnsTakeSome, spot_of}
+use Rattle.far_evac.specs.Turns.{turn_size, turns_made}
+use Rattle.far_evac.specs.Walk.{Walked, ended, is_done}
 use Rattle.far_evac.proofs.Leading.{selecting}
 use Rattle.far_evac.proofs.Marks.{is_marked}
 use Rattle.far_evac.proofs.Readiness.{risen_is_ready}
 use Rattle.far_evac.proofs.RoomLaw.{room_taken, sound_of, walks_taken}
 use Rattle.far_evac.proofs.RoomTaken.{Alike, Taken, alike_known, none_taken, taken_alike}
-use Rattle.far_evac.proofs.SpanBytes.{Sound}
-use Rattle.far_evac.proofs.Walks.{walk_is}
+use Rattle.far_evac.proofs.Rounds.{turns_are}
 
 -- a moment as a whole
 abbrev Stands : Moment → Moment → List ℕ → Type 0
@@ -97,77 +96,84 @@ module _ (m : Moment) (objects : List ℕ) where
   on_clear : (u : Moment) (k : ℕ) (phase : Phase) → Stands m u objects → Stands m (record u { core = with_clear_below u.core k; phase = phase }) objects
   on_clear u k phase h = on_alike u (record u { core = with_clear_below u.core k; phase = phase }) h (clear_alike u.core k) refl
 
-  on_polled : (u : Moment) → Stands m u objects → (o : Option ℕ) → Stands m (polled_to u o) objects
-  on_polled u h None = on_clear u u.core.mutators Evacuating h
-  on_polled u h (Some k) = on_alike u (polled_to u (Some k)) h (clear_alike u.core k) refl
-
   on_ended : (w : Walked) → Stands m w.moment objects → Stands m (ended w) objects
   on_ended w h = cond_both (is_done w) (record w.moment { phase = Idle }) w.moment (λ (t : Moment). Stands m t objects) (λ _. h) (λ _. h)
 
--- ---- over any hand
-module _ (m t : Moment) (law : Law (own_part m.core)) (moment : MomentLaw m) where
-  sound : Sound m.core
-  sound = sound_of m.core law
+-- ---- over any hand: one turn more
+abbrev StandsSome : Moment → Moment → Type 0
+StandsSome m t = (objects : List ℕ) × Stands m t objects
 
-  some_taken : (objects : List ℕ) → Stands m t objects → TakesSome m t
-  some_taken objects h = (objects, room_taken m t sound objects h)
+module _ (m u t : Moment) (lawful : IsLawful u) (objects : List ℕ) (h : Stands m u objects) where
+  on_walk : (n : ℕ) (tally : Tally) (done : Bool) → u.phase ≡ Evacuating → Evacuates u n t tally done → StandsSome m t
+  on_walk n tally done leaves (k, w, walks, is, counted, over) =
+      let ready = risen_is_ready u lawful.0 lawful.1 (ap has_risen leaves) in
+      let more = objects ++ take k (live_among u.core u.held) in
+      (more, subst (λ (x : Moment). Stands m x more) (sym is) (on_ended m more w (walks_taken m u objects h k w ready walks.walks)))
 
-  walk_some : (n : ℕ) (tally : Tally) (done : Bool) → m.phase ≡ Evacuating → Evacuates m n t tally done → TakesSome m t
-  walk_some n tally done leaves (k, w, walks, is, counted, over) =
-      let ready = risen_is_ready m law moment (ap has_risen leaves) in
-      let h = walks_taken m m [] (none_taken m sound) k w ready walks.walks in
-      some_taken (take k (live_among m.core m.held)) (subst (λ (x : Moment). Stands m x (take k (live_among m.core m.held))) (sym is) (on_ended m (take k (live_among m.core m.held)) w h))
+  on_stop : (n : ℕ) (tally : Tally) → u.phase ≡ Evacuating → StopsAt u n t tally → StandsSome m t
+  on_stop n tally leaves (k, w, walks, _, _, known, _) =
+      let ready = risen_is_ready u lawful.0 lawful.1 (ap has_risen leaves) in
+      let more = objects ++ take k (live_among u.core u.held) in
+      (more, on_known m more w.moment t (walks_taken m u objects h k w ready walks) known)
 
-  stop_some : (n : ℕ) (tally : Tally) → m.phase ≡ Evacuating → StopsAt m n t tally → TakesSome m t
-  stop_some n tally leaves (k, w, walks, _, _, known, _) =
-      let ready = risen_is_ready m law moment (ap has_risen leaves) in
-      let h = walks_taken m m [] (none_taken m sound) k w ready walks in
-      some_taken (take k (live_among m.core m.held)) (on_known m (take k (live_among m.core m.held)) w.moment t h known)
+  on_marks : (count : ℕ) (waiting : Option ℕ) → MarksSome u t turn_size count waiting → StandsSome m t
+  on_marks count waiting marks = (objects, on_known m objects (after_marking u turn_size) t (on_marked m objects u turn_size h (λ p. (lawful.0.cells.cell_read p).0)) marks.leaves)
 
-  marks_some : (count : ℕ) (waiting : Option ℕ) → MarksSome m t turn_size count waiting → TakesSome m t
-  marks_some count waiting marks = some_taken [] (on_known m [] (after_marking m turn_size) t (on_marked m [] m turn_size (none_taken m sound) (λ p. (law.cells.cell_read p).0)) marks.leaves)
+  on_polls : (answer : Polled) → Polls u t answer → StandsSome m t
+  on_polls Clear polls =
+      (objects, on_known m objects (record u { core = with_clear_below u.core u.core.mutators; phase = Evacuating }) t (on_clear m objects u u.core.mutators Evacuating h) polls)
+  on_polls (StillOpen k epoch) polls = (objects, on_known m objects (record u { core = with_clear_below u.core k }) t (on_clear m objects u k u.phase h) polls.leaves)
 
-  polls_some : (answer : Polled) → Polls m t answer → TakesSome m t
-  polls_some Clear polls = some_taken [] (on_known m [] (record m { core = with_clear_below m.core m.core.mutators; phase = Evacuating }) t (on_clear m [] m m.core.mutators Evacuating (none_taken m sound)) polls)
-  polls_some (StillOpen k epoch) polls = some_taken [] (on_known m [] (record m { core = with_clear_below m.core k }) t (on_clear m [] m k m.phase (none_taken m sound)) polls.leaves)
+  on_turn : (phase : Phase) (tally : Tally) (done : Bool) → u.phase ≡ phase → TurnsTo u phase tally done t → StandsSome m t
+  on_turn Idle tally done is odd = absurd odd
+  on_turn Marking tally done is turn = on_marks turn.2.0 turn.2.1 turn.2.2
+  on_turn Waiting tally done is turn = on_polls turn.2.0 turn.2.1
+  on_turn Evacuating tally done is turn = on_walk turn_size tally done is turn
 
-  turn_some : (phase : Phase) (tally : Tally) (done : Bool) → m.phase ≡ phase → TurnsTo m phase tally done t → TakesSome m t
-  turn_some Idle tally done is odd = absurd odd
-  turn_some Marking tally done is turn = marks_some turn.2.0 turn.2.1 turn.2.2
-  turn_some Waiting tally done is turn = polls_some turn.2.0 turn.2.1
-  turn_some Evacuating tally done is turn = walk_some turn_size tally done is turn
+some_taken : (m t : Moment) → Law (own_part m.core) → StandsSome m t → TakesSome m t
+some_taken m t law h = (h.0, room_taken m t (sound_of m.core law) h.0 h.1)
 
 pub call_takes_room : CallTakesRoom
-call_takes_room m t n tally done law moment = (walk_some m t law moment n tally done, stop_some m t law moment n tally, turn_some m t law moment m.phase tally done refl)
+call_takes_room m t n tally done law moment =
+    let none = none_taken m (sound_of m.core law) in (
+      λ leaves walk. some_taken m t law (on_walk m m t (law, moment) [] none n tally done leaves walk),
+      λ leaves stop. some_taken m t law (on_stop m m t (law, moment) [] none n tally leaves stop),
+      λ turn. some_taken m t law (on_turn m m t (law, moment) [] none m.phase tally done refl turn),
+    )
 
 -- ---- turn after turn
-module _ (m : Moment) where
-  turn_taken : (r : Turned) → Law r.moment.core → MomentLaw r.moment → (objects : List ℕ) → Stands m r.moment objects → (phase : Phase) → r.moment.phase ≡ phase →
-      (more : List ℕ) × Stands m (turned r phase).moment more
-  turn_taken r law moment objects h Idle e = (objects, h)
-  turn_taken r law moment objects h Marking e = (objects, on_marked m objects r.moment turn_size h (λ p. (law.cells.cell_read p).0))
-  turn_taken r law moment objects h Waiting e = (objects, on_polled m objects r.moment h (first_open r.moment.core))
-  turn_taken r law moment objects h Evacuating e =
-      let k = walk_is r.moment turn_size in
-      let more = objects ++ take k.0 (live_among r.moment.core r.moment.held) in
-      (more, on_ended m more (walked r.moment turn_size) (walks_taken m r.moment objects h k.0 (walked r.moment turn_size) (risen_is_ready r.moment (own_law r.moment.core law) moment (ap has_risen e)) k.1.walks))
+turns_taken : (m : Moment) → Law (own_part m.core) → (tallies : List Tally) (over : Bool) (t : Moment) → TurnsMade m tallies over t → StandsSome m t
+turns_taken m law [] over t (is, goes) = subst (StandsSome m) (sym is) ([], none_taken m (sound_of m.core law))
+turns_taken m law (tally ∷ tallies) over t (u, made, turn, lawful) =
+    let before = turns_taken m law tallies false u made in on_turn m u t lawful before.0 before.1 u.phase tally over refl turn
 
-turns_taken : (m : Moment) (n : ℕ) → Law m.core → MomentLaw m → is_idle m.phase ≡ false → (objects : List ℕ) × Stands m (turns_made m n).moment objects
-turns_taken m zero law moment runs = ([], none_taken m (sound_of m.core (own_law m.core law)))
-turns_taken m (suc n) law moment runs =
-    let r = turns_made m n in
-    let leads = turns_lead m n law moment runs in
-    let before = turns_taken m n law moment runs in
-    cond_both r.over r (turned r r.moment.phase) (λ (x : Turned). (objects : List ℕ) × Stands m x.moment objects) (λ _. before)
-    (λ _. turn_taken m r leads.law leads.moment before.0 before.1 r.moment.phase refl)
+pub turns_take_some : TurnsTakeSome
+turns_take_some m tallies over t law made = some_taken m t law (turns_taken m law tallies over t made)
 
+begun_law : (m : Moment) (logs : List ℕ) → Law (own_part m.core) → Law (own_part (after_selecting m logs).core)
+begun_law m [] law = law
+begun_law m (l ∷ ls) law = law
+
+pub round_takes_some : RoundTakesSome
+round_takes_some m t logs turns law = (λ end. ran logs end, stopped) where
+  ran : (logs : List ℕ) (end : RoundEnd) → RunsRound m logs turns end t → TakesSome (after_selecting m logs) t
+  ran [] end (_, is) = subst (TakesSome m) (sym is) (some_taken m m law ([], none_taken m (sound_of m.core law)))
+  ran (l ∷ ls) end (tallies, over, made, _, _) = turns_take_some (after_selecting m (l ∷ ls)) tallies over t law made
+
+  stopped : (so_far : Progress) → StopsRound m logs turns so_far t → TakesSome (after_selecting m logs) t
+  stopped so_far (tallies, u, tally, made, _, leaves, stop, _, lawful) =
+      let v = after_selecting m logs in
+      let begun = begun_law m logs law in
+      let before = turns_taken v begun tallies false u made in
+      some_taken v t begun (on_stop v u t lawful before.0 before.1 turn_size tally leaves stop)
+
+-- ---- where no word changes but by this
 pub turns_take_room : TurnsTakeRoom
 turns_take_room m n law moment runs =
-    let h = turns_taken m n law moment runs in (h.0, room_taken m (turns_made m n).moment (sound_of m.core (own_law m.core law)) h.0 h.1)
+    let h = turns_are m law moment runs n in turns_take_some m h.tallies (turns_made m n).over (turns_made m n).moment (own_law m.core law) h.made
 
 pub round_takes_room : RoundTakesRoom
-round_takes_room m [] turns end t law moment idle left once of_order is =
-    let sound = sound_of m.core (own_law m.core law) in subst (TakesSome m) (sym is.1) ([], room_taken m m sound [] (none_taken m sound))
+round_takes_room m [] turns end t law moment idle left once of_order is = (round_takes_some m t [] turns (own_law m.core law)).0 end is
 round_takes_room m (l ∷ ls) turns end t law moment idle left once of_order is =
     let begun = selecting m (l ∷ ls) law moment idle left once of_order in
     let u = after_selecting m (l ∷ ls) in

@@ -5,20 +5,25 @@ use Rattle.std.specs.List.{range_with_len}
 use Rattle.std.proofs.lemmas.Bool.{cond_both, true≢false, false≢true}
 use Rattle.std.proofs.lemmas.Bool.Decides.{nat_tests}
 use Rattle.far_word.specs.Pointer.{read_of}
+use Rattle.far_core.specs.state.Law.{Law}
+use Rattle.far_book.proofs.region.Owns.{own_law}
 use Rattle.far_evac.specs.declared.answers.RoundEnd.TheVariants.{Done, Limit}
 use Rattle.far_evac.specs.declared.phase.Phase.{Phase}
 use Rattle.far_evac.specs.declared.phase.Phase.TheVariants.{Idle, Marking, Waiting, Evacuating}
-use Rattle.far_evac.specs.AnyHand.{EndsRound, Polls, RunsRound, TurnsMade, TurnsTo, sum_of}
+use Rattle.far_evac.specs.AnyHand.{EndsRound, Polls, TurnsMade, TurnsTo, sum_of}
 use Rattle.far_evac.specs.Choosing.{after_selecting}
+use Rattle.far_evac.specs.Laws.{RoundIsAllowed, TurnIsAllowed}
 use Rattle.far_evac.specs.Live.{live_in, is_empty}
 use Rattle.far_evac.specs.Marking.{after_marking, leaves_some, marked_core, newly_marked, waiting_for}
 use Rattle.far_evac.specs.Moment.{Moment, Tally, nothing, plus, progress_of}
-use Rattle.far_evac.specs.MomentLaw.{is_idle}
+use Rattle.far_evac.specs.MomentLaw.{IsLawful, MomentLaw, is_idle}
 use Rattle.far_evac.specs.RoundSteps.{advanced, is_clear_now}
 use Rattle.far_evac.specs.Turns.{Turned, round_end, turn_size, turned, turns_made}
 use Rattle.far_evac.specs.Waiting.{after_polling, first_open, holds_up, polled, polled_at, polled_to}
 use Rattle.far_evac.specs.Walk.{Walked, Way, Drops, Moves, Goes, begun, dealt_first, dealt_so, ended, freed, is_done, left, passed, walked, way_of}
 use Rattle.far_evac.proofs.Joined.{plus_nothing}
+use Rattle.far_evac.proofs.Leading.{selecting}
+use Rattle.far_evac.proofs.LeadingTurns.{turns_lead}
 use Rattle.far_evac.proofs.Walks.{moment_same, walk_is}
 
 -- ---- a poll
@@ -80,59 +85,63 @@ polling_runs m e (Some k) = ap is_idle e
 ending_runs : (w : Walked) → w.moment.phase ≡ Evacuating → is_done w ≡ false → is_idle (ended w).phase ≡ false
 ending_runs w e more = ap (λ b. is_idle (cond b (record w.moment { phase = Idle }) w.moment).phase) more ∙ ap is_idle e
 
+-- ---- one turn
+module _ (r : Turned) (goes : r.over ≡ false) where
+  turn_is : (phase : Phase) → r.moment.phase ≡ phase → is_idle r.moment.phase ≡ false →
+      let t = turned r phase in (tally : Tally) × TurnsTo r.moment r.moment.phase tally t.over t.moment × (t.tally ≡ plus r.tally tally)
+  turn_is Idle e runs = absurd (true≢false (sym (ap is_idle e) ∙ runs))
+  turn_is Marking e runs = (
+    nothing,
+    subst (λ phase. TurnsTo r.moment phase nothing r.over (after_marking r.moment turn_size)) (sym e) (
+      refl,
+      goes,
+      (length (newly_marked r.moment turn_size), waiting_for r.moment turn_size, record { leaves = moment_same (after_marking r.moment turn_size); counted = refl; epoch = refl }),
+    ),
+    sym (plus_nothing r.tally),
+  )
+  turn_is Waiting e runs = (
+    nothing,
+    subst (λ phase. TurnsTo r.moment phase nothing r.over (after_polling r.moment)) (sym e) (refl, goes, (polled r.moment.core, polls_is r.moment)),
+    sym (plus_nothing r.tally),
+  )
+  turn_is Evacuating e runs =
+      let w = walked r.moment turn_size in
+      let walks = walk_is r.moment turn_size in
+      (w.tally, subst (λ phase. TurnsTo r.moment phase w.tally (is_done w) (ended w)) (sym e) (walks.0, w, walks.1, refl, refl, refl), refl)
+
+  turn_runs : (phase : Phase) → r.moment.phase ≡ phase → is_idle r.moment.phase ≡ false → (turned r phase).over ≡ false → is_idle (turned r phase).moment.phase ≡ false
+  turn_runs Idle e runs more = runs
+  turn_runs Marking e runs more = marking_runs r.moment e
+  turn_runs Waiting e runs more = polling_runs r.moment e (first_open r.moment.core)
+  turn_runs Evacuating e runs more = ending_runs (walked r.moment turn_size) (walked_phase r.moment turn_size ∙ e) more
+
+pub turn_is_allowed : TurnIsAllowed
+turn_is_allowed r goes runs = turn_is r goes r.moment.phase refl runs
+
 -- ---- turn after turn
-record Made (m : Moment) (n : ℕ) (r : Turned) : Type 0 where
-  tallies : List Tally
-  made : TurnsMade m tallies r.over r.moment
-  sum : sum_of tallies ≡ r.tally
-  most : length tallies ≤ n
-  every : r.over ≡ false → length tallies ≡ n
-  runs : r.over ≡ false → is_idle r.moment.phase ≡ false
+pub record Made (m : Moment) (n : ℕ) (r : Turned) : Type 0 where
+  pub tallies : List Tally
+  pub made : TurnsMade m tallies r.over r.moment
+  pub sum : sum_of tallies ≡ r.tally
+  pub most : length tallies ≤ n
+  pub every : r.over ≡ false → length tallies ≡ n
+  pub runs : r.over ≡ false → is_idle r.moment.phase ≡ false
 
 one_more : (a n : ℕ) → a ≡ n → suc a ≡ suc n
 one_more a n e = ap (λ x. suc x) e
 
-module _ (m : Moment) (n : ℕ) (r : Turned) (h : Made m n r) (goes : r.over ≡ false) where
-  before : TurnsMade m h.tallies false r.moment
-  before = subst (λ over. TurnsMade m h.tallies over r.moment) goes h.made
-
-  turn_made : (phase : Phase) → r.moment.phase ≡ phase → Made m (suc n) (turned r phase)
-  turn_made Idle e = absurd (true≢false (sym (ap is_idle e) ∙ h.runs goes))
-  turn_made Marking e = record {
-    tallies = nothing ∷ h.tallies;
-    made = (
-      r.moment,
-      before,
-      subst (λ phase. TurnsTo r.moment phase nothing r.over (after_marking r.moment turn_size)) (sym e) (
-        refl,
-        goes,
-        (length (newly_marked r.moment turn_size), waiting_for r.moment turn_size, record { leaves = moment_same (after_marking r.moment turn_size); counted = refl; epoch = refl }),
-      ),
-    );
-    sum = plus_nothing (sum_of h.tallies) ∙ h.sum;
-    most = omega (arith, h.most);
-    every = λ _. one_more (length h.tallies) n (h.every goes);
-    runs = λ _. marking_runs r.moment e;
-  }
-  turn_made Waiting e = record {
-    tallies = nothing ∷ h.tallies;
-    made = (r.moment, before, subst (λ phase. TurnsTo r.moment phase nothing r.over (after_polling r.moment)) (sym e) (refl, goes, (polled r.moment.core, polls_is r.moment)));
-    sum = plus_nothing (sum_of h.tallies) ∙ h.sum;
-    most = omega (arith, h.most);
-    every = λ _. one_more (length h.tallies) n (h.every goes);
-    runs = λ _. polling_runs r.moment e (first_open r.moment.core);
-  }
-  turn_made Evacuating e =
-      let w = walked r.moment turn_size in
-      let walks = walk_is r.moment turn_size in
-      record {
-        tallies = w.tally ∷ h.tallies;
-        made = (r.moment, before, subst (λ phase. TurnsTo r.moment phase w.tally (is_done w) (ended w)) (sym e) (walks.0, w, walks.1, refl, refl, refl));
-        sum = ap (λ tally. plus tally w.tally) h.sum;
-        most = omega (arith, h.most);
-        every = λ _. one_more (length h.tallies) n (h.every goes);
-        runs = λ more. ending_runs w (walked_phase r.moment turn_size ∙ e) more;
-      }
+turn_made : (m : Moment) (n : ℕ) (r : Turned) → Made m n r → r.over ≡ false → IsLawful r.moment → Made m (suc n) (turned r r.moment.phase)
+turn_made m n r h goes lawful =
+    let t = turned r r.moment.phase in
+    let x = turn_is_allowed r goes (h.runs goes) in
+    record {
+      tallies = x.0 ∷ h.tallies;
+      made = (r.moment, subst (λ over. TurnsMade m h.tallies over r.moment) goes h.made, x.1, lawful);
+      sum = ap (λ tally. plus tally x.0) h.sum ∙ sym x.2;
+      most = omega (arith, h.most);
+      every = λ _. one_more (length h.tallies) n (h.every goes);
+      runs = turn_runs r goes r.moment.phase refl (h.runs goes);
+    }
 
 over_still : (m : Moment) (n : ℕ) (r : Turned) → Made m n r → r.over ≡ true → Made m (suc n) r
 over_still m n r h over = record {
@@ -144,19 +153,22 @@ over_still m n r h over = record {
   runs = h.runs;
 }
 
-turns_are : (m : Moment) → is_idle m.phase ≡ false → (n : ℕ) → Made m n (turns_made m n)
-turns_are m runs zero = record { tallies = []; made = (refl, refl); sum = refl; most = omega arith; every = λ _. refl; runs = λ _. runs }
-turns_are m runs (suc n) =
+pub turns_are : (m : Moment) → Law m.core → MomentLaw m → is_idle m.phase ≡ false → (n : ℕ) → Made m n (turns_made m n)
+turns_are m law moment runs zero = record { tallies = []; made = (refl, refl); sum = refl; most = omega arith; every = λ _. refl; runs = λ _. runs }
+turns_are m law moment runs (suc n) =
     let r = turns_made m n in
-    let h = turns_are m runs n in
-    cond_both r.over r (turned r r.moment.phase) (Made m (suc n)) (λ over. over_still m n r h over) (λ goes. turn_made m n r h goes r.moment.phase refl)
+    let h = turns_are m law moment runs n in
+    let leads = turns_lead m n law moment runs in
+    cond_both r.over r (turned r r.moment.phase) (Made m (suc n)) (λ over. over_still m n r h over) (λ goes. turn_made m n r h goes (own_law r.moment.core leads.law, leads.moment))
 
 ends : (turns : ℕ) (m : Moment) (r : Turned) (h : Made m turns r) (over : Bool) → r.over ≡ over → EndsRound turns h.tallies over r.moment.phase (round_end r)
 ends turns m r h true e = ap (λ b. cond b (Done (progress_of r.tally true)) (Limit r.moment.phase)) e ∙ ap (λ tally. Done (progress_of tally true)) (sym h.sum)
 ends turns m r h false e = (h.every e, ap (λ b. cond b (Done (progress_of r.tally true)) (Limit r.moment.phase)) e)
 
-pub round_is : (m : Moment) (l : ℕ) (ls : List ℕ) (turns : ℕ) → let r = turns_made (after_selecting m (l ∷ ls)) turns in RunsRound m (l ∷ ls) turns (round_end r) r.moment
-round_is m l ls turns =
-    let r = turns_made (after_selecting m (l ∷ ls)) turns in
-    let h = turns_are (after_selecting m (l ∷ ls)) refl turns in
-    (h.tallies, r.over, h.made, h.most, ends turns (after_selecting m (l ∷ ls)) r h r.over refl)
+pub round_is : RoundIsAllowed
+round_is m l ls turns law moment idle left once of_order =
+    let u = after_selecting m (l ∷ ls) in
+    let begun = selecting m (l ∷ ls) law moment idle left once of_order in
+    let r = turns_made u turns in
+    let h = turns_are u begun.law begun.moment refl turns in
+    (h.tallies, r.over, h.made, h.most, ends turns u r h r.over refl)

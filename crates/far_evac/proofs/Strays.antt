@@ -8,6 +8,7 @@ use Rattle.far_word.specs.declared.pointer.PtrWord.TheVariants.{Free, Near, Far}
 use Rattle.far_word.specs.Pointer.{read_of}
 use Rattle.far_core.specs.state.Law.{Law}
 use Rattle.far_core.specs.state.State.{State}
+use Rattle.far_book.specs.book.Own.{own_part}
 use Rattle.far_book.proofs.region.Owns.{own_law}
 use Rattle.far_evac.specs.declared.phase.Phase.{Phase}
 use Rattle.far_evac.specs.declared.phase.Phase.TheVariants.{Idle, Marking, Waiting, Evacuating}
@@ -49,7 +50,7 @@ near_but (Some (Near n d at old)) len ds place marks e =
     (old, rw (lens, structures, places) refl)
 near_but (Some (Far n d old)) len ds place marks e = absurd cc
 
-fits : (s : State) → Law s → (p : ℕ) → s.cell p < 2 ^ 64
+fits : (s : State) → Law (own_part s) → (p : ℕ) → s.cell p < 2 ^ 64
 fits s law p = (law.cells.cell_read p).0
 
 module _ (m t : Moment) (same : (p : ℕ) → but_evac (says t p) ≡ but_evac (says m p)) where
@@ -66,13 +67,16 @@ selecting_none m (l ∷ ls) moment idle none = λ p len ds place marks near is.
 same_round : (m : Moment) (n l : ℕ) → (marked_core m n).round l ≡ m.core.round l
 same_round m n l = ap (λ (s : State). s.round l) (marks_cells (newly_marked m n) m.core)
 
-pub marking_none : MarkingStraysNone
-marking_none m n law none =
+pub marking_own : (m : Moment) (n : ℕ) → Law (own_part m.core) → NoneStrays m → NoneStrays (after_marking m n)
+marking_own m n law none =
     cond_both (leaves_some m n) (record m { core = marked_core m n }) (record m { core = advanced (marked_core m n) m.held; phase = Waiting })
     (λ (t : Moment). ((p : ℕ) → but_evac (says t p) ≡ but_evac (says m p)) → NoneStrays t)
     (λ _ same p len ds place marks near is. let x = still_near m (record m { core = marked_core m n }) same p len ds place marks near in none p len ds place x.0 x.1 (sym (same_round m n place.log) ∙ is))
     (λ _ same p len ds place marks near is. is)
     (is_marked m n (fits m.core law)).same
+
+pub marking_none : MarkingStraysNone
+marking_none m n law none = marking_own m n (own_law m.core law) none
 
 -- ---- polling
 polled_none : (m : Moment) (o : Option ℕ) → NoneStrays m → NoneStrays (polled_to m o)
@@ -90,18 +94,21 @@ walking_none m n law moment leaves =
     cond_both (is_done w) (record w.moment { phase = Idle }) w.moment NoneStrays (λ _ p len ds place marks near is. only place.log is) (λ _ p len ds place marks near is. only place.log is)
 
 -- ---- giving up
-module _ (m : Moment) (law : Law m.core) (none : NoneStrays m) (p len ds : ℕ) (place : Place) (marks : Marks) (near : read_of (m.core.cell p) ≡ Some (Near len ds place marks)) where
+module _ (m : Moment) (law : Law (own_part m.core)) (none : NoneStrays m) (p len ds : ℕ) (place : Place) (marks : Marks) (near : read_of (m.core.cell p) ≡ Some (Near len ds place marks)) where
   out_of_round : (held : Bool) → among m.held place.log ≡ held → cond held (m.core.round place.log && is_empty (live_in m.core place.log)) (m.core.round place.log) ≡ true → ⊥
   out_of_round true e is =
       let empty = (and_parts (m.core.round place.log) (is_empty (live_in m.core place.log)) is).1 in
-      vacant_in m.core (own_law m.core law) place.log 0 (λ q n d at k there log. omega arith) (none_there (live_in m.core place.log) empty) p len ds place marks near refl
+      vacant_in m.core law place.log 0 (λ q n d at k there log. omega arith) (none_there (live_in m.core place.log) empty) p len ds place marks near refl
   out_of_round false e is = false≢true (sym e ∙ none p len ds place marks near is)
 
-pub aborting_none : AbortingStraysNone
-aborting_none m law none p len ds place marks near is =
+pub aborting_own : (m : Moment) → Law (own_part m.core) → NoneStrays m → NoneStrays (after_aborting m)
+aborting_own m law none p len ds place marks near is =
     let given = is_given_up m (fits m.core law) in
     let x = still_near m (after_aborting m) given.same p len ds place marks near in
     absurd (out_of_round m law none p len ds place x.0 x.1 (among m.held place.log) refl (sym (given.round place.log) ∙ is))
+
+pub aborting_none : AbortingStraysNone
+aborting_none m law none = aborting_own m (own_law m.core law) none
 
 -- ---- turn after turn
 turn_none : (r : Turned) → Law r.moment.core → MomentLaw r.moment → NoneStrays r.moment → (phase : Phase) → r.moment.phase ≡ phase → NoneStrays (turned r phase).moment

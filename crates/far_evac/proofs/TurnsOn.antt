@@ -6,7 +6,7 @@ use Rattle.far_evac.specs.declared.phase.Phase.{Phase}
 use Rattle.far_evac.specs.declared.phase.Phase.TheVariants.{Idle}
 use Rattle.far_evac.specs.AnyHand.{TurnsMade, TurnsTo, sum_of}
 use Rattle.far_evac.specs.Moment.{Moment, Tally, nothing, plus, progress_of}
-use Rattle.far_evac.specs.MomentLaw.{is_idle}
+use Rattle.far_evac.specs.MomentLaw.{IsLawful, is_idle}
 use Rattle.far_evac.specs.Turning.{EndsTurns, turned_at}
 use Rattle.far_evac.specs.Turns.{Turned, turned, turns_made}
 
@@ -48,15 +48,15 @@ pub record Made (m t : Moment) (n : ℕ) (total : Tally) : Type 0 where
 pub none_made : (m : Moment) → Made m m 0 nothing
 none_made m = record { tallies = []; made = (refl, refl); many = refl; sum = refl }
 
-module _ (m u : Moment) (n : ℕ) (before : Tally) (h : Made m u n before) (t : Moment) (tally : Tally) where
+module _ (m u : Moment) (n : ℕ) (before : Tally) (h : Made m u n before) (lawful : IsLawful u) (t : Moment) (tally : Tally) where
   pub made_more : (total : Tally) → TurnsTo u u.phase tally false t → total ≡ plus before tally → Made m t (n + 1) total
   made_more total turns is = record {
     tallies = tally ∷ h.tallies;
-    made = (u, h.made, turns);
+    made = (u, h.made, turns, lawful);
     many = omega (arith, h.many);
     sum = ap (λ a. plus a tally) h.sum ∙ sym is;
   }
 
   pub made_done : (turns : ℕ) (total : Tally) → n < turns → TurnsTo u u.phase tally true t → total ≡ plus before tally → EndsTurns m turns (Done (progress_of total true)) t
   made_done turns total within last is =
-      (tally ∷ h.tallies, true, (u, h.made, last), omega (arith, h.many, within), ap (λ a. Done (progress_of a true)) (is ∙ ap (λ a. plus a tally) (sym h.sum)))
+      (tally ∷ h.tallies, true, (u, h.made, last, lawful), omega (arith, h.many, within), ap (λ a. Done (progress_of a true)) (is ∙ ap (λ a. plus a tally) (sym h.sum)))

@@ -22,6 +22,7 @@ use Rattle.far_evac.specs.Census.{homes_of, logs_of}
 use Rattle.far_evac.specs.Choosing.{after_selecting, after_aborting}
 use Rattle.far_evac.specs.Marking.{newly_marked, after_marking, waiting_for}
 use Rattle.far_evac.specs.Moment.{Moment, Tally, nothing, plus, progress_of}
+use Rattle.far_evac.specs.MomentLaw.{IsLawful}
 use Rattle.far_evac.specs.RoundSteps.{with_clear_below}
 use Rattle.far_evac.specs.Turns.{turn_size}
 use Rattle.far_evac.specs.Walk.{Walked, begun, dealt_as, settled, left, is_done, ended}
@@ -102,7 +103,7 @@ Evacuates m n t tally done = (k : ℕ) × (w : Walked) × Walks m n k w × (t �
 abbrev pub StopsAt : Moment → ℕ → Moment → Tally → Type 0
 StopsAt m n t tally = (k : ℕ) × (w : Walked) × WalksTo m k w × (k < n) × (is_done w ≡ false) × KnowsMoment w.moment t × (tally ≡ w.tally)
 
--- ---- rounds: a turn by its phase; and turns one after the other, the last one first in the list
+-- ---- rounds: a turn by its phase; and turns one after the other, the last one first in the list, each from a moment that is lawful
 abbrev pub TurnsTo : Moment → Phase → Tally → Bool → Moment → Type 0
 TurnsTo m Idle tally done t = ⊥
 TurnsTo m Marking tally done t = (tally ≡ nothing) × (done ≡ false) × ((count : ℕ) × (waiting : Option ℕ) × MarksSome m t turn_size count waiting)
@@ -111,7 +112,7 @@ TurnsTo m Evacuating tally done t = Evacuates m turn_size t tally done
 
 abbrev pub TurnsMade : Moment → List Tally → Bool → Moment → Type 0
 TurnsMade m [] done t = (t ≡ m) × (done ≡ false)
-TurnsMade m (tally ∷ tallies) done t = (u : Moment) × TurnsMade m tallies false u × TurnsTo u u.phase tally done t
+TurnsMade m (tally ∷ tallies) done t = (u : Moment) × TurnsMade m tallies false u × TurnsTo u u.phase tally done t × IsLawful u
 
 abbrev pub sum_of : List Tally → Tally
 sum_of [] = nothing
@@ -131,4 +132,4 @@ RunsRound m (l ∷ ls) turns end t = (tallies : List Tally) × (over : Bool) × 
 -- the same, but that a turn stopped at an object
 abbrev pub StopsRound : Moment → List ℕ → ℕ → Progress → Moment → Type 0
 StopsRound m logs turns so_far t = (tallies : List Tally) × (u : Moment) × (tally : Tally) × TurnsMade (after_selecting m logs) tallies false u
-    × (length tallies < turns) × (u.phase ≡ Evacuating) × StopsAt u turn_size t tally × (so_far ≡ progress_of (plus (sum_of tallies) tally) false)
+    × (length tallies < turns) × (u.phase ≡ Evacuating) × StopsAt u turn_size t tally × (so_far ≡ progress_of (plus (sum_of tallies) tally) false) × IsLawful u

@@ -22,17 +22,17 @@ use Rattle.far_evac.specs.Census.{homes_of}
 use Rattle.far_evac.specs.declared.answers.Polled.{Polled}
 use Rattle.far_evac.specs.declared.answers.Polled.TheVariants.{Clear, StillOpen}
 use Rattle.far_evac.specs.declared.phase.Phase.TheVariants.{Idle, Waiting, Evacuating}
-use Rattle.far_evac.specs.AnyHand.{Polls, RunsRound, WalksTo, Walks}
-use Rattle.far_evac.specs.Choosing.{after_aborting, after_selecting}
+use Rattle.far_evac.specs.AnyHand.{Polls, RunsRound, TurnsTo, WalksTo, Walks}
+use Rattle.far_evac.specs.Choosing.{after_aborting, after_selecting, is_spent}
 use Rattle.far_evac.specs.Dealings.{DealsWith, GivesBack, says}
 use Rattle.far_evac.specs.Live.{is_empty, lacking, live_among, live_in}
 use Rattle.far_evac.specs.Marking.{after_marking, leaves_some, newly_marked, waiting_for}
 use Rattle.far_evac.specs.Moment.{Moment, Tally, objects_in, plus}
-use Rattle.far_evac.specs.MomentLaw.{MomentLaw, has_risen}
+use Rattle.far_evac.specs.MomentLaw.{MomentLaw, has_risen, is_idle}
 use Rattle.far_evac.specs.Ready.{Ready}
 use Rattle.far_evac.specs.RoundSteps.{advanced, among, is_clear_now, with_clear_below}
 use Rattle.far_evac.specs.Stops.{toured}
-use Rattle.far_evac.specs.Turns.{round_end, turns_made}
+use Rattle.far_evac.specs.Turns.{Turned, round_end, turned, turns_made}
 use Rattle.far_evac.specs.Waiting.{after_polling, first_open, holds_up, polled}
 use Rattle.far_evac.specs.Walk.{Walked, is_done, left, walked}
 
@@ -40,12 +40,18 @@ use Rattle.far_evac.specs.Walk.{Walked, is_done, left, walked}
 abbrev pub ExactIsAllowed : Type 0
 ExactIsAllowed = (m : Moment) (n : ℕ) → (k : ℕ) × Walks m n k (walked m n)
 
--- and so it is with a poll, and with a whole round
+-- and so it is with a poll, and with a turn of a round that isn't over
 abbrev pub PollIsAllowed : Type 0
 PollIsAllowed = (m : Moment) → Polls m (after_polling m) (polled m.core)
 
+abbrev pub TurnIsAllowed : Type 0
+TurnIsAllowed = (r : Turned) → r.over ≡ false → is_idle r.moment.phase ≡ false →
+    let t = turned r r.moment.phase in (tally : Tally) × TurnsTo r.moment r.moment.phase tally t.over t.moment × (t.tally ≡ plus r.tally tally)
+
+-- and with a whole round, whose turns begin at lawful moments: that is, of sealed logs, each once, while a later epoch is left
 abbrev pub RoundIsAllowed : Type 0
-RoundIsAllowed = (m : Moment) (l : ℕ) (ls : List ℕ) (turns : ℕ) →
+RoundIsAllowed = (m : Moment) (l : ℕ) (ls : List ℕ) (turns : ℕ) → Law m.core → MomentLaw m → is_idle m.phase ≡ true → is_spent m.core ≡ false → IsDistinct eqb (l ∷ ls) →
+    ((k : ℕ) → among (l ∷ ls) k ≡ true → among m.order k ≡ true) →
     let r = turns_made (after_selecting m (l ∷ ls)) turns in RunsRound m (l ∷ ls) turns (round_end r) r.moment
 
 -- it is a tour of stops that were listed before it began

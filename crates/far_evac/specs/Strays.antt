@@ -1,6 +1,6 @@
 -- Which logs are in the core's round beside those that the evacuator holds. Once the epoch has risen there are none; before, a round that was given up may have
 -- left some, in which nothing lies: giving up takes a log out of the round by its objects.
-use Rattle.std.specs.Prelude.{◌≡◌, ℕ, true, false, eqb, Some, List}
+use Rattle.std.specs.Prelude.{◌≡◌, ℕ, Bool, true, false, eqb, Option, Some, List}
 use Rattle.std.specs.List.{AllByRecursion, IsDistinct}
 use Rattle.far_word.specs.declared.mark.Marks.{Marks}
 use Rattle.far_word.specs.declared.pointer.Place.{Place}
@@ -12,11 +12,15 @@ use Rattle.far_core.specs.events.Step.{Fits}
 use Rattle.far_core.specs.state.Law.{Law}
 use Rattle.far_core.specs.state.State.{State}
 use Rattle.far_book.specs.Owners.{OwnersChange}
+use Rattle.far_book.specs.book.Own.{own_part}
+use Rattle.far_evac.specs.declared.answers.Polled.{Polled}
+use Rattle.far_evac.specs.declared.answers.Progress.{Progress}
 use Rattle.far_evac.specs.declared.answers.RoundEnd.{RoundEnd}
 use Rattle.far_evac.specs.declared.phase.Phase.TheVariants.{Marking, Evacuating}
+use Rattle.far_evac.specs.AnyHand.{Evacuates, GivesUp, KnowsMoment, MarksSome, Polls, RunsRound, StopsAt, StopsRound, TurnsMade, TurnsTo}
 use Rattle.far_evac.specs.Choosing.{after_aborting, after_selecting, is_spent}
 use Rattle.far_evac.specs.Marking.{after_marking}
-use Rattle.far_evac.specs.Moment.{Moment, with_core}
+use Rattle.far_evac.specs.Moment.{Moment, Tally, with_core}
 use Rattle.far_evac.specs.MomentLaw.{MomentLaw, has_risen, is_idle}
 use Rattle.far_evac.specs.RoundSteps.{among}
 use Rattle.far_evac.specs.Turns.{IsRound, turns_made}
@@ -58,6 +62,29 @@ TurnsStrayNone = (m : Moment) (n : ℕ) → Law m.core → MomentLaw m → is_id
 abbrev pub RoundStraysNone : Type 0
 RoundStraysNone = (m : Moment) (logs : List ℕ) (turns : ℕ) (end : RoundEnd) (t : Moment) → Law m.core → MomentLaw m → is_idle m.phase ≡ true → is_spent m.core ≡ false → IsDistinct eqb logs →
     ((l : ℕ) → among logs l ≡ true → among m.order l ≡ true) → IsRound m logs turns end t → NoneStrays m → NoneStrays t
+
+-- ---- the same over any hand
+-- marks that are found bring none
+abbrev pub FoundStrayNone : Type 0
+FoundStrayNone = (m t : Moment) → KnowsMoment m t → NoneStrays m → NoneStrays t
+
+-- marking, a poll, a walk or one that was refused at an object, giving up, and a turn
+abbrev pub CallsStrayNone : Type 0
+CallsStrayNone = (m t : Moment) → Law (own_part m.core) → MomentLaw m → NoneStrays m →
+    ((n count : ℕ) (waiting : Option ℕ) → MarksSome m t n count waiting → NoneStrays t)
+    × ((answer : Polled) → Polls m t answer → NoneStrays t)
+    × ((n : ℕ) (tally : Tally) (done : Bool) → m.phase ≡ Evacuating → Evacuates m n t tally done → NoneStrays t)
+    × ((n : ℕ) (tally : Tally) → m.phase ≡ Evacuating → StopsAt m n t tally → NoneStrays t)
+    × (GivesUp m t → NoneStrays t)
+    × ((tally : Tally) (done : Bool) → TurnsTo m m.phase tally done t → NoneStrays t)
+
+-- turns, one after the other; and a whole round, also one that stopped at an object
+abbrev pub RowsStrayNone : Type 0
+RowsStrayNone = (m t : Moment) (tallies : List Tally) (over : Bool) → TurnsMade m tallies over t → NoneStrays m → NoneStrays t
+
+abbrev pub RoundsStrayNone : Type 0
+RoundsStrayNone = (m t : Moment) (logs : List ℕ) (turns : ℕ) → MomentLaw m → is_idle m.phase ≡ true → NoneStrays m →
+    ((end : RoundEnd) → RunsRound m logs turns end t → NoneStrays t) × ((so_far : Progress) → StopsRound m logs turns so_far t → NoneStrays t)
 
 -- ---- and through what callers do between two of them
 -- from s to t no log comes into the round, and what lies in one of its logs then lay there

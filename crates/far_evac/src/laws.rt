@@ -6,10 +6,10 @@ ghost use Rattle.far_evac.specs.Owned.{AbortingKeepsObjects, MarkingKeepsObjects
 ghost use Rattle.far_evac.specs.Emptied.{LogsComeBackEmpty};
 ghost use Rattle.far_evac.specs.Listing.{CensusListsEach};
 ghost use Rattle.far_evac.specs.LiveLaws.{LiveIsInOrder};
-ghost use Rattle.far_evac.specs.Strays.{AbortingStraysNone, CallersStrayNone, ComersJoin, EventsBringNone, MarkingStraysNone, NoRoundStraysNone, OwnersBringNone, PollingStraysNone, RisenStraysNone, RoundStraysNone, SelectingStraysNone, TurnsStrayNone, WalkingStraysNone};
-ghost use Rattle.far_evac.specs.TakesRoom.{CallTakesRoom, RoundTakesRoom, TurnsTakeRoom, WalkTakesRoom};
+ghost use Rattle.far_evac.specs.Strays.{AbortingStraysNone, CallersStrayNone, CallsStrayNone, ComersJoin, EventsBringNone, FoundStrayNone, MarkingStraysNone, NoRoundStraysNone, OwnersBringNone, PollingStraysNone, RisenStraysNone, RoundStraysNone, RoundsStrayNone, RowsStrayNone, SelectingStraysNone, TurnsStrayNone, WalkingStraysNone};
+ghost use Rattle.far_evac.specs.TakesRoom.{CallTakesRoom, RoundTakesRoom, RoundTakesSome, TurnsTakeRoom, TurnsTakeSome, WalkTakesRoom};
 ghost use Rattle.far_evac.specs.WayLaws.{ObjectsGoTheirWay};
-ghost use Rattle.far_evac.specs.Laws.{CensusIsExact, ClearIsShown, ClearMeansUnviewed, ClearViewsNothing, DealingIsInOrder, ExactIsAllowed, GivingUpIsRight, LooksSeeClear, MarkingIsCounted, MarkingIsRight, PollIsAllowed, PollIsOnce, RisenIsReady, RoundIsAllowed, RoundIsEvent, WaitIsNamed, WaitingStays, WalkIsTour, WalksJoin};
+ghost use Rattle.far_evac.specs.Laws.{CensusIsExact, ClearIsShown, ClearMeansUnviewed, ClearViewsNothing, DealingIsInOrder, ExactIsAllowed, GivingUpIsRight, LooksSeeClear, MarkingIsCounted, MarkingIsRight, PollIsAllowed, PollIsOnce, RisenIsReady, RoundIsAllowed, RoundIsEvent, TurnIsAllowed, WaitIsNamed, WaitingStays, WalkIsTour, WalksJoin};
 ghost use Rattle.far_evac.specs.worked.Rows.{EmptiestIsFirst, EpochsAreNamed, FirstLiesFirst, GivenUp, HotWithoutRoom, LastEpoch, NothingToChoose, OldEpoch, OldView, OldestIsFirst, OpenScopeIsWaitedFor, OpenedAnew, OwnerIsFirst, PhasesAreKept, PlainRound, ReserveIsKept, StepByStep, TurnsRunOut};
 
 /// The exact walk, over words that nobody else changes, is one of those that are allowed over any hand.
@@ -22,10 +22,11 @@ pub fn poll_is_allowed()
     ensures { PollIsAllowed }
 {}
 
-/// So is a whole round: its turns are a list of such turns, their tallies add up to what it answers, and it ends as that list
-/// says.
+/// So is an exact turn of a running round. So is a whole round: its turns are a list of such turns, each from a lawful moment, their tallies add up to what it
+/// answers, and it ends as that list says.
 pub fn round_is_allowed()
-    ensures { RoundIsAllowed }
+    ensures turn { TurnIsAllowed }
+    ensures whole { RoundIsAllowed }
 {}
 
 /// A walk over n objects does what stands before the (n + 1)th object in a list of the live objects and the ends of the chosen
@@ -56,10 +57,13 @@ pub fn objects_go_their_way()
 
 /// Over any hand: the room that dealing with objects takes is that of those that moved. In a log that isn't held dead bytes stay, live ones rise by the objects
 /// that came, and unused ones fall by as much; in one that still is what left is dead; one that was given back has what came since. Of all logs together
-/// live bytes fall by the objects that went far or were retired. So it is with each call of a round, and where no word changes but by it with whole rounds.
+/// live bytes fall by the objects that went far or were retired. So it is with each call of a round, with turns one after the other, and with whole rounds, also
+/// with those that stop at an object.
 pub fn walks_take_room()
     ensures walking { WalkTakesRoom }
     ensures call { CallTakesRoom }
+    ensures row { TurnsTakeSome }
+    ensures round { RoundTakesSome }
     ensures turns { TurnsTakeRoom }
     ensures whole { RoundTakesRoom }
 {}
@@ -185,8 +189,8 @@ pub fn callers_keep_order()
 {}
 
 /// Each object that lies in a log of the core's round lies in one that is held: once the epoch has risen, where no other log is in that round; and in a heap
-/// that began without a round also before, when a round that was given up may have left logs there in which nothing lies. So it stays through each call of a
-/// round, turns and whole rounds, and through what callers do between two of them.
+/// that began without a round also before, when a round that was given up may have left logs there in which nothing lies. So it stays, over any hand, through each
+/// call of a round, turns and whole rounds, and through what callers do between two of them.
 pub fn none_strays()
     ensures start { NoRoundStraysNone }
     ensures risen { RisenStraysNone }
@@ -197,6 +201,10 @@ pub fn none_strays()
     ensures aborting { AbortingStraysNone }
     ensures turns { TurnsStrayNone }
     ensures whole { RoundStraysNone }
+    ensures found { FoundStrayNone }
+    ensures calls { CallsStrayNone }
+    ensures rows { RowsStrayNone }
+    ensures rounds { RoundsStrayNone }
     ensures callers { CallersStrayNone }
     ensures joined { ComersJoin }
     ensures owners { OwnersBringNone }

@@ -12,7 +12,7 @@ ghost use Rattle.far_evac.specs.Choosing.{after_selecting};
 ghost use Rattle.far_evac.specs.EvacOf.{moment};
 ghost use Rattle.far_evac.specs.Failing.{fails};
 ghost use Rattle.far_evac.specs.Moment.{Tally, nothing, plus, progress_of, tally_of};
-ghost use Rattle.far_evac.specs.MomentLaw.{is_idle, is_waiting};
+ghost use Rattle.far_evac.specs.MomentLaw.{IsLawful, is_idle, is_waiting};
 ghost use Rattle.far_evac.specs.Refusals.{unselectable};
 ghost use Rattle.far_evac.specs.Turning.{EndsTurns, GoesOn, IsBounded, IsWithin, StopsTurns, turned_at};
 ghost use Rattle.far_evac.specs.Turns.{Halts, HaltsTurns, IsRound, begun_turns, round_end, turn_size, turned, turns_made};
@@ -158,6 +158,7 @@ impl<N: Near + Drop, D: Device + Drop> Evac<N, D> {
         requires within { IsWithin (moment N.view self.old) (tally_of before) }
         ensures turns { IfOk result (λ total. (tally : Tally) × TurnsTo (moment N.view self.old) self.old.phase tally total.done (moment N.view self.new) × (tally_of total ≡ plus (tally_of before) tally)) }
         ensures exact { N.still → IfOk result (λ total. turned (turned_at (moment N.view self.old) (tally_of before) false) self.old.phase ≡ turned_at (moment N.view self.new) (tally_of total) total.done) }
+        ensures lawful { IsLawful (moment N.view self.old) }
         ensures goes_on { IfOk result (λ total. GoesOn (moment N.view self.new) (tally_of total) total.done) }
         ensures leaving { IfErr result (λ _. self.old.phase ≡ phase.Evacuating) }
         ensures stops { IfErr result (λ fault. (tally : Tally) × StopsAt (moment N.view self.old) turn_size (moment N.view self.new) tally × (fault.so_far ≡ progress_of (plus (tally_of before) tally) false)) }

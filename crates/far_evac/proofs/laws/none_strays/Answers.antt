@@ -1,6 +1,7 @@
 use Rattle.far_evac.proofs.laws.none_strays.Goals as goal
 use Rattle.far_evac.proofs.Comers.{comers_join, events_bring_none, owners_bring_none}
 use Rattle.far_evac.proofs.Strays.{aborting_none, callers_none, marking_none, no_round, polling_none, risen, round_none, selecting_none, turns_none, walking_none}
+use Rattle.far_evac.proofs.StraysFound.{calls_none, found_none, rounds_none, rows_none}
 
 pub returns-clause-start : goal.returns-clause-start
 returns-clause-start c = no_round
@@ -40,3 +41,15 @@ returns-clause-owners c = owners_bring_none
 
 pub returns-clause-events : goal.returns-clause-events
 returns-clause-events c = events_bring_none
+
+pub returns-clause-found : goal.returns-clause-found
+returns-clause-found c = found_none
+
+pub returns-clause-calls : goal.returns-clause-calls
+returns-clause-calls c = calls_none
+
+pub returns-clause-rows : goal.returns-clause-rows
+returns-clause-rows c = rows_none
+
+pub returns-clause-rounds : goal.returns-clause-rounds
+returns-clause-rounds c = rounds_none

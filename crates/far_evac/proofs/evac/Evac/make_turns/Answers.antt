@@ -36,7 +36,7 @@ returns-then-total-clause-ends g c others =
     let t = moment g.N.Near.view c.turn_more.new.self in
     let turn = c.in-Ok.ensures.turns in
     subst (λ end. EndsTurns m c.args.turns end t) (ap (λ over. Done (progress_of (tally_of c.in-Ok.sum) over)) (sym c.if-total.true))
-    (made_done m u c.loop.counter (tally_of c.loop.total) c.loop.invariant.made t turn.0 c.args.turns (tally_of c.in-Ok.sum) (omega (arith, c.loop-test.true))
+    (made_done m u c.loop.counter (tally_of c.loop.total) c.loop.invariant.made c.turn_more.ensures.lawful t turn.0 c.args.turns (tally_of c.in-Ok.sum) (omega (arith, c.loop-test.true))
     (subst (λ over. TurnsTo u u.phase turn.0 over t) c.if-total.true turn.1) turn.2)
 
 pub returns-then-total-clause-exact : goal.returns-then-total-clause-exact
@@ -59,7 +59,7 @@ loop-preserved g c =
     let turn = c.in-Ok.ensures.turns in
     let goes = c.in-Ok.ensures.goes_on.more c.if-total.false in
     record {
-      made = made_more m u c.loop.counter (tally_of c.loop.total) c.loop.invariant.made t turn.0 total (subst (λ over. TurnsTo u u.phase turn.0 over t) c.if-total.false turn.1) turn.2;
+      made = made_more m u c.loop.counter (tally_of c.loop.total) c.loop.invariant.made c.turn_more.ensures.lawful t turn.0 total (subst (λ over. TurnsTo u u.phase turn.0 over t) c.if-total.false turn.1) turn.2;
       exact = λ still.
           turns_more m c.loop.counter u (tally_of c.loop.total) (turned_at t total false) (c.loop.invariant.exact still) (c.in-Ok.ensures.exact still ∙ ap (turned_at t total) c.if-total.false);
       within = goes.0;
