@@ -3,26 +3,30 @@ use Rattle.std.proofs.Common.{◌≡◌, ◌≢◌, ◌∙◌, ℕ, ◌+◌, suc
 use Rattle.std.specs.Prelude.{true, false, Result, Ok, Err, IfNone, IfSome}
 use Rattle.std.specs.List.{AllByRecursion}
 use Rattle.far_word.specs.declared.pointer.Place.{Place}
+use Rattle.far_word.specs.declared.refused.Refused.{Refused}
+use Rattle.far_word.specs.Pointer.{read_of}
 use Rattle.far_device.specs.Contents.{KeepsOthers}
 use Rattle.far_device.specs.declared.fault.DeviceFault.{DeviceFault}
+use Rattle.far_core.specs.events.Naming.{is_dropped}
 use Rattle.far_core.specs.state.State.{State, addr}
+use Rattle.far_core.proofs.Put.{put_same}
 use Rattle.far_book.specs.Finds.{Finds}
 use Rattle.far_book.specs.Known.{IsKnown}
-use Rattle.far_word.specs.declared.refused.Refused.{Refused}
-use Rattle.far_core.proofs.Put.{put_same}
-use Rattle.far_book.specs.book.Asking.{AsksToEvict, HasBytes, fault_of}
+use Rattle.far_book.specs.book.Asking.{AsksToEvict, HasBytes, WritesIt, fault_of}
 use Rattle.far_book.specs.book.Dealing.{IsSeen}
 use Rattle.far_book.specs.book.Renaming.{seen}
 use Rattle.far_book.proofs.Finding.{finds_more, near_known}
+use Rattle.far_book.proofs.region.Founds.{drop_found}
 use Rattle.far_evac.specs.declared.evac.evacuating.Fate.{Fate}
-use Rattle.far_evac.specs.declared.evac.evacuating.Fate.TheVariants.{Dropped, Far}
-use Rattle.far_evac.specs.AnyHand.{WalksTo}
-use Rattle.far_evac.specs.Asked.{AsksAs, AsksForAll, EndsInWrite, IsRefusedWrite, KeepsKeys, first_live}
-use Rattle.far_evac.specs.Leaving.{near_fate}
+use Rattle.far_evac.specs.AnyHand.{KnowsWalked, WalksTo}
+use Rattle.far_evac.specs.Asked.{AsksFirst, AsksSo, EndsInWrite, IsRefusedWrite, KeepsKeys, WalksAsking, first_live}
+use Rattle.far_evac.specs.Leaving.{AsksAs, fate_by, near_fate}
 use Rattle.far_evac.specs.Live.{live_among}
 use Rattle.far_evac.specs.Moment.{Moment, Tally}
 use Rattle.far_evac.specs.Ready.{Ready}
-use Rattle.far_evac.specs.Walk.{Walked, left}
+use Rattle.far_evac.specs.Walk.{Drops, Goes, Moves, Walked, Way, dealt_as, left, settled, way_of}
+use Rattle.far_evac.proofs.Bools.{neither}
+use Rattle.far_evac.proofs.Evacuations.{deals_more}
 use Rattle.far_evac.proofs.Given.{drop_next}
 use Rattle.far_evac.proofs.Orders.{walks_left}
 
@@ -52,27 +56,32 @@ keys_more m k w p rest a b c ready walks is keys others q none =
 
 -- ---- calls of the device
 module _ (D : Type 0) (writes : D → ℕ → List ℕ → Result (Unit {0}) DeviceFault → D → Type 0) (lets_go : D → ℕ → D → Type 0) where
-  asks_then : (xs : List ℕ) (p : ℕ) (a b c : D) (fate : Fate) → AsksForAll D writes lets_go xs a b → AsksAs D writes lets_go p fate b c → AsksForAll D writes lets_go (xs ++ (p ∷ [])) a c
-  asks_then [] p a b c fate same asks = (fate, c, subst (λ (d : D). AsksAs D writes lets_go p fate d c) same asks, refl)
-  asks_then (x ∷ xs) p a b c fate (one, d, first, more) asks = (one, d, first, asks_then xs p d b c fate more asks)
+  -- one object more
+  asks_by : (w : Walked) (p : ℕ) (rest : List ℕ) (word : ℕ) (ps : List ℕ) (old new : D) → ps ≡ p ∷ rest → AsksSo D writes lets_go w.moment.core p (way_of w.moment.core (read_of word)) old new → AsksFirst D writes lets_go w word ps old new
+  asks_by w p rest word ps old new e asks = subst (λ qs. AsksFirst D writes lets_go w word qs old new) (sym e) asks
 
-  pub asks_more : (m : Moment) (k : ℕ) (w : Walked) (p : ℕ) (rest : List ℕ) (a b c : D) (fate : Fate) → Ready m.core m.held → WalksTo m k w → left w ≡ p ∷ rest →
-      AsksForAll D writes lets_go (first_live m k) a b → AsksAs D writes lets_go p fate b c → AsksForAll D writes lets_go (first_live m (k + 1)) a c
-  asks_more m k w p rest a b c fate ready walks is before asks =
-      subst (λ xs. AsksForAll D writes lets_go xs a c) (sym (first_more m k w p rest ready walks is)) (asks_then (first_live m k) p a b c fate before asks)
+  pub asks_more : (m : Moment) (k : ℕ) (w v t : Walked) (p : ℕ) (rest : List ℕ) (word : ℕ) (a b c : D) → left w ≡ p ∷ rest → Finds (w.moment.core.cell p) word → KnowsWalked (dealt_as w p (read_of word)) v → KnowsWalked (settled v) t →
+      AsksSo D writes lets_go w.moment.core p (way_of w.moment.core (read_of word)) b c → WalksAsking D writes lets_go m k w a b → WalksAsking D writes lets_go m (k + 1) t a c
+  asks_more m k w v t p rest word a b c e finds dealt then asks walks =
+      subst (λ n. WalksAsking D writes lets_go m n t a c) (one_more k)
+      (w, word, b, walks, deals_more w v t p rest word e finds dealt then, asks_by w p rest word (left w) b c e asks)
 
-  -- an object that was to move
-  pub asked_there : (o : Option Place) (p : ℕ) (old new : D) → IfSome o (λ _. new ≡ old) → IfNone o (lets_go old p new) → AsksAs D writes lets_go p (near_fate o) old new
-  asked_there None p old new same gone = inl gone
-  asked_there (Some place) p old new same gone = same
+  -- two ways that are counted alike
+  pub asks_alike : (s : State) (p : ℕ) (a b : Way) (old new : D) → fate_by a ≡ fate_by b → AsksSo D writes lets_go s p a old new → AsksSo D writes lets_go s p b old new
+  asks_alike s p Drops Drops old new e asks = asks
+  asks_alike s p Drops (Moves place) old new e asks = absurd cc
+  asks_alike s p Drops Goes old new e asks = absurd cc
+  asks_alike s p (Moves place) Drops old new e asks = absurd cc
+  asks_alike s p (Moves place) (Moves other) old new e asks = asks
+  asks_alike s p (Moves place) Goes old new e asks = absurd cc
+  asks_alike s p Goes Drops old new e asks = absurd cc
+  asks_alike s p Goes (Moves place) old new e asks = absurd cc
+  asks_alike s p Goes Goes old new e asks = asks
 
-  -- one that was to go far
-  pub asked_far : (s : State) (p : ℕ) (old new : D) → AsksToEvict D writes lets_go s p (Ok true) old new → AsksAs D writes lets_go p Far old new
-  asked_far s p old new (bytes, own, wrote) = (bytes, wrote)
-
-  pub asked_dropped : (s : State) (p : ℕ) (old new : D) → AsksToEvict D writes lets_go s p (Ok false) old new → AsksAs D writes lets_go p Dropped old new
-  asked_dropped s p old new (inl gone) = inl gone
-  asked_dropped s p old new (inr (between, (bytes, own, wrote), gone, alive)) = inr (bytes, between, wrote, gone)
+  -- one that was to move
+  pub asked_there : (s : State) (p : ℕ) (o : Option Place) (old new : D) → IfSome o (λ _. new ≡ old) → IfNone o (lets_go old p new) → AsksAs D writes lets_go s p (near_fate o) old new
+  asked_there s p None old new same gone = (Drops, refl, inl gone)
+  asked_there s p (Some place) old new same gone = (Moves place, refl, same)
 
 -- an object's bytes, as they were before marks were found
 pub has_before : (s u : State) (p : ℕ) (bytes : List ℕ) → Finds (s.cell p) (u.cell p) → u.word ≡ s.word → HasBytes u p bytes → HasBytes s p bytes
@@ -99,12 +108,26 @@ finds_then s u v p w finds is then =
     finds_more (s.cell p) (u.cell p) (v.cell p) (finds_seen s u p w finds is)
     (subst (Finds (u.cell p)) (sym (ap (λ (x : State). x.cell p) then.leads ∙ put_same u.cell p then.word p refl)) then.found)
 
--- a refused write of its bytes
-pub refused_before : (D : Type 0) (writes : D → ℕ → List ℕ → Result (Unit {0}) DeviceFault → D → Type 0) (lets_go : D → ℕ → D → Type 0) (s u : State) (p : ℕ) (why : Refused) (old between new : D) →
-    Finds (s.cell p) (u.cell p) → u.word ≡ s.word → between ≡ old → AsksToEvict D writes lets_go u p (Err why) between new → AsksToEvict D writes lets_go s p (Err why) old new
-refused_before D writes lets_go s u p why old between new finds same is (bytes, own, wrote) =
-    (bytes, has_before s u p bytes finds same own, subst (λ (d : D). writes d p bytes (Err (fault_of why)) new) is wrote)
+-- what was asked where more marks were known
+module _ (D : Type 0) (writes : D → ℕ → List ℕ → Result (Unit {0}) DeviceFault → D → Type 0) (lets_go : D → ℕ → D → Type 0) (s u : State) (p : ℕ) (finds : Finds (s.cell p) (u.cell p)) (words : u.word ≡ s.word) (old between : D) (is : between ≡ old) where
+  wrote_before : (answer : Result (Unit {0}) DeviceFault) (new : D) → WritesIt D writes lets_go u p between answer new → WritesIt D writes lets_go s p old answer new
+  wrote_before answer new (bytes, own, wrote) = (bytes, has_before s u p bytes finds words own, subst (λ (d : D). writes d p bytes answer new) is wrote)
 
-pub ends_so : (D : Type 0) (writes : D → ℕ → List ℕ → Result (Unit {0}) DeviceFault → D → Type 0) (lets_go : D → ℕ → D → Type 0) (m : Moment) (tally : Tally) (why : Refused) (old new : D) →
-    IsRefusedWrite D writes lets_go m tally why old new → EndsInWrite D writes why new
-ends_so D writes lets_go m tally why old new r = let write = r.write in (r.between, r.next, write.0, write.2)
+  alive_before : is_dropped (read_of (u.cell p)) ≡ false → is_dropped (read_of (s.cell p)) ≡ false
+  alive_before alive = neither (is_dropped (read_of (u.cell p))) (is_dropped (read_of (s.cell p))) (drop_found (s.cell p) (u.cell p) finds) alive
+
+  asked_so : (way : Way) (new : D) → AsksSo D writes lets_go u p way between new → AsksSo D writes lets_go s p way old new
+  asked_so Drops new (inl gone) = inl (subst (λ (d : D). lets_go d p new) is gone)
+  asked_so Drops new (inr (after, wrote, gone, alive)) = inr (after, wrote_before (Ok tt) after wrote, gone, alive_before alive)
+  asked_so (Moves place) new same = same ∙ is
+  asked_so Goes new wrote = wrote_before (Ok tt) new wrote
+
+  pub asked_before : (fate : Fate) (new : D) → AsksAs D writes lets_go u p fate between new → AsksAs D writes lets_go s p fate old new
+  asked_before fate new (way, counted, asks) = (way, counted, asked_so way new asks)
+
+  pub refused_before : (why : Refused) (new : D) → AsksToEvict D writes lets_go u p (Err why) between new → AsksToEvict D writes lets_go s p (Err why) old new
+  refused_before why new wrote = wrote_before (Err (fault_of why)) new wrote
+
+pub ends_so : (D : Type 0) (writes : D → ℕ → List ℕ → Result (Unit {0}) DeviceFault → D → Type 0) (lets_go : D → ℕ → D → Type 0) (m t : Moment) (tally : Tally) (why : Refused) (old new : D) →
+    IsRefusedWrite D writes lets_go m t tally why old new → EndsInWrite D writes why new
+ends_so D writes lets_go m t tally why old new r = let write = r.write in (r.between, r.next, write.0, write.2)

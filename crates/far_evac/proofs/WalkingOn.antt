@@ -119,10 +119,10 @@ dealt_way w t tally p fate Goes core order is phase held counted = record {
   tally = counted ∙ ap (counted_as w.tally) is;
 }
 
-pub dealt_known : (w : Walked) (t : Moment) (tally : Tally) (p : ℕ) (fate : Fate) → LeavesBy w.moment.core w.moment.order t.core t.order p fate → t.phase ≡ w.moment.phase → t.held ≡ w.moment.held →
-    tally ≡ counted_as w.tally fate → (word : ℕ) × Finds (w.moment.core.cell p) word × KnowsWalked (dealt_as w p (read_of word)) (record { moment = t; tally = tally })
+pub dealt_known : (w : Walked) (t : Moment) (tally : Tally) (p : ℕ) (fate : Fate) (leaves : LeavesBy w.moment.core w.moment.order t.core t.order p fate) → t.phase ≡ w.moment.phase → t.held ≡ w.moment.held →
+    tally ≡ counted_as w.tally fate → KnowsWalked (dealt_as w p (read_of leaves.word)) (record { moment = t; tally = tally })
 dealt_known w t tally p fate leaves phase held counted =
-    (leaves.word, leaves.found, dealt_way w t tally p fate (way_of w.moment.core (read_of leaves.word)) leaves.core leaves.sealed leaves.is phase held counted)
+    dealt_way w t tally p fate (way_of w.moment.core (read_of leaves.word)) leaves.core leaves.sealed leaves.is phase held counted
 
 -- ---- the same, where no word changes but by this
 exact_way : (w v : Walked) (p : ℕ) (fate : Fate) (way : Way) → v.moment.core ≡ core_by w.moment.core p way → v.moment.order ≡ order_by w.moment.core w.moment.order way → fate ≡ fate_by way →

@@ -1,17 +1,19 @@
 -- What a walk asked of the device, object after object; and under which keys the device has what it had.
-use Rattle.std.specs.Prelude.{◌≡◌, ◌≢◌, ◌⊎◌, ◌+◌, ℕ, List, [], ◌∷◌, take, Option, Result, Ok, Err}
+use Rattle.std.specs.Prelude.{◌≡◌, ◌≢◌, ◌+◌, ℕ, zero, suc, true, false, List, [], ◌∷◌, take, Option, Result, Ok, Err}
 use Rattle.std.specs.List.{AllByRecursion}
 use Rattle.far_word.specs.declared.refused.Refused.{Refused}
+use Rattle.far_word.specs.Pointer.{read_of}
 use Rattle.far_device.specs.declared.fault.DeviceFault.{DeviceFault}
+use Rattle.far_core.specs.state.State.{State}
 use Rattle.far_book.specs.book.Asking.{AsksToEvict, fault_of}
 use Rattle.far_evac.specs.declared.answers.EvacFault.{EvacFault}
 use Rattle.far_evac.specs.declared.answers.Progress.{Progress}
-use Rattle.far_evac.specs.declared.evac.evacuating.Fate.{Fate}
-use Rattle.far_evac.specs.declared.evac.evacuating.Fate.TheVariants.{Dropped, Far, Moved}
-use Rattle.far_evac.specs.AnyHand.{WalksTo}
+use Rattle.far_evac.specs.declared.phase.Phase.{Phase}
+use Rattle.far_evac.specs.declared.phase.Phase.TheVariants.{Idle, Marking, Waiting, Evacuating}
+use Rattle.far_evac.specs.AnyHand.{DealsFirst, KnowsMoment, KnowsWalked}
 use Rattle.far_evac.specs.Live.{live_among}
 use Rattle.far_evac.specs.Moment.{Moment, Tally, objects_in, tally_of}
-use Rattle.far_evac.specs.Walk.{Walked, left}
+use Rattle.far_evac.specs.Walk.{Drops, Goes, Moves, Walked, Way, begun, ended, left, settled, way_of}
 
 -- the first live objects of the logs held, so many
 abbrev pub first_live : Moment → ℕ → List ℕ
@@ -26,27 +28,47 @@ asked_of (Err fault) = objects_in (tally_of fault.so_far) + 1
 abbrev pub KeepsKeys : List ℕ → (ℕ → Option (List ℕ)) → (ℕ → Option (List ℕ)) → Type 0
 KeepsKeys objects old new = (p : ℕ) → AllByRecursion (λ q. q ≢ p) objects → new p ≡ old p
 
--- an object left its log: nothing was asked where it moved; it went far by one write; where it was retired, its key was let go of, after one write at most
-abbrev pub AsksAs : (D : Type 0) (writes : D → ℕ → List ℕ → Result (Unit {0}) DeviceFault → D → Type 0) (lets_go : D → ℕ → D → Type 0) → ℕ → Fate → D → D → Type 0
-AsksAs D writes lets_go p Moved old new = new ≡ old
-AsksAs D writes lets_go p Far old new = (bytes : List ℕ) × writes old p bytes (Ok tt) new
-AsksAs D writes lets_go p Dropped old new = lets_go old p new ⊎ ((bytes : List ℕ) × (between : D) × writes old p bytes (Ok tt) between × lets_go between p new)
+module _ (D : Type 0) (writes : D → ℕ → List ℕ → Result (Unit {0}) DeviceFault → D → Type 0) (lets_go : D → ℕ → D → Type 0) where
+  -- an object left its log so: nothing was asked where it moved; it went far by one write of its bytes, which was done; where it was retired its key was let go of,
+  -- after at most one such write
+  abbrev pub AsksSo : State → ℕ → Way → D → D → Type 0
+  AsksSo s p Drops old new = AsksToEvict D writes lets_go s p (Ok false) old new
+  AsksSo s p (Moves place) old new = new ≡ old
+  AsksSo s p Goes old new = AsksToEvict D writes lets_go s p (Ok true) old new
 
--- objects left so, one after the other. Which of the three ways each one went is left open here
-abbrev pub AsksForAll : (D : Type 0) (writes : D → ℕ → List ℕ → Result (Unit {0}) DeviceFault → D → Type 0) (lets_go : D → ℕ → D → Type 0) → List ℕ → D → D → Type 0
-AsksForAll D writes lets_go [] old new = new ≡ old
-AsksForAll D writes lets_go (p ∷ ps) old new = (fate : Fate) × (between : D) × AsksAs D writes lets_go p fate old between × AsksForAll D writes lets_go ps between new
+  -- this was asked for the first of those that are left, by the way in which it is dealt with
+  abbrev pub AsksFirst : Walked → ℕ → List ℕ → D → D → Type 0
+  AsksFirst w word [] old new = ⊥
+  AsksFirst w word (p ∷ ps) old new = AsksSo w.moment.core p (way_of w.moment.core (read_of word)) old new
 
--- a walk was refused: it had dealt with so many objects, and asked for them; then it asked for one write of the bytes of the next one, which was refused so
-pub record IsRefusedWrite (D : Type 0) (writes : D → ℕ → List ℕ → Result (Unit {0}) DeviceFault → D → Type 0) (lets_go : D → ℕ → D → Type 0) (m : Moment) (tally : Tally) (why : Refused) (old new : D) : Type 0 where
+  -- so many objects are dealt with, each as a word says that was found in its cell, and this is asked on the way
+  abbrev pub WalksAsking : Moment → ℕ → Walked → D → D → Type 0
+  WalksAsking m zero t old new = KnowsWalked (settled (begun m)) t × (new ≡ old)
+  WalksAsking m (suc k) t old new = (u : Walked) × (word : ℕ) × (between : D) × WalksAsking m k u old between × DealsFirst u word t × AsksFirst u word (left u) between new
+
+  -- a walk dealt with as many objects as it has counted, each in the way in which it is counted, and ended at t
+  abbrev pub AsksOnItsWay : Moment → Moment → Tally → D → D → Type 0
+  AsksOnItsWay m t tally old new = (w : Walked) × WalksAsking m (objects_in tally) w old new × (t ≡ ended w) × (tally ≡ w.tally)
+
+  -- a turn asks for something only where objects leave
+  abbrev pub AsksInTurn : Moment → Phase → Moment → Tally → D → D → Type 0
+  AsksInTurn m Idle t tally old new = ⊥
+  AsksInTurn m Marking t tally old new = new ≡ old
+  AsksInTurn m Waiting t tally old new = new ≡ old
+  AsksInTurn m Evacuating t tally old new = AsksOnItsWay m t tally old new
+
+-- a walk was refused: it had dealt with as many objects as it has counted, and asked for them; then it asked for one write of the bytes of the next one, which was
+-- refused so, and t is where it stopped
+pub record IsRefusedWrite (D : Type 0) (writes : D → ℕ → List ℕ → Result (Unit {0}) DeviceFault → D → Type 0) (lets_go : D → ℕ → D → Type 0) (m t : Moment) (tally : Tally) (why : Refused) (old new : D) : Type 0 where
   pub stood : Walked
-  pub walks : WalksTo m (objects_in tally) stood
+  pub between : D
+  pub walks : WalksAsking D writes lets_go m (objects_in tally) stood old between
+  pub counts : tally ≡ stood.tally
   pub next : ℕ
   pub rest : List ℕ
   pub is : left stood ≡ next ∷ rest
-  pub between : D
-  pub asked : AsksForAll D writes lets_go (first_live m (objects_in tally)) old between
   pub write : AsksToEvict D writes lets_go stood.moment.core next (Err why) between new
+  pub stops : KnowsMoment stood.moment t
 
 -- the last that was asked of the device is a write, which was refused so
 abbrev pub EndsInWrite : (D : Type 0) (writes : D → ℕ → List ℕ → Result (Unit {0}) DeviceFault → D → Type 0) → Refused → D → Type 0

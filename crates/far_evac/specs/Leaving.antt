@@ -1,10 +1,11 @@
 -- What one step of a walk makes of the core and of the order of the sealed logs, and where the walk stands then.
-use Rattle.std.specs.Prelude.{◌≡◌, ℕ, ◌+◌, Bool, true, false, ◌||◌, Option, Some, None, List}
+use Rattle.std.specs.Prelude.{◌≡◌, ℕ, ◌+◌, Bool, true, false, ◌||◌, Option, Some, None, List, Result}
 use Rattle.far_word.specs.declared.pointer.Place.{Place}
 use Rattle.far_word.specs.declared.pointer.PtrWord.{PtrWord}
 use Rattle.far_word.specs.declared.pointer.PtrWord.TheVariants as pointer
 use Rattle.far_word.specs.declared.pointer.PtrWord.TheVariants.{Free, Near}
 use Rattle.far_word.specs.Pointer.{read_of}
+use Rattle.far_device.specs.declared.fault.DeviceFault.{DeviceFault}
 use Rattle.far_core.specs.events.Naming.{is_dropped}
 use Rattle.far_core.specs.state.State.{State}
 use Rattle.far_book.specs.Finds.{Finds}
@@ -14,6 +15,7 @@ use Rattle.far_evac.specs.declared.evac.evacuating.Fate.{Fate}
 use Rattle.far_evac.specs.declared.evac.evacuating.Fate.TheVariants.{Dropped, Far, Moved}
 use Rattle.far_evac.specs.declared.phase.Phase.TheVariants.{Evacuating}
 use Rattle.far_evac.specs.AnyHand.{Knows}
+use Rattle.far_evac.specs.Asked.{AsksSo}
 use Rattle.far_evac.specs.EvacOf.{EvacOf, moment}
 use Rattle.far_evac.specs.Moment.{Tally, tally_of}
 use Rattle.far_evac.specs.Walk.{Walked, Way, Drops, Goes, Moves, way_of}
@@ -74,3 +76,7 @@ pub record LeavesAs (s : State) (order : List ℕ) (t : State) (after : List ℕ
   pub core : t ≡ core_by s p (way_of s (read_of word))
   pub sealed : after ≡ order_by s order (way_of s (read_of word))
   pub is : fate ≡ fate_by (way_of s (read_of word))
+
+-- what it asked of the device, by how it is counted
+abbrev pub AsksAs : (D : Type 0) (writes : D → ℕ → List ℕ → Result (Unit {0}) DeviceFault → D → Type 0) (lets_go : D → ℕ → D → Type 0) → State → ℕ → Fate → D → D → Type 0
+AsksAs D writes lets_go s p fate old new = (way : Way) × (fate ≡ fate_by way) × AsksSo D writes lets_go s p way old new

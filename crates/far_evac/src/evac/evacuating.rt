@@ -13,15 +13,14 @@ ghost use Rattle.far_book.specs.book.Dealing.{IsQuietNear, has_evac, is_failure}
 ghost use Rattle.far_book.specs.book.Effects.{evicted};
 ghost use Rattle.far_book.specs.book.Releasing.{order_without, released};
 ghost use Rattle.far_evac.specs.AnyHand.{Evacuates, Knows, KnowsMoment, KnowsWalked, StopsAt, Walks};
-ghost use Rattle.far_evac.specs.Asked.{AsksAs, AsksForAll, IsRefusedWrite, KeepsKeys, asked_of, first_live};
+ghost use Rattle.far_evac.specs.Asked.{AsksOnItsWay, AsksSo, IsRefusedWrite, KeepsKeys, WalksAsking, asked_of, first_live};
 ghost use Rattle.far_evac.specs.Cursor.{IsNextLeaving};
 ghost use Rattle.far_evac.specs.EvacOf.{moment};
 ghost use Rattle.far_evac.specs.Failing.{fails};
-ghost use Rattle.far_evac.specs.Leaving.{GoesAway, LeavesAs, LeavesBy, counted_as, goes_near, near_fate, standing};
+ghost use Rattle.far_evac.specs.Leaving.{AsksAs, GoesAway, LeavesAs, LeavesBy, counted_as, goes_near, near_fate, standing};
 ghost use Rattle.far_evac.specs.Live.{is_empty, live_in};
 ghost use Rattle.far_evac.specs.Moment.{nothing, objects_in, progress_of, tally_of};
-ghost use Rattle.far_evac.specs.Walk.{Walked, dealt_as, ended, is_done, left, settled, walked};
-ghost use Rattle.far_evac.specs.declared.evac.evacuating.Fate.{Fate as fate_of};
+ghost use Rattle.far_evac.specs.Walk.{Walked, dealt_as, ended, is_done, left, settled, walked, way_of};
 ghost use Rattle.far_evac.specs.declared.evac.evacuating.Fate.TheVariants as fates;
 ghost use Rattle.far_evac.specs.declared.phase.Phase.TheVariants as phase;
 
@@ -62,8 +61,8 @@ impl<N: Near + Drop, D: Device + Drop> Evac<N, D> {
         ensures stops_exact { N.still → self.old.phase ≡ phase.Evacuating → IfErr result (λ fault. (k : ℕ) × (k < n)
             × (moment N.view self.new ≡ (walked (moment N.view self.old) k).moment) × (fault.so_far ≡ progress_of (walked (moment N.view self.old) k).tally false)) }
         ensures why { self.old.phase ≡ phase.Evacuating → IfErr result (λ fault. (fault.why ≡ Memory) ⊎ (fault.why ≡ Failed)) }
-        ensures asked { IfOk result (λ progress. AsksForAll D D.writes D.lets_go (first_live (moment N.view self.old) (objects_in (tally_of progress))) self.old.book.device self.new.book.device) }
-        ensures refused { self.old.phase ≡ phase.Evacuating → IfErr result (λ fault. IsRefusedWrite D D.writes D.lets_go (moment N.view self.old) (tally_of fault.so_far) fault.why self.old.book.device self.new.book.device) }
+        ensures asked { IfOk result (λ progress. AsksOnItsWay D D.writes D.lets_go (moment N.view self.old) (moment N.view self.new) (tally_of progress) self.old.book.device self.new.book.device) }
+        ensures refused { self.old.phase ≡ phase.Evacuating → IfErr result (λ fault. IsRefusedWrite D D.writes D.lets_go (moment N.view self.old) (moment N.view self.new) (tally_of fault.so_far) fault.why self.old.book.device self.new.book.device) }
         ensures keys { KeepsKeys (first_live (moment N.view self.old) (asked_of result)) (D.contents self.old.book.device) (D.contents self.new.book.device) }
         ensures counted { CountsFault (fails result) (D.faults self.old.book.device) (D.faults self.new.book.device) }
         ensures spent { SpendsFault (fails result) (D.fails_at_most self.old.book.device) (D.fails_at_most self.new.book.device) }
@@ -106,8 +105,8 @@ impl<N: Near + Drop, D: Device + Drop> Evac<N, D> {
             × (moment N.view self.new ≡ (walked (moment N.view self.old) k).moment) × (tally_of progress.new ≡ (walked (moment N.view self.old) k).tally)) }
         ensures why { IfErr result (λ why. (why ≡ Memory) ⊎ (why ≡ Failed)) }
         ensures done { progress.new.done ≡ false }
-        ensures asked { IfOk result (λ _. AsksForAll D D.writes D.lets_go (first_live (moment N.view self.old) (objects_in (tally_of progress.new))) self.old.book.device self.new.book.device) }
-        ensures refused { IfErr result (λ why. IsRefusedWrite D D.writes D.lets_go (moment N.view self.old) (tally_of progress.new) why self.old.book.device self.new.book.device) }
+        ensures asked { IfOk result (λ _. WalksAsking D D.writes D.lets_go (moment N.view self.old) (objects_in (tally_of progress.new)) (standing N.view self.new progress.new) self.old.book.device self.new.book.device) }
+        ensures refused { IfErr result (λ why. IsRefusedWrite D D.writes D.lets_go (moment N.view self.old) (moment N.view self.new) (tally_of progress.new) why self.old.book.device self.new.book.device) }
         ensures keys { IfOk result (λ _. KeepsKeys (first_live (moment N.view self.old) (objects_in (tally_of progress.new))) (D.contents self.old.book.device) (D.contents self.new.book.device)) }
         ensures keys_then { IfErr result (λ _. KeepsKeys (first_live (moment N.view self.old) (objects_in (tally_of progress.new) + 1)) (D.contents self.old.book.device) (D.contents self.new.book.device)) }
         ensures counted { CountsFault (is_failure result) (D.faults self.old.book.device) (D.faults self.new.book.device) }
@@ -224,7 +223,8 @@ impl<N: Near + Drop, D: Device + Drop> Evac<N, D> {
         requires next { IsNextLeaving (N.view self.old.book.near) self.old.held span }
         requires room { objects_in (tally_of progress.old) + 1 < 2 ^ 64 }
         ensures dealt { IfOk result (λ _. (word : ℕ) × Finds ((N.view self.old.book.near).cell span.p) word
-            × KnowsWalked (dealt_as (standing N.view self.old progress.old) span.p (read_of word)) (standing N.view self.new progress.new)) }
+            × KnowsWalked (dealt_as (standing N.view self.old progress.old) span.p (read_of word)) (standing N.view self.new progress.new)
+            × AsksSo D D.writes D.lets_go (N.view self.old.book.near) span.p (way_of (N.view self.old.book.near) (read_of word)) self.old.book.device self.new.book.device) }
         ensures exact { N.still → IfOk result (λ _. standing N.view self.new progress.new
             ≡ dealt_as (standing N.view self.old progress.old) span.p (read_of ((N.view self.old.book.near).cell span.p))) }
         ensures kept { IfErr result (λ _. KnowsMoment (moment N.view self.old) (moment N.view self.new)) }
@@ -232,7 +232,6 @@ impl<N: Near + Drop, D: Device + Drop> Evac<N, D> {
         ensures uncounted { IfErr result (λ _. progress.new ≡ progress.old) }
         ensures round { (self.new.phase ≡ self.old.phase) × (self.new.held ≡ self.old.held) }
         ensures rest { (progress.new.freed ≡ progress.old.freed) × (progress.new.done ≡ progress.old.done) }
-        ensures asked { IfOk result (λ _. (fate : fate_of) × AsksAs D D.writes D.lets_go span.p fate self.old.book.device self.new.book.device) }
         ensures refused { IfErr result (λ why. AsksToEvict D D.writes D.lets_go (N.view self.old.book.near) span.p (Err why) self.old.book.device self.new.book.device) }
         ensures others { KeepsOthers (D.contents self.old.book.device) (D.contents self.new.book.device) span.p }
         ensures why { IfErr result (λ why. (why ≡ Memory) ⊎ (why ≡ Failed)) }
@@ -279,7 +278,7 @@ fn send_off<N: Near + Drop, D: Device + Drop>(
     ensures kept { IfErr result (λ _. Knows (N.view book.old.near) (N.view book.new.near)) }
     ensures same { N.still → IfErr result (λ _. N.view book.new.near ≡ N.view book.old.near) }
     ensures order { IfErr result (λ _. book.new.order ≡ book.old.order) }
-    ensures asked { IfOk result (λ fate. AsksAs D D.writes D.lets_go pointer fate book.old.device book.new.device) }
+    ensures asked { IfOk result (λ fate. AsksAs D D.writes D.lets_go (N.view book.old.near) pointer fate book.old.device book.new.device) }
     ensures refused { IfErr result (λ why. AsksToEvict D D.writes D.lets_go (N.view book.old.near) pointer (Err why) book.old.device book.new.device) }
     ensures others { KeepsOthers (D.contents book.old.device) (D.contents book.new.device) pointer }
     ensures why { IfErr result (λ why. (why ≡ Memory) ⊎ (why ≡ Failed)) }
@@ -324,7 +323,7 @@ fn send_far<N: Near + Drop, D: Device + Drop>(
     ensures kept { IfErr result (λ _. Knows (N.view book.old.near) (N.view book.new.near)) }
     ensures same { N.still → IfErr result (λ _. N.view book.new.near ≡ N.view book.old.near) }
     ensures order { book.new.order ≡ book.old.order }
-    ensures asked { IfOk result (λ fate. AsksAs D D.writes D.lets_go pointer fate book.old.device book.new.device) }
+    ensures asked { IfOk result (λ fate. AsksAs D D.writes D.lets_go (N.view book.old.near) pointer fate book.old.device book.new.device) }
     ensures refused { IfErr result (λ why. AsksToEvict D D.writes D.lets_go (N.view book.old.near) pointer (Err why) book.old.device book.new.device) }
     ensures others { KeepsOthers (D.contents book.old.device) (D.contents book.new.device) pointer }
     ensures why { IfErr result (λ why. (why ≡ Memory) ⊎ (why ≡ Failed)) }

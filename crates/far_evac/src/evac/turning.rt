@@ -7,7 +7,7 @@ ghost use Rattle.far_policy.specs.Choice.{IsChoice};
 ghost use Rattle.far_word.specs.declared.refused.Refused.{Refused as why_refused};
 ghost use Rattle.far_word.specs.declared.refused.Refused.TheVariants.{Device as Failed, Memory, Phase as WrongPhase};
 ghost use Rattle.far_evac.specs.AnyHand.{TurnsTo, RunsRound, StopsAt, StopsRound};
-ghost use Rattle.far_evac.specs.Asked.{EndsInWrite, IsRefusedWrite, KeepsKeys, asked_of, first_live};
+ghost use Rattle.far_evac.specs.Asked.{AsksInTurn, EndsInWrite, IsRefusedWrite, KeepsKeys, asked_of, first_live};
 ghost use Rattle.far_evac.specs.Choosing.{after_selecting};
 ghost use Rattle.far_evac.specs.EvacOf.{moment};
 ghost use Rattle.far_evac.specs.Failing.{fails};
@@ -41,7 +41,8 @@ impl<N: Near + Drop, D: Device + Drop> Evac<N, D> {
         ensures stops { self.old.phase ≢ phase.Idle → IfErr result (λ fault. (self.old.phase ≡ phase.Evacuating) × StopsAt (moment N.view self.old) turn_size (moment N.view self.new) (tally_of fault.so_far)) }
         ensures halts { N.still → self.old.phase ≢ phase.Idle → IfErr result (λ fault. (tally : Tally) × Halts (moment N.view self.old) turn_size (moment N.view self.new) tally × (fault.so_far ≡ progress_of tally false)) }
         ensures why { self.old.phase ≢ phase.Idle → IfErr result (λ fault. (fault.why ≡ Memory) ⊎ (fault.why ≡ Failed)) }
-        ensures refused { self.old.phase ≢ phase.Idle → IfErr result (λ fault. IsRefusedWrite D D.writes D.lets_go (moment N.view self.old) (tally_of fault.so_far) fault.why self.old.book.device self.new.book.device) }
+        ensures asked { IfOk result (λ progress. AsksInTurn D D.writes D.lets_go (moment N.view self.old) self.old.phase (moment N.view self.new) (tally_of progress) self.old.book.device self.new.book.device) }
+        ensures refused { self.old.phase ≢ phase.Idle → IfErr result (λ fault. IsRefusedWrite D D.writes D.lets_go (moment N.view self.old) (moment N.view self.new) (tally_of fault.so_far) fault.why self.old.book.device self.new.book.device) }
         ensures keys { KeepsKeys (first_live (moment N.view self.old) (asked_of result)) (D.contents self.old.book.device) (D.contents self.new.book.device) }
         ensures counted { CountsFault (fails result) (D.faults self.old.book.device) (D.faults self.new.book.device) }
         ensures spent { SpendsFault (fails result) (D.fails_at_most self.old.book.device) (D.fails_at_most self.new.book.device) }

@@ -1,17 +1,19 @@
 use Rattle.std.proofs.Common.{◌∙◌, ap, sym, refl, subst}
 use Rattle.std.specs.Prelude.{Err}
+use Rattle.far_word.specs.Pointer.{read_of}
 use Rattle.far_core.specs.state.Law.{Law}
 use Rattle.far_book.specs.book.Asking.{AsksToEvict}
 use Rattle.far_book.specs.book.Own.{own_part}
 use Rattle.far_evac.specs.declared.phase.Phase.TheVariants.{Evacuating}
-use Rattle.far_evac.specs.Asked.{AsksAs}
 use Rattle.far_evac.specs.Cursor.{IsNextLeaving}
 use Rattle.far_evac.specs.EvacOf.{EvacOf, moment}
-use Rattle.far_evac.specs.Leaving.{LeavesAs, LeavesBy, standing}
+use Rattle.far_evac.specs.Leaving.{AsksAs, LeavesAs, LeavesBy, standing}
 use Rattle.far_evac.specs.Moment.{tally_of}
 use Rattle.far_evac.specs.MomentLaw.{has_risen}
 use Rattle.far_evac.specs.Ready.{Ready}
 use Rattle.far_evac.specs.Standing.{held_in}
+use Rattle.far_evac.specs.Walk.{way_of}
+use Rattle.far_evac.proofs.Asking.{asks_alike}
 use Rattle.far_evac.proofs.Keeping.{round_found}
 use Rattle.far_evac.proofs.Readiness.{risen_is_ready}
 use Rattle.far_evac.proofs.SendingOff.{Wanted, first_wanted}
@@ -55,10 +57,16 @@ invariant_of-self-in-Err g c = round_found (g.N.Near.view c.self.inside.book.nea
 pub returns-in-Ok-clause-dealt : goal.returns-in-Ok-clause-dealt
 returns-in-Ok-clause-dealt g c =
     let view = g.N.Near.view in
+    let s = view c.args.self.now.book.near in
+    let p = c.args.span.p in
     let t = view c.send_off.new.book.near in
-    let leaves = subst (λ (e : EvacOf g.row.N.Denot g.row.D.Denot). LeavesBy (view e.book.near) e.book.order t c.send_off.new.book.order c.args.span.p c.in-Ok.fate) c.self.view_is c.in-Ok.ensures.leaves in
-    dealt_known (standing view c.args.self.now c.args.progress.now) (record { core = t; order = c.send_off.new.book.order; phase = Evacuating; held = held_in c.self.inside.round })
-    (tally_of c.count.new.progress) c.args.span.p c.in-Ok.fate leaves refl (ap (λ (e : EvacOf g.row.N.Denot g.row.D.Denot). e.held) c.self.view_is) (ap tally_of c.count.ensures)
+    let old = c.args.self.now.book.device in
+    let new = c.send_off.new.book.device in
+    let leaves = subst (λ (e : EvacOf g.row.N.Denot g.row.D.Denot). LeavesBy (view e.book.near) e.book.order t c.send_off.new.book.order p c.in-Ok.fate) c.self.view_is c.in-Ok.ensures.leaves in
+    let dealt = dealt_known (standing view c.args.self.now c.args.progress.now) (record { core = t; order = c.send_off.new.book.order; phase = Evacuating; held = held_in c.self.inside.round })
+    (tally_of c.count.new.progress) p c.in-Ok.fate leaves refl (ap (λ (e : EvacOf g.row.N.Denot g.row.D.Denot). e.held) c.self.view_is) (ap tally_of c.count.ensures) in
+    let asked = subst (λ (e : EvacOf g.row.N.Denot g.row.D.Denot). AsksAs g.row.D.Denot g.D.Device.writes g.D.Device.lets_go (view e.book.near) p c.in-Ok.fate e.book.device new) c.self.view_is c.in-Ok.ensures.asked in
+    (leaves.word, leaves.found, dealt, asks_alike g.row.D.Denot g.D.Device.writes g.D.Device.lets_go s p asked.0 (way_of s (read_of leaves.word)) old new (sym asked.1 ∙ leaves.is) asked.2)
 
 pub returns-in-Ok-clause-exact : goal.returns-in-Ok-clause-exact
 returns-in-Ok-clause-exact g c still =
@@ -71,10 +79,6 @@ returns-in-Ok-clause-exact g c still =
       moment = record { core = t; order = c.send_off.new.book.order; phase = Evacuating; held = held_in c.self.inside.round };
       tally = tally_of c.count.new.progress;
     }) p ((view c.args.self.now.book.near).cell p) c.in-Ok.fate leaves refl (ap (λ (e : EvacOf g.row.N.Denot g.row.D.Denot). e.held) c.self.view_is) (ap tally_of c.count.ensures)
-
-pub returns-in-Ok-clause-asked : goal.returns-in-Ok-clause-asked
-returns-in-Ok-clause-asked g c =
-    (c.in-Ok.fate, subst (λ (e : EvacOf g.row.N.Denot g.row.D.Denot). AsksAs g.row.D.Denot g.D.Device.writes g.D.Device.lets_go c.args.span.p c.in-Ok.fate e.book.device c.send_off.new.book.device) c.self.view_is c.in-Ok.ensures.asked)
 
 pub returns-in-Err-clause-refused : goal.returns-in-Err-clause-refused
 returns-in-Err-clause-refused g c =

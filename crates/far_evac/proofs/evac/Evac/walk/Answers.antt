@@ -1,10 +1,14 @@
-use Rattle.std.proofs.Common.{◌≡◌, ◌+◌, ◌<◌, ◌∙◌, ◌∷◌, [], ℕ, List, IfSome, IfNone, length, arith, ap, sym, subst}
+use Rattle.std.proofs.Common.{◌≡◌, ◌+◌, ◌<◌, ◌∙◌, ◌∷◌, [], ℕ, List, cond, IfSome, IfNone, length, arith, ap, sym, subst}
 use Rattle.far_log.specs.declared.span.Span.{Span}
 use Rattle.far_evac.specs.declared.answers.Progress.{Progress}
-use Rattle.far_evac.specs.AnyHand.{WalksTo}
-use Rattle.far_evac.specs.Asked.{AsksForAll, KeepsKeys, first_live}
+use Rattle.far_evac.specs.declared.phase.Phase.{Phase}
+use Rattle.far_evac.specs.declared.phase.Phase.TheVariants as phase
+use Rattle.far_evac.specs.AnyHand.{KnowsMoment}
+use Rattle.far_evac.specs.Asked.{KeepsKeys, WalksAsking, first_live}
+use Rattle.far_evac.specs.Cursor.{IsNextLeaving}
 use Rattle.far_evac.specs.EvacOf.{moment}
 use Rattle.far_evac.specs.Leaving.{standing}
+use Rattle.far_evac.specs.Live.{is_empty}
 use Rattle.far_evac.specs.Moment.{objects_in, tally_of}
 use Rattle.far_evac.specs.MomentLaw.{has_risen}
 use Rattle.far_evac.specs.Walk.{left}
@@ -41,7 +45,7 @@ loop-preserved g c =
     let held = g.D.Device.contents in
     let old = c.args.self.now.book.device in
     let now = c.loop.self.book.device in
-    let asked = asks_more g.row.D.Denot g.D.Device.writes g.D.Device.lets_go m c.loop.counter w c.in-Some.span.p some.0 old now c.deal.new.self.book.device did.asked.0 ready before.walks some.1 before.asked did.asked.1 in
+    let asked = asks_more g.row.D.Denot g.D.Device.writes g.D.Device.lets_go m c.loop.counter w v t c.in-Some.span.p some.0 did.dealt.0 old now c.deal.new.self.book.device some.1 did.dealt.1 did.dealt.2 then.known did.dealt.3 before.asked in
     let keys = keys_more m c.loop.counter w c.in-Some.span.p some.0 (held old) (held now) (held c.deal.new.self.book.device) ready before.walks some.1 before.keys did.others in
     record {
       walks = one_more m c.loop.counter w v t c.in-Some.span.p some.0 did.dealt.0 some.1 did.dealt.1 did.dealt.2 then.known before.walks;
@@ -54,7 +58,7 @@ loop-preserved g c =
       done = then.done ∙ did.rest.1 ∙ before.done;
       faults = ap g.D.Device.faults then.device ∙ did.counted ∙ before.faults;
       spent = λ n h. subst (λ device. g.D.Device.fails_at_most device n) (sym then.device) (did.spent n (before.spent n h));
-      asked = subst (λ (d : g.row.D.Denot). AsksForAll g.row.D.Denot g.D.Device.writes g.D.Device.lets_go (first_live m (c.loop.counter + 1)) old d) (sym then.device) asked;
+      asked = subst (λ (d : g.row.D.Denot). WalksAsking g.row.D.Denot g.D.Device.writes g.D.Device.lets_go m (c.loop.counter + 1) t old d) (sym then.device) asked;
       keys = subst (λ (d : g.row.D.Denot). KeepsKeys (first_live m (c.loop.counter + 1)) (held old) (held d)) (sym then.device) keys;
       honest = ap g.D.Device.honest then.device ∙ did.honest ∙ before.honest;
     }
@@ -62,8 +66,9 @@ loop-preserved g c =
 pub returns-in_default-clause-asked : goal.returns-in_default-clause-asked
 returns-in_default-clause-asked g c =
     let m = moment g.N.Near.view c.args.self.now in
-    let all = tallies_all m c.loop.counter (standing g.N.Near.view c.loop.self c.loop.progress) c.loop.invariant.walks in
-    subst (λ n. AsksForAll g.row.D.Denot g.D.Device.writes g.D.Device.lets_go (first_live m n) c.args.self.now.book.device c.loop.self.book.device) (sym all) c.loop.invariant.asked
+    let w = standing g.N.Near.view c.loop.self c.loop.progress in
+    let all = tallies_all m c.loop.counter w c.loop.invariant.walks in
+    subst (λ n. WalksAsking g.row.D.Denot g.D.Device.writes g.D.Device.lets_go m n w c.args.self.now.book.device c.loop.self.book.device) (sym all) c.loop.invariant.asked
 
 pub returns-in_default-clause-keys : goal.returns-in_default-clause-keys
 returns-in_default-clause-keys g c =
@@ -74,8 +79,9 @@ returns-in_default-clause-keys g c =
 pub returns-clause-asked : goal.returns-clause-asked
 returns-clause-asked g c =
     let m = moment g.N.Near.view c.args.self.now in
-    let all = tallies_all m c.loop.counter (standing g.N.Near.view c.loop.self c.loop.progress) c.loop.invariant.walks in
-    subst (λ n. AsksForAll g.row.D.Denot g.D.Device.writes g.D.Device.lets_go (first_live m n) c.args.self.now.book.device c.loop.self.book.device) (sym all) c.loop.invariant.asked
+    let w = standing g.N.Near.view c.loop.self c.loop.progress in
+    let all = tallies_all m c.loop.counter w c.loop.invariant.walks in
+    subst (λ n. WalksAsking g.row.D.Denot g.D.Device.writes g.D.Device.lets_go m n w c.args.self.now.book.device c.loop.self.book.device) (sym all) c.loop.invariant.asked
 
 pub returns-clause-keys : goal.returns-clause-keys
 returns-clause-keys g c =
@@ -90,16 +96,19 @@ returns-in-Err-clause-refused g c =
     let w = standing view c.loop.self c.loop.progress in
     let before = c.loop.invariant in
     let some = subst (λ o. IfSome o (λ (span : Span). (rest : List ℕ) × (left w ≡ span.p ∷ rest))) c.in-Some.is before.some in
+    let next = subst (λ o. IfSome o (λ (span : Span). IsNextLeaving (view c.loop.self.book.near) c.loop.self.held span)) c.in-Some.is before.next in
+    let leaving = before.ends ∙ ap (λ (held : List ℕ). cond (is_empty held) phase.Idle phase.Evacuating) next.front in
     let count = ap (λ (q : Progress). objects_in (tally_of q)) c.in-Err.ensures.uncounted ∙ tallies_all m c.loop.counter w before.walks in
     record {
       stood = w;
-      walks = subst (λ n. WalksTo m n w) (sym count) before.walks;
+      between = c.loop.self.book.device;
+      walks = subst (λ n. WalksAsking g.row.D.Denot g.D.Device.writes g.D.Device.lets_go m n w c.args.self.now.book.device c.loop.self.book.device) (sym count) before.asked;
+      counts = ap tally_of c.in-Err.ensures.uncounted;
       next = c.in-Some.span.p;
       rest = some.0;
       is = some.1;
-      between = c.loop.self.book.device;
-      asked = subst (λ n. AsksForAll g.row.D.Denot g.D.Device.writes g.D.Device.lets_go (first_live m n) c.args.self.now.book.device c.loop.self.book.device) (sym count) before.asked;
       write = c.in-Err.ensures.refused;
+      stops = subst (λ (now : Phase). KnowsMoment (record (moment view c.loop.self) { phase = now }) (moment view c.deal.new.self)) leaving c.in-Err.ensures.kept;
     }
 
 pub returns-in-Err-clause-keys_then : goal.returns-in-Err-clause-keys_then

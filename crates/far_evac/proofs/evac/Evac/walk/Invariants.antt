@@ -3,7 +3,7 @@ use Rattle.far_device.specs.Faults.{SpendsFault}
 use Rattle.far_evac.specs.declared.phase.Phase.TheVariants as phase
 use Rattle.far_log.specs.declared.span.Span.{Span}
 use Rattle.far_evac.specs.AnyHand.{WalksTo}
-use Rattle.far_evac.specs.Asked.{AsksForAll, KeepsKeys, first_live}
+use Rattle.far_evac.specs.Asked.{KeepsKeys, WalksAsking, first_live}
 use Rattle.far_evac.specs.Cursor.{IsNextLeaving}
 use Rattle.far_evac.specs.EvacOf.{moment}
 use Rattle.far_evac.specs.Leaving.{standing}
@@ -23,7 +23,7 @@ invariant-loop g l = record {
   done : l.progress.done ≡ false;
   faults : g.D.Device.faults l.self.book.device ≡ g.D.Device.faults l.fn.self.book.device;
   spent : SpendsFault false (g.D.Device.fails_at_most l.fn.self.book.device) (g.D.Device.fails_at_most l.self.book.device);
-  asked : AsksForAll g.row.D.Denot g.D.Device.writes g.D.Device.lets_go (first_live (moment g.N.Near.view l.fn.self) l.counter) l.fn.self.book.device l.self.book.device;
+  asked : WalksAsking g.row.D.Denot g.D.Device.writes g.D.Device.lets_go (moment g.N.Near.view l.fn.self) l.counter (standing g.N.Near.view l.self l.progress) l.fn.self.book.device l.self.book.device;
   keys : KeepsKeys (first_live (moment g.N.Near.view l.fn.self) l.counter) (g.D.Device.contents l.fn.self.book.device) (g.D.Device.contents l.self.book.device);
   honest : g.D.Device.honest l.self.book.device ≡ g.D.Device.honest l.fn.self.book.device;
 }

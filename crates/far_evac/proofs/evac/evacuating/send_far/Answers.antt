@@ -1,9 +1,9 @@
-use Rattle.std.proofs.Common.{◌∙◌, Ok, ap, subst}
+use Rattle.std.proofs.Common.{◌∙◌, Ok, ap, refl, subst}
 use Rattle.std.specs.Prelude.{Bool, Result}
 use Rattle.far_word.specs.declared.refused.Refused.{Refused}
 use Rattle.far_book.specs.book.Asking.{AsksToEvict}
 use Rattle.far_book.specs.book.Effects.{with_free_cell}
-use Rattle.far_evac.proofs.Asking.{asked_dropped, asked_far}
+use Rattle.far_evac.specs.Walk.{Drops, Goes}
 use Rattle.far_evac.proofs.Hands.{knows_spans}
 use Rattle.far_evac.proofs.SendingOff.{far_known, seen_known}
 use Rattle.far_evac.proofs.evac.evacuating.send_far.Goals as goal
@@ -23,13 +23,17 @@ returns-in-Err-clause-kept g c =
     seen_known (g.N.Near.view c.args.book.now.near) (g.N.Near.view c.evict-answer.new.self.near) c.args.pointer c.in-Err.ensures.kept c.keeps_law-2.ensures.law
 
 pub returns-in-Ok-true-clause-asked : goal.returns-in-Ok-true-clause-asked
-returns-in-Ok-true-clause-asked g c =
-    asked_far g.row.D.Denot g.D.Device.writes g.D.Device.lets_go (g.N.Near.view c.args.book.now.near) c.args.pointer c.args.book.now.device c.evict-answer.new.self.device
-    (subst (λ (r : Result Bool Refused). AsksToEvict g.row.D.Denot g.D.Device.writes g.D.Device.lets_go (g.N.Near.view c.args.book.now.near) c.args.pointer r c.args.book.now.device c.evict-answer.new.self.device)
-    (c.in-Ok-true.is ∙ ap (λ far. Ok far) c.in-Ok-true.field-0-test) c.evict-answer.ensures.called)
+returns-in-Ok-true-clause-asked g c = (
+  Goes,
+  refl,
+  subst (λ (r : Result Bool Refused). AsksToEvict g.row.D.Denot g.D.Device.writes g.D.Device.lets_go (g.N.Near.view c.args.book.now.near) c.args.pointer r c.args.book.now.device c.evict-answer.new.self.device)
+      (c.in-Ok-true.is ∙ ap (λ far. Ok far) c.in-Ok-true.field-0-test) c.evict-answer.ensures.called,
+)
 
 pub returns-in-Ok-false-clause-asked : goal.returns-in-Ok-false-clause-asked
-returns-in-Ok-false-clause-asked g c =
-    asked_dropped g.row.D.Denot g.D.Device.writes g.D.Device.lets_go (g.N.Near.view c.args.book.now.near) c.args.pointer c.args.book.now.device c.evict-answer.new.self.device
-    (subst (λ (r : Result Bool Refused). AsksToEvict g.row.D.Denot g.D.Device.writes g.D.Device.lets_go (g.N.Near.view c.args.book.now.near) c.args.pointer r c.args.book.now.device c.evict-answer.new.self.device)
-    (c.in-Ok-false.is ∙ ap (λ far. Ok far) c.in-Ok-false.field-0-test) c.evict-answer.ensures.called)
+returns-in-Ok-false-clause-asked g c = (
+  Drops,
+  refl,
+  subst (λ (r : Result Bool Refused). AsksToEvict g.row.D.Denot g.D.Device.writes g.D.Device.lets_go (g.N.Near.view c.args.book.now.near) c.args.pointer r c.args.book.now.device c.evict-answer.new.self.device)
+      (c.in-Ok-false.is ∙ ap (λ far. Ok far) c.in-Ok-false.field-0-test) c.evict-answer.ensures.called,
+)

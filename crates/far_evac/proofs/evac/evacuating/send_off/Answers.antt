@@ -1,9 +1,8 @@
 use Rattle.std.proofs.Common.{◌∙◌, None, ap, sym, subst}
 use Rattle.far_book.specs.book.BookOf.{BookOf}
 use Rattle.far_core.specs.state.State.{State}
-use Rattle.far_evac.specs.Asked.{AsksAs}
-use Rattle.far_evac.specs.Leaving.{LeavesBy, near_fate}
-use Rattle.far_evac.proofs.Asking.{asked_there, finds_seen, finds_then, refused_before}
+use Rattle.far_evac.specs.Leaving.{AsksAs, LeavesBy, near_fate}
+use Rattle.far_evac.proofs.Asking.{asked_before, asked_there, finds_seen, finds_then, refused_before}
 use Rattle.far_evac.proofs.Hands.{knows_more}
 use Rattle.far_evac.proofs.SendingOff.{err_map, found_here, ok_map, no_answer, quiet_here, seen_known, sent_away, sent_cold, sent_there}
 use Rattle.far_evac.proofs.evac.evacuating.send_off.Goals as goal
@@ -58,26 +57,35 @@ returns-in-Err-clause-kept g c =
 
 pub returns-then-not-goes_near-clause-asked : goal.returns-then-not-goes_near-clause-asked
 returns-then-not-goes_near-clause-asked g c =
-    ok_map c.send_far.result (λ fate asks. subst (λ (d : g.row.D.Denot). AsksAs g.row.D.Denot g.D.Device.writes g.D.Device.lets_go c.args.pointer fate d c.send_far.new.book.device) c.see.ensures.device asks) c.send_far.ensures.asked
+    let s = g.N.Near.view c.args.book.now.near in
+    let u = g.N.Near.view c.see.new.self.near in
+    ok_map c.send_far.result (λ fate asks. asked_before g.row.D.Denot g.D.Device.writes g.D.Device.lets_go s u c.args.pointer (finds_seen s u c.args.pointer c.see.result c.see.ensures.found c.see.ensures.kept)
+    (ap (λ (x : State). x.word) c.see.ensures.kept) c.args.book.now.device c.see.new.self.device c.see.ensures.device fate c.send_far.new.book.device asks) c.send_far.ensures.asked
 
 pub returns-then-not-goes_near-clause-refused : goal.returns-then-not-goes_near-clause-refused
 returns-then-not-goes_near-clause-refused g c =
     let s = g.N.Near.view c.args.book.now.near in
     let u = g.N.Near.view c.see.new.self.near in
-    err_map c.send_far.result (λ why asks. refused_before g.row.D.Denot g.D.Device.writes g.D.Device.lets_go s u c.args.pointer why c.args.book.now.device c.see.new.self.device c.send_far.new.book.device
-    (finds_seen s u c.args.pointer c.see.result c.see.ensures.found c.see.ensures.kept) (ap (λ (x : State). x.word) c.see.ensures.kept) c.see.ensures.device asks) c.send_far.ensures.refused
+    err_map c.send_far.result (λ why asks. refused_before g.row.D.Denot g.D.Device.writes g.D.Device.lets_go s u c.args.pointer (finds_seen s u c.args.pointer c.see.result c.see.ensures.found c.see.ensures.kept)
+    (ap (λ (x : State). x.word) c.see.ensures.kept) c.args.book.now.device c.see.new.self.device c.see.ensures.device why c.send_far.new.book.device asks) c.send_far.ensures.refused
 
 pub returns-in-Ok-clause-asked : goal.returns-in-Ok-clause-asked
 returns-in-Ok-clause-asked g c =
+    let s = g.N.Near.view c.args.book.now.near in
     let done = c.in-Ok.ensures in
-    subst (λ fate. AsksAs g.row.D.Denot g.D.Device.writes g.D.Device.lets_go c.args.pointer fate c.args.book.now.device c.move_now-answer.new.self.device) (sym c.near_fate.ensures)
-    (subst (λ (d : g.row.D.Denot). AsksAs g.row.D.Denot g.D.Device.writes g.D.Device.lets_go c.args.pointer (near_fate c.in-Ok.place) d c.move_now-answer.new.self.device) c.see.ensures.device
-    (asked_there g.row.D.Denot g.D.Device.writes g.D.Device.lets_go c.in-Ok.place c.args.pointer c.see.new.self.device c.move_now-answer.new.self.device done.device done.called))
+    subst (λ fate. AsksAs g.row.D.Denot g.D.Device.writes g.D.Device.lets_go s c.args.pointer fate c.args.book.now.device c.move_now-answer.new.self.device) (sym c.near_fate.ensures)
+    (subst (λ (d : g.row.D.Denot). AsksAs g.row.D.Denot g.D.Device.writes g.D.Device.lets_go s c.args.pointer (near_fate c.in-Ok.place) d c.move_now-answer.new.self.device) c.see.ensures.device
+    (asked_there g.row.D.Denot g.D.Device.writes g.D.Device.lets_go s c.args.pointer c.in-Ok.place c.see.new.self.device c.move_now-answer.new.self.device done.device done.called))
 
 pub returns-in-Err-clause-asked : goal.returns-in-Err-clause-asked
 returns-in-Err-clause-asked g c =
-    let same = ap (λ (b : BookOf g.row.N.Denot g.row.D.Denot). b.device) c.in-Err.ensures.kept ∙ c.see.ensures.device in
-    ok_map c.send_far-in-Err.result (λ fate asks. subst (λ (d : g.row.D.Denot). AsksAs g.row.D.Denot g.D.Device.writes g.D.Device.lets_go c.args.pointer fate d c.send_far-in-Err.new.book.device) same asks) c.send_far-in-Err.ensures.asked
+    let s = g.N.Near.view c.args.book.now.near in
+    let u = g.N.Near.view c.see.new.self.near in
+    let v = g.N.Near.view c.move_now-answer.new.self.near in
+    let missed = c.in-Err.ensures in
+    let same = ap (λ (b : BookOf g.row.N.Denot g.row.D.Denot). b.device) missed.kept ∙ c.see.ensures.device in
+    ok_map c.send_far-in-Err.result (λ fate asks. asked_before g.row.D.Denot g.D.Device.writes g.D.Device.lets_go s v c.args.pointer (finds_then s u v c.args.pointer c.see.result c.see.ensures.found c.see.ensures.kept missed.seen)
+    (missed.words ∙ ap (λ (x : State). x.word) c.see.ensures.kept) c.args.book.now.device c.move_now-answer.new.self.device same fate c.send_far-in-Err.new.book.device asks) c.send_far-in-Err.ensures.asked
 
 pub returns-in-Err-clause-refused : goal.returns-in-Err-clause-refused
 returns-in-Err-clause-refused g c =
@@ -86,5 +94,5 @@ returns-in-Err-clause-refused g c =
     let v = g.N.Near.view c.move_now-answer.new.self.near in
     let missed = c.in-Err.ensures in
     let same = ap (λ (b : BookOf g.row.N.Denot g.row.D.Denot). b.device) missed.kept ∙ c.see.ensures.device in
-    err_map c.send_far-in-Err.result (λ why asks. refused_before g.row.D.Denot g.D.Device.writes g.D.Device.lets_go s v c.args.pointer why c.args.book.now.device c.move_now-answer.new.self.device c.send_far-in-Err.new.book.device
-    (finds_then s u v c.args.pointer c.see.result c.see.ensures.found c.see.ensures.kept missed.seen) (missed.words ∙ ap (λ (x : State). x.word) c.see.ensures.kept) same asks) c.send_far-in-Err.ensures.refused
+    err_map c.send_far-in-Err.result (λ why asks. refused_before g.row.D.Denot g.D.Device.writes g.D.Device.lets_go s v c.args.pointer (finds_then s u v c.args.pointer c.see.result c.see.ensures.found c.see.ensures.kept missed.seen)
+    (missed.words ∙ ap (λ (x : State). x.word) c.see.ensures.kept) c.args.book.now.device c.move_now-answer.new.self.device same why c.send_far-in-Err.new.book.device asks) c.send_far-in-Err.ensures.refused
