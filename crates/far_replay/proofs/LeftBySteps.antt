@@ -21,13 +21,14 @@ use Rattle.far_evac.specs.Moment.{Moment}
 use Rattle.far_evac.specs.MomentLaw.{MomentLaw}
 use Rattle.far_evac.specs.Owned.{anywhere}
 use Rattle.far_evac.specs.Waiting.{first_open, polled_to}
+use Rattle.far_evac.specs.Walk.{ended, walked}
 use Rattle.far_evac.specs.declared.phase.Phase.TheVariants.{Evacuating}
 use Rattle.far_evac.proofs.Leading.{selecting}
 use Rattle.far_evac.proofs.Marks.{is_given_up, is_marked}
 use Rattle.far_text.specs.Command.{Command, Mutator, Book, Evacuator, By, Policy, Step, Select, Mark, Wait, Evacuate, Abort, Round}
 use Rattle.far_text.specs.Written.{AllWriteBytes}
 use Rattle.far_replay.specs.Answers.{Answered, Commanded, IsMoment}
-use Rattle.far_replay.specs.Left.{AllLeave, AllStayPut, CellBy, DealsWith, IsAnywhere, Leaves, LeavesRest, MarksBy, StaysPut, StepLeaves}
+use Rattle.far_replay.specs.Left.{AllLeave, AllStayPut, CellBy, DealsWith, IsAnywhere, Leaves, LeavesRest, MarksBy, SomeStay, StaysMarked, StaysPut, StepLeaves}
 use Rattle.far_replay.specs.Reply.{Reply, Done, Refused, Selected}
 use Rattle.far_replay.specs.Rounds.{after_round, chosen_by, given_by, is_evacuating, logs_given, refused_step, rows_in, step_effect, step_reply}
 use Rattle.far_replay.specs.Steps.{IsChosen, LiesIn}
@@ -35,8 +36,9 @@ use Rattle.far_replay.specs.Turn.{effect, reply_to, refusal, refused_effect, tur
 use Rattle.far_replay.proofs.CountedOnce.{all_at, in_among, member_or_apart}
 use Rattle.far_replay.proofs.Lasting.{Lasts, moment_lasts, still_lasts}
 use Rattle.far_replay.proofs.LeftByWalks.{IsApart, apart_from, ended_put, framed_put, marked_frame, marking_frame, marking_put, polling_put, put_none, turns_put}
+use Rattle.far_replay.proofs.Unreached.{EvacIs, cell_still, ended_fate, evac_alone, evac_object, has_stayed, marked_none, turns_fate}
 use Rattle.far_replay.proofs.RoundChoices.{policy_chooses}
-use Rattle.far_replay.proofs.RoundLeads.{begins, evacuating_is, none_first, step_keeps}
+use Rattle.far_replay.proofs.RoundLeads.{begins, evacuating_is, made_leaves, none_first, step_keeps}
 use Rattle.far_replay.proofs.Standing.{stands}
 use Rattle.far_replay.proofs.StepsTell.{held_chosen}
 use Rattle.far_replay.proofs.TurnsTell.{made_so}
@@ -52,58 +54,6 @@ anywhere_is (Some o) (Some x) e =
 
 objects_are : (now : Moment) (step : Step) → Law now.core → MomentLaw now → (p : ℕ) → IsAnywhere ((world_of now.core).object p) ((world_of (effect now (Evacuator step)).core).object p)
 objects_are now step law moment p = anywhere_is ((world_of now.core).object p) ((world_of (effect now (Evacuator step)).core).object p) ((step_keeps now step law moment).object p)
-
--- ---- cells that say the same but for EVAC
-abbrev marks_or : Marks → Option PtrWord → Marks
-marks_or other None = other
-marks_or other (Some Free) = other
-marks_or other (Some (Near len ds place marks)) = marks
-marks_or other (Some (Far len ds marks)) = marks
-
-abbrev EvacIs : Bool → Marks → Marks → Type 0
-EvacIs evac a b = (b ≡ a) ⊎ (b ≡ record a { evac = evac })
-
-with_evac : (a b : Marks) (evac : Bool) → b.evac ≡ evac → record b { evac = false } ≡ record a { evac = false } → b ≡ record a { evac = evac }
-with_evac a b evac has same = λ i. record { hot = (same i).hot; evac = has i; moved = (same i).moved; dropped = (same i).dropped }
-
-evac_alone : (evac : Bool) (o n : Option PtrWord) → has_evac n ≡ evac → but_evac n ≡ but_evac o → CellBy (EvacIs evac) o n
-evac_alone evac None None has same = tt
-evac_alone evac None (Some Free) has same = absurd cc
-evac_alone evac None (Some (Near n d at b)) has same = absurd cc
-evac_alone evac None (Some (Far n d b)) has same = absurd cc
-evac_alone evac (Some Free) None has same = absurd cc
-evac_alone evac (Some Free) (Some Free) has same = tt
-evac_alone evac (Some Free) (Some (Near n d at b)) has same = absurd cc
-evac_alone evac (Some Free) (Some (Far n d b)) has same = absurd cc
-evac_alone evac (Some (Near len ds place a)) None has same = absurd cc
-evac_alone evac (Some (Near len ds place a)) (Some Free) has same = absurd cc
-evac_alone evac (Some (Near len ds place a)) (Some (Near n d at b)) has same =
-    let bare : record b { evac = false } ≡ record a { evac = false } = ap (marks_or a) same in
-    (cc, cc, cc, inr (with_evac a b evac has bare))
-evac_alone evac (Some (Near len ds place a)) (Some (Far n d b)) has same = absurd cc
-evac_alone evac (Some (Far len ds a)) None has same = absurd cc
-evac_alone evac (Some (Far len ds a)) (Some Free) has same = absurd cc
-evac_alone evac (Some (Far len ds a)) (Some (Near n d at b)) has same = absurd cc
-evac_alone evac (Some (Far len ds a)) (Some (Far n d b)) has same = let bare : b ≡ a = ap (marks_or a) same in (cc, cc, inl bare)
-
-cell_still : (Keeps : Marks → Marks → Type 0) → ((a : Marks) → Keeps a a) → (o : Option PtrWord) → CellBy Keeps o o
-cell_still Keeps same None = tt
-cell_still Keeps same (Some Free) = tt
-cell_still Keeps same (Some (Near len ds place a)) = (refl, refl, refl, same a)
-cell_still Keeps same (Some (Far len ds a)) = (refl, refl, same a)
-
--- the word's object is the same
-same_object : (word stored : ℕ → ℕ) (p : ℕ) (o : Option PtrWord) → object_of word stored p o ≡ object_of word stored p (but_evac o)
-same_object word stored p None = refl
-same_object word stored p (Some Free) = refl
-same_object word stored p (Some (Near len ds place m)) = refl
-same_object word stored p (Some (Far len ds m)) = refl
-
-evac_object : (s t : State) → t ≡ marked_frame s t → (p : ℕ) → but_evac (read_of (t.cell p)) ≡ but_evac (read_of (s.cell p)) → (world_of t).object p ≡ (world_of s).object p
-unfolding world_of
-evac_object s t rest p same =
-    ap (λ (u : State). object_of u.word (u.stored p) p (read_of (t.cell p))) rest
-    ∙ same_object s.word (s.stored p) p (read_of (t.cell p)) ∙ ap (object_of s.word (s.stored p) p) same ∙ sym (same_object s.word (s.stored p) p (read_of (s.cell p)))
 
 -- ---- where no cell changes
 still_put : (now : Moment) (step : Step) (r : Reply) (t : State) → ((a : Marks) → MarksBy step r a a) → t ≡ record now.core { clear = t.clear } → AllStayPut now.core step r t
@@ -207,15 +157,37 @@ module _ (now : Moment) (law : Law now.core) (moment : MomentLaw now) where
         let apart : IsApart m.core m.held q = λ k c. none k (l ∷ ls, m, tells, c) in
         (turns_put m q law (subst (λ (xs : List ℕ). MomentLaw (after_selecting now xs)) e begun.moment) refl apart turns).put_there
 
-  made_rest : (step : Step) → LeavesRest now step (step_reply now step) (step_effect now step)
-  made_rest (Select choice most) =
+  -- what lies where it lay
+  round_marked : (policy : Policy) (most turns : ℕ) → refusal now (Evacuator (Round policy most turns)) ≡ None → (q l : ℕ) → LiesIn now.core q l →
+      LiesIn (after_round now (chosen_by policy (rows_in now) most) turns).core q l → StaysMarked now.core (after_round now (chosen_by policy (rows_in now) most) turns).core q
+  round_marked policy most turns may q l was = by_logs (chosen_by policy (rows_in now) most) refl where
+    by_logs : (logs : List ℕ) → chosen_by policy (rows_in now) most ≡ logs → LiesIn (after_round now logs turns).core q l → StaysMarked now.core (after_round now logs turns).core q
+    by_logs [] e is = marked_none now.core q
+    by_logs (k ∷ ks) e is =
+        let m : Moment = after_selecting now (k ∷ ks) in
+        let chosen = policy_chooses now policy most moment in
+        let begun = selecting now (chosen_by policy (rows_in now) most) law moment (begins now [] may).0.idle (begins now [] may).0.left chosen.once chosen.of_order in
+        let t : Moment = after_round now (k ∷ ks) turns in
+        has_stayed StaysMarked m.core m.held q t.core t.held (turns_fate m q law (subst (λ (xs : List ℕ). MomentLaw (after_selecting now xs)) e begun.moment) refl turns) l was is
+
+  some_stay : (Stays : State → State → ℕ → Type 0) (step : Step) → ((p l : ℕ) → LiesIn now.core p l → LiesIn (step_effect now step).core p l → Stays now.core (step_effect now step).core p) →
+      refusal now (Evacuator step) ≡ None → SomeStay Stays now.core (step_effect now step).core
+  some_stay Stays step unreached e =
+      let kept = made_leaves now law moment step e in
+      record { unreached = unreached; used = kept.used; held = kept.held; scope = kept.scope; remembered = kept.remembered }
+
+  made_rest : (step : Step) → refusal now (Evacuator step) ≡ None → LeavesRest now step (step_reply now step) (step_effect now step)
+  made_rest (Select choice most) e =
       let logs = logs_given (given_by choice (rows_in now) most) in
       still_put now (Select choice most) (step_reply now (Select choice most)) (after_selecting now logs).core (λ a. refl) (chosen_still now logs)
-  made_rest (Mark count) = marks_rest count
-  made_rest Wait = still_put now Wait (step_reply now Wait) (polled_to now (first_open now.core)).core (λ a. refl) (polled_still now (first_open now.core))
-  made_rest (Evacuate count) = tt
-  made_rest Abort = abort_rest
-  made_rest (Round policy most turns) = tt
+  made_rest (Mark count) e = marks_rest count
+  made_rest Wait e = still_put now Wait (step_reply now Wait) (polled_to now (first_open now.core)).core (λ a. refl) (polled_still now (first_open now.core))
+  made_rest (Evacuate count) e =
+      let leaves : now.phase ≡ Evacuating = evacuating_is now.phase (none_first (not (is_evacuating now.phase)) WrongPhase [] e).0 in
+      let t : Moment = ended (walked now count) in
+      some_stay StaysPut (Evacuate count) (λ p l was is. has_stayed StaysPut now.core now.held p t.core t.held (ended_fate now law moment leaves p count) l was is) e
+  made_rest Abort e = abort_rest
+  made_rest (Round policy most turns) e = some_stay StaysMarked (Round policy most turns) (λ p l was is. round_marked policy most turns e p l was is) e
 
   made_others : (step : Step) → refusal now (Evacuator step) ≡ None → (q : ℕ) → NotDealt step q → StaysPut now.core (step_effect now step).core q
   made_others (Select choice most) e q none = let logs = logs_given (given_by choice (rows_in now) most) in clear_put now.core (after_selecting now logs).core q (chosen_still now logs)
@@ -229,7 +201,7 @@ module _ (now : Moment) (law : Law now.core) (moment : MomentLaw now) where
 
   -- ---- either
   rest_by : (step : Step) (o : Option Refusal) → refusal now (Evacuator step) ≡ o → LeavesRest now step (unless o Refused (turn_reply now (Evacuator step))) (unless o (refused_effect now (Evacuator step)) (turn_effect now (Evacuator step)))
-  rest_by step None e = made_rest step
+  rest_by step None e = made_rest step e
   rest_by step (Some why) e = refused_rest now step why
 
   others_by : (step : Step) (o : Option Refusal) → refusal now (Evacuator step) ≡ o → (q : ℕ) → NotDealt step q → StaysPut now.core (unless o (refused_effect now (Evacuator step)) (turn_effect now (Evacuator step))).core q

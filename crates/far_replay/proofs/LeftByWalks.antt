@@ -54,7 +54,7 @@ pub put_more : (s t u : State) (q : ℕ) → StaysPut s t q → StaysPut t u q �
 put_more s t u q a b = record { cell = b.cell ∙ a.cell; object = b.object ∙ a.object; stored = λ i. b.stored i ∙ a.stored i }
 
 -- it lies where it lay
-lay_there : (s t : State) (q l : ℕ) → t.cell q ≡ s.cell q → LiesIn t q l → LiesIn s q l
+pub lay_there : (s t : State) (q l : ℕ) → t.cell q ≡ s.cell q → LiesIn t q l → LiesIn s q l
 lay_there s t q l same (len, ds, place, marks, near, log) = (len, ds, place, marks, ap read_of (sym same) ∙ near, log)
 
 -- of a moment q's object lies in no log that is held
@@ -86,7 +86,7 @@ released_put : (s : State) (l q : ℕ) → StaysPut s (released s l) q
 unfolding world_of
 released_put s l q = record { cell = refl; object = refl; stored = λ i. refl }
 
-passed_stayed : (q : ℕ) (ls : List ℕ) (v : Walked) → Stayed v.moment.core ls q (passed v ls).moment.core (passed v ls).moment.held
+pub passed_stayed : (q : ℕ) (ls : List ℕ) (v : Walked) → Stayed v.moment.core ls q (passed v ls).moment.core (passed v ls).moment.held
 passed_stayed q [] v = stayed_none v.moment.core [] q
 passed_stayed q (l ∷ ls) v =
     let s : State = v.moment.core in
@@ -107,10 +107,10 @@ module _ (w : Walked) (law : Law w.moment.core) (moment : MomentLaw w.moment) (l
   abbrev s : State
   s = w.moment.core
 
-  lives : (l : ℕ) × Contains w.moment.held l × LiesIn s p l
+  pub lives : (l : ℕ) × Contains w.moment.held l × LiesIn s p l
   lives = let (l, held, home) = live_of s w.moment.held p member in (l, held, near_in s l p home)
 
-  home : LiesIn s p lives.0
+  pub home : LiesIn s p lives.0
   home = lives.2
 
   abbrev place : Place
@@ -125,16 +125,16 @@ module _ (w : Walked) (law : Law w.moment.core) (moment : MomentLaw w.moment) (l
   round : s.round place.log ≡ true
   round = ap s.round home.5 ∙ moment.round (ap has_risen leaves) lives.0 (in_among lives.0 w.moment.held lives.1)
 
-  wanted : marks.evac ≡ true
+  pub wanted : marks.evac ≡ true
   wanted = law.rounds.round_evac p home.0 home.1 place marks near round
 
-  pointer : p < CELLS * s.mutators
+  pub pointer : p < CELLS * s.mutators
   pointer = in_heap s law p home.0 home.1 place marks near
 
   seen : s.clear (p / CELLS) ≡ true
   seen = moment.clear leaves (p / CELLS) (omega (arith, pointer))
 
-  quiet : is_quiet s.round s.clear p place marks ≡ true
+  pub quiet : is_quiet s.round s.clear p place marks ≡ true
   quiet = or_right marks.moved (marks.evac && s.round place.log && s.clear (p / CELLS)) (rw (wanted, round, seen) refl)
 
   module _ (q : ℕ) (other : q ≢ p) where
@@ -167,13 +167,13 @@ module _ (w : Walked) (law : Law w.moment.core) (moment : MomentLaw w.moment) (l
           fewer = λ k c. c;
         }
 
-    front_put : Stayed s w.moment.held q (settled (dealt_so w p (way_of s (read_of (s.cell p))))).moment.core (settled (dealt_so w p (way_of s (read_of (s.cell p))))).moment.held
+    pub front_put : Stayed s w.moment.held q (settled (dealt_so w p (way_of s (read_of (s.cell p))))).moment.core (settled (dealt_so w p (way_of s (read_of (s.cell p))))).moment.held
     front_put =
         let v : Walked = dealt_so w p (way_of s (read_of (s.cell p))) in
         stayed_more s v.moment.core (settled v).moment.core w.moment.held v.moment.held (settled v).moment.held q (gone_put (way_of s (read_of (s.cell p))) refl) (passed_stayed q v.moment.held v)
 
 -- ---- object after object
-not_done : (s : State) (held : List ℕ) (p : ℕ) (ps : List ℕ) → live_among s held ≡ p ∷ ps → is_empty held ≡ false
+pub not_done : (s : State) (held : List ℕ) (p : ℕ) (ps : List ℕ) → live_among s held ≡ p ∷ ps → is_empty held ≡ false
 not_done s [] p ps e = absurd cc
 not_done s (l ∷ ls) p ps e = refl
 
@@ -219,7 +219,7 @@ marking_frame m n =
     (λ _. cells ∙ sym (ap (marked_frame m.core) cells))
     (λ _. let is = ap (λ s. advanced s m.held) cells in is ∙ sym (ap (marked_frame m.core) is))
 
-marking_held : (m : Moment) (n : ℕ) → (after_marking m n).held ≡ m.held
+pub marking_held : (m : Moment) (n : ℕ) → (after_marking m n).held ≡ m.held
 marking_held m n = cond_both (leaves_some m n) (record m { core = marked_core m n }) (record m { core = advanced (marked_core m n) m.held; phase = Waiting }) (λ (u : Moment). u.held ≡ m.held) (λ _. refl) (λ _. refl)
 
 pub lacking_live : (m : Moment) (n p : ℕ) → Contains (newly_marked m n) p → Contains (live_among m.core m.held) p

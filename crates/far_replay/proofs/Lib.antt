@@ -65,6 +65,7 @@ pub mod ToldRounds
 pub mod Tries
 pub mod Turns
 pub mod TurnsTell
+pub mod Unreached
 pub mod ViewLaws
 pub mod Views
 pub mod ViewsRest

@@ -174,7 +174,7 @@ module _ (now : Moment) (law : Law now.core) (moment : MomentLaw now) where
   refused_leaves Abort why = objects_none now.core
   refused_leaves (Round policy most turns) why = objects_none now.core
 
-  made_leaves : (step : Step) → refusal now (Evacuator step) ≡ None → Keeps (step_effect now step)
+  pub made_leaves : (step : Step) → refusal now (Evacuator step) ≡ None → Keeps (step_effect now step)
   made_leaves (Select choice most) e = selecting_objects now (logs_given (given_by choice (rows_in now) most))
   made_leaves (Mark count) e = marking_objects now count law moment (marking_is now.phase (none_first (not (is_marking now.phase)) WrongPhase [] e).0)
   made_leaves Wait e = polling_objects now

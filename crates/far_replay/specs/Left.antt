@@ -1,4 +1,4 @@
--- What steps of the evacuator leave of objects: each is what it was, and lies where it lay, but for those of the chosen logs, which may leave them.
+-- What steps of the evacuator leave of objects: each is what it was, and lies where it lay, but for those of the chosen logs, which may leave them. Those that haven't left stay as they were.
 use Rattle.std.specs.Prelude.{◌≡◌, ◌⊎◌, ℕ, true, false, Option, Some, None, List, ◌∷◌, Contains}
 use Rattle.far_word.specs.declared.mark.Marks.{Marks}
 use Rattle.far_word.specs.declared.pointer.PtrWord.{PtrWord}
@@ -57,10 +57,30 @@ pub record AllStayPut (s : State) (step : Step) (r : Reply) (t : State) : Type 0
   pub objects : (p : ℕ) → (world_of t).object p ≡ (world_of s).object p
   pub rest : t ≡ record s { cell = t.cell; epoch = t.epoch; round = t.round; round_epoch = t.round_epoch; clear = t.clear }
 
--- objects may leave by an evacuation and by a round that aren't refused, and by no other step
+-- ---- where objects may leave
+-- marks are those that were, or EVAC was set beside them
+abbrev pub GainsNoneButEvac : Marks → Marks → Type 0
+GainsNoneButEvac a b = (b ≡ a) ⊎ (b ≡ record a { evac = true })
+
+-- an object stays where it lies, with its bytes, under the marks that it had or EVAC beside them; and so do the words that are stored for its pointer
+pub record StaysMarked (s t : State) (p : ℕ) : Type 0 where
+  pub cell : CellBy GainsNoneButEvac (read_of (s.cell p)) (read_of (t.cell p))
+  pub object : (world_of t).object p ≡ (world_of s).object p
+  pub stored : (i : ℕ) → t.stored p i ≡ s.stored p i
+
+-- an object that lies then in the log where it lay wasn't dealt with; what owners have done stays
+pub record SomeStay (Stays : State → State → ℕ → Type 0) (s t : State) : Type 0 where
+  pub unreached : (p l : ℕ) → LiesIn s p l → LiesIn t p l → Stays s t p
+  pub used : t.used ≡ s.used
+  pub held : t.held ≡ s.held
+  pub scope : t.scope ≡ s.scope
+  pub remembered : t.remembered ≡ s.remembered
+
+-- objects may leave by an evacuation and by a round that aren't refused, and by no other step. What an evacuation hasn't reached stays under its very word; a round marks objects before
+-- it deals with them
 abbrev pub LeavesRest : Moment → Step → Reply → Moment → Type 0
-LeavesRest now (Evacuate count) (Evacuated progress) after = Unit {0}
-LeavesRest now (Round policy most turns) (Ended end) after = Unit {0}
+LeavesRest now (Evacuate count) (Evacuated progress) after = SomeStay StaysPut now.core after.core
+LeavesRest now (Round policy most turns) (Ended end) after = SomeStay StaysMarked now.core after.core
 LeavesRest now step r after = AllStayPut now.core step r after.core
 
 -- ---- all together
