@@ -1,6 +1,6 @@
 -- What a walk asks of the device, one object more; and which keys it leaves.
 use Rattle.std.proofs.Common.{◌≡◌, ◌≢◌, ◌∙◌, ℕ, ◌+◌, suc, List, [], ◌∷◌, ◌++◌, Option, Some, None, arith, ap, sym, refl, subst, inl, inr, take}
-use Rattle.std.specs.Prelude.{true, false, Result, Ok, Err, IfNone, IfSome}
+use Rattle.std.specs.Prelude.{false, Result, Ok, Err, IfNone, IfSome}
 use Rattle.std.specs.List.{AllByRecursion}
 use Rattle.far_word.specs.declared.pointer.Place.{Place}
 use Rattle.far_word.specs.declared.refused.Refused.{Refused}
