@@ -1,11 +1,10 @@
 -- The bytes of the logs: where they stay, and where an object comes to a log.
-use Rattle.std.proofs.Common.{◌≡◌, ◌≢◌, ℕ, zero, suc, ◌+◌, ◌-◌, ◌*◌, ◌<◌, ◌≤◌, Bool, true, false, cond, not, ◌==◌, Option, Some, None, List, [], ◌∷◌, ◌++◌, inl, inr, arith, ap, sym, refl, ◌∙◌, subst}
+use Rattle.std.proofs.Common.{◌≡◌, ◌≢◌, ℕ, ◌+◌, ◌-◌, ◌*◌, ◌<◌, ◌≤◌, Bool, true, false, cond, not, Option, Some, None, [], ◌∷◌, ◌++◌, inl, inr, arith, ap, sym, refl, ◌∙◌, subst}
 use Rattle.std.specs.Prelude.{Contains, ◌⊎◌}
 use Rattle.std.proofs.lemmas.Bool.{cases_eq, cases_lt, eq-eqb, ne_eqb}
 use mathlib.Core.Path.{fun_ext}
 use Rattle.far_word.specs.declared.header.HeadWord.{HeadWord}
 use Rattle.far_word.specs.declared.mark.Mark.{Mark}
-use Rattle.far_word.specs.declared.mark.Marks.{Marks}
 use Rattle.far_word.specs.declared.pointer.Place.{Place}
 use Rattle.far_word.specs.declared.pointer.PtrWord.{PtrWord}
 use Rattle.far_word.specs.declared.pointer.PtrWord.TheVariants.{Free, Near, Far}
@@ -19,13 +18,13 @@ use Rattle.far_log.specs.declared.span.Span.{Span}
 use Rattle.far_log.specs.Spans.{ds_in, head_len, len_in, pointer_in, span_at, spans_from, spans_in, taken_by}
 use Rattle.far_log.proofs.SpanLaws.{tile_bounds}
 use Rattle.far_core.specs.events.Naming.{no_marks}
-use Rattle.far_core.specs.laws.Observed.{dead_bytes, live_bytes, span_for, unused_bytes}
+use Rattle.far_core.specs.laws.Observed.{live_bytes, span_for}
 use Rattle.far_core.specs.state.Law.{Law}
 use Rattle.far_core.specs.state.Spans.{is_live, names_place, spans_of, word_in}
 use Rattle.far_core.specs.state.State.{State, addr, put}
 use Rattle.far_core.proofs.Cells.{map_mark, unused}
 use Rattle.far_core.proofs.Observations.{bytes_make_log}
-use Rattle.far_core.proofs.Put.{put_both, put_other, put_same}
+use Rattle.far_core.proofs.Put.{put_other, put_same}
 use Rattle.far_book.specs.book.Own.{own_part}
 use Rattle.far_book.proofs.region.Owns.{own_headers, own_law, own_spans}
 use Rattle.far_book.proofs.region.SpanLists.{taken_more, taken_same}
@@ -34,7 +33,7 @@ use Rattle.far_evac.specs.TakesRoom.{bytes_at}
 use Rattle.far_evac.proofs.LiveLists.{same_spans}
 use Rattle.far_evac.proofs.RoomLaw.{sound_of}
 use Rattle.far_evac.proofs.SpanBytes.{Sound, falls, spans_more}
-use Rattle.far_replay.specs.Headline.{BytesMove, BytesStay, TakesNone, share}
+use Rattle.far_replay.specs.Headline.{BytesMove, TakesNone, share}
 
 -- ---- they stay
 pub none_taken : (s : State) → TakesNone s s

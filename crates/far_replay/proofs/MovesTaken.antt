@@ -1,23 +1,19 @@
 -- What the steps that deal with objects take of the logs, in the words of the trace.
-use Rattle.std.proofs.Common.{◌≡◌, ◌≢◌, ℕ, zero, suc, ◌+◌, ◌^◌, ◌<◌, ◌==◌, ◌||◌, Bool, true, false, not, cond, eqb, Option, Some, None, List, [], ◌∷◌, filter, inl, inr, arith, ap, sym, refl, ◌∙◌, subst}
-use Rattle.std.specs.Prelude.{◌↔◌, ◌⊎◌, Contains, IsSome}
+use Rattle.std.proofs.Common.{◌≡◌, ◌≢◌, ℕ, ◌^◌, ◌<◌, ◌==◌, Bool, true, false, not, cond, eqb, Option, Some, None, List, [], ◌∷◌, filter, inl, inr, arith, ap, sym, refl, ◌∙◌, subst}
+use Rattle.std.specs.Prelude.{◌⊎◌, Contains, IsSome}
 use Rattle.std.specs.List.{AllByRecursion, IsDistinct, sum_by}
 use Rattle.std.proofs.lemmas.Bool.{cond_both, eq-eqb, eqb-true, false≢true, true≢false}
 use Rattle.std.proofs.lemmas.List.Sums.{sum_by-cons}
-use Rattle.far_word.specs.declared.mark.Marks.{Marks}
 use Rattle.far_word.specs.declared.pointer.Place.{Place}
 use Rattle.far_word.specs.declared.pointer.PtrWord.{PtrWord}
 use Rattle.far_word.specs.declared.pointer.PtrWord.TheVariants.{Free, Near, Far}
 use Rattle.far_word.specs.declared.refused.Refused.{Refused as Refusal}
 use Rattle.far_word.specs.declared.refused.Refused.TheVariants.{Phase as WrongPhase, StillOpen}
 use Rattle.far_word.specs.Pointer.{read_of}
-use Rattle.far_word.specs.Sizes.{bytes_taken}
 use Rattle.far_core.specs.events.Clear.{is_near}
-use Rattle.far_core.specs.laws.Observed.{live_bytes}
 use Rattle.far_core.specs.state.Law.{Law}
 use Rattle.far_core.specs.state.Spans.{names_place}
 use Rattle.far_core.specs.state.State.{State}
-use Rattle.far_book.specs.book.Own.{own_part}
 use Rattle.far_book.proofs.region.Owns.{own_law}
 use Rattle.far_evac.specs.Choosing.{after_aborting, after_selecting}
 use Rattle.far_evac.specs.Waiting.{first_open, polled_to}
@@ -28,16 +24,14 @@ use Rattle.far_evac.specs.LiveLaws.{IsNearIn}
 use Rattle.far_evac.specs.Moment.{Moment}
 use Rattle.far_evac.specs.MomentLaw.{MomentLaw, is_idle}
 use Rattle.far_evac.specs.RoundSteps.{among}
-use Rattle.far_evac.specs.TakesRoom.{TakesRoom as Taken, TakesSome, bytes_at, bytes_gone, bytes_in, bytes_near, gone_of, spot_of}
+use Rattle.far_evac.specs.TakesRoom.{TakesRoom as Taken, bytes_at, bytes_gone, bytes_in, bytes_near, gone_of, spot_of}
 use Rattle.far_evac.specs.Walk.{ended, is_done, walked}
-use Rattle.far_evac.specs.declared.phase.Phase.TheVariants.{Evacuating}
-use Rattle.far_evac.proofs.LiveOnce.{each_map}
 use Rattle.far_evac.proofs.Marks.{all_filter, is_given_up, is_marked}
 use Rattle.far_evac.proofs.RoomTurns.{call_takes_room, round_takes_room}
 use Rattle.far_evac.proofs.Walks.{walk_is}
 use Rattle.far_text.specs.Command.{By, Evacuator, Step, Select, Mark, Wait, Evacuate, Abort, Round, Policy}
 use Rattle.far_replay.specs.Headline.{TakesNone, TakesRoom}
-use Rattle.far_replay.specs.MovesTake.{Comes, Leaves, MovesTake, RoomAside, RoomBack, RoomLeft, RoomOfAll, TakeBytes}
+use Rattle.far_replay.specs.MovesTake.{Comes, Leaves, MovesTake, RoomAside, RoomBack, RoomLeft, TakeBytes}
 use Rattle.far_replay.specs.Reply.{Refused}
 use Rattle.far_replay.specs.Rounds.{after_round, chosen_by, given_by, is_evacuating, logs_given, refused_step, round_told, rows_in, step_effect}
 use Rattle.far_replay.specs.Steps.{IsChosen, IsRetired, IsSentFar, LiesIn, Takes}
