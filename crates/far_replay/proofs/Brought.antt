@@ -23,11 +23,13 @@ use Rattle.far_core.specs.events.Step.{after}
 use Rattle.far_core.specs.laws.Rooms.{IsRoom, RoomIs}
 use Rattle.far_core.specs.state.Law.{Law, head_len}
 use Rattle.far_core.specs.state.Room.{room}
+use Rattle.far_core.specs.state.Spans.{names_place}
 use Rattle.far_core.specs.state.State.{State, put, addr}
 use Rattle.far_core.specs.world.World.{World, Object}
 use Rattle.far_core.specs.world.WorldOf.{world_of, object_of}
 use Rattle.far_core.proofs.Bounds.{span_len}
 use Rattle.far_core.proofs.Cells.{unused}
+use Rattle.far_core.proofs.NewSpans.{at_tail}
 use Rattle.far_core.proofs.Put.{put_both, put_old, put_other}
 use Rattle.far_core.proofs.RoomLaws.{room_right}
 use Rattle.far_book.specs.Quiet.{is_quiet}
@@ -51,6 +53,7 @@ use Rattle.far_replay.specs.Objects.{object_len, named_len}
 use Rattle.far_replay.proofs.AloneRuns.{SameBytes}
 use Rattle.far_replay.proofs.Bringing.{fetched_keeps, moved_keeps, stayed_keeps}
 use Rattle.far_replay.proofs.Leading.{Leads, leads_append, leads_one, span_leads}
+use Rattle.far_replay.proofs.LogBytes.{bytes_move, names_one, worded_takes}
 
 -- one object of a world is another with the same bytes
 pub bytes_at : (w : World) (p : ℕ) (o x : Object) → w.object p ≡ Some o → x.bytes ≡ o.bytes → (q : ℕ) → bytes_in_world (put w.object p (Some x) q) ≡ bytes_in_world (w.object q)
@@ -137,8 +140,12 @@ module _ (s : State) (law : Law s) (p len ds : ℕ) (from to : Place) (m : Marks
         long = ap named_len near;
         bytes = ((λ q. ap (λ (w : World). bytes_in_world (w.object q)) is ∙ bytes_at (world_of s) p o _ there refl q), ap (λ (w : World). w.opened) is);
         held = (moved_keeps s p to (read_of (s.cell p))).held;
-        takes = subst (λ o. BringTakes s o (moved s p to)) (sym near) (subst (λ b. MatchBool b (TakesSpan s len false (moved s p to)) (TakesNone s (moved s p to))) (sym wanted)
-            (to, found, ap (λ (t : State). t.tail) (moved_is s p len ds from to m near alive wanted (layout_there s p len ds from to may))));
+        takes = subst (λ o. BringTakes s o (moved s p to)) (sym near) (subst (λ b. MatchBool b (TakesSpan s len (Some from.log) false (moved s p to)) (TakesNone s (moved s p to))) (sym wanted) (
+          to,
+          found,
+          ap (λ (t : State). t.tail) (moved_is s p len ds from to m near alive wanted (layout_there s p len ds from to may)),
+          bytes_move s (moved s p to) law done.1 p len ds to (at_tail s law to is_room.next) done.3.cell done.3.cells done.3.header done.3.words done.3.tail done.3.tails (Some from.log) (Some (Near len ds from m)) near (λ l. refl),
+        ));
       }
 
 -- ---- an object that stays where it lies
@@ -172,8 +179,9 @@ module _ (s : State) (law : Law s) (p len ds : ℕ) (place : Place) (m : Marks) 
         held = (stayed_keeps s p (read_of (s.cell p))).held;
         takes =
             let is = stayed_is s p len ds place m near alive asked unwanted bare in
-            subst (λ o. BringTakes s o (stayed s p)) (sym near) (subst (λ b. MatchBool b (TakesSpan s len false (stayed s p)) (TakesNone s (stayed s p))) (sym unwanted)
-            (ap (λ (t : State). t.tail) is, ap (λ (t : State). t.kind) is));
+            subst (λ o. BringTakes s o (stayed s p)) (sym near) (subst (λ b. MatchBool b (TakesSpan s len (Some place.log) false (stayed s p)) (TakesNone s (stayed s p))) (sym unwanted)
+            (worded_takes s (stayed s p) (ap (λ (t : State). t.word) is) (ap (λ (t : State). t.tail) is) (ap (λ (t : State). t.kind) is)
+            (names_one s (stayed s p) p done.3.cells (λ l at. ap (λ o. names_place o l at) done.3.cell ∙ sym (ap (λ o. names_place o l at) near)))));
       }
 
 -- ---- an object that is fetched
@@ -244,7 +252,12 @@ module _ (s : State) (law : Law s) (p len ds : ℕ) (m : Marks) (place : Place) 
         long = ap named_len far;
         bytes = (bytes_but_one (world_of s) (world_of t) p _ (ap (λ (w : World). w.object) is) equal, ap (λ (w : World). w.opened) is);
         held = (fetched_keeps s p place (s.stored p) (read_of (s.cell p))).held;
-        takes = subst (λ o. BringTakes s o t) (sym far) (place, found, ap (λ (x : State). x.tail) (fetched_come s s p len ds place (s.stored p) m far alive there));
+        takes = subst (λ o. BringTakes s o t) (sym far) (
+          place,
+          found,
+          ap (λ (x : State). x.tail) (fetched_come s s p len ds place (s.stored p) m far alive there),
+          bytes_move s t law done.1 p len ds place (at_tail s law place fits_there.next) done.3.cell done.3.cells done.3.header done.3.words done.3.tail done.3.tails None (Some (Far len ds m)) far (λ l. refl),
+        );
       }
 
 -- ---- either, where there is a place for it

@@ -35,7 +35,7 @@ use Rattle.far_replay.proofs.Bringing.{KeepsOwners, asked_keeps, brought_keeps, 
 use Rattle.far_replay.proofs.Brought.{Brought, MayBring, brought}
 use Rattle.far_replay.proofs.Leading.{Leads, leads_append, leads_law, leads_nowhere, leads_one}
 use Rattle.far_replay.proofs.Drops.{unheld_is}
-use Rattle.far_replay.proofs.TakingView.{asked_on, asked_word, bring_more, bring_same, comes_place, lacks, sought_logs, view_takes}
+use Rattle.far_replay.proofs.TakingView.{SameLogs, asked_on, asked_word, bring_more, bring_same, comes_place, lacks, sought_logs, view_takes}
 use Rattle.far_replay.proofs.Views.{Already, Anew, Seen, Viewed, already_is, anew_is, between_by, fast_dereference, fast_seen, pin_read, slow_parts, slow_view, view_between, view_holds, view_is, view_long, view_succeeds}
 use Rattle.far_text.proofs.Each.{Each}
 
@@ -112,7 +112,7 @@ module _ (s : State) (m p : ℕ) (law : Law s) (opened : is_opened s m ≡ true)
         view_bytes s m p law opened ours,
         view_views s m p law opened ours seen,
         view_between s p (used_so s m p law opened ours),
-        subst (λ b. MatchBool b (BringTakes s (read_of (s.cell p)) (with_view s p)) (TakesNone s (with_view s p))) (sym fast) (view_takes s p),
+        subst (λ b. MatchBool b (BringTakes s (read_of (s.cell p)) (with_view s p)) (TakesNone s (with_view s p))) (sym fast) (view_takes s m p law opened ours),
       )
 
   fast_derefs : Derefs s m p
@@ -205,11 +205,14 @@ module _ (s : State) (m p : ℕ) (law : Law s) (opened : is_opened s m ≡ true)
   pub sought_word : read_of ((sought s m p).cell p) ≡ asked_word (read_of (s.cell p))
   sought_word = asks.word ∙ ap asked_on (ap (λ (t : State). read_of (t.cell p)) (anew_is s p (unheld_is (s.held p) (slow_parts s p slow).0)) ∙ pin_read s m p law opened ours)
 
+  logs_stay : SameLogs s (sought s m p)
+  logs_stay = sought_logs s m p law opened ours pinned_law pinned_used pinned_unheld
+
   pub sought_lacks : comes_to (sought s m p) p ≡ None → DereferenceLacks s p (sought s m p)
   sought_lacks none = (
     slow,
-    lacks s (sought s m p) (read_of (s.cell p)) (sought_logs s m p) (law.views.used_cell p parts.1) (sym (comes_place (sought s m p) p (asked_word (read_of (s.cell p))) sought_word) ∙ none),
-    (sought_logs s m p).none,
+    lacks s (sought s m p) (read_of (s.cell p)) logs_stay (law.views.used_cell p parts.1) (sym (comes_place (sought s m p) p (asked_word (read_of (s.cell p))) sought_word) ∙ none),
+    logs_stay.none,
   )
 
   module _ (place : Place) (found : comes_to (sought s m p) p ≡ Some place) where
@@ -267,8 +270,8 @@ module _ (s : State) (m p : ℕ) (law : Law s) (opened : is_opened s m ≡ true)
           λ between. view_between there p there_used
               (between_by pinned there p there_owners.used there_owners.cells pinned_used (view_between s p parts.1 between)),
           subst (λ b. MatchBool b (BringTakes s (read_of (s.cell p)) (with_view there p)) (TakesNone s (with_view there p))) (sym slow)
-              (bring_more s there (with_view there p) (read_of (s.cell p)) (view_takes there p)
-              (bring_same s (sought s m p) there (read_of (s.cell p)) (sought_logs s m p) (subst (λ o. BringTakes (sought s m p) o there) sought_word comes.takes))),
+              (bring_more s there (with_view there p) (read_of (s.cell p)) (view_takes there m p there_law there_opened there_ours)
+              (bring_same s (sought s m p) there (read_of (s.cell p)) logs_stay (subst (λ o. BringTakes (sought s m p) o there) sought_word comes.takes))),
         )
 
     slow_derefs : Derefs s m p

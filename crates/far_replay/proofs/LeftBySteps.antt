@@ -1,9 +1,6 @@
 -- What each step of the evacuator leaves of objects.
-use Rattle.std.proofs.Common.{◌≡◌, ℕ, ◌^◌, ◌<◌, Bool, true, false, not, Option, Some, None, List, [], ◌∷◌, ap, sym, refl, ◌∙◌, subst, inl, inr}
-use Rattle.std.specs.Prelude.{◌⊎◌}
+use Rattle.std.proofs.Common.{◌≡◌, ℕ, ◌^◌, ◌<◌, true, false, not, Option, Some, None, List, [], ◌∷◌, ap, sym, refl, ◌∙◌, subst, inl, inr}
 use Rattle.far_word.specs.declared.mark.Marks.{Marks}
-use Rattle.far_word.specs.declared.pointer.PtrWord.{PtrWord}
-use Rattle.far_word.specs.declared.pointer.PtrWord.TheVariants.{Free, Near, Far}
 use Rattle.far_word.specs.declared.refused.Refused.{Refused as Refusal}
 use Rattle.far_word.specs.declared.refused.Refused.TheVariants.{Phase as WrongPhase, StillOpen}
 use Rattle.far_word.specs.Pointer.{read_of}
@@ -11,10 +8,9 @@ use Rattle.far_core.specs.state.Law.{Law}
 use Rattle.far_core.specs.state.State.{State}
 use Rattle.far_core.specs.world.Steps.{with_home}
 use Rattle.far_core.specs.world.World.{FarSide, Object}
-use Rattle.far_core.specs.world.WorldOf.{object_of, world_of}
+use Rattle.far_core.specs.world.WorldOf.{world_of}
 use Rattle.far_book.specs.book.Dealing.{has_evac}
 use Rattle.far_evac.specs.Choosing.{after_aborting, after_selecting}
-use Rattle.far_evac.specs.Laws.{but_evac}
 use Rattle.far_evac.specs.Live.{live_among}
 use Rattle.far_evac.specs.Marking.{after_marking, newly_marked}
 use Rattle.far_evac.specs.Moment.{Moment}

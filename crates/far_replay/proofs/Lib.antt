@@ -33,6 +33,7 @@ pub mod LeftBySteps
 pub mod LeftByWalks
 pub mod Listed
 pub mod LoadWords
+pub mod LogBytes
 pub mod Lowest
 pub mod MadeLemmas
 pub mod MovesTaken

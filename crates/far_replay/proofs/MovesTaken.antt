@@ -1,50 +1,47 @@
 -- What the steps that deal with objects take of the logs, in the words of the trace.
-use Rattle.std.proofs.Common.{◌≡◌, ◌≢◌, ℕ, zero, suc, ◌+◌, ◌<◌, ◌==◌, ◌||◌, Bool, true, false, not, cond, eqb, Option, Some, None, List, [], ◌∷◌, filter, inl, inr, arith, ap, sym, refl, ◌∙◌, subst}
-use Rattle.std.specs.Prelude.{◌↔◌, ◌⊎◌, Contains, IsSome}
+use Rattle.std.proofs.Common.{◌≡◌, ◌≢◌, ℕ, ◌^◌, ◌<◌, ◌==◌, Bool, true, false, not, cond, eqb, Option, Some, None, List, [], ◌∷◌, filter, inl, inr, arith, ap, sym, refl, ◌∙◌, subst}
+use Rattle.std.specs.Prelude.{◌⊎◌, Contains, IsSome}
 use Rattle.std.specs.List.{AllByRecursion, IsDistinct, sum_by}
 use Rattle.std.proofs.lemmas.Bool.{cond_both, eq-eqb, eqb-true, false≢true, true≢false}
 use Rattle.std.proofs.lemmas.List.Sums.{sum_by-cons}
-use Rattle.far_word.specs.declared.mark.Marks.{Marks}
 use Rattle.far_word.specs.declared.pointer.Place.{Place}
 use Rattle.far_word.specs.declared.pointer.PtrWord.{PtrWord}
 use Rattle.far_word.specs.declared.pointer.PtrWord.TheVariants.{Free, Near, Far}
 use Rattle.far_word.specs.declared.refused.Refused.{Refused as Refusal}
-use Rattle.far_word.specs.declared.refused.Refused.TheVariants.{Phase as WrongPhase}
+use Rattle.far_word.specs.declared.refused.Refused.TheVariants.{Phase as WrongPhase, StillOpen}
 use Rattle.far_word.specs.Pointer.{read_of}
-use Rattle.far_word.specs.Sizes.{bytes_taken}
 use Rattle.far_core.specs.events.Clear.{is_near}
-use Rattle.far_core.specs.laws.Observed.{live_bytes}
 use Rattle.far_core.specs.state.Law.{Law}
 use Rattle.far_core.specs.state.Spans.{names_place}
 use Rattle.far_core.specs.state.State.{State}
-use Rattle.far_book.specs.book.Own.{own_part}
 use Rattle.far_book.proofs.region.Owns.{own_law}
-use Rattle.far_evac.specs.Choosing.{after_selecting}
-use Rattle.far_evac.specs.Live.{live_among}
-use Rattle.far_evac.specs.Waiting.{first_open}
+use Rattle.far_evac.specs.Choosing.{after_aborting, after_selecting}
+use Rattle.far_evac.specs.Waiting.{first_open, polled_to}
+use Rattle.far_evac.specs.Laws.{but_evac}
+use Rattle.far_evac.specs.Marking.{after_marking}
 use Rattle.far_evac.specs.Dealings.{HasLeft}
 use Rattle.far_evac.specs.LiveLaws.{IsNearIn}
 use Rattle.far_evac.specs.Moment.{Moment}
 use Rattle.far_evac.specs.MomentLaw.{MomentLaw, is_idle}
 use Rattle.far_evac.specs.RoundSteps.{among}
-use Rattle.far_evac.specs.TakesRoom.{TakesRoom as Taken, TakesSome, bytes_at, bytes_gone, bytes_in, bytes_near, gone_of, spot_of}
+use Rattle.far_evac.specs.TakesRoom.{TakesRoom as Taken, bytes_at, bytes_gone, bytes_in, bytes_near, gone_of, spot_of}
 use Rattle.far_evac.specs.Walk.{ended, is_done, walked}
-use Rattle.far_evac.specs.declared.phase.Phase.TheVariants.{Evacuating}
-use Rattle.far_evac.proofs.LiveOnce.{each_map}
-use Rattle.far_evac.proofs.Marks.{all_filter}
+use Rattle.far_evac.proofs.Marks.{all_filter, is_given_up, is_marked}
 use Rattle.far_evac.proofs.RoomTurns.{call_takes_room, round_takes_room}
 use Rattle.far_evac.proofs.Walks.{walk_is}
 use Rattle.far_text.specs.Command.{By, Evacuator, Step, Select, Mark, Wait, Evacuate, Abort, Round, Policy}
-use Rattle.far_replay.specs.Headline.{TakesRoom}
-use Rattle.far_replay.specs.MovesTake.{Comes, Leaves, MovesTake, RoomAside, RoomBack, RoomLeft, RoomOfAll, TakeBytes}
+use Rattle.far_replay.specs.Headline.{TakesNone, TakesRoom}
+use Rattle.far_replay.specs.MovesTake.{Comes, Leaves, MovesTake, RoomAside, RoomBack, RoomLeft, TakeBytes}
 use Rattle.far_replay.specs.Reply.{Refused}
 use Rattle.far_replay.specs.Rounds.{after_round, chosen_by, given_by, is_evacuating, logs_given, refused_step, round_told, rows_in, step_effect}
 use Rattle.far_replay.specs.Steps.{IsChosen, IsRetired, IsSentFar, LiesIn, Takes}
 use Rattle.far_replay.specs.Turn.{refusal, unless, turn_effect, turn_reply, refused_effect}
 use Rattle.far_evac.proofs.Fronts.{kept_in}
 use Rattle.far_replay.proofs.CountedOnce.{all_at, among_in, filtered, in_among, member_or_apart}
+use Rattle.far_replay.proofs.LeftByWalks.{marked_frame, marking_frame}
+use Rattle.far_replay.proofs.LogBytes.{celled_takes, names_bare, none_taken, worded_takes}
 use Rattle.far_replay.proofs.RoundChoices.{policy_chooses}
-use Rattle.far_replay.proofs.RoundLeads.{begins, evacuating_is, is_round, made_leads, mark_takes, none_first, polled_takes, select_takes, unmark_takes, wait_takes}
+use Rattle.far_replay.proofs.RoundLeads.{begins, evacuating_is, is_round, made_leads, none_first}
 use Rattle.far_replay.proofs.StepsTell.{held_by, held_chosen, none_held, policy_takes}
 
 -- ---- what lies in a log, as a test
@@ -284,24 +281,51 @@ MovesTakeFor now (Round policy most turns) None = (logs : List ℕ) × Takes now
 MovesTakeFor now step o = Unit {0}
 
 -- all others take nothing
-pub takes_step : (now : Moment) (step : Step) (o : Option Refusal) → refusal now (Evacuator step) ≡ o → MovesTakeFor now step o →
-    TakesRoom now (Evacuator step) (unless o Refused (turn_reply now (Evacuator step))) (unless o (refused_effect now (Evacuator step)) (turn_effect now (Evacuator step)))
-takes_step now (Select choice most) None e moves = select_takes now (logs_given (given_by choice (rows_in now) most))
-takes_step now (Select choice most) (Some why) e moves = (refl, refl)
-takes_step now (Mark count) None e moves = mark_takes now count
-takes_step now (Mark count) (Some why) e moves = (refl, refl)
-takes_step now Wait None e moves = polled_takes now (first_open now.core)
-takes_step now Wait (Some why) e moves = wait_takes now why
-takes_step now (Evacuate count) None e moves = moves
-takes_step now (Evacuate count) (Some why) e moves = (refl, refl)
-takes_step now Abort None e moves = unmark_takes (live_among now.core now.held) now.core
-takes_step now Abort (Some why) e moves = (refl, refl)
-takes_step now (Round policy most turns) None e moves = moves
-takes_step now (Round policy most turns) (Some why) e moves = (refl, refl)
+module _ (now : Moment) (law : Law now.core) where
+  fits : (p : ℕ) → now.core.cell p < 2 ^ 64
+  fits p = (law.cells.cell_read p).0
+
+  polled_takes : (o : Option ℕ) → TakesNone now.core (polled_to now o).core
+  polled_takes None = celled_takes now.core (polled_to now None).core refl refl refl refl
+  polled_takes (Some k) = celled_takes now.core (polled_to now (Some k)).core refl refl refl refl
+
+  wait_takes : (why : Refusal) → TakesNone now.core (refused_step now Wait why).core
+  wait_takes (StillOpen mutator epoch) = polled_takes (first_open now.core)
+  wait_takes why = none_taken now.core
+
+  select_takes : (logs : List ℕ) → TakesNone now.core (after_selecting now logs).core
+  select_takes [] = none_taken now.core
+  select_takes (l ∷ ls) = celled_takes now.core (after_selecting now (l ∷ ls)).core refl refl refl refl
+
+  framed_takes : (t : State) → t ≡ marked_frame now.core t → ((q : ℕ) → but_evac (read_of (t.cell q)) ≡ but_evac (read_of (now.core.cell q))) → TakesNone now.core t
+  framed_takes t frame same = worded_takes now.core t (ap (λ (u : State). u.word) frame) (ap (λ (u : State). u.tail) frame) (ap (λ (u : State). u.kind) frame) (names_bare now.core t same)
+
+  mark_takes : (count : ℕ) → TakesNone now.core (after_marking now count).core
+  mark_takes count = framed_takes (after_marking now count).core (marking_frame now count) (is_marked now count fits).same
+
+  abort_takes : TakesNone now.core (after_aborting now).core
+  abort_takes =
+      let is = ap (λ (m : Moment). m.core) (is_given_up now fits).rest in
+      framed_takes (after_aborting now).core (is ∙ sym (ap (marked_frame now.core) is)) (is_given_up now fits).same
+
+  takes_step : (step : Step) (o : Option Refusal) → refusal now (Evacuator step) ≡ o → MovesTakeFor now step o →
+      TakesRoom now (Evacuator step) (unless o Refused (turn_reply now (Evacuator step))) (unless o (refused_effect now (Evacuator step)) (turn_effect now (Evacuator step)))
+  takes_step (Select choice most) None e moves = select_takes (logs_given (given_by choice (rows_in now) most))
+  takes_step (Select choice most) (Some why) e moves = none_taken now.core
+  takes_step (Mark count) None e moves = mark_takes count
+  takes_step (Mark count) (Some why) e moves = none_taken now.core
+  takes_step Wait None e moves = polled_takes (first_open now.core)
+  takes_step Wait (Some why) e moves = wait_takes why
+  takes_step (Evacuate count) None e moves = moves
+  takes_step (Evacuate count) (Some why) e moves = none_taken now.core
+  takes_step Abort None e moves = abort_takes
+  takes_step Abort (Some why) e moves = none_taken now.core
+  takes_step (Round policy most turns) None e moves = moves
+  takes_step (Round policy most turns) (Some why) e moves = none_taken now.core
 
 pub step_takes : (now : Moment) (step : Step) (o : Option Refusal) → Law now.core → MomentLaw now → refusal now (Evacuator step) ≡ o →
     TakesRoom now (Evacuator step) (unless o Refused (turn_reply now (Evacuator step))) (unless o (refused_effect now (Evacuator step)) (turn_effect now (Evacuator step)))
-step_takes now step o law moment e = takes_step now step o e (owed step o e) where
+step_takes now step o law moment e = takes_step now law step o e (owed step o e) where
   owed : (step : Step) (o : Option Refusal) → refusal now (Evacuator step) ≡ o → MovesTakeFor now step o
   owed (Select choice most) o e = tt
   owed (Mark count) o e = tt

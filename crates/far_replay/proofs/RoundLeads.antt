@@ -1,5 +1,5 @@
--- A step of the evacuator leads on by legal events of the book, and leaves what owners have; what a refused one leaves; which take room.
-use Rattle.std.proofs.Common.{◌≡◌, ℕ, ◌/◌, ◌==◌, ◌&&◌, Bool, true, false, not, cond, nat_lt, is_some, fold, All, Option, Some, None, List, [], ◌∷◌, Result, Ok, Err, ap, sym, refl, ◌∙◌, subst}
+-- A step of the evacuator leads on by legal events of the book, and leaves what owners have; what a refused one leaves.
+use Rattle.std.proofs.Common.{◌≡◌, ℕ, ◌/◌, ◌==◌, ◌&&◌, Bool, true, false, not, cond, nat_lt, is_some, All, Option, Some, None, List, [], ◌∷◌, Result, Ok, Err, ap, sym, refl, ◌∙◌, subst}
 use Rattle.std.proofs.lemmas.Bool.{cond_both, not-false, or_left, true≢false}
 use Rattle.std.proofs.lemmas.List.Elements.{All-head, All-tail}
 use Rattle.far_word.specs.declared.mark.Marks.{Marks}
@@ -22,22 +22,19 @@ use Rattle.far_core.proofs.Keeps.{step_keeps as event_keeps}
 use Rattle.far_core.proofs.Owing.{is_test}
 use Rattle.far_core.proofs.Steps.{agrees}
 use Rattle.far_book.specs.book.Reached.{IsOfBook, Reached}
-use Rattle.far_evac.specs.Choosing.{after_selecting, is_spent}
+use Rattle.far_evac.specs.Choosing.{is_spent}
 use Rattle.far_evac.specs.declared.phase.Phase.TheVariants.{Idle, Marking, Waiting, Evacuating}
 use Rattle.far_evac.specs.declared.phase.Phase.{Phase}
 use Rattle.far_evac.specs.Leading.{Leads}
-use Rattle.far_evac.specs.Live.{live_among}
-use Rattle.far_evac.specs.Marking.{after_marking, leaves_some, marked_core, newly_marked}
 use Rattle.far_evac.specs.Moment.{Moment}
 use Rattle.far_evac.specs.MomentLaw.{MomentLaw, is_idle}
 use Rattle.far_evac.specs.Owned.{anywhere, KeepsObjects}
-use Rattle.far_evac.specs.RoundSteps.{advanced, unmarked}
 use Rattle.far_evac.specs.Turns.{IsRound}
 use Rattle.far_evac.specs.Waiting.{after_polling, first_open, polled, polled_at, polled_to}
 use Rattle.far_evac.proofs.KeptObjects.{objects_none}
 use Rattle.far_evac.proofs.KeptTurns.{aborting_objects, marking_objects, polling_objects, selecting_objects, whole_objects}
 use Rattle.far_evac.proofs.Leading.{aborting, polling, reached_none, selecting}
-use Rattle.far_evac.proofs.LeadingMarks.{marking, marks_cells}
+use Rattle.far_evac.proofs.LeadingMarks.{marking}
 use Rattle.far_evac.proofs.LeadingTurns.{round_leads}
 use Rattle.far_evac.proofs.LeadingWalks.{walking, walking_objects}
 use Rattle.far_text.specs.Command.{Choice, Command, Evacuator, Step, Select, Mark, Wait, Evacuate, Abort, Round}
@@ -45,11 +42,10 @@ use Rattle.far_text.proofs.Each.{Each}
 use Rattle.far_replay.specs.Alone.{bytes_in_world, own_of}
 use Rattle.far_replay.specs.Between.{Between}
 use Rattle.far_replay.specs.EventRows.{after_events, AllPass, AllSucceed}
-use Rattle.far_replay.specs.Headline.{StayThrough, TakesNone}
-use Rattle.far_replay.specs.Reply.{Refused}
+use Rattle.far_replay.specs.Headline.{StayThrough}
 use Rattle.far_replay.specs.Rounds.{after_round, choice_causes, chosen_by, given_by, is_evacuating, is_marking, is_waiting, logs_given, refused_step, round_told, rows_in, step_effect, wait_causes}
 use Rattle.far_replay.specs.Stays.{CellStays, MayGain, Stays}
-use Rattle.far_replay.specs.Turn.{effect, first_cause, refusal, refused_effect, turn_effect, turn_reply, unless}
+use Rattle.far_replay.specs.Turn.{effect, first_cause, refusal, refused_effect, turn_effect, unless}
 use Rattle.far_replay.proofs.Leading.{legal_made}
 use Rattle.far_replay.proofs.RoundChoices.{Chooses, choice_is, policy_chooses}
 use Rattle.far_replay.proofs.ViewsRest.{ClosesLast, NoClose, fronts_stay, none_closes}
@@ -294,26 +290,3 @@ step_stays now Wait why e = refused_wait now why e
 step_stays now (Evacuate count) why e = stays_same (Evacuator (Evacuate count)) why now
 step_stays now Abort why e = stays_same (Evacuator Abort) why now
 step_stays now (Round policy most turns) why e = stays_same (Evacuator (Round policy most turns)) why now
-
--- ---- what a step takes of the logs
-pub polled_takes : (now : Moment) (o : Option ℕ) → TakesNone now.core (polled_to now o).core
-polled_takes now None = (refl, refl)
-polled_takes now (Some k) = (refl, refl)
-
-pub wait_takes : (now : Moment) (why : Refusal) → TakesNone now.core (refused_step now Wait why).core
-wait_takes now (StillOpen mutator epoch) = polled_takes now (first_open now.core)
-wait_takes now why = (refl, refl)
-
-pub select_takes : (now : Moment) (logs : List ℕ) → TakesNone now.core (after_selecting now logs).core
-select_takes now [] = (refl, refl)
-select_takes now (l ∷ ls) = (refl, refl)
-
-pub mark_takes : (now : Moment) (count : ℕ) → TakesNone now.core (after_marking now count).core
-mark_takes now count =
-    let same = marks_cells (newly_marked now count) now.core in
-    cond_both (leaves_some now count) (record now { core = marked_core now count }) (record now { core = advanced (marked_core now count) now.held; phase = Waiting }) (λ (x : Moment). TakesNone now.core x.core)
-    (λ _. (ap (λ (t : State). t.tail) same, ap (λ (t : State). t.kind) same)) (λ _. (ap (λ (t : State). t.tail) same, ap (λ (t : State). t.kind) same))
-
-pub unmark_takes : (ps : List ℕ) (s : State) → TakesNone s (fold unmarked s ps)
-unmark_takes [] s = (refl, refl)
-unmark_takes (p ∷ ps) s = unmark_takes ps (unmarked s p)

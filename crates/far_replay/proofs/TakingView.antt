@@ -9,23 +9,27 @@ use Rattle.far_word.specs.declared.pointer.PtrWord.TheVariants.{Free, Near, Far}
 use Rattle.far_word.specs.Mark.{marks_with}
 use Rattle.far_word.specs.Pointer.{read_of}
 use Rattle.far_word.specs.Sizes.{size_of}
-use Rattle.far_core.specs.events.Step.{after_pin}
-use Rattle.far_core.specs.state.Law.{in_use}
+use Rattle.far_core.specs.declared.event.Event.TheVariants.{Ask as Asks}
+use Rattle.far_core.specs.events.Step.{after, after_pin, is_opened}
+use Rattle.far_core.specs.state.Law.{Law, in_use}
 use Rattle.far_core.specs.state.Room.{room}
 use Rattle.far_core.proofs.Cells.{map_mark}
 use Rattle.far_core.specs.state.State.{State, put}
+use Rattle.far_core.proofs.Put.{put_other, put_same}
+use Rattle.far_core.proofs.events.Ask.{reads}
 use Rattle.far_book.specs.book.Dealing.{goal_of}
 use Rattle.far_book.specs.book.Fetching.{far_len}
 use Rattle.far_replay.specs.Dereference.{comes_to, comes_to_of, sought, sought_of}
 use Rattle.far_replay.specs.Effects.{is_slow, with_view}
 use Rattle.far_replay.specs.Headline.{BringTakes, DereferenceTakes, LacksRoom, TakesNone, TakesSpan}
+use Rattle.far_replay.specs.Objects.{uses}
+use Rattle.far_replay.proofs.LogBytes.{move_from, move_then, names_at, none_more, none_taken, worded_takes}
+use Rattle.far_replay.proofs.Views.{pin_read}
 
 -- a view takes nothing
-pub view_takes : (s : State) (p : ℕ) → TakesNone s (with_view s p)
-view_takes s p = cond_both (is_some (s.held p)) s (after_pin s p) (TakesNone s) (λ _. (refl, refl)) (λ _. (refl, refl))
-
-pub none_more : (s t u : State) → TakesNone s t → TakesNone t u → TakesNone s u
-none_more s t u a b = (b.0 ∙ a.0, b.1 ∙ a.1)
+pub view_takes : (s : State) (m p : ℕ) → Law s → is_opened s m ≡ true → uses s m p ≡ true → TakesNone s (with_view s p)
+view_takes s m p law opened ours = cond_both (is_some (s.held p)) s (after_pin s p) (TakesNone s) (λ _. none_taken s)
+    (λ _. worded_takes s (after_pin s p) refl refl refl (names_at s (after_pin s p) p Hot (λ q ne. put_other s.cell p _ q ne) (pin_read s m p law opened ours)))
 
 -- two states tell the same room
 pub record SameLogs (s u : State) : Type 0 where
@@ -35,17 +39,24 @@ pub record SameLogs (s u : State) : Type 0 where
 same_more : (s t u : State) → SameLogs s t → SameLogs t u → SameLogs s u
 same_more s t u a b = record { none = none_more s t u a.none b.none; rooms = λ n reserve. b.rooms n reserve ∙ a.rooms n reserve }
 
-asked_logs : (s : State) (m p : ℕ) (o : Option PtrWord) → SameLogs s (sought_of s m p o)
-asked_logs s m p None = record { none = (refl, refl); rooms = λ n reserve. refl }
-asked_logs s m p (Some Free) = record { none = (refl, refl); rooms = λ n reserve. refl }
-asked_logs s m p (Some (Near len ds place marks)) = record { none = (refl, refl); rooms = λ n reserve. refl }
-asked_logs s m p (Some (Far len ds marks)) = record { none = (refl, refl); rooms = λ n reserve. refl }
+asked_logs : (s : State) (m p : ℕ) → Law s → s.used p ≡ true → s.held p ≡ None → (o : Option PtrWord) → SameLogs s (sought_of s m p o)
+asked_logs s m p law used unheld None = record { none = none_taken s; rooms = λ n reserve. refl }
+asked_logs s m p law used unheld (Some Free) = record { none = none_taken s; rooms = λ n reserve. refl }
+asked_logs s m p law used unheld (Some (Near len ds place marks)) =
+    let t : State = after s (Asks m p Moved) in
+    record {
+      none = worded_takes s t refl refl refl (names_at s t p Moved (λ q ne. put_other s.cell p _ q ne) (ap read_of (put_same s.cell p _ p refl) ∙ (reads s law p used unheld Moved refl).0));
+      rooms = λ n reserve. refl;
+    }
+asked_logs s m p law used unheld (Some (Far len ds marks)) = record { none = none_taken s; rooms = λ n reserve. refl }
 
-view_logs : (s : State) (p : ℕ) → SameLogs s (with_view s p)
-view_logs s p = cond_both (is_some (s.held p)) s (after_pin s p) (SameLogs s) (λ _. record { none = (refl, refl); rooms = λ n reserve. refl }) (λ _. record { none = (refl, refl); rooms = λ n reserve. refl })
+view_rooms : (s : State) (p n : ℕ) (reserve : Bool) → room (with_view s p) n reserve ≡ room s n reserve
+view_rooms s p n reserve = cond_both (is_some (s.held p)) s (after_pin s p) (λ (u : State). room u n reserve ≡ room s n reserve) (λ _. refl) (λ _. refl)
 
-pub sought_logs : (s : State) (m p : ℕ) → SameLogs s (sought s m p)
-sought_logs s m p = same_more s (with_view s p) (sought s m p) (view_logs s p) (asked_logs (with_view s p) m p (read_of ((with_view s p).cell p)))
+pub sought_logs : (s : State) (m p : ℕ) → Law s → is_opened s m ≡ true → uses s m p ≡ true → Law (with_view s p) → (with_view s p).used p ≡ true → (with_view s p).held p ≡ None → SameLogs s (sought s m p)
+sought_logs s m p law opened ours pinned used unheld =
+    same_more s (with_view s p) (sought s m p) record { none = view_takes s m p law opened ours; rooms = view_rooms s p }
+    (asked_logs (with_view s p) m p pinned used unheld (read_of ((with_view s p).cell p)))
 
 -- ---- what is said after the asking, and before it the pin
 abbrev pub asked_on : Option PtrWord → Option PtrWord
@@ -58,29 +69,37 @@ abbrev pub asked_word : Option PtrWord → Option PtrWord
 asked_word o = asked_on (map_mark Hot o)
 
 -- what is taken from there on is taken from the first state on
-span_same : (s u t : State) (len : ℕ) (reserve : Bool) → SameLogs s u → TakesSpan u len reserve t → TakesSpan s len reserve t
-span_same s u t len reserve same (place, found, tail) = (place, sym (same.rooms (size_of len) reserve) ∙ found, tail ∙ ap (λ (f : ℕ → ℕ). put f place.log (place.at + size_of len)) same.none.0)
+span_same : (s u t : State) (len : ℕ) (from : Option ℕ) (reserve : Bool) → SameLogs s u → TakesSpan u len from reserve t → TakesSpan s len from reserve t
+span_same s u t len from reserve same h = (
+  h.0,
+  sym (same.rooms (size_of len) reserve) ∙ h.1,
+  h.2 ∙ ap (λ (f : ℕ → ℕ). put f h.0.log (h.0.at + size_of len)) same.none.0,
+  λ l. move_from s u t len from h.0.log l same.none (h.3 l),
+)
 
-near_same : (s u t : State) (len : ℕ) (b : Bool) → SameLogs s u → MatchBool b (TakesSpan u len false t) (TakesNone u t) → MatchBool b (TakesSpan s len false t) (TakesNone s t)
-near_same s u t len true same h = span_same s u t len false same h
-near_same s u t len false same h = none_more s u t same.none h
+near_same : (s u t : State) (len : ℕ) (from : Option ℕ) (b : Bool) → SameLogs s u → MatchBool b (TakesSpan u len from false t) (TakesNone u t) → MatchBool b (TakesSpan s len from false t) (TakesNone s t)
+near_same s u t len from true same h = span_same s u t len from false same h
+near_same s u t len from false same h = none_more s u t same.none h
 
 pub bring_same : (s u t : State) (o : Option PtrWord) → SameLogs s u → BringTakes u (asked_word o) t → BringTakes s o t
 bring_same s u t None same h = none_more s u t same.none h
 bring_same s u t (Some Free) same h = none_more s u t same.none h
-bring_same s u t (Some (Near len ds place marks)) same h = near_same s u t len marks.evac same h
-bring_same s u t (Some (Far len ds marks)) same h = span_same s u t len true same h
+bring_same s u t (Some (Near len ds place marks)) same h = near_same s u t len (Some place.log) marks.evac same h
+bring_same s u t (Some (Far len ds marks)) same h = span_same s u t len None true same h
 
 -- and so it is where nothing more is taken
-near_more : (s t v : State) (len : ℕ) (b : Bool) → TakesNone t v → MatchBool b (TakesSpan s len false t) (TakesNone s t) → MatchBool b (TakesSpan s len false v) (TakesNone s v)
-near_more s t v len true same h = (h.0, h.1, same.0 ∙ h.2)
-near_more s t v len false same h = none_more s t v h same
+span_more : (s t v : State) (len : ℕ) (from : Option ℕ) (reserve : Bool) → TakesNone t v → TakesSpan s len from reserve t → TakesSpan s len from reserve v
+span_more s t v len from reserve same h = (h.0, h.1, same.0 ∙ h.2, λ l. move_then s t v len from h.0.log l same (h.3 l))
+
+near_more : (s t v : State) (len : ℕ) (from : Option ℕ) (b : Bool) → TakesNone t v → MatchBool b (TakesSpan s len from false t) (TakesNone s t) → MatchBool b (TakesSpan s len from false v) (TakesNone s v)
+near_more s t v len from true same h = span_more s t v len from false same h
+near_more s t v len from false same h = none_more s t v h same
 
 pub bring_more : (s t v : State) (o : Option PtrWord) → TakesNone t v → BringTakes s o t → BringTakes s o v
 bring_more s t v None same h = none_more s t v h same
 bring_more s t v (Some Free) same h = none_more s t v h same
-bring_more s t v (Some (Near len ds place marks)) same h = near_more s t v len marks.evac same h
-bring_more s t v (Some (Far len ds marks)) same h = (h.0, h.1, same.0 ∙ h.2)
+bring_more s t v (Some (Near len ds place marks)) same h = near_more s t v len (Some place.log) marks.evac same h
+bring_more s t v (Some (Far len ds marks)) same h = span_more s t v len None true same h
 
 -- ---- where it comes hangs on what its cell says
 abbrev pub place_by : State → Option PtrWord → Option Place

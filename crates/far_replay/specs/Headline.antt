@@ -1,6 +1,6 @@
 -- What a trace program's outputs say: the laws over whole texts and whole lists of commands.
 use Rattle.std.specs.Bool.{MatchBool}
-use Rattle.std.specs.Prelude.{◌≡◌, ◌≢◌, ◌↔◌, ℕ, ◌+◌, ◌*◌, ◌/◌, ◌^◌, ◌<◌, ◌≤◌, ◌||◌, ◌⊎◌, Bool, true, false, is_some, sum, codes, decimal, Option, Some, None, Ok, List, [], ◌∷◌, ◌++◌, length, replicate, slice_index, map, All, Contains}
+use Rattle.std.specs.Prelude.{◌≡◌, ◌≢◌, ◌↔◌, ℕ, ◌+◌, ◌*◌, ◌/◌, ◌^◌, ◌<◌, ◌≤◌, ◌||◌, ◌==◌, ◌⊎◌, Bool, true, false, cond, is_some, sum, codes, decimal, Option, Some, None, Ok, List, [], ◌∷◌, ◌++◌, length, replicate, slice_index, map, All, Contains}
 use Rattle.std.specs.List.{flat_map, range_with_len}
 use Rattle.hex.specs.Hex.{IsBytes}
 use Rattle.far_word.specs.declared.mark.Mark.TheVariants.{Hot}
@@ -199,20 +199,36 @@ ViewsAfter s (Mutator m (Try p)) Done t = ViewsObject s t p
 ViewsAfter s (Mutator m Close) Done t = ViewsNothing s t m
 ViewsAfter s c r t = t.held ≡ s.held
 
--- nothing is taken of the logs; or a span of an object of so many bytes, at the end of the log that room says
-abbrev pub TakesNone : State → State → Type 0
-TakesNone s t = (t.tail ≡ s.tail) × (t.kind ≡ s.kind)
+-- nothing is taken of the logs: each ends where it did, and has so many live, dead and unused bytes as before
+abbrev pub BytesStay : State → State → ℕ → Type 0
+BytesStay s t l = (live_bytes t l ≡ live_bytes s l) × (dead_bytes t l ≡ dead_bytes s l) × (unused_bytes t l ≡ unused_bytes s l)
 
-abbrev pub TakesSpan : State → ℕ → Bool → State → Type 0
-TakesSpan s len reserve t = (place : Place) × (room s (size_of len) reserve ≡ Some place) × (t.tail ≡ put s.tail place.log (place.at + size_of len))
+abbrev pub TakesNone : State → State → Type 0
+TakesNone s t = (t.tail ≡ s.tail) × (t.kind ≡ s.kind) × ((l : ℕ) → BytesStay s t l)
+
+-- the bytes of a log that an object of this length has, by the log where it lies, if it lies in one
+abbrev pub share : Option ℕ → ℕ → ℕ → ℕ
+share None len l = 0
+share (Some k) len l = cond (k == l) (bytes_taken len) 0
+
+-- what becomes of a log when an object comes to one: unused bytes there become live, and where it lay its bytes turn from live to dead
+pub record BytesMove (s t : State) (len : ℕ) (from : Option ℕ) (to l : ℕ) : Type 0 where
+  pub live : live_bytes t l + share from len l ≡ live_bytes s l + share (Some to) len l
+  pub dead : dead_bytes t l ≡ dead_bytes s l + share from len l
+  pub unused : unused_bytes t l + share (Some to) len l ≡ unused_bytes s l
+
+-- an object of so many bytes, which lay in a log or didn't, takes a span at the end of the log that room says
+abbrev pub TakesSpan : State → ℕ → Option ℕ → Bool → State → Type 0
+TakesSpan s len from reserve t =
+    (place : Place) × (room s (size_of len) reserve ≡ Some place) × (t.tail ≡ put s.tail place.log (place.at + size_of len)) × ((l : ℕ) → BytesMove s t len from place.log l)
 
 -- what it takes to bring an object to where a view may rest, by what its cell says: nothing where it stays; else its span. A near one, which goes where it has EVAC, may take the last
 -- free log; a far one may not
 abbrev pub BringTakes : State → Option PtrWord → State → Type 0
 BringTakes s None t = TakesNone s t
 BringTakes s (Some pointer.Free) t = TakesNone s t
-BringTakes s (Some (pointer.Near len ds place marks)) t = MatchBool marks.evac (TakesSpan s len false t) (TakesNone s t)
-BringTakes s (Some (pointer.Far len ds marks)) t = TakesSpan s len true t
+BringTakes s (Some (pointer.Near len ds place marks)) t = MatchBool marks.evac (TakesSpan s len (Some place.log) false t) (TakesNone s t)
+BringTakes s (Some (pointer.Far len ds marks)) t = TakesSpan s len None true t
 
 -- there is no room for that
 abbrev pub LacksRoom : State → Option PtrWord → Type 0
@@ -229,15 +245,21 @@ DereferenceTakes s p t = MatchBool (is_slow s p) (BringTakes s (read_of (s.cell 
 abbrev pub DereferenceLacks : State → ℕ → State → Type 0
 DereferenceLacks s p t = (is_slow s p ≡ true) × LacksRoom s (read_of (s.cell p)) × TakesNone s t
 
+-- a drop: no span; a near object's bytes become dead, as `EndsObject` says, and else nothing is taken
+abbrev pub DropTakes : State → Option PtrWord → State → Type 0
+DropTakes s (Some (pointer.Near len ds place marks)) t = (t.tail ≡ s.tail) × (t.kind ≡ s.kind)
+DropTakes s _ t = TakesNone s t
+
 -- what a command that is no step takes of the logs: a new object its span; a dereference what it takes to bring its object; anything else nothing
 abbrev pub CommandTakes : State → Command → Reply → State → Type 0
-CommandTakes s (Mutator m (New len ds)) (Pointer p) t = TakesSpan s len true t
+CommandTakes s (Mutator m (New len ds)) (Pointer p) t = TakesSpan s len None true t
 CommandTakes s (Mutator m (Write p from bytes)) Done t = DereferenceTakes s p t
 CommandTakes s (Mutator m (Write p from bytes)) (Refused NoRoom) t = DereferenceLacks s p t
 CommandTakes s (Mutator m (Read p from len)) (Data bytes) t = DereferenceTakes s p t
 CommandTakes s (Mutator m (Read p from len)) (Refused NoRoom) t = DereferenceLacks s p t
 CommandTakes s (Mutator m (View p)) Done t = DereferenceTakes s p t
 CommandTakes s (Mutator m (View p)) (Refused NoRoom) t = DereferenceLacks s p t
+CommandTakes s (Mutator m (Drop p)) Done t = DropTakes s (read_of (s.cell p)) t
 CommandTakes s c r t = TakesNone s t
 
 -- what any command with its reply takes of them: `evacuate` the room of what moves out of the logs that are chosen, a round that of what moves out of those that its policy takes; other steps nothing

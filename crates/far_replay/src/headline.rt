@@ -77,8 +77,10 @@ pub fn mutators_are_alone()
 /// A new object in range is made where a pointer is free and there is room, else it is refused, 3 before 2, and so only
 /// where there is none; its pointer is the lowest of its mutator's that is free; it has its owner, its data structure and
 /// zeros, in the log that `room` says; all other objects stay. It takes its span of that log. A dereference takes one where
-/// its object is far, or has EVAC, in the log that `room` says, and is refused 2 only where there is none. Of other commands
-/// `evacuate` and `round` alone take some, or give logs back: in a log that wasn't chosen dead bytes stay, live ones rise and unused
+/// its object is far, or has EVAC, in the log that `room` says, and is refused 2 only where there is none. As many unused bytes of that
+/// log turn live, and where a near object lay its bytes turn from live to dead; each other log has the bytes that it had. A drop takes no span,
+/// and `drops_end_objects` says what becomes of a near object's bytes. Of other commands
+/// `evacuate` and `round` alone change bytes of logs, or give logs back: in a log that wasn't chosen dead bytes stay, live ones rise and unused
 /// ones fall by the objects that came; in one that still is, what left it is dead; one that was given back has what came since; and
 /// all live bytes together fall by the objects that went far or were retired.
 pub fn new_is_made()
@@ -146,7 +148,8 @@ pub fn rounds_stand()
 /// Through each step of the evacuator each object keeps its owner, data structure and bytes. Through `select`, `mark`, `wait` and
 /// `abort`, and through any step that is refused, it stays at its place too: marking adds EVAC, giving up takes it away, and
 /// but for that and the round nothing changes. Through `evacuate` and `round` each object stays that lies in none of the logs that were chosen, with
-/// its marks, as do those that are far.
+/// its marks, as do those that are far. So does each that lies then in the log in which it lay, though a round may have given it EVAC; and what
+/// mutators use, view and remember stays, with their scopes.
 pub fn steps_leave()
     ensures leave { StepsLeave }
 {}
