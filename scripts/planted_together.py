@@ -7,8 +7,9 @@ A function is proved over the contracts of those that it calls. So edits of diff
 each edit's own function owes then says whether the edit is refused. scripts/planted.sh tries one after the other, and is
 needed for edits of definitions, constants and types, which are named at the end.
 
-Prints the goals that each edit leaves open. The status is 1 where an edit is proved, or refused only because a proof file
-names what the edit took away. The copy lies below /tmp and is removed at the end.
+Prints the goals that each edit leaves open, and at which of them the search stopped at a limit. The status is 1 where an
+edit is proved, or refused only because a proof file names what the edit took away. The copy lies below /tmp and is
+removed at the end.
 """
 
 import pathlib
@@ -91,7 +92,8 @@ def owed(said):
         if wrong := re.match(r"(?:\./)?proofs/(\S+)/\w+\.antt:\d+:\d+: error: (.*)", line):
             errors.setdefault(wrong[1], []).append(wrong[2])
         elif line.startswith("note: src/") and "not proved" in line:
-            notes += re.findall(r"\(`(\S+)`\)", line)
+            limit = " (at a limit)" if "gave up at one of its limits" in line else ""
+            notes += [it + limit for it in re.findall(r"\(`(\S+)`\)", line)]
         elif function := re.match(r"fn (\S+): (.*)", line):
             goals[function[1]], notes = notes, []
     return {
