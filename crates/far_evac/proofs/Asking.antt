@@ -19,7 +19,7 @@ use Rattle.far_book.proofs.Finding.{finds_more, near_known}
 use Rattle.far_book.proofs.region.Founds.{drop_found}
 use Rattle.far_evac.specs.declared.evac.evacuating.Fate.{Fate}
 use Rattle.far_evac.specs.AnyHand.{KnowsWalked, WalksTo}
-use Rattle.far_evac.specs.Asked.{AsksFirst, AsksSo, EndsInWrite, IsRefusedWrite, KeepsKeys, WalksAsking, first_live}
+use Rattle.far_evac.specs.Asked.{AsksFirst, AsksSo, KeepsKeys, WalksAsking, first_live}
 use Rattle.far_evac.specs.Leaving.{AsksAs, fate_by, near_fate}
 use Rattle.far_evac.specs.Live.{live_among}
 use Rattle.far_evac.specs.Moment.{Moment, Tally}
@@ -127,7 +127,3 @@ module _ (D : Type 0) (writes : D → ℕ → List ℕ → Result (Unit {0}) Dev
 
   pub refused_before : (why : Refused) (new : D) → AsksToEvict D writes lets_go u p (Err why) between new → AsksToEvict D writes lets_go s p (Err why) old new
   refused_before why new wrote = wrote_before (Err (fault_of why)) new wrote
-
-pub ends_so : (D : Type 0) (writes : D → ℕ → List ℕ → Result (Unit {0}) DeviceFault → D → Type 0) (lets_go : D → ℕ → D → Type 0) (m t : Moment) (tally : Tally) (why : Refused) (old new : D) →
-    IsRefusedWrite D writes lets_go m t tally why old new → EndsInWrite D writes why new
-ends_so D writes lets_go m t tally why old new r = let write = r.write in (r.between, r.next, write.0, write.2)

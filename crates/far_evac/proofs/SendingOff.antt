@@ -226,9 +226,9 @@ pub err_map : {A B : Type 0} {P Q : B → Type 0} → (result : Result A B) → 
 err_map (Ok x) f h = tt
 err_map (Err why) f h = f why h
 
-pub err_both : {A B : Type 0} {P Q R : B → Type 0} → (result : Result A B) → ((x : B) → P x → Q x → R x) → IfErr result P → IfErr result Q → IfErr result R
-err_both (Ok x) f h g = tt
-err_both (Err why) f h g = f why h g
+pub err_all : {A B : Type 0} {P Q R S : B → Type 0} → (result : Result A B) → ((x : B) → P x → Q x → R x → S x) → IfErr result P → IfErr result Q → IfErr result R → IfErr result S
+err_all (Ok x) f h g k = tt
+err_all (Err why) f h g k = f why h g k
 
 -- an answer that was refused is no other
 pub no_answer : {A : Type 0} {P : Type 0} → (result : Result A Refused) (why : Refused) (x : A) → result ≡ Err why → (P → result ≡ Ok x) → P → ⊥

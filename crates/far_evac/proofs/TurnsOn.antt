@@ -1,12 +1,18 @@
--- One turn more: its chain over any hand, and the function where no word changes.
+-- One turn more: its chain over any hand with what was asked, and the function where no word changes.
 use Rattle.std.proofs.Common.{◌≡◌, ◌≢◌, ℕ, zero, suc, ◌+◌, ◌-◌, ◌<◌, ◌≤◌, true, false, cond, List, [], ◌∷◌, length, arith, ap, sym, refl, ◌∙◌}
 use Rattle.std.proofs.lemmas.Bool.{true≢false}
-use Rattle.far_evac.specs.declared.answers.RoundEnd.TheVariants.{Done}
+use Rattle.std.specs.Prelude.{Result}
+use Rattle.far_word.specs.declared.refused.Refused.{Refused}
+use Rattle.far_device.specs.declared.fault.DeviceFault.{DeviceFault}
+use Rattle.far_evac.specs.declared.answers.Progress.{Progress}
+use Rattle.far_evac.specs.declared.answers.RoundEnd.TheVariants.{Done, Limit}
 use Rattle.far_evac.specs.declared.phase.Phase.{Phase}
-use Rattle.far_evac.specs.declared.phase.Phase.TheVariants.{Idle}
+use Rattle.far_evac.specs.declared.phase.Phase.TheVariants.{Evacuating, Idle}
 use Rattle.far_evac.specs.AnyHand.{TurnsMade, TurnsTo, sum_of}
+use Rattle.far_evac.specs.Asked.{AsksInTurn, IsRefusedWrite}
 use Rattle.far_evac.specs.Moment.{Moment, Tally, nothing, plus, progress_of}
 use Rattle.far_evac.specs.MomentLaw.{IsLawful, is_idle}
+use Rattle.far_evac.specs.RoundAsked.{EndsAsking, StopsAsking, TurnsAsking}
 use Rattle.far_evac.specs.Turning.{EndsTurns, turned_at}
 use Rattle.far_evac.specs.Turns.{Turned, turned, turns_made}
 
@@ -38,25 +44,45 @@ module _ (m : Moment) (n : ℕ) where
       let all : (turns - n) + n ≡ turns = omega (arith, within) in
       ap (turns_made m) (sym all) ∙ stays_over (turns - n) (ap (λ (r : Turned). r.over) e) ∙ e
 
--- ---- over any hand
-pub record Made (m t : Moment) (n : ℕ) (total : Tally) : Type 0 where
+-- ---- over any hand, and any device
+pub record Made (D : Type 0) (writes : D → ℕ → List ℕ → Result (Unit {0}) DeviceFault → D → Type 0) (lets_go : D → ℕ → D → Type 0) (m t : Moment) (n : ℕ) (total : Tally) (old new : D) : Type 0 where
   pub tallies : List Tally
   pub made : TurnsMade m tallies false t
+  pub asked : TurnsAsking D writes lets_go m tallies false t old new
   pub many : length tallies ≡ n
   pub sum : sum_of tallies ≡ total
 
-pub none_made : (m : Moment) → Made m m 0 nothing
-none_made m = record { tallies = []; made = (refl, refl); many = refl; sum = refl }
+pub none_made : (D : Type 0) (writes : D → ℕ → List ℕ → Result (Unit {0}) DeviceFault → D → Type 0) (lets_go : D → ℕ → D → Type 0) (m : Moment) (device : D) → Made D writes lets_go m m 0 nothing device device
+none_made D writes lets_go m device = record { tallies = []; made = (refl, refl); asked = (refl, refl, refl); many = refl; sum = refl }
 
-module _ (m u : Moment) (n : ℕ) (before : Tally) (h : Made m u n before) (lawful : IsLawful u) (t : Moment) (tally : Tally) where
-  pub made_more : (total : Tally) → TurnsTo u u.phase tally false t → total ≡ plus before tally → Made m t (n + 1) total
-  made_more total turns is = record {
+module _ (D : Type 0) (writes : D → ℕ → List ℕ → Result (Unit {0}) DeviceFault → D → Type 0) (lets_go : D → ℕ → D → Type 0) (m u : Moment) (n : ℕ) (before : Tally) (old between : D) (h : Made D writes lets_go m u n before old between) where
+  -- no turn more
+  pub asked_limit : (turns : ℕ) (phase : Phase) → n ≤ turns → phase ≡ u.phase → EndsAsking D writes lets_go m turns (Limit phase) u old between
+  asked_limit turns phase within is = (h.tallies, false, h.asked, omega (arith, h.many, within), ap Limit is)
+
+  -- one turn more
+  pub made_more : IsLawful u → (t : Moment) (tally total : Tally) (new : D) → TurnsTo u u.phase tally false t → total ≡ plus before tally → AsksInTurn D writes lets_go u u.phase t tally between new →
+      Made D writes lets_go m t (n + 1) total old new
+  made_more lawful t tally total new turns is asks = record {
     tallies = tally ∷ h.tallies;
     made = (u, h.made, turns, lawful);
+    asked = (u, between, h.asked, turns, asks, lawful);
     many = omega (arith, h.many);
     sum = ap (λ a. plus a tally) h.sum ∙ sym is;
   }
 
-  pub made_done : (turns : ℕ) (total : Tally) → n < turns → TurnsTo u u.phase tally true t → total ≡ plus before tally → EndsTurns m turns (Done (progress_of total true)) t
-  made_done turns total within last is =
+  -- the last one
+  pub made_done : IsLawful u → (t : Moment) (tally : Tally) (turns : ℕ) (total : Tally) → n < turns → TurnsTo u u.phase tally true t → total ≡ plus before tally → EndsTurns m turns (Done (progress_of total true)) t
+  made_done lawful t tally turns total within last is =
       (tally ∷ h.tallies, true, (u, h.made, last, lawful), omega (arith, h.many, within), ap (λ a. Done (progress_of a true)) (is ∙ ap (λ a. plus a tally) (sym h.sum)))
+
+  pub asked_done : IsLawful u → (t : Moment) (tally : Tally) (turns : ℕ) (total : Tally) (new : D) → n < turns → TurnsTo u u.phase tally true t → total ≡ plus before tally → AsksInTurn D writes lets_go u u.phase t tally between new →
+      EndsAsking D writes lets_go m turns (Done (progress_of total true)) t old new
+  asked_done lawful t tally turns total new within last is asks =
+      (tally ∷ h.tallies, true, (u, between, h.asked, last, asks, lawful), omega (arith, h.many, within), ap (λ a. Done (progress_of a true)) (is ∙ ap (λ a. plus a tally) (sym h.sum)))
+
+  -- one that stopped
+  pub asked_stop : IsLawful u → (t : Moment) (tally : Tally) (turns : ℕ) (so_far : Progress) (why : Refused) (new : D) → n < turns → u.phase ≡ Evacuating → IsRefusedWrite D writes lets_go u t tally why between new →
+      so_far ≡ progress_of (plus before tally) false → StopsAsking D writes lets_go m turns so_far why t old new
+  asked_stop lawful t tally turns so_far why new within leaves refused is =
+      (h.tallies, u, between, tally, h.asked, omega (arith, h.many, within), leaves, refused, is ∙ ap (λ a. progress_of (plus a tally) false) (sym h.sum), lawful)

@@ -64,7 +64,7 @@ module _ (m : Moment) (n : ℕ) (before : (turns_made m n).moment.phase ≡ Wait
 pub waiting_stays : WaitingStays
 waiting_stays m n k before after = (stays m n before after k, goes_on m n before after)
 
-waiting_of : (phase : Phase) → is_waiting phase ≡ true → phase ≡ Waiting
+pub waiting_of : (phase : Phase) → is_waiting phase ≡ true → phase ≡ Waiting
 waiting_of Idle h = absurd (false≢true h)
 waiting_of Marking h = absurd (false≢true h)
 waiting_of Waiting h = refl

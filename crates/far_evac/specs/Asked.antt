@@ -5,7 +5,7 @@ use Rattle.far_word.specs.declared.refused.Refused.{Refused}
 use Rattle.far_word.specs.Pointer.{read_of}
 use Rattle.far_device.specs.declared.fault.DeviceFault.{DeviceFault}
 use Rattle.far_core.specs.state.State.{State}
-use Rattle.far_book.specs.book.Asking.{AsksToEvict, fault_of}
+use Rattle.far_book.specs.book.Asking.{AsksToEvict}
 use Rattle.far_evac.specs.declared.answers.EvacFault.{EvacFault}
 use Rattle.far_evac.specs.declared.answers.Progress.{Progress}
 use Rattle.far_evac.specs.declared.phase.Phase.{Phase}
@@ -69,7 +69,3 @@ pub record IsRefusedWrite (D : Type 0) (writes : D → ℕ → List ℕ → Resu
   pub is : left stood ≡ next ∷ rest
   pub write : AsksToEvict D writes lets_go stood.moment.core next (Err why) between new
   pub stops : KnowsMoment stood.moment t
-
--- the last that was asked of the device is a write, which was refused so
-abbrev pub EndsInWrite : (D : Type 0) (writes : D → ℕ → List ℕ → Result (Unit {0}) DeviceFault → D → Type 0) → Refused → D → Type 0
-EndsInWrite D writes why new = (before : D) × (p : ℕ) × (bytes : List ℕ) × writes before p bytes (Err (fault_of why)) new

@@ -20,6 +20,7 @@ pub mod MomentLaw
 pub mod Owned
 pub mod Ready
 pub mod Refusals
+pub mod RoundAsked
 pub mod RoundSteps
 pub mod Standing
 pub mod Stops

@@ -8,12 +8,12 @@ ghost use Rattle.far_policy.specs.Choice.{IsChoice};
 ghost use Rattle.far_word.specs.declared.refused.Refused.{Refused as why_refused};
 ghost use Rattle.far_word.specs.declared.refused.Refused.TheVariants.{Device as Failed, Memory};
 ghost use Rattle.far_evac.specs.AnyHand.{StopsRound};
-ghost use Rattle.far_evac.specs.Asked.{EndsInWrite};
 ghost use Rattle.far_evac.specs.Choosing.{after_selecting};
 ghost use Rattle.far_evac.specs.EvacOf.{moment_alone};
 ghost use Rattle.far_evac.specs.Failing.{fails};
 ghost use Rattle.far_evac.specs.Moment.{nothing, progress_of};
 ghost use Rattle.far_evac.specs.Refusals.{unselectable};
+ghost use Rattle.far_evac.specs.RoundAsked.{RoundAsking, StopsAsking};
 ghost use Rattle.far_evac.specs.Turns.{HaltsTurns, IsRound};
 
 use crate::answers::{EvacFault, RoundEnd};
@@ -40,8 +40,10 @@ impl<D: Device + Drop> Evac<Plain, D> {
             ((fault.so_far ≡ progress_of nothing false) × (self.new ≡ self.old)
             × (((fault.why ≡ Memory) × (policy.new ≡ policy.old)) ⊎ P.gives policy.old (map (row_of (core_state self.old.book.near.core)) self.old.book.order) most (Err fault.why) policy.new))
             ⊎ ((logs : List ℕ) × P.gives policy.old (map (row_of (core_state self.old.book.near.core)) self.old.book.order) most (Ok logs) policy.new
-            × StopsRound (moment_alone self.old) logs turns fault.so_far (moment_alone self.new) × ((fault.why ≡ Memory) ⊎ (fault.why ≡ Failed)))) }
-        ensures called { IfErr result (λ fault. (self.new ≡ self.old) ⊎ EndsInWrite D D.writes fault.why self.new.book.device) }
+            × StopsRound (moment_alone self.old) logs turns fault.so_far (moment_alone self.new) × ((fault.why ≡ Memory) ⊎ (fault.why ≡ Failed))
+            × StopsAsking D D.writes D.lets_go (after_selecting (moment_alone self.old) logs) turns fault.so_far fault.why (moment_alone self.new) self.old.book.device self.new.book.device)) }
+        ensures asked { IfOk result (λ end. (logs : List ℕ) × P.gives policy.old (map (row_of (core_state self.old.book.near.core)) self.old.book.order) most (Ok logs) policy.new
+            × RoundAsking D D.writes D.lets_go (moment_alone self.old) logs turns end (moment_alone self.new) self.old.book.device self.new.book.device) }
         ensures halts { unselectable (moment_alone self.old) ≡ None → IfErr result (λ fault. ((fault.so_far ≡ progress_of nothing false) × (self.new ≡ self.old))
             ⊎ ((logs : List ℕ) × P.gives policy.old (map (row_of (core_state self.old.book.near.core)) self.old.book.order) most (Ok logs) policy.new
             × HaltsTurns (after_selecting (moment_alone self.old) logs) turns fault.so_far (moment_alone self.new))) }

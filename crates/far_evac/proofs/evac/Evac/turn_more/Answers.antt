@@ -4,7 +4,6 @@ use Rattle.far_evac.specs.declared.answers.Progress.{Progress}
 use Rattle.far_evac.specs.EvacOf.{moment}
 use Rattle.far_evac.specs.Moment.{plus, progress_of, tally_of}
 use Rattle.far_evac.specs.Turning.{GoesOn}
-use Rattle.far_evac.proofs.Asking.{ends_so}
 use Rattle.far_evac.proofs.Bounds.{stop_bounded, turn_goes_on}
 use Rattle.far_evac.proofs.TurnsOn.{not_idle}
 
@@ -35,16 +34,11 @@ returns-in-Ok-clause-goes_on g c =
 pub returns-in-Err-clause-stops : goal.returns-in-Err-clause-stops
 returns-in-Err-clause-stops g c =
     let m = moment g.N.Near.view c.args.self.now in
-    (tally_of c.in-Err.fault.so_far, (c.in-Err.ensures.stops (not_idle m.phase c.requires.running)).1, c.sum-in-Err.ensures)
+    let runs = not_idle m.phase c.requires.running in
+    (tally_of c.in-Err.fault.so_far, (c.in-Err.ensures.stops runs).1, c.sum-in-Err.ensures, c.in-Err.ensures.refused runs)
 
 pub returns-in-Err-clause-halts : goal.returns-in-Err-clause-halts
 returns-in-Err-clause-halts g c = λ still.
     let m = moment g.N.Near.view c.args.self.now in
     let halts = c.in-Err.ensures.halts still (not_idle m.phase c.requires.running) in
     (halts.0, halts.1, c.sum-in-Err.ensures ∙ ap (λ (p : Progress). progress_of (plus (tally_of c.args.before) (tally_of p)) false) halts.2)
-
-pub returns-in-Err-clause-called : goal.returns-in-Err-clause-called
-returns-in-Err-clause-called g c =
-    let m = moment g.N.Near.view c.args.self.now in
-    ends_so g.row.D.Denot g.D.Device.writes g.D.Device.lets_go m (moment g.N.Near.view c.turn.new.self) (tally_of c.in-Err.fault.so_far) c.in-Err.fault.why c.args.self.now.book.device c.turn.new.self.book.device
-    (c.in-Err.ensures.refused (not_idle m.phase c.requires.running))
