@@ -16,7 +16,8 @@ trap 'rm -rf "$work"' EXIT
 # what was checked lies in out/, and is copied too
 cp -a "$root/." "$work"
 cd "$work"
-edits=("crates/$crate/planted/"*.edit)
+# (edits that begin in a crate below are planted_together.py's)
+mapfile -t edits < <(grep -L '^file: \.\./' "crates/$crate/planted/"*.edit)
 first=$(((${share%/*} - 1) * ${#edits[@]} / ${share#*/}))
 end=$((${share%/*} * ${#edits[@]} / ${share#*/}))
 ((first < end)) || exit 0

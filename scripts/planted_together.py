@@ -4,8 +4,10 @@
     scripts/planted_together.py CRATE [EDIT..]
 
 A function is proved over the contracts of those that it calls. So edits of different functions are made together, and what
-each edit's own function owes then says whether the edit is refused. scripts/planted.sh tries one after the other, and is
-needed for edits of definitions, constants and types, which are named at the end.
+each edit's own function owes then says whether the edit is refused. An edit that begins in a crate below, in code and
+definition alike (`file: ../CRATE/..`), is made alone, and refused where that crate is proved and this one isn't.
+scripts/planted.sh tries one after the other, and is needed for edits of definitions, constants and types, which are named
+at the end.
 
 Prints the goals that each edit leaves open, and at which of them the search stopped at a limit. The status is 1 where an
 edit is proved, or refused only because a proof file names what the edit took away. The copy lies below /tmp and is
@@ -30,6 +32,7 @@ class Edit:
 
     def __init__(self, path, crate):
         self.name, self.places, self.functions, self.is_whole = path.stem, [], set(), True
+        self.is_below = False
         file = old = ""
         for line in path.read_text().split("\n"):
             if line.startswith("file: "):
@@ -43,6 +46,7 @@ class Edit:
         text = (crate / file).read_text()
         function = function_at(file, text, text.find(old)) if text.count(old) == 1 else None
         self.is_whole = self.is_whole and function is not None
+        self.is_below = self.is_below or file.startswith("../")
         self.places.append((file, text.find(old), old, new))
         self.functions.add(function)
 
@@ -133,8 +137,12 @@ def main(name, *names):
                 is_refused, why = verdict(edit, owing) if owing else (False, f"NOT READ: {said.strip()[-200:]}")
                 missed += not is_refused
                 print(f"{edit.name}: {why}", flush=True)
+        for edit in (it for it in edits if it.is_below):
+            is_refused = "logic=not-proved" in checked(crate, [edit])
+            missed += not is_refused
+            print(f"{edit.name}: {'refused' if is_refused else 'PROVED, or the crate below is not'}", flush=True)
     for edit in edits:
-        if not edit.is_whole:
+        if not edit.is_whole and not edit.is_below:
             print(f"not tried, no function holds it whole: {edit.name}")
     return missed > 0
 

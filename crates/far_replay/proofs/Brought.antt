@@ -48,7 +48,7 @@ use Rattle.far_book.proofs.region.ReachingFar.{fetching}
 use Rattle.far_replay.specs.Alone.{bytes_in_world}
 use Rattle.far_replay.specs.Dereference.{come, come_of, comes_to, comes_to_of}
 use Rattle.far_replay.specs.Events.{come_events, come_events_of, name_events, span_events}
-use Rattle.far_replay.specs.Headline.{BringTakes, TakesNone, TakesSpan}
+use Rattle.far_replay.specs.Taking.{BringTakes, TakesNone, TakesSpan}
 use Rattle.far_replay.specs.Objects.{object_len, named_len}
 use Rattle.far_replay.proofs.AloneRuns.{SameBytes}
 use Rattle.far_replay.proofs.Bringing.{fetched_keeps, moved_keeps, stayed_keeps}

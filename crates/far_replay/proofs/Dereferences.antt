@@ -28,7 +28,8 @@ use Rattle.far_replay.specs.Dereference.{asked_for, come, comes_to, dereferenced
 use Rattle.far_replay.specs.Effects.{is_slow, with_view}
 use Rattle.far_replay.specs.EventRows.{after_events}
 use Rattle.far_replay.specs.Events.{asked_events, asked_events_of, come_events, dereference_events, sought_events, view_events}
-use Rattle.far_replay.specs.Headline.{BringTakes, DereferenceLacks, DereferenceTakes, TakesNone, ViewsObject}
+use Rattle.far_replay.specs.Changes.{ViewsObject}
+use Rattle.far_replay.specs.Taking.{BringTakes, DereferenceLacks, DereferenceTakes, TakesNone}
 use Rattle.far_replay.specs.Objects.{named_len, object_len, uses}
 use Rattle.far_replay.proofs.AloneRuns.{SameBytes, bytes_both, bytes_same, quiet_run, quiet_view}
 use Rattle.far_replay.proofs.Bringing.{KeepsOwners, asked_keeps, brought_keeps, came_opened, came_used, slow_opened, slow_unheld, slow_used}

@@ -44,7 +44,7 @@ use Rattle.far_text.specs.Command.{Drop, Mutator}
 use Rattle.far_replay.specs.Effects.{without_object}
 use Rattle.far_replay.specs.EventRows.{after_events, Succeeds, AllSucceed, ComesToPass, AllComeToPass}
 use Rattle.far_replay.specs.Events.{drop_events, events_for}
-use Rattle.far_replay.specs.Headline.{EndsObject}
+use Rattle.far_replay.specs.Changes.{EndsObject}
 use Rattle.far_replay.specs.Moment.{Moment, with_core}
 use Rattle.far_replay.specs.Objects.{uses}
 use Rattle.far_replay.specs.Reply.{Reply, Done, Refused}

@@ -17,7 +17,7 @@ use Rattle.far_text.specs.Command.{Command, Mutator, Book, Evacuator}
 use Rattle.far_evac.specs.MomentLaw.{MomentLaw}
 use Rattle.far_evac.specs.Strays.{NoneStrays}
 use Rattle.far_replay.specs.Events.{events_for, IsTold}
-use Rattle.far_replay.specs.Headline.{Lawful}
+use Rattle.far_replay.specs.Lawful.{Lawful}
 use Rattle.far_text.specs.Written.{WritesBytes, AllWriteBytes}
 use Rattle.far_replay.specs.EventRows.{after_events, AllSucceed, AllPass, Succeeds}
 use Rattle.far_replay.specs.Moment.{Moment}

@@ -33,7 +33,7 @@ use Rattle.far_evac.specs.TakesRoom.{bytes_at}
 use Rattle.far_evac.proofs.LiveLists.{same_spans}
 use Rattle.far_evac.proofs.RoomLaw.{sound_of}
 use Rattle.far_evac.proofs.SpanBytes.{Sound, falls, spans_more}
-use Rattle.far_replay.specs.Headline.{BytesMove, TakesNone, share}
+use Rattle.far_replay.specs.Taking.{BytesMove, TakesNone, share}
 
 -- ---- they stay
 pub none_taken : (s : State) → TakesNone s s

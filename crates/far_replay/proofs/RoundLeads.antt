@@ -42,7 +42,7 @@ use Rattle.far_text.proofs.Each.{Each}
 use Rattle.far_replay.specs.Alone.{bytes_in_world, own_of}
 use Rattle.far_replay.specs.Between.{Between}
 use Rattle.far_replay.specs.EventRows.{after_events, AllPass, AllSucceed}
-use Rattle.far_replay.specs.Headline.{StayThrough}
+use Rattle.far_replay.specs.Changes.{StayThrough}
 use Rattle.far_replay.specs.Rounds.{after_round, choice_causes, chosen_by, given_by, is_evacuating, is_marking, is_waiting, logs_given, refused_step, round_told, rows_in, step_effect, wait_causes}
 use Rattle.far_replay.specs.Stays.{CellStays, MayGain, Stays}
 use Rattle.far_replay.specs.Turn.{effect, first_cause, refusal, refused_effect, turn_effect, unless}

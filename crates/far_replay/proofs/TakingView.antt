@@ -21,7 +21,7 @@ use Rattle.far_book.specs.book.Dealing.{goal_of}
 use Rattle.far_book.specs.book.Fetching.{far_len}
 use Rattle.far_replay.specs.Dereference.{comes_to, comes_to_of, sought, sought_of}
 use Rattle.far_replay.specs.Effects.{is_slow, with_view}
-use Rattle.far_replay.specs.Headline.{BringTakes, DereferenceTakes, LacksRoom, TakesNone, TakesSpan}
+use Rattle.far_replay.specs.Taking.{BringTakes, DereferenceTakes, LacksRoom, TakesNone, TakesSpan}
 use Rattle.far_replay.specs.Objects.{uses}
 use Rattle.far_replay.proofs.LogBytes.{move_from, move_then, names_at, none_more, none_taken, worded_takes}
 use Rattle.far_replay.proofs.Views.{pin_read}

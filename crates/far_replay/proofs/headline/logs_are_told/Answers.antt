@@ -1,5 +1,0 @@
-use Rattle.far_replay.proofs.OutputLaws.{logs_tell}
-use Rattle.far_replay.proofs.headline.logs_are_told.Goals as goal
-
-pub returns : goal.returns
-returns c = logs_tell

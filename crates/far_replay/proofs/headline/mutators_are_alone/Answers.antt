@@ -1,7 +1,0 @@
-use Rattle.far_replay.proofs.AloneFirst.{alone_first}
-use Rattle.far_replay.proofs.AloneLaw.{mutators_learn}
-use Rattle.far_replay.proofs.OutputLaws.{own_lines}
-use Rattle.far_replay.proofs.headline.mutators_are_alone.Goals as goal
-
-pub returns : goal.returns
-returns c = record { alone = alone_first; own = own_lines; learn = mutators_learn }

@@ -1,6 +1,0 @@
-use Rattle.far_replay.proofs.OutputLaws.{refused_stays, refusals_stay, unknown_refused}
-use Rattle.far_replay.proofs.Refusals.{near_refusals}
-use Rattle.far_replay.proofs.headline.refusals_leave_all.Goals as goal
-
-pub returns : goal.returns
-returns c = record { stay = refusals_stay; nothing = refused_stays; unknown = unknown_refused; near = near_refusals }

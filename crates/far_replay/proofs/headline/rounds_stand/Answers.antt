@@ -1,5 +1,0 @@
-use Rattle.far_replay.proofs.Standing.{rounds_stand}
-use Rattle.far_replay.proofs.headline.rounds_stand.Goals as goal
-
-pub returns : goal.returns
-returns c = record { stand = rounds_stand }

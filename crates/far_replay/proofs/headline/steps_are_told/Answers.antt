@@ -1,6 +1,0 @@
-use Rattle.far_replay.proofs.AgesKept.{ages_stay}
-use Rattle.far_replay.proofs.TurnsTell.{steps_told}
-use Rattle.far_replay.proofs.headline.steps_are_told.Goals as goal
-
-pub returns : goal.returns
-returns c = record { told = steps_told; ages = ages_stay }

@@ -1,5 +1,0 @@
-use Rattle.far_replay.proofs.LeftBySteps.{steps_left}
-use Rattle.far_replay.proofs.headline.steps_leave.Goals as goal
-
-pub returns : goal.returns
-returns c = record { leave = steps_left }

@@ -1,5 +1,0 @@
-use Rattle.far_replay.proofs.OutputLaws.{changes_range}
-use Rattle.far_replay.proofs.headline.writes_change_their_range.Goals as goal
-
-pub returns : goal.returns
-returns c = changes_range

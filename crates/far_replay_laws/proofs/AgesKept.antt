@@ -1,0 +1,222 @@
+-- The sealed logs keep their order from one moment to the next.
+use Rattle.std.proofs.Common.{◌≡◌, ℕ, zero, suc, ◌==◌, ◌||◌, Bool, true, false, not, cond, eqb, Option, Some, None, List, [], ◌∷◌, ◌++◌, filter, append_assoc, ap, sym, refl, ◌∙◌, subst, inl, inr}
+use Rattle.std.proofs.lemmas.Bool.{cond_both, eq-eqb, eqb-true, false≢true}
+use Rattle.std.proofs.lemmas.List.Elements.{filter-append}
+use Rattle.far_word.specs.declared.refused.Refused.{Refused as Refusal}
+use Rattle.far_word.specs.Pointer.{read_of}
+use Rattle.far_core.specs.state.Law.{Law}
+use Rattle.far_core.specs.state.State.{State}
+use Rattle.far_book.specs.book.Releasing.{order_without}
+use Rattle.far_evac.specs.Choosing.{after_selecting}
+use Rattle.far_evac.specs.Live.{is_empty, live_in}
+use Rattle.far_evac.specs.Marking.{after_marking, leaves_some, marked_core}
+use Rattle.far_evac.specs.Moment.{Moment}
+use Rattle.far_evac.specs.MomentLaw.{MomentLaw}
+use Rattle.far_evac.specs.RoundSteps.{advanced, among}
+use Rattle.far_evac.specs.Turns.{Turned, turn_size, turned, turns_made}
+use Rattle.far_evac.specs.Waiting.{after_polling, first_open, polled_to}
+use Rattle.far_evac.specs.Walk.{Walked, Way, Drops, Goes, Moves, begun, dealt_first, dealt_so, ended, freed, is_done, left, passed, settled, walked, way_of}
+use Rattle.far_evac.specs.declared.phase.Phase.{Phase}
+use Rattle.far_evac.specs.declared.phase.Phase.TheVariants.{Idle, Marking, Waiting, Evacuating}
+use Rattle.far_evac.proofs.Bools.{or_left, or_right}
+use Rattle.far_evac.proofs.Onward.{or_split}
+use Rattle.far_text.specs.Command.{Command, Mutator, Book, Evacuator, By, Policy, Step, Select, Mark, Wait, Evacuate, Abort, Round}
+use Rattle.far_replay_laws.specs.Ages.{KeepsAges, MayGiveBack}
+use Rattle.far_replay.specs.Answers.{Commanded, IsMoment}
+use Rattle.far_replay.specs.Events.{IsTold}
+use Rattle.far_replay.specs.Moment.{with_core}
+use Rattle.far_replay.specs.Reply.{Reply}
+use Rattle.far_replay.specs.Rounds.{after_round, chosen_by, given_by, logs_given, refused_step, rows_in, step_effect}
+use Rattle.far_replay_laws.specs.Steps.{Takes}
+use Rattle.far_replay.specs.Turn.{effect, refusal, refused_effect, turn_effect, unless}
+use Rattle.far_replay_laws.proofs.CountedOnce.{among_in}
+use Rattle.far_replay.proofs.Lasting.{Lasts, moment_lasts}
+use Rattle.far_replay.proofs.RoundLeads.{step_stays}
+use Rattle.far_replay_laws.proofs.StepsTell.{held_chosen, policy_takes}
+use Rattle.far_replay.proofs.ToldRounds.{told_effect}
+
+-- ---- from one order to another
+-- but for some of these logs, those of the first come first, as they stood
+record Ages (logs a b : List ℕ) : Type 0 where
+  gone : ℕ → Bool
+  since : List ℕ
+  order : b ≡ filter (λ l. not (gone l)) a ++ since
+  given : (l : ℕ) → gone l ≡ true → among logs l ≡ true
+
+all_kept : (xs : List ℕ) → filter (λ _. true) xs ≡ xs
+all_kept [] = refl
+all_kept (x ∷ xs) = ap (λ ys. x ∷ ys) (all_kept xs)
+
+none_more : (xs : List ℕ) → xs ++ [] ≡ xs
+none_more [] = refl
+none_more (x ∷ xs) = ap (λ ys. x ∷ ys) (none_more xs)
+
+more_ages : (logs a since : List ℕ) → Ages logs a (a ++ since)
+more_ages logs a since = record { gone = λ _. false; since = since; order = ap (λ xs. xs ++ since) (sym (all_kept a)); given = λ l e. absurd (false≢true e) }
+
+same_ages : (logs a b : List ℕ) → b ≡ a → Ages logs a b
+same_ages logs a b e = subst (Ages logs a) (none_more a ∙ sym e) (more_ages logs a [])
+
+without_ages : (logs a : List ℕ) (l : ℕ) → among logs l ≡ true → Ages logs a (order_without l a)
+without_ages logs a l here = record {
+  gone = λ k. k == l;
+  since = [];
+  order = sym (none_more (order_without l a));
+  given = λ k e. subst (λ j. among logs j ≡ true) (sym (eqb-true k l e)) here;
+}
+
+twice : (f g : ℕ → Bool) (xs : List ℕ) → filter (λ l. not (g l)) (filter (λ l. not (f l)) xs) ≡ filter (λ l. not (f l || g l)) xs
+twice f g [] = refl
+twice f g (x ∷ xs) = at_first (f x) (twice f g xs) where
+  at_first : (b : Bool) → filter (λ l. not (g l)) (filter (λ l. not (f l)) xs) ≡ filter (λ l. not (f l || g l)) xs →
+      filter (λ l. not (g l)) (cond (not b) (x ∷ filter (λ l. not (f l)) xs) (filter (λ l. not (f l)) xs))
+      ≡ cond (not (b || g x)) (x ∷ filter (λ l. not (f l || g l)) xs) (filter (λ l. not (f l || g l)) xs)
+  at_first true rest = rest
+  at_first false rest = ap (λ ys. cond (not (g x)) (x ∷ ys) ys) rest
+
+join_ages : (logs a b c : List ℕ) → Ages logs a b → Ages logs b c → Ages logs a c
+join_ages logs a b c x y = record {
+  gone = λ l. x.gone l || y.gone l;
+  since = filter (λ l. not (y.gone l)) x.since ++ y.since;
+  order =
+      y.order
+      ∙ ap (λ xs. filter (λ l. not (y.gone l)) xs ++ y.since) x.order
+      ∙ ap (λ xs. xs ++ y.since) (filter-append (λ l. not (y.gone l)) (filter (λ l. not (x.gone l)) a) x.since)
+      ∙ append_assoc (filter (λ l. not (y.gone l)) (filter (λ l. not (x.gone l)) a)) (filter (λ l. not (y.gone l)) x.since) y.since
+      ∙ ap (λ xs. xs ++ (filter (λ l. not (y.gone l)) x.since ++ y.since)) (twice x.gone y.gone a);
+  given = λ l e. elim (or_split (x.gone l) (y.gone l) e) [ inl h ↦ x.given l h | inr h ↦ y.given l h ];
+}
+
+-- ---- a walk, which gives back logs of these alone
+record Walks (logs : List ℕ) (order : List ℕ) (w : Walked) : Type 0 where
+  ages : Ages logs order w.moment.order
+  within : (l : ℕ) → among w.moment.held l ≡ true → among logs l ≡ true
+
+passed_ages : (logs : List ℕ) (v : Walked) (ls : List ℕ) → ((l : ℕ) → among ls l ≡ true → among logs l ≡ true) → Walks logs v.moment.order (passed v ls)
+passed_ages logs v [] within = record { ages = same_ages logs v.moment.order v.moment.order refl; within = λ l e. absurd (false≢true e) }
+passed_ages logs v (l ∷ ls) within = cond_both (is_empty (live_in v.moment.core l)) (passed (freed v l) ls) (record v { moment = record v.moment { held = l ∷ ls } }) (Walks logs v.moment.order)
+    (λ _.
+    let rest = passed_ages logs (freed v l) ls (λ k e. within k (or_right (eqb k l) (among ls k) e)) in
+    record {
+      ages = join_ages logs v.moment.order (order_without l v.moment.order) (passed (freed v l) ls).moment.order (without_ages logs v.moment.order l (within l (or_left (eqb l l) (among ls l) (eq-eqb l l refl)))) rest.ages;
+      within = rest.within;
+    })
+    (λ _. record { ages = same_ages logs v.moment.order v.moment.order refl; within = within })
+
+so_ages : (logs : List ℕ) (v : Walked) (p : ℕ) (way : Way) → Ages logs v.moment.order (dealt_so v p way).moment.order
+so_ages logs v p Drops = same_ages logs v.moment.order v.moment.order refl
+so_ages logs v p (Moves place) = cond_both (place.log == v.moment.core.current) v.moment.order (v.moment.order ++ v.moment.core.current ∷ []) (Ages logs v.moment.order)
+    (λ _. same_ages logs v.moment.order v.moment.order refl) (λ _. more_ages logs v.moment.order (v.moment.core.current ∷ []))
+so_ages logs v p Goes = same_ages logs v.moment.order v.moment.order refl
+
+so_held : (v : Walked) (p : ℕ) (way : Way) → (dealt_so v p way).moment.held ≡ v.moment.held
+so_held v p Drops = refl
+so_held v p (Moves place) = refl
+so_held v p Goes = refl
+
+first_ages : (logs order : List ℕ) (v : Walked) (ps : List ℕ) → Walks logs order v → Walks logs order (dealt_first v ps)
+first_ages logs order v [] h = h
+first_ages logs order v (p ∷ ps) h =
+    let way = way_of v.moment.core (read_of (v.moment.core.cell p)) in
+    let u : Walked = dealt_so v p way in
+    let settling = passed_ages logs u u.moment.held (λ l e. h.within l (subst (λ xs. among xs l ≡ true) (so_held v p way) e)) in
+    record {
+      ages = join_ages logs order u.moment.order (settled u).moment.order (join_ages logs order v.moment.order u.moment.order h.ages (so_ages logs v p way)) settling.ages;
+      within = settling.within;
+    }
+
+walked_ages : (logs : List ℕ) (m : Moment) (n : ℕ) → ((l : ℕ) → among m.held l ≡ true → among logs l ≡ true) → Walks logs m.order (walked m n)
+walked_ages logs m zero within = passed_ages logs (begun m) m.held within
+walked_ages logs m (suc n) within = first_ages logs m.order (walked m n) (left (walked m n)) (walked_ages logs m n within)
+
+-- ---- moments
+record Stands (logs order : List ℕ) (m : Moment) : Type 0 where
+  ages : Ages logs order m.order
+  within : (l : ℕ) → among m.held l ≡ true → among logs l ≡ true
+
+ended_ages : (logs : List ℕ) (m : Moment) (n : ℕ) → ((l : ℕ) → among m.held l ≡ true → among logs l ≡ true) → Stands logs m.order (ended (walked m n))
+ended_ages logs m n within =
+    let w = walked m n in
+    let h = walked_ages logs m n within in
+    cond_both (is_done w) (record w.moment { phase = Idle }) w.moment (Stands logs m.order) (λ _. record { ages = h.ages; within = h.within }) (λ _. record { ages = h.ages; within = h.within })
+
+marked_ages : (logs order : List ℕ) (m : Moment) (n : ℕ) → Stands logs order m → Stands logs order (after_marking m n)
+marked_ages logs order m n h = cond_both (leaves_some m n) (record m { core = marked_core m n }) (record m { core = advanced (marked_core m n) m.held; phase = Waiting }) (Stands logs order)
+    (λ _. record { ages = h.ages; within = h.within }) (λ _. record { ages = h.ages; within = h.within })
+
+polled_ages : (logs order : List ℕ) (m : Moment) (o : Option ℕ) → Stands logs order m → Stands logs order (polled_to m o)
+polled_ages logs order m None h = record { ages = h.ages; within = h.within }
+polled_ages logs order m (Some k) h = record { ages = h.ages; within = h.within }
+
+turn_ages : (logs order : List ℕ) (r : Turned) (phase : Phase) → Stands logs order r.moment → Stands logs order (turned r phase).moment
+turn_ages logs order r Idle h = h
+turn_ages logs order r Marking h = marked_ages logs order r.moment turn_size h
+turn_ages logs order r Waiting h = polled_ages logs order r.moment (first_open r.moment.core) h
+turn_ages logs order r Evacuating h =
+    let x = ended_ages logs r.moment turn_size h.within in
+    record { ages = join_ages logs order r.moment.order (ended (walked r.moment turn_size)).order h.ages x.ages; within = x.within }
+
+turns_ages : (logs order : List ℕ) (m : Moment) (n : ℕ) → Stands logs order m → Stands logs order (turns_made m n).moment
+turns_ages logs order m zero h = h
+turns_ages logs order m (suc n) h =
+    let r = turns_made m n in
+    let x = turns_ages logs order m n h in
+    cond_both r.over r (turned r r.moment.phase) (λ (t : Turned). Stands logs order t.moment) (λ _. x) (λ _. turn_ages logs order r r.moment.phase x)
+
+-- ---- commands
+from_ages : (now : Moment) (c : Command) (after : Moment) (logs : List ℕ) → Ages logs now.order after.order → ((l : ℕ) → among logs l ≡ true → MayGiveBack now c l) → KeepsAges now c after
+from_ages now c after logs x may = record { gone = x.gone; since = x.since; order = x.order; given = λ l e. may l (x.given l e) }
+
+none_given : (now : Moment) (c : Command) (l : ℕ) → among [] l ≡ true → MayGiveBack now c l
+none_given now c l e = absurd (false≢true e)
+
+still : (now : Moment) (c : Command) (after : Moment) → after.order ≡ now.order → KeepsAges now c after
+still now c after e = from_ages now c after [] (same_ages [] now.order after.order e) (none_given now c)
+
+told_keeps : (now : Moment) (c : Command) → IsTold c → KeepsAges now c (effect now c)
+told_keeps now c told =
+    let t : State = (effect now c).core in
+    let ages : Ages [] now.order (with_core now t).order = cond_both (t.current == now.core.current) now.order (now.order ++ now.core.current ∷ []) (Ages [] now.order)
+    (λ _. same_ages [] now.order now.order refl) (λ _. more_ages [] now.order (now.core.current ∷ [])) in
+    from_ages now c (effect now c) [] (subst (λ (x : Moment). Ages [] now.order x.order) (sym (told_effect now c told)) ages) (none_given now c)
+
+selected_order : (now : Moment) (logs : List ℕ) → (after_selecting now logs).order ≡ now.order
+selected_order now [] = refl
+selected_order now (l ∷ ls) = refl
+
+marked_order : (now : Moment) (count : ℕ) → (after_marking now count).order ≡ now.order
+marked_order now count = cond_both (leaves_some now count) (record now { core = marked_core now count }) (record now { core = advanced (marked_core now count) now.held; phase = Waiting }) (λ (x : Moment). x.order ≡ now.order)
+    (λ _. refl) (λ _. refl)
+
+polled_order : (now : Moment) (o : Option ℕ) → (polled_to now o).order ≡ now.order
+polled_order now None = refl
+polled_order now (Some k) = refl
+
+module _ (now : Moment) (law : Law now.core) (moment : MomentLaw now) where
+  round_keeps : (policy : Policy) (most turns : ℕ) (logs : List ℕ) → chosen_by policy (rows_in now) most ≡ logs → KeepsAges now (Evacuator (Round policy most turns)) (after_round now logs turns)
+  round_keeps policy most turns [] e = still now (Evacuator (Round policy most turns)) now refl
+  round_keeps policy most turns (l ∷ ls) e =
+      let m : Moment = after_selecting now (l ∷ ls) in
+      let x = turns_ages (l ∷ ls) now.order m turns record { ages = same_ages (l ∷ ls) now.order now.order refl; within = λ k h. h } in
+      from_ages now (Evacuator (Round policy most turns)) (turns_made m turns).moment (l ∷ ls) x.ages
+      (λ k h. (l ∷ ls, subst (Takes now (By policy) most) e (policy_takes now law moment policy most), among_in k (l ∷ ls) h))
+
+  made_keeps : (step : Step) → KeepsAges now (Evacuator step) (step_effect now step)
+  made_keeps (Select choice most) = still now (Evacuator (Select choice most)) (step_effect now (Select choice most)) (selected_order now (logs_given (given_by choice (rows_in now) most)))
+  made_keeps (Mark count) = still now (Evacuator (Mark count)) (after_marking now count) (marked_order now count)
+  made_keeps Wait = still now (Evacuator Wait) (after_polling now) (polled_order now (first_open now.core))
+  made_keeps (Evacuate count) = from_ages now (Evacuator (Evacuate count)) (ended (walked now count)) now.held (ended_ages now.held now count (λ l h. h)).ages (held_chosen now moment)
+  made_keeps Abort = still now (Evacuator Abort) (step_effect now Abort) refl
+  made_keeps (Round policy most turns) = round_keeps policy most turns (chosen_by policy (rows_in now) most) refl
+
+  step_keeps : (step : Step) (o : Option Refusal) → refusal now (Evacuator step) ≡ o → KeepsAges now (Evacuator step) (unless o (refused_effect now (Evacuator step)) (turn_effect now (Evacuator step)))
+  step_keeps step None e = made_keeps step
+  step_keeps step (Some why) e = still now (Evacuator step) (refused_step now step why) (step_stays now step why e).round.0
+
+effect_keeps : (now : Moment) (c : Command) → Lasts now → KeepsAges now c (effect now c)
+effect_keeps now (Mutator m request) lasts = told_keeps now (Mutator m request) tt
+effect_keeps now (Book inquiry) lasts = told_keeps now (Book inquiry) tt
+effect_keeps now (Evacuator step) lasts = step_keeps now lasts.law lasts.round step (refusal now (Evacuator step)) refl
+
+pub ages_stay : (now : Moment) (c : Command) (r : Reply) (next : Moment) → IsMoment now → Commanded now c r next → KeepsAges now c next
+ages_stay now c r next is h = subst (KeepsAges now c) (sym h.moment) (effect_keeps now c (moment_lasts now is))

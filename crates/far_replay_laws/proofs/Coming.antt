@@ -1,0 +1,154 @@
+-- What events are for comes to pass: a pin gives a view where its object is at hand, and the naming of a new object wins.
+use Rattle.std.proofs.Common.{◌≡◌, ◌≢◌, ℕ, ◌+◌, ◌/◌, true, cond, nat_eq, nat_lt, refl, sym, ap, subst, ◌∙◌, is_some, Option, Some, None, List, [], ◌∷◌, ◌++◌, length, if◌then◌else◌}
+use Rattle.std.proofs.lemmas.Bool.{and_parts, cond_both, eq-eqb, ltb-true, true≢false}
+use Rattle.far_word.specs.declared.pointer.Place.{Place}
+use Rattle.far_word.specs.declared.refused.Refused.{Refused as Refusal}
+use Rattle.far_word.specs.declared.refused.Refused.TheVariants.{NoRoom, Closed, NotHeld, Range, Held, Marked}
+use Rattle.far_word.specs.declared.sizes.TheConstants.{CELLS}
+use Rattle.far_word.specs.Bytes.{packed_word}
+use Rattle.far_word.specs.Header.{head_word}
+use Rattle.far_word.specs.Pointer.{read_of}
+use Rattle.far_word.specs.Sizes.{size_of, words_for}
+use Rattle.far_core.specs.declared.event.Event.{Event}
+use Rattle.far_core.specs.declared.event.Event.TheVariants.{ReadEpoch as ReadsEpoch, Open as Opens, Pin as Pins, Load as Loads, Store as Stores, Adopt as Adopts, Put as Puts, Name as Names}
+use Rattle.far_core.specs.declared.event.Reply.{Reply as Answer}
+use Rattle.far_core.specs.declared.event.Reply.TheVariants.{Refused as Failed, Done as Wins, Word}
+use Rattle.far_core.specs.state.Law.{Law}
+use Rattle.far_core.specs.state.Room.{room}
+use Rattle.far_core.specs.state.State.{State}
+use Rattle.far_core.specs.events.Step.{step_of, is_legal, is_opened, after, answer, pin_answer}
+use Rattle.far_core.proofs.KeepOwner.{nonzero}
+use Rattle.far_text.specs.Command.{Command, New, Open, Write, Read, Close, Where, Drop, View, Try, Epoch, Mutator, Book, Evacuator}
+use Rattle.far_replay.specs.Dereference.{come, dereferenced, has_no_room, sought}
+use Rattle.far_replay.specs.Effects.{near_word, is_slow}
+use Rattle.far_replay.specs.EventRows.{after_events, ComesToPass, AllComeToPass, AtHand}
+use Rattle.far_replay.specs.Events.{IsTold, turn_events, refused_events, zero_puts, new_events, view_events, sought_events, come_events, dereference_events, load_events, store_events, first_loads, last_loads, part_events, first_word, words_touched, starts_inside, ends_inside}
+use Rattle.far_replay_laws.specs.Headline.{IsAtHandFor}
+use Rattle.far_replay.specs.Moment.{Moment}
+use Rattle.far_replay.specs.Objects.{uses, object_len, data_of, with_range, lowest_cell, is_range}
+use Rattle.far_replay.specs.Turn.{refusal, unless}
+use Rattle.far_replay.proofs.AloneStates.{lowest_free}
+use Rattle.far_replay.proofs.Drops.{drop_comes, unheld_is}
+use Rattle.far_text.proofs.Each.{Each, Each-append, Each-row}
+use Rattle.far_replay.proofs.MadeLemmas.{AllComeToPass-append}
+use Rattle.far_replay.proofs.Turns.{access_fact, room_lacks, room_last, three, tried, marked_last}
+use Rattle.far_replay.proofs.Views.{ready_of, Ready-view, hand_has_room, hand_is_fast}
+
+-- ---- events that any answer serves
+abbrev IsSure : Event → Type 0
+IsSure e = (r : Answer) → ComesToPass e r
+
+all_sure : (s : State) (es : List Event) → Each IsSure es → AllComeToPass s es
+all_sure s [] q = tt
+all_sure s (e ∷ es) q = (q.0 (step_of s e).1, all_sure (step_of s e).0 es q.1)
+
+loads : (m p first count : ℕ) → Each IsSure (load_events m p first count)
+loads m p first count = Each-row IsSure (λ i. Loads m p i) first count (λ i _ r. tt)
+
+parts : (m p from count : ℕ) → Each IsSure (part_events m p from count)
+parts m p from count =
+    Each-append IsSure (first_loads m p from count) (last_loads m p from count)
+    (cond_both (starts_inside from count) (Loads m p (from / 8) ∷ []) [] (Each IsSure) (λ _. ((λ r. tt), tt)) (λ _. tt))
+    (cond_both (ends_inside from count) (Loads m p ((from + count) / 8) ∷ []) [] (Each IsSure) (λ _. ((λ r. tt), tt)) (λ _. tt))
+
+stores : (m p first count : ℕ) (bytes : List ℕ) → Each IsSure (store_events m p first count bytes)
+stores m p first count bytes = Each-row IsSure (λ i. Stores m p i (packed_word bytes i)) first count (λ i _ r. tt)
+
+-- ---- a view
+pin_gives : (s : State) (m p : ℕ) → AtHand s p → ComesToPass (Pins m p) (step_of s (Pins m p)).1
+pin_gives s m p hand = cond_both (is_legal s (Pins m p)) (after s (Pins m p), answer s (Pins m p)) (s, Failed) (λ (x : State × Answer). ComesToPass (Pins m p) x.1)
+    (λ _. subst (ComesToPass (Pins m p)) (sym (ap (pin_answer (s.cell p)) (Ready-view (read_of (s.cell p)) (ready_of s p hand)))) tt) (λ _. tt)
+
+view_comes : (s : State) (m p : ℕ) → AtHand s p → AllComeToPass s (view_events s m p)
+view_comes s m p hand = cond_both (is_some (s.held p)) [] (Pins m p ∷ []) (AllComeToPass s) (λ _. tt) (λ _. (pin_gives s m p hand, tt))
+
+-- so a dereference is a pin then
+deref_comes : (s : State) (m p : ℕ) → AtHand s p → AllComeToPass s (dereference_events s m p)
+deref_comes s m p hand = subst (AllComeToPass s)
+    (sym (ap (λ b. if b then sought_events s m p ++ come_events (sought s m p) p ++ view_events (come (sought s m p) p) m p else view_events s m p) (hand_is_fast s p hand)))
+    (view_comes s m p hand)
+
+-- ---- a new object
+abbrev LeavesCells : Event → Type 0
+LeavesCells e = (t : State) → (step_of t e).0.cell ≡ t.cell
+
+cells_stay : (s : State) (es : List Event) → Each LeavesCells es → (after_events s es).cell ≡ s.cell
+cells_stay s [] q = refl
+cells_stay s (e ∷ es) q = cells_stay (step_of s e).0 es q.1 ∙ q.0 s
+
+put_leaves : (l at w : ℕ) → LeavesCells (Puts l at w)
+put_leaves l at w t = cond_both (is_legal t (Puts l at w)) (after t (Puts l at w), answer t (Puts l at w)) (t, Failed) (λ (x : State × Answer). x.0.cell ≡ t.cell) (λ _. refl) (λ _. refl)
+
+naming_wins : (s : State) (p new : ℕ) → s.cell p ≡ 0 → ComesToPass (Names p 0 new) (step_of s (Names p 0 new)).1
+naming_wins s p new free = cond_both (is_legal s (Names p 0 new)) (after s (Names p 0 new), answer s (Names p 0 new)) (s, Failed) (λ (x : State × Answer). ComesToPass (Names p 0 new) x.1)
+    (λ _. subst (ComesToPass (Names p 0 new)) (sym (ap (λ b. cond b Wins (Word (s.cell p))) (eq-eqb (s.cell p) 0 free))) tt) (λ _. tt)
+
+pub new_comes : (s : State) (m len ds : ℕ) (o : Option ℕ) (x : Option Place) → ((p : ℕ) → o ≡ Some p → s.cell p ≡ 0) → AllComeToPass s (new_events m len ds o x)
+new_comes s m len ds None x free = tt
+new_comes s m len ds (Some p) None free = tt
+new_comes s m len ds (Some p) (Some place) free =
+    let puts : List Event = Puts place.log place.at (head_word p len ds) ∷ zero_puts place (words_for len) in
+    let sure : Each IsSure puts = ((λ r. tt), Each-row IsSure (λ i. Puts place.log (place.at + 1 + i) 0) 0 (words_for len) (λ i _ r. tt)) in
+    let kept : Each LeavesCells puts =
+    (put_leaves place.log place.at (head_word p len ds), Each-row LeavesCells (λ i. Puts place.log (place.at + 1 + i) 0) 0 (words_for len) (λ i _. put_leaves place.log (place.at + 1 + (0 + i)) 0)) in
+    let still : (after_events s puts).cell p ≡ 0 = ap (λ (f : ℕ → ℕ). f p) (cells_stay s puts kept) ∙ free p refl in
+    AllComeToPass-append s puts (Names p 0 (near_word len ds place) ∷ Adopts m p ∷ []) (all_sure s puts sure) (naming_wins (after_events s puts) p (near_word len ds place) still, (tt, tt))
+
+-- ---- each command
+-- an object that is used is named
+is_named : (s : State) (m p : ℕ) → Law s → uses s m p ≡ true → s.cell p ≢ 0
+is_named s m p law ours = nonzero s law p (and_parts (nat_eq (p / CELLS) m) (s.used p) ours).1
+
+-- a refused command makes no event, where its object is at hand
+refused_come : (now : Moment) (c : Command) (why : Refusal) → IsTold c → refusal now c ≡ Some why → Law now.core → IsAtHandFor now c → AllComeToPass now.core (refused_events now c why)
+refused_come now (Mutator m (Write p from bytes)) NoRoom told e law hand =
+    let h = room_lacks (nat_lt m now.core.mutators) (is_opened now.core m) (uses now.core m p) (is_range (object_len now.core p) from (length bytes)) (has_no_room now.core m p) e in
+    absurd (true≢false (sym h.3 ∙ hand_has_room now.core m p (hand (is_named now.core m p law h.2))))
+refused_come now (Mutator m (Read p from len)) NoRoom told e law hand =
+    let h = room_lacks (nat_lt m now.core.mutators) (is_opened now.core m) (uses now.core m p) (is_range (object_len now.core p) from len) (has_no_room now.core m p) e in
+    absurd (true≢false (sym h.3 ∙ hand_has_room now.core m p (hand (is_named now.core m p law h.2))))
+refused_come now (Mutator m (View p)) NoRoom told e law hand =
+    let h = room_last (nat_lt m now.core.mutators) (is_opened now.core m) (uses now.core m p) (has_no_room now.core m p) e in
+    absurd (true≢false (sym h.3 ∙ hand_has_room now.core m p (hand (is_named now.core m p law h.2))))
+refused_come now (Mutator m (Try p)) (Marked word) told e law hand =
+    let h = marked_last (nat_lt m now.core.mutators) (is_opened now.core m) (uses now.core m p) (is_slow now.core p) (now.core.cell p) word e in
+    let at_hand : AtHand now.core p = hand (nonzero now.core law p (and_parts (nat_eq (p / CELLS) m) (now.core.used p) h.2).1) in
+    absurd (true≢false (sym h.3 ∙ hand_is_fast now.core p at_hand))
+refused_come now (Evacuator step) why told e law hand = absurd told
+refused_come now c why told e law hand = tt
+
+pub all_come : (now : Moment) (c : Command) (o : Option Refusal) → IsTold c → refusal now c ≡ o → Law now.core → IsAtHandFor now c →
+    AllComeToPass now.core (unless o (refused_events now c) (turn_events now c))
+all_come now c (Some why) told e law hand = refused_come now c why told e law hand
+all_come now (Mutator m (New len ds)) None told e law hand = new_comes now.core m len ds (lowest_cell now.core m) (room now.core (size_of len) true) (lowest_free now.core m)
+all_come now (Mutator m Open) None told e law hand =
+    cond_both (is_some (now.core.remembered m)) (Opens m ∷ []) (ReadsEpoch m ∷ Opens m ∷ []) (AllComeToPass now.core) (λ _. (tt, tt)) (λ _. (tt, (tt, tt)))
+all_come now (Mutator m (Write p from bytes)) None told e law hand =
+    let h = access_fact now.core m p from (length bytes) e in
+    let view : List Event = dereference_events now.core m p in
+    let part : List Event = part_events m p from (length bytes) in
+    let first : ℕ = first_word from in
+    let touched : ℕ = words_touched from (length bytes) in
+    let new : List ℕ = with_range (data_of (dereferenced now.core m p) p) from bytes in
+    AllComeToPass-append now.core (view ++ part) (store_events m p first touched new)
+    (AllComeToPass-append now.core view part (deref_comes now.core m p (hand (is_named now.core m p law h.ours))) (all_sure (after_events now.core view) part (parts m p from (length bytes))))
+    (all_sure (after_events now.core (view ++ part)) (store_events m p first touched new) (stores m p first touched new))
+all_come now (Mutator m (Read p from len)) None told e law hand =
+    let h = access_fact now.core m p from len e in
+    let view : List Event = dereference_events now.core m p in
+    let loaded : List Event = load_events m p (first_word from) (words_touched from len) in
+    AllComeToPass-append now.core view loaded (deref_comes now.core m p (hand (is_named now.core m p law h.ours))) (all_sure (after_events now.core view) loaded (loads m p (first_word from) (words_touched from len)))
+all_come now (Mutator m Close) None told e law hand = (tt, tt)
+all_come now (Mutator m (Where p)) None told e law hand = tt
+all_come now (Mutator m (Drop p)) None told e law hand =
+    let h = three (nat_lt m now.core.mutators) (uses now.core m p) (is_some (now.core.held p)) Range NotHeld Held e in
+    drop_comes now.core m p law (ltb-true m now.core.mutators h.0) h.1 (unheld_is (now.core.held p) h.2)
+all_come now (Mutator m (View p)) None told e law hand =
+    let h = tried (nat_lt m now.core.mutators) (is_opened now.core m) (uses now.core m p) (has_no_room now.core m p) Range Closed NotHeld NoRoom e in
+    deref_comes now.core m p (hand (is_named now.core m p law h.2))
+all_come now (Mutator m (Try p)) None told e law hand =
+    let h = tried (nat_lt m now.core.mutators) (is_opened now.core m) (uses now.core m p) (is_slow now.core p) Range Closed NotHeld (Marked (now.core.cell p)) e in
+    view_comes now.core m p (hand (nonzero now.core law p (and_parts (nat_eq (p / CELLS) m) (now.core.used p) h.2).1))
+all_come now (Mutator m Epoch) None told e law hand = (tt, tt)
+all_come now (Book inquiry) None told e law hand = tt
+all_come now (Evacuator step) None told e law hand = absurd told

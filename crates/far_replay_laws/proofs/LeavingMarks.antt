@@ -1,0 +1,277 @@
+-- Which marks a dereference leaves, whether it is refused or not.
+use Rattle.std.proofs.Common.{◌≡◌, ◌≢◌, ℕ, ◌/◌, ◌^◌, Bool, true, false, not, nat_lt, nat_eq, refl, sym, ap, subst, ◌∙◌, is_some, Option, Some, None, Ok, List, [], ◌∷◌, ◌++◌, length, bit_or, if◌then◌else◌}
+use Rattle.std.specs.Prelude.{◌&&◌, ◌||◌}
+use Rattle.std.proofs.lemmas.Bool.{and_parts, cond_both, false≢true, not-false, not-true}
+use Rattle.far_word.specs.declared.mark.Mark.TheVariants.{Hot}
+use Rattle.far_word.specs.declared.pointer.Place.{Place}
+use Rattle.far_word.specs.declared.pointer.PtrWord.{PtrWord}
+use Rattle.far_word.specs.declared.pointer.PtrWord.TheVariants.{Free, Near, Far}
+use Rattle.far_word.specs.declared.refused.Refused.{Refused as Refusal}
+use Rattle.far_word.specs.declared.refused.Refused.TheVariants.{NoRoom, Closed, NotHeld, Range, Marked as MarkFound}
+use Rattle.far_word.specs.declared.sizes.TheConstants.{CELLS}
+use Rattle.far_word.specs.Mark.{position}
+use Rattle.far_word.specs.Pointer.{read_of}
+use Rattle.far_core.specs.events.Step.{after_pin, is_opened, place_to_view}
+use Rattle.far_core.specs.state.Law.{Law, in_use}
+use Rattle.far_core.specs.state.Shape.{is_shape}
+use Rattle.far_core.specs.state.State.{State}
+use Rattle.far_core.proofs.Cells.{map_mark, read_hot}
+use Rattle.far_core.proofs.Put.{put_other, put_same}
+use Rattle.far_core.proofs.Bounds.{some_of}
+use Rattle.far_log.proofs.Members.{All-from}
+use Rattle.far_text.specs.Command.{Command, Heap, New, Open, Write, Read, Close, Where, Drop, View, Try, Epoch, Mutator, Book, Evacuator}
+use Rattle.far_text.specs.Grammar.{trace_of}
+use Rattle.far_text.specs.Written.{AllWriteBytes}
+use Rattle.far_replay.specs.Answers.{Answered, Answers, Commanded, IsMoment, first_moment, shape_of}
+use Rattle.far_replay.specs.Dereference.{come, comes_to, dereferenced, has_no_room, sought}
+use Rattle.far_replay.specs.Effects.{is_slow, with_data, with_view}
+use Rattle.far_replay.specs.Events.{come_events}
+use Rattle.far_replay.specs.Taking.{LacksRoom}
+use Rattle.far_replay_laws.specs.LeftMarks.{AllLeaveMarks, GainsForRoom, GainsHot, IsHotAlone, LeavesHot, LeavesMarks, MarksAreLeft, OthersStay, RefusedLeaves, TryLeaves, ViewedAreHot, is_hot}
+use Rattle.far_replay.specs.Moment.{Moment}
+use Rattle.far_replay.specs.Objects.{uses}
+use Rattle.far_replay.specs.Reply.{Reply, Refused}
+use Rattle.far_replay.specs.Turn.{access_causes, causes, first_cause, refusal, unless, turn_effect, refused_effect, turn_reply, reply_to}
+use Rattle.far_replay.proofs.Bringing.{asked_keeps, brought_keeps, slow_unheld}
+use Rattle.far_replay.proofs.Brought.{brought}
+use Rattle.far_replay.proofs.Dereferences.{sought_lacks, sought_law, sought_may, sought_word}
+use Rattle.far_replay.proofs.Drops.{unheld_is, viewed_is}
+use Rattle.far_replay_laws.proofs.HotViews.{moment_hot, views_are_hot}
+use Rattle.far_replay.proofs.Lasting.{each_is_moment, first_is_moment, moment_lasts, next_is_moment}
+use Rattle.far_replay.proofs.Leading.{leads_law}
+use Rattle.far_replay_laws.proofs.OutputLaws.{outputs_sound}
+use Rattle.far_replay_laws.proofs.Refusals.{EachFirst, among}
+use Rattle.far_replay.proofs.TakingView.{asked_word}
+use Rattle.far_replay.proofs.Turns.{access_fact, tried}
+use Rattle.far_replay.proofs.Views.{anew_is, fast_dereference, fast_seen, Already, Anew, Seen, pin_read, slow_parts}
+
+-- ---- what a cell says with HOT, and with MOVE
+hot_gained : (o n : Option PtrWord) → in_use o ≡ true → n ≡ map_mark Hot o → GainsHot o n
+hot_gained None n used e = absurd (false≢true used)
+hot_gained (Some Free) n used e = absurd (false≢true used)
+hot_gained (Some (Near len ds place m)) n used e = e
+hot_gained (Some (Far len ds m)) n used e = e
+
+wanted : (s : State) (o n : Option PtrWord) → LacksRoom s o → n ≡ asked_word o → GainsForRoom o n
+wanted s None n h e = absurd h
+wanted s (Some Free) n h e = absurd h
+wanted s (Some (Near len ds place m)) n h e = (h.0, e ∙ ap (λ b. Some (Near len ds place record { hot = true; evac = b; moved = true; dropped = m.dropped })) h.0)
+wanted s (Some (Far len ds m)) n h e = e
+
+-- a pin gives a view of what has no mark but HOT
+bare : (a b c : Bool) (at place : Place) → (if a || b || c then None else Some at) ≡ Some place → (a ≡ false) × (b ≡ false) × (c ≡ false)
+bare true b c at place e = absurd cc
+bare false true c at place e = absurd cc
+bare false false true at place e = absurd cc
+bare false false false at place e = (refl, refl, refl)
+
+pinned_alone : (o : Option PtrWord) (place : Place) → place_to_view o ≡ Some place → IsHotAlone (map_mark Hot o)
+pinned_alone None place e = absurd cc
+pinned_alone (Some Free) place e = absurd cc
+pinned_alone (Some (Near len ds at m)) place e =
+    let none = bare m.evac m.moved m.dropped at place e in (
+      len,
+      ds,
+      at,
+      ap (λ b. Some (Near len ds at record { hot = true; evac = b; moved = m.moved; dropped = m.dropped })) none.0
+          ∙ ap (λ b. Some (Near len ds at record { hot = true; evac = false; moved = b; dropped = m.dropped })) none.1
+          ∙ ap (λ b. Some (Near len ds at record { hot = true; evac = false; moved = false; dropped = b })) none.2,
+    )
+pinned_alone (Some (Far len ds m)) place e = absurd cc
+
+-- ---- the cells after a view
+view_cells : (s : State) (p q : ℕ) → q ≢ p → (with_view s p).cell q ≡ s.cell q
+view_cells s p q ne = cond_both (is_some (s.held p)) s (after_pin s p) (λ (t : State). t.cell q ≡ s.cell q) (λ _. refl) (λ _. put_other s.cell p (bit_or (s.cell p) (2 ^ position Hot)) q ne)
+
+record Left (s : State) (p : ℕ) (cell : ℕ → ℕ) : Type 0 where
+  again : is_some (s.held p) ≡ true → cell p ≡ s.cell p
+  anew : is_some (s.held p) ≡ false → IsHotAlone (read_of (cell p))
+  others : (q : ℕ) → q ≢ p → cell q ≡ s.cell q
+
+leaves_hot : (s t : State) (p : ℕ) → Left s p t.cell → (is_some (s.held p) ≡ true → is_hot (read_of (s.cell p)) ≡ true) → LeavesHot s t p
+leaves_hot s t p left hot = record {
+  hot = by_view (is_some (s.held p)) refl;
+  again = λ viewed. left.again (viewed_is s p true viewed);
+  anew = λ free. left.anew (viewed_is s p false free);
+  others = left.others;
+} where
+  by_view : (b : Bool) → is_some (s.held p) ≡ b → is_hot (read_of (t.cell p)) ≡ true
+  by_view true e = ap (λ w. is_hot (read_of w)) (left.again e) ∙ hot e
+  by_view false e = ap is_hot (left.anew e).3
+
+module _ (s : State) (m p : ℕ) (law : Law s) (opened : is_opened s m ≡ true) (ours : uses s m p ≡ true) where
+  used : s.used p ≡ true
+  used = (and_parts (nat_eq (p / CELLS) m) (s.used p) ours).1
+
+  pin_says : is_some (s.held p) ≡ false → read_of ((with_view s p).cell p) ≡ map_mark Hot (read_of (s.cell p))
+  pin_says free = ap (λ (t : State). read_of (t.cell p)) (anew_is s p (unheld_is (s.held p) free)) ∙ pin_read s m p law opened ours
+
+  -- by a pin alone
+  fast_left : is_slow s p ≡ false → Left s p (with_view s p).cell
+  fast_left fast = record {
+    again = λ e. ap (λ b. (if b then s else after_pin s p).cell p) e;
+    anew = λ free. subst IsHotAlone (sym (pin_says free)) (by_seen free (fast_seen s p fast));
+    others = view_cells s p;
+  } where
+    by_seen : is_some (s.held p) ≡ false → Seen s p → IsHotAlone (map_mark Hot (read_of (s.cell p)))
+    by_seen free (Already place e) = absurd (false≢true (sym free ∙ ap is_some e))
+    by_seen free (Anew place e can_view) = pinned_alone (read_of (s.cell p)) place can_view
+
+  -- a pin that finds a mark
+  found_gains : is_slow s p ≡ true → GainsHot (read_of (s.cell p)) (read_of ((with_view s p).cell p))
+  found_gains slow = hot_gained (read_of (s.cell p)) (read_of ((with_view s p).cell p)) (law.views.used_cell p used) (pin_says (slow_parts s p slow).0)
+
+  -- want of room
+  room_gains : has_no_room s m p ≡ true → GainsForRoom (read_of (s.cell p)) (read_of ((sought s m p).cell p)) × OthersStay s (sought s m p) p
+  room_gains full =
+      let both = and_parts (is_slow s p) (not (is_some (comes_to (sought s m p) p))) full in
+      let none = unheld_is (comes_to (sought s m p) p) (not-true (is_some (comes_to (sought s m p) p)) both.1) in
+      let pinned : State = with_view s p in (
+        wanted s (read_of (s.cell p)) (read_of ((sought s m p).cell p)) (sought_lacks s m p law opened ours both.0 none).1 (sought_word s m p law opened ours both.0),
+        (λ q ne. (asked_keeps pinned m p (read_of (pinned.cell p))).cells q ne ∙ view_cells s p q ne),
+      )
+
+  -- a pin, the owner's asking, what brings the object, and a pin again
+  slow_left : (place : Place) → is_slow s p ≡ true → comes_to (sought s m p) p ≡ Some place → Left s p (dereferenced s m p).cell
+  slow_left place slow found =
+      let pinned : State = with_view s p in
+      let there : State = come (sought s m p) p in
+      let comes = brought (sought s m p) (sought_law s m p law opened ours slow) p place (sought_may s m p law opened ours slow) found in
+      let there_law = leads_law (sought s m p) there (come_events (sought s m p) p) (sought_law s m p law opened ours slow) comes.leads in
+      let owners = brought_keeps pinned m p in
+      let unheld : there.held p ≡ None = ap (λ (f : ℕ → Option Place). f p) owners.held ∙ slow_unheld s pinned m p refl slow in
+      let ends : (dereferenced s m p).cell ≡ (after_pin there p).cell =
+      ap (λ b. (if b then with_view (come (sought s m p) p) p else with_view s p).cell) slow ∙ ap (λ (t : State). t.cell) (anew_is there p unheld) in
+      let says : read_of ((after_pin there p).cell p) ≡ map_mark Hot (read_of (there.cell p)) =
+      ap read_of (put_same there.cell p (bit_or (there.cell p) (2 ^ position Hot)) p refl) ∙ (read_hot (there.cell p) (there_law.cells.cell_read p).0 (ap in_use comes.near)).0 in
+      record {
+        again = λ e. absurd (false≢true (sym (slow_parts s p slow).0 ∙ e));
+        anew = λ free. (comes.len, comes.ds, comes.place, ap (λ (f : ℕ → ℕ). read_of (f p)) ends ∙ says ∙ ap (map_mark Hot) comes.near);
+        others = λ q ne. ap (λ (f : ℕ → ℕ). f q) ends ∙ put_other there.cell p (bit_or (there.cell p) (2 ^ position Hot)) q ne ∙ owners.cells q ne ∙ view_cells s p q ne;
+      }
+
+  left_by : (b : Bool) → is_slow s p ≡ b → (b && not (is_some (comes_to (sought s m p) p))) ≡ false → Left s p (dereferenced s m p).cell
+  left_by true slow room = let at = some_of (comes_to (sought s m p) p) (not-false (is_some (comes_to (sought s m p) p)) room) in slow_left at.0 slow at.1
+  left_by false fast room = subst (λ (t : State). Left s p t.cell) (sym (fast_dereference s m p fast)) (fast_left fast)
+
+  left : has_no_room s m p ≡ false → Left s p (dereferenced s m p).cell
+  left room = left_by (is_slow s p) refl room
+
+-- ---- each command
+-- what a refusal leaves, by its cause
+access_refused : (now : Moment) (m p from count : ℕ) (why : Refusal) (after : Refusal → Moment) → Law now.core → (after Range ≡ now) → (after Closed ≡ now) → (after NotHeld ≡ now) →
+    ((after NoRoom).core ≡ sought now.core m p) → first_cause (access_causes now m p from count ++ (has_no_room now.core m p, NoRoom) ∷ []) ≡ Some why →
+    RefusedLeaves now.core p why (after why).core
+access_refused now m p from count why after law range closed unused full e =
+    among (λ x. RefusedLeaves now.core p x (after x).core) (access_causes now m p from count ++ (has_no_room now.core m p, NoRoom) ∷ []) why each e where
+      each : EachFirst (λ x. RefusedLeaves now.core p x (after x).core) (access_causes now m p from count ++ (has_no_room now.core m p, NoRoom) ∷ [])
+      each =
+          let cells : (x : Moment) → x ≡ now → x.core.cell ≡ now.core.cell = λ x e. ap (λ (y : Moment). y.core.cell) e in (
+            (λ _. cells (after Range) range),
+            λ _. (
+              (λ _. cells (after Closed) closed),
+              λ shut. (
+                (λ _. cells (after NotHeld) unused),
+                λ other. (
+                  (λ _. cells (after Range) range),
+                  λ _. (
+                    (λ lacks.
+                        subst (λ (t : State). GainsForRoom (read_of (now.core.cell p)) (read_of (t.cell p)) × OthersStay now.core t p) (sym full)
+                        (room_gains now.core m p law (not-false (is_opened now.core m) shut) (not-false (uses now.core m p) other) lacks)),
+                    λ _. tt,
+                  ),
+                ),
+              ),
+            ),
+          )
+
+view_refused : (now : Moment) (m p : ℕ) (why : Refusal) → Law now.core → refusal now (Mutator m (View p)) ≡ Some why →
+    RefusedLeaves now.core p why (refused_effect now (Mutator m (View p)) why).core
+view_refused now m p why law e = among (λ x. RefusedLeaves now.core p x (refused_effect now (Mutator m (View p)) x).core) (causes now (Mutator m (View p))) why (
+  (λ _. refl),
+  λ _. (
+    (λ _. refl),
+    λ shut. (
+      (λ _. refl),
+      λ other. (
+        (λ lacks.
+            room_gains now.core m p law (not-false (is_opened now.core m) shut) (not-false (uses now.core m p) other) lacks),
+        λ _. tt,
+      ),
+    ),
+  ),
+) e
+
+try_refused : (now : Moment) (m p : ℕ) (why : Refusal) → Law now.core → refusal now (Mutator m (Try p)) ≡ Some why →
+    TryLeaves now.core p why (refused_effect now (Mutator m (Try p)) why).core
+try_refused now m p why law e = among (λ x. TryLeaves now.core p x (refused_effect now (Mutator m (Try p)) x).core) (causes now (Mutator m (Try p))) why (
+  (λ _. refl),
+  λ _. (
+    (λ _. refl),
+    λ shut. (
+      (λ _. refl),
+      λ other. (
+        (λ slow.
+            (refl, found_gains now.core m p law (not-false (is_opened now.core m) shut) (not-false (uses now.core m p) other) slow, view_cells now.core p)),
+        λ _. tt,
+      ),
+    ),
+  ),
+) e
+
+leaves : (now : Moment) (c : Command) (o : Option Refusal) → IsMoment now → refusal now c ≡ o →
+    LeavesMarks now.core c (unless o Refused (turn_reply now c)) (unless o (refused_effect now c) (turn_effect now c)).core
+leaves now (Mutator m (New len ds)) o is e = tt
+leaves now (Mutator m Open) o is e = tt
+leaves now (Mutator m (Write p from bytes)) None is e =
+    let access = access_fact now.core m p from (length bytes) e in
+    leaves_hot now.core (with_data (dereferenced now.core m p) p from bytes) p (left now.core m p (moment_lasts now is).law access.opened access.ours access.room) (moment_hot now is p)
+leaves now (Mutator m (Write p from bytes)) (Some why) is e =
+    access_refused now m p from (length bytes) why (refused_effect now (Mutator m (Write p from bytes))) (moment_lasts now is).law refl refl refl refl e
+leaves now (Mutator m (Read p from len)) None is e =
+    let access = access_fact now.core m p from len e in
+    leaves_hot now.core (dereferenced now.core m p) p (left now.core m p (moment_lasts now is).law access.opened access.ours access.room) (moment_hot now is p)
+leaves now (Mutator m (Read p from len)) (Some why) is e =
+    access_refused now m p from len why (refused_effect now (Mutator m (Read p from len))) (moment_lasts now is).law refl refl refl refl e
+leaves now (Mutator m Close) o is e = tt
+leaves now (Mutator m (Where p)) o is e = tt
+leaves now (Mutator m (Drop p)) o is e = tt
+leaves now (Mutator m (View p)) None is e =
+    let h = tried (nat_lt m now.core.mutators) (is_opened now.core m) (uses now.core m p) (has_no_room now.core m p) Range Closed NotHeld NoRoom e in
+    leaves_hot now.core (dereferenced now.core m p) p (left now.core m p (moment_lasts now is).law h.1 h.2 h.3) (moment_hot now is p)
+leaves now (Mutator m (View p)) (Some why) is e = view_refused now m p why (moment_lasts now is).law e
+leaves now (Mutator m (Try p)) None is e =
+    let h = tried (nat_lt m now.core.mutators) (is_opened now.core m) (uses now.core m p) (is_slow now.core p) Range Closed NotHeld (MarkFound (now.core.cell p)) e in
+    leaves_hot now.core (with_view now.core p) p (fast_left now.core m p (moment_lasts now is).law h.1 h.2 h.3) (moment_hot now is p)
+leaves now (Mutator m (Try p)) (Some why) is e = try_refused now m p why (moment_lasts now is).law e
+leaves now (Mutator m Epoch) o is e = tt
+leaves now (Book inquiry) o is e = tt
+leaves now (Evacuator step) o is e = tt
+
+pub commands_leave : (now : Moment) (c : Command) (r : Reply) (next : Moment) → IsMoment now → Commanded now c r next → LeavesMarks now.core c r next.core
+commands_leave now c r next is h =
+    subst (λ x. LeavesMarks now.core c x next.core) (sym h.reply)
+    (subst (λ (x : Moment). LeavesMarks now.core c (reply_to now c) x.core) (sym h.moment) (leaves now c (refusal now c) is refl))
+
+all_leave : (now : Moment) (cs : List Command) (rs : List Reply) (moments : List Moment) → IsMoment now → AllWriteBytes cs → Answered now cs rs moments → AllLeaveMarks now cs rs moments
+all_leave now [] rs moments is bytes h = tt
+all_leave now (c ∷ cs) [] moments is bytes h = tt
+all_leave now (c ∷ cs) (r ∷ rs) [] is bytes h = tt
+all_leave now (c ∷ cs) (r ∷ rs) (next ∷ moments) is bytes h =
+    (commands_leave now c r next is h.0, all_leave next cs rs moments (next_is_moment now c r next is bytes.0 h.0) bytes.1 h.1)
+
+pub texts_leave : (text output : List ℕ) (logs mutators epoch : ℕ) (cs : List Command) → Answers text output → trace_of text ≡ Ok (Heap logs mutators epoch cs) →
+    is_shape (shape_of logs mutators epoch) ≡ true → MarksAreLeft logs mutators epoch cs output
+texts_leave text output logs mutators epoch cs answers reads fits =
+    let x = outputs_sound text output logs mutators epoch cs answers reads fits in
+    let first : Moment = first_moment logs mutators epoch in
+    let is = first_is_moment logs mutators epoch fits in
+    record {
+      replies = x.replies;
+      moments = x.moments;
+      answered = x.answered;
+      printed_so = x.printed_so;
+      left = all_leave first cs x.replies x.moments is x.bytes x.answered;
+      hot = All-from (λ (now : Moment). ViewedAreHot now.core) (first ∷ x.moments)
+          (λ y c. views_are_hot y (each_is_moment first cs x.replies x.moments is x.bytes x.answered y c));
+    }

@@ -1,0 +1,234 @@
+-- What each step of the evacuator leaves of objects.
+use Rattle.std.proofs.Common.{◌≡◌, ℕ, ◌^◌, ◌<◌, true, false, not, Option, Some, None, List, [], ◌∷◌, ap, sym, refl, ◌∙◌, subst, inl, inr}
+use Rattle.far_word.specs.declared.mark.Marks.{Marks}
+use Rattle.far_word.specs.declared.refused.Refused.{Refused as Refusal}
+use Rattle.far_word.specs.declared.refused.Refused.TheVariants.{Phase as WrongPhase, StillOpen}
+use Rattle.far_word.specs.Pointer.{read_of}
+use Rattle.far_core.specs.state.Law.{Law}
+use Rattle.far_core.specs.state.State.{State}
+use Rattle.far_core.specs.world.Steps.{with_home}
+use Rattle.far_core.specs.world.World.{FarSide, Object}
+use Rattle.far_core.specs.world.WorldOf.{world_of}
+use Rattle.far_book.specs.book.Dealing.{has_evac}
+use Rattle.far_evac.specs.Choosing.{after_aborting, after_selecting}
+use Rattle.far_evac.specs.Live.{live_among}
+use Rattle.far_evac.specs.Marking.{after_marking, newly_marked}
+use Rattle.far_evac.specs.Moment.{Moment}
+use Rattle.far_evac.specs.MomentLaw.{MomentLaw}
+use Rattle.far_evac.specs.Owned.{anywhere}
+use Rattle.far_evac.specs.Waiting.{first_open, polled_to}
+use Rattle.far_evac.specs.Walk.{ended, walked}
+use Rattle.far_evac.specs.declared.phase.Phase.TheVariants.{Evacuating}
+use Rattle.far_evac.proofs.Leading.{selecting}
+use Rattle.far_evac.proofs.Marks.{is_given_up, is_marked}
+use Rattle.far_text.specs.Command.{Command, Mutator, Book, Evacuator, By, Policy, Step, Select, Mark, Wait, Evacuate, Abort, Round}
+use Rattle.far_text.specs.Written.{AllWriteBytes}
+use Rattle.far_replay.specs.Answers.{Answered, Commanded, IsMoment}
+use Rattle.far_replay_laws.specs.Left.{AllLeave, AllStayPut, CellBy, DealsWith, IsAnywhere, Leaves, LeavesRest, MarksBy, SomeStay, StaysMarked, StaysPut, StepLeaves}
+use Rattle.far_replay.specs.Reply.{Reply, Done, Refused, Selected}
+use Rattle.far_replay.specs.Rounds.{after_round, chosen_by, given_by, is_evacuating, logs_given, refused_step, rows_in, step_effect, step_reply}
+use Rattle.far_replay_laws.specs.Steps.{IsChosen, LiesIn}
+use Rattle.far_replay.specs.Turn.{effect, reply_to, refusal, refused_effect, turn_effect, turn_reply, unless}
+use Rattle.far_replay_laws.proofs.CountedOnce.{all_at, in_among, member_or_apart}
+use Rattle.far_replay.proofs.Lasting.{Lasts, moment_lasts, still_lasts}
+use Rattle.far_replay_laws.proofs.LeftByWalks.{IsApart, apart_from, ended_put, framed_put, marked_frame, marking_frame, marking_put, polling_put, put_none, turns_put}
+use Rattle.far_replay_laws.proofs.Unreached.{EvacIs, cell_still, ended_fate, evac_alone, evac_object, has_stayed, marked_none, turns_fate}
+use Rattle.far_replay.proofs.RoundChoices.{policy_chooses}
+use Rattle.far_replay.proofs.RoundLeads.{begins, evacuating_is, made_leaves, none_first, step_keeps}
+use Rattle.far_replay_laws.proofs.Standing.{stands}
+use Rattle.far_replay_laws.proofs.StepsTell.{held_chosen}
+use Rattle.far_replay_laws.proofs.TurnsTell.{made_so}
+
+-- ---- each object is what it was
+anywhere_is : (o x : Option Object) → anywhere x ≡ anywhere o → IsAnywhere o x
+anywhere_is None None e = tt
+anywhere_is None (Some x) e = absurd cc
+anywhere_is (Some o) None e = absurd cc
+anywhere_is (Some o) (Some x) e =
+    let same : with_home x FarSide ≡ with_home o FarSide = cc in
+    (ap (λ (y : Object). y.owner) same, ap (λ (y : Object). y.ds) same, ap (λ (y : Object). y.bytes) same)
+
+objects_are : (now : Moment) (step : Step) → Law now.core → MomentLaw now → (p : ℕ) → IsAnywhere ((world_of now.core).object p) ((world_of (effect now (Evacuator step)).core).object p)
+objects_are now step law moment p = anywhere_is ((world_of now.core).object p) ((world_of (effect now (Evacuator step)).core).object p) ((step_keeps now step law moment).object p)
+
+-- ---- where no cell changes
+still_put : (now : Moment) (step : Step) (r : Reply) (t : State) → ((a : Marks) → MarksBy step r a a) → t ≡ record now.core { clear = t.clear } → AllStayPut now.core step r t
+still_put now step r t same is = subst (AllStayPut now.core step r) (sym is) record {
+  cells = λ p. cell_still (MarksBy step r) same (read_of (now.core.cell p));
+  objects = λ p. evac_object now.core (record now.core { clear = t.clear }) refl p refl;
+  rest = refl;
+}
+
+clear_put : (s t : State) (q : ℕ) → t ≡ record s { clear = t.clear } → StaysPut s t q
+clear_put s t q is = subst (λ (u : State). StaysPut s u q) (sym is) (framed_put s (record s { clear = t.clear }) q refl refl)
+
+polled_still : (now : Moment) (o : Option ℕ) → (polled_to now o).core ≡ record now.core { clear = (polled_to now o).core.clear }
+polled_still now None = refl
+polled_still now (Some k) = refl
+
+chosen_still : (now : Moment) (logs : List ℕ) → (after_selecting now logs).core ≡ record now.core { clear = (after_selecting now logs).core.clear }
+chosen_still now [] = refl
+chosen_still now (l ∷ ls) = refl
+
+refused_wait : (now : Moment) (why : Refusal) → (refused_step now Wait why).core ≡ record now.core { clear = (refused_step now Wait why).core.clear }
+refused_wait now (StillOpen mutator epoch) = polled_still now (first_open now.core)
+refused_wait now why = refl
+
+refused_still : (now : Moment) (step : Step) (why : Refusal) → (refused_step now step why).core ≡ record now.core { clear = (refused_step now step why).core.clear }
+refused_still now (Select choice most) why = refl
+refused_still now (Mark count) why = refl
+refused_still now Wait why = refused_wait now why
+refused_still now (Evacuate count) why = refl
+refused_still now Abort why = refl
+refused_still now (Round policy most turns) why = refl
+
+-- ---- a step that is refused
+refused_rest : (now : Moment) (step : Step) (why : Refusal) → LeavesRest now step (Refused why) (refused_step now step why)
+refused_rest now (Select choice most) why = still_put now (Select choice most) (Refused why) now.core (λ a. refl) refl
+refused_rest now (Mark count) why = still_put now (Mark count) (Refused why) now.core (λ a. refl) refl
+refused_rest now Wait why = still_put now Wait (Refused why) (refused_step now Wait why).core (λ a. refl) (refused_wait now why)
+refused_rest now (Evacuate count) why = still_put now (Evacuate count) (Refused why) now.core (λ a. refl) refl
+refused_rest now Abort why = still_put now Abort (Refused why) now.core (λ a. refl) refl
+refused_rest now (Round policy most turns) why = still_put now (Round policy most turns) (Refused why) now.core (λ a. refl) refl
+
+-- ---- a step that is made
+module _ (now : Moment) (law : Law now.core) (moment : MomentLaw now) where
+  fits : (p : ℕ) → now.core.cell p < 2 ^ 64
+  fits p = (law.cells.cell_read p).0
+
+  abbrev NotDealt : Step → ℕ → Type 0
+  NotDealt step p = (l : ℕ) → DealsWith now step l → ¬ LiesIn now.core p l
+
+  apart_if : (p : ℕ) → ((l : ℕ) → IsChosen now l → ¬ LiesIn now.core p l) → IsApart now.core now.held p
+  apart_if p none l c = none l (held_chosen now moment l (in_among l now.held c))
+
+  marks_rest : (count : ℕ) → AllStayPut now.core (Mark count) (step_reply now (Mark count)) (after_marking now count).core
+  marks_rest count =
+      let t : State = (after_marking now count).core in
+      let is = is_marked now count fits in
+      record {
+        cells = λ p. elim (member_or_apart p (newly_marked now count)) [
+          | inl c ↦ evac_alone true (read_of (now.core.cell p)) (read_of (t.cell p)) (all_at (λ q. has_evac (read_of (t.cell q)) ≡ true) p (newly_marked now count) is.now c) (is.same p)
+          | inr apart ↦ subst (λ w. CellBy (EvacIs true) (read_of (now.core.cell p)) (read_of w)) (sym (is.others p apart)) (cell_still (EvacIs true) (λ a. inl refl) (read_of (now.core.cell p)))
+        ];
+        objects = λ p. evac_object now.core t (marking_frame now count) p (is.same p);
+        rest = marking_frame now count;
+      }
+
+  abort_frame : (after_aborting now).core ≡ marked_frame now.core (after_aborting now).core
+  abort_frame = let is = ap (λ (m : Moment). m.core) (is_given_up now fits).rest in is ∙ sym (ap (marked_frame now.core) is)
+
+  abort_rest : AllStayPut now.core Abort Done (after_aborting now).core
+  abort_rest =
+      let t : State = (after_aborting now).core in
+      let is = is_given_up now fits in
+      let lived = live_among now.core now.held in
+      record {
+        cells = λ p. elim (member_or_apart p lived) [
+          | inl c ↦ evac_alone false (read_of (now.core.cell p)) (read_of (t.cell p)) (all_at (λ q. has_evac (read_of (t.cell q)) ≡ false) p lived is.bare c) (is.same p)
+          | inr apart ↦ subst (λ w. CellBy (EvacIs false) (read_of (now.core.cell p)) (read_of w)) (sym (is.others p apart)) (cell_still (EvacIs false) (λ a. inl refl) (read_of (now.core.cell p)))
+        ];
+        objects = λ p. evac_object now.core t abort_frame p (is.same p);
+        rest = abort_frame;
+      }
+
+  abort_put : (q : ℕ) → IsApart now.core now.held q → StaysPut now.core (after_aborting now).core q
+  abort_put q none = framed_put now.core (after_aborting now).core q abort_frame (elim (member_or_apart q (live_among now.core now.held)) [
+    | inl c ↦ absurd (apart_from now.core now.held q q none c refl)
+    | inr apart ↦ (is_given_up now fits).others q apart
+  ])
+
+  -- a round of logs that `select` would tell
+  round_put : (policy : Policy) (most turns : ℕ) → refusal now (Evacuator (Round policy most turns)) ≡ None → (q : ℕ) → NotDealt (Round policy most turns) q →
+      StaysPut now.core (after_round now (chosen_by policy (rows_in now) most) turns).core q
+  round_put policy most turns may q none = by_logs (chosen_by policy (rows_in now) most) refl where
+    by_logs : (logs : List ℕ) → chosen_by policy (rows_in now) most ≡ logs → StaysPut now.core (after_round now logs turns).core q
+    by_logs [] e = put_none now.core q
+    by_logs (l ∷ ls) e =
+        let m : Moment = after_selecting now (l ∷ ls) in
+        let chosen = policy_chooses now policy most moment in
+        let begun = selecting now (chosen_by policy (rows_in now) most) law moment (begins now [] may).0.idle (begins now [] may).0.left chosen.once chosen.of_order in
+        let tells : Commanded now (Evacuator (Select (By policy) most)) (Selected (l ∷ ls)) m =
+        subst (λ (xs : List ℕ). Commanded now (Evacuator (Select (By policy) most)) (Selected xs) (after_selecting now xs)) e (made_so now (Select (By policy) most) may) in
+        let apart : IsApart m.core m.held q = λ k c. none k (l ∷ ls, m, tells, c) in
+        (turns_put m q law (subst (λ (xs : List ℕ). MomentLaw (after_selecting now xs)) e begun.moment) refl apart turns).put_there
+
+  -- what lies where it lay
+  round_marked : (policy : Policy) (most turns : ℕ) → refusal now (Evacuator (Round policy most turns)) ≡ None → (q l : ℕ) → LiesIn now.core q l →
+      LiesIn (after_round now (chosen_by policy (rows_in now) most) turns).core q l → StaysMarked now.core (after_round now (chosen_by policy (rows_in now) most) turns).core q
+  round_marked policy most turns may q l was = by_logs (chosen_by policy (rows_in now) most) refl where
+    by_logs : (logs : List ℕ) → chosen_by policy (rows_in now) most ≡ logs → LiesIn (after_round now logs turns).core q l → StaysMarked now.core (after_round now logs turns).core q
+    by_logs [] e is = marked_none now.core q
+    by_logs (k ∷ ks) e is =
+        let m : Moment = after_selecting now (k ∷ ks) in
+        let chosen = policy_chooses now policy most moment in
+        let begun = selecting now (chosen_by policy (rows_in now) most) law moment (begins now [] may).0.idle (begins now [] may).0.left chosen.once chosen.of_order in
+        let t : Moment = after_round now (k ∷ ks) turns in
+        has_stayed StaysMarked m.core m.held q t.core t.held (turns_fate m q law (subst (λ (xs : List ℕ). MomentLaw (after_selecting now xs)) e begun.moment) refl turns) l was is
+
+  some_stay : (Stays : State → State → ℕ → Type 0) (step : Step) → ((p l : ℕ) → LiesIn now.core p l → LiesIn (step_effect now step).core p l → Stays now.core (step_effect now step).core p) →
+      refusal now (Evacuator step) ≡ None → SomeStay Stays now.core (step_effect now step).core
+  some_stay Stays step unreached e =
+      let kept = made_leaves now law moment step e in
+      record { unreached = unreached; used = kept.used; held = kept.held; scope = kept.scope; remembered = kept.remembered }
+
+  made_rest : (step : Step) → refusal now (Evacuator step) ≡ None → LeavesRest now step (step_reply now step) (step_effect now step)
+  made_rest (Select choice most) e =
+      let logs = logs_given (given_by choice (rows_in now) most) in
+      still_put now (Select choice most) (step_reply now (Select choice most)) (after_selecting now logs).core (λ a. refl) (chosen_still now logs)
+  made_rest (Mark count) e = marks_rest count
+  made_rest Wait e = still_put now Wait (step_reply now Wait) (polled_to now (first_open now.core)).core (λ a. refl) (polled_still now (first_open now.core))
+  made_rest (Evacuate count) e =
+      let leaves : now.phase ≡ Evacuating = evacuating_is now.phase (none_first (not (is_evacuating now.phase)) WrongPhase [] e).0 in
+      let t : Moment = ended (walked now count) in
+      some_stay StaysPut (Evacuate count) (λ p l was is. has_stayed StaysPut now.core now.held p t.core t.held (ended_fate now law moment leaves p count) l was is) e
+  made_rest Abort e = abort_rest
+  made_rest (Round policy most turns) e = some_stay StaysMarked (Round policy most turns) (λ p l was is. round_marked policy most turns e p l was is) e
+
+  made_others : (step : Step) → refusal now (Evacuator step) ≡ None → (q : ℕ) → NotDealt step q → StaysPut now.core (step_effect now step).core q
+  made_others (Select choice most) e q none = let logs = logs_given (given_by choice (rows_in now) most) in clear_put now.core (after_selecting now logs).core q (chosen_still now logs)
+  made_others (Mark count) e q none = (marking_put now count q law (apart_if q none)).put_there
+  made_others Wait e q none = (polling_put now q).put_there
+  made_others (Evacuate count) e q none =
+      let leaves : now.phase ≡ Evacuating = evacuating_is now.phase (none_first (not (is_evacuating now.phase)) WrongPhase [] e).0 in
+      (ended_put now law moment leaves q (apart_if q none) count).put_there
+  made_others Abort e q none = abort_put q (apart_if q none)
+  made_others (Round policy most turns) e q none = round_put policy most turns e q none
+
+  -- ---- either
+  rest_by : (step : Step) (o : Option Refusal) → refusal now (Evacuator step) ≡ o → LeavesRest now step (unless o Refused (turn_reply now (Evacuator step))) (unless o (refused_effect now (Evacuator step)) (turn_effect now (Evacuator step)))
+  rest_by step None e = made_rest step e
+  rest_by step (Some why) e = refused_rest now step why
+
+  others_by : (step : Step) (o : Option Refusal) → refusal now (Evacuator step) ≡ o → (q : ℕ) → NotDealt step q → StaysPut now.core (unless o (refused_effect now (Evacuator step)) (turn_effect now (Evacuator step))).core q
+  others_by step None e q none = made_others step e q none
+  others_by step (Some why) e q none = clear_put now.core (refused_step now step why).core q (refused_still now step why)
+
+  step_leaves : (step : Step) → StepLeaves now step (reply_to now (Evacuator step)) (effect now (Evacuator step))
+  step_leaves step = record {
+    objects = objects_are now step law moment;
+    others = others_by step (refusal now (Evacuator step)) refl;
+    rest = rest_by step (refusal now (Evacuator step)) refl;
+  }
+
+-- ---- each step
+step_left : (now : Moment) (step : Step) (r : Reply) (next : Moment) → Lasts now → Commanded now (Evacuator step) r next → StepLeaves now step r next
+step_left now step r next lasts h =
+    subst (λ (x : Moment). StepLeaves now step r x) (sym h.moment) (subst (λ (x : Reply). StepLeaves now step x (effect now (Evacuator step))) (sym h.reply) (step_leaves now lasts.law lasts.round step))
+
+pub steps_left : (now : Moment) (step : Step) (r : Reply) (next : Moment) → IsMoment now → Commanded now (Evacuator step) r next → StepLeaves now step r next
+steps_left now step r next is h = step_left now step r next (moment_lasts now is) h
+
+left_so : (now : Moment) (c : Command) (r : Reply) (next : Moment) → Lasts now → Commanded now c r next → Leaves now c r next
+left_so now (Mutator m request) r next lasts h = stands now (Mutator m request) r next lasts h
+left_so now (Book inquiry) r next lasts h = stands now (Book inquiry) r next lasts h
+left_so now (Evacuator step) r next lasts h = step_left now step r next lasts h
+
+pub all_leave : (now : Moment) (cs : List Command) (rs : List Reply) (moments : List Moment) → Lasts now → AllWriteBytes cs → Answered now cs rs moments → AllLeave now cs rs moments
+all_leave now [] [] [] lasts bytes h = tt
+all_leave now [] [] (m ∷ ms) lasts bytes h = absurd h
+all_leave now [] (r ∷ rs) ms lasts bytes h = absurd h
+all_leave now (c ∷ cs) [] ms lasts bytes h = absurd h
+all_leave now (c ∷ cs) (r ∷ rs) [] lasts bytes h = absurd h
+all_leave now (c ∷ cs) (r ∷ rs) (next ∷ ms) lasts bytes h =
+    (left_so now c r next lasts h.0, all_leave next cs rs ms (still_lasts now c r next lasts bytes.0 h.0) bytes.1 h.1)

@@ -1,0 +1,177 @@
+-- What the evacuator's steps tell, and their refusals, are told in full by their lines.
+use Rattle.std.proofs.Common.{◌≡◌, ◌≢◌, ℕ, zero, suc, ◌+◌, ◌<◌, ◌≤◌, ◌^◌, Bool, true, false, cond, refl, sym, subst, ap, ◌∙◌, arith, not, Option, Some, None, List, [], ◌∷◌, length, filter, eqb}
+use Rattle.std.specs.List.{find, range_with_len}
+use Rattle.std.proofs.Math.Nat.{min-le_right}
+use Rattle.std.proofs.lemmas.Bool.{cond_both, eq-eqb, true≢false}
+use Rattle.std.proofs.lemmas.List.{length-take}
+use Rattle.std.proofs.lemmas.List.Sums.{length-filter, count_by-le-length}
+use Rattle.hex.specs.Hex.{IsBytes}
+use Rattle.far_word.specs.declared.refused.Refused.TheVariants.{Phase as WrongPhase}
+use Rattle.far_word.specs.Pointer.{read_of}
+use Rattle.far_core.specs.declared.event.Kind.{Kind}
+use Rattle.far_core.specs.declared.event.Kind.TheVariants as kinds
+use Rattle.far_core.specs.events.Mark.{is_sealed}
+use Rattle.far_core.specs.state.Law.{Law}
+use Rattle.far_book.proofs.region.Owns.{own_law}
+use Rattle.far_book.specs.book.Dealing.{has_evac}
+use Rattle.far_evac.specs.declared.answers.Polled.{Polled}
+use Rattle.far_evac.specs.declared.answers.Polled.TheVariants as polls
+use Rattle.far_evac.specs.declared.answers.RoundEnd.TheVariants as ends
+use Rattle.far_evac.specs.declared.phase.Phase.{Phase}
+use Rattle.far_evac.specs.declared.phase.Phase.TheVariants.{Idle, Marking, Waiting, Evacuating}
+use Rattle.far_evac.specs.AnyHand.{Polls}
+use Rattle.far_evac.specs.Choosing.{after_selecting}
+use Rattle.far_evac.specs.Leading.{Leads}
+use Rattle.far_evac.specs.Live.{lacking, live_among}
+use Rattle.far_evac.specs.Marking.{after_marking, leaves_some, newly_marked, waiting_for}
+use Rattle.far_evac.specs.Moment.{Moment, Tally, nothing, plus, progress_of}
+use Rattle.far_evac.specs.MomentLaw.{MomentLaw, has_risen, is_idle}
+use Rattle.far_evac.specs.RoundSteps.{among}
+use Rattle.far_evac.specs.Turning.{IsBounded, IsWithin}
+use Rattle.far_evac.specs.Turns.{Turned, round_end, turn_size, turned, turns_made}
+use Rattle.far_evac.specs.Waiting.{after_polling, polled}
+use Rattle.far_evac.specs.Walk.{ended, is_done, walked}
+use Rattle.far_evac.proofs.Bools.{or_left, or_right}
+use Rattle.far_evac.proofs.Bounds.{starts_within, walk_bounded, walk_within}
+use Rattle.far_evac.proofs.Leading.{polling, selecting}
+use Rattle.far_evac.proofs.LeadingMarks.{marking}
+use Rattle.far_evac.proofs.LeadingTurns.{turns_lead}
+use Rattle.far_evac.proofs.Readiness.{risen_is_ready}
+use Rattle.far_evac.proofs.Rounds.{polls_is}
+use Rattle.far_evac.proofs.Walks.{walk_is}
+use Rattle.far_policy.specs.Scripted.{is_bad, judged}
+use Rattle.far_text.specs.Command.{By, Script, Step, Select, Mark, Wait, Evacuate, Abort, Round, Evacuator}
+use Rattle.far_text.specs.Written.{ChoosesFew}
+use Rattle.far_replay_laws.specs.Headline.{IsToldInFull, IsRefusalToldInFull, IsWaitToldInFull, AreToldAsNumbers, IsProgressToldInFull, IsEndToldInFull}
+use Rattle.far_replay.specs.Rounds.{choice_causes, chosen_by, given_by, is_evacuating, logs_given, round_told, rows_in, step_causes, step_reply, wait_causes}
+use Rattle.far_replay.specs.Turn.{refusal}
+use Rattle.far_replay_laws.proofs.Refusals.{EachCause}
+use Rattle.far_replay.proofs.RoundChoices.{Chooses, policy_chooses}
+use Rattle.far_replay.proofs.RoundLeads.{begins, chooses, evacuating_is, none_first}
+
+pub filter_shorter : (f : ℕ → Bool) (xs : List ℕ) → length (filter f xs) ≤ length xs
+filter_shorter f xs = omega (arith, length-filter f xs, count_by-le-length f xs)
+
+-- a tally is small
+plain_tally : (tally : Tally) (done : Bool) → IsBounded tally → IsProgressToldInFull (progress_of tally done)
+plain_tally tally done h = record { moved = omega (arith, h.objects); far = omega (arith, h.objects); dropped = omega (arith, h.objects); freed = omega (arith, h.logs) }
+
+-- counted after nothing, it is the same
+bounded_alone : (tally : Tally) → IsBounded (plus nothing tally) → IsBounded tally
+bounded_alone tally h = record { objects = omega (arith, h.objects); logs = omega (arith, h.logs) }
+
+-- ---- logs
+sealed_used : (kind : Kind) → is_sealed kind ≡ true → kind ≢ kinds.Free
+sealed_used kind shut free = true≢false (sym shut ∙ ap is_sealed free)
+
+told_logs : (logs : List ℕ) → ((l : ℕ) → among logs l ≡ true → l < 2 ^ 64) → AreToldAsNumbers logs
+told_logs [] h = tt
+told_logs (l ∷ ls) h = (h l (or_left (eqb l l) (among ls l) (eq-eqb l l refl)), told_logs ls (λ k there. h k (or_right (eqb k l) (among ls k) there)))
+
+-- ---- refusals
+-- a script's logs are bytes
+plain_judged : (logs : List ℕ) (o : Option ℕ) → IsBytes logs → EachCause IsRefusalToldInFull (choice_causes (judged logs o))
+plain_judged logs None bytes = tt
+plain_judged logs (Some k) bytes = (omega (arith, bytes k), tt)
+
+module _ (now : Moment) (law : Law now.core) where
+  plain_wait : (o : Polled) → Polls now (after_polling now) o → EachCause IsRefusalToldInFull (wait_causes o)
+  plain_wait polls.Clear h = tt
+  plain_wait (polls.StillOpen k epoch) h = ((omega (arith, h.owner, law.shape.few_mutators), omega (arith, h.older, law.rounds.own_epoch, law.scopes.epoch_below)), tt)
+
+  pub plain_step_causes : (step : Step) → ChoosesFew step → EachCause IsRefusalToldInFull (step_causes now step)
+  plain_step_causes (Select (By policy) most) bytes = (tt, (tt, tt))
+  plain_step_causes (Select (Script logs) most) bytes = (tt, (tt, plain_judged logs (find (is_bad (rows_in now) most logs) (range_with_len 0 (length logs))) bytes.0))
+  plain_step_causes (Mark count) bytes = (tt, tt)
+  plain_step_causes Wait bytes = (tt, plain_wait (polled now.core) (polls_is now))
+  plain_step_causes (Evacuate count) bytes = (tt, tt)
+  plain_step_causes Abort bytes = (tt, tt)
+  plain_step_causes (Round policy most turns) bytes = (tt, (tt, tt))
+
+-- ---- rounds: no sum of turns is too large
+record Stands (r : Turned) : Type 0 where
+  bounded : IsBounded r.tally
+  within : r.over ≡ false → IsWithin r.moment r.tally
+
+marks_not : (phase : Phase) → phase ≡ Marking → phase ≢ Evacuating
+marks_not phase marks leaves = absurd cc
+
+waits_not : (phase : Phase) → phase ≡ Waiting → phase ≢ Evacuating
+waits_not phase waits leaves = absurd cc
+
+module _ (r : Turned) (law : Law r.moment.core) (moment : MomentLaw r.moment) (h : Stands r) (goes : r.over ≡ false) where
+  -- before objects leave nothing is counted
+  none_counted : (t : Moment) → Leads r.moment t → r.moment.phase ≢ Evacuating → IsWithin t r.tally
+  none_counted t leads early = subst (IsWithin t) (sym ((h.within goes).fresh early)) (starts_within t (own_law t.core leads.law) leads.moment)
+
+  turn_stands : (phase : Phase) → r.moment.phase ≡ phase → Stands (turned r phase)
+  turn_stands Idle e = h
+  turn_stands Marking e = record { bounded = h.bounded; within = λ _. none_counted (after_marking r.moment turn_size) (marking r.moment turn_size law moment e) (marks_not r.moment.phase e) }
+  turn_stands Waiting e = record { bounded = h.bounded; within = λ _. none_counted (after_polling r.moment) (polling r.moment law moment e) (waits_not r.moment.phase e) }
+  turn_stands Evacuating e =
+      let w = walked r.moment turn_size in
+      let walks = walk_is r.moment turn_size in
+      let ready = risen_is_ready r.moment (own_law r.moment.core law) moment (ap has_risen e) in
+      record {
+        bounded = walk_bounded r.moment r.tally (h.within goes) ready walks.0 w walks.1.walks;
+        within = λ more.
+            let same : ended w ≡ w.moment = ap (λ b. cond b (record w.moment { phase = Idle }) w.moment) more in
+            subst (λ (t : Moment). IsWithin t (plus r.tally w.tally)) (sym same) (walk_within r.moment r.tally (h.within goes) ready walks.0 w walks.1.walks e);
+      }
+
+turns_stand : (m : Moment) → Law m.core → MomentLaw m → is_idle m.phase ≡ false → (n : ℕ) → Stands (turns_made m n)
+turns_stand m law moment runs zero = record { bounded = record { objects = omega arith; logs = omega arith }; within = λ _. starts_within m (own_law m.core law) moment }
+turns_stand m law moment runs (suc n) =
+    let r = turns_made m n in
+    let leads = turns_lead m n law moment runs in
+    let h = turns_stand m law moment runs n in
+    cond_both r.over r (turned r r.moment.phase) Stands (λ _. h) (λ goes. turn_stands r leads.law leads.moment h goes r.moment.phase refl)
+
+plain_end : (r : Turned) → Stands r → IsEndToldInFull (round_end r)
+plain_end r h = cond_both r.over (ends.Done (progress_of r.tally true)) (ends.Limit r.moment.phase) IsEndToldInFull (λ _. (plain_tally r.tally true h.bounded, refl)) (λ _. tt)
+
+plain_round : (now : Moment) (logs : List ℕ) (turns : ℕ) → Leads now (after_selecting now logs) → IsEndToldInFull (round_told now logs turns)
+plain_round now [] turns begun = tt
+plain_round now (l ∷ ls) turns begun =
+    let m = after_selecting now (l ∷ ls) in
+    plain_end (turns_made m turns) (turns_stand m begun.law begun.moment refl turns)
+
+-- ---- steps
+module _ (now : Moment) (law : Law now.core) (moment : MomentLaw now) where
+  log_small : (l : ℕ) → among now.order l ≡ true → l < 2 ^ 64
+  log_small l there = omega (arith, law.logs.log_range l (sealed_used (now.core.kind l) (sym (moment.order l) ∙ there)), law.shape.few_logs)
+
+  within : IsWithin now nothing
+  within = starts_within now (own_law now.core law) moment
+
+  plain_chosen : (logs : List ℕ) → Chooses now logs → AreToldAsNumbers logs
+  plain_chosen logs chosen = told_logs logs (λ l there. log_small l (chosen.of_order l there))
+
+  few_marked : (count : ℕ) → length (newly_marked now count) < 2 ^ 64
+  few_marked count =
+      let all = filter_shorter (λ p. not (has_evac (read_of (now.core.cell p)))) (live_among now.core now.held) in
+      let some : length (newly_marked now count) ≤ length (lacking now.core now.held) = subst (λ n. n ≤ length (lacking now.core now.held)) (sym (length-take count (lacking now.core now.held))) (min-le_right _ _) in
+      omega (arith, all, some, within.objects)
+
+  plain_waiting : (count : ℕ) → IsWaitToldInFull (waiting_for now count)
+  plain_waiting count = cond_both (leaves_some now count) None (Some (now.core.epoch + 1)) IsWaitToldInFull (λ _. tt) (λ _. omega (arith, law.scopes.epoch_below))
+
+  pub plain_step : (step : Step) → refusal now (Evacuator step) ≡ None → IsToldInFull (step_reply now step)
+  plain_step (Select choice most) e =
+      let given = given_by choice (rows_in now) most in
+      let may = begins now (choice_causes given) e in
+      plain_chosen (logs_given given) (chooses now given choice most moment refl may.1)
+  plain_step (Mark count) e = (few_marked count, plain_waiting count)
+  plain_step Wait e = tt
+  plain_step (Evacuate count) e =
+      let w = walked now count in
+      let walks = walk_is now count in
+      let leaves = evacuating_is now.phase (none_first (not (is_evacuating now.phase)) WrongPhase [] e).0 in
+      let ready = risen_is_ready now (own_law now.core law) moment (ap has_risen leaves) in
+      plain_tally w.tally (is_done w) (bounded_alone w.tally (walk_bounded now nothing within ready walks.0 w walks.1.walks))
+  plain_step Abort e = tt
+  plain_step (Round policy most turns) e =
+      let logs = chosen_by policy (rows_in now) most in
+      let may = begins now [] e in
+      let chosen = policy_chooses now policy most moment in
+      plain_round now logs turns (selecting now logs law moment may.0.idle may.0.left chosen.once chosen.of_order)

@@ -1,0 +1,130 @@
+-- Which refusals a command may have.
+use Rattle.std.proofs.Common.{◌≢◌, ◌≡◌, ℕ, ◌/◌, Bool, true, false, not, nat_eq, sym, ap, ◌∙◌, subst, Option, Some, None, List, [], ◌∷◌, length}
+use Rattle.std.proofs.lemmas.Bool.{and_parts, cond_both, not-false, true≢false}
+use Rattle.std.specs.List.{find, range_with_len}
+use Rattle.far_word.specs.declared.refused.Refused.{Refused as Refusal}
+use Rattle.far_word.specs.declared.sizes.TheConstants.{CELLS}
+use Rattle.far_core.proofs.KeepOwner.{nonzero}
+use Rattle.far_core.specs.state.Law.{Law}
+use Rattle.far_core.specs.state.State.{State}
+use Rattle.far_word.specs.Pointer.{read_of}
+use Rattle.far_book.specs.book.Home.{home_of}
+use Rattle.far_book.specs.declared.home.Home.{Home}
+use Rattle.far_replay.specs.Moment.{Moment}
+use Rattle.far_replay.specs.Answers.{Commanded}
+use Rattle.far_text.specs.Command.{Command, New, Open, Write, Read, Close, Where, Drop, View, Try, Epoch, Logs, Log, Audit, Mutator, Book, Evacuator, Step, By, Script, Select, Mark, Wait, Evacuate, Abort, Round}
+use Rattle.far_replay_laws.specs.Headline.{IsAtHandFor, MayRefuse}
+use Rattle.far_replay.specs.Reply.{Reply, Refused}
+use Rattle.far_replay.specs.Dereference.{has_no_room}
+use Rattle.far_replay.specs.Effects.{is_slow}
+use Rattle.far_replay.specs.EventRows.{AtHand}
+use Rattle.far_replay.specs.Objects.{uses, lowest_cell}
+use Rattle.far_evac.specs.declared.answers.Polled.{Polled}
+use Rattle.far_evac.specs.declared.answers.Polled.TheVariants as polls
+use Rattle.far_policy.specs.Scripted.{is_bad, judged}
+use Rattle.far_evac.specs.Waiting.{polled}
+use Rattle.far_replay.specs.Rounds.{choice_causes, rows_in, step_causes, wait_causes}
+use Rattle.far_replay.specs.Turn.{causes, first_cause, refusal, unless, turn_reply, pointer_reply, home_reply}
+use Rattle.far_text.proofs.Each.{Each}
+use Rattle.far_replay.proofs.Views.{hand_has_room, hand_is_fast}
+
+-- P holds of the refusal of each cause
+abbrev pub EachCause : (Refusal → Type 0) → List (Bool × Refusal) → Type 0
+EachCause P = Each (λ (c : Bool × Refusal). P c.1)
+
+-- so it does of each that holds where none before it does
+abbrev pub EachFirst : (Refusal → Type 0) → List (Bool × Refusal) → Type 0
+EachFirst P [] = Unit {0}
+EachFirst P (c ∷ cs) = (c.0 ≡ true → P c.1) × (c.0 ≡ false → EachFirst P cs)
+
+pub each_first : (P : Refusal → Type 0) (cs : List (Bool × Refusal)) → EachCause P cs → EachFirst P cs
+each_first P [] h = tt
+each_first P (c ∷ cs) h = ((λ _. h.0), (λ _. each_first P cs h.1))
+
+-- the first cause that holds is one of the causes
+pub among : (P : Refusal → Type 0) (cs : List (Bool × Refusal)) (why : Refusal) → EachFirst P cs → first_cause cs ≡ Some why → P why
+among P [] why h = λ e. absurd cc
+among P (c ∷ cs) why h = cond_both c.0 (Some c.1) (first_cause cs) (λ (x : Option Refusal). x ≡ Some why → P why)
+    (λ holds e. let same : c.1 ≡ why = cc in subst P same (h.0 holds))
+    (λ no e. among P cs why (h.1 no) e)
+
+-- an object at hand needs no mark taken away before it is viewed
+fast_at : (s : State) (m p : ℕ) → Law s → (s.cell p ≢ 0 → AtHand s p) → not (uses s m p) ≡ false → is_slow s p ≡ false
+fast_at s m p law hand used = hand_is_fast s p (hand (nonzero s law p (and_parts (nat_eq (p / CELLS) m) (s.used p) (not-false (uses s m p) used)).1))
+
+room_at : (s : State) (m p : ℕ) → Law s → (s.cell p ≢ 0 → AtHand s p) → not (uses s m p) ≡ false → has_no_room s m p ≡ false
+room_at s m p law hand used = hand_has_room s m p (hand (nonzero s law p (and_parts (nat_eq (p / CELLS) m) (s.used p) (not-false (uses s m p) used)).1))
+
+-- so it is of the evacuator's
+polled_listed : (o : Polled) → EachFirst (MayRefuse (Evacuator Wait)) (wait_causes o)
+polled_listed polls.Clear = tt
+polled_listed (polls.StillOpen mutator epoch) = ((λ _. tt), λ _. tt)
+
+judged_listed : (logs : List ℕ) (most : ℕ) (o : Option ℕ) → EachFirst (MayRefuse (Evacuator (Select (Script logs) most))) (choice_causes (judged logs o))
+judged_listed logs most None = tt
+judged_listed logs most (Some k) = ((λ _. tt), λ _. tt)
+
+step_listed : (now : Moment) (step : Step) → EachFirst (MayRefuse (Evacuator step)) (step_causes now step)
+step_listed now (Select (By policy) most) = ((λ _. tt), λ _. ((λ _. tt), λ _. tt))
+step_listed now (Select (Script logs) most) =
+    ((λ _. tt), λ _. ((λ _. tt), λ _. judged_listed logs most (find (is_bad (rows_in now) most logs) (range_with_len 0 (length logs)))))
+step_listed now (Mark count) = ((λ _. tt), λ _. tt)
+step_listed now Wait = ((λ _. tt), λ _. polled_listed (polled now.core))
+step_listed now (Evacuate count) = ((λ _. tt), λ _. tt)
+step_listed now Abort = ((λ _. tt), λ _. tt)
+step_listed now (Round policy most turns) = ((λ _. tt), λ _. ((λ _. tt), λ _. tt))
+
+-- the causes of each command are those that it may be refused for, where its object is at hand
+causes_listed : (now : Moment) (c : Command) → Law now.core → IsAtHandFor now c → EachFirst (MayRefuse c) (causes now c)
+causes_listed now (Mutator m (New len ds)) law hand = ((λ _. tt), λ _. ((λ _. tt), λ _. ((λ _. tt), λ _. ((λ _. tt), λ _. tt))))
+causes_listed now (Mutator m Open) law hand = ((λ _. tt), λ _. ((λ _. tt), λ _. tt))
+causes_listed now (Mutator m (Write p from bytes)) law hand = ((λ _. tt), λ _. ((λ _. tt), λ _. ((λ _. tt), λ used. ((λ _. tt), λ _. ((λ full. absurd (true≢false (sym full ∙ room_at now.core m p law hand used))), λ _. tt)))))
+causes_listed now (Mutator m (Read p from len)) law hand = ((λ _. tt), λ _. ((λ _. tt), λ _. ((λ _. tt), λ used. ((λ _. tt), λ _. ((λ full. absurd (true≢false (sym full ∙ room_at now.core m p law hand used))), λ _. tt)))))
+causes_listed now (Mutator m Close) law hand = ((λ _. tt), λ _. ((λ _. tt), λ _. tt))
+causes_listed now (Mutator m (Where p)) law hand = ((λ _. tt), λ _. ((λ _. tt), λ _. tt))
+causes_listed now (Mutator m (Drop p)) law hand = ((λ _. tt), λ _. ((λ _. tt), λ _. ((λ _. tt), λ _. tt)))
+causes_listed now (Mutator m (View p)) law hand = ((λ _. tt), λ _. ((λ _. tt), λ _. ((λ _. tt), λ used. ((λ full. absurd (true≢false (sym full ∙ room_at now.core m p law hand used))), λ _. tt))))
+causes_listed now (Mutator m (Try p)) law hand = ((λ _. tt), λ _. ((λ _. tt), λ _. ((λ _. tt), λ used. ((λ slow. absurd (true≢false (sym slow ∙ fast_at now.core m p law hand used))), λ _. tt))))
+causes_listed now (Mutator m Epoch) law hand = ((λ _. tt), λ _. ((λ _. tt), λ _. tt))
+causes_listed now (Book Logs) law hand = tt
+causes_listed now (Book (Log l)) law hand = ((λ _. tt), λ _. tt)
+causes_listed now (Book Audit) law hand = tt
+causes_listed now (Evacuator step) law hand = step_listed now step
+
+-- what isn't refused is no refusal
+pointer_is_no_refusal : (o : Option ℕ) (why : Refusal) → pointer_reply o ≢ Refused why
+pointer_is_no_refusal None why e = cc
+pointer_is_no_refusal (Some p) why e = cc
+
+home_is_no_refusal : (o : Option Home) (why : Refusal) → home_reply o ≢ Refused why
+home_is_no_refusal None why e = cc
+home_is_no_refusal (Some home) why e = cc
+
+pub turn_is_no_refusal : (now : Moment) (c : Command) (why : Refusal) → turn_reply now c ≢ Refused why
+turn_is_no_refusal now (Mutator m (New len ds)) why e = pointer_is_no_refusal (lowest_cell now.core m) why e
+turn_is_no_refusal now (Mutator m Open) why e = cc
+turn_is_no_refusal now (Mutator m (Write p from bytes)) why e = cc
+turn_is_no_refusal now (Mutator m (Read p from len)) why e = cc
+turn_is_no_refusal now (Mutator m Close) why e = cc
+turn_is_no_refusal now (Mutator m (Where p)) why e = home_is_no_refusal (home_of (read_of (now.core.cell p))) why e
+turn_is_no_refusal now (Mutator m (Drop p)) why e = cc
+turn_is_no_refusal now (Mutator m (View p)) why e = cc
+turn_is_no_refusal now (Mutator m (Try p)) why e = cc
+turn_is_no_refusal now (Mutator m Epoch) why e = cc
+turn_is_no_refusal now (Book Logs) why e = cc
+turn_is_no_refusal now (Book (Log l)) why e = cc
+turn_is_no_refusal now (Book Audit) why e = cc
+turn_is_no_refusal now (Evacuator (Select choice most)) why e = cc
+turn_is_no_refusal now (Evacuator (Mark count)) why e = cc
+turn_is_no_refusal now (Evacuator Wait) why e = cc
+turn_is_no_refusal now (Evacuator (Evacuate count)) why e = cc
+turn_is_no_refusal now (Evacuator Abort) why e = cc
+turn_is_no_refusal now (Evacuator (Round policy most turns)) why e = cc
+
+pub from_cause : (o : Option Refusal) (r : Reply) (why : Refusal) → (r ≢ Refused why) → unless o Refused r ≡ Refused why → o ≡ Some why
+from_cause None r why none e = absurd (none e)
+from_cause (Some cause) r why none e = let same : cause ≡ why = cc in ap Some same
+
+pub near_refusals : (now : Moment) (c : Command) (r : Reply) (next : Moment) (why : Refusal) → Law now.core → IsAtHandFor now c → Commanded now c r next → r ≡ Refused why → MayRefuse c why
+near_refusals now c r next why law hand h e =
+    among (MayRefuse c) (causes now c) why (causes_listed now c law hand) (from_cause (refusal now c) (turn_reply now c) why (turn_is_no_refusal now c why) (sym h.reply ∙ e))

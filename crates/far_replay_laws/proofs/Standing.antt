@@ -1,0 +1,61 @@
+-- A command that is no step of the evacuator leaves the round.
+use Rattle.std.proofs.Common.{◌≡◌, ℕ, Bool, true, ap, sym, refl, subst}
+use Rattle.far_core.specs.state.State.{State}
+use Rattle.far_book.specs.book.SealedLogs.{KeepsSealed}
+use Rattle.far_evac.specs.Callers.{StepsAside}
+use Rattle.far_evac.specs.MomentLaw.{MomentLaw}
+use Rattle.far_evac.specs.RoundSteps.{among}
+use Rattle.far_text.specs.Command.{Command, Mutator, Book, Evacuator}
+use Rattle.far_replay.specs.Answers.{Commanded, IsMoment}
+use Rattle.far_replay.specs.Events.{IsTold}
+use Rattle.far_replay.specs.Moment.{Moment, with_core}
+use Rattle.far_replay.specs.Reply.{Reply}
+use Rattle.far_replay_laws.specs.Stands.{RoundStands, Stands}
+use Rattle.far_replay_laws.specs.Steps.{IsChosen}
+use Rattle.far_replay.specs.Turn.{effect}
+use Rattle.far_replay.proofs.Lasting.{Lasts, moment_lasts}
+use Rattle.far_replay_laws.proofs.SealedAside.{sealed_aside}
+use Rattle.far_replay_laws.proofs.StepsTell.{chosen_by_both, held_by}
+use Rattle.far_replay.proofs.ToldRounds.{aside, told_effect}
+
+module _ (now : Moment) (t : State) (moment : MomentLaw now) (left : StepsAside now.core t) (logs : KeepsSealed now.core t) where
+  abbrev next : Moment
+  next = with_core now t
+
+  still_chosen : (l : ℕ) → IsChosen now l → IsChosen next l
+  still_chosen l h =
+      let held : among now.held l ≡ true = held_by (among now.held l) (now.core.kind l) h in
+      chosen_by_both (among now.held l) (t.kind l) held (left.stay l (moment.sealed l held))
+
+  was_chosen : (l : ℕ) → IsChosen next l → IsChosen now l
+  was_chosen l h =
+      let held : among now.held l ≡ true = held_by (among now.held l) (t.kind l) h in
+      chosen_by_both (among now.held l) (now.core.kind l) held (moment.sealed l held)
+
+  round_stands : RoundStands now next
+  round_stands = record {
+    phase = refl;
+    held = refl;
+    chosen = λ l. (was_chosen l, still_chosen l);
+    logs = λ l. ap (λ (f : ℕ → Bool). f l) left.round;
+    epoch = left.round_epoch;
+    heap = left.epoch;
+    seen = λ m. ap (λ (f : ℕ → Bool). f m) left.clear;
+    none_comes = λ p len ds place marks chosen near.
+        logs.near p len ds place marks near (moment.sealed place.log (held_by (among now.held place.log) (now.core.kind place.log) chosen));
+  }
+
+told_stands : (now : Moment) (c : Command) → IsTold c → Lasts now → RoundStands now (effect now c)
+told_stands now c told lasts =
+    subst (RoundStands now) (sym (told_effect now c told)) (round_stands now (effect now c).core lasts.round (aside now c told lasts.law) (sealed_aside now c told lasts.law))
+
+stands_by : (now : Moment) (c : Command) → Lasts now → Stands now c (effect now c)
+stands_by now (Mutator m request) lasts = told_stands now (Mutator m request) tt lasts
+stands_by now (Book inquiry) lasts = told_stands now (Book inquiry) tt lasts
+stands_by now (Evacuator step) lasts = tt
+
+pub stands : (now : Moment) (c : Command) (r : Reply) (later : Moment) → Lasts now → Commanded now c r later → Stands now c later
+stands now c r later lasts h = subst (Stands now c) (sym h.moment) (stands_by now c lasts)
+
+pub rounds_stand : (now : Moment) (c : Command) (r : Reply) (later : Moment) → IsMoment now → Commanded now c r later → Stands now c later
+rounds_stand now c r later is h = stands now c r later (moment_lasts now is) h

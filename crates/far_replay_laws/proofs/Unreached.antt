@@ -1,0 +1,362 @@
+-- An object that lies, after a walk or the turns of a round, in the log in which it lay wasn't dealt with, and stays as it was: what was dealt with lies in no log that is held then.
+use Rattle.std.proofs.Common.{◌≡◌, ℕ, zero, suc, Bool, true, false, Option, Some, None, List, [], ◌∷◌, arith, ap, sym, refl, ◌∙◌, subst, inl, inr}
+use Rattle.std.specs.Prelude.{Contains, ◌⊎◌}
+use Rattle.std.proofs.lemmas.Bool.{cases_eq, cond_both}
+use Rattle.far_word.specs.declared.mark.Marks.{Marks}
+use Rattle.far_word.specs.declared.pointer.Place.{Place}
+use Rattle.far_word.specs.declared.pointer.PtrWord.{PtrWord}
+use Rattle.far_word.specs.declared.pointer.PtrWord.TheVariants.{Free, Near, Far}
+use Rattle.far_word.specs.Pointer.{read_of}
+use Rattle.far_word.specs.Sizes.{size_of}
+use Rattle.far_word.proofs.PointerLaws.{read_says}
+use Rattle.far_log.proofs.Members.{here}
+use Rattle.far_core.specs.events.Naming.{no_marks}
+use Rattle.far_core.specs.laws.Rooms.{IsRoom, RoomIs}
+use Rattle.far_core.specs.state.Law.{Law}
+use Rattle.far_core.specs.state.Room.{room}
+use Rattle.far_core.specs.state.State.{State}
+use Rattle.far_core.specs.world.WorldOf.{object_of, world_of}
+use Rattle.far_core.proofs.Put.{put_same}
+use Rattle.far_core.proofs.RoomLaws.{room_right}
+use Rattle.far_book.specs.book.Dealing.{has_evac}
+use Rattle.far_book.proofs.region.EvictingLaw.{evicting}
+use Rattle.far_book.proofs.region.MovesReached.{moving}
+use Rattle.far_book.proofs.region.Places.{next_unsealed}
+use Rattle.far_evac.specs.declared.phase.Phase.{Phase}
+use Rattle.far_evac.specs.declared.phase.Phase.TheVariants.{Idle, Marking, Waiting, Evacuating}
+use Rattle.far_evac.specs.Laws.{but_evac}
+use Rattle.far_evac.specs.Marking.{after_marking, newly_marked}
+use Rattle.far_evac.specs.Moment.{Moment}
+use Rattle.far_evac.specs.MomentLaw.{MomentLaw, is_idle}
+use Rattle.far_evac.specs.Turns.{Turned, turn_size, turned, turns_made}
+use Rattle.far_evac.specs.Waiting.{after_polling}
+use Rattle.far_evac.specs.Walk.{Drops, Goes, Moves, Walked, Way, begun, dealt_first, dealt_so, ended, is_done, left, settled, walked, way_of}
+use Rattle.far_evac.proofs.Dealt.{free_place}
+use Rattle.far_evac.proofs.LeadingTurns.{turns_lead}
+use Rattle.far_evac.proofs.LeadingWalks.{walking}
+use Rattle.far_evac.proofs.Marks.{is_marked}
+use Rattle.far_evac.proofs.Tours.{goes_when, moves_when}
+use Rattle.far_replay_laws.specs.Left.{CellBy, GainsNoneButEvac, StaysMarked, StaysPut}
+use Rattle.far_replay_laws.specs.Steps.{LiesIn}
+use Rattle.far_replay_laws.proofs.CountedOnce.{all_at, in_among, member_or_apart}
+use Rattle.far_replay_laws.proofs.LeftByWalks.{IsApart, Stayed, apart_from, ended_put, front_put, lay_there, marked_frame, marking_frame, marking_put, not_done, passed_stayed, polling_put, put_more, put_none}
+use Rattle.far_replay_laws.proofs.LeftByWalks as walks
+use Rattle.far_replay_laws.proofs.StepsTell.{walked_phase}
+
+-- ---- cells that say the same but for EVAC
+abbrev marks_or : Marks → Option PtrWord → Marks
+marks_or other None = other
+marks_or other (Some Free) = other
+marks_or other (Some (Near len ds place marks)) = marks
+marks_or other (Some (Far len ds marks)) = marks
+
+abbrev pub EvacIs : Bool → Marks → Marks → Type 0
+EvacIs evac a b = (b ≡ a) ⊎ (b ≡ record a { evac = evac })
+
+with_evac : (a b : Marks) (evac : Bool) → b.evac ≡ evac → record b { evac = false } ≡ record a { evac = false } → b ≡ record a { evac = evac }
+with_evac a b evac has same = λ i. record { hot = (same i).hot; evac = has i; moved = (same i).moved; dropped = (same i).dropped }
+
+pub evac_alone : (evac : Bool) (o n : Option PtrWord) → has_evac n ≡ evac → but_evac n ≡ but_evac o → CellBy (EvacIs evac) o n
+evac_alone evac None None has same = tt
+evac_alone evac None (Some Free) has same = absurd cc
+evac_alone evac None (Some (Near n d at b)) has same = absurd cc
+evac_alone evac None (Some (Far n d b)) has same = absurd cc
+evac_alone evac (Some Free) None has same = absurd cc
+evac_alone evac (Some Free) (Some Free) has same = tt
+evac_alone evac (Some Free) (Some (Near n d at b)) has same = absurd cc
+evac_alone evac (Some Free) (Some (Far n d b)) has same = absurd cc
+evac_alone evac (Some (Near len ds place a)) None has same = absurd cc
+evac_alone evac (Some (Near len ds place a)) (Some Free) has same = absurd cc
+evac_alone evac (Some (Near len ds place a)) (Some (Near n d at b)) has same =
+    let bare : record b { evac = false } ≡ record a { evac = false } = ap (marks_or a) same in
+    (cc, cc, cc, inr (with_evac a b evac has bare))
+evac_alone evac (Some (Near len ds place a)) (Some (Far n d b)) has same = absurd cc
+evac_alone evac (Some (Far len ds a)) None has same = absurd cc
+evac_alone evac (Some (Far len ds a)) (Some Free) has same = absurd cc
+evac_alone evac (Some (Far len ds a)) (Some (Near n d at b)) has same = absurd cc
+evac_alone evac (Some (Far len ds a)) (Some (Far n d b)) has same = let bare : b ≡ a = ap (marks_or a) same in (cc, cc, inl bare)
+
+pub cell_still : (Keeps : Marks → Marks → Type 0) → ((a : Marks) → Keeps a a) → (o : Option PtrWord) → CellBy Keeps o o
+cell_still Keeps same None = tt
+cell_still Keeps same (Some Free) = tt
+cell_still Keeps same (Some (Near len ds place a)) = (refl, refl, refl, same a)
+cell_still Keeps same (Some (Far len ds a)) = (refl, refl, same a)
+
+-- the word's object is the same
+same_object : (word stored : ℕ → ℕ) (p : ℕ) (o : Option PtrWord) → object_of word stored p o ≡ object_of word stored p (but_evac o)
+same_object word stored p None = refl
+same_object word stored p (Some Free) = refl
+same_object word stored p (Some (Near len ds place m)) = refl
+same_object word stored p (Some (Far len ds m)) = refl
+
+pub evac_object : (s t : State) → t ≡ marked_frame s t → (p : ℕ) → but_evac (read_of (t.cell p)) ≡ but_evac (read_of (s.cell p)) → (world_of t).object p ≡ (world_of s).object p
+unfolding world_of
+evac_object s t rest p same =
+    ap (λ (u : State). object_of u.word (u.stored p) p (read_of (t.cell p))) rest
+    ∙ same_object s.word (s.stored p) p (read_of (t.cell p)) ∙ ap (object_of s.word (s.stored p) p) same ∙ sym (same_object s.word (s.stored p) p (read_of (s.cell p)))
+
+-- one cell after another
+evac_more : (a b c : Marks) → GainsNoneButEvac a b → GainsNoneButEvac b c → GainsNoneButEvac a c
+evac_more a b c (inl e) (inl f) = inl (f ∙ e)
+evac_more a b c (inl e) (inr f) = inr (f ∙ ap (λ (x : Marks). record x { evac = true }) e)
+evac_more a b c (inr e) (inl f) = inr (f ∙ e)
+evac_more a b c (inr e) (inr f) = inr (f ∙ ap (λ (x : Marks). record x { evac = true }) e)
+
+cell_more : (o n u : Option PtrWord) → CellBy GainsNoneButEvac o n → CellBy GainsNoneButEvac n u → CellBy GainsNoneButEvac o u
+cell_more None None u a b = b
+cell_more None (Some Free) u a b = absurd a
+cell_more None (Some (Near n d at k)) u a b = absurd a
+cell_more None (Some (Far n d k)) u a b = absurd a
+cell_more (Some Free) None u a b = absurd a
+cell_more (Some Free) (Some Free) u a b = b
+cell_more (Some Free) (Some (Near n d at k)) u a b = absurd a
+cell_more (Some Free) (Some (Far n d k)) u a b = absurd a
+cell_more (Some (Near len ds place j)) None u a b = absurd a
+cell_more (Some (Near len ds place j)) (Some Free) u a b = absurd a
+cell_more (Some (Near len ds place j)) (Some (Near n d at k)) None a b = absurd b
+cell_more (Some (Near len ds place j)) (Some (Near n d at k)) (Some Free) a b = absurd b
+cell_more (Some (Near len ds place j)) (Some (Near n d at k)) (Some (Near x y to m)) a b = (b.0 ∙ a.0, b.1 ∙ a.1, b.2 ∙ a.2, evac_more j k m a.3 b.3)
+cell_more (Some (Near len ds place j)) (Some (Near n d at k)) (Some (Far x y m)) a b = absurd b
+cell_more (Some (Near len ds place j)) (Some (Far n d k)) u a b = absurd a
+cell_more (Some (Far len ds j)) None u a b = absurd a
+cell_more (Some (Far len ds j)) (Some Free) u a b = absurd a
+cell_more (Some (Far len ds j)) (Some (Near n d at k)) u a b = absurd a
+cell_more (Some (Far len ds j)) (Some (Far n d k)) None a b = absurd b
+cell_more (Some (Far len ds j)) (Some (Far n d k)) (Some Free) a b = absurd b
+cell_more (Some (Far len ds j)) (Some (Far n d k)) (Some (Near x y to m)) a b = absurd b
+cell_more (Some (Far len ds j)) (Some (Far n d k)) (Some (Far x y m)) a b = (b.0 ∙ a.0, b.1 ∙ a.1, evac_more j k m a.2 b.2)
+
+-- it lies at the same place
+near_then : (n : Option PtrWord) (len ds : ℕ) (place : Place) (a : Marks) → CellBy GainsNoneButEvac (Some (Near len ds place a)) n → (b : Marks) × (n ≡ Some (Near len ds place b))
+near_then None len ds place a h = absurd h
+near_then (Some Free) len ds place a h = absurd h
+near_then (Some (Near n d at b)) len ds place a h = (b, λ i. Some (Near (h.0 i) (h.1 i) (h.2 i) b))
+near_then (Some (Far n d b)) len ds place a h = absurd h
+
+near_before : (o : Option PtrWord) (len ds : ℕ) (place : Place) (b : Marks) → CellBy GainsNoneButEvac o (Some (Near len ds place b)) → (a : Marks) × (o ≡ Some (Near len ds place a))
+near_before None len ds place b h = absurd h
+near_before (Some Free) len ds place b h = absurd h
+near_before (Some (Near n d at a)) len ds place b h = (a, λ i. Some (Near (sym h.0 i) (sym h.1 i) (sym h.2 i) a))
+near_before (Some (Far n d a)) len ds place b h = absurd h
+
+-- ---- what stays under its marks, or EVAC beside them
+put_marked : (s t : State) (q : ℕ) → StaysPut s t q → StaysMarked s t q
+put_marked s t q h = record {
+  cell = subst (λ w. CellBy GainsNoneButEvac (read_of (s.cell q)) (read_of w)) (sym h.cell) (cell_still GainsNoneButEvac (λ a. inl refl) (read_of (s.cell q)));
+  object = h.object;
+  stored = h.stored;
+}
+
+pub marked_none : (s : State) (q : ℕ) → StaysMarked s s q
+marked_none s q = put_marked s s q (put_none s q)
+
+marked_more : (s t u : State) (q : ℕ) → StaysMarked s t q → StaysMarked t u q → StaysMarked s u q
+marked_more s t u q a b = record {
+  cell = cell_more (read_of (s.cell q)) (read_of (t.cell q)) (read_of (u.cell q)) a.cell b.cell;
+  object = b.object ∙ a.object;
+  stored = λ i. b.stored i ∙ a.stored i;
+}
+
+marked_lay : (s t : State) (q l : ℕ) → StaysMarked s t q → LiesIn t q l → LiesIn s q l
+marked_lay s t q l h (len, ds, place, marks, near, log) =
+    let was = near_before (read_of (s.cell q)) len ds place marks (subst (λ o. CellBy GainsNoneButEvac (read_of (s.cell q)) o) near h.cell) in
+    (len, ds, place, was.0, was.1, log)
+
+marked_lies : (s t : State) (q l : ℕ) → StaysMarked s t q → LiesIn s q l → LiesIn t q l
+marked_lies s t q l h (len, ds, place, marks, near, log) =
+    let is = near_then (read_of (t.cell q)) len ds place marks (subst (λ o. CellBy GainsNoneButEvac o (read_of (t.cell q))) near h.cell) in
+    (len, ds, place, is.0, is.1, log)
+
+put_lay : (s t : State) (q l : ℕ) → StaysPut s t q → LiesIn t q l → LiesIn s q l
+put_lay s t q l h = lay_there s t q l h.cell
+
+put_lies : (s t : State) (q l : ℕ) → StaysPut s t q → LiesIn s q l → LiesIn t q l
+put_lies s t q l h = lay_there t s q l (sym h.cell)
+
+-- ---- an object's fate, from a moment with these logs held to one with those: it has stayed; or it has left its log, and lies in none that is held
+pub record HasLeft (s t : State) (held : List ℕ) (q : ℕ) : Type 0 where
+  pub apart : IsApart t held q
+  pub away : (l : ℕ) → LiesIn s q l → ¬ LiesIn t q l
+
+pub record Fate (Stays : State → State → ℕ → Type 0) (s : State) (logs : List ℕ) (q : ℕ) (t : State) (held : List ℕ) : Type 0 where
+  pub fewer : (l : ℕ) → Contains held l → Contains logs l
+  pub still : IsApart s logs q → Stays s t q
+  pub either : Stays s t q ⊎ HasLeft s t held q
+
+-- what lies where it lay has stayed
+pub has_stayed : (Stays : State → State → ℕ → Type 0) (s : State) (logs : List ℕ) (q : ℕ) (t : State) (held : List ℕ) → Fate Stays s logs q t held → (l : ℕ) → LiesIn s q l → LiesIn t q l → Stays s t q
+has_stayed Stays s logs q t held h l was is = elim h.either [
+  | inl stays ↦ stays
+  | inr gone ↦ absurd (gone.away l was is)
+]
+
+-- one fate after another
+module _ (Stays : State → State → ℕ → Type 0) (more : (s t u : State) (q : ℕ) → Stays s t q → Stays t u q → Stays s u q)
+    (lay : (s t : State) (q l : ℕ) → Stays s t q → LiesIn t q l → LiesIn s q l) (lies : (s t : State) (q l : ℕ) → Stays s t q → LiesIn s q l → LiesIn t q l) where
+  apart_still : (s t : State) (logs held : List ℕ) (q : ℕ) → Fate Stays s logs q t held → Stays s t q → IsApart s logs q → IsApart t held q
+  apart_still s t logs held q h stays none l member there = none l (h.fewer l member) (lay s t q l stays there)
+
+  fate_more : (s t u : State) (a b c : List ℕ) (q : ℕ) → Fate Stays s a q t b → Fate Stays t b q u c → Fate Stays s a q u c
+  fate_more s t u a b c q x y = record {
+    fewer = λ l m. x.fewer l (y.fewer l m);
+    still = λ none. (let first = x.still none in more s t u q first (y.still (apart_still s t a b q x first none)));
+    either = elim x.either [
+      | inl stays ↦ elim y.either [
+        | inl stay ↦ inl (more s t u q stays stay)
+        | inr gone ↦ inr record { apart = gone.apart; away = λ l was is. gone.away l (lies s t q l stays was) is }
+      ]
+      | inr gone ↦ (let rest = y.still gone.apart in inr record {
+        apart = λ l member is. gone.apart l (y.fewer l member) (lay t u q l rest is);
+        away = λ l was is. gone.away l was (lay t u q l rest is);
+      })
+    ];
+  }
+
+put_fate : (s t u : State) (a b c : List ℕ) (q : ℕ) → Fate StaysPut s a q t b → Fate StaysPut t b q u c → Fate StaysPut s a q u c
+put_fate s t u a b c q x y = fate_more StaysPut put_more put_lay put_lies s t u a b c q x y
+
+marked_fate : (s t u : State) (a b c : List ℕ) (q : ℕ) → Fate StaysMarked s a q t b → Fate StaysMarked t b q u c → Fate StaysMarked s a q u c
+marked_fate s t u a b c q x y = fate_more StaysMarked marked_more marked_lay marked_lies s t u a b c q x y
+
+fate_stayed : (s t : State) (a b : List ℕ) (q : ℕ) → Stayed s a q t b → Fate StaysPut s a q t b
+fate_stayed s t a b q h = record { fewer = h.fewer; still = λ none. h.put_there; either = inl h.put_there }
+
+fate_marked : (s t : State) (a b : List ℕ) (q : ℕ) → Fate StaysPut s a q t b → Fate StaysMarked s a q t b
+fate_marked s t a b q h = record {
+  fewer = h.fewer;
+  still = λ none. put_marked s t q (h.still none);
+  either = elim h.either [ inl stays ↦ inl (put_marked s t q stays) | inr gone ↦ inr gone ];
+}
+
+fate_none : (s : State) (held : List ℕ) (q : ℕ) → Fate StaysMarked s held q s held
+fate_none s held q = record { fewer = λ l c. c; still = λ none. marked_none s q; either = inl (marked_none s q) }
+
+-- ---- the first object is dealt with
+module _ (w : Walked) (law : Law w.moment.core) (moment : MomentLaw w.moment) (leaves : w.moment.phase ≡ Evacuating) (p : ℕ) (member : Contains (left w) p) where
+  abbrev s : State
+  s = w.moment.core
+
+  abbrev lived : (l : ℕ) × Contains w.moment.held l × LiesIn s p l
+  lived = walks.lives w law moment leaves p member
+
+  abbrev home : LiesIn s p lived.0
+  home = walks.home w law moment leaves p member
+
+  near : read_of (s.cell p) ≡ Some (Near home.0 home.1 home.2 home.3)
+  near = home.4
+
+  -- it lies in no log that is held
+  found_off : (way : Way) → way_of s (read_of (s.cell p)) ≡ way → (k : ℕ) → LiesIn (dealt_so w p way).moment.core p k → ¬ Contains w.moment.held k
+  found_off Drops is k (len, ds, place, marks, there, log) held = free_place len ds place marks (ap read_of (sym (put_same s.cell p 0 p refl)) ∙ there)
+  found_off (Moves to) is k (len, ds, place, marks, there, log) held =
+      let why = moves_when home.3.dropped home.3.hot (room s (size_of home.0) false) to (sym (ap (way_of s) near) ∙ is) in
+      let way = moving s p home.0 home.1 home.2 to home.3 law near (walks.quiet w law moment leaves p member) why.0 (walks.wanted w law moment leaves p member) why.1 in
+      let says = (read_says (s.cell p) (Near home.0 home.1 home.2 home.3) (law.cells.cell_read p).0 near).0 in
+      let same : Some (Near home.0 home.1 to no_marks) ≡ Some (Near len ds place marks) = sym way.3.cell ∙ there in
+      let places : to ≡ place = cc in
+      let right : IsRoom s (size_of home.0) false to = subst (RoomIs s (size_of home.0) false) why.1 (room_right s law (size_of home.0) false (omega (arith, says))) in
+      let mine : to.log ≡ k = ap (λ (x : Place). x.log) places ∙ log in
+      next_unsealed s to right.next (ap s.kind mine ∙ moment.sealed k (in_among k w.moment.held held))
+  found_off Goes is k (len, ds, place, marks, there, log) held =
+      let alive = goes_when home.3.dropped home.3.hot (room s (size_of home.0) false) (sym (ap (way_of s) near) ∙ is) in
+      let way = evicting s p home.0 home.1 home.2 home.3 law (walks.pointer w law moment leaves p member) near (walks.quiet w law moment leaves p member) (walks.wanted w law moment leaves p member) alive in
+      let odd : Some (Far home.0 home.1 no_marks) ≡ Some (Near len ds place marks) = sym way.3.cell ∙ there in
+      absurd cc
+
+  abbrev next : Walked
+  next = settled (dealt_so w p (way_of s (read_of (s.cell p))))
+
+  next_fewer : (l : ℕ) → Contains next.moment.held l → Contains w.moment.held l
+  next_fewer = (front_put w law moment leaves p member (suc p) (λ e. omega (arith, e))).fewer
+
+  next_off : (k : ℕ) → LiesIn next.moment.core p k → ¬ Contains w.moment.held k
+  next_off k there =
+      let v : Walked = dealt_so w p (way_of s (read_of (s.cell p))) in
+      found_off (way_of s (read_of (s.cell p))) refl k (lay_there v.moment.core next.moment.core p k (passed_stayed p v.moment.held v).put_there.cell there)
+
+  one_log : (l : ℕ) → LiesIn s p l → lived.0 ≡ l
+  one_log l (len, ds, place, marks, there, log) =
+      let same : Some (Near home.0 home.1 home.2 home.3) ≡ Some (Near len ds place marks) = sym near ∙ there in
+      let places : home.2 ≡ place = cc in
+      sym home.5 ∙ ap (λ (x : Place). x.log) places ∙ log
+
+  left_fate : Fate StaysPut s w.moment.held p next.moment.core next.moment.held
+  left_fate = record {
+    fewer = next_fewer;
+    still = λ none. absurd (apart_from s w.moment.held p p none member refl);
+    either = inr record {
+      apart = λ k held there. next_off k there (next_fewer k held);
+      away = λ l was there. next_off l there (subst (Contains w.moment.held) (one_log l was) lived.1);
+    };
+  }
+
+  front_fate : (q : ℕ) → Fate StaysPut s w.moment.held q next.moment.core next.moment.held
+  front_fate q = elim (cases_eq q p) [
+    | inl e ↦ subst (λ x. Fate StaysPut s w.moment.held x next.moment.core next.moment.held) (sym e) left_fate
+    | inr other ↦ fate_stayed s next.moment.core w.moment.held next.moment.held q (front_put w law moment leaves p member q other)
+  ]
+
+-- ---- object after object
+module _ (m : Moment) (law : Law m.core) (moment : MomentLaw m) (leaves : m.phase ≡ Evacuating) (q : ℕ) where
+  abbrev HasFate : Walked → Type 0
+  HasFate w = Fate StaysPut m.core m.held q w.moment.core w.moment.held
+
+  first_fate : (n : ℕ) (xs : List ℕ) → left (walked m n) ≡ xs → HasFate (walked m n) → HasFate (dealt_first (walked m n) xs)
+  first_fate n [] is h = h
+  first_fate n (p ∷ ps) is h =
+      let w : Walked = walked m n in
+      let leads = (walking m n law moment leaves).midst (not_done w.moment.core w.moment.held p ps is) in
+      let member : Contains (left w) p = subst (λ xs. Contains xs p) (sym is) (here p ps) in
+      let then : Walked = settled (dealt_so w p (way_of w.moment.core (read_of (w.moment.core.cell p)))) in
+      put_fate m.core w.moment.core then.moment.core m.held w.moment.held then.moment.held q h (front_fate w leads.law leads.moment (walked_phase m n ∙ leaves) p member q)
+
+  walk_fate : (n : ℕ) → HasFate (walked m n)
+  walk_fate zero = fate_stayed m.core (walked m zero).moment.core m.held (walked m zero).moment.held q (passed_stayed q m.held (begun m))
+  walk_fate (suc n) = first_fate n (left (walked m n)) refl (walk_fate n)
+
+  pub ended_fate : (n : ℕ) → Fate StaysPut m.core m.held q (ended (walked m n)).core (ended (walked m n)).held
+  ended_fate n = cond_both (is_done (walked m n)) (record (walked m n).moment { phase = Idle }) (walked m n).moment (λ (t : Moment). Fate StaysPut m.core m.held q t.core t.held) (λ _. walk_fate n) (λ _. walk_fate n)
+
+-- ---- marking and waiting
+marking_marked : (m : Moment) (n q : ℕ) → Law m.core → StaysMarked m.core (after_marking m n).core q
+marking_marked m n q law =
+    let t : State = (after_marking m n).core in
+    let is = is_marked m n (λ p. (law.cells.cell_read p).0) in
+    let frame : t ≡ marked_frame m.core t = marking_frame m n in
+    record {
+      cell = elim (member_or_apart q (newly_marked m n)) [
+        | inl c ↦ evac_alone true (read_of (m.core.cell q)) (read_of (t.cell q)) (all_at (λ p. has_evac (read_of (t.cell p)) ≡ true) q (newly_marked m n) is.now c) (is.same q)
+        | inr apart ↦ subst (λ w. CellBy GainsNoneButEvac (read_of (m.core.cell q)) (read_of w)) (sym (is.others q apart)) (cell_still GainsNoneButEvac (λ a. inl refl) (read_of (m.core.cell q)))
+      ];
+      object = evac_object m.core t frame q (is.same q);
+      stored = λ i. ap (λ (u : State). u.stored q i) frame;
+    }
+
+marking_fate : (m : Moment) (n q : ℕ) → Law m.core → Fate StaysMarked m.core m.held q (after_marking m n).core (after_marking m n).held
+marking_fate m n q law = record {
+  fewer = λ l c. subst (λ xs. Contains xs l) (walks.marking_held m n) c;
+  still = λ none. marking_marked m n q law;
+  either = inl (marking_marked m n q law);
+}
+
+-- ---- turn after turn
+turn_fate : (r : Turned) (q : ℕ) → Law r.moment.core → MomentLaw r.moment → (phase : Phase) → r.moment.phase ≡ phase →
+    Fate StaysMarked r.moment.core r.moment.held q (turned r phase).moment.core (turned r phase).moment.held
+turn_fate r q law moment Idle e = fate_none r.moment.core r.moment.held q
+turn_fate r q law moment Marking e = marking_fate r.moment turn_size q law
+turn_fate r q law moment Waiting e =
+    let t : Moment = after_polling r.moment in
+    fate_marked r.moment.core t.core r.moment.held t.held q (fate_stayed r.moment.core t.core r.moment.held t.held q (polling_put r.moment q))
+turn_fate r q law moment Evacuating e =
+    let t : Moment = ended (walked r.moment turn_size) in
+    fate_marked r.moment.core t.core r.moment.held t.held q (ended_fate r.moment law moment e q turn_size)
+
+pub turns_fate : (m : Moment) (q : ℕ) → Law m.core → MomentLaw m → is_idle m.phase ≡ false → (n : ℕ) → Fate StaysMarked m.core m.held q (turns_made m n).moment.core (turns_made m n).moment.held
+turns_fate m q law moment runs zero = fate_none m.core m.held q
+turns_fate m q law moment runs (suc n) =
+    let r = turns_made m n in
+    let h = turns_fate m q law moment runs n in
+    let leads = turns_lead m n law moment runs in
+    let after : Moment = (turned r r.moment.phase).moment in
+    cond_both r.over r (turned r r.moment.phase) (λ (x : Turned). Fate StaysMarked m.core m.held q x.moment.core x.moment.held) (λ _. h)
+    (λ _. marked_fate m.core r.moment.core after.core m.held r.moment.held after.held q h (turn_fate r q leads.law leads.moment r.moment.phase refl))

@@ -1,0 +1,11 @@
+pub mod Ages
+pub mod Census
+pub mod Chosen
+pub mod Headline
+pub mod HowMany
+pub mod Left
+pub mod LeftMarks
+pub mod Listed
+pub mod MovesTake
+pub mod Stands
+pub mod Steps

@@ -1,0 +1,241 @@
+-- What steps of the evacuator tell, by the moments before and after each: how many objects and logs have changed so, and which logs were chosen.
+use Rattle.std.specs.Prelude.{◌≡◌, ◌≢◌, ◌↔◌, ℕ, ◌+◌, ◌*◌, ◌<◌, ◌≤◌, Bool, true, false, Option, Some, None, List, [], ◌∷◌, length, map, option_map, take, Ok, Err, if◌then◌else◌}
+use Rattle.far_word.specs.declared.mark.Marks.{Marks}
+use Rattle.far_word.specs.declared.pointer.Place.{Place}
+use Rattle.far_word.specs.declared.pointer.PtrWord.TheVariants as pointer
+use Rattle.far_word.specs.declared.refused.Refused.{Refused as Refusal}
+use Rattle.far_word.specs.declared.refused.Refused.TheVariants.{BadChoice, EpochsSpent, Phase as WrongPhase, StillOpen}
+use Rattle.far_word.specs.declared.sizes.TheConstants.{EPOCH_END}
+use Rattle.far_word.specs.Pointer.{read_of, without_evac}
+use Rattle.far_log.specs.declared.row.LogRow.{LogRow}
+use Rattle.far_policy.specs.LeastLive.{TakesLeast}
+use Rattle.far_policy.specs.Logs.{logs_of}
+use Rattle.far_policy.specs.Scripted.{FollowsScript}
+use Rattle.far_core.specs.state.State.{State}
+use Rattle.far_book.specs.book.Rows.{row_of}
+use Rattle.far_evac.specs.Census.{kind_in}
+use Rattle.far_evac.specs.declared.answers.Progress.{Progress}
+use Rattle.far_evac.specs.declared.answers.RoundEnd.{RoundEnd}
+use Rattle.far_evac.specs.declared.answers.RoundEnd.TheVariants as ends
+use Rattle.far_evac.specs.declared.census.LogKind.TheVariants as kinds
+use Rattle.far_evac.specs.declared.phase.Phase.{Phase}
+use Rattle.far_evac.specs.declared.phase.Phase.TheVariants.{Idle, Marking, Waiting, Evacuating}
+use Rattle.far_text.specs.Command.{Command, Evacuator, Choice, By, Script, Oldest, LeastLive, Policy, Step, Select, Mark, Wait, Evacuate, Abort, Round}
+use Rattle.far_replay.specs.Answers.{Commanded, IsMoment}
+use Rattle.far_replay_laws.specs.HowMany.{IsHowMany}
+use Rattle.far_replay.specs.Moment.{Moment}
+use Rattle.far_replay.specs.Reply.{Reply, Done, Selected, Marked, Clear, Evacuated, Ended, Refused}
+
+-- ---- where an object is
+-- its cell names a place in a log; and has EVAC, or hasn't
+abbrev pub LiesIn : State → ℕ → ℕ → Type 0
+LiesIn s p l = (len ds : ℕ) × (place : Place) × (marks : Marks) × (read_of (s.cell p) ≡ Some (pointer.Near len ds place marks)) × (place.log ≡ l)
+
+abbrev pub IsNear : State → ℕ → Type 0
+IsNear s p = (l : ℕ) × LiesIn s p l
+
+abbrev pub ShowsEvac : State → ℕ → Bool → Type 0
+ShowsEvac s p evac = (len ds : ℕ) × (place : Place) × (marks : Marks) × (read_of (s.cell p) ≡ Some (pointer.Near len ds place marks)) × (marks.evac ≡ evac)
+
+abbrev pub IsFar : State → ℕ → Type 0
+IsFar s p = (len ds : ℕ) × (marks : Marks) × (read_of (s.cell p) ≡ Some (pointer.Far len ds marks))
+
+-- ---- what has become of it from s to t
+abbrev pub GainsEvac : State → State → ℕ → Type 0
+GainsEvac s t p = ShowsEvac s p false × ShowsEvac t p true
+
+-- it lies in another log
+abbrev pub IsMoved : State → State → ℕ → Type 0
+IsMoved s t p = (l k : ℕ) × LiesIn s p l × LiesIn t p k × (k ≢ l)
+
+abbrev pub IsSentFar : State → State → ℕ → Type 0
+IsSentFar s t p = IsNear s p × IsFar t p
+
+-- its cell is free
+abbrev pub IsRetired : State → State → ℕ → Type 0
+IsRetired s t p = IsNear s p × (read_of (t.cell p) ≡ Some pointer.Free)
+
+-- ---- which logs a round holds, as `log` prints it
+abbrev pub IsChosen : Moment → ℕ → Type 0
+IsChosen now l = kind_in now l ≡ kinds.Chosen
+
+-- it was given back: it is chosen no more, and out of the core's round
+abbrev pub IsGivenBack : Moment → Moment → ℕ → Type 0
+IsGivenBack now after l = IsChosen now l × (kind_in after l ≢ kinds.Chosen) × (after.core.round l ≡ false)
+
+-- ---- which logs a choice takes of the sealed ones, oldest first
+abbrev pub sealed_rows : Moment → List LogRow
+sealed_rows now = map (row_of now.core) now.order
+
+abbrev pub Takes : Moment → Choice → ℕ → List ℕ → Type 0
+Takes now (By Oldest) most logs = logs ≡ take most now.order
+Takes now (By LeastLive) most logs = (rows : List LogRow) × TakesLeast (sealed_rows now) most rows × (logs ≡ logs_of rows)
+Takes now (Script named) most logs = FollowsScript (sealed_rows now) most named (Ok logs)
+
+-- these logs are chosen then, and no word has changed
+pub record TellsChoice (now : Moment) (choice : Choice) (most : ℕ) (logs : List ℕ) (after : Moment) : Type 0 where
+  pub takes : Takes now choice most logs
+  pub held : after.held ≡ logs
+  pub core : after.core ≡ now.core
+
+-- ---- marking
+-- an object of the chosen logs is left without EVAC, and the epoch stays; or none is, and the epoch that is told was reached
+abbrev pub ReachesEpoch : Moment → ℕ → ℕ → Option ℕ → Moment → Type 0
+ReachesEpoch now count marked None after =
+    (after.core.epoch ≡ now.core.epoch) × (marked ≡ count) × ((p l : ℕ) × IsChosen now l × LiesIn after.core p l × ShowsEvac after.core p false)
+ReachesEpoch now count marked (Some epoch) after =
+    (after.core.epoch ≡ epoch) × (epoch ≡ now.core.epoch + 1) × ((p l : ℕ) → IsChosen now l → LiesIn after.core p l → ShowsEvac after.core p true)
+
+pub record TellsMarks (now : Moment) (count marked : ℕ) (waiting : Option ℕ) (after : Moment) : Type 0 where
+  pub gained : IsHowMany (GainsEvac now.core after.core) marked
+  pub most : marked ≤ count
+  pub epoch : ReachesEpoch now count marked waiting after
+
+-- ---- waiting
+-- nobody who wasn't seen clear before has a scope that is open from before the round
+abbrev pub NobodyHoldsUp : State → Type 0
+NobodyHoldsUp s = (m epoch : ℕ) → m < s.mutators → s.clear m ≡ false → s.scope m ≡ 2 * epoch + 1 → s.round_epoch ≤ epoch
+
+-- this mutator, who wasn't, has
+pub record HoldsUp (s : State) (m epoch : ℕ) : Type 0 where
+  pub known : m < s.mutators
+  pub unseen : s.clear m ≡ false
+  pub open_at : s.scope m ≡ 2 * epoch + 1
+  pub older : epoch < s.round_epoch
+
+-- ---- leaving
+-- the counts are of what has changed so; as many objects have left as were asked for, unless each log was given back
+pub record TellsLeaving (now : Moment) (count : ℕ) (progress : Progress) (after : Moment) : Type 0 where
+  pub moved : IsHowMany (IsMoved now.core after.core) progress.moved
+  pub far : IsHowMany (IsSentFar now.core after.core) progress.far
+  pub dropped : IsHowMany (IsRetired now.core after.core) progress.dropped
+  pub freed : IsHowMany (IsGivenBack now after) progress.freed
+  pub most : progress.moved + progress.far + progress.dropped ≤ count
+  pub enough : progress.done ≡ false → progress.moved + progress.far + progress.dropped ≡ count
+  pub done : (progress.done ≡ true) ↔ ((l : ℕ) → kind_in after l ≢ kinds.Chosen)
+
+-- ---- giving up
+-- no log is chosen any more, no object that lies in one of those that were has EVAC, and each cell says what it said, but for EVAC
+pub record TellsEnd (now after : Moment) : Type 0 where
+  pub held : after.held ≡ []
+  pub bare : (p l : ℕ) → IsChosen now l → LiesIn after.core p l → ShowsEvac after.core p false
+  pub same : (p : ℕ) → option_map without_evac (read_of (after.core.cell p)) ≡ option_map without_evac (read_of (now.core.cell p))
+
+-- ---- a whole round
+-- the step that a turn makes, by the phase; where no round is running, one that is refused
+abbrev pub turn_step : Phase → Step
+turn_step Idle = Abort
+turn_step Marking = Mark 16
+turn_step Waiting = Wait
+turn_step Evacuating = Evacuate 16
+
+-- turns one after the other, the last one first: each is answered, and leads on, as the command of its step does
+abbrev pub AreTurns : Moment → List Reply → Moment → Type 0
+AreTurns now [] after = after ≡ now
+AreTurns now (r ∷ rs) after = (before : Moment) × AreTurns now rs before × Commanded before (Evacuator (turn_step before.phase)) r after
+
+-- none of them was done
+abbrev pub says_done : Reply → Bool
+says_done (Evacuated progress) = progress.done
+says_done r = false
+
+abbrev pub NoneDone : List Reply → Type 0
+NoneDone [] = Unit {0}
+NoneDone (r ∷ rs) = (says_done r ≡ false) × NoneDone rs
+
+-- what they count of something, added up
+abbrev pub counted_by : (Progress → ℕ) → Reply → ℕ
+counted_by count (Evacuated progress) = count progress
+counted_by count r = 0
+
+abbrev pub sum_of : (Progress → ℕ) → List Reply → ℕ
+sum_of count [] = 0
+sum_of count (r ∷ rs) = sum_of count rs + counted_by count r
+
+pub record AddsUp (rs : List Reply) (progress : Progress) : Type 0 where
+  pub moved : progress.moved ≡ sum_of (λ (x : Progress). x.moved) rs
+  pub far : progress.far ≡ sum_of (λ (x : Progress). x.far) rs
+  pub dropped : progress.dropped ≡ sum_of (λ (x : Progress). x.dropped) rs
+  pub freed : progress.freed ≡ sum_of (λ (x : Progress). x.freed) rs
+
+-- the last turn alone was done, and the counts are the sums; or all turns were made, and the round stands in this phase
+abbrev pub Ends : ℕ → List Reply → RoundEnd → Moment → Type 0
+Ends turns rs (ends.Done progress) after =
+    (last : Progress) × (rest : List Reply) × (rs ≡ Evacuated last ∷ rest) × (last.done ≡ true) × NoneDone rest × (length rs ≤ turns) × AddsUp rs progress × (after.phase ≡ Idle)
+Ends turns rs ends.Nothing after = ⊥
+Ends turns rs (ends.Limit phase) after = NoneDone rs × (length rs ≡ turns) × (after.phase ≡ phase)
+
+-- where it was done, the counts are of what has changed so from its first moment to its last, and each chosen log was given back
+pub record CountsRound (now : Moment) (logs : List ℕ) (progress : Progress) (after : Moment) : Type 0 where
+  pub moved : IsHowMany (IsMoved now.core after.core) progress.moved
+  pub far : IsHowMany (IsSentFar now.core after.core) progress.far
+  pub dropped : IsHowMany (IsRetired now.core after.core) progress.dropped
+  pub freed : progress.freed ≡ length logs
+
+abbrev pub CountsAtEnd : Moment → List ℕ → RoundEnd → Moment → Type 0
+CountsAtEnd now logs (ends.Done progress) after = CountsRound now logs progress after
+CountsAtEnd now logs ends.Nothing after = Unit {0}
+CountsAtEnd now logs (ends.Limit phase) after = Unit {0}
+
+-- no log was chosen, and nothing has changed; or some were, as `select` would, and turns were made
+abbrev pub TellsRound : Moment → Policy → ℕ → ℕ → RoundEnd → Moment → Type 0
+TellsRound now policy most turns ends.Nothing after = Takes now (By policy) most [] × (after ≡ now)
+TellsRound now policy most turns end after =
+    (l : ℕ) × (ls : List ℕ) × (chosen : Moment) × (rs : List Reply) × Commanded now (Evacuator (Select (By policy) most)) (Selected (l ∷ ls)) chosen × AreTurns chosen rs after × Ends turns rs end after × CountsAtEnd now (l ∷ ls) end after
+
+-- ---- the phase
+-- in which a step may be made
+abbrev pub IsTimeFor : Step → Phase → Type 0
+IsTimeFor (Select choice most) phase = phase ≡ Idle
+IsTimeFor (Mark count) phase = phase ≡ Marking
+IsTimeFor Wait phase = phase ≡ Waiting
+IsTimeFor (Evacuate count) phase = phase ≡ Evacuating
+IsTimeFor Abort phase = phase ≢ Idle
+IsTimeFor (Round policy most turns) phase = phase ≡ Idle
+
+-- and the next, as the reply says
+abbrev pub phase_after : Phase → Step → Reply → Phase
+phase_after phase (Select choice most) (Selected (l ∷ ls)) = Marking
+phase_after phase (Mark count) (Marked marked (Some epoch)) = Waiting
+phase_after phase Wait Clear = Evacuating
+phase_after phase (Evacuate count) (Evacuated progress) = if progress.done then Idle else phase
+phase_after phase Abort Done = Idle
+phase_after phase (Round policy most turns) (Ended (ends.Limit next)) = next
+phase_after phase step r = phase
+
+-- ---- all together
+-- a step is refused for its cause alone
+abbrev pub TellsRefusal : Moment → Step → Refusal → Type 0
+TellsRefusal now step WrongPhase = ¬ IsTimeFor step now.phase
+TellsRefusal now (Select choice most) EpochsSpent = now.core.epoch + 1 ≡ EPOCH_END
+TellsRefusal now (Round policy most turns) EpochsSpent = now.core.epoch + 1 ≡ EPOCH_END
+TellsRefusal now (Select (Script named) most) (BadChoice log) = FollowsScript (sealed_rows now) most named (Err (BadChoice log))
+TellsRefusal now Wait (StillOpen m epoch) = HoldsUp now.core m epoch
+TellsRefusal now step why = ⊥
+
+abbrev pub Tells : Moment → Step → Reply → Moment → Type 0
+Tells now (Select choice most) (Selected logs) after = TellsChoice now choice most logs after
+Tells now (Mark count) (Marked marked waiting) after = TellsMarks now count marked waiting after
+Tells now Wait Clear after = NobodyHoldsUp now.core
+Tells now (Evacuate count) (Evacuated progress) after = TellsLeaving now count progress after
+Tells now Abort Done after = TellsEnd now after
+Tells now (Round policy most turns) (Ended end) after = TellsRound now policy most turns end after
+Tells now step (Refused why) after = TellsRefusal now step why
+Tells now step r after = ⊥
+
+pub record TellsStep (now : Moment) (step : Step) (r : Reply) (after : Moment) : Type 0 where
+  pub tells : Tells now step r after
+  pub phase : after.phase ≡ phase_after now.phase step r
+  pub time : r ≢ Refused WrongPhase → IsTimeFor step now.phase
+
+-- each step of a list of commands tells so
+abbrev pub Told : Moment → Command → Reply → Moment → Type 0
+Told now (Evacuator step) r after = TellsStep now step r after
+Told now c r after = Unit {0}
+
+abbrev pub AllTold : Moment → List Command → List Reply → List Moment → Type 0
+AllTold now (c ∷ cs) (r ∷ rs) (after ∷ moments) = Told now c r after × AllTold after cs rs moments
+AllTold now cs rs moments = Unit {0}
+
+abbrev pub StepsAreTold : Type 0
+StepsAreTold = (now : Moment) (step : Step) (r : Reply) (after : Moment) → IsMoment now → Commanded now (Evacuator step) r after → TellsStep now step r after
