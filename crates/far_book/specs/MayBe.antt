@@ -1,5 +1,5 @@
 -- Which states the words may be in beside a hand: what its view says of them, what a call tells, and what it means there that owners were seen clear.
-use Rattle.std.specs.Prelude.{◌≡◌, ◌+◌, ◌/◌, ◌<◌, ◌^◌, ◌||◌, ℕ, Bool, true, false, cond, Some, refl}
+use Rattle.std.specs.Prelude.{◌≡◌, ◌/◌, ◌<◌, ◌^◌, ◌||◌, ℕ, Bool, true, false, cond, Some, refl}
 use Rattle.std.proofs.Common.{subst, sym}
 use Rattle.std.proofs.Math.Nat.{le-add_left, lt_irrefl, lt_of_le_of_lt}
 use Rattle.std.proofs.lemmas.Bool.{false≢true}

@@ -19,11 +19,11 @@ use Rattle.far_text.specs.Command.{Abort, Command, Evacuate, Evacuator, Mark, Ro
 use Rattle.far_text.proofs.Each.{Each}
 use Rattle.far_replay.specs.EventRows.{after_events}
 use Rattle.far_replay.specs.Events.{IsTold}
-use Rattle.far_replay.specs.Moment.{Moment, with_core}
+use Rattle.far_replay.specs.Moment.{Moment}
 use Rattle.far_replay.specs.Rounds.{after_round, choice_causes, chosen_by, given_by, is_evacuating, logs_given, refused_step, round_told, rows_in, step_effect}
 use Rattle.far_replay.specs.Turn.{effect, refusal}
 use Rattle.far_replay.proofs.RoundChoices.{policy_chooses}
-use Rattle.far_replay.proofs.RoundLeads.{begins, by_outcome, chooses, evacuating_is, is_round, none_first}
+use Rattle.far_replay.proofs.RoundLeads.{begins, by_outcome, evacuating_is, is_round, none_first}
 use Rattle.far_replay.proofs.ToldRounds.{aside, told_effect}
 
 -- ---- a step of the evacuator

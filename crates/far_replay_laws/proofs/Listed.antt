@@ -1,10 +1,10 @@
 -- `audit` counts the census, which lists each object and each log once.
-use Rattle.std.proofs.Common.{◌≡◌, List, [], ◌∷◌}
+use Rattle.std.proofs.Common.{List, [], ◌∷◌}
 use Rattle.far_book.proofs.region.Owns.{own_law}
 use Rattle.far_core.specs.state.Law.{Law}
 use Rattle.far_evac.specs.Census.{homes_of, logs_of}
 use Rattle.far_evac.proofs.Listing.{census_lists}
-use Rattle.far_text.specs.Command.{Audit, Book, Command, Evacuator, Mutator}
+use Rattle.far_text.specs.Command.{Audit, Book, Command}
 use Rattle.far_text.specs.Written.{AllWriteBytes}
 use Rattle.far_replay.specs.Answers.{Answered, Commanded}
 use Rattle.far_replay_laws.specs.Listed.{AllCounted, AuditCountsList, Counted, CountsList}

@@ -1,5 +1,5 @@
 -- What `audit` counts, in the subject's words: the entries of a list that has the home of each object once, by rising pointers, and of a list that has each log once.
-use Rattle.std.specs.Prelude.{◌≡◌, List, [], ◌∷◌}
+use Rattle.std.specs.Prelude.{◌≡◌, List, ◌∷◌}
 use Rattle.far_evac.specs.declared.census.Housed.{Housed}
 use Rattle.far_evac.specs.declared.census.LogState.{LogState}
 use Rattle.far_evac.specs.Listing.{ListsEach}

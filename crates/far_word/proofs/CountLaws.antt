@@ -2,7 +2,7 @@
 use Rattle.std.proofs.Common.{◌≡◌, ℕ, ◌+◌, ◌*◌, ◌/◌, ◌<◌, ◌^◌, Bool, true, false, not, sym, refl, arith, nat_eq, Some}
 use mir.Val.{bool_byte}
 use Rattle.far_word.specs.Counts.{names_kept, names_near}
-use Rattle.far_word.specs.Mark.{field, bit_of, marks_number}
+use Rattle.far_word.specs.Mark.{field, bit_of}
 use Rattle.far_word.specs.Pointer.{IsPtr, word_of, read_of}
 use Rattle.far_word.specs.declared.mark.Marks.{Marks}
 use Rattle.far_word.specs.declared.pointer.Place.{Place}

@@ -10,7 +10,7 @@ use Rattle.far_core.specs.declared.event.Kind.{Kind}
 use Rattle.far_core.specs.declared.event.Kind.TheVariants.{Free, Open, Sealed}
 use Rattle.far_core.specs.state.Law.{Law}
 use Rattle.far_core.specs.state.State.{State}
-use Rattle.far_book.specs.book.Ages.{FetchingSealsBehind, MovingSealsBehind, PlacingSealsBehind, SealsBehind, WithoutKeepsAges}
+use Rattle.far_book.specs.book.Ages.{SealsBehind, WithoutKeepsAges}
 use Rattle.far_book.specs.book.Effects.{order_after}
 use Rattle.far_book.specs.book.Releasing.{order_without}
 

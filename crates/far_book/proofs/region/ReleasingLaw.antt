@@ -1,6 +1,5 @@
 -- The effect of giving a log back is reached by one legal event, and is one step of the world.
 use Rattle.std.proofs.Common.{◌≡◌, ◌≢◌, ℕ, true, false, arith, refl, ap}
-use Rattle.far_word.specs.declared.sizes.TheConstants.{LOG_WORDS}
 use Rattle.far_log.specs.Spans.{spans_in}
 use Rattle.far_core.specs.declared.event.Event.{Event}
 use Rattle.far_core.specs.declared.event.Event.TheVariants.{Get}

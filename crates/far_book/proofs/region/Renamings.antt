@@ -6,7 +6,7 @@ use Rattle.far_core.specs.declared.event.Event.TheVariants.{Name}
 use Rattle.far_core.specs.events.Legal.{Legal}
 use Rattle.far_core.specs.events.Naming.{is_dropped}
 use Rattle.far_core.specs.events.Step.{after}
-use Rattle.far_core.specs.state.State.{State, put}
+use Rattle.far_core.specs.state.State.{State}
 use Rattle.far_core.proofs.Put.{put_old, put_same}
 use Rattle.far_book.specs.Finds.{Finds}
 use Rattle.far_book.specs.Known.{Forgets, KnowsLeaving}

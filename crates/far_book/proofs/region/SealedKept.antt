@@ -3,13 +3,12 @@ use Rattle.std.proofs.Common.{◌≡◌, ◌≢◌, ℕ, ◌+◌, ◌*◌, ◌<�
 use Rattle.far_word.specs.declared.mark.Marks.{Marks}
 use Rattle.far_word.specs.declared.pointer.Place.{Place}
 use Rattle.far_word.specs.declared.pointer.PtrWord.TheVariants.{Near, Far}
-use Rattle.far_word.specs.declared.sizes.TheConstants.{CELLS, LONGEST, LOG_WORDS}
+use Rattle.far_word.specs.declared.sizes.TheConstants.{LONGEST, LOG_WORDS}
 use Rattle.far_word.specs.Pointer.{IsPtr, read_of}
-use Rattle.far_word.specs.Sizes.{size_of, words_for}
+use Rattle.far_word.specs.Sizes.{size_of}
 use Rattle.far_word.proofs.PointerLaws.{read_back, read_says}
 use Rattle.far_core.specs.declared.event.Kind.{Kind}
 use Rattle.far_core.specs.declared.event.Kind.TheVariants as kinds
-use Rattle.far_core.specs.events.Copies.{data_at}
 use Rattle.far_core.specs.events.Naming.{no_marks}
 use Rattle.far_core.specs.events.NewSpans.{IsNext, with_span}
 use Rattle.far_core.specs.state.Law.{Law}
@@ -18,10 +17,10 @@ use Rattle.far_core.specs.state.State.{State, addr, put}
 use Rattle.far_core.proofs.Put.{put_both, put_other}
 use Rattle.far_core.specs.laws.Rooms.{IsRoom, RoomIs}
 use Rattle.far_core.proofs.RoomLaws.{room_right}
-use Rattle.far_book.specs.book.Effects.{evicted, far_word, fetched, moved, near_word, placed, stayed, with_blank_span, with_free_cell, with_written_span}
+use Rattle.far_book.specs.book.Effects.{far_word, near_word, with_blank_span, with_free_cell}
 use Rattle.far_book.specs.book.Own.{own_part}
 use Rattle.far_book.specs.book.SealedLogs.{KeepsSealed, SealedLogsStay}
-use Rattle.far_book.proofs.region.Evictions.{evicted_is, far_says, sent}
+use Rattle.far_book.proofs.region.Evictions.{evicted_is, far_says}
 use Rattle.far_book.proofs.region.Fetched.{fetched_come}
 use Rattle.far_book.proofs.region.Moved.{moved_is, stayed_is}
 use Rattle.far_book.proofs.region.Places.{named_is, next_unsealed}

@@ -1,6 +1,5 @@
-use Rattle.std.proofs.Common.{◌≡◌, ℕ, ◌*◌, ◌/◌, ◌^◌, ◌∙◌, ap, nat_eq, Some}
+use Rattle.std.proofs.Common.{ℕ, ◌*◌, ◌/◌, ◌^◌, ◌∙◌, ap, nat_eq}
 use mir.Val.{bool_byte}
-use Rattle.far_word.specs.declared.pointer.PtrWord.{PtrWord}
 use Rattle.far_word.proofs.CountLaws.{kept_read, near_read}
 use Rattle.far_word.proofs.pointer.object_counts.Goals as goal
 

@@ -1,12 +1,12 @@
 use Rattle.far_book.proofs.book.Book.send_by.Goals as goal
-use Rattle.std.proofs.Common.{◌<◌, ◌*◌, ap, sym, subst, arith, length-take-le}
+use Rattle.std.proofs.Common.{◌<◌, ◌*◌, ap, sym, subst}
 use Rattle.far_word.specs.declared.sizes.TheConstants.{CELLS}
 use Rattle.far_word.specs.Sizes.{words_for}
 use Rattle.far_core.specs.state.State.{State}
 use Rattle.far_book.specs.book.BookOf.{BookOf}
 use Rattle.far_book.specs.book.Dealing.{Leaves}
 use Rattle.far_book.specs.book.Evicting.{IsQuietIn}
-use Rattle.far_book.proofs.region.Evictions.{layout, learned_stored, quiet_object, sent_order}
+use Rattle.far_book.proofs.region.Evictions.{learned_stored, quiet_object, sent_order}
 use Rattle.far_book.proofs.region.Learning.{learned_leaves}
 
 pub read_object-requires-clause-object : goal.read_object-requires-clause-object
