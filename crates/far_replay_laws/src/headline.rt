@@ -132,7 +132,7 @@ pub fn drops_end_objects()
 /// would be, by the phase, and its counts are their sums, and where it is done of what has changed so from its first moment to
 /// its last. The phase follows from commands and replies, and 12 is answered
 /// exactly out of phase. Through any command the sealed logs keep their order, but for those that were given back, and those sealed
-/// since come last; so from the heap's start on the first is the oldest.
+/// since come last; so of two that were sealed by different commands the first is the older.
 pub fn steps_are_told()
     ensures told { StepsAreTold }
     ensures ages { AgesStay }
