@@ -10,10 +10,12 @@ pub mod Coming
 pub mod CountedOnce
 pub mod Determined
 pub mod EpochLaws
+pub mod EpochsSpent
 pub mod HotViews
 pub mod InquiryLaws
 pub mod Kept
 pub mod LeavingMarks
+pub mod LeftBeside
 pub mod LeftBySteps
 pub mod LeftByWalks
 pub mod Listed

@@ -1,9 +1,11 @@
 pub mod Ages
 pub mod Census
 pub mod Chosen
+pub mod Epochs
 pub mod Headline
 pub mod HowMany
 pub mod Left
+pub mod LeftBeside
 pub mod LeftMarks
 pub mod Listed
 pub mod MovesTake

@@ -2,6 +2,7 @@
 
 ghost use Rattle.far_replay_laws.specs.Census.{AuditsByCensus};
 ghost use Rattle.far_replay_laws.specs.Chosen.{RoundsAreChosen};
+ghost use Rattle.far_replay_laws.specs.Epochs.{StepsSpendEpochs};
 ghost use Rattle.far_replay_laws.specs.Listed.{AuditCountsList};
 ghost use Rattle.far_replay_laws.specs.Headline.{OutputsAreSound, OneOutput, EachTextIsAnswered, TextsWriteBytes, LinesAreNumbered, MomentsLast, EventsReach, ShapesAre, HeapsBeginLawful, ObjectsStayWhole, ViewedLogsStay, ViewsLast, RefusalsStay, RefusalsChangeNothing, TriesAreAnswered, UnknownMutatorsAreRefused, NearRefusals, MutatorsAreAlone, OwnLinesCount, MutatorsLearn, NewTakesTheLowest, NoneIsLeft, NewIsMade, NewMakesItsObject, CommandsTakeRoom, WritesChangeTheirRange, LogsAreTold, WhereTells, LogTellsItsLine, AuditCounts, DropEndsObject, EpochsAreTold, ScopesOpenAtEpochs, ClosesForget, PrintedAlike};
 ghost use Rattle.far_replay_laws.specs.Ages.{AgesStay};
@@ -132,10 +133,12 @@ pub fn drops_end_objects()
 /// would be, by the phase, and its counts are their sums, and where it is done of what has changed so from its first moment to
 /// its last. The phase follows from commands and replies, and 12 is answered
 /// exactly out of phase. Through any command the sealed logs keep their order, but for those that were given back, and those sealed
-/// since come last; so of two that were sealed by different commands the first is the older.
+/// since come last; so of two that were sealed by different commands the first is the older. The heap's epoch is the one that a
+/// marking tells, and no other step but a round spends one; in the last epoch, idle, a choice of logs is refused 13, whatever is sealed.
 pub fn steps_are_told()
     ensures told { StepsAreTold }
     ensures ages { AgesStay }
+    ensures epochs { StepsSpendEpochs }
 {}
 
 /// A command that is no step of the evacuator leaves the round: its phase, its logs that are still held, in their order, the
