@@ -1,5 +1,5 @@
 -- Through a step of the evacuator the epoch goes on as its reply says, and in the last one no logs are chosen.
-use Rattle.std.proofs.Common.{◌≡◌, ℕ, zero, suc, ◌+◌, ◌==◌, Bool, true, false, not, refl, sym, ap, subst, ◌∙◌, Option, Some, None, List, [], ◌∷◌}
+use Rattle.std.proofs.Common.{◌≡◌, ℕ, zero, suc, ◌+◌, Bool, true, not, refl, sym, ap, subst, ◌∙◌, Option, Some, None, List, [], ◌∷◌}
 use Rattle.std.proofs.lemmas.Bool.{cond_both, eq-eqb}
 use Rattle.far_word.specs.declared.refused.Refused.{Refused as Refusal}
 use Rattle.far_word.specs.declared.refused.Refused.TheVariants.{EpochsSpent, Phase as WrongPhase}
@@ -16,14 +16,14 @@ use Rattle.far_evac.proofs.ComingBack.{come_back_empty}
 use Rattle.far_evac.proofs.Marks.{is_given_up}
 use Rattle.far_evac.proofs.Walks.{walk_is}
 use Rattle.far_text.specs.Command.{Evacuator, Step, Select, Mark, Wait, Evacuate, Abort, Round}
-use Rattle.far_replay.specs.Answers.{Commanded, IsMoment}
+use Rattle.far_replay.specs.Answers.{Commanded}
 use Rattle.far_replay.specs.Moment.{Moment}
 use Rattle.far_replay.specs.Reply.{Reply, Marked, Refused}
 use Rattle.far_replay.specs.Rounds.{choice_causes, given_by, refused_step, rows_in, step_effect}
 use Rattle.far_replay.specs.Turn.{first_cause, refusal, refused_effect, reply_to, turn_effect, turn_reply, unless}
 use Rattle.far_replay.proofs.Lasting.{Lasts, moment_lasts}
 use Rattle.far_replay.proofs.RoundLeads.{step_stays}
-use Rattle.far_replay_laws.specs.Epochs.{Chooses, EpochAfter, StepSpends, StepsSpendEpochs}
+use Rattle.far_replay_laws.specs.Epochs.{Chooses, EpochAfter, StepsSpendEpochs}
 use Rattle.far_replay_laws.specs.Steps.{ReachesEpoch, TellsStep}
 use Rattle.far_replay_laws.proofs.TurnsTell.{steps_told}
 

@@ -2,7 +2,7 @@
 use Rattle.std.specs.Prelude.{◌≡◌, ℕ, ◌+◌, Some}
 use Rattle.far_word.specs.declared.sizes.TheConstants.{EPOCH_END}
 use Rattle.far_evac.specs.declared.phase.Phase.TheVariants.{Idle}
-use Rattle.far_text.specs.Command.{Evacuator, Step, Select, Mark, Wait, Evacuate, Abort, Round}
+use Rattle.far_text.specs.Command.{Evacuator, Step, Select, Mark, Round}
 use Rattle.far_word.specs.declared.refused.Refused.TheVariants.{EpochsSpent}
 use Rattle.far_replay.specs.Answers.{Commanded, IsMoment}
 use Rattle.far_replay.specs.Moment.{Moment}
