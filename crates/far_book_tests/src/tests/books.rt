@@ -1,5 +1,6 @@
 //! The book by worked values: logs that fill up, objects that are dropped, cells that are used again.
 
+ghost use Rattle.std.specs.Borrow.{MutBor};
 ghost use Rattle.std.specs.Prelude.{◌≡◌, ◌<◌, ◌≤◌, true};
 ghost use Rattle.far_word.specs.declared.sizes.TheConstants.{LONGEST};
 
@@ -23,6 +24,19 @@ pub(super) const NO_MARKS: Marks = Marks {
     moved: false,
     dropped: false,
 };
+
+/// Whether something was made, and this is so of it.
+pub(super) fn is_so_of<T: Drop, E: Drop, F: FnOnce(&mut T) -> bool>(
+    made: Result<T, E>,
+    is_so: F,
+) -> bool
+    requires { (p : MutBor T) → F.pre is_so p }
+{
+    match made {
+        Ok(mut it) => is_so(&mut it),
+        Err(_) => false,
+    }
+}
 
 pub(super) fn opened(rt: &HostRuntime, shape: Shape) -> Result<Book<Plain, MemDevice>, Refused> {
     opened_over(rt, shape, MemDevice::new(rt.alloc()))
@@ -252,6 +266,13 @@ pub(super) fn mark_sealed<N: Near + Drop, D: Device + Drop>(
     Some(book.mark(pointer))
 }
 
+// Whether pointer 0 is an object of 8 bytes in log 0, which another one seals, and is marked.
+pub(super) fn marks_first<N: Near + Drop, D: Device + Drop>(book: &mut Book<N, D>) -> bool {
+    place_next(book, 8, 1).is_ok()
+        && place_next(book, 1016, 1).is_ok()
+        && mark_sealed(book, 0).is_some()
+}
+
 // Its owner takes a pointer over and drops it.
 fn drop_next(book: &mut Book<Plain, MemDevice>, pointer: u16) {
     let owner = 0;
@@ -303,10 +324,8 @@ fn fills_a_log(book: &mut Book<Plain, MemDevice>) -> bool {
 }
 
 #[test]
-fn the_largest_object_fills_a_log(rt: HostRuntime) -> Result<(), Fail> {
-    let mut book = opened(&rt, SMALL)?;
-    assert!(rt; fills_a_log(&mut book));
-    Ok(())
+fn the_largest_object_fills_a_log(rt: HostRuntime) {
+    assert!(rt; is_so_of(opened(&rt, SMALL), fills_a_log));
 }
 
 // Whether an object of 9 bytes takes a word for the last of them.
@@ -336,27 +355,19 @@ fn takes_whole_words(book: &mut Book<Plain, MemDevice>) -> bool {
 }
 
 #[test]
-fn an_odd_length_takes_whole_words(rt: HostRuntime) -> Result<(), Fail> {
-    let mut book = opened(&rt, SMALL)?;
-    assert!(rt; takes_whole_words(&mut book));
-    Ok(())
+fn an_odd_length_takes_whole_words(rt: HostRuntime) {
+    assert!(rt; is_so_of(opened(&rt, SMALL), takes_whole_words));
 }
 
-// A book in which the first mutator holds an object of two words, its pointer 0.
-fn holding_pair(rt: &HostRuntime) -> Result<Book<Plain, MemDevice>, Refused> {
-    let mut book = opened(rt, SMALL)?;
-    let (pointer, _) = place_next(&mut book, 16, 1)?;
-    let owner = 0;
-    let events = [
-        Event::Adopt { owner, pointer },
-        Event::ReadEpoch { owner },
-        Event::Open { owner },
-        Event::Pin { owner, pointer },
-    ];
-    for event in events {
-        book.owner(event);
-    }
-    Ok(book)
+// Whether the first mutator gets an object of two words, its pointer 0, and holds it.
+fn holds_pair(book: &mut Book<Plain, MemDevice>) -> bool {
+    let (owner, pointer) = (0, 0);
+    let placed = places_next(book, 16, pointer, Place { log: 0, at: 0 });
+    book.owner(Event::Adopt { owner, pointer });
+    book.owner(Event::ReadEpoch { owner });
+    book.owner(Event::Open { owner });
+    book.owner(Event::Pin { owner, pointer });
+    placed
 }
 
 // Stores a word into an object of two words, if the first mutator holds it, and says whether it did.
@@ -400,7 +411,8 @@ fn stores_and_loads(book: &mut Book<Plain, MemDevice>) -> bool {
         pointer,
         index: 1,
     };
-    words_of(book, pointer) == Some([0, 0])
+    holds_pair(book)
+        && words_of(book, pointer) == Some([0, 0])
         && store_word(book, pointer, 1, 7)
         && store_word(book, pointer, 0, u64::MAX)
         && words_of(book, pointer) == Some([u64::MAX, 7])
@@ -413,10 +425,8 @@ fn stores_and_loads(book: &mut Book<Plain, MemDevice>) -> bool {
 }
 
 #[test]
-fn words_are_stored_and_loaded(rt: HostRuntime) -> Result<(), Fail> {
-    let mut book = holding_pair(&rt)?;
-    assert!(rt; stores_and_loads(&mut book));
-    Ok(())
+fn words_are_stored_and_loaded(rt: HostRuntime) {
+    assert!(rt; is_so_of(opened(&rt, SMALL), stores_and_loads));
 }
 
 // Whether one of three logs stays free where both others are full.
@@ -429,10 +439,8 @@ fn keeps_the_last(book: &mut Book<Plain, MemDevice>) -> bool {
 }
 
 #[test]
-fn the_last_free_log_is_kept(rt: HostRuntime) -> Result<(), Fail> {
-    let mut book = opened(&rt, Shape { logs: 3, ..SMALL })?;
-    assert!(rt; keeps_the_last(&mut book));
-    Ok(())
+fn the_last_free_log_is_kept(rt: HostRuntime) {
+    assert!(rt; is_so_of(opened(&rt, Shape { logs: 3, ..SMALL }), keeps_the_last));
 }
 
 // A span of an object of 328 bytes.
@@ -456,6 +464,19 @@ fn has_spans(book: &mut Book<Plain, MemDevice>, spans: &[Span]) -> bool {
     }
 }
 
+// Whether so many objects of a length get a place.
+fn places_many(book: &mut Book<Plain, MemDevice>, objects: u8, len: u16, ds: u8) -> bool
+    requires some { 0 < len }
+    requires most { len ≤ LONGEST }
+{
+    for _ in 0..objects {
+        if place_next(book, len, ds).is_err() {
+            return false;
+        }
+    }
+    true
+}
+
 // Whether of three objects of 328 bytes and one that fill log 0 the second is dropped and retired, and its span stays.
 fn makes_dead(book: &mut Book<Plain, MemDevice>) -> bool {
     let last = Span {
@@ -464,7 +485,9 @@ fn makes_dead(book: &mut Book<Plain, MemDevice>) -> bool {
         len: 8,
         ds: 1,
     };
-    let full = !retire_dropped(book, 1);
+    let full = places_many(book, 3, 328, 7)
+        && places_many(book, 1, 8, 1)
+        && !retire_dropped(book, 1);
     drop_next(book, 1);
     full && has(book, 0, line(Kind::Open, 0, 1024, 0, 0))
         && retire_dropped(book, 1)
@@ -474,14 +497,8 @@ fn makes_dead(book: &mut Book<Plain, MemDevice>) -> bool {
 }
 
 #[test]
-fn a_dropped_object_is_dead(rt: HostRuntime) -> Result<(), Fail> {
-    let mut book = opened(&rt, SMALL)?;
-    for _ in 0..3u8 {
-        place_next(&mut book, 328, 7)?;
-    }
-    place_next(&mut book, 8, 1)?;
-    assert!(rt; makes_dead(&mut book));
-    Ok(())
+fn a_dropped_object_is_dead(rt: HostRuntime) {
+    assert!(rt; is_so_of(opened(&rt, SMALL), makes_dead));
 }
 
 // Whether an object is dropped and retired.
@@ -492,7 +509,8 @@ fn lets_go(book: &mut Book<Plain, MemDevice>, pointer: u16) -> bool {
 
 // Whether of 128 objects of 16 bytes with their headers two are dropped, and new ones get their cells, the lowest first.
 fn takes_the_lowest(book: &mut Book<Plain, MemDevice>) -> bool {
-    refuses_next(book, Refused::NoPointer)
+    places_many(book, 128, 1, 1)
+        && refuses_next(book, Refused::NoPointer)
         && lets_go(book, 100)
         && lets_go(book, 64)
         && places_next(book, 1, 64, Place { log: 2, at: 0 })
@@ -501,13 +519,8 @@ fn takes_the_lowest(book: &mut Book<Plain, MemDevice>) -> bool {
 }
 
 #[test]
-fn the_lowest_free_cell_is_taken(rt: HostRuntime) -> Result<(), Fail> {
-    let mut book = opened(&rt, SMALL)?;
-    for _ in 0..128u8 {
-        place_next(&mut book, 1, 1)?;
-    }
-    assert!(rt; takes_the_lowest(&mut book));
-    Ok(())
+fn the_lowest_free_cell_is_taken(rt: HostRuntime) {
+    assert!(rt; is_so_of(opened(&rt, SMALL), takes_the_lowest));
 }
 
 // Whether an object is marked once its log is sealed, and answers its word before each time.
@@ -529,10 +542,8 @@ fn marks_when_sealed(book: &mut Book<Plain, MemDevice>) -> bool {
 }
 
 #[test]
-fn an_object_of_a_sealed_log_is_marked(rt: HostRuntime) -> Result<(), Fail> {
-    let mut book = opened(&rt, SMALL)?;
-    assert!(rt; marks_when_sealed(&mut book));
-    Ok(())
+fn an_object_of_a_sealed_log_is_marked(rt: HostRuntime) {
+    assert!(rt; is_so_of(opened(&rt, SMALL), marks_when_sealed));
 }
 
 // Whether pointer 0's new object is found as it was placed, then with HOT, then dropped, and is retired.
@@ -569,7 +580,7 @@ fn marks_come_between_calls(rt: HostRuntime) -> Result<(), Fail> {
             mark
         },
     ]?;
-    let mut book = beset(&rt, events, MemDevice::new(rt.alloc()))?;
-    assert!(rt; finds_marks(&mut book));
+    let book = beset(&rt, events, MemDevice::new(rt.alloc()));
+    assert!(rt; is_so_of(book, finds_marks));
     Ok(())
 }

@@ -16,7 +16,6 @@ use far_book::{Beset, Near, Plain};
 use far_core::{Core, Event, Kind, Reply, Shape};
 use far_word::{Mark, PtrWord, Refused};
 use std::alloc::Global;
-use std::process::Abort;
 use std::test::Fail;
 
 const SMALL: Shape = Shape {
@@ -36,6 +35,11 @@ const HOT: u64 = 0xc400_0000_0001_0008;
 const MOVED: u64 = 0xd400_0000_0001_0008;
 
 const DROPPED: u64 = 0xdc00_0000_0001_0008;
+
+/// The header of pointer 0 where its object fills log 0, and its cell there with DROP.
+const FILLING: u64 = 0xa100_0000_0001_03f8;
+
+const GONE: u64 = 0x8c00_0000_0001_03f8;
 
 /// Pointer 0 gets the first two words of log 0.
 fn place_first<N: Near>(near: &mut N) -> Result<(), u64>
@@ -94,42 +98,81 @@ fn ask(mark: Mark) -> Event {
     }
 }
 
-#[test]
-fn plain_words_stay(rt: HostRuntime) -> Result<(), Fail> {
-    let mut hand = plain_hand(rt.alloc())?;
-    let named = place_first(&mut hand);
-    assert_eq!(rt; named, Ok(()));
-    assert_eq!(rt; hand.shape(), SMALL);
-    assert!(rt; hand.core.cell(0) == NEAR);
-    assert!(rt; hand.core.mutators() == 1 && hand.core.logs() == 4);
-    assert!(rt; hand.see(0) == NEAR);
-    assert!(rt; hand.get(0, 0, false) == HEADER);
-    assert!(rt; hand.get(0, 1, false) == 0);
+// Whether pointer 0 and its two words are seen as they were written.
+fn shows_first(hand: &mut Plain) -> bool {
+    hand.core.mutators() == 1
+        && hand.core.logs() == 4
+        && hand.core.cell(0) == NEAR
+        && hand.see(0) == NEAR
+        && hand.get(0, 0, false) == HEADER
+        && hand.get(0, 1, false) == 0
+}
+
+// Whether its owner takes pointer 0 over and drops it, and it is retired.
+fn lets_first_go(hand: &mut Plain) -> bool {
     let adopt = Event::Adopt {
         owner: 0,
         pointer: 0,
     };
-    assert_eq!(rt; hand.core.step(adopt), Reply::Word(NEAR));
-    assert_eq!(rt; hand.core.step(ask(Mark::Dropped)), Reply::Word(NEAR));
-    assert!(rt; hand.core.mutators() == 1);
-    assert_eq!(rt; retire_first(&mut hand), Some(Ok(())));
-    assert!(rt; hand.core.cell(0) == 0);
+    hand.core.step(adopt) == Reply::Word(NEAR)
+        && hand.core.step(ask(Mark::Dropped)) == Reply::Word(NEAR)
+        && hand.core.mutators() == 1
+        && retire_first(hand) == Some(Ok(()))
+        && hand.core.cell(0) == 0
+}
+
+#[test]
+fn plain_words_stay(rt: HostRuntime) -> Result<(), Fail> {
+    let mut hand = plain_hand(rt.alloc())?;
+    let named = place_first(&mut hand);
+    assert!(rt; named == Ok(()));
+    assert!(rt; hand.shape() == SMALL);
+    assert!(rt; shows_first(&mut hand));
+    assert!(rt; lets_first_go(&mut hand));
     Ok(())
 }
 
-/// Which of the first two words of log 0 are counted on, beside headers.
-fn counted(hand: &Beset) -> (Option<bool>, Option<bool>) {
-    (hand.counted.get(0).copied(), hand.counted.get(1).copied())
+// Whether the first two words of log 0 are counted on so, beside headers.
+fn counts(hand: &Beset, first: bool, second: bool) -> bool {
+    hand.counted.get(0).copied() == Some(first) && hand.counted.get(1).copied() == Some(second)
 }
 
-fn see_first(rt: &impl Abort, hand: &mut Beset) -> u64 {
-    assert!(rt; hand.core.mutators() == 1);
-    hand.see(0)
+// Whether the cell of pointer 0 is seen with this word.
+fn sees(hand: &mut Beset, word: u64) -> bool {
+    hand.core.mutators() == 1 && hand.see(0) == word
 }
 
-fn get_second(rt: &impl Abort, hand: &mut Beset) -> u64 {
-    assert!(rt; hand.core.logs() == 4);
-    hand.get(0, 1, false)
+// Whether the second word of log 0 is read so.
+fn gets(hand: &mut Beset, word: u64) -> bool {
+    hand.core.logs() == 4 && hand.get(0, 1, false) == word
+}
+
+// Whether pointer 0 is seen to be dropped, and its cell is free again.
+fn retires(hand: &mut Beset) -> bool {
+    hand.core.mutators() == 1 && retire_first(hand) == Some(Ok(())) && hand.core.cell(0) == 0
+}
+
+// Whether pointer 0's owner stores into the object, so that what is read isn't counted on.
+fn stores_meanwhile(hand: &mut Beset) -> bool {
+    counts(hand, false, false)
+        && sees(hand, NEAR)
+        && sees(hand, HOT)
+        && gets(hand, 7)
+        && gets(hand, 8)
+        && counts(hand, false, false)
+}
+
+// Whether it is quiet once it has MOVE, until it is retired.
+fn is_quiet(hand: &mut Beset) -> bool {
+    sees(hand, HOT)
+        && sees(hand, HOT)
+        && sees(hand, MOVED)
+        && gets(hand, 8)
+        && counts(hand, false, true)
+        && hand.core.cell(0) == DROPPED
+        && hand.shape() == SMALL
+        && retires(hand)
+        && counts(hand, false, false)
 }
 
 #[test]
@@ -158,34 +201,14 @@ fn owners_are_at_work(rt: HostRuntime) -> Result<(), Fail> {
     ]?;
     let mut hand = beset_hand(rt.alloc(), events)?;
     let named = place_first(&mut hand);
-    assert_eq!(rt;
-        (named, counted(&hand)),
-        (Ok(()), (Some(false), Some(false)))
-    );
-    assert!(rt; see_first(&rt, &mut hand) == NEAR);
-    assert!(rt; see_first(&rt, &mut hand) == HOT);
-    // Its owner stores into the object, so what is read isn't counted on.
-    assert!(rt; get_second(&rt, &mut hand) == 7);
-    assert!(rt; get_second(&rt, &mut hand) == 8);
-    assert!(rt; counted(&hand) == (Some(false), Some(false)));
-    assert!(rt; see_first(&rt, &mut hand) == HOT);
-    assert!(rt; see_first(&rt, &mut hand) == HOT);
-    assert!(rt; see_first(&rt, &mut hand) == MOVED);
-    // It has MOVE, so it is quiet.
-    assert!(rt; get_second(&rt, &mut hand) == 8);
-    assert!(rt; counted(&hand) == (Some(false), Some(true)));
-    assert_eq!(rt; (hand.core.cell(0), hand.shape()), (DROPPED, SMALL));
-    assert!(rt; hand.core.mutators() == 1);
-    assert_eq!(rt; retire_first(&mut hand), Some(Ok(())));
-    assert_eq!(rt;
-        (hand.core.cell(0), counted(&hand)),
-        (0, (Some(false), Some(false)))
-    );
+    assert!(rt; named == Ok(()));
+    assert!(rt; stores_meanwhile(&mut hand));
+    assert!(rt; is_quiet(&mut hand));
     Ok(())
 }
 
 /// Pointer 0 is dropped, and its object fills log 0, which is sealed.
-fn dropped_core(rt: &impl Abort, alloc: Global) -> Result<Core, Refused> {
+fn dropped_core(alloc: Global) -> Result<Core, Refused> {
     let mut core = Core::new(alloc, SMALL, true)?;
     let put = |log: u8, word: u64| Event::Put { log, at: 0, word };
     let name = |pointer: u16, new: u64| Event::Name {
@@ -194,7 +217,7 @@ fn dropped_core(rt: &impl Abort, alloc: Global) -> Result<Core, Refused> {
         new,
     };
     let events = [
-        put(0, 0xa100_0000_0001_03f8),
+        put(0, FILLING),
         name(0, 0x8400_0000_0001_03f8),
         put(1, 0xa100_0000_0101_0008),
         name(1, 0x8400_0004_0001_0008),
@@ -205,8 +228,7 @@ fn dropped_core(rt: &impl Abort, alloc: Global) -> Result<Core, Refused> {
         ask(Mark::Dropped),
     ];
     for event in events {
-        let reply = core.step(event);
-        assert!(rt; reply != Reply::Refused, "at {event:?}");
+        core.step(event);
     }
     Ok(core)
 }
@@ -241,34 +263,45 @@ fn is_vacant(found: &Vec<u64>, log: u8) -> bool
     true
 }
 
-fn assert_vacant(rt: &impl Abort, found: &Vec<u64>, log: u8)
-    ensures { (p len ds : ℕ) (place : Place) (marks : Marks) → read_of (word_at found.now.items p) ≡ Some (near.Near len ds place marks) → place.log ≢ log }
-{
-    let vacant = is_vacant(found, log);
-    assert!(rt; vacant);
+// Whether EVAC is taken from pointer 0, and the hand has found its cell so.
+fn takes_evac_back(hand: &mut Beset) -> bool {
+    hand.core.mutators() == 1
+        && clear_first(hand) == Some(0xac00_0000_0001_03f8)
+        && hand.core.cell(0) == GONE
+        && hand.found.get(0).copied() == Some(GONE)
+}
+
+// Whether there is no object from which it is taken.
+fn takes_nothing_back(hand: &mut Plain) -> bool {
+    hand.core.mutators() == 1 && clear_first(hand).is_none()
 }
 
 #[test]
 fn evac_is_taken_back(rt: HostRuntime) -> Result<(), Fail> {
-    let mut core = dropped_core(&rt, rt.alloc())?;
-    let pointer = 0;
-    let named = Reply::Word(0x8c00_0000_0001_03f8);
-    assert_eq!(rt; core.step(Event::Mark { pointer }), named);
+    let mut core = dropped_core(rt.alloc())?;
+    assert!(rt; core.step(Event::Mark { pointer: 0 }) == Reply::Word(GONE));
     let owners = vec![in rt.alloc()]?;
     let mut hand = Beset::new(rt.alloc(), core, owners)?;
-    assert!(rt; hand.core.mutators() == 1);
-    assert_eq!(rt; clear_first(&mut hand), Some(0xac00_0000_0001_03f8));
-    assert!(rt; hand.core.cell(0) == 0x8c00_0000_0001_03f8);
-    assert_eq!(rt; hand.found.get(0).copied(), Some(0x8c00_0000_0001_03f8));
+    assert!(rt; takes_evac_back(&mut hand));
     let mut hand = plain_hand(rt.alloc())?;
-    assert!(rt; hand.core.mutators() == 1);
-    assert_eq!(rt; clear_first(&mut hand), None);
+    assert!(rt; takes_nothing_back(&mut hand));
     Ok(())
+}
+
+// Whether the first word of log 0 is read, and with it the log is given back.
+fn gives_back(hand: &mut Beset) -> bool {
+    hand.core.logs() == 4
+        && hand.core.kind(0) == Kind::Sealed
+        && is_vacant(&hand.found, 0)
+        && hand.get(0, 0, true) == FILLING
+        && hand.core.logs() == 4
+        && hand.core.kind(0) == Kind::Free
+        && hand.core.tail(0) == 0
 }
 
 #[test]
 fn beset_log_is_given_back(rt: HostRuntime) -> Result<(), Fail> {
-    let core = dropped_core(&rt, rt.alloc())?;
+    let core = dropped_core(rt.alloc())?;
     let events = vec![in rt.alloc();
         Event::ReadEpoch { owner: 0 },
         Event::Open { owner: 0 },
@@ -282,13 +315,7 @@ fn beset_log_is_given_back(rt: HostRuntime) -> Result<(), Fail> {
         },
     ]?;
     let mut hand = Beset::new(rt.alloc(), core, events)?;
-    assert!(rt; hand.core.mutators() == 1);
-    assert_eq!(rt; retire_first(&mut hand), Some(Ok(())));
-    assert_vacant(&rt, &hand.found, 0);
-    assert!(rt; hand.core.logs() == 4);
-    assert!(rt; hand.core.kind(0) == Kind::Sealed);
-    assert!(rt; hand.get(0, 0, true) == 0xa100_0000_0001_03f8);
-    assert!(rt; hand.core.logs() == 4);
-    assert_eq!(rt; (hand.core.kind(0), hand.core.tail(0)), (Kind::Free, 0));
+    assert!(rt; retires(&mut hand));
+    assert!(rt; gives_back(&mut hand));
     Ok(())
 }

@@ -4,8 +4,8 @@ ghost use Rattle.std.specs.Prelude.{◌<◌, ◌≤◌};
 ghost use Rattle.far_word.specs.declared.sizes.TheConstants.{LONGEST};
 
 use crate::tests::books::{
-    DROP, HOT, MOVE, NO_MARKS, SMALL, beset, events_after, has, home, line, mark_sealed, opened,
-    opened_over, place_next, shown,
+    DROP, HOT, MOVE, NO_MARKS, SMALL, beset, events_after, has, home, is_so_of, line, mark_sealed,
+    marks_first, opened, opened_over, place_next, shown,
 };
 use crate::tests::devices::{Picky, Starved, shown_device};
 use crate::tests::moving::moves_to;
@@ -15,7 +15,6 @@ use far_device::{Device, MemDevice};
 use far_log::LogRow;
 use far_word::{LONGEST, Marks, Place, Refused, words_for};
 use std::alloc::AllocError;
-use std::test::Fail;
 
 /// The cell of pointer 0, an object of 8 bytes of data structure 1 at the start of log 0: with EVAC and MOVE, and far.
 const LEAVING: u64 = 0xb400_0000_0001_0008;
@@ -105,17 +104,17 @@ pub(super) fn loads_counted<D: Device + Drop>(book: &mut Book<Plain, D>, len: u1
     book.owner(Event::Close { owner }) == Reply::Done
 }
 
-// Pointer 0 is an object of such bytes in log 0, which is sealed, and has EVAC and MOVE.
-pub(super) fn leaving<D: Device + Drop>(book: &mut Book<Plain, D>, len: u16) -> Result<(), Refused>
+// Whether pointer 0 is an object of such bytes in log 0, which is sealed, and has EVAC and MOVE.
+pub(super) fn leaves<D: Device + Drop>(book: &mut Book<Plain, D>, len: u16) -> bool
     requires some { 0 < len }
     requires most { len ≤ LONGEST }
 {
-    place_next(book, len, 1)?;
+    let placed = place_next(book, len, 1).is_ok();
     store_counted(book, len);
-    place_next(book, 1016, 1)?;
+    let sealed = place_next(book, 1016, 1).is_ok();
     mark_sealed(book, 0);
     book.owner(MOVE);
-    Ok(())
+    placed && sealed
 }
 
 // Whether an object that is asked to leave goes far.
@@ -123,62 +122,71 @@ pub(super) fn goes<N: Near + Drop, D: Device + Drop>(book: &mut Book<N, D>, poin
     evict_asked(book, pointer) == Some(Ok(true))
 }
 
-// An object of so many bytes is to leave for a device that takes so many bytes alone.
-fn leaving_to(rt: &HostRuntime, len: u16, taken: u16) -> Result<Book<Plain, Picky>, Fail>
+// A book over a device that takes so many bytes alone.
+fn opened_over_picky(rt: &HostRuntime, taken: u16) -> Result<Book<Plain, Picky>, Refused> {
+    let Ok(wanted) = counted_bytes(rt, taken) else {
+        return Err(Refused::Memory);
+    };
+    let device = Picky {
+        inner: MemDevice::new(rt.alloc()),
+        wanted,
+        faults: 0,
+    };
+    opened_over(rt, SMALL, device)
+}
+
+// Whether an object of so many bytes goes far, and its log has its span of so many bytes, live before and dead after.
+fn goes_far(book: &mut Book<Plain, Picky>, len: u16, size: u16) -> bool
     requires some { 0 < len }
     requires most { len ≤ LONGEST }
 {
-    let device = Picky {
-        inner: MemDevice::new(rt.alloc()),
-        wanted: counted_bytes(rt, taken)?,
-        faults: 0,
-    };
-    let mut book = opened_over(rt, SMALL, device)?;
-    leaving(&mut book, len)?;
-    Ok(book)
-}
-
-// Whether it goes far, and its log has its span of so many bytes, live before and dead after.
-fn goes_far(mut book: Book<Plain, Picky>, len: u16, size: u16) -> bool {
     let rest = 1024u16.saturating_sub(size);
-    has(&book, 0, sealed(size, 0, rest))
-        && goes(&mut book, 0)
+    leaves(book, len)
+        && has(book, 0, sealed(size, 0, rest))
+        && goes(book, 0)
         && book.core().cell(0) == FAR - 8 + len as u64
-        && has(&book, 0, sealed(0, size, rest))
-        && evict_asked(&mut book, 0).is_none()
+        && has(book, 0, sealed(0, size, rest))
+        && evict_asked(book, 0).is_none()
 }
 
 #[test]
-fn the_device_is_given_the_bytes(rt: HostRuntime) -> Result<(), Fail> {
-    assert!(rt; goes_far(leaving_to(&rt, 1, 1)?, 1, 16));
-    assert!(rt; goes_far(leaving_to(&rt, 7, 7)?, 7, 16));
-    assert!(rt; goes_far(leaving_to(&rt, 8, 8)?, 8, 16));
-    assert!(rt; goes_far(leaving_to(&rt, 9, 9)?, 9, 24));
-    assert!(rt; goes_far(leaving_to(&rt, 16, 16)?, 16, 24));
-    assert!(rt; goes_far(leaving_to(&rt, 1016, 1016)?, 1016, 1024));
-    Ok(())
+fn the_device_is_given_the_bytes(rt: HostRuntime) {
+    assert!(rt; is_so_of(opened_over_picky(&rt, 1), |book| goes_far(book, 1, 16)));
+    assert!(rt; is_so_of(opened_over_picky(&rt, 7), |book| goes_far(book, 7, 16)));
+    assert!(rt; is_so_of(opened_over_picky(&rt, 8), |book| goes_far(book, 8, 16)));
+    assert!(rt; is_so_of(opened_over_picky(&rt, 9), |book| goes_far(book, 9, 24)));
+    assert!(rt; is_so_of(opened_over_picky(&rt, 16), |book| goes_far(book, 16, 24)));
+    assert!(rt;
+        is_so_of(
+            opened_over_picky(&rt, 1016),
+            |book| goes_far(book, 1016, 1024)
+        )
+    );
 }
 
-// The cell of an object of 8 bytes after an eviction that is refused so, and leaves its log as it was.
-fn cell_after<D: Device + Drop>(book: &mut Book<Plain, D>, why: Refused) -> Option<u64> {
-    if evict_asked(book, 0) != Some(Err(why)) || !has(book, 0, sealed(16, 0, 1008)) {
-        return None;
-    }
-    Some(book.core().cell(0))
+// Whether an eviction of an object of 8 bytes is refused so, and leaves it and its log as they were.
+fn refuses_leaving<D: Device + Drop>(book: &mut Book<Plain, D>, why: Refused) -> bool {
+    leaves(book, 8)
+        && evict_asked(book, 0) == Some(Err(why))
+        && has(book, 0, sealed(16, 0, 1008))
+        && book.core().cell(0) == LEAVING | 1 << 62
 }
 
 // Alone against an eviction that failed and goes far all the same, or takes a failure for want of memory.
 #[test]
-fn a_refused_eviction_leaves_the_object(rt: HostRuntime) -> Result<(), Fail> {
-    let mut book = opened_over(&rt, SMALL, Starved {})?;
-    leaving(&mut book, 8)?;
-    let cell = cell_after(&mut book, Refused::Memory);
-    assert!(rt; cell == Some(LEAVING) || cell == Some(LEAVING | 1 << 62));
-    let mut book = leaving_to(&rt, 8, 7)?;
-    assert!(rt; cell_after(&mut book, Refused::Device) == cell);
-    assert!(rt; moves_to(&mut book, 0, Place { log: 2, at: 0 }));
-    assert!(rt; loads_counted(&mut book, 8));
-    Ok(())
+fn a_refused_eviction_leaves_the_object(rt: HostRuntime) {
+    assert!(rt;
+        is_so_of(opened_over(&rt, SMALL, Starved {}), |book| {
+            refuses_leaving(book, Refused::Memory)
+        })
+    );
+    assert!(rt;
+        is_so_of(opened_over_picky(&rt, 7), |book| {
+            refuses_leaving(book, Refused::Device)
+                && moves_to(book, 0, Place { log: 2, at: 0 })
+                && loads_counted(book, 8)
+        })
+    );
 }
 
 /// What an eviction answers, where the object is then, whether the device holds bytes of it, and what its log has.
@@ -201,9 +209,7 @@ fn evicted_beside(rt: &HostRuntime, step: u8, then: &[Event]) -> Result<Beside, 
         return Err(Refused::Memory);
     };
     let mut book = beset(rt, events, device)?;
-    place_next(&mut book, 8, 1)?;
-    place_next(&mut book, 1016, 1)?;
-    mark_sealed(&mut book, 0);
+    marks_first(&mut book);
     let evicted = evict_asked(&mut book, 0);
     Ok((evicted, home(&mut book, 0), holds.get(), shown(&book, 0)))
 }
@@ -267,13 +273,17 @@ fn an_eviction_finds_a_drop_at_any_step(rt: HostRuntime) {
     assert!(rt; leaves_beside(&rt, 3, &[DROP], dropped));
 }
 
-#[test]
-fn a_dropped_object_is_retired(rt: HostRuntime) -> Result<(), Fail> {
-    let mut book = opened(&rt, SMALL)?;
-    leaving(&mut book, 8)?;
+// Whether an object that is dropped before it leaves is retired instead.
+fn leaves_dropped(book: &mut Book<Plain, MemDevice>) -> bool {
+    let asked = leaves(book, 8);
     book.owner(DROP);
-    assert!(rt; evict_asked(&mut book, 0) == Some(Ok(false)));
-    assert!(rt; book.core().cell(0) == 0);
-    assert!(rt; has(&book, 0, sealed(0, 16, 1008)));
-    Ok(())
+    asked
+        && evict_asked(book, 0) == Some(Ok(false))
+        && book.core().cell(0) == 0
+        && has(book, 0, sealed(0, 16, 1008))
+}
+
+#[test]
+fn a_dropped_object_is_retired(rt: HostRuntime) {
+    assert!(rt; is_so_of(opened(&rt, SMALL), leaves_dropped));
 }

@@ -4,15 +4,14 @@ ghost use Rattle.std.specs.Prelude.{◌<◌, ◌≤◌};
 ghost use Rattle.far_word.specs.declared.sizes.TheConstants.{LONGEST};
 
 use crate::tests::books::{
-    DROP, HOT, NO_MARKS, SMALL, ask, beset, events_after, has, home, is_near_at, line, mark_sealed,
-    opened, place_next, refuses_next, shown,
+    DROP, HOT, NO_MARKS, SMALL, ask, beset, events_after, has, home, is_near_at, is_so_of, line,
+    mark_sealed, marks_first, opened, place_next, refuses_next, shown,
 };
 use far_book::{Book, Home, Near, Plain};
 use far_core::{Event, Kind, Reply};
 use far_device::{Device, MemDevice};
 use far_log::LogRow;
 use far_word::{Mark, Marks, Place, Refused};
-use std::test::Fail;
 
 /// Moves a near object whose cell shows MOVE; `None` where the pointer names none.
 #[tactic(auto, using(crate::proofs::Uses::quiet_home))]
@@ -80,7 +79,7 @@ pub(super) fn moves_to<N: Near + Drop, D: Device + Drop>(
 }
 
 // Whether the move of an object that is asked to is refused so.
-fn refuses_move<N: Near + Drop, D: Device + Drop>(
+pub(super) fn refuses_move<N: Near + Drop, D: Device + Drop>(
     book: &mut Book<N, D>,
     pointer: u16,
     why: Refused,
@@ -98,102 +97,117 @@ fn loads_numbers<D: Device + Drop>(book: &mut Book<Plain, D>, pointer: u16, word
     true
 }
 
-#[test]
-fn an_object_stays_where_it_lies(rt: HostRuntime) -> Result<(), Fail> {
-    let mut book = opened(&rt, SMALL)?;
-    place_next(&mut book, 9, 2)?;
-    store_in(&mut book, 0, 1);
-    assert!(rt; move_asked(&mut book, 0).is_none());
+// Whether an object without a mark isn't moved, and one of the open log that is asked to is left where it lies.
+fn stays(book: &mut Book<Plain, MemDevice>) -> bool {
+    let placed = place_next(book, 9, 2).is_ok();
+    store_in(book, 0, 1);
+    let unasked = move_asked(book, 0).is_none();
     book.owner(ask(0, Mark::Moved));
-    assert!(rt; moves_to(&mut book, 0, Place { log: 0, at: 0 }));
-    assert!(rt; has(&book, 0, line(Kind::Open, 0, 24, 0, 1000)));
-    assert!(rt; loads_numbers(&mut book, 0, 1));
-    Ok(())
+    placed
+        && unasked
+        && moves_to(book, 0, Place { log: 0, at: 0 })
+        && has(book, 0, line(Kind::Open, 0, 24, 0, 1000))
+        && loads_numbers(book, 0, 1)
 }
 
-// Pointer 0 is an object of so many bytes in log 0, which is sealed, has EVAC and MOVE, and a number in each of its first words.
-fn asked(rt: &HostRuntime, len: u16, words: u16) -> Result<Book<Plain, MemDevice>, Refused>
+#[test]
+fn an_object_stays_where_it_lies(rt: HostRuntime) {
+    assert!(rt; is_so_of(opened(&rt, SMALL), stays));
+}
+
+// Whether pointer 0 is an object of so many bytes in log 0, which is sealed, has EVAC and MOVE, and a number in each of its first words.
+fn asks(book: &mut Book<Plain, MemDevice>, len: u16, words: u16) -> bool
     requires some { 0 < len }
     requires most { len ≤ LONGEST }
 {
-    let mut book = opened(rt, SMALL)?;
-    place_next(&mut book, len, 3)?;
-    store_in(&mut book, 0, words);
-    place_next(&mut book, 1016, 1)?;
-    mark_sealed(&mut book, 0);
+    let placed = place_next(book, len, 3).is_ok();
+    store_in(book, 0, words);
+    let sealed = place_next(book, 1016, 1).is_ok();
+    mark_sealed(book, 0);
     book.owner(ask(0, Mark::Moved));
-    Ok(book)
+    placed && sealed
 }
 
 // Whether such an object moves to log 2 with its numbers, and takes so many bytes there.
-fn moves_whole(mut book: Book<Plain, MemDevice>, words: u16, size: u16) -> bool {
+fn moves_whole(book: &mut Book<Plain, MemDevice>, len: u16, words: u16, size: u16) -> bool
+    requires some { 0 < len }
+    requires most { len ≤ LONGEST }
+{
     let rest = 1024u16.saturating_sub(size);
-    moves_to(&mut book, 0, Place { log: 2, at: 0 })
-        && has(&book, 0, line(Kind::Sealed, 0, 0, size, rest))
-        && has(&book, 2, line(Kind::Open, 2, size, 0, rest))
-        && loads_numbers(&mut book, 0, words)
+    asks(book, len, words)
+        && moves_to(book, 0, Place { log: 2, at: 0 })
+        && has(book, 0, line(Kind::Sealed, 0, 0, size, rest))
+        && has(book, 2, line(Kind::Open, 2, size, 0, rest))
+        && loads_numbers(book, 0, words)
 }
 
 #[test]
-fn an_object_moves_to_another_log(rt: HostRuntime) -> Result<(), Fail> {
-    assert!(rt; moves_whole(asked(&rt, 1, 0)?, 0, 16));
-    assert!(rt; moves_whole(asked(&rt, 7, 0)?, 0, 16));
-    assert!(rt; moves_whole(asked(&rt, 8, 1)?, 1, 16));
-    assert!(rt; moves_whole(asked(&rt, 9, 1)?, 1, 24));
-    assert!(rt; moves_whole(asked(&rt, 1016, 127)?, 127, 1024));
-    Ok(())
+fn an_object_moves_to_another_log(rt: HostRuntime) {
+    assert!(rt; is_so_of(opened(&rt, SMALL), |book| moves_whole(book, 1, 0, 16)));
+    assert!(rt; is_so_of(opened(&rt, SMALL), |book| moves_whole(book, 7, 0, 16)));
+    assert!(rt; is_so_of(opened(&rt, SMALL), |book| moves_whole(book, 8, 1, 16)));
+    assert!(rt; is_so_of(opened(&rt, SMALL), |book| moves_whole(book, 9, 1, 24)));
+    assert!(rt;
+        is_so_of(
+            opened(&rt, SMALL),
+            |book| moves_whole(book, 1016, 127, 1024)
+        )
+    );
 }
 
-// Pointers 0 and 1 are objects of sealed logs with EVAC and MOVE; of four logs only the last is free, and the one before it is full.
-fn two_asked(rt: &HostRuntime) -> Result<Book<Plain, MemDevice>, Refused> {
-    let mut book = opened(rt, SMALL)?;
-    place_next(&mut book, 8, 1)?;
-    place_next(&mut book, 1016, 1)?;
-    place_next(&mut book, 1016, 1)?;
+// Whether pointers 0 and 1 are objects of sealed logs with EVAC and MOVE, the second with numbers in its first two words; of four
+// logs only the last is free, and the one before it is full.
+pub(super) fn asks_two(book: &mut Book<Plain, MemDevice>) -> bool {
+    let placed = place_next(book, 8, 1).is_ok()
+        && place_next(book, 1016, 1).is_ok()
+        && place_next(book, 1016, 1).is_ok();
+    store_in(book, 1, 2);
     for pointer in 0..2u16 {
-        mark_sealed(&mut book, pointer);
+        mark_sealed(book, pointer);
         book.owner(Event::Adopt { owner: 0, pointer });
         book.owner(ask(pointer, Mark::Moved));
     }
-    Ok(book)
+    placed
 }
 
-#[test]
-fn a_move_takes_the_last_free_log(rt: HostRuntime) -> Result<(), Fail> {
-    let mut book = two_asked(&rt)?;
-    assert!(rt; refuses_next(&mut book, Refused::NoRoom));
-    assert!(rt; moves_to(&mut book, 0, Place { log: 3, at: 0 }));
-    // No log is left for the other, which lies as before.
-    assert!(rt; refuses_move(&mut book, 1, Refused::NoRoom));
+// Whether a move takes the last free log, and the other object lies as before, since none is left for it.
+fn takes_the_last(book: &mut Book<Plain, MemDevice>) -> bool {
     let marks = Marks {
+        hot: true,
         evac: true,
         moved: true,
         ..NO_MARKS
     };
-    assert!(rt; is_near_at(&mut book, 1, Place { log: 1, at: 0 }, marks));
-    assert!(rt; has(&book, 1, line(Kind::Sealed, 1, 1024, 0, 0)));
-    assert!(rt; has(&book, 3, line(Kind::Open, 3, 16, 0, 1008)));
-    Ok(())
-}
-
-// Whether an object that is asked to move is found dropped, and retired.
-fn moves_nowhere(book: &mut Book<Plain, MemDevice>, pointer: u16) -> bool {
-    move_asked(book, pointer) == Some(Ok(None)) && home(book, pointer).is_none()
+    asks_two(book)
+        && refuses_next(book, Refused::NoRoom)
+        && moves_to(book, 0, Place { log: 3, at: 0 })
+        && refuses_move(book, 1, Refused::NoRoom)
+        && is_near_at(book, 1, Place { log: 1, at: 0 }, marks)
+        && has(book, 1, line(Kind::Sealed, 1, 1024, 0, 0))
+        && has(book, 3, line(Kind::Open, 3, 16, 0, 1008))
 }
 
 #[test]
-fn a_dropped_object_moves_nowhere(rt: HostRuntime) -> Result<(), Fail> {
-    let mut book = opened(&rt, SMALL)?;
-    place_next(&mut book, 8, 1)?;
-    book.owner(Event::Adopt {
-        owner: 0,
-        pointer: 0,
-    });
+fn a_move_takes_the_last_free_log(rt: HostRuntime) {
+    assert!(rt; is_so_of(opened(&rt, SMALL), takes_the_last));
+}
+
+// Whether an object that was asked to move and dropped is retired instead.
+fn moves_nowhere(book: &mut Book<Plain, MemDevice>) -> bool {
+    let (owner, pointer) = (0, 0);
+    let placed = place_next(book, 8, 1).is_ok();
+    book.owner(Event::Adopt { owner, pointer });
     book.owner(ask(0, Mark::Moved));
     book.owner(ask(0, Mark::Dropped));
-    assert!(rt; moves_nowhere(&mut book, 0));
-    assert!(rt; has(&book, 0, line(Kind::Open, 0, 0, 16, 1008)));
-    Ok(())
+    placed
+        && move_asked(book, 0) == Some(Ok(None))
+        && home(book, 0).is_none()
+        && has(book, 0, line(Kind::Open, 0, 0, 16, 1008))
+}
+
+#[test]
+fn a_dropped_object_moves_nowhere(rt: HostRuntime) {
+    assert!(rt; is_so_of(opened(&rt, SMALL), moves_nowhere));
 }
 
 type Beside = (
@@ -210,9 +224,7 @@ fn moved_beside(rt: &HostRuntime, step: u8, then: &[Event]) -> Result<Beside, Re
         return Err(Refused::Memory);
     };
     let mut book = beset(rt, events, MemDevice::new(rt.alloc()))?;
-    place_next(&mut book, 8, 1)?;
-    place_next(&mut book, 1016, 1)?;
-    mark_sealed(&mut book, 0);
+    marks_first(&mut book);
     let moved = move_asked(&mut book, 0);
     Ok((moved, [shown(&book, 0), shown(&book, 2)]))
 }

@@ -1,14 +1,14 @@
 //! What owners are answered, by worked values, of objects that they view, that are marked, and that they drop.
 
 use crate::tests::books::{
-    DROP, HOT, MOVE, SMALL, answers, has, line, mark_sealed, opened, places_next, retire_dropped,
+    DROP, HOT, MOVE, SMALL, answers, has, is_so_of, line, mark_sealed, opened, places_next,
+    retire_dropped,
 };
 use crate::tests::moving::{loaded, moves_to};
 use far_book::{Book, Plain};
 use far_core::{Core, Event, Kind, Reply};
 use far_device::MemDevice;
 use far_word::Place;
-use std::test::Fail;
 
 /// The cell of pointer 0, an object of 8 bytes of data structure 1 at the start of log 0: as it is named, with HOT, and with HOT
 /// and EVAC.
@@ -37,10 +37,8 @@ fn drops_after_a_close(book: &mut Book<Plain, MemDevice>) -> bool {
 
 // Alone against a core in which what its owner holds may be dropped.
 #[test]
-fn an_object_that_is_viewed_is_not_dropped(rt: HostRuntime) -> Result<(), Fail> {
-    let mut book = opened(&rt, SMALL)?;
-    assert!(rt; drops_after_a_close(&mut book));
-    Ok(())
+fn an_object_that_is_viewed_is_not_dropped(rt: HostRuntime) {
+    assert!(rt; is_so_of(opened(&rt, SMALL), drops_after_a_close));
 }
 
 // Whether none of these events is refused.
@@ -67,17 +65,15 @@ fn finds_it_marked(core: &mut Core) -> bool {
         && core.cell(0) == 0xf400_0000_0001_0008
 }
 
-#[test]
-fn a_marked_object_is_not_viewed(rt: HostRuntime) -> Result<(), Fail> {
+// Whether pointer 0's object is placed and viewed, and then another one fills log 1, so that log 0 is sealed.
+fn views_and_seals(core: &mut Core) -> bool {
     let (owner, pointer) = (0, 0);
-    let mut core = Core::new(rt.alloc(), SMALL, true)?;
     let put = |log: u8, word: u64| Event::Put { log, at: 0, word };
     let name = |pointer: u16, new: u64| Event::Name {
         pointer,
         old: 0,
         new,
     };
-    // The object is placed and viewed, and then another one fills log 1, so that log 0 is sealed.
     let events = [
         put(0, 0xa100_0000_0001_0008),
         name(0, NEAR),
@@ -90,9 +86,16 @@ fn a_marked_object_is_not_viewed(rt: HostRuntime) -> Result<(), Fail> {
         name(1, 0x8400_0004_0001_03f8),
         Event::ReadEpoch { owner },
     ];
-    assert!(rt; makes_all(&mut core, &events));
-    assert!(rt; finds_it_marked(&mut core));
-    Ok(())
+    makes_all(core, &events)
+}
+
+#[test]
+fn a_marked_object_is_not_viewed(rt: HostRuntime) {
+    assert!(rt;
+        is_so_of(Core::new(rt.alloc(), SMALL, true), |core| {
+            views_and_seals(core) && finds_it_marked(core)
+        })
+    );
 }
 
 // Whether an owner views a new object, stores a word into it and closes; another object seals its log then.
@@ -131,9 +134,10 @@ fn moves_what_is_marked(book: &mut Book<Plain, MemDevice>) -> bool {
 }
 
 #[test]
-fn an_owner_moves_what_is_marked(rt: HostRuntime) -> Result<(), Fail> {
-    let mut book = opened(&rt, SMALL)?;
-    assert!(rt; stores_and_seals(&mut book));
-    assert!(rt; moves_what_is_marked(&mut book));
-    Ok(())
+fn an_owner_moves_what_is_marked(rt: HostRuntime) {
+    assert!(rt;
+        is_so_of(opened(&rt, SMALL), |book| {
+            stores_and_seals(book) && moves_what_is_marked(book)
+        })
+    );
 }

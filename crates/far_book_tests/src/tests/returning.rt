@@ -4,11 +4,11 @@ ghost use Rattle.std.specs.Prelude.{◌<◌, ◌≤◌};
 ghost use Rattle.far_word.specs.declared.sizes.TheConstants.{LONGEST};
 
 use crate::tests::books::{
-    DROP, HOT, MOVE, NO_MARKS, SMALL, ask, beset, events_after, has, home, line, mark_sealed,
-    opened, opened_over, place_next, places_next, shown,
+    DROP, HOT, MOVE, NO_MARKS, SMALL, ask, beset, events_after, has, home, is_so_of, line,
+    mark_sealed, marks_first, opened, opened_over, place_next, places_next, shown,
 };
 use crate::tests::devices::{Lying, Stumbling, shown_device};
-use crate::tests::leaving::{evict_asked, goes, leaving, loads_counted, store_counted};
+use crate::tests::leaving::{evict_asked, goes, leaves, loads_counted, store_counted};
 use crate::tests::moving::{loaded, moves_to};
 use far_book::{Book, Home, Near, Plain};
 use far_core::{Core, Event, Kind, Reply};
@@ -64,9 +64,9 @@ fn stays_far<N: Near + Drop, D: Device + Drop>(book: &mut Book<N, D>, why: Refus
 }
 
 // An object of 8 bytes that is stored into, with EVAC and MOVE, by words of its cell; whether each was so.
-fn stored_and_asked(book: &mut Book<Plain, MemDevice>) -> Result<bool, Refused> {
+fn stored_and_asked(book: &mut Book<Plain, MemDevice>) -> bool {
     let (owner, pointer) = (0, 0);
-    place_next(book, 8, 1)?;
+    let placed = place_next(book, 8, 1).is_ok();
     book.owner(Event::Adopt { owner, pointer });
     book.owner(Event::ReadEpoch { owner });
     book.owner(Event::Open { owner });
@@ -79,23 +79,25 @@ fn stored_and_asked(book: &mut Book<Plain, MemDevice>) -> Result<bool, Refused> 
     };
     let stored = book.owner(store) == Reply::Done;
     book.owner(Event::Close { owner });
-    place_next(book, 1016, 1)?;
+    let sealed = place_next(book, 1016, 1).is_ok();
     let marked = mark_sealed(book, 0) == Some(0xc400_0000_0001_0008);
     let asked = book.owner(MOVE) == Reply::Word(0xe400_0000_0001_0008);
-    Ok(stored && marked && asked)
+    placed && stored && sealed && marked && asked
 }
 
 // The cells are words here, which no other test of a fetch looks at.
 #[test]
-fn away_and_back(rt: HostRuntime) -> Result<(), Fail> {
-    let mut book = opened(&rt, SMALL)?;
-    assert!(rt; stored_and_asked(&mut book)?);
-    assert!(rt; goes(&mut book, 0));
-    assert!(rt; see_first(&mut book) == Some(0x0400_0000_0001_0008));
-    assert!(rt; comes_to(&mut book, PLACE));
-    assert!(rt; see_first(&mut book) == Some(0x8400_0008_0001_0008));
-    assert!(rt; loaded(&mut book, 0, 0) == Reply::Word(0xaa));
-    Ok(())
+fn away_and_back(rt: HostRuntime) {
+    assert!(rt;
+        is_so_of(opened(&rt, SMALL), |book| {
+            stored_and_asked(book)
+                && goes(book, 0)
+                && see_first(book) == Some(0x0400_0000_0001_0008)
+                && comes_to(book, PLACE)
+                && see_first(book) == Some(0x8400_0008_0001_0008)
+                && loaded(book, 0, 0) == Reply::Word(0xaa)
+        })
+    );
 }
 
 /// What a fetch answers, what log 2 has then, whether the device holds bytes of the object, and whether they are what was stored.
@@ -116,7 +118,7 @@ fn fetched_after(rt: &HostRuntime, len: u16) -> Result<Back, Refused>
     };
     let (device, holds) = made;
     let mut book = opened_over(rt, SMALL, device)?;
-    leaving(&mut book, len)?;
+    leaves(&mut book, len);
     evict_asked(&mut book, 0);
     let fetched = fetch_far(&mut book, 0);
     let log = shown(&book, 2);
@@ -156,14 +158,14 @@ type Again = (
 );
 
 // An object of 9 bytes goes far, and is fetched twice.
-fn fetched_twice<D: Device + Drop>(book: &mut Book<Plain, D>) -> Result<Again, Refused> {
-    leaving(book, 9)?;
+fn fetched_twice<D: Device + Drop>(book: &mut Book<Plain, D>) -> Again {
+    leaves(book, 9);
     evict_asked(book, 0);
     let (cell, logs) = (book.core().cell(0), four_logs(book));
     let first = fetch_far(book, 0);
     let stays = book.core().cell(0) == cell && four_logs(book) == logs;
     let second = fetch_far(book, 0);
-    Ok((first, stays, second, loads_counted(book, 9)))
+    (first, stays, second, loads_counted(book, 9))
 }
 
 // A device in memory whose first read fails so.
@@ -175,19 +177,15 @@ fn stumbling(rt: &HostRuntime, fault: DeviceFault) -> Stumbling {
     }
 }
 
-fn failed_once(rt: &HostRuntime, fault: DeviceFault) -> Result<Again, Refused> {
-    fetched_twice(&mut opened_over(rt, SMALL, stumbling(rt, fault))?)
-}
-
 // A device in memory whose first read gives so many bytes isn't honest.
 #[tactic(auto, using(crate::proofs::Uses::at_start))]
-fn lied_once(rt: &HostRuntime, len: usize) -> Result<Again, Refused> {
+fn opened_over_lying(rt: &HostRuntime, len: usize) -> Result<Book<Plain, Lying>, Refused> {
     let device = Lying {
         inner: MemDevice::new(rt.alloc()),
         next: Some(len),
     };
     let core = Core::new(rt.alloc(), SMALL, false)?;
-    fetched_twice(&mut Book::new(rt.alloc(), Plain { core }, device)?)
+    Book::new(rt.alloc(), Plain { core }, device)
 }
 
 // So it is where the first fetch is refused and changes nothing, and the second brings the object near with its bytes.
@@ -195,12 +193,23 @@ fn is_refused_once(why: Refused) -> Again {
     (Some(Err(why)), true, Some(Ok(Some(PLACE))), true)
 }
 
+// Whether the first fetch is refused so.
+fn is_refused<D: Device + Drop>(book: &mut Book<Plain, D>, why: Refused) -> bool {
+    fetched_twice(book) == is_refused_once(why)
+}
+
 fn fails_once(rt: &HostRuntime, fault: DeviceFault, why: Refused) -> bool {
-    failed_once(rt, fault) == Ok(is_refused_once(why))
+    is_so_of(
+        opened_over(rt, SMALL, stumbling(rt, fault)),
+        |book| is_refused(book, why),
+    )
 }
 
 fn lies_once(rt: &HostRuntime, len: usize) -> bool {
-    lied_once(rt, len) == Ok(is_refused_once(Refused::Damaged))
+    is_so_of(
+        opened_over_lying(rt, len),
+        |book| is_refused(book, Refused::Damaged),
+    )
 }
 
 // Alone against a fetch that forgets the key of what failed or was damaged, judges a length by `<`, or takes one fault for the other.
@@ -213,21 +222,21 @@ fn a_refused_fetch_may_be_made_again(rt: HostRuntime) {
     assert!(rt; lies_once(&rt, 10));
 }
 
-// Pointer 0 is far and pointer 1 has EVAC and MOVE; of four logs only the last is free, and the one before it is open and full.
-fn crowded<D: Device + Drop>(book: &mut Book<Plain, D>) -> Result<(), Refused> {
+// Whether pointer 0 is far and pointer 1 has EVAC and MOVE; of four logs only the last is free, and the one before it is open and full.
+fn crowds<D: Device + Drop>(book: &mut Book<Plain, D>) -> bool {
     let (owner, pointer) = (0, 1);
-    place_next(book, 8, 1)?;
+    let first = place_next(book, 8, 1).is_ok();
     store_counted(book, 8);
-    place_next(book, 8, 1)?;
-    place_next(book, 1016, 1)?;
-    place_next(book, 1016, 1)?;
+    let placed = place_next(book, 8, 1).is_ok()
+        && place_next(book, 1016, 1).is_ok()
+        && place_next(book, 1016, 1).is_ok();
     book.owner(MOVE);
     mark_sealed(book, 0);
     evict_asked(book, 0);
     book.owner(Event::Adopt { owner, pointer });
     book.owner(ask(pointer, Mark::Moved));
     mark_sealed(book, pointer);
-    Ok(())
+    first && placed
 }
 
 // Whether a fetch is refused for want of room, and leaves all logs.
@@ -236,41 +245,50 @@ fn finds_no_room<D: Device + Drop>(book: &mut Book<Plain, D>) -> bool {
     stays_far(book, Refused::NoRoom) && four_logs(book) == logs
 }
 
+// Whether a move takes the last free log, and a fetch has room in it then; the device, asked only now, fails once.
+fn comes_after_a_move<D: Device + Drop>(book: &mut Book<Plain, D>) -> bool {
+    moves_to(book, 1, Place { log: 3, at: 0 })
+        && stays_far(book, Refused::Device)
+        && comes_to(book, Place { log: 3, at: 2 })
+        && loads_counted(book, 8)
+        && has(book, 3, line(Kind::Open, 3, 32, 0, 992))
+}
+
 // Alone against a fetch that takes the last free log, asks the device before there is room, or forgets the key where there is none.
 #[test]
 fn a_fetch_keeps_the_last_free_log(rt: HostRuntime) -> Result<(), Fail> {
     let (device, holds) = shown_device(&rt, stumbling(&rt, DeviceFault::Device))?;
-    let mut book = opened_over(&rt, SMALL, device)?;
-    crowded(&mut book)?;
-    assert!(rt; finds_no_room(&mut book) && holds.get());
-    assert!(rt; has(&book, 2, line(Kind::Open, 2, 1024, 0, 0)));
-    assert!(rt; has(&book, 3, line(Kind::Free, 3, 0, 0, 1024)));
-    // A move may take it, and then there is room in it.
-    assert!(rt; moves_to(&mut book, 1, Place { log: 3, at: 0 }));
-    // Only now is the device asked, and it fails once.
-    assert!(rt; stays_far(&mut book, Refused::Device));
-    assert!(rt; comes_to(&mut book, Place { log: 3, at: 2 }));
-    assert!(rt; loads_counted(&mut book, 8) && !holds.get());
-    assert!(rt; has(&book, 3, line(Kind::Open, 3, 32, 0, 992)));
+    assert!(rt;
+        is_so_of(opened_over(&rt, SMALL, device), |book| {
+            crowds(book)
+                && finds_no_room(book)
+                && holds.get()
+                && has(book, 2, line(Kind::Open, 2, 1024, 0, 0))
+                && has(book, 3, line(Kind::Free, 3, 0, 0, 1024))
+                && comes_after_a_move(book)
+                && !holds.get()
+        })
+    );
     Ok(())
 }
 
-// Whether a fetch finds pointer 0's object dropped, and leaves all logs.
+// Whether a fetch finds pointer 0's object, which went far, dropped, and leaves all logs.
 fn finds_drop<D: Device + Drop>(book: &mut Book<Plain, D>) -> bool {
+    let gone = leaves(book, 8) && goes(book, 0);
+    book.owner(DROP);
     let logs = four_logs(book);
-    fetch_far(book, 0) == Some(Ok(None)) && four_logs(book) == logs
+    gone && fetch_far(book, 0) == Some(Ok(None)) && four_logs(book) == logs
 }
 
 // Alone against a ledger in which the cell of a retired object stays taken if that was far.
 #[test]
 fn a_dropped_far_object_is_retired(rt: HostRuntime) -> Result<(), Fail> {
     let (device, holds) = shown_device(&rt, MemDevice::new(rt.alloc()))?;
-    let mut book = opened_over(&rt, SMALL, device)?;
-    leaving(&mut book, 8)?;
-    assert!(rt; goes(&mut book, 0));
-    book.owner(DROP);
-    assert!(rt; finds_drop(&mut book) && !holds.get());
-    assert!(rt; places_next(&mut book, 8, 0, PLACE));
+    assert!(rt;
+        is_so_of(opened_over(&rt, SMALL, device), |book| {
+            finds_drop(book) && !holds.get() && places_next(book, 8, 0, PLACE)
+        })
+    );
     Ok(())
 }
 
@@ -294,9 +312,7 @@ fn fetched_beside(rt: &HostRuntime, step: u8, then: &[Event]) -> Result<Beside, 
         return Err(Refused::Memory);
     };
     let mut book = beset(rt, events, device)?;
-    place_next(&mut book, 8, 1)?;
-    place_next(&mut book, 1016, 1)?;
-    mark_sealed(&mut book, 0);
+    marks_first(&mut book);
     evict_asked(&mut book, 0);
     let fetched = fetch_far(&mut book, 0);
     Ok((fetched, home(&mut book, 0), holds.get(), shown(&book, 2)))
