@@ -1,14 +1,1 @@
-pub mod Counting
-pub mod EvacMarks
-pub mod Finding
-pub mod Knowing
-pub mod Making
-pub mod Masking
-pub mod Naming
-pub mod OwnersWork
-pub mod Quietness
-pub mod Reading
-pub mod RoundSteps
-pub mod Staying
-pub mod Unviewed
 pub mod region

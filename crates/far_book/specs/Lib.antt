@@ -1,11 +1,1 @@
-pub mod BesetView
-pub mod Cleared
-pub mod Finds
-pub mod Known
-pub mod Masked
-pub mod MayBe
-pub mod Owners
-pub mod Quiet
-pub mod Rounds
-pub mod ShapeOf
 pub mod book

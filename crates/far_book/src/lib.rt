@@ -3,23 +3,17 @@
 //! The book touches words only through [`Near`], a hand that it is lent.
 #![tactic(auto)]
 
-mod beset;
 mod book;
 mod home;
 mod laws;
 mod ledger;
-mod near;
 mod number_set;
-mod owners;
-mod plain;
 
-pub use beset::Beset;
 pub use book::Book;
+pub use far_hand::{Beset, Near, Plain};
 pub use home::Home;
 pub use laws::{
     evicting_is_legal, fetching_is_legal, live_spans_follow, loads_give_stored, moving_is_legal,
     order_is_by_age, placing_is_legal, releasing_is_legal, retiring_is_legal, sealed_logs_stay,
     staying_is_legal,
 };
-pub use near::Near;
-pub use plain::Plain;

@@ -18,9 +18,10 @@ use Rattle.far_core.specs.state.Opening.{opening}
 use Rattle.far_core.specs.state.Spans.{spans_of}
 use Rattle.far_core.specs.state.State.{State}
 use Rattle.far_book.specs.declared.home.Home.TheVariants.{Near, Far}
-use Rattle.far_book.specs.Masked.{masked}
-use Rattle.far_book.specs.Rounds.{MayChoose}
-use Rattle.far_book.specs.book.Dealing.{IsQuietNear, has_evac}
+use Rattle.far_hand.specs.Masked.{masked}
+use Rattle.far_hand.specs.Rounds.{MayChoose}
+use Rattle.far_book.specs.book.Dealing.{has_evac}
+use Rattle.far_hand.specs.Quiet.{IsQuietNear}
 use Rattle.far_book.specs.book.Fetching.{IsFar}
 use Rattle.far_book.specs.book.Home.{home_of}
 use Rattle.far_book.specs.book.NextLive.{IsBoundary, SpansAreBounded}

@@ -10,12 +10,12 @@ use Rattle.far_device.specs.declared.fault.DeviceFault.{DeviceFault}
 use Rattle.far_core.specs.events.Naming.{is_dropped}
 use Rattle.far_core.specs.state.State.{State, addr}
 use Rattle.far_core.proofs.Put.{put_same}
-use Rattle.far_book.specs.Finds.{Finds}
-use Rattle.far_book.specs.Known.{IsKnown}
+use Rattle.far_hand.specs.Finds.{Finds}
+use Rattle.far_hand.specs.Known.{IsKnown}
 use Rattle.far_book.specs.book.Asking.{AsksToEvict, HasBytes, WritesIt, fault_of}
 use Rattle.far_book.specs.book.Dealing.{IsSeen}
 use Rattle.far_book.specs.book.Renaming.{seen}
-use Rattle.far_book.proofs.Finding.{finds_more, near_known}
+use Rattle.far_hand.proofs.Finding.{finds_more, near_known}
 use Rattle.far_book.proofs.region.Founds.{drop_found}
 use Rattle.far_evac.specs.declared.evac.evacuating.Fate.{Fate}
 use Rattle.far_evac.specs.AnyHand.{KnowsWalked, WalksTo}

@@ -10,7 +10,7 @@ use Rattle.far_core.specs.state.State.{State, put}
 use Rattle.far_core.proofs.Put.{put_other}
 use Rattle.far_book.specs.declared.home.Home.{Home}
 use Rattle.far_book.specs.book.Home.{home_of}
-use Rattle.far_book.specs.Finds.{Finds}
+use Rattle.far_hand.specs.Finds.{Finds}
 use Rattle.far_book.specs.book.Renaming.{seen}
 use Rattle.far_evac.specs.AnyHand.{Knows}
 use Rattle.far_evac.proofs.Hands.{knows_more, knows_seen}

@@ -14,13 +14,13 @@ use Rattle.far_core.specs.state.Law.{Law}
 use Rattle.far_core.specs.state.Spans.{spans_of}
 use Rattle.far_core.specs.state.State.{State, put}
 use Rattle.far_core.proofs.Put.{put_both, put_same}
-use Rattle.far_book.specs.Cleared.{cleared}
-use Rattle.far_book.specs.Finds.{Finds, body_of, marks_in}
-use Rattle.far_book.specs.Known.{Forgets}
+use Rattle.far_hand.specs.Cleared.{cleared}
+use Rattle.far_hand.specs.Finds.{Finds, body_of, marks_in}
+use Rattle.far_hand.specs.Known.{Forgets}
 use Rattle.far_book.specs.book.Effects.{marked}
 use Rattle.far_book.specs.book.Own.{own_part}
 use Rattle.far_book.specs.book.Renaming.{seen}
-use Rattle.far_book.proofs.Finding.{near_found}
+use Rattle.far_hand.proofs.Finding.{near_found}
 use Rattle.far_book.proofs.region.Calls.{put_put}
 use Rattle.far_evac.specs.AnyHand.{Knows}
 use Rattle.far_evac.specs.RoundSteps.{advanced, unmarked}

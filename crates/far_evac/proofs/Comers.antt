@@ -28,9 +28,9 @@ use Rattle.far_core.proofs.Keeps.{step_keeps}
 use Rattle.far_core.proofs.Namings.{naming_only}
 use Rattle.far_core.proofs.Owing.{is_fact}
 use Rattle.far_core.proofs.Put.{put_both}
-use Rattle.far_book.specs.Owners.{OwnersChange}
-use Rattle.far_book.proofs.Finding.{near_known}
-use Rattle.far_book.proofs.OwnersWork.{change}
+use Rattle.far_hand.specs.Owners.{OwnersChange}
+use Rattle.far_hand.proofs.Finding.{near_known}
+use Rattle.far_hand.proofs.OwnersWork.{change}
 use Rattle.far_book.proofs.region.Places.{next_unsealed}
 use Rattle.far_evac.specs.Laws.{but_evac}
 use Rattle.far_evac.specs.Strays.{ComersJoin, EventsBringNone, NoneComes, OwnersBringNone}

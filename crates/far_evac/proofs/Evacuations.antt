@@ -1,7 +1,7 @@
 -- Object after object, a walk does what its definition says.
 use Rattle.std.proofs.Common.{◌≡◌, ℕ, ◌+◌, ◌≤◌, true, List, [], ◌∷◌, ap, sym, ◌∙◌, subst}
 use Rattle.far_word.specs.Pointer.{read_of}
-use Rattle.far_book.specs.Finds.{Finds}
+use Rattle.far_hand.specs.Finds.{Finds}
 use Rattle.far_evac.specs.AnyHand.{DealsFirst, KnowsWalked, FindsFirst, WalksTo, found_first}
 use Rattle.far_evac.specs.Live.{is_empty}
 use Rattle.far_evac.specs.Moment.{Moment}

@@ -17,7 +17,7 @@ use Rattle.far_core.specs.state.Law.{Law}
 use Rattle.far_core.specs.state.Spans.{spans_of, is_live}
 use Rattle.far_core.specs.state.State.{State}
 use Rattle.far_core.proofs.Observations as observations
-use Rattle.far_book.specs.Finds.{Finds}
+use Rattle.far_hand.specs.Finds.{Finds}
 use Rattle.far_book.specs.book.NextLive.{IsBoundary, live_from}
 use Rattle.far_book.specs.book.Own.{own_part}
 use Rattle.far_book.proofs.region.NextLives.{spans_are_bounded}

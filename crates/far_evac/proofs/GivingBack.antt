@@ -9,7 +9,7 @@ use Rattle.far_core.specs.declared.event.Kind.TheVariants as kinds
 use Rattle.far_core.specs.state.Law.{Law}
 use Rattle.far_core.specs.state.State.{State}
 use Rattle.far_core.proofs.Put.{put_other, put_same}
-use Rattle.far_book.specs.Known.{Forgets}
+use Rattle.far_hand.specs.Known.{Forgets}
 use Rattle.far_book.specs.book.Own.{own_part}
 use Rattle.far_book.specs.book.Releasing.{released}
 use Rattle.far_book.proofs.region.NextLives.{lives_from_start}

@@ -10,9 +10,10 @@ use Rattle.far_core.specs.events.Naming.{is_dropped}
 use Rattle.far_core.specs.state.Law.{Law}
 use Rattle.far_core.specs.state.Room.{room}
 use Rattle.far_core.specs.state.State.{State, put}
-use Rattle.far_book.specs.Finds.{Finds}
-use Rattle.far_book.specs.Known.{Forgets}
-use Rattle.far_book.specs.book.Dealing.{IsQuietNear, IsRetired, IsSeen, Leaves, goal, has_evac, moved_now}
+use Rattle.far_hand.specs.Finds.{Finds}
+use Rattle.far_hand.specs.Known.{Forgets}
+use Rattle.far_book.specs.book.Dealing.{IsRetired, IsSeen, Leaves, goal, has_evac, moved_now}
+use Rattle.far_hand.specs.Quiet.{IsQuietNear}
 use Rattle.far_book.specs.book.Effects.{fetched, moved, placed, retired, stayed, with_free_cell}
 use Rattle.far_book.specs.book.Fetching.{IsFar, IsFetched, far_len, room_for}
 use Rattle.far_book.specs.book.Own.{own_part}

@@ -15,14 +15,14 @@ use Rattle.far_core.specs.state.Spans.{spans_of}
 use Rattle.far_core.specs.state.State.{State, addr}
 use Rattle.far_core.specs.events.namings.Evicts.{with_kept}
 use Rattle.far_core.proofs.Put.{put_both, put_other, put_same}
-use Rattle.far_book.specs.Finds.{Finds, marks_in}
-use Rattle.far_book.specs.Known.{Forgets, IsKnown}
+use Rattle.far_hand.specs.Finds.{Finds, marks_in}
+use Rattle.far_hand.specs.Known.{Forgets, IsKnown}
 use Rattle.far_book.specs.book.Dealing.{Leaves, LeavesSpans}
 use Rattle.far_book.specs.book.Effects.{evicted, far_word, moved, near_word, with_free_cell, with_written_span}
 use Rattle.far_book.specs.book.Evicting.{GoesFar}
 use Rattle.far_book.specs.book.Own.{own_part}
 use Rattle.far_book.specs.book.Renaming.{seen}
-use Rattle.far_book.proofs.Finding.{finds_is, finds_more, finds_same, near_found}
+use Rattle.far_hand.proofs.Finding.{finds_is, finds_more, finds_same, near_found}
 use Rattle.far_book.proofs.region.Calls.{put_put}
 use Rattle.far_book.proofs.region.Coming.{far_found}
 use Rattle.far_book.proofs.region.Evictions.{evicted_is, far_says, sent}

@@ -15,10 +15,10 @@ use Rattle.far_core.specs.declared.event.Reply.TheVariants.{Refused}
 use Rattle.far_core.specs.events.Ranges.{after_events, stores}
 use Rattle.far_core.specs.events.Step.{after, answer, is_legal, step_of}
 use Rattle.far_core.specs.state.State.{State}
-use Rattle.far_book.specs.Owners.{OwnersChange}
+use Rattle.far_hand.specs.Owners.{OwnersChange}
 use Rattle.far_book.specs.book.NextLive.{IsBoundary}
 use Rattle.far_book.specs.book.SealedLogs.{KeepsSealed}
-use Rattle.far_book.proofs.Finding.{near_known}
+use Rattle.far_hand.proofs.Finding.{near_known}
 use Rattle.far_evac.specs.AnyHand.{Knows}
 use Rattle.far_evac.specs.declared.phase.Phase.{Phase}
 use Rattle.far_evac.specs.declared.phase.Phase.TheVariants.{Idle, Marking, Waiting, Evacuating}

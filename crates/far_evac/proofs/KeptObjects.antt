@@ -19,7 +19,7 @@ use Rattle.far_core.specs.world.World.{FarSide, Group, Home, Object, World}
 use Rattle.far_core.specs.world.WorldOf.{object_of, world_of}
 use Rattle.far_core.proofs.Cells.{unused}
 use Rattle.far_core.proofs.Put.{put_both}
-use Rattle.far_book.specs.Quiet.{is_quiet}
+use Rattle.far_hand.specs.Quiet.{is_quiet}
 use Rattle.far_book.specs.book.Effects.{evicted, moved, with_free_cell}
 use Rattle.far_book.specs.book.Releasing.{released}
 use Rattle.far_book.proofs.region.EvictingLaw.{evicting}

@@ -23,7 +23,7 @@ use Rattle.far_core.specs.state.Room.{room}
 use Rattle.far_core.specs.state.State.{State}
 use Rattle.far_core.proofs.Put.{put_other, put_same}
 use Rattle.far_core.proofs.RoomLaws.{room_right}
-use Rattle.far_book.specs.Quiet.{is_quiet}
+use Rattle.far_hand.specs.Quiet.{is_quiet}
 use Rattle.far_book.specs.book.Effects.{evicted, moved, order_after, with_free_cell}
 use Rattle.far_book.specs.book.Laws.{IsMoved}
 use Rattle.far_book.specs.book.Reached.{Reached}

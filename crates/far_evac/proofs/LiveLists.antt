@@ -12,7 +12,7 @@ use Rattle.far_log.specs.Spans.{head_len, span_at, spans_from, spans_in}
 use Rattle.far_core.specs.state.Spans.{spans_of, is_live, names_place, word_in}
 use Rattle.far_core.specs.state.State.{State, put}
 use Rattle.far_core.proofs.Put.{put_other}
-use Rattle.far_book.specs.Finds.{Finds, body_of}
+use Rattle.far_hand.specs.Finds.{Finds, body_of}
 use Rattle.far_evac.specs.AnyHand.{Knows}
 use Rattle.far_evac.specs.Live.{live_in, pointers_of}
 use Rattle.far_book.specs.book.Releasing.{released}

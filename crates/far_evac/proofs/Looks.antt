@@ -9,7 +9,7 @@ use Rattle.far_word.specs.Scope.{scope_of}
 use Rattle.far_core.specs.events.Look.{shows_clear}
 use Rattle.far_core.specs.state.State.{State}
 use Rattle.far_core.proofs.Put.{put_both}
-use Rattle.far_book.specs.Rounds.{looked_at}
+use Rattle.far_hand.specs.Rounds.{looked_at}
 use Rattle.far_evac.specs.declared.answers.Polled.TheVariants.{Clear, StillOpen}
 use Rattle.far_evac.specs.RoundSteps.{is_clear_now, with_clear_below}
 use Rattle.far_evac.specs.Waiting.{first_open, holds_up, polled, polled_at}

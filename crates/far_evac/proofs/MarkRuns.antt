@@ -11,8 +11,8 @@ use Rattle.far_core.specs.events.Advance.{is_among}
 use Rattle.far_core.specs.events.Step.{after}
 use Rattle.far_core.specs.state.Law.{Law}
 use Rattle.far_core.specs.state.State.{State}
-use Rattle.far_book.specs.Known.{Forgets}
-use Rattle.far_book.specs.Rounds.{MayChoose}
+use Rattle.far_hand.specs.Known.{Forgets}
+use Rattle.far_hand.specs.Rounds.{MayChoose}
 use Rattle.far_book.specs.book.Effects.{marked}
 use Rattle.far_book.specs.book.Own.{own_part}
 use Rattle.far_evac.specs.declared.phase.Phase.TheVariants.{Marking, Waiting, Evacuating}

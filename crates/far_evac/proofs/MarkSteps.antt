@@ -15,11 +15,11 @@ use Rattle.far_core.specs.events.Legal.{Legal}
 use Rattle.far_core.specs.state.Law.{Law}
 use Rattle.far_core.specs.state.State.{State, put}
 use Rattle.far_core.proofs.Put.{put_other, put_same}
-use Rattle.far_book.specs.Finds.{Finds}
+use Rattle.far_hand.specs.Finds.{Finds}
 use Rattle.far_book.specs.book.Effects.{marked}
 use Rattle.far_book.specs.book.NextLive.{IsBoundary}
 use Rattle.far_book.specs.book.Own.{own_part}
-use Rattle.far_book.proofs.Finding.{near_found}
+use Rattle.far_hand.proofs.Finding.{near_found}
 use Rattle.far_evac.specs.declared.phase.Phase.{Phase}
 use Rattle.far_evac.specs.declared.phase.Phase.TheVariants.{Marking}
 use Rattle.far_evac.specs.declared.round.Round.{Round}

@@ -5,8 +5,8 @@ use Rattle.std.proofs.lemmas.Bool.{cond_both, true≢false, false≢true}
 use Rattle.far_word.specs.declared.sizes.TheConstants.{LOG_WORDS, MOST_LOGS}
 use Rattle.far_word.specs.Pointer.{read_of}
 use Rattle.far_core.specs.state.State.{State}
-use Rattle.far_book.specs.Finds.{Finds}
-use Rattle.far_book.proofs.Finding.{near_known}
+use Rattle.far_hand.specs.Finds.{Finds}
+use Rattle.far_hand.proofs.Finding.{near_known}
 use Rattle.far_evac.specs.declared.phase.Phase.{Phase}
 use Rattle.far_evac.specs.AnyHand.{Knows, KnowsWalked, FindsFirst, WalksTo, found_first}
 use Rattle.far_evac.specs.Dealings.{BeginsLive}

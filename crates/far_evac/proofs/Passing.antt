@@ -17,11 +17,11 @@ use Rattle.far_core.specs.state.Law.{Law}
 use Rattle.far_core.specs.state.Spans.{spans_of, is_live}
 use Rattle.far_core.specs.state.State.{State, put}
 use Rattle.far_core.proofs.Observations as observations
-use Rattle.far_book.specs.Finds.{Finds}
+use Rattle.far_hand.specs.Finds.{Finds}
 use Rattle.far_book.specs.book.Dealing.{has_evac}
 use Rattle.far_book.specs.book.Own.{own_part}
 use Rattle.far_core.proofs.Put.{put_same}
-use Rattle.far_book.proofs.Finding.{near_found, near_known}
+use Rattle.far_hand.proofs.Finding.{near_found, near_known}
 use Rattle.far_book.proofs.region.Owns.{own_spans}
 use Rattle.far_evac.specs.AnyHand.{Knows}
 use Rattle.far_book.specs.book.NextLive.{IsBoundary, IsHomeOf, live_from}

@@ -18,7 +18,7 @@ use Rattle.far_core.specs.state.Law.{Law}
 use Rattle.far_core.specs.state.Spans.{names_place}
 use Rattle.far_core.specs.state.State.{State}
 use Rattle.far_core.proofs.Observations.{in_range}
-use Rattle.far_book.specs.Finds.{Finds}
+use Rattle.far_hand.specs.Finds.{Finds}
 use Rattle.far_book.specs.book.Own.{own_part}
 use Rattle.far_book.proofs.region.Whole.{near_has_one_live, walks}
 use Rattle.far_evac.specs.declared.phase.Phase.{Phase}

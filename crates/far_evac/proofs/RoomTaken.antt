@@ -24,7 +24,7 @@ use Rattle.far_core.specs.laws.Observed.{live_bytes, span_for}
 use Rattle.far_core.specs.state.Spans.{is_live, names_place, spans_of, word_in}
 use Rattle.far_core.specs.state.State.{State}
 use Rattle.far_core.proofs.Put.{put_both, put_other, put_same}
-use Rattle.far_book.specs.Finds.{Finds, body_of}
+use Rattle.far_hand.specs.Finds.{Finds, body_of}
 use Rattle.far_book.specs.book.Releasing.{released}
 use Rattle.far_evac.specs.AnyHand.{Knows}
 use Rattle.far_evac.specs.Dealings.{HasLeft}

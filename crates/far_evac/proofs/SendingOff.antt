@@ -14,15 +14,16 @@ use Rattle.far_core.specs.state.Law.{Law}
 use Rattle.far_core.specs.state.Room.{room}
 use Rattle.far_core.specs.state.State.{State}
 use Rattle.far_core.proofs.Put.{put_same}
-use Rattle.far_book.specs.Finds.{Finds, marks_in}
-use Rattle.far_book.specs.book.Dealing.{IsQuietNear, IsRetired, IsSeen, Leaves, goal, has_evac, moved_now, order_moved}
+use Rattle.far_hand.specs.Finds.{Finds, marks_in}
+use Rattle.far_book.specs.book.Dealing.{IsRetired, IsSeen, Leaves, goal, has_evac, moved_now, order_moved}
+use Rattle.far_hand.specs.Quiet.{IsQuietNear}
 use Rattle.far_book.specs.book.Effects.{evicted, moved, order_after, stayed, with_free_cell}
 use Rattle.far_book.specs.book.Evicting.{GoesFar}
 use Rattle.far_book.specs.book.Own.{own_part}
 use Rattle.far_book.specs.book.Renaming.{seen}
 use Rattle.far_book.specs.book.SealedLogs.{KeepsSealed}
-use Rattle.far_book.proofs.Finding.{IsNearTo, finds_more, near_found}
-use Rattle.far_book.proofs.RoundSteps.{quiet_seen}
+use Rattle.far_hand.proofs.Finding.{IsNearTo, finds_more, near_found}
+use Rattle.far_hand.proofs.RoundSteps.{quiet_seen}
 use Rattle.far_book.proofs.region.Calls.{put_put}
 use Rattle.far_book.proofs.region.Evictions.{evicted_is}
 use Rattle.far_book.proofs.region.Moved.{drop_of, evac_of, goal_there}

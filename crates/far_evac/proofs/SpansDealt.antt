@@ -25,9 +25,9 @@ use Rattle.far_core.specs.state.Room.{free_logs, is_free, lowest, room}
 use Rattle.far_core.specs.state.Spans.{names_place, spans_of, word_in}
 use Rattle.far_core.specs.state.State.{State, addr, put}
 use Rattle.far_core.proofs.Put.{put_other, put_same}
-use Rattle.far_book.specs.Finds.{Finds, marks_in}
+use Rattle.far_hand.specs.Finds.{Finds, marks_in}
 use Rattle.far_book.specs.book.Effects.{evicted, far_word, moved, near_word, with_free_cell, with_written_span}
-use Rattle.far_book.proofs.Finding.{IsNearTo, near_found}
+use Rattle.far_hand.proofs.Finding.{IsNearTo, near_found}
 use Rattle.far_book.proofs.region.Evictions.{evicted_is, far_says, sent}
 use Rattle.far_book.proofs.region.Moved.{moved_is}
 use Rattle.far_book.proofs.region.Written.{row_other}

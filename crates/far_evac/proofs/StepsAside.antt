@@ -24,7 +24,8 @@ use Rattle.far_core.specs.state.Room.{room}
 use Rattle.far_core.specs.state.State.{State, put}
 use Rattle.far_core.proofs.Put.{put_other, put_same}
 use Rattle.far_core.proofs.RoomLaws.{room_right}
-use Rattle.far_book.specs.book.Dealing.{IsQuietNear, goal, has_evac}
+use Rattle.far_book.specs.book.Dealing.{goal, has_evac}
+use Rattle.far_hand.specs.Quiet.{IsQuietNear}
 use Rattle.far_book.specs.book.Effects.{fetched, moved, near_word, order_after, placed, retired, stayed, with_blank_span, with_written_span}
 use Rattle.far_book.specs.book.Fetching.{IsFar, far_len, room_for}
 use Rattle.far_book.proofs.region.Fetched.{fetched_come}

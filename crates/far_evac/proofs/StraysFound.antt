@@ -17,7 +17,7 @@ use Rattle.far_core.specs.state.State.{State}
 use Rattle.far_core.proofs.Put.{put_other, put_same}
 use Rattle.far_book.specs.book.Effects.{evicted_of, far_word, moved_of, near_word, with_written_span}
 use Rattle.far_book.specs.book.Own.{own_part}
-use Rattle.far_book.proofs.Finding.{near_known}
+use Rattle.far_hand.proofs.Finding.{near_known}
 use Rattle.far_evac.specs.declared.answers.Polled.{Polled}
 use Rattle.far_evac.specs.declared.answers.Polled.TheVariants.{Clear, StillOpen}
 use Rattle.far_evac.specs.declared.answers.RoundEnd.{RoundEnd}

@@ -18,7 +18,7 @@ use Rattle.far_core.specs.events.Step.{after}
 use Rattle.far_core.specs.state.Spans.{names_place}
 use Rattle.far_core.specs.state.State.{State, put}
 use Rattle.far_core.proofs.Put.{put_other}
-use Rattle.far_book.specs.Finds.{Finds, body_of}
+use Rattle.far_hand.specs.Finds.{Finds, body_of}
 use Rattle.far_book.specs.book.Effects.{evicted_of, far_word, moved_of, near_word, with_written_span}
 use Rattle.far_evac.specs.declared.phase.Phase.{Phase}
 use Rattle.far_evac.specs.AnyHand.{FindsFirst, KnowsWalked, WalksTo, found_first}

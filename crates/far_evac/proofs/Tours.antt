@@ -14,8 +14,8 @@ use Rattle.far_core.specs.state.Room.{room}
 use Rattle.far_core.specs.state.State.{State}
 use Rattle.far_core.proofs.Put.{put_both, put_other}
 use Rattle.far_book.specs.book.Effects.{order_after}
-use Rattle.far_book.specs.Finds.{Finds, marks_in}
-use Rattle.far_book.proofs.Finding.{IsNearTo, finds_same, near_found}
+use Rattle.far_hand.specs.Finds.{Finds, marks_in}
+use Rattle.far_hand.proofs.Finding.{IsNearTo, finds_same, near_found}
 use Rattle.far_evac.proofs.Bools.{neither}
 use Rattle.far_evac.specs.declared.phase.Phase.{Phase}
 use Rattle.far_evac.specs.declared.phase.Phase.TheVariants as phases

@@ -9,12 +9,12 @@ use Rattle.far_log.specs.declared.span.Span.{Span}
 use Rattle.far_core.specs.events.Clear.{evac_cleared}
 use Rattle.far_core.specs.state.Law.{Law}
 use Rattle.far_core.specs.state.State.{State}
-use Rattle.far_book.specs.Cleared.{cleared}
-use Rattle.far_book.specs.Finds.{Finds}
-use Rattle.far_book.specs.Known.{Forgets}
+use Rattle.far_hand.specs.Cleared.{cleared}
+use Rattle.far_hand.specs.Finds.{Finds}
+use Rattle.far_hand.specs.Known.{Forgets}
 use Rattle.far_book.specs.book.NextLive.{IsBoundary, IsHomeOf, live_from}
 use Rattle.far_book.specs.book.Own.{own_part}
-use Rattle.far_book.proofs.Finding.{near_known}
+use Rattle.far_hand.proofs.Finding.{near_known}
 use Rattle.far_book.proofs.region.NextLives.{lives_from_start}
 use Rattle.far_evac.specs.AnyHand.{Knows}
 use Rattle.far_evac.specs.Live.{live_among, live_in, pointers_of}

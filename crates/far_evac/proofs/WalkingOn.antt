@@ -12,11 +12,12 @@ use Rattle.far_log.specs.declared.span.Span.{Span}
 use Rattle.far_core.specs.state.Law.{Law}
 use Rattle.far_core.specs.state.Spans.{names_place}
 use Rattle.far_core.specs.state.State.{State}
-use Rattle.far_book.specs.Finds.{Finds}
-use Rattle.far_book.specs.book.Dealing.{IsQuietNear, has_evac}
+use Rattle.far_hand.specs.Finds.{Finds}
+use Rattle.far_book.specs.book.Dealing.{has_evac}
+use Rattle.far_hand.specs.Quiet.{IsQuietNear}
 use Rattle.far_book.specs.book.NextLive.{IsBoundary, live_from}
 use Rattle.far_book.specs.book.Own.{own_part}
-use Rattle.far_book.proofs.Finding.{near_known}
+use Rattle.far_hand.proofs.Finding.{near_known}
 use Rattle.far_evac.specs.declared.evac.evacuating.Fate.{Fate}
 use Rattle.far_evac.specs.declared.phase.Phase.TheVariants.{Evacuating}
 use Rattle.far_evac.specs.declared.round.Round.{Round}

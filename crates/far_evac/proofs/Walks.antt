@@ -2,7 +2,7 @@
 use Rattle.std.proofs.Common.{◌≡◌, ℕ, zero, suc, ◌+◌, ◌-◌, ◌≤◌, true, false, List, [], ◌∷◌, ◌++◌, arith, ap, sym, refl, ◌∙◌, subst}
 use Rattle.std.proofs.lemmas.Bool.{cond_both, true≢false, false_from_ne_true}
 use Rattle.far_core.specs.state.State.{State}
-use Rattle.far_book.proofs.Finding.{finds_same}
+use Rattle.far_hand.proofs.Finding.{finds_same}
 use Rattle.far_evac.specs.AnyHand.{Knows, KnowsMoment, KnowsWalked, FindsFirst, DealsFirst, WalksTo, Walks, found_first}
 use Rattle.far_evac.specs.Live.{live_in, live_among, is_empty}
 use Rattle.far_evac.specs.Moment.{Moment}

@@ -9,9 +9,10 @@ use Rattle.far_core.specs.events.Naming.{is_dropped}
 use Rattle.far_core.specs.state.Law.{Law}
 use Rattle.far_core.specs.state.Room.{room}
 use Rattle.far_core.specs.state.State.{State}
-use Rattle.far_book.specs.Owners.{OwnersChange}
+use Rattle.far_hand.specs.Owners.{OwnersChange}
 use Rattle.far_book.specs.book.Ages.{SealsBehind}
-use Rattle.far_book.specs.book.Dealing.{IsQuietNear, goal, moved_now, order_moved}
+use Rattle.far_book.specs.book.Dealing.{goal, moved_now, order_moved}
+use Rattle.far_hand.specs.Quiet.{IsQuietNear}
 use Rattle.far_book.specs.book.Effects.{fetched, order_after, placed, retired}
 use Rattle.far_book.specs.book.Fetching.{IsFar, room_for}
 use Rattle.far_evac.specs.Moment.{Moment, with_core}

@@ -11,7 +11,7 @@ use Rattle.far_core.specs.events.Ranges.{after_events}
 use Rattle.far_core.specs.events.Step.{Fits}
 use Rattle.far_core.specs.state.Law.{Law}
 use Rattle.far_core.specs.state.State.{State}
-use Rattle.far_book.specs.Owners.{OwnersChange}
+use Rattle.far_hand.specs.Owners.{OwnersChange}
 use Rattle.far_book.specs.book.Own.{own_part}
 use Rattle.far_evac.specs.declared.answers.Polled.{Polled}
 use Rattle.far_evac.specs.declared.answers.Progress.{Progress}

@@ -3,7 +3,7 @@
 ghost use Rattle.std.specs.Prelude.{◌≡◌, ℕ, [], false, true};
 ghost use Rattle.far_core.specs.state.Law.{Law};
 ghost use Rattle.far_core.specs.state.State.{State};
-ghost use Rattle.far_book.specs.MayBe.{NoneViews, ViewsNone};
+ghost use Rattle.far_hand.specs.MayBe.{NoneViews, ViewsNone};
 ghost use Rattle.far_book.specs.book.Own.{own_part};
 ghost use Rattle.far_evac.specs.declared.phase.Phase.TheVariants.{Evacuating, Idle};
 ghost use Rattle.far_evac.specs.EvacOf.{moment};

@@ -12,8 +12,8 @@ use Rattle.far_core.specs.events.Naming.{is_dropped}
 use Rattle.far_core.specs.state.Opening.{opening}
 use Rattle.far_core.specs.state.State.{State}
 use Rattle.far_book.specs.declared.home.Home.TheVariants.{Near, Far}
-use Rattle.far_book.specs.Masked.{masked}
-use Rattle.far_book.specs.book.Dealing.{IsQuietNear}
+use Rattle.far_hand.specs.Masked.{masked}
+use Rattle.far_hand.specs.Quiet.{IsQuietNear}
 use Rattle.far_book.specs.book.Fetching.{IsFar}
 use Rattle.far_book.specs.book.Home.{home_of}
 use Rattle.far_book.specs.book.Own.{IsAtStart}

@@ -16,7 +16,7 @@ use Rattle.far_core.specs.events.Step.{after, after_close, after_pin, is_opened}
 use Rattle.far_core.specs.state.Law.{Law}
 use Rattle.far_core.specs.state.Room.{room}
 use Rattle.far_core.specs.state.State.{State}
-use Rattle.far_book.specs.Quiet.{is_quiet}
+use Rattle.far_hand.specs.Quiet.{is_quiet}
 use Rattle.far_book.specs.book.Dealing.{goal, goal_of, has_evac, moved_now}
 use Rattle.far_book.specs.book.Effects.{fetched, moved, order_after, placed, stayed, with_blank_span, with_free_cell}
 use Rattle.far_book.specs.book.Fetching.{far_len, order_fetched}

@@ -26,7 +26,8 @@ use Rattle.far_core.proofs.KeepOwner.{nonzero}
 use Rattle.far_core.proofs.Marking.{read_mark}
 use Rattle.far_core.proofs.Put.{put_same, put_other}
 use Rattle.far_device.specs.Faults.{SpendsFault}
-use Rattle.far_book.specs.book.Dealing.{IsQuietNear, goal, has_evac, is_failure, moved_now, order_moved}
+use Rattle.far_book.specs.book.Dealing.{goal, has_evac, is_failure, moved_now, order_moved}
+use Rattle.far_hand.specs.Quiet.{IsQuietNear}
 use Rattle.far_core.specs.events.Copies.{Alike, data_at}
 use Rattle.far_book.specs.book.Effects.{fetched, fetched_of, moved, moved_of, near_word, stayed, stayed_of, with_written_span}
 use Rattle.far_book.specs.book.Fetching.{IsFar, IsFetched, RefusesFetch, far_len, room_for}

@@ -32,12 +32,12 @@ use Rattle.far_core.proofs.Cells.{unused}
 use Rattle.far_core.proofs.NewSpans.{at_tail}
 use Rattle.far_core.proofs.Put.{put_both, put_old, put_other}
 use Rattle.far_core.proofs.RoomLaws.{room_right}
-use Rattle.far_book.specs.Quiet.{is_quiet}
+use Rattle.far_hand.specs.Quiet.{is_quiet}
 use Rattle.far_book.specs.book.Dealing.{goal_of, has_evac}
 use Rattle.far_book.specs.book.Fetching.{far_len}
 use Rattle.far_book.specs.book.Effects.{fetched, fetched_of, moved, moved_of, near_word, stayed, stayed_of, with_written_span}
 use Rattle.far_book.specs.book.Moving.{Copied, MayCopy}
-use Rattle.far_book.proofs.Finding.{finds_same}
+use Rattle.far_hand.proofs.Finding.{finds_same}
 use Rattle.far_book.proofs.region.Coming.{may_come, stands}
 use Rattle.far_book.proofs.region.Copying.{first, from_outside, head, layout_there, outside}
 use Rattle.far_book.proofs.region.Fetched.{fetched_come}

@@ -3,7 +3,7 @@ use Rattle.std.specs.Prelude.{[]}
 use Rattle.far_core.specs.state.CoreState.{core_state}
 use Rattle.far_core.specs.state.State.{State}
 use Rattle.far_device.specs.declared.mem.MemDevice.{MemDevice}
-use Rattle.far_book.specs.declared.plain.Plain.{Plain}
+use Rattle.far_hand.specs.declared.plain.Plain.{Plain}
 use Rattle.far_evac.specs.EvacOf.{EvacOf}
 pub use Rattle.far_evac.specs.Moment.{Moment, with_core}
 use Rattle.far_evac.specs.declared.phase.Phase.TheVariants.{Idle}

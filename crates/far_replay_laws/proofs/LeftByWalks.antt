@@ -17,7 +17,7 @@ use Rattle.far_core.specs.world.World.{FarSide, Group, Object, World}
 use Rattle.far_core.specs.world.Steps.{with_home}
 use Rattle.far_core.specs.world.WorldOf.{object_of, world_of}
 use Rattle.far_core.proofs.Put.{put_other}
-use Rattle.far_book.specs.Quiet.{is_quiet}
+use Rattle.far_hand.specs.Quiet.{is_quiet}
 use Rattle.far_book.specs.book.Effects.{evicted, moved, with_free_cell}
 use Rattle.far_book.specs.book.Releasing.{released}
 use Rattle.far_book.proofs.region.EvictingLaw.{evicting}

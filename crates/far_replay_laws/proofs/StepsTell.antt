@@ -30,7 +30,7 @@ use Rattle.far_core.specs.events.Mark.{is_sealed}
 use Rattle.far_core.specs.state.Law.{Law}
 use Rattle.far_core.specs.state.Spans.{names_place}
 use Rattle.far_core.specs.state.State.{State}
-use Rattle.far_book.specs.Finds.{body_of}
+use Rattle.far_hand.specs.Finds.{body_of}
 use Rattle.far_book.specs.book.Dealing.{has_evac}
 use Rattle.far_book.specs.book.Effects.{marked}
 use Rattle.far_book.specs.book.Own.{own_part}

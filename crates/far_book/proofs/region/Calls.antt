@@ -30,7 +30,7 @@ use Rattle.far_core.proofs.Put.{put_both, put_same, put_other}
 use Rattle.far_core.proofs.RoomLaws.{room_right}
 use Rattle.far_core.proofs.Rows.{row_in, row_out}
 use Rattle.far_book.specs.declared.ledger.Ledger.{Ledger}
-use Rattle.far_book.specs.Finds.{Finds, body_of, marks_in}
+use Rattle.far_hand.specs.Finds.{Finds, body_of, marks_in}
 use Rattle.far_book.specs.book.Effects.{retired, order_after, with_free_cell, with_blank_span, near_word}
 use Rattle.far_book.specs.book.Ledger.{Notes, IsLowestFree, MayTake, Takes}
 use Rattle.far_book.specs.book.Own.{own_part}

@@ -26,8 +26,8 @@ use Rattle.far_core.proofs.Owing.{keeps}
 use Rattle.far_core.proofs.Put.{put_same}
 use Rattle.far_core.proofs.RoomLaws.{room_right}
 use Rattle.far_book.specs.declared.ledger.Ledger.{Ledger}
-use Rattle.far_book.specs.Finds.{Finds, body_of}
-use Rattle.far_book.specs.Quiet.{is_quiet}
+use Rattle.far_hand.specs.Finds.{Finds, body_of}
+use Rattle.far_hand.specs.Quiet.{is_quiet}
 use Rattle.far_book.specs.book.Dealing.{FindsDrop, Leaves}
 use Rattle.far_book.specs.book.Effects.{moved, near_word, order_after, stayed, with_free_cell, with_written_span}
 use Rattle.far_book.specs.book.FarSide.{HoldsFar, InOrder}
@@ -36,7 +36,7 @@ use Rattle.far_book.specs.book.Moving.{MayCopy, MayStay}
 use Rattle.far_book.specs.book.Own.{own_part}
 use Rattle.far_book.specs.book.Placeable.{Placeable, with_object}
 use Rattle.far_book.specs.book.Renaming.{seen}
-use Rattle.far_book.proofs.Finding.{finds_mark}
+use Rattle.far_hand.proofs.Finding.{finds_mark}
 use Rattle.far_book.proofs.region.Calls.{free_unplaced, may_take, order_taken, placeable, put_put}
 use Rattle.far_book.proofs.region.FarSide.{far_without}
 use Rattle.far_book.proofs.region.Founds.{notes_found, notes_seen}

@@ -20,7 +20,7 @@ use Rattle.far_core.specs.events.Step.{after}
 use Rattle.far_core.specs.state.State.{State, put, addr}
 use Rattle.far_core.proofs.Put.{put_both, put_same, put_other}
 use Rattle.far_core.proofs.Rows.{row_in, row_out, row_is}
-use Rattle.far_book.specs.Finds.{Finds, body_of}
+use Rattle.far_hand.specs.Finds.{Finds, body_of}
 use Rattle.far_book.specs.book.Effects.{fetched, fetched_of, near_word, with_written_span}
 use Rattle.far_book.specs.book.Placeable.{IsAbsent}
 use Rattle.far_book.specs.book.Renaming.{MayRename, seen}

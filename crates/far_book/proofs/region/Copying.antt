@@ -20,8 +20,8 @@ use Rattle.far_core.proofs.NewSpans.{at_tail}
 use Rattle.far_core.proofs.Observations.{in_range}
 use Rattle.far_core.proofs.Put.{put_both, put_same, put_other}
 use Rattle.far_core.proofs.Rows.{row_in, row_out, row_is}
-use Rattle.far_book.specs.Known.{IsKnown, IsPaddedAt}
-use Rattle.far_book.specs.Quiet.{IsQuietAt, is_quiet}
+use Rattle.far_hand.specs.Known.{IsKnown, IsPaddedAt}
+use Rattle.far_hand.specs.Quiet.{IsQuietAt, is_quiet}
 use Rattle.far_book.specs.book.Moving.{MayCopy, Copied}
 use Rattle.far_book.specs.book.Own.{own_part}
 use Rattle.far_book.proofs.region.Owns.{own_header}

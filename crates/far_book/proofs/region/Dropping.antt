@@ -4,8 +4,8 @@ use Rattle.far_word.specs.Pointer.{read_of}
 use Rattle.far_core.specs.events.Naming.{is_dropped}
 use Rattle.far_core.specs.state.State.{State}
 use Rattle.far_core.proofs.Put.{put_same}
-use Rattle.far_book.specs.Finds.{Finds}
-use Rattle.far_book.specs.Known.{Forgets, IsKnown, KeepsKnown}
+use Rattle.far_hand.specs.Finds.{Finds}
+use Rattle.far_hand.specs.Known.{Forgets, IsKnown, KeepsKnown}
 use Rattle.far_book.specs.book.Dealing.{FindsDrop, IsRetired, LeavesSpans}
 use Rattle.far_book.specs.book.Effects.{retired, with_free_cell}
 use Rattle.far_book.specs.book.Renaming.{seen}

@@ -14,14 +14,14 @@ use Rattle.far_core.specs.events.namings.Evicts.{with_kept}
 use Rattle.far_core.specs.state.Law.{IsStored}
 use Rattle.far_core.specs.state.State.{State, put, addr}
 use Rattle.far_core.proofs.Put.{put_other, put_same}
-use Rattle.far_book.specs.Finds.{Finds}
-use Rattle.far_book.specs.Known.{Forgets, IsKnown, KeepsKnown}
+use Rattle.far_hand.specs.Finds.{Finds}
+use Rattle.far_hand.specs.Known.{Forgets, IsKnown, KeepsKnown}
 use Rattle.far_book.specs.book.Asking.{HasBytes}
 use Rattle.far_book.specs.book.Dealing.{IsRetired, Leaves, LeavesSpans, has_evac}
 use Rattle.far_book.specs.book.Effects.{evicted, far_word, retired}
 use Rattle.far_book.specs.book.Evicting.{GoesFar}
 use Rattle.far_book.specs.book.Renaming.{seen}
-use Rattle.far_book.proofs.Finding.{finds_more, near_known}
+use Rattle.far_hand.proofs.Finding.{finds_more, near_known}
 use Rattle.far_book.proofs.region.Calls.{put_put}
 use Rattle.far_book.proofs.region.Dropping.{free_is, retired_by, spans_left}
 use Rattle.far_book.proofs.region.Evictions.{evicted_is, sent}

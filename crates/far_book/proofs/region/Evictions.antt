@@ -34,8 +34,8 @@ use Rattle.far_core.proofs.Quieting.{quiet_fact}
 use Rattle.far_device.specs.Contents.{KeepsOthers}
 use Rattle.far_book.specs.declared.ledger.Filled.{Filled}
 use Rattle.far_book.specs.declared.ledger.Ledger.{Ledger}
-use Rattle.far_book.specs.Finds.{Finds, marks_in}
-use Rattle.far_book.specs.Known.{KnowsLeaving}
+use Rattle.far_hand.specs.Finds.{Finds, marks_in}
+use Rattle.far_hand.specs.Known.{KnowsLeaving}
 use Rattle.far_book.specs.book.Dealing.{Leaves, has_evac}
 use Rattle.far_book.specs.book.Effects.{evicted, evicted_of, far_word, with_free_cell}
 use Rattle.far_book.specs.book.Evicting.{IsQuietData, IsQuietIn, Learns}
@@ -44,7 +44,7 @@ use Rattle.far_book.specs.book.Ledger.{Loses, Notes, filled_of, is_noted_free}
 use Rattle.far_book.specs.book.NumberSet.{has}
 use Rattle.far_book.specs.book.Own.{own_part}
 use Rattle.far_book.specs.book.Renaming.{MayRename, Renamed, seen}
-use Rattle.far_book.proofs.Finding.{IsNearTo, finds_same, near_found}
+use Rattle.far_hand.proofs.Finding.{IsNearTo, finds_same, near_found}
 use Rattle.far_book.proofs.region.Calls.{put_put}
 use Rattle.far_book.proofs.region.InOrders.{headers_keep}
 use Rattle.far_book.proofs.region.Owns.{own_forgets, own_header}

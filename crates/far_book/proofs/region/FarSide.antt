@@ -7,8 +7,8 @@ use Rattle.far_word.specs.Pointer.{read_of}
 use Rattle.far_core.specs.state.State.{State, put}
 use Rattle.far_core.proofs.Put.{put_both}
 use Rattle.far_device.specs.Contents.{KeepsOthers}
-use Rattle.far_book.specs.Finds.{Finds, body_of}
-use Rattle.far_book.specs.Owners.{OwnersChange}
+use Rattle.far_hand.specs.Finds.{Finds, body_of}
+use Rattle.far_hand.specs.Owners.{OwnersChange}
 use Rattle.far_book.specs.book.FarSide.{HoldsFar}
 use Rattle.far_book.proofs.region.Leaving.{far_cell}
 

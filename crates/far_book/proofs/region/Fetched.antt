@@ -27,8 +27,8 @@ use Rattle.far_core.proofs.Owing.{keeps}
 use Rattle.far_core.proofs.Put.{put_same}
 use Rattle.far_device.specs.Contents.{KeepsOthers}
 use Rattle.far_book.specs.declared.ledger.Ledger.{Ledger}
-use Rattle.far_book.specs.Finds.{Finds, body_of, marks_in}
-use Rattle.far_book.specs.Known.{Forgets}
+use Rattle.far_hand.specs.Finds.{Finds, body_of, marks_in}
+use Rattle.far_hand.specs.Known.{Forgets}
 use Rattle.far_book.specs.book.Effects.{fetched, near_word, with_written_span}
 use Rattle.far_book.specs.book.FarSide.{InOrder}
 use Rattle.far_book.specs.book.Fetching.{IsFetched, far_len, room_for}

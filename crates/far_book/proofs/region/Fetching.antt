@@ -18,8 +18,8 @@ use Rattle.far_core.proofs.Put.{put_same}
 use Rattle.far_device.specs.declared.fault.DeviceFault.{DeviceFault}
 use Rattle.far_device.specs.Faults.{SpendsFault, is_fault}
 use Rattle.far_book.specs.declared.ledger.Ledger.{Ledger}
-use Rattle.far_book.specs.Finds.{Finds}
-use Rattle.far_book.specs.Known.{Forgets}
+use Rattle.far_hand.specs.Finds.{Finds}
+use Rattle.far_hand.specs.Known.{Forgets}
 use Rattle.far_book.specs.book.Dealing.{IsSeen, LeavesSpans}
 use Rattle.far_book.specs.book.Effects.{with_written_span}
 use Rattle.far_book.specs.book.FarSide.{InOrder}
@@ -28,7 +28,7 @@ use Rattle.far_book.specs.book.Ledger.{MayTake}
 use Rattle.far_book.specs.book.Own.{own_part}
 use Rattle.far_book.specs.book.Placeable.{Placeable}
 use Rattle.far_book.specs.book.Renaming.{seen}
-use Rattle.far_book.proofs.Finding.{finds_is}
+use Rattle.far_hand.proofs.Finding.{finds_is}
 use Rattle.far_book.proofs.region.Calls.{ends, may_take, placeable, put_put}
 use Rattle.far_book.proofs.region.Fetched.{far_unplaced, given_long, given_word, not_asked, room_is, written_below, written_header}
 

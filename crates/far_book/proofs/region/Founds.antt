@@ -17,11 +17,11 @@ use Rattle.far_core.proofs.Cells as cells
 use Rattle.far_core.proofs.Frames.{law_with_cell_marks}
 use Rattle.far_core.proofs.Put.{put_both, put_old}
 use Rattle.far_book.specs.declared.ledger.Ledger.{Ledger}
-use Rattle.far_book.specs.Finds.{Finds, body_of, marks_in}
+use Rattle.far_hand.specs.Finds.{Finds, body_of, marks_in}
 use Rattle.far_book.specs.book.Ledger.{Notes}
 use Rattle.far_book.specs.book.Home.{home_of}
 use Rattle.far_book.specs.book.Own.{own_part}
-use Rattle.far_book.proofs.Finding.{near_known}
+use Rattle.far_hand.proofs.Finding.{near_known}
 use Rattle.far_book.proofs.region.SpanLists.{taken_same}
 
 -- ---- what a word that is found shares with the one that was known

@@ -9,7 +9,7 @@ use Rattle.far_core.specs.state.State.{State, put}
 use Rattle.far_core.proofs.Cells.{unused}
 use Rattle.far_device.specs.Contents.{KeepsOthers}
 use Rattle.far_book.specs.declared.ledger.Ledger.{Ledger}
-use Rattle.far_book.specs.Finds.{Finds}
+use Rattle.far_hand.specs.Finds.{Finds}
 use Rattle.far_book.specs.book.Effects.{near_word, placed, retired, with_blank_span, with_free_cell}
 use Rattle.far_book.specs.book.FarSide.{HoldsFar, InOrder}
 use Rattle.far_book.specs.book.Ledger.{Notes}

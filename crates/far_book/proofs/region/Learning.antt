@@ -12,9 +12,9 @@ use Rattle.far_log.specs.Spans.{head_len}
 use Rattle.far_core.specs.events.Copies.{data_at}
 use Rattle.far_core.specs.state.State.{State, put, addr}
 use Rattle.far_core.proofs.Put.{put_both, put_same, put_other}
-use Rattle.far_book.specs.Known.{IsKnown, IsPaddedAt}
+use Rattle.far_hand.specs.Known.{IsKnown, IsPaddedAt}
 use Rattle.far_book.specs.book.Dealing.{Leaves}
-use Rattle.far_book.specs.Quiet.{IsQuietAt}
+use Rattle.far_hand.specs.Quiet.{IsQuietAt}
 use Rattle.far_book.specs.book.Evicting.{IsQuietData, Learns}
 
 -- ---- bytes

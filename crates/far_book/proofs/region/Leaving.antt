@@ -14,7 +14,7 @@ use Rattle.far_core.specs.state.State.{State}
 use Rattle.far_core.proofs.Bounds.{log_inside}
 use Rattle.far_core.proofs.Observations.{in_range}
 use Rattle.far_book.specs.declared.ledger.Ledger.{Ledger}
-use Rattle.far_book.specs.Finds.{body_of}
+use Rattle.far_hand.specs.Finds.{body_of}
 use Rattle.far_book.specs.book.Effects.{with_free_cell}
 use Rattle.far_book.specs.book.Ledger.{Notes, MayRetire, Loses, Frees, filled_of}
 use Rattle.far_book.proofs.region.NotesKept.{notes_near, notes_far}

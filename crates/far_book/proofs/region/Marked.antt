@@ -17,13 +17,13 @@ use Rattle.far_core.proofs.Cells.{unused}
 use Rattle.far_core.proofs.Owing.{keeps}
 use Rattle.far_core.proofs.Put.{put_same}
 use Rattle.far_book.specs.declared.ledger.Ledger.{Ledger}
-use Rattle.far_book.specs.Finds.{Finds}
+use Rattle.far_hand.specs.Finds.{Finds}
 use Rattle.far_book.specs.book.FarSide.{InOrder}
 use Rattle.far_book.specs.book.Own.{own_part}
-use Rattle.far_book.proofs.EvacMarks.{with_evac}
+use Rattle.far_hand.proofs.EvacMarks.{with_evac}
 use Rattle.far_book.proofs.region.Calls.{put_put}
 use Rattle.far_book.proofs.region.FarSide.{far_without}
-use Rattle.far_book.proofs.Finding.{near_found}
+use Rattle.far_hand.proofs.Finding.{near_found}
 use Rattle.far_book.proofs.region.Founds.{notes_seen}
 use Rattle.far_book.proofs.region.InOrders.{found_keeps}
 

@@ -24,14 +24,15 @@ use Rattle.far_core.specs.state.State.{State, put, addr}
 use Rattle.far_core.proofs.Namings.{naming_only}
 use Rattle.far_core.proofs.Put.{put_same, put_both}
 use Rattle.far_core.proofs.Quieting.{quiet_fact}
-use Rattle.far_book.specs.Finds.{Finds, marks_in}
-use Rattle.far_book.specs.Known.{IsKnown}
-use Rattle.far_book.specs.Quiet.{is_quiet}
-use Rattle.far_book.specs.book.Dealing.{FindsDrop, IsQuietNear, Leaves, goal, goal_of, has_evac}
+use Rattle.far_hand.specs.Finds.{Finds, marks_in}
+use Rattle.far_hand.specs.Known.{IsKnown}
+use Rattle.far_hand.specs.Quiet.{is_quiet}
+use Rattle.far_book.specs.book.Dealing.{FindsDrop, Leaves, goal, goal_of, has_evac}
+use Rattle.far_hand.specs.Quiet.{IsQuietNear}
 use Rattle.far_book.specs.book.Effects.{moved, moved_of, near_word, stayed, stayed_of, with_written_span}
 use Rattle.far_book.specs.book.Moving.{MayCopy, MayStay, Copied}
 use Rattle.far_book.specs.book.Renaming.{seen, MayRename, Renamed}
-use Rattle.far_book.proofs.Finding.{near_found}
+use Rattle.far_hand.proofs.Finding.{near_found}
 use Rattle.far_book.proofs.region.Calls.{put_put}
 use Rattle.far_book.proofs.region.Copying.{below_outside, first, from_inside, layout_there, outside, start_outside}
 

@@ -37,13 +37,13 @@ use Rattle.far_core.proofs.Owing.{keeps, does}
 use Rattle.far_core.proofs.Put.{put_same, put_other, put_old}
 use Rattle.far_core.proofs.RoomLaws.{room_right}
 use Rattle.far_core.proofs.Rows.{row_in, row_none}
-use Rattle.far_book.specs.Quiet.{is_quiet}
+use Rattle.far_hand.specs.Quiet.{is_quiet}
 use Rattle.far_book.specs.book.Dealing.{has_evac}
 use Rattle.far_book.specs.book.Effects.{moved, moved_of, near_word, stayed, stayed_of, with_written_span}
 use Rattle.far_book.specs.book.Laws.{IsMoved, IsUnmarked, MovingIsLegal, StayingIsLegal}
 use Rattle.far_book.specs.book.Moving.{Copied, MayCopy}
 use Rattle.far_book.specs.book.Reached.{Reached}
-use Rattle.far_book.proofs.Finding.{finds_same}
+use Rattle.far_hand.proofs.Finding.{finds_same}
 use Rattle.far_book.proofs.region.Copying.{at_end, first, from_outside, head, layout_there, outside, row_last}
 use Rattle.far_book.proofs.region.Moved.{may_rename, moved_is, no_stay, stayed_is}
 use Rattle.far_book.proofs.region.Owns.{own_law}

@@ -21,10 +21,10 @@ use Rattle.far_core.specs.state.Spans.{IsOfHeap, names_place, spans_of, is_live,
 use Rattle.far_core.specs.state.State.{State, put}
 use Rattle.far_core.proofs.Observations.{found, listed, walks, of_heap, one_live, live_names}
 use Rattle.far_core.proofs.Put.{put_both}
-use Rattle.far_book.specs.Finds.{Finds}
+use Rattle.far_hand.specs.Finds.{Finds}
 use Rattle.far_book.specs.book.NextLive.{IsBoundary, IsHomeOf, IsNamedBetween, live_from, LivesBehind, LivesFromStart, SpansAreBounded}
 use Rattle.far_book.specs.book.Own.{own_part}
-use Rattle.far_book.proofs.Finding.{finds_more, near_found, some_found}
+use Rattle.far_hand.proofs.Finding.{finds_more, near_found, some_found}
 use Rattle.far_book.proofs.region.Founds.{names_found}
 use Rattle.far_book.proofs.region.Owns.{own_header, own_spans}
 

@@ -24,7 +24,7 @@ use Rattle.far_core.specs.state.State.{State, put, addr}
 use Rattle.far_core.proofs.KeepOwner.{closed_word}
 use Rattle.far_core.proofs.Observations.{found, walks}
 use Rattle.far_core.proofs.Put.{put_same, put_other}
-use Rattle.far_book.specs.Known.{Forgets}
+use Rattle.far_hand.specs.Known.{Forgets}
 use Rattle.far_book.specs.book.Effects.{near_word, placed, retired, with_blank_span, with_free_cell, with_written_span}
 use Rattle.far_book.specs.book.Own.{own_part}
 use Rattle.far_book.specs.book.Placeable.{Placeable, with_object}

@@ -40,7 +40,7 @@ use Rattle.far_core.proofs.RoomLaws.{room_right}
 use Rattle.far_book.specs.book.Effects.{fetched, near_word, with_written_span}
 use Rattle.far_book.specs.book.Laws.{FetchingIsLegal, IsCome}
 use Rattle.far_book.specs.book.Reached.{IsOfBook, Reached}
-use Rattle.far_book.proofs.Finding.{finds_same}
+use Rattle.far_hand.proofs.Finding.{finds_same}
 use Rattle.far_book.proofs.region.Coming.{fetched_is, header, may_come, stands, written_outside}
 use Rattle.far_book.proofs.region.Fetched.{fetched_come}
 use Rattle.far_book.proofs.region.Places.{next_unsealed}

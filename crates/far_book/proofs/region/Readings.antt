@@ -15,7 +15,7 @@ use Rattle.far_core.specs.state.Law.{Law}
 use Rattle.far_core.specs.state.Spans.{spans_of, word_in}
 use Rattle.far_core.specs.state.State.{State}
 use Rattle.far_core.proofs.Observations.{found, walks}
-use Rattle.far_book.specs.Known.{IsKnown, IsPaddedAt}
+use Rattle.far_hand.specs.Known.{IsKnown, IsPaddedAt}
 use Rattle.far_book.specs.book.Own.{own_part}
 use Rattle.far_book.specs.book.Reading.{HeadersKnown, IsReadAt}
 use Rattle.far_book.proofs.region.Owns.{own_header, own_spans}

@@ -26,7 +26,7 @@ use Rattle.far_core.proofs.Owing.{keeps}
 use Rattle.far_core.proofs.Put.{put_same, put_other}
 use Rattle.far_book.specs.declared.ledger.Filled.{Filled}
 use Rattle.far_book.specs.declared.ledger.Ledger.{Ledger}
-use Rattle.far_book.specs.Known.{Forgets}
+use Rattle.far_hand.specs.Known.{Forgets}
 use Rattle.far_book.specs.book.FarSide.{InOrder}
 use Rattle.far_book.specs.book.Ledger.{Notes, filled_of, is_noted_free}
 use Rattle.far_book.specs.book.NumberSet.{has}

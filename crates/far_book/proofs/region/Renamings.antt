@@ -8,10 +8,10 @@ use Rattle.far_core.specs.events.Naming.{is_dropped}
 use Rattle.far_core.specs.events.Step.{after}
 use Rattle.far_core.specs.state.State.{State}
 use Rattle.far_core.proofs.Put.{put_old, put_same}
-use Rattle.far_book.specs.Finds.{Finds}
-use Rattle.far_book.specs.Known.{Forgets, KnowsLeaving}
+use Rattle.far_hand.specs.Finds.{Finds}
+use Rattle.far_hand.specs.Known.{Forgets, KnowsLeaving}
 use Rattle.far_book.specs.book.Renaming.{MayRename, Renamed, seen}
-use Rattle.far_book.proofs.Finding.{finds_is, finds_more}
+use Rattle.far_hand.proofs.Finding.{finds_is, finds_more}
 use Rattle.far_book.proofs.region.Calls.{put_put}
 
 -- the word that is known there is found

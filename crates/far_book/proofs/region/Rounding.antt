@@ -24,14 +24,14 @@ use Rattle.far_core.proofs.Frames.{law_with_fewer_chosen}
 use Rattle.far_core.proofs.Owing.{keeps}
 use Rattle.far_core.proofs.Put.{put_same}
 use Rattle.far_book.specs.declared.ledger.Ledger.{Ledger}
-use Rattle.far_book.specs.Cleared.{cleared}
-use Rattle.far_book.specs.Finds.{Finds}
-use Rattle.far_book.specs.Known.{Forgets}
-use Rattle.far_book.specs.Rounds.{MayChoose, looked_at}
+use Rattle.far_hand.specs.Cleared.{cleared}
+use Rattle.far_hand.specs.Finds.{Finds}
+use Rattle.far_hand.specs.Known.{Forgets}
+use Rattle.far_hand.specs.Rounds.{MayChoose, looked_at}
 use Rattle.far_book.specs.book.FarSide.{InOrder}
 use Rattle.far_book.specs.book.Ledger.{Notes}
 use Rattle.far_book.specs.book.Own.{own_part}
-use Rattle.far_book.proofs.Finding.{near_found}
+use Rattle.far_hand.proofs.Finding.{near_found}
 use Rattle.far_book.proofs.region.Calls.{put_put}
 use Rattle.far_book.proofs.region.FarSide.{far_without}
 use Rattle.far_book.proofs.region.Founds.{notes_seen}

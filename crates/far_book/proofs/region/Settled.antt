@@ -20,12 +20,13 @@ use Rattle.far_core.specs.state.Room.{room}
 use Rattle.far_core.specs.state.State.{State}
 use Rattle.far_core.proofs.Put.{put_same}
 use Rattle.far_core.proofs.RoomLaws.{room_right}
-use Rattle.far_book.specs.Finds.{Finds, body_of, marks_in}
-use Rattle.far_book.specs.book.Dealing.{FindsDrop, IsQuietNear, Leaves, goal, goal_of, has_evac, moved_now}
+use Rattle.far_hand.specs.Finds.{Finds, body_of, marks_in}
+use Rattle.far_book.specs.book.Dealing.{FindsDrop, Leaves, goal, goal_of, has_evac, moved_now}
+use Rattle.far_hand.specs.Quiet.{IsQuietNear}
 use Rattle.far_book.specs.book.Effects.{moved, near_word, stayed, with_written_span}
 use Rattle.far_book.specs.book.Own.{own_part}
 use Rattle.far_book.specs.book.Renaming.{seen}
-use Rattle.far_book.proofs.Finding.{finds_more, near_found}
+use Rattle.far_hand.proofs.Finding.{finds_more, near_found}
 use Rattle.far_book.proofs.region.Calls.{put_put}
 use Rattle.far_book.proofs.region.Founds.{drop_found}
 use Rattle.far_book.proofs.region.Moved.{drop_of, evac_of, goal_there, has_moved, moved_is, stayed_is}

@@ -14,7 +14,7 @@ use Rattle.far_core.specs.state.Law.{IsStored}
 use Rattle.far_core.specs.state.State.{State, addr}
 use Rattle.far_device.specs.declared.fault.DeviceFault.{DeviceFault}
 use Rattle.far_device.specs.declared.fault.DeviceFault.TheVariants as fault
-use Rattle.far_book.specs.Known.{Forgets, IsKnown}
+use Rattle.far_hand.specs.Known.{Forgets, IsKnown}
 use Rattle.far_book.specs.book.Effects.{fetched}
 use Rattle.far_book.specs.book.Fetching.{far_len}
 

@@ -12,20 +12,11 @@ use Rattle.far_word.specs.Sizes.{size_of}
 use Rattle.far_core.specs.events.Naming.{is_dropped}
 use Rattle.far_core.specs.state.Room.{room}
 use Rattle.far_core.specs.state.State.{State}
-use Rattle.far_book.specs.Finds.{Finds}
-use Rattle.far_book.specs.Known.{IsKnown, KeepsKnown}
-use Rattle.far_book.specs.Quiet.{is_quiet}
+use Rattle.far_hand.specs.Finds.{Finds}
+use Rattle.far_hand.specs.Known.{IsKnown, KeepsKnown}
+use Rattle.far_hand.specs.Quiet.{is_quiet}
 use Rattle.far_book.specs.book.Effects.{moved, stayed, order_after, retired, with_free_cell}
 use Rattle.far_book.specs.book.Renaming.{seen}
-
--- an object is near and quiet: nobody stores into it
-pub record IsQuietNear (s : State) (p : ℕ) : Type 0 where
-  pub len : ℕ
-  pub ds : ℕ
-  pub place : Place
-  pub marks : Marks
-  pub near : read_of (s.cell p) ≡ Some (Near len ds place marks)
-  pub quiet : is_quiet s.round s.clear p place marks ≡ true
 
 -- the book wants the log that an object lies in
 abbrev pub has_evac : Option PtrWord → Bool

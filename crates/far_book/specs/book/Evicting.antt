@@ -8,8 +8,8 @@ use Rattle.far_word.specs.Pointer.{read_of}
 use Rattle.far_word.specs.Sizes.{words_for}
 use Rattle.far_core.specs.events.Naming.{is_dropped, no_marks}
 use Rattle.far_core.specs.state.State.{State, addr}
-use Rattle.far_book.specs.Known.{IsKnown, IsPaddedAt, KeepsKnown}
-use Rattle.far_book.specs.Quiet.{IsQuietAt, is_quiet}
+use Rattle.far_hand.specs.Known.{IsKnown, IsPaddedAt, KeepsKnown}
+use Rattle.far_hand.specs.Quiet.{IsQuietAt, is_quiet}
 use Rattle.far_book.specs.book.Effects.{evicted}
 
 -- p's object is near at this place, with this length and data structure, and quiet

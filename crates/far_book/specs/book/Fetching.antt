@@ -12,7 +12,7 @@ use Rattle.far_core.specs.events.Copies.{Alike}
 use Rattle.far_core.specs.state.Law.{IsStored}
 use Rattle.far_core.specs.state.Room.{room}
 use Rattle.far_core.specs.state.State.{State}
-use Rattle.far_book.specs.Known.{Forgets}
+use Rattle.far_hand.specs.Known.{Forgets}
 use Rattle.far_book.specs.book.Effects.{fetched, order_after}
 
 -- an object is far

@@ -14,7 +14,7 @@ use Rattle.far_core.specs.state.Room.{is_free}
 use Rattle.far_core.specs.state.State.{State}
 use Rattle.far_book.specs.declared.ledger.Filled.{Filled}
 use Rattle.far_book.specs.declared.ledger.Ledger.{Ledger}
-use Rattle.far_book.specs.Finds.{body_of}
+use Rattle.far_hand.specs.Finds.{body_of}
 use Rattle.far_book.specs.book.NumberSet.{has}
 
 -- what is written down of a log

@@ -11,8 +11,8 @@ use Rattle.far_core.specs.events.Copies.{Alike, data_at, EndsPadded}
 use Rattle.far_core.specs.events.Legal.{IsNext}
 use Rattle.far_core.specs.state.Law.{Law}
 use Rattle.far_core.specs.state.State.{State, addr}
-use Rattle.far_book.specs.Known.{KeepsKnown}
-use Rattle.far_book.specs.Quiet.{is_quiet}
+use Rattle.far_hand.specs.Known.{KeepsKnown}
+use Rattle.far_hand.specs.Quiet.{is_quiet}
 use Rattle.far_book.specs.book.Effects.{with_written_span}
 use Rattle.far_book.specs.book.Own.{own_part}
 

@@ -2,7 +2,7 @@
 use Rattle.std.specs.Prelude.{◌≡◌, false, cond, None}
 use Rattle.far_core.specs.state.Opening.{opening}
 use Rattle.far_core.specs.state.State.{State}
-use Rattle.far_book.specs.ShapeOf.{shape_of}
+use Rattle.far_hand.specs.ShapeOf.{shape_of}
 
 -- all is left out that owners may change at any moment, or that the book can't know of them: of the words of the logs the
 -- headers of spans alone are left, and of the owners their scopes, and what they remember, use and hold, are those of

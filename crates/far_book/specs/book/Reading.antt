@@ -1,7 +1,7 @@
 -- What a word of a log is read as, while owners store into their objects.
 use Rattle.std.specs.Prelude.{◌≡◌, ℕ, true}
 use Rattle.far_core.specs.state.State.{State}
-use Rattle.far_book.specs.Known.{IsKnown, IsPaddedAt}
+use Rattle.far_hand.specs.Known.{IsKnown, IsPaddedAt}
 
 -- the header of each span is known
 abbrev pub HeadersKnown : State → Type 0

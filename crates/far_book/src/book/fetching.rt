@@ -13,7 +13,7 @@ ghost use Rattle.far_core.specs.events.Naming.{is_dropped, no_marks};
 ghost use Rattle.far_core.specs.state.Law.{IsStored};
 ghost use Rattle.far_device.specs.Contents.{KeepsOthers};
 ghost use Rattle.far_device.specs.Faults.{CountsFault, SpendsFault};
-ghost use Rattle.far_book.specs.Finds.{Finds};
+ghost use Rattle.far_hand.specs.Finds.{Finds};
 ghost use Rattle.far_book.specs.book.Asking.{AsksToFetch};
 ghost use Rattle.far_book.specs.book.Dealing.{IsRetired, IsSeen, LearnsNone, is_failure};
 ghost use Rattle.far_book.specs.book.Deeds.{Does, Fetches};
@@ -25,7 +25,7 @@ ghost use Rattle.far_book.specs.book.Renaming.{Renamed, seen};
 use crate::book::Book;
 use crate::book::renaming::rename;
 use crate::book::words::near_word;
-use crate::near::Near;
+use far_hand::Near;
 use far_device::{Device, DeviceFault};
 use far_word::{HeadWord, Place, PtrWord, Refused, pack_bytes, size_of, words_for};
 

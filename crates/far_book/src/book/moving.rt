@@ -8,7 +8,8 @@ ghost use Rattle.far_core.specs.events.Copies.{data_at};
 ghost use Rattle.far_core.specs.events.Naming.{is_dropped};
 ghost use Rattle.far_device.specs.Contents.{KeepsOthers};
 ghost use Rattle.far_device.specs.Faults.{SpendsFault};
-ghost use Rattle.far_book.specs.book.Dealing.{FindsDrop, IsQuietNear, IsRetired, IsSeen, goal, has_evac, Leaves, moved_now, order_moved};
+ghost use Rattle.far_book.specs.book.Dealing.{FindsDrop, IsRetired, IsSeen, goal, has_evac, Leaves, moved_now, order_moved};
+ghost use Rattle.far_hand.specs.Quiet.{IsQuietNear};
 ghost use Rattle.far_book.specs.book.Deeds.{Does, Moves};
 ghost use Rattle.far_book.specs.book.Effects.{moved, order_after, stayed, with_written_span};
 ghost use Rattle.far_book.specs.book.Moving.{Copied, MayCopy, MayStay};
@@ -16,7 +17,7 @@ ghost use Rattle.far_book.specs.book.Moving.{Copied, MayCopy, MayStay};
 use crate::book::Book;
 use crate::book::renaming::{is_dropped, rename};
 use crate::book::words::near_word;
-use crate::near::Near;
+use far_hand::Near;
 use far_device::Device;
 use far_word::{HeadWord, Place, PtrWord, Refused, size_of, words_for};
 

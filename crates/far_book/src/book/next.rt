@@ -6,11 +6,11 @@ ghost use Rattle.far_word.specs.Pointer.{read_of};
 ghost use Rattle.far_word.specs.Sizes.{size_of};
 ghost use Rattle.far_log.specs.Spans.{span_at};
 ghost use Rattle.far_core.specs.state.Spans.{names_place, word_in};
-ghost use Rattle.far_book.specs.Finds.{Finds};
+ghost use Rattle.far_hand.specs.Finds.{Finds};
 ghost use Rattle.far_book.specs.book.NextLive.{IsBoundary, IsHomeOf, IsNamedBetween, live_from, searched_to};
 
 use crate::book::Book;
-use crate::near::Near;
+use far_hand::Near;
 use far_device::Device;
 use far_log::Span;
 use far_word::{HeadWord, PtrWord, size_of};

@@ -7,11 +7,11 @@ ghost use Rattle.far_core.specs.state.Agrees.{Agrees};
 ghost use Rattle.far_core.specs.state.CoreState.{core_state};
 ghost use Rattle.far_core.specs.state.Law.{Law};
 ghost use Rattle.far_core.specs.state.State.{State};
-ghost use Rattle.far_book.specs.BesetView.{beset_may_be, beset_view};
-ghost use Rattle.far_book.specs.MayBe.{NoneViews, ViewsNone};
-ghost use Rattle.far_book.specs.Owners.{is_owners};
+ghost use Rattle.far_hand.specs.BesetView.{beset_may_be, beset_view};
+ghost use Rattle.far_hand.specs.MayBe.{NoneViews, ViewsNone};
+ghost use Rattle.far_hand.specs.Owners.{is_owners};
 
-use crate::beset::Beset;
+use far_hand::Beset;
 use crate::book::Book;
 use far_device::Device;
 

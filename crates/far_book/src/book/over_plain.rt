@@ -11,12 +11,12 @@ ghost use Rattle.far_core.specs.state.CoreState.{core_state};
 ghost use Rattle.far_core.specs.state.Law.{Law};
 ghost use Rattle.far_core.specs.world.Happens.{Happens};
 ghost use Rattle.far_core.specs.world.WorldOf.{world_of};
-ghost use Rattle.far_book.specs.Owners.{OwnersChange, is_owners};
+ghost use Rattle.far_hand.specs.Owners.{OwnersChange, is_owners};
 ghost use Rattle.far_book.specs.book.Deeds.{Does, Owns};
 
 use crate::book::Book;
-use crate::owners::is_owners;
-use crate::plain::Plain;
+use far_hand::is_owners;
+use far_hand::Plain;
 use far_core::{Core, Event, Reply};
 use far_device::Device;
 use far_word::Place;

@@ -6,10 +6,10 @@ ghost use Rattle.far_word.specs.Pointer.{read_of};
 ghost use Rattle.far_core.specs.declared.event.Event.{Event};
 ghost use Rattle.far_core.specs.events.Naming.{is_dropped};
 ghost use Rattle.far_core.specs.events.Step.{after};
-ghost use Rattle.far_book.specs.Finds.{Finds};
+ghost use Rattle.far_hand.specs.Finds.{Finds};
 ghost use Rattle.far_book.specs.book.Renaming.{MayRename, Renamed, seen};
 
-use crate::near::Near;
+use far_hand::Near;
 use far_word::PtrWord;
 
 /// Gives a cell a new word, by the word that was last found there. `Err` with the word that was found, where its owner has

@@ -9,15 +9,15 @@ ghost use Rattle.far_core.specs.events.Get.{IsVacant};
 ghost use Rattle.far_core.specs.events.Legal.{Legal};
 ghost use Rattle.far_core.specs.events.Step.{after};
 ghost use Rattle.far_core.specs.state.State.{State};
-ghost use Rattle.far_book.specs.Cleared.{cleared};
-ghost use Rattle.far_book.specs.Finds.{Finds};
-ghost use Rattle.far_book.specs.Known.{Forgets};
-ghost use Rattle.far_book.specs.Rounds.{IsScopeAt, MayChoose, looked_at};
+ghost use Rattle.far_hand.specs.Cleared.{cleared};
+ghost use Rattle.far_hand.specs.Finds.{Finds};
+ghost use Rattle.far_hand.specs.Known.{Forgets};
+ghost use Rattle.far_hand.specs.Rounds.{IsScopeAt, MayChoose, looked_at};
 ghost use Rattle.far_book.specs.book.Deeds.{Does, Steps};
 ghost use Rattle.far_book.specs.book.Releasing.{order_without, released};
 
 use crate::book::Book;
-use crate::near::Near;
+use far_hand::Near;
 use far_device::Device;
 use far_word::Refused;
 

@@ -11,7 +11,7 @@ ghost use Rattle.far_core.specs.state.Spans.{IsOfHeap, spans_of, word_in};
 ghost use Rattle.far_book.specs.book.Own.{own_part};
 
 use crate::book::Book;
-use crate::near::Near;
+use far_hand::Near;
 use far_device::Device;
 
 impl<N: Near + Drop, D: Device + Drop> Book<N, D> {

@@ -9,8 +9,8 @@ ghost use Rattle.far_word.specs.declared.sizes.TheConstants.{CELLS};
 ghost use Rattle.far_word.specs.Pointer.{read_of};
 ghost use Rattle.far_core.specs.state.CoreState.{core_state};
 ghost use Rattle.far_core.specs.state.Opening.{opening};
-ghost use Rattle.far_book.specs.BesetView.{beset_view};
-ghost use Rattle.far_book.specs.Masked.{masked, word_at};
+ghost use Rattle.far_hand.specs.BesetView.{beset_view};
+ghost use Rattle.far_hand.specs.Masked.{masked, word_at};
 
 use far_book::{Beset, Near, Plain};
 use far_core::{Core, Event, Kind, Reply, Shape};

@@ -7,9 +7,10 @@ ghost use Rattle.far_word.specs.declared.refused.Refused.TheVariants.{Device as 
 ghost use Rattle.far_word.specs.declared.sizes.TheConstants.{CELLS};
 ghost use Rattle.far_word.specs.Pointer.{read_of};
 ghost use Rattle.far_core.specs.events.Naming.{is_dropped};
-ghost use Rattle.far_book.specs.Finds.{Finds};
+ghost use Rattle.far_hand.specs.Finds.{Finds};
 ghost use Rattle.far_book.specs.book.Asking.{AsksToEvict};
-ghost use Rattle.far_book.specs.book.Dealing.{IsQuietNear, has_evac, is_failure};
+ghost use Rattle.far_book.specs.book.Dealing.{has_evac, is_failure};
+ghost use Rattle.far_hand.specs.Quiet.{IsQuietNear};
 ghost use Rattle.far_book.specs.book.Effects.{evicted};
 ghost use Rattle.far_book.specs.book.Releasing.{order_without, released};
 ghost use Rattle.far_evac.specs.AnyHand.{Evacuates, Knows, KnowsMoment, KnowsWalked, StopsAt, Walks};

@@ -5,7 +5,7 @@ ghost use Rattle.far_word.specs.declared.refused.Refused.TheVariants.{Phase as W
 ghost use Rattle.far_word.specs.Scope.{scope_of};
 ghost use Rattle.far_core.specs.events.Look.{shows_clear};
 ghost use Rattle.far_core.specs.state.State.{State};
-ghost use Rattle.far_book.specs.MayBe.{NoneViews};
+ghost use Rattle.far_hand.specs.MayBe.{NoneViews};
 ghost use Rattle.far_evac.specs.AnyHand.{Polls};
 ghost use Rattle.far_evac.specs.EvacOf.{moment};
 ghost use Rattle.far_evac.specs.RoundSteps.{among};

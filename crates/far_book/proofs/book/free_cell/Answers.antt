@@ -4,11 +4,11 @@ use Rattle.far_word.specs.declared.sizes.TheConstants.{CELLS}
 use Rattle.far_word.specs.Pointer.{read_of}
 use Rattle.far_word.proofs.PointerLaws.{word_fits}
 use Rattle.far_core.specs.state.State.{State, put}
-use Rattle.far_book.proofs.Finding.{finds_more}
+use Rattle.far_hand.proofs.Finding.{finds_more}
 use Rattle.far_book.proofs.region.Calls.{after_is, still_dropped, put_put, count_more, some_dropped}
 use Rattle.far_book.proofs.region.Founds.{drop_found}
 use Rattle.far_book.proofs.region.Retires.{may_retire}
-use Rattle.far_book.proofs.Knowing.{not_to_free}
+use Rattle.far_hand.proofs.Knowing.{not_to_free}
 
 pub name-requires-clause-legal : goal.name-requires-clause-legal
 name-requires-clause-legal g c =

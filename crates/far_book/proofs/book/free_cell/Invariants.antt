@@ -1,7 +1,7 @@
 use Rattle.std.proofs.Common.{◌≡◌, ◌≤◌, Some}
 use Rattle.far_word.specs.Pointer.{IsPtr, read_of, word_of}
 use Rattle.far_core.specs.state.State.{put}
-use Rattle.far_book.specs.Finds.{Finds}
+use Rattle.far_hand.specs.Finds.{Finds}
 use Rattle.far_book.proofs.region.Calls.{count}
 use Rattle.far_book.proofs.book.free_cell.Given as goal
 

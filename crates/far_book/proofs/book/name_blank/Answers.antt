@@ -6,7 +6,7 @@ use Rattle.far_core.specs.state.State.{State}
 use Rattle.far_book.specs.book.Effects.{near_word, with_blank_span}
 use Rattle.far_book.proofs.region.Calls.{may_name}
 use Rattle.far_book.proofs.region.Founds.{free_found}
-use Rattle.far_book.proofs.Knowing.{not_from_free}
+use Rattle.far_hand.proofs.Knowing.{not_from_free}
 
 pub name-requires-clause-legal : goal.name-requires-clause-legal
 name-requires-clause-legal g c =

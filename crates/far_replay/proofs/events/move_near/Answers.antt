@@ -1,6 +1,6 @@
 use Rattle.std.proofs.Common.{ap, refl, subst, sym, ◌∙◌}
 use Rattle.far_core.specs.state.State.{State}
-use Rattle.far_book.specs.book.Dealing.{IsQuietNear}
+use Rattle.far_hand.specs.Quiet.{IsQuietNear}
 use Rattle.far_replay.specs.Dereference.{asked_for}
 use Rattle.far_replay.specs.Interpreter.{order_come}
 use Rattle.far_replay.specs.Moment.{state_in}

@@ -1,6 +1,6 @@
 use Rattle.far_book.proofs.book.Book.advance.Goals as goal
 use Rattle.std.proofs.Common.{sym, subst}
-use Rattle.far_book.specs.Rounds.{MayChoose}
+use Rattle.far_hand.specs.Rounds.{MayChoose}
 use Rattle.far_book.specs.book.BookOf.{BookOf}
 use Rattle.far_book.proofs.region.Rounding.{advance_keeps}
 

@@ -8,7 +8,7 @@ use Rattle.far_word.proofs.PointerLaws.{read_says}
 use Rattle.far_core.specs.state.Room.{room}
 use Rattle.far_core.specs.state.State.{State}
 use Rattle.far_book.specs.book.BookOf.{BookOf}
-use Rattle.far_book.specs.book.Dealing.{IsQuietNear}
+use Rattle.far_hand.specs.Quiet.{IsQuietNear}
 use Rattle.far_book.specs.book.Dealing as dealing
 use Rattle.far_book.specs.book.Effects.{order_after}
 use Rattle.far_book.specs.book.Ledger.{MayTake, Notes, Takes}

@@ -8,7 +8,7 @@ use Rattle.far_word.proofs.PointerLaws.{read_says}
 use Rattle.far_core.specs.events.Copies.{data_at}
 use Rattle.far_core.specs.events.Naming.{is_dropped, no_marks}
 use Rattle.far_core.specs.state.State.{State}
-use Rattle.far_book.specs.Known.{Forgets}
+use Rattle.far_hand.specs.Known.{Forgets}
 use Rattle.far_book.specs.book.Asking.{fault_of}
 use Rattle.far_book.specs.book.Effects.{evicted, retired}
 use Rattle.far_book.specs.book.Renaming.{seen}

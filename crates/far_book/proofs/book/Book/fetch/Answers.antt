@@ -15,14 +15,14 @@ use Rattle.far_device.specs.declared.fault.DeviceFault.TheVariants.{Memory, Devi
 use Rattle.far_device.specs.Faults.{SpendsFault}
 use Rattle.far_book.specs.book.Asking.{HasGiven}
 use Rattle.far_book.specs.book.BookOf.{BookOf}
-use Rattle.far_book.specs.Known.{Forgets}
+use Rattle.far_hand.specs.Known.{Forgets}
 use Rattle.far_book.specs.book.Effects.{fetched, retired, with_written_span}
 use Rattle.far_book.specs.book.FarSide.{InOrder}
 use Rattle.far_book.specs.book.Fetching.{far_len}
 use Rattle.far_book.specs.book.Ledger.{Takes}
 use Rattle.far_book.specs.book.Own.{own_part}
 use Rattle.far_book.specs.book.Renaming.{seen}
-use Rattle.far_book.proofs.Finding.{finds_more}
+use Rattle.far_hand.proofs.Finding.{finds_more}
 use Rattle.far_book.proofs.region.Dropping.{retired_by}
 use Rattle.far_book.proofs.region.Fetched.{come_in_order, come_forgot, come_kept, fetched_by, fetched_seen, known, known_alive, written_in_order}
 use Rattle.far_book.proofs.region.Fetching.{FarFound, able, as_long, as_stored, at_tail, finds_now, is_held, is_seen, left_here, left_written, may, now, room_was, some_room, spent_by, unasked, unread_written, words_same}

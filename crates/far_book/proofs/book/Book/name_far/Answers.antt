@@ -5,7 +5,7 @@ use Rattle.far_word.specs.Bytes.{bytes_of}
 use Rattle.far_core.specs.events.Copies.{data_at}
 use Rattle.far_core.specs.state.Law.{IsStored}
 use Rattle.far_core.specs.state.State.{State}
-use Rattle.far_book.specs.Finds.{Finds}
+use Rattle.far_hand.specs.Finds.{Finds}
 use Rattle.far_book.specs.book.BookOf.{BookOf}
 use Rattle.far_book.specs.book.Effects.{evicted, far_word}
 use Rattle.far_book.specs.book.FarSide.{InOrder}

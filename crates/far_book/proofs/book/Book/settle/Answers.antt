@@ -5,7 +5,7 @@ use Rattle.far_core.specs.state.State.{State}
 use Rattle.far_book.specs.book.Dealing as dealing
 use Rattle.far_book.specs.book.Dealing.{FindsDrop, Leaves}
 use Rattle.far_book.specs.book.Effects.{moved, stayed}
-use Rattle.far_book.proofs.RoundSteps.{quiet_seen}
+use Rattle.far_hand.proofs.RoundSteps.{quiet_seen}
 use Rattle.far_book.proofs.region.Settled.{both_of, drop_by, goal_seen, leaves_by, moved_seen, none_of, some_of, stayed_seen}
 
 pub carry-requires-clause-quiet : goal.carry-requires-clause-quiet

@@ -7,7 +7,7 @@ use Rattle.far_word.specs.Pointer.{read_of}
 use Rattle.far_core.specs.events.Naming.{is_dropped}
 use Rattle.far_core.specs.state.State.{State}
 use Rattle.far_book.specs.book.BookOf.{BookOf}
-use Rattle.far_book.specs.book.Dealing.{IsQuietNear}
+use Rattle.far_hand.specs.Quiet.{IsQuietNear}
 use Rattle.far_book.proofs.region.Carrying.{drop_keeps, kept}
 use Rattle.far_book.proofs.region.Moved.{evac_of, may_stay}
 

@@ -1,6 +1,6 @@
 use Rattle.far_book.proofs.book.renaming.rename.Goals as goal
 use Rattle.std.proofs.Common.{arith, subst}
-use Rattle.far_book.specs.Finds.{Finds}
+use Rattle.far_hand.specs.Finds.{Finds}
 use Rattle.far_book.proofs.region.Renamings.{done_after, kept_after, may_after, may_now, renamed_now}
 
 pub name-requires-clause-legal : goal.name-requires-clause-legal

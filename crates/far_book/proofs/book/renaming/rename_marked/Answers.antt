@@ -1,6 +1,6 @@
 use Rattle.std.proofs.Common.{◌∙◌, ap, arith}
 use Rattle.far_core.specs.state.State.{State, put}
-use Rattle.far_book.proofs.Finding.{finds_more, some_found}
+use Rattle.far_hand.proofs.Finding.{finds_more, some_found}
 use Rattle.far_book.proofs.region.Calls.{put_put, count_more}
 use Rattle.far_book.proofs.book.renaming.rename_marked.Goals as goal
 

@@ -4,7 +4,7 @@ use Rattle.std.proofs.lemmas.List.{get_or_past}
 use Rattle.far_word.specs.declared.pointer.PtrWord.TheVariants.{Free, Near}
 use Rattle.far_word.specs.Pointer.{read_of}
 use Rattle.far_core.proofs.Cells.{unused}
-use Rattle.far_book.specs.Masked.{word_at}
+use Rattle.far_hand.specs.Masked.{word_at}
 use Rattle.far_book_tests.proofs.tests.hands.is_vacant.Goals as goal
 
 pub loop-pointer-preserved : goal.loop-pointer-preserved

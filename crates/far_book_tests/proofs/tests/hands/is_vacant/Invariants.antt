@@ -3,7 +3,7 @@ use Rattle.far_word.specs.declared.mark.Marks.{Marks}
 use Rattle.far_word.specs.declared.pointer.Place.{Place}
 use Rattle.far_word.specs.declared.pointer.PtrWord.TheVariants.{Near}
 use Rattle.far_word.specs.Pointer.{read_of}
-use Rattle.far_book.specs.Masked.{word_at}
+use Rattle.far_hand.specs.Masked.{word_at}
 use Rattle.far_book_tests.proofs.tests.hands.is_vacant.Given as goal
 
 abbrev pub invariant-loop-pointer : goal.invariant-loop-pointer

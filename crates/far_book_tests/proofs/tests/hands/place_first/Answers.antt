@@ -13,7 +13,7 @@ use Rattle.far_core.specs.state.State.{State, put}
 use Rattle.far_core.proofs.Cells.{unused}
 use Rattle.far_core.proofs.Put.{put_same}
 use Rattle.far_book_tests.proofs.tests.hands.place_first.Goals as goal
-use Rattle.far_book.proofs.Knowing.{not_from_free}
+use Rattle.far_hand.proofs.Knowing.{not_from_free}
 
 abbrev first : Place
 first = record { log = 0; at = 0 }

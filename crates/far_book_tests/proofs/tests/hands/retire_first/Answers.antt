@@ -6,7 +6,7 @@ use Rattle.far_core.specs.events.Naming.{is_dropped}
 use Rattle.far_core.specs.state.State.{State}
 use Rattle.far_core.proofs.Cells.{unused}
 use Rattle.far_book_tests.proofs.tests.hands.retire_first.Goals as goal
-use Rattle.far_book.proofs.Knowing.{not_to_free}
+use Rattle.far_hand.proofs.Knowing.{not_to_free}
 
 pub name-requires-clause-legal : goal.name-requires-clause-legal
 name-requires-clause-legal g c =

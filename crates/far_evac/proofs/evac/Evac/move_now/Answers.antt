@@ -1,5 +1,5 @@
 use Rattle.std.proofs.Common.{sym, subst}
-use Rattle.far_book.specs.book.Dealing.{IsQuietNear}
+use Rattle.far_hand.specs.Quiet.{IsQuietNear}
 use Rattle.far_evac.specs.EvacOf.{EvacOf}
 use Rattle.far_evac.proofs.Handing.{object_moved}
 use Rattle.far_evac.proofs.evac.Evac.move_now.Goals as goal

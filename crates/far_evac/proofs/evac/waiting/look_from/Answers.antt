@@ -4,7 +4,7 @@ use Rattle.far_word.specs.Scope.{scope_of}
 use Rattle.far_core.specs.declared.shape.Shape.{Shape}
 use Rattle.far_core.specs.events.Look.{shows_clear}
 use Rattle.far_core.specs.state.State.{State}
-use Rattle.far_book.specs.Rounds.{looked_at}
+use Rattle.far_hand.specs.Rounds.{looked_at}
 use Rattle.far_evac.proofs.Looks.{found_clear, found_open, none_more, one_looked}
 
 pub returns-in-Some-clause-exact : goal.returns-in-Some-clause-exact

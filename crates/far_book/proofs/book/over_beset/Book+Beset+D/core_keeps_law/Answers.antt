@@ -1,9 +1,9 @@
 use Rattle.far_core.specs.state.CoreState.{core_state}
 use Rattle.far_core.proofs.Steps.{agrees}
-use Rattle.far_book.specs.BesetView.{core_may_be}
-use Rattle.far_book.specs.Masked.{word_at, is_counted}
-use Rattle.far_book.proofs.Staying.{stays_beside}
-use Rattle.far_book.proofs.Unviewed.{all_clear_unviewed, clear_views_none}
+use Rattle.far_hand.specs.BesetView.{core_may_be}
+use Rattle.far_hand.specs.Masked.{word_at, is_counted}
+use Rattle.far_hand.proofs.Staying.{stays_beside}
+use Rattle.far_hand.proofs.Unviewed.{all_clear_unviewed, clear_views_none}
 use Rattle.far_book.proofs.book.over_beset.Book+Beset+D.core_keeps_law.Goals as goal
 
 pub returns-clause-agrees : goal.returns-clause-agrees

@@ -1,10 +1,10 @@
 use Rattle.far_book.proofs.book.over_plain.Book+Plain+D.owner.Goals as goal
 use Rattle.std.proofs.Common.{◌∙◌, subst, sym}
 use Rattle.far_core.specs.state.CoreState.{core_state}
-use Rattle.far_book.specs.Owners.{OwnersChange}
+use Rattle.far_hand.specs.Owners.{OwnersChange}
 use Rattle.far_book.specs.book.BookOf.{BookOf}
-use Rattle.far_book.specs.declared.plain.Plain.{Plain}
-use Rattle.far_book.proofs.OwnersWork.{made_changes}
+use Rattle.far_hand.specs.declared.plain.Plain.{Plain}
+use Rattle.far_hand.proofs.OwnersWork.{made_changes}
 use Rattle.far_book.proofs.region.Owned.{owned}
 
 pub invariant_of-self : goal.invariant_of-self

@@ -4,10 +4,10 @@ use Rattle.far_core.specs.declared.event.Event.TheVariants.{Pin}
 use Rattle.far_core.specs.events.Legal.{Legal}
 use Rattle.far_core.specs.state.CoreState.{core_state}
 use Rattle.far_core.specs.state.State.{State}
-use Rattle.far_book.specs.Owners.{OwnersChange}
+use Rattle.far_hand.specs.Owners.{OwnersChange}
 use Rattle.far_book.specs.book.BookOf.{BookOf}
-use Rattle.far_book.specs.declared.plain.Plain.{Plain}
-use Rattle.far_book.proofs.OwnersWork.{change}
+use Rattle.far_hand.specs.declared.plain.Plain.{Plain}
+use Rattle.far_hand.proofs.OwnersWork.{change}
 use Rattle.far_book.proofs.region.Owned.{owned}
 
 pub invariant_of-self : goal.invariant_of-self

@@ -1,0 +1,128 @@
+-- What stays known to a hand while owners are at work.
+use Rattle.std.proofs.Common.{◌≡◌, ℕ, ◌+◌, ◌/◌, ◌^◌, ◌<◌, Bool, true, false, cond, Some, None, refl, sym, ap, ◌∙◌, subst, arith}
+use Rattle.std.specs.Prelude.{◌||◌, ◌&&◌}
+use Rattle.std.proofs.lemmas.Bool.{false≢true, true≢false}
+use mathlib.Core.Path.{fun_ext}
+use Rattle.far_word.specs.declared.mark.Marks.{Marks}
+use Rattle.far_word.specs.declared.pointer.Place.{Place}
+use Rattle.far_word.specs.declared.pointer.PtrWord.TheVariants.{Near}
+use Rattle.far_word.specs.declared.sizes.TheConstants.{CELLS}
+use Rattle.far_word.specs.Pointer.{read_of}
+use Rattle.far_word.specs.Sizes.{size_of, words_for}
+use Rattle.far_word.proofs.PointerLaws.{read_says}
+use Rattle.far_core.specs.state.Law.{Law, Heads, head_len}
+use Rattle.far_core.specs.state.State.{State, addr}
+use Rattle.far_core.proofs.Bounds.{one_name, span_len}
+use Rattle.far_core.proofs.SpanFrames.{spans_apart}
+use Rattle.far_hand.specs.Finds.{Finds, marks_in}
+use Rattle.far_hand.specs.Known.{unknown}
+use Rattle.far_hand.specs.Masked.{masked, masked_word, AllFind, CountsOnQuiet}
+use Rattle.far_hand.specs.Owners.{IsLoudAt, OwnersChange}
+use Rattle.far_hand.specs.Quiet.{is_quiet}
+use Rattle.far_hand.proofs.Finding.{finds_more, near_known}
+
+-- ---- where near objects lie
+pub record Lies (s : State) (p len ds : ℕ) (place : Place) : Type 0 where
+  pub heads : Heads s.word s.starts p len ds place
+  pub long : head_len (s.word (addr place)) ≡ len
+  pub short : len < 2 ^ 16
+  pub structure : ds < 2 ^ 8
+
+pub lies : (s : State) → Law s → (p len ds : ℕ) (place : Place) (m : Marks) → read_of (s.cell p) ≡ Some (Near len ds place m) → Lies s p len ds place
+lies s law p len ds place m e = let says = read_says (s.cell p) (Near len ds place m) (law.cells.cell_read p).0 e in record {
+  heads = law.cells.cell_near p len ds place m e;
+  long = rw (span_len s law p len ds place m e) refl;
+  short = omega (arith, says.0);
+  structure = omega (arith, says.0);
+}
+
+module _ (s : State) (law : Law s) where
+  -- a data word is no header
+  pub no_header : (p len ds i : ℕ) (place : Place) → Lies s p len ds place → i < words_for len → s.starts (addr place + 1 + i) ≡ false
+  no_header p len ds i place h lt =
+      let at : addr place + 1 + i ≡ addr place + (1 + i) = omega arith in
+      let long : size_of (head_len (s.word (addr place))) ≡ size_of len = ap size_of h.long in
+      ap s.starts at ∙ (law.spans.span (addr place) h.heads.placed).alone (1 + i) (omega arith) (omega arith)
+
+  -- a data word is of one pointer's object
+  pub one_owner : (p len ds i q n d j : ℕ) (place other : Place) → Lies s p len ds place → Lies s q n d other → i < words_for len → j < words_for n →
+      addr place + 1 + i ≡ addr other + 1 + j → p ≡ q
+  one_owner p len ds i q n d j place other x y li lj e =
+      let lx : size_of (head_len (s.word (addr place))) ≡ size_of len = ap size_of x.long in
+      let ly : size_of (head_len (s.word (addr other))) ≡ size_of n = ap size_of y.long in
+      let same : addr place ≡ addr other = spans_apart s law (addr place) (addr other) (1 + i) (1 + j) x.heads.placed y.heads.placed (omega arith) (omega arith) (omega arith) in
+      one_name s.word p q len n ds d (addr place) x.heads.head (ap s.word same ∙ y.heads.head) x.short y.short x.structure y.structure
+
+-- ---- what isn't quiet wasn't found quiet
+either_known : (k m x : Bool) → (k ≡ true → m ≡ true) → (m || x) ≡ false → (k || x) ≡ false
+either_known true m x h e = absurd (true≢false (sym (ap (λ b. b || x) (h refl)) ∙ e))
+either_known false true x h e = absurd (true≢false e)
+either_known false false x h e = e
+
+pub quiet_known : (round clear : ℕ → Bool) (p : ℕ) (place : Place) (k m : Marks) → k.evac ≡ m.evac → (k.moved ≡ true → m.moved ≡ true) →
+    is_quiet round clear p place m ≡ false → is_quiet round clear p place k ≡ false
+quiet_known round clear p place k m evac moved e =
+    either_known k.moved m.moved (k.evac && round place.log && clear (p / CELLS)) moved
+    (ap (λ b. m.moved || (b && round place.log && clear (p / CELLS))) evac ∙ e)
+
+-- MOVE that was known is found
+pub moved_known : (v w len ds : ℕ) (place : Place) (k m : Marks) → Finds v w → read_of v ≡ Some (Near len ds place k) → read_of w ≡ Some (Near len ds place m) →
+    k.moved ≡ true → m.moved ≡ true
+moved_known v w len ds place k m f ev ew h =
+    sym (ap (λ o. (marks_in o).moved) ew) ∙ f.moved (ap (λ o. (marks_in o).moved) ev ∙ h)
+
+-- what isn't quiet in the cell wasn't found quiet
+pub record Known (v len ds : ℕ) (place : Place) (round clear : ℕ → Bool) (p : ℕ) : Type 0 where
+  pub marks : Marks
+  pub near : read_of v ≡ Some (Near len ds place marks)
+  pub loud : is_quiet round clear p place marks ≡ false
+
+pub known_loud : (v w : ℕ) → Finds v w → (round clear : ℕ → Bool) (p len ds : ℕ) (place : Place) (m : Marks) → read_of w ≡ Some (Near len ds place m) →
+    is_quiet round clear p place m ≡ false → Known v len ds place round clear p
+known_loud v w f round clear p len ds place m near loud =
+    let x = near_known v w f len ds place m near in
+    record { marks = x.marks; near = x.near; loud = quiet_known round clear p place x.marks m x.same (moved_known v w len ds place x.marks m f x.near near) loud }
+
+-- ---- the view stays while owners take a turn
+pub same_where : (b : Bool) (x y u : ℕ) → (b ≡ true → x ≡ y) → cond b x u ≡ cond b y u
+same_where true x y u h = h refl
+same_where false x y u h = refl
+
+either_true : (a b : Bool) → (a || b) ≡ true → a ≡ false → b ≡ true
+either_true true b e h = absurd (true≢false h)
+either_true false b e h = e
+
+module _ (s : State) (law : Law s) (found : ℕ → ℕ) (counted : ℕ → Bool) (finds : AllFind found s.cell) (counts : CountsOnQuiet s.round s.clear found counted) where
+  -- no owner stores into a word that is known
+  pub known_quiet : (a : ℕ) → (s.starts a || counted a) ≡ true → ¬ IsLoudAt s a
+  known_quiet a known x =
+      let k = known_loud (found x.p) (s.cell x.p) (finds x.p) s.round s.clear x.p x.len x.ds x.place x.marks x.near x.loud in
+      let uncounted : counted a ≡ false = ap counted x.here ∙ counts x.p x.len x.ds x.index x.place k.marks k.near k.loud x.inside in
+      let plain : s.starts a ≡ false = ap s.starts x.here ∙ no_header s law x.p x.len x.ds x.index x.place (lies s law x.p x.len x.ds x.place x.marks x.near) x.inside in
+      false≢true (sym uncounted ∙ either_true (s.starts a) (counted a) known plain)
+
+  module _ (t : State) (turn : OwnersChange s t) where
+    abbrev hidden : State → (ℕ → ℕ) → State
+    hidden u word = record u { cell = found; word = word; scope = λ _. 0; remembered = λ _. None; used = λ _. false; held = λ _. None }
+
+    same_starts : t.starts ≡ s.starts
+    same_starts = ap (λ (u : State). u.starts) turn.rest
+
+    same_words : masked_word t.word t.starts counted ≡ masked_word s.word s.starts counted
+    same_words = fun_ext (λ a. ap (λ (f : ℕ → Bool). cond (f a || counted a) (t.word a) (unknown a)) same_starts
+        ∙ same_where (s.starts a || counted a) (t.word a) (s.word a) (unknown a) (λ known. turn.words a (known_quiet a known)))
+
+    pub same_view : masked t found counted ≡ masked s found counted
+    same_view = ap (λ (u : State). hidden u (masked_word t.word t.starts counted)) turn.rest ∙ ap (hidden s) same_words
+
+    pub same_finds : AllFind found t.cell
+    same_finds p = finds_more (found p) (s.cell p) (t.cell p) (finds p) (turn.cells p)
+
+    pub same_counts : CountsOnQuiet t.round t.clear found counted
+    same_counts = subst (λ (u : State). CountsOnQuiet u.round u.clear found counted) (sym turn.rest) counts
+
+    pub same_mutators : t.mutators ≡ s.mutators
+    same_mutators = ap (λ (u : State). u.mutators) turn.rest
+
+    pub same_logs : t.logs ≡ s.logs
+    same_logs = ap (λ (u : State). u.logs) turn.rest

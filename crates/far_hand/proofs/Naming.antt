@@ -1,0 +1,206 @@
+-- What a beset hand knows after it has named a word, and why what is legal by its view is legal.
+use Rattle.std.proofs.Common.{◌≡◌, ◌≢◌, ℕ, ◌+◌, ◌-◌, ◌*◌, ◌^◌, ◌<◌, ◌≤◌, Bool, true, false, cond, nat_lt, Option, Some, None, refl, sym, ap, ◌∙◌, subst, arith}
+use Rattle.std.specs.Prelude.{◌||◌, ◌==◌}
+use Rattle.std.proofs.lemmas.Bool.{cond_both, eqb-true, eqb-false, eq-eqb, ne_eqb, ltb-true}
+use mathlib.Core.Path.{fun_ext}
+use Rattle.far_word.specs.declared.pointer.Place.{Place}
+use Rattle.far_word.specs.declared.pointer.PtrWord.TheVariants.{Near}
+use Rattle.far_word.specs.declared.sizes.TheConstants.{CELLS}
+use Rattle.far_word.specs.Header.{head_word}
+use Rattle.far_word.specs.Pointer.{read_of}
+use Rattle.far_word.specs.Sizes.{words_for}
+use Rattle.far_word.proofs.HeaderLaws.{head_fits}
+use Rattle.far_word.proofs.PointerLaws.{read_says}
+use Rattle.far_core.specs.declared.event.Event.TheVariants.{Name}
+use Rattle.far_core.specs.declared.event.Reply.{Reply}
+use Rattle.far_core.specs.declared.event.Reply.TheVariants.{Done, Word}
+use Rattle.far_core.specs.declared.naming.Naming.{Naming}
+use Rattle.far_core.specs.declared.naming.Naming.TheVariants.{Places, Retires, Evicts, Stays, Moves, Fetches}
+use Rattle.far_core.specs.events.Copies.{EndsPadded}
+use Rattle.far_core.specs.events.Legal.{Legal}
+use Rattle.far_core.specs.events.Name.{after_naming}
+use Rattle.far_core.specs.events.namings.Evicts.{with_kept}
+use Rattle.far_core.specs.events.Naming.{naming_of, IsNaming, naming_row, no_marks}
+use Rattle.far_core.specs.events.NewSpans.{IsNewSpan}
+use Rattle.far_core.specs.events.Step.{after, answer}
+use Rattle.far_core.specs.state.Law.{Law}
+use Rattle.far_core.specs.state.State.{State, addr, put}
+use Rattle.far_core.proofs.KeepPlace.{header}
+use Rattle.far_core.proofs.Namings.{naming_only}
+use Rattle.far_core.proofs.Put.{put_both}
+use Rattle.far_hand.specs.Known.{IsKnown, Forgets, KnowsLeaving}
+use Rattle.far_hand.specs.Masked.{masked, AllFind}
+use Rattle.far_hand.proofs.Knowing.{alike_words, quiet_too, stored_too, stored_fits, few_bits}
+use Rattle.far_hand.proofs.Reading.{known_word, header_known, forgets}
+
+-- ---- whether a naming won
+module _ (s : State) (p old new : ℕ) where
+  pub won : answer s (Name p old new) ≡ Done → s.cell p ≡ old
+  won = cond_both (s.cell p == old) Done (Word (s.cell p)) (λ (r : Reply). r ≡ Done → s.cell p ≡ old) (λ h _. eqb-true (s.cell p) old h) (λ _ e. absurd cc)
+
+  pub lost : (w : ℕ) → answer s (Name p old new) ≡ Word w → s.cell p ≢ old
+  lost w = cond_both (s.cell p == old) Done (Word (s.cell p)) (λ (r : Reply). r ≡ Word w → s.cell p ≢ old) (λ _ e. absurd cc) (λ h _. eqb-false (s.cell p) old h)
+
+  pub lost_word : (w : ℕ) → answer s (Name p old new) ≡ Word w → s.cell p ≡ w
+  lost_word w = cond_both (s.cell p == old) Done (Word (s.cell p)) (λ (r : Reply). r ≡ Word w → s.cell p ≡ w) (λ _ e. absurd cc) (λ _ e. cc)
+
+  pub lost_state : s.cell p ≢ old → after s (Name p old new) ≡ s
+  lost_state ne = ap (λ b. cond b (after_naming s p new (naming_of (read_of old) (read_of new))) s) (ne_eqb (s.cell p) old ne)
+
+  pub won_state : (form : Naming) → s.cell p ≡ old → IsNaming form (read_of old) (read_of new) → after s (Name p old new) ≡ (naming_row s p new form).after
+  won_state form e n = ap (λ b. cond b (after_naming s p new (naming_of (read_of old) (read_of new))) s) (eq-eqb (s.cell p) old e)
+      ∙ ap (after_naming s p new) (naming_only form (read_of old) (read_of new) n)
+
+-- a naming changes no word, and forgets none
+name_word : (s : State) (p new : ℕ) (o : Option Naming) → (after_naming s p new o).word ≡ s.word
+name_word s p new None = refl
+name_word s p new (Some (Places len ds place)) = refl
+name_word s p new (Some Retires) = refl
+name_word s p new (Some (Evicts len place)) = refl
+name_word s p new (Some Stays) = refl
+name_word s p new (Some (Moves len ds from to)) = refl
+name_word s p new (Some (Fetches len ds place)) = refl
+
+pub name_forgets : (s : State) (p old new : ℕ) → Forgets s (after s (Name p old new))
+name_forgets s p old new = let same = cond_both (s.cell p == old) (after_naming s p new (naming_of (read_of old) (read_of new))) s (λ (u : State). u.word ≡ s.word) (λ _. name_word s p new (naming_of (read_of old) (read_of new))) (λ _. refl) in
+    record { known = λ a h. ap (λ (f : ℕ → ℕ). f a) same; headers = λ a h. ap (λ (f : ℕ → ℕ). f a) same }
+
+-- ---- what a won naming tells
+pub record Names (o v : State) (p old new : ℕ) : Type 0 where
+  pub done : v ≡ record (after o (Name p old new)) { word = v.word }
+  pub forgot : Forgets o v
+
+module _ (s : State) (law : Law s) (found : ℕ → ℕ) (counted : ℕ → Bool) (finds : AllFind found s.cell) (p old new : ℕ) (small : p < CELLS * s.mutators) (fits : new < 2 ^ 64) where
+  abbrev o : State
+  o = masked s found counted
+
+  -- a word of the view that is a word, is the word itself
+  word_is : (a w : ℕ) → w < 2 ^ 64 → o.word a ≡ w → s.word a ≡ w
+  word_is a w lt e = sym (known_word (s.starts a || counted a) (s.word a) a (subst IsKnown (sym e) lt)) ∙ e
+
+  head_small : (len ds : ℕ) (place : Place) → read_of new ≡ Some (Near len ds place no_marks) → head_word p len ds < 2 ^ 64
+  head_small len ds place e =
+      let says = read_says new (Near len ds place no_marks) fits e in
+      head_fits (header p len ds) (record { some = omega (arith, says.0); most = omega (arith, says.0); structure = omega (arith, says.0); cell = omega (arith, law.shape.few_mutators) })
+
+  new_span : (len ds : ℕ) (place : Place) → read_of new ≡ Some (Near len ds place no_marks) → IsNewSpan o p len ds place → IsNewSpan s p len ds place
+  new_span len ds place says h = record { next = h.next; head = word_is (addr place) (head_word p len ds) (head_small len ds place says) h.head }
+
+  some_bytes : (len ds : ℕ) (place : Place) → read_of new ≡ Some (Near len ds place no_marks) → 0 < len
+  some_bytes len ds place says = let x = read_says new (Near len ds place no_marks) fits says in omega (arith, x.0)
+
+  -- a last word that the view says is padded, is known
+  padded : (len : ℕ) (place : Place) → 0 < len → EndsPadded o.word len place → EndsPadded s.word len place
+  padded len place some h =
+      let low : 2 ^ (8 * (len - 8 * (words_for len - 1))) ≤ 2 ^ 64 = few_bits len some in
+      let last : s.word (addr place + 1 + (words_for len - 1)) ≡ o.word (addr place + 1 + (words_for len - 1)) =
+      word_is (addr place + 1 + (words_for len - 1)) (o.word (addr place + 1 + (words_for len - 1))) (omega (arith, h, low)) refl in
+      subst (λ w. w < 2 ^ (8 * (len - 8 * (words_for len - 1)))) (sym last) h
+
+  row_legal : (form : Naming) → IsNaming form (read_of old) (read_of new) → (naming_row o p new form).Legal → (naming_row s p new form).Legal
+  row_legal (Places len ds place) n h = (new_span len ds place n.1 h.0, λ i lt. word_is (addr place + 1 + i) 0 (omega arith) (h.1 i lt))
+  row_legal Retires n h = tt
+  row_legal (Evicts len place) n h = quiet_too s found counted p (finds p) h
+  row_legal Stays n h = tt
+  row_legal (Moves len ds from to) n h = record {
+    span = new_span len ds to n.1 h.span;
+    padded = padded len to (some_bytes len ds to n.1) h.padded;
+    quiet = quiet_too s found counted p (finds p) h.quiet;
+    log = h.log;
+    same = λ i lt. alike_words s found counted law (addr to + 1 + i) (addr from + 1 + i) (h.same i lt);
+  }
+  row_legal (Fetches len ds place) n h = record {
+    span = new_span len ds place n.1 h.span;
+    padded = padded len place (some_bytes len ds place n.1) h.padded;
+    stored = λ honest.
+        let all = stored_too (found p) (s.cell p) (finds p) (words_for len) (h.stored honest).all in
+        record { all = all; same = λ i lt. word_is (addr place + 1 + i) (s.stored p i) (stored_fits s law p (words_for len) all i lt) ((h.stored honest).same i lt) };
+  }
+
+  -- what is legal by the view is legal
+  pub legal_name : Legal o (Name p old new) → Legal s (Name p old new)
+  legal_name h = (small, (h.1.0, h.1.1, row_legal h.1.0 h.1.1 h.1.2))
+
+  span_headers : (len ds : ℕ) (place : Place) → read_of new ≡ Some (Near len ds place no_marks) → o.word (addr place) ≡ head_word p len ds →
+      (a : ℕ) → put s.starts (addr place) true a ≡ true → s.word a ≡ o.word a
+  span_headers len ds place says head a = put_both (λ b. b ≡ true → s.word a ≡ o.word a) s.starts (addr place) true a
+      (λ e _. let here : s.word (addr place) ≡ o.word (addr place) = word_is (addr place) (head_word p len ds) (head_small len ds place says) head ∙ sym head in
+      ap s.word e ∙ (here ∙ ap o.word (sym e)))
+      (λ _ st. sym (header_known s.word s.starts counted a st))
+
+  -- each header is known: those that were, and that of a new span
+  headers_same : (form : Naming) → IsNaming form (read_of old) (read_of new) → (naming_row o p new form).Legal →
+      (a : ℕ) → (naming_row s p new form).after.starts a ≡ true → s.word a ≡ o.word a
+  headers_same (Places len ds place) n h a = span_headers len ds place n.1 h.0.head a
+  headers_same Retires n h a = λ st. sym (header_known s.word s.starts counted a st)
+  headers_same (Evicts len place) n h a = λ st. sym (header_known s.word s.starts counted a st)
+  headers_same Stays n h a = λ st. sym (header_known s.word s.starts counted a st)
+  headers_same (Moves len ds from to) n h a = span_headers len ds to n.1 h.span.head a
+  headers_same (Fetches len ds place) n h a = span_headers len ds place n.1 h.span.head a
+
+  abbrev v : Naming → State
+  v form = masked (naming_row s p new form).after (put found p new) (λ _. false)
+
+  -- what an eviction stores is what the view shows
+  kept_same : (len : ℕ) (place : Place) → ((i : ℕ) → i < words_for len → IsKnown (o.word (addr place + 1 + i))) →
+      with_kept s.word s.stored p (addr place + 1) (words_for len) ≡ with_kept o.word s.stored p (addr place + 1) (words_for len)
+  kept_same len place known = fun_ext (λ i. cond_both (nat_lt i (words_for len)) _ _
+      (λ w. cond (nat_lt i (words_for len)) (s.word (addr place + 1 + i)) (s.stored p i) ≡ w)
+      (λ t. ap (λ b. cond b (s.word (addr place + 1 + i)) (s.stored p i)) t ∙ sym (known_word (s.starts (addr place + 1 + i) || counted (addr place + 1 + i)) (s.word (addr place + 1 + i)) (addr place + 1 + i) (known i (ltb-true i (words_for len) t))))
+      (λ f. ap (λ b. cond b (s.word (addr place + 1 + i)) (s.stored p i)) f))
+
+  row_done : (form : Naming) → IsNaming form (read_of old) (read_of new) → KnowsLeaving o old new → v form ≡ record (naming_row o p new form).after { word = (v form).word }
+  row_done (Places len ds place) n known = refl
+  row_done Retires n known = refl
+  row_done (Evicts len place) n known =
+      ap (λ r. record (v (Evicts len place)) { stored = put s.stored p r }) (kept_same len place (known len place n))
+  row_done Stays n known = refl
+  row_done (Moves len ds from to) n known = refl
+  row_done (Fetches len ds place) n known = refl
+
+  row_word : (form : Naming) → (naming_row s p new form).after.word ≡ s.word
+  row_word (Places len ds place) = refl
+  row_word Retires = refl
+  row_word (Evicts len place) = refl
+  row_word Stays = refl
+  row_word (Moves len ds from to) = refl
+  row_word (Fetches len ds place) = refl
+
+  row_cell : (form : Naming) → (naming_row s p new form).after.cell ≡ put s.cell p new
+  row_cell (Places len ds place) = refl
+  row_cell Retires = refl
+  row_cell (Evicts len place) = refl
+  row_cell Stays = refl
+  row_cell (Moves len ds from to) = refl
+  row_cell (Fetches len ds place) = refl
+
+  row_sizes : (form : Naming) → ((naming_row s p new form).after.mutators ≡ s.mutators) × ((naming_row s p new form).after.logs ≡ s.logs)
+  row_sizes (Places len ds place) = (refl, refl)
+  row_sizes Retires = (refl, refl)
+  row_sizes (Evicts len place) = (refl, refl)
+  row_sizes Stays = (refl, refl)
+  row_sizes (Moves len ds from to) = (refl, refl)
+  row_sizes (Fetches len ds place) = (refl, refl)
+
+  row_forgets : (form : Naming) → IsNaming form (read_of old) (read_of new) → (naming_row o p new form).Legal → Forgets o (v form)
+  row_forgets form n h = forgets o (v form) (naming_row s p new form).after.starts refl (naming_row s p new form).after.word refl
+      (λ a st. ap (λ f. f a) (row_word form) ∙ headers_same form n h a st)
+
+  module _ (legal : Legal o (Name p old new)) (seen : old ≡ found p) (won_it : s.cell p ≡ old) where
+    pub names : KnowsLeaving o old new → Names o (masked (after s (Name p old new)) (put found p new) (λ _. false)) p old new
+    names known =
+        let form = legal.1.0 in
+        let mine : after s (Name p old new) ≡ (naming_row s p new form).after = won_state s p old new form won_it legal.1.1 in
+        let its : after o (Name p old new) ≡ (naming_row o p new form).after = won_state o p old new form (sym seen) legal.1.1 in
+        let same : masked (after s (Name p old new)) (put found p new) (λ _. false) ≡ v form = ap (λ (u : State). masked u (put found p new) (λ _. false)) mine in
+        subst (λ x. Names o x p old new) (sym same) (record {
+          done = row_done form legal.1.1 known ∙ ap (λ (u : State). record u { word = (v form).word }) (sym its);
+          forgot = row_forgets form legal.1.1 legal.1.2;
+        })
+
+    pub cells_named : (after s (Name p old new)).cell ≡ put s.cell p new
+    cells_named = ap (λ (u : State). u.cell) (won_state s p old new legal.1.0 won_it legal.1.1) ∙ row_cell legal.1.0
+
+    pub sizes_named : ((after s (Name p old new)).mutators ≡ s.mutators) × ((after s (Name p old new)).logs ≡ s.logs)
+    sizes_named = let e = won_state s p old new legal.1.0 won_it legal.1.1 in let x = row_sizes legal.1.0 in
+        (ap (λ (u : State). u.mutators) e ∙ x.0, ap (λ (u : State). u.logs) e ∙ x.1)
