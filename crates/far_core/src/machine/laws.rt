@@ -13,6 +13,7 @@ ghost use Rattle.far_core.specs.state.CoreState.{core_state};
 ghost use Rattle.far_core.specs.state.Law.{Law};
 ghost use Rattle.far_core.specs.events.Leaves.{EventsLeave};
 ghost use Rattle.far_core.specs.events.Legal.{Legal};
+ghost use Rattle.far_core.specs.laws.Ends.{HasNothingPast, IsWhatIsWithin};
 ghost use Rattle.far_core.specs.laws.Live.{LiveIs, LiveBytesAre};
 ghost use Rattle.far_core.specs.laws.Observed.{live_bytes, dead_bytes, unused_bytes, HasOnePlace, NamesOnce, LogsStand, NearHasOneLive, PlacedExactly};
 ghost use Rattle.far_core.specs.state.Opening.{opening};
@@ -99,6 +100,17 @@ impl Core {
     /// lowest free log, but not of the only one where the reserve is kept; none only where neither may be had.
     pub fn room_is_right(&self)
         ensures { RoomIsRight (core_state self.now) }
+    {
+        let _memory = &self.memory;
+    }
+
+    /// Past the ends of a core there is nothing. Past the last log all words are 0, no span begins, and each log is free, with tail 0, outside the
+    /// round; past the last owner each scope is closed, nothing is remembered, and nobody was seen clear; past the last pointer each cell is
+    /// 0, not used and not held, with zeros stored. So a core's state is what it says of its own owners, pointers, logs and words: no other with
+    /// nothing past its ends says the same of them.
+    pub fn nothing_is_past(&self)
+        ensures past { HasNothingPast (core_state self.now) }
+        ensures within { IsWhatIsWithin (core_state self.now) }
     {
         let _memory = &self.memory;
     }
