@@ -145,7 +145,8 @@ pub fn opening_is_start(shape: Shape, honest: bool)
 
 /// No step of a world changes honesty, moves or changes what is viewed but by its owner's store, ends a view but by its
 /// owner's close or begins one but by its owner's pin, or gives back a group in which an object lies. In an honest world
-/// each object, viewed or not, near or far, keeps its bytes but for its owner's store, until its owner drops it. What is
+/// each object, viewed or not, near or far, keeps its bytes but for its owner's store, until its owner drops it. In any
+/// other world so does each object that isn't fetched, and a fetch, of a far object alone, gives back as many bytes. What is
 /// loaded is a word of an object that its owner views. An event with its reply makes one step, but for the bytes that a
 /// far side gives back that isn't honest. Said of changes, and so of the events that cause them.
 pub fn steps_keep_views()
