@@ -10,8 +10,8 @@ ghost use Rattle.far_hand.specs.Finds.{Finds};
 ghost use Rattle.far_book.specs.book.NextLive.{IsBoundary, IsHomeOf, IsNamedBetween, live_from, searched_to};
 
 use crate::book::Book;
-use far_hand::Near;
 use far_device::Device;
+use far_hand::Near;
 use far_log::Span;
 use far_word::{HeadWord, PtrWord, size_of};
 

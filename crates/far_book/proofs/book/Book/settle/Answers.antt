@@ -5,11 +5,12 @@ use Rattle.far_core.specs.state.State.{State}
 use Rattle.far_book.specs.book.Dealing as dealing
 use Rattle.far_book.specs.book.Dealing.{FindsDrop, Leaves}
 use Rattle.far_book.specs.book.Effects.{moved, stayed}
+use Rattle.far_hand.specs.Quiet.{IsQuietNear}
 use Rattle.far_hand.proofs.RoundSteps.{quiet_seen}
 use Rattle.far_book.proofs.region.Settled.{both_of, drop_by, goal_seen, leaves_by, moved_seen, none_of, some_of, stayed_seen}
 
 pub carry-requires-clause-quiet : goal.carry-requires-clause-quiet
-carry-requires-clause-quiet g c = subst (λ (x : State). dealing.IsQuietNear x c.args.pointer) (sym c.see-found.ensures.kept)
+carry-requires-clause-quiet g c = subst (λ (x : State). IsQuietNear x c.args.pointer) (sym c.see-found.ensures.kept)
     (quiet_seen (g.N.Near.view c.args.self.now.near) c.args.pointer c.see-found.result c.see-found.ensures.found c.requires.quiet)
 
 pub returns-then-has_evac-clause-place : goal.returns-then-has_evac-clause-place
