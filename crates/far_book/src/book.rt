@@ -22,8 +22,7 @@ ghost use Rattle.far_core.specs.state.Room.{room};
 ghost use Rattle.far_core.specs.state.Shape.{is_shape};
 ghost use Rattle.far_core.specs.state.Spans.{spans_of};
 ghost use Rattle.far_core.specs.state.State.{State, put};
-ghost use Rattle.far_device.specs.Contents.{KeepsOthers};
-ghost use Rattle.far_device.specs.Faults.{SpendsFault};
+ghost use Rattle.far_device.specs.Following.{Follows, other_than};
 ghost use Rattle.far_hand.specs.Finds.{Finds, body_of};
 ghost use Rattle.far_hand.specs.Came.{Came, only};
 ghost use Rattle.far_hand.specs.Known.{Forgets};
@@ -52,9 +51,9 @@ mod words;
 use crate::book::words::near_word;
 use crate::home::Home;
 use crate::ledger::Ledger;
-use far_hand::Near;
 use far_core::{Kind, Shape};
 use far_device::Device;
+use far_hand::Near;
 use far_log::{LogRow, Span, WalkFault, walk};
 use far_word::{HeadWord, LOG_WORDS, Place, PtrWord, Refused, size_of, words_for};
 use std::alloc::Global;
@@ -168,10 +167,7 @@ impl<N: Near + Drop, D: Device + Drop> Book<N, D> {
         ensures order { self.new.order ≡ self.old.order }
         ensures called { D.lets_go self.old.device pointer self.new.device }
         ensures gone { D.forgets → D.contents self.new.device pointer ≡ None }
-        ensures others { KeepsOthers (D.contents self.old.device) (D.contents self.new.device) pointer }
-        ensures honest { D.honest self.new.device ≡ D.honest self.old.device }
-        ensures faults { D.faults self.new.device ≡ D.faults self.old.device }
-        ensures spent { SpendsFault false (D.fails_at_most self.old.device) (D.fails_at_most self.new.device) }
+        ensures follows { Follows D.contents D.honest D.faults D.fails_at_most (other_than pointer) false self.old.device self.new.device }
         ensures ran { N.still → Does (N.view self.old.near) (Retires pointer) (N.view self.new.near) }
     {
         let was = free_cell(&mut self.near, pointer);

@@ -2,8 +2,8 @@
 
 ghost use Rattle.std.specs.Prelude.{◌≡◌, ◌⊎◌, ◌^◌, ◌<◌, ℕ, Bool, true, false, List, Option, Some, None, IsSome, Result, IfOk, IfSome, OnOk};
 ghost use Rattle.far_device.specs.Calls.{given};
-ghost use Rattle.far_device.specs.Contents.{KeepsOthers};
-ghost use Rattle.far_device.specs.Faults.{is_fault, CountsFault, SpendsFault};
+ghost use Rattle.far_device.specs.Faults.{is_fault};
+ghost use Rattle.far_device.specs.Following.{Follows, any_key, other_than};
 ghost use Rattle.far_device.specs.declared.fault.DeviceFault.{DeviceFault};
 
 use crate::fault::DeviceFault;
@@ -40,31 +40,20 @@ pub trait Device {
     /// under this one anything may be.
     fn write(&mut self, id: u32, bytes: &[u8]) -> Result<(), DeviceFault>
         ensures called { writes self.old id bytes.now result self.new }
-        ensures set { OnOk result (contents self.new id ≡ Some bytes.now) }
-        ensures others { KeepsOthers (contents self.old) (contents self.new) id }
-        ensures honest { honest self.new ≡ honest self.old }
-        ensures counted { CountsFault (is_fault result) (faults self.old) (faults self.new) }
-        ensures spent { SpendsFault (is_fault result) (fails_at_most self.old) (fails_at_most self.new) };
+        ensures set { OnOk result (contents self.new id ≡ Some bytes.now) };
 
     /// The bytes under the key; of a device that isn't honest any bytes, of any length. Of a key under which nothing is
     /// the answer is left open. The contents stay.
     fn read(&mut self, id: u32) -> Result<Vec<u8>, DeviceFault>
         ensures called { reads self.old id (given result) self.new }
         ensures given { honest self.old ≡ true → IfOk result (λ bytes. IfSome (contents self.old id) (λ held. bytes.items ≡ held)) }
-        ensures kept { contents self.new ≡ contents self.old }
-        ensures honest { honest self.new ≡ honest self.old }
-        ensures counted { CountsFault (is_fault result) (faults self.old) (faults self.new) }
-        ensures spent { IsSome (contents self.old id) → SpendsFault (is_fault result) (fails_at_most self.old) (fails_at_most self.new) };
+        ensures kept { contents self.new ≡ contents self.old };
 
     /// Takes the key away, with what is under it, or leaves all as it was.
     fn forget(&mut self, id: u32)
         ensures called { lets_go self.old id self.new }
         ensures gone { forgets → contents self.new id ≡ None }
-        ensures left { (contents self.new id ≡ None) ⊎ (contents self.new id ≡ contents self.old id) }
-        ensures others { KeepsOthers (contents self.old) (contents self.new) id }
-        ensures honest { honest self.new ≡ honest self.old }
-        ensures counted { CountsFault false (faults self.old) (faults self.new) }
-        ensures spent { SpendsFault false (fails_at_most self.old) (fails_at_most self.new) };
+        ensures left { (contents self.new id ≡ None) ⊎ (contents self.new id ≡ contents self.old id) };
 
     /// How many calls have answered [`DeviceFault::Device`], modulo 2^64.
     fn faults(&self) -> u64
@@ -72,4 +61,16 @@ pub trait Device {
 
     /// The count has 64 bits.
     ghost wraps: { (s : Self) → faults s < 2 ^ 64 };
+
+    /// A write leaves all other keys alone.
+    ghost write_follows: { (s : Self) (id : ℕ) (bytes : List ℕ) (answer : Result (Unit {0}) DeviceFault) (t : Self) → writes s id bytes answer t →
+        Follows contents honest faults fails_at_most (other_than id) (is_fault answer) s t };
+
+    /// A read leaves every key alone. What may yet fail is said where something is under the key.
+    ghost read_follows: { (s : Self) (id : ℕ) (answer : Result (List ℕ) DeviceFault) (t : Self) → reads s id answer t →
+        Follows contents honest faults (λ d n. IsSome (contents s id) × fails_at_most d n) any_key (is_fault answer) s t };
+
+    /// A call of `forget` leaves all other keys alone, and is no fault.
+    ghost forget_follows: { (s : Self) (id : ℕ) (t : Self) → lets_go s id t →
+        Follows contents honest faults fails_at_most (other_than id) false s t };
 }

@@ -120,6 +120,8 @@ impl MemDevice {
 }
 
 impl Device for MemDevice {
+    ghost use Rattle.std.proofs.Common.{arith, rules};
+    ghost use Rattle.far_device.specs.MemFollowing.{read_leaves, write_leaves};
     ghost use Rattle.far_device.specs.Wrapping.{wrapped_below};
     ghost use Rattle.far_device.specs.Mem.{bytes_at, faults_of, MemWrites, MemReads, MemLetsGo};
 
@@ -140,6 +142,12 @@ impl Device for MemDevice {
     ghost reads = { MemReads };
 
     ghost lets_go = { MemLetsGo };
+
+    ghost write_follows = { write_leaves };
+
+    ghost read_follows = { read_leaves (λ n same. Prim.omega arith) };
+
+    ghost forget_follows = { Prim.search rules };
 
     /// Refused [`DeviceFault::Memory`] alone, and then nothing has changed.
     fn write(&mut self, id: u32, bytes: &[u8]) -> Result<(), DeviceFault>

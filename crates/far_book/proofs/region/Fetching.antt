@@ -15,8 +15,6 @@ use Rattle.far_core.specs.state.Room.{room}
 use Rattle.far_core.specs.state.Spans.{names_place}
 use Rattle.far_core.specs.state.State.{State}
 use Rattle.far_core.proofs.Put.{put_same}
-use Rattle.far_device.specs.declared.fault.DeviceFault.{DeviceFault}
-use Rattle.far_device.specs.Faults.{SpendsFault, is_fault}
 use Rattle.far_book.specs.declared.ledger.Ledger.{Ledger}
 use Rattle.far_hand.specs.Finds.{Finds}
 use Rattle.far_hand.specs.Known.{Forgets}
@@ -31,10 +29,6 @@ use Rattle.far_book.specs.book.Renaming.{seen}
 use Rattle.far_hand.proofs.Finding.{finds_is}
 use Rattle.far_book.proofs.region.Calls.{ends, may_take, placeable, put_put}
 use Rattle.far_book.proofs.region.Fetched.{far_unplaced, given_long, given_word, not_asked, room_is, written_below, written_header}
-
--- a device's fault, by its name
-pub spent_by : (A : Type 0) (w v : DeviceFault) (old new : ℕ → Type 0) → w ≡ v → SpendsFault (is_fault {A = A} (Err w)) old new → SpendsFault (is_fault {A = A} (Err v)) old new
-spent_by A w v old new e h = subst (λ (u : DeviceFault). SpendsFault (is_fault {A = A} (Err u)) old new) e h
 
 -- s0 is the state at the call; in s a word was found in p's cell, which says that p's object is far
 pub record FarFound (s0 s : State) (p word len ds : ℕ) (m : Marks) : Type 0 where

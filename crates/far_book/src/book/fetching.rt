@@ -11,8 +11,7 @@ ghost use Rattle.far_word.specs.Sizes.{words_for};
 ghost use Rattle.far_core.specs.events.Legal.{IsNext};
 ghost use Rattle.far_core.specs.events.Naming.{is_dropped, no_marks};
 ghost use Rattle.far_core.specs.state.Law.{IsStored};
-ghost use Rattle.far_device.specs.Contents.{KeepsOthers};
-ghost use Rattle.far_device.specs.Faults.{CountsFault, SpendsFault};
+ghost use Rattle.far_device.specs.Following.{Follows, other_than};
 ghost use Rattle.far_hand.specs.Finds.{Finds};
 ghost use Rattle.far_hand.specs.Came.{Came, only};
 ghost use Rattle.far_book.specs.book.Asking.{AsksToFetch};
@@ -27,8 +26,8 @@ ghost use Rattle.far_book.specs.book.Renaming.{Renamed, seen};
 use crate::book::Book;
 use crate::book::renaming::rename;
 use crate::book::words::near_word;
-use far_hand::Near;
 use far_device::{Device, DeviceFault};
+use far_hand::Near;
 use far_word::{HeadWord, Place, PtrWord, Refused, pack_bytes, size_of, words_for};
 
 impl<N: Near + Drop, D: Device + Drop> Book<N, D> {
@@ -49,10 +48,7 @@ impl<N: Near + Drop, D: Device + Drop> Book<N, D> {
         ensures order { IfOk result (λ found. self.new.order ≡ order_fetched (N.view self.old.near) self.old.order found) }
         ensures called { AsksToFetch D D.reads D.lets_go N.still (N.view self.old.near) (N.view self.new.near) pointer result self.old.device self.new.device }
         ensures forgot { D.forgets → IfOk result (λ _. D.contents self.new.device pointer ≡ None) }
-        ensures others { KeepsOthers (D.contents self.old.device) (D.contents self.new.device) pointer }
-        ensures honest { D.honest self.new.device ≡ D.honest self.old.device }
-        ensures counted { CountsFault (is_failure result) (D.faults self.old.device) (D.faults self.new.device) }
-        ensures spent { SpendsFault (is_failure result) (D.fails_at_most self.old.device) (D.fails_at_most self.new.device) }
+        ensures follows { Follows D.contents D.honest D.faults D.fails_at_most (other_than pointer) (is_failure result) self.old.device self.new.device }
         ensures refused { IfErr result (λ why. RefusesFetch why (room_for (N.view self.old.near) pointer) (D.honest self.old.device)) }
         ensures untouched { IfErr result (λ why. why ≡ refused.NoRoom → self.new.device ≡ self.old.device) }
         ensures held { IfErr result (λ _. D.contents self.new.device ≡ D.contents self.old.device) }

@@ -9,8 +9,7 @@ ghost use Rattle.far_word.specs.Sizes.{words_for};
 ghost use Rattle.far_core.specs.events.Copies.{data_at};
 ghost use Rattle.far_core.specs.events.Naming.{is_dropped};
 ghost use Rattle.far_core.specs.state.Law.{IsStored};
-ghost use Rattle.far_device.specs.Contents.{KeepsOthers};
-ghost use Rattle.far_device.specs.Faults.{CountsFault, SpendsFault};
+ghost use Rattle.far_device.specs.Following.{Follows, other_than};
 ghost use Rattle.far_hand.specs.Finds.{Finds};
 ghost use Rattle.far_hand.specs.Came.{Came, only};
 ghost use Rattle.far_hand.specs.Known.{Forgets, KeepsKnown};
@@ -26,8 +25,8 @@ ghost use Rattle.far_book.specs.book.Renaming.{seen};
 use crate::book::Book;
 use crate::book::renaming::rename;
 use crate::book::words::far_word;
-use far_hand::Near;
 use far_device::{Device, DeviceFault};
+use far_hand::Near;
 use far_word::{LONGEST, Place, PtrWord, Refused, size_of, unpack_bytes, words_for};
 
 // The bytes of an object that are read into a short row.
@@ -52,12 +51,9 @@ impl<N: Near + Drop, D: Device + Drop> Book<N, D> {
         ensures came { Came N.makes self.old.near self.new.near }
         ensures refused { IfErr result (λ why. (why ≡ Memory) ⊎ (why ≡ Failed)) }
         ensures called { AsksToEvict D D.writes D.lets_go (N.view self.old.near) pointer result self.old.device self.new.device }
-        ensures cause { CountsFault (is_failure result) (D.faults self.old.device) (D.faults self.new.device) }
-        ensures spent { SpendsFault (is_failure result) (D.fails_at_most self.old.device) (D.fails_at_most self.new.device) }
         ensures order { self.new.order ≡ self.old.order }
         ensures forgotten { D.forgets → result ≡ Ok false → D.contents self.new.device pointer ≡ None }
-        ensures others { KeepsOthers (D.contents self.old.device) (D.contents self.new.device) pointer }
-        ensures honest { D.honest self.new.device ≡ D.honest self.old.device }
+        ensures follows { Follows D.contents D.honest D.faults D.fails_at_most (other_than pointer) (is_failure result) self.old.device self.new.device }
         ensures ran { N.still → Does (N.view self.old.near) (Evicts pointer result) (N.view self.new.near) }
     {
         let found = self.see(pointer);
@@ -97,11 +93,8 @@ impl<N: Near + Drop, D: Device + Drop> Book<N, D> {
         ensures held { OnOk result (D.contents self.new.device pointer ≡ Some (bytes_of (data_at (N.view self.new.near).word place) len)) }
         ensures refused { IfErr result (λ why. (why ≡ Memory) ⊎ (why ≡ Failed)) }
         ensures called { D.writes self.old.device pointer (bytes_of (data_at (N.view self.new.near).word place) len) (answer_of result) self.new.device }
-        ensures cause { CountsFault (is_failure result) (D.faults self.old.device) (D.faults self.new.device) }
-        ensures spent { SpendsFault (is_failure result) (D.fails_at_most self.old.device) (D.fails_at_most self.new.device) }
         ensures order { self.new.order ≡ self.old.order }
-        ensures others { KeepsOthers (D.contents self.old.device) (D.contents self.new.device) pointer }
-        ensures honest { D.honest self.new.device ≡ D.honest self.old.device }
+        ensures follows { Follows D.contents D.honest D.faults D.fails_at_most (other_than pointer) (is_failure result) self.old.device self.new.device }
     {
         self.keeps_law();
         if len <= SHORT {
@@ -132,11 +125,8 @@ impl<N: Near + Drop, D: Device + Drop> Book<N, D> {
         ensures held { OnOk result (D.contents self.new.device pointer ≡ Some (bytes_of (data_at (N.view self.new.near).word place) len)) }
         ensures refused { IfErr result (λ why. (why ≡ Memory) ⊎ (why ≡ Failed)) }
         ensures called { D.writes self.old.device pointer (bytes_of (data_at (N.view self.new.near).word place) len) (answer_of result) self.new.device }
-        ensures cause { CountsFault (is_failure result) (D.faults self.old.device) (D.faults self.new.device) }
-        ensures spent { SpendsFault (is_failure result) (D.fails_at_most self.old.device) (D.fails_at_most self.new.device) }
         ensures order { self.new.order ≡ self.old.order }
-        ensures others { KeepsOthers (D.contents self.old.device) (D.contents self.new.device) pointer }
-        ensures honest { D.honest self.new.device ≡ D.honest self.old.device }
+        ensures follows { Follows D.contents D.honest D.faults D.fails_at_most (other_than pointer) (is_failure result) self.old.device self.new.device }
     {
         read_object(&mut self.near, len, place, row);
         match self.device.write(pointer as u32, &row[..len as usize]) {

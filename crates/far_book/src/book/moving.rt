@@ -6,8 +6,7 @@ ghost use Rattle.far_word.specs.declared.sizes.TheConstants.{CELLS};
 ghost use Rattle.far_word.specs.Pointer.{read_of};
 ghost use Rattle.far_core.specs.events.Copies.{data_at};
 ghost use Rattle.far_core.specs.events.Naming.{is_dropped};
-ghost use Rattle.far_device.specs.Contents.{KeepsOthers};
-ghost use Rattle.far_device.specs.Faults.{SpendsFault};
+ghost use Rattle.far_device.specs.Following.{Follows, other_than};
 ghost use Rattle.far_book.specs.book.Dealing.{FindsDrop, IsRetired, IsSeen, goal, has_evac, Leaves, moved_now, order_moved};
 ghost use Rattle.far_hand.specs.Quiet.{IsQuietNear};
 ghost use Rattle.far_hand.specs.Came.{Came, only};
@@ -19,8 +18,8 @@ ghost use Rattle.far_book.specs.book.Only.{Names};
 use crate::book::Book;
 use crate::book::renaming::{is_dropped, rename};
 use crate::book::words::near_word;
-use far_hand::Near;
 use far_device::Device;
+use far_hand::Near;
 use far_word::{HeadWord, Place, PtrWord, Refused, size_of, words_for};
 
 impl<N: Near + Drop, D: Device + Drop> Book<N, D> {
@@ -39,10 +38,7 @@ impl<N: Near + Drop, D: Device + Drop> Book<N, D> {
         ensures gone { IfOk result (λ o. IfNone o (IsRetired N.still (N.view self.old.near) (N.view self.new.near) pointer)) }
         ensures called { IfOk result (λ o. IfNone o (D.lets_go self.old.device pointer self.new.device)) }
         ensures forgotten { IfOk result (λ o. IfNone o (D.forgets → D.contents self.new.device pointer ≡ None)) }
-        ensures others { KeepsOthers (D.contents self.old.device) (D.contents self.new.device) pointer }
-        ensures honest { D.honest self.new.device ≡ D.honest self.old.device }
-        ensures faults { D.faults self.new.device ≡ D.faults self.old.device }
-        ensures spent { SpendsFault false (D.fails_at_most self.old.device) (D.fails_at_most self.new.device) }
+        ensures follows { Follows D.contents D.honest D.faults D.fails_at_most (other_than pointer) false self.old.device self.new.device }
         ensures refused { IfErr result (λ why. why ≡ NoRoom) }
         ensures none { IfErr result (λ _. goal (N.view self.old.near) pointer ≡ None) }
         ensures seen { IfErr result (λ _. IsSeen (N.view self.old.near) (N.view self.new.near) pointer) }

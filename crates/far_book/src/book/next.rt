@@ -12,8 +12,8 @@ ghost use Rattle.far_book.specs.book.NextLive.{IsBoundary, IsHomeOf, IsNamedBetw
 ghost use Rattle.far_book.specs.book.Only.{Reads};
 
 use crate::book::Book;
-use far_hand::Near;
 use far_device::Device;
+use far_hand::Near;
 use far_log::Span;
 use far_word::{HeadWord, PtrWord, size_of};
 

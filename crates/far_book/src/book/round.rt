@@ -19,8 +19,8 @@ ghost use Rattle.far_book.specs.book.Deeds.{Does, Steps};
 ghost use Rattle.far_book.specs.book.Releasing.{order_without, released};
 
 use crate::book::Book;
-use far_hand::Near;
 use far_device::Device;
+use far_hand::Near;
 use far_word::Refused;
 
 impl<N: Near + Drop, D: Device + Drop> Book<N, D> {

@@ -1,6 +1,8 @@
 //! Devices of the tests' own: what is in each is what one in memory has, and something is wrong with it, or looked at.
 
-ghost use Rattle.std.specs.Prelude.{◌≡◌, ◌+◌, ◌%◌, ◌^◌, None, false, true, IfOk};
+ghost use Rattle.std.specs.Prelude.{◌≡◌, ◌+◌, ◌%◌, ◌^◌, ℕ, List, None, IsSome, false, true, IfOk};
+ghost use Rattle.far_device.specs.Faults.{is_fault};
+ghost use Rattle.far_device.specs.Following.{Follows, any_key, other_than};
 ghost use Rattle.far_device.specs.Mem.{bytes_at, faults_of};
 ghost use Rattle.far_device.specs.Wrapping.{wrapped_below};
 
@@ -30,11 +32,17 @@ impl Device for Picky {
 
     ghost wraps = { λ s. wrapped_below (faults_of s.inner + s.faults) };
 
-    ghost writes = { λ _ _ _ _ _. Unit {0} };
+    ghost writes = { λ old id _ answer new. Follows (λ s. bytes_at s.inner) (λ _. true) (λ s. (faults_of s.inner + s.faults) % 2 ^ 64) (λ _ _. ⊥) (other_than id) (is_fault answer) old new };
 
-    ghost reads = { λ _ _ _ _. Unit {0} };
+    ghost reads = { λ old id answer new. Follows (λ s. bytes_at s.inner) (λ _. true) (λ s. (faults_of s.inner + s.faults) % 2 ^ 64) (λ _ _. IsSome (bytes_at old.inner id) × ⊥) any_key (is_fault answer) old new };
 
-    ghost lets_go = { λ _ _ _. Unit {0} };
+    ghost lets_go = { λ old id new. Follows (λ s. bytes_at s.inner) (λ _. true) (λ s. (faults_of s.inner + s.faults) % 2 ^ 64) (λ _ _. ⊥) (other_than id) false old new };
+
+    ghost write_follows = { λ _ _ _ _ _ h. h };
+
+    ghost read_follows = { λ _ _ _ _ h. h };
+
+    ghost forget_follows = { λ _ _ _ h. h };
 
     fn write(&mut self, id: u32, bytes: &[u8]) -> Result<(), DeviceFault> {
         if bytes != self.wanted.as_slice() {
@@ -74,11 +82,17 @@ impl Device for Starved {
 
     ghost wraps = { λ _. wrapped_below 0 };
 
-    ghost writes = { λ _ _ _ _ _. Unit {0} };
+    ghost writes = { λ old id _ answer new. Follows (λ _ _. None) (λ _. true) (λ _. 0) (λ _ _. Unit {0}) (other_than id) (is_fault answer) old new };
 
-    ghost reads = { λ _ _ _ _. Unit {0} };
+    ghost reads = { λ old id answer new. Follows (λ _ _. None) (λ _. true) (λ _. 0) (λ _ _. IsSome {T = List ℕ} None × Unit {0}) any_key (is_fault answer) old new };
 
-    ghost lets_go = { λ _ _ _. Unit {0} };
+    ghost lets_go = { λ old id new. Follows (λ _ _. None) (λ _. true) (λ _. 0) (λ _ _. Unit {0}) (other_than id) false old new };
+
+    ghost write_follows = { λ _ _ _ _ _ h. h };
+
+    ghost read_follows = { λ _ _ _ _ h. h };
+
+    ghost forget_follows = { λ _ _ _ h. h };
 
     fn write(&mut self, _id: u32, _bytes: &[u8]) -> Result<(), DeviceFault> {
         Err(DeviceFault::Memory)
@@ -116,11 +130,17 @@ impl Device for Stumbling {
 
     ghost wraps = { λ s. wrapped_below (faults_of s.inner + s.faults) };
 
-    ghost writes = { λ _ _ _ _ _. Unit {0} };
+    ghost writes = { λ old id _ answer new. Follows (λ s. bytes_at s.inner) (λ _. true) (λ s. (faults_of s.inner + s.faults) % 2 ^ 64) (λ _ _. ⊥) (other_than id) (is_fault answer) old new };
 
-    ghost reads = { λ _ _ _ _. Unit {0} };
+    ghost reads = { λ old id answer new. Follows (λ s. bytes_at s.inner) (λ _. true) (λ s. (faults_of s.inner + s.faults) % 2 ^ 64) (λ _ _. IsSome (bytes_at old.inner id) × ⊥) any_key (is_fault answer) old new };
 
-    ghost lets_go = { λ _ _ _. Unit {0} };
+    ghost lets_go = { λ old id new. Follows (λ s. bytes_at s.inner) (λ _. true) (λ s. (faults_of s.inner + s.faults) % 2 ^ 64) (λ _ _. ⊥) (other_than id) false old new };
+
+    ghost write_follows = { λ _ _ _ _ _ h. h };
+
+    ghost read_follows = { λ _ _ _ _ h. h };
+
+    ghost forget_follows = { λ _ _ _ h. h };
 
     fn write(&mut self, id: u32, bytes: &[u8]) -> Result<(), DeviceFault> {
         self.inner.write(id, bytes)
@@ -165,11 +185,17 @@ impl Device for Lying {
 
     ghost wraps = { λ s. wrapped_below s.inner.faults };
 
-    ghost writes = { λ _ _ _ _ _. Unit {0} };
+    ghost writes = { λ old id _ answer new. Follows (λ s. bytes_at s.inner) (λ _. false) (λ s. faults_of s.inner) (λ _ _. ⊥) (other_than id) (is_fault answer) old new };
 
-    ghost reads = { λ _ _ _ _. Unit {0} };
+    ghost reads = { λ old id answer new. Follows (λ s. bytes_at s.inner) (λ _. false) (λ s. faults_of s.inner) (λ _ _. IsSome (bytes_at old.inner id) × ⊥) any_key (is_fault answer) old new };
 
-    ghost lets_go = { λ _ _ _. Unit {0} };
+    ghost lets_go = { λ old id new. Follows (λ s. bytes_at s.inner) (λ _. false) (λ s. faults_of s.inner) (λ _ _. ⊥) (other_than id) false old new };
+
+    ghost write_follows = { λ _ _ _ _ _ h. h };
+
+    ghost read_follows = { λ _ _ _ _ h. h };
+
+    ghost forget_follows = { λ _ _ _ h. h };
 
     fn write(&mut self, id: u32, bytes: &[u8]) -> Result<(), DeviceFault> {
         self.inner.write(id, bytes)
@@ -214,11 +240,17 @@ impl<D: Device + Drop> Device for Shown<D> {
 
     ghost wraps = { λ s. D.wraps s.inner };
 
-    ghost writes = { λ _ _ _ _ _. Unit {0} };
+    ghost writes = { λ old id _ answer new. Follows (λ s. D.contents s.inner) (λ s. D.honest s.inner) (λ s. D.faults s.inner) (λ s. D.fails_at_most s.inner) (other_than id) (is_fault answer) old new };
 
-    ghost reads = { λ _ _ _ _. Unit {0} };
+    ghost reads = { λ old id answer new. Follows (λ s. D.contents s.inner) (λ s. D.honest s.inner) (λ s. D.faults s.inner) (λ s n. IsSome (D.contents old.inner id) × D.fails_at_most s.inner n) any_key (is_fault answer) old new };
 
-    ghost lets_go = { λ _ _ _. Unit {0} };
+    ghost lets_go = { λ old id new. Follows (λ s. D.contents s.inner) (λ s. D.honest s.inner) (λ s. D.faults s.inner) (λ s. D.fails_at_most s.inner) (other_than id) false old new };
+
+    ghost write_follows = { λ _ _ _ _ _ h. h };
+
+    ghost read_follows = { λ _ _ _ _ h. h };
+
+    ghost forget_follows = { λ _ _ _ h. h };
 
     fn write(&mut self, id: u32, bytes: &[u8]) -> Result<(), DeviceFault> {
         self.inner.write(id, bytes)?;

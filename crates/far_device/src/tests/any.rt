@@ -1,8 +1,8 @@
 //! What a caller can say of any device, by the trait alone.
 
 ghost use Rattle.std.specs.Prelude.{◌≡◌, true, false, None, Ok, IfOk, OnOk};
-ghost use Rattle.far_device.specs.Contents.{KeepsOthers};
-ghost use Rattle.far_device.specs.Faults.{is_fault, CountsFault, SpendsFault};
+ghost use Rattle.far_device.specs.Faults.{is_fault};
+ghost use Rattle.far_device.specs.Following.{Follows, other_than};
 
 use crate::{Device, DeviceFault};
 
@@ -16,10 +16,7 @@ pub(crate) fn there_and_back<D: Device>(
     ensures calls { IfOk result (λ given. (written : D) × (read : D) × D.writes device.old id bytes.now (Ok tt) written
         × D.reads written id (Ok given.items) read × D.lets_go read id device.new) }
     ensures gone { D.forgets → OnOk result (D.contents device.new id ≡ None) }
-    ensures others { KeepsOthers (D.contents device.old) (D.contents device.new) id }
-    ensures honest { D.honest device.new ≡ D.honest device.old }
-    ensures counted { CountsFault (is_fault result) (D.faults device.old) (D.faults device.new) }
-    ensures spent { SpendsFault (is_fault result) (D.fails_at_most device.old) (D.fails_at_most device.new) }
+    ensures follows { Follows D.contents D.honest D.faults D.fails_at_most (other_than id) (is_fault result) device.old device.new }
 {
     device.write(id, bytes)?;
     let given = device.read(id)?;

@@ -1,6 +1,9 @@
 //! Devices that fail.
 
-ghost use Rattle.std.specs.Prelude.{◌≡◌, ◌+◌, ◌-◌, ◌%◌, ◌^◌, ◌≤◌, ◌==◌, None, Err, true, cond, min};
+ghost use Rattle.std.specs.Prelude.{◌≡◌, ◌≢◌, ◌+◌, ◌-◌, ◌%◌, ◌^◌, ◌≤◌, ◌==◌, None, IsSome, Err, true, false, cond, min};
+ghost use Rattle.std.proofs.Common.{rules};
+ghost use Rattle.far_device.specs.Faults.{is_fault};
+ghost use Rattle.far_device.specs.Following.{Follows, any_key, other_than};
 ghost use Rattle.far_device.specs.declared.fault.DeviceFault.TheVariants as fault;
 ghost use Rattle.far_device.specs.Wrapping.{wrapped_below};
 
@@ -25,11 +28,17 @@ impl Device for Broken {
 
     ghost wraps = { λ s. wrapped_below s.faults };
 
-    ghost writes = { λ _ _ _ answer _. answer ≡ Err fault.Device };
+    ghost writes = { λ old _ _ answer new. (answer ≡ Err fault.Device) × (new.faults % 2 ^ 64 ≢ old.faults % 2 ^ 64) };
 
-    ghost reads = { λ _ _ answer _. answer ≡ Err fault.Device };
+    ghost reads = { λ old _ answer new. (answer ≡ Err fault.Device) × (new.faults % 2 ^ 64 ≢ old.faults % 2 ^ 64) };
 
     ghost lets_go = { λ old _ new. new ≡ old };
+
+    ghost write_follows = { Prim.search rules };
+
+    ghost read_follows = { Prim.search rules };
+
+    ghost forget_follows = { Prim.search rules };
 
     fn write(&mut self, _id: u32, _bytes: &[u8]) -> Result<(), DeviceFault> {
         self.faults = self.faults.wrapping_add(1);
@@ -71,6 +80,12 @@ impl Device for Starved {
 
     ghost lets_go = { λ old _ new. new ≡ old };
 
+    ghost write_follows = { Prim.search rules };
+
+    ghost read_follows = { Prim.search rules };
+
+    ghost forget_follows = { Prim.search rules };
+
     fn write(&mut self, _id: u32, _bytes: &[u8]) -> Result<(), DeviceFault> {
         Err(DeviceFault::Memory)
     }
@@ -107,11 +122,23 @@ impl<D: Device + Drop> Device for FailsOnce<D> {
 
     ghost wraps = { λ s. wrapped_below (D.faults s.inner + s.faults) };
 
-    ghost writes = { λ old id bytes answer new. cond (old.left == 1) (answer ≡ Err fault.Device) (D.writes old.inner id bytes answer new.inner) };
+    ghost writes = { λ old id bytes answer new. cond (old.left == 1) (answer ≡ Err fault.Device) (D.writes old.inner id bytes answer new.inner)
+        × Follows (λ s. D.contents s.inner) (λ s. D.honest s.inner) (λ s. (D.faults s.inner + s.faults) % 2 ^ 64)
+        (λ s n. (min s.left 1 ≤ n) × D.fails_at_most s.inner (n - min s.left 1)) (other_than id) (is_fault answer) old new };
 
-    ghost reads = { λ old id answer new. cond (old.left == 1) (answer ≡ Err fault.Device) (D.reads old.inner id answer new.inner) };
+    ghost reads = { λ old id answer new. cond (old.left == 1) (answer ≡ Err fault.Device) (D.reads old.inner id answer new.inner)
+        × Follows (λ s. D.contents s.inner) (λ s. D.honest s.inner) (λ s. (D.faults s.inner + s.faults) % 2 ^ 64)
+        (λ s n. IsSome (D.contents old.inner id) × ((min s.left 1 ≤ n) × D.fails_at_most s.inner (n - min s.left 1))) any_key (is_fault answer) old new };
 
-    ghost lets_go = { λ old id new. D.lets_go old.inner id new.inner };
+    ghost lets_go = { λ old id new. D.lets_go old.inner id new.inner
+        × Follows (λ s. D.contents s.inner) (λ s. D.honest s.inner) (λ s. (D.faults s.inner + s.faults) % 2 ^ 64)
+        (λ s n. (min s.left 1 ≤ n) × D.fails_at_most s.inner (n - min s.left 1)) (other_than id) false old new };
+
+    ghost write_follows = { λ _ _ _ _ _ h. h.1 };
+
+    ghost read_follows = { λ _ _ _ _ h. h.1 };
+
+    ghost forget_follows = { λ _ _ _ h. h.1 };
 
     fn write(&mut self, id: u32, bytes: &[u8]) -> Result<(), DeviceFault> {
         if self.left == 1 {

@@ -1,6 +1,8 @@
 //! Devices that fail while objects leave: what is counted, what stays, and how the round goes on.
 
-ghost use Rattle.std.specs.Prelude.{◌≡◌, ◌+◌, ◌%◌, ◌^◌, true, None};
+ghost use Rattle.std.specs.Prelude.{◌≡◌, ◌+◌, ◌%◌, ◌^◌, true, false, None, IsSome};
+ghost use Rattle.far_device.specs.Faults.{is_fault};
+ghost use Rattle.far_device.specs.Following.{Follows, any_key, other_than};
 ghost use Rattle.far_device.specs.Mem.{bytes_at, faults_of};
 ghost use Rattle.far_device.specs.Wrapping.{wrapped_below};
 
@@ -39,11 +41,17 @@ impl Device for Stumbling {
 
     ghost wraps = { λ s. wrapped_below (faults_of s.inner + s.faults) };
 
-    ghost writes = { λ _ _ _ _ _. Unit {0} };
+    ghost writes = { λ old id _ answer new. Follows (λ s. bytes_at s.inner) (λ _. true) (λ s. (faults_of s.inner + s.faults) % 2 ^ 64) (λ _ _. ⊥) (other_than id) (is_fault answer) old new };
 
-    ghost reads = { λ _ _ _ _. Unit {0} };
+    ghost reads = { λ old id answer new. Follows (λ s. bytes_at s.inner) (λ _. true) (λ s. (faults_of s.inner + s.faults) % 2 ^ 64) (λ _ _. IsSome (bytes_at old.inner id) × ⊥) any_key (is_fault answer) old new };
 
-    ghost lets_go = { λ _ _ _. Unit {0} };
+    ghost lets_go = { λ old id new. Follows (λ s. bytes_at s.inner) (λ _. true) (λ s. (faults_of s.inner + s.faults) % 2 ^ 64) (λ _ _. ⊥) (other_than id) false old new };
+
+    ghost write_follows = { λ _ _ _ _ _ h. h };
+
+    ghost read_follows = { λ _ _ _ _ h. h };
+
+    ghost forget_follows = { λ _ _ _ h. h };
 
     fn write(&mut self, id: u32, bytes: &[u8]) -> Result<(), DeviceFault> {
         if self.writes > 0 {

@@ -1,6 +1,6 @@
 use Rattle.far_book.proofs.book.Book.fetch.Goals as goal
 use Rattle.std.proofs.Common.{◌≡◌, ◌∙◌, ◌^◌, ◌<◌, ℕ, true, false, ap, arith, sym, subst, inl, inr, length, Some, Global, Vec}
-use Rattle.std.specs.Prelude.{Option, List, Ok, Err}
+use Rattle.std.specs.Prelude.{Option, IsSome, List, Ok, Err}
 use Rattle.std.proofs.lemmas.Bool.{false_from_ne_true}
 use Rattle.far_word.specs.Bytes.{packed_word}
 use Rattle.far_word.specs.Pointer.{read_of}
@@ -12,7 +12,9 @@ use Rattle.far_core.specs.state.State.{State}
 use Rattle.far_device.specs.Contents.{KeepsOthers}
 use Rattle.far_device.specs.declared.fault.DeviceFault.{DeviceFault}
 use Rattle.far_device.specs.declared.fault.DeviceFault.TheVariants.{Memory, Device}
-use Rattle.far_device.specs.Faults.{SpendsFault}
+use Rattle.far_device.specs.Faults.{is_fault}
+use Rattle.far_device.specs.Following.{Follows, any_key, other_than}
+use Rattle.far_device.proofs.Following.{follows_held, follows_on}
 use Rattle.far_book.specs.book.Asking.{HasGiven}
 use Rattle.far_book.specs.book.BookOf.{BookOf}
 use Rattle.far_hand.specs.Known.{Forgets}
@@ -25,7 +27,7 @@ use Rattle.far_book.specs.book.Renaming.{seen}
 use Rattle.far_hand.proofs.Finding.{finds_more}
 use Rattle.far_book.proofs.region.Dropping.{retired_by}
 use Rattle.far_book.proofs.region.Fetched.{come_in_order, come_forgot, come_kept, fetched_by, fetched_seen, known, known_alive, written_in_order}
-use Rattle.far_book.proofs.region.Fetching.{FarFound, able, as_long, as_stored, at_tail, finds_now, is_held, is_seen, left_here, left_written, may, now, room_was, some_room, spent_by, unasked, unread_written, words_same}
+use Rattle.far_book.proofs.region.Fetching.{FarFound, able, as_long, as_stored, at_tail, finds_now, is_held, is_seen, left_here, left_written, may, now, room_was, some_room, unasked, unread_written, words_same}
 use Rattle.far_hand.proofs.Closure.{then_came}
 use Rattle.far_book.proofs.region.Handed.{since_book}
 
@@ -142,8 +144,9 @@ invariant_of-self-in_default-come_near g c =
     let y = c.in_default-come_near in
     let held = g.D.Device.contents c.self.inside.device in
     let is_honest = g.D.Device.honest c.self.inside.device in
+    let law = g.met.D.Device.read_follows _ _ _ _ c.read.ensures.called in
     subst (λ (u : State). InOrder u c.self.inside.ledger (g.D.Device.contents c.read.new.self) (g.D.Device.honest c.read.new.self)) (sym y.ensures.kept)
-    (subst (λ h. InOrder (seen (with_written_span s p f.len f.ds c.in-Some.place row) p y.field-0) c.self.inside.ledger (g.D.Device.contents c.read.new.self) h) (sym c.read.ensures.honest)
+    (subst (λ h. InOrder (seen (with_written_span s p f.len f.ds c.in-Some.place row) p y.field-0) c.self.inside.ledger (g.D.Device.contents c.read.new.self) h) (sym law.honest)
     (subst (λ h. InOrder (seen (with_written_span s p f.len f.ds c.in-Some.place row) p y.field-0) c.self.inside.ledger h is_honest) (sym c.read.ensures.kept)
     (written_in_order s c.self.invariant.notes.law p f.len f.ds c.in-Some.place row (able s0 s p c.see-word.result f.len f.ds f.marks x c.self.inside.ledger (g.D.Device.contents c.self.inside.device) (g.D.Device.honest c.self.inside.device) c.self.invariant c.size_of-size.result c.size_of-size.ensures c.room.result (c.room.ensures (own_part s) c.self.invariant.notes) c.in-Some.place c.in-Some.is) c.self.inside.ledger held is_honest c.self.invariant y.field-0 y.ensures.fits
     (finds_more (s.cell p) c.see-word.result y.field-0 (finds_now s0 s p c.see-word.result f.len f.ds f.marks x) y.ensures.found))))
@@ -208,8 +211,9 @@ invariant_of-self-2 g c =
     let row = packed_word c.as_slice.result.now in
     let t = g.N.Near.view c.come_near.new.near in
     let takes : Takes c.self.inside.ledger c.take.new.self p (size_of f.len) c.in-Some.place = subst (λ n. Takes c.self.inside.ledger c.take.new.self p n c.in-Some.place) c.size_of-size.ensures c.take.ensures in
-    let others : KeepsOthers (g.D.Device.contents c.self.inside.device) (g.D.Device.contents c.forget.new.self) p = (λ q ne. c.forget.ensures.others q ne ∙ ap (λ (h : ℕ → Option (List ℕ)). h q) c.read.ensures.kept) in
-    subst (λ h. InOrder t c.take.new.self (g.D.Device.contents c.forget.new.self) h) (sym (c.forget.ensures.honest ∙ c.read.ensures.honest))
+    let law = g.met.D.Device.forget_follows _ _ _ c.forget.ensures.called in
+    let others : KeepsOthers (g.D.Device.contents c.self.inside.device) (g.D.Device.contents c.forget.new.self) p = (λ q ne. law.others q ne ∙ ap (λ (h : ℕ → Option (List ℕ)). h q) c.read.ensures.kept) in
+    subst (λ h. InOrder t c.take.new.self (g.D.Device.contents c.forget.new.self) h) (sym (law.honest ∙ (g.met.D.Device.read_follows _ _ _ _ c.read.ensures.called).honest))
     (come_in_order s t p f.len f.ds c.in-Some.place row f.marks (now s0 s p c.see-word.result f.len f.ds f.marks x) c.if-marks.false (able s0 s p c.see-word.result f.len f.ds f.marks x c.self.inside.ledger (g.D.Device.contents c.self.inside.device) (g.D.Device.honest c.self.inside.device) c.self.invariant c.size_of-size.result c.size_of-size.ensures c.room.result (c.room.ensures (own_part s) c.self.invariant.notes) c.in-Some.place c.in-Some.is).layout c.in-Ok-come_near.ensures.done c.self.inside.ledger c.take.new.self (g.D.Device.contents c.self.inside.device) (g.D.Device.contents c.forget.new.self)
     (g.D.Device.honest c.self.inside.device) c.self.invariant (able s0 s p c.see-word.result f.len f.ds f.marks x c.self.inside.ledger (g.D.Device.contents c.self.inside.device) (g.D.Device.honest c.self.inside.device) c.self.invariant c.size_of-size.result c.size_of-size.ensures c.room.result (c.room.ensures (own_part s) c.self.invariant.notes) c.in-Some.place c.in-Some.is) takes others)
 
@@ -317,60 +321,77 @@ returns-clause-asked g c h =
     let x : FarFound s0 s p c.see-word.result f.len f.ds f.marks = record { finds = c.see-word.ensures.found; fits = c.see-word.type_inv; far = c.known.ensures ∙ ap (λ v. Some v) f.is; same = ap (λ (b : BookOf g.row.N.Denot g.row.D.Denot). g.N.Near.view b.near) c.self.view_is ∙ c.see-word.ensures.kept; pointer = c.requires.pointer } in
     absurd (unasked s0 s p c.see-word.result f.len f.ds f.marks x c.if-marks.false h)
 
-pub returns-in-Err-Memory-clause-spent : goal.returns-in-Err-Memory-clause-spent
-returns-in-Err-Memory-clause-spent g c =
+pub returns-in-Err-Memory-clause-follows : goal.returns-in-Err-Memory-clause-follows
+returns-in-Err-Memory-clause-follows g c =
     let s0 = g.N.Near.view c.args.self.now.near in
     let s = g.N.Near.view c.self.inside.near in
     let p = c.args.pointer in
     let f = c.in-Far in
     let x : FarFound s0 s p c.see-word.result f.len f.ds f.marks = record { finds = c.see-word.ensures.found; fits = c.see-word.type_inv; far = c.known.ensures ∙ ap (λ v. Some v) f.is; same = ap (λ (b : BookOf g.row.N.Denot g.row.D.Denot). g.N.Near.view b.near) c.self.view_is ∙ c.see-word.ensures.kept; pointer = c.requires.pointer } in
     let device : c.self.inside.device ≡ c.args.self.now.device = ap (λ (b : BookOf g.row.N.Denot g.row.D.Denot). b.device) c.self.view_is ∙ c.see-word.ensures.device in
-    let read = subst (λ (d : g.row.D.Denot). SpendsFault false (g.D.Device.fails_at_most d) (g.D.Device.fails_at_most c.read.new.self)) device (spent_by (Vec ℕ Global) c.in-Err-Memory.field-0 Memory _ _ c.in-Err-Memory.field-0-is (c.in-Err-Memory.ensures.spent (is_held s0 s p c.see-word.result f.len f.ds f.marks x c.self.inside.ledger (g.D.Device.contents c.self.inside.device) (g.D.Device.honest c.self.inside.device) c.self.invariant c.size_of-size.result c.size_of-size.ensures c.room.result (c.room.ensures (own_part s) c.self.invariant.notes)))) in
+    let law = subst (λ (why : DeviceFault). Follows g.D.Device.contents g.D.Device.honest g.D.Device.faults (λ e n. IsSome (g.D.Device.contents c.self.inside.device p) × g.D.Device.fails_at_most e n) any_key (is_fault {A = List ℕ} (Err why)) c.self.inside.device c.read.new.self) c.in-Err-Memory.field-0-is
+    (g.met.D.Device.read_follows _ _ _ _ c.in-Err-Memory.ensures.called) in
+    let read = subst (λ (d : g.row.D.Denot). Follows g.D.Device.contents g.D.Device.honest g.D.Device.faults g.D.Device.fails_at_most (other_than p) false d c.read.new.self) device
+    (follows_held g.D.Device.contents g.D.Device.honest g.D.Device.faults g.D.Device.fails_at_most (IsSome (g.D.Device.contents c.self.inside.device p)) (other_than p) false c.self.inside.device c.read.new.self
+    (is_held s0 s p c.see-word.result f.len f.ds f.marks x c.self.inside.ledger (g.D.Device.contents c.self.inside.device) (g.D.Device.honest c.self.inside.device) c.self.invariant c.size_of-size.result c.size_of-size.ensures c.room.result (c.room.ensures (own_part s) c.self.invariant.notes)) law) in
     read
 
-pub returns-in-Err-Device-clause-spent : goal.returns-in-Err-Device-clause-spent
-returns-in-Err-Device-clause-spent g c =
+pub returns-in-Err-Device-clause-follows : goal.returns-in-Err-Device-clause-follows
+returns-in-Err-Device-clause-follows g c =
     let s0 = g.N.Near.view c.args.self.now.near in
     let s = g.N.Near.view c.self.inside.near in
     let p = c.args.pointer in
     let f = c.in-Far in
     let x : FarFound s0 s p c.see-word.result f.len f.ds f.marks = record { finds = c.see-word.ensures.found; fits = c.see-word.type_inv; far = c.known.ensures ∙ ap (λ v. Some v) f.is; same = ap (λ (b : BookOf g.row.N.Denot g.row.D.Denot). g.N.Near.view b.near) c.self.view_is ∙ c.see-word.ensures.kept; pointer = c.requires.pointer } in
     let device : c.self.inside.device ≡ c.args.self.now.device = ap (λ (b : BookOf g.row.N.Denot g.row.D.Denot). b.device) c.self.view_is ∙ c.see-word.ensures.device in
-    let read = subst (λ (d : g.row.D.Denot). SpendsFault true (g.D.Device.fails_at_most d) (g.D.Device.fails_at_most c.read.new.self)) device (spent_by (Vec ℕ Global) c.in-Err-Device.field-0 Device _ _ c.in-Err-Device.field-0-is (c.in-Err-Device.ensures.spent (is_held s0 s p c.see-word.result f.len f.ds f.marks x c.self.inside.ledger (g.D.Device.contents c.self.inside.device) (g.D.Device.honest c.self.inside.device) c.self.invariant c.size_of-size.result c.size_of-size.ensures c.room.result (c.room.ensures (own_part s) c.self.invariant.notes)))) in
+    let law = subst (λ (why : DeviceFault). Follows g.D.Device.contents g.D.Device.honest g.D.Device.faults (λ e n. IsSome (g.D.Device.contents c.self.inside.device p) × g.D.Device.fails_at_most e n) any_key (is_fault {A = List ℕ} (Err why)) c.self.inside.device c.read.new.self) c.in-Err-Device.field-0-is
+    (g.met.D.Device.read_follows _ _ _ _ c.in-Err-Device.ensures.called) in
+    let read = subst (λ (d : g.row.D.Denot). Follows g.D.Device.contents g.D.Device.honest g.D.Device.faults g.D.Device.fails_at_most (other_than p) true d c.read.new.self) device
+    (follows_held g.D.Device.contents g.D.Device.honest g.D.Device.faults g.D.Device.fails_at_most (IsSome (g.D.Device.contents c.self.inside.device p)) (other_than p) true c.self.inside.device c.read.new.self
+    (is_held s0 s p c.see-word.result f.len f.ds f.marks x c.self.inside.ledger (g.D.Device.contents c.self.inside.device) (g.D.Device.honest c.self.inside.device) c.self.invariant c.size_of-size.result c.size_of-size.ensures c.room.result (c.room.ensures (own_part s) c.self.invariant.notes)) law) in
     read
 
-pub returns-then-len-clause-spent : goal.returns-then-len-clause-spent
-returns-then-len-clause-spent g c =
+pub returns-then-len-clause-follows : goal.returns-then-len-clause-follows
+returns-then-len-clause-follows g c =
     let s0 = g.N.Near.view c.args.self.now.near in
     let s = g.N.Near.view c.self.inside.near in
     let p = c.args.pointer in
     let f = c.in-Far in
     let x : FarFound s0 s p c.see-word.result f.len f.ds f.marks = record { finds = c.see-word.ensures.found; fits = c.see-word.type_inv; far = c.known.ensures ∙ ap (λ v. Some v) f.is; same = ap (λ (b : BookOf g.row.N.Denot g.row.D.Denot). g.N.Near.view b.near) c.self.view_is ∙ c.see-word.ensures.kept; pointer = c.requires.pointer } in
     let device : c.self.inside.device ≡ c.args.self.now.device = ap (λ (b : BookOf g.row.N.Denot g.row.D.Denot). b.device) c.self.view_is ∙ c.see-word.ensures.device in
-    let read = subst (λ (d : g.row.D.Denot). SpendsFault false (g.D.Device.fails_at_most d) (g.D.Device.fails_at_most c.read.new.self)) device (c.in-Ok.ensures.spent (is_held s0 s p c.see-word.result f.len f.ds f.marks x c.self.inside.ledger (g.D.Device.contents c.self.inside.device) (g.D.Device.honest c.self.inside.device) c.self.invariant c.size_of-size.result c.size_of-size.ensures c.room.result (c.room.ensures (own_part s) c.self.invariant.notes))) in
+    let law = g.met.D.Device.read_follows _ _ _ _ c.in-Ok.ensures.called in
+    let read = subst (λ (d : g.row.D.Denot). Follows g.D.Device.contents g.D.Device.honest g.D.Device.faults g.D.Device.fails_at_most (other_than p) false d c.read.new.self) device
+    (follows_held g.D.Device.contents g.D.Device.honest g.D.Device.faults g.D.Device.fails_at_most (IsSome (g.D.Device.contents c.self.inside.device p)) (other_than p) false c.self.inside.device c.read.new.self
+    (is_held s0 s p c.see-word.result f.len f.ds f.marks x c.self.inside.ledger (g.D.Device.contents c.self.inside.device) (g.D.Device.honest c.self.inside.device) c.self.invariant c.size_of-size.result c.size_of-size.ensures c.room.result (c.room.ensures (own_part s) c.self.invariant.notes)) law) in
     read
 
-pub returns-in_default-come_near-clause-spent : goal.returns-in_default-come_near-clause-spent
-returns-in_default-come_near-clause-spent g c =
+pub returns-in_default-come_near-clause-follows : goal.returns-in_default-come_near-clause-follows
+returns-in_default-come_near-clause-follows g c =
     let s0 = g.N.Near.view c.args.self.now.near in
     let s = g.N.Near.view c.self.inside.near in
     let p = c.args.pointer in
     let f = c.in-Far in
     let x : FarFound s0 s p c.see-word.result f.len f.ds f.marks = record { finds = c.see-word.ensures.found; fits = c.see-word.type_inv; far = c.known.ensures ∙ ap (λ v. Some v) f.is; same = ap (λ (b : BookOf g.row.N.Denot g.row.D.Denot). g.N.Near.view b.near) c.self.view_is ∙ c.see-word.ensures.kept; pointer = c.requires.pointer } in
     let device : c.self.inside.device ≡ c.args.self.now.device = ap (λ (b : BookOf g.row.N.Denot g.row.D.Denot). b.device) c.self.view_is ∙ c.see-word.ensures.device in
-    let read = subst (λ (d : g.row.D.Denot). SpendsFault false (g.D.Device.fails_at_most d) (g.D.Device.fails_at_most c.read.new.self)) device (c.in-Ok.ensures.spent (is_held s0 s p c.see-word.result f.len f.ds f.marks x c.self.inside.ledger (g.D.Device.contents c.self.inside.device) (g.D.Device.honest c.self.inside.device) c.self.invariant c.size_of-size.result c.size_of-size.ensures c.room.result (c.room.ensures (own_part s) c.self.invariant.notes))) in
-    λ n h. c.retire-in_default-come_near.ensures.spent n (read n h)
+    let law = g.met.D.Device.read_follows _ _ _ _ c.in-Ok.ensures.called in
+    let read = subst (λ (d : g.row.D.Denot). Follows g.D.Device.contents g.D.Device.honest g.D.Device.faults g.D.Device.fails_at_most (other_than p) false d c.read.new.self) device
+    (follows_held g.D.Device.contents g.D.Device.honest g.D.Device.faults g.D.Device.fails_at_most (IsSome (g.D.Device.contents c.self.inside.device p)) (other_than p) false c.self.inside.device c.read.new.self
+    (is_held s0 s p c.see-word.result f.len f.ds f.marks x c.self.inside.ledger (g.D.Device.contents c.self.inside.device) (g.D.Device.honest c.self.inside.device) c.self.invariant c.size_of-size.result c.size_of-size.ensures c.room.result (c.room.ensures (own_part s) c.self.invariant.notes)) law) in
+    follows_on g.D.Device.contents g.D.Device.honest g.D.Device.faults g.D.Device.fails_at_most (other_than p) false _ _ _ read c.retire-in_default-come_near.ensures.follows
 
-pub returns-clause-spent : goal.returns-clause-spent
-returns-clause-spent g c =
+pub returns-clause-follows : goal.returns-clause-follows
+returns-clause-follows g c =
     let s0 = g.N.Near.view c.args.self.now.near in
     let s = g.N.Near.view c.self.inside.near in
     let p = c.args.pointer in
     let f = c.in-Far in
     let x : FarFound s0 s p c.see-word.result f.len f.ds f.marks = record { finds = c.see-word.ensures.found; fits = c.see-word.type_inv; far = c.known.ensures ∙ ap (λ v. Some v) f.is; same = ap (λ (b : BookOf g.row.N.Denot g.row.D.Denot). g.N.Near.view b.near) c.self.view_is ∙ c.see-word.ensures.kept; pointer = c.requires.pointer } in
     let device : c.self.inside.device ≡ c.args.self.now.device = ap (λ (b : BookOf g.row.N.Denot g.row.D.Denot). b.device) c.self.view_is ∙ c.see-word.ensures.device in
-    let read = subst (λ (d : g.row.D.Denot). SpendsFault false (g.D.Device.fails_at_most d) (g.D.Device.fails_at_most c.read.new.self)) device (c.in-Ok.ensures.spent (is_held s0 s p c.see-word.result f.len f.ds f.marks x c.self.inside.ledger (g.D.Device.contents c.self.inside.device) (g.D.Device.honest c.self.inside.device) c.self.invariant c.size_of-size.result c.size_of-size.ensures c.room.result (c.room.ensures (own_part s) c.self.invariant.notes))) in
-    λ n h. c.forget.ensures.spent n (read n h)
+    let law = g.met.D.Device.read_follows _ _ _ _ c.in-Ok.ensures.called in
+    let read = subst (λ (d : g.row.D.Denot). Follows g.D.Device.contents g.D.Device.honest g.D.Device.faults g.D.Device.fails_at_most (other_than p) false d c.read.new.self) device
+    (follows_held g.D.Device.contents g.D.Device.honest g.D.Device.faults g.D.Device.fails_at_most (IsSome (g.D.Device.contents c.self.inside.device p)) (other_than p) false c.self.inside.device c.read.new.self
+    (is_held s0 s p c.see-word.result f.len f.ds f.marks x c.self.inside.ledger (g.D.Device.contents c.self.inside.device) (g.D.Device.honest c.self.inside.device) c.self.invariant c.size_of-size.result c.size_of-size.ensures c.room.result (c.room.ensures (own_part s) c.self.invariant.notes)) law) in
+    follows_on g.D.Device.contents g.D.Device.honest g.D.Device.faults g.D.Device.fails_at_most (other_than p) false _ _ _ read (g.met.D.Device.forget_follows _ _ _ c.forget.ensures.called)
 
 pub returns-then-marks-clause-ran : goal.returns-then-marks-clause-ran
 returns-then-marks-clause-ran g c still =

@@ -26,8 +26,9 @@ invariant_of-self g c =
     let near : IsQuietIn s c.args.pointer c.args.len c.args.ds c.args.place = subst (λ (t : State). IsQuietIn t c.args.pointer c.args.len c.args.ds c.args.place) (sym same) c.requires.near in
     let object = quiet_object s c.self.invariant.notes.law c.args.pointer c.args.len c.args.ds c.args.place near pointer in
     let leaves = learned_leaves s t c.args.place (words_for c.args.len) c.read_object.ensures.kept object.bare c.read_object.ensures.learned in
+    let law = g.met.D.Device.write_follows _ _ _ _ _ c.write.ensures.called in
     sent_order s t c.self.inside.ledger (g.D.Device.contents c.self.inside.device) (g.D.Device.contents c.write.new.self) (g.D.Device.honest c.self.inside.device) (g.D.Device.honest c.write.new.self)
-    c.self.invariant leaves c.args.pointer c.args.len c.args.ds c.args.place near c.write.ensures.others c.write.ensures.honest
+    c.self.invariant leaves c.args.pointer c.args.len c.args.ds c.args.place near law.others law.honest
 
 pub returns-clause-kept : goal.returns-clause-kept
 returns-clause-kept g c =
