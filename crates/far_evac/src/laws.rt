@@ -42,8 +42,8 @@ pub fn walks_join()
 {}
 
 /// Over any hand, whatever is found in the cells: k dealings are with the first k live objects of the chosen logs, in their
-/// order, each is counted once, and after the last one each log was given back. A log that is counted as given back is free then, and has no bytes, live or
-/// dead.
+/// order, each is counted once, and the logs in front without a live object were given back, also before the first dealing; after the last one each log was. A log
+/// that is counted as given back is free then, and has no bytes, live or dead.
 pub fn dealing_is_in_order()
     ensures order { DealingIsInOrder }
     ensures emptied { LogsComeBackEmpty }
