@@ -32,6 +32,7 @@ in_order m k t ready walks =
       enough = h.enough;
       deals = deals_with m k t ready walks;
       counted = tallies_all m k t walks;
+      begins = h.rests.begins;
       done = λ e. begun_live t.moment.core t.moment.held h.rests.begins (h.rests.left ∙ ap (λ n. drop n (live_among m.core m.held)) e ∙ none_dropped (live_among m.core m.held));
       gives = gives_back m k t ready walks;
       ready = h.rests.ready;

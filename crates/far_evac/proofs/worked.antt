@@ -1,2 +1,3 @@
+pub mod AsCalled
 pub mod Largest
 pub mod Rows

@@ -52,11 +52,3 @@ pub record GivesBack (m t : Moment) (freed : ℕ) : Type 0 where
 abbrev pub BeginsLive : State → List ℕ → Type 0
 BeginsLive s [] = Unit {0}
 BeginsLive s (l ∷ ls) = is_empty (live_in s l) ≡ false
-
--- the first live objects of the logs held, so many, were dealt with, in their order
-pub record DealsInOrder (m t : Moment) (count : ℕ) (tally : Tally) : Type 0 where
-  pub enough : count ≤ length (live_among m.core m.held)
-  pub deals : DealsWith m t tally (take count (live_among m.core m.held))
-  pub sum : objects_in tally ≡ count
-  pub gives : GivesBack m t tally.freed
-  pub begins : BeginsLive t.core t.held

@@ -24,7 +24,7 @@ use Rattle.far_evac.specs.declared.answers.Polled.TheVariants.{Clear, StillOpen}
 use Rattle.far_evac.specs.declared.phase.Phase.TheVariants.{Idle, Waiting, Evacuating}
 use Rattle.far_evac.specs.AnyHand.{Polls, RunsRound, TurnsTo, WalksTo, Walks}
 use Rattle.far_evac.specs.Choosing.{after_aborting, after_selecting, is_spent}
-use Rattle.far_evac.specs.Dealings.{DealsWith, GivesBack, says}
+use Rattle.far_evac.specs.Dealings.{BeginsLive, DealsWith, GivesBack, says}
 use Rattle.far_evac.specs.Live.{is_empty, lacking, live_among, live_in}
 use Rattle.far_evac.specs.Marking.{after_marking, leaves_some, newly_marked, waiting_for}
 use Rattle.far_evac.specs.Moment.{Moment, Tally, objects_in, plus}
@@ -67,12 +67,13 @@ abbrev pub WalksJoin : Type 0
 WalksJoin = (m : Moment) (a b : ℕ) → walked m (a + b) ≡ with_before (walked m a).tally (walked (walked m a).moment b)
 
 -- k objects of a list that was made before were dealt with, in its order: the first k, for the others are left, and there were as many; each is
--- counted once, and where there are no more each log was given back
+-- counted once. The logs in front without live objects were given back, also before the first object, and where there are no more objects each log was
 pub record DealtInOrder (m : Moment) (k : ℕ) (t : Walked) : Type 0 where
   pub left : left t ≡ drop k (live_among m.core m.held)
   pub enough : k ≤ length (live_among m.core m.held)
   pub deals : DealsWith m t.moment t.tally (take k (live_among m.core m.held))
   pub counted : objects_in t.tally ≡ k
+  pub begins : BeginsLive t.moment.core t.moment.held
   pub done : k ≡ length (live_among m.core m.held) → is_done t ≡ true
   pub gives : GivesBack m t.moment t.tally.freed
   pub ready : Ready t.moment.core t.moment.held

@@ -1,12 +1,13 @@
 -- Turns, one after the other, and what bounds their sums.
-use Rattle.std.specs.Prelude.{◌≡◌, ◌≢◌, ℕ, ◌+◌, ◌*◌, ◌<◌, ◌≤◌, Bool, false, List, length}
+use Rattle.std.specs.Prelude.{◌≡◌, ◌≢◌, ℕ, ◌+◌, ◌*◌, ◌<◌, ◌≤◌, Bool, false, List, length, Result, Ok, Err}
 use Rattle.far_word.specs.declared.sizes.TheConstants.{LOG_WORDS, MOST_LOGS}
+use Rattle.far_evac.specs.declared.answers.EvacFault.{EvacFault}
 use Rattle.far_evac.specs.declared.answers.Progress.{Progress}
 use Rattle.far_evac.specs.declared.answers.RoundEnd.{RoundEnd}
 use Rattle.far_evac.specs.declared.phase.Phase.TheVariants.{Evacuating}
 use Rattle.far_evac.specs.AnyHand.{EndsRound, StopsAt, TurnsMade, sum_of}
 use Rattle.far_evac.specs.Live.{live_among}
-use Rattle.far_evac.specs.Moment.{Moment, Tally, nothing, objects_in, plus, progress_of}
+use Rattle.far_evac.specs.Moment.{Moment, Tally, nothing, objects_in, plus, progress_of, tally_of}
 use Rattle.far_evac.specs.MomentLaw.{IsLawful, is_idle}
 use Rattle.far_evac.specs.Turns.{Turned, turn_size}
 
@@ -33,10 +34,15 @@ pub record IsWithin (m : Moment) (total : Tally) : Type 0 where
   pub logs : total.freed + length m.held ≤ MOST_LOGS
   pub fresh : m.phase ≢ Evacuating → total ≡ nothing
 
--- a sum that is no more
+-- a call, or calls together, count no more than that, whoever else moves objects: so many lie in a heap's logs at most
 pub record IsBounded (total : Tally) : Type 0 where
   pub objects : objects_in total ≤ most_objects
   pub logs : total.freed ≤ MOST_LOGS
+
+-- what a call has counted, also one that was refused
+abbrev pub told_in : Result Progress EvacFault → Tally
+told_in (Ok progress) = tally_of progress
+told_in (Err fault) = tally_of fault.so_far
 
 -- after a turn the sum is no more, and where the round isn't over turns may go on
 pub record GoesOn (t : Moment) (total : Tally) (over : Bool) : Type 0 where

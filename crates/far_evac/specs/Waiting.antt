@@ -1,5 +1,5 @@
 -- Waiting: the owners' scopes are looked at in order, up to the first that is open from before the round.
-use Rattle.std.specs.Prelude.{◌≡◌, ℕ, ◌/◌, ◌<◌, Bool, false, not, ◌||◌, Option, Some, None, find}
+use Rattle.std.specs.Prelude.{◌≡◌, ℕ, ◌+◌, ◌*◌, ◌/◌, ◌<◌, Bool, false, not, ◌||◌, Option, Some, None, find}
 use Rattle.std.specs.List.{range_with_len}
 use Rattle.far_core.specs.state.State.{State}
 use Rattle.far_evac.specs.declared.answers.Polled.{Polled}
@@ -37,6 +37,11 @@ pub record StopsLooking (s t : State) (k epoch : ℕ) : Type 0 where
   pub owner : k < s.mutators
   pub unseen : s.clear k ≡ false
   pub older : epoch < s.round_epoch
+
+-- where an answer names an owner and an epoch, its scope word said so in a state that the words may be in
+abbrev pub SawOpen : (State → Type 0) → Polled → Type 0
+SawOpen may Clear = Unit {0}
+SawOpen may (StillOpen k epoch) = ∥ ((x : State) × may x × (x.scope k ≡ 2 * epoch + 1)) ∥₁
 
 abbrev pub Looked : State → Polled → State → Type 0
 Looked s Clear t = t ≡ with_clear_below s s.mutators

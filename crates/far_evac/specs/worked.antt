@@ -1,2 +1,3 @@
+pub mod AsCalled
 pub mod Calls
 pub mod Rows

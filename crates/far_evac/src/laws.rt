@@ -10,6 +10,7 @@ ghost use Rattle.far_evac.specs.Strays.{AbortingStraysNone, CallersStrayNone, Ca
 ghost use Rattle.far_evac.specs.TakesRoom.{CallTakesRoom, RoundTakesRoom, RoundTakesSome, TurnsTakeRoom, TurnsTakeSome, WalkTakesRoom};
 ghost use Rattle.far_evac.specs.WayLaws.{ObjectsGoTheirWay};
 ghost use Rattle.far_evac.specs.Laws.{CensusIsExact, ClearIsShown, ClearMeansUnviewed, ClearViewsNothing, DealingIsInOrder, ExactIsAllowed, GivingUpIsRight, LooksSeeClear, MarkingIsCounted, MarkingIsRight, PollIsAllowed, PollIsOnce, RisenIsReady, RoundIsAllowed, RoundIsEvent, TurnIsAllowed, WaitIsNamed, WaitingStays, WalkIsTour, WalksJoin};
+ghost use Rattle.far_evac.specs.worked.AsCalled.{AsCalled};
 ghost use Rattle.far_evac.specs.worked.Rows.{EmptiestIsFirst, EpochsAreNamed, FirstLiesFirst, GivenUp, HotWithoutRoom, LastEpoch, NothingToChoose, OldEpoch, OldView, OldestIsFirst, OpenScopeIsWaitedFor, OpenedAnew, OwnerIsFirst, PhasesAreKept, PlainRound, ReserveIsKept, StepByStep, TurnsRunOut};
 
 /// The exact walk, over words that nobody else changes, is one of those that are allowed over any hand.
@@ -42,8 +43,8 @@ pub fn walks_join()
 {}
 
 /// Over any hand, whatever is found in the cells: k dealings are with the first k live objects of the chosen logs, in their
-/// order, each is counted once, and after the last one each log was given back. A log that is counted as given back is free then, and has no bytes, live or
-/// dead.
+/// order, each is counted once, and the logs in front without a live object were given back, also before the first dealing; after the last one each log was. A log
+/// that is counted as given back is free then, and has no bytes, live or dead.
 pub fn dealing_is_in_order()
     ensures order { DealingIsInOrder }
     ensures emptied { LogsComeBackEmpty }
@@ -211,8 +212,10 @@ pub fn none_strays()
     ensures events { EventsBringNone }
 {}
 
-/// Worked examples: whole lists of calls on a heap that nobody else steps, and what they answer.
+/// Worked examples: whole lists of calls on a heap that nobody else steps, and what they answer. The calls of these lists begin a round, and are refused, as the
+/// contracts of the calls themselves say.
 pub fn rounds_are_so()
+    ensures as_called { AsCalled }
     ensures reserve_is_kept { ReserveIsKept }
     ensures plain_round { PlainRound }
     ensures open_scope_is_waited_for { OpenScopeIsWaitedFor }

@@ -89,33 +89,33 @@ fetched_at m p None = (m, Refused NoRoom)
 fetched_at m p (Some place) = (with_placed m place (fetched m.core p place (m.core.stored p)), At place)
 
 -- in this phase alone
-abbrev only_in : Bool → Moment → Moment × Answer → Moment × Answer
+abbrev pub only_in : Bool → Moment → Moment × Answer → Moment × Answer
 only_in true m turn = turn
 only_in false m turn = (m, Refused WrongPhase)
 
-abbrev is_marking : Phase → Bool
+abbrev pub is_marking : Phase → Bool
 is_marking Idle = false
 is_marking Marking = true
 is_marking Waiting = false
 is_marking Evacuating = false
 
-abbrev is_waiting : Phase → Bool
+abbrev pub is_waiting : Phase → Bool
 is_waiting Idle = false
 is_waiting Marking = false
 is_waiting Waiting = true
 is_waiting Evacuating = false
 
-abbrev is_evacuating : Phase → Bool
+abbrev pub is_evacuating : Phase → Bool
 is_evacuating Idle = false
 is_evacuating Marking = false
 is_evacuating Waiting = false
 is_evacuating Evacuating = true
 
 -- a choice of logs may be made
-abbrev choosing : Moment → Moment × Answer → Moment × Answer
+abbrev pub choosing : Moment → Moment × Answer → Moment × Answer
 choosing m turn = only_in (is_idle m.phase) m (cond (is_spent m.core) (m, Refused EpochsSpent) turn)
 
-abbrev round_of : Moment → ℕ → List ℕ → Moment × Answer
+abbrev pub round_of : Moment → ℕ → List ℕ → Moment × Answer
 round_of m turns [] = (m, Ends Nothing)
 round_of m turns (l ∷ ls) = let r = turns_made (after_selecting m (l ∷ ls)) turns in (r.moment, Ends (round_end r))
 

@@ -21,6 +21,8 @@ ghost use Rattle.far_evac.specs.Failing.{fails};
 ghost use Rattle.far_evac.specs.Leaving.{AsksAs, GoesAway, LeavesAs, LeavesBy, counted_as, goes_near, near_fate, standing};
 ghost use Rattle.far_evac.specs.Live.{is_empty, live_in};
 ghost use Rattle.far_evac.specs.Moment.{nothing, objects_in, progress_of, tally_of};
+ghost use Rattle.far_evac.specs.MomentLaw.{is_idle};
+ghost use Rattle.far_evac.specs.Turning.{IsBounded, told_in};
 ghost use Rattle.far_evac.specs.Walk.{Walked, dealt_as, ended, is_done, left, settled, walked, way_of};
 ghost use Rattle.far_evac.specs.declared.evac.evacuating.Fate.TheVariants as fates;
 ghost use Rattle.far_evac.specs.declared.phase.Phase.TheVariants as phase;
@@ -57,6 +59,9 @@ impl<N: Near + Drop, D: Device + Drop> Evac<N, D> {
         ensures exact { N.still → IfOk result (λ progress. (moment N.view self.new ≡ ended (walked (moment N.view self.old) n))
             × (progress ≡ progress_of (walked (moment N.view self.old) n).tally (is_done (walked (moment N.view self.old) n)))) }
         ensures evacuating { IfOk result (λ _. self.old.phase ≡ phase.Evacuating) }
+        ensures goes_on { IfOk result (λ progress. is_idle self.new.phase ≡ progress.done) }
+        ensures stays { IfErr result (λ _. self.new.phase ≡ self.old.phase) }
+        ensures bounded { IsBounded (told_in result) }
         ensures barred { self.old.phase ≢ phase.Evacuating → IfErr result (λ fault. (fault.why ≡ WrongPhase) × (fault.so_far ≡ progress_of nothing false) × (self.new ≡ self.old)) }
         ensures stops { self.old.phase ≡ phase.Evacuating → IfErr result (λ fault. StopsAt (moment N.view self.old) n (moment N.view self.new) (tally_of fault.so_far)) }
         ensures stops_exact { N.still → self.old.phase ≡ phase.Evacuating → IfErr result (λ fault. (k : ℕ) × (k < n)
@@ -106,6 +111,9 @@ impl<N: Near + Drop, D: Device + Drop> Evac<N, D> {
             × (moment N.view self.new ≡ (walked (moment N.view self.old) k).moment) × (tally_of progress.new ≡ (walked (moment N.view self.old) k).tally)) }
         ensures why { IfErr result (λ why. (why ≡ Memory) ⊎ (why ≡ Failed)) }
         ensures done { progress.new.done ≡ false }
+        ensures goes_on { IfOk result (λ done. is_idle self.new.phase ≡ done) }
+        ensures stays { IfErr result (λ _. self.new.phase ≡ self.old.phase) }
+        ensures bounded { IsBounded (tally_of progress.new) }
         ensures asked { IfOk result (λ _. WalksAsking D D.writes D.lets_go (moment N.view self.old) (objects_in (tally_of progress.new)) (standing N.view self.new progress.new) self.old.book.device self.new.book.device) }
         ensures refused { IfErr result (λ why. IsRefusedWrite D D.writes D.lets_go (moment N.view self.old) (moment N.view self.new) (tally_of progress.new) why self.old.book.device self.new.book.device) }
         ensures keys { IfOk result (λ _. KeepsKeys (first_live (moment N.view self.old) (objects_in (tally_of progress.new))) (D.contents self.old.book.device) (D.contents self.new.book.device)) }

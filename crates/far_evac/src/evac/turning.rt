@@ -15,7 +15,7 @@ ghost use Rattle.far_evac.specs.Moment.{Tally, nothing, plus, progress_of, tally
 ghost use Rattle.far_evac.specs.MomentLaw.{IsLawful, is_idle, is_waiting};
 ghost use Rattle.far_evac.specs.Refusals.{unselectable};
 ghost use Rattle.far_evac.specs.RoundAsked.{EndsAsking, RoundAsking, StopsAsking};
-ghost use Rattle.far_evac.specs.Turning.{EndsTurns, GoesOn, IsBounded, IsWithin, StopsTurns, turned_at};
+ghost use Rattle.far_evac.specs.Turning.{EndsTurns, GoesOn, IsBounded, IsWithin, StopsTurns, told_in, turned_at};
 ghost use Rattle.far_evac.specs.Turns.{Halts, HaltsTurns, IsRound, begun_turns, round_end, turn_size, turned, turns_made};
 ghost use Rattle.far_evac.specs.declared.phase.Phase.TheVariants as phase;
 
@@ -38,6 +38,9 @@ impl<N: Near + Drop, D: Device + Drop> Evac<N, D> {
         ensures turns { IfOk result (λ progress. TurnsTo (moment N.view self.old) self.old.phase (tally_of progress) progress.done (moment N.view self.new)) }
         ensures exact { N.still → IfOk result (λ progress. turned (begun_turns (moment N.view self.old)) self.old.phase ≡ record { moment = moment N.view self.new; tally = tally_of progress; over = progress.done }) }
         ensures running { IfOk result (λ _. self.old.phase ≢ phase.Idle) }
+        ensures goes_on { IfOk result (λ progress. is_idle self.new.phase ≡ progress.done) }
+        ensures stays { IfErr result (λ _. self.new.phase ≡ self.old.phase) }
+        ensures bounded { IsBounded (told_in result) }
         ensures barred { self.old.phase ≡ phase.Idle → IfErr result (λ fault. (fault.why ≡ WrongPhase) × (fault.so_far ≡ progress_of nothing false) × (self.new ≡ self.old)) }
         ensures stops { self.old.phase ≢ phase.Idle → IfErr result (λ fault. (self.old.phase ≡ phase.Evacuating) × StopsAt (moment N.view self.old) turn_size (moment N.view self.new) (tally_of fault.so_far)) }
         ensures halts { N.still → self.old.phase ≢ phase.Idle → IfErr result (λ fault. (tally : Tally) × Halts (moment N.view self.old) turn_size (moment N.view self.new) tally × (fault.so_far ≡ progress_of tally false)) }

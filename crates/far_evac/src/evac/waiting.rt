@@ -1,6 +1,6 @@
 //! How a round waits until every older scope is closed.
 
-ghost use Rattle.std.specs.Prelude.{◌≡◌, ◌≢◌, ◌<◌, ◌≤◌, ◌/◌, ℕ, true, false, IfOk, IfErr, IfSome, IfNone, IsSome};
+ghost use Rattle.std.specs.Prelude.{◌≡◌, ◌≢◌, ◌+◌, ◌*◌, ◌<◌, ◌≤◌, ◌/◌, ℕ, true, false, IfOk, IfErr, IfSome, IfNone, IsSome};
 ghost use Rattle.far_word.specs.declared.refused.Refused.TheVariants.{Phase as WrongPhase};
 ghost use Rattle.far_word.specs.Scope.{scope_of};
 ghost use Rattle.far_core.specs.events.Look.{shows_clear};
@@ -9,7 +9,7 @@ ghost use Rattle.far_hand.specs.MayBe.{NoneViews};
 ghost use Rattle.far_evac.specs.AnyHand.{Polls};
 ghost use Rattle.far_evac.specs.EvacOf.{moment};
 ghost use Rattle.far_evac.specs.RoundSteps.{among};
-ghost use Rattle.far_evac.specs.Waiting.{Looked, after_polling, polled};
+ghost use Rattle.far_evac.specs.Waiting.{Looked, SawOpen, after_polling, polled};
 ghost use Rattle.far_evac.specs.declared.answers.Polled.TheVariants.{Clear};
 ghost use Rattle.far_evac.specs.declared.phase.Phase.TheVariants as phase;
 
@@ -23,13 +23,14 @@ use far_word::{Refused, ScopeWord};
 impl<N: Near + Drop, D: Device + Drop> Evac<N, D> {
     /// Looks at the scopes of the owners that weren't seen clear in this round, in order: one that is closed, or open since the epoch
     /// rose, is clear from then on. [`Polled::Clear`] where all are: nobody views anything in the chosen logs then, in whatever state the words may be beside the
-    /// hand, and the objects may leave. Else the first other.
+    /// hand, and the objects may leave. Else the first other, with the epoch at which its scope was seen open.
     ///
     /// Refused [`Refused::Phase`] exactly where the round isn't waiting; nothing has changed then. It never blocks.
     pub fn poll_wait(&mut self) -> Result<Polled, Refused>
         ensures polls { IfOk result (λ answer. Polls (moment N.view self.old) (moment N.view self.new) answer) }
         ensures exact { N.still → IfOk result (λ answer. (moment N.view self.new ≡ after_polling (moment N.view self.old)) × (answer ≡ polled (N.view self.old.book.near))) }
         ensures unviewed { IfOk result (λ answer. answer ≡ Clear → (x : State) → N.may_be self.new.book.near x → NoneViews (among self.new.held) x) }
+        ensures saw { IfOk result (SawOpen (N.may_be self.new.book.near)) }
         ensures device { self.new.book.device ≡ self.old.book.device }
         ensures waiting { IfOk result (λ _. self.old.phase ≡ phase.Waiting) }
         ensures refused { IfErr result (λ why. (why ≡ WrongPhase) × (self.old.phase ≢ phase.Waiting)) }
@@ -59,6 +60,7 @@ fn look_from<N: Near + Drop, D: Device + Drop>(book: &mut Book<N, D>, from: u8) 
     requires unseen { (k : ℕ) → from ≤ k → (N.view book.old.near).clear k ≡ false }
     ensures looked { Looked (N.view book.old.near) result (N.view book.new.near) }
     ensures exact { N.still → result ≡ polled (N.view book.old.near) }
+    ensures saw { SawOpen (N.may_be book.new.near) result }
     ensures order { book.new.order ≡ book.old.order }
     ensures device { book.new.device ≡ book.old.device }
 {
@@ -77,6 +79,7 @@ fn look_from<N: Near + Drop, D: Device + Drop>(book: &mut Book<N, D>, from: u8) 
 fn open_before(word: u64, round: u64) -> Option<u64>
     requires layout { IsSome (scope_of word) }
     ensures open { IfSome result (λ epoch. (epoch ≡ word / 2) × (epoch < round) × (shows_clear round (scope_of word) ≡ false)) }
+    ensures odd { IfSome result (λ epoch. word ≡ 2 * epoch + 1) }
     ensures clear { IfNone result (shows_clear round (scope_of word) ≡ true) }
 {
     match ScopeWord::read(word)? {

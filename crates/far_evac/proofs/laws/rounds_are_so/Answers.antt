@@ -1,4 +1,5 @@
 use Rattle.far_evac.proofs.laws.rounds_are_so.Goals as goal
+use Rattle.far_evac.proofs.worked.AsCalled.{as_called}
 use Rattle.far_evac.proofs.worked.Rows.{emptiest_is_first, epochs_are_named, first_lies_first, given_up, hot_without_room, last_epoch, nothing_to_choose, old_epoch, old_view, oldest_is_first, open_scope_is_waited_for, opened_anew, owner_is_first, plain_round, reserve_is_kept, step_by_step, turns_run_out, phases_are_kept}
 
 pub returns-clause-reserve_is_kept : goal.returns-clause-reserve_is_kept
@@ -54,3 +55,6 @@ returns-clause-epochs_are_named c = epochs_are_named
 
 pub returns-clause-emptiest_is_first : goal.returns-clause-emptiest_is_first
 returns-clause-emptiest_is_first c = emptiest_is_first
+
+pub returns-clause-as_called : goal.returns-clause-as_called
+returns-clause-as_called c = as_called

@@ -11,8 +11,10 @@ use Rattle.far_evac.specs.Leaving.{standing}
 use Rattle.far_evac.specs.Live.{is_empty}
 use Rattle.far_evac.specs.Moment.{objects_in, tally_of}
 use Rattle.far_evac.specs.MomentLaw.{has_risen}
+use Rattle.far_evac.specs.Turning.{IsBounded}
 use Rattle.far_evac.specs.Walk.{left}
 use Rattle.far_evac.proofs.Asking.{asks_more, keys_more}
+use Rattle.far_evac.proofs.Bounds.{walk_counts}
 use Rattle.far_evac.proofs.Evacuations.{exact_over, one_exact, one_more}
 use Rattle.far_evac.proofs.Readiness.{risen_is_ready}
 use Rattle.far_evac.proofs.Tallies.{tallies_all}
@@ -123,3 +125,16 @@ returns-in-Err-clause-keys_then g c =
     let held = g.D.Device.contents in
     subst (λ n. KeepsKeys (first_live m (n + 1)) (held c.args.self.now.book.device) (held c.deal.new.self.book.device)) (sym count)
     (keys_more m c.loop.counter w c.in-Some.span.p some.0 (held c.args.self.now.book.device) (held c.loop.self.book.device) (held c.deal.new.self.book.device) ready before.walks some.1 before.keys c.in-Err.ensures.others)
+
+pub returns-in_default-clause-bounded : goal.returns-in_default-clause-bounded
+returns-in_default-clause-bounded g c =
+    walk_counts (moment g.N.Near.view c.args.self.now) c.keeps_law.ensures.law c.keeps_law.ensures.moment c.requires.phase c.loop.counter (standing g.N.Near.view c.loop.self c.loop.progress) c.loop.invariant.walks
+
+pub returns-clause-bounded : goal.returns-clause-bounded
+returns-clause-bounded g c =
+    walk_counts (moment g.N.Near.view c.args.self.now) c.keeps_law.ensures.law c.keeps_law.ensures.moment c.requires.phase c.loop.counter (standing g.N.Near.view c.loop.self c.loop.progress) c.loop.invariant.walks
+
+pub returns-in-Err-clause-bounded : goal.returns-in-Err-clause-bounded
+returns-in-Err-clause-bounded g c =
+    subst (λ (q : Progress). IsBounded (tally_of q)) (sym c.in-Err.ensures.uncounted)
+    (walk_counts (moment g.N.Near.view c.args.self.now) c.keeps_law.ensures.law c.keeps_law.ensures.moment c.requires.phase c.loop.counter (standing g.N.Near.view c.loop.self c.loop.progress) c.loop.invariant.walks)

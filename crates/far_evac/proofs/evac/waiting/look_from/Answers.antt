@@ -1,5 +1,5 @@
 use Rattle.far_evac.proofs.evac.waiting.look_from.Goals as goal
-use Rattle.std.proofs.Common.{◌≡◌, ◌∙◌, ap, sym, arith}
+use Rattle.std.proofs.Common.{◌≡◌, ◌∙◌, ap, sym, arith, subst}
 use Rattle.far_word.specs.Scope.{scope_of}
 use Rattle.far_core.specs.declared.shape.Shape.{Shape}
 use Rattle.far_core.specs.events.Look.{shows_clear}
@@ -38,3 +38,7 @@ returns-clause-exact g c still =
     let s = g.N.Near.view c.args.book.now.near in
     let most : c.shape-shape.result.mutators ≡ s.mutators = ap (λ (shape : Shape). shape.mutators) c.shape-shape.ensures.is in
     found_clear s c.loop-owner.owner (omega (arith, most, c.loop-owner-test.false)) (c.loop-owner.invariant.exact still)
+
+pub returns-in-Some-clause-saw : goal.returns-in-Some-clause-saw
+returns-in-Some-clause-saw g c =
+    subst (λ w. ∥ ((x : State) × g.N.Near.may_be c.look-word.new.self.near x × (x.scope c.loop-owner.owner ≡ w)) ∥₁) c.in-Some.ensures.odd c.look-word.ensures.saw
