@@ -38,6 +38,8 @@ use Rattle.far_replay.specs.Rounds.{after_round, chosen_by, given_by, is_evacuat
 use Rattle.far_replay_laws.specs.Steps.{IsChosen, IsRetired, IsSentFar, LiesIn, Takes}
 use Rattle.far_replay.specs.Turn.{refusal, unless, turn_effect, turn_reply, refused_effect}
 use Rattle.far_evac.proofs.Fronts.{kept_in}
+use Rattle.far_evac.proofs.Leading.{selecting}
+use Rattle.far_replay_laws.proofs.GivenFree.{GivenFree, ended_free, round_free}
 use Rattle.far_replay_laws.proofs.CountedOnce.{all_at, among_in, filtered, in_among, member_or_apart}
 use Rattle.far_replay_laws.proofs.LeftByWalks.{marked_frame, marking_frame}
 use Rattle.far_replay.proofs.LogBytes.{celled_takes, names_bare, none_taken, worded_takes}
@@ -205,22 +207,26 @@ module _ (m t : Moment) (objects : List ℕ) (h : Taken m t objects) (law : Law 
   left : (l : ℕ) → among t.held l ≡ true → RoomLeft m.core t.core l
   left l is = let x = h.left l is in record { left = bytes_in m.core l objects; bytes = leaves l; live = x.live; dead = x.dead; unused = x.unused }
 
-  back : (l : ℕ) → among m.held l ≡ true → among t.held l ≡ false → RoomBack m.core t.core l
-  back l held off = let x = h.back l held off in record {
+  back : GivenFree m.held t.core t.held → (l : ℕ) → among m.held l ≡ true → among t.held l ≡ false → RoomBack m.core t.core l
+  back free l held off = let x = h.back l held off in record {
     came = bytes_in t.core l objects;
     bytes = comes l;
     left = subst (TakeBytes m.core (Leaves m.core t.core l)) (sym x.left) (leaves l);
     live = x.live;
     dead = x.dead;
     unused = x.unused;
+    free = λ none. elim (free l held off) [
+      | inl is ↦ is
+      | inr some ↦ (let unused = x.unused in absurd (omega (arith, none, some, unused)))
+    ];
   }
 
-  pub moves_take : (Held : ℕ → Type 0) → ((l : ℕ) → Held l → among m.held l ≡ true) → ((l : ℕ) → ¬ Held l → among m.held l ≡ false) →
+  pub moves_take : GivenFree m.held t.core t.held → (Held : ℕ → Type 0) → ((l : ℕ) → Held l → among m.held l ≡ true) → ((l : ℕ) → ¬ Held l → among m.held l ≡ false) →
       ((l : ℕ) → IsChosen t l → among t.held l ≡ true) → ((l : ℕ) → ¬ IsChosen t l → among t.held l ≡ false) → MovesTake m Held t
-  moves_take Held on off chosen none = record {
+  moves_take free Held on off chosen none = record {
     aside = λ l is. aside l (off l is);
     left = λ l held is. left l (chosen l is);
-    back = λ l held is. back l (on l held) (none l is);
+    back = λ l held is. back free l (on l held) (none l is);
     all = record { gone = bytes_gone m.core t.core objects; bytes = goes; live = h.total };
   }
 
@@ -249,7 +255,7 @@ module _ (now : Moment) (law : Law now.core) (moment : MomentLaw now) where
       let t = ended (walked now count) in
       let walk = walk_is now count in
       let taken = (call_takes_room now t count (walked now count).tally (is_done (walked now count)) (own_law now.core law) moment).0 phase (walk.0, walked now count, walk.1, refl, refl, refl) in
-      moves_take now t taken.0 taken.1 leads.law (IsChosen now) (chosen_held now) (not_chosen now moment) (chosen_held t) (not_chosen t leads.moment)
+      moves_take now t taken.0 taken.1 leads.law (ended_free now law moment phase count) (IsChosen now) (chosen_held now) (not_chosen now moment) (chosen_held t) (not_chosen t leads.moment)
 
   begun_core : (logs : List ℕ) (Held : ℕ → Type 0) (t : Moment) → MovesTake (after_selecting now logs) Held t → MovesTake now Held t
   begun_core [] Held t h = h
@@ -267,12 +273,13 @@ module _ (now : Moment) (law : Law now.core) (moment : MomentLaw now) where
       let logs = chosen_by policy (rows_in now) most in
       let chosen = policy_chooses now policy most moment in
       let t = after_round now logs turns in
+      let begun = selecting now logs law moment may.0.idle may.0.left chosen.once chosen.of_order in
       let taken = round_takes_room now logs turns (round_told now logs turns) t law moment may.0.idle may.0.left chosen.once chosen.of_order (is_round now logs turns) in
       let held = begun_held logs may.0.idle in (
         logs,
         policy_takes now law moment policy most,
         begun_core logs (Contains logs) t
-            (moves_take (after_selecting now logs) t taken.0 taken.1 leads.law (Contains logs) (λ l c. held l ∙ in_among l logs c) (λ l off. held l ∙ not_named logs l off) (chosen_held t) (not_chosen t leads.moment)),
+            (moves_take (after_selecting now logs) t taken.0 taken.1 leads.law (round_free now law logs turns begun.moment) (Contains logs) (λ l c. held l ∙ in_among l logs c) (λ l off. held l ∙ not_named logs l off) (chosen_held t) (not_chosen t leads.moment)),
       )
 
 -- what is owed of those that deal with objects

@@ -1,8 +1,8 @@
 -- What a step of the evacuator tells is so.
 use Rattle.std.proofs.Common.{◌≡◌, ◌≢◌, ℕ, zero, suc, ◌+◌, ◌*◌, ◌/◌, ◌%◌, ◌^◌, ◌<◌, ◌≤◌, ◌==◌, ◌&&◌, ◌||◌, Bool, true, false, not, cond, nat_lt, nat_le, Option, Some, None, List, [], ◌∷◌, length, take, drop, length-drop, Ok, ap, sym, refl, ◌∙◌, subst, arith, inl, inr, if◌then◌else◌}
-use Rattle.std.specs.Prelude.{◌↔◌, bit_or, Contains, IsSome}
-use Rattle.std.specs.List.{AllByRecursion}
-use Rattle.std.proofs.lemmas.Bool.{cond_both, eq-eqb, eqb-true, false≢true, true≢false, not-true}
+use Rattle.std.specs.Prelude.{◌↔◌, bit_or, Contains, IsSome, find}
+use Rattle.std.specs.List.{AllByRecursion, range_with_len}
+use Rattle.std.proofs.lemmas.Bool.{cases_lt, cond_both, eq-eqb, eqb-true, false≢true, true≢false, not-true}
 use Rattle.std.proofs.lemmas.Bool.Decides.{nat_tests}
 use Rattle.std.proofs.lemmas.List.{length-take, length-take-le}
 use Rattle.std.proofs.lemmas.List.Elements.{Contains-append_cases, Contains-append_left, Contains-append_right}
@@ -41,6 +41,7 @@ use Rattle.far_evac.specs.Choosing.{after_aborting, after_selecting}
 use Rattle.far_evac.specs.Dealings.{HasLeft, is_away, is_nowhere, says}
 use Rattle.far_evac.specs.Laws.{DealtInOrder, IsGivenUp, but_evac}
 use Rattle.far_evac.specs.Live.{is_empty, lacking, live_among, live_in}
+use Rattle.far_evac.specs.LiveLaws.{ComesFirst}
 use Rattle.far_evac.specs.Marking.{after_marking, leaves_some, marked_core, newly_marked}
 use Rattle.far_evac.specs.Moment.{Moment, progress_of}
 use Rattle.far_evac.specs.MomentLaw.{MomentLaw, has_risen, is_idle}
@@ -50,11 +51,13 @@ use Rattle.far_evac.specs.Walk.{Walked, begun, dealt_first, dealt_so, ended, is_
 use Rattle.far_evac.specs.declared.answers.Polled.TheVariants as polls
 use Rattle.far_evac.specs.declared.census.LogKind.TheVariants.{Chosen}
 use Rattle.far_evac.specs.declared.phase.Phase.TheVariants.{Idle, Marking, Waiting, Evacuating}
+use Rattle.far_evac.proofs.Fronts.{kept_in}
 use Rattle.far_evac.proofs.InOrder.{in_order}
 use Rattle.far_evac.proofs.Lacking.{Once, in_live, once_among}
 use Rattle.far_evac.proofs.LeadingMarks.{marking, marks_cells}
 use Rattle.far_evac.proofs.LeadingWalks.{walking_law}
 use Rattle.far_evac.proofs.LiveOnce.{LivesIn, live_named, near_at}
+use Rattle.far_evac.proofs.LiveOrder.{live_in_order}
 use Rattle.far_evac.proofs.Marks.{is_given_up, is_marked, mark_sets, others_stay}
 use Rattle.far_evac.proofs.Readiness.{risen_is_ready}
 use Rattle.far_evac.proofs.Rounds.{found_in, passed_phase, so_phase}
@@ -64,8 +67,8 @@ use Rattle.far_text.specs.Command.{By, Choice, LeastLive, Mark, Oldest, Policy, 
 use Rattle.far_replay_laws.specs.HowMany.{IsHowMany}
 use Rattle.far_replay.specs.Reply.{Marked, Selected}
 use Rattle.far_replay.specs.Rounds.{chosen_by, given_by, rows_in}
-use Rattle.far_replay_laws.specs.Steps.{GainsEvac, HoldsUp, IsChosen, IsGivenBack, IsMoved, IsNear, IsRetired, IsSentFar, LiesIn, NobodyHoldsUp, ReachesEpoch, ShowsEvac, Takes, TellsChoice, TellsEnd, TellsLeaving, TellsMarks, phase_after}
-use Rattle.far_replay_laws.proofs.CountedOnce.{all_at, among_in, beyond, filtered, front_or_rest, how_many_in, how_many_of, in_among, in_front, member_or_apart, once_filter, once_take}
+use Rattle.far_replay_laws.specs.Steps.{GainsEvac, HoldsUp, IsChosen, IsGivenBack, IsMoved, IsNear, IsRetired, IsSentFar, LiesAt, LiesIn, NobodyHoldsUp, ReachesEpoch, ShowsEvac, StandsFirst, Takes, TellsChoice, TellsEnd, TellsLeaving, TellsMarks, phase_after}
+use Rattle.far_replay_laws.proofs.CountedOnce.{all_at, among_in, beyond, filtered, front_or_rest, how_many_in, how_many_of, in_among, in_front, member_or_apart, once_filter, once_take, turn_filter, turn_split}
 use Rattle.far_replay.proofs.RoundChoices.{rows_are}
 
 -- ---- cells
@@ -350,6 +353,27 @@ module _ (now : Moment) (count : ℕ) (law : Law now.core) (moment : MomentLaw n
     | inr apart ↦ absurd (true≢false (sym with ∙ sym (ap has_evac later) ∙ ap (λ w. has_evac (read_of w)) ((is_marked now count fits).others p apart) ∙ ap has_evac near ∙ without))
   ]
 
+  -- those that gained it stand before all that lack it then
+  in_turn : (p q : ℕ) (at to : Place) → GainsEvac now.core next p → LiesAt next p at true → LiesAt next q to false → IsChosen now to.log → StandsFirst now.held at to
+  in_turn p q at to gains (n, d, m, here, _) (len, ds, marks, there, bare) chosen =
+      let (l, k, place, was, near, _) = gains.0 in
+      let all : List ℕ = live_among now.core now.held in
+      let apart : AllByRecursion (λ x. x ≢ q) new = elim (member_or_apart q new) [
+        | inl c ↦ absurd (true≢false (sym (all_at (λ x. has_evac (read_of (next.cell x)) ≡ true) q new (is_marked now count fits).now c) ∙ ap has_evac there ∙ bare))
+        | inr none ↦ none
+      ] in
+      let before : read_of (now.core.cell q) ≡ Some (Near len ds to marks) = ap read_of (sym ((is_marked now count fits).others q apart)) ∙ there in
+      let lives = in_logs now.core (own_law now.core law) q len ds to marks before now.held (among_in to.log now.held (held_by (among now.held to.log) (now.core.kind to.log) chosen)) in
+      let lacks : lacks_it q ≡ true = ap (λ o. not (has_evac o)) before ∙ ap not bare in
+      let rest : Contains (drop count (lacking now.core now.held)) q = elim (front_or_rest count q (lacking now.core now.held) (kept_in lacks_it q all lacks lives)) [
+        | inl c ↦ absurd (all_at (λ x. x ≢ q) q new apart c refl)
+        | inr c ↦ c
+      ] in
+      let order = turn_filter (ComesFirst now.core now.held) lacks_it all (live_in_order now.core now.held (own_law now.core law) moment.held_once).order in
+      let same : at ≡ place = ap (place_or at) (sym (ap but_evac here) ∙ (is_marked now count fits).same p ∙ ap but_evac near) in
+      subst (λ (x : Place). StandsFirst now.held x to) (sym same)
+      (turn_split (ComesFirst now.core now.held) count (lacking now.core now.held) p q order (gained_new p gains) rest l k len ds place to was marks near before)
+
   -- where more lack it than are marked, one is left
   some_left : count < length (lacking now.core now.held) → (p l : ℕ) × IsChosen now l × LiesIn (marked_core now count) p l × ShowsEvac (marked_core now count) p false
   some_left lt =
@@ -388,6 +412,7 @@ module _ (now : Moment) (count : ℕ) (law : Law now.core) (moment : MomentLaw n
   tells_marks = record {
     gained = how_many_in (GainsEvac now.core next) new new_once gained_by gained_new;
     most = omega (arith, length-take count (lacking now.core now.held));
+    order = in_turn;
     epoch = risen (leaves_some now count) refl;
   }
 
@@ -419,6 +444,16 @@ up_when false scope epoch h = (refl, (λ e. grind (arith, nat_tests, h, e)), gri
 nobody : (s : State) → first_open s ≡ None → NobodyHoldsUp s
 nobody s e m epoch known unseen is = late_when (s.clear m) (s.scope m) epoch s.round_epoch (none_found (holds_up s) m 0 s.mutators e (omega arith) (omega (arith, known))) unseen is
 
+-- none before the first that is found
+sooner : (test : ℕ → Bool) (k a n : ℕ) → find test (range_with_len a n) ≡ Some k → (j : ℕ) → a ≤ j → j < k → test j ≡ false
+sooner test k a zero = λ e. absurd cc
+sooner test k a (suc n) = cond_both (test a) (Some a) (find test (range_with_len (a + 1) n)) (λ (o : Option ℕ). o ≡ Some k → (j : ℕ) → a ≤ j → j < k → test j ≡ false)
+    (λ _ e j from to. let same : a ≡ k = cc in let odd : ⊥ = omega (arith, from, to, same) in absurd odd)
+    (λ none e j from to. elim (cases_lt a j) [
+      | inl past ↦ sooner test k (a + 1) n e j (omega (arith, past)) to
+      | inr le ↦ let same : j ≡ a = omega (arith, from, le) in ap test same ∙ none
+    ])
+
 somebody : (s : State) → Law s → (o : Option ℕ) → first_open s ≡ o → (m epoch : ℕ) → polled_at s o ≡ polls.StillOpen m epoch → HoldsUp s m epoch
 somebody s law None is m epoch e = absurd cc
 somebody s law (Some k) is m epoch e =
@@ -428,7 +463,13 @@ somebody s law (Some k) is m epoch e =
     let up = up_when (s.clear k) (s.scope k) s.round_epoch found.0 in
     let odd = odd_of (s.scope k) up.1 (law.scopes.scope_read k) in
     subst (λ j. HoldsUp s j epoch) mutator
-    record { known = omega (arith, found.1); unseen = up.0; open_at = odd ∙ ap (λ n. 2 * n + 1) at; older = subst (λ n. n < s.round_epoch) at up.2 }
+    record {
+      known = omega (arith, found.1);
+      unseen = up.0;
+      open_at = odd ∙ ap (λ n. 2 * n + 1) at;
+      older = subst (λ n. n < s.round_epoch) at up.2;
+      first = λ j from lt unseen opened. late_when (s.clear j) (s.scope j) from s.round_epoch (sooner (holds_up s) k 0 s.mutators is j (omega arith) lt) unseen opened;
+    }
 
 pub tells_clear : (s : State) → polled s ≡ polls.Clear → NobodyHoldsUp s
 tells_clear s e = by_first (first_open s) refl e where
