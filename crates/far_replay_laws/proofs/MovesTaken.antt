@@ -12,7 +12,6 @@ use Rattle.far_word.specs.declared.refused.Refused.TheVariants.{Phase as WrongPh
 use Rattle.far_word.specs.Pointer.{read_of}
 use Rattle.far_core.specs.events.Clear.{is_near}
 use Rattle.far_core.specs.state.Law.{Law}
-use Rattle.far_core.specs.state.Spans.{names_place}
 use Rattle.far_core.specs.state.State.{State}
 use Rattle.far_book.proofs.region.Owns.{own_law}
 use Rattle.far_evac.specs.Choosing.{after_aborting, after_selecting}
@@ -45,7 +44,7 @@ use Rattle.far_replay_laws.proofs.LeftByWalks.{marked_frame, marking_frame}
 use Rattle.far_replay.proofs.LogBytes.{celled_takes, names_bare, none_taken, worded_takes}
 use Rattle.far_replay.proofs.RoundChoices.{policy_chooses}
 use Rattle.far_replay.proofs.RoundLeads.{begins, evacuating_is, is_round, made_leads, none_first}
-use Rattle.far_replay_laws.proofs.StepsTell.{held_by, held_chosen, none_held, policy_takes}
+use Rattle.far_replay_laws.proofs.StepsTell.{held_by, held_chosen, names_there, none_held, policy_takes}
 
 -- ---- what lies in a log, as a test
 abbrev in_log : ℕ → Option PtrWord → Bool
@@ -74,9 +73,6 @@ lies_by s p l (Some (Far len ds marks)) e h = absurd (false≢true h)
 
 in_lies : (s : State) (p l : ℕ) → LiesIn s p l → in_log l (read_of (s.cell p)) ≡ true
 in_lies s p l (len, ds, place, marks, near, log) = ap (in_log l) near ∙ eq-eqb place.log l log
-
-names_there : (s : State) (p l : ℕ) → LiesIn s p l → (at : ℕ) × (names_place (read_of (s.cell p)) l at ≡ true)
-names_there s p l (len, ds, place, marks, near, log) = (place.at, ap (λ o. names_place o l place.at) near ∙ rw (eq-eqb place.log l log, eq-eqb place.at place.at refl) refl)
 
 one_log : (s : State) (p k l : ℕ) → LiesIn s p k → LiesIn s p l → k ≡ l
 one_log s p k l (len, ds, place, marks, near, log) (n, d, to, other, there, is) =

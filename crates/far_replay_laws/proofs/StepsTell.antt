@@ -38,7 +38,7 @@ use Rattle.far_book.specs.book.Rows.{row_of}
 use Rattle.far_book.proofs.region.Owns.{own_law}
 use Rattle.far_evac.specs.Census.{kind_in, kind_named}
 use Rattle.far_evac.specs.Choosing.{after_aborting, after_selecting}
-use Rattle.far_evac.specs.Dealings.{HasLeft, is_away, is_nowhere, says}
+use Rattle.far_evac.specs.Dealings.{BeginsLive, HasLeft, is_away, is_nowhere, says}
 use Rattle.far_evac.specs.Laws.{DealtInOrder, IsGivenUp, but_evac}
 use Rattle.far_evac.specs.Live.{is_empty, lacking, live_among, live_in}
 use Rattle.far_evac.specs.LiveLaws.{ComesFirst}
@@ -56,9 +56,10 @@ use Rattle.far_evac.proofs.InOrder.{in_order}
 use Rattle.far_evac.proofs.Lacking.{Once, in_live, once_among}
 use Rattle.far_evac.proofs.LeadingMarks.{marking, marks_cells}
 use Rattle.far_evac.proofs.LeadingWalks.{walking_law}
-use Rattle.far_evac.proofs.LiveOnce.{LivesIn, live_named, near_at}
+use Rattle.far_evac.proofs.LiveOnce.{LivesIn, first_named, live_named, near_at}
 use Rattle.far_evac.proofs.LiveOrder.{live_in_order}
 use Rattle.far_evac.proofs.Marks.{is_given_up, is_marked, mark_sets, others_stay}
+use Rattle.far_evac.proofs.Orders.{walks_left}
 use Rattle.far_evac.proofs.Readiness.{risen_is_ready}
 use Rattle.far_evac.proofs.Rounds.{found_in, passed_phase, so_phase}
 use Rattle.far_evac.proofs.Unviewed.{none_found}
@@ -67,7 +68,7 @@ use Rattle.far_text.specs.Command.{By, Choice, LeastLive, Mark, Oldest, Policy, 
 use Rattle.far_replay_laws.specs.HowMany.{IsHowMany}
 use Rattle.far_replay.specs.Reply.{Marked, Selected}
 use Rattle.far_replay.specs.Rounds.{chosen_by, given_by, rows_in}
-use Rattle.far_replay_laws.specs.Steps.{GainsEvac, HoldsUp, IsChosen, IsGivenBack, IsMoved, IsNear, IsRetired, IsSentFar, LiesAt, LiesIn, NobodyHoldsUp, ReachesEpoch, ShowsEvac, StandsFirst, Takes, TellsChoice, TellsEnd, TellsLeaving, TellsMarks, phase_after}
+use Rattle.far_replay_laws.specs.Steps.{GainsEvac, HoldsUp, IsChosen, IsAt, IsGivenBack, IsMoved, IsNear, IsRetired, IsSentFar, LiesAt, LiesIn, NobodyHoldsUp, ReachesEpoch, ShowsEvac, StandsFirst, Takes, TellsChoice, TellsEnd, TellsLeaving, TellsMarks, phase_after}
 use Rattle.far_replay_laws.proofs.CountedOnce.{all_at, among_in, beyond, filtered, front_or_rest, how_many_in, how_many_of, in_among, in_front, member_or_apart, once_filter, once_take, turn_filter, turn_split}
 use Rattle.far_replay.proofs.RoundChoices.{rows_are}
 
@@ -126,6 +127,25 @@ none_named (x ∷ xs) l kind e h = false≢true e
 empty_where : (ls : List ℕ) (kind : ℕ → Kind) → AllByRecursion (λ l. kind l ≡ kinds.Sealed) ls → ((l : ℕ) → kind_named (among ls l) (kind l) ≢ Chosen) → is_empty ls ≡ true
 empty_where [] kind sealed none = refl
 empty_where (l ∷ ls) kind sealed none = absurd (none l (chosen_by_both (among (l ∷ ls) l) (kind l) (in_among l (l ∷ ls) (0, omega arith, refl)) sealed.0))
+
+-- ---- who lies in a log lives there
+module _ (s : State) (law : Law (own_part s)) (p len ds : ℕ) (place : Place) (marks : Marks) (near : read_of (s.cell p) ≡ Some (Near len ds place marks)) where
+  in_logs : (ls : List ℕ) → Contains ls place.log → Contains (live_among s ls) p
+  in_logs [] h = absurd (none_in place.log h)
+  in_logs (l ∷ ls) h = elim (split place.log l ls h) [
+    | inl e ↦ Contains-append_left (live_in s l) (live_among s ls) p (subst (λ k. Contains (live_in s k) p) (sym e) (in_live s law p len ds place marks near))
+    | inr more ↦ Contains-append_right (live_in s l) (live_among s ls) p (in_logs ls more)
+  ]
+
+pub names_there : (s : State) (p l : ℕ) → LiesIn s p l → (at : ℕ) × (names_place (read_of (s.cell p)) l at ≡ true)
+names_there s p l (len, ds, place, marks, near, log) = (place.at, ap (λ o. names_place o l place.at) near ∙ rw (eq-eqb place.log l log, eq-eqb place.at place.at refl) refl)
+
+-- one that is found where it lay lies there
+found_there : (t : State) (p len ds : ℕ) (place : Place) (marks : Marks) (o : Option PtrWord) → read_of (t.cell p) ≡ o → body_of o ≡ body_of (Some (Near len ds place marks)) → LiesIn t p place.log
+found_there t p len ds place marks None is same = absurd (false≢true (ap is_near same))
+found_there t p len ds place marks (Some Free) is same = absurd (false≢true (ap is_near same))
+found_there t p len ds place marks (Some (Near n d at m)) is same = (n, d, at, m, is, ap (λ (x : Place). x.log) (ap (place_or place) same))
+found_there t p len ds place marks (Some (Far n d m)) is same = absurd (false≢true (ap is_near same))
 
 -- ---- objects leave
 module _ (now : Moment) (count : ℕ) (law : Law now.core) (moment : MomentLaw now) (leaves : now.phase ≡ Evacuating) where
@@ -237,6 +257,35 @@ module _ (now : Moment) (count : ℕ) (law : Law now.core) (moment : MomentLaw n
     sealed_then [] h = tt
     sealed_then (l ∷ ls) h = (h.0.1, sealed_then ls h.1)
 
+  -- ---- their order
+  first_lies : (l : ℕ) (xs : List ℕ) → live_in t l ≡ xs → is_empty xs ≡ false → (p : ℕ) × LiesIn t p l
+  first_lies l [] e some = absurd (true≢false some)
+  first_lies l (p ∷ ps) e some = (p, near_in t l p (first_named t l p ps e))
+
+  begins_so : (l : ℕ) (ls : List ℕ) → w.moment.held ≡ l ∷ ls → (p : ℕ) × LiesIn t p l
+  begins_so l ls e =
+      let rests = (walks_left now many w (risen_is_ready now (own_law now.core law) moment (ap has_risen leaves)) (walk_is now count).1.walks).rests in
+      first_lies l (live_in t l) refl (subst (BeginsLive t) e rests.begins)
+
+  lives_held : (p len ds : ℕ) (place : Place) (marks : Marks) → read_of (now.core.cell p) ≡ Some (Near len ds place marks) → IsChosen now place.log → Contains all p
+  lives_held p len ds place marks near chosen =
+      in_logs now.core (own_law now.core law) p len ds place marks near now.held (among_in place.log now.held (held_by (among now.held place.log) (now.core.kind place.log) chosen))
+
+  left_first : (p q : ℕ) (at to : Place) → IsAt now.core p at → IsAt now.core q to → IsChosen now at.log → IsChosen now to.log → ¬ LiesIn t p at.log → LiesIn t q to.log → StandsFirst now.held at to
+  left_first p q at to (len, ds, marks, here) (n, d, m, there) chosen other away still =
+      let went : Contains gone p = elim (member_or_apart p gone) [
+        | inl c ↦ c
+        | inr apart ↦ absurd (away (found_there t p len ds at marks (says w.moment p) refl (dealt.deals.others p apart ∙ ap body_of here)))
+      ] in
+      let rest : Contains (drop many all) q = elim (front_or_rest many q all (lives_held q n d to m there other)) [
+        | inl c ↦
+            let from = names_there now.core q to.log (n, d, to, m, there, refl) in
+            let here = names_there t q to.log still in
+            absurd (true≢false (sym here.1 ∙ all_at (λ x. HasLeft (says now x) (says w.moment x)) q gone dealt.deals.left c to.log from.0 here.0 from.1))
+        | inr c ↦ c
+      ] in
+      turn_split (ComesFirst now.core now.held) many all p q (live_in_order now.core now.held (own_law now.core law) moment.held_once).order went rest len ds n d at to marks m here there
+
   left_so : TellsLeaving now count (progress_of w.tally (is_done w)) w.moment
   left_so = record {
     moved = subst (IsHowMany (IsMoved now.core t)) (sym dealt.deals.moved) (how_many_of (IsMoved now.core t) (λ p. is_near (says w.moment p)) gone gone_once (λ p c h. moved_by p c (says w.moment p) refl h) moved_gone);
@@ -252,6 +301,9 @@ module _ (now : Moment) (count : ℕ) (law : Law now.core) (moment : MomentLaw n
     most = omega (arith, dealt.counted, (walk_is now count).1.most);
     enough = λ more. dealt.counted ∙ (walk_is now count).1.enough more;
     done = done_so;
+    held = dealt.gives.held;
+    begins = begins_so;
+    order = left_first;
   }
 
   -- where no log is left each was given back
@@ -263,7 +315,18 @@ module _ (now : Moment) (count : ℕ) (law : Law now.core) (moment : MomentLaw n
 
   pub tells_leaving : TellsLeaving now count (progress_of w.tally (is_done w)) (ended w)
   tells_leaving = cond_both (is_done w) (record w.moment { phase = Idle }) w.moment (TellsLeaving now count (progress_of w.tally (is_done w)))
-      (λ _. record { moved = left_so.moved; far = left_so.far; dropped = left_so.dropped; freed = left_so.freed; most = left_so.most; enough = left_so.enough; done = left_so.done })
+      (λ _. record {
+        moved = left_so.moved;
+        far = left_so.far;
+        dropped = left_so.dropped;
+        freed = left_so.freed;
+        most = left_so.most;
+        enough = left_so.enough;
+        done = left_so.done;
+        held = left_so.held;
+        begins = left_so.begins;
+        order = left_so.order;
+      })
       (λ _. left_so)
 
 -- ---- the phase of a walk
@@ -282,15 +345,6 @@ ended_phase m n = either (is_done (walked m n)) where
   either : (b : Bool) → (if b then record (walked m n).moment { phase = Idle } else (walked m n).moment).phase ≡ (if b then Idle else m.phase)
   either true = refl
   either false = walked_phase m n
-
--- ---- who lies in a log lives there
-module _ (s : State) (law : Law (own_part s)) (p len ds : ℕ) (place : Place) (marks : Marks) (near : read_of (s.cell p) ≡ Some (Near len ds place marks)) where
-  in_logs : (ls : List ℕ) → Contains ls place.log → Contains (live_among s ls) p
-  in_logs [] h = absurd (none_in place.log h)
-  in_logs (l ∷ ls) h = elim (split place.log l ls h) [
-    | inl e ↦ Contains-append_left (live_in s l) (live_among s ls) p (subst (λ k. Contains (live_in s k) p) (sym e) (in_live s law p len ds place marks near))
-    | inr more ↦ Contains-append_right (live_in s l) (live_among s ls) p (in_logs ls more)
-  ]
 
 -- ---- giving up
 module _ (now : Moment) (law : Law now.core) where

@@ -1,5 +1,5 @@
 -- What steps of the evacuator tell, by the moments before and after each: how many objects and logs have changed so, and which logs were chosen.
-use Rattle.std.specs.Prelude.{◌≡◌, ◌≢◌, ◌↔◌, ◌⊎◌, ℕ, ◌+◌, ◌*◌, ◌<◌, ◌≤◌, Bool, true, false, Option, Some, None, List, [], ◌∷◌, length, map, option_map, take, Ok, Err, if◌then◌else◌}
+use Rattle.std.specs.Prelude.{◌≡◌, ◌≢◌, ◌↔◌, ◌⊎◌, ℕ, ◌+◌, ◌*◌, ◌<◌, ◌≤◌, Bool, true, false, Option, Some, None, List, [], ◌∷◌, length, map, option_map, take, drop, Ok, Err, if◌then◌else◌}
 use Rattle.far_word.specs.declared.mark.Marks.{Marks}
 use Rattle.far_word.specs.declared.pointer.Place.{Place}
 use Rattle.far_word.specs.declared.pointer.PtrWord.TheVariants as pointer
@@ -41,6 +41,17 @@ ShowsEvac s p evac = (len ds : ℕ) × (place : Place) × (marks : Marks) × (re
 abbrev pub IsFar : State → ℕ → Type 0
 IsFar s p = (len ds : ℕ) × (marks : Marks) × (read_of (s.cell p) ≡ Some (pointer.Far len ds marks))
 
+-- it lies at this place; and with EVAC, or without
+abbrev pub IsAt : State → ℕ → Place → Type 0
+IsAt s p place = (len ds : ℕ) × (marks : Marks) × (read_of (s.cell p) ≡ Some (pointer.Near len ds place marks))
+
+abbrev pub LiesAt : State → ℕ → Place → Bool → Type 0
+LiesAt s p place evac = (len ds : ℕ) × (marks : Marks) × (read_of (s.cell p) ≡ Some (pointer.Near len ds place marks)) × (marks.evac ≡ evac)
+
+-- a place comes before another in some logs: its log stands sooner among them, or is the same one, and it is a lower word
+abbrev pub StandsFirst : List ℕ → Place → Place → Type 0
+StandsFirst logs at to = ((at.log ≡ to.log) × (at.at < to.at)) ⊎ IsBehind logs at.log to.log
+
 -- ---- what has become of it from s to t
 abbrev pub GainsEvac : State → State → ℕ → Type 0
 GainsEvac s t p = ShowsEvac s p false × ShowsEvac t p true
@@ -80,14 +91,6 @@ pub record TellsChoice (now : Moment) (choice : Choice) (most : ℕ) (logs : Lis
   pub core : after.core ≡ now.core
 
 -- ---- marking
--- it lies at this place, with EVAC or without
-abbrev pub LiesAt : State → ℕ → Place → Bool → Type 0
-LiesAt s p place evac = (len ds : ℕ) × (marks : Marks) × (read_of (s.cell p) ≡ Some (pointer.Near len ds place marks)) × (marks.evac ≡ evac)
-
--- a place comes before another in some logs: its log stands sooner among them, or is the same one, and it is a lower word
-abbrev pub StandsFirst : List ℕ → Place → Place → Type 0
-StandsFirst logs at to = ((at.log ≡ to.log) × (at.at < to.at)) ⊎ IsBehind logs at.log to.log
-
 -- an object of the chosen logs is left without EVAC, and the epoch stays; or none is, and the epoch that is told was reached
 abbrev pub ReachesEpoch : Moment → ℕ → ℕ → Option ℕ → Moment → Type 0
 ReachesEpoch now count marked None after =
@@ -128,6 +131,10 @@ pub record TellsLeaving (now : Moment) (count : ℕ) (progress : Progress) (afte
   pub most : progress.moved + progress.far + progress.dropped ≤ count
   pub enough : progress.done ≡ false → progress.moved + progress.far + progress.dropped ≡ count
   pub done : (progress.done ≡ true) ↔ ((l : ℕ) → kind_in after l ≢ kinds.Chosen)
+  -- logs are given back from the front on, and the one that is in front then has an object; those that have left stood before all that lie there still
+  pub held : after.held ≡ drop progress.freed now.held
+  pub begins : (l : ℕ) (ls : List ℕ) → after.held ≡ l ∷ ls → (p : ℕ) × LiesIn after.core p l
+  pub order : (p q : ℕ) (at to : Place) → IsAt now.core p at → IsAt now.core q to → IsChosen now at.log → IsChosen now to.log → ¬ LiesIn after.core p at.log → LiesIn after.core q to.log → StandsFirst now.held at to
 
 -- ---- giving up
 -- no log is chosen any more, no object that lies in one of those that were has EVAC, and each cell says what it said, but for EVAC
