@@ -1,7 +1,7 @@
 -- What a mutator knows of a state: its scope, and the bytes of the pointers that it uses.
 use Rattle.std.proofs.Common.{◌≡◌, ◌≢◌, ℕ, ◌+◌, ◌/◌, ◌<◌, ◌≤◌, true, false, cond, nat_eq, nat_lt, arith, sym, refl, ap, ◌∙◌, Option, Some, None, List, length, inl, inr}
-use Rattle.std.specs.Prelude.{not, ◌⊎◌}
-use Rattle.std.proofs.lemmas.Bool.{and_parts, and_cases, cases_eq, cond_both, false≢true, not-true, true≢false, cases_lt}
+use Rattle.std.specs.Prelude.{not, ◌⊎◌, ◌&&◌}
+use Rattle.std.proofs.lemmas.Bool.{and_parts, and_cases, cases_eq, cond_both, eq-eqb, false≢true, not-true, true≢false, cases_lt}
 use Rattle.std.proofs.lemmas.Bool.Decides.{nat_tests}
 use Rattle.far_word.specs.declared.mark.Marks.{Marks}
 use Rattle.far_word.specs.declared.pointer.Place.{Place}
@@ -19,7 +19,7 @@ use Rattle.far_core.specs.world.WorldOf.{world_of, object_of}
 use Rattle.far_core.proofs.Cells.{held_near, unused}
 use Rattle.far_replay.specs.Alone.{own_of, bytes_in_world}
 use Rattle.far_replay.specs.Objects.{uses, object_len, named_len, data_of, is_range, lowest_cell}
-use Rattle.far_replay.proofs.Lowest.{lowest_cell_is}
+use Rattle.far_replay.proofs.Lowest.{lowest_cell_is, no_cell_is}
 use Rattle.far_replay.proofs.Spliced.{AreBytes}
 
 -- ---- tests
@@ -140,3 +140,11 @@ no_object s p e = ap (λ w. object_of s.word (s.stored p) p (read_of w)) e
 pub lowest_unknown : (s : State) (m p : ℕ) → lowest_cell s m ≡ Some p → (own_of (world_of s) m).object p ≡ None
 lowest_unknown s m p e = cond_both (nat_eq (p / CELLS) m) (bytes_in_world ((world_of s).object p)) None (λ (x : Option (List ℕ)). x ≡ None)
     (λ _. ap bytes_in_world (no_object s p (lowest_free s m p e))) (λ _. refl)
+
+-- where no cell of it is free it knows of an object at each
+pub all_known : (s : State) → Law s → ((p : ℕ) → s.cell p ≢ 0 → s.used p ≡ true) → (m : ℕ) → lowest_cell s m ≡ None → (p : ℕ) → p / CELLS ≡ m → (own_of (world_of s) m).object p ≢ None
+all_known s law named m e p own free =
+    let taken : s.cell p ≢ 0 = no_cell_is s m e p (omega (arith, own)) (omega (arith, own)) in
+    let ours : uses s m p ≡ true = ap (λ b. b && s.used p) (eq-eqb (p / CELLS) m own) ∙ named p taken in
+    let x = own_used s law m p ours in
+    let odd : Some x.0 ≡ None = sym x.1 ∙ free in cc

@@ -1,6 +1,7 @@
 -- A step of the evacuator leads on by legal events of the book, and leaves what owners have; what a refused one leaves.
-use Rattle.std.proofs.Common.{◌≡◌, ℕ, ◌/◌, ◌==◌, ◌&&◌, Bool, true, false, not, cond, nat_lt, is_some, All, Option, Some, None, List, [], ◌∷◌, Result, Ok, Err, ap, sym, refl, ◌∙◌, subst}
-use Rattle.std.proofs.lemmas.Bool.{cond_both, not-false, or_left, true≢false}
+use Rattle.std.proofs.Common.{◌≡◌, ℕ, ◌/◌, ◌<◌, ◌==◌, ◌&&◌, ◌||◌, Bool, true, false, not, cond, nat_lt, is_some, All, Option, Some, None, List, [], ◌∷◌, Result, Ok, Err, ap, sym, refl, ◌∙◌, subst, inl, inr}
+use Rattle.std.specs.Prelude.{◌⊎◌, ◌↔◌}
+use Rattle.std.proofs.lemmas.Bool.{cond_both, lt-ltb, ltb-true, not-false, or_left, or_right, true≢false}
 use Rattle.std.proofs.lemmas.List.Elements.{All-head, All-tail}
 use Rattle.far_word.specs.declared.mark.Marks.{Marks}
 use Rattle.far_word.specs.declared.pointer.PtrWord.TheVariants.{Free, Near, Far}
@@ -37,6 +38,7 @@ use Rattle.far_evac.proofs.Leading.{aborting, polling, reached_none, selecting}
 use Rattle.far_evac.proofs.LeadingMarks.{marking}
 use Rattle.far_evac.proofs.LeadingTurns.{round_leads}
 use Rattle.far_evac.proofs.LeadingWalks.{walking, walking_objects}
+use Rattle.far_evac.proofs.Onward.{or_split}
 use Rattle.far_text.specs.Command.{Choice, Command, Evacuator, Step, Select, Mark, Wait, Evacuate, Abort, Round}
 use Rattle.far_text.proofs.Each.{Each}
 use Rattle.far_replay.specs.Alone.{bytes_in_world, own_of}
@@ -44,7 +46,7 @@ use Rattle.far_replay.specs.Between.{Between}
 use Rattle.far_replay.specs.EventRows.{after_events, AllPass, AllSucceed}
 use Rattle.far_replay.specs.Changes.{StayThrough}
 use Rattle.far_replay.specs.Rounds.{after_round, choice_causes, chosen_by, given_by, is_evacuating, is_marking, is_waiting, logs_given, refused_step, round_told, rows_in, step_effect, wait_causes}
-use Rattle.far_replay.specs.Stays.{CellStays, MayGain, Stays}
+use Rattle.far_replay.specs.Stays.{CellStays, MayGain, Sees, Stays}
 use Rattle.far_replay.specs.Turn.{effect, first_cause, refusal, refused_effect, turn_effect, unless}
 use Rattle.far_replay.proofs.Leading.{legal_made}
 use Rattle.far_replay.proofs.RoundChoices.{Chooses, choice_is, policy_chooses}
@@ -254,25 +256,47 @@ reached_reaches s t law way =
 gains_none : (a : Marks) → MayGain a a
 gains_none a = record { hot = λ h. h; moved = λ h. h; evac = refl; dropped = refl }
 
+-- who was seen clear, where nobody was looked at
+pub same_clear : (b : Bool) (Seen : Type 0) → ¬ Seen → (b ≡ true) ↔ ((b ≡ true) ⊎ Seen)
+same_clear b Seen blind = (
+  inl,
+  (λ h. elim h [ inl was ↦ was | inr now ↦ absurd (blind now) ]),
+)
+
 pub cell_same : (o : Option PtrWord) → CellStays o o
 cell_same None = tt
 cell_same (Some Free) = tt
 cell_same (Some (Near len ds place marks)) = (refl, refl, refl, gains_none marks)
 cell_same (Some (Far len ds marks)) = (refl, refl, gains_none marks)
 
-pub stays_same : (c : Command) (why : Refusal) (now : Moment) → Stays c why now now
-stays_same c why now = record { objects = refl; cells = λ p. cell_same (read_of (now.core.cell p)); unmarked = λ p other. refl; seen = λ _. refl; kept = λ m h. h; rest = refl; round = (refl, refl, refl) }
+pub stays_same : (c : Command) (why : Refusal) (now : Moment) → ((m : ℕ) → ¬ Sees c why m) → Stays c why now now
+stays_same c why now blind = record {
+  objects = refl;
+  cells = λ p. cell_same (read_of (now.core.cell p));
+  unmarked = λ p other. refl;
+  seen = λ _. refl;
+  clear = λ m. same_clear (now.core.clear m) (Sees c why m) (blind m);
+  rest = refl;
+  round = (refl, refl, refl);
+}
+
+-- those below a number were seen clear
+below_clear : (b : Bool) (m k n : ℕ) → k ≡ n → ((b || nat_lt m k) ≡ true) ↔ ((b ≡ true) ⊎ (m < n))
+below_clear b m k n same = (
+  (λ h. elim (or_split b (nat_lt m k) h) [ inl was ↦ inl was | inr lt ↦ inr (subst (λ x. m < x) same (ltb-true m k lt)) ]),
+  (λ h. elim h [ inl was ↦ or_left b (nat_lt m k) was | inr lt ↦ or_right b (nat_lt m k) (lt-ltb m k (subst (λ x. m < x) (sym same) lt)) ]),
+)
 
 -- a wait that goes on has seen some
 wait_stays : (now : Moment) (mutator epoch : ℕ) (o : Option ℕ) → first_cause (wait_causes (polled_at now.core o)) ≡ Some (StillOpen mutator epoch) → Stays (Evacuator Wait) (StillOpen mutator epoch) now (polled_to now o)
 unfolding world_of
 wait_stays now mutator epoch None = λ e. absurd cc
-wait_stays now mutator epoch (Some k) = λ _. record {
+wait_stays now mutator epoch (Some k) = λ e. let same : k ≡ mutator = cc in record {
   objects = refl;
   cells = λ p. cell_same (read_of (now.core.cell p));
   unmarked = λ p other. refl;
   seen = λ blind. absurd (blind tt);
-  kept = λ m h. or_left (now.core.clear m) (nat_lt m k) h;
+  clear = λ m. below_clear (now.core.clear m) m k mutator same;
   rest = refl;
   round = (refl, refl, refl);
 }
@@ -281,12 +305,12 @@ refused_wait : (now : Moment) (why : Refusal) → refusal now (Evacuator Wait) �
 refused_wait now (StillOpen mutator epoch) =
     some_first (Stays (Evacuator Wait) (StillOpen mutator epoch) now (after_polling now)) (not (is_waiting now.phase)) WrongPhase (StillOpen mutator epoch) (wait_causes (polled now.core))
     (λ _ e. absurd cc) (λ _ e. wait_stays now mutator epoch (first_open now.core) e)
-refused_wait now why = λ _. stays_same (Evacuator Wait) why now
+refused_wait now why = λ _. stays_same (Evacuator Wait) why now (λ m h. h)
 
 pub step_stays : (now : Moment) (step : Step) (why : Refusal) → refusal now (Evacuator step) ≡ Some why → Stays (Evacuator step) why now (refused_step now step why)
-step_stays now (Select choice most) why e = stays_same (Evacuator (Select choice most)) why now
-step_stays now (Mark count) why e = stays_same (Evacuator (Mark count)) why now
+step_stays now (Select choice most) why e = stays_same (Evacuator (Select choice most)) why now (λ m h. h)
+step_stays now (Mark count) why e = stays_same (Evacuator (Mark count)) why now (λ m h. h)
 step_stays now Wait why e = refused_wait now why e
-step_stays now (Evacuate count) why e = stays_same (Evacuator (Evacuate count)) why now
-step_stays now Abort why e = stays_same (Evacuator Abort) why now
-step_stays now (Round policy most turns) why e = stays_same (Evacuator (Round policy most turns)) why now
+step_stays now (Evacuate count) why e = stays_same (Evacuator (Evacuate count)) why now (λ m h. h)
+step_stays now Abort why e = stays_same (Evacuator Abort) why now (λ m h. h)
+step_stays now (Round policy most turns) why e = stays_same (Evacuator (Round policy most turns)) why now (λ m h. h)

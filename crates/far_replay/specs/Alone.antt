@@ -1,5 +1,5 @@
 -- The replies to one mutator's lines, by its own lines alone.
-use Rattle.std.specs.Prelude.{◌≡◌, ℕ, ◌+◌, ◌/◌, ◌<◌, ◌≤◌, ◌⊎◌, Bool, true, false, cond, ◌==◌, ◌&&◌, Option, Some, None, List, [], ◌∷◌, length, replicate, slice_range}
+use Rattle.std.specs.Prelude.{◌≡◌, ◌≢◌, ℕ, ◌+◌, ◌/◌, ◌<◌, ◌≤◌, ◌⊎◌, Bool, true, false, cond, ◌==◌, ◌&&◌, Option, Some, None, List, [], ◌∷◌, length, replicate, slice_range}
 use Rattle.std.specs.Bool.{MatchBool}
 use Rattle.far_word.specs.declared.refused.Refused.TheVariants.{NoRoom, NoPointer, Length, Closed, AlreadyOpen, NotHeld, Range, Held, Marked}
 use Rattle.far_word.specs.declared.sizes.TheConstants.{CELLS, LONGEST}
@@ -34,17 +34,21 @@ abbrev pub IsNear : Home → Type 0
 IsNear (Near place marks) = Unit {0}
 IsNear (Far marks) = ⊥
 
--- one of its pointers has no object
+-- one of its pointers has no object; or each has one
 abbrev pub HasLeft : ℕ → Own → Type 0
 HasLeft m o = (p : ℕ) × (p / CELLS ≡ m) × (o.object p ≡ None)
 
--- a command of the mutator m with its reply takes what it knows from o to q. A refusal is the first of its row that applies; which of its own
--- numbers a new object gets, whether 2 or 3 comes where nothing earlier applies, where an object is, and whether a mark keeps it from being viewed, depends on cells and logs, which it doesn't know, but that what it views is near and needs no pin
+abbrev pub HasAll : ℕ → Own → Type 0
+HasAll m o = (p : ℕ) → p / CELLS ≡ m → o.object p ≢ None
+
+-- a command of the mutator m with its reply takes what it knows from o to q. A refusal is the first of its row that applies; so 3 comes exactly where nothing earlier applies and all
+-- its objects exist. Which of its own numbers a new object gets, whether 2 comes where nothing earlier applies, where an object is, and whether a mark keeps it from being viewed, depends on cells and
+-- logs, which it doesn't know, but that what it views is near and needs no pin
 abbrev pub Knows : ℕ → Own → Command → Reply → Own → Type 0
 Knows m o (Mutator _ (New len ds)) (Pointer p) q = (ds < 256) × (0 < len) × (len ≤ LONGEST) × (p / CELLS ≡ m) × (o.object p ≡ None) × (q ≡ record o { object = put o.object p (Some (replicate len 0)) })
 Knows m o (Mutator _ (New len ds)) (Refused Range) q = (256 ≤ ds) × (q ≡ o)
 Knows m o (Mutator _ (New len ds)) (Refused Length) q = (ds < 256) × ((len ≡ 0) ⊎ (LONGEST < len)) × (q ≡ o)
-Knows m o (Mutator _ (New len ds)) (Refused NoPointer) q = (ds < 256) × (0 < len) × (len ≤ LONGEST) × (q ≡ o)
+Knows m o (Mutator _ (New len ds)) (Refused NoPointer) q = (ds < 256) × (0 < len) × (len ≤ LONGEST) × HasAll m o × (q ≡ o)
 Knows m o (Mutator _ (New len ds)) (Refused NoRoom) q = (ds < 256) × (0 < len) × (len ≤ LONGEST) × HasLeft m o × (q ≡ o)
 Knows m o (Mutator _ Open) Done q = (o.opened ≡ false) × (q ≡ record o { opened = true })
 Knows m o (Mutator _ Open) (Refused AlreadyOpen) q = (o.opened ≡ true) × (q ≡ o)

@@ -1,5 +1,5 @@
 -- What a refused command leaves as it was: all but two marks of one cell, which it may have added, and whom a wait has seen clear.
-use Rattle.std.specs.Prelude.{◌≡◌, ℕ, true, Option, Some, None}
+use Rattle.std.specs.Prelude.{◌≡◌, ◌⊎◌, ◌↔◌, ℕ, ◌<◌, true, Option, Some, None}
 use Rattle.far_word.specs.declared.mark.Marks.{Marks}
 use Rattle.far_word.specs.declared.pointer.PtrWord.{PtrWord}
 use Rattle.far_word.specs.declared.pointer.PtrWord.TheVariants.{Free, Near, Far}
@@ -33,10 +33,14 @@ MayMark (Mutator m (View p)) NoRoom q = q ≡ p
 MayMark (Mutator m (Try p)) (Marked word) q = q ≡ p
 MayMark c why q = ⊥
 
--- a wait that is refused since a mutator's scope is open has seen clear those before it
+-- a wait that is refused since a mutator's scope is open has seen clear those before it, and looked no further
 abbrev pub MaySee : Command → Refusal → Type 0
 MaySee (Evacuator Wait) (StillOpen mutator epoch) = Unit {0}
 MaySee c why = ⊥
+
+abbrev pub Sees : Command → Refusal → ℕ → Type 0
+Sees (Evacuator Wait) (StillOpen mutator epoch) m = m < mutator
+Sees c why m = ⊥
 
 -- objects, bytes and places are as before, and so is all else of the core but for marks in that cell, and whom a wait has seen clear. A round stands where it stood
 pub record Stays (c : Command) (why : Refusal) (now next : Moment) : Type 0 where
@@ -44,6 +48,6 @@ pub record Stays (c : Command) (why : Refusal) (now next : Moment) : Type 0 wher
   pub cells : (p : ℕ) → CellStays (read_of (now.core.cell p)) (read_of (next.core.cell p))
   pub unmarked : (p : ℕ) → ¬ MayMark c why p → next.core.cell p ≡ now.core.cell p
   pub seen : ¬ MaySee c why → next.core.clear ≡ now.core.clear
-  pub kept : (m : ℕ) → now.core.clear m ≡ true → next.core.clear m ≡ true
+  pub clear : (m : ℕ) → (next.core.clear m ≡ true) ↔ ((now.core.clear m ≡ true) ⊎ Sees c why m)
   pub rest : next.core ≡ record now.core { cell = next.core.cell; clear = next.core.clear }
   pub round : (next.order ≡ now.order) × (next.phase ≡ now.phase) × (next.held ≡ now.held)

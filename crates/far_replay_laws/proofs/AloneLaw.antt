@@ -50,7 +50,7 @@ none_made s None = refl
 none_made s (Some why) = refl
 
 learns : (now : Moment) (m : ℕ) (c : Command) (r : Reply) (t : State) → IsTold c → Law now.core → Between now.core → m < now.core.mutators → WritesBytes c → IsCarriedOut now c r t → Learns now.core m c r t
-learns now m (Mutator k (New len ds)) r t told law between within small h = at_speaker now.core k m (Mutator k (New len ds)) r t (nat_eq k m) refl within (teaches now.core k (Mutator k (New len ds)) r t h.reply h.state h.made (turns_new now.core k len ds law))
+learns now m (Mutator k (New len ds)) r t told law between within small h = at_speaker now.core k m (Mutator k (New len ds)) r t (nat_eq k m) refl within (teaches now.core k (Mutator k (New len ds)) r t h.reply h.state h.made (turns_new now.core k len ds law between))
 learns now m (Mutator k Open) r t told law between within small h = at_speaker now.core k m (Mutator k Open) r t (nat_eq k m) refl within (teaches now.core k (Mutator k Open) r t h.reply h.state h.made (turns_open now.core k law))
 learns now m (Mutator k (Write p from bytes)) r t told law between within small h =
     at_speaker now.core k m (Mutator k (Write p from bytes)) r t (nat_eq k m) refl within (teaches now.core k (Mutator k (Write p from bytes)) r t h.reply h.state h.made (turns_write now.core k p from bytes law between small))

@@ -1,7 +1,7 @@
 -- What a new object tells its mutator.
 use Rattle.std.proofs.Common.{◌≡◌, ℕ, ◌+◌, ◌/◌, ◌<◌, ◌≤◌, ◌^◌, true, false, cond, nat_lt, nat_le, arith, sym, refl, ap, subst, ◌∙◌, Option, Some, None, List, [], ◌∷◌, ◌++◌, inl, inr}
 use Rattle.std.specs.Prelude.{not, ◌&&◌, ◌⊎◌, is_some, replicate}
-use Rattle.std.proofs.lemmas.Bool.{true≢false, cases_eq, cases_lt, eq-eqb}
+use Rattle.std.proofs.lemmas.Bool.{false≢true, true≢false, cases_eq, cases_lt, eq-eqb}
 use Rattle.std.proofs.lemmas.Bool.Decides.{nat_tests}
 use Rattle.far_word.specs.declared.mark.Marks.{Marks}
 use Rattle.far_word.specs.declared.pointer.Place.{Place}
@@ -25,7 +25,8 @@ use Rattle.far_core.specs.world.Steps.{Makes}
 use Rattle.far_core.proofs.Cells.{unused}
 use Rattle.far_core.proofs.Keeps.{step_keeps}
 use Rattle.far_replay.specs.Moment.{moment_of}
-use Rattle.far_replay.specs.Alone.{own_of, bytes_in_world, HasLeft}
+use Rattle.far_replay.specs.Alone.{own_of, bytes_in_world, HasAll, HasLeft}
+use Rattle.far_replay.specs.Between.{Between}
 use Rattle.far_text.specs.Command.{New, Mutator}
 use Rattle.far_replay.specs.EventRows.{after_events, AllSucceed}
 use Rattle.far_replay.specs.Reply.{Refused}
@@ -38,7 +39,7 @@ use Rattle.far_replay.proofs.MadeLemmas.{made-append, AllSucceed-parts, AllComeT
 use Rattle.far_replay_laws.proofs.AloneViews.{views_still}
 use Rattle.far_replay_laws.proofs.ViewLaws.{row_stays, news}
 use Rattle.far_replay.proofs.AloneRuns.{views_of, Same, own_other, own_here, IsQuiet, quiet_run, name_step, new_object, makes_object, was_legal}
-use Rattle.far_replay.proofs.AloneStates.{lowest_free, lowest_own, lowest_unknown}
+use Rattle.far_replay.proofs.AloneStates.{all_known, lowest_free, lowest_own, lowest_unknown}
 use Rattle.far_replay_laws.proofs.Coming.{new_comes}
 use Rattle.far_replay_laws.proofs.AloneTurns.{Teaches, Turns, four_causes}
 
@@ -150,7 +151,12 @@ one_left : (s : State) (k : ℕ) (o : Option ℕ) → lowest_cell s k ≡ o → 
 one_left s k None e h = absurd (true≢false h)
 one_left s k (Some p) e h = (p, lowest_own s k p e, lowest_unknown s k p e)
 
-module _ (s : State) (k len ds : ℕ) (law : Law s) where
+-- one that has none has all its objects
+none_left : (s : State) → Law s → Between s → (k : ℕ) (o : Option ℕ) → lowest_cell s k ≡ o → not (is_some o) ≡ true → HasAll k (own_of (world_of s) k)
+none_left s law between k None e h = all_known s law between.named k e
+none_left s law between k (Some p) e h = absurd (false≢true h)
+
+module _ (s : State) (k len ds : ℕ) (law : Law s) (between : Between s) where
   -- with this cell and this place, turned down for this cause or for none
   abbrev NewTurns : Option ℕ → Option Place → Option Refusal → Type 0
   NewTurns o r x = AllSucceed s (unless x (λ _. []) (new_events k len ds o r)) → Teaches s k (Mutator k (New len ds)) (unless x Refused (pointer_reply o)) (after_events s (unless x (λ _. []) (new_events k len ds o r)))
@@ -165,7 +171,7 @@ module _ (s : State) (k len ds : ℕ) (law : Law s) where
   at_causes o r e = four_causes (NewTurns o r) (not (nat_lt k s.mutators && nat_lt ds 256)) (not (nat_lt 0 len && nat_le len LONGEST)) (not (is_some o)) (not (is_some r)) Range Length NoPointer NoRoom
       (λ off _. (λ within. (not_structure s k ds within off, refl), λ m ne. refl))
       (λ structure off _. (λ within. ((is_structure s k ds structure).1, not_length len off, refl), λ m ne. refl))
-      (λ structure long off _. (λ within. ((is_structure s k ds structure).1, (is_length len long).0, (is_length len long).1, refl), λ m ne. refl))
+      (λ structure long none _. (λ within. ((is_structure s k ds structure).1, (is_length len long).0, (is_length len long).1, none_left s law between k o e none, refl), λ m ne. refl))
       (λ structure long cell off _. (λ within. ((is_structure s k ds structure).1, (is_length len long).0, (is_length len long).1, one_left s k o e cell, refl), λ m ne. refl))
       (λ structure long cell space ok. at_cell o r e (is_structure s k ds structure).0 (is_structure s k ds structure).1 (is_length len long).0 (is_length len long).1 cell space ok)
 

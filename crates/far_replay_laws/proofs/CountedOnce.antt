@@ -5,6 +5,7 @@ use Rattle.std.specs.List.{AllByRecursion, IsDistinct}
 use Rattle.std.proofs.lemmas.Bool.{cond_both, cases_eq, ne_eqb, eqb-true, eq-eqb}
 use Rattle.std.proofs.lemmas.List.Sums.{length-filter}
 use Rattle.far_log.proofs.Members.{here, there, split, none_in}
+use Rattle.far_evac.specs.LiveLaws.{IsInTurn}
 use Rattle.far_evac.specs.RoundSteps.{among}
 use Rattle.far_evac.proofs.Bools.{or_left, or_right}
 use Rattle.far_evac.proofs.Fronts.{kept_in}
@@ -53,6 +54,11 @@ in_front (suc n) k (x ∷ xs) h = elim (split k x (take n xs) h) [
   | inr more ↦ there k x xs (in_front n k xs more)
 ]
 
+pub in_rest : (n k : ℕ) (xs : List ℕ) → Contains (drop n xs) k → Contains xs k
+in_rest zero k xs h = h
+in_rest (suc n) k [] h = h
+in_rest (suc n) k (x ∷ xs) h = there k x xs (in_rest n k xs h)
+
 pub filtered : (f : ℕ → Bool) (xs : List ℕ) (k : ℕ) → Contains (filter f xs) k → Contains xs k × (f k ≡ true)
 filtered f [] k c = absurd (none_in k c)
 filtered f (x ∷ xs) k c = cond_both (f x) (x ∷ filter f xs) (filter f xs) (λ (ys : List ℕ). Contains ys k → Contains (x ∷ xs) k × (f k ≡ true))
@@ -98,3 +104,17 @@ how_many_of P f xs once sound whole = (
   distinct_of (filter f xs) (once_filter f xs once),
   λ k. ((λ c. let h = filtered f xs k c in sound k h.0 h.1), (λ h. let x = whole k h in kept_in f k xs x.1 x.0)),
 )
+
+-- ---- lists in which each comes before those after it
+pub turn_filter : (First : ℕ → ℕ → Type 0) (f : ℕ → Bool) (xs : List ℕ) → IsInTurn First xs → IsInTurn First (filter f xs)
+turn_filter First f [] h = tt
+turn_filter First f (x ∷ xs) h = cond_both (f x) (x ∷ filter f xs) (filter f xs) (IsInTurn First) (λ _. (all_filter (First x) f xs h.0, turn_filter First f xs h.1)) (λ _. turn_filter First f xs h.1)
+
+-- the first n come before all others
+pub turn_split : (First : ℕ → ℕ → Type 0) (n : ℕ) (xs : List ℕ) (p q : ℕ) → IsInTurn First xs → Contains (take n xs) p → Contains (drop n xs) q → First p q
+turn_split First zero xs p q h front rest = absurd (none_in p front)
+turn_split First (suc n) [] p q h front rest = absurd (none_in p front)
+turn_split First (suc n) (x ∷ xs) p q h front rest = elim (split p x (take n xs) front) [
+  | inl e ↦ subst (λ y. First y q) e (all_at (First x) q xs h.0 (in_rest n q xs rest))
+  | inr more ↦ turn_split First n xs p q h.1 more rest
+]

@@ -11,6 +11,7 @@ pub mod CountedOnce
 pub mod Determined
 pub mod EpochLaws
 pub mod EpochsSpent
+pub mod GivenFree
 pub mod HotViews
 pub mod InquiryLaws
 pub mod Kept

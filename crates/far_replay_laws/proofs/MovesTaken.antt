@@ -12,7 +12,6 @@ use Rattle.far_word.specs.declared.refused.Refused.TheVariants.{Phase as WrongPh
 use Rattle.far_word.specs.Pointer.{read_of}
 use Rattle.far_core.specs.events.Clear.{is_near}
 use Rattle.far_core.specs.state.Law.{Law}
-use Rattle.far_core.specs.state.Spans.{names_place}
 use Rattle.far_core.specs.state.State.{State}
 use Rattle.far_book.proofs.region.Owns.{own_law}
 use Rattle.far_evac.specs.Choosing.{after_aborting, after_selecting}
@@ -38,12 +37,14 @@ use Rattle.far_replay.specs.Rounds.{after_round, chosen_by, given_by, is_evacuat
 use Rattle.far_replay_laws.specs.Steps.{IsChosen, IsRetired, IsSentFar, LiesIn, Takes}
 use Rattle.far_replay.specs.Turn.{refusal, unless, turn_effect, turn_reply, refused_effect}
 use Rattle.far_evac.proofs.Fronts.{kept_in}
+use Rattle.far_evac.proofs.Leading.{selecting}
+use Rattle.far_replay_laws.proofs.GivenFree.{GivenFree, ended_free, round_free}
 use Rattle.far_replay_laws.proofs.CountedOnce.{all_at, among_in, filtered, in_among, member_or_apart}
 use Rattle.far_replay_laws.proofs.LeftByWalks.{marked_frame, marking_frame}
 use Rattle.far_replay.proofs.LogBytes.{celled_takes, names_bare, none_taken, worded_takes}
 use Rattle.far_replay.proofs.RoundChoices.{policy_chooses}
 use Rattle.far_replay.proofs.RoundLeads.{begins, evacuating_is, is_round, made_leads, none_first}
-use Rattle.far_replay_laws.proofs.StepsTell.{held_by, held_chosen, none_held, policy_takes}
+use Rattle.far_replay_laws.proofs.StepsTell.{held_by, held_chosen, names_there, none_held, policy_takes}
 
 -- ---- what lies in a log, as a test
 abbrev in_log : ℕ → Option PtrWord → Bool
@@ -72,9 +73,6 @@ lies_by s p l (Some (Far len ds marks)) e h = absurd (false≢true h)
 
 in_lies : (s : State) (p l : ℕ) → LiesIn s p l → in_log l (read_of (s.cell p)) ≡ true
 in_lies s p l (len, ds, place, marks, near, log) = ap (in_log l) near ∙ eq-eqb place.log l log
-
-names_there : (s : State) (p l : ℕ) → LiesIn s p l → (at : ℕ) × (names_place (read_of (s.cell p)) l at ≡ true)
-names_there s p l (len, ds, place, marks, near, log) = (place.at, ap (λ o. names_place o l place.at) near ∙ rw (eq-eqb place.log l log, eq-eqb place.at place.at refl) refl)
 
 one_log : (s : State) (p k l : ℕ) → LiesIn s p k → LiesIn s p l → k ≡ l
 one_log s p k l (len, ds, place, marks, near, log) (n, d, to, other, there, is) =
@@ -205,22 +203,26 @@ module _ (m t : Moment) (objects : List ℕ) (h : Taken m t objects) (law : Law 
   left : (l : ℕ) → among t.held l ≡ true → RoomLeft m.core t.core l
   left l is = let x = h.left l is in record { left = bytes_in m.core l objects; bytes = leaves l; live = x.live; dead = x.dead; unused = x.unused }
 
-  back : (l : ℕ) → among m.held l ≡ true → among t.held l ≡ false → RoomBack m.core t.core l
-  back l held off = let x = h.back l held off in record {
+  back : GivenFree m.held t.core t.held → (l : ℕ) → among m.held l ≡ true → among t.held l ≡ false → RoomBack m.core t.core l
+  back free l held off = let x = h.back l held off in record {
     came = bytes_in t.core l objects;
     bytes = comes l;
     left = subst (TakeBytes m.core (Leaves m.core t.core l)) (sym x.left) (leaves l);
     live = x.live;
     dead = x.dead;
     unused = x.unused;
+    free = λ none. elim (free l held off) [
+      | inl is ↦ is
+      | inr some ↦ (let unused = x.unused in absurd (omega (arith, none, some, unused)))
+    ];
   }
 
-  pub moves_take : (Held : ℕ → Type 0) → ((l : ℕ) → Held l → among m.held l ≡ true) → ((l : ℕ) → ¬ Held l → among m.held l ≡ false) →
+  pub moves_take : GivenFree m.held t.core t.held → (Held : ℕ → Type 0) → ((l : ℕ) → Held l → among m.held l ≡ true) → ((l : ℕ) → ¬ Held l → among m.held l ≡ false) →
       ((l : ℕ) → IsChosen t l → among t.held l ≡ true) → ((l : ℕ) → ¬ IsChosen t l → among t.held l ≡ false) → MovesTake m Held t
-  moves_take Held on off chosen none = record {
+  moves_take free Held on off chosen none = record {
     aside = λ l is. aside l (off l is);
     left = λ l held is. left l (chosen l is);
-    back = λ l held is. back l (on l held) (none l is);
+    back = λ l held is. back free l (on l held) (none l is);
     all = record { gone = bytes_gone m.core t.core objects; bytes = goes; live = h.total };
   }
 
@@ -249,7 +251,7 @@ module _ (now : Moment) (law : Law now.core) (moment : MomentLaw now) where
       let t = ended (walked now count) in
       let walk = walk_is now count in
       let taken = (call_takes_room now t count (walked now count).tally (is_done (walked now count)) (own_law now.core law) moment).0 phase (walk.0, walked now count, walk.1, refl, refl, refl) in
-      moves_take now t taken.0 taken.1 leads.law (IsChosen now) (chosen_held now) (not_chosen now moment) (chosen_held t) (not_chosen t leads.moment)
+      moves_take now t taken.0 taken.1 leads.law (ended_free now law moment phase count) (IsChosen now) (chosen_held now) (not_chosen now moment) (chosen_held t) (not_chosen t leads.moment)
 
   begun_core : (logs : List ℕ) (Held : ℕ → Type 0) (t : Moment) → MovesTake (after_selecting now logs) Held t → MovesTake now Held t
   begun_core [] Held t h = h
@@ -267,12 +269,13 @@ module _ (now : Moment) (law : Law now.core) (moment : MomentLaw now) where
       let logs = chosen_by policy (rows_in now) most in
       let chosen = policy_chooses now policy most moment in
       let t = after_round now logs turns in
+      let begun = selecting now logs law moment may.0.idle may.0.left chosen.once chosen.of_order in
       let taken = round_takes_room now logs turns (round_told now logs turns) t law moment may.0.idle may.0.left chosen.once chosen.of_order (is_round now logs turns) in
       let held = begun_held logs may.0.idle in (
         logs,
         policy_takes now law moment policy most,
         begun_core logs (Contains logs) t
-            (moves_take (after_selecting now logs) t taken.0 taken.1 leads.law (Contains logs) (λ l c. held l ∙ in_among l logs c) (λ l off. held l ∙ not_named logs l off) (chosen_held t) (not_chosen t leads.moment)),
+            (moves_take (after_selecting now logs) t taken.0 taken.1 leads.law (round_free now law logs turns begun.moment) (Contains logs) (λ l c. held l ∙ in_among l logs c) (λ l off. held l ∙ not_named logs l off) (chosen_held t) (not_chosen t leads.moment)),
       )
 
 -- what is owed of those that deal with objects

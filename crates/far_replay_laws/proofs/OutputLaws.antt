@@ -1,6 +1,6 @@
 -- Each text has an output; refused commands change nothing; unknown mutators are refused; what logs tell makes 1,024.
 use Rattle.std.proofs.Common.{◌≡◌, ◌≢◌, ℕ, nat_eq, ◌+◌, ◌-◌, ◌*◌, ◌<◌, ◌≤◌, Bool, true, false, cond, not, ◌&&◌, nat_lt, length, get_or, is_some, sym, ap, refl, subst, ◌∙◌, arith, suc, Option, Some, None, Result, Ok, Err, List, [], ◌∷◌, inl, inr}
-use Rattle.std.specs.Prelude.{map, replicate, nat_le, ◌/◌, ◌^◌, bit_or, All, Contains}
+use Rattle.std.specs.Prelude.{map, replicate, nat_le, ◌/◌, ◌^◌, ◌⊎◌, ◌↔◌, bit_or, All, Contains}
 use Rattle.std.specs.Bool.{MatchBool}
 use Rattle.std.specs.List.{flat_map, range_with_len}
 use Rattle.std.proofs.lemmas.Bool.{lt-leb, eqb-true, eqb-false}
@@ -51,7 +51,7 @@ use Rattle.far_word.specs.declared.mark.Marks.{Marks}
 use Rattle.far_word.specs.declared.pointer.PtrWord.{PtrWord}
 use Rattle.far_word.specs.declared.pointer.PtrWord.TheVariants.{Free, Near, Far}
 use Rattle.far_word.specs.Pointer.{read_of}
-use Rattle.far_replay.specs.Stays.{MayGain, CellStays, MayMark, MaySee, Stays}
+use Rattle.far_replay.specs.Stays.{MayGain, CellStays, MayMark, MaySee, Sees, Stays}
 use Rattle.far_replay.specs.Rounds.{refused_step}
 use Rattle.far_replay.specs.Turn.{turn_effect, refused_effect, causes, first_cause, refusal, unless, turn_reply, reply_to, log_line, pointer_reply}
 use Rattle.far_replay_laws.proofs.AloneNew.{new_run, is_structure, is_length}
@@ -67,7 +67,7 @@ use Rattle.far_replay_laws.proofs.ViewLaws.{logs_stay}
 use Rattle.far_text.proofs.TextLaws.{texts_write}
 use Rattle.far_replay.proofs.Lowest.{lowest_cell_is, no_cell_is}
 use Rattle.far_replay_laws.proofs.Refusals.{turn_is_no_refusal, from_cause}
-use Rattle.far_replay.proofs.RoundLeads.{cell_same, stays_same, step_stays}
+use Rattle.far_replay.proofs.RoundLeads.{cell_same, same_clear, stays_same, step_stays}
 use Rattle.far_replay.proofs.WithCore.{same_order}
 use Rattle.far_replay.proofs.Spliced.{length-with_range, with_range_before, with_range_inside, with_range_after}
 use Rattle.far_replay.proofs.Turns.{marked_last, room_lacks, room_last, new_tests}
@@ -118,15 +118,15 @@ pub record CoreStays (c : Command) (why : Refusal) (s t : State) : Type 0 where
   pub unmarked : (p : ℕ) → ¬ MayMark c why p → t.cell p ≡ s.cell p
   pub rest : t ≡ record s { cell = t.cell }
 
-stays_with : (c : Command) (why : Refusal) (now : Moment) (t : State) → CoreStays c why now.core t → Stays c why now (with_core now t)
-stays_with c why now t h =
+stays_with : (c : Command) (why : Refusal) (now : Moment) (t : State) → ((m : ℕ) → ¬ Sees c why m) → CoreStays c why now.core t → Stays c why now (with_core now t)
+stays_with c why now t blind h =
     let clear : t.clear ≡ now.core.clear = ap (λ (x : State). x.clear) h.rest in
     record {
       objects = h.objects;
       cells = h.cells;
       unmarked = h.unmarked;
       seen = λ _. clear;
-      kept = λ m seen. ap (λ (f : ℕ → Bool). f m) clear ∙ seen;
+      clear = λ m. subst (λ (f : ℕ → Bool). (f m ≡ true) ↔ ((now.core.clear m ≡ true) ⊎ Sees c why m)) (sym clear) (same_clear (now.core.clear m) (Sees c why m) (blind m));
       rest = h.rest ∙ ap (λ (f : ℕ → Bool). record now.core { cell = t.cell; clear = f }) (sym clear);
       round = (same_order now t (ap (λ (x : State). x.current) h.rest), refl, refl);
     }
@@ -222,18 +222,18 @@ stays_sought c s m p may apart law opened ours slow =
 refused_leaves : (now : Moment) (c : Command) (why : Refusal) → Law now.core → refusal now c ≡ Some why → Stays c why now (refused_effect now c why)
 refused_leaves now (Mutator m (Write p from bytes)) NoRoom law e =
     let h = room_lacks (nat_lt m now.core.mutators) (is_opened now.core m) (uses now.core m p) (is_range (object_len now.core p) from (length bytes)) (has_no_room now.core m p) e in
-    stays_with (Mutator m (Write p from bytes)) NoRoom now (sought now.core m p) (stays_sought (Mutator m (Write p from bytes)) now.core m p refl (λ q other. other) law h.1 h.2 (and_parts (is_slow now.core p) (not (is_some (comes_to (sought now.core m p) p))) h.3).0)
+    stays_with (Mutator m (Write p from bytes)) NoRoom now (sought now.core m p) (λ k none. none) (stays_sought (Mutator m (Write p from bytes)) now.core m p refl (λ q other. other) law h.1 h.2 (and_parts (is_slow now.core p) (not (is_some (comes_to (sought now.core m p) p))) h.3).0)
 refused_leaves now (Mutator m (Read p from len)) NoRoom law e =
     let h = room_lacks (nat_lt m now.core.mutators) (is_opened now.core m) (uses now.core m p) (is_range (object_len now.core p) from len) (has_no_room now.core m p) e in
-    stays_with (Mutator m (Read p from len)) NoRoom now (sought now.core m p) (stays_sought (Mutator m (Read p from len)) now.core m p refl (λ q other. other) law h.1 h.2 (and_parts (is_slow now.core p) (not (is_some (comes_to (sought now.core m p) p))) h.3).0)
+    stays_with (Mutator m (Read p from len)) NoRoom now (sought now.core m p) (λ k none. none) (stays_sought (Mutator m (Read p from len)) now.core m p refl (λ q other. other) law h.1 h.2 (and_parts (is_slow now.core p) (not (is_some (comes_to (sought now.core m p) p))) h.3).0)
 refused_leaves now (Mutator m (View p)) NoRoom law e =
     let h = room_last (nat_lt m now.core.mutators) (is_opened now.core m) (uses now.core m p) (has_no_room now.core m p) e in
-    stays_with (Mutator m (View p)) NoRoom now (sought now.core m p) (stays_sought (Mutator m (View p)) now.core m p refl (λ q other. other) law h.1 h.2 (and_parts (is_slow now.core p) (not (is_some (comes_to (sought now.core m p) p))) h.3).0)
+    stays_with (Mutator m (View p)) NoRoom now (sought now.core m p) (λ k none. none) (stays_sought (Mutator m (View p)) now.core m p refl (λ q other. other) law h.1 h.2 (and_parts (is_slow now.core p) (not (is_some (comes_to (sought now.core m p) p))) h.3).0)
 refused_leaves now (Mutator m (Try p)) (Marked word) law e =
     let h = marked_last (nat_lt m now.core.mutators) (is_opened now.core m) (uses now.core m p) (is_slow now.core p) (now.core.cell p) word e in
-    stays_with (Mutator m (Try p)) (Marked word) now (with_view now.core p) (stays_hot now.core m p word law h.1 h.2 h.3)
+    stays_with (Mutator m (Try p)) (Marked word) now (with_view now.core p) (λ k none. none) (stays_hot now.core m p word law h.1 h.2 h.3)
 refused_leaves now (Evacuator step) why law e = step_stays now step why e
-refused_leaves now c why law e = stays_same c why now
+refused_leaves now c why law e = stays_same c why now (λ k none. none)
 
 pub refusals_stay : (now : Moment) (c : Command) (r : Reply) (next : Moment) (why : Refusal) → Law now.core → Commanded now c r next → r ≡ Refused why → Stays c why now next
 refusals_stay now c r next why law h e = subst (Stays c why now) (sym (refused_moment now c r next why h e)) (refused_leaves now c why law (cause_of now c r next why h e))

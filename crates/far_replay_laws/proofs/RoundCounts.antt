@@ -42,7 +42,7 @@ module _ (s u : State) (p : ℕ) (same : but_evac (read_of (u.cell p)) ≡ but_e
 how_many_same : (P Q : ℕ → Type 0) (n : ℕ) → ((k : ℕ) → P k → Q k) → ((k : ℕ) → Q k → P k) → IsHowMany P n → IsHowMany Q n
 how_many_same P Q n to from (ks, long, once, which) = (ks, long, once, λ k. ((λ c. to k ((which k).0 c)), (λ h. (which k).1 (from k h))))
 
-abbrev Alike : Moment → Moment → Type 0
+abbrev pub Alike : Moment → Moment → Type 0
 Alike m u = (p : ℕ) → but_evac (says u p) ≡ but_evac (says m p)
 
 moved_alike : (m u : Moment) (t : State) → Alike m u → (p : ℕ) → IsMoved u.core t p → IsMoved m.core t p
@@ -61,23 +61,23 @@ after_nothing : (t : Tally) → plus nothing t ≡ t
 after_nothing t = λ i. record { moved = after_none t.moved i; far = after_none t.far i; dropped = after_none t.dropped i; freed = after_none t.freed i }
 
 -- ---- no object has left yet; or a walk was begun at some moment, and goes on from there
-record Early (m : Moment) (r : Turned) : Type 0 where
-  alike : Alike m r.moment
-  held : r.moment.held ≡ m.held
-  tally : r.tally ≡ nothing
-  goes : r.over ≡ false
+pub record Early (m : Moment) (r : Turned) : Type 0 where
+  pub alike : Alike m r.moment
+  pub held : r.moment.held ≡ m.held
+  pub tally : r.tally ≡ nothing
+  pub goes : r.over ≡ false
 
-record Late (m : Moment) (r : Turned) : Type 0 where
-  at : Moment
-  many : ℕ
-  law : Law at.core
-  moment : MomentLaw at
-  leaves : at.phase ≡ Evacuating
-  alike : Alike m at
-  held : at.held ≡ m.held
-  is : r.moment ≡ ended (walked at many)
-  tally : r.tally ≡ (walked at many).tally
-  over : r.over ≡ is_done (walked at many)
+pub record Late (m : Moment) (r : Turned) : Type 0 where
+  pub at : Moment
+  pub many : ℕ
+  pub law : Law at.core
+  pub moment : MomentLaw at
+  pub leaves : at.phase ≡ Evacuating
+  pub alike : Alike m at
+  pub held : at.held ≡ m.held
+  pub is : r.moment ≡ ended (walked at many)
+  pub tally : r.tally ≡ (walked at many).tally
+  pub over : r.over ≡ is_done (walked at many)
 
 -- a walk that isn't done is still evacuating
 late_phase : (m : Moment) (r : Turned) → Late m r → r.over ≡ false → r.moment.phase ≡ Evacuating
@@ -141,7 +141,7 @@ module _ (m : Moment) (r : Turned) (law : Law r.moment.core) (moment : MomentLaw
   turn_spans goes Evacuating e (inl h) = inr (begins_late e h)
   turn_spans goes Evacuating e (inr h) = inr (goes_late goes h)
 
-spans : (m : Moment) → Law m.core → MomentLaw m → is_idle m.phase ≡ false → (n : ℕ) → Early m (turns_made m n) ⊎ Late m (turns_made m n)
+pub spans : (m : Moment) → Law m.core → MomentLaw m → is_idle m.phase ≡ false → (n : ℕ) → Early m (turns_made m n) ⊎ Late m (turns_made m n)
 spans m law moment runs zero = inl record { alike = λ p. refl; held = refl; tally = refl; goes = refl }
 spans m law moment runs (suc n) =
     let r = turns_made m n in

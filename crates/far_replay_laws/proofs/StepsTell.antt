@@ -1,8 +1,8 @@
 -- What a step of the evacuator tells is so.
 use Rattle.std.proofs.Common.{◌≡◌, ◌≢◌, ℕ, zero, suc, ◌+◌, ◌*◌, ◌/◌, ◌%◌, ◌^◌, ◌<◌, ◌≤◌, ◌==◌, ◌&&◌, ◌||◌, Bool, true, false, not, cond, nat_lt, nat_le, Option, Some, None, List, [], ◌∷◌, length, take, drop, length-drop, Ok, ap, sym, refl, ◌∙◌, subst, arith, inl, inr, if◌then◌else◌}
-use Rattle.std.specs.Prelude.{◌↔◌, bit_or, Contains, IsSome}
-use Rattle.std.specs.List.{AllByRecursion}
-use Rattle.std.proofs.lemmas.Bool.{cond_both, eq-eqb, eqb-true, false≢true, true≢false, not-true}
+use Rattle.std.specs.Prelude.{◌↔◌, bit_or, Contains, IsSome, find}
+use Rattle.std.specs.List.{AllByRecursion, range_with_len}
+use Rattle.std.proofs.lemmas.Bool.{cases_lt, cond_both, eq-eqb, eqb-true, false≢true, true≢false, not-true}
 use Rattle.std.proofs.lemmas.Bool.Decides.{nat_tests}
 use Rattle.std.proofs.lemmas.List.{length-take, length-take-le}
 use Rattle.std.proofs.lemmas.List.Elements.{Contains-append_cases, Contains-append_left, Contains-append_right}
@@ -38,9 +38,10 @@ use Rattle.far_book.specs.book.Rows.{row_of}
 use Rattle.far_book.proofs.region.Owns.{own_law}
 use Rattle.far_evac.specs.Census.{kind_in, kind_named}
 use Rattle.far_evac.specs.Choosing.{after_aborting, after_selecting}
-use Rattle.far_evac.specs.Dealings.{HasLeft, is_away, is_nowhere, says}
+use Rattle.far_evac.specs.Dealings.{BeginsLive, HasLeft, is_away, is_nowhere, says}
 use Rattle.far_evac.specs.Laws.{DealtInOrder, IsGivenUp, but_evac}
 use Rattle.far_evac.specs.Live.{is_empty, lacking, live_among, live_in}
+use Rattle.far_evac.specs.LiveLaws.{ComesFirst}
 use Rattle.far_evac.specs.Marking.{after_marking, leaves_some, marked_core, newly_marked}
 use Rattle.far_evac.specs.Moment.{Moment, progress_of}
 use Rattle.far_evac.specs.MomentLaw.{MomentLaw, has_risen, is_idle}
@@ -50,12 +51,15 @@ use Rattle.far_evac.specs.Walk.{Walked, begun, dealt_first, dealt_so, ended, is_
 use Rattle.far_evac.specs.declared.answers.Polled.TheVariants as polls
 use Rattle.far_evac.specs.declared.census.LogKind.TheVariants.{Chosen}
 use Rattle.far_evac.specs.declared.phase.Phase.TheVariants.{Idle, Marking, Waiting, Evacuating}
+use Rattle.far_evac.proofs.Fronts.{kept_in}
 use Rattle.far_evac.proofs.InOrder.{in_order}
 use Rattle.far_evac.proofs.Lacking.{Once, in_live, once_among}
 use Rattle.far_evac.proofs.LeadingMarks.{marking, marks_cells}
 use Rattle.far_evac.proofs.LeadingWalks.{walking_law}
-use Rattle.far_evac.proofs.LiveOnce.{LivesIn, live_named, near_at}
+use Rattle.far_evac.proofs.LiveOnce.{LivesIn, first_named, live_named, near_at}
+use Rattle.far_evac.proofs.LiveOrder.{live_in_order}
 use Rattle.far_evac.proofs.Marks.{is_given_up, is_marked, mark_sets, others_stay}
+use Rattle.far_evac.proofs.Orders.{walks_left}
 use Rattle.far_evac.proofs.Readiness.{risen_is_ready}
 use Rattle.far_evac.proofs.Rounds.{found_in, passed_phase, so_phase}
 use Rattle.far_evac.proofs.Unviewed.{none_found}
@@ -64,8 +68,8 @@ use Rattle.far_text.specs.Command.{By, Choice, LeastLive, Mark, Oldest, Policy, 
 use Rattle.far_replay_laws.specs.HowMany.{IsHowMany}
 use Rattle.far_replay.specs.Reply.{Marked, Selected}
 use Rattle.far_replay.specs.Rounds.{chosen_by, given_by, rows_in}
-use Rattle.far_replay_laws.specs.Steps.{GainsEvac, HoldsUp, IsChosen, IsGivenBack, IsMoved, IsNear, IsRetired, IsSentFar, LiesIn, NobodyHoldsUp, ReachesEpoch, ShowsEvac, Takes, TellsChoice, TellsEnd, TellsLeaving, TellsMarks, phase_after}
-use Rattle.far_replay_laws.proofs.CountedOnce.{all_at, among_in, beyond, filtered, front_or_rest, how_many_in, how_many_of, in_among, in_front, member_or_apart, once_filter, once_take}
+use Rattle.far_replay_laws.specs.Steps.{GainsEvac, HoldsUp, IsChosen, IsAt, IsGivenBack, IsMoved, IsNear, IsRetired, IsSentFar, LiesAt, LiesIn, NobodyHoldsUp, ReachesEpoch, ShowsEvac, StandsFirst, Takes, TellsChoice, TellsEnd, TellsLeaving, TellsMarks, phase_after}
+use Rattle.far_replay_laws.proofs.CountedOnce.{all_at, among_in, beyond, filtered, front_or_rest, how_many_in, how_many_of, in_among, in_front, member_or_apart, once_filter, once_take, turn_filter, turn_split}
 use Rattle.far_replay.proofs.RoundChoices.{rows_are}
 
 -- ---- cells
@@ -123,6 +127,25 @@ none_named (x ∷ xs) l kind e h = false≢true e
 empty_where : (ls : List ℕ) (kind : ℕ → Kind) → AllByRecursion (λ l. kind l ≡ kinds.Sealed) ls → ((l : ℕ) → kind_named (among ls l) (kind l) ≢ Chosen) → is_empty ls ≡ true
 empty_where [] kind sealed none = refl
 empty_where (l ∷ ls) kind sealed none = absurd (none l (chosen_by_both (among (l ∷ ls) l) (kind l) (in_among l (l ∷ ls) (0, omega arith, refl)) sealed.0))
+
+-- ---- who lies in a log lives there
+module _ (s : State) (law : Law (own_part s)) (p len ds : ℕ) (place : Place) (marks : Marks) (near : read_of (s.cell p) ≡ Some (Near len ds place marks)) where
+  in_logs : (ls : List ℕ) → Contains ls place.log → Contains (live_among s ls) p
+  in_logs [] h = absurd (none_in place.log h)
+  in_logs (l ∷ ls) h = elim (split place.log l ls h) [
+    | inl e ↦ Contains-append_left (live_in s l) (live_among s ls) p (subst (λ k. Contains (live_in s k) p) (sym e) (in_live s law p len ds place marks near))
+    | inr more ↦ Contains-append_right (live_in s l) (live_among s ls) p (in_logs ls more)
+  ]
+
+pub names_there : (s : State) (p l : ℕ) → LiesIn s p l → (at : ℕ) × (names_place (read_of (s.cell p)) l at ≡ true)
+names_there s p l (len, ds, place, marks, near, log) = (place.at, ap (λ o. names_place o l place.at) near ∙ rw (eq-eqb place.log l log, eq-eqb place.at place.at refl) refl)
+
+-- one that is found where it lay lies there
+found_there : (t : State) (p len ds : ℕ) (place : Place) (marks : Marks) (o : Option PtrWord) → read_of (t.cell p) ≡ o → body_of o ≡ body_of (Some (Near len ds place marks)) → LiesIn t p place.log
+found_there t p len ds place marks None is same = absurd (false≢true (ap is_near same))
+found_there t p len ds place marks (Some Free) is same = absurd (false≢true (ap is_near same))
+found_there t p len ds place marks (Some (Near n d at m)) is same = (n, d, at, m, is, ap (λ (x : Place). x.log) (ap (place_or place) same))
+found_there t p len ds place marks (Some (Far n d m)) is same = absurd (false≢true (ap is_near same))
 
 -- ---- objects leave
 module _ (now : Moment) (count : ℕ) (law : Law now.core) (moment : MomentLaw now) (leaves : now.phase ≡ Evacuating) where
@@ -234,6 +257,35 @@ module _ (now : Moment) (count : ℕ) (law : Law now.core) (moment : MomentLaw n
     sealed_then [] h = tt
     sealed_then (l ∷ ls) h = (h.0.1, sealed_then ls h.1)
 
+  -- ---- their order
+  first_lies : (l : ℕ) (xs : List ℕ) → live_in t l ≡ xs → is_empty xs ≡ false → (p : ℕ) × LiesIn t p l
+  first_lies l [] e some = absurd (true≢false some)
+  first_lies l (p ∷ ps) e some = (p, near_in t l p (first_named t l p ps e))
+
+  begins_so : (l : ℕ) (ls : List ℕ) → w.moment.held ≡ l ∷ ls → (p : ℕ) × LiesIn t p l
+  begins_so l ls e =
+      let rests = (walks_left now many w (risen_is_ready now (own_law now.core law) moment (ap has_risen leaves)) (walk_is now count).1.walks).rests in
+      first_lies l (live_in t l) refl (subst (BeginsLive t) e rests.begins)
+
+  lives_held : (p len ds : ℕ) (place : Place) (marks : Marks) → read_of (now.core.cell p) ≡ Some (Near len ds place marks) → IsChosen now place.log → Contains all p
+  lives_held p len ds place marks near chosen =
+      in_logs now.core (own_law now.core law) p len ds place marks near now.held (among_in place.log now.held (held_by (among now.held place.log) (now.core.kind place.log) chosen))
+
+  left_first : (p q : ℕ) (at to : Place) → IsAt now.core p at → IsAt now.core q to → IsChosen now at.log → IsChosen now to.log → ¬ LiesIn t p at.log → LiesIn t q to.log → StandsFirst now.held at to
+  left_first p q at to (len, ds, marks, here) (n, d, m, there) chosen other away still =
+      let went : Contains gone p = elim (member_or_apart p gone) [
+        | inl c ↦ c
+        | inr apart ↦ absurd (away (found_there t p len ds at marks (says w.moment p) refl (dealt.deals.others p apart ∙ ap body_of here)))
+      ] in
+      let rest : Contains (drop many all) q = elim (front_or_rest many q all (lives_held q n d to m there other)) [
+        | inl c ↦
+            let from = names_there now.core q to.log (n, d, to, m, there, refl) in
+            let here = names_there t q to.log still in
+            absurd (true≢false (sym here.1 ∙ all_at (λ x. HasLeft (says now x) (says w.moment x)) q gone dealt.deals.left c to.log from.0 here.0 from.1))
+        | inr c ↦ c
+      ] in
+      turn_split (ComesFirst now.core now.held) many all p q (live_in_order now.core now.held (own_law now.core law) moment.held_once).order went rest len ds n d at to marks m here there
+
   left_so : TellsLeaving now count (progress_of w.tally (is_done w)) w.moment
   left_so = record {
     moved = subst (IsHowMany (IsMoved now.core t)) (sym dealt.deals.moved) (how_many_of (IsMoved now.core t) (λ p. is_near (says w.moment p)) gone gone_once (λ p c h. moved_by p c (says w.moment p) refl h) moved_gone);
@@ -249,6 +301,9 @@ module _ (now : Moment) (count : ℕ) (law : Law now.core) (moment : MomentLaw n
     most = omega (arith, dealt.counted, (walk_is now count).1.most);
     enough = λ more. dealt.counted ∙ (walk_is now count).1.enough more;
     done = done_so;
+    held = dealt.gives.held;
+    begins = begins_so;
+    order = left_first;
   }
 
   -- where no log is left each was given back
@@ -260,7 +315,18 @@ module _ (now : Moment) (count : ℕ) (law : Law now.core) (moment : MomentLaw n
 
   pub tells_leaving : TellsLeaving now count (progress_of w.tally (is_done w)) (ended w)
   tells_leaving = cond_both (is_done w) (record w.moment { phase = Idle }) w.moment (TellsLeaving now count (progress_of w.tally (is_done w)))
-      (λ _. record { moved = left_so.moved; far = left_so.far; dropped = left_so.dropped; freed = left_so.freed; most = left_so.most; enough = left_so.enough; done = left_so.done })
+      (λ _. record {
+        moved = left_so.moved;
+        far = left_so.far;
+        dropped = left_so.dropped;
+        freed = left_so.freed;
+        most = left_so.most;
+        enough = left_so.enough;
+        done = left_so.done;
+        held = left_so.held;
+        begins = left_so.begins;
+        order = left_so.order;
+      })
       (λ _. left_so)
 
 -- ---- the phase of a walk
@@ -279,15 +345,6 @@ ended_phase m n = either (is_done (walked m n)) where
   either : (b : Bool) → (if b then record (walked m n).moment { phase = Idle } else (walked m n).moment).phase ≡ (if b then Idle else m.phase)
   either true = refl
   either false = walked_phase m n
-
--- ---- who lies in a log lives there
-module _ (s : State) (law : Law (own_part s)) (p len ds : ℕ) (place : Place) (marks : Marks) (near : read_of (s.cell p) ≡ Some (Near len ds place marks)) where
-  in_logs : (ls : List ℕ) → Contains ls place.log → Contains (live_among s ls) p
-  in_logs [] h = absurd (none_in place.log h)
-  in_logs (l ∷ ls) h = elim (split place.log l ls h) [
-    | inl e ↦ Contains-append_left (live_in s l) (live_among s ls) p (subst (λ k. Contains (live_in s k) p) (sym e) (in_live s law p len ds place marks near))
-    | inr more ↦ Contains-append_right (live_in s l) (live_among s ls) p (in_logs ls more)
-  ]
 
 -- ---- giving up
 module _ (now : Moment) (law : Law now.core) where
@@ -350,6 +407,27 @@ module _ (now : Moment) (count : ℕ) (law : Law now.core) (moment : MomentLaw n
     | inr apart ↦ absurd (true≢false (sym with ∙ sym (ap has_evac later) ∙ ap (λ w. has_evac (read_of w)) ((is_marked now count fits).others p apart) ∙ ap has_evac near ∙ without))
   ]
 
+  -- those that gained it stand before all that lack it then
+  in_turn : (p q : ℕ) (at to : Place) → GainsEvac now.core next p → LiesAt next p at true → LiesAt next q to false → IsChosen now to.log → StandsFirst now.held at to
+  in_turn p q at to gains (n, d, m, here, _) (len, ds, marks, there, bare) chosen =
+      let (l, k, place, was, near, _) = gains.0 in
+      let all : List ℕ = live_among now.core now.held in
+      let apart : AllByRecursion (λ x. x ≢ q) new = elim (member_or_apart q new) [
+        | inl c ↦ absurd (true≢false (sym (all_at (λ x. has_evac (read_of (next.cell x)) ≡ true) q new (is_marked now count fits).now c) ∙ ap has_evac there ∙ bare))
+        | inr none ↦ none
+      ] in
+      let before : read_of (now.core.cell q) ≡ Some (Near len ds to marks) = ap read_of (sym ((is_marked now count fits).others q apart)) ∙ there in
+      let lives = in_logs now.core (own_law now.core law) q len ds to marks before now.held (among_in to.log now.held (held_by (among now.held to.log) (now.core.kind to.log) chosen)) in
+      let lacks : lacks_it q ≡ true = ap (λ o. not (has_evac o)) before ∙ ap not bare in
+      let rest : Contains (drop count (lacking now.core now.held)) q = elim (front_or_rest count q (lacking now.core now.held) (kept_in lacks_it q all lacks lives)) [
+        | inl c ↦ absurd (all_at (λ x. x ≢ q) q new apart c refl)
+        | inr c ↦ c
+      ] in
+      let order = turn_filter (ComesFirst now.core now.held) lacks_it all (live_in_order now.core now.held (own_law now.core law) moment.held_once).order in
+      let same : at ≡ place = ap (place_or at) (sym (ap but_evac here) ∙ (is_marked now count fits).same p ∙ ap but_evac near) in
+      subst (λ (x : Place). StandsFirst now.held x to) (sym same)
+      (turn_split (ComesFirst now.core now.held) count (lacking now.core now.held) p q order (gained_new p gains) rest l k len ds place to was marks near before)
+
   -- where more lack it than are marked, one is left
   some_left : count < length (lacking now.core now.held) → (p l : ℕ) × IsChosen now l × LiesIn (marked_core now count) p l × ShowsEvac (marked_core now count) p false
   some_left lt =
@@ -388,6 +466,7 @@ module _ (now : Moment) (count : ℕ) (law : Law now.core) (moment : MomentLaw n
   tells_marks = record {
     gained = how_many_in (GainsEvac now.core next) new new_once gained_by gained_new;
     most = omega (arith, length-take count (lacking now.core now.held));
+    order = in_turn;
     epoch = risen (leaves_some now count) refl;
   }
 
@@ -419,6 +498,16 @@ up_when false scope epoch h = (refl, (λ e. grind (arith, nat_tests, h, e)), gri
 nobody : (s : State) → first_open s ≡ None → NobodyHoldsUp s
 nobody s e m epoch known unseen is = late_when (s.clear m) (s.scope m) epoch s.round_epoch (none_found (holds_up s) m 0 s.mutators e (omega arith) (omega (arith, known))) unseen is
 
+-- none before the first that is found
+sooner : (test : ℕ → Bool) (k a n : ℕ) → find test (range_with_len a n) ≡ Some k → (j : ℕ) → a ≤ j → j < k → test j ≡ false
+sooner test k a zero = λ e. absurd cc
+sooner test k a (suc n) = cond_both (test a) (Some a) (find test (range_with_len (a + 1) n)) (λ (o : Option ℕ). o ≡ Some k → (j : ℕ) → a ≤ j → j < k → test j ≡ false)
+    (λ _ e j from to. let same : a ≡ k = cc in let odd : ⊥ = omega (arith, from, to, same) in absurd odd)
+    (λ none e j from to. elim (cases_lt a j) [
+      | inl past ↦ sooner test k (a + 1) n e j (omega (arith, past)) to
+      | inr le ↦ let same : j ≡ a = omega (arith, from, le) in ap test same ∙ none
+    ])
+
 somebody : (s : State) → Law s → (o : Option ℕ) → first_open s ≡ o → (m epoch : ℕ) → polled_at s o ≡ polls.StillOpen m epoch → HoldsUp s m epoch
 somebody s law None is m epoch e = absurd cc
 somebody s law (Some k) is m epoch e =
@@ -428,7 +517,13 @@ somebody s law (Some k) is m epoch e =
     let up = up_when (s.clear k) (s.scope k) s.round_epoch found.0 in
     let odd = odd_of (s.scope k) up.1 (law.scopes.scope_read k) in
     subst (λ j. HoldsUp s j epoch) mutator
-    record { known = omega (arith, found.1); unseen = up.0; open_at = odd ∙ ap (λ n. 2 * n + 1) at; older = subst (λ n. n < s.round_epoch) at up.2 }
+    record {
+      known = omega (arith, found.1);
+      unseen = up.0;
+      open_at = odd ∙ ap (λ n. 2 * n + 1) at;
+      older = subst (λ n. n < s.round_epoch) at up.2;
+      first = λ j from lt unseen opened. late_when (s.clear j) (s.scope j) from s.round_epoch (sooner (holds_up s) k 0 s.mutators is j (omega arith) lt) unseen opened;
+    }
 
 pub tells_clear : (s : State) → polled s ≡ polls.Clear → NobodyHoldsUp s
 tells_clear s e = by_first (first_open s) refl e where

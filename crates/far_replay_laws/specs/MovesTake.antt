@@ -40,7 +40,7 @@ pub record RoomLeft (s t : State) (l : ℕ) : Type 0 where
   pub dead : dead_bytes t l ≡ dead_bytes s l + left
   pub unused : unused_bytes t l ≡ unused_bytes s l
 
--- one that was given back: all that was live left it, and it has what came since
+-- one that was given back: all that was live left it, and it has what came since; where nothing came it is free
 pub record RoomBack (s t : State) (l : ℕ) : Type 0 where
   pub came : ℕ
   pub bytes : TakeBytes t (Comes s t l) came
@@ -48,6 +48,7 @@ pub record RoomBack (s t : State) (l : ℕ) : Type 0 where
   pub live : live_bytes t l ≡ came
   pub dead : dead_bytes t l ≡ 0
   pub unused : unused_bytes t l + came ≡ 1024
+  pub free : came ≡ 0 → t.kind l ≡ kinds.Free
 
 -- the live bytes of all logs together fall by the objects that went far or were retired
 pub record RoomOfAll (s t : State) : Type 0 where

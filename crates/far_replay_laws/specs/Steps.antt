@@ -1,5 +1,5 @@
 -- What steps of the evacuator tell, by the moments before and after each: how many objects and logs have changed so, and which logs were chosen.
-use Rattle.std.specs.Prelude.{◌≡◌, ◌≢◌, ◌↔◌, ℕ, ◌+◌, ◌*◌, ◌<◌, ◌≤◌, Bool, true, false, Option, Some, None, List, [], ◌∷◌, length, map, option_map, take, Ok, Err, if◌then◌else◌}
+use Rattle.std.specs.Prelude.{◌≡◌, ◌≢◌, ◌↔◌, ◌⊎◌, ℕ, ◌+◌, ◌*◌, ◌<◌, ◌≤◌, Bool, true, false, Option, Some, None, List, [], ◌∷◌, length, map, option_map, take, drop, Ok, Err, if◌then◌else◌}
 use Rattle.far_word.specs.declared.mark.Marks.{Marks}
 use Rattle.far_word.specs.declared.pointer.Place.{Place}
 use Rattle.far_word.specs.declared.pointer.PtrWord.TheVariants as pointer
@@ -14,6 +14,7 @@ use Rattle.far_policy.specs.Scripted.{FollowsScript}
 use Rattle.far_core.specs.state.State.{State}
 use Rattle.far_book.specs.book.Rows.{row_of}
 use Rattle.far_evac.specs.Census.{kind_in}
+use Rattle.far_evac.specs.LiveLaws.{IsBehind}
 use Rattle.far_evac.specs.declared.answers.Progress.{Progress}
 use Rattle.far_evac.specs.declared.answers.RoundEnd.{RoundEnd}
 use Rattle.far_evac.specs.declared.answers.RoundEnd.TheVariants as ends
@@ -39,6 +40,17 @@ ShowsEvac s p evac = (len ds : ℕ) × (place : Place) × (marks : Marks) × (re
 
 abbrev pub IsFar : State → ℕ → Type 0
 IsFar s p = (len ds : ℕ) × (marks : Marks) × (read_of (s.cell p) ≡ Some (pointer.Far len ds marks))
+
+-- it lies at this place; and with EVAC, or without
+abbrev pub IsAt : State → ℕ → Place → Type 0
+IsAt s p place = (len ds : ℕ) × (marks : Marks) × (read_of (s.cell p) ≡ Some (pointer.Near len ds place marks))
+
+abbrev pub LiesAt : State → ℕ → Place → Bool → Type 0
+LiesAt s p place evac = (len ds : ℕ) × (marks : Marks) × (read_of (s.cell p) ≡ Some (pointer.Near len ds place marks)) × (marks.evac ≡ evac)
+
+-- a place comes before another in some logs: its log stands sooner among them, or is the same one, and it is a lower word
+abbrev pub StandsFirst : List ℕ → Place → Place → Type 0
+StandsFirst logs at to = ((at.log ≡ to.log) × (at.at < to.at)) ⊎ IsBehind logs at.log to.log
 
 -- ---- what has become of it from s to t
 abbrev pub GainsEvac : State → State → ℕ → Type 0
@@ -89,19 +101,25 @@ ReachesEpoch now count marked (Some epoch) after =
 pub record TellsMarks (now : Moment) (count marked : ℕ) (waiting : Option ℕ) (after : Moment) : Type 0 where
   pub gained : IsHowMany (GainsEvac now.core after.core) marked
   pub most : marked ≤ count
+  -- those that gained it stand before all that lack it then
+  pub order : (p q : ℕ) (at to : Place) → GainsEvac now.core after.core p → LiesAt after.core p at true → LiesAt after.core q to false → IsChosen now to.log → StandsFirst now.held at to
   pub epoch : ReachesEpoch now count marked waiting after
 
 -- ---- waiting
--- nobody who wasn't seen clear before has a scope that is open from before the round
-abbrev pub NobodyHoldsUp : State → Type 0
-NobodyHoldsUp s = (m epoch : ℕ) → m < s.mutators → s.clear m ≡ false → s.scope m ≡ 2 * epoch + 1 → s.round_epoch ≤ epoch
+-- of the mutators below a number, or of all, nobody who wasn't seen clear before has a scope that is open from before the round
+abbrev pub NobodyBelow : ℕ → State → Type 0
+NobodyBelow n s = (m epoch : ℕ) → m < n → s.clear m ≡ false → s.scope m ≡ 2 * epoch + 1 → s.round_epoch ≤ epoch
 
--- this mutator, who wasn't, has
+abbrev pub NobodyHoldsUp : State → Type 0
+NobodyHoldsUp s = NobodyBelow s.mutators s
+
+-- this mutator, who wasn't, has, and nobody before it
 pub record HoldsUp (s : State) (m epoch : ℕ) : Type 0 where
   pub known : m < s.mutators
   pub unseen : s.clear m ≡ false
   pub open_at : s.scope m ≡ 2 * epoch + 1
   pub older : epoch < s.round_epoch
+  pub first : NobodyBelow m s
 
 -- ---- leaving
 -- the counts are of what has changed so; as many objects have left as were asked for, unless each log was given back
@@ -113,6 +131,10 @@ pub record TellsLeaving (now : Moment) (count : ℕ) (progress : Progress) (afte
   pub most : progress.moved + progress.far + progress.dropped ≤ count
   pub enough : progress.done ≡ false → progress.moved + progress.far + progress.dropped ≡ count
   pub done : (progress.done ≡ true) ↔ ((l : ℕ) → kind_in after l ≢ kinds.Chosen)
+  -- logs are given back from the front on, and the one that is in front then has an object; those that have left stood before all that lie there still
+  pub held : after.held ≡ drop progress.freed now.held
+  pub begins : (l : ℕ) (ls : List ℕ) → after.held ≡ l ∷ ls → (p : ℕ) × LiesIn after.core p l
+  pub order : (p q : ℕ) (at to : Place) → IsAt now.core p at → IsAt now.core q to → IsChosen now at.log → IsChosen now to.log → ¬ LiesIn after.core p at.log → LiesIn after.core q to.log → StandsFirst now.held at to
 
 -- ---- giving up
 -- no log is chosen any more, no object that lies in one of those that were has EVAC, and each cell says what it said, but for EVAC

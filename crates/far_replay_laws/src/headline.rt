@@ -55,8 +55,8 @@ pub fn views_last()
 {}
 
 /// A refused command leaves objects, bytes, places and all else as they were, but for HOT and MOVE in its object's cell,
-/// which it may add for want of room, or where a try finds a mark, and for the mutators that a wait saw clear before the one
-/// that it waits for; any other refusal leaves the moment as it is. A line of a
+/// which it may add for want of room, or where a try finds a mark, and for the mutators before the one that a wait names, which it saw clear, and
+/// no others; any other refusal leaves the moment as it is. A line of a
 /// mutator that the heap hasn't is refused 8. Where the object that it reads, writes, views or tries is near and unmarked, no command after the
 /// heap is refused for want of memory, by a device or for a mark; for want of a pointer or of room a new object alone is
 /// refused.
@@ -68,7 +68,8 @@ pub fn refusals_leave_all()
 {}
 
 /// The replies to one mutator's lines are what its own lines alone say: its own, and no others, say what it knows. What
-/// it knows then, its scope, its objects' bytes and which of them it views, is so in the heap after each command.
+/// it knows then, its scope, its objects' bytes and which of them it views, is so in the heap after each command. So `new` in
+/// range is refused 3 exactly where all its 128 objects exist.
 pub fn mutators_are_alone()
     ensures alone { MutatorsAreAlone }
     ensures own { OwnLinesCount }
@@ -82,8 +83,8 @@ pub fn mutators_are_alone()
 /// log turn live, and where a near object lay its bytes turn from live to dead; each other log has the bytes that it had. A drop takes no span,
 /// and `drops_end_objects` says what becomes of a near object's bytes. Of other commands
 /// `evacuate` and `round` alone change bytes of logs, or give logs back: in a log that wasn't chosen dead bytes stay, live ones rise and unused
-/// ones fall by the objects that came; in one that still is, what left it is dead; one that was given back has what came since; and
-/// all live bytes together fall by the objects that went far or were retired.
+/// ones fall by the objects that came; in one that still is, what left it is dead; one that was given back has what came since, and is
+/// free where nothing came; and all live bytes together fall by the objects that went far or were retired.
 pub fn new_is_made()
     ensures answer { NewIsMade }
     ensures none { NoneIsLeft }
@@ -126,10 +127,11 @@ pub fn drops_end_objects()
 {}
 
 /// Each step of the evacuator tells what has happened. `select` tells the logs that its policy or script takes of the sealed
-/// ones, in that order. `mark` counts the pointers that gained EVAC, and names the epoch that is reached once each object of the chosen
-/// logs has it. `wait` is clear exactly where no scope from before the round is open that wasn't seen clear, and refused 18 by such a
-/// one alone. `evacuate` counts the objects that lie in another log then, that went far, that were retired, and the logs given
-/// back; it is done where no log is chosen any more. `round` is a `select` and turns, each answered as `mark 16`, `wait` or `evacuate 16`
+/// ones, in that order. `mark` counts the pointers that gained EVAC, which stand before all that lack it then, and names the epoch that is reached once
+/// each object of the chosen logs has it. `wait` is clear exactly where no scope from before the round is open that wasn't seen clear, and refused 18 by the
+/// first such one alone. `evacuate` counts the objects that lie in another log then, that went far, that were retired, and the logs given
+/// back, from the front on: the first that is still chosen has an object, and what left stood before all that lies there still. It is
+/// done where no log is chosen any more. `round` is a `select` and turns, each answered as `mark 16`, `wait` or `evacuate 16`
 /// would be, by the phase, and its counts are their sums, and where it is done of what has changed so from its first moment to
 /// its last. The phase follows from commands and replies, and 12 is answered
 /// exactly out of phase. Through any command the sealed logs keep their order, but for those that were given back, and those sealed
