@@ -3,6 +3,7 @@ pub mod Bounds
 pub mod Calls
 pub mod Cells
 pub mod Copies
+pub mod Ends
 pub mod Frames
 pub mod Guards
 pub mod KeepOwner

@@ -28,4 +28,4 @@ pub record NamingOwed (p new : ℕ) (form : Naming) : Type 0 where
   pub within : (s : State) → Touches s (record { word = Some (CellAt p); part = BookView }) (naming_row s p new form).after
   pub names : (s : State) → (naming_row s p new form).after.cell p ≡ new
   pub reports : (s : State) → Law s → (naming_row s p new form).Reports (naming_row s p new form).after
-  pub causes : (old : ℕ) → Causes (Name p old new) (naming_change p form)
+  pub causes : (old : ℕ) → IsNaming form (read_of old) (read_of new) → Causes (Name p old new) (naming_change p form)

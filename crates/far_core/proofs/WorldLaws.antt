@@ -1,6 +1,6 @@
 -- What every step of a world keeps, and what the objects of a core's world are.
-use Rattle.std.proofs.Common.{◌≡◌, ◌≢◌, ◌<◌, ℕ, ◌+◌, ◌/◌, Bool, true, false, cond, nat_eq, arith, sym, refl, ap, subst, ◌∙◌, Option, Some, None, List, [], ◌∷◌, length, zero, suc}
-use Rattle.std.specs.Prelude.{slice_index}
+use Rattle.std.proofs.Common.{◌≡◌, ◌≢◌, ◌<◌, ℕ, ◌+◌, ◌/◌, Bool, true, false, cond, nat_eq, arith, inl, inr, sym, refl, ap, subst, ◌∙◌, Option, Some, None, List, [], ◌∷◌, length, zero, suc}
+use Rattle.std.specs.Prelude.{◌⊎◌, slice_index}
 use Rattle.std.proofs.lemmas.Bool.{cond_both, eqb-true, false≢true}
 use Rattle.far_word.specs.declared.pointer.PtrWord.{PtrWord}
 use Rattle.far_word.specs.declared.pointer.PtrWord.TheVariants.{Free, Near, Far}
@@ -17,7 +17,7 @@ use Rattle.far_core.proofs.Owing.{owed}
 use Rattle.far_core.specs.state.Law.{Law}
 use Rattle.far_core.specs.state.State.{State, put, addr}
 use Rattle.far_core.specs.world.World.{World, Object, Group, FarSide, start}
-use Rattle.far_core.specs.laws.Worlds.{HasSameBytes, ChangeKeeps, ChangesKeep, ChangesAreOne, Causes, Caused, EventsCause, SureOf, ObjectStands, ObjectsStand, StepKeeps, StepsKeep, LoadsRead, StepsAreOne, LyingIsOpen}
+use Rattle.far_core.specs.laws.Worlds.{HasSameBytes, HasSameLength, ChangeKeeps, ChangesKeep, ChangesAreOne, Causes, Caused, EventsCause, SureOf, ObjectStands, ObjectsStand, StepKeeps, StepsKeep, LoadsRead, StepsAreOne, LyingIsOpen}
 use Rattle.far_core.specs.world.WorldOf.{world_of, object_of, is_group}
 use Rattle.far_core.specs.world.Steps.{Views, Writes, ComesNear, with_bytes, with_home}
 use Rattle.far_core.proofs.Cells.{unused}
@@ -35,27 +35,43 @@ still w c opened marked group held = record {
   bytes = λ p o seen there out. there;
   rests = λ p o seen there. (o, there, refl, refl, refl, refl);
   unchanged = λ p o honest there out kept. (o, there, refl, refl, refl);
+  unfetched = λ p o there out kept still. (o, there, refl, refl, refl);
+  near = λ p g o there home out kept. (o, there, refl, refl, refl);
+  lengths = λ p o there kept. (o, there, refl, refl, refl);
   views = λ p seen out. seen;
   new_views = λ p seen out. seen;
   begins = λ p out seen. absurd (false≢true (sym out ∙ seen));
 }
 
--- one object changes, which nobody views; in an honest world it keeps its bytes, unless it is dropped
+-- what becomes of an object that isn't dropped: it keeps its bytes, or it was far and is fetched, with as many bytes, and with its own where the world is honest
+abbrev Fares : World → Change → ℕ → Object → Option Object → Type 0
+Fares w c p o x = HasSameBytes o x ⊎ ((w.honest ≡ true → HasSameBytes o x) × (o.home ≡ FarSide) × ((g : ℕ) × (c ≡ change.ComesNear p g)) × HasSameLength o x)
+
+same_length : (o : Object) (x : Option Object) → HasSameBytes o x → HasSameLength o x
+same_length o x (u, there, owner, ds, bytes) = (u, there, owner, ds, ap length bytes)
+
+-- one object changes, which nobody views, and fares so, unless it is dropped
 unseen : (w : World) (c : Change) (p : ℕ) (x : Option Object) (marked group : ℕ → Bool) → ((o : Object) → w.viewed p ≡ true → w.object p ≢ Some o) →
-    ((o : Object) → w.honest ≡ true → w.object p ≡ Some o → c ≢ change.Drops (p / CELLS) p → HasSameBytes o x) →
+    ((o : Object) → w.object p ≡ Some o → c ≢ change.Drops (p / CELLS) p → Fares w c p o x) →
     ((q g : ℕ) (o : Object) → w.object q ≡ Some o → o.home ≡ Group g → w.group g ≡ true → group g ≡ true) → ChangeKeeps w c record w { object = put w.object p x; marked = marked; group = group }
-unseen w c p x marked group away same held = record {
+unseen w c p x marked group away fares held = record {
   honesty = refl;
   groups = held;
   bytes = λ q o seen there out. put_both (λ (z : Option Object). z ≡ Some o) w.object p x q (λ e. absurd (away o (ap w.viewed (sym e) ∙ seen) (ap w.object (sym e) ∙ there))) (λ _. there);
   rests = λ q o seen there. put_both (λ (z : Option Object). (u : Object) × (z ≡ Some u) × (u.owner ≡ o.owner) × (u.ds ≡ o.ds) × (u.home ≡ o.home) × (length u.bytes ≡ length o.bytes))
       w.object p x q (λ e. absurd (away o (ap w.viewed (sym e) ∙ seen) (ap w.object (sym e) ∙ there))) (λ _. (o, there, refl, refl, refl, refl));
-  unchanged = λ q o honest there out kept. put_both (λ (z : Option Object). HasSameBytes o z) w.object p x q
-      (λ e. same o honest (ap w.object (sym e) ∙ there) (λ d. kept (d ∙ ap (λ k. change.Drops (k / CELLS) k) (sym e)))) (λ _. (o, there, refl, refl, refl));
+  unchanged = λ q o honest there out kept. elim (each q o there kept) [ inl same ↦ same | inr (same, far, fetched, long) ↦ same honest ];
+  unfetched = λ q o there out kept still. elim (each q o there kept) [ inl same ↦ same | inr (lying, far, fetched, long) ↦ absurd (still fetched) ];
+  near = λ q g o there home out kept. elim (each q o there kept) [ inl same ↦ same | inr (lying, far, fetched, long) ↦ (let odd : Group g ≡ FarSide = sym home ∙ far in absurd cc) ];
+  lengths = λ q o there kept. elim (each q o there kept) [ inl same ↦ same_length o _ same | inr (lying, far, fetched, long) ↦ long ];
   views = λ q seen out. seen;
   new_views = λ q seen out. seen;
   begins = λ q out seen. absurd (false≢true (sym out ∙ seen));
-}
+} where
+  each : (q : ℕ) (o : Object) → w.object q ≡ Some o → c ≢ change.Drops (q / CELLS) q → Fares w c q o (put w.object p x q)
+  each q o there kept = put_both (λ (z : Option Object). Fares w c q o z) w.object p x q
+      (λ e. subst (λ k. Fares w c k o x) (sym e) (fares o (ap w.object (sym e) ∙ there) (λ d. kept (d ∙ ap (λ k. change.Drops (k / CELLS) k) (sym e)))))
+      (λ _. inl (o, there, refl, refl, refl))
 
 one_of : {X : Type 0} (x y : X) (o : Option X) → o ≡ Some x → o ≡ Some y → x ≡ y
 one_of x y o a b = let both : Some x ≡ Some y = sym a ∙ b in cc
@@ -77,32 +93,39 @@ elsewhere w p x u o found there a b c =
 abbrev near_again : Object → List ℕ → ℕ → Object
 near_again o bytes g = record { owner = o.owner; ds = o.ds; bytes = bytes; home = Group g }
 
+-- the object stays where it is, with as many bytes
+abbrev Rests : Object → Option Object → Type 0
+Rests o z = (u : Object) × (z ≡ Some u) × (u.owner ≡ o.owner) × (u.ds ≡ o.ds) × (u.home ≡ o.home) × (length u.bytes ≡ length o.bytes)
+
 keeps_writes : (w : World) (m p i x : ℕ) (v : World) → Writes w m p i x v → ChangeKeeps w (change.Writes m p i x) v
 keeps_writes w m p i x v h =
     let old : Object = h.changed.0 in
     let now : Object = with_bytes old (with_word old.bytes i x) in
     let written : (q : ℕ) → q ≡ p → (j : ℕ) × (y : ℕ) × (change.Writes m p i x ≡ change.Writes (q / CELLS) q j y) =
     λ q e. (i, x, ap (λ k. change.Writes k p i x) (sym h.own ∙ ap (λ k. k / CELLS) (sym e)) ∙ ap (λ k. change.Writes (q / CELLS) k i x) (sym e)) in
+    let rests : (q : ℕ) (o : Object) → w.object q ≡ Some o → Rests o (put w.object p (Some now) q) = λ q o there. put_both (Rests o) w.object p (Some now) q
+    (λ e. let is : old ≡ o = one_of old o (w.object p) h.changed.1 (ap w.object (sym e) ∙ there) in (
+      now,
+      refl,
+      ap (λ (z : Object). z.owner) is,
+      ap (λ (z : Object). z.ds) is,
+      ap (λ (z : Object). z.home) is,
+      length-with_word old.bytes i x ∙ ap (λ (z : Object). length z.bytes) is,
+    ))
+    (λ _. (o, there, refl, refl, refl, refl)) in
+    let same : (q : ℕ) (o : Object) → w.object q ≡ Some o → ¬ ((j : ℕ) × (y : ℕ) × (change.Writes m p i x ≡ change.Writes (q / CELLS) q j y)) → HasSameBytes o (put w.object p (Some now) q) =
+    λ q o there out. put_both (λ (z : Option Object). HasSameBytes o z) w.object p (Some now) q (λ e. absurd (out (written q e))) (λ _. (o, there, refl, refl, refl)) in
     subst (λ (z : World). ChangeKeeps w (change.Writes m p i x) z) (sym h.changed.3) record {
       honesty = refl;
       groups = λ q g o there home held. held;
       bytes = λ q o seen there out. put_both (λ (z : Option Object). z ≡ Some o) w.object p (Some now) q
           (λ e. absurd (out (written q e)))
           (λ _. there);
-      rests = λ q o seen there. put_both (λ (z : Option Object). (u : Object) × (z ≡ Some u) × (u.owner ≡ o.owner) × (u.ds ≡ o.ds) × (u.home ≡ o.home) × (length u.bytes ≡ length o.bytes))
-          w.object p (Some now) q
-          (λ e. let is : old ≡ o = one_of old o (w.object p) h.changed.1 (ap w.object (sym e) ∙ there) in (
-            now,
-            refl,
-            ap (λ (z : Object). z.owner) is,
-            ap (λ (z : Object). z.ds) is,
-            ap (λ (z : Object). z.home) is,
-            length-with_word old.bytes i x ∙ ap (λ (z : Object). length z.bytes) is,
-          ))
-          (λ _. (o, there, refl, refl, refl, refl));
-      unchanged = λ q o honest there out kept. put_both (λ (z : Option Object). HasSameBytes o z) w.object p (Some now) q
-          (λ e. absurd (out (written q e)))
-          (λ _. (o, there, refl, refl, refl));
+      rests = λ q o seen there. rests q o there;
+      unchanged = λ q o honest there out kept. same q o there out;
+      unfetched = λ q o there out kept still. same q o there out;
+      near = λ q g o there home out kept. same q o there out;
+      lengths = λ q o there kept. let (u, is, owner, ds, home, long) = rests q o there in (u, is, owner, ds, long);
       views = λ q seen out. seen;
       new_views = λ q seen out. seen;
       begins = λ q out seen. absurd (false≢true (sym out ∙ seen));
@@ -115,6 +138,9 @@ keeps_closes w m = record {
   bytes = λ p o seen there out. there;
   rests = λ p o seen there. (o, there, refl, refl, refl, refl);
   unchanged = λ p o honest there out kept. (o, there, refl, refl, refl);
+  unfetched = λ p o there out kept still. (o, there, refl, refl, refl);
+  near = λ p g o there home out kept. (o, there, refl, refl, refl);
+  lengths = λ p o there kept. (o, there, refl, refl, refl);
   views = λ p seen out. cond_both (nat_eq (p / CELLS) m) false (w.viewed p) (λ (b : Bool). b ≡ true) (λ t. absurd (out (ap (λ k. change.Closes k) (sym (eqb-true (p / CELLS) m t))))) (λ _. seen);
   new_views = λ p seen out. cond_both (nat_eq (p / CELLS) m) false (w.viewed p) (λ (b : Bool). b ≡ true → w.viewed p ≡ true) (λ _ odd. absurd (false≢true odd)) (λ _ held. held) seen;
   begins = λ p out seen. absurd (cond_both (nat_eq (p / CELLS) m) false (w.viewed p) (λ (b : Bool). b ≢ true) (λ _. false≢true) (λ _ held. false≢true (sym out ∙ held)) seen);
@@ -134,6 +160,9 @@ keeps_views w m p v h = record {
   bytes = λ q o seen there out. there;
   rests = λ q o seen there. (o, there, refl, refl, refl, refl);
   unchanged = λ q o honest there out kept. (o, there, refl, refl, refl);
+  unfetched = λ q o there out kept still. (o, there, refl, refl, refl);
+  near = λ q g o there home out kept. (o, there, refl, refl, refl);
+  lengths = λ q o there kept. (o, there, refl, refl, refl);
   views = λ q seen out. put_both (λ (b : Bool). b ≡ true) w.viewed p true q (λ _. refl) (λ _. seen);
   new_views = λ q seen out. put_both (λ (b : Bool). b ≡ true → w.viewed q ≡ true) w.viewed p true q
       (λ e _. absurd (out (ap (λ k. change.Views k p) (sym h.own ∙ ap (λ k. k / CELLS) (sym e)) ∙ ap (λ k. change.Views (q / CELLS) k) (sym e))))
@@ -142,6 +171,17 @@ keeps_views w m p v h = record {
       (λ e _. subst (λ k. BeginsAt w k) (sym e) (begins_there w m p v h (ap w.viewed (sym e) ∙ out)))
       (λ _ held. absurd (false≢true (sym out ∙ held))) seen;
 }
+
+-- a far object that comes near
+comes_again : (w : World) (p g : ℕ) (v : World) (k : ComesNear w p g v) (o : Object) → w.object p ≡ Some o → Fares w (change.ComesNear p g) p o (Some (near_again k.come.0 k.come.1 g))
+comes_again w p g v k o there =
+    let is : k.come.0 ≡ o = one_of k.come.0 o (w.object p) k.come.2 there in
+    inr (
+      λ honest. elsewhere w p k.come.0 _ o k.come.2 there refl refl (k.come.6 honest),
+      ap (λ (z : Object). z.home) (sym is) ∙ k.come.3,
+      (g, refl),
+      (near_again k.come.0 k.come.1 g, refl, ap (λ (z : Object). z.owner) is, ap (λ (z : Object). z.ds) is, k.come.4 ∙ ap (λ (z : Object). length z.bytes) is),
+    )
 
 pub changes_keep : ChangesKeep
 changes_keep w v c h = at c h where
@@ -159,17 +199,17 @@ changes_keep w v c h = at c h where
   at (change.Reads m p i x) k = from _ w k.after (still w _ w.opened w.marked w.group old)
   at (change.Writes m p i x) k = keeps_writes w m p i x v k
   at (change.Makes p len ds g) k = from _ _ k.after (unseen w _ p _ _ _ (λ o seen there. let odd : None ≡ Some o = sym k.fresh ∙ there in cc)
-      (λ o honest there kept. let odd : None ≡ Some o = sym k.fresh ∙ there in absurd cc) (more w g))
+      (λ o there kept. let odd : None ≡ Some o = sym k.fresh ∙ there in absurd cc) (more w g))
   at (change.Marks p) k = from _ _ k (still w _ w.opened _ w.group old)
   at (change.Unmarks p) k = from _ _ k (still w _ w.opened _ w.group old)
   at (change.Moves p g) k = from _ _ k.moved.4 (unseen w _ p _ _ _ (nobody w p k.unviewed)
-      (λ o honest there kept. elsewhere w p k.moved.0 _ o k.moved.2 there refl refl refl) (more w g))
+      (λ o there kept. inl (elsewhere w p k.moved.0 _ o k.moved.2 there refl refl refl)) (more w g))
   at (change.GoesFar p) k = from _ _ k.gone.4 (unseen w _ p _ _ _ (nobody w p k.unviewed)
-      (λ o honest there kept. elsewhere w p k.gone.0 _ o k.gone.2 there refl refl refl) old)
+      (λ o there kept. inl (elsewhere w p k.gone.0 _ o k.gone.2 there refl refl refl)) old)
   at (change.ComesNear p g) k = from _ _ k.come.7 (unseen w _ p _ _ _ (nobody w p k.unviewed)
-      (λ o honest there kept. elsewhere w p k.come.0 _ o k.come.2 there refl refl (k.come.6 honest)) (more w g))
+      (λ o there kept. comes_again w p g v k o there) (more w g))
   at (change.Drops m p) k = from _ _ k.after (unseen w _ p _ _ _ (nobody w p k.unviewed)
-      (λ o honest there kept. absurd (kept (ap (λ n. change.Drops n p) (sym k.own)))) old)
+      (λ o there kept. absurd (kept (ap (λ n. change.Drops n p) (sym k.own)))) old)
   at (change.Releases g) k = from _ _ k.after (still w _ w.opened w.marked _
       (λ q j o there home held. put_both (λ (b : Bool). b ≡ true) w.group g false j (λ e. absurd (k.empty q o there (home ∙ ap Group e))) (λ _. held)))
   at (change.Holds g) k = from _ _ k (still w _ w.opened w.marked _ (more w g))
@@ -189,6 +229,11 @@ keeps_event w v e (Some c) is h =
       rests = k.rests;
       unchanged = λ p o honest there out kept. k.unchanged p o honest there
           (λ (i, x, same). out (i, x, subst (λ d. Causes e d) same is)) (λ same. kept (subst (λ d. Causes e d) same is));
+      unfetched = λ p o there out kept still. k.unfetched p o there
+          (λ (i, x, same). out (i, x, subst (λ d. Causes e d) same is)) (λ same. kept (subst (λ d. Causes e d) same is)) (λ (g, same). still (subst (λ d. Causes e d) same is));
+      near = λ p g o there home out kept. k.near p g o there home
+          (λ (i, x, same). out (i, x, subst (λ d. Causes e d) same is)) (λ same. kept (subst (λ d. Causes e d) same is));
+      lengths = λ p o there kept. k.lengths p o there (λ same. kept (subst (λ d. Causes e d) same is));
       views = λ p seen out. k.views p seen (λ same. out (subst (λ d. Causes e d) same is));
       new_views = λ p seen out. k.new_views p seen (λ same. out (subst (λ d. Causes e d) same is));
       begins = k.begins;

@@ -1,4 +1,5 @@
 pub mod Agreement
+pub mod Ends
 pub mod Live
 pub mod Namings
 pub mod Observed

@@ -51,5 +51,6 @@ pub(crate) struct Memory {
     ghost held_sized: { vec_len held ≡ CELLS * vec_len scopes },
     ghost round_sized: { vec_len round ≡ vec_len tails },
     ghost clear_sized: { vec_len clear ≡ vec_len scopes },
+    ghost stored_within: { vec_len stored ≤ LOG_WORDS * (CELLS * vec_len scopes) },
     ghost stored_room: { LOG_WORDS * (CELLS * vec_len scopes) ≤ vec_capacity stored },
 }

@@ -6,7 +6,6 @@ use far_log::{
 };
 use far_word::HeadWord;
 use std::alloc::Global;
-use std::process::Abort;
 use std::test::*;
 
 const FIRST: Span = Span {
@@ -33,30 +32,27 @@ const TWO: [u64; 6] = [
     1,
 ];
 
-// A walk through the first `tail` of these words finds no bad one, and the spans that are wanted.
-fn walks_to(
-    rt: &impl Abort,
-    alloc: Global,
-    words: &[u64],
-    tail: usize,
-    wanted: &[Span],
-) -> Result<(), Fail> {
-    assert!(rt; tail <= words.len() && words.len() <= 128);
-    let spans = walk(alloc, words, tail)?;
-    assert_eq!(rt; spans.as_slice(), wanted, "of tail {tail}");
-    Ok(())
+// Whether a walk through the first `tail` of these words finds no bad one, and the spans that are wanted.
+fn walks_to(alloc: Global, words: &[u64], tail: usize, wanted: &[Span]) -> bool {
+    if tail > words.len() || words.len() > 128 {
+        return false;
+    }
+    match walk(alloc, words, tail) {
+        Ok(spans) => spans.as_slice() == wanted,
+        Err(_) => false,
+    }
 }
 
-// A walk through the first `tail` of these words finds this one bad.
-fn is_bad(rt: &impl Abort, alloc: Global, words: &[u64], tail: usize, at: u16) {
-    assert!(rt; tail <= words.len() && words.len() <= 128 && (at as usize) < words.len());
+// Whether a walk through the first `tail` of these words finds this one bad.
+fn is_bad(alloc: Global, words: &[u64], tail: usize, at: u16) -> bool {
+    if tail > words.len() || words.len() > 128 || at as usize >= words.len() {
+        return false;
+    }
     let word = words[at as usize];
-    let fault = walk(alloc, words, tail).err();
-    assert_eq!(rt;
-        fault,
-        Some(WalkFault::Bad(BadWord { at, word })),
-        "of tail {tail}"
-    );
+    match walk(alloc, words, tail) {
+        Ok(_) => false,
+        Err(fault) => fault == WalkFault::Bad(BadWord { at, word }),
+    }
 }
 
 fn takes(len: u16, words: usize) -> bool {
@@ -91,7 +87,7 @@ fn readme(rt: HostRuntime) -> Result<(), Fail> {
 }
 
 #[test]
-fn spans(rt: HostRuntime) -> Result<(), Fail> {
+fn spans(rt: HostRuntime) {
     let alloc = rt.alloc();
     let second = Span { at: 3, ..FIRST };
     let nine = Span {
@@ -100,15 +96,15 @@ fn spans(rt: HostRuntime) -> Result<(), Fail> {
         len: 9,
         ds: 2,
     };
-    walks_to(&rt, alloc, &[0xa100_0000_0001_0008, 0], 2, &[FIRST])?;
-    walks_to(&rt, alloc, &[0xa100_0000_0001_0008, 0], 0, &[])?;
-    walks_to(&rt, alloc, &[], 0, &[])?;
-    walks_to(&rt, alloc, &TWO, 5, &[nine, second])?;
-    walks_to(&rt, alloc, &TWO, 3, &[nine])
+    assert!(rt; walks_to(alloc, &[0xa100_0000_0001_0008, 0], 2, &[FIRST]));
+    assert!(rt; walks_to(alloc, &[0xa100_0000_0001_0008, 0], 0, &[]));
+    assert!(rt; walks_to(alloc, &[], 0, &[]));
+    assert!(rt; walks_to(alloc, &TWO, 5, &[nine, second]));
+    assert!(rt; walks_to(alloc, &TWO, 3, &[nine]));
 }
 
 #[test]
-fn longest_span(rt: HostRuntime) -> Result<(), Fail> {
+fn longest_span(rt: HostRuntime) {
     let mut words = [u64::MAX; 128];
     words[0] = 0xa100_0003_ffff_03f8;
     let span = Span {
@@ -117,86 +113,123 @@ fn longest_span(rt: HostRuntime) -> Result<(), Fail> {
         len: 1016,
         ds: 255,
     };
-    walks_to(&rt, rt.alloc(), &words, 128, &[span])?;
-    is_bad(&rt, rt.alloc(), &words, 127, 0);
-    Ok(())
+    assert!(rt; walks_to(rt.alloc(), &words, 128, &[span]));
+    assert!(rt; is_bad(rt.alloc(), &words, 127, 0));
 }
 
-#[test]
-fn shortest_spans(rt: HostRuntime) -> Result<(), Fail> {
-    let mut words = [0xff; 128];
-    for i in 0..64 {
-        words[2 * i] = 0xa100_0000_0001_0001;
-    }
-    let spans = walk(rt.alloc(), &words, 128)?;
-    assert_eq!(rt; spans.len(), 64);
+// Whether these are the spans of so many objects of one byte.
+fn are_shortest(spans: &[Span], count: usize) -> bool {
     for (i, span) in spans.iter().enumerate() {
         let wanted = Span {
-            at: 2 * i as u16,
+            at: 2 * (i % 64) as u16,
             p: 0,
             len: 1,
             ds: 1,
         };
-        assert_eq!(rt; *span, wanted);
+        if *span != wanted {
+            return false;
+        }
     }
-    Ok(())
+    spans.len() == count
+}
+
+fn walks_to_shortest(alloc: Global, words: &[u64; 128]) -> bool {
+    match walk(alloc, words, 128) {
+        Ok(spans) => are_shortest(&spans, 64),
+        Err(_) => false,
+    }
+}
+
+#[test]
+fn shortest_spans(rt: HostRuntime) {
+    let mut words = [0xff; 128];
+    for i in 0..64 {
+        words[2 * i] = 0xa100_0000_0001_0001;
+    }
+    assert!(rt; walks_to_shortest(rt.alloc(), &words));
 }
 
 #[test]
 fn bad_words(rt: HostRuntime) {
     let alloc = rt.alloc();
-    is_bad(&rt, alloc, &[0xa100_0000_0001_0008, 0], 1, 0);
-    is_bad(&rt, alloc, &[0xa100_0000_0001_0001, 0x100], 2, 1);
+    assert!(rt; is_bad(alloc, &[0xa100_0000_0001_0008, 0], 1, 0));
+    assert!(rt; is_bad(alloc, &[0xa100_0000_0001_0001, 0x100], 2, 1));
     let past = [0xa100_0000_0101_0008, 0, 0xa100_0000_0201_03f8];
-    is_bad(&rt, alloc, &past, 3, 2);
-    is_bad(&rt, alloc, &[0, 0], 2, 0);
-    is_bad(&rt, alloc, &[0xa000_0000_0001_0008, 0], 2, 0);
-    is_bad(&rt, alloc, &[0xa100_0000_0001_03f9, 0], 2, 0);
-    is_bad(&rt, alloc, &[0xa100_0004_0001_0008, 0], 2, 0);
-    is_bad(&rt, alloc, &TWO, 6, 5);
-    is_bad(&rt, alloc, &TWO, 4, 3);
-    is_bad(&rt, alloc, &[TWO[0], 0, 0x100, 0, 0], 5, 2);
+    assert!(rt; is_bad(alloc, &past, 3, 2));
+    assert!(rt; is_bad(alloc, &[0, 0], 2, 0));
+    assert!(rt; is_bad(alloc, &[0xa000_0000_0001_0008, 0], 2, 0));
+    assert!(rt; is_bad(alloc, &[0xa100_0000_0001_03f9, 0], 2, 0));
+    assert!(rt; is_bad(alloc, &[0xa100_0004_0001_0008, 0], 2, 0));
+    assert!(rt; is_bad(alloc, &TWO, 6, 5));
+    assert!(rt; is_bad(alloc, &TWO, 4, 3));
+    assert!(rt; is_bad(alloc, &[TWO[0], 0, 0x100, 0, 0], 5, 2));
+}
+
+// Whether none of some values is this one.
+fn lacks<T: PartialEq>(others: &[T], value: &T) -> bool {
+    for other in others {
+        if !(other != value) {
+            return false;
+        }
+    }
+    true
 }
 
 #[test]
 fn values_differ(rt: HostRuntime) {
-    for other in [
-        Span { at: 1, ..FIRST },
-        Span { p: 1, ..FIRST },
-        Span { len: 9, ..FIRST },
-        Span { ds: 2, ..FIRST },
-    ] {
-        assert!(rt; other != FIRST);
-    }
-    for other in [
-        LogRow { log: 2, ..ROW },
-        LogRow { live: 0, ..ROW },
-        LogRow { dead: 0, ..ROW },
-        LogRow { unused: 0, ..ROW },
-    ] {
-        assert!(rt; other != ROW);
-    }
     let bad = BadWord { at: 2, word: 3 };
-    for other in [BadWord { at: 3, word: 3 }, BadWord { at: 2, word: 2 }] {
-        assert!(rt; other != bad);
-        assert!(rt; WalkFault::Bad(other) != WalkFault::Bad(bad));
+    let (later, less) = (BadWord { at: 3, ..bad }, BadWord { word: 2, ..bad });
+    assert!(rt;
+        lacks(
+            &[
+                Span { at: 1, ..FIRST },
+                Span { p: 1, ..FIRST },
+                Span { len: 9, ..FIRST },
+                Span { ds: 2, ..FIRST },
+            ],
+            &FIRST,
+        )
+    );
+    assert!(rt;
+        lacks(
+            &[
+                LogRow { log: 2, ..ROW },
+                LogRow { live: 0, ..ROW },
+                LogRow { dead: 0, ..ROW },
+                LogRow { unused: 0, ..ROW },
+            ],
+            &ROW,
+        )
+    );
+    assert!(rt; lacks(&[later, less], &bad));
+    let faults = [
+        WalkFault::Bad(later),
+        WalkFault::Bad(less),
+        WalkFault::Memory,
+    ];
+    assert!(rt; lacks(&faults, &WalkFault::Bad(bad)));
+}
+
+// Whether a fault's text is this.
+fn says(alloc: Global, fault: WalkFault, text: &str) -> bool {
+    match format!(in alloc; "{fault}") {
+        Ok(said) => said.as_str() == text,
+        Err(_) => false,
     }
-    assert!(rt; WalkFault::Bad(bad) != WalkFault::Memory);
 }
 
 #[test]
-fn texts(rt: HostRuntime) -> Result<(), Fail> {
+fn texts(rt: HostRuntime) {
     let bad = BadWord { at: 2, word: 3 };
     let alloc = rt.alloc();
-    assert_eq!(rt;
-        format!(in alloc; "{}", WalkFault::Memory)?.as_str(),
-        "a growth was refused"
+    assert!(rt; says(alloc, WalkFault::Memory, "a growth was refused"));
+    assert!(rt;
+        says(
+            alloc,
+            WalkFault::Bad(bad),
+            "word 2 of the log is 0000000000000003"
+        )
     );
-    assert_eq!(rt;
-        format!(in alloc; "{}", WalkFault::Bad(bad))?.as_str(),
-        "word 2 of the log is 0000000000000003"
-    );
-    Ok(())
 }
 
 #[test]

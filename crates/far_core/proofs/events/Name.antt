@@ -78,9 +78,9 @@ module _ (p old new : ℕ) where
   touch_name s None = untouched s _
   touch_name s (Some f) = (naming_owed p new f).within s
 
-  name_causes : (o : Option Naming) → Caused (Name p old new) (change_by p o)
-  name_causes None = tt
-  name_causes (Some f) = (naming_owed p new f).causes old
+  name_causes : (o : Option Naming) → naming_of (read_of old) (read_of new) ≡ o → Caused (Name p old new) (change_by p o)
+  name_causes None e = tt
+  name_causes (Some f) e = (naming_owed p new f).causes old (naming_says (read_of old) (read_of new) f e)
 
   pub name_owed : Owed (Name p old new)
   name_owed = record {
@@ -94,5 +94,5 @@ module _ (p old new : ℕ) where
     reports = λ s law h. reports_name s law h (nat_eq (s.cell p) old) refl;
     silent = λ s t h. h;
     answers = λ s x. cond_both (nat_eq (s.cell p) old) Done (Word (s.cell p)) (λ (r : Reply). r ≢ Refused) (λ _ y. cc) (λ _ y. cc) x;
-    causes = replies (λ r. Caused (Name p old new) (change_of (Name p old new) r)) tt (name_causes form) (λ n. tt) (λ x. tt) (λ place. tt);
+    causes = replies (λ r. Caused (Name p old new) (change_of (Name p old new) r)) tt (name_causes form refl) (λ n. tt) (λ x. tt) (λ place. tt);
   }

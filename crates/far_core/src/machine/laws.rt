@@ -13,6 +13,7 @@ ghost use Rattle.far_core.specs.state.CoreState.{core_state};
 ghost use Rattle.far_core.specs.state.Law.{Law};
 ghost use Rattle.far_core.specs.events.Leaves.{EventsLeave};
 ghost use Rattle.far_core.specs.events.Legal.{Legal};
+ghost use Rattle.far_core.specs.laws.Ends.{HasNothingPast, IsWhatIsWithin};
 ghost use Rattle.far_core.specs.laws.Live.{LiveIs, LiveBytesAre};
 ghost use Rattle.far_core.specs.laws.Observed.{live_bytes, dead_bytes, unused_bytes, HasOnePlace, NamesOnce, LogsStand, NearHasOneLive, PlacedExactly};
 ghost use Rattle.far_core.specs.state.Opening.{opening};
@@ -103,6 +104,17 @@ impl Core {
         let _memory = &self.memory;
     }
 
+    /// Past the ends of a core there is nothing. Past the last log all words are 0, no span begins, and each log is free, with tail 0, outside the
+    /// round; past the last owner each scope is closed, nothing is remembered, and nobody was seen clear; past the last pointer each cell is
+    /// 0, not used and not held, with zeros stored. So a core's state is what it says of its own owners, pointers, logs and words: no other with
+    /// nothing past its ends says the same of them.
+    pub fn nothing_is_past(&self)
+        ensures past { HasNothingPast (core_state self.now) }
+        ensures within { IsWhatIsWithin (core_state self.now) }
+    {
+        let _memory = &self.memory;
+    }
+
     /// An event passes the test of a step exactly where it is legal, and what its reply reports is so: the epoch that was
     /// remembered, the place that is held, the word that keeps a view away, the word that is read or put, the span that a
     /// won naming takes; a lost naming changes nothing. Of a reply that has no row, as a refusal, nothing is reported at all.
@@ -133,7 +145,8 @@ pub fn opening_is_start(shape: Shape, honest: bool)
 
 /// No step of a world changes honesty, moves or changes what is viewed but by its owner's store, ends a view but by its
 /// owner's close or begins one but by its owner's pin, or gives back a group in which an object lies. In an honest world
-/// each object, viewed or not, near or far, keeps its bytes but for its owner's store, until its owner drops it. What is
+/// each object, viewed or not, near or far, keeps its bytes but for its owner's store, until its owner drops it. In any
+/// other world so does each object that isn't fetched, and a fetch, of a far object alone, gives back as many bytes. What is
 /// loaded is a word of an object that its owner views. An event with its reply makes one step, but for the bytes that a
 /// far side gives back that isn't honest. Said of changes, and so of the events that cause them.
 pub fn steps_keep_views()

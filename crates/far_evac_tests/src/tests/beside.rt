@@ -1,18 +1,16 @@
 //! Rounds beside owners at work: between each two steps of the book an owner does anything that it may, and the census is right after it.
 
-ghost use Rattle.std.specs.Prelude.{◌≡◌, ◌<◌, ◌≤◌};
-ghost use Rattle.far_word.specs.declared.sizes.TheConstants.{LONGEST};
+ghost use Rattle.std.specs.Prelude.{◌≡◌};
 
-use crate::tests::making::home;
+use crate::tests::making::{home, is_so_of};
 use far_book::{Beset, Book, Home};
 use far_core::{Core, Event, Shape};
 use far_device::MemDevice;
 use far_evac::{Census, Evac, LogState, Progress, RoundEnd};
-use far_log::Span;
+use far_log::{LogRow, Span};
 use far_policy::Oldest;
-use far_word::{Mark, Place, Refused, size_of};
+use far_word::{LONGEST, Mark, Place, Refused, size_of};
 use std::alloc::AllocError;
-use std::test::Fail;
 
 const SHAPE: Shape = Shape {
     logs: 6,
@@ -83,33 +81,38 @@ fn beset(rt: &HostRuntime, events: Vec<Event>) -> Result<Evac<Beset, MemDevice>,
     Ok(Evac::new(book))
 }
 
-// A new object in an owner's lowest free cell.
-fn place_for(evac: &mut Evac<Beset, MemDevice>, owner: u8, len: u16) -> Result<(), Refused>
-    requires some { 0 < len }
-    requires most { len ≤ LONGEST }
-{
-    if owner as u64 >= evac.book().shape().mutators {
-        return Err(Refused::NoPointer);
+// Whether a new object gets an owner's lowest free cell.
+fn places(evac: &mut Evac<Beset, MemDevice>, owner: u8, len: u16) -> bool {
+    if owner as u64 >= evac.book().shape().mutators || len == 0 || len > LONGEST {
+        return false;
     }
     evac.keeps_law();
-    let Some(pointer) = evac.book().free_cell(owner) else {
-        return Err(Refused::NoPointer);
-    };
-    evac.place(pointer, len, 1)?;
-    Ok(())
+    match evac.book().free_cell(owner) {
+        Some(pointer) => evac.place(pointer, len, 1).is_ok(),
+        None => false,
+    }
 }
 
-// Eight objects of 8 bytes in log 0, one that fills log 1, and one that fills log 2; logs 0 and 1 are emptied.
-fn round_beside(evac: &mut Evac<Beset, MemDevice>) -> Result<Option<Progress>, Refused> {
+// Whether each owner gets a new object.
+fn places_two(evac: &mut Evac<Beset, MemDevice>, len: u16) -> bool {
+    places(evac, 0, len) && places(evac, 1, len)
+}
+
+// Whether eight objects of 8 bytes lie in log 0, one fills log 1, and one log 2.
+fn places_ten(evac: &mut Evac<Beset, MemDevice>) -> bool {
     for _ in 0..4u8 {
-        place_for(evac, 0, 8)?;
-        place_for(evac, 1, 8)?;
+        if !places_two(evac, 8) {
+            return false;
+        }
     }
-    place_for(evac, 0, 1016)?;
-    place_for(evac, 1, 1016)?;
+    places_two(evac, 1016)
+}
+
+// What a round of logs 0 and 1 has done, if it ended and gave both back.
+fn emptied(evac: &mut Evac<Beset, MemDevice>) -> Option<Progress> {
     match evac.run_round(&mut Oldest, 2, 1000) {
-        Ok(RoundEnd::Done(progress)) => Ok(Some(progress)),
-        _ => Ok(None),
+        Ok(RoundEnd::Done(progress)) if progress.freed == 2 => Some(progress),
+        _ => None,
     }
 }
 
@@ -122,24 +125,31 @@ fn is_live(evac: &mut Evac<Beset, MemDevice>, log: u8, span: Span) -> bool {
     }
 }
 
-// Whether a log has as many live and dead bytes as its spans have, and 1,024 in all.
-fn adds_up(evac: &mut Evac<Beset, MemDevice>, state: LogState) -> Result<bool, Refused> {
-    let row = state.row;
-    if row.log as u64 >= evac.book().shape().logs {
-        return Ok(false);
-    }
-    let spans = evac.spans(row.log)?;
+// How many bytes of these spans of a log are live, and how many dead.
+fn weighed(evac: &mut Evac<Beset, MemDevice>, log: u8, spans: &[Span]) -> (u16, u16) {
     let (mut live, mut dead) = (0u16, 0u16);
-    for span in &spans {
+    for span in spans {
         let size = size_of(span.len).saturating_mul(8);
-        if is_live(evac, row.log, *span) {
+        if is_live(evac, log, *span) {
             live = live.saturating_add(size);
         } else {
             dead = dead.saturating_add(size);
         }
     }
+    (live, dead)
+}
+
+// Whether a log has as many live and dead bytes as its spans have, and 1,024 in all.
+fn adds_up(evac: &mut Evac<Beset, MemDevice>, row: LogRow) -> bool {
+    if row.log as u64 >= evac.book().shape().logs {
+        return false;
+    }
+    let Ok(spans) = evac.spans(row.log) else {
+        return false;
+    };
+    let (live, dead) = weighed(evac, row.log, &spans);
     let placed = live.saturating_add(dead);
-    Ok(row.live == live && row.dead == dead && row.unused == 1024u16.saturating_sub(placed))
+    row.live == live && row.dead == dead && row.unused == 1024u16.saturating_sub(placed)
 }
 
 fn has_drop(home: Home) -> bool {
@@ -171,49 +181,73 @@ fn lists_all(evac: &mut Evac<Beset, MemDevice>, census: &Census) -> bool {
     objects(evac) == census.homes.len()
 }
 
-fn census_holds(evac: &mut Evac<Beset, MemDevice>) -> Result<bool, Refused> {
+// Whether each of six logs adds up.
+fn logs_add_up(evac: &mut Evac<Beset, MemDevice>, logs: &[LogState]) -> bool {
+    for state in logs {
+        if !adds_up(evac, state.row) {
+            return false;
+        }
+    }
+    logs.len() == 6
+}
+
+fn census_holds(evac: &mut Evac<Beset, MemDevice>) -> bool {
     // Events that are left are made while the cells are looked at.
     for _ in 0..3u8 {
         objects(evac);
     }
-    let census = evac.audit()?;
-    for state in &census.logs {
-        if !adds_up(evac, *state)? {
-            return Ok(false);
-        }
+    match evac.audit() {
+        Ok(census) => logs_add_up(evac, &census.logs) && lists_all(evac, &census),
+        Err(_) => false,
     }
-    Ok(census.logs.len() == 6 && lists_all(evac, &census))
 }
 
-// A round beside the owners of one seed: what was done, if it ended and gave both logs back, and the census was right.
-fn progress_beside(rt: &HostRuntime, seed: u64) -> Result<Option<Progress>, Refused> {
-    let Ok(events) = events_from(rt, seed) else {
-        return Err(Refused::Memory);
-    };
-    let mut evac = beset(rt, events)?;
-    let Some(progress) = round_beside(&mut evac)? else {
-        return Ok(None);
-    };
-    if progress.freed == 2 && census_holds(&mut evac)? {
-        Ok(Some(progress))
-    } else {
-        Ok(None)
+/// Whether one of many rounds moved objects, one sent some far, and one retired some.
+#[derive(Drop)]
+struct Seen {
+    moved: bool,
+    far: bool,
+    dropped: bool,
+}
+
+impl Seen {
+    fn take(&mut self, progress: Progress) {
+        self.moved |= progress.moved > 1;
+        self.far |= progress.far > 1;
+        self.dropped |= progress.dropped > 1;
     }
+}
+
+// Whether a round gives both logs back, and the census is right.
+fn ends_well(evac: &mut Evac<Beset, MemDevice>, seen: &mut Seen) -> bool {
+    if !places_ten(evac) {
+        return false;
+    }
+    let Some(progress) = emptied(evac) else {
+        return false;
+    };
+    seen.take(progress);
+    census_holds(evac)
+}
+
+// Whether it is so beside the owners of one seed.
+fn ends_beside(rt: &HostRuntime, seed: u64, seen: &mut Seen) -> bool {
+    let Ok(events) = events_from(rt, seed) else {
+        return false;
+    };
+    is_so_of(beset(rt, events), |evac| ends_well(evac, seen))
 }
 
 // In each of many rounds; some of them move, some send far, and some retire.
 #[test]
-fn owners_are_at_work(rt: HostRuntime) -> Result<(), Fail> {
-    let (mut moved, mut far, mut dropped) = (false, false, false);
+fn owners_are_at_work(rt: HostRuntime) {
+    let mut seen = Seen {
+        moved: false,
+        far: false,
+        dropped: false,
+    };
     for seed in 0..40u64 {
-        let Some(progress) = progress_beside(&rt, seed)? else {
-            assert!(rt; false, "seed {seed}");
-            continue;
-        };
-        moved |= progress.moved > 1;
-        far |= progress.far > 1;
-        dropped |= progress.dropped > 1;
+        assert!(rt; ends_beside(&rt, seed, &mut seen), "seed {seed}");
     }
-    assert!(rt; moved && far && dropped);
-    Ok(())
+    assert!(rt; seen.moved && seen.far && seen.dropped);
 }

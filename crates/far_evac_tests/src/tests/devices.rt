@@ -5,15 +5,17 @@ ghost use Rattle.far_device.specs.Mem.{bytes_at, faults_of};
 ghost use Rattle.far_device.specs.Wrapping.{wrapped_below};
 
 use crate::tests::making::{
-    NO_MARKS, SMALL, evacuator_over, home, is_far, is_log, is_near, make, reads, writes,
+    NO_MARKS, SMALL, evacuator_over, home, is_far, is_log, is_near, is_so_of, makes, makes_many,
+    reads, writes,
 };
-use crate::tests::steps::{comes_to_leaving, counted, deals, deals_until, runs_until};
+use crate::tests::steps::{
+    comes_to_leaving, counts, deals, deals_until, gives_up, is_in, runs_until,
+};
 use far_book::{Home, Near, Plain};
 use far_device::{Device, DeviceFault, MemDevice};
 use far_evac::{Evac, LogKind, Phase};
 use far_policy::Oldest;
 use far_word::{Marks, Place, Refused};
-use std::test::Fail;
 
 /// Its write after so many others fails with this fault, and no other.
 #[derive(Drop)]
@@ -70,13 +72,19 @@ impl Device for Stumbling {
     }
 }
 
-fn failing_at(rt: &HostRuntime, writes: u8, fault: DeviceFault) -> Stumbling {
-    Stumbling {
+// An evacuator over one.
+fn over_stumbling(
+    rt: &HostRuntime,
+    writes: u8,
+    fault: DeviceFault,
+) -> Result<Evac<Plain, Stumbling>, Refused> {
+    let device = Stumbling {
         inner: MemDevice::new(rt.alloc()),
         writes,
         fault: Some(fault),
         faults: 0,
-    }
+    };
+    evacuator_over(rt, SMALL, device)
 }
 
 // Whether an object lies in log 0 at a word, and the book wants that log.
@@ -94,58 +102,87 @@ fn is_leaving<N: Near + Drop, D: Device + Drop>(
 }
 
 // Pointers 0 to 2 lie in log 0, of which the first is hot; the next fills log 1.
-fn make_four(
-    rt: &HostRuntime,
-    writes_before: u8,
-    fault: DeviceFault,
-) -> Result<Evac<Plain, Stumbling>, Refused> {
-    let device = failing_at(rt, writes_before, fault);
-    let mut evac = evacuator_over(rt, SMALL, device)?;
-    make(&mut evac, 8)?;
-    make(&mut evac, 8)?;
-    make(&mut evac, 8)?;
-    writes(&mut evac, 0, 7);
-    make(&mut evac, 1016)?;
-    Ok(evac)
+fn makes_four(evac: &mut Evac<Plain, Stumbling>) -> bool {
+    makes_many(evac, 3, 8) && writes(evac, 0, 7) && makes(evac, 1016)
+}
+
+// Whether a round that comes to where objects leave is refused so at the second.
+fn stumbles(evac: &mut Evac<Plain, Stumbling>, most: u64, why: Refused) -> bool {
+    comes_to_leaving(evac, &mut Oldest, 1) && deals_until(evac, most, [1, 0, 0, 0], why)
+}
+
+// Whether the first object has moved, and the others wait.
+fn stands_at_the_second(evac: &mut Evac<Plain, Stumbling>) -> bool {
+    is_in(evac, Phase::Evacuating)
+        && is_near(evac, 0, Place { log: 2, at: 0 }, false)
+        && is_leaving(evac, 1, 2)
+        && is_leaving(evac, 2, 4)
+        && is_log(evac, 0, LogKind::Chosen, [32, 16, 976])
+}
+
+// Whether the round ends then, and both are far.
+fn ends_after_all(evac: &mut Evac<Plain, Stumbling>) -> bool {
+    deals(evac, 9, [0, 2, 0, 1], true)
+        && is_far(evac, 1)
+        && is_far(evac, 2)
+        && counts(evac, 2, 2, 1040)
+        && reads(evac, 0, 7)
+        && reads(evac, 1, 0)
+}
+
+fn stops_and_goes_on(evac: &mut Evac<Plain, Stumbling>) -> bool {
+    makes_four(evac)
+        && stumbles(evac, 9, Refused::Device)
+        && stands_at_the_second(evac)
+        && ends_after_all(evac)
 }
 
 // The first object has moved, the second can't go far, the third waits behind it.
 #[test]
-fn a_failure_stops_at_an_object(rt: HostRuntime) -> Result<(), Fail> {
-    let mut evac = make_four(&rt, 0, DeviceFault::Device)?;
-    assert!(rt; comes_to_leaving(&mut evac, &mut Oldest, 1));
-    assert!(rt; deals_until(&mut evac, 9, [1, 0, 0, 0], Refused::Device));
-    assert!(rt; evac.phase() == Phase::Evacuating);
-    assert!(rt; is_near(&mut evac, 0, Place { log: 2, at: 0 }, false));
-    assert!(rt; is_leaving(&mut evac, 1, 2) && is_leaving(&mut evac, 2, 4));
-    assert!(rt; is_log(&evac, 0, LogKind::Chosen, [32, 16, 976]));
-    assert!(rt; deals(&mut evac, 9, [0, 2, 0, 1], true));
-    assert!(rt; is_far(&mut evac, 1) && is_far(&mut evac, 2));
-    assert!(rt; counted(&mut evac) == Some((2, 2, 1040)));
-    assert!(rt; reads(&mut evac, 0, 7) && reads(&mut evac, 1, 0));
-    Ok(())
+fn a_failure_stops_at_an_object(rt: HostRuntime) {
+    assert!(rt;
+        is_so_of(
+            over_stumbling(&rt, 0, DeviceFault::Device),
+            stops_and_goes_on
+        )
+    );
+}
+
+fn stops_a_round(evac: &mut Evac<Plain, Stumbling>) -> bool {
+    makes_four(evac)
+        && runs_until(evac, &mut Oldest, 1, [1, 1, 0, 0], Refused::Device)
+        && is_far(evac, 1)
+        && is_leaving(evac, 2, 4)
+        && deals(evac, 9, [0, 1, 0, 1], true)
+        && counts(evac, 2, 2, 1040)
 }
 
 // A whole round sums what was done before the failure, and stands where it is.
 #[test]
-fn a_failure_stops_a_round(rt: HostRuntime) -> Result<(), Fail> {
-    let mut evac = make_four(&rt, 1, DeviceFault::Device)?;
-    assert!(rt; runs_until(&mut evac, &mut Oldest, 1, [1, 1, 0, 0], Refused::Device));
-    assert!(rt; is_far(&mut evac, 1) && is_leaving(&mut evac, 2, 4));
-    assert!(rt; deals(&mut evac, 9, [0, 1, 0, 1], true));
-    assert!(rt; counted(&mut evac) == Some((2, 2, 1040)));
-    Ok(())
+fn a_failure_stops_a_round(rt: HostRuntime) {
+    assert!(rt; is_so_of(over_stumbling(&rt, 1, DeviceFault::Device), stops_a_round));
+}
+
+// Whether the round is given up, and the object that was refused is there.
+fn stays_there(evac: &mut Evac<Plain, Stumbling>) -> bool {
+    gives_up(evac)
+        && is_near(evac, 1, Place { log: 0, at: 2 }, false)
+        && is_log(evac, 0, LogKind::Sealed, [32, 16, 976])
+        && reads(evac, 0, 7)
+        && reads(evac, 2, 0)
+}
+
+fn is_refused_and_stays(evac: &mut Evac<Plain, Stumbling>) -> bool {
+    makes_four(evac) && stumbles(evac, 2, Refused::Memory) && stays_there(evac)
 }
 
 // The device has no memory for an object; the round is given up, and the object is there.
 #[test]
-fn a_refused_object_stays(rt: HostRuntime) -> Result<(), Fail> {
-    let mut evac = make_four(&rt, 0, DeviceFault::Memory)?;
-    assert!(rt; comes_to_leaving(&mut evac, &mut Oldest, 1));
-    assert!(rt; deals_until(&mut evac, 2, [1, 0, 0, 0], Refused::Memory));
-    assert!(rt; evac.abort() == Ok(()));
-    assert!(rt; is_near(&mut evac, 1, Place { log: 0, at: 2 }, false));
-    assert!(rt; is_log(&evac, 0, LogKind::Sealed, [32, 16, 976]));
-    assert!(rt; reads(&mut evac, 0, 7) && reads(&mut evac, 2, 0));
-    Ok(())
+fn a_refused_object_stays(rt: HostRuntime) {
+    assert!(rt;
+        is_so_of(
+            over_stumbling(&rt, 0, DeviceFault::Memory),
+            is_refused_and_stays
+        )
+    );
 }

@@ -1,14 +1,14 @@
 //! Evacuators for the tests, and what the first owner does with one: it makes objects, writes, reads and drops them.
 
-ghost use Rattle.std.specs.Prelude.{◌≡◌, ◌<◌, ◌≤◌, true};
-ghost use Rattle.far_word.specs.declared.sizes.TheConstants.{LONGEST};
+ghost use Rattle.std.specs.Borrow.{MutBor};
+ghost use Rattle.std.specs.Prelude.{◌≡◌, true};
 
 use far_book::{Book, Home, Near, Plain};
 use far_core::{Core, Event, Reply, Shape};
 use far_device::{Device, MemDevice};
 use far_evac::{Evac, LogKind, LogState};
 use far_log::LogRow;
-use far_word::{Mark, Marks, Place, Refused};
+use far_word::{LONGEST, Mark, Marks, Place, Refused};
 
 pub(super) const SMALL: Shape = Shape {
     logs: 4,
@@ -22,6 +22,19 @@ pub(super) const NO_MARKS: Marks = Marks {
     moved: false,
     dropped: false,
 };
+
+/// Whether something was made, and this is so of it.
+pub(super) fn is_so_of<T: Drop, E: Drop, F: FnOnce(&mut T) -> bool>(
+    made: Result<T, E>,
+    is_so: F,
+) -> bool
+    requires { (p : MutBor T) → F.pre is_so p }
+{
+    match made {
+        Ok(mut it) => is_so(&mut it),
+        Err(_) => false,
+    }
+}
 
 pub(super) fn evacuator(rt: &HostRuntime, shape: Shape) -> Result<Evac<Plain, MemDevice>, Refused> {
     evacuator_over(rt, shape, MemDevice::new(rt.alloc()))
@@ -42,13 +55,13 @@ pub(super) fn evacuator_over<D: Device + Drop>(
 }
 
 // A new object of the first owner, in its lowest free cell.
-pub(super) fn place_next<N: Near + Drop, D: Device + Drop>(
+fn place_next<N: Near + Drop, D: Device + Drop>(
     evac: &mut Evac<N, D>,
     len: u16,
-) -> Result<u16, Refused>
-    requires some { 0 < len }
-    requires most { len ≤ LONGEST }
-{
+) -> Result<u16, Refused> {
+    if len == 0 || len > LONGEST {
+        return Err(Refused::Length);
+    }
     evac.keeps_law();
     let Some(pointer) = evac.book().free_cell(0) else {
         return Err(Refused::NoPointer);
@@ -58,28 +71,53 @@ pub(super) fn place_next<N: Near + Drop, D: Device + Drop>(
 }
 
 // The same, and the owner uses it from then on.
-pub(super) fn make<D: Device + Drop>(evac: &mut Evac<Plain, D>, len: u16) -> Result<u16, Refused>
-    requires some { 0 < len }
-    requires most { len ≤ LONGEST }
-{
+fn make<D: Device + Drop>(evac: &mut Evac<Plain, D>, len: u16) -> Result<u16, Refused> {
     let pointer = place_next(evac, len)?;
     evac.owner(Event::Adopt { owner: 0, pointer });
     Ok(pointer)
 }
 
+// Whether a new object of this length is made.
+pub(super) fn makes<D: Device + Drop>(evac: &mut Evac<Plain, D>, len: u16) -> bool {
+    make(evac, len).is_ok()
+}
+
+// Whether it is, and gets this pointer.
+pub(super) fn makes_at<D: Device + Drop>(
+    evac: &mut Evac<Plain, D>,
+    len: u16,
+    pointer: u16,
+) -> bool {
+    make(evac, len) == Ok(pointer)
+}
+
+// Whether it is refused, since no log has room.
+pub(super) fn has_no_room<D: Device + Drop>(evac: &mut Evac<Plain, D>, len: u16) -> bool {
+    make(evac, len) == Err(Refused::NoRoom)
+}
+
+// Whether so many objects of this length are made.
+pub(super) fn makes_many<D: Device + Drop>(
+    evac: &mut Evac<Plain, D>,
+    objects: u8,
+    len: u16,
+) -> bool {
+    for _ in 0..objects {
+        if !makes(evac, len) {
+            return false;
+        }
+    }
+    true
+}
+
 // Makes an object of 8 bytes, and one that fills the next log, so that the first log is sealed.
-pub(super) fn make_sealed<D: Device + Drop>(evac: &mut Evac<Plain, D>) -> Result<(), Refused> {
-    make(evac, 8)?;
-    make(evac, 1016)?;
-    Ok(())
+pub(super) fn makes_sealed<D: Device + Drop>(evac: &mut Evac<Plain, D>) -> bool {
+    makes(evac, 8) && makes(evac, 1016)
 }
 
 // Makes three objects, each of which fills a log.
-pub(super) fn make_three<D: Device + Drop>(evac: &mut Evac<Plain, D>) -> Result<(), Refused> {
-    make(evac, 1016)?;
-    make(evac, 1016)?;
-    make(evac, 1016)?;
-    Ok(())
+pub(super) fn makes_three<D: Device + Drop>(evac: &mut Evac<Plain, D>) -> bool {
+    makes_many(evac, 3, 1016)
 }
 
 pub(super) fn open<D: Device + Drop>(evac: &mut Evac<Plain, D>) -> bool {

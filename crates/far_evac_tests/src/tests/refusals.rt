@@ -1,15 +1,17 @@
 //! What each call is refused in each phase to which it doesn't belong, with nothing changed.
 
-use crate::tests::making::{SMALL, evacuator, home, make_three, shown};
+ghost use Rattle.std.specs.Borrow.{MutBor};
+
+use crate::tests::making::{SMALL, evacuator, home, is_so_of, makes_three, shown};
 use crate::tests::steps::{
-    comes_to_leaving, deals_until, is_clear, marks, progress, runs_until, selects, selects_none,
+    comes_to_leaving, deals_until, has_none_to_give_up, is_clear, marks, marks_none, progress,
+    runs_until, selects, selects_none,
 };
 use far_book::{Home, Plain};
 use far_device::MemDevice;
 use far_evac::{Evac, EvacFault, LogState, Phase};
 use far_policy::Oldest;
 use far_word::Refused;
-use std::test::Fail;
 
 /// All that can be seen of an evacuator with four logs and three objects: the phase, the epoch, the logs, where the objects are.
 #[derive(Clone, Copy, PartialEq)]
@@ -40,7 +42,7 @@ fn bars_selecting(evac: &mut Evac<Plain, MemDevice>) -> bool {
 }
 
 fn bars_marking(evac: &mut Evac<Plain, MemDevice>) -> bool {
-    evac.mark_some(0) == Err(Refused::Phase) && evac.mark_some(9) == Err(Refused::Phase)
+    marks_none(evac, 0) && marks_none(evac, 9)
 }
 
 fn bars_waiting(evac: &mut Evac<Plain, MemDevice>) -> bool {
@@ -55,61 +57,82 @@ fn bars_leaving(evac: &mut Evac<Plain, MemDevice>) -> bool {
 fn bars_turns(evac: &mut Evac<Plain, MemDevice>) -> bool {
     let so_far = progress([0, 0, 0, 0], false);
     let why = Refused::Phase;
-    evac.turn() == Err(EvacFault { so_far, why }) && evac.abort() == Err(why)
+    evac.turn() == Err(EvacFault { so_far, why }) && has_none_to_give_up(evac)
+}
+
+// Whether this is so, and all that can be seen is as before.
+fn changes_nothing<F: FnOnce(&mut Evac<Plain, MemDevice>) -> bool>(
+    evac: &mut Evac<Plain, MemDevice>,
+    is_so: F,
+) -> bool
+    requires { (p : MutBor (Evac Plain MemDevice)) → F.pre is_so p }
+{
+    let before = look(evac);
+    is_so(evac) && look(evac) == before
+}
+
+fn bars_all(evac: &mut Evac<Plain, MemDevice>) -> bool {
+    bars_marking(evac) && bars_waiting(evac) && bars_leaving(evac) && bars_turns(evac)
 }
 
 #[test]
-fn nothing_runs_without_a_round(rt: HostRuntime) -> Result<(), Fail> {
-    let mut evac = evacuator(&rt, SMALL)?;
-    make_three(&mut evac)?;
-    let before = look(&mut evac);
-    assert!(rt; bars_marking(&mut evac));
-    assert!(rt; bars_waiting(&mut evac));
-    assert!(rt; bars_leaving(&mut evac));
-    assert!(rt; bars_turns(&mut evac));
-    assert!(rt; look(&mut evac) == before);
-    Ok(())
+fn nothing_runs_without_a_round(rt: HostRuntime) {
+    assert!(rt;
+        is_so_of(
+            evacuator(&rt, SMALL),
+            |evac| makes_three(evac) && changes_nothing(evac, bars_all),
+        )
+    );
+}
+
+// Whether a round of the first two of three full logs begins.
+fn begins(evac: &mut Evac<Plain, MemDevice>) -> bool {
+    makes_three(evac) && selects(evac, &mut Oldest, 2, &[0, 1])
+}
+
+fn bars_all_but_marking(evac: &mut Evac<Plain, MemDevice>) -> bool {
+    bars_selecting(evac) && bars_waiting(evac) && bars_leaving(evac)
+}
+
+fn marks_first(evac: &mut Evac<Plain, MemDevice>) -> bool {
+    begins(evac)
+        && marks(evac, 1, 1, None)
+        && changes_nothing(evac, bars_all_but_marking)
+        && marks(evac, 1, 1, Some(1))
 }
 
 #[test]
-fn marking_comes_first(rt: HostRuntime) -> Result<(), Fail> {
-    let mut evac = evacuator(&rt, SMALL)?;
-    make_three(&mut evac)?;
-    assert!(rt; selects(&mut evac, &mut Oldest, 2, &[0, 1]));
-    assert!(rt; marks(&mut evac, 1, 1, None));
-    let before = look(&mut evac);
-    assert!(rt; bars_selecting(&mut evac));
-    assert!(rt; bars_waiting(&mut evac));
-    assert!(rt; bars_leaving(&mut evac));
-    assert!(rt; look(&mut evac) == before);
-    assert!(rt; marks(&mut evac, 1, 1, Some(1)));
-    Ok(())
+fn marking_comes_first(rt: HostRuntime) {
+    assert!(rt; is_so_of(evacuator(&rt, SMALL), marks_first));
+}
+
+fn bars_all_but_waiting(evac: &mut Evac<Plain, MemDevice>) -> bool {
+    bars_selecting(evac) && bars_marking(evac) && bars_leaving(evac)
+}
+
+fn waits_next(evac: &mut Evac<Plain, MemDevice>) -> bool {
+    begins(evac)
+        && marks(evac, 9, 2, Some(1))
+        && changes_nothing(evac, bars_all_but_waiting)
+        && is_clear(evac)
 }
 
 #[test]
-fn waiting_comes_next(rt: HostRuntime) -> Result<(), Fail> {
-    let mut evac = evacuator(&rt, SMALL)?;
-    make_three(&mut evac)?;
-    assert!(rt; selects(&mut evac, &mut Oldest, 2, &[0, 1]));
-    assert!(rt; marks(&mut evac, 9, 2, Some(1)));
-    let before = look(&mut evac);
-    assert!(rt; bars_selecting(&mut evac));
-    assert!(rt; bars_marking(&mut evac));
-    assert!(rt; bars_leaving(&mut evac));
-    assert!(rt; look(&mut evac) == before);
-    assert!(rt; is_clear(&mut evac));
-    Ok(())
+fn waiting_comes_next(rt: HostRuntime) {
+    assert!(rt; is_so_of(evacuator(&rt, SMALL), waits_next));
+}
+
+fn bars_all_but_leaving(evac: &mut Evac<Plain, MemDevice>) -> bool {
+    bars_selecting(evac) && bars_marking(evac) && bars_waiting(evac)
+}
+
+fn leaves_last(evac: &mut Evac<Plain, MemDevice>) -> bool {
+    makes_three(evac)
+        && comes_to_leaving(evac, &mut Oldest, 2)
+        && changes_nothing(evac, bars_all_but_leaving)
 }
 
 #[test]
-fn leaving_comes_last(rt: HostRuntime) -> Result<(), Fail> {
-    let mut evac = evacuator(&rt, SMALL)?;
-    make_three(&mut evac)?;
-    assert!(rt; comes_to_leaving(&mut evac, &mut Oldest, 2));
-    let before = look(&mut evac);
-    assert!(rt; bars_selecting(&mut evac));
-    assert!(rt; bars_marking(&mut evac));
-    assert!(rt; bars_waiting(&mut evac));
-    assert!(rt; look(&mut evac) == before);
-    Ok(())
+fn leaving_comes_last(rt: HostRuntime) {
+    assert!(rt; is_so_of(evacuator(&rt, SMALL), leaves_last));
 }

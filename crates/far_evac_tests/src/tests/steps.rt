@@ -18,6 +18,24 @@ pub(super) fn progress(counts: [u64; 4], done: bool) -> Progress {
     }
 }
 
+pub(super) fn is_in<N: Near + Drop, D: Device + Drop>(evac: &Evac<N, D>, phase: Phase) -> bool {
+    evac.phase() == phase
+}
+
+pub(super) fn has_epoch<N: Near + Drop, D: Device + Drop>(evac: &Evac<N, D>, epoch: u64) -> bool {
+    evac.book().shape().epoch == epoch
+}
+
+// Whether the round is given up.
+pub(super) fn gives_up<N: Near + Drop, D: Device + Drop>(evac: &mut Evac<N, D>) -> bool {
+    evac.abort() == Ok(())
+}
+
+// Whether there is none to be given up.
+pub(super) fn has_none_to_give_up<N: Near + Drop, D: Device + Drop>(evac: &mut Evac<N, D>) -> bool {
+    evac.abort() == Err(Refused::Phase)
+}
+
 // Whether a policy, asked for so many logs at most, chooses these.
 pub(super) fn selects<N: Near + Drop, D: Device + Drop, P: Policy>(
     evac: &mut Evac<N, D>,
@@ -52,6 +70,11 @@ pub(super) fn marks<N: Near + Drop, D: Device + Drop>(
     waiting: Option<u64>,
 ) -> bool {
     evac.mark_some(n) == Ok(Marked { count, waiting })
+}
+
+// Whether a marking of n objects is refused, since no round is to be marked.
+pub(super) fn marks_none<N: Near + Drop, D: Device + Drop>(evac: &mut Evac<N, D>, n: u64) -> bool {
+    evac.mark_some(n) == Err(Refused::Phase)
 }
 
 pub(super) fn is_clear<N: Near + Drop, D: Device + Drop>(evac: &mut Evac<N, D>) -> bool {
@@ -147,13 +170,17 @@ pub(super) fn comes_to_leaving<N: Near + Drop, D: Device + Drop, P: Policy>(
     runs(evac, policy, most, 2, RoundEnd::Limit(Phase::Evacuating))
 }
 
-// How many objects are near and how many far, and how many bytes are live.
-pub(super) fn counted<N: Near + Drop, D: Device + Drop>(
+// Whether so many objects are near and so many far, and so many bytes are live.
+pub(super) fn counts<N: Near + Drop, D: Device + Drop>(
     evac: &mut Evac<N, D>,
-) -> Option<(u64, u64, u64)> {
-    let census = evac.audit().ok()?;
-    let (near, far) = homes_counted(&census);
-    Some((near, far, live_counted(&census)))
+    near: u64,
+    far: u64,
+    live: u64,
+) -> bool {
+    match evac.audit() {
+        Ok(census) => homes_counted(&census) == (near, far) && live_counted(&census) == live,
+        Err(_) => false,
+    }
 }
 
 fn homes_counted(census: &Census) -> (u64, u64) {

@@ -8,7 +8,6 @@ use far_policy::{
     rows_tell_of_logs, script_is_one,
 };
 use far_word::Refused;
-use std::process::Abort;
 use std::test::*;
 
 const fn row(log: u8, live: u16) -> LogRow {
@@ -54,18 +53,15 @@ fn has_logs(chosen: &Chosen, wanted: &[u8]) -> bool {
         && chosen.is_empty() == wanted.is_empty()
 }
 
-// The policy takes exactly the logs that are wanted.
-fn takes<P: Policy>(
-    rt: &impl Abort,
-    policy: &mut P,
-    rows: &[LogRow],
-    most: usize,
-    wanted: &[u8],
-) -> Result<(), Fail> {
-    assert!(rt; are_rows(rows));
-    let chosen = chosen_by(policy, rows, most)?;
-    assert!(rt; has_logs(&chosen, wanted), "at most {most}");
-    Ok(())
+// Whether the policy takes exactly the logs that are wanted.
+fn takes<P: Policy>(policy: &mut P, rows: &[LogRow], most: usize, wanted: &[u8]) -> bool {
+    if !are_rows(rows) {
+        return false;
+    }
+    match chosen_by(policy, rows, most) {
+        Ok(chosen) => has_logs(&chosen, wanted),
+        Err(_) => false,
+    }
 }
 
 fn is_refused(answer: Result<(), Refused>, log: u8) -> bool {
@@ -73,15 +69,14 @@ fn is_refused(answer: Result<(), Refused>, log: u8) -> bool {
     answer == Err(bad) && bad.number() == 17
 }
 
-// The script is refused with this log, and the list is empty.
-fn refuses(rt: &impl Abort, named: &[u8], rows: &[LogRow], most: usize, log: u8) {
-    assert!(rt; are_rows(rows));
+// Whether the script is refused with this log, and the list is empty.
+fn refuses(named: &[u8], rows: &[LogRow], most: usize, log: u8) -> bool {
+    if !are_rows(rows) {
+        return false;
+    }
     let mut chosen = Chosen::new();
     let answer = Scripted { logs: named }.choose(rows, most, &mut chosen);
-    assert!(rt;
-        is_refused(answer, log) && chosen.is_empty(),
-        "at most {most}"
-    );
+    is_refused(answer, log) && chosen.is_empty()
 }
 
 #[test]
@@ -111,86 +106,106 @@ fn readme(rt: HostRuntime) -> Result<(), Fail> {
 }
 
 #[test]
-fn oldest_takes_the_first(rt: HostRuntime) -> Result<(), Fail> {
-    takes(&rt, &mut Oldest, &FOUR, 2, &[5, 2])?;
-    takes(&rt, &mut Oldest, &FOUR, 0, &[])?;
-    takes(&rt, &mut Oldest, &FOUR, 4, &[5, 2, 9, 0])?;
-    takes(&rt, &mut Oldest, &FOUR, usize::MAX, &[5, 2, 9, 0])?;
-    takes(&rt, &mut Oldest, &[], 3, &[])
+fn oldest_takes_the_first(rt: HostRuntime) {
+    assert!(rt; takes(&mut Oldest, &FOUR, 2, &[5, 2]));
+    assert!(rt; takes(&mut Oldest, &FOUR, 0, &[]));
+    assert!(rt; takes(&mut Oldest, &FOUR, 4, &[5, 2, 9, 0]));
+    assert!(rt; takes(&mut Oldest, &FOUR, usize::MAX, &[5, 2, 9, 0]));
+    assert!(rt; takes(&mut Oldest, &[], 3, &[]));
 }
 
 #[test]
-fn least_live_takes_the_emptiest(rt: HostRuntime) -> Result<(), Fail> {
-    takes(&rt, &mut LeastLive, &FOUR, 1, &[9])?;
-    takes(&rt, &mut LeastLive, &FOUR, 2, &[9, 0])?;
-    takes(&rt, &mut LeastLive, &FOUR, 3, &[9, 0, 2])?;
-    takes(&rt, &mut LeastLive, &FOUR, 0, &[])?;
-    takes(&rt, &mut LeastLive, &FOUR, usize::MAX, &[9, 0, 2, 5])?;
-    takes(&rt, &mut LeastLive, &[], 3, &[])
+fn least_live_takes_the_emptiest(rt: HostRuntime) {
+    assert!(rt; takes(&mut LeastLive, &FOUR, 1, &[9]));
+    assert!(rt; takes(&mut LeastLive, &FOUR, 2, &[9, 0]));
+    assert!(rt; takes(&mut LeastLive, &FOUR, 3, &[9, 0, 2]));
+    assert!(rt; takes(&mut LeastLive, &FOUR, 0, &[]));
+    assert!(rt; takes(&mut LeastLive, &FOUR, usize::MAX, &[9, 0, 2, 5]));
+    assert!(rt; takes(&mut LeastLive, &[], 3, &[]));
+}
+
+// Whether a script's logs are taken in its order.
+fn takes_named(named: &[u8], rows: &[LogRow], most: usize) -> bool {
+    takes(&mut Scripted { logs: named }, rows, most, named)
 }
 
 #[test]
-fn script_is_taken_in_its_order(rt: HostRuntime) -> Result<(), Fail> {
-    takes(&rt, &mut Scripted { logs: &[9, 5] }, &FOUR, 2, &[9, 5])?;
-    takes(
-        &rt,
-        &mut Scripted {
-            logs: &[0, 9, 2, 5],
-        },
-        &FOUR,
-        64,
-        &[0, 9, 2, 5],
-    )?;
-    takes(&rt, &mut Scripted { logs: &[] }, &FOUR, 0, &[])?;
-    takes(&rt, &mut Scripted { logs: &[] }, &[], 4, &[])
+fn script_is_taken_in_its_order(rt: HostRuntime) {
+    assert!(rt; takes_named(&[9, 5], &FOUR, 2));
+    assert!(rt; takes_named(&[0, 9, 2, 5], &FOUR, 64));
+    assert!(rt; takes_named(&[], &FOUR, 0));
+    assert!(rt; takes_named(&[], &[], 4));
 }
 
 #[test]
 fn script_is_refused(rt: HostRuntime) {
     let one = [row(0, 16)];
-    refuses(&rt, &[1], &one, 1, 1);
-    refuses(&rt, &[0, 0], &one, 2, 0);
-    refuses(&rt, &[0], &[], 1, 0);
-    refuses(&rt, &[0], &one, 0, 0);
-    refuses(&rt, &[9, 5, 2], &FOUR, 2, 2);
-    refuses(&rt, &[9, 255, 9], &FOUR, 4, 255);
-    refuses(&rt, &[9, 9, 255], &FOUR, 4, 9);
-    refuses(&rt, &[64], &FOUR, 4, 64);
+    assert!(rt; refuses(&[1], &one, 1, 1));
+    assert!(rt; refuses(&[0, 0], &one, 2, 0));
+    assert!(rt; refuses(&[0], &[], 1, 0));
+    assert!(rt; refuses(&[0], &one, 0, 0));
+    assert!(rt; refuses(&[9, 5, 2], &FOUR, 2, 2));
+    assert!(rt; refuses(&[9, 255, 9], &FOUR, 4, 255));
+    assert!(rt; refuses(&[9, 9, 255], &FOUR, 4, 9));
+    assert!(rt; refuses(&[64], &FOUR, 4, 64));
 }
 
-#[test]
-fn largest_heap(rt: HostRuntime) -> Result<(), Fail> {
-    let alloc = rt.alloc();
-    let mut rows = Vec::new(alloc);
-    let mut falling = Vec::new(alloc);
-    let mut rising = Vec::new(alloc);
-    for log in 0..64u8 {
-        rows.push(row(63 - log, 16 * (log as u16 / 2)))?;
-        falling.push(63 - log)?;
-        rising.push(if log % 2 == 0 { 62 - log } else { 64 - log })?;
+// Rows of all logs of the largest heap, the last log first; each second one has as many live bytes as the one before it.
+fn largest_rows() -> [LogRow; 64] {
+    let mut rows = [row(0, 0); 64];
+    for i in 0..64u8 {
+        rows[i as usize] = row(63 - i, 16 * (i as u16 / 2));
     }
-    let rows = rows.as_slice();
-    let falling = falling.as_slice();
-    takes(&rt, &mut Oldest, rows, 64, falling)?;
-    takes(&rt, &mut LeastLive, rows, 64, rising.as_slice())?;
-    takes(&rt, &mut Scripted { logs: falling }, rows, 64, falling)?;
-    refuses(&rt, falling, rows, 63, 0);
-    assert_eq!(rt; MOST_CHOSEN, 64);
-    Ok(())
+    rows
+}
+
+// Their logs in their order.
+fn falling_logs() -> [u8; 64] {
+    let mut logs = [0; 64];
+    for i in 0..64u8 {
+        logs[i as usize] = 63 - i;
+    }
+    logs
+}
+
+// Their logs by their live bytes, the lower log first.
+fn rising_logs() -> [u8; 64] {
+    let mut logs = [0; 64];
+    for i in 0..64u8 {
+        logs[i as usize] = if i % 2 == 0 { 62 - i } else { 64 - i };
+    }
+    logs
 }
 
 #[test]
-fn policy_of_the_tests_own(rt: HostRuntime) -> Result<(), Fail> {
+fn largest_heap(rt: HostRuntime) {
+    let rows = largest_rows();
+    let falling = falling_logs();
+    assert!(rt; takes(&mut Oldest, &rows, 64, &falling));
+    assert!(rt; takes(&mut LeastLive, &rows, 64, &rising_logs()));
+    assert!(rt; takes_named(&falling, &rows, 64));
+    assert!(rt; refuses(&falling, &rows, 63, 0));
+    assert!(rt; MOST_CHOSEN == 64);
+}
+
+// Whether the policy refuses the four rows with this log.
+fn refuses_four(policy: &mut Youngest, log: u8) -> bool {
+    if !are_rows(&FOUR) {
+        return false;
+    }
+    match chosen_by(policy, &FOUR, 7) {
+        Ok(_) => false,
+        Err(why) => why == Refused::BadChoice(log),
+    }
+}
+
+#[test]
+fn policy_of_the_tests_own(rt: HostRuntime) {
     let mut policy = Youngest { times: 3 };
-    takes(&rt, &mut policy, &FOUR, 7, &[0])?;
-    takes(&rt, &mut policy, &FOUR, 0, &[])?;
-    takes(&rt, &mut policy, &[], 1, &[])?;
-    assert!(rt; are_rows(&FOUR));
-    assert_eq!(rt;
-        chosen_by(&mut policy, &FOUR, 7).err(),
-        Some(Refused::BadChoice(200))
-    );
-    Ok(())
+    assert!(rt; takes(&mut policy, &FOUR, 7, &[0]));
+    assert!(rt; takes(&mut policy, &FOUR, 0, &[]));
+    assert!(rt; takes(&mut policy, &[], 1, &[]));
+    assert!(rt; refuses_four(&mut policy, 200));
 }
 
 #[test]

@@ -151,5 +151,5 @@ module _ (p new len : ℕ) (place : Place) where
       round = refl;
       clear = refl;
     };
-    causes = λ old. (old, new, refl);
+    causes = λ old says. (old, new, refl);
   }

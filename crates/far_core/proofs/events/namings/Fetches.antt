@@ -105,5 +105,5 @@ module _ (p new len ds : ℕ) (place : Place) where
     within = λ s. touch_span s p new len place;
     names = λ s. put_same s.cell p new p refl;
     reports = λ s law. takes_span s law p new len place;
-    causes = λ old. (old, new, refl);
+    causes = λ old says. (old, new, refl, (len, ds, says.0.0, place, says.0.1, says.1));
   }

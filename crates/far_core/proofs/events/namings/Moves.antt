@@ -83,5 +83,5 @@ module _ (p new len ds : ℕ) (from to : Place) where
     within = λ s. touch_span s p new len to;
     names = λ s. put_same s.cell p new p refl;
     reports = λ s law. takes_span s law p new len to;
-    causes = λ old. (old, new, refl);
+    causes = λ old says. (old, new, refl);
   }

@@ -58,5 +58,5 @@ module _ (p new : ℕ) where
     within = λ s. touched (one_cell s.epoch s.scope s.cell s.word p new) (λ k a b. refl) (λ q a. refl) (λ q a b. refl);
     names = λ s. put_same s.cell p new p refl;
     reports = λ s law. refl;
-    causes = λ old. inr (old, new, refl);
+    causes = λ old says. inr (old, new, refl);
   }

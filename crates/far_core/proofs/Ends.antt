@@ -1,0 +1,69 @@
+-- What a memory's rows say past their ends, and that a state is what it says within them.
+use Rattle.std.proofs.Common.{◌≡◌, ℕ, ◌+◌, ◌*◌, ◌<◌, ◌≤◌, ◌∙◌, Bool, true, false, cond, nat_lt, arith, ap, refl, sym, inl, inr, get_or, None}
+use Rattle.std.proofs.lemmas.Bool.{cases_lt, le-ltb}
+use Rattle.std.proofs.lemmas.List.{get_or_past}
+use mathlib.Core.Path.{fun_ext}
+use Rattle.far_word.specs.declared.sizes.TheConstants.{CELLS, LOG_WORDS}
+use Rattle.far_core.specs.declared.event.Kind.TheVariants.{Free}
+use Rattle.far_core.specs.declared.memory.Memory.{Memory}
+use Rattle.far_core.specs.laws.Ends.{HasNothingPast, IsWhatIsWithin}
+use Rattle.far_core.specs.state.Memory.{state_of}
+use Rattle.far_core.specs.state.State.{State}
+
+pub has_nothing_past : (c : Memory) → HasNothingPast (state_of c)
+unfolding state_of
+has_nothing_past c = record {
+  words = λ a le. get_or_past c.words.items a 0 (omega (arith, le, c.words.ok.0, c.words_sized));
+  spans = λ a le. get_or_past c.starts.items a false (omega (arith, le, c.starts.ok.0, c.starts_sized));
+  kinds = λ l le. get_or_past c.kinds.items l Free (omega (arith, le, c.kinds.ok.0, c.kinds_sized));
+  tails = λ l le. get_or_past c.tails.items l 0 (omega (arith, le, c.tails.ok.0));
+  rounds = λ l le. get_or_past c.round.items l false (omega (arith, le, c.round.ok.0, c.round_sized));
+  scopes = λ m le. get_or_past c.scopes.items m 0 (omega (arith, le, c.scopes.ok.0));
+  epochs = λ m le. get_or_past c.remembered.items m None (omega (arith, le, c.remembered.ok.0, c.remembered_sized));
+  clears = λ m le. get_or_past c.clear.items m false (omega (arith, le, c.clear.ok.0, c.clear_sized));
+  cells = λ p le. get_or_past c.cells.items p 0 (omega (arith, le, c.cells.ok.0, c.cells_sized));
+  uses = λ p le. get_or_past c.used.items p false (omega (arith, le, c.used.ok.0, c.used_sized));
+  holds = λ p le. get_or_past c.held.items p None (omega (arith, le, c.held.ok.0, c.held_sized));
+  stores = λ p i le. blank (nat_lt i LOG_WORDS) _ (get_or_past c.stored.items (p * LOG_WORDS + i) 0 (omega (arith, le, c.stored.ok.0, c.stored_within)));
+  rows = λ p i le. ap (λ b. cond b (get_or c.stored.items (p * LOG_WORDS + i) 0) 0) (le-ltb i LOG_WORDS le);
+} where
+  blank : (b : Bool) (x : ℕ) → x ≡ 0 → cond b x 0 ≡ 0
+  blank true x e = e
+  blank false x e = refl
+
+-- two rows that agree up to their end, and have the same past it
+alike : {X : Type 0} (f g : ℕ → X) (n k : ℕ) (d : X) → n ≡ k → ((q : ℕ) → n ≤ q → f q ≡ d) → ((q : ℕ) → k ≤ q → g q ≡ d) → ((q : ℕ) → q < n → f q ≡ g q) → f ≡ g
+alike f g n k d is past beyond within = fun_ext (λ q. elim (cases_lt q n) [ inl lt ↦ within q lt | inr le ↦ past q le ∙ sym (beyond q (omega (arith, is, le))) ])
+
+pub is_what_is_within : (s : State) → HasNothingPast s → IsWhatIsWithin s
+is_what_is_within s a t b w = λ i. record {
+  mutators = w.mutators i;
+  logs = w.logs i;
+  honest = w.honesty i;
+  epoch = w.epoch i;
+  scope = alike s.scope t.scope s.mutators t.mutators 0 w.mutators a.scopes b.scopes w.scopes i;
+  cell = alike s.cell t.cell (CELLS * s.mutators) (CELLS * t.mutators) 0 pointers a.cells b.cells w.cells i;
+  word = alike s.word t.word (LOG_WORDS * s.logs) (LOG_WORDS * t.logs) 0 places a.words b.words w.words i;
+  remembered = alike s.remembered t.remembered s.mutators t.mutators None w.mutators a.epochs b.epochs w.epochs i;
+  used = alike s.used t.used (CELLS * s.mutators) (CELLS * t.mutators) false pointers a.uses b.uses w.uses i;
+  held = alike s.held t.held (CELLS * s.mutators) (CELLS * t.mutators) None pointers a.holds b.holds w.holds i;
+  kind = alike s.kind t.kind s.logs t.logs Free w.logs a.kinds b.kinds w.kinds i;
+  tail = alike s.tail t.tail s.logs t.logs 0 w.logs a.tails b.tails w.tails i;
+  current = w.current i;
+  starts = alike s.starts t.starts (LOG_WORDS * s.logs) (LOG_WORDS * t.logs) false places a.spans b.spans w.spans i;
+  round = alike s.round t.round s.logs t.logs false w.logs a.rounds b.rounds w.rounds i;
+  round_epoch = w.round_epoch i;
+  clear = alike s.clear t.clear s.mutators t.mutators false w.mutators a.clears b.clears w.clears i;
+  stored = stored i;
+} where
+  pointers : CELLS * s.mutators ≡ CELLS * t.mutators
+  pointers = ap (λ n. CELLS * n) w.mutators
+
+  places : LOG_WORDS * s.logs ≡ LOG_WORDS * t.logs
+  places = ap (λ n. LOG_WORDS * n) w.logs
+
+  row : (p : ℕ) → p < CELLS * s.mutators → s.stored p ≡ t.stored p
+  row p low = alike (s.stored p) (t.stored p) LOG_WORDS LOG_WORDS 0 refl (a.rows p) (b.rows p) (λ q lt. w.stores p q low lt)
+
+  stored : s.stored ≡ t.stored
+  stored = alike s.stored t.stored (CELLS * s.mutators) (CELLS * t.mutators) (λ _. 0) pointers (λ p le. fun_ext (λ q. a.stores p q le)) (λ p le. fun_ext (λ q. b.stores p q le)) row
