@@ -26,6 +26,8 @@ use Rattle.far_hand.proofs.Finding.{finds_more}
 use Rattle.far_book.proofs.region.Dropping.{retired_by}
 use Rattle.far_book.proofs.region.Fetched.{come_in_order, come_forgot, come_kept, fetched_by, fetched_seen, known, known_alive, written_in_order}
 use Rattle.far_book.proofs.region.Fetching.{FarFound, able, as_long, as_stored, at_tail, finds_now, is_held, is_seen, left_here, left_written, may, now, room_was, some_room, spent_by, unasked, unread_written, words_same}
+use Rattle.far_hand.proofs.Closure.{then_came}
+use Rattle.far_book.proofs.region.Handed.{since_book}
 
 pub room-requires-clause-size : goal.room-requires-clause-size
 room-requires-clause-size g c =
@@ -473,3 +475,12 @@ returns-clause-called g c =
       exact = λ still. y.ensures.set still ∙ as_seen;
     } in
     (c.in-Ok.bytes.items, c.read.new.self, read, c.forget.ensures.called, subst (λ (b : List ℕ). HasGiven g.N.Near.still s0 t p c.in-Some.place b) c.as_slice.ensures.value has)
+
+pub returns-then-marks-clause-came : goal.returns-then-marks-clause-came
+returns-then-marks-clause-came g c = then_came c.see-word.ensures.came c.retire.ensures.came
+
+pub returns-in_default-come_near-clause-came : goal.returns-in_default-come_near-clause-came
+returns-in_default-come_near-clause-came g c = then_came (then_came c.see-word.ensures.came (since_book c.self.view_is c.come_near.ensures.came)) c.retire-in_default-come_near.ensures.came
+
+pub returns-clause-came : goal.returns-clause-came
+returns-clause-came g c = then_came c.see-word.ensures.came (since_book c.self.view_is c.come_near.ensures.came)
