@@ -8,6 +8,8 @@ use Rattle.far_word.specs.declared.pointer.PtrWord.TheVariants.{Far}
 use Rattle.far_word.proofs.PointerLaws.{read_says}
 use Rattle.far_word.specs.Sizes.{size_of}
 use Rattle.far_core.specs.events.Naming.{is_dropped}
+use Rattle.far_hand.proofs.Closure.{then_came}
+use Rattle.far_book.proofs.region.Handed.{since_book}
 use Rattle.far_core.specs.state.State.{State}
 use Rattle.far_device.specs.Contents.{KeepsOthers}
 use Rattle.far_device.specs.declared.fault.DeviceFault.{DeviceFault}
@@ -26,8 +28,6 @@ use Rattle.far_hand.proofs.Finding.{finds_more}
 use Rattle.far_book.proofs.region.Dropping.{retired_by}
 use Rattle.far_book.proofs.region.Fetched.{come_in_order, come_forgot, come_kept, fetched_by, fetched_seen, known, known_alive, written_in_order}
 use Rattle.far_book.proofs.region.Fetching.{FarFound, able, as_long, as_stored, at_tail, finds_now, is_held, is_seen, left_here, left_written, may, now, room_was, some_room, spent_by, unasked, unread_written, words_same}
-use Rattle.far_hand.proofs.Closure.{then_came}
-use Rattle.far_book.proofs.region.Handed.{since_book}
 
 pub room-requires-clause-size : goal.room-requires-clause-size
 room-requires-clause-size g c =
