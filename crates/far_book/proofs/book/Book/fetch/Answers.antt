@@ -8,6 +8,8 @@ use Rattle.far_word.specs.declared.pointer.PtrWord.TheVariants.{Far}
 use Rattle.far_word.proofs.PointerLaws.{read_says}
 use Rattle.far_word.specs.Sizes.{size_of}
 use Rattle.far_core.specs.events.Naming.{is_dropped}
+use Rattle.far_hand.proofs.Closure.{then_came}
+use Rattle.far_book.proofs.region.Handed.{since_book}
 use Rattle.far_core.specs.state.State.{State}
 use Rattle.far_device.specs.Contents.{KeepsOthers}
 use Rattle.far_device.specs.declared.fault.DeviceFault.{DeviceFault}

@@ -25,13 +25,13 @@ returns-clause-free g c =
     )
 
 pub returns-clause-gone : goal.returns-clause-gone
-returns-clause-gone g c = 
+returns-clause-gone g c =
     let now : (g.N.Near.view c.see.new.self).cell c.args.pointer ≡ c.see.result = ap (λ (s : State). s.cell c.args.pointer) c.see.ensures.kept ∙ put_same (g.N.Near.view c.self.inside.near).cell c.args.pointer c.see.result c.args.pointer refl in
     let some = some_found ((g.N.Near.view c.self.inside.near).cell c.args.pointer) c.see.result c.see.ensures.found (c.self.invariant.notes.law.cells.cell_read c.args.pointer).1 in
     (λ none. now ∙ home_none c.see.result some (sym c.home_in.ensures ∙ none), λ free. c.home_in.ensures ∙ none_home c.see.result (sym now ∙ free))
 
 pub returns-clause-saw : goal.returns-clause-saw
-returns-clause-saw g c = 
+returns-clause-saw g c =
     let now : (g.N.Near.view c.see.new.self).cell c.args.pointer ≡ c.see.result = ap (λ (s : State). s.cell c.args.pointer) c.see.ensures.kept ∙ put_same (g.N.Near.view c.self.inside.near).cell c.args.pointer c.see.result c.args.pointer refl in
     subst (λ w. ∥ ((x : State) × g.N.Near.may_be c.see.new.self x × (x.cell c.args.pointer ≡ w)) ∥₁) (sym now)
     (told_cell (g.N.Near.may_be c.self.inside.near) (g.N.Near.may_be c.see.new.self) c.args.pointer c.see.result (g.met.N.Near.told c.self.inside.near c.see.new.self _ _ c.see.ensures.made))

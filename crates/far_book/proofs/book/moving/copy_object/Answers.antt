@@ -1,5 +1,5 @@
 use Rattle.far_book.proofs.book.moving.copy_object.Goals as goal
-use Rattle.std.proofs.Common.{◌≡◌, ◌∙◌, ◌+◌, ◌*◌, ◌<◌, subst, ap, arith, refl, rules}
+use Rattle.std.proofs.Common.{◌≡◌, ◌∙◌, ◌+◌, ◌*◌, ◌<◌, subst, ap, arith, refl, rules, ℕ}
 use Rattle.far_word.specs.Sizes.{words_for}
 use Rattle.far_word.specs.declared.sizes.TheConstants.{LOG_WORDS}
 use Rattle.far_word.specs.Header.{head_word}
@@ -7,6 +7,7 @@ use Rattle.far_core.specs.events.Copies.{data_at}
 use Rattle.far_core.specs.events.Ranges.{with_row}
 use Rattle.far_core.specs.state.State.{State, put, addr}
 use Rattle.far_book.proofs.region.Copying.{Copying, head, put_legal, get_legal, from_fits, quiet_word, copying_more, copied, exact_more}
+use Rattle.far_core.proofs.Rows.{row_none}
 use Rattle.far_hand.proofs.Closure.{first_call, then_call}
 
 pub pack-requires : goal.pack-requires
@@ -65,4 +66,12 @@ returns-clause-exact g c still =
     c.loop-i.invariant.exact still ∙ ap (λ n. record s { word = with_row (put s.word (addr c.args.to) (head_word c.args.pointer c.args.len c.args.ds)) (addr c.args.to + 1) n (data_at s.word c.args.from) }) all
 
 pub loop-i-init : goal.loop-i-init
-loop-i-init g c = record { copying = search rules; came = first_call _ _ c.put.ensures.made; exact = λ still. c.put.ensures.set ∙ ap (λ w. record (g.N.Near.view c.args.near.now) { word = put (g.N.Near.view c.args.near.now).word (addr c.args.to) w }) c.pack.ensures }
+loop-i-init g c =
+    let s = g.N.Near.view c.args.near.now in
+    let word = put s.word (addr c.args.to) (head_word c.args.pointer c.args.len c.args.ds) in
+    record {
+      copying = search rules;
+      came = first_call _ _ c.put.ensures.made;
+      exact = λ still. c.put.ensures.set ∙ ap (λ w. record s { word = put s.word (addr c.args.to) w }) c.pack.ensures
+          ∙ ap (λ (f : ℕ → ℕ). record s { word = f }) (row_none word (addr c.args.to + 1) (data_at s.word c.args.from));
+    }
