@@ -1,11 +1,12 @@
 -- What a walk asks of the device, one object more; and which keys it leaves.
-use Rattle.std.proofs.Common.{◌≡◌, ◌≢◌, ◌∙◌, ℕ, ◌+◌, suc, List, [], ◌∷◌, ◌++◌, Option, Some, None, arith, ap, sym, refl, subst, inl, inr, take}
+use Rattle.std.proofs.Common.{◌≡◌, ◌≢◌, ◌∙◌, ℕ, Bool, ◌+◌, suc, List, [], ◌∷◌, ◌++◌, Option, Some, None, arith, ap, sym, refl, subst, inl, inr, take}
 use Rattle.std.specs.Prelude.{false, Result, Ok, Err, IfNone, IfSome}
 use Rattle.std.specs.List.{AllByRecursion}
 use Rattle.far_word.specs.declared.pointer.Place.{Place}
 use Rattle.far_word.specs.declared.refused.Refused.{Refused}
 use Rattle.far_word.specs.Pointer.{read_of}
-use Rattle.far_device.specs.Contents.{KeepsOthers}
+use Rattle.far_device.specs.Following.{Follows, none_of, other_than}
+use Rattle.far_device.proofs.Following.{follows_on, follows_still}
 use Rattle.far_device.specs.declared.fault.DeviceFault.{DeviceFault}
 use Rattle.far_core.specs.events.Naming.{is_dropped}
 use Rattle.far_core.specs.state.State.{State, addr}
@@ -19,7 +20,7 @@ use Rattle.far_hand.proofs.Finding.{finds_more, near_known}
 use Rattle.far_book.proofs.region.Founds.{drop_found}
 use Rattle.far_evac.specs.declared.evac.evacuating.Fate.{Fate}
 use Rattle.far_evac.specs.AnyHand.{KnowsWalked, WalksTo}
-use Rattle.far_evac.specs.Asked.{AsksFirst, AsksSo, KeepsKeys, WalksAsking, first_live}
+use Rattle.far_evac.specs.Asked.{AsksFirst, AsksSo, WalksAsking, first_live}
 use Rattle.far_evac.specs.Leaving.{AsksAs, fate_by, near_fate}
 use Rattle.far_evac.specs.Live.{live_among}
 use Rattle.far_evac.specs.Moment.{Moment, Tally}
@@ -45,14 +46,22 @@ first_more m k w p rest ready walks is =
     ap (λ n. take n (live_among m.core m.held)) (sym (one_more k)) ∙ next.2
 
 -- ---- keys
-pub keys_none : (xs : List ℕ) (a b : ℕ → Option (List ℕ)) → b ≡ a → KeepsKeys xs a b
-keys_none xs a b same p none = ap (λ (f : ℕ → Option (List ℕ)). f p) same
-
-pub keys_more : (m : Moment) (k : ℕ) (w : Walked) (p : ℕ) (rest : List ℕ) (a b c : ℕ → Option (List ℕ)) → Ready m.core m.held → WalksTo m k w → left w ≡ p ∷ rest →
-    KeepsKeys (first_live m k) a b → KeepsOthers b c p → KeepsKeys (first_live m (k + 1)) a c
-keys_more m k w p rest a b c ready walks is keys others q none =
+left_alone : (m : Moment) (k : ℕ) (w : Walked) (p : ℕ) (rest : List ℕ) → Ready m.core m.held → WalksTo m k w → left w ≡ p ∷ rest →
+    (q : ℕ) → none_of (first_live m (k + 1)) q → none_of (first_live m k) q × other_than p q
+left_alone m k w p rest ready walks is q none =
     let parts = all_parts (λ x. x ≢ q) (first_live m k) p (subst (AllByRecursion (λ x. x ≢ q)) (first_more m k w p rest ready walks is) none) in
-    others q (λ e. parts.1 (sym e)) ∙ keys q parts.0
+    (parts.0, λ e. parts.1 (sym e))
+
+-- one object more, and what its own call of the device leaves alone
+pub follows_more : {D : Type 0} (contents : D → ℕ → Option (List ℕ)) (is_honest : D → Bool) (faults : D → ℕ) (few : D → ℕ → Type 0)
+    (m : Moment) (k : ℕ) (w : Walked) (p : ℕ) (rest : List ℕ) (fault : Bool) (a b c : D) → Ready m.core m.held → WalksTo m k w → left w ≡ p ∷ rest →
+    Follows contents is_honest faults few (none_of (first_live m k)) false a b → Follows contents is_honest faults few (other_than p) fault b c →
+    Follows contents is_honest faults few (none_of (first_live m (k + 1))) fault a c
+follows_more contents is_honest faults few m k w p rest fault a b c ready walks is first then =
+    let alone = left_alone m k w p rest ready walks is in
+    follows_on contents is_honest faults few (none_of (first_live m (k + 1))) fault a b c
+    (follows_still contents is_honest faults few (none_of (first_live m k)) (none_of (first_live m (k + 1))) false a b (λ q none. (alone q none).0) first)
+    (follows_still contents is_honest faults few (other_than p) (none_of (first_live m (k + 1))) fault b c (λ q none. (alone q none).1) then)
 
 -- ---- calls of the device
 module _ (D : Type 0) (writes : D → ℕ → List ℕ → Result (Unit {0}) DeviceFault → D → Type 0) (lets_go : D → ℕ → D → Type 0) where

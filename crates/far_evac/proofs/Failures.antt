@@ -1,15 +1,17 @@
--- Which refusals say that the device failed, and that faults are counted over calls that come one after the other.
-use Rattle.std.proofs.Common.{◌≡◌, ◌⊎◌, ℕ, zero, suc, Bool, true, false, Err, inl, inr, ap, sym, ◌∙◌}
-use Rattle.far_device.specs.Faults.{SpendsFault}
+-- Which refusals say that the device failed.
+use Rattle.std.proofs.Common.{◌≡◌, ◌⊎◌, Err, inl, inr, ap, sym, ◌∙◌}
+use Rattle.far_word.specs.declared.refused.Refused.{Refused}
 use Rattle.far_word.specs.declared.refused.Refused.TheVariants.{Device as Failed, Memory}
 use Rattle.far_book.specs.book.Dealing.{is_failure}
 use Rattle.far_evac.specs.declared.answers.EvacFault.{EvacFault}
 use Rattle.far_evac.specs.Failing.{fails}
 
--- calls without a fault, and then one
-pub spends_on : (b : Bool) (first then now : ℕ → Type 0) → ((n : ℕ) → first n → then n) → SpendsFault b then now → SpendsFault b first now
-spends_on true first then now keeps spent = (λ most. spent.0 (keeps zero most), λ n most. spent.1 n (keeps (suc n) most))
-spends_on false first then now keeps spent = λ n most. spent n (keeps n most)
+-- whatever a call of the book would have answered else
+pub failure_alike : (A B : Type 0) (why : Refused) → (why ≡ Memory) ⊎ (why ≡ Failed) → is_failure {A = A} (Err why) ≡ is_failure {A = B} (Err why)
+failure_alike A B why is = elim is [
+  | inl e ↦ ap (λ w. is_failure {A = A} (Err w)) e ∙ sym (ap (λ w. is_failure {A = B} (Err w)) e)
+  | inr e ↦ ap (λ w. is_failure {A = A} (Err w)) e ∙ sym (ap (λ w. is_failure {A = B} (Err w)) e)
+]
 
 -- whatever a call would have answered else
 pub fails_alike : (A B : Type 0) (fault : EvacFault) → (fault.why ≡ Memory) ⊎ (fault.why ≡ Failed) → fails {A = A} (Err fault) ≡ fails {A = B} (Err fault)

@@ -1,6 +1,5 @@
 -- What a walk asked of the device, object after object; and under which keys the device has what it had.
-use Rattle.std.specs.Prelude.{◌≡◌, ◌≢◌, ◌+◌, ℕ, zero, suc, true, false, List, [], ◌∷◌, take, Option, Result, Ok, Err}
-use Rattle.std.specs.List.{AllByRecursion}
+use Rattle.std.specs.Prelude.{◌≡◌, ◌+◌, ℕ, zero, suc, Bool, true, false, List, [], ◌∷◌, take, Result, Ok, Err}
 use Rattle.far_word.specs.declared.refused.Refused.{Refused}
 use Rattle.far_word.specs.Pointer.{read_of}
 use Rattle.far_device.specs.declared.fault.DeviceFault.{DeviceFault}
@@ -24,9 +23,10 @@ abbrev pub asked_of : Result Progress EvacFault → ℕ
 asked_of (Ok progress) = objects_in (tally_of progress)
 asked_of (Err fault) = objects_in (tally_of fault.so_far) + 1
 
--- under every key but theirs is what was there
-abbrev pub KeepsKeys : List ℕ → (ℕ → Option (List ℕ)) → (ℕ → Option (List ℕ)) → Type 0
-KeepsKeys objects old new = (p : ℕ) → AllByRecursion (λ q. q ≢ p) objects → new p ≡ old p
+-- the same of a walk, which has counted so much
+abbrev pub asked_by : Tally → Result Bool Refused → ℕ
+asked_by tally (Ok over) = objects_in tally
+asked_by tally (Err why) = objects_in tally + 1
 
 module _ (D : Type 0) (writes : D → ℕ → List ℕ → Result (Unit {0}) DeviceFault → D → Type 0) (lets_go : D → ℕ → D → Type 0) where
   -- an object left its log so: nothing was asked where it moved; it went far by one write of its bytes, which was done; where it was retired its key was let go of,

@@ -1,5 +1,5 @@
 -- Which answers say that the device failed.
-use Rattle.std.specs.Prelude.{Bool, true, false, Result, Ok, Err}
+use Rattle.std.specs.Prelude.{ℕ, Bool, true, false, Result, Ok, Err}
 use Rattle.far_word.specs.declared.refused.Refused.{Refused}
 use Rattle.far_word.specs.declared.refused.Refused.TheVariants.{Device}
 use Rattle.far_evac.specs.declared.answers.EvacFault.{EvacFault}
@@ -11,3 +11,7 @@ is_of_device why = false
 abbrev pub fails : {A : Type 0} → Result A EvacFault → Bool
 fails (Ok x) = false
 fails (Err fault) = is_of_device fault.why
+
+-- no key is said to be left alone
+abbrev pub no_key : ℕ → Type 0
+no_key q = ⊥

@@ -3,14 +3,14 @@
 ghost use Rattle.std.specs.Prelude.{◌≡◌, ◌⊎◌, ℕ, List, Some, None, Ok, Err, false, IfOk, IfErr, map};
 ghost use Rattle.far_book.specs.book.Rows.{row_of};
 ghost use Rattle.far_core.specs.state.CoreState.{core_state};
-ghost use Rattle.far_device.specs.Faults.{CountsFault, SpendsFault};
+ghost use Rattle.far_device.specs.Following.{Follows};
 ghost use Rattle.far_policy.specs.Choice.{IsChoice};
 ghost use Rattle.far_word.specs.declared.refused.Refused.{Refused as why_refused};
 ghost use Rattle.far_word.specs.declared.refused.Refused.TheVariants.{Device as Failed, Memory};
 ghost use Rattle.far_evac.specs.AnyHand.{StopsRound};
 ghost use Rattle.far_evac.specs.Choosing.{after_selecting};
 ghost use Rattle.far_evac.specs.EvacOf.{moment_alone};
-ghost use Rattle.far_evac.specs.Failing.{fails};
+ghost use Rattle.far_evac.specs.Failing.{fails, no_key};
 ghost use Rattle.far_evac.specs.Moment.{nothing, progress_of};
 ghost use Rattle.far_evac.specs.Refusals.{unselectable};
 ghost use Rattle.far_evac.specs.RoundAsked.{RoundAsking, StopsAsking};
@@ -47,9 +47,7 @@ impl<D: Device + Drop> Evac<Plain, D> {
         ensures halts { unselectable (moment_alone self.old) ≡ None → IfErr result (λ fault. ((fault.so_far ≡ progress_of nothing false) × (self.new ≡ self.old))
             ⊎ ((logs : List ℕ) × P.gives policy.old (map (row_of (core_state self.old.book.near.core)) self.old.book.order) most (Ok logs) policy.new
             × HaltsTurns (after_selecting (moment_alone self.old) logs) turns fault.so_far (moment_alone self.new))) }
-        ensures counted { CountsFault (fails result) (D.faults self.old.book.device) (D.faults self.new.book.device) }
-        ensures spent { SpendsFault (fails result) (D.fails_at_most self.old.book.device) (D.fails_at_most self.new.book.device) }
-        ensures honest { D.honest self.new.book.device ≡ D.honest self.old.book.device }
+        ensures follows { Follows D.contents D.honest D.faults D.fails_at_most no_key (fails result) self.old.book.device self.new.book.device }
     {
         let logs = match self.select(policy, most) {
             Ok(logs) => logs,

@@ -1,8 +1,7 @@
 //! How the objects of the chosen logs leave, and the logs are given back.
 
 ghost use Rattle.std.specs.Prelude.{◌≡◌, ◌≢◌, ◌⊎◌, ◌<◌, ◌≤◌, ◌+◌, ◌*◌, ◌^◌, ◌∷◌, ℕ, List, [], false, true, cond, length, Err, IfOk, IfErr, IfSome, IfNone, IsSome};
-ghost use Rattle.far_device.specs.Contents.{KeepsOthers};
-ghost use Rattle.far_device.specs.Faults.{CountsFault, SpendsFault};
+ghost use Rattle.far_device.specs.Following.{Follows, none_of, other_than};
 ghost use Rattle.far_word.specs.declared.refused.Refused.TheVariants.{Device as Failed, Memory, Phase as WrongPhase};
 ghost use Rattle.far_word.specs.declared.sizes.TheConstants.{CELLS};
 ghost use Rattle.far_word.specs.Pointer.{read_of};
@@ -14,7 +13,7 @@ ghost use Rattle.far_hand.specs.Quiet.{IsQuietNear};
 ghost use Rattle.far_book.specs.book.Effects.{evicted};
 ghost use Rattle.far_book.specs.book.Releasing.{order_without, released};
 ghost use Rattle.far_evac.specs.AnyHand.{Evacuates, Knows, KnowsMoment, KnowsWalked, StopsAt, Walks};
-ghost use Rattle.far_evac.specs.Asked.{AsksOnItsWay, AsksSo, IsRefusedWrite, KeepsKeys, WalksAsking, asked_of, first_live};
+ghost use Rattle.far_evac.specs.Asked.{AsksOnItsWay, AsksSo, IsRefusedWrite, WalksAsking, asked_by, asked_of, first_live};
 ghost use Rattle.far_evac.specs.Cursor.{IsNextLeaving};
 ghost use Rattle.far_evac.specs.EvacOf.{moment};
 ghost use Rattle.far_evac.specs.Failing.{fails};
@@ -69,10 +68,7 @@ impl<N: Near + Drop, D: Device + Drop> Evac<N, D> {
         ensures why { self.old.phase ≡ phase.Evacuating → IfErr result (λ fault. (fault.why ≡ Memory) ⊎ (fault.why ≡ Failed)) }
         ensures asked { IfOk result (λ progress. AsksOnItsWay D D.writes D.lets_go (moment N.view self.old) (moment N.view self.new) (tally_of progress) self.old.book.device self.new.book.device) }
         ensures refused { self.old.phase ≡ phase.Evacuating → IfErr result (λ fault. IsRefusedWrite D D.writes D.lets_go (moment N.view self.old) (moment N.view self.new) (tally_of fault.so_far) fault.why self.old.book.device self.new.book.device) }
-        ensures keys { KeepsKeys (first_live (moment N.view self.old) (asked_of result)) (D.contents self.old.book.device) (D.contents self.new.book.device) }
-        ensures counted { CountsFault (fails result) (D.faults self.old.book.device) (D.faults self.new.book.device) }
-        ensures spent { SpendsFault (fails result) (D.fails_at_most self.old.book.device) (D.fails_at_most self.new.book.device) }
-        ensures honest { D.honest self.new.book.device ≡ D.honest self.old.book.device }
+        ensures follows { Follows D.contents D.honest D.faults D.fails_at_most (none_of (first_live (moment N.view self.old) (asked_of result))) (fails result) self.old.book.device self.new.book.device }
     {
         let mut progress = Progress {
             moved: 0,
@@ -116,11 +112,7 @@ impl<N: Near + Drop, D: Device + Drop> Evac<N, D> {
         ensures bounded { IsBounded (tally_of progress.new) }
         ensures asked { IfOk result (λ _. WalksAsking D D.writes D.lets_go (moment N.view self.old) (objects_in (tally_of progress.new)) (standing N.view self.new progress.new) self.old.book.device self.new.book.device) }
         ensures refused { IfErr result (λ why. IsRefusedWrite D D.writes D.lets_go (moment N.view self.old) (moment N.view self.new) (tally_of progress.new) why self.old.book.device self.new.book.device) }
-        ensures keys { IfOk result (λ _. KeepsKeys (first_live (moment N.view self.old) (objects_in (tally_of progress.new))) (D.contents self.old.book.device) (D.contents self.new.book.device)) }
-        ensures keys_then { IfErr result (λ _. KeepsKeys (first_live (moment N.view self.old) (objects_in (tally_of progress.new) + 1)) (D.contents self.old.book.device) (D.contents self.new.book.device)) }
-        ensures counted { CountsFault (is_failure result) (D.faults self.old.book.device) (D.faults self.new.book.device) }
-        ensures spent { SpendsFault (is_failure result) (D.fails_at_most self.old.book.device) (D.fails_at_most self.new.book.device) }
-        ensures honest { D.honest self.new.book.device ≡ D.honest self.old.book.device }
+        ensures follows { Follows D.contents D.honest D.faults D.fails_at_most (none_of (first_live (moment N.view self.old) (asked_by (tally_of progress.new) result))) (is_failure result) self.old.book.device self.new.book.device }
     {
         self.keeps_law();
         let _held = self.held().len();
@@ -242,11 +234,8 @@ impl<N: Near + Drop, D: Device + Drop> Evac<N, D> {
         ensures round { (self.new.phase ≡ self.old.phase) × (self.new.held ≡ self.old.held) }
         ensures rest { (progress.new.freed ≡ progress.old.freed) × (progress.new.done ≡ progress.old.done) }
         ensures refused { IfErr result (λ why. AsksToEvict D D.writes D.lets_go (N.view self.old.book.near) span.p (Err why) self.old.book.device self.new.book.device) }
-        ensures others { KeepsOthers (D.contents self.old.book.device) (D.contents self.new.book.device) span.p }
+        ensures follows { Follows D.contents D.honest D.faults D.fails_at_most (other_than span.p) (is_failure result) self.old.book.device self.new.book.device }
         ensures why { IfErr result (λ why. (why ≡ Memory) ⊎ (why ≡ Failed)) }
-        ensures counted { CountsFault (is_failure result) (D.faults self.old.book.device) (D.faults self.new.book.device) }
-        ensures spent { SpendsFault (is_failure result) (D.fails_at_most self.old.book.device) (D.fails_at_most self.new.book.device) }
-        ensures honest { D.honest self.new.book.device ≡ D.honest self.old.book.device }
     {
         self.keeps_law();
         match send_off(&mut self.book, span.p) {
@@ -289,11 +278,8 @@ fn send_off<N: Near + Drop, D: Device + Drop>(
     ensures order { IfErr result (λ _. book.new.order ≡ book.old.order) }
     ensures asked { IfOk result (λ fate. AsksAs D D.writes D.lets_go (N.view book.old.near) pointer fate book.old.device book.new.device) }
     ensures refused { IfErr result (λ why. AsksToEvict D D.writes D.lets_go (N.view book.old.near) pointer (Err why) book.old.device book.new.device) }
-    ensures others { KeepsOthers (D.contents book.old.device) (D.contents book.new.device) pointer }
+    ensures follows { Follows D.contents D.honest D.faults D.fails_at_most (other_than pointer) (is_failure result) book.old.device book.new.device }
     ensures why { IfErr result (λ why. (why ≡ Memory) ⊎ (why ≡ Failed)) }
-    ensures counted { CountsFault (is_failure result) (D.faults book.old.device) (D.faults book.new.device) }
-    ensures spent { SpendsFault (is_failure result) (D.fails_at_most book.old.device) (D.fails_at_most book.new.device) }
-    ensures honest { D.honest book.new.device ≡ D.honest book.old.device }
 {
     book.keeps_law();
     if !goes_near(book.see(pointer)) {
@@ -334,11 +320,8 @@ fn send_far<N: Near + Drop, D: Device + Drop>(
     ensures order { book.new.order ≡ book.old.order }
     ensures asked { IfOk result (λ fate. AsksAs D D.writes D.lets_go (N.view book.old.near) pointer fate book.old.device book.new.device) }
     ensures refused { IfErr result (λ why. AsksToEvict D D.writes D.lets_go (N.view book.old.near) pointer (Err why) book.old.device book.new.device) }
-    ensures others { KeepsOthers (D.contents book.old.device) (D.contents book.new.device) pointer }
+    ensures follows { Follows D.contents D.honest D.faults D.fails_at_most (other_than pointer) (is_failure result) book.old.device book.new.device }
     ensures why { IfErr result (λ why. (why ≡ Memory) ⊎ (why ≡ Failed)) }
-    ensures counted { CountsFault (is_failure result) (D.faults book.old.device) (D.faults book.new.device) }
-    ensures spent { SpendsFault (is_failure result) (D.fails_at_most book.old.device) (D.fails_at_most book.new.device) }
-    ensures honest { D.honest book.new.device ≡ D.honest book.old.device }
 {
     book.keeps_law();
     let answer = book.evict(pointer);

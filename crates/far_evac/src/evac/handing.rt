@@ -14,8 +14,7 @@ ghost use Rattle.far_core.specs.events.Naming.{is_dropped};
 ghost use Rattle.far_core.specs.state.Room.{room};
 ghost use Rattle.far_core.specs.state.Spans.{spans_of};
 ghost use Rattle.far_core.specs.state.State.{put};
-ghost use Rattle.far_device.specs.Contents.{KeepsOthers};
-ghost use Rattle.far_device.specs.Faults.{CountsFault, SpendsFault};
+ghost use Rattle.far_device.specs.Following.{Follows, other_than};
 ghost use Rattle.far_word.specs.Pointer.{read_of};
 ghost use Rattle.far_word.specs.Sizes.{size_of};
 ghost use Rattle.far_word.specs.declared.refused.Refused.TheVariants.{Memory, NoRoom};
@@ -77,10 +76,7 @@ impl<N: Near + Drop, D: Device + Drop> Evac<N, D> {
         ensures gone { IfOk result (λ o. IfNone o (IsRetired N.still (N.view self.old.book.near) (N.view self.new.book.near) pointer)) }
         ensures called { IfOk result (λ o. IfNone o (D.lets_go self.old.book.device pointer self.new.book.device)) }
         ensures forgotten { IfOk result (λ o. IfNone o (D.forgets → D.contents self.new.book.device pointer ≡ None)) }
-        ensures others { KeepsOthers (D.contents self.old.book.device) (D.contents self.new.book.device) pointer }
-        ensures honest { D.honest self.new.book.device ≡ D.honest self.old.book.device }
-        ensures faults { D.faults self.new.book.device ≡ D.faults self.old.book.device }
-        ensures spent { SpendsFault false (D.fails_at_most self.old.book.device) (D.fails_at_most self.new.book.device) }
+        ensures follows { Follows D.contents D.honest D.faults D.fails_at_most (other_than pointer) false self.old.book.device self.new.book.device }
         ensures refused { IfErr result (λ why. why ≡ NoRoom) }
         ensures none { IfErr result (λ _. goal (N.view self.old.book.near) pointer ≡ None) }
         ensures seen { IfErr result (λ _. IsSeen (N.view self.old.book.near) (N.view self.new.book.near) pointer) }
@@ -114,10 +110,7 @@ impl<N: Near + Drop, D: Device + Drop> Evac<N, D> {
         ensures order { IfOk result (λ found. self.new.book.order ≡ order_fetched (N.view self.old.book.near) self.old.book.order found) }
         ensures called { AsksToFetch D D.reads D.lets_go N.still (N.view self.old.book.near) (N.view self.new.book.near) pointer result self.old.book.device self.new.book.device }
         ensures forgot { D.forgets → IfOk result (λ _. D.contents self.new.book.device pointer ≡ None) }
-        ensures others { KeepsOthers (D.contents self.old.book.device) (D.contents self.new.book.device) pointer }
-        ensures honest { D.honest self.new.book.device ≡ D.honest self.old.book.device }
-        ensures counted { CountsFault (is_failure result) (D.faults self.old.book.device) (D.faults self.new.book.device) }
-        ensures spent { SpendsFault (is_failure result) (D.fails_at_most self.old.book.device) (D.fails_at_most self.new.book.device) }
+        ensures follows { Follows D.contents D.honest D.faults D.fails_at_most (other_than pointer) (is_failure result) self.old.book.device self.new.book.device }
         ensures refused { IfErr result (λ why. RefusesFetch why (room_for (N.view self.old.book.near) pointer) (D.honest self.old.book.device)) }
         ensures untouched { IfErr result (λ why. why ≡ refused.NoRoom → self.new.book.device ≡ self.old.book.device) }
         ensures held { IfErr result (λ _. D.contents self.new.book.device ≡ D.contents self.old.book.device) }
@@ -145,10 +138,7 @@ impl<N: Near + Drop, D: Device + Drop> Evac<N, D> {
         ensures order { self.new.book.order ≡ self.old.book.order }
         ensures called { D.lets_go self.old.book.device pointer self.new.book.device }
         ensures gone { D.forgets → D.contents self.new.book.device pointer ≡ None }
-        ensures others { KeepsOthers (D.contents self.old.book.device) (D.contents self.new.book.device) pointer }
-        ensures honest { D.honest self.new.book.device ≡ D.honest self.old.book.device }
-        ensures faults { D.faults self.new.book.device ≡ D.faults self.old.book.device }
-        ensures spent { SpendsFault false (D.fails_at_most self.old.book.device) (D.fails_at_most self.new.book.device) }
+        ensures follows { Follows D.contents D.honest D.faults D.fails_at_most (other_than pointer) false self.old.book.device self.new.book.device }
         ensures ran { N.still → Does (N.view self.old.book.near) (Retires pointer) (N.view self.new.book.near) }
         ensures round { (self.new.phase ≡ self.old.phase) × (self.new.held ≡ self.old.held) }
     {

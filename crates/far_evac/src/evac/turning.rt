@@ -2,15 +2,15 @@
 
 ghost use Rattle.std.specs.Prelude.{◌≡◌, ◌≢◌, ◌⊎◌, ◌<◌, ℕ, Bool, List, Some, None, Ok, Err, false, IfOk, IfErr, map};
 ghost use Rattle.far_book.specs.book.Rows.{row_of};
-ghost use Rattle.far_device.specs.Faults.{CountsFault, SpendsFault};
+ghost use Rattle.far_device.specs.Following.{Follows, none_of};
 ghost use Rattle.far_policy.specs.Choice.{IsChoice};
 ghost use Rattle.far_word.specs.declared.refused.Refused.{Refused as why_refused};
 ghost use Rattle.far_word.specs.declared.refused.Refused.TheVariants.{Device as Failed, Memory, Phase as WrongPhase};
 ghost use Rattle.far_evac.specs.AnyHand.{TurnsTo, RunsRound, StopsAt, StopsRound};
-ghost use Rattle.far_evac.specs.Asked.{AsksInTurn, IsRefusedWrite, KeepsKeys, asked_of, first_live};
+ghost use Rattle.far_evac.specs.Asked.{AsksInTurn, IsRefusedWrite, asked_of, first_live};
 ghost use Rattle.far_evac.specs.Choosing.{after_selecting};
 ghost use Rattle.far_evac.specs.EvacOf.{moment};
-ghost use Rattle.far_evac.specs.Failing.{fails};
+ghost use Rattle.far_evac.specs.Failing.{fails, no_key};
 ghost use Rattle.far_evac.specs.Moment.{Tally, nothing, plus, progress_of, tally_of};
 ghost use Rattle.far_evac.specs.MomentLaw.{IsLawful, is_idle, is_waiting};
 ghost use Rattle.far_evac.specs.Refusals.{unselectable};
@@ -47,10 +47,7 @@ impl<N: Near + Drop, D: Device + Drop> Evac<N, D> {
         ensures why { self.old.phase ≢ phase.Idle → IfErr result (λ fault. (fault.why ≡ Memory) ⊎ (fault.why ≡ Failed)) }
         ensures asked { IfOk result (λ progress. AsksInTurn D D.writes D.lets_go (moment N.view self.old) self.old.phase (moment N.view self.new) (tally_of progress) self.old.book.device self.new.book.device) }
         ensures refused { self.old.phase ≢ phase.Idle → IfErr result (λ fault. IsRefusedWrite D D.writes D.lets_go (moment N.view self.old) (moment N.view self.new) (tally_of fault.so_far) fault.why self.old.book.device self.new.book.device) }
-        ensures keys { KeepsKeys (first_live (moment N.view self.old) (asked_of result)) (D.contents self.old.book.device) (D.contents self.new.book.device) }
-        ensures counted { CountsFault (fails result) (D.faults self.old.book.device) (D.faults self.new.book.device) }
-        ensures spent { SpendsFault (fails result) (D.fails_at_most self.old.book.device) (D.fails_at_most self.new.book.device) }
-        ensures honest { D.honest self.new.book.device ≡ D.honest self.old.book.device }
+        ensures follows { Follows D.contents D.honest D.faults D.fails_at_most (none_of (first_live (moment N.view self.old) (asked_of result))) (fails result) self.old.book.device self.new.book.device }
     {
         match self.phase() {
             Phase::Idle => Err(EvacFault {
@@ -101,9 +98,7 @@ impl<N: Near + Drop, D: Device + Drop> Evac<N, D> {
         ensures halts { N.still → unselectable (moment N.view self.old) ≡ None → IfErr result (λ fault. ((fault.so_far ≡ progress_of nothing false) × (self.new ≡ self.old))
             ⊎ ((logs : List ℕ) × P.gives policy.old (map (row_of (N.view self.old.book.near)) self.old.book.order) most (Ok logs) policy.new
             × HaltsTurns (after_selecting (moment N.view self.old) logs) turns fault.so_far (moment N.view self.new))) }
-        ensures counted { CountsFault (fails result) (D.faults self.old.book.device) (D.faults self.new.book.device) }
-        ensures spent { SpendsFault (fails result) (D.fails_at_most self.old.book.device) (D.fails_at_most self.new.book.device) }
-        ensures honest { D.honest self.new.book.device ≡ D.honest self.old.book.device }
+        ensures follows { Follows D.contents D.honest D.faults D.fails_at_most no_key (fails result) self.old.book.device self.new.book.device }
     {
         let logs = match self.select(policy, most) {
             Ok(logs) => logs,
@@ -131,9 +126,7 @@ impl<N: Near + Drop, D: Device + Drop> Evac<N, D> {
         ensures why { IfErr result (λ fault. (fault.why ≡ Memory) ⊎ (fault.why ≡ Failed)) }
         ensures asked { IfOk result (λ end. EndsAsking D D.writes D.lets_go (moment N.view self.old) turns end (moment N.view self.new) self.old.book.device self.new.book.device) }
         ensures refused { IfErr result (λ fault. StopsAsking D D.writes D.lets_go (moment N.view self.old) turns fault.so_far fault.why (moment N.view self.new) self.old.book.device self.new.book.device) }
-        ensures counted { CountsFault (fails result) (D.faults self.old.book.device) (D.faults self.new.book.device) }
-        ensures spent { SpendsFault (fails result) (D.fails_at_most self.old.book.device) (D.fails_at_most self.new.book.device) }
-        ensures honest { D.honest self.new.book.device ≡ D.honest self.old.book.device }
+        ensures follows { Follows D.contents D.honest D.faults D.fails_at_most no_key (fails result) self.old.book.device self.new.book.device }
     {
         self.keeps_law();
         let mut total = nothing_done();
@@ -174,9 +167,7 @@ impl<N: Near + Drop, D: Device + Drop> Evac<N, D> {
             × IsRefusedWrite D D.writes D.lets_go (moment N.view self.old) (moment N.view self.new) tally fault.why self.old.book.device self.new.book.device) }
         ensures halts { N.still → IfErr result (λ fault. (tally : Tally) × Halts (moment N.view self.old) turn_size (moment N.view self.new) tally × (fault.so_far ≡ progress_of (plus (tally_of before) tally) false)) }
         ensures why { IfErr result (λ fault. (fault.why ≡ Memory) ⊎ (fault.why ≡ Failed)) }
-        ensures counted { CountsFault (fails result) (D.faults self.old.book.device) (D.faults self.new.book.device) }
-        ensures spent { SpendsFault (fails result) (D.fails_at_most self.old.book.device) (D.fails_at_most self.new.book.device) }
-        ensures honest { D.honest self.new.book.device ≡ D.honest self.old.book.device }
+        ensures follows { Follows D.contents D.honest D.faults D.fails_at_most no_key (fails result) self.old.book.device self.new.book.device }
     {
         self.keeps_law();
         match self.turn() {

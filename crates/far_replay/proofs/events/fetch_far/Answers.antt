@@ -20,4 +20,4 @@ returns-in-Ok-Some-clause-room c =
 pub returns-in-Err-clause-refused : goal.returns-in-Err-clause-refused
 returns-in-Err-clause-refused c =
     far_refused (state_in c.args.evac.now) c.args.owner c.args.pointer c.args.evac.now.book.near.core.law c.requires.used c.requires.far (state_in c.fetch.new.self) c.in-Err.why
-    c.in-Err.ensures.refused (never_fails c.fetch.result c.in-Err.why c.in-Err.is c.fetch.ensures.spent) (c.in-Err.ensures.exact tt)
+    c.in-Err.ensures.refused (never_fails c.fetch.result c.in-Err.why c.in-Err.is c.fetch.ensures.follows.spent) (c.in-Err.ensures.exact tt)

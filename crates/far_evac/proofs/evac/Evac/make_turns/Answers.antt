@@ -1,12 +1,13 @@
 use Rattle.far_evac.proofs.evac.Evac.make_turns.Goals as goal
-use Rattle.std.proofs.Common.{Err, refl, ◌≡◌, ◌∙◌, ◌+◌, true, false, ap, sym, subst, arith}
+use Rattle.std.proofs.Common.{Err, ◌≡◌, ◌∙◌, ◌+◌, true, false, ap, sym, subst, arith}
 use Rattle.far_evac.specs.declared.answers.RoundEnd.{RoundEnd}
 use Rattle.far_evac.specs.declared.answers.RoundEnd.TheVariants.{Done}
 use Rattle.far_evac.specs.declared.phase.Phase.TheVariants.{Waiting}
-use Rattle.far_device.specs.Faults.{CountsFault, SpendsFault}
-use Rattle.far_evac.specs.Failing.{fails}
+use Rattle.far_device.specs.Following.{Follows}
+use Rattle.far_device.proofs.Following.{follows_itself, follows_on}
+use Rattle.far_evac.specs.Failing.{fails, no_key}
 use Rattle.far_evac.specs.declared.answers.Progress.{Progress}
-use Rattle.far_evac.proofs.Failures.{fails_alike, spends_on}
+use Rattle.far_evac.proofs.Failures.{fails_alike}
 use Rattle.far_evac.specs.AnyHand.{TurnsTo}
 use Rattle.far_evac.specs.EvacOf.{moment}
 use Rattle.far_evac.specs.Moment.{nothing, progress_of, tally_of}
@@ -27,9 +28,7 @@ loop-init g c =
       exact = λ _. ap (λ total. turned_at m total false) (sym none);
       within = subst (IsWithin m) (sym none) (starts_within m c.keeps_law.ensures.law c.keeps_law.ensures.moment);
       runs = c.requires.running;
-      counted = refl;
-      spent = λ n most. most;
-      honest = refl;
+      follows = follows_itself g.D.Device.contents g.D.Device.honest g.D.Device.faults g.D.Device.fails_at_most no_key c.args.self.now.book.device;
     }
 
 pub returns-then-total-clause-ends : goal.returns-then-total-clause-ends
@@ -79,21 +78,13 @@ loop-preserved g c =
           turns_more m c.loop.counter u (tally_of c.loop.total) (turned_at t total false) (c.loop.invariant.exact still) (c.in-Ok.ensures.exact still ∙ ap (turned_at t total) c.if-total.false);
       within = goes.0;
       runs = goes.1;
-      counted = c.in-Ok.ensures.counted ∙ c.loop.invariant.counted;
-      spent = λ n most. c.in-Ok.ensures.spent n (c.loop.invariant.spent n most);
-      honest = c.turn_more.ensures.honest ∙ c.loop.invariant.honest;
+      follows = follows_on g.D.Device.contents g.D.Device.honest g.D.Device.faults g.D.Device.fails_at_most no_key false c.args.self.now.book.device c.loop.self.book.device c.turn_more.new.self.book.device c.loop.invariant.follows c.in-Ok.ensures.follows;
     }
 
-pub returns-in-Err-clause-counted : goal.returns-in-Err-clause-counted
-returns-in-Err-clause-counted g c =
-    subst (λ b. CountsFault b (g.D.Device.faults c.args.self.now.book.device) (g.D.Device.faults c.turn_more.new.self.book.device)) (fails_alike Progress RoundEnd c.in-Err.fault c.in-Err.ensures.why)
-    (subst (λ n. CountsFault (fails {A = Progress} (Err c.in-Err.fault)) n (g.D.Device.faults c.turn_more.new.self.book.device)) c.loop.invariant.counted c.in-Err.ensures.counted)
-
-pub returns-in-Err-clause-spent : goal.returns-in-Err-clause-spent
-returns-in-Err-clause-spent g c =
-    subst (λ b. SpendsFault b (g.D.Device.fails_at_most c.args.self.now.book.device) (g.D.Device.fails_at_most c.turn_more.new.self.book.device)) (fails_alike Progress RoundEnd c.in-Err.fault c.in-Err.ensures.why)
-    (spends_on (fails {A = Progress} (Err c.in-Err.fault)) (g.D.Device.fails_at_most c.args.self.now.book.device) (g.D.Device.fails_at_most c.loop.self.book.device)
-    (g.D.Device.fails_at_most c.turn_more.new.self.book.device) c.loop.invariant.spent c.in-Err.ensures.spent)
+pub returns-in-Err-clause-follows : goal.returns-in-Err-clause-follows
+returns-in-Err-clause-follows g c =
+    subst (λ b. Follows g.D.Device.contents g.D.Device.honest g.D.Device.faults g.D.Device.fails_at_most no_key b c.args.self.now.book.device c.turn_more.new.self.book.device) (fails_alike Progress RoundEnd c.in-Err.fault c.in-Err.ensures.why)
+    (follows_on g.D.Device.contents g.D.Device.honest g.D.Device.faults g.D.Device.fails_at_most no_key (fails {A = Progress} (Err c.in-Err.fault)) c.args.self.now.book.device c.loop.self.book.device c.turn_more.new.self.book.device c.loop.invariant.follows c.in-Err.ensures.follows)
 
 pub returns-then-is_waiting-clause-exact : goal.returns-then-is_waiting-clause-exact
 returns-then-is_waiting-clause-exact g c still =

@@ -1,4 +1,6 @@
-use Rattle.std.proofs.Common.{◌≡◌, ℕ, false}
+use Rattle.std.proofs.Common.{◌≡◌, false}
+use Rattle.far_device.specs.Following.{Follows}
+use Rattle.far_evac.specs.Failing.{no_key}
 use Rattle.far_evac.specs.EvacOf.{moment}
 use Rattle.far_evac.specs.Moment.{tally_of}
 use Rattle.far_evac.specs.MomentLaw.{is_idle}
@@ -13,7 +15,5 @@ invariant-loop g l = record {
   exact : g.N.Near.still → turns_made (moment g.N.Near.view l.fn.self) l.counter ≡ turned_at (moment g.N.Near.view l.self) (tally_of l.total) false;
   within : IsWithin (moment g.N.Near.view l.self) (tally_of l.total);
   runs : is_idle l.self.phase ≡ false;
-  counted : g.D.Device.faults l.self.book.device ≡ g.D.Device.faults l.fn.self.book.device;
-  spent : (n : ℕ) → g.D.Device.fails_at_most l.fn.self.book.device n → g.D.Device.fails_at_most l.self.book.device n;
-  honest : g.D.Device.honest l.self.book.device ≡ g.D.Device.honest l.fn.self.book.device;
+  follows : Follows g.D.Device.contents g.D.Device.honest g.D.Device.faults g.D.Device.fails_at_most no_key false l.fn.self.book.device l.self.book.device;
 }

@@ -4,7 +4,7 @@ use Rattle.far_evac.specs.declared.answers.Progress.{Progress}
 use Rattle.far_evac.specs.declared.phase.Phase.{Phase}
 use Rattle.far_evac.specs.declared.phase.Phase.TheVariants as phase
 use Rattle.far_evac.specs.AnyHand.{KnowsMoment}
-use Rattle.far_evac.specs.Asked.{KeepsKeys, WalksAsking, first_live}
+use Rattle.far_evac.specs.Asked.{WalksAsking, first_live}
 use Rattle.far_evac.specs.Cursor.{IsNextLeaving}
 use Rattle.far_evac.specs.EvacOf.{moment}
 use Rattle.far_evac.specs.Leaving.{standing}
@@ -13,8 +13,12 @@ use Rattle.far_evac.specs.Moment.{objects_in, tally_of}
 use Rattle.far_evac.specs.MomentLaw.{has_risen}
 use Rattle.far_evac.specs.Turning.{IsBounded}
 use Rattle.far_evac.specs.Walk.{left}
-use Rattle.far_evac.proofs.Asking.{asks_more, keys_more}
+use Rattle.far_evac.proofs.Asking.{asks_more, follows_more}
 use Rattle.far_evac.proofs.Bounds.{walk_counts}
+use Rattle.far_evac.proofs.Failures.{failure_alike}
+use Rattle.far_book.specs.book.Dealing.{is_failure}
+use Rattle.far_device.specs.Following.{Follows, none_of}
+use Rattle.std.specs.Prelude.{Bool, Err, false}
 use Rattle.far_evac.proofs.Evacuations.{exact_over, one_exact, one_more}
 use Rattle.far_evac.proofs.Readiness.{risen_is_ready}
 use Rattle.far_evac.proofs.Tallies.{tallies_all}
@@ -44,11 +48,10 @@ loop-preserved g c =
     let then = c.settle-first-in-loop.ensures in
     let long = ap length did.round.1 in
     let ready = risen_is_ready m c.keeps_law.ensures.law c.keeps_law.ensures.moment (ap has_risen c.requires.phase) in
-    let held = g.D.Device.contents in
     let old = c.args.self.now.book.device in
     let now = c.loop.self.book.device in
     let asked = asks_more g.row.D.Denot g.D.Device.writes g.D.Device.lets_go m c.loop.counter w v t c.in-Some.span.p some.0 did.dealt.0 old now c.deal.new.self.book.device some.1 did.dealt.1 did.dealt.2 then.known did.dealt.3 before.asked in
-    let keys = keys_more m c.loop.counter w c.in-Some.span.p some.0 (held old) (held now) (held c.deal.new.self.book.device) ready before.walks some.1 before.keys did.others in
+    let follows = follows_more g.D.Device.contents g.D.Device.honest g.D.Device.faults g.D.Device.fails_at_most m c.loop.counter w c.in-Some.span.p some.0 false old now c.deal.new.self.book.device ready before.walks some.1 before.follows did.follows in
     record {
       walks = one_more m c.loop.counter w v t c.in-Some.span.p some.0 did.dealt.0 some.1 did.dealt.1 did.dealt.2 then.known before.walks;
       exact = λ still. one_exact m c.loop.counter w v t c.in-Some.span.p some.0 some.1 (did.exact still) (then.exact still) (before.exact still);
@@ -58,11 +61,8 @@ loop-preserved g c =
       none = then.none;
       freed = omega (arith, then.freed, did.rest.0, long, before.freed);
       done = then.done ∙ did.rest.1 ∙ before.done;
-      faults = ap g.D.Device.faults then.device ∙ did.counted ∙ before.faults;
-      spent = λ n h. subst (λ device. g.D.Device.fails_at_most device n) (sym then.device) (did.spent n (before.spent n h));
       asked = subst (λ (d : g.row.D.Denot). WalksAsking g.row.D.Denot g.D.Device.writes g.D.Device.lets_go m (c.loop.counter + 1) t old d) (sym then.device) asked;
-      keys = subst (λ (d : g.row.D.Denot). KeepsKeys (first_live m (c.loop.counter + 1)) (held old) (held d)) (sym then.device) keys;
-      honest = ap g.D.Device.honest then.device ∙ did.honest ∙ before.honest;
+      follows = subst (λ (d : g.row.D.Denot). Follows g.D.Device.contents g.D.Device.honest g.D.Device.faults g.D.Device.fails_at_most (none_of (first_live m (c.loop.counter + 1))) false old d) (sym then.device) follows;
     }
 
 pub returns-in_default-clause-asked : goal.returns-in_default-clause-asked
@@ -72,11 +72,11 @@ returns-in_default-clause-asked g c =
     let all = tallies_all m c.loop.counter w c.loop.invariant.walks in
     subst (λ n. WalksAsking g.row.D.Denot g.D.Device.writes g.D.Device.lets_go m n w c.args.self.now.book.device c.loop.self.book.device) (sym all) c.loop.invariant.asked
 
-pub returns-in_default-clause-keys : goal.returns-in_default-clause-keys
-returns-in_default-clause-keys g c =
+pub returns-in_default-clause-follows : goal.returns-in_default-clause-follows
+returns-in_default-clause-follows g c =
     let m = moment g.N.Near.view c.args.self.now in
     let all = tallies_all m c.loop.counter (standing g.N.Near.view c.loop.self c.loop.progress) c.loop.invariant.walks in
-    subst (λ n. KeepsKeys (first_live m n) (g.D.Device.contents c.args.self.now.book.device) (g.D.Device.contents c.loop.self.book.device)) (sym all) c.loop.invariant.keys
+    subst (λ n. Follows g.D.Device.contents g.D.Device.honest g.D.Device.faults g.D.Device.fails_at_most (none_of (first_live m n)) false c.args.self.now.book.device c.loop.self.book.device) (sym all) c.loop.invariant.follows
 
 pub returns-clause-asked : goal.returns-clause-asked
 returns-clause-asked g c =
@@ -85,11 +85,11 @@ returns-clause-asked g c =
     let all = tallies_all m c.loop.counter w c.loop.invariant.walks in
     subst (λ n. WalksAsking g.row.D.Denot g.D.Device.writes g.D.Device.lets_go m n w c.args.self.now.book.device c.loop.self.book.device) (sym all) c.loop.invariant.asked
 
-pub returns-clause-keys : goal.returns-clause-keys
-returns-clause-keys g c =
+pub returns-clause-follows : goal.returns-clause-follows
+returns-clause-follows g c =
     let m = moment g.N.Near.view c.args.self.now in
     let all = tallies_all m c.loop.counter (standing g.N.Near.view c.loop.self c.loop.progress) c.loop.invariant.walks in
-    subst (λ n. KeepsKeys (first_live m n) (g.D.Device.contents c.args.self.now.book.device) (g.D.Device.contents c.loop.self.book.device)) (sym all) c.loop.invariant.keys
+    subst (λ n. Follows g.D.Device.contents g.D.Device.honest g.D.Device.faults g.D.Device.fails_at_most (none_of (first_live m n)) false c.args.self.now.book.device c.loop.self.book.device) (sym all) c.loop.invariant.follows
 
 pub returns-in-Err-clause-refused : goal.returns-in-Err-clause-refused
 returns-in-Err-clause-refused g c =
@@ -113,8 +113,8 @@ returns-in-Err-clause-refused g c =
       stops = subst (λ (now : Phase). KnowsMoment (record (moment view c.loop.self) { phase = now }) (moment view c.deal.new.self)) leaving c.in-Err.ensures.kept;
     }
 
-pub returns-in-Err-clause-keys_then : goal.returns-in-Err-clause-keys_then
-returns-in-Err-clause-keys_then g c =
+pub returns-in-Err-clause-follows : goal.returns-in-Err-clause-follows
+returns-in-Err-clause-follows g c =
     let view = g.N.Near.view in
     let m = moment view c.args.self.now in
     let w = standing view c.loop.self c.loop.progress in
@@ -122,9 +122,10 @@ returns-in-Err-clause-keys_then g c =
     let some = subst (λ o. IfSome o (λ (span : Span). (rest : List ℕ) × (left w ≡ span.p ∷ rest))) c.in-Some.is before.some in
     let count = ap (λ (q : Progress). objects_in (tally_of q)) c.in-Err.ensures.uncounted ∙ tallies_all m c.loop.counter w before.walks in
     let ready = risen_is_ready m c.keeps_law.ensures.law c.keeps_law.ensures.moment (ap has_risen c.requires.phase) in
-    let held = g.D.Device.contents in
-    subst (λ n. KeepsKeys (first_live m (n + 1)) (held c.args.self.now.book.device) (held c.deal.new.self.book.device)) (sym count)
-    (keys_more m c.loop.counter w c.in-Some.span.p some.0 (held c.args.self.now.book.device) (held c.loop.self.book.device) (held c.deal.new.self.book.device) ready before.walks some.1 before.keys c.in-Err.ensures.others)
+    let fault = failure_alike (Unit {0}) Bool c.in-Err.why c.in-Err.ensures.why in
+    subst (λ n. Follows g.D.Device.contents g.D.Device.honest g.D.Device.faults g.D.Device.fails_at_most (none_of (first_live m (n + 1))) (is_failure {A = Bool} (Err c.in-Err.why)) c.args.self.now.book.device c.deal.new.self.book.device) (sym count)
+    (subst (λ b. Follows g.D.Device.contents g.D.Device.honest g.D.Device.faults g.D.Device.fails_at_most (none_of (first_live m (c.loop.counter + 1))) b c.args.self.now.book.device c.deal.new.self.book.device) fault
+    (follows_more g.D.Device.contents g.D.Device.honest g.D.Device.faults g.D.Device.fails_at_most m c.loop.counter w c.in-Some.span.p some.0 (is_failure {A = Unit {0}} (Err c.in-Err.why)) c.args.self.now.book.device c.loop.self.book.device c.deal.new.self.book.device ready before.walks some.1 before.follows c.in-Err.ensures.follows))
 
 pub returns-in_default-clause-bounded : goal.returns-in_default-clause-bounded
 returns-in_default-clause-bounded g c =

@@ -1,9 +1,9 @@
 use Rattle.std.proofs.Common.{◌≡◌, ◌+◌, ◌∷◌, [], ℕ, List, false, cond, length, IfSome, IfNone}
-use Rattle.far_device.specs.Faults.{SpendsFault}
+use Rattle.far_device.specs.Following.{Follows, none_of}
 use Rattle.far_evac.specs.declared.phase.Phase.TheVariants as phase
 use Rattle.far_log.specs.declared.span.Span.{Span}
 use Rattle.far_evac.specs.AnyHand.{WalksTo}
-use Rattle.far_evac.specs.Asked.{KeepsKeys, WalksAsking, first_live}
+use Rattle.far_evac.specs.Asked.{WalksAsking, first_live}
 use Rattle.far_evac.specs.Cursor.{IsNextLeaving}
 use Rattle.far_evac.specs.EvacOf.{moment}
 use Rattle.far_evac.specs.Leaving.{standing}
@@ -21,9 +21,6 @@ invariant-loop g l = record {
   none : IfNone l.first (l.self.held ≡ []);
   freed : l.progress.freed + length l.self.held ≡ length l.fn.self.held;
   done : l.progress.done ≡ false;
-  faults : g.D.Device.faults l.self.book.device ≡ g.D.Device.faults l.fn.self.book.device;
-  spent : SpendsFault false (g.D.Device.fails_at_most l.fn.self.book.device) (g.D.Device.fails_at_most l.self.book.device);
   asked : WalksAsking g.row.D.Denot g.D.Device.writes g.D.Device.lets_go (moment g.N.Near.view l.fn.self) l.counter (standing g.N.Near.view l.self l.progress) l.fn.self.book.device l.self.book.device;
-  keys : KeepsKeys (first_live (moment g.N.Near.view l.fn.self) l.counter) (g.D.Device.contents l.fn.self.book.device) (g.D.Device.contents l.self.book.device);
-  honest : g.D.Device.honest l.self.book.device ≡ g.D.Device.honest l.fn.self.book.device;
+  follows : Follows g.D.Device.contents g.D.Device.honest g.D.Device.faults g.D.Device.fails_at_most (none_of (first_live (moment g.N.Near.view l.fn.self) l.counter)) false l.fn.self.book.device l.self.book.device;
 }
