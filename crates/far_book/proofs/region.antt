@@ -15,6 +15,7 @@ pub mod FarSide
 pub mod Fetched
 pub mod Fetching
 pub mod Founds
+pub mod Handed
 pub mod InOrders
 pub mod Learning
 pub mod Leaving

@@ -13,6 +13,7 @@ pub mod Ledger
 pub mod Moving
 pub mod NextLive
 pub mod NumberSet
+pub mod Only
 pub mod Own
 pub mod Placeable
 pub mod Reached

@@ -14,6 +14,7 @@ ghost use Rattle.far_log.specs.declared.span.Span.{Span as SpanOf};
 ghost use Rattle.far_log.specs.Walk.{IsWalk};
 ghost use Rattle.far_core.specs.declared.event.Kind.TheVariants.{Sealed};
 ghost use Rattle.far_core.specs.declared.event.Event.{Event};
+ghost use Rattle.far_core.specs.declared.event.Reply.{Reply};
 ghost use Rattle.far_core.specs.events.Legal.{IsNext, Legal};
 ghost use Rattle.far_core.specs.events.Naming.{no_marks, is_dropped};
 ghost use Rattle.far_core.specs.state.Law.{Law};
@@ -24,12 +25,14 @@ ghost use Rattle.far_core.specs.state.State.{State, put};
 ghost use Rattle.far_device.specs.Contents.{KeepsOthers};
 ghost use Rattle.far_device.specs.Faults.{SpendsFault};
 ghost use Rattle.far_hand.specs.Finds.{Finds, body_of};
+ghost use Rattle.far_hand.specs.Came.{Came, only};
 ghost use Rattle.far_hand.specs.Known.{Forgets};
 ghost use Rattle.far_book.specs.book.Deeds.{Does, Places, Retires, Steps};
 ghost use Rattle.far_book.specs.book.Effects.{with_blank_span, marked, placed, retired, order_after};
 ghost use Rattle.far_book.specs.book.FarSide.{HoldsFar};
 ghost use Rattle.far_book.specs.book.Home.{home_of};
 ghost use Rattle.far_book.specs.book.Ledger.{IsLowestFree};
+ghost use Rattle.far_book.specs.book.Only.{Reads, Writes};
 ghost use Rattle.far_book.specs.book.Own.{own_part, IsAtStart};
 ghost use Rattle.far_hand.specs.ShapeOf.{shape_of};
 ghost use Rattle.far_book.specs.book.Reading.{HeadersKnown, IsReadAt};
@@ -49,9 +52,9 @@ mod words;
 use crate::book::words::near_word;
 use crate::home::Home;
 use crate::ledger::Ledger;
-use far_hand::Near;
 use far_core::{Kind, Shape};
 use far_device::Device;
+use far_hand::Near;
 use far_log::{LogRow, Span, WalkFault, walk};
 use far_word::{HeadWord, LOG_WORDS, Place, PtrWord, Refused, size_of, words_for};
 use std::alloc::Global;
@@ -136,6 +139,7 @@ impl<N: Near + Drop, D: Device + Drop> Book<N, D> {
         ensures kept { IfOk result (λ place. N.view self.new.near ≡ record (placed (N.view self.old.near) pointer len ds place) { word = (N.view self.new.near).word }) }
         ensures forgot { IfOk result (λ place. Forgets (placed (N.view self.old.near) pointer len ds place) (N.view self.new.near)) }
         ensures exact { N.still → IfOk result (λ place. N.view self.new.near ≡ placed (N.view self.old.near) pointer len ds place) }
+        ensures came { Came N.makes self.old.near self.new.near }
         ensures order { IfOk result (λ place. self.new.order ≡ order_after (N.view self.old.near) self.old.order place) }
         ensures device { self.new.device ≡ self.old.device }
         ensures refused { IfErr result (λ why. why ≡ NoRoom) }
@@ -160,6 +164,7 @@ impl<N: Near + Drop, D: Device + Drop> Book<N, D> {
         ensures kept { N.view self.new.near ≡ record (retired (N.view self.old.near) pointer) { word = (N.view self.new.near).word } }
         ensures forgot { Forgets (N.view self.old.near) (N.view self.new.near) }
         ensures exact { N.still → N.view self.new.near ≡ retired (N.view self.old.near) pointer }
+        ensures came { Came N.makes self.old.near self.new.near }
         ensures order { self.new.order ≡ self.old.order }
         ensures called { D.lets_go self.old.device pointer self.new.device }
         ensures gone { D.forgets → D.contents self.new.device pointer ≡ None }
@@ -181,6 +186,9 @@ impl<N: Near + Drop, D: Device + Drop> Book<N, D> {
         ensures kept { N.view self.new.near ≡ record (N.view self.old.near) { cell = put (N.view self.old.near).cell pointer result } }
         ensures exact { N.still → result ≡ (N.view self.old.near).cell pointer }
         ensures set { N.still → N.view self.new.near ≡ N.view self.old.near }
+        ensures made { N.makes self.old.near (Event.See pointer) (Reply.Word result) self.new.near }
+        ensures saw { ∥ ((x : State) × N.may_be self.new.near x × (x.cell pointer ≡ result)) ∥₁ }
+        ensures came { Came N.makes self.old.near self.new.near }
         ensures order { self.new.order ≡ self.old.order }
         ensures device { self.new.device ≡ self.old.device }
     {
@@ -194,6 +202,8 @@ impl<N: Near + Drop, D: Device + Drop> Book<N, D> {
         ensures kept { N.view self.new.near ≡ record (N.view self.old.near) { cell = put (N.view self.old.near).cell pointer (bit_or result (2 ^ position Evac)) } }
         ensures exact { N.still → result ≡ (N.view self.old.near).cell pointer }
         ensures set { N.still → N.view self.new.near ≡ marked (N.view self.old.near) pointer }
+        ensures made { N.makes self.old.near (Event.Mark pointer) (Reply.Word result) self.new.near }
+        ensures came { Came N.makes self.old.near self.new.near }
         ensures ran { N.still → Does (N.view self.old.near) (Steps (Event.Mark pointer)) (N.view self.new.near) }
         ensures order { self.new.order ≡ self.old.order }
         ensures device { self.new.device ≡ self.old.device }
@@ -207,8 +217,12 @@ impl<N: Near + Drop, D: Device + Drop> Book<N, D> {
         ensures home { result ≡ home_of (read_of ((N.view self.new.near).cell pointer)) }
         ensures found { Finds ((N.view self.old.near).cell pointer) ((N.view self.new.near).cell pointer) }
         ensures free { (result ≡ None) ↔ ((N.view self.old.near).cell pointer ≡ 0) }
+        ensures gone { (result ≡ None) ↔ ((N.view self.new.near).cell pointer ≡ 0) }
         ensures kept { N.view self.new.near ≡ record (N.view self.old.near) { cell = put (N.view self.old.near).cell pointer ((N.view self.new.near).cell pointer) } }
         ensures exact { N.still → N.view self.new.near ≡ N.view self.old.near }
+        ensures made { N.makes self.old.near (Event.See pointer) (Reply.Word ((N.view self.new.near).cell pointer)) self.new.near }
+        ensures saw { ∥ ((x : State) × N.may_be self.new.near x × (x.cell pointer ≡ (N.view self.new.near).cell pointer)) ∥₁ }
+        ensures came { Came N.makes self.old.near self.new.near }
         ensures order { self.new.order ≡ self.old.order }
         ensures device { self.new.device ≡ self.old.device }
     {
@@ -246,6 +260,8 @@ impl<N: Near + Drop, D: Device + Drop> Book<N, D> {
         ensures kept { N.view self.new.near ≡ record (N.view self.old.near) { word = (N.view self.new.near).word } }
         ensures headers { (a : ℕ) → (N.view self.old.near).starts a ≡ true → (N.view self.new.near).word a ≡ (N.view self.old.near).word a }
         ensures exact { N.still → N.view self.new.near ≡ N.view self.old.near }
+        ensures reads { Came (only (Reads log) N.makes) self.old.near self.new.near }
+        ensures came { Came N.makes self.old.near self.new.near }
         ensures order { self.new.order ≡ self.old.order }
         ensures device { self.new.device ≡ self.old.device }
     {
@@ -290,6 +306,7 @@ fn name_blank<N: Near>(near: &mut N, pointer: u16, len: u16, ds: u8, place: Plac
     ensures kept { N.view near.new ≡ record (placed (N.view near.old) pointer len ds place) { word = (N.view near.new).word } }
     ensures forgot { Forgets (placed (N.view near.old) pointer len ds place) (N.view near.new) }
     ensures exact { N.still → N.view near.new ≡ placed (N.view near.old) pointer len ds place }
+    ensures came { Came N.makes near.old near.new }
 {
     put_blank(near, pointer, len, ds, place);
     let word = near_word(len, ds, place);
@@ -305,7 +322,8 @@ fn put_blank<N: Near>(near: &mut N, pointer: u16, len: u16, ds: u8, place: Place
     requires layout { IsPtr (near_at len ds place no_marks) }
     requires next { IsNext (N.view near.old) place }
     requires tail { (N.view near.old).tail place.log ≡ place.at }
-    ensures { N.view near.new ≡ with_blank_span (N.view near.old) pointer len ds place }
+    ensures set { N.view near.new ≡ with_blank_span (N.view near.old) pointer len ds place }
+    ensures puts { Came (only (Writes place.log) N.makes) near.old near.new }
 {
     let header = HeadWord { pointer, len, ds };
     near.put(place.log, place.at, header.pack());
@@ -322,6 +340,7 @@ fn free_cell<N: Near>(near: &mut N, pointer: u16) -> PtrWord
     ensures kept { N.view near.new ≡ record (retired (N.view near.old) pointer) { word = (N.view near.new).word } }
     ensures forgot { Forgets (N.view near.old) (N.view near.new) }
     ensures exact { N.still → N.view near.new ≡ retired (N.view near.old) pointer }
+    ensures came { Came N.makes near.old near.new }
 {
     let mut word = near.see(pointer);
     let mut was = says(word);
@@ -358,6 +377,7 @@ fn read_words<N: Near>(near: &mut N, log: u8, tail: u16) -> [u64; LOG_WORDS as u
     ensures kept { N.view near.new ≡ record (N.view near.old) { word = (N.view near.new).word } }
     ensures headers { (a : ℕ) → (N.view near.old).starts a ≡ true → (N.view near.new).word a ≡ (N.view near.old).word a }
     ensures exact { N.still → N.view near.new ≡ N.view near.old }
+    ensures reads { Came (only (Reads log) N.makes) near.old near.new }
 {
     let mut words = [0; LOG_WORDS as usize];
     for i in 0..tail {

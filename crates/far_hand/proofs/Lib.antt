@@ -1,3 +1,4 @@
+pub mod Closure
 pub mod Counting
 pub mod EvacMarks
 pub mod Finding
@@ -9,5 +10,6 @@ pub mod OwnersWork
 pub mod Quietness
 pub mod Reading
 pub mod RoundSteps
+pub mod Sight
 pub mod Staying
 pub mod Unviewed

@@ -1,4 +1,5 @@
 pub mod BesetView
+pub mod Came
 pub mod Cleared
 pub mod Finds
 pub mod Known

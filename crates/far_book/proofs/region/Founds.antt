@@ -149,3 +149,10 @@ no_home v w f some none = only_zero v (free_by (read_of v) (read_of w) f.body so
 
 pub free_home : (v w : ℕ) → Finds v w → v ≡ 0 → home_of (read_of w) ≡ None
 free_home v w f e = ap home_of (ap read_of (free_found v w f e) ∙ unused)
+
+-- a cell that says where no object is, is free
+pub home_none : (w : ℕ) → IsSome (read_of w) → home_of (read_of w) ≡ None → w ≡ 0
+home_none w some none = only_zero w (free_by (read_of w) (read_of w) refl some none)
+
+pub none_home : (w : ℕ) → w ≡ 0 → home_of (read_of w) ≡ None
+none_home w e = ap home_of (ap read_of e ∙ unused)

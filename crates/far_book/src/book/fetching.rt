@@ -14,19 +14,21 @@ ghost use Rattle.far_core.specs.state.Law.{IsStored};
 ghost use Rattle.far_device.specs.Contents.{KeepsOthers};
 ghost use Rattle.far_device.specs.Faults.{CountsFault, SpendsFault};
 ghost use Rattle.far_hand.specs.Finds.{Finds};
+ghost use Rattle.far_hand.specs.Came.{Came, only};
 ghost use Rattle.far_book.specs.book.Asking.{AsksToFetch};
 ghost use Rattle.far_book.specs.book.Dealing.{IsRetired, IsSeen, LearnsNone, is_failure};
 ghost use Rattle.far_book.specs.book.Deeds.{Does, Fetches};
 ghost use Rattle.far_book.specs.book.Effects.{fetched, near_word, with_written_span};
 ghost use Rattle.far_book.specs.book.Fetching.{IsFar, IsFetched, RefusesFetch, order_fetched, room_for};
+ghost use Rattle.far_book.specs.book.Only.{Writes};
 ghost use Rattle.far_book.specs.book.Placeable.{IsAbsent};
 ghost use Rattle.far_book.specs.book.Renaming.{Renamed, seen};
 
 use crate::book::Book;
 use crate::book::renaming::rename;
 use crate::book::words::near_word;
-use far_hand::Near;
 use far_device::{Device, DeviceFault};
+use far_hand::Near;
 use far_word::{HeadWord, Place, PtrWord, Refused, pack_bytes, size_of, words_for};
 
 impl<N: Near + Drop, D: Device + Drop> Book<N, D> {
@@ -57,6 +59,7 @@ impl<N: Near + Drop, D: Device + Drop> Book<N, D> {
         ensures seen { IfErr result (λ _. IsSeen (N.view self.old.near) (N.view self.new.near) pointer) }
         ensures kept { IfErr result (λ _. (N.view self.new.near).word ≡ (N.view self.old.near).word) }
         ensures exact { N.still → IfErr result (λ _. N.view self.new.near ≡ N.view self.old.near) }
+        ensures came { Came N.makes self.old.near self.new.near }
         ensures shut { IfErr result (λ _. self.new.order ≡ self.old.order) }
         ensures ran { N.still → Does (N.view self.old.near) (Fetches pointer result) (N.view self.new.near) }
     {
@@ -126,6 +129,7 @@ fn come_near<N: Near>(
     ensures found { IfErr result (λ word. Finds found word) }
     ensures dropped { IfErr result (λ word. is_dropped (read_of word) ≡ true) }
     ensures kept { IfErr result (λ word. N.view near.new ≡ seen (with_written_span (N.view near.old) pointer len ds place (packed_word bytes.now)) pointer word) }
+    ensures came { Came N.makes near.old near.new }
 {
     put_object(near, pointer, len, ds, place, bytes);
     rename(near, pointer, found, near_word(len, ds, place))
@@ -138,7 +142,8 @@ fn put_object<N: Near>(near: &mut N, pointer: u16, len: u16, ds: u8, place: Plac
     requires next { IsNext (N.view near.old) place }
     requires tail { (N.view near.old).tail place.log ≡ place.at }
     requires long { length bytes.now ≡ len }
-    ensures { N.view near.new ≡ with_written_span (N.view near.old) pointer len ds place (packed_word bytes.now) }
+    ensures set { N.view near.new ≡ with_written_span (N.view near.old) pointer len ds place (packed_word bytes.now) }
+    ensures puts { Came (only (Writes place.log) N.makes) near.old near.new }
 {
     let header = HeadWord { pointer, len, ds };
     near.put(place.log, place.at, header.pack());

@@ -12,6 +12,7 @@ ghost use Rattle.far_core.specs.state.Law.{IsStored};
 ghost use Rattle.far_device.specs.Contents.{KeepsOthers};
 ghost use Rattle.far_device.specs.Faults.{CountsFault, SpendsFault};
 ghost use Rattle.far_hand.specs.Finds.{Finds};
+ghost use Rattle.far_hand.specs.Came.{Came, only};
 ghost use Rattle.far_hand.specs.Known.{Forgets, KeepsKnown};
 ghost use Rattle.far_book.specs.book.Asking.{AsksToEvict, answer_of};
 ghost use Rattle.far_book.specs.book.Dealing.{IsRetired, IsSeen, Leaves, has_evac, is_failure};
@@ -19,13 +20,14 @@ ghost use Rattle.far_hand.specs.Quiet.{IsQuietNear};
 ghost use Rattle.far_book.specs.book.Deeds.{Does, Evicts};
 ghost use Rattle.far_book.specs.book.Effects.{evicted, far_word};
 ghost use Rattle.far_book.specs.book.Evicting.{GoesFar, IsQuietData, IsQuietIn, Learns};
+ghost use Rattle.far_book.specs.book.Only.{Names, Reads};
 ghost use Rattle.far_book.specs.book.Renaming.{seen};
 
 use crate::book::Book;
 use crate::book::renaming::rename;
 use crate::book::words::far_word;
-use far_hand::Near;
 use far_device::{Device, DeviceFault};
+use far_hand::Near;
 use far_word::{LONGEST, Place, PtrWord, Refused, size_of, unpack_bytes, words_for};
 
 // The bytes of an object that are read into a short row.
@@ -47,6 +49,7 @@ impl<N: Near + Drop, D: Device + Drop> Book<N, D> {
         ensures alive { N.still → IfOk result (λ far. far ≡ not (is_dropped (read_of ((N.view self.old.near).cell pointer)))) }
         ensures kept { IfErr result (λ _. IsSeen (N.view self.old.near) (N.view self.new.near) pointer) }
         ensures same { N.still → IfErr result (λ _. N.view self.new.near ≡ N.view self.old.near) }
+        ensures came { Came N.makes self.old.near self.new.near }
         ensures refused { IfErr result (λ why. (why ≡ Memory) ⊎ (why ≡ Failed)) }
         ensures called { AsksToEvict D D.writes D.lets_go (N.view self.old.near) pointer result self.old.device self.new.device }
         ensures cause { CountsFault (is_failure result) (D.faults self.old.device) (D.faults self.new.device) }
@@ -89,6 +92,7 @@ impl<N: Near + Drop, D: Device + Drop> Book<N, D> {
         requires near { IsQuietIn (N.view self.old.near) pointer len ds place }
         ensures kept { Leaves (N.view self.old.near) (N.view self.new.near) }
         ensures exact { N.still → N.view self.new.near ≡ N.view self.old.near }
+        ensures reads { Came (only (Reads place.log) N.makes) self.old.near self.new.near }
         ensures words { IsStored (data_at (N.view self.new.near).word place) len }
         ensures held { OnOk result (D.contents self.new.device pointer ≡ Some (bytes_of (data_at (N.view self.new.near).word place) len)) }
         ensures refused { IfErr result (λ why. (why ≡ Memory) ⊎ (why ≡ Failed)) }
@@ -123,6 +127,7 @@ impl<N: Near + Drop, D: Device + Drop> Book<N, D> {
         requires room { 8 * words_for len ≤ length row.old }
         ensures kept { Leaves (N.view self.old.near) (N.view self.new.near) }
         ensures exact { N.still → N.view self.new.near ≡ N.view self.old.near }
+        ensures reads { Came (only (Reads place.log) N.makes) self.old.near self.new.near }
         ensures words { IsStored (data_at (N.view self.new.near).word place) len }
         ensures held { OnOk result (D.contents self.new.device pointer ≡ Some (bytes_of (data_at (N.view self.new.near).word place) len)) }
         ensures refused { IfErr result (λ why. (why ≡ Memory) ⊎ (why ≡ Failed)) }
@@ -165,6 +170,7 @@ impl<N: Near + Drop, D: Device + Drop> Book<N, D> {
         ensures found { IfErr result (λ word. Finds found word) }
         ensures dropped { IfErr result (λ word. is_dropped (read_of word) ≡ true) }
         ensures kept { IfErr result (λ word. N.view self.new.near ≡ seen (N.view self.old.near) pointer word) }
+        ensures names { Came (only (Names pointer (far_word len ds)) N.makes) self.old.near self.new.near }
         ensures order { self.new.order ≡ self.old.order }
         ensures device { self.new.device ≡ self.old.device }
     {
@@ -183,6 +189,7 @@ fn read_object<N: Near>(near: &mut N, len: u16, place: Place, row: &mut [u8])
     ensures kept { N.view near.new ≡ record (N.view near.old) { word = (N.view near.new).word } }
     ensures learned { Learns (N.view near.old) (N.view near.new).word place (words_for len) }
     ensures exact { N.still → N.view near.new ≡ N.view near.old }
+    ensures reads { Came (only (Reads place.log) N.makes) near.old near.new }
     ensures bytes { take len row.new ≡ bytes_of (data_at (N.view near.new).word place) len }
     ensures length { length row.new ≡ length row.old }
 {

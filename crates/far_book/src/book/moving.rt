@@ -10,15 +10,17 @@ ghost use Rattle.far_device.specs.Contents.{KeepsOthers};
 ghost use Rattle.far_device.specs.Faults.{SpendsFault};
 ghost use Rattle.far_book.specs.book.Dealing.{FindsDrop, IsRetired, IsSeen, goal, has_evac, Leaves, moved_now, order_moved};
 ghost use Rattle.far_hand.specs.Quiet.{IsQuietNear};
+ghost use Rattle.far_hand.specs.Came.{Came, only};
 ghost use Rattle.far_book.specs.book.Deeds.{Does, Moves};
-ghost use Rattle.far_book.specs.book.Effects.{moved, order_after, stayed, with_written_span};
+ghost use Rattle.far_book.specs.book.Effects.{moved, near_word, order_after, stayed, with_written_span};
 ghost use Rattle.far_book.specs.book.Moving.{Copied, MayCopy, MayStay};
+ghost use Rattle.far_book.specs.book.Only.{Names};
 
 use crate::book::Book;
 use crate::book::renaming::{is_dropped, rename};
 use crate::book::words::near_word;
-use far_hand::Near;
 use far_device::Device;
+use far_hand::Near;
 use far_word::{HeadWord, Place, PtrWord, Refused, size_of, words_for};
 
 impl<N: Near + Drop, D: Device + Drop> Book<N, D> {
@@ -48,6 +50,7 @@ impl<N: Near + Drop, D: Device + Drop> Book<N, D> {
         ensures kept { IfErr result (λ _. self.new ≡ record self.old { near = self.new.near }) }
         ensures exact { N.still → IfOk result (λ o. IfSome o (λ place. N.view self.new.near ≡ moved_now (N.view self.old.near) pointer place)) }
         ensures unchanged { N.still → IfErr result (λ _. N.view self.new.near ≡ N.view self.old.near) }
+        ensures came { Came N.makes self.old.near self.new.near }
         ensures ran { N.still → Does (N.view self.old.near) (Moves pointer result) (N.view self.new.near) }
     {
         match self.settle(pointer) {
@@ -78,6 +81,7 @@ impl<N: Near + Drop, D: Device + Drop> Book<N, D> {
         ensures exact { N.still → IfOk result (λ o. MatchOption o (N.view self.new.near ≡ N.view self.old.near) (λ place. N.view self.new.near ≡ moved_now (N.view self.old.near) pointer place)) }
         ensures dropped { N.still → IfOk result (λ o. IfNone o (is_dropped (read_of ((N.view self.old.near).cell pointer)) ≡ true)) }
         ensures unchanged { N.still → IfErr result (λ _. N.view self.new.near ≡ N.view self.old.near) }
+        ensures came { Came N.makes self.old.near self.new.near }
     {
         self.keeps_law();
         let found = self.see(pointer);
@@ -103,6 +107,7 @@ impl<N: Near + Drop, D: Device + Drop> Book<N, D> {
         ensures order { IfOk result (λ o. MatchOption o (self.new.order ≡ self.old.order) (λ place. self.new.order ≡ order_after (N.view self.old.near) self.old.order place)) }
         ensures dropped { IfOk result (λ o. IfNone o (FindsDrop (N.view self.old.near) (N.view self.new.near) pointer)) }
         ensures exact { N.still → IfOk result (λ o. MatchOption o ⊥ (λ place. N.view self.new.near ≡ moved (N.view self.old.near) pointer place)) }
+        ensures came { Came N.makes self.old.near self.new.near }
         ensures device { self.new.device ≡ self.old.device }
         ensures refused { IfErr result (λ why. why ≡ NoRoom) }
         ensures none { IfErr result (λ _. goal (N.view self.old.near) pointer ≡ None) }
@@ -137,6 +142,7 @@ impl<N: Near + Drop, D: Device + Drop> Book<N, D> {
         ensures stayed { IfSome result (λ _. Leaves (stayed (N.view self.old.near) pointer) (N.view self.new.near)) }
         ensures dropped { IfNone result (FindsDrop (N.view self.old.near) (N.view self.new.near) pointer) }
         ensures exact { N.still → MatchOption result ⊥ (λ _. N.view self.new.near ≡ stayed (N.view self.old.near) pointer) }
+        ensures came { Came N.makes self.old.near self.new.near }
         ensures order { self.new.order ≡ self.old.order }
         ensures device { self.new.device ≡ self.old.device }
     {
@@ -156,6 +162,7 @@ fn copy_object<N: Near>(near: &mut N, pointer: u16, len: u16, ds: u8, from: Plac
     requires { MayCopy (N.view near.old) pointer len ds from to }
     ensures copied { Copied (N.view near.old) (N.view near.new) pointer len ds from to }
     ensures exact { N.still → N.view near.new ≡ with_written_span (N.view near.old) pointer len ds to (data_at (N.view near.old).word from) }
+    ensures came { Came N.makes near.old near.new }
 {
     let header = HeadWord { pointer, len, ds };
     near.put(to.log, to.at, header.pack());
@@ -185,6 +192,7 @@ fn move_object<N: Near>(
     ensures dropped { result ≡ false → FindsDrop (N.view near.old) (N.view near.new) pointer }
     ensures won { N.still → result ≡ true }
     ensures exact { N.still → N.view near.new ≡ moved (N.view near.old) pointer to }
+    ensures came { Came N.makes near.old near.new }
 {
     copy_object(near, pointer, len, ds, from, to);
     match rename(near, pointer, found, near_word(len, ds, to)) {
@@ -210,6 +218,7 @@ fn unmark_object<N: Near>(
     ensures dropped { result ≡ false → FindsDrop (N.view near.old) (N.view near.new) pointer }
     ensures won { N.still → result ≡ true }
     ensures exact { N.still → N.view near.new ≡ stayed (N.view near.old) pointer }
+    ensures names { Came (only (Names pointer (near_word len ds place)) N.makes) near.old near.new }
 {
     match rename(near, pointer, found, near_word(len, ds, place)) {
         Ok(()) => true,

@@ -7,11 +7,13 @@ ghost use Rattle.far_word.specs.Sizes.{size_of};
 ghost use Rattle.far_log.specs.Spans.{span_at};
 ghost use Rattle.far_core.specs.state.Spans.{names_place, word_in};
 ghost use Rattle.far_hand.specs.Finds.{Finds};
+ghost use Rattle.far_hand.specs.Came.{Came, only};
 ghost use Rattle.far_book.specs.book.NextLive.{IsBoundary, IsHomeOf, IsNamedBetween, live_from, searched_to};
+ghost use Rattle.far_book.specs.book.Only.{Reads};
 
 use crate::book::Book;
-use far_hand::Near;
 use far_device::Device;
+use far_hand::Near;
 use far_log::Span;
 use far_word::{HeadWord, PtrWord, size_of};
 
@@ -34,6 +36,7 @@ impl<N: Near + Drop, D: Device + Drop> Book<N, D> {
         ensures others { (p : ℕ) → IsNamedBetween (N.view self.old.near) log at (searched_to (N.view self.old.near) log result) p ⊎ ((N.view self.new.near).cell p ≡ (N.view self.old.near).cell p) }
         ensures kept { N.view self.new.near ≡ record (N.view self.old.near) { cell = (N.view self.new.near).cell } }
         ensures exact { N.still → N.view self.new.near ≡ N.view self.old.near }
+        ensures came { Came N.makes self.old.near self.new.near }
         ensures order { self.new.order ≡ self.old.order }
         ensures device { self.new.device ≡ self.old.device }
     {
@@ -69,6 +72,7 @@ impl<N: Near + Drop, D: Device + Drop> Book<N, D> {
         ensures short { at + size_of result.len ≤ LOG_WORDS }
         ensures next { IsBoundary (N.view self.old.near) log (at + size_of result.len) }
         ensures same { N.view self.new.near ≡ N.view self.old.near }
+        ensures reads { Came (only (Reads log) N.makes) self.old.near self.new.near }
         ensures order { self.new.order ≡ self.old.order }
         ensures device { self.new.device ≡ self.old.device }
     {

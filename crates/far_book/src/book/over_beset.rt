@@ -11,9 +11,9 @@ ghost use Rattle.far_hand.specs.BesetView.{beset_may_be, beset_view};
 ghost use Rattle.far_hand.specs.MayBe.{NoneViews, ViewsNone};
 ghost use Rattle.far_hand.specs.Owners.{is_owners};
 
-use far_hand::Beset;
 use crate::book::Book;
 use far_device::Device;
+use far_hand::Beset;
 
 impl<D: Device + Drop> Book<Beset, D> {
     /// The core keeps the whole law, what owners change included, and its views rest on words that it says they may. It is a

@@ -15,10 +15,9 @@ ghost use Rattle.far_hand.specs.Owners.{OwnersChange, is_owners};
 ghost use Rattle.far_book.specs.book.Deeds.{Does, Owns};
 
 use crate::book::Book;
-use far_hand::is_owners;
-use far_hand::Plain;
 use far_core::{Core, Event, Reply};
 use far_device::Device;
+use far_hand::{Plain, is_owners};
 use far_word::Place;
 
 impl<D: Device + Drop> Book<Plain, D> {

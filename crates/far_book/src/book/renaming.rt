@@ -7,6 +7,8 @@ ghost use Rattle.far_core.specs.declared.event.Event.{Event};
 ghost use Rattle.far_core.specs.events.Naming.{is_dropped};
 ghost use Rattle.far_core.specs.events.Step.{after};
 ghost use Rattle.far_hand.specs.Finds.{Finds};
+ghost use Rattle.far_hand.specs.Came.{Came, only};
+ghost use Rattle.far_book.specs.book.Only.{Names};
 ghost use Rattle.far_book.specs.book.Renaming.{MayRename, Renamed, seen};
 
 use far_hand::Near;
@@ -28,6 +30,7 @@ pub(crate) fn rename<N: Near>(near: &mut N, pointer: u16, found: u64, new: u64) 
     ensures found { IfErr result (λ word. Finds found word) }
     ensures dropped { IfErr result (λ word. is_dropped (read_of word) ≡ true) }
     ensures kept { IfErr result (λ word. N.view near.new ≡ seen (N.view near.old) pointer word) }
+    ensures names { Came (only (Names pointer new) N.makes) near.old near.new }
 {
     match near.name(pointer, found, new) {
         Ok(()) => Ok(()),
@@ -55,6 +58,7 @@ fn rename_marked<N: Near>(near: &mut N, pointer: u16, found: u64, new: u64) -> R
     ensures found { IfErr result (λ word. Finds found word) }
     ensures dropped { IfErr result (λ word. is_dropped (read_of word) ≡ true) }
     ensures kept { IfErr result (λ word. N.view near.new ≡ seen (N.view near.old) pointer word) }
+    ensures names { Came (only (Names pointer new) N.makes) near.old near.new }
 {
     let mut word = found;
     for _ in 0..4u8 {

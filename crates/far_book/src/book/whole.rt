@@ -11,8 +11,8 @@ ghost use Rattle.far_core.specs.state.Spans.{IsOfHeap, spans_of, word_in};
 ghost use Rattle.far_book.specs.book.Own.{own_part};
 
 use crate::book::Book;
-use far_hand::Near;
 use far_device::Device;
+use far_hand::Near;
 
 impl<N: Near + Drop, D: Device + Drop> Book<N, D> {
     /// What the book's part of the law means, over any hand. Live, dead and unused bytes of each log make its 1,024: live are

@@ -1,5 +1,5 @@
 use Rattle.far_book.proofs.book.free_cell.Goals as goal
-use Rattle.std.proofs.Common.{◌∙◌, ◌*◌, ◌<◌, ◌^◌, ap, sym, subst, arith}
+use Rattle.std.proofs.Common.{◌∙◌, ◌*◌, ◌<◌, ◌^◌, ap, sym, subst, arith, rules}
 use Rattle.far_word.specs.declared.sizes.TheConstants.{CELLS}
 use Rattle.far_word.specs.Pointer.{read_of}
 use Rattle.far_word.proofs.PointerLaws.{word_fits}
@@ -9,6 +9,7 @@ use Rattle.far_book.proofs.region.Calls.{after_is, still_dropped, put_put, count
 use Rattle.far_book.proofs.region.Founds.{drop_found}
 use Rattle.far_book.proofs.region.Retires.{may_retire}
 use Rattle.far_hand.proofs.Knowing.{not_to_free}
+use Rattle.far_hand.proofs.Closure.{first_call, then_call}
 
 pub name-requires-clause-legal : goal.name-requires-clause-legal
 name-requires-clause-legal g c =
@@ -44,6 +45,7 @@ loop-preserved g c =
       found = finds_more _ _ _ h.found c.in-Err.ensures.found;
       kept = c.in-Err.ensures.kept ∙ ap (λ (s : State). record s { cell = put s.cell c.args.pointer c.in-Err.found }) h.kept
           ∙ (λ i. record (g.N.Near.view c.args.near.now) { cell = put_put (g.N.Near.view c.args.near.now).cell c.args.pointer c.loop.word c.in-Err.found i });
+      came = then_call _ _ h.came c.in-Err.ensures.lost;
       is = c.says-was-in-Err.ensures.is;
       layout = c.says-was-in-Err.ensures.layout;
       word = c.says-was-in-Err.ensures.word;
@@ -52,3 +54,17 @@ loop-preserved g c =
 
 pub name-requires-clause-known : goal.name-requires-clause-known
 name-requires-clause-known g c len place n i lt = absurd (not_to_free _ len place n)
+
+pub loop-init : goal.loop-init
+loop-init g c = record {
+  found = search rules;
+  kept = search rules;
+  came = first_call _ _ c.see-word.ensures.made;
+  is = search rules;
+  layout = search rules;
+  word = search rules;
+  tries = search rules;
+}
+
+pub returns-in-Ok-clause-came : goal.returns-in-Ok-clause-came
+returns-in-Ok-clause-came g c = then_call _ _ c.loop.invariant.came c.in-Ok.ensures.made

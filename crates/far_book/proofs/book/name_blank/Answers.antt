@@ -7,11 +7,12 @@ use Rattle.far_book.specs.book.Effects.{near_word, with_blank_span}
 use Rattle.far_book.proofs.region.Calls.{may_name}
 use Rattle.far_book.proofs.region.Founds.{free_found}
 use Rattle.far_hand.proofs.Knowing.{not_from_free}
+use Rattle.far_hand.proofs.Closure.{then_call, came_only}
 
 pub name-requires-clause-legal : goal.name-requires-clause-legal
 name-requires-clause-legal g c =
     let pack : c.near_word-word.result ≡ near_word c.args.len c.args.ds c.args.place = c.near_word-word.ensures in
-    subst (λ (s : State). Legal s (events.Name c.args.pointer 0 c.near_word-word.result)) (sym c.put_blank.ensures)
+    subst (λ (s : State). Legal s (events.Name c.args.pointer 0 c.near_word-word.result)) (sym c.put_blank.ensures.set)
     (subst (λ (x : ℕ). Legal (with_blank_span (g.N.Near.view c.args.near.now) c.args.pointer c.args.len c.args.ds c.args.place) (events.Name c.args.pointer 0 x)) (sym pack)
     (may_name (g.N.Near.view c.args.near.now) c.args.pointer c.args.len c.args.ds c.args.place c.requires.pointer c.requires.layout c.requires.next))
 
@@ -20,3 +21,6 @@ unreachable-requires g c = c.in_default.ensures.other (free_found 0 c.in_default
 
 pub name-requires-clause-known : goal.name-requires-clause-known
 name-requires-clause-known g c len place n i lt = absurd (not_from_free _ len place n)
+
+pub returns-clause-came : goal.returns-clause-came
+returns-clause-came g c = then_call _ _ (came_only _ c.put_blank.ensures.puts) c.in-Ok.ensures.made

@@ -4,6 +4,7 @@ use Rattle.std.proofs.lemmas.Bool.{cases_eq}
 use Rattle.far_word.specs.declared.sizes.TheConstants.{LOG_WORDS}
 use Rattle.far_core.specs.state.State.{State}
 use Rattle.far_book.proofs.region.Readings.{read_at, read_more, still_known}
+use Rattle.far_hand.proofs.Closure.{then_call}
 
 pub get-requires : goal.get-requires
 get-requires g c = record { legal = (subst (λ (s : State). c.args.log < s.logs) (sym c.loop-i.invariant.kept) c.requires.log, omega (arith, c.requires.tail), tt) }
@@ -23,5 +24,6 @@ loop-i-preserved g c =
         | inl e ↦ ap (λ (v : State). v.word a) (c.get.ensures.kept refl (subst (λ b. t.word b < 18446744073709551616) e (still_known s t h.kept h.headers c.requires.known a begun))) ∙ h.headers a begun
         | inr ne ↦ c.get.ensures.others refl a ne ∙ h.headers a begun
       ];
+      reads = then_call _ _ h.reads ((c.loop-i.i, refl), c.get.ensures.made);
       exact = λ still. c.get.ensures.set still ∙ h.exact still;
     }

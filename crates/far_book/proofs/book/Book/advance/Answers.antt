@@ -3,6 +3,10 @@ use Rattle.std.proofs.Common.{sym, subst}
 use Rattle.far_hand.specs.Rounds.{MayChoose}
 use Rattle.far_book.specs.book.BookOf.{BookOf}
 use Rattle.far_book.proofs.region.Rounding.{advance_keeps}
+use Rattle.far_core.specs.declared.event.Event.TheVariants.{Advance}
+use Rattle.far_core.specs.declared.event.Reply.TheVariants.{Epoch, Refused}
+use Rattle.far_hand.proofs.Closure.{call_result}
+use Rattle.far_book.proofs.region.Handed.{since_book}
 
 pub invariant_of-self : goal.invariant_of-self
 invariant_of-self g c =
@@ -10,3 +14,6 @@ invariant_of-self g c =
     let chosen = subst (λ (b : BookOf g.row.N.Denot g.row.D.Denot). MayChoose (g.N.Near.view b.near) c.args.logs) (sym c.self.view_is) c.requires.chosen in
     advance_keeps s (g.N.Near.view c.advance.new.self) c.self.inside.ledger (g.D.Device.contents c.self.inside.device) (g.D.Device.honest c.self.inside.device) c.self.invariant c.args.logs chosen
     c.advance.result c.advance.ensures.epoch c.advance.ensures.kept c.advance.ensures.forgot c.advance.ensures.unchanged
+
+pub returns-clause-came : goal.returns-clause-came
+returns-clause-came g c = since_book c.self.view_is (call_result (Advance c.args.logs) Epoch (λ _. Refused) c.advance.result c.advance.ensures.made c.advance.ensures.spent)

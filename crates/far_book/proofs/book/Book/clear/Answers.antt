@@ -4,6 +4,8 @@ use Rattle.far_core.specs.declared.event.Event.TheVariants.{Clear}
 use Rattle.far_core.specs.events.Legal.{Legal}
 use Rattle.far_book.specs.book.BookOf.{BookOf}
 use Rattle.far_book.proofs.region.Rounding.{cleared_keeps}
+use Rattle.far_hand.proofs.Closure.{first_call}
+use Rattle.far_book.proofs.region.Handed.{since_book}
 
 pub invariant_of-self : goal.invariant_of-self
 invariant_of-self g c =
@@ -11,3 +13,6 @@ invariant_of-self g c =
     let legal = subst (λ (b : BookOf g.row.N.Denot g.row.D.Denot). Legal (g.N.Near.view b.near) (Clear c.args.pointer)) (sym c.self.view_is) c.requires.legal in
     cleared_keeps s (g.N.Near.view c.clear.new.self) c.self.inside.ledger (g.D.Device.contents c.self.inside.device) (g.D.Device.honest c.self.inside.device) c.self.invariant
     c.args.pointer legal c.clear.result (omega arith) c.clear.ensures.found c.clear.ensures.kept c.clear.ensures.forgot
+
+pub returns-clause-came : goal.returns-clause-came
+returns-clause-came g c = since_book c.self.view_is (first_call _ _ c.clear.ensures.made)

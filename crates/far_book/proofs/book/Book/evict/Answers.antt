@@ -14,6 +14,7 @@ use Rattle.far_book.specs.book.Effects.{evicted, retired}
 use Rattle.far_book.specs.book.Renaming.{seen}
 use Rattle.far_book.proofs.region.Dropping.{retired_by}
 use Rattle.far_book.proofs.region.Evicted.{goes_far, gone_keeps, has_bytes, is_gone, was_alive}
+use Rattle.far_hand.proofs.Closure.{then_came, came_only}
 
 pub returns-in-Ok-clause-far : goal.returns-in-Ok-clause-far
 returns-in-Ok-clause-far g c _ =
@@ -121,3 +122,15 @@ returns-in-Err-name_far-clause-called g c =
     let gone = subst (λ (d : g.row.D.Denot). g.D.Device.lets_go d c.args.pointer c.retire-in-Err-name_far.new.self.device) c.name_far.ensures.device c.retire-in-Err-name_far.ensures.called in
     let alive = was_alive s t u c.args.pointer c.see-found.result c.see-found.ensures.kept c.send.ensures.kept x.len x.ds x.place x.marks c.see-found.ensures.found near c.if-marks.false in
     inr (c.send.new.self.device, (bytes, own, wrote), gone, alive)
+
+pub returns-then-marks-clause-came : goal.returns-then-marks-clause-came
+returns-then-marks-clause-came g c = then_came c.see-found.ensures.came c.retire.ensures.came
+
+pub returns-in-Err-clause-came : goal.returns-in-Err-clause-came
+returns-in-Err-clause-came g c = then_came c.see-found.ensures.came (came_only _ c.send.ensures.reads)
+
+pub returns-in-Ok-clause-came : goal.returns-in-Ok-clause-came
+returns-in-Ok-clause-came g c = then_came (then_came c.see-found.ensures.came (came_only _ c.send.ensures.reads)) (came_only _ c.name_far.ensures.names)
+
+pub returns-in-Err-name_far-clause-came : goal.returns-in-Err-name_far-clause-came
+returns-in-Err-name_far-clause-came g c = then_came (then_came (then_came c.see-found.ensures.came (came_only _ c.send.ensures.reads)) (came_only _ c.name_far.ensures.names)) c.retire-in-Err-name_far.ensures.came

@@ -8,6 +8,8 @@ use Rattle.far_word.specs.declared.pointer.PtrWord.TheVariants.{Far}
 use Rattle.far_word.proofs.PointerLaws.{read_says}
 use Rattle.far_word.specs.Sizes.{size_of}
 use Rattle.far_core.specs.events.Naming.{is_dropped}
+use Rattle.far_hand.proofs.Closure.{then_came}
+use Rattle.far_book.proofs.region.Handed.{since_book}
 use Rattle.far_core.specs.state.State.{State}
 use Rattle.far_device.specs.Contents.{KeepsOthers}
 use Rattle.far_device.specs.declared.fault.DeviceFault.{DeviceFault}
@@ -473,3 +475,12 @@ returns-clause-called g c =
       exact = λ still. y.ensures.set still ∙ as_seen;
     } in
     (c.in-Ok.bytes.items, c.read.new.self, read, c.forget.ensures.called, subst (λ (b : List ℕ). HasGiven g.N.Near.still s0 t p c.in-Some.place b) c.as_slice.ensures.value has)
+
+pub returns-then-marks-clause-came : goal.returns-then-marks-clause-came
+returns-then-marks-clause-came g c = then_came c.see-word.ensures.came c.retire.ensures.came
+
+pub returns-in_default-come_near-clause-came : goal.returns-in_default-come_near-clause-came
+returns-in_default-come_near-clause-came g c = then_came (then_came c.see-word.ensures.came (since_book c.self.view_is c.come_near.ensures.came)) c.retire-in_default-come_near.ensures.came
+
+pub returns-clause-came : goal.returns-clause-came
+returns-clause-came g c = then_came c.see-word.ensures.came (since_book c.self.view_is c.come_near.ensures.came)

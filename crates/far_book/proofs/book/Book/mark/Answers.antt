@@ -6,6 +6,8 @@ use Rattle.far_core.specs.state.State.{State}
 use Rattle.far_book.specs.book.BookOf.{BookOf}
 use Rattle.far_book.specs.book.FarSide.{InOrder}
 use Rattle.far_book.proofs.region.Marked.{found_marked}
+use Rattle.far_hand.proofs.Closure.{first_call}
+use Rattle.far_book.proofs.region.Handed.{since_book}
 
 pub invariant_of-self : goal.invariant_of-self
 invariant_of-self g c =
@@ -15,3 +17,6 @@ invariant_of-self g c =
     let legal = subst (λ (b : BookOf g.row.N.Denot g.row.D.Denot). Legal (g.N.Near.view b.near) (Mark c.args.pointer)) (sym c.self.view_is) c.requires.legal in
     subst (λ (u : State). InOrder u c.self.inside.ledger held is_honest) (sym c.mark.ensures.kept)
     (found_marked s c.self.inside.ledger held is_honest c.self.invariant c.args.pointer legal c.mark.result (omega arith) c.mark.ensures.found)
+
+pub returns-clause-came : goal.returns-clause-came
+returns-clause-came g c = since_book c.self.view_is (first_call _ _ c.mark.ensures.made)

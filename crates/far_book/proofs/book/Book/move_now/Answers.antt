@@ -7,6 +7,7 @@ use Rattle.far_core.specs.state.State.{State}
 use Rattle.far_book.specs.book.Dealing.{FindsDrop, moved_now}
 use Rattle.far_book.specs.book.Effects.{retired}
 use Rattle.far_book.proofs.region.Dropping.{gone}
+use Rattle.far_hand.proofs.Closure.{then_came}
 
 pub returns-in-Ok-None-clause-gone : goal.returns-in-Ok-None-clause-gone
 returns-in-Ok-None-clause-gone g c =
@@ -27,3 +28,6 @@ returns-in-Ok-None-clause-ran g c still =
       dropped = subst (λ o. IfNone o (is_dropped (read_of (s.cell c.args.pointer)) ≡ true)) none (c.in-Ok-None.ensures.dropped still);
       after = c.retire.ensures.exact still ∙ ap (λ (x : State). retired x c.args.pointer) (subst (λ o. MatchOption o (t ≡ s) (λ place. t ≡ moved_now s c.args.pointer place)) none (c.in-Ok-None.ensures.exact still));
     }
+
+pub returns-in-Ok-None-clause-came : goal.returns-in-Ok-None-clause-came
+returns-in-Ok-None-clause-came g c = then_came c.settle.ensures.came c.retire.ensures.came

@@ -5,6 +5,7 @@ use Rattle.far_word.specs.Sizes.{size_of}
 use Rattle.far_log.specs.declared.span.Span.{Span}
 use Rattle.far_book.specs.book.NextLive.{IsBoundary, IsNamedBetween, live_from}
 use Rattle.far_book.proofs.region.NextLives.{begun, below_tail, ended, found_more, here_dead, here_lies, here_live, here_next, here_reads, kept_more, none_more, others_more}
+use Rattle.far_hand.proofs.Closure.{then_came, came_only}
 
 pub names_place-requires : goal.names_place-requires
 names_place-requires g c =
@@ -92,6 +93,7 @@ loop-at-preserved g c =
       found = found_more s t r u c.keeps_law.ensures.law c.args.log c.loop-at.at below begins h.kept h.found c.span_at-span.ensures.same c.span_at-span.result c.span_at-span.ensures.is c.see.result c.see.ensures.found c.see.ensures.kept;
       kept = kept_more s t r u c.keeps_law.ensures.law c.args.log c.loop-at.at below begins h.kept h.found c.span_at-span.ensures.same c.span_at-span.result c.span_at-span.ensures.is c.see.result c.see.ensures.found c.see.ensures.kept;
       others = λ p. subst (λ n. IsNamedBetween s c.args.log c.args.at (c.loop-at.at + n) p ⊎ (u.cell p ≡ s.cell p)) (sym c.size_of-at.ensures) (others_more s t r u c.keeps_law.ensures.law c.args.log c.loop-at.at below begins h.kept h.found c.span_at-span.ensures.same c.span_at-span.result c.span_at-span.ensures.is c.see.result c.see.ensures.found c.see.ensures.kept c.args.at h.low p (h.others p));
+      came = then_came (then_came h.came (came_only _ c.span_at-span.ensures.reads)) c.see.ensures.came;
       exact = λ still. c.see.ensures.set still ∙ c.span_at-span.ensures.same ∙ h.exact still;
       order = c.see.ensures.order ∙ c.span_at-span.ensures.order ∙ h.order;
       device = c.see.ensures.device ∙ c.span_at-span.ensures.device ∙ h.device;
@@ -107,3 +109,6 @@ returns-clause-none g c =
     let s = g.N.Near.view c.args.self.now.near in
     let h = c.loop-at.invariant in
     h.rest ∙ ended s c.keeps_law.ensures.law c.args.log c.loop-at.at c.tail-tail.result h.edge c.tail-tail.ensures.is (omega (arith, c.loop-at-test.false))
+
+pub returns-then-names_place-clause-came : goal.returns-then-names_place-clause-came
+returns-then-names_place-clause-came g c = then_came (then_came c.loop-at.invariant.came (came_only _ c.span_at-span.ensures.reads)) c.see.ensures.came

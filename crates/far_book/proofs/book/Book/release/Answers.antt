@@ -10,6 +10,8 @@ use Rattle.far_core.specs.state.State.{State}
 use Rattle.far_book.specs.book.BookOf.{BookOf}
 use Rattle.far_book.specs.book.Own.{own_part}
 use Rattle.far_book.proofs.region.Releasing.{released_keeps, vacant_fact, vacant_test}
+use Rattle.far_hand.proofs.Closure.{first_call}
+use Rattle.far_book.proofs.region.Handed.{since_book}
 
 pub get-requires : goal.get-requires
 get-requires g c =
@@ -66,3 +68,9 @@ returns-clause-ran g c still =
       legal = (c.requires.log, omega arith, (c.requires.sealed, subst (λ (u : State). IsVacant u c.args.log) same (vacant_fact (own_part s) c.self.invariant.notes.law c.args.log none)));
       after = c.get.ensures.set still ∙ ap (λ (u : State). after u (Get c.args.log 0 true)) same;
     }
+
+pub returns-clause-gives : goal.returns-clause-gives
+returns-clause-gives g c = since_book c.self.view_is (first_call _ _ (refl, c.get.ensures.made))
+
+pub returns-clause-came : goal.returns-clause-came
+returns-clause-came g c = since_book c.self.view_is (first_call _ _ c.get.ensures.made)

@@ -8,6 +8,7 @@ use Rattle.far_book.specs.book.Effects.{moved, stayed}
 use Rattle.far_hand.specs.Quiet.{IsQuietNear}
 use Rattle.far_hand.proofs.RoundSteps.{quiet_seen}
 use Rattle.far_book.proofs.region.Settled.{both_of, drop_by, goal_seen, leaves_by, moved_seen, none_of, some_of, stayed_seen}
+use Rattle.far_hand.proofs.Closure.{then_came}
 
 pub carry-requires-clause-quiet : goal.carry-requires-clause-quiet
 carry-requires-clause-quiet g c = subst (λ (x : State). IsQuietNear x c.args.pointer) (sym c.see-found.ensures.kept)
@@ -51,3 +52,9 @@ returns-clause-moved g c =
     (ap (λ (y : State). stayed y c.args.pointer) c.see-found.ensures.kept
     ∙ stayed_seen s c.args.pointer c.see-found.result c.see-found.ensures.found c.keeps_law.ensures.law c.requires.quiet (sym c.is_dropped.ensures.value ∙ c.if-is_dropped.false)
     (sym c.has_evac.ensures ∙ c.if-has_evac.false) place) x) c.stay.ensures.stayed
+
+pub returns-then-has_evac-clause-came : goal.returns-then-has_evac-clause-came
+returns-then-has_evac-clause-came g c = then_came c.see-found.ensures.came c.carry.ensures.came
+
+pub returns-clause-came : goal.returns-clause-came
+returns-clause-came g c = then_came c.see-found.ensures.came c.stay.ensures.came

@@ -10,6 +10,8 @@ use Rattle.far_book.specs.book.FarSide.{InOrder}
 use Rattle.far_book.specs.book.NextLive.{IsBoundary}
 use Rattle.far_book.proofs.region.NextLives.{reads, some_header}
 use Rattle.far_book.proofs.region.Readings.{headers_known}
+use Rattle.far_hand.proofs.Closure.{first_call}
+use Rattle.far_book.proofs.region.Handed.{since_book}
 
 pub known-head-requires : goal.known-head-requires
 known-head-requires g c =
@@ -77,3 +79,6 @@ returns-clause-same g c =
     let begins : s.starts (c.args.log * LOG_WORDS + c.args.at) ≡ true = ap (λ (t : State). t.starts (c.args.log * LOG_WORDS + c.args.at)) same ∙ c.requires.begins in
     let known = headers_known s c.self.invariant.notes.law (c.args.log * LOG_WORDS + c.args.at) begins in
     c.get.ensures.kept refl known ∙ same
+
+pub returns-clause-reads : goal.returns-clause-reads
+returns-clause-reads g c = since_book c.self.view_is (first_call _ _ ((c.args.at, refl), c.get.ensures.made))

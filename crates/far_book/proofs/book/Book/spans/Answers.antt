@@ -8,6 +8,8 @@ use Rattle.far_book.specs.book.BookOf.{BookOf}
 use Rattle.far_book.specs.book.Own.{own_part}
 use Rattle.far_book.proofs.region.InOrders.{headers_keep}
 use Rattle.far_book.proofs.region.Readings.{headers_known, row_walks}
+use Rattle.far_hand.proofs.Closure.{came_only}
+use Rattle.far_book.proofs.region.Handed.{since_book}
 
 pub read_words-words-requires-clause-known : goal.read_words-words-requires-clause-known
 read_words-words-requires-clause-known g c = headers_known (g.N.Near.view c.self.inside.near) c.self.invariant.notes.law
@@ -43,3 +45,6 @@ pub returns-clause-headers : goal.returns-clause-headers
 returns-clause-headers g c =
     subst (λ (s : State). (a : ℕ) → s.starts a ≡ true → (g.N.Near.view c.read_words-words.new.near).word a ≡ s.word a) (ap (λ (b : BookOf g.row.N.Denot g.row.D.Denot). g.N.Near.view b.near) c.self.view_is)
     c.read_words-words.ensures.headers
+
+pub returns-clause-came : goal.returns-clause-came
+returns-clause-came g c = came_only _ (since_book c.self.view_is c.read_words-words.ensures.reads)

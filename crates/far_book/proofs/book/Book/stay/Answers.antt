@@ -10,6 +10,8 @@ use Rattle.far_book.specs.book.BookOf.{BookOf}
 use Rattle.far_hand.specs.Quiet.{IsQuietNear}
 use Rattle.far_book.proofs.region.Carrying.{drop_keeps, kept}
 use Rattle.far_book.proofs.region.Moved.{evac_of, may_stay}
+use Rattle.far_hand.proofs.Closure.{came_only}
+use Rattle.far_book.proofs.region.Handed.{since_book}
 
 pub invariant_of-self : goal.invariant_of-self
 invariant_of-self g c =
@@ -30,3 +32,6 @@ invariant_of-self g c =
           (may_stay s c.args.pointer quiet c.in-Near.len c.in-Near.ds c.in-Near.place c.in-Near.marks near pointer unwanted) (c.unmark_object.ensures.stayed w.if-unmark_object.true)
       | else-unmark_object w ↦ drop_keeps s u c.self.inside.ledger held is_honest c.self.invariant c.args.pointer (c.unmark_object.ensures.dropped w.if-unmark_object.false)
     ]
+
+pub returns-clause-came : goal.returns-clause-came
+returns-clause-came g c = since_book c.self.view_is (came_only _ c.unmark_object.ensures.names)

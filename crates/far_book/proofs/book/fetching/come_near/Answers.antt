@@ -9,6 +9,7 @@ use Rattle.far_book.specs.book.Placeable.{IsAbsent}
 use Rattle.far_book.specs.book.Renaming.{MayRename}
 use Rattle.far_book.proofs.region.Coming.{may_come}
 use Rattle.far_book.proofs.region.Packing.{packed_padded, packed_wide}
+use Rattle.far_hand.proofs.Closure.{then_came, came_only}
 
 pub rename-requires-clause-may : goal.rename-requires-clause-may
 rename-requires-clause-may g c =
@@ -19,8 +20,11 @@ rename-requires-clause-may g c =
     let pack : c.near_word.result ≡ near_word c.args.len c.args.ds c.args.place = c.near_word.ensures in
     let may = may_come s c.args.pointer c.args.len c.args.ds c.args.place row c.requires.pointer absent c.requires.head.some c.requires.layout c.requires.next
     (packed_padded c.args.bytes.now c.args.len (words_for c.args.len - 1) (λ k. (c.type_inv.bytes k).fits) c.requires.long last) c.requires.stored in
-    subst (λ (t : State). MayRename t c.args.pointer c.near_word.result) (sym c.put_object.ensures)
+    subst (λ (t : State). MayRename t c.args.pointer c.near_word.result) (sym c.put_object.ensures.set)
     (subst (λ (x : ℕ). MayRename (with_written_span s c.args.pointer c.args.len c.args.ds c.args.place row) c.args.pointer x) (sym pack) may)
 
 pub returns-clause-padded : goal.returns-clause-padded
 returns-clause-padded g c i lt = (packed_wide c.args.bytes.now (λ k. (c.type_inv.bytes k).fits) i, packed_padded c.args.bytes.now c.args.len i (λ k. (c.type_inv.bytes k).fits) c.requires.long lt)
+
+pub returns-clause-came : goal.returns-clause-came
+returns-clause-came g c = then_came (came_only _ c.put_object.ensures.puts) (came_only _ c.rename.ensures.names)

@@ -5,11 +5,13 @@ use Rattle.far_word.specs.Sizes.{words_for}
 use Rattle.far_core.specs.events.Copies.{data_at}
 use Rattle.far_core.specs.state.State.{State, addr}
 use Rattle.far_book.proofs.region.Learning.{bytes_front, bytes_none, bytes_then, learned_more, learns_none, quiet_now}
+use Rattle.far_hand.proofs.Closure.{no_call, then_call}
 
 pub loop-i-init : goal.loop-i-init
 loop-i-init g c = record {
   kept = refl;
   learned = learns_none (g.N.Near.view c.args.near.now) c.args.place;
+  reads = no_call refl;
   exact = λ still. refl;
   bytes = bytes_none (data_at (g.N.Near.view c.args.near.now).word c.args.place);
   long = search rules;
@@ -28,6 +30,7 @@ loop-i-preserved g c =
     record {
       kept = c.get-word.ensures.rest ∙ ap (λ (v : State). record v { word = u.word }) h.kept;
       learned = learned_more s t u c.args.len c.args.place c.loop-i.i at c.get-word.result c.requires.object h.kept h.learned lt here read (omega arith) c.get-word.ensures.known c.get-word.ensures.padding;
+      reads = then_call _ _ h.reads ((_, refl), c.get-word.ensures.made);
       exact = λ still. c.get-word.ensures.set still ∙ h.exact still;
       bytes = bytes_then s t u c.args.len c.args.place c.loop-i.i at c.get-word.result c.requires.object h.kept h.learned lt here read c.loop-i.row c.unpack_word.new.bytes h.bytes c.unpack_word.ensures;
       long = search rules;

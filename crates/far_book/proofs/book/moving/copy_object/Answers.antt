@@ -1,5 +1,5 @@
 use Rattle.far_book.proofs.book.moving.copy_object.Goals as goal
-use Rattle.std.proofs.Common.{◌≡◌, ◌∙◌, ◌+◌, ◌*◌, ◌<◌, subst, ap, arith, refl}
+use Rattle.std.proofs.Common.{◌≡◌, ◌∙◌, ◌+◌, ◌*◌, ◌<◌, subst, ap, arith, refl, rules, ℕ}
 use Rattle.far_word.specs.Sizes.{words_for}
 use Rattle.far_word.specs.declared.sizes.TheConstants.{LOG_WORDS}
 use Rattle.far_word.specs.Header.{head_word}
@@ -7,6 +7,8 @@ use Rattle.far_core.specs.events.Copies.{data_at}
 use Rattle.far_core.specs.events.Ranges.{with_row}
 use Rattle.far_core.specs.state.State.{State, put, addr}
 use Rattle.far_book.proofs.region.Copying.{Copying, head, put_legal, get_legal, from_fits, quiet_word, copying_more, copied, exact_more}
+use Rattle.far_core.proofs.Rows.{row_none}
+use Rattle.far_hand.proofs.Closure.{first_call, then_call}
 
 pub pack-requires : goal.pack-requires
 pack-requires g c = head (g.N.Near.view c.args.near.now) c.args.pointer c.args.len c.args.ds c.args.from c.args.to c.requires
@@ -44,6 +46,7 @@ loop-i-preserved g c =
       copying = copying_more s c.args.pointer c.args.len c.args.ds c.args.from c.args.to c.requires t v (g.N.Near.view c.put-in-loop-i.new.self) c.loop-i.i c.get-word.result lt h.copying
           (c.get-word.ensures.read refl (quiet_word s c.args.pointer c.args.len c.args.ds c.args.from c.args.to c.requires t v (g.N.Near.view c.put-in-loop-i.new.self) c.loop-i.i c.get-word.result lt h.copying))
           c.get-word.ensures.padding c.get-word.ensures.known c.put-in-loop-i.ensures.set;
+      came = then_call _ _ (then_call _ _ h.came c.get-word.ensures.made) c.put-in-loop-i.ensures.made;
       exact = λ still. c.put-in-loop-i.ensures.set ∙ ap (λ (x : State). record x { word = put x.word (c.args.to.log * LOG_WORDS + (c.args.to.at + 1 + c.loop-i.i)) c.get-word.result }) (c.get-word.ensures.set still ∙ h.exact still)
           ∙ ap (λ f. record s { word = f }) (exact_more s c.args.pointer c.args.len c.args.ds c.args.from c.args.to c.requires c.loop-i.i (c.args.to.log * LOG_WORDS + (c.args.to.at + 1 + c.loop-i.i)) c.get-word.result lt (omega arith)
           (c.get-word.ensures.exact still ∙ ap (λ (x : State). x.word (c.args.from.log * LOG_WORDS + (c.args.from.at + 1 + c.loop-i.i))) (h.exact still)));
@@ -61,3 +64,14 @@ returns-clause-exact g c still =
     let s = g.N.Near.view c.args.near.now in
     let all : c.loop-i.i ≡ words_for c.args.len = omega (arith, c.loop-i-test.false, c.words_for-i-end.ensures, c.loop-i.auto) in
     c.loop-i.invariant.exact still ∙ ap (λ n. record s { word = with_row (put s.word (addr c.args.to) (head_word c.args.pointer c.args.len c.args.ds)) (addr c.args.to + 1) n (data_at s.word c.args.from) }) all
+
+pub loop-i-init : goal.loop-i-init
+loop-i-init g c =
+    let s = g.N.Near.view c.args.near.now in
+    let word = put s.word (addr c.args.to) (head_word c.args.pointer c.args.len c.args.ds) in
+    record {
+      copying = search rules;
+      came = first_call _ _ c.put.ensures.made;
+      exact = λ still. c.put.ensures.set ∙ ap (λ w. record s { word = put s.word (addr c.args.to) w }) c.pack.ensures
+          ∙ ap (λ (f : ℕ → ℕ). record s { word = f }) (row_none word (addr c.args.to + 1) (data_at s.word c.args.from));
+    }

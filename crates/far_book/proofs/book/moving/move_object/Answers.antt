@@ -8,6 +8,7 @@ use Rattle.far_book.specs.book.Dealing.{has_evac}
 use Rattle.far_book.specs.book.Renaming.{MayRename, Renamed}
 use Rattle.far_book.proofs.region.Copying.{layout_there}
 use Rattle.far_book.proofs.region.Moved.{may_rename, moved_leaves, moved_dropped}
+use Rattle.far_hand.proofs.Closure.{then_came, came_only}
 
 pub near_word-requires : goal.near_word-requires
 near_word-requires g c = layout_there (g.N.Near.view c.args.near.now) c.args.pointer c.args.len c.args.ds c.args.from c.args.to c.requires.may
@@ -39,3 +40,9 @@ returns-in-Err-clause-dropped g c _ =
     let old : t.cell c.args.pointer ≡ s.cell c.args.pointer = ap (λ (x : State). x.cell c.args.pointer) c.copy_object.ensures.copied.is in
     moved_dropped s t c.args.pointer c.args.len c.args.ds c.args.from c.args.to c.requires.may c.copy_object.ensures.copied wanted alive u c.in-Err.field-0 c.in-Err.ensures.fits
     (subst (λ v. Finds v c.in-Err.field-0) (c.requires.found ∙ sym old) c.in-Err.ensures.found) c.in-Err.ensures.dropped c.in-Err.ensures.kept
+
+pub returns-in-Ok-clause-came : goal.returns-in-Ok-clause-came
+returns-in-Ok-clause-came g c = then_came c.copy_object.ensures.came (came_only _ c.rename.ensures.names)
+
+pub returns-in-Err-clause-came : goal.returns-in-Err-clause-came
+returns-in-Err-clause-came g c = then_came c.copy_object.ensures.came (came_only _ c.rename.ensures.names)

@@ -1,8 +1,9 @@
-use Rattle.std.proofs.Common.{◌∙◌, ap, arith}
+use Rattle.std.proofs.Common.{◌∙◌, ap, arith, refl}
 use Rattle.far_core.specs.state.State.{State, put}
 use Rattle.far_hand.proofs.Finding.{finds_more, some_found}
 use Rattle.far_book.proofs.region.Calls.{put_put, count_more}
 use Rattle.far_book.proofs.book.renaming.rename_marked.Goals as goal
+use Rattle.far_hand.proofs.Closure.{then_call}
 
 pub loop-preserved : goal.loop-preserved
 loop-preserved g c =
@@ -13,8 +14,15 @@ loop-preserved g c =
       found = finds_more (s.cell c.args.pointer) c.loop.word c.in-Err.more h.found c.in-Err.ensures.found;
       kept = c.in-Err.ensures.kept ∙ ap (λ (u : State). record u { cell = put u.cell c.args.pointer c.in-Err.more }) h.kept
           ∙ (λ i. record s { cell = put_put s.cell c.args.pointer c.loop.word c.in-Err.more i });
+      names = then_call _ _ h.names ((c.loop.word, refl), c.in-Err.ensures.lost);
       readable = some_found c.loop.word c.in-Err.more c.in-Err.ensures.found h.readable;
       alive = cc;
       same = λ still. absurd (c.in-Err.ensures.won still);
       tries = omega (arith, h.tries, count_more c.loop.word c.in-Err.more h.fits c.is_dropped.ensures.fits h.readable c.in-Err.ensures.found c.in-Err.ensures.other);
     }
+
+pub returns-in-Ok-clause-names : goal.returns-in-Ok-clause-names
+returns-in-Ok-clause-names g c = then_call _ _ c.loop.invariant.names ((c.loop.word, refl), c.in-Ok.ensures.made)
+
+pub returns-then-is_dropped-clause-names : goal.returns-then-is_dropped-clause-names
+returns-then-is_dropped-clause-names g c = then_call _ _ c.loop.invariant.names ((c.loop.word, refl), c.in-Err.ensures.lost)
