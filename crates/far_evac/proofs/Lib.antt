@@ -48,6 +48,7 @@ pub mod RetiresNone
 pub mod RoomLaw
 pub mod RoomTaken
 pub mod RoomTurns
+pub mod RoundKeys
 pub mod Rounds
 pub mod SendingOff
 pub mod Settling

@@ -73,13 +73,16 @@ marking_beside m n =
     (λ _. record { word = ap (λ (u : State). u.word) e; tail = ap (λ (u : State). u.tail) e; kind = ap (λ (u : State). u.kind) e; logs = ap (λ (u : State). u.logs) e; held = refl })
     (λ _. record { word = ap (λ (u : State). u.word) e; tail = ap (λ (u : State). u.tail) e; kind = ap (λ (u : State). u.kind) e; logs = ap (λ (u : State). u.logs) e; held = refl })
 
-marking_alike : (m : Moment) (n : ℕ) → ((p : ℕ) → m.core.cell p < 2 ^ 64) → Alike m.core (after_marking m n).core
+pub marking_held : (m : Moment) (n : ℕ) → (after_marking m n).held ≡ m.held
+marking_held m n = (marking_beside m n).held
+
+pub marking_alike : (m : Moment) (n : ℕ) → ((p : ℕ) → m.core.cell p < 2 ^ 64) → Alike m.core (after_marking m n).core
 marking_alike m n fits =
     let b = marking_beside m n in
     let is = is_marked m n fits in
     alike_parts m.core (after_marking m n).core (λ p. spot_but (read_of ((after_marking m n).core.cell p)) ∙ ap spot_of (is.same p) ∙ sym (spot_but (read_of (m.core.cell p)))) b.word b.tail b.kind b.logs
 
-clear_alike : (s : State) (k : ℕ) → Alike s (with_clear_below s k)
+pub clear_alike : (s : State) (k : ℕ) → Alike s (with_clear_below s k)
 clear_alike s k = alike_parts s (with_clear_below s k) (λ p. refl) refl refl refl refl
 
 -- ---- one step more

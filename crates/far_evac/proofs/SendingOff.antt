@@ -231,6 +231,10 @@ pub err_all : {A B : Type 0} {P Q R S : B → Type 0} → (result : Result A B) 
 err_all (Ok x) f h g k = tt
 err_all (Err why) f h g k = f why h g k
 
+pub err_given : {A B : Type 0} (Given : Type 0) (P : B → Type 0) → (result : Result A B) → (Given → IfErr result P) → IfErr result (λ x. Given → P x)
+err_given Given P (Ok x) h = tt
+err_given Given P (Err why) h = h
+
 -- an answer that was refused is no other
 pub no_answer : {A : Type 0} {P : Type 0} → (result : Result A Refused) (why : Refused) (x : A) → result ≡ Err why → (P → result ≡ Ok x) → P → ⊥
 no_answer result why x refused asked h = let odd : Err why ≡ Ok x = sym refused ∙ asked h in absurd cc

@@ -1,5 +1,5 @@
 -- One turn more: its chain over any hand with what was asked, and the function where no word changes.
-use Rattle.std.proofs.Common.{◌≡◌, ◌≢◌, ℕ, zero, suc, ◌+◌, ◌-◌, ◌<◌, ◌≤◌, true, false, cond, List, [], ◌∷◌, length, arith, ap, sym, refl, ◌∙◌}
+use Rattle.std.proofs.Common.{◌≡◌, ◌≢◌, ℕ, zero, suc, ◌+◌, ◌-◌, ◌<◌, ◌≤◌, Bool, true, false, cond, Option, List, [], ◌∷◌, length, drop, arith, ap, sym, refl, ◌∙◌, subst}
 use Rattle.std.proofs.lemmas.Bool.{true≢false}
 use Rattle.std.specs.Prelude.{Result}
 use Rattle.far_word.specs.declared.refused.Refused.{Refused}
@@ -8,13 +8,15 @@ use Rattle.far_evac.specs.declared.answers.Progress.{Progress}
 use Rattle.far_evac.specs.declared.answers.RoundEnd.TheVariants.{Done, Limit}
 use Rattle.far_evac.specs.declared.phase.Phase.{Phase}
 use Rattle.far_evac.specs.declared.phase.Phase.TheVariants.{Evacuating, Idle}
-use Rattle.far_evac.specs.AnyHand.{TurnsMade, TurnsTo, sum_of}
-use Rattle.far_evac.specs.Asked.{AsksInTurn, IsRefusedWrite}
-use Rattle.far_evac.specs.Moment.{Moment, Tally, nothing, plus, progress_of}
+use Rattle.far_evac.specs.AnyHand.{StopsAt, TurnsMade, TurnsTo, sum_of}
+use Rattle.far_evac.specs.Asked.{AsksInTurn, IsRefusedWrite, KeepsKeys, first_live}
+use Rattle.far_evac.specs.Live.{live_among}
+use Rattle.far_evac.specs.Moment.{Moment, Tally, nothing, objects_in, plus, progress_of}
 use Rattle.far_evac.specs.MomentLaw.{IsLawful, is_idle}
 use Rattle.far_evac.specs.RoundAsked.{EndsAsking, StopsAsking, TurnsAsking}
-use Rattle.far_evac.specs.Turning.{EndsTurns, turned_at}
-use Rattle.far_evac.specs.Turns.{Turned, turned, turns_made}
+use Rattle.far_evac.specs.Turning.{turned_at}
+use Rattle.far_evac.specs.Turns.{Turned, turn_size, turned, turns_made}
+use Rattle.far_evac.proofs.RoundKeys.{keys_on, keys_stop, left_on, left_then}
 
 pub not_idle : (phase : Phase) → is_idle phase ≡ false → phase ≢ Idle
 not_idle phase runs e = true≢false (sym (ap is_idle e) ∙ runs)
@@ -45,44 +47,82 @@ module _ (m : Moment) (n : ℕ) where
       ap (turns_made m) (sym all) ∙ stays_over (turns - n) (ap (λ (r : Turned). r.over) e) ∙ e
 
 -- ---- over any hand, and any device
-pub record Made (D : Type 0) (writes : D → ℕ → List ℕ → Result (Unit {0}) DeviceFault → D → Type 0) (lets_go : D → ℕ → D → Type 0) (m t : Moment) (n : ℕ) (total : Tally) (old new : D) : Type 0 where
+pub record Made (D : Type 0) (writes : D → ℕ → List ℕ → Result (Unit {0}) DeviceFault → D → Type 0) (lets_go : D → ℕ → D → Type 0) (contents : D → ℕ → Option (List ℕ)) (m t : Moment) (n : ℕ) (total : Tally) (old new : D) : Type 0 where
   pub tallies : List Tally
   pub made : TurnsMade m tallies false t
   pub asked : TurnsAsking D writes lets_go m tallies false t old new
   pub many : length tallies ≡ n
   pub sum : sum_of tallies ≡ total
+  pub left : live_among t.core t.held ≡ drop (objects_in total) (live_among m.core m.held)
+  pub keys : KeepsKeys (first_live m (objects_in total)) (contents old) (contents new)
 
-pub none_made : (D : Type 0) (writes : D → ℕ → List ℕ → Result (Unit {0}) DeviceFault → D → Type 0) (lets_go : D → ℕ → D → Type 0) (m : Moment) (device : D) → Made D writes lets_go m m 0 nothing device device
-none_made D writes lets_go m device = record { tallies = []; made = (refl, refl); asked = (refl, refl, refl); many = refl; sum = refl }
+module _ (D : Type 0) (writes : D → ℕ → List ℕ → Result (Unit {0}) DeviceFault → D → Type 0) (lets_go : D → ℕ → D → Type 0) (contents : D → ℕ → Option (List ℕ)) (m : Moment) where
+  pub none_made : (device : D) → Made D writes lets_go contents m m 0 nothing device device
+  none_made device = record { tallies = []; made = (refl, refl); asked = (refl, refl, refl); many = refl; sum = refl; left = refl; keys = λ p none. refl }
 
-module _ (D : Type 0) (writes : D → ℕ → List ℕ → Result (Unit {0}) DeviceFault → D → Type 0) (lets_go : D → ℕ → D → Type 0) (m u : Moment) (n : ℕ) (before : Tally) (old between : D) (h : Made D writes lets_go m u n before old between) where
-  -- no turn more
-  pub asked_limit : (turns : ℕ) (phase : Phase) → n ≤ turns → phase ≡ u.phase → EndsAsking D writes lets_go m turns (Limit phase) u old between
-  asked_limit turns phase within is = (h.tallies, false, h.asked, omega (arith, h.many, within), ap Limit is)
+  module _ (u : Moment) (n : ℕ) (before : Tally) (old between : D) (h : Made D writes lets_go contents m u n before old between) where
+    -- no turn more
+    pub asked_limit : (turns : ℕ) (alone : Bool) (phase : Phase) → n ≤ turns → (alone ≡ false → n ≡ turns) → phase ≡ u.phase → EndsAsking D writes lets_go contents m turns alone (Limit phase) u old between
+    asked_limit turns alone phase within all is = (
+      h.tallies,
+      false,
+      h.made,
+      h.asked,
+      omega (arith, h.many, within),
+      ap Limit is,
+      λ e. (h.many ∙ all e, ap Limit is),
+      subst (λ (a : Tally). KeepsKeys (first_live m (objects_in a)) (contents old) (contents between)) (sym h.sum) h.keys,
+    )
 
-  -- one turn more
-  pub made_more : IsLawful u → (t : Moment) (tally total : Tally) (new : D) → TurnsTo u u.phase tally false t → total ≡ plus before tally → AsksInTurn D writes lets_go u u.phase t tally between new →
-      Made D writes lets_go m t (n + 1) total old new
-  made_more lawful t tally total new turns is asks = record {
-    tallies = tally ∷ h.tallies;
-    made = (u, h.made, turns, lawful);
-    asked = (u, between, h.asked, turns, asks, lawful);
-    many = omega (arith, h.many);
-    sum = ap (λ a. plus a tally) h.sum ∙ sym is;
-  }
+    -- one turn more
+    module _ (lawful : IsLawful u) (t : Moment) (tally total : Tally) (new : D) (is : total ≡ plus before tally) (asks : AsksInTurn D writes lets_go u u.phase t tally between new)
+        (keys : KeepsKeys (first_live u (objects_in tally)) (contents between) (contents new)) where
+      keys_then : KeepsKeys (first_live m (objects_in (plus before tally))) (contents old) (contents new)
+      keys_then = keys_on m u before h.left (contents old) (contents between) (contents new) h.keys tally keys
 
-  -- the last one
-  pub made_done : IsLawful u → (t : Moment) (tally : Tally) (turns : ℕ) (total : Tally) → n < turns → TurnsTo u u.phase tally true t → total ≡ plus before tally → EndsTurns m turns (Done (progress_of total true)) t
-  made_done lawful t tally turns total within last is =
-      (tally ∷ h.tallies, true, (u, h.made, last, lawful), omega (arith, h.many, within), ap (λ a. Done (progress_of a true)) (is ∙ ap (λ a. plus a tally) (sym h.sum)))
+      pub made_more : TurnsTo u u.phase tally false t → Made D writes lets_go contents m t (n + 1) total old new
+      made_more turns = record {
+        tallies = tally ∷ h.tallies;
+        made = (u, h.made, turns, lawful);
+        asked = (u, between, h.asked, turns, asks, lawful);
+        many = omega (arith, h.many);
+        sum = ap (λ a. plus a tally) h.sum ∙ sym is;
+        left = subst (λ (a : Tally). live_among t.core t.held ≡ drop (objects_in a) (live_among m.core m.held)) (sym is) (left_on m u before h.left t tally (left_then u t lawful tally false turns));
+        keys = subst (λ (a : Tally). KeepsKeys (first_live m (objects_in a)) (contents old) (contents new)) (sym is) keys_then;
+      }
 
-  pub asked_done : IsLawful u → (t : Moment) (tally : Tally) (turns : ℕ) (total : Tally) (new : D) → n < turns → TurnsTo u u.phase tally true t → total ≡ plus before tally → AsksInTurn D writes lets_go u u.phase t tally between new →
-      EndsAsking D writes lets_go m turns (Done (progress_of total true)) t old new
-  asked_done lawful t tally turns total new within last is asks =
-      (tally ∷ h.tallies, true, (u, between, h.asked, last, asks, lawful), omega (arith, h.many, within), ap (λ a. Done (progress_of a true)) (is ∙ ap (λ a. plus a tally) (sym h.sum)))
+      -- the last one
+      pub asked_done : (turns : ℕ) (alone : Bool) → n < turns → TurnsTo u u.phase tally true t → EndsAsking D writes lets_go contents m turns alone (Done (progress_of total true)) t old new
+      asked_done turns alone within last =
+          let sums : total ≡ plus (sum_of h.tallies) tally = is ∙ ap (λ a. plus a tally) (sym h.sum) in
+          let tells = ap (λ a. Done (progress_of a true)) sums in (
+            tally ∷ h.tallies,
+            true,
+            (u, h.made, last, lawful),
+            (u, between, h.asked, last, asks, lawful),
+            omega (arith, h.many, within),
+            tells,
+            λ _. tells,
+            subst (λ (a : Tally). KeepsKeys (first_live m (objects_in (plus a tally))) (contents old) (contents new)) (sym h.sum) keys_then,
+          )
 
-  -- one that stopped
-  pub asked_stop : IsLawful u → (t : Moment) (tally : Tally) (turns : ℕ) (so_far : Progress) (why : Refused) (new : D) → n < turns → u.phase ≡ Evacuating → IsRefusedWrite D writes lets_go u t tally why between new →
-      so_far ≡ progress_of (plus before tally) false → StopsAsking D writes lets_go m turns so_far why t old new
-  asked_stop lawful t tally turns so_far why new within leaves refused is =
-      (h.tallies, u, between, tally, h.asked, omega (arith, h.many, within), leaves, refused, is ∙ ap (λ a. progress_of (plus a tally) false) (sym h.sum), lawful)
+    -- one that stopped
+    pub asked_stop : IsLawful u → (t : Moment) (tally : Tally) (turns : ℕ) (so_far : Progress) (why : Refused) (new : D) → n < turns → u.phase ≡ Evacuating → StopsAt u turn_size t tally →
+        IsRefusedWrite D writes lets_go u t tally why between new → so_far ≡ progress_of (plus before tally) false → KeepsKeys (first_live u (objects_in tally + 1)) (contents between) (contents new) →
+        StopsAsking D writes lets_go contents m turns so_far why t old new
+    asked_stop lawful t tally turns so_far why new within leaves stops refused is keys = (
+      h.tallies,
+      u,
+      between,
+      tally,
+      h.made,
+      h.asked,
+      omega (arith, h.many, within),
+      leaves,
+      stops,
+      refused,
+      is ∙ ap (λ a. progress_of (plus a tally) false) (sym h.sum),
+      lawful,
+      subst (λ (a : Tally). KeepsKeys (first_live m (objects_in (plus a tally) + 1)) (contents old) (contents new)) (sym h.sum)
+          (keys_stop m u before h.left (contents old) (contents between) (contents new) h.keys tally keys),
+    )

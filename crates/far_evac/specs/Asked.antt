@@ -1,8 +1,9 @@
 -- What a walk asked of the device, object after object; and under which keys the device has what it had.
-use Rattle.std.specs.Prelude.{◌≡◌, ◌+◌, ℕ, zero, suc, Bool, true, false, List, [], ◌∷◌, take, Result, Ok, Err}
+use Rattle.std.specs.Prelude.{◌≡◌, ◌+◌, ℕ, zero, suc, Bool, true, false, List, [], ◌∷◌, take, Option, Result, Ok, Err}
 use Rattle.far_word.specs.declared.refused.Refused.{Refused}
 use Rattle.far_word.specs.Pointer.{read_of}
 use Rattle.far_device.specs.declared.fault.DeviceFault.{DeviceFault}
+use Rattle.far_device.specs.Following.{none_of}
 use Rattle.far_core.specs.state.State.{State}
 use Rattle.far_book.specs.book.Asking.{AsksToEvict}
 use Rattle.far_evac.specs.declared.answers.EvacFault.{EvacFault}
@@ -27,6 +28,10 @@ asked_of (Err fault) = objects_in (tally_of fault.so_far) + 1
 abbrev pub asked_by : Tally → Result Bool Refused → ℕ
 asked_by tally (Ok over) = objects_in tally
 asked_by tally (Err why) = objects_in tally + 1
+
+-- under every key but theirs is what was there
+abbrev pub KeepsKeys : List ℕ → (ℕ → Option (List ℕ)) → (ℕ → Option (List ℕ)) → Type 0
+KeepsKeys objects old new = (p : ℕ) → none_of objects p → new p ≡ old p
 
 module _ (D : Type 0) (writes : D → ℕ → List ℕ → Result (Unit {0}) DeviceFault → D → Type 0) (lets_go : D → ℕ → D → Type 0) where
   -- an object left its log so: nothing was asked where it moved; it went far by one write of its bytes, which was done; where it was retired its key was let go of,

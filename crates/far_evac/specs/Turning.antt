@@ -1,24 +1,13 @@
--- Turns, one after the other, and what bounds their sums.
-use Rattle.std.specs.Prelude.{◌≡◌, ◌≢◌, ℕ, ◌+◌, ◌*◌, ◌<◌, ◌≤◌, Bool, false, List, length, Result, Ok, Err}
+-- Where turns stand, one after the other, and what bounds their sums.
+use Rattle.std.specs.Prelude.{◌≡◌, ◌≢◌, ℕ, ◌+◌, ◌*◌, ◌≤◌, Bool, false, List, length, Result, Ok, Err}
 use Rattle.far_word.specs.declared.sizes.TheConstants.{LOG_WORDS, MOST_LOGS}
 use Rattle.far_evac.specs.declared.answers.EvacFault.{EvacFault}
 use Rattle.far_evac.specs.declared.answers.Progress.{Progress}
-use Rattle.far_evac.specs.declared.answers.RoundEnd.{RoundEnd}
 use Rattle.far_evac.specs.declared.phase.Phase.TheVariants.{Evacuating}
-use Rattle.far_evac.specs.AnyHand.{EndsRound, StopsAt, TurnsMade, sum_of}
 use Rattle.far_evac.specs.Live.{live_among}
-use Rattle.far_evac.specs.Moment.{Moment, Tally, nothing, objects_in, plus, progress_of, tally_of}
-use Rattle.far_evac.specs.MomentLaw.{IsLawful, is_idle}
-use Rattle.far_evac.specs.Turns.{Turned, turn_size}
-
--- from a moment on: the round is over after some turns, or so many were made
-abbrev pub EndsTurns : Moment → ℕ → RoundEnd → Moment → Type 0
-EndsTurns m turns end t = (tallies : List Tally) × (over : Bool) × TurnsMade m tallies over t × (length tallies ≤ turns) × EndsRound turns tallies over t.phase end
-
--- or one of them stopped at an object
-abbrev pub StopsTurns : Moment → ℕ → Progress → Moment → Type 0
-StopsTurns m turns so_far t = (tallies : List Tally) × (u : Moment) × (tally : Tally) × TurnsMade m tallies false u
-    × (length tallies < turns) × (u.phase ≡ Evacuating) × StopsAt u turn_size t tally × (so_far ≡ progress_of (plus (sum_of tallies) tally) false) × IsLawful u
+use Rattle.far_evac.specs.Moment.{Moment, Tally, nothing, objects_in, tally_of}
+use Rattle.far_evac.specs.MomentLaw.{is_idle}
+use Rattle.far_evac.specs.Turns.{Turned}
 
 -- where turns stand that have counted so much, and whether the round is over
 abbrev pub turned_at : Moment → Tally → Bool → Turned

@@ -1,13 +1,12 @@
 //! Whole rounds over a core of its own, where nobody else acts.
 
-ghost use Rattle.std.specs.Prelude.{◌≡◌, ◌⊎◌, ℕ, List, Some, None, Ok, Err, false, IfOk, IfErr, map};
+ghost use Rattle.std.specs.Prelude.{◌≡◌, ◌⊎◌, ℕ, List, Some, None, Ok, Err, false, true, IfOk, IfErr, map};
 ghost use Rattle.far_book.specs.book.Rows.{row_of};
 ghost use Rattle.far_core.specs.state.CoreState.{core_state};
 ghost use Rattle.far_device.specs.Following.{Follows};
-ghost use Rattle.far_policy.specs.Choice.{IsChoice};
+ghost use Rattle.far_policy.specs.Choice.{IsBadChoice, IsChoice};
 ghost use Rattle.far_word.specs.declared.refused.Refused.{Refused as why_refused};
 ghost use Rattle.far_word.specs.declared.refused.Refused.TheVariants.{Device as Failed, Memory};
-ghost use Rattle.far_evac.specs.AnyHand.{StopsRound};
 ghost use Rattle.far_evac.specs.Choosing.{after_selecting};
 ghost use Rattle.far_evac.specs.EvacOf.{moment_alone};
 ghost use Rattle.far_evac.specs.Failing.{fails, no_key};
@@ -38,15 +37,12 @@ impl<D: Device + Drop> Evac<Plain, D> {
             (result ≡ Err record { so_far = progress_of nothing false; why = why }) × (self.new ≡ self.old) × (policy.new ≡ policy.old) }
         ensures refused { unselectable (moment_alone self.old) ≡ None → IfErr result (λ fault.
             ((fault.so_far ≡ progress_of nothing false) × (self.new ≡ self.old)
-            × (((fault.why ≡ Memory) × (policy.new ≡ policy.old)) ⊎ P.gives policy.old (map (row_of (core_state self.old.book.near.core)) self.old.book.order) most (Err fault.why) policy.new))
+            × (((fault.why ≡ Memory) × (policy.new ≡ policy.old)) ⊎ (IsBadChoice fault.why × P.gives policy.old (map (row_of (core_state self.old.book.near.core)) self.old.book.order) most (Err fault.why) policy.new)))
             ⊎ ((logs : List ℕ) × P.gives policy.old (map (row_of (core_state self.old.book.near.core)) self.old.book.order) most (Ok logs) policy.new
-            × StopsRound (moment_alone self.old) logs turns fault.so_far (moment_alone self.new) × ((fault.why ≡ Memory) ⊎ (fault.why ≡ Failed))
-            × StopsAsking D D.writes D.lets_go (after_selecting (moment_alone self.old) logs) turns fault.so_far fault.why (moment_alone self.new) self.old.book.device self.new.book.device)) }
-        ensures asked { IfOk result (λ end. (logs : List ℕ) × P.gives policy.old (map (row_of (core_state self.old.book.near.core)) self.old.book.order) most (Ok logs) policy.new
-            × RoundAsking D D.writes D.lets_go (moment_alone self.old) logs turns end (moment_alone self.new) self.old.book.device self.new.book.device) }
-        ensures halts { unselectable (moment_alone self.old) ≡ None → IfErr result (λ fault. ((fault.so_far ≡ progress_of nothing false) × (self.new ≡ self.old))
-            ⊎ ((logs : List ℕ) × P.gives policy.old (map (row_of (core_state self.old.book.near.core)) self.old.book.order) most (Ok logs) policy.new
-            × HaltsTurns (after_selecting (moment_alone self.old) logs) turns fault.so_far (moment_alone self.new))) }
+            × ((fault.why ≡ Memory) ⊎ (fault.why ≡ Failed)) × HaltsTurns (after_selecting (moment_alone self.old) logs) turns fault.so_far (moment_alone self.new)
+            × StopsAsking D D.writes D.lets_go D.contents (after_selecting (moment_alone self.old) logs) turns fault.so_far fault.why (moment_alone self.new) self.old.book.device self.new.book.device)) }
+        ensures asked { IfOk result (λ end. (logs : List ℕ) × P.gives policy.old (map (row_of (core_state self.old.book.near.core)) self.old.book.order) most (Ok logs) policy.new × IsRound (moment_alone self.old) logs turns end (moment_alone self.new)
+            × RoundAsking D D.writes D.lets_go D.contents (moment_alone self.old) logs turns true end (moment_alone self.new) self.old.book.device self.new.book.device) }
         ensures follows { Follows D.contents D.honest D.faults D.fails_at_most no_key (fails result) self.old.book.device self.new.book.device }
     {
         let logs = match self.select(policy, most) {

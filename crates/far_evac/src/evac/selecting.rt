@@ -30,7 +30,8 @@ impl<N: Near + Drop, D: Device + Drop> Evac<N, D> {
         ensures device { self.new.book.device ≡ self.old.book.device }
         ensures unchanged { IfErr result (λ _. self.new ≡ self.old) }
         ensures barred { (why : why_refused) → unselectable (moment N.view self.old) ≡ Some why → (result ≡ Err why) × (policy.new ≡ policy.old) }
-        ensures why { IfErr result (λ why. (why ≡ Memory) ⊎ IsBadChoice why ⊎ (unselectable (moment N.view self.old) ≡ Some why)) }
+        ensures why { IfErr result (λ why. ((why ≡ Memory) × (policy.new ≡ policy.old)) ⊎ (unselectable (moment N.view self.old) ≡ Some why)
+            ⊎ (IsBadChoice why × P.gives policy.old (map (row_of (N.view self.old.book.near)) self.old.book.order) most (Err why) policy.new)) }
         ensures refused { IfErr result (λ why. unselectable (moment N.view self.old) ≡ None →
             ((why ≡ Memory) × (policy.new ≡ policy.old)) ⊎ P.gives policy.old (map (row_of (N.view self.old.book.near)) self.old.book.order) most (Err why) policy.new) }
     {

@@ -1,21 +1,21 @@
 //! Whole rounds, turn after turn.
 
-ghost use Rattle.std.specs.Prelude.{◌≡◌, ◌≢◌, ◌⊎◌, ◌<◌, ℕ, Bool, List, Some, None, Ok, Err, false, IfOk, IfErr, map};
+ghost use Rattle.std.specs.Prelude.{◌≡◌, ◌≢◌, ◌⊎◌, ◌+◌, ◌<◌, ℕ, Bool, List, Some, None, Ok, Err, false, IfOk, IfErr, map};
 ghost use Rattle.far_book.specs.book.Rows.{row_of};
 ghost use Rattle.far_device.specs.Following.{Follows, none_of};
-ghost use Rattle.far_policy.specs.Choice.{IsChoice};
+ghost use Rattle.far_policy.specs.Choice.{IsBadChoice, IsChoice};
 ghost use Rattle.far_word.specs.declared.refused.Refused.{Refused as why_refused};
 ghost use Rattle.far_word.specs.declared.refused.Refused.TheVariants.{Device as Failed, Memory, Phase as WrongPhase};
-ghost use Rattle.far_evac.specs.AnyHand.{TurnsTo, RunsRound, StopsAt, StopsRound};
-ghost use Rattle.far_evac.specs.Asked.{AsksInTurn, IsRefusedWrite, asked_of, first_live};
+ghost use Rattle.far_evac.specs.AnyHand.{TurnsTo, StopsAt};
+ghost use Rattle.far_evac.specs.Asked.{AsksInTurn, IsRefusedWrite, KeepsKeys, asked_of, first_live};
 ghost use Rattle.far_evac.specs.Choosing.{after_selecting};
 ghost use Rattle.far_evac.specs.EvacOf.{moment};
 ghost use Rattle.far_evac.specs.Failing.{fails, no_key};
-ghost use Rattle.far_evac.specs.Moment.{Tally, nothing, plus, progress_of, tally_of};
+ghost use Rattle.far_evac.specs.Moment.{Tally, nothing, objects_in, plus, progress_of, tally_of};
 ghost use Rattle.far_evac.specs.MomentLaw.{IsLawful, is_idle, is_waiting};
 ghost use Rattle.far_evac.specs.Refusals.{unselectable};
 ghost use Rattle.far_evac.specs.RoundAsked.{EndsAsking, RoundAsking, StopsAsking};
-ghost use Rattle.far_evac.specs.Turning.{EndsTurns, GoesOn, IsBounded, IsWithin, StopsTurns, told_in, turned_at};
+ghost use Rattle.far_evac.specs.Turning.{GoesOn, IsBounded, IsWithin, told_in, turned_at};
 ghost use Rattle.far_evac.specs.Turns.{Halts, HaltsTurns, IsRound, begun_turns, round_end, turn_size, turned, turns_made};
 ghost use Rattle.far_evac.specs.declared.phase.Phase.TheVariants as phase;
 
@@ -83,21 +83,16 @@ impl<N: Near + Drop, D: Device + Drop> Evac<N, D> {
         turns: u64,
     ) -> Result<RoundEnd, EvacFault>
         ensures runs { IfOk result (λ end. (logs : List ℕ) × P.gives policy.old (map (row_of (N.view self.old.book.near)) self.old.book.order) most (Ok logs) policy.new
-            × RunsRound (moment N.view self.old) logs turns end (moment N.view self.new)
-            × (N.still → IsRound (moment N.view self.old) logs turns end (moment N.view self.new)) × IsChoice (map (row_of (N.view self.old.book.near)) self.old.book.order) most logs) }
+            × IsChoice (map (row_of (N.view self.old.book.near)) self.old.book.order) most logs × (N.still → IsRound (moment N.view self.old) logs turns end (moment N.view self.new))
+            × RoundAsking D D.writes D.lets_go D.contents (moment N.view self.old) logs turns false end (moment N.view self.new) self.old.book.device self.new.book.device) }
         ensures barred { (why : why_refused) → unselectable (moment N.view self.old) ≡ Some why →
             (result ≡ Err record { so_far = progress_of nothing false; why = why }) × (self.new ≡ self.old) × (policy.new ≡ policy.old) }
         ensures refused { unselectable (moment N.view self.old) ≡ None → IfErr result (λ fault.
             ((fault.so_far ≡ progress_of nothing false) × (self.new ≡ self.old)
-            × (((fault.why ≡ Memory) × (policy.new ≡ policy.old)) ⊎ P.gives policy.old (map (row_of (N.view self.old.book.near)) self.old.book.order) most (Err fault.why) policy.new))
+            × (((fault.why ≡ Memory) × (policy.new ≡ policy.old)) ⊎ (IsBadChoice fault.why × P.gives policy.old (map (row_of (N.view self.old.book.near)) self.old.book.order) most (Err fault.why) policy.new)))
             ⊎ ((logs : List ℕ) × P.gives policy.old (map (row_of (N.view self.old.book.near)) self.old.book.order) most (Ok logs) policy.new
-            × StopsRound (moment N.view self.old) logs turns fault.so_far (moment N.view self.new) × ((fault.why ≡ Memory) ⊎ (fault.why ≡ Failed))
-            × StopsAsking D D.writes D.lets_go (after_selecting (moment N.view self.old) logs) turns fault.so_far fault.why (moment N.view self.new) self.old.book.device self.new.book.device)) }
-        ensures asked { IfOk result (λ end. (logs : List ℕ) × P.gives policy.old (map (row_of (N.view self.old.book.near)) self.old.book.order) most (Ok logs) policy.new
-            × RoundAsking D D.writes D.lets_go (moment N.view self.old) logs turns end (moment N.view self.new) self.old.book.device self.new.book.device) }
-        ensures halts { N.still → unselectable (moment N.view self.old) ≡ None → IfErr result (λ fault. ((fault.so_far ≡ progress_of nothing false) × (self.new ≡ self.old))
-            ⊎ ((logs : List ℕ) × P.gives policy.old (map (row_of (N.view self.old.book.near)) self.old.book.order) most (Ok logs) policy.new
-            × HaltsTurns (after_selecting (moment N.view self.old) logs) turns fault.so_far (moment N.view self.new))) }
+            × ((fault.why ≡ Memory) ⊎ (fault.why ≡ Failed)) × (N.still → HaltsTurns (after_selecting (moment N.view self.old) logs) turns fault.so_far (moment N.view self.new))
+            × StopsAsking D D.writes D.lets_go D.contents (after_selecting (moment N.view self.old) logs) turns fault.so_far fault.why (moment N.view self.new) self.old.book.device self.new.book.device)) }
         ensures follows { Follows D.contents D.honest D.faults D.fails_at_most no_key (fails result) self.old.book.device self.new.book.device }
     {
         let logs = match self.select(policy, most) {
@@ -119,13 +114,11 @@ impl<N: Near + Drop, D: Device + Drop> Evac<N, D> {
     // last: no other would change anything.
     pub(super) fn make_turns(&mut self, turns: u64, alone: bool) -> Result<RoundEnd, EvacFault>
         requires running { is_idle self.old.phase ≡ false }
-        ensures ends { alone ≡ false → IfOk result (λ end. EndsTurns (moment N.view self.old) turns end (moment N.view self.new)) }
         ensures exact { N.still → IfOk result (λ end. (end ≡ round_end (turns_made (moment N.view self.old) turns)) × (moment N.view self.new ≡ (turns_made (moment N.view self.old) turns).moment)) }
-        ensures stops { IfErr result (λ fault. StopsTurns (moment N.view self.old) turns fault.so_far (moment N.view self.new)) }
         ensures halts { N.still → IfErr result (λ fault. HaltsTurns (moment N.view self.old) turns fault.so_far (moment N.view self.new)) }
         ensures why { IfErr result (λ fault. (fault.why ≡ Memory) ⊎ (fault.why ≡ Failed)) }
-        ensures asked { IfOk result (λ end. EndsAsking D D.writes D.lets_go (moment N.view self.old) turns end (moment N.view self.new) self.old.book.device self.new.book.device) }
-        ensures refused { IfErr result (λ fault. StopsAsking D D.writes D.lets_go (moment N.view self.old) turns fault.so_far fault.why (moment N.view self.new) self.old.book.device self.new.book.device) }
+        ensures asked { IfOk result (λ end. EndsAsking D D.writes D.lets_go D.contents (moment N.view self.old) turns alone end (moment N.view self.new) self.old.book.device self.new.book.device) }
+        ensures refused { IfErr result (λ fault. StopsAsking D D.writes D.lets_go D.contents (moment N.view self.old) turns fault.so_far fault.why (moment N.view self.new) self.old.book.device self.new.book.device) }
         ensures follows { Follows D.contents D.honest D.faults D.fails_at_most no_key (fails result) self.old.book.device self.new.book.device }
     {
         self.keeps_law();
@@ -158,13 +151,15 @@ impl<N: Near + Drop, D: Device + Drop> Evac<N, D> {
         requires running { is_idle self.old.phase ≡ false }
         requires within { IsWithin (moment N.view self.old) (tally_of before) }
         ensures turns { IfOk result (λ total. (tally : Tally) × TurnsTo (moment N.view self.old) self.old.phase tally total.done (moment N.view self.new) × (tally_of total ≡ plus (tally_of before) tally)
-            × AsksInTurn D D.writes D.lets_go (moment N.view self.old) self.old.phase (moment N.view self.new) tally self.old.book.device self.new.book.device) }
+            × AsksInTurn D D.writes D.lets_go (moment N.view self.old) self.old.phase (moment N.view self.new) tally self.old.book.device self.new.book.device
+            × KeepsKeys (first_live (moment N.view self.old) (objects_in tally)) (D.contents self.old.book.device) (D.contents self.new.book.device)) }
         ensures exact { N.still → IfOk result (λ total. turned (turned_at (moment N.view self.old) (tally_of before) false) self.old.phase ≡ turned_at (moment N.view self.new) (tally_of total) total.done) }
         ensures lawful { IsLawful (moment N.view self.old) }
         ensures goes_on { IfOk result (λ total. GoesOn (moment N.view self.new) (tally_of total) total.done) }
         ensures leaving { IfErr result (λ _. self.old.phase ≡ phase.Evacuating) }
         ensures stops { IfErr result (λ fault. (tally : Tally) × StopsAt (moment N.view self.old) turn_size (moment N.view self.new) tally × (fault.so_far ≡ progress_of (plus (tally_of before) tally) false)
-            × IsRefusedWrite D D.writes D.lets_go (moment N.view self.old) (moment N.view self.new) tally fault.why self.old.book.device self.new.book.device) }
+            × IsRefusedWrite D D.writes D.lets_go (moment N.view self.old) (moment N.view self.new) tally fault.why self.old.book.device self.new.book.device
+            × KeepsKeys (first_live (moment N.view self.old) (objects_in tally + 1)) (D.contents self.old.book.device) (D.contents self.new.book.device)) }
         ensures halts { N.still → IfErr result (λ fault. (tally : Tally) × Halts (moment N.view self.old) turn_size (moment N.view self.new) tally × (fault.so_far ≡ progress_of (plus (tally_of before) tally) false)) }
         ensures why { IfErr result (λ fault. (fault.why ≡ Memory) ⊎ (fault.why ≡ Failed)) }
         ensures follows { Follows D.contents D.honest D.faults D.fails_at_most no_key (fails result) self.old.book.device self.new.book.device }

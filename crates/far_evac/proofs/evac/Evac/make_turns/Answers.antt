@@ -3,6 +3,7 @@ use Rattle.std.proofs.Common.{Err, ◌≡◌, ◌∙◌, ◌+◌, true, false, a
 use Rattle.far_evac.specs.declared.answers.RoundEnd.{RoundEnd}
 use Rattle.far_evac.specs.declared.answers.RoundEnd.TheVariants.{Done}
 use Rattle.far_evac.specs.declared.phase.Phase.TheVariants.{Waiting}
+use Rattle.std.proofs.lemmas.Bool.{true≢false}
 use Rattle.far_device.specs.Following.{Follows}
 use Rattle.far_device.proofs.Following.{follows_itself, follows_on}
 use Rattle.far_evac.specs.Failing.{fails, no_key}
@@ -12,10 +13,10 @@ use Rattle.far_evac.specs.AnyHand.{TurnsTo}
 use Rattle.far_evac.specs.EvacOf.{moment}
 use Rattle.far_evac.specs.Moment.{nothing, progress_of, tally_of}
 use Rattle.far_evac.specs.RoundAsked.{EndsAsking}
-use Rattle.far_evac.specs.Turning.{EndsTurns, IsWithin, turned_at}
+use Rattle.far_evac.specs.Turning.{IsWithin, turned_at}
 use Rattle.far_evac.specs.Turns.{Turned, round_end}
 use Rattle.far_evac.proofs.Bounds.{starts_within}
-use Rattle.far_evac.proofs.TurnsOn.{Made, asked_done, asked_limit, asked_stop, made_done, made_more, none_made, turns_more, turns_over}
+use Rattle.far_evac.proofs.TurnsOn.{Made, asked_done, asked_limit, asked_stop, made_more, none_made, turns_more, turns_over}
 use Rattle.far_evac.proofs.Waits.{turns_wait, waiting_of}
 
 pub loop-init : goal.loop-init
@@ -23,23 +24,13 @@ loop-init g c =
     let m = moment g.N.Near.view c.args.self.now in
     let none : tally_of c.nothing_done-total.result ≡ nothing = ap tally_of c.nothing_done-total.ensures in
     record {
-      made = subst (λ total. Made g.row.D.Denot g.D.Device.writes g.D.Device.lets_go m m 0 total c.args.self.now.book.device c.args.self.now.book.device) (sym none)
-          (none_made g.row.D.Denot g.D.Device.writes g.D.Device.lets_go m c.args.self.now.book.device);
+      made = subst (λ total. Made g.row.D.Denot g.D.Device.writes g.D.Device.lets_go g.D.Device.contents m m 0 total c.args.self.now.book.device c.args.self.now.book.device) (sym none)
+          (none_made g.row.D.Denot g.D.Device.writes g.D.Device.lets_go g.D.Device.contents m c.args.self.now.book.device);
       exact = λ _. ap (λ total. turned_at m total false) (sym none);
       within = subst (IsWithin m) (sym none) (starts_within m c.keeps_law.ensures.law c.keeps_law.ensures.moment);
       runs = c.requires.running;
       follows = follows_itself g.D.Device.contents g.D.Device.honest g.D.Device.faults g.D.Device.fails_at_most no_key c.args.self.now.book.device;
     }
-
-pub returns-then-total-clause-ends : goal.returns-then-total-clause-ends
-returns-then-total-clause-ends g c others =
-    let m = moment g.N.Near.view c.args.self.now in
-    let u = moment g.N.Near.view c.loop.self in
-    let t = moment g.N.Near.view c.turn_more.new.self in
-    let turn = c.in-Ok.ensures.turns in
-    subst (λ end. EndsTurns m c.args.turns end t) (ap (λ over. Done (progress_of (tally_of c.in-Ok.sum) over)) (sym c.if-total.true))
-    (made_done g.row.D.Denot g.D.Device.writes g.D.Device.lets_go m u c.loop.counter (tally_of c.loop.total) c.args.self.now.book.device c.loop.self.book.device c.loop.invariant.made
-    c.turn_more.ensures.lawful t turn.0 c.args.turns (tally_of c.in-Ok.sum) (omega (arith, c.loop-test.true)) (subst (λ over. TurnsTo u u.phase turn.0 over t) c.if-total.true turn.1) turn.2)
 
 pub returns-then-total-clause-asked : goal.returns-then-total-clause-asked
 returns-then-total-clause-asked g c =
@@ -48,9 +39,9 @@ returns-then-total-clause-asked g c =
     let t = moment g.N.Near.view c.turn_more.new.self in
     let new = c.turn_more.new.self.book.device in
     let turn = c.in-Ok.ensures.turns in
-    subst (λ end. EndsAsking g.row.D.Denot g.D.Device.writes g.D.Device.lets_go m c.args.turns end t c.args.self.now.book.device new) (ap (λ over. Done (progress_of (tally_of c.in-Ok.sum) over)) (sym c.if-total.true))
-    (asked_done g.row.D.Denot g.D.Device.writes g.D.Device.lets_go m u c.loop.counter (tally_of c.loop.total) c.args.self.now.book.device c.loop.self.book.device c.loop.invariant.made
-    c.turn_more.ensures.lawful t turn.0 c.args.turns (tally_of c.in-Ok.sum) new (omega (arith, c.loop-test.true)) (subst (λ over. TurnsTo u u.phase turn.0 over t) c.if-total.true turn.1) turn.2 turn.3)
+    subst (λ end. EndsAsking g.row.D.Denot g.D.Device.writes g.D.Device.lets_go g.D.Device.contents m c.args.turns c.args.alone end t c.args.self.now.book.device new) (ap (λ over. Done (progress_of (tally_of c.in-Ok.sum) over)) (sym c.if-total.true))
+    (asked_done g.row.D.Denot g.D.Device.writes g.D.Device.lets_go g.D.Device.contents m u c.loop.counter (tally_of c.loop.total) c.args.self.now.book.device c.loop.self.book.device c.loop.invariant.made
+    c.turn_more.ensures.lawful t turn.0 (tally_of c.in-Ok.sum) new turn.2 turn.3 turn.4 c.args.turns c.args.alone (omega (arith, c.loop-test.true)) (subst (λ over. TurnsTo u u.phase turn.0 over t) c.if-total.true turn.1))
 
 pub returns-then-total-clause-exact : goal.returns-then-total-clause-exact
 returns-then-total-clause-exact g c still =
@@ -72,8 +63,8 @@ loop-preserved g c =
     let turn = c.in-Ok.ensures.turns in
     let goes = c.in-Ok.ensures.goes_on.more c.if-total.false in
     record {
-      made = made_more g.row.D.Denot g.D.Device.writes g.D.Device.lets_go m u c.loop.counter (tally_of c.loop.total) c.args.self.now.book.device c.loop.self.book.device c.loop.invariant.made
-          c.turn_more.ensures.lawful t turn.0 total c.turn_more.new.self.book.device (subst (λ over. TurnsTo u u.phase turn.0 over t) c.if-total.false turn.1) turn.2 turn.3;
+      made = made_more g.row.D.Denot g.D.Device.writes g.D.Device.lets_go g.D.Device.contents m u c.loop.counter (tally_of c.loop.total) c.args.self.now.book.device c.loop.self.book.device c.loop.invariant.made
+          c.turn_more.ensures.lawful t turn.0 total c.turn_more.new.self.book.device turn.2 turn.3 turn.4 (subst (λ over. TurnsTo u u.phase turn.0 over t) c.if-total.false turn.1);
       exact = λ still.
           turns_more m c.loop.counter u (tally_of c.loop.total) (turned_at t total false) (c.loop.invariant.exact still) (c.in-Ok.ensures.exact still ∙ ap (turned_at t total) c.if-total.false);
       within = goes.0;
@@ -105,19 +96,19 @@ returns-then-is_waiting-clause-asked g c =
     let new = c.turn_more.new.self.book.device in
     let total = tally_of c.in-Ok.sum in
     let turn = c.in-Ok.ensures.turns in
-    let made = made_more g.row.D.Denot g.D.Device.writes g.D.Device.lets_go m u c.loop.counter (tally_of c.loop.total) old c.loop.self.book.device c.loop.invariant.made
-    c.turn_more.ensures.lawful t turn.0 total new (subst (λ over. TurnsTo u u.phase turn.0 over t) c.if-total.false turn.1) turn.2 turn.3 in
-    asked_limit g.row.D.Denot g.D.Device.writes g.D.Device.lets_go m t (c.loop.counter + 1) total old new made c.args.turns Waiting (omega (arith, c.loop-test.true))
-    (sym (waiting_of t.phase (sym c.is_waiting.ensures ∙ c.if-is_waiting.true)))
+    let made = made_more g.row.D.Denot g.D.Device.writes g.D.Device.lets_go g.D.Device.contents m u c.loop.counter (tally_of c.loop.total) old c.loop.self.book.device c.loop.invariant.made
+    c.turn_more.ensures.lawful t turn.0 total new turn.2 turn.3 turn.4 (subst (λ over. TurnsTo u u.phase turn.0 over t) c.if-total.false turn.1) in
+    asked_limit g.row.D.Denot g.D.Device.writes g.D.Device.lets_go g.D.Device.contents m t (c.loop.counter + 1) total old new made c.args.turns c.args.alone Waiting (omega (arith, c.loop-test.true))
+    (λ e. absurd (true≢false (sym c.if-alone.true ∙ e))) (sym (waiting_of t.phase (sym c.is_waiting.ensures ∙ c.if-is_waiting.true)))
 
 pub returns-clause-asked : goal.returns-clause-asked
 returns-clause-asked g c =
-    asked_limit g.row.D.Denot g.D.Device.writes g.D.Device.lets_go (moment g.N.Near.view c.args.self.now) (moment g.N.Near.view c.loop.self) c.loop.counter (tally_of c.loop.total) c.args.self.now.book.device c.loop.self.book.device c.loop.invariant.made
-    c.args.turns c.phase.result c.loop.auto.counter-end c.phase.ensures
+    asked_limit g.row.D.Denot g.D.Device.writes g.D.Device.lets_go g.D.Device.contents (moment g.N.Near.view c.args.self.now) (moment g.N.Near.view c.loop.self) c.loop.counter (tally_of c.loop.total) c.args.self.now.book.device c.loop.self.book.device c.loop.invariant.made
+    c.args.turns c.args.alone c.phase.result c.loop.auto.counter-end (λ _. omega (arith, c.loop.auto.counter-end, c.loop-test.false)) c.phase.ensures
 
 pub returns-in-Err-clause-refused : goal.returns-in-Err-clause-refused
 returns-in-Err-clause-refused g c =
     let stop = c.in-Err.ensures.stops in
-    asked_stop g.row.D.Denot g.D.Device.writes g.D.Device.lets_go (moment g.N.Near.view c.args.self.now) (moment g.N.Near.view c.loop.self) c.loop.counter (tally_of c.loop.total) c.args.self.now.book.device c.loop.self.book.device c.loop.invariant.made
+    asked_stop g.row.D.Denot g.D.Device.writes g.D.Device.lets_go g.D.Device.contents (moment g.N.Near.view c.args.self.now) (moment g.N.Near.view c.loop.self) c.loop.counter (tally_of c.loop.total) c.args.self.now.book.device c.loop.self.book.device c.loop.invariant.made
     c.turn_more.ensures.lawful (moment g.N.Near.view c.turn_more.new.self) stop.0 c.args.turns c.in-Err.fault.so_far c.in-Err.fault.why c.turn_more.new.self.book.device (omega (arith, c.loop-test.true))
-    c.in-Err.ensures.leaving stop.3 stop.2
+    c.in-Err.ensures.leaving stop.1 stop.3 stop.2 stop.4

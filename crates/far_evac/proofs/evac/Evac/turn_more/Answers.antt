@@ -1,6 +1,9 @@
 use Rattle.far_evac.proofs.evac.Evac.turn_more.Goals as goal
-use Rattle.std.proofs.Common.{◌∙◌, false, ap, sym, subst}
+use Rattle.std.proofs.Common.{◌∙◌, false, Result, ap, sym, subst}
+use Rattle.far_evac.specs.declared.answers.EvacFault.{EvacFault}
 use Rattle.far_evac.specs.declared.answers.Progress.{Progress}
+use Rattle.far_evac.specs.AnyHand.{TurnsTo}
+use Rattle.far_evac.specs.Asked.{KeepsKeys, asked_of, first_live}
 use Rattle.far_evac.specs.EvacOf.{moment}
 use Rattle.far_evac.specs.Moment.{plus, progress_of, tally_of}
 use Rattle.far_evac.specs.Turning.{GoesOn}
@@ -35,7 +38,17 @@ pub returns-in-Err-clause-stops : goal.returns-in-Err-clause-stops
 returns-in-Err-clause-stops g c =
     let m = moment g.N.Near.view c.args.self.now in
     let runs = not_idle m.phase c.requires.running in
-    (tally_of c.in-Err.fault.so_far, (c.in-Err.ensures.stops runs).1, c.sum-in-Err.ensures, c.in-Err.ensures.refused runs)
+    let keys = subst (λ (answer : Result Progress EvacFault). KeepsKeys (first_live m (asked_of answer)) (g.D.Device.contents c.args.self.now.book.device) (g.D.Device.contents c.turn.new.self.book.device)) c.in-Err.is c.turn.ensures.follows.others in
+    (tally_of c.in-Err.fault.so_far, (c.in-Err.ensures.stops runs).1, c.sum-in-Err.ensures, c.in-Err.ensures.refused runs, keys)
+
+pub returns-in-Ok-clause-turns : goal.returns-in-Ok-clause-turns
+returns-in-Ok-clause-turns g c =
+    let m = moment g.N.Near.view c.args.self.now in
+    let t = moment g.N.Near.view c.turn.new.self in
+    let made = c.in-Ok.made in
+    let keys = subst (λ (answer : Result Progress EvacFault). KeepsKeys (first_live m (asked_of answer)) (g.D.Device.contents c.args.self.now.book.device) (g.D.Device.contents c.turn.new.self.book.device)) c.in-Ok.is c.turn.ensures.follows.others in
+    let over = ap (λ (p : Progress). p.done) c.sum.ensures in
+    (tally_of made, subst (λ b. TurnsTo m m.phase (tally_of made) b t) (sym over) c.in-Ok.ensures.turns, ap tally_of c.sum.ensures, c.in-Ok.ensures.asked, keys)
 
 pub returns-in-Err-clause-halts : goal.returns-in-Err-clause-halts
 returns-in-Err-clause-halts g c = λ still.

@@ -1,0 +1,143 @@
+-- Which objects turns deal with, one after the other: those that stood first when they began. Under other keys the device has what it had.
+use Rattle.std.proofs.Common.{◌≡◌, ◌≢◌, ℕ, zero, suc, ◌+◌, ◌^◌, ◌<◌, Bool, true, false, Option, Some, None, List, [], ◌∷◌, ◌++◌, filter, take, drop, arith, ap, sym, refl, ◌∙◌, subst}
+use Rattle.std.specs.List.{AllByRecursion}
+use Rattle.std.proofs.lemmas.Bool.{cond_both}
+use mathlib.Core.Path.{fun_ext}
+use Rattle.far_word.specs.declared.pointer.PtrWord.{PtrWord}
+use Rattle.far_word.specs.declared.pointer.PtrWord.TheVariants as pointer
+use Rattle.far_word.specs.declared.pointer.PtrWord.TheVariants.{Free, Near, Far}
+use Rattle.far_word.specs.Pointer.{read_of}
+use Rattle.far_log.specs.declared.span.Span.{Span}
+use Rattle.far_core.specs.state.Spans.{is_live, names_place, spans_of}
+use Rattle.far_core.specs.state.State.{State}
+use Rattle.far_evac.specs.declared.answers.Polled.{Polled}
+use Rattle.far_evac.specs.declared.answers.Polled.TheVariants.{Clear, StillOpen}
+use Rattle.far_evac.specs.declared.phase.Phase.{Phase}
+use Rattle.far_evac.specs.declared.phase.Phase.TheVariants.{Idle, Marking, Waiting, Evacuating}
+use Rattle.far_evac.specs.AnyHand.{KnowsMoment, Polls, TurnsTo}
+use Rattle.far_evac.specs.Asked.{KeepsKeys, first_live}
+use Rattle.far_evac.specs.Live.{live_among, live_in, pointers_of}
+use Rattle.far_evac.specs.Marking.{after_marking}
+use Rattle.far_evac.specs.Moment.{Moment, Tally, nothing, objects_in, plus}
+use Rattle.far_evac.specs.MomentLaw.{IsLawful, has_risen}
+use Rattle.far_evac.specs.RoundSteps.{with_clear_below}
+use Rattle.far_evac.specs.TakesRoom.{spot_of}
+use Rattle.far_evac.specs.Turns.{turn_size}
+use Rattle.far_evac.specs.Walk.{Walked, ended, is_done, left}
+use Rattle.far_evac.proofs.InOrder.{in_order}
+use Rattle.far_evac.proofs.Orders.{left_known}
+use Rattle.far_evac.proofs.Readiness.{risen_is_ready}
+use Rattle.far_evac.proofs.RoomTaken.{Alike}
+use Rattle.far_evac.proofs.RoomTurns.{clear_alike, marking_alike, marking_held}
+
+-- ---- lists in two parts
+none_taken : (n : ℕ) → take {A = ℕ} n [] ≡ []
+none_taken zero = refl
+none_taken (suc n) = refl
+
+none_left : (n : ℕ) → drop {A = ℕ} n [] ≡ []
+none_left zero = refl
+none_left (suc n) = refl
+
+next_sum : (a b : ℕ) → suc a + b ≡ suc (a + b)
+next_sum a b = omega arith
+
+no_sum : (b : ℕ) → 0 + b ≡ b
+no_sum b = omega arith
+
+take_parts : (a b : ℕ) (xs : List ℕ) → take (a + b) xs ≡ take a xs ++ take b (drop a xs)
+take_parts zero b xs = ap (λ n. take n xs) (no_sum b)
+take_parts (suc a) b [] = none_taken (suc a + b) ∙ sym (none_taken b)
+take_parts (suc a) b (x ∷ xs) = ap (λ n. take n (x ∷ xs)) (next_sum a b) ∙ ap (λ ys. x ∷ ys) (take_parts a b xs)
+
+drop_parts : (a b : ℕ) (xs : List ℕ) → drop (a + b) xs ≡ drop b (drop a xs)
+drop_parts zero b xs = ap (λ n. drop n xs) (no_sum b)
+drop_parts (suc a) b [] = none_left (suc a + b) ∙ sym (none_left b)
+drop_parts (suc a) b (x ∷ xs) = ap (λ n. drop n (x ∷ xs)) (next_sum a b) ∙ drop_parts a b xs
+
+both_parts : (P : ℕ → Type 0) (xs ys : List ℕ) → AllByRecursion P (xs ++ ys) → AllByRecursion P xs × AllByRecursion P ys
+both_parts P [] ys h = (tt, h)
+both_parts P (x ∷ xs) ys h = let rest = both_parts P xs ys h.1 in ((h.0, rest.0), rest.1)
+
+keys_join : (xs ys : List ℕ) (a b c : ℕ → Option (List ℕ)) → KeepsKeys xs a b → KeepsKeys ys b c → KeepsKeys (xs ++ ys) a c
+keys_join xs ys a b c first then p none = let parts = both_parts (λ q. q ≢ p) xs ys none in then p parts.1 ∙ first p parts.0
+
+-- ---- what leaves places alone leaves the live objects
+names_spot : (cell : Option PtrWord) (l at : ℕ) → names_place cell l at ≡ names_place (spot_of cell) l at
+names_spot None l at = refl
+names_spot (Some pointer.Free) l at = refl
+names_spot (Some (Near len ds place marks)) l at = refl
+names_spot (Some (Far len ds marks)) l at = refl
+
+module _ (s t : State) (alike : Alike s t) where
+  same_place : (p l at : ℕ) → names_place (read_of (t.cell p)) l at ≡ names_place (read_of (s.cell p)) l at
+  same_place p l at = names_spot (read_of (t.cell p)) l at ∙ ap (λ cell. names_place cell l at) (alike.spots p) ∙ sym (names_spot (read_of (s.cell p)) l at)
+
+  same_in : (l : ℕ) → live_in t l ≡ live_in s l
+  unfolding live_in
+  same_in l =
+      ap (λ test. pointers_of (filter test (spans_of t l))) (fun_ext (λ (span : Span). same_place span.p l span.at))
+      ∙ ap (λ spans. pointers_of (filter (is_live s l) spans)) (alike.spans l)
+
+  pub same_live : (ls : List ℕ) → live_among t ls ≡ live_among s ls
+  same_live [] = refl
+  same_live (l ∷ ls) = ap (λ live. live ++ live_among t ls) (same_in l) ∙ ap (λ more. live_in s l ++ more) (same_live ls)
+
+known_live : (m t : Moment) → KnowsMoment m t → live_among t.core t.held ≡ live_among m.core m.held
+known_live m t known = ap (live_among t.core) (ap (λ (x : Moment). x.held) known.rest) ∙ left_known m.core t.core known.core m.held
+
+-- ---- one turn
+module _ (u t : Moment) (lawful : IsLawful u) where
+  after_marks : KnowsMoment (after_marking u turn_size) t → live_among t.core t.held ≡ live_among u.core u.held
+  after_marks known =
+      known_live (after_marking u turn_size) t known ∙ ap (live_among (after_marking u turn_size).core) (marking_held u turn_size)
+      ∙ same_live u.core (after_marking u turn_size).core (marking_alike u turn_size (λ p. (lawful.0.cells.cell_read p).0)) u.held
+
+  after_looks : (answer : Polled) → Polls u t answer → live_among t.core t.held ≡ live_among u.core u.held
+  after_looks Clear polls =
+      known_live (record u { core = with_clear_below u.core u.core.mutators; phase = Evacuating }) t polls ∙ same_live u.core (with_clear_below u.core u.core.mutators) (clear_alike u.core u.core.mutators) u.held
+  after_looks (StillOpen k epoch) polls =
+      known_live (record u { core = with_clear_below u.core k }) t polls.leaves ∙ same_live u.core (with_clear_below u.core k) (clear_alike u.core k) u.held
+
+  left_ended : (w : Walked) → live_among (ended w).core (ended w).held ≡ left w
+  left_ended w = cond_both (is_done w) (record w.moment { phase = Idle }) w.moment (λ (x : Moment). live_among x.core x.held ≡ left w) (λ _. refl) (λ _. refl)
+
+  none_counted : (tally : Tally) → tally ≡ nothing → live_among t.core t.held ≡ live_among u.core u.held → live_among t.core t.held ≡ drop (objects_in tally) (live_among u.core u.held)
+  none_counted tally none same = same ∙ sym (ap (λ (x : Tally). drop (objects_in x) (live_among u.core u.held)) none)
+
+  left_by : (phase : Phase) (tally : Tally) (done : Bool) → u.phase ≡ phase → TurnsTo u phase tally done t → live_among t.core t.held ≡ drop (objects_in tally) (live_among u.core u.held)
+  left_by Idle tally done is odd = absurd odd
+  left_by Marking tally done is (none, goes, (count, waiting, marks)) = none_counted tally none (after_marks marks.leaves)
+  left_by Waiting tally done is (none, goes, (answer, polls)) = none_counted tally none (after_looks answer polls)
+  left_by Evacuating tally done is (k, w, walks, ends, counts, over) =
+      let order = in_order u k w (risen_is_ready u lawful.0 lawful.1 (ap has_risen is)) walks.walks in
+      let count : objects_in tally ≡ k = ap objects_in counts ∙ order.counted in
+      ap (λ (x : Moment). live_among x.core x.held) ends ∙ left_ended w ∙ order.left ∙ sym (ap (λ n. drop n (live_among u.core u.held)) count)
+
+  pub left_then : (tally : Tally) (done : Bool) → TurnsTo u u.phase tally done t → live_among t.core t.held ≡ drop (objects_in tally) (live_among u.core u.held)
+  left_then tally done turn = left_by u.phase tally done refl turn
+
+-- ---- after turns that dealt with so many, one turn more
+module _ (m u : Moment) (before : Tally) (stood : live_among u.core u.held ≡ drop (objects_in before) (live_among m.core m.held)) where
+  pub left_on : (t : Moment) (tally : Tally) → live_among t.core t.held ≡ drop (objects_in tally) (live_among u.core u.held) →
+      live_among t.core t.held ≡ drop (objects_in (plus before tally)) (live_among m.core m.held)
+  left_on t tally is =
+      let sum : objects_in before + objects_in tally ≡ objects_in (plus before tally) = omega arith in
+      is ∙ ap (drop (objects_in tally)) stood ∙ sym (drop_parts (objects_in before) (objects_in tally) (live_among m.core m.held)) ∙ ap (λ n. drop n (live_among m.core m.held)) sum
+
+  first_on : (k n : ℕ) → n ≡ objects_in before + k → first_live m (objects_in before) ++ first_live u k ≡ first_live m n
+  first_on k n sum =
+      ap (λ xs. first_live m (objects_in before) ++ take k xs) stood ∙ sym (take_parts (objects_in before) k (live_among m.core m.held)) ∙ ap (λ x. take x (live_among m.core m.held)) (sym sum)
+
+  module _ (a b c : ℕ → Option (List ℕ)) (keys : KeepsKeys (first_live m (objects_in before)) a b) (tally : Tally) where
+    pub keys_on : KeepsKeys (first_live u (objects_in tally)) b c → KeepsKeys (first_live m (objects_in (plus before tally))) a c
+    keys_on then =
+        let sum : objects_in (plus before tally) ≡ objects_in before + objects_in tally = omega arith in
+        subst (λ xs. KeepsKeys xs a c) (first_on (objects_in tally) (objects_in (plus before tally)) sum)
+        (keys_join (first_live m (objects_in before)) (first_live u (objects_in tally)) a b c keys then)
+
+    pub keys_stop : KeepsKeys (first_live u (objects_in tally + 1)) b c → KeepsKeys (first_live m (objects_in (plus before tally) + 1)) a c
+    keys_stop then =
+        let sum : objects_in (plus before tally) + 1 ≡ objects_in before + (objects_in tally + 1) = omega arith in
+        subst (λ xs. KeepsKeys xs a c) (first_on (objects_in tally + 1) (objects_in (plus before tally) + 1) sum)
+        (keys_join (first_live m (objects_in before)) (first_live u (objects_in tally + 1)) a b c keys then)
