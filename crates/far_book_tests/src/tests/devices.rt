@@ -1,6 +1,7 @@
 //! Devices of the tests' own: what is in each is what one in memory has, and something is wrong with it, or looked at.
 
-ghost use Rattle.std.specs.Prelude.{◌≡◌, ◌+◌, ◌%◌, ◌^◌, ℕ, List, None, IsSome, false, true, IfOk};
+ghost use Rattle.std.specs.Prelude.{◌≡◌, ◌+◌, ◌%◌, ◌^◌, ℕ, List, None, Some, IsSome, false, true, IfOk};
+ghost use Rattle.far_device.specs.Calls.{given};
 ghost use Rattle.far_device.specs.Faults.{is_fault};
 ghost use Rattle.far_device.specs.Following.{Follows, any_key, other_than};
 ghost use Rattle.far_device.specs.Mem.{bytes_at, faults_of};
@@ -10,6 +11,19 @@ use far_device::{Device, DeviceFault, MemDevice};
 use std::alloc::AllocError;
 use std::cell::Cell;
 use std::rc::Rc;
+
+// One read of what is in memory, with its answer taken apart.
+fn read_inner(inner: &mut MemDevice, id: u32) -> Result<Vec<u8>, DeviceFault>
+    ensures follows { Follows bytes_at (λ _. true) faults_of (λ _ _. IsSome (bytes_at inner.old id) × ⊥) any_key (is_fault (given result)) inner.old inner.new }
+    ensures given { IfOk result (λ bytes. bytes_at inner.old id ≡ Some bytes.items) }
+    ensures kept { bytes_at inner.new ≡ bytes_at inner.old }
+{
+    match inner.read(id) {
+        Ok(bytes) => Ok(bytes),
+        Err(DeviceFault::Memory) => Err(DeviceFault::Memory),
+        Err(DeviceFault::Device) => Err(DeviceFault::Device),
+    }
+}
 
 /// Fails unless it is given these bytes.
 #[derive(Drop)]
@@ -53,7 +67,7 @@ impl Device for Picky {
     }
 
     fn read(&mut self, id: u32) -> Result<Vec<u8>, DeviceFault> {
-        self.inner.read(id)
+        read_inner(&mut self.inner, id)
     }
 
     fn forget(&mut self, id: u32) {
@@ -148,7 +162,7 @@ impl Device for Stumbling {
 
     fn read(&mut self, id: u32) -> Result<Vec<u8>, DeviceFault> {
         let Some(fault) = self.next.take() else {
-            return self.inner.read(id);
+            return read_inner(&mut self.inner, id);
         };
         if fault == DeviceFault::Device {
             self.faults = self.faults.wrapping_add(1);
@@ -202,7 +216,7 @@ impl Device for Lying {
     }
 
     fn read(&mut self, id: u32) -> Result<Vec<u8>, DeviceFault> {
-        let mut bytes = self.inner.read(id)?;
+        let mut bytes = read_inner(&mut self.inner, id)?;
         if let Some(len) = self.next.take() {
             let Ok(()) = bytes.resize(len, 0xee) else {
                 return Err(DeviceFault::Memory);

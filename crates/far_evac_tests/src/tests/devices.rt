@@ -1,6 +1,7 @@
 //! Devices that fail while objects leave: what is counted, what stays, and how the round goes on.
 
-ghost use Rattle.std.specs.Prelude.{◌≡◌, ◌+◌, ◌%◌, ◌^◌, true, false, None, IsSome};
+ghost use Rattle.std.specs.Prelude.{◌≡◌, ◌+◌, ◌%◌, ◌^◌, true, false, None, Some, IsSome, IfOk};
+ghost use Rattle.far_device.specs.Calls.{given};
 ghost use Rattle.far_device.specs.Faults.{is_fault};
 ghost use Rattle.far_device.specs.Following.{Follows, any_key, other_than};
 ghost use Rattle.far_device.specs.Mem.{bytes_at, faults_of};
@@ -18,6 +19,19 @@ use far_device::{Device, DeviceFault, MemDevice};
 use far_evac::{Evac, LogKind, Phase};
 use far_policy::Oldest;
 use far_word::{Marks, Place, Refused};
+
+// One read of what is in memory, with its answer taken apart.
+fn read_inner(inner: &mut MemDevice, id: u32) -> Result<Vec<u8>, DeviceFault>
+    ensures follows { Follows bytes_at (λ _. true) faults_of (λ _ _. IsSome (bytes_at inner.old id) × ⊥) any_key (is_fault (given result)) inner.old inner.new }
+    ensures given { IfOk result (λ bytes. bytes_at inner.old id ≡ Some bytes.items) }
+    ensures kept { bytes_at inner.new ≡ bytes_at inner.old }
+{
+    match inner.read(id) {
+        Ok(bytes) => Ok(bytes),
+        Err(DeviceFault::Memory) => Err(DeviceFault::Memory),
+        Err(DeviceFault::Device) => Err(DeviceFault::Device),
+    }
+}
 
 /// Its write after so many others fails with this fault, and no other.
 #[derive(Drop)]
@@ -68,7 +82,7 @@ impl Device for Stumbling {
     }
 
     fn read(&mut self, id: u32) -> Result<Vec<u8>, DeviceFault> {
-        self.inner.read(id)
+        read_inner(&mut self.inner, id)
     }
 
     fn forget(&mut self, id: u32) {
