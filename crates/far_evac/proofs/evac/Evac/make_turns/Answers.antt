@@ -1,3 +1,4 @@
+use Rattle.far_hand.proofs.Closure.{no_call, then_came}
 use Rattle.far_evac.proofs.evac.Evac.make_turns.Goals as goal
 use Rattle.std.proofs.Common.{Err, refl, ◌≡◌, ◌∙◌, ◌+◌, true, false, ap, sym, subst, arith}
 use Rattle.far_evac.specs.declared.answers.RoundEnd.{RoundEnd}
@@ -31,6 +32,7 @@ loop-init g c =
       counted = refl;
       spent = λ n most. most;
       honest = refl;
+      came = no_call refl;
     }
 
 pub returns-then-total-clause-asked : goal.returns-then-total-clause-asked
@@ -73,6 +75,7 @@ loop-preserved g c =
       counted = c.in-Ok.ensures.counted ∙ c.loop.invariant.counted;
       spent = λ n most. c.in-Ok.ensures.spent n (c.loop.invariant.spent n most);
       honest = c.turn_more.ensures.honest ∙ c.loop.invariant.honest;
+      came = then_came c.loop.invariant.came c.turn_more.ensures.came;
     }
 
 pub returns-in-Err-clause-counted : goal.returns-in-Err-clause-counted
@@ -121,3 +124,12 @@ returns-in-Err-clause-refused g c =
     asked_stop g.row.D.Denot g.D.Device.writes g.D.Device.lets_go g.D.Device.contents (moment g.N.Near.view c.args.self.now) (moment g.N.Near.view c.loop.self) c.loop.counter (tally_of c.loop.total) c.args.self.now.book.device c.loop.self.book.device c.loop.invariant.made
     c.turn_more.ensures.lawful (moment g.N.Near.view c.turn_more.new.self) stop.0 c.args.turns c.in-Err.fault.so_far c.in-Err.fault.why c.turn_more.new.self.book.device (omega (arith, c.loop-test.true))
     c.in-Err.ensures.leaving stop.1 stop.3 stop.2 stop.4
+
+pub returns-then-total-clause-came : goal.returns-then-total-clause-came
+returns-then-total-clause-came g c = then_came c.loop.invariant.came c.turn_more.ensures.came
+
+pub returns-in-Err-clause-came : goal.returns-in-Err-clause-came
+returns-in-Err-clause-came g c = then_came c.loop.invariant.came c.turn_more.ensures.came
+
+pub returns-then-is_waiting-clause-came : goal.returns-then-is_waiting-clause-came
+returns-then-is_waiting-clause-came g c = then_came c.loop.invariant.came c.turn_more.ensures.came

@@ -1,4 +1,5 @@
 use Rattle.std.proofs.Common.{◌≡◌, ℕ, false}
+use Rattle.far_hand.specs.Came.{Came}
 use Rattle.far_evac.specs.EvacOf.{moment}
 use Rattle.far_evac.specs.Moment.{tally_of}
 use Rattle.far_evac.specs.MomentLaw.{is_idle}
@@ -16,4 +17,5 @@ invariant-loop g l = record {
   counted : g.D.Device.faults l.self.book.device ≡ g.D.Device.faults l.fn.self.book.device;
   spent : (n : ℕ) → g.D.Device.fails_at_most l.fn.self.book.device n → g.D.Device.fails_at_most l.self.book.device n;
   honest : g.D.Device.honest l.self.book.device ≡ g.D.Device.honest l.fn.self.book.device;
+  came : Came g.N.Near.makes l.fn.self.book.near l.self.book.near;
 }

@@ -1,5 +1,6 @@
 use Rattle.std.proofs.Common.{◌≡◌, ◌+◌, ◌∷◌, [], ℕ, List, false, cond, length, IfSome, IfNone}
 use Rattle.far_device.specs.Faults.{SpendsFault}
+use Rattle.far_hand.specs.Came.{Came}
 use Rattle.far_evac.specs.declared.phase.Phase.TheVariants as phase
 use Rattle.far_log.specs.declared.span.Span.{Span}
 use Rattle.far_evac.specs.AnyHand.{WalksTo}
@@ -26,4 +27,5 @@ invariant-loop g l = record {
   asked : WalksAsking g.row.D.Denot g.D.Device.writes g.D.Device.lets_go (moment g.N.Near.view l.fn.self) l.counter (standing g.N.Near.view l.self l.progress) l.fn.self.book.device l.self.book.device;
   keys : KeepsKeys (first_live (moment g.N.Near.view l.fn.self) l.counter) (g.D.Device.contents l.fn.self.book.device) (g.D.Device.contents l.self.book.device);
   honest : g.D.Device.honest l.self.book.device ≡ g.D.Device.honest l.fn.self.book.device;
+  came : Came g.N.Near.makes l.fn.self.book.near l.self.book.near;
 }
