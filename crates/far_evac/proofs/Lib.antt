@@ -16,6 +16,7 @@ pub mod Fronts
 pub mod Given
 pub mod GivingBack
 pub mod Going
+pub mod HandKept
 pub mod Handing
 pub mod Hands
 pub mod InOrder

@@ -4,6 +4,7 @@ ghost use Rattle.std.specs.Prelude.{◌≡◌, ◌*◌, ◌<◌, ◌≤◌, [], 
 ghost use Rattle.std.specs.Vec.{vec_capacity};
 ghost use Rattle.far_word.specs.declared.refused.Refused.TheVariants.{Memory};
 ghost use Rattle.far_word.specs.declared.sizes.TheConstants.{CELLS};
+ghost use Rattle.far_hand.specs.Came.{Came};
 ghost use Rattle.far_book.specs.book.Rows.{row_of};
 ghost use Rattle.far_evac.specs.AnyHand.{Audits, Knows, KnowsMoment};
 ghost use Rattle.far_evac.specs.Census.{has_drop, homes_of, kind_in, kind_named, logs_of};
@@ -42,6 +43,7 @@ impl<N: Near + Drop, D: Device + Drop> Evac<N, D> {
     /// Where each object is that isn't dropped, once, by rising pointers, and what each log is and has, once, by number. Nothing
     /// has moved. Refused [`Refused::Memory`] alone.
     pub fn audit(&mut self) -> Result<Census, Refused>
+        ensures came { Came N.makes self.old.book.near self.new.book.near }
         ensures lists { IfOk result (λ census. Audits (moment N.view self.old) (moment N.view self.new) census.homes.items census.logs.items) }
         ensures each { IfOk result (λ census. ListsEach (moment N.view self.new) census.homes.items census.logs.items) }
         ensures exact { N.still → moment N.view self.new ≡ moment N.view self.old }
@@ -68,6 +70,7 @@ impl<N: Near + Drop, D: Device + Drop> Evac<N, D> {
     fn list_homes(&mut self, homes: &mut Vec<Housed>)
         requires empty { homes.old.items ≡ [] }
         requires room { CELLS * (N.view self.old.book.near).mutators ≤ vec_capacity homes.old }
+        ensures came { Came N.makes self.old.book.near self.new.book.near }
         ensures homes { homes.new.items ≡ homes_of (N.view self.new.book.near) }
         ensures known { Knows (N.view self.old.book.near) (N.view self.new.book.near) }
         ensures rest { self.new ≡ record self.old { book = record self.old.book { near = self.new.book.near } } }

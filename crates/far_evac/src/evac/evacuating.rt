@@ -6,6 +6,7 @@ ghost use Rattle.far_word.specs.declared.refused.Refused.TheVariants.{Device as 
 ghost use Rattle.far_word.specs.declared.sizes.TheConstants.{CELLS};
 ghost use Rattle.far_word.specs.Pointer.{read_of};
 ghost use Rattle.far_core.specs.events.Naming.{is_dropped};
+ghost use Rattle.far_hand.specs.Came.{Came};
 ghost use Rattle.far_hand.specs.Finds.{Finds};
 ghost use Rattle.far_book.specs.book.Asking.{AsksToEvict};
 ghost use Rattle.far_book.specs.book.Dealing.{has_evac, is_failure};
@@ -54,6 +55,7 @@ impl<N: Near + Drop, D: Device + Drop> Evac<N, D> {
     /// [`Refused::Memory`]: far_word::Refused::Memory
     /// [`Refused::Device`]: far_word::Refused::Device
     pub fn evacuate_some(&mut self, n: u64) -> Result<Progress, EvacFault>
+        ensures came { Came N.makes self.old.book.near self.new.book.near }
         ensures walks { IfOk result (λ progress. Evacuates (moment N.view self.old) n (moment N.view self.new) (tally_of progress) progress.done) }
         ensures exact { N.still → IfOk result (λ progress. (moment N.view self.new ≡ ended (walked (moment N.view self.old) n))
             × (progress ≡ progress_of (walked (moment N.view self.old) n).tally (is_done (walked (moment N.view self.old) n)))) }
@@ -99,6 +101,7 @@ impl<N: Near + Drop, D: Device + Drop> Evac<N, D> {
     fn walk(&mut self, n: u64, progress: &mut Progress) -> Result<bool, Refused>
         requires phase { self.old.phase ≡ phase.Evacuating }
         requires begun { progress.old ≡ progress_of nothing false }
+        ensures came { Came N.makes self.old.book.near self.new.book.near }
         ensures walks { IfOk result (λ _. (k : ℕ) × Walks (moment N.view self.old) n k (standing N.view self.new progress.new)) }
         ensures exact { N.still → IfOk result (λ _. standing N.view self.new progress.new ≡ walked (moment N.view self.old) n) }
         ensures ends { IfOk result (λ done. (moment N.view self.new ≡ ended (standing N.view self.new progress.new)) × (done ≡ is_done (standing N.view self.new progress.new))) }
@@ -135,6 +138,7 @@ impl<N: Near + Drop, D: Device + Drop> Evac<N, D> {
     fn settle(&mut self, progress: &mut Progress) -> Option<Span>
         requires phase { self.old.phase ≡ phase.Evacuating }
         requires room { progress.old.freed + length self.old.held < 2 ^ 64 }
+        ensures came { Came N.makes self.old.book.near self.new.book.near }
         ensures known { KnowsWalked (settled (standing N.view self.old progress.old)) (standing N.view self.new progress.new) }
         ensures exact { N.still → standing N.view self.new progress.new ≡ settled (standing N.view self.old progress.old) }
         ensures ends { self.new.phase ≡ cond (is_empty self.new.held) phase.Idle phase.Evacuating }
@@ -180,6 +184,7 @@ impl<N: Near + Drop, D: Device + Drop> Evac<N, D> {
     fn first_in(&mut self, log: u8) -> Option<Span>
         requires phase { self.old.phase ≡ phase.Evacuating }
         requires front { (logs : List ℕ) × (self.old.held ≡ log ∷ logs) }
+        ensures came { Came N.makes self.old.book.near self.new.book.near }
         ensures known { KnowsMoment (moment N.view self.old) (moment N.view self.new) }
         ensures exact { N.still → moment N.view self.new ≡ moment N.view self.old }
         ensures first { IfSome result (λ span. (rest : List ℕ) × (live_in (N.view self.old.book.near) log ≡ span.p ∷ rest)) }
@@ -200,6 +205,7 @@ impl<N: Near + Drop, D: Device + Drop> Evac<N, D> {
         requires phase { self.old.phase ≡ phase.Evacuating }
         requires front { (logs : List ℕ) × (self.old.held ≡ log ∷ logs) }
         requires none { live_in (N.view self.old.book.near) log ≡ [] }
+        ensures came { Came N.makes self.old.book.near self.new.book.near }
         ensures core { Knows (released (N.view self.old.book.near) log) (N.view self.new.book.near) }
         ensures exact { N.still → N.view self.new.book.near ≡ released (N.view self.old.book.near) log }
         ensures order { self.new.book.order ≡ order_without log self.old.book.order }
@@ -223,6 +229,7 @@ impl<N: Near + Drop, D: Device + Drop> Evac<N, D> {
         requires first { (rest : List ℕ) × (left (standing N.view self.old progress.old) ≡ span.p ∷ rest) }
         requires next { IsNextLeaving (N.view self.old.book.near) self.old.held span }
         requires room { objects_in (tally_of progress.old) + 1 < 2 ^ 64 }
+        ensures came { Came N.makes self.old.book.near self.new.book.near }
         ensures dealt { IfOk result (λ _. (word : ℕ) × Finds ((N.view self.old.book.near).cell span.p) word
             × KnowsWalked (dealt_as (standing N.view self.old progress.old) span.p (read_of word)) (standing N.view self.new progress.new)
             × AsksSo D D.writes D.lets_go (N.view self.old.book.near) span.p (way_of (N.view self.old.book.near) (read_of word)) self.old.book.device self.new.book.device) }
@@ -271,6 +278,7 @@ fn send_off<N: Near + Drop, D: Device + Drop>(
     requires pointer { pointer < CELLS * (N.view book.old.near).mutators }
     requires quiet { IsQuietNear (N.view book.old.near) pointer }
     requires evac { has_evac (read_of ((N.view book.old.near).cell pointer)) ≡ true }
+    ensures came { Came N.makes book.old.near book.new.near }
     ensures leaves { IfOk result (λ fate. LeavesBy (N.view book.old.near) book.old.order (N.view book.new.near) book.new.order pointer fate) }
     ensures exact { N.still → IfOk result (λ fate. LeavesAs (N.view book.old.near) book.old.order (N.view book.new.near) book.new.order pointer ((N.view book.old.near).cell pointer) fate) }
     ensures kept { IfErr result (λ _. Knows (N.view book.old.near) (N.view book.new.near)) }
@@ -313,6 +321,7 @@ fn send_far<N: Near + Drop, D: Device + Drop>(
     requires quiet { IsQuietNear (N.view book.old.near) pointer }
     requires evac { has_evac (read_of ((N.view book.old.near).cell pointer)) ≡ true }
     requires alive { is_dropped (read_of ((N.view book.old.near).cell pointer)) ≡ false }
+    ensures came { Came N.makes book.old.near book.new.near }
     ensures goes { IfOk result (λ fate. GoesAway (N.view book.old.near) (N.view book.new.near) pointer fate) }
     ensures exact { N.still → IfOk result (λ fate. (fate ≡ fates.Far) × (N.view book.new.near ≡ evicted (N.view book.old.near) pointer)) }
     ensures kept { IfErr result (λ _. Knows (N.view book.old.near) (N.view book.new.near)) }

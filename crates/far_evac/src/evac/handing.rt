@@ -13,7 +13,7 @@ ghost use Rattle.far_book.specs.book.Renaming.{seen};
 ghost use Rattle.far_core.specs.events.Naming.{is_dropped};
 ghost use Rattle.far_core.specs.state.Room.{room};
 ghost use Rattle.far_core.specs.state.Spans.{spans_of};
-ghost use Rattle.far_core.specs.state.State.{put};
+ghost use Rattle.far_core.specs.state.State.{State, put};
 ghost use Rattle.far_device.specs.Following.{Follows, other_than};
 ghost use Rattle.far_word.specs.Pointer.{read_of};
 ghost use Rattle.far_word.specs.Sizes.{size_of};
@@ -21,6 +21,7 @@ ghost use Rattle.far_word.specs.declared.refused.Refused.TheVariants.{Memory, No
 ghost use Rattle.far_word.specs.declared.sizes.TheConstants.{CELLS, LONGEST};
 ghost use Rattle.std.specs.Prelude.{IfErr, IfNone, IfOk, IfSome, MatchOption, None, Ok, Some, false, true, ℕ, ◌*◌, ◌<◌, ◌↔◌, ◌≡◌, ◌≤◌};
 ghost use Rattle.far_word.specs.declared.refused.Refused.TheVariants as refused;
+ghost use Rattle.far_hand.specs.Came.{Came};
 
 use crate::evac::Evac;
 use far_book::{Book, Home, Near};
@@ -43,6 +44,7 @@ impl<N: Near + Drop, D: Device + Drop> Evac<N, D> {
         requires free { (N.view self.old.book.near).cell pointer ≡ 0 }
         requires some { 0 < len }
         requires most { len ≤ LONGEST }
+        ensures came { Came N.makes self.old.book.near self.new.book.near }
         ensures room { IfOk result (λ place. room (N.view self.old.book.near) (size_of len) true ≡ Some place) }
         ensures kept { IfOk result (λ place. N.view self.new.book.near ≡ record (placed (N.view self.old.book.near) pointer len ds place) { word = (N.view self.new.book.near).word }) }
         ensures forgot { IfOk result (λ place. Forgets (placed (N.view self.old.book.near) pointer len ds place) (N.view self.new.book.near)) }
@@ -68,6 +70,7 @@ impl<N: Near + Drop, D: Device + Drop> Evac<N, D> {
     pub fn move_now(&mut self, pointer: u16) -> Result<Option<Place>, Refused>
         requires pointer { pointer < CELLS * (N.view self.old.book.near).mutators }
         requires quiet { IsQuietNear (N.view self.old.book.near) pointer }
+        ensures came { Came N.makes self.old.book.near self.new.book.near }
         ensures place { IfOk result (λ o. IfSome o (λ place. goal (N.view self.old.book.near) pointer ≡ Some place)) }
         ensures moved { IfOk result (λ o. IfSome o (λ place. Leaves (moved_now (N.view self.old.book.near) pointer place) (N.view self.new.book.near))) }
         ensures order { IfOk result (λ o. MatchOption o (self.new.book.order ≡ self.old.book.order) (λ place. self.new.book.order ≡ order_moved (N.view self.old.book.near) pointer self.old.book.order place)) }
@@ -102,6 +105,7 @@ impl<N: Near + Drop, D: Device + Drop> Evac<N, D> {
     pub fn fetch(&mut self, pointer: u16) -> Result<Option<Place>, Refused>
         requires pointer { pointer < CELLS * (N.view self.old.book.near).mutators }
         requires far { IsFar (N.view self.old.book.near) pointer }
+        ensures came { Came N.makes self.old.book.near self.new.book.near }
         ensures place { IfOk result (λ found. IfSome found (λ place. room_for (N.view self.old.book.near) pointer ≡ Some place)) }
         ensures near { IfOk result (λ found. IfSome found (λ place. IsFetched N.still (D.honest self.old.book.device) (N.view self.old.book.near) (N.view self.new.book.near) pointer place)) }
         ensures gone { IfOk result (λ found. IfNone found (IsRetired N.still (N.view self.old.book.near) (N.view self.new.book.near) pointer)) }
@@ -132,6 +136,7 @@ impl<N: Near + Drop, D: Device + Drop> Evac<N, D> {
     pub fn retire(&mut self, pointer: u16)
         requires pointer { pointer < CELLS * (N.view self.old.book.near).mutators }
         requires dropped { is_dropped (read_of ((N.view self.old.book.near).cell pointer)) ≡ true }
+        ensures came { Came N.makes self.old.book.near self.new.book.near }
         ensures kept { N.view self.new.book.near ≡ record (retired (N.view self.old.book.near) pointer) { word = (N.view self.new.book.near).word } }
         ensures forgot { Forgets (N.view self.old.book.near) (N.view self.new.book.near) }
         ensures exact { N.still → N.view self.new.book.near ≡ retired (N.view self.old.book.near) pointer }
@@ -150,9 +155,12 @@ impl<N: Near + Drop, D: Device + Drop> Evac<N, D> {
     /// Where a pointer's object is, with the marks that its cell has now; `None` exactly where the cell is free.
     pub fn locate(&mut self, pointer: u16) -> Option<Home>
         requires pointer { pointer < CELLS * (N.view self.old.book.near).mutators }
+        ensures came { Came N.makes self.old.book.near self.new.book.near }
         ensures home { result ≡ home_of (read_of ((N.view self.new.book.near).cell pointer)) }
         ensures found { Finds ((N.view self.old.book.near).cell pointer) ((N.view self.new.book.near).cell pointer) }
         ensures free { (result ≡ None) ↔ ((N.view self.old.book.near).cell pointer ≡ 0) }
+        ensures gone { (result ≡ None) ↔ ((N.view self.new.book.near).cell pointer ≡ 0) }
+        ensures saw { ∥ ((x : State) × N.may_be self.new.book.near x × (x.cell pointer ≡ (N.view self.new.book.near).cell pointer)) ∥₁ }
         ensures kept { N.view self.new.book.near ≡ record (N.view self.old.book.near) { cell = put (N.view self.old.book.near).cell pointer ((N.view self.new.book.near).cell pointer) } }
         ensures exact { N.still → N.view self.new.book.near ≡ N.view self.old.book.near }
         ensures order { self.new.book.order ≡ self.old.book.order }
@@ -167,6 +175,7 @@ impl<N: Near + Drop, D: Device + Drop> Evac<N, D> {
     /// The spans of a log, dead ones too, in their order. Refused [`Refused::Memory`] alone.
     pub fn spans(&mut self, log: u8) -> Result<Vec<Span>, Refused>
         requires log { log < (N.view self.old.book.near).logs }
+        ensures came { Came N.makes self.old.book.near self.new.book.near }
         ensures spans { IfOk result (λ spans. spans.items ≡ spans_of (N.view self.old.book.near) log) }
         ensures refused { IfErr result (λ why. why ≡ Memory) }
         ensures kept { N.view self.new.book.near ≡ record (N.view self.old.book.near) { word = (N.view self.new.book.near).word } }

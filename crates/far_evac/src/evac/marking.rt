@@ -5,6 +5,7 @@ ghost use Rattle.far_word.specs.declared.refused.Refused.TheVariants.{Phase as W
 ghost use Rattle.far_word.specs.declared.sizes.TheConstants.{MOST_LOGS};
 ghost use Rattle.far_word.specs.Pointer.{read_of};
 ghost use Rattle.far_core.specs.events.Advance.{is_among};
+ghost use Rattle.far_hand.specs.Came.{Came};
 ghost use Rattle.far_book.specs.book.Dealing.{has_evac};
 ghost use Rattle.far_book.specs.book.NextLive.{IsBoundary};
 ghost use Rattle.far_evac.specs.AnyHand.{GivesUp, Knows, KnowsMoment, MarksSome};
@@ -35,6 +36,7 @@ impl<N: Near + Drop, D: Device + Drop> Evac<N, D> {
     /// Refused [`Refused::Phase`] exactly where the round isn't marking; nothing has changed then. Each object, and each span that is
     /// passed over, is looked at once in a round, beside the one at which a call stops.
     pub fn mark_some(&mut self, n: u64) -> Result<Marked, Refused>
+        ensures came { Came N.makes self.old.book.near self.new.book.near }
         ensures marks { IfOk result (λ marked. MarksSome (moment N.view self.old) (moment N.view self.new) n marked.count marked.waiting) }
         ensures exact { N.still → IfOk result (λ _. moment N.view self.new ≡ after_marking (moment N.view self.old) n) }
         ensures device { self.new.book.device ≡ self.old.book.device }
@@ -63,6 +65,7 @@ impl<N: Near + Drop, D: Device + Drop> Evac<N, D> {
     // Sets EVAC on the first n objects that lack it, or on all, and counts them.
     fn mark_up_to(&mut self, n: u64) -> u64
         requires marking { self.old.phase ≡ phase.Marking }
+        ensures came { Came N.makes self.old.book.near self.new.book.near }
         ensures known { KnowsMoment (record (moment N.view self.old) { core = marked_core (moment N.view self.old) n }) (moment N.view self.new) }
         ensures exact { N.still → moment N.view self.new ≡ record (moment N.view self.old) { core = marked_core (moment N.view self.old) n } }
         ensures device { self.new.book.device ≡ self.old.book.device }
@@ -81,6 +84,7 @@ impl<N: Near + Drop, D: Device + Drop> Evac<N, D> {
     // Sets EVAC on the first object that lacks it; answers whether there is one.
     fn mark_next(&mut self) -> bool
         requires marking { self.old.phase ≡ phase.Marking }
+        ensures came { Came N.makes self.old.book.near self.new.book.near }
         ensures known { KnowsMoment (record (moment N.view self.old) { core = first_marked (N.view self.old.book.near) (lacking (N.view self.old.book.near) self.old.held) }) (moment N.view self.new) }
         ensures exact { N.still → moment N.view self.new ≡ record (moment N.view self.old) { core = first_marked (N.view self.old.book.near) (lacking (N.view self.old.book.near) self.old.held) } }
         ensures device { self.new.book.device ≡ self.old.book.device }
@@ -102,6 +106,7 @@ impl<N: Near + Drop, D: Device + Drop> Evac<N, D> {
     // Whether an object lacks EVAC.
     fn lacks_some(&mut self) -> bool
         requires marking { self.old.phase ≡ phase.Marking }
+        ensures came { Came N.makes self.old.book.near self.new.book.near }
         ensures known { KnowsMoment (moment N.view self.old) (moment N.view self.new) }
         ensures exact { N.still → moment N.view self.new ≡ moment N.view self.old }
         ensures device { self.new.book.device ≡ self.old.book.device }
@@ -119,6 +124,7 @@ impl<N: Near + Drop, D: Device + Drop> Evac<N, D> {
     fn wait(&mut self) -> u64
         requires marking { self.old.phase ≡ phase.Marking }
         requires none { lacking (N.view self.old.book.near) self.old.held ≡ [] }
+        ensures came { Came N.makes self.old.book.near self.new.book.near }
         ensures known { KnowsMoment (record (moment N.view self.old) { core = advanced (N.view self.old.book.near) self.old.held; phase = phase.Waiting }) (moment N.view self.new) }
         ensures exact { N.still → moment N.view self.new ≡ record (moment N.view self.old) { core = advanced (N.view self.old.book.near) self.old.held; phase = phase.Waiting } }
         ensures device { self.new.book.device ≡ self.old.book.device }
@@ -141,6 +147,7 @@ impl<N: Near + Drop, D: Device + Drop> Evac<N, D> {
     ///
     /// Refused [`Refused::Phase`] exactly where no round is running; nothing has changed then.
     pub fn abort(&mut self) -> Result<(), Refused>
+        ensures came { Came N.makes self.old.book.near self.new.book.near }
         ensures gives_up { IfOk result (λ _. GivesUp (moment N.view self.old) (moment N.view self.new)) }
         ensures exact { N.still → IfOk result (λ _. moment N.view self.new ≡ after_aborting (moment N.view self.old)) }
         ensures device { self.new.book.device ≡ self.old.book.device }
@@ -173,6 +180,7 @@ fn seek<N: Near + Drop, D: Device + Drop>(
 ) -> (Cursor, Option<Span>)
     requires stands { InRound (N.view book.old.near) round.now }
     requires marking { round.now.phase ≡ phase.Marking }
+    ensures came { Came N.makes book.old.near book.new.near }
     ensures stands { InRound (N.view book.new.near) (standing_at round.now result.0) }
     ensures next { IfSome result.1 (λ span. StandsAt (N.view book.new.near) (standing_at round.now result.0) span) }
     ensures none { IfNone result.1 (result.0.index ≡ length round.now.chosen) }
@@ -205,6 +213,7 @@ fn next_unmarked<N: Near + Drop, D: Device + Drop>(
     requires log { log < (N.view book.old.near).logs }
     requires begins { IsBoundary (N.view book.old.near) log at }
     requires before { MarkedBefore (N.view book.old.near) log at }
+    ensures came { Came N.makes book.old.near book.new.near }
     ensures next { IfSome result (λ span. IsNextLacking (N.view book.new.near) log span) }
     ensures none { IfNone result (AllMarked (N.view book.new.near) log) }
     ensures known { Knows (N.view book.old.near) (N.view book.new.near) }
@@ -257,6 +266,7 @@ fn unmark_logs<N: Near + Drop, D: Device + Drop>(
 )
     requires first { first ≤ length chosen.now }
     requires logs { (l : ℕ) → among (drop first chosen.now) l ≡ true → l < (N.view book.old.near).logs }
+    ensures came { Came N.makes book.old.near book.new.near }
     ensures known { Knows (fold unmarked (N.view book.old.near) (live_among (N.view book.old.near) (drop first chosen.now))) (N.view book.new.near) }
     ensures exact { N.still → N.view book.new.near ≡ fold unmarked (N.view book.old.near) (live_among (N.view book.old.near) (drop first chosen.now)) }
     ensures order { book.new.order ≡ book.old.order }
@@ -272,6 +282,7 @@ fn unmark_logs<N: Near + Drop, D: Device + Drop>(
 // Takes EVAC from the live objects of a log.
 fn unmark_log<N: Near + Drop, D: Device + Drop>(book: &mut Book<N, D>, log: u8)
     requires log { log < (N.view book.old.near).logs }
+    ensures came { Came N.makes book.old.near book.new.near }
     ensures known { Knows (fold unmarked (N.view book.old.near) (live_in (N.view book.old.near) log)) (N.view book.new.near) }
     ensures exact { N.still → N.view book.new.near ≡ fold unmarked (N.view book.old.near) (live_in (N.view book.old.near) log) }
     ensures order { book.new.order ≡ book.old.order }

@@ -4,6 +4,7 @@ ghost use Rattle.std.specs.Prelude.{◌≡◌, ◌⊎◌, Some, None, Ok, Err, I
 ghost use Rattle.far_policy.specs.Choice.{IsBadChoice, IsChoice};
 ghost use Rattle.far_word.specs.declared.refused.Refused.{Refused as why_refused};
 ghost use Rattle.far_word.specs.declared.refused.Refused.TheVariants.{Memory};
+ghost use Rattle.far_hand.specs.Came.{Came};
 ghost use Rattle.far_book.specs.book.Rows.{row_of};
 ghost use Rattle.far_evac.specs.Choosing.{after_selecting};
 ghost use Rattle.far_evac.specs.EvacOf.{moment};
@@ -24,6 +25,7 @@ impl<N: Near + Drop, D: Device + Drop> Evac<N, D> {
     /// Refused, in this order, [`Refused::Phase`] where a round is running; [`Refused::EpochsSpent`] where there is no later epoch;
     /// [`Refused::Memory`]; and what the policy refuses, which is [`Refused::BadChoice`]. Nothing has changed then but the policy.
     pub fn select<P: Policy>(&mut self, policy: &mut P, most: usize) -> Result<Chosen, Refused>
+        ensures came { Came N.makes self.old.book.near self.new.book.near }
         ensures begun { IfOk result (λ chosen. moment N.view self.new ≡ after_selecting (moment N.view self.old) chosen) }
         ensures gives { IfOk result (λ chosen. P.gives policy.old (map (row_of (N.view self.old.book.near)) self.old.book.order) most (Ok chosen) policy.new) }
         ensures chosen { IfOk result (λ chosen. IsChoice (map (row_of (N.view self.old.book.near)) self.old.book.order) most chosen) }

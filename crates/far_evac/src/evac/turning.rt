@@ -6,6 +6,7 @@ ghost use Rattle.far_device.specs.Following.{Follows, none_of};
 ghost use Rattle.far_policy.specs.Choice.{IsBadChoice, IsChoice};
 ghost use Rattle.far_word.specs.declared.refused.Refused.{Refused as why_refused};
 ghost use Rattle.far_word.specs.declared.refused.Refused.TheVariants.{Device as Failed, Memory, Phase as WrongPhase};
+ghost use Rattle.far_hand.specs.Came.{Came};
 ghost use Rattle.far_evac.specs.AnyHand.{TurnsTo, StopsAt};
 ghost use Rattle.far_evac.specs.Asked.{AsksInTurn, IsRefusedWrite, KeepsKeys, asked_of, first_live};
 ghost use Rattle.far_evac.specs.Choosing.{after_selecting};
@@ -35,6 +36,7 @@ impl<N: Near + Drop, D: Device + Drop> Evac<N, D> {
     ///
     /// [`Refused::Phase`]: far_word::Refused::Phase
     pub fn turn(&mut self) -> Result<Progress, EvacFault>
+        ensures came { Came N.makes self.old.book.near self.new.book.near }
         ensures turns { IfOk result (λ progress. TurnsTo (moment N.view self.old) self.old.phase (tally_of progress) progress.done (moment N.view self.new)) }
         ensures exact { N.still → IfOk result (λ progress. turned (begun_turns (moment N.view self.old)) self.old.phase ≡ record { moment = moment N.view self.new; tally = tally_of progress; over = progress.done }) }
         ensures running { IfOk result (λ _. self.old.phase ≢ phase.Idle) }
@@ -82,6 +84,7 @@ impl<N: Near + Drop, D: Device + Drop> Evac<N, D> {
         most: usize,
         turns: u64,
     ) -> Result<RoundEnd, EvacFault>
+        ensures came { Came N.makes self.old.book.near self.new.book.near }
         ensures runs { IfOk result (λ end. (logs : List ℕ) × P.gives policy.old (map (row_of (N.view self.old.book.near)) self.old.book.order) most (Ok logs) policy.new
             × IsChoice (map (row_of (N.view self.old.book.near)) self.old.book.order) most logs × (N.still → IsRound (moment N.view self.old) logs turns end (moment N.view self.new))
             × RoundAsking D D.writes D.lets_go D.contents (moment N.view self.old) logs turns false end (moment N.view self.new) self.old.book.device self.new.book.device) }
@@ -114,6 +117,7 @@ impl<N: Near + Drop, D: Device + Drop> Evac<N, D> {
     // last: no other would change anything.
     pub(super) fn make_turns(&mut self, turns: u64, alone: bool) -> Result<RoundEnd, EvacFault>
         requires running { is_idle self.old.phase ≡ false }
+        ensures came { Came N.makes self.old.book.near self.new.book.near }
         ensures exact { N.still → IfOk result (λ end. (end ≡ round_end (turns_made (moment N.view self.old) turns)) × (moment N.view self.new ≡ (turns_made (moment N.view self.old) turns).moment)) }
         ensures halts { N.still → IfErr result (λ fault. HaltsTurns (moment N.view self.old) turns fault.so_far (moment N.view self.new)) }
         ensures why { IfErr result (λ fault. (fault.why ≡ Memory) ⊎ (fault.why ≡ Failed)) }
@@ -150,6 +154,7 @@ impl<N: Near + Drop, D: Device + Drop> Evac<N, D> {
     fn turn_more(&mut self, before: Progress) -> Result<Progress, EvacFault>
         requires running { is_idle self.old.phase ≡ false }
         requires within { IsWithin (moment N.view self.old) (tally_of before) }
+        ensures came { Came N.makes self.old.book.near self.new.book.near }
         ensures turns { IfOk result (λ total. (tally : Tally) × TurnsTo (moment N.view self.old) self.old.phase tally total.done (moment N.view self.new) × (tally_of total ≡ plus (tally_of before) tally)
             × AsksInTurn D D.writes D.lets_go (moment N.view self.old) self.old.phase (moment N.view self.new) tally self.old.book.device self.new.book.device
             × KeepsKeys (first_live (moment N.view self.old) (objects_in tally)) (D.contents self.old.book.device) (D.contents self.new.book.device)) }

@@ -1,4 +1,5 @@
 use Rattle.std.proofs.Common.{sym, ◌∙◌, arith}
+use Rattle.far_hand.proofs.Closure.{then_came}
 use Rattle.far_evac.proofs.Auditing.{found_more, listed_dropped, listed_none, listed_one, same_but_near}
 use Rattle.far_evac.proofs.evac.Evac.list_homes.Goals as goal
 
@@ -18,6 +19,7 @@ loop-pointer-preserved-in_default g c =
       known = found_more s t p items done.kept h.homes (g.N.Near.view c.args.self.now.book.near) done.found h.known;
       rest = same_but_near c.args.self.now c.loop-pointer.self c.locate.new.self h.rest done.order done.device done.round;
       exact = λ still. done.exact still ∙ h.exact still;
+      came = then_came h.came done.came;
     }
 
 pub loop-pointer-preserved-then-has_drop : goal.loop-pointer-preserved-then-has_drop
@@ -36,6 +38,7 @@ loop-pointer-preserved-then-has_drop g c =
       known = found_more s t p items done.kept h.homes (g.N.Near.view c.args.self.now.book.near) done.found h.known;
       rest = same_but_near c.args.self.now c.loop-pointer.self c.locate.new.self h.rest done.order done.device done.round;
       exact = λ still. done.exact still ∙ h.exact still;
+      came = then_came h.came done.came;
     }
 
 pub loop-pointer-preserved : goal.loop-pointer-preserved
@@ -54,4 +57,5 @@ loop-pointer-preserved g c =
       known = found_more s t p items done.kept h.homes (g.N.Near.view c.args.self.now.book.near) done.found h.known;
       rest = same_but_near c.args.self.now c.loop-pointer.self c.locate.new.self h.rest done.order done.device done.round;
       exact = λ still. done.exact still ∙ h.exact still;
+      came = then_came h.came done.came;
     }

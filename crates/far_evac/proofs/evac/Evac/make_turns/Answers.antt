@@ -1,3 +1,4 @@
+use Rattle.far_hand.proofs.Closure.{no_call, then_came}
 use Rattle.far_evac.proofs.evac.Evac.make_turns.Goals as goal
 use Rattle.std.proofs.Common.{Err, ◌≡◌, ◌∙◌, ◌+◌, true, false, ap, sym, subst, arith}
 use Rattle.far_evac.specs.declared.answers.RoundEnd.{RoundEnd}
@@ -30,6 +31,7 @@ loop-init g c =
       within = subst (IsWithin m) (sym none) (starts_within m c.keeps_law.ensures.law c.keeps_law.ensures.moment);
       runs = c.requires.running;
       follows = follows_itself g.D.Device.contents g.D.Device.honest g.D.Device.faults g.D.Device.fails_at_most no_key c.args.self.now.book.device;
+      came = no_call refl;
     }
 
 pub returns-then-total-clause-asked : goal.returns-then-total-clause-asked
@@ -70,6 +72,7 @@ loop-preserved g c =
       within = goes.0;
       runs = goes.1;
       follows = follows_on g.D.Device.contents g.D.Device.honest g.D.Device.faults g.D.Device.fails_at_most no_key false c.args.self.now.book.device c.loop.self.book.device c.turn_more.new.self.book.device c.loop.invariant.follows c.in-Ok.ensures.follows;
+      came = then_came c.loop.invariant.came c.turn_more.ensures.came;
     }
 
 pub returns-in-Err-clause-follows : goal.returns-in-Err-clause-follows
@@ -112,3 +115,12 @@ returns-in-Err-clause-refused g c =
     asked_stop g.row.D.Denot g.D.Device.writes g.D.Device.lets_go g.D.Device.contents (moment g.N.Near.view c.args.self.now) (moment g.N.Near.view c.loop.self) c.loop.counter (tally_of c.loop.total) c.args.self.now.book.device c.loop.self.book.device c.loop.invariant.made
     c.turn_more.ensures.lawful (moment g.N.Near.view c.turn_more.new.self) stop.0 c.args.turns c.in-Err.fault.so_far c.in-Err.fault.why c.turn_more.new.self.book.device (omega (arith, c.loop-test.true))
     c.in-Err.ensures.leaving stop.1 stop.3 stop.2 stop.4
+
+pub returns-then-total-clause-came : goal.returns-then-total-clause-came
+returns-then-total-clause-came g c = then_came c.loop.invariant.came c.turn_more.ensures.came
+
+pub returns-in-Err-clause-came : goal.returns-in-Err-clause-came
+returns-in-Err-clause-came g c = then_came c.loop.invariant.came c.turn_more.ensures.came
+
+pub returns-then-is_waiting-clause-came : goal.returns-then-is_waiting-clause-came
+returns-then-is_waiting-clause-came g c = then_came c.loop.invariant.came c.turn_more.ensures.came

@@ -1,6 +1,7 @@
 use Rattle.std.proofs.Common.{◌≡◌, false}
 use Rattle.far_device.specs.Following.{Follows}
 use Rattle.far_evac.specs.Failing.{no_key}
+use Rattle.far_hand.specs.Came.{Came}
 use Rattle.far_evac.specs.EvacOf.{moment}
 use Rattle.far_evac.specs.Moment.{tally_of}
 use Rattle.far_evac.specs.MomentLaw.{is_idle}
@@ -16,4 +17,5 @@ invariant-loop g l = record {
   within : IsWithin (moment g.N.Near.view l.self) (tally_of l.total);
   runs : is_idle l.self.phase ≡ false;
   follows : Follows g.D.Device.contents g.D.Device.honest g.D.Device.faults g.D.Device.fails_at_most no_key false l.fn.self.book.device l.self.book.device;
+  came : Came g.N.Near.makes l.fn.self.book.near l.self.book.near;
 }

@@ -1,6 +1,8 @@
 use Rattle.std.proofs.Common.{◌≡◌, ◌∙◌, ap, sym, refl, subst, true, false, not, length, IfSome, IfNone}
 use Rattle.far_log.specs.declared.span.Span.{Span}
 use Rattle.far_core.specs.state.State.{State}
+use Rattle.far_evac.proofs.HandKept.{since_evac}
+use Rattle.far_hand.proofs.Closure.{then_came}
 use Rattle.far_evac.specs.AnyHand.{KnowsMoment}
 use Rattle.far_evac.specs.Cursor.{StandsAt, first_marked, standing_at}
 use Rattle.far_evac.specs.EvacOf.{EvacOf, moment}
@@ -134,3 +136,6 @@ returns-clause-found g c =
     let stands = subst (λ o. IfSome o (λ (span : Span). StandsAt t next span)) c.in-Some.is e.next in
     subst (λ (v : EvacOf g.row.N.Denot g.row.D.Denot). true ≡ not (is_empty (lacking (g.N.Near.view v.book.near) v.held))) c.self.view_is
     (some_shown s t r next e.stands marks refl e.known c.keeps_law-2.ensures.law c.in-Some.span stands)
+
+pub returns-clause-came : goal.returns-clause-came
+returns-clause-came g c = since_evac c.self.view_is (then_came c.seek-next.ensures.came c.mark.ensures.came)

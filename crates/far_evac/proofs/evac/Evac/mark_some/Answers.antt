@@ -1,4 +1,5 @@
 use Rattle.std.proofs.Common.{◌∙◌, sym}
+use Rattle.far_hand.proofs.Closure.{then_came}
 use Rattle.far_evac.specs.EvacOf.{moment}
 use Rattle.far_evac.proofs.MarkRuns.{marks_every, marks_every_exactly, marks_some, marks_some_exactly, none_then}
 use Rattle.far_evac.proofs.evac.Evac.mark_some.Goals as goal
@@ -38,3 +39,9 @@ returns-clause-exact g c still =
     marks_every_exactly (moment g.N.Near.view c.args.self.now) c.keeps_law.ensures.moment.held_once (λ q. (c.keeps_law.ensures.law.cells.cell_read q).0) c.args.n
     (moment g.N.Near.view c.mark_up_to-count.new.self) (moment g.N.Near.view c.lacks_some.new.self) n.known c.lacks_some.ensures.known
     (sym c.if-lacks_some.false ∙ c.lacks_some.ensures.found) (moment g.N.Near.view c.wait-epoch.new.self) (n.exact still) (c.lacks_some.ensures.exact still) (c.wait-epoch.ensures.exact still)
+
+pub returns-then-lacks_some-clause-came : goal.returns-then-lacks_some-clause-came
+returns-then-lacks_some-clause-came g c = then_came c.mark_up_to-count.ensures.came c.lacks_some.ensures.came
+
+pub returns-clause-came : goal.returns-clause-came
+returns-clause-came g c = then_came (then_came c.mark_up_to-count.ensures.came c.lacks_some.ensures.came) c.wait-epoch.ensures.came

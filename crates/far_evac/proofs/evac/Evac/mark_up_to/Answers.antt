@@ -1,4 +1,5 @@
 use Rattle.std.proofs.Common.{ℕ, ◌∙◌, sym, subst}
+use Rattle.far_hand.proofs.Closure.{then_came}
 use Rattle.far_evac.specs.AnyHand.{KnowsMoment}
 use Rattle.far_evac.specs.EvacOf.{moment}
 use Rattle.far_evac.specs.Moment.{Moment}
@@ -49,5 +50,9 @@ loop-i-preserved g c =
       known = run_known m once fits c.loop-i.i a h.known (λ (q : ℕ). (c.keeps_law-in-loop-i.ensures.law.cells.cell_read q).0) b c.mark_next.ensures.known;
       exact = λ still. run_exact m once fits c.loop-i.i a h.known b (h.exact still) (c.mark_next.ensures.exact still);
       device = c.mark_next.ensures.device ∙ h.device;
+      came = then_came h.came c.mark_next.ensures.came;
       enough = more_here m once fits c.loop-i.i a h.known (sym c.if-not-mark_next.false ∙ c.mark_next.ensures.found);
     }
+
+pub returns-then-not-mark_next-clause-came : goal.returns-then-not-mark_next-clause-came
+returns-then-not-mark_next-clause-came g c = then_came c.loop-i.invariant.came c.mark_next.ensures.came

@@ -1,4 +1,5 @@
 use Rattle.std.proofs.Common.{◌≡◌, ◌≤◌, length}
+use Rattle.far_hand.specs.Came.{Came}
 use Rattle.far_evac.specs.AnyHand.{KnowsMoment}
 use Rattle.far_evac.specs.EvacOf.{moment}
 use Rattle.far_evac.specs.Live.{lacking}
@@ -11,4 +12,5 @@ invariant-loop-i g l = record {
   exact : g.N.Near.still → moment g.N.Near.view l.self ≡ record (moment g.N.Near.view l.fn.self) { core = marked_core (moment g.N.Near.view l.fn.self) l.i };
   device : l.self.book.device ≡ l.fn.self.book.device;
   enough : l.i ≤ length (lacking (g.N.Near.view l.fn.self.book.near) l.fn.self.held);
+  came : Came g.N.Near.makes l.fn.self.book.near l.self.book.near;
 }

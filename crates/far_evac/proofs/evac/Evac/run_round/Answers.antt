@@ -1,4 +1,5 @@
 use Rattle.std.proofs.Common.{IfErr, inr, subst}
+use Rattle.far_hand.proofs.Closure.{then_came}
 use Rattle.far_evac.specs.Choosing.{after_selecting}
 use Rattle.far_evac.specs.EvacOf.{moment}
 use Rattle.far_evac.specs.Moment.{Moment}
@@ -16,3 +17,6 @@ returns-clause-refused g c none =
     let asked = subst (asks first) c.select.ensures.device (subst (λ (m : Moment). asks m c.select.new.self.book.device) c.in-Ok.ensures.begun c.make_turns.ensures.refused) in
     let halts = err_given g.N.Near.still (λ (fault : EvacFault). HaltsTurns first c.args.turns fault.so_far (moment g.N.Near.view c.make_turns.new.self)) c.make_turns.result (λ still. subst (λ (m : Moment). IfErr c.make_turns.result (λ (fault : EvacFault). HaltsTurns m c.args.turns fault.so_far (moment g.N.Near.view c.make_turns.new.self))) c.in-Ok.ensures.begun (c.make_turns.ensures.halts still)) in
     err_all c.make_turns.result (λ fault halt why ask. inr (c.in-Ok.logs, c.in-Ok.ensures.gives, why, halt, ask)) halts c.make_turns.ensures.why asked
+
+pub returns-clause-came : goal.returns-clause-came
+returns-clause-came g c = then_came c.select.ensures.came c.make_turns.ensures.came

@@ -1,4 +1,5 @@
 use Rattle.std.proofs.Common.{◌+◌, ◌∙◌, cond, length, arith, ap, sym, refl, subst}
+use Rattle.far_hand.proofs.Closure.{no_call, then_came}
 use Rattle.far_evac.specs.declared.answers.Progress.{Progress}
 use Rattle.far_evac.specs.declared.phase.Phase.TheVariants as phase
 use Rattle.far_evac.specs.AnyHand.{KnowsWalked}
@@ -19,6 +20,7 @@ loop-log-init g c = record {
   freed = refl;
   done = refl;
   device = refl;
+  came = no_call refl;
 }
 
 pub returns-in-Some-first_in-clause-first : goal.returns-in-Some-first_in-clause-first
@@ -56,6 +58,7 @@ loop-log-preserved g c =
       freed = omega (arith, long, before.freed);
       done = before.done;
       device = c.give_back.ensures.device ∙ c.first_in.ensures.device ∙ before.device;
+      came = then_came (then_came before.came c.first_in.ensures.came) c.give_back.ensures.came;
     }
 
 pub returns-in-Some-first_in-clause-known : goal.returns-in-Some-first_in-clause-known
@@ -68,3 +71,6 @@ returns-in-Some-first_in-clause-known g c =
     walked_known_more (settled (standing view c.args.self.now c.args.progress.now)) (settled w) t c.loop-log.invariant.known
     (subst (λ (x : Walked). KnowsWalked x t) (sym (front_stays w c.in-Some.log some.0 some.1 c.in-Some-first_in.span.p first.0 first.1))
     (standing_known view c.loop-log.self c.first_in.new.self c.loop-log.progress c.first_in.ensures.known))
+
+pub returns-in-Some-first_in-clause-came : goal.returns-in-Some-first_in-clause-came
+returns-in-Some-first_in-clause-came g c = then_came c.loop-log.invariant.came c.first_in.ensures.came

@@ -1,4 +1,5 @@
 use Rattle.std.proofs.Common.{◌≡◌, ◌+◌, cond, length}
+use Rattle.far_hand.specs.Came.{Came}
 use Rattle.far_evac.specs.declared.phase.Phase.TheVariants as phase
 use Rattle.far_evac.specs.AnyHand.{KnowsWalked}
 use Rattle.far_evac.specs.Leaving.{standing}
@@ -14,6 +15,7 @@ invariant-loop-log g l = record {
   freed : l.progress.freed + length l.self.held ≡ l.fn.progress.freed + length l.fn.self.held;
   done : l.progress.done ≡ l.fn.progress.done;
   device : l.self.book.device ≡ l.fn.self.book.device;
+  came : Came g.N.Near.makes l.fn.self.book.near l.self.book.near;
 }
 
 abbrev pub decreases-loop-log : goal.decreases-loop-log

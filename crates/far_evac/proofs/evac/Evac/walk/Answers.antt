@@ -1,5 +1,6 @@
 use Rattle.std.proofs.Common.{◌≡◌, ◌+◌, ◌<◌, ◌∙◌, ◌∷◌, [], ℕ, List, cond, IfSome, IfNone, length, arith, ap, sym, subst}
 use Rattle.far_log.specs.declared.span.Span.{Span}
+use Rattle.far_hand.proofs.Closure.{then_came}
 use Rattle.far_evac.specs.declared.answers.Progress.{Progress}
 use Rattle.far_evac.specs.declared.phase.Phase.{Phase}
 use Rattle.far_evac.specs.declared.phase.Phase.TheVariants as phase
@@ -63,6 +64,7 @@ loop-preserved g c =
       done = then.done ∙ did.rest.1 ∙ before.done;
       asked = subst (λ (d : g.row.D.Denot). WalksAsking g.row.D.Denot g.D.Device.writes g.D.Device.lets_go m (c.loop.counter + 1) t old d) (sym then.device) asked;
       follows = subst (λ (d : g.row.D.Denot). Follows g.D.Device.contents g.D.Device.honest g.D.Device.faults g.D.Device.fails_at_most (none_of (first_live m (c.loop.counter + 1))) false old d) (sym then.device) follows;
+      came = then_came (then_came before.came c.deal.ensures.came) then.came;
     }
 
 pub returns-in_default-clause-asked : goal.returns-in_default-clause-asked
@@ -139,3 +141,6 @@ pub returns-in-Err-clause-bounded : goal.returns-in-Err-clause-bounded
 returns-in-Err-clause-bounded g c =
     subst (λ (q : Progress). IsBounded (tally_of q)) (sym c.in-Err.ensures.uncounted)
     (walk_counts (moment g.N.Near.view c.args.self.now) c.keeps_law.ensures.law c.keeps_law.ensures.moment c.requires.phase c.loop.counter (standing g.N.Near.view c.loop.self c.loop.progress) c.loop.invariant.walks)
+
+pub returns-in-Err-clause-came : goal.returns-in-Err-clause-came
+returns-in-Err-clause-came g c = then_came c.loop.invariant.came c.deal.ensures.came

@@ -1,5 +1,6 @@
 use Rattle.std.proofs.Common.{◌≡◌, ◌+◌, ◌∷◌, [], ℕ, List, false, cond, length, IfSome, IfNone}
 use Rattle.far_device.specs.Following.{Follows, none_of}
+use Rattle.far_hand.specs.Came.{Came}
 use Rattle.far_evac.specs.declared.phase.Phase.TheVariants as phase
 use Rattle.far_log.specs.declared.span.Span.{Span}
 use Rattle.far_evac.specs.AnyHand.{WalksTo}
@@ -23,4 +24,5 @@ invariant-loop g l = record {
   done : l.progress.done ≡ false;
   asked : WalksAsking g.row.D.Denot g.D.Device.writes g.D.Device.lets_go (moment g.N.Near.view l.fn.self) l.counter (standing g.N.Near.view l.self l.progress) l.fn.self.book.device l.self.book.device;
   follows : Follows g.D.Device.contents g.D.Device.honest g.D.Device.faults g.D.Device.fails_at_most (none_of (first_live (moment g.N.Near.view l.fn.self) l.counter)) false l.fn.self.book.device l.self.book.device;
+  came : Came g.N.Near.makes l.fn.self.book.near l.self.book.near;
 }

@@ -1,6 +1,7 @@
 use Rattle.std.proofs.Common.{◌∙◌, None, ap, sym, subst}
 use Rattle.far_book.specs.book.BookOf.{BookOf}
 use Rattle.far_core.specs.state.State.{State}
+use Rattle.far_hand.proofs.Closure.{then_came}
 use Rattle.far_evac.specs.Leaving.{AsksAs, LeavesBy, near_fate}
 use Rattle.far_evac.proofs.Asking.{asked_before, asked_there, finds_seen, finds_then, refused_before}
 use Rattle.far_evac.proofs.Hands.{knows_more}
@@ -96,3 +97,12 @@ returns-in-Err-clause-refused g c =
     let same = ap (λ (b : BookOf g.row.N.Denot g.row.D.Denot). b.device) missed.kept ∙ c.see.ensures.device in
     err_map c.send_far-in-Err.result (λ why asks. refused_before g.row.D.Denot g.D.Device.writes g.D.Device.lets_go s v c.args.pointer (finds_then s u v c.args.pointer c.see.result c.see.ensures.found c.see.ensures.kept missed.seen)
     (missed.words ∙ ap (λ (x : State). x.word) c.see.ensures.kept) c.args.book.now.device c.move_now-answer.new.self.device same why c.send_far-in-Err.new.book.device asks) c.send_far-in-Err.ensures.refused
+
+pub returns-then-not-goes_near-clause-came : goal.returns-then-not-goes_near-clause-came
+returns-then-not-goes_near-clause-came g c = then_came c.see.ensures.came c.send_far.ensures.came
+
+pub returns-in-Ok-clause-came : goal.returns-in-Ok-clause-came
+returns-in-Ok-clause-came g c = then_came c.see.ensures.came c.move_now-answer.ensures.came
+
+pub returns-in-Err-clause-came : goal.returns-in-Err-clause-came
+returns-in-Err-clause-came g c = then_came (then_came c.see.ensures.came c.move_now-answer.ensures.came) c.send_far-in-Err.ensures.came

@@ -1,5 +1,6 @@
 use Rattle.std.proofs.Common.{◌+◌, ◌∙◌, sym, subst, arith}
 use Rattle.far_book.specs.book.NextLive.{IsBoundary}
+use Rattle.far_hand.proofs.Closure.{then_came}
 use Rattle.far_evac.specs.Standing.{MarkedBefore}
 use Rattle.far_evac.proofs.Fronts.{knows_cells}
 use Rattle.far_evac.proofs.Hands.{knows_more}
@@ -47,6 +48,7 @@ loop-span-preserved g c =
       before = subst (λ size. MarkedBefore u c.args.log (c.in-Some.span.at + size)) (sym c.size_of.ensures) passes;
       order = c.see-cell.ensures.order ∙ e.order ∙ h.order;
       device = c.see-cell.ensures.device ∙ e.device ∙ h.device;
+      came = then_came (then_came h.came c.next_live.ensures.came) c.see-cell.ensures.came;
     }
 
 pub returns-clause-none : goal.returns-clause-none
@@ -64,3 +66,9 @@ returns-clause-known g c =
     let s = g.N.Near.view c.loop-span.book.near in
     let t = g.N.Near.view c.next_live.new.self.near in
     knows_more (g.N.Near.view c.args.book.now.near) s t c.loop-span.invariant.known (knows_cells s t e.found e.kept)
+
+pub returns-then-not-has_evac-clause-came : goal.returns-then-not-has_evac-clause-came
+returns-then-not-has_evac-clause-came g c = then_came (then_came c.loop-span.invariant.came c.next_live.ensures.came) c.see-cell.ensures.came
+
+pub returns-clause-came : goal.returns-clause-came
+returns-clause-came g c = then_came c.loop-span.invariant.came c.next_live.ensures.came

@@ -1,5 +1,6 @@
 use Rattle.std.proofs.Common.{◌≡◌, ◌-◌}
 use Rattle.far_word.specs.declared.sizes.TheConstants.{LOG_WORDS}
+use Rattle.far_hand.specs.Came.{Came}
 use Rattle.far_evac.specs.AnyHand.{Knows}
 use Rattle.far_book.specs.book.NextLive.{IsBoundary}
 use Rattle.far_evac.specs.Standing.{MarkedBefore}
@@ -13,6 +14,7 @@ invariant-loop-span g l = record {
   before : MarkedBefore (g.N.Near.view l.book.near) l.log l.from;
   order : l.book.order ≡ l.fn.book.order;
   device : l.book.device ≡ l.fn.book.device;
+  came : Came g.N.Near.makes l.fn.book.near l.book.near;
 }
 
 abbrev pub decreases-loop-span : goal.decreases-loop-span

@@ -1,4 +1,5 @@
 use Rattle.std.proofs.Common.{◌∙◌, ◌+◌, drop, slice_index_or, refl}
+use Rattle.far_hand.proofs.Closure.{then_came}
 use Rattle.far_evac.proofs.Hands.{knows_more}
 use Rattle.far_evac.proofs.Keeping.{round_found}
 use Rattle.far_evac.proofs.Onward.{front_begins, front_inside, front_is, front_marked, moved_on, next_log}
@@ -59,4 +60,8 @@ loop-index-preserved g c =
       stands = next_log t r (round_found s t r h.stands e.known) c.requires.marking _ _ front (λ k. boundary_known s t e.known k 0 (at_start s c.keeps_law.ensures.law k)) e.none;
       order = e.order ∙ h.order;
       device = e.device ∙ h.device;
+      came = then_came h.came e.came;
     }
+
+pub returns-in-Some-clause-came : goal.returns-in-Some-clause-came
+returns-in-Some-clause-came g c = then_came c.loop-index.invariant.came c.next_unmarked.ensures.came

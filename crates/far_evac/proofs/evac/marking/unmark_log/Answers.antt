@@ -1,6 +1,7 @@
 use Rattle.std.proofs.Common.{◌∙◌, ◌+◌, ◌<◌, ◌++◌, ◌∷◌, [], ap, sym, subst, arith, refl}
 use Rattle.std.specs.Prelude.{fold}
 use Rattle.far_book.specs.book.NextLive.{IsBoundary, live_from}
+use Rattle.far_hand.proofs.Closure.{no_call, then_came}
 use Rattle.far_evac.specs.AnyHand.{Knows}
 use Rattle.far_evac.specs.Live.{pointers_of}
 use Rattle.far_evac.specs.RoundSteps.{unmarked}
@@ -25,6 +26,7 @@ loop-span-init g c =
       law = law;
       order = refl;
       device = refl;
+      came = no_call refl;
     }
 
 pub next_live-requires-clause-log : goal.next_live-requires-clause-log
@@ -65,6 +67,7 @@ loop-span-preserved g c =
       law = last;
       order = k.order ∙ e.order ∙ h.order;
       device = k.device ∙ e.device ∙ h.device;
+      came = then_came (then_came h.came c.next_live.ensures.came) k.came;
     }
 
 pub returns-clause-known : goal.returns-clause-known
@@ -85,3 +88,6 @@ returns-clause-exact g c still =
     let h = c.loop-span.invariant in
     let e = c.in_default.ensures in
     e.exact still ∙ h.exact still ∙ ap (fold unmarked start) (sym (all_done start s t c.args.log c.loop-span.from h.done h.parts e.none))
+
+pub returns-clause-came : goal.returns-clause-came
+returns-clause-came g c = then_came c.loop-span.invariant.came c.next_live.ensures.came

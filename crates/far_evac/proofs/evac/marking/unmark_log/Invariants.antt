@@ -3,6 +3,7 @@ use Rattle.std.specs.Prelude.{fold}
 use Rattle.far_word.specs.declared.sizes.TheConstants.{LOG_WORDS}
 use Rattle.far_core.specs.state.Law.{Law}
 use Rattle.far_book.specs.book.Own.{own_part}
+use Rattle.far_hand.specs.Came.{Came}
 use Rattle.far_evac.specs.AnyHand.{Knows}
 use Rattle.far_book.specs.book.NextLive.{IsBoundary, live_from}
 use Rattle.far_evac.specs.Live.{live_in, pointers_of}
@@ -20,6 +21,7 @@ invariant-loop-span g l = record {
   law : Law (own_part (g.N.Near.view l.book.near));
   order : l.book.order ≡ l.fn.book.order;
   device : l.book.device ≡ l.fn.book.device;
+  came : Came g.N.Near.makes l.fn.book.near l.book.near;
 }
 
 abbrev pub decreases-loop-span : goal.decreases-loop-span

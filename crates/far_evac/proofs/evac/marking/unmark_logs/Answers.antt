@@ -1,5 +1,6 @@
 use Rattle.std.proofs.Common.{ℕ, ◌∙◌, ◌+◌, ◌-◌, ◌<◌, ap, sym, subst, take, drop, length, slice_index_or}
 use Rattle.std.specs.Prelude.{fold}
+use Rattle.far_hand.proofs.Closure.{then_came}
 use Rattle.far_evac.specs.AnyHand.{Knows}
 use Rattle.far_evac.specs.Live.{live_among}
 use Rattle.far_evac.specs.RoundSteps.{unmarked}
@@ -41,4 +42,5 @@ loop-log-preserved g c =
           ∙ ap (λ ls. fold unmarked start (live_among start ls)) (sym next);
       order = e.order ∙ h.order;
       device = e.device ∙ h.device;
+      came = then_came h.came e.came;
     }

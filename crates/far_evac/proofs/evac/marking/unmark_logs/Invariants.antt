@@ -1,5 +1,6 @@
 use Rattle.std.proofs.Common.{◌≡◌, take, drop}
 use Rattle.std.specs.Prelude.{fold}
+use Rattle.far_hand.specs.Came.{Came}
 use Rattle.far_evac.specs.AnyHand.{Knows}
 use Rattle.far_evac.specs.Live.{live_among}
 use Rattle.far_evac.specs.RoundSteps.{unmarked}
@@ -11,4 +12,5 @@ invariant-loop-log g l = record {
   exact : g.N.Near.still → g.N.Near.view l.book.near ≡ fold unmarked (g.N.Near.view l.fn.book.near) (live_among (g.N.Near.view l.fn.book.near) (take l.log-index (drop l.first l.chosen)));
   order : l.book.order ≡ l.fn.book.order;
   device : l.book.device ≡ l.fn.book.device;
+  came : Came g.N.Near.makes l.fn.book.near l.book.near;
 }

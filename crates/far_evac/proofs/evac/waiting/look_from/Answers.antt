@@ -1,3 +1,4 @@
+use Rattle.far_hand.proofs.Closure.{then_came}
 use Rattle.far_evac.proofs.evac.waiting.look_from.Goals as goal
 use Rattle.std.proofs.Common.{◌≡◌, ◌∙◌, ap, sym, arith, subst}
 use Rattle.far_word.specs.Scope.{scope_of}
@@ -31,6 +32,7 @@ loop-owner-preserved g c =
       from = omega (arith, h.from);
       order = c.look-word.ensures.order ∙ h.order;
       device = c.look-word.ensures.device ∙ h.device;
+      came = then_came h.came c.look-word.ensures.came;
     }
 
 pub returns-clause-exact : goal.returns-clause-exact
@@ -42,3 +44,6 @@ returns-clause-exact g c still =
 pub returns-in-Some-clause-saw : goal.returns-in-Some-clause-saw
 returns-in-Some-clause-saw g c =
     subst (λ w. ∥ ((x : State) × g.N.Near.may_be c.look-word.new.self.near x × (x.scope c.loop-owner.owner ≡ w)) ∥₁) c.in-Some.ensures.odd c.look-word.ensures.saw
+
+pub returns-in-Some-clause-came : goal.returns-in-Some-clause-came
+returns-in-Some-clause-came g c = then_came c.loop-owner.invariant.came c.look-word.ensures.came
