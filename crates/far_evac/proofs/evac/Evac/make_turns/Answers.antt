@@ -1,6 +1,6 @@
 use Rattle.far_hand.proofs.Closure.{no_call, then_came}
 use Rattle.far_evac.proofs.evac.Evac.make_turns.Goals as goal
-use Rattle.std.proofs.Common.{Err, ◌≡◌, ◌∙◌, ◌+◌, true, false, ap, sym, subst, arith}
+use Rattle.std.proofs.Common.{Err, refl, ◌≡◌, ◌∙◌, ◌+◌, true, false, ap, sym, subst, arith}
 use Rattle.far_evac.specs.declared.answers.RoundEnd.{RoundEnd}
 use Rattle.far_evac.specs.declared.answers.RoundEnd.TheVariants.{Done}
 use Rattle.far_evac.specs.declared.phase.Phase.TheVariants.{Waiting}
