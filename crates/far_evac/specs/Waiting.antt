@@ -1,6 +1,8 @@
 -- Waiting: the owners' scopes are looked at in order, up to the first that is open from before the round.
 use Rattle.std.specs.Prelude.{◌≡◌, ℕ, ◌+◌, ◌*◌, ◌/◌, ◌<◌, Bool, false, not, ◌||◌, Option, Some, None, find}
 use Rattle.std.specs.List.{range_with_len}
+use Rattle.far_core.specs.declared.event.Event.{Event}
+use Rattle.far_core.specs.declared.event.Event.TheVariants.{Look}
 use Rattle.far_core.specs.state.State.{State}
 use Rattle.far_evac.specs.declared.answers.Polled.{Polled}
 use Rattle.far_evac.specs.declared.answers.Polled.TheVariants.{Clear, StillOpen}
@@ -37,6 +39,10 @@ pub record StopsLooking (s t : State) (k epoch : ℕ) : Type 0 where
   pub owner : k < s.mutators
   pub unseen : s.clear k ≡ false
   pub older : epoch < s.round_epoch
+
+-- a look at an owner's scope
+abbrev pub Looks : Event → Type 0
+Looks e = (owner : ℕ) × (e ≡ Look owner)
 
 -- where an answer names an owner and an epoch, its scope word said so in a state that the words may be in
 abbrev pub SawOpen : (State → Type 0) → Polled → Type 0

@@ -10,6 +10,8 @@ ghost use Rattle.far_book.specs.book.Effects.{moved, order_after, placed, retire
 ghost use Rattle.far_book.specs.book.Fetching.{IsFar, IsFetched, RefusesFetch, order_fetched, room_for};
 ghost use Rattle.far_book.specs.book.Home.{home_of};
 ghost use Rattle.far_book.specs.book.Renaming.{seen};
+ghost use Rattle.far_core.specs.declared.event.Event.{Event};
+ghost use Rattle.far_core.specs.declared.event.Reply.{Reply};
 ghost use Rattle.far_core.specs.events.Naming.{is_dropped};
 ghost use Rattle.far_core.specs.state.Room.{room};
 ghost use Rattle.far_core.specs.state.Spans.{spans_of};
@@ -159,6 +161,7 @@ impl<N: Near + Drop, D: Device + Drop> Evac<N, D> {
         ensures home { result ≡ home_of (read_of ((N.view self.new.book.near).cell pointer)) }
         ensures found { Finds ((N.view self.old.book.near).cell pointer) ((N.view self.new.book.near).cell pointer) }
         ensures free { (result ≡ None) ↔ ((N.view self.old.book.near).cell pointer ≡ 0) }
+        ensures made { N.makes self.old.book.near (Event.See pointer) (Reply.Word ((N.view self.new.book.near).cell pointer)) self.new.book.near }
         ensures gone { (result ≡ None) ↔ ((N.view self.new.book.near).cell pointer ≡ 0) }
         ensures saw { ∥ ((x : State) × N.may_be self.new.book.near x × (x.cell pointer ≡ (N.view self.new.book.near).cell pointer)) ∥₁ }
         ensures kept { N.view self.new.book.near ≡ record (N.view self.old.book.near) { cell = put (N.view self.old.book.near).cell pointer ((N.view self.new.book.near).cell pointer) } }

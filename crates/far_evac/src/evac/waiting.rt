@@ -5,12 +5,12 @@ ghost use Rattle.far_word.specs.declared.refused.Refused.TheVariants.{Phase as W
 ghost use Rattle.far_word.specs.Scope.{scope_of};
 ghost use Rattle.far_core.specs.events.Look.{shows_clear};
 ghost use Rattle.far_core.specs.state.State.{State};
-ghost use Rattle.far_hand.specs.Came.{Came};
+ghost use Rattle.far_hand.specs.Came.{Came, only};
 ghost use Rattle.far_hand.specs.MayBe.{NoneViews};
 ghost use Rattle.far_evac.specs.AnyHand.{Polls};
 ghost use Rattle.far_evac.specs.EvacOf.{moment};
 ghost use Rattle.far_evac.specs.RoundSteps.{among};
-ghost use Rattle.far_evac.specs.Waiting.{Looked, SawOpen, after_polling, polled};
+ghost use Rattle.far_evac.specs.Waiting.{Looked, Looks, SawOpen, after_polling, polled};
 ghost use Rattle.far_evac.specs.declared.answers.Polled.TheVariants.{Clear};
 ghost use Rattle.far_evac.specs.declared.phase.Phase.TheVariants as phase;
 
@@ -29,6 +29,7 @@ impl<N: Near + Drop, D: Device + Drop> Evac<N, D> {
     /// Refused [`Refused::Phase`] exactly where the round isn't waiting; nothing has changed then. It never blocks.
     pub fn poll_wait(&mut self) -> Result<Polled, Refused>
         ensures came { Came N.makes self.old.book.near self.new.book.near }
+        ensures looks { Came (only Looks N.makes) self.old.book.near self.new.book.near }
         ensures polls { IfOk result (λ answer. Polls (moment N.view self.old) (moment N.view self.new) answer) }
         ensures exact { N.still → IfOk result (λ answer. (moment N.view self.new ≡ after_polling (moment N.view self.old)) × (answer ≡ polled (N.view self.old.book.near))) }
         ensures unviewed { IfOk result (λ answer. answer ≡ Clear → (x : State) → N.may_be self.new.book.near x → NoneViews (among self.new.held) x) }
@@ -61,6 +62,7 @@ fn look_from<N: Near + Drop, D: Device + Drop>(book: &mut Book<N, D>, from: u8) 
     requires seen { (k : ℕ) → k < from → (N.view book.old.near).clear k ≡ true }
     requires unseen { (k : ℕ) → from ≤ k → (N.view book.old.near).clear k ≡ false }
     ensures came { Came N.makes book.old.near book.new.near }
+    ensures looks { Came (only Looks N.makes) book.old.near book.new.near }
     ensures looked { Looked (N.view book.old.near) result (N.view book.new.near) }
     ensures exact { N.still → result ≡ polled (N.view book.old.near) }
     ensures saw { SawOpen (N.may_be book.new.near) result }

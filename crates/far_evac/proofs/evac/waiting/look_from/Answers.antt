@@ -1,6 +1,6 @@
-use Rattle.far_hand.proofs.Closure.{then_came}
+use Rattle.far_hand.proofs.Closure.{came_only, then_call}
 use Rattle.far_evac.proofs.evac.waiting.look_from.Goals as goal
-use Rattle.std.proofs.Common.{◌≡◌, ◌∙◌, ap, sym, arith, subst}
+use Rattle.std.proofs.Common.{◌≡◌, ◌∙◌, ap, sym, arith, refl, subst}
 use Rattle.far_word.specs.Scope.{scope_of}
 use Rattle.far_core.specs.declared.shape.Shape.{Shape}
 use Rattle.far_core.specs.events.Look.{shows_clear}
@@ -32,7 +32,7 @@ loop-owner-preserved g c =
       from = omega (arith, h.from);
       order = c.look-word.ensures.order ∙ h.order;
       device = c.look-word.ensures.device ∙ h.device;
-      came = then_came h.came c.look-word.ensures.came;
+      looks = then_call _ _ h.looks ((c.loop-owner.owner, refl), c.look-word.ensures.made);
     }
 
 pub returns-clause-exact : goal.returns-clause-exact
@@ -45,5 +45,11 @@ pub returns-in-Some-clause-saw : goal.returns-in-Some-clause-saw
 returns-in-Some-clause-saw g c =
     subst (λ w. ∥ ((x : State) × g.N.Near.may_be c.look-word.new.self.near x × (x.scope c.loop-owner.owner ≡ w)) ∥₁) c.in-Some.ensures.odd c.look-word.ensures.saw
 
+pub returns-in-Some-clause-looks : goal.returns-in-Some-clause-looks
+returns-in-Some-clause-looks g c = then_call _ _ c.loop-owner.invariant.looks ((c.loop-owner.owner, refl), c.look-word.ensures.made)
+
 pub returns-in-Some-clause-came : goal.returns-in-Some-clause-came
-returns-in-Some-clause-came g c = then_came c.loop-owner.invariant.came c.look-word.ensures.came
+returns-in-Some-clause-came g c = came_only _ (returns-in-Some-clause-looks g c)
+
+pub returns-clause-came : goal.returns-clause-came
+returns-clause-came g c = came_only _ c.loop-owner.invariant.looks

@@ -1,7 +1,7 @@
 use Rattle.std.proofs.Common.{◌≡◌, ◌<◌, ◌≤◌, ℕ, true, false}
-use Rattle.far_hand.specs.Came.{Came}
+use Rattle.far_hand.specs.Came.{Came, only}
 use Rattle.far_evac.specs.RoundSteps.{with_clear_below}
-use Rattle.far_evac.specs.Waiting.{holds_up}
+use Rattle.far_evac.specs.Waiting.{Looks, holds_up}
 use Rattle.far_evac.proofs.evac.waiting.look_from.Given as goal
 
 abbrev pub invariant-loop-owner : goal.invariant-loop-owner
@@ -12,5 +12,5 @@ invariant-loop-owner g l = record {
   from : l.fn.from ≤ l.owner;
   order : l.book.order ≡ l.fn.book.order;
   device : l.book.device ≡ l.fn.book.device;
-  came : Came g.N.Near.makes l.fn.book.near l.book.near;
+  looks : Came (only Looks g.N.Near.makes) l.fn.book.near l.book.near;
 }
