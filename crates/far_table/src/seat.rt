@@ -1,0 +1,102 @@
+// An owner's seat.
+ghost use Rattle.std.specs.Prelude.{◌≡◌, ◌+◌, None, IsSome};
+ghost use Rattle.std.specs.Arc.{arc_value};
+ghost use Rattle.far_core.specs.declared.event.Event.{Event as any_event};
+ghost use Rattle.far_core.specs.declared.event.Reply.{Reply as any_reply};
+ghost use Rattle.far_table.specs.Tells.{OwnerMade};
+ghost use Rattle.far_table.specs.Views.{closed_view, opened_view, read_view};
+
+use crate::layout::{EPOCH, SCOPES};
+use crate::rule;
+use crate::rule::FarTable;
+use crate::view::View;
+use atomic_table::Seat;
+use far_core::{Event, Reply};
+use far_device::Device;
+use std::alloc::Global;
+use std::marker::Model;
+use std::sync::Arc;
+
+/// An owner's seat on the shared words. Each call is one event of [`far_core`], one atomic step; it takes no memory and always
+/// answers.
+#[derive(Drop)]
+pub struct MutSeat<D: Device> {
+    table: Arc<FarTable<D>, Global>,
+    seat: Seat<u64, View>,
+    number: u8,
+    // The epoch that was read for the next scope.
+    epoch: u64,
+    // Where the data words of each object that is held begin, by its cell's number among the owner's.
+    places: Vec<u16>,
+}
+
+impl<D: Device> Model for MutSeat<D> {
+    ghost use Rattle.std.specs.Prelude.{◌≡◌, ◌<◌, length};
+    ghost use Rattle.std.specs.Arc.{arc_value};
+    ghost use Rattle.far_word.specs.declared.sizes.TheConstants.{CELLS, MOST_MUTATORS};
+    ghost use Rattle.far_table.specs.declared.view.View.TheVariants.{Owner};
+    ghost use Rattle.far_table.specs.Layout.{TABLE_WORDS};
+    ghost use Rattle.far_table.specs.Seats.{Seated, Remembers, HasPlaces};
+    ghost use Rattle.far_table.specs.Tells.{owner_of};
+
+    ghost Value = { Seated };
+
+    ghost view = { λ s. record { table = s.seat.table_id; view = owner_of s.seat.me.0 } };
+
+    ghost invariant = { λ s. (s.seat.table_id ≡ (arc_value s.table).shared.table_id) × (s.seat.table_id.words ≡ TABLE_WORDS) × (s.seat.me.0 ≡ Owner (owner_of s.seat.me.0)) × ((owner_of s.seat.me.0).number ≡ s.number) × (s.number < MOST_MUTATORS) × Remembers (owner_of s.seat.me.0).epoch s.epoch × (length s.places.items ≡ CELLS) × HasPlaces (owner_of s.seat.me.0) s.places.items };
+}
+
+impl<D: Device> MutSeat<D> {
+    /// The epoch, which the owner remembers for its next scope.
+    pub fn read_epoch(&mut self) -> u64
+        requires closed { self.old.view.open_at ≡ None }
+        ensures table { self.new.table ≡ self.old.table }
+        ensures view { self.new.view ≡ read_view result self.old.view }
+        ensures event { OwnerMade (Event.ReadEpoch self.old.view.number) self.old.view (Reply.Epoch result) self.new.view }
+    {
+        let MutSeat {
+            table, seat, epoch, ..
+        } = self;
+        let found = table.shared.load::<rule::ReadEpoch>(seat, EPOCH);
+        *epoch = found;
+        found
+    }
+
+    /// Opens the owner's scope at the epoch that it has read.
+    pub fn open(&mut self)
+        requires closed { self.old.view.open_at ≡ None }
+        requires read { IsSome self.old.view.epoch }
+        ensures table { self.new.table ≡ self.old.table }
+        ensures view { self.new.view ≡ opened_view self.old.view }
+        ensures event { OwnerMade (Event.Open self.old.view.number) self.old.view Reply.Done self.new.view }
+    {
+        let MutSeat {
+            table,
+            seat,
+            number,
+            epoch,
+            ..
+        } = self;
+        table
+            .shared
+            .store::<rule::Open>(seat, *number as usize + SCOPES, 2 * *epoch + 1);
+    }
+
+    /// Closes the owner's scope. It holds nothing from then on, and remembers no epoch.
+    pub fn close(&mut self)
+        requires opened { IsSome self.old.view.open_at }
+        ensures table { self.new.table ≡ self.old.table }
+        ensures view { self.new.view ≡ closed_view self.old.view }
+        ensures event { OwnerMade (Event.Close self.old.view.number) self.old.view Reply.Done self.new.view }
+    {
+        let MutSeat {
+            table,
+            seat,
+            number,
+            ..
+        } = self;
+        table
+            .shared
+            .store::<rule::Close>(seat, *number as usize + SCOPES, 0);
+    }
+}
