@@ -1,0 +1,9 @@
+pub mod Places
+pub mod Words
+pub mod Owners
+pub mod BookKept
+pub mod Others
+pub mod OwnSteps
+pub mod Lift
+pub mod Steps
+pub mod SeatLemmas

@@ -54,11 +54,11 @@ impl<D: Device> MutSeat<D> {
         ensures view { self.new.view ≡ read_view result self.old.view }
         ensures event { OwnerMade (Event.ReadEpoch self.old.view.number) self.old.view (Reply.Epoch result) self.new.view }
     {
-        let MutSeat {
-            table, seat, epoch, ..
-        } = self;
-        let found = table.shared.load::<rule::ReadEpoch>(seat, EPOCH);
-        *epoch = found;
+        let found = self
+            .table
+            .shared
+            .load::<rule::ReadEpoch>(&mut self.seat, EPOCH);
+        self.epoch = found;
         found
     }
 
@@ -70,16 +70,11 @@ impl<D: Device> MutSeat<D> {
         ensures view { self.new.view ≡ opened_view self.old.view }
         ensures event { OwnerMade (Event.Open self.old.view.number) self.old.view Reply.Done self.new.view }
     {
-        let MutSeat {
-            table,
-            seat,
-            number,
-            epoch,
-            ..
-        } = self;
-        table
+        let scope = self.number as usize + SCOPES;
+        let word = 2 * self.epoch + 1;
+        self.table
             .shared
-            .store::<rule::Open>(seat, *number as usize + SCOPES, 2 * *epoch + 1);
+            .store::<rule::Open>(&mut self.seat, scope, word);
     }
 
     /// Closes the owner's scope. It holds nothing from then on, and remembers no epoch.
@@ -89,14 +84,9 @@ impl<D: Device> MutSeat<D> {
         ensures view { self.new.view ≡ closed_view self.old.view }
         ensures event { OwnerMade (Event.Close self.old.view.number) self.old.view Reply.Done self.new.view }
     {
-        let MutSeat {
-            table,
-            seat,
-            number,
-            ..
-        } = self;
-        table
+        let scope = self.number as usize + SCOPES;
+        self.table
             .shared
-            .store::<rule::Close>(seat, *number as usize + SCOPES, 0);
+            .store::<rule::Close>(&mut self.seat, scope, 0);
     }
 }

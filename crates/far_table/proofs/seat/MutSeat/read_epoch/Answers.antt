@@ -1,0 +1,18 @@
+use Rattle.std.proofs.Common.{rules, ◌≡◌, ◌≢◌, ◌+◌, ◌*◌, ◌<◌, ℕ, refl, sym, ap, ◌∙◌, subst, arith, Some, None}
+use Rattle.std.specs.Prelude.{IsSome}
+use Rattle.far_word.specs.declared.sizes.TheConstants.{EPOCH_END}
+use Rattle.far_core.specs.events.Open.{scope_word_of}
+use Rattle.far_table.specs.declared.view.OwnerView.{OwnerView}
+use Rattle.far_table.specs.Layout.{EPOCH_AT, TABLE_WORDS, scope_at}
+use Rattle.far_table.specs.Seats.{Seated, Remembers}
+use Rattle.far_table.specs.Tells.{owner_of}
+use Rattle.far_table.proofs.SeatLemmas.{inside}
+use Rattle.far_table.proofs.Steps.{reads_epoch}
+use Rattle.far_table.proofs.seat.MutSeat.read_epoch.Goals as goal
+
+pub load-found-requires : goal.load-found-requires
+load-found-requires g c =
+    let i = c.self.invariant in
+    let v = ap (λ (z : Seated). z.view) (sym c.self.view_is) in
+    let t = inside _ _ _ EPOCH_AT i.0 (ap (λ t. t.shared.table_id) c.deref.ensures) i.1 (omega arith) in
+    (t.0, t.1, reads_epoch _ _ _ i.2 (ap (λ (y : OwnerView). y.open_at) (sym v) ∙ c.requires.closed))
