@@ -6,4 +6,6 @@ pub mod Others
 pub mod OwnSteps
 pub mod Lift
 pub mod Steps
+pub mod HeldFacts
+pub mod PinSteps
 pub mod SeatLemmas

@@ -38,13 +38,13 @@ module _ (ws : List ℕ) (b : BookView) (os : List OwnerView) (f : Facts ws b os
   abbrev m : ℕ
   m = o.number
 
-  few : m < MOST_MUTATORS
+  pub few : m < MOST_MUTATORS
   few = let low = is_mutator ws b os f m o at in let most = f.law.shape.few_mutators in omega arith
 
-  closed_so : o.open_at ≡ None → IsClosed (state_of ws b os) m
+  pub closed_so : o.open_at ≡ None → IsClosed (state_of ws b os) m
   closed_so shut = (is_mutator ws b os f m o at, (f.owners m o at).scope ∙ ap scope_word_of shut)
 
-  open_so : IsSome o.open_at → IsOpen (state_of ws b os) m
+  pub open_so : IsSome o.open_at → IsOpen (state_of ws b os) m
   open_so opened = (is_mutator ws b os f m o at, λ z. open_word o.open_at opened (sym (f.owners m o at).scope ∙ z))
 
   read_epoch_step : o.open_at ≡ None → OwnStep ws b os o (ReadEpoch m) (Epoch (epoch_in ws)) ws (read_view (epoch_in ws) o)

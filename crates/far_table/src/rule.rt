@@ -58,3 +58,11 @@ impl Play<u64, View> for Close {
 
     ghost then = { Closed };
 }
+
+pub(crate) struct Pin;
+
+impl Play<u64, View> for Pin {
+    ghost use Rattle.far_table.specs.Plays.{Pinned};
+
+    ghost then = { Pinned };
+}

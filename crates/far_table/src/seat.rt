@@ -1,11 +1,16 @@
 // An owner's seat.
-ghost use Rattle.std.specs.Prelude.{◌≡◌, ◌+◌, None, IsSome};
+ghost use Rattle.std.specs.Prelude.{◌≡◌, ◌+◌, ◌/◌, true, None, IsSome, IfOk, IfErr};
 ghost use Rattle.std.specs.Arc.{arc_value};
 ghost use Rattle.far_core.specs.declared.event.Event.{Event as any_event};
 ghost use Rattle.far_core.specs.declared.event.Reply.{Reply as any_reply};
 ghost use Rattle.far_table.specs.Tells.{OwnerMade};
-ghost use Rattle.far_table.specs.Views.{closed_view, opened_view, read_view};
+ghost use Rattle.far_word.specs.declared.sizes.TheConstants.{CELLS};
+ghost use Rattle.far_word.specs.Pointer.{read_of};
+ghost use Rattle.far_core.specs.events.Pin.{place_to_view};
+ghost use Rattle.far_table.specs.Seats.{pin_reply};
+ghost use Rattle.far_table.specs.Views.{closed_view, held_at, held_view, opened_view, read_view, uses};
 
+use crate::layout;
 use crate::layout::{EPOCH, SCOPES};
 use crate::rule;
 use crate::rule::FarTable;
@@ -13,6 +18,7 @@ use crate::view::View;
 use atomic_table::Seat;
 use far_core::{Event, Reply};
 use far_device::Device;
+use far_word::{CELLS, LOG_WORDS, Mark, Place, resting_place};
 use std::alloc::Global;
 use std::marker::Model;
 use std::sync::Arc;
@@ -88,5 +94,29 @@ impl<D: Device> MutSeat<D> {
         self.table
             .shared
             .store::<rule::Close>(&mut self.seat, scope, 0);
+    }
+
+    /// Sets HOT in the cell of a pointer, and holds the place of its object where the word found is near with none of EVAC, MOVE and
+    /// DROP; else the word found.
+    pub fn pin(&mut self, p: u16) -> Result<Place, u64>
+        requires own { p / CELLS ≡ self.old.view.number }
+        requires used { uses self.old.view p ≡ true }
+        requires free { held_at self.old.view p ≡ None }
+        requires opened { IsSome self.old.view.open_at }
+        ensures table { self.new.table ≡ self.old.table }
+        ensures held { IfOk result (λ place. self.new.view ≡ held_view p place self.old.view) }
+        ensures kept { IfErr result (λ found. (self.new.view ≡ self.old.view) × (place_to_view (read_of found) ≡ None)) }
+        ensures event { OwnerMade (Event.Pin self.old.view.number p) self.old.view (pin_reply result) self.new.view }
+    {
+        let found = self.table.shared.fetch_or::<rule::Pin>(
+            &mut self.seat,
+            p as usize + layout::CELLS,
+            Mark::Hot.mask(),
+        );
+        let Some(place) = resting_place(found) else {
+            return Err(found);
+        };
+        self.places[(p % CELLS) as usize] = place.log as u16 * LOG_WORDS + place.at + 1;
+        Ok(place)
     }
 }
