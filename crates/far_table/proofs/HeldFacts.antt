@@ -28,18 +28,18 @@ use Rattle.far_table.specs.StateOf.{state_of}
 use Rattle.far_table.specs.Views.{held_at, len_of, object_at, uses}
 use Rattle.far_table.proofs.Owners.{known_by}
 
-no_evac : (e r : Bool) (place at : Place) → cond (e || r) None (Some place) ≡ Some at → cond r None (Some place) ≡ Some at
-no_evac true r place at h = let odd : None ≡ Some at = h in cc
-no_evac false r place at h = h
+no_evac : (e v d : Bool) (place at : Place) → cond (e || v || d) None (Some place) ≡ Some at → cond (v || d) None (Some place) ≡ Some at
+no_evac true v d place at h = let odd : None ≡ Some at = h in cc
+no_evac false v d place at h = h
 
 -- where a view may come to rest, it may stay
 pub may_hold : (x : Option PtrWord) (place : Place) → place_to_view x ≡ Some place → held_place x ≡ Some place
 may_hold None place e = cc
 may_hold (Some Free) place e = cc
-may_hold (Some (Near len ds at m)) place e = no_evac m.evac (m.moved || m.dropped) at place e
+may_hold (Some (Near len ds at m)) place e = no_evac m.evac m.moved m.dropped at place e
 may_hold (Some (Far len ds m)) place e = cc
 
-some_there : {X : Type 0} (x : Option X) → is_some x ≡ true → (y : X) × (x ≡ Some y)
+pub some_there : {X : Type 0} (x : Option X) → is_some x ≡ true → (y : X) × (x ≡ Some y)
 some_there None h = absurd (false≢true h)
 some_there (Some y) h = (y, refl)
 

@@ -8,4 +8,5 @@ pub mod Lift
 pub mod Steps
 pub mod HeldFacts
 pub mod PinSteps
+pub mod LoadSteps
 pub mod SeatLemmas

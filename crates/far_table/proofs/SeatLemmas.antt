@@ -1,7 +1,15 @@
 -- What a seat's struct keeps over a step, for all kinds of step.
-use Rattle.std.proofs.Common.{◌≡◌, ℕ, ◌+◌, ◌*◌, ◌<◌, ◌≤◌, List, length, subst, Option, Some, None, refl, sym, ap, ◌∙◌, arith}
+use Rattle.std.proofs.Common.{◌≡◌, ◌≢◌, ◌/◌, ◌%◌, set, get_or-set_same, get_or-set_other, ℕ, ◌+◌, ◌*◌, ◌<◌, ◌≤◌, List, length, subst, Option, Some, None, refl, sym, ap, ◌∙◌, arith}
 use Rattle.std.specs.Prelude.{IsSome}
 use Rattle.std.proofs.lemmas.Bool.{false≢true}
+use mathlib.Core.Logic.{dite}
+use native.Mathlib.Decide.{ℕ_discrete}
+use Rattle.far_word.specs.declared.pointer.Place.{Place}
+use Rattle.far_word.specs.declared.pointer.PtrWord.{PtrWord}
+use Rattle.far_word.specs.Pointer.{read_of, view_place}
+use Rattle.far_core.specs.declared.event.Reply.TheVariants.{Held, Word}
+use Rattle.far_core.specs.events.Pin.{place_to_view, pin_answer}
+use Rattle.far_core.proofs.Put.{put_other, put_same}
 use Rattle.atomic_table.specs.Seated.{TableId}
 use Rattle.far_word.specs.declared.sizes.TheConstants.{CELLS, EPOCH_END, LOG_WORDS, MOST_LOGS, MOST_MUTATORS}
 use Rattle.far_word.specs.Sizes.{words_for}
@@ -12,11 +20,11 @@ use Rattle.far_table.specs.declared.view.ObjectView.{ObjectView}
 use Rattle.far_table.specs.declared.view.OwnerView.{OwnerView}
 use Rattle.far_table.specs.declared.view.View.{View}
 use Rattle.far_table.specs.declared.view.View.TheVariants.{Owner}
-use Rattle.far_table.specs.Tells.{Tells, owner_of}
-use Rattle.far_table.specs.Views.{held_at, len_of, object_at}
+use Rattle.far_table.specs.Tells.{OwnerMade, Tells, owner_of}
+use Rattle.far_table.specs.Views.{held_at, held_view, len_of, object_at, pinned_view, with_place}
 use Rattle.far_core.specs.events.Open.{scope_word_of}
 use Rattle.far_table.specs.Layout.{TABLE_WORDS}
-use Rattle.far_table.specs.Seats.{HasPlaces, Remembers}
+use Rattle.far_table.specs.Seats.{HasPlace, HasPlaces, Remembers}
 
 -- a seat's table, as its `Arc` shows it, has this word
 pub inside : (id here there : TableId) (i : ℕ) → id ≡ here → there ≡ here → id.words ≡ TABLE_WORDS → i < TABLE_WORDS → (id ≡ there) × (i < there.words)
@@ -54,3 +62,34 @@ places_same o w places number held objects has p place h = let x = has p place (
   here = x.here;
   fits = subst (λ (f : ℕ → Option ObjectView). addr place + 1 + words_for (len_of (f p)) ≤ MOST_LOGS * LOG_WORDS) (sym objects) x.fits;
 }
+
+-- the event that a step tells of, as a caller names it
+pub seat_made : (v v' : View) (old : OwnerView) (e : OwnerView → Event) (r : Reply) (o' : OwnerView) → owner_of v ≡ old → Tells v v' (e (owner_of v)) r o' → OwnerMade (e old) old r (owner_of v')
+seat_made v v' old e r o' is t = subst (λ z. OwnerMade (e z) z r (owner_of v')) is (subst (λ z. OwnerMade (e (owner_of v)) (owner_of v) r z) (sym (ap owner_of t.after_is)) t.made)
+
+-- ---- a pin, by the word found
+pub rests : (n : ℕ) (x : Option PtrWord) (r : Option Place) → read_of n ≡ x → IsSome x → ((v : PtrWord) → read_of n ≡ Some v → r ≡ view_place v) → r ≡ place_to_view (read_of n)
+rests n None r e there h = absurd (false≢true there)
+rests n (Some v) r e there h = h v e ∙ sym (ap place_to_view e)
+
+pub pin_kept : (v v' : View) (e : Event) (p n : ℕ) → place_to_view (read_of n) ≡ None → Tells v v' e (pin_answer n (place_to_view (read_of n))) (pinned_view p n (owner_of v)) →
+    Tells v v' e (Word n) (owner_of v)
+pin_kept v v' e p n none t = subst (λ (x : Option Place). Tells v v' e (pin_answer n x) (with_place p x (owner_of v))) none t
+
+pub pin_held : (v v' : View) (e : Event) (p n : ℕ) (place : Place) → place_to_view (read_of n) ≡ Some place →
+    Tells v v' e (pin_answer n (place_to_view (read_of n))) (pinned_view p n (owner_of v)) → Tells v v' e (Held place) (held_view p place (owner_of v))
+pin_held v v' e p n place some t = subst (λ (x : Option Place). Tells v v' e (pin_answer n x) (with_place p x (owner_of v))) some t
+
+-- the place of one object more
+pub places_put : (o : OwnerView) (places : List ℕ) (p : ℕ) (place : Place) → HasPlaces o places → length places ≡ CELLS → p / CELLS ≡ o.number →
+    addr place + 1 + words_for (len_of (object_at o p)) ≤ MOST_LOGS * LOG_WORDS → HasPlaces (held_view p place o) (set places (p % CELLS) (addr place + 1))
+places_put o places p place has long own fits q other h = dite (ℕ_discrete q p)
+    (λ e. let same : Some place ≡ Some other = sym (put_same (held_at o) p (Some place) q e) ∙ h in
+    let is : place ≡ other = cc in
+    subst (λ (z : ℕ × Place). HasPlace (held_view p place o) (set places (p % CELLS) (addr place + 1)) z.0 z.1) (λ i. (sym e i, is i))
+    record { own = own; here = get_or-set_same places (p % CELLS) (addr place + 1) 0 (omega arith); fits = fits })
+    (λ ne. let x = has q other (sym (put_other (held_at o) p (Some place) q ne) ∙ h) in let mine = x.own in record {
+      own = x.own;
+      here = get_or-set_other places (p % CELLS) (q % CELLS) (addr place + 1) 0 (λ e. ne (omega arith)) ∙ x.here;
+      fits = x.fits;
+    })

@@ -66,3 +66,11 @@ impl Play<u64, View> for Pin {
 
     ghost then = { Pinned };
 }
+
+pub(crate) struct Load;
+
+impl Play<u64, View> for Load {
+    ghost use Rattle.far_table.specs.Plays.{Loaded};
+
+    ghost then = { Loaded };
+}

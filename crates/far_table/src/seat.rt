@@ -1,5 +1,5 @@
 // An owner's seat.
-ghost use Rattle.std.specs.Prelude.{◌≡◌, ◌+◌, ◌/◌, true, None, IsSome, IfOk, IfErr};
+ghost use Rattle.std.specs.Prelude.{◌≡◌, ◌+◌, ◌/◌, ◌<◌, true, None, IsSome, IfOk, IfErr};
 ghost use Rattle.std.specs.Arc.{arc_value};
 ghost use Rattle.far_core.specs.declared.event.Event.{Event as any_event};
 ghost use Rattle.far_core.specs.declared.event.Reply.{Reply as any_reply};
@@ -8,7 +8,8 @@ ghost use Rattle.far_word.specs.declared.sizes.TheConstants.{CELLS};
 ghost use Rattle.far_word.specs.Pointer.{read_of};
 ghost use Rattle.far_core.specs.events.Pin.{place_to_view};
 ghost use Rattle.far_table.specs.Seats.{pin_reply};
-ghost use Rattle.far_table.specs.Views.{closed_view, held_at, held_view, opened_view, read_view, uses};
+ghost use Rattle.far_table.specs.Views.{closed_view, held_at, held_view, len_of, object_at, opened_view, read_view, uses, word_in_view};
+ghost use Rattle.far_word.specs.Sizes.{words_for};
 
 use crate::layout;
 use crate::layout::{EPOCH, SCOPES};
@@ -118,5 +119,19 @@ impl<D: Device> MutSeat<D> {
         };
         self.places[(p % CELLS) as usize] = place.log as u16 * LOG_WORDS + place.at + 1;
         Ok(place)
+    }
+
+    /// Word `i` of an object that is held.
+    pub fn load(&mut self, p: u16, i: u16) -> u64
+        requires held { IsSome (held_at self.old.view p) }
+        requires inside { i < words_for (len_of (object_at self.old.view p)) }
+        ensures word { self.old.view.honest ≡ true → result ≡ word_in_view (object_at self.old.view p) i }
+        ensures same { self.new ≡ self.old }
+        ensures event { OwnerMade (Event.Load self.old.view.number p i) self.old.view (Reply.Word result) self.new.view }
+    {
+        let word = self.places[(p % CELLS) as usize] as usize + i as usize + layout::LOGS;
+        self.table
+            .shared
+            .load::<rule::Load>(&mut self.seat, word)
     }
 }
