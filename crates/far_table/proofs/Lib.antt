@@ -9,4 +9,5 @@ pub mod Steps
 pub mod HeldFacts
 pub mod PinSteps
 pub mod LoadSteps
+pub mod AskSteps
 pub mod SeatLemmas

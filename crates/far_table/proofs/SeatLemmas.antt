@@ -4,6 +4,8 @@ use Rattle.std.specs.Prelude.{IsSome}
 use Rattle.std.proofs.lemmas.Bool.{false≢true}
 use mathlib.Core.Logic.{dite}
 use native.Mathlib.Decide.{ℕ_discrete}
+use Rattle.far_word.specs.declared.mark.Mark.{Mark}
+use Rattle.far_word.specs.declared.mark.Mark.TheVariants.{Hot, Evac, Moved, Dropped}
 use Rattle.far_word.specs.declared.pointer.Place.{Place}
 use Rattle.far_word.specs.declared.pointer.PtrWord.{PtrWord}
 use Rattle.far_word.specs.Pointer.{read_of, view_place}
@@ -21,7 +23,7 @@ use Rattle.far_table.specs.declared.view.OwnerView.{OwnerView}
 use Rattle.far_table.specs.declared.view.View.{View}
 use Rattle.far_table.specs.declared.view.View.TheVariants.{Owner}
 use Rattle.far_table.specs.Tells.{OwnerMade, Tells, owner_of}
-use Rattle.far_table.specs.Views.{held_at, held_view, len_of, object_at, pinned_view, with_place}
+use Rattle.far_table.specs.Views.{asked_view, held_at, held_view, len_of, object_at, pinned_view, with_place}
 use Rattle.far_core.specs.events.Open.{scope_word_of}
 use Rattle.far_table.specs.Layout.{TABLE_WORDS}
 use Rattle.far_table.specs.Seats.{HasPlace, HasPlaces, Remembers}
@@ -93,3 +95,22 @@ places_put o places p place has long own fits q other h = dite (ℕ_discrete q p
       here = get_or-set_other places (p % CELLS) (q % CELLS) (addr place + 1) 0 (λ e. ne (omega arith)) ∙ x.here;
       fits = x.fits;
     })
+
+-- what a request changes of a view
+pub asked_epoch : (p : ℕ) (k : Mark) (n : ℕ) (o : OwnerView) → (asked_view p k n o).epoch ≡ o.epoch
+asked_epoch p Hot n o = refl
+asked_epoch p Evac n o = refl
+asked_epoch p Moved n o = refl
+asked_epoch p Dropped n o = refl
+
+pub places_asked : (p : ℕ) (k : Mark) (n : ℕ) (o : OwnerView) (places : List ℕ) → held_at o p ≡ None → HasPlaces o places → HasPlaces (asked_view p k n o) places
+places_asked p Hot n o places free has = has
+places_asked p Evac n o places free has = has
+places_asked p Moved n o places free has = places_same o (asked_view p Moved n o) places refl refl refl has
+places_asked p Dropped n o places free has = λ q place h.
+    let x = has q place h in
+    let ne : q ≢ p = λ e. let odd : None ≡ Some place = sym free ∙ (ap (held_at o) (sym e) ∙ h) in cc in record {
+      own = x.own;
+      here = x.here;
+      fits = subst (λ z. addr place + 1 + words_for (len_of z) ≤ MOST_LOGS * LOG_WORDS) (sym (put_other (object_at o) p None q ne)) x.fits;
+    }

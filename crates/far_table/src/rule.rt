@@ -74,3 +74,11 @@ impl Play<u64, View> for Load {
 
     ghost then = { Loaded };
 }
+
+pub(crate) struct Ask;
+
+impl Play<u64, View> for Ask {
+    ghost use Rattle.far_table.specs.Plays.{Asked};
+
+    ghost then = { Asked };
+}

@@ -6,9 +6,10 @@ ghost use Rattle.far_core.specs.declared.event.Reply.{Reply as any_reply};
 ghost use Rattle.far_table.specs.Tells.{OwnerMade};
 ghost use Rattle.far_word.specs.declared.sizes.TheConstants.{CELLS};
 ghost use Rattle.far_word.specs.Pointer.{read_of};
+ghost use Rattle.far_core.specs.events.Ask.{is_request};
 ghost use Rattle.far_core.specs.events.Pin.{place_to_view};
 ghost use Rattle.far_table.specs.Seats.{pin_reply};
-ghost use Rattle.far_table.specs.Views.{closed_view, held_at, held_view, len_of, object_at, opened_view, read_view, uses, word_in_view};
+ghost use Rattle.far_table.specs.Views.{asked_view, closed_view, held_at, held_view, len_of, object_at, opened_view, read_view, uses, word_in_view};
 ghost use Rattle.far_word.specs.Sizes.{words_for};
 
 use crate::layout;
@@ -133,5 +134,22 @@ impl<D: Device> MutSeat<D> {
         self.table
             .shared
             .load::<rule::Load>(&mut self.seat, word)
+    }
+
+    /// Asks for an object to be moved, or drops it, which is used no longer then: the word found in its cell.
+    pub fn ask(&mut self, p: u16, mark: Mark) -> u64
+        requires request { is_request mark ≡ true }
+        requires own { p / CELLS ≡ self.old.view.number }
+        requires used { uses self.old.view p ≡ true }
+        requires free { held_at self.old.view p ≡ None }
+        ensures table { self.new.table ≡ self.old.table }
+        ensures view { self.new.view ≡ asked_view p mark result self.old.view }
+        ensures event { OwnerMade (Event.Ask self.old.view.number p mark) self.old.view (Reply.Word result) self.new.view }
+    {
+        self.table.shared.fetch_or::<rule::Ask>(
+            &mut self.seat,
+            p as usize + layout::CELLS,
+            mark.mask(),
+        )
     }
 }
