@@ -10,4 +10,5 @@ pub mod HeldFacts
 pub mod PinSteps
 pub mod LoadSteps
 pub mod AskSteps
+pub mod StoreSteps
 pub mod SeatLemmas

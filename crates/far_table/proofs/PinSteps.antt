@@ -102,11 +102,11 @@ module _ (ws : List ℕ) (b : BookView) (os : List OwnerView) (f : Facts ws b os
   -- the word found reads, and an object that it says may be held lies within the logs
   found_lies : Lies o p (slice_index ws (cell_at p))
   found_lies = subst (Lies o p) (cell_here ws p small) (
-      (f.law.cells.cell_read p).1,
-      λ place e. let x = near_facts ws b os f o at p place own used (may_hold (read_of c) place e) in
-      let long : words_for (len_of (object_at o p)) ≡ words_for x.len = ap (λ z. words_for (len_of z)) x.used ∙ ap words_for x.long in
-      let fits = x.fits in omega arith,
-    )
+    (f.law.cells.cell_read p).1,
+    λ place e. let x = near_facts ws b os f o at p place own used (may_hold (read_of c) place e) in
+        let long : words_for (len_of (object_at o p)) ≡ words_for x.len = ap (λ z. words_for (len_of z)) x.used ∙ ap words_for x.long in
+        let fits = x.fits in omega arith,
+  )
 
 module _ {S : Type 0} (slots id : ℕ) (me : Me S View) (is : me.0 ≡ Owner (owner_of me.0)) where
   abbrev view : OwnerView

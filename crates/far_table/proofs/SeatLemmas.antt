@@ -11,7 +11,7 @@ use Rattle.far_word.specs.declared.pointer.PtrWord.{PtrWord}
 use Rattle.far_word.specs.Pointer.{read_of, view_place}
 use Rattle.far_core.specs.declared.event.Reply.TheVariants.{Held, Word}
 use Rattle.far_core.specs.events.Pin.{place_to_view, pin_answer}
-use Rattle.far_core.proofs.Put.{put_other, put_same}
+use Rattle.far_core.proofs.Put.{put_both, put_other, put_same}
 use Rattle.atomic_table.specs.Seated.{TableId}
 use Rattle.far_word.specs.declared.sizes.TheConstants.{CELLS, EPOCH_END, LOG_WORDS, MOST_LOGS, MOST_MUTATORS}
 use Rattle.far_word.specs.Sizes.{words_for}
@@ -23,7 +23,7 @@ use Rattle.far_table.specs.declared.view.OwnerView.{OwnerView}
 use Rattle.far_table.specs.declared.view.View.{View}
 use Rattle.far_table.specs.declared.view.View.TheVariants.{Owner}
 use Rattle.far_table.specs.Tells.{OwnerMade, Tells, owner_of}
-use Rattle.far_table.specs.Views.{asked_view, held_at, held_view, len_of, object_at, pinned_view, with_place}
+use Rattle.far_table.specs.Views.{asked_view, held_at, held_view, len_of, object_at, pinned_view, stored_view, with_place, with_word}
 use Rattle.far_core.specs.events.Open.{scope_word_of}
 use Rattle.far_table.specs.Layout.{TABLE_WORDS}
 use Rattle.far_table.specs.Seats.{HasPlace, HasPlaces, Remembers}
@@ -114,3 +114,14 @@ places_asked p Dropped n o places free has = λ q place h.
       here = x.here;
       fits = subst (λ z. addr place + 1 + words_for (len_of z) ≤ MOST_LOGS * LOG_WORDS) (sym (put_other (object_at o) p None q ne)) x.fits;
     }
+
+-- a store changes no length
+same_long : (i v : ℕ) (x : Option ObjectView) → len_of (with_word i v x) ≡ len_of x
+same_long i v None = refl
+same_long i v (Some x) = refl
+
+pub places_stored : (p i v : ℕ) (o : OwnerView) (places : List ℕ) → HasPlaces o places → HasPlaces (stored_view p i v o) places
+places_stored p i v o places has q place h = let x = has q place h in
+    let same : len_of (object_at (stored_view p i v o) q) ≡ len_of (object_at o q) = put_both (λ (y : Option ObjectView). len_of y ≡ len_of (object_at o q)) (object_at o) p (with_word i v (object_at o p)) q
+    (λ e. same_long i v (object_at o p) ∙ ap (λ z. len_of (object_at o z)) (sym e)) (λ _. refl) in
+    record { own = x.own; here = x.here; fits = subst (λ n. addr place + 1 + words_for n ≤ MOST_LOGS * LOG_WORDS) (sym same) x.fits }

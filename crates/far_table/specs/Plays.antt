@@ -16,7 +16,7 @@ use Rattle.far_core.specs.declared.event.Event.TheVariants.{ReadEpoch, Open, Pin
 use Rattle.far_core.specs.declared.event.Reply.TheVariants.{Done, Epoch, Word}
 use Rattle.far_table.specs.declared.view.View.{View}
 use Rattle.far_table.specs.Tells.{Tells, owner_of}
-use Rattle.far_table.specs.Views.{asked_view, closed_view, held_at, len_of, object_at, opened_view, pinned_view, read_view, word_in_view}
+use Rattle.far_table.specs.Views.{asked_view, closed_view, held_at, len_of, object_at, opened_view, pinned_view, read_view, stored_view, word_in_view}
 
 -- the word found reads; and the object of p, where a view of it may rest by that word, lies within the logs
 abbrev pub Lies : OwnerView → ℕ → ℕ → Type 0
@@ -45,6 +45,11 @@ module _ {S : Type 0} where
   abbrev pub Asked : Step S → Me S View → ℕ → Me S View → Type 0
   Asked st me found me' = (p : ℕ) (k : Mark) → is_request k ≡ true → st.word ≡ cell_at p → st.first ≡ 2 ^ position k →
       Tells me.0 me'.0 (Ask (number_of me.0) p k) (Word found) (asked_view p k found (owner_of me.0))
+
+  -- the same word, stored over
+  abbrev pub Stored : Step S → Me S View → ℕ → Me S View → Type 0
+  Stored st me word me' = (p i : ℕ) (place : Place) → p / CELLS ≡ number_of me.0 → held_at (owner_of me.0) p ≡ Some place → i < words_for (len_of (object_at (owner_of me.0) p)) →
+      st.word ≡ data_at (addr place + 1 + i) → Tells me.0 me'.0 (Store (number_of me.0) p i word) Done (stored_view p i word (owner_of me.0))
 
   abbrev pub Closed : Step S → Me S View → ℕ → Me S View → Type 0
   Closed st me found me' = Tells me.0 me'.0 (Close (number_of me.0)) Done (closed_view (owner_of me.0))

@@ -82,3 +82,11 @@ impl Play<u64, View> for Ask {
 
     ghost then = { Asked };
 }
+
+pub(crate) struct Store;
+
+impl Play<u64, View> for Store {
+    ghost use Rattle.far_table.specs.Plays.{Stored};
+
+    ghost then = { Stored };
+}

@@ -1,5 +1,5 @@
 // An owner's seat.
-ghost use Rattle.std.specs.Prelude.{◌≡◌, ◌+◌, ◌/◌, ◌<◌, true, None, IsSome, IfOk, IfErr};
+ghost use Rattle.std.specs.Prelude.{◌≡◌, ◌+◌, ◌-◌, ◌*◌, ◌/◌, ◌^◌, ◌<◌, true, None, IsSome, IfOk, IfErr};
 ghost use Rattle.std.specs.Arc.{arc_value};
 ghost use Rattle.far_core.specs.declared.event.Event.{Event as any_event};
 ghost use Rattle.far_core.specs.declared.event.Reply.{Reply as any_reply};
@@ -9,14 +9,13 @@ ghost use Rattle.far_word.specs.Pointer.{read_of};
 ghost use Rattle.far_core.specs.events.Ask.{is_request};
 ghost use Rattle.far_core.specs.events.Pin.{place_to_view};
 ghost use Rattle.far_table.specs.Seats.{pin_reply};
-ghost use Rattle.far_table.specs.Views.{asked_view, closed_view, held_at, held_view, len_of, object_at, opened_view, read_view, uses, word_in_view};
+ghost use Rattle.far_table.specs.Views.{asked_view, closed_view, held_at, held_view, len_of, object_at, opened_view, read_view, stored_view, uses, word_in_view};
 ghost use Rattle.far_word.specs.Sizes.{words_for};
 
-use crate::layout;
 use crate::layout::{EPOCH, SCOPES};
-use crate::rule;
 use crate::rule::FarTable;
 use crate::view::View;
+use crate::{layout, rule};
 use atomic_table::Seat;
 use far_core::{Event, Reply};
 use far_device::Device;
@@ -131,9 +130,22 @@ impl<D: Device> MutSeat<D> {
         ensures event { OwnerMade (Event.Load self.old.view.number p i) self.old.view (Reply.Word result) self.new.view }
     {
         let word = self.places[(p % CELLS) as usize] as usize + i as usize + layout::LOGS;
+        self.table.shared.load::<rule::Load>(&mut self.seat, word)
+    }
+
+    /// Word `i` of an object that is held is this word from then on. It leaves the bytes after the object's end 0.
+    pub fn store(&mut self, p: u16, i: u16, word: u64)
+        requires held { IsSome (held_at self.old.view p) }
+        requires inside { i < words_for (len_of (object_at self.old.view p)) }
+        requires padding { word < 2 ^ (8 * (len_of (object_at self.old.view p) - 8 * i)) }
+        ensures table { self.new.table ≡ self.old.table }
+        ensures view { self.new.view ≡ stored_view p i word self.old.view }
+        ensures event { OwnerMade (Event.Store self.old.view.number p i word) self.old.view Reply.Done self.new.view }
+    {
+        let at = self.places[(p % CELLS) as usize] as usize + i as usize + layout::LOGS;
         self.table
             .shared
-            .load::<rule::Load>(&mut self.seat, word)
+            .store::<rule::Store>(&mut self.seat, at, word);
     }
 
     /// Asks for an object to be moved, or drops it, which is used no longer then: the word found in its cell.
@@ -146,10 +158,8 @@ impl<D: Device> MutSeat<D> {
         ensures view { self.new.view ≡ asked_view p mark result self.old.view }
         ensures event { OwnerMade (Event.Ask self.old.view.number p mark) self.old.view (Reply.Word result) self.new.view }
     {
-        self.table.shared.fetch_or::<rule::Ask>(
-            &mut self.seat,
-            p as usize + layout::CELLS,
-            mark.mask(),
-        )
+        self.table
+            .shared
+            .fetch_or::<rule::Ask>(&mut self.seat, p as usize + layout::CELLS, mark.mask())
     }
 }

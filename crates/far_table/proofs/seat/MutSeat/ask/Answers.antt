@@ -27,7 +27,7 @@ invariant_of-self g c =
     let free = subst (λ (z : Seated). held_at z.view c.args.p ≡ None) (sym c.self.view_is) c.requires.free in
     let epoch = asked_epoch c.args.p c.args.mark c.fetch_or.result (owner_of c.self.inside.seat.me.0) in
     seat_stays _ _ _ _ _ _ _ _ _ _ _ _ _ i h.0 (h.2 c.args.p c.args.mark c.requires.request refl c.mask.ensures) (subst (λ z. Remembers z c.self.inside.epoch) (sym epoch) i.5) i.6
-        (places_asked c.args.p c.args.mark c.fetch_or.result _ _ free i.7)
+    (places_asked c.args.p c.args.mark c.fetch_or.result _ _ free i.7)
 
 pub returns-clause-view : goal.returns-clause-view
 returns-clause-view g c =
@@ -37,4 +37,4 @@ returns-clause-view g c =
 pub returns-clause-event : goal.returns-clause-event
 returns-clause-event g c =
     seat_made _ _ _ (λ (o : OwnerView). Ask o.number c.args.p c.args.mark) _ _ (ap (λ (z : Seated). z.view) c.self.view_is)
-        (c.fetch_or.ensures.2 c.args.p c.args.mark c.requires.request refl c.mask.ensures)
+    (c.fetch_or.ensures.2 c.args.p c.args.mark c.requires.request refl c.mask.ensures)

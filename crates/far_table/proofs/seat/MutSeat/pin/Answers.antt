@@ -73,7 +73,7 @@ invariant_of-self-2 g c =
     let some = sym r ∙ c.in-Some.is in
     let own = c.requires.own ∙ ap (λ (z : Seated). z.view.number) (sym c.self.view_is) in
     seat_stays _ _ _ _ _ _ _ _ _ _ _ _ _ i h.0 (pin_held _ _ _ c.args.p c.fetch_or-found.result c.in-Some.place some l.1) i.5 (length-set _ _ _ ∙ i.6)
-        (places_put _ _ c.args.p c.in-Some.place i.7 i.6 own (l.0.1 c.in-Some.place some))
+    (places_put _ _ c.args.p c.in-Some.place i.7 i.6 own (l.0.1 c.in-Some.place some))
 
 pub returns-clause-held : goal.returns-clause-held
 returns-clause-held g c =
