@@ -1,5 +1,5 @@
 -- A request of an owner, for MOVE or DROP, is its event of the core.
-use Rattle.std.proofs.Common.{◌≡◌, ◌≢◌, ◌+◌, ◌*◌, ◌/◌, ◌<◌, ◌^◌, ℕ, Bool, true, false, cond, bit_or, List, set, sym, refl, ap, ◌∙◌, subst, arith, Option, Some, None}
+use Rattle.std.proofs.Common.{◌≡◌, ◌+◌, ◌/◌, ◌<◌, ◌^◌, ℕ, Bool, true, false, cond, bit_or, List, set, sym, refl, ap, ◌∙◌, subst, arith, Option, Some, None}
 use Rattle.std.specs.Prelude.{slice_index, is_some}
 use Rattle.std.proofs.lemmas.Bool.{false≢true}
 use mathlib.Core.Logic.{dite}
@@ -17,7 +17,7 @@ use Rattle.far_word.specs.Mark.{position}
 use Rattle.far_word.specs.Pointer.{read_of}
 use Rattle.far_core.specs.declared.event.Event.TheVariants.{Ask}
 use Rattle.far_core.specs.declared.event.Reply.TheVariants.{Word}
-use Rattle.far_core.specs.events.Ask.{is_request, used_after}
+use Rattle.far_core.specs.events.Ask.{is_request}
 use Rattle.far_core.specs.events.Legal.{Legal}
 use Rattle.far_core.specs.events.Quiet.{has_move}
 use Rattle.far_core.specs.events.Step.{after}
@@ -36,8 +36,8 @@ use Rattle.far_table.specs.declared.view.View.{View}
 use Rattle.far_table.specs.declared.view.View.TheVariants.{Owner}
 use Rattle.far_table.specs.Layout.{cell_at, cell_in}
 use Rattle.far_table.specs.Plays.{Asked}
-use Rattle.far_table.specs.Rule.{Facts, Running, OwnerTies}
-use Rattle.far_table.specs.StateOf.{state_of, taken_at, used_by}
+use Rattle.far_table.specs.Rule.{Facts, Running}
+use Rattle.far_table.specs.StateOf.{state_of, taken_at}
 use Rattle.far_table.specs.Tells.{Tells, owner_of}
 use Rattle.far_table.specs.Views.{asked_at, asked_view, held_at, moves, object_at, uses}
 use Rattle.far_table.proofs.Lift.{owner_makes}

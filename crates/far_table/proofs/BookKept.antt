@@ -1,6 +1,5 @@
 -- What an owner's event leaves of the book's ties.
-use Rattle.std.proofs.Common.{◌≡◌, ◌+◌, ◌<◌, ◌^◌, ℕ, true, false, Some, refl, sym, ap, ◌∙◌, subst}
-use Rattle.far_word.specs.Pointer.{read_of}
+use Rattle.std.proofs.Common.{◌≡◌, ◌<◌, ◌^◌, ℕ, false, sym, ap, ◌∙◌, subst}
 use Rattle.far_core.specs.events.Quiet.{is_quiet}
 use Rattle.far_core.specs.state.Law.{Law}
 use Rattle.far_core.specs.state.State.{State}

@@ -1,6 +1,6 @@
 -- What is known of an object whose place an owner holds, or may hold.
-use Rattle.std.proofs.Common.{◌≡◌, ◌+◌, ◌*◌, ◌/◌, ◌<◌, ◌≤◌, ℕ, Bool, true, false, cond, length, sym, refl, ap, ◌∙◌, subst, arith, List, Option, Some, None}
-use Rattle.std.specs.Prelude.{is_some, IsSome, ◌||◌}
+use Rattle.std.proofs.Common.{◌≡◌, ◌+◌, ◌*◌, ◌/◌, ◌<◌, ◌≤◌, ℕ, Bool, true, false, cond, length, sym, refl, ap, ◌∙◌, arith, List, Option, Some, None}
+use Rattle.std.specs.Prelude.{is_some, ◌||◌}
 use Rattle.std.proofs.lemmas.Bool.{false≢true}
 use mathlib.Core.Option.{some}
 use lib.ListN.{get_elem?}
@@ -9,14 +9,13 @@ use Rattle.far_word.specs.declared.pointer.Place.{Place}
 use Rattle.far_word.specs.declared.pointer.PtrWord.{PtrWord}
 use Rattle.far_word.specs.declared.pointer.PtrWord.TheVariants.{Free, Near, Far}
 use Rattle.far_word.specs.declared.sizes.TheConstants.{CELLS, LOG_WORDS, MOST_LOGS}
-use Rattle.far_word.specs.Pointer.{read_of, view_place}
+use Rattle.far_word.specs.Pointer.{read_of}
 use Rattle.far_word.specs.Sizes.{words_for}
 use Rattle.far_word.proofs.PointerLaws.{read_says}
 use Rattle.far_core.specs.events.Pin.{place_to_view}
 use Rattle.far_core.specs.state.Law.{held_place}
 use Rattle.far_core.specs.state.State.{State, addr}
 use Rattle.far_core.specs.world.World.{Object}
-use Rattle.far_core.specs.world.WorldOf.{world_of}
 use Rattle.far_core.proofs.Cells.{held_near}
 use Rattle.far_core.proofs.ObjectFacts.{object_agrees}
 use Rattle.far_hand.proofs.Masking.{lies, one_owner}

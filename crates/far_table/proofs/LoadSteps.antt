@@ -1,5 +1,5 @@
 -- A load is its event of the core.
-use Rattle.std.proofs.Common.{◌≡◌, ◌+◌, ◌*◌, ◌/◌, ◌%◌, ◌<◌, ◌≤◌, ℕ, true, List, set, sym, refl, ap, ◌∙◌, subst, arith, Option, Some, None}
+use Rattle.std.proofs.Common.{◌≡◌, ◌+◌, ◌/◌, ◌%◌, ◌<◌, ℕ, true, List, sym, refl, ap, ◌∙◌, subst, arith, Some}
 use Rattle.std.specs.Prelude.{slice_index, IsSome}
 use mathlib.Core.Option.{some, none}
 use lib.ListN.{get_elem?}
@@ -7,7 +7,7 @@ use Rattle.atomic_table.specs.Table.{Me, step, Allows}
 use Rattle.atomic_table.proofs.Lists.{set_again}
 use Rattle.far_word.specs.Bytes.{packed_word}
 use Rattle.far_word.specs.declared.pointer.Place.{Place}
-use Rattle.far_word.specs.declared.sizes.TheConstants.{CELLS, LOG_WORDS, MOST_LOGS}
+use Rattle.far_word.specs.declared.sizes.TheConstants.{CELLS}
 use Rattle.far_word.specs.Sizes.{words_for}
 use Rattle.far_core.specs.declared.event.Event.TheVariants.{Load}
 use Rattle.far_core.specs.declared.event.Reply.TheVariants.{Word}

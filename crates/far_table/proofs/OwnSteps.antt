@@ -1,9 +1,8 @@
 -- A step of an owner's seat that is an event of the core keeps the rule: once for all kinds of step.
-use Rattle.std.proofs.Common.{◌≡◌, ◌≢◌, ◌⊎◌, ◌+◌, ◌/◌, ◌<◌, ℕ, Bool, true, List, length, set, sym, refl, ap, ◌∙◌, subst, ⊎_elim, Option, Some, get_or-set_other}
+use Rattle.std.proofs.Common.{◌≡◌, ◌≢◌, ◌+◌, ◌<◌, ℕ, Bool, true, List, length, set, sym, ap, ◌∙◌, subst, ⊎_elim, Option, get_or-set_other}
 use mathlib.Core.Option.{some}
 use lib.ListN.{get_elem?, length-set}
 use Rattle.atomic_table.proofs.Lists.{at_set}
-use Rattle.far_word.specs.declared.sizes.TheConstants.{CELLS, MOST_MUTATORS}
 use Rattle.far_word.specs.declared.pointer.Place.{Place}
 use Rattle.far_core.specs.declared.event.Event.{Event}
 use Rattle.far_core.specs.declared.event.Reply.{Reply}
@@ -20,7 +19,7 @@ use Rattle.far_hand.proofs.OwnersWork.{change}
 use Rattle.far_table.specs.declared.view.BookView.{BookView}
 use Rattle.far_table.specs.declared.view.ObjectView.{ObjectView}
 use Rattle.far_table.specs.declared.view.OwnerView.{OwnerView}
-use Rattle.far_table.specs.Layout.{TABLE_WORDS, JOBS, job_at, job_in, epoch_in, scope_in, cell_in, word_in}
+use Rattle.far_table.specs.Layout.{TABLE_WORDS, JOBS, job_at, job_in}
 use Rattle.far_table.specs.Rule.{BookTies, Facts, Has, OwnerTies}
 use Rattle.far_table.specs.StateOf.{book_state, held_by, remembered_by, state_of, taken_at, used_by}
 use Rattle.far_table.specs.Tells.{OwnerMade}

@@ -1,5 +1,5 @@
 -- One owner's view changes: what all owners know then.
-use Rattle.std.proofs.Common.{◌≡◌, ◌≢◌, ℕ, ◌/◌, ◌<◌, List, length, set, sym, refl, ap, ◌∙◌, arith, Option, get_or-set_other, get_or-set_same}
+use Rattle.std.proofs.Common.{◌≡◌, ◌≢◌, ℕ, ◌/◌, List, set, sym, refl, ap, ◌∙◌, get_or-set_other, get_or-set_same}
 use mathlib.Core.Logic.{dite}
 use mathlib.Core.Option.{some}
 use mathlib.Core.Path.{fun_ext}

@@ -1,5 +1,5 @@
 -- A pin is its event of the core.
-use Rattle.std.proofs.Common.{◌≡◌, ◌+◌, ◌*◌, ◌/◌, ◌<◌, ◌≤◌, ◌^◌, ℕ, true, cond, bit_or, List, set, sym, refl, ap, ◌∙◌, subst, arith, Option, Some, None}
+use Rattle.std.proofs.Common.{◌≡◌, ◌/◌, ◌<◌, ◌^◌, ℕ, true, cond, bit_or, List, set, sym, refl, ap, ◌∙◌, subst, arith, Option, Some, None}
 use Rattle.std.specs.Prelude.{slice_index, IsSome}
 use mathlib.Core.Option.{some, none}
 use lib.ListN.{get_elem?}
@@ -8,7 +8,7 @@ use Rattle.far_word.specs.declared.mark.Mark.TheVariants.{Hot}
 use Rattle.far_word.specs.declared.pointer.Place.{Place}
 use Rattle.far_word.specs.declared.pointer.PtrWord.{PtrWord}
 use Rattle.far_word.specs.declared.pointer.PtrWord.TheVariants.{Free, Near, Far}
-use Rattle.far_word.specs.declared.sizes.TheConstants.{CELLS, LOG_WORDS, MOST_LOGS, POINTERS}
+use Rattle.far_word.specs.declared.sizes.TheConstants.{CELLS, POINTERS}
 use Rattle.far_word.specs.Mark.{position}
 use Rattle.far_word.specs.Pointer.{read_of}
 use Rattle.far_word.specs.Sizes.{words_for}
@@ -18,7 +18,7 @@ use Rattle.far_core.specs.events.Open.{scope_word_of}
 use Rattle.far_core.specs.events.Pin.{place_to_view, with_hold, pin_answer}
 use Rattle.far_core.specs.events.Quiet.{has_move}
 use Rattle.far_core.specs.events.Step.{after}
-use Rattle.far_core.specs.state.State.{State, addr, put}
+use Rattle.far_core.specs.state.State.{State, put}
 use Rattle.far_core.proofs.Cells.{map_mark}
 use Rattle.far_core.proofs.KeepOwner.{hot_read}
 use Rattle.far_core.proofs.Owing.{does}
@@ -28,17 +28,17 @@ use Rattle.far_table.specs.declared.view.OwnerView.{OwnerView}
 use Rattle.far_table.specs.declared.view.View.{View}
 use Rattle.far_table.specs.declared.view.View.TheVariants.{Owner}
 use Rattle.far_table.specs.Layout.{cell_at, cell_in}
-use Rattle.far_table.specs.Plays.{Pinned, number_of, Lies}
+use Rattle.far_table.specs.Plays.{Pinned, Lies}
 use Rattle.far_table.specs.Rule.{Facts, Running}
 use Rattle.far_table.specs.StateOf.{held_by, state_of}
 use Rattle.far_table.specs.Tells.{Tells, owner_of}
 use Rattle.far_table.specs.Views.{asked_at, held_at, held_view, len_of, moves, object_at, pinned_view, uses, with_place}
-use Rattle.far_table.proofs.HeldFacts.{HeldFacts, may_hold, near_facts}
+use Rattle.far_table.proofs.HeldFacts.{may_hold, near_facts}
 use Rattle.far_table.proofs.Lift.{owner_makes}
 use Rattle.far_table.proofs.Others.{pin_objects}
 use Rattle.far_table.proofs.Owners.{known_by, pointers_put, pointers_same, remembered_same}
 use Rattle.far_table.proofs.OwnSteps.{OwnStep, jobs_stay, mine_on, state_is}
-use Rattle.far_table.proofs.Steps.{few, open_so}
+use Rattle.far_table.proofs.Steps.{open_so}
 use Rattle.far_table.proofs.Words.{cell_here, cell_word_set}
 
 hot_moves : (x : Option PtrWord) → has_move (map_mark Hot x) ≡ has_move x

@@ -1,13 +1,13 @@
 -- Each kind of step of an owner's seat is its event of the core.
-use Rattle.std.proofs.Common.{◌≡◌, ◌≢◌, ℕ, ◌+◌, ◌*◌, ◌/◌, ◌<◌, true, cond, List, set, sym, refl, ap, ◌∙◌, subst, arith, Option, Some, None}
-use Rattle.std.specs.Prelude.{slice_index, IsSome, ◌==◌}
+use Rattle.std.proofs.Common.{◌≡◌, ◌≢◌, ℕ, ◌/◌, ◌<◌, cond, List, set, sym, refl, ap, ◌∙◌, subst, arith, Option, Some, None}
+use Rattle.std.specs.Prelude.{IsSome, ◌==◌}
 use Rattle.std.proofs.lemmas.Bool.{eq-eqb, ne_eqb}
 use mathlib.Core.Option.{some, none}
 use lib.ListN.{get_elem?}
 use Rattle.atomic_table.specs.Table.{Me, step, Allows}
-use Rattle.far_word.specs.declared.sizes.TheConstants.{CELLS, EPOCH_END, MOST_MUTATORS}
-use Rattle.far_core.specs.declared.event.Event.TheVariants.{ReadEpoch, Open, Pin, Load, Store, Close, Adopt, Ask}
-use Rattle.far_core.specs.declared.event.Reply.TheVariants.{Done, Epoch, Word}
+use Rattle.far_word.specs.declared.sizes.TheConstants.{CELLS, MOST_MUTATORS}
+use Rattle.far_core.specs.declared.event.Event.TheVariants.{ReadEpoch, Open, Close}
+use Rattle.far_core.specs.declared.event.Reply.TheVariants.{Done, Epoch}
 use Rattle.far_core.specs.events.Legal.{Legal, IsClosed, IsOpen}
 use Rattle.far_core.specs.events.Open.{scope_word_of}
 use Rattle.far_core.specs.events.Step.{after}
@@ -20,7 +20,7 @@ use Rattle.far_table.specs.declared.view.OwnerView.{OwnerView}
 use Rattle.far_table.specs.declared.view.View.{View}
 use Rattle.far_table.specs.declared.view.View.TheVariants.{Owner}
 use Rattle.far_table.specs.Layout.{EPOCH_AT, scope_at, epoch_in, scope_in, cell_in, word_in}
-use Rattle.far_table.specs.Plays.{EpochRead, Opened, Closed, number_of}
+use Rattle.far_table.specs.Plays.{EpochRead, Opened, Closed}
 use Rattle.far_table.specs.Rule.{Facts, Running}
 use Rattle.far_table.specs.StateOf.{held_by, remembered_by, state_of}
 use Rattle.far_table.specs.Tells.{owner_of}

@@ -1,5 +1,5 @@
 -- A store is its event of the core.
-use Rattle.std.proofs.Common.{◌≡◌, ◌≢◌, ◌+◌, ◌-◌, ◌*◌, ◌/◌, ◌%◌, ◌<◌, ◌≤◌, ◌^◌, ℕ, true, List, ◌∷◌, length, set, sym, refl, ap, ◌∙◌, subst, arith, Option, Some, None}
+use Rattle.std.proofs.Common.{◌≡◌, ◌+◌, ◌-◌, ◌*◌, ◌/◌, ◌%◌, ◌<◌, ◌^◌, ℕ, true, List, ◌∷◌, set, sym, refl, ap, ◌∙◌, subst, arith, Option, Some, None}
 use Rattle.std.specs.Prelude.{slice_index, is_some, IsSome}
 use mathlib.Core.Logic.{dite}
 use mathlib.Core.Option.{some, none}
@@ -9,7 +9,7 @@ use lib.ListN.{get_elem?}
 use Rattle.atomic_table.specs.Table.{Me, step, Allows}
 use Rattle.far_word.specs.Bytes.{packed_word}
 use Rattle.far_word.specs.declared.pointer.Place.{Place}
-use Rattle.far_word.specs.declared.sizes.TheConstants.{CELLS, LOG_WORDS, MOST_LOGS}
+use Rattle.far_word.specs.declared.sizes.TheConstants.{CELLS}
 use Rattle.far_word.specs.Sizes.{words_for}
 use Rattle.far_core.specs.declared.event.Event.TheVariants.{Load, Store}
 use Rattle.far_core.specs.declared.event.Reply.TheVariants.{Done}
@@ -22,7 +22,7 @@ use Rattle.far_core.specs.world.WorldOf.{world_of}
 use Rattle.far_core.proofs.Calls.{word_behind}
 use Rattle.far_core.proofs.ObjectFacts.{object_agrees}
 use Rattle.far_core.proofs.Owing.{does, keeps}
-use Rattle.far_core.proofs.Put.{put_both, put_other, put_same, put_two}
+use Rattle.far_core.proofs.Put.{put_both, put_other, put_same}
 use Rattle.far_table.specs.declared.view.BookView.{BookView}
 use Rattle.far_table.specs.declared.view.ObjectView.{ObjectView}
 use Rattle.far_table.specs.declared.view.OwnerView.{OwnerView}
@@ -30,7 +30,7 @@ use Rattle.far_table.specs.declared.view.View.{View}
 use Rattle.far_table.specs.declared.view.View.TheVariants.{Owner}
 use Rattle.far_table.specs.Layout.{TABLE_WORDS, data_at, epoch_in, scope_in, cell_in, word_in}
 use Rattle.far_table.specs.Plays.{Stored}
-use Rattle.far_table.specs.Rule.{Facts, Has, Running, OwnerTies}
+use Rattle.far_table.specs.Rule.{Facts, Has, Running}
 use Rattle.far_table.specs.Seats.{HasPlaces}
 use Rattle.far_table.specs.StateOf.{state_of}
 use Rattle.far_table.specs.Tells.{Tells, owner_of}

@@ -1,5 +1,5 @@
 -- One word of the table changes: what the heap's words are then.
-use Rattle.std.proofs.Common.{◌≡◌, ◌≢◌, ℕ, ◌+◌, ◌<◌, ◌≤◌, Bool, true, false, cond, nat_lt, List, length, set, sym, refl, ap, ◌∙◌, arith, get_or-set_other, get_or-set_same}
+use Rattle.std.proofs.Common.{◌≡◌, ◌≢◌, ℕ, ◌+◌, ◌<◌, Bool, true, false, cond, nat_lt, List, length, set, refl, ap, ◌∙◌, arith, get_or-set_other, get_or-set_same}
 use Rattle.std.specs.Prelude.{slice_index}
 use Rattle.std.proofs.lemmas.Bool.{lt-ltb, ltb-true}
 use mathlib.Core.Path.{fun_ext}

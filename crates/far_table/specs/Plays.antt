@@ -12,7 +12,7 @@ use Rattle.far_core.specs.events.Pin.{place_to_view, pin_answer}
 use Rattle.far_core.specs.state.State.{addr}
 use Rattle.far_table.specs.Layout.{cell_at, data_at}
 use Rattle.far_table.specs.declared.view.OwnerView.{OwnerView}
-use Rattle.far_core.specs.declared.event.Event.TheVariants.{ReadEpoch, Open, Pin, Load, Store, Close, Adopt, Ask}
+use Rattle.far_core.specs.declared.event.Event.TheVariants.{ReadEpoch, Open, Pin, Load, Store, Close, Ask}
 use Rattle.far_core.specs.declared.event.Reply.TheVariants.{Done, Epoch, Word}
 use Rattle.far_table.specs.declared.view.View.{View}
 use Rattle.far_table.specs.Tells.{Tells, owner_of}

@@ -1,5 +1,5 @@
 -- The words and all views are a state of the core.
-use Rattle.std.specs.Prelude.{ℕ, ◌/◌, Bool, true, false, cond, Option, Some, None, List, [], is_some}
+use Rattle.std.specs.Prelude.{ℕ, ◌/◌, Bool, false, Option, Some, None, List, [], is_some}
 use Rattle.far_word.specs.declared.pointer.Place.{Place}
 use Rattle.far_word.specs.declared.sizes.TheConstants.{CELLS}
 use Rattle.far_core.specs.declared.event.Kind.TheVariants.{Free}

@@ -1,5 +1,5 @@
 -- What a step of an owner's seat tells.
-use Rattle.std.specs.Prelude.{◌≡◌, ℕ, None, List, [], slice_set}
+use Rattle.std.specs.Prelude.{◌≡◌, ℕ, List, slice_set}
 use mathlib.Core.Option.{some}
 use lib.ListN.{get_elem?}
 use Rattle.far_core.specs.declared.event.Event.{Event}

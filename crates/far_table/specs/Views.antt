@@ -1,5 +1,5 @@
 -- What stands in an owner's view, and how its steps change it.
-use Rattle.std.specs.Prelude.{ℕ, ◌+◌, ◌/◌, Bool, true, false, cond, Option, Some, None, List, [], ◌∷◌, is_some, slice_index_or}
+use Rattle.std.specs.Prelude.{ℕ, ◌+◌, Bool, false, cond, Option, Some, None, List, [], ◌∷◌, is_some, slice_index_or}
 use Rattle.far_word.specs.declared.mark.Mark.{Mark}
 use Rattle.far_word.specs.declared.mark.Mark.TheVariants.{Hot, Evac, Moved, Dropped}
 use Rattle.far_word.specs.declared.pointer.Place.{Place}

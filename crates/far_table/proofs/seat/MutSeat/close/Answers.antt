@@ -1,11 +1,7 @@
-use Rattle.std.proofs.Common.{rules, ◌≡◌, ◌≢◌, ◌+◌, ◌*◌, ◌<◌, ℕ, refl, sym, ap, ◌∙◌, subst, arith, Some, None}
+use Rattle.std.proofs.Common.{sym, ap, subst, arith}
 use Rattle.std.specs.Prelude.{IsSome}
-use Rattle.far_word.specs.declared.sizes.TheConstants.{EPOCH_END}
-use Rattle.far_core.specs.events.Open.{scope_word_of}
-use Rattle.far_table.specs.declared.view.OwnerView.{OwnerView}
-use Rattle.far_table.specs.Layout.{EPOCH_AT, TABLE_WORDS, scope_at}
-use Rattle.far_table.specs.Seats.{Seated, Remembers}
-use Rattle.far_table.specs.Tells.{owner_of}
+use Rattle.far_table.specs.Layout.{scope_at}
+use Rattle.far_table.specs.Seats.{Seated}
 use Rattle.far_table.proofs.SeatLemmas.{inside}
 use Rattle.far_table.proofs.Steps.{closes}
 use Rattle.far_table.proofs.seat.MutSeat.close.Goals as goal

@@ -1,11 +1,8 @@
-use Rattle.std.proofs.Common.{rules, ◌≡◌, ◌≢◌, ◌+◌, ◌*◌, ◌<◌, ℕ, refl, sym, ap, ◌∙◌, subst, arith, Some, None}
+use Rattle.std.proofs.Common.{refl, sym, ap, ◌∙◌, subst, arith}
 use Rattle.std.specs.Prelude.{IsSome}
-use Rattle.far_word.specs.declared.sizes.TheConstants.{EPOCH_END}
-use Rattle.far_core.specs.events.Open.{scope_word_of}
 use Rattle.far_table.specs.declared.view.OwnerView.{OwnerView}
-use Rattle.far_table.specs.Layout.{EPOCH_AT, TABLE_WORDS, scope_at}
-use Rattle.far_table.specs.Seats.{Seated, Remembers}
-use Rattle.far_table.specs.Tells.{owner_of}
+use Rattle.far_table.specs.Layout.{scope_at}
+use Rattle.far_table.specs.Seats.{Seated}
 use Rattle.far_table.proofs.SeatLemmas.{inside, places_same, seat_stays}
 use Rattle.far_table.proofs.Steps.{opens}
 use Rattle.far_table.proofs.SeatLemmas.{remembered_word}

@@ -1,4 +1,4 @@
-use Rattle.std.proofs.Common.{rules, ◌≡◌, ◌+◌, ◌*◌, ◌/◌, ◌<◌, ◌≤◌, ℕ, true, refl, sym, ap, ◌∙◌, subst, arith, Some, None}
+use Rattle.std.proofs.Common.{◌≡◌, ◌/◌, true, refl, sym, ap, ◌∙◌, subst, arith, None}
 use Rattle.std.specs.Prelude.{IsSome}
 use lib.ListN.{length-set}
 use Rattle.far_word.specs.declared.sizes.TheConstants.{CELLS}
@@ -11,7 +11,7 @@ use Rattle.far_table.specs.Seats.{Seated}
 use Rattle.far_table.specs.Tells.{owner_of}
 use Rattle.far_table.specs.Views.{held_at, held_view, uses}
 use Rattle.far_table.proofs.PinSteps.{pins}
-use Rattle.far_table.proofs.SeatLemmas.{inside, pin_held, pin_kept, places_put, places_same, rests, seat_made, seat_stays}
+use Rattle.far_table.proofs.SeatLemmas.{inside, pin_held, pin_kept, places_put, rests, seat_made, seat_stays}
 use Rattle.far_table.proofs.seat.MutSeat.pin.Goals as goal
 
 pub fetch_or-found-requires : goal.fetch_or-found-requires
