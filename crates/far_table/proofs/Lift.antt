@@ -41,7 +41,7 @@ module _ {S : Type 0} where
       (t.1 ∙ ap suc is, subst (λ n. get_elem? r.dealt n ≡ some o) is t.2)
 
   -- a step of an owner's seat owes the facts after it, of any words and views that meet them
-  owner_allows : (slots id i : ℕ) (me : Me S View) (o : OwnerView) (f : ℕ → ℕ) (then : ℕ → Me S View → Type 0) → me.0 ≡ Owner o →
+  pub owner_allows : (slots id i : ℕ) (me : Me S View) (o : OwnerView) (f : ℕ → ℕ) (then : ℕ → Me S View → Type 0) → me.0 ≡ Owner o →
       ((ws : List ℕ) (b : BookView) (os : List OwnerView) → Facts ws b os → get_elem? os o.number ≡ some o →
       (w : OwnerView) × Facts (set ws i (f (slice_index ws i))) b (set os o.number w) × then (slice_index ws i) (Owner w, me.1)) →
       Allows Running slots id me i f then

@@ -1,6 +1,6 @@
 -- What a seat's struct keeps over a step, for all kinds of step.
-use Rattle.std.proofs.Common.{◌≡◌, ◌≢◌, ◌/◌, ◌%◌, set, get_or-set_same, get_or-set_other, ℕ, ◌+◌, ◌*◌, ◌<◌, ◌≤◌, List, length, subst, Option, Some, None, refl, sym, ap, ◌∙◌, arith}
-use Rattle.std.specs.Prelude.{IsSome}
+use Rattle.std.proofs.Common.{Bool, true, false, ◌≡◌, ◌≢◌, ◌/◌, ◌%◌, set, get_or-set_same, get_or-set_other, ℕ, ◌+◌, ◌*◌, ◌<◌, ◌≤◌, List, length, subst, Option, Some, None, refl, sym, ap, ◌∙◌, arith}
+use Rattle.std.specs.Prelude.{IfSome, IsSome}
 use Rattle.std.proofs.lemmas.Bool.{false≢true}
 use mathlib.Core.Logic.{dite}
 use native.Mathlib.Decide.{ℕ_discrete}
@@ -22,10 +22,12 @@ use Rattle.far_table.specs.declared.view.ObjectView.{ObjectView}
 use Rattle.far_table.specs.declared.view.OwnerView.{OwnerView}
 use Rattle.far_table.specs.declared.view.View.{View}
 use Rattle.far_table.specs.declared.view.View.TheVariants.{Owner}
-use Rattle.far_table.specs.Tells.{OwnerMade, Tells, owner_of}
-use Rattle.far_table.specs.Views.{asked_view, held_at, held_view, len_of, object_at, pinned_view, stored_view, with_place, with_word}
+use Rattle.far_table.specs.Tells.{OwnerMade, OwnerRefused, Tells, owner_of}
+use Rattle.far_table.specs.Views.{adopted_view, asked_view, fresh, held_at, held_view, len_of, object_at, pinned_view, stored_view, with_place, with_word}
 use Rattle.far_core.specs.events.Open.{scope_word_of}
 use Rattle.far_table.specs.Layout.{TABLE_WORDS}
+use Rattle.far_table.specs.Plays.{AdoptTells, number_of}
+use Rattle.far_core.specs.declared.event.Event.TheVariants.{Adopt}
 use Rattle.far_table.specs.Seats.{HasPlace, HasPlaces, Remembers}
 
 -- a seat's table, as its `Arc` shows it, has this word
@@ -125,3 +127,34 @@ places_stored p i v o places has q place h = let x = has q place h in
     let same : len_of (object_at (stored_view p i v o) q) ≡ len_of (object_at o q) = put_both (λ (y : Option ObjectView). len_of y ≡ len_of (object_at o q)) (object_at o) p (with_word i v (object_at o p)) q
     (λ e. same_long i v (object_at o p) ∙ ap (λ z. len_of (object_at o z)) (sym e)) (λ _. refl) in
     record { own = x.own; here = x.here; fits = subst (λ n. addr place + 1 + words_for n ≤ MOST_LOGS * LOG_WORDS) (sym same) x.fits }
+
+-- ---- an adoption, by the word found
+pub places_adopted : (p n : ℕ) (o : OwnerView) (places : List ℕ) → held_at o p ≡ None → HasPlaces o places → HasPlaces (adopted_view p n o) places
+places_adopted p n o places free has q place h =
+    let x = has q place h in
+    let ne : q ≢ p = λ e. let odd : None ≡ Some place = sym free ∙ (ap (held_at o) (sym e) ∙ h) in cc in record {
+      own = x.own;
+      here = x.here;
+      fits = subst (λ z. addr place + 1 + words_for (len_of z) ≤ MOST_LOGS * LOG_WORDS) (sym (put_other (object_at o) p (Some (fresh n)) q ne)) x.fits;
+    }
+
+pub adopt_made : (t : Bool) (v v' : View) (p n : ℕ) → t ≡ true → AdoptTells t v v' p n → Tells v v' (Adopt (number_of v) p) (Word n) (adopted_view p n (owner_of v))
+adopt_made true v v' p n e h = h
+adopt_made false v v' p n e h = absurd (false≢true e)
+
+pub adopt_refused : (t : Bool) (v v' : View) (p n : ℕ) → t ≡ false → AdoptTells t v v' p n → (v' ≡ Owner (owner_of v)) × OwnerRefused (Adopt (number_of v) p) (owner_of v)
+adopt_refused true v v' p n e h = absurd (false≢true (sym e))
+adopt_refused false v v' p n e h = h
+
+-- the invariant holds after it, made or refused
+pub adopt_stays : (id later here : TableId) (v v' : View) (number epoch : ℕ) (places : List ℕ) (t : Bool) (p n : ℕ) → SeatOk id here v number epoch places → later ≡ id →
+    held_at (owner_of v) p ≡ None → AdoptTells t v v' p n → SeatOk later here v' number epoch places
+adopt_stays id later here v v' number epoch places true p n i same free t = seat_stays id later here v v' number epoch epoch places places _ _ _ i same t i.5 i.6 (places_adopted p n _ places free i.7)
+adopt_stays id later here v v' number epoch places false p n i same free t =
+    let view : v' ≡ v = t.0 ∙ sym i.2 in subst (λ z. SeatOk later here z number epoch places) (sym view) (same ∙ i.0, ap (λ (z : TableId). z.words) same ∙ i.1, i.2, i.3, i.4, i.5, i.6, i.7)
+
+pub if_some : {X : Type 0} (r : Option X) (x : X) (P : X → Type 0) → r ≡ Some x → P x → IfSome r P
+if_some r x P e h = subst (λ z. IfSome z P) (sym e) h
+
+pub if_none : {X : Type 0} (r : Option X) (P : X → Type 0) → r ≡ None → IfSome r P
+if_none r P e = subst (λ z. IfSome z P) (sym e) tt

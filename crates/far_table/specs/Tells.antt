@@ -33,6 +33,15 @@ pub record OwnerMade (e : Event) (o : OwnerView) (r : Reply) (o' : OwnerView) : 
   pub becomes : after (state_of words book owners) e ≡ state_of later book (slice_set owners o.number o')
   pub keeps : Facts later book (slice_set owners o.number o')
 
+-- the event was refused: in some state that met the rule, in which the owner's view was o, it wasn't legal
+pub record OwnerRefused (e : Event) (o : OwnerView) : Type 0 where
+  pub words : List ℕ
+  pub book : BookView
+  pub owners : List OwnerView
+  pub facts : Facts words book owners
+  pub stands : get_elem? owners o.number ≡ some o
+  pub refused : ¬ Legal (state_of words book owners) e
+
 -- the seat's view before and after the step: the event was made
 pub record Tells (before now : View) (e : Event) (r : Reply) (o' : OwnerView) : Type 0 where
   pub after_is : now ≡ Owner o'

@@ -7,7 +7,6 @@ use Rattle.far_word.specs.declared.pointer.PtrWord.{PtrWord}
 use Rattle.far_word.specs.Pointer.{read_of, pointer_len}
 use Rattle.far_core.specs.events.Pin.{place_to_view}
 use Rattle.far_core.specs.events.Quiet.{has_move}
-use Rattle.far_core.specs.state.Law.{in_use}
 use Rattle.far_table.specs.declared.view.ObjectView.{ObjectView}
 use Rattle.far_table.specs.declared.view.OwnerView.{OwnerView}
 use Rattle.far_table.specs.Rows.{over}
@@ -79,9 +78,9 @@ said_len (Some v) = pointer_len v
 abbrev pub fresh : ℕ → ObjectView
 fresh found = record { len = said_len (read_of found); words = [] }
 
--- the object is the owner's from now on, if the word found is in use
+-- the object is the owner's from now on
 abbrev pub adopted_view : ℕ → ℕ → OwnerView → OwnerView
-adopted_view p found o = cond (in_use (read_of found)) (record o { objects = (p, Some (fresh found)) ∷ o.objects }) o
+adopted_view p found o = record o { objects = (p, Some (fresh found)) ∷ o.objects }
 
 -- 1 where a word has MOVE
 abbrev pub moves : ℕ → ℕ

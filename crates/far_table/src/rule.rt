@@ -90,3 +90,11 @@ impl Play<u64, View> for Store {
 
     ghost then = { Stored };
 }
+
+pub(crate) struct Adopt;
+
+impl Play<u64, View> for Adopt {
+    ghost use Rattle.far_table.specs.Plays.{Adopted};
+
+    ghost then = { Adopted };
+}

@@ -1,15 +1,16 @@
 // An owner's seat.
-ghost use Rattle.std.specs.Prelude.{◌≡◌, ◌+◌, ◌-◌, ◌*◌, ◌/◌, ◌^◌, ◌<◌, true, None, IsSome, IfOk, IfErr};
+ghost use Rattle.std.specs.Prelude.{◌≡◌, ◌+◌, ◌-◌, ◌*◌, ◌/◌, ◌^◌, ◌<◌, true, None, IsSome, IfOk, IfErr, IfSome};
 ghost use Rattle.std.specs.Arc.{arc_value};
 ghost use Rattle.far_core.specs.declared.event.Event.{Event as any_event};
 ghost use Rattle.far_core.specs.declared.event.Reply.{Reply as any_reply};
-ghost use Rattle.far_table.specs.Tells.{OwnerMade};
+ghost use Rattle.far_table.specs.Tells.{OwnerMade, OwnerRefused};
 ghost use Rattle.far_word.specs.declared.sizes.TheConstants.{CELLS};
 ghost use Rattle.far_word.specs.Pointer.{read_of};
 ghost use Rattle.far_core.specs.events.Ask.{is_request};
+ghost use Rattle.far_core.specs.state.Law.{in_use};
 ghost use Rattle.far_core.specs.events.Pin.{place_to_view};
 ghost use Rattle.far_table.specs.Seats.{pin_reply};
-ghost use Rattle.far_table.specs.Views.{asked_view, closed_view, held_at, held_view, len_of, object_at, opened_view, read_view, stored_view, uses, word_in_view};
+ghost use Rattle.far_table.specs.Views.{adopted_view, asked_view, closed_view, held_at, held_view, len_of, object_at, opened_view, read_view, stored_view, uses, word_in_view};
 ghost use Rattle.far_word.specs.Sizes.{words_for};
 
 use crate::layout::{EPOCH, SCOPES};
@@ -19,7 +20,7 @@ use crate::{layout, rule};
 use atomic_table::Seat;
 use far_core::{Event, Reply};
 use far_device::Device;
-use far_word::{CELLS, LOG_WORDS, Mark, Place, resting_place};
+use far_word::{CELLS, LOG_WORDS, Mark, Place, PtrWord, resting_place};
 use std::alloc::Global;
 use std::marker::Model;
 use std::sync::Arc;
@@ -148,6 +149,21 @@ impl<D: Device> MutSeat<D> {
             .store::<rule::Store>(&mut self.seat, at, word);
     }
 
+    /// Uses a pointer of the owner's own from then on, whose cell is in use: the word found. `None` where it isn't; then nothing changes.
+    pub fn adopt(&mut self, p: u16) -> Option<u64>
+        requires own { p / CELLS ≡ self.old.view.number }
+        requires unused { object_at self.old.view p ≡ None }
+        ensures table { self.new.table ≡ self.old.table }
+        ensures adopted { IfSome result (λ found. (self.new.view ≡ adopted_view p found self.old.view) × OwnerMade (Event.Adopt self.old.view.number p) self.old.view (Reply.Word found) self.new.view) }
+        ensures refused { result ≡ None → (self.new.view ≡ self.old.view) × OwnerRefused (Event.Adopt self.old.view.number p) self.old.view }
+    {
+        let found = self
+            .table
+            .shared
+            .load::<rule::Adopt>(&mut self.seat, p as usize + layout::CELLS);
+        if is_in_use(found) { Some(found) } else { None }
+    }
+
     /// Asks for an object to be moved, or drops it, which is used no longer then: the word found in its cell.
     pub fn ask(&mut self, p: u16, mark: Mark) -> u64
         requires request { is_request mark ≡ true }
@@ -161,5 +177,16 @@ impl<D: Device> MutSeat<D> {
         self.table
             .shared
             .fetch_or::<rule::Ask>(&mut self.seat, p as usize + layout::CELLS, mark.mask())
+    }
+}
+
+// Whether a cell is used and not dropped.
+fn is_in_use(cell: u64) -> bool
+    requires { IsSome (read_of cell) }
+    ensures { result ≡ in_use (read_of cell) }
+{
+    match PtrWord::known(cell) {
+        PtrWord::Near { marks, .. } | PtrWord::Far { marks, .. } => !marks.dropped,
+        PtrWord::Free => false,
     }
 }
