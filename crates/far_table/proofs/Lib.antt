@@ -1,0 +1,15 @@
+pub mod Places
+pub mod Words
+pub mod Owners
+pub mod BookKept
+pub mod Others
+pub mod OwnSteps
+pub mod Lift
+pub mod Steps
+pub mod HeldFacts
+pub mod PinSteps
+pub mod LoadSteps
+pub mod AdoptSteps
+pub mod AskSteps
+pub mod StoreSteps
+pub mod SeatLemmas

@@ -1,0 +1,130 @@
+-- A step of an owner's seat that is an event of the core keeps the rule: once for all kinds of step.
+use Rattle.std.proofs.Common.{◌≡◌, ◌≢◌, ◌+◌, ◌<◌, ℕ, Bool, true, List, length, set, sym, ap, ◌∙◌, subst, ⊎_elim, Option, get_or-set_other}
+use mathlib.Core.Option.{some}
+use lib.ListN.{get_elem?, length-set}
+use Rattle.atomic_table.proofs.Lists.{at_set}
+use Rattle.far_word.specs.declared.pointer.Place.{Place}
+use Rattle.far_core.specs.declared.event.Event.{Event}
+use Rattle.far_core.specs.declared.event.Reply.{Reply}
+use Rattle.far_core.specs.events.Legal.{Legal}
+use Rattle.far_core.specs.events.Open.{scope_word_of}
+use Rattle.far_core.specs.events.Step.{Fits, after, answer}
+use Rattle.far_core.specs.state.Law.{Law}
+use Rattle.far_core.specs.state.State.{State}
+use Rattle.far_core.specs.world.WorldOf.{world_of}
+use Rattle.far_core.proofs.Owing.{keeps}
+use Rattle.far_core.proofs.Steps.{agrees}
+use Rattle.far_hand.specs.Owners.{is_owners}
+use Rattle.far_hand.proofs.OwnersWork.{change}
+use Rattle.far_table.specs.declared.view.BookView.{BookView}
+use Rattle.far_table.specs.declared.view.ObjectView.{ObjectView}
+use Rattle.far_table.specs.declared.view.OwnerView.{OwnerView}
+use Rattle.far_table.specs.Layout.{TABLE_WORDS, JOBS, job_at, job_in}
+use Rattle.far_table.specs.Rule.{BookTies, Facts, Has, OwnerTies}
+use Rattle.far_table.specs.StateOf.{book_state, held_by, remembered_by, state_of, taken_at, used_by}
+use Rattle.far_table.specs.Tells.{OwnerMade}
+use Rattle.far_table.specs.Views.{asked_at, moves, object_at}
+use Rattle.far_table.proofs.BookKept.{book_on}
+use Rattle.far_table.proofs.Others.{KeepsOthers, keeps_others, maker}
+use Rattle.far_table.proofs.Places.{below}
+use Rattle.far_table.proofs.Words.{WordsAre}
+
+-- ---- the state that words and views are, by its parts
+pub state_is : (ws : List ℕ) (b : BookView) (os : List OwnerView) {epoch : ℕ} {scope cell word : ℕ → ℕ} {remembered : ℕ → Option ℕ} {used : ℕ → Bool} {held : ℕ → Option Place} →
+    WordsAre ws epoch scope cell word → remembered_by os ≡ remembered → used_by os ≡ used → held_by os ≡ held →
+    record (book_state b) { epoch = epoch; scope = scope; cell = cell; word = word; remembered = remembered; used = used; held = held } ≡ state_of ws b os
+state_is ws b os words r u h = λ i. record (book_state b) {
+  epoch = sym words.epoch_is i;
+  scope = sym words.scope_is i;
+  cell = sym words.cell_is i;
+  word = sym words.word_is i;
+  remembered = sym r i;
+  used = sym u i;
+  held = sym h i;
+}
+
+-- ---- ties of an owner that go on
+pub has_on : (s t : State) (p : ℕ) (x : ObjectView) → (world_of t).object p ≡ (world_of s).object p → t.honest ≡ s.honest → Has s p x → Has t p x
+has_on s t p x same honest h = record { object = h.object; there = same ∙ h.there; len = h.len; words = λ is. h.words (sym honest ∙ is) }
+
+owner_on : (b : BookView) (s t : State) (m j : ℕ) (y : OwnerView) → KeepsOthers s t m → j ≢ m → OwnerTies b s j y → OwnerTies b t j y
+owner_on b s t m j y keep ne ties = record {
+  number = ties.number;
+  honest = ties.honest ∙ sym keep.honest;
+  scope = keep.scope j ne ∙ ties.scope;
+  objects = λ p x own h. has_on s t p x (keep.object p (λ e. ne (sym own ∙ e))) keep.honest (ties.objects p x own h);
+  asks = λ p own. ties.asks p own ∙ ap (λ w. taken_at b p + moves w) (sym (keep.cell p (λ e. ne (sym own ∙ e))));
+}
+
+-- the ties of the owner itself, where neither an object nor a count of it changes
+pub mine_on : (b : BookView) (s t : State) (m : ℕ) (o w : OwnerView) → OwnerTies b s m o → w.number ≡ o.number → w.honest ≡ o.honest → t.honest ≡ s.honest →
+    t.scope m ≡ scope_word_of w.open_at → object_at w ≡ object_at o → asked_at w ≡ asked_at o → (world_of t).object ≡ (world_of s).object →
+    ((p : ℕ) → moves (t.cell p) ≡ moves (s.cell p)) → OwnerTies b t m w
+mine_on b s t m o w ties number honest same scope objects asked world marks = record {
+  number = number ∙ ties.number;
+  honest = honest ∙ (ties.honest ∙ sym same);
+  scope = scope;
+  objects = λ p x own h. has_on s t p x (ap (λ f. f p) world) same (ties.objects p x own (sym (ap (λ f. f p) objects) ∙ h));
+  asks = λ p own. ap (λ f. f p) asked ∙ (ties.asks p own ∙ ap (λ n. taken_at b p + n) (sym (marks p)));
+}
+
+module _ (ws : List ℕ) (b : BookView) (os : List OwnerView) (f : Facts ws b os) where
+  pub is_mutator : (m : ℕ) (o : OwnerView) → get_elem? os m ≡ some o → m < b.mutators
+  is_mutator m o at = subst (λ n. m < n) f.many (below os m o at)
+
+  pub jobs_stay : (i x : ℕ) → ((j : ℕ) → j < JOBS → job_at j ≢ i) → (j : ℕ) → j < JOBS → job_in (set ws i x) j ≡ 0
+  jobs_stay i x apart j small = get_or-set_other ws i (job_at j) x 0 (apart j small) ∙ f.jobs j small
+
+-- what a kind of step owes: its event is legal, with this answer; the words and views after are the core's state; and the owner's own ties
+pub record OwnStep (ws : List ℕ) (b : BookView) (os : List OwnerView) (o : OwnerView) (e : Event) (r : Reply) (later : List ℕ) (w : OwnerView) : Type 0 where
+  pub legal : Legal (state_of ws b os) e
+  pub says : r ≡ answer (state_of ws b os) e
+  pub becomes : after (state_of ws b os) e ≡ state_of later b (set os o.number w)
+  pub wide : length later ≡ TABLE_WORDS
+  pub jobs : (j : ℕ) → j < JOBS → job_in later j ≡ 0
+  pub mine : OwnerTies b (after (state_of ws b os) e) o.number w
+
+module _ (ws : List ℕ) (b : BookView) (os : List OwnerView) (f : Facts ws b os) (o : OwnerView) (at : get_elem? os o.number ≡ some o)
+    (e : Event) (own : is_owners e ≡ true) (by : maker e ≡ o.number) (fits : Fits e) (r : Reply) (later : List ℕ) (w : OwnerView) (k : OwnStep ws b os o e r later w) where
+  abbrev s : State
+  s = state_of ws b os
+
+  abbrev t : State
+  t = after s e
+
+  others : KeepsOthers s t o.number
+  others = subst (KeepsOthers s t) by (keeps_others s e own f.law fits k.legal)
+
+  each : (j : ℕ) (y : OwnerView) → get_elem? (set os o.number w) j ≡ some y → OwnerTies b t j y
+  each j y h = ⊎_elim
+      (λ (x : (j ≡ o.number) × (w ≡ y)). subst (λ (z : ℕ × OwnerView). OwnerTies b t z.0 z.1) (λ i. (sym x.0 i, x.1 i)) k.mine)
+      (λ (x : (j ≢ o.number) × (get_elem? os j ≡ some y)). owner_on b s t o.number j y others x.0 (f.owners j y x.1))
+      (at_set os o.number j w y h)
+
+  law : Law (state_of later b (set os o.number w))
+  law = subst Law k.becomes (keeps s e f.law fits k.legal)
+
+  pub own_facts : Facts later b (set os o.number w)
+  own_facts = record {
+    law = law;
+    agrees = agrees _ law;
+    book = subst (BookTies b) k.becomes (book_on b s t f.law f.book (change s e f.law own k.legal));
+    owners = λ j y h. subst (λ (z : State). OwnerTies b z j y) k.becomes (each j y h);
+    many = length-set os o.number w ∙ f.many;
+    wide = k.wide;
+    jobs = k.jobs;
+  }
+
+  pub own_made : OwnerMade e o r w
+  own_made = record {
+    words = ws;
+    book = b;
+    owners = os;
+    facts = f;
+    stands = at;
+    legal = k.legal;
+    says = k.says;
+    later = later;
+    becomes = k.becomes;
+    keeps = own_facts;
+  }

@@ -1,0 +1,126 @@
+-- A pin is its event of the core.
+use Rattle.std.proofs.Common.{◌≡◌, ◌/◌, ◌<◌, ◌^◌, ℕ, true, cond, bit_or, List, set, sym, refl, ap, ◌∙◌, subst, arith, Option, Some, None}
+use Rattle.std.specs.Prelude.{slice_index, IsSome}
+use mathlib.Core.Option.{some, none}
+use lib.ListN.{get_elem?}
+use Rattle.atomic_table.specs.Table.{Me, step, Allows}
+use Rattle.far_word.specs.declared.mark.Mark.TheVariants.{Hot}
+use Rattle.far_word.specs.declared.pointer.Place.{Place}
+use Rattle.far_word.specs.declared.pointer.PtrWord.{PtrWord}
+use Rattle.far_word.specs.declared.pointer.PtrWord.TheVariants.{Free, Near, Far}
+use Rattle.far_word.specs.declared.sizes.TheConstants.{CELLS, POINTERS}
+use Rattle.far_word.specs.Mark.{position}
+use Rattle.far_word.specs.Pointer.{read_of}
+use Rattle.far_word.specs.Sizes.{words_for}
+use Rattle.far_core.specs.declared.event.Event.TheVariants.{Pin}
+use Rattle.far_core.specs.events.Legal.{Legal}
+use Rattle.far_core.specs.events.Open.{scope_word_of}
+use Rattle.far_core.specs.events.Pin.{place_to_view, with_hold, pin_answer}
+use Rattle.far_core.specs.events.Quiet.{has_move}
+use Rattle.far_core.specs.events.Step.{after}
+use Rattle.far_core.specs.state.State.{State, put}
+use Rattle.far_core.proofs.Cells.{map_mark}
+use Rattle.far_core.proofs.KeepOwner.{hot_read}
+use Rattle.far_core.proofs.Owing.{does}
+use Rattle.far_core.proofs.Put.{put_both}
+use Rattle.far_table.specs.declared.view.BookView.{BookView}
+use Rattle.far_table.specs.declared.view.OwnerView.{OwnerView}
+use Rattle.far_table.specs.declared.view.View.{View}
+use Rattle.far_table.specs.declared.view.View.TheVariants.{Owner}
+use Rattle.far_table.specs.Layout.{cell_at, cell_in}
+use Rattle.far_table.specs.Plays.{Pinned, Lies}
+use Rattle.far_table.specs.Rule.{Facts, Running}
+use Rattle.far_table.specs.StateOf.{held_by, state_of}
+use Rattle.far_table.specs.Tells.{Tells, owner_of}
+use Rattle.far_table.specs.Views.{asked_at, held_at, held_view, len_of, moves, object_at, pinned_view, uses, with_place}
+use Rattle.far_table.proofs.HeldFacts.{may_hold, near_facts}
+use Rattle.far_table.proofs.Lift.{owner_makes}
+use Rattle.far_table.proofs.Others.{pin_objects}
+use Rattle.far_table.proofs.Owners.{known_by, pointers_put, pointers_same, remembered_same}
+use Rattle.far_table.proofs.OwnSteps.{OwnStep, jobs_stay, mine_on, state_is}
+use Rattle.far_table.proofs.Steps.{open_so}
+use Rattle.far_table.proofs.Words.{cell_here, cell_word_set}
+
+hot_moves : (x : Option PtrWord) → has_move (map_mark Hot x) ≡ has_move x
+hot_moves None = refl
+hot_moves (Some Free) = refl
+hot_moves (Some (Near len ds place m)) = refl
+hot_moves (Some (Far len ds m)) = refl
+
+-- a place that is held changes nothing else of a view
+placed_same : {X : Type 0} (g : OwnerView → X) (p : ℕ) (o : OwnerView) → ((place : Place) → g (held_view p place o) ≡ g o) → (x : Option Place) → g (with_place p x o) ≡ g o
+placed_same g p o h None = refl
+placed_same g p o h (Some place) = h place
+
+module _ (ws : List ℕ) (b : BookView) (os : List OwnerView) (f : Facts ws b os) (o : OwnerView) (at : get_elem? os o.number ≡ some o)
+    (p : ℕ) (small : p < POINTERS) (own : p / CELLS ≡ o.number) (used : uses o p ≡ true) (free : held_at o p ≡ None) (opened : IsSome o.open_at) where
+  abbrev s : State
+  s = state_of ws b os
+
+  abbrev c : ℕ
+  c = cell_in ws p
+
+  abbrev m : ℕ
+  m = o.number
+
+  used_so : s.used p ≡ true
+  used_so = known_by os m o o at uses p own ∙ used
+
+  legal : Legal s (Pin m p)
+  legal = (open_so ws b os f o at opened, own, used_so, known_by os m o o at held_at p own ∙ free)
+
+  held_after : (x : Option Place) → held_by (set os m (with_place p x o)) ≡ with_hold (held_by os) p x
+  held_after None = pointers_same os m o o at held_at refl
+  held_after (Some place) = pointers_put os m o (held_view p place o) at held_at p (Some place) own refl
+
+  marks_after : (q : ℕ) → moves (put s.cell p (bit_or c (2 ^ position Hot)) q) ≡ moves (s.cell q)
+  marks_after q = put_both (λ v. moves v ≡ moves (s.cell q)) s.cell p (bit_or c (2 ^ position Hot)) q
+      (λ e. ap (λ t. cond t 1 0) (ap has_move (hot_read s f.law p used_so) ∙ hot_moves (read_of c)) ∙ ap (λ z. moves (s.cell z)) (sym e)) (λ _. refl)
+
+  pin_step : OwnStep ws b os o (Pin m p) (pin_answer c (place_to_view (read_of c))) (set ws (cell_at p) (bit_or c (2 ^ position Hot))) (pinned_view p c o)
+  pin_step =
+      let x : Option Place = place_to_view (read_of c) in
+      let w : OwnerView = with_place p x o in
+      let hot : ℕ = bit_or c (2 ^ position Hot) in
+      let opens : w.open_at ≡ o.open_at = placed_same (λ y. y.open_at) p o (λ _. refl) x in record {
+        legal = legal;
+        says = refl;
+        becomes = state_is (set ws (cell_at p) hot) b (set os m w) (cell_word_set ws f.wide p hot small)
+            (remembered_same os m o w at (placed_same (λ y. y.epoch) p o (λ _. refl) x))
+            (pointers_same os m o w at uses (placed_same uses p o (λ _. refl) x)) (held_after x);
+        wide = (cell_word_set ws f.wide p hot small).wide;
+        jobs = jobs_stay ws b os f (cell_at p) hot (λ j l e. let low = small in omega arith);
+        mine = mine_on b s (after s (Pin m p)) m o w (f.owners m o at) (placed_same (λ y. y.number) p o (λ _. refl) x) (placed_same (λ y. y.honest) p o (λ _. refl) x) refl
+            ((f.owners m o at).scope ∙ ap scope_word_of (sym opens)) (placed_same object_at p o (λ _. refl) x) (placed_same asked_at p o (λ _. refl) x)
+            (pin_objects c x m p _ _ (does s (Pin m p) f.law tt legal)) marks_after;
+      }
+
+  pin_found : OwnStep ws b os o (Pin m p) (pin_answer (slice_index ws (cell_at p)) (place_to_view (read_of (slice_index ws (cell_at p))))) (set ws (cell_at p) (bit_or (slice_index ws (cell_at p)) (2 ^ position Hot)))
+      (pinned_view p (slice_index ws (cell_at p)) o)
+  pin_found = subst (λ n. OwnStep ws b os o (Pin m p) (pin_answer n (place_to_view (read_of n))) (set ws (cell_at p) (bit_or n (2 ^ position Hot))) (pinned_view p n o)) (cell_here ws p small) pin_step
+
+  -- the word found reads, and an object that it says may be held lies within the logs
+  found_lies : Lies o p (slice_index ws (cell_at p))
+  found_lies = subst (Lies o p) (cell_here ws p small) (
+    (f.law.cells.cell_read p).1,
+    λ place e. let x = near_facts ws b os f o at p place own used (may_hold (read_of c) place e) in
+        let long : words_for (len_of (object_at o p)) ≡ words_for x.len = ap (λ z. words_for (len_of z)) x.used ∙ ap words_for x.long in
+        let fits = x.fits in omega arith,
+  )
+
+module _ {S : Type 0} (slots id : ℕ) (me : Me S View) (is : me.0 ≡ Owner (owner_of me.0)) where
+  abbrev view : OwnerView
+  view = owner_of me.0
+
+  pins_hot : (p : ℕ) → p < POINTERS → p / CELLS ≡ view.number → uses view p ≡ true → held_at view p ≡ None → IsSome view.open_at →
+      Allows Running slots id me (cell_at p) (λ n. bit_or n (2 ^ position Hot)) (Pinned (step slots (cell_at p) (2 ^ position Hot) 0 none) me)
+  pins_hot p small own used free opened = owner_makes slots id (cell_at p) me is (Pin view.number p) refl refl tt (λ n. pin_answer n (place_to_view (read_of n))) (λ n. pinned_view p n view)
+      (Pinned (step slots (cell_at p) (2 ^ position Hot) 0 none) me) (λ n. bit_or n (2 ^ position Hot))
+      (λ ws b os f at. pin_found ws b os f view at p small own used free opened)
+      (λ ws b os f at t q e. let n : ℕ = slice_index ws (cell_at p) in let same : p ≡ q = omega arith in
+      subst (λ z. Lies view z n × Tells me.0 (Owner (pinned_view p n view)) (Pin view.number z) (pin_answer n (place_to_view (read_of n))) (pinned_view z n view)) same
+      (found_lies ws b os f view at p small own used free opened, t))
+
+  pub pins : (p k : ℕ) → k ≡ 2 ^ position Hot → p < POINTERS → p / CELLS ≡ view.number → uses view p ≡ true → held_at view p ≡ None → IsSome view.open_at →
+      Allows Running slots id me (cell_at p) (λ n. bit_or n k) (Pinned (step slots (cell_at p) k 0 none) me)
+  pins p k mask small own used free opened = subst (λ z. Allows Running slots id me (cell_at p) (λ n. bit_or n z) (Pinned (step slots (cell_at p) z 0 none) me)) (sym mask) (pins_hot p small own used free opened)

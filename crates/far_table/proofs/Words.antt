@@ -1,0 +1,82 @@
+-- One word of the table changes: what the heap's words are then.
+use Rattle.std.proofs.Common.{◌≡◌, ◌≢◌, ℕ, ◌+◌, ◌<◌, Bool, true, false, cond, nat_lt, List, length, set, refl, ap, ◌∙◌, arith, get_or-set_other, get_or-set_same}
+use Rattle.std.specs.Prelude.{slice_index}
+use Rattle.std.proofs.lemmas.Bool.{lt-ltb, ltb-true}
+use mathlib.Core.Path.{fun_ext}
+use lib.ListN.{length-set}
+use Rattle.far_word.specs.declared.sizes.TheConstants.{MOST_MUTATORS, POINTERS}
+use Rattle.far_core.specs.state.State.{put}
+use Rattle.far_core.proofs.Put.{put_both}
+use Rattle.far_table.specs.Layout.{EPOCH_AT, TABLE_WORDS, scope_at, cell_at, data_at, epoch_in, scope_in, cell_in, word_in}
+
+where_so : (t : Bool) (a b d : ℕ) → (t ≡ true → a ≡ b) → cond t a d ≡ cond t b d
+where_so true a b d h = h refl
+where_so false a b d h = refl
+
+-- n words from low on
+module _ (low n : ℕ) where
+  abbrev part : List ℕ → ℕ → ℕ
+  part ws q = cond (nat_lt q n) (slice_index ws (q + low)) 0
+
+  part_set : (ws : List ℕ) (k x : ℕ) → k < n → k + low < length ws → part (set ws (k + low) x) ≡ put (part ws) k x
+  part_set ws k x small inside = fun_ext (λ q. put_both (λ v. part (set ws (k + low) x) q ≡ v) (part ws) k x q
+      (λ e. let lt : q < n = omega arith in
+      ap (λ b. cond b (slice_index (set ws (k + low) x) (q + low)) 0) (lt-ltb q n lt) ∙ ap (λ j. slice_index (set ws (k + low) x) (j + low)) e ∙ get_or-set_same ws (k + low) x 0 inside)
+      (λ ne. ap (λ v. cond (nat_lt q n) v 0) (get_or-set_other ws (k + low) (q + low) x 0 (λ e. ne (omega arith)))))
+
+  part_other : (ws : List ℕ) (i x : ℕ) → ((q : ℕ) → q < n → q + low ≢ i) → part (set ws i x) ≡ part ws
+  part_other ws i x apart = fun_ext (λ q. where_so (nat_lt q n) _ _ 0 (λ t. get_or-set_other ws i (q + low) x 0 (apart q (ltb-true q n t))))
+
+  part_here : (ws : List ℕ) (k : ℕ) → k < n → part ws k ≡ slice_index ws (k + low)
+  part_here ws k small = ap (λ b. cond b (slice_index ws (k + low)) 0) (lt-ltb k n small)
+
+-- ---- where a word stands
+pub scope_here : (ws : List ℕ) (m : ℕ) → m < MOST_MUTATORS → scope_in ws m ≡ slice_index ws (scope_at m)
+scope_here = part_here 2 MOST_MUTATORS
+
+pub cell_here : (ws : List ℕ) (p : ℕ) → p < POINTERS → cell_in ws p ≡ slice_index ws (cell_at p)
+cell_here = part_here 10 POINTERS
+
+-- the heap's words as they are after a step
+pub record WordsAre (ws : List ℕ) (epoch : ℕ) (scope cell word : ℕ → ℕ) : Type 0 where
+  pub epoch_is : epoch_in ws ≡ epoch
+  pub scope_is : scope_in ws ≡ scope
+  pub cell_is : cell_in ws ≡ cell
+  pub word_is : word_in ws ≡ word
+  pub wide : length ws ≡ TABLE_WORDS
+
+module _ (ws : List ℕ) (wide : length ws ≡ TABLE_WORDS) where
+  same_length : (i x : ℕ) → length (set ws i x) ≡ TABLE_WORDS
+  same_length i x = length-set ws i x ∙ wide
+
+  pub no_word : WordsAre ws (epoch_in ws) (scope_in ws) (cell_in ws) (word_in ws)
+  no_word = record { epoch_is = refl; scope_is = refl; cell_is = refl; word_is = refl; wide = wide }
+
+  pub scope_word_set : (m x : ℕ) → m < MOST_MUTATORS → WordsAre (set ws (scope_at m) x) (epoch_in ws) (put (scope_in ws) m x) (cell_in ws) (word_in ws)
+  scope_word_set m x small = record {
+    epoch_is = get_or-set_other ws (scope_at m) EPOCH_AT x 0 (λ e. omega arith);
+    scope_is = part_set 2 MOST_MUTATORS ws m x small (omega arith);
+    cell_is = part_other 10 POINTERS ws (scope_at m) x (λ q l e. omega arith);
+    word_is = fun_ext (λ a. get_or-set_other ws (scope_at m) (data_at a) x 0 (λ e. omega arith));
+    wide = same_length (scope_at m) x;
+  }
+
+  pub cell_word_set : (p x : ℕ) → p < POINTERS → WordsAre (set ws (cell_at p) x) (epoch_in ws) (scope_in ws) (put (cell_in ws) p x) (word_in ws)
+  cell_word_set p x small = record {
+    epoch_is = get_or-set_other ws (cell_at p) EPOCH_AT x 0 (λ e. omega arith);
+    scope_is = part_other 2 MOST_MUTATORS ws (cell_at p) x (λ q l e. omega arith);
+    cell_is = part_set 10 POINTERS ws p x small (omega arith);
+    word_is = fun_ext (λ a. get_or-set_other ws (cell_at p) (data_at a) x 0 (λ e. omega arith));
+    wide = same_length (cell_at p) x;
+  }
+
+  pub data_word_set : (a x : ℕ) → data_at a < TABLE_WORDS → WordsAre (set ws (data_at a) x) (epoch_in ws) (scope_in ws) (cell_in ws) (put (word_in ws) a x)
+  data_word_set a x small = record {
+    epoch_is = get_or-set_other ws (data_at a) EPOCH_AT x 0 (λ e. omega arith);
+    scope_is = part_other 2 MOST_MUTATORS ws (data_at a) x (λ q l e. omega arith);
+    cell_is = part_other 10 POINTERS ws (data_at a) x (λ q l e. omega arith);
+    word_is = fun_ext (λ q. put_both (λ v. word_in (set ws (data_at a) x) q ≡ v) (word_in ws) a x q
+        (λ e. ap (word_in (set ws (data_at a) x)) e ∙ get_or-set_same ws (data_at a) x 0 (omega arith))
+        (λ ne. get_or-set_other ws (data_at a) (data_at q) x 0 (λ e. ne (omega arith))));
+    wide = same_length (data_at a) x;
+  }

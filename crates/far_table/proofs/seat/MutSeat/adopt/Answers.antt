@@ -1,0 +1,54 @@
+use Rattle.std.proofs.Common.{◌≡◌, ◌/◌, refl, sym, ap, ◌∙◌, subst, arith, Some, None}
+use Rattle.far_word.specs.declared.sizes.TheConstants.{CELLS}
+use Rattle.far_table.specs.Layout.{cell_at}
+use Rattle.far_table.specs.Seats.{Seated}
+use Rattle.far_core.specs.declared.event.Event.TheVariants.{Adopt}
+use Rattle.far_table.specs.declared.view.OwnerView.{OwnerView}
+use Rattle.far_table.specs.Tells.{OwnerRefused, owner_of}
+use Rattle.far_table.specs.Views.{adopted_view, object_at}
+use Rattle.far_table.proofs.AdoptSteps.{adopts}
+use Rattle.far_table.proofs.SeatLemmas.{adopt_made, adopt_refused, adopt_stays, if_none, if_some, inside, seat_made}
+use Rattle.far_table.proofs.seat.MutSeat.adopt.Goals as goal
+use Rattle.far_table.proofs.seat.MutSeat.adopt.Goals.{then-is_in_use, else-is_in_use}
+
+pub load-found-requires : goal.load-found-requires
+load-found-requires g c =
+    let i = c.self.invariant in
+    let q = subst (λ (z : Seated). (c.args.p / CELLS ≡ z.view.number) × (object_at z.view c.args.p ≡ None)) (sym c.self.view_is) (c.requires.own, c.requires.unused) in
+    let own = q.0 in
+    let number = i.3 in
+    let few = i.4 in
+    let t = inside _ _ _ (cell_at c.args.p) i.0 (ap (λ t. t.shared.table_id) c.deref.ensures) i.1 (omega arith) in
+    (t.0, t.1, adopts _ _ _ i.2 c.args.p (omega arith) q.0 q.1)
+
+pub is_in_use-requires : goal.is_in_use-requires
+is_in_use-requires g c = (c.load-found.ensures.2 c.args.p refl).0
+
+pub invariant_of-self : goal.invariant_of-self
+invariant_of-self g c =
+    let h = c.load-found.ensures in
+    let l = h.2 c.args.p refl in
+    adopt_stays _ _ _ _ _ _ _ _ _ c.args.p c.load-found.result c.self.invariant h.0 l.1 l.2
+
+pub returns-clause-adopted : goal.returns-clause-adopted
+returns-clause-adopted g c =
+    let l = c.load-found.ensures.2 c.args.p refl in
+    elim c.if-is_in_use.branch [
+      | then-is_in_use w ↦ (let t = adopt_made _ _ _ c.args.p c.load-found.result (sym c.is_in_use.ensures ∙ w.if-is_in_use.true) l.2 in
+          if_some _ _ _ w.result-is (
+            ap owner_of t.after_is ∙ ap (λ (z : Seated). adopted_view c.args.p c.load-found.result z.view) c.self.view_is,
+            seat_made _ _ _ (λ (o : OwnerView). Adopt o.number c.args.p) _ _ (ap (λ (z : Seated). z.view) c.self.view_is) t,
+          ))
+      | else-is_in_use w ↦ if_none _ _ w.result-is
+    ]
+
+pub returns-clause-refused : goal.returns-clause-refused
+returns-clause-refused g c =
+    let l = c.load-found.ensures.2 c.args.p refl in
+    elim c.if-is_in_use.branch [
+      | then-is_in_use w ↦ (λ e. let odd : Some c.load-found.result ≡ None = sym w.result-is ∙ e in cc)
+      | else-is_in_use w ↦ (λ _. let t = adopt_refused _ _ _ c.args.p c.load-found.result (sym c.is_in_use.ensures ∙ w.if-is_in_use.false) l.2 in (
+        ap owner_of t.0 ∙ ap (λ (z : Seated). z.view) c.self.view_is,
+        subst (λ (o : OwnerView). OwnerRefused (Adopt o.number c.args.p) o) (ap (λ (z : Seated). z.view) c.self.view_is) t.1,
+      ))
+    ]

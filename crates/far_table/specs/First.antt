@@ -1,0 +1,67 @@
+-- The views of the seats of a core that is shared.
+use Rattle.std.specs.Prelude.{ℕ, ◌*◌, Bool, cond, Option, Some, None, List, [], length, map}
+use Rattle.std.specs.List.{range_with_len}
+use Rattle.far_word.specs.Bytes.{packed_word}
+use Rattle.far_word.specs.declared.scope.ScopeWord.{ScopeWord}
+use Rattle.far_word.specs.declared.scope.ScopeWord.TheVariants as scoped
+use Rattle.far_word.specs.declared.sizes.TheConstants.{CELLS, LOG_WORDS, MOST_LOGS, MOST_MUTATORS, POINTERS}
+use Rattle.far_word.specs.Scope.{scope_of}
+use Rattle.far_word.specs.Sizes.{words_for}
+use Rattle.far_core.specs.state.State.{State}
+use Rattle.far_core.specs.world.World.{Object}
+use Rattle.far_core.specs.world.WorldOf.{world_of}
+use Rattle.far_table.specs.declared.view.BookView.{BookView}
+use Rattle.far_table.specs.declared.view.ObjectView.{ObjectView}
+use Rattle.far_table.specs.declared.view.OwnerView.{OwnerView}
+use Rattle.far_table.specs.Views.{moves}
+
+-- rows for so many numbers from one on
+abbrev pub rows_from : {X : Type 0} → ℕ → ℕ → (ℕ → X) → List (ℕ × X)
+rows_from low n f = map (λ k. (k, f k)) (range_with_len low n)
+
+-- the epoch at which a scope is open
+abbrev pub open_epoch : Option ScopeWord → Option ℕ
+open_epoch None = None
+open_epoch (Some scoped.Closed) = None
+open_epoch (Some (scoped.Open e)) = Some e
+
+-- an object of the world as its owner knows it
+abbrev pub seen_object : Option Object → Option ObjectView
+seen_object None = None
+seen_object (Some object) = Some record {
+  len = length object.bytes;
+  words = rows_from 0 (words_for (length object.bytes)) (packed_word object.bytes);
+}
+
+-- an owner's view: what the core says of it. MOVE counts as set once, where it stands
+abbrev pub first_owner : State → Bool → ℕ → OwnerView
+first_owner s honest m = record {
+  number = m;
+  honest = honest;
+  epoch = s.remembered m;
+  open_at = open_epoch (scope_of (s.scope m));
+  objects = rows_from (CELLS * m) CELLS (λ p. cond (s.used p) (seen_object ((world_of s).object p)) None);
+  held = rows_from (CELLS * m) CELLS s.held;
+  asked = rows_from (CELLS * m) CELLS (λ p. moves (s.cell p));
+}
+
+-- the book's view: the core's state, of whose words it knows the headers alone
+abbrev pub first_book : State → Bool → BookView
+first_book s honest = record {
+  mutators = s.mutators;
+  logs = s.logs;
+  honest = honest;
+  epoch = s.epoch;
+  cells = rows_from 0 POINTERS s.cell;
+  kinds = rows_from 0 MOST_LOGS s.kind;
+  tails = rows_from 0 MOST_LOGS s.tail;
+  current = s.current;
+  heads = rows_from 0 (MOST_LOGS * LOG_WORDS) (λ a. cond (s.starts a) (Some (s.word a)) None);
+  known = [];
+  chosen = 0;
+  round = rows_from 0 MOST_LOGS s.round;
+  clear = rows_from 0 MOST_MUTATORS s.clear;
+  stored = rows_from 0 POINTERS (λ p. rows_from 0 LOG_WORDS (s.stored p));
+  taken = [];
+  rest = map (first_owner s honest) (range_with_len 0 s.mutators);
+}

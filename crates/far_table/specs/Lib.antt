@@ -1,0 +1,9 @@
+pub mod Layout
+pub mod Rows
+pub mod Views
+pub mod StateOf
+pub mod First
+pub mod Rule
+pub mod Tells
+pub mod Plays
+pub mod Seats

@@ -1,0 +1,64 @@
+-- The rule of the table: the words and all views are a state of the core under its law, and each view is right about the words.
+use Rattle.std.specs.Prelude.{◌≡◌, ◌+◌, ◌/◌, ◌<◌, ℕ, true, Some, List, ◌∷◌, ◌++◌, map, length}
+use mathlib.Core.Option.{some}
+use lib.ListN.{get_elem?}
+use Rattle.atomic_table.specs.Table.{State as Table}
+use Rattle.far_word.specs.Bytes.{packed_word}
+use Rattle.far_word.specs.declared.sizes.TheConstants.{CELLS}
+use Rattle.far_word.specs.Sizes.{words_for}
+use Rattle.far_core.specs.events.Open.{scope_word_of}
+use Rattle.far_core.specs.state.Agrees.{Agrees}
+use Rattle.far_core.specs.state.Law.{Law}
+use Rattle.far_core.specs.state.State.{State}
+use Rattle.far_core.specs.world.World.{Object}
+use Rattle.far_core.specs.world.WorldOf.{world_of}
+use Rattle.far_hand.specs.Known.{IsKnown}
+use Rattle.far_hand.specs.MayBe.{Shows}
+use Rattle.far_hand.specs.Owners.{IsLoudAt}
+use Rattle.far_table.specs.declared.view.BookView.{BookView}
+use Rattle.far_table.specs.declared.view.ObjectView.{ObjectView}
+use Rattle.far_table.specs.declared.view.OwnerView.{OwnerView}
+use Rattle.far_table.specs.declared.view.View.{View}
+use Rattle.far_table.specs.declared.view.View.TheVariants.{Book, Owner}
+use Rattle.far_table.specs.Layout.{TABLE_WORDS, JOBS, job_in}
+use Rattle.far_table.specs.StateOf.{book_state, state_of, taken_at}
+use Rattle.far_table.specs.Views.{object_at, asked_at, moves, word_of}
+
+-- what the book's view says is so: the object, the place and EVAC of each cell, and marks at least where it has them; each word that it
+-- knows, and the headers of all spans; and its own, exactly. No word that it knows is one that an owner may store into
+pub record BookTies (b : BookView) (s : State) : Type 0 where
+  pub shown : Shows (book_state b) s
+  pub still : (a : ℕ) → IsKnown ((book_state b).word a) → ¬ IsLoudAt (book_state b) a
+
+-- an object as its owner knows it: it is in the world, with that many bytes; and with those bytes, where the far side is honest
+pub record Has (s : State) (p : ℕ) (x : ObjectView) : Type 0 where
+  pub object : Object
+  pub there : (world_of s).object p ≡ Some object
+  pub len : length object.bytes ≡ x.len
+  pub words : s.honest ≡ true → (i : ℕ) → i < words_for x.len → packed_word object.bytes i ≡ word_of x i
+
+-- what an owner's view says is so: its scope word, and the objects that it uses; and of each of its cells how often MOVE was set anew is how
+-- often it was taken away, and once more where it stands
+pub record OwnerTies (b : BookView) (s : State) (m : ℕ) (o : OwnerView) : Type 0 where
+  pub number : o.number ≡ m
+  pub honest : o.honest ≡ s.honest
+  pub scope : s.scope m ≡ scope_word_of o.open_at
+  pub objects : (p : ℕ) (x : ObjectView) → p / CELLS ≡ m → object_at o p ≡ Some x → Has s p x
+  pub asks : (p : ℕ) → p / CELLS ≡ m → asked_at o p ≡ taken_at b p + moves (s.cell p)
+
+-- what holds of the words, the book's view and the owners' views between any two steps
+pub record Facts (ws : List ℕ) (b : BookView) (os : List OwnerView) : Type 0 where
+  pub law : Law (state_of ws b os)
+  pub agrees : Agrees (state_of ws b os)
+  pub book : BookTies b (state_of ws b os)
+  pub owners : (m : ℕ) (o : OwnerView) → get_elem? os m ≡ some o → OwnerTies b (state_of ws b os) m o
+  pub many : length os ≡ b.mutators
+  pub wide : length ws ≡ TABLE_WORDS
+  pub jobs : (j : ℕ) → j < JOBS → job_in ws j ≡ 0
+
+-- the rule: seat 0 is the book's, those after it the owners' that have one; the others stand in the book's view
+pub record Running {S : Type 0} (s : Table S View) : Type 0 where
+  pub book : BookView
+  pub dealt : List OwnerView
+  pub views : s.views ≡ Book book ∷ map Owner dealt
+  pub facts : Facts s.words book (dealt ++ book.rest)

@@ -1,0 +1,76 @@
+-- The words and all views are a state of the core.
+use Rattle.std.specs.Prelude.{ℕ, ◌/◌, Bool, false, Option, Some, None, List, [], is_some}
+use Rattle.far_word.specs.declared.pointer.Place.{Place}
+use Rattle.far_word.specs.declared.sizes.TheConstants.{CELLS}
+use Rattle.far_core.specs.declared.event.Kind.TheVariants.{Free}
+use Rattle.far_core.specs.events.Advance.{is_among}
+use Rattle.far_core.specs.state.State.{State}
+use Rattle.far_hand.specs.Known.{unknown}
+use Rattle.far_table.specs.declared.view.BookView.{BookView}
+use Rattle.far_table.specs.declared.view.OwnerView.{OwnerView}
+use Rattle.far_table.specs.Layout.{epoch_in, scope_in, cell_in, word_in}
+use Rattle.far_table.specs.Rows.{over}
+use Rattle.far_table.specs.Views.{held_at, owner_at, uses}
+
+-- ---- what owners know
+abbrev pub remembered_by : List OwnerView → ℕ → Option ℕ
+remembered_by os m = (owner_at os m).epoch
+
+abbrev pub used_by : List OwnerView → ℕ → Bool
+used_by os p = uses (owner_at os (p / CELLS)) p
+
+abbrev pub held_by : List OwnerView → ℕ → Option Place
+held_by os p = held_at (owner_at os (p / CELLS)) p
+
+-- ---- what the book knows
+abbrev pub head_at : BookView → ℕ → Option ℕ
+head_at b = over b.heads (λ _. None)
+
+-- a header, a word that is known, or a number that no word is
+abbrev pub known_word : BookView → ℕ → ℕ
+known_word b a = at (head_at b a) (over b.known unknown a) where
+  at : Option ℕ → ℕ → ℕ
+  at None other = other
+  at (Some head) other = head
+
+abbrev pub stored_word : BookView → ℕ → ℕ → ℕ
+stored_word b p = over (over b.stored (λ _. []) p) (λ _. 0)
+
+-- how often the book has taken MOVE away from a pointer's cell
+abbrev pub taken_at : BookView → ℕ → ℕ
+taken_at b = over b.taken (λ _. 0)
+
+-- the book's view as a state: what it knows of the words, and of what owners do nothing
+abbrev pub book_state : BookView → State
+book_state b = record {
+  mutators = b.mutators;
+  logs = b.logs;
+  honest = b.honest;
+  epoch = b.epoch;
+  scope = λ _. 0;
+  cell = over b.cells (λ _. 0);
+  word = known_word b;
+  remembered = λ _. None;
+  used = λ _. false;
+  held = λ _. None;
+  kind = over b.kinds (λ _. Free);
+  tail = over b.tails (λ _. 0);
+  current = b.current;
+  starts = λ a. is_some (head_at b a);
+  round = over b.round (is_among b.chosen);
+  round_epoch = b.epoch;
+  clear = over b.clear (λ _. false);
+  stored = stored_word b;
+}
+
+-- the state that the words, the book's view and the owners' views are
+abbrev pub state_of : List ℕ → BookView → List OwnerView → State
+state_of ws b os = record (book_state b) {
+  epoch = epoch_in ws;
+  scope = scope_in ws;
+  cell = cell_in ws;
+  word = word_in ws;
+  remembered = remembered_by os;
+  used = used_by os;
+  held = held_by os;
+}

@@ -1,0 +1,102 @@
+-- What stands in an owner's view, and how its steps change it.
+use Rattle.std.specs.Prelude.{ℕ, ◌+◌, Bool, false, cond, Option, Some, None, List, [], ◌∷◌, is_some, slice_index_or}
+use Rattle.far_word.specs.declared.mark.Mark.{Mark}
+use Rattle.far_word.specs.declared.mark.Mark.TheVariants.{Hot, Evac, Moved, Dropped}
+use Rattle.far_word.specs.declared.pointer.Place.{Place}
+use Rattle.far_word.specs.declared.pointer.PtrWord.{PtrWord}
+use Rattle.far_word.specs.Pointer.{read_of, pointer_len}
+use Rattle.far_core.specs.events.Pin.{place_to_view}
+use Rattle.far_core.specs.events.Quiet.{has_move}
+use Rattle.far_table.specs.declared.view.ObjectView.{ObjectView}
+use Rattle.far_table.specs.declared.view.OwnerView.{OwnerView}
+use Rattle.far_table.specs.Rows.{over}
+
+-- word i of an object
+abbrev pub word_of : ObjectView → ℕ → ℕ
+word_of x = over x.words (λ _. 0)
+
+-- the object of a pointer, if the owner uses it
+abbrev pub object_at : OwnerView → ℕ → Option ObjectView
+object_at o = over o.objects (λ _. None)
+
+abbrev pub uses : OwnerView → ℕ → Bool
+uses o p = is_some (object_at o p)
+
+-- the place that is held of a pointer's object
+abbrev pub held_at : OwnerView → ℕ → Option Place
+held_at o = over o.held (λ _. None)
+
+-- how often MOVE was set anew in a pointer's cell
+abbrev pub asked_at : OwnerView → ℕ → ℕ
+asked_at o = over o.asked (λ _. 0)
+
+-- the length of an object, and one of its words, where the owner uses it
+abbrev pub len_of : Option ObjectView → ℕ
+len_of None = 0
+len_of (Some x) = x.len
+
+abbrev pub word_in_view : Option ObjectView → ℕ → ℕ
+word_in_view None i = 0
+word_in_view (Some x) i = word_of x i
+
+-- ---- the view after a step
+abbrev pub read_view : ℕ → OwnerView → OwnerView
+read_view e o = record o { epoch = Some e }
+
+abbrev pub opened_view : OwnerView → OwnerView
+opened_view o = record o { open_at = o.epoch }
+
+-- it holds nothing, and remembers no epoch
+abbrev pub closed_view : OwnerView → OwnerView
+closed_view o = record o { epoch = None; open_at = None; held = [] }
+
+abbrev pub held_view : ℕ → Place → OwnerView → OwnerView
+held_view p place o = record o { held = (p, Some place) ∷ o.held }
+
+-- the place is held, if there is one
+abbrev pub with_place : ℕ → Option Place → OwnerView → OwnerView
+with_place p None o = o
+with_place p (Some place) o = held_view p place o
+
+abbrev pub pinned_view : ℕ → ℕ → OwnerView → OwnerView
+pinned_view p found o = with_place p (place_to_view (read_of found)) o
+
+-- the object with another word
+abbrev pub with_word : ℕ → ℕ → Option ObjectView → Option ObjectView
+with_word i w None = None
+with_word i w (Some x) = Some record { len = x.len; words = (i, w) ∷ x.words }
+
+abbrev pub stored_view : ℕ → ℕ → ℕ → OwnerView → OwnerView
+stored_view p i w o = record o { objects = (p, with_word i w (object_at o p)) ∷ o.objects }
+
+-- the length of what a word says, 0 where it says nothing
+abbrev pub said_len : Option PtrWord → ℕ
+said_len None = 0
+said_len (Some v) = pointer_len v
+
+-- a new object, all of whose words are 0
+abbrev pub fresh : ℕ → ObjectView
+fresh found = record { len = said_len (read_of found); words = [] }
+
+-- the object is the owner's from now on
+abbrev pub adopted_view : ℕ → ℕ → OwnerView → OwnerView
+adopted_view p found o = record o { objects = (p, Some (fresh found)) ∷ o.objects }
+
+-- 1 where a word has MOVE
+abbrev pub moves : ℕ → ℕ
+moves w = cond (has_move (read_of w)) 1 0
+
+-- MOVE is set anew where the word found hasn't got it; what is dropped is used no longer
+abbrev pub asked_view : ℕ → Mark → ℕ → OwnerView → OwnerView
+asked_view p Hot found o = o
+asked_view p Evac found o = o
+asked_view p Moved found o = record o { asked = (p, asked_at o p + cond (has_move (read_of found)) 0 1) ∷ o.asked }
+asked_view p Dropped found o = record o { objects = (p, None) ∷ o.objects }
+
+-- ---- many owners
+-- one who knows nothing
+abbrev pub nobody : OwnerView
+nobody = record { number = 0; honest = false; epoch = None; open_at = None; objects = []; held = []; asked = [] }
+
+abbrev pub owner_at : List OwnerView → ℕ → OwnerView
+owner_at os m = slice_index_or os m nobody

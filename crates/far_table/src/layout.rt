@@ -1,0 +1,14 @@
+// Where each shared word stands: one layout, for the largest heap. Word 0 is for the split of seats, and no word of the heap; the words of
+// the copiers' jobs stand between the cells and the logs.
+
+/// The epoch.
+pub(crate) const EPOCH: usize = 1;
+
+/// The scope word of owner 0.
+pub(crate) const SCOPES: usize = 2;
+
+/// The cell of pointer 0.
+pub(crate) const CELLS: usize = 10;
+
+/// Word 0 of log 0.
+pub(crate) const LOGS: usize = 1050;

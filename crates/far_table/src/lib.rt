@@ -1,0 +1,15 @@
+//! Owners on shared words.
+//!
+//! The words of a heap lie in one shared table. A seat is a token with a view, what its holder knows; each call of a seat is one
+//! atomic step on one word. A rule about all words and all views holds between any two steps: together they are a state of
+//! [`far_core`] under its law, and each view is right about the words.
+#![tactic(auto)]
+
+mod layout;
+mod rule;
+mod seat;
+mod view;
+
+pub use rule::{FarRule, FarTable, Plan};
+pub use seat::MutSeat;
+pub use view::{BookView, CopierView, ObjectView, OwnerView, View};

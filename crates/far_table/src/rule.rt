@@ -1,0 +1,100 @@
+// The table, its rule, and the kinds of step.
+use crate::view::View;
+use atomic_table::{Play, Table, TableRule};
+use far_core::Core;
+use far_device::Device;
+use std::alloc::Global;
+use std::snapshot::Snapshot;
+
+/// What a table is made of: a core, and the device whose honesty the table's rule has.
+pub struct Plan<D> {
+    pub core: Core,
+    pub device: Snapshot<D>,
+}
+
+impl<D> Drop for Plan<D> {
+    fn drop(self) {
+        let Plan { core: _, device: _ } = self;
+    }
+}
+
+/// The rule: words and views are a state of the core under its law, and each view is right about the words.
+pub struct FarRule;
+
+impl<D: Device> TableRule<u64, View, Plan<D>> for FarRule {
+    ghost use Rattle.far_core.specs.state.CoreState.{core_state};
+    ghost use Rattle.far_table.specs.declared.view.View.TheVariants.{Book};
+    ghost use Rattle.far_table.specs.First.{first_book};
+    ghost use Rattle.far_table.specs.Rule.{Running};
+
+    ghost holds = { λ _. Running };
+
+    ghost first = { λ plan. Book (first_book (core_state plan.core) (D.honest plan.device.value)) };
+}
+
+/// A heap's words under the rule.
+pub type FarTable<D> = Table<u64, View, Plan<D>, FarRule, Global>;
+
+pub(crate) struct ReadEpoch;
+
+impl Play<u64, View> for ReadEpoch {
+    ghost use Rattle.far_table.specs.Plays.{EpochRead};
+
+    ghost then = { EpochRead };
+}
+
+pub(crate) struct Open;
+
+impl Play<u64, View> for Open {
+    ghost use Rattle.far_table.specs.Plays.{Opened};
+
+    ghost then = { Opened };
+}
+
+pub(crate) struct Close;
+
+impl Play<u64, View> for Close {
+    ghost use Rattle.far_table.specs.Plays.{Closed};
+
+    ghost then = { Closed };
+}
+
+pub(crate) struct Pin;
+
+impl Play<u64, View> for Pin {
+    ghost use Rattle.far_table.specs.Plays.{Pinned};
+
+    ghost then = { Pinned };
+}
+
+pub(crate) struct Load;
+
+impl Play<u64, View> for Load {
+    ghost use Rattle.far_table.specs.Plays.{Loaded};
+
+    ghost then = { Loaded };
+}
+
+pub(crate) struct Ask;
+
+impl Play<u64, View> for Ask {
+    ghost use Rattle.far_table.specs.Plays.{Asked};
+
+    ghost then = { Asked };
+}
+
+pub(crate) struct Store;
+
+impl Play<u64, View> for Store {
+    ghost use Rattle.far_table.specs.Plays.{Stored};
+
+    ghost then = { Stored };
+}
+
+pub(crate) struct Adopt;
+
+impl Play<u64, View> for Adopt {
+    ghost use Rattle.far_table.specs.Plays.{Adopted};
+
+    ghost then = { Adopted };
+}

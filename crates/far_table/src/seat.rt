@@ -1,0 +1,192 @@
+// An owner's seat.
+ghost use Rattle.std.specs.Prelude.{◌≡◌, ◌+◌, ◌-◌, ◌*◌, ◌/◌, ◌^◌, ◌<◌, true, None, IsSome, IfOk, IfErr, IfSome};
+ghost use Rattle.std.specs.Arc.{arc_value};
+ghost use Rattle.far_core.specs.declared.event.Event.{Event as any_event};
+ghost use Rattle.far_core.specs.declared.event.Reply.{Reply as any_reply};
+ghost use Rattle.far_table.specs.Tells.{OwnerMade, OwnerRefused};
+ghost use Rattle.far_word.specs.declared.sizes.TheConstants.{CELLS};
+ghost use Rattle.far_word.specs.Pointer.{read_of};
+ghost use Rattle.far_core.specs.events.Ask.{is_request};
+ghost use Rattle.far_core.specs.state.Law.{in_use};
+ghost use Rattle.far_core.specs.events.Pin.{place_to_view};
+ghost use Rattle.far_table.specs.Seats.{pin_reply};
+ghost use Rattle.far_table.specs.Views.{adopted_view, asked_view, closed_view, held_at, held_view, len_of, object_at, opened_view, read_view, stored_view, uses, word_in_view};
+ghost use Rattle.far_word.specs.Sizes.{words_for};
+
+use crate::layout::{EPOCH, SCOPES};
+use crate::rule::FarTable;
+use crate::view::View;
+use crate::{layout, rule};
+use atomic_table::Seat;
+use far_core::{Event, Reply};
+use far_device::Device;
+use far_word::{CELLS, LOG_WORDS, Mark, Place, PtrWord, resting_place};
+use std::alloc::Global;
+use std::marker::Model;
+use std::sync::Arc;
+
+/// An owner's seat on the shared words. Each call is one event of [`far_core`], one atomic step; it takes no memory and always
+/// answers.
+#[derive(Drop)]
+pub struct MutSeat<D: Device> {
+    table: Arc<FarTable<D>, Global>,
+    seat: Seat<u64, View>,
+    number: u8,
+    // The epoch that was read for the next scope.
+    epoch: u64,
+    // Where the data words of each object that is held begin, by its cell's number among the owner's.
+    places: Vec<u16>,
+}
+
+impl<D: Device> Model for MutSeat<D> {
+    ghost use Rattle.std.specs.Prelude.{◌≡◌, ◌<◌, length};
+    ghost use Rattle.std.specs.Arc.{arc_value};
+    ghost use Rattle.far_word.specs.declared.sizes.TheConstants.{CELLS, MOST_MUTATORS};
+    ghost use Rattle.far_table.specs.declared.view.View.TheVariants.{Owner};
+    ghost use Rattle.far_table.specs.Layout.{TABLE_WORDS};
+    ghost use Rattle.far_table.specs.Seats.{Seated, Remembers, HasPlaces};
+    ghost use Rattle.far_table.specs.Tells.{owner_of};
+
+    ghost Value = { Seated };
+
+    ghost view = { λ s. record { table = s.seat.table_id; view = owner_of s.seat.me.0 } };
+
+    ghost invariant = { λ s. (s.seat.table_id ≡ (arc_value s.table).shared.table_id) × (s.seat.table_id.words ≡ TABLE_WORDS) × (s.seat.me.0 ≡ Owner (owner_of s.seat.me.0)) × ((owner_of s.seat.me.0).number ≡ s.number) × (s.number < MOST_MUTATORS) × Remembers (owner_of s.seat.me.0).epoch s.epoch × (length s.places.items ≡ CELLS) × HasPlaces (owner_of s.seat.me.0) s.places.items };
+}
+
+impl<D: Device> MutSeat<D> {
+    /// The epoch, which the owner remembers for its next scope.
+    pub fn read_epoch(&mut self) -> u64
+        requires closed { self.old.view.open_at ≡ None }
+        ensures table { self.new.table ≡ self.old.table }
+        ensures view { self.new.view ≡ read_view result self.old.view }
+        ensures event { OwnerMade (Event.ReadEpoch self.old.view.number) self.old.view (Reply.Epoch result) self.new.view }
+    {
+        let found = self
+            .table
+            .shared
+            .load::<rule::ReadEpoch>(&mut self.seat, EPOCH);
+        self.epoch = found;
+        found
+    }
+
+    /// Opens the owner's scope at the epoch that it has read.
+    pub fn open(&mut self)
+        requires closed { self.old.view.open_at ≡ None }
+        requires read { IsSome self.old.view.epoch }
+        ensures table { self.new.table ≡ self.old.table }
+        ensures view { self.new.view ≡ opened_view self.old.view }
+        ensures event { OwnerMade (Event.Open self.old.view.number) self.old.view Reply.Done self.new.view }
+    {
+        let scope = self.number as usize + SCOPES;
+        let word = 2 * self.epoch + 1;
+        self.table
+            .shared
+            .store::<rule::Open>(&mut self.seat, scope, word);
+    }
+
+    /// Closes the owner's scope. It holds nothing from then on, and remembers no epoch.
+    pub fn close(&mut self)
+        requires opened { IsSome self.old.view.open_at }
+        ensures table { self.new.table ≡ self.old.table }
+        ensures view { self.new.view ≡ closed_view self.old.view }
+        ensures event { OwnerMade (Event.Close self.old.view.number) self.old.view Reply.Done self.new.view }
+    {
+        let scope = self.number as usize + SCOPES;
+        self.table
+            .shared
+            .store::<rule::Close>(&mut self.seat, scope, 0);
+    }
+
+    /// Sets HOT in the cell of a pointer, and holds the place of its object where the word found is near with none of EVAC, MOVE and
+    /// DROP; else the word found.
+    pub fn pin(&mut self, p: u16) -> Result<Place, u64>
+        requires own { p / CELLS ≡ self.old.view.number }
+        requires used { uses self.old.view p ≡ true }
+        requires free { held_at self.old.view p ≡ None }
+        requires opened { IsSome self.old.view.open_at }
+        ensures table { self.new.table ≡ self.old.table }
+        ensures held { IfOk result (λ place. self.new.view ≡ held_view p place self.old.view) }
+        ensures kept { IfErr result (λ found. (self.new.view ≡ self.old.view) × (place_to_view (read_of found) ≡ None)) }
+        ensures event { OwnerMade (Event.Pin self.old.view.number p) self.old.view (pin_reply result) self.new.view }
+    {
+        let found = self.table.shared.fetch_or::<rule::Pin>(
+            &mut self.seat,
+            p as usize + layout::CELLS,
+            Mark::Hot.mask(),
+        );
+        let Some(place) = resting_place(found) else {
+            return Err(found);
+        };
+        self.places[(p % CELLS) as usize] = place.log as u16 * LOG_WORDS + place.at + 1;
+        Ok(place)
+    }
+
+    /// Word `i` of an object that is held.
+    pub fn load(&mut self, p: u16, i: u16) -> u64
+        requires held { IsSome (held_at self.old.view p) }
+        requires inside { i < words_for (len_of (object_at self.old.view p)) }
+        ensures word { self.old.view.honest ≡ true → result ≡ word_in_view (object_at self.old.view p) i }
+        ensures same { self.new ≡ self.old }
+        ensures event { OwnerMade (Event.Load self.old.view.number p i) self.old.view (Reply.Word result) self.new.view }
+    {
+        let word = self.places[(p % CELLS) as usize] as usize + i as usize + layout::LOGS;
+        self.table.shared.load::<rule::Load>(&mut self.seat, word)
+    }
+
+    /// Word `i` of an object that is held is this word from then on. It leaves the bytes after the object's end 0.
+    pub fn store(&mut self, p: u16, i: u16, word: u64)
+        requires held { IsSome (held_at self.old.view p) }
+        requires inside { i < words_for (len_of (object_at self.old.view p)) }
+        requires padding { word < 2 ^ (8 * (len_of (object_at self.old.view p) - 8 * i)) }
+        ensures table { self.new.table ≡ self.old.table }
+        ensures view { self.new.view ≡ stored_view p i word self.old.view }
+        ensures event { OwnerMade (Event.Store self.old.view.number p i word) self.old.view Reply.Done self.new.view }
+    {
+        let at = self.places[(p % CELLS) as usize] as usize + i as usize + layout::LOGS;
+        self.table
+            .shared
+            .store::<rule::Store>(&mut self.seat, at, word);
+    }
+
+    /// Uses a pointer of the owner's own from then on, whose cell is in use: the word found. `None` where it isn't; then nothing changes.
+    pub fn adopt(&mut self, p: u16) -> Option<u64>
+        requires own { p / CELLS ≡ self.old.view.number }
+        requires unused { object_at self.old.view p ≡ None }
+        ensures table { self.new.table ≡ self.old.table }
+        ensures adopted { IfSome result (λ found. (self.new.view ≡ adopted_view p found self.old.view) × OwnerMade (Event.Adopt self.old.view.number p) self.old.view (Reply.Word found) self.new.view) }
+        ensures refused { result ≡ None → (self.new.view ≡ self.old.view) × OwnerRefused (Event.Adopt self.old.view.number p) self.old.view }
+    {
+        let found = self
+            .table
+            .shared
+            .load::<rule::Adopt>(&mut self.seat, p as usize + layout::CELLS);
+        if is_in_use(found) { Some(found) } else { None }
+    }
+
+    /// Asks for an object to be moved, or drops it, which is used no longer then: the word found in its cell.
+    pub fn ask(&mut self, p: u16, mark: Mark) -> u64
+        requires request { is_request mark ≡ true }
+        requires own { p / CELLS ≡ self.old.view.number }
+        requires used { uses self.old.view p ≡ true }
+        requires free { held_at self.old.view p ≡ None }
+        ensures table { self.new.table ≡ self.old.table }
+        ensures view { self.new.view ≡ asked_view p mark result self.old.view }
+        ensures event { OwnerMade (Event.Ask self.old.view.number p mark) self.old.view (Reply.Word result) self.new.view }
+    {
+        self.table
+            .shared
+            .fetch_or::<rule::Ask>(&mut self.seat, p as usize + layout::CELLS, mark.mask())
+    }
+}
+
+// Whether a cell is used and not dropped.
+fn is_in_use(cell: u64) -> bool
+    requires { IsSome (read_of cell) }
+    ensures { result ≡ in_use (read_of cell) }
+{
+    match PtrWord::known(cell) {
+        PtrWord::Near { marks, .. } | PtrWord::Far { marks, .. } => !marks.dropped,
+        PtrWord::Free => false,
+    }
+}
