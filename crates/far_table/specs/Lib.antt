@@ -7,3 +7,4 @@ pub mod Rule
 pub mod Tells
 pub mod Plays
 pub mod Seats
+pub mod Stands

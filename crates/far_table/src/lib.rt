@@ -5,11 +5,13 @@
 //! [`far_core`] under its law, and each view is right about the words.
 #![tactic(auto)]
 
+mod book;
 mod layout;
 mod rule;
 mod seat;
 mod view;
 
+pub use book::BookSeat;
 pub use rule::{FarRule, FarTable, Plan};
 pub use seat::MutSeat;
 pub use view::{BookView, CopierView, ObjectView, OwnerView, View};
