@@ -13,3 +13,4 @@ pub mod AdoptSteps
 pub mod AskSteps
 pub mod StoreSteps
 pub mod SeatLemmas
+pub mod Dealing

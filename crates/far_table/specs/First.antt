@@ -65,3 +65,7 @@ first_book s honest = record {
   taken = [];
   rest = map (first_owner s honest) (range_with_len 0 s.mutators);
 }
+
+-- the book's view while so many owners from this one on have no seat
+abbrev pub waiting : State → Bool → ℕ → ℕ → BookView
+waiting s honest low n = record (first_book s honest) { rest = map (first_owner s honest) (range_with_len low n) }

@@ -8,3 +8,5 @@ pub mod Tells
 pub mod Plays
 pub mod Seats
 pub mod Stands
+pub mod Tabled
+pub mod BookSeats

@@ -32,3 +32,8 @@ HasPlaces o places = (p : ℕ) (place : Place) → held_at o p ≡ Some place �
 abbrev pub pin_reply : Result Place ℕ → Reply
 pin_reply (Ok place) = Held place
 pin_reply (Err found) = Word found
+
+-- where the data words of an object begin whose place is held; 0 where none is
+abbrev pub data_begin : Option Place → ℕ
+data_begin None = 0
+data_begin (Some place) = addr place + 1

@@ -1,13 +1,20 @@
 -- What the struct of the book's seat keeps.
-use Rattle.std.specs.Prelude.{◌≡◌, ◌<◌, ◌≤◌, ℕ, false, List, []}
+use Rattle.std.specs.Prelude.{◌≡◌, ◌<◌, ◌≤◌, ℕ, Bool, false, List, [], ◌∷◌, map}
+use Rattle.std.specs.List.{range_with_len}
+use Rattle.atomic_table.specs.declared.shared.Seat.{Seat}
 use Rattle.atomic_table.specs.Seated.{TableId}
 use Rattle.far_word.specs.declared.sizes.TheConstants.{EPOCH_END, LEAST_LOGS, LEAST_MUTATORS, MOST_LOGS, MOST_MUTATORS}
 use Rattle.far_table.specs.declared.view.BookView.{BookView}
 use Rattle.far_table.specs.declared.view.OwnerView.{OwnerView}
 use Rattle.far_table.specs.declared.view.View.{View}
 use Rattle.far_table.specs.declared.view.View.TheVariants.{Book, Owner, Copier}
+use Rattle.far_core.specs.state.State.{State}
+use Rattle.far_table.specs.First.{first_owner}
 use Rattle.far_table.specs.Layout.{TABLE_WORDS}
 use Rattle.far_table.specs.Rule.{Facts}
+use Rattle.far_table.specs.Seats.{Seated}
+use Rattle.far_table.specs.StateOf.{state_of}
+use Rattle.far_table.specs.Views.{nobody}
 
 -- a view that knows nothing
 abbrev pub no_book : BookView
@@ -55,3 +62,37 @@ pub record Stands (b : BookView) : Type 0 where
   pub words : List ℕ
   pub owners : List OwnerView
   pub facts : Facts words b owners
+
+-- ---- seats at the start
+-- the book's seat of a table, while it gives seats to owners
+abbrev pub IsDealer : {S : Type 0} → Seat S View → TableId → Type 0
+IsDealer seat id = (seat.table_id ≡ id) × (id.words ≡ TABLE_WORDS) × (seat.me.0 ≡ Book (book_of seat.me.0))
+
+-- the seats of so many owners, by number, all of one table
+abbrev pub Seats : TableId → (ℕ → OwnerView) → ℕ → List Seated
+Seats id owner n = map (λ m. record { table = id; view = owner m }) (range_with_len 0 n)
+
+-- how the book's view is cut in two: the first owner that has no seat gets one
+abbrev pub others_rest : List OwnerView → List OwnerView
+others_rest [] = []
+others_rest (o ∷ os) = os
+
+abbrev pub first_rest : List OwnerView → OwnerView
+first_rest [] = nobody
+first_rest (o ∷ os) = o
+
+abbrev pub left_of : View → View
+left_of (Book b) = Book (record b { rest = others_rest b.rest })
+left_of (Owner o) = Owner o
+left_of (Copier c) = Copier c
+
+abbrev pub right_of : View → View
+right_of (Book b) = Owner (first_rest b.rest)
+right_of (Owner o) = Owner o
+right_of (Copier c) = Copier c
+
+-- the rule holds at the start: with some words and with the owners' views of the core, which are the core's state, honest as the far side is
+pub record Starts (s : State) (honest : Bool) (b : BookView) : Type 0 where
+  pub words : List ℕ
+  pub facts : Facts words b (map (first_owner s honest) (range_with_len 0 s.mutators))
+  pub state : state_of words b (map (first_owner s honest) (range_with_len 0 s.mutators)) ≡ record s { honest = honest }

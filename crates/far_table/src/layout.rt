@@ -10,5 +10,11 @@ pub(crate) const SCOPES: usize = 2;
 /// The cell of pointer 0.
 pub(crate) const CELLS: usize = 10;
 
+/// The word of job 0.
+pub(crate) const JOBS: usize = 1034;
+
 /// Word 0 of log 0.
 pub(crate) const LOGS: usize = 1050;
+
+/// How many words there are.
+pub(crate) const TABLE_WORDS: usize = 9242;

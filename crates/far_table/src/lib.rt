@@ -9,9 +9,11 @@ mod book;
 mod layout;
 mod rule;
 mod seat;
+mod start;
 mod view;
 
 pub use book::BookSeat;
 pub use rule::{FarRule, FarTable, Plan};
 pub use seat::MutSeat;
+pub use start::share;
 pub use view::{BookView, CopierView, ObjectView, OwnerView, View};

@@ -1,6 +1,6 @@
 // The table, its rule, and the kinds of step.
 use crate::view::View;
-use atomic_table::{Play, Table, TableRule};
+use atomic_table::{Play, Split, Table, TableRule};
 use far_core::Core;
 use far_device::Device;
 use std::alloc::Global;
@@ -97,4 +97,14 @@ impl Play<u64, View> for Adopt {
     ghost use Rattle.far_table.specs.Plays.{Adopted};
 
     ghost then = { Adopted };
+}
+
+pub(crate) struct Deal;
+
+impl Split<View> for Deal {
+    ghost use Rattle.far_table.specs.Stands.{left_of, right_of};
+
+    ghost left = { left_of };
+
+    ghost right = { right_of };
 }

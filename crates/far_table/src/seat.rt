@@ -1,15 +1,21 @@
 // An owner's seat.
-ghost use Rattle.std.specs.Prelude.{◌≡◌, ◌+◌, ◌-◌, ◌*◌, ◌/◌, ◌^◌, ◌<◌, true, None, IsSome, IfOk, IfErr, IfSome};
+ghost use Rattle.std.specs.Prelude.{◌≡◌, ◌+◌, ◌-◌, ◌*◌, ◌/◌, ◌^◌, ◌<◌, true, map, None, IsSome, IfOk, IfErr, IfSome};
 ghost use Rattle.std.specs.Arc.{arc_value};
 ghost use Rattle.far_core.specs.declared.event.Event.{Event as any_event};
 ghost use Rattle.far_core.specs.declared.event.Reply.{Reply as any_reply};
-ghost use Rattle.far_table.specs.Tells.{OwnerMade, OwnerRefused};
-ghost use Rattle.far_word.specs.declared.sizes.TheConstants.{CELLS};
+ghost use Rattle.far_table.specs.Tells.{OwnerMade, OwnerRefused, owner_of};
+ghost use Rattle.std.specs.List.{range_with_len};
+ghost use Rattle.far_word.specs.declared.sizes.TheConstants.{CELLS, LOG_WORDS, MOST_LOGS, MOST_MUTATORS};
+ghost use Rattle.far_core.specs.state.CoreState.{core_state};
+ghost use Rattle.far_core.specs.state.State.{addr};
+ghost use Rattle.far_table.specs.declared.view.View.TheVariants.{Owner};
+ghost use Rattle.far_table.specs.First.{first_owner};
+ghost use Rattle.far_table.specs.Layout.{TABLE_WORDS};
 ghost use Rattle.far_word.specs.Pointer.{read_of};
 ghost use Rattle.far_core.specs.events.Ask.{is_request};
 ghost use Rattle.far_core.specs.state.Law.{in_use};
 ghost use Rattle.far_core.specs.events.Pin.{place_to_view};
-ghost use Rattle.far_table.specs.Seats.{pin_reply};
+ghost use Rattle.far_table.specs.Seats.{data_begin, pin_reply};
 ghost use Rattle.far_table.specs.Views.{adopted_view, asked_view, closed_view, held_at, held_view, len_of, object_at, opened_view, read_view, stored_view, uses, word_in_view};
 ghost use Rattle.far_word.specs.Sizes.{words_for};
 
@@ -18,10 +24,10 @@ use crate::rule::FarTable;
 use crate::view::View;
 use crate::{layout, rule};
 use atomic_table::Seat;
-use far_core::{Event, Reply};
+use far_core::{Core, Event, Reply};
 use far_device::Device;
 use far_word::{CELLS, LOG_WORDS, Mark, Place, PtrWord, resting_place};
-use std::alloc::Global;
+use std::alloc::{AllocError, Global};
 use std::marker::Model;
 use std::sync::Arc;
 
@@ -54,7 +60,56 @@ impl<D: Device> Model for MutSeat<D> {
     ghost invariant = { λ s. (s.seat.table_id ≡ (arc_value s.table).shared.table_id) × (s.seat.table_id.words ≡ TABLE_WORDS) × (s.seat.me.0 ≡ Owner (owner_of s.seat.me.0)) × ((owner_of s.seat.me.0).number ≡ s.number) × (s.number < MOST_MUTATORS) × Remembers (owner_of s.seat.me.0).epoch s.epoch × (length s.places.items ≡ CELLS) × HasPlaces (owner_of s.seat.me.0) s.places.items };
 }
 
+// Where the data words of an object begin whose place is held, counted from word 0 of log 0; 0 where none is.
+fn data_begin(held: Option<Place>) -> u16
+    requires { IfSome held (λ place. addr place + 1 < MOST_LOGS * LOG_WORDS) }
+    ensures { result ≡ data_begin held }
+{
+    match held {
+        Some(place) => place.log as u16 * LOG_WORDS + place.at + 1,
+        None => 0,
+    }
+}
+
+// Where the data words of each object begin that an owner of a core holds.
+fn places_of(alloc: Global, core: &Core, number: u8) -> Result<Vec<u16>, AllocError>
+    requires { number < MOST_MUTATORS }
+    ensures { IfOk result (λ places. places.items ≡ map (λ k. data_begin ((core_state core.now).held (CELLS * number + k))) (range_with_len 0 CELLS)) }
+{
+    let mut places = Vec::with_capacity(alloc, CELLS as usize)?;
+    for cell in 0..CELLS {
+        core.keeps_law();
+        places.push_reserved(data_begin(core.held(CELLS * number as u16 + cell)));
+    }
+    Ok(places)
+}
+
 impl<D: Device> MutSeat<D> {
+    // The seat of an owner of a core, whose view is the core's of it.
+    pub(crate) fn new(
+        alloc: Global,
+        table: Arc<FarTable<D>, Global>,
+        seat: Seat<u64, View>,
+        core: &Core,
+        number: u8,
+    ) -> Result<MutSeat<D>, AllocError>
+        requires table { (seat.table_id ≡ (arc_value table).shared.table_id) × (seat.table_id.words ≡ TABLE_WORDS) }
+        requires owner { seat.me.0 ≡ Owner (first_owner (core_state core.now) (owner_of seat.me.0).honest number) }
+        requires some { number < (core_state core.now).mutators }
+        ensures { IfOk result (λ s. s ≡ record { table = seat.table_id; view = owner_of seat.me.0 }) }
+    {
+        core.keeps_law();
+        let places = places_of(alloc, core, number)?;
+        let epoch = core.remembered(number).unwrap_or(0);
+        Ok(MutSeat {
+            table,
+            seat,
+            number,
+            epoch,
+            places,
+        })
+    }
+
     /// The epoch, which the owner remembers for its next scope.
     pub fn read_epoch(&mut self) -> u64
         requires closed { self.old.view.open_at ≡ None }

@@ -1,0 +1,76 @@
+-- How the book's first seat gives each owner its own.
+use Rattle.std.proofs.Common.{◌≡◌, ℕ, zero, suc, ◌+◌, ◌-◌, ◌<◌, Bool, List, [], ◌∷◌, ◌++◌, map, set, sym, refl, ap, ◌∙◌, subst, arith, append_assoc}
+use Rattle.std.specs.List.{range_with_len}
+use Rattle.std.proofs.lemmas.List.FromFn.{map-range_with_len_more}
+use mathlib.Core.Option.{some, some-injective, some-ne-none}
+use mathlib.Core.List.{map-append}
+use lib.ListN.{get_elem?}
+use Rattle.atomic_table.specs.Seated.{TableId}
+use Rattle.atomic_table.specs.Table.{State as Table, Splits}
+use Rattle.far_core.specs.state.State.{State}
+use Rattle.far_table.specs.declared.view.BookView.{BookView}
+use Rattle.far_table.specs.declared.view.OwnerView.{OwnerView}
+use Rattle.far_table.specs.declared.view.View.{View}
+use Rattle.far_table.specs.declared.view.View.TheVariants.{Book, Owner, Copier}
+use Rattle.far_table.specs.First.{first_book, first_owner, waiting}
+use Rattle.far_table.specs.Rule.{Facts, Running}
+use Rattle.far_table.specs.Seats.{Seated}
+use Rattle.far_table.specs.Stands.{Seats, book_of, first_rest, left_of, others_rest, right_of}
+
+-- the owners that have no seat yet are no part of what the rule says of the book
+pub other_rest : (ws : List ℕ) (b : BookView) (os l : List OwnerView) → Facts ws b os → Facts ws (record b { rest = l }) os
+other_rest ws b os l f = record {
+  law = f.law;
+  agrees = f.agrees;
+  book = record { shown = f.book.shown; still = f.book.still };
+  owners = λ m o at. let x = f.owners m o at in record { number = x.number; honest = x.honest; scope = x.scope; objects = x.objects; asks = x.asks };
+  many = f.many;
+  wide = f.wide;
+  jobs = f.jobs;
+}
+
+-- the book's seat is the first one
+no_book : (l : List OwnerView) (k : ℕ) (b : BookView) → get_elem? (map Owner l) k ≡ some (Book b) → ⊥
+no_book [] k b e = some-ne-none (Book b) (sym e)
+no_book (x ∷ xs) zero b e = let odd : Owner x ≡ Book b = some-injective (Owner x) (Book b) e in cc
+no_book (x ∷ xs) (suc k) b e = no_book xs k b e
+
+pub book_place : (b : BookView) (dealt : List OwnerView) (id : ℕ) (c : BookView) → get_elem? (Book b ∷ map Owner dealt) id ≡ some (Book c) → (id ≡ 0) × (b ≡ c)
+book_place b dealt zero c e = let same : Book b ≡ Book c = some-injective (Book b) (Book c) e in let is : b ≡ c = cc in (refl, is)
+book_place b dealt (suc k) c e = absurd (no_book dealt k c e)
+
+module _ {S : Type 0} where
+  deals_at : (id : ℕ) (b : BookView) (o : OwnerView) (os : List OwnerView) → b.rest ≡ o ∷ os → (s : Table S View) → Running s → get_elem? s.views id ≡ some (Book b) →
+      Running record { words = s.words; homes = s.homes; views = set s.views id (Book (record b { rest = os })) ++ Owner o ∷ [] }
+  deals_at id b o os more s r at =
+      let c : BookView = record b { rest = os } in
+      let p = book_place r.book r.dealt id b (subst (λ l. get_elem? l id ≡ some (Book b)) r.views at) in record {
+        book = c;
+        dealt = r.dealt ++ o ∷ [];
+        views = ap (λ l. set l id (Book c) ++ Owner o ∷ []) r.views ∙ (ap (λ j. set (Book r.book ∷ map Owner r.dealt) j (Book c) ++ Owner o ∷ []) p.0 ∙ ap (λ l. Book c ∷ l) (sym (map-append Owner r.dealt (o ∷ []))));
+        facts = subst (λ l. Facts s.words c l) (sym (append_assoc r.dealt (o ∷ []) os))
+            (other_rest s.words b (r.dealt ++ o ∷ os) os (subst (λ l. Facts s.words b (r.dealt ++ l)) more (subst (λ z. Facts s.words z (r.dealt ++ z.rest)) p.1 r.facts)));
+      }
+
+  pub deals : (id : ℕ) (v : View) (b : BookView) (o : OwnerView) (os : List OwnerView) → v ≡ Book b → b.rest ≡ o ∷ os → Splits {S = S} Running id v (left_of v) (right_of v)
+  deals id v b o os is more s r at = subst (λ z. Running record { words = s.words; homes = s.homes; views = set s.views id (left_of z) ++ right_of z ∷ [] }) (sym is)
+      (subst (λ l. Running record { words = s.words; homes = s.homes; views = set s.views id (Book (record b { rest = others_rest l })) ++ Owner (first_rest l) ∷ [] }) (sym more)
+      (deals_at id b o os more s r (at ∙ ap some is)))
+
+-- ---- one owner after the other
+module _ (s : State) (honest : Bool) (n m : ℕ) (small : n < m) where
+  one_less : m - n ≡ suc (m - (n + 1))
+  one_less = omega arith
+
+  pub next_waits : (waiting s honest n (m - n)).rest ≡ first_owner s honest n ∷ (waiting s honest (n + 1) (m - (n + 1))).rest
+  next_waits = ap (λ k. map (first_owner s honest) (range_with_len n k)) one_less
+
+  pub left_waits : left_of (Book (waiting s honest n (m - n))) ≡ Book (waiting s honest (n + 1) (m - (n + 1)))
+  left_waits = ap (λ l. Book (record (first_book s honest) { rest = others_rest l })) next_waits
+
+  pub right_waits : right_of (Book (waiting s honest n (m - n))) ≡ Owner (first_owner s honest n)
+  right_waits = ap (λ l. Owner (first_rest l)) next_waits
+
+pub seats_more : (id : TableId) (owner : ℕ → OwnerView) (n : ℕ) (items : List Seated) (x : Seated) → items ≡ Seats id owner n → x ≡ record { table = id; view = owner n } →
+    items ++ x ∷ [] ≡ Seats id owner (n + 1)
+seats_more id owner n items x before new = ap (λ l. l ++ x ∷ []) before ∙ (ap (λ y. Seats id owner n ++ y ∷ []) new ∙ sym (map-range_with_len_more (λ m. record { table = id; view = owner m }) 0 n n refl))

@@ -1,0 +1,172 @@
+// The table of a core, with its seats.
+ghost use Rattle.std.specs.Prelude.{◌≡◌, ◌≢◌, ◌+◌, ◌-◌, ◌*◌, ◌<◌, ℕ, Bool, map, IfOk, IfErr, OnOk};
+ghost use Rattle.std.specs.Arc.{arc_value};
+ghost use Rattle.std.specs.List.{range_with_len};
+ghost use Rattle.far_core.specs.state.CoreState.{core_state};
+ghost use Rattle.far_core.specs.state.State.{State};
+ghost use Rattle.far_table.specs.BookSeats.{table_of, book_in};
+ghost use Rattle.far_table.specs.First.{first_owner, waiting};
+ghost use Rattle.far_table.specs.Layout.{TABLE_WORDS};
+ghost use Rattle.far_table.specs.Stands.{IsDealer, Seats, Stands, Starts, book_of};
+ghost use Rattle.far_table.specs.Tabled.{table_word};
+ghost use Rattle.far_table.specs.declared.view.View.TheVariants.{Book};
+ghost use Rattle.far_word.specs.declared.refused.Refused.{Refused as any_refusal};
+ghost use Rattle.far_word.specs.declared.sizes.TheConstants.{LOG_WORDS, MOST_LOGS};
+
+use crate::book::BookSeat;
+use crate::layout::{CELLS, EPOCH, JOBS, LOGS, SCOPES, TABLE_WORDS};
+use crate::rule::{Deal, FarTable, Plan};
+use crate::seat::MutSeat;
+use crate::view::View;
+use atomic_table::{Seat, Table};
+use far_core::Core;
+use far_device::Device;
+use far_word::{LOG_WORDS, Refused};
+use std::alloc::{AllocError, Global};
+use std::snapshot::Snapshot;
+use std::sync::Arc;
+
+// Word `a` of the logs, counted from word 0 of log 0; 0 past the last log.
+fn log_word(core: &Core, a: usize) -> u64
+    requires { a < MOST_LOGS * LOG_WORDS }
+    ensures { result ≡ (core_state core.now).word a }
+{
+    core.nothing_is_past();
+    let log = (a / LOG_WORDS as usize) as u8;
+    if log < core.logs() {
+        core.word(log, (a % LOG_WORDS as usize) as u16)
+    } else {
+        0
+    }
+}
+
+// Word `i` of a core's table.
+fn word_of(core: &Core, i: usize) -> u64
+    requires { i < TABLE_WORDS }
+    ensures { result ≡ table_word (core_state core.now) i }
+{
+    if i < SCOPES {
+        if i == EPOCH { core.epoch() } else { 0 }
+    } else if i < CELLS {
+        core.scope((i - SCOPES) as u8)
+    } else if i < JOBS {
+        core.cell((i - CELLS) as u16)
+    } else if i < LOGS {
+        0
+    } else {
+        log_word(core, i - LOGS)
+    }
+}
+
+// The words of a core's table.
+fn words_of(alloc: Global, core: &Core) -> Result<Vec<u64>, AllocError>
+    ensures { IfOk result (λ words. words.items ≡ map (table_word (core_state core.now)) (range_with_len 0 TABLE_WORDS)) }
+{
+    let mut words = Vec::with_capacity(alloc, TABLE_WORDS)?;
+    for i in 0..TABLE_WORDS {
+        words.push_reserved(word_of(core, i));
+    }
+    Ok(words)
+}
+
+// The seat of the first owner that has none.
+fn deal_one<D: Device>(
+    alloc: Global,
+    table: &Arc<FarTable<D>, Global>,
+    seat: &mut Seat<u64, View>,
+    plan: &Plan<D>,
+    number: u8,
+) -> Result<MutSeat<D>, AllocError>
+    requires dealer { IsDealer seat.old (arc_value table.now).shared.table_id }
+    requires next { seat.old.me.0 ≡ Book (waiting (core_state plan.now.core) (D.honest plan.now.device.value) number ((core_state plan.now.core).mutators - number)) }
+    requires some { number < (core_state plan.now.core).mutators }
+    ensures dealer { OnOk result (IsDealer seat.new (arc_value table.now).shared.table_id) }
+    ensures left { OnOk result (seat.new.me.0 ≡ Book (waiting (core_state plan.now.core) (D.honest plan.now.device.value) (number + 1) ((core_state plan.now.core).mutators - (number + 1)))) }
+    ensures dealt { IfOk result (λ s. s ≡ record { table = (arc_value table.now).shared.table_id; view = first_owner (core_state plan.now.core) (D.honest plan.now.device.value) number }) }
+{
+    let table = Arc::try_clone(table)?;
+    let dealt = table.shared.split_seat::<Deal>(seat);
+    MutSeat::new(alloc, table, dealt, &plan.core, number)
+}
+
+// The seats of all owners, in their order.
+fn deal_all<D: Device>(
+    alloc: Global,
+    table: &Arc<FarTable<D>, Global>,
+    seat: &mut Seat<u64, View>,
+    plan: &Plan<D>,
+) -> Result<Vec<MutSeat<D>>, AllocError>
+    requires dealer { IsDealer seat.old (arc_value table.now).shared.table_id }
+    requires first { seat.old.me.0 ≡ Book (waiting (core_state plan.now.core) (D.honest plan.now.device.value) 0 (core_state plan.now.core).mutators) }
+    ensures dealer { OnOk result (IsDealer seat.new (arc_value table.now).shared.table_id) }
+    ensures left { OnOk result (seat.new.me.0 ≡ Book (waiting (core_state plan.now.core) (D.honest plan.now.device.value) (core_state plan.now.core).mutators 0)) }
+    ensures dealt { IfOk result (λ v. v.items ≡ Seats (arc_value table.now).shared.table_id (first_owner (core_state plan.now.core) (D.honest plan.now.device.value)) (core_state plan.now.core).mutators) }
+{
+    let mutators = plan.core.mutators();
+    let mut owners = Vec::with_capacity(alloc, mutators as usize)?;
+    for number in 0..mutators {
+        let owner = deal_one(alloc, table, seat, plan, number)?;
+        owners.push_reserved(owner);
+    }
+    Ok(owners)
+}
+
+impl<D: Device> BookSeat<D> {
+    // The book's seat, once each owner has one.
+    fn new(table: Arc<FarTable<D>, Global>, seat: Seat<u64, View>, core: &Core) -> BookSeat<D>
+        requires dealer { IsDealer seat (arc_value table).shared.table_id }
+        requires view { (honest : Bool) × (book_of seat.me.0 ≡ waiting (core_state core.now) honest (core_state core.now).mutators 0) }
+        requires stands { ∥ Stands (book_of seat.me.0) ∥₁ }
+        ensures table { table_of result ≡ seat.table_id }
+        ensures book { book_in result ≡ book_of seat.me.0 }
+    {
+        core.keeps_law();
+        let logs = core.logs();
+        let mutators = core.mutators();
+        let epoch = core.epoch();
+        BookSeat {
+            table,
+            seat,
+            logs,
+            mutators,
+            epoch,
+        }
+    }
+}
+
+// The table and its seats.
+fn seats_of<D: Device>(
+    alloc: Global,
+    plan: &Plan<D>,
+) -> Result<(BookSeat<D>, Vec<MutSeat<D>>), AllocError>
+    requires honest { (p : ℕ) → (core_state plan.now.core).cell p ≢ 0 → D.honest plan.now.device.value ≡ (core_state plan.now.core).honest }
+    ensures book { IfOk result (λ r. book_in r.0 ≡ waiting (core_state plan.now.core) (D.honest plan.now.device.value) (core_state plan.now.core).mutators 0) }
+    ensures owners { IfOk result (λ r. r.1.items ≡ Seats (table_of r.0) (first_owner (core_state plan.now.core) (D.honest plan.now.device.value)) (core_state plan.now.core).mutators) }
+{
+    let words = words_of(alloc, &plan.core)?;
+    let (table, mut seat) = Table::of_words(alloc, words.as_slice(), plan)?;
+    let table = Arc::new(alloc, table)?;
+    let owners = deal_all(alloc, &table, &mut seat, plan)?;
+    Ok((BookSeat::new(table, seat, &plan.core), owners))
+}
+
+/// Makes the shared table of a core's words, with the core's views as the seats': scopes that are open, places that are held,
+/// objects that are used, near or far, the round under way. The book's seat, and the owners' by number. All room that a seat
+/// ever needs is taken here. The rule is honest where the device is; where some cell is in use that has to be the core's own
+/// honesty.
+///
+/// Refused [`Refused::Memory`] alone; then nothing was made, and the core is dropped.
+pub fn share<D: Device>(
+    alloc: Global,
+    core: Core,
+    device: Snapshot<D>,
+) -> Result<(BookSeat<D>, Vec<MutSeat<D>>), Refused>
+    requires honest { (p : ℕ) → (core_state core).cell p ≢ 0 → D.honest device.value ≡ (core_state core).honest }
+    ensures refused { IfErr result (λ why. why ≡ Refused.Memory) }
+    ensures book { IfOk result (λ r. book_in r.0 ≡ waiting (core_state core) (D.honest device.value) (core_state core).mutators 0) }
+    ensures owners { IfOk result (λ r. r.1.items ≡ Seats (table_of r.0) (first_owner (core_state core) (D.honest device.value)) (core_state core).mutators) }
+    ensures starts { IfOk result (λ r. Starts (core_state core) (D.honest device.value) (book_in r.0)) }
+{
+    let plan = Plan { core, device };
+    seats_of(alloc, &plan).map_err(|_| Refused::Memory)
+}
