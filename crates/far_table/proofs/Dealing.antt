@@ -73,4 +73,4 @@ module _ (s : State) (honest : Bool) (n m : ℕ) (small : n < m) where
 
 pub seats_more : (id : TableId) (owner : ℕ → OwnerView) (n : ℕ) (items : List Seated) (x : Seated) → items ≡ Seats id owner n → x ≡ record { table = id; view = owner n } →
     items ++ x ∷ [] ≡ Seats id owner (n + 1)
-seats_more id owner n items x before new = ap (λ l. l ++ x ∷ []) before ∙ (ap (λ y. Seats id owner n ++ y ∷ []) new ∙ sym (map-range_with_len_more (λ m. record { table = id; view = owner m }) 0 n n refl))
+seats_more id owner n items x before new = ap (λ l. l ++ x ∷ []) before ∙ (ap (λ y. Seats id owner n ++ y ∷ []) new ∙ sym (map-range_with_len_more (λ m. record { table = id; view = owner m }) 0 n n (omega arith)))
