@@ -14,3 +14,9 @@ pub mod AskSteps
 pub mod StoreSteps
 pub mod SeatLemmas
 pub mod Dealing
+pub mod Masks
+pub mod BookObjects
+pub mod BookFrames
+pub mod BookLift
+pub mod BookSees
+pub mod BookSeatLemmas

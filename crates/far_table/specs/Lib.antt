@@ -8,5 +8,8 @@ pub mod Tells
 pub mod Plays
 pub mod Seats
 pub mod Stands
+pub mod BookViews
+pub mod BookTells
+pub mod BookPlays
 pub mod Tabled
 pub mod BookSeats

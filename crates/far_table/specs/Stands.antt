@@ -1,5 +1,5 @@
 -- What the struct of the book's seat keeps.
-use Rattle.std.specs.Prelude.{◌≡◌, ◌<◌, ◌≤◌, ℕ, Bool, false, List, [], ◌∷◌, map}
+use Rattle.std.specs.Prelude.{◌≡◌, ◌^◌, ◌<◌, ◌≤◌, ℕ, Bool, false, List, [], ◌∷◌, map}
 use Rattle.std.specs.List.{range_with_len}
 use Rattle.atomic_table.specs.declared.shared.Seat.{Seat}
 use Rattle.atomic_table.specs.Seated.{TableId}
@@ -9,8 +9,10 @@ use Rattle.far_table.specs.declared.view.OwnerView.{OwnerView}
 use Rattle.far_table.specs.declared.view.View.{View}
 use Rattle.far_table.specs.declared.view.View.TheVariants.{Book, Owner, Copier}
 use Rattle.far_core.specs.state.State.{State}
+use Rattle.far_hand.specs.Known.{unknown}
 use Rattle.far_table.specs.First.{first_owner}
 use Rattle.far_table.specs.Layout.{TABLE_WORDS}
+use Rattle.far_table.specs.Rows.{over}
 use Rattle.far_table.specs.Rule.{Facts}
 use Rattle.far_table.specs.Seats.{Seated}
 use Rattle.far_table.specs.StateOf.{state_of}
@@ -42,6 +44,10 @@ book_of (Book b) = b
 book_of (Owner o) = no_book
 book_of (Copier c) = no_book
 
+-- each row of a word that the view knows has a word; what it doesn't know is the number that stands for that
+abbrev pub IsPlain : BookView → Type 0
+IsPlain b = (a : ℕ) → 2 ^ 64 ≤ over b.known unknown a → over b.known unknown a ≡ unknown a
+
 -- the seat is of its table, and its view is the book's, of which the struct keeps the shape and the epoch as numbers; each owner has its seat
 pub record BookOk (id here : TableId) (v : View) (logs mutators epoch : ℕ) : Type 0 where
   pub same : id ≡ here
@@ -56,6 +62,7 @@ pub record BookOk (id here : TableId) (v : View) (logs mutators epoch : ℕ) : T
   pub few_mutators : mutators ≤ MOST_MUTATORS
   pub epoch_below : epoch < EPOCH_END
   pub dealt : (book_of v).rest ≡ []
+  pub plain : IsPlain (book_of v)
 
 -- there are words, and views of the owners, with which the rule holds
 pub record Stands (b : BookView) : Type 0 where

@@ -26,12 +26,13 @@ held_by os p = held_at (owner_at os (p / CELLS)) p
 abbrev pub head_at : BookView → ℕ → Option ℕ
 head_at b = over b.heads (λ _. None)
 
+abbrev pub head_or : Option ℕ → ℕ → ℕ
+head_or None other = other
+head_or (Some head) other = head
+
 -- a header, a word that is known, or a number that no word is
 abbrev pub known_word : BookView → ℕ → ℕ
-known_word b a = at (head_at b a) (over b.known unknown a) where
-  at : Option ℕ → ℕ → ℕ
-  at None other = other
-  at (Some head) other = head
+known_word b a = head_or (head_at b a) (over b.known unknown a)
 
 abbrev pub stored_word : BookView → ℕ → ℕ → ℕ
 stored_word b p = over (over b.stored (λ _. []) p) (λ _. 0)

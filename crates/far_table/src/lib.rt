@@ -6,6 +6,7 @@
 #![tactic(auto)]
 
 mod book;
+mod book_hand;
 mod layout;
 mod rule;
 mod seat;

@@ -99,6 +99,22 @@ impl Play<u64, View> for Adopt {
     ghost then = { Adopted };
 }
 
+pub(crate) struct See;
+
+impl Play<u64, View> for See {
+    ghost use Rattle.far_table.specs.BookPlays.{Saw};
+
+    ghost then = { Saw };
+}
+
+pub(crate) struct Mark;
+
+impl Play<u64, View> for Mark {
+    ghost use Rattle.far_table.specs.BookPlays.{Marked};
+
+    ghost then = { Marked };
+}
+
 pub(crate) struct Deal;
 
 impl Split<View> for Deal {

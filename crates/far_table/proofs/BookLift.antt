@@ -1,0 +1,83 @@
+-- From the facts after a step of the book's seat to the rule of the table, once for all kinds of step.
+use Rattle.std.proofs.Common.{◌≡◌, ◌<◌, ◌^◌, ℕ, zero, suc, false, List, [], ◌∷◌, ◌++◌, map, set, sym, refl, ap, ◌∙◌, subst}
+use Rattle.std.specs.Prelude.{slice_index}
+use mathlib.Core.Option.{some, some-injective, some-ne-none}
+use lib.ListN.{get_elem?}
+use lib.Seq.{set-get_or}
+use Rattle.atomic_table.specs.Table.{State, Me, keeps, Allows}
+use Rattle.far_core.specs.declared.event.Event.{Event}
+use Rattle.far_core.specs.declared.event.Reply.{Reply}
+use Rattle.far_core.specs.events.Step.{Fits}
+use Rattle.far_hand.specs.Owners.{is_owners}
+use Rattle.far_table.specs.declared.view.BookView.{BookView}
+use Rattle.far_table.specs.declared.view.OwnerView.{OwnerView}
+use Rattle.far_table.specs.declared.view.View.{View}
+use Rattle.far_table.specs.declared.view.View.TheVariants.{Book, Owner}
+use Rattle.far_table.specs.BookTells.{BookTells}
+use Rattle.far_table.specs.Rule.{Facts, Running}
+use Rattle.far_table.specs.Stands.{book_of}
+use Rattle.far_table.proofs.BookFrames.{BookStep, book_facts, book_made}
+
+no_book : (dealt : List OwnerView) (k : ℕ) (x : BookView) → get_elem? (map Owner dealt) k ≡ some (Book x) → ⊥
+no_book [] k x e = some-ne-none (Book x) (sym e)
+no_book (y ∷ ys) zero x e = let same : Owner y ≡ Book x = some-injective (Owner y) (Book x) e in cc
+no_book (y ∷ ys) (suc k) x e = no_book ys k x e
+
+-- the book's seat is the first
+book_place : (b : BookView) (dealt : List OwnerView) (id : ℕ) (x : BookView) → get_elem? (Book b ∷ map Owner dealt) id ≡ some (Book x) → (id ≡ zero) × (b ≡ x)
+book_place b dealt zero x e = let same : Book b ≡ Book x = some-injective (Book b) (Book x) e in let is : b ≡ x = cc in (refl, is)
+book_place b dealt (suc k) x e = absurd (no_book dealt k x e)
+
+module _ {S : Type 0} where
+  -- a step of the book's seat owes the facts after it, of any words and owners' views that meet them
+  pub book_allows : (slots id i : ℕ) (me : Me S View) (b : BookView) (f : ℕ → ℕ) (then : ℕ → Me S View → Type 0) → me.0 ≡ Book b →
+      ((ws : List ℕ) (os : List OwnerView) → Facts ws b os → slice_index ws i < 2 ^ 64 →
+      (w : BookView) × (w.rest ≡ b.rest) × Facts (set ws i (f (slice_index ws i))) w os × then (slice_index ws i) (Book w, me.1)) →
+      Allows Running slots id me i f then
+  book_allows slots id i me b f then is asked s r wide at small =
+      let p = book_place r.book r.dealt id b (subst (λ l. get_elem? l id ≡ some (Book b)) r.views (at ∙ ap some is)) in
+      let t = asked s.words (r.dealt ++ b.rest) (subst (λ z. Facts s.words z (r.dealt ++ z.rest)) p.1 r.facts) small in
+      let w : BookView = t.0 in
+      let x : ℕ = f (slice_index s.words i) in (
+        Book w,
+        keeps,
+        tt,
+        record {
+          book = w;
+          dealt = r.dealt;
+          views = ap (λ l. set l id (Book w)) r.views ∙ ap (λ j. set (Book r.book ∷ map Owner r.dealt) j (Book w)) p.0;
+          facts = subst (λ l. Facts (set s.words i x) w (r.dealt ++ l)) (sym t.1) t.2;
+        },
+        t.3,
+      )
+
+  module _ (slots id i : ℕ) (me : Me S View) (is : me.0 ≡ Book (book_of me.0)) (e : Event) (own : is_owners e ≡ false)
+      (r : ℕ → Reply) (w : ℕ → BookView) (then : ℕ → Me S View → Type 0) where
+    abbrev b : BookView
+    b = book_of me.0
+
+    -- a step that writes: it is this event, the reply and the view after go by the word found
+    pub book_makes : (f : ℕ → ℕ) → Fits e →
+        ((ws : List ℕ) (os : List OwnerView) → Facts ws b os → slice_index ws i < 2 ^ 64 →
+        BookStep ws b os e (r (slice_index ws i)) (set ws i (f (slice_index ws i))) (w (slice_index ws i))) →
+        ((ws : List ℕ) (os : List OwnerView) → Facts ws b os → slice_index ws i < 2 ^ 64 →
+        BookTells me.0 (Book (w (slice_index ws i))) e (r (slice_index ws i)) (w (slice_index ws i)) → then (slice_index ws i) (Book (w (slice_index ws i)), me.1)) →
+        Allows Running slots id me i f then
+    book_makes f fits steps tells = book_allows slots id i me b f then is (λ ws os facts small.
+        let n : ℕ = slice_index ws i in
+        let k = steps ws os facts small in (
+          w n,
+          k.rest,
+          book_facts ws b os facts e own fits (r n) (set ws i (f n)) (w n) k,
+          tells ws os facts small record { after_is = refl; made = book_made ws b os facts e own fits (r n) (set ws i (f n)) (w n) k },
+        ))
+
+    -- a step that reads
+    pub book_reads : Fits e →
+        ((ws : List ℕ) (os : List OwnerView) → Facts ws b os → slice_index ws i < 2 ^ 64 →
+        BookStep ws b os e (r (slice_index ws i)) ws (w (slice_index ws i))) →
+        ((ws : List ℕ) (os : List OwnerView) → Facts ws b os → slice_index ws i < 2 ^ 64 →
+        BookTells me.0 (Book (w (slice_index ws i))) e (r (slice_index ws i)) (w (slice_index ws i)) → then (slice_index ws i) (Book (w (slice_index ws i)), me.1)) →
+        Allows Running slots id me i (λ n. n) then
+    book_reads fits steps = book_makes (λ n. n) fits (λ ws os facts small.
+        subst (λ l. BookStep ws b os e (r (slice_index ws i)) l (w (slice_index ws i))) (sym (set-get_or ws i 0)) (steps ws os facts small))

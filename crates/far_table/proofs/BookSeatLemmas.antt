@@ -1,0 +1,59 @@
+-- What the struct of the book's seat keeps over a step, for all kinds of step.
+use Rattle.std.proofs.Common.{◌≡◌, ◌+◌, ◌*◌, ◌<◌, ℕ, sym, ap, ◌∙◌, subst, arith}
+use Rattle.atomic_table.specs.Seated.{TableId}
+use Rattle.far_word.specs.declared.sizes.TheConstants.{CELLS, EPOCH_END}
+use Rattle.far_core.specs.declared.event.Event.{Event}
+use Rattle.far_core.specs.declared.event.Reply.{Reply}
+use Rattle.far_core.specs.state.State.{State}
+use Rattle.far_table.specs.declared.view.BookView.{BookView}
+use Rattle.far_table.specs.declared.view.View.{View}
+use Rattle.far_table.specs.declared.view.View.TheVariants.{Book}
+use Rattle.far_table.specs.Layout.{TABLE_WORDS, cell_at}
+use Rattle.far_table.specs.BookTells.{BookMade, BookTells}
+use Rattle.far_table.specs.Stands.{BookOk, IsPlain, Stands, book_of}
+
+-- what a view after a step shares with the one before, and that its epoch is the struct's
+pub record SameShape (b b' : BookView) (epoch : ℕ) : Type 0 where
+  pub logs : b'.logs ≡ b.logs
+  pub mutators : b'.mutators ≡ b.mutators
+  pub epoch_is : b'.epoch ≡ epoch
+  pub below : epoch < EPOCH_END
+  pub rest : b'.rest ≡ b.rest
+  pub plain : IsPlain b'
+
+-- where nothing of that changes
+pub shape_stays : (id here : TableId) (v : View) (logs mutators epoch : ℕ) (b' : BookView) → BookOk id here v logs mutators epoch → b'.logs ≡ (book_of v).logs → b'.mutators ≡ (book_of v).mutators →
+    b'.epoch ≡ (book_of v).epoch → b'.rest ≡ (book_of v).rest → IsPlain b' → SameShape (book_of v) b' epoch
+shape_stays id here v logs mutators epoch b' i l m e r plain = record { logs = l; mutators = m; epoch_is = e ∙ i.epoch_is; below = i.epoch_below; rest = r; plain = plain }
+
+-- a cell's word is one of the table's
+pub cell_inside : (id here : TableId) (v : View) (logs mutators epoch p : ℕ) → BookOk id here v logs mutators epoch → p < CELLS * (book_of v).mutators → cell_at p < TABLE_WORDS
+cell_inside id here v logs mutators epoch p i low = let a = i.mutators_are in let few = i.few_mutators in omega arith
+
+module _ (v v' : View) (e : Event) (r : Reply) (b' : BookView) (t : BookTells v v' e r b') where
+  pub view_is : book_of v' ≡ b'
+  view_is = ap book_of t.after_is
+
+  pub book_stays : (id later here : TableId) (logs mutators epoch epoch' : ℕ) → BookOk id here v logs mutators epoch → later ≡ id → SameShape (book_of v) b' epoch' → BookOk later here v' logs mutators epoch'
+  book_stays id later here logs mutators epoch epoch' i same k = record {
+    same = same ∙ i.same;
+    wide = ap (λ (z : TableId). z.words) same ∙ i.wide;
+    is_book = t.after_is ∙ ap (λ z. Book (book_of z)) (sym t.after_is);
+    logs_are = ap (λ (z : BookView). z.logs) view_is ∙ (k.logs ∙ i.logs_are);
+    mutators_are = ap (λ (z : BookView). z.mutators) view_is ∙ (k.mutators ∙ i.mutators_are);
+    epoch_is = ap (λ (z : BookView). z.epoch) view_is ∙ k.epoch_is;
+    two_logs = i.two_logs;
+    few_logs = i.few_logs;
+    some_mutators = i.some_mutators;
+    few_mutators = i.few_mutators;
+    epoch_below = k.below;
+    dealt = ap (λ (z : BookView). z.rest) view_is ∙ (k.rest ∙ i.dealt);
+    plain = subst IsPlain (sym view_is) k.plain;
+  }
+
+  -- there are words with which the rule holds
+  pub stands_after : ∥ Stands (book_of v') ∥₁
+  stands_after = subst (λ (z : BookView). ∥ Stands z ∥₁) (sym view_is) ∣ record { words = t.made.later; owners = t.made.owners; facts = t.made.keeps } ∣₁
+
+  pub seat_made : BookMade e (book_of v) r (book_of v')
+  seat_made = subst (λ z. BookMade e (book_of v) r z) (sym view_is) t.made
