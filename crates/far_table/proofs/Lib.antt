@@ -13,3 +13,5 @@ pub mod AdoptSteps
 pub mod AskSteps
 pub mod StoreSteps
 pub mod SeatLemmas
+pub mod FirstViews
+pub mod Begins
