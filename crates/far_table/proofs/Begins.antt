@@ -1,16 +1,14 @@
 -- The rule holds at the start: for the words and the views of any core.
-use Rattle.std.proofs.Common.{◌≡◌, ◌≢◌, ◌+◌, ◌*◌, ◌/◌, ◌<◌, ◌≤◌, ◌^◌, ℕ, Bool, true, false, cond, nat_lt, List, [], ◌++◌, length, sym, refl, ap, ◌∙◌, subst, arith, inl, inr, Option, Some, None}
+use Rattle.std.proofs.Common.{◌≡◌, ◌≢◌, ◌*◌, ◌/◌, ◌%◌, ◌<◌, ◌≤◌, ◌^◌, ℕ, Bool, true, false, cond, nat_lt, List, [], sym, refl, ap, ◌∙◌, subst, arith, inl, inr, Option, Some, None}
 use Rattle.std.specs.Prelude.{is_some, slice_index, ◌||◌, ◌&&◌, ◌==◌}
 use Rattle.std.proofs.lemmas.Bool.{cases_lt, le-ltb, lt-ltb}
 use Rattle.std.proofs.lemmas.List.{get_or_past}
 use mathlib.Core.Logic.{dite}
-use mathlib.Core.Option.{some}
 use mathlib.Core.Path.{fun_ext}
 use native.Mathlib.Decide.{ℕ_discrete}
-use lib.ListN.{get_elem?}
 use Rattle.atomic_table.specs.Table.{opening}
 use Rattle.far_word.specs.declared.pointer.PtrWord.TheVariants.{Free, Near, Far}
-use Rattle.far_word.specs.declared.sizes.TheConstants.{CELLS, LOG_WORDS, MOST_LOGS, MOST_MUTATORS, POINTERS}
+use Rattle.far_word.specs.declared.sizes.TheConstants.{LOG_WORDS, MOST_LOGS, MOST_MUTATORS, POINTERS}
 use Rattle.far_word.specs.Pointer.{read_of}
 use Rattle.far_core.specs.declared.event.Kind.TheVariants as kinds
 use Rattle.far_core.specs.events.Advance.{is_among}
@@ -21,19 +19,19 @@ use Rattle.far_core.proofs.Cells.{unused}
 use Rattle.far_core.proofs.Steps.{agrees}
 use Rattle.far_hand.specs.Known.{IsKnown, unknown}
 use Rattle.far_hand.specs.Masked.{masked, masked_word}
-use Rattle.far_hand.specs.MayBe.{Shows, finds_itself, masked_shows}
+use Rattle.far_hand.specs.MayBe.{Shows, masked_shows}
 use Rattle.far_hand.specs.Owners.{IsLoudAt}
+use Rattle.far_hand.proofs.Finding.{finds_same}
 use Rattle.far_hand.proofs.Masking.{known_quiet}
 use Rattle.far_table.specs.declared.view.BookView.{BookView}
 use Rattle.far_table.specs.declared.view.OwnerView.{OwnerView}
-use Rattle.far_table.specs.declared.view.View.{View}
 use Rattle.far_table.specs.declared.view.View.TheVariants.{Book}
 use Rattle.far_table.specs.First.{IsTableOf, first_book, first_owner, first_owners, rows_from}
 use Rattle.far_table.specs.Layout.{cell_at, cell_in, data_at, scope_at, scope_in, word_in}
 use Rattle.far_table.specs.Rows.{over}
 use Rattle.far_table.specs.Rule.{BookTies, Facts, OwnerTies, Running}
 use Rattle.far_table.specs.StateOf.{book_state, head_at, held_by, known_word, remembered_by, state_of, stored_word, used_by}
-use Rattle.far_table.specs.Views.{held_at, moves, nobody, uses}
+use Rattle.far_table.specs.Views.{held_at, uses}
 use Rattle.far_table.proofs.FirstViews.{first_asked, first_has, first_held, first_scope, first_uses, many_owners, over_all, over_beside, over_within, owner_here, owner_past, owner_stands, pointers_first}
 
 -- a part of the words makes a function, if past its end that is 0
@@ -139,7 +137,7 @@ module _ (s : State) (honest : Bool) (law : Law s) (past : HasNothingPast s) whe
   }
 
   pub first_shows : Shows (book_state b) s'
-  first_shows = subst (λ (o : State). Shows o s') (sym first_book_state) (masked_shows s' s.cell (λ _. false) (λ p. finds_itself (s.cell p)))
+  first_shows = subst (λ (o : State). Shows o s') (sym first_book_state) (masked_shows s' s.cell (λ _. false) (λ p. finds_same (s.cell p)))
 
   -- ---- the words and the views are the core's state
   module _ (ws : List ℕ) (table : IsTableOf ws s) where
@@ -197,7 +195,7 @@ module _ (s : State) (honest : Bool) (law : Law s) (past : HasNothingPast s) whe
 
       -- no header is a word that an owner stores into
       still_first : (a : ℕ) → IsKnown (masked_word s.word s.starts (λ _. false) a) → ¬ IsLoudAt (masked s' s.cell (λ _. false)) a
-      still_first a known x = known_quiet s' first_law s.cell (λ _. false) (λ p. finds_itself (s.cell p)) (λ p len ds i place m near loud inside. refl) a (known_head (s.starts a) (s.word a) a known) record {
+      still_first a known x = known_quiet s' first_law s.cell (λ _. false) (λ p. finds_same (s.cell p)) (λ p len ds i place m near loud inside. refl) a (known_head (s.starts a) (s.word a) a known) record {
         p = x.p;
         len = x.len;
         ds = x.ds;
@@ -233,6 +231,7 @@ module _ (s : State) (honest : Bool) (law : Law s) (past : HasNothingPast s) whe
         jobs = table.jobs;
       }
 
-      -- what a table of these words and the book's first view needs
-      pub opens : {S : Type 0} → Running {S = S} (opening ws [] (Book b))
-      opens = record { book = b; dealt = []; views = refl; facts = first_facts }
+-- what is asked where a table is made of these words and the book's first view
+pub opens : {S : Type 0} (s : State) (honest : Bool) (ws : List ℕ) → Law s → HasNothingPast s → IsTableOf ws s → ((p : ℕ) → s.cell p ≢ 0 → honest ≡ s.honest) →
+    Running {S = S} (opening ws [] (Book (first_book s honest)))
+opens s honest ws law past table same = record { book = first_book s honest; dealt = []; views = refl; facts = first_facts s honest law past ws table same }

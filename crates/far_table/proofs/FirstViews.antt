@@ -15,7 +15,7 @@ use Rattle.far_word.specs.declared.pointer.PtrWord.{PtrWord}
 use Rattle.far_word.specs.declared.pointer.PtrWord.TheVariants.{Free, Near, Far}
 use Rattle.far_word.specs.declared.scope.ScopeWord.{ScopeWord}
 use Rattle.far_word.specs.declared.scope.ScopeWord.TheVariants as scoped
-use Rattle.far_word.specs.declared.sizes.TheConstants.{CELLS, EPOCH_END, LOG_WORDS, MOST_LOGS}
+use Rattle.far_word.specs.declared.sizes.TheConstants.{CELLS, LOG_WORDS, MOST_LOGS}
 use Rattle.far_word.specs.Pointer.{read_of}
 use Rattle.far_word.specs.Scope.{scope_of}
 use Rattle.far_word.specs.Sizes.{words_for}
