@@ -37,8 +37,9 @@ use Rattle.far_table.proofs.FirstViews.{first_asked, first_has, first_held, firs
 -- a part of the words makes a function, if past its end that is 0
 part_is : (n : ℕ) (f g : ℕ → ℕ) → ((q : ℕ) → q < n → f q ≡ g q) → ((q : ℕ) → n ≤ q → g q ≡ 0) → (λ q. cond (nat_lt q n) (f q) 0) ≡ g
 part_is n f g within past = fun_ext (λ q. elim (cases_lt q n) [
-    inl lt ↦ ap (λ t. cond t (f q) 0) (lt-ltb q n lt) ∙ within q lt
-  | inr le ↦ ap (λ t. cond t (f q) 0) (le-ltb q n le) ∙ sym (past q le) ])
+  | inl lt ↦ ap (λ t. cond t (f q) 0) (lt-ltb q n lt) ∙ within q lt
+  | inr le ↦ ap (λ t. cond t (f q) 0) (le-ltb q n le) ∙ sym (past q le)
+])
 
 some_where : (t : Bool) (w : ℕ) → is_some (cond t (Some w) None) ≡ t
 some_where true w = refl
@@ -80,8 +81,9 @@ module _ (s : State) (honest : Bool) (law : Law s) (past : HasNothingPast s) whe
 
   remembered_first : remembered_by os ≡ s.remembered
   remembered_first = fun_ext (λ m. elim (cases_lt m s.mutators) [
-      inl lt ↦ ap (λ (y : OwnerView). y.epoch) (owner_here s honest m lt)
-    | inr le ↦ ap (λ (y : OwnerView). y.epoch) (owner_past s honest m le) ∙ sym (past.epochs m le) ])
+    | inl lt ↦ ap (λ (y : OwnerView). y.epoch) (owner_here s honest m lt)
+    | inr le ↦ ap (λ (y : OwnerView). y.epoch) (owner_past s honest m le) ∙ sym (past.epochs m le)
+  ])
 
   used_first : used_by os ≡ s.used
   used_first = pointers_first s honest uses s.used (λ m p own. first_uses s honest m p own law) past.uses
@@ -114,10 +116,11 @@ module _ (s : State) (honest : Bool) (law : Law s) (past : HasNothingPast s) whe
 
   stored_first : stored_word b ≡ s.stored
   stored_first = fun_ext (λ p. elim (cases_lt p POINTERS) [
-      inl lt ↦ ap (λ (rows : List (ℕ × ℕ)). over rows (λ _. 0)) (over_within (λ q. rows_from 0 LOG_WORDS (s.stored q)) (λ _. []) POINTERS 0 p (omega arith) (omega arith))
-      ∙ over_all (s.stored p) (λ _. 0) LOG_WORDS (past.rows p)
+    | inl lt ↦ ap (λ (rows : List (ℕ × ℕ)). over rows (λ _. 0)) (over_within (λ q. rows_from 0 LOG_WORDS (s.stored q)) (λ _. []) POINTERS 0 p (omega arith) (omega arith))
+        ∙ over_all (s.stored p) (λ _. 0) LOG_WORDS (past.rows p)
     | inr le ↦ ap (λ (rows : List (ℕ × ℕ)). over rows (λ _. 0)) (over_beside (λ q. rows_from 0 LOG_WORDS (s.stored q)) (λ _. []) POINTERS 0 p (λ x y. omega arith))
-      ∙ fun_ext (λ i. sym (past.stores p i (omega (arith, law.shape.few_mutators)))) ])
+        ∙ fun_ext (λ i. sym (past.stores p i (omega (arith, law.shape.few_mutators))))
+  ])
 
   cells_first : over b.cells (λ _. 0) ≡ s.cell
   cells_first = over_all s.cell (λ _. 0) POINTERS (λ p le. past.cells p (omega (arith, law.shape.few_mutators)))
@@ -149,8 +152,9 @@ module _ (s : State) (honest : Bool) (law : Law s) (past : HasNothingPast s) whe
 
     word_first : word_in ws ≡ s.word
     word_first = fun_ext (λ a. elim (cases_lt a (MOST_LOGS * LOG_WORDS)) [
-        inl lt ↦ table.words a lt
-      | inr le ↦ get_or_past ws (data_at a) 0 (omega (arith, table.wide)) ∙ sym (past.words a (omega (arith, law.shape.few_logs))) ])
+      | inl lt ↦ table.words a lt
+      | inr le ↦ get_or_past ws (data_at a) 0 (omega (arith, table.wide)) ∙ sym (past.words a (omega (arith, law.shape.few_logs)))
+    ])
 
     pub first_state : state_of ws b os ≡ s'
     first_state = λ i. record s' {
@@ -170,68 +174,71 @@ module _ (s : State) (honest : Bool) (law : Law s) (past : HasNothingPast s) whe
       stored = stored_first i;
     }
 
-    -- ---- the rule
-    module _ (same : (p : ℕ) → s.cell p ≢ 0 → honest ≡ s.honest) where
-      first_blank : BlankLaw honest s.cell s.word s.stored s.used
-      first_blank is p free = dite (ℕ_discrete (s.cell p) 0)
-          (λ e. let none : read_of (s.cell p) ≡ Some Free = ap read_of e ∙ unused in record {
+  -- ---- the rule, where the honesty is the core's own as soon as a cell is in use
+  module _ (same : (p : ℕ) → s.cell p ≢ 0 → honest ≡ s.honest) where
+    first_blank : BlankLaw honest s.cell s.word s.stored s.used
+    first_blank is p free = dite (ℕ_discrete (s.cell p) 0)
+        (λ e. let none : read_of (s.cell p) ≡ Some Free = ap read_of e ∙ unused in record {
           near = λ len ds place m cell kept. let odd : Some Free ≡ Some (Near len ds place m) = sym none ∙ cell in absurd (cc);
           far = λ len ds m cell kept. let odd : Some Free ≡ Some (Far len ds m) = sym none ∙ cell in absurd (cc);
         })
-          (λ ne. law.unadopted (sym (same p ne) ∙ is) p free)
+        (λ ne. law.unadopted (sym (same p ne) ∙ is) p free)
 
-      pub first_law : Law s'
-      first_law = record {
-        shape = law.shape;
-        cells = law.cells;
-        spans = law.spans;
-        logs = law.logs;
-        scopes = law.scopes;
-        views = law.views;
-        rounds = law.rounds;
-        clears = law.clears;
-        unadopted = first_blank;
-      }
+    pub first_law : Law s'
+    first_law = record {
+      shape = law.shape;
+      cells = law.cells;
+      spans = law.spans;
+      logs = law.logs;
+      scopes = law.scopes;
+      views = law.views;
+      rounds = law.rounds;
+      clears = law.clears;
+      unadopted = first_blank;
+    }
 
-      -- no header is a word that an owner stores into
-      still_first : (a : ℕ) → IsKnown (masked_word s.word s.starts (λ _. false) a) → ¬ IsLoudAt (masked s' s.cell (λ _. false)) a
-      still_first a known x = known_quiet s' first_law s.cell (λ _. false) (λ p. finds_same (s.cell p)) (λ p len ds i place m near loud inside. refl) a (known_head (s.starts a) (s.word a) a known) record {
-        p = x.p;
-        len = x.len;
-        ds = x.ds;
-        place = x.place;
-        marks = x.marks;
-        index = x.index;
-        near = x.near;
-        loud = x.loud;
-        inside = x.inside;
-        here = x.here;
-      }
+    -- no header is a word that an owner stores into
+    still_first : (a : ℕ) → IsKnown (masked_word s.word s.starts (λ _. false) a) → ¬ IsLoudAt (masked s' s.cell (λ _. false)) a
+    still_first a known x = known_quiet s' first_law s.cell (λ _. false) (λ p. finds_same (s.cell p)) (λ p len ds i place m near loud inside. refl) a (known_head (s.starts a) (s.word a) a known) record {
+      p = x.p;
+      len = x.len;
+      ds = x.ds;
+      place = x.place;
+      marks = x.marks;
+      index = x.index;
+      near = x.near;
+      loud = x.loud;
+      inside = x.inside;
+      here = x.here;
+    }
 
-      first_ties : BookTies b s'
-      first_ties = record { shown = first_shows; still = subst (λ (o : State). (a : ℕ) → IsKnown (o.word a) → ¬ IsLoudAt o a) (sym first_book_state) still_first }
+    pub first_book_ties : BookTies b s'
+    first_book_ties = record { shown = first_shows; still = subst (λ (o : State). (a : ℕ) → IsKnown (o.word a) → ¬ IsLoudAt o a) (sym first_book_state) still_first }
 
-      owner_first : (m : ℕ) → OwnerTies b s' m (first_owner s honest m)
-      owner_first m = record {
-        number = refl;
-        honest = refl;
-        scope = sym (first_scope s honest m law);
-        objects = λ p x own e. first_has s honest m p own x e;
-        asks = λ p own. first_asked s honest m p own ∙ omega arith;
-      }
+    -- MOVE counts as set once where it stands, and as never taken away
+    pub first_owner_ties : (m : ℕ) → OwnerTies b s' m (first_owner s honest m)
+    first_owner_ties m = record {
+      number = refl;
+      honest = refl;
+      scope = sym (first_scope s honest m law);
+      objects = λ p x own e. first_has s honest m p own x e;
+      asks = λ p own. first_asked s honest m p own ∙ omega arith;
+    }
 
-      pub first_facts : Facts ws b os
-      first_facts = record {
-        law = subst Law (sym first_state) first_law;
-        agrees = agrees (state_of ws b os) (subst Law (sym first_state) first_law);
-        book = subst (BookTies b) (sym first_state) first_ties;
-        owners = λ m o at. let t = owner_stands s honest m o at in subst (λ (z : State). OwnerTies b z m o) (sym first_state) (subst (OwnerTies b s' m) t.1 (owner_first m));
-        many = many_owners s honest;
-        wide = table.wide;
-        jobs = table.jobs;
-      }
+    pub first_facts : (ws : List ℕ) → IsTableOf ws s → Facts ws b os
+    first_facts ws table =
+        let is : s' ≡ state_of ws b os = sym (first_state ws table) in
+        let here : Law (state_of ws b os) = subst Law is first_law in record {
+          law = here;
+          agrees = agrees (state_of ws b os) here;
+          book = subst (BookTies b) is first_book_ties;
+          owners = λ m o at. let t = owner_stands s honest m o at in subst (λ (z : State). OwnerTies b z m o) is (subst (OwnerTies b s' m) t.1 (first_owner_ties m));
+          many = many_owners s honest;
+          wide = table.wide;
+          jobs = table.jobs;
+        }
 
 -- what is asked where a table is made of these words and the book's first view
 pub opens : {S : Type 0} (s : State) (honest : Bool) (ws : List ℕ) → Law s → HasNothingPast s → IsTableOf ws s → ((p : ℕ) → s.cell p ≢ 0 → honest ≡ s.honest) →
     Running {S = S} (opening ws [] (Book (first_book s honest)))
-opens s honest ws law past table same = record { book = first_book s honest; dealt = []; views = refl; facts = first_facts s honest law past ws table same }
+opens s honest ws law past table same = record { book = first_book s honest; dealt = []; views = refl; facts = first_facts s honest law past same ws table }

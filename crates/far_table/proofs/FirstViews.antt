@@ -186,5 +186,6 @@ module _ (s : State) (honest : Bool) where
   pub pointers_first : {X : Type 0} (g : OwnerView → ℕ → X) (F : ℕ → X) → ((m p : ℕ) → p / CELLS ≡ m → g (first_owner s honest m) p ≡ F p) →
       ((p : ℕ) → CELLS * s.mutators ≤ p → F p ≡ g nobody p) → (λ p. g (owner_at os (p / CELLS)) p) ≡ F
   pointers_first g F own past = fun_ext (λ p. elim (cases_lt (p / CELLS) s.mutators) [
-      inl lt ↦ ap (λ y. g y p) (owner_here (p / CELLS) lt) ∙ own (p / CELLS) p refl
-    | inr le ↦ ap (λ y. g y p) (owner_past (p / CELLS) le) ∙ sym (past p (omega arith)) ])
+    | inl lt ↦ ap (λ y. g y p) (owner_here (p / CELLS) lt) ∙ own (p / CELLS) p refl
+    | inr le ↦ ap (λ y. g y p) (owner_past (p / CELLS) le) ∙ sym (past p (omega arith))
+  ])
