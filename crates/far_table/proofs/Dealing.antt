@@ -15,19 +15,8 @@ use Rattle.far_table.specs.declared.view.View.TheVariants.{Book, Owner, Copier}
 use Rattle.far_table.specs.First.{first_book, first_owner, waiting}
 use Rattle.far_table.specs.Rule.{Facts, Running}
 use Rattle.far_table.specs.Seats.{Seated}
+use Rattle.far_table.proofs.Begins.{other_rest}
 use Rattle.far_table.specs.Stands.{Seats, book_of, first_rest, left_of, others_rest, right_of}
-
--- the owners that have no seat yet are no part of what the rule says of the book
-pub other_rest : (ws : List ℕ) (b : BookView) (os l : List OwnerView) → Facts ws b os → Facts ws (record b { rest = l }) os
-other_rest ws b os l f = record {
-  law = f.law;
-  agrees = f.agrees;
-  book = record { shown = f.book.shown; still = f.book.still };
-  owners = λ m o at. let x = f.owners m o at in record { number = x.number; honest = x.honest; scope = x.scope; objects = x.objects; asks = x.asks };
-  many = f.many;
-  wide = f.wide;
-  jobs = f.jobs;
-}
 
 -- the book's seat is the first one
 no_book : (l : List OwnerView) (k : ℕ) (b : BookView) → get_elem? (map Owner l) k ≡ some (Book b) → ⊥

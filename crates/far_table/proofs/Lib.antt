@@ -13,4 +13,7 @@ pub mod AdoptSteps
 pub mod AskSteps
 pub mod StoreSteps
 pub mod SeatLemmas
+pub mod FirstViews
+pub mod Begins
 pub mod Dealing
+pub mod Tables
