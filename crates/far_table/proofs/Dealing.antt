@@ -9,12 +9,12 @@ use Rattle.far_core.specs.state.State.{State}
 use Rattle.far_table.specs.declared.view.BookView.{BookView}
 use Rattle.far_table.specs.declared.view.OwnerView.{OwnerView}
 use Rattle.far_table.specs.declared.view.View.{View}
-use Rattle.far_table.specs.declared.view.View.TheVariants.{Book, Owner, Copier}
+use Rattle.far_table.specs.declared.view.View.TheVariants.{Book, Owner}
 use Rattle.far_table.specs.First.{first_book, first_owner, waiting}
 use Rattle.far_table.specs.Rule.{Facts, Running}
 use Rattle.far_table.specs.Tells.{owner_of}
 use Rattle.far_table.proofs.Begins.{other_rest}
-use Rattle.far_table.specs.Stands.{ first_rest, left_of, others_rest, right_of}
+use Rattle.far_table.specs.Stands.{first_rest, left_of, others_rest, right_of}
 
 -- the book's seat is the first one
 no_book : (l : List OwnerView) (k : ℕ) (b : BookView) → get_elem? (map Owner l) k ≡ some (Book b) → ⊥

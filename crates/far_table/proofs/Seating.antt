@@ -17,10 +17,10 @@ use Rattle.far_table.specs.First.{first_book, first_owner, first_owners, waiting
 use Rattle.far_table.specs.Layout.{TABLE_WORDS}
 use Rattle.far_table.specs.Rule.{Facts}
 use Rattle.far_table.specs.Seats.{HasPlaces, Remembers, data_begin}
-use Rattle.far_table.specs.Stands.{BookOk, Stands, Starts, book_of}
+use Rattle.far_table.specs.Stands.{BookOk, SaysOwner, Stands, Starts, book_of}
 use Rattle.far_table.specs.Tells.{owner_of}
-use Rattle.far_table.proofs.FirstViews.{first_fits, first_places, first_remembers}
-use Rattle.far_table.proofs.Begins.{first_facts, first_state, other_rest}
+use Rattle.far_table.proofs.FirstViews.{first_fits, first_has, first_held, first_held_none, first_object_none, first_places, first_remembers, first_scope, first_uses}
+use Rattle.far_table.proofs.Begins.{first_book_state, first_facts, first_state, other_rest}
 use Rattle.far_table.proofs.SeatLemmas.{SeatOk}
 use Rattle.far_table.proofs.Tables.{is_table, table}
 
@@ -75,6 +75,19 @@ book_starts s law honest id here v same wide is view = record {
   dealt = ap (λ (b : BookView). b.rest) view;
 }
 
+-- each owner's view is what the state says of it
+owner_says : (s : State) → Law s → (honest : Bool) (m : ℕ) → SaysOwner s honest m (first_owner s honest m)
+owner_says s law honest m = record {
+  number = refl;
+  honesty = refl;
+  epoch = refl;
+  scope = first_scope s honest m law;
+  used = λ p own. first_uses s honest m p own law;
+  held = λ p own. first_held s honest m p own;
+  objects = λ p x own h. first_has s honest m p own x h;
+  others = λ p other. (first_object_none s honest m p other, first_held_none s honest m p other);
+}
+
 -- ---- the rule at the start, once each owner has its seat
 module _ (s : State) (honest : Bool) (law : Law s) (past : HasNothingPast s) (same : (p : ℕ) → s.cell p ≢ 0 → honest ≡ s.honest) where
   facts_start : Facts (table s) (waiting s honest s.mutators 0) (first_owners s honest)
@@ -85,6 +98,8 @@ module _ (s : State) (honest : Bool) (law : Law s) (past : HasNothingPast s) (sa
     words = table s;
     facts = facts_start;
     state = first_state s honest law past (table s) (is_table s);
+    book = first_book_state s honest law past;
+    owners = λ m. owner_says s law honest m;
   }
 
   pub rule_stands : (b : BookView) → b ≡ waiting s honest s.mutators 0 → ∥ Stands b ∥₁

@@ -1,4 +1,4 @@
-use Rattle.std.proofs.Common.{rules, ◌≡◌, ◌-◌, ◌+◌, ◌∙◌, sym, ap, subst, arith}
+use Rattle.std.proofs.Common.{◌≡◌, ◌-◌, ◌∙◌, ap, arith}
 use Rattle.std.specs.Arc.{arc_value}
 use Rattle.far_core.specs.state.CoreState.{core_state}
 use Rattle.far_table.specs.declared.view.View.TheVariants.{Book}

@@ -1,7 +1,6 @@
-use Rattle.std.proofs.Common.{rules, ◌≡◌, ◌-◌, ◌+◌, ◌∙◌, sym, ap, arith}
+use Rattle.std.proofs.Common.{◌∙◌, sym, ap, arith}
 use Rattle.std.proofs.lemmas.Result.{IfOk-weaker}
 use Rattle.far_core.specs.state.CoreState.{core_state}
-use Rattle.far_table.specs.First.{first_owner, waiting}
 use Rattle.far_table.specs.Stands.{left_of, right_of}
 use Rattle.far_table.specs.Tells.{owner_of}
 use Rattle.far_table.proofs.Dealing.{deals, left_waits, next_waits, own_honest, right_waits}

@@ -1,4 +1,4 @@
-use Rattle.std.proofs.Common.{rules, ◌≡◌, ◌∙◌, [], length, sym, ap, subst}
+use Rattle.std.proofs.Common.{◌∙◌, [], length, sym, ap, subst}
 use Rattle.far_core.specs.state.CoreState.{core_state}
 use Rattle.far_table.specs.declared.view.View.TheVariants.{Book}
 use Rattle.far_table.specs.First.{first_book}

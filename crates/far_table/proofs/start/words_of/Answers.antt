@@ -1,4 +1,4 @@
-use Rattle.std.proofs.Common.{rules, ◌≡◌, ◌∙◌, ap, map, arith}
+use Rattle.std.proofs.Common.{◌≡◌, ◌∙◌, ap, map, arith}
 use Rattle.std.specs.List.{range_with_len}
 use Rattle.far_core.specs.state.CoreState.{core_state}
 use Rattle.far_table.specs.Layout.{TABLE_WORDS}

@@ -1,4 +1,4 @@
-use Rattle.std.proofs.Common.{rules, ◌≡◌, ◌∙◌, sym, ap, subst}
+use Rattle.std.proofs.Common.{◌∙◌, sym, ap, subst}
 use Rattle.std.specs.Arc.{arc_value}
 use Rattle.far_core.specs.state.CoreState.{core_state}
 use Rattle.far_table.specs.Stands.{BookOk}

@@ -1,4 +1,4 @@
-use Rattle.std.proofs.Common.{rules, ◌≡◌, ◌∙◌, sym, ap}
+use Rattle.std.proofs.Common.{◌∙◌, sym, ap}
 use Rattle.std.specs.Option.{unwrap_or}
 use Rattle.far_core.specs.state.CoreState.{core_state}
 use Rattle.far_table.specs.Tells.{owner_of}
