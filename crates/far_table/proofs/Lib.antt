@@ -13,6 +13,8 @@ pub mod AdoptSteps
 pub mod AskSteps
 pub mod StoreSteps
 pub mod SeatLemmas
+pub mod FirstViews
+pub mod Begins
 pub mod Dealing
 pub mod Masks
 pub mod BookObjects
@@ -20,3 +22,5 @@ pub mod BookFrames
 pub mod BookLift
 pub mod BookSees
 pub mod BookSeatLemmas
+pub mod Tables
+pub mod Seating

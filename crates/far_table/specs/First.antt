@@ -1,5 +1,5 @@
--- The views of the seats of a core that is shared.
-use Rattle.std.specs.Prelude.{ℕ, ◌*◌, Bool, cond, Option, Some, None, List, [], length, map}
+-- The words and the views of a core that is shared, before any step.
+use Rattle.std.specs.Prelude.{◌≡◌, ℕ, ◌*◌, ◌<◌, Bool, cond, Option, Some, None, List, [], length, map, slice_index}
 use Rattle.std.specs.List.{range_with_len}
 use Rattle.far_word.specs.Bytes.{packed_word}
 use Rattle.far_word.specs.declared.scope.ScopeWord.{ScopeWord}
@@ -13,10 +13,20 @@ use Rattle.far_core.specs.world.WorldOf.{world_of}
 use Rattle.far_table.specs.declared.view.BookView.{BookView}
 use Rattle.far_table.specs.declared.view.ObjectView.{ObjectView}
 use Rattle.far_table.specs.declared.view.OwnerView.{OwnerView}
+use Rattle.far_table.specs.Layout.{JOBS, TABLE_WORDS, cell_at, data_at, epoch_in, job_at, scope_at}
 use Rattle.far_table.specs.Views.{moves}
 
--- rows for so many numbers from one on
-abbrev pub rows_from : {X : Type 0} → ℕ → ℕ → (ℕ → X) → List (ℕ × X)
+-- the words are those of the state, each at its place, and 0 where a copier's job stands. Word 0, and none else, may be any
+pub record IsTableOf (ws : List ℕ) (s : State) : Type 0 where
+  pub wide : length ws ≡ TABLE_WORDS
+  pub epoch : epoch_in ws ≡ s.epoch
+  pub scopes : (m : ℕ) → m < MOST_MUTATORS → slice_index ws (scope_at m) ≡ s.scope m
+  pub cells : (p : ℕ) → p < POINTERS → slice_index ws (cell_at p) ≡ s.cell p
+  pub words : (a : ℕ) → a < MOST_LOGS * LOG_WORDS → slice_index ws (data_at a) ≡ s.word a
+  pub jobs : (j : ℕ) → j < JOBS → slice_index ws (job_at j) ≡ 0
+
+-- rows for so many numbers from one on. No proof writes them out, since there are 8192 of headers: FirstViews says what they make
+unfoldable pub rows_from : {X : Type 0} → ℕ → ℕ → (ℕ → X) → List (ℕ × X)
 rows_from low n f = map (λ k. (k, f k)) (range_with_len low n)
 
 -- the epoch at which a scope is open
@@ -26,12 +36,15 @@ open_epoch (Some scoped.Closed) = None
 open_epoch (Some (scoped.Open e)) = Some e
 
 -- an object of the world as its owner knows it
-abbrev pub seen_object : Option Object → Option ObjectView
-seen_object None = None
-seen_object (Some object) = Some record {
+abbrev pub seen : Object → ObjectView
+seen object = record {
   len = length object.bytes;
   words = rows_from 0 (words_for (length object.bytes)) (packed_word object.bytes);
 }
+
+abbrev pub seen_object : Option Object → Option ObjectView
+seen_object None = None
+seen_object (Some object) = Some (seen object)
 
 -- an owner's view: what the core says of it. MOVE counts as set once, where it stands
 abbrev pub first_owner : State → Bool → ℕ → OwnerView
@@ -44,6 +57,9 @@ first_owner s honest m = record {
   held = rows_from (CELLS * m) CELLS s.held;
   asked = rows_from (CELLS * m) CELLS (λ p. moves (s.cell p));
 }
+
+abbrev pub first_owners : State → Bool → List OwnerView
+first_owners s honest = map (first_owner s honest) (range_with_len 0 s.mutators)
 
 -- the book's view: the core's state, of whose words it knows the headers alone
 abbrev pub first_book : State → Bool → BookView
@@ -63,7 +79,7 @@ first_book s honest = record {
   clear = rows_from 0 MOST_MUTATORS s.clear;
   stored = rows_from 0 POINTERS (λ p. rows_from 0 LOG_WORDS (s.stored p));
   taken = [];
-  rest = map (first_owner s honest) (range_with_len 0 s.mutators);
+  rest = first_owners s honest;
 }
 
 -- the book's view while so many owners from this one on have no seat

@@ -1,0 +1,241 @@
+-- The book exchanges a cell: it is its event of the core, won or lost.
+use Rattle.std.proofs.Common.{◌≡◌, ◌≢◌, ◌+◌, ◌*◌, ◌<◌, ◌^◌, ℕ, Bool, true, false, cond, List, [], ◌∷◌, Option, Some, None, set, sym, refl, ap, ◌∙◌, subst, arith, eqb-true}
+use Rattle.std.specs.Prelude.{is_some, slice_index, ◌==◌, ◌||◌}
+use Rattle.std.proofs.lemmas.Bool.{eq-eqb, eqb-false, ne_eqb}
+use mathlib.Core.Logic.{dite}
+use mathlib.Core.Path.{fun_ext}
+use native.Mathlib.Decide.{ℕ_discrete}
+use lib.Seq.{set-get_or}
+use prog.Atomic.{either}
+use mathlib.Core.Option.{none}
+use Rattle.atomic_table.specs.Table.{Me, step, Allows}
+use Rattle.far_word.specs.declared.pointer.Place.{Place}
+use Rattle.far_word.specs.declared.sizes.TheConstants.{CELLS, POINTERS}
+use Rattle.far_word.specs.Header.{head_word}
+use Rattle.far_word.specs.Pointer.{read_of}
+use Rattle.far_word.specs.Sizes.{words_for}
+use Rattle.far_core.specs.declared.event.Event.TheVariants.{Name}
+use Rattle.far_core.specs.declared.event.Reply.{Reply}
+use Rattle.far_core.specs.declared.event.Reply.TheVariants.{Done, Word}
+use Rattle.far_core.specs.declared.naming.Naming.{Naming}
+use Rattle.far_core.specs.declared.naming.Naming.TheVariants.{Places, Retires, Evicts, Stays, Moves, Fetches}
+use Rattle.far_core.specs.events.Legal.{Legal}
+use Rattle.far_core.specs.events.Naming.{IsNaming, naming_of, naming_row}
+use Rattle.far_core.specs.events.Quiet.{has_move}
+use Rattle.far_core.specs.events.Step.{after, answer}
+use Rattle.far_core.specs.state.State.{State, addr, put}
+use Rattle.far_core.proofs.Namings.{naming_only}
+use Rattle.far_core.proofs.Put.{put_both, put_other, put_same}
+use Rattle.far_hand.specs.Known.{Forgets, IsKnown, KnowsLeaving, unknown}
+use Rattle.far_hand.specs.Masked.{AllFind, masked, masked_word}
+use Rattle.far_hand.proofs.Counting.{counts_none}
+use Rattle.far_hand.proofs.Naming.{legal_name, lost_state, won_state}
+use Rattle.far_table.specs.declared.view.BookView.{BookView}
+use Rattle.far_table.specs.declared.view.OwnerView.{OwnerView}
+use Rattle.far_table.specs.declared.view.View.{View}
+use Rattle.far_table.specs.declared.view.View.TheVariants.{Book}
+use Rattle.far_table.specs.BookPlays.{Named}
+use Rattle.far_table.specs.BookTells.{BookTells}
+use Rattle.far_table.specs.BookViews.{saw_view}
+use Rattle.far_table.specs.Layout.{cell_at, cell_in, epoch_in, scope_in, word_in}
+use Rattle.far_table.specs.NameViews.{exchange_reply, exchanged_view, form_view, formed_view, named_view, span_view, view_by}
+use Rattle.far_table.specs.Rows.{over}
+use Rattle.far_table.specs.Rule.{Facts, Running}
+use Rattle.far_table.specs.Stands.{IsPlain, book_of}
+use Rattle.far_table.specs.StateOf.{book_state, head_at, head_or, held_by, known_word, remembered_by, state_of, stored_word, taken_at, used_by}
+use Rattle.far_table.specs.Views.{moves}
+use Rattle.far_table.proofs.BookFrames.{BookStep}
+use Rattle.far_table.proofs.BookLift.{book_makes}
+use Rattle.far_table.proofs.BookSees.{cell_after, cells_few, epoch_after, finds_after, found_at, jobs_after, see_step}
+use Rattle.far_table.proofs.Masks.{counts, finds, is_masked, ties}
+use Rattle.far_table.proofs.NameRows.{begins_put, stored_after}
+use Rattle.far_table.proofs.OwnSteps.{state_is}
+use Rattle.far_table.proofs.Words.{cell_here}
+
+-- ---- what a form leaves of the view
+form_sizes : (p : ℕ) (form : Naming) (b : BookView) → ((form_view p form b).mutators ≡ b.mutators) × ((form_view p form b).honest ≡ b.honest) × ((form_view p form b).rest ≡ b.rest) × ((form_view p form b).epoch ≡ b.epoch)
+form_sizes p (Places len ds place) b = (refl, refl, refl, refl)
+form_sizes p Retires b = (refl, refl, refl, refl)
+form_sizes p (Evicts len place) b = (refl, refl, refl, refl)
+form_sizes p Stays b = (refl, refl, refl, refl)
+form_sizes p (Moves len ds from to) b = (refl, refl, refl, refl)
+form_sizes p (Fetches len ds place) b = (refl, refl, refl, refl)
+
+-- the new word hasn't MOVE
+new_moves : (form : Naming) (old new : ℕ) → IsNaming form (read_of old) (read_of new) → moves new ≡ 0
+new_moves (Places len ds place) old new n = ap (λ x. cond (has_move x) 1 0) n.1
+new_moves Retires old new n = ap (λ x. cond (has_move x) 1 0) n.1
+new_moves (Evicts len place) old new n = ap (λ x. cond (has_move x) 1 0) n.5
+new_moves Stays old new n = ap (λ x. cond (has_move x) 1 0) n.8
+new_moves (Moves len ds from to) old new n = ap (λ x. cond (has_move x) 1 0) n.1
+new_moves (Fetches len ds place) old new n = ap (λ x. cond (has_move x) 1 0) n.1
+
+-- a view that knows headers alone
+heads_alone : (h : Option ℕ) (w a : ℕ) → ((x : ℕ) → h ≡ Some x → w ≡ x) → head_or h (unknown a) ≡ cond (is_some h || false) w (unknown a)
+heads_alone None w a same = refl
+heads_alone (Some x) w a same = sym (same x refl)
+
+-- ---- headers, where a span of p may begin: each of them is the word that stands there
+module _ (b : BookView) (p new : ℕ) (word : ℕ → ℕ) (old_heads : (a x : ℕ) → head_at b a ≡ Some x → word a ≡ x) where
+  span_heads : (len ds : ℕ) (place : Place) → word (addr place) ≡ head_word p len ds → (a x : ℕ) → head_at (span_view p len ds place b) a ≡ Some x → word a ≡ x
+  span_heads len ds place head a x = put_both (λ v. v ≡ Some x → word a ≡ x) (head_at b) (addr place) (Some (head_word p len ds)) a
+      (λ at e. let is : head_word p len ds ≡ x = cc in ap word at ∙ (head ∙ is)) (λ _ e. old_heads a x e)
+
+  pub form_heads : (s : State) → s.word ≡ word → (form : Naming) → (naming_row s p new form).Legal → (a x : ℕ) → head_at (form_view p form b) a ≡ Some x → word a ≡ x
+  form_heads s same (Places len ds place) legal = span_heads len ds place (ap (λ f. f (addr place)) (sym same) ∙ legal.0.head)
+  form_heads s same Retires legal = old_heads
+  form_heads s same (Evicts len place) legal = old_heads
+  form_heads s same Stays legal = old_heads
+  form_heads s same (Moves len ds from to) legal = span_heads len ds to (ap (λ f. f (addr to)) (sym same) ∙ legal.span.head)
+  form_heads s same (Fetches len ds place) legal = span_heads len ds place (ap (λ f. f (addr place)) (sym same) ∙ legal.span.head)
+
+-- ---- the view after a naming is what the core's event makes of the view, but for words
+module _ (b : BookView) (p old new : ℕ) where
+  abbrev v : Naming → BookView
+  v form = formed_view p old new form b
+
+  form_done : (form : Naming) → book_state (v form) ≡ record (naming_row (book_state b) p new form).after { word = known_word (v form) }
+  form_done (Places len ds place) = λ i. record (book_state (v (Places len ds place))) { starts = begins_put (head_at b) (addr place) (head_word p len ds) i }
+  form_done Retires = refl
+  form_done (Evicts len place) = λ i. record (book_state (v (Evicts len place))) { stored = sym (stored_after b p len place (known_word b) (λ _ _. refl)) i }
+  form_done Stays = refl
+  form_done (Moves len ds from to) = λ i. record (book_state (v (Moves len ds from to))) { starts = begins_put (head_at b) (addr to) (head_word p len ds) i }
+  form_done (Fetches len ds place) = λ i. record (book_state (v (Fetches len ds place))) { starts = begins_put (head_at b) (addr place) (head_word p len ds) i }
+
+  module _ (h : Legal (book_state b) (Name p old new)) (seen : old ≡ (book_state b).cell p) where
+    abbrev o : State
+    o = book_state b
+
+    named_is : named_view p old new b ≡ v h.1.0
+    named_is = ap (λ x. view_by p old new x b) (naming_only h.1.0 (read_of old) (read_of new) h.1.1)
+
+    pub named_done : book_state (named_view p old new b) ≡ record (after o (Name p old new)) { word = known_word (named_view p old new b) }
+    named_done = subst (λ z. book_state z ≡ record (after o (Name p old new)) { word = known_word z }) (sym named_is)
+        (form_done h.1.0 ∙ ap (λ (u : State). record u { word = known_word (v h.1.0) }) (sym (won_state o p old new h.1.0 (sym seen) h.1.1)))
+
+    head_same : (a x : ℕ) → head_at (v h.1.0) a ≡ Some x → known_word b a ≡ x
+    head_same = form_heads b p new (known_word b) (λ a x e. ap (λ z. head_or z (over b.known unknown a)) e) o refl h.1.0 h.1.2
+
+    heads_keep : (a : ℕ) (x : Option ℕ) → head_at (v h.1.0) a ≡ x → IsKnown (head_or x (unknown a)) → head_or x (unknown a) ≡ known_word b a
+    heads_keep a None e known = absurd (omega arith)
+    heads_keep a (Some x) e known = sym (head_same a x e)
+
+    starts_keep : (a : ℕ) (x : Option ℕ) → head_at (v h.1.0) a ≡ x → is_some x ≡ true → head_or x (unknown a) ≡ known_word b a
+    starts_keep a None e st = absurd (cc)
+    starts_keep a (Some x) e st = sym (head_same a x e)
+
+    pub named_forgets : Forgets o (book_state (named_view p old new b))
+    named_forgets = subst (λ z. Forgets o (book_state z)) (sym named_is) record {
+      known = λ a known. heads_keep a (head_at (v h.1.0) a) refl known;
+      headers = λ a st. starts_keep a (head_at (v h.1.0) a) refl st;
+    }
+
+-- ---- the step
+module _ (ws : List ℕ) (b : BookView) (os : List OwnerView) (f : Facts ws b os) (plain : IsPlain b) (p old new : ℕ) (fits : new < 2 ^ 64)
+    (h : Legal (book_state b) (Name p old new)) (known : KnowsLeaving (book_state b) old new) where
+  abbrev s : State
+  s = state_of ws b os
+
+  abbrev view : State
+  view = book_state b
+
+  legal : Legal s (Name p old new)
+  legal = legal_name s f.law view.cell (counts b) (finds ws b os f) p old new h.0 fits (subst (λ (z : State). Legal z (Name p old new)) (is_masked ws b os f plain) h)
+
+  abbrev form : Naming
+  form = legal.1.0
+
+  few : p < POINTERS
+  few = cells_few ws b os f p h.0
+
+  abbrev later : List ℕ
+  later = set ws (cell_at p) new
+
+  abbrev b' : BookView
+  b' = formed_view p old new form b
+
+  -- the words of the logs that the view knows are those that stand there
+  old_heads : (a x : ℕ) → head_at b a ≡ Some x → s.word a ≡ x
+  old_heads a x e = f.book.shown.headers a (ap is_some e) ∙ ap (λ z. head_or z (over b.known unknown a)) e
+
+  leaving : (len : ℕ) (place : Place) → IsNaming (Evicts len place) (read_of old) (read_of new) → (i : ℕ) → i < words_for len → s.word (addr place + 1 + i) ≡ known_word b (addr place + 1 + i)
+  leaving len place n i lt = f.book.shown.words (addr place + 1 + i) (known len place n i lt)
+
+  abbrev made : Naming → State
+  made x = record (book_state (formed_view p old new x b)) {
+    epoch = epoch_in ws; scope = scope_in ws; cell = put (cell_in ws) p new; word = word_in ws; remembered = remembered_by os; used = used_by os; held = held_by os;
+  }
+
+  row_becomes : (x : Naming) → IsNaming x (read_of old) (read_of new) → (naming_row s p new x).after ≡ made x
+  row_becomes (Places len ds place) n = λ i. record (made (Places len ds place)) { starts = sym (begins_put (head_at b) (addr place) (head_word p len ds)) i }
+  row_becomes Retires n = refl
+  row_becomes (Evicts len place) n = λ i. record (made (Evicts len place)) { stored = stored_after b p len place s.word (leaving len place n) i }
+  row_becomes Stays n = refl
+  row_becomes (Moves len ds from to) n = λ i. record (made (Moves len ds from to)) { starts = sym (begins_put (head_at b) (addr to) (head_word p len ds)) i }
+  row_becomes (Fetches len ds place) n = λ i. record (made (Fetches len ds place)) { starts = sym (begins_put (head_at b) (addr place) (head_word p len ds)) i }
+
+  words_named : known_word b' ≡ masked_word (word_in later) (λ a. is_some (head_at b' a)) (λ _. false)
+  words_named = fun_ext (λ a. heads_alone (head_at b' a) (word_in later a) a (λ x e. ap (λ g. g a) (cell_after ws b os f p new few).word_is ∙ form_heads b p new s.word old_heads s refl form legal.1.2 a x e))
+
+  counts_named : cell_in ws p ≡ old → (q : ℕ) → taken_at b q + moves (cell_in ws q) ≡ taken_at b' q + moves (cell_in later q)
+  counts_named won q =
+      let cells : cell_in later q ≡ put (cell_in ws) p new q = ap (λ g. g q) (cell_after ws b os f p new few).cell_is in
+      dite (ℕ_discrete q p)
+      (λ e. let was : moves (cell_in ws q) ≡ moves old = ap moves (ap (cell_in ws) e ∙ won) in
+      let none : moves (cell_in later q) ≡ 0 = ap moves (cells ∙ put_same (cell_in ws) p new q e) ∙ new_moves form old new legal.1.1 in
+      let taken : taken_at b' q ≡ taken_at b p + moves old = put_same (taken_at b) p (taken_at b p + moves old) q e in
+      let here : taken_at b q ≡ taken_at b p = ap (taken_at b) e in omega arith)
+      (λ ne. let same : moves (cell_in later q) ≡ moves (cell_in ws q) = ap moves (cells ∙ put_other (cell_in ws) p new q ne) in
+      let taken : taken_at b' q ≡ taken_at b q = put_other (taken_at b) p (taken_at b p + moves old) q ne in omega arith)
+
+  finds_named_too : (x : Naming) → AllFind (over (formed_view p old new x b).cells (λ _. 0)) (cell_in later)
+  finds_named_too x = finds_after ws b os f p new few
+
+  won_step : cell_in ws p ≡ old → BookStep ws b os (Name p old new) Done later b'
+  won_step won = let sizes = form_sizes p form b in record {
+    legal = legal;
+    says = sym (ap (λ t. cond t Done (Word (cell_in ws p))) (eq-eqb (cell_in ws p) old won));
+    becomes = won_state s p old new form won legal.1.1 ∙ (row_becomes form legal.1.1 ∙ state_is later b' os (cell_after ws b os f p new few) refl refl refl);
+    wide = (cell_after ws b os f p new few).wide;
+    jobs = jobs_after ws b os f p new few;
+    book = λ law. ties later b' os law (λ _. false) words_named (finds_named_too form) (counts_none (book_state b').round (book_state b').clear (book_state b').cell) (epoch_after ws b os f p new few ∙ sym sizes.3);
+    mutators = sizes.0;
+    honest = sizes.1;
+    rest = sizes.2;
+    scopes = (cell_after ws b os f p new few).scope_is;
+    counts = counts_named won;
+  }
+
+  lost_step : cell_in ws p ≢ old → BookStep ws b os (Name p old new) (Word (cell_in ws p)) ws (saw_view p (cell_in ws p) b)
+  lost_step ne = let seen = see_step ws b os f plain p h.0 in record {
+    legal = legal;
+    says = sym (ap (λ t. cond t Done (Word (cell_in ws p))) (ne_eqb (cell_in ws p) old ne));
+    becomes = lost_state s p old new ne;
+    wide = f.wide;
+    jobs = f.jobs;
+    book = seen.book;
+    mutators = refl;
+    honest = refl;
+    rest = refl;
+    scopes = refl;
+    counts = λ _. refl;
+  }
+
+  by_test : (t : Bool) → (cell_in ws p == old) ≡ t →
+      BookStep ws b os (Name p old new) (cond t Done (Word (cell_in ws p))) (set ws (cell_at p) (either t new (cell_in ws p))) (cond t (named_view p old new b) (saw_view p (cell_in ws p) b))
+  by_test true e = subst (λ z. BookStep ws b os (Name p old new) Done later z) (sym (ap (λ x. view_by p old new x b) (naming_only form (read_of old) (read_of new) legal.1.1))) (won_step (eqb-true (cell_in ws p) old e))
+  by_test false e = subst (λ l. BookStep ws b os (Name p old new) (Word (cell_in ws p)) l (saw_view p (cell_in ws p) b)) (sym (ap (set ws (cell_at p)) (cell_here ws p few) ∙ set-get_or ws (cell_at p) 0)) (lost_step (eqb-false (cell_in ws p) old e))
+
+  pub exchange_step : BookStep ws b os (Name p old new) (exchange_reply old (cell_in ws p)) (set ws (cell_at p) (either (cell_in ws p == old) new (cell_in ws p))) (exchanged_view p old new (cell_in ws p) b)
+  exchange_step = by_test (cell_in ws p == old) refl
+
+module _ {S : Type 0} (slots id : ℕ) (me : Me S View) (is : me.0 ≡ Book (book_of me.0)) (plain : IsPlain (book_of me.0)) (p old new : ℕ) (old_fits : old < 2 ^ 64) (fits : new < 2 ^ 64) where
+  abbrev mine : BookView
+  mine = book_of me.0
+
+  pub exchanges : Legal (book_state mine) (Name p old new) → KnowsLeaving (book_state mine) old new →
+      Allows Running slots id me (cell_at p) (λ n. either (n == old) new n) (Named (step slots (cell_at p) old new none) me)
+  exchanges h known = book_makes slots id (cell_at p) me is (Name p old new) refl (exchange_reply old) (λ n. exchanged_view p old new n mine) (Named (step slots (cell_at p) old new none) me) (λ n. either (n == old) new n) (old_fits, fits)
+      (λ ws os f _. subst (λ n. BookStep ws mine os (Name p old new) (exchange_reply old n) (set ws (cell_at p) (either (n == old) new n)) (exchanged_view p old new n mine)) (cell_here ws p (cells_few ws mine os f p h.0)) (exchange_step ws mine os f plain p old new fits h known))
+      (λ ws os f _ t q e. let n : ℕ = slice_index ws (cell_at p) in
+      found_at slots id me is plain p ws os f h.0 q e (λ z. BookTells me.0 (Book (exchanged_view p old new n mine)) (Name z old new) (exchange_reply old n) (exchanged_view z old new n mine)) t)
