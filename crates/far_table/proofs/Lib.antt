@@ -24,3 +24,5 @@ pub mod BookSees
 pub mod BookSeatLemmas
 pub mod Tables
 pub mod Seating
+pub mod NameRows
+pub mod NameSteps

@@ -13,3 +13,4 @@ pub mod BookTells
 pub mod BookPlays
 pub mod Tabled
 pub mod BookSeats
+pub mod NameViews

@@ -1,0 +1,61 @@
+-- How an exchange of a cell by the book's seat changes its view.
+use Rattle.std.specs.Prelude.{ℕ, ◌+◌, ◌*◌, ◌==◌, cond, Option, Some, None, List, [], ◌∷◌, ◌++◌}
+use Rattle.far_word.specs.declared.pointer.Place.{Place}
+use Rattle.far_word.specs.Header.{head_word}
+use Rattle.far_word.specs.Pointer.{read_of}
+use Rattle.far_word.specs.Sizes.{size_of, words_for}
+use Rattle.far_core.specs.declared.event.Kind.TheVariants.{Open, Sealed}
+use Rattle.far_core.specs.declared.event.Reply.{Reply}
+use Rattle.far_core.specs.declared.event.Reply.TheVariants.{Done, Word}
+use Rattle.far_core.specs.declared.naming.Naming.{Naming}
+use Rattle.far_core.specs.declared.naming.Naming.TheVariants.{Places, Retires, Evicts, Stays, Moves, Fetches}
+use Rattle.far_core.specs.events.Naming.{naming_of}
+use Rattle.far_core.specs.state.State.{addr}
+use Rattle.far_table.specs.declared.view.BookView.{BookView}
+use Rattle.far_table.specs.BookViews.{saw_view}
+use Rattle.far_table.specs.First.{rows_from}
+use Rattle.far_table.specs.Rows.{over}
+use Rattle.far_table.specs.StateOf.{known_word, taken_at}
+use Rattle.far_table.specs.Views.{moves}
+
+-- the next span of a log is taken, for p: the log ends behind it and is the open one
+abbrev pub span_view : ℕ → ℕ → ℕ → Place → BookView → BookView
+span_view p len ds place b = record b {
+  kinds = (place.log, Open) ∷ (b.current, Sealed) ∷ b.kinds;
+  tails = (place.log, place.at + size_of len) ∷ b.tails;
+  current = place.log;
+  heads = (addr place, Some (head_word p len ds)) ∷ b.heads;
+}
+
+-- the words of an object that goes far: those that the view knows at its place
+abbrev pub stored_rows : ℕ → ℕ → Place → BookView → List (ℕ × ℕ)
+stored_rows p len place b = rows_from 0 (words_for len) (λ i. known_word b (addr place + 1 + i)) ++ over b.stored (λ _. []) p
+
+-- what a form changes beside the cell
+abbrev pub form_view : ℕ → Naming → BookView → BookView
+form_view p (Places len ds place) b = span_view p len ds place b
+form_view p Retires b = b
+form_view p (Evicts len place) b = record b { stored = (p, stored_rows p len place b) ∷ b.stored }
+form_view p Stays b = b
+form_view p (Moves len ds from to) b = span_view p len ds to b
+form_view p (Fetches len ds place) b = span_view p len ds place b
+
+-- the cell is the new word, MOVE is counted where it was taken away, and no word is known any more but headers
+abbrev pub formed_view : ℕ → ℕ → ℕ → Naming → BookView → BookView
+formed_view p old new form b = record (form_view p form b) { cells = (p, new) ∷ b.cells; taken = (p, taken_at b p + moves old) ∷ b.taken; known = [] }
+
+abbrev pub view_by : ℕ → ℕ → ℕ → Option Naming → BookView → BookView
+view_by p old new None b = b
+view_by p old new (Some form) b = formed_view p old new form b
+
+-- the view after an exchange that won
+abbrev pub named_view : ℕ → ℕ → ℕ → BookView → BookView
+named_view p old new b = view_by p old new (naming_of (read_of old) (read_of new)) b
+
+-- the view after an exchange, by the word found: it won, or the word is what is seen now
+abbrev pub exchanged_view : ℕ → ℕ → ℕ → ℕ → BookView → BookView
+exchanged_view p old new found b = cond (found == old) (named_view p old new b) (saw_view p found b)
+
+-- what it answers
+abbrev pub exchange_reply : ℕ → ℕ → Reply
+exchange_reply old found = cond (found == old) Done (Word found)
