@@ -1,7 +1,7 @@
 -- The book exchanges a cell: it is its event of the core, won or lost.
 use Rattle.std.proofs.Common.{◌≡◌, ◌≢◌, ◌+◌, ◌*◌, ◌<◌, ◌^◌, ℕ, Bool, true, false, cond, List, [], ◌∷◌, Option, Some, None, set, sym, refl, ap, ◌∙◌, subst, arith, eqb-true}
 use Rattle.std.specs.Prelude.{is_some, slice_index, ◌==◌, ◌||◌}
-use Rattle.std.proofs.lemmas.Bool.{eq-eqb, eqb-false, ne_eqb}
+use Rattle.std.proofs.lemmas.Bool.{cond_both, eq-eqb, eqb-false, ne_eqb}
 use mathlib.Core.Logic.{dite}
 use mathlib.Core.Path.{fun_ext}
 use native.Mathlib.Decide.{ℕ_discrete}
@@ -14,6 +14,7 @@ use Rattle.far_word.specs.declared.sizes.TheConstants.{CELLS, POINTERS}
 use Rattle.far_word.specs.Header.{head_word}
 use Rattle.far_word.specs.Pointer.{read_of}
 use Rattle.far_word.specs.Sizes.{words_for}
+use Rattle.far_core.specs.declared.event.Event.{Event}
 use Rattle.far_core.specs.declared.event.Event.TheVariants.{Name}
 use Rattle.far_core.specs.declared.event.Reply.{Reply}
 use Rattle.far_core.specs.declared.event.Reply.TheVariants.{Done, Word}
@@ -60,6 +61,30 @@ form_sizes p (Evicts len place) b = (refl, refl, refl, refl)
 form_sizes p Stays b = (refl, refl, refl, refl)
 form_sizes p (Moves len ds from to) b = (refl, refl, refl, refl)
 form_sizes p (Fetches len ds place) b = (refl, refl, refl, refl)
+
+form_logs : (p : ℕ) (form : Naming) (b : BookView) → (form_view p form b).logs ≡ b.logs
+form_logs p (Places len ds place) b = refl
+form_logs p Retires b = refl
+form_logs p (Evicts len place) b = refl
+form_logs p Stays b = refl
+form_logs p (Moves len ds from to) b = refl
+form_logs p (Fetches len ds place) b = refl
+
+-- what an exchange leaves as the seat's struct has it
+pub record KeepsShape (b b' : BookView) : Type 0 where
+  pub logs : b'.logs ≡ b.logs
+  pub mutators : b'.mutators ≡ b.mutators
+  pub epoch : b'.epoch ≡ b.epoch
+  pub rest : b'.rest ≡ b.rest
+  pub plain : IsPlain b'
+
+by_form_keeps : (p old new : ℕ) (x : Option Naming) (b : BookView) → IsPlain b → KeepsShape b (view_by p old new x b)
+by_form_keeps p old new None b plain = record { logs = refl; mutators = refl; epoch = refl; rest = refl; plain = plain }
+by_form_keeps p old new (Some form) b plain = let z = form_sizes p form b in record { logs = form_logs p form b; mutators = z.0; epoch = z.3; rest = z.2; plain = λ a _. refl }
+
+pub exchanged_keeps : (p old new found : ℕ) (b : BookView) → IsPlain b → KeepsShape b (exchanged_view p old new found b)
+exchanged_keeps p old new found b plain = cond_both (found == old) (named_view p old new b) (saw_view p found b) (KeepsShape b)
+    (λ _. by_form_keeps p old new (naming_of (read_of old) (read_of new)) b plain) (λ _. record { logs = refl; mutators = refl; epoch = refl; rest = refl; plain = plain })
 
 -- the new word hasn't MOVE
 new_moves : (form : Naming) (old new : ℕ) → IsNaming form (read_of old) (read_of new) → moves new ≡ 0
@@ -239,3 +264,14 @@ module _ {S : Type 0} (slots id : ℕ) (me : Me S View) (is : me.0 ≡ Book (boo
       (λ ws os f _. subst (λ n. BookStep ws mine os (Name p old new) (exchange_reply old n) (set ws (cell_at p) (either (n == old) new n)) (exchanged_view p old new n mine)) (cell_here ws p (cells_few ws mine os f p h.0)) (exchange_step ws mine os f plain p old new fits h known))
       (λ ws os f _ t q e. let n : ℕ = slice_index ws (cell_at p) in
       found_at slots id me is plain p ws os f h.0 q e (λ z. BookTells me.0 (Book (exchanged_view p old new n mine)) (Name z old new) (exchange_reply old n) (exchanged_view z old new n mine)) t)
+
+-- ---- what the step tells, once it is known whether it won
+module _ (v v' : View) (e : Event) (p old new found : ℕ) (t : BookTells v v' e (exchange_reply old found) (exchanged_view p old new found (book_of v))) where
+  at_test : (x : Bool) → (found == old) ≡ x → BookTells v v' e (cond x Done (Word found)) (cond x (named_view p old new (book_of v)) (saw_view p found (book_of v)))
+  at_test x is = subst (λ y. BookTells v v' e (cond y Done (Word found)) (cond y (named_view p old new (book_of v)) (saw_view p found (book_of v)))) is t
+
+  pub won_tells : found ≡ old → BookTells v v' e Done (named_view p old new (book_of v))
+  won_tells is = at_test true (eq-eqb found old is)
+
+  pub lost_tells : found ≢ old → BookTells v v' e (Word found) (saw_view p found (book_of v))
+  lost_tells ne = at_test false (ne_eqb found old ne)

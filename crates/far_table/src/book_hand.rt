@@ -1,11 +1,13 @@
 // The calls of the book's seat: each is one step on one word.
-ghost use Rattle.std.specs.Prelude.{◌≡◌, ◌^◌, bit_or};
+ghost use Rattle.std.specs.Prelude.{◌≡◌, ◌≢◌, ◌^◌, bit_or, IfErr, IfOk};
 ghost use Rattle.far_word.specs.declared.mark.Mark.TheVariants.{Evac};
 ghost use Rattle.far_word.specs.Mark.{position};
 ghost use Rattle.far_core.specs.declared.event.Event.{Event as any_event};
 ghost use Rattle.far_core.specs.declared.event.Reply.{Reply as any_reply};
 ghost use Rattle.far_core.specs.events.Legal.{Legal};
+ghost use Rattle.far_core.specs.events.Step.{after};
 ghost use Rattle.far_core.specs.state.State.{put};
+ghost use Rattle.far_hand.specs.Known.{Forgets, KnowsLeaving};
 ghost use Rattle.far_hand.specs.Finds.{Finds};
 ghost use Rattle.far_table.specs.BookSeats.{seat_makes, seat_view};
 
@@ -41,5 +43,27 @@ impl<D: Device> BookSeat<D> {
             pointer as usize + CELLS,
             Mark::Evac.mask(),
         )
+    }
+
+    /// The cell of a pointer goes from one word to another.
+    fn name(&mut self, pointer: u16, old: u64, new: u64) -> Result<(), u64>
+        requires seen { old ≡ (seat_view self.old).cell pointer }
+        requires legal { Legal (seat_view self.old) (Event.Name pointer old new) }
+        requires known { KnowsLeaving (seat_view self.old) old new }
+        ensures done { IfOk result (λ _. seat_view self.new ≡ record (after (seat_view self.old) (Event.Name pointer old new)) { word = (seat_view self.new).word }) }
+        ensures forgot { IfOk result (λ _. Forgets (seat_view self.old) (seat_view self.new)) }
+        ensures other { IfErr result (λ found. found ≢ old) }
+        ensures found { IfErr result (λ found. Finds old found) }
+        ensures kept { IfErr result (λ found. seat_view self.new ≡ record (seat_view self.old) { cell = put (seat_view self.old).cell pointer found }) }
+        ensures made { IfOk result (λ _. seat_makes self.old (Event.Name pointer old new) Reply.Done self.new) }
+        ensures lost { IfErr result (λ found. seat_makes self.old (Event.Name pointer old new) (Reply.Word found) self.new) }
+    {
+        let found = self.table.shared.compare_exchange::<rule::Name>(
+            &mut self.seat,
+            pointer as usize + CELLS,
+            old,
+            new,
+        );
+        if found == old { Ok(()) } else { Err(found) }
     }
 }

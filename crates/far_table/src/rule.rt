@@ -124,3 +124,11 @@ impl Split<View> for Deal {
 
     ghost right = { right_of };
 }
+
+pub(crate) struct Name;
+
+impl Play<u64, View> for Name {
+    ghost use Rattle.far_table.specs.BookPlays.{Named};
+
+    ghost then = { Named };
+}
