@@ -115,8 +115,11 @@ books_change s (See p) own legal = (change.Stays, refl, refl)
 books_change s (Mark p) own legal = (change.Marks p, refl, refl)
 books_change s (Get l at true) own legal = (change.Releases l, refl, refl)
 books_change s (Get l at false) own legal = (change.Stays, refl, refl)
-books_change s (Clear p) own legal = (cond (has_move (read_of (s.cell p))) change.Stays (change.Unmarks p), refl,
-    cond_both (has_move (read_of (s.cell p))) change.Stays (change.Unmarks p) (λ c. is_books c ≡ true) (λ _. refl) (λ _. refl))
+books_change s (Clear p) own legal = (
+  cond (has_move (read_of (s.cell p))) change.Stays (change.Unmarks p),
+  refl,
+  cond_both (has_move (read_of (s.cell p))) change.Stays (change.Unmarks p) (λ c. is_books c ≡ true) (λ _. refl) (λ _. refl),
+)
 books_change s (Advance logs) own legal = (change.Stays, refl, refl)
 books_change s (Look m) own legal = (change.Stays, refl, refl)
 

@@ -26,3 +26,4 @@ pub mod Tables
 pub mod Seating
 pub mod NameRows
 pub mod NameSteps
+pub mod AdvanceSteps

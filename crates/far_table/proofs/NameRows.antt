@@ -37,11 +37,12 @@ begins_put f a h = fun_ext (λ q. both (q == a) (f q)) where
 -- ---- the words that are stored of an object that goes far
 kept_rows : (n : ℕ) (w : ℕ → ℕ) (old : List (ℕ × ℕ)) (g : ℕ → ℕ) → over (rows_from 0 n w ++ old) g ≡ (λ i. cond (nat_lt i n) (w i) (over old g i))
 kept_rows n w old g = over_append (rows_from 0 n w) old g ∙ fun_ext (λ i. elim (cases_lt i n) [
-  inl lt ↦ over_within w (over old g) n 0 i (omega arith) (omega arith) ∙ sym (ap (λ t. cond t (w i) (over old g i)) (lt-ltb i n lt)) |
-  inr le ↦ over_beside w (over old g) n 0 i (λ a b. omega arith) ∙ sym (ap (λ t. cond t (w i) (over old g i)) (le-ltb i n le)) ])
+  | inl lt ↦ over_within w (over old g) n 0 i (omega arith) (omega arith) ∙ sym (ap (λ t. cond t (w i) (over old g i)) (lt-ltb i n lt))
+  | inr le ↦ over_beside w (over old g) n 0 i (λ a b. omega arith) ∙ sym (ap (λ t. cond t (w i) (over old g i)) (le-ltb i n le))
+])
 
 stored_put : (b : BookView) (p : ℕ) (rows : List (ℕ × ℕ)) → (λ q. over (put (over b.stored (λ _. [])) p rows q) (λ _. 0)) ≡ put (stored_word b) p (over rows (λ _. 0))
-stored_put b p rows = fun_ext (λ q. both (q == p)  (over b.stored (λ _. []) q)) where
+stored_put b p rows = fun_ext (λ q. both (q == p) (over b.stored (λ _. []) q)) where
   both : (t : Bool) (x : List (ℕ × ℕ)) → over (cond t rows x) (λ _. 0) ≡ cond t (over rows (λ _. 0)) (over x (λ _. 0))
   both true x = refl
   both false x = refl
@@ -52,6 +53,6 @@ pub stored_after : (b : BookView) (p len : ℕ) (place : Place) (word : ℕ → 
 stored_after b p len place word known =
     ap (put (stored_word b) p) (fun_ext (λ i. same (nat_lt i (words_for len)) i refl) ∙ sym (kept_rows (words_for len) (λ i. known_word b (addr place + 1 + i)) (over b.stored (λ _. []) p) (λ _. 0)))
     ∙ sym (stored_put b p (stored_rows p len place b)) where
-  same : (t : Bool) (i : ℕ) → nat_lt i (words_for len) ≡ t → cond t (word (addr place + 1 + i)) (stored_word b p i) ≡ cond t (known_word b (addr place + 1 + i)) (stored_word b p i)
-  same true i e = known i (ltb-true i (words_for len) e)
-  same false i e = refl
+      same : (t : Bool) (i : ℕ) → nat_lt i (words_for len) ≡ t → cond t (word (addr place + 1 + i)) (stored_word b p i) ≡ cond t (known_word b (addr place + 1 + i)) (stored_word b p i)
+      same true i e = known i (ltb-true i (words_for len) e)
+      same false i e = refl

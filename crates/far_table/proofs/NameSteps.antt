@@ -96,9 +96,23 @@ new_moves (Moves len ds from to) old new n = ap (λ x. cond (has_move x) 1 0) n.
 new_moves (Fetches len ds place) old new n = ap (λ x. cond (has_move x) 1 0) n.1
 
 -- a view that knows headers alone
-heads_alone : (h : Option ℕ) (w a : ℕ) → ((x : ℕ) → h ≡ Some x → w ≡ x) → head_or h (unknown a) ≡ cond (is_some h || false) w (unknown a)
+pub heads_alone : (h : Option ℕ) (w a : ℕ) → ((x : ℕ) → h ≡ Some x → w ≡ x) → head_or h (unknown a) ≡ cond (is_some h || false) w (unknown a)
 heads_alone None w a same = refl
 heads_alone (Some x) w a same = sym (same x refl)
+
+-- such a view has forgotten words, and changed none
+module _ (b : BookView) (heads : ℕ → Option ℕ) (same : (a x : ℕ) → heads a ≡ Some x → known_word b a ≡ x) where
+  pub heads_keep : (a : ℕ) (x : Option ℕ) → heads a ≡ x → IsKnown (head_or x (unknown a)) → head_or x (unknown a) ≡ known_word b a
+  heads_keep a None e known = absurd (omega arith)
+  heads_keep a (Some x) e known = sym (same a x e)
+
+  pub starts_keep : (a : ℕ) (x : Option ℕ) → heads a ≡ x → is_some x ≡ true → head_or x (unknown a) ≡ known_word b a
+  starts_keep a None e st = absurd (cc)
+  starts_keep a (Some x) e st = sym (same a x e)
+
+-- the headers that the view knows are those that stand there
+pub known_heads : (ws : List ℕ) (b : BookView) (os : List OwnerView) → Facts ws b os → (a x : ℕ) → head_at b a ≡ Some x → word_in ws a ≡ x
+known_heads ws b os f a x e = f.book.shown.headers a (ap is_some e) ∙ ap (λ z. head_or z (over b.known unknown a)) e
 
 -- ---- headers, where a span of p may begin: each of them is the word that stands there
 module _ (b : BookView) (p new : ℕ) (word : ℕ → ℕ) (old_heads : (a x : ℕ) → head_at b a ≡ Some x → word a ≡ x) where
@@ -141,18 +155,10 @@ module _ (b : BookView) (p old new : ℕ) where
     head_same : (a x : ℕ) → head_at (v h.1.0) a ≡ Some x → known_word b a ≡ x
     head_same = form_heads b p new (known_word b) (λ a x e. ap (λ z. head_or z (over b.known unknown a)) e) o refl h.1.0 h.1.2
 
-    heads_keep : (a : ℕ) (x : Option ℕ) → head_at (v h.1.0) a ≡ x → IsKnown (head_or x (unknown a)) → head_or x (unknown a) ≡ known_word b a
-    heads_keep a None e known = absurd (omega arith)
-    heads_keep a (Some x) e known = sym (head_same a x e)
-
-    starts_keep : (a : ℕ) (x : Option ℕ) → head_at (v h.1.0) a ≡ x → is_some x ≡ true → head_or x (unknown a) ≡ known_word b a
-    starts_keep a None e st = absurd (cc)
-    starts_keep a (Some x) e st = sym (head_same a x e)
-
     pub named_forgets : Forgets o (book_state (named_view p old new b))
     named_forgets = subst (λ z. Forgets o (book_state z)) (sym named_is) record {
-      known = λ a known. heads_keep a (head_at (v h.1.0) a) refl known;
-      headers = λ a st. starts_keep a (head_at (v h.1.0) a) refl st;
+      known = λ a known. heads_keep b (head_at (v h.1.0)) head_same a (head_at (v h.1.0) a) refl known;
+      headers = λ a st. starts_keep b (head_at (v h.1.0)) head_same a (head_at (v h.1.0) a) refl st;
     }
 
 -- ---- the step
@@ -179,16 +185,21 @@ module _ (ws : List ℕ) (b : BookView) (os : List OwnerView) (f : Facts ws b os
   abbrev b' : BookView
   b' = formed_view p old new form b
 
-  -- the words of the logs that the view knows are those that stand there
   old_heads : (a x : ℕ) → head_at b a ≡ Some x → s.word a ≡ x
-  old_heads a x e = f.book.shown.headers a (ap is_some e) ∙ ap (λ z. head_or z (over b.known unknown a)) e
+  old_heads = known_heads ws b os f
 
   leaving : (len : ℕ) (place : Place) → IsNaming (Evicts len place) (read_of old) (read_of new) → (i : ℕ) → i < words_for len → s.word (addr place + 1 + i) ≡ known_word b (addr place + 1 + i)
   leaving len place n i lt = f.book.shown.words (addr place + 1 + i) (known len place n i lt)
 
   abbrev made : Naming → State
   made x = record (book_state (formed_view p old new x b)) {
-    epoch = epoch_in ws; scope = scope_in ws; cell = put (cell_in ws) p new; word = word_in ws; remembered = remembered_by os; used = used_by os; held = held_by os;
+    epoch = epoch_in ws;
+    scope = scope_in ws;
+    cell = put (cell_in ws) p new;
+    word = word_in ws;
+    remembered = remembered_by os;
+    used = used_by os;
+    held = held_by os;
   }
 
   row_becomes : (x : Naming) → IsNaming x (read_of old) (read_of new) → (naming_row s p new x).after ≡ made x

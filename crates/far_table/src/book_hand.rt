@@ -1,5 +1,5 @@
 // The calls of the book's seat: each is one step on one word.
-ghost use Rattle.std.specs.Prelude.{◌≡◌, ◌≢◌, ◌^◌, bit_or, IfErr, IfOk};
+ghost use Rattle.std.specs.Prelude.{◌≡◌, ◌≢◌, ◌+◌, ◌^◌, ◌<◌, bit_or, IfErr, IfOk};
 ghost use Rattle.far_word.specs.declared.mark.Mark.TheVariants.{Evac};
 ghost use Rattle.far_word.specs.Mark.{position};
 ghost use Rattle.far_core.specs.declared.event.Event.{Event as any_event};
@@ -8,15 +8,18 @@ ghost use Rattle.far_core.specs.events.Legal.{Legal};
 ghost use Rattle.far_core.specs.events.Step.{after};
 ghost use Rattle.far_core.specs.state.State.{put};
 ghost use Rattle.far_hand.specs.Known.{Forgets, KnowsLeaving};
+ghost use Rattle.far_word.specs.declared.refused.Refused.TheVariants.{EpochsSpent};
+ghost use Rattle.far_word.specs.declared.sizes.TheConstants.{EPOCH_END};
 ghost use Rattle.far_hand.specs.Finds.{Finds};
+ghost use Rattle.far_hand.specs.Rounds.{MayChoose};
 ghost use Rattle.far_table.specs.BookSeats.{seat_makes, seat_view};
 
 use crate::book::BookSeat;
-use crate::layout::CELLS;
+use crate::layout::{CELLS, EPOCH};
 use crate::rule;
 use far_core::{Event, Reply};
 use far_device::Device;
-use far_word::Mark;
+use far_word::{EPOCH_END, Mark, Refused};
 
 impl<D: Device> BookSeat<D> {
     /// The cell of a pointer.
@@ -58,12 +61,32 @@ impl<D: Device> BookSeat<D> {
         ensures made { IfOk result (λ _. seat_makes self.old (Event.Name pointer old new) Reply.Done self.new) }
         ensures lost { IfErr result (λ found. seat_makes self.old (Event.Name pointer old new) (Reply.Word found) self.new) }
     {
-        let found = self.table.shared.compare_exchange::<rule::Name>(
-            &mut self.seat,
-            pointer as usize + CELLS,
-            old,
-            new,
-        );
+        let found = self
+            .table
+            .shared
+            .compare_exchange::<rule::Name>(&mut self.seat, pointer as usize + CELLS, old, new);
         if found == old { Ok(()) } else { Err(found) }
+    }
+
+    /// The epoch rises by 1, and a round of these logs begins.
+    fn advance(&mut self, logs: u64) -> Result<u64, Refused>
+        requires chosen { MayChoose (seat_view self.old) logs }
+        ensures epoch { IfOk result (λ epoch. (epoch ≡ (seat_view self.old).epoch + 1) × (epoch < EPOCH_END)) }
+        ensures kept { IfOk result (λ _. seat_view self.new ≡ record (after (seat_view self.old) (Event.Advance logs)) { word = (seat_view self.new).word }) }
+        ensures forgot { IfOk result (λ _. Forgets (seat_view self.old) (seat_view self.new)) }
+        ensures refused { IfErr result (λ why. (why ≡ EpochsSpent) × ((seat_view self.old).epoch + 1 ≡ EPOCH_END)) }
+        ensures unchanged { IfErr result (λ _. seat_view self.new ≡ seat_view self.old) }
+        ensures made { IfOk result (λ epoch. seat_makes self.old (Event.Advance logs) (Reply.Epoch epoch) self.new) }
+        ensures spent { IfErr result (λ _. seat_makes self.old (Event.Advance logs) Reply.Refused self.new) }
+    {
+        let next = self.epoch + 1;
+        if next == EPOCH_END {
+            return Err(Refused::EpochsSpent);
+        }
+        self.table
+            .shared
+            .compare_exchange_with::<rule::Advance>(&mut self.seat, EPOCH, self.epoch, next, &logs);
+        self.epoch = next;
+        Ok(next)
     }
 }

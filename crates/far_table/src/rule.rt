@@ -132,3 +132,11 @@ impl Play<u64, View> for Name {
 
     ghost then = { Named };
 }
+
+pub(crate) struct Advance;
+
+impl Play<u64, View> for Advance {
+    ghost use Rattle.far_table.specs.BookPlays.{Advanced};
+
+    ghost then = { Advanced };
+}
