@@ -127,10 +127,10 @@ module _ {S : Type 0} (slots id : ℕ) (me : Me S View) (is : me.0 ≡ Book (boo
   view = book_of me.0
 
   -- what was found, and what the step tells of the cell that its word is
-  abbrev FoundAt : ℕ → ℕ → (ℕ → Type 0) → Type 0
+  abbrev pub FoundAt : ℕ → ℕ → (ℕ → Type 0) → Type 0
   FoundAt z found told = Finds ((book_state view).cell z) found × told z
 
-  found_at : (ws : List ℕ) (os : List OwnerView) (f : Facts ws view os) → p < CELLS * view.mutators → (q : ℕ) → cell_at p ≡ cell_at q → (told : ℕ → Type 0) → told p →
+  pub found_at : (ws : List ℕ) (os : List OwnerView) (f : Facts ws view os) → p < CELLS * view.mutators → (q : ℕ) → cell_at p ≡ cell_at q → (told : ℕ → Type 0) → told p →
       FoundAt q (slice_index ws (cell_at p)) told
   found_at ws os f low q e told t =
       let here : cell_in ws p ≡ slice_index ws (cell_at p) = cell_here ws p (cells_few ws view os f p low) in

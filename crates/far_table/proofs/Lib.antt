@@ -20,3 +20,6 @@ pub mod BookFrames
 pub mod BookLift
 pub mod BookSees
 pub mod BookSeatLemmas
+pub mod BookKnown
+pub mod BookRounds
+pub mod BookWords
