@@ -1,15 +1,20 @@
 -- What the struct of the book's seat keeps over a step, for all kinds of step.
-use Rattle.std.proofs.Common.{◌≡◌, ◌+◌, ◌*◌, ◌<◌, ℕ, sym, ap, ◌∙◌, subst, arith}
+use Rattle.std.proofs.Common.{◌≡◌, ◌+◌, ◌*◌, ◌<◌, ℕ, Bool, true, false, sym, refl, ap, ◌∙◌, subst, arith}
 use Rattle.atomic_table.specs.Seated.{TableId}
-use Rattle.far_word.specs.declared.sizes.TheConstants.{CELLS, EPOCH_END}
+use Rattle.far_word.specs.declared.sizes.TheConstants.{CELLS, EPOCH_END, LOG_WORDS}
 use Rattle.far_core.specs.declared.event.Event.{Event}
+use Rattle.far_core.specs.declared.event.Event.TheVariants.{Look}
 use Rattle.far_core.specs.declared.event.Reply.{Reply}
+use Rattle.far_core.specs.declared.event.Reply.TheVariants.{Word}
 use Rattle.far_core.specs.state.State.{State}
 use Rattle.far_table.specs.declared.view.BookView.{BookView}
 use Rattle.far_table.specs.declared.view.View.{View}
 use Rattle.far_table.specs.declared.view.View.TheVariants.{Book}
-use Rattle.far_table.specs.Layout.{TABLE_WORDS, cell_at}
+use Rattle.far_table.specs.Layout.{TABLE_WORDS, cell_at, data_at, scope_at, scope_in}
+use Rattle.far_table.specs.BookSeats.{MayBe}
 use Rattle.far_table.specs.BookTells.{BookMade, BookTells}
+use Rattle.far_table.specs.BookViews.{got_view}
+use Rattle.far_table.specs.StateOf.{state_of}
 use Rattle.far_table.specs.Stands.{BookOk, IsPlain, Stands, book_of}
 
 -- what a view after a step shares with the one before, and that its epoch is the struct's
@@ -29,6 +34,24 @@ shape_stays id here v logs mutators epoch b' i l m e r plain = record { logs = l
 -- a cell's word is one of the table's
 pub cell_inside : (id here : TableId) (v : View) (logs mutators epoch p : ℕ) → BookOk id here v logs mutators epoch → p < CELLS * (book_of v).mutators → cell_at p < TABLE_WORDS
 cell_inside id here v logs mutators epoch p i low = let a = i.mutators_are in let few = i.few_mutators in omega arith
+
+pub scope_inside : (id here : TableId) (v : View) (logs mutators epoch m : ℕ) → BookOk id here v logs mutators epoch → m < (book_of v).mutators → scope_at m < TABLE_WORDS
+scope_inside id here v logs mutators epoch m i low = let a = i.mutators_are in let few = i.few_mutators in omega arith
+
+pub word_inside : (id here : TableId) (v : View) (logs mutators epoch l at : ℕ) → BookOk id here v logs mutators epoch → l < (book_of v).logs → at < LOG_WORDS → data_at (l * LOG_WORDS + at) < TABLE_WORDS
+word_inside id here v logs mutators epoch l at i low within = let a = i.logs_are in let few = i.few_logs in omega arith
+
+-- a word that is learned changes no shape
+pub got_shape : (id here : TableId) (v : View) (logs mutators epoch : ℕ) (q : Bool) (a n : ℕ) → BookOk id here v logs mutators epoch → IsPlain (got_view q a n (book_of v)) → SameShape (book_of v) (got_view q a n (book_of v)) epoch
+got_shape id here v logs mutators epoch true a n i plain = record { logs = refl; mutators = refl; epoch_is = i.epoch_is; below = i.epoch_below; rest = refl; plain = plain }
+got_shape id here v logs mutators epoch false a n i plain = record { logs = refl; mutators = refl; epoch_is = i.epoch_is; below = i.epoch_below; rest = refl; plain = plain }
+
+-- what was found in a scope word stands there
+pub scope_found : (b b' : BookView) (m n : ℕ) → BookMade (Look m) b (Word n) b' → ∥ ((x : State) × MayBe b' x × (x.scope m ≡ n)) ∥₁
+scope_found b b' m n made =
+    let says : Word n ≡ Word (scope_in made.words m) = made.says in
+    let is : n ≡ scope_in made.words m = cc in
+    ∣ (state_of made.later b' made.owners, record { words = made.later; owners = made.owners; facts = made.keeps; is = refl }, sym (ap (λ (z : State). z.scope m) made.becomes) ∙ sym is) ∣₁
 
 module _ (v v' : View) (e : Event) (r : Reply) (b' : BookView) (t : BookTells v v' e r b') where
   pub view_is : book_of v' ≡ b'

@@ -26,4 +26,6 @@ pub mod Tables
 pub mod Seating
 pub mod NameRows
 pub mod NameSteps
-pub mod AdvanceSteps
+pub mod BookKnown
+pub mod BookRounds
+pub mod BookWords

@@ -55,6 +55,11 @@ module _ (ws : List ℕ) (b : BookView) (os : List OwnerView) (f : Facts ws b os
       f.book.still (addr place + 1 + i) (ltb-true (known_word b (addr place + 1 + i)) (2 ^ 64) known)
       record { p = p; len = len; ds = ds; place = place; marks = marks; index = i; near = near; loud = loud; inside = lt; here = refl })
 
+-- what a beset hand's view would be
+pub view_masked : (ws : List ℕ) (b : BookView) (os : List OwnerView) (counted : ℕ → Bool) → known_word b ≡ masked_word (word_in ws) (λ a. is_some (head_at b a)) counted → epoch_in ws ≡ b.epoch →
+    book_state b ≡ masked (state_of ws b os) (over b.cells (λ _. 0)) counted
+view_masked ws b os counted words epoch = λ i. record (book_state b) { epoch = sym epoch i; word = words i }
+
 either : (a b : Bool) → (a || b) ≡ true → a ≡ false → b ≡ true
 either true b e h = absurd (false≢true (sym h))
 either false b e h = e

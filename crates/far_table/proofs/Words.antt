@@ -52,6 +52,15 @@ module _ (ws : List ℕ) (wide : length ws ≡ TABLE_WORDS) where
   pub no_word : WordsAre ws (epoch_in ws) (scope_in ws) (cell_in ws) (word_in ws)
   no_word = record { epoch_is = refl; scope_is = refl; cell_is = refl; word_is = refl; wide = wide }
 
+  pub epoch_word_set : (x : ℕ) → WordsAre (set ws EPOCH_AT x) x (scope_in ws) (cell_in ws) (word_in ws)
+  epoch_word_set x = record {
+    epoch_is = get_or-set_same ws EPOCH_AT x 0 (omega arith);
+    scope_is = part_other 2 MOST_MUTATORS ws EPOCH_AT x (λ q l e. omega arith);
+    cell_is = part_other 10 POINTERS ws EPOCH_AT x (λ q l e. omega arith);
+    word_is = fun_ext (λ a. get_or-set_other ws EPOCH_AT (data_at a) x 0 (λ e. omega arith));
+    wide = same_length EPOCH_AT x;
+  }
+
   pub scope_word_set : (m x : ℕ) → m < MOST_MUTATORS → WordsAre (set ws (scope_at m) x) (epoch_in ws) (put (scope_in ws) m x) (cell_in ws) (word_in ws)
   scope_word_set m x small = record {
     epoch_is = get_or-set_other ws (scope_at m) EPOCH_AT x 0 (λ e. omega arith);

@@ -1,17 +1,20 @@
 -- What each kind of step of the book's seat tells: of the step, the seat before, the word found (at a store, the word stored) and the seat after.
-use Rattle.std.specs.Prelude.{◌≡◌, ◌<◌, ℕ}
+use Rattle.std.specs.Prelude.{◌≡◌, ◌+◌, ◌*◌, ◌<◌, ◌==◌, ℕ, Bool, true, false, None}
 use mathlib.Core.Option.{some}
 use Rattle.atomic_table.specs.Table.{Me, Step}
-use Rattle.far_core.specs.declared.event.Event.TheVariants.{See, Mark, Look, Name, Advance}
-use Rattle.far_core.specs.declared.event.Reply.TheVariants.{Epoch, Word}
+use Rattle.far_word.specs.declared.sizes.TheConstants.{LOG_WORDS}
+use Rattle.far_core.specs.declared.event.Event.TheVariants.{See, Mark, Clear, Get, Put, Name, Advance, Look}
+use Rattle.far_core.specs.declared.event.Reply.TheVariants.{Done, Epoch, Word}
 use Rattle.far_hand.specs.Finds.{Finds}
+use Rattle.far_hand.specs.Rounds.{IsScopeAt}
+use Rattle.far_hand.proofs.Reading.{Gets}
 use Rattle.far_table.specs.declared.view.View.{View}
 use Rattle.far_table.specs.BookTells.{BookTells}
-use Rattle.far_table.specs.BookViews.{marked_view, raised_view, saw_view}
-use Rattle.far_table.specs.Layout.{cell_at}
+use Rattle.far_table.specs.BookViews.{cleared_view, freed_view, got_view, is_quiet_at, looked_view, marked_view, put_view, raised_view, saw_view}
+use Rattle.far_table.specs.Layout.{cell_at, data_at, scope_at}
 use Rattle.far_table.specs.NameViews.{exchange_reply, exchanged_view}
-use Rattle.far_table.specs.Stands.{book_of}
-use Rattle.far_table.specs.StateOf.{book_state}
+use Rattle.far_table.specs.Stands.{IsPlain, book_of}
+use Rattle.far_table.specs.StateOf.{book_state, head_at}
 
 module _ {S : Type 0} where
   abbrev pub Saw : Step S → Me S View → ℕ → Me S View → Type 0
@@ -22,10 +25,35 @@ module _ {S : Type 0} where
   Marked st me found me' = (p : ℕ) → st.word ≡ cell_at p → Finds ((book_state (book_of me.0)).cell p) found
       × BookTells me.0 me'.0 (Mark p) (Word found) (marked_view p found (book_of me.0))
 
+  abbrev pub Cleared : Step S → Me S View → ℕ → Me S View → Type 0
+  Cleared st me found me' = (p : ℕ) → st.word ≡ cell_at p → Finds ((book_state (book_of me.0)).cell p) found
+      × BookTells me.0 me'.0 (Clear p) (Word found) (cleared_view p found (book_of me.0))
+
+  -- the word is known from then on where the view shows it to be a quiet object's
+  abbrev pub Got : Step S → Me S View → ℕ → Me S View → Type 0
+  Got st me found me' = (l at : ℕ) → at < LOG_WORDS → st.word ≡ data_at (l * LOG_WORDS + at) →
+      Gets (book_state (book_of me.0)) (book_state (got_view (is_quiet_at (book_of me.0) l at) (l * LOG_WORDS + at) found (book_of me.0))) l at false found
+      × IsPlain (got_view (is_quiet_at (book_of me.0) l at) (l * LOG_WORDS + at) found (book_of me.0))
+      × BookTells me.0 me'.0 (Get l at false) (Word found) (got_view (is_quiet_at (book_of me.0) l at) (l * LOG_WORDS + at) found (book_of me.0))
+
+  abbrev pub Freed : Step S → Me S View → ℕ → Me S View → Type 0
+  Freed st me found me' = (l at : ℕ) → at < LOG_WORDS → st.word ≡ data_at (l * LOG_WORDS + at) →
+      Gets (book_state (book_of me.0)) (book_state (freed_view l (book_of me.0))) l at true found
+      × BookTells me.0 me'.0 (Get l at true) (Word found) (freed_view l (book_of me.0))
+
+  -- no span begins there
+  abbrev pub Putted : Step S → Me S View → ℕ → Me S View → Type 0
+  Putted st me word me' = (l at : ℕ) → at < LOG_WORDS → st.word ≡ data_at (l * LOG_WORDS + at) → (head_at (book_of me.0) (l * LOG_WORDS + at) ≡ None)
+      × BookTells me.0 me'.0 (Put l at word) Done (put_view (l * LOG_WORDS + at) word (book_of me.0))
+
   abbrev pub Named : Step S → Me S View → ℕ → Me S View → Type 0
   Named st me found me' = (p : ℕ) → st.word ≡ cell_at p → Finds ((book_state (book_of me.0)).cell p) found
       × BookTells me.0 me'.0 (Name p st.first st.second) (exchange_reply st.first found) (exchanged_view p st.first st.second found (book_of me.0))
 
--- the step announces the logs of the round, which its word doesn't name
+  abbrev pub Looked : Step S → Me S View → ℕ → Me S View → Type 0
+  Looked st me found me' = (m : ℕ) → st.word ≡ scope_at m → IsScopeAt (book_of me.0).epoch found
+      × BookTells me.0 me'.0 (Look m) (Word found) (looked_view m found (book_of me.0))
+
+-- the round is of the logs that were announced
 abbrev pub Advanced : Step ℕ → Me ℕ View → ℕ → Me ℕ View → Type 0
 Advanced st me found me' = (logs : ℕ) → st.said ≡ some logs → BookTells me.0 me'.0 (Advance logs) (Epoch st.second) (raised_view logs (book_of me.0))

@@ -1,15 +1,17 @@
 -- How the steps of the book's seat change its view.
-use Rattle.std.specs.Prelude.{ℕ, ◌+◌, ◌*◌, ◌/◌, ◌^◌, ◌==◌, ◌||◌, Bool, true, false, cond, bit_or, Option, Some, None, List, [], ◌∷◌}
+use Rattle.std.specs.Prelude.{ℕ, zero, suc, ◌+◌, ◌*◌, ◌/◌, ◌^◌, ◌==◌, ◌||◌, Bool, true, false, cond, bit_or, Option, Some, None, List, [], ◌∷◌}
 use Rattle.far_word.specs.declared.mark.Mark.TheVariants.{Evac}
 use Rattle.far_word.specs.declared.pointer.PtrWord.{PtrWord}
 use Rattle.far_word.specs.declared.pointer.PtrWord.TheVariants.{Free, Near, Far}
-use Rattle.far_word.specs.declared.sizes.TheConstants.{LOG_WORDS}
+use Rattle.far_word.specs.declared.sizes.TheConstants.{CELLS, LOG_WORDS}
 use Rattle.far_word.specs.Mark.{position}
 use Rattle.far_word.specs.Pointer.{read_of}
 use Rattle.far_word.specs.Scope.{scope_of}
 use Rattle.far_core.specs.declared.event.Kind.TheVariants as kinds
+use Rattle.far_core.specs.events.Advance.{is_among}
 use Rattle.far_core.specs.events.Clear.{evac_cleared}
 use Rattle.far_core.specs.events.Look.{shows_clear}
+use Rattle.far_hand.specs.Quiet.{is_quiet_word}
 use Rattle.far_table.specs.declared.view.BookView.{BookView}
 use Rattle.far_table.specs.Rows.{over}
 
@@ -29,6 +31,15 @@ rows_left rows (Some (Far len ds m)) = rows
 
 abbrev pub cleared_view : ℕ → ℕ → BookView → BookView
 cleared_view p found b = record b { cells = (p, evac_cleared found) ∷ b.cells; round = rows_left b.round (read_of found); known = [] }
+
+-- a word of a log is a data word of an object that the view shows quiet, of one of the first n pointers
+abbrev pub is_quiet_below : BookView → ℕ → ℕ → ℕ → Bool
+is_quiet_below b l at zero = false
+is_quiet_below b l at (suc p) = is_quiet_word (over b.round (is_among b.chosen)) (over b.clear (λ _. false)) p (read_of (over b.cells (λ _. 0) p)) l at || is_quiet_below b l at p
+
+-- of any
+abbrev pub is_quiet_at : BookView → ℕ → ℕ → Bool
+is_quiet_at b l at = is_quiet_below b l at (CELLS * b.mutators)
 
 -- a word is known, where it is to be
 abbrev pub got_view : Bool → ℕ → ℕ → BookView → BookView

@@ -1,46 +1,47 @@
-// The calls of the book's seat: each is one step on one word.
-ghost use Rattle.std.specs.Prelude.{◌≡◌, ◌≢◌, ◌+◌, ◌^◌, ◌<◌, bit_or, IfErr, IfOk};
-ghost use Rattle.far_word.specs.declared.mark.Mark.TheVariants.{Evac};
-ghost use Rattle.far_word.specs.Mark.{position};
+// The book's seat as a hand: each call but `shape` is one step on one word.
 ghost use Rattle.far_core.specs.declared.event.Event.{Event as any_event};
 ghost use Rattle.far_core.specs.declared.event.Reply.{Reply as any_reply};
 ghost use Rattle.far_core.specs.events.Legal.{Legal};
-ghost use Rattle.far_core.specs.events.Step.{after};
-ghost use Rattle.far_core.specs.state.State.{put};
-ghost use Rattle.far_hand.specs.Known.{Forgets, KnowsLeaving};
-ghost use Rattle.far_word.specs.declared.refused.Refused.TheVariants.{EpochsSpent};
-ghost use Rattle.far_word.specs.declared.sizes.TheConstants.{EPOCH_END};
-ghost use Rattle.far_hand.specs.Finds.{Finds};
-ghost use Rattle.far_hand.specs.Rounds.{MayChoose};
+ghost use Rattle.far_hand.proofs.Reading.{Gets};
+ghost use Rattle.std.specs.Prelude.{true, false};
 ghost use Rattle.far_table.specs.BookSeats.{seat_makes, seat_view};
 
 use crate::book::BookSeat;
-use crate::layout::{CELLS, EPOCH};
+use crate::layout::{CELLS, EPOCH, LOGS, SCOPES};
 use crate::rule;
-use far_core::{Event, Reply};
+use far_core::{Event, Reply, Shape};
 use far_device::Device;
-use far_word::{EPOCH_END, Mark, Refused};
+use far_hand::Near;
+use far_word::{EPOCH_END, LOG_WORDS, Mark, Refused};
 
-impl<D: Device> BookSeat<D> {
-    /// The cell of a pointer.
-    fn see(&mut self, pointer: u16) -> u64
-        requires legal { Legal (seat_view self.old) (Event.See pointer) }
-        ensures found { Finds ((seat_view self.old).cell pointer) result }
-        ensures kept { seat_view self.new ≡ record (seat_view self.old) { cell = put (seat_view self.old).cell pointer result } }
-        ensures made { seat_makes self.old (Event.See pointer) (Reply.Word result) self.new }
-    {
+impl<D: Device> Near for BookSeat<D> {
+    ghost use Rattle.far_table.specs.BookSeats.{seat_alone, seat_lawful, seat_makes, seat_may_be, seat_shown, seat_there, seat_told, seat_view};
+
+    ghost view = { seat_view };
+
+    ghost still = { ⊥ };
+
+    ghost may_be = { seat_may_be };
+
+    ghost makes = { seat_makes };
+
+    ghost lawful = { seat_lawful };
+
+    ghost shown = { seat_shown };
+
+    ghost there = { seat_there };
+
+    ghost alone = { seat_alone };
+
+    ghost told = { seat_told };
+
+    fn see(&mut self, pointer: u16) -> u64 {
         self.table
             .shared
             .load::<rule::See>(&mut self.seat, pointer as usize + CELLS)
     }
 
-    /// EVAC.
-    fn mark(&mut self, pointer: u16) -> u64
-        requires legal { Legal (seat_view self.old) (Event.Mark pointer) }
-        ensures found { Finds ((seat_view self.old).cell pointer) result }
-        ensures kept { seat_view self.new ≡ record (seat_view self.old) { cell = put (seat_view self.old).cell pointer (bit_or result (2 ^ position Evac)) } }
-        ensures made { seat_makes self.old (Event.Mark pointer) (Reply.Word result) self.new }
-    {
+    fn mark(&mut self, pointer: u16) -> u64 {
         self.table.shared.fetch_or::<rule::Mark>(
             &mut self.seat,
             pointer as usize + CELLS,
@@ -48,19 +49,31 @@ impl<D: Device> BookSeat<D> {
         )
     }
 
-    /// The cell of a pointer goes from one word to another.
-    fn name(&mut self, pointer: u16, old: u64, new: u64) -> Result<(), u64>
-        requires seen { old ≡ (seat_view self.old).cell pointer }
-        requires legal { Legal (seat_view self.old) (Event.Name pointer old new) }
-        requires known { KnowsLeaving (seat_view self.old) old new }
-        ensures done { IfOk result (λ _. seat_view self.new ≡ record (after (seat_view self.old) (Event.Name pointer old new)) { word = (seat_view self.new).word }) }
-        ensures forgot { IfOk result (λ _. Forgets (seat_view self.old) (seat_view self.new)) }
-        ensures other { IfErr result (λ found. found ≢ old) }
-        ensures found { IfErr result (λ found. Finds old found) }
-        ensures kept { IfErr result (λ found. seat_view self.new ≡ record (seat_view self.old) { cell = put (seat_view self.old).cell pointer found }) }
-        ensures made { IfOk result (λ _. seat_makes self.old (Event.Name pointer old new) Reply.Done self.new) }
-        ensures lost { IfErr result (λ found. seat_makes self.old (Event.Name pointer old new) (Reply.Word found) self.new) }
-    {
+    fn clear(&mut self, pointer: u16) -> u64 {
+        self.table.shared.fetch_and::<rule::Clear>(
+            &mut self.seat,
+            pointer as usize + CELLS,
+            !Mark::Evac.mask(),
+        )
+    }
+
+    fn get(&mut self, log: u8, at: u16, free: bool) -> u64 {
+        if free {
+            self.free(log, at)
+        } else {
+            self.read(log, at)
+        }
+    }
+
+    fn put(&mut self, log: u8, at: u16, word: u64) {
+        self.table.shared.store::<rule::Put>(
+            &mut self.seat,
+            log as usize * LOG_WORDS as usize + at as usize + LOGS,
+            word,
+        );
+    }
+
+    fn name(&mut self, pointer: u16, old: u64, new: u64) -> Result<(), u64> {
         let found = self
             .table
             .shared
@@ -68,25 +81,56 @@ impl<D: Device> BookSeat<D> {
         if found == old { Ok(()) } else { Err(found) }
     }
 
-    /// The epoch rises by 1, and a round of these logs begins.
-    fn advance(&mut self, logs: u64) -> Result<u64, Refused>
-        requires chosen { MayChoose (seat_view self.old) logs }
-        ensures epoch { IfOk result (λ epoch. (epoch ≡ (seat_view self.old).epoch + 1) × (epoch < EPOCH_END)) }
-        ensures kept { IfOk result (λ _. seat_view self.new ≡ record (after (seat_view self.old) (Event.Advance logs)) { word = (seat_view self.new).word }) }
-        ensures forgot { IfOk result (λ _. Forgets (seat_view self.old) (seat_view self.new)) }
-        ensures refused { IfErr result (λ why. (why ≡ EpochsSpent) × ((seat_view self.old).epoch + 1 ≡ EPOCH_END)) }
-        ensures unchanged { IfErr result (λ _. seat_view self.new ≡ seat_view self.old) }
-        ensures made { IfOk result (λ epoch. seat_makes self.old (Event.Advance logs) (Reply.Epoch epoch) self.new) }
-        ensures spent { IfErr result (λ _. seat_makes self.old (Event.Advance logs) Reply.Refused self.new) }
-    {
-        let next = self.epoch + 1;
+    fn advance(&mut self, logs: u64) -> Result<u64, Refused> {
+        let now = self.epoch;
+        let next = now + 1;
         if next == EPOCH_END {
             return Err(Refused::EpochsSpent);
         }
         self.table
             .shared
-            .compare_exchange_with::<rule::Advance>(&mut self.seat, EPOCH, self.epoch, next, &logs);
+            .compare_exchange_with::<rule::Advance>(&mut self.seat, EPOCH, now, next, &logs);
         self.epoch = next;
         Ok(next)
+    }
+
+    fn look(&mut self, owner: u8) -> u64 {
+        self.table
+            .shared
+            .load::<rule::Look>(&mut self.seat, owner as usize + SCOPES)
+    }
+
+    fn shape(&self) -> Shape {
+        Shape {
+            logs: self.logs as u64,
+            mutators: self.mutators as u64,
+            epoch: self.epoch,
+        }
+    }
+}
+
+impl<D: Device> BookSeat<D> {
+    // Word `at` of a log, which is known from then on where the view shows it to be a quiet object's.
+    fn read(&mut self, log: u8, at: u16) -> u64
+        requires legal { Legal (seat_view self.old) (Event.Get log at false) }
+        ensures gets { Gets (seat_view self.old) (seat_view self.new) log at false result }
+        ensures made { seat_makes self.old (Event.Get log at false) (Reply.Word result) self.new }
+    {
+        self.table.shared.load::<rule::Get>(
+            &mut self.seat,
+            log as usize * LOG_WORDS as usize + at as usize + LOGS,
+        )
+    }
+
+    // The same of a log that is given back.
+    fn free(&mut self, log: u8, at: u16) -> u64
+        requires legal { Legal (seat_view self.old) (Event.Get log at true) }
+        ensures gets { Gets (seat_view self.old) (seat_view self.new) log at true result }
+        ensures made { seat_makes self.old (Event.Get log at true) (Reply.Word result) self.new }
+    {
+        self.table.shared.load::<rule::Free>(
+            &mut self.seat,
+            log as usize * LOG_WORDS as usize + at as usize + LOGS,
+        )
     }
 }

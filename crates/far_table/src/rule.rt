@@ -115,6 +115,54 @@ impl Play<u64, View> for Mark {
     ghost then = { Marked };
 }
 
+pub(crate) struct Clear;
+
+impl Play<u64, View> for Clear {
+    ghost use Rattle.far_table.specs.BookPlays.{Cleared};
+
+    ghost then = { Cleared };
+}
+
+pub(crate) struct Get;
+
+impl Play<u64, View> for Get {
+    ghost use Rattle.far_table.specs.BookPlays.{Got};
+
+    ghost then = { Got };
+}
+
+pub(crate) struct Free;
+
+impl Play<u64, View> for Free {
+    ghost use Rattle.far_table.specs.BookPlays.{Freed};
+
+    ghost then = { Freed };
+}
+
+pub(crate) struct Put;
+
+impl Play<u64, View> for Put {
+    ghost use Rattle.far_table.specs.BookPlays.{Putted};
+
+    ghost then = { Putted };
+}
+
+pub(crate) struct Advance;
+
+impl Play<u64, View> for Advance {
+    ghost use Rattle.far_table.specs.BookPlays.{Advanced};
+
+    ghost then = { Advanced };
+}
+
+pub(crate) struct Look;
+
+impl Play<u64, View> for Look {
+    ghost use Rattle.far_table.specs.BookPlays.{Looked};
+
+    ghost then = { Looked };
+}
+
 pub(crate) struct Deal;
 
 impl Split<View> for Deal {
@@ -131,12 +179,4 @@ impl Play<u64, View> for Name {
     ghost use Rattle.far_table.specs.BookPlays.{Named};
 
     ghost then = { Named };
-}
-
-pub(crate) struct Advance;
-
-impl Play<u64, View> for Advance {
-    ghost use Rattle.far_table.specs.BookPlays.{Advanced};
-
-    ghost then = { Advanced };
 }

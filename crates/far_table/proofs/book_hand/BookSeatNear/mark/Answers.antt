@@ -4,7 +4,7 @@ use Rattle.far_table.specs.StateOf.{book_state}
 use Rattle.far_table.proofs.BookSeatLemmas.{book_stays, cell_inside, seat_made, shape_stays, stands_after, view_is}
 use Rattle.far_table.proofs.BookSees.{marks}
 use Rattle.far_table.proofs.SeatLemmas.{inside}
-use Rattle.far_table.proofs.book.BookSeat.mark.Goals as goal
+use Rattle.far_table.proofs.book_hand.BookSeatNear.mark.Goals as goal
 
 pub fetch_or-requires : goal.fetch_or-requires
 fetch_or-requires g c =

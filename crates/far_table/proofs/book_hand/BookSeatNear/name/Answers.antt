@@ -10,7 +10,7 @@ use Rattle.far_table.specs.StateOf.{book_state}
 use Rattle.far_table.proofs.BookSeatLemmas.{book_stays, cell_inside, seat_made, shape_stays, stands_after, view_is}
 use Rattle.far_table.proofs.NameSteps.{exchanged_keeps, exchanges, lost_tells, named_done, named_forgets, won_tells}
 use Rattle.far_table.proofs.SeatLemmas.{inside}
-use Rattle.far_table.proofs.book.BookSeat.name.Goals as goal
+use Rattle.far_table.proofs.book_hand.BookSeatNear.name.Goals as goal
 
 pub compare_exchange-found-requires : goal.compare_exchange-found-requires
 compare_exchange-found-requires g c =
