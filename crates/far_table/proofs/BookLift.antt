@@ -1,10 +1,10 @@
 -- From the facts after a step of the book's seat to the rule of the table, once for all kinds of step.
-use Rattle.std.proofs.Common.{◌≡◌, ◌<◌, ◌^◌, ℕ, zero, suc, false, List, [], ◌∷◌, ◌++◌, map, set, sym, refl, ap, ◌∙◌, subst}
+use Rattle.std.proofs.Common.{◌≡◌, ◌<◌, ◌^◌, ℕ, false, List, ◌∷◌, ◌++◌, map, set, sym, refl, ap, ◌∙◌, subst}
 use Rattle.std.specs.Prelude.{slice_index}
-use mathlib.Core.Option.{some, some-injective, some-ne-none}
+use mathlib.Core.Option.{some}
 use lib.ListN.{get_elem?}
 use lib.Seq.{set-get_or}
-use Rattle.atomic_table.specs.Table.{State, Me, keeps, Allows}
+use Rattle.atomic_table.specs.Table.{Me, keeps, Allows}
 use Rattle.far_core.specs.declared.event.Event.{Event}
 use Rattle.far_core.specs.declared.event.Reply.{Reply}
 use Rattle.far_core.specs.events.Step.{Fits}
@@ -16,17 +16,8 @@ use Rattle.far_table.specs.declared.view.View.TheVariants.{Book, Owner}
 use Rattle.far_table.specs.BookTells.{BookTells}
 use Rattle.far_table.specs.Rule.{Facts, Running}
 use Rattle.far_table.specs.Stands.{book_of}
+use Rattle.far_table.proofs.Dealing.{book_place}
 use Rattle.far_table.proofs.BookFrames.{BookStep, book_facts, book_made}
-
-no_book : (dealt : List OwnerView) (k : ℕ) (x : BookView) → get_elem? (map Owner dealt) k ≡ some (Book x) → ⊥
-no_book [] k x e = some-ne-none (Book x) (sym e)
-no_book (y ∷ ys) zero x e = let same : Owner y ≡ Book x = some-injective (Owner y) (Book x) e in cc
-no_book (y ∷ ys) (suc k) x e = no_book ys k x e
-
--- the book's seat is the first
-book_place : (b : BookView) (dealt : List OwnerView) (id : ℕ) (x : BookView) → get_elem? (Book b ∷ map Owner dealt) id ≡ some (Book x) → (id ≡ zero) × (b ≡ x)
-book_place b dealt zero x e = let same : Book b ≡ Book x = some-injective (Book b) (Book x) e in let is : b ≡ x = cc in (refl, is)
-book_place b dealt (suc k) x e = absurd (no_book dealt k x e)
 
 module _ {S : Type 0} where
   -- a step of the book's seat owes the facts after it, of any words and owners' views that meet them

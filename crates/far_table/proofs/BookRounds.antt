@@ -1,15 +1,13 @@
 -- The book looks at a scope, takes EVAC away, and begins a round: each is its event of the core.
-use Rattle.std.proofs.Common.{◌≡◌, ◌≢◌, ◌+◌, ◌-◌, ◌*◌, ◌<◌, ◌^◌, ℕ, Bool, true, false, cond, bit_and, List, length, set, Option, Some, None, sym, refl, ap, ◌∙◌, subst, arith, get_or-set_other, get_or-set_same}
-use Rattle.std.specs.Prelude.{slice_index, is_some, ◌==◌}
+use Rattle.std.proofs.Common.{◌≡◌, ◌+◌, ◌-◌, ◌<◌, ◌^◌, ℕ, Bool, false, cond, bit_and, List, set, Option, Some, None, sym, refl, ap, ◌∙◌, subst, arith}
+use Rattle.std.specs.Prelude.{slice_index, ◌==◌}
 use Rattle.std.proofs.lemmas.Bool.{eq-eqb}
 use mathlib.Core.Option.{none, some, some-injective}
-use mathlib.Core.Path.{fun_ext}
-use lib.ListN.{length-set}
 use Rattle.atomic_table.specs.Table.{Me, step, Allows}
 use Rattle.far_word.specs.declared.pointer.PtrWord.{PtrWord}
 use Rattle.far_word.specs.declared.pointer.PtrWord.TheVariants.{Free, Near, Far}
-use Rattle.far_word.specs.declared.sizes.TheConstants.{CELLS, EPOCH_END, MOST_MUTATORS, POINTERS}
-use Rattle.far_word.specs.Pointer.{read_of, without_evac}
+use Rattle.far_word.specs.declared.sizes.TheConstants.{EPOCH_END, MOST_MUTATORS, POINTERS}
+use Rattle.far_word.specs.Pointer.{read_of}
 use Rattle.far_word.specs.Scope.{scope_of}
 use Rattle.far_word.proofs.PointerLaws.{without_evac_read}
 use Rattle.far_core.specs.declared.event.Event.TheVariants.{Advance, Clear, Look}
@@ -20,11 +18,10 @@ use Rattle.far_core.specs.events.Legal.{Legal}
 use Rattle.far_core.specs.events.Look.{shows_clear}
 use Rattle.far_core.specs.events.Quiet.{has_move}
 use Rattle.far_core.specs.events.Step.{after}
-use Rattle.far_core.specs.state.State.{State, put}
+use Rattle.far_core.specs.state.State.{State}
 use Rattle.far_hand.specs.Cleared.{cleared}
-use Rattle.far_hand.specs.Finds.{Finds}
 use Rattle.far_hand.specs.Known.{Forgets, unknown}
-use Rattle.far_hand.specs.Masked.{AllFind, masked, masked_word}
+use Rattle.far_hand.specs.Masked.{AllFind, masked_word}
 use Rattle.far_hand.specs.Rounds.{IsScopeAt, MayChoose}
 use Rattle.far_hand.proofs.Counting.{counts_none}
 use Rattle.far_hand.proofs.Finding.{near_found}
@@ -37,7 +34,7 @@ use Rattle.far_table.specs.declared.view.View.TheVariants.{Book}
 use Rattle.far_table.specs.BookPlays.{Advanced, Cleared, Looked}
 use Rattle.far_table.specs.BookTells.{BookTells}
 use Rattle.far_table.specs.BookViews.{cleared_view, looked_view, raised_view, rows_left}
-use Rattle.far_table.specs.Layout.{EPOCH_AT, cell_at, cell_in, data_at, epoch_in, scope_at, scope_in, word_in}
+use Rattle.far_table.specs.Layout.{EPOCH_AT, cell_at, cell_in, epoch_in, scope_at, scope_in, word_in}
 use Rattle.far_table.specs.Rows.{over}
 use Rattle.far_table.specs.Rule.{Facts, Running}
 use Rattle.far_table.specs.Stands.{IsPlain, book_of}
@@ -49,7 +46,7 @@ use Rattle.far_table.proofs.BookLift.{book_makes, book_reads}
 use Rattle.far_table.proofs.BookSees.{cell_after, cells_few, counts_after, epoch_after, finds_after, found_at, jobs_after}
 use Rattle.far_table.proofs.Masks.{counts, counts_quiet, epoch_is, finds, ties, words_are}
 use Rattle.far_table.proofs.OwnSteps.{jobs_stay, state_is}
-use Rattle.far_table.proofs.Words.{WordsAre, cell_here, epoch_word_set, scope_here}
+use Rattle.far_table.proofs.Words.{cell_here, epoch_word_set, scope_here}
 
 -- a round that a log leaves
 pub round_rows : (rows : List (ℕ × Bool)) (f : ℕ → Bool) (x : Option PtrWord) → over (rows_left rows x) f ≡ round_left (over rows f) x

@@ -1,26 +1,23 @@
 -- The book writes a word past a tail, reads one, and gives a log back: each is its event of the core.
-use Rattle.std.proofs.Common.{◌≡◌, ◌≢◌, ◌+◌, ◌-◌, ◌*◌, ◌/◌, ◌<◌, ◌≤◌, ◌^◌, ℕ, zero, suc, Bool, true, false, cond, List, length, set, Option, Some, None, sym, refl, ap, ◌∙◌, subst, arith}
+use Rattle.std.proofs.Common.{◌≡◌, ◌+◌, ◌*◌, ◌/◌, ◌<◌, ◌^◌, ℕ, zero, suc, Bool, true, false, cond, List, set, Option, None, sym, refl, ap, ◌∙◌, subst, arith}
 use Rattle.std.specs.Prelude.{slice_index, is_some, ◌==◌, ◌||◌}
 use Rattle.std.proofs.lemmas.Bool.{false≢true, true≢false, false_from_ne_true, cond_both}
 use mathlib.Core.Logic.{dite}
 use mathlib.Core.Option.{none}
-use mathlib.Core.Path.{fun_ext}
 use native.Mathlib.Decide.{ℕ_discrete}
 use Rattle.atomic_table.specs.Table.{Me, step, Allows}
-use Rattle.far_word.specs.declared.sizes.TheConstants.{CELLS, LOG_WORDS, MOST_LOGS}
+use Rattle.far_word.specs.declared.sizes.TheConstants.{CELLS, LOG_WORDS}
 use Rattle.far_word.specs.Pointer.{read_of}
-use Rattle.far_word.specs.Sizes.{size_of, words_for}
 use Rattle.far_core.specs.declared.event.Event.TheVariants.{Get, Put}
 use Rattle.far_core.specs.declared.event.Reply.TheVariants.{Done, Word}
 use Rattle.far_core.specs.events.Advance.{is_among}
-use Rattle.far_core.specs.events.Get.{MayFree, after_get, with_free_log}
+use Rattle.far_core.specs.events.Get.{with_free_log}
 use Rattle.far_core.specs.events.Legal.{Legal}
 use Rattle.far_core.specs.events.Step.{after}
-use Rattle.far_core.specs.state.Law.{Law, head_len}
 use Rattle.far_core.specs.state.State.{State, put}
 use Rattle.far_core.proofs.SpanFrames.{past_tail}
 use Rattle.far_hand.specs.Known.{unknown}
-use Rattle.far_hand.specs.Masked.{AllFind, CountsOnQuiet, masked, masked_word, recounted}
+use Rattle.far_hand.specs.Masked.{AllFind, masked, masked_word}
 use Rattle.far_hand.specs.Quiet.{IsQuietAt, is_quiet_word}
 use Rattle.far_hand.proofs.Counting.{counts_none, counts_past, counts_read}
 use Rattle.far_hand.proofs.Finding.{near_found}
@@ -33,8 +30,8 @@ use Rattle.far_table.specs.declared.view.View.{View}
 use Rattle.far_table.specs.declared.view.View.TheVariants.{Book}
 use Rattle.far_table.specs.BookPlays.{Freed, Got, Putted}
 use Rattle.far_table.specs.BookTells.{BookTells}
-use Rattle.far_table.specs.BookViews.{freed_view, got_view, is_quiet_at, is_quiet_below, put_view, rows_elsewhere}
-use Rattle.far_table.specs.Layout.{TABLE_WORDS, cell_in, data_at, epoch_in, word_in}
+use Rattle.far_table.specs.BookViews.{freed_view, got_view, is_quiet_at, is_quiet_below, put_view}
+use Rattle.far_table.specs.Layout.{data_at, epoch_in, word_in}
 use Rattle.far_table.specs.Rows.{over}
 use Rattle.far_table.specs.Rule.{Facts, Running}
 use Rattle.far_table.specs.Stands.{IsPlain, book_of}

@@ -1,25 +1,17 @@
 -- What an exchange of a cell makes of the rows of the book's view, form by form.
-use Rattle.std.proofs.Common.{◌≡◌, ◌≢◌, ◌+◌, ◌*◌, ◌<◌, ◌≤◌, ◌^◌, ℕ, Bool, true, false, cond, nat_lt, inl, inr, List, [], ◌∷◌, ◌++◌, Option, Some, None, sym, refl, ap, ◌∙◌, subst, arith}
+use Rattle.std.proofs.Common.{◌≡◌, ◌+◌, ◌<◌, ℕ, Bool, true, false, cond, nat_lt, inl, inr, List, [], ◌∷◌, ◌++◌, Option, Some, sym, refl, ap, ◌∙◌, arith}
 use Rattle.std.specs.Prelude.{is_some, ◌==◌}
 use Rattle.std.proofs.lemmas.Bool.{cases_lt, le-ltb, lt-ltb, ltb-true}
 use mathlib.Core.Path.{fun_ext}
 use Rattle.far_word.specs.declared.pointer.Place.{Place}
-use Rattle.far_word.specs.Pointer.{read_of}
 use Rattle.far_word.specs.Sizes.{words_for}
-use Rattle.far_core.specs.declared.naming.Naming.{Naming}
-use Rattle.far_core.specs.declared.naming.Naming.TheVariants.{Places, Retires, Evicts, Stays, Moves, Fetches}
 use Rattle.far_core.specs.events.namings.Evicts.{with_kept}
-use Rattle.far_core.specs.events.Naming.{IsNaming, naming_row}
-use Rattle.far_core.specs.events.Quiet.{has_move}
-use Rattle.far_core.specs.state.State.{State, addr, put}
-use Rattle.far_core.proofs.Put.{put_both, put_other, put_same}
+use Rattle.far_core.specs.state.State.{addr, put}
 use Rattle.far_table.specs.declared.view.BookView.{BookView}
-use Rattle.far_table.specs.declared.view.OwnerView.{OwnerView}
 use Rattle.far_table.specs.First.{rows_from}
-use Rattle.far_table.specs.NameViews.{form_view, formed_view, stored_rows}
+use Rattle.far_table.specs.NameViews.{stored_rows}
 use Rattle.far_table.specs.Rows.{over}
-use Rattle.far_table.specs.StateOf.{book_state, head_at, known_word, state_of, stored_word}
-use Rattle.far_table.specs.Views.{moves}
+use Rattle.far_table.specs.StateOf.{known_word, stored_word}
 use Rattle.far_table.proofs.FirstViews.{over_beside, over_within}
 
 -- rows before others

@@ -1,34 +1,32 @@
 -- The book exchanges a cell: it is its event of the core, won or lost.
-use Rattle.std.proofs.Common.{◌≡◌, ◌≢◌, ◌+◌, ◌*◌, ◌<◌, ◌^◌, ℕ, Bool, true, false, cond, List, [], ◌∷◌, Option, Some, None, set, sym, refl, ap, ◌∙◌, subst, arith, eqb-true}
-use Rattle.std.specs.Prelude.{is_some, slice_index, ◌==◌, ◌||◌}
+use Rattle.std.proofs.Common.{◌≡◌, ◌≢◌, ◌+◌, ◌<◌, ◌^◌, ℕ, Bool, true, false, cond, List, Option, Some, None, set, sym, refl, ap, ◌∙◌, subst, arith, eqb-true}
+use Rattle.std.specs.Prelude.{is_some, slice_index, ◌==◌}
 use Rattle.std.proofs.lemmas.Bool.{cond_both, eq-eqb, eqb-false, ne_eqb}
 use mathlib.Core.Logic.{dite}
-use mathlib.Core.Path.{fun_ext}
 use native.Mathlib.Decide.{ℕ_discrete}
 use lib.Seq.{set-get_or}
 use prog.Atomic.{either}
 use mathlib.Core.Option.{none}
 use Rattle.atomic_table.specs.Table.{Me, step, Allows}
 use Rattle.far_word.specs.declared.pointer.Place.{Place}
-use Rattle.far_word.specs.declared.sizes.TheConstants.{CELLS, POINTERS}
+use Rattle.far_word.specs.declared.sizes.TheConstants.{POINTERS}
 use Rattle.far_word.specs.Header.{head_word}
 use Rattle.far_word.specs.Pointer.{read_of}
 use Rattle.far_word.specs.Sizes.{words_for}
 use Rattle.far_core.specs.declared.event.Event.{Event}
 use Rattle.far_core.specs.declared.event.Event.TheVariants.{Name}
-use Rattle.far_core.specs.declared.event.Reply.{Reply}
 use Rattle.far_core.specs.declared.event.Reply.TheVariants.{Done, Word}
 use Rattle.far_core.specs.declared.naming.Naming.{Naming}
 use Rattle.far_core.specs.declared.naming.Naming.TheVariants.{Places, Retires, Evicts, Stays, Moves, Fetches}
 use Rattle.far_core.specs.events.Legal.{Legal}
 use Rattle.far_core.specs.events.Naming.{IsNaming, naming_of, naming_row}
 use Rattle.far_core.specs.events.Quiet.{has_move}
-use Rattle.far_core.specs.events.Step.{after, answer}
+use Rattle.far_core.specs.events.Step.{after}
 use Rattle.far_core.specs.state.State.{State, addr, put}
 use Rattle.far_core.proofs.Namings.{naming_only}
 use Rattle.far_core.proofs.Put.{put_both, put_other, put_same}
-use Rattle.far_hand.specs.Known.{Forgets, IsKnown, KnowsLeaving, unknown}
-use Rattle.far_hand.specs.Masked.{AllFind, masked, masked_word}
+use Rattle.far_hand.specs.Known.{Forgets, KnowsLeaving, unknown}
+use Rattle.far_hand.specs.Masked.{AllFind, masked_word}
 use Rattle.far_hand.proofs.Counting.{counts_none}
 use Rattle.far_hand.proofs.Naming.{legal_name, lost_state, won_state}
 use Rattle.far_table.specs.declared.view.BookView.{BookView}
@@ -43,9 +41,10 @@ use Rattle.far_table.specs.NameViews.{exchange_reply, exchanged_view, form_view,
 use Rattle.far_table.specs.Rows.{over}
 use Rattle.far_table.specs.Rule.{Facts, Running}
 use Rattle.far_table.specs.Stands.{IsPlain, book_of}
-use Rattle.far_table.specs.StateOf.{book_state, head_at, head_or, held_by, known_word, remembered_by, state_of, stored_word, taken_at, used_by}
+use Rattle.far_table.specs.StateOf.{book_state, head_at, head_or, held_by, known_word, remembered_by, state_of, taken_at, used_by}
 use Rattle.far_table.specs.Views.{moves}
 use Rattle.far_table.proofs.BookFrames.{BookStep}
+use Rattle.far_table.proofs.BookKnown.{forgets, forgotten}
 use Rattle.far_table.proofs.BookLift.{book_makes}
 use Rattle.far_table.proofs.BookSees.{cell_after, cells_few, epoch_after, finds_after, found_at, jobs_after, see_step}
 use Rattle.far_table.proofs.Masks.{counts, finds, is_masked, ties}
@@ -95,23 +94,13 @@ new_moves Stays old new n = ap (λ x. cond (has_move x) 1 0) n.8
 new_moves (Moves len ds from to) old new n = ap (λ x. cond (has_move x) 1 0) n.1
 new_moves (Fetches len ds place) old new n = ap (λ x. cond (has_move x) 1 0) n.1
 
--- a view that knows headers alone
-pub heads_alone : (h : Option ℕ) (w a : ℕ) → ((x : ℕ) → h ≡ Some x → w ≡ x) → head_or h (unknown a) ≡ cond (is_some h || false) w (unknown a)
-heads_alone None w a same = refl
-heads_alone (Some x) w a same = sym (same x refl)
-
--- such a view has forgotten words, and changed none
-module _ (b : BookView) (heads : ℕ → Option ℕ) (same : (a x : ℕ) → heads a ≡ Some x → known_word b a ≡ x) where
-  pub heads_keep : (a : ℕ) (x : Option ℕ) → heads a ≡ x → IsKnown (head_or x (unknown a)) → head_or x (unknown a) ≡ known_word b a
-  heads_keep a None e known = absurd (omega arith)
-  heads_keep a (Some x) e known = sym (same a x e)
-
-  pub starts_keep : (a : ℕ) (x : Option ℕ) → heads a ≡ x → is_some x ≡ true → head_or x (unknown a) ≡ known_word b a
-  starts_keep a None e st = absurd (cc)
-  starts_keep a (Some x) e st = sym (same a x e)
+-- where a header stands, it is this word
+header_is : (h : Option ℕ) (w k : ℕ) → ((x : ℕ) → h ≡ Some x → w ≡ x) → is_some h ≡ true → w ≡ head_or h k
+header_is None w k same there = absurd (cc)
+header_is (Some x) w k same there = same x refl
 
 -- the headers that the view knows are those that stand there
-pub known_heads : (ws : List ℕ) (b : BookView) (os : List OwnerView) → Facts ws b os → (a x : ℕ) → head_at b a ≡ Some x → word_in ws a ≡ x
+known_heads : (ws : List ℕ) (b : BookView) (os : List OwnerView) → Facts ws b os → (a x : ℕ) → head_at b a ≡ Some x → word_in ws a ≡ x
 known_heads ws b os f a x e = f.book.shown.headers a (ap is_some e) ∙ ap (λ z. head_or z (over b.known unknown a)) e
 
 -- ---- headers, where a span of p may begin: each of them is the word that stands there
@@ -156,10 +145,8 @@ module _ (b : BookView) (p old new : ℕ) where
     head_same = form_heads b p new (known_word b) (λ a x e. ap (λ z. head_or z (over b.known unknown a)) e) o refl h.1.0 h.1.2
 
     pub named_forgets : Forgets o (book_state (named_view p old new b))
-    named_forgets = subst (λ z. Forgets o (book_state z)) (sym named_is) record {
-      known = λ a known. heads_keep b (head_at (v h.1.0)) head_same a (head_at (v h.1.0) a) refl known;
-      headers = λ a st. starts_keep b (head_at (v h.1.0)) head_same a (head_at (v h.1.0) a) refl st;
-    }
+    named_forgets = subst (λ z. Forgets o (book_state z)) (sym named_is)
+        (forgets b (v h.1.0) refl (λ a st. sym (header_is (head_at (v h.1.0) a) (known_word b a) (unknown a) (head_same a) st)))
 
 -- ---- the step
 module _ (ws : List ℕ) (b : BookView) (os : List OwnerView) (f : Facts ws b os) (plain : IsPlain b) (p old new : ℕ) (fits : new < 2 ^ 64)
@@ -211,7 +198,7 @@ module _ (ws : List ℕ) (b : BookView) (os : List OwnerView) (f : Facts ws b os
   row_becomes (Fetches len ds place) n = λ i. record (made (Fetches len ds place)) { starts = sym (begins_put (head_at b) (addr place) (head_word p len ds)) i }
 
   words_named : known_word b' ≡ masked_word (word_in later) (λ a. is_some (head_at b' a)) (λ _. false)
-  words_named = fun_ext (λ a. heads_alone (head_at b' a) (word_in later a) a (λ x e. ap (λ g. g a) (cell_after ws b os f p new few).word_is ∙ form_heads b p new s.word old_heads s refl form legal.1.2 a x e))
+  words_named = forgotten b' (word_in later) (λ a st. header_is (head_at b' a) (word_in later a) (unknown a) (λ x e. ap (λ g. g a) (cell_after ws b os f p new few).word_is ∙ form_heads b p new s.word old_heads s refl form legal.1.2 a x e) st)
 
   counts_named : cell_in ws p ≡ old → (q : ℕ) → taken_at b q + moves (cell_in ws q) ≡ taken_at b' q + moves (cell_in later q)
   counts_named won q =

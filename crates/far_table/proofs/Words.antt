@@ -24,7 +24,7 @@ module _ (low n : ℕ) where
       ap (λ b. cond b (slice_index (set ws (k + low) x) (q + low)) 0) (lt-ltb q n lt) ∙ ap (λ j. slice_index (set ws (k + low) x) (j + low)) e ∙ get_or-set_same ws (k + low) x 0 inside)
       (λ ne. ap (λ v. cond (nat_lt q n) v 0) (get_or-set_other ws (k + low) (q + low) x 0 (λ e. ne (omega arith)))))
 
-  pub part_other : (ws : List ℕ) (i x : ℕ) → ((q : ℕ) → q < n → q + low ≢ i) → part (set ws i x) ≡ part ws
+  part_other : (ws : List ℕ) (i x : ℕ) → ((q : ℕ) → q < n → q + low ≢ i) → part (set ws i x) ≡ part ws
   part_other ws i x apart = fun_ext (λ q. where_so (nat_lt q n) _ _ 0 (λ t. get_or-set_other ws i (q + low) x 0 (apart q (ltb-true q n t))))
 
   part_here : (ws : List ℕ) (k : ℕ) → k < n → part ws k ≡ slice_index ws (k + low)
@@ -46,7 +46,7 @@ pub record WordsAre (ws : List ℕ) (epoch : ℕ) (scope cell word : ℕ → ℕ
   pub wide : length ws ≡ TABLE_WORDS
 
 module _ (ws : List ℕ) (wide : length ws ≡ TABLE_WORDS) where
-  pub same_length : (i x : ℕ) → length (set ws i x) ≡ TABLE_WORDS
+  same_length : (i x : ℕ) → length (set ws i x) ≡ TABLE_WORDS
   same_length i x = length-set ws i x ∙ wide
 
   pub no_word : WordsAre ws (epoch_in ws) (scope_in ws) (cell_in ws) (word_in ws)

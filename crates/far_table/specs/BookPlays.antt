@@ -1,5 +1,5 @@
 -- What each kind of step of the book's seat tells: of the step, the seat before, the word found (at a store, the word stored) and the seat after.
-use Rattle.std.specs.Prelude.{◌≡◌, ◌+◌, ◌*◌, ◌<◌, ◌==◌, ℕ, Bool, true, false, None}
+use Rattle.std.specs.Prelude.{◌≡◌, ◌+◌, ◌*◌, ◌<◌, ℕ, true, false, None}
 use mathlib.Core.Option.{some}
 use Rattle.atomic_table.specs.Table.{Me, Step}
 use Rattle.far_word.specs.declared.sizes.TheConstants.{LOG_WORDS}

@@ -1,4 +1,4 @@
-use Rattle.std.proofs.Common.{refl, ap, ◌∙◌, subst}
+use Rattle.std.proofs.Common.{refl, ap}
 use Rattle.far_table.specs.Layout.{cell_at}
 use Rattle.far_table.specs.StateOf.{book_state}
 use Rattle.far_table.proofs.BookSeatLemmas.{book_stays, cell_inside, seat_made, shape_stays, stands_after, view_is}

@@ -1,14 +1,13 @@
-use Rattle.std.proofs.Common.{◌≡◌, refl, sym, ap, ◌∙◌, subst}
+use Rattle.std.proofs.Common.{◌≡◌, refl, sym, ap, subst}
 use Rattle.far_core.specs.events.Step.{after}
 use Rattle.far_core.specs.state.State.{State}
 use Rattle.far_core.specs.declared.event.Event.TheVariants.{Name}
 use Rattle.far_hand.specs.Known.{Forgets}
-use Rattle.far_table.specs.BookSeats.{seat_view}
 use Rattle.far_table.specs.Layout.{cell_at}
 use Rattle.far_table.specs.Stands.{book_of}
 use Rattle.far_table.specs.StateOf.{book_state}
-use Rattle.far_table.proofs.BookSeatLemmas.{book_stays, cell_inside, seat_made, shape_stays, stands_after, view_is}
-use Rattle.far_table.proofs.NameSteps.{exchanged_keeps, exchanges, lost_tells, named_done, named_forgets, won_tells}
+use Rattle.far_table.proofs.BookSeatLemmas.{book_stays, cell_inside, shape_stays, stands_after, view_is}
+use Rattle.far_table.proofs.NameSteps.{exchanged_keeps, exchanges, named_done, named_forgets, won_tells}
 use Rattle.far_table.proofs.SeatLemmas.{inside}
 use Rattle.far_table.proofs.book_hand.BookSeatNear.name.Goals as goal
 
