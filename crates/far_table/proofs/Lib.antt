@@ -29,3 +29,4 @@ pub mod NameSteps
 pub mod BookKnown
 pub mod BookRounds
 pub mod BookWords
+pub mod ViewedLogs

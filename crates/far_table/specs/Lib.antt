@@ -14,3 +14,4 @@ pub mod BookPlays
 pub mod Tabled
 pub mod BookSeats
 pub mod NameViews
+pub mod Viewed

@@ -4,7 +4,9 @@ ghost use Rattle.far_core.specs.declared.event.Reply.{Reply as any_reply};
 ghost use Rattle.far_core.specs.events.Legal.{Legal};
 ghost use Rattle.far_hand.proofs.Reading.{Gets};
 ghost use Rattle.std.specs.Prelude.{true, false};
-ghost use Rattle.far_table.specs.BookSeats.{seat_makes, seat_view};
+ghost use Rattle.far_core.specs.state.State.{State};
+ghost use Rattle.far_table.specs.BookSeats.{seat_makes, seat_may_be, seat_view};
+ghost use Rattle.far_table.specs.Viewed.{NoneIsGivenOut};
 
 use crate::book::BookSeat;
 use crate::layout::{CELLS, EPOCH, LOGS, SCOPES};
@@ -110,6 +112,15 @@ impl<D: Device> Near for BookSeat<D> {
 }
 
 impl<D: Device> BookSeat<D> {
+    /// No log is given out under a view. In every state that the words and all views may be in, while an owner holds a place:
+    /// its scope is open, the log of that place isn't free, to give it back isn't legal, and after any event, an owner's or the
+    /// book's, it isn't free either.
+    pub fn no_log_is_given_out_under_a_view(&self)
+        ensures { (x : State) → seat_may_be self.now x → NoneIsGivenOut x }
+    {
+        let _logs = self.logs;
+    }
+
     // Word `at` of a log, which is known from then on where the view shows it to be a quiet object's.
     fn read(&mut self, log: u8, at: u16) -> u64
         requires legal { Legal (seat_view self.old) (Event.Get log at false) }
