@@ -1,8 +1,10 @@
 #!/usr/bin/env bash
 # Tries the scripts that a user calls: far_trace, over a made-up tree whose rt is made up too, and draw, over the built
-# program. Prints only what is wrong.
+# program; and whether README and docs/round.svg show what the program replies. Prints only what is wrong.
 set -euo pipefail
 here="$(cd "$(dirname "${BASH_SOURCE[0]}")" && pwd)"
+program="${1:-$here/../crates/far_trace/out/far_trace}"
+docs="$here/../docs"
 work="$(mktemp -d)"
 trap 'rm -rf "$work"' EXIT
 wrong=0
@@ -79,4 +81,34 @@ touch -d tomorrow "$tree/crates/far_word/src/lib.rt"
 launch 'a call with a source of tomorrow' 0 'run far_trace' "$launcher"
 launch 'a call after that' 0 '' "$work/linked/trace"
 silent 'a call after that'
+
+"$program" --help 2>"$work/err" || true
+tells 'usage: far_trace [split]'
+
+draw() { # what, the status that is wanted, and the text that is drawn
+    local got=0
+    printf '%b' "$3" >"$work/trace"
+    "$here/draw" "$work/trace" "$program" >"$work/out" 2>"$work/err" || got=$?
+    [[ "$got" == "$2" ]] || fail "draw, $1: status $got: $(cat "$work/err")"
+    ((got)) || python3 -c 'import sys, xml.dom.minidom; xml.dom.minidom.parse(sys.argv[1])' "$work/out" || fail "draw, $1: no XML"
+}
+
+draw 'refusals and inquiries' 0 '# words & <more>\n\nheap 2 1\nnew 0 8 1\nlogs\nopen 9\nwhere 0 0\ndrop 0 0\nlogs\nnew 0 9 1\nread 0 0 0 1'
+[[ "$(grep -c 'class="refused"' "$work/out")" == 2 ]] || fail 'draw: not each refusal is shown'
+draw 'a heap alone' 0 'heap 64 8\n'
+draw 'a line off the grammar' 2 'heap 2 1\n\nopen\n'
+tells 'refused 16 3'
+draw 'no commands' 1 '# words\n'
+"$here/draw" "$docs/round.trace" "$program" | cmp - "$docs/round.svg" || fail 'docs/round.svg is no longer what draw draws'
+
+row() { # the lines as README shows them, in a row
+    paste -s -d '|' | sed 's:|: / :g'
+}
+
+readme="$here/../README.md"
+trace="$(row <"$docs/round.trace")"
+replies="$("$program" <"$docs/round.trace" | row)"
+[[ "$(cat "$readme")" == *"\`$trace\`, and prints"*"\`$replies\`."* ]] || fail "README lacks the row of docs/round.trace, or of its replies: $replies"
+example="$(sed -n 's/^    \$ printf .\(.*\). | scripts.far_trace$/\1/p' "$readme")"
+[[ "$(printf '%b' "$example" | "$program")" == "$(sed -n '/^    \$ printf/,/^$/s/^    \([^$]\)/\1/p' "$readme")" ]] || fail 'README shows other replies to its first example'
 exit "$wrong"
