@@ -99,7 +99,8 @@ draw 'a heap alone' 0 'heap 64 8\n'
 draw 'a line off the grammar' 2 'heap 2 1\n\nopen\n'
 tells 'refused 16 3'
 draw 'no commands' 1 '# words\n'
-"$here/draw" "$docs/round.trace" "$program" | cmp - "$docs/round.svg" || fail 'docs/round.svg is no longer what draw draws'
+"$here/draw" "$docs/round.trace" "$program" >"$work/out"
+cmp -s "$work/out" "$docs/round.svg" || fail 'docs/round.svg is no longer what draw draws'
 
 row() { # the lines as README shows them, in a row
     paste -s -d '|' | sed 's:|: / :g'
