@@ -30,3 +30,4 @@ pub mod BookKnown
 pub mod BookRounds
 pub mod BookWords
 pub mod ViewedLogs
+pub mod WholeLogs

@@ -15,3 +15,4 @@ pub mod Tabled
 pub mod BookSeats
 pub mod NameViews
 pub mod Viewed
+pub mod Whole

@@ -7,6 +7,7 @@ ghost use Rattle.std.specs.Prelude.{true, false};
 ghost use Rattle.far_core.specs.state.State.{State};
 ghost use Rattle.far_table.specs.BookSeats.{seat_makes, seat_may_be, seat_view};
 ghost use Rattle.far_table.specs.Viewed.{NoneIsGivenOut};
+ghost use Rattle.far_table.specs.Whole.{IsWhole};
 
 use crate::book::BookSeat;
 use crate::layout::{CELLS, EPOCH, LOGS, SCOPES};
@@ -112,6 +113,15 @@ impl<D: Device> Near for BookSeat<D> {
 }
 
 impl<D: Device> BookSeat<D> {
+    /// Logs and objects are whole. In every state that the words and all views may be in, whatever any policy chose: each object
+    /// in use has one place; its pointer and the header there name each other, and no other does; and each log's live, dead and
+    /// unused bytes make its size.
+    pub fn logs_and_objects_are_whole(&self)
+        ensures { (x : State) → seat_may_be self.now x → IsWhole x }
+    {
+        let _logs = self.logs;
+    }
+
     /// No log is given out under a view. In every state that the words and all views may be in, while an owner holds a place:
     /// its scope is open, the log of that place isn't free, to give it back isn't legal, and after any event, an owner's or the
     /// book's, it isn't free either.
