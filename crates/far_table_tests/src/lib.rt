@@ -1,0 +1,5 @@
+//! The tests of far_table, by its public calls alone. They stand apart, so that far_table is proved once.
+#![tactic(auto)]
+
+#[cfg(test)]
+mod tests;
