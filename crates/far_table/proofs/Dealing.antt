@@ -1,22 +1,20 @@
 -- How the book's first seat gives each owner its own.
 use Rattle.std.proofs.Common.{◌≡◌, ℕ, zero, suc, ◌+◌, ◌-◌, ◌<◌, Bool, List, [], ◌∷◌, ◌++◌, map, set, sym, refl, ap, ◌∙◌, subst, arith, append_assoc}
 use Rattle.std.specs.List.{range_with_len}
-use Rattle.std.proofs.lemmas.List.FromFn.{map-range_with_len_more}
 use mathlib.Core.Option.{some, some-injective, some-ne-none}
 use mathlib.Core.List.{map-append}
 use lib.ListN.{get_elem?}
-use Rattle.atomic_table.specs.Seated.{TableId}
 use Rattle.atomic_table.specs.Table.{State as Table, Splits}
 use Rattle.far_core.specs.state.State.{State}
 use Rattle.far_table.specs.declared.view.BookView.{BookView}
 use Rattle.far_table.specs.declared.view.OwnerView.{OwnerView}
 use Rattle.far_table.specs.declared.view.View.{View}
-use Rattle.far_table.specs.declared.view.View.TheVariants.{Book, Owner, Copier}
+use Rattle.far_table.specs.declared.view.View.TheVariants.{Book, Owner}
 use Rattle.far_table.specs.First.{first_book, first_owner, waiting}
 use Rattle.far_table.specs.Rule.{Facts, Running}
-use Rattle.far_table.specs.Seats.{Seated}
+use Rattle.far_table.specs.Tells.{owner_of}
 use Rattle.far_table.proofs.Begins.{other_rest}
-use Rattle.far_table.specs.Stands.{Seats, book_of, first_rest, left_of, others_rest, right_of}
+use Rattle.far_table.specs.Stands.{first_rest, left_of, others_rest, right_of}
 
 -- the book's seat is the first one
 no_book : (l : List OwnerView) (k : ℕ) (b : BookView) → get_elem? (map Owner l) k ≡ some (Book b) → ⊥
@@ -60,6 +58,6 @@ module _ (s : State) (honest : Bool) (n m : ℕ) (small : n < m) where
   pub right_waits : right_of (Book (waiting s honest n (m - n))) ≡ Owner (first_owner s honest n)
   right_waits = ap (λ l. Owner (first_rest l)) next_waits
 
-pub seats_more : (id : TableId) (owner : ℕ → OwnerView) (n : ℕ) (items : List Seated) (x : Seated) → items ≡ Seats id owner n → x ≡ record { table = id; view = owner n } →
-    items ++ x ∷ [] ≡ Seats id owner (n + 1)
-seats_more id owner n items x before new = ap (λ l. l ++ x ∷ []) before ∙ (ap (λ y. Seats id owner n ++ y ∷ []) new ∙ sym (map-range_with_len_more (λ m. record { table = id; view = owner m }) 0 n n (omega arith)))
+-- the seat that an owner got says itself whether the far side is honest
+pub own_honest : (s : State) (honest : Bool) (n : ℕ) (v : View) → v ≡ Owner (first_owner s honest n) → v ≡ Owner (first_owner s (owner_of v).honest n)
+own_honest s honest n v is = is ∙ ap (λ b. Owner (first_owner s b n)) (sym (ap (λ z. (owner_of z).honest) is))

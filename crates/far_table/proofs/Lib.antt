@@ -17,3 +17,4 @@ pub mod FirstViews
 pub mod Begins
 pub mod Dealing
 pub mod Tables
+pub mod Seating

@@ -1,20 +1,23 @@
 -- What the struct of the book's seat keeps.
-use Rattle.std.specs.Prelude.{◌≡◌, ◌<◌, ◌≤◌, ℕ, Bool, false, List, [], ◌∷◌, map}
+use Rattle.std.specs.Prelude.{◌≡◌, ◌≢◌, ◌/◌, ◌<◌, ◌≤◌, ℕ, Bool, false, Some, None, List, [], ◌∷◌, map}
 use Rattle.std.specs.List.{range_with_len}
 use Rattle.atomic_table.specs.declared.shared.Seat.{Seat}
 use Rattle.atomic_table.specs.Seated.{TableId}
-use Rattle.far_word.specs.declared.sizes.TheConstants.{EPOCH_END, LEAST_LOGS, LEAST_MUTATORS, MOST_LOGS, MOST_MUTATORS}
+use Rattle.far_word.specs.declared.sizes.TheConstants.{CELLS, EPOCH_END, LEAST_LOGS, LEAST_MUTATORS, MOST_LOGS, MOST_MUTATORS}
 use Rattle.far_table.specs.declared.view.BookView.{BookView}
 use Rattle.far_table.specs.declared.view.OwnerView.{OwnerView}
 use Rattle.far_table.specs.declared.view.View.{View}
 use Rattle.far_table.specs.declared.view.View.TheVariants.{Book, Owner, Copier}
+use Rattle.far_core.specs.events.Open.{scope_word_of}
 use Rattle.far_core.specs.state.State.{State}
-use Rattle.far_table.specs.First.{first_owner}
+use Rattle.far_hand.specs.Masked.{masked}
+use Rattle.far_table.specs.declared.view.ObjectView.{ObjectView}
+use Rattle.far_table.specs.First.{first_owner, first_owners}
 use Rattle.far_table.specs.Layout.{TABLE_WORDS}
-use Rattle.far_table.specs.Rule.{Facts}
+use Rattle.far_table.specs.Rule.{Facts, Has}
 use Rattle.far_table.specs.Seats.{Seated}
-use Rattle.far_table.specs.StateOf.{state_of}
-use Rattle.far_table.specs.Views.{nobody}
+use Rattle.far_table.specs.StateOf.{book_state, state_of}
+use Rattle.far_table.specs.Views.{held_at, nobody, object_at, uses}
 
 -- a view that knows nothing
 abbrev pub no_book : BookView
@@ -91,8 +94,22 @@ right_of (Book b) = Owner (first_rest b.rest)
 right_of (Owner o) = Owner o
 right_of (Copier c) = Copier c
 
--- the rule holds at the start: with some words and with the owners' views of the core, which are the core's state, honest as the far side is
+-- an owner's view is what a state says of that owner: its epoch and scope, what it uses and holds, and of each object that it uses the bytes
+pub record SaysOwner (s : State) (honest : Bool) (m : ℕ) (o : OwnerView) : Type 0 where
+  pub number : o.number ≡ m
+  pub honesty : o.honest ≡ honest
+  pub epoch : o.epoch ≡ s.remembered m
+  pub scope : scope_word_of o.open_at ≡ s.scope m
+  pub used : (p : ℕ) → p / CELLS ≡ m → uses o p ≡ s.used p
+  pub held : (p : ℕ) → p / CELLS ≡ m → held_at o p ≡ s.held p
+  pub objects : (p : ℕ) (x : ObjectView) → p / CELLS ≡ m → object_at o p ≡ Some x → Has (record s { honest = honest }) p x
+  pub others : (p : ℕ) → p / CELLS ≢ m → (object_at o p ≡ None) × (held_at o p ≡ None)
+
+-- the start: with some words and the owners' views the rule holds, and together they are the core's state, honest as the far side is. The book's view
+-- is that state with what its seat can't know masked, all words but headers among it; and each owner's is what the core says of it
 pub record Starts (s : State) (honest : Bool) (b : BookView) : Type 0 where
   pub words : List ℕ
-  pub facts : Facts words b (map (first_owner s honest) (range_with_len 0 s.mutators))
-  pub state : state_of words b (map (first_owner s honest) (range_with_len 0 s.mutators)) ≡ record s { honest = honest }
+  pub facts : Facts words b (first_owners s honest)
+  pub state : state_of words b (first_owners s honest) ≡ record s { honest = honest }
+  pub book : book_state b ≡ masked (record s { honest = honest }) s.cell (λ _. false)
+  pub owners : (m : ℕ) → SaysOwner s honest m (first_owner s honest m)

@@ -1,5 +1,5 @@
 -- The words of a state's table.
-use Rattle.std.specs.Prelude.{◌≡◌, ◌-◌, ◌==◌, ◌<◌, cond, nat_lt, ℕ, List, length}
+use Rattle.std.specs.Prelude.{◌-◌, ◌==◌, cond, nat_lt, ℕ}
 use Rattle.far_core.specs.state.State.{State}
 use Rattle.far_table.specs.Layout.{EPOCH_AT, cell_at, data_at, job_at, scope_at}
 

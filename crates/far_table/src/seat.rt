@@ -1,5 +1,5 @@
 // An owner's seat.
-ghost use Rattle.std.specs.Prelude.{◌≡◌, ◌+◌, ◌-◌, ◌*◌, ◌/◌, ◌^◌, ◌<◌, true, map, None, IsSome, IfOk, IfErr, IfSome};
+ghost use Rattle.std.specs.Prelude.{◌≡◌, ◌+◌, ◌-◌, ◌*◌, ◌/◌, ◌^◌, ◌<◌, ◌≤◌, true, map, None, IsSome, IfOk, IfErr, IfSome};
 ghost use Rattle.std.specs.Arc.{arc_value};
 ghost use Rattle.far_core.specs.declared.event.Event.{Event as any_event};
 ghost use Rattle.far_core.specs.declared.event.Reply.{Reply as any_reply};
@@ -62,7 +62,7 @@ impl<D: Device> Model for MutSeat<D> {
 
 // Where the data words of an object begin whose place is held, counted from word 0 of log 0; 0 where none is.
 fn data_begin(held: Option<Place>) -> u16
-    requires { IfSome held (λ place. addr place + 1 < MOST_LOGS * LOG_WORDS) }
+    requires { IfSome held (λ place. addr place + 1 ≤ MOST_LOGS * LOG_WORDS) }
     ensures { result ≡ data_begin held }
 {
     match held {

@@ -142,7 +142,10 @@ fn seats_of<D: Device>(
     requires honest { (p : ℕ) → (core_state plan.now.core).cell p ≢ 0 → D.honest plan.now.device.value ≡ (core_state plan.now.core).honest }
     ensures book { IfOk result (λ r. book_in r.0 ≡ waiting (core_state plan.now.core) (D.honest plan.now.device.value) (core_state plan.now.core).mutators 0) }
     ensures owners { IfOk result (λ r. r.1.items ≡ Seats (table_of r.0) (first_owner (core_state plan.now.core) (D.honest plan.now.device.value)) (core_state plan.now.core).mutators) }
+    ensures starts { IfOk result (λ r. Starts (core_state plan.now.core) (D.honest plan.now.device.value) (book_in r.0)) }
 {
+    plan.core.keeps_law();
+    plan.core.nothing_is_past();
     let words = words_of(alloc, &plan.core)?;
     let (table, mut seat) = Table::of_words(alloc, words.as_slice(), plan)?;
     let table = Arc::new(alloc, table)?;
@@ -168,5 +171,8 @@ pub fn share<D: Device>(
     ensures starts { IfOk result (λ r. Starts (core_state core) (D.honest device.value) (book_in r.0)) }
 {
     let plan = Plan { core, device };
-    seats_of(alloc, &plan).map_err(|_| Refused::Memory)
+    let Ok(seats) = seats_of(alloc, &plan) else {
+        return Err(Refused::Memory);
+    };
+    Ok(seats)
 }

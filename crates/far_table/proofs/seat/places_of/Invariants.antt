@@ -6,4 +6,4 @@ use Rattle.far_table.specs.Seats.{data_begin}
 use Rattle.far_table.proofs.seat.places_of.Given as goal
 
 abbrev pub invariant-loop-cell : goal.invariant-loop-cell
-invariant-loop-cell l = (l.places.items ≡ map (λ k. data_begin ((core_state l.fn.core.now).held (CELLS * l.number + k))) (range_with_len 0 l.cell)) × (vec_len l.places ≡ l.cell) × (CELLS ≤ vec_capacity l.places)
+invariant-loop-cell l = (l.places.items ≡ map (λ k. data_begin ((core_state l.fn.core).held (CELLS * l.fn.number + k))) (range_with_len 0 l.cell)) × (vec_len l.places ≡ l.cell) × (CELLS ≤ vec_capacity l.places)

@@ -6,4 +6,4 @@ use Rattle.far_table.specs.Tabled.{table_word}
 use Rattle.far_table.proofs.start.words_of.Given as goal
 
 abbrev pub invariant-loop-i : goal.invariant-loop-i
-invariant-loop-i l = (l.words.items ≡ map (table_word (core_state l.fn.core.now)) (range_with_len 0 l.i)) × (vec_len l.words ≡ l.i) × (TABLE_WORDS ≤ vec_capacity l.words)
+invariant-loop-i l = (l.words.items ≡ map (table_word (core_state l.fn.core)) (range_with_len 0 l.i)) × (vec_len l.words ≡ l.i) × (TABLE_WORDS ≤ vec_capacity l.words)
