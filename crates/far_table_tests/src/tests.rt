@@ -6,14 +6,18 @@ mod growing;
 mod owner;
 mod rounds;
 
-ghost use Rattle.std.specs.Prelude.{◌≡◌, ◌*◌};
+ghost use Rattle.std.specs.Prelude.{◌≡◌, map, IfOk};
+ghost use Rattle.std.specs.List.{range_with_len};
+ghost use Rattle.far_core.specs.state.CoreState.{core_state};
+ghost use Rattle.far_table_tests.specs.Fits.{Ready, known_of};
 
+use crate::Known;
 use far_core::{Core, Event, Reply, Shape};
 use far_device::MemDevice;
 use far_table::{MutSeat, share};
 use far_word::{CELLS, Place, Refused};
-use owner::{Act, Known, Owner, known_of};
-use std::alloc::Global;
+use owner::{Act, Owner, known_of};
+use std::alloc::{AllocError, Global};
 use std::process::Abort;
 use std::snapshot::Snapshot;
 
@@ -63,40 +67,44 @@ fn answers(rt: &impl Abort, owner: &mut Owner, cases: &[(Act, Reply)]) {
 }
 
 // What the owners of a core know, by their numbers.
-fn all_known(alloc: Global, core: &Core) -> Result<Vec<Known>, Refused> {
+fn all_known(alloc: Global, core: &Core) -> Result<Vec<Known>, AllocError>
+    ensures { IfOk result (λ all. all.items ≡ map (known_of (core_state core.now)) (range_with_len 0 (core_state core.now).mutators)) }
+{
+    core.keeps_law();
     let mutators = core.mutators();
-    let Ok(mut all) = Vec::with_capacity(alloc, mutators as usize) else {
-        return Err(Refused::Memory);
-    };
+    let mut all = Vec::with_capacity(alloc, mutators as usize)?;
     for number in 0..mutators {
         all.push_reserved(known_of(core, number));
     }
     Ok(all)
 }
 
-// Each seat with what its owner knows, the last first.
-fn owners_of(
-    alloc: Global,
-    mut seats: Vec<MutSeat<MemDevice>>,
-    mut all: Vec<Known>,
-) -> Result<Vec<Owner>, Refused> {
-    let mutators = seats.len();
-    let Ok(mut owners) = Vec::with_capacity(alloc, mutators) else {
+// The seats of a core that is shared, and what its owners know.
+fn seats_of(alloc: Global, core: Core) -> Result<(Vec<MutSeat<MemDevice>>, Vec<Known>), Refused>
+    ensures { IfOk result (λ r. Ready r.0.items r.1.items) }
+{
+    if !core.is_honest() {
+        return Err(Refused::Range);
+    }
+    core.keeps_law();
+    let device = MemDevice::new(alloc);
+    let Ok(all) = all_known(alloc, &core) else {
         return Err(Refused::Memory);
     };
-    for _ in 0..mutators {
-        if let (Some(seat), Some(known)) = (seats.pop(), all.pop()) {
-            let number = seats.len() as u16;
-            owners.push_reserved(Owner::new(seat, CELLS * number, known));
-        }
-    }
-    Ok(owners)
+    let (_book, seats) = share(alloc, core, Snapshot::of(&device))?;
+    Ok((seats, all))
 }
 
 /// Shares a core of an honest far side. Its owners, the last first, each with its first pointer.
 fn shared(alloc: Global, core: Core) -> Result<Vec<Owner>, Refused> {
-    let device = MemDevice::new(alloc);
-    let all = all_known(alloc, &core)?;
-    let (_book, seats) = share(alloc, core, Snapshot::of(&device))?;
-    owners_of(alloc, seats, all)
+    let (mut seats, all) = seats_of(alloc, core)?;
+    let mut owners = Vec::new(alloc);
+    for _ in 0..seats.len() {
+        if let Some(owner) = Owner::last_of(&mut seats, &all) {
+            if owners.push(owner).is_err() {
+                return Err(Refused::Memory);
+            }
+        }
+    }
+    Ok(owners)
 }

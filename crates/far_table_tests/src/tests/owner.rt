@@ -1,10 +1,14 @@
 //! An owner's seat with what is known of one of its pointers when it runs: a test asks for calls by value, and one that the
 //! view doesn't allow isn't made.
 
-ghost use Rattle.std.specs.Prelude.{◌≡◌, ◌-◌, ◌*◌, ◌^◌, ◌<◌, IsTrue};
-ghost use Rattle.far_table_tests.specs.Fits.{Fits, known_of};
+ghost use Rattle.std.specs.Prelude.{◌≡◌, ◌*◌, ◌<◌};
+ghost use Rattle.far_word.specs.Pointer.{read_of};
+ghost use Rattle.far_core.specs.events.Owners.{keeps_padding};
 ghost use Rattle.far_core.specs.state.CoreState.{core_state};
+ghost use Rattle.far_table.specs.Views.{said_len};
+ghost use Rattle.far_table_tests.specs.Fits.{Fits, Ready, known_of, used_len};
 
+use crate::Known;
 use far_core::{Core, Event, Reply};
 use far_device::MemDevice;
 use far_table::MutSeat;
@@ -52,29 +56,18 @@ impl Act {
     }
 }
 
-/// What an owner knows of its scope and of one pointer.
-#[derive(Clone, Copy)]
-pub(super) struct Known {
-    open: bool,
-    read: bool,
-    used: bool,
-    held: bool,
-    // 0 where it isn't used
-    len: u16,
-}
-
 /// What a core says that an owner knows.
 pub(super) fn known_of(core: &Core, number: u8) -> Known
     requires { number < 8 }
     ensures { result ≡ known_of (core_state core.now) number }
 {
     let pointer = CELLS * number as u16;
-    let open = match ScopeWord::read(core.scope(number)) {
+    let opened = match ScopeWord::read(core.scope(number)) {
         Some(ScopeWord::Open { .. }) => true,
         Some(ScopeWord::Closed) | None => false,
     };
     Known {
-        open,
+        opened,
         read: core.has_epoch(number),
         used: core.is_used(pointer),
         held: core.is_held(pointer),
@@ -82,14 +75,13 @@ pub(super) fn known_of(core: &Core, number: u8) -> Known
     }
 }
 
-fn used_len(core: &Core, pointer: u16) -> u16 {
+fn used_len(core: &Core, pointer: u16) -> u16
+    ensures { result ≡ used_len (core_state core.now) pointer }
+{
     if !core.is_used(pointer) {
         return 0;
     }
-    match PtrWord::read(core.cell(pointer)) {
-        Some(PtrWord::Near { len, .. } | PtrWord::Far { len, .. }) => len,
-        Some(PtrWord::Free) | None => 0,
-    }
+    len_in(core.cell(pointer))
 }
 
 /// A seat, one of its owner's pointers, and what is known of it.
@@ -102,18 +94,22 @@ pub(super) struct Owner {
 }
 
 impl Owner {
-    pub(super) fn new(seat: MutSeat<MemDevice>, pointer: u16, known: Known) -> Owner
-        requires { Fits seat.view pointer known }
+    // The owner of the last of the seats that are left, with its first pointer.
+    pub(super) fn last_of(seats: &mut Vec<MutSeat<MemDevice>>, all: &[Known]) -> Option<Owner>
+        requires { Ready seats.old.items all.now }
+        ensures { Ready seats.new.items all.now }
     {
-        Owner {
+        let seat = seats.pop()?;
+        let number = seats.len();
+        Some(Owner {
             seat,
-            pointer,
-            known,
-        }
+            pointer: CELLS * number as u16,
+            known: all[number],
+        })
     }
 
     fn read_epoch(&mut self) -> Reply {
-        if self.known.open {
+        if self.known.opened {
             return Reply::Refused;
         }
         let epoch = self.seat.read_epoch();
@@ -122,27 +118,27 @@ impl Owner {
     }
 
     fn open(&mut self) -> Reply {
-        if self.known.open || !self.known.read {
+        if self.known.opened || !self.known.read {
             return Reply::Refused;
         }
         self.seat.open();
-        self.known.open = true;
+        self.known.opened = true;
         Reply::Done
     }
 
     fn close(&mut self) -> Reply {
-        if !self.known.open {
+        if !self.known.opened {
             return Reply::Refused;
         }
         self.seat.close();
-        self.known.open = false;
+        self.known.opened = false;
         self.known.read = false;
         self.known.held = false;
         Reply::Done
     }
 
     fn pin(&mut self) -> Reply {
-        if !self.known.open || !self.known.used || self.known.held {
+        if !self.known.opened || !self.known.used || self.known.held {
             return Reply::Refused;
         }
         match self.seat.pin(self.pointer) {
@@ -214,7 +210,9 @@ impl Owner {
 }
 
 // The length that a word says; 0 where it says none.
-fn len_in(word: u64) -> u16 {
+fn len_in(word: u64) -> u16
+    ensures { result ≡ said_len (read_of word) }
+{
     match PtrWord::read(word) {
         Some(PtrWord::Near { len, .. } | PtrWord::Far { len, .. }) => len,
         Some(PtrWord::Free) | None => 0,
@@ -222,7 +220,10 @@ fn len_in(word: u64) -> u16 {
 }
 
 // Whether a word leaves the bytes after an object's end 0.
-fn keeps_padding(len: u16, index: u16, word: u64) -> bool {
+fn keeps_padding(len: u16, index: u16, word: u64) -> bool
+    requires { 8 * index < len }
+    ensures { result ≡ keeps_padding len index word }
+{
     let left = len - 8 * index;
     left >= 8 || word >> (8 * left) == 0
 }
