@@ -38,12 +38,26 @@ impl<K: HeapName, D: Device> Model for Own<K, D> {
 }
 
 // Sets all stamps back.
-fn clear(stamps: &mut [u64])
-    ensures { (k : ℕ) → slice_index stamps.new k ≡ 0 }
+fn clear(stamps: &mut Vec<u64>)
+    ensures many { length stamps.new.items ≡ length stamps.old.items }
+    ensures zeros { (k : ℕ) → slice_index stamps.new.items k ≡ 0 }
 {
     for i in 0..stamps.len() {
         stamps[i] = 0;
     }
+}
+
+// The count of the next scope, above each stamp. Where no number is left the stamps are set back.
+fn next_scope(stamps: &mut Vec<u64>, scope: u64) -> u64
+    requires { (k : ℕ) → slice_index stamps.old.items k ≤ scope }
+    ensures many { length stamps.new.items ≡ length stamps.old.items }
+    ensures above { (k : ℕ) → slice_index stamps.new.items k < result }
+{
+    if scope < u64::MAX {
+        return scope + 1;
+    }
+    clear(stamps);
+    1
 }
 
 impl<K: HeapName, D: Device> Own<K, D> {
@@ -81,11 +95,7 @@ impl<K: HeapName, D: Device> Own<K, D> {
         ensures { self.new ≡ closing self.old }
     {
         self.seat.close();
-        if self.scope == u64::MAX {
-            clear(&mut self.stamps);
-            self.scope = 0;
-        }
-        self.scope += 1;
+        self.scope = next_scope(&mut self.stamps, self.scope);
     }
 
     // The length of the object of a pointer that the mutator uses.
@@ -126,13 +136,16 @@ impl<K: HeapName, D: Device> Own<K, D> {
             return Err(Refused::NotHeld);
         };
         let cell = (p % CELLS) as usize;
-        if self.stamps[cell] != self.scope {
-            if let Err(word) = self.seat.pin(p) {
-                return Ok(Tried::Slow(word));
-            }
-            self.stamps[cell] = self.scope;
+        if self.stamps[cell] == self.scope {
+            return Ok(Tried::View(View { pointer: p, len }));
         }
-        Ok(Tried::View(View { pointer: p, len }))
+        match self.seat.pin(p) {
+            Ok(_) => {
+                self.stamps[cell] = self.scope;
+                Ok(Tried::View(View { pointer: p, len }))
+            }
+            Err(word) => Ok(Tried::Slow(word)),
+        }
     }
 
     // The length of the object of a view, of which these bytes are a range.
@@ -156,10 +169,10 @@ impl<K: HeapName, D: Device> Own<K, D> {
         ensures done { IfOk result (λ _. access_refusal self.old view.pointer from (length out.old) ≡ None) }
         ensures bytes { IfOk result (λ _. IfSome (bytes_in self.old view.pointer) (λ bytes. out.new ≡ slice_range bytes from (from + length out.old))) }
     {
-        if let Err(why) = self.access(view, from, out.len()) {
-            return Err(why);
+        match self.access(view, from, out.len()) {
+            Ok(_) => load_range(&mut self.seat, view.pointer, from, out),
+            Err(why) => return Err(why),
         }
-        load_range(&mut self.seat, view.pointer, from, out);
         Ok(())
     }
 

@@ -65,9 +65,10 @@ pub(crate) fn load_range<D: Device>(seat: &mut MutSeat<D>, p: u16, from: u16, ou
     let head = before_word(from, count);
     let whole = head + (count - head) / 8 * 8;
     load_part(seat, p, from, &mut out[..head]);
-    if head < whole {
-        load_words(seat, p, (from + head as u16) / 8, &mut out[head..whole]);
+    if head == count {
+        return;
     }
+    load_words(seat, p, (from + head as u16) / 8, &mut out[head..whole]);
     load_part(seat, p, from + whole as u16, &mut out[whole..]);
 }
 
@@ -143,8 +144,9 @@ pub(crate) fn store_range<D: Device>(
     let head = before_word(from, count);
     let whole = head + (count - head) / 8 * 8;
     store_part(seat, p, len, from, &bytes[..head]);
-    if head < whole {
-        store_words(seat, p, (from + head as u16) / 8, &bytes[head..whole]);
+    if head == count {
+        return;
     }
+    store_words(seat, p, (from + head as u16) / 8, &bytes[head..whole]);
     store_part(seat, p, len, from + whole as u16, &bytes[whole..]);
 }
