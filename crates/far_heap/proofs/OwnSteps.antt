@@ -1,0 +1,142 @@
+-- A mutator's own tables after each step.
+use Rattle.std.proofs.Common.{◌≡◌, ◌≢◌, ℕ, ◌+◌, ◌*◌, ◌/◌, ◌%◌, ◌<◌, ◌≤◌, Bool, true, false, nat_lt, Option, Some, None, is_some, List, length, get_or, set, refl, sym, ap, subst, ◌∙◌, inl, inr, arith}
+use Rattle.std.specs.Prelude.{◌==◌, slice_index_or, slice_set, replicate}
+use Rattle.std.proofs.lemmas.Bool.{cases_eq, cases_lt, eq-eqb, ne_eqb, lt-ltb, le-ltb, false≢true}
+use Rattle.std.proofs.lemmas.Grind.{get_or-set_at, get_or_default_zero}
+use Rattle.std.proofs.lemmas.List.{get_or-set_other, length-set, length-replicate, get_or-replicate, get_or_past}
+use Rattle.atomic_table.specs.Seated.{TableId}
+use Rattle.far_word.specs.declared.pointer.Place.{Place}
+use Rattle.far_word.specs.declared.sizes.TheConstants.{CELLS, LONGEST, MOST_MUTATORS}
+use Rattle.far_core.proofs.Put.{put_other, put_same}
+use Rattle.far_table.specs.declared.view.ObjectView.{ObjectView}
+use Rattle.far_table.specs.declared.view.OwnerView.{OwnerView}
+use Rattle.far_table.specs.Seats.{Seated}
+use Rattle.far_table.specs.Views.{closed_view, held_at, held_view, len_of as seat_len, object_at, uses as seat_uses}
+use Rattle.far_heap.specs.Mine.{IsNew, Mine, OwnOk, len_in, mine_of, uses, views}
+use Rattle.far_heap.specs.Ranges.{Wrote}
+use Rattle.far_heap.proofs.Mines.{len_own, uses_own, views_own}
+
+pub seated_is : (t : Seated) (id : TableId) (v : OwnerView) → t.table ≡ id → t.view ≡ v → t ≡ record { table = id; view = v }
+seated_is t id v e f = λ i. record { table = e i; view = f i }
+
+pub zeros_row : (xs : List ℕ) (n k : ℕ) → xs ≡ replicate n 0 → get_or xs k 0 ≡ 0
+zeros_row xs n k e = ap (λ z. get_or z k 0) e ∙ elim (cases_lt k n) [
+  | inl lt ↦ get_or-replicate n k 0 0 lt
+  | inr past ↦ get_or_past (replicate n 0) k 0 (omega (arith, length-replicate {A = ℕ} n 0))
+]
+
+pub zeros_long : (xs : List ℕ) (n : ℕ) → xs ≡ replicate n 0 → length xs ≡ n
+zeros_long xs n e = ap length e ∙ length-replicate {A = ℕ} n 0
+
+-- the tables of a new mutator
+pub new_ok : (s : Seated) (name : TableId) (number : ℕ) (lens stamps : List ℕ) → s.table ≡ name → IsNew number s.view → number < MOST_MUTATORS →
+    length lens ≡ CELLS → length stamps ≡ CELLS → ((k : ℕ) → get_or lens k 0 ≡ 0) → ((k : ℕ) → get_or stamps k 0 ≡ 0) → OwnOk s name number lens stamps 1
+new_ok s name number lens stamps table new few many_lens many_stamps no_lens no_stamps = record {
+  table = table;
+  number_is = new.number_is;
+  few = few;
+  many_lens = many_lens;
+  many_stamps = many_stamps;
+  lens_are = λ p own. no_lens (p % CELLS) ∙ sym (ap seat_len (new.unused p));
+  used_are = λ p own. ap is_some (new.unused p) ∙ sym (ap (λ x. nat_lt 0 (seat_len x)) (new.unused p));
+  short = λ p own. omega (arith, ap seat_len (new.unused p));
+  views_are = λ p own. ap is_some (new.free p) ∙ sym (ne_eqb (get_or stamps (p % CELLS) 0) 1 (λ e. omega (arith, no_stamps (p % CELLS))));
+  held_used = λ p own held. absurd (false≢true (sym (ap is_some (new.free p)) ∙ held));
+  past = λ k. omega (arith, no_stamps k);
+}
+
+module _ (s : Seated) (name : TableId) (number : ℕ) (lens stamps : List ℕ) (scope : ℕ) (ok : OwnOk s name number lens stamps scope) where
+  -- ---- what the tables say
+  pub row_len : (p len : ℕ) → p / CELLS ≡ number → len ≡ slice_index_or lens (p % CELLS) len → len ≡ seat_len (object_at s.view p)
+  row_len p len own is = is ∙ get_or_default_zero lens (p % CELLS) len (omega (arith, ok.many_lens)) ∙ ok.lens_are p own
+
+  pub len_unused : (p len : ℕ) → p / CELLS ≡ number → len ≡ slice_index_or lens (p % CELLS) len → len ≡ 0 → uses (mine_of s) p ≡ false
+  len_unused p len own is none =
+      uses_own s p (own ∙ sym ok.number_is) ∙ ok.used_are p own ∙ le-ltb 0 (seat_len (object_at s.view p)) (omega (arith, row_len p len own is))
+
+  pub len_used : (p len : ℕ) → p / CELLS ≡ number → len ≡ slice_index_or lens (p % CELLS) len → 0 < len → (uses (mine_of s) p ≡ true) × (len ≡ len_in (mine_of s) p)
+  len_used p len own is some = let mine : p / CELLS ≡ s.view.number = own ∙ sym ok.number_is in let long = row_len p len own is in
+      (uses_own s p mine ∙ ok.used_are p own ∙ lt-ltb 0 (seat_len (object_at s.view p)) (omega arith), long ∙ sym (len_own s p mine))
+
+  stamp_is : (p x : ℕ) → p / CELLS ≡ number → x ≡ slice_index_or stamps (p % CELLS) x → is_some (held_at s.view p) ≡ (x == scope)
+  stamp_is p x own is = ok.views_are p own ∙ ap (λ n. n == scope) (sym (is ∙ get_or_default_zero stamps (p % CELLS) x (omega (arith, ok.many_stamps))))
+
+  pub stamp_held : (p x : ℕ) → p / CELLS ≡ number → x ≡ slice_index_or stamps (p % CELLS) x → x ≡ scope → is_some (held_at s.view p) ≡ true
+  stamp_held p x own is e = stamp_is p x own is ∙ eq-eqb x scope e
+
+  pub stamp_free : (p x : ℕ) → p / CELLS ≡ number → x ≡ slice_index_or stamps (p % CELLS) x → x ≢ scope → is_some (held_at s.view p) ≡ false
+  stamp_free p x own is ne = stamp_is p x own is ∙ ne_eqb x scope ne
+
+  pub len_viewed : (p x len : ℕ) → p / CELLS ≡ number → x ≡ slice_index_or stamps (p % CELLS) x → x ≡ scope → len ≡ slice_index_or lens (p % CELLS) len →
+      (views (mine_of s) p ≡ true) × (len ≡ len_in (mine_of s) p) × (len ≤ LONGEST)
+  len_viewed p x len own is e long = let mine : p / CELLS ≡ s.view.number = own ∙ sym ok.number_is in let l = row_len p len own long in
+      (views_own s p mine ∙ stamp_held p x own is e, l ∙ sym (len_own s p mine), omega (arith, ok.short p own))
+
+  -- ---- a pin that held a place
+  pub pinned_ok : (p : ℕ) (place : Place) → p / CELLS ≡ number → seat_uses s.view p ≡ true → OwnOk (record { table = s.table; view = held_view p place s.view }) name number lens (slice_set stamps (p % CELLS) scope) scope
+  pinned_ok p place own used = record {
+    table = ok.table;
+    number_is = ok.number_is;
+    few = ok.few;
+    many_lens = ok.many_lens;
+    many_stamps = length-set stamps (p % CELLS) scope ∙ ok.many_stamps;
+    lens_are = ok.lens_are;
+    used_are = ok.used_are;
+    short = ok.short;
+    views_are = λ q mine. elim (cases_eq q p) [
+      | inl e ↦ ap is_some (put_same (held_at s.view) p (Some place) q e) ∙ sym (eq-eqb (get_or (set stamps (p % CELLS) scope) (q % CELLS) 0) scope
+          (let at : q % CELLS ≡ p % CELLS = omega arith in get_or-set_at stamps (p % CELLS) (q % CELLS) scope 0 at (omega (arith, ok.many_stamps))))
+      | inr ne ↦ ap is_some (put_other (held_at s.view) p (Some place) q ne) ∙ ok.views_are q mine
+          ∙ ap (λ n. n == scope) (sym (get_or-set_other stamps (p % CELLS) (q % CELLS) scope 0 (λ e. ne (omega arith))))
+    ];
+    held_used = λ q mine held. elim (cases_eq q p) [
+      | inl e ↦ ap (seat_uses s.view) e ∙ used
+      | inr ne ↦ ok.held_used q mine (sym (ap is_some (put_other (held_at s.view) p (Some place) q ne)) ∙ held)
+    ];
+    past = λ k. elim (cases_eq k (p % CELLS)) [
+      | inl e ↦ omega (arith, get_or-set_at stamps (p % CELLS) k scope 0 e (omega (arith, ok.many_stamps)))
+      | inr ne ↦ omega (arith, get_or-set_other stamps (p % CELLS) k scope 0 ne, ok.past k)
+    ];
+  }
+
+  -- ---- a close
+  pub closed_ok : (stamps' : List ℕ) (scope' : ℕ) → length stamps' ≡ CELLS → ((k : ℕ) → get_or stamps' k 0 < scope') → OwnOk (record { table = s.table; view = closed_view s.view }) name number lens stamps' scope'
+  closed_ok stamps' scope' many less = record {
+    table = ok.table;
+    number_is = ok.number_is;
+    few = ok.few;
+    many_lens = ok.many_lens;
+    many_stamps = many;
+    lens_are = ok.lens_are;
+    used_are = ok.used_are;
+    short = ok.short;
+    views_are = λ q mine. sym (ne_eqb (get_or stamps' (q % CELLS) 0) scope' (λ e. omega (arith, less (q % CELLS))));
+    held_used = λ q mine held. absurd (false≢true held);
+    past = λ k. omega (arith, less k);
+  }
+
+  -- ---- bytes that were stored
+  pub wrote_ok : (t : Seated) (p from : ℕ) (bytes : List ℕ) → t.table ≡ s.table → Wrote p from bytes s.view t.view → OwnOk t name number lens stamps scope
+  wrote_ok t p from bytes same w =
+      let number : t.view.number ≡ s.view.number = ap (λ (o : OwnerView). o.number) w.rest in
+      let held : held_at t.view ≡ held_at s.view = ap held_at w.rest in
+      let long : (q : ℕ) → seat_len (object_at t.view q) ≡ seat_len (object_at s.view q) = λ q. elim (cases_eq q p) [
+        | inl e ↦ ap (λ z. seat_len (object_at t.view z)) e ∙ w.len ∙ sym (ap (λ z. seat_len (object_at s.view z)) e)
+        | inr ne ↦ ap seat_len (w.others q ne)
+      ] in
+      let used : (q : ℕ) → seat_uses t.view q ≡ seat_uses s.view q = λ q. elim (cases_eq q p) [
+        | inl e ↦ ap (seat_uses t.view) e ∙ w.there ∙ sym (ap (seat_uses s.view) e)
+        | inr ne ↦ ap is_some (w.others q ne)
+      ] in record {
+        table = same ∙ ok.table;
+        number_is = number ∙ ok.number_is;
+        few = ok.few;
+        many_lens = ok.many_lens;
+        many_stamps = ok.many_stamps;
+        lens_are = λ q mine. ok.lens_are q mine ∙ sym (long q);
+        used_are = λ q mine. used q ∙ ok.used_are q mine ∙ ap (nat_lt 0) (sym (long q));
+        short = λ q mine. omega (arith, long q, ok.short q mine);
+        views_are = λ q mine. ap (λ f. is_some (f q)) held ∙ ok.views_are q mine;
+        held_used = λ q mine h. used q ∙ ok.held_used q mine (sym (ap (λ f. is_some (f q)) held) ∙ h);
+        past = ok.past;
+      }

@@ -1,0 +1,150 @@
+-- A mutator in a heap's own words.
+use Rattle.std.specs.Prelude.{◌≡◌, ℕ, ◌+◌, ◌*◌, ◌/◌, ◌%◌, ◌<◌, ◌≤◌, ◌==◌, Bool, true, false, cond, not, ◌&&◌, ◌||◌, nat_lt, nat_le, Option, Some, None, is_some, IsSome, List, [], ◌++◌, length, map, take, drop, slice_set, slice_range, slice_index_or, IfSome, option_map, if◌then◌else◌}
+use Rattle.std.specs.List.{range_with_len}
+use Rattle.atomic_table.specs.Seated.{TableId}
+use Rattle.far_word.specs.Bytes.{bytes_of}
+use Rattle.far_word.specs.Pointer.{read_of}
+use Rattle.far_word.specs.declared.pointer.PtrWord.{PtrWord}
+use Rattle.far_word.specs.declared.pointer.PtrWord.TheVariants.{Free, Near, Far}
+use Rattle.far_word.specs.declared.refused.Refused.{Refused}
+use Rattle.far_word.specs.declared.refused.Refused.TheVariants.{NotHeld, Range}
+use Rattle.far_word.specs.declared.sizes.TheConstants.{CELLS, LONGEST, MOST_MUTATORS}
+use Rattle.far_table.specs.declared.view.ObjectView.{ObjectView}
+use Rattle.far_table.specs.declared.view.OwnerView.{OwnerView}
+use Rattle.far_table.specs.Seats.{Seated}
+use Rattle.far_table.specs.Views.{held_at, len_of as seat_len, object_at, uses as seat_uses, word_of}
+use Rattle.far_heap.specs.declared.view.Tried.{Tried}
+use Rattle.far_heap.specs.declared.view.Tried.TheVariants.{View as Viewed, Slow}
+use Rattle.far_heap.specs.declared.view.View.{View}
+
+-- the table of nobody
+abbrev pub no_table : TableId
+no_table = record { words = 0; slots = 0; views_name = 0; atom = 0; block = 0; offset = 0; slot_names = [] }
+
+-- an object as its mutator knows it: how many bytes it has, and which, unless the far side may give others than it was given
+pub record Object : Type 0 where
+  pub len : ℕ
+  pub bytes : Option (List ℕ)
+
+-- a mutator: the table that it steps and its number; whether the far side is honest, and whether its scope is open; of each of its pointers, from the lowest
+-- on, the object, if it uses the pointer, and whether the scope views it
+pub record Mine : Type 0 where
+  pub table : TableId
+  pub number : ℕ
+  pub honest : Bool
+  pub opened : Bool
+  pub objects : List (Option Object)
+  pub viewed : List Bool
+
+-- ---- what it has
+abbrev pub owns : Mine → ℕ → Bool
+owns m p = p / CELLS == m.number
+
+abbrev pub object_of : Mine → ℕ → Option Object
+object_of m p = if owns m p then slice_index_or m.objects (p % CELLS) None else None
+
+abbrev pub uses : Mine → ℕ → Bool
+uses m p = is_some (object_of m p)
+
+abbrev pub views : Mine → ℕ → Bool
+views m p = if owns m p then slice_index_or m.viewed (p % CELLS) false else false
+
+abbrev pub len_of : Option Object → ℕ
+len_of None = 0
+len_of (Some x) = x.len
+
+abbrev pub known_bytes : Option Object → Option (List ℕ)
+known_bytes None = None
+known_bytes (Some x) = x.bytes
+
+-- how many bytes the object of a pointer has, 0 where it isn't used; and which, where that is known
+abbrev pub len_in : Mine → ℕ → ℕ
+len_in m p = len_of (object_of m p)
+
+abbrev pub bytes_in : Mine → ℕ → Option (List ℕ)
+bytes_in m p = known_bytes (object_of m p)
+
+-- ---- what calls make of it
+abbrev pub opening : Mine → Mine
+opening m = record m { opened = true }
+
+-- it views nothing
+abbrev pub closing : Mine → Mine
+closing m = record m { opened = false; viewed = map (λ _. false) m.viewed }
+
+abbrev pub viewing : ℕ → Mine → Mine
+viewing p m = record m { viewed = slice_set m.viewed (p % CELLS) true }
+
+-- bytes with others in the place of those from here on
+abbrev pub with_range : List ℕ → ℕ → List ℕ → List ℕ
+with_range bytes from new = take from bytes ++ new ++ drop (from + length new) bytes
+
+abbrev pub rewritten : ℕ → List ℕ → Object → Object
+rewritten from new x = record { len = x.len; bytes = option_map (λ bytes. with_range bytes from new) x.bytes }
+
+abbrev pub writing : ℕ → ℕ → List ℕ → Mine → Mine
+writing p from new m = record m { objects = slice_set m.objects (p % CELLS) (option_map (rewritten from new) (object_of m p)) }
+
+-- ---- when an access is refused: the pointer isn't viewed; or the range is empty, or passes the object's end
+abbrev pub is_range : ℕ → ℕ → ℕ → Bool
+is_range len from count = nat_lt 0 count && nat_le (from + count) len
+
+abbrev pub access_refusal : Mine → ℕ → ℕ → ℕ → Option Refused
+access_refusal m p from count = if views m p then (if is_range (len_in m p) from count then None else Some Range) else Some NotHeld
+
+-- ---- what a dereference answers
+-- a word of an object of this length on which no view may rest: it is far, or has EVAC or MOVE. It isn't dropped
+abbrev pub IsSlow : ℕ → Option PtrWord → Type 0
+IsSlow len None = ⊥
+IsSlow len (Some Free) = ⊥
+IsSlow len (Some (Near n ds place marks)) = (n ≡ len) × ((marks.evac || marks.moved) ≡ true) × (marks.dropped ≡ false)
+IsSlow len (Some (Far n ds marks)) = (n ≡ len) × (marks.dropped ≡ false)
+
+-- a view of the object, which is viewed from then on; or such a word, and nothing has changed
+abbrev pub TriedSo : ℕ → Mine → Tried → Mine → Type 0
+TriedSo p m (Viewed view) n = (view ≡ record { pointer = p; len = len_in m p }) × (n ≡ viewing p m)
+TriedSo p m (Slow word) n = (views m p ≡ false) × (n ≡ m) × IsSlow (len_in m p) (read_of word)
+
+-- ---- the mutator of a seat
+-- what stands at the numbers of a mutator's pointers
+unfoldable pub own_row : {X : Type 0} → (ℕ → X) → ℕ → List X
+own_row f number = map (λ k. f (CELLS * number + k)) (range_with_len 0 CELLS)
+
+abbrev pub known : Bool → ObjectView → Option (List ℕ)
+known true x = Some (bytes_of (word_of x) x.len)
+known false x = None
+
+abbrev pub seen : Bool → Option ObjectView → Option Object
+seen honest None = None
+seen honest (Some x) = Some record { len = x.len; bytes = known honest x }
+
+abbrev pub mine_of : Seated → Mine
+mine_of s = record {
+  table = s.table;
+  number = s.view.number;
+  honest = s.view.honest;
+  opened = is_some s.view.open_at;
+  objects = own_row (λ p. seen s.view.honest (object_at s.view p)) s.view.number;
+  viewed = own_row (λ p. is_some (held_at s.view p)) s.view.number;
+}
+
+-- a mutator's own numbers fit its seat: the length of each object that it uses, 0 where it uses none; and what the open scope views, by its count of scopes
+pub record OwnOk (s : Seated) (name : TableId) (number : ℕ) (lens stamps : List ℕ) (scope : ℕ) : Type 0 where
+  pub table : s.table ≡ name
+  pub number_is : s.view.number ≡ number
+  pub few : number < MOST_MUTATORS
+  pub many_lens : length lens ≡ CELLS
+  pub many_stamps : length stamps ≡ CELLS
+  pub lens_are : (p : ℕ) → p / CELLS ≡ number → slice_index_or lens (p % CELLS) 0 ≡ seat_len (object_at s.view p)
+  pub used_are : (p : ℕ) → p / CELLS ≡ number → seat_uses s.view p ≡ nat_lt 0 (seat_len (object_at s.view p))
+  pub short : (p : ℕ) → p / CELLS ≡ number → seat_len (object_at s.view p) ≤ LONGEST
+  pub views_are : (p : ℕ) → p / CELLS ≡ number → is_some (held_at s.view p) ≡ (slice_index_or stamps (p % CELLS) 0 == scope)
+  pub held_used : (p : ℕ) → p / CELLS ≡ number → is_some (held_at s.view p) ≡ true → seat_uses s.view p ≡ true
+  pub past : (k : ℕ) → slice_index_or stamps k 0 ≤ scope
+
+-- the seat of a mutator of a new heap: it uses nothing, views nothing, and its scope is closed
+pub record IsNew (number : ℕ) (o : OwnerView) : Type 0 where
+  pub number_is : o.number ≡ number
+  pub closed : o.open_at ≡ None
+  pub unused : (p : ℕ) → object_at o p ≡ None
+  pub free : (p : ℕ) → held_at o p ≡ None

@@ -1,0 +1,16 @@
+// Names of tables.
+use std::marker::Brand;
+
+/// Names one table of shared words. The heap's lock and its mutators carry one name, so that they are of one table. Its caller is
+/// a function over the name, called with `Brand`; elsewhere it is left unwritten.
+pub trait HeapName {
+    ghost use Rattle.atomic_table.specs.Seated.{TableId};
+
+    ghost table: { TableId };
+}
+
+impl HeapName for Brand {
+    ghost use Rattle.far_heap.specs.Mine.{no_table};
+
+    ghost table = { no_table };
+}

@@ -1,0 +1,190 @@
+// What a mutator has, whether its scope is open or closed.
+ghost use Rattle.std.specs.Prelude.{◌≡◌, ◌+◌, ◌*◌, ◌/◌, ◌%◌, ◌<◌, ◌≤◌, ℕ, true, false, length, map, slice_range, slice_index, None, Some, IfOk, IfErr, IfSome};
+ghost use Rattle.far_heap.specs.Mine.{IsNew, TriedSo, access_refusal, bytes_in, closing, len_in, mine_of, opening, uses, views, viewing, writing};
+ghost use Rattle.far_word.specs.declared.refused.Refused.{Refused as any_refusal};
+ghost use Rattle.far_word.specs.declared.sizes.TheConstants.{CELLS, LONGEST, MOST_MUTATORS};
+
+use crate::name::HeapName;
+use crate::ranges::{load_range, store_range};
+use crate::view::{Tried, View};
+use far_device::Device;
+use far_table::MutSeat;
+use far_word::{CELLS, Refused};
+use std::alloc::{AllocError, Global};
+use std::marker::{Model, PhantomData};
+
+// A mutator's seat and its own tables.
+#[derive(Drop)]
+pub(crate) struct Own<K: HeapName, D: Device> {
+    seat: MutSeat<D>,
+    number: u8,
+    // The length of the object of each of its pointers, 0 where it isn't used.
+    lens: Vec<u16>,
+    // The scope that viewed each pointer last, by its count.
+    stamps: Vec<u64>,
+    // The count of the scope that is open, or of the next. It is above 0, and no stamp is above it.
+    scope: u64,
+    of: PhantomData<K>,
+}
+
+impl<K: HeapName, D: Device> Model for Own<K, D> {
+    ghost use Rattle.far_heap.specs.Mine.{Mine, OwnOk, mine_of};
+
+    ghost Value = { Mine };
+
+    ghost view = { λ o. mine_of o.seat };
+
+    ghost invariant = { λ o. OwnOk o.seat K.table o.number o.lens.items o.stamps.items o.scope };
+}
+
+// Sets all stamps back.
+fn clear(stamps: &mut Vec<u64>)
+    ensures many { length stamps.new.items ≡ length stamps.old.items }
+    ensures zeros { (k : ℕ) → slice_index stamps.new.items k ≡ 0 }
+{
+    for i in 0..stamps.len() {
+        stamps[i] = 0;
+    }
+}
+
+// The count of the next scope, above each stamp. Where no number is left the stamps are set back.
+fn next_scope(stamps: &mut Vec<u64>, scope: u64) -> u64
+    requires { (k : ℕ) → slice_index stamps.old.items k ≤ scope }
+    ensures many { length stamps.new.items ≡ length stamps.old.items }
+    ensures above { (k : ℕ) → slice_index stamps.new.items k < result }
+{
+    if scope < u64::MAX {
+        return scope + 1;
+    }
+    clear(stamps);
+    1
+}
+
+impl<K: HeapName, D: Device> Own<K, D> {
+    // A mutator of a seat of a new heap, whose tables are made here.
+    pub(crate) fn new(alloc: Global, seat: MutSeat<D>, number: u8) -> Result<Own<K, D>, AllocError>
+        requires table { seat.table ≡ K.table }
+        requires new { IsNew number seat.view }
+        requires few { number < MOST_MUTATORS }
+        ensures { IfOk result (λ own. own ≡ mine_of seat) }
+    {
+        let lens = vec![in alloc; 0; CELLS as usize]?;
+        let stamps = vec![in alloc; 0; CELLS as usize]?;
+        Ok(Own {
+            seat,
+            number,
+            lens,
+            stamps,
+            scope: 1,
+            of: PhantomData,
+        })
+    }
+
+    // Opens the scope.
+    pub(crate) fn open(&mut self)
+        requires { self.old.opened ≡ false }
+        ensures { self.new ≡ opening self.old }
+    {
+        self.seat.read_epoch();
+        self.seat.open();
+    }
+
+    // Closes the scope. It views nothing from then on.
+    pub(crate) fn close(&mut self)
+        requires { self.old.opened ≡ true }
+        ensures { self.new ≡ closing self.old }
+    {
+        self.seat.close();
+        self.scope = next_scope(&mut self.stamps, self.scope);
+    }
+
+    // The length of the object of a pointer that the mutator uses.
+    fn used_len(&self, p: u16) -> Option<u16>
+        ensures used { IfSome result (λ len. (uses self.now p ≡ true) × (len ≡ len_in self.now p)) }
+        ensures unused { result ≡ None → uses self.now p ≡ false }
+    {
+        if p / CELLS != self.number as u16 {
+            return None;
+        }
+        let len = self.lens[(p % CELLS) as usize];
+        if len == 0 { None } else { Some(len) }
+    }
+
+    // The length of the object of a pointer that the scope views.
+    fn viewed_len(&self, p: u16) -> Option<u16>
+        ensures viewed { IfSome result (λ len. (views self.now p ≡ true) × (len ≡ len_in self.now p) × (len ≤ LONGEST)) }
+        ensures other { result ≡ None → views self.now p ≡ false }
+    {
+        if p / CELLS != self.number as u16 {
+            return None;
+        }
+        let cell = (p % CELLS) as usize;
+        if self.stamps[cell] == self.scope {
+            Some(self.lens[cell])
+        } else {
+            None
+        }
+    }
+
+    // A view of a pointer's object, by one pin, unless the scope has it already.
+    pub(crate) fn try_view(&mut self, p: u16) -> Result<Tried, Refused>
+        requires { self.old.opened ≡ true }
+        ensures refused { IfErr result (λ why. (why ≡ Refused.NotHeld) × (uses self.old p ≡ false) × (self.new ≡ self.old)) }
+        ensures tried { IfOk result (λ tried. (uses self.old p ≡ true) × TriedSo p self.old tried self.new) }
+    {
+        let Some(len) = self.used_len(p) else {
+            return Err(Refused::NotHeld);
+        };
+        let cell = (p % CELLS) as usize;
+        if self.stamps[cell] == self.scope {
+            return Ok(Tried::View(View { pointer: p, len }));
+        }
+        match self.seat.pin(p) {
+            Ok(_) => {
+                self.stamps[cell] = self.scope;
+                Ok(Tried::View(View { pointer: p, len }))
+            }
+            Err(word) => Ok(Tried::Slow(word)),
+        }
+    }
+
+    // The length of the object of a view, of which these bytes are a range.
+    fn access(&self, view: View, from: u16, count: usize) -> Result<u16, Refused>
+        ensures refused { IfErr result (λ why. access_refusal self.now view.pointer from count ≡ Some why) }
+        ensures done { IfOk result (λ len. (access_refusal self.now view.pointer from count ≡ None) × (views self.now view.pointer ≡ true) × (len ≡ len_in self.now view.pointer) × (len ≤ LONGEST) × (from + count ≤ len) × (0 < count)) }
+    {
+        let Some(len) = self.viewed_len(view.pointer) else {
+            return Err(Refused::NotHeld);
+        };
+        if count == 0 || from > len || count > (len - from) as usize {
+            return Err(Refused::Range);
+        }
+        Ok(len)
+    }
+
+    // Reads bytes of an object that the scope views.
+    pub(crate) fn read(&mut self, view: View, from: u16, out: &mut [u8]) -> Result<(), Refused>
+        ensures same { self.new ≡ self.old }
+        ensures refused { IfErr result (λ why. (access_refusal self.old view.pointer from (length out.old) ≡ Some why) × (out.new ≡ out.old)) }
+        ensures done { IfOk result (λ _. access_refusal self.old view.pointer from (length out.old) ≡ None) }
+        ensures bytes { IfOk result (λ _. IfSome (bytes_in self.old view.pointer) (λ bytes. out.new ≡ slice_range bytes from (from + length out.old))) }
+    {
+        match self.access(view, from, out.len()) {
+            Ok(_) => load_range(&mut self.seat, view.pointer, from, out),
+            Err(why) => return Err(why),
+        }
+        Ok(())
+    }
+
+    // Writes bytes over those of an object that the scope views.
+    pub(crate) fn write(&mut self, view: View, from: u16, bytes: &[u8]) -> Result<(), Refused>
+        ensures refused { IfErr result (λ why. (access_refusal self.old view.pointer from (length bytes.now) ≡ Some why) × (self.new ≡ self.old)) }
+        ensures done { IfOk result (λ _. (access_refusal self.old view.pointer from (length bytes.now) ≡ None) × (self.new ≡ writing view.pointer from bytes.now self.old)) }
+    {
+        match self.access(view, from, bytes.len()) {
+            Ok(len) => store_range(&mut self.seat, view.pointer, len, from, bytes),
+            Err(why) => return Err(why),
+        }
+        Ok(())
+    }
+}

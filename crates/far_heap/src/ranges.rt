@@ -1,0 +1,152 @@
+// Ranges of bytes of an object that an owner's seat holds: parts of a word by load and store, whole words by one of them.
+ghost use Rattle.std.specs.Prelude.{◌≡◌, ◌+◌, ◌-◌, ◌*◌, ◌/◌, ◌%◌, ◌^◌, ◌<◌, ◌≤◌, ℕ, true, length, slice_index, IsSome};
+ghost use Rattle.far_table.specs.Views.{held_at, len_of, object_at, word_in_view};
+ghost use Rattle.far_word.specs.Bytes.{byte_at};
+ghost use Rattle.far_heap.specs.Ranges.{HasBytes, Wrote};
+ghost use Rattle.far_word.specs.declared.sizes.TheConstants.{LONGEST};
+
+use byteorder::{ByteOrder, LittleEndian};
+use far_device::Device;
+use far_table::MutSeat;
+
+// How many bytes of a range of so many come before the next word begins.
+fn before_word(from: u16, count: usize) -> usize
+    ensures few { result ≤ count }
+    ensures one { from % 8 + result ≤ 8 }
+    ensures whole { result < count → (from + result) % 8 ≡ 0 }
+{
+    let over = (from % 8) as usize;
+    if over == 0 { 0 } else { count.min(8 - over) }
+}
+
+// Loads bytes that lie in one word.
+fn load_part<D: Device>(seat: &mut MutSeat<D>, p: u16, from: u16, out: &mut [u8])
+    requires held { IsSome (held_at seat.old.view p) }
+    requires inside { from + length out.old ≤ len_of (object_at seat.old.view p) }
+    requires one { from % 8 + length out.old ≤ 8 }
+    ensures same { seat.new ≡ seat.old }
+    ensures bytes { seat.old.view.honest ≡ true → HasBytes (word_in_view (object_at seat.old.view p)) from out.new }
+{
+    if out.is_empty() {
+        return;
+    }
+    let word = seat.load(p, from / 8);
+    let mut bytes = [0; 8];
+    LittleEndian::write_u64(&mut bytes, word);
+    let at = (from % 8) as usize;
+    out.copy_from_slice(&bytes[at..at + out.len()]);
+}
+
+// Loads whole words.
+fn load_words<D: Device>(seat: &mut MutSeat<D>, p: u16, first: u16, out: &mut [u8])
+    requires held { IsSome (held_at seat.old.view p) }
+    requires short { len_of (object_at seat.old.view p) ≤ LONGEST }
+    requires inside { 8 * first + length out.old ≤ len_of (object_at seat.old.view p) }
+    requires whole { length out.old % 8 ≡ 0 }
+    ensures same { seat.new ≡ seat.old }
+    ensures bytes { seat.old.view.honest ≡ true → HasBytes (word_in_view (object_at seat.old.view p)) (8 * first) out.new }
+{
+    let count = (out.len() / 8) as u16;
+    for i in 0..count {
+        let word = seat.load(p, first + i);
+        LittleEndian::write_u64(&mut out[8 * i as usize..], word);
+    }
+}
+
+// Loads a range of bytes.
+pub(crate) fn load_range<D: Device>(seat: &mut MutSeat<D>, p: u16, from: u16, out: &mut [u8])
+    requires held { IsSome (held_at seat.old.view p) }
+    requires short { len_of (object_at seat.old.view p) ≤ LONGEST }
+    requires inside { from + length out.old ≤ len_of (object_at seat.old.view p) }
+    ensures same { seat.new ≡ seat.old }
+    ensures bytes { seat.old.view.honest ≡ true → HasBytes (word_in_view (object_at seat.old.view p)) from out.new }
+{
+    let count = out.len();
+    let head = before_word(from, count);
+    let whole = head + (count - head) / 8 * 8;
+    load_part(seat, p, from, &mut out[..head]);
+    if head == count {
+        return;
+    }
+    load_words(seat, p, (from + head as u16) / 8, &mut out[head..whole]);
+    load_part(seat, p, from + whole as u16, &mut out[whole..]);
+}
+
+// A word with some of its bytes replaced, and zeros past so many.
+fn spliced(word: u64, at: usize, bytes: &[u8], room: usize) -> u64
+    requires fits { at + length bytes.now ≤ room }
+    requires room { room ≤ 8 }
+    requires some { 0 < room }
+    ensures padding { result < 2 ^ (8 * room) }
+    ensures inside { HasBytes (λ _. result) at bytes.now }
+    ensures before { (k : ℕ) → k < at → byte_at (λ _. result) k ≡ byte_at (λ _. word) k }
+    ensures after { (k : ℕ) → at + length bytes.now ≤ k → k < room → byte_at (λ _. result) k ≡ byte_at (λ _. word) k }
+{
+    let mut old = [0; 8];
+    LittleEndian::write_u64(&mut old, word);
+    let mut new = [0; 8];
+    new[..room].copy_from_slice(&old[..room]);
+    new[at..at + bytes.len()].copy_from_slice(bytes);
+    LittleEndian::read_u64(&new)
+}
+
+// Stores bytes that lie in one word, whose others are loaded first. Those past the object's end stay 0.
+fn store_part<D: Device>(seat: &mut MutSeat<D>, p: u16, len: u16, from: u16, bytes: &[u8])
+    requires held { IsSome (held_at seat.old.view p) }
+    requires len { len_of (object_at seat.old.view p) ≡ len }
+    requires inside { from + length bytes.now ≤ len }
+    requires one { from % 8 + length bytes.now ≤ 8 }
+    ensures table { seat.new.table ≡ seat.old.table }
+    ensures wrote { Wrote p from bytes.now seat.old.view seat.new.view }
+{
+    if bytes.is_empty() {
+        return;
+    }
+    let i = from / 8;
+    let room = (len - 8 * i).min(8);
+    let found = seat.load(p, i);
+    let word = spliced(found, (from % 8) as usize, bytes, room as usize);
+    seat.store(p, i, word);
+}
+
+// Stores whole words.
+fn store_words<D: Device>(seat: &mut MutSeat<D>, p: u16, first: u16, bytes: &[u8])
+    requires held { IsSome (held_at seat.old.view p) }
+    requires short { len_of (object_at seat.old.view p) ≤ LONGEST }
+    requires inside { 8 * first + length bytes.now ≤ len_of (object_at seat.old.view p) }
+    requires whole { length bytes.now % 8 ≡ 0 }
+    ensures table { seat.new.table ≡ seat.old.table }
+    ensures wrote { Wrote p (8 * first) bytes.now seat.old.view seat.new.view }
+{
+    let count = (bytes.len() / 8) as u16;
+    for i in 0..count {
+        let word = LittleEndian::read_u64(&bytes[8 * i as usize..]);
+        seat.store(p, first + i, word);
+    }
+}
+
+// Stores a range of bytes of an object of this length.
+pub(crate) fn store_range<D: Device>(
+    seat: &mut MutSeat<D>,
+    p: u16,
+    len: u16,
+    from: u16,
+    bytes: &[u8],
+)
+    requires held { IsSome (held_at seat.old.view p) }
+    requires len { len_of (object_at seat.old.view p) ≡ len }
+    requires short { len ≤ LONGEST }
+    requires inside { from + length bytes.now ≤ len }
+    ensures table { seat.new.table ≡ seat.old.table }
+    ensures wrote { Wrote p from bytes.now seat.old.view seat.new.view }
+{
+    let count = bytes.len();
+    let head = before_word(from, count);
+    let whole = head + (count - head) / 8 * 8;
+    store_part(seat, p, len, from, &bytes[..head]);
+    if head == count {
+        return;
+    }
+    store_words(seat, p, (from + head as u16) / 8, &bytes[head..whole]);
+    store_part(seat, p, len, from + whole as u16, &bytes[whole..]);
+}
