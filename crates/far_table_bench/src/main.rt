@@ -7,10 +7,10 @@ ghost use Rattle.far_table_bench.specs.States.{IsIdle};
 mod bare;
 mod owner;
 
-use bare::Bare;
+use bare::{Bare, InHand};
 use far_word::Refused;
-use owner::{Owner, loads, made, pins, read_epochs, scopes, stores, views};
-use std::alloc::Global;
+use owner::{Owner, loads, made, pins, pins_alone, read_epochs, scopes, stores, views};
+use std::alloc::{AllocError, Global};
 use std::process::ExitCode;
 use std::{env, io};
 
@@ -21,11 +21,15 @@ enum Work {
     ReadEpoch,
     Scope,
     Pin,
+    PinAlone,
     Load,
     Store,
     BareLoad,
     BareStore,
     BareOr,
+    HandLoad,
+    HandStore,
+    HandOr,
 }
 
 fn named(name: &str) -> Option<Work> {
@@ -34,11 +38,15 @@ fn named(name: &str) -> Option<Work> {
         "read_epoch" => Work::ReadEpoch,
         "scope" => Work::Scope,
         "pin" => Work::Pin,
+        "pin_alone" => Work::PinAlone,
         "load" => Work::Load,
         "store" => Work::Store,
         "bare_load" => Work::BareLoad,
         "bare_store" => Work::BareStore,
         "bare_or" => Work::BareOr,
+        "hand_load" => Work::HandLoad,
+        "hand_store" => Work::HandStore,
+        "hand_or" => Work::HandOr,
         _ => return None,
     };
     Some(work)
@@ -73,6 +81,7 @@ fn on_seat(mut owner: Owner, task: Task) -> Option<u64>
         Work::ReadEpoch => Some(read_epochs(&mut owner, task.turns)),
         Work::Scope => Some(scopes(&mut owner, task.turns)),
         Work::Pin => Some(pins(&mut owner, task.turns)),
+        Work::PinAlone => Some(pins_alone(&mut owner, task.turns)),
         Work::Share => Some(0),
         _ => viewed(owner, task),
     }
@@ -107,28 +116,66 @@ fn bare_ors(mut bare: Bare, task: Task) -> u64
     last
 }
 
-fn on_bare(bare: Bare, task: Task) -> u64
+fn hand_loads(mut bare: InHand, task: Task) -> u64
     requires { task.index < 8 }
 {
-    match task.work {
-        Work::BareLoad => bare_loads(bare, task),
-        Work::BareStore => bare_stores(bare, task),
-        Work::BareOr => bare_ors(bare, task),
-        _ => 0,
+    let mut last = 0;
+    for _ in 0..task.turns {
+        last = bare.load(task.index);
     }
+    last
+}
+
+fn hand_stores(mut bare: InHand, task: Task) -> u64
+    requires { task.index < 8 }
+{
+    for turn in 0..task.turns {
+        bare.store(task.index, turn);
+    }
+    bare.load(task.index)
+}
+
+fn hand_ors(mut bare: InHand, task: Task) -> u64
+    requires { task.index < 8 }
+{
+    let mut last = 0;
+    for _ in 0..task.turns {
+        last = bare.fetch_or(task.index, 1);
+    }
+    last
+}
+
+fn on_bare(alloc: Global, task: Task) -> Result<u64, AllocError>
+    requires { task.index < 8 }
+{
+    let last = match task.work {
+        Work::BareLoad => bare_loads(Bare::new(alloc)?, task),
+        Work::BareStore => bare_stores(Bare::new(alloc)?, task),
+        Work::BareOr => bare_ors(Bare::new(alloc)?, task),
+        Work::HandLoad => hand_loads(InHand::new(alloc)?, task),
+        Work::HandStore => hand_stores(InHand::new(alloc)?, task),
+        Work::HandOr => hand_ors(InHand::new(alloc)?, task),
+        _ => 0,
+    };
+    Ok(last)
 }
 
 // What was found last; `None` where the task can't be done.
 fn done(alloc: Global, task: Task) -> Result<Option<u64>, Refused> {
     match task.work {
-        Work::BareLoad | Work::BareStore | Work::BareOr => {
+        Work::BareLoad
+        | Work::BareStore
+        | Work::BareOr
+        | Work::HandLoad
+        | Work::HandStore
+        | Work::HandOr => {
             if task.index >= 8 {
                 return Ok(None);
             }
-            let Ok(bare) = Bare::new(alloc) else {
-                return Err(Refused::Memory);
-            };
-            Ok(Some(on_bare(bare, task)))
+            match on_bare(alloc, task) {
+                Ok(last) => Ok(Some(last)),
+                Err(_) => Err(Refused::Memory),
+            }
         }
         _ => {
             let Some(owner) = made(alloc, task.pointer)? else {

@@ -62,6 +62,16 @@ fn pin(owner: &mut Owner) -> Result<Place, u64>
     owner.seat.pin(owner.pointer)
 }
 
+// The same, for a caller who asks no more than whether it is held.
+#[inline(never)]
+fn is_held(owner: &mut Owner) -> bool
+    requires { IsOpen owner.old.seat.view owner.old.pointer }
+    ensures object { HasObject owner.new.seat.view owner.new.pointer }
+    ensures opened { IsSome owner.new.seat.view.open_at }
+{
+    owner.seat.pin(owner.pointer).is_ok()
+}
+
 #[inline(never)]
 fn load(owner: &mut Owner, index: u16) -> u64
     requires view { IsViewing owner.old.seat.view owner.old.pointer }
@@ -119,6 +129,20 @@ pub(crate) fn pins(owner: &mut Owner, turns: u64) -> u64
         close(owner);
     }
     last
+}
+
+/// The same, without the place: 1 where it was held last.
+pub(crate) fn pins_alone(owner: &mut Owner, turns: u64) -> u64
+    requires { IsIdle owner.old.seat.view owner.old.pointer }
+{
+    let mut last = false;
+    for _ in 0..turns {
+        read_epoch(owner);
+        open(owner);
+        last = is_held(owner);
+        close(owner);
+    }
+    last as u64
 }
 
 /// Reads a word of the object so many times: the last that was found.
