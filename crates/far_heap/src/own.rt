@@ -121,11 +121,10 @@ impl<K: HeapName, D: Device> Own<K, D> {
             return None;
         }
         let cell = (p % CELLS) as usize;
-        if self.stamps[cell] == self.scope {
-            Some(self.lens[cell])
-        } else {
-            None
+        if self.stamps[cell] != self.scope {
+            return None;
         }
+        Some(self.lens[cell])
     }
 
     // A view of a pointer's object, by one pin, unless the scope has it already.
