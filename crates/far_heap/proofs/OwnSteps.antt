@@ -14,7 +14,7 @@ use Rattle.far_table.specs.Seats.{Seated}
 use Rattle.far_table.specs.Views.{closed_view, held_at, held_view, len_of as seat_len, object_at, uses as seat_uses}
 use Rattle.far_heap.specs.Mine.{IsNew, Mine, OwnOk, len_in, mine_of, uses, views}
 use Rattle.far_heap.specs.Ranges.{Wrote}
-use Rattle.far_heap.proofs.Mines.{len_own, uses_own, views_own}
+use Rattle.far_heap.proofs.Mines.{len_own, uses_own, views_own, views_so}
 
 pub seated_is : (t : Seated) (id : TableId) (v : OwnerView) → t.table ≡ id → t.view ≡ v → t ≡ record { table = id; view = v }
 seated_is t id v e f = λ i. record { table = e i; view = f i }
@@ -71,6 +71,16 @@ module _ (s : Seated) (name : TableId) (number : ℕ) (lens stamps : List ℕ) (
       (views (mine_of s) p ≡ true) × (len ≡ len_in (mine_of s) p) × (len ≤ LONGEST)
   len_viewed p x len own is e long = let mine : p / CELLS ≡ s.view.number = own ∙ sym ok.number_is in let l = row_len p len own long in
       (views_own s p mine ∙ stamp_held p x own is e, l ∙ sym (len_own s p mine), omega (arith, ok.short p own))
+
+  -- a pointer that is viewed is used
+  pub viewed_used : (p : ℕ) → views (mine_of s) p ≡ true → uses (mine_of s) p ≡ true
+  viewed_used p h = let so = views_so s p h in uses_own s p so.0 ∙ ok.held_used p (so.0 ∙ ok.number_is) so.1
+
+  pub stamp_views : (p x : ℕ) → p / CELLS ≡ number → x ≡ slice_index_or stamps (p % CELLS) x → x ≡ scope → views (mine_of s) p ≡ true
+  stamp_views p x own is e = views_own s p (own ∙ sym ok.number_is) ∙ stamp_held p x own is e
+
+  pub stamp_unviewed : (p x : ℕ) → p / CELLS ≡ number → x ≡ slice_index_or stamps (p % CELLS) x → x ≢ scope → views (mine_of s) p ≡ false
+  stamp_unviewed p x own is ne = views_own s p (own ∙ sym ok.number_is) ∙ stamp_free p x own is ne
 
   -- ---- a pin that held a place
   pub pinned_ok : (p : ℕ) (place : Place) → p / CELLS ≡ number → seat_uses s.view p ≡ true → OwnOk (record { table = s.table; view = held_view p place s.view }) name number lens (slice_set stamps (p % CELLS) scope) scope

@@ -1,2 +1,3 @@
 pub mod Mine
+pub mod Made
 pub mod Ranges

@@ -100,9 +100,12 @@ IsSlow len (Some Free) = ⊥
 IsSlow len (Some (Near n ds place marks)) = (n ≡ len) × ((marks.evac || marks.moved) ≡ true) × (marks.dropped ≡ false)
 IsSlow len (Some (Far n ds marks)) = (n ≡ len) × (marks.dropped ≡ false)
 
+abbrev pub view_of : ℕ → Mine → View
+view_of p m = record { pointer = p; len = len_in m p }
+
 -- a view of the object, which is viewed from then on; or such a word, and nothing has changed
 abbrev pub TriedSo : ℕ → Mine → Tried → Mine → Type 0
-TriedSo p m (Viewed view) n = (view ≡ record { pointer = p; len = len_in m p }) × (n ≡ viewing p m)
+TriedSo p m (Viewed view) n = (view ≡ view_of p m) × (n ≡ viewing p m)
 TriedSo p m (Slow word) n = (views m p ≡ false) × (n ≡ m) × IsSlow (len_in m p) (read_of word)
 
 -- ---- the mutator of a seat

@@ -1,6 +1,8 @@
 // What a mutator has, whether its scope is open or closed.
 ghost use Rattle.std.specs.Prelude.{◌≡◌, ◌+◌, ◌*◌, ◌/◌, ◌%◌, ◌<◌, ◌≤◌, ℕ, true, false, length, map, slice_range, slice_index, None, Some, IfOk, IfErr, IfSome};
-ghost use Rattle.far_heap.specs.Mine.{IsNew, TriedSo, access_refusal, bytes_in, closing, len_in, mine_of, opening, uses, views, viewing, writing};
+ghost use Rattle.far_heap.specs.Made.{Pinned};
+ghost use Rattle.far_heap.specs.declared.view.Tried.{Tried as any_tried};
+ghost use Rattle.far_heap.specs.Mine.{IsNew, TriedSo, access_refusal, bytes_in, closing, len_in, mine_of, opening, uses, view_of, views, viewing, writing};
 ghost use Rattle.far_word.specs.declared.refused.Refused.{Refused as any_refusal};
 ghost use Rattle.far_word.specs.declared.sizes.TheConstants.{CELLS, LONGEST, MOST_MUTATORS};
 
@@ -119,11 +121,10 @@ impl<K: HeapName, D: Device> Own<K, D> {
             return None;
         }
         let cell = (p % CELLS) as usize;
-        if self.stamps[cell] == self.scope {
-            Some(self.lens[cell])
-        } else {
-            None
+        if self.stamps[cell] != self.scope {
+            return None;
         }
+        Some(self.lens[cell])
     }
 
     // A view of a pointer's object, by one pin, unless the scope has it already.
@@ -131,6 +132,8 @@ impl<K: HeapName, D: Device> Own<K, D> {
         requires { self.old.opened ≡ true }
         ensures refused { IfErr result (λ why. (why ≡ Refused.NotHeld) × (uses self.old p ≡ false) × (self.new ≡ self.old)) }
         ensures tried { IfOk result (λ tried. (uses self.old p ≡ true) × TriedSo p self.old tried self.new) }
+        ensures again { views self.old p ≡ true → (result ≡ Ok (Tried.View (view_of p self.old))) × (self.new ≡ self.old) }
+        ensures pinned { views self.old p ≡ false → IfOk result (λ tried. Pinned p self.old tried self.new) }
     {
         let Some(len) = self.used_len(p) else {
             return Err(Refused::NotHeld);

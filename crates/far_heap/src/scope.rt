@@ -1,6 +1,8 @@
 // A mutator whose scope is open.
 ghost use Rattle.std.specs.Prelude.{◌≡◌, ◌+◌, true, false, length, slice_range, None, Some, IfOk, IfErr, IfSome};
-ghost use Rattle.far_heap.specs.Mine.{TriedSo, access_refusal, bytes_in, closing, len_in, uses, views, writing};
+ghost use Rattle.far_heap.specs.Made.{Pinned};
+ghost use Rattle.far_heap.specs.declared.view.Tried.{Tried as any_tried};
+ghost use Rattle.far_heap.specs.Mine.{TriedSo, access_refusal, bytes_in, closing, len_in, uses, view_of, views, writing};
 ghost use Rattle.far_word.specs.declared.refused.Refused.{Refused as any_refusal};
 
 use crate::mutator::Mutator;
@@ -44,6 +46,8 @@ impl<K: HeapName, D: Device> Scope<K, D> {
     pub fn try_view(&mut self, p: u16) -> Result<Tried, Refused>
         ensures refused { IfErr result (λ why. (why ≡ Refused.NotHeld) × (uses self.old p ≡ false) × (self.new ≡ self.old)) }
         ensures tried { IfOk result (λ tried. (uses self.old p ≡ true) × TriedSo p self.old tried self.new) }
+        ensures again { views self.old p ≡ true → (result ≡ Ok (Tried.View (view_of p self.old))) × (self.new ≡ self.old) }
+        ensures pinned { views self.old p ≡ false → IfOk result (λ tried. Pinned p self.old tried self.new) }
     {
         self.own.try_view(p)
     }

@@ -1,5 +1,6 @@
 use Rattle.std.proofs.Common.{◌≡◌, ℕ, ◌/◌, ◌%◌, true, false, Result, Ok, Err, ap, subst, sym, ◌∙◌}
 use Rattle.std.specs.Prelude.{slice_set}
+use Rattle.std.proofs.lemmas.Bool.{false≢true}
 use Rattle.far_word.specs.declared.pointer.Place.{Place}
 use Rattle.far_word.specs.declared.sizes.TheConstants.{CELLS}
 use Rattle.far_word.specs.Pointer.{read_of}
@@ -9,7 +10,7 @@ use Rattle.far_table.specs.Tells.{OwnerMade}
 use Rattle.far_heap.specs.declared.view.View.{View}
 use Rattle.far_heap.specs.Mine.{IsSlow, Mine, OwnOk, len_in, mine_of, uses, viewing, views}
 use Rattle.far_heap.proofs.Mines.{again_mine, len_own, pinned_mine, uses_so, views_own}
-use Rattle.far_heap.proofs.OwnSteps.{pinned_ok, seated_is, stamp_free, stamp_held}
+use Rattle.far_heap.proofs.OwnSteps.{pinned_ok, seated_is, stamp_free, stamp_held, stamp_unviewed, stamp_views, viewed_used}
 use Rattle.far_heap.proofs.Slow.{slow_found}
 use Rattle.far_heap.proofs.own.Own.try_view.Goals as goal
 
@@ -62,3 +63,35 @@ returns-in-Err-clause-tried g c =
         subst (λ (m : Mine). IsSlow (len_in m p) (read_of c.in-Err.word)) c.self.view_is (subst (λ n. IsSlow n (read_of c.in-Err.word)) (sym (len_own s.seat p so.0)) slow),
       ),
     )
+
+pub returns-in_default-clause-again : goal.returns-in_default-clause-again
+returns-in_default-clause-again g c = λ h.
+    let s = c.self.inside in
+    let p : ℕ = c.args.p in
+    let used = viewed_used s.seat _ s.number s.lens.items s.stamps.items s.scope c.self.invariant p (subst (λ (m : Mine). views m p ≡ true) (sym c.self.view_is) h) in
+    let unused = c.used_len.ensures.unused c.in_default.is in
+    absurd (false≢true (sym unused ∙ subst (λ (m : Mine). uses m p ≡ true) c.self.view_is used))
+
+pub returns-then-index-self-clause-pinned : goal.returns-then-index-self-clause-pinned
+returns-then-index-self-clause-pinned g c = λ h.
+    let s = c.self.inside in
+    let p : ℕ = c.args.p in
+    let own = (uses_so s.seat p (subst (λ (m : Mine). uses m p ≡ true) (sym c.self.view_is) c.in-Some.ensures.used.0)).0 in
+    let viewed = stamp_views s.seat _ s.number s.lens.items s.stamps.items s.scope c.self.invariant p c.index.result.now (own ∙ c.self.invariant.number_is) c.index.ensures c.if-index-self.true in
+    absurd (false≢true (sym h ∙ subst (λ (m : Mine). views m p ≡ true) c.self.view_is viewed))
+
+pub returns-in-Ok-clause-again : goal.returns-in-Ok-clause-again
+returns-in-Ok-clause-again g c = λ h.
+    let s = c.self.inside in
+    let p : ℕ = c.args.p in
+    let own = (uses_so s.seat p (subst (λ (m : Mine). uses m p ≡ true) (sym c.self.view_is) c.in-Some.ensures.used.0)).0 in
+    let free = stamp_unviewed s.seat _ s.number s.lens.items s.stamps.items s.scope c.self.invariant p c.index.result.now (own ∙ c.self.invariant.number_is) c.index.ensures c.if-index-self.false in
+    absurd (false≢true (sym (subst (λ (m : Mine). views m p ≡ false) c.self.view_is free) ∙ h))
+
+pub returns-in-Err-clause-again : goal.returns-in-Err-clause-again
+returns-in-Err-clause-again g c = λ h.
+    let s = c.self.inside in
+    let p : ℕ = c.args.p in
+    let own = (uses_so s.seat p (subst (λ (m : Mine). uses m p ≡ true) (sym c.self.view_is) c.in-Some.ensures.used.0)).0 in
+    let free = stamp_unviewed s.seat _ s.number s.lens.items s.stamps.items s.scope c.self.invariant p c.index.result.now (own ∙ c.self.invariant.number_is) c.index.ensures c.if-index-self.false in
+    absurd (false≢true (sym (subst (λ (m : Mine). views m p ≡ false) c.self.view_is free) ∙ h))

@@ -1,0 +1,25 @@
+-- Steps of a mutator as events of the core.
+use Rattle.std.specs.Prelude.{◌≡◌, ℕ}
+use Rattle.far_word.specs.declared.pointer.Place.{Place}
+use Rattle.far_core.specs.declared.event.Event.{Event}
+use Rattle.far_core.specs.declared.event.Event.TheVariants.{Pin}
+use Rattle.far_core.specs.declared.event.Reply.{Reply}
+use Rattle.far_core.specs.declared.event.Reply.TheVariants.{Held, Word}
+use Rattle.far_table.specs.Seats.{Seated}
+use Rattle.far_table.specs.Tells.{OwnerMade}
+use Rattle.far_heap.specs.declared.view.Tried.{Tried}
+use Rattle.far_heap.specs.declared.view.Tried.TheVariants.{View as Viewed, Slow}
+use Rattle.far_heap.specs.Mine.{Mine, mine_of}
+
+-- one event led from this mutator to that, with this answer: it was legal in a state of the core in which the mutator was as said, and made there
+pub record MadeBy (e : Event) (m : Mine) (r : Reply) (n : Mine) : Type 0 where
+  pub seat : Seated
+  pub later : Seated
+  pub before : mine_of seat ≡ m
+  pub after : mine_of later ≡ n
+  pub made : OwnerMade e seat.view r later.view
+
+-- a dereference was one pin, which found the object's place, or that word
+abbrev pub Pinned : ℕ → Mine → Tried → Mine → Type 0
+Pinned p m (Viewed view) n = (place : Place) × MadeBy (Pin m.number p) m (Held place) n
+Pinned p m (Slow word) n = MadeBy (Pin m.number p) m (Word word) n
