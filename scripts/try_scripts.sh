@@ -23,7 +23,7 @@ for crate in far_word far_evac far_text far_trace far_laws; do
 done
 cp "$here/far_trace" "$launcher"
 ln -s "$launcher" "$work/linked/trace"
-printf '%s\n' 'far_word: thiserror' 'far_evac: far_word' 'far_text: hex' 'far_laws: far_trace' 'far_trace: far_evac far_text' >"$tree/crates.txt"
+printf '%s\n' 'far_word:' 'far_evac may_wait=2: far_word  thiserror' 'far_text: hex' 'far_laws: far_trace' 'far_trace: far_evac far_text' >"$tree/crates.txt"
 cat >"$work/bin/rt" <<'END'
 #!/usr/bin/env bash
 # Answers as rt does, proves nothing, and makes a program that prints its input; where REFUSE is set, nothing is proved.
