@@ -5,7 +5,8 @@
 
 Each work is done N and 2N times, so that the difference is N turns, without the start. A turn is a call through a table of methods and the loop
 round it, the same for all works; within it the operation is inline. All is counted twice, and must come to the same. A scope is read_epoch, open and
-close; what a scope with a pin costs more is the pin's. The bare table lies in an Arc too, as threads share it.
+close. A pin can't be made again before its scope is closed: what a scope with a pin costs more, and an empty turn, make its turn. The bare table lies
+in an Arc too, as threads share it.
 """
 import pathlib
 import re
@@ -38,7 +39,7 @@ def a_turn(program, work):
 
 def measured(program):
     works = ["read_epoch", "scope", "pin", "place", "load", "store"]
-    works += [f"bare_{step}" for step in ("load", "store", "or", "scope", "pin")]
+    works += ["empty"] + [f"bare_{step}" for step in ("load", "store", "or", "scope", "pin")]
     return {work: a_turn(program, work) for work in works}
 
 
@@ -50,21 +51,21 @@ def main():
     for work, turn in cost.items():
         if again[work] != turn:
             print(f"seats: {work}: {turn} and then {again[work]}", file=sys.stderr)
+    empty = cost["empty"]
     rows = [
         ("read_epoch", cost["read_epoch"], cost["bare_load"]),
         ("read_epoch, open and close", cost["scope"], cost["bare_scope"]),
-        ("pin within it, whether it holds", cost["pin"] - cost["scope"], cost["bare_pin"] - cost["bare_scope"]),
-        ("pin within it, its place handed on", cost["place"] - cost["scope"], cost["bare_pin"] - cost["bare_scope"]),
-        ("pin with all of it", cost["pin"], cost["bare_pin"]),
+        ("pin, which tells whether it holds", cost["pin"] - cost["scope"] + empty, cost["bare_or"]),
+        ("pin, which tells the place", cost["place"] - cost["scope"] + empty, cost["bare_or"]),
+        ("read_epoch, open, pin and close", cost["pin"], cost["bare_pin"]),
         ("load", cost["load"], cost["bare_load"]),
         ("store", cost["store"], cost["bare_store"]),
-        ("a fetch-or", None, cost["bare_or"]),
     ]
-    print(f"Instructions a turn, {TURNS:,} turns:\n")
+    print(f"Instructions a turn, {TURNS:,} turns; an empty turn has {empty:g}:\n")
     print("| Turn | A seat's | Bare | Ratio |")
     print("|---|---|---|---|")
     for name, turn, bare in rows:
-        print(f"| {name} | {turn:g} | {bare:g} | {turn / bare:.2f} |" if turn else f"| {name} | | {bare:g} | |")
+        print(f"| {name} | {turn:g} | {bare:g} | {turn / bare:.2f} |")
 
 
 if __name__ == "__main__":

@@ -61,6 +61,18 @@ impl Bare {
     }
 }
 
+/// Nothing: what a turn costs by itself.
+#[derive(Drop)]
+pub(crate) struct Empties {
+    pub bare: Bare,
+}
+
+impl Turn for Empties {
+    fn turn(&mut self, _index: u16, _word: u64) -> u64 {
+        0
+    }
+}
+
 /// A load.
 #[derive(Drop)]
 pub(crate) struct Loads {

@@ -36,6 +36,7 @@ enum Call {
 
 #[derive(Clone, Copy)]
 enum Step {
+    Empty,
     Load,
     Store,
     Or,
@@ -52,6 +53,7 @@ fn named(name: &str) -> Option<Work> {
         "place" => Work::Seat(Call::Place),
         "load" => Work::Seat(Call::Load),
         "store" => Work::Seat(Call::Store),
+        "empty" => Work::Bare(Step::Empty),
         "bare_load" => Work::Bare(Step::Load),
         "bare_store" => Work::Bare(Step::Store),
         "bare_or" => Work::Bare(Step::Or),
@@ -106,6 +108,7 @@ fn on_bare(alloc: Global, step: Step, task: Task) -> Result<u64, AllocError>
 {
     let bare = Bare::new(alloc)?;
     let last = match step {
+        Step::Empty => turns(&mut bare::Empties { bare }, task.index, task.turns),
         Step::Load => turns(&mut bare::Loads { bare }, task.index, task.turns),
         Step::Store => turns(&mut bare::Stores { bare }, task.index, task.turns),
         Step::Or => turns(&mut bare::Ors { bare }, task.index, task.turns),

@@ -118,15 +118,15 @@ fn next(state: u64) -> u64 {
 
 fn act_of(state: u64) -> Act {
     let word = state % 256;
-    match (state >> 30) % 64 {
+    match (state >> 30) % 1024 {
         0 => Act::Ask(Mark::Moved),
         1 => Act::Ask(Mark::Dropped),
-        2..10 => Act::Adopt,
-        10..20 => Act::ReadEpoch,
-        20..30 => Act::Open,
-        30..34 => Act::Close,
-        34..44 => Act::Pin,
-        44..54 => Act::Load(0),
+        2..128 => Act::Adopt,
+        128..320 => Act::ReadEpoch,
+        320..480 => Act::Open,
+        480..544 => Act::Close,
+        544..704 => Act::Pin,
+        704..864 => Act::Load(0),
         _ => Act::Store(0, word),
     }
 }
@@ -136,7 +136,7 @@ fn goes_alike(mut owners: Vec<Owner>, mut core: Core) -> bool {
     let mut state = 1;
     for _ in 0..4000u16 {
         state = next(state);
-        let number = (state >> 50) as u8 % 8;
+        let number = (state >> 61) as u8;
         let act = act_of(state);
         let Some(owner) = owners.get_mut(7 - number as usize) else {
             return false;
