@@ -3,8 +3,10 @@
 
     bench/seats.py [PROGRAM]     PROGRAM: crates/far_table_bench/out/far_table_bench, which `rt run` builds
 
-Each work is done N and 2N times, so that the difference is N turns of a loop, without the start: a turn is one call (never inlined) and the loop
-round it. All is counted twice, and must come to the same. A scope is read_epoch, open and close; what a scope with a pin costs more is the pin's.
+Each work is done N and 2N times, so that the difference is N turns, without the start. A turn is a call through a table of methods and the loop
+round it, the same for all works; within it the operation is inline. All is counted twice, and must come to the same. A scope is read_epoch, open and
+close. A pin can't be made again before its scope is closed: what a scope with a pin costs more, and an empty turn, make its turn. The bare table lies
+in an Arc too, as threads share it.
 """
 import pathlib
 import re
@@ -36,9 +38,9 @@ def a_turn(program, work):
 
 
 def measured(program):
-    works = ["read_epoch", "scope", "pin", "pin_alone", "load", "store"]
-    bare = [f"{held}_{step}" for held in ("bare", "hand") for step in ("load", "store", "or")]
-    return {work: a_turn(program, work) for work in works + bare}
+    works = ["read_epoch", "scope", "pin", "place", "load", "store"]
+    works += ["empty"] + [f"bare_{step}" for step in ("load", "store", "or", "scope", "pin")]
+    return {work: a_turn(program, work) for work in works}
 
 
 def main():
@@ -49,20 +51,21 @@ def main():
     for work, turn in cost.items():
         if again[work] != turn:
             print(f"seats: {work}: {turn} and then {again[work]}", file=sys.stderr)
+    empty = cost["empty"]
     rows = [
-        ("read_epoch", cost["read_epoch"], "load", 1),
-        ("open and close", cost["scope"] - cost["read_epoch"], "store", 2),
-        ("pin, its place handed on", cost["pin"] - cost["scope"], "or", 1),
-        ("pin, whether it holds", cost["pin_alone"] - cost["scope"], "or", 1),
-        ("load", cost["load"], "load", 1),
-        ("store", cost["store"], "store", 1),
+        ("read_epoch", cost["read_epoch"], cost["bare_load"]),
+        ("read_epoch, open and close", cost["scope"], cost["bare_scope"]),
+        ("pin, which tells whether it holds", cost["pin"] - cost["scope"] + empty, cost["bare_or"]),
+        ("pin, which tells the place", cost["place"] - cost["scope"] + empty, cost["bare_or"]),
+        ("read_epoch, open, pin and close", cost["pin"], cost["bare_pin"]),
+        ("load", cost["load"], cost["bare_load"]),
+        ("store", cost["store"], cost["bare_store"]),
     ]
-    print(f"Instructions a turn, {TURNS:,} turns:\n")
-    print("| Call | A seat's | Bare, shared | Ratio | Bare, in hand | Ratio |")
-    print("|---|---|---|---|---|---|")
-    for name, turn, step, times in rows:
-        shared, hand = times * cost[f"bare_{step}"], times * cost[f"hand_{step}"]
-        print(f"| {name} | {turn:g} | {shared:g} | {turn / shared:.2f} | {hand:g} | {turn / hand:.2f} |")
+    print(f"Instructions a turn, {TURNS:,} turns; an empty turn has {empty:g}:\n")
+    print("| Turn | A seat's | Bare | Ratio |")
+    print("|---|---|---|---|")
+    for name, turn, bare in rows:
+        print(f"| {name} | {turn:g} | {bare:g} | {turn / bare:.2f} |")
 
 
 if __name__ == "__main__":

@@ -1,4 +1,4 @@
-//! Makes one call of an owner's seat many times, or the same atomic operation on a bare table, so that what a call costs can be counted.
+//! Makes a call of an owner's seat many times, or the same atomic operation on a bare table, so that what a call costs can be counted.
 #![tactic(auto)]
 
 ghost use Rattle.std.specs.Prelude.{◌<◌};
@@ -6,53 +6,65 @@ ghost use Rattle.far_table_bench.specs.States.{IsIdle};
 
 mod bare;
 mod owner;
+mod turn;
 
-use bare::{Bare, InHand};
+use bare::Bare;
 use far_word::Refused;
-use owner::{Owner, loads, made, pins, pins_alone, read_epochs, scopes, stores, views};
+use owner::{Owner, made, views};
 use std::alloc::{AllocError, Global};
 use std::process::ExitCode;
 use std::{env, io};
+use turn::turns;
 
-// What is done.
+// What is done: a call of a seat, or an operation on a bare table.
 #[derive(Clone, Copy)]
 enum Work {
+    Seat(Call),
+    Bare(Step),
+}
+
+#[derive(Clone, Copy)]
+enum Call {
     Share,
     ReadEpoch,
     Scope,
     Pin,
-    PinAlone,
+    Place,
     Load,
     Store,
-    BareLoad,
-    BareStore,
-    BareOr,
-    HandLoad,
-    HandStore,
-    HandOr,
+}
+
+#[derive(Clone, Copy)]
+enum Step {
+    Empty,
+    Load,
+    Store,
+    Or,
+    Scope,
+    Pin,
 }
 
 fn named(name: &str) -> Option<Work> {
     let work = match name {
-        "share" => Work::Share,
-        "read_epoch" => Work::ReadEpoch,
-        "scope" => Work::Scope,
-        "pin" => Work::Pin,
-        "pin_alone" => Work::PinAlone,
-        "load" => Work::Load,
-        "store" => Work::Store,
-        "bare_load" => Work::BareLoad,
-        "bare_store" => Work::BareStore,
-        "bare_or" => Work::BareOr,
-        "hand_load" => Work::HandLoad,
-        "hand_store" => Work::HandStore,
-        "hand_or" => Work::HandOr,
+        "share" => Work::Seat(Call::Share),
+        "read_epoch" => Work::Seat(Call::ReadEpoch),
+        "scope" => Work::Seat(Call::Scope),
+        "pin" => Work::Seat(Call::Pin),
+        "place" => Work::Seat(Call::Place),
+        "load" => Work::Seat(Call::Load),
+        "store" => Work::Seat(Call::Store),
+        "empty" => Work::Bare(Step::Empty),
+        "bare_load" => Work::Bare(Step::Load),
+        "bare_store" => Work::Bare(Step::Store),
+        "bare_or" => Work::Bare(Step::Or),
+        "bare_scope" => Work::Bare(Step::Scope),
+        "bare_pin" => Work::Bare(Step::Pin),
         _ => return None,
     };
     Some(work)
 }
 
-// How often, of which pointer of owner 0, and at which word of its object.
+// How often, of which pointer of owner 0, and at which word.
 #[derive(Clone, Copy)]
 struct Task {
     work: Work,
@@ -61,127 +73,66 @@ struct Task {
     index: u16,
 }
 
-fn viewed(mut owner: Owner, task: Task) -> Option<u64>
-    requires { IsIdle owner.seat.view owner.pointer }
+fn viewed(mut owner: Owner, call: Call, task: Task) -> Option<u64>
+    requires idle { IsIdle owner.seat.view owner.pointer }
+    requires inside { task.index < 8 }
 {
-    if !views(&mut owner) || task.index >= 8 {
+    if !views(&mut owner) {
         return None;
     }
-    match task.work {
-        Work::Load => Some(loads(&mut owner, task.index, task.turns)),
-        Work::Store => Some(stores(&mut owner, task.index, task.turns)),
-        _ => Some(0),
-    }
-}
-
-fn on_seat(mut owner: Owner, task: Task) -> Option<u64>
-    requires { IsIdle owner.seat.view owner.pointer }
-{
-    match task.work {
-        Work::ReadEpoch => Some(read_epochs(&mut owner, task.turns)),
-        Work::Scope => Some(scopes(&mut owner, task.turns)),
-        Work::Pin => Some(pins(&mut owner, task.turns)),
-        Work::PinAlone => Some(pins_alone(&mut owner, task.turns)),
-        Work::Share => Some(0),
-        _ => viewed(owner, task),
-    }
-}
-
-fn bare_loads(mut bare: Bare, task: Task) -> u64
-    requires { task.index < 8 }
-{
-    let mut last = 0;
-    for _ in 0..task.turns {
-        last = bare.load(task.index);
-    }
-    last
-}
-
-fn bare_stores(mut bare: Bare, task: Task) -> u64
-    requires { task.index < 8 }
-{
-    for turn in 0..task.turns {
-        bare.store(task.index, turn);
-    }
-    bare.load(task.index)
-}
-
-fn bare_ors(mut bare: Bare, task: Task) -> u64
-    requires { task.index < 8 }
-{
-    let mut last = 0;
-    for _ in 0..task.turns {
-        last = bare.fetch_or(task.index, 1);
-    }
-    last
-}
-
-fn hand_loads(mut bare: InHand, task: Task) -> u64
-    requires { task.index < 8 }
-{
-    let mut last = 0;
-    for _ in 0..task.turns {
-        last = bare.load(task.index);
-    }
-    last
-}
-
-fn hand_stores(mut bare: InHand, task: Task) -> u64
-    requires { task.index < 8 }
-{
-    for turn in 0..task.turns {
-        bare.store(task.index, turn);
-    }
-    bare.load(task.index)
-}
-
-fn hand_ors(mut bare: InHand, task: Task) -> u64
-    requires { task.index < 8 }
-{
-    let mut last = 0;
-    for _ in 0..task.turns {
-        last = bare.fetch_or(task.index, 1);
-    }
-    last
-}
-
-fn on_bare(alloc: Global, task: Task) -> Result<u64, AllocError>
-    requires { task.index < 8 }
-{
-    let last = match task.work {
-        Work::BareLoad => bare_loads(Bare::new(alloc)?, task),
-        Work::BareStore => bare_stores(Bare::new(alloc)?, task),
-        Work::BareOr => bare_ors(Bare::new(alloc)?, task),
-        Work::HandLoad => hand_loads(InHand::new(alloc)?, task),
-        Work::HandStore => hand_stores(InHand::new(alloc)?, task),
-        Work::HandOr => hand_ors(InHand::new(alloc)?, task),
+    let last = match call {
+        Call::Load => turns(&mut owner::Loads { owner }, task.index, task.turns),
+        Call::Store => turns(&mut owner::Stores { owner }, task.index, task.turns),
         _ => 0,
+    };
+    Some(last)
+}
+
+fn on_seat(owner: Owner, call: Call, task: Task) -> Option<u64>
+    requires idle { IsIdle owner.seat.view owner.pointer }
+    requires inside { task.index < 8 }
+{
+    let last = match call {
+        Call::Share => 0,
+        Call::ReadEpoch => turns(&mut owner::Epochs { owner }, task.index, task.turns),
+        Call::Scope => turns(&mut owner::Scopes { owner }, task.index, task.turns),
+        Call::Pin => turns(&mut owner::Pins { owner }, task.index, task.turns),
+        Call::Place => turns(&mut owner::Places { owner }, task.index, task.turns),
+        Call::Load | Call::Store => return viewed(owner, call, task),
+    };
+    Some(last)
+}
+
+fn on_bare(alloc: Global, step: Step, task: Task) -> Result<u64, AllocError>
+    requires { task.index < 8 }
+{
+    let bare = Bare::new(alloc)?;
+    let last = match step {
+        Step::Empty => turns(&mut bare::Empties { bare }, task.index, task.turns),
+        Step::Load => turns(&mut bare::Loads { bare }, task.index, task.turns),
+        Step::Store => turns(&mut bare::Stores { bare }, task.index, task.turns),
+        Step::Or => turns(&mut bare::Ors { bare }, task.index, task.turns),
+        Step::Scope => turns(&mut bare::Scopes { bare }, task.index, task.turns),
+        Step::Pin => turns(&mut bare::Pins { bare }, task.index, task.turns),
     };
     Ok(last)
 }
 
 // What was found last; `None` where the task can't be done.
 fn done(alloc: Global, task: Task) -> Result<Option<u64>, Refused> {
+    if task.index >= 8 {
+        return Ok(None);
+    }
     match task.work {
-        Work::BareLoad
-        | Work::BareStore
-        | Work::BareOr
-        | Work::HandLoad
-        | Work::HandStore
-        | Work::HandOr => {
-            if task.index >= 8 {
-                return Ok(None);
-            }
-            match on_bare(alloc, task) {
-                Ok(last) => Ok(Some(last)),
-                Err(_) => Err(Refused::Memory),
-            }
-        }
-        _ => {
+        Work::Bare(step) => match on_bare(alloc, step, task) {
+            Ok(last) => Ok(Some(last)),
+            Err(_) => Err(Refused::Memory),
+        },
+        Work::Seat(call) => {
             let Some(owner) = made(alloc, task.pointer)? else {
                 return Ok(None);
             };
-            Ok(on_seat(owner, task))
+            Ok(on_seat(owner, call, task))
         }
     }
 }
@@ -204,24 +155,29 @@ fn task_of(words: &[String]) -> Option<Task> {
     })
 }
 
-fn main(rt: HostRuntime) -> io::Result<ExitCode> {
-    let words: Vec<String> = env::args(&rt)?.collect(rt.alloc())?;
-    let Some(task) = task_of(&words) else {
-        eprintln!(rt; "usage: far_table_bench WORK TURNS POINTER INDEX")?;
-        return Ok(ExitCode::from(2));
+fn asked(rt: &HostRuntime) -> io::Result<Option<Task>> {
+    let words: Vec<String> = env::args(rt)?.collect(rt.alloc())?;
+    Ok(task_of(&words))
+}
+
+fn failed(rt: &impl Eprint, text: &str, status: u8) -> ExitCode {
+    let _ = eprintln!(rt; "{text}");
+    ExitCode::from(status)
+}
+
+fn main(rt: HostRuntime) -> ExitCode {
+    let Ok(asked) = asked(&rt) else {
+        return failed(&rt, "memory", 1);
+    };
+    let Some(task) = asked else {
+        return failed(&rt, "usage: far_table_bench WORK TURNS POINTER INDEX", 2);
     };
     match done(rt.alloc(), task) {
-        Ok(Some(last)) => {
-            println!(rt; "{last}")?;
-            Ok(ExitCode::SUCCESS)
-        }
-        Ok(None) => {
-            eprintln!(rt; "the task can't be done")?;
-            Ok(ExitCode::from(2))
-        }
-        Err(_) => {
-            eprintln!(rt; "memory")?;
-            Ok(ExitCode::FAILURE)
-        }
+        Ok(Some(last)) => match println!(rt; "{last}") {
+            Ok(()) => ExitCode::SUCCESS,
+            Err(_) => failed(&rt, "output", 1),
+        },
+        Ok(None) => failed(&rt, "the task can't be done", 2),
+        Err(_) => failed(&rt, "memory", 1),
     }
 }

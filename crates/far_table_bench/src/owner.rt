@@ -1,15 +1,16 @@
-// The seat of an owner, and its calls that are counted: each stands alone, so that no caller takes it in.
+// An owner's seat, and what is counted on it.
 ghost use Rattle.std.specs.Prelude.{◌≡◌, ◌<◌, true, false, Some, None, IsTrue, IfOk, IfErr, IfSome, IsSome};
 ghost use Rattle.far_word.specs.declared.sizes.TheConstants.{CELLS};
 ghost use Rattle.far_word.specs.declared.scope.ScopeWord.TheVariants.{Closed};
 ghost use Rattle.far_word.specs.Scope.{scope_of};
 ghost use Rattle.far_core.specs.state.CoreState.{core_state};
-ghost use Rattle.far_table_bench.specs.States.{HasObject, IsFresh, IsIdle, IsOpen, IsViewing};
+ghost use Rattle.far_table_bench.specs.States.{IsFresh, IsIdle, IsViewing};
 
+use crate::turn::Turn;
 use far_core::{Core, Event, Reply, Shape};
 use far_device::MemDevice;
 use far_table::{MutSeat, share};
-use far_word::{CELLS, Place, PtrWord, Refused, ScopeWord};
+use far_word::{CELLS, PtrWord, Refused, ScopeWord};
 use std::alloc::Global;
 use std::snapshot::Snapshot;
 
@@ -22,150 +23,108 @@ const SHAPE: Shape = Shape {
 /// An owner's seat, and one of its pointers.
 #[derive(Drop)]
 pub(crate) struct Owner {
-    seat: MutSeat<MemDevice>,
-    pointer: u16,
+    pub seat: MutSeat<MemDevice>,
+    pub pointer: u16,
 }
 
-#[inline(never)]
-fn read_epoch(owner: &mut Owner) -> u64
-    requires { IsIdle owner.old.seat.view owner.old.pointer }
-    ensures idle { IsIdle owner.new.seat.view owner.new.pointer }
-    ensures read { IsSome owner.new.seat.view.epoch }
-{
-    owner.seat.read_epoch()
+/// A load of the epoch.
+#[derive(Drop)]
+pub(crate) struct Epochs {
+    pub owner: Owner,
+    ghost idle: { IsIdle owner.seat.view owner.pointer },
 }
 
-#[inline(never)]
-fn open(owner: &mut Owner)
-    requires idle { IsIdle owner.old.seat.view owner.old.pointer }
-    requires read { IsSome owner.old.seat.view.epoch }
-    ensures { IsOpen owner.new.seat.view owner.new.pointer }
-{
-    owner.seat.open();
-}
-
-#[inline(never)]
-fn close(owner: &mut Owner)
-    requires object { HasObject owner.old.seat.view owner.old.pointer }
-    requires opened { IsSome owner.old.seat.view.open_at }
-    ensures { IsIdle owner.new.seat.view owner.new.pointer }
-{
-    owner.seat.close();
-}
-
-#[inline(never)]
-fn pin(owner: &mut Owner) -> Result<Place, u64>
-    requires { IsOpen owner.old.seat.view owner.old.pointer }
-    ensures held { IfOk result (λ _. IsViewing owner.new.seat.view owner.new.pointer) }
-    ensures refused { IfErr result (λ _. IsOpen owner.new.seat.view owner.new.pointer) }
-{
-    owner.seat.pin(owner.pointer)
-}
-
-// The same, for a caller who asks no more than whether it is held.
-#[inline(never)]
-fn is_held(owner: &mut Owner) -> bool
-    requires { IsOpen owner.old.seat.view owner.old.pointer }
-    ensures object { HasObject owner.new.seat.view owner.new.pointer }
-    ensures opened { IsSome owner.new.seat.view.open_at }
-{
-    owner.seat.pin(owner.pointer).is_ok()
-}
-
-#[inline(never)]
-fn load(owner: &mut Owner, index: u16) -> u64
-    requires view { IsViewing owner.old.seat.view owner.old.pointer }
-    requires inside { index < 8 }
-    ensures { IsViewing owner.new.seat.view owner.new.pointer }
-{
-    owner.seat.load(owner.pointer, index)
-}
-
-#[inline(never)]
-fn store(owner: &mut Owner, index: u16, word: u64)
-    requires view { IsViewing owner.old.seat.view owner.old.pointer }
-    requires inside { index < 8 }
-    ensures { IsViewing owner.new.seat.view owner.new.pointer }
-{
-    owner.seat.store(owner.pointer, index, word);
-}
-
-/// Reads the epoch so many times: the last that was found.
-pub(crate) fn read_epochs(owner: &mut Owner, turns: u64) -> u64
-    requires { IsIdle owner.old.seat.view owner.old.pointer }
-{
-    let mut last = 0;
-    for _ in 0..turns {
-        last = read_epoch(owner);
+impl Turn for Epochs {
+    fn turn(&mut self, _index: u16, _word: u64) -> u64 {
+        self.owner.seat.read_epoch()
     }
-    last
 }
 
-/// Opens and closes the scope so many times: the last epoch.
-pub(crate) fn scopes(owner: &mut Owner, turns: u64) -> u64
-    requires { IsIdle owner.old.seat.view owner.old.pointer }
-{
-    let mut last = 0;
-    for _ in 0..turns {
-        last = read_epoch(owner);
-        open(owner);
-        close(owner);
+/// A scope: the epoch is read, the scope opened and closed.
+#[derive(Drop)]
+pub(crate) struct Scopes {
+    pub owner: Owner,
+    ghost idle: { IsIdle owner.seat.view owner.pointer },
+}
+
+impl Turn for Scopes {
+    fn turn(&mut self, _index: u16, _word: u64) -> u64 {
+        let seat = &mut self.owner.seat;
+        let epoch = seat.read_epoch();
+        seat.open();
+        seat.close();
+        epoch
     }
-    last
 }
 
-/// The same, with the object in view each time: the last place.
-pub(crate) fn pins(owner: &mut Owner, turns: u64) -> u64
-    requires { IsIdle owner.old.seat.view owner.old.pointer }
-{
-    let mut last = 0;
-    for _ in 0..turns {
-        read_epoch(owner);
-        open(owner);
-        last = match pin(owner) {
+/// The same, with a pin: 1 where it holds.
+#[derive(Drop)]
+pub(crate) struct Pins {
+    pub owner: Owner,
+    ghost idle: { IsIdle owner.seat.view owner.pointer },
+}
+
+impl Turn for Pins {
+    fn turn(&mut self, _index: u16, _word: u64) -> u64 {
+        let pointer = self.owner.pointer;
+        let seat = &mut self.owner.seat;
+        seat.read_epoch();
+        seat.open();
+        let held = seat.pin(pointer).is_ok();
+        seat.close();
+        held as u64
+    }
+}
+
+/// The same, with what the pin answers: the word of the place, or the word that was found.
+#[derive(Drop)]
+pub(crate) struct Places {
+    pub owner: Owner,
+    ghost idle: { IsIdle owner.seat.view owner.pointer },
+}
+
+impl Turn for Places {
+    fn turn(&mut self, _index: u16, _word: u64) -> u64 {
+        let pointer = self.owner.pointer;
+        let seat = &mut self.owner.seat;
+        seat.read_epoch();
+        seat.open();
+        let found = match seat.pin(pointer) {
             Ok(place) => place.at as u64,
             Err(word) => word,
         };
-        close(owner);
+        seat.close();
+        found
     }
-    last
 }
 
-/// The same, without the place: 1 where it was held last.
-pub(crate) fn pins_alone(owner: &mut Owner, turns: u64) -> u64
-    requires { IsIdle owner.old.seat.view owner.old.pointer }
-{
-    let mut last = false;
-    for _ in 0..turns {
-        read_epoch(owner);
-        open(owner);
-        last = is_held(owner);
-        close(owner);
-    }
-    last as u64
+/// A load of a word of the object.
+#[derive(Drop)]
+pub(crate) struct Loads {
+    pub owner: Owner,
+    ghost viewing: { IsViewing owner.seat.view owner.pointer },
 }
 
-/// Reads a word of the object so many times: the last that was found.
-pub(crate) fn loads(owner: &mut Owner, index: u16, turns: u64) -> u64
-    requires view { IsViewing owner.old.seat.view owner.old.pointer }
-    requires inside { index < 8 }
-{
-    let mut last = 0;
-    for _ in 0..turns {
-        last = load(owner, index);
+impl Turn for Loads {
+    fn turn(&mut self, index: u16, _word: u64) -> u64 {
+        let pointer = self.owner.pointer;
+        self.owner.seat.load(pointer, index)
     }
-    last
 }
 
-/// Writes a word of the object so many times: the last that it has.
-pub(crate) fn stores(owner: &mut Owner, index: u16, turns: u64) -> u64
-    requires view { IsViewing owner.old.seat.view owner.old.pointer }
-    requires inside { index < 8 }
-{
-    for turn in 0..turns {
-        store(owner, index, turn);
+/// A store of one.
+#[derive(Drop)]
+pub(crate) struct Stores {
+    pub owner: Owner,
+    ghost viewing: { IsViewing owner.seat.view owner.pointer },
+}
+
+impl Turn for Stores {
+    fn turn(&mut self, index: u16, word: u64) -> u64 {
+        let pointer = self.owner.pointer;
+        self.owner.seat.store(pointer, index, word);
+        0
     }
-    load(owner, index)
 }
 
 /// Brings the object into view, if it is near without marks.
@@ -173,9 +132,9 @@ pub(crate) fn views(owner: &mut Owner) -> bool
     requires { IsIdle owner.old.seat.view owner.old.pointer }
     ensures { result ≡ true → IsViewing owner.new.seat.view owner.new.pointer }
 {
-    read_epoch(owner);
-    open(owner);
-    pin(owner).is_ok()
+    owner.seat.read_epoch();
+    owner.seat.open();
+    owner.seat.pin(owner.pointer).is_ok()
 }
 
 // A core with an object of 64 bytes of one of owner 0's pointers, if the far side is honest and the owner has done nothing yet.

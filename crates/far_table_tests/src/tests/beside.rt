@@ -1,6 +1,7 @@
 //! Owners side by side, each in a thread of its own.
 
 use super::*;
+use far_word::Mark;
 use std::test::Fail;
 use std::thread;
 use std::thread::{Threads, join};
@@ -67,11 +68,17 @@ fn takes_turns(mut owner: Owner, turns: u64, own: u64) -> bool {
     true
 }
 
-fn made(alloc: Global, owners: u8) -> Result<Vec<Owner>, Refused> {
+fn placed(alloc: Global, owners: u8) -> Result<Core, Refused> {
     let mut core = Core::new(alloc, shape(owners as u64), true)?;
-    if !places_for(&mut core, owners) {
-        return Err(Refused::Range);
+    if places_for(&mut core, owners) {
+        Ok(core)
+    } else {
+        Err(Refused::Range)
     }
+}
+
+fn made(alloc: Global, owners: u8) -> Result<Vec<Owner>, Refused> {
+    let core = placed(alloc, owners)?;
     shared(alloc, core)
 }
 
@@ -99,5 +106,53 @@ fn eight_owners_in_eight_threads(rt: HostRuntime) -> Result<(), Fail> {
     for each in &done {
         assert!(rt; *each);
     }
+    Ok(())
+}
+
+// The next of a row of numbers that look chosen at random.
+fn next(state: u64) -> u64 {
+    state
+        .wrapping_mul(6_364_136_223_846_793_005)
+        .wrapping_add(1_442_695_040_888_963_407)
+}
+
+fn act_of(state: u64) -> Act {
+    let word = state % 256;
+    match (state >> 30) % 1024 {
+        0 => Act::Ask(Mark::Moved),
+        1 => Act::Ask(Mark::Dropped),
+        2..128 => Act::Adopt,
+        128..320 => Act::ReadEpoch,
+        320..480 => Act::Open,
+        480..544 => Act::Close,
+        544..704 => Act::Pin,
+        704..864 => Act::Load(0),
+        _ => Act::Store(0, word),
+    }
+}
+
+// Whether the owners of a core that was shared, the last first, get the answers that their events get of a core that wasn't.
+fn goes_alike(mut owners: Vec<Owner>, mut core: Core) -> bool {
+    let mut state = 1;
+    for _ in 0..4000u16 {
+        state = next(state);
+        let number = (state >> 61) as u8;
+        let act = act_of(state);
+        let Some(owner) = owners.get_mut(7 - number as usize) else {
+            return false;
+        };
+        let event = act.event(number, CELLS * number as u16);
+        if owner.act(act) != core.step(event) {
+            return false;
+        }
+    }
+    true
+}
+
+#[test]
+fn calls_answer_as_events_of_a_core(rt: HostRuntime) -> Result<(), Fail> {
+    let core = placed(rt.alloc(), 8)?;
+    let owners = made(rt.alloc(), 8)?;
+    assert!(rt; goes_alike(owners, core));
     Ok(())
 }
