@@ -5,3 +5,4 @@ pub mod Slow
 pub mod Spliced
 pub mod Parts
 pub mod Accesses
+pub mod Newcomers

@@ -131,6 +131,17 @@ mine_of s = record {
   viewed = own_row (λ p. is_some (held_at s.view p)) s.view.number;
 }
 
+-- a mutator of a new heap
+abbrev pub newcomer : TableId → ℕ → Bool → Mine
+newcomer table number honest = record {
+  table = table;
+  number = number;
+  honest = honest;
+  opened = false;
+  objects = own_row (λ _. None) number;
+  viewed = own_row (λ _. false) number;
+}
+
 -- a mutator's own numbers fit its seat: the length of each object that it uses, 0 where it uses none; and what the open scope views, by its count of scopes
 pub record OwnOk (s : Seated) (name : TableId) (number : ℕ) (lens stamps : List ℕ) (scope : ℕ) : Type 0 where
   pub table : s.table ≡ name

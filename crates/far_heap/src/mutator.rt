@@ -1,6 +1,6 @@
 // A mutator whose scope is closed.
 ghost use Rattle.std.specs.Prelude.{◌≡◌, ◌<◌, false, IfOk, IfErr};
-ghost use Rattle.far_heap.specs.Mine.{IsNew, mine_of, opening};
+ghost use Rattle.far_heap.specs.Mine.{IsNew, newcomer, opening};
 ghost use Rattle.far_word.specs.declared.refused.Refused.{Refused as any_refusal};
 ghost use Rattle.far_word.specs.declared.sizes.TheConstants.{MOST_MUTATORS};
 
@@ -37,7 +37,7 @@ impl<K: HeapName, D: Device> Mutator<K, D> {
         requires new { IsNew number seat.view }
         requires few { number < MOST_MUTATORS }
         ensures refused { IfErr result (λ why. why ≡ Refused.Memory) }
-        ensures made { IfOk result (λ m. m ≡ mine_of seat) }
+        ensures made { IfOk result (λ m. m ≡ newcomer K.table number seat.view.honest) }
     {
         match Own::new(alloc, seat, number) {
             Ok(own) => Ok(Mutator { own }),

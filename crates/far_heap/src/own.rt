@@ -2,7 +2,7 @@
 ghost use Rattle.std.specs.Prelude.{◌≡◌, ◌+◌, ◌*◌, ◌/◌, ◌%◌, ◌<◌, ◌≤◌, ℕ, true, false, length, map, slice_range, slice_index, None, Some, IfOk, IfErr, IfSome};
 ghost use Rattle.far_heap.specs.Made.{Pinned};
 ghost use Rattle.far_heap.specs.declared.view.Tried.{Tried as any_tried};
-ghost use Rattle.far_heap.specs.Mine.{IsNew, TriedSo, access_refusal, bytes_in, closing, len_in, mine_of, opening, uses, view_of, views, viewing, writing};
+ghost use Rattle.far_heap.specs.Mine.{IsNew, TriedSo, access_refusal, bytes_in, closing, len_in, newcomer, opening, uses, view_of, views, viewing, writing};
 ghost use Rattle.far_word.specs.declared.refused.Refused.{Refused as any_refusal};
 ghost use Rattle.far_word.specs.declared.sizes.TheConstants.{CELLS, LONGEST, MOST_MUTATORS};
 
@@ -68,7 +68,7 @@ impl<K: HeapName, D: Device> Own<K, D> {
         requires table { seat.table ≡ K.table }
         requires new { IsNew number seat.view }
         requires few { number < MOST_MUTATORS }
-        ensures { IfOk result (λ own. own ≡ mine_of seat) }
+        ensures { IfOk result (λ own. own ≡ newcomer K.table number seat.view.honest) }
     {
         let lens = vec![in alloc; 0; CELLS as usize]?;
         let stamps = vec![in alloc; 0; CELLS as usize]?;

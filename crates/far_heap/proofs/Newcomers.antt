@@ -1,0 +1,42 @@
+-- A mutator of a new heap.
+use Rattle.std.proofs.Common.{◌≡◌, ◌≢◌, ℕ, ◌+◌, ◌*◌, ◌/◌, ◌^◌, Bool, true, false, Option, Some, None, is_some, refl, sym, ap, ◌∙◌, inl, inr, arith}
+use Rattle.std.proofs.lemmas.Bool.{cases_eq}
+use Rattle.far_word.specs.declared.sizes.TheConstants.{CELLS}
+use Rattle.far_core.specs.declared.shape.Shape.{Shape}
+use Rattle.far_core.specs.events.Open.{scope_word_of}
+use Rattle.far_core.specs.state.Opening.{opening}
+use Rattle.far_table.specs.declared.view.OwnerView.{OwnerView}
+use Rattle.far_table.specs.Seats.{Seated}
+use Rattle.far_table.specs.Stands.{SaysOwner}
+use Rattle.far_table.specs.Views.{held_at, object_at}
+use Rattle.far_heap.specs.Mine.{IsNew, Mine, mine_of, newcomer, own_row, seen}
+use Rattle.far_heap.proofs.Mines.{none_there}
+
+pub new_mine : (s : Seated) (number : ℕ) → IsNew number s.view → mine_of s ≡ newcomer s.table number s.view.honest
+new_mine s number new = λ i. record {
+  table = s.table;
+  number = new.number_is i;
+  honest = s.view.honest;
+  opened = is_some (new.closed i);
+  objects = own_row (λ p. seen s.view.honest (new.unused p i)) (new.number_is i);
+  viewed = own_row (λ p. is_some (new.free p i)) (new.number_is i);
+}
+
+closed_at_first : (x : Option ℕ) → scope_word_of x ≡ 0 → x ≡ None
+closed_at_first None e = refl
+closed_at_first (Some e) h = absurd (omega (arith, h))
+
+-- what `share` leaves an owner of a new core knowing
+pub new_owner : (shape : Shape) (far honest : Bool) (m : ℕ) (o : OwnerView) → SaysOwner (opening shape far) honest m o → IsNew m o
+new_owner shape far honest m o says = record {
+  number_is = says.number;
+  closed = closed_at_first o.open_at says.scope;
+  unused = λ p. elim (cases_eq (p / CELLS) m) [
+    | inl own ↦ none_there (object_at o p) (says.used p own)
+    | inr ne ↦ (says.others p ne).0
+  ];
+  free = λ p. elim (cases_eq (p / CELLS) m) [
+    | inl own ↦ says.held p own
+    | inr ne ↦ (says.others p ne).1
+  ];
+}
