@@ -1,12 +1,7 @@
-use Rattle.std.proofs.Common.{◌≡◌, ℕ, ◌/◌, ◌%◌, true, false, ap, subst, sym, ◌∙◌}
-use Rattle.std.specs.Prelude.{slice_set}
-use Rattle.far_word.specs.declared.sizes.TheConstants.{CELLS}
-use Rattle.far_table.specs.Seats.{Seated}
+use Rattle.std.proofs.Common.{◌≡◌, ℕ, true, false, subst, sym, ◌∙◌}
 use Rattle.far_table.specs.Views.{held_at}
-use Rattle.far_heap.specs.Mine.{Mine, OwnOk, dropping, mine_of, uses, views}
-use Rattle.far_heap.proofs.Adopting.{dropped_mine, dropped_ok}
+use Rattle.far_heap.specs.Mine.{Mine, uses, views}
 use Rattle.far_heap.proofs.Mines.{none_there, uses_so, views_own}
-use Rattle.far_heap.proofs.OwnSteps.{seated_is}
 use Rattle.far_heap.proofs.own.Own.ask_move.Goals as goal
 
 pub ask-requires-clause-used : goal.ask-requires-clause-used
