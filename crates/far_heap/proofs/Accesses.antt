@@ -1,5 +1,5 @@
 -- A mutator after bytes of an object were stored.
-use Rattle.std.proofs.Common.{◌≡◌, ◌≢◌, ℕ, ◌+◌, ◌/◌, ◌<◌, ◌≤◌, Bool, true, false, Option, Some, None, is_some, List, length, refl, sym, ap, ◌∙◌}
+use Rattle.std.proofs.Common.{◌≡◌, ℕ, ◌+◌, ◌/◌, ◌<◌, ◌≤◌, Bool, true, false, Option, Some, None, is_some, List, length, refl, sym, ap, ◌∙◌}
 use Rattle.std.specs.Prelude.{option_map}
 use Rattle.std.proofs.lemmas.Bool.{false≢true}
 use Rattle.far_word.specs.Bytes.{byte_at, bytes_of}
@@ -7,7 +7,7 @@ use Rattle.far_word.specs.declared.sizes.TheConstants.{CELLS}
 use Rattle.far_table.specs.declared.view.ObjectView.{ObjectView}
 use Rattle.far_table.specs.Seats.{Seated}
 use Rattle.far_table.specs.Views.{len_of as seat_len, object_at, word_in_view, word_of}
-use Rattle.far_heap.specs.Mine.{Mine, Object, mine_of, object_of, rewritten, seen, with_range, writing}
+use Rattle.far_heap.specs.Mine.{Object, mine_of, object_of, rewritten, seen, with_range, writing}
 use Rattle.far_heap.specs.Ranges.{HasBytes, Wrote}
 use Rattle.far_heap.proofs.Mines.{object_own}
 use Rattle.far_heap.proofs.OwnRows.{own_row-one}

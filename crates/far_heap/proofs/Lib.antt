@@ -6,3 +6,4 @@ pub mod Spliced
 pub mod Parts
 pub mod Accesses
 pub mod Newcomers
+pub mod Adopting

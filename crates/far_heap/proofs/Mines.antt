@@ -7,10 +7,9 @@ use Rattle.far_word.specs.declared.pointer.Place.{Place}
 use Rattle.far_word.specs.declared.sizes.TheConstants.{CELLS}
 use Rattle.far_core.proofs.Put.{put_other, put_same}
 use Rattle.far_table.specs.declared.view.ObjectView.{ObjectView}
-use Rattle.far_table.specs.declared.view.OwnerView.{OwnerView}
 use Rattle.far_table.specs.Seats.{Seated}
 use Rattle.far_table.specs.Views.{closed_view, held_at, held_view, len_of as seat_len, object_at, uses as seat_uses}
-use Rattle.far_heap.specs.Mine.{Mine, bytes_in, closing, known_bytes, len_in, len_of, mine_of, object_of, own_row, seen, uses, viewing, views}
+use Rattle.far_heap.specs.Mine.{bytes_in, closing, known_bytes, len_in, len_of, mine_of, object_of, own_row, seen, uses, viewing, views}
 use Rattle.far_heap.proofs.OwnRows.{own_row-const, own_row-get, own_row-one}
 
 pub is_some_seen : (h : Bool) (x : Option ObjectView) → is_some (seen h x) ≡ is_some x

@@ -1,5 +1,5 @@
 -- A mutator of a new heap.
-use Rattle.std.proofs.Common.{◌≡◌, ◌≢◌, ℕ, ◌+◌, ◌*◌, ◌/◌, ◌^◌, Bool, true, false, Option, Some, None, is_some, refl, sym, ap, ◌∙◌, inl, inr, arith}
+use Rattle.std.proofs.Common.{◌≡◌, ℕ, ◌/◌, Bool, Option, Some, None, is_some, refl, inl, inr, arith}
 use Rattle.std.proofs.lemmas.Bool.{cases_eq}
 use Rattle.far_word.specs.declared.sizes.TheConstants.{CELLS}
 use Rattle.far_core.specs.declared.shape.Shape.{Shape}
@@ -8,8 +8,8 @@ use Rattle.far_core.specs.state.Opening.{opening}
 use Rattle.far_table.specs.declared.view.OwnerView.{OwnerView}
 use Rattle.far_table.specs.Seats.{Seated}
 use Rattle.far_table.specs.Stands.{SaysOwner}
-use Rattle.far_table.specs.Views.{held_at, object_at}
-use Rattle.far_heap.specs.Mine.{IsNew, Mine, mine_of, newcomer, own_row, seen}
+use Rattle.far_table.specs.Views.{object_at}
+use Rattle.far_heap.specs.Mine.{IsNew, mine_of, newcomer, own_row, seen}
 use Rattle.far_heap.proofs.Mines.{none_there}
 
 pub new_mine : (s : Seated) (number : ℕ) → IsNew number s.view → mine_of s ≡ newcomer s.table number s.view.honest

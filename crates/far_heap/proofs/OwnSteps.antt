@@ -1,5 +1,5 @@
 -- A mutator's own tables after each step.
-use Rattle.std.proofs.Common.{◌≡◌, ◌≢◌, ℕ, ◌+◌, ◌*◌, ◌/◌, ◌%◌, ◌<◌, ◌≤◌, Bool, true, false, nat_lt, Option, Some, None, is_some, List, length, get_or, set, refl, sym, ap, subst, ◌∙◌, inl, inr, arith}
+use Rattle.std.proofs.Common.{◌≡◌, ◌≢◌, ℕ, ◌/◌, ◌%◌, ◌<◌, ◌≤◌, true, false, nat_lt, Some, is_some, List, length, get_or, set, sym, ap, ◌∙◌, inl, inr, arith}
 use Rattle.std.specs.Prelude.{◌==◌, slice_index_or, slice_set, replicate}
 use Rattle.std.proofs.lemmas.Bool.{cases_eq, cases_lt, eq-eqb, ne_eqb, lt-ltb, le-ltb, false≢true}
 use Rattle.std.proofs.lemmas.Grind.{get_or-set_at, get_or_default_zero}
@@ -8,11 +8,10 @@ use Rattle.atomic_table.specs.Seated.{TableId}
 use Rattle.far_word.specs.declared.pointer.Place.{Place}
 use Rattle.far_word.specs.declared.sizes.TheConstants.{CELLS, LONGEST, MOST_MUTATORS}
 use Rattle.far_core.proofs.Put.{put_other, put_same}
-use Rattle.far_table.specs.declared.view.ObjectView.{ObjectView}
 use Rattle.far_table.specs.declared.view.OwnerView.{OwnerView}
 use Rattle.far_table.specs.Seats.{Seated}
 use Rattle.far_table.specs.Views.{closed_view, held_at, held_view, len_of as seat_len, object_at, uses as seat_uses}
-use Rattle.far_heap.specs.Mine.{IsNew, Mine, OwnOk, len_in, mine_of, uses, views}
+use Rattle.far_heap.specs.Mine.{IsNew, OwnOk, len_in, mine_of, uses, views}
 use Rattle.far_heap.specs.Ranges.{Wrote}
 use Rattle.far_heap.proofs.Mines.{len_own, uses_own, views_own, views_so}
 

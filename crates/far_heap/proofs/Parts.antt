@@ -1,5 +1,5 @@
 -- Bytes that lie in words: parts of one word, whole words, and a range of them in three parts.
-use Rattle.std.proofs.Common.{◌≡◌, ◌≢◌, ℕ, zero, suc, ◌+◌, ◌-◌, ◌*◌, ◌/◌, ◌%◌, ◌^◌, ◌<◌, ◌≤◌, Bool, true, false, cond, is_some, arith, ap, sym, refl, subst, ◌∙◌, List, ◌++◌, length, get_or, take, drop, inl, inr, Option, Some, None}
+use Rattle.std.proofs.Common.{◌≡◌, ◌≢◌, ℕ, ◌+◌, ◌-◌, ◌*◌, ◌/◌, ◌%◌, ◌^◌, ◌<◌, ◌≤◌, true, is_some, arith, ap, sym, refl, subst, ◌∙◌, List, ◌++◌, length, get_or, take, drop, inl, inr, Option, Some, None}
 use Rattle.std.specs.Prelude.{replicate}
 use Rattle.std.specs.Int.{bytes_low_first}
 use Rattle.std.proofs.lemmas.Bool.{cases_eq, cases_lt}
@@ -8,8 +8,7 @@ use lib.Pow.{pow_mono}
 use borrow.Rule.Slice.PartMut.{put_mid}
 use Rattle.byteorder.specs.Endian.{little_number}
 use Rattle.byteorder.specs.Numbers.{length-bytes_low_first}
-use Rattle.far_word.specs.Bytes.{byte_at, bytes_of, packed_word, word_at, words_of}
-use Rattle.far_word.specs.Sizes.{words_for}
+use Rattle.far_word.specs.Bytes.{byte_at, packed_word, words_of}
 use Rattle.far_word.proofs.ByteLaws.{bytes_of-get, bytes_of-words_of, words_of-get}
 use Rattle.far_word.proofs.WordBytes.{low_byte, read_word}
 use Rattle.far_core.specs.state.State.{put}

@@ -1,14 +1,14 @@
 -- Bytes with others in the place of some: what stands where, and how wide their words are.
-use Rattle.std.proofs.Common.{◌≡◌, ◌≢◌, ℕ, zero, suc, ◌+◌, ◌-◌, ◌*◌, ◌/◌, ◌%◌, ◌^◌, ◌<◌, ◌≤◌, Bool, true, false, arith, ap, sym, refl, ◌∙◌, List, ◌++◌, length, get_or, take, drop, inl, inr, Option, Some, None}
+use Rattle.std.proofs.Common.{◌≡◌, ℕ, zero, suc, ◌+◌, ◌-◌, ◌*◌, ◌^◌, ◌<◌, ◌≤◌, Bool, true, false, arith, ap, sym, refl, ◌∙◌, List, ◌++◌, length, get_or, take, drop, inl, inr, Option, Some, None}
 use Rattle.std.specs.Prelude.{IfSome, slice_range}
 use Rattle.std.proofs.lemmas.Bool.{cases_lt}
-use Rattle.std.proofs.lemmas.List.{ext_get_or, get_or_past, get_or-take, get_or-drop, get_or_append_left, get_or-append_right, length-take-le, length-append, length-drop}
+use Rattle.std.proofs.lemmas.List.{ext_get_or, get_or-take, get_or-drop, get_or_append_left, get_or-append_right, length-take-le, length-append, length-drop}
 use lib.Pow.{pow_mono}
 use Rattle.far_word.specs.Bytes.{byte_at, bytes_of, word_at}
 use Rattle.far_word.proofs.ByteLaws.{bytes_of-get, length-bytes_of}
 use Rattle.far_table.specs.declared.view.ObjectView.{ObjectView}
 use Rattle.far_table.specs.Views.{len_of as seat_len, word_in_view, word_of}
-use Rattle.far_heap.specs.Mine.{known, known_bytes, seen, with_range}
+use Rattle.far_heap.specs.Mine.{known_bytes, seen, with_range}
 use Rattle.far_heap.specs.Ranges.{HasBytes}
 
 -- ---- the words of bytes

@@ -1,5 +1,5 @@
 -- A mutator in a heap's own words.
-use Rattle.std.specs.Prelude.{◌≡◌, ℕ, ◌+◌, ◌*◌, ◌/◌, ◌%◌, ◌<◌, ◌≤◌, ◌==◌, Bool, true, false, cond, not, ◌&&◌, ◌||◌, nat_lt, nat_le, Option, Some, None, is_some, IsSome, List, [], ◌++◌, length, map, take, drop, slice_set, slice_range, slice_index_or, IfSome, option_map, if◌then◌else◌}
+use Rattle.std.specs.Prelude.{◌≡◌, ℕ, ◌+◌, ◌*◌, ◌/◌, ◌%◌, ◌<◌, ◌≤◌, ◌==◌, Bool, true, false, ◌&&◌, ◌||◌, nat_lt, nat_le, Option, Some, None, is_some, List, [], ◌++◌, length, map, take, drop, slice_set, slice_index_or, option_map, replicate, if◌then◌else◌}
 use Rattle.std.specs.List.{range_with_len}
 use Rattle.atomic_table.specs.Seated.{TableId}
 use Rattle.far_word.specs.Bytes.{bytes_of}
@@ -84,6 +84,17 @@ rewritten from new x = record { len = x.len; bytes = option_map (λ bytes. with_
 
 abbrev pub writing : ℕ → ℕ → List ℕ → Mine → Mine
 writing p from new m = record m { objects = slice_set m.objects (p % CELLS) (option_map (rewritten from new) (object_of m p)) }
+
+-- it uses an object more, of so many zeros, or one less
+abbrev pub zeros_known : Bool → ℕ → Option (List ℕ)
+zeros_known true len = Some (replicate len 0)
+zeros_known false len = None
+
+abbrev pub adopting : ℕ → ℕ → Mine → Mine
+adopting p len m = record m { objects = slice_set m.objects (p % CELLS) (Some record { len = len; bytes = zeros_known m.honest len }) }
+
+abbrev pub dropping : ℕ → Mine → Mine
+dropping p m = record m { objects = slice_set m.objects (p % CELLS) None }
 
 -- ---- when an access is refused: the pointer isn't viewed; or the range is empty, or passes the object's end
 abbrev pub is_range : ℕ → ℕ → ℕ → Bool

@@ -2,7 +2,7 @@
 ghost use Rattle.std.specs.Prelude.{◌≡◌, ◌+◌, ◌*◌, ◌/◌, ◌%◌, ◌<◌, ◌≤◌, ℕ, true, false, length, map, slice_range, slice_index, None, Some, IfOk, IfErr, IfSome};
 ghost use Rattle.far_heap.specs.Made.{Pinned};
 ghost use Rattle.far_heap.specs.declared.view.Tried.{Tried as any_tried};
-ghost use Rattle.far_heap.specs.Mine.{IsNew, TriedSo, access_refusal, bytes_in, closing, len_in, newcomer, opening, uses, view_of, views, viewing, writing};
+ghost use Rattle.far_heap.specs.Mine.{IsNew, TriedSo, access_refusal, adopting, bytes_in, closing, dropping, len_in, newcomer, opening, owns, uses, view_of, views, viewing, writing};
 ghost use Rattle.far_word.specs.declared.refused.Refused.{Refused as any_refusal};
 ghost use Rattle.far_word.specs.declared.sizes.TheConstants.{CELLS, LONGEST, MOST_MUTATORS};
 
@@ -11,7 +11,7 @@ use crate::ranges::{load_range, store_range};
 use crate::view::{Tried, View};
 use far_device::Device;
 use far_table::MutSeat;
-use far_word::{CELLS, Refused};
+use far_word::{CELLS, Mark, Refused, pointer_len};
 use std::alloc::{AllocError, Global};
 use std::marker::{Model, PhantomData};
 
@@ -149,6 +149,41 @@ impl<K: HeapName, D: Device> Own<K, D> {
             }
             Err(word) => Ok(Tried::Slow(word)),
         }
+    }
+
+    // Uses a pointer of its own from then on, whose cell is in use: the length of its object. `None` where it isn't; then nothing changes.
+    pub(crate) fn adopt(&mut self, p: u16) -> Option<u16>
+        requires own { owns self.old p ≡ true }
+        requires unused { uses self.old p ≡ false }
+        ensures adopted { IfSome result (λ len. (0 < len) × (len ≤ LONGEST) × (self.new ≡ adopting p len self.old)) }
+        ensures kept { result ≡ None → self.new ≡ self.old }
+    {
+        let Some(word) = self.seat.adopt(p) else {
+            return None;
+        };
+        let len = pointer_len(word);
+        self.lens[(p % CELLS) as usize] = len;
+        Some(len)
+    }
+
+    // Asks for an object to be moved: the word found in its cell.
+    pub(crate) fn ask_move(&mut self, p: u16) -> u64
+        requires used { uses self.old p ≡ true }
+        requires free { views self.old p ≡ false }
+        ensures { self.new ≡ self.old }
+    {
+        self.seat.ask(p, Mark::Moved)
+    }
+
+    // Sets DROP in the cell of an object, which the mutator uses no longer: the word found.
+    pub(crate) fn ask_drop(&mut self, p: u16) -> u64
+        requires used { uses self.old p ≡ true }
+        requires free { views self.old p ≡ false }
+        ensures { self.new ≡ dropping p self.old }
+    {
+        let word = self.seat.ask(p, Mark::Dropped);
+        self.lens[(p % CELLS) as usize] = 0;
+        word
     }
 
     // The length of the object of a view, of which these bytes are a range.

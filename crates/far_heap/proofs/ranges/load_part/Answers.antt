@@ -1,4 +1,4 @@
-use Rattle.std.proofs.Common.{◌≡◌, ◌%◌, true, length, refl, arith}
+use Rattle.std.proofs.Common.{◌%◌, refl, arith}
 use Rattle.far_table.specs.Views.{object_at, word_in_view}
 use Rattle.far_heap.proofs.Parts.{part_read}
 use Rattle.far_heap.proofs.ranges.load_part.Goals as goal

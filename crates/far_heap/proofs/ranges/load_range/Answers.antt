@@ -1,4 +1,4 @@
-use Rattle.std.proofs.Common.{◌≡◌, ◌+◌, ◌-◌, ◌*◌, ◌/◌, ℕ, true, length, ap, subst, ◌∙◌, arith}
+use Rattle.std.proofs.Common.{◌+◌, ◌-◌, ◌*◌, ◌/◌, ℕ, length, ap, subst, ◌∙◌, arith}
 use Rattle.far_table.specs.Seats.{Seated}
 use Rattle.far_table.specs.Views.{object_at, word_in_view}
 use Rattle.far_heap.specs.Ranges.{HasBytes}

@@ -1,4 +1,4 @@
-use Rattle.std.proofs.Common.{◌≡◌, ◌+◌, ◌*◌, ℕ, true, ap, sym, ◌∙◌, arith}
+use Rattle.std.proofs.Common.{◌+◌, ℕ, ap, ◌∙◌, arith}
 use Rattle.far_table.specs.Seats.{Seated}
 use Rattle.far_table.specs.Views.{object_at, word_in_view}
 use Rattle.far_heap.proofs.Parts.{whole_read}

@@ -1,4 +1,4 @@
-use Rattle.std.proofs.Common.{◌≡◌, ◌+◌, ◌-◌, ◌*◌, ◌/◌, ℕ, length, refl, arith}
+use Rattle.std.proofs.Common.{◌+◌, ◌-◌, ◌*◌, ◌/◌, ℕ, length, refl, arith}
 use Rattle.far_heap.proofs.Parts.{range_wrote}
 use Rattle.far_heap.proofs.ranges.store_range.Goals as goal
 

@@ -1,4 +1,4 @@
-use Rattle.std.proofs.Common.{◌≡◌, ◌+◌, ◌*◌, ℕ, take, ap, sym, subst, refl, ◌∙◌, arith}
+use Rattle.std.proofs.Common.{◌+◌, ◌*◌, take, sym, subst, refl, ◌∙◌, arith}
 use Rattle.far_table.specs.declared.view.OwnerView.{OwnerView}
 use Rattle.far_table.specs.Views.{len_of, object_at}
 use Rattle.far_heap.specs.Ranges.{Wrote}

@@ -1,5 +1,5 @@
 -- Each byte of the words below the index is stored.
-use Rattle.std.proofs.Common.{◌≡◌, ◌*◌, ℕ, take}
+use Rattle.std.proofs.Common.{◌≡◌, ◌*◌, take}
 use Rattle.far_heap.specs.Ranges.{Wrote}
 use Rattle.far_heap.proofs.ranges.store_words.Given as goal
 

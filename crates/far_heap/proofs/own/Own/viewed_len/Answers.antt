@@ -1,4 +1,4 @@
-use Rattle.std.proofs.Common.{◌≡◌, ◌≤◌, subst, true, false, ap, sym, ◌∙◌}
+use Rattle.std.proofs.Common.{◌≡◌, ◌≤◌, subst, true, ap, sym, ◌∙◌}
 use Rattle.far_word.specs.declared.sizes.TheConstants.{LONGEST}
 use Rattle.far_heap.specs.Mine.{Mine, len_in, views}
 use Rattle.far_heap.proofs.Mines.{views_own}

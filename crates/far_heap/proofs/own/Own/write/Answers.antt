@@ -2,7 +2,6 @@ use Rattle.std.proofs.Common.{◌≡◌, ℕ, true, ap, sym, subst, ◌∙◌, a
 use Rattle.far_heap.specs.Mine.{Mine, len_in, views, writing}
 use Rattle.far_heap.proofs.Accesses.{wrote_mine}
 use Rattle.far_heap.proofs.Mines.{len_own, views_so}
-use Rattle.far_heap.proofs.OwnSteps.{wrote_ok}
 use Rattle.far_heap.proofs.own.Own.write.Goals as goal
 
 pub store_range-requires-clause-held : goal.store_range-requires-clause-held

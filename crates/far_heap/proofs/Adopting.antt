@@ -1,0 +1,128 @@
+-- A mutator's tables after it uses one object more, or one less.
+use Rattle.std.proofs.Common.{◌≡◌, ℕ, ◌/◌, ◌%◌, ◌^◌, ◌<◌, ◌≤◌, Bool, true, false, nat_lt, Option, Some, None, is_some, List, ◌∷◌, refl, sym, ap, subst, ◌∙◌, inl, inr, arith}
+use Rattle.std.specs.Prelude.{replicate, slice_set}
+use Rattle.std.proofs.lemmas.Bool.{cases_eq, lt-ltb, le-ltb, false≢true}
+use Rattle.std.proofs.lemmas.Grind.{get_or-set_at}
+use Rattle.std.proofs.lemmas.List.{get_or-set_other, length-set}
+use Rattle.atomic_table.specs.Seated.{TableId}
+use Rattle.far_word.specs.declared.pointer.PtrWord.{PtrWord}
+use Rattle.far_word.specs.declared.pointer.PtrWord.TheVariants.{Free, Near, Far}
+use Rattle.far_word.specs.declared.sizes.TheConstants.{CELLS, LONGEST}
+use Rattle.far_word.specs.Pointer.{pointer_len, read_of}
+use Rattle.far_word.proofs.ByteLaws.{bytes_of-zeros}
+use Rattle.far_word.proofs.PointerLaws.{read_says}
+use Rattle.far_core.specs.declared.event.Event.TheVariants.{Adopt}
+use Rattle.far_core.specs.declared.event.Reply.TheVariants.{Word}
+use Rattle.far_core.specs.state.Law.{in_use}
+use Rattle.far_core.specs.state.State.{State}
+use Rattle.far_core.proofs.Put.{put_other, put_same}
+use Rattle.far_table.specs.declared.view.OwnerView.{OwnerView}
+use Rattle.far_table.specs.Seats.{Seated}
+use Rattle.far_table.specs.StateOf.{state_of}
+use Rattle.far_table.specs.Tells.{OwnerMade}
+use Rattle.far_table.specs.Views.{adopted_view, fresh, held_at, len_of as seat_len, object_at, said_len}
+use Rattle.far_heap.specs.Mine.{Object, OwnOk, adopting, dropping, mine_of, seen, zeros_known}
+use Rattle.far_heap.proofs.OwnRows.{own_row-one}
+
+-- ---- the word of an object that was adopted
+word_found : (w x : ℕ) → Word w ≡ Word x → w ≡ x
+word_found w x says = cc
+
+pub adopted_used : (o o' : OwnerView) (p w : ℕ) → OwnerMade (Adopt o.number p) o (Word w) o' → in_use (read_of w) ≡ true
+adopted_used o o' p w made =
+    let s : State = state_of made.words made.book made.owners in
+    ap (λ n. in_use (read_of n)) (word_found w (s.cell p) made.says) ∙ made.legal.3
+
+pub adopted_fits : (o o' : OwnerView) (p w : ℕ) → OwnerMade (Adopt o.number p) o (Word w) o' → w < 2 ^ 64
+adopted_fits o o' p w made =
+    let s : State = state_of made.words made.book made.owners in
+    let low = (made.facts.law.cells.cell_read p).0 in
+    let is = word_found w (s.cell p) made.says in
+    subst (λ n. n < 2 ^ 64) (sym is) low
+
+used_len_of : (w : ℕ) → w < 2 ^ 64 → (x : Option PtrWord) → read_of w ≡ x → in_use x ≡ true → (n : ℕ) → ((v : PtrWord) → x ≡ Some v → n ≡ pointer_len v) → (n ≡ said_len x) × (0 < n) × (n ≤ LONGEST)
+used_len_of w fits None e used n is = absurd (false≢true used)
+used_len_of w fits (Some Free) e used n is = absurd (false≢true used)
+used_len_of w fits (Some (Near len ds place m)) e used n is = let s = (read_says w (Near len ds place m) fits e).0 in let long = is (Near len ds place m) refl in (long, omega (arith, long, s.0), omega (arith, long, s.1))
+used_len_of w fits (Some (Far len ds m)) e used n is = let s = (read_says w (Far len ds m) fits e).0 in let long = is (Far len ds m) refl in (long, omega (arith, long, s.0), omega (arith, long, s.1))
+
+pub adopted_len : (w n : ℕ) → w < 2 ^ 64 → in_use (read_of w) ≡ true → ((v : PtrWord) → read_of w ≡ Some v → n ≡ pointer_len v) → (n ≡ said_len (read_of w)) × (0 < n) × (n ≤ LONGEST)
+adopted_len w n fits used is = used_len_of w fits (read_of w) refl used n is
+
+fresh_seen : (h : Bool) (w n : ℕ) → n ≡ said_len (read_of w) → seen h (Some (fresh w)) ≡ Some record { len = n; bytes = zeros_known h n }
+fresh_seen true w n e = λ i. Some record { len = sym e i; bytes = Some ((bytes_of-zeros (λ _. 0) (said_len (read_of w)) (λ k lt. refl) ∙ ap (λ m. replicate m 0) (sym e)) i) }
+fresh_seen false w n e = ap (λ m. Some record { len = m; bytes = None }) (sym e)
+
+module _ (s : Seated) (name : TableId) (number : ℕ) (lens stamps : List ℕ) (scope : ℕ) (ok : OwnOk s name number lens stamps scope) (p : ℕ) (own : p / CELLS ≡ number) where
+  -- ---- one object more
+  pub adopted_ok : (w n : ℕ) → (n ≡ said_len (read_of w)) × (0 < n) × (n ≤ LONGEST) → OwnOk (record { table = s.table; view = adopted_view p w s.view }) name number (slice_set lens (p % CELLS) n) stamps scope
+  adopted_ok w n is = let long = is.0 in let some = is.1 in let most = is.2 in record {
+    table = ok.table;
+    number_is = ok.number_is;
+    few = ok.few;
+    many_lens = length-set lens (p % CELLS) n ∙ ok.many_lens;
+    many_stamps = ok.many_stamps;
+    lens_are = λ q mine. elim (cases_eq q p) [
+      | inl e ↦ (let at : q % CELLS ≡ p % CELLS = omega arith in get_or-set_at lens (p % CELLS) (q % CELLS) n 0 at (omega (arith, ok.many_lens))
+          ∙ long ∙ sym (ap seat_len (put_same (object_at s.view) p (Some (fresh w)) q e)))
+      | inr ne ↦ get_or-set_other lens (p % CELLS) (q % CELLS) n 0 (λ e. ne (omega arith)) ∙ ok.lens_are q mine ∙ sym (ap seat_len (put_other (object_at s.view) p (Some (fresh w)) q ne))
+    ];
+    used_are = λ q mine. elim (cases_eq q p) [
+      | inl e ↦ ap is_some (put_same (object_at s.view) p (Some (fresh w)) q e) ∙ sym (ap (λ x. nat_lt 0 (seat_len x)) (put_same (object_at s.view) p (Some (fresh w)) q e) ∙ lt-ltb 0 (said_len (read_of w)) (omega arith))
+      | inr ne ↦ ap is_some (put_other (object_at s.view) p (Some (fresh w)) q ne) ∙ ok.used_are q mine ∙ sym (ap (λ x. nat_lt 0 (seat_len x)) (put_other (object_at s.view) p (Some (fresh w)) q ne))
+    ];
+    short = λ q mine. elim (cases_eq q p) [
+      | inl e ↦ omega (arith, ap seat_len (put_same (object_at s.view) p (Some (fresh w)) q e))
+      | inr ne ↦ omega (arith, ap seat_len (put_other (object_at s.view) p (Some (fresh w)) q ne), ok.short q mine)
+    ];
+    views_are = ok.views_are;
+    held_used = λ q mine held. elim (cases_eq q p) [
+      | inl e ↦ ap is_some (put_same (object_at s.view) p (Some (fresh w)) q e)
+      | inr ne ↦ ap is_some (put_other (object_at s.view) p (Some (fresh w)) q ne) ∙ ok.held_used q mine held
+    ];
+    past = ok.past;
+  }
+
+  pub adopted_mine : (w n : ℕ) → n ≡ said_len (read_of w) → mine_of record { table = s.table; view = adopted_view p w s.view } ≡ adopting p n (mine_of s)
+  adopted_mine w n long =
+      let f : ℕ → Option Object = λ q. seen s.view.honest (object_at s.view q) in
+      let g : ℕ → Option Object = λ q. seen s.view.honest (object_at (adopted_view p w s.view) q) in
+      ap (λ (rows : List (Option Object)). record (mine_of s) { objects = rows }) (own_row-one f g s.view.number p (Some record { len = n; bytes = zeros_known s.view.honest n }) (own ∙ sym ok.number_is)
+      (λ q ne. ap (seen s.view.honest) (put_other (object_at s.view) p (Some (fresh w)) q ne))
+      (ap (seen s.view.honest) (put_same (object_at s.view) p (Some (fresh w)) p refl) ∙ fresh_seen s.view.honest w n long))
+
+  -- ---- one object less
+  pub dropped_ok : is_some (held_at s.view p) ≡ false → OwnOk (record { table = s.table; view = record s.view { objects = (p, None) ∷ s.view.objects } }) name number (slice_set lens (p % CELLS) 0) stamps scope
+  dropped_ok free = record {
+    table = ok.table;
+    number_is = ok.number_is;
+    few = ok.few;
+    many_lens = length-set lens (p % CELLS) 0 ∙ ok.many_lens;
+    many_stamps = ok.many_stamps;
+    lens_are = λ q mine. elim (cases_eq q p) [
+      | inl e ↦ (let at : q % CELLS ≡ p % CELLS = omega arith in get_or-set_at lens (p % CELLS) (q % CELLS) 0 0 at (omega (arith, ok.many_lens))
+          ∙ sym (ap seat_len (put_same (object_at s.view) p None q e)))
+      | inr ne ↦ get_or-set_other lens (p % CELLS) (q % CELLS) 0 0 (λ e. ne (omega arith)) ∙ ok.lens_are q mine ∙ sym (ap seat_len (put_other (object_at s.view) p None q ne))
+    ];
+    used_are = λ q mine. elim (cases_eq q p) [
+      | inl e ↦ ap is_some (put_same (object_at s.view) p None q e) ∙ sym (ap (λ x. nat_lt 0 (seat_len x)) (put_same (object_at s.view) p None q e) ∙ le-ltb 0 0 (omega arith))
+      | inr ne ↦ ap is_some (put_other (object_at s.view) p None q ne) ∙ ok.used_are q mine ∙ sym (ap (λ x. nat_lt 0 (seat_len x)) (put_other (object_at s.view) p None q ne))
+    ];
+    short = λ q mine. elim (cases_eq q p) [
+      | inl e ↦ omega (arith, ap seat_len (put_same (object_at s.view) p None q e))
+      | inr ne ↦ omega (arith, ap seat_len (put_other (object_at s.view) p None q ne), ok.short q mine)
+    ];
+    views_are = ok.views_are;
+    held_used = λ q mine held. elim (cases_eq q p) [
+      | inl e ↦ absurd (false≢true (sym (ap (λ z. is_some (held_at s.view z)) e ∙ free) ∙ held))
+      | inr ne ↦ ap is_some (put_other (object_at s.view) p None q ne) ∙ ok.held_used q mine held
+    ];
+    past = ok.past;
+  }
+
+  pub dropped_mine : mine_of record { table = s.table; view = record s.view { objects = (p, None) ∷ s.view.objects } } ≡ dropping p (mine_of s)
+  dropped_mine =
+      let f : ℕ → Option Object = λ q. seen s.view.honest (object_at s.view q) in
+      let g : ℕ → Option Object = λ q. seen s.view.honest (object_at (record s.view { objects = (p, None) ∷ s.view.objects }) q) in
+      ap (λ (rows : List (Option Object)). record (mine_of s) { objects = rows }) (own_row-one f g s.view.number p None (own ∙ sym ok.number_is)
+      (λ q ne. ap (seen s.view.honest) (put_other (object_at s.view) p None q ne)) (ap (seen s.view.honest) (put_same (object_at s.view) p None p refl)))

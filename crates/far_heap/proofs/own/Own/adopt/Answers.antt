@@ -1,0 +1,43 @@
+use Rattle.std.proofs.Common.{◌≡◌, ℕ, ◌/◌, ◌%◌, true, false, ap, subst, sym, ◌∙◌}
+use Rattle.std.specs.Prelude.{slice_set}
+use Rattle.far_word.specs.declared.sizes.TheConstants.{CELLS}
+use Rattle.far_table.specs.Seats.{Seated}
+use Rattle.std.proofs.lemmas.Bool.{eqb-true}
+use Rattle.far_table.specs.Views.{object_at}
+use Rattle.far_heap.specs.Mine.{Mine, OwnOk, adopting, mine_of, owns, uses}
+use Rattle.far_heap.proofs.Adopting.{adopted_fits, adopted_len, adopted_mine, adopted_ok, adopted_used}
+use Rattle.far_heap.proofs.Mines.{none_there, uses_own}
+use Rattle.far_heap.proofs.OwnSteps.{seated_is}
+use Rattle.far_heap.proofs.own.Own.adopt.Goals as goal
+
+pub adopt-requires-clause-unused : goal.adopt-requires-clause-unused
+adopt-requires-clause-unused g c =
+    let s = c.self.inside in
+    let p : ℕ = c.args.p in
+    let own = eqb-true (p / CELLS) s.seat.view.number (subst (λ (m : Mine). owns m p ≡ true) (sym c.self.view_is) c.requires.own) in
+    none_there (object_at s.seat.view p) (sym (uses_own s.seat p own) ∙ subst (λ (m : Mine). uses m p ≡ false) (sym c.self.view_is) c.requires.unused)
+
+pub invariant_of-self-2 : goal.invariant_of-self-2
+invariant_of-self-2 g c =
+    let s = c.self.inside in
+    let p : ℕ = c.args.p in
+    let n : ℕ = c.pointer_len-len.result in
+    let own = eqb-true (p / CELLS) s.seat.view.number (subst (λ (m : Mine). owns m p ≡ true) (sym c.self.view_is) c.requires.own) in
+    let made = c.in-Some.ensures.adopted in
+    let is = adopted_len c.in-Some.word n (adopted_fits _ _ p c.in-Some.word made.1) (adopted_used _ _ p c.in-Some.word made.1) c.pointer_len-len.ensures in
+    subst (λ (t : Seated). OwnOk t _ s.number (slice_set s.lens.items (p % CELLS) n) s.stamps.items s.scope) (sym (seated_is c.adopt.new.self s.seat.table _ c.adopt.ensures.table made.0))
+    (adopted_ok s.seat _ s.number s.lens.items s.stamps.items s.scope c.self.invariant p (own ∙ c.self.invariant.number_is) c.in-Some.word n is)
+
+pub returns-clause-adopted : goal.returns-clause-adopted
+returns-clause-adopted g c =
+    let s = c.self.inside in
+    let p : ℕ = c.args.p in
+    let n : ℕ = c.pointer_len-len.result in
+    let own = eqb-true (p / CELLS) s.seat.view.number (subst (λ (m : Mine). owns m p ≡ true) (sym c.self.view_is) c.requires.own) in
+    let made = c.in-Some.ensures.adopted in
+    let is = adopted_len c.in-Some.word n (adopted_fits _ _ p c.in-Some.word made.1) (adopted_used _ _ p c.in-Some.word made.1) c.pointer_len-len.ensures in (
+      is.1,
+      is.2,
+      ap mine_of (seated_is c.adopt.new.self s.seat.table _ c.adopt.ensures.table made.0)
+          ∙ adopted_mine s.seat _ s.number s.lens.items s.stamps.items s.scope c.self.invariant p (own ∙ c.self.invariant.number_is) c.in-Some.word n is.0 ∙ ap (adopting p n) c.self.view_is,
+    )

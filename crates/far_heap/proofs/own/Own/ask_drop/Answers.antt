@@ -1,0 +1,37 @@
+use Rattle.std.proofs.Common.{◌≡◌, ℕ, ◌%◌, true, false, ap, subst, sym, ◌∙◌}
+use Rattle.std.specs.Prelude.{slice_set}
+use Rattle.far_word.specs.declared.sizes.TheConstants.{CELLS}
+use Rattle.far_table.specs.Seats.{Seated}
+use Rattle.far_table.specs.Views.{held_at}
+use Rattle.far_heap.specs.Mine.{Mine, OwnOk, dropping, mine_of, uses, views}
+use Rattle.far_heap.proofs.Adopting.{dropped_mine, dropped_ok}
+use Rattle.far_heap.proofs.Mines.{none_there, uses_so, views_own}
+use Rattle.far_heap.proofs.OwnSteps.{seated_is}
+use Rattle.far_heap.proofs.own.Own.ask_drop.Goals as goal
+
+pub ask-word-requires-clause-used : goal.ask-word-requires-clause-used
+ask-word-requires-clause-used g c = (uses_so c.self.inside.seat c.args.p (subst (λ (m : Mine). uses m c.args.p ≡ true) (sym c.self.view_is) c.requires.used)).1
+
+pub ask-word-requires-clause-free : goal.ask-word-requires-clause-free
+ask-word-requires-clause-free g c =
+    let s = c.self.inside.seat in
+    let p : ℕ = c.args.p in
+    let own = (uses_so s p (subst (λ (m : Mine). uses m p ≡ true) (sym c.self.view_is) c.requires.used)).0 in
+    none_there (held_at s.view p) (sym (views_own s p own) ∙ subst (λ (m : Mine). views m p ≡ false) (sym c.self.view_is) c.requires.free)
+
+pub invariant_of-self : goal.invariant_of-self
+invariant_of-self g c =
+    let s = c.self.inside in
+    let p : ℕ = c.args.p in
+    let own = (uses_so s.seat p (subst (λ (m : Mine). uses m p ≡ true) (sym c.self.view_is) c.requires.used)).0 in
+    let free = sym (views_own s.seat p own) ∙ subst (λ (m : Mine). views m p ≡ false) (sym c.self.view_is) c.requires.free in
+    subst (λ (t : Seated). OwnOk t _ s.number (slice_set s.lens.items (p % CELLS) 0) s.stamps.items s.scope) (sym (seated_is c.ask-word.new.self s.seat.table _ c.ask-word.ensures.table c.ask-word.ensures.view))
+    (dropped_ok s.seat _ s.number s.lens.items s.stamps.items s.scope c.self.invariant p (own ∙ c.self.invariant.number_is) free)
+
+pub returns : goal.returns
+returns g c =
+    let s = c.self.inside in
+    let p : ℕ = c.args.p in
+    let own = (uses_so s.seat p (subst (λ (m : Mine). uses m p ≡ true) (sym c.self.view_is) c.requires.used)).0 in
+    ap mine_of (seated_is c.ask-word.new.self s.seat.table _ c.ask-word.ensures.table c.ask-word.ensures.view)
+    ∙ dropped_mine s.seat _ s.number s.lens.items s.stamps.items s.scope c.self.invariant p (own ∙ c.self.invariant.number_is) ∙ ap (dropping p) c.self.view_is
