@@ -15,12 +15,13 @@ use Rattle.far_core.specs.declared.shape.Shape.{Shape}
 use Rattle.far_core.specs.state.Opening.{opening}
 use Rattle.far_core.specs.state.State.{State, put}
 use Rattle.far_core.specs.world.WorldOf.{world_of}
+use Rattle.far_core.proofs.KeepOwner.{closed_word}
 use Rattle.far_core.proofs.Put.{put_both}
 use Rattle.far_table.specs.declared.view.ObjectView.{ObjectView}
 use Rattle.far_table.specs.declared.view.OwnerView.{OwnerView}
 use Rattle.far_hand.specs.Masked.{masked}
 use Rattle.far_book.specs.book.Own.{IsAtStart}
-use Rattle.far_table.specs.First.{first_owner, seen_object}
+use Rattle.far_table.specs.First.{first_owner, open_epoch, seen_object}
 use Rattle.far_table.specs.Seats.{Seated}
 use Rattle.far_table.specs.Stands.{Seats}
 use Rattle.far_table.proofs.FirstViews.{over_within}
@@ -135,7 +136,7 @@ fits_new v me new few lens held long long' none free = record {
 new_owner : (shape : Shape) (honest : Bool) (m : ℕ) → IsNew (first_owner (opening shape honest) honest m) m
 new_owner shape honest m = record {
   number_is = refl;
-  scope = refl;
+  scope = ap open_epoch closed_word;
   epoch = refl;
   objects = λ p own. over_within (λ q. cond ((opening shape honest).used q) (seen_object ((world_of (opening shape honest)).object q)) None) (λ _. None) CELLS (CELLS * m) p (omega arith) (omega arith);
   places = λ p own. over_within (opening shape honest).held (λ _. None) CELLS (CELLS * m) p (omega arith) (omega arith);

@@ -12,10 +12,7 @@ use std::alloc::{AllocError, Global};
 use std::snapshot::Snapshot;
 
 /// The book of a new heap over its seat, and its owners, the last first.
-pub type Shared = (
-    Book<BookSeat<MemDevice>, MemDevice>,
-    Vec<Owner<MemDevice>>,
-);
+pub type Shared = (Book<BookSeat<MemDevice>, MemDevice>, Vec<Owner<MemDevice>>);
 
 // The owner of the last of the seats that are left.
 fn last_of(

@@ -20,6 +20,12 @@ dropped_home (Some pointer.Free) place marks e h = absurd cc
 dropped_home (Some (pointer.Near len ds at m)) place marks e h = let same : marks ≡ m = cc in ap (λ (x : Marks). x.dropped) (sym same) ∙ h
 dropped_home (Some (pointer.Far len ds m)) place marks e h = absurd cc
 
+pub dropped_far : (o : Option PtrWord) (marks : Marks) → Some (Far marks) ≡ home_of o → marks.dropped ≡ true → is_dropped o ≡ true
+dropped_far None marks e h = absurd cc
+dropped_far (Some pointer.Free) marks e h = absurd cc
+dropped_far (Some (pointer.Near len ds at m)) marks e h = absurd cc
+dropped_far (Some (pointer.Far len ds m)) marks e h = let same : marks ≡ m = cc in ap (λ (x : Marks). x.dropped) (sym same) ∙ h
+
 -- a near object that shows MOVE is quiet
 quiet_cell : (s : State) (p : ℕ) (o : Option PtrWord) → read_of (s.cell p) ≡ o → (place : Place) (marks : Marks) → Some (Near place marks) ≡ home_of o → marks.moved ≡ true → IsQuietNear s p
 quiet_cell s p None e place marks is h = absurd cc

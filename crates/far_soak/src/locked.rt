@@ -18,15 +18,6 @@ pub enum Brought {
     Nothing,
 }
 
-/// Where a pointer's object is; `None` for a number that is no pointer's.
-fn home<N: Near + Drop, D: Device + Drop>(evac: &mut Evac<N, D>, pointer: u16) -> Option<Home> {
-    if (pointer as u64) < 128 * evac.book().shape().mutators {
-        evac.locate(pointer)
-    } else {
-        None
-    }
-}
-
 // What an answer of `fetch` or `move_now` comes to.
 fn outcome<T: Drop>(answer: Result<Option<T>, Refused>, done: Brought) -> Brought {
     match answer {
@@ -36,34 +27,82 @@ fn outcome<T: Drop>(answer: Result<Option<T>, Refused>, done: Brought) -> Brough
     }
 }
 
-/// Fetches a far object, or moves a near one that its owner has asked for.
-#[tactic(auto, using(crate::proofs::Uses::far_home, crate::proofs::Uses::quiet_home))]
-pub fn bring<N: Near + Drop, D: Device + Drop>(evac: &mut Evac<N, D>, pointer: u16) -> Brought {
+// Fetches a far object; `None` where it isn't far.
+#[tactic(auto, using(crate::proofs::Uses::far_home))]
+fn fetch_far<N: Near + Drop, D: Device + Drop>(
+    evac: &mut Evac<N, D>,
+    pointer: u16,
+) -> Option<Brought> {
     if pointer as u64 >= 128 * evac.book().shape().mutators {
-        return Brought::Nothing;
+        return None;
     }
-    match evac.locate(pointer) {
-        Some(Home::Far { .. }) => outcome(evac.fetch(pointer), Brought::Fetched),
-        Some(Home::Near { marks, .. }) if marks.moved => {
-            outcome(evac.move_now(pointer), Brought::Moved)
-        }
-        Some(Home::Near { .. }) => Brought::Rested,
+    let Some(Home::Far { .. }) = evac.locate(pointer) else {
+        return None;
+    };
+    Some(outcome(evac.fetch(pointer), Brought::Fetched))
+}
+
+// Moves a near object that its owner has asked for, or finds that it needn't; `None` where it isn't near.
+#[tactic(auto, using(crate::proofs::Uses::quiet_home))]
+fn move_asked<N: Near + Drop, D: Device + Drop>(
+    evac: &mut Evac<N, D>,
+    pointer: u16,
+) -> Option<Brought> {
+    if pointer as u64 >= 128 * evac.book().shape().mutators {
+        return None;
+    }
+    let Some(Home::Near { marks, .. }) = evac.locate(pointer) else {
+        return None;
+    };
+    if !marks.moved {
+        return Some(Brought::Rested);
+    }
+    Some(outcome(evac.move_now(pointer), Brought::Moved))
+}
+
+/// Fetches a far object, or moves a near one that its owner has asked for.
+pub fn bring<N: Near + Drop, D: Device + Drop>(evac: &mut Evac<N, D>, pointer: u16) -> Brought {
+    if let Some(brought) = fetch_far(evac, pointer) {
+        return brought;
+    }
+    match move_asked(evac, pointer) {
+        Some(brought) => brought,
         None => Brought::Nothing,
     }
 }
 
-/// Frees the cell of a dropped object, unless a round has done so.
+// Frees the cell of a near object that was dropped.
 #[tactic(auto, using(crate::proofs::Uses::dropped_home))]
-pub fn retire<N: Near + Drop, D: Device + Drop>(evac: &mut Evac<N, D>, pointer: u16) {
+fn retire_near<N: Near + Drop, D: Device + Drop>(evac: &mut Evac<N, D>, pointer: u16) {
     if pointer as u64 >= 128 * evac.book().shape().mutators {
         return;
     }
-    match evac.locate(pointer) {
-        Some(Home::Near { marks, .. } | Home::Far { marks }) if marks.dropped => {
-            evac.retire(pointer);
-        }
-        _ => {}
+    let Some(Home::Near { marks, .. }) = evac.locate(pointer) else {
+        return;
+    };
+    if marks.dropped {
+        evac.retire(pointer);
     }
+}
+
+// The same of a far one.
+#[tactic(auto, using(crate::proofs::Uses::dropped_far))]
+fn retire_far<N: Near + Drop, D: Device + Drop>(evac: &mut Evac<N, D>, pointer: u16) {
+    if pointer as u64 >= 128 * evac.book().shape().mutators {
+        return;
+    }
+    let Some(Home::Far { marks }) = evac.locate(pointer) else {
+        return;
+    };
+    if marks.dropped {
+        evac.retire(pointer);
+    }
+}
+
+/// Frees the cell of a dropped object, unless a round has done so.
+pub fn retire<N: Near + Drop, D: Device + Drop>(evac: &mut Evac<N, D>, pointer: u16) {
+    retire_near(evac, pointer);
+    retire_far(evac, pointer);
 }
 
 /// Places a new object in an owner's lowest free cell.

@@ -20,11 +20,10 @@ use gate::Gate;
 use locked::objects;
 use rounds::make_rounds;
 use std::alloc::{AllocError, Global};
-use std::{env, io};
 use std::process::ExitCode;
 use std::sync::{Mutex, Wait};
-use std::thread;
 use std::thread::Threads;
+use std::{env, io, thread};
 use writer::Writer;
 
 /// How large the heap is.
@@ -141,7 +140,10 @@ fn arguments(rt: &HostRuntime) -> Asked {
 }
 
 fn tell(rt: &impl Print, counts: &Counts, tells: bool) -> io::Result<()> {
-    println!(rt; "wrong {}", counts.wrong.saturating_add(counts.wrong_audits))?;
+    println!(rt;
+        "wrong {}",
+        counts.wrong.saturating_add(counts.wrong_audits)
+    )?;
     if tells {
         println!(rt; "{counts:?}")?;
     }

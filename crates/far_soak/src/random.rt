@@ -1,5 +1,7 @@
 //! Numbers that look chosen at random.
 
+ghost use Rattle.std.specs.Prelude.{◌≤◌};
+
 /// A row of such numbers.
 #[derive(Clone, Copy, Debug)]
 pub struct Random {
@@ -25,7 +27,9 @@ impl Random {
     }
 
     /// A number below `end`; 0 where that is 0.
-    pub fn below(&mut self, end: u64) -> u64 {
+    pub fn below(&mut self, end: u64) -> u64
+        ensures { result ≤ end }
+    {
         let number = self.next() >> 11;
         if end == 0 { 0 } else { number % end }
     }

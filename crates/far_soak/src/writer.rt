@@ -15,6 +15,7 @@ use std::sync::{Mutex, Wait};
 
 /// How many objects an owner has at most, and how long they are.
 const MOST_OBJECTS: u64 = 40;
+
 const MOST_BYTES: u64 = 200;
 
 /// An object, as its owner wrote it.

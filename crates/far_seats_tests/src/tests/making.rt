@@ -129,21 +129,33 @@ pub(super) fn views<N: Near + Drop>(heap: &mut Heap<N>, pointer: u16) -> bool {
 }
 
 // Whether a far object is fetched, or a near one that is asked for moved.
-#[tactic(auto, using(crate::proofs::Uses::far_home, crate::proofs::Uses::quiet_home))]
-pub(super) fn brings<N: Near + Drop, D: Device + Drop>(
-    evac: &mut Evac<N, D>,
-    pointer: u16,
-) -> bool {
+fn brings<N: Near + Drop, D: Device + Drop>(evac: &mut Evac<N, D>, pointer: u16) -> bool {
+    fetches(evac, pointer) || moves(evac, pointer)
+}
+
+#[tactic(auto, using(crate::proofs::Uses::far_home))]
+fn fetches<N: Near + Drop, D: Device + Drop>(evac: &mut Evac<N, D>, pointer: u16) -> bool {
     if pointer as u64 >= 128 * evac.book().shape().mutators {
         return false;
     }
-    match evac.locate(pointer) {
-        Some(Home::Far { .. }) => matches!(evac.fetch(pointer), Ok(Some(_))),
-        Some(Home::Near { marks, .. }) if marks.moved => {
-            matches!(evac.move_now(pointer), Ok(Some(_)))
-        }
-        _ => false,
+    let Some(Home::Far { .. }) = evac.locate(pointer) else {
+        return false;
+    };
+    matches!(evac.fetch(pointer), Ok(Some(_)))
+}
+
+#[tactic(auto, using(crate::proofs::Uses::quiet_home))]
+fn moves<N: Near + Drop, D: Device + Drop>(evac: &mut Evac<N, D>, pointer: u16) -> bool {
+    if pointer as u64 >= 128 * evac.book().shape().mutators {
+        return false;
     }
+    let Some(Home::Near { marks, .. }) = evac.locate(pointer) else {
+        return false;
+    };
+    if !marks.moved {
+        return false;
+    }
+    matches!(evac.move_now(pointer), Ok(Some(_)))
 }
 
 // Whether the owner drops a near object, which is retired.

@@ -70,5 +70,10 @@ fn is_read<N: Near + Drop>(pair: &mut Pair<N>) -> bool {
 #[test]
 fn away_and_back(rt: HostRuntime) {
     let made = pair_of(&rt, SMALL);
-    assert!(rt; is_so_of(made, |pair| is_marked(pair) && comes_back(pair) && is_read(pair)));
+    assert!(rt;
+        is_so_of(
+            made,
+            |pair| is_marked(pair) && comes_back(pair) && is_read(pair)
+        )
+    );
 }

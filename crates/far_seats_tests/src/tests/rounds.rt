@@ -1,8 +1,8 @@
 //! Rounds beside an owner, step by step: what each answers, and where all is then.
 
 use crate::tests::making::{
-    Heap, SMALL, drops, finds, has_no_room, heap_of, is_far, is_log, is_near, is_so_of, loads, makes,
-    makes_sealed, opens, stores, views, writes,
+    Heap, SMALL, drops, finds, has_no_room, heap_of, is_far, is_log, is_near, is_so_of, loads,
+    makes, makes_sealed, opens, stores, views, writes,
 };
 use crate::tests::steps::{begins, counts, is_clear, leaves, runs, waits};
 use far_book::Near;
@@ -61,7 +61,12 @@ fn reads_both<N: Near + Drop>(heap: &mut Heap<N>) -> bool {
 #[test]
 fn a_plain_round(rt: HostRuntime) {
     let made = heap_of(&rt, SMALL);
-    assert!(rt; is_so_of(made, |heap| parts_two(heap) && has_parted(heap) && reads_both(heap)));
+    assert!(rt;
+        is_so_of(
+            made,
+            |heap| parts_two(heap) && has_parted(heap) && reads_both(heap)
+        )
+    );
 }
 
 // Whether an object is viewed when a round begins.
@@ -133,10 +138,7 @@ fn begins_with_two<N: Near + Drop>(heap: &mut Heap<N>) -> bool {
 
 // Whether the owner has both moved before the round comes to them.
 fn is_first<N: Near + Drop>(heap: &mut Heap<N>) -> bool {
-    opens(&mut heap.owner, 1)
-        && views(heap, 0)
-        && views(heap, 1)
-        && leaves(heap, [0, 0, 0, 1])
+    opens(&mut heap.owner, 1) && views(heap, 0) && views(heap, 1) && leaves(heap, [0, 0, 0, 1])
 }
 
 #[test]
@@ -168,5 +170,10 @@ fn takes_the_last<N: Near + Drop>(heap: &mut Heap<N>) -> bool {
 #[test]
 fn a_hot_object_finds_no_room(rt: HostRuntime) {
     let made = heap_of(&rt, SMALL);
-    assert!(rt; is_so_of(made, |heap| begins_with_full_logs(heap) && takes_the_last(heap)));
+    assert!(rt;
+        is_so_of(
+            made,
+            |heap| begins_with_full_logs(heap) && takes_the_last(heap)
+        )
+    );
 }
