@@ -1,17 +1,26 @@
 // Preloaded into a program, makes its allocation number FAIL_ALLOC fail (counted from 1; 0 or no such variable: none)
-// and writes how many were asked for to the file that COUNT_ALLOC names.
+// and writes how many were asked for to the file that COUNT_ALLOC names. Where FAIL_IN is set it does so in the program of
+// that name alone, and not in those that start it.
 //
 //   cc -O2 -shared -fPIC -o fail_malloc.so fail_malloc.c -ldl
 #define _GNU_SOURCE
 #include <dlfcn.h>
+#include <errno.h>
 #include <stddef.h>
 #include <stdio.h>
 #include <stdlib.h>
+#include <string.h>
 
 static long count;
 static long nth = -1;
 
+static int is_meant(void) {
+    const char *name = getenv("FAIL_IN");
+    return !name || (program_invocation_short_name && !strcmp(name, program_invocation_short_name));
+}
+
 static int refused(void) {
+    if (!is_meant()) return 0;
     if (nth < 0) {
         const char *value = getenv("FAIL_ALLOC");
         nth = value ? atol(value) : 0;
@@ -45,7 +54,7 @@ void *aligned_alloc(size_t to, size_t size) {
 }
 
 __attribute__((destructor)) static void tell(void) {
-    const char *name = getenv("COUNT_ALLOC");
+    const char *name = is_meant() ? getenv("COUNT_ALLOC") : NULL;
     long asked = count;
     FILE *file = name ? fopen(name, "w") : NULL;
     if (file) {

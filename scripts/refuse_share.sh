@@ -16,7 +16,7 @@ run() { # the number of the growth that is refused
     local status=0
     valgrind -q --trace-children=yes --soname-synonyms=somalloc=nouserintercepts --log-file="$work/found" \
         --leak-check=full --show-leak-kinds=all --errors-for-leak-kinds=all --error-exitcode=9 \
-        /usr/bin/env FAIL_ALLOC="$1" COUNT_ALLOC="$work/count" LD_PRELOAD="$work/fail_malloc.so" "$program" share 0 5 3 \
+        /usr/bin/env FAIL_IN="$(basename "$program")" FAIL_ALLOC="$1" COUNT_ALLOC="$work/count" LD_PRELOAD="$work/fail_malloc.so" "$program" share 0 5 3 \
         >"$work/out" 2>"$work/err" || status=$?
     echo "$status"
 }
