@@ -72,7 +72,7 @@ impl Ledger {
         self.filled[log as usize]
     }
 
-    /// Where a span goes that takes so many words; a new object keeps the reserve.
+    /// Where a span goes that takes so many words. With `reserve` the last free log isn't taken: so for a new object, and one that is fetched.
     pub(crate) fn room(&self, size: u16, reserve: bool) -> Option<Place>
         requires size { size ≤ LOG_WORDS }
         requires known { (s : State) × Notes s self.now }

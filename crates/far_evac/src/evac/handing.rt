@@ -10,6 +10,7 @@ ghost use Rattle.far_book.specs.book.Effects.{moved, order_after, placed, retire
 ghost use Rattle.far_book.specs.book.Fetching.{IsFar, IsFetched, RefusesFetch, order_fetched, room_for};
 ghost use Rattle.far_book.specs.book.Home.{home_of};
 ghost use Rattle.far_book.specs.book.Renaming.{seen};
+ghost use Rattle.far_book.specs.book.Rows.{row_of};
 ghost use Rattle.far_core.specs.declared.event.Event.{Event};
 ghost use Rattle.far_core.specs.declared.event.Reply.{Reply};
 ghost use Rattle.far_core.specs.events.Naming.{is_dropped};
@@ -21,14 +22,14 @@ ghost use Rattle.far_word.specs.Pointer.{read_of};
 ghost use Rattle.far_word.specs.Sizes.{size_of};
 ghost use Rattle.far_word.specs.declared.refused.Refused.TheVariants.{Memory, NoRoom};
 ghost use Rattle.far_word.specs.declared.sizes.TheConstants.{CELLS, LONGEST};
-ghost use Rattle.std.specs.Prelude.{IfErr, IfNone, IfOk, IfSome, MatchOption, None, Ok, Some, false, true, ℕ, ◌*◌, ◌<◌, ◌↔◌, ◌≡◌, ◌≤◌};
+ghost use Rattle.std.specs.Prelude.{IfErr, IfNone, IfOk, IfSome, MatchOption, None, Ok, Some, false, map, true, ℕ, ◌*◌, ◌<◌, ◌↔◌, ◌≡◌, ◌≤◌};
 ghost use Rattle.far_word.specs.declared.refused.Refused.TheVariants as refused;
 ghost use Rattle.far_hand.specs.Came.{Came};
 
 use crate::evac::Evac;
 use far_book::{Book, Home, Near};
 use far_device::Device;
-use far_log::Span;
+use far_log::{LogRow, Span};
 use far_word::{Place, Refused};
 
 impl<N: Near + Drop, D: Device + Drop> Evac<N, D> {
@@ -173,6 +174,14 @@ impl<N: Near + Drop, D: Device + Drop> Evac<N, D> {
         let answer = self.book.locate(pointer);
         self.book.keeps_law();
         answer
+    }
+
+    /// What each sealed log has, oldest first, a chosen one too. Refused [`Refused::Memory`] alone.
+    pub fn rows(&self) -> Result<Vec<LogRow>, Refused>
+        ensures rows { IfOk result (λ rows. rows.items ≡ map (row_of (N.view self.now.book.near)) self.now.book.order) }
+        ensures refused { IfErr result (λ why. why ≡ Memory) }
+    {
+        self.book.rows()
     }
 
     /// The spans of a log, dead ones too, in their order. Refused [`Refused::Memory`] alone.
