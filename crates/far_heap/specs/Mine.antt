@@ -1,5 +1,5 @@
 -- A mutator in a heap's own words.
-use Rattle.std.specs.Prelude.{◌≡◌, ℕ, ◌+◌, ◌*◌, ◌/◌, ◌%◌, ◌<◌, ◌≤◌, ◌==◌, Bool, true, false, ◌&&◌, ◌||◌, nat_lt, nat_le, Option, Some, None, is_some, List, [], ◌++◌, length, map, take, drop, slice_set, slice_index_or, option_map, replicate, if◌then◌else◌}
+use Rattle.std.specs.Prelude.{◌≡◌, ◌⊎◌, ℕ, ◌+◌, ◌*◌, ◌/◌, ◌%◌, ◌<◌, ◌≤◌, ◌==◌, Bool, true, false, ◌&&◌, ◌||◌, nat_lt, nat_le, Option, Some, None, is_some, List, [], ◌++◌, length, map, take, drop, slice_set, slice_index_or, option_map, replicate, if◌then◌else◌}
 use Rattle.std.specs.List.{range_with_len}
 use Rattle.atomic_table.specs.Seated.{TableId}
 use Rattle.far_word.specs.Bytes.{bytes_of}
@@ -7,7 +7,7 @@ use Rattle.far_word.specs.Pointer.{read_of}
 use Rattle.far_word.specs.declared.pointer.PtrWord.{PtrWord}
 use Rattle.far_word.specs.declared.pointer.PtrWord.TheVariants.{Free, Near, Far}
 use Rattle.far_word.specs.declared.refused.Refused.{Refused}
-use Rattle.far_word.specs.declared.refused.Refused.TheVariants.{NotHeld, Range}
+use Rattle.far_word.specs.declared.refused.Refused.TheVariants.{Damaged, Device, Held, Length, Memory, NoPointer, NoRoom, NotHeld, Range}
 use Rattle.far_word.specs.declared.sizes.TheConstants.{CELLS, LONGEST, MOST_MUTATORS}
 use Rattle.far_table.specs.declared.view.ObjectView.{ObjectView}
 use Rattle.far_table.specs.declared.view.OwnerView.{OwnerView}
@@ -102,6 +102,24 @@ is_range len from count = nat_lt 0 count && nat_le (from + count) len
 
 abbrev pub access_refusal : Mine → ℕ → ℕ → ℕ → Option Refused
 access_refusal m p from count = if views m p then (if is_range (len_in m p) from count then None else Some Range) else Some NotHeld
+
+-- ---- when a new object is refused: its length; or its owner uses all its pointers; or there is no room
+abbrev pub is_length : ℕ → Bool
+is_length len = nat_lt 0 len && nat_le len LONGEST
+
+abbrev pub IsNoObject : ℕ → Refused → Type 0
+IsNoObject len why = if is_length len then ((why ≡ NoPointer) ⊎ (why ≡ NoRoom)) else (why ≡ Length)
+
+-- ---- when a drop is: the pointer isn't used, or its object is viewed
+abbrev pub drop_refusal : Mine → ℕ → Option Refused
+drop_refusal m p = if uses m p then (if views m p then Some Held else None) else Some NotHeld
+
+-- ---- when a dereference is that may take the lock: the pointer isn't used; or its object isn't viewed, and can't be brought
+abbrev pub IsUnbrought : Refused → Type 0
+IsUnbrought why = (why ≡ NoRoom) ⊎ (why ≡ Memory) ⊎ (why ≡ Device) ⊎ (why ≡ Damaged)
+
+abbrev pub IsNoView : Mine → ℕ → Refused → Type 0
+IsNoView m p why = if uses m p then ((views m p ≡ false) × IsUnbrought why) else (why ≡ NotHeld)
 
 -- ---- what a dereference answers
 -- a word of an object of this length on which no view may rest: it is far, or has EVAC or MOVE. It isn't dropped

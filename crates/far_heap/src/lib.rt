@@ -1,16 +1,24 @@
 //! The running heap, as threads use it.
 //!
-//! A [`Mutator`] opens its [`Scope`], views objects, and reads and writes their bytes, by single atomic steps on the shared words.
-//! None of these calls takes a lock, the runtime or memory.
+//! A [`Heap`] has a lock, which keeps the book and the [`Evacuator`], and [`Mutator`]s, one for each thread. A mutator makes and drops objects, opens its
+//! [`Scope`], views objects, and reads and writes their bytes. To open, to view what is near and unmarked, to read, to write and to close take neither lock
+//! nor runtime nor memory: each is a few single atomic steps on the shared words.
 #![tactic(auto)]
 
+mod blank;
+mod evacuator;
+mod heap;
 mod mutator;
 mod name;
 mod own;
 mod ranges;
 mod scope;
+mod slow;
 mod view;
 
+pub use blank::Blank;
+pub use evacuator::Evacuator;
+pub use heap::Heap;
 pub use mutator::Mutator;
 pub use name::HeapName;
 pub use scope::Scope;

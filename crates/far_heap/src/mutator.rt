@@ -1,25 +1,29 @@
 // A mutator whose scope is closed.
-ghost use Rattle.std.specs.Prelude.{◌≡◌, ◌<◌, false, IfOk, IfErr};
-ghost use Rattle.far_heap.specs.Mine.{IsNew, newcomer, opening};
+ghost use Rattle.std.specs.Prelude.{◌≡◌, ◌<◌, true, false, None, Some, IfOk, IfErr};
+ghost use Rattle.far_heap.specs.Mine.{IsNew, IsNoObject, adopting, drop_refusal, dropping, is_length, newcomer, opening, owns, uses};
 ghost use Rattle.far_word.specs.declared.refused.Refused.{Refused as any_refusal};
 ghost use Rattle.far_word.specs.declared.sizes.TheConstants.{MOST_MUTATORS};
 
+use crate::heap::Lock;
 use crate::name::HeapName;
 use crate::own::Own;
 use crate::scope::Scope;
+use crate::slow;
 use far_device::Device;
 use far_table::MutSeat;
 use far_word::Refused;
-use std::alloc::Global;
+use std::alloc::{AllocError, Global};
 use std::marker::Model;
+use std::sync::Wait;
 
 /// A mutator of the heap of a name, whose scope is closed. It may be moved to another thread.
 #[derive(Drop)]
-pub struct Mutator<K: HeapName, D: Device> {
+pub struct Mutator<K: HeapName, D: Device + Drop> {
     own: Own<K, D>,
+    lock: Lock<K, D>,
 }
 
-impl<K: HeapName, D: Device> Model for Mutator<K, D> {
+impl<K: HeapName, D: Device + Drop> Model for Mutator<K, D> {
     ghost use Rattle.std.specs.Prelude.{◌≡◌, false};
     ghost use Rattle.far_heap.specs.Mine.{Mine};
 
@@ -30,35 +34,57 @@ impl<K: HeapName, D: Device> Model for Mutator<K, D> {
     ghost invariant = { λ m. (m.own.opened ≡ false) × (m.own.table ≡ K.table) };
 }
 
-impl<K: HeapName, D: Device> Mutator<K, D> {
-    /// The mutator of a seat of a new heap. All room that it ever needs is taken here: refused [`Refused::Memory`] alone.
-    pub(crate) fn new(alloc: Global, seat: MutSeat<D>, number: u8) -> Result<Mutator<K, D>, Refused>
+impl<K: HeapName, D: Device + Drop> Mutator<K, D> {
+    // The mutator of a seat of a new heap. All room that it ever needs is taken here.
+    pub(crate) fn new(
+        alloc: Global,
+        lock: Lock<K, D>,
+        seat: MutSeat<D>,
+        number: u8,
+    ) -> Result<Mutator<K, D>, AllocError>
         requires table { seat.table ≡ K.table }
         requires new { IsNew number seat.view }
         requires few { number < MOST_MUTATORS }
-        ensures refused { IfErr result (λ why. why ≡ Refused.Memory) }
-        ensures made { IfOk result (λ m. m ≡ newcomer K.table number seat.view.honest) }
+        ensures { IfOk result (λ m. m ≡ newcomer K.table number seat.view.honest) }
     {
-        match Own::new(alloc, seat, number) {
-            Ok(own) => Ok(Mutator { own }),
-            Err(_) => Err(Refused::Memory),
-        }
+        let own = Own::new(alloc, seat, number)?;
+        Ok(Mutator { own, lock })
     }
 
-    pub(crate) fn of(own: Own<K, D>) -> Mutator<K, D>
+    pub(crate) fn of(own: Own<K, D>, lock: Lock<K, D>) -> Mutator<K, D>
         requires closed { own.opened ≡ false }
         requires table { own.table ≡ K.table }
         ensures { result ≡ own }
     {
-        Mutator { own }
+        Mutator { own, lock }
+    }
+
+    /// Makes a new object of `len` zeros, 1 to 1,016, of a data structure: its pointer, which the mutator didn't use. It takes the lock.
+    ///
+    /// Refused, in this order: [`Refused::Length`] exactly where the length is out of range; [`Refused::NoPointer`], where none of the mutator's 128
+    /// cells was found free; [`Refused::NoRoom`]. Nothing has changed then.
+    pub fn alloc<R: Wait>(&mut self, rt: &R, len: u16, ds: u8) -> Result<u16, Refused>
+        ensures refused { IfErr result (λ why. IsNoObject len why × (self.new ≡ self.old)) }
+        ensures made { IfOk result (λ p. (is_length len ≡ true) × (owns self.old p ≡ true) × (uses self.old p ≡ false) × (self.new ≡ adopting p len self.old)) }
+    {
+        slow::alloc(rt, &self.lock, &mut self.own, len, ds)
+    }
+
+    /// Drops an object, which the mutator uses no longer. It takes the lock. Refused [`Refused::NotHeld`] exactly where the mutator doesn't use the
+    /// pointer; nothing has changed then.
+    pub fn drop_object<R: Wait>(&mut self, rt: &R, p: u16) -> Result<(), Refused>
+        ensures refused { IfErr result (λ why. (drop_refusal self.old p ≡ Some why) × (self.new ≡ self.old)) }
+        ensures dropped { IfOk result (λ _. (drop_refusal self.old p ≡ None) × (self.new ≡ dropping p self.old)) }
+    {
+        slow::drop_object(rt, &self.lock, &mut self.own, p)
     }
 
     /// Opens the mutator's scope. Always; it takes neither lock nor memory.
     pub fn open(self) -> Scope<K, D>
         ensures { result ≡ opening self }
     {
-        let Mutator { mut own } = self;
+        let Mutator { mut own, lock } = self;
         own.open();
-        Scope::of(own)
+        Scope::of(own, lock)
     }
 }

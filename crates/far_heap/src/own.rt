@@ -127,6 +127,27 @@ impl<K: HeapName, D: Device> Own<K, D> {
         Some(self.lens[cell])
     }
 
+    // Its number.
+    pub(crate) fn number(&self) -> u8
+        ensures { result ≡ self.now.number }
+    {
+        self.number
+    }
+
+    // Whether it uses a pointer.
+    pub(crate) fn has(&self, p: u16) -> bool
+        ensures { result ≡ uses self.now p }
+    {
+        self.used_len(p).is_some()
+    }
+
+    // Whether its scope views a pointer's object.
+    pub(crate) fn is_viewing(&self, p: u16) -> bool
+        ensures { result ≡ views self.now p }
+    {
+        self.viewed_len(p).is_some()
+    }
+
     // A view of a pointer's object, by one pin, unless the scope has it already.
     pub(crate) fn try_view(&mut self, p: u16) -> Result<Tried, Refused>
         requires { self.old.opened ≡ true }
@@ -164,6 +185,27 @@ impl<K: HeapName, D: Device> Own<K, D> {
         let len = pointer_len(word);
         self.lens[(p % CELLS) as usize] = len;
         Some(len)
+    }
+
+    // Uses a new object of this length from then on, if its cell says so; else nothing changes.
+    pub(crate) fn adopt_new(&mut self, p: u16, len: u16) -> bool
+        requires { owns self.old p ≡ true }
+        ensures adopted { result ≡ true → (uses self.old p ≡ false) × (self.new ≡ adopting p len self.old) }
+        ensures kept { result ≡ false → self.new ≡ self.old }
+    {
+        if self.has(p) {
+            return false;
+        }
+        match self.adopt(p) {
+            Some(found) => {
+                if found == len {
+                    return true;
+                }
+                self.ask_drop(p);
+                false
+            }
+            None => false,
+        }
     }
 
     // Asks for an object to be moved: the word found in its cell.

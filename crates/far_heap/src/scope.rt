@@ -1,26 +1,30 @@
 // A mutator whose scope is open.
-ghost use Rattle.std.specs.Prelude.{◌≡◌, ◌+◌, true, false, length, slice_range, None, Some, IfOk, IfErr, IfSome};
+ghost use Rattle.std.specs.Prelude.{◌≡◌, ◌+◌, true, false, length, slice_range, None, Some, Ok, IfOk, IfErr, IfSome};
 ghost use Rattle.far_heap.specs.Made.{Pinned};
 ghost use Rattle.far_heap.specs.declared.view.Tried.{Tried as any_tried};
-ghost use Rattle.far_heap.specs.Mine.{TriedSo, access_refusal, bytes_in, closing, len_in, uses, view_of, views, writing};
+ghost use Rattle.far_heap.specs.Mine.{IsNoObject, IsNoView, TriedSo, access_refusal, adopting, bytes_in, closing, drop_refusal, dropping, is_length, len_in, owns, uses, view_of, viewing, views, writing};
 ghost use Rattle.far_word.specs.declared.refused.Refused.{Refused as any_refusal};
 
+use crate::heap::Lock;
 use crate::mutator::Mutator;
 use crate::name::HeapName;
 use crate::own::Own;
+use crate::slow;
 use crate::view::{Tried, View};
 use far_device::Device;
 use far_word::Refused;
 use std::marker::Model;
+use std::sync::Wait;
 
 /// A mutator whose scope is open. An object that it views isn't moved before the scope is closed. One that is dropped unclosed leaves the
 /// scope's word open: no round ends after it.
 #[derive(Drop)]
-pub struct Scope<K: HeapName, D: Device> {
+pub struct Scope<K: HeapName, D: Device + Drop> {
     own: Own<K, D>,
+    lock: Lock<K, D>,
 }
 
-impl<K: HeapName, D: Device> Model for Scope<K, D> {
+impl<K: HeapName, D: Device + Drop> Model for Scope<K, D> {
     ghost use Rattle.std.specs.Prelude.{◌≡◌, true};
     ghost use Rattle.far_heap.specs.Mine.{Mine};
 
@@ -31,13 +35,43 @@ impl<K: HeapName, D: Device> Model for Scope<K, D> {
     ghost invariant = { λ s. (s.own.opened ≡ true) × (s.own.table ≡ K.table) };
 }
 
-impl<K: HeapName, D: Device> Scope<K, D> {
-    pub(crate) fn of(own: Own<K, D>) -> Scope<K, D>
+impl<K: HeapName, D: Device + Drop> Scope<K, D> {
+    pub(crate) fn of(own: Own<K, D>, lock: Lock<K, D>) -> Scope<K, D>
         requires opened { own.opened ≡ true }
         requires table { own.table ≡ K.table }
         ensures { result ≡ own }
     {
-        Scope { own }
+        Scope { own, lock }
+    }
+
+    /// Makes a new object, as [`Mutator::alloc`] does. The scope doesn't view it yet.
+    pub fn alloc<R: Wait>(&mut self, rt: &R, len: u16, ds: u8) -> Result<u16, Refused>
+        ensures refused { IfErr result (λ why. IsNoObject len why × (self.new ≡ self.old)) }
+        ensures made { IfOk result (λ p. (is_length len ≡ true) × (owns self.old p ≡ true) × (uses self.old p ≡ false) × (self.new ≡ adopting p len self.old)) }
+    {
+        slow::alloc(rt, &self.lock, &mut self.own, len, ds)
+    }
+
+    /// Drops an object, as [`Mutator::drop_object`] does. Refused, in this order: [`Refused::NotHeld`]; [`Refused::Held`] exactly where the scope views
+    /// the object.
+    pub fn drop_object<R: Wait>(&mut self, rt: &R, p: u16) -> Result<(), Refused>
+        ensures refused { IfErr result (λ why. (drop_refusal self.old p ≡ Some why) × (self.new ≡ self.old)) }
+        ensures dropped { IfOk result (λ _. (drop_refusal self.old p ≡ None) × (self.new ≡ dropping p self.old)) }
+    {
+        slow::drop_object(rt, &self.lock, &mut self.own, p)
+    }
+
+    /// Dereferences a pointer. As [`Scope::try_view`] where that views it; else it takes the lock, and has the object brought where it can be viewed: a far
+    /// one is fetched, and one that a round wants is moved to another log.
+    ///
+    /// Refused [`Refused::NotHeld`] exactly where this mutator doesn't use the pointer; and, never where the scope views it already, [`Refused::NoRoom`],
+    /// and [`Refused::Memory`], [`Refused::Device`] or [`Refused::Damaged`] as the device is. The scope views what it did then.
+    pub fn view<R: Wait>(&mut self, rt: &R, p: u16) -> Result<View, Refused>
+        ensures refused { IfErr result (λ why. IsNoView self.old p why × (self.new ≡ self.old)) }
+        ensures viewed { IfOk result (λ view. (uses self.old p ≡ true) × (view ≡ view_of p self.old) × (self.new ≡ viewing p self.old)) }
+        ensures again { views self.old p ≡ true → (result ≡ Ok (view_of p self.old)) × (self.new ≡ self.old) }
+    {
+        slow::view(rt, &self.lock, &mut self.own, p)
     }
 
     /// Dereferences a pointer without the lock. Refused [`Refused::NotHeld`] exactly where this mutator doesn't use it. An object that the
@@ -75,8 +109,8 @@ impl<K: HeapName, D: Device> Scope<K, D> {
     pub fn close(self) -> Mutator<K, D>
         ensures { result ≡ closing self }
     {
-        let Scope { mut own } = self;
+        let Scope { mut own, lock } = self;
         own.close();
-        Mutator::of(own)
+        Mutator::of(own, lock)
     }
 }

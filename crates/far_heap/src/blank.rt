@@ -1,0 +1,57 @@
+// A heap before it is begun.
+ghost use Rattle.std.specs.Prelude.{◌≡◌, ◌↔◌, false, cond, Err, IfOk, IfErr};
+ghost use Rattle.far_core.specs.state.Shape.{is_shape};
+ghost use Rattle.far_word.specs.declared.refused.Refused.{Refused as any_refusal};
+
+use far_book::Book;
+use far_core::{Core, Shape};
+use far_device::Device;
+use far_table::{BookSeat, MutSeat, share};
+use far_word::Refused;
+use std::alloc::Global;
+use std::marker::Model;
+use std::snapshot::Snapshot;
+
+/// The parts of a heap that nobody has begun to use: the book, and the seats of the owners, on the shared words of a new core.
+#[derive(Drop)]
+pub struct Blank<D: Device + Drop> {
+    pub(crate) book: Book<BookSeat<D>, D>,
+    pub(crate) seats: Vec<MutSeat<D>>,
+}
+
+impl<D: Device + Drop> Model for Blank<D> {
+    ghost use Rattle.std.specs.Prelude.{length};
+    ghost use Rattle.far_table.specs.BookSeats.{seat_view, table_of};
+    ghost use Rattle.far_heap.specs.Blanks.{AreNew, BlankOf};
+
+    ghost Value = { BlankOf };
+
+    ghost view = { λ b. record { table = table_of b.book.near; mutators = length b.seats.items; honest = (seat_view b.book.near).honest } };
+
+    ghost invariant = { λ b. AreNew (table_of b.book.near) (seat_view b.book.near).honest 0 b.seats.items };
+}
+
+impl<D: Device + Drop> Blank<D> {
+    /// Makes the parts of a heap of 2 to 64 logs and 1 to 8 mutators, over a device that holds nothing yet. All room of the shared words, of the seats
+    /// and of the book is taken here.
+    ///
+    /// Refused, in this order: [`Refused::Shape`] exactly where the shape is out of range, [`Refused::Memory`]. The device is dropped then.
+    pub fn new(alloc: Global, shape: Shape, device: D) -> Result<Blank<D>, Refused>
+        ensures mutators { IfOk result (λ blank. blank.mutators ≡ shape.mutators) }
+        ensures honest { IfOk result (λ blank. blank.honest ≡ D.honest device) }
+        ensures shape { (result ≡ Err Refused.Shape) ↔ (is_shape shape ≡ false) }
+        ensures refused { IfErr result (λ why. why ≡ cond (is_shape shape) Refused.Memory Refused.Shape) }
+    {
+        let core = match Core::new(alloc, shape, false) {
+            Ok(core) => core,
+            Err(why) => return Err(why),
+        };
+        let Ok((seat, seats)) = share(alloc, core, Snapshot::of(&device)) else {
+            return Err(Refused::Memory);
+        };
+        let Ok(book) = Book::new(alloc, seat, device) else {
+            return Err(Refused::Memory);
+        };
+        Ok(Blank { book, seats })
+    }
+}

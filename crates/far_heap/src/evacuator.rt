@@ -1,0 +1,160 @@
+//! What the lock of a heap keeps: its evacuator, with the book over the one seat of the named table.
+
+ghost use Rattle.std.specs.Prelude.{◌≡◌, ◌≢◌, ◌*◌, ◌<◌, ◌↔◌, ℕ, [], None, true, IfOk, IfErr, map};
+ghost use Rattle.far_word.specs.Pointer.{read_of};
+ghost use Rattle.far_word.specs.declared.refused.Refused.TheVariants.{Memory};
+ghost use Rattle.far_word.specs.declared.sizes.TheConstants.{CELLS};
+ghost use Rattle.far_core.specs.state.Law.{Law};
+ghost use Rattle.far_core.specs.state.Shape.{is_shape};
+ghost use Rattle.far_core.specs.state.Spans.{spans_of};
+ghost use Rattle.far_core.specs.state.State.{State, put};
+ghost use Rattle.far_hand.specs.Finds.{Finds};
+ghost use Rattle.far_hand.specs.ShapeOf.{shape_of};
+ghost use Rattle.far_table.specs.BookSeats.{seat_may_be, seat_view, table_of};
+ghost use Rattle.far_table.specs.Viewed.{NoneIsGivenOut};
+ghost use Rattle.far_table.specs.Whole.{IsWhole};
+ghost use Rattle.far_book.specs.book.Home.{home_of};
+ghost use Rattle.far_book.specs.book.Own.{own_part};
+ghost use Rattle.far_book.specs.book.Rows.{row_of};
+ghost use Rattle.far_evac.specs.AnyHand.{Audits};
+ghost use Rattle.far_evac.specs.Census.{kind_in};
+ghost use Rattle.far_evac.specs.EvacOf.{moment};
+ghost use Rattle.far_evac.specs.Listing.{ListsEach};
+ghost use Rattle.far_evac.specs.MomentLaw.{MomentLaw};
+ghost use Rattle.far_evac.specs.declared.phase.Phase.TheVariants.{Idle};
+
+mod owners;
+mod rounds;
+
+use crate::name::HeapName;
+use far_book::{Book, Home};
+use far_core::Shape;
+use far_device::Device;
+use far_evac::{Census, Evac, LogState, Phase};
+use far_log::{LogRow, Span};
+use far_table::BookSeat;
+use far_word::Refused;
+use std::marker::{Model, PhantomData};
+
+/// The evacuator of the heap of a name, with the book: what the heap's lock keeps. Its calls are those of [`far_evac::Evac`] that leave owners' objects
+/// to the owners; none blocks.
+#[derive(Drop)]
+pub struct Evacuator<K: HeapName, D: Device + Drop> {
+    evac: Evac<BookSeat<D>, D>,
+    of: PhantomData<K>,
+}
+
+impl<K: HeapName, D: Device + Drop> Model for Evacuator<K, D> {
+    ghost use Rattle.std.specs.Prelude.{◌≡◌};
+    ghost use Rattle.far_table.specs.BookSeats.{table_of};
+    ghost use Rattle.far_table.specs.declared.book.BookSeat.{BookSeat as seat_of};
+    ghost use Rattle.far_evac.specs.EvacOf.{EvacOf};
+
+    ghost Value = { EvacOf (seat_of D) D };
+
+    ghost view = { λ e. e.evac };
+
+    ghost invariant = { λ e. table_of e.evac.book.near ≡ K.table };
+}
+
+impl<K: HeapName, D: Device + Drop> Evacuator<K, D> {
+    // Over a book of the named table, in no round.
+    pub(crate) fn new(book: Book<BookSeat<D>, D>) -> Evacuator<K, D>
+        requires { table_of book.near ≡ K.table }
+        ensures book { result.book ≡ book }
+        ensures idle { result.phase ≡ Idle }
+        ensures none { result.held ≡ [] }
+    {
+        Evacuator {
+            evac: Evac::new(book),
+            of: PhantomData,
+        }
+    }
+
+    /// What holds whenever the lock is got, whatever any policy chose: the book is of the table that the name names; what it knows keeps its part of
+    /// the law of the core, and the round agrees with it. In every state that the words and all views may be in objects and logs are whole: each object in
+    /// use has one place, its pointer and the header there name each other, and a log's live, dead and unused bytes make its size. And no log is given out
+    /// in which an owner holds a place.
+    pub fn keeps_law(&self)
+        ensures named { table_of self.now.book.near ≡ K.table }
+        ensures law { Law (own_part (seat_view self.now.book.near)) }
+        ensures moment { MomentLaw (moment seat_view self.now) }
+        ensures whole { (x : State) → seat_may_be self.now.book.near x → IsWhole x }
+        ensures kept { (x : State) → seat_may_be self.now.book.near x → NoneIsGivenOut x }
+    {
+        self.evac.keeps_law();
+    }
+
+    /// How large the heap is, and its epoch now.
+    pub fn shape(&self) -> Shape
+        ensures is { result ≡ shape_of (seat_view self.now.book.near) }
+        ensures range { is_shape result ≡ true }
+    {
+        self.evac.book().shape()
+    }
+
+    /// Where the round stands.
+    pub fn phase(&self) -> Phase
+        ensures { result ≡ self.now.phase }
+    {
+        self.evac.phase()
+    }
+
+    /// What a log is and has, of a number below [`Evacuator::shape`]'s; one that is chosen and not yet given back is named so.
+    pub fn log(&self, log: u8) -> LogState
+        requires log { log < (seat_view self.now.book.near).logs }
+        ensures kind { result.kind ≡ kind_in (moment seat_view self.now) log }
+        ensures row { result.row ≡ row_of (seat_view self.now.book.near) log }
+    {
+        self.evac.log(log)
+    }
+
+    /// What each sealed log has, oldest first, a chosen one too. Refused [`Refused::Memory`] alone.
+    pub fn rows(&self) -> Result<Vec<LogRow>, Refused>
+        ensures rows { IfOk result (λ rows. rows.items ≡ map (row_of (seat_view self.now.book.near)) self.now.book.order) }
+        ensures refused { IfErr result (λ why. why ≡ Memory) }
+    {
+        self.evac.rows()
+    }
+
+    /// The spans of a log, dead ones too, in their order. Refused [`Refused::Memory`] alone.
+    pub fn spans(&mut self, log: u8) -> Result<Vec<Span>, Refused>
+        requires log { log < (seat_view self.old.book.near).logs }
+        ensures spans { IfOk result (λ spans. spans.items ≡ spans_of (seat_view self.old.book.near) log) }
+        ensures refused { IfErr result (λ why. why ≡ Memory) }
+        ensures kept { seat_view self.new.book.near ≡ record (seat_view self.old.book.near) { word = (seat_view self.new.book.near).word } }
+        ensures order { self.new.book.order ≡ self.old.book.order }
+        ensures device { self.new.book.device ≡ self.old.book.device }
+        ensures round { (self.new.phase ≡ self.old.phase) × (self.new.held ≡ self.old.held) }
+    {
+        self.evac.spans(log)
+    }
+
+    /// Where a pointer's object is, of a number below 128 for each mutator of [`Evacuator::shape`], with the marks that its cell was found with;
+    /// `None` exactly where the cell is free. Its owner may add marks at any moment.
+    pub fn locate(&mut self, pointer: u16) -> Option<Home>
+        requires pointer { pointer < CELLS * (seat_view self.old.book.near).mutators }
+        ensures home { result ≡ home_of (read_of ((seat_view self.new.book.near).cell pointer)) }
+        ensures found { Finds ((seat_view self.old.book.near).cell pointer) ((seat_view self.new.book.near).cell pointer) }
+        ensures free { (result ≡ None) ↔ ((seat_view self.new.book.near).cell pointer ≡ 0) }
+        ensures saw { ∥ ((x : State) × seat_may_be self.new.book.near x × (x.cell pointer ≡ (seat_view self.new.book.near).cell pointer)) ∥₁ }
+        ensures kept { seat_view self.new.book.near ≡ record (seat_view self.old.book.near) { cell = put (seat_view self.old.book.near).cell pointer ((seat_view self.new.book.near).cell pointer) } }
+        ensures order { self.new.book.order ≡ self.old.book.order }
+        ensures device { self.new.book.device ≡ self.old.book.device }
+        ensures round { (self.new.phase ≡ self.old.phase) × (self.new.held ≡ self.old.held) }
+    {
+        self.evac.locate(pointer)
+    }
+
+    /// Where each object is whose cell wasn't found with DROP, once, by rising pointers, and what each log is and has, once, by number. Nothing has
+    /// moved. Refused [`Refused::Memory`] alone.
+    pub fn audit(&mut self) -> Result<Census, Refused>
+        ensures lists { IfOk result (λ census. Audits (moment seat_view self.old) (moment seat_view self.new) census.homes.items census.logs.items) }
+        ensures each { IfOk result (λ census. ListsEach (moment seat_view self.new) census.homes.items census.logs.items) }
+        ensures device { self.new.book.device ≡ self.old.book.device }
+        ensures refused { IfErr result (λ why. why ≡ Memory) }
+        ensures unchanged { IfErr result (λ _. self.new ≡ self.old) }
+    {
+        self.evac.audit()
+    }
+}

@@ -1,0 +1,173 @@
+// A heap, which its mutators share.
+ghost use Rattle.std.specs.Prelude.{◌≡◌, ◌⊎◌, ℕ, Bool, List, false, length, IfOk, IfErr};
+ghost use Rattle.far_word.specs.declared.refused.Refused.TheVariants.{Device as Failed, Memory, Phase as WrongPhase};
+ghost use Rattle.far_evac.specs.MomentLaw.{is_idle};
+ghost use Rattle.far_heap.specs.Blanks.{AreNew, newcomers};
+ghost use Rattle.far_heap.specs.Rounds.{Chose, EndsAfter, IsRunning, StopsBy};
+
+use crate::blank::Blank;
+use crate::evacuator::Evacuator;
+use crate::mutator::Mutator;
+use crate::name::HeapName;
+use far_device::Device;
+use far_evac::{EvacFault, Phase, Progress, RoundEnd};
+use far_policy::Policy;
+use far_table::MutSeat;
+use far_word::Refused;
+use std::alloc::{AllocError, Global};
+use std::sync::{Arc, Mutex, MutexGuard, Wait};
+use std::thread;
+
+/// The lock of a heap, with what it keeps.
+pub(crate) type Lock<K, D> = Arc<Mutex<Evacuator<K, D>>, Global>;
+
+/// A heap of a name. Threads share it by reference; its mutators have a share of their own in its lock.
+#[derive(Drop)]
+pub struct Heap<K: HeapName, D: Device + Drop> {
+    lock: Lock<K, D>,
+}
+
+// The mutators of these seats, by number, each with a share in the lock.
+fn mutators_of<K: HeapName, D: Device + Drop>(
+    alloc: Global,
+    lock: &Lock<K, D>,
+    mut seats: Vec<MutSeat<D>>,
+) -> Result<Vec<Mutator<K, D>>, AllocError>
+    requires { (honest : Bool) × AreNew K.table honest 0 seats.items }
+    ensures { (honest : Bool) → AreNew K.table honest 0 seats.items → IfOk result (λ mutators. mutators.items ≡ newcomers K.table honest (length seats.items)) }
+{
+    let many = seats.len();
+    let mut mutators = Vec::with_capacity(alloc, many)?;
+    for number in 0..many {
+        let seat = seats.remove(0);
+        let lock = Arc::try_clone(lock)?;
+        let mutator = Mutator::new(alloc, lock, seat, number as u8)?;
+        mutators.push_reserved(mutator);
+    }
+    Ok(mutators)
+}
+
+// Nothing was done.
+fn nothing_done() -> Progress
+    ensures { result.done ≡ false }
+{
+    Progress {
+        moved: 0,
+        far: 0,
+        dropped: 0,
+        freed: 0,
+        done: false,
+    }
+}
+
+// What was done in two parts. Other callers' rounds may have come between, so that no bound of one round holds: the sums stop at the greatest number.
+fn sum(before: Progress, more: Progress, done: bool) -> Progress
+    ensures { result.done ≡ done }
+{
+    Progress {
+        moved: before.moved.saturating_add(more.moved),
+        far: before.far.saturating_add(more.far),
+        dropped: before.dropped.saturating_add(more.dropped),
+        freed: before.freed.saturating_add(more.freed),
+        done,
+    }
+}
+
+impl<K: HeapName, D: Device + Drop> Heap<K, D> {
+    /// Begins a heap, with its mutators by number. All room that they ever need is taken here. Refused [`Refused::Memory`] alone; the blank is
+    /// dropped then.
+    ///
+    /// Its caller is a function over the name, called with `Brand`.
+    pub fn new(alloc: Global, blank: Blank<D>) -> Result<(Heap<K, D>, Vec<Mutator<K, D>>), Refused>
+        requires name { blank.table ≡ K.table }
+        ensures mutators { IfOk result (λ made. made.1.items ≡ newcomers K.table blank.honest blank.mutators) }
+        ensures refused { IfErr result (λ why. why ≡ Memory) }
+    {
+        let Blank { book, seats } = blank;
+        let evacuator = Evacuator::new(book);
+        let Ok(lock) = Arc::new(alloc, Mutex::new(evacuator)) else {
+            return Err(Refused::Memory);
+        };
+        let Ok(mutators) = mutators_of(alloc, &lock, seats) else {
+            return Err(Refused::Memory);
+        };
+        Ok((Heap { lock }, mutators))
+    }
+
+    /// Takes the lock: the book and the evacuator, until the guard is dropped.
+    pub fn book<R: Wait>(&self, rt: &R) -> MutexGuard<'_, Evacuator<K, D>> {
+        self.lock.lock(rt)
+    }
+
+    /// Makes a round: asks a policy for logs, at most `most`, and makes so many turns, or fewer if the round is over before. The lock is taken for the
+    /// choice, and anew for each turn; where the round waits for an open scope, other threads run before the next.
+    /// [`RoundEnd::Nothing`] exactly where no log was chosen, [`RoundEnd::Done`] where a turn gave the last of the round's logs back, and else
+    /// [`RoundEnd::Limit`], with the phase after the last turn. What the turns did is summed.
+    ///
+    /// Refused as [`Evacuator::select`] and [`Evacuator::turn`] are, [`Refused::Phase`] also where another caller ended the round meanwhile; `so_far`
+    /// is then the sum of what was done.
+    pub fn run_round<R: Wait, P: Policy>(
+        &self,
+        rt: &R,
+        policy: &mut P,
+        most: usize,
+        turns: u64,
+    ) -> Result<RoundEnd, EvacFault>
+        ensures ended { IfOk result (λ end. (logs : List ℕ) × Chose P.gives policy.old most policy.new logs × EndsAfter logs end) }
+        ensures refused { IfErr result (λ fault. StopsBy fault.why × (fault.so_far.done ≡ false)) }
+    {
+        let chosen = match self.book(rt).select(policy, most) {
+            Ok(chosen) => chosen,
+            Err(why) => {
+                return Err(EvacFault {
+                    so_far: nothing_done(),
+                    why,
+                });
+            }
+        };
+        if chosen.is_empty() {
+            return Ok(RoundEnd::Nothing);
+        }
+        self.make_turns(rt, turns)
+    }
+
+    // Makes so many turns of a round that was begun, or fewer if it is over before.
+    fn make_turns<R: Wait>(&self, rt: &R, turns: u64) -> Result<RoundEnd, EvacFault>
+        ensures ended { IfOk result IsRunning }
+        ensures refused { IfErr result (λ fault. ((fault.why ≡ WrongPhase) ⊎ (fault.why ≡ Memory) ⊎ (fault.why ≡ Failed)) × (fault.so_far.done ≡ false)) }
+    {
+        let mut total = nothing_done();
+        let mut phase = Phase::Marking;
+        for _ in 0..turns {
+            match self.turn_more(rt, total) {
+                Ok((sum, after)) => {
+                    total = sum;
+                    phase = after;
+                }
+                Err(fault) => return Err(fault),
+            }
+            if total.done {
+                return Ok(RoundEnd::Done(total));
+            }
+            if phase == Phase::Waiting {
+                thread::yield_now();
+            }
+        }
+        Ok(RoundEnd::Limit(phase))
+    }
+
+    // Makes one turn under the lock, and adds what it did to what was done before: with the phase after it.
+    fn turn_more<R: Wait>(&self, rt: &R, before: Progress) -> Result<(Progress, Phase), EvacFault>
+        ensures goes_on { IfOk result (λ made. is_idle made.1 ≡ made.0.done) }
+        ensures refused { IfErr result (λ fault. ((fault.why ≡ WrongPhase) ⊎ (fault.why ≡ Memory) ⊎ (fault.why ≡ Failed)) × (fault.so_far.done ≡ false)) }
+    {
+        let mut book = self.book(rt);
+        match book.turn() {
+            Ok(made) => Ok((sum(before, made, made.done), book.phase())),
+            Err(fault) => Err(EvacFault {
+                so_far: sum(before, fault.so_far, false),
+                why: fault.why,
+            }),
+        }
+    }
+}

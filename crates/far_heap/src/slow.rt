@@ -1,0 +1,119 @@
+// What a mutator does with the lock.
+ghost use Rattle.std.specs.Prelude.{◌≡◌, ◌/◌, ◌<◌, ◌≤◌, true, false, Ok, Some, None, IfOk, IfErr};
+ghost use Rattle.far_heap.specs.Mine.{IsNoObject, IsNoView, IsUnbrought, TriedSo, adopting, drop_refusal, dropping, is_length, owns, uses, view_of, viewing, views};
+ghost use Rattle.far_word.specs.declared.refused.Refused.{Refused as any_refusal};
+ghost use Rattle.far_word.specs.declared.sizes.TheConstants.{LONGEST};
+
+use crate::evacuator::Evacuator;
+use crate::heap::Lock;
+use crate::name::HeapName;
+use crate::own::Own;
+use crate::view::{Tried, View};
+use far_device::Device;
+use far_word::{LONGEST, Refused};
+use std::sync::Wait;
+
+// Makes a new object of zeros, and uses it from then on: its pointer.
+pub(crate) fn alloc<K: HeapName, D: Device + Drop, R: Wait>(
+    rt: &R,
+    lock: &Lock<K, D>,
+    own: &mut Own<K, D>,
+    len: u16,
+    ds: u8,
+) -> Result<u16, Refused>
+    ensures refused { IfErr result (λ why. IsNoObject len why × (own.new ≡ own.old)) }
+    ensures made { IfOk result (λ p. (is_length len ≡ true) × (owns own.old p ≡ true) × (uses own.old p ≡ false) × (own.new ≡ adopting p len own.old)) }
+{
+    if len == 0 || len > LONGEST {
+        return Err(Refused::Length);
+    }
+    for _ in rt.forever() {
+        let placed = lock.lock(rt).place_new(own.number(), len, ds);
+        match placed {
+            Ok(p) => {
+                if own.adopt_new(p, len) {
+                    return Ok(p);
+                }
+            }
+            Err(why) => return Err(why),
+        }
+    }
+    unreachable!()
+}
+
+// Drops an object, which the mutator uses no longer.
+pub(crate) fn drop_object<K: HeapName, D: Device + Drop, R: Wait>(
+    rt: &R,
+    lock: &Lock<K, D>,
+    own: &mut Own<K, D>,
+    p: u16,
+) -> Result<(), Refused>
+    ensures refused { IfErr result (λ why. (drop_refusal own.old p ≡ Some why) × (own.new ≡ own.old)) }
+    ensures dropped { IfOk result (λ _. (drop_refusal own.old p ≡ None) × (own.new ≡ dropping p own.old)) }
+{
+    if !own.has(p) {
+        return Err(Refused::NotHeld);
+    }
+    if own.is_viewing(p) {
+        return Err(Refused::Held);
+    }
+    own.ask_drop(p);
+    lock.lock(rt).retire_dropped(p);
+    Ok(())
+}
+
+// A view of an object, which is brought where it can be viewed, if need be.
+pub(crate) fn view<K: HeapName, D: Device + Drop, R: Wait>(
+    rt: &R,
+    lock: &Lock<K, D>,
+    own: &mut Own<K, D>,
+    p: u16,
+) -> Result<View, Refused>
+    requires { own.old.opened ≡ true }
+    ensures refused { IfErr result (λ why. IsNoView own.old p why × (own.new ≡ own.old)) }
+    ensures viewed { IfOk result (λ view. (uses own.old p ≡ true) × (view ≡ view_of p own.old) × (own.new ≡ viewing p own.old)) }
+    ensures again { views own.old p ≡ true → (result ≡ Ok (view_of p own.old)) × (own.new ≡ own.old) }
+{
+    for _ in rt.forever() {
+        match own.try_view(p) {
+            Ok(Tried::View(view)) => return Ok(view),
+            Ok(Tried::Slow(_)) => {}
+            Err(why) => return Err(why),
+        }
+        match bring(&mut *lock.lock(rt), own, p) {
+            Ok(Tried::View(view)) => return Ok(view),
+            Ok(Tried::Slow(_)) => {}
+            Err(why) => return Err(why),
+        }
+    }
+    unreachable!()
+}
+
+// Brings an object that isn't viewed where it can be, and tries again: a far one is fetched; of a near one the owner sets MOVE, and the book moves it, or
+// takes MOVE away.
+fn bring<K: HeapName, D: Device + Drop>(
+    book: &mut Evacuator<K, D>,
+    own: &mut Own<K, D>,
+    p: u16,
+) -> Result<Tried, Refused>
+    requires opened { own.old.opened ≡ true }
+    requires used { uses own.old p ≡ true }
+    requires unviewed { views own.old p ≡ false }
+    ensures refused { IfErr result (λ why. IsUnbrought why × (own.new ≡ own.old)) }
+    ensures tried { IfOk result (λ tried. TriedSo p own.old tried own.new) }
+{
+    match book.fetch_far(p) {
+        Ok(true) => {}
+        Ok(false) => {
+            own.ask_move(p);
+            if let Err(why) = book.move_asked(p) {
+                return Err(why);
+            }
+        }
+        Err(why) => return Err(why),
+    }
+    let Ok(tried) = own.try_view(p) else {
+        unreachable!()
+    };
+    Ok(tried)
+}
