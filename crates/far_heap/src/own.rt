@@ -193,6 +193,7 @@ impl<K: HeapName, D: Device> Own<K, D> {
         ensures adopted { result ≡ true → (uses self.old p ≡ false) × (self.new ≡ adopting p len self.old) }
         ensures kept { result ≡ false → self.new ≡ self.old }
     {
+        let _number = self.number;
         if self.has(p) {
             return false;
         }

@@ -9,7 +9,7 @@ use crate::heap::Lock;
 use crate::mutator::Mutator;
 use crate::name::HeapName;
 use crate::own::Own;
-use crate::slow;
+use crate::under_lock;
 use crate::view::{Tried, View};
 use far_device::Device;
 use far_word::Refused;
@@ -49,7 +49,7 @@ impl<K: HeapName, D: Device + Drop> Scope<K, D> {
         ensures refused { IfErr result (λ why. IsNoObject len why × (self.new ≡ self.old)) }
         ensures made { IfOk result (λ p. (is_length len ≡ true) × (owns self.old p ≡ true) × (uses self.old p ≡ false) × (self.new ≡ adopting p len self.old)) }
     {
-        slow::alloc(rt, &self.lock, &mut self.own, len, ds)
+        under_lock::alloc(rt, &self.lock, &mut self.own, len, ds)
     }
 
     /// Drops an object, as [`Mutator::drop_object`] does. Refused, in this order: [`Refused::NotHeld`]; [`Refused::Held`] exactly where the scope views
@@ -58,7 +58,7 @@ impl<K: HeapName, D: Device + Drop> Scope<K, D> {
         ensures refused { IfErr result (λ why. (drop_refusal self.old p ≡ Some why) × (self.new ≡ self.old)) }
         ensures dropped { IfOk result (λ _. (drop_refusal self.old p ≡ None) × (self.new ≡ dropping p self.old)) }
     {
-        slow::drop_object(rt, &self.lock, &mut self.own, p)
+        under_lock::drop_object(rt, &self.lock, &mut self.own, p)
     }
 
     /// Dereferences a pointer. As [`Scope::try_view`] where that views it; else it takes the lock, and has the object brought where it can be viewed: a far
@@ -71,7 +71,7 @@ impl<K: HeapName, D: Device + Drop> Scope<K, D> {
         ensures viewed { IfOk result (λ view. (uses self.old p ≡ true) × (view ≡ view_of p self.old) × (self.new ≡ viewing p self.old)) }
         ensures again { views self.old p ≡ true → (result ≡ Ok (view_of p self.old)) × (self.new ≡ self.old) }
     {
-        slow::view(rt, &self.lock, &mut self.own, p)
+        under_lock::view(rt, &self.lock, &mut self.own, p)
     }
 
     /// Dereferences a pointer without the lock. Refused [`Refused::NotHeld`] exactly where this mutator doesn't use it. An object that the
