@@ -51,6 +51,7 @@ impl<K: HeapName, D: Device + Drop> Mutator<K, D> {
         Ok(Mutator { own, lock })
     }
 
+    #[inline(always)]
     pub(crate) fn of(own: Own<K, D>, lock: Lock<K, D>) -> Mutator<K, D>
         requires closed { own.opened ≡ false }
         requires table { own.table ≡ K.table }
@@ -80,6 +81,7 @@ impl<K: HeapName, D: Device + Drop> Mutator<K, D> {
     }
 
     /// Opens the mutator's scope. Always; it takes neither lock nor memory.
+    #[inline(always)]
     pub fn open(self) -> Scope<K, D>
         ensures { result ≡ opening self }
     {

@@ -18,16 +18,14 @@ loop-number-preserved g c =
     let fewer = c.remove-seat.ensures.len in
     let more = c.push_reserved.ensures.len in
     let same = c.push_reserved.ensures.capacity in
-    let some : 0 < length c.loop-number.seats.items = omega arith in
-    (
+    let some : 0 < length c.loop-number.seats.items = omega arith in (
       λ honest new.
-        let h = i.0 honest new in
-        let first = first_new table honest n c.loop-number.seats.items c.remove-seat.result h.0 some c.remove-seat.ensures.value in
-        let is = c.in_ok-mutator.ensures ∙ ap (newcomer table n) first.1 in
-        (
-          subst (AreNew table honest (n + 1)) (sym c.remove-seat.ensures.items) first.3,
-          c.push_reserved.ensures.items ∙ (λ k. h.1 k ++ is k ∷ []) ∙ sym (map-range_with_len_more (λ m. newcomer table m honest) 0 n n (omega arith)),
-        ),
+          let h = i.0 honest new in
+          let first = first_new table honest n c.loop-number.seats.items c.remove-seat.result h.0 some c.remove-seat.ensures.value in
+          let is = c.in_ok-mutator.ensures ∙ ap (newcomer table n) first.1 in (
+            subst (AreNew table honest (n + 1)) (sym c.remove-seat.ensures.items) first.3,
+            c.push_reserved.ensures.items ∙ (λ k. h.1 k ++ is k ∷ []) ∙ sym (map-range_with_len_more (λ m. newcomer table m honest) 0 n n (omega arith)),
+          ),
       omega arith,
       omega arith,
       all,
