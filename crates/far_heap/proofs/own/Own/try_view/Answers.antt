@@ -7,31 +7,40 @@ use Rattle.far_word.specs.Pointer.{read_of}
 use Rattle.far_core.specs.declared.event.Event.TheVariants.{Pin}
 use Rattle.far_table.specs.Seats.{Seated, pin_reply}
 use Rattle.far_table.specs.Tells.{OwnerMade}
+use Rattle.far_table.specs.Views.{held_at}
 use Rattle.far_heap.specs.declared.view.View.{View}
 use Rattle.far_heap.specs.Mine.{IsSlow, Mine, OwnOk, len_in, mine_of, uses, viewing, views}
-use Rattle.far_heap.proofs.Mines.{again_mine, len_own, pinned_mine, uses_so, views_own}
-use Rattle.far_heap.proofs.OwnSteps.{pinned_ok, seated_is, stamp_free, stamp_held, stamp_unviewed, stamp_views, viewed_used}
+use Rattle.far_heap.proofs.Mines.{again_mine, len_own, none_there, pinned_mine, uses_so, views_own, views_so}
+use Rattle.far_heap.proofs.OwnSteps.{pinned_ok, seated_is, viewed_used}
 use Rattle.far_heap.proofs.Slow.{slow_found}
 use Rattle.far_heap.proofs.own.Own.try_view.Goals as goal
 
 pub pin-requires-clause-used : goal.pin-requires-clause-used
-pin-requires-clause-used g c = (uses_so c.self.inside.seat c.args.p (subst (λ (m : Mine). uses m c.args.p ≡ true) (sym c.self.view_is) c.in-Some.ensures.used.0)).1
+pin-requires-clause-used g c = (uses_so c.self.inside.seat c.args.p (subst (λ (m : Mine). uses m c.args.p ≡ true) (sym c.self.view_is) c.in-Some-used_len.ensures.used.0)).1
 
-pub returns-then-index-self-clause-tried : goal.returns-then-index-self-clause-tried
-returns-then-index-self-clause-tried g c =
+pub pin-requires-clause-free : goal.pin-requires-clause-free
+pin-requires-clause-free g c =
+    let s = c.self.inside.seat in
+    let p : ℕ = c.args.p in
+    let own = (uses_so s p (subst (λ (m : Mine). uses m p ≡ true) (sym c.self.view_is) c.in-Some-used_len.ensures.used.0)).0 in
+    none_there (held_at s.view p) (sym (views_own s p own) ∙ subst (λ (m : Mine). views m p ≡ false) (sym c.self.view_is) (c.viewed_len.ensures.other c.in_default.is))
+
+pub returns-in-Some-clause-tried : goal.returns-in-Some-clause-tried
+returns-in-Some-clause-tried g c =
     let s = c.self.inside in
     let p : ℕ = c.args.p in
-    let used = c.in-Some.ensures.used in
-    let own = (uses_so s.seat p (subst (λ (m : Mine). uses m p ≡ true) (sym c.self.view_is) used.0)).0 in
-    let held = stamp_held s.seat _ s.number s.lens.items s.stamps.items s.scope c.self.invariant p c.index.result.now (own ∙ c.self.invariant.number_is) c.index.ensures c.if-index-self.true in
+    let viewed = c.in-Some.ensures.viewed in
+    let here = subst (λ (m : Mine). views m p ≡ true) (sym c.self.view_is) viewed.0 in
+    let so = views_so s.seat p here in
+    let used = viewed_used s.seat _ s.number s.lens.items s.stamps.items s.scope c.self.invariant p here in
     let of : ℕ → View = λ n. record { pointer = p; len = n } in
-    (used.0, (ap of used.1, subst (λ (m : Mine). m ≡ viewing p m) c.self.view_is (again_mine s.seat p own held)))
+    (subst (λ (m : Mine). uses m p ≡ true) c.self.view_is used, (ap of viewed.1, subst (λ (m : Mine). m ≡ viewing p m) c.self.view_is (again_mine s.seat p so.0 so.1)))
 
 pub invariant_of-self : goal.invariant_of-self
 invariant_of-self g c =
     let s = c.self.inside in
     let p : ℕ = c.args.p in
-    let so = uses_so s.seat p (subst (λ (m : Mine). uses m p ≡ true) (sym c.self.view_is) c.in-Some.ensures.used.0) in
+    let so = uses_so s.seat p (subst (λ (m : Mine). uses m p ≡ true) (sym c.self.view_is) c.in-Some-used_len.ensures.used.0) in
     subst (λ (t : Seated). OwnOk t _ s.number s.lens.items (slice_set s.stamps.items (p % CELLS) s.scope) s.scope) (sym (seated_is c.pin.new.self s.seat.table _ c.pin.ensures.table c.in-Ok.ensures.held))
     (pinned_ok s.seat _ s.number s.lens.items s.stamps.items s.scope c.self.invariant p c.in-Ok.field-0 (so.0 ∙ c.self.invariant.number_is) so.1)
 
@@ -39,7 +48,7 @@ pub returns-in-Ok-clause-tried : goal.returns-in-Ok-clause-tried
 returns-in-Ok-clause-tried g c =
     let s = c.self.inside in
     let p : ℕ = c.args.p in
-    let used = c.in-Some.ensures.used in
+    let used = c.in-Some-used_len.ensures.used in
     let own = (uses_so s.seat p (subst (λ (m : Mine). uses m p ≡ true) (sym c.self.view_is) used.0)).0 in
     let of : ℕ → View = λ n. record { pointer = p; len = n } in (
       used.0,
@@ -50,48 +59,27 @@ pub returns-in-Err-clause-tried : goal.returns-in-Err-clause-tried
 returns-in-Err-clause-tried g c =
     let s = c.self.inside in
     let p : ℕ = c.args.p in
-    let used = c.in-Some.ensures.used in
+    let used = c.in-Some-used_len.ensures.used in
     let so = uses_so s.seat p (subst (λ (m : Mine). uses m p ≡ true) (sym c.self.view_is) used.0) in
-    let free = stamp_free s.seat _ s.number s.lens.items s.stamps.items s.scope c.self.invariant p c.index.result.now (so.0 ∙ c.self.invariant.number_is) c.index.ensures c.if-index-self.false in
     let kept = c.in-Err.ensures.kept in
     let made = subst (λ (r : Result Place ℕ). OwnerMade (Pin s.seat.view.number p) s.seat.view (pin_reply r) c.pin.new.self.view) c.in-Err.is c.pin.ensures.event in
     let slow = slow_found s.seat.view c.pin.new.self.view p c.in-Err.word made so.0 so.1 kept.1 in (
       used.0,
       (
-        ap (λ (m : Mine). views m p) (sym c.self.view_is) ∙ views_own s.seat p so.0 ∙ free,
+        c.viewed_len.ensures.other c.in_default.is,
         ap mine_of (seated_is c.pin.new.self s.seat.table s.seat.view c.pin.ensures.table kept.0) ∙ c.self.view_is,
         subst (λ (m : Mine). IsSlow (len_in m p) (read_of c.in-Err.word)) c.self.view_is (subst (λ n. IsSlow n (read_of c.in-Err.word)) (sym (len_own s.seat p so.0)) slow),
       ),
     )
 
-pub returns-in_default-clause-again : goal.returns-in_default-clause-again
-returns-in_default-clause-again g c = λ h.
-    let s = c.self.inside in
-    let p : ℕ = c.args.p in
-    let used = viewed_used s.seat _ s.number s.lens.items s.stamps.items s.scope c.self.invariant p (subst (λ (m : Mine). views m p ≡ true) (sym c.self.view_is) h) in
-    let unused = c.used_len.ensures.unused c.in_default.is in
-    absurd (false≢true (sym unused ∙ subst (λ (m : Mine). uses m p ≡ true) c.self.view_is used))
-
-pub returns-then-index-self-clause-pinned : goal.returns-then-index-self-clause-pinned
-returns-then-index-self-clause-pinned g c = λ h.
-    let s = c.self.inside in
-    let p : ℕ = c.args.p in
-    let own = (uses_so s.seat p (subst (λ (m : Mine). uses m p ≡ true) (sym c.self.view_is) c.in-Some.ensures.used.0)).0 in
-    let viewed = stamp_views s.seat _ s.number s.lens.items s.stamps.items s.scope c.self.invariant p c.index.result.now (own ∙ c.self.invariant.number_is) c.index.ensures c.if-index-self.true in
-    absurd (false≢true (sym h ∙ subst (λ (m : Mine). views m p ≡ true) c.self.view_is viewed))
+pub returns-in_default-used_len-clause-again : goal.returns-in_default-used_len-clause-again
+returns-in_default-used_len-clause-again g c = λ h. absurd (false≢true (sym (c.viewed_len.ensures.other c.in_default.is) ∙ h))
 
 pub returns-in-Ok-clause-again : goal.returns-in-Ok-clause-again
-returns-in-Ok-clause-again g c = λ h.
-    let s = c.self.inside in
-    let p : ℕ = c.args.p in
-    let own = (uses_so s.seat p (subst (λ (m : Mine). uses m p ≡ true) (sym c.self.view_is) c.in-Some.ensures.used.0)).0 in
-    let free = stamp_unviewed s.seat _ s.number s.lens.items s.stamps.items s.scope c.self.invariant p c.index.result.now (own ∙ c.self.invariant.number_is) c.index.ensures c.if-index-self.false in
-    absurd (false≢true (sym (subst (λ (m : Mine). views m p ≡ false) c.self.view_is free) ∙ h))
+returns-in-Ok-clause-again g c = λ h. absurd (false≢true (sym (c.viewed_len.ensures.other c.in_default.is) ∙ h))
 
 pub returns-in-Err-clause-again : goal.returns-in-Err-clause-again
-returns-in-Err-clause-again g c = λ h.
-    let s = c.self.inside in
-    let p : ℕ = c.args.p in
-    let own = (uses_so s.seat p (subst (λ (m : Mine). uses m p ≡ true) (sym c.self.view_is) c.in-Some.ensures.used.0)).0 in
-    let free = stamp_unviewed s.seat _ s.number s.lens.items s.stamps.items s.scope c.self.invariant p c.index.result.now (own ∙ c.self.invariant.number_is) c.index.ensures c.if-index-self.false in
-    absurd (false≢true (sym (subst (λ (m : Mine). views m p ≡ false) c.self.view_is free) ∙ h))
+returns-in-Err-clause-again g c = λ h. absurd (false≢true (sym (c.viewed_len.ensures.other c.in_default.is) ∙ h))
+
+pub returns-in-Some-clause-pinned : goal.returns-in-Some-clause-pinned
+returns-in-Some-clause-pinned g c = λ h. absurd (false≢true (sym h ∙ c.in-Some.ensures.viewed.0))

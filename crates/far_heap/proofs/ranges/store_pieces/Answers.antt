@@ -1,6 +1,6 @@
 use Rattle.std.proofs.Common.{◌+◌, ◌-◌, ◌*◌, ◌/◌, ℕ, length, refl, arith}
 use Rattle.far_heap.proofs.Parts.{range_wrote}
-use Rattle.far_heap.proofs.ranges.store_range.Goals as goal
+use Rattle.far_heap.proofs.ranges.store_pieces.Goals as goal
 
 pub returns-clause-wrote : goal.returns-clause-wrote
 returns-clause-wrote g c =

@@ -3,7 +3,7 @@ use Rattle.far_table.specs.Seats.{Seated}
 use Rattle.far_table.specs.Views.{object_at, word_in_view}
 use Rattle.far_heap.specs.Ranges.{HasBytes}
 use Rattle.far_heap.proofs.Parts.{range_read}
-use Rattle.far_heap.proofs.ranges.load_range.Goals as goal
+use Rattle.far_heap.proofs.ranges.load_pieces.Goals as goal
 
 pub returns-clause-bytes : goal.returns-clause-bytes
 returns-clause-bytes g c = λ h.
