@@ -4,7 +4,7 @@ ghost use Rattle.std.specs.Prelude.{◌≡◌};
 
 use crate::tests::flag::Tally;
 use crate::tests::looks::{blank, has_objects, sized};
-use crate::tests::writers::{Work, Writer};
+use crate::tests::writers::Writer;
 use far_device::MemDevice;
 use far_evac::RoundEnd;
 use far_heap::{Blank, Heap, HeapName, Mutator};
@@ -19,6 +19,15 @@ use std::thread::Threads;
 /// How many mutators there are.
 const WRITERS: u64 = 4;
 
+/// How long a writer writes: until it has written a hundred times in each of `most` parts, or less, once it has in `least`, and so many rounds were
+/// done while all wrote.
+#[derive(Clone, Copy)]
+struct Work {
+    least: u64,
+    most: u64,
+    rounds: u64,
+}
+
 /// What all threads do.
 #[derive(Clone, Copy)]
 struct Plan {
@@ -30,11 +39,12 @@ struct Plan {
     stops: bool,
 }
 
-/// How far the writers are.
+/// How far all are: how many writers have begun and ended, and how many rounds were done while all wrote.
 #[derive(Drop)]
 struct Gate {
     begun: Tally,
     ended: Tally,
+    rounds: Tally,
 }
 
 /// What a thread does.
@@ -48,16 +58,34 @@ enum Job<K: HeapName> {
 #[derive(Drop)]
 enum Done<K: HeapName> {
     Written(Writer<K>),
-    /// So many rounds were done while all wrote.
-    Rounds(u64),
+    Rounds,
     Wrong,
 }
 
-// Makes objects, writes as it is told to, and ends.
+// Writes as long as the writer is told to; `None` where something was wrong.
+fn written<K: HeapName, R: Wait>(
+    rt: &R,
+    mut writer: Writer<K>,
+    gate: &Gate,
+    work: Work,
+) -> Option<Writer<K>> {
+    for part in 0..work.most {
+        if part >= work.least && gate.rounds.count() >= work.rounds {
+            break;
+        }
+        let Some(next) = writer.worked(rt) else {
+            return None;
+        };
+        writer = next;
+    }
+    Some(writer)
+}
+
+// Makes objects, writes, and ends.
 fn writes<K: HeapName, R: Wait>(rt: &R, mut writer: Writer<K>, gate: &Gate, work: Work) -> Done<K> {
     let made = writer.makes_objects(rt);
     gate.begun.raise();
-    let written = writer.worked(rt, work);
+    let written = written(rt, writer, gate, work);
     gate.ended.raise();
     match written {
         Some(writer) if made => Done::Written(writer),
@@ -86,20 +114,19 @@ fn rounds<K: HeapName, R: Wait>(
     gate: &Gate,
     plan: Plan,
 ) -> Done<K> {
-    let mut done = 0u64;
     gate.begun.wait_for(WRITERS);
     for _ in 0..plan.rounds {
         if plan.stops && gate.ended.count() == WRITERS {
             break;
         }
         match makes_round(rt, heap, plan.turns) {
-            Some(true) if gate.ended.count() == 0 => done = done.saturating_add(1),
+            Some(true) if gate.ended.count() == 0 => gate.rounds.raise(),
             Some(_) => {}
             None => return Done::Wrong,
         }
         thread::yield_now();
     }
-    Done::Rounds(done)
+    Done::Rounds
 }
 
 fn run<K: HeapName, R: Wait>(
@@ -128,21 +155,20 @@ fn jobs_of<K: HeapName>(
     Ok(jobs)
 }
 
-// How many rounds were done while all wrote; `None` where something was wrong, or an object isn't what it was filled with.
-fn sum<K: HeapName, R: Wait>(rt: &R, done: Vec<Done<K>>) -> Option<u64> {
-    let mut all = 0u64;
+// Whether nothing was wrong, and each object has what it was filled with last.
+fn are_right<K: HeapName, R: Wait>(rt: &R, done: Vec<Done<K>>) -> bool {
     for one in done {
         match one {
             Done::Written(writer) => {
                 if !writer.has_all(rt) {
-                    return None;
+                    return false;
                 }
             }
-            Done::Rounds(rounds) => all = all.saturating_add(rounds),
-            Done::Wrong => return None,
+            Done::Rounds => {}
+            Done::Wrong => return false,
         }
     }
-    Some(all)
+    true
 }
 
 // Whether one more round is done, or finds nothing to do.
@@ -169,6 +195,7 @@ fn made_beside<K: HeapName + Send + Sync, R: Threads + Wait + Sync>(
     let gate = Gate {
         begun: Tally::new(),
         ended: Tally::new(),
+        rounds: Tally::new(),
     };
     let (shared, beside) = (&heap, &gate);
     let Ok(done) = thread::map_vec(rt, jobs, &|job| run(rt, shared, beside, plan, job)) else {
@@ -177,13 +204,17 @@ fn made_beside<K: HeapName + Send + Sync, R: Threads + Wait + Sync>(
     if !ends_with_a_round(rt, &heap) || !has_objects(&mut *heap.book(rt), 64) {
         return None;
     }
-    sum(rt, done)
+    are_right(rt, done).then_some(gate.rounds.count())
 }
 
 #[test]
 fn rounds_beside_writers(rt: HostRuntime) -> Result<(), Fail> {
     let plan = Plan {
-        work: Work { scopes: 100 },
+        work: Work {
+            least: 10,
+            most: 10,
+            rounds: 0,
+        },
         rounds: 50,
         turns: 100,
         stops: false,
@@ -194,10 +225,15 @@ fn rounds_beside_writers(rt: HostRuntime) -> Result<(), Fail> {
     Ok(())
 }
 
+// The writers go on until enough rounds were done, however fast the machine is.
 #[test]
 fn rounds_while_writing(rt: HostRuntime) -> Result<(), Fail> {
     let plan = Plan {
-        work: Work { scopes: 20_000 },
+        work: Work {
+            least: 20,
+            most: 100_000,
+            rounds: 20,
+        },
         rounds: 1_000_000_000,
         turns: 100_000,
         stops: true,

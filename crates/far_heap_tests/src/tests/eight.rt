@@ -23,7 +23,7 @@ struct Numbered<K: HeapName> {
     mutator: Mutator<K, MemDevice>,
 }
 
-fn numbered<K: HeapName>(
+fn with_numbers<K: HeapName>(
     alloc: Global,
     mutators: Vec<Mutator<K, MemDevice>>,
 ) -> Result<Vec<Numbered<K>>, AllocError> {
@@ -57,7 +57,8 @@ fn filled<K: HeapName, R: Wait>(
     let mut scope = mutator.open();
     for cell in 0..objects {
         let pointer = pointer_of(number, cell);
-        if scope.alloc(rt, len, 1) != Ok(pointer) || !writes(&mut scope, pointer, bytes_of(pointer))
+        if scope.alloc(rt, len, 1) != Ok(pointer)
+            || !writes(&mut scope, pointer, bytes_of(pointer))
         {
             return None;
         }
@@ -149,13 +150,14 @@ fn in_two_logs<K: HeapName + Send + Sync, R: Threads + Wait + Sync>(
     let Ok((heap, mutators)) = Heap::<K, MemDevice>::new(alloc, blank) else {
         return false;
     };
-    let Ok(all) = numbered(alloc, mutators) else {
+    let Ok(all) = with_numbers(alloc, mutators) else {
         return false;
     };
     let Some(all) = all_filled(rt, alloc, all, 1, 120) else {
         return false;
     };
-    if !is_full(&mut *heap.book(rt)) || heap.run_round(rt, &mut Oldest, 2, 9) != Ok(RoundEnd::Nothing)
+    if !is_full(&mut *heap.book(rt))
+        || heap.run_round(rt, &mut Oldest, 2, 9) != Ok(RoundEnd::Nothing)
     {
         return false;
     }
@@ -201,7 +203,7 @@ fn in_most_logs<K: HeapName + Send + Sync, R: Threads + Wait + Sync>(
     let Ok((heap, mutators)) = Heap::<K, MemDevice>::new(alloc, blank) else {
         return false;
     };
-    let Ok(all) = numbered(alloc, mutators) else {
+    let Ok(all) = with_numbers(alloc, mutators) else {
         return false;
     };
     let Some(all) = all_filled(rt, alloc, all, 128, 48) else {

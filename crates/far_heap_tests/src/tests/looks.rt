@@ -122,7 +122,9 @@ fn bytes(census: &Census) -> (u64, bool) {
 }
 
 /// What the census of a heap counts; `None` where memory was refused.
-pub(super) fn counted<K: HeapName, D: Device + Drop>(book: &mut Evacuator<K, D>) -> Option<Counted> {
+pub(super) fn census_of<K: HeapName, D: Device + Drop>(
+    book: &mut Evacuator<K, D>,
+) -> Option<Counted> {
     match book.audit() {
         Ok(census) => {
             let (near, far) = objects(&census);
@@ -146,7 +148,7 @@ pub(super) fn counts<K: HeapName, D: Device + Drop>(
     live: u64,
 ) -> bool {
     let whole = true;
-    counted(book)
+    census_of(book)
         == Some(Counted {
             near,
             far,
@@ -160,7 +162,7 @@ pub(super) fn has_objects<K: HeapName, D: Device + Drop>(
     book: &mut Evacuator<K, D>,
     objects: u64,
 ) -> bool {
-    match counted(book) {
+    match census_of(book) {
         Some(found) => found.whole && found.near.saturating_add(found.far) == objects,
         None => false,
     }

@@ -5,8 +5,7 @@ ghost use Rattle.std.specs.Prelude.{◌≡◌};
 use crate::tests::looks::{blank, is_log, sized};
 use crate::tests::scopes::makes;
 use crate::tests::steps::{
-    deals, deals_none, gives_up, is_clear, marks, runs_none, selects, selects_none,
-    turns_none,
+    deals, deals_none, gives_up, is_clear, marks, runs_none, selects, selects_none, turns_none,
 };
 use far_core::Shape;
 use far_device::MemDevice;
@@ -116,12 +115,7 @@ fn a_call_belongs_to_a_phase(rt: HostRuntime) -> Result<(), Fail> {
 }
 
 // Whether a script of these logs is refused for one of them, as a choice and as a whole round.
-fn is_bad<K: HeapName, R: Wait>(
-    rt: &R,
-    heap: &Heap<K, MemDevice>,
-    logs: &[u8],
-    log: u8,
-) -> bool {
+fn is_bad<K: HeapName, R: Wait>(rt: &R, heap: &Heap<K, MemDevice>, logs: &[u8], log: u8) -> bool {
     let mut script = Scripted { logs };
     let why = Refused::BadChoice(log);
     selects_none(&mut *heap.book(rt), &mut script, 9, why) && runs_none(rt, heap, &mut script, why)

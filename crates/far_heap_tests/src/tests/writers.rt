@@ -22,13 +22,6 @@ struct Filled {
     byte: u8,
 }
 
-/// What a writer is to write.
-#[derive(Clone, Copy)]
-pub(super) struct Work {
-    /// How many scopes it opens, in each of which it writes ten times.
-    pub scopes: u64,
-}
-
 // A new object, as soon as there is room.
 fn made<K: HeapName, R: Wait>(rt: &R, mutator: &mut Mutator<K, MemDevice>) -> Option<u16> {
     for _ in 0..TRIES {
@@ -104,6 +97,8 @@ fn writes_ten<K: HeapName, R: Wait>(
 pub(super) struct Writer<K: HeapName> {
     mutator: Mutator<K, MemDevice>,
     objects: Vec<Filled>,
+    // How many scopes it has opened.
+    scopes: u64,
 }
 
 impl<K: HeapName> Writer<K> {
@@ -112,6 +107,7 @@ impl<K: HeapName> Writer<K> {
         Writer {
             mutator,
             objects: Vec::new(alloc),
+            scopes: 0,
         }
     }
 
@@ -129,25 +125,35 @@ impl<K: HeapName> Writer<K> {
         true
     }
 
-    /// Writes in so many scopes, and reads back; `None` where something was wrong.
-    pub(super) fn worked<R: Wait>(self, rt: &R, work: Work) -> Option<Writer<K>> {
+    /// Writes ten times in each of ten scopes, and reads back; `None` where something was wrong.
+    pub(super) fn worked<R: Wait>(self, rt: &R) -> Option<Writer<K>> {
         let Writer {
             mut mutator,
             mut objects,
+            mut scopes,
         } = self;
-        for turn in 0..work.scopes {
+        for _ in 0..10u8 {
             let mut scope = mutator.open();
-            if !writes_ten(rt, &mut scope, &mut objects, turn) {
+            if !writes_ten(rt, &mut scope, &mut objects, scopes) {
                 return None;
             }
+            scopes = scopes.wrapping_add(1);
             mutator = scope.close();
         }
-        Some(Writer { mutator, objects })
+        Some(Writer {
+            mutator,
+            objects,
+            scopes,
+        })
     }
 
     /// Whether all its objects have what they were filled with last.
     pub(super) fn has_all<R: Wait>(self, rt: &R) -> bool {
-        let Writer { mutator, objects } = self;
+        let Writer {
+            mutator,
+            objects,
+            ..
+        } = self;
         let mut scope = mutator.open();
         for object in &objects {
             let Some(view) = viewed(rt, &mut scope, object.pointer) else {
