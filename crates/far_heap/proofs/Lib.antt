@@ -7,3 +7,8 @@ pub mod Parts
 pub mod Accesses
 pub mod Newcomers
 pub mod Adopting
+pub mod Named
+pub mod NewSeats
+pub mod Under
+pub mod Calls
+pub mod Undone

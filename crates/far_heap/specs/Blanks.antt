@@ -1,13 +1,10 @@
 -- What a heap is made of.
-use Rattle.std.specs.Prelude.{◌≡◌, ◌+◌, ◌≤◌, ℕ, Bool, false, List, length, map}
+use Rattle.std.specs.Prelude.{◌≡◌, ◌+◌, ◌≤◌, ℕ, Bool, List, [], ◌∷◌, length, map}
 use Rattle.std.specs.List.{range_with_len}
 use Rattle.atomic_table.specs.Seated.{TableId}
 use Rattle.far_word.specs.declared.sizes.TheConstants.{MOST_MUTATORS}
-use Rattle.far_core.specs.declared.shape.Shape.{Shape}
-use Rattle.far_core.specs.state.Opening.{opening}
-use Rattle.far_table.specs.First.{first_owner}
 use Rattle.far_table.specs.Seats.{Seated}
-use Rattle.far_heap.specs.Mine.{Mine, newcomer}
+use Rattle.far_heap.specs.Mine.{IsNew, Mine, newcomer}
 
 -- the parts of a heap that nobody has begun to use: their table, how many mutators there will be, and whether the far side is honest
 pub record BlankOf : Type 0 where
@@ -15,15 +12,15 @@ pub record BlankOf : Type 0 where
   pub mutators : ℕ
   pub honest : Bool
 
--- the seat of an owner of a new heap, who has done nothing
-abbrev pub new_seat : TableId → Shape → Bool → ℕ → Seated
-new_seat table shape honest m = record { table = table; view = first_owner (opening shape false) honest m }
+-- these are seats of a table, of owners by number from one on, who have done nothing
+abbrev pub AreNew : TableId → Bool → ℕ → List Seated → Type 0
+AreNew table honest first [] = Unit {0}
+AreNew table honest first (x ∷ xs) = (x.table ≡ table) × (x.view.honest ≡ honest) × IsNew first x.view × AreNew table honest (first + 1) xs
 
--- these are the seats of the owners of a new heap, from one of them on
-pub record AreNew (table : TableId) (honest : Bool) (first : ℕ) (seats : List Seated) : Type 0 where
-  pub shape : Shape
-  pub few : first + length seats ≤ MOST_MUTATORS
-  pub are : seats ≡ map (new_seat table shape honest) (range_with_len first (length seats))
+-- those of a whole heap
+pub record NewSeats (table : TableId) (honest : Bool) (seats : List Seated) : Type 0 where
+  pub few : length seats ≤ MOST_MUTATORS
+  pub are : AreNew table honest 0 seats
 
 -- the mutators of a new heap, by number
 abbrev pub newcomers : TableId → Bool → ℕ → List Mine

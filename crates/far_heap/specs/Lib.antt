@@ -3,3 +3,4 @@ pub mod Made
 pub mod Ranges
 pub mod Blanks
 pub mod Rounds
+pub mod Calls

@@ -107,8 +107,12 @@ access_refusal m p from count = if views m p then (if is_range (len_in m p) from
 abbrev pub is_length : ℕ → Bool
 is_length len = nat_lt 0 len && nat_le len LONGEST
 
+abbrev pub IsRefusedNew : Bool → Refused → Type 0
+IsRefusedNew true why = (why ≡ NoPointer) ⊎ (why ≡ NoRoom)
+IsRefusedNew false why = why ≡ Length
+
 abbrev pub IsNoObject : ℕ → Refused → Type 0
-IsNoObject len why = if is_length len then ((why ≡ NoPointer) ⊎ (why ≡ NoRoom)) else (why ≡ Length)
+IsNoObject len why = IsRefusedNew (is_length len) why
 
 -- ---- when a drop is: the pointer isn't used, or its object is viewed
 abbrev pub drop_refusal : Mine → ℕ → Option Refused
@@ -118,8 +122,13 @@ drop_refusal m p = if uses m p then (if views m p then Some Held else None) else
 abbrev pub IsUnbrought : Refused → Type 0
 IsUnbrought why = (why ≡ NoRoom) ⊎ (why ≡ Memory) ⊎ (why ≡ Device) ⊎ (why ≡ Damaged)
 
+abbrev pub IsRefusedView : Bool → Bool → Refused → Type 0
+IsRefusedView true true why = ⊥
+IsRefusedView true false why = IsUnbrought why
+IsRefusedView false viewed why = why ≡ NotHeld
+
 abbrev pub IsNoView : Mine → ℕ → Refused → Type 0
-IsNoView m p why = if uses m p then ((views m p ≡ false) × IsUnbrought why) else (why ≡ NotHeld)
+IsNoView m p why = IsRefusedView (uses m p) (views m p) why
 
 -- ---- what a dereference answers
 -- a word of an object of this length on which no view may rest: it is far, or has EVAC or MOVE. It isn't dropped

@@ -22,13 +22,13 @@ pub struct Blank<D: Device + Drop> {
 impl<D: Device + Drop> Model for Blank<D> {
     ghost use Rattle.std.specs.Prelude.{length};
     ghost use Rattle.far_table.specs.BookSeats.{seat_view, table_of};
-    ghost use Rattle.far_heap.specs.Blanks.{AreNew, BlankOf};
+    ghost use Rattle.far_heap.specs.Blanks.{BlankOf, NewSeats};
 
     ghost Value = { BlankOf };
 
     ghost view = { λ b. record { table = table_of b.book.near; mutators = length b.seats.items; honest = (seat_view b.book.near).honest } };
 
-    ghost invariant = { λ b. AreNew (table_of b.book.near) (seat_view b.book.near).honest 0 b.seats.items };
+    ghost invariant = { λ b. NewSeats (table_of b.book.near) (seat_view b.book.near).honest b.seats.items };
 }
 
 impl<D: Device + Drop> Blank<D> {

@@ -2,7 +2,7 @@
 ghost use Rattle.std.specs.Prelude.{◌≡◌, ◌⊎◌, ℕ, Bool, List, false, length, IfOk, IfErr};
 ghost use Rattle.far_word.specs.declared.refused.Refused.TheVariants.{Device as Failed, Memory, Phase as WrongPhase};
 ghost use Rattle.far_evac.specs.MomentLaw.{is_idle};
-ghost use Rattle.far_heap.specs.Blanks.{AreNew, newcomers};
+ghost use Rattle.far_heap.specs.Blanks.{NewSeats, newcomers};
 ghost use Rattle.far_heap.specs.Rounds.{Chose, EndsAfter, IsRunning, StopsBy};
 
 use crate::blank::Blank;
@@ -33,8 +33,8 @@ fn mutators_of<K: HeapName, D: Device + Drop>(
     lock: &Lock<K, D>,
     mut seats: Vec<MutSeat<D>>,
 ) -> Result<Vec<Mutator<K, D>>, AllocError>
-    requires { (honest : Bool) × AreNew K.table honest 0 seats.items }
-    ensures { (honest : Bool) → AreNew K.table honest 0 seats.items → IfOk result (λ mutators. mutators.items ≡ newcomers K.table honest (length seats.items)) }
+    requires { (honest : Bool) × NewSeats K.table honest seats.items }
+    ensures { (honest : Bool) → NewSeats K.table honest seats.items → IfOk result (λ mutators. mutators.items ≡ newcomers K.table honest (length seats.items)) }
 {
     let many = seats.len();
     let mut mutators = Vec::with_capacity(alloc, many)?;

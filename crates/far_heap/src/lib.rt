@@ -8,17 +8,19 @@
 mod blank;
 mod evacuator;
 mod heap;
+mod laws;
 mod mutator;
 mod name;
 mod own;
 mod ranges;
 mod scope;
-mod slow;
+mod under_lock;
 mod view;
 
 pub use blank::Blank;
 pub use evacuator::Evacuator;
 pub use heap::Heap;
+pub use laws::reads_give_last_writes;
 pub use mutator::Mutator;
 pub use name::HeapName;
 pub use scope::Scope;

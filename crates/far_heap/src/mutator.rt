@@ -8,7 +8,7 @@ use crate::heap::Lock;
 use crate::name::HeapName;
 use crate::own::Own;
 use crate::scope::Scope;
-use crate::slow;
+use crate::under_lock;
 use far_device::Device;
 use far_table::MutSeat;
 use far_word::Refused;
@@ -51,6 +51,7 @@ impl<K: HeapName, D: Device + Drop> Mutator<K, D> {
         Ok(Mutator { own, lock })
     }
 
+    #[inline(always)]
     pub(crate) fn of(own: Own<K, D>, lock: Lock<K, D>) -> Mutator<K, D>
         requires closed { own.opened ≡ false }
         requires table { own.table ≡ K.table }
@@ -67,7 +68,7 @@ impl<K: HeapName, D: Device + Drop> Mutator<K, D> {
         ensures refused { IfErr result (λ why. IsNoObject len why × (self.new ≡ self.old)) }
         ensures made { IfOk result (λ p. (is_length len ≡ true) × (owns self.old p ≡ true) × (uses self.old p ≡ false) × (self.new ≡ adopting p len self.old)) }
     {
-        slow::alloc(rt, &self.lock, &mut self.own, len, ds)
+        under_lock::alloc(rt, &self.lock, &mut self.own, len, ds)
     }
 
     /// Drops an object, which the mutator uses no longer. It takes the lock. Refused [`Refused::NotHeld`] exactly where the mutator doesn't use the
@@ -76,10 +77,11 @@ impl<K: HeapName, D: Device + Drop> Mutator<K, D> {
         ensures refused { IfErr result (λ why. (drop_refusal self.old p ≡ Some why) × (self.new ≡ self.old)) }
         ensures dropped { IfOk result (λ _. (drop_refusal self.old p ≡ None) × (self.new ≡ dropping p self.old)) }
     {
-        slow::drop_object(rt, &self.lock, &mut self.own, p)
+        under_lock::drop_object(rt, &self.lock, &mut self.own, p)
     }
 
     /// Opens the mutator's scope. Always; it takes neither lock nor memory.
+    #[inline(always)]
     pub fn open(self) -> Scope<K, D>
         ensures { result ≡ opening self }
     {

@@ -40,6 +40,8 @@ impl<K: HeapName, D: Device> Model for Own<K, D> {
 }
 
 // Sets all stamps back.
+#[cold]
+#[inline(never)]
 fn clear(stamps: &mut Vec<u64>)
     ensures many { length stamps.new.items ≡ length stamps.old.items }
     ensures zeros { (k : ℕ) → slice_index stamps.new.items k ≡ 0 }
@@ -50,6 +52,7 @@ fn clear(stamps: &mut Vec<u64>)
 }
 
 // The count of the next scope, above each stamp. Where no number is left the stamps are set back.
+#[inline(always)]
 fn next_scope(stamps: &mut Vec<u64>, scope: u64) -> u64
     requires { (k : ℕ) → slice_index stamps.old.items k ≤ scope }
     ensures many { length stamps.new.items ≡ length stamps.old.items }
@@ -83,6 +86,7 @@ impl<K: HeapName, D: Device> Own<K, D> {
     }
 
     // Opens the scope.
+    #[inline(always)]
     pub(crate) fn open(&mut self)
         requires { self.old.opened ≡ false }
         ensures { self.new ≡ opening self.old }
@@ -92,6 +96,7 @@ impl<K: HeapName, D: Device> Own<K, D> {
     }
 
     // Closes the scope. It views nothing from then on.
+    #[inline(always)]
     pub(crate) fn close(&mut self)
         requires { self.old.opened ≡ true }
         ensures { self.new ≡ closing self.old }
@@ -101,6 +106,7 @@ impl<K: HeapName, D: Device> Own<K, D> {
     }
 
     // The length of the object of a pointer that the mutator uses.
+    #[inline(always)]
     fn used_len(&self, p: u16) -> Option<u16>
         ensures used { IfSome result (λ len. (uses self.now p ≡ true) × (len ≡ len_in self.now p)) }
         ensures unused { result ≡ None → uses self.now p ≡ false }
@@ -113,6 +119,7 @@ impl<K: HeapName, D: Device> Own<K, D> {
     }
 
     // The length of the object of a pointer that the scope views.
+    #[inline(always)]
     fn viewed_len(&self, p: u16) -> Option<u16>
         ensures viewed { IfSome result (λ len. (views self.now p ≡ true) × (len ≡ len_in self.now p) × (len ≤ LONGEST)) }
         ensures other { result ≡ None → views self.now p ≡ false }
@@ -149,6 +156,7 @@ impl<K: HeapName, D: Device> Own<K, D> {
     }
 
     // A view of a pointer's object, by one pin, unless the scope has it already.
+    #[inline(always)]
     pub(crate) fn try_view(&mut self, p: u16) -> Result<Tried, Refused>
         requires { self.old.opened ≡ true }
         ensures refused { IfErr result (λ why. (why ≡ Refused.NotHeld) × (uses self.old p ≡ false) × (self.new ≡ self.old)) }
@@ -156,16 +164,15 @@ impl<K: HeapName, D: Device> Own<K, D> {
         ensures again { views self.old p ≡ true → (result ≡ Ok (Tried.View (view_of p self.old))) × (self.new ≡ self.old) }
         ensures pinned { views self.old p ≡ false → IfOk result (λ tried. Pinned p self.old tried self.new) }
     {
+        if let Some(len) = self.viewed_len(p) {
+            return Ok(Tried::View(View { pointer: p, len }));
+        }
         let Some(len) = self.used_len(p) else {
             return Err(Refused::NotHeld);
         };
-        let cell = (p % CELLS) as usize;
-        if self.stamps[cell] == self.scope {
-            return Ok(Tried::View(View { pointer: p, len }));
-        }
         match self.seat.pin(p) {
             Ok(_) => {
-                self.stamps[cell] = self.scope;
+                self.stamps[(p % CELLS) as usize] = self.scope;
                 Ok(Tried::View(View { pointer: p, len }))
             }
             Err(word) => Ok(Tried::Slow(word)),
@@ -193,6 +200,7 @@ impl<K: HeapName, D: Device> Own<K, D> {
         ensures adopted { result ≡ true → (uses self.old p ≡ false) × (self.new ≡ adopting p len self.old) }
         ensures kept { result ≡ false → self.new ≡ self.old }
     {
+        let _number = self.number;
         if self.has(p) {
             return false;
         }
@@ -229,6 +237,7 @@ impl<K: HeapName, D: Device> Own<K, D> {
     }
 
     // The length of the object of a view, of which these bytes are a range.
+    #[inline(always)]
     fn access(&self, view: View, from: u16, count: usize) -> Result<u16, Refused>
         ensures refused { IfErr result (λ why. access_refusal self.now view.pointer from count ≡ Some why) }
         ensures done { IfOk result (λ len. (access_refusal self.now view.pointer from count ≡ None) × (views self.now view.pointer ≡ true) × (len ≡ len_in self.now view.pointer) × (len ≤ LONGEST) × (from + count ≤ len) × (0 < count)) }
@@ -243,6 +252,7 @@ impl<K: HeapName, D: Device> Own<K, D> {
     }
 
     // Reads bytes of an object that the scope views.
+    #[inline(always)]
     pub(crate) fn read(&mut self, view: View, from: u16, out: &mut [u8]) -> Result<(), Refused>
         ensures same { self.new ≡ self.old }
         ensures refused { IfErr result (λ why. (access_refusal self.old view.pointer from (length out.old) ≡ Some why) × (out.new ≡ out.old)) }
@@ -257,6 +267,7 @@ impl<K: HeapName, D: Device> Own<K, D> {
     }
 
     // Writes bytes over those of an object that the scope views.
+    #[inline(always)]
     pub(crate) fn write(&mut self, view: View, from: u16, bytes: &[u8]) -> Result<(), Refused>
         ensures refused { IfErr result (λ why. (access_refusal self.old view.pointer from (length bytes.now) ≡ Some why) × (self.new ≡ self.old)) }
         ensures done { IfOk result (λ _. (access_refusal self.old view.pointer from (length bytes.now) ≡ None) × (self.new ≡ writing view.pointer from bytes.now self.old)) }

@@ -38,6 +38,7 @@ fn load_part<D: Device>(seat: &mut MutSeat<D>, p: u16, from: u16, out: &mut [u8]
 }
 
 // Loads whole words.
+#[inline(always)]
 fn load_words<D: Device>(seat: &mut MutSeat<D>, p: u16, first: u16, out: &mut [u8])
     requires held { IsSome (held_at seat.old.view p) }
     requires short { len_of (object_at seat.old.view p) ≤ LONGEST }
@@ -53,8 +54,9 @@ fn load_words<D: Device>(seat: &mut MutSeat<D>, p: u16, first: u16, out: &mut [u
     }
 }
 
-// Loads a range of bytes.
-pub(crate) fn load_range<D: Device>(seat: &mut MutSeat<D>, p: u16, from: u16, out: &mut [u8])
+// Loads a range of bytes, of which the first and the last may lie within a word.
+#[inline(never)]
+fn load_pieces<D: Device>(seat: &mut MutSeat<D>, p: u16, from: u16, out: &mut [u8])
     requires held { IsSome (held_at seat.old.view p) }
     requires short { len_of (object_at seat.old.view p) ≤ LONGEST }
     requires inside { from + length out.old ≤ len_of (object_at seat.old.view p) }
@@ -70,6 +72,22 @@ pub(crate) fn load_range<D: Device>(seat: &mut MutSeat<D>, p: u16, from: u16, ou
     }
     load_words(seat, p, (from + head as u16) / 8, &mut out[head..whole]);
     load_part(seat, p, from + whole as u16, &mut out[whole..]);
+}
+
+// Loads a range of bytes.
+#[inline(always)]
+pub(crate) fn load_range<D: Device>(seat: &mut MutSeat<D>, p: u16, from: u16, out: &mut [u8])
+    requires held { IsSome (held_at seat.old.view p) }
+    requires short { len_of (object_at seat.old.view p) ≤ LONGEST }
+    requires inside { from + length out.old ≤ len_of (object_at seat.old.view p) }
+    ensures same { seat.new ≡ seat.old }
+    ensures bytes { seat.old.view.honest ≡ true → HasBytes (word_in_view (object_at seat.old.view p)) from out.new }
+{
+    if from % 8 == 0 && out.len() % 8 == 0 {
+        load_words(seat, p, from / 8, out);
+    } else {
+        load_pieces(seat, p, from, out);
+    }
 }
 
 // A word with some of its bytes replaced, and zeros past so many.
@@ -110,6 +128,7 @@ fn store_part<D: Device>(seat: &mut MutSeat<D>, p: u16, len: u16, from: u16, byt
 }
 
 // Stores whole words.
+#[inline(always)]
 fn store_words<D: Device>(seat: &mut MutSeat<D>, p: u16, first: u16, bytes: &[u8])
     requires held { IsSome (held_at seat.old.view p) }
     requires short { len_of (object_at seat.old.view p) ≤ LONGEST }
@@ -125,14 +144,9 @@ fn store_words<D: Device>(seat: &mut MutSeat<D>, p: u16, first: u16, bytes: &[u8
     }
 }
 
-// Stores a range of bytes of an object of this length.
-pub(crate) fn store_range<D: Device>(
-    seat: &mut MutSeat<D>,
-    p: u16,
-    len: u16,
-    from: u16,
-    bytes: &[u8],
-)
+// Stores a range of bytes of an object of this length, of which the first and the last may lie within a word.
+#[inline(never)]
+fn store_pieces<D: Device>(seat: &mut MutSeat<D>, p: u16, len: u16, from: u16, bytes: &[u8])
     requires held { IsSome (held_at seat.old.view p) }
     requires len { len_of (object_at seat.old.view p) ≡ len }
     requires short { len ≤ LONGEST }
@@ -149,4 +163,27 @@ pub(crate) fn store_range<D: Device>(
     }
     store_words(seat, p, (from + head as u16) / 8, &bytes[head..whole]);
     store_part(seat, p, len, from + whole as u16, &bytes[whole..]);
+}
+
+// Stores a range of bytes of an object of this length.
+#[inline(always)]
+pub(crate) fn store_range<D: Device>(
+    seat: &mut MutSeat<D>,
+    p: u16,
+    len: u16,
+    from: u16,
+    bytes: &[u8],
+)
+    requires held { IsSome (held_at seat.old.view p) }
+    requires len { len_of (object_at seat.old.view p) ≡ len }
+    requires short { len ≤ LONGEST }
+    requires inside { from + length bytes.now ≤ len }
+    ensures table { seat.new.table ≡ seat.old.table }
+    ensures wrote { Wrote p from bytes.now seat.old.view seat.new.view }
+{
+    if from % 8 == 0 && bytes.len() % 8 == 0 {
+        store_words(seat, p, from / 8, bytes);
+    } else {
+        store_pieces(seat, p, len, from, bytes);
+    }
 }

@@ -9,7 +9,7 @@ use crate::heap::Lock;
 use crate::mutator::Mutator;
 use crate::name::HeapName;
 use crate::own::Own;
-use crate::slow;
+use crate::under_lock;
 use crate::view::{Tried, View};
 use far_device::Device;
 use far_word::Refused;
@@ -36,6 +36,8 @@ impl<K: HeapName, D: Device + Drop> Model for Scope<K, D> {
 }
 
 impl<K: HeapName, D: Device + Drop> Scope<K, D> {
+    #[inline(always)]
+    #[inline(always)]
     pub(crate) fn of(own: Own<K, D>, lock: Lock<K, D>) -> Scope<K, D>
         requires opened { own.opened ≡ true }
         requires table { own.table ≡ K.table }
@@ -49,7 +51,7 @@ impl<K: HeapName, D: Device + Drop> Scope<K, D> {
         ensures refused { IfErr result (λ why. IsNoObject len why × (self.new ≡ self.old)) }
         ensures made { IfOk result (λ p. (is_length len ≡ true) × (owns self.old p ≡ true) × (uses self.old p ≡ false) × (self.new ≡ adopting p len self.old)) }
     {
-        slow::alloc(rt, &self.lock, &mut self.own, len, ds)
+        under_lock::alloc(rt, &self.lock, &mut self.own, len, ds)
     }
 
     /// Drops an object, as [`Mutator::drop_object`] does. Refused, in this order: [`Refused::NotHeld`]; [`Refused::Held`] exactly where the scope views
@@ -58,7 +60,7 @@ impl<K: HeapName, D: Device + Drop> Scope<K, D> {
         ensures refused { IfErr result (λ why. (drop_refusal self.old p ≡ Some why) × (self.new ≡ self.old)) }
         ensures dropped { IfOk result (λ _. (drop_refusal self.old p ≡ None) × (self.new ≡ dropping p self.old)) }
     {
-        slow::drop_object(rt, &self.lock, &mut self.own, p)
+        under_lock::drop_object(rt, &self.lock, &mut self.own, p)
     }
 
     /// Dereferences a pointer. As [`Scope::try_view`] where that views it; else it takes the lock, and has the object brought where it can be viewed: a far
@@ -66,17 +68,30 @@ impl<K: HeapName, D: Device + Drop> Scope<K, D> {
     ///
     /// Refused [`Refused::NotHeld`] exactly where this mutator doesn't use the pointer; and, never where the scope views it already, [`Refused::NoRoom`],
     /// and [`Refused::Memory`], [`Refused::Device`] or [`Refused::Damaged`] as the device is. The scope views what it did then.
+    #[inline(always)]
+    #[inline(always)]
     pub fn view<R: Wait>(&mut self, rt: &R, p: u16) -> Result<View, Refused>
         ensures refused { IfErr result (λ why. IsNoView self.old p why × (self.new ≡ self.old)) }
         ensures viewed { IfOk result (λ view. (uses self.old p ≡ true) × (view ≡ view_of p self.old) × (self.new ≡ viewing p self.old)) }
         ensures again { views self.old p ≡ true → (result ≡ Ok (view_of p self.old)) × (self.new ≡ self.old) }
     {
-        slow::view(rt, &self.lock, &mut self.own, p)
+        match self.own.try_view(p) {
+            Ok(Tried::View(view)) => return Ok(view),
+            Ok(Tried::Slow(_)) => {}
+            Err(why) => return Err(why),
+        }
+        let brought = under_lock::view(rt, &self.lock, &mut self.own, p);
+        match brought {
+            Ok(view) => Ok(view),
+            Err(why) => Err(why),
+        }
     }
 
     /// Dereferences a pointer without the lock. Refused [`Refused::NotHeld`] exactly where this mutator doesn't use it. An object that the
     /// scope views already is viewed again, whatever marks have come since, without a step. Else one step sets HOT and finds a word: the
     /// object is viewed where it rests by that word; else the answer is that word, and the scope views what it did.
+    #[inline(always)]
+    #[inline(always)]
     pub fn try_view(&mut self, p: u16) -> Result<Tried, Refused>
         ensures refused { IfErr result (λ why. (why ≡ Refused.NotHeld) × (uses self.old p ≡ false) × (self.new ≡ self.old)) }
         ensures tried { IfOk result (λ tried. (uses self.old p ≡ true) × TriedSo p self.old tried self.new) }
@@ -88,6 +103,8 @@ impl<K: HeapName, D: Device + Drop> Scope<K, D> {
 
     /// Reads the bytes of an object from one on. Refused first [`Refused::NotHeld`] exactly where this scope doesn't view the pointer, then
     /// [`Refused::Range`] exactly where there are none, or they pass the object's end.
+    #[inline(always)]
+    #[inline(always)]
     pub fn read(&mut self, view: &View, from: u16, out: &mut [u8]) -> Result<(), Refused>
         ensures same { self.new ≡ self.old }
         ensures refused { IfErr result (λ why. (access_refusal self.old view.now.pointer from (length out.old) ≡ Some why) × (out.new ≡ out.old)) }
@@ -98,6 +115,8 @@ impl<K: HeapName, D: Device + Drop> Scope<K, D> {
     }
 
     /// Writes bytes over those of an object from one on. All others stay. Refused as [`Scope::read`] is; then nothing changes.
+    #[inline(always)]
+    #[inline(always)]
     pub fn write(&mut self, view: &View, from: u16, bytes: &[u8]) -> Result<(), Refused>
         ensures refused { IfErr result (λ why. (access_refusal self.old view.now.pointer from (length bytes.now) ≡ Some why) × (self.new ≡ self.old)) }
         ensures done { IfOk result (λ _. (access_refusal self.old view.now.pointer from (length bytes.now) ≡ None) × (self.new ≡ writing view.now.pointer from bytes.now self.old)) }
@@ -106,6 +125,8 @@ impl<K: HeapName, D: Device + Drop> Scope<K, D> {
     }
 
     /// Closes the scope, which views nothing from then on. Always.
+    #[inline(always)]
+    #[inline(always)]
     pub fn close(self) -> Mutator<K, D>
         ensures { result ≡ closing self }
     {

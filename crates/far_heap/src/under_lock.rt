@@ -62,24 +62,21 @@ pub(crate) fn drop_object<K: HeapName, D: Device + Drop, R: Wait>(
     Ok(())
 }
 
-// A view of an object, which is brought where it can be viewed, if need be.
+// A view of an object that isn't viewed, which is brought where it can be.
+#[inline(never)]
 pub(crate) fn view<K: HeapName, D: Device + Drop, R: Wait>(
     rt: &R,
     lock: &Lock<K, D>,
     own: &mut Own<K, D>,
     p: u16,
 ) -> Result<View, Refused>
-    requires { own.old.opened ≡ true }
-    ensures refused { IfErr result (λ why. IsNoView own.old p why × (own.new ≡ own.old)) }
-    ensures viewed { IfOk result (λ view. (uses own.old p ≡ true) × (view ≡ view_of p own.old) × (own.new ≡ viewing p own.old)) }
-    ensures again { views own.old p ≡ true → (result ≡ Ok (view_of p own.old)) × (own.new ≡ own.old) }
+    requires opened { own.old.opened ≡ true }
+    requires used { uses own.old p ≡ true }
+    requires unviewed { views own.old p ≡ false }
+    ensures refused { IfErr result (λ why. IsUnbrought why × (own.new ≡ own.old)) }
+    ensures viewed { IfOk result (λ view. (view ≡ view_of p own.old) × (own.new ≡ viewing p own.old)) }
 {
     for _ in rt.forever() {
-        match own.try_view(p) {
-            Ok(Tried::View(view)) => return Ok(view),
-            Ok(Tried::Slow(_)) => {}
-            Err(why) => return Err(why),
-        }
         match bring(&mut *lock.lock(rt), own, p) {
             Ok(Tried::View(view)) => return Ok(view),
             Ok(Tried::Slow(_)) => {}

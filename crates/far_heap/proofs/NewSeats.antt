@@ -1,0 +1,43 @@
+-- The seats of a new heap.
+use Rattle.std.proofs.Common.{◌≡◌, ℕ, ◌+◌, ◌<◌, ◌≤◌, zero, suc, Bool, false, List, [], ◌∷◌, length, map, refl, sym, ap, subst, ◌∙◌, arith}
+use Rattle.std.specs.Prelude.{remove, slice_index_or}
+use Rattle.std.specs.List.{range_with_len}
+use Rattle.std.proofs.lemmas.List.FromFn.{length-map-range_with_len}
+use Rattle.atomic_table.specs.Seated.{TableId}
+use Rattle.far_word.specs.declared.sizes.TheConstants.{MOST_MUTATORS}
+use Rattle.far_core.specs.declared.shape.Shape.{Shape}
+use Rattle.far_core.specs.state.Opening.{opening}
+use Rattle.far_core.specs.state.State.{State}
+use Rattle.far_table.specs.First.{first_owner}
+use Rattle.far_table.specs.Seats.{Seated}
+use Rattle.far_table.specs.Stands.{SaysOwner, Seats}
+use Rattle.far_heap.specs.Blanks.{AreNew, NewSeats}
+use Rattle.far_heap.specs.Mine.{IsNew}
+use Rattle.far_hand.specs.Masked.{masked}
+use Rattle.far_book.specs.book.Own.{IsAtStart}
+use Rattle.far_heap.proofs.Newcomers.{new_owner}
+
+-- ---- as they are shared
+module _ (table : TableId) (s : State) (honest : Bool) (shape : Shape) (opens : s ≡ opening shape false) (says : (m : ℕ) → SaysOwner s honest m (first_owner s honest m)) where
+  one_new : (m : ℕ) → IsNew m (first_owner s honest m)
+  one_new m = new_owner shape false honest m (first_owner s honest m) (subst (λ (t : State). SaysOwner t honest m (first_owner s honest m)) opens (says m))
+
+  all_new : (n first : ℕ) → AreNew table honest first (map (λ m. record { table = table; view = first_owner s honest m }) (range_with_len first n))
+  all_new zero first = tt
+  all_new (suc n) first = (refl, (says first).honesty, one_new first, all_new n (first + 1))
+
+  pub new_seats : (seats : List Seated) → s.mutators ≤ MOST_MUTATORS → seats ≡ Seats table (first_owner s honest) s.mutators → NewSeats table honest seats
+  new_seats seats few is = record {
+    few = let long : length seats ≡ s.mutators = ap length is ∙ length-map-range_with_len (λ m. record { table = table; view = first_owner s honest m }) 0 s.mutators in omega (arith, long, few);
+    are = subst (AreNew table honest 0) (sym is) (all_new s.mutators 0);
+  }
+
+-- ---- the first is taken
+pub first_new : (table : TableId) (honest : Bool) (n : ℕ) (seats : List Seated) (x : Seated) → AreNew table honest n seats → 0 < length seats → x ≡ slice_index_or seats 0 x →
+    (x.table ≡ table) × (x.view.honest ≡ honest) × IsNew n x.view × AreNew table honest (n + 1) (remove seats 0)
+first_new table honest n [] x new some is = absurd (omega (arith, some))
+first_new table honest n (y ∷ ys) x new some is = subst (λ (z : Seated). (z.table ≡ table) × (z.view.honest ≡ honest) × IsNew n z.view × AreNew table honest (n + 1) ys) (sym is) new
+
+-- what the book's seat knows at the start
+pub seat_start : (s v : State) (shape : Shape) (honest : Bool) → s ≡ opening shape false → v ≡ masked (record s { honest = honest }) s.cell (λ _. false) → IsAtStart v
+seat_start s v shape honest e is = subst IsAtStart (sym (is ∙ ap (λ (t : State). masked (record t { honest = honest }) t.cell (λ _. false)) e)) refl

@@ -1,0 +1,7 @@
+use Rattle.far_heap.proofs.Named.{stays_named}
+use Rattle.far_heap.proofs.evacuator.Evacuator.retire_dropped.Goals as goal
+
+pub invariant_of-self : goal.invariant_of-self
+invariant_of-self g c =
+    stays_named _ c.locate.new.self.book.near c.retire.new.self.book.near c.retire.ensures.came
+    (stays_named _ c.self.inside.evac.book.near c.locate.new.self.book.near c.locate.ensures.came c.self.invariant)
