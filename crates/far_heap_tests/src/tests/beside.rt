@@ -88,8 +88,14 @@ fn writes<K: HeapName, R: Wait>(rt: &R, mut writer: Writer<K>, gate: &Gate, work
     let written = written(rt, writer, gate, work);
     gate.ended.raise();
     match written {
-        Some(writer) if made => Done::Written(writer),
-        _ => Done::Wrong,
+        Some(writer) => {
+            if made {
+                Done::Written(writer)
+            } else {
+                Done::Wrong
+            }
+        }
+        None => Done::Wrong,
     }
 }
 
@@ -119,10 +125,11 @@ fn rounds<K: HeapName, R: Wait>(
         if plan.stops && gate.ended.count() == WRITERS {
             break;
         }
-        match makes_round(rt, heap, plan.turns) {
-            Some(true) if gate.ended.count() == 0 => gate.rounds.raise(),
-            Some(_) => {}
-            None => return Done::Wrong,
+        let Some(done) = makes_round(rt, heap, plan.turns) else {
+            return Done::Wrong;
+        };
+        if done && gate.ended.count() == 0 {
+            gate.rounds.raise();
         }
         thread::yield_now();
     }

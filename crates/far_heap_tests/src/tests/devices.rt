@@ -33,6 +33,20 @@ fn read_inner(inner: &mut MemDevice, id: u32) -> Result<Vec<u8>, DeviceFault>
     }
 }
 
+// The same, with one byte less.
+fn read_short(inner: &mut MemDevice, id: u32) -> Result<Vec<u8>, DeviceFault>
+    ensures follows { Follows bytes_at (λ _. true) faults_of (λ _ _. IsSome (bytes_at inner.old id) × ⊥) any_key (is_fault (given result)) inner.old inner.new }
+    ensures kept { bytes_at inner.new ≡ bytes_at inner.old }
+{
+    match read_inner(inner, id) {
+        Ok(mut bytes) => {
+            bytes.pop();
+            Ok(bytes)
+        }
+        Err(why) => Err(why),
+    }
+}
+
 /// What one of its calls does in place of what was asked.
 #[derive(Clone, Copy, Debug, PartialEq, Eq)]
 enum Fault {
@@ -54,20 +68,15 @@ struct Faulty {
 
 impl Faulty {
     // The fault of this call, if it is the one.
-    fn next_fault(&mut self) -> Option<Fault> {
+    fn next_fault(&mut self) -> Option<Fault>
+        ensures inner { self.new.inner ≡ self.old.inner }
+        ensures faults { self.new.faults ≡ self.old.faults }
+    {
         if self.before > 0 {
             self.before -= 1;
             return None;
         }
         self.fault.take()
-    }
-
-    // A call that fails so.
-    fn fails(&mut self, fault: DeviceFault) -> DeviceFault {
-        if fault == DeviceFault::Device {
-            self.faults = self.faults.wrapping_add(1);
-        }
-        fault
     }
 }
 
@@ -98,7 +107,11 @@ impl Device for Faulty {
 
     fn write(&mut self, id: u32, bytes: &[u8]) -> Result<(), DeviceFault> {
         match self.next_fault() {
-            Some(Fault::Fails(fault)) => Err(self.fails(fault)),
+            Some(Fault::Fails(DeviceFault::Device)) => {
+                self.faults = self.faults.wrapping_add(1);
+                Err(DeviceFault::Device)
+            }
+            Some(Fault::Fails(DeviceFault::Memory)) => Err(DeviceFault::Memory),
             _ => self.inner.write(id, bytes),
         }
     }
@@ -106,12 +119,12 @@ impl Device for Faulty {
     fn read(&mut self, id: u32) -> Result<Vec<u8>, DeviceFault> {
         match self.next_fault() {
             None => read_inner(&mut self.inner, id),
-            Some(Fault::Fails(fault)) => Err(self.fails(fault)),
-            Some(Fault::Short) => {
-                let mut bytes = read_inner(&mut self.inner, id)?;
-                bytes.pop();
-                Ok(bytes)
+            Some(Fault::Fails(DeviceFault::Device)) => {
+                self.faults = self.faults.wrapping_add(1);
+                Err(DeviceFault::Device)
             }
+            Some(Fault::Fails(DeviceFault::Memory)) => Err(DeviceFault::Memory),
+            Some(Fault::Short) => read_short(&mut self.inner, id),
         }
     }
 
