@@ -1,0 +1,295 @@
+//! Devices that fail once, and one that gives too little: what a view and a round answer, and that the same call succeeds after that.
+
+ghost use Rattle.std.specs.Prelude.{◌≡◌, ◌+◌, ◌%◌, ◌^◌, true, false, None, Some, IsSome, IfOk};
+ghost use Rattle.far_device.specs.Calls.{given};
+ghost use Rattle.far_device.specs.Faults.{is_fault};
+ghost use Rattle.far_device.specs.Following.{Follows, any_key, other_than};
+ghost use Rattle.far_device.specs.Mem.{bytes_at, faults_of};
+ghost use Rattle.far_device.specs.Wrapping.{wrapped_below};
+
+use crate::tests::looks::{is_far, is_log, is_near, sized};
+use crate::tests::scopes::{EIGHT, is_slow, makes, reads, reads_slowly, writes};
+use crate::tests::steps::{deals, runs_none, runs_through};
+use far_device::{Device, DeviceFault, MemDevice};
+use far_evac::{LogKind, Phase};
+use far_heap::{Blank, Evacuator, Heap, HeapName, Mutator, Scope};
+use far_policy::{Oldest, Scripted};
+use far_word::Refused;
+use std::alloc::Global;
+use std::marker::Brand;
+use std::sync::Wait;
+use std::test::Fail;
+
+// One read of what is in memory, with its answer taken apart.
+fn read_inner(inner: &mut MemDevice, id: u32) -> Result<Vec<u8>, DeviceFault>
+    ensures follows { Follows bytes_at (λ _. true) faults_of (λ _ _. IsSome (bytes_at inner.old id) × ⊥) any_key (is_fault (given result)) inner.old inner.new }
+    ensures given { IfOk result (λ bytes. bytes_at inner.old id ≡ Some bytes.items) }
+    ensures kept { bytes_at inner.new ≡ bytes_at inner.old }
+{
+    match inner.read(id) {
+        Ok(bytes) => Ok(bytes),
+        Err(DeviceFault::Memory) => Err(DeviceFault::Memory),
+        Err(DeviceFault::Device) => Err(DeviceFault::Device),
+    }
+}
+
+// The same, with one byte less.
+fn read_short(inner: &mut MemDevice, id: u32) -> Result<Vec<u8>, DeviceFault>
+    ensures follows { Follows bytes_at (λ _. true) faults_of (λ _ _. IsSome (bytes_at inner.old id) × ⊥) any_key (is_fault (given result)) inner.old inner.new }
+    ensures kept { bytes_at inner.new ≡ bytes_at inner.old }
+{
+    match read_inner(inner, id) {
+        Ok(mut bytes) => {
+            bytes.pop();
+            Ok(bytes)
+        }
+        Err(why) => Err(why),
+    }
+}
+
+/// What one of its calls does in place of what was asked.
+#[derive(Clone, Copy, Debug, PartialEq, Eq)]
+enum Fault {
+    /// It fails so.
+    Fails(DeviceFault),
+    /// It gives one byte less.
+    Short,
+}
+
+/// A device in memory of which one call, a write or a read, has a fault.
+#[derive(Drop)]
+struct Faulty {
+    inner: MemDevice,
+    // How many calls come before that.
+    before: u64,
+    fault: Option<Fault>,
+    faults: u64,
+}
+
+impl Faulty {
+    // The fault of this call, if it is the one.
+    fn next_fault(&mut self) -> Option<Fault>
+        ensures inner { self.new.inner ≡ self.old.inner }
+        ensures faults { self.new.faults ≡ self.old.faults }
+    {
+        if self.before > 0 {
+            self.before -= 1;
+            return None;
+        }
+        self.fault.take()
+    }
+}
+
+impl Device for Faulty {
+    ghost contents = { λ s. bytes_at s.inner };
+
+    ghost honest = { λ _. false };
+
+    ghost faults = { λ s. (faults_of s.inner + s.faults) % 2 ^ 64 };
+
+    ghost forgets = { Unit {0} };
+
+    ghost fails_at_most = { λ _ _. ⊥ };
+
+    ghost wraps = { λ s. wrapped_below (faults_of s.inner + s.faults) };
+
+    ghost writes = { λ old id _ answer new. Follows (λ s. bytes_at s.inner) (λ _. false) (λ s. (faults_of s.inner + s.faults) % 2 ^ 64) (λ _ _. ⊥) (other_than id) (is_fault answer) old new };
+
+    ghost reads = { λ old id answer new. Follows (λ s. bytes_at s.inner) (λ _. false) (λ s. (faults_of s.inner + s.faults) % 2 ^ 64) (λ _ _. IsSome (bytes_at old.inner id) × ⊥) any_key (is_fault answer) old new };
+
+    ghost lets_go = { λ old id new. Follows (λ s. bytes_at s.inner) (λ _. false) (λ s. (faults_of s.inner + s.faults) % 2 ^ 64) (λ _ _. ⊥) (other_than id) false old new };
+
+    ghost write_follows = { λ _ _ _ _ _ h. h };
+
+    ghost read_follows = { λ _ _ _ _ h. h };
+
+    ghost forget_follows = { λ _ _ _ h. h };
+
+    fn write(&mut self, id: u32, bytes: &[u8]) -> Result<(), DeviceFault> {
+        match self.next_fault() {
+            Some(Fault::Fails(DeviceFault::Device)) => {
+                self.faults = self.faults.wrapping_add(1);
+                Err(DeviceFault::Device)
+            }
+            Some(Fault::Fails(DeviceFault::Memory)) => Err(DeviceFault::Memory),
+            _ => self.inner.write(id, bytes),
+        }
+    }
+
+    fn read(&mut self, id: u32) -> Result<Vec<u8>, DeviceFault> {
+        match self.next_fault() {
+            None => read_inner(&mut self.inner, id),
+            Some(Fault::Fails(DeviceFault::Device)) => {
+                self.faults = self.faults.wrapping_add(1);
+                Err(DeviceFault::Device)
+            }
+            Some(Fault::Fails(DeviceFault::Memory)) => Err(DeviceFault::Memory),
+            Some(Fault::Short) => read_short(&mut self.inner, id),
+        }
+    }
+
+    fn forget(&mut self, id: u32) {
+        self.inner.forget(id);
+    }
+
+    fn faults(&self) -> u64 {
+        self.inner.faults().wrapping_add(self.faults)
+    }
+}
+
+// The parts of a heap of four logs over one whose call after so many has this fault.
+fn over_faulty(rt: &HostRuntime, before: u64, fault: Fault) -> Result<Blank<Faulty>, Refused> {
+    let device = Faulty {
+        inner: MemDevice::new(rt.alloc()),
+        before,
+        fault: Some(fault),
+        faults: 0,
+    };
+    Blank::new(rt.alloc(), sized(4, 1), device)
+}
+
+// The first object is written, and a round has moved it to log 2, which is sealed then.
+fn comes_to_log_two<K: HeapName, R: Wait>(
+    rt: &R,
+    heap: &Heap<K, Faulty>,
+    mut mutator: Mutator<K, Faulty>,
+) -> Option<Mutator<K, Faulty>> {
+    if !makes(rt, &mut mutator, 8, 0) || !makes(rt, &mut mutator, 1016, 1) {
+        return None;
+    }
+    let mut scope = mutator.open();
+    if !writes(&mut scope, 0, EIGHT) {
+        return None;
+    }
+    let mut mutator = scope.close();
+    if !runs_through(rt, heap, &mut Oldest, [1, 0, 0, 1]) || !makes(rt, &mut mutator, 1016, 2) {
+        return None;
+    }
+    Some(mutator)
+}
+
+// Whether a round of log 2 sends its object far.
+fn sends_it_far<K: HeapName, R: Wait>(rt: &R, heap: &Heap<K, Faulty>) -> bool {
+    let mut script = Scripted { logs: &[2] };
+    runs_through(rt, heap, &mut script, [0, 1, 0, 1]) && is_far(&mut *heap.book(rt), 0, false)
+}
+
+// Whether a view of it is refused once, and the same call gives it after that, with what was written.
+fn comes_back<K: HeapName, R: Wait>(
+    rt: &R,
+    heap: &Heap<K, Faulty>,
+    scope: &mut Scope<K, Faulty>,
+    why: Refused,
+) -> bool {
+    is_slow(scope, 0)
+        && scope.view(rt, 0) == Err(why)
+        && is_far(&mut *heap.book(rt), 0, true)
+        && is_slow(scope, 0)
+        && reads_slowly(rt, scope, 0, EIGHT)
+        && reads(scope, 0, EIGHT)
+}
+
+fn view_is_refused<K: HeapName, R: Wait>(
+    rt: &R,
+    alloc: Global,
+    blank: Blank<Faulty>,
+    why: Refused,
+) -> bool
+    requires { blank.table ≡ K.table }
+{
+    let Ok((heap, mut mutators)) = Heap::<K, Faulty>::new(alloc, blank) else {
+        return false;
+    };
+    let Some(mutator) = mutators.pop() else {
+        return false;
+    };
+    let Some(mutator) = comes_to_log_two(rt, &heap, mutator) else {
+        return false;
+    };
+    if !sends_it_far(rt, &heap) {
+        return false;
+    }
+    comes_back(rt, &heap, &mut mutator.open(), why)
+}
+
+// The device's read, its second call, has a fault under a view.
+#[test]
+fn a_refused_view_may_be_tried_again(rt: HostRuntime) -> Result<(), Fail> {
+    let alloc = rt.alloc();
+    for (fault, why) in [
+        (Fault::Fails(DeviceFault::Device), Refused::Device),
+        (Fault::Fails(DeviceFault::Memory), Refused::Memory),
+        (Fault::Short, Refused::Damaged),
+    ] {
+        let blank = over_faulty(&rt, 1, fault)?;
+        assert!(rt;
+            view_is_refused::<Brand, _>(&rt, alloc, blank, why),
+            "at {why:?}"
+        );
+    }
+    Ok(())
+}
+
+// Whether the round stands where the object is to leave, which is there.
+fn stands<K: HeapName>(book: &mut Evacuator<K, Faulty>) -> bool {
+    book.phase() == Phase::Evacuating && is_log(book, 2, LogKind::Chosen, [16, 0, 1008])
+}
+
+// Whether the round goes on then.
+fn goes_on<K: HeapName>(book: &mut Evacuator<K, Faulty>) -> bool {
+    deals(book, 9, [0, 1, 0, 1], true) && is_far(book, 0, false)
+}
+
+// Whether the round is given up then, and the object stays.
+fn gives_up<K: HeapName>(book: &mut Evacuator<K, Faulty>) -> bool {
+    book.abort().is_ok()
+        && is_near(book, 0, (2, 0), false)
+        && is_log(book, 2, LogKind::Sealed, [16, 0, 1008])
+}
+
+fn round_is_refused<K: HeapName, R: Wait>(
+    rt: &R,
+    alloc: Global,
+    blank: Blank<Faulty>,
+    why: Refused,
+    ends: bool,
+) -> bool
+    requires { blank.table ≡ K.table }
+{
+    let Ok((heap, mut mutators)) = Heap::<K, Faulty>::new(alloc, blank) else {
+        return false;
+    };
+    let Some(mutator) = mutators.pop() else {
+        return false;
+    };
+    let Some(mutator) = comes_to_log_two(rt, &heap, mutator) else {
+        return false;
+    };
+    let mut script = Scripted { logs: &[2] };
+    if !runs_none(rt, &heap, &mut script, why) || !stands(&mut *heap.book(rt)) {
+        return false;
+    }
+    if ends && !goes_on(&mut *heap.book(rt)) || !ends && !gives_up(&mut *heap.book(rt)) {
+        return false;
+    }
+    reads_slowly(rt, &mut mutator.open(), 0, EIGHT)
+}
+
+// The device's write, its first call, fails under a round, which goes on, or is given up.
+#[test]
+fn a_refused_round_may_go_on(rt: HostRuntime) -> Result<(), Fail> {
+    let alloc = rt.alloc();
+    for (fault, why, ends) in [
+        (DeviceFault::Device, Refused::Device, true),
+        (DeviceFault::Device, Refused::Device, false),
+        (DeviceFault::Memory, Refused::Memory, true),
+        (DeviceFault::Memory, Refused::Memory, false),
+    ] {
+        let blank = over_faulty(&rt, 0, Fault::Fails(fault))?;
+        assert!(rt;
+            round_is_refused::<Brand, _>(&rt, alloc, blank, why, ends),
+            "at {why:?}"
+        );
+    }
+    Ok(())
+}

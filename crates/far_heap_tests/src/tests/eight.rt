@@ -1,0 +1,230 @@
+//! Eight mutators, in the smallest heap and in the largest.
+
+ghost use Rattle.std.specs.Prelude.{◌≡◌};
+
+use crate::tests::looks::{blank, counts, has_objects, is_log, sized};
+use crate::tests::scopes::{makes_none, reads_slowly, writes};
+use far_device::{Device, MemDevice};
+use far_evac::{LogKind, RoundEnd};
+use far_heap::{Blank, Evacuator, Heap, HeapName, Mutator};
+use far_policy::Oldest;
+use far_word::Refused;
+use std::alloc::{AllocError, Global};
+use std::marker::Brand;
+use std::sync::Wait;
+use std::test::Fail;
+use std::thread;
+use std::thread::Threads;
+
+/// A mutator, with its number.
+#[derive(Drop)]
+struct Numbered<K: HeapName> {
+    number: u16,
+    mutator: Mutator<K, MemDevice>,
+}
+
+fn with_numbers<K: HeapName>(
+    alloc: Global,
+    mutators: Vec<Mutator<K, MemDevice>>,
+) -> Result<Vec<Numbered<K>>, AllocError> {
+    let mut all = Vec::new(alloc);
+    let mut number = 0u16;
+    for mutator in mutators {
+        all.push(Numbered { number, mutator })?;
+        number = number.saturating_add(1);
+    }
+    Ok(all)
+}
+
+// A pointer of a mutator.
+fn pointer_of(number: u16, cell: u16) -> u16 {
+    number.saturating_mul(128).saturating_add(cell)
+}
+
+// The bytes of an object, which has its pointer in them.
+fn bytes_of(pointer: u16) -> [u8; 8] {
+    (pointer as u64).to_le_bytes()
+}
+
+// Makes so many objects of this length, and writes each; `None` where one is refused, or has another pointer.
+fn filled<K: HeapName, R: Wait>(
+    rt: &R,
+    one: Numbered<K>,
+    objects: u16,
+    len: u16,
+) -> Option<Numbered<K>> {
+    let Numbered { number, mutator } = one;
+    let mut scope = mutator.open();
+    for cell in 0..objects {
+        let pointer = pointer_of(number, cell);
+        if scope.alloc(rt, len, 1) != Ok(pointer)
+            || !writes(&mut scope, pointer, bytes_of(pointer))
+        {
+            return None;
+        }
+    }
+    let mutator = scope.close();
+    Some(Numbered { number, mutator })
+}
+
+// Whether each object has what was written, wherever it is.
+fn read_back<K: HeapName, R: Wait>(rt: &R, one: Numbered<K>, objects: u16) -> Option<Numbered<K>> {
+    let Numbered { number, mutator } = one;
+    let mut scope = mutator.open();
+    for cell in 0..objects {
+        let pointer = pointer_of(number, cell);
+        if !reads_slowly(rt, &mut scope, pointer, bytes_of(pointer)) {
+            return None;
+        }
+    }
+    let mutator = scope.close();
+    Some(Numbered { number, mutator })
+}
+
+// All of these, if there is each.
+fn each<K: HeapName>(alloc: Global, found: Vec<Option<Numbered<K>>>) -> Option<Vec<Numbered<K>>> {
+    let mut all = Vec::new(alloc);
+    for one in found {
+        let Some(one) = one else {
+            return None;
+        };
+        if all.push(one).is_err() {
+            return None;
+        }
+    }
+    Some(all)
+}
+
+// Each mutator fills its part in a thread of its own.
+fn all_filled<K: HeapName + Send + Sync, R: Threads + Wait + Sync>(
+    rt: &R,
+    alloc: Global,
+    all: Vec<Numbered<K>>,
+    objects: u16,
+    len: u16,
+) -> Option<Vec<Numbered<K>>> {
+    match thread::map_vec(rt, all, &|one| filled(rt, one, objects, len)) {
+        Ok(found) => each(alloc, found),
+        Err(_) => None,
+    }
+}
+
+// Each mutator reads its part in a thread of its own.
+fn all_read<K: HeapName + Send + Sync, R: Threads + Wait + Sync>(
+    rt: &R,
+    alloc: Global,
+    all: Vec<Numbered<K>>,
+    objects: u16,
+) -> Option<Vec<Numbered<K>>> {
+    match thread::map_vec(rt, all, &|one| read_back(rt, one, objects)) {
+        Ok(found) => each(alloc, found),
+        Err(_) => None,
+    }
+}
+
+// Whether a new object of each mutator is refused for this reason.
+fn all_refused<K: HeapName, R: Wait>(rt: &R, all: Vec<Numbered<K>>, why: Refused) -> bool {
+    for one in all {
+        let Numbered { mut mutator, .. } = one;
+        if !makes_none(rt, &mut mutator, 8, why) {
+            return false;
+        }
+    }
+    true
+}
+
+// Whether the one log that isn't kept back is full, of eight objects.
+fn is_full<K: HeapName, D: Device + Drop>(book: &mut Evacuator<K, D>) -> bool {
+    is_log(book, 0, LogKind::Open, [1024, 0, 0])
+        && is_log(book, 1, LogKind::Free, [0, 0, 1024])
+        && counts(book, 8, 0, 1024)
+}
+
+fn in_two_logs<K: HeapName + Send + Sync, R: Threads + Wait + Sync>(
+    rt: &R,
+    alloc: Global,
+    blank: Blank<MemDevice>,
+) -> bool
+    requires { blank.table ≡ K.table }
+{
+    let Ok((heap, mutators)) = Heap::<K, MemDevice>::new(alloc, blank) else {
+        return false;
+    };
+    let Ok(all) = with_numbers(alloc, mutators) else {
+        return false;
+    };
+    let Some(all) = all_filled(rt, alloc, all, 1, 120) else {
+        return false;
+    };
+    if !is_full(&mut *heap.book(rt))
+        || heap.run_round(rt, &mut Oldest, 2, 9) != Ok(RoundEnd::Nothing)
+    {
+        return false;
+    }
+    match all_read(rt, alloc, all, 1) {
+        Some(all) => all.len() == 8 && all_refused(rt, all, Refused::NoRoom),
+        None => false,
+    }
+}
+
+// Eight mutators fill the one log of two that isn't kept back, and no round begins.
+#[test]
+fn eight_mutators_in_two_logs(rt: HostRuntime) -> Result<(), Fail> {
+    let alloc = rt.alloc();
+    assert!(rt; in_two_logs::<Brand, _>(&rt, alloc, blank(&rt, sized(2, 8))?));
+    Ok(())
+}
+
+// Whether a round of all sealed logs moves or sends far all but the sixteen objects of the open log.
+fn empties_all<K: HeapName, R: Wait>(rt: &R, heap: &Heap<K, MemDevice>) -> bool {
+    match heap.run_round(rt, &mut Oldest, 64, 1000) {
+        Ok(RoundEnd::Done(done)) => {
+            done.moved.saturating_add(done.far) == 1008 && done.freed == 56
+        }
+        _ => false,
+    }
+}
+
+// Whether the next round sends objects far, since nobody has viewed them meanwhile, and all are there.
+fn sends_far<K: HeapName, R: Wait>(rt: &R, heap: &Heap<K, MemDevice>) -> bool {
+    match heap.run_round(rt, &mut Oldest, 64, 1000) {
+        Ok(RoundEnd::Done(done)) => done.far > 900 && has_objects(&mut *heap.book(rt), 1024),
+        _ => false,
+    }
+}
+
+fn in_most_logs<K: HeapName + Send + Sync, R: Threads + Wait + Sync>(
+    rt: &R,
+    alloc: Global,
+    blank: Blank<MemDevice>,
+) -> bool
+    requires { blank.table ≡ K.table }
+{
+    let Ok((heap, mutators)) = Heap::<K, MemDevice>::new(alloc, blank) else {
+        return false;
+    };
+    let Ok(all) = with_numbers(alloc, mutators) else {
+        return false;
+    };
+    let Some(all) = all_filled(rt, alloc, all, 128, 48) else {
+        return false;
+    };
+    if !counts(&mut *heap.book(rt), 1024, 0, 57_344) || !empties_all(rt, &heap) {
+        return false;
+    }
+    if !sends_far(rt, &heap) {
+        return false;
+    }
+    match all_read(rt, alloc, all, 128) {
+        Some(all) => all.len() == 8 && all_refused(rt, all, Refused::NoPointer),
+        None => false,
+    }
+}
+
+// Eight mutators use all their pointers; a round moves all that lies in sealed logs, the next sends it far, and each mutator has it brought back.
+#[test]
+fn eight_mutators_in_most_logs(rt: HostRuntime) -> Result<(), Fail> {
+    let alloc = rt.alloc();
+    assert!(rt; in_most_logs::<Brand, _>(&rt, alloc, blank(&rt, sized(64, 8))?));
+    Ok(())
+}

@@ -1,0 +1,169 @@
+//! Blank heaps, and looks at the book of one.
+
+use far_book::Home;
+use far_core::Shape;
+use far_device::{Device, MemDevice};
+use far_evac::{Census, LogKind, LogState};
+use far_heap::{Blank, Evacuator, HeapName};
+use far_log::LogRow;
+use far_word::{Marks, Place, Refused};
+
+pub(super) const NO_MARKS: Marks = Marks {
+    hot: false,
+    evac: false,
+    moved: false,
+    dropped: false,
+};
+
+/// So many logs and mutators, from the first epoch on.
+pub(super) fn sized(logs: u64, mutators: u64) -> Shape {
+    Shape {
+        logs,
+        mutators,
+        epoch: 0,
+    }
+}
+
+/// The parts of a heap of a shape, over a device in memory.
+pub(super) fn blank(rt: &HostRuntime, shape: Shape) -> Result<Blank<MemDevice>, Refused> {
+    Blank::new(rt.alloc(), shape, MemDevice::new(rt.alloc()))
+}
+
+// Where a pointer's object is; `None` for a number that is no pointer's.
+fn home<K: HeapName, D: Device + Drop>(book: &mut Evacuator<K, D>, pointer: u16) -> Option<Home> {
+    if (pointer as u64) < 128 * book.shape().mutators {
+        book.locate(pointer)
+    } else {
+        None
+    }
+}
+
+/// Whether an object lies at a word of a log, with no marks but HOT perhaps.
+pub(super) fn is_near<K: HeapName, D: Device + Drop>(
+    book: &mut Evacuator<K, D>,
+    pointer: u16,
+    place: (u8, u16),
+    hot: bool,
+) -> bool {
+    let (log, at) = place;
+    let place = Place { log, at };
+    let marks = Marks { hot, ..NO_MARKS };
+    home(book, pointer) == Some(Home::Near { place, marks })
+}
+
+/// Whether an object is far, with no marks but HOT perhaps.
+pub(super) fn is_far<K: HeapName, D: Device + Drop>(
+    book: &mut Evacuator<K, D>,
+    pointer: u16,
+    hot: bool,
+) -> bool {
+    let marks = Marks { hot, ..NO_MARKS };
+    home(book, pointer) == Some(Home::Far { marks })
+}
+
+/// Whether a log is so, and has so many live, dead and unused bytes.
+pub(super) fn is_log<K: HeapName, D: Device + Drop>(
+    book: &mut Evacuator<K, D>,
+    log: u8,
+    kind: LogKind,
+    bytes: [u16; 3],
+) -> bool {
+    if log as u64 >= book.shape().logs {
+        return false;
+    }
+    let [live, dead, unused] = bytes;
+    let row = LogRow {
+        log,
+        live,
+        dead,
+        unused,
+    };
+    book.log(log) == LogState { kind, row }
+}
+
+/// Whether a log is free.
+pub(super) fn is_free<K: HeapName, D: Device + Drop>(book: &mut Evacuator<K, D>, log: u8) -> bool {
+    is_log(book, log, LogKind::Free, [0, 0, 1024])
+}
+
+/// What a census counts.
+#[derive(Clone, Copy, PartialEq)]
+pub(super) struct Counted {
+    pub near: u64,
+    pub far: u64,
+    /// The bytes that live in all logs.
+    pub live: u64,
+    /// Whether each log's bytes make its size.
+    pub whole: bool,
+}
+
+// How many objects are near, and how many far.
+fn objects(census: &Census) -> (u64, u64) {
+    let (mut near, mut far) = (0u64, 0u64);
+    for housed in &census.homes {
+        match housed.home {
+            Home::Near { .. } => near = near.saturating_add(1),
+            Home::Far { .. } => far = far.saturating_add(1),
+        }
+    }
+    (near, far)
+}
+
+// How many bytes live in all logs, and whether each log's bytes make its size.
+fn bytes(census: &Census) -> (u64, bool) {
+    let (mut live, mut whole) = (0u64, true);
+    for state in &census.logs {
+        let row = state.row;
+        let placed = row.live.saturating_add(row.dead);
+        live = live.saturating_add(row.live as u64);
+        whole = whole && placed.saturating_add(row.unused) == 1024;
+    }
+    (live, whole)
+}
+
+/// What the census of a heap counts; `None` where memory was refused.
+pub(super) fn census_of<K: HeapName, D: Device + Drop>(
+    book: &mut Evacuator<K, D>,
+) -> Option<Counted> {
+    match book.audit() {
+        Ok(census) => {
+            let (near, far) = objects(&census);
+            let (live, whole) = bytes(&census);
+            Some(Counted {
+                near,
+                far,
+                live,
+                whole,
+            })
+        }
+        Err(_) => None,
+    }
+}
+
+/// Whether the census has so many near and far objects and live bytes, and each log's bytes make its size.
+pub(super) fn counts<K: HeapName, D: Device + Drop>(
+    book: &mut Evacuator<K, D>,
+    near: u64,
+    far: u64,
+    live: u64,
+) -> bool {
+    let whole = true;
+    census_of(book)
+        == Some(Counted {
+            near,
+            far,
+            live,
+            whole,
+        })
+}
+
+/// Whether the census has so many objects, near or far, and each log's bytes make its size.
+pub(super) fn has_objects<K: HeapName, D: Device + Drop>(
+    book: &mut Evacuator<K, D>,
+    objects: u64,
+) -> bool {
+    match census_of(book) {
+        Some(found) => found.whole && found.near.saturating_add(found.far) == objects,
+        None => false,
+    }
+}

@@ -1,0 +1,195 @@
+//! Which bytes a scope reads and writes, and by which views.
+
+ghost use Rattle.std.specs.Prelude.{◌≡◌};
+
+use crate::tests::looks::{blank, sized};
+use crate::tests::scopes::{EIGHT, has, makes, reads, viewed, writes};
+use far_device::MemDevice;
+use far_heap::{Blank, Heap, HeapName, Scope, View};
+use far_word::Refused;
+use std::alloc::Global;
+use std::marker::Brand;
+use std::sync::Wait;
+use std::test::Fail;
+
+// Whether a read of so many bytes, 20 at most, is refused for this reason.
+fn reads_none<K: HeapName>(
+    scope: &mut Scope<K, MemDevice>,
+    view: &View,
+    from: u16,
+    count: usize,
+    why: Refused,
+) -> bool {
+    let mut out = [7; 20];
+    if count > 20 {
+        return false;
+    }
+    scope.read(view, from, &mut out[..count]) == Err(why) && out == [7; 20]
+}
+
+// Whether a write of so many bytes, 20 at most, is refused for this reason.
+fn writes_none<K: HeapName>(
+    scope: &mut Scope<K, MemDevice>,
+    view: &View,
+    from: u16,
+    count: usize,
+    why: Refused,
+) -> bool {
+    let bytes = [9; 20];
+    if count > 20 {
+        return false;
+    }
+    scope.write(view, from, &bytes[..count]) == Err(why)
+}
+
+// Whether both are refused so.
+fn bars<K: HeapName>(
+    scope: &mut Scope<K, MemDevice>,
+    view: &View,
+    range: (u16, usize),
+    why: Refused,
+) -> bool {
+    let (from, count) = range;
+    reads_none(scope, view, from, count, why) && writes_none(scope, view, from, count, why)
+}
+
+// Whether ranges that are empty, or pass the end of 12 bytes, are refused.
+fn bars_ranges<K: HeapName>(scope: &mut Scope<K, MemDevice>, view: &View) -> bool {
+    let why = Refused::Range;
+    bars(scope, view, (0, 0), why)
+        && bars(scope, view, (12, 0), why)
+        && bars(scope, view, (0, 13), why)
+        && bars(scope, view, (12, 1), why)
+        && bars(scope, view, (11, 2), why)
+        && bars(scope, view, (u16::MAX, 1), why)
+}
+
+// Whether all twelve bytes, written in three parts across words, are read in two.
+fn has_twelve<K: HeapName>(scope: &mut Scope<K, MemDevice>, view: &View) -> bool {
+    let (mut front, mut back) = ([0; 7], [0; 5]);
+    scope.write(view, 0, &[1, 2, 3]).is_ok()
+        && scope.write(view, 3, &[4, 5, 6, 7, 8, 9, 10]).is_ok()
+        && scope.write(view, 10, &[11, 12]).is_ok()
+        && scope.read(view, 0, &mut front).is_ok()
+        && scope.read(view, 7, &mut back).is_ok()
+        && front == [1, 2, 3, 4, 5, 6, 7]
+        && back == [8, 9, 10, 11, 12]
+}
+
+fn in_ranges<K: HeapName, R: Wait>(rt: &R, alloc: Global, blank: Blank<MemDevice>) -> bool
+    requires { blank.table ≡ K.table }
+{
+    let Ok((_heap, mut mutators)) = Heap::<K, MemDevice>::new(alloc, blank) else {
+        return false;
+    };
+    let Some(mut mutator) = mutators.pop() else {
+        return false;
+    };
+    if !makes(rt, &mut mutator, 12, 0) {
+        return false;
+    }
+    let mut scope = mutator.open();
+    let Some(view) = viewed(&mut scope, 0) else {
+        return false;
+    };
+    view.len() == 12
+        && view.pointer() == 0
+        && has_twelve(&mut scope, &view)
+        && bars_ranges(&mut scope, &view)
+        && has(&mut scope, &view, EIGHT)
+}
+
+#[test]
+fn ranges_end_with_the_object(rt: HostRuntime) -> Result<(), Fail> {
+    let alloc = rt.alloc();
+    assert!(rt; in_ranges::<Brand, _>(&rt, alloc, blank(&rt, sized(4, 1))?));
+    Ok(())
+}
+
+// Whether a view that a closed scope made is refused, also for a range that is out of the object.
+fn bars_earlier<K: HeapName>(scope: &mut Scope<K, MemDevice>, view: &View) -> bool {
+    let why = Refused::NotHeld;
+    bars(scope, view, (0, 8), why)
+        && bars(scope, view, (0, 0), why)
+        && bars(scope, view, (9, 1), why)
+}
+
+// Whether it isn't, once this scope views the pointer too.
+fn takes_earlier<K: HeapName>(scope: &mut Scope<K, MemDevice>, view: &View) -> bool {
+    reads(scope, 0, EIGHT)
+        && has(scope, view, EIGHT)
+        && scope.write(view, 4, &[9]).is_ok()
+        && reads(scope, 0, [1, 2, 3, 4, 9, 6, 7, 8])
+}
+
+fn earlier_views<K: HeapName, R: Wait>(rt: &R, alloc: Global, blank: Blank<MemDevice>) -> bool
+    requires { blank.table ≡ K.table }
+{
+    let Ok((_heap, mut mutators)) = Heap::<K, MemDevice>::new(alloc, blank) else {
+        return false;
+    };
+    let Some(mut mutator) = mutators.pop() else {
+        return false;
+    };
+    if !makes(rt, &mut mutator, 8, 0) {
+        return false;
+    }
+    let mut scope = mutator.open();
+    let Some(view) = viewed(&mut scope, 0) else {
+        return false;
+    };
+    if !writes(&mut scope, 0, EIGHT) {
+        return false;
+    }
+    let mut scope = scope.close().open();
+    bars_earlier(&mut scope, &view) && takes_earlier(&mut scope, &view)
+}
+
+#[test]
+fn a_view_ends_with_its_scope(rt: HostRuntime) -> Result<(), Fail> {
+    let alloc = rt.alloc();
+    assert!(rt; earlier_views::<Brand, _>(&rt, alloc, blank(&rt, sized(4, 1))?));
+    Ok(())
+}
+
+// Whether the view of an object that is gone is a view of the pointer's next object, which is longer.
+fn views_next<K: HeapName>(scope: &mut Scope<K, MemDevice>, view: &View) -> bool {
+    bars(scope, view, (0, 8), Refused::NotHeld)
+        && reads(scope, 0, [0; 8])
+        && has(scope, view, [0; 8])
+        && scope.write(view, 15, &[1]).is_ok()
+        && bars(scope, view, (16, 1), Refused::Range)
+}
+
+fn next_object<K: HeapName, R: Wait>(rt: &R, alloc: Global, blank: Blank<MemDevice>) -> bool
+    requires { blank.table ≡ K.table }
+{
+    let Ok((_heap, mut mutators)) = Heap::<K, MemDevice>::new(alloc, blank) else {
+        return false;
+    };
+    let Some(mut mutator) = mutators.pop() else {
+        return false;
+    };
+    if !makes(rt, &mut mutator, 8, 0) {
+        return false;
+    }
+    let mut scope = mutator.open();
+    let Some(view) = viewed(&mut scope, 0) else {
+        return false;
+    };
+    if !writes(&mut scope, 0, EIGHT) {
+        return false;
+    }
+    let mut mutator = scope.close();
+    if mutator.drop_object(rt, 0).is_err() || !makes(rt, &mut mutator, 16, 0) {
+        return false;
+    }
+    views_next(&mut mutator.open(), &view)
+}
+
+#[test]
+fn a_view_is_of_a_pointer(rt: HostRuntime) -> Result<(), Fail> {
+    let alloc = rt.alloc();
+    assert!(rt; next_object::<Brand, _>(&rt, alloc, blank(&rt, sized(4, 1))?));
+    Ok(())
+}

@@ -1,0 +1,263 @@
+//! What each call of a mutator and of its scope is refused, in the order of the reasons, with nothing changed.
+
+ghost use Rattle.std.specs.Prelude.{◌≡◌};
+
+use crate::tests::looks::{blank, is_far, is_log, sized};
+use crate::tests::scopes::{makes, makes_none, reads, reads_slowly};
+use crate::tests::steps::runs_through;
+use far_core::Shape;
+use far_device::{Device, MemDevice};
+use far_evac::LogKind;
+use far_heap::{Blank, Evacuator, Heap, HeapName, Mutator, Scope};
+use far_policy::Oldest;
+use far_word::Refused;
+use std::alloc::Global;
+use std::marker::Brand;
+use std::sync::Wait;
+use std::test::Fail;
+
+// Whether no heap has this shape.
+fn has_no_heap(rt: &HostRuntime, logs: u64, mutators: u64, epoch: u64) -> bool {
+    let shape = Shape {
+        logs,
+        mutators,
+        epoch,
+    };
+    matches!(blank(rt, shape), Err(Refused::Shape))
+}
+
+// Whether a heap may have this shape.
+fn has_heap(rt: &HostRuntime, logs: u64, mutators: u64, epoch: u64) -> bool {
+    let shape = Shape {
+        logs,
+        mutators,
+        epoch,
+    };
+    blank(rt, shape).is_ok()
+}
+
+#[test]
+fn a_shape_is_in_range(rt: HostRuntime) {
+    assert!(rt; has_no_heap(&rt, 1, 1, 0) && has_no_heap(&rt, 65, 1, 0));
+    assert!(rt; has_no_heap(&rt, 4, 0, 0) && has_no_heap(&rt, 4, 9, 0));
+    assert!(rt; has_no_heap(&rt, 4, 1, 1 << 62) && has_no_heap(&rt, u64::MAX, u64::MAX, u64::MAX));
+    assert!(rt; has_heap(&rt, 2, 1, 0) && has_heap(&rt, 64, 8, (1 << 62) - 1));
+}
+
+// Whether a mutator's pointers are all used, by objects of a byte, which take two words each.
+fn uses_all<K: HeapName, R: Wait>(rt: &R, mutator: &mut Mutator<K, MemDevice>) -> bool {
+    for pointer in 0..128u16 {
+        if !makes(rt, mutator, 1, pointer) {
+            return false;
+        }
+    }
+    true
+}
+
+// Whether lengths out of range are refused, whatever else is wanting.
+fn bars_lengths<K: HeapName, R: Wait>(rt: &R, mutator: &mut Mutator<K, MemDevice>) -> bool {
+    makes_none(rt, mutator, 0, Refused::Length)
+        && makes_none(rt, mutator, 1017, Refused::Length)
+        && makes_none(rt, mutator, u16::MAX, Refused::Length)
+}
+
+// Whether a new object is refused in an open scope as it is before.
+fn bars_in_scope<K: HeapName, R: Wait>(rt: &R, scope: &mut Scope<K, MemDevice>) -> bool {
+    scope.alloc(rt, 0, 1) == Err(Refused::Length)
+        && scope.alloc(rt, 1017, 1) == Err(Refused::Length)
+        && scope.alloc(rt, 1, 1) == Err(Refused::NoRoom)
+}
+
+// Whether a mutator without a free pointer, and one with free pointers, are refused while no log has room.
+fn bars_new<K: HeapName, R: Wait>(
+    rt: &R,
+    first: &mut Mutator<K, MemDevice>,
+    second: &mut Mutator<K, MemDevice>,
+) -> bool {
+    bars_lengths(rt, first)
+        && makes_none(rt, first, 1, Refused::NoPointer)
+        && bars_lengths(rt, second)
+        && makes_none(rt, second, 1, Refused::NoRoom)
+        && first.drop_object(rt, 5).is_ok()
+        && makes_none(rt, first, 1, Refused::NoRoom)
+}
+
+// Whether two logs are full.
+fn two_are_full<K: HeapName, D: Device + Drop>(book: &mut Evacuator<K, D>) -> bool {
+    is_log(book, 0, LogKind::Sealed, [1024, 0, 0]) && is_log(book, 1, LogKind::Open, [1024, 0, 0])
+}
+
+fn new_objects<K: HeapName, R: Wait>(rt: &R, alloc: Global, blank: Blank<MemDevice>) -> bool
+    requires { blank.table ≡ K.table }
+{
+    let Ok((heap, mut mutators)) = Heap::<K, MemDevice>::new(alloc, blank) else {
+        return false;
+    };
+    let (Some(mut second), Some(mut first)) = (mutators.pop(), mutators.pop()) else {
+        return false;
+    };
+    if !uses_all(rt, &mut first) || !two_are_full(&mut *heap.book(rt)) {
+        return false;
+    }
+    bars_new(rt, &mut first, &mut second) && bars_in_scope(rt, &mut second.open())
+}
+
+#[test]
+fn a_new_object_is_refused_in_order(rt: HostRuntime) -> Result<(), Fail> {
+    let alloc = rt.alloc();
+    assert!(rt; new_objects::<Brand, _>(&rt, alloc, blank(&rt, sized(3, 2))?));
+    Ok(())
+}
+
+// Whether pointers that a mutator doesn't use can't be dropped: one never used, one of another mutator, and one that nobody has.
+fn bars_drops<K: HeapName, R: Wait>(rt: &R, mutator: &mut Mutator<K, MemDevice>) -> bool {
+    let why = Err(Refused::NotHeld);
+    mutator.drop_object(rt, 1) == why
+        && mutator.drop_object(rt, 128) == why
+        && mutator.drop_object(rt, u16::MAX) == why
+}
+
+// Whether an object that the scope views can't be dropped, and another can.
+fn drops_in_scope<K: HeapName, R: Wait>(rt: &R, scope: &mut Scope<K, MemDevice>) -> bool {
+    reads(scope, 0, [0; 8])
+        && scope.drop_object(rt, 0) == Err(Refused::Held)
+        && reads(scope, 0, [0; 8])
+        && scope.drop_object(rt, 2) == Err(Refused::NotHeld)
+        && scope.drop_object(rt, 128) == Err(Refused::NotHeld)
+        && scope.drop_object(rt, 1) == Ok(())
+        && scope.drop_object(rt, 1) == Err(Refused::NotHeld)
+}
+
+// Whether a dropped object is gone.
+fn drops_last<K: HeapName, R: Wait>(rt: &R, mutator: &mut Mutator<K, MemDevice>) -> bool {
+    mutator.drop_object(rt, 0) == Ok(()) && mutator.drop_object(rt, 0) == Err(Refused::NotHeld)
+}
+
+// Whether three objects are made: two of the first mutator's, and one of the second's.
+fn makes_for_both<K: HeapName, R: Wait>(
+    rt: &R,
+    first: &mut Mutator<K, MemDevice>,
+    second: &mut Mutator<K, MemDevice>,
+) -> bool {
+    makes(rt, first, 8, 0) && makes(rt, second, 8, 128) && bars_drops(rt, first)
+}
+
+fn dropped_objects<K: HeapName, R: Wait>(rt: &R, alloc: Global, blank: Blank<MemDevice>) -> bool
+    requires { blank.table ≡ K.table }
+{
+    let Ok((heap, mut mutators)) = Heap::<K, MemDevice>::new(alloc, blank) else {
+        return false;
+    };
+    let (Some(mut second), Some(mut first)) = (mutators.pop(), mutators.pop()) else {
+        return false;
+    };
+    if !makes_for_both(rt, &mut first, &mut second) || !makes(rt, &mut first, 8, 1) {
+        return false;
+    }
+    let mut scope = first.open();
+    if !drops_in_scope(rt, &mut scope) || !drops_last(rt, &mut scope.close()) {
+        return false;
+    }
+    is_log(&mut *heap.book(rt), 0, LogKind::Open, [16, 32, 976])
+}
+
+#[test]
+fn a_drop_is_refused_in_order(rt: HostRuntime) -> Result<(), Fail> {
+    let alloc = rt.alloc();
+    assert!(rt; dropped_objects::<Brand, _>(&rt, alloc, blank(&rt, sized(4, 2))?));
+    Ok(())
+}
+
+// Whether a pointer that the mutator doesn't use can't be viewed.
+fn bars_view<K: HeapName, R: Wait>(rt: &R, scope: &mut Scope<K, MemDevice>, pointer: u16) -> bool {
+    scope.try_view(pointer) == Err(Refused::NotHeld)
+        && scope.view(rt, pointer) == Err(Refused::NotHeld)
+}
+
+fn bars_views<K: HeapName, R: Wait>(rt: &R, scope: &mut Scope<K, MemDevice>) -> bool {
+    bars_view(rt, scope, 1)
+        && bars_view(rt, scope, 128)
+        && bars_view(rt, scope, 1024)
+        && bars_view(rt, scope, u16::MAX)
+        && scope.drop_object(rt, 0).is_ok()
+        && bars_view(rt, scope, 0)
+}
+
+fn unheld_objects<K: HeapName, R: Wait>(rt: &R, alloc: Global, blank: Blank<MemDevice>) -> bool
+    requires { blank.table ≡ K.table }
+{
+    let Ok((_heap, mut mutators)) = Heap::<K, MemDevice>::new(alloc, blank) else {
+        return false;
+    };
+    let (Some(mut second), Some(mut first)) = (mutators.pop(), mutators.pop()) else {
+        return false;
+    };
+    makes_for_both(rt, &mut first, &mut second) && bars_views(rt, &mut first.open())
+}
+
+#[test]
+fn an_unheld_pointer_has_no_view(rt: HostRuntime) -> Result<(), Fail> {
+    let alloc = rt.alloc();
+    assert!(rt; unheld_objects::<Brand, _>(&rt, alloc, blank(&rt, sized(4, 2))?));
+    Ok(())
+}
+
+// Whether an object is far, and all room but the log that is kept back is taken.
+fn fills_up<K: HeapName, R: Wait>(
+    rt: &R,
+    heap: &Heap<K, MemDevice>,
+    mutator: &mut Mutator<K, MemDevice>,
+) -> bool {
+    makes(rt, mutator, 8, 0)
+        && makes(rt, mutator, 1016, 1)
+        && runs_through(rt, heap, &mut Oldest, [0, 1, 0, 1])
+        && makes(rt, mutator, 1016, 2)
+        && makes(rt, mutator, 1016, 3)
+        && makes_none(rt, mutator, 8, Refused::NoRoom)
+}
+
+// Whether a far object can't be viewed for want of room, and stays far.
+fn has_no_room<K: HeapName, R: Wait>(
+    rt: &R,
+    heap: &Heap<K, MemDevice>,
+    scope: &mut Scope<K, MemDevice>,
+) -> bool {
+    scope.view(rt, 0) == Err(Refused::NoRoom)
+        && scope.view(rt, 0) == Err(Refused::NoRoom)
+        && is_far(&mut *heap.book(rt), 0, true)
+}
+
+fn far_object_without_room<K: HeapName, R: Wait>(
+    rt: &R,
+    alloc: Global,
+    blank: Blank<MemDevice>,
+) -> bool
+    requires { blank.table ≡ K.table }
+{
+    let Ok((heap, mut mutators)) = Heap::<K, MemDevice>::new(alloc, blank) else {
+        return false;
+    };
+    let Some(mut mutator) = mutators.pop() else {
+        return false;
+    };
+    if !fills_up(rt, &heap, &mut mutator) {
+        return false;
+    }
+    let mut scope = mutator.open();
+    if !reads(&mut scope, 2, [0; 8]) || !has_no_room(rt, &heap, &mut scope) {
+        return false;
+    }
+    let mutator = scope.close();
+    if !runs_through(rt, &heap, &mut Oldest, [0, 1, 0, 1]) {
+        return false;
+    }
+    reads_slowly(rt, &mut mutator.open(), 0, [0; 8])
+}
+
+// A far object isn't viewed while no log has room for it, and is after a round that gave a log back.
+#[test]
+fn a_far_object_waits_for_room(rt: HostRuntime) -> Result<(), Fail> {
+    let alloc = rt.alloc();
+    assert!(rt; far_object_without_room::<Brand, _>(&rt, alloc, blank(&rt, sized(4, 1))?));
+    Ok(())
+}
