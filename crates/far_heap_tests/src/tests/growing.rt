@@ -1,4 +1,4 @@
-//! Memory that is refused. `rt try --test --fail-alloc 1..` refuses each growth in turn.
+//! Memory that is refused. `rt try --test --fail-alloc N` refuses growth N.
 
 ghost use Rattle.std.specs.Prelude.{◌≡◌};
 
