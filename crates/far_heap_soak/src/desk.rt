@@ -20,8 +20,8 @@ const ROOM: usize = 256;
 /// A range of an object's bytes.
 #[derive(Clone, Copy)]
 struct Range {
-    from: u64,
-    count: u64,
+    from: u16,
+    count: u16,
 }
 
 /// What a mutator keeps beside its mutator.
@@ -285,7 +285,7 @@ impl Desk {
         let Some(view) = self.view(rt, scope, at) else {
             return;
         };
-        let len = view.len() as u64;
+        let len = view.len();
         match self.random.below(8) {
             0 => self.write(
                 scope,
@@ -396,12 +396,13 @@ impl Desk {
     }
 
     // A range of an object of this length.
-    fn range(&mut self, len: u64) -> Range {
-        let from = self.random.below(len);
-        let count = 1 + self.random.below(len.saturating_sub(from));
+    fn range(&mut self, len: u16) -> Range {
+        let from = self.random.below(len as u64) as u16;
+        let left = len.saturating_sub(from);
+        let count = self.random.below(left as u64) as u16;
         Range {
             from,
-            count: count.min(len.saturating_sub(from)),
+            count: count.saturating_add(1).min(left),
         }
     }
 
@@ -417,12 +418,12 @@ impl Desk {
         let Some(out) = room.get_mut(..range.count as usize) else {
             return;
         };
-        let answer = scope.read(view, range.from as u16, out);
+        let answer = scope.read(view, range.from, out);
         let Some(record) = self.records.get(at) else {
             return;
         };
         one(&mut self.counts.reads);
-        add(&mut self.counts.bytes, range.count);
+        add(&mut self.counts.bytes, range.count as u64);
         if answer.is_err() || !record.has(range.from as usize, out) {
             one(&mut self.counts.wrong_reads);
         }
@@ -441,7 +442,7 @@ impl Desk {
             return;
         };
         fill(&mut self.random, bytes);
-        if scope.write(view, range.from as u16, bytes).is_err() {
+        if scope.write(view, range.from, bytes).is_err() {
             one(&mut self.counts.wrong_answers);
             return;
         }
@@ -451,22 +452,28 @@ impl Desk {
         }
     }
 
+    // More than so many bytes.
+    fn past(&mut self, left: u16) -> u16 {
+        let more = self.random.below(16) as u16;
+        left.saturating_add(1).saturating_add(more)
+    }
+
     // Reads and writes a range that passes the object's end, or has no byte.
     fn pass_end<K: HeapName>(&mut self, scope: &mut Scope<K, MemDevice>, view: &View) {
-        let len = view.len() as u64;
-        let from = self.random.below(len.saturating_add(8));
+        let len = view.len();
+        let from = self.random.below(len.saturating_add(8) as u64) as u16;
         let count = if self.random.once_in(4) {
             0
         } else {
-            1 + len.saturating_sub(from) + self.random.below(16)
+            self.past(len.saturating_sub(from))
         };
         let mut room = [0; ROOM];
         let Some(out) = room.get_mut(..count as usize) else {
             return;
         };
-        let read = scope.read(view, from as u16, out);
+        let read = scope.read(view, from, out);
         self.counts.judge(matches!(read, Err(Refused::Range)));
-        let written = scope.write(view, from as u16, out);
+        let written = scope.write(view, from, out);
         self.counts.judge(matches!(written, Err(Refused::Range)));
     }
 
@@ -481,7 +488,7 @@ impl Desk {
         let Some(view) = self.view(rt, scope, at) else {
             return false;
         };
-        let count = view.len() as u64;
+        let count = view.len();
         self.read(scope, at, &view, Range { from: 0, count });
         true
     }
