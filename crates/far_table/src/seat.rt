@@ -37,7 +37,7 @@ use std::sync::Arc;
 pub struct MutSeat<D: Device> {
     table: Arc<FarTable<D>, Global>,
     seat: Seat<u64, View>,
-    number: u8,
+    number: u64,
     // The epoch that was read for the next scope.
     epoch: u64,
     // Where the data words of each object that is held begin, by its cell's number among the owner's.
@@ -104,7 +104,7 @@ impl<D: Device> MutSeat<D> {
         Ok(MutSeat {
             table,
             seat,
-            number,
+            number: number as u64,
             epoch,
             places,
         })
