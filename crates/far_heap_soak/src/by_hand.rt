@@ -12,7 +12,7 @@ use std::sync::Wait;
 use std::thread;
 
 /// How many steps a round has.
-const PATIENCE: u64 = 5_000;
+const PATIENCE: u64 = 100_000;
 
 /// Gives up a round that is running.
 pub fn gives_up<K: HeapName>(book: &mut Evacuator<K, MemDevice>, counts: &mut Counts) {

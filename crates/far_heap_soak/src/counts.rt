@@ -12,10 +12,11 @@ pub struct Counts {
     /// Scopes that were opened, and those that were kept open for long.
     pub scopes: u64,
     pub long_scopes: u64,
-    /// Objects that were made and dropped, and those for which there was no room or no pointer.
+    /// Objects that were made and dropped, and those for which there was no room, and no pointer.
     pub made: u64,
     pub dropped: u64,
     pub unmade: u64,
+    pub unnamed: u64,
     /// Dereferences: those that took no lock; those that found a word on which no view may rest; those that went to the lock at once; and those for
     /// which there was no room.
     pub quick: u64,
@@ -26,7 +27,8 @@ pub struct Counts {
     pub refused: u64,
     /// Answers that were others than they had to be.
     pub wrong_answers: u64,
-    /// Rounds that were done, those of them by hand, those that came to the end of their turns, and those that were given up.
+    /// Rounds for which no log was chosen; those that were done, those of them by hand, those that came to the end of their turns, and those that were given up.
+    pub nothing: u64,
     pub rounds: u64,
     pub by_hand: u64,
     pub limits: u64,
@@ -56,12 +58,14 @@ impl Counts {
             made: 0,
             dropped: 0,
             unmade: 0,
+            unnamed: 0,
             quick: 0,
             slow: 0,
             at_once: 0,
             full: 0,
             refused: 0,
             wrong_answers: 0,
+            nothing: 0,
             rounds: 0,
             by_hand: 0,
             limits: 0,
@@ -100,6 +104,7 @@ impl Counts {
         add(&mut self.made, other.made);
         add(&mut self.dropped, other.dropped);
         add(&mut self.unmade, other.unmade);
+        add(&mut self.unnamed, other.unnamed);
         add(&mut self.faults, other.faults);
     }
 
@@ -111,6 +116,7 @@ impl Counts {
     }
 
     fn add_rounds(&mut self, other: &Counts) {
+        add(&mut self.nothing, other.nothing);
         add(&mut self.rounds, other.rounds);
         add(&mut self.by_hand, other.by_hand);
         add(&mut self.limits, other.limits);

@@ -34,6 +34,8 @@ pub struct Desk {
     scope: u64,
     /// A view of an object that was dropped.
     stale: Option<View>,
+    /// Whether there was no room for something.
+    short: bool,
     pub counts: Counts,
 }
 
@@ -58,6 +60,7 @@ impl Desk {
             alloc,
             scope: 0,
             stale: None,
+            short: false,
             counts: Counts::new(),
         }
     }
@@ -75,13 +78,25 @@ impl Desk {
     ) -> Mutator<K, MemDevice> {
         match self.random.below(16) {
             0 | 1 => self.make(rt, &mut mutator),
-            2 => self.drop_one(rt, &mut mutator),
+            2 if self.may_drop() => self.drop_one(rt, &mut mutator),
             _ => {}
         }
         let mut scope = mutator.open();
         self.begin_scope();
         self.work(rt, &mut scope);
         scope.close()
+    }
+
+    /// Whether there was no room for something since this was asked last.
+    pub fn takes_short(&mut self) -> bool {
+        let short = self.short;
+        self.short = false;
+        short
+    }
+
+    // Whether an object is to be dropped: seldom, if there are few.
+    fn may_drop(&mut self) -> bool {
+        self.records.len() > 12 || self.random.once_in(16)
     }
 
     fn begin_scope(&mut self) {
@@ -108,7 +123,7 @@ impl Desk {
     fn step<K: HeapName, R: Wait>(&mut self, rt: &R, scope: &mut Scope<K, MemDevice>) {
         match self.random.below(64) {
             0 => self.make_in_scope(rt, scope),
-            1 => self.drop_in_scope(rt, scope),
+            1 if self.may_drop() => self.drop_in_scope(rt, scope),
             2 => self.use_stale(scope),
             3 => self.use_stranger(rt, scope),
             4 | 5 => self.use_earlier(scope),
@@ -165,9 +180,11 @@ impl Desk {
                 self.record(pointer, len);
             }
             Err(Refused::Length) => self.counts.judge(!is_length),
-            Err(Refused::NoRoom) | Err(Refused::NoPointer) if is_length => {
-                one(&mut self.counts.unmade)
+            Err(Refused::NoRoom) if is_length => {
+                self.short = true;
+                one(&mut self.counts.unmade);
             }
+            Err(Refused::NoPointer) if is_length => one(&mut self.counts.unnamed),
             Err(_) => one(&mut self.counts.wrong_answers),
         }
     }
@@ -386,6 +403,7 @@ impl Desk {
         match scope.view(rt, pointer) {
             Ok(view) => Some(view),
             Err(why) => {
+                self.short = true;
                 one(&mut self.counts.full);
                 if !may_be(why, viewed) {
                     one(&mut self.counts.wrong_answers);

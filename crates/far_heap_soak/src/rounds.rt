@@ -13,7 +13,7 @@ use far_word::Refused;
 use std::sync::Wait;
 
 /// How many turns a round has, unless it has few.
-const PATIENCE: u64 = 5_000;
+const PATIENCE: u64 = 100_000;
 
 /// Adds what a part of a round did.
 pub fn take(counts: &mut Counts, progress: Progress) {
@@ -46,7 +46,7 @@ fn ends<K: HeapName, R: Wait>(
             take(counts, progress);
             one(&mut counts.rounds);
         }
-        Ok(RoundEnd::Nothing) => {}
+        Ok(RoundEnd::Nothing) => one(&mut counts.nothing),
         Ok(RoundEnd::Limit(phase)) => {
             one(&mut counts.limits);
             if phase == Phase::Idle {
@@ -146,6 +146,7 @@ pub fn make_rounds<K: HeapName, R: Wait>(
     let mut random = Random::new(seed);
     for _ in 0..u64::MAX {
         make_round(rt, heap, gate, &mut random, &mut counts);
+        gate.end_round();
         if random.once_in(16) {
             audit(rt, heap, &mut counts);
         }

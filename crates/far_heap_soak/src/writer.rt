@@ -60,6 +60,9 @@ impl<K: HeapName> Writer<K> {
                 break;
             }
             mutator = desk.turn(rt, mutator);
+            if desk.takes_short() {
+                gate.wait_for_round();
+            }
             if desk.counts.wrong() != 0 {
                 gate.stop();
             }
