@@ -8,7 +8,7 @@ use Rattle.far_table.specs.declared.view.ObjectView.{ObjectView}
 use Rattle.far_table.specs.Seats.{Seated}
 use Rattle.far_table.specs.Views.{len_of as seat_len, object_at, word_in_view, word_of}
 use Rattle.far_heap.specs.Mine.{Object, mine_of, object_of, rewritten, seen, with_range, writing}
-use Rattle.far_heap.specs.Ranges.{HasBytes, Wrote}
+use Rattle.far_table.specs.Ranges.{HasBytes, Wrote}
 use Rattle.far_heap.proofs.Mines.{object_own}
 use Rattle.far_heap.proofs.OwnRows.{own_row-one}
 use Rattle.far_heap.proofs.OwnSteps.{seated_is}

@@ -12,7 +12,7 @@ use Rattle.far_table.specs.declared.view.OwnerView.{OwnerView}
 use Rattle.far_table.specs.Seats.{Seated}
 use Rattle.far_table.specs.Views.{closed_view, held_at, held_view, len_of as seat_len, object_at, uses as seat_uses}
 use Rattle.far_heap.specs.Mine.{IsNew, OwnOk, len_in, mine_of, uses, views}
-use Rattle.far_heap.specs.Ranges.{Wrote}
+use Rattle.far_table.specs.Ranges.{Wrote}
 use Rattle.far_heap.proofs.Mines.{len_own, uses_own, views_own, views_so}
 
 pub seated_is : (t : Seated) (id : TableId) (v : OwnerView) → t.table ≡ id → t.view ≡ v → t ≡ record { table = id; view = v }

@@ -9,7 +9,7 @@ use Rattle.far_word.proofs.ByteLaws.{bytes_of-get, length-bytes_of}
 use Rattle.far_table.specs.declared.view.ObjectView.{ObjectView}
 use Rattle.far_table.specs.Views.{len_of as seat_len, word_in_view, word_of}
 use Rattle.far_heap.specs.Mine.{known_bytes, seen, with_range}
-use Rattle.far_heap.specs.Ranges.{HasBytes}
+use Rattle.far_table.specs.Ranges.{HasBytes}
 
 -- ---- the words of bytes
 -- a word of eight bytes is 64 bits wide

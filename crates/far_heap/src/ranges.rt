@@ -1,8 +1,8 @@
-// Ranges of bytes of an object that an owner's seat holds: parts of a word by load and store, whole words by one of them.
+// Ranges of bytes of an object that an owner's seat holds: parts of a word by load and store, whole words by one call for all.
 ghost use Rattle.std.specs.Prelude.{◌≡◌, ◌+◌, ◌-◌, ◌*◌, ◌/◌, ◌%◌, ◌^◌, ◌<◌, ◌≤◌, ℕ, true, length, slice_index, IsSome};
 ghost use Rattle.far_table.specs.Views.{held_at, len_of, object_at, word_in_view};
 ghost use Rattle.far_word.specs.Bytes.{byte_at};
-ghost use Rattle.far_heap.specs.Ranges.{HasBytes, Wrote};
+ghost use Rattle.far_table.specs.Ranges.{HasBytes, Wrote};
 ghost use Rattle.far_word.specs.declared.sizes.TheConstants.{LONGEST};
 
 use byteorder::{ByteOrder, LittleEndian};
@@ -37,23 +37,6 @@ fn load_part<D: Device>(seat: &mut MutSeat<D>, p: u16, from: u16, out: &mut [u8]
     out.copy_from_slice(&bytes[at..at + out.len()]);
 }
 
-// Loads whole words.
-#[inline(always)]
-fn load_words<D: Device>(seat: &mut MutSeat<D>, p: u16, first: u16, out: &mut [u8])
-    requires held { IsSome (held_at seat.old.view p) }
-    requires short { len_of (object_at seat.old.view p) ≤ LONGEST }
-    requires inside { 8 * first + length out.old ≤ len_of (object_at seat.old.view p) }
-    requires whole { length out.old % 8 ≡ 0 }
-    ensures same { seat.new ≡ seat.old }
-    ensures bytes { seat.old.view.honest ≡ true → HasBytes (word_in_view (object_at seat.old.view p)) (8 * first) out.new }
-{
-    let count = (out.len() / 8) as u16;
-    for i in 0..count {
-        let word = seat.load(p, first + i);
-        LittleEndian::write_u64(&mut out[8 * i as usize..], word);
-    }
-}
-
 // Loads a range of bytes, of which the first and the last may lie within a word.
 #[inline(never)]
 fn load_pieces<D: Device>(seat: &mut MutSeat<D>, p: u16, from: u16, out: &mut [u8])
@@ -70,7 +53,7 @@ fn load_pieces<D: Device>(seat: &mut MutSeat<D>, p: u16, from: u16, out: &mut [u
     if head == count {
         return;
     }
-    load_words(seat, p, (from + head as u16) / 8, &mut out[head..whole]);
+    seat.load_words(p, (from + head as u16) / 8, &mut out[head..whole]);
     load_part(seat, p, from + whole as u16, &mut out[whole..]);
 }
 
@@ -84,7 +67,7 @@ pub(crate) fn load_range<D: Device>(seat: &mut MutSeat<D>, p: u16, from: u16, ou
     ensures bytes { seat.old.view.honest ≡ true → HasBytes (word_in_view (object_at seat.old.view p)) from out.new }
 {
     if from % 8 == 0 && out.len() % 8 == 0 {
-        load_words(seat, p, from / 8, out);
+        seat.load_words(p, from / 8, out);
     } else {
         load_pieces(seat, p, from, out);
     }
@@ -127,23 +110,6 @@ fn store_part<D: Device>(seat: &mut MutSeat<D>, p: u16, len: u16, from: u16, byt
     seat.store(p, i, word);
 }
 
-// Stores whole words.
-#[inline(always)]
-fn store_words<D: Device>(seat: &mut MutSeat<D>, p: u16, first: u16, bytes: &[u8])
-    requires held { IsSome (held_at seat.old.view p) }
-    requires short { len_of (object_at seat.old.view p) ≤ LONGEST }
-    requires inside { 8 * first + length bytes.now ≤ len_of (object_at seat.old.view p) }
-    requires whole { length bytes.now % 8 ≡ 0 }
-    ensures table { seat.new.table ≡ seat.old.table }
-    ensures wrote { Wrote p (8 * first) bytes.now seat.old.view seat.new.view }
-{
-    let count = (bytes.len() / 8) as u16;
-    for i in 0..count {
-        let word = LittleEndian::read_u64(&bytes[8 * i as usize..]);
-        seat.store(p, first + i, word);
-    }
-}
-
 // Stores a range of bytes of an object of this length, of which the first and the last may lie within a word.
 #[inline(never)]
 fn store_pieces<D: Device>(seat: &mut MutSeat<D>, p: u16, len: u16, from: u16, bytes: &[u8])
@@ -161,7 +127,7 @@ fn store_pieces<D: Device>(seat: &mut MutSeat<D>, p: u16, len: u16, from: u16, b
     if head == count {
         return;
     }
-    store_words(seat, p, (from + head as u16) / 8, &bytes[head..whole]);
+    seat.store_words(p, (from + head as u16) / 8, &bytes[head..whole]);
     store_part(seat, p, len, from + whole as u16, &bytes[whole..]);
 }
 
@@ -182,7 +148,7 @@ pub(crate) fn store_range<D: Device>(
     ensures wrote { Wrote p from bytes.now seat.old.view seat.new.view }
 {
     if from % 8 == 0 && bytes.len() % 8 == 0 {
-        store_words(seat, p, from / 8, bytes);
+        seat.store_words(p, from / 8, bytes);
     } else {
         store_pieces(seat, p, len, from, bytes);
     }

@@ -31,3 +31,4 @@ pub mod BookRounds
 pub mod BookWords
 pub mod ViewedLogs
 pub mod WholeLogs
+pub mod WholeWords

@@ -16,3 +16,4 @@ pub mod BookSeats
 pub mod NameViews
 pub mod Viewed
 pub mod Whole
+pub mod Ranges

@@ -1,11 +1,11 @@
 // An owner's seat.
-ghost use Rattle.std.specs.Prelude.{◌≡◌, ◌+◌, ◌-◌, ◌*◌, ◌/◌, ◌^◌, ◌<◌, ◌≤◌, true, map, None, IsSome, IfOk, IfErr, IfSome};
+ghost use Rattle.std.specs.Prelude.{◌≡◌, ◌+◌, ◌-◌, ◌*◌, ◌/◌, ◌%◌, ◌^◌, ◌<◌, ◌≤◌, true, length, map, None, IsSome, IfOk, IfErr, IfSome};
 ghost use Rattle.std.specs.Arc.{arc_value};
 ghost use Rattle.far_core.specs.declared.event.Event.{Event as any_event};
 ghost use Rattle.far_core.specs.declared.event.Reply.{Reply as any_reply};
 ghost use Rattle.far_table.specs.Tells.{OwnerMade, OwnerRefused, owner_of};
 ghost use Rattle.std.specs.List.{range_with_len};
-ghost use Rattle.far_word.specs.declared.sizes.TheConstants.{CELLS, LOG_WORDS, MOST_LOGS, MOST_MUTATORS};
+ghost use Rattle.far_word.specs.declared.sizes.TheConstants.{CELLS, LOG_WORDS, LONGEST, MOST_LOGS, MOST_MUTATORS};
 ghost use Rattle.far_core.specs.state.CoreState.{core_state};
 ghost use Rattle.far_core.specs.state.State.{addr};
 ghost use Rattle.far_table.specs.declared.view.View.TheVariants.{Owner};
@@ -15,15 +15,17 @@ ghost use Rattle.far_word.specs.Pointer.{read_of};
 ghost use Rattle.far_core.specs.events.Ask.{is_request};
 ghost use Rattle.far_core.specs.state.Law.{in_use};
 ghost use Rattle.far_core.specs.events.Pin.{place_to_view};
-ghost use Rattle.far_table.specs.Seats.{data_begin, pin_reply};
+ghost use Rattle.far_table.specs.Ranges.{HasBytes, Wrote};
+ghost use Rattle.far_table.specs.Seats.{HasPlaces, data_begin, pin_reply};
 ghost use Rattle.far_table.specs.Views.{adopted_view, asked_view, closed_view, held_at, held_view, len_of, object_at, opened_view, read_view, stored_view, uses, word_in_view};
 ghost use Rattle.far_word.specs.Sizes.{words_for};
 
 use crate::layout::{EPOCH, SCOPES};
-use crate::rule::FarTable;
+use crate::rule::{FarRule, FarTable, Plan};
 use crate::view::View;
 use crate::{layout, rule};
-use atomic_table::Seat;
+use atomic_table::{Seat, Shared};
+use byteorder::{ByteOrder, LittleEndian};
 use far_core::{Core, Event, Reply};
 use far_device::Device;
 use far_word::{CELLS, LOG_WORDS, Mark, Place, PtrWord, resting_place};
@@ -82,6 +84,66 @@ fn places_of(alloc: Global, core: &Core, number: u8) -> Result<Vec<u16>, AllocEr
         places.push_reserved(data_begin(core.held(CELLS * number as u16 + cell)));
     }
     Ok(places)
+}
+
+// Loads whole words of an object that a seat holds, where the list says at which address the object's words begin.
+#[inline(always)]
+fn load_all<D: Device>(
+    shared: &Shared<u64, View, Plan<D>, FarRule>,
+    seat: &mut Seat<u64, View>,
+    places: &Vec<u16>,
+    p: u16,
+    first: u16,
+    out: &mut [u8],
+)
+    requires table { (seat.old.table_id ≡ shared.now.table_id) × (seat.old.table_id.words ≡ TABLE_WORDS) }
+    requires owner { seat.old.me.0 ≡ Owner (owner_of seat.old.me.0) }
+    requires places { (length places.now.items ≡ CELLS) × HasPlaces (owner_of seat.old.me.0) places.now.items }
+    requires held { IsSome (held_at (owner_of seat.old.me.0) p) }
+    requires short { len_of (object_at (owner_of seat.old.me.0) p) ≤ LONGEST }
+    requires inside { 8 * first + length out.old ≤ len_of (object_at (owner_of seat.old.me.0) p) }
+    requires whole { length out.old % 8 ≡ 0 }
+    ensures table { seat.new.table_id ≡ seat.old.table_id }
+    ensures view { seat.new.me.0 ≡ seat.old.me.0 }
+    ensures bytes { (owner_of seat.old.me.0).honest ≡ true → HasBytes (word_in_view (object_at (owner_of seat.old.me.0) p)) (8 * first) out.new }
+{
+    let begin = places[(p % CELLS) as usize] as usize;
+    let count = out.len() / 8;
+    for i in 0..count {
+        let at = begin + (first as usize + i) + layout::LOGS;
+        let word = shared.load::<rule::Load>(seat, at);
+        LittleEndian::write_u64(&mut out[8 * i..], word);
+    }
+}
+
+// Stores whole words of an object that a seat holds, where the list says at which address the object's words begin.
+#[inline(always)]
+fn store_all<D: Device>(
+    shared: &Shared<u64, View, Plan<D>, FarRule>,
+    seat: &mut Seat<u64, View>,
+    places: &Vec<u16>,
+    p: u16,
+    first: u16,
+    bytes: &[u8],
+)
+    requires table { (seat.old.table_id ≡ shared.now.table_id) × (seat.old.table_id.words ≡ TABLE_WORDS) }
+    requires owner { seat.old.me.0 ≡ Owner (owner_of seat.old.me.0) }
+    requires places { (length places.now.items ≡ CELLS) × HasPlaces (owner_of seat.old.me.0) places.now.items }
+    requires held { IsSome (held_at (owner_of seat.old.me.0) p) }
+    requires short { len_of (object_at (owner_of seat.old.me.0) p) ≤ LONGEST }
+    requires inside { 8 * first + length bytes.now ≤ len_of (object_at (owner_of seat.old.me.0) p) }
+    requires whole { length bytes.now % 8 ≡ 0 }
+    ensures table { seat.new.table_id ≡ seat.old.table_id }
+    ensures owner { seat.new.me.0 ≡ Owner (owner_of seat.new.me.0) }
+    ensures wrote { Wrote p (8 * first) bytes.now (owner_of seat.old.me.0) (owner_of seat.new.me.0) }
+{
+    let begin = places[(p % CELLS) as usize] as usize;
+    let count = bytes.len() / 8;
+    for i in 0..count {
+        let at = begin + (first as usize + i) + layout::LOGS;
+        let word = LittleEndian::read_u64(&bytes[8 * i..]);
+        shared.store::<rule::Store>(seat, at, word);
+    }
 }
 
 impl<D: Device> MutSeat<D> {
@@ -202,6 +264,45 @@ impl<D: Device> MutSeat<D> {
         self.table
             .shared
             .store::<rule::Store>(&mut self.seat, at, word);
+    }
+
+    /// Words of an object that is held, from word `first` on, as bytes, the low byte of each first. Each word is a load of its own.
+    pub fn load_words(&mut self, p: u16, first: u16, out: &mut [u8])
+        requires held { IsSome (held_at self.old.view p) }
+        requires short { len_of (object_at self.old.view p) ≤ LONGEST }
+        requires inside { 8 * first + length out.old ≤ len_of (object_at self.old.view p) }
+        requires whole { length out.old % 8 ≡ 0 }
+        ensures same { self.new ≡ self.old }
+        ensures bytes { self.old.view.honest ≡ true → HasBytes (word_in_view (object_at self.old.view p)) (8 * first) out.new }
+    {
+        load_all::<D>(
+            &self.table.shared,
+            &mut self.seat,
+            &self.places,
+            p,
+            first,
+            out,
+        );
+    }
+
+    /// Words of an object that is held, from word `first` on, are these bytes from then on, the low byte of each first. Each word is a
+    /// store of its own.
+    pub fn store_words(&mut self, p: u16, first: u16, bytes: &[u8])
+        requires held { IsSome (held_at self.old.view p) }
+        requires short { len_of (object_at self.old.view p) ≤ LONGEST }
+        requires inside { 8 * first + length bytes.now ≤ len_of (object_at self.old.view p) }
+        requires whole { length bytes.now % 8 ≡ 0 }
+        ensures table { self.new.table ≡ self.old.table }
+        ensures wrote { Wrote p (8 * first) bytes.now self.old.view self.new.view }
+    {
+        store_all::<D>(
+            &self.table.shared,
+            &mut self.seat,
+            &self.places,
+            p,
+            first,
+            bytes,
+        );
     }
 
     /// Uses a pointer of the owner's own from then on, whose cell is in use: the word found. `None` where it isn't; then nothing changes.

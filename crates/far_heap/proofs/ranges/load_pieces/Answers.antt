@@ -1,7 +1,7 @@
 use Rattle.std.proofs.Common.{◌+◌, ◌-◌, ◌*◌, ◌/◌, ℕ, length, ap, subst, ◌∙◌, arith}
 use Rattle.far_table.specs.Seats.{Seated}
 use Rattle.far_table.specs.Views.{object_at, word_in_view}
-use Rattle.far_heap.specs.Ranges.{HasBytes}
+use Rattle.far_table.specs.Ranges.{HasBytes}
 use Rattle.far_heap.proofs.Parts.{range_read}
 use Rattle.far_heap.proofs.ranges.load_pieces.Goals as goal
 

@@ -4,8 +4,9 @@ use Rattle.far_word.specs.Bytes.{byte_at}
 use Rattle.far_table.specs.declared.view.OwnerView.{OwnerView}
 use Rattle.far_table.specs.Seats.{Seated}
 use Rattle.far_table.specs.Views.{len_of, object_at, stored_view}
-use Rattle.far_heap.specs.Ranges.{Wrote}
-use Rattle.far_heap.proofs.Parts.{part_padding, stored_wrote}
+use Rattle.far_table.specs.Ranges.{Wrote}
+use Rattle.far_heap.proofs.Parts.{part_padding}
+use Rattle.far_table.proofs.WholeWords.{stored_wrote}
 use Rattle.far_heap.proofs.ranges.store_part.Goals as goal
 
 pub store-requires-clause-padding : goal.store-requires-clause-padding
