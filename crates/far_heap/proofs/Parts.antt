@@ -1,21 +1,17 @@
 -- Bytes that lie in words: parts of one word, whole words, and a range of them in three parts.
-use Rattle.std.proofs.Common.{◌≡◌, ◌≢◌, ℕ, ◌+◌, ◌-◌, ◌*◌, ◌/◌, ◌%◌, ◌^◌, ◌<◌, ◌≤◌, true, is_some, arith, ap, sym, refl, subst, ◌∙◌, List, ◌++◌, length, get_or, take, drop, inl, inr, Option, Some, None}
+use Rattle.std.proofs.Common.{◌≡◌, ℕ, ◌+◌, ◌-◌, ◌*◌, ◌/◌, ◌%◌, ◌^◌, ◌<◌, ◌≤◌, arith, ap, sym, subst, ◌∙◌, List, ◌++◌, length, get_or, take, drop, inl, inr}
 use Rattle.std.specs.Prelude.{replicate}
 use Rattle.std.specs.Int.{bytes_low_first}
-use Rattle.std.proofs.lemmas.Bool.{cases_eq, cases_lt}
-use Rattle.std.proofs.lemmas.List.{get_or-replicate, get_or_past, get_or-take, get_or-drop, get_or_append_left, get_or-append_right, length-take-le, length-append, length-drop}
+use Rattle.std.proofs.lemmas.Bool.{cases_lt}
+use Rattle.std.proofs.lemmas.List.{get_or-replicate, get_or_past, get_or-take, get_or-drop, length-take-le, length-append, length-drop}
 use lib.Pow.{pow_mono}
 use borrow.Rule.Slice.PartMut.{put_mid}
 use Rattle.byteorder.specs.Endian.{little_number}
 use Rattle.byteorder.specs.Numbers.{length-bytes_low_first}
-use Rattle.far_word.specs.Bytes.{byte_at, packed_word, words_of}
-use Rattle.far_word.proofs.ByteLaws.{bytes_of-get, bytes_of-words_of, words_of-get}
-use Rattle.far_word.proofs.WordBytes.{low_byte, read_word}
-use Rattle.far_core.specs.state.State.{put}
-use Rattle.far_core.proofs.Put.{put_other, put_same}
-use Rattle.far_table.specs.declared.view.ObjectView.{ObjectView}
+use Rattle.far_word.specs.Bytes.{byte_at, packed_word}
+use Rattle.far_word.proofs.WordBytes.{read_word}
 use Rattle.far_table.specs.declared.view.OwnerView.{OwnerView}
-use Rattle.far_table.specs.Views.{len_of, object_at, stored_view, with_word, word_in_view}
+use Rattle.far_table.specs.Views.{len_of, object_at}
 use Rattle.far_table.specs.Ranges.{HasBytes, Wrote}
 use Rattle.far_table.proofs.WholeWords.{in_row, packed_bytes, put_above, put_below, put_inside, put_long, word_byte, wrote_join}
 use Rattle.far_heap.proofs.Spliced.{part_wide}
