@@ -102,7 +102,8 @@ impl<K: HeapName, D: Device + Drop> Heap<K, D> {
     /// Makes a round: asks a policy for logs, at most `most`, and makes so many turns, or fewer if the round is over before. The lock is taken for the
     /// choice, and anew for each turn; where the round waits for an open scope, other threads run before the next.
     /// [`RoundEnd::Nothing`] exactly where no log was chosen, [`RoundEnd::Done`] where a turn gave the last of the round's logs back, and else
-    /// [`RoundEnd::Limit`], with the phase after the last turn. What the turns did is summed.
+    /// [`RoundEnd::Limit`], with the phase after the last turn: the round goes on by [`Evacuator::turn`], or is given up by [`Evacuator::abort`]. What the
+    /// turns did is summed. A policy is offered sealed logs alone, those that were full when another was opened.
     ///
     /// Refused as [`Evacuator::select`] and [`Evacuator::turn`] are, [`Refused::Phase`] also where another caller ended the round meanwhile; `so_far`
     /// is then the sum of what was done.

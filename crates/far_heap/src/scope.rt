@@ -37,7 +37,6 @@ impl<K: HeapName, D: Device + Drop> Model for Scope<K, D> {
 
 impl<K: HeapName, D: Device + Drop> Scope<K, D> {
     #[inline(always)]
-    #[inline(always)]
     pub(crate) fn of(own: Own<K, D>, lock: Lock<K, D>) -> Scope<K, D>
         requires opened { own.opened ≡ true }
         requires table { own.table ≡ K.table }
@@ -69,7 +68,6 @@ impl<K: HeapName, D: Device + Drop> Scope<K, D> {
     /// Refused [`Refused::NotHeld`] exactly where this mutator doesn't use the pointer; and, never where the scope views it already, [`Refused::NoRoom`],
     /// and [`Refused::Memory`], [`Refused::Device`] or [`Refused::Damaged`] as the device is. The scope views what it did then.
     #[inline(always)]
-    #[inline(always)]
     pub fn view<R: Wait>(&mut self, rt: &R, p: u16) -> Result<View, Refused>
         ensures refused { IfErr result (λ why. IsNoView self.old p why × (self.new ≡ self.old)) }
         ensures viewed { IfOk result (λ view. (uses self.old p ≡ true) × (view ≡ view_of p self.old) × (self.new ≡ viewing p self.old)) }
@@ -91,7 +89,6 @@ impl<K: HeapName, D: Device + Drop> Scope<K, D> {
     /// scope views already is viewed again, whatever marks have come since, without a step. Else one step sets HOT and finds a word: the
     /// object is viewed where it rests by that word; else the answer is that word, and the scope views what it did.
     #[inline(always)]
-    #[inline(always)]
     pub fn try_view(&mut self, p: u16) -> Result<Tried, Refused>
         ensures refused { IfErr result (λ why. (why ≡ Refused.NotHeld) × (uses self.old p ≡ false) × (self.new ≡ self.old)) }
         ensures tried { IfOk result (λ tried. (uses self.old p ≡ true) × TriedSo p self.old tried self.new) }
@@ -104,7 +101,6 @@ impl<K: HeapName, D: Device + Drop> Scope<K, D> {
     /// Reads the bytes of an object from one on. Refused first [`Refused::NotHeld`] exactly where this scope doesn't view the pointer, then
     /// [`Refused::Range`] exactly where there are none, or they pass the object's end.
     #[inline(always)]
-    #[inline(always)]
     pub fn read(&mut self, view: &View, from: u16, out: &mut [u8]) -> Result<(), Refused>
         ensures same { self.new ≡ self.old }
         ensures refused { IfErr result (λ why. (access_refusal self.old view.now.pointer from (length out.old) ≡ Some why) × (out.new ≡ out.old)) }
@@ -116,7 +112,6 @@ impl<K: HeapName, D: Device + Drop> Scope<K, D> {
 
     /// Writes bytes over those of an object from one on. All others stay. Refused as [`Scope::read`] is; then nothing changes.
     #[inline(always)]
-    #[inline(always)]
     pub fn write(&mut self, view: &View, from: u16, bytes: &[u8]) -> Result<(), Refused>
         ensures refused { IfErr result (λ why. (access_refusal self.old view.now.pointer from (length bytes.now) ≡ Some why) × (self.new ≡ self.old)) }
         ensures done { IfOk result (λ _. (access_refusal self.old view.now.pointer from (length bytes.now) ≡ None) × (self.new ≡ writing view.now.pointer from bytes.now self.old)) }
@@ -125,7 +120,6 @@ impl<K: HeapName, D: Device + Drop> Scope<K, D> {
     }
 
     /// Closes the scope, which views nothing from then on. Always.
-    #[inline(always)]
     #[inline(always)]
     pub fn close(self) -> Mutator<K, D>
         ensures { result ≡ closing self }

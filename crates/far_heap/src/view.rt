@@ -24,7 +24,7 @@ impl View {
     }
 }
 
-/// What a dereference without the lock answers: a view, or the word that was found, on which no view may rest.
+/// What a dereference without the lock answers: a view, or the word that was found, on which no view may rest; `Scope::view` then has the object brought.
 #[derive(Clone, Copy, Debug, PartialEq, Eq)]
 pub enum Tried {
     View(View),
