@@ -8,6 +8,7 @@ mod growing;
 mod left_open;
 mod looks;
 mod ranges;
+mod readme;
 mod refusals;
 mod rounds;
 mod rows;
