@@ -53,7 +53,7 @@ void *aligned_alloc(size_t to, size_t size) {
     return refused() ? NULL : real(to, size);
 }
 
-__attribute__((destructor)) static void tell(void) {
+static void tell(void) {
     const char *name = is_meant() ? getenv("COUNT_ALLOC") : NULL;
     long asked = count;
     FILE *file = name ? fopen(name, "w") : NULL;
@@ -61,4 +61,15 @@ __attribute__((destructor)) static void tell(void) {
         fprintf(file, "%ld\n", asked);
         fclose(file);
     }
+}
+
+__attribute__((destructor)) static void tell_at_end(void) { tell(); }
+
+// A program with threads ends so, past all destructors.
+void _exit(int status) {
+    static void (*real)(int);
+    if (!real) real = (void (*)(int))dlsym(RTLD_NEXT, "_exit");
+    tell();
+    real(status);
+    __builtin_unreachable();
 }

@@ -1,13 +1,13 @@
 #!/usr/bin/env bash
 # Refuses each growth of a program in turn, under valgrind's memcheck, which must find neither a leak nor a wrong access: of one that shares
-# a core, or of one that makes a heap, objects that go far in rounds, and reads them. Each run must end as without a refusal (status 0, the
+# a core, or of one that makes a heap, objects that go far in rounds, and views of them. Each run must end as without a refusal (status 0, the
 # whole output), or say that memory was refused, with status 1. Both endings must come. Prints only what is wrong.
 # usage: refuse_growth.sh far_table_bench|far_heap_bench [PROGRAM]; without PROGRAM the crate's is built first.
 set -euo pipefail
 here="$(cd "$(dirname "${BASH_SOURCE[0]}")" && pwd)"
 case "${1:-}" in
-far_table_bench) words=(share 0 5 3) said=memory ;;
-far_heap_bench) words=(slow 1) said="out of memory" ;;
+far_table_bench) words=(share 0 5 3) ;;
+far_heap_bench) words=(slow 1) ;;
 *)
     echo "usage: refuse_growth.sh far_table_bench|far_heap_bench [PROGRAM]" >&2
     exit 2
@@ -44,7 +44,7 @@ for ((nth = 1; nth <= asked; nth++)); do
         if ((status == 0)) && [[ "$(cat "$work/out")" == "$whole" && ! -s "$work/err" ]]; then
             continue
         fi
-        if ((status == 1)) && [[ ! -s "$work/out" && "$(cat "$work/err")" == "$said" ]]; then
+        if ((status == 1)) && [[ ! -s "$work/out" && "$(cat "$work/err")" =~ ^(out of )?memory$ ]]; then
             refused=$((refused + 1))
             continue
         fi
@@ -53,7 +53,7 @@ for ((nth = 1; nth <= asked; nth++)); do
     wrong=1
 done
 if ((refused < 10)); then
-    echo "refuse_growth: of $asked growths only $refused ended with '$said'" >&2
+    echo "refuse_growth: of $asked growths only $refused ended with 'memory'" >&2
     wrong=1
 fi
 exit "$wrong"
