@@ -4,7 +4,7 @@ use Rattle.std.specs.Prelude.{option_map}
 use Rattle.std.proofs.lemmas.Bool.{false≢true}
 use Rattle.far_word.specs.Bytes.{byte_at, bytes_of}
 use Rattle.far_word.specs.declared.sizes.TheConstants.{CELLS}
-use Rattle.far_table.specs.declared.view.ObjectView.{ObjectView}
+use Rattle.far_table.specs.View.{ObjectView}
 use Rattle.far_table.specs.Seats.{Seated}
 use Rattle.far_table.specs.Views.{len_of as seat_len, object_at, word_in_view, word_of}
 use Rattle.far_heap.specs.Mine.{Object, mine_of, object_of, rewritten, seen, with_range, writing}

@@ -6,7 +6,7 @@ use Rattle.std.proofs.lemmas.List.{set-get_or}
 use Rattle.far_word.specs.declared.pointer.Place.{Place}
 use Rattle.far_word.specs.declared.sizes.TheConstants.{CELLS}
 use Rattle.far_core.proofs.Put.{put_other, put_same}
-use Rattle.far_table.specs.declared.view.ObjectView.{ObjectView}
+use Rattle.far_table.specs.View.{ObjectView}
 use Rattle.far_table.specs.Seats.{Seated}
 use Rattle.far_table.specs.Views.{closed_view, held_at, held_view, len_of as seat_len, object_at, uses as seat_uses}
 use Rattle.far_heap.specs.Mine.{bytes_in, closing, known_bytes, len_in, len_of, mine_of, object_of, own_row, seen, uses, viewing, views}

@@ -10,7 +10,7 @@ use Rattle.byteorder.specs.Endian.{little_number}
 use Rattle.byteorder.specs.Numbers.{length-bytes_low_first}
 use Rattle.far_word.specs.Bytes.{byte_at, packed_word}
 use Rattle.far_word.proofs.WordBytes.{read_word}
-use Rattle.far_table.specs.declared.view.OwnerView.{OwnerView}
+use Rattle.far_table.specs.View.{OwnerView}
 use Rattle.far_table.specs.Views.{len_of, object_at}
 use Rattle.far_table.specs.Ranges.{HasBytes, Wrote}
 use Rattle.far_table.proofs.WholeWords.{in_row, packed_bytes, put_above, put_below, put_inside, put_long, word_byte, wrote_join}

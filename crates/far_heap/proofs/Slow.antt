@@ -14,8 +14,7 @@ use Rattle.far_core.specs.events.Pin.{pin_answer, place_to_view}
 use Rattle.far_core.specs.state.State.{State, addr}
 use Rattle.far_core.specs.world.World.{Object}
 use Rattle.far_core.specs.world.WorldOf.{object_of, world_of}
-use Rattle.far_table.specs.declared.view.ObjectView.{ObjectView}
-use Rattle.far_table.specs.declared.view.OwnerView.{OwnerView}
+use Rattle.far_table.specs.View.{ObjectView, OwnerView}
 use Rattle.far_table.specs.StateOf.{state_of}
 use Rattle.far_table.specs.Tells.{OwnerMade}
 use Rattle.far_table.specs.Views.{len_of, object_at, uses}

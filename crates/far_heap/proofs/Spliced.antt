@@ -6,7 +6,7 @@ use Rattle.std.proofs.lemmas.List.{ext_get_or, get_or-take, get_or-drop, get_or_
 use lib.Pow.{pow_mono}
 use Rattle.far_word.specs.Bytes.{byte_at, bytes_of, word_at}
 use Rattle.far_word.proofs.ByteLaws.{bytes_of-get, length-bytes_of}
-use Rattle.far_table.specs.declared.view.ObjectView.{ObjectView}
+use Rattle.far_table.specs.View.{ObjectView}
 use Rattle.far_table.specs.Views.{len_of as seat_len, word_in_view, word_of}
 use Rattle.far_heap.specs.Mine.{known_bytes, seen, with_range}
 use Rattle.far_table.specs.Ranges.{HasBytes}

@@ -17,8 +17,7 @@ use Rattle.far_core.specs.state.State.{State, put}
 use Rattle.far_core.specs.world.WorldOf.{world_of}
 use Rattle.far_core.proofs.KeepOwner.{closed_word}
 use Rattle.far_core.proofs.Put.{put_both}
-use Rattle.far_table.specs.declared.view.ObjectView.{ObjectView}
-use Rattle.far_table.specs.declared.view.OwnerView.{OwnerView}
+use Rattle.far_table.specs.View.{ObjectView, OwnerView}
 use Rattle.far_hand.specs.Masked.{masked}
 use Rattle.far_book.specs.book.Own.{IsAtStart}
 use Rattle.far_table.specs.First.{first_owner, open_epoch, seen_object}

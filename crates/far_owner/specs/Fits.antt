@@ -5,8 +5,7 @@ use Rattle.atomic_table.specs.Seated.{TableId}
 use Rattle.far_word.specs.declared.sizes.TheConstants.{CELLS, MOST_MUTATORS}
 use Rattle.far_core.specs.declared.shape.Shape.{Shape}
 use Rattle.far_core.specs.state.Opening.{opening}
-use Rattle.far_table.specs.declared.view.ObjectView.{ObjectView}
-use Rattle.far_table.specs.declared.view.OwnerView.{OwnerView}
+use Rattle.far_table.specs.View.{ObjectView, OwnerView}
 use Rattle.far_table.specs.First.{first_owner}
 use Rattle.far_table.specs.Seats.{Seated}
 use Rattle.far_table.specs.Stands.{Seats}

@@ -28,11 +28,7 @@ use Rattle.far_core.specs.world.World.{Object, World, Group, FarSide}
 use Rattle.far_core.specs.world.WorldOf.{object_of, world_of}
 use Rattle.far_core.proofs.Owing.{does}
 use Rattle.far_core.proofs.Put.{put_both, put_other, put_same}
-use Rattle.far_table.specs.declared.view.BookView.{BookView}
-use Rattle.far_table.specs.declared.view.ObjectView.{ObjectView}
-use Rattle.far_table.specs.declared.view.OwnerView.{OwnerView}
-use Rattle.far_table.specs.declared.view.View.{View}
-use Rattle.far_table.specs.declared.view.View.TheVariants.{Owner}
+use Rattle.far_table.specs.View.{BookView, ObjectView, OwnerView, View, Owner}
 use Rattle.far_table.specs.Layout.{cell_at, cell_in}
 use Rattle.far_table.specs.Plays.{Adopted, AdoptTells}
 use Rattle.far_table.specs.Rule.{Facts, Has, Running}

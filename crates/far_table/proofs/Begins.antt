@@ -23,9 +23,7 @@ use Rattle.far_hand.specs.MayBe.{Shows, masked_shows}
 use Rattle.far_hand.specs.Owners.{IsLoudAt}
 use Rattle.far_hand.proofs.Finding.{finds_same}
 use Rattle.far_hand.proofs.Masking.{known_quiet}
-use Rattle.far_table.specs.declared.view.BookView.{BookView}
-use Rattle.far_table.specs.declared.view.OwnerView.{OwnerView}
-use Rattle.far_table.specs.declared.view.View.TheVariants.{Book}
+use Rattle.far_table.specs.View.{BookView, OwnerView, Book}
 use Rattle.far_table.specs.First.{IsTableOf, first_book, first_owner, first_owners, rows_from}
 use Rattle.far_table.specs.Layout.{cell_at, cell_in, data_at, scope_at, scope_in, word_in}
 use Rattle.far_table.specs.Rows.{over}

@@ -10,8 +10,7 @@ use Rattle.far_core.proofs.Owing.{keeps}
 use Rattle.far_core.proofs.Steps.{agrees}
 use Rattle.far_hand.specs.Owners.{is_owners}
 use Rattle.far_hand.proofs.Making.{legal_made}
-use Rattle.far_table.specs.declared.view.BookView.{BookView}
-use Rattle.far_table.specs.declared.view.OwnerView.{OwnerView}
+use Rattle.far_table.specs.View.{BookView, OwnerView}
 use Rattle.far_table.specs.Layout.{TABLE_WORDS, JOBS, cell_in, job_in, scope_in}
 use Rattle.far_table.specs.Rule.{BookTies, Facts, OwnerTies}
 use Rattle.far_table.specs.StateOf.{state_of, taken_at}

@@ -8,7 +8,7 @@ use Rattle.far_hand.specs.MayBe.{Shows}
 use Rattle.far_hand.specs.Owners.{IsLoudAt, OwnersChange}
 use Rattle.far_hand.proofs.Finding.{finds_more}
 use Rattle.far_hand.proofs.Masking.{known_loud}
-use Rattle.far_table.specs.declared.view.BookView.{BookView}
+use Rattle.far_table.specs.View.{BookView}
 use Rattle.far_table.specs.Rule.{BookTies}
 use Rattle.far_table.specs.StateOf.{book_state}
 

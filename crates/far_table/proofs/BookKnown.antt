@@ -8,7 +8,7 @@ use Rattle.far_core.specs.state.State.{put}
 use Rattle.far_core.proofs.Put.{put_both, put_two, put_other}
 use Rattle.far_hand.specs.Known.{Forgets, IsKnown, unknown}
 use Rattle.far_hand.specs.Masked.{masked_word}
-use Rattle.far_table.specs.declared.view.BookView.{BookView}
+use Rattle.far_table.specs.View.{BookView}
 use Rattle.far_table.specs.BookViews.{put_view, rows_elsewhere}
 use Rattle.far_table.specs.Rows.{over}
 use Rattle.far_table.specs.Stands.{IsPlain}

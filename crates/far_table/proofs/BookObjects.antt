@@ -25,7 +25,7 @@ use Rattle.far_core.proofs.Namings.{naming_only}
 use Rattle.far_core.proofs.Owing.{does}
 use Rattle.far_core.proofs.Put.{put_both}
 use Rattle.far_hand.specs.Owners.{is_owners}
-use Rattle.far_table.specs.declared.view.ObjectView.{ObjectView}
+use Rattle.far_table.specs.View.{ObjectView}
 use Rattle.far_table.specs.Rule.{Has}
 
 -- the object is there still, with as many bytes, and with those bytes, where the far side is honest

@@ -27,10 +27,7 @@ use Rattle.far_hand.proofs.Counting.{counts_none}
 use Rattle.far_hand.proofs.Finding.{near_found}
 use Rattle.far_hand.proofs.RoundSteps.{counts_looked, may_advance}
 use Rattle.far_hand.proofs.RoundSteps as looking
-use Rattle.far_table.specs.declared.view.BookView.{BookView}
-use Rattle.far_table.specs.declared.view.OwnerView.{OwnerView}
-use Rattle.far_table.specs.declared.view.View.{View}
-use Rattle.far_table.specs.declared.view.View.TheVariants.{Book}
+use Rattle.far_table.specs.View.{BookView, OwnerView, View, Book}
 use Rattle.far_table.specs.BookPlays.{Advanced, Cleared, Looked}
 use Rattle.far_table.specs.BookTells.{BookTells}
 use Rattle.far_table.specs.BookViews.{cleared_view, looked_view, raised_view, rows_left}

@@ -7,9 +7,7 @@ use Rattle.far_core.specs.declared.event.Event.TheVariants.{Look}
 use Rattle.far_core.specs.declared.event.Reply.{Reply}
 use Rattle.far_core.specs.declared.event.Reply.TheVariants.{Word}
 use Rattle.far_core.specs.state.State.{State}
-use Rattle.far_table.specs.declared.view.BookView.{BookView}
-use Rattle.far_table.specs.declared.view.View.{View}
-use Rattle.far_table.specs.declared.view.View.TheVariants.{Book}
+use Rattle.far_table.specs.View.{BookView, View, Book}
 use Rattle.far_table.specs.Layout.{TABLE_WORDS, cell_at, data_at, scope_at, scope_in}
 use Rattle.far_table.specs.BookSeats.{MayBe}
 use Rattle.far_table.specs.BookTells.{BookMade, BookTells}

@@ -6,10 +6,7 @@ use mathlib.Core.List.{map-append}
 use lib.ListN.{get_elem?}
 use Rattle.atomic_table.specs.Table.{State as Table, Splits}
 use Rattle.far_core.specs.state.State.{State}
-use Rattle.far_table.specs.declared.view.BookView.{BookView}
-use Rattle.far_table.specs.declared.view.OwnerView.{OwnerView}
-use Rattle.far_table.specs.declared.view.View.{View}
-use Rattle.far_table.specs.declared.view.View.TheVariants.{Book, Owner}
+use Rattle.far_table.specs.View.{BookView, OwnerView, View, Book, Owner}
 use Rattle.far_table.specs.First.{first_book, first_owner, waiting}
 use Rattle.far_table.specs.Rule.{Facts, Running}
 use Rattle.far_table.specs.Tells.{owner_of}

@@ -29,8 +29,7 @@ use Rattle.far_core.specs.world.WorldOf.{object_of, world_of}
 use Rattle.far_core.proofs.Cells.{held_near}
 use Rattle.far_core.proofs.ObjectFacts.{object_agrees}
 use Rattle.far_core.proofs.Put.{put_both}
-use Rattle.far_table.specs.declared.view.ObjectView.{ObjectView}
-use Rattle.far_table.specs.declared.view.OwnerView.{OwnerView}
+use Rattle.far_table.specs.View.{ObjectView, OwnerView}
 use Rattle.far_table.specs.First.{first_owner, first_owners, open_epoch, rows_from, seen, seen_object}
 use Rattle.far_table.specs.Rows.{over}
 use Rattle.far_table.specs.Rule.{Has}

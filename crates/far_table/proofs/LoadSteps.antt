@@ -17,10 +17,7 @@ use Rattle.far_core.specs.state.State.{State, addr}
 use Rattle.far_core.specs.world.World.{Object}
 use Rattle.far_core.proofs.Calls.{word_behind}
 use Rattle.far_core.proofs.Owing.{does}
-use Rattle.far_table.specs.declared.view.BookView.{BookView}
-use Rattle.far_table.specs.declared.view.OwnerView.{OwnerView}
-use Rattle.far_table.specs.declared.view.View.{View}
-use Rattle.far_table.specs.declared.view.View.TheVariants.{Owner}
+use Rattle.far_table.specs.View.{BookView, OwnerView, View, Owner}
 use Rattle.far_table.specs.Layout.{TABLE_WORDS, data_at, word_in}
 use Rattle.far_table.specs.Plays.{Loaded}
 use Rattle.far_table.specs.Rule.{Facts, Running}

@@ -12,8 +12,7 @@ use Rattle.far_hand.proofs.Finding.{near_found}
 use Rattle.far_hand.proofs.Masking.{lies, no_header}
 use Rattle.far_hand.proofs.Reading.{header_known}
 use Rattle.far_hand.proofs.Reading as reading
-use Rattle.far_table.specs.declared.view.BookView.{BookView}
-use Rattle.far_table.specs.declared.view.OwnerView.{OwnerView}
+use Rattle.far_table.specs.View.{BookView, OwnerView}
 use Rattle.far_table.specs.Layout.{cell_in, epoch_in, word_in}
 use Rattle.far_table.specs.Rows.{over}
 use Rattle.far_table.specs.Rule.{BookTies, Facts}

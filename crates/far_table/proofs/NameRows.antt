@@ -7,7 +7,7 @@ use Rattle.far_word.specs.declared.pointer.Place.{Place}
 use Rattle.far_word.specs.Sizes.{words_for}
 use Rattle.far_core.specs.events.namings.Evicts.{with_kept}
 use Rattle.far_core.specs.state.State.{addr, put}
-use Rattle.far_table.specs.declared.view.BookView.{BookView}
+use Rattle.far_table.specs.View.{BookView}
 use Rattle.far_table.specs.First.{rows_from}
 use Rattle.far_table.specs.NameViews.{stored_rows}
 use Rattle.far_table.specs.Rows.{over}

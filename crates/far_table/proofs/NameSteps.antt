@@ -29,10 +29,7 @@ use Rattle.far_hand.specs.Known.{Forgets, KnowsLeaving, unknown}
 use Rattle.far_hand.specs.Masked.{AllFind, masked_word}
 use Rattle.far_hand.proofs.Counting.{counts_none}
 use Rattle.far_hand.proofs.Naming.{legal_name, lost_state, won_state}
-use Rattle.far_table.specs.declared.view.BookView.{BookView}
-use Rattle.far_table.specs.declared.view.OwnerView.{OwnerView}
-use Rattle.far_table.specs.declared.view.View.{View}
-use Rattle.far_table.specs.declared.view.View.TheVariants.{Book}
+use Rattle.far_table.specs.View.{BookView, OwnerView, View, Book}
 use Rattle.far_table.specs.BookPlays.{Named}
 use Rattle.far_table.specs.BookTells.{BookTells}
 use Rattle.far_table.specs.BookViews.{saw_view}

@@ -16,9 +16,7 @@ use Rattle.far_core.proofs.Owing.{keeps}
 use Rattle.far_core.proofs.Steps.{agrees}
 use Rattle.far_hand.specs.Owners.{is_owners}
 use Rattle.far_hand.proofs.OwnersWork.{change}
-use Rattle.far_table.specs.declared.view.BookView.{BookView}
-use Rattle.far_table.specs.declared.view.ObjectView.{ObjectView}
-use Rattle.far_table.specs.declared.view.OwnerView.{OwnerView}
+use Rattle.far_table.specs.View.{BookView, ObjectView, OwnerView}
 use Rattle.far_table.specs.Layout.{TABLE_WORDS, JOBS, job_at, job_in}
 use Rattle.far_table.specs.Rule.{BookTies, Facts, Has, OwnerTies}
 use Rattle.far_table.specs.StateOf.{book_state, held_by, remembered_by, state_of, taken_at, used_by}

@@ -8,7 +8,7 @@ use lib.ListN.{get_elem?}
 use Rattle.far_word.specs.declared.sizes.TheConstants.{CELLS}
 use Rattle.far_core.specs.state.State.{put}
 use Rattle.far_core.proofs.Put.{put_both, put_other, put_two}
-use Rattle.far_table.specs.declared.view.OwnerView.{OwnerView}
+use Rattle.far_table.specs.View.{OwnerView}
 use Rattle.far_table.specs.StateOf.{remembered_by}
 use Rattle.far_table.specs.Views.{nobody, owner_at}
 use Rattle.far_table.proofs.Places.{below, get_is}

@@ -18,10 +18,7 @@ use Rattle.far_word.specs.Sizes.{words_for}
 use Rattle.far_core.specs.declared.event.Event.{Event}
 use Rattle.far_core.specs.declared.event.Reply.{Reply}
 use Rattle.far_core.specs.state.State.{addr}
-use Rattle.far_table.specs.declared.view.ObjectView.{ObjectView}
-use Rattle.far_table.specs.declared.view.OwnerView.{OwnerView}
-use Rattle.far_table.specs.declared.view.View.{View}
-use Rattle.far_table.specs.declared.view.View.TheVariants.{Owner}
+use Rattle.far_table.specs.View.{ObjectView, OwnerView, View, Owner}
 use Rattle.far_table.specs.Tells.{OwnerMade, OwnerRefused, Tells, owner_of}
 use Rattle.far_table.specs.Views.{adopted_view, asked_view, fresh, held_at, held_view, len_of, object_at, pinned_view, stored_view, with_place, with_word}
 use Rattle.far_core.specs.events.Open.{scope_word_of}

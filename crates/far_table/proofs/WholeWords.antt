@@ -16,8 +16,7 @@ use Rattle.far_word.proofs.ByteLaws.{bytes_of-get, bytes_of-words_of, words_of-g
 use Rattle.far_word.proofs.WordBytes.{low_byte, read_word}
 use Rattle.far_core.specs.state.State.{addr, put}
 use Rattle.far_core.proofs.Put.{put_other, put_same}
-use Rattle.far_table.specs.declared.view.ObjectView.{ObjectView}
-use Rattle.far_table.specs.declared.view.OwnerView.{OwnerView}
+use Rattle.far_table.specs.View.{ObjectView, OwnerView}
 use Rattle.far_table.specs.Ranges.{HasBytes, Wrote}
 use Rattle.far_table.specs.Seats.{HasPlaces}
 use Rattle.far_table.specs.Views.{held_at, len_of, object_at, stored_view, with_word, word_in_view}

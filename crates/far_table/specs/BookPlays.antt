@@ -8,7 +8,7 @@ use Rattle.far_core.specs.declared.event.Reply.TheVariants.{Done, Epoch, Word}
 use Rattle.far_hand.specs.Finds.{Finds}
 use Rattle.far_hand.specs.Rounds.{IsScopeAt}
 use Rattle.far_hand.proofs.Reading.{Gets}
-use Rattle.far_table.specs.declared.view.View.{View}
+use Rattle.far_table.specs.View.{View}
 use Rattle.far_table.specs.BookTells.{BookTells}
 use Rattle.far_table.specs.BookViews.{cleared_view, freed_view, got_view, is_quiet_at, looked_view, marked_view, put_view, raised_view, saw_view}
 use Rattle.far_table.specs.Layout.{cell_at, data_at, scope_at}

@@ -13,8 +13,7 @@ use Rattle.far_core.specs.state.State.{State}
 use Rattle.far_hand.specs.MayBe.{Made, Shows, Tells}
 use Rattle.far_hand.proofs.Making.{spent_made}
 use Rattle.far_table.specs.declared.book.BookSeat.{BookSeat}
-use Rattle.far_table.specs.declared.view.BookView.{BookView}
-use Rattle.far_table.specs.declared.view.OwnerView.{OwnerView}
+use Rattle.far_table.specs.View.{BookView, OwnerView}
 use Rattle.far_table.specs.BookTells.{BookMade}
 use Rattle.far_table.specs.Rule.{Facts}
 use Rattle.far_table.specs.Stands.{Stands, book_of}

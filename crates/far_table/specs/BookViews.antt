@@ -12,7 +12,7 @@ use Rattle.far_core.specs.events.Advance.{is_among}
 use Rattle.far_core.specs.events.Clear.{evac_cleared}
 use Rattle.far_core.specs.events.Look.{shows_clear}
 use Rattle.far_hand.specs.Quiet.{is_quiet_word}
-use Rattle.far_table.specs.declared.view.BookView.{BookView}
+use Rattle.far_table.specs.View.{BookView}
 use Rattle.far_table.specs.Rows.{over}
 
 -- the word was found in a pointer's cell, or left there

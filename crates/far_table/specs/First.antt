@@ -10,9 +10,7 @@ use Rattle.far_word.specs.Sizes.{words_for}
 use Rattle.far_core.specs.state.State.{State}
 use Rattle.far_core.specs.world.World.{Object}
 use Rattle.far_core.specs.world.WorldOf.{world_of}
-use Rattle.far_table.specs.declared.view.BookView.{BookView}
-use Rattle.far_table.specs.declared.view.ObjectView.{ObjectView}
-use Rattle.far_table.specs.declared.view.OwnerView.{OwnerView}
+use Rattle.far_table.specs.View.{BookView, ObjectView, OwnerView}
 use Rattle.far_table.specs.Layout.{JOBS, TABLE_WORDS, cell_at, data_at, epoch_in, job_at, scope_at}
 use Rattle.far_table.specs.Views.{moves}
 

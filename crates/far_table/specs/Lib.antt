@@ -1,3 +1,4 @@
+pub mod View
 pub mod Layout
 pub mod Rows
 pub mod Views

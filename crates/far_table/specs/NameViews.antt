@@ -11,7 +11,7 @@ use Rattle.far_core.specs.declared.naming.Naming.{Naming}
 use Rattle.far_core.specs.declared.naming.Naming.TheVariants.{Places, Retires, Evicts, Stays, Moves, Fetches}
 use Rattle.far_core.specs.events.Naming.{naming_of}
 use Rattle.far_core.specs.state.State.{addr}
-use Rattle.far_table.specs.declared.view.BookView.{BookView}
+use Rattle.far_table.specs.View.{BookView}
 use Rattle.far_table.specs.BookViews.{saw_view}
 use Rattle.far_table.specs.First.{rows_from}
 use Rattle.far_table.specs.Rows.{over}

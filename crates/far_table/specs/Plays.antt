@@ -11,12 +11,10 @@ use Rattle.far_word.specs.Sizes.{words_for}
 use Rattle.far_core.specs.events.Pin.{place_to_view, pin_answer}
 use Rattle.far_core.specs.state.Law.{in_use}
 use Rattle.far_core.specs.state.State.{addr}
-use Rattle.far_table.specs.declared.view.View.TheVariants.{Owner}
+use Rattle.far_table.specs.View.{OwnerView, View, Owner}
 use Rattle.far_table.specs.Layout.{cell_at, data_at}
-use Rattle.far_table.specs.declared.view.OwnerView.{OwnerView}
 use Rattle.far_core.specs.declared.event.Event.TheVariants.{ReadEpoch, Open, Pin, Load, Store, Close, Adopt, Ask}
 use Rattle.far_core.specs.declared.event.Reply.TheVariants.{Done, Epoch, Word}
-use Rattle.far_table.specs.declared.view.View.{View}
 use Rattle.far_table.specs.Tells.{OwnerRefused, Tells, owner_of}
 use Rattle.far_table.specs.Views.{adopted_view, asked_view, closed_view, held_at, len_of, object_at, opened_view, pinned_view, read_view, stored_view, word_in_view}
 

@@ -1,7 +1,7 @@
 -- Bytes of an object that lies in words.
 use Rattle.std.specs.Prelude.{◌≡◌, ◌≢◌, ◌+◌, ◌<◌, ◌≤◌, ℕ, true, List, length, slice_index, is_some}
 use Rattle.far_word.specs.Bytes.{byte_at}
-use Rattle.far_table.specs.declared.view.OwnerView.{OwnerView}
+use Rattle.far_table.specs.View.{OwnerView}
 use Rattle.far_table.specs.Views.{len_of, object_at, word_in_view}
 
 -- these are the bytes of a row of words from one on

@@ -15,11 +15,7 @@ use Rattle.far_core.specs.world.WorldOf.{world_of}
 use Rattle.far_hand.specs.Known.{IsKnown}
 use Rattle.far_hand.specs.MayBe.{Shows}
 use Rattle.far_hand.specs.Owners.{IsLoudAt}
-use Rattle.far_table.specs.declared.view.BookView.{BookView}
-use Rattle.far_table.specs.declared.view.ObjectView.{ObjectView}
-use Rattle.far_table.specs.declared.view.OwnerView.{OwnerView}
-use Rattle.far_table.specs.declared.view.View.{View}
-use Rattle.far_table.specs.declared.view.View.TheVariants.{Book, Owner}
+use Rattle.far_table.specs.View.{BookView, ObjectView, OwnerView, View, Book, Owner}
 use Rattle.far_table.specs.Layout.{TABLE_WORDS, JOBS, job_in}
 use Rattle.far_table.specs.StateOf.{book_state, state_of, taken_at}
 use Rattle.far_table.specs.Views.{object_at, asked_at, moves, word_of}

@@ -7,7 +7,7 @@ use Rattle.far_word.specs.Sizes.{words_for}
 use Rattle.far_core.specs.declared.event.Reply.{Reply}
 use Rattle.far_core.specs.declared.event.Reply.TheVariants.{Held, Word}
 use Rattle.far_core.specs.state.State.{addr}
-use Rattle.far_table.specs.declared.view.OwnerView.{OwnerView}
+use Rattle.far_table.specs.View.{OwnerView}
 use Rattle.far_table.specs.Views.{held_at, len_of, object_at}
 
 -- the table that it is of, and its view

@@ -6,8 +6,7 @@ use Rattle.far_core.specs.declared.event.Kind.TheVariants.{Free}
 use Rattle.far_core.specs.events.Advance.{is_among}
 use Rattle.far_core.specs.state.State.{State}
 use Rattle.far_hand.specs.Known.{unknown}
-use Rattle.far_table.specs.declared.view.BookView.{BookView}
-use Rattle.far_table.specs.declared.view.OwnerView.{OwnerView}
+use Rattle.far_table.specs.View.{BookView, OwnerView}
 use Rattle.far_table.specs.Layout.{epoch_in, scope_in, cell_in, word_in}
 use Rattle.far_table.specs.Rows.{over}
 use Rattle.far_table.specs.Views.{held_at, owner_at, uses}

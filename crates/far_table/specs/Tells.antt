@@ -6,10 +6,7 @@ use Rattle.far_core.specs.declared.event.Event.{Event}
 use Rattle.far_core.specs.declared.event.Reply.{Reply}
 use Rattle.far_core.specs.events.Legal.{Legal}
 use Rattle.far_core.specs.events.Step.{after, answer}
-use Rattle.far_table.specs.declared.view.BookView.{BookView}
-use Rattle.far_table.specs.declared.view.OwnerView.{OwnerView}
-use Rattle.far_table.specs.declared.view.View.{View}
-use Rattle.far_table.specs.declared.view.View.TheVariants.{Book, Owner, Copier}
+use Rattle.far_table.specs.View.{BookView, OwnerView, View, Book, Owner, Copier}
 use Rattle.far_table.specs.Rule.{Facts}
 use Rattle.far_table.specs.StateOf.{state_of}
 use Rattle.far_table.specs.Views.{nobody}

@@ -7,8 +7,7 @@ use Rattle.far_word.specs.declared.pointer.PtrWord.{PtrWord}
 use Rattle.far_word.specs.Pointer.{read_of, pointer_len}
 use Rattle.far_core.specs.events.Pin.{place_to_view}
 use Rattle.far_core.specs.events.Quiet.{has_move}
-use Rattle.far_table.specs.declared.view.ObjectView.{ObjectView}
-use Rattle.far_table.specs.declared.view.OwnerView.{OwnerView}
+use Rattle.far_table.specs.View.{ObjectView, OwnerView}
 use Rattle.far_table.specs.Rows.{over}
 
 -- word i of an object

@@ -17,4 +17,4 @@ pub use book::BookSeat;
 pub use rule::{FarRule, FarTable, Plan};
 pub use seat::MutSeat;
 pub use start::share;
-pub use view::{BookView, CopierView, ObjectView, OwnerView, View};
+pub use view::View;

@@ -23,7 +23,7 @@ pub struct FarRule;
 
 impl<D: Device> TableRule<u64, View, Plan<D>> for FarRule {
     ghost use Rattle.far_core.specs.state.CoreState.{core_state};
-    ghost use Rattle.far_table.specs.declared.view.View.TheVariants.{Book};
+    ghost use Rattle.far_table.specs.View.{Book};
     ghost use Rattle.far_table.specs.First.{first_book};
     ghost use Rattle.far_table.specs.Rule.{Running};
 

@@ -8,7 +8,7 @@ ghost use Rattle.std.specs.List.{range_with_len};
 ghost use Rattle.far_word.specs.declared.sizes.TheConstants.{CELLS, LOG_WORDS, LONGEST, MOST_LOGS, MOST_MUTATORS};
 ghost use Rattle.far_core.specs.state.CoreState.{core_state};
 ghost use Rattle.far_core.specs.state.State.{addr};
-ghost use Rattle.far_table.specs.declared.view.View.TheVariants.{Owner};
+ghost use Rattle.far_table.specs.View.{Owner};
 ghost use Rattle.far_table.specs.First.{first_owner};
 ghost use Rattle.far_table.specs.Layout.{TABLE_WORDS};
 ghost use Rattle.far_word.specs.Pointer.{read_of};
@@ -50,7 +50,7 @@ impl<D: Device> Model for MutSeat<D> {
     ghost use Rattle.std.specs.Prelude.{◌≡◌, ◌<◌, length};
     ghost use Rattle.std.specs.Arc.{arc_value};
     ghost use Rattle.far_word.specs.declared.sizes.TheConstants.{CELLS, MOST_MUTATORS};
-    ghost use Rattle.far_table.specs.declared.view.View.TheVariants.{Owner};
+    ghost use Rattle.far_table.specs.View.{Owner};
     ghost use Rattle.far_table.specs.Layout.{TABLE_WORDS};
     ghost use Rattle.far_table.specs.Seats.{Seated, Remembers, HasPlaces};
     ghost use Rattle.far_table.specs.Tells.{owner_of};

@@ -9,7 +9,7 @@ ghost use Rattle.far_table.specs.First.{first_owner, waiting};
 ghost use Rattle.far_table.specs.Layout.{TABLE_WORDS};
 ghost use Rattle.far_table.specs.Stands.{IsDealer, Seats, Stands, Starts, book_of};
 ghost use Rattle.far_table.specs.Tabled.{table_word};
-ghost use Rattle.far_table.specs.declared.view.View.TheVariants.{Book};
+ghost use Rattle.far_table.specs.View.{Book};
 ghost use Rattle.far_word.specs.declared.refused.Refused.{Refused as any_refusal};
 ghost use Rattle.far_word.specs.declared.sizes.TheConstants.{LOG_WORDS, MOST_LOGS};
 

@@ -1,7 +1,7 @@
 -- What an owner's view says of its scope and of one object of 64 bytes.
 use Rattle.std.specs.Prelude.{◌≡◌, ◌/◌, ℕ, true, None, IsSome}
 use Rattle.far_word.specs.declared.sizes.TheConstants.{CELLS}
-use Rattle.far_table.specs.declared.view.OwnerView.{OwnerView}
+use Rattle.far_table.specs.View.{OwnerView}
 use Rattle.far_table.specs.Views.{held_at, len_of, object_at, uses}
 
 -- it uses nothing at this pointer of its own, and is closed

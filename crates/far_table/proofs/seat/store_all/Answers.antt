@@ -4,9 +4,7 @@ use Rattle.std.proofs.lemmas.Grind.{get_or_default_zero}
 use Rattle.atomic_table.specs.Seated.{TableId}
 use Rattle.far_word.specs.declared.pointer.Place.{Place}
 use Rattle.far_word.specs.Sizes.{words_for}
-use Rattle.far_table.specs.declared.view.OwnerView.{OwnerView}
-use Rattle.far_table.specs.declared.view.View.{View}
-use Rattle.far_table.specs.declared.view.View.TheVariants.{Owner}
+use Rattle.far_table.specs.View.{OwnerView, View, Owner}
 use Rattle.far_table.specs.Ranges.{Wrote}
 use Rattle.far_table.specs.Tells.{owner_of}
 use Rattle.far_table.specs.Views.{held_at, len_of, object_at}

@@ -1,6 +1,6 @@
 -- Each byte of the words below the index is stored.
 use Rattle.std.proofs.Common.{◌≡◌, ◌*◌, take}
-use Rattle.far_table.specs.declared.view.View.TheVariants.{Owner}
+use Rattle.far_table.specs.View.{Owner}
 use Rattle.far_table.specs.Ranges.{Wrote}
 use Rattle.far_table.specs.Tells.{owner_of}
 use Rattle.far_table.proofs.seat.store_all.Given as goal

@@ -1,7 +1,7 @@
 use Rattle.std.proofs.Common.{◌≡◌, ◌-◌, ◌≤◌, vec_len, vec_capacity}
 use Rattle.std.specs.Arc.{arc_value}
 use Rattle.far_core.specs.state.CoreState.{core_state}
-use Rattle.far_table.specs.declared.view.View.TheVariants.{Book}
+use Rattle.far_table.specs.View.{Book}
 use Rattle.far_table.specs.First.{first_owner, waiting}
 use Rattle.far_table.specs.Stands.{IsDealer, Seats}
 use Rattle.far_table.proofs.start.deal_all.Given as goal

@@ -1,6 +1,6 @@
 use Rattle.std.proofs.Common.{◌∙◌, [], length, sym, ap, subst}
 use Rattle.far_core.specs.state.CoreState.{core_state}
-use Rattle.far_table.specs.declared.view.View.TheVariants.{Book}
+use Rattle.far_table.specs.View.{Book}
 use Rattle.far_table.specs.First.{first_book}
 use Rattle.far_table.specs.Rule.{Running}
 use Rattle.far_table.specs.Stands.{Starts, book_of}

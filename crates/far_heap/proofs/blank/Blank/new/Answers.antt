@@ -1,7 +1,7 @@
 use Rattle.std.proofs.Common.{◌≡◌, Bool, sym, subst, ap}
 use Rattle.far_core.specs.state.CoreState.{core_state}
 use Rattle.far_core.specs.state.State.{State}
-use Rattle.far_table.specs.declared.view.BookView.{BookView}
+use Rattle.far_table.specs.View.{BookView}
 use Rattle.far_table.specs.BookSeats.{book_in, table_of}
 use Rattle.far_heap.specs.Blanks.{NewSeats}
 use Rattle.far_heap.proofs.NewSeats.{new_seats}

@@ -2,7 +2,7 @@ use Rattle.std.proofs.Common.{◌≡◌, ◌+◌, refl, sym, ap, subst, arith}
 use Rattle.far_core.specs.declared.event.Event.TheVariants.{Advance}
 use Rattle.far_core.specs.events.Step.{after}
 use Rattle.far_hand.specs.Known.{Forgets}
-use Rattle.far_table.specs.declared.view.BookView.{BookView}
+use Rattle.far_table.specs.View.{BookView}
 use Rattle.far_table.specs.BookSeats.{book_in}
 use Rattle.far_table.specs.BookViews.{raised_view}
 use Rattle.far_table.specs.Layout.{EPOCH_AT}

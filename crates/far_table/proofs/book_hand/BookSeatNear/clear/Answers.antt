@@ -1,7 +1,7 @@
 use Rattle.std.proofs.Common.{◌≡◌, ◌-◌, ◌^◌, refl, sym, ap, subst}
 use Rattle.far_hand.specs.Cleared.{cleared}
 use Rattle.far_hand.specs.Known.{Forgets}
-use Rattle.far_table.specs.declared.view.BookView.{BookView}
+use Rattle.far_table.specs.View.{BookView}
 use Rattle.far_table.specs.BookSeats.{book_in}
 use Rattle.far_table.specs.BookViews.{cleared_view}
 use Rattle.far_table.specs.Layout.{cell_at}

@@ -3,7 +3,7 @@ use Rattle.far_word.specs.declared.sizes.TheConstants.{CELLS}
 use Rattle.far_table.specs.Layout.{cell_at}
 use Rattle.far_table.specs.Seats.{Seated}
 use Rattle.far_core.specs.declared.event.Event.TheVariants.{Adopt}
-use Rattle.far_table.specs.declared.view.OwnerView.{OwnerView}
+use Rattle.far_table.specs.View.{OwnerView}
 use Rattle.far_table.specs.Tells.{OwnerRefused, owner_of}
 use Rattle.far_table.specs.Views.{adopted_view, object_at}
 use Rattle.far_table.proofs.AdoptSteps.{adopts}

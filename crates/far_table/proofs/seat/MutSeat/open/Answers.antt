@@ -1,6 +1,6 @@
 use Rattle.std.proofs.Common.{refl, sym, ap, ◌∙◌, subst, arith}
 use Rattle.std.specs.Prelude.{IsSome}
-use Rattle.far_table.specs.declared.view.OwnerView.{OwnerView}
+use Rattle.far_table.specs.View.{OwnerView}
 use Rattle.far_table.specs.Layout.{scope_at}
 use Rattle.far_table.specs.Seats.{Seated}
 use Rattle.far_table.proofs.SeatLemmas.{inside, places_same, seat_stays}

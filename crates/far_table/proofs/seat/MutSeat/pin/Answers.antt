@@ -5,7 +5,7 @@ use Rattle.far_word.specs.declared.sizes.TheConstants.{CELLS}
 use Rattle.far_word.specs.Pointer.{read_of}
 use Rattle.far_core.specs.declared.event.Event.TheVariants.{Pin}
 use Rattle.far_core.specs.events.Pin.{place_to_view}
-use Rattle.far_table.specs.declared.view.OwnerView.{OwnerView}
+use Rattle.far_table.specs.View.{OwnerView}
 use Rattle.far_table.specs.Layout.{cell_at}
 use Rattle.far_table.specs.Seats.{Seated}
 use Rattle.far_table.specs.Tells.{owner_of}

@@ -1,5 +1,5 @@
 use Rattle.std.proofs.Common.{◌≡◌, refl, sym, ap, ◌∙◌, arith}
-use Rattle.far_table.specs.declared.view.OwnerView.{OwnerView}
+use Rattle.far_table.specs.View.{OwnerView}
 use Rattle.far_table.specs.Layout.{EPOCH_AT}
 use Rattle.far_table.specs.Seats.{Seated}
 use Rattle.far_table.proofs.SeatLemmas.{inside, places_same, seat_stays}
