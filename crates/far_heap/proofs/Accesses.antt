@@ -6,7 +6,7 @@ use Rattle.far_word.specs.Bytes.{byte_at, bytes_of}
 use Rattle.far_word.specs.declared.sizes.TheConstants.{CELLS}
 use Rattle.far_table.specs.View.{ObjectView}
 use Rattle.far_table.specs.Seats.{Seated}
-use Rattle.far_table.specs.Views.{len_of as seat_len, object_at, word_in_view, word_of}
+use Rattle.far_table.specs.Views.{ds_of as seat_ds, len_of as seat_len, object_at, word_in_view, word_of}
 use Rattle.far_heap.specs.Mine.{Object, mine_of, object_of, rewritten, seen, with_range, writing}
 use Rattle.far_table.specs.Ranges.{HasBytes, Wrote}
 use Rattle.far_heap.proofs.Mines.{object_own}
@@ -14,17 +14,17 @@ use Rattle.far_heap.proofs.OwnRows.{own_row-one}
 use Rattle.far_heap.proofs.OwnSteps.{seated_is}
 use Rattle.far_heap.proofs.Spliced.{bytes_wrote}
 
-rewrite_so : (h : Bool) (x y : Option ObjectView) (from : ℕ) (bytes : List ℕ) → is_some y ≡ is_some x → seat_len y ≡ seat_len x → from + length bytes ≤ seat_len x →
+rewrite_so : (h : Bool) (x y : Option ObjectView) (from : ℕ) (bytes : List ℕ) → is_some y ≡ is_some x → seat_len y ≡ seat_len x → seat_ds y ≡ seat_ds x → from + length bytes ≤ seat_len x →
     (h ≡ true → HasBytes (word_in_view y) from bytes) → (h ≡ true → (k : ℕ) → k < from → byte_at (word_in_view y) k ≡ byte_at (word_in_view x) k) →
     (h ≡ true → (k : ℕ) → from + length bytes ≤ k → k < seat_len x → byte_at (word_in_view y) k ≡ byte_at (word_in_view x) k) → seen h y ≡ option_map (rewritten from bytes) (seen h x)
-rewrite_so h None None from bytes there len fits inside before after = refl
-rewrite_so h None (Some y) from bytes there len fits inside before after = absurd (false≢true (sym there))
-rewrite_so h (Some x) None from bytes there len fits inside before after = absurd (false≢true there)
-rewrite_so false (Some x) (Some y) from bytes there len fits inside before after = ap (λ n. Some record { len = n; bytes = None }) len
-rewrite_so true (Some x) (Some y) from bytes there len fits inside before after =
+rewrite_so h None None from bytes there len ds fits inside before after = refl
+rewrite_so h None (Some y) from bytes there len ds fits inside before after = absurd (false≢true (sym there))
+rewrite_so h (Some x) None from bytes there len ds fits inside before after = absurd (false≢true there)
+rewrite_so false (Some x) (Some y) from bytes there len ds fits inside before after = λ i. Some record { len = len i; ds = ds i; bytes = None }
+rewrite_so true (Some x) (Some y) from bytes there len ds fits inside before after =
     let all : bytes_of (word_of y) y.len ≡ with_range (bytes_of (word_of x) x.len) from bytes =
     ap (bytes_of (word_of y)) len ∙ bytes_wrote (word_of x) (word_of y) x.len from bytes fits (inside refl) (before refl) (after refl) in
-    λ i. Some record { len = len i; bytes = Some (all i) }
+    λ i. Some record { len = len i; ds = ds i; bytes = Some (all i) }
 
 pub wrote_mine : (s t : Seated) (p from : ℕ) (bytes : List ℕ) → p / CELLS ≡ s.view.number → from + length bytes ≤ seat_len (object_at s.view p) → t.table ≡ s.table →
     Wrote p from bytes s.view t.view → mine_of t ≡ writing p from bytes (mine_of s)
@@ -33,7 +33,7 @@ wrote_mine s t p from bytes own fits same w =
     let f : ℕ → Option Object = λ q. seen s.view.honest (object_at s.view q) in
     let g : ℕ → Option Object = λ q. seen s.view.honest (object_at t.view q) in
     let v : Option Object = option_map (rewritten from bytes) (object_of (mine_of s) p) in
-    let here : g p ≡ v = rewrite_so s.view.honest (object_at s.view p) (object_at t.view p) from bytes w.there w.len fits w.inside w.before w.after
+    let here : g p ≡ v = rewrite_so s.view.honest (object_at s.view p) (object_at t.view p) from bytes w.there w.len w.ds fits w.inside w.before w.after
     ∙ ap (option_map (rewritten from bytes)) (sym (object_own s p own)) in
     ap mine_of (seated_is t s.table (record s.view { objects = t.view.objects }) same w.rest)
     ∙ ap (λ (rows : List (Option Object)). record (mine_of s) { objects = rows }) (own_row-one f g s.view.number p v own (λ q ne. ap (seen s.view.honest) (w.others q ne)) here)

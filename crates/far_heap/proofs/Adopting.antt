@@ -8,7 +8,7 @@ use Rattle.atomic_table.specs.Seated.{TableId}
 use Rattle.far_word.specs.declared.pointer.PtrWord.{PtrWord}
 use Rattle.far_word.specs.declared.pointer.PtrWord.TheVariants.{Free, Near, Far}
 use Rattle.far_word.specs.declared.sizes.TheConstants.{CELLS, LONGEST}
-use Rattle.far_word.specs.Pointer.{pointer_len, read_of}
+use Rattle.far_word.specs.Pointer.{read_of}
 use Rattle.far_word.proofs.ByteLaws.{bytes_of-zeros}
 use Rattle.far_word.proofs.PointerLaws.{read_says}
 use Rattle.far_core.specs.declared.event.Event.TheVariants.{Adopt}
@@ -20,7 +20,7 @@ use Rattle.far_table.specs.View.{OwnerView}
 use Rattle.far_table.specs.Seats.{Seated}
 use Rattle.far_table.specs.StateOf.{state_of}
 use Rattle.far_table.specs.Tells.{OwnerMade}
-use Rattle.far_table.specs.Views.{adopted_view, fresh, held_at, len_of as seat_len, object_at, said_len}
+use Rattle.far_table.specs.Views.{adopted_view, fresh, held_at, len_of as seat_len, object_at, said_ds, said_len}
 use Rattle.far_heap.specs.Mine.{Object, OwnOk, adopting, dropping, mine_of, seen, zeros_known}
 use Rattle.far_heap.proofs.OwnRows.{own_row-one}
 
@@ -40,18 +40,18 @@ adopted_fits o o' p w made =
     let is = word_found w (s.cell p) made.says in
     subst (λ n. n < 2 ^ 64) (sym is) low
 
-used_len_of : (w : ℕ) → w < 2 ^ 64 → (x : Option PtrWord) → read_of w ≡ x → in_use x ≡ true → (n : ℕ) → ((v : PtrWord) → x ≡ Some v → n ≡ pointer_len v) → (n ≡ said_len x) × (0 < n) × (n ≤ LONGEST)
-used_len_of w fits None e used n is = absurd (false≢true used)
-used_len_of w fits (Some Free) e used n is = absurd (false≢true used)
-used_len_of w fits (Some (Near len ds place m)) e used n is = let s = (read_says w (Near len ds place m) fits e).0 in let long = is (Near len ds place m) refl in (long, omega (arith, long, s.0), omega (arith, long, s.1))
-used_len_of w fits (Some (Far len ds m)) e used n is = let s = (read_says w (Far len ds m) fits e).0 in let long = is (Far len ds m) refl in (long, omega (arith, long, s.0), omega (arith, long, s.1))
+used_len_of : (w : ℕ) → w < 2 ^ 64 → (x : Option PtrWord) → read_of w ≡ x → in_use x ≡ true → (n : ℕ) → n ≡ said_len x → (n ≡ said_len x) × (0 < n) × (n ≤ LONGEST)
+used_len_of w fits None e used n long = absurd (false≢true used)
+used_len_of w fits (Some Free) e used n long = absurd (false≢true used)
+used_len_of w fits (Some (Near len ds place m)) e used n long = let s = (read_says w (Near len ds place m) fits e).0 in (long, omega (arith, long, s.0), omega (arith, long, s.1))
+used_len_of w fits (Some (Far len ds m)) e used n long = let s = (read_says w (Far len ds m) fits e).0 in (long, omega (arith, long, s.0), omega (arith, long, s.1))
 
-pub adopted_len : (w n : ℕ) → w < 2 ^ 64 → in_use (read_of w) ≡ true → ((v : PtrWord) → read_of w ≡ Some v → n ≡ pointer_len v) → (n ≡ said_len (read_of w)) × (0 < n) × (n ≤ LONGEST)
+pub adopted_len : (w n : ℕ) → w < 2 ^ 64 → in_use (read_of w) ≡ true → n ≡ said_len (read_of w) → (n ≡ said_len (read_of w)) × (0 < n) × (n ≤ LONGEST)
 adopted_len w n fits used is = used_len_of w fits (read_of w) refl used n is
 
-fresh_seen : (h : Bool) (w n : ℕ) → n ≡ said_len (read_of w) → seen h (Some (fresh w)) ≡ Some record { len = n; bytes = zeros_known h n }
-fresh_seen true w n e = λ i. Some record { len = sym e i; bytes = Some ((bytes_of-zeros (λ _. 0) (said_len (read_of w)) (λ k lt. refl) ∙ ap (λ m. replicate m 0) (sym e)) i) }
-fresh_seen false w n e = ap (λ m. Some record { len = m; bytes = None }) (sym e)
+fresh_seen : (h : Bool) (w n t : ℕ) → n ≡ said_len (read_of w) → t ≡ said_ds (read_of w) → seen h (Some (fresh w)) ≡ Some record { len = n; ds = t; bytes = zeros_known h n }
+fresh_seen true w n t e d = λ i. Some record { len = sym e i; ds = sym d i; bytes = Some ((bytes_of-zeros (λ _. 0) (said_len (read_of w)) (λ k lt. refl) ∙ ap (λ m. replicate m 0) (sym e)) i) }
+fresh_seen false w n t e d = λ i. Some record { len = sym e i; ds = sym d i; bytes = None }
 
 module _ (s : Seated) (name : TableId) (number : ℕ) (lens stamps : List ℕ) (scope : ℕ) (ok : OwnOk s name number lens stamps scope) (p : ℕ) (own : p / CELLS ≡ number) where
   -- ---- one object more
@@ -83,13 +83,13 @@ module _ (s : Seated) (name : TableId) (number : ℕ) (lens stamps : List ℕ) (
     past = ok.past;
   }
 
-  pub adopted_mine : (w n : ℕ) → n ≡ said_len (read_of w) → mine_of record { table = s.table; view = adopted_view p w s.view } ≡ adopting p n (mine_of s)
-  adopted_mine w n long =
+  pub adopted_mine : (w n t : ℕ) → n ≡ said_len (read_of w) → t ≡ said_ds (read_of w) → mine_of record { table = s.table; view = adopted_view p w s.view } ≡ adopting p n t (mine_of s)
+  adopted_mine w n t long kind =
       let f : ℕ → Option Object = λ q. seen s.view.honest (object_at s.view q) in
       let g : ℕ → Option Object = λ q. seen s.view.honest (object_at (adopted_view p w s.view) q) in
-      ap (λ (rows : List (Option Object)). record (mine_of s) { objects = rows }) (own_row-one f g s.view.number p (Some record { len = n; bytes = zeros_known s.view.honest n }) (own ∙ sym ok.number_is)
+      ap (λ (rows : List (Option Object)). record (mine_of s) { objects = rows }) (own_row-one f g s.view.number p (Some record { len = n; ds = t; bytes = zeros_known s.view.honest n }) (own ∙ sym ok.number_is)
       (λ q ne. ap (seen s.view.honest) (put_other (object_at s.view) p (Some (fresh w)) q ne))
-      (ap (seen s.view.honest) (put_same (object_at s.view) p (Some (fresh w)) p refl) ∙ fresh_seen s.view.honest w n long))
+      (ap (seen s.view.honest) (put_same (object_at s.view) p (Some (fresh w)) p refl) ∙ fresh_seen s.view.honest w n t long kind))
 
   -- ---- one object less
   pub dropped_ok : is_some (held_at s.view p) ≡ false → OwnOk (record { table = s.table; view = record s.view { objects = (p, None) ∷ s.view.objects } }) name number (slice_set lens (p % CELLS) 0) stamps scope

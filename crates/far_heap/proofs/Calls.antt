@@ -65,9 +65,9 @@ module _ (xs ys : List ℕ) (from : ℕ) (fits : from + length ys ≤ length xs)
       let at : from + length ys + (k - (from + length ys)) ≡ k = omega arith in
       get_or-append_right (take from xs ++ ys) (drop (from + length ys) xs) (from + length ys) k 0 parted le ∙ get_or-drop (from + length ys) xs (k - (from + length ys)) 0 ∙ ap (λ q. get_or xs q 0) at
 
-zeros_well : (h : Bool) (len : ℕ) → h ≡ true → IsWell (Some record { len = len; bytes = zeros_known h len })
-zeros_well true len e = (replicate len 0, refl, length-replicate len 0)
-zeros_well false len e = absurd (false≢true e)
+zeros_well : (h : Bool) (len ds : ℕ) → h ≡ true → IsWell (Some record { len = len; ds = ds; bytes = zeros_known h len })
+zeros_well true len ds e = (replicate len 0, refl, length-replicate len 0)
+zeros_well false len ds e = absurd (false≢true e)
 
 rewritten_well : (x : Option Object) (from : ℕ) (bytes : List ℕ) → IsWell x → from + length bytes ≤ len_of x → IsWell (option_map (rewritten from bytes) x)
 rewritten_well None from bytes w fits = tt
@@ -78,7 +78,7 @@ stays_well : (c : Call) (m : Mine) → MayCall c m → Well m → Well (after_ca
 stays_well Opens m may w = record { many = w.many; honest = w.honest; all = w.all }
 stays_well Closes m may w = record { many = w.many; honest = w.honest; all = w.all }
 stays_well (Views p) m may w = record { many = w.many; honest = w.honest; all = w.all }
-stays_well (Makes p len) m may w = well_with m w p may (Some record { len = len; bytes = zeros_known m.honest len }) (zeros_well m.honest len w.honest)
+stays_well (Makes p len ds) m may w = well_with m w p may (Some record { len = len; ds = ds; bytes = zeros_known m.honest len }) (zeros_well m.honest len ds w.honest)
 stays_well (Drops p) m may w = well_with m w p may None tt
 stays_well (Writes p from bytes) m may w = well_with m w p may.0 (option_map (rewritten from bytes) (object_of m p)) (rewritten_well (object_of m p) from bytes (w.all p) may.1)
 
@@ -87,9 +87,9 @@ abbrev HasIn : Option Object → ℕ → ℕ → Type 0
 HasIn None k b = ⊥
 HasIn (Some x) k b = (bytes : List ℕ) × (x.bytes ≡ Some bytes) × (slice_index bytes k ≡ b) × (k < length bytes)
 
-zeros_has : (h : Bool) (len k : ℕ) → h ≡ true → k < len → HasIn (Some record { len = len; bytes = zeros_known h len }) k 0
-zeros_has true len k e lt = (replicate len 0, refl, get_or-replicate len k 0 0 lt, omega (arith, lt, length-replicate {A = ℕ} len 0))
-zeros_has false len k e lt = absurd (false≢true e)
+zeros_has : (h : Bool) (len ds k : ℕ) → h ≡ true → k < len → HasIn (Some record { len = len; ds = ds; bytes = zeros_known h len }) k 0
+zeros_has true len ds k e lt = (replicate len 0, refl, get_or-replicate len k 0 0 lt, omega (arith, lt, length-replicate {A = ℕ} len 0))
+zeros_has false len ds k e lt = absurd (false≢true e)
 
 rewritten_has : (x : Option Object) (from : ℕ) (bytes : List ℕ) (k b : ℕ) → IsWell x → from + length bytes ≤ len_of x → from ≤ k → k < from + length bytes → slice_index bytes (k - from) ≡ b →
     HasIn (option_map (rewritten from bytes) x) k b
@@ -119,10 +119,10 @@ says_so : (c : Call) (m : Mine) (p k b : ℕ) → Well m → MayCall c m → Say
 says_so Opens m p k b w may says = absurd says
 says_so Closes m p k b w may says = absurd says
 says_so (Views q) m p k b w may says = absurd says
-says_so (Makes q len) m p k b w may says =
-    subst (λ z. HasIn (object_of (after_call (Makes q len) m) z) k b) says.0
-    (subst (λ o. HasIn o k b) (sym (there m w.many q may (Some record { len = len; bytes = zeros_known m.honest len })))
-    (subst (HasIn (Some record { len = len; bytes = zeros_known m.honest len }) k) (sym says.2) (zeros_has m.honest len k w.honest says.1)))
+says_so (Makes q len ds) m p k b w may says =
+    subst (λ z. HasIn (object_of (after_call (Makes q len ds) m) z) k b) says.0
+    (subst (λ o. HasIn o k b) (sym (there m w.many q may (Some record { len = len; ds = ds; bytes = zeros_known m.honest len })))
+    (subst (HasIn (Some record { len = len; ds = ds; bytes = zeros_known m.honest len }) k) (sym says.2) (zeros_has m.honest len ds k w.honest says.1)))
 says_so (Drops q) m p k b w may says = absurd says
 says_so (Writes q from bytes) m p k b w may says =
     subst (λ z. HasIn (object_of (after_call (Writes q from bytes) m) z) k b) says.0
@@ -134,7 +134,7 @@ leaves_so : (c : Call) (m : Mine) (p k b : ℕ) → Well m → MayCall c m → L
 leaves_so Opens m p k b w may leaves has = has
 leaves_so Closes m p k b w may leaves has = has
 leaves_so (Views q) m p k b w may leaves has = has
-leaves_so (Makes q len) m p k b w may leaves has = subst (λ o. HasIn o k b) (sym (elsewhere m w.many q may (Some record { len = len; bytes = zeros_known m.honest len }) p (λ e. leaves (sym e)))) has
+leaves_so (Makes q len ds) m p k b w may leaves has = subst (λ o. HasIn o k b) (sym (elsewhere m w.many q may (Some record { len = len; ds = ds; bytes = zeros_known m.honest len }) p (λ e. leaves (sym e)))) has
 leaves_so (Drops q) m p k b w may leaves has = subst (λ o. HasIn o k b) (sym (elsewhere m w.many q may None p (λ e. leaves (sym e)))) has
 leaves_so (Writes q from bytes) m p k b w may leaves has =
     let x : Option Object = option_map (rewritten from bytes) (object_of m q) in

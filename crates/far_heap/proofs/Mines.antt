@@ -8,8 +8,8 @@ use Rattle.far_word.specs.declared.sizes.TheConstants.{CELLS}
 use Rattle.far_core.proofs.Put.{put_other, put_same}
 use Rattle.far_table.specs.View.{ObjectView}
 use Rattle.far_table.specs.Seats.{Seated}
-use Rattle.far_table.specs.Views.{closed_view, held_at, held_view, len_of as seat_len, object_at, uses as seat_uses}
-use Rattle.far_heap.specs.Mine.{bytes_in, closing, known_bytes, len_in, len_of, mine_of, object_of, own_row, seen, uses, viewing, views}
+use Rattle.far_table.specs.Views.{closed_view, ds_of as seat_ds, held_at, held_view, len_of as seat_len, object_at, uses as seat_uses}
+use Rattle.far_heap.specs.Mine.{bytes_in, closing, ds_in, ds_of, known_bytes, len_in, len_of, mine_of, object_of, own_row, seen, uses, viewing, views}
 use Rattle.far_heap.proofs.OwnRows.{own_row-const, own_row-get, own_row-one}
 
 pub is_some_seen : (h : Bool) (x : Option ObjectView) → is_some (seen h x) ≡ is_some x
@@ -19,6 +19,10 @@ is_some_seen h (Some x) = refl
 pub len_seen : (h : Bool) (x : Option ObjectView) → len_of (seen h x) ≡ seat_len x
 len_seen h None = refl
 len_seen h (Some x) = refl
+
+pub ds_seen : (h : Bool) (x : Option ObjectView) → ds_of (seen h x) ≡ seat_ds x
+ds_seen h None = refl
+ds_seen h (Some x) = refl
 
 pub none_there : {X : Type 0} (x : Option X) → is_some x ≡ false → x ≡ None
 none_there None e = refl
@@ -34,6 +38,9 @@ module _ (s : Seated) (p : ℕ) where
 
     pub len_own : len_in (mine_of s) p ≡ seat_len (object_at s.view p)
     len_own = ap len_of object_own ∙ len_seen s.view.honest (object_at s.view p)
+
+    pub ds_own : ds_in (mine_of s) p ≡ seat_ds (object_at s.view p)
+    ds_own = ap ds_of object_own ∙ ds_seen s.view.honest (object_at s.view p)
 
     pub bytes_own : bytes_in (mine_of s) p ≡ known_bytes (seen s.view.honest (object_at s.view p))
     bytes_own = ap known_bytes object_own

@@ -3,13 +3,13 @@ use Rattle.std.specs.Prelude.{◌≡◌, ◌≢◌, ◌⊎◌, ℕ, ◌+◌, ◌
 use Rattle.atomic_table.specs.Seated.{TableId}
 use Rattle.far_heap.specs.Mine.{Mine, adopting, bytes_in, closing, dropping, len_in, newcomer, opening, owns, viewing, writing}
 
--- what a call did: it opened or closed the scope, viewed an object, made one of so many bytes, dropped one, or wrote bytes from one on. To try, to read, and to
+-- what a call did: it opened or closed the scope, viewed an object, made one of so many bytes and a data structure, dropped one, or wrote bytes from one on. To try, to read, and to
 -- be refused does nothing
 pub data Call : Type 0 where
   Opens : Call
   Closes : Call
   Views : ℕ → Call
-  Makes : ℕ → ℕ → Call
+  Makes : ℕ → ℕ → ℕ → Call
   Drops : ℕ → Call
   Writes : ℕ → ℕ → List ℕ → Call
 
@@ -17,7 +17,7 @@ abbrev pub after_call : Call → Mine → Mine
 after_call Opens m = opening m
 after_call Closes m = closing m
 after_call (Views p) m = viewing p m
-after_call (Makes p len) m = adopting p len m
+after_call (Makes p len ds) m = adopting p len ds m
 after_call (Drops p) m = dropping p m
 after_call (Writes p from bytes) m = writing p from bytes m
 
@@ -26,7 +26,7 @@ abbrev pub MayCall : Call → Mine → Type 0
 MayCall Opens m = Unit {0}
 MayCall Closes m = Unit {0}
 MayCall (Views p) m = Unit {0}
-MayCall (Makes p len) m = owns m p ≡ true
+MayCall (Makes p len ds) m = owns m p ≡ true
 MayCall (Drops p) m = owns m p ≡ true
 MayCall (Writes p from bytes) m = (owns m p ≡ true) × (from + length bytes ≤ len_in m p)
 
@@ -41,7 +41,7 @@ abbrev pub SaysByte : Call → ℕ → ℕ → ℕ → Type 0
 SaysByte Opens p k b = ⊥
 SaysByte Closes p k b = ⊥
 SaysByte (Views q) p k b = ⊥
-SaysByte (Makes q len) p k b = (q ≡ p) × (k < len) × (b ≡ 0)
+SaysByte (Makes q len ds) p k b = (q ≡ p) × (k < len) × (b ≡ 0)
 SaysByte (Drops q) p k b = ⊥
 SaysByte (Writes q from bytes) p k b = (q ≡ p) × (from ≤ k) × (k < from + length bytes) × (slice_index bytes (k - from) ≡ b)
 
@@ -50,7 +50,7 @@ abbrev pub LeavesByte : Call → ℕ → ℕ → Type 0
 LeavesByte Opens p k = Unit {0}
 LeavesByte Closes p k = Unit {0}
 LeavesByte (Views q) p k = Unit {0}
-LeavesByte (Makes q len) p k = q ≢ p
+LeavesByte (Makes q len ds) p k = q ≢ p
 LeavesByte (Drops q) p k = q ≢ p
 LeavesByte (Writes q from bytes) p k = (q ≢ p) ⊎ (k < from) ⊎ (from + length bytes ≤ k)
 

@@ -20,9 +20,10 @@ use Rattle.far_heap.specs.declared.view.View.{View}
 abbrev pub no_table : TableId
 no_table = record { words = 0; slots = 0; views_name = 0; atom = 0; block = 0; offset = 0; slot_names = [] }
 
--- an object as its mutator knows it: how many bytes it has, and which, unless the far side may give others than it was given
+-- an object as its mutator knows it: how many bytes it has, of which data structure it is, and which bytes, unless the far side may give others than it was given
 pub record Object : Type 0 where
   pub len : ℕ
+  pub ds : ℕ
   pub bytes : Option (List ℕ)
 
 -- a mutator: the table that it steps and its number; whether the far side is honest, and whether its scope is open; of each of its pointers, from the lowest
@@ -52,13 +53,20 @@ abbrev pub len_of : Option Object → ℕ
 len_of None = 0
 len_of (Some x) = x.len
 
+abbrev pub ds_of : Option Object → ℕ
+ds_of None = 0
+ds_of (Some x) = x.ds
+
 abbrev pub known_bytes : Option Object → Option (List ℕ)
 known_bytes None = None
 known_bytes (Some x) = x.bytes
 
--- how many bytes the object of a pointer has, 0 where it isn't used; and which, where that is known
+-- how many bytes the object of a pointer has, and of which data structure it is, 0 where it isn't used; and which bytes, where that is known
 abbrev pub len_in : Mine → ℕ → ℕ
 len_in m p = len_of (object_of m p)
+
+abbrev pub ds_in : Mine → ℕ → ℕ
+ds_in m p = ds_of (object_of m p)
 
 abbrev pub bytes_in : Mine → ℕ → Option (List ℕ)
 bytes_in m p = known_bytes (object_of m p)
@@ -79,18 +87,18 @@ abbrev pub with_range : List ℕ → ℕ → List ℕ → List ℕ
 with_range bytes from new = take from bytes ++ new ++ drop (from + length new) bytes
 
 abbrev pub rewritten : ℕ → List ℕ → Object → Object
-rewritten from new x = record { len = x.len; bytes = option_map (λ bytes. with_range bytes from new) x.bytes }
+rewritten from new x = record { len = x.len; ds = x.ds; bytes = option_map (λ bytes. with_range bytes from new) x.bytes }
 
 abbrev pub writing : ℕ → ℕ → List ℕ → Mine → Mine
 writing p from new m = record m { objects = slice_set m.objects (p % CELLS) (option_map (rewritten from new) (object_of m p)) }
 
--- it uses an object more, of so many zeros, or one less
+-- it uses an object more, of so many zeros and a data structure, or one less
 abbrev pub zeros_known : Bool → ℕ → Option (List ℕ)
 zeros_known true len = Some (replicate len 0)
 zeros_known false len = None
 
-abbrev pub adopting : ℕ → ℕ → Mine → Mine
-adopting p len m = record m { objects = slice_set m.objects (p % CELLS) (Some record { len = len; bytes = zeros_known m.honest len }) }
+abbrev pub adopting : ℕ → ℕ → ℕ → Mine → Mine
+adopting p len ds m = record m { objects = slice_set m.objects (p % CELLS) (Some record { len = len; ds = ds; bytes = zeros_known m.honest len }) }
 
 abbrev pub dropping : ℕ → Mine → Mine
 dropping p m = record m { objects = slice_set m.objects (p % CELLS) None }
@@ -130,12 +138,12 @@ abbrev pub IsNoView : Mine → ℕ → Refused → Type 0
 IsNoView m p why = IsRefusedView (uses m p) (views m p) why
 
 -- ---- what a dereference answers
--- a word of an object of this length on which no view may rest: it is far, or has EVAC or MOVE. It isn't dropped
-abbrev pub IsSlow : ℕ → Option PtrWord → Type 0
-IsSlow len None = ⊥
-IsSlow len (Some Free) = ⊥
-IsSlow len (Some (Near n ds place marks)) = (n ≡ len) × ((marks.evac || marks.moved) ≡ true) × (marks.dropped ≡ false)
-IsSlow len (Some (Far n ds marks)) = (n ≡ len) × (marks.dropped ≡ false)
+-- a word of an object of this length and data structure on which no view may rest: it is far, or has EVAC or MOVE. It isn't dropped
+abbrev pub IsSlow : ℕ → ℕ → Option PtrWord → Type 0
+IsSlow len ds None = ⊥
+IsSlow len ds (Some Free) = ⊥
+IsSlow len ds (Some (Near n t place marks)) = (n ≡ len) × (t ≡ ds) × ((marks.evac || marks.moved) ≡ true) × (marks.dropped ≡ false)
+IsSlow len ds (Some (Far n t marks)) = (n ≡ len) × (t ≡ ds) × (marks.dropped ≡ false)
 
 abbrev pub view_of : ℕ → Mine → View
 view_of p m = record { pointer = p; len = len_in m p }
@@ -143,7 +151,7 @@ view_of p m = record { pointer = p; len = len_in m p }
 -- a view of the object, which is viewed from then on; or such a word, and nothing has changed
 abbrev pub TriedSo : ℕ → Mine → Tried → Mine → Type 0
 TriedSo p m (Viewed view) n = (view ≡ view_of p m) × (n ≡ viewing p m)
-TriedSo p m (Slow word) n = (views m p ≡ false) × (n ≡ m) × IsSlow (len_in m p) (read_of word)
+TriedSo p m (Slow word) n = (views m p ≡ false) × (n ≡ m) × IsSlow (len_in m p) (ds_in m p) (read_of word)
 
 -- ---- the mutator of a seat
 -- what stands at the numbers of a mutator's pointers
@@ -156,7 +164,7 @@ known false x = None
 
 abbrev pub seen : Bool → Option ObjectView → Option Object
 seen honest None = None
-seen honest (Some x) = Some record { len = x.len; bytes = known honest x }
+seen honest (Some x) = Some record { len = x.len; ds = x.ds; bytes = known honest x }
 
 abbrev pub mine_of : Seated → Mine
 mine_of s = record {

@@ -60,13 +60,13 @@ impl<K: HeapName, D: Device + Drop> Mutator<K, D> {
         Mutator { own, lock }
     }
 
-    /// Makes a new object of `len` zeros, 1 to 1,016, of a data structure: its pointer, which the mutator didn't use. It takes the lock.
+    /// Makes a new object of `len` zeros, 1 to 1,016, of data structure `ds`: its pointer, which the mutator didn't use. It takes the lock.
     ///
     /// Refused, in this order: [`Refused::Length`] exactly where the length is out of range; [`Refused::NoPointer`], where none of the mutator's 128
     /// cells was found free; [`Refused::NoRoom`]. Nothing has changed then.
     pub fn alloc<R: Wait>(&mut self, rt: &R, len: u16, ds: u8) -> Result<u16, Refused>
         ensures refused { IfErr result (λ why. IsNoObject len why × (self.new ≡ self.old)) }
-        ensures made { IfOk result (λ p. (is_length len ≡ true) × (owns self.old p ≡ true) × (uses self.old p ≡ false) × (self.new ≡ adopting p len self.old)) }
+        ensures made { IfOk result (λ p. (is_length len ≡ true) × (owns self.old p ≡ true) × (uses self.old p ≡ false) × (self.new ≡ adopting p len ds self.old)) }
     {
         under_lock::alloc(rt, &self.lock, &mut self.own, len, ds)
     }

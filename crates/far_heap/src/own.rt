@@ -1,5 +1,7 @@
 // What a mutator has, whether its scope is open or closed.
-ghost use Rattle.std.specs.Prelude.{◌≡◌, ◌+◌, ◌*◌, ◌/◌, ◌%◌, ◌<◌, ◌≤◌, ℕ, true, false, length, map, slice_range, slice_index, None, Some, IfOk, IfErr, IfSome};
+ghost use Rattle.std.specs.Prelude.{◌≡◌, ◌+◌, ◌*◌, ◌/◌, ◌%◌, ◌<◌, ◌≤◌, ℕ, true, false, length, map, slice_range, slice_index, None, Some, IfOk, IfErr, IfSome, IsSome};
+ghost use Rattle.far_table.specs.Views.{said_ds, said_len};
+ghost use Rattle.far_word.specs.Pointer.{read_of};
 ghost use Rattle.far_heap.specs.Made.{Pinned};
 ghost use Rattle.far_heap.specs.declared.view.Tried.{Tried as any_tried};
 ghost use Rattle.far_heap.specs.Mine.{IsNew, TriedSo, access_refusal, adopting, bytes_in, closing, dropping, len_in, newcomer, opening, owns, uses, view_of, views, viewing, writing};
@@ -11,7 +13,7 @@ use crate::ranges::{load_range, store_range};
 use crate::view::{Tried, View};
 use far_device::Device;
 use far_table::MutSeat;
-use far_word::{CELLS, Mark, Refused, pointer_len};
+use far_word::{CELLS, Mark, PtrWord, Refused};
 use std::alloc::{AllocError, Global};
 use std::marker::{Model, PhantomData};
 
@@ -37,6 +39,18 @@ impl<K: HeapName, D: Device> Model for Own<K, D> {
     ghost view = { λ o. mine_of o.seat };
 
     ghost invariant = { λ o. OwnOk o.seat K.table o.number o.lens.items o.stamps.items o.scope };
+}
+
+// The length and the data structure of the object that a word names, 0 where it names none.
+fn said(word: u64) -> (u16, u8)
+    requires { IsSome (read_of word) }
+    ensures len { result.0 ≡ said_len (read_of word) }
+    ensures ds { result.1 ≡ said_ds (read_of word) }
+{
+    match PtrWord::known(word) {
+        PtrWord::Near { len, ds, .. } | PtrWord::Far { len, ds, .. } => (len, ds),
+        PtrWord::Free => (0, 0),
+    }
 }
 
 // Sets all stamps back.
@@ -179,25 +193,26 @@ impl<K: HeapName, D: Device> Own<K, D> {
         }
     }
 
-    // Uses a pointer of its own from then on, whose cell is in use: the length of its object. `None` where it isn't; then nothing changes.
-    pub(crate) fn adopt(&mut self, p: u16) -> Option<u16>
+    // Uses a pointer of its own from then on, whose cell is in use: the length and the data structure of its object. `None` where it isn't; then nothing
+    // changes.
+    pub(crate) fn adopt(&mut self, p: u16) -> Option<(u16, u8)>
         requires own { owns self.old p ≡ true }
         requires unused { uses self.old p ≡ false }
-        ensures adopted { IfSome result (λ len. (0 < len) × (len ≤ LONGEST) × (self.new ≡ adopting p len self.old)) }
+        ensures adopted { IfSome result (λ said. (0 < said.0) × (said.0 ≤ LONGEST) × (self.new ≡ adopting p said.0 said.1 self.old)) }
         ensures kept { result ≡ None → self.new ≡ self.old }
     {
         let Some(word) = self.seat.adopt(p) else {
             return None;
         };
-        let len = pointer_len(word);
+        let (len, ds) = said(word);
         self.lens[(p % CELLS) as usize] = len;
-        Some(len)
+        Some((len, ds))
     }
 
-    // Uses a new object of this length from then on, if its cell says so; else nothing changes.
-    pub(crate) fn adopt_new(&mut self, p: u16, len: u16) -> bool
+    // Uses a new object of this length and data structure from then on, if its cell says so; else nothing changes.
+    pub(crate) fn adopt_new(&mut self, p: u16, len: u16, ds: u8) -> bool
         requires { owns self.old p ≡ true }
-        ensures adopted { result ≡ true → (uses self.old p ≡ false) × (self.new ≡ adopting p len self.old) }
+        ensures adopted { result ≡ true → (uses self.old p ≡ false) × (self.new ≡ adopting p len ds self.old) }
         ensures kept { result ≡ false → self.new ≡ self.old }
     {
         let _number = self.number;
@@ -205,8 +220,8 @@ impl<K: HeapName, D: Device> Own<K, D> {
             return false;
         }
         match self.adopt(p) {
-            Some(found) => {
-                if found == len {
+            Some((found, of)) => {
+                if found == len && of == ds {
                     return true;
                 }
                 self.ask_drop(p);

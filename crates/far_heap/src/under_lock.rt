@@ -22,7 +22,7 @@ pub(crate) fn alloc<K: HeapName, D: Device + Drop, R: Wait>(
     ds: u8,
 ) -> Result<u16, Refused>
     ensures refused { IfErr result (λ why. IsNoObject len why × (own.new ≡ own.old)) }
-    ensures made { IfOk result (λ p. (is_length len ≡ true) × (owns own.old p ≡ true) × (uses own.old p ≡ false) × (own.new ≡ adopting p len own.old)) }
+    ensures made { IfOk result (λ p. (is_length len ≡ true) × (owns own.old p ≡ true) × (uses own.old p ≡ false) × (own.new ≡ adopting p len ds own.old)) }
 {
     if len == 0 || len > LONGEST {
         return Err(Refused::Length);
@@ -31,7 +31,7 @@ pub(crate) fn alloc<K: HeapName, D: Device + Drop, R: Wait>(
         let placed = lock.lock(rt).place_new(own.number(), len, ds);
         match placed {
             Ok(p) => {
-                if own.adopt_new(p, len) {
+                if own.adopt_new(p, len, ds) {
                     return Ok(p);
                 }
             }

@@ -34,7 +34,7 @@ use Rattle.far_table.specs.Plays.{Adopted, AdoptTells}
 use Rattle.far_table.specs.Rule.{Facts, Has, Running}
 use Rattle.far_table.specs.StateOf.{state_of}
 use Rattle.far_table.specs.Tells.{owner_of}
-use Rattle.far_table.specs.Views.{adopted_view, fresh, held_at, object_at, said_len, uses}
+use Rattle.far_table.specs.Views.{adopted_view, fresh, held_at, object_at, said_ds, said_len, uses}
 use Rattle.far_table.proofs.Lift.{owner_allows}
 use Rattle.far_table.proofs.Owners.{known_by, pointers_put, pointers_same, remembered_same}
 use Rattle.far_table.proofs.OwnSteps.{OwnStep, has_on, is_mutator, own_facts, own_made, state_is}
@@ -63,6 +63,7 @@ record Found (word stored : ℕ → ℕ) (p : ℕ) (x : Option PtrWord) : Type 0
   object : Object
   there : object_of word stored p x ≡ Some object
   len : length object.bytes ≡ said_len x
+  ds : object.ds ≡ said_ds x
   zeros : IsBlank word stored x → (i : ℕ) → packed_word object.bytes i ≡ 0
 
 found_object : (word stored : ℕ → ℕ) (p : ℕ) (x : Option PtrWord) → in_use x ≡ true → Found word stored p x
@@ -73,6 +74,7 @@ found_object word stored p (Some (Near len ds place m)) used =
       object = ob;
       there = ap (λ d. cond d None (Some ob)) (kept_if m.dropped used);
       len = length-bytes_of (λ i. word (addr place + 1 + i)) len;
+      ds = refl;
       zeros = λ blank i. packed_blank (λ i. word (addr place + 1 + i)) len i (blank.near len ds place m refl (kept_if m.dropped used));
     }
 found_object word stored p (Some (Far len ds m)) used =
@@ -80,13 +82,14 @@ found_object word stored p (Some (Far len ds m)) used =
       object = ob;
       there = ap (λ d. cond d None (Some ob)) (kept_if m.dropped used);
       len = length-bytes_of stored len;
+      ds = refl;
       zeros = λ blank i. packed_blank stored len i (blank.far len ds m refl (kept_if m.dropped used));
     }
 
 has_fresh : (s : State) (p : ℕ) → in_use (read_of (s.cell p)) ≡ true → (s.honest ≡ true → IsBlank s.word (s.stored p) (read_of (s.cell p))) → Has s p (fresh (s.cell p))
 unfolding world_of
 has_fresh s p used blank = let x = found_object s.word (s.stored p) p (read_of (s.cell p)) used in
-    record { object = x.object; there = x.there; len = x.len; words = λ is i lt. x.zeros (blank is) i }
+    record { object = x.object; there = x.there; len = x.len; ds = x.ds; words = λ is i lt. x.zeros (blank is) i }
 
 not_held : (h : Option Place) (used : Bool) → (IsSome h → used ≡ true) → used ≡ false → h ≡ None
 not_held None used why e = refl

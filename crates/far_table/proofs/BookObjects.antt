@@ -28,21 +28,22 @@ use Rattle.far_hand.specs.Owners.{is_owners}
 use Rattle.far_table.specs.View.{ObjectView}
 use Rattle.far_table.specs.Rule.{Has}
 
--- the object is there still, with as many bytes, and with those bytes, where the far side is honest
+-- the object is there still, of that data structure, with as many bytes, and with those bytes, where the far side is honest
 pub record StaysThere (honest : Bool) (v : World) (p : ℕ) (o : Object) : Type 0 where
   pub object : Object
   pub there : v.object p ≡ Some object
   pub long : length object.bytes ≡ length o.bytes
+  pub ds : object.ds ≡ o.ds
   pub same : honest ≡ true → object.bytes ≡ o.bytes
 
 module _ (w v : World) (p : ℕ) (o : Object) (here : w.object p ≡ Some o) where
   as_it_was : v.object p ≡ w.object p → StaysThere w.honest v p o
-  as_it_was same = record { object = o; there = same ∙ here; long = refl; same = λ _. refl }
+  as_it_was same = record { object = o; there = same ∙ here; long = refl; ds = refl; same = λ _. refl }
 
   -- one object becomes another, with these bytes
-  changed : (q : ℕ) (n : Object) → v.object ≡ put w.object q (Some n) → (w.object q ≡ Some o → (length n.bytes ≡ length o.bytes) × (w.honest ≡ true → n.bytes ≡ o.bytes)) → StaysThere w.honest v p o
+  changed : (q : ℕ) (n : Object) → v.object ≡ put w.object q (Some n) → (w.object q ≡ Some o → (length n.bytes ≡ length o.bytes) × (n.ds ≡ o.ds) × (w.honest ≡ true → n.bytes ≡ o.bytes)) → StaysThere w.honest v p o
   changed q n after kept = put_both (λ x. v.object p ≡ x → StaysThere w.honest v p o) w.object q (Some n) p
-      (λ e there. let k = kept (ap w.object (sym e) ∙ here) in record { object = n; there = there; long = k.0; same = k.1 })
+      (λ e there. let k = kept (ap w.object (sym e) ∙ here) in record { object = n; there = there; long = k.0; ds = k.1; same = k.2 })
       (λ ne there. as_it_was there) (ap (λ f. f p) after)
 
 -- what the book does to the world
@@ -78,11 +79,11 @@ change_keeps (change.Makes q len ds g) h w v x p o here = changed w v p o here q
 change_keeps (change.Marks q) h w v x p o here = as_it_was w v p o here (ap (λ (z : World). z.object p) x)
 change_keeps (change.Unmarks q) h w v x p o here = as_it_was w v p o here (ap (λ (z : World). z.object p) x)
 change_keeps (change.Moves q g) h w v x p o here = let m = x.moved in changed w v p o here q _ (ap (λ (z : World). z.object) m.4)
-    (λ at. let e = one (w.object q) o m.0 m.2 at in (ap (λ (z : Object). length z.bytes) e, λ _. ap (λ (z : Object). z.bytes) e))
+    (λ at. let e = one (w.object q) o m.0 m.2 at in (ap (λ (z : Object). length z.bytes) e, ap (λ (z : Object). z.ds) e, λ _. ap (λ (z : Object). z.bytes) e))
 change_keeps (change.GoesFar q) h w v x p o here = let m = x.gone in changed w v p o here q _ (ap (λ (z : World). z.object) m.4)
-    (λ at. let e = one (w.object q) o m.0 m.2 at in (ap (λ (z : Object). length z.bytes) e, λ _. ap (λ (z : Object). z.bytes) e))
+    (λ at. let e = one (w.object q) o m.0 m.2 at in (ap (λ (z : Object). length z.bytes) e, ap (λ (z : Object). z.ds) e, λ _. ap (λ (z : Object). z.bytes) e))
 change_keeps (change.ComesNear q g) h w v x p o here = let m = x.come in changed w v p o here q _ (ap (λ (z : World). z.object) m.7)
-    (λ at. let e = one (w.object q) o m.0 m.2 at in (m.4 ∙ ap (λ (z : Object). length z.bytes) e, λ honest. m.6 honest ∙ ap (λ (z : Object). z.bytes) e))
+    (λ at. let e = one (w.object q) o m.0 m.2 at in (m.4 ∙ ap (λ (z : Object). length z.bytes) e, ap (λ (z : Object). z.ds) e, λ honest. m.6 honest ∙ ap (λ (z : Object). z.bytes) e))
 change_keeps (change.Drops m q) h w v x p o here = absurd (false≢true h)
 change_keeps (change.Releases g) h w v x p o here = as_it_was w v p o here (ap (λ (z : World). z.object p) x.after)
 change_keeps (change.Holds g) h w v x p o here = as_it_was w v p o here (ap (λ (z : World). z.object p) x)
@@ -136,5 +137,6 @@ has_after s e own law fits legal t is honest p x has =
       object = k.object;
       there = k.there;
       len = k.long ∙ has.len;
+      ds = k.ds ∙ has.ds;
       words = λ it i lt. ap (λ bytes. packed_word bytes i) (k.same (honest_is s ∙ (sym honest ∙ it))) ∙ has.words (sym honest ∙ it) i lt;
     }

@@ -98,6 +98,7 @@ has_seen s p object there = record {
   object = object;
   there = there;
   len = refl;
+  ds = refl;
   words = λ is i lt. sym (over_within (packed_word object.bytes) (λ _. 0) (words_for (length object.bytes)) 0 i (omega arith) (omega arith));
 }
 

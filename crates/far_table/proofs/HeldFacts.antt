@@ -51,6 +51,7 @@ pub record HeldFacts (s : State) (o : OwnerView) (p : ℕ) (place : Place) : Typ
   pub used : object_at o p ≡ Some view
   pub has : Has s p view
   pub long : view.len ≡ len
+  pub kind : view.ds ≡ ds
   pub fits : addr place + 1 + words_for len ≤ MOST_LOGS * LOG_WORDS
 
 module _ (ws : List ℕ) (b : BookView) (os : List OwnerView) (f : Facts ws b os) (o : OwnerView) (at : get_elem? os o.number ≡ some o) where
@@ -75,6 +76,7 @@ module _ (ws : List ℕ) (b : BookView) (os : List OwnerView) (f : Facts ws b os
         used = y.1;
         has = has;
         long = sym has.len ∙ (ap (λ (z : Object). length z.bytes) one ∙ a.4);
+        kind = sym has.ds ∙ (ap (λ (z : Object). z.ds) one ∙ a.3);
         fits = omega (arith, says.0);
       }
 

@@ -43,7 +43,7 @@ state_is ws b os words r u h = λ i. record (book_state b) {
 
 -- ---- ties of an owner that go on
 pub has_on : (s t : State) (p : ℕ) (x : ObjectView) → (world_of t).object p ≡ (world_of s).object p → t.honest ≡ s.honest → Has s p x → Has t p x
-has_on s t p x same honest h = record { object = h.object; there = same ∙ h.there; len = h.len; words = λ is. h.words (sym honest ∙ is) }
+has_on s t p x same honest h = record { object = h.object; there = same ∙ h.there; len = h.len; ds = h.ds; words = λ is. h.words (sym honest ∙ is) }
 
 owner_on : (b : BookView) (s t : State) (m j : ℕ) (y : OwnerView) → KeepsOthers s t m → j ≢ m → OwnerTies b s j y → OwnerTies b t j y
 owner_on b s t m j y keep ne ties = record {

@@ -76,7 +76,7 @@ module _ (ws : List ℕ) (b : BookView) (os : List OwnerView) (f : Facts ws b os
   law = keeps s (Store m p i v) f.law word legal
 
   abbrev new : ObjectView
-  new = record { len = x.view.len; words = (i, v) ∷ x.view.words }
+  new = record { len = x.view.len; ds = x.view.ds; words = (i, v) ∷ x.view.words }
 
   -- each word of the object is the one that was stored, or as it was
   word_after : (j : ℕ) → j < words_for x.len → (n : Object) → (world_of t).object p ≡ Some n → s.honest ≡ true → packed_word n.bytes j ≡ word_of new j
@@ -99,6 +99,7 @@ module _ (ws : List ℕ) (b : BookView) (os : List OwnerView) (f : Facts ws b os
     object = g.0;
     there = g.1;
     len = g.4 ∙ sym x.long;
+    ds = g.3 ∙ sym x.kind;
     words = λ is j lt. word_after j (subst (λ k. j < words_for k) x.long lt) g.0 g.1 is;
   }
 

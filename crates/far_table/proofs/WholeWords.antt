@@ -19,7 +19,7 @@ use Rattle.far_core.proofs.Put.{put_other, put_same}
 use Rattle.far_table.specs.View.{ObjectView, OwnerView}
 use Rattle.far_table.specs.Ranges.{HasBytes, Wrote}
 use Rattle.far_table.specs.Seats.{HasPlaces}
-use Rattle.far_table.specs.Views.{held_at, len_of, object_at, stored_view, with_word, word_in_view}
+use Rattle.far_table.specs.Views.{ds_of, held_at, len_of, object_at, stored_view, with_word, word_in_view}
 
 -- ---- a list with a part written over
 module _ (a n : ℕ) (xs ys : List ℕ) (long : length ys ≡ n) (fits : a + n ≤ length xs) where
@@ -67,6 +67,10 @@ same_len : (i w : ℕ) (x : Option ObjectView) → len_of (with_word i w x) ≡ 
 same_len i w None = refl
 same_len i w (Some x) = refl
 
+same_ds : (i w : ℕ) (x : Option ObjectView) → ds_of (with_word i w x) ≡ ds_of x
+same_ds i w None = refl
+same_ds i w (Some x) = refl
+
 same_some : (i w : ℕ) (x : Option ObjectView) → is_some (with_word i w x) ≡ is_some x
 same_some i w None = refl
 same_some i w (Some x) = refl
@@ -103,6 +107,7 @@ module _ (o : OwnerView) (p i w from : ℕ) (bytes : List ℕ) (at_word : i ≡ 
     others = λ q ne. put_other (object_at o) p (with_word i w (object_at o p)) q ne;
     there = ap is_some here ∙ same_some i w (object_at o p);
     len = ap len_of here ∙ same_len i w (object_at o p);
+    ds = ap ds_of here ∙ same_ds i w (object_at o p);
     inside = λ h k lt. let e : from % 8 + k ≡ (from + k) % 8 = omega arith in inside h k lt ∙ ap (byte_at (λ _. w)) e ∙ in_word (from + k) (omega arith);
     before = λ h k lt. elim (cases_eq (k / 8) i) [
       | inl e ↦ sym (in_word k e) ∙ before h (k % 8) (omega arith) ∙ in_row (word_in_view (object_at o p)) (word_in_view (object_at o p) i) i k refl e
@@ -121,6 +126,7 @@ wrote_none p from bytes o none = record {
   others = λ q ne. refl;
   there = refl;
   len = refl;
+  ds = refl;
   inside = λ h k lt. absurd (omega arith);
   before = λ h k lt. refl;
   after = λ h k le lt. refl;
@@ -138,6 +144,7 @@ wrote_join p from next xs ys zs o u v long at fits left right a b =
       others = λ q ne. b.others q ne ∙ a.others q ne;
       there = b.there ∙ a.there;
       len = b.len ∙ a.len;
+      ds = b.ds ∙ a.ds;
       inside = λ h k lt. elim (cases_lt k (length xs)) [
         | inl low ↦ left k low ∙ a.inside h k low ∙ sym (b.before (honest ∙ h) (from + k) (omega arith))
         | inr high ↦ (let e : length xs + (k - length xs) ≡ k = omega arith in let e2 : next + (k - length xs) ≡ from + k = omega arith in

@@ -37,6 +37,7 @@ open_epoch (Some (scoped.Open e)) = Some e
 abbrev pub seen : Object → ObjectView
 seen object = record {
   len = length object.bytes;
+  ds = object.ds;
   words = rows_from 0 (words_for (length object.bytes)) (packed_word object.bytes);
 }
 

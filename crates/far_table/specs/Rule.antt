@@ -26,11 +26,12 @@ pub record BookTies (b : BookView) (s : State) : Type 0 where
   pub shown : Shows (book_state b) s
   pub still : (a : ℕ) → IsKnown ((book_state b).word a) → ¬ IsLoudAt (book_state b) a
 
--- an object as its owner knows it: it is in the world, with that many bytes; and with those bytes, where the far side is honest
+-- an object as its owner knows it: it is in the world, of that data structure, with that many bytes; and with those bytes, where the far side is honest
 pub record Has (s : State) (p : ℕ) (x : ObjectView) : Type 0 where
   pub object : Object
   pub there : (world_of s).object p ≡ Some object
   pub len : length object.bytes ≡ x.len
+  pub ds : object.ds ≡ x.ds
   pub words : s.honest ≡ true → (i : ℕ) → i < words_for x.len → packed_word object.bytes i ≡ word_of x i
 
 -- what an owner's view says is so: its scope word, and the objects that it uses; and of each of its cells how often MOVE was set anew is how

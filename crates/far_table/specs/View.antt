@@ -3,9 +3,10 @@ use Rattle.std.specs.Prelude.{ℕ, Bool, Option, List}
 use Rattle.far_word.specs.declared.pointer.Place.{Place}
 use Rattle.far_core.specs.declared.event.Kind.{Kind}
 
--- what an owner knows of an object that it uses: its length, and its words, 0 where no row has one
+-- what an owner knows of an object that it uses: its length, its data structure, and its words, 0 where no row has one
 pub record ObjectView : Type 0 where
   pub len : ℕ
+  pub ds : ℕ
   pub words : List (ℕ × ℕ)
 
 -- what an owner's seat knows

@@ -4,6 +4,7 @@ use Rattle.far_word.specs.declared.mark.Mark.{Mark}
 use Rattle.far_word.specs.declared.mark.Mark.TheVariants.{Hot, Evac, Moved, Dropped}
 use Rattle.far_word.specs.declared.pointer.Place.{Place}
 use Rattle.far_word.specs.declared.pointer.PtrWord.{PtrWord}
+use Rattle.far_word.specs.declared.pointer.PtrWord.TheVariants.{Free, Near, Far}
 use Rattle.far_word.specs.Pointer.{read_of, pointer_len}
 use Rattle.far_core.specs.events.Pin.{place_to_view}
 use Rattle.far_core.specs.events.Quiet.{has_move}
@@ -29,10 +30,14 @@ held_at o = over o.held (λ _. None)
 abbrev pub asked_at : OwnerView → ℕ → ℕ
 asked_at o = over o.asked (λ _. 0)
 
--- the length of an object, and one of its words, where the owner uses it
+-- the length of an object, its data structure, and one of its words, where the owner uses it
 abbrev pub len_of : Option ObjectView → ℕ
 len_of None = 0
 len_of (Some x) = x.len
+
+abbrev pub ds_of : Option ObjectView → ℕ
+ds_of None = 0
+ds_of (Some x) = x.ds
 
 abbrev pub word_in_view : Option ObjectView → ℕ → ℕ
 word_in_view None i = 0
@@ -63,7 +68,7 @@ pinned_view p found o = with_place p (place_to_view (read_of found)) o
 -- the object with another word
 abbrev pub with_word : ℕ → ℕ → Option ObjectView → Option ObjectView
 with_word i w None = None
-with_word i w (Some x) = Some record { len = x.len; words = (i, w) ∷ x.words }
+with_word i w (Some x) = Some record { len = x.len; ds = x.ds; words = (i, w) ∷ x.words }
 
 abbrev pub stored_view : ℕ → ℕ → ℕ → OwnerView → OwnerView
 stored_view p i w o = record o { objects = (p, with_word i w (object_at o p)) ∷ o.objects }
@@ -73,9 +78,16 @@ abbrev pub said_len : Option PtrWord → ℕ
 said_len None = 0
 said_len (Some v) = pointer_len v
 
+-- its data structure, 0 where it says nothing
+abbrev pub said_ds : Option PtrWord → ℕ
+said_ds None = 0
+said_ds (Some Free) = 0
+said_ds (Some (Near len ds place marks)) = ds
+said_ds (Some (Far len ds marks)) = ds
+
 -- a new object, all of whose words are 0
 abbrev pub fresh : ℕ → ObjectView
-fresh found = record { len = said_len (read_of found); words = [] }
+fresh found = record { len = said_len (read_of found); ds = said_ds (read_of found); words = [] }
 
 -- the object is the owner's from now on
 abbrev pub adopted_view : ℕ → ℕ → OwnerView → OwnerView

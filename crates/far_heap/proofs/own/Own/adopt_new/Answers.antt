@@ -11,7 +11,7 @@ pub ask_drop-requires-clause-used : goal.ask_drop-requires-clause-used
 ask_drop-requires-clause-used g c =
     let s = c.self.inside.seat in
     let many : length c.args.self.now.objects ≡ CELLS = ap (λ (m : Mine). length m.objects) (sym c.self.view_is) ∙ length-own_row (λ p. seen s.view.honest (object_at s.view p)) s.view.number in
-    ap (λ (m : Mine). uses m c.args.p) c.in-Some.ensures.adopted.2 ∙ adopted_used c.args.self.now many c.args.p c.in-Some.found c.requires
+    ap (λ (m : Mine). uses m c.args.p) c.in-Some.ensures.adopted.2 ∙ adopted_used c.args.self.now many c.args.p c.in-Some.found c.in-Some.of c.requires
 
 pub ask_drop-requires-clause-free : goal.ask_drop-requires-clause-free
 ask_drop-requires-clause-free g c =
@@ -22,4 +22,4 @@ ask_drop-requires-clause-free g c =
 
 pub returns-else-found-len-clause-kept : goal.returns-else-found-len-clause-kept
 returns-else-found-len-clause-kept g c = λ _.
-    c.ask_drop.ensures ∙ ap (dropping c.args.p) c.in-Some.ensures.adopted.2 ∙ undone c.args.self.now c.args.p c.in-Some.found c.requires (sym c.has.ensures ∙ c.if-has.false)
+    c.ask_drop.ensures ∙ ap (dropping c.args.p) c.in-Some.ensures.adopted.2 ∙ undone c.args.self.now c.args.p c.in-Some.found c.in-Some.of c.requires (sym c.has.ensures ∙ c.if-has.false)

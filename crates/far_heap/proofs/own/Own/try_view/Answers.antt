@@ -9,8 +9,8 @@ use Rattle.far_table.specs.Seats.{Seated, pin_reply}
 use Rattle.far_table.specs.Tells.{OwnerMade}
 use Rattle.far_table.specs.Views.{held_at}
 use Rattle.far_heap.specs.declared.view.View.{View}
-use Rattle.far_heap.specs.Mine.{IsSlow, Mine, OwnOk, len_in, mine_of, uses, viewing, views}
-use Rattle.far_heap.proofs.Mines.{again_mine, len_own, none_there, pinned_mine, uses_so, views_own, views_so}
+use Rattle.far_heap.specs.Mine.{IsSlow, Mine, OwnOk, ds_in, len_in, mine_of, uses, viewing, views}
+use Rattle.far_heap.proofs.Mines.{again_mine, ds_own, len_own, none_there, pinned_mine, uses_so, views_own, views_so}
 use Rattle.far_heap.proofs.OwnSteps.{pinned_ok, seated_is, viewed_used}
 use Rattle.far_heap.proofs.Slow.{slow_found}
 use Rattle.far_heap.proofs.own.Own.try_view.Goals as goal
@@ -68,7 +68,8 @@ returns-in-Err-clause-tried g c =
       (
         c.viewed_len.ensures.other c.in_default.is,
         ap mine_of (seated_is c.pin.new.self s.seat.table s.seat.view c.pin.ensures.table kept.0) ∙ c.self.view_is,
-        subst (λ (m : Mine). IsSlow (len_in m p) (read_of c.in-Err.word)) c.self.view_is (subst (λ n. IsSlow n (read_of c.in-Err.word)) (sym (len_own s.seat p so.0)) slow),
+        subst (λ (m : Mine). IsSlow (len_in m p) (ds_in m p) (read_of c.in-Err.word)) c.self.view_is
+            (subst (λ (z : ℕ × ℕ). IsSlow z.0 z.1 (read_of c.in-Err.word)) (λ i. (sym (len_own s.seat p so.0) i, sym (ds_own s.seat p so.0) i)) slow),
       ),
     )
 
