@@ -4,6 +4,7 @@ pub mod FailAt
 pub mod FailAtFollowing
 pub mod Faults
 pub mod Following
+pub mod KthCall
 pub mod Liar
 pub mod LiarFollowing
 pub mod Mem

@@ -7,6 +7,7 @@
 mod device;
 mod fail_at;
 mod fault;
+mod laws;
 mod liar;
 mod mem;
 mod spares;
@@ -16,5 +17,6 @@ mod tests;
 pub use device::Device;
 pub use fail_at::FailAt;
 pub use fault::DeviceFault;
+pub use laws::{the_kth_call_fails, the_kth_read_lies};
 pub use liar::Liar;
 pub use mem::MemDevice;

@@ -3,7 +3,7 @@
 use super::any::{fails_twice, never_fails, there_and_back};
 use super::failing::{Broken, Starved};
 use super::lying::Short;
-use crate::{Device, DeviceFault, FailAt, Liar, MemDevice};
+use crate::{Device, DeviceFault, FailAt, Liar, MemDevice, the_kth_call_fails, the_kth_read_lies};
 use std::alloc::Global;
 use std::process::Abort;
 use std::test::*;
@@ -205,6 +205,8 @@ fn a_write_that_fails_is_not_passed_on(rt: HostRuntime) {
 fn over_memory_one_call_fails_at_most(rt: HostRuntime) {
     let mut device = FailAt::new(MemDevice::new(rt.alloc()), 1);
     assert!(rt; !fails_twice(&mut device, 1, &[7]));
+    the_kth_call_fails::<MemDevice>();
+    the_kth_read_lies::<FailAt<MemDevice>>();
 }
 
 #[test]
