@@ -1,7 +1,12 @@
 pub mod Calls
 pub mod Contents
+pub mod FailAt
+pub mod FailAtFollowing
 pub mod Faults
 pub mod Following
+pub mod KthCall
+pub mod Liar
+pub mod LiarFollowing
 pub mod Mem
 pub mod MemFollowing
 pub mod Row

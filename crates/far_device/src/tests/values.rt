@@ -1,9 +1,9 @@
 //! What devices answer, by worked values.
 
-use super::any::{never_fails, there_and_back};
-use super::failing::{Broken, FailsOnce, Starved};
+use super::any::{fails_twice, never_fails, there_and_back};
+use super::failing::{Broken, Starved};
 use super::lying::Short;
-use crate::{Device, DeviceFault, MemDevice};
+use crate::{Device, DeviceFault, FailAt, Liar, MemDevice, the_kth_call_fails, the_kth_read_lies};
 use std::alloc::Global;
 use std::process::Abort;
 use std::test::*;
@@ -28,11 +28,23 @@ fn has_nothing(rt: &impl Abort, device: &mut MemDevice, id: u32) {
     assert_eq!(rt; device.faults(), before.wrapping_add(1));
 }
 
-fn failing_at(alloc: Global, left: u64) -> FailsOnce<MemDevice> {
-    FailsOnce {
-        inner: MemDevice::new(alloc),
-        left,
-        faults: u64::MAX,
+// Whether a write and two reads fail as these say, and all other calls give the byte 7.
+fn fails_so(device: &mut FailAt<MemDevice>, write: bool, first: bool, second: bool) -> bool {
+    let written = device.write(1, &[7]) == Err(DeviceFault::Device);
+    let read = is_fault(&device.read(1));
+    let again = is_fault(&device.read(1));
+    written == write && read == first && again == second
+}
+
+fn is_fault(answer: &Result<Vec<u8>, DeviceFault>) -> bool {
+    matches!(answer, Err(DeviceFault::Device))
+}
+
+// Whether a read under key 1 gives these bytes.
+fn reads<D: Device + Drop>(device: &mut D, wanted: &[u8]) -> bool {
+    match device.read(1) {
+        Ok(bytes) => bytes.as_slice() == wanted,
+        Err(_) => false,
     }
 }
 
@@ -164,22 +176,87 @@ fn other_devices(rt: HostRuntime) -> Result<(), Fail> {
 }
 
 #[test]
-fn one_call_fails(rt: HostRuntime) -> Result<(), Fail> {
-    for left in [1, 2] {
-        let mut device = failing_at(rt.alloc(), left);
-        let fault = there_and_back(&mut device, 1, &[1, 2]).err();
-        assert_eq!(rt; fault, Some(DeviceFault::Device), "with {left}");
-        assert_eq!(rt; device.faults(), 0);
-        assert_eq!(rt;
-            there_and_back(&mut device, 1, &[3])?.as_slice(),
-            [3].as_slice()
-        );
+fn one_call_fails(rt: HostRuntime) {
+    let rows = [
+        (0, false, false, false),
+        (2, false, true, false),
+        (3, false, false, true),
+        (4, false, false, false),
+        (u64::MAX, false, false, false),
+    ];
+    for (k, write, first, second) in rows {
+        let mut device = FailAt::new(MemDevice::new(rt.alloc()), k);
+        assert!(rt; fails_so(&mut device, write, first, second), "{k}");
+        let faults = u64::from(first || second);
+        assert!(rt; device.faults() == faults, "{k}");
     }
-    for left in [0, 3] {
-        let mut device = failing_at(rt.alloc(), left);
-        let given = there_and_back(&mut device, 1, &[1, 2])?;
-        assert_eq!(rt; given.as_slice(), [1, 2].as_slice(), "with {left}");
-    }
+}
+
+#[test]
+fn a_write_that_fails_is_not_passed_on(rt: HostRuntime) {
+    let mut device = FailAt::new(MemDevice::new(rt.alloc()), 1);
+    assert!(rt; fails_so(&mut device, true, true, true));
+    assert!(rt; device.faults() == 3);
+    assert!(rt; device.write(1, &[7]).is_ok() && reads(&mut device, &[7]));
+    assert!(rt; device.faults() == 3);
+}
+
+#[test]
+fn over_memory_one_call_fails_at_most(rt: HostRuntime) {
+    let mut device = FailAt::new(MemDevice::new(rt.alloc()), 1);
+    assert!(rt; !fails_twice(&mut device, 1, &[7]));
+    the_kth_call_fails::<MemDevice>();
+    the_kth_read_lies::<FailAt<MemDevice>>();
+}
+
+#[test]
+fn both_counts_wrap(rt: HostRuntime) {
+    let mut inner = MemDevice::new(rt.alloc());
+    inner.faults = u64::MAX;
+    let mut device = FailAt::new(inner, 1);
+    assert!(rt; is_fault(&device.read(1)) && device.faults() == 0);
+}
+
+#[test]
+fn one_read_is_a_lie(rt: HostRuntime) -> Result<(), Fail> {
+    let mut short = Liar::short(MemDevice::new(rt.alloc()), 2);
+    short.write(1, &[1, 2, 255])?;
+    assert!(rt; reads(&mut short, &[1, 2, 255]));
+    assert!(rt; reads(&mut short, &[1, 2]));
+    assert!(rt; reads(&mut short, &[1, 2, 255]));
+    let mut flip = Liar::flip(MemDevice::new(rt.alloc()), 1);
+    flip.write(1, &[0, 1, 0xa5, 255])?;
+    assert!(rt; reads(&mut flip, &[255, 254, 0x5a, 0]));
+    assert!(rt; reads(&mut flip, &[0, 1, 0xa5, 255]));
+    Ok(())
+}
+
+#[test]
+fn of_no_bytes_no_lie_is_made(rt: HostRuntime) -> Result<(), Fail> {
+    let mut short = Liar::short(MemDevice::new(rt.alloc()), 1);
+    short.write(1, &[])?;
+    assert!(rt; reads(&mut short, &[]));
+    let mut flip = Liar::flip(MemDevice::new(rt.alloc()), 1);
+    flip.write(1, &[])?;
+    assert!(rt; reads(&mut flip, &[]));
+    let mut never = Liar::flip(MemDevice::new(rt.alloc()), 0);
+    never.write(1, &[9])?;
+    assert!(rt; reads(&mut never, &[9]) && reads(&mut never, &[9]));
+    Ok(())
+}
+
+#[test]
+fn a_lie_over_a_failure(rt: HostRuntime) -> Result<(), Fail> {
+    let mut device = Liar::short(FailAt::new(MemDevice::new(rt.alloc()), 2), 1);
+    device.write(1, &[1, 2])?;
+    assert!(rt; is_fault(&device.read(1)) && device.faults() == 1);
+    assert!(rt; reads(&mut device, &[1, 2]));
+    let mut device = Liar::flip(FailAt::new(MemDevice::new(rt.alloc()), 2), 2);
+    device.write(1, &[0])?;
+    assert!(rt; is_fault(&device.read(1)));
+    assert!(rt; reads(&mut device, &[255]) && reads(&mut device, &[0]));
+    device.forget(1);
+    assert!(rt; is_fault(&device.read(1)) && device.faults() == 2);
     Ok(())
 }
 
