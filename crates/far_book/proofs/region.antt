@@ -1,5 +1,6 @@
 pub mod Ageing
 pub mod ByAge
+pub mod Blanks
 pub mod Calls
 pub mod Carrying
 pub mod Coming
