@@ -5,6 +5,7 @@ pub mod Calls
 pub mod Carrying
 pub mod Coming
 pub mod Copying
+pub mod CopyingMore
 pub mod DeedRows
 pub mod Deeds
 pub mod Dropping

@@ -358,6 +358,8 @@ fn put_four<N: Near>(near: &mut N, log: u8, at: u16)
     ensures set { N.view near.new ≡ with_zeros (N.view near.old) log at 4 }
     ensures puts { Came (only (Writes log) N.makes) near.old near.new }
 {
+    // So LLVM knows that the sums stay in range, and finds all four words from one address.
+    let at = at % LOG_WORDS;
     near.put(log, at, 0);
     near.put(log, at + 1, 0);
     near.put(log, at + 2, 0);
