@@ -1,9 +1,11 @@
 pub mod Ageing
 pub mod ByAge
+pub mod Blanks
 pub mod Calls
 pub mod Carrying
 pub mod Coming
 pub mod Copying
+pub mod CopyingMore
 pub mod DeedRows
 pub mod Deeds
 pub mod Dropping

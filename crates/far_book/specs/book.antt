@@ -1,5 +1,6 @@
 pub mod Ages
 pub mod Asking
+pub mod Blanks
 pub mod BookOf
 pub mod Dealing
 pub mod Deeds

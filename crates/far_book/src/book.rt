@@ -27,6 +27,7 @@ ghost use Rattle.far_hand.specs.Finds.{Finds, body_of};
 ghost use Rattle.far_hand.specs.Came.{Came, only};
 ghost use Rattle.far_hand.specs.Known.{Forgets};
 ghost use Rattle.far_book.specs.book.Deeds.{Does, Places, Retires, Steps};
+ghost use Rattle.far_book.specs.book.Blanks.{IsPast, with_zeros};
 ghost use Rattle.far_book.specs.book.Effects.{with_blank_span, marked, placed, retired, order_after};
 ghost use Rattle.far_book.specs.book.FarSide.{HoldsFar};
 ghost use Rattle.far_book.specs.book.Home.{home_of};
@@ -323,9 +324,46 @@ fn put_blank<N: Near>(near: &mut N, pointer: u16, len: u16, ds: u8, place: Place
 {
     let header = HeadWord { pointer, len, ds };
     near.put(place.log, place.at, header.pack());
-    for i in 0..words_for(len) {
-        near.put(place.log, place.at + 1 + i, 0);
+    put_zeros(near, place.log, place.at + 1, words_for(len));
+}
+
+// Writes zeros to so many words of a log from one on.
+fn put_zeros<N: Near>(near: &mut N, log: u8, at: u16, count: u16)
+    requires past { IsPast (N.view near.old) log at count }
+    ensures set { N.view near.new ≡ with_zeros (N.view near.old) log at count }
+    ensures puts { Came (only (Writes log) N.makes) near.old near.new }
+{
+    let fours = count / 4;
+    put_fours(near, log, at, fours);
+    for i in 4 * fours..count {
+        near.put(log, at + i, 0);
     }
+}
+
+// The same, four words at a time.
+fn put_fours<N: Near>(near: &mut N, log: u8, at: u16, fours: u16)
+    requires past { IsPast (N.view near.old) log at (4 * fours) }
+    ensures set { N.view near.new ≡ with_zeros (N.view near.old) log at (4 * fours) }
+    ensures puts { Came (only (Writes log) N.makes) near.old near.new }
+{
+    for i in 0..fours {
+        put_four(near, log, at + 4 * i);
+    }
+}
+
+// Writes zeros to four words.
+#[inline(always)]
+fn put_four<N: Near>(near: &mut N, log: u8, at: u16)
+    requires past { IsPast (N.view near.old) log at 4 }
+    ensures set { N.view near.new ≡ with_zeros (N.view near.old) log at 4 }
+    ensures puts { Came (only (Writes log) N.makes) near.old near.new }
+{
+    // So LLVM knows that the sums stay in range, and finds all four words from one address.
+    let at = at % LOG_WORDS;
+    near.put(log, at, 0);
+    near.put(log, at + 1, 0);
+    near.put(log, at + 2, 0);
+    near.put(log, at + 3, 0);
 }
 
 // Frees the cell of a dropped object, by the word that was last found there, and answers what that word said.

@@ -22,7 +22,7 @@ use Rattle.far_core.proofs.Put.{put_both, put_same, put_other}
 use Rattle.far_core.proofs.Rows.{row_in, row_out, row_is}
 use Rattle.far_hand.specs.Known.{IsKnown, IsPaddedAt}
 use Rattle.far_hand.specs.Quiet.{IsQuietAt, is_quiet}
-use Rattle.far_book.specs.book.Moving.{MayCopy, Copied}
+use Rattle.far_book.specs.book.Moving.{MayCopy, Copied, Copying}
 use Rattle.far_book.specs.book.Own.{own_part}
 use Rattle.far_book.proofs.region.Owns.{own_header}
 use Rattle.far_book.proofs.region.Places.{next_unsealed}
@@ -44,14 +44,6 @@ row_last word a n row at x here is = row_is word (put (with_row word a n row) at
       | inl below ↦ row_out word a n row k (inl below)
       | inr above ↦ row_out word a n row k (inr (omega arith))
     ]))
-
--- the first n words are copied
-pub record Copying (s t : State) (p len ds : ℕ) (from to : Place) (n : ℕ) : Type 0 where
-  pub is : t ≡ record s { word = t.word }
-  pub header : t.word (addr to) ≡ head_word p len ds
-  pub same : Alike (data_at t.word to) (data_at t.word from) n
-  pub padded : (j : ℕ) → j < n → data_at t.word to j < 2 ^ (8 * (len - 8 * j))
-  pub keeps : (a : ℕ) → IsKnown (s.word a) → (addr to ≤ a → a < addr to + size_of len → ⊥) → t.word a ≡ s.word a
 
 module _ (s : State) (p len ds : ℕ) (from to : Place) (h : MayCopy s p len ds from to) where
   layout : IsPtr (Near len ds from h.marks)

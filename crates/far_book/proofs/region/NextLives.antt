@@ -2,7 +2,7 @@
 use Rattle.std.proofs.Common.{◌≡◌, ℕ, ◌+◌, ◌*◌, ◌/◌, ◌%◌, ◌<◌, ◌≤◌, Bool, true, false, cond, nat_le, arith, refl, sym, ap, subst, ◌∙◌, Some, List, [], ◌∷◌, ◌++◌, inl, inr}
 use Rattle.std.specs.Prelude.{◌&&◌, ◌⊎◌, Contains, IsSome, is_some}
 use Rattle.std.specs.List.{filter}
-use Rattle.std.proofs.lemmas.Bool.{cases_lt}
+use Rattle.std.proofs.lemmas.Bool.{cases_lt, false_from_ne_true}
 use Rattle.std.proofs.lemmas.Bool.Decides.{nat_tests}
 use Rattle.std.proofs.lemmas.List.Elements.{All-contains, filter-append}
 use Rattle.far_word.specs.declared.header.HeadWord.{HeadWord}
@@ -15,10 +15,11 @@ use Rattle.far_log.specs.declared.span.Span.{Span}
 use Rattle.far_log.specs.Spans.{Stands, Tile, head_len, header_of, span_at, pointer_in, ds_in}
 use Rattle.far_log.proofs.Members.{here, there, split, none_in}
 use Rattle.far_log.proofs.SpanLaws.{tile_bounds, reads_as}
-use Rattle.far_core.specs.laws.Observed.{span_for}
+use Rattle.far_core.specs.laws.Observed.{live_bytes, span_for}
 use Rattle.far_core.specs.state.Law.{Law}
 use Rattle.far_core.specs.state.Spans.{IsOfHeap, names_place, spans_of, is_live, word_in}
 use Rattle.far_core.specs.state.State.{State, put}
+use Rattle.far_core.proofs.Cells.{live_names as names_live}
 use Rattle.far_core.proofs.Observations.{found, listed, walks, of_heap, one_live, live_names}
 use Rattle.far_core.proofs.Put.{put_both}
 use Rattle.far_hand.specs.Finds.{Finds}
@@ -27,6 +28,7 @@ use Rattle.far_book.specs.book.Own.{own_part}
 use Rattle.far_hand.proofs.Finding.{finds_more, near_found, some_found}
 use Rattle.far_book.proofs.region.Founds.{names_found}
 use Rattle.far_book.proofs.region.Owns.{own_header, own_spans}
+use Rattle.far_book.proofs.region.Releasing.{vacant_fact}
 
 -- ---- lists of spans that follow each other, by a test
 -- two tests that say the same of each member leave the same of a list
@@ -111,6 +113,13 @@ parts_at (y ∷ ys) first tail x tile h = elim (split x y ys h) [
   | inr more ↦ (let r = parts_at ys (first + size_of y.len) tail x tile.1 more in
       (y ∷ r.0, r.1, ap (λ zs. y ∷ zs) r.2, (tile.0, r.3), r.4))
 ]
+
+-- where the live spans of a log take no bytes, none is live
+pub none_lives : (s : State) → Law (own_part s) → (l : ℕ) → live_bytes (own_part s) l ≡ 0 → (at : ℕ) → live_from s l at ≡ []
+none_lives s law l none at =
+    let vacant = vacant_fact (own_part s) law l none in
+    filter_none (λ x. is_live s l x && nat_le at x.at) (spans_of s l) (λ x h. ap (λ b. b && nat_le at x.at) (false_from_ne_true _ (λ live.
+    let n = names_live (read_of (s.cell x.p)) l x.at live in vacant x.p n.0 n.1 n.2 n.3 n.4 n.5)))
 
 -- the span of a header at a place
 abbrev pub span_of : ℕ → HeadWord → Span

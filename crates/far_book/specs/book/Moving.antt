@@ -1,5 +1,5 @@
 -- How a near object is copied to another place while owners are at work, or stays where it lies.
-use Rattle.std.specs.Prelude.{◌≡◌, ◌+◌, ◌*◌, ◌<◌, ◌≤◌, ℕ, true, false, Some}
+use Rattle.std.specs.Prelude.{◌≡◌, ◌+◌, ◌*◌, ◌-◌, ◌^◌, ◌<◌, ◌≤◌, ℕ, true, false, Some}
 use Rattle.far_word.specs.declared.mark.Marks.{Marks}
 use Rattle.far_word.specs.declared.pointer.Place.{Place}
 use Rattle.far_word.specs.declared.pointer.PtrWord.TheVariants.{Near}
@@ -9,9 +9,10 @@ use Rattle.far_word.specs.Pointer.{read_of}
 use Rattle.far_word.specs.Sizes.{size_of, words_for}
 use Rattle.far_core.specs.events.Copies.{Alike, data_at, EndsPadded}
 use Rattle.far_core.specs.events.Legal.{IsNext}
+use Rattle.far_core.specs.events.Ranges.{with_row}
 use Rattle.far_core.specs.state.Law.{Law}
-use Rattle.far_core.specs.state.State.{State, addr}
-use Rattle.far_hand.specs.Known.{KeepsKnown}
+use Rattle.far_core.specs.state.State.{State, addr, put}
+use Rattle.far_hand.specs.Known.{IsKnown, KeepsKnown}
 use Rattle.far_hand.specs.Quiet.{is_quiet}
 use Rattle.far_book.specs.book.Effects.{with_written_span}
 use Rattle.far_book.specs.book.Own.{own_part}
@@ -33,6 +34,30 @@ pub record MayStay (s : State) (p len ds : ℕ) (place : Place) : Type 0 where
   pub near : read_of (s.cell p) ≡ Some (Near len ds place marks)
   pub moved : marks.moved ≡ true
   pub unwanted : marks.evac ≡ false
+
+-- the first n words are copied
+pub record Copying (s t : State) (p len ds : ℕ) (from to : Place) (n : ℕ) : Type 0 where
+  pub is : t ≡ record s { word = t.word }
+  pub header : t.word (addr to) ≡ head_word p len ds
+  pub same : Alike (data_at t.word to) (data_at t.word from) n
+  pub padded : (j : ℕ) → j < n → data_at t.word to j < 2 ^ (8 * (len - 8 * j))
+  pub keeps : (a : ℕ) → IsKnown (s.word a) → (addr to ≤ a → a < addr to + size_of len → ⊥) → t.word a ≡ s.word a
+
+-- the same exactly, where no other word changes
+abbrev pub with_copied : State → ℕ → ℕ → ℕ → Place → Place → ℕ → State
+with_copied s p len ds from to n = record s { word = with_row (put s.word (addr to) (head_word p len ds)) (addr to + 1) n (data_at s.word from) }
+
+-- of some object n words are copied, and k words more are its words too
+abbrev pub CopiesMore : State → Place → Place → ℕ → ℕ → Type 0
+CopiesMore t from to n k = (s : State) × (p : ℕ) × (len : ℕ) × (ds : ℕ) × MayCopy s p len ds from to × Copying s t p len ds from to n × (n + k ≤ words_for len)
+
+-- of each object of which n words were copied k words more are copied
+abbrev pub HasCopied : State → State → Place → Place → ℕ → ℕ → Type 0
+HasCopied t u from to n k = (s : State) (p len ds : ℕ) → MayCopy s p len ds from to → n + k ≤ words_for len → Copying s t p len ds from to n → Copying s u p len ds from to (n + k)
+
+-- the same exactly
+abbrev pub CopiedOnly : State → State → Place → Place → ℕ → ℕ → Type 0
+CopiedOnly t u from to n k = (s : State) (p len ds : ℕ) → MayCopy s p len ds from to → n + k ≤ words_for len → t ≡ with_copied s p len ds from to n → u ≡ with_copied s p len ds from to (n + k)
 
 -- from s to t a header and the object's data words were written at the place; nothing else but words that were learned is another
 pub record Copied (s t : State) (p len ds : ℕ) (from to : Place) : Type 0 where

@@ -23,7 +23,7 @@ impl<N: Near + Drop, D: Device + Drop> Book<N, D> {
     /// that was answered, from which the next call goes on.
     ///
     /// Of each span that is passed, up to the one that is answered, it reads the header and the cell that the header names; of no
-    /// other cell anything. It takes no memory.
+    /// other cell anything, and nothing at all where no object lives in the log. It takes no memory.
     pub fn next_live(&mut self, log: u8, at: u16) -> Option<Span>
         requires log { log < (N.view self.old.near).logs }
         requires begins { IsBoundary (N.view self.old.near) log at }
@@ -41,6 +41,9 @@ impl<N: Near + Drop, D: Device + Drop> Book<N, D> {
         ensures device { self.new.device ≡ self.old.device }
     {
         self.keeps_law();
+        if self.none_lives(log) {
+            return None;
+        }
         let tail = self.tail(log);
         let mut at = at;
         while at < tail {
@@ -51,6 +54,14 @@ impl<N: Near + Drop, D: Device + Drop> Book<N, D> {
             at += size_of(span.len);
         }
         None
+    }
+
+    // Whether no object lives in a log.
+    fn none_lives(&self, log: u8) -> bool
+        requires log { log < (N.view self.now.near).logs }
+        ensures { result ≡ true → (at : ℕ) → live_from (N.view self.now.near) log at ≡ [] }
+    {
+        self.ledger.is_vacant(log)
     }
 
     // Where the spans of a log end, in words.
