@@ -1,4 +1,4 @@
-use Rattle.std.proofs.Common.{◌≡◌, Bool, sym, subst, ap}
+use Rattle.std.proofs.Common.{Bool, sym, subst, ap}
 use Rattle.far_core.specs.state.CoreState.{core_state}
 use Rattle.far_core.specs.state.State.{State}
 use Rattle.far_table.specs.declared.view.BookView.{BookView}
