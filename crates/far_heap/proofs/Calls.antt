@@ -1,13 +1,13 @@
 -- What a mutator's own calls say of its objects' bytes.
-use Rattle.std.proofs.Common.{◌≡◌, ◌≢◌, ◌⊎◌, ℕ, ◌+◌, ◌-◌, ◌/◌, ◌%◌, ◌<◌, ◌≤◌, Bool, true, false, Option, Some, None, is_some, List, [], ◌∷◌, ◌++◌, length, get_or, take, drop, map, set, refl, sym, ap, subst, ◌∙◌, inl, inr, arith, eqb}
-use Rattle.std.specs.Prelude.{if◌then◌else◌, option_map, replicate, slice_index, slice_index_or, slice_set}
+use Rattle.std.proofs.Common.{◌≡◌, ◌≢◌, ◌⊎◌, ℕ, ◌+◌, ◌-◌, ◌/◌, ◌%◌, ◌<◌, ◌≤◌, Bool, true, false, Option, Some, None, List, [], ◌∷◌, ◌++◌, length, get_or, take, drop, refl, sym, ap, subst, ◌∙◌, inl, inr, arith, eqb}
+use Rattle.std.specs.Prelude.{if◌then◌else◌, option_map, replicate, slice_index, slice_set}
 use Rattle.std.proofs.lemmas.Bool.{cases_eq, eq-eqb, eqb-true, false≢true, ne_eqb}
 use Rattle.std.proofs.lemmas.Grind.{get_or-set_at}
 use Rattle.std.proofs.lemmas.List.{get_or-append_right, get_or-drop, get_or-replicate, get_or-take, get_or_append_left, get_or-set_other, length-append, length-drop, length-replicate, length-set, length-take-le}
 use Rattle.atomic_table.specs.Seated.{TableId}
 use Rattle.far_word.specs.declared.sizes.TheConstants.{CELLS}
-use Rattle.far_heap.specs.Calls.{Call, Called, Opens, Closes, Views, Makes, Drops, Writes, LastSays, LeaveByte, LeavesByte, MayCall, ReadsGiveLastWrites, SaysByte, after_call}
-use Rattle.far_heap.specs.Mine.{Mine, Object, bytes_in, known_bytes, len_in, len_of, newcomer, object_of, owns, rewritten, with_range, zeros_known}
+use Rattle.far_heap.specs.Calls.{Call, Called, Opens, Closes, Views, Makes, Drops, Writes, LeaveByte, LeavesByte, MayCall, ReadsGiveLastWrites, SaysByte, after_call}
+use Rattle.far_heap.specs.Mine.{Mine, Object, known_bytes, len_of, newcomer, object_of, owns, rewritten, with_range, zeros_known}
 use Rattle.far_heap.proofs.OwnRows.{length-own_row, own_row-get}
 
 -- ---- one object of a mutator is another

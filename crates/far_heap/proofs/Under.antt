@@ -1,49 +1,31 @@
--- What follows from where the book found an object.
-use Rattle.std.proofs.Common.{◌≡◌, ℕ, true, sym, refl, ap, Option, Some, None, ◌/◌, ◌∙◌}
+-- What the word that a look found asks of the book.
+use Rattle.std.proofs.Common.{◌≡◌, ℕ, true, refl, ap, Option, Some, None, ◌/◌}
 use Rattle.std.specs.Prelude.{◌||◌, ◌&&◌}
-use Rattle.far_word.specs.declared.mark.Marks.{Marks}
-use Rattle.far_word.specs.declared.pointer.Place.{Place}
 use Rattle.far_word.specs.declared.pointer.PtrWord.{PtrWord}
 use Rattle.far_word.specs.declared.pointer.PtrWord.TheVariants as pointer
 use Rattle.far_word.specs.declared.sizes.TheConstants.{CELLS}
 use Rattle.far_word.specs.Pointer.{read_of}
-use Rattle.far_core.specs.events.Naming.{is_dropped}
 use Rattle.far_core.specs.state.State.{State}
 use Rattle.far_hand.specs.Quiet.{IsQuietNear}
-use Rattle.far_book.specs.declared.home.Home.TheVariants.{Near, Far}
 use Rattle.far_book.specs.book.Fetching.{IsFar}
-use Rattle.far_book.specs.book.Home.{home_of}
+use Rattle.far_heap.specs.Helping.{asks_move, says_far}
 
-pub dropped_near : (o : Option PtrWord) (place : Place) (marks : Marks) → Some (Near place marks) ≡ home_of o → marks.dropped ≡ true → is_dropped o ≡ true
-dropped_near None place marks e h = absurd cc
-dropped_near (Some pointer.Free) place marks e h = absurd cc
-dropped_near (Some (pointer.Near len ds at m)) place marks e h = let same : marks ≡ m = cc in ap (λ (x : Marks). x.dropped) (sym same) ∙ h
-dropped_near (Some (pointer.Far len ds m)) place marks e h = absurd cc
+far_cell : (s : State) (p : ℕ) (o : Option PtrWord) → read_of (s.cell p) ≡ o → says_far o ≡ true → IsFar s p
+far_cell s p None e is = absurd cc
+far_cell s p (Some pointer.Free) e is = absurd cc
+far_cell s p (Some (pointer.Near len ds at m)) e is = absurd cc
+far_cell s p (Some (pointer.Far len ds m)) e is = record { len = len; ds = ds; marks = m; far = e }
 
-pub dropped_far : (o : Option PtrWord) (marks : Marks) → Some (Far marks) ≡ home_of o → marks.dropped ≡ true → is_dropped o ≡ true
-dropped_far None marks e h = absurd cc
-dropped_far (Some pointer.Free) marks e h = absurd cc
-dropped_far (Some (pointer.Near len ds at m)) marks e h = absurd cc
-dropped_far (Some (pointer.Far len ds m)) marks e h = let same : marks ≡ m = cc in ap (λ (x : Marks). x.dropped) (sym same) ∙ h
+pub is_far : (s : State) (p : ℕ) → says_far (read_of (s.cell p)) ≡ true → IsFar s p
+is_far s p is = far_cell s p (read_of (s.cell p)) refl is
 
 -- a near object that shows MOVE is quiet
-quiet_cell : (s : State) (p : ℕ) (o : Option PtrWord) → read_of (s.cell p) ≡ o → (place : Place) (marks : Marks) → Some (Near place marks) ≡ home_of o → marks.moved ≡ true → IsQuietNear s p
-quiet_cell s p None e place marks is h = absurd cc
-quiet_cell s p (Some pointer.Free) e place marks is h = absurd cc
-quiet_cell s p (Some (pointer.Near len ds at m)) e place marks is h =
-    let same : marks ≡ m = cc in
-    let moved : m.moved ≡ true = ap (λ (x : Marks). x.moved) (sym same) ∙ h in
-    record { len = len; ds = ds; place = at; marks = m; near = e; quiet = ap (λ b. b || (m.evac && s.round at.log && s.clear (p / CELLS))) moved }
-quiet_cell s p (Some (pointer.Far len ds m)) e place marks is h = absurd cc
+quiet_cell : (s : State) (p : ℕ) (o : Option PtrWord) → read_of (s.cell p) ≡ o → asks_move o ≡ true → IsQuietNear s p
+quiet_cell s p None e is = absurd cc
+quiet_cell s p (Some pointer.Free) e is = absurd cc
+quiet_cell s p (Some (pointer.Near len ds at m)) e is =
+    record { len = len; ds = ds; place = at; marks = m; near = e; quiet = ap (λ b. b || (m.evac && s.round at.log && s.clear (p / CELLS))) is }
+quiet_cell s p (Some (pointer.Far len ds m)) e is = absurd cc
 
-pub quiet_home : (s : State) (p : ℕ) (place : Place) (marks : Marks) → Some (Near place marks) ≡ home_of (read_of (s.cell p)) → marks.moved ≡ true → IsQuietNear s p
-quiet_home s p place marks is h = quiet_cell s p (read_of (s.cell p)) refl place marks is h
-
-far_cell : (s : State) (p : ℕ) (o : Option PtrWord) → read_of (s.cell p) ≡ o → (marks : Marks) → Some (Far marks) ≡ home_of o → IsFar s p
-far_cell s p None e marks is = absurd cc
-far_cell s p (Some pointer.Free) e marks is = absurd cc
-far_cell s p (Some (pointer.Near len ds at m)) e marks is = absurd cc
-far_cell s p (Some (pointer.Far len ds m)) e marks is = record { len = len; ds = ds; marks = m; far = e }
-
-pub far_home : (s : State) (p : ℕ) (marks : Marks) → Some (Far marks) ≡ home_of (read_of (s.cell p)) → IsFar s p
-far_home s p marks is = far_cell s p (read_of (s.cell p)) refl marks is
+pub is_quiet_near : (s : State) (p : ℕ) → asks_move (read_of (s.cell p)) ≡ true → IsQuietNear s p
+is_quiet_near s p is = quiet_cell s p (read_of (s.cell p)) refl is

@@ -1,5 +1,5 @@
 -- A mutator's own calls, one after the other, and which byte a read finds by them alone, whatever other threads do meanwhile.
-use Rattle.std.specs.Prelude.{◌≡◌, ◌≢◌, ◌⊎◌, ℕ, ◌+◌, ◌-◌, ◌<◌, ◌≤◌, true, Option, Some, List, [], ◌∷◌, ◌++◌, length, slice_index}
+use Rattle.std.specs.Prelude.{◌≡◌, ◌≢◌, ◌⊎◌, ℕ, ◌+◌, ◌-◌, ◌<◌, ◌≤◌, true, Some, List, [], ◌∷◌, ◌++◌, length, slice_index}
 use Rattle.atomic_table.specs.Seated.{TableId}
 use Rattle.far_heap.specs.Mine.{Mine, adopting, bytes_in, closing, dropping, len_in, newcomer, opening, owns, viewing, writing}
 

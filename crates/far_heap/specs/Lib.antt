@@ -3,3 +3,4 @@ pub mod Made
 pub mod Blanks
 pub mod Rounds
 pub mod Calls
+pub mod Helping

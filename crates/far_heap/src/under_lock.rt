@@ -100,14 +100,14 @@ fn bring<K: HeapName, D: Device + Drop>(
     ensures tried { IfOk result (λ tried. TriedSo p own.old tried own.new) }
 {
     match book.fetch_far(p) {
-        Ok(true) => {}
-        Ok(false) => {
+        Some(Ok(_)) => {}
+        Some(Err(why)) => return Err(why),
+        None => {
             own.ask_move(p);
-            if let Err(why) = book.move_asked(p) {
+            if let Some(Err(why)) = book.move_asked(p) {
                 return Err(why);
             }
         }
-        Err(why) => return Err(why),
     }
     let Ok(tried) = own.try_view(p) else {
         unreachable!()

@@ -1,6 +1,6 @@
 //! What the book does for an owner that has the lock.
 
-ghost use Rattle.std.specs.Prelude.{◌≡◌, ◌⊎◌, ◌/◌, ◌<◌, ◌≤◌, ◌*◌, None, Some, Err, true, Option, IsSome, IfOk, IfErr};
+ghost use Rattle.std.specs.Prelude.{◌≡◌, ◌⊎◌, ◌/◌, ◌<◌, ◌≤◌, ◌*◌, ◌↔◌, None, Some, Err, true, false, Option, IsSome, IfOk, IfErr, IfSome, MatchOption};
 ghost use Rattle.far_word.specs.Sizes.{size_of};
 ghost use Rattle.far_word.specs.declared.pointer.PtrWord.{PtrWord};
 ghost use Rattle.far_word.specs.declared.refused.Refused.TheVariants.{NoPointer, NoRoom};
@@ -8,19 +8,42 @@ ghost use Rattle.far_word.specs.declared.sizes.TheConstants.{CELLS, LONGEST};
 ghost use Rattle.far_core.specs.events.Naming.{is_dropped};
 ghost use Rattle.far_core.specs.state.Room.{room};
 ghost use Rattle.far_table.specs.BookSeats.{seat_view};
+ghost use Rattle.far_table.specs.declared.book.BookSeat.{BookSeat as seat_of};
 ghost use Rattle.far_book.specs.book.Home.{home_of};
 ghost use Rattle.far_book.specs.book.Ledger.{IsLowestFree};
+ghost use Rattle.far_evac.specs.EvacOf.{EvacOf};
+ghost use Rattle.far_heap.specs.Helping.{FetchesIt, Looks, MovesIt, PlacesNew, RetiresIt, asks_move, cell_in, says_far};
 ghost use Rattle.far_heap.specs.Mine.{IsUnbrought};
 
 use crate::evacuator::Evacuator;
 use crate::name::HeapName;
 use far_book::Home;
 use far_device::Device;
-use far_word::{CELLS, Refused};
+use far_word::{CELLS, Place, Refused};
+
+// Whether an object was found far.
+fn is_far(home: Option<Home>) -> bool
+    ensures { (o : Option PtrWord) → home ≡ home_of o → result ≡ says_far o }
+{
+    match home {
+        Some(Home::Far { .. }) => true,
+        _ => false,
+    }
+}
+
+// Whether an object was found near with MOVE.
+fn has_move(home: Option<Home>) -> bool
+    ensures { (o : Option PtrWord) → home ≡ home_of o → result ≡ asks_move o }
+{
+    match home {
+        Some(Home::Near { marks, .. }) => marks.moved,
+        _ => false,
+    }
+}
 
 // Whether an object was found dropped.
 fn has_drop(home: Option<Home>) -> bool
-    ensures { result ≡ true → (o : Option PtrWord) → home ≡ home_of o → is_dropped o ≡ true }
+    ensures { (o : Option PtrWord) → home ≡ home_of o → result ≡ is_dropped o }
 {
     match home {
         Some(Home::Near { marks, .. }) | Some(Home::Far { marks }) => marks.dropped,
@@ -31,7 +54,7 @@ fn has_drop(home: Option<Home>) -> bool
 impl<K: HeapName, D: Device + Drop> Evacuator<K, D> {
     // Whether a number is that of a pointer.
     fn has_pointer(&self, pointer: u16) -> bool
-        ensures { result ≡ true → pointer < CELLS * (seat_view self.now.book.near).mutators }
+        ensures { (result ≡ true) ↔ (pointer < CELLS * (seat_view self.now.book.near).mutators) }
     {
         (pointer as u64) < CELLS as u64 * self.shape().mutators
     }
@@ -44,6 +67,7 @@ impl<K: HeapName, D: Device + Drop> Evacuator<K, D> {
         ensures own { IfOk result (λ p. p / CELLS ≡ owner) }
         ensures lowest { IfOk result (λ p. IsLowestFree (seat_view self.old.book.near) owner (Some p)) }
         ensures room { IfOk result (λ p. IsSome (room (seat_view self.old.book.near) (size_of len) true)) }
+        ensures placed { IfOk result (λ p. PlacesNew self.old self.new p len ds) }
         ensures refused { IfErr result (λ why. (why ≡ NoPointer) ⊎ (why ≡ NoRoom)) }
         ensures none { result ≡ Err NoPointer → owner < (seat_view self.old.book.near).mutators → IsLowestFree (seat_view self.old.book.near) owner None }
         ensures full { result ≡ Err NoRoom → room (seat_view self.old.book.near) (size_of len) true ≡ None }
@@ -62,48 +86,54 @@ impl<K: HeapName, D: Device + Drop> Evacuator<K, D> {
         }
     }
 
-    // Fetches a far object; `false` where it isn't far.
-    pub(crate) fn fetch_far(&mut self, pointer: u16) -> Result<bool, Refused>
-        ensures { IfErr result IsUnbrought }
+    // Fetches a far object, by one look at its cell: what the fetch answers. `None` where it isn't far, or the number is no pointer's; nothing else is done then.
+    pub(crate) fn fetch_far(&mut self, pointer: u16) -> Option<Result<Option<Place>, Refused>>
+        ensures refused { IfSome result (λ answer. IfErr answer IsUnbrought) }
+        ensures beyond { CELLS * (seat_view self.old.book.near).mutators ≤ pointer → (result ≡ None) × (self.new ≡ self.old) }
+        ensures fetched { pointer < CELLS * (seat_view self.old.book.near).mutators → (found : EvacOf (seat_of D) D) × Looks self.old found pointer
+            × MatchOption result ((says_far (cell_in found pointer) ≡ false) × (self.new ≡ found))
+            (λ answer. (says_far (cell_in found pointer) ≡ true) × FetchesIt D.contents D.honest D.faults D.fails_at_most D.lets_go D.forgets D.reads found self.new pointer answer) }
     {
         if !self.has_pointer(pointer) {
-            return Ok(false);
+            return None;
         }
-        let Some(Home::Far { .. }) = self.evac.locate(pointer) else {
-            return Ok(false);
-        };
-        match self.evac.fetch(pointer) {
-            Ok(_) => Ok(true),
-            Err(why) => Err(why),
+        if !is_far(self.evac.locate(pointer)) {
+            return None;
         }
+        Some(self.evac.fetch(pointer))
     }
 
-    // Moves a near object that its owner has asked for, where the round wants its log; else it stays, without MOVE.
-    pub(crate) fn move_asked(&mut self, pointer: u16) -> Result<(), Refused>
-        ensures { IfErr result IsUnbrought }
+    // Moves a near object that its owner has asked for, by one look at its cell, where the round wants its log; else it stays, without MOVE: what the move
+    // answers. `None` where it isn't near with MOVE, or the number is no pointer's; nothing else is done then.
+    pub(crate) fn move_asked(&mut self, pointer: u16) -> Option<Result<Option<Place>, Refused>>
+        ensures refused { IfSome result (λ answer. IfErr answer IsUnbrought) }
+        ensures beyond { CELLS * (seat_view self.old.book.near).mutators ≤ pointer → (result ≡ None) × (self.new ≡ self.old) }
+        ensures moved { pointer < CELLS * (seat_view self.old.book.near).mutators → (found : EvacOf (seat_of D) D) × Looks self.old found pointer
+            × MatchOption result ((asks_move (cell_in found pointer) ≡ false) × (self.new ≡ found))
+            (λ answer. (asks_move (cell_in found pointer) ≡ true) × MovesIt D.contents D.honest D.faults D.fails_at_most D.lets_go D.forgets found self.new pointer answer) }
     {
         if !self.has_pointer(pointer) {
-            return Ok(());
+            return None;
         }
-        let Some(Home::Near { marks, .. }) = self.evac.locate(pointer) else {
-            return Ok(());
-        };
-        if !marks.moved {
-            return Ok(());
+        if !has_move(self.evac.locate(pointer)) {
+            return None;
         }
-        match self.evac.move_now(pointer) {
-            Ok(_) => Ok(()),
-            Err(why) => Err(why),
-        }
+        Some(self.evac.move_now(pointer))
     }
 
-    // Frees the cell of an object that its owner dropped, unless a round has done so.
-    pub(crate) fn retire_dropped(&mut self, pointer: u16) {
+    // Frees the cell of an object that its owner dropped, by one look at it: `true`. `false` where a round has done so, or the number is no pointer's.
+    pub(crate) fn retire_dropped(&mut self, pointer: u16) -> bool
+        ensures beyond { CELLS * (seat_view self.old.book.near).mutators ≤ pointer → (result ≡ false) × (self.new ≡ self.old) }
+        ensures retired { pointer < CELLS * (seat_view self.old.book.near).mutators → (found : EvacOf (seat_of D) D) × Looks self.old found pointer × (result ≡ is_dropped (cell_in found pointer))
+            × (result ≡ false → self.new ≡ found) × (result ≡ true → RetiresIt D.contents D.honest D.faults D.fails_at_most D.lets_go D.forgets found self.new pointer) }
+    {
         if !self.has_pointer(pointer) {
-            return;
+            return false;
         }
-        if has_drop(self.evac.locate(pointer)) {
-            self.evac.retire(pointer);
+        if !has_drop(self.evac.locate(pointer)) {
+            return false;
         }
+        self.evac.retire(pointer);
+        true
     }
 }

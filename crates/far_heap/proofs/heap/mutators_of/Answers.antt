@@ -1,4 +1,4 @@
-use Rattle.std.proofs.Common.{◌≡◌, ◌+◌, ◌<◌, ℕ, Bool, [], ◌∷◌, ◌++◌, length, sym, subst, ap, ◌∙◌, arith}
+use Rattle.std.proofs.Common.{◌+◌, ◌<◌, ℕ, [], ◌∷◌, ◌++◌, length, sym, subst, ap, ◌∙◌, arith}
 use Rattle.std.proofs.lemmas.List.FromFn.{map-range_with_len_more}
 use Rattle.far_heap.specs.Blanks.{AreNew}
 use Rattle.far_heap.specs.Mine.{newcomer}
@@ -31,3 +31,25 @@ loop-number-preserved g c =
       all,
       omega arith,
     )
+
+pub new-requires-clause-table : goal.new-requires-clause-table
+new-requires-clause-table g c =
+    let n : ℕ = c.loop-number.number in
+    let i = c.loop-number.invariant in
+    let test = c.loop-number-test.true in
+    let sum = i.1 in
+    let made = i.2 in
+    let all = i.3 in
+    let some : 0 < length c.loop-number.seats.items = omega arith in
+    (first_new g.K.HeapName.table c.requires.0 n c.loop-number.seats.items c.remove-seat.result (i.0 c.requires.0 c.requires.1).0 some c.remove-seat.ensures.value).0
+
+pub new-requires-clause-new : goal.new-requires-clause-new
+new-requires-clause-new g c =
+    let n : ℕ = c.loop-number.number in
+    let i = c.loop-number.invariant in
+    let test = c.loop-number-test.true in
+    let sum = i.1 in
+    let made = i.2 in
+    let all = i.3 in
+    let some : 0 < length c.loop-number.seats.items = omega arith in
+    (first_new g.K.HeapName.table c.requires.0 n c.loop-number.seats.items c.remove-seat.result (i.0 c.requires.0 c.requires.1).0 some c.remove-seat.ensures.value).2

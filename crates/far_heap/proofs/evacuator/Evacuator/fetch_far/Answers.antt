@@ -1,7 +1,54 @@
+use Rattle.std.proofs.Common.{subst, sym, refl, ◌∙◌}
+use Rattle.far_table.specs.declared.book.BookSeat.{BookSeat}
+use Rattle.far_evac.specs.EvacOf.{EvacOf}
+use Rattle.far_heap.specs.Helping.{Looks}
 use Rattle.far_heap.proofs.Named.{stays_named}
+use Rattle.far_heap.proofs.Under.{is_far}
 use Rattle.far_heap.proofs.evacuator.Evacuator.fetch_far.Goals as goal
+
+pub fetch-requires-clause-far : goal.fetch-requires-clause-far
+fetch-requires-clause-far g c = is_far _ c.args.pointer (sym (c.is_far.ensures _ c.locate.ensures.home) ∙ c.if-not-is_far.false)
 
 pub invariant_of-self-2 : goal.invariant_of-self-2
 invariant_of-self-2 g c =
     stays_named _ c.locate.new.self.book.near c.fetch.new.self.book.near c.fetch.ensures.came
     (stays_named _ c.self.inside.evac.book.near c.locate.new.self.book.near c.locate.ensures.came c.self.invariant)
+
+pub returns-then-not-is_far-clause-fetched : goal.returns-then-not-is_far-clause-fetched
+returns-then-not-is_far-clause-fetched g c = λ _.
+    let l = c.locate.ensures in (
+      c.locate.new.self,
+      subst (λ (e : EvacOf (BookSeat g.row.D.Denot) g.row.D.Denot). Looks e c.locate.new.self c.args.pointer) c.self.view_is
+          record { made = l.made; found = l.found; kept = l.kept; order = l.order; device = l.device; round = l.round },
+      (sym (c.is_far.ensures _ l.home) ∙ c.if-not-is_far.true, refl),
+    )
+
+pub returns-clause-fetched : goal.returns-clause-fetched
+returns-clause-fetched g c = λ _.
+    let l = c.locate.ensures in
+    let f = c.fetch.ensures in (
+      c.locate.new.self,
+      subst (λ (e : EvacOf (BookSeat g.row.D.Denot) g.row.D.Denot). Looks e c.locate.new.self c.args.pointer) c.self.view_is
+          record { made = l.made; found = l.found; kept = l.kept; order = l.order; device = l.device; round = l.round },
+      (
+        sym (c.is_far.ensures _ l.home) ∙ c.if-not-is_far.false,
+        record {
+          place = f.place;
+          near = f.near;
+          gone = f.gone;
+          unread = f.unread;
+          asked = f.asked;
+          order = f.order;
+          called = f.called;
+          forgot = f.forgot;
+          follows = f.follows;
+          refused = f.refused;
+          untouched = f.untouched;
+          held = f.held;
+          seen = f.seen;
+          kept = f.kept;
+          shut = f.shut;
+          round = f.round;
+        },
+      ),
+    )

@@ -1,7 +1,7 @@
-use Rattle.std.proofs.Common.{◌≡◌, true, false, length, sym, subst, ap, ◌∙◌}
+use Rattle.std.proofs.Common.{◌≡◌, length, sym, ap, ◌∙◌}
 use Rattle.far_word.specs.declared.sizes.TheConstants.{CELLS}
 use Rattle.far_table.specs.Views.{object_at}
-use Rattle.far_heap.specs.Mine.{Mine, adopting, dropping, mine_of, seen, uses, views}
+use Rattle.far_heap.specs.Mine.{Mine, dropping, mine_of, seen, uses, views}
 use Rattle.far_heap.proofs.OwnRows.{length-own_row}
 use Rattle.far_heap.proofs.OwnSteps.{viewed_used}
 use Rattle.far_heap.proofs.Undone.{adopted_used, undone, unviewed}
