@@ -162,37 +162,41 @@ impl Turn for Looks {
     }
 }
 
-/// An owner asks for a move, and the book sees that: the word without marks.
+/// An owner asks for a move, and the book sees that: the word without marks, which stand beside the word that was found.
 #[derive(Drop)]
 pub(crate) struct Asks {
     pub hand: Hand,
     pub owner: Owner,
+    pub found: u64,
+    pub plain: u64,
     ghost idle: { IsIdle owner.seat.view owner.pointer },
 }
 
-impl Asks {
-    #[inline(always)]
-    fn seen(&mut self) -> u64
-        ensures { (seat_view self.new.hand.seat).cell self.new.hand.pointer ≡ result }
-    {
-        self.owner.seat.ask(self.owner.pointer, Mark::Moved);
-        self.hand.see()
-    }
-}
-
 // Whether a naming leaves an object where it lies.
-#[inline(always)]
 fn is_stay(old: u64, new: u64) -> bool
     ensures { result ≡ true → IsStay old new }
 {
     matches!(Naming::of(old, new), Some(Naming::Stays))
 }
 
+impl Asks {
+    // Whether the object may stay where it lies. It is a call, so that the turns with and without a naming have it alike.
+    #[inline(never)]
+    fn asked(&mut self) -> bool
+        ensures seen { result ≡ true → (seat_view self.new.hand.seat).cell self.new.hand.pointer ≡ self.new.found }
+        ensures stays { result ≡ true → IsStay self.new.found self.new.plain }
+    {
+        self.owner.seat.ask(self.owner.pointer, Mark::Moved);
+        let found = self.hand.see();
+        self.found = found;
+        self.plain = without_owner_marks(found);
+        is_stay(self.found, self.plain)
+    }
+}
+
 impl Turn for Asks {
     fn turn(&mut self, _index: u16, _word: u64) -> u64 {
-        let old = self.seen();
-        let new = without_owner_marks(old);
-        if is_stay(old, new) { new } else { 0 }
+        if self.asked() { self.plain } else { 0 }
     }
 }
 
@@ -204,12 +208,10 @@ pub(crate) struct Names {
 
 impl Turn for Names {
     fn turn(&mut self, _index: u16, _word: u64) -> u64 {
-        let old = self.asks.seen();
-        let new = without_owner_marks(old);
-        if is_stay(old, new) {
-            self.asks.hand.name(old, new)
-        } else {
-            0
+        if !self.asks.asked() {
+            return 0;
         }
+        let (old, new) = (self.asks.found, self.asks.plain);
+        self.asks.hand.name(old, new)
     }
 }

@@ -134,6 +134,17 @@ fn on_seat(owner: Owner, call: Call, task: Task) -> Option<u64>
     Some(last)
 }
 
+fn asks_of(hand: Hand, owner: Owner) -> Asks
+    requires { IsIdle owner.seat.view owner.pointer }
+{
+    Asks {
+        hand,
+        owner,
+        found: 0,
+        plain: 0,
+    }
+}
+
 fn on_book(hand: Hand, owner: Owner, deed: Deed, task: Task) -> u64
     requires idle { IsIdle owner.seat.view owner.pointer }
     requires inside { task.index < 8 }
@@ -145,9 +156,9 @@ fn on_book(hand: Hand, owner: Owner, deed: Deed, task: Task) -> u64
         Deed::Clear => turns(&mut hand::Clears { hand }, index, count),
         Deed::Get => turns(&mut hand::Gets { hand }, index, count),
         Deed::Put => turns(&mut hand::Puts { hand }, index, count),
-        Deed::Ask => turns(&mut Asks { hand, owner }, index, count),
+        Deed::Ask => turns(&mut asks_of(hand, owner), index, count),
         Deed::Name => {
-            let asks = Asks { hand, owner };
+            let asks = asks_of(hand, owner);
             turns(&mut hand::Names { asks }, index, count)
         }
         Deed::Advance => turns(&mut hand::Advances { hand }, index, count),
