@@ -1,12 +1,13 @@
 #!/usr/bin/env python3
-"""What a call of an owner's seat costs, beside the same atomic operation on a bare table: instructions, by callgrind.
+"""What a call of a seat, an owner's or the book's, costs beside the same atomic operation on a bare table: instructions, by callgrind.
 
     bench/seats.py [PROGRAM]     PROGRAM: crates/far_table_bench/out/far_table_bench, which `rt run` builds
 
 Each work is done N and 2N times, so that the difference is N turns, without the start. A turn is a call through a table of methods and the loop
 round it, the same for all works; within it the operation is inline. All is counted twice, and must come to the same. A scope is read_epoch, open and
-close. A pin can't be made again before its scope is closed: what a scope with a pin costs more, and an empty turn, make its turn. The bare table lies
-in an Arc too, as threads share it.
+close. A pin can't be made again before its scope is closed: what a scope with a pin costs more, and an empty turn, make its turn. Nor can a naming, by which
+an object stays where it lies, before its owner has asked for a move and the book has seen that (`ask`): what the three cost more than those two, and an
+empty turn, make its turn. The bare table lies in an Arc too, as threads share it.
 """
 import pathlib
 import re
@@ -39,7 +40,8 @@ def a_turn(program, work):
 
 def measured(program):
     works = ["read_epoch", "scope", "pin", "place", "load", "store"]
-    works += ["empty"] + [f"bare_{step}" for step in ("load", "store", "or", "scope", "pin")]
+    works += ["see", "mark", "clear", "get", "put", "ask", "name", "advance", "look"]
+    works += ["empty"] + [f"bare_{step}" for step in ("load", "store", "or", "and", "exchange", "scope", "pin")]
     return {work: a_turn(program, work) for work in works}
 
 
@@ -60,6 +62,14 @@ def main():
         ("read_epoch, open, pin and close", cost["pin"], cost["bare_pin"]),
         ("load", cost["load"], cost["bare_load"]),
         ("store", cost["store"], cost["bare_store"]),
+        ("the book's see", cost["see"], cost["bare_load"]),
+        ("mark", cost["mark"], cost["bare_or"]),
+        ("clear", cost["clear"], cost["bare_and"]),
+        ("get", cost["get"], cost["bare_load"]),
+        ("put", cost["put"], cost["bare_store"]),
+        ("name", cost["name"] - cost["ask"] + empty, cost["bare_exchange"]),
+        ("advance", cost["advance"], cost["bare_exchange"]),
+        ("look", cost["look"], cost["bare_load"]),
     ]
     print(f"Instructions a turn, {TURNS:,} turns; an empty turn has {empty:g}:\n")
     print("| Turn | A seat's | Bare | Ratio |")

@@ -1,1 +1,2 @@
+pub mod Hands
 pub mod States

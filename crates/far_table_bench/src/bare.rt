@@ -59,6 +59,22 @@ impl Bare {
         let Bare { table, seat } = self;
         table.shared.fetch_or::<Nothing>(seat, word as usize, bits)
     }
+
+    fn fetch_and(&mut self, word: u16, bits: u64) -> u64
+        requires { word < 9242 }
+    {
+        let Bare { table, seat } = self;
+        table.shared.fetch_and::<Nothing>(seat, word as usize, bits)
+    }
+
+    fn compare_exchange(&mut self, word: u16, old: u64, new: u64) -> u64
+        requires { word < 9242 }
+    {
+        let Bare { table, seat } = self;
+        table
+            .shared
+            .compare_exchange::<Nothing>(seat, word as usize, old, new)
+    }
 }
 
 /// Nothing: what a turn costs by itself.
@@ -107,6 +123,30 @@ pub(crate) struct Ors {
 impl Turn for Ors {
     fn turn(&mut self, index: u16, _word: u64) -> u64 {
         self.bare.fetch_or(index, 1 << 62)
+    }
+}
+
+/// A fetch-and.
+#[derive(Drop)]
+pub(crate) struct Ands {
+    pub bare: Bare,
+}
+
+impl Turn for Ands {
+    fn turn(&mut self, index: u16, _word: u64) -> u64 {
+        self.bare.fetch_and(index, !(1 << 61))
+    }
+}
+
+/// A compare-exchange.
+#[derive(Drop)]
+pub(crate) struct Exchanges {
+    pub bare: Bare,
+}
+
+impl Turn for Exchanges {
+    fn turn(&mut self, index: u16, word: u64) -> u64 {
+        self.bare.compare_exchange(index, word, word)
     }
 }
 

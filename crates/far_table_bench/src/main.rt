@@ -1,25 +1,30 @@
-//! Makes a call of an owner's seat many times, or the same atomic operation on a bare table, so that what a call costs can be counted.
+//! Makes a call of a seat, an owner's or the book's, many times, or the same atomic operation on a bare table, so that what a call costs can be counted.
 #![tactic(auto)]
 
 ghost use Rattle.std.specs.Prelude.{◌<◌};
 ghost use Rattle.far_table_bench.specs.States.{IsIdle};
 
 mod bare;
+mod hand;
+mod making;
 mod owner;
 mod turn;
 
 use bare::Bare;
 use far_word::Refused;
-use owner::{Owner, made, views};
+use hand::{Asks, Hand};
+use making::made;
+use owner::{Owner, views};
 use std::alloc::{AllocError, Global};
 use std::process::ExitCode;
 use std::{env, io};
 use turn::turns;
 
-// What is done: a call of a seat, or an operation on a bare table.
+// What is done: a call of an owner's seat, one of the book's, or an operation on a bare table.
 #[derive(Clone, Copy)]
 enum Work {
     Seat(Call),
+    Book(Deed),
     Bare(Step),
 }
 
@@ -35,11 +40,26 @@ enum Call {
 }
 
 #[derive(Clone, Copy)]
+enum Deed {
+    See,
+    Mark,
+    Clear,
+    Get,
+    Put,
+    Ask,
+    Name,
+    Advance,
+    Look,
+}
+
+#[derive(Clone, Copy)]
 enum Step {
     Empty,
     Load,
     Store,
     Or,
+    And,
+    Exchange,
     Scope,
     Pin,
 }
@@ -53,10 +73,21 @@ fn named(name: &str) -> Option<Work> {
         "place" => Work::Seat(Call::Place),
         "load" => Work::Seat(Call::Load),
         "store" => Work::Seat(Call::Store),
+        "see" => Work::Book(Deed::See),
+        "mark" => Work::Book(Deed::Mark),
+        "clear" => Work::Book(Deed::Clear),
+        "get" => Work::Book(Deed::Get),
+        "put" => Work::Book(Deed::Put),
+        "ask" => Work::Book(Deed::Ask),
+        "name" => Work::Book(Deed::Name),
+        "advance" => Work::Book(Deed::Advance),
+        "look" => Work::Book(Deed::Look),
         "empty" => Work::Bare(Step::Empty),
         "bare_load" => Work::Bare(Step::Load),
         "bare_store" => Work::Bare(Step::Store),
         "bare_or" => Work::Bare(Step::Or),
+        "bare_and" => Work::Bare(Step::And),
+        "bare_exchange" => Work::Bare(Step::Exchange),
         "bare_scope" => Work::Bare(Step::Scope),
         "bare_pin" => Work::Bare(Step::Pin),
         _ => return None,
@@ -103,6 +134,38 @@ fn on_seat(owner: Owner, call: Call, task: Task) -> Option<u64>
     Some(last)
 }
 
+fn asks_of(hand: Hand, owner: Owner) -> Asks
+    requires { IsIdle owner.seat.view owner.pointer }
+{
+    Asks {
+        hand,
+        owner,
+        found: 0,
+        plain: 0,
+    }
+}
+
+fn on_book(hand: Hand, owner: Owner, deed: Deed, task: Task) -> u64
+    requires idle { IsIdle owner.seat.view owner.pointer }
+    requires inside { task.index < 8 }
+{
+    let (index, count) = (task.index, task.turns);
+    match deed {
+        Deed::See => turns(&mut hand::Sees { hand }, index, count),
+        Deed::Mark => turns(&mut hand::Marks { hand }, index, count),
+        Deed::Clear => turns(&mut hand::Clears { hand }, index, count),
+        Deed::Get => turns(&mut hand::Gets { hand }, index, count),
+        Deed::Put => turns(&mut hand::Puts { hand }, index, count),
+        Deed::Ask => turns(&mut asks_of(hand, owner), index, count),
+        Deed::Name => {
+            let asks = asks_of(hand, owner);
+            turns(&mut hand::Names { asks }, index, count)
+        }
+        Deed::Advance => turns(&mut hand::Advances { hand }, index, count),
+        Deed::Look => turns(&mut hand::Looks { hand }, index, count),
+    }
+}
+
 fn on_bare(alloc: Global, step: Step, task: Task) -> Result<u64, AllocError>
     requires { task.index < 8 }
 {
@@ -112,6 +175,8 @@ fn on_bare(alloc: Global, step: Step, task: Task) -> Result<u64, AllocError>
         Step::Load => turns(&mut bare::Loads { bare }, task.index, task.turns),
         Step::Store => turns(&mut bare::Stores { bare }, task.index, task.turns),
         Step::Or => turns(&mut bare::Ors { bare }, task.index, task.turns),
+        Step::And => turns(&mut bare::Ands { bare }, task.index, task.turns),
+        Step::Exchange => turns(&mut bare::Exchanges { bare }, task.index, task.turns),
         Step::Scope => turns(&mut bare::Scopes { bare }, task.index, task.turns),
         Step::Pin => turns(&mut bare::Pins { bare }, task.index, task.turns),
     };
@@ -129,10 +194,16 @@ fn done(alloc: Global, task: Task) -> Result<Option<u64>, Refused> {
             Err(_) => Err(Refused::Memory),
         },
         Work::Seat(call) => {
-            let Some(owner) = made(alloc, task.pointer)? else {
+            let Some((_hand, owner)) = made(alloc, task.pointer)? else {
                 return Ok(None);
             };
             Ok(on_seat(owner, call, task))
+        }
+        Work::Book(deed) => {
+            let Some((hand, owner)) = made(alloc, task.pointer)? else {
+                return Ok(None);
+            };
+            Ok(Some(on_book(hand, owner, deed, task)))
         }
     }
 }
