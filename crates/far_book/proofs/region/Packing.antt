@@ -31,6 +31,14 @@ module _ (bs : List ℕ) (i m : ℕ) (inside : 8 * i < length bs) where
     | inr past ↦ get_or_past (take m behind) k 0 (omega (arith, part_length least)) ∙ sym (get_or_past bs (8 * i + k) 0 (omega (arith, least, rest_length)))
   ])
 
+-- the same of eight bytes that are there
+module _ (bs : List ℕ) (i m : ℕ) (eight : m ≡ 8) (inside : 8 * i + 8 ≤ length bs) where
+  pub whole_length : length (take m (drop (8 * i) bs)) ≡ 8
+  whole_length = length-take-le m (drop (8 * i) bs) (omega (arith, eight, length-drop (8 * i) bs)) ∙ eight
+
+  pub packs_whole : packed_word (take m (drop (8 * i) bs)) 0 ≡ packed_word bs i
+  packs_whole = packs_part bs (take m (drop (8 * i) bs)) i (λ k lt. get_or-take m (drop (8 * i) bs) k 0 (omega (arith, eight)) ∙ get_or-drop (8 * i) bs k 0)
+
 -- a word of eight bytes is 64 bits wide
 word_wide : (byte : ℕ → ℕ) (i : ℕ) → ((k : ℕ) → byte k < 256) → word_at byte i < 2 ^ 64
 word_wide byte i small = omega (arith, small (8 * i), small (8 * i + 1), small (8 * i + 2), small (8 * i + 3), small (8 * i + 4), small (8 * i + 5), small (8 * i + 6), small (8 * i + 7))

@@ -1,6 +1,6 @@
 //! How a far object comes near.
 
-ghost use Rattle.std.specs.Prelude.{◌≡◌, ◌*◌, ◌^◌, ◌<◌, ℕ, true, None, Some, length, Ok, IfOk, IfErr, IfSome, IfNone};
+ghost use Rattle.std.specs.Prelude.{◌≡◌, ◌+◌, ◌*◌, ◌^◌, ◌<◌, ◌≤◌, ℕ, true, None, Some, length, Ok, IfOk, IfErr, IfSome, IfNone};
 ghost use Rattle.far_word.specs.declared.pointer.PtrWord.TheVariants.{Near as near_at};
 ghost use Rattle.far_word.specs.declared.refused.Refused.TheVariants as refused;
 ghost use Rattle.far_word.specs.declared.sizes.TheConstants.{CELLS};
@@ -143,9 +143,28 @@ fn put_object<N: Near>(near: &mut N, pointer: u16, len: u16, ds: u8, place: Plac
 {
     let header = HeadWord { pointer, len, ds };
     near.put(place.log, place.at, header.pack());
-    for i in 0..words_for(len) {
-        near.put(place.log, place.at + 1 + i, packed(bytes, i as usize));
+    let whole = len / 8;
+    for i in 0..whole {
+        near.put(place.log, place.at + 1 + i, packed_whole(bytes, i as usize));
     }
+    if whole < words_for(len) {
+        near.put(
+            place.log,
+            place.at + 1 + whole,
+            packed(bytes, whole as usize),
+        );
+    }
+}
+
+// The word of the eight bytes from 8i on.
+#[inline(always)]
+fn packed_whole(bytes: &[u8], i: usize) -> u64
+    requires { 8 * i + 8 ≤ length bytes.now }
+    ensures { result ≡ packed_word bytes.now i }
+{
+    let mut word = [0];
+    pack_bytes(&bytes[8 * i..8 * i + 8], &mut word);
+    word[0]
 }
 
 // The word of the eight bytes from 8i on, or of those that are left.
