@@ -21,10 +21,10 @@ pub invariant_of-self-2 : goal.invariant_of-self-2
 invariant_of-self-2 g c =
     let s = c.self.inside in
     let p : ℕ = c.args.p in
-    let n : ℕ = c.said.result.0 in
+    let n : ℕ = c.said-len.result.0 in
     let own = eqb-true (p / CELLS) s.seat.view.number (subst (λ (m : Mine). owns m p ≡ true) (sym c.self.view_is) c.requires.own) in
     let made = c.in-Some.ensures.adopted in
-    let is = adopted_len c.in-Some.word n (adopted_fits _ _ p c.in-Some.word made.1) (adopted_used _ _ p c.in-Some.word made.1) c.said.ensures.len in
+    let is = adopted_len c.in-Some.word n (adopted_fits _ _ p c.in-Some.word made.1) (adopted_used _ _ p c.in-Some.word made.1) c.said-len.ensures.len in
     subst (λ (t : Seated). OwnOk t _ s.number (slice_set s.lens.items (p % CELLS) n) s.stamps.items s.scope) (sym (seated_is c.adopt.new.self s.seat.table _ c.adopt.ensures.table made.0))
     (adopted_ok s.seat _ s.number s.lens.items s.stamps.items s.scope c.self.invariant p (own ∙ c.self.invariant.number_is) c.in-Some.word n is)
 
@@ -32,12 +32,12 @@ pub returns-clause-adopted : goal.returns-clause-adopted
 returns-clause-adopted g c =
     let s = c.self.inside in
     let p : ℕ = c.args.p in
-    let n : ℕ = c.said.result.0 in
+    let n : ℕ = c.said-len.result.0 in
     let own = eqb-true (p / CELLS) s.seat.view.number (subst (λ (m : Mine). owns m p ≡ true) (sym c.self.view_is) c.requires.own) in
     let made = c.in-Some.ensures.adopted in
-    let is = adopted_len c.in-Some.word n (adopted_fits _ _ p c.in-Some.word made.1) (adopted_used _ _ p c.in-Some.word made.1) c.said.ensures.len in (
+    let is = adopted_len c.in-Some.word n (adopted_fits _ _ p c.in-Some.word made.1) (adopted_used _ _ p c.in-Some.word made.1) c.said-len.ensures.len in (
       is.1,
       is.2,
       ap mine_of (seated_is c.adopt.new.self s.seat.table _ c.adopt.ensures.table made.0)
-          ∙ adopted_mine s.seat _ s.number s.lens.items s.stamps.items s.scope c.self.invariant p (own ∙ c.self.invariant.number_is) c.in-Some.word n c.said.result.1 is.0 c.said.ensures.ds ∙ ap (adopting p n c.said.result.1) c.self.view_is,
+          ∙ adopted_mine s.seat _ s.number s.lens.items s.stamps.items s.scope c.self.invariant p (own ∙ c.self.invariant.number_is) c.in-Some.word n c.said-len.result.1 is.0 c.said-len.ensures.ds ∙ ap (adopting p n c.said-len.result.1) c.self.view_is,
     )
