@@ -195,6 +195,15 @@ whole_read f first i w bs buf fits word found before k lt =
           ∙ ap (byte_at (λ _. w)) at ∙ in_row f w (first + i) (8 * first + k) found (omega arith))
     ]
 
+-- ---- whole words, some at a time
+-- some more are loaded
+pub part_read : (f : ℕ → ℕ) (from next at n : ℕ) (bs buf : List ℕ) → at + n ≤ length bs → next ≡ from + at → length buf ≡ n → ((k : ℕ) → k < at → get_or bs k 0 ≡ byte_at f (from + k)) → HasBytes f next buf →
+    (k : ℕ) → k < at + n → get_or (put_mid at n bs buf) k 0 ≡ byte_at f (from + k)
+part_read f from next at n bs buf fits there long before here k lt = elim (cases_lt k at) [
+  | inl low ↦ put_below at n bs buf long fits k low ∙ before k low
+  | inr high ↦ (let e : next + (k - at) ≡ from + k = omega arith in put_inside at n bs buf long fits k high lt ∙ (here (k - at) (omega arith) ∙ ap (byte_at f) e))
+]
+
 -- ---- what is held stays so
 pub places_wrote : (p from : ℕ) (bytes places : List ℕ) (o o' : OwnerView) → Wrote p from bytes o o' → HasPlaces o places → HasPlaces o' places
 places_wrote p from bytes places o o' w has q place h =
