@@ -192,6 +192,81 @@ fn load_all<D: Device>(
     }
 }
 
+// Stores so many words of an object that a seat holds, whose words begin at this address.
+#[inline(always)]
+fn store_some<D: Device>(
+    shared: &Shared<u64, View, Plan<D>, FarRule>,
+    seat: &mut Seat<u64, View>,
+    places: &Vec<u16>,
+    p: u16,
+    begin: usize,
+    first: usize,
+    count: usize,
+    bytes: &[u8],
+)
+    requires table { (seat.old.table_id ≡ shared.now.table_id) × (seat.old.table_id.words ≡ TABLE_WORDS) }
+    requires owner { seat.old.me.0 ≡ Owner (owner_of seat.old.me.0) }
+    requires places { HasPlaces (owner_of seat.old.me.0) places.now.items }
+    requires begin { begin ≡ slice_index places.now.items (p % CELLS) }
+    requires held { IsSome (held_at (owner_of seat.old.me.0) p) }
+    requires short { len_of (object_at (owner_of seat.old.me.0) p) ≤ LONGEST }
+    requires inside { 8 * first + length bytes.now ≤ len_of (object_at (owner_of seat.old.me.0) p) }
+    requires count { length bytes.now ≡ 8 * count }
+    ensures table { seat.new.table_id ≡ seat.old.table_id }
+    ensures owner { seat.new.me.0 ≡ Owner (owner_of seat.new.me.0) }
+    ensures wrote { Wrote p (8 * first) bytes.now (owner_of seat.old.me.0) (owner_of seat.new.me.0) }
+{
+    let _places = places;
+    for i in 0..count {
+        let at = begin + (first + i) + layout::LOGS;
+        let word = LittleEndian::read_u64(&bytes[8 * i..]);
+        shared.store::<rule::Store>(seat, at, word);
+    }
+}
+
+// Stores words by eight, since a loop of so many is none for the machine, and the rest one by one. It is a call, so that what has few words
+// is done where it is asked for.
+#[inline(never)]
+fn store_long<D: Device>(
+    shared: &Shared<u64, View, Plan<D>, FarRule>,
+    seat: &mut Seat<u64, View>,
+    places: &Vec<u16>,
+    p: u16,
+    begin: usize,
+    first: usize,
+    bytes: &[u8],
+)
+    requires table { (seat.old.table_id ≡ shared.now.table_id) × (seat.old.table_id.words ≡ TABLE_WORDS) }
+    requires owner { seat.old.me.0 ≡ Owner (owner_of seat.old.me.0) }
+    requires places { HasPlaces (owner_of seat.old.me.0) places.now.items }
+    requires begin { begin ≡ slice_index places.now.items (p % CELLS) }
+    requires held { IsSome (held_at (owner_of seat.old.me.0) p) }
+    requires short { len_of (object_at (owner_of seat.old.me.0) p) ≤ LONGEST }
+    requires inside { 8 * first + length bytes.now ≤ len_of (object_at (owner_of seat.old.me.0) p) }
+    requires whole { length bytes.now % 8 ≡ 0 }
+    ensures table { seat.new.table_id ≡ seat.old.table_id }
+    ensures owner { seat.new.me.0 ≡ Owner (owner_of seat.new.me.0) }
+    ensures wrote { Wrote p (8 * first) bytes.now (owner_of seat.old.me.0) (owner_of seat.new.me.0) }
+{
+    let blocks = bytes.len() / 64;
+    for block in 0..blocks {
+        let part = &bytes[64 * block..64 * block + 64];
+        store_some::<D>(shared, seat, places, p, begin, first + 8 * block, 8, part);
+    }
+    let rest = bytes.len() / 8 - 8 * blocks;
+    let part = &bytes[64 * blocks..];
+    store_some::<D>(
+        shared,
+        seat,
+        places,
+        p,
+        begin,
+        first + 8 * blocks,
+        rest,
+        part,
+    );
+}
+
 // Stores whole words of an object that a seat holds, where the list says at which address the object's words begin.
 #[inline(always)]
 fn store_all<D: Device>(
@@ -214,11 +289,12 @@ fn store_all<D: Device>(
     ensures wrote { Wrote p (8 * first) bytes.now (owner_of seat.old.me.0) (owner_of seat.new.me.0) }
 {
     let begin = places[(p % CELLS) as usize] as usize;
-    let count = bytes.len() / 8;
-    for i in 0..count {
-        let at = begin + (first as usize + i) + layout::LOGS;
-        let word = LittleEndian::read_u64(&bytes[8 * i..]);
-        shared.store::<rule::Store>(seat, at, word);
+    let first = first as usize;
+    if bytes.len() < 64 {
+        let count = bytes.len() / 8;
+        store_some::<D>(shared, seat, places, p, begin, first, count, bytes);
+    } else {
+        store_long::<D>(shared, seat, places, p, begin, first, bytes);
     }
 }
 
