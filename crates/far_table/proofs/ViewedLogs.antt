@@ -1,10 +1,7 @@
 -- A log in which a place is held isn't given out.
-use Rattle.std.proofs.Common.{◌≡◌, ◌≢◌, ℕ, true, Some, sym, refl, ap, ◌∙◌, subst}
+use Rattle.std.proofs.Common.{◌≡◌, ℕ, Some, refl}
 use Rattle.far_word.specs.declared.pointer.Place.{Place}
-use Rattle.far_core.specs.declared.event.Event.{Event}
-use Rattle.far_core.specs.declared.event.Kind.TheVariants.{Free}
-use Rattle.far_core.specs.events.Legal.{Legal}
-use Rattle.far_core.specs.events.Step.{Fits, after, answer}
+use Rattle.far_core.specs.events.Step.{after, answer}
 use Rattle.far_core.specs.state.Law.{Law}
 use Rattle.far_core.specs.state.State.{State}
 use Rattle.far_core.specs.world.WorldOf.{world_of}

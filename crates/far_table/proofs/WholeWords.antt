@@ -201,6 +201,27 @@ whole_read f first i w bs buf fits word found before k lt =
           ∙ ap (byte_at (λ _. w)) at ∙ in_row f w (first + i) (8 * first + k) found (omega arith))
     ]
 
+-- ---- whole words, some at a time
+-- some more are loaded
+pub part_read : (f : ℕ → ℕ) (from next at n : ℕ) (bs buf : List ℕ) → at + n ≤ length bs → next ≡ from + at → length buf ≡ n → ((k : ℕ) → k < at → get_or bs k 0 ≡ byte_at f (from + k)) → HasBytes f next buf →
+    (k : ℕ) → k < at + n → get_or (put_mid at n bs buf) k 0 ≡ byte_at f (from + k)
+part_read f from next at n bs buf fits there long before here k lt = elim (cases_lt k at) [
+  | inl low ↦ put_below at n bs buf long fits k low ∙ before k low
+  | inr high ↦ (let e : next + (k - at) ≡ from + k = omega arith in put_inside at n bs buf long fits k high lt ∙ (here (k - at) (omega arith) ∙ ap (byte_at f) e))
+]
+
+-- some more are stored
+pub part_wrote : (p from next at n : ℕ) (bs ys zs : List ℕ) (o u v : OwnerView) → at + n ≤ length bs → from + length bs ≤ len_of (object_at o p) → next ≡ from + at → ys ≡ take n (drop at bs) →
+    length zs ≡ at + n → ((k : ℕ) → k < at + n → get_or zs k 0 ≡ get_or bs k 0) → Wrote p from (take at bs) o u → Wrote p next ys u v → Wrote p from zs o v
+part_wrote p from next at n bs ys zs o u v fits room there part all same before last =
+    let low : length (take at bs) ≡ at = length-take-le at bs (omega arith) in
+    let long : length ys ≡ n = ap length part ∙ length-take-le n (drop at bs) (omega (arith, length-drop at bs)) in
+    wrote_join p from next (take at bs) ys zs o u v (omega arith) (omega arith) (omega arith)
+    (λ k lt. same k (omega arith) ∙ sym (get_or-take at bs k 0 (omega arith)))
+    (λ k lt. let e : length (take at bs) + k ≡ at + k = omega arith in ap (λ q. get_or zs q 0) e ∙ same (at + k) (omega arith)
+    ∙ sym (ap (λ xs. get_or xs k 0) part ∙ get_or-take n (drop at bs) k 0 (omega arith) ∙ get_or-drop at bs k 0))
+    before last
+
 -- ---- what is held stays so
 pub places_wrote : (p from : ℕ) (bytes places : List ℕ) (o o' : OwnerView) → Wrote p from bytes o o' → HasPlaces o places → HasPlaces o' places
 places_wrote p from bytes places o o' w has q place h =

@@ -1,5 +1,5 @@
 // An owner's seat.
-ghost use Rattle.std.specs.Prelude.{◌≡◌, ◌+◌, ◌-◌, ◌*◌, ◌/◌, ◌%◌, ◌^◌, ◌<◌, ◌≤◌, true, length, map, None, IsSome, IfOk, IfErr, IfSome};
+ghost use Rattle.std.specs.Prelude.{◌≡◌, ◌+◌, ◌-◌, ◌*◌, ◌/◌, ◌%◌, ◌^◌, ◌<◌, ◌≤◌, true, length, map, slice_index, None, IsSome, IfOk, IfErr, IfSome};
 ghost use Rattle.std.specs.Arc.{arc_value};
 ghost use Rattle.far_core.specs.declared.event.Event.{Event as any_event};
 ghost use Rattle.far_core.specs.declared.event.Reply.{Reply as any_reply};
@@ -86,6 +86,81 @@ fn places_of(alloc: Global, core: &Core, number: u8) -> Result<Vec<u16>, AllocEr
     Ok(places)
 }
 
+// Loads so many words of an object that a seat holds, whose words begin at this address.
+#[inline(always)]
+fn load_some<D: Device>(
+    shared: &Shared<u64, View, Plan<D>, FarRule>,
+    seat: &mut Seat<u64, View>,
+    places: &Vec<u16>,
+    p: u16,
+    begin: usize,
+    first: usize,
+    count: usize,
+    out: &mut [u8],
+)
+    requires table { (seat.old.table_id ≡ shared.now.table_id) × (seat.old.table_id.words ≡ TABLE_WORDS) }
+    requires owner { seat.old.me.0 ≡ Owner (owner_of seat.old.me.0) }
+    requires places { HasPlaces (owner_of seat.old.me.0) places.now.items }
+    requires begin { begin ≡ slice_index places.now.items (p % CELLS) }
+    requires held { IsSome (held_at (owner_of seat.old.me.0) p) }
+    requires short { len_of (object_at (owner_of seat.old.me.0) p) ≤ LONGEST }
+    requires inside { 8 * first + length out.old ≤ len_of (object_at (owner_of seat.old.me.0) p) }
+    requires count { length out.old ≡ 8 * count }
+    ensures table { seat.new.table_id ≡ seat.old.table_id }
+    ensures view { seat.new.me.0 ≡ seat.old.me.0 }
+    ensures bytes { (owner_of seat.old.me.0).honest ≡ true → HasBytes (word_in_view (object_at (owner_of seat.old.me.0) p)) (8 * first) out.new }
+{
+    let _places = places;
+    for i in 0..count {
+        let at = begin + (first + i) + layout::LOGS;
+        let word = shared.load::<rule::Load>(seat, at);
+        LittleEndian::write_u64(&mut out[8 * i..], word);
+    }
+}
+
+// Loads words by eight, since a loop of so many is none for the machine, and the rest one by one. It is a call, so that what has few words
+// is done where it is asked for.
+#[inline(never)]
+fn load_long<D: Device>(
+    shared: &Shared<u64, View, Plan<D>, FarRule>,
+    seat: &mut Seat<u64, View>,
+    places: &Vec<u16>,
+    p: u16,
+    begin: usize,
+    first: usize,
+    out: &mut [u8],
+)
+    requires table { (seat.old.table_id ≡ shared.now.table_id) × (seat.old.table_id.words ≡ TABLE_WORDS) }
+    requires owner { seat.old.me.0 ≡ Owner (owner_of seat.old.me.0) }
+    requires places { HasPlaces (owner_of seat.old.me.0) places.now.items }
+    requires begin { begin ≡ slice_index places.now.items (p % CELLS) }
+    requires held { IsSome (held_at (owner_of seat.old.me.0) p) }
+    requires short { len_of (object_at (owner_of seat.old.me.0) p) ≤ LONGEST }
+    requires inside { 8 * first + length out.old ≤ len_of (object_at (owner_of seat.old.me.0) p) }
+    requires whole { length out.old % 8 ≡ 0 }
+    ensures table { seat.new.table_id ≡ seat.old.table_id }
+    ensures view { seat.new.me.0 ≡ seat.old.me.0 }
+    ensures bytes { (owner_of seat.old.me.0).honest ≡ true → HasBytes (word_in_view (object_at (owner_of seat.old.me.0) p)) (8 * first) out.new }
+{
+    let blocks = out.len() / 64;
+    for block in 0..blocks {
+        let part = &mut out[64 * block..64 * block + 64];
+        load_some::<D>(shared, seat, places, p, begin, first + 8 * block, 8, part);
+    }
+    let rest = out.len() / 8 - 8 * blocks;
+    let part = &mut out[64 * blocks..];
+    load_some::<D>(
+        shared,
+        seat,
+        places,
+        p,
+        begin,
+        first + 8 * blocks,
+        rest,
+        part,
+    );
+}
+
 // Loads whole words of an object that a seat holds, where the list says at which address the object's words begin.
 #[inline(always)]
 fn load_all<D: Device>(
@@ -108,12 +183,88 @@ fn load_all<D: Device>(
     ensures bytes { (owner_of seat.old.me.0).honest ≡ true → HasBytes (word_in_view (object_at (owner_of seat.old.me.0) p)) (8 * first) out.new }
 {
     let begin = places[(p % CELLS) as usize] as usize;
-    let count = out.len() / 8;
-    for i in 0..count {
-        let at = begin + (first as usize + i) + layout::LOGS;
-        let word = shared.load::<rule::Load>(seat, at);
-        LittleEndian::write_u64(&mut out[8 * i..], word);
+    let first = first as usize;
+    if out.len() < 64 {
+        let count = out.len() / 8;
+        load_some::<D>(shared, seat, places, p, begin, first, count, out);
+    } else {
+        load_long::<D>(shared, seat, places, p, begin, first, out);
     }
+}
+
+// Stores so many words of an object that a seat holds, whose words begin at this address.
+#[inline(always)]
+fn store_some<D: Device>(
+    shared: &Shared<u64, View, Plan<D>, FarRule>,
+    seat: &mut Seat<u64, View>,
+    places: &Vec<u16>,
+    p: u16,
+    begin: usize,
+    first: usize,
+    count: usize,
+    bytes: &[u8],
+)
+    requires table { (seat.old.table_id ≡ shared.now.table_id) × (seat.old.table_id.words ≡ TABLE_WORDS) }
+    requires owner { seat.old.me.0 ≡ Owner (owner_of seat.old.me.0) }
+    requires places { HasPlaces (owner_of seat.old.me.0) places.now.items }
+    requires begin { begin ≡ slice_index places.now.items (p % CELLS) }
+    requires held { IsSome (held_at (owner_of seat.old.me.0) p) }
+    requires short { len_of (object_at (owner_of seat.old.me.0) p) ≤ LONGEST }
+    requires inside { 8 * first + length bytes.now ≤ len_of (object_at (owner_of seat.old.me.0) p) }
+    requires count { length bytes.now ≡ 8 * count }
+    ensures table { seat.new.table_id ≡ seat.old.table_id }
+    ensures owner { seat.new.me.0 ≡ Owner (owner_of seat.new.me.0) }
+    ensures wrote { Wrote p (8 * first) bytes.now (owner_of seat.old.me.0) (owner_of seat.new.me.0) }
+{
+    let _places = places;
+    for i in 0..count {
+        let at = begin + (first + i) + layout::LOGS;
+        let word = LittleEndian::read_u64(&bytes[8 * i..]);
+        shared.store::<rule::Store>(seat, at, word);
+    }
+}
+
+// Stores words by eight, since a loop of so many is none for the machine, and the rest one by one. It is a call, so that what has few words
+// is done where it is asked for.
+#[inline(never)]
+fn store_long<D: Device>(
+    shared: &Shared<u64, View, Plan<D>, FarRule>,
+    seat: &mut Seat<u64, View>,
+    places: &Vec<u16>,
+    p: u16,
+    begin: usize,
+    first: usize,
+    bytes: &[u8],
+)
+    requires table { (seat.old.table_id ≡ shared.now.table_id) × (seat.old.table_id.words ≡ TABLE_WORDS) }
+    requires owner { seat.old.me.0 ≡ Owner (owner_of seat.old.me.0) }
+    requires places { HasPlaces (owner_of seat.old.me.0) places.now.items }
+    requires begin { begin ≡ slice_index places.now.items (p % CELLS) }
+    requires held { IsSome (held_at (owner_of seat.old.me.0) p) }
+    requires short { len_of (object_at (owner_of seat.old.me.0) p) ≤ LONGEST }
+    requires inside { 8 * first + length bytes.now ≤ len_of (object_at (owner_of seat.old.me.0) p) }
+    requires whole { length bytes.now % 8 ≡ 0 }
+    ensures table { seat.new.table_id ≡ seat.old.table_id }
+    ensures owner { seat.new.me.0 ≡ Owner (owner_of seat.new.me.0) }
+    ensures wrote { Wrote p (8 * first) bytes.now (owner_of seat.old.me.0) (owner_of seat.new.me.0) }
+{
+    let blocks = bytes.len() / 64;
+    for block in 0..blocks {
+        let part = &bytes[64 * block..64 * block + 64];
+        store_some::<D>(shared, seat, places, p, begin, first + 8 * block, 8, part);
+    }
+    let rest = bytes.len() / 8 - 8 * blocks;
+    let part = &bytes[64 * blocks..];
+    store_some::<D>(
+        shared,
+        seat,
+        places,
+        p,
+        begin,
+        first + 8 * blocks,
+        rest,
+        part,
+    );
 }
 
 // Stores whole words of an object that a seat holds, where the list says at which address the object's words begin.
@@ -138,11 +289,12 @@ fn store_all<D: Device>(
     ensures wrote { Wrote p (8 * first) bytes.now (owner_of seat.old.me.0) (owner_of seat.new.me.0) }
 {
     let begin = places[(p % CELLS) as usize] as usize;
-    let count = bytes.len() / 8;
-    for i in 0..count {
-        let at = begin + (first as usize + i) + layout::LOGS;
-        let word = LittleEndian::read_u64(&bytes[8 * i..]);
-        shared.store::<rule::Store>(seat, at, word);
+    let first = first as usize;
+    if bytes.len() < 64 {
+        let count = bytes.len() / 8;
+        store_some::<D>(shared, seat, places, p, begin, first, count, bytes);
+    } else {
+        store_long::<D>(shared, seat, places, p, begin, first, bytes);
     }
 }
 

@@ -1,6 +1,5 @@
-use Rattle.std.proofs.Common.{◌+◌, ◌*◌, ◌%◌, ◌<◌, ℕ, take, refl, sym, ap, ◌∙◌, subst, arith, Option}
+use Rattle.std.proofs.Common.{◌+◌, ◌*◌, ◌<◌, ℕ, take, refl, sym, ap, ◌∙◌, subst, arith, Option}
 use Rattle.std.specs.Prelude.{IsSome}
-use Rattle.std.proofs.lemmas.Grind.{get_or_default_zero}
 use Rattle.atomic_table.specs.Seated.{TableId}
 use Rattle.far_word.specs.declared.pointer.Place.{Place}
 use Rattle.far_word.specs.Sizes.{words_for}
@@ -10,7 +9,7 @@ use Rattle.far_table.specs.Tells.{owner_of}
 use Rattle.far_table.specs.Views.{held_at, len_of, object_at}
 use Rattle.far_table.proofs.StoreSteps.{store_told, stores_at}
 use Rattle.far_table.proofs.WholeWords.{places_wrote, whole_padding, whole_wrote}
-use Rattle.far_table.proofs.seat.store_all.Goals as goal
+use Rattle.far_table.proofs.seat.store_some.Goals as goal
 
 pub store-requires : goal.store-requires
 store-requires g c =
@@ -19,15 +18,14 @@ store-requires g c =
     let i : ℕ = c.args.first + c.loop-i.i in
     let wrote = c.loop-i.invariant.wrote in
     let len = wrote.len in
-    let long = c.requires.places.0 in
+    let count = c.requires.count in
     let fits = c.requires.inside in
     let held = subst (λ (x : Option Place). IsSome x) (sym (ap (λ (z : OwnerView). held_at z c.args.p) wrote.rest)) c.requires.held in
-    let has = places_wrote c.args.p _ _ c.args.places.now.items o u wrote c.requires.places.1 in
+    let has = places_wrote c.args.p _ _ c.args.places.now.items o u wrote c.requires.places in
     let word : c.args.first + c.loop-i.i < words_for (len_of (object_at (owner_of c.loop-i.seat.me.0) c.args.p)) = omega (arith, len) in
     let padded = whole_padding c.read_u64-word.result (len_of (object_at (owner_of c.loop-i.seat.me.0) c.args.p)) (c.args.first + c.loop-i.i) c.read_u64-word.type_inv (omega (arith, len)) in
-    let read = c.index.ensures ∙ get_or_default_zero c.args.places.now.items (c.args.p % 128) c.index.result.now (omega arith) in
     let w = stores_at {S = ℕ} c.args.shared.now.table_id.slots c.loop-i.seat.id c.loop-i.seat.me c.loop-i.invariant.owner c.args.places.now.items has c.args.p (c.args.first + c.loop-i.i) c.read_u64-word.result
-    held word c.read_u64-word.type_inv padded c.index.result.now read in
+    held word c.read_u64-word.type_inv padded c.args.begin c.requires.begin in
     let words = ap (λ (z : TableId). z.words) (sym c.requires.table.0) ∙ c.requires.table.1 in
     (c.loop-i.invariant.table ∙ c.requires.table.0, omega (arith, w.0, words), w.1)
 
@@ -37,15 +35,14 @@ loop-i-preserved g c =
     let u = owner_of c.loop-i.seat.me.0 in
     let wrote = c.loop-i.invariant.wrote in
     let len = wrote.len in
-    let long = c.requires.places.0 in
+    let count = c.requires.count in
     let fits = c.requires.inside in
     let held = subst (λ (x : Option Place). IsSome x) (sym (ap (λ (z : OwnerView). held_at z c.args.p) wrote.rest)) c.requires.held in
-    let has = places_wrote c.args.p _ _ c.args.places.now.items o u wrote c.requires.places.1 in
+    let has = places_wrote c.args.p _ _ c.args.places.now.items o u wrote c.requires.places in
     let word : c.args.first + c.loop-i.i < words_for (len_of (object_at (owner_of c.loop-i.seat.me.0) c.args.p)) = omega (arith, len) in
     let padded = whole_padding c.read_u64-word.result (len_of (object_at (owner_of c.loop-i.seat.me.0) c.args.p)) (c.args.first + c.loop-i.i) c.read_u64-word.type_inv (omega (arith, len)) in
-    let read = c.index.ensures ∙ get_or_default_zero c.args.places.now.items (c.args.p % 128) c.index.result.now (omega arith) in
     let t = store_told {S = ℕ} c.args.shared.now.table_id.slots c.loop-i.seat.id c.loop-i.seat.me c.loop-i.invariant.owner c.args.places.now.items has c.args.p (c.args.first + c.loop-i.i) c.read_u64-word.result
-    held word c.read_u64-word.type_inv padded c.index.result.now read c.store.new.seat.me c.store.ensures.2 in
+    held word c.read_u64-word.type_inv padded c.args.begin c.requires.begin c.store.new.seat.me c.store.ensures.2 in
     record {
       table = c.store.ensures.0 ∙ c.loop-i.invariant.table;
       owner = t.after_is ∙ ap (λ (z : View). Owner (owner_of z)) (sym t.after_is);

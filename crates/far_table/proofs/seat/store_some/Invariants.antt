@@ -3,7 +3,7 @@ use Rattle.std.proofs.Common.{◌≡◌, ◌*◌, take}
 use Rattle.far_table.specs.View.{Owner}
 use Rattle.far_table.specs.Ranges.{Wrote}
 use Rattle.far_table.specs.Tells.{owner_of}
-use Rattle.far_table.proofs.seat.store_all.Given as goal
+use Rattle.far_table.proofs.seat.store_some.Given as goal
 
 abbrev pub invariant-loop-i : goal.invariant-loop-i
 invariant-loop-i g l = record {

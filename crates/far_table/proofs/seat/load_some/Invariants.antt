@@ -3,7 +3,7 @@ use Rattle.std.proofs.Common.{◌≡◌, ◌+◌, ◌*◌, ◌<◌, ℕ, true, g
 use Rattle.far_word.specs.Bytes.{byte_at}
 use Rattle.far_table.specs.Tells.{owner_of}
 use Rattle.far_table.specs.Views.{object_at, word_in_view}
-use Rattle.far_table.proofs.seat.load_all.Given as goal
+use Rattle.far_table.proofs.seat.load_some.Given as goal
 
 abbrev pub invariant-loop-i : goal.invariant-loop-i
 invariant-loop-i g l = record {

@@ -1,6 +1,5 @@
-use Rattle.std.proofs.Common.{◌≡◌, ◌+◌, ◌%◌, ◌<◌, ℕ, true, sym, ap, ◌∙◌, subst, arith}
+use Rattle.std.proofs.Common.{◌≡◌, ◌+◌, ◌<◌, ℕ, true, sym, ap, ◌∙◌, subst, arith}
 use Rattle.std.specs.Prelude.{IsSome}
-use Rattle.std.proofs.lemmas.Grind.{get_or_default_zero}
 use Rattle.atomic_table.specs.Seated.{TableId}
 use Rattle.far_word.specs.Sizes.{words_for}
 use Rattle.far_table.specs.View.{View, Owner}
@@ -9,29 +8,27 @@ use Rattle.far_table.specs.Tells.{owner_of}
 use Rattle.far_table.specs.Views.{held_at, len_of, object_at, word_in_view}
 use Rattle.far_table.proofs.LoadSteps.{load_told, loads_at}
 use Rattle.far_table.proofs.WholeWords.{whole_read}
-use Rattle.far_table.proofs.seat.load_all.Goals as goal
+use Rattle.far_table.proofs.seat.load_some.Goals as goal
 
 pub load-word-requires : goal.load-word-requires
 load-word-requires g c =
-    let long = c.requires.places.0 in
+    let count = c.requires.count in
     let fits = c.requires.inside in
     let word : c.args.first + c.loop-i.i < words_for (len_of (object_at (owner_of c.args.seat.now.me.0) c.args.p)) = omega arith in
     let q = subst (λ (v : View). (v ≡ Owner (owner_of v)) × HasPlaces (owner_of v) c.args.places.now.items × IsSome (held_at (owner_of v) c.args.p) × (c.args.first + c.loop-i.i < words_for (len_of (object_at (owner_of v) c.args.p))))
-    (sym c.loop-i.invariant.view) (c.requires.owner, c.requires.places.1, c.requires.held, word) in
-    let read = c.index.ensures ∙ get_or_default_zero c.args.places.now.items (c.args.p % 128) c.index.result.now (omega arith) in
-    let w = loads_at {S = ℕ} c.args.shared.now.table_id.slots c.loop-i.seat.id c.loop-i.seat.me q.0 c.args.places.now.items q.1 c.args.p (c.args.first + c.loop-i.i) q.2 q.3 c.index.result.now read in
+    (sym c.loop-i.invariant.view) (c.requires.owner, c.requires.places, c.requires.held, word) in
+    let w = loads_at {S = ℕ} c.args.shared.now.table_id.slots c.loop-i.seat.id c.loop-i.seat.me q.0 c.args.places.now.items q.1 c.args.p (c.args.first + c.loop-i.i) q.2 q.3 c.args.begin c.requires.begin in
     let words = ap (λ (z : TableId). z.words) (sym c.requires.table.0) ∙ c.requires.table.1 in
     (c.loop-i.invariant.table ∙ c.requires.table.0, omega (arith, w.0, words), w.1)
 
 pub loop-i-preserved : goal.loop-i-preserved
 loop-i-preserved g c =
-    let long = c.requires.places.0 in
+    let count = c.requires.count in
     let fits = c.requires.inside in
     let word : c.args.first + c.loop-i.i < words_for (len_of (object_at (owner_of c.args.seat.now.me.0) c.args.p)) = omega arith in
     let q = subst (λ (v : View). (v ≡ Owner (owner_of v)) × HasPlaces (owner_of v) c.args.places.now.items × IsSome (held_at (owner_of v) c.args.p) × (c.args.first + c.loop-i.i < words_for (len_of (object_at (owner_of v) c.args.p))))
-    (sym c.loop-i.invariant.view) (c.requires.owner, c.requires.places.1, c.requires.held, word) in
-    let read = c.index.ensures ∙ get_or_default_zero c.args.places.now.items (c.args.p % 128) c.index.result.now (omega arith) in
-    let t = load_told {S = ℕ} c.args.shared.now.table_id.slots c.loop-i.seat.id c.loop-i.seat.me q.0 c.args.places.now.items q.1 c.args.p (c.args.first + c.loop-i.i) q.2 q.3 c.index.result.now read
+    (sym c.loop-i.invariant.view) (c.requires.owner, c.requires.places, c.requires.held, word) in
+    let t = load_told {S = ℕ} c.args.shared.now.table_id.slots c.loop-i.seat.id c.loop-i.seat.me q.0 c.args.places.now.items q.1 c.args.p (c.args.first + c.loop-i.i) q.2 q.3 c.args.begin c.requires.begin
     c.load-word.result c.load-word.new.seat.me c.load-word.ensures.2 in
     let found = subst (λ (v : View). (owner_of v).honest ≡ true → c.load-word.result ≡ word_in_view (object_at (owner_of v) c.args.p) (c.args.first + c.loop-i.i)) c.loop-i.invariant.view t.0 in
     record {

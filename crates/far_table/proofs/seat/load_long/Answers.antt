@@ -1,0 +1,30 @@
+use Rattle.std.proofs.Common.{◌≡◌, ◌+◌, ◌-◌, ◌*◌, ◌≤◌, ℕ, true, length, drop, sym, ◌∙◌, subst, arith}
+use Rattle.std.proofs.lemmas.List.{length-take-le, length-drop}
+use Rattle.far_table.specs.View.{View}
+use Rattle.far_table.specs.Ranges.{HasBytes}
+use Rattle.far_table.specs.Seats.{HasPlaces}
+use Rattle.far_table.specs.Tells.{owner_of}
+use Rattle.far_table.specs.Views.{object_at, word_in_view}
+use Rattle.far_table.proofs.WholeWords.{part_read}
+use Rattle.far_table.proofs.seat.load_long.Goals as goal
+
+pub load_some-requires-clause-places : goal.load_some-requires-clause-places
+load_some-requires-clause-places g c = subst (λ (v : View). HasPlaces (owner_of v) c.args.places.now.items) (sym c.loop-block.invariant.view) c.requires.places
+
+pub loop-block-preserved : goal.loop-block-preserved
+loop-block-preserved g c =
+    let f : ℕ → ℕ = word_in_view (object_at (owner_of c.args.seat.now.me.0) c.args.p) in
+    let at : ℕ = 64 * c.loop-block.block in
+    let n : ℕ = 64 * c.loop-block.block + 64 - 64 * c.loop-block.block in
+    let next : ℕ = 8 * (c.args.first + 8 * c.loop-block.block) in
+    let same = c.loop-block.auto.out in
+    let below = c.loop-block-test.true in
+    let fits : 64 * c.loop-block.block + (64 * c.loop-block.block + 64 - 64 * c.loop-block.block) ≤ length c.loop-block.out = omega arith in
+    let long : length c.load_some.new.out ≡ n = c.load_some.auto.out ∙ length-take-le n (drop at c.loop-block.out) (omega (arith, length-drop at c.loop-block.out)) in
+    record {
+      table = c.load_some.ensures.table ∙ c.loop-block.invariant.table;
+      view = c.load_some.ensures.view ∙ c.loop-block.invariant.view;
+      bytes = λ h k lt. part_read f (8 * c.args.first) next at n c.loop-block.out c.load_some.new.out fits (omega arith) long (c.loop-block.invariant.bytes h)
+          (subst (λ (v : View). (owner_of v).honest ≡ true → HasBytes (word_in_view (object_at (owner_of v) c.args.p)) (8 * (c.args.first + 8 * c.loop-block.block)) c.load_some.new.out) c.loop-block.invariant.view c.load_some.ensures.bytes h)
+          k (omega arith);
+    }
