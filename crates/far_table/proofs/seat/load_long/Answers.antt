@@ -5,7 +5,7 @@ use Rattle.far_table.specs.Ranges.{HasBytes}
 use Rattle.far_table.specs.Seats.{HasPlaces}
 use Rattle.far_table.specs.Tells.{owner_of}
 use Rattle.far_table.specs.Views.{object_at, word_in_view}
-use Rattle.far_table.proofs.WholeWords.{part_read}
+use Rattle.far_table.proofs.WholeWords.{part_read, places_within}
 use Rattle.far_table.proofs.seat.load_long.Goals as goal
 
 pub load_some-requires-clause-places : goal.load_some-requires-clause-places
@@ -28,3 +28,10 @@ loop-block-preserved g c =
           (subst (λ (v : View). (owner_of v).honest ≡ true → HasBytes (word_in_view (object_at (owner_of v) c.args.p)) (8 * (c.args.first + 8 * c.loop-block.block)) c.load_some.new.out) c.loop-block.invariant.view c.load_some.ensures.bytes h)
           k (omega arith);
     }
+
+-- the remainder is the number itself
+pub load_some-requires-clause-start : goal.load_some-requires-clause-start
+load_some-requires-clause-start g c =
+    let below = c.loop-block-test.true in
+    let within = places_within c.args.p c.args.places.now.items (owner_of c.args.seat.now.me.0) c.requires.places c.requires.held in
+    omega (arith, c.requires.begin, c.requires.inside, within)

@@ -2,7 +2,7 @@ use Rattle.std.proofs.Common.{◌≡◌, ◌+◌, ◌-◌, ◌*◌, ◌/◌, ◌
 use Rattle.std.proofs.lemmas.List.{get_or-take, length-take-le}
 use Rattle.far_table.specs.Ranges.{Wrote}
 use Rattle.far_table.specs.Tells.{owner_of}
-use Rattle.far_table.proofs.WholeWords.{part_wrote, places_wrote}
+use Rattle.far_table.proofs.WholeWords.{part_wrote, places_within, places_wrote}
 use Rattle.far_table.proofs.seat.store_long.Goals as goal
 
 pub store_some-requires-clause-places : goal.store_some-requires-clause-places
@@ -32,3 +32,10 @@ returns-clause-wrote g c =
     part_wrote c.args.p (8 * c.args.first) (8 * (c.args.first + 8 * (length c.args.bytes.now / 64))) (64 * (length c.args.bytes.now / 64)) (length c.args.bytes.now - 64 * (length c.args.bytes.now / 64)) c.args.bytes.now _
     c.args.bytes.now (owner_of c.args.seat.now.me.0) (owner_of c.loop-block.seat.me.0) (owner_of c.store_some-2.new.seat.me.0) (omega arith) c.requires.inside (omega arith) refl
     (omega arith) (λ k lt. refl) before c.store_some-2.ensures.wrote
+
+-- the remainder is the number itself
+pub store_some-requires-clause-start : goal.store_some-requires-clause-start
+store_some-requires-clause-start g c =
+    let below = c.loop-block-test.true in
+    let within = places_within c.args.p c.args.places.now.items (owner_of c.args.seat.now.me.0) c.requires.places c.requires.held in
+    omega (arith, c.requires.begin, c.requires.inside, within)
