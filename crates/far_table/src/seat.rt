@@ -118,7 +118,51 @@ fn load_some<D: Device>(
     }
 }
 
-// Loads words by eight, since a loop of so many is none for the machine, and the rest one by one. By the remainder, which is the number
+// Loads the words that are left over, at most seven: four at one address where there are so many, and the rest one by one.
+#[inline(always)]
+fn load_rest<D: Device>(
+    shared: &Shared<u64, View, Plan<D>, FarRule>,
+    seat: &mut Seat<u64, View>,
+    places: &Vec<u16>,
+    p: u16,
+    start: usize,
+    first: usize,
+    out: &mut [u8],
+)
+    requires table { (seat.old.table_id ≡ shared.now.table_id) × (seat.old.table_id.words ≡ TABLE_WORDS) }
+    requires owner { seat.old.me.0 ≡ Owner (owner_of seat.old.me.0) }
+    requires places { HasPlaces (owner_of seat.old.me.0) places.now.items }
+    requires start { start ≡ slice_index places.now.items (p % CELLS) + first }
+    requires held { IsSome (held_at (owner_of seat.old.me.0) p) }
+    requires short { len_of (object_at (owner_of seat.old.me.0) p) ≤ LONGEST }
+    requires inside { 8 * first + length out.old ≤ len_of (object_at (owner_of seat.old.me.0) p) }
+    requires whole { length out.old % 8 ≡ 0 }
+    ensures table { seat.new.table_id ≡ seat.old.table_id }
+    ensures view { seat.new.me.0 ≡ seat.old.me.0 }
+    ensures bytes { (owner_of seat.old.me.0).honest ≡ true → HasBytes (word_in_view (object_at (owner_of seat.old.me.0) p)) (8 * first) out.new }
+{
+    let count = out.len() / 8;
+    if count < 4 {
+        load_some::<D>(shared, seat, places, p, start, first, count, out);
+        return;
+    }
+    let at = start % layout::WORDS_OF_LOGS;
+    let four = &mut out[0..32];
+    load_some::<D>(shared, seat, places, p, at, first, 4, four);
+    let left = &mut out[32..];
+    load_some::<D>(
+        shared,
+        seat,
+        places,
+        p,
+        start + 4,
+        first + 4,
+        count - 4,
+        left,
+    );
+}
+
+// Loads words by eight, since a loop of so many is none for the machine, and then the rest. By the remainder, which is the number
 // itself, eight words have one address. It is a call, so that what has few words is done where it is asked for.
 #[inline(never)]
 fn load_long<D: Device>(
@@ -148,18 +192,9 @@ fn load_long<D: Device>(
         let part = &mut out[64 * block..64 * block + 64];
         load_some::<D>(shared, seat, places, p, start, first + 8 * block, 8, part);
     }
-    let rest = out.len() / 8 - 8 * blocks;
-    let part = &mut out[64 * blocks..];
-    load_some::<D>(
-        shared,
-        seat,
-        places,
-        p,
-        begin + (first + 8 * blocks),
-        first + 8 * blocks,
-        rest,
-        part,
-    );
+    let left = &mut out[64 * blocks..];
+    let next = first + 8 * blocks;
+    load_rest::<D>(shared, seat, places, p, begin + next, next, left);
 }
 
 // Loads whole words of an object that a seat holds, where the list says at which address the object's words begin.
