@@ -105,6 +105,18 @@ impl MemDevice {
         Ok(())
     }
 
+    // Takes the key away, and keeps the buffer of what was under it.
+    #[inline(never)]
+    fn let_go(&mut self, id: u32)
+        ensures gone { bytes_at self.new id ≡ None }
+        ensures others { KeepsOthers (bytes_at self.old) (bytes_at self.new) id }
+        ensures faults { faults_of self.new ≡ faults_of self.old }
+    {
+        if let Some(buffer) = self.taken(id) {
+            self.spares.keep(buffer);
+        }
+    }
+
     // Takes the key away, with what is under it.
     #[inline]
     fn taken(&mut self, id: u32) -> Option<Vec<u8>>
@@ -183,13 +195,15 @@ impl Device for MemDevice {
         Ok(bytes)
     }
 
+    #[inline]
     fn forget(&mut self, id: u32)
         ensures gone { bytes_at self.new id ≡ None }
         ensures others { KeepsOthers (bytes_at self.old) (bytes_at self.new) id }
         ensures faults { faults_of self.new ≡ faults_of self.old }
     {
-        if let Some(buffer) = self.taken(id) {
-            self.spares.keep(buffer);
+        // Most objects that are retired were never far.
+        if self.held(id).is_some() {
+            self.let_go(id);
         }
     }
 

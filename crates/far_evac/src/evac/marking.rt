@@ -205,6 +205,7 @@ fn seek<N: Near + Drop, D: Device + Drop>(
 }
 
 // The first span of a log, at a word or behind it, whose live object lacks EVAC.
+#[inline(always)]
 fn next_unmarked<N: Near + Drop, D: Device + Drop>(
     book: &mut Book<N, D>,
     log: u8,
