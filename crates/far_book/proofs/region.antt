@@ -20,6 +20,7 @@ pub mod Founds
 pub mod Handed
 pub mod InOrders
 pub mod Learning
+pub mod LearningOn
 pub mod Leaving
 pub mod Marked
 pub mod Moved

@@ -2,6 +2,7 @@
 
 ghost use Rattle.std.specs.Prelude.{◌≡◌, ◌≢◌, ◌+◌, ◌*◌, ◌^◌, ◌<◌, ◌≤◌, ◌↔◌, ℕ, bit_or, true, false, eqb, List, [], map, length, slice_index, Some, None, IsSome, IfOk, IfErr};
 ghost use Rattle.std.specs.List.{IsDistinct, list_any};
+ghost use Rattle.std.specs.Vec.{vec_capacity};
 ghost use Rattle.far_word.specs.declared.mark.Mark.TheVariants.{Evac};
 ghost use Rattle.far_word.specs.declared.pointer.PtrWord.TheVariants.{Near as near_at};
 ghost use Rattle.far_word.specs.declared.refused.Refused.TheVariants.{Memory, NoRoom};
@@ -115,9 +116,16 @@ impl<N: Near + Drop, D: Device + Drop> Book<N, D> {
         self.near.shape()
     }
 
-    /// What its room was taken from.
-    pub fn allocator(&self) -> Global {
-        self.alloc
+    /// An empty list with room for so many, of the book's own allocator. Refused [`Refused::Memory`] alone.
+    pub fn empty_list<T: Drop>(&self, count: usize) -> Result<Vec<T>, Refused>
+        ensures empty { IfOk result (λ list. list.items ≡ []) }
+        ensures room { IfOk result (λ list. count ≤ vec_capacity list) }
+        ensures refused { IfErr result (λ why. why ≡ Memory) }
+    {
+        let Ok(list) = Vec::with_capacity(self.alloc, count) else {
+            return Err(Refused::Memory);
+        };
+        Ok(list)
     }
 
     /// The lowest free cell of a mutator; `None` where it uses all of them.

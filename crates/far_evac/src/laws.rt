@@ -1,11 +1,13 @@
 //! What the definitions of a round come to, as contracts of functions that do nothing.
 
+ghost use Rattle.std.specs.Prelude.{◌≡◌};
 ghost use Rattle.far_evac.specs.Callers.{CallersSealBehind, CoresJoin, FetchingOrder, FetchingStepsAside, MovingOrder, MovingStepsAside, OwnersStepAside, PlacingOrder, PlacingStepsAside, RetiringOrder, RetiringStepsAside, StepsJoin, StepsKeep, StillOrder, StillStepsAside};
 ghost use Rattle.far_evac.specs.Leading.{AbortingLeads, ChoiceIsOfSealed, MarkingLeads, PollingLeads, RoundLeads, SelectingLeads, TurnsLead, WalkingLeads};
 ghost use Rattle.far_evac.specs.Owned.{AbortingKeepsObjects, MarkingKeepsObjects, PollingKeepsObjects, RoundKeepsObjects, SelectingKeepsObjects, TurnsKeepObjects, TurnsRetireNone, WalkRetiresNone, WalkingKeepsObjects};
 ghost use Rattle.far_evac.specs.Emptied.{LogsComeBackEmpty};
 ghost use Rattle.far_evac.specs.Listing.{CensusListsEach};
 ghost use Rattle.far_evac.specs.LiveLaws.{LiveIsInOrder};
+ghost use Rattle.far_evac.specs.Turns.{turn_size};
 ghost use Rattle.far_evac.specs.Strays.{AbortingStraysNone, CallersStrayNone, CallsStrayNone, ComersJoin, EventsBringNone, FoundStrayNone, MarkingStraysNone, NoRoundStraysNone, OwnersBringNone, PollingStraysNone, RisenStraysNone, RoundStraysNone, RoundsStrayNone, RowsStrayNone, SelectingStraysNone, TurnsStrayNone, WalkingStraysNone};
 ghost use Rattle.far_evac.specs.TakesRoom.{CallTakesRoom, RoundTakesRoom, RoundTakesSome, TurnsTakeRoom, TurnsTakeSome, WalkTakesRoom};
 ghost use Rattle.far_evac.specs.WayLaws.{ObjectsGoTheirWay};
@@ -28,6 +30,12 @@ pub fn poll_is_allowed()
 pub fn round_is_allowed()
     ensures turn { TurnIsAllowed }
     ensures whole { RoundIsAllowed }
+{}
+
+/// A turn marks, or deals with, at most 16 objects.
+#[tactic(auto, unfolding(crate::specs::Turns::turn_size))]
+pub fn turns_have_16()
+    ensures { turn_size ≡ 16 }
 {}
 
 /// A walk over n objects does what stands before the (n + 1)th object in a list of the live objects and the ends of the chosen

@@ -85,21 +85,21 @@ module _ {S : Type 0} (slots id : ℕ) (me : Me S View) (is : me.0 ≡ Owner (ow
         subst (λ (z : ℕ × ℕ). Tells me.0 (Owner view) (Load view.number z.0 z.1) (Word (slice_index ws (data_at (addr place + 1 + i)))) view) (λ k. (one.0 k, one.1 k)) t,
       ))
 
-  -- the word that the address in a seat's list leads to
+  -- the word that an address leads to which the one in a seat's list makes
   module _ (places : List ℕ) (has : HasPlaces view places) (p i : ℕ) (held : IsSome (held_at view p)) (inside : i < words_for (len_of (object_at view p)))
-      (a : ℕ) (read : a ≡ slice_index places (p % CELLS)) where
+      (a : ℕ) (read : a ≡ slice_index places (p % CELLS) + i) where
     abbrev there : (place : Place) × (held_at view p ≡ Some place)
     there = some_there (held_at view p) held
 
-    led : data_at (addr there.0 + 1 + i) ≡ a + i + 1050
+    led : data_at (addr there.0 + 1 + i) ≡ a + 1050
     led = let here = (has p there.0 there.1).here in omega (arith, read)
 
-    pub loads_at : (a + i + 1050 < TABLE_WORDS) × Allows Running slots id me (a + i + 1050) (λ n. n) (Loaded (step slots (a + i + 1050) 0 0 none) me)
+    pub loads_at : (a + 1050 < TABLE_WORDS) × Allows Running slots id me (a + 1050) (λ n. n) (Loaded (step slots (a + 1050) 0 0 none) me)
     loads_at = let fits = (has p there.0 there.1).fits in let word = led in (
       omega arith,
       subst (λ z. Allows Running slots id me z (λ n. n) (Loaded (step slots z 0 0 none) me)) led (loads p i there.0 (has p there.0 there.1).own there.1 inside),
     )
 
-    pub load_told : (found : ℕ) (me' : Me S View) → Loaded (step slots (a + i + 1050) 0 0 none) me found me' →
+    pub load_told : (found : ℕ) (me' : Me S View) → Loaded (step slots (a + 1050) 0 0 none) me found me' →
         (view.honest ≡ true → found ≡ word_in_view (object_at view p) i) × Tells me.0 me'.0 (Load view.number p i) (Word found) view
     load_told found me' h = h p i there.0 (has p there.0 there.1).own there.1 inside (sym led)

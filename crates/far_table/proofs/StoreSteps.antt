@@ -152,20 +152,20 @@ module _ {S : Type 0} (slots id : ℕ) (me : Me S View) (is : me.0 ≡ Owner (ow
       let one = one_word ws b os f view at p i place q j other (held_facts ws b os f view at p place own held) (held_facts ws b os f view at q other own' held') inside inside' same in
       subst (λ (z : ℕ × ℕ). Tells me.0 (Owner (stored_view p i v view)) (Store view.number z.0 z.1 v) Done (stored_view z.0 z.1 v view)) (λ k. (one.0 k, one.1 k)) t)
 
-  -- the word that the address in a seat's list leads to
+  -- the word that an address leads to which the one in a seat's list makes
   module _ (places : List ℕ) (has : HasPlaces view places) (p i v : ℕ) (held : IsSome (held_at view p)) (inside : i < words_for (len_of (object_at view p)))
-      (word : v < 2 ^ 64) (padded : v < 2 ^ (8 * (len_of (object_at view p) - 8 * i))) (a : ℕ) (read : a ≡ slice_index places (p % CELLS)) where
+      (word : v < 2 ^ 64) (padded : v < 2 ^ (8 * (len_of (object_at view p) - 8 * i))) (a : ℕ) (read : a ≡ slice_index places (p % CELLS) + i) where
     abbrev there : (place : Place) × (held_at view p ≡ Some place)
     there = some_there (held_at view p) held
 
-    led : data_at (addr there.0 + 1 + i) ≡ a + i + 1050
+    led : data_at (addr there.0 + 1 + i) ≡ a + 1050
     led = let here = (has p there.0 there.1).here in omega (arith, read)
 
-    pub stores_at : (a + i + 1050 < TABLE_WORDS) × Allows Running slots id me (a + i + 1050) (λ _. v) (λ _. Stored (step slots (a + i + 1050) v 0 none) me v)
+    pub stores_at : (a + 1050 < TABLE_WORDS) × Allows Running slots id me (a + 1050) (λ _. v) (λ _. Stored (step slots (a + 1050) v 0 none) me v)
     stores_at = let fits = (has p there.0 there.1).fits in let at = led in (
       omega arith,
       subst (λ z. Allows Running slots id me z (λ _. v) (λ _. Stored (step slots z v 0 none) me v)) led (stores p i v there.0 (has p there.0 there.1).own there.1 inside word padded),
     )
 
-    pub store_told : (me' : Me S View) → Stored (step slots (a + i + 1050) v 0 none) me v me' → Tells me.0 me'.0 (Store view.number p i v) Done (stored_view p i v view)
+    pub store_told : (me' : Me S View) → Stored (step slots (a + 1050) v 0 none) me v me' → Tells me.0 me'.0 (Store view.number p i v) Done (stored_view p i v view)
     store_told me' h = h p i there.0 (has p there.0 there.1).own there.1 inside (sym led)

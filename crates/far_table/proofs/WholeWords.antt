@@ -1,6 +1,7 @@
 -- Whole words of an object as bytes: what one that is loaded or stored adds.
 use Rattle.std.proofs.Common.{◌≡◌, ◌≢◌, ℕ, ◌+◌, ◌-◌, ◌*◌, ◌/◌, ◌%◌, ◌^◌, ◌<◌, ◌≤◌, true, is_some, arith, ap, sym, refl, subst, ◌∙◌, List, ◌++◌, length, get_or, take, drop, inl, inr, Option, Some, None}
 use Rattle.std.specs.Int.{bytes_low_first}
+use Rattle.std.specs.Prelude.{IsSome, slice_index}
 use Rattle.std.proofs.lemmas.Bool.{cases_eq, cases_lt}
 use Rattle.std.proofs.lemmas.List.{get_or-take, get_or-drop, get_or_append_left, get_or-append_right, length-take-le, length-append, length-drop}
 use mathlib.Core.Logic.{dite}
@@ -9,7 +10,7 @@ use lib.Pow.{pow_mono}
 use borrow.Rule.Slice.PartMut.{put_mid}
 use Rattle.byteorder.specs.Endian.{little_number}
 use Rattle.byteorder.specs.Numbers.{length-bytes_low_first}
-use Rattle.far_word.specs.declared.sizes.TheConstants.{LOG_WORDS, MOST_LOGS}
+use Rattle.far_word.specs.declared.sizes.TheConstants.{CELLS, LOG_WORDS, MOST_LOGS}
 use Rattle.far_word.specs.Bytes.{byte_at, packed_word, words_of}
 use Rattle.far_word.specs.Sizes.{words_for}
 use Rattle.far_word.proofs.ByteLaws.{bytes_of-get, bytes_of-words_of, words_of-get}
@@ -19,6 +20,7 @@ use Rattle.far_core.proofs.Put.{put_other, put_same}
 use Rattle.far_table.specs.View.{ObjectView, OwnerView}
 use Rattle.far_table.specs.Ranges.{HasBytes, Wrote}
 use Rattle.far_table.specs.Seats.{HasPlaces}
+use Rattle.far_table.proofs.HeldFacts.{some_there}
 use Rattle.far_table.specs.Views.{ds_of, held_at, len_of, object_at, stored_view, with_word, word_in_view}
 
 -- ---- a list with a part written over
@@ -234,3 +236,7 @@ places_wrote p from bytes places o o' w has q place h =
       here = x.here;
       fits = subst (λ n. addr place + 1 + words_for n ≤ MOST_LOGS * LOG_WORDS) (sym same) x.fits;
     }
+
+-- the words of what is held lie within the logs
+pub places_within : (p : ℕ) (places : List ℕ) (o : OwnerView) → HasPlaces o places → IsSome (held_at o p) → slice_index places (p % CELLS) + words_for (len_of (object_at o p)) ≤ MOST_LOGS * LOG_WORDS
+places_within p places o has held = let there = some_there (held_at o p) held in let x = has p there.0 there.1 in omega (arith, x.here, x.fits)

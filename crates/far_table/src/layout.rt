@@ -18,3 +18,6 @@ pub(crate) const LOGS: usize = 1050;
 
 /// How many words there are.
 pub(crate) const TABLE_WORDS: usize = 9242;
+
+/// How many of them are words of logs.
+pub(crate) const WORDS_OF_LOGS: usize = 8192;

@@ -88,14 +88,14 @@ fn places_of(alloc: Global, core: &Core, number: u8) -> Result<Vec<u16>, AllocEr
     Ok(places)
 }
 
-// Loads so many words of an object that a seat holds, whose words begin at this address.
+// Loads so many words of an object that a seat holds, from one of its words on, which stands at this address.
 #[inline(always)]
 fn load_some<D: Device>(
     shared: &Shared<u64, View, Plan<D>, FarRule>,
     seat: &mut Seat<u64, View>,
     places: &Vec<u16>,
     p: u16,
-    begin: usize,
+    start: usize,
     first: usize,
     count: usize,
     out: &mut [u8],
@@ -103,7 +103,7 @@ fn load_some<D: Device>(
     requires table { (seat.old.table_id ≡ shared.now.table_id) × (seat.old.table_id.words ≡ TABLE_WORDS) }
     requires owner { seat.old.me.0 ≡ Owner (owner_of seat.old.me.0) }
     requires places { HasPlaces (owner_of seat.old.me.0) places.now.items }
-    requires begin { begin ≡ slice_index places.now.items (p % CELLS) }
+    requires start { start ≡ slice_index places.now.items (p % CELLS) + first }
     requires held { IsSome (held_at (owner_of seat.old.me.0) p) }
     requires short { len_of (object_at (owner_of seat.old.me.0) p) ≤ LONGEST }
     requires inside { 8 * first + length out.old ≤ len_of (object_at (owner_of seat.old.me.0) p) }
@@ -115,14 +115,59 @@ fn load_some<D: Device>(
 {
     let _places = places;
     for i in 0..count {
-        let at = begin + (first + i) + layout::LOGS;
+        let at = start + i + layout::LOGS;
         let word = shared.load::<rule::Load>(seat, at);
         LittleEndian::write_u64(&mut out[8 * i..], word);
     }
 }
 
-// Loads words by eight, since a loop of so many is none for the machine, and the rest one by one. It is a call, so that what has few words
-// is done where it is asked for.
+// Loads the words that are left over, at most seven: four at one address where there are so many, and the rest one by one.
+#[inline(always)]
+fn load_rest<D: Device>(
+    shared: &Shared<u64, View, Plan<D>, FarRule>,
+    seat: &mut Seat<u64, View>,
+    places: &Vec<u16>,
+    p: u16,
+    start: usize,
+    first: usize,
+    out: &mut [u8],
+)
+    requires table { (seat.old.table_id ≡ shared.now.table_id) × (seat.old.table_id.words ≡ TABLE_WORDS) }
+    requires owner { seat.old.me.0 ≡ Owner (owner_of seat.old.me.0) }
+    requires places { HasPlaces (owner_of seat.old.me.0) places.now.items }
+    requires start { start ≡ slice_index places.now.items (p % CELLS) + first }
+    requires held { IsSome (held_at (owner_of seat.old.me.0) p) }
+    requires short { len_of (object_at (owner_of seat.old.me.0) p) ≤ LONGEST }
+    requires inside { 8 * first + length out.old ≤ len_of (object_at (owner_of seat.old.me.0) p) }
+    requires whole { length out.old % 8 ≡ 0 }
+    ensures table { seat.new.table_id ≡ seat.old.table_id }
+    ensures view { seat.new.me.0 ≡ seat.old.me.0 }
+    ensures bytes { (owner_of seat.old.me.0).honest ≡ true → HasBytes (word_in_view (object_at (owner_of seat.old.me.0) p)) (8 * first) out.new }
+    ensures events { LoadedEach p first (packed_word out.new) (length out.old / 8) (owner_of seat.old.me.0) }
+{
+    let count = out.len() / 8;
+    if count < 4 {
+        load_some::<D>(shared, seat, places, p, start, first, count, out);
+        return;
+    }
+    let at = start % layout::WORDS_OF_LOGS;
+    let four = &mut out[0..32];
+    load_some::<D>(shared, seat, places, p, at, first, 4, four);
+    let left = &mut out[32..];
+    load_some::<D>(
+        shared,
+        seat,
+        places,
+        p,
+        start + 4,
+        first + 4,
+        count - 4,
+        left,
+    );
+}
+
+// Loads words by eight, since a loop of so many is none for the machine, and then the rest. By the remainder, which is the number
+// itself, eight words have one address. It is a call, so that what has few words is done where it is asked for.
 #[inline(never)]
 fn load_long<D: Device>(
     shared: &Shared<u64, View, Plan<D>, FarRule>,
@@ -148,21 +193,13 @@ fn load_long<D: Device>(
 {
     let blocks = out.len() / 64;
     for block in 0..blocks {
+        let start = (begin + (first + 8 * block)) % layout::WORDS_OF_LOGS;
         let part = &mut out[64 * block..64 * block + 64];
-        load_some::<D>(shared, seat, places, p, begin, first + 8 * block, 8, part);
+        load_some::<D>(shared, seat, places, p, start, first + 8 * block, 8, part);
     }
-    let rest = out.len() / 8 - 8 * blocks;
-    let part = &mut out[64 * blocks..];
-    load_some::<D>(
-        shared,
-        seat,
-        places,
-        p,
-        begin,
-        first + 8 * blocks,
-        rest,
-        part,
-    );
+    let left = &mut out[64 * blocks..];
+    let next = first + 8 * blocks;
+    load_rest::<D>(shared, seat, places, p, begin + next, next, left);
 }
 
 // Loads whole words of an object that a seat holds, where the list says at which address the object's words begin.
@@ -191,20 +228,20 @@ fn load_all<D: Device>(
     let first = first as usize;
     if out.len() < 64 {
         let count = out.len() / 8;
-        load_some::<D>(shared, seat, places, p, begin, first, count, out);
+        load_some::<D>(shared, seat, places, p, begin + first, first, count, out);
     } else {
         load_long::<D>(shared, seat, places, p, begin, first, out);
     }
 }
 
-// Stores so many words of an object that a seat holds, whose words begin at this address.
+// Stores so many words of an object that a seat holds, from one of its words on, which stands at this address.
 #[inline(always)]
 fn store_some<D: Device>(
     shared: &Shared<u64, View, Plan<D>, FarRule>,
     seat: &mut Seat<u64, View>,
     places: &Vec<u16>,
     p: u16,
-    begin: usize,
+    start: usize,
     first: usize,
     count: usize,
     bytes: &[u8],
@@ -212,7 +249,7 @@ fn store_some<D: Device>(
     requires table { (seat.old.table_id ≡ shared.now.table_id) × (seat.old.table_id.words ≡ TABLE_WORDS) }
     requires owner { seat.old.me.0 ≡ Owner (owner_of seat.old.me.0) }
     requires places { HasPlaces (owner_of seat.old.me.0) places.now.items }
-    requires begin { begin ≡ slice_index places.now.items (p % CELLS) }
+    requires start { start ≡ slice_index places.now.items (p % CELLS) + first }
     requires held { IsSome (held_at (owner_of seat.old.me.0) p) }
     requires short { len_of (object_at (owner_of seat.old.me.0) p) ≤ LONGEST }
     requires inside { 8 * first + length bytes.now ≤ len_of (object_at (owner_of seat.old.me.0) p) }
@@ -224,14 +261,14 @@ fn store_some<D: Device>(
 {
     let _places = places;
     for i in 0..count {
-        let at = begin + (first + i) + layout::LOGS;
+        let at = start + i + layout::LOGS;
         let word = LittleEndian::read_u64(&bytes[8 * i..]);
         shared.store::<rule::Store>(seat, at, word);
     }
 }
 
-// Stores words by eight, since a loop of so many is none for the machine, and the rest one by one. It is a call, so that what has few words
-// is done where it is asked for.
+// Stores words by eight, since a loop of so many is none for the machine, and the rest one by one. By the remainder, which is the number
+// itself, eight words have one address. It is a call, so that what has few words is done where it is asked for.
 #[inline(never)]
 fn store_long<D: Device>(
     shared: &Shared<u64, View, Plan<D>, FarRule>,
@@ -257,8 +294,9 @@ fn store_long<D: Device>(
 {
     let blocks = bytes.len() / 64;
     for block in 0..blocks {
+        let start = (begin + (first + 8 * block)) % layout::WORDS_OF_LOGS;
         let part = &bytes[64 * block..64 * block + 64];
-        store_some::<D>(shared, seat, places, p, begin, first + 8 * block, 8, part);
+        store_some::<D>(shared, seat, places, p, start, first + 8 * block, 8, part);
     }
     let rest = bytes.len() / 8 - 8 * blocks;
     let part = &bytes[64 * blocks..];
@@ -267,7 +305,7 @@ fn store_long<D: Device>(
         seat,
         places,
         p,
-        begin,
+        begin + (first + 8 * blocks),
         first + 8 * blocks,
         rest,
         part,
@@ -300,7 +338,7 @@ fn store_all<D: Device>(
     let first = first as usize;
     if bytes.len() < 64 {
         let count = bytes.len() / 8;
-        store_some::<D>(shared, seat, places, p, begin, first, count, bytes);
+        store_some::<D>(shared, seat, places, p, begin + first, first, count, bytes);
     } else {
         store_long::<D>(shared, seat, places, p, begin, first, bytes);
     }

@@ -1,6 +1,6 @@
 -- What a fetch knows from the word that it found and the place that it got.
 use Rattle.std.proofs.Common.{◌≡◌, ℕ, ◌*◌, ◌/◌, ◌%◌, ◌^◌, ◌<◌, Bool, true, false, sym, refl, ap, subst, ◌∙◌, Option, Some, List, length}
-use Rattle.std.specs.Prelude.{Err, IsSome, IfSome, is_some}
+use Rattle.std.specs.Prelude.{IsSome, IfSome, is_some}
 use Rattle.far_word.specs.declared.mark.Marks.{Marks}
 use Rattle.far_word.specs.declared.pointer.Place.{Place}
 use Rattle.far_word.specs.declared.pointer.PtrWord.TheVariants.{Far}

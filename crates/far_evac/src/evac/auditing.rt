@@ -52,14 +52,9 @@ impl<N: Near + Drop, D: Device + Drop> Evac<N, D> {
         ensures unchanged { IfErr result (λ _. self.new ≡ self.old) }
     {
         let shape = self.book.shape();
-        let alloc = self.book.allocator();
         let cells = CELLS as usize * shape.mutators as usize;
-        let Ok(mut homes) = Vec::with_capacity(alloc, cells) else {
-            return Err(Refused::Memory);
-        };
-        let Ok(mut logs) = Vec::with_capacity(alloc, shape.logs as usize) else {
-            return Err(Refused::Memory);
-        };
+        let mut homes = self.book.empty_list(cells)?;
+        let mut logs = self.book.empty_list(shape.logs as usize)?;
         self.list_homes(&mut homes);
         self.list_logs(&mut logs);
         self.keeps_law();

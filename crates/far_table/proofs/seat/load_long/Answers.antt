@@ -1,4 +1,4 @@
-use Rattle.std.proofs.Common.{◌≡◌, ◌+◌, ◌-◌, ◌*◌, ◌/◌, ◌≤◌, ℕ, true, length, drop, refl, sym, ◌∙◌, subst, arith}
+use Rattle.std.proofs.Common.{◌≡◌, ◌+◌, ◌-◌, ◌*◌, ◌/◌, ◌≤◌, ℕ, true, length, take, drop, refl, sym, ◌∙◌, subst, arith}
 use Rattle.std.proofs.lemmas.List.{length-take-le, length-drop}
 use Rattle.far_word.specs.Bytes.{packed_word}
 use Rattle.far_table.specs.View.{View}
@@ -8,7 +8,7 @@ use Rattle.far_table.specs.Seats.{HasPlaces}
 use Rattle.far_table.specs.Tells.{owner_of}
 use Rattle.far_table.specs.Views.{object_at, word_in_view}
 use Rattle.far_table.proofs.RowEvents.{loaded_part}
-use Rattle.far_table.proofs.WholeWords.{part_read}
+use Rattle.far_table.proofs.WholeWords.{part_read, places_within}
 use Rattle.far_table.proofs.seat.load_long.Goals as goal
 
 pub load_some-requires-clause-places : goal.load_some-requires-clause-places
@@ -45,11 +45,19 @@ returns-clause-events g c =
     let at : ℕ = 64 * (length c.args.out.now / 64) in
     let m : ℕ = length c.loop-block.out - 64 * (length c.args.out.now / 64) in
     let next : ℕ = c.args.first + 8 * (length c.args.out.now / 64) in
-    let n : ℕ = length c.loop-block.out / 8 - 8 * (length c.args.out.now / 64) in
+    let n : ℕ = length (take m (drop at c.loop-block.out)) / 8 in
     let last : c.loop-block.block ≡ length c.args.out.now / 64 = omega arith in
-    let long : length c.load_some-2.new.out ≡ m = c.load_some-2.auto.out ∙ length-take-le m (drop at c.loop-block.out) (omega (arith, length-drop at c.loop-block.out)) in
+    let part : length (take m (drop at c.loop-block.out)) ≡ m = length-take-le m (drop at c.loop-block.out) (omega (arith, length-drop at c.loop-block.out)) in
+    let long : length c.load_rest.new.out ≡ m = c.load_rest.auto.out ∙ part in
     let before = subst (λ b. LoadedEach c.args.p c.args.first (packed_word c.loop-block.out) (8 * b) (owner_of c.args.seat.now.me.0)) last c.loop-block.invariant.events in
-    let more = subst (λ (v : View). LoadedEach c.args.p next (packed_word c.load_some-2.new.out) n (owner_of v))
-    c.loop-block.invariant.view c.load_some-2.ensures.events in
-    λ i lt. loaded_part c.args.p c.args.first next (8 * (length c.args.out.now / 64)) n at m c.loop-block.out c.load_some-2.new.out (owner_of c.args.seat.now.me.0) refl (omega arith) (omega arith) (omega arith) long before more i
+    let more = subst (λ (v : View). LoadedEach c.args.p next (packed_word c.load_rest.new.out) n (owner_of v))
+    c.loop-block.invariant.view c.load_rest.ensures.events in
+    λ i lt. loaded_part c.args.p c.args.first next (8 * (length c.args.out.now / 64)) n at m c.loop-block.out c.load_rest.new.out (owner_of c.args.seat.now.me.0) refl (omega arith) (omega arith) (omega arith) long before more i
     (omega arith)
+
+-- the remainder is the number itself
+pub load_some-requires-clause-start : goal.load_some-requires-clause-start
+load_some-requires-clause-start g c =
+    let below = c.loop-block-test.true in
+    let within = places_within c.args.p c.args.places.now.items (owner_of c.args.seat.now.me.0) c.requires.places c.requires.held in
+    omega (arith, c.requires.begin, c.requires.inside, within)

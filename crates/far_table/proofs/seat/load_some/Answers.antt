@@ -20,7 +20,7 @@ load-word-requires g c =
     let word : c.args.first + c.loop-i.i < words_for (len_of (object_at (owner_of c.args.seat.now.me.0) c.args.p)) = omega arith in
     let q = subst (λ (v : View). (v ≡ Owner (owner_of v)) × HasPlaces (owner_of v) c.args.places.now.items × IsSome (held_at (owner_of v) c.args.p) × (c.args.first + c.loop-i.i < words_for (len_of (object_at (owner_of v) c.args.p))))
     (sym c.loop-i.invariant.view) (c.requires.owner, c.requires.places, c.requires.held, word) in
-    let w = loads_at {S = ℕ} c.args.shared.now.table_id.slots c.loop-i.seat.id c.loop-i.seat.me q.0 c.args.places.now.items q.1 c.args.p (c.args.first + c.loop-i.i) q.2 q.3 c.args.begin c.requires.begin in
+    let w = loads_at {S = ℕ} c.args.shared.now.table_id.slots c.loop-i.seat.id c.loop-i.seat.me q.0 c.args.places.now.items q.1 c.args.p (c.args.first + c.loop-i.i) q.2 q.3 (c.args.start + c.loop-i.i) (omega (arith, c.requires.start)) in
     let words = ap (λ (z : TableId). z.words) (sym c.requires.table.0) ∙ c.requires.table.1 in
     (c.loop-i.invariant.table ∙ c.requires.table.0, omega (arith, w.0, words), w.1)
 
@@ -31,7 +31,7 @@ loop-i-preserved g c =
     let word : c.args.first + c.loop-i.i < words_for (len_of (object_at (owner_of c.args.seat.now.me.0) c.args.p)) = omega arith in
     let q = subst (λ (v : View). (v ≡ Owner (owner_of v)) × HasPlaces (owner_of v) c.args.places.now.items × IsSome (held_at (owner_of v) c.args.p) × (c.args.first + c.loop-i.i < words_for (len_of (object_at (owner_of v) c.args.p))))
     (sym c.loop-i.invariant.view) (c.requires.owner, c.requires.places, c.requires.held, word) in
-    let t = load_told {S = ℕ} c.args.shared.now.table_id.slots c.loop-i.seat.id c.loop-i.seat.me q.0 c.args.places.now.items q.1 c.args.p (c.args.first + c.loop-i.i) q.2 q.3 c.args.begin c.requires.begin
+    let t = load_told {S = ℕ} c.args.shared.now.table_id.slots c.loop-i.seat.id c.loop-i.seat.me q.0 c.args.places.now.items q.1 c.args.p (c.args.first + c.loop-i.i) q.2 q.3 (c.args.start + c.loop-i.i) (omega (arith, c.requires.start))
     c.load-word.result c.load-word.new.seat.me c.load-word.ensures.2 in
     let found = subst (λ (v : View). (owner_of v).honest ≡ true → c.load-word.result ≡ word_in_view (object_at (owner_of v) c.args.p) (c.args.first + c.loop-i.i)) c.loop-i.invariant.view t.0 in
     let made = subst (λ (v : View). OwnerMade (Load (owner_of v).number c.args.p (c.args.first + c.loop-i.i)) (owner_of v) (Word c.load-word.result) (owner_of v)) c.loop-i.invariant.view t.1.made in

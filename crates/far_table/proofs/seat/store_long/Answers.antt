@@ -5,7 +5,7 @@ use Rattle.far_table.specs.Ranges.{Wrote}
 use Rattle.far_table.specs.RowTells.{StoredEach}
 use Rattle.far_table.specs.Tells.{owner_of}
 use Rattle.far_table.proofs.RowEvents.{part_words, stored_part}
-use Rattle.far_table.proofs.WholeWords.{part_wrote, places_wrote}
+use Rattle.far_table.proofs.WholeWords.{part_wrote, places_within, places_wrote}
 use Rattle.far_table.proofs.seat.store_long.Goals as goal
 
 pub store_some-requires-clause-places : goal.store_some-requires-clause-places
@@ -50,3 +50,10 @@ returns-clause-events g c =
     (packed_word c.args.bytes.now) _ (owner_of c.args.seat.now.me.0) (owner_of c.loop-block.seat.me.0) (owner_of c.store_some-2.new.seat.me.0) refl (omega arith)
     (part_words c.args.bytes.now (64 * (length c.args.bytes.now / 64)) (length c.args.bytes.now - 64 * (length c.args.bytes.now / 64)) (8 * (length c.args.bytes.now / 64))
     (length c.args.bytes.now / 8 - 8 * (length c.args.bytes.now / 64)) (omega arith) (omega arith)) before c.store_some-2.ensures.events
+
+-- the remainder is the number itself
+pub store_some-requires-clause-start : goal.store_some-requires-clause-start
+store_some-requires-clause-start g c =
+    let below = c.loop-block-test.true in
+    let within = places_within c.args.p c.args.places.now.items (owner_of c.args.seat.now.me.0) c.requires.places c.requires.held in
+    omega (arith, c.requires.begin, c.requires.inside, within)

@@ -29,7 +29,7 @@ store-requires g c =
     let word : c.args.first + c.loop-i.i < words_for (len_of (object_at (owner_of c.loop-i.seat.me.0) c.args.p)) = omega (arith, len) in
     let padded = whole_padding c.read_u64-word.result (len_of (object_at (owner_of c.loop-i.seat.me.0) c.args.p)) (c.args.first + c.loop-i.i) c.read_u64-word.type_inv (omega (arith, len)) in
     let w = stores_at {S = ℕ} c.args.shared.now.table_id.slots c.loop-i.seat.id c.loop-i.seat.me c.loop-i.invariant.owner c.args.places.now.items has c.args.p (c.args.first + c.loop-i.i) c.read_u64-word.result
-    held word c.read_u64-word.type_inv padded c.args.begin c.requires.begin in
+    held word c.read_u64-word.type_inv padded (c.args.start + c.loop-i.i) (omega (arith, c.requires.start)) in
     let words = ap (λ (z : TableId). z.words) (sym c.requires.table.0) ∙ c.requires.table.1 in
     (c.loop-i.invariant.table ∙ c.requires.table.0, omega (arith, w.0, words), w.1)
 
@@ -46,7 +46,7 @@ loop-i-preserved g c =
     let word : c.args.first + c.loop-i.i < words_for (len_of (object_at (owner_of c.loop-i.seat.me.0) c.args.p)) = omega (arith, len) in
     let padded = whole_padding c.read_u64-word.result (len_of (object_at (owner_of c.loop-i.seat.me.0) c.args.p)) (c.args.first + c.loop-i.i) c.read_u64-word.type_inv (omega (arith, len)) in
     let t = store_told {S = ℕ} c.args.shared.now.table_id.slots c.loop-i.seat.id c.loop-i.seat.me c.loop-i.invariant.owner c.args.places.now.items has c.args.p (c.args.first + c.loop-i.i) c.read_u64-word.result
-    held word c.read_u64-word.type_inv padded c.args.begin c.requires.begin c.store.new.seat.me c.store.ensures.2 in
+    held word c.read_u64-word.type_inv padded (c.args.start + c.loop-i.i) (omega (arith, c.requires.start)) c.store.new.seat.me c.store.ensures.2 in
     record {
       table = c.store.ensures.0 ∙ c.loop-i.invariant.table;
       owner = t.after_is ∙ ap (λ (z : View). Owner (owner_of z)) (sym t.after_is);

@@ -1,5 +1,5 @@
 use Rattle.far_book.proofs.book.Book.fetch.Goals as goal
-use Rattle.std.proofs.Common.{◌≡◌, ◌∙◌, ◌^◌, ◌<◌, ℕ, true, false, ap, arith, sym, subst, inl, inr, length, Some, Global, Vec}
+use Rattle.std.proofs.Common.{◌≡◌, ◌∙◌, ◌^◌, ◌<◌, ℕ, true, false, ap, arith, sym, subst, inl, inr, length, Some}
 use Rattle.std.specs.Prelude.{Option, IsSome, List, Ok, Err}
 use Rattle.std.proofs.lemmas.Bool.{false_from_ne_true}
 use Rattle.far_word.specs.Bytes.{packed_word}

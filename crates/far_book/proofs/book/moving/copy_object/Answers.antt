@@ -1,9 +1,9 @@
 use Rattle.far_book.proofs.book.moving.copy_object.Goals as goal
-use Rattle.std.proofs.Common.{◌≡◌, ◌∙◌, ◌+◌, ◌*◌, ◌/◌, ◌<◌, ◌≤◌, subst, ap, arith, refl, ℕ}
+use Rattle.std.proofs.Common.{◌≡◌, ◌∙◌, ◌+◌, ◌*◌, ◌/◌, ◌≤◌, subst, ap, arith, refl, ℕ}
 use Rattle.far_word.specs.Sizes.{words_for}
 use Rattle.far_word.specs.Header.{head_word}
 use Rattle.far_core.specs.events.Copies.{data_at}
-use Rattle.far_core.specs.state.State.{State, put, addr}
+use Rattle.far_core.specs.state.State.{put, addr}
 use Rattle.far_book.specs.book.Moving.{CopiedOnly, Copying, HasCopied, with_copied}
 use Rattle.far_book.proofs.region.Copying.{head, put_legal, copying_none, copied}
 use Rattle.far_core.proofs.Rows.{row_none}

@@ -2,7 +2,7 @@ use Rattle.far_book.proofs.book.moving.copy_word.Goals as goal
 use Rattle.std.proofs.Common.{◌≡◌, ◌∙◌, ◌+◌, ◌*◌, ◌%◌, ◌<◌, subst, sym, ap, arith, refl, ℕ}
 use Rattle.far_word.specs.Sizes.{words_for}
 use Rattle.far_word.specs.declared.sizes.TheConstants.{LOG_WORDS}
-use Rattle.far_core.specs.state.State.{State, put, addr}
+use Rattle.far_core.specs.state.State.{State, put}
 use Rattle.far_hand.specs.Known.{IsKnown, IsPaddedAt}
 use Rattle.far_hand.specs.Quiet.{IsQuietAt}
 use Rattle.far_book.proofs.region.Copying.{put_legal, get_legal, from_fits, quiet_word, copying_more, exact_more}
