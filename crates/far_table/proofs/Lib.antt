@@ -32,3 +32,4 @@ pub mod BookWords
 pub mod ViewedLogs
 pub mod WholeLogs
 pub mod WholeWords
+pub mod RowEvents

@@ -18,3 +18,4 @@ pub mod NameViews
 pub mod Viewed
 pub mod Whole
 pub mod Ranges
+pub mod RowTells

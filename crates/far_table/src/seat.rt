@@ -16,8 +16,10 @@ ghost use Rattle.far_core.specs.events.Ask.{is_request};
 ghost use Rattle.far_core.specs.state.Law.{in_use};
 ghost use Rattle.far_core.specs.events.Pin.{place_to_view};
 ghost use Rattle.far_table.specs.Ranges.{HasBytes, Wrote};
+ghost use Rattle.far_table.specs.RowTells.{LoadedEach, StoredEach};
 ghost use Rattle.far_table.specs.Seats.{HasPlaces, data_begin, pin_reply};
 ghost use Rattle.far_table.specs.Views.{adopted_view, asked_view, closed_view, held_at, held_view, len_of, object_at, opened_view, read_view, stored_view, uses, word_in_view};
+ghost use Rattle.far_word.specs.Bytes.{packed_word};
 ghost use Rattle.far_word.specs.Sizes.{words_for};
 
 use crate::layout::{EPOCH, SCOPES};
@@ -109,6 +111,7 @@ fn load_some<D: Device>(
     ensures table { seat.new.table_id ≡ seat.old.table_id }
     ensures view { seat.new.me.0 ≡ seat.old.me.0 }
     ensures bytes { (owner_of seat.old.me.0).honest ≡ true → HasBytes (word_in_view (object_at (owner_of seat.old.me.0) p)) (8 * first) out.new }
+    ensures events { LoadedEach p first (packed_word out.new) count (owner_of seat.old.me.0) }
 {
     let _places = places;
     for i in 0..count {
@@ -140,6 +143,7 @@ fn load_rest<D: Device>(
     ensures table { seat.new.table_id ≡ seat.old.table_id }
     ensures view { seat.new.me.0 ≡ seat.old.me.0 }
     ensures bytes { (owner_of seat.old.me.0).honest ≡ true → HasBytes (word_in_view (object_at (owner_of seat.old.me.0) p)) (8 * first) out.new }
+    ensures events { LoadedEach p first (packed_word out.new) (length out.old / 8) (owner_of seat.old.me.0) }
 {
     let count = out.len() / 8;
     if count < 4 {
@@ -185,6 +189,7 @@ fn load_long<D: Device>(
     ensures table { seat.new.table_id ≡ seat.old.table_id }
     ensures view { seat.new.me.0 ≡ seat.old.me.0 }
     ensures bytes { (owner_of seat.old.me.0).honest ≡ true → HasBytes (word_in_view (object_at (owner_of seat.old.me.0) p)) (8 * first) out.new }
+    ensures events { LoadedEach p first (packed_word out.new) (length out.old / 8) (owner_of seat.old.me.0) }
 {
     let blocks = out.len() / 64;
     for block in 0..blocks {
@@ -217,6 +222,7 @@ fn load_all<D: Device>(
     ensures table { seat.new.table_id ≡ seat.old.table_id }
     ensures view { seat.new.me.0 ≡ seat.old.me.0 }
     ensures bytes { (owner_of seat.old.me.0).honest ≡ true → HasBytes (word_in_view (object_at (owner_of seat.old.me.0) p)) (8 * first) out.new }
+    ensures events { LoadedEach p first (packed_word out.new) (length out.old / 8) (owner_of seat.old.me.0) }
 {
     let begin = places[(p % CELLS) as usize] as usize;
     let first = first as usize;
@@ -251,6 +257,7 @@ fn store_some<D: Device>(
     ensures table { seat.new.table_id ≡ seat.old.table_id }
     ensures owner { seat.new.me.0 ≡ Owner (owner_of seat.new.me.0) }
     ensures wrote { Wrote p (8 * first) bytes.now (owner_of seat.old.me.0) (owner_of seat.new.me.0) }
+    ensures events { StoredEach p first (packed_word bytes.now) count (owner_of seat.old.me.0) (owner_of seat.new.me.0) }
 {
     let _places = places;
     for i in 0..count {
@@ -283,6 +290,7 @@ fn store_long<D: Device>(
     ensures table { seat.new.table_id ≡ seat.old.table_id }
     ensures owner { seat.new.me.0 ≡ Owner (owner_of seat.new.me.0) }
     ensures wrote { Wrote p (8 * first) bytes.now (owner_of seat.old.me.0) (owner_of seat.new.me.0) }
+    ensures events { StoredEach p first (packed_word bytes.now) (length bytes.now / 8) (owner_of seat.old.me.0) (owner_of seat.new.me.0) }
 {
     let blocks = bytes.len() / 64;
     for block in 0..blocks {
@@ -324,6 +332,7 @@ fn store_all<D: Device>(
     ensures table { seat.new.table_id ≡ seat.old.table_id }
     ensures owner { seat.new.me.0 ≡ Owner (owner_of seat.new.me.0) }
     ensures wrote { Wrote p (8 * first) bytes.now (owner_of seat.old.me.0) (owner_of seat.new.me.0) }
+    ensures events { StoredEach p first (packed_word bytes.now) (length bytes.now / 8) (owner_of seat.old.me.0) (owner_of seat.new.me.0) }
 {
     let begin = places[(p % CELLS) as usize] as usize;
     let first = first as usize;
@@ -463,6 +472,7 @@ impl<D: Device> MutSeat<D> {
         requires whole { length out.old % 8 ≡ 0 }
         ensures same { self.new ≡ self.old }
         ensures bytes { self.old.view.honest ≡ true → HasBytes (word_in_view (object_at self.old.view p)) (8 * first) out.new }
+        ensures events { LoadedEach p first (packed_word out.new) (length out.old / 8) self.old.view }
     {
         load_all::<D>(
             &self.table.shared,
@@ -483,6 +493,7 @@ impl<D: Device> MutSeat<D> {
         requires whole { length bytes.now % 8 ≡ 0 }
         ensures table { self.new.table ≡ self.old.table }
         ensures wrote { Wrote p (8 * first) bytes.now self.old.view self.new.view }
+        ensures events { StoredEach p first (packed_word bytes.now) (length bytes.now / 8) self.old.view self.new.view }
     {
         store_all::<D>(
             &self.table.shared,

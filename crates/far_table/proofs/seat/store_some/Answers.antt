@@ -3,10 +3,14 @@ use Rattle.std.specs.Prelude.{IsSome}
 use Rattle.atomic_table.specs.Seated.{TableId}
 use Rattle.far_word.specs.declared.pointer.Place.{Place}
 use Rattle.far_word.specs.Sizes.{words_for}
+use Rattle.far_word.specs.Bytes.{packed_word}
+use Rattle.far_core.specs.declared.event.Event.TheVariants.{Store}
+use Rattle.far_core.specs.declared.event.Reply.TheVariants.{Done}
 use Rattle.far_table.specs.View.{OwnerView, View, Owner}
 use Rattle.far_table.specs.Ranges.{Wrote}
-use Rattle.far_table.specs.Tells.{owner_of}
+use Rattle.far_table.specs.Tells.{OwnerMade, owner_of}
 use Rattle.far_table.specs.Views.{held_at, len_of, object_at}
+use Rattle.far_table.proofs.RowEvents.{read_packed, stored_more}
 use Rattle.far_table.proofs.StoreSteps.{store_told, stores_at}
 use Rattle.far_table.proofs.WholeWords.{places_wrote, whole_padding, whole_wrote}
 use Rattle.far_table.proofs.seat.store_some.Goals as goal
@@ -48,4 +52,7 @@ loop-i-preserved g c =
       owner = t.after_is ∙ ap (λ (z : View). Owner (owner_of z)) (sym t.after_is);
       wrote = subst (λ (v : OwnerView). Wrote c.args.p (8 * c.args.first) (take (8 * (c.loop-i.i + 1)) c.args.bytes.now) o v) (sym (ap owner_of t.after_is))
           (whole_wrote c.args.p c.args.first c.loop-i.i c.read_u64-word.result c.args.bytes.now _ o u (λ k. (c.type_inv.bytes k).fits) (omega arith) c.requires.inside refl c.read_u64-word.ensures wrote);
+      events = stored_more c.args.p c.args.first c.loop-i.i c.read_u64-word.result (c.loop-i.i + 1) (packed_word c.args.bytes.now) o u (owner_of c.store.new.seat.me.0) refl
+          (read_packed c.args.bytes.now _ c.loop-i.i c.read_u64-word.result (omega arith) refl c.read_u64-word.ensures) c.loop-i.invariant.events
+          (subst (λ z. OwnerMade (Store u.number c.args.p (c.args.first + c.loop-i.i) c.read_u64-word.result) u Done z) (sym (ap owner_of t.after_is)) t.made) (ap owner_of t.after_is);
     }
