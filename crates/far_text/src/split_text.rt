@@ -1,10 +1,7 @@
 //! The commands of a text that are split among threads, each with the number of its line.
 
-ghost use Rattle.std.specs.Prelude.{◌≡◌, ◌∷◌, ℕ, length};
-
 use crate::command::Command;
 use crate::commands::Commands;
-use crate::text::LONGEST_TEXT;
 use crate::threads::{Thread, has_thread};
 use std::alloc::{AllocError, Global};
 use std::marker::Model;
@@ -50,7 +47,7 @@ impl<'a> Model for Lines<'a> {
 }
 
 impl SplitText {
-    ghost use Rattle.std.specs.Prelude.{◌≡◌, ◌≤◌, ◌<◌, ◌+◌, ◌^◌, ◌++◌, ◌∷◌, [], length, drop, cond, Some, None, IfOk};
+    ghost use Rattle.std.specs.Prelude.{◌≡◌, ◌≤◌, ◌<◌, ◌+◌, ◌++◌, ◌∷◌, [], length, drop, cond, Some, None, IfOk};
     ghost use Rattle.std.specs.Option.{option_map, option_and_then};
     ghost use Rattle.far_text.specs.declared.text.TheConstants.{LONGEST_TEXT};
     ghost use Rattle.far_text.specs.Command.{as_command};
@@ -78,12 +75,12 @@ impl SplitText {
     }
 
     /// The number of the line at a place, and its command.
-    pub fn line(&self, place: usize) -> (u64, Command<'_>)
-        requires { place < length self.now }
-        ensures value { drop place self.now ≡ (result.0, as_command result.1) ∷ drop (place + 1) self.now }
+    pub fn at(&self, at: usize) -> (u64, Command<'_>)
+        requires { at < length self.now }
+        ensures value { drop at self.now ≡ (result.0, as_command result.1) ∷ drop (at + 1) self.now }
         ensures bytes { WritesBytes (as_command result.1) }
     {
-        (u64::from(self.numbers[place]), self.commands.at(place))
+        (u64::from(self.numbers[at]), self.commands.at(at))
     }
 
     // Adds the command of a line, if one of the threads of so many mutators, or of the book, runs it, and it can be kept.
@@ -116,7 +113,7 @@ impl SplitText {
     {
         let mut places = Vec::new(alloc);
         for place in 0..self.len() {
-            let (_, command) = self.line(place);
+            let (_, command) = self.at(place);
             if thread.runs(command) {
                 places.push(place as u32)?;
             }
@@ -144,6 +141,6 @@ impl<'a> Lines<'a> {
         ensures bytes { WritesBytes (as_command result.1) }
     {
         let text = self.text;
-        text.line(self.places[at] as usize)
+        text.at(self.places[at] as usize)
     }
 }

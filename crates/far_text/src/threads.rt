@@ -39,7 +39,7 @@ fn is_round(step: Step<'_>) -> bool
         | Step::Mark { .. }
         | Step::Wait
         | Step::Evacuate { .. }
-        | Step::Abort => { false }
+        | Step::Abort => false,
     }
 }
 

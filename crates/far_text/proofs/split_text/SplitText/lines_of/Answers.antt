@@ -11,8 +11,8 @@ loop-place-preserved c =
     let thread = as_thread c.args.thread in
     let place = c.loop-place.place in
     let places = c.loop-place.places.items in
-    let line : ℕ × Command = (c.line.result.0, as_command c.line.result.1) in
-    let here = c.line.ensures.value in
+    let line : ℕ × Command = (c.at.result.0, as_command c.at.result.1) in
+    let here = c.at.ensures.value in
     let found = c.loop-place.invariant.found in
     elim c.if-runs.branch [
       | then-runs+in_ok-push w ↦ (
