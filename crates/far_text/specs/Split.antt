@@ -1,6 +1,5 @@
 -- How a text is read whose commands are split among threads: after the heap's line each line says a command that one of them runs.
-use Rattle.std.specs.Prelude.{ℕ, ◌+◌, nat_lt, Result, Ok, Err, Option, List, [], ◌∷◌, length, if◌then◌else◌}
-use Rattle.std.specs.Prelude.{Some, None}
+use Rattle.std.specs.Prelude.{ℕ, ◌+◌, nat_lt, Result, Ok, Err, Option, Some, None, List, [], ◌∷◌, length, if◌then◌else◌}
 use Rattle.far_text.specs.Command.{Command, HeapLine, CommandLine}
 use Rattle.far_text.specs.Grammar.{Line, Skipped, Saying, Bad, line_of, lines_of}
 use Rattle.far_text.specs.HeapSought.{Found, NoHeap, HeapAt, heap_sought}
