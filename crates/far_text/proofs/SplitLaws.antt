@@ -8,8 +8,8 @@ use Rattle.far_text.specs.Command.{Command, HeapLine, CommandLine, Heap, Request
 use Rattle.far_text.specs.Grammar.{Line, Skipped, Saying, Bad, line_of, lines_of, trace_of}
 use Rattle.far_text.specs.HeapSought.{Found, NoHeap, HeapAt, found_at, heap_sought}
 use Rattle.far_text.specs.Split.{SplitTrace, NothingSplit, SplitHeap, threaded, onto_lines, threaded_onto, split_command, split_commands, with_lines, split_from, split_of}
-use Rattle.far_text.specs.SplitText.{HasThread, LinesSplit, LinesAreSplit, TextSaysSplit, CantBeSplit, FirstUnsplit, IsThread}
-use Rattle.far_text.specs.Threads.{Thread, OfMutator, OfBook, has_thread, is_own, is_of}
+use Rattle.far_text.specs.SplitText.{HasThread, LinesSplit, LinesAreSplit, TextSaysSplit, CantBeSplit, FirstUnsplit, AreOwn, IsThread}
+use Rattle.far_text.specs.Threads.{Thread, OfMutator, OfBook, has_thread, is_own, is_of, lines_in}
 use Rattle.far_text.specs.TraceText.{IsPassed, Speaks, LinesSay}
 use Rattle.far_text.proofs.TextLaws.{passed_is, is_passed, speaks_is, is_speaks, not_passed, texts_read}
 
@@ -124,6 +124,16 @@ plainly_said mutators number (line ∷ lines) said (inl h) = inl (h.0, plainly_s
 plainly_said mutators number (line ∷ lines) said (inr (c, later, is, speaks, has, says)) =
     inr (c, map (λ (line : ℕ × Command). line.1) later, ap (map (λ (line : ℕ × Command). line.1)) is, speaks, plainly_said mutators (number + 1) lines later says)
 
+-- each is of a thread
+own_lines : (mutators number : ℕ) (lines : List (List ℕ)) (said : List (ℕ × Command)) (thread : Thread) → LinesSplit mutators number lines said → AreOwn mutators thread (lines_in thread said)
+own_lines mutators number [] [] thread h = tt
+own_lines mutators number [] (one ∷ others) thread h = absurd h
+own_lines mutators number (line ∷ lines) said thread (inl h) = own_lines mutators (number + 1) lines said thread h.1
+own_lines mutators number (line ∷ lines) said thread (inr (c, later, is, speaks, has, says)) =
+    let rest = own_lines mutators (number + 1) lines later thread says in
+    subst (λ ls. AreOwn mutators thread (lines_in thread ls)) (sym is)
+    (cond_both (is_of thread c) ((number, c) ∷ lines_in thread later) (lines_in thread later) (AreOwn mutators thread) (λ own. (own, has, rest)) (λ _. rest))
+
 -- ---- the heap's line
 sought_nothing : (number : ℕ) (lines : List (List ℕ)) → LinesSay lines [] → heap_sought number lines ≡ Ok NoHeap
 sought_nothing number [] h = refl
@@ -216,6 +226,12 @@ splits_are_traces text logs mutators epoch said e =
     let (short, (front, line, rest, whole, none, speaks, says)) = (splits_read text (SplitHeap logs mutators epoch said)).1 e in
     (texts_read text (Heap logs mutators epoch (map (λ (line : ℕ × Command). line.1) said))).0
     (short, (front, line, rest, whole, none, speaks, plainly_said mutators (1 + length front + 1) rest said says))
+
+pub threads_run_their_own : (text : List ℕ) (logs mutators epoch : ℕ) (said : List (ℕ × Command)) (thread : Thread)
+    → split_of text ≡ Ok (SplitHeap logs mutators epoch said) → AreOwn mutators thread (lines_in thread said)
+threads_run_their_own text logs mutators epoch said thread e =
+    let (short, (front, line, rest, whole, none, speaks, says)) = (splits_read text (SplitHeap logs mutators epoch said)).1 e in
+    own_lines mutators (1 + length front + 1) rest said thread says
 
 -- ---- the first line that can't be split
 -- among the lines after the heap's

@@ -3,7 +3,7 @@ use Rattle.std.specs.Prelude.{◌≡◌, ◌≢◌, ◌⊎◌, ◌↔◌, ℕ, �
 use Rattle.far_text.specs.Command.{Command, HeapLine, CommandLine, Heap, Request, Where, Epoch, Inquiry, Policy, Mutator, Book, Evacuator, Round}
 use Rattle.far_text.specs.Grammar.{lines_of, trace_of}
 use Rattle.far_text.specs.Split.{SplitTrace, NothingSplit, SplitHeap, split_of}
-use Rattle.far_text.specs.Threads.{Thread, OfMutator, OfBook, is_of}
+use Rattle.far_text.specs.Threads.{Thread, OfMutator, OfBook, is_of, lines_in}
 use Rattle.far_text.specs.TraceText.{IsPassed, Speaks, LinesSay}
 use Rattle.far_text.specs.declared.text.TheConstants.{LONGEST_TEXT}
 
@@ -60,6 +60,16 @@ FirstUnsplitLines = (text : List ℕ) (n : ℕ) → split_of text ≡ Err n → 
 abbrev pub SplitsAreTraces : Type 0
 SplitsAreTraces = (text : List ℕ) (logs mutators epoch : ℕ) (said : List (ℕ × Command))
     → split_of text ≡ Ok (SplitHeap logs mutators epoch said) → trace_of text ≡ Ok (Heap logs mutators epoch (map (λ (line : ℕ × Command). line.1) said))
+
+-- these lines are a thread's own, each with a command that one of the threads runs
+abbrev pub AreOwn : ℕ → Thread → List (ℕ × Command) → Type 0
+AreOwn mutators thread [] = Unit {0}
+AreOwn mutators thread (line ∷ lines) = (is_of thread line.1 ≡ true) × HasThread mutators line.1 × AreOwn mutators thread lines
+
+-- a thread runs its own lines alone
+abbrev pub ThreadsRunTheirOwn : Type 0
+ThreadsRunTheirOwn = (text : List ℕ) (logs mutators epoch : ℕ) (said : List (ℕ × Command)) (thread : Thread)
+    → split_of text ≡ Ok (SplitHeap logs mutators epoch said) → AreOwn mutators thread (lines_in thread said)
 
 -- the threads of so many mutators, and of the book
 abbrev pub IsThread : ℕ → Thread → Type 0
