@@ -5,10 +5,14 @@ pub mod LastWord
 pub mod LineLemmas
 pub mod Numbers
 pub mod Parts
+pub mod PlaceLemmas
 pub mod Reading
 pub mod RecordLemmas
 pub mod SaysLemmas
 pub mod Scripts
 pub mod Searches
+pub mod SplitLaws
+pub mod SplitReading
 pub mod TextLaws
+pub mod ThreadLemmas
 pub mod WordLemmas

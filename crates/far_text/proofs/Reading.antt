@@ -4,11 +4,14 @@ use Rattle.std.proofs.lemmas.Bool.{lt-leb}
 use Rattle.std.proofs.lemmas.List.Sums.{count_by-le-length}
 use Rattle.std.proofs.lemmas.List.Splits.{length-slice_split}
 use Rattle.far_text.specs.declared.text.TheConstants.{LONGEST_TEXT}
+use Rattle.far_text.specs.declared.text.ParseError.{ParseError}
+use Rattle.far_text.specs.declared.text.ParseError.TheVariants.{Memory, Syntax}
 use Rattle.std.specs.Option.{option_map}
 use Rattle.std.proofs.lemmas.Option.{none-some, same_Some}
-use Rattle.far_text.specs.Command.{Command, CommandLine, Trace}
+use Rattle.far_text.specs.Command.{Command, HeapLine, CommandLine, Trace, Nothing}
 use Rattle.far_text.specs.Cursor.{first_line, lines_after_first}
-use Rattle.far_text.specs.Grammar.{Line, saying, onto, line_of, lines_of, read_command, read_commands, read_heap, read_lines, trace_of}
+use Rattle.far_text.specs.Grammar.{Line, Skipped, Saying, Bad, saying, onto, line_of, lines_of, read_command, read_commands, read_heap, read_lines, trace_of, with_heap, IsFault}
+use Rattle.far_text.specs.HeapSought.{Found, NoHeap, HeapAt, found_at, heap_sought}
 use Rattle.far_text.proofs.Cuts.{split_some}
 
 abbrev pub onto_all : List Command → Result (List Command) ℕ → Result (List Command) ℕ
@@ -29,19 +32,42 @@ few_lines text = omega (arith, length-slice_split (λ b. b == 10) text, count_by
 within : (most n : ℕ) → n ≤ most → nat_lt most n ≡ false
 within most n h = lt-leb (suc most) n (omega arith)
 
--- a text that is not too long is its lines
-pub text_short : (text : List ℕ) → length text ≤ LONGEST_TEXT → trace_of text ≡ read_lines 1 (lines_of text)
-text_short text h = rw (within LONGEST_TEXT (length text) h) refl
-
 -- a text with a line of this kind first, after the heap
 pub after_line : (number : ℕ) (text : List ℕ) (line : Line) (lines : List (List ℕ)) → line ≡ line_of (first_line text) → lines ≡ lines_after_first text
     → read_commands number (lines_of text) ≡ read_command number line (read_commands (number + 1) lines)
 after_line number text line lines is same = ap (read_commands number) (split_some (λ b. b == 10) text) ∙ rw (is, same) refl
 
--- and before it
-pub first_one : (number : ℕ) (text : List ℕ) (line : Line) (lines : List (List ℕ)) → line ≡ line_of (first_line text) → lines ≡ lines_after_first text
-    → read_lines number (lines_of text) ≡ read_heap number line (read_lines (number + 1) lines) (read_commands (number + 1) lines)
-first_one number text line lines is same = ap (read_lines number) (split_some (λ b. b == 10) text) ∙ rw (is, same) refl
+-- and where the heap's line is sought
+pub after_sought : (number : ℕ) (text : List ℕ) (line : Line) (lines : List (List ℕ)) → line ≡ line_of (first_line text) → lines ≡ lines_after_first text
+    → heap_sought number (lines_of text) ≡ found_at number line lines (heap_sought (number + 1) lines)
+after_sought number text line lines is same = ap (heap_sought number) (split_some (λ b. b == 10) text) ∙ rw (is, same) refl
+
+-- a text, by what is found of a heap in it
+abbrev pub trace_from : Result Found ℕ → Result Trace ℕ
+trace_from (Ok NoHeap) = Ok Nothing
+trace_from (Ok (HeapAt logs mutators epoch number after)) = with_heap logs mutators epoch (read_commands (number + 1) after)
+trace_from (Err number) = Err number
+
+-- what a line makes of what is found after it, it makes of what is read after it
+found_first : (number : ℕ) (line : Line) (lines : List (List ℕ)) (found : Result Found ℕ) (later : Result Trace ℕ) → later ≡ trace_from found
+    → read_heap number line later (read_commands (number + 1) lines) ≡ trace_from (found_at number line lines found)
+found_first number Skipped lines found later e = e
+found_first number (Saying (HeapLine logs mutators epoch)) lines found later e = refl
+found_first number (Saying (CommandLine c)) lines found later e = refl
+found_first number Bad lines found later e = refl
+
+pub lines_from_sought : (number : ℕ) (lines : List (List ℕ)) → read_lines number lines ≡ trace_from (heap_sought number lines)
+lines_from_sought number [] = refl
+lines_from_sought number (line ∷ lines) = found_first number (line_of line) lines (heap_sought (number + 1) lines) (read_lines (number + 1) lines) (lines_from_sought (number + 1) lines)
+
+-- a text that is not too long
+pub text_from_sought : (text : List ℕ) → length text ≤ LONGEST_TEXT → trace_of text ≡ trace_from (heap_sought 1 (lines_of text))
+text_from_sought text h = rw (within LONGEST_TEXT (length text) h) (lines_from_sought 1 (lines_of text))
+
+-- a fault of what is read first is one of all that is made of it
+pub fault_of : {X Y : Type 0} (e : ParseError) (make : Result X ℕ → Result Y ℕ) → ((n : ℕ) → make (Err n) ≡ Err n) → (read : Result X ℕ) → IsFault e read → IsFault e (make read)
+fault_of Memory make errs read h = tt
+fault_of (Syntax n) make errs read h = ap make h ∙ errs n
 
 -- fewer lines stand after the first
 pub fewer_lines : (text : List ℕ) (lines : List (List ℕ)) → lines ≡ lines_after_first text → length (lines_of text) ≡ length lines + 1
@@ -64,9 +90,9 @@ none_kept old None e number later = refl
 none_kept old (Some c) e number later = absurd (none-some (old ++ c ∷ []) (sym e))
 
 -- no command stands before the heap
-pub none_first : (command : Option Command) (number : ℕ) (same : Result Trace ℕ) (later : Result (List Command) ℕ) → read_heap number (saying (option_map CommandLine command)) same later ≡ Err number
-none_first None number same later = refl
-none_first (Some c) number same later = refl
+pub none_first : (command : Option Command) (number : ℕ) (lines : List (List ℕ)) (later : Result Found ℕ) → found_at number (saying (option_map CommandLine command)) lines later ≡ Err number
+none_first None number lines later = refl
+none_first (Some c) number lines later = refl
 
 -- it is one more
 pub one_longer : (old new : List Command) (command : Option Command) → option_map (λ c. old ++ c ∷ []) command ≡ Some new → length new ≡ length old + 1

@@ -60,11 +60,11 @@ not_skipped (b ∷ rest) c e =
       | false ↦ λ h. refl
     ] refl
 
-passed_is : (line : List ℕ) → IsPassed line → line_of line ≡ Skipped
+pub passed_is : (line : List ℕ) → IsPassed line → line_of line ≡ Skipped
 unfolding line_of
 passed_is line h = rw (is_plain_line line h.0 (ascii_list line h.1), skipped line h.2) refl
 
-is_passed : (line : List ℕ) → line_of line ≡ Skipped → IsPassed line
+pub is_passed : (line : List ℕ) → line_of line ≡ Skipped → IsPassed line
 unfolding line_of
 is_passed line = cond_both (is_plain line) (cond (is_skipped line) Skipped (saying (entry_of (line_words line)))) Bad (λ (x : Line). x ≡ Skipped → IsPassed line)
     (λ plain. cond_both (is_skipped line) Skipped (saying (entry_of (line_words line))) (λ (x : Line). x ≡ Skipped → IsPassed line)
@@ -75,13 +75,13 @@ is_passed line = cond_both (is_plain line) (cond (is_skipped line) Skipped (sayi
     not_silent None e = cc
     not_silent (Some c) e = cc
 
-speaks_is : (line : List ℕ) (c : Entry) → Speaks line c → line_of line ≡ Saying c
+pub speaks_is : (line : List ℕ) (c : Entry) → Speaks line c → line_of line ≡ Saying c
 unfolding line_of
 speaks_is line c h =
     let e = said_is_read (line_words line) c h.1 in
     rw (is_plain_line line h.0 (entry_ascii line c e), not_skipped line c e, e) refl
 
-is_speaks : (line : List ℕ) (c : Entry) → line_of line ≡ Saying c → Speaks line c
+pub is_speaks : (line : List ℕ) (c : Entry) → line_of line ≡ Saying c → Speaks line c
 unfolding line_of
 is_speaks line c = cond_both (is_plain line) (cond (is_skipped line) Skipped (saying (entry_of (line_words line)))) Bad (λ (x : Line). x ≡ Saying c → Speaks line c)
     (λ plain. cond_both (is_skipped line) Skipped (saying (entry_of (line_words line))) (λ (x : Line). x ≡ Saying c → Speaks line c)
@@ -197,7 +197,7 @@ abbrev BadAfter : ℕ → List (List ℕ) → ℕ → Type 0
 BadAfter number lines n = (front : List (List ℕ)) × (bad : List ℕ) × (rest : List (List ℕ)) × (cs : List Command)
     × (lines ≡ front ++ bad ∷ rest) × (n ≡ number + length front) × LinesSay front cs × (¬ IsPassed bad) × ((c : Command) → ¬ Speaks bad (CommandLine c))
 
-not_passed : (line : List ℕ) (l : Line) → line_of line ≡ l → l ≢ Skipped → ¬ IsPassed line
+pub not_passed : (line : List ℕ) (l : Line) → line_of line ≡ l → l ≢ Skipped → ¬ IsPassed line
 not_passed line l is other p = other (sym is ∙ passed_is line p)
 
 bad_command : (number : ℕ) (line : List ℕ) (lines : List (List ℕ)) (n : ℕ) (l : Line) → line_of line ≡ l →

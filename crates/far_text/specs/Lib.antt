@@ -1,10 +1,16 @@
 pub mod Command
 pub mod Cursor
 pub mod Grammar
+pub mod HeapSought
 pub mod HexWord
 pub mod Parsed
+pub mod Places
 pub mod Records
 pub mod Says
 pub mod Spelled
+pub mod Split
+pub mod SplitParsed
+pub mod SplitText
+pub mod Threads
 pub mod TraceText
 pub mod Written

@@ -11,10 +11,16 @@ mod hex_word;
 mod laws;
 mod line;
 mod number;
+mod split;
+mod split_text;
 mod steps;
 mod text;
+mod threads;
 
 pub use command::{Choice, Command, Inquiry, LOG_NAMES, MOST_CHOSEN, Policy, Request, Step};
 pub use commands::Commands;
-pub use laws::{grammar_is_said, limits_are};
+pub use laws::{grammar_is_said, limits_are, splitting_is_said};
+pub use split::{SplitTrace, parse_split};
+pub use split_text::{Lines, SplitText};
 pub use text::{LONGEST_TEXT, ParseError, Trace, parse};
+pub use threads::Thread;

@@ -1,11 +1,11 @@
 //! A whole text: nothing, or a heap and commands.
 
 ghost use Rattle.std.specs.Prelude.{◌≡◌, ◌<◌, ◌≤◌, ◌+◌, length, Ok, Err, None, IfOk, IfErr, IfSome};
-ghost use Rattle.far_text.specs.Command.{Nothing};
 ghost use Rattle.far_text.specs.Parsed.{as_trace};
 ghost use Rattle.far_text.specs.Cursor.{lines_left};
 ghost use Rattle.far_text.specs.declared.text.TheConstants.{LONGEST_TEXT};
-ghost use Rattle.far_text.specs.Grammar.{trace_of, lines_of, read_lines, read_commands, with_heap, IsFault};
+ghost use Rattle.far_text.specs.Grammar.{trace_of, lines_of, read_commands, IsFault};
+ghost use Rattle.far_text.specs.HeapSought.{NoHeap, HeapAt, heap_sought};
 
 use crate::command::Entry;
 use crate::commands::Commands;
@@ -62,23 +62,23 @@ pub enum Trace {
     },
 }
 
-// The heap's line: what it says, its number, and the lines after it.
+/// The heap's line: what it says, its number, and the lines after it.
 #[derive(Clone, Copy)]
-struct HeapLine<'a> {
-    logs: u64,
-    mutators: u64,
-    epoch: u64,
-    number: u64,
-    lines: Option<&'a [u8]>,
+pub struct HeapLine<'a> {
+    pub logs: u64,
+    pub mutators: u64,
+    pub epoch: u64,
+    pub number: u64,
+    pub lines: Option<&'a [u8]>,
 }
 
-// Looks for the heap's line: None where no line says anything, an error where one that says no heap comes before it.
-fn heap_line(text: &[u8]) -> Result<Option<HeapLine<'_>>, ParseError>
+/// Looks for the heap's line: None where no line says anything, an error where one that says no heap comes before it.
+pub fn heap_line(text: &[u8]) -> Result<Option<HeapLine<'_>>, ParseError>
     requires short { length text.now ≤ LONGEST_TEXT }
-    ensures none { result ≡ Ok None → read_lines 1 (lines_of text.now) ≡ Ok Nothing }
-    ensures heap { IfOk result (λ found. IfSome found (λ heap. read_lines 1 (lines_of text.now) ≡ with_heap heap.logs heap.mutators heap.epoch (read_commands (heap.number + 1) (lines_left heap.lines)))) }
+    ensures none { result ≡ Ok None → heap_sought 1 (lines_of text.now) ≡ Ok NoHeap }
+    ensures heap { IfOk result (λ found. IfSome found (λ heap. heap_sought 1 (lines_of text.now) ≡ Ok (HeapAt heap.logs heap.mutators heap.epoch heap.number (lines_left heap.lines)))) }
     ensures counted { IfOk result (λ found. IfSome found (λ heap. heap.number + length (lines_left heap.lines) ≤ LONGEST_TEXT + 1)) }
-    ensures fault { IfErr result (λ e. IsFault e (read_lines 1 (lines_of text.now))) }
+    ensures fault { IfErr result (λ e. IsFault e (heap_sought 1 (lines_of text.now))) }
 {
     let mut number = 0u64;
     let mut lines = Some(text);

@@ -5,4 +5,6 @@
 #[cfg(test)]
 mod example;
 #[cfg(test)]
+mod split;
+#[cfg(test)]
 mod steps;

@@ -1,0 +1,165 @@
+//! Texts whose commands are split among threads: whose each line is, and which line is the first that is nobody's.
+
+use far_text::{
+    Command, Inquiry, Lines, ParseError, Request, SplitText, SplitTrace, Step, Thread, parse_split,
+};
+use std::alloc::{AllocGlobal, Global};
+use std::test::*;
+
+fn have_numbers(lines: &Lines<'_>, numbers: &[u64]) -> bool {
+    if lines.len() != numbers.len() {
+        return false;
+    }
+    for at in 0..lines.len() {
+        if lines.at(at).0 != numbers[at] {
+            return false;
+        }
+    }
+    true
+}
+
+fn has_lines(alloc: Global, text: &SplitText, thread: Thread, numbers: &[u64]) -> bool {
+    match text.lines_of(alloc, thread) {
+        Ok(lines) => have_numbers(&lines, numbers),
+        Err(_) => false,
+    }
+}
+
+// Whether a text's lines of these numbers are the thread's, and no others.
+fn runs_lines(alloc: Global, text: &[u8], thread: Thread, numbers: &[u64]) -> bool {
+    match parse_split(alloc, text) {
+        Ok(SplitTrace::Heap { lines, .. }) => has_lines(alloc, &lines, thread, numbers),
+        Ok(SplitTrace::Nothing) | Err(_) => false,
+    }
+}
+
+// Whether a text says this heap.
+fn says_heap(alloc: Global, text: &[u8], heap: (u64, u64, u64)) -> bool {
+    match parse_split(alloc, text) {
+        Ok(
+            SplitTrace::Heap {
+                logs,
+                mutators,
+                epoch,
+                ..
+            },
+        ) => logs == heap.0 && mutators == heap.1 && epoch == heap.2,
+        Ok(SplitTrace::Nothing) | Err(_) => false,
+    }
+}
+
+fn says_nothing(alloc: Global, text: &[u8]) -> bool {
+    matches!(parse_split(alloc, text), Ok(SplitTrace::Nothing))
+}
+
+// Whether this line is the first that can't be split.
+fn is_refused_at(alloc: Global, text: &[u8], line: u64) -> bool {
+    match parse_split(alloc, text) {
+        Err(ParseError::Syntax(number)) => number == line,
+        Ok(_) | Err(ParseError::Memory) => false,
+    }
+}
+
+// Whether it is a write of 10, a round, or an inquiry of log 3.
+fn is_as_written(command: Command) -> bool {
+    match command {
+        Command::Mutator {
+            request: Request::Write { bytes, .. },
+            ..
+        } => bytes == [10].as_slice(),
+        Command::Evacuator(Step::Round { turns, .. }) => turns == 9,
+        Command::Book(Inquiry::Log { log }) => log == 3,
+        _ => false,
+    }
+}
+
+fn is_known_at(lines: &Lines<'_>, at: usize) -> bool {
+    at < lines.len() && is_as_written(lines.at(at).1)
+}
+
+// Whether the command at this place of a thread's lines is one of those.
+fn runs_known_at(alloc: Global, text: &SplitText, thread: Thread, at: usize) -> bool {
+    match text.lines_of(alloc, thread) {
+        Ok(lines) => is_known_at(&lines, at),
+        Err(_) => false,
+    }
+}
+
+fn has_known_at(alloc: Global, text: &[u8], thread: Thread, at: usize) -> bool {
+    match parse_split(alloc, text) {
+        Ok(SplitTrace::Heap { lines, .. }) => runs_known_at(alloc, &lines, thread, at),
+        Ok(SplitTrace::Nothing) | Err(_) => false,
+    }
+}
+
+#[test]
+fn each_mutator_has_its_own_lines(rt: HostRuntime) -> Result<(), Fail> {
+    let text =
+        b"heap 4 2\nnew 0 8 1\nnew 1 8 1\nopen 0\nwrite 0 0 0 0a\nread 0 0 0 1\nopen 1\nread 1 128 0 1";
+    assert!(rt; runs_lines(rt.alloc(), text, Thread::Mutator(0), &[2, 4, 5, 6]));
+    assert!(rt; has_known_at(rt.alloc(), text, Thread::Mutator(0), 2));
+    assert!(rt; runs_lines(rt.alloc(), text, Thread::Mutator(1), &[3, 7, 8]));
+    assert!(rt; runs_lines(rt.alloc(), text, Thread::Mutator(2), &[]));
+    assert!(rt; runs_lines(rt.alloc(), text, Thread::Book, &[]));
+    Ok(())
+}
+
+#[test]
+fn the_books_lines_stand_among_them(rt: HostRuntime) -> Result<(), Fail> {
+    // comments and empty lines are counted
+    let text =
+        b"# first\n\nheap 4 8 5\nlogs\nview 7 900\nround leastlive 2 9\n\nlog 3\ntry 7 900\n# the last\naudit\ndrop 7 900\nclose 7\n";
+    assert!(rt; says_heap(rt.alloc(), text, (4, 8, 5)));
+    assert!(rt; runs_lines(rt.alloc(), text, Thread::Book, &[4, 6, 8, 11]));
+    assert!(rt; has_known_at(rt.alloc(), text, Thread::Book, 1));
+    assert!(rt; has_known_at(rt.alloc(), text, Thread::Book, 2));
+    assert!(rt; runs_lines(rt.alloc(), text, Thread::Mutator(7), &[5, 9, 12, 13]));
+    assert!(rt; runs_lines(rt.alloc(), text, Thread::Mutator(6), &[]));
+    Ok(())
+}
+
+#[test]
+fn a_text_may_say_nothing(rt: HostRuntime) -> Result<(), Fail> {
+    assert!(rt; says_nothing(rt.alloc(), b""));
+    assert!(rt; says_nothing(rt.alloc(), b"\n# a comment\n"));
+    // a heap has threads without lines too
+    assert!(rt; runs_lines(rt.alloc(), b"heap 4 1\n", Thread::Book, &[]));
+    Ok(())
+}
+
+#[test]
+fn lines_of_nobody_are_refused(rt: HostRuntime) -> Result<(), Fail> {
+    let lines: [&[u8]; 14] = [
+        b"heap 4 1\nnew 0 8 1\nround oldest 1 9\nepoch 0",
+        b"heap 4 1\nnew 0 8 1\nlogs\nwhere 0 0\nepoch 0",
+        b"heap 4 1\n\n\nselect oldest 1\nlogs",
+        b"heap 4 1\n\n\nselect script 1 0",
+        b"heap 4 1\naudit\naudit\nmark 1",
+        b"heap 4 1\nlogs\nlogs\nwait",
+        b"heap 4 1\nlogs\nlogs\nevacuate 0",
+        b"heap 4 1\nlogs\nlogs\nabort\nwait",
+        // off the grammar of all traces
+        b"heap 4 1\nlogs\nlogs\nlogs 0\nepoch 0",
+        b"heap 4 1\nopen 0\nopen 0\nwrite 0 0 0 abc\nepoch 0",
+        b"heap 4 1\nopen 0\nopen 0\nheap 4 1",
+        b"# first\n\n\nopen 0\nheap 4 1",
+        // a mutator that the heap hasn't
+        b"heap 4 2\nopen 0\nopen 1\nopen 2\nlog 99",
+        b"heap 4 2\nopen 0\nlog 99\nwrite 18446744073709551615 0 0 00\nopen 2",
+    ];
+    for text in lines {
+        assert!(rt; is_refused_at(rt.alloc(), text, 4));
+    }
+    Ok(())
+}
+
+#[test]
+fn mutators_are_those_of_the_heaps_line(rt: HostRuntime) -> Result<(), Fail> {
+    // whether a heap may have so many isn't asked
+    let text = b"heap 4 18446744073709551615\nopen 18446744073709551614\nopen 8";
+    assert!(rt; runs_lines(rt.alloc(), text, Thread::Mutator(u64::MAX - 1), &[2]));
+    assert!(rt; runs_lines(rt.alloc(), text, Thread::Mutator(8), &[3]));
+    assert!(rt; is_refused_at(rt.alloc(), b"heap 1 1\nnew 1 8 1", 2));
+    assert!(rt; is_refused_at(rt.alloc(), b"heap 4 0\nopen 0", 2));
+    Ok(())
+}
