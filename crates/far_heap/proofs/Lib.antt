@@ -1,6 +1,7 @@
 pub mod OwnRows
 pub mod Mines
 pub mod OwnSteps
+pub mod MineLaws
 pub mod Slow
 pub mod Spliced
 pub mod Parts

@@ -199,6 +199,7 @@ pub record OwnOk (s : Seated) (name : TableId) (number : ℕ) (lens stamps : Lis
   pub short : (p : ℕ) → p / CELLS ≡ number → seat_len (object_at s.view p) ≤ LONGEST
   pub views_are : (p : ℕ) → p / CELLS ≡ number → is_some (held_at s.view p) ≡ (slice_index_or stamps (p % CELLS) 0 == scope)
   pub held_used : (p : ℕ) → p / CELLS ≡ number → is_some (held_at s.view p) ≡ true → seat_uses s.view p ≡ true
+  pub held_open : (p : ℕ) → p / CELLS ≡ number → is_some (held_at s.view p) ≡ true → is_some s.view.open_at ≡ true
   pub past : (k : ℕ) → slice_index_or stamps k 0 ≤ scope
 
 -- the seat of a mutator of a new heap: it uses nothing, views nothing, and its scope is closed

@@ -3,6 +3,7 @@ ghost use Rattle.std.specs.Prelude.{◌≡◌, ◌+◌, ◌*◌, ◌/◌, ◌%�
 ghost use Rattle.far_table.specs.Views.{said_ds, said_len};
 ghost use Rattle.far_word.specs.Pointer.{read_of};
 ghost use Rattle.far_heap.specs.Made.{Pinned};
+ghost use Rattle.far_heap.specs.MineLaw.{MineLaw};
 ghost use Rattle.far_heap.specs.declared.view.Tried.{Tried as any_tried};
 ghost use Rattle.far_heap.specs.Mine.{IsNew, TriedSo, access_refusal, adopting, bytes_in, closing, dropping, len_in, newcomer, opening, owns, uses, view_of, views, viewing, writing};
 ghost use Rattle.far_word.specs.declared.refused.Refused.{Refused as any_refusal};
@@ -97,6 +98,13 @@ impl<K: HeapName, D: Device> Own<K, D> {
             scope: 1,
             of: PhantomData,
         })
+    }
+
+    // What holds between any two calls.
+    pub(crate) fn keeps_law(&self)
+        ensures { MineLaw self.now }
+    {
+        let _number = self.number;
     }
 
     // Opens the scope.

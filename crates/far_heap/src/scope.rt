@@ -1,6 +1,7 @@
 // A mutator whose scope is open.
 ghost use Rattle.std.specs.Prelude.{◌≡◌, ◌+◌, true, false, length, slice_range, None, Some, Ok, IfOk, IfErr, IfSome};
 ghost use Rattle.far_heap.specs.Made.{Pinned};
+ghost use Rattle.far_heap.specs.MineLaw.{MineLaw};
 ghost use Rattle.far_heap.specs.declared.view.Tried.{Tried as any_tried};
 ghost use Rattle.far_heap.specs.Mine.{IsNoObject, IsNoView, TriedSo, access_refusal, adopting, bytes_in, closing, drop_refusal, dropping, is_length, len_in, owns, uses, view_of, viewing, views, writing};
 ghost use Rattle.far_word.specs.declared.refused.Refused.{Refused as any_refusal};
@@ -43,6 +44,16 @@ impl<K: HeapName, D: Device + Drop> Scope<K, D> {
         ensures { result ≡ own }
     {
         Scope { own, lock }
+    }
+
+    /// What holds of an open scope between any two calls: what it views its mutator uses, and each object that this uses has 1 to 1,016 bytes, which it
+    /// knows where the far side is honest. The call does nothing.
+    pub fn keeps_law(&self)
+        ensures law { MineLaw self.now }
+        ensures opened { self.now.opened ≡ true }
+        ensures table { self.now.table ≡ K.table }
+    {
+        self.own.keeps_law();
     }
 
     /// Makes a new object, as [`Mutator::alloc`] does. The scope doesn't view it yet.
