@@ -9,6 +9,7 @@ pub mod Accesses
 pub mod Newcomers
 pub mod Adopting
 pub mod Named
+pub mod FarSides
 pub mod NewSeats
 pub mod Under
 pub mod Calls
