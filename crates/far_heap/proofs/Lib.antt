@@ -14,3 +14,4 @@ pub mod NewSeats
 pub mod Under
 pub mod Calls
 pub mod Undone
+pub mod RoundTurns
