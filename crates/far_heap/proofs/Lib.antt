@@ -14,4 +14,5 @@ pub mod NewSeats
 pub mod Under
 pub mod Calls
 pub mod Undone
+pub mod Asking
 pub mod RoundTurns
