@@ -80,6 +80,7 @@ module _ (s : Seated) (name : TableId) (number : ℕ) (lens stamps : List ℕ) (
       | inl e ↦ ap is_some (put_same (object_at s.view) p (Some (fresh w)) q e)
       | inr ne ↦ ap is_some (put_other (object_at s.view) p (Some (fresh w)) q ne) ∙ ok.held_used q mine held
     ];
+    held_open = ok.held_open;
     past = ok.past;
   }
 
@@ -117,6 +118,7 @@ module _ (s : Seated) (name : TableId) (number : ℕ) (lens stamps : List ℕ) (
       | inl e ↦ absurd (false≢true (sym (ap (λ z. is_some (held_at s.view z)) e ∙ free) ∙ held))
       | inr ne ↦ ap is_some (put_other (object_at s.view) p None q ne) ∙ ok.held_used q mine held
     ];
+    held_open = ok.held_open;
     past = ok.past;
   }
 

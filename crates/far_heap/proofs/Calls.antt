@@ -6,7 +6,7 @@ use Rattle.std.proofs.lemmas.Grind.{get_or-set_at}
 use Rattle.std.proofs.lemmas.List.{get_or-append_right, get_or-drop, get_or-replicate, get_or-take, get_or_append_left, get_or-set_other, length-append, length-drop, length-replicate, length-set, length-take-le}
 use Rattle.atomic_table.specs.Seated.{TableId}
 use Rattle.far_word.specs.declared.sizes.TheConstants.{CELLS}
-use Rattle.far_heap.specs.Calls.{Call, Called, Opens, Closes, Views, Makes, Drops, Writes, LeaveByte, LeavesByte, MayCall, ReadsGiveLastWrites, SaysByte, after_call}
+use Rattle.far_heap.specs.Calls.{Call, Called, Opens, Closes, Asks, Views, Makes, Drops, Writes, LeaveByte, LeavesByte, MayCall, ReadsGiveLastWrites, SaysByte, after_call}
 use Rattle.far_heap.specs.Mine.{Mine, Object, known_bytes, len_of, newcomer, object_of, owns, rewritten, with_range, zeros_known}
 use Rattle.far_heap.proofs.OwnRows.{length-own_row, own_row-get}
 
@@ -77,6 +77,7 @@ rewritten_well (Some x) from bytes w fits = (with_range w.0 from bytes, ap (opti
 stays_well : (c : Call) (m : Mine) → MayCall c m → Well m → Well (after_call c m)
 stays_well Opens m may w = record { many = w.many; honest = w.honest; all = w.all }
 stays_well Closes m may w = record { many = w.many; honest = w.honest; all = w.all }
+stays_well (Asks p n) m may w = record { many = w.many; honest = w.honest; all = w.all }
 stays_well (Views p) m may w = record { many = w.many; honest = w.honest; all = w.all }
 stays_well (Makes p len ds) m may w = well_with m w p may (Some record { len = len; ds = ds; bytes = zeros_known m.honest len }) (zeros_well m.honest len ds w.honest)
 stays_well (Drops p) m may w = well_with m w p may None tt
@@ -118,6 +119,7 @@ rewritten_leaves (Some x) from bytes k b w fits beside has =
 says_so : (c : Call) (m : Mine) (p k b : ℕ) → Well m → MayCall c m → SaysByte c p k b → HasIn (object_of (after_call c m) p) k b
 says_so Opens m p k b w may says = absurd says
 says_so Closes m p k b w may says = absurd says
+says_so (Asks q n) m p k b w may says = absurd says
 says_so (Views q) m p k b w may says = absurd says
 says_so (Makes q len ds) m p k b w may says =
     subst (λ z. HasIn (object_of (after_call (Makes q len ds) m) z) k b) says.0
@@ -133,6 +135,7 @@ says_so (Writes q from bytes) m p k b w may says =
 leaves_so : (c : Call) (m : Mine) (p k b : ℕ) → Well m → MayCall c m → LeavesByte c p k → HasIn (object_of m p) k b → HasIn (object_of (after_call c m) p) k b
 leaves_so Opens m p k b w may leaves has = has
 leaves_so Closes m p k b w may leaves has = has
+leaves_so (Asks q n) m p k b w may leaves has = has
 leaves_so (Views q) m p k b w may leaves has = has
 leaves_so (Makes q len ds) m p k b w may leaves has = subst (λ o. HasIn o k b) (sym (elsewhere m w.many q may (Some record { len = len; ds = ds; bytes = zeros_known m.honest len }) p (λ e. leaves (sym e)))) has
 leaves_so (Drops q) m p k b w may leaves has = subst (λ o. HasIn o k b) (sym (elsewhere m w.many q may None p (λ e. leaves (sym e)))) has

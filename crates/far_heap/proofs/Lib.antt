@@ -1,6 +1,7 @@
 pub mod OwnRows
 pub mod Mines
 pub mod OwnSteps
+pub mod MineLaws
 pub mod Slow
 pub mod Spliced
 pub mod Parts
@@ -8,7 +9,10 @@ pub mod Accesses
 pub mod Newcomers
 pub mod Adopting
 pub mod Named
+pub mod FarSides
 pub mod NewSeats
 pub mod Under
 pub mod Calls
 pub mod Undone
+pub mod Asking
+pub mod RoundTurns

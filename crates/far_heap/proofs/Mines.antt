@@ -1,5 +1,5 @@
 -- What a mutator is, by its seat's view.
-use Rattle.std.proofs.Common.{◌≡◌, ◌≢◌, ℕ, ◌/◌, ◌%◌, Bool, true, false, Option, Some, None, is_some, refl, sym, ap, ◌∙◌, inl, inr, List}
+use Rattle.std.proofs.Common.{◌≡◌, ◌≢◌, ℕ, ◌+◌, ◌/◌, ◌%◌, Bool, true, false, Option, Some, None, is_some, refl, sym, ap, ◌∙◌, inl, inr, List, ◌∷◌}
 use Rattle.std.specs.Prelude.{slice_set}
 use Rattle.std.proofs.lemmas.Bool.{cases_eq, eq-eqb, ne_eqb, false≢true}
 use Rattle.std.proofs.lemmas.List.{set-get_or}
@@ -8,8 +8,8 @@ use Rattle.far_word.specs.declared.sizes.TheConstants.{CELLS}
 use Rattle.far_core.proofs.Put.{put_other, put_same}
 use Rattle.far_table.specs.View.{ObjectView}
 use Rattle.far_table.specs.Seats.{Seated}
-use Rattle.far_table.specs.Views.{closed_view, ds_of as seat_ds, held_at, held_view, len_of as seat_len, object_at, uses as seat_uses}
-use Rattle.far_heap.specs.Mine.{bytes_in, closing, ds_in, ds_of, known_bytes, len_in, len_of, mine_of, object_of, own_row, seen, uses, viewing, views}
+use Rattle.far_table.specs.Views.{asked_at, closed_view, ds_of as seat_ds, held_at, held_view, len_of as seat_len, object_at, uses as seat_uses}
+use Rattle.far_heap.specs.Mine.{asking, bytes_in, closing, ds_in, ds_of, known_bytes, len_in, len_of, mine_of, object_of, own_row, seen, uses, viewing, views}
 use Rattle.far_heap.proofs.OwnRows.{own_row-const, own_row-get, own_row-one}
 
 pub is_some_seen : (h : Bool) (x : Option ObjectView) → is_some (seen h x) ≡ is_some x
@@ -55,6 +55,15 @@ module _ (s : Seated) (p : ℕ) where
         let g : ℕ → Bool = λ q. is_some (held_at (held_view p place s.view) q) in
         ap (λ (row : List Bool). record (mine_of s) { viewed = row }) (own_row-one f g s.view.number p true own
         (λ q ne. ap is_some (put_other (held_at s.view) p (Some place) q ne)) (ap is_some (put_same (held_at s.view) p (Some place) p refl)))
+
+    -- MOVE was set anew so many times
+    pub asked_mine : (n : ℕ) → mine_of record { table = s.table; view = record s.view { asked = (p, asked_at s.view p + n) ∷ s.view.asked } } ≡ asking p n (mine_of s)
+    asked_mine n =
+        let f : ℕ → ℕ = λ q. asked_at s.view q in
+        let g : ℕ → ℕ = λ q. asked_at (record s.view { asked = (p, asked_at s.view p + n) ∷ s.view.asked }) q in
+        ap (λ (row : List ℕ). record (mine_of s) { asked = row })
+        (own_row-one f g s.view.number p (asked_at s.view p + n) own (λ q ne. put_other (asked_at s.view) p (asked_at s.view p + n) q ne) (put_same (asked_at s.view) p (asked_at s.view p + n) p refl)
+        ∙ ap (λ k. slice_set (own_row f s.view.number) (p % CELLS) (k + n)) (sym (own_row-get f s.view.number p 0 own)))
 
     -- it is viewed already
     pub again_mine : is_some (held_at s.view p) ≡ true → mine_of s ≡ viewing p (mine_of s)

@@ -1,5 +1,5 @@
 -- A mutator of a new heap.
-use Rattle.std.proofs.Common.{◌≡◌, ℕ, ◌/◌, Bool, Option, Some, None, is_some, refl, inl, inr, arith}
+use Rattle.std.proofs.Common.{◌≡◌, ℕ, ◌*◌, ◌/◌, Bool, cond, Option, Some, None, is_some, refl, ap, ◌∙◌, inl, inr, arith}
 use Rattle.std.proofs.lemmas.Bool.{cases_eq}
 use Rattle.far_word.specs.declared.sizes.TheConstants.{CELLS}
 use Rattle.far_core.specs.declared.shape.Shape.{Shape}
@@ -8,7 +8,12 @@ use Rattle.far_core.specs.state.Opening.{opening}
 use Rattle.far_table.specs.View.{OwnerView}
 use Rattle.far_table.specs.Seats.{Seated}
 use Rattle.far_table.specs.Stands.{SaysOwner}
-use Rattle.far_table.specs.Views.{object_at}
+use Rattle.far_core.specs.events.Quiet.{has_move}
+use Rattle.far_core.proofs.Cells.{unused}
+use Rattle.far_core.specs.state.State.{State}
+use Rattle.far_table.specs.First.{first_owner}
+use Rattle.far_table.specs.Views.{asked_at, moves, object_at}
+use Rattle.far_table.proofs.FirstViews.{first_asked, over_beside}
 use Rattle.far_heap.specs.Mine.{IsNew, mine_of, newcomer, own_row, seen}
 use Rattle.far_heap.proofs.Mines.{none_there}
 
@@ -20,15 +25,23 @@ new_mine s number new = λ i. record {
   opened = is_some (new.closed i);
   objects = own_row (λ p. seen s.view.honest (new.unused p i)) (new.number_is i);
   viewed = own_row (λ p. is_some (new.free p i)) (new.number_is i);
+  asked = own_row (λ p. new.unasked p i) (new.number_is i);
 }
 
 closed_at_first : (x : Option ℕ) → scope_word_of x ≡ 0 → x ≡ None
 closed_at_first None e = refl
 closed_at_first (Some e) h = absurd (omega (arith, h))
 
+-- no owner of a core whose cells are free has asked for anything
+pub none_asked : (s : State) (honest : Bool) (m p : ℕ) → s.cell p ≡ 0 → asked_at (first_owner s honest m) p ≡ 0
+none_asked s honest m p free = elim (cases_eq (p / CELLS) m) [
+  | inl own ↦ first_asked s honest m p own ∙ ap moves free ∙ ap (λ o. cond (has_move o) 1 0) unused
+  | inr ne ↦ over_beside (λ q. moves (s.cell q)) (λ _. 0) CELLS (CELLS * m) p (λ ge lt. ne (omega arith))
+]
+
 -- what `share` leaves an owner of a new core knowing
-pub new_owner : (shape : Shape) (far honest : Bool) (m : ℕ) (o : OwnerView) → SaysOwner (opening shape far) honest m o → IsNew m o
-new_owner shape far honest m o says = record {
+pub new_owner : (shape : Shape) (far honest : Bool) (m : ℕ) (o : OwnerView) → SaysOwner (opening shape far) honest m o → ((p : ℕ) → asked_at o p ≡ 0) → IsNew m o
+new_owner shape far honest m o says unasked = record {
   number_is = says.number;
   closed = closed_at_first o.open_at says.scope;
   unused = λ p. elim (cases_eq (p / CELLS) m) [
@@ -39,4 +52,5 @@ new_owner shape far honest m o says = record {
     | inl own ↦ says.held p own
     | inr ne ↦ (says.others p ne).1
   ];
+  unasked = unasked;
 }

@@ -41,6 +41,7 @@ new_ok s name number lens stamps table new few many_lens many_stamps no_lens no_
   short = λ p own. omega (arith, ap seat_len (new.unused p));
   views_are = λ p own. ap is_some (new.free p) ∙ sym (ne_eqb (get_or stamps (p % CELLS) 0) 1 (λ e. omega (arith, no_stamps (p % CELLS))));
   held_used = λ p own held. absurd (false≢true (sym (ap is_some (new.free p)) ∙ held));
+  held_open = λ p own held. absurd (false≢true (sym (ap is_some (new.free p)) ∙ held));
   past = λ k. omega (arith, no_stamps k);
 }
 
@@ -82,8 +83,8 @@ module _ (s : Seated) (name : TableId) (number : ℕ) (lens stamps : List ℕ) (
   stamp_unviewed p x own is ne = views_own s p (own ∙ sym ok.number_is) ∙ stamp_free p x own is ne
 
   -- ---- a pin that held a place
-  pub pinned_ok : (p : ℕ) (place : Place) → p / CELLS ≡ number → seat_uses s.view p ≡ true → OwnOk (record { table = s.table; view = held_view p place s.view }) name number lens (slice_set stamps (p % CELLS) scope) scope
-  pinned_ok p place own used = record {
+  pub pinned_ok : (p : ℕ) (place : Place) → p / CELLS ≡ number → seat_uses s.view p ≡ true → is_some s.view.open_at ≡ true → OwnOk (record { table = s.table; view = held_view p place s.view }) name number lens (slice_set stamps (p % CELLS) scope) scope
+  pinned_ok p place own used opened = record {
     table = ok.table;
     number_is = ok.number_is;
     few = ok.few;
@@ -102,6 +103,7 @@ module _ (s : Seated) (name : TableId) (number : ℕ) (lens stamps : List ℕ) (
       | inl e ↦ ap (seat_uses s.view) e ∙ used
       | inr ne ↦ ok.held_used q mine (sym (ap is_some (put_other (held_at s.view) p (Some place) q ne)) ∙ held)
     ];
+    held_open = λ _ _ _. opened;
     past = λ k. elim (cases_eq k (p % CELLS)) [
       | inl e ↦ omega (arith, get_or-set_at stamps (p % CELLS) k scope 0 e (omega (arith, ok.many_stamps)))
       | inr ne ↦ omega (arith, get_or-set_other stamps (p % CELLS) k scope 0 ne, ok.past k)
@@ -121,6 +123,7 @@ module _ (s : Seated) (name : TableId) (number : ℕ) (lens stamps : List ℕ) (
     short = ok.short;
     views_are = λ q mine. sym (ne_eqb (get_or stamps' (q % CELLS) 0) scope' (λ e. omega (arith, less (q % CELLS))));
     held_used = λ q mine held. absurd (false≢true held);
+    held_open = λ q mine held. absurd (false≢true held);
     past = λ k. omega (arith, less k);
   }
 
@@ -147,5 +150,6 @@ module _ (s : Seated) (name : TableId) (number : ℕ) (lens stamps : List ℕ) (
         short = λ q mine. omega (arith, long q, ok.short q mine);
         views_are = λ q mine. ap (λ f. is_some (f q)) held ∙ ok.views_are q mine;
         held_used = λ q mine h. used q ∙ ok.held_used q mine (sym (ap (λ f. is_some (f q)) held) ∙ h);
+        held_open = λ q mine h. ap (λ (o : OwnerView). is_some o.open_at) w.rest ∙ ok.held_open q mine (sym (ap (λ f. is_some (f q)) held) ∙ h);
         past = ok.past;
       }

@@ -1,16 +1,30 @@
 -- What a heap is made of.
-use Rattle.std.specs.Prelude.{◌≡◌, ◌+◌, ◌≤◌, ℕ, Bool, List, [], ◌∷◌, length, map}
+use Rattle.std.specs.Prelude.{◌≡◌, ◌+◌, ◌<◌, ◌≤◌, ℕ, Bool, false, List, [], ◌∷◌, length, map}
 use Rattle.std.specs.List.{range_with_len}
 use Rattle.atomic_table.specs.Seated.{TableId}
 use Rattle.far_word.specs.declared.sizes.TheConstants.{MOST_MUTATORS}
+use Rattle.far_core.specs.declared.event.Kind.TheVariants.{Free, Open}
+use Rattle.far_core.specs.state.State.{State}
+use Rattle.far_table.specs.declared.book.BookSeat.{BookSeat}
 use Rattle.far_table.specs.Seats.{Seated}
+use Rattle.far_book.specs.book.BookOf.{BookOf}
 use Rattle.far_heap.specs.Mine.{IsNew, Mine, newcomer}
 
--- the parts of a heap that nobody has begun to use: their table, how many mutators there will be, and whether the far side is honest
-pub record BlankOf : Type 0 where
+-- the parts of a heap that nobody has begun to use: their table, how many mutators there will be, and whether the far side is honest; and the book
+pub record BlankOf (D : Type 0) : Type 0 where
   pub table : TableId
   pub mutators : ℕ
   pub honest : Bool
+  pub book : BookOf (BookSeat D) D
+
+-- nothing lies in this core: each cell is free, log 0 is open and each other log free, no word of any log is taken, and none is in a round
+pub record IsUnused (s : State) : Type 0 where
+  pub cells : (p : ℕ) → s.cell p ≡ 0
+  pub first : s.kind 0 ≡ Open
+  pub others : (l : ℕ) → 0 < l → s.kind l ≡ Free
+  pub empty : (l : ℕ) → s.tail l ≡ 0
+  pub spans : (a : ℕ) → s.starts a ≡ false
+  pub round : (l : ℕ) → s.round l ≡ false
 
 -- these are seats of a table, of owners by number from one on, who have done nothing
 abbrev pub AreNew : TableId → Bool → ℕ → List Seated → Type 0

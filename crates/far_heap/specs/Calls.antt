@@ -1,13 +1,14 @@
 -- A mutator's own calls, one after the other, and which byte a read finds by them alone, whatever other threads do meanwhile.
 use Rattle.std.specs.Prelude.{◌≡◌, ◌≢◌, ◌⊎◌, ℕ, ◌+◌, ◌-◌, ◌<◌, ◌≤◌, true, Some, List, [], ◌∷◌, ◌++◌, length, slice_index}
 use Rattle.atomic_table.specs.Seated.{TableId}
-use Rattle.far_heap.specs.Mine.{Mine, adopting, bytes_in, closing, dropping, len_in, newcomer, opening, owns, viewing, writing}
+use Rattle.far_heap.specs.Mine.{Mine, adopting, asking, bytes_in, closing, dropping, len_in, newcomer, opening, owns, viewing, writing}
 
--- what a call did: it opened or closed the scope, viewed an object, made one of so many bytes and a data structure, dropped one, or wrote bytes from one on. To try, to read, and to
+-- what a call did: it opened or closed the scope, asked so many times for an object to be moved, viewed one, made one of so many bytes and a data structure, dropped one, or wrote bytes from one on. To try, to read, and to
 -- be refused does nothing
 pub data Call : Type 0 where
   Opens : Call
   Closes : Call
+  Asks : ℕ → ℕ → Call
   Views : ℕ → Call
   Makes : ℕ → ℕ → ℕ → Call
   Drops : ℕ → Call
@@ -16,6 +17,7 @@ pub data Call : Type 0 where
 abbrev pub after_call : Call → Mine → Mine
 after_call Opens m = opening m
 after_call Closes m = closing m
+after_call (Asks p n) m = asking p n m
 after_call (Views p) m = viewing p m
 after_call (Makes p len ds) m = adopting p len ds m
 after_call (Drops p) m = dropping p m
@@ -25,6 +27,7 @@ after_call (Writes p from bytes) m = writing p from bytes m
 abbrev pub MayCall : Call → Mine → Type 0
 MayCall Opens m = Unit {0}
 MayCall Closes m = Unit {0}
+MayCall (Asks p n) m = Unit {0}
 MayCall (Views p) m = Unit {0}
 MayCall (Makes p len ds) m = owns m p ≡ true
 MayCall (Drops p) m = owns m p ≡ true
@@ -40,6 +43,7 @@ Called m (c ∷ cs) n = MayCall c m × Called (after_call c m) cs n
 abbrev pub SaysByte : Call → ℕ → ℕ → ℕ → Type 0
 SaysByte Opens p k b = ⊥
 SaysByte Closes p k b = ⊥
+SaysByte (Asks q n) p k b = ⊥
 SaysByte (Views q) p k b = ⊥
 SaysByte (Makes q len ds) p k b = (q ≡ p) × (k < len) × (b ≡ 0)
 SaysByte (Drops q) p k b = ⊥
@@ -49,6 +53,7 @@ SaysByte (Writes q from bytes) p k b = (q ≡ p) × (from ≤ k) × (k < from + 
 abbrev pub LeavesByte : Call → ℕ → ℕ → Type 0
 LeavesByte Opens p k = Unit {0}
 LeavesByte Closes p k = Unit {0}
+LeavesByte (Asks q n) p k = Unit {0}
 LeavesByte (Views q) p k = Unit {0}
 LeavesByte (Makes q len ds) p k = q ≢ p
 LeavesByte (Drops q) p k = q ≢ p

@@ -1,4 +1,5 @@
 pub mod Mine
+pub mod MineLaw
 pub mod Made
 pub mod Blanks
 pub mod Rounds

@@ -11,7 +11,7 @@ use Rattle.far_word.specs.declared.refused.Refused.TheVariants.{Damaged, Device,
 use Rattle.far_word.specs.declared.sizes.TheConstants.{CELLS, LONGEST, MOST_MUTATORS}
 use Rattle.far_table.specs.View.{ObjectView, OwnerView}
 use Rattle.far_table.specs.Seats.{Seated}
-use Rattle.far_table.specs.Views.{held_at, len_of as seat_len, object_at, uses as seat_uses, word_of}
+use Rattle.far_table.specs.Views.{asked_at, held_at, len_of as seat_len, object_at, uses as seat_uses, word_of}
 use Rattle.far_heap.specs.declared.view.Tried.{Tried}
 use Rattle.far_heap.specs.declared.view.Tried.TheVariants.{View as Viewed, Slow}
 use Rattle.far_heap.specs.declared.view.View.{View}
@@ -27,7 +27,7 @@ pub record Object : Type 0 where
   pub bytes : Option (List ℕ)
 
 -- a mutator: the table that it steps and its number; whether the far side is honest, and whether its scope is open; of each of its pointers, from the lowest
--- on, the object, if it uses the pointer, and whether the scope views it
+-- on, the object, if it uses the pointer, whether the scope views it, and how often the mutator set MOVE anew in its cell
 pub record Mine : Type 0 where
   pub table : TableId
   pub number : ℕ
@@ -35,6 +35,7 @@ pub record Mine : Type 0 where
   pub opened : Bool
   pub objects : List (Option Object)
   pub viewed : List Bool
+  pub asked : List ℕ
 
 -- ---- what it has
 abbrev pub owns : Mine → ℕ → Bool
@@ -81,6 +82,16 @@ closing m = record m { opened = false; viewed = map (λ _. false) m.viewed }
 
 abbrev pub viewing : ℕ → Mine → Mine
 viewing p m = record m { viewed = slice_set m.viewed (p % CELLS) true }
+
+-- it has set MOVE anew so many times more; and it has done so before it views the object
+abbrev pub asking : ℕ → ℕ → Mine → Mine
+asking p n m = record m { asked = slice_set m.asked (p % CELLS) (slice_index_or m.asked (p % CELLS) 0 + n) }
+
+abbrev pub Asks : ℕ → Mine → Mine → Type 0
+Asks p m n = (k : ℕ) × (n ≡ asking p k m)
+
+abbrev pub AsksToView : ℕ → Mine → Mine → Type 0
+AsksToView p m n = (k : ℕ) × (n ≡ viewing p (asking p k m))
 
 -- bytes with others in the place of those from here on
 abbrev pub with_range : List ℕ → ℕ → List ℕ → List ℕ
@@ -174,6 +185,7 @@ mine_of s = record {
   opened = is_some s.view.open_at;
   objects = own_row (λ p. seen s.view.honest (object_at s.view p)) s.view.number;
   viewed = own_row (λ p. is_some (held_at s.view p)) s.view.number;
+  asked = own_row (λ p. asked_at s.view p) s.view.number;
 }
 
 -- a mutator of a new heap
@@ -185,6 +197,7 @@ newcomer table number honest = record {
   opened = false;
   objects = own_row (λ _. None) number;
   viewed = own_row (λ _. false) number;
+  asked = own_row (λ _. 0) number;
 }
 
 -- a mutator's own numbers fit its seat: the length of each object that it uses, 0 where it uses none; and what the open scope views, by its count of scopes
@@ -199,11 +212,13 @@ pub record OwnOk (s : Seated) (name : TableId) (number : ℕ) (lens stamps : Lis
   pub short : (p : ℕ) → p / CELLS ≡ number → seat_len (object_at s.view p) ≤ LONGEST
   pub views_are : (p : ℕ) → p / CELLS ≡ number → is_some (held_at s.view p) ≡ (slice_index_or stamps (p % CELLS) 0 == scope)
   pub held_used : (p : ℕ) → p / CELLS ≡ number → is_some (held_at s.view p) ≡ true → seat_uses s.view p ≡ true
+  pub held_open : (p : ℕ) → p / CELLS ≡ number → is_some (held_at s.view p) ≡ true → is_some s.view.open_at ≡ true
   pub past : (k : ℕ) → slice_index_or stamps k 0 ≤ scope
 
--- the seat of a mutator of a new heap: it uses nothing, views nothing, and its scope is closed
+-- the seat of a mutator of a new heap: it uses nothing, views nothing, has asked for nothing, and its scope is closed
 pub record IsNew (number : ℕ) (o : OwnerView) : Type 0 where
   pub number_is : o.number ≡ number
   pub closed : o.open_at ≡ None
   pub unused : (p : ℕ) → object_at o p ≡ None
   pub free : (p : ℕ) → held_at o p ≡ None
+  pub unasked : (p : ℕ) → asked_at o p ≡ 0

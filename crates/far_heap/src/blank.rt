@@ -1,6 +1,9 @@
 // A heap before it is begun.
-ghost use Rattle.std.specs.Prelude.{◌≡◌, ◌↔◌, false, cond, Err, IfOk, IfErr};
+ghost use Rattle.std.specs.Prelude.{◌≡◌, ◌↔◌, [], false, cond, Err, IfOk, IfErr};
 ghost use Rattle.far_core.specs.state.Shape.{is_shape};
+ghost use Rattle.far_hand.specs.ShapeOf.{shape_of};
+ghost use Rattle.far_table.specs.BookSeats.{seat_view};
+ghost use Rattle.far_heap.specs.Blanks.{IsUnused};
 ghost use Rattle.far_word.specs.declared.refused.Refused.{Refused as any_refusal};
 
 use far_book::Book;
@@ -24,21 +27,25 @@ impl<D: Device + Drop> Model for Blank<D> {
     ghost use Rattle.far_table.specs.BookSeats.{seat_view, table_of};
     ghost use Rattle.far_heap.specs.Blanks.{BlankOf, NewSeats};
 
-    ghost Value = { BlankOf };
+    ghost Value = { BlankOf D };
 
-    ghost view = { λ b. record { table = table_of b.book.near; mutators = length b.seats.items; honest = (seat_view b.book.near).honest } };
+    ghost view = { λ b. record { table = table_of b.book.near; mutators = length b.seats.items; honest = (seat_view b.book.near).honest; book = b.book } };
 
     ghost invariant = { λ b. NewSeats (table_of b.book.near) (seat_view b.book.near).honest b.seats.items };
 }
 
 impl<D: Device + Drop> Blank<D> {
-    /// Makes the parts of a heap of 2 to 64 logs and 1 to 8 mutators, over a device that holds nothing yet. All room of the shared words, of the seats
-    /// and of the book is taken here.
+    /// Makes the parts of a heap of 2 to 64 logs and 1 to 8 mutators, at the epoch of the shape, over a device that holds nothing yet: all cells are free, and
+    /// so are all logs but the first, which is open and empty. All room of the shared words, of the seats and of the book is taken here.
     ///
     /// Refused, in this order: [`Refused::Shape`] exactly where the shape is out of range, [`Refused::Memory`]. The device is dropped then.
     pub fn new(alloc: Global, shape: Shape, device: D) -> Result<Blank<D>, Refused>
         ensures mutators { IfOk result (λ blank. blank.mutators ≡ shape.mutators) }
         ensures honest { IfOk result (λ blank. blank.honest ≡ D.honest device) }
+        ensures core { IfOk result (λ blank. shape_of (seat_view blank.book.near) ≡ shape) }
+        ensures unused { IfOk result (λ blank. IsUnused (seat_view blank.book.near)) }
+        ensures order { IfOk result (λ blank. blank.book.order ≡ []) }
+        ensures device { IfOk result (λ blank. blank.book.device ≡ device) }
         ensures shape { (result ≡ Err Refused.Shape) ↔ (is_shape shape ≡ false) }
         ensures refused { IfErr result (λ why. why ≡ cond (is_shape shape) Refused.Memory Refused.Shape) }
     {

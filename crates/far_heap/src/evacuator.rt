@@ -4,15 +4,19 @@ ghost use Rattle.std.specs.Prelude.{◌≡◌, ◌≢◌, ◌*◌, ◌<◌, ◌�
 ghost use Rattle.far_word.specs.Pointer.{read_of};
 ghost use Rattle.far_word.specs.declared.refused.Refused.TheVariants.{Memory};
 ghost use Rattle.far_word.specs.declared.sizes.TheConstants.{CELLS};
+ghost use Rattle.far_core.specs.declared.event.Event.{Event};
+ghost use Rattle.far_core.specs.declared.event.Reply.{Reply};
 ghost use Rattle.far_core.specs.state.Law.{Law};
 ghost use Rattle.far_core.specs.state.Shape.{is_shape};
 ghost use Rattle.far_core.specs.state.Spans.{spans_of};
 ghost use Rattle.far_core.specs.state.State.{State, put};
+ghost use Rattle.far_hand.specs.Came.{Came};
 ghost use Rattle.far_hand.specs.Finds.{Finds};
 ghost use Rattle.far_hand.specs.ShapeOf.{shape_of};
-ghost use Rattle.far_table.specs.BookSeats.{seat_may_be, seat_view, table_of};
+ghost use Rattle.far_table.specs.BookSeats.{seat_makes, seat_may_be, seat_view, table_of};
 ghost use Rattle.far_table.specs.Viewed.{NoneIsGivenOut};
 ghost use Rattle.far_table.specs.Whole.{IsWhole};
+ghost use Rattle.far_book.specs.book.FarSide.{HoldsFar};
 ghost use Rattle.far_book.specs.book.Home.{home_of};
 ghost use Rattle.far_book.specs.book.Own.{own_part};
 ghost use Rattle.far_book.specs.book.Rows.{row_of};
@@ -73,16 +77,21 @@ impl<K: HeapName, D: Device + Drop> Evacuator<K, D> {
 
     /// What holds whenever the lock is got, whatever any policy chose: the book is of the table that the name names; what it knows keeps its part of
     /// the law of the core, and the round agrees with it. In every state that the words and all views may be in objects and logs are whole: each object in
-    /// use has one place, its pointer and the header there name each other, and a log's live, dead and unused bytes make its size. And no log is given out
-    /// in which an owner holds a place.
+    /// use has one place, its pointer and the header there name each other, and a log's live, dead and unused bytes make its size. No log is given out
+    /// in which an owner holds a place. The device holds the bytes of each far object as they were stored, and is honest where the owners are told so. And
+    /// there is such a state.
     pub fn keeps_law(&self)
         ensures named { table_of self.now.book.near ≡ K.table }
         ensures law { Law (own_part (seat_view self.now.book.near)) }
         ensures moment { MomentLaw (moment seat_view self.now) }
         ensures whole { (x : State) → seat_may_be self.now.book.near x → IsWhole x }
         ensures kept { (x : State) → seat_may_be self.now.book.near x → NoneIsGivenOut x }
+        ensures far { (x : State) → seat_may_be self.now.book.near x → HoldsFar x (D.contents self.now.book.device) }
+        ensures honest { (x : State) → seat_may_be self.now.book.near x → x.honest ≡ true → D.honest self.now.book.device ≡ true }
+        ensures there { ∥ ((x : State) × seat_may_be self.now.book.near x) ∥₁ }
     {
         self.evac.keeps_law();
+        self.evac.book().keeps_law();
     }
 
     /// How large the heap is, and its epoch now.
@@ -120,9 +129,11 @@ impl<K: HeapName, D: Device + Drop> Evacuator<K, D> {
     /// The spans of a log, dead ones too, in their order. Refused [`Refused::Memory`] alone.
     pub fn spans(&mut self, log: u8) -> Result<Vec<Span>, Refused>
         requires log { log < (seat_view self.old.book.near).logs }
+        ensures came { Came seat_makes self.old.book.near self.new.book.near }
         ensures spans { IfOk result (λ spans. spans.items ≡ spans_of (seat_view self.old.book.near) log) }
         ensures refused { IfErr result (λ why. why ≡ Memory) }
         ensures kept { seat_view self.new.book.near ≡ record (seat_view self.old.book.near) { word = (seat_view self.new.book.near).word } }
+        ensures headers { (a : ℕ) → (seat_view self.old.book.near).starts a ≡ true → (seat_view self.new.book.near).word a ≡ (seat_view self.old.book.near).word a }
         ensures order { self.new.book.order ≡ self.old.book.order }
         ensures device { self.new.book.device ≡ self.old.book.device }
         ensures round { (self.new.phase ≡ self.old.phase) × (self.new.held ≡ self.old.held) }
@@ -134,9 +145,12 @@ impl<K: HeapName, D: Device + Drop> Evacuator<K, D> {
     /// `None` exactly where the cell is free. Its owner may add marks at any moment.
     pub fn locate(&mut self, pointer: u16) -> Option<Home>
         requires pointer { pointer < CELLS * (seat_view self.old.book.near).mutators }
+        ensures came { Came seat_makes self.old.book.near self.new.book.near }
         ensures home { result ≡ home_of (read_of ((seat_view self.new.book.near).cell pointer)) }
         ensures found { Finds ((seat_view self.old.book.near).cell pointer) ((seat_view self.new.book.near).cell pointer) }
-        ensures free { (result ≡ None) ↔ ((seat_view self.new.book.near).cell pointer ≡ 0) }
+        ensures free { (result ≡ None) ↔ ((seat_view self.old.book.near).cell pointer ≡ 0) }
+        ensures made { seat_makes self.old.book.near (Event.See pointer) (Reply.Word ((seat_view self.new.book.near).cell pointer)) self.new.book.near }
+        ensures gone { (result ≡ None) ↔ ((seat_view self.new.book.near).cell pointer ≡ 0) }
         ensures saw { ∥ ((x : State) × seat_may_be self.new.book.near x × (x.cell pointer ≡ (seat_view self.new.book.near).cell pointer)) ∥₁ }
         ensures kept { seat_view self.new.book.near ≡ record (seat_view self.old.book.near) { cell = put (seat_view self.old.book.near).cell pointer ((seat_view self.new.book.near).cell pointer) } }
         ensures order { self.new.book.order ≡ self.old.book.order }
@@ -149,6 +163,7 @@ impl<K: HeapName, D: Device + Drop> Evacuator<K, D> {
     /// Where each object is whose cell wasn't found with DROP, once, by rising pointers, and what each log is and has, once, by number. Nothing has
     /// moved. Refused [`Refused::Memory`] alone.
     pub fn audit(&mut self) -> Result<Census, Refused>
+        ensures came { Came seat_makes self.old.book.near self.new.book.near }
         ensures lists { IfOk result (λ census. Audits (moment seat_view self.old) (moment seat_view self.new) census.homes.items census.logs.items) }
         ensures each { IfOk result (λ census. ListsEach (moment seat_view self.new) census.homes.items census.logs.items) }
         ensures device { self.new.book.device ≡ self.old.book.device }

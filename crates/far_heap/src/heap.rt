@@ -1,9 +1,9 @@
 // A heap, which its mutators share.
-ghost use Rattle.std.specs.Prelude.{◌≡◌, ◌⊎◌, ℕ, Bool, List, false, length, IfOk, IfErr};
-ghost use Rattle.far_word.specs.declared.refused.Refused.TheVariants.{Device as Failed, Memory, Phase as WrongPhase};
-ghost use Rattle.far_evac.specs.MomentLaw.{is_idle};
+ghost use Rattle.std.specs.Prelude.{◌≡◌, ℕ, Bool, List, false, length, IfOk, IfErr};
+ghost use Rattle.far_word.specs.declared.refused.Refused.TheVariants.{Memory};
+ghost use Rattle.far_evac.specs.Moment.{Tally, nothing, plus, progress_of, tally_of};
 ghost use Rattle.far_heap.specs.Blanks.{NewSeats, newcomers};
-ghost use Rattle.far_heap.specs.Rounds.{Chose, EndsAfter, IsRunning, StopsBy};
+ghost use Rattle.far_heap.specs.Rounds.{Chose, EndsAfter, EndsTurns, RefusesRound, StopsTurns, TurnMade, TurnRefused, told_of};
 
 use crate::blank::Blank;
 use crate::evacuator::Evacuator;
@@ -49,7 +49,7 @@ fn mutators_of<K: HeapName, D: Device + Drop>(
 
 // Nothing was done.
 fn nothing_done() -> Progress
-    ensures { result.done ≡ false }
+    ensures { result ≡ progress_of nothing false }
 {
     Progress {
         moved: 0,
@@ -62,7 +62,7 @@ fn nothing_done() -> Progress
 
 // What was done in two parts. Other callers' rounds may have come between, so that no bound of one round holds: the sums stop at the greatest number.
 fn sum(before: Progress, more: Progress, done: bool) -> Progress
-    ensures { result.done ≡ done }
+    ensures { result ≡ progress_of (told_of (plus (tally_of before) (tally_of more))) done }
 {
     Progress {
         moved: before.moved.saturating_add(more.moved),
@@ -114,8 +114,8 @@ impl<K: HeapName, D: Device + Drop> Heap<K, D> {
         most: usize,
         turns: u64,
     ) -> Result<RoundEnd, EvacFault>
-        ensures ended { IfOk result (λ end. (logs : List ℕ) × Chose P.gives policy.old most policy.new logs × EndsAfter logs end) }
-        ensures refused { IfErr result (λ fault. StopsBy fault.why × (fault.so_far.done ≡ false)) }
+        ensures ended { IfOk result (λ end. (logs : List ℕ) × Chose P.gives policy.old most policy.new logs × EndsAfter D K.table logs turns end) }
+        ensures refused { IfErr result (λ fault. RefusesRound P.gives D K.table policy.old most policy.new turns fault) }
     {
         let chosen = match self.book(rt).select(policy, most) {
             Ok(chosen) => chosen,
@@ -134,8 +134,8 @@ impl<K: HeapName, D: Device + Drop> Heap<K, D> {
 
     // Makes so many turns of a round that was begun, or fewer if it is over before.
     fn make_turns<R: Wait>(&self, rt: &R, turns: u64) -> Result<RoundEnd, EvacFault>
-        ensures ended { IfOk result IsRunning }
-        ensures refused { IfErr result (λ fault. ((fault.why ≡ WrongPhase) ⊎ (fault.why ≡ Memory) ⊎ (fault.why ≡ Failed)) × (fault.so_far.done ≡ false)) }
+        ensures ended { IfOk result (EndsTurns D K.table turns) }
+        ensures refused { IfErr result (StopsTurns D K.table turns) }
     {
         let mut total = nothing_done();
         let mut phase = Phase::Marking;
@@ -159,10 +159,12 @@ impl<K: HeapName, D: Device + Drop> Heap<K, D> {
 
     // Makes one turn under the lock, and adds what it did to what was done before: with the phase after it.
     fn turn_more<R: Wait>(&self, rt: &R, before: Progress) -> Result<(Progress, Phase), EvacFault>
-        ensures goes_on { IfOk result (λ made. is_idle made.1 ≡ made.0.done) }
-        ensures refused { IfErr result (λ fault. ((fault.why ≡ WrongPhase) ⊎ (fault.why ≡ Memory) ⊎ (fault.why ≡ Failed)) × (fault.so_far.done ≡ false)) }
+        ensures made { IfOk result (λ made. (tally : Tally) × TurnMade D K.table tally made.0.done made.1 × (made.0 ≡ progress_of (told_of (plus (tally_of before) tally)) made.0.done)) }
+        ensures refused { IfErr result (λ fault. (tally : Tally) × TurnRefused D K.table tally fault.why × (fault.so_far ≡ progress_of (told_of (plus (tally_of before) tally)) false)) }
     {
-        let mut book = self.book(rt);
+        let mut guard = self.book(rt);
+        let book = &mut *guard;
+        book.keeps_law();
         match book.turn() {
             Ok(made) => Ok((sum(before, made, made.done), book.phase())),
             Err(fault) => Err(EvacFault {

@@ -1,6 +1,7 @@
 // A mutator whose scope is closed.
-ghost use Rattle.std.specs.Prelude.{◌≡◌, ◌<◌, true, false, None, Some, IfOk, IfErr};
-ghost use Rattle.far_heap.specs.Mine.{IsNew, IsNoObject, adopting, drop_refusal, dropping, is_length, newcomer, opening, owns, uses};
+ghost use Rattle.std.specs.Prelude.{◌≡◌, ◌<◌, true, false, IfOk, IfErr};
+ghost use Rattle.far_heap.specs.Mine.{IsNew, IsNoObject, adopting, dropping, is_length, newcomer, opening, owns, uses};
+ghost use Rattle.far_heap.specs.MineLaw.{MineLaw};
 ghost use Rattle.far_word.specs.declared.refused.Refused.{Refused as any_refusal};
 ghost use Rattle.far_word.specs.declared.sizes.TheConstants.{MOST_MUTATORS};
 
@@ -60,6 +61,16 @@ impl<K: HeapName, D: Device + Drop> Mutator<K, D> {
         Mutator { own, lock }
     }
 
+    /// What holds of a mutator between any two calls: each object that it uses has 1 to 1,016 bytes, which it knows where the far side is honest; its
+    /// scope is closed, and it views nothing. The call does nothing.
+    pub fn keeps_law(&self)
+        ensures law { MineLaw self.now }
+        ensures closed { self.now.opened ≡ false }
+        ensures table { self.now.table ≡ K.table }
+    {
+        self.own.keeps_law();
+    }
+
     /// Makes a new object of `len` zeros, 1 to 1,016, of data structure `ds`: its pointer, which the mutator didn't use. It takes the lock.
     ///
     /// Refused, in this order: [`Refused::Length`] exactly where the length is out of range; [`Refused::NoPointer`], where none of the mutator's 128
@@ -71,12 +82,14 @@ impl<K: HeapName, D: Device + Drop> Mutator<K, D> {
         under_lock::alloc(rt, &self.lock, &mut self.own, len, ds)
     }
 
-    /// Drops an object, which the mutator uses no longer. It takes the lock. Refused [`Refused::NotHeld`] exactly where the mutator doesn't use the
-    /// pointer; nothing has changed then.
+    /// Drops an object, which the mutator uses no longer. It takes the lock. Refused [`Refused::NotHeld`] alone, exactly where the mutator doesn't use
+    /// the pointer; nothing has changed then.
+    #[tactic(auto, using(crate::proofs::MineLaws::drop_unheld, crate::proofs::MineLaws::drop_used))]
     pub fn drop_object<R: Wait>(&mut self, rt: &R, p: u16) -> Result<(), Refused>
-        ensures refused { IfErr result (λ why. (drop_refusal self.old p ≡ Some why) × (self.new ≡ self.old)) }
-        ensures dropped { IfOk result (λ _. (drop_refusal self.old p ≡ None) × (self.new ≡ dropping p self.old)) }
+        ensures refused { IfErr result (λ why. (why ≡ Refused.NotHeld) × (uses self.old p ≡ false) × (self.new ≡ self.old)) }
+        ensures dropped { IfOk result (λ _. (uses self.old p ≡ true) × (self.new ≡ dropping p self.old)) }
     {
+        self.keeps_law();
         under_lock::drop_object(rt, &self.lock, &mut self.own, p)
     }
 

@@ -1,10 +1,12 @@
 // What a mutator has, whether its scope is open or closed.
-ghost use Rattle.std.specs.Prelude.{◌≡◌, ◌+◌, ◌*◌, ◌/◌, ◌%◌, ◌<◌, ◌≤◌, ℕ, true, false, length, map, slice_range, slice_index, None, Some, IfOk, IfErr, IfSome, IsSome};
+ghost use Rattle.std.specs.Prelude.{◌≡◌, ◌+◌, ◌*◌, ◌/◌, ◌%◌, ◌<◌, ◌≤◌, ℕ, true, false, length, map, slice_range, slice_index, cond, None, Some, IfOk, IfErr, IfSome, IsSome};
 ghost use Rattle.far_table.specs.Views.{said_ds, said_len};
 ghost use Rattle.far_word.specs.Pointer.{read_of};
+ghost use Rattle.far_core.specs.events.Quiet.{has_move};
 ghost use Rattle.far_heap.specs.Made.{Pinned};
+ghost use Rattle.far_heap.specs.MineLaw.{MineLaw};
 ghost use Rattle.far_heap.specs.declared.view.Tried.{Tried as any_tried};
-ghost use Rattle.far_heap.specs.Mine.{IsNew, TriedSo, access_refusal, adopting, bytes_in, closing, dropping, len_in, newcomer, opening, owns, uses, view_of, views, viewing, writing};
+ghost use Rattle.far_heap.specs.Mine.{IsNew, TriedSo, access_refusal, adopting, asking, bytes_in, closing, dropping, len_in, newcomer, opening, owns, uses, view_of, views, viewing, writing};
 ghost use Rattle.far_word.specs.declared.refused.Refused.{Refused as any_refusal};
 ghost use Rattle.far_word.specs.declared.sizes.TheConstants.{CELLS, LONGEST, MOST_MUTATORS};
 
@@ -97,6 +99,13 @@ impl<K: HeapName, D: Device> Own<K, D> {
             scope: 1,
             of: PhantomData,
         })
+    }
+
+    // What holds between any two calls.
+    pub(crate) fn keeps_law(&self)
+        ensures { MineLaw self.now }
+    {
+        let _number = self.number;
     }
 
     // Opens the scope.
@@ -231,11 +240,11 @@ impl<K: HeapName, D: Device> Own<K, D> {
         }
     }
 
-    // Asks for an object to be moved: the word found in its cell.
+    // Asks for an object to be moved: the word found in its cell, where MOVE is set anew if it hadn't got it.
     pub(crate) fn ask_move(&mut self, p: u16) -> u64
         requires used { uses self.old p ≡ true }
         requires free { views self.old p ≡ false }
-        ensures { self.new ≡ self.old }
+        ensures { self.new ≡ asking p (cond (has_move (read_of result)) 0 1) self.old }
     {
         self.seat.ask(p, Mark::Moved)
     }

@@ -1,8 +1,9 @@
 // A mutator whose scope is open.
 ghost use Rattle.std.specs.Prelude.{◌≡◌, ◌+◌, true, false, length, slice_range, None, Some, Ok, IfOk, IfErr, IfSome};
 ghost use Rattle.far_heap.specs.Made.{Pinned};
+ghost use Rattle.far_heap.specs.MineLaw.{MineLaw};
 ghost use Rattle.far_heap.specs.declared.view.Tried.{Tried as any_tried};
-ghost use Rattle.far_heap.specs.Mine.{IsNoObject, IsNoView, TriedSo, access_refusal, adopting, bytes_in, closing, drop_refusal, dropping, is_length, len_in, owns, uses, view_of, viewing, views, writing};
+ghost use Rattle.far_heap.specs.Mine.{Asks, AsksToView, IsNoObject, IsNoView, TriedSo, access_refusal, adopting, bytes_in, closing, drop_refusal, dropping, is_length, len_in, owns, uses, view_of, viewing, views, writing};
 ghost use Rattle.far_word.specs.declared.refused.Refused.{Refused as any_refusal};
 
 use crate::heap::Lock;
@@ -45,6 +46,16 @@ impl<K: HeapName, D: Device + Drop> Scope<K, D> {
         Scope { own, lock }
     }
 
+    /// What holds of an open scope between any two calls: what it views its mutator uses, and each object that this uses has 1 to 1,016 bytes, which it
+    /// knows where the far side is honest. The call does nothing.
+    pub fn keeps_law(&self)
+        ensures law { MineLaw self.now }
+        ensures opened { self.now.opened ≡ true }
+        ensures table { self.now.table ≡ K.table }
+    {
+        self.own.keeps_law();
+    }
+
     /// Makes a new object, as [`Mutator::alloc`] does. The scope doesn't view it yet.
     pub fn alloc<R: Wait>(&mut self, rt: &R, len: u16, ds: u8) -> Result<u16, Refused>
         ensures refused { IfErr result (λ why. IsNoObject len why × (self.new ≡ self.old)) }
@@ -66,11 +77,12 @@ impl<K: HeapName, D: Device + Drop> Scope<K, D> {
     /// one is fetched, and one that a round wants is moved to another log.
     ///
     /// Refused [`Refused::NotHeld`] exactly where this mutator doesn't use the pointer; and, never where the scope views it already, [`Refused::NoRoom`],
-    /// and [`Refused::Memory`], [`Refused::Device`] or [`Refused::Damaged`] as the device is. The scope views what it did then.
+    /// and [`Refused::Memory`], [`Refused::Device`] or [`Refused::Damaged`] as the device is. The scope views what it did then. MOVE may have been set
+    /// anew in the cell of an object that isn't viewed yet, by no other call.
     #[inline(always)]
     pub fn view<R: Wait>(&mut self, rt: &R, p: u16) -> Result<View, Refused>
-        ensures refused { IfErr result (λ why. IsNoView self.old p why × (self.new ≡ self.old)) }
-        ensures viewed { IfOk result (λ view. (uses self.old p ≡ true) × (view ≡ view_of p self.old) × (self.new ≡ viewing p self.old)) }
+        ensures refused { IfErr result (λ why. IsNoView self.old p why × Asks p self.old self.new) }
+        ensures viewed { IfOk result (λ view. (uses self.old p ≡ true) × (view ≡ view_of p self.old) × AsksToView p self.old self.new) }
         ensures again { views self.old p ≡ true → (result ≡ Ok (view_of p self.old)) × (self.new ≡ self.old) }
     {
         match self.own.try_view(p) {

@@ -1,6 +1,6 @@
 // What a mutator does with the lock.
 ghost use Rattle.std.specs.Prelude.{◌≡◌, ◌/◌, ◌<◌, ◌≤◌, true, false, Ok, Some, None, IfOk, IfErr};
-ghost use Rattle.far_heap.specs.Mine.{IsNoObject, IsNoView, IsUnbrought, TriedSo, adopting, drop_refusal, dropping, is_length, owns, uses, view_of, viewing, views};
+ghost use Rattle.far_heap.specs.Mine.{Asks, AsksToView, IsNoObject, IsUnbrought, Mine, TriedSo, adopting, drop_refusal, dropping, is_length, owns, uses, view_of, viewing, views};
 ghost use Rattle.far_word.specs.declared.refused.Refused.{Refused as any_refusal};
 ghost use Rattle.far_word.specs.declared.sizes.TheConstants.{LONGEST};
 
@@ -73,8 +73,8 @@ pub(crate) fn view<K: HeapName, D: Device + Drop, R: Wait>(
     requires opened { own.old.opened ≡ true }
     requires used { uses own.old p ≡ true }
     requires unviewed { views own.old p ≡ false }
-    ensures refused { IfErr result (λ why. IsUnbrought why × (own.new ≡ own.old)) }
-    ensures viewed { IfOk result (λ view. (view ≡ view_of p own.old) × (own.new ≡ viewing p own.old)) }
+    ensures refused { IfErr result (λ why. IsUnbrought why × Asks p own.old own.new) }
+    ensures viewed { IfOk result (λ view. (view ≡ view_of p own.old) × AsksToView p own.old own.new) }
 {
     for _ in rt.forever() {
         match bring(&mut *lock.lock(rt), own, p) {
@@ -96,8 +96,8 @@ fn bring<K: HeapName, D: Device + Drop>(
     requires opened { own.old.opened ≡ true }
     requires used { uses own.old p ≡ true }
     requires unviewed { views own.old p ≡ false }
-    ensures refused { IfErr result (λ why. IsUnbrought why × (own.new ≡ own.old)) }
-    ensures tried { IfOk result (λ tried. TriedSo p own.old tried own.new) }
+    ensures refused { IfErr result (λ why. IsUnbrought why × Asks p own.old own.new) }
+    ensures tried { IfOk result (λ tried. (m : Mine) × Asks p own.old m × TriedSo p m tried own.new) }
 {
     match book.fetch_far(p) {
         Some(Ok(_)) => {}

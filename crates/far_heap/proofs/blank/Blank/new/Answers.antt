@@ -1,10 +1,11 @@
-use Rattle.std.proofs.Common.{◌∙◌, Bool, sym, subst, ap}
+use Rattle.std.proofs.Common.{◌≡◌, ◌∙◌, Bool, sym, subst, ap}
 use Rattle.far_core.specs.state.CoreState.{core_state}
 use Rattle.far_core.specs.state.State.{State}
 use Rattle.far_table.specs.View.{BookView}
-use Rattle.far_table.specs.BookSeats.{book_in, table_of}
-use Rattle.far_heap.specs.Blanks.{NewSeats}
-use Rattle.far_heap.proofs.NewSeats.{new_seats, seat_start}
+use Rattle.far_table.specs.BookSeats.{book_in, seat_view, table_of}
+use Rattle.far_hand.specs.ShapeOf.{shape_of}
+use Rattle.far_heap.specs.Blanks.{IsUnused, NewSeats}
+use Rattle.far_heap.proofs.NewSeats.{new_seats, none_used, seat_start, shape_start}
 use Rattle.far_heap.proofs.blank.Blank.new.Goals as goal
 
 pub invariant_of-result : goal.invariant_of-result
@@ -25,3 +26,15 @@ new-requires-2-clause-honest g c = λ h. sym (ap g.D.Device.honest c.of.ensures)
 
 pub share-requires : goal.share-requires
 share-requires g c = record { honest = λ p some. absurd (some (ap (λ (t : State). t.cell p) c.in-Ok.ensures.opening)) }
+
+pub returns-clause-core : goal.returns-clause-core
+returns-clause-core g c =
+    let s : State = core_state c.in-Ok.core in
+    let honest : Bool = g.D.Device.honest c.of.result.value in
+    subst (λ b. shape_of (seat_view b) ≡ c.args.shape) (sym c.in-Ok-new.ensures.near) (shape_start s _ c.args.shape honest c.in-Ok.ensures.opening c.in-Ok-share.ensures.starts.book)
+
+pub returns-clause-unused : goal.returns-clause-unused
+returns-clause-unused g c =
+    let s : State = core_state c.in-Ok.core in
+    let honest : Bool = g.D.Device.honest c.of.result.value in
+    subst (λ b. IsUnused (seat_view b)) (sym c.in-Ok-new.ensures.near) (none_used _ (seat_start s _ c.args.shape honest c.in-Ok.ensures.opening c.in-Ok-share.ensures.starts.book))

@@ -1,6 +1,12 @@
-use Rattle.far_table.specs.BookSeats.{seat_lawful}
+use Rattle.std.proofs.Common.{◌≡◌, true, ap, subst, ◌∙◌}
+use Rattle.far_table.specs.declared.book.BookSeat.{BookSeat}
+use Rattle.far_table.specs.BookSeats.{seat_lawful, seat_shown, seat_there, seat_view}
 use Rattle.far_table.proofs.ViewedLogs.{none_is_given_out}
 use Rattle.far_table.proofs.WholeLogs.{is_whole}
+use Rattle.far_book.specs.book.BookOf.{BookOf}
+use Rattle.far_book.specs.book.FarSide.{HoldsFar}
+use Rattle.far_evac.specs.EvacOf.{EvacOf}
+use Rattle.far_heap.proofs.FarSides.{far_shown, honest_shown}
 use Rattle.far_heap.proofs.evacuator.Evacuator.keeps_law.Goals as goal
 
 pub returns-clause-whole : goal.returns-clause-whole
@@ -8,3 +14,18 @@ returns-clause-whole g c = λ x may. is_whole x (seat_lawful c.args.self.now.boo
 
 pub returns-clause-kept : goal.returns-clause-kept
 returns-clause-kept g c = λ x may. none_is_given_out x (seat_lawful c.args.self.now.book.near x may)
+
+pub returns-clause-far : goal.returns-clause-far
+returns-clause-far g c =
+    let book = c.book.ensures ∙ ap (λ (e : EvacOf (BookSeat g.row.D.Denot) g.row.D.Denot). e.book) c.self.view_is in
+    let far = subst (λ (b : BookOf (BookSeat g.row.D.Denot) g.row.D.Denot). HoldsFar (seat_view b.near) (g.D.Device.contents b.device)) book c.keeps_law-2.ensures.far in
+    λ x may. far_shown (seat_view c.args.self.now.book.near) x (g.D.Device.contents c.args.self.now.book.device) (seat_shown c.args.self.now.book.near x may) far
+
+pub returns-clause-honest : goal.returns-clause-honest
+returns-clause-honest g c =
+    let book = c.book.ensures ∙ ap (λ (e : EvacOf (BookSeat g.row.D.Denot) g.row.D.Denot). e.book) c.self.view_is in
+    let honest = subst (λ (b : BookOf (BookSeat g.row.D.Denot) g.row.D.Denot). (seat_view b.near).honest ≡ true → g.D.Device.honest b.device ≡ true) book c.keeps_law-2.ensures.honest in
+    λ x may h. honest (honest_shown (seat_view c.args.self.now.book.near) x (seat_shown c.args.self.now.book.near x may) h)
+
+pub returns-clause-there : goal.returns-clause-there
+returns-clause-there g c = seat_there c.args.self.now.book.near

@@ -1,6 +1,9 @@
-use Rattle.std.proofs.Common.{◌≡◌, false}
-use Rattle.far_evac.specs.MomentLaw.{is_idle}
+-- So many turns were made, after which the round isn't over; what they counted is told.
+use Rattle.std.proofs.Common.{◌≡◌, false, List, length}
+use Rattle.far_evac.specs.AnyHand.{sum_of}
+use Rattle.far_evac.specs.Moment.{Tally, progress_of}
+use Rattle.far_heap.specs.Rounds.{TurnsMade, told_of}
 use Rattle.far_heap.proofs.heap.Heap.make_turns.Given as goal
 
 abbrev pub invariant-loop : goal.invariant-loop
-invariant-loop g l = is_idle l.phase ≡ false
+invariant-loop g l = (tallies : List Tally) × (length tallies ≡ l.counter) × TurnsMade g.row.D.Denot g.K.HeapName.table tallies false l.phase × (l.total ≡ progress_of (told_of (sum_of tallies)) false)

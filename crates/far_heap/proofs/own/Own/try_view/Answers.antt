@@ -42,7 +42,7 @@ invariant_of-self g c =
     let p : ℕ = c.args.p in
     let so = uses_so s.seat p (subst (λ (m : Mine). uses m p ≡ true) (sym c.self.view_is) c.in-Some-used_len.ensures.used.0) in
     subst (λ (t : Seated). OwnOk t _ s.number s.lens.items (slice_set s.stamps.items (p % CELLS) s.scope) s.scope) (sym (seated_is c.pin.new.self s.seat.table _ c.pin.ensures.table c.in-Ok.ensures.held))
-    (pinned_ok s.seat _ s.number s.lens.items s.stamps.items s.scope c.self.invariant p c.in-Ok.field-0 (so.0 ∙ c.self.invariant.number_is) so.1)
+    (pinned_ok s.seat _ s.number s.lens.items s.stamps.items s.scope c.self.invariant p c.in-Ok.field-0 (so.0 ∙ c.self.invariant.number_is) so.1 (ap (λ (m : Mine). m.opened) c.self.view_is ∙ c.requires))
 
 pub returns-in-Ok-clause-tried : goal.returns-in-Ok-clause-tried
 returns-in-Ok-clause-tried g c =

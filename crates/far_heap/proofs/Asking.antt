@@ -1,0 +1,50 @@
+-- MOVE set anew, and then again.
+use Rattle.std.proofs.Common.{◌≡◌, ℕ, ◌+◌, ◌%◌, true, false, List, length, get_or, set, refl, sym, ap, subst, ◌∙◌, inl, inr, arith}
+use Rattle.std.proofs.lemmas.Bool.{cases_lt}
+use Rattle.std.proofs.lemmas.Grind.{get_or-set_at}
+use Rattle.std.proofs.lemmas.List.{length-set, set-get_or, set-set, set_past}
+use Rattle.far_word.specs.declared.sizes.TheConstants.{CELLS}
+use Rattle.far_word.specs.declared.refused.Refused.{Refused}
+use Rattle.far_word.specs.declared.refused.Refused.TheVariants.{NotHeld}
+use Rattle.far_heap.specs.declared.view.Tried.TheVariants.{View as Viewed, Slow}
+use Rattle.far_heap.specs.declared.view.View.{View}
+use Rattle.far_heap.specs.Mine.{Asks, AsksToView, IsNoView, IsRefusedView, IsUnbrought, Mine, TriedSo, asking, uses, view_of, viewing, views}
+
+row_none : (xs : List ℕ) (i : ℕ) → set xs i (get_or xs i 0 + 0) ≡ xs
+row_none xs i = let same : get_or xs i 0 + 0 ≡ get_or xs i 0 = omega arith in ap (set xs i) same ∙ set-get_or xs i 0
+
+row_twice : (xs : List ℕ) (i k n : ℕ) → set (set xs i (get_or xs i 0 + k)) i (get_or (set xs i (get_or xs i 0 + k)) i 0 + n) ≡ set xs i (get_or xs i 0 + (k + n))
+row_twice xs i k n = elim (cases_lt i (length xs)) [
+  | inl lt ↦ (let v : ℕ = get_or xs i 0 + k in
+      let sum : get_or (set xs i v) i 0 + n ≡ get_or xs i 0 + (k + n) = omega (arith, get_or-set_at xs i i v 0 refl lt) in
+      set-set xs i v (get_or (set xs i v) i 0 + n) ∙ ap (set xs i) sum)
+  | inr le ↦ (let v : ℕ = get_or xs i 0 + k in
+      set_past (set xs i v) i (get_or (set xs i v) i 0 + n) (omega (arith, le, length-set xs i v)) ∙ set_past xs i v le ∙ sym (set_past xs i (get_or xs i 0 + (k + n)) le))
+]
+
+pub asks_none : (p : ℕ) (m : Mine) → Asks p m m
+asks_none p m = (0, ap (λ (row : List ℕ). record m { asked = row }) (sym (row_none m.asked (p % CELLS))))
+
+pub asks_then : (p : ℕ) (a b c : Mine) → Asks p a b → Asks p b c → Asks p a c
+asks_then p a b c x y = (x.0 + y.0, y.1 ∙ ap (asking p y.0) x.1 ∙ ap (λ (row : List ℕ). record a { asked = row }) (row_twice a.asked (p % CELLS) x.0 y.0))
+
+pub asks_to_view : (p : ℕ) (a b c : Mine) → Asks p a b → c ≡ viewing p b → AsksToView p a c
+asks_to_view p a b c x is = (x.0, is ∙ ap (viewing p) x.1)
+
+-- ---- tries under the lock, one after the other
+module _ (p : ℕ) (a b n : Mine) (x : Asks p a b) where
+  pub asks_slow : (word : ℕ) → ((m : Mine) × Asks p b m × TriedSo p m (Slow word) n) → Asks p a n
+  asks_slow word (m, asks, slow) = asks_then p a b n x (subst (Asks p b) (sym slow.1) asks)
+
+  pub asks_viewed : (view : View) → ((m : Mine) × Asks p b m × TriedSo p m (Viewed view) n) → (view ≡ view_of p a) × AsksToView p a n
+  asks_viewed view (m, asks, viewed) = (viewed.0 ∙ ap (view_of p) asks.1 ∙ ap (view_of p) x.1, asks_to_view p a m n (asks_then p a b m x asks) viewed.1)
+
+  pub asks_refused : (why : Refused) → IsUnbrought why × Asks p b n → IsUnbrought why × Asks p a n
+  asks_refused why (unbrought, asks) = (unbrought, asks_then p a b n x asks)
+
+-- ---- a try before the lock is taken
+pub tried_views : (p : ℕ) (m n : Mine) (view : View) → (uses m p ≡ true) × TriedSo p m (Viewed view) n → (uses m p ≡ true) × (view ≡ view_of p m) × AsksToView p m n
+tried_views p m n view (used, viewed) = (used, viewed.0, asks_to_view p m m n (asks_none p m) viewed.1)
+
+pub tried_unheld : (p : ℕ) (m n : Mine) (why : Refused) → (why ≡ NotHeld) × (uses m p ≡ false) × (n ≡ m) → IsNoView m p why × Asks p m n
+tried_unheld p m n why (is, unused, same) = (subst (λ b. IsRefusedView b (views m p) why) (sym unused) is, subst (Asks p m) (sym same) (asks_none p m))
