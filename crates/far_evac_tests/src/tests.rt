@@ -1,6 +1,7 @@
 //! Whether the clauses say what was meant, by worked values.
 
 mod aborting;
+mod asking;
 mod beside;
 mod choosing;
 mod devices;

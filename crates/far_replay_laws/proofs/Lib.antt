@@ -9,6 +9,7 @@ pub mod Censused
 pub mod Coming
 pub mod CountedOnce
 pub mod Determined
+pub mod EndsTold
 pub mod EpochLaws
 pub mod EpochsSpent
 pub mod GivenFree

@@ -1,6 +1,7 @@
 pub mod Ages
 pub mod Census
 pub mod Chosen
+pub mod Ends
 pub mod Epochs
 pub mod Headline
 pub mod HowMany

@@ -1,5 +1,6 @@
 //! What outputs say, over whole texts and whole lists of commands. No function here does anything when it runs.
 
+ghost use Rattle.far_replay_laws.specs.Ends.{EndsAreTold};
 ghost use Rattle.far_replay_laws.specs.Census.{AuditsByCensus};
 ghost use Rattle.far_replay_laws.specs.Chosen.{RoundsAreChosen};
 ghost use Rattle.far_replay_laws.specs.Epochs.{StepsSpendEpochs};
@@ -18,7 +19,7 @@ pub fn outputs_are_sound()
     ensures { OutputsAreSound }
 {}
 
-/// Each text has an output, and one alone. Its commands that write, write bytes. Among lines that say commands, a
+/// Each text has an output, and one alone. A text that ends as refused begins it with `refused`; one that ran has none, or begins with `ok`. Its commands that write, write bytes. Among lines that say commands, a
 /// mutator's are those that have its number after the name, but for `log`, after which a log's number stands, and for `mark` and
 /// `evacuate`, after which a number of objects stands.
 pub fn texts_are_answered()
@@ -26,6 +27,7 @@ pub fn texts_are_answered()
     ensures once { OneOutput }
     ensures bytes { TextsWriteBytes }
     ensures numbered { LinesAreNumbered }
+    ensures ends { EndsAreTold }
 {}
 
 /// A heap line may say 2 to 64 logs, 1 to 8 mutators and a first epoch below 2^62. The heap begins with them, with the law and with nothing in it.

@@ -166,18 +166,26 @@ pub(super) fn moves<D: Device + Drop>(evac: &mut Evac<Plain, D>, pointer: u16) -
     moves_asked(evac, pointer)
 }
 
-#[tactic(auto, using(crate::proofs::Uses::quiet_home))]
 fn moves_asked<N: Near + Drop, D: Device + Drop>(evac: &mut Evac<N, D>, pointer: u16) -> bool {
+    matches!(answer_to_move(evac, pointer), Some(Ok(Some(_))))
+}
+
+// What a move answers that an owner has asked for; `None` where no near object asks for one.
+#[tactic(auto, using(crate::proofs::Uses::quiet_home))]
+pub(super) fn answer_to_move<N: Near + Drop, D: Device + Drop>(
+    evac: &mut Evac<N, D>,
+    pointer: u16,
+) -> Option<Result<Option<Place>, Refused>> {
     if pointer as u64 >= 128 * evac.book().shape().mutators {
-        return false;
+        return None;
     }
     let Some(Home::Near { marks, .. }) = evac.locate(pointer) else {
-        return false;
+        return None;
     };
     if !marks.moved {
-        return false;
+        return None;
     }
-    matches!(evac.move_now(pointer), Ok(Some(_)))
+    Some(evac.move_now(pointer))
 }
 
 pub(super) fn ask(pointer: u16, mark: Mark) -> Event {
