@@ -25,6 +25,8 @@ pub mod Owing
 pub mod Put
 pub mod Quieting
 pub mod Ranges
+pub mod RefusedEvents
+pub mod RefusedNamings
 pub mod RoomLaws
 pub mod RoundFacts
 pub mod Rows

@@ -1,6 +1,7 @@
 -- What a naming's new word has of the old one, by the bits of both.
 use Rattle.std.proofs.Common.{◌≡◌, ℕ, ◌^◌, ◌<◌, Bool, true, false, arith, sym, refl, ap, ◌∙◌, Option, Some, None, inl, inr}
 use Rattle.std.proofs.lemmas.Bool.{false≢true}
+use Rattle.std.specs.Prelude.{not}
 use Rattle.far_word.specs.declared.mark.Marks.{Marks}
 use Rattle.far_word.specs.declared.pointer.Place.{Place}
 use Rattle.far_word.specs.declared.pointer.PtrWord.{PtrWord}
@@ -12,6 +13,7 @@ use Rattle.far_core.specs.declared.naming.Naming.{Naming}
 use Rattle.far_core.specs.declared.naming.Naming.TheVariants.{Places, Retires, Evicts, Stays, Moves, Fetches}
 use Rattle.far_core.specs.events.Naming.{IsNaming, is_dropped, no_marks}
 use Rattle.far_core.specs.laws.Namings.{IsPlain, NamingsArePlain}
+use Rattle.far_core.specs.state.Law.{in_use}
 
 bit_small : (b : Bool) → bit_of b < 2
 bit_small true = omega arith
@@ -42,11 +44,22 @@ far_bits w len ds m fits e =
     let d : bit_of m.hot < 2 = bit_small m.hot in
     (f.0, f.1, omega (arith, x.0, x.1), omega (arith, x.0, x.1))
 
-drop_bit : (w : ℕ) → w < 2 ^ 64 → (o : Option PtrWord) → read_of w ≡ o → is_dropped o ≡ true → field w 59 1 ≡ 1
+pub drop_bit : (w : ℕ) → w < 2 ^ 64 → (o : Option PtrWord) → read_of w ≡ o → is_dropped o ≡ true → field w 59 1 ≡ 1
 drop_bit w fits None e h = absurd (false≢true h)
 drop_bit w fits (Some Free) e h = absurd (false≢true h)
 drop_bit w fits (Some (Near len ds place m)) e h = (near_bits w len ds place m fits e).3 ∙ ap bit_of h
 drop_bit w fits (Some (Far len ds m)) e h = (far_bits w len ds m fits e).3 ∙ ap bit_of h
+
+not_is : (b : Bool) → not b ≡ true → b ≡ false
+not_is true h = absurd (false≢true h)
+not_is false h = refl
+
+-- a word in use has no DROP
+pub use_bit : (w : ℕ) → w < 2 ^ 64 → (o : Option PtrWord) → read_of w ≡ o → in_use o ≡ true → field w 59 1 ≡ 0
+use_bit w fits None e h = absurd (false≢true h)
+use_bit w fits (Some Free) e h = absurd (false≢true h)
+use_bit w fits (Some (Near len ds place m)) e h = (near_bits w len ds place m fits e).3 ∙ ap bit_of (not_is m.dropped h)
+use_bit w fits (Some (Far len ds m)) e h = (far_bits w len ds m fits e).3 ∙ ap bit_of (not_is m.dropped h)
 
 free_word : (w : ℕ) → w < 2 ^ 64 → read_of w ≡ Some Free → w ≡ 0
 free_word w fits e = sym (read_says w Free fits e).1

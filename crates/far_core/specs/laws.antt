@@ -3,6 +3,8 @@ pub mod Ends
 pub mod Live
 pub mod Namings
 pub mod Observed
+pub mod Refusals
+pub mod RefusedNamings
 pub mod Rooms
 pub mod Rounds
 pub mod Worlds

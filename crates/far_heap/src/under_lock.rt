@@ -86,8 +86,7 @@ pub(crate) fn view<K: HeapName, D: Device + Drop, R: Wait>(
     unreachable!()
 }
 
-// Brings an object that isn't viewed where it can be, and tries again: a far one is fetched; of a near one the owner sets MOVE, and the book moves it, or
-// takes MOVE away.
+// Brings an object that isn't viewed where it can be, and tries again.
 fn bring<K: HeapName, D: Device + Drop>(
     book: &mut Evacuator<K, D>,
     own: &mut Own<K, D>,
@@ -99,6 +98,27 @@ fn bring<K: HeapName, D: Device + Drop>(
     ensures refused { IfErr result (λ why. IsUnbrought why × Asks p own.old own.new) }
     ensures tried { IfOk result (λ tried. (m : Mine) × Asks p own.old m × TriedSo p m tried own.new) }
 {
+    if let Err(why) = fetch_or_move(book, own, p) {
+        return Err(why);
+    }
+    let Ok(tried) = own.try_view(p) else {
+        unreachable!()
+    };
+    Ok(tried)
+}
+
+// Has an object that isn't viewed brought where it can be: a far one is fetched; of a near one the owner sets MOVE, and the book moves it, or takes MOVE
+// away.
+fn fetch_or_move<K: HeapName, D: Device + Drop>(
+    book: &mut Evacuator<K, D>,
+    own: &mut Own<K, D>,
+    p: u16,
+) -> Result<(), Refused>
+    requires used { uses own.old p ≡ true }
+    requires unviewed { views own.old p ≡ false }
+    ensures refused { IfErr result IsUnbrought }
+    ensures asks { Asks p own.old own.new }
+{
     match book.fetch_far(p) {
         Some(Ok(_)) => {}
         Some(Err(why)) => return Err(why),
@@ -109,8 +129,5 @@ fn bring<K: HeapName, D: Device + Drop>(
             }
         }
     }
-    let Ok(tried) = own.try_view(p) else {
-        unreachable!()
-    };
-    Ok(tried)
+    Ok(())
 }

@@ -158,14 +158,14 @@ module _ {S : Type 0} (slots id : ℕ) (me : Me S View) (is : me.0 ≡ Owner (ow
     abbrev there : (place : Place) × (held_at view p ≡ Some place)
     there = some_there (held_at view p) held
 
-    led : data_at (addr there.0 + 1 + i) ≡ a + 1050
+    led : data_at (addr there.0 + 1 + i) ≡ a + 1200
     led = let here = (has p there.0 there.1).here in omega (arith, read)
 
-    pub stores_at : (a + 1050 < TABLE_WORDS) × Allows Running slots id me (a + 1050) (λ _. v) (λ _. Stored (step slots (a + 1050) v 0 none) me v)
+    pub stores_at : (a + 1200 < TABLE_WORDS) × Allows Running slots id me (a + 1200) (λ _. v) (λ _. Stored (step slots (a + 1200) v 0 none) me v)
     stores_at = let fits = (has p there.0 there.1).fits in let at = led in (
       omega arith,
       subst (λ z. Allows Running slots id me z (λ _. v) (λ _. Stored (step slots z v 0 none) me v)) led (stores p i v there.0 (has p there.0 there.1).own there.1 inside word padded),
     )
 
-    pub store_told : (me' : Me S View) → Stored (step slots (a + 1050) v 0 none) me v me' → Tells me.0 me'.0 (Store view.number p i v) Done (stored_view p i v view)
+    pub store_told : (me' : Me S View) → Stored (step slots (a + 1200) v 0 none) me v me' → Tells me.0 me'.0 (Store view.number p i v) Done (stored_view p i v view)
     store_told me' h = h p i there.0 (has p there.0 there.1).own there.1 inside (sym led)

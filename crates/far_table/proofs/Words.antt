@@ -1,5 +1,5 @@
 -- One word of the table changes: what the heap's words are then.
-use Rattle.std.proofs.Common.{◌≡◌, ◌≢◌, ℕ, ◌+◌, ◌<◌, Bool, true, false, cond, nat_lt, List, length, set, refl, ap, ◌∙◌, arith, get_or-set_other, get_or-set_same}
+use Rattle.std.proofs.Common.{◌≡◌, ◌≢◌, ℕ, ◌<◌, Bool, true, false, cond, nat_lt, List, length, set, refl, ap, ◌∙◌, arith, get_or-set_other, get_or-set_same}
 use Rattle.std.specs.Prelude.{slice_index}
 use Rattle.std.proofs.lemmas.Bool.{lt-ltb, ltb-true}
 use mathlib.Core.Path.{fun_ext}
@@ -13,29 +13,35 @@ where_so : (t : Bool) (a b d : ℕ) → (t ≡ true → a ≡ b) → cond t a d 
 where_so true a b d h = h refl
 where_so false a b d h = refl
 
--- n words from low on
-module _ (low n : ℕ) where
+-- n words, no two at one place
+module _ (at : ℕ → ℕ) (n : ℕ) (apart : (q k : ℕ) → at q ≡ at k → q ≡ k) where
   abbrev part : List ℕ → ℕ → ℕ
-  part ws q = cond (nat_lt q n) (slice_index ws (q + low)) 0
+  part ws q = cond (nat_lt q n) (slice_index ws (at q)) 0
 
-  part_set : (ws : List ℕ) (k x : ℕ) → k < n → k + low < length ws → part (set ws (k + low) x) ≡ put (part ws) k x
-  part_set ws k x small inside = fun_ext (λ q. put_both (λ v. part (set ws (k + low) x) q ≡ v) (part ws) k x q
+  part_set : (ws : List ℕ) (k x : ℕ) → k < n → at k < length ws → part (set ws (at k) x) ≡ put (part ws) k x
+  part_set ws k x small inside = fun_ext (λ q. put_both (λ v. part (set ws (at k) x) q ≡ v) (part ws) k x q
       (λ e. let lt : q < n = omega arith in
-      ap (λ b. cond b (slice_index (set ws (k + low) x) (q + low)) 0) (lt-ltb q n lt) ∙ ap (λ j. slice_index (set ws (k + low) x) (j + low)) e ∙ get_or-set_same ws (k + low) x 0 inside)
-      (λ ne. ap (λ v. cond (nat_lt q n) v 0) (get_or-set_other ws (k + low) (q + low) x 0 (λ e. ne (omega arith)))))
+      ap (λ b. cond b (slice_index (set ws (at k) x) (at q)) 0) (lt-ltb q n lt) ∙ ap (λ j. slice_index (set ws (at k) x) (at j)) e ∙ get_or-set_same ws (at k) x 0 inside)
+      (λ ne. ap (λ v. cond (nat_lt q n) v 0) (get_or-set_other ws (at k) (at q) x 0 (λ e. ne (apart q k e)))))
 
-  part_other : (ws : List ℕ) (i x : ℕ) → ((q : ℕ) → q < n → q + low ≢ i) → part (set ws i x) ≡ part ws
-  part_other ws i x apart = fun_ext (λ q. where_so (nat_lt q n) _ _ 0 (λ t. get_or-set_other ws i (q + low) x 0 (apart q (ltb-true q n t))))
+  part_other : (ws : List ℕ) (i x : ℕ) → ((q : ℕ) → q < n → at q ≢ i) → part (set ws i x) ≡ part ws
+  part_other ws i x far = fun_ext (λ q. where_so (nat_lt q n) _ _ 0 (λ t. get_or-set_other ws i (at q) x 0 (far q (ltb-true q n t))))
 
-  part_here : (ws : List ℕ) (k : ℕ) → k < n → part ws k ≡ slice_index ws (k + low)
-  part_here ws k small = ap (λ b. cond b (slice_index ws (k + low)) 0) (lt-ltb k n small)
+  part_here : (ws : List ℕ) (k : ℕ) → k < n → part ws k ≡ slice_index ws (at k)
+  part_here ws k small = ap (λ b. cond b (slice_index ws (at k)) 0) (lt-ltb k n small)
+
+scopes_apart : (q k : ℕ) → scope_at q ≡ scope_at k → q ≡ k
+scopes_apart q k e = omega arith
+
+cells_apart : (q k : ℕ) → cell_at q ≡ cell_at k → q ≡ k
+cells_apart q k e = omega arith
 
 -- ---- where a word stands
 pub scope_here : (ws : List ℕ) (m : ℕ) → m < MOST_MUTATORS → scope_in ws m ≡ slice_index ws (scope_at m)
-scope_here = part_here 2 MOST_MUTATORS
+scope_here = part_here scope_at MOST_MUTATORS scopes_apart
 
 pub cell_here : (ws : List ℕ) (p : ℕ) → p < POINTERS → cell_in ws p ≡ slice_index ws (cell_at p)
-cell_here = part_here 10 POINTERS
+cell_here = part_here cell_at POINTERS cells_apart
 
 -- the heap's words as they are after a step
 pub record WordsAre (ws : List ℕ) (epoch : ℕ) (scope cell word : ℕ → ℕ) : Type 0 where
@@ -55,8 +61,8 @@ module _ (ws : List ℕ) (wide : length ws ≡ TABLE_WORDS) where
   pub epoch_word_set : (x : ℕ) → WordsAre (set ws EPOCH_AT x) x (scope_in ws) (cell_in ws) (word_in ws)
   epoch_word_set x = record {
     epoch_is = get_or-set_same ws EPOCH_AT x 0 (omega arith);
-    scope_is = part_other 2 MOST_MUTATORS ws EPOCH_AT x (λ q l e. omega arith);
-    cell_is = part_other 10 POINTERS ws EPOCH_AT x (λ q l e. omega arith);
+    scope_is = part_other scope_at MOST_MUTATORS scopes_apart ws EPOCH_AT x (λ q l e. omega arith);
+    cell_is = part_other cell_at POINTERS cells_apart ws EPOCH_AT x (λ q l e. omega arith);
     word_is = fun_ext (λ a. get_or-set_other ws EPOCH_AT (data_at a) x 0 (λ e. omega arith));
     wide = same_length EPOCH_AT x;
   }
@@ -64,8 +70,8 @@ module _ (ws : List ℕ) (wide : length ws ≡ TABLE_WORDS) where
   pub scope_word_set : (m x : ℕ) → m < MOST_MUTATORS → WordsAre (set ws (scope_at m) x) (epoch_in ws) (put (scope_in ws) m x) (cell_in ws) (word_in ws)
   scope_word_set m x small = record {
     epoch_is = get_or-set_other ws (scope_at m) EPOCH_AT x 0 (λ e. omega arith);
-    scope_is = part_set 2 MOST_MUTATORS ws m x small (omega arith);
-    cell_is = part_other 10 POINTERS ws (scope_at m) x (λ q l e. omega arith);
+    scope_is = part_set scope_at MOST_MUTATORS scopes_apart ws m x small (omega arith);
+    cell_is = part_other cell_at POINTERS cells_apart ws (scope_at m) x (λ q l e. omega arith);
     word_is = fun_ext (λ a. get_or-set_other ws (scope_at m) (data_at a) x 0 (λ e. omega arith));
     wide = same_length (scope_at m) x;
   }
@@ -73,8 +79,8 @@ module _ (ws : List ℕ) (wide : length ws ≡ TABLE_WORDS) where
   pub cell_word_set : (p x : ℕ) → p < POINTERS → WordsAre (set ws (cell_at p) x) (epoch_in ws) (scope_in ws) (put (cell_in ws) p x) (word_in ws)
   cell_word_set p x small = record {
     epoch_is = get_or-set_other ws (cell_at p) EPOCH_AT x 0 (λ e. omega arith);
-    scope_is = part_other 2 MOST_MUTATORS ws (cell_at p) x (λ q l e. omega arith);
-    cell_is = part_set 10 POINTERS ws p x small (omega arith);
+    scope_is = part_other scope_at MOST_MUTATORS scopes_apart ws (cell_at p) x (λ q l e. omega arith);
+    cell_is = part_set cell_at POINTERS cells_apart ws p x small (omega arith);
     word_is = fun_ext (λ a. get_or-set_other ws (cell_at p) (data_at a) x 0 (λ e. omega arith));
     wide = same_length (cell_at p) x;
   }
@@ -82,8 +88,8 @@ module _ (ws : List ℕ) (wide : length ws ≡ TABLE_WORDS) where
   pub data_word_set : (a x : ℕ) → data_at a < TABLE_WORDS → WordsAre (set ws (data_at a) x) (epoch_in ws) (scope_in ws) (cell_in ws) (put (word_in ws) a x)
   data_word_set a x small = record {
     epoch_is = get_or-set_other ws (data_at a) EPOCH_AT x 0 (λ e. omega arith);
-    scope_is = part_other 2 MOST_MUTATORS ws (data_at a) x (λ q l e. omega arith);
-    cell_is = part_other 10 POINTERS ws (data_at a) x (λ q l e. omega arith);
+    scope_is = part_other scope_at MOST_MUTATORS scopes_apart ws (data_at a) x (λ q l e. omega arith);
+    cell_is = part_other cell_at POINTERS cells_apart ws (data_at a) x (λ q l e. omega arith);
     word_is = fun_ext (λ q. put_both (λ v. word_in (set ws (data_at a) x) q ≡ v) (word_in ws) a x q
         (λ e. ap (word_in (set ws (data_at a) x)) e ∙ get_or-set_same ws (data_at a) x 0 (omega arith))
         (λ ne. get_or-set_other ws (data_at a) (data_at q) x 0 (λ e. ne (omega arith))));

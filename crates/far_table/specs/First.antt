@@ -14,7 +14,7 @@ use Rattle.far_table.specs.View.{BookView, ObjectView, OwnerView}
 use Rattle.far_table.specs.Layout.{JOBS, TABLE_WORDS, cell_at, data_at, epoch_in, job_at, scope_at}
 use Rattle.far_table.specs.Views.{moves}
 
--- the words are those of the state, each at its place, and 0 where a copier's job stands. Word 0, and none else, may be any
+-- the words are those of the state, each at its place, and 0 where a copier's job stands. A word of nobody may be any
 pub record IsTableOf (ws : List ℕ) (s : State) : Type 0 where
   pub wide : length ws ≡ TABLE_WORDS
   pub epoch : epoch_in ws ≡ s.epoch

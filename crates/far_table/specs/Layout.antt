@@ -1,32 +1,33 @@
--- Where each shared word stands. The layout is that of the largest heap; the words of the logs are last.
-use Rattle.std.specs.Prelude.{ℕ, ◌+◌, cond, nat_lt, List, slice_index}
+-- Where each shared word stands. The layout is that of the largest heap; the words of the logs are last. The epoch and each scope word have 16 words,
+-- a line of cache: what is between them is 0, and is of nobody.
+use Rattle.std.specs.Prelude.{ℕ, ◌+◌, ◌*◌, cond, nat_lt, List, slice_index}
 use Rattle.far_word.specs.declared.sizes.TheConstants.{MOST_MUTATORS, POINTERS}
 
 -- word 0 is for the split of seats
 abbrev pub EPOCH_AT : ℕ
-EPOCH_AT = 1
+EPOCH_AT = 16
 
--- 2 to 9
+-- 32, 48 and so on to 144
 abbrev pub scope_at : ℕ → ℕ
-scope_at m = m + 2
+scope_at m = m * 16 + 32
 
--- 10 to 1033
+-- 160 to 1183
 abbrev pub cell_at : ℕ → ℕ
-cell_at p = p + 10
+cell_at p = p + 160
 
--- 1034 to 1049: the words of the copiers' jobs
+-- 1184 to 1199: the words of the copiers' jobs
 abbrev pub job_at : ℕ → ℕ
-job_at j = j + 1034
+job_at j = j + 1184
 
 abbrev pub JOBS : ℕ
 JOBS = 16
 
--- from 1050 on, 64 logs of 128 words
+-- from 1200 on, 64 logs of 128 words
 abbrev pub data_at : ℕ → ℕ
-data_at a = a + 1050
+data_at a = a + 1200
 
 abbrev pub TABLE_WORDS : ℕ
-TABLE_WORDS = 9242
+TABLE_WORDS = 9392
 
 abbrev pub epoch_in : List ℕ → ℕ
 epoch_in ws = slice_index ws EPOCH_AT

@@ -10,7 +10,7 @@ ghost use Rattle.far_table.specs.Viewed.{NoneIsGivenOut};
 ghost use Rattle.far_table.specs.Whole.{IsWhole};
 
 use crate::book::BookSeat;
-use crate::layout::{CELLS, EPOCH, LOGS, SCOPES};
+use crate::layout::{CELLS, EPOCH, LINE, LOGS, SCOPES};
 use crate::rule;
 use far_core::{Event, Reply, Shape};
 use far_device::Device;
@@ -100,7 +100,7 @@ impl<D: Device> Near for BookSeat<D> {
     fn look(&mut self, owner: u8) -> u64 {
         self.table
             .shared
-            .load::<rule::Look>(&mut self.seat, owner as usize + SCOPES)
+            .load::<rule::Look>(&mut self.seat, owner as usize * LINE + SCOPES)
     }
 
     fn shape(&self) -> Shape {

@@ -22,7 +22,7 @@ ghost use Rattle.far_table.specs.Views.{adopted_view, asked_view, closed_view, h
 ghost use Rattle.far_word.specs.Bytes.{packed_word};
 ghost use Rattle.far_word.specs.Sizes.{words_for};
 
-use crate::layout::{EPOCH, SCOPES};
+use crate::layout::{EPOCH, LINE, SCOPES};
 use crate::rule::{FarRule, FarTable, Plan};
 use crate::view::View;
 use crate::{layout, rule};
@@ -393,7 +393,7 @@ impl<D: Device> MutSeat<D> {
         ensures view { self.new.view ≡ opened_view self.old.view }
         ensures event { OwnerMade (Event.Open self.old.view.number) self.old.view Reply.Done self.new.view }
     {
-        let scope = self.number as usize + SCOPES;
+        let scope = self.number as usize * LINE + SCOPES;
         let word = 2 * self.epoch + 1;
         self.table
             .shared
@@ -407,7 +407,7 @@ impl<D: Device> MutSeat<D> {
         ensures view { self.new.view ≡ closed_view self.old.view }
         ensures event { OwnerMade (Event.Close self.old.view.number) self.old.view Reply.Done self.new.view }
     {
-        let scope = self.number as usize + SCOPES;
+        let scope = self.number as usize * LINE + SCOPES;
         self.table
             .shared
             .store::<rule::Close>(&mut self.seat, scope, 0);

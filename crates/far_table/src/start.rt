@@ -14,7 +14,7 @@ ghost use Rattle.far_word.specs.declared.refused.Refused.{Refused as any_refusal
 ghost use Rattle.far_word.specs.declared.sizes.TheConstants.{LOG_WORDS, MOST_LOGS};
 
 use crate::book::BookSeat;
-use crate::layout::{CELLS, EPOCH, JOBS, LOGS, SCOPES, TABLE_WORDS};
+use crate::layout::{CELLS, EPOCH, JOBS, LINE, LOGS, SCOPES, TABLE_WORDS};
 use crate::rule::{Deal, FarTable, Plan};
 use crate::seat::MutSeat;
 use crate::view::View;
@@ -48,7 +48,12 @@ fn word_of(core: &Core, i: usize) -> u64
     if i < SCOPES {
         if i == EPOCH { core.epoch() } else { 0 }
     } else if i < CELLS {
-        core.scope((i - SCOPES) as u8)
+        let past = i - SCOPES;
+        if past % LINE == 0 {
+            core.scope((past / LINE) as u8)
+        } else {
+            0
+        }
     } else if i < JOBS {
         core.cell((i - CELLS) as u16)
     } else if i < LOGS {

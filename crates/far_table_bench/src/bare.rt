@@ -7,7 +7,7 @@ use atomic_table::{Play, Seat, Table, TableRule};
 use std::alloc::{AllocError, Global};
 use std::sync::Arc;
 
-pub(crate) const WORDS: usize = 9242;
+pub(crate) const WORDS: usize = 9392;
 
 pub(crate) struct Anything;
 
@@ -28,7 +28,7 @@ impl Play<u64, u64> for Nothing {
 pub(crate) struct Bare {
     table: Arc<Table<u64, u64, u64, Anything, Global>, Global>,
     seat: Seat<u64, u64>,
-    ghost fits: { (seat.table_id ≡ (arc_value table).shared.table_id) × ((arc_value table).shared.table_id.words ≡ 9242) },
+    ghost fits: { (seat.table_id ≡ (arc_value table).shared.table_id) × ((arc_value table).shared.table_id.words ≡ 9392) },
 }
 
 impl Bare {
@@ -40,35 +40,35 @@ impl Bare {
     }
 
     fn load(&mut self, word: u16) -> u64
-        requires { word < 9242 }
+        requires { word < 9392 }
     {
         let Bare { table, seat } = self;
         table.shared.load::<Nothing>(seat, word as usize)
     }
 
     fn store(&mut self, word: u16, new: u64)
-        requires { word < 9242 }
+        requires { word < 9392 }
     {
         let Bare { table, seat } = self;
         table.shared.store::<Nothing>(seat, word as usize, new);
     }
 
     fn fetch_or(&mut self, word: u16, bits: u64) -> u64
-        requires { word < 9242 }
+        requires { word < 9392 }
     {
         let Bare { table, seat } = self;
         table.shared.fetch_or::<Nothing>(seat, word as usize, bits)
     }
 
     fn fetch_and(&mut self, word: u16, bits: u64) -> u64
-        requires { word < 9242 }
+        requires { word < 9392 }
     {
         let Bare { table, seat } = self;
         table.shared.fetch_and::<Nothing>(seat, word as usize, bits)
     }
 
     fn compare_exchange(&mut self, word: u16, old: u64, new: u64) -> u64
-        requires { word < 9242 }
+        requires { word < 9392 }
     {
         let Bare { table, seat } = self;
         table
@@ -158,7 +158,7 @@ pub(crate) struct Scopes {
 
 impl Turn for Scopes {
     fn turn(&mut self, index: u16, _word: u64) -> u64 {
-        let found = self.bare.load(1);
+        let found = self.bare.load(16);
         self.bare.store(index, found);
         self.bare.store(index, 0);
         found
@@ -173,7 +173,7 @@ pub(crate) struct Pins {
 
 impl Turn for Pins {
     fn turn(&mut self, index: u16, _word: u64) -> u64 {
-        let found = self.bare.load(1);
+        let found = self.bare.load(16);
         self.bare.store(index, found);
         let word = self.bare.fetch_or(index, 1 << 62);
         self.bare.store(index, 0);

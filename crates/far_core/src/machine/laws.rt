@@ -25,6 +25,8 @@ ghost use Rattle.far_core.specs.events.Reports.{RepliesReport, RefusalsReportNot
 ghost use Rattle.far_core.specs.world.World.{start};
 ghost use Rattle.far_core.specs.laws.Agreement.{ViewRests, MarksAgree, MarksExist, ObjectAgrees};
 ghost use Rattle.far_core.specs.laws.Namings.{NamingsArePlain};
+ghost use Rattle.far_core.specs.laws.Refusals.{ScopesAreRefused, PointersAreRefused, WordsAreRefused, LogsAreRefused, RoundsAreRefused};
+ghost use Rattle.far_core.specs.laws.RefusedNamings.{NamingsAreRefused};
 ghost use Rattle.far_core.specs.laws.Rooms.{RoomIsRight};
 ghost use Rattle.far_core.specs.laws.Rounds.{RoundStands, ScopesShow, OneLogIsABit, SetsAreJoined, NoLogIsZero, FiveIsTwoLogs};
 ghost use Rattle.far_core.specs.laws.Worlds.{ObjectsStand, StepsKeep, LoadsRead, StepsAreOne, LyingIsOpen, ChangesKeep, ChangesAreOne, EventsCause};
@@ -182,4 +184,15 @@ pub fn scopes_show()
 /// one, if that wasn't 0.
 pub fn namings_are_plain()
     ensures { NamingsArePlain }
+{}
+
+/// Causes for which an event is refused and changes nothing, a row each: of scopes, pointers, an object's words, logs, cells and
+/// rounds, and namings. A row says what is so in the state; no guard stands in it.
+pub fn refusals_are_said()
+    ensures scopes { (s : State) → Law s → ScopesAreRefused s }
+    ensures pointers { (s : State) → Law s → PointersAreRefused s }
+    ensures words { (s : State) → Law s → WordsAreRefused s }
+    ensures logs { (s : State) → Law s → LogsAreRefused s }
+    ensures rounds { (s : State) → Law s → RoundsAreRefused s }
+    ensures namings { (s : State) → Law s → NamingsAreRefused s }
 {}

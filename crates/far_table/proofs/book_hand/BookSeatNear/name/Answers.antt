@@ -7,7 +7,7 @@ use Rattle.far_table.specs.Layout.{cell_at}
 use Rattle.far_table.specs.Stands.{book_of}
 use Rattle.far_table.specs.StateOf.{book_state}
 use Rattle.far_table.proofs.BookSeatLemmas.{book_stays, cell_inside, shape_stays, stands_after, view_is}
-use Rattle.far_table.proofs.NameSteps.{exchanged_keeps, exchanges, named_done, named_forgets, won_tells}
+use Rattle.far_table.proofs.NameSteps.{exchanged_keeps, exchanges, lost_tells, named_done, named_forgets, won_tells}
 use Rattle.far_table.proofs.SeatLemmas.{inside}
 use Rattle.far_table.proofs.book_hand.BookSeatNear.name.Goals as goal
 
@@ -38,3 +38,8 @@ returns-then-found-old-clause-forgot g c =
     let b = book_of c.args.self.now.seat.me.0 in
     let t = won_tells _ _ _ c.args.pointer c.args.old c.args.new c.compare_exchange-found.result (c.compare_exchange-found.ensures.2 c.args.pointer refl).1 c.if-found-old.true in
     subst (Forgets (book_state b)) (sym (ap book_state (view_is _ _ _ _ _ t))) (named_forgets b c.args.pointer c.args.old c.args.new c.requires.legal c.requires.seen)
+
+pub returns-else-found-old-clause-kept : goal.returns-else-found-old-clause-kept
+returns-else-found-old-clause-kept g c =
+    let t = lost_tells _ _ _ c.args.pointer c.args.old c.args.new c.compare_exchange-found.result (c.compare_exchange-found.ensures.2 c.args.pointer refl).1 c.if-found-old.false in
+    ap book_state (view_is _ _ _ _ _ t)
