@@ -7,7 +7,7 @@ use Rattle.far_word.specs.declared.refused.Refused.TheVariants.{Shape}
 use Rattle.far_core.specs.state.Shape.{is_shape}
 use Rattle.far_text.specs.Command.{Command, Trace, Nothing, Heap}
 use Rattle.far_text.specs.Grammar.{trace_of}
-use Rattle.far_replay.specs.Answers.{Answered, Answers, IsOutput, end_of, first_moment, shape_of}
+use Rattle.far_replay.specs.Answers.{Answered, IsOutput, end_of, first_moment, shape_of}
 use Rattle.far_replay.specs.Moment.{Moment}
 use Rattle.far_replay.specs.Reply.{Reply, Done, Refused, reply_text}
 use Rattle.far_replay.specs.declared.running.End.{End}

@@ -332,42 +332,62 @@ UnknownMutatorsAreRefused = (now : Moment) (c : Command) (r : Reply) (after : Mo
 abbrev pub LogsAreTold : Type 0
 LogsAreTold = (now : Moment) (r : Reply) (after : Moment) → Law now.core → Commanded now (Book AsksLogs) r after → TellsAll now r
 
--- `where` of a pointer that the mutator uses tells its object's place, and of any other is refused 7
-abbrev pub WhereTells : Type 0
-WhereTells = (now : Moment) (m p : ℕ) (r : Reply) (after : Moment) → Law now.core → m < now.core.mutators → Commanded now (Mutator m (Where p)) r after →
+-- what `where` answers
+abbrev pub AnswersWhere : Moment → ℕ → ℕ → Reply → Type 0
+AnswersWhere now m p r =
     (uses now.core m p ≡ true → (home : Home) × (r ≡ Lies home) × TellsHome now.core p home) × (uses now.core m p ≢ true → r ≡ Refused NotHeld)
 
--- `epoch` of a mutator whose scope is open is refused 6; of any other it tells the heap's epoch, which the mutator remembers, and all else stays
-abbrev pub EpochsAreTold : Type 0
-EpochsAreTold = (now : Moment) (m : ℕ) (r : Reply) (after : Moment) → m < now.core.mutators → Commanded now (Mutator m Epoch) r after →
+-- `where` of a pointer that the mutator uses tells its object's place, and of any other is refused 7
+abbrev pub WhereTells : Type 0
+WhereTells = (now : Moment) (m p : ℕ) (r : Reply) (after : Moment) → Law now.core → m < now.core.mutators → Commanded now (Mutator m (Where p)) r after → AnswersWhere now m p r
+
+-- what `epoch` answers, and what the mutator remembers then
+abbrev pub AnswersEpoch : Moment → ℕ → Reply → Moment → Type 0
+AnswersEpoch now m r after =
     (is_opened now.core m ≡ true → r ≡ Refused AlreadyOpen)
     × (is_opened now.core m ≡ false → (r ≡ EpochRead now.core.epoch) × (after.core ≡ record now.core { remembered = put now.core.remembered m (Some now.core.epoch) }))
 
+-- `epoch` of a mutator whose scope is open is refused 6; of any other it tells the heap's epoch, which the mutator remembers, and all else stays
+abbrev pub EpochsAreTold : Type 0
+EpochsAreTold = (now : Moment) (m : ℕ) (r : Reply) (after : Moment) → m < now.core.mutators → Commanded now (Mutator m Epoch) r after → AnswersEpoch now m r after
+
+-- at which epoch a closed scope opens
+abbrev pub OpensAt : Moment → ℕ → Reply → Moment → Type 0
+OpensAt now m r after =
+    (r ≡ Done) × ((e : ℕ) → now.core.remembered m ≡ Some e → after.core.scope m ≡ 2 * e + 1) × (now.core.remembered m ≡ None → after.core.scope m ≡ 2 * now.core.epoch + 1)
+
 -- a scope opens at the epoch that its mutator remembers, or else at the heap's
 abbrev pub ScopesOpenAtEpochs : Type 0
-ScopesOpenAtEpochs = (now : Moment) (m : ℕ) (r : Reply) (after : Moment) → m < now.core.mutators → is_opened now.core m ≡ false → Commanded now (Mutator m Open) r after →
-    (r ≡ Done) × ((e : ℕ) → now.core.remembered m ≡ Some e → after.core.scope m ≡ 2 * e + 1) × (now.core.remembered m ≡ None → after.core.scope m ≡ 2 * now.core.epoch + 1)
+ScopesOpenAtEpochs = (now : Moment) (m : ℕ) (r : Reply) (after : Moment) → m < now.core.mutators → is_opened now.core m ≡ false → Commanded now (Mutator m Open) r after → OpensAt now m r after
 
 -- a close forgets it
 abbrev pub ClosesForget : Type 0
 ClosesForget = (now : Moment) (m : ℕ) (after : Moment) → Commanded now (Mutator m Close) Done after → after.core.remembered m ≡ None
 
--- `log` of a log of the heap tells the line that `logs` has for it, and of any other is refused 8
-abbrev pub LogTellsItsLine : Type 0
-LogTellsItsLine = (now : Moment) (l : ℕ) (r : Reply) (after : Moment) → Commanded now (Book (Log l)) r after →
+-- what `log` answers
+abbrev pub AnswersLog : Moment → ℕ → Reply → Type 0
+AnswersLog now l r =
     (l < now.core.logs → (lines : List LogLine) (later : Moment) → Commanded now (Book AsksLogs) (Logs lines) later → (line : LogLine) × (r ≡ Logs (line ∷ [])) × (line.log ≡ l) × Contains lines line)
     × (now.core.logs ≤ l → r ≡ Refused Range)
+
+-- `log` of a log of the heap tells the line that `logs` has for it, and of any other is refused 8
+abbrev pub LogTellsItsLine : Type 0
+LogTellsItsLine = (now : Moment) (l : ℕ) (r : Reply) (after : Moment) → Commanded now (Book (Log l)) r after → AnswersLog now l r
 
 -- `audit` counts each object, near and far, and the bytes that `logs` tells
 abbrev pub AuditCounts : Type 0
 AuditCounts = (now : Moment) (r : Reply) (after : Moment) → IsMoment now → Commanded now (Book Audit) r after → (counts : Counts) × (r ≡ Audited counts) × CountsAll now counts
 
--- a drop of a pointer that the mutator doesn't use is refused 7; else, where the mutator views its object, 9, and else the object is ended
-abbrev pub DropEndsObject : Type 0
-DropEndsObject = (now : Moment) (m p : ℕ) (r : Reply) (after : Moment) → Law now.core → m < now.core.mutators → Commanded now (Mutator m (Drop p)) r after →
+-- what `drop` answers and does
+abbrev pub AnswersDrop : Moment → ℕ → ℕ → Reply → Moment → Type 0
+AnswersDrop now m p r after =
     (uses now.core m p ≢ true → r ≡ Refused NotHeld)
     × (uses now.core m p ≡ true → (world_of now.core).viewed p ≡ true → r ≡ Refused Held)
     × (uses now.core m p ≡ true → (world_of now.core).viewed p ≡ false → (r ≡ Done) × EndsObject now.core after.core p)
+
+-- a drop of a pointer that the mutator doesn't use is refused 7; else, where the mutator views its object, 9, and else the object is ended
+abbrev pub DropEndsObject : Type 0
+DropEndsObject = (now : Moment) (m p : ℕ) (r : Reply) (after : Moment) → Law now.core → m < now.core.mutators → Commanded now (Mutator m (Drop p)) r after → AnswersDrop now m p r after
 
 -- objects stay whole through commands
 abbrev pub ObjectsStayWhole : Type 0
@@ -401,10 +421,14 @@ HeapsBeginLawful = (logs mutators epoch : ℕ) → is_shape (shape_of logs mutat
 abbrev pub ShapesAre : Type 0
 ShapesAre = (logs mutators epoch : ℕ) → (is_shape (shape_of logs mutators epoch) ≡ true) ↔ ((2 ≤ logs) × (logs ≤ 64) × (1 ≤ mutators) × (mutators ≤ 8) × (epoch < 2 ^ 62))
 
+-- a mutator's lowest cell that is 0
+abbrev pub IsLowest : Moment → ℕ → ℕ → Type 0
+IsLowest now m p =
+    (m * CELLS ≤ p) × (p < m * CELLS + CELLS) × (now.core.cell p ≡ 0) × ((q : ℕ) → m * CELLS ≤ q → q < p → now.core.cell q ≢ 0)
+
 -- a new object's pointer is its owner's lowest cell that is 0
 abbrev pub NewTakesTheLowest : Type 0
-NewTakesTheLowest = (now : Moment) (m len ds p : ℕ) (after : Moment) → Commanded now (Mutator m (New len ds)) (Pointer p) after →
-    (m * CELLS ≤ p) × (p < m * CELLS + CELLS) × (now.core.cell p ≡ 0) × ((q : ℕ) → m * CELLS ≤ q → q < p → now.core.cell q ≢ 0)
+NewTakesTheLowest = (now : Moment) (m len ds p : ℕ) (after : Moment) → Commanded now (Mutator m (New len ds)) (Pointer p) after → IsLowest now m p
 
 -- refused 3 only where none of the owner's cells is 0, and 2 only where there is no room
 abbrev pub NoneIsLeft : Type 0
@@ -412,26 +436,35 @@ NoneIsLeft = (now : Moment) (m len ds : ℕ) (after : Moment) →
     (Commanded now (Mutator m (New len ds)) (Refused NoPointer) after → (q : ℕ) → m * CELLS ≤ q → q < m * CELLS + CELLS → now.core.cell q ≢ 0)
     × (Commanded now (Mutator m (New len ds)) (Refused NoRoom) after → room now.core (size_of len) true ≡ None)
 
--- a new object in range is refused 3 exactly where each of the owner's cells is taken, else 2 exactly where there is no room, and else made
-abbrev pub NewIsMade : Type 0
-NewIsMade = (now : Moment) (m len ds : ℕ) (r : Reply) (after : Moment) → m < now.core.mutators → ds < 256 → 0 < len → len ≤ LONGEST → Commanded now (Mutator m (New len ds)) r after →
+-- what `new` in range answers
+abbrev pub AnswersNew : Moment → ℕ → ℕ → Reply → Type 0
+AnswersNew now m len r =
     (((q : ℕ) → m * CELLS ≤ q → q < m * CELLS + CELLS → now.core.cell q ≢ 0) → r ≡ Refused NoPointer)
     × ((q : ℕ) → m * CELLS ≤ q → q < m * CELLS + CELLS → now.core.cell q ≡ 0 →
     (room now.core (size_of len) true ≡ None → r ≡ Refused NoRoom) × ((place : Place) → room now.core (size_of len) true ≡ Some place → (p : ℕ) × (r ≡ Pointer p)))
+
+-- a new object in range is refused 3 exactly where each of the owner's cells is taken, else 2 exactly where there is no room, and else made
+abbrev pub NewIsMade : Type 0
+NewIsMade = (now : Moment) (m len ds : ℕ) (r : Reply) (after : Moment) → m < now.core.mutators → ds < 256 → 0 < len → len ≤ LONGEST → Commanded now (Mutator m (New len ds)) r after → AnswersNew now m len r
 
 -- what any command takes of the logs is what `TakesRoom` says: a new object and one that is brought for a view their span, steps that move objects the room of those that came
 abbrev pub CommandsTakeRoom : Type 0
 CommandsTakeRoom = (now : Moment) (c : Command) (r : Reply) (after : Moment) → IsMoment now → Commanded now c r after → TakesRoom now c r after
 
--- a try of an object that its mutator uses, in its open scope, views it where it was viewed already, or its cell is near with none of EVAC, MOVE and DROP; else it is
--- refused 14 with the cell's word as it was. Unless it was viewed already, the cell has HOT from then on, whatever the answer
-abbrev pub TriesAreAnswered : Type 0
-TriesAreAnswered = (now : Moment) (m p : ℕ) (r : Reply) (after : Moment) → Law now.core → m < now.core.mutators → is_opened now.core m ≡ true → uses now.core m p ≡ true →
-    Commanded now (Mutator m (Try p)) r after → ((world_of now.core).viewed p ≡ true → (r ≡ Done) × (after ≡ now))
+-- what `try` answers and does
+abbrev pub AnswersTry : Moment → ℕ → ℕ → Reply → Moment → Type 0
+AnswersTry now m p r after =
+    ((world_of now.core).viewed p ≡ true → (r ≡ Done) × (after ≡ now))
     × ((world_of now.core).viewed p ≡ false → IsHotAfter now.core after.core p
     × (((len ds : ℕ) (place : Place) (marks : Marks) → read_of (now.core.cell p) ≡ Some (pointer.Near len ds place marks) → (marks.evac || marks.moved || marks.dropped) ≡ false → r ≡ Done)
     × (((len ds : ℕ) (place : Place) (marks : Marks) → read_of (now.core.cell p) ≡ Some (pointer.Near len ds place marks) → (marks.evac || marks.moved || marks.dropped) ≡ true) →
     r ≡ Refused (MarkFound (now.core.cell p)))))
+
+-- a try of an object that its mutator uses, in its open scope, views it where it was viewed already, or its cell is near with none of EVAC, MOVE and DROP; else it is
+-- refused 14 with the cell's word as it was. Unless it was viewed already, the cell has HOT from then on, whatever the answer
+abbrev pub TriesAreAnswered : Type 0
+TriesAreAnswered = (now : Moment) (m p : ℕ) (r : Reply) (after : Moment) → Law now.core → m < now.core.mutators → is_opened now.core m ≡ true → uses now.core m p ≡ true →
+    Commanded now (Mutator m (Try p)) r after → AnswersTry now m p r after
 
 -- what is read, written or tried is viewed until its mutator closes its scope; nothing else makes a view or takes one away
 abbrev pub ViewsLast : Type 0
@@ -450,7 +483,12 @@ abbrev pub OwnLinesCount : Type 0
 OwnLinesCount = (m : ℕ) (o : Own) (c : Command) (r : Reply) (cs : List Command) (rs : List Reply) → Alone m o (c ∷ cs) (r ∷ rs) →
     (IsSaidBy m c → (q : Own) × Knows m o c r q × Alone m q cs rs) × (¬ IsSaidBy m c → Alone m o cs rs)
 
+-- what `new` makes
+abbrev pub MakesObject : Moment → ℕ → ℕ → ℕ → ℕ → Moment → Type 0
+MakesObject now m len ds p after =
+    (place : Place) × (room now.core (size_of len) true ≡ Some place)
+    × ((world_of after.core).object ≡ put (world_of now.core).object p (Some record { owner = m; ds = ds; bytes = replicate len 0; home = Group place.log }))
+
 -- a new object has its owner, its data structure and so many zeros, in the log of the place that room says; all other objects stay
 abbrev pub NewMakesItsObject : Type 0
-NewMakesItsObject = (now : Moment) (m len ds p : ℕ) (after : Moment) → IsMoment now → Commanded now (Mutator m (New len ds)) (Pointer p) after → (place : Place) × (room now.core (size_of len) true ≡ Some place)
-    × ((world_of after.core).object ≡ put (world_of now.core).object p (Some record { owner = m; ds = ds; bytes = replicate len 0; home = Group place.log }))
+NewMakesItsObject = (now : Moment) (m len ds p : ℕ) (after : Moment) → IsMoment now → Commanded now (Mutator m (New len ds)) (Pointer p) after → MakesObject now m len ds p after

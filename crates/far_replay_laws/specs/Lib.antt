@@ -10,5 +10,6 @@ pub mod LeftBeside
 pub mod LeftMarks
 pub mod Listed
 pub mod MovesTake
+pub mod Said
 pub mod Stands
 pub mod Steps

@@ -1,5 +1,6 @@
 //! What outputs say, over whole texts and whole lists of commands. No function here does anything when it runs.
 
+ghost use Rattle.far_replay_laws.specs.Said.{TextsSayAll};
 ghost use Rattle.far_replay_laws.specs.Ends.{EndsAreTold};
 ghost use Rattle.far_replay_laws.specs.Census.{AuditsByCensus};
 ghost use Rattle.far_replay_laws.specs.Chosen.{RoundsAreChosen};
@@ -15,8 +16,11 @@ ghost use Rattle.far_replay_laws.specs.Steps.{StepsAreTold};
 /// and a moment for each command. Each moment has the law, and in it objects are whole; through them the logs in which
 /// views rest stay; each mutator's replies are what its own lines alone say; each step of the evacuator tells what has happened,
 /// and leaves objects as `steps_leave` says; and any other command leaves the round, as `rounds_stand` says.
+/// And of each of its commands all is so that the laws below say of one: what it is answered, which views there are then, what it takes of the logs, what a
+/// refusal leaves.
 pub fn outputs_are_sound()
-    ensures { OutputsAreSound }
+    ensures sound { OutputsAreSound }
+    ensures each { TextsSayAll }
 {}
 
 /// Each text has an output, and one alone. A text that ends as refused begins it with `refused`; one that ran has none, or begins with `ok`. Its commands that write, write bytes. Among lines that say commands, a

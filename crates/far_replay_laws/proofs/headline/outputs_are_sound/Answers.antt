@@ -1,5 +1,6 @@
+use Rattle.far_replay_laws.proofs.AllSaid.{texts_say_all}
 use Rattle.far_replay_laws.proofs.OutputLaws.{outputs_sound}
 use Rattle.far_replay_laws.proofs.headline.outputs_are_sound.Goals as goal
 
 pub returns : goal.returns
-returns c = outputs_sound
+returns c = record { sound = outputs_sound; each = texts_say_all }
