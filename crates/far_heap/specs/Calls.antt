@@ -3,8 +3,8 @@ use Rattle.std.specs.Prelude.{◌≡◌, ◌≢◌, ◌⊎◌, ℕ, ◌+◌, ◌
 use Rattle.atomic_table.specs.Seated.{TableId}
 use Rattle.far_heap.specs.Mine.{Mine, adopting, asking, bytes_in, closing, dropping, len_in, newcomer, opening, owns, viewing, writing}
 
--- what a call did: it opened or closed the scope, asked so many times for an object to be moved, viewed one, made one of so many bytes and a data structure, dropped one, or wrote bytes from one on. To try, to read, and to
--- be refused does nothing
+-- what a call did: it opened or closed the scope, asked so many times for an object to be moved, viewed one, made one of so many bytes and a data structure, dropped
+-- one, or wrote bytes from one on. To try, to read, and to be refused does nothing, but that `view` may have asked
 pub data Call : Type 0 where
   Opens : Call
   Closes : Call
