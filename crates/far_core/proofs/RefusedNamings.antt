@@ -203,7 +203,7 @@ module _ (s : State) (law : Law s) (p old new len ds : ℕ) (to : Place) (k : Ma
     off_tail = λ is ne. refused s law (Name p old new) (λ h. ne (at_tail s law to (taken h).span.next));
     off_start = λ is ne. refused s law (Name p old new) (λ h. ne (at_tail s law to (taken h).span.next ∙ law.logs.free_tail to.log is));
     headless = λ ne. refused s law (Name p old new) (λ h. ne (taken h).span.head);
-    unwritten = λ i none lt ne. refused s law (Name p old new) (λ h. ne ((taken h).blank (ap read_of none ∙ unused) i (omega (arith, lt))));
+    not_zero = λ i none lt ne. refused s law (Name p old new) (λ h. ne ((taken h).blank (ap read_of none ∙ unused) i (omega (arith, lt))));
     uncopied = λ i n d from m was lt ne. refused s law (Name p old new) (λ h. ne ((taken h).copied n d from m was i (omega (arith, lt))));
     unfetched = λ i n d m was honest lt ne. refused s law (Name p old new) (λ h. ne ((taken h).fetched n d m was honest i (omega (arith, lt))));
     unpadded = λ i n byte lt le ne. refused s law (Name p old new) (λ h.

@@ -52,7 +52,7 @@ pub record PlaceIsRefused (s : State) (p old new len ds : ℕ) (to : Place) : Ty
   pub off_tail : s.kind to.log ≡ Open → to.at ≢ s.tail to.log → IsRefused s (Name p old new)
   pub off_start : s.kind to.log ≡ Free → to.at ≢ 0 → IsRefused s (Name p old new)
   pub headless : s.word (addr to) ≢ head_word p len ds → IsRefused s (Name p old new)
-  pub unwritten : (i : ℕ) → old ≡ 0 → 8 * i < len → s.word (addr to + 1 + i) ≢ 0 → IsRefused s (Name p old new)
+  pub not_zero : (i : ℕ) → old ≡ 0 → 8 * i < len → s.word (addr to + 1 + i) ≢ 0 → IsRefused s (Name p old new)
   pub uncopied : (i n d : ℕ) (from : Place) (m : Marks) → read_of old ≡ Some (Near n d from m) → 8 * i < len → s.word (addr to + 1 + i) ≢ s.word (addr from + 1 + i) →
       IsRefused s (Name p old new)
   pub unfetched : (i n d : ℕ) (m : Marks) → read_of old ≡ Some (Far n d m) → s.honest ≡ true → 8 * i < len → s.word (addr to + 1 + i) ≢ s.stored p i →
