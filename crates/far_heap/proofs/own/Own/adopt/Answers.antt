@@ -1,4 +1,4 @@
-use Rattle.std.proofs.Common.{◌≡◌, ℕ, ◌/◌, ◌%◌, true, false, ap, subst, sym, ◌∙◌}
+use Rattle.std.proofs.Common.{◌≡◌, ℕ, ◌/◌, ◌%◌, true, false, refl, ap, subst, sym, ◌∙◌}
 use Rattle.std.specs.Prelude.{slice_set}
 use Rattle.far_word.specs.declared.sizes.TheConstants.{CELLS}
 use Rattle.far_table.specs.Seats.{Seated}
@@ -41,3 +41,8 @@ returns-clause-adopted g c =
       ap mine_of (seated_is c.adopt.new.self s.seat.table _ c.adopt.ensures.table made.0)
           ∙ adopted_mine s.seat _ s.number s.lens.items s.stamps.items s.scope c.self.invariant p (own ∙ c.self.invariant.number_is) c.in-Some.word n c.said-len.result.1 is.0 c.said-len.ensures.ds ∙ ap (adopting p n c.said-len.result.1) c.self.view_is,
     )
+
+pub returns-in_default-clause-kept : goal.returns-in_default-clause-kept
+returns-in_default-clause-kept g c _ =
+    let s = c.self.inside in
+    ap mine_of (seated_is c.adopt.new.self s.seat.table _ c.adopt.ensures.table (c.in_default.ensures.refused refl).0) ∙ c.self.view_is
