@@ -1,10 +1,12 @@
 -- Bytes that lie in words: parts of one word, whole words, and a range of them in three parts.
 use Rattle.std.proofs.Common.{◌≡◌, ℕ, ◌+◌, ◌-◌, ◌*◌, ◌/◌, ◌%◌, ◌^◌, ◌<◌, ◌≤◌, arith, ap, sym, subst, ◌∙◌, List, ◌++◌, length, get_or, take, drop, inl, inr}
-use Rattle.std.specs.Prelude.{replicate}
 use Rattle.std.specs.Int.{bytes_low_first}
 use Rattle.std.proofs.lemmas.Bool.{cases_lt}
-use Rattle.std.proofs.lemmas.List.{get_or-replicate, get_or_past, get_or-take, get_or-drop, length-take-le, length-append, length-drop}
-use lib.Pow.{pow_mono}
+use Rattle.std.proofs.lemmas.List.{get_or_past, get_or-take, get_or-drop, length-take-le, length-append, length-drop}
+use lib.Pow.{field, pow_mono}
+use Rattle.std.proofs.lemmas.Nat.{pow_pos, shl-shr}
+use Rattle.std.proofs.Math.Nat.{div-eq_of_lt, mod-lt}
+use Rattle.std.proofs.Math.Pow.{mod-mod-pow}
 use borrow.Rule.Slice.PartMut.{put_mid}
 use Rattle.byteorder.specs.Endian.{little_number}
 use Rattle.byteorder.specs.Numbers.{length-bytes_low_first}
@@ -26,26 +28,43 @@ part_read f w from at m buf rest out is few word part long found k lt =
     ∙ ap (byte_at (λ _. w)) there ∙ in_row f w (from / 8) (from + k) found here
 
 -- ---- a word with some bytes replaced
-module _ (word at room w : ℕ) (bytes old new zeros : List ℕ) (few : at + length bytes ≤ room) (most : room ≤ 8) (some : 0 < room) (rest : List ℕ)
-    (was : old ≡ bytes_low_first 0 8 word ++ rest) (is_new : zeros ≡ put_mid 0 room (replicate 8 0) (take room old)) (has : new ≡ put_mid at (at + length bytes - at) zeros bytes)
-    (small : (k : ℕ) → get_or bytes k 0 < 256) (read : w ≡ little_number 8 new) where
-  eight : length old ≡ 8 + length rest
-  eight = ap length was ∙ length-append (bytes_low_first 0 8 word) rest ∙ omega (arith, length-bytes_low_first 0 8 word)
+-- the low bytes of a word, where those above are shifted out
+low_word : (word room past : ℕ) → past ≡ 64 - 8 * room → room ≤ 8 → word * 2 ^ past % 2 ^ 64 / 2 ^ past ≡ word % 2 ^ (8 * room)
+low_word word room past cut most =
+    let all : 8 * room + past ≡ 64 = omega arith in
+    ap (λ n. word * 2 ^ past % 2 ^ n / 2 ^ past) (sym all) ∙ field (word * 2 ^ past) (8 * room) past ∙ ap (λ x. x % 2 ^ (8 * room)) (shl-shr word past)
 
-  taken : length (take room old) ≡ room
-  taken = length-take-le room old (omega (arith, eight))
+low_byte_stays : (word room k : ℕ) → k < room → word % 2 ^ (8 * room) / 2 ^ (8 * k) % 256 ≡ word / 2 ^ (8 * k) % 256
+low_byte_stays word room k lt =
+    let more : ℕ = 8 * (room - k) - 8 in
+    let all : (more + 8) + 8 * k ≡ 8 * room = omega arith in
+    ap (λ n. word % 2 ^ n / 2 ^ (8 * k) % 256) (sym all) ∙ ap (λ x. x % 256) (field word (more + 8) (8 * k)) ∙ mod-mod-pow (word / 2 ^ (8 * k)) more 8
 
+high_byte_goes : (word room k : ℕ) → room ≤ k → word % 2 ^ (8 * room) / 2 ^ (8 * k) % 256 ≡ 0
+high_byte_goes word room k le =
+    let wide : word % 2 ^ (8 * room) < 2 ^ (8 * room) = mod-lt word (pow_pos (8 * room)) in
+    let more : 8 * room ≤ 8 * k = omega arith in
+    let most : 2 ^ (8 * room) ≤ 2 ^ (8 * k) = pow_mono more in
+    ap (λ x. x % 256) (div-eq_of_lt (omega (arith, wide, most)))
+
+module _ (word at room past low w : ℕ) (bytes zeros new : List ℕ) (few : at + length bytes ≤ room) (most : room ≤ 8) (some : 0 < room) (cut : past ≡ 64 - 8 * room)
+    (is_low : low ≡ word * 2 ^ past % 2 ^ 64 / 2 ^ past) (rest : List ℕ) (no_rest : length rest ≡ 0) (was : zeros ≡ bytes_low_first 0 8 low ++ rest)
+    (has : new ≡ put_mid at (at + length bytes - at) zeros bytes) (small : (k : ℕ) → get_or bytes k 0 < 256) (read : w ≡ little_number 8 new) where
   zeros_long : length zeros ≡ 8
-  zeros_long = ap length is_new ∙ put_long 0 room (replicate 8 0) (take room old) taken (omega arith)
+  zeros_long = ap length was ∙ length-append (bytes_low_first 0 8 low) rest ∙ omega (arith, no_rest, length-bytes_low_first 0 8 low)
+
+  byte_of : (k : ℕ) → k < 8 → get_or zeros k 0 ≡ word % 2 ^ (8 * room) / 2 ^ (8 * k) % 256
+  byte_of k lt = let at_k : k % 8 ≡ k = omega arith in
+      word_byte low k zeros rest was lt ∙ ap (λ q. low / 2 ^ (8 * q) % 256) at_k ∙ ap (λ x. x / 2 ^ (8 * k) % 256) (is_low ∙ low_word word room past cut most)
 
   kept : (k : ℕ) → k < room → get_or zeros k 0 ≡ byte_at (λ _. word) k
-  kept k lt = ap (λ xs. get_or xs k 0) is_new ∙ put_inside 0 room (replicate 8 0) (take room old) taken (omega arith) k (omega arith) (omega arith)
-      ∙ (let e : k - 0 ≡ k = omega arith in ap (λ q. get_or (take room old) q 0) e) ∙ get_or-take room old k 0 lt ∙ word_byte word k old rest was (omega arith)
+  kept k lt = let at_k : k ≡ k % 8 = omega arith in
+      byte_of k (omega arith) ∙ low_byte_stays word room k lt ∙ ap (λ q. word / 2 ^ (8 * q) % 256) at_k
 
   none : (k : ℕ) → room ≤ k → get_or zeros k 0 ≡ 0
-  none k le = ap (λ xs. get_or xs k 0) is_new ∙ put_above 0 room (replicate 8 0) (take room old) taken (omega arith) k (omega arith) ∙ elim (cases_lt k 8) [
-    | inl lt ↦ get_or-replicate 8 k 0 0 lt
-    | inr past ↦ get_or_past (replicate 8 0) k 0 past
+  none k le = elim (cases_lt k 8) [
+    | inl lt ↦ byte_of k lt ∙ high_byte_goes word room k le
+    | inr past_all ↦ get_or_past zeros k 0 (omega (arith, zeros_long))
   ]
 
   many : length bytes ≡ at + length bytes - at

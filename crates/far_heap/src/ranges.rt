@@ -83,10 +83,9 @@ fn spliced(word: u64, at: usize, bytes: &[u8], room: usize) -> u64
     ensures before { (k : ℕ) → k < at → byte_at (λ _. result) k ≡ byte_at (λ _. word) k }
     ensures after { (k : ℕ) → at + length bytes.now ≤ k → k < room → byte_at (λ _. result) k ≡ byte_at (λ _. word) k }
 {
-    let mut old = [0; 8];
-    LittleEndian::write_u64(&mut old, word);
+    let past = 64 - 8 * room as u32;
     let mut new = [0; 8];
-    new[..room].copy_from_slice(&old[..room]);
+    LittleEndian::write_u64(&mut new, word << past >> past);
     new[at..at + bytes.len()].copy_from_slice(bytes);
     LittleEndian::read_u64(&new)
 }
