@@ -1,6 +1,8 @@
 -- What the book knows of free cells and of room is so in each state that the words may be in.
-use Rattle.std.proofs.Common.{◌≡◌, ℕ, ◌<◌, true, ap, subst, sym, ◌∙◌, Option, Some, None}
+use Rattle.std.proofs.Common.{◌≡◌, ℕ, ◌<◌, true, ap, subst, sym, ◌∙◌, Option, Some, None, Result, Ok, Err}
+use Rattle.std.specs.Prelude.{IfOk, IsSome}
 use Rattle.atomic_table.specs.Seated.{TableId}
+use Rattle.far_word.specs.declared.refused.Refused.{Refused}
 use Rattle.far_word.specs.Sizes.{size_of}
 use Rattle.far_core.specs.state.Room.{room}
 use Rattle.far_core.specs.state.State.{State}
@@ -9,7 +11,7 @@ use Rattle.far_table.specs.declared.book.BookSeat.{BookSeat}
 use Rattle.far_table.specs.BookSeats.{seat_shown, seat_there, seat_view, table_of}
 use Rattle.far_book.specs.book.Ledger.{IsLowestFree}
 use Rattle.far_book.proofs.region.Founds.{free_found, free_known}
-use Rattle.far_heap.specs.NoObject.{BookHad, LacksRoom, NoneFree}
+use Rattle.far_heap.specs.NoObject.{BookHad, HasRoom, LacksRoom, NoneFree}
 
 module _ (o x : State) (shows : Shows o x) where
   lowest_shown : (m : ℕ) (cell : Option ℕ) → IsLowestFree o m cell → IsLowestFree x m cell
@@ -19,6 +21,12 @@ module _ (o x : State) (shows : Shows o x) where
     free_found (o.cell p) (x.cell p) (shows.cells p) lowest.1,
     λ q own lt zero. lowest.2 q own lt (free_known (o.cell q) (x.cell q) (shows.cells q) zero),
   )
+
+  has_shown : (m len p : ℕ) → HasRoom m len p o → HasRoom m len p x
+  has_shown m len p has = record {
+    free = lowest_shown m (Some p) has.free;
+    room = subst (λ (s : State). IsSome (room s (size_of len) true)) (sym shows.rest) has.room;
+  }
 
   none_shown : (m : ℕ) → NoneFree m o → NoneFree m x
   none_shown m none has = lowest_shown m None (none (subst (λ n. m < n) (ap (λ (s : State). s.mutators) shows.rest) has))
@@ -32,6 +40,20 @@ module _ (o x : State) (shows : Shows o x) where
   }
 
 module _ {D : Type 0} (name : TableId) (seat : BookSeat D) (named : table_of seat ≡ name) where
+  has_room : (m len p : ℕ) → HasRoom m len p (seat_view seat) → BookHad D name (HasRoom m len p)
+  has_room m len p has = record {
+    seat = seat;
+    named = named;
+    known = has;
+    is = λ x may. has_shown (seat_view seat) x (seat_shown seat x may) m len p has;
+    there = seat_there seat;
+  }
+
+  pub if_room : (m len : ℕ) (r : Result ℕ Refused) → IfOk r (λ p. IsLowestFree (seat_view seat) m (Some p)) → IfOk r (λ p. IsSome (room (seat_view seat) (size_of len) true)) →
+      IfOk r (λ p. BookHad D name (HasRoom m len p))
+  if_room m len (Ok p) free room = has_room m len p record { free = free; room = room }
+  if_room m len (Err why) free room = tt
+
   pub none_free : (m : ℕ) → NoneFree m (seat_view seat) → BookHad D name (NoneFree m)
   none_free m none = record {
     seat = seat;

@@ -1,5 +1,5 @@
--- Why no object was made: what was so of the heap's book, while its lock was held.
-use Rattle.std.specs.Prelude.{◌≡◌, ℕ, ◌<◌, true, Some, None}
+-- Why an object was made, or none: what was so of the heap's book, while its lock was held.
+use Rattle.std.specs.Prelude.{◌≡◌, ℕ, ◌<◌, true, Some, None, IsSome}
 use Rattle.atomic_table.specs.Seated.{TableId}
 use Rattle.far_word.specs.Sizes.{size_of}
 use Rattle.far_core.specs.state.Room.{room}
@@ -16,6 +16,11 @@ pub record BookHad (D : Type 0) (name : TableId) (P : State → Type 0) : Type 0
   pub known : P (seat_view seat)
   pub is : (x : State) → seat_may_be seat x → P x
   pub there : ∥ ((x : State) × seat_may_be seat x) ∥₁
+
+-- a pointer is the lowest of a mutator's whose cell is free, and there is room for an object of so many bytes
+pub record HasRoom (number len p : ℕ) (s : State) : Type 0 where
+  pub free : IsLowestFree s number (Some p)
+  pub room : IsSome (room s (size_of len) true)
 
 -- none of a mutator's 128 cells is free, where the heap has that mutator
 abbrev pub NoneFree : ℕ → State → Type 0

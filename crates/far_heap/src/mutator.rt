@@ -2,7 +2,7 @@
 ghost use Rattle.std.specs.Prelude.{◌≡◌, ◌<◌, true, false, Err, IfOk, IfErr};
 ghost use Rattle.far_heap.specs.Mine.{IsNew, IsNoObject, adopting, dropping, is_length, newcomer, opening, owns, uses};
 ghost use Rattle.far_heap.specs.MineLaw.{MineLaw};
-ghost use Rattle.far_heap.specs.NoObject.{BookHad, LacksRoom, NoneFree};
+ghost use Rattle.far_heap.specs.NoObject.{BookHad, HasRoom, LacksRoom, NoneFree};
 ghost use Rattle.far_word.specs.declared.refused.Refused.{Refused as any_refusal};
 ghost use Rattle.far_word.specs.declared.refused.Refused.TheVariants.{NoPointer, NoRoom};
 ghost use Rattle.far_word.specs.declared.sizes.TheConstants.{MOST_MUTATORS};
@@ -80,6 +80,7 @@ impl<K: HeapName, D: Device + Drop> Mutator<K, D> {
     /// Nothing has changed then.
     pub fn alloc<R: Wait>(&mut self, rt: &R, len: u16, ds: u8) -> Result<u16, Refused>
         ensures refused { IfErr result (λ why. IsNoObject len why × (self.new ≡ self.old)) }
+        ensures had { IfOk result (λ p. BookHad D K.table (HasRoom self.old.number len p)) }
         ensures none { result ≡ Err NoPointer → BookHad D K.table (NoneFree self.old.number) }
         ensures full { result ≡ Err NoRoom → BookHad D K.table (LacksRoom self.old.number len) }
         ensures made { IfOk result (λ p. (is_length len ≡ true) × (owns self.old p ≡ true) × (uses self.old p ≡ false) × (self.new ≡ adopting p len ds self.old)) }

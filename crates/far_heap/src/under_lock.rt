@@ -1,7 +1,7 @@
 // What a mutator does with the lock.
 ghost use Rattle.std.specs.Prelude.{◌≡◌, ◌⊎◌, ◌/◌, ◌<◌, ◌≤◌, true, false, Ok, Err, Some, None, IfOk, IfErr};
 ghost use Rattle.far_heap.specs.Mine.{Asks, AsksToView, IsNoObject, IsUnbrought, Mine, TriedSo, adopting, drop_refusal, dropping, is_length, owns, uses, view_of, viewing, views};
-ghost use Rattle.far_heap.specs.NoObject.{BookHad, LacksRoom, NoneFree};
+ghost use Rattle.far_heap.specs.NoObject.{BookHad, HasRoom, LacksRoom, NoneFree};
 ghost use Rattle.far_word.specs.declared.refused.Refused.{Refused as any_refusal};
 ghost use Rattle.far_word.specs.declared.refused.Refused.TheVariants.{NoPointer, NoRoom};
 ghost use Rattle.far_word.specs.declared.sizes.TheConstants.{CELLS, LONGEST};
@@ -27,6 +27,7 @@ fn place<K: HeapName, D: Device + Drop, R: Wait>(
     requires most { len ≤ LONGEST }
     ensures own { IfOk result (λ p. p / CELLS ≡ owner) }
     ensures refused { IfErr result (λ why. (why ≡ NoPointer) ⊎ (why ≡ NoRoom)) }
+    ensures had { IfOk result (λ p. BookHad D K.table (HasRoom owner len p)) }
     ensures none { result ≡ Err NoPointer → BookHad D K.table (NoneFree owner) }
     ensures full { result ≡ Err NoRoom → BookHad D K.table (LacksRoom owner len) }
 {
@@ -45,6 +46,7 @@ pub(crate) fn alloc<K: HeapName, D: Device + Drop, R: Wait>(
     ds: u8,
 ) -> Result<u16, Refused>
     ensures refused { IfErr result (λ why. IsNoObject len why × (own.new ≡ own.old)) }
+    ensures had { IfOk result (λ p. BookHad D K.table (HasRoom own.old.number len p)) }
     ensures none { result ≡ Err NoPointer → BookHad D K.table (NoneFree own.old.number) }
     ensures full { result ≡ Err NoRoom → BookHad D K.table (LacksRoom own.old.number len) }
     ensures made { IfOk result (λ p. (is_length len ≡ true) × (owns own.old p ≡ true) × (uses own.old p ≡ false) × (own.new ≡ adopting p len ds own.old)) }
