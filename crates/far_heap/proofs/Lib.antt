@@ -16,3 +16,4 @@ pub mod Calls
 pub mod Undone
 pub mod Asking
 pub mod RoundTurns
+pub mod Causes

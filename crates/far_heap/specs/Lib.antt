@@ -5,3 +5,4 @@ pub mod Blanks
 pub mod Rounds
 pub mod Calls
 pub mod Helping
+pub mod NoObject

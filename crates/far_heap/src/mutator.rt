@@ -1,8 +1,10 @@
 // A mutator whose scope is closed.
-ghost use Rattle.std.specs.Prelude.{◌≡◌, ◌<◌, true, false, IfOk, IfErr};
+ghost use Rattle.std.specs.Prelude.{◌≡◌, ◌<◌, true, false, Err, IfOk, IfErr};
 ghost use Rattle.far_heap.specs.Mine.{IsNew, IsNoObject, adopting, dropping, is_length, newcomer, opening, owns, uses};
 ghost use Rattle.far_heap.specs.MineLaw.{MineLaw};
+ghost use Rattle.far_heap.specs.NoObject.{BookHad, HasRoom, LacksRoom, NoneFree};
 ghost use Rattle.far_word.specs.declared.refused.Refused.{Refused as any_refusal};
+ghost use Rattle.far_word.specs.declared.refused.Refused.TheVariants.{NoPointer, NoRoom};
 ghost use Rattle.far_word.specs.declared.sizes.TheConstants.{MOST_MUTATORS};
 
 use crate::heap::Lock;
@@ -73,10 +75,14 @@ impl<K: HeapName, D: Device + Drop> Mutator<K, D> {
 
     /// Makes a new object of `len` zeros, 1 to 1,016, of data structure `ds`: its pointer, which the mutator didn't use. It takes the lock.
     ///
-    /// Refused, in this order: [`Refused::Length`] exactly where the length is out of range; [`Refused::NoPointer`], where none of the mutator's 128
-    /// cells was found free; [`Refused::NoRoom`]. Nothing has changed then.
+    /// Refused, in this order: [`Refused::Length`] exactly where the length is out of range; [`Refused::NoPointer`] only where, as the lock was held, none
+    /// of the mutator's 128 cells was free; [`Refused::NoRoom`] only where one was, but there was no room in the open log, and at most one log was free.
+    /// Nothing has changed then.
     pub fn alloc<R: Wait>(&mut self, rt: &R, len: u16, ds: u8) -> Result<u16, Refused>
         ensures refused { IfErr result (λ why. IsNoObject len why × (self.new ≡ self.old)) }
+        ensures had { IfOk result (λ p. BookHad D K.table (HasRoom self.old.number len p)) }
+        ensures none { result ≡ Err NoPointer → BookHad D K.table (NoneFree self.old.number) }
+        ensures full { result ≡ Err NoRoom → BookHad D K.table (LacksRoom self.old.number len) }
         ensures made { IfOk result (λ p. (is_length len ≡ true) × (owns self.old p ≡ true) × (uses self.old p ≡ false) × (self.new ≡ adopting p len ds self.old)) }
     {
         under_lock::alloc(rt, &self.lock, &mut self.own, len, ds)

@@ -130,7 +130,7 @@ impl<K: HeapName, D: Device> Own<K, D> {
 
     // The length of the object of a pointer that the mutator uses.
     #[inline(always)]
-    fn used_len(&self, p: u16) -> Option<u16>
+    pub(crate) fn used_len(&self, p: u16) -> Option<u16>
         ensures used { IfSome result (λ len. (uses self.now p ≡ true) × (len ≡ len_in self.now p)) }
         ensures unused { result ≡ None → uses self.now p ≡ false }
     {

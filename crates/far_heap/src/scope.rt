@@ -1,10 +1,13 @@
 // A mutator whose scope is open.
-ghost use Rattle.std.specs.Prelude.{◌≡◌, ◌+◌, true, false, length, slice_range, None, Some, Ok, IfOk, IfErr, IfSome};
+ghost use Rattle.std.specs.Prelude.{◌≡◌, ◌+◌, ◌<◌, ◌≤◌, true, false, length, slice_range, None, Some, Ok, Err, IfOk, IfErr, IfSome};
 ghost use Rattle.far_heap.specs.Made.{Pinned};
 ghost use Rattle.far_heap.specs.MineLaw.{MineLaw};
 ghost use Rattle.far_heap.specs.declared.view.Tried.{Tried as any_tried};
 ghost use Rattle.far_heap.specs.Mine.{Asks, AsksToView, IsNoObject, IsNoView, TriedSo, access_refusal, adopting, bytes_in, closing, drop_refusal, dropping, is_length, len_in, owns, uses, view_of, viewing, views, writing};
+ghost use Rattle.far_heap.specs.NoObject.{BookHad, HasRoom, LacksRoom, NoneFree};
 ghost use Rattle.far_word.specs.declared.refused.Refused.{Refused as any_refusal};
+ghost use Rattle.far_word.specs.declared.refused.Refused.TheVariants.{NoPointer, NoRoom};
+ghost use Rattle.far_word.specs.declared.sizes.TheConstants.{LONGEST};
 
 use crate::heap::Lock;
 use crate::mutator::Mutator;
@@ -59,9 +62,24 @@ impl<K: HeapName, D: Device + Drop> Scope<K, D> {
     /// Makes a new object, as [`Mutator::alloc`] does. The scope doesn't view it yet.
     pub fn alloc<R: Wait>(&mut self, rt: &R, len: u16, ds: u8) -> Result<u16, Refused>
         ensures refused { IfErr result (λ why. IsNoObject len why × (self.new ≡ self.old)) }
+        ensures had { IfOk result (λ p. BookHad D K.table (HasRoom self.old.number len p)) }
+        ensures none { result ≡ Err NoPointer → BookHad D K.table (NoneFree self.old.number) }
+        ensures full { result ≡ Err NoRoom → BookHad D K.table (LacksRoom self.old.number len) }
         ensures made { IfOk result (λ p. (is_length len ≡ true) × (owns self.old p ≡ true) × (uses self.old p ≡ false) × (self.new ≡ adopting p len ds self.old)) }
     {
         under_lock::alloc(rt, &self.lock, &mut self.own, len, ds)
+    }
+
+    /// How many bytes the object of a pointer has, 1 to 1,016; `None` exactly where this mutator doesn't use the pointer. No step, and no lock: the mutator
+    /// knows it.
+    #[inline(always)]
+    pub fn len_of(&self, p: u16) -> Option<u16>
+        ensures used { IfSome result (λ len. (uses self.now p ≡ true) × (len ≡ len_in self.now p)) }
+        ensures range { IfSome result (λ len. (0 < len) × (len ≤ LONGEST)) }
+        ensures unused { result ≡ None → uses self.now p ≡ false }
+    {
+        self.own.keeps_law();
+        self.own.used_len(p)
     }
 
     /// Drops an object, as [`Mutator::drop_object`] does. Refused, in this order: [`Refused::NotHeld`]; [`Refused::Held`] exactly where the scope views

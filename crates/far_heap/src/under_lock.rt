@@ -1,8 +1,10 @@
 // What a mutator does with the lock.
-ghost use Rattle.std.specs.Prelude.{◌≡◌, ◌/◌, ◌<◌, ◌≤◌, true, false, Ok, Some, None, IfOk, IfErr};
+ghost use Rattle.std.specs.Prelude.{◌≡◌, ◌⊎◌, ◌/◌, ◌<◌, ◌≤◌, true, false, Ok, Err, Some, None, IfOk, IfErr};
 ghost use Rattle.far_heap.specs.Mine.{Asks, AsksToView, IsNoObject, IsUnbrought, Mine, TriedSo, adopting, drop_refusal, dropping, is_length, owns, uses, view_of, viewing, views};
+ghost use Rattle.far_heap.specs.NoObject.{BookHad, HasRoom, LacksRoom, NoneFree};
 ghost use Rattle.far_word.specs.declared.refused.Refused.{Refused as any_refusal};
-ghost use Rattle.far_word.specs.declared.sizes.TheConstants.{LONGEST};
+ghost use Rattle.far_word.specs.declared.refused.Refused.TheVariants.{NoPointer, NoRoom};
+ghost use Rattle.far_word.specs.declared.sizes.TheConstants.{CELLS, LONGEST};
 
 use crate::evacuator::Evacuator;
 use crate::heap::Lock;
@@ -13,6 +15,28 @@ use far_device::Device;
 use far_word::{LONGEST, Refused};
 use std::sync::Wait;
 
+// Places a new object of zeros for a mutator's lowest free cell: its pointer.
+fn place<K: HeapName, D: Device + Drop, R: Wait>(
+    rt: &R,
+    lock: &Lock<K, D>,
+    owner: u8,
+    len: u16,
+    ds: u8,
+) -> Result<u16, Refused>
+    requires some { 0 < len }
+    requires most { len ≤ LONGEST }
+    ensures own { IfOk result (λ p. p / CELLS ≡ owner) }
+    ensures refused { IfErr result (λ why. (why ≡ NoPointer) ⊎ (why ≡ NoRoom)) }
+    ensures had { IfOk result (λ p. BookHad D K.table (HasRoom owner len p)) }
+    ensures none { result ≡ Err NoPointer → BookHad D K.table (NoneFree owner) }
+    ensures full { result ≡ Err NoRoom → BookHad D K.table (LacksRoom owner len) }
+{
+    let mut guard = lock.lock(rt);
+    let book = &mut *guard;
+    book.keeps_law();
+    book.place_new(owner, len, ds)
+}
+
 // Makes a new object of zeros, and uses it from then on: its pointer.
 pub(crate) fn alloc<K: HeapName, D: Device + Drop, R: Wait>(
     rt: &R,
@@ -22,14 +46,16 @@ pub(crate) fn alloc<K: HeapName, D: Device + Drop, R: Wait>(
     ds: u8,
 ) -> Result<u16, Refused>
     ensures refused { IfErr result (λ why. IsNoObject len why × (own.new ≡ own.old)) }
+    ensures had { IfOk result (λ p. BookHad D K.table (HasRoom own.old.number len p)) }
+    ensures none { result ≡ Err NoPointer → BookHad D K.table (NoneFree own.old.number) }
+    ensures full { result ≡ Err NoRoom → BookHad D K.table (LacksRoom own.old.number len) }
     ensures made { IfOk result (λ p. (is_length len ≡ true) × (owns own.old p ≡ true) × (uses own.old p ≡ false) × (own.new ≡ adopting p len ds own.old)) }
 {
     if len == 0 || len > LONGEST {
         return Err(Refused::Length);
     }
     for _ in rt.forever() {
-        let placed = lock.lock(rt).place_new(own.number(), len, ds);
-        match placed {
+        match place(rt, lock, own.number(), len, ds) {
             Ok(p) => {
                 if own.adopt_new(p, len, ds) {
                     return Ok(p);

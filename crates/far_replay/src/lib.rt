@@ -1,7 +1,8 @@
 //! A trace is replayed: a text of commands is read whole and parsed (`far_text`), its commands run on one heap, and the
 //! replies are written.
 //!
-//! [`run`] does it, from any reader to any writer. What a text is answered is a definition (`specs/Answers.antt`); what that
+//! [`run`] does it, from any reader to any writer. A program that comes to its replies in another way prints them as `run`
+//! does by [`Reply::print_to`] into an [`Output`], and [`write_whole`]. What a text is answered is a definition (`specs/Answers.antt`); what that
 //! definition is worth are laws, in the crate `far_replay_laws` above this one.
 #![tactic(auto)]
 
@@ -24,5 +25,8 @@ mod viewing;
 
 pub use far_text::{grammar_is_said, limits_are};
 pub use limits::reply_limits_are;
+pub use output::Output;
+pub use reply::{Counts, LONGEST_REPLY, LogLine, Reply, push_counted};
 pub use reply_words::replies_read;
 pub use running::{End, RunFault, run};
+pub use stream::{WriteFault, write_whole};

@@ -9,7 +9,7 @@ use itoa::Buffer;
 use std::alloc::{AllocError, Global};
 use std::marker::Model;
 
-/// Text that grows within its room, and takes no memory.
+/// Text that grows within its room of [`Output::ROOM`] bytes. All room is taken when it is made; after that it takes no memory.
 #[derive(Drop)]
 pub struct Output {
     room: Vec<u8>,
@@ -37,7 +37,7 @@ impl Output {
     /// The most bytes that the text has.
     pub const ROOM: usize = 65_536;
 
-    /// An empty text. It takes all its room at once.
+    /// An empty text. It takes all its room at once, and is refused where memory is.
     pub fn new(alloc: Global) -> Result<Output, AllocError>
         ensures { IfOk result (λ o. o ≡ []) }
     {
@@ -68,7 +68,7 @@ impl Output {
         &self.room[..self.len]
     }
 
-    /// Adds bytes to the text.
+    /// Adds bytes to the text. There must be room for them.
     pub fn push(&mut self, bytes: &[u8])
         requires { length self.old + length bytes.now ≤ Self.ROOM }
         ensures { self.new ≡ self.old ++ bytes.now }
@@ -78,7 +78,7 @@ impl Output {
         self.len = end;
     }
 
-    /// Adds a number in decimal.
+    /// Adds a number in decimal. There must be room for 40 bytes.
     pub fn push_number(&mut self, n: u64)
         requires { length self.old + 40 ≤ Self.ROOM }
         ensures grown { self.new ≡ self.old ++ decimal n }
@@ -88,7 +88,7 @@ impl Output {
         self.push(buffer.format(n).as_bytes());
     }
 
-    /// Adds bytes in hex, two digits each.
+    /// Adds bytes in hex, two lower-case digits each. There must be room for the digits.
     pub fn push_hex(&mut self, bytes: &[u8])
         requires { length self.old + 2 * length bytes.now ≤ Self.ROOM }
         ensures grown { self.new ≡ self.old ++ encode_lower bytes.now }

@@ -12,10 +12,11 @@ use far_book::Home;
 use far_evac::{LogKind, Marked, Phase, Progress, RoundEnd};
 use far_word::{Marks, Refused};
 
-/// Room for any reply.
+/// Room for any reply, in bytes: none is printed with more.
 pub const LONGEST_REPLY: usize = 16_384;
 
-/// What is told of one log: its number, its kind, and its bytes.
+/// What is told of one log: its number, its kind, and its bytes: those of objects in use, those of dropped ones, and those
+/// that no object takes.
 #[derive(Clone, Copy)]
 pub struct LogLine {
     pub log: u8,
@@ -25,7 +26,7 @@ pub struct LogLine {
     pub unused: u64,
 }
 
-/// What an audit counts: the objects that are near, those that are far, and the bytes of all logs that objects take.
+/// What an audit counts: the objects that are near, those that are far, and the bytes of all logs that objects in use take.
 #[derive(Clone, Copy)]
 pub struct Counts {
     pub near: u16,
@@ -33,25 +34,34 @@ pub struct Counts {
     pub live: u64,
 }
 
-/// What a command answers.
+/// What a command answers. Bytes and lists stand elsewhere, and are lent.
 #[derive(Clone, Copy)]
 pub enum Reply<'a> {
+    /// The command is done, and tells nothing.
     Done,
+    /// The number of a new object's pointer.
     Pointer(u16),
+    /// Bytes of an object, 1,016 at most where it is printed.
     Data(&'a [u8]),
+    /// Logs of a heap, 64 at most where they are printed.
     Logs(&'a [LogLine]),
     /// Where an object is.
     Lies(Home),
+    /// What an audit counts.
     Audited(Counts),
     /// The epoch that a mutator read.
     EpochRead(u64),
-    /// The logs that were chosen for a round.
+    /// The logs that were chosen for a round, fewer than 256 where they are printed.
     Selected(&'a [u8]),
+    /// How many objects were marked for a round, and the epoch that it waits for.
     Marked(&'a Marked),
     /// No mutator holds the round up.
     Clear,
+    /// What became of a round's objects so far.
     Evacuated(&'a Progress),
+    /// How a round ended.
     Ended(&'a RoundEnd),
+    /// The command is refused, and why.
     Refused(Refused),
 }
 
@@ -197,7 +207,8 @@ fn push_marked(marked: &Marked, out: &mut Output)
     out.push(b"\n");
 }
 
-fn push_counted(progress: &Progress, out: &mut Output)
+/// Adds what a round counted, ` moved A far B dropped C freed D`: 200 bytes at most.
+pub fn push_counted(progress: &Progress, out: &mut Output)
     requires { length out.old + 200 ≤ Output.ROOM }
     ensures grown { out.new ≡ out.old ++ counted_text progress.now }
     ensures short { length out.new ≤ length out.old + 200 }
@@ -287,7 +298,8 @@ fn push_refused(why: Refused, out: &mut Output)
 }
 
 impl Reply<'_> {
-    /// Adds the reply's lines to the output.
+    /// Adds the reply's lines to the output, each with its newline, as the plain program prints them: [`LONGEST_REPLY`] bytes
+    /// at most. Bytes are told of one object at most, log lines of 64 logs, and a choice of fewer than 256.
     #[inline(always)]
     pub fn print_to(&self, out: &mut Output)
         requires short { IsShort (reply_of self.now) }

@@ -51,7 +51,8 @@ pub fn read_text<R: Read>(reader: &mut R, room: &mut Vec<u8>, most: usize) -> io
     Ok(())
 }
 
-/// Writes all the bytes. After an `Err` a proper prefix of them is written.
+/// Writes all the bytes, in as many calls of the writer as it needs. Refused [`WriteFault`] at the first call that answers an error, or takes nothing; a
+/// proper prefix of the bytes is written then.
 pub fn write_whole<W: Write>(writer: &mut W, bytes: &[u8]) -> Result<(), WriteFault>
     ensures { Writes (W.contents writer.old) (W.contents writer.new) result bytes.now }
 {

@@ -14,6 +14,7 @@ ghost use Rattle.far_book.specs.book.Ledger.{IsLowestFree};
 ghost use Rattle.far_evac.specs.EvacOf.{EvacOf};
 ghost use Rattle.far_heap.specs.Helping.{FetchesIt, Looks, MovesIt, PlacesNew, RetiresIt, asks_move, cell_in, says_far};
 ghost use Rattle.far_heap.specs.Mine.{IsUnbrought};
+ghost use Rattle.far_heap.specs.NoObject.{LacksRoom, NoneFree};
 
 use crate::evacuator::Evacuator;
 use crate::name::HeapName;
@@ -59,8 +60,8 @@ impl<K: HeapName, D: Device + Drop> Evacuator<K, D> {
         (pointer as u64) < CELLS as u64 * self.shape().mutators
     }
 
-    // Places a new object of zeros for an owner's lowest free cell: its pointer. Refused NoPointer where no cell is free, and then NoRoom; nothing has
-    // changed then.
+    // Places a new object of zeros for an owner's lowest free cell: its pointer. Refused NoPointer exactly where no cell is free, then NoRoom exactly where
+    // there is no room; nothing has changed then.
     pub(crate) fn place_new(&mut self, owner: u8, len: u16, ds: u8) -> Result<u16, Refused>
         requires some { 0 < len }
         requires most { len ≤ LONGEST }
@@ -69,8 +70,8 @@ impl<K: HeapName, D: Device + Drop> Evacuator<K, D> {
         ensures room { IfOk result (λ p. IsSome (room (seat_view self.old.book.near) (size_of len) true)) }
         ensures placed { IfOk result (λ p. PlacesNew self.old self.new p len ds) }
         ensures refused { IfErr result (λ why. (why ≡ NoPointer) ⊎ (why ≡ NoRoom)) }
-        ensures none { result ≡ Err NoPointer → owner < (seat_view self.old.book.near).mutators → IsLowestFree (seat_view self.old.book.near) owner None }
-        ensures full { result ≡ Err NoRoom → room (seat_view self.old.book.near) (size_of len) true ≡ None }
+        ensures none { result ≡ Err NoPointer → NoneFree owner (seat_view self.old.book.near) }
+        ensures full { result ≡ Err NoRoom → LacksRoom owner len (seat_view self.old.book.near) }
         ensures unchanged { IfErr result (λ _. self.new ≡ self.old) }
     {
         if owner as u64 >= self.shape().mutators {
