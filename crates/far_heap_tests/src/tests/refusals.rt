@@ -168,9 +168,10 @@ fn a_drop_is_refused_in_order(rt: HostRuntime) -> Result<(), Fail> {
     Ok(())
 }
 
-// Whether a pointer that the mutator doesn't use can't be viewed.
+// Whether a pointer that the mutator doesn't use has no length, and can't be viewed.
 fn bars_view<K: HeapName, R: Wait>(rt: &R, scope: &mut Scope<K, MemDevice>, pointer: u16) -> bool {
-    scope.try_view(pointer) == Err(Refused::NotHeld)
+    scope.len_of(pointer).is_none()
+        && scope.try_view(pointer) == Err(Refused::NotHeld)
         && scope.view(rt, pointer) == Err(Refused::NotHeld)
 }
 
@@ -179,6 +180,7 @@ fn bars_views<K: HeapName, R: Wait>(rt: &R, scope: &mut Scope<K, MemDevice>) -> 
         && bars_view(rt, scope, 128)
         && bars_view(rt, scope, 1024)
         && bars_view(rt, scope, u16::MAX)
+        && scope.len_of(0) == Some(8)
         && scope.drop_object(rt, 0).is_ok()
         && bars_view(rt, scope, 0)
 }
