@@ -1,6 +1,7 @@
 -- Steps of a mutator as events of the core.
 use Rattle.std.specs.Prelude.{◌≡◌, ℕ}
 use Rattle.far_word.specs.declared.pointer.Place.{Place}
+use Rattle.far_word.specs.Pointer.{read_of}
 use Rattle.far_core.specs.declared.event.Event.{Event}
 use Rattle.far_core.specs.declared.event.Event.TheVariants.{Pin}
 use Rattle.far_core.specs.declared.event.Reply.{Reply}
@@ -9,7 +10,7 @@ use Rattle.far_table.specs.Seats.{Seated}
 use Rattle.far_table.specs.Tells.{OwnerMade}
 use Rattle.far_heap.specs.declared.view.Tried.{Tried}
 use Rattle.far_heap.specs.declared.view.Tried.TheVariants.{View as Viewed, Slow}
-use Rattle.far_heap.specs.Mine.{Mine, mine_of}
+use Rattle.far_heap.specs.Mine.{IsSlow, Mine, ds_in, len_in, mine_of}
 
 -- one event led from this mutator to that, with this answer: it was legal in a state of the core in which the mutator was as said, and made there
 pub record MadeBy (e : Event) (m : Mine) (r : Reply) (n : Mine) : Type 0 where
@@ -23,3 +24,7 @@ pub record MadeBy (e : Event) (m : Mine) (r : Reply) (n : Mine) : Type 0 where
 abbrev pub Pinned : ℕ → Mine → Tried → Mine → Type 0
 Pinned p m (Viewed view) n = (place : Place) × MadeBy (Pin m.number p) m (Held place) n
 Pinned p m (Slow word) n = MadeBy (Pin m.number p) m (Word word) n
+
+-- a pin of an object that isn't viewed found a word on which no view may rest
+abbrev pub IsFoundSlow : ℕ → Mine → Type 0
+IsFoundSlow p m = (word : ℕ) × Pinned p m (Slow word) m × IsSlow (len_in m p) (ds_in m p) (read_of word)

@@ -1,6 +1,6 @@
 // A mutator whose scope is open.
-ghost use Rattle.std.specs.Prelude.{◌≡◌, ◌+◌, ◌<◌, ◌≤◌, true, false, length, slice_range, None, Some, Ok, Err, IfOk, IfErr, IfSome};
-ghost use Rattle.far_heap.specs.Made.{Pinned};
+ghost use Rattle.std.specs.Prelude.{◌≡◌, ◌⊎◌, ◌+◌, ◌<◌, ◌≤◌, true, false, length, slice_range, None, Some, Ok, Err, IfOk, IfErr, IfSome};
+ghost use Rattle.far_heap.specs.Made.{IsFoundSlow, Pinned};
 ghost use Rattle.far_heap.specs.MineLaw.{MineLaw};
 ghost use Rattle.far_heap.specs.declared.view.Tried.{Tried as any_tried};
 ghost use Rattle.far_heap.specs.Mine.{Asks, AsksToView, IsNoObject, IsNoView, TriedSo, access_refusal, adopting, bytes_in, closing, drop_refusal, dropping, is_length, len_in, owns, uses, view_of, viewing, views, writing};
@@ -96,12 +96,15 @@ impl<K: HeapName, D: Device + Drop> Scope<K, D> {
     ///
     /// Refused [`Refused::NotHeld`] exactly where this mutator doesn't use the pointer; and, never where the scope views it already, [`Refused::NoRoom`],
     /// and [`Refused::Memory`], [`Refused::Device`] or [`Refused::Damaged`] as the device is. The scope views what it did then. MOVE may have been set
-    /// anew in the cell of an object that isn't viewed yet, by no other call.
+    /// anew in the cell of an object that isn't viewed yet, by no other call, and only where one pin, before all else, found a word on which no view
+    /// may rest.
     #[inline(always)]
     pub fn view<R: Wait>(&mut self, rt: &R, p: u16) -> Result<View, Refused>
         ensures refused { IfErr result (λ why. IsNoView self.old p why × Asks p self.old self.new) }
         ensures viewed { IfOk result (λ view. (uses self.old p ≡ true) × (view ≡ view_of p self.old) × AsksToView p self.old self.new) }
         ensures again { views self.old p ≡ true → (result ≡ Ok (view_of p self.old)) × (self.new ≡ self.old) }
+        ensures quick { views self.old p ≡ false → IfOk result (λ _. (self.new ≡ viewing p self.old) ⊎ IsFoundSlow p self.old) }
+        ensures slow { uses self.old p ≡ true → IfErr result (λ _. IsFoundSlow p self.old) }
     {
         match self.own.try_view(p) {
             Ok(Tried::View(view)) => return Ok(view),

@@ -61,6 +61,17 @@ pub(super) fn is_far<K: HeapName, D: Device + Drop>(
     home(book, pointer) == Some(Home::Far { marks })
 }
 
+/// Whether an object was found near and dropped.
+pub(super) fn is_dropped<K: HeapName, D: Device + Drop>(
+    book: &mut Evacuator<K, D>,
+    pointer: u16,
+) -> bool {
+    match home(book, pointer) {
+        Some(Home::Near { marks, .. }) => marks.dropped,
+        _ => false,
+    }
+}
+
 /// Whether a log is so, and has so many live, dead and unused bytes.
 pub(super) fn is_log<K: HeapName, D: Device + Drop>(
     book: &mut Evacuator<K, D>,

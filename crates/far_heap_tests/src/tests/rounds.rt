@@ -9,7 +9,7 @@ use crate::tests::steps::{
 };
 use far_core::Shape;
 use far_device::MemDevice;
-use far_evac::{LogKind, Phase};
+use far_evac::{LogKind, Phase, RoundEnd};
 use far_heap::{Blank, Evacuator, Heap, HeapName, Mutator};
 use far_policy::{Oldest, Scripted};
 use far_word::Refused;
@@ -192,5 +192,43 @@ fn the_last_epoch_begins_no_round(rt: HostRuntime) -> Result<(), Fail> {
         ..sized(4, 1)
     };
     assert!(rt; last_epoch::<Brand, _>(&rt, alloc, blank(&rt, last_but_one)?));
+    Ok(())
+}
+
+// Gives up a round that stands in this phase; whether one does.
+fn ends_in<K: HeapName>(book: &mut Evacuator<K, MemDevice>, phase: Phase) -> bool {
+    book.phase() == phase && gives_up(book)
+}
+
+// Whether a round of so many turns goes as far as this phase, and stands there.
+fn goes_as_far<K: HeapName, R: Wait>(
+    rt: &R,
+    heap: &Heap<K, MemDevice>,
+    turns: u64,
+    phase: Phase,
+) -> bool {
+    let end = RoundEnd::Limit(phase);
+    heap.run_round(rt, &mut Oldest, 1, turns) == Ok(end) && ends_in(&mut *heap.book(rt), phase)
+}
+
+fn turn_by_turn<K: HeapName, R: Wait>(rt: &R, alloc: Global, blank: Blank<MemDevice>) -> bool
+    requires { blank.table ≡ K.table }
+{
+    let Ok((heap, mut mutators)) = Heap::<K, MemDevice>::new(alloc, blank) else {
+        return false;
+    };
+    let Some(mut mutator) = mutators.pop() else {
+        return false;
+    };
+    seals_first(rt, &mut mutator)
+        && goes_as_far(rt, &heap, 0, Phase::Marking)
+        && goes_as_far(rt, &heap, 1, Phase::Waiting)
+        && goes_as_far(rt, &heap, 2, Phase::Evacuating)
+}
+
+#[test]
+fn a_round_makes_no_turn_more(rt: HostRuntime) -> Result<(), Fail> {
+    let alloc = rt.alloc();
+    assert!(rt; turn_by_turn::<Brand, _>(&rt, alloc, blank(&rt, sized(4, 1))?));
     Ok(())
 }

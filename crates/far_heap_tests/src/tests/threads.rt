@@ -3,9 +3,9 @@
 ghost use Rattle.std.specs.Prelude.{◌≡◌};
 
 use crate::tests::flag::Tally;
-use crate::tests::looks::{blank, sized};
+use crate::tests::looks::{blank, has_objects, is_dropped, sized};
 use crate::tests::scopes::{EIGHT, has, makes, reads, viewed, writes};
-use crate::tests::steps::gives_up;
+use crate::tests::steps::{deals, gives_up, is_clear, marks, selects};
 use far_device::MemDevice;
 use far_evac::Phase;
 use far_heap::{Blank, Evacuator, Heap, HeapName, Mutator, Scope, View};
@@ -32,12 +32,17 @@ fn holds_the_book<K: HeapName, R: Wait>(
 }
 
 // Whether a view of an object is written and read, in a scope of its own, while another thread has the book.
-fn reads_beside<K: HeapName>(mutator: Mutator<K, MemDevice>, held: &Tally, read: &Tally) -> bool {
+fn reads_beside<K: HeapName, R: Wait>(
+    rt: &R,
+    mutator: Mutator<K, MemDevice>,
+    held: &Tally,
+    read: &Tally,
+) -> bool {
     if !held.wait_for(1) {
         return false;
     }
     let mut scope = mutator.open();
-    let Some(view) = viewed(&mut scope, 0) else {
+    let Ok(view) = scope.view(rt, 0) else {
         return false;
     };
     let done = scope.write(&view, 0, &EIGHT).is_ok() && has(&mut scope, &view, EIGHT);
@@ -67,7 +72,7 @@ fn held_book<K: HeapName + Send + Sync, R: Threads + Wait + Sync>(
     let (came, done) = join(
         rt,
         move || holds_the_book(rt, shared, began, ended),
-        move || reads_beside(mutator, began, ended),
+        move || reads_beside(rt, mutator, began, ended),
     );
     came && done
 }
@@ -134,6 +139,77 @@ fn moved_scope<K: HeapName + Send + Sync + 'static, R: Threads + Wait>(
 fn moves_between_threads(rt: HostRuntime) -> Result<(), Fail> {
     let alloc = rt.alloc();
     assert!(rt; moved_scope::<Brand, _>(&rt, alloc, blank(&rt, sized(4, 1))?));
+    Ok(())
+}
+
+// Whether a round retires the one object of the first log, which is dropped.
+fn retires<K: HeapName>(book: &mut Evacuator<K, MemDevice>) -> bool {
+    selects(book, &mut Oldest, 1, &[0])
+        && marks(book, 9, 1, Some(1))
+        && is_clear(book)
+        && deals(book, 9, [0, 0, 1, 1], true)
+}
+
+// Has the book until an object is dropped, and makes a round before its owner gets the lock.
+fn retires_first<K: HeapName, R: Wait>(rt: &R, heap: &Heap<K, MemDevice>, held: &Tally) -> bool {
+    let mut guard = heap.book(rt);
+    let book = &mut *guard;
+    held.raise();
+    for _ in 0..1_000_000_000u64 {
+        if is_dropped(book, 0) {
+            return retires(book);
+        }
+        thread::yield_now();
+    }
+    false
+}
+
+// Drops an object while another thread has the book.
+fn drops_beside<K: HeapName, R: Wait>(
+    rt: &R,
+    mut mutator: Mutator<K, MemDevice>,
+    held: &Tally,
+) -> Option<Mutator<K, MemDevice>> {
+    if !held.wait_for(1) || mutator.drop_object(rt, 0).is_err() {
+        return None;
+    }
+    Some(mutator)
+}
+
+fn dropped_beside<K: HeapName + Send + Sync, R: Threads + Wait + Sync>(
+    rt: &R,
+    alloc: Global,
+    blank: Blank<MemDevice>,
+) -> bool
+    requires { blank.table ≡ K.table }
+{
+    let Ok((heap, mut mutators)) = Heap::<K, MemDevice>::new(alloc, blank) else {
+        return false;
+    };
+    let Some(mut mutator) = mutators.pop() else {
+        return false;
+    };
+    if !makes(rt, &mut mutator, 8, 0) || !makes(rt, &mut mutator, 1016, 1) {
+        return false;
+    }
+    let held = Tally::new();
+    let (shared, began) = (&heap, &held);
+    let (retired, dropped) = join(
+        rt,
+        move || retires_first(rt, shared, began),
+        move || drops_beside(rt, mutator, began),
+    );
+    let Some(mut mutator) = dropped else {
+        return false;
+    };
+    retired && has_objects(&mut *heap.book(rt), 1) && makes(rt, &mut mutator, 8, 0)
+}
+
+// A round may retire an object between its owner's mark and the lock.
+#[test]
+fn a_round_may_retire_what_is_dropped(rt: HostRuntime) -> Result<(), Fail> {
+    let alloc = rt.alloc();
+    assert!(rt; dropped_beside::<Brand, _>(&rt, alloc, blank(&rt, sized(4, 1))?));
     Ok(())
 }
 
