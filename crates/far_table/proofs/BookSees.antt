@@ -141,7 +141,7 @@ module _ {S : Type 0} (slots id : ℕ) (me : Me S View) (is : me.0 ≡ Book (boo
   marks_evac : Legal (book_state view) (Mark p) → Allows Running slots id me (cell_at p) (λ n. bit_or n (2 ^ position Evac)) (Marked (step slots (cell_at p) (2 ^ position Evac) 0 none) me)
   marks_evac h = book_makes slots id (cell_at p) me is (Mark p) refl (λ n. Word n) (λ n. marked_view p n view) (Marked (step slots (cell_at p) (2 ^ position Evac) 0 none) me) (λ n. bit_or n (2 ^ position Evac)) tt
       (λ ws os f _. subst (λ n. BookStep ws view os (Mark p) (Word n) (set ws (cell_at p) (bit_or n (2 ^ position Evac))) (marked_view p n view)) (cell_here ws p (cells_few ws view os f p h.0)) (mark_step ws view os f plain p h))
-      (λ ws os f _ t q e. let n : ℕ = slice_index ws (cell_at p) in found_at ws os f h.0 q e (λ z. BookTells me.0 (Book (marked_view p n view)) (Mark z) (Word n) (marked_view z n view)) t)
+      (λ ws os f _ t. (refl, λ q e. let n : ℕ = slice_index ws (cell_at p) in found_at ws os f h.0 q e (λ z. BookTells me.0 (Book (marked_view p n view)) (Mark z) (Word n) (marked_view z n view)) t))
 
   pub marks : (k : ℕ) → k ≡ 2 ^ position Evac → Legal (book_state view) (Mark p) → Allows Running slots id me (cell_at p) (λ n. bit_or n k) (Marked (step slots (cell_at p) k 0 none) me)
   marks k mask h = subst (λ z. Allows Running slots id me (cell_at p) (λ n. bit_or n z) (Marked (step slots (cell_at p) z 0 none) me)) (sym mask) (marks_evac h)

@@ -1,7 +1,9 @@
 -- What each kind of step of the book's seat tells: of the step, the seat before, the word found (at a store, the word stored) and the seat after.
-use Rattle.std.specs.Prelude.{◌≡◌, ◌+◌, ◌*◌, ◌<◌, ℕ, true, false, None}
+use Rattle.std.specs.Prelude.{◌≡◌, ◌+◌, ◌-◌, ◌*◌, ◌^◌, ◌<◌, ℕ, true, false, None}
 use mathlib.Core.Option.{some}
 use Rattle.atomic_table.specs.Table.{Me, Step}
+use Rattle.far_word.specs.Mark.{position}
+use Rattle.far_word.specs.declared.mark.Mark.TheVariants.{Evac}
 use Rattle.far_word.specs.declared.sizes.TheConstants.{LOG_WORDS}
 use Rattle.far_core.specs.declared.event.Event.TheVariants.{See, Mark, Clear, Get, Put, Name, Advance, Look}
 use Rattle.far_core.specs.declared.event.Reply.TheVariants.{Done, Epoch, Word}
@@ -21,13 +23,15 @@ module _ {S : Type 0} where
   Saw st me found me' = (p : ℕ) → st.word ≡ cell_at p → Finds ((book_state (book_of me.0)).cell p) found
       × BookTells me.0 me'.0 (See p) (Word found) (saw_view p found (book_of me.0))
 
+  -- EVAC is set, and nothing else
   abbrev pub Marked : Step S → Me S View → ℕ → Me S View → Type 0
-  Marked st me found me' = (p : ℕ) → st.word ≡ cell_at p → Finds ((book_state (book_of me.0)).cell p) found
-      × BookTells me.0 me'.0 (Mark p) (Word found) (marked_view p found (book_of me.0))
+  Marked st me found me' = (st.first ≡ 2 ^ position Evac) × ((p : ℕ) → st.word ≡ cell_at p → Finds ((book_state (book_of me.0)).cell p) found
+      × BookTells me.0 me'.0 (Mark p) (Word found) (marked_view p found (book_of me.0)))
 
+  -- EVAC is taken away, and nothing else
   abbrev pub Cleared : Step S → Me S View → ℕ → Me S View → Type 0
-  Cleared st me found me' = (p : ℕ) → st.word ≡ cell_at p → Finds ((book_state (book_of me.0)).cell p) found
-      × BookTells me.0 me'.0 (Clear p) (Word found) (cleared_view p found (book_of me.0))
+  Cleared st me found me' = (st.first ≡ 2 ^ 64 - 1 - 2 ^ position Evac) × ((p : ℕ) → st.word ≡ cell_at p → Finds ((book_state (book_of me.0)).cell p) found
+      × BookTells me.0 me'.0 (Clear p) (Word found) (cleared_view p found (book_of me.0)))
 
   -- the word is known from then on where the view shows it to be a quiet object's
   abbrev pub Got : Step S → Me S View → ℕ → Me S View → Type 0

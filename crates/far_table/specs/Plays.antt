@@ -3,6 +3,7 @@ use Rattle.std.specs.Prelude.{◌≡◌, ◌<◌, ◌≤◌, ◌+◌, ◌*◌, �
 use Rattle.atomic_table.specs.Table.{Me, Step}
 use Rattle.far_word.specs.declared.sizes.TheConstants.{CELLS, EPOCH_END, LOG_WORDS, MOST_LOGS}
 use Rattle.far_word.specs.declared.mark.Mark.{Mark}
+use Rattle.far_word.specs.declared.mark.Mark.TheVariants.{Hot}
 use Rattle.far_word.specs.declared.pointer.Place.{Place}
 use Rattle.far_word.specs.Mark.{position}
 use Rattle.far_core.specs.events.Ask.{is_request}
@@ -37,9 +38,10 @@ module _ {S : Type 0} where
   abbrev pub Opened : Step S → Me S View → ℕ → Me S View → Type 0
   Opened st me found me' = Tells me.0 me'.0 (Open (number_of me.0)) Done (opened_view (owner_of me.0))
 
+  -- HOT is set, and nothing else
   abbrev pub Pinned : Step S → Me S View → ℕ → Me S View → Type 0
-  Pinned st me found me' = (p : ℕ) → st.word ≡ cell_at p → Lies (owner_of me.0) p found
-      × Tells me.0 me'.0 (Pin (number_of me.0) p) (pin_answer found (place_to_view (read_of found))) (pinned_view p found (owner_of me.0))
+  Pinned st me found me' = (st.first ≡ 2 ^ position Hot) × ((p : ℕ) → st.word ≡ cell_at p → Lies (owner_of me.0) p found
+      × Tells me.0 me'.0 (Pin (number_of me.0) p) (pin_answer found (place_to_view (read_of found))) (pinned_view p found (owner_of me.0)))
 
   -- a word of the table that is a data word of an object that is held
   abbrev pub Loaded : Step S → Me S View → ℕ → Me S View → Type 0

@@ -21,24 +21,24 @@ pub invariant_of-self : goal.invariant_of-self
 invariant_of-self g c =
     let i = c.args.self.now.fits in
     let h = c.fetch_and.ensures in
-    let t = (h.2 c.args.pointer refl).1 in record {
+    let t = (h.2.1 c.args.pointer refl).1 in record {
       fits = book_stays _ _ _ _ _ t _ _ _ _ _ _ _ i h.0 (shape_stays _ _ _ _ _ _ _ i refl refl refl refl (λ a _. refl));
       stands = stands_after _ _ _ _ _ t;
     }
 
 pub returns-clause-found : goal.returns-clause-found
-returns-clause-found g c = (c.fetch_and.ensures.2 c.args.pointer refl).0
+returns-clause-found g c = (c.fetch_and.ensures.2.1 c.args.pointer refl).0
 
 pub returns-clause-kept : goal.returns-clause-kept
 returns-clause-kept g c =
     let b : BookView = book_in c.args.self.now in
     let n = c.fetch_and.result in
-    subst (λ (z : BookView). book_state z ≡ record (cleared (book_state b) c.args.pointer n) { word = known_word z }) (sym (view_is _ _ _ _ _ (c.fetch_and.ensures.2 c.args.pointer refl).1)) (cleared_kept b c.args.pointer n)
+    subst (λ (z : BookView). book_state z ≡ record (cleared (book_state b) c.args.pointer n) { word = known_word z }) (sym (view_is _ _ _ _ _ (c.fetch_and.ensures.2.1 c.args.pointer refl).1)) (cleared_kept b c.args.pointer n)
 
 pub returns-clause-forgot : goal.returns-clause-forgot
 returns-clause-forgot g c =
     let b : BookView = book_in c.args.self.now in
-    subst (λ (z : BookView). Forgets (book_state b) (book_state z)) (sym (view_is _ _ _ _ _ (c.fetch_and.ensures.2 c.args.pointer refl).1)) (forgets_all b (cleared_view c.args.pointer c.fetch_and.result b) refl refl)
+    subst (λ (z : BookView). Forgets (book_state b) (book_state z)) (sym (view_is _ _ _ _ _ (c.fetch_and.ensures.2.1 c.args.pointer refl).1)) (forgets_all b (cleared_view c.args.pointer c.fetch_and.result b) refl refl)
 
 pub returns-clause-made : goal.returns-clause-made
-returns-clause-made g c = (c.fetch_and.ensures.0, seat_made _ _ _ _ _ (c.fetch_and.ensures.2 c.args.pointer refl).1)
+returns-clause-made g c = (c.fetch_and.ensures.0, seat_made _ _ _ _ _ (c.fetch_and.ensures.2.1 c.args.pointer refl).1)

@@ -16,13 +16,13 @@ pub invariant_of-self : goal.invariant_of-self
 invariant_of-self g c =
     let i = c.args.self.now.fits in
     let h = c.fetch_or.ensures in
-    let t = (h.2 c.args.pointer refl).1 in record {
+    let t = (h.2.1 c.args.pointer refl).1 in record {
       fits = book_stays _ _ _ _ _ t _ _ _ _ _ _ _ i h.0 (shape_stays _ _ _ _ _ _ _ i refl refl refl refl i.plain);
       stands = stands_after _ _ _ _ _ t;
     }
 
 pub returns-clause-kept : goal.returns-clause-kept
-returns-clause-kept g c = ap book_state (view_is _ _ _ _ _ (c.fetch_or.ensures.2 c.args.pointer refl).1)
+returns-clause-kept g c = ap book_state (view_is _ _ _ _ _ (c.fetch_or.ensures.2.1 c.args.pointer refl).1)
 
 pub returns-clause-made : goal.returns-clause-made
-returns-clause-made g c = (c.fetch_or.ensures.0, seat_made _ _ _ _ _ (c.fetch_or.ensures.2 c.args.pointer refl).1)
+returns-clause-made g c = (c.fetch_or.ensures.0, seat_made _ _ _ _ _ (c.fetch_or.ensures.2.1 c.args.pointer refl).1)

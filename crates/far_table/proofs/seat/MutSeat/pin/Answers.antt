@@ -29,14 +29,14 @@ pub invariant_of-self : goal.invariant_of-self
 invariant_of-self g c =
     let i = c.self.invariant in
     let h = c.fetch_or-found.ensures in
-    let l = h.2 c.args.p refl in
+    let l = h.2.1 c.args.p refl in
     let r = rests c.fetch_or-found.result (read_of c.fetch_or-found.result) c.resting_place.result refl l.0.0 c.resting_place.ensures in
     let none : place_to_view (read_of c.fetch_or-found.result) ≡ None = sym r ∙ c.in_default.is in
     seat_stays _ _ _ _ _ _ _ _ _ _ _ _ _ i h.0 (pin_kept _ _ _ c.args.p c.fetch_or-found.result none l.1) i.5 i.6 i.7
 
 pub returns-in_default-clause-kept : goal.returns-in_default-clause-kept
 returns-in_default-clause-kept g c =
-    let l = c.fetch_or-found.ensures.2 c.args.p refl in
+    let l = c.fetch_or-found.ensures.2.1 c.args.p refl in
     let r = rests c.fetch_or-found.result (read_of c.fetch_or-found.result) c.resting_place.result refl l.0.0 c.resting_place.ensures in
     let none : place_to_view (read_of c.fetch_or-found.result) ≡ None = sym r ∙ c.in_default.is in
     let t = pin_kept _ _ _ c.args.p c.fetch_or-found.result none l.1 in
@@ -44,7 +44,7 @@ returns-in_default-clause-kept g c =
 
 pub returns-in_default-clause-event : goal.returns-in_default-clause-event
 returns-in_default-clause-event g c =
-    let l = c.fetch_or-found.ensures.2 c.args.p refl in
+    let l = c.fetch_or-found.ensures.2.1 c.args.p refl in
     let r = rests c.fetch_or-found.result (read_of c.fetch_or-found.result) c.resting_place.result refl l.0.0 c.resting_place.ensures in
     let none : place_to_view (read_of c.fetch_or-found.result) ≡ None = sym r ∙ c.in_default.is in
     let t = pin_kept _ _ _ c.args.p c.fetch_or-found.result none l.1 in
@@ -52,14 +52,14 @@ returns-in_default-clause-event g c =
 
 pub overflow_add-place : goal.overflow_add-place
 overflow_add-place g c =
-    let l = c.fetch_or-found.ensures.2 c.args.p refl in
+    let l = c.fetch_or-found.ensures.2.1 c.args.p refl in
     let r = rests c.fetch_or-found.result (read_of c.fetch_or-found.result) c.resting_place.result refl l.0.0 c.resting_place.ensures in
     let fits = l.0.1 c.in-Some.place (sym r ∙ c.in-Some.is) in
     omega arith
 
 pub overflow_add-place-2 : goal.overflow_add-place-2
 overflow_add-place-2 g c =
-    let l = c.fetch_or-found.ensures.2 c.args.p refl in
+    let l = c.fetch_or-found.ensures.2.1 c.args.p refl in
     let r = rests c.fetch_or-found.result (read_of c.fetch_or-found.result) c.resting_place.result refl l.0.0 c.resting_place.ensures in
     let fits = l.0.1 c.in-Some.place (sym r ∙ c.in-Some.is) in
     omega arith
@@ -68,7 +68,7 @@ pub invariant_of-self-2 : goal.invariant_of-self-2
 invariant_of-self-2 g c =
     let i = c.self.invariant in
     let h = c.fetch_or-found.ensures in
-    let l = h.2 c.args.p refl in
+    let l = h.2.1 c.args.p refl in
     let r = rests c.fetch_or-found.result (read_of c.fetch_or-found.result) c.resting_place.result refl l.0.0 c.resting_place.ensures in
     let some = sym r ∙ c.in-Some.is in
     let own = c.requires.own ∙ ap (λ (z : Seated). z.view.number) (sym c.self.view_is) in
@@ -77,14 +77,14 @@ invariant_of-self-2 g c =
 
 pub returns-clause-held : goal.returns-clause-held
 returns-clause-held g c =
-    let l = c.fetch_or-found.ensures.2 c.args.p refl in
+    let l = c.fetch_or-found.ensures.2.1 c.args.p refl in
     let r = rests c.fetch_or-found.result (read_of c.fetch_or-found.result) c.resting_place.result refl l.0.0 c.resting_place.ensures in
     let t = pin_held _ _ _ c.args.p c.fetch_or-found.result c.in-Some.place (sym r ∙ c.in-Some.is) l.1 in
     ap owner_of t.after_is ∙ ap (λ (z : Seated). held_view c.args.p c.in-Some.place z.view) c.self.view_is
 
 pub returns-clause-event : goal.returns-clause-event
 returns-clause-event g c =
-    let l = c.fetch_or-found.ensures.2 c.args.p refl in
+    let l = c.fetch_or-found.ensures.2.1 c.args.p refl in
     let r = rests c.fetch_or-found.result (read_of c.fetch_or-found.result) c.resting_place.result refl l.0.0 c.resting_place.ensures in
     let t = pin_held _ _ _ c.args.p c.fetch_or-found.result c.in-Some.place (sym r ∙ c.in-Some.is) l.1 in
     seat_made _ _ _ (λ (o : OwnerView). Pin o.number c.args.p) _ _ (ap (λ (z : Seated). z.view) c.self.view_is) t
