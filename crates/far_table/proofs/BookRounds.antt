@@ -165,8 +165,11 @@ module _ {S : Type 0} (slots id : ℕ) (me : Me S View) (is : me.0 ≡ Book (boo
   clears_evac : IsPlain view → (p : ℕ) → Legal (book_state view) (Clear p) → Allows Running slots id me (cell_at p) (λ n. evac_cleared n) (Cleared (step slots (cell_at p) (2 ^ 64 - 1 - 2 ^ 61) 0 none) me)
   clears_evac plain p h = book_makes slots id (cell_at p) me is (Clear p) refl (λ n. Word n) (λ n. cleared_view p n view) (Cleared (step slots (cell_at p) (2 ^ 64 - 1 - 2 ^ 61) 0 none) me) evac_cleared tt
       (λ ws os f _. subst (λ n. BookStep ws view os (Clear p) (Word n) (set ws (cell_at p) (evac_cleared n)) (cleared_view p n view)) (cell_here ws p (cells_few ws view os f p h.0)) (clear_step ws view os f p h))
-      (λ ws os f _ t. (refl, λ q e. let n : ℕ = slice_index ws (cell_at p) in
-      found_at slots id me is plain p ws os f h.0 q e (λ z. BookTells me.0 (Book (cleared_view p n view)) (Clear z) (Word n) (cleared_view z n view)) t))
+      (λ ws os f _ t. (
+        refl,
+        λ q e. let n : ℕ = slice_index ws (cell_at p) in
+            found_at slots id me is plain p ws os f h.0 q e (λ z. BookTells me.0 (Book (cleared_view p n view)) (Clear z) (Word n) (cleared_view z n view)) t,
+      ))
 
   pub clears : IsPlain view → (p k : ℕ) → k ≡ 2 ^ 64 - 1 - 2 ^ 61 → Legal (book_state view) (Clear p) → Allows Running slots id me (cell_at p) (λ n. bit_and n k) (Cleared (step slots (cell_at p) k 0 none) me)
   clears plain p k mask h = subst (λ z. Allows Running slots id me (cell_at p) (λ n. bit_and n z) (Cleared (step slots (cell_at p) z 0 none) me)) (sym mask) (clears_evac plain p h)

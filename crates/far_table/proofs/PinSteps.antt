@@ -114,9 +114,12 @@ module _ {S : Type 0} (slots id : ℕ) (me : Me S View) (is : me.0 ≡ Owner (ow
   pins_hot p small own used free opened = owner_makes slots id (cell_at p) me is (Pin view.number p) refl refl tt (λ n. pin_answer n (place_to_view (read_of n))) (λ n. pinned_view p n view)
       (Pinned (step slots (cell_at p) (2 ^ position Hot) 0 none) me) (λ n. bit_or n (2 ^ position Hot))
       (λ ws b os f at. pin_found ws b os f view at p small own used free opened)
-      (λ ws b os f at t. (refl, λ q e. let n : ℕ = slice_index ws (cell_at p) in let same : p ≡ q = omega arith in
-      subst (λ z. Lies view z n × Tells me.0 (Owner (pinned_view p n view)) (Pin view.number z) (pin_answer n (place_to_view (read_of n))) (pinned_view z n view)) same
-      (found_lies ws b os f view at p small own used free opened, t)))
+      (λ ws b os f at t. (
+        refl,
+        λ q e. let n : ℕ = slice_index ws (cell_at p) in let same : p ≡ q = omega arith in
+            subst (λ z. Lies view z n × Tells me.0 (Owner (pinned_view p n view)) (Pin view.number z) (pin_answer n (place_to_view (read_of n))) (pinned_view z n view)) same
+            (found_lies ws b os f view at p small own used free opened, t),
+      ))
 
   pub pins : (p k : ℕ) → k ≡ 2 ^ position Hot → p < POINTERS → p / CELLS ≡ view.number → uses view p ≡ true → held_at view p ≡ None → IsSome view.open_at →
       Allows Running slots id me (cell_at p) (λ n. bit_or n k) (Pinned (step slots (cell_at p) k 0 none) me)
