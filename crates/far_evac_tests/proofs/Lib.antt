@@ -1,1 +1,2 @@
+pub mod KeptWords
 pub mod Uses
