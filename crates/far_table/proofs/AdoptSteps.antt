@@ -133,6 +133,7 @@ module _ (ws : List ℕ) (b : BookView) (os : List OwnerView) (f : Facts ws b os
               (λ ne. has_on s (after s (Adopt m p)) q x (ap (λ (z : World). z.object q) (does s (Adopt m p) f.law tt legal)) refl
               (ties.objects q x mine (sym (put_other (object_at o) p (Some (fresh c)) q ne) ∙ h)));
           asks = ties.asks;
+          drops = ties.drops;
         };
       }
 

@@ -134,6 +134,7 @@ module _ (ws : List ℕ) (b : BookView) (os : List OwnerView) (f : Facts ws b os
               (λ ne. has_on s t q y (ap (λ (z : World). z.object q) (does s (Store m p i v) f.law word legal).changed.3 ∙ put_other (world_of s).object p _ q ne) refl
               (ties.objects q y mine (sym (put_other (object_at o) p (with_word i v (object_at o p)) q ne) ∙ h)));
           asks = ties.asks;
+          drops = ties.drops;
         };
       }
 
