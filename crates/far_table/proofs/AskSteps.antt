@@ -169,7 +169,7 @@ module _ (ws : List ℕ) (b : BookView) (os : List OwnerView) (f : Facts ws b os
         };
       }
 
-  ask_step : (k : Mark) → is_request k ≡ true → OwnStep ws b os o (Ask m p k) (Word c) (set ws (cell_at p) (bit_or c (2 ^ position k))) (asked_view p k c o)
+  pub ask_step : (k : Mark) → is_request k ≡ true → OwnStep ws b os o (Ask m p k) (Word c) (set ws (cell_at p) (bit_or c (2 ^ position k))) (asked_view p k c o)
   ask_step Hot asks = absurd (false≢true asks)
   ask_step Evac asks = absurd (false≢true asks)
   ask_step Moved asks = move_step

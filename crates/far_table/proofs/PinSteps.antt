@@ -85,7 +85,7 @@ module _ (ws : List ℕ) (b : BookView) (os : List OwnerView) (f : Facts ws b os
       ))
       (λ _. (refl, refl))
 
-  pin_step : OwnStep ws b os o (Pin m p) (pin_answer c (place_to_view (read_of c))) (set ws (cell_at p) (bit_or c (2 ^ position Hot))) (pinned_view p c o)
+  pub pin_step : OwnStep ws b os o (Pin m p) (pin_answer c (place_to_view (read_of c))) (set ws (cell_at p) (bit_or c (2 ^ position Hot))) (pinned_view p c o)
   pin_step =
       let x : Option Place = place_to_view (read_of c) in
       let w : OwnerView = with_place p x o in

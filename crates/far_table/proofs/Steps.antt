@@ -44,7 +44,7 @@ module _ (ws : List ℕ) (b : BookView) (os : List OwnerView) (f : Facts ws b os
   pub open_so : IsSome o.open_at → IsOpen (state_of ws b os) m
   open_so opened = (is_mutator ws b os f m o at, λ z. open_word o.open_at opened (sym (f.owners m o at).scope ∙ z))
 
-  read_epoch_step : o.open_at ≡ None → OwnStep ws b os o (ReadEpoch m) (Epoch (epoch_in ws)) ws (read_view (epoch_in ws) o)
+  pub read_epoch_step : o.open_at ≡ None → OwnStep ws b os o (ReadEpoch m) (Epoch (epoch_in ws)) ws (read_view (epoch_in ws) o)
   read_epoch_step shut = let w : OwnerView = read_view (epoch_in ws) o in let legal = closed_so shut in record {
     legal = legal;
     says = refl;
@@ -55,7 +55,7 @@ module _ (ws : List ℕ) (b : BookView) (os : List OwnerView) (f : Facts ws b os
         (ap (λ (z : World). z.object) (does (state_of ws b os) (ReadEpoch m) f.law tt legal)) (λ _. (refl, refl));
   }
 
-  open_step : (x : ℕ) → o.open_at ≡ None → IsSome o.epoch → x ≡ scope_word_of o.epoch → OwnStep ws b os o (Open m) Done (set ws (scope_at m) x) (opened_view o)
+  pub open_step : (x : ℕ) → o.open_at ≡ None → IsSome o.epoch → x ≡ scope_word_of o.epoch → OwnStep ws b os o (Open m) Done (set ws (scope_at m) x) (opened_view o)
   open_step x shut read new =
       let w : OwnerView = opened_view o in
       let known : remembered_by os m ≡ o.epoch = ap (λ (y : OwnerView). y.epoch) (own_is os m o w at) in
@@ -72,7 +72,7 @@ module _ (ws : List ℕ) (b : BookView) (os : List OwnerView) (f : Facts ws b os
             (ap (λ (z : World). z.object) (does (state_of ws b os) (Open m) f.law tt legal).after) (λ _. (refl, refl));
       }
 
-  close_step : IsSome o.open_at → OwnStep ws b os o (Close m) Done (set ws (scope_at m) 0) (closed_view o)
+  pub close_step : IsSome o.open_at → OwnStep ws b os o (Close m) Done (set ws (scope_at m) 0) (closed_view o)
   close_step opened = let w : OwnerView = closed_view o in let legal = open_so opened in record {
     legal = legal;
     says = refl;

@@ -109,7 +109,7 @@ module _ (ws : List ℕ) (b : BookView) (os : List OwnerView) (f : Facts ws b os
   new_is : with_word i v (object_at o p) ≡ Some new
   new_is = ap (with_word i v) x.used
 
-  store_step : OwnStep ws b os o (Store m p i v) Done (set ws (data_at a) v) w
+  pub store_step : OwnStep ws b os o (Store m p i v) Done (set ws (data_at a) v) w
   store_step =
       let ties = f.owners m o at in
       let fits = x.fits in
