@@ -5,6 +5,7 @@ use Rattle.std.proofs.lemmas.Bool.{cases_eq, lt-ltb, le-ltb, false≢true}
 use Rattle.std.proofs.lemmas.Grind.{get_or-set_at}
 use Rattle.std.proofs.lemmas.List.{get_or-set_other, length-set}
 use Rattle.atomic_table.specs.Seated.{TableId}
+use Rattle.far_word.specs.declared.mark.Mark.TheVariants.{Dropped}
 use Rattle.far_word.specs.declared.pointer.PtrWord.{PtrWord}
 use Rattle.far_word.specs.declared.pointer.PtrWord.TheVariants.{Free, Near, Far}
 use Rattle.far_word.specs.declared.sizes.TheConstants.{CELLS, LONGEST}
@@ -20,7 +21,7 @@ use Rattle.far_table.specs.View.{OwnerView}
 use Rattle.far_table.specs.Seats.{Seated}
 use Rattle.far_table.specs.StateOf.{state_of}
 use Rattle.far_table.specs.Tells.{OwnerMade}
-use Rattle.far_table.specs.Views.{adopted_view, fresh, held_at, len_of as seat_len, object_at, said_ds, said_len}
+use Rattle.far_table.specs.Views.{adopted_view, asked_view, fresh, held_at, len_of as seat_len, object_at, said_ds, said_len}
 use Rattle.far_heap.specs.Mine.{Object, OwnOk, adopting, dropping, mine_of, seen, zeros_known}
 use Rattle.far_heap.proofs.OwnRows.{own_row-one}
 
@@ -93,7 +94,7 @@ module _ (s : Seated) (name : TableId) (number : ℕ) (lens stamps : List ℕ) (
       (ap (seen s.view.honest) (put_same (object_at s.view) p (Some (fresh w)) p refl) ∙ fresh_seen s.view.honest w n t long kind))
 
   -- ---- one object less
-  pub dropped_ok : is_some (held_at s.view p) ≡ false → OwnOk (record { table = s.table; view = record s.view { objects = (p, None) ∷ s.view.objects } }) name number (slice_set lens (p % CELLS) 0) stamps scope
+  pub dropped_ok : is_some (held_at s.view p) ≡ false → OwnOk (record { table = s.table; view = asked_view p Dropped 0 s.view }) name number (slice_set lens (p % CELLS) 0) stamps scope
   dropped_ok free = record {
     table = ok.table;
     number_is = ok.number_is;
@@ -122,9 +123,9 @@ module _ (s : Seated) (name : TableId) (number : ℕ) (lens stamps : List ℕ) (
     past = ok.past;
   }
 
-  pub dropped_mine : mine_of record { table = s.table; view = record s.view { objects = (p, None) ∷ s.view.objects } } ≡ dropping p (mine_of s)
+  pub dropped_mine : mine_of record { table = s.table; view = asked_view p Dropped 0 s.view } ≡ dropping p (mine_of s)
   dropped_mine =
       let f : ℕ → Option Object = λ q. seen s.view.honest (object_at s.view q) in
-      let g : ℕ → Option Object = λ q. seen s.view.honest (object_at (record s.view { objects = (p, None) ∷ s.view.objects }) q) in
+      let g : ℕ → Option Object = λ q. seen s.view.honest (object_at (asked_view p Dropped 0 s.view) q) in
       ap (λ (rows : List (Option Object)). record (mine_of s) { objects = rows }) (own_row-one f g s.view.number p None (own ∙ sym ok.number_is)
       (λ q ne. ap (seen s.view.honest) (put_other (object_at s.view) p None q ne)) (ap (seen s.view.honest) (put_same (object_at s.view) p None p refl)))

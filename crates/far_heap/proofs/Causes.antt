@@ -1,17 +1,78 @@
--- What the book knows of free cells and of room is so in each state that the words may be in.
-use Rattle.std.proofs.Common.{◌≡◌, ℕ, ◌<◌, true, ap, subst, sym, ◌∙◌, Option, Some, None, Result, Ok, Err}
-use Rattle.std.specs.Prelude.{IfOk, IsSome}
-use Rattle.atomic_table.specs.Seated.{TableId}
+-- What the book knows of free cells, of room and of what it can't bring is so in each state that the words may be in.
+use Rattle.std.proofs.Common.{◌≡◌, ℕ, ◌<◌, Bool, true, false, cond, refl, ap, subst, sym, ◌∙◌, Option, Some, None, is_some, Result, Ok, Err}
+use Rattle.std.specs.Prelude.{IfOk, IfErr, IsSome}
+use Rattle.std.proofs.lemmas.Bool.{false≢true, true≢false}
+use Rattle.far_word.specs.declared.pointer.Place.{Place}
+use Rattle.far_word.specs.declared.pointer.PtrWord.{PtrWord}
+use Rattle.far_word.specs.declared.pointer.PtrWord.TheVariants.{Free, Near, Far}
 use Rattle.far_word.specs.declared.refused.Refused.{Refused}
+use Rattle.far_word.specs.declared.refused.Refused.TheVariants.{Damaged, Device, Memory, NoRoom}
+use Rattle.far_word.specs.Pointer.{read_of}
 use Rattle.far_word.specs.Sizes.{size_of}
 use Rattle.far_core.specs.state.Room.{room}
 use Rattle.far_core.specs.state.State.{State}
+use Rattle.far_hand.specs.Finds.{body_of, marks_in}
 use Rattle.far_hand.specs.MayBe.{Shows}
 use Rattle.far_table.specs.declared.book.BookSeat.{BookSeat}
-use Rattle.far_table.specs.BookSeats.{seat_shown, seat_there, seat_view, table_of}
+use Rattle.far_table.specs.BookSeats.{seat_shown, seat_there, seat_view}
+use Rattle.far_book.specs.book.Dealing.{goal, goal_of}
+use Rattle.far_book.specs.book.Fetching.{RefusesFetch, far_len, room_for}
 use Rattle.far_book.specs.book.Ledger.{IsLowestFree}
 use Rattle.far_book.proofs.region.Founds.{free_found, free_known}
-use Rattle.far_heap.specs.NoObject.{BookHad, HasRoom, LacksRoom, NoneFree}
+use Rattle.far_heap.specs.BookHad.{BookHad, HasNowhere, HasRoom, IsCause, LacksRoom, MayCome, NoneFree, Unbrought}
+use Rattle.far_heap.specs.Helping.{asks_move, says_far}
+use Rattle.far_heap.specs.HeapId.{HeapId, heap_of}
+
+-- ---- an object that can't be brought, by one word of it, and by another that was found since
+nowhere_so : (o x : State) (v w : Option PtrWord) → body_of w ≡ body_of v → ((marks_in v).moved ≡ true → (marks_in w).moved ≡ true) →
+    ((n : ℕ) (b : Bool) → room x n b ≡ room o n b) → HasNowhere o v → HasNowhere x w
+nowhere_so o x None w body moved rooms says = absurd says
+nowhere_so o x (Some Free) w body moved rooms says = absurd says
+nowhere_so o x (Some (Near n d at m)) None body moved rooms says = absurd cc
+nowhere_so o x (Some (Near n d at m)) (Some Free) body moved rooms says = absurd cc
+nowhere_so o x (Some (Near n d at m)) (Some (Near k c to q)) body moved rooms says = let lens : k ≡ n = cc in
+    (moved says.0, ap (λ u. (marks_in u).evac) body ∙ says.1, rooms (size_of k) false ∙ ap (λ l. room o (size_of l) false) lens ∙ says.2)
+nowhere_so o x (Some (Near n d at m)) (Some (Far k c q)) body moved rooms says = absurd cc
+nowhere_so o x (Some (Far n d m)) None body moved rooms says = absurd cc
+nowhere_so o x (Some (Far n d m)) (Some Free) body moved rooms says = absurd cc
+nowhere_so o x (Some (Far n d m)) (Some (Near k c to q)) body moved rooms says = absurd cc
+nowhere_so o x (Some (Far n d m)) (Some (Far k c q)) body moved rooms says = let lens : k ≡ n = cc in rooms (size_of k) true ∙ ap (λ l. room o (size_of l) true) lens ∙ says
+
+may_so : (o x : State) (v w : Option PtrWord) → body_of w ≡ body_of v → ((n : ℕ) (b : Bool) → room x n b ≡ room o n b) → MayCome o v → MayCome x w
+may_so o x None w body rooms may = absurd may
+may_so o x (Some Free) w body rooms may = absurd may
+may_so o x (Some (Near n d at m)) w body rooms may = absurd may
+may_so o x (Some (Far n d m)) None body rooms may = absurd cc
+may_so o x (Some (Far n d m)) (Some Free) body rooms may = absurd cc
+may_so o x (Some (Far n d m)) (Some (Near k c to q)) body rooms may = absurd cc
+may_so o x (Some (Far n d m)) (Some (Far k c q)) body rooms may = let lens : k ≡ n = cc in ap is_some (rooms (size_of k) true ∙ ap (λ l. room o (size_of l) true) lens) ∙ may
+
+-- what a refused fetch says of the word that the book found
+not_so : (b c : Bool) → (b ≡ true → c ≡ true) → c ≡ false → b ≡ false
+not_so true c h e = absurd (true≢false (sym (h refl) ∙ e))
+not_so false c h e = refl
+
+far_cause : (s : State) (o : Option PtrWord) (sound : Bool) → says_far o ≡ true → (s.honest ≡ true → sound ≡ true) → (why : Refused) →
+    RefusesFetch why (room s (size_of (far_len o)) true) sound → IsCause why s o
+far_cause s None sound is honest why says = absurd (false≢true is)
+far_cause s (Some Free) sound is honest why says = absurd (false≢true is)
+far_cause s (Some (Near n d at m)) sound is honest why says = absurd (false≢true is)
+far_cause s (Some (Far n d m)) sound is honest NoRoom says = says
+far_cause s (Some (Far n d m)) sound is honest Memory says = says
+far_cause s (Some (Far n d m)) sound is honest Device says = says
+far_cause s (Some (Far n d m)) sound is honest Damaged says = (says.0, not_so s.honest sound honest says.1)
+far_cause s (Some (Far n d m)) sound is honest why says = absurd says
+
+-- and a refused move
+wanted : (b : Bool) (r : Option Place) (at : Place) → cond b r (Some at) ≡ None → (b ≡ true) × (r ≡ None)
+wanted true r at e = (refl, e)
+wanted false r at e = absurd cc
+
+near_cause : (s : State) (o : Option PtrWord) → asks_move o ≡ true → goal_of s o ≡ None → HasNowhere s o
+near_cause s None is none = absurd (false≢true is)
+near_cause s (Some Free) is none = absurd (false≢true is)
+near_cause s (Some (Near n d at m)) is none = let x = wanted m.evac (room s (size_of n) false) at none in (is, x.0, x.1)
+near_cause s (Some (Far n d m)) is none = absurd (false≢true is)
 
 module _ (o x : State) (shows : Shows o x) where
   lowest_shown : (m : ℕ) (cell : Option ℕ) → IsLowestFree o m cell → IsLowestFree x m cell
@@ -28,19 +89,28 @@ module _ (o x : State) (shows : Shows o x) where
     room = subst (λ (s : State). IsSome (room s (size_of len) true)) (sym shows.rest) has.room;
   }
 
-  none_shown : (m : ℕ) → NoneFree m o → NoneFree m x
-  none_shown m none has = lowest_shown m None (none (subst (λ n. m < n) (ap (λ (s : State). s.mutators) shows.rest) has))
-
   room_shown : (m len : ℕ) → LacksRoom m len o → LacksRoom m len x
   room_shown m len lacks = record {
-    has = subst (λ n. m < n) (ap (λ (s : State). s.mutators) (sym shows.rest)) lacks.has;
     pointer = lacks.pointer;
     free = lowest_shown m (Some lacks.pointer) lacks.free;
     full = ap (λ (s : State). room s (size_of len) true) shows.rest ∙ lacks.full;
   }
 
-module _ {D : Type 0} (name : TableId) (seat : BookSeat D) (named : table_of seat ≡ name) where
-  has_room : (m len p : ℕ) → HasRoom m len p (seat_view seat) → BookHad D name (HasRoom m len p)
+  rooms : (n : ℕ) (b : Bool) → room x n b ≡ room o n b
+  rooms n b = ap (λ (s : State). room s n b) shows.rest
+
+  may_shown : (p : ℕ) → MayCome o (read_of (o.cell p)) → MayCome x (read_of (x.cell p))
+  may_shown p may = may_so o x (read_of (o.cell p)) (read_of (x.cell p)) (shows.cells p).body rooms may
+
+  cause_shown : (p : ℕ) (why : Refused) → Unbrought p why o → Unbrought p why x
+  cause_shown p NoRoom says = let finds = shows.cells p in nowhere_so o x (read_of (o.cell p)) (read_of (x.cell p)) finds.body finds.moved rooms says
+  cause_shown p Memory may = may_shown p may
+  cause_shown p Device may = may_shown p may
+  cause_shown p Damaged may = (may_shown p may.0, ap (λ (s : State). s.honest) shows.rest ∙ may.1)
+  cause_shown p why says = absurd says
+
+module _ {D : Type 0} (heap : HeapId) (seat : BookSeat D) (named : heap_of seat ≡ heap) where
+  has_room : (m len p : ℕ) → HasRoom m len p (seat_view seat) → BookHad D heap (HasRoom m len p)
   has_room m len p has = record {
     seat = seat;
     named = named;
@@ -50,20 +120,20 @@ module _ {D : Type 0} (name : TableId) (seat : BookSeat D) (named : table_of sea
   }
 
   pub if_room : (m len : ℕ) (r : Result ℕ Refused) → IfOk r (λ p. IsLowestFree (seat_view seat) m (Some p)) → IfOk r (λ p. IsSome (room (seat_view seat) (size_of len) true)) →
-      IfOk r (λ p. BookHad D name (HasRoom m len p))
+      IfOk r (λ p. BookHad D heap (HasRoom m len p))
   if_room m len (Ok p) free room = has_room m len p record { free = free; room = room }
   if_room m len (Err why) free room = tt
 
-  pub none_free : (m : ℕ) → NoneFree m (seat_view seat) → BookHad D name (NoneFree m)
+  pub none_free : (m : ℕ) → NoneFree m (seat_view seat) → BookHad D heap (NoneFree m)
   none_free m none = record {
     seat = seat;
     named = named;
     known = none;
-    is = λ x may. none_shown (seat_view seat) x (seat_shown seat x may) m none;
+    is = λ x may. lowest_shown (seat_view seat) x (seat_shown seat x may) m None none;
     there = seat_there seat;
   }
 
-  pub lacks_room : (m len : ℕ) → LacksRoom m len (seat_view seat) → BookHad D name (LacksRoom m len)
+  pub lacks_room : (m len : ℕ) → LacksRoom m len (seat_view seat) → BookHad D heap (LacksRoom m len)
   lacks_room m len lacks = record {
     seat = seat;
     named = named;
@@ -71,3 +141,28 @@ module _ {D : Type 0} (name : TableId) (seat : BookSeat D) (named : table_of sea
     is = λ x may. room_shown (seat_view seat) x (seat_shown seat x may) m len lacks;
     there = seat_there seat;
   }
+
+  unbrought : (p : ℕ) (why : Refused) → Unbrought p why (seat_view seat) → BookHad D heap (Unbrought p why)
+  unbrought p why cause = record {
+    seat = seat;
+    named = named;
+    known = cause;
+    is = λ x may. cause_shown (seat_view seat) x (seat_shown seat x may) p why cause;
+    there = seat_there seat;
+  }
+
+  -- a fetch was refused, and a move
+  pub fetch_cause : (p : ℕ) (sound : Bool) (answer : Result (Option Place) Refused) → says_far (read_of ((seat_view seat).cell p)) ≡ true →
+      ((seat_view seat).honest ≡ true → sound ≡ true) → IfErr answer (λ why. RefusesFetch why (room_for (seat_view seat) p) sound) →
+      IfErr answer (λ why. BookHad D heap (Unbrought p why))
+  fetch_cause p sound (Ok found) is honest says = tt
+  fetch_cause p sound (Err why) is honest says = unbrought p why (far_cause (seat_view seat) (read_of ((seat_view seat).cell p)) sound is honest why says)
+
+  pub move_cause : (p : ℕ) (answer : Result (Option Place) Refused) → asks_move (read_of ((seat_view seat).cell p)) ≡ true → IfErr answer (λ why. why ≡ NoRoom) →
+      IfErr answer (λ _. goal (seat_view seat) p ≡ None) → IfErr answer (λ why. BookHad D heap (Unbrought p why))
+  move_cause p (Ok found) is why none = tt
+  move_cause p (Err r) is why none = subst (λ w. BookHad D heap (Unbrought p w)) (sym why) (unbrought p NoRoom (near_cause (seat_view seat) (read_of ((seat_view seat).cell p)) is none))
+
+-- of a dishonest heap alone
+pub dishonest : {D : Type 0} (heap : HeapId) (p : ℕ) → BookHad D heap (Unbrought p Damaged) → heap.honest ≡ false
+dishonest heap p had = ap (λ (h : HeapId). h.honest) (sym had.named) ∙ had.known.1

@@ -1,21 +1,35 @@
--- A hand that came of a book's seat by its own calls is of the same table.
-use Rattle.std.proofs.Common.{◌≡◌, ap, ◌∙◌}
-use Rattle.atomic_table.specs.Seated.{TableId}
+-- A hand that came of a book's seat by its own calls is of the same heap.
+use Rattle.std.proofs.Common.{◌≡◌, ap, sym, ◌∙◌}
 use Rattle.far_core.specs.declared.event.Event.{Event}
 use Rattle.far_core.specs.declared.event.Reply.{Reply}
 use Rattle.far_core.specs.declared.event.Reply.TheVariants.{Done, Epoch, Held, Refused, Word}
+use Rattle.far_core.specs.state.State.{State}
+use Rattle.far_core.proofs.Owing.{owed}
 use Rattle.far_hand.specs.Came.{Came}
 use Rattle.far_hand.proofs.Closure.{came_keeps}
 use Rattle.far_table.specs.declared.book.BookSeat.{BookSeat}
-use Rattle.far_table.specs.BookSeats.{seat_makes, table_of}
+use Rattle.far_table.specs.BookSeats.{book_in, seat_makes, table_of}
+use Rattle.far_table.specs.BookTells.{BookMade}
+use Rattle.far_table.specs.StateOf.{state_of}
+use Rattle.far_heap.specs.HeapId.{HeapId, heap_of}
 
-module _ {D : Type 0} (name : TableId) where
-  one_call : (s t : BookSeat D) (e : Event) (r : Reply) → seat_makes s e r t → table_of s ≡ name → table_of t ≡ name
-  one_call s t e Refused made is = ap table_of made.0 ∙ is
-  one_call s t e Done made is = made.0 ∙ is
-  one_call s t e (Epoch n) made is = made.0 ∙ is
-  one_call s t e (Word n) made is = made.0 ∙ is
-  one_call s t e (Held place) made is = made.0 ∙ is
+module _ {D : Type 0} (heap : HeapId) where
+  -- an event leaves size and honesty
+  one_event : (s t : BookSeat D) (e : Event) (r : Reply) → table_of t ≡ table_of s → BookMade e (book_in s) r (book_in t) → heap_of t ≡ heap_of s
+  one_event s t e r same made =
+      let rest = ((owed e).within (state_of made.words (book_in s) made.owners)).rest in
+      let is = sym made.becomes in
+      let logs : (book_in t).logs ≡ (book_in s).logs = ap (λ (z : State). z.logs) is ∙ rest.1 in
+      let mutators : (book_in t).mutators ≡ (book_in s).mutators = ap (λ (z : State). z.mutators) is ∙ rest.0 in
+      let honest : (book_in t).honest ≡ (book_in s).honest = ap (λ (z : State). z.honest) is ∙ rest.2 in
+      λ i. record { table = same i; logs = logs i; mutators = mutators i; honest = honest i }
 
-  pub stays_named : (s t : BookSeat D) → Came seat_makes s t → table_of s ≡ name → table_of t ≡ name
-  stays_named s t came is = came_keeps seat_makes (λ z. table_of z ≡ name) one_call s t came is
+  one_call : (s t : BookSeat D) (e : Event) (r : Reply) → seat_makes s e r t → heap_of s ≡ heap → heap_of t ≡ heap
+  one_call s t e Refused made is = ap heap_of made.0 ∙ is
+  one_call s t e Done made is = one_event s t e Done made.0 made.1 ∙ is
+  one_call s t e (Epoch n) made is = one_event s t e (Epoch n) made.0 made.1 ∙ is
+  one_call s t e (Word n) made is = one_event s t e (Word n) made.0 made.1 ∙ is
+  one_call s t e (Held place) made is = one_event s t e (Held place) made.0 made.1 ∙ is
+
+  pub stays_named : (s t : BookSeat D) → Came seat_makes s t → heap_of s ≡ heap → heap_of t ≡ heap
+  stays_named s t came is = came_keeps seat_makes (λ z. heap_of z ≡ heap) one_call s t came is

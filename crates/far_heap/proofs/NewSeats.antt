@@ -30,9 +30,14 @@ module _ (table : TableId) (s : State) (honest : Bool) (shape : Shape) (opens : 
   all_new zero first = tt
   all_new (suc n) first = (refl, (says first).honesty, one_new first, all_new n (first + 1))
 
-  pub new_seats : (seats : List Seated) → s.mutators ≤ MOST_MUTATORS → seats ≡ Seats table (first_owner s honest) s.mutators → NewSeats table honest seats
-  new_seats seats few is = record {
-    few = let long : length seats ≡ s.mutators = ap length is ∙ length-map-range_with_len (λ m. record { table = table; view = first_owner s honest m }) 0 s.mutators in omega (arith, long, few);
+  long : (seats : List Seated) → seats ≡ Seats table (first_owner s honest) s.mutators → length seats ≡ s.mutators
+  long seats is = ap length is ∙ length-map-range_with_len (λ m. record { table = table; view = first_owner s honest m }) 0 s.mutators
+
+  pub new_seats : (logs : ℕ) (seats : List Seated) → s.mutators ≤ MOST_MUTATORS → seats ≡ Seats table (first_owner s honest) s.mutators →
+      NewSeats (record { table = table; logs = logs; mutators = s.mutators; honest = honest }) seats
+  new_seats logs seats few is = record {
+    many = long seats is;
+    few = subst (λ n. n ≤ MOST_MUTATORS) (sym (long seats is)) few;
     are = subst (AreNew table honest 0) (sym is) (all_new s.mutators 0);
   }
 

@@ -1,13 +1,13 @@
 -- Turns of a round one after the other, and their sum.
 use Rattle.std.proofs.Common.{◌≡◌, ◌≢◌, ℕ, ◌+◌, Bool, true, false, List, [], ◌∷◌, refl, sym, ap, ◌∙◌, arith}
 use Rattle.std.proofs.lemmas.Bool.{false≢true}
-use Rattle.atomic_table.specs.Seated.{TableId}
 use Rattle.far_evac.specs.declared.phase.Phase.{Phase}
 use Rattle.far_evac.specs.declared.phase.Phase.TheVariants.{Evacuating, Idle, Marking, Waiting}
 use Rattle.far_evac.specs.declared.answers.Progress.{Progress}
 use Rattle.far_evac.specs.AnyHand.{sum_of}
 use Rattle.far_evac.specs.Moment.{Tally, plus, progress_of, tally_of}
 use Rattle.far_evac.specs.MomentLaw.{is_idle}
+use Rattle.far_heap.specs.HeapId.{HeapId}
 use Rattle.far_heap.specs.Rounds.{TurnsMade, told, told_of}
 
 told_on : (a b : ℕ) → told (told a + b) ≡ told (a + b)
@@ -30,6 +30,6 @@ idle_is Evacuating e = absurd (false≢true e)
 pub not_idle : (phase : Phase) → is_idle phase ≡ false → phase ≢ Idle
 not_idle phase e is = false≢true (sym e ∙ ap is_idle is)
 
-pub turns_run : (D : Type 0) (name : TableId) (tallies : List Tally) (phase : Phase) → TurnsMade D name tallies false phase → is_idle phase ≡ false
-turns_run D name [] phase made = ap is_idle made.1
-turns_run D name (t ∷ ts) phase made = made.1.ends
+pub turns_run : (D : Type 0) (heap : HeapId) (tallies : List Tally) (phase : Phase) → TurnsMade D heap tallies false phase → is_idle phase ≡ false
+turns_run D heap [] phase made = ap is_idle made.1
+turns_run D heap (t ∷ ts) phase made = made.1.ends

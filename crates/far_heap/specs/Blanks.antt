@@ -8,13 +8,12 @@ use Rattle.far_core.specs.state.State.{State}
 use Rattle.far_table.specs.declared.book.BookSeat.{BookSeat}
 use Rattle.far_table.specs.Seats.{Seated}
 use Rattle.far_book.specs.book.BookOf.{BookOf}
+use Rattle.far_heap.specs.HeapId.{HeapId}
 use Rattle.far_heap.specs.Mine.{IsNew, Mine, newcomer}
 
--- the parts of a heap that nobody has begun to use: their table, how many mutators there will be, and whether the far side is honest; and the book
+-- the parts of a heap that nobody has begun to use: what its name is to name, and the book
 pub record BlankOf (D : Type 0) : Type 0 where
-  pub table : TableId
-  pub mutators : ℕ
-  pub honest : Bool
+  pub heap : HeapId
   pub book : BookOf (BookSeat D) D
 
 -- nothing lies in this core: each cell is free, log 0 is open and each other log free, no word of any log is taken, and none is in a round
@@ -32,10 +31,14 @@ AreNew table honest first [] = Unit {0}
 AreNew table honest first (x ∷ xs) = (x.table ≡ table) × (x.view.honest ≡ honest) × IsNew first x.view × AreNew table honest (first + 1) xs
 
 -- those of a whole heap
-pub record NewSeats (table : TableId) (honest : Bool) (seats : List Seated) : Type 0 where
+pub record NewSeats (heap : HeapId) (seats : List Seated) : Type 0 where
+  pub many : length seats ≡ heap.mutators
   pub few : length seats ≤ MOST_MUTATORS
-  pub are : AreNew table honest 0 seats
+  pub are : AreNew heap.table heap.honest 0 seats
 
--- the mutators of a new heap, by number
-abbrev pub newcomers : TableId → Bool → ℕ → List Mine
-newcomers table honest n = map (λ m. newcomer table m honest) (range_with_len 0 n)
+-- the first mutators of a new heap, by number, and all
+abbrev pub first_newcomers : TableId → Bool → ℕ → List Mine
+first_newcomers table honest n = map (λ m. newcomer table m honest) (range_with_len 0 n)
+
+abbrev pub newcomers : HeapId → List Mine
+newcomers heap = first_newcomers heap.table heap.honest heap.mutators

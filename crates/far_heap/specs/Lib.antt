@@ -1,3 +1,4 @@
+pub mod HeapId
 pub mod Mine
 pub mod MineLaw
 pub mod Made
@@ -5,4 +6,4 @@ pub mod Blanks
 pub mod Rounds
 pub mod Calls
 pub mod Helping
-pub mod NoObject
+pub mod BookHad

@@ -12,13 +12,10 @@ use Rattle.far_word.specs.declared.sizes.TheConstants.{CELLS, LONGEST, MOST_MUTA
 use Rattle.far_table.specs.View.{ObjectView, OwnerView}
 use Rattle.far_table.specs.Seats.{Seated}
 use Rattle.far_table.specs.Views.{asked_at, held_at, len_of as seat_len, object_at, uses as seat_uses, word_of}
+use Rattle.far_heap.specs.HeapId.{HeapId}
 use Rattle.far_heap.specs.declared.view.Tried.{Tried}
 use Rattle.far_heap.specs.declared.view.Tried.TheVariants.{View as Viewed, Slow}
 use Rattle.far_heap.specs.declared.view.View.{View}
-
--- the table of nobody
-abbrev pub no_table : TableId
-no_table = record { words = 0; slots = 0; views_name = 0; atom = 0; block = 0; offset = 0; slot_names = [] }
 
 -- an object as its mutator knows it: how many bytes it has, of which data structure it is, and which bytes, unless the far side may give others than it was given
 pub record Object : Type 0 where
@@ -36,6 +33,10 @@ pub record Mine : Type 0 where
   pub objects : List (Option Object)
   pub viewed : List Bool
   pub asked : List ℕ
+
+-- it is one of a heap's mutators, of its table, and knows what is so of its far side
+abbrev pub IsOf : HeapId → Mine → Type 0
+IsOf heap m = (m.table ≡ heap.table) × (m.number < heap.mutators) × (m.honest ≡ heap.honest)
 
 -- ---- what it has
 abbrev pub owns : Mine → ℕ → Bool

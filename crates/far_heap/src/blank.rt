@@ -23,15 +23,14 @@ pub struct Blank<D: Device + Drop> {
 }
 
 impl<D: Device + Drop> Model for Blank<D> {
-    ghost use Rattle.std.specs.Prelude.{length};
-    ghost use Rattle.far_table.specs.BookSeats.{seat_view, table_of};
     ghost use Rattle.far_heap.specs.Blanks.{BlankOf, NewSeats};
+    ghost use Rattle.far_heap.specs.HeapId.{heap_of};
 
     ghost Value = { BlankOf D };
 
-    ghost view = { λ b. record { table = table_of b.book.near; mutators = length b.seats.items; honest = (seat_view b.book.near).honest; book = b.book } };
+    ghost view = { λ b. record { heap = heap_of b.book.near; book = b.book } };
 
-    ghost invariant = { λ b. NewSeats (table_of b.book.near) (seat_view b.book.near).honest b.seats.items };
+    ghost invariant = { λ b. NewSeats (heap_of b.book.near) b.seats.items };
 }
 
 impl<D: Device + Drop> Blank<D> {
@@ -40,8 +39,8 @@ impl<D: Device + Drop> Blank<D> {
     ///
     /// Refused, in this order: [`Refused::Shape`] exactly where the shape is out of range, [`Refused::Memory`]. The device is dropped then.
     pub fn new(alloc: Global, shape: Shape, device: D) -> Result<Blank<D>, Refused>
-        ensures mutators { IfOk result (λ blank. blank.mutators ≡ shape.mutators) }
-        ensures honest { IfOk result (λ blank. blank.honest ≡ D.honest device) }
+        ensures size { IfOk result (λ blank. (blank.heap.logs ≡ shape.logs) × (blank.heap.mutators ≡ shape.mutators)) }
+        ensures honest { IfOk result (λ blank. blank.heap.honest ≡ D.honest device) }
         ensures core { IfOk result (λ blank. shape_of (seat_view blank.book.near) ≡ shape) }
         ensures unused { IfOk result (λ blank. IsUnused (seat_view blank.book.near)) }
         ensures order { IfOk result (λ blank. blank.book.order ≡ []) }

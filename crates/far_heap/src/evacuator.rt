@@ -1,4 +1,4 @@
-//! What the lock of a heap keeps: its evacuator, with the book over the one seat of the named table.
+//! What the lock of a heap keeps: its evacuator, with the book over the one seat of the named heap's table.
 
 ghost use Rattle.std.specs.Prelude.{◌≡◌, ◌≢◌, ◌*◌, ◌<◌, ◌↔◌, ℕ, [], None, true, IfOk, IfErr, map};
 ghost use Rattle.far_word.specs.Pointer.{read_of};
@@ -13,7 +13,7 @@ ghost use Rattle.far_core.specs.state.State.{State, put};
 ghost use Rattle.far_hand.specs.Came.{Came};
 ghost use Rattle.far_hand.specs.Finds.{Finds};
 ghost use Rattle.far_hand.specs.ShapeOf.{shape_of};
-ghost use Rattle.far_table.specs.BookSeats.{seat_makes, seat_may_be, seat_view, table_of};
+ghost use Rattle.far_table.specs.BookSeats.{seat_makes, seat_may_be, seat_view};
 ghost use Rattle.far_table.specs.Viewed.{NoneIsGivenOut};
 ghost use Rattle.far_table.specs.Whole.{IsWhole};
 ghost use Rattle.far_book.specs.book.FarSide.{HoldsFar};
@@ -26,6 +26,7 @@ ghost use Rattle.far_evac.specs.EvacOf.{moment};
 ghost use Rattle.far_evac.specs.Listing.{ListsEach};
 ghost use Rattle.far_evac.specs.MomentLaw.{MomentLaw};
 ghost use Rattle.far_evac.specs.declared.phase.Phase.TheVariants.{Idle};
+ghost use Rattle.far_heap.specs.HeapId.{heap_of};
 
 mod owners;
 mod rounds;
@@ -50,21 +51,21 @@ pub struct Evacuator<K: HeapName, D: Device + Drop> {
 
 impl<K: HeapName, D: Device + Drop> Model for Evacuator<K, D> {
     ghost use Rattle.std.specs.Prelude.{◌≡◌};
-    ghost use Rattle.far_table.specs.BookSeats.{table_of};
     ghost use Rattle.far_table.specs.declared.book.BookSeat.{BookSeat as seat_of};
     ghost use Rattle.far_evac.specs.EvacOf.{EvacOf};
+    ghost use Rattle.far_heap.specs.HeapId.{heap_of};
 
     ghost Value = { EvacOf (seat_of D) D };
 
     ghost view = { λ e. e.evac };
 
-    ghost invariant = { λ e. table_of e.evac.book.near ≡ K.table };
+    ghost invariant = { λ e. heap_of e.evac.book.near ≡ K.heap };
 }
 
 impl<K: HeapName, D: Device + Drop> Evacuator<K, D> {
-    // Over a book of the named table, in no round.
+    // Over a book of the named heap, in no round.
     pub(crate) fn new(book: Book<BookSeat<D>, D>) -> Evacuator<K, D>
-        requires { table_of book.near ≡ K.table }
+        requires { heap_of book.near ≡ K.heap }
         ensures book { result.book ≡ book }
         ensures idle { result.phase ≡ Idle }
         ensures none { result.held ≡ [] }
@@ -75,13 +76,13 @@ impl<K: HeapName, D: Device + Drop> Evacuator<K, D> {
         }
     }
 
-    /// What holds whenever the lock is got, whatever any policy chose: the book is of the table that the name names; what it knows keeps its part of
+    /// What holds whenever the lock is got, whatever any policy chose: the book is of the heap that the name names, with its size and its honesty; what it knows keeps its part of
     /// the law of the core, and the round agrees with it. In every state that the words and all views may be in objects and logs are whole: each object in
     /// use has one place, its pointer and the header there name each other, and a log's live, dead and unused bytes make its size. No log is given out
     /// in which an owner holds a place. The device holds the bytes of each far object as they were stored, and is honest where the owners are told so. And
     /// there is such a state.
     pub fn keeps_law(&self)
-        ensures named { table_of self.now.book.near ≡ K.table }
+        ensures named { heap_of self.now.book.near ≡ K.heap }
         ensures law { Law (own_part (seat_view self.now.book.near)) }
         ensures moment { MomentLaw (moment seat_view self.now) }
         ensures whole { (x : State) → seat_may_be self.now.book.near x → IsWhole x }

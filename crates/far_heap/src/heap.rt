@@ -1,5 +1,5 @@
 // A heap, which its mutators share.
-ghost use Rattle.std.specs.Prelude.{◌≡◌, ℕ, Bool, List, false, length, IfOk, IfErr};
+ghost use Rattle.std.specs.Prelude.{◌≡◌, ℕ, List, false, IfOk, IfErr};
 ghost use Rattle.far_word.specs.declared.refused.Refused.TheVariants.{Memory};
 ghost use Rattle.far_evac.specs.Moment.{Tally, nothing, plus, progress_of, tally_of};
 ghost use Rattle.far_heap.specs.Blanks.{NewSeats, newcomers};
@@ -33,8 +33,8 @@ fn mutators_of<K: HeapName, D: Device + Drop>(
     lock: &Lock<K, D>,
     mut seats: Vec<MutSeat<D>>,
 ) -> Result<Vec<Mutator<K, D>>, AllocError>
-    requires { (honest : Bool) × NewSeats K.table honest seats.items }
-    ensures { (honest : Bool) → NewSeats K.table honest seats.items → IfOk result (λ mutators. mutators.items ≡ newcomers K.table honest (length seats.items)) }
+    requires { NewSeats K.heap seats.items }
+    ensures { IfOk result (λ mutators. mutators.items ≡ newcomers K.heap) }
 {
     let many = seats.len();
     let mut mutators = Vec::with_capacity(alloc, many)?;
@@ -79,8 +79,8 @@ impl<K: HeapName, D: Device + Drop> Heap<K, D> {
     ///
     /// Its caller is a function over the name, called with `Brand`.
     pub fn new(alloc: Global, blank: Blank<D>) -> Result<(Heap<K, D>, Vec<Mutator<K, D>>), Refused>
-        requires name { blank.table ≡ K.table }
-        ensures mutators { IfOk result (λ made. made.1.items ≡ newcomers K.table blank.honest blank.mutators) }
+        requires name { blank.heap ≡ K.heap }
+        ensures mutators { IfOk result (λ made. made.1.items ≡ newcomers K.heap) }
         ensures refused { IfErr result (λ why. why ≡ Memory) }
     {
         let Blank { book, seats } = blank;
@@ -114,8 +114,8 @@ impl<K: HeapName, D: Device + Drop> Heap<K, D> {
         most: usize,
         turns: u64,
     ) -> Result<RoundEnd, EvacFault>
-        ensures ended { IfOk result (λ end. (logs : List ℕ) × Chose P.gives policy.old most policy.new logs × EndsAfter D K.table logs turns end) }
-        ensures refused { IfErr result (λ fault. RefusesRound P.gives D K.table policy.old most policy.new turns fault) }
+        ensures ended { IfOk result (λ end. (logs : List ℕ) × Chose P.gives policy.old most policy.new logs × EndsAfter D K.heap logs turns end) }
+        ensures refused { IfErr result (λ fault. RefusesRound P.gives D K.heap policy.old most policy.new turns fault) }
     {
         let chosen = match self.book(rt).select(policy, most) {
             Ok(chosen) => chosen,
@@ -134,8 +134,8 @@ impl<K: HeapName, D: Device + Drop> Heap<K, D> {
 
     // Makes so many turns of a round that was begun, or fewer if it is over before.
     fn make_turns<R: Wait>(&self, rt: &R, turns: u64) -> Result<RoundEnd, EvacFault>
-        ensures ended { IfOk result (EndsTurns D K.table turns) }
-        ensures refused { IfErr result (StopsTurns D K.table turns) }
+        ensures ended { IfOk result (EndsTurns D K.heap turns) }
+        ensures refused { IfErr result (StopsTurns D K.heap turns) }
     {
         let mut total = nothing_done();
         let mut phase = Phase::Marking;
@@ -159,8 +159,8 @@ impl<K: HeapName, D: Device + Drop> Heap<K, D> {
 
     // Makes one turn under the lock, and adds what it did to what was done before: with the phase after it.
     fn turn_more<R: Wait>(&self, rt: &R, before: Progress) -> Result<(Progress, Phase), EvacFault>
-        ensures made { IfOk result (λ made. (tally : Tally) × TurnMade D K.table tally made.0.done made.1 × (made.0 ≡ progress_of (told_of (plus (tally_of before) tally)) made.0.done)) }
-        ensures refused { IfErr result (λ fault. (tally : Tally) × TurnRefused D K.table tally fault.why × (fault.so_far ≡ progress_of (told_of (plus (tally_of before) tally)) false)) }
+        ensures made { IfOk result (λ made. (tally : Tally) × TurnMade D K.heap tally made.0.done made.1 × (made.0 ≡ progress_of (told_of (plus (tally_of before) tally)) made.0.done)) }
+        ensures refused { IfErr result (λ fault. (tally : Tally) × TurnRefused D K.heap tally fault.why × (fault.so_far ≡ progress_of (told_of (plus (tally_of before) tally)) false)) }
     {
         let mut guard = self.book(rt);
         let book = &mut *guard;

@@ -1,8 +1,8 @@
 // A mutator whose scope is closed.
 ghost use Rattle.std.specs.Prelude.{◌≡◌, ◌<◌, true, false, Err, IfOk, IfErr};
-ghost use Rattle.far_heap.specs.Mine.{IsNew, IsNoObject, adopting, dropping, is_length, newcomer, opening, owns, uses};
+ghost use Rattle.far_heap.specs.Mine.{IsNew, IsNoObject, IsOf, adopting, dropping, is_length, newcomer, opening, owns, uses};
 ghost use Rattle.far_heap.specs.MineLaw.{MineLaw};
-ghost use Rattle.far_heap.specs.NoObject.{BookHad, HasRoom, LacksRoom, NoneFree};
+ghost use Rattle.far_heap.specs.BookHad.{BookHad, HasRoom, LacksRoom, NoneFree};
 ghost use Rattle.far_word.specs.declared.refused.Refused.{Refused as any_refusal};
 ghost use Rattle.far_word.specs.declared.refused.Refused.TheVariants.{NoPointer, NoRoom};
 ghost use Rattle.far_word.specs.declared.sizes.TheConstants.{MOST_MUTATORS};
@@ -28,13 +28,13 @@ pub struct Mutator<K: HeapName, D: Device + Drop> {
 
 impl<K: HeapName, D: Device + Drop> Model for Mutator<K, D> {
     ghost use Rattle.std.specs.Prelude.{◌≡◌, false};
-    ghost use Rattle.far_heap.specs.Mine.{Mine};
+    ghost use Rattle.far_heap.specs.Mine.{IsOf, Mine};
 
     ghost Value = { Mine };
 
     ghost view = { λ m. m.own };
 
-    ghost invariant = { λ m. (m.own.opened ≡ false) × (m.own.table ≡ K.table) };
+    ghost invariant = { λ m. (m.own.opened ≡ false) × IsOf K.heap m.own };
 }
 
 impl<K: HeapName, D: Device + Drop> Mutator<K, D> {
@@ -45,10 +45,12 @@ impl<K: HeapName, D: Device + Drop> Mutator<K, D> {
         seat: MutSeat<D>,
         number: u8,
     ) -> Result<Mutator<K, D>, AllocError>
-        requires table { seat.table ≡ K.table }
+        requires table { seat.table ≡ K.heap.table }
+        requires honest { seat.view.honest ≡ K.heap.honest }
         requires new { IsNew number seat.view }
         requires few { number < MOST_MUTATORS }
-        ensures { IfOk result (λ m. m ≡ newcomer K.table number seat.view.honest) }
+        requires one { number < K.heap.mutators }
+        ensures { IfOk result (λ m. m ≡ newcomer K.heap.table number K.heap.honest) }
     {
         let own = Own::new(alloc, seat, number)?;
         Ok(Mutator { own, lock })
@@ -57,7 +59,7 @@ impl<K: HeapName, D: Device + Drop> Mutator<K, D> {
     #[inline(always)]
     pub(crate) fn of(own: Own<K, D>, lock: Lock<K, D>) -> Mutator<K, D>
         requires closed { own.opened ≡ false }
-        requires table { own.table ≡ K.table }
+        requires of { IsOf K.heap own }
         ensures { result ≡ own }
     {
         Mutator { own, lock }
@@ -68,7 +70,7 @@ impl<K: HeapName, D: Device + Drop> Mutator<K, D> {
     pub fn keeps_law(&self)
         ensures law { MineLaw self.now }
         ensures closed { self.now.opened ≡ false }
-        ensures table { self.now.table ≡ K.table }
+        ensures of { IsOf K.heap self.now }
     {
         self.own.keeps_law();
     }
@@ -80,9 +82,9 @@ impl<K: HeapName, D: Device + Drop> Mutator<K, D> {
     /// Nothing has changed then.
     pub fn alloc<R: Wait>(&mut self, rt: &R, len: u16, ds: u8) -> Result<u16, Refused>
         ensures refused { IfErr result (λ why. IsNoObject len why × (self.new ≡ self.old)) }
-        ensures had { IfOk result (λ p. BookHad D K.table (HasRoom self.old.number len p)) }
-        ensures none { result ≡ Err NoPointer → BookHad D K.table (NoneFree self.old.number) }
-        ensures full { result ≡ Err NoRoom → BookHad D K.table (LacksRoom self.old.number len) }
+        ensures had { IfOk result (λ p. BookHad D K.heap (HasRoom self.old.number len p)) }
+        ensures none { result ≡ Err NoPointer → BookHad D K.heap (NoneFree self.old.number) }
+        ensures full { result ≡ Err NoRoom → BookHad D K.heap (LacksRoom self.old.number len) }
         ensures made { IfOk result (λ p. (is_length len ≡ true) × (owns self.old p ≡ true) × (uses self.old p ≡ false) × (self.new ≡ adopting p len ds self.old)) }
     {
         under_lock::alloc(rt, &self.lock, &mut self.own, len, ds)

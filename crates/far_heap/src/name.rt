@@ -1,16 +1,16 @@
-// Names of tables.
+// Names of heaps.
 use std::marker::Brand;
 
-/// Names one table of shared words. The heap's lock and its mutators carry one name, so that they are of one table. Whoever begins a heap
-/// is a function over the name, called with `std::marker::Brand`, and writes it once: `Heap::<K, _>::new`.
+/// Names one heap: its table of shared words, its size, and whether its far side is honest. The heap's lock and its mutators carry one name, so that
+/// they are of one heap. Whoever begins a heap is a function over the name, called with `std::marker::Brand`, and writes it once: `Heap::<K, _>::new`.
 pub trait HeapName {
-    ghost use Rattle.atomic_table.specs.Seated.{TableId};
+    ghost use Rattle.far_heap.specs.HeapId.{HeapId};
 
-    ghost table: { TableId };
+    ghost heap: { HeapId };
 }
 
 impl HeapName for Brand {
-    ghost use Rattle.far_heap.specs.Mine.{no_table};
+    ghost use Rattle.far_heap.specs.HeapId.{no_heap};
 
-    ghost table = { no_table };
+    ghost heap = { no_heap };
 }

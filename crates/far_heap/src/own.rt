@@ -40,7 +40,7 @@ impl<K: HeapName, D: Device> Model for Own<K, D> {
 
     ghost view = { λ o. mine_of o.seat };
 
-    ghost invariant = { λ o. OwnOk o.seat K.table o.number o.lens.items o.stamps.items o.scope };
+    ghost invariant = { λ o. OwnOk o.seat K.heap.table o.number o.lens.items o.stamps.items o.scope };
 }
 
 // The length and the data structure of the object that a word names, 0 where it names none.
@@ -84,10 +84,10 @@ fn next_scope(stamps: &mut Vec<u64>, scope: u64) -> u64
 impl<K: HeapName, D: Device> Own<K, D> {
     // A mutator of a seat of a new heap, whose tables are made here.
     pub(crate) fn new(alloc: Global, seat: MutSeat<D>, number: u8) -> Result<Own<K, D>, AllocError>
-        requires table { seat.table ≡ K.table }
+        requires table { seat.table ≡ K.heap.table }
         requires new { IsNew number seat.view }
         requires few { number < MOST_MUTATORS }
-        ensures { IfOk result (λ own. own ≡ newcomer K.table number seat.view.honest) }
+        ensures { IfOk result (λ own. own ≡ newcomer K.heap.table number seat.view.honest) }
     {
         let lens = vec![in alloc; 0; CELLS as usize]?;
         let stamps = vec![in alloc; 0; CELLS as usize]?;

@@ -3,10 +3,10 @@ ghost use Rattle.std.specs.Prelude.{◌≡◌, ◌⊎◌, ◌+◌, ◌<◌, ◌�
 ghost use Rattle.far_heap.specs.Made.{IsFoundSlow, Pinned};
 ghost use Rattle.far_heap.specs.MineLaw.{MineLaw};
 ghost use Rattle.far_heap.specs.declared.view.Tried.{Tried as any_tried};
-ghost use Rattle.far_heap.specs.Mine.{Asks, AsksToView, IsNoObject, IsNoView, TriedSo, access_refusal, adopting, bytes_in, closing, drop_refusal, dropping, is_length, len_in, owns, uses, view_of, viewing, views, writing};
-ghost use Rattle.far_heap.specs.NoObject.{BookHad, HasRoom, LacksRoom, NoneFree};
+ghost use Rattle.far_heap.specs.Mine.{Asks, AsksToView, IsNoObject, IsNoView, IsOf, TriedSo, access_refusal, adopting, bytes_in, closing, drop_refusal, dropping, is_length, len_in, owns, uses, view_of, viewing, views, writing};
+ghost use Rattle.far_heap.specs.BookHad.{BookHad, HasRoom, LacksRoom, NoneFree, Unbrought};
 ghost use Rattle.far_word.specs.declared.refused.Refused.{Refused as any_refusal};
-ghost use Rattle.far_word.specs.declared.refused.Refused.TheVariants.{NoPointer, NoRoom};
+ghost use Rattle.far_word.specs.declared.refused.Refused.TheVariants.{Damaged, NoPointer, NoRoom};
 ghost use Rattle.far_word.specs.declared.sizes.TheConstants.{LONGEST};
 
 use crate::heap::Lock;
@@ -30,20 +30,20 @@ pub struct Scope<K: HeapName, D: Device + Drop> {
 
 impl<K: HeapName, D: Device + Drop> Model for Scope<K, D> {
     ghost use Rattle.std.specs.Prelude.{◌≡◌, true};
-    ghost use Rattle.far_heap.specs.Mine.{Mine};
+    ghost use Rattle.far_heap.specs.Mine.{IsOf, Mine};
 
     ghost Value = { Mine };
 
     ghost view = { λ s. s.own };
 
-    ghost invariant = { λ s. (s.own.opened ≡ true) × (s.own.table ≡ K.table) };
+    ghost invariant = { λ s. (s.own.opened ≡ true) × IsOf K.heap s.own };
 }
 
 impl<K: HeapName, D: Device + Drop> Scope<K, D> {
     #[inline(always)]
     pub(crate) fn of(own: Own<K, D>, lock: Lock<K, D>) -> Scope<K, D>
         requires opened { own.opened ≡ true }
-        requires table { own.table ≡ K.table }
+        requires of { IsOf K.heap own }
         ensures { result ≡ own }
     {
         Scope { own, lock }
@@ -54,7 +54,7 @@ impl<K: HeapName, D: Device + Drop> Scope<K, D> {
     pub fn keeps_law(&self)
         ensures law { MineLaw self.now }
         ensures opened { self.now.opened ≡ true }
-        ensures table { self.now.table ≡ K.table }
+        ensures of { IsOf K.heap self.now }
     {
         self.own.keeps_law();
     }
@@ -62,9 +62,9 @@ impl<K: HeapName, D: Device + Drop> Scope<K, D> {
     /// Makes a new object, as [`Mutator::alloc`] does. The scope doesn't view it yet.
     pub fn alloc<R: Wait>(&mut self, rt: &R, len: u16, ds: u8) -> Result<u16, Refused>
         ensures refused { IfErr result (λ why. IsNoObject len why × (self.new ≡ self.old)) }
-        ensures had { IfOk result (λ p. BookHad D K.table (HasRoom self.old.number len p)) }
-        ensures none { result ≡ Err NoPointer → BookHad D K.table (NoneFree self.old.number) }
-        ensures full { result ≡ Err NoRoom → BookHad D K.table (LacksRoom self.old.number len) }
+        ensures had { IfOk result (λ p. BookHad D K.heap (HasRoom self.old.number len p)) }
+        ensures none { result ≡ Err NoPointer → BookHad D K.heap (NoneFree self.old.number) }
+        ensures full { result ≡ Err NoRoom → BookHad D K.heap (LacksRoom self.old.number len) }
         ensures made { IfOk result (λ p. (is_length len ≡ true) × (owns self.old p ≡ true) × (uses self.old p ≡ false) × (self.new ≡ adopting p len ds self.old)) }
     {
         under_lock::alloc(rt, &self.lock, &mut self.own, len, ds)
@@ -94,14 +94,16 @@ impl<K: HeapName, D: Device + Drop> Scope<K, D> {
     /// Dereferences a pointer. As [`Scope::try_view`] where that views it; else it takes the lock, and has the object brought where it can be viewed: a far
     /// one is fetched, and one that a round wants is moved to another log.
     ///
-    /// Refused [`Refused::NotHeld`] exactly where this mutator doesn't use the pointer; and, never where the scope views it already, [`Refused::NoRoom`],
-    /// and [`Refused::Memory`], [`Refused::Device`] or [`Refused::Damaged`] as the device is. The scope views what it did then. MOVE may have been set
-    /// anew in the cell of an object that isn't viewed yet, by no other call, and only where one pin, before all else, found a word on which no view
-    /// may rest.
+    /// Refused [`Refused::NotHeld`] exactly where this mutator doesn't use the pointer; and, never where the scope views it already, [`Refused::NoRoom`]
+    /// only where, as the lock was held, there was no room for it where it was to come; where there was, [`Refused::Memory`] or [`Refused::Device`] as
+    /// the device is, and [`Refused::Damaged`] only where the far side isn't honest. The scope views what it did then. MOVE may have been set anew in the
+    /// cell of an object that isn't viewed yet, by no other call, and only where one pin, before all else, found a word on which no view may rest.
     #[inline(always)]
     pub fn view<R: Wait>(&mut self, rt: &R, p: u16) -> Result<View, Refused>
         ensures refused { IfErr result (λ why. IsNoView self.old p why × Asks p self.old self.new) }
         ensures viewed { IfOk result (λ view. (uses self.old p ≡ true) × (view ≡ view_of p self.old) × AsksToView p self.old self.new) }
+        ensures cause { uses self.old p ≡ true → IfErr result (λ why. BookHad D K.heap (Unbrought p why)) }
+        ensures damaged { result ≡ Err Damaged → self.old.honest ≡ false }
         ensures again { views self.old p ≡ true → (result ≡ Ok (view_of p self.old)) × (self.new ≡ self.old) }
         ensures quick { views self.old p ≡ false → IfOk result (λ _. (self.new ≡ viewing p self.old) ⊎ IsFoundSlow p self.old) }
         ensures slow { uses self.old p ≡ true → IfErr result (λ _. IsFoundSlow p self.old) }

@@ -1,7 +1,7 @@
 // What a mutator does with the lock.
 ghost use Rattle.std.specs.Prelude.{◌≡◌, ◌⊎◌, ◌/◌, ◌<◌, ◌≤◌, true, false, Ok, Err, Some, None, IfOk, IfErr};
 ghost use Rattle.far_heap.specs.Mine.{Asks, AsksToView, IsNoObject, IsUnbrought, Mine, TriedSo, adopting, drop_refusal, dropping, is_length, owns, uses, view_of, viewing, views};
-ghost use Rattle.far_heap.specs.NoObject.{BookHad, HasRoom, LacksRoom, NoneFree};
+ghost use Rattle.far_heap.specs.BookHad.{BookHad, HasRoom, LacksRoom, NoneFree, Unbrought};
 ghost use Rattle.far_word.specs.declared.refused.Refused.{Refused as any_refusal};
 ghost use Rattle.far_word.specs.declared.refused.Refused.TheVariants.{NoPointer, NoRoom};
 ghost use Rattle.far_word.specs.declared.sizes.TheConstants.{CELLS, LONGEST};
@@ -23,13 +23,14 @@ fn place<K: HeapName, D: Device + Drop, R: Wait>(
     len: u16,
     ds: u8,
 ) -> Result<u16, Refused>
+    requires one { owner < K.heap.mutators }
     requires some { 0 < len }
     requires most { len ≤ LONGEST }
     ensures own { IfOk result (λ p. p / CELLS ≡ owner) }
     ensures refused { IfErr result (λ why. (why ≡ NoPointer) ⊎ (why ≡ NoRoom)) }
-    ensures had { IfOk result (λ p. BookHad D K.table (HasRoom owner len p)) }
-    ensures none { result ≡ Err NoPointer → BookHad D K.table (NoneFree owner) }
-    ensures full { result ≡ Err NoRoom → BookHad D K.table (LacksRoom owner len) }
+    ensures had { IfOk result (λ p. BookHad D K.heap (HasRoom owner len p)) }
+    ensures none { result ≡ Err NoPointer → BookHad D K.heap (NoneFree owner) }
+    ensures full { result ≡ Err NoRoom → BookHad D K.heap (LacksRoom owner len) }
 {
     let mut guard = lock.lock(rt);
     let book = &mut *guard;
@@ -45,10 +46,11 @@ pub(crate) fn alloc<K: HeapName, D: Device + Drop, R: Wait>(
     len: u16,
     ds: u8,
 ) -> Result<u16, Refused>
+    requires one { own.old.number < K.heap.mutators }
     ensures refused { IfErr result (λ why. IsNoObject len why × (own.new ≡ own.old)) }
-    ensures had { IfOk result (λ p. BookHad D K.table (HasRoom own.old.number len p)) }
-    ensures none { result ≡ Err NoPointer → BookHad D K.table (NoneFree own.old.number) }
-    ensures full { result ≡ Err NoRoom → BookHad D K.table (LacksRoom own.old.number len) }
+    ensures had { IfOk result (λ p. BookHad D K.heap (HasRoom own.old.number len p)) }
+    ensures none { result ≡ Err NoPointer → BookHad D K.heap (NoneFree own.old.number) }
+    ensures full { result ≡ Err NoRoom → BookHad D K.heap (LacksRoom own.old.number len) }
     ensures made { IfOk result (λ p. (is_length len ≡ true) × (owns own.old p ≡ true) × (uses own.old p ≡ false) × (own.new ≡ adopting p len ds own.old)) }
 {
     if len == 0 || len > LONGEST {
@@ -74,6 +76,7 @@ pub(crate) fn drop_object<K: HeapName, D: Device + Drop, R: Wait>(
     own: &mut Own<K, D>,
     p: u16,
 ) -> Result<(), Refused>
+    requires one { own.old.number < K.heap.mutators }
     ensures refused { IfErr result (λ why. (drop_refusal own.old p ≡ Some why) × (own.new ≡ own.old)) }
     ensures dropped { IfOk result (λ _. (drop_refusal own.old p ≡ None) × (own.new ≡ dropping p own.old)) }
 {
@@ -96,10 +99,12 @@ pub(crate) fn view<K: HeapName, D: Device + Drop, R: Wait>(
     own: &mut Own<K, D>,
     p: u16,
 ) -> Result<View, Refused>
+    requires one { own.old.number < K.heap.mutators }
     requires opened { own.old.opened ≡ true }
     requires used { uses own.old p ≡ true }
     requires unviewed { views own.old p ≡ false }
     ensures refused { IfErr result (λ why. IsUnbrought why × Asks p own.old own.new) }
+    ensures cause { IfErr result (λ why. BookHad D K.heap (Unbrought p why)) }
     ensures viewed { IfOk result (λ view. (view ≡ view_of p own.old) × AsksToView p own.old own.new) }
 {
     for _ in rt.forever() {
@@ -118,10 +123,12 @@ fn bring<K: HeapName, D: Device + Drop>(
     own: &mut Own<K, D>,
     p: u16,
 ) -> Result<Tried, Refused>
+    requires one { own.old.number < K.heap.mutators }
     requires opened { own.old.opened ≡ true }
     requires used { uses own.old p ≡ true }
     requires unviewed { views own.old p ≡ false }
     ensures refused { IfErr result (λ why. IsUnbrought why × Asks p own.old own.new) }
+    ensures cause { IfErr result (λ why. BookHad D K.heap (Unbrought p why)) }
     ensures tried { IfOk result (λ tried. (m : Mine) × Asks p own.old m × TriedSo p m tried own.new) }
 {
     if let Err(why) = fetch_or_move(book, own, p) {
@@ -140,9 +147,11 @@ fn fetch_or_move<K: HeapName, D: Device + Drop>(
     own: &mut Own<K, D>,
     p: u16,
 ) -> Result<(), Refused>
+    requires one { own.old.number < K.heap.mutators }
     requires used { uses own.old p ≡ true }
     requires unviewed { views own.old p ≡ false }
     ensures refused { IfErr result IsUnbrought }
+    ensures cause { IfErr result (λ why. BookHad D K.heap (Unbrought p why)) }
     ensures asks { Asks p own.old own.new }
 {
     match book.fetch_far(p) {

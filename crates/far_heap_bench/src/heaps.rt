@@ -13,7 +13,7 @@ pub(crate) type Made<K> = (Heap<K, MemDevice>, Vec<Mutator<K, MemDevice>>);
 
 /// A heap, with its mutators by number.
 pub(crate) fn made<K: HeapName>(alloc: Global, blank: Blank<MemDevice>) -> Result<Made<K>, Trouble>
-    requires { blank.table ≡ K.table }
+    requires { blank.heap ≡ K.heap }
 {
     match Heap::<K, MemDevice>::new(alloc, blank) {
         Ok(made) => Ok(made),

@@ -30,7 +30,7 @@ fn sum_of<K: HeapName + Send + Sync, R: Threads + Wait + Sync>(
     blank: Blank<MemDevice>,
     task: Task,
 ) -> Result<u64, Trouble>
-    requires { blank.table ≡ K.table }
+    requires { blank.heap ≡ K.heap }
 {
     let (heap, mutators) = heaps::made::<K>(alloc, blank)?;
     if let Work::Scale(_) = task.work {

@@ -121,7 +121,7 @@ fn beside<K: HeapName + Send + Sync, R: Threads + Wait + Sync>(
     blank: Blank<MemDevice>,
     asked: Asked,
 ) -> Option<Counts>
-    requires { blank.table ≡ K.table }
+    requires { blank.heap ≡ K.heap }
 {
     let Ok((heap, mutators)) = Heap::<K, MemDevice>::new(alloc, blank) else {
         return None;

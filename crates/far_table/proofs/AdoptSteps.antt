@@ -109,7 +109,7 @@ module _ (ws : List ℕ) (b : BookView) (os : List OwnerView) (f : Facts ws b os
   free : held_at o p ≡ None
   free = sym (known_by os m o o at held_at p own) ∙ not_held (s.held p) (s.used p) (f.law.views.held_used p) unused_so
 
-  adopt_step : in_use (read_of (cell_in ws p)) ≡ true → OwnStep ws b os o (Adopt m p) (Word (cell_in ws p)) ws (adopted_view p (cell_in ws p) o)
+  pub adopt_step : in_use (read_of (cell_in ws p)) ≡ true → OwnStep ws b os o (Adopt m p) (Word (cell_in ws p)) ws (adopted_view p (cell_in ws p) o)
   adopt_step used =
       let c : ℕ = cell_in ws p in
       let w : OwnerView = adopted_view p c o in
@@ -133,6 +133,7 @@ module _ (ws : List ℕ) (b : BookView) (os : List OwnerView) (f : Facts ws b os
               (λ ne. has_on s (after s (Adopt m p)) q x (ap (λ (z : World). z.object q) (does s (Adopt m p) f.law tt legal)) refl
               (ties.objects q x mine (sym (put_other (object_at o) p (Some (fresh c)) q ne) ∙ h)));
           asks = ties.asks;
+          drops = ties.drops;
         };
       }
 

@@ -1,6 +1,6 @@
 -- A request of an owner, for MOVE or DROP, is its event of the core.
 use Rattle.std.proofs.Common.{◌≡◌, ◌+◌, ◌/◌, ◌<◌, ◌^◌, ℕ, Bool, true, false, cond, bit_or, List, set, sym, refl, ap, ◌∙◌, subst, arith, Option, Some, None}
-use Rattle.std.specs.Prelude.{slice_index, is_some}
+use Rattle.std.specs.Prelude.{slice_index, is_some, not}
 use Rattle.std.proofs.lemmas.Bool.{false≢true}
 use mathlib.Core.Logic.{dite}
 use mathlib.Core.Option.{some, none}
@@ -19,6 +19,7 @@ use Rattle.far_core.specs.declared.event.Event.TheVariants.{Ask}
 use Rattle.far_core.specs.declared.event.Reply.TheVariants.{Word}
 use Rattle.far_core.specs.events.Ask.{is_request}
 use Rattle.far_core.specs.events.Legal.{Legal}
+use Rattle.far_core.specs.events.Naming.{is_dropped}
 use Rattle.far_core.specs.events.Quiet.{has_move}
 use Rattle.far_core.specs.events.Step.{after}
 use Rattle.far_core.specs.state.Law.{in_use}
@@ -33,9 +34,9 @@ use Rattle.far_table.specs.View.{BookView, ObjectView, OwnerView, View, Owner}
 use Rattle.far_table.specs.Layout.{cell_at, cell_in}
 use Rattle.far_table.specs.Plays.{Asked}
 use Rattle.far_table.specs.Rule.{Facts, Running}
-use Rattle.far_table.specs.StateOf.{state_of, taken_at}
+use Rattle.far_table.specs.StateOf.{retired_at, state_of, taken_at}
 use Rattle.far_table.specs.Tells.{Tells, owner_of}
-use Rattle.far_table.specs.Views.{asked_at, asked_view, held_at, moves, object_at, uses}
+use Rattle.far_table.specs.Views.{asked_at, asked_view, dropped_at, drops, held_at, moves, object_at, uses}
 use Rattle.far_table.proofs.Lift.{owner_makes}
 use Rattle.far_table.proofs.Owners.{known_by, pointers_put, pointers_same, remembered_same}
 use Rattle.far_table.proofs.OwnSteps.{OwnStep, has_on, is_mutator, jobs_stay, state_is}
@@ -58,6 +59,29 @@ dropped_moves None = refl
 dropped_moves (Some Free) = refl
 dropped_moves (Some (Near len ds place m)) = refl
 dropped_moves (Some (Far len ds m)) = refl
+
+moved_drops : (x : Option PtrWord) → is_dropped (map_mark Moved x) ≡ is_dropped x
+moved_drops None = refl
+moved_drops (Some Free) = refl
+moved_drops (Some (Near len ds place m)) = refl
+moved_drops (Some (Far len ds m)) = refl
+
+-- what is in use hasn't DROP, until it gets it
+by_not : (t : Bool) → not t ≡ true → t ≡ false
+by_not true u = absurd (false≢true u)
+by_not false u = refl
+
+undropped : (x : Option PtrWord) → in_use x ≡ true → is_dropped x ≡ false
+undropped None u = absurd (false≢true u)
+undropped (Some Free) u = absurd (false≢true u)
+undropped (Some (Near len ds place m)) u = by_not m.dropped u
+undropped (Some (Far len ds m)) u = by_not m.dropped u
+
+dropped_now : (x : Option PtrWord) → in_use x ≡ true → is_dropped (map_mark Dropped x) ≡ true
+dropped_now None u = absurd (false≢true u)
+dropped_now (Some Free) u = absurd (false≢true u)
+dropped_now (Some (Near len ds place m)) u = refl
+dropped_now (Some (Far len ds m)) u = refl
 
 module _ (ws : List ℕ) (b : BookView) (os : List OwnerView) (f : Facts ws b os) (o : OwnerView) (at : get_elem? os o.number ≡ some o)
     (p : ℕ) (small : p < POINTERS) (own : p / CELLS ≡ o.number) (used : uses o p ≡ true) (free : held_at o p ≡ None) where
@@ -105,6 +129,8 @@ module _ (ws : List ℕ) (b : BookView) (os : List OwnerView) (f : Facts ws b os
               let sum : n ≡ taken_at b p + moves new = omega arith in
               sum ∙ (ap (λ z. taken_at b z + moves new) (sym e) ∙ ap (λ v. taken_at b q + moves v) (sym (put_same s.cell p new q e)))))
               (λ ne. put_other (asked_at o) p n q ne ∙ (ties.asks q mine ∙ ap (λ v. taken_at b q + moves v) (sym (put_other s.cell p new q ne))));
+          drops = λ q mine. ties.drops q mine ∙ ap (λ v. retired_at b q + v) (sym (put_both (λ v. drops v ≡ drops (s.cell q)) s.cell p new q
+              (λ e. ap (λ t. cond t 1 0) (ap is_dropped move_read ∙ moved_drops (read_of c)) ∙ ap (λ z. drops (s.cell z)) (sym e)) (λ _. refl)));
         };
       }
 
@@ -112,6 +138,7 @@ module _ (ws : List ℕ) (b : BookView) (os : List OwnerView) (f : Facts ws b os
   drop_step =
       let w : OwnerView = asked_view p Dropped c o in
       let new : ℕ = bit_or c (2 ^ position Dropped) in
+      let n : ℕ = dropped_at o p + 1 in
       let ties = f.owners m o at in
       let gone = does s (Ask m p Dropped) f.law tt (legal Dropped refl) in record {
         legal = legal Dropped refl;
@@ -132,10 +159,17 @@ module _ (ws : List ℕ) (b : BookView) (os : List OwnerView) (f : Facts ws b os
               (ties.objects q x mine (sym (put_other (object_at o) p None q ne) ∙ h)));
           asks = λ q mine. ties.asks q mine ∙ ap (λ v. taken_at b q + v) (sym (put_both (λ v. moves v ≡ moves (s.cell q)) s.cell p new q
               (λ e. ap (λ t. cond t 1 0) (ap has_move drop_read ∙ dropped_moves (read_of c)) ∙ ap (λ z. moves (s.cell z)) (sym e)) (λ _. refl)));
+          drops = λ q mine. dite (ℕ_discrete q p)
+              (λ e. put_same (dropped_at o) p n q e ∙ (let old : dropped_at o p ≡ retired_at b p + drops c = ties.drops p own in
+              let none : drops c ≡ 0 = ap (λ t. cond t 1 0) (undropped (read_of c) (f.law.views.used_cell p used_so)) in
+              let one : drops new ≡ 1 = ap (λ t. cond t 1 0) (ap is_dropped drop_read ∙ dropped_now (read_of c) (f.law.views.used_cell p used_so)) in
+              let sum : n ≡ retired_at b p + drops new = omega arith in
+              sum ∙ (ap (λ z. retired_at b z + drops new) (sym e) ∙ ap (λ v. retired_at b q + drops v) (sym (put_same s.cell p new q e)))))
+              (λ ne. put_other (dropped_at o) p n q ne ∙ (ties.drops q mine ∙ ap (λ v. retired_at b q + drops v) (sym (put_other s.cell p new q ne))));
         };
       }
 
-  ask_step : (k : Mark) → is_request k ≡ true → OwnStep ws b os o (Ask m p k) (Word c) (set ws (cell_at p) (bit_or c (2 ^ position k))) (asked_view p k c o)
+  pub ask_step : (k : Mark) → is_request k ≡ true → OwnStep ws b os o (Ask m p k) (Word c) (set ws (cell_at p) (bit_or c (2 ^ position k))) (asked_view p k c o)
   ask_step Hot asks = absurd (false≢true asks)
   ask_step Evac asks = absurd (false≢true asks)
   ask_step Moved asks = move_step

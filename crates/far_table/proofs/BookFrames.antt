@@ -13,13 +13,13 @@ use Rattle.far_hand.proofs.Making.{legal_made}
 use Rattle.far_table.specs.View.{BookView, OwnerView}
 use Rattle.far_table.specs.Layout.{TABLE_WORDS, JOBS, cell_in, job_in, scope_in}
 use Rattle.far_table.specs.Rule.{BookTies, Facts, OwnerTies}
-use Rattle.far_table.specs.StateOf.{state_of, taken_at}
-use Rattle.far_table.specs.BookTells.{BookMade}
-use Rattle.far_table.specs.Views.{moves}
+use Rattle.far_table.specs.StateOf.{retired_at, state_of, taken_at}
+use Rattle.far_table.specs.BookTells.{BookMade, retired_by, taken_by}
+use Rattle.far_table.specs.Views.{drops, moves}
 use Rattle.far_table.proofs.BookObjects.{has_after}
 
 -- what a kind of step owes: its event is legal, with this answer; the words and the view after are the core's state; the book's own ties, of a state under the law; and of the owners that their
--- scope words stay, and that MOVE is counted
+-- scope words stay, and that MOVE and DROP are counted
 pub record BookStep (ws : List ℕ) (b : BookView) (os : List OwnerView) (e : Event) (r : Reply) (later : List ℕ) (b' : BookView) : Type 0 where
   pub legal : Legal (state_of ws b os) e
   pub says : r ≡ answer (state_of ws b os) e
@@ -31,7 +31,8 @@ pub record BookStep (ws : List ℕ) (b : BookView) (os : List OwnerView) (e : Ev
   pub honest : b'.honest ≡ b.honest
   pub rest : b'.rest ≡ b.rest
   pub scopes : scope_in later ≡ scope_in ws
-  pub counts : (p : ℕ) → taken_at b p + moves (cell_in ws p) ≡ taken_at b' p + moves (cell_in later p)
+  pub counts : (p : ℕ) → (taken_at b p + moves (cell_in ws p) ≡ taken_at b' p + moves (cell_in later p)) × (retired_at b p + drops (cell_in ws p) ≡ retired_at b' p + drops (cell_in later p))
+  pub told : (p : ℕ) → (taken_at b' p ≡ taken_by e r p (taken_at b p)) × (retired_at b' p ≡ retired_by e r p (retired_at b p))
 
 module _ (ws : List ℕ) (b : BookView) (os : List OwnerView) (f : Facts ws b os) (e : Event) (own : is_owners e ≡ false) (fits : Fits e) (r : Reply) (later : List ℕ) (b' : BookView)
     (k : BookStep ws b os e r later b') where
@@ -50,7 +51,8 @@ module _ (ws : List ℕ) (b : BookView) (os : List OwnerView) (f : Facts ws b os
     honest = ties.honest ∙ sym k.honest;
     scope = ap (λ f. f m) k.scopes ∙ ties.scope;
     objects = λ p x mine h. has_after s e own f.law fits k.legal t k.becomes k.honest p x (ties.objects p x mine h);
-    asks = λ p mine. ties.asks p mine ∙ k.counts p;
+    asks = λ p mine. ties.asks p mine ∙ (k.counts p).0;
+    drops = λ p mine. ties.drops p mine ∙ (k.counts p).1;
   }
 
   pub book_facts : Facts later b' os
@@ -74,5 +76,7 @@ module _ (ws : List ℕ) (b : BookView) (os : List OwnerView) (f : Facts ws b os
     later = later;
     becomes = k.becomes;
     keeps = book_facts;
+    taken = λ p. (k.told p).0;
+    retired = λ p. (k.told p).1;
     call = legal_made s t e r k.legal (sym k.becomes) (sym k.says);
   }

@@ -11,6 +11,7 @@ use Rattle.far_word.proofs.PointerLaws.{with_mark_read}
 use Rattle.far_core.specs.declared.event.Event.TheVariants.{See, Mark}
 use Rattle.far_core.specs.declared.event.Reply.TheVariants.{Word}
 use Rattle.far_core.specs.events.Legal.{Legal}
+use Rattle.far_core.specs.events.Naming.{is_dropped}
 use Rattle.far_core.specs.events.Quiet.{has_move}
 use Rattle.far_core.specs.state.State.{State, put}
 use Rattle.far_core.proofs.Put.{put_both}
@@ -25,8 +26,8 @@ use Rattle.far_table.specs.BookViews.{marked_view, saw_view}
 use Rattle.far_table.specs.Layout.{JOBS, cell_at, cell_in, epoch_in, job_in, scope_in, word_in}
 use Rattle.far_table.specs.Rule.{Facts, Running}
 use Rattle.far_table.specs.Stands.{IsPlain, book_of}
-use Rattle.far_table.specs.StateOf.{book_state, known_word, state_of, taken_at}
-use Rattle.far_table.specs.Views.{moves}
+use Rattle.far_table.specs.StateOf.{book_state, known_word, retired_at, state_of, taken_at}
+use Rattle.far_table.specs.Views.{drops, moves}
 use Rattle.far_table.proofs.BookFrames.{BookStep}
 use Rattle.far_table.proofs.BookLift.{book_makes, book_reads}
 use Rattle.far_table.proofs.Masks.{counts, counts_quiet, epoch_is, finds, ties, words_are}
@@ -54,10 +55,14 @@ module _ (ws : List ℕ) (b : BookView) (os : List OwnerView) (f : Facts ws b os
   pub words_after : IsPlain b → known_word b ≡ masked_word (word_in later) (book_state b).starts (counts b)
   words_after plain = words_are ws b os f plain ∙ ap (λ v. masked_word v (book_state b).starts (counts b)) (sym cell_after.word_is)
 
-  -- it has MOVE where the cell had
-  pub counts_after : moves w ≡ moves (cell_in ws p) → (q : ℕ) → taken_at b q + moves (cell_in ws q) ≡ taken_at b q + moves (cell_in later q)
-  counts_after same q = ap (λ v. taken_at b q + v) (sym (ap (λ c. moves (c q)) cell_after.cell_is ∙ put_both (λ v. moves v ≡ moves (cell_in ws q)) (cell_in ws) p w q
-      (λ e. same ∙ ap (λ z. moves (cell_in ws z)) (sym e)) (λ _. refl)))
+  -- it has a mark where the cell had
+  stays : (count : ℕ → ℕ) → count w ≡ count (cell_in ws p) → (n q : ℕ) → n + count (cell_in ws q) ≡ n + count (cell_in later q)
+  stays count same n q = ap (λ v. n + v) (sym (ap (λ c. count (c q)) cell_after.cell_is ∙ put_both (λ v. count v ≡ count (cell_in ws q)) (cell_in ws) p w q
+      (λ e. same ∙ ap (λ z. count (cell_in ws z)) (sym e)) (λ _. refl)))
+
+  pub counts_after : (moves w ≡ moves (cell_in ws p)) × (drops w ≡ drops (cell_in ws p)) → (q : ℕ) →
+      (taken_at b q + moves (cell_in ws q) ≡ taken_at b q + moves (cell_in later q)) × (retired_at b q + drops (cell_in ws q) ≡ retired_at b q + drops (cell_in later q))
+  counts_after same q = (stays moves same.0 (taken_at b q) q, stays drops same.1 (retired_at b q) q)
 
 pub cells_few : (ws : List ℕ) (b : BookView) (os : List OwnerView) → Facts ws b os → (p : ℕ) → p < CELLS * b.mutators → p < POINTERS
 cells_few ws b os f p low = let most = f.law.shape.few_mutators in omega arith
@@ -85,7 +90,8 @@ module _ (ws : List ℕ) (b : BookView) (os : List OwnerView) (f : Facts ws b os
     honest = refl;
     rest = refl;
     scopes = refl;
-    counts = λ _. refl;
+    counts = λ _. (refl, refl);
+    told = λ _. (refl, refl);
   }
 
   module _ (h : Legal o (Mark p)) where
@@ -98,9 +104,11 @@ module _ (ws : List ℕ) (b : BookView) (os : List OwnerView) (f : Facts ws b os
     few : p < POINTERS
     few = cells_few ws b os f p h.0
 
-    same_moves : moves w ≡ moves n
-    same_moves = let near = legal.1 in
-        ap (λ x. cond (has_move x) 1 0) (with_mark_read Evac n (Near near.0 near.1 near.2 near.3) (f.law.cells.cell_read p).0 near.4 refl) ∙ sym (ap (λ x. cond (has_move x) 1 0) near.4)
+    same_marks : (moves w ≡ moves n) × (drops w ≡ drops n)
+    same_marks =
+        let near = legal.1 in
+        let read = with_mark_read Evac n (Near near.0 near.1 near.2 near.3) (f.law.cells.cell_read p).0 near.4 refl in
+        (ap (λ x. cond (has_move x) 1 0) read ∙ sym (ap (λ x. cond (has_move x) 1 0) near.4), ap (λ x. cond (is_dropped x) 1 0) read ∙ sym (ap (λ x. cond (is_dropped x) 1 0) near.4))
 
     mark_step : BookStep ws b os (Mark p) (Word n) (set ws (cell_at p) w) (marked_view p n b)
     mark_step = record {
@@ -115,7 +123,8 @@ module _ (ws : List ℕ) (b : BookView) (os : List OwnerView) (f : Facts ws b os
       honest = refl;
       rest = refl;
       scopes = (cell_after ws b os f p w few).scope_is;
-      counts = counts_after ws b os f p w few same_moves;
+      counts = counts_after ws b os f p w few same_marks;
+      told = λ _. (refl, refl);
     }
 
 module _ {S : Type 0} (slots id : ℕ) (me : Me S View) (is : me.0 ≡ Book (book_of me.0)) (plain : IsPlain (book_of me.0)) (p : ℕ) where

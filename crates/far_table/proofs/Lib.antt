@@ -30,6 +30,7 @@ pub mod BookKnown
 pub mod BookRounds
 pub mod BookWords
 pub mod ViewedLogs
+pub mod OwnersAct
 pub mod WholeLogs
 pub mod WholeWords
 pub mod RowEvents

@@ -19,7 +19,7 @@ use Rattle.far_core.specs.declared.event.Reply.TheVariants.{Done, Word}
 use Rattle.far_core.specs.declared.naming.Naming.{Naming}
 use Rattle.far_core.specs.declared.naming.Naming.TheVariants.{Places, Retires, Evicts, Stays, Moves, Fetches}
 use Rattle.far_core.specs.events.Legal.{Legal}
-use Rattle.far_core.specs.events.Naming.{IsNaming, naming_of, naming_row}
+use Rattle.far_core.specs.events.Naming.{IsNaming, is_dropped, naming_of, naming_row}
 use Rattle.far_core.specs.events.Quiet.{has_move}
 use Rattle.far_core.specs.events.Step.{after}
 use Rattle.far_core.specs.state.State.{State, addr, put}
@@ -31,15 +31,15 @@ use Rattle.far_hand.proofs.Counting.{counts_none}
 use Rattle.far_hand.proofs.Naming.{legal_name, lost_state, won_state}
 use Rattle.far_table.specs.View.{BookView, OwnerView, View, Book}
 use Rattle.far_table.specs.BookPlays.{Named}
-use Rattle.far_table.specs.BookTells.{BookTells}
+use Rattle.far_table.specs.BookTells.{BookTells, retired_by, taken_by}
 use Rattle.far_table.specs.BookViews.{saw_view}
 use Rattle.far_table.specs.Layout.{cell_at, cell_in, epoch_in, scope_in, word_in}
-use Rattle.far_table.specs.NameViews.{exchange_reply, exchanged_view, form_view, formed_view, named_view, span_view, view_by}
+use Rattle.far_table.specs.NameViews.{exchange_reply, exchanged_view, form_view, formed_view, named_view, retires, span_view, view_by}
 use Rattle.far_table.specs.Rows.{over}
 use Rattle.far_table.specs.Rule.{Facts, Running}
 use Rattle.far_table.specs.Stands.{IsPlain, book_of}
-use Rattle.far_table.specs.StateOf.{book_state, head_at, head_or, held_by, known_word, remembered_by, state_of, taken_at, used_by}
-use Rattle.far_table.specs.Views.{moves}
+use Rattle.far_table.specs.StateOf.{book_state, head_at, head_or, held_by, known_word, remembered_by, retired_at, state_of, taken_at, used_by}
+use Rattle.far_table.specs.Views.{drops, moves}
 use Rattle.far_table.proofs.BookFrames.{BookStep}
 use Rattle.far_table.proofs.BookKnown.{forgets, forgotten}
 use Rattle.far_table.proofs.BookLift.{book_makes}
@@ -90,6 +90,23 @@ new_moves (Evicts len place) old new n = ap (λ x. cond (has_move x) 1 0) n.5
 new_moves Stays old new n = ap (λ x. cond (has_move x) 1 0) n.8
 new_moves (Moves len ds from to) old new n = ap (λ x. cond (has_move x) 1 0) n.1
 new_moves (Fetches len ds place) old new n = ap (λ x. cond (has_move x) 1 0) n.1
+
+-- nor DROP; and the old one has it exactly where the object is retired
+new_drops : (form : Naming) (old new : ℕ) → IsNaming form (read_of old) (read_of new) → drops new ≡ 0
+new_drops (Places len ds place) old new n = ap (λ x. cond (is_dropped x) 1 0) n.1
+new_drops Retires old new n = ap (λ x. cond (is_dropped x) 1 0) n.1
+new_drops (Evicts len place) old new n = ap (λ x. cond (is_dropped x) 1 0) n.5
+new_drops Stays old new n = ap (λ x. cond (is_dropped x) 1 0) n.8
+new_drops (Moves len ds from to) old new n = ap (λ x. cond (is_dropped x) 1 0) n.1
+new_drops (Fetches len ds place) old new n = ap (λ x. cond (is_dropped x) 1 0) n.1
+
+old_drops : (form : Naming) (old new : ℕ) → IsNaming form (read_of old) (read_of new) → drops old ≡ retires form
+old_drops (Places len ds place) old new n = ap (λ x. cond (is_dropped x) 1 0) n.0
+old_drops Retires old new n = ap (λ t. cond t 1 0) n.0
+old_drops (Evicts len place) old new n = ap (λ x. cond (is_dropped x) 1 0) n.2 ∙ ap (λ t. cond t 1 0) n.3
+old_drops Stays old new n = ap (λ x. cond (is_dropped x) 1 0) n.4 ∙ ap (λ t. cond t 1 0) n.5
+old_drops (Moves len ds from to) old new n = ap (λ x. cond (is_dropped x) 1 0) n.0.1 ∙ ap (λ t. cond t 1 0) n.0.2
+old_drops (Fetches len ds place) old new n = ap (λ x. cond (is_dropped x) 1 0) n.0.1 ∙ ap (λ t. cond t 1 0) n.0.2
 
 -- where a header stands, it is this word
 header_is : (h : Option ℕ) (w k : ℕ) → ((x : ℕ) → h ≡ Some x → w ≡ x) → is_some h ≡ true → w ≡ head_or h k
@@ -197,16 +214,34 @@ module _ (ws : List ℕ) (b : BookView) (os : List OwnerView) (f : Facts ws b os
   words_named : known_word b' ≡ masked_word (word_in later) (λ a. is_some (head_at b' a)) (λ _. false)
   words_named = forgotten b' (word_in later) (λ a st. header_is (head_at b' a) (word_in later a) (unknown a) (λ x e. ap (λ g. g a) (cell_after ws b os f p new few).word_is ∙ form_heads b p new s.word old_heads s refl form legal.1.2 a x e) st)
 
-  counts_named : cell_in ws p ≡ old → (q : ℕ) → taken_at b q + moves (cell_in ws q) ≡ taken_at b' q + moves (cell_in later q)
-  counts_named won q =
+  -- what was counted before, and once more where the old word has the mark, which the new one hasn't
+  counted : (count before : ℕ → ℕ) → count new ≡ 0 → cell_in ws p ≡ old → (q : ℕ) → before q + count (cell_in ws q) ≡ put before p (before p + count old) q + count (cell_in later q)
+  counted count before gone won q =
       let cells : cell_in later q ≡ put (cell_in ws) p new q = ap (λ g. g q) (cell_after ws b os f p new few).cell_is in
       dite (ℕ_discrete q p)
-      (λ e. let was : moves (cell_in ws q) ≡ moves old = ap moves (ap (cell_in ws) e ∙ won) in
-      let none : moves (cell_in later q) ≡ 0 = ap moves (cells ∙ put_same (cell_in ws) p new q e) ∙ new_moves form old new legal.1.1 in
-      let taken : taken_at b' q ≡ taken_at b p + moves old = put_same (taken_at b) p (taken_at b p + moves old) q e in
-      let here : taken_at b q ≡ taken_at b p = ap (taken_at b) e in omega arith)
-      (λ ne. let same : moves (cell_in later q) ≡ moves (cell_in ws q) = ap moves (cells ∙ put_other (cell_in ws) p new q ne) in
-      let taken : taken_at b' q ≡ taken_at b q = put_other (taken_at b) p (taken_at b p + moves old) q ne in omega arith)
+      (λ e. let was : count (cell_in ws q) ≡ count old = ap count (ap (cell_in ws) e ∙ won) in
+      let left : count (cell_in later q) ≡ 0 = ap count (cells ∙ put_same (cell_in ws) p new q e) ∙ gone in
+      let more : put before p (before p + count old) q ≡ before p + count old = put_same before p (before p + count old) q e in
+      let here : before q ≡ before p = ap before e in omega arith)
+      (λ ne. let same : count (cell_in later q) ≡ count (cell_in ws q) = ap count (cells ∙ put_other (cell_in ws) p new q ne) in
+      let more : put before p (before p + count old) q ≡ before q = put_other before p (before p + count old) q ne in omega arith)
+
+  drops_old : retired_at b' ≡ put (retired_at b) p (retired_at b p + drops old)
+  drops_old = ap (λ n. put (retired_at b) p (retired_at b p + n)) (sym (old_drops form old new legal.1.1))
+
+  counts_named : cell_in ws p ≡ old → (q : ℕ) → (taken_at b q + moves (cell_in ws q) ≡ taken_at b' q + moves (cell_in later q)) × (retired_at b q + drops (cell_in ws q) ≡ retired_at b' q + drops (cell_in later q))
+  counts_named won q = (
+    counted moves (taken_at b) (new_moves form old new legal.1.1) won q,
+    counted drops (retired_at b) (new_drops form old new legal.1.1) won q ∙ ap (λ g. g q + drops (cell_in later q)) (sym drops_old),
+  )
+
+  -- so says the step
+  told_named : (q : ℕ) → (taken_at b' q ≡ taken_by (Name p old new) Done q (taken_at b q)) × (retired_at b' q ≡ retired_by (Name p old new) Done q (retired_at b q))
+  told_named q = (said moves (taken_at b) q, ap (λ g. g q) drops_old ∙ said drops (retired_at b) q) where
+    said : (count before : ℕ → ℕ) (q : ℕ) → put before p (before p + count old) q ≡ cond (p == q) (before q + count old) (before q)
+    said count before q = dite (ℕ_discrete q p)
+        (λ e. put_same before p (before p + count old) q e ∙ (ap (λ z. before z + count old) (sym e) ∙ sym (ap (λ t. cond t (before q + count old) (before q)) (eq-eqb p q (sym e)))))
+        (λ ne. put_other before p (before p + count old) q ne ∙ sym (ap (λ t. cond t (before q + count old) (before q)) (ne_eqb p q (λ e. ne (sym e)))))
 
   finds_named_too : (x : Naming) → AllFind (over (formed_view p old new x b).cells (λ _. 0)) (cell_in later)
   finds_named_too x = finds_after ws b os f p new few
@@ -224,6 +259,7 @@ module _ (ws : List ℕ) (b : BookView) (os : List OwnerView) (f : Facts ws b os
     rest = sizes.2;
     scopes = (cell_after ws b os f p new few).scope_is;
     counts = counts_named won;
+    told = told_named;
   }
 
   lost_step : cell_in ws p ≢ old → BookStep ws b os (Name p old new) (Word (cell_in ws p)) ws (saw_view p (cell_in ws p) b)
@@ -238,7 +274,8 @@ module _ (ws : List ℕ) (b : BookView) (os : List OwnerView) (f : Facts ws b os
     honest = refl;
     rest = refl;
     scopes = refl;
-    counts = λ _. refl;
+    counts = λ _. (refl, refl);
+    told = λ _. (refl, refl);
   }
 
   by_test : (t : Bool) → (cell_in ws p == old) ≡ t →

@@ -19,9 +19,9 @@ use Rattle.far_hand.proofs.OwnersWork.{change}
 use Rattle.far_table.specs.View.{BookView, ObjectView, OwnerView}
 use Rattle.far_table.specs.Layout.{TABLE_WORDS, JOBS, job_at, job_in}
 use Rattle.far_table.specs.Rule.{BookTies, Facts, Has, OwnerTies}
-use Rattle.far_table.specs.StateOf.{book_state, held_by, remembered_by, state_of, taken_at, used_by}
+use Rattle.far_table.specs.StateOf.{book_state, held_by, remembered_by, retired_at, state_of, taken_at, used_by}
 use Rattle.far_table.specs.Tells.{OwnerMade}
-use Rattle.far_table.specs.Views.{asked_at, moves, object_at}
+use Rattle.far_table.specs.Views.{asked_at, dropped_at, drops, moves, object_at}
 use Rattle.far_table.proofs.BookKept.{book_on}
 use Rattle.far_table.proofs.Others.{KeepsOthers, keeps_others, maker}
 use Rattle.far_table.proofs.Places.{below}
@@ -52,18 +52,20 @@ owner_on b s t m j y keep ne ties = record {
   scope = keep.scope j ne ∙ ties.scope;
   objects = λ p x own h. has_on s t p x (keep.object p (λ e. ne (sym own ∙ e))) keep.honest (ties.objects p x own h);
   asks = λ p own. ties.asks p own ∙ ap (λ w. taken_at b p + moves w) (sym (keep.cell p (λ e. ne (sym own ∙ e))));
+  drops = λ p own. ties.drops p own ∙ ap (λ w. retired_at b p + drops w) (sym (keep.cell p (λ e. ne (sym own ∙ e))));
 }
 
 -- the ties of the owner itself, where neither an object nor a count of it changes
 pub mine_on : (b : BookView) (s t : State) (m : ℕ) (o w : OwnerView) → OwnerTies b s m o → w.number ≡ o.number → w.honest ≡ o.honest → t.honest ≡ s.honest →
-    t.scope m ≡ scope_word_of w.open_at → object_at w ≡ object_at o → asked_at w ≡ asked_at o → (world_of t).object ≡ (world_of s).object →
-    ((p : ℕ) → moves (t.cell p) ≡ moves (s.cell p)) → OwnerTies b t m w
-mine_on b s t m o w ties number honest same scope objects asked world marks = record {
+    t.scope m ≡ scope_word_of w.open_at → object_at w ≡ object_at o → asked_at w ≡ asked_at o → dropped_at w ≡ dropped_at o → (world_of t).object ≡ (world_of s).object →
+    ((p : ℕ) → (moves (t.cell p) ≡ moves (s.cell p)) × (drops (t.cell p) ≡ drops (s.cell p))) → OwnerTies b t m w
+mine_on b s t m o w ties number honest same scope objects asked dropped world marks = record {
   number = number ∙ ties.number;
   honest = honest ∙ (ties.honest ∙ sym same);
   scope = scope;
   objects = λ p x own h. has_on s t p x (ap (λ f. f p) world) same (ties.objects p x own (sym (ap (λ f. f p) objects) ∙ h));
-  asks = λ p own. ap (λ f. f p) asked ∙ (ties.asks p own ∙ ap (λ n. taken_at b p + n) (sym (marks p)));
+  asks = λ p own. ap (λ f. f p) asked ∙ (ties.asks p own ∙ ap (λ n. taken_at b p + n) (sym (marks p).0));
+  drops = λ p own. ap (λ f. f p) dropped ∙ (ties.drops p own ∙ ap (λ n. retired_at b p + n) (sym (marks p).1));
 }
 
 module _ (ws : List ℕ) (b : BookView) (os : List OwnerView) (f : Facts ws b os) where

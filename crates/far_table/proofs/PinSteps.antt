@@ -16,6 +16,7 @@ use Rattle.far_core.specs.declared.event.Event.TheVariants.{Pin}
 use Rattle.far_core.specs.events.Legal.{Legal}
 use Rattle.far_core.specs.events.Open.{scope_word_of}
 use Rattle.far_core.specs.events.Pin.{place_to_view, with_hold, pin_answer}
+use Rattle.far_core.specs.events.Naming.{is_dropped}
 use Rattle.far_core.specs.events.Quiet.{has_move}
 use Rattle.far_core.specs.events.Step.{after}
 use Rattle.far_core.specs.state.State.{State, put}
@@ -29,7 +30,7 @@ use Rattle.far_table.specs.Plays.{Pinned, Lies}
 use Rattle.far_table.specs.Rule.{Facts, Running}
 use Rattle.far_table.specs.StateOf.{held_by, state_of}
 use Rattle.far_table.specs.Tells.{Tells, owner_of}
-use Rattle.far_table.specs.Views.{asked_at, held_at, held_view, len_of, moves, object_at, pinned_view, uses, with_place}
+use Rattle.far_table.specs.Views.{asked_at, dropped_at, drops, held_at, held_view, len_of, moves, object_at, pinned_view, uses, with_place}
 use Rattle.far_table.proofs.HeldFacts.{may_hold, near_facts}
 use Rattle.far_table.proofs.Lift.{owner_makes}
 use Rattle.far_table.proofs.Others.{pin_objects}
@@ -43,6 +44,12 @@ hot_moves None = refl
 hot_moves (Some Free) = refl
 hot_moves (Some (Near len ds place m)) = refl
 hot_moves (Some (Far len ds m)) = refl
+
+hot_drops : (x : Option PtrWord) → is_dropped (map_mark Hot x) ≡ is_dropped x
+hot_drops None = refl
+hot_drops (Some Free) = refl
+hot_drops (Some (Near len ds place m)) = refl
+hot_drops (Some (Far len ds m)) = refl
 
 -- a place that is held changes nothing else of a view
 placed_same : {X : Type 0} (g : OwnerView → X) (p : ℕ) (o : OwnerView) → ((place : Place) → g (held_view p place o) ≡ g o) → (x : Option Place) → g (with_place p x o) ≡ g o
@@ -70,11 +77,15 @@ module _ (ws : List ℕ) (b : BookView) (os : List OwnerView) (f : Facts ws b os
   held_after None = pointers_same os m o o at held_at refl
   held_after (Some place) = pointers_put os m o (held_view p place o) at held_at p (Some place) own refl
 
-  marks_after : (q : ℕ) → moves (put s.cell p (bit_or c (2 ^ position Hot)) q) ≡ moves (s.cell q)
-  marks_after q = put_both (λ v. moves v ≡ moves (s.cell q)) s.cell p (bit_or c (2 ^ position Hot)) q
-      (λ e. ap (λ t. cond t 1 0) (ap has_move (hot_read s f.law p used_so) ∙ hot_moves (read_of c)) ∙ ap (λ z. moves (s.cell z)) (sym e)) (λ _. refl)
+  marks_after : (q : ℕ) → (moves (put s.cell p (bit_or c (2 ^ position Hot)) q) ≡ moves (s.cell q)) × (drops (put s.cell p (bit_or c (2 ^ position Hot)) q) ≡ drops (s.cell q))
+  marks_after q = put_both (λ v. (moves v ≡ moves (s.cell q)) × (drops v ≡ drops (s.cell q))) s.cell p (bit_or c (2 ^ position Hot)) q
+      (λ e. (
+        ap (λ t. cond t 1 0) (ap has_move (hot_read s f.law p used_so) ∙ hot_moves (read_of c)) ∙ ap (λ z. moves (s.cell z)) (sym e),
+        ap (λ t. cond t 1 0) (ap is_dropped (hot_read s f.law p used_so) ∙ hot_drops (read_of c)) ∙ ap (λ z. drops (s.cell z)) (sym e),
+      ))
+      (λ _. (refl, refl))
 
-  pin_step : OwnStep ws b os o (Pin m p) (pin_answer c (place_to_view (read_of c))) (set ws (cell_at p) (bit_or c (2 ^ position Hot))) (pinned_view p c o)
+  pub pin_step : OwnStep ws b os o (Pin m p) (pin_answer c (place_to_view (read_of c))) (set ws (cell_at p) (bit_or c (2 ^ position Hot))) (pinned_view p c o)
   pin_step =
       let x : Option Place = place_to_view (read_of c) in
       let w : OwnerView = with_place p x o in
@@ -88,7 +99,7 @@ module _ (ws : List ℕ) (b : BookView) (os : List OwnerView) (f : Facts ws b os
         wide = (cell_word_set ws f.wide p hot small).wide;
         jobs = jobs_stay ws b os f (cell_at p) hot (λ j l e. let low = small in omega arith);
         mine = mine_on b s (after s (Pin m p)) m o w (f.owners m o at) (placed_same (λ y. y.number) p o (λ _. refl) x) (placed_same (λ y. y.honest) p o (λ _. refl) x) refl
-            ((f.owners m o at).scope ∙ ap scope_word_of (sym opens)) (placed_same object_at p o (λ _. refl) x) (placed_same asked_at p o (λ _. refl) x)
+            ((f.owners m o at).scope ∙ ap scope_word_of (sym opens)) (placed_same object_at p o (λ _. refl) x) (placed_same asked_at p o (λ _. refl) x) (placed_same dropped_at p o (λ _. refl) x)
             (pin_objects c x m p _ _ (does s (Pin m p) f.law tt legal)) marks_after;
       }
 

@@ -44,18 +44,18 @@ module _ (ws : List ℕ) (b : BookView) (os : List OwnerView) (f : Facts ws b os
   pub open_so : IsSome o.open_at → IsOpen (state_of ws b os) m
   open_so opened = (is_mutator ws b os f m o at, λ z. open_word o.open_at opened (sym (f.owners m o at).scope ∙ z))
 
-  read_epoch_step : o.open_at ≡ None → OwnStep ws b os o (ReadEpoch m) (Epoch (epoch_in ws)) ws (read_view (epoch_in ws) o)
+  pub read_epoch_step : o.open_at ≡ None → OwnStep ws b os o (ReadEpoch m) (Epoch (epoch_in ws)) ws (read_view (epoch_in ws) o)
   read_epoch_step shut = let w : OwnerView = read_view (epoch_in ws) o in let legal = closed_so shut in record {
     legal = legal;
     says = refl;
     becomes = state_is ws b (set os m w) (no_word ws f.wide) (remembered_set os m o w at) (pointers_same os m o w at uses refl) (pointers_same os m o w at held_at refl);
     wide = f.wide;
     jobs = f.jobs;
-    mine = mine_on b (state_of ws b os) (after (state_of ws b os) (ReadEpoch m)) m o w (f.owners m o at) refl refl refl (f.owners m o at).scope refl refl
-        (ap (λ (z : World). z.object) (does (state_of ws b os) (ReadEpoch m) f.law tt legal)) (λ _. refl);
+    mine = mine_on b (state_of ws b os) (after (state_of ws b os) (ReadEpoch m)) m o w (f.owners m o at) refl refl refl (f.owners m o at).scope refl refl refl
+        (ap (λ (z : World). z.object) (does (state_of ws b os) (ReadEpoch m) f.law tt legal)) (λ _. (refl, refl));
   }
 
-  open_step : (x : ℕ) → o.open_at ≡ None → IsSome o.epoch → x ≡ scope_word_of o.epoch → OwnStep ws b os o (Open m) Done (set ws (scope_at m) x) (opened_view o)
+  pub open_step : (x : ℕ) → o.open_at ≡ None → IsSome o.epoch → x ≡ scope_word_of o.epoch → OwnStep ws b os o (Open m) Done (set ws (scope_at m) x) (opened_view o)
   open_step x shut read new =
       let w : OwnerView = opened_view o in
       let known : remembered_by os m ≡ o.epoch = ap (λ (y : OwnerView). y.epoch) (own_is os m o w at) in
@@ -68,11 +68,11 @@ module _ (ws : List ℕ) (b : BookView) (os : List OwnerView) (f : Facts ws b os
         wide = (scope_word_set ws f.wide m x few).wide;
         jobs = jobs_stay ws b os f (scope_at m) x (λ j l e. let small = few in omega arith);
         mine = mine_on b (state_of ws b os) (after (state_of ws b os) (Open m)) m o w (f.owners m o at) refl refl refl
-            (put_same (scope_in ws) m (scope_word_of (remembered_by os m)) m refl ∙ ap scope_word_of known) refl refl
-            (ap (λ (z : World). z.object) (does (state_of ws b os) (Open m) f.law tt legal).after) (λ _. refl);
+            (put_same (scope_in ws) m (scope_word_of (remembered_by os m)) m refl ∙ ap scope_word_of known) refl refl refl
+            (ap (λ (z : World). z.object) (does (state_of ws b os) (Open m) f.law tt legal).after) (λ _. (refl, refl));
       }
 
-  close_step : IsSome o.open_at → OwnStep ws b os o (Close m) Done (set ws (scope_at m) 0) (closed_view o)
+  pub close_step : IsSome o.open_at → OwnStep ws b os o (Close m) Done (set ws (scope_at m) 0) (closed_view o)
   close_step opened = let w : OwnerView = closed_view o in let legal = open_so opened in record {
     legal = legal;
     says = refl;
@@ -81,8 +81,8 @@ module _ (ws : List ℕ) (b : BookView) (os : List OwnerView) (f : Facts ws b os
         (λ p e. sym (ap (λ t. cond t None (held_by os p)) (eq-eqb (p / CELLS) m e))) (λ p ne. sym (ap (λ t. cond t None (held_by os p)) (ne_eqb (p / CELLS) m ne))));
     wide = (scope_word_set ws f.wide m 0 few).wide;
     jobs = jobs_stay ws b os f (scope_at m) 0 (λ j l e. let small = few in omega arith);
-    mine = mine_on b (state_of ws b os) (after (state_of ws b os) (Close m)) m o w (f.owners m o at) refl refl refl (put_same (scope_in ws) m 0 m refl) refl refl
-        (ap (λ (z : World). z.object) (does (state_of ws b os) (Close m) f.law tt legal).after) (λ _. refl);
+    mine = mine_on b (state_of ws b os) (after (state_of ws b os) (Close m)) m o w (f.owners m o at) refl refl refl (put_same (scope_in ws) m 0 m refl) refl refl refl
+        (ap (λ (z : World). z.object) (does (state_of ws b os) (Close m) f.law tt legal).after) (λ _. (refl, refl));
   }
 
 module _ {S : Type 0} (slots id : ℕ) (me : Me S View) (is : me.0 ≡ Owner (owner_of me.0)) where

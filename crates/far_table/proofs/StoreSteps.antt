@@ -109,7 +109,7 @@ module _ (ws : List ℕ) (b : BookView) (os : List OwnerView) (f : Facts ws b os
   new_is : with_word i v (object_at o p) ≡ Some new
   new_is = ap (with_word i v) x.used
 
-  store_step : OwnStep ws b os o (Store m p i v) Done (set ws (data_at a) v) w
+  pub store_step : OwnStep ws b os o (Store m p i v) Done (set ws (data_at a) v) w
   store_step =
       let ties = f.owners m o at in
       let fits = x.fits in
@@ -134,6 +134,7 @@ module _ (ws : List ℕ) (b : BookView) (os : List OwnerView) (f : Facts ws b os
               (λ ne. has_on s t q y (ap (λ (z : World). z.object q) (does s (Store m p i v) f.law word legal).changed.3 ∙ put_other (world_of s).object p _ q ne) refl
               (ties.objects q y mine (sym (put_other (object_at o) p (with_word i v (object_at o p)) q ne) ∙ h)));
           asks = ties.asks;
+          drops = ties.drops;
         };
       }
 

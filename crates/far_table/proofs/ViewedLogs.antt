@@ -1,5 +1,8 @@
 -- A log in which a place is held isn't given out.
-use Rattle.std.proofs.Common.{◌≡◌, ℕ, Some, refl}
+use Rattle.std.proofs.Common.{◌≡◌, ◌/◌, ℕ, List, Some, set, refl, sym, ap, ◌∙◌, subst}
+use mathlib.Core.Option.{some}
+use lib.ListN.{get_elem?}
+use Rattle.atomic_table.proofs.Lists.{set_here}
 use Rattle.far_word.specs.declared.pointer.Place.{Place}
 use Rattle.far_core.specs.events.Step.{after, answer}
 use Rattle.far_core.specs.state.Law.{Law}
@@ -9,7 +12,16 @@ use Rattle.far_core.proofs.ObjectFacts.{object_agrees}
 use Rattle.far_core.proofs.Owing.{does}
 use Rattle.far_core.proofs.Steps.{agrees}
 use Rattle.far_core.proofs.WorldLaws.{objects_stand, steps_keep}
+use Rattle.far_core.specs.declared.event.Event.{Event}
+use Rattle.far_core.specs.declared.event.Reply.{Reply}
+use Rattle.far_word.specs.declared.sizes.TheConstants.{CELLS}
+use Rattle.far_table.specs.StateOf.{state_of}
+use Rattle.far_table.specs.Tells.{OwnerMade, OwnerMayBe}
+use Rattle.far_table.specs.View.{OwnerView}
 use Rattle.far_table.specs.Viewed.{NoneIsGivenOut, StaysGiven}
+use Rattle.far_table.specs.Views.{held_at}
+use Rattle.far_table.proofs.Owners.{known_by}
+use Rattle.far_table.proofs.Places.{below}
 
 module _ (s : State) (law : Law s) (p : ℕ) (place : Place) (held : s.held p ≡ Some place) where
   stays_given : StaysGiven s p place
@@ -28,3 +40,19 @@ module _ (s : State) (law : Law s) (p : ℕ) (place : Place) (held : s.held p �
 
 pub none_is_given_out : (s : State) → Law s → NoneIsGivenOut s
 none_is_given_out s law p place held = stays_given s law p place held
+
+-- ---- beside an owner's seat
+pub held_stays : (o : OwnerView) (x : State) (p : ℕ) (place : Place) → OwnerMayBe o x → p / CELLS ≡ o.number → held_at o p ≡ Some place → (x.held p ≡ Some place) × StaysGiven x p place
+held_stays o x p place may own at =
+    let here : x.held p ≡ Some place = ap (λ (s : State). s.held p) may.is ∙ (known_by may.owners o.number o o may.stands held_at p own ∙ at) in
+    (here, none_is_given_out x (subst Law (sym may.is) may.facts.law) p place here)
+
+-- a call of it left such a state
+pub left_there : (e : Event) (o : OwnerView) (r : Reply) (w : OwnerView) → OwnerMade e o r w → (x : State) × OwnerMayBe w x
+left_there e o r w made =
+    let owners : List OwnerView = set made.owners o.number w in
+    let here : get_elem? owners o.number ≡ some w = set_here made.owners o.number w (below made.owners o.number o made.stands) in
+    let number : w.number ≡ o.number = (made.keeps.owners o.number w here).number in (
+      state_of made.later made.book owners,
+      record { words = made.later; book = made.book; owners = owners; facts = made.keeps; stands = ap (get_elem? owners) number ∙ here; is = refl },
+    )

@@ -15,7 +15,7 @@ use Rattle.far_table.specs.View.{BookView}
 use Rattle.far_table.specs.BookViews.{saw_view}
 use Rattle.far_table.specs.First.{rows_from}
 use Rattle.far_table.specs.Rows.{over}
-use Rattle.far_table.specs.StateOf.{known_word, taken_at}
+use Rattle.far_table.specs.StateOf.{known_word, retired_at, taken_at}
 use Rattle.far_table.specs.Views.{moves}
 
 -- the next span of a log is taken, for p: the log ends behind it and is the open one
@@ -40,9 +40,23 @@ form_view p Stays b = b
 form_view p (Moves len ds from to) b = span_view p len ds to b
 form_view p (Fetches len ds place) b = span_view p len ds place b
 
--- the cell is the new word, MOVE is counted where it was taken away, and no word is known any more but headers
+-- how many objects a form retires
+abbrev pub retires : Naming → ℕ
+retires (Places len ds place) = 0
+retires Retires = 1
+retires (Evicts len place) = 0
+retires Stays = 0
+retires (Moves len ds from to) = 0
+retires (Fetches len ds place) = 0
+
+-- the cell is the new word, MOVE is counted where it was taken away, and what is retired, and no word is known any more but headers
 abbrev pub formed_view : ℕ → ℕ → ℕ → Naming → BookView → BookView
-formed_view p old new form b = record (form_view p form b) { cells = (p, new) ∷ b.cells; taken = (p, taken_at b p + moves old) ∷ b.taken; known = [] }
+formed_view p old new form b = record (form_view p form b) {
+  cells = (p, new) ∷ b.cells;
+  taken = (p, taken_at b p + moves old) ∷ b.taken;
+  retired = (p, retired_at b p + retires form) ∷ b.retired;
+  known = [];
+}
 
 abbrev pub view_by : ℕ → ℕ → ℕ → Option Naming → BookView → BookView
 view_by p old new None b = b

@@ -35,6 +35,7 @@ no_book = record {
   clear = [];
   stored = [];
   taken = [];
+  retired = [];
   rest = [];
 }
 

@@ -40,6 +40,10 @@ stored_word b p = over (over b.stored (λ _. []) p) (λ _. 0)
 abbrev pub taken_at : BookView → ℕ → ℕ
 taken_at b = over b.taken (λ _. 0)
 
+-- how often it has retired a pointer's object
+abbrev pub retired_at : BookView → ℕ → ℕ
+retired_at b = over b.retired (λ _. 0)
+
 -- the book's view as a state: what it knows of the words, and of what owners do nothing
 abbrev pub book_state : BookView → State
 book_state b = record {

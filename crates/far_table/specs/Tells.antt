@@ -6,6 +6,7 @@ use Rattle.far_core.specs.declared.event.Event.{Event}
 use Rattle.far_core.specs.declared.event.Reply.{Reply}
 use Rattle.far_core.specs.events.Legal.{Legal}
 use Rattle.far_core.specs.events.Step.{after, answer}
+use Rattle.far_core.specs.state.State.{State}
 use Rattle.far_table.specs.View.{BookView, OwnerView, View, Book, Owner, Copier}
 use Rattle.far_table.specs.Rule.{Facts}
 use Rattle.far_table.specs.StateOf.{state_of}
@@ -38,6 +39,15 @@ pub record OwnerRefused (e : Event) (o : OwnerView) : Type 0 where
   pub facts : Facts words book owners
   pub stands : get_elem? owners o.number ≡ some o
   pub refused : ¬ Legal (state_of words book owners) e
+
+-- a state that words and views make for which the rule holds, and in which the owner's view is o
+pub record OwnerMayBe (o : OwnerView) (x : State) : Type 0 where
+  pub words : List ℕ
+  pub book : BookView
+  pub owners : List OwnerView
+  pub facts : Facts words book owners
+  pub stands : get_elem? owners o.number ≡ some o
+  pub is : x ≡ state_of words book owners
 
 -- the seat's view before and after the step: the event was made
 pub record Tells (before now : View) (e : Event) (r : Reply) (o' : OwnerView) : Type 0 where

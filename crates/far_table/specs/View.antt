@@ -22,8 +22,9 @@ pub record OwnerView : Type 0 where
   pub objects : List (ℕ × Option ObjectView)
   -- the places that it holds, by pointers
   pub held : List (ℕ × Option Place)
-  -- how often it has set MOVE anew, by pointers
+  -- how often it has set MOVE anew, and how often DROP, by pointers
   pub asked : List (ℕ × ℕ)
+  pub dropped : List (ℕ × ℕ)
 
 -- what the book's seat knows
 pub record BookView : Type 0 where
@@ -48,8 +49,9 @@ pub record BookView : Type 0 where
   pub clear : List (ℕ × Bool)
   -- the words that were stored of each object, by pointers
   pub stored : List (ℕ × List (ℕ × ℕ))
-  -- how often it has taken MOVE away, by pointers
+  -- how often it has taken MOVE away, and how often it has retired an object, by pointers
   pub taken : List (ℕ × ℕ)
+  pub retired : List (ℕ × ℕ)
   -- the owners that have no seat yet
   pub rest : List OwnerView
 

@@ -6,6 +6,7 @@ use Rattle.far_word.specs.declared.pointer.Place.{Place}
 use Rattle.far_word.specs.declared.pointer.PtrWord.{PtrWord}
 use Rattle.far_word.specs.declared.pointer.PtrWord.TheVariants.{Free, Near, Far}
 use Rattle.far_word.specs.Pointer.{read_of, pointer_len}
+use Rattle.far_core.specs.events.Naming.{is_dropped}
 use Rattle.far_core.specs.events.Pin.{place_to_view}
 use Rattle.far_core.specs.events.Quiet.{has_move}
 use Rattle.far_table.specs.View.{ObjectView, OwnerView}
@@ -29,6 +30,10 @@ held_at o = over o.held (λ _. None)
 -- how often MOVE was set anew in a pointer's cell
 abbrev pub asked_at : OwnerView → ℕ → ℕ
 asked_at o = over o.asked (λ _. 0)
+
+-- how often DROP was
+abbrev pub dropped_at : OwnerView → ℕ → ℕ
+dropped_at o = over o.dropped (λ _. 0)
 
 -- the length of an object, its data structure, and one of its words, where the owner uses it
 abbrev pub len_of : Option ObjectView → ℕ
@@ -93,21 +98,24 @@ fresh found = record { len = said_len (read_of found); ds = said_ds (read_of fou
 abbrev pub adopted_view : ℕ → ℕ → OwnerView → OwnerView
 adopted_view p found o = record o { objects = (p, Some (fresh found)) ∷ o.objects }
 
--- 1 where a word has MOVE
+-- 1 where a word has MOVE, and where it has DROP
 abbrev pub moves : ℕ → ℕ
 moves w = cond (has_move (read_of w)) 1 0
 
--- MOVE is set anew where the word found hasn't got it; what is dropped is used no longer
+abbrev pub drops : ℕ → ℕ
+drops w = cond (is_dropped (read_of w)) 1 0
+
+-- MOVE is set anew where the word found hasn't got it. Of what is used DROP is set anew always, and it is used no longer
 abbrev pub asked_view : ℕ → Mark → ℕ → OwnerView → OwnerView
 asked_view p Hot found o = o
 asked_view p Evac found o = o
 asked_view p Moved found o = record o { asked = (p, asked_at o p + cond (has_move (read_of found)) 0 1) ∷ o.asked }
-asked_view p Dropped found o = record o { objects = (p, None) ∷ o.objects }
+asked_view p Dropped found o = record o { objects = (p, None) ∷ o.objects; dropped = (p, dropped_at o p + 1) ∷ o.dropped }
 
 -- ---- many owners
 -- one who knows nothing
 abbrev pub nobody : OwnerView
-nobody = record { number = 0; honest = false; epoch = None; open_at = None; objects = []; held = []; asked = [] }
+nobody = record { number = 0; honest = false; epoch = None; open_at = None; objects = []; held = []; asked = []; dropped = [] }
 
 abbrev pub owner_at : List OwnerView → ℕ → OwnerView
 owner_at os m = slice_index_or os m nobody

@@ -2,8 +2,10 @@
 ghost use Rattle.far_core.specs.declared.event.Event.{Event as any_event};
 ghost use Rattle.far_core.specs.declared.event.Reply.{Reply as any_reply};
 ghost use Rattle.far_core.specs.events.Legal.{Legal};
+ghost use Rattle.far_core.specs.events.Step.{Fits, after};
+ghost use Rattle.far_hand.specs.Owners.{is_owners};
 ghost use Rattle.far_hand.proofs.Reading.{Gets};
-ghost use Rattle.std.specs.Prelude.{true, false};
+ghost use Rattle.std.specs.Prelude.{◌≡◌, true, false};
 ghost use Rattle.far_core.specs.state.State.{State};
 ghost use Rattle.far_table.specs.BookSeats.{seat_makes, seat_may_be, seat_view};
 ghost use Rattle.far_table.specs.Viewed.{NoneIsGivenOut};
@@ -127,6 +129,14 @@ impl<D: Device> BookSeat<D> {
     /// book's, it isn't free either.
     pub fn no_log_is_given_out_under_a_view(&self)
         ensures { (x : State) → seat_may_be self.now x → NoneIsGivenOut x }
+    {
+        let _logs = self.logs;
+    }
+
+    /// Beside this seat owners may do whatever the core allows: from any state that the words and all views may be in, an owner's event that is legal there leads
+    /// to another.
+    pub fn owners_may_act(&self)
+        ensures { (x : State) → seat_may_be self.now x → (e : any_event) → is_owners e ≡ true → Fits e → Legal x e → seat_may_be self.now (after x e) }
     {
         let _logs = self.logs;
     }

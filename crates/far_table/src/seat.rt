@@ -1,14 +1,16 @@
 // An owner's seat.
-ghost use Rattle.std.specs.Prelude.{◌≡◌, ◌+◌, ◌-◌, ◌*◌, ◌/◌, ◌%◌, ◌^◌, ◌<◌, ◌≤◌, true, length, map, slice_index, None, IsSome, IfOk, IfErr, IfSome};
+ghost use Rattle.std.specs.Prelude.{◌≡◌, ◌+◌, ◌-◌, ◌*◌, ◌/◌, ◌%◌, ◌^◌, ◌<◌, ◌≤◌, true, ℕ, length, map, slice_index, Some, None, IsSome, IfOk, IfErr, IfSome};
 ghost use Rattle.std.specs.Arc.{arc_value};
 ghost use Rattle.far_core.specs.declared.event.Event.{Event as any_event};
 ghost use Rattle.far_core.specs.declared.event.Reply.{Reply as any_reply};
-ghost use Rattle.far_table.specs.Tells.{OwnerMade, OwnerRefused, owner_of};
+ghost use Rattle.far_table.specs.Tells.{OwnerMade, OwnerMayBe, OwnerRefused, owner_of};
+ghost use Rattle.far_table.specs.Viewed.{StaysGiven};
 ghost use Rattle.std.specs.List.{range_with_len};
 ghost use Rattle.far_word.specs.declared.sizes.TheConstants.{CELLS, LOG_WORDS, LONGEST, MOST_LOGS, MOST_MUTATORS};
 ghost use Rattle.far_core.specs.state.CoreState.{core_state};
-ghost use Rattle.far_core.specs.state.State.{addr};
-ghost use Rattle.far_table.specs.View.{Owner};
+ghost use Rattle.far_core.specs.state.State.{State, addr};
+ghost use Rattle.far_word.specs.declared.pointer.Place.{Place as any_place};
+ghost use Rattle.far_table.specs.View.{Owner, OwnerView};
 ghost use Rattle.far_table.specs.First.{first_owner};
 ghost use Rattle.far_table.specs.Layout.{TABLE_WORDS};
 ghost use Rattle.far_word.specs.Pointer.{read_of};
@@ -368,6 +370,15 @@ impl<D: Device> MutSeat<D> {
             epoch,
             places,
         })
+    }
+
+    /// No log in which this seat holds a place is given back, nor taken anew, whatever state the words and all views are in beside its view. Each call of it
+    /// left such a state. The call does nothing.
+    pub fn no_log_is_given_out_under_a_view(&self)
+        ensures kept { (x : State) → OwnerMayBe self.now.view x → (p : ℕ) (place : any_place) → held_at self.now.view p ≡ Some place → (x.held p ≡ Some place) × StaysGiven x p place }
+        ensures there { (e : any_event) (o : OwnerView) (r : any_reply) → OwnerMade e o r self.now.view → (x : State) × OwnerMayBe self.now.view x }
+    {
+        let _number = self.number;
     }
 
     /// The epoch, which the owner remembers for its next scope.

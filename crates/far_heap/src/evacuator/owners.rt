@@ -1,6 +1,6 @@
 //! What the book does for an owner that has the lock.
 
-ghost use Rattle.std.specs.Prelude.{◌≡◌, ◌⊎◌, ◌/◌, ◌<◌, ◌≤◌, ◌*◌, ◌↔◌, None, Some, Err, true, false, Option, IsSome, IfOk, IfErr, IfSome, MatchOption};
+ghost use Rattle.std.specs.Prelude.{◌≡◌, ◌⊎◌, ◌/◌, ◌<◌, ◌≤◌, ◌*◌, None, Some, Err, true, false, Option, IsSome, IfOk, IfErr, IfSome, MatchOption};
 ghost use Rattle.far_word.specs.Sizes.{size_of};
 ghost use Rattle.far_word.specs.declared.pointer.PtrWord.{PtrWord};
 ghost use Rattle.far_word.specs.declared.refused.Refused.TheVariants.{NoPointer, NoRoom};
@@ -14,13 +14,13 @@ ghost use Rattle.far_book.specs.book.Ledger.{IsLowestFree};
 ghost use Rattle.far_evac.specs.EvacOf.{EvacOf};
 ghost use Rattle.far_heap.specs.Helping.{FetchesIt, Looks, MovesIt, PlacesNew, RetiresIt, asks_move, cell_in, says_far};
 ghost use Rattle.far_heap.specs.Mine.{IsUnbrought};
-ghost use Rattle.far_heap.specs.NoObject.{LacksRoom, NoneFree};
+ghost use Rattle.far_heap.specs.BookHad.{BookHad, LacksRoom, NoneFree, Unbrought};
 
 use crate::evacuator::Evacuator;
 use crate::name::HeapName;
 use far_book::Home;
 use far_device::Device;
-use far_word::{CELLS, Place, Refused};
+use far_word::{Place, Refused};
 
 // Whether an object was found far.
 fn is_far(home: Option<Home>) -> bool
@@ -53,16 +53,10 @@ fn has_drop(home: Option<Home>) -> bool
 }
 
 impl<K: HeapName, D: Device + Drop> Evacuator<K, D> {
-    // Whether a number is that of a pointer.
-    fn has_pointer(&self, pointer: u16) -> bool
-        ensures { (result ≡ true) ↔ (pointer < CELLS * (seat_view self.now.book.near).mutators) }
-    {
-        (pointer as u64) < CELLS as u64 * self.shape().mutators
-    }
-
     // Places a new object of zeros for an owner's lowest free cell: its pointer. Refused NoPointer exactly where no cell is free, then NoRoom exactly where
     // there is no room; nothing has changed then.
     pub(crate) fn place_new(&mut self, owner: u8, len: u16, ds: u8) -> Result<u16, Refused>
+        requires one { owner < K.heap.mutators }
         requires some { 0 < len }
         requires most { len ≤ LONGEST }
         ensures own { IfOk result (λ p. p / CELLS ≡ owner) }
@@ -74,9 +68,6 @@ impl<K: HeapName, D: Device + Drop> Evacuator<K, D> {
         ensures full { result ≡ Err NoRoom → LacksRoom owner len (seat_view self.old.book.near) }
         ensures unchanged { IfErr result (λ _. self.new ≡ self.old) }
     {
-        if owner as u64 >= self.shape().mutators {
-            return Err(Refused::NoPointer);
-        }
         self.evac.keeps_law();
         let Some(pointer) = self.evac.book().free_cell(owner) else {
             return Err(Refused::NoPointer);
@@ -87,50 +78,44 @@ impl<K: HeapName, D: Device + Drop> Evacuator<K, D> {
         }
     }
 
-    // Fetches a far object, by one look at its cell: what the fetch answers. `None` where it isn't far, or the number is no pointer's; nothing else is done then.
+    // Fetches a far object, by one look at its cell: what the fetch answers. `None` where it isn't far; nothing else is done then.
     pub(crate) fn fetch_far(&mut self, pointer: u16) -> Option<Result<Option<Place>, Refused>>
+        requires pointer { pointer < CELLS * K.heap.mutators }
         ensures refused { IfSome result (λ answer. IfErr answer IsUnbrought) }
-        ensures beyond { CELLS * (seat_view self.old.book.near).mutators ≤ pointer → (result ≡ None) × (self.new ≡ self.old) }
-        ensures fetched { pointer < CELLS * (seat_view self.old.book.near).mutators → (found : EvacOf (seat_of D) D) × Looks self.old found pointer
+        ensures cause { IfSome result (λ answer. IfErr answer (λ why. BookHad D K.heap (Unbrought pointer why))) }
+        ensures fetched { (found : EvacOf (seat_of D) D) × Looks self.old found pointer
             × MatchOption result ((says_far (cell_in found pointer) ≡ false) × (self.new ≡ found))
             (λ answer. (says_far (cell_in found pointer) ≡ true) × FetchesIt D.contents D.honest D.faults D.fails_at_most D.lets_go D.forgets D.reads found self.new pointer answer) }
     {
-        if !self.has_pointer(pointer) {
-            return None;
-        }
         if !is_far(self.evac.locate(pointer)) {
             return None;
         }
+        self.evac.book().keeps_law();
         Some(self.evac.fetch(pointer))
     }
 
     // Moves a near object that its owner has asked for, by one look at its cell, where the round wants its log; else it stays, without MOVE: what the move
-    // answers. `None` where it isn't near with MOVE, or the number is no pointer's; nothing else is done then.
+    // answers. `None` where it isn't near with MOVE; nothing else is done then.
     pub(crate) fn move_asked(&mut self, pointer: u16) -> Option<Result<Option<Place>, Refused>>
+        requires pointer { pointer < CELLS * K.heap.mutators }
         ensures refused { IfSome result (λ answer. IfErr answer IsUnbrought) }
-        ensures beyond { CELLS * (seat_view self.old.book.near).mutators ≤ pointer → (result ≡ None) × (self.new ≡ self.old) }
-        ensures moved { pointer < CELLS * (seat_view self.old.book.near).mutators → (found : EvacOf (seat_of D) D) × Looks self.old found pointer
+        ensures cause { IfSome result (λ answer. IfErr answer (λ why. BookHad D K.heap (Unbrought pointer why))) }
+        ensures moved { (found : EvacOf (seat_of D) D) × Looks self.old found pointer
             × MatchOption result ((asks_move (cell_in found pointer) ≡ false) × (self.new ≡ found))
             (λ answer. (asks_move (cell_in found pointer) ≡ true) × MovesIt D.contents D.honest D.faults D.fails_at_most D.lets_go D.forgets found self.new pointer answer) }
     {
-        if !self.has_pointer(pointer) {
-            return None;
-        }
         if !has_move(self.evac.locate(pointer)) {
             return None;
         }
         Some(self.evac.move_now(pointer))
     }
 
-    // Frees the cell of an object that its owner dropped, by one look at it: `true`. `false` where a round has done so, or the number is no pointer's.
+    // Frees the cell of an object that its owner dropped, by one look at it: `true`. `false` where a round has done so.
     pub(crate) fn retire_dropped(&mut self, pointer: u16) -> bool
-        ensures beyond { CELLS * (seat_view self.old.book.near).mutators ≤ pointer → (result ≡ false) × (self.new ≡ self.old) }
-        ensures retired { pointer < CELLS * (seat_view self.old.book.near).mutators → (found : EvacOf (seat_of D) D) × Looks self.old found pointer × (result ≡ is_dropped (cell_in found pointer))
+        requires pointer { pointer < CELLS * K.heap.mutators }
+        ensures retired { (found : EvacOf (seat_of D) D) × Looks self.old found pointer × (result ≡ is_dropped (cell_in found pointer))
             × (result ≡ false → self.new ≡ found) × (result ≡ true → RetiresIt D.contents D.honest D.faults D.fails_at_most D.lets_go D.forgets found self.new pointer) }
     {
-        if !self.has_pointer(pointer) {
-            return false;
-        }
         if !has_drop(self.evac.locate(pointer)) {
             return false;
         }

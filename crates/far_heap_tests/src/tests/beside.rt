@@ -191,7 +191,7 @@ fn made_beside<K: HeapName + Send + Sync, R: Threads + Wait + Sync>(
     blank: Blank<MemDevice>,
     plan: Plan,
 ) -> Option<u64>
-    requires { blank.table ≡ K.table }
+    requires { blank.heap ≡ K.heap }
 {
     let Ok((heap, mutators)) = Heap::<K, MemDevice>::new(alloc, blank) else {
         return None;

@@ -195,7 +195,7 @@ fn view_is_refused<K: HeapName, R: Wait>(
     blank: Blank<Faulty>,
     why: Refused,
 ) -> bool
-    requires { blank.table ≡ K.table }
+    requires { blank.heap ≡ K.heap }
 {
     let Ok((heap, mut mutators)) = Heap::<K, Faulty>::new(alloc, blank) else {
         return false;
@@ -254,7 +254,7 @@ fn round_is_refused<K: HeapName, R: Wait>(
     why: Refused,
     ends: bool,
 ) -> bool
-    requires { blank.table ≡ K.table }
+    requires { blank.heap ≡ K.heap }
 {
     let Ok((heap, mut mutators)) = Heap::<K, Faulty>::new(alloc, blank) else {
         return false;

@@ -145,7 +145,7 @@ fn in_two_logs<K: HeapName + Send + Sync, R: Threads + Wait + Sync>(
     alloc: Global,
     blank: Blank<MemDevice>,
 ) -> bool
-    requires { blank.table ≡ K.table }
+    requires { blank.heap ≡ K.heap }
 {
     let Ok((heap, mutators)) = Heap::<K, MemDevice>::new(alloc, blank) else {
         return false;
@@ -198,7 +198,7 @@ fn in_most_logs<K: HeapName + Send + Sync, R: Threads + Wait + Sync>(
     alloc: Global,
     blank: Blank<MemDevice>,
 ) -> bool
-    requires { blank.table ≡ K.table }
+    requires { blank.heap ≡ K.heap }
 {
     let Ok((heap, mutators)) = Heap::<K, MemDevice>::new(alloc, blank) else {
         return false;

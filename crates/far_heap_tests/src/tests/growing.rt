@@ -11,7 +11,7 @@ use std::marker::Brand;
 
 // Whether a heap with its mutators is begun, or memory was refused.
 fn begins<K: HeapName>(alloc: Global, blank: Blank<MemDevice>) -> bool
-    requires { blank.table ≡ K.table }
+    requires { blank.heap ≡ K.heap }
 {
     match Heap::<K, MemDevice>::new(alloc, blank) {
         Ok((_heap, mutators)) => mutators.len() == 2,

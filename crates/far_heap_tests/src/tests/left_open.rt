@@ -88,7 +88,7 @@ fn next_round<K: HeapName, R: Wait>(rt: &R, heap: &Heap<K, MemDevice>) -> bool {
 }
 
 fn left_open<K: HeapName, R: Wait>(rt: &R, alloc: Global, blank: Blank<MemDevice>) -> bool
-    requires { blank.table ≡ K.table }
+    requires { blank.heap ≡ K.heap }
 {
     let Ok((heap, mut mutators)) = Heap::<K, MemDevice>::new(alloc, blank) else {
         return false;

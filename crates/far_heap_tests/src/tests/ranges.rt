@@ -77,7 +77,7 @@ fn has_twelve<K: HeapName>(scope: &mut Scope<K, MemDevice>, view: &View) -> bool
 }
 
 fn in_ranges<K: HeapName, R: Wait>(rt: &R, alloc: Global, blank: Blank<MemDevice>) -> bool
-    requires { blank.table ≡ K.table }
+    requires { blank.heap ≡ K.heap }
 {
     let Ok((_heap, mut mutators)) = Heap::<K, MemDevice>::new(alloc, blank) else {
         return false;
@@ -123,7 +123,7 @@ fn takes_earlier<K: HeapName>(scope: &mut Scope<K, MemDevice>, view: &View) -> b
 }
 
 fn earlier_views<K: HeapName, R: Wait>(rt: &R, alloc: Global, blank: Blank<MemDevice>) -> bool
-    requires { blank.table ≡ K.table }
+    requires { blank.heap ≡ K.heap }
 {
     let Ok((_heap, mut mutators)) = Heap::<K, MemDevice>::new(alloc, blank) else {
         return false;
@@ -162,7 +162,7 @@ fn views_next<K: HeapName>(scope: &mut Scope<K, MemDevice>, view: &View) -> bool
 }
 
 fn next_object<K: HeapName, R: Wait>(rt: &R, alloc: Global, blank: Blank<MemDevice>) -> bool
-    requires { blank.table ≡ K.table }
+    requires { blank.heap ≡ K.heap }
 {
     let Ok((_heap, mut mutators)) = Heap::<K, MemDevice>::new(alloc, blank) else {
         return false;

@@ -92,7 +92,7 @@ fn all_work<K: HeapName + Send + Sync, R: Threads + Wait + Sync>(
     alloc: Global,
     blank: Blank<MemDevice>,
 ) -> bool
-    requires { blank.table ≡ K.table }
+    requires { blank.heap ≡ K.heap }
 {
     let Ok((heap, mutators)) = Heap::<K, _>::new(alloc, blank) else {
         return false;

@@ -88,7 +88,7 @@ fn two_are_full<K: HeapName, D: Device + Drop>(book: &mut Evacuator<K, D>) -> bo
 }
 
 fn new_objects<K: HeapName, R: Wait>(rt: &R, alloc: Global, blank: Blank<MemDevice>) -> bool
-    requires { blank.table ≡ K.table }
+    requires { blank.heap ≡ K.heap }
 {
     let Ok((heap, mut mutators)) = Heap::<K, MemDevice>::new(alloc, blank) else {
         return false;
@@ -143,7 +143,7 @@ fn makes_for_both<K: HeapName, R: Wait>(
 }
 
 fn dropped_objects<K: HeapName, R: Wait>(rt: &R, alloc: Global, blank: Blank<MemDevice>) -> bool
-    requires { blank.table ≡ K.table }
+    requires { blank.heap ≡ K.heap }
 {
     let Ok((heap, mut mutators)) = Heap::<K, MemDevice>::new(alloc, blank) else {
         return false;
@@ -186,7 +186,7 @@ fn bars_views<K: HeapName, R: Wait>(rt: &R, scope: &mut Scope<K, MemDevice>) -> 
 }
 
 fn unheld_objects<K: HeapName, R: Wait>(rt: &R, alloc: Global, blank: Blank<MemDevice>) -> bool
-    requires { blank.table ≡ K.table }
+    requires { blank.heap ≡ K.heap }
 {
     let Ok((_heap, mut mutators)) = Heap::<K, MemDevice>::new(alloc, blank) else {
         return false;
@@ -234,7 +234,7 @@ fn far_object_without_room<K: HeapName, R: Wait>(
     alloc: Global,
     blank: Blank<MemDevice>,
 ) -> bool
-    requires { blank.table ≡ K.table }
+    requires { blank.heap ≡ K.heap }
 {
     let Ok((heap, mut mutators)) = Heap::<K, MemDevice>::new(alloc, blank) else {
         return false;

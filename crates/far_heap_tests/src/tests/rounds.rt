@@ -89,7 +89,7 @@ fn ends<K: HeapName>(book: &mut Evacuator<K, MemDevice>) -> bool {
 }
 
 fn in_each_phase<K: HeapName, R: Wait>(rt: &R, alloc: Global, blank: Blank<MemDevice>) -> bool
-    requires { blank.table ≡ K.table }
+    requires { blank.heap ≡ K.heap }
 {
     let Ok((heap, mut mutators)) = Heap::<K, MemDevice>::new(alloc, blank) else {
         return false;
@@ -131,7 +131,7 @@ fn bars_choices<K: HeapName, R: Wait>(rt: &R, heap: &Heap<K, MemDevice>) -> bool
 }
 
 fn bad_choices<K: HeapName, R: Wait>(rt: &R, alloc: Global, blank: Blank<MemDevice>) -> bool
-    requires { blank.table ≡ K.table }
+    requires { blank.heap ≡ K.heap }
 {
     let Ok((heap, mut mutators)) = Heap::<K, MemDevice>::new(alloc, blank) else {
         return false;
@@ -170,7 +170,7 @@ fn runs_in_the_last<K: HeapName>(book: &mut Evacuator<K, MemDevice>) -> bool {
 }
 
 fn last_epoch<K: HeapName, R: Wait>(rt: &R, alloc: Global, blank: Blank<MemDevice>) -> bool
-    requires { blank.table ≡ K.table }
+    requires { blank.heap ≡ K.heap }
 {
     let Ok((heap, mut mutators)) = Heap::<K, MemDevice>::new(alloc, blank) else {
         return false;
@@ -212,7 +212,7 @@ fn goes_as_far<K: HeapName, R: Wait>(
 }
 
 fn turn_by_turn<K: HeapName, R: Wait>(rt: &R, alloc: Global, blank: Blank<MemDevice>) -> bool
-    requires { blank.table ≡ K.table }
+    requires { blank.heap ≡ K.heap }
 {
     let Ok((heap, mut mutators)) = Heap::<K, MemDevice>::new(alloc, blank) else {
         return false;

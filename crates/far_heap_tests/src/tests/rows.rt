@@ -25,7 +25,7 @@ fn has_one_object<K: HeapName, D: Device + Drop>(book: &mut Evacuator<K, D>) -> 
 
 // A new object has zeros, and takes its bytes and a header of the first log.
 fn new_object<K: HeapName, R: Wait>(rt: &R, alloc: Global, blank: Blank<MemDevice>) -> bool
-    requires { blank.table ≡ K.table }
+    requires { blank.heap ≡ K.heap }
 {
     let Ok((heap, mut mutators)) = Heap::<K, MemDevice>::new(alloc, blank) else {
         return false;
@@ -90,7 +90,7 @@ fn uses_again<K: HeapName, R: Wait>(rt: &R, mutator: &mut Mutator<K, MemDevice>)
 
 // A round moves the object that was written, and sends the other far, from where it comes back.
 fn plain_round<K: HeapName, R: Wait>(rt: &R, alloc: Global, blank: Blank<MemDevice>) -> bool
-    requires { blank.table ≡ K.table }
+    requires { blank.heap ≡ K.heap }
 {
     let Ok((heap, mut mutators)) = Heap::<K, MemDevice>::new(alloc, blank) else {
         return false;
@@ -123,7 +123,7 @@ fn ends<K: HeapName, D: Device + Drop>(book: &mut Evacuator<K, D>) -> bool {
 
 // A round waits for a scope that was open before it.
 fn waiting_round<K: HeapName, R: Wait>(rt: &R, alloc: Global, blank: Blank<MemDevice>) -> bool
-    requires { blank.table ≡ K.table }
+    requires { blank.heap ≡ K.heap }
 {
     let Ok((heap, mut mutators)) = Heap::<K, MemDevice>::new(alloc, blank) else {
         return false;
@@ -181,7 +181,7 @@ fn sends_it_far<K: HeapName, D: Device + Drop>(book: &mut Evacuator<K, D>) -> bo
 
 // The owner's own move takes the last free log, so that the round has no room for a viewed object.
 fn hot_round<K: HeapName, R: Wait>(rt: &R, alloc: Global, blank: Blank<MemDevice>) -> bool
-    requires { blank.table ≡ K.table }
+    requires { blank.heap ≡ K.heap }
 {
     let Ok((heap, mut mutators)) = Heap::<K, MemDevice>::new(alloc, blank) else {
         return false;
@@ -218,7 +218,7 @@ fn finds<K: HeapName>(scope: &mut Scope<K, MemDevice>, pointer: u16, word: u64) 
 
 // One step finds the word of a marked object, and a view has the object moved.
 fn marked_object<K: HeapName, R: Wait>(rt: &R, alloc: Global, blank: Blank<MemDevice>) -> bool
-    requires { blank.table ≡ K.table }
+    requires { blank.heap ≡ K.heap }
 {
     let Ok((heap, mut mutators)) = Heap::<K, MemDevice>::new(alloc, blank) else {
         return false;

@@ -56,7 +56,7 @@ fn held_book<K: HeapName + Send + Sync, R: Threads + Wait + Sync>(
     alloc: Global,
     blank: Blank<MemDevice>,
 ) -> bool
-    requires { blank.table ≡ K.table }
+    requires { blank.heap ≡ K.heap }
 {
     let Ok((heap, mut mutators)) = Heap::<K, MemDevice>::new(alloc, blank) else {
         return false;
@@ -118,7 +118,7 @@ fn moved_scope<K: HeapName + Send + Sync + 'static, R: Threads + Wait>(
     alloc: Global,
     blank: Blank<MemDevice>,
 ) -> bool
-    requires { blank.table ≡ K.table }
+    requires { blank.heap ≡ K.heap }
 {
     let Ok((_heap, mut mutators)) = Heap::<K, MemDevice>::new(alloc, blank) else {
         return false;
@@ -181,7 +181,7 @@ fn dropped_beside<K: HeapName + Send + Sync, R: Threads + Wait + Sync>(
     alloc: Global,
     blank: Blank<MemDevice>,
 ) -> bool
-    requires { blank.table ≡ K.table }
+    requires { blank.heap ≡ K.heap }
 {
     let Ok((heap, mut mutators)) = Heap::<K, MemDevice>::new(alloc, blank) else {
         return false;
@@ -243,7 +243,7 @@ fn ended_round<K: HeapName + Send + Sync, R: Threads + Wait + Sync>(
     alloc: Global,
     blank: Blank<MemDevice>,
 ) -> bool
-    requires { blank.table ≡ K.table }
+    requires { blank.heap ≡ K.heap }
 {
     let Ok((heap, mut mutators)) = Heap::<K, MemDevice>::new(alloc, blank) else {
         return false;

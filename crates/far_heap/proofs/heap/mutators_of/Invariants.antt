@@ -1,8 +1,9 @@
-use Rattle.std.proofs.Common.{◌≡◌, ◌+◌, ◌≤◌, Bool, vec_len, vec_capacity}
-use Rattle.far_heap.specs.Blanks.{AreNew, NewSeats, newcomers}
+use Rattle.std.proofs.Common.{◌≡◌, ◌+◌, ◌≤◌, vec_len, vec_capacity}
+use Rattle.far_heap.specs.Blanks.{AreNew, first_newcomers}
 use Rattle.far_heap.proofs.heap.mutators_of.Given as goal
 
 abbrev pub invariant-loop-number : goal.invariant-loop-number
 invariant-loop-number g l =
-    ((honest : Bool) → NewSeats g.K.HeapName.table honest l.fn.seats.items → AreNew g.K.HeapName.table honest l.number l.seats.items × (l.mutators.items ≡ newcomers g.K.HeapName.table honest l.number))
+    AreNew g.K.HeapName.heap.table g.K.HeapName.heap.honest l.number l.seats.items
+    × (l.mutators.items ≡ first_newcomers g.K.HeapName.heap.table g.K.HeapName.heap.honest l.number)
     × (vec_len l.seats + l.number ≡ vec_len l.fn.seats) × (vec_len l.mutators ≡ l.number) × (l.many ≡ vec_len l.fn.seats) × (l.many ≤ vec_capacity l.mutators)

@@ -1,7 +1,12 @@
-use Rattle.std.proofs.Common.{subst, sym, refl, ◌∙◌}
+use Rattle.std.proofs.Common.{◌≡◌, ◌*◌, ◌<◌, true, ap, subst, sym, refl, ◌∙◌}
 use Rattle.far_table.specs.declared.book.BookSeat.{BookSeat}
+use Rattle.far_table.specs.BookSeats.{seat_view}
+use Rattle.far_word.specs.declared.sizes.TheConstants.{CELLS}
+use Rattle.far_book.specs.book.BookOf.{BookOf}
 use Rattle.far_evac.specs.EvacOf.{EvacOf}
+use Rattle.far_heap.specs.HeapId.{HeapId}
 use Rattle.far_heap.specs.Helping.{Looks}
+use Rattle.far_heap.proofs.Causes.{fetch_cause}
 use Rattle.far_heap.proofs.Named.{stays_named}
 use Rattle.far_heap.proofs.Under.{is_far}
 use Rattle.far_heap.proofs.evacuator.Evacuator.fetch_far.Goals as goal
@@ -15,7 +20,7 @@ invariant_of-self-2 g c =
     (stays_named _ c.self.inside.evac.book.near c.locate.new.self.book.near c.locate.ensures.came c.self.invariant)
 
 pub returns-then-not-is_far-clause-fetched : goal.returns-then-not-is_far-clause-fetched
-returns-then-not-is_far-clause-fetched g c = λ _.
+returns-then-not-is_far-clause-fetched g c =
     let l = c.locate.ensures in (
       c.locate.new.self,
       subst (λ (e : EvacOf (BookSeat g.row.D.Denot) g.row.D.Denot). Looks e c.locate.new.self c.args.pointer) c.self.view_is
@@ -24,7 +29,7 @@ returns-then-not-is_far-clause-fetched g c = λ _.
     )
 
 pub returns-clause-fetched : goal.returns-clause-fetched
-returns-clause-fetched g c = λ _.
+returns-clause-fetched g c =
     let l = c.locate.ensures in
     let f = c.fetch.ensures in (
       c.locate.new.self,
@@ -52,3 +57,11 @@ returns-clause-fetched g c = λ _.
         },
       ),
     )
+
+pub returns-clause-cause : goal.returns-clause-cause
+returns-clause-cause g c =
+    let found = c.locate.new.self in
+    let named = stays_named g.K.HeapName.heap c.self.inside.evac.book.near found.book.near c.locate.ensures.came c.self.invariant in
+    let honest = subst (λ (b : BookOf (BookSeat g.row.D.Denot) g.row.D.Denot). (seat_view b.near).honest ≡ true → g.D.Device.honest b.device ≡ true) c.book.ensures c.keeps_law.ensures.honest in
+    fetch_cause g.K.HeapName.heap found.book.near named c.args.pointer (g.D.Device.honest found.book.device) c.fetch.result
+    (sym (c.is_far.ensures _ c.locate.ensures.home) ∙ c.if-not-is_far.false) honest c.fetch.ensures.refused

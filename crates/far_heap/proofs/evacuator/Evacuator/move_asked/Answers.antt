@@ -2,6 +2,7 @@ use Rattle.std.proofs.Common.{subst, sym, refl, ◌∙◌}
 use Rattle.far_table.specs.declared.book.BookSeat.{BookSeat}
 use Rattle.far_evac.specs.EvacOf.{EvacOf}
 use Rattle.far_heap.specs.Helping.{Looks}
+use Rattle.far_heap.proofs.Causes.{move_cause}
 use Rattle.far_heap.proofs.Named.{stays_named}
 use Rattle.far_heap.proofs.Under.{is_quiet_near}
 use Rattle.far_heap.proofs.evacuator.Evacuator.move_asked.Goals as goal
@@ -15,7 +16,7 @@ invariant_of-self-2 g c =
     (stays_named _ c.self.inside.evac.book.near c.locate.new.self.book.near c.locate.ensures.came c.self.invariant)
 
 pub returns-then-not-has_move-clause-moved : goal.returns-then-not-has_move-clause-moved
-returns-then-not-has_move-clause-moved g c = λ _.
+returns-then-not-has_move-clause-moved g c =
     let l = c.locate.ensures in (
       c.locate.new.self,
       subst (λ (e : EvacOf (BookSeat g.row.D.Denot) g.row.D.Denot). Looks e c.locate.new.self c.args.pointer) c.self.view_is
@@ -24,7 +25,7 @@ returns-then-not-has_move-clause-moved g c = λ _.
     )
 
 pub returns-clause-moved : goal.returns-clause-moved
-returns-clause-moved g c = λ _.
+returns-clause-moved g c =
     let l = c.locate.ensures in
     let m = c.move_now.ensures in (
       c.locate.new.self,
@@ -51,3 +52,10 @@ returns-clause-moved g c = λ _.
         },
       ),
     )
+
+pub returns-clause-cause : goal.returns-clause-cause
+returns-clause-cause g c =
+    let found = c.locate.new.self in
+    let named = stays_named g.K.HeapName.heap c.self.inside.evac.book.near found.book.near c.locate.ensures.came c.self.invariant in
+    move_cause g.K.HeapName.heap found.book.near named c.args.pointer c.move_now.result
+    (sym (c.has_move.ensures _ c.locate.ensures.home) ∙ c.if-not-has_move.false) c.move_now.ensures.refused c.move_now.ensures.none

@@ -14,25 +14,29 @@ invariant_of-self-2 g c =
     stays_named _ c.locate.new.self.book.near c.retire.new.self.book.near c.retire.ensures.came
     (stays_named _ c.self.inside.evac.book.near c.locate.new.self.book.near c.locate.ensures.came c.self.invariant)
 
-pub returns-then-not-has_drop-clause-retired : goal.returns-then-not-has_drop-clause-retired
-returns-then-not-has_drop-clause-retired g c = λ _.
-    let l = c.locate.ensures in (
-      c.locate.new.self,
-      subst (λ (e : EvacOf (BookSeat g.row.D.Denot) g.row.D.Denot). Looks e c.locate.new.self c.args.pointer) c.self.view_is
-          record { made = l.made; found = l.found; kept = l.kept; order = l.order; device = l.device; round = l.round },
-      sym c.if-not-has_drop.true ∙ c.has_drop.ensures _ l.home,
-      λ _. refl,
-      λ h. absurd (false≢true h),
-    )
+pub returns-then-not-has_drop : goal.returns-then-not-has_drop
+returns-then-not-has_drop g c =
+    let l = c.locate.ensures in record {
+      retired = (
+        c.locate.new.self,
+        subst (λ (e : EvacOf (BookSeat g.row.D.Denot) g.row.D.Denot). Looks e c.locate.new.self c.args.pointer) c.self.view_is
+            record { made = l.made; found = l.found; kept = l.kept; order = l.order; device = l.device; round = l.round },
+        sym c.if-not-has_drop.true ∙ c.has_drop.ensures _ l.home,
+        λ _. refl,
+        λ h. absurd (false≢true h),
+      );
+    }
 
-pub returns-clause-retired : goal.returns-clause-retired
-returns-clause-retired g c = λ _.
+pub returns : goal.returns
+returns g c =
     let l = c.locate.ensures in
-    let r = c.retire.ensures in (
-      c.locate.new.self,
-      subst (λ (e : EvacOf (BookSeat g.row.D.Denot) g.row.D.Denot). Looks e c.locate.new.self c.args.pointer) c.self.view_is
-          record { made = l.made; found = l.found; kept = l.kept; order = l.order; device = l.device; round = l.round },
-      sym c.if-not-has_drop.false ∙ c.has_drop.ensures _ l.home,
-      λ h. absurd (false≢true (sym h)),
-      λ _. record { kept = r.kept; forgot = r.forgot; order = r.order; called = r.called; gone = r.gone; follows = r.follows; round = r.round },
-    )
+    let r = c.retire.ensures in record {
+      retired = (
+        c.locate.new.self,
+        subst (λ (e : EvacOf (BookSeat g.row.D.Denot) g.row.D.Denot). Looks e c.locate.new.self c.args.pointer) c.self.view_is
+            record { made = l.made; found = l.found; kept = l.kept; order = l.order; device = l.device; round = l.round },
+        sym c.if-not-has_drop.false ∙ c.has_drop.ensures _ l.home,
+        λ h. absurd (false≢true (sym h)),
+        λ _. record { kept = r.kept; forgot = r.forgot; order = r.order; called = r.called; gone = r.gone; follows = r.follows; round = r.round },
+      );
+    }

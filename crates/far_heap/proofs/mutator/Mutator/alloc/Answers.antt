@@ -1,10 +1,10 @@
 use Rattle.std.proofs.Common.{subst}
 use Rattle.far_heap.specs.Mine.{Mine}
-use Rattle.far_heap.specs.NoObject.{BookHad, LacksRoom, NoneFree}
+use Rattle.far_heap.specs.BookHad.{BookHad, LacksRoom, NoneFree}
 use Rattle.far_heap.proofs.mutator.Mutator.alloc.Goals as goal
 
 pub returns-clause-none : goal.returns-clause-none
-returns-clause-none g c = λ e. subst (λ (m : Mine). BookHad g.row.D.Denot g.K.HeapName.table (NoneFree m.number)) c.self.view_is (c.alloc.ensures.none e)
+returns-clause-none g c = λ e. subst (λ (m : Mine). BookHad g.row.D.Denot g.K.HeapName.heap (NoneFree m.number)) c.self.view_is (c.alloc.ensures.none e)
 
 pub returns-clause-full : goal.returns-clause-full
-returns-clause-full g c = λ e. subst (λ (m : Mine). BookHad g.row.D.Denot g.K.HeapName.table (LacksRoom m.number c.args.len)) c.self.view_is (c.alloc.ensures.full e)
+returns-clause-full g c = λ e. subst (λ (m : Mine). BookHad g.row.D.Denot g.K.HeapName.heap (LacksRoom m.number c.args.len)) c.self.view_is (c.alloc.ensures.full e)
