@@ -7,8 +7,8 @@ ghost use Rattle.std.specs.Vec.{vec_capacity};
 use std::alloc::Global;
 use std::mem;
 
-/// How many buffers are kept.
-const SPARES: usize = 64;
+/// How many buffers are kept: as many as there are keys in the row.
+const SPARES: usize = 1024;
 
 /// How long an object is at most that is put into a spare buffer. A buffer that was too small for one has less than twice that.
 const SHORT: usize = 64;

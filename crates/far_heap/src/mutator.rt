@@ -80,6 +80,7 @@ impl<K: HeapName, D: Device + Drop> Mutator<K, D> {
     /// Refused, in this order: [`Refused::Length`] exactly where the length is out of range; [`Refused::NoPointer`] only where, as the lock was held, none
     /// of the mutator's 128 cells was free; [`Refused::NoRoom`] only where one was, but there was no room in the open log, and at most one log was free.
     /// Nothing has changed then.
+    #[inline(always)]
     pub fn alloc<R: Wait>(&mut self, rt: &R, len: u16, ds: u8) -> Result<u16, Refused>
         ensures refused { IfErr result (λ why. IsNoObject len why × (self.new ≡ self.old)) }
         ensures had { IfOk result (λ p. BookHad D K.heap (HasRoom self.old.number len p)) }
@@ -93,6 +94,7 @@ impl<K: HeapName, D: Device + Drop> Mutator<K, D> {
     /// Drops an object, which the mutator uses no longer. It takes the lock. Refused [`Refused::NotHeld`] alone, exactly where the mutator doesn't use
     /// the pointer; nothing has changed then.
     #[tactic(auto, using(crate::proofs::MineLaws::drop_unheld, crate::proofs::MineLaws::drop_used))]
+    #[inline(always)]
     pub fn drop_object<R: Wait>(&mut self, rt: &R, p: u16) -> Result<(), Refused>
         ensures refused { IfErr result (λ why. (why ≡ Refused.NotHeld) × (uses self.old p ≡ false) × (self.new ≡ self.old)) }
         ensures dropped { IfOk result (λ _. (uses self.old p ≡ true) × (self.new ≡ dropping p self.old)) }

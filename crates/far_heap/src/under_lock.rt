@@ -16,6 +16,7 @@ use far_word::{LONGEST, Refused};
 use std::sync::Wait;
 
 // Places a new object of zeros for a mutator's lowest free cell: its pointer.
+#[inline(always)]
 fn place<K: HeapName, D: Device + Drop, R: Wait>(
     rt: &R,
     lock: &Lock<K, D>,
@@ -39,6 +40,7 @@ fn place<K: HeapName, D: Device + Drop, R: Wait>(
 }
 
 // Makes a new object of zeros, and uses it from then on: its pointer.
+#[inline(always)]
 pub(crate) fn alloc<K: HeapName, D: Device + Drop, R: Wait>(
     rt: &R,
     lock: &Lock<K, D>,
@@ -70,6 +72,7 @@ pub(crate) fn alloc<K: HeapName, D: Device + Drop, R: Wait>(
 }
 
 // Drops an object, which the mutator uses no longer.
+#[inline(always)]
 pub(crate) fn drop_object<K: HeapName, D: Device + Drop, R: Wait>(
     rt: &R,
     lock: &Lock<K, D>,

@@ -116,18 +116,18 @@ fn the_row_ends_at_1024(rt: HostRuntime) -> Result<(), Fail> {
 #[test]
 fn buffers_are_used_again(rt: HostRuntime) -> Result<(), Fail> {
     let mut device = MemDevice::new(rt.alloc());
-    for id in 0..65u32 {
+    for id in 0..1025u32 {
         device.write(id, &[7; 64])?;
     }
-    for id in 0..65u32 {
+    for id in 0..1025u32 {
         device.forget(id);
     }
-    assert_eq!(rt; device.spares.buffers.len(), 64);
+    assert_eq!(rt; device.spares.buffers.len(), 1024);
     let rows: [(u32, &[u8], usize); 4] = [
-        (1, &[8, 9], 63),
-        (2, &[5; 65], 63),
-        (1, &[6; 64], 63),
-        (1, &[4; 128], 64),
+        (1, &[8, 9], 1023),
+        (2, &[5; 65], 1023),
+        (1, &[6; 64], 1023),
+        (1, &[4; 128], 1024),
     ];
     for (id, bytes, left) in rows {
         device.write(id, bytes)?;
@@ -135,7 +135,7 @@ fn buffers_are_used_again(rt: HostRuntime) -> Result<(), Fail> {
         assert_eq!(rt; device.spares.buffers.len(), left, "under {id}");
     }
     device.forget(1);
-    assert_eq!(rt; device.spares.buffers.len(), 64);
+    assert_eq!(rt; device.spares.buffers.len(), 1024);
     Ok(())
 }
 
