@@ -34,6 +34,7 @@ pub mod SaidBy
 pub mod SealedAside
 pub mod Standing
 pub mod StepsTell
+pub mod Stops
 pub mod TakingRoom
 pub mod Tries
 pub mod TurnsTell
