@@ -250,7 +250,7 @@ leaves now (Mutator m Epoch) o is e = tt
 leaves now (Book inquiry) o is e = tt
 leaves now (Evacuator step) o is e = tt
 
-served_leaves : (now : Moment) (c : Command) (r : Reply) (next : Moment) → IsMoment now → Served now c r next → LeavesMarks now.core c r next.core
+pub served_leaves : (now : Moment) (c : Command) (r : Reply) (next : Moment) → IsMoment now → Served now c r next → LeavesMarks now.core c r next.core
 served_leaves now c r next is h =
     subst (λ x. LeavesMarks now.core c x next.core) (sym h.reply)
     (subst (λ (x : Moment). LeavesMarks now.core c (reply_to now c) x.core) (sym h.moment) (leaves now c (refusal now c) is refl))

@@ -5,6 +5,7 @@ ghost use Rattle.far_replay_laws.specs.Ends.{EndsAreTold};
 ghost use Rattle.far_replay_laws.specs.Census.{AuditsByCensus};
 ghost use Rattle.far_replay_laws.specs.Chosen.{RoundsAreChosen};
 ghost use Rattle.far_replay_laws.specs.Epochs.{StepsSpendEpochs};
+ghost use Rattle.far_replay_laws.specs.FromOutside.{DeviceRefusesFar};
 ghost use Rattle.far_replay_laws.specs.Listed.{AuditCountsList};
 ghost use Rattle.far_replay_laws.specs.Headline.{OutputsAreSound, OneOutput, OutsideDecides, EachTextIsAnswered, TextsWriteBytes, LinesAreNumbered, MomentsLast, EventsReach, ShapesAre, HeapsBeginLawful, ObjectsStayWhole, ViewedLogsStay, ViewsLast, RefusalsStay, RefusalsChangeNothing, TriesAreAnswered, UnknownMutatorsAreRefused, NearRefusals, MutatorsAreAlone, OwnLinesCount, MutatorsLearn, NewTakesTheLowest, NoneIsLeft, NewIsMade, NewMakesItsObject, CommandsTakeRoom, WritesChangeTheirRange, LogsAreTold, WhereTells, LogTellsItsLine, AuditCounts, DropEndsObject, EpochsAreTold, ScopesOpenAtEpochs, ClosesForget, PrintedAlike};
 ghost use Rattle.far_replay_laws.specs.Ages.{AgesStay};
@@ -66,12 +67,13 @@ pub fn views_last()
 /// no others; any other refusal leaves the moment as it is. A line of a
 /// mutator that the heap hasn't is refused 8. Where the object that it reads, writes, views or tries is near and unmarked, no command after the
 /// heap is refused for want of memory, by a device or for a mark; for want of a pointer or of room a new object alone is
-/// refused.
+/// refused. As the device failed, or gave another number of bytes, a command is refused only where its object is far, which it stays.
 pub fn refusals_leave_all()
     ensures stay { RefusalsStay }
     ensures nothing { RefusalsChangeNothing }
     ensures unknown { UnknownMutatorsAreRefused }
     ensures near { NearRefusals }
+    ensures far { DeviceRefusesFar }
 {}
 
 /// The replies to one mutator's lines are what its own lines alone say: its own, and no others, say what it knows. What
