@@ -12,34 +12,54 @@ use Rattle.std.proofs.lemmas.Grind.{flat_map-append}
 use Rattle.std.proofs.lemmas.List.{take-append-le}
 use Rattle.far_core.specs.state.Law.{Law}
 use Rattle.far_replay.specs.Moment.{Moment}
-use Rattle.far_replay.specs.Answers.{Answered, Commanded}
+use Rattle.far_replay.specs.Answers.{AllServed, Answered, AnsweredBy, CommandedBy, Outside, Serves, Refuses}
 use Rattle.far_text.specs.Command.{Command, New, Open, Write, Read, Close, Where, Drop, View, Try, Epoch, Logs, Log, Audit, Mutator, Book, Evacuator, Select, Mark, Wait, Evacuate, Abort, Round}
 use Rattle.far_replay.specs.Objects.{lowest_cell}
 use Rattle.far_replay.specs.Reply.{Reply, Done, Logs as Told, Refused, reply_text}
 use Rattle.far_replay.specs.Stream.{AppendsPart, Holds}
 use Rattle.far_replay.specs.Turn.{effect, home_reply, log_line, pointer_reply, refusal, reply_to, turn_reply, unless}
 
+-- what the outside made of each command isn't told to the laws a command
+pub answered_by : (os : List Outside) (now : Moment) (cs : List Command) (rs : List Reply) (moments : List Moment) → AnsweredBy os now cs rs moments → Answered now cs rs moments
+answered_by [] now [] [] [] h = tt
+answered_by [] now [] [] (m ∷ ms) h = absurd h
+answered_by [] now [] (r ∷ rs) ms h = absurd h
+answered_by [] now (c ∷ cs) rs ms h = absurd h
+answered_by (o ∷ os) now [] rs ms h = absurd h
+answered_by (o ∷ os) now (c ∷ cs) [] ms h = absurd h
+answered_by (o ∷ os) now (c ∷ cs) (r ∷ rs) [] h = absurd h
+answered_by (o ∷ os) now (c ∷ cs) (r ∷ rs) (m ∷ ms) h = ((o, h.0), answered_by os m cs rs ms h.1)
+
 -- the run goes on by one command
-pub answered_more : (s t : Moment) (cs later : List Command) (replies : List Reply) (moments : List Moment) (c : Command) (r : Reply) (u : Moment) →
-    ((rest : List Reply) (more : List Moment) → Answered t (c ∷ later) rest more → Answered s cs (replies ++ rest) (moments ++ more)) →
-    Commanded t c r u →
-    (rest : List Reply) (more : List Moment) → Answered u later rest more → Answered s cs ((replies ++ r ∷ []) ++ rest) ((moments ++ u ∷ []) ++ more)
-answered_more s t cs later replies moments c r u go after_events rest more h =
-    subst (λ xs. Answered s cs xs ((moments ++ u ∷ []) ++ more)) (sym (append_assoc replies (r ∷ []) rest))
-    (subst (λ us. Answered s cs (replies ++ r ∷ rest) us) (sym (append_assoc moments (u ∷ []) more)) (go (r ∷ rest) (u ∷ more) (after_events, h)))
+pub answered_more : (s t : Moment) (cs later : List Command) (outside : List Outside) (replies : List Reply) (moments : List Moment) (o : Outside) (c : Command) (r : Reply) (u : Moment) →
+    ((os : List Outside) (rest : List Reply) (more : List Moment) → AnsweredBy os t (c ∷ later) rest more → AnsweredBy (outside ++ os) s cs (replies ++ rest) (moments ++ more)) →
+    CommandedBy o t c r u →
+    (os : List Outside) (rest : List Reply) (more : List Moment) → AnsweredBy os u later rest more → AnsweredBy ((outside ++ o ∷ []) ++ os) s cs ((replies ++ r ∷ []) ++ rest) ((moments ++ u ∷ []) ++ more)
+answered_more s t cs later outside replies moments o c r u go made os rest more h =
+    subst (λ xs. AnsweredBy xs s cs ((replies ++ r ∷ []) ++ rest) ((moments ++ u ∷ []) ++ more)) (sym (append_assoc outside (o ∷ []) os))
+    (subst (λ xs. AnsweredBy (outside ++ o ∷ os) s cs xs ((moments ++ u ∷ []) ++ more)) (sym (append_assoc replies (r ∷ []) rest))
+    (subst (λ us. AnsweredBy (outside ++ o ∷ os) s cs (replies ++ r ∷ rest) us) (sym (append_assoc moments (u ∷ []) more)) (go (o ∷ os) (r ∷ rest) (u ∷ more) (made, h))))
 
 -- the run is over
-pub answered_all : (s t : Moment) (cs : List Command) (replies : List Reply) (moments : List Moment) (none : List Command) → none ≡ [] →
-    ((rest : List Reply) (more : List Moment) → Answered t none rest more → Answered s cs (replies ++ rest) (moments ++ more)) → Answered s cs replies moments
-answered_all s t cs replies moments none e go =
-    subst (λ xs. Answered s cs xs moments) (append-nil replies) (subst (λ us. Answered s cs (replies ++ []) us) (append-nil moments) (go [] [] (subst (λ cs. Answered t cs [] []) (sym e) tt)))
+pub answered_all : (s t : Moment) (cs : List Command) (outside : List Outside) (replies : List Reply) (moments : List Moment) (none : List Command) → none ≡ [] →
+    ((os : List Outside) (rest : List Reply) (more : List Moment) → AnsweredBy os t none rest more → AnsweredBy (outside ++ os) s cs (replies ++ rest) (moments ++ more)) → AnsweredBy outside s cs replies moments
+answered_all s t cs outside replies moments none e go =
+    subst (λ os. AnsweredBy os s cs replies moments) (append-nil outside)
+    (subst (λ xs. AnsweredBy (outside ++ []) s cs xs moments) (append-nil replies)
+    (subst (λ us. AnsweredBy (outside ++ []) s cs (replies ++ []) us) (append-nil moments) (go [] [] [] (subst (λ cs. AnsweredBy [] t cs [] []) (sym e) tt))))
 
--- each list of commands is answered
-pub answers_all : (now : Moment) (cs : List Command) → (rs : List Reply) × (moments : List Moment) × Answered now cs rs moments
-answers_all now [] = ([], [], tt)
+-- each list of commands is answered, where the outside refuses nothing
+pub answers_all : (now : Moment) (cs : List Command) → (os : List Outside) × (rs : List Reply) × (moments : List Moment) × AllServed os × AnsweredBy os now cs rs moments
+answers_all now [] = ([], [], [], tt, tt)
 answers_all now (c ∷ cs) =
     let rest = answers_all (effect now c) cs in
-    (reply_to now c ∷ rest.0, effect now c ∷ rest.1, (record { reply = refl; moment = refl }, rest.2))
+    (Serves ∷ rest.0, reply_to now c ∷ rest.1, effect now c ∷ rest.2, rest.3, (record { reply = refl; moment = refl }, rest.4))
+
+-- one command more that is served, and more of them
+pub served_more : (xs ys : List Outside) → AllServed xs → AllServed ys → AllServed (xs ++ ys)
+served_more [] ys h k = k
+served_more (Serves ∷ xs) ys h k = served_more xs ys h k
+served_more (Refuses why turns objects ∷ xs) ys h k = absurd h
 
 -- ---- each reply has a line
 abbrev HasBytes : List ℕ → Type 0
@@ -101,14 +121,14 @@ held_part start now waiting (Err e) bytes more some (n, lt, added) =
 
 -- that of the replies so far is one of all that there would be, since the next has a line
 pub led_part : {A E : Type 0} (start end : Option (List ℕ)) (waiting : List ℕ) (written : Result A E) (replies : List Reply) (now : Moment) (cs : List Command) → Law now.core → 0 < length cs →
-    Holds start end waiting written (flat_map reply_text (Done ∷ replies)) → AppendsPart start end (flat_map reply_text (Done ∷ (replies ++ (answers_all now cs).0)))
+    Holds start end waiting written (flat_map reply_text (Done ∷ replies)) → AppendsPart start end (flat_map reply_text (Done ∷ (replies ++ (answers_all now cs).1)))
 unfolding answers_all
 led_part start end waiting written replies now [] law some holds = absurd (omega (arith, some))
 led_part start end waiting written replies now (c ∷ cs) law some holds =
     let bytes : List ℕ = flat_map reply_text (Done ∷ replies) in
-    let rest : List Reply = (answers_all now (c ∷ cs)).0 in
+    let rest : List Reply = (answers_all now (c ∷ cs)).1 in
     let first : List ℕ = reply_text (reply_to now c) in
-    let last : List ℕ = flat_map reply_text (answers_all (effect now c) cs).0 in
+    let last : List ℕ = flat_map reply_text (answers_all (effect now c) cs).1 in
     let more : 0 < length (first ++ last) = omega (arith, has_some first (some_reply now c (refusal now c) law), length-append first last) in
     let all : flat_map reply_text (Done ∷ (replies ++ rest)) ≡ bytes ++ flat_map reply_text rest =
     ap (λ xs. reply_text Done ++ xs) (flat_map-append reply_text replies rest) ∙ sym (append_assoc (reply_text Done) (flat_map reply_text replies) (flat_map reply_text rest)) in

@@ -39,7 +39,7 @@ use Rattle.far_book.proofs.region.Reaching.{retiring}
 use Rattle.far_book.proofs.region.Retires.{retired_is, may_retire, live_here, live_there}
 use Rattle.far_book.proofs.region.SpanLists.{taken_same}
 use Rattle.far_replay.specs.Alone.{own_of, bytes_in_world}
-use Rattle.far_replay.specs.Answers.{Commanded}
+use Rattle.far_replay.specs.Answers.{Served}
 use Rattle.far_text.specs.Command.{Drop, Mutator}
 use Rattle.far_replay.specs.Effects.{without_object}
 use Rattle.far_replay.specs.EventRows.{after_events, Succeeds, AllSucceed, ComesToPass, AllComeToPass}
@@ -225,7 +225,7 @@ ends_object s m p law within ours unheld = record {
   others = λ len ds place marks e l ne. (live_stays s m p law within ours unheld len ds place marks e l ne, dead_stays s m p law within ours unheld len ds place marks e l ne);
 }
 
-pub drop_ends_object : (now : Moment) (m p : ℕ) (r : Reply) (after : Moment) → Law now.core → m < now.core.mutators → Commanded now (Mutator m (Drop p)) r after →
+pub drop_ends_object : (now : Moment) (m p : ℕ) (r : Reply) (after : Moment) → Law now.core → m < now.core.mutators → Served now (Mutator m (Drop p)) r after →
     (uses now.core m p ≢ true → r ≡ Refused NotHeld)
     × (uses now.core m p ≡ true → (world_of now.core).viewed p ≡ true → r ≡ Refused Held)
     × (uses now.core m p ≡ true → (world_of now.core).viewed p ≡ false → (r ≡ Done) × EndsObject now.core after.core p)

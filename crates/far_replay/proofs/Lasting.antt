@@ -12,20 +12,24 @@ use Rattle.far_core.specs.events.Step.{step_of, is_legal, after, answer, Fits}
 use Rattle.far_core.proofs.Keeps.{step_keeps}
 use Rattle.far_log.proofs.Members.{split, none_in, All-from}
 use Rattle.far_core.proofs.Steps.{agrees}
-use Rattle.far_replay.specs.Answers.{Answered, Commanded, IsMoment, moment_after, shape_of, first_moment}
-use Rattle.far_text.specs.Command.{Command, Mutator, Book, Evacuator}
+use Rattle.far_replay.specs.Answers.{Answered, Commanded, Served, IsMoment, moment_after, shape_of, first_moment}
+use Rattle.far_text.specs.Command.{Command, Try, Mutator, Book, Evacuator, Evacuate, Round, Step}
+use Rattle.far_word.specs.declared.refused.Refused.TheVariants.{Marked}
 use Rattle.far_evac.specs.MomentLaw.{MomentLaw}
+use Rattle.far_evac.specs.declared.answers.RoundEnd.TheVariants.{Limit}
+use Rattle.far_evac.specs.declared.phase.Phase.TheVariants.{Evacuating}
 use Rattle.far_evac.specs.Strays.{NoneStrays}
 use Rattle.far_replay.specs.Events.{events_for, IsTold}
 use Rattle.far_replay.specs.Lawful.{Lawful}
 use Rattle.far_text.specs.Written.{WritesBytes, AllWriteBytes}
 use Rattle.far_replay.specs.EventRows.{after_events, AllSucceed, AllPass, Succeeds}
 use Rattle.far_replay.specs.Moment.{Moment}
-use Rattle.far_replay.specs.Reply.{Reply}
+use Rattle.far_replay.specs.Reply.{Reply, Ended, Evacuated, Refused}
 use Rattle.far_replay.specs.Between.{Between}
 use Rattle.far_replay.specs.Turn.{effect, reply_to}
 use Rattle.far_text.proofs.Each.{Each}
 use Rattle.far_replay.proofs.ToldRounds.{told_round}
+use Rattle.far_replay.proofs.Outcomes.{by_outcome}
 use Rattle.far_replay.proofs.Opened.{opening_law, opening_between, opening_round, opening_strays}
 use Rattle.far_replay.proofs.RoundLeads.{between_kept, step_keeps as step_leaves, step_leads}
 use Rattle.far_replay.proofs.Strays.{step_strays, told_strays}
@@ -45,7 +49,7 @@ pub record IsCarriedOut (now : Moment) (c : Command) (r : Reply) (t : State) : T
   pub fit : Each Fits (events_for now c)
   pub law : Law t
 
-pub command_carried : (now : Moment) (c : Command) (r : Reply) (next : Moment) → IsTold c → Lasts now → WritesBytes c → Commanded now c r next → IsCarriedOut now c r next.core
+pub command_carried : (now : Moment) (c : Command) (r : Reply) (next : Moment) → IsTold c → Lasts now → WritesBytes c → Served now c r next → IsCarriedOut now c r next.core
 command_carried now c r next told lasts bytes h =
     let x = turns now c told lasts.law lasts.between bytes in
     let ends : next.core ≡ after_events now.core (events_for now c) = ap (λ (m : Moment). m.core) h.moment ∙ sym x.ends in
@@ -69,10 +73,8 @@ told_lasts now c told lasts bytes =
       strays = told_strays now c (events_for now c) told lasts.law x.fit x.ends lasts.strays;
     }
 
-pub effect_lasts : (now : Moment) (c : Command) → Lasts now → WritesBytes c → Lasts (effect now c)
-effect_lasts now (Mutator m request) lasts bytes = told_lasts now (Mutator m request) tt lasts bytes
-effect_lasts now (Book inquiry) lasts bytes = told_lasts now (Book inquiry) tt lasts bytes
-effect_lasts now (Evacuator step) lasts bytes =
+step_lasts : (now : Moment) (step : Step) → Lasts now → Lasts (effect now (Evacuator step))
+step_lasts now step lasts =
     let leads = step_leads now step lasts.law lasts.round in
     record {
       law = leads.law;
@@ -81,8 +83,27 @@ effect_lasts now (Evacuator step) lasts bytes =
       strays = step_strays now step lasts.law lasts.round lasts.strays;
     }
 
+pub effect_lasts : (now : Moment) (c : Command) → Lasts now → WritesBytes c → Lasts (effect now c)
+effect_lasts now (Mutator m request) lasts bytes = told_lasts now (Mutator m request) tt lasts bytes
+effect_lasts now (Book inquiry) lasts bytes = told_lasts now (Book inquiry) tt lasts bytes
+effect_lasts now (Evacuator step) lasts bytes = step_lasts now step lasts
+
+pub after_step : (now : Moment) (step : Step) (r : Reply) (next : Moment) → Lasts now → Served now (Evacuator step) r next → Lasts next
+after_step now step r next lasts h = subst Lasts (sym h.moment) (step_lasts now step lasts)
+
+pub served_lasts : (now : Moment) (c : Command) (r : Reply) (next : Moment) → Lasts now → WritesBytes c → Served now c r next → Lasts next
+served_lasts now c r next lasts bytes h = subst Lasts (sym h.moment) (effect_lasts now c lasts bytes)
+
 pub still_lasts : (now : Moment) (c : Command) (r : Reply) (next : Moment) → Lasts now → WritesBytes c → Commanded now c r next → Lasts next
-still_lasts now c r next lasts bytes h = subst Lasts (sym h.moment) (effect_lasts now c lasts bytes)
+still_lasts now c r next lasts bytes h = by_outcome now r next (λ d. WritesBytes d → Lasts next)
+    (λ d h bytes. served_lasts now d r next lasts bytes h)
+    (λ why m p from new h bytes. served_lasts now (Mutator m (Try p)) (Refused (Marked (now.core.cell p))) next lasts tt h.tried)
+    (λ why m p from len h bytes. served_lasts now (Mutator m (Try p)) (Refused (Marked (now.core.cell p))) next lasts tt h.tried)
+    (λ why m p h bytes. served_lasts now (Mutator m (Try p)) (Refused (Marked (now.core.cell p))) next lasts tt h.tried)
+    (λ why objects count h bytes. served_lasts now (Evacuator (Evacuate objects)) (Evacuated h.progress) next lasts tt h.left)
+    (λ why turns objects policy most count h bytes. served_lasts h.stood (Evacuator (Evacuate objects)) (Evacuated h.progress) next
+    (served_lasts now (Evacuator (Round policy most turns)) (Ended (Limit Evacuating)) h.stood lasts bytes h.turned) tt h.left)
+    c h bytes
 
 -- and through commands
 still_lasts_after : (now : Moment) (cs : List Command) → Lasts now → AllWriteBytes cs → Lasts (moment_after now cs)
@@ -113,9 +134,21 @@ bytes_more : (cs : List Command) (c : Command) → AllWriteBytes cs → WritesBy
 bytes_more [] c h k = (k, tt)
 bytes_more (d ∷ cs) c h k = (h.0, bytes_more cs c h.1 k)
 
-pub next_is_moment : (now : Moment) (c : Command) (r : Reply) (next : Moment) → IsMoment now → WritesBytes c → Commanded now c r next → IsMoment next
-next_is_moment now c r next (logs, mutators, epoch, cs, fits, bytes, is) more h =
+pub served_is_moment : (now : Moment) (c : Command) (r : Reply) (next : Moment) → IsMoment now → WritesBytes c → Served now c r next → IsMoment next
+served_is_moment now c r next (logs, mutators, epoch, cs, fits, bytes, is) more h =
     (logs, mutators, epoch, cs ++ c ∷ [], fits, bytes_more cs c bytes more, h.moment ∙ ap (λ m. effect m c) is ∙ sym (one_after (first_moment logs mutators epoch) cs c))
+
+-- one that is refused in its midst leads where lesser ones do that are served
+pub next_is_moment : (now : Moment) (c : Command) (r : Reply) (next : Moment) → IsMoment now → WritesBytes c → Commanded now c r next → IsMoment next
+next_is_moment now c r next is more h = by_outcome now r next (λ d. WritesBytes d → IsMoment next)
+    (λ d h bytes. served_is_moment now d r next is bytes h)
+    (λ why m p from new h bytes. served_is_moment now (Mutator m (Try p)) (Refused (Marked (now.core.cell p))) next is tt h.tried)
+    (λ why m p from len h bytes. served_is_moment now (Mutator m (Try p)) (Refused (Marked (now.core.cell p))) next is tt h.tried)
+    (λ why m p h bytes. served_is_moment now (Mutator m (Try p)) (Refused (Marked (now.core.cell p))) next is tt h.tried)
+    (λ why objects count h bytes. served_is_moment now (Evacuator (Evacuate objects)) (Evacuated h.progress) next is tt h.left)
+    (λ why turns objects policy most count h bytes. served_is_moment h.stood (Evacuator (Evacuate objects)) (Evacuated h.progress) next
+    (served_is_moment now (Evacuator (Round policy most turns)) (Ended (Limit Evacuating)) h.stood is bytes h.turned) tt h.left)
+    c h more
 
 first_or : (now : Moment) (moments : List Moment) (x : Moment) → IsMoment now → (Contains moments x → IsMoment x) → Contains (now ∷ moments) x → IsMoment x
 first_or now moments x is there c = elim (split x now moments c) [

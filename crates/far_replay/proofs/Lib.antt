@@ -19,6 +19,7 @@ pub mod Lowest
 pub mod MadeLemmas
 pub mod NewTurns
 pub mod Opened
+pub mod Outcomes
 pub mod Placing
 pub mod RangeTurns
 pub mod RangeWrites

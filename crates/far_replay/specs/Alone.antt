@@ -1,7 +1,7 @@
 -- The replies to one mutator's lines, by its own lines alone.
 use Rattle.std.specs.Prelude.{◌≡◌, ◌≢◌, ℕ, ◌+◌, ◌/◌, ◌<◌, ◌≤◌, ◌⊎◌, Bool, true, false, cond, ◌==◌, ◌&&◌, Option, Some, None, List, [], ◌∷◌, length, replicate, slice_range}
 use Rattle.std.specs.Bool.{MatchBool}
-use Rattle.far_word.specs.declared.refused.Refused.TheVariants.{NoRoom, NoPointer, Length, Closed, AlreadyOpen, NotHeld, Range, Held, Marked}
+use Rattle.far_word.specs.declared.refused.Refused.TheVariants.{NoRoom, NoPointer, Length, Closed, AlreadyOpen, NotHeld, Range, Held, Device, Damaged, Marked}
 use Rattle.far_word.specs.declared.sizes.TheConstants.{CELLS, LONGEST}
 use Rattle.far_core.specs.state.State.{State, put}
 use Rattle.far_core.specs.world.World.{World, Object}
@@ -42,7 +42,7 @@ abbrev pub HasAll : ℕ → Own → Type 0
 HasAll m o = (p : ℕ) → p / CELLS ≡ m → o.object p ≢ None
 
 -- a command of the mutator m with its reply takes what it knows from o to q. A refusal is the first of its row that applies; so 3 comes exactly where nothing earlier applies and all
--- its objects exist. Which of its own numbers a new object gets, whether 2 comes where nothing earlier applies, where an object is, and whether a mark keeps it from being viewed, depends on cells and
+-- its objects exist. Which of its own numbers a new object gets, whether 2, and then 10 or 11, comes where nothing earlier applies, where an object is, and whether a mark keeps it from being viewed, depends on cells and
 -- logs, which it doesn't know, but that what it views is near and needs no pin
 abbrev pub Knows : ℕ → Own → Command → Reply → Own → Type 0
 Knows m o (Mutator _ (New len ds)) (Pointer p) q = (ds < 256) × (0 < len) × (len ≤ LONGEST) × (p / CELLS ≡ m) × (o.object p ≡ None) × (q ≡ record o { object = put o.object p (Some (replicate len 0)) })
@@ -59,7 +59,11 @@ Knows m o (Mutator _ (Read p from len)) (Refused Closed) q = (o.opened ≡ false
 Knows m o (Mutator _ (Read p from len)) (Refused NotHeld) q = (o.opened ≡ true) × (o.object p ≡ None) × (q ≡ o)
 Knows m o (Mutator _ (Read p from len)) (Refused Range) q = (o.opened ≡ true) × (q ≡ o) × ((all : List ℕ) × (o.object p ≡ Some all) × IsOut all from len)
 Knows m o (Mutator _ (Read p from len)) (Refused NoRoom) q = (o.opened ≡ true) × (o.viewed p ≡ false) × (q ≡ o) × ((all : List ℕ) × (o.object p ≡ Some all) × IsIn all from len)
+Knows m o (Mutator _ (Read p from len)) (Refused Device) q = (o.opened ≡ true) × (o.viewed p ≡ false) × (q ≡ o) × ((all : List ℕ) × (o.object p ≡ Some all) × IsIn all from len)
+Knows m o (Mutator _ (Read p from len)) (Refused Damaged) q = (o.opened ≡ true) × (o.viewed p ≡ false) × (q ≡ o) × ((all : List ℕ) × (o.object p ≡ Some all) × IsIn all from len)
 Knows m o (Mutator _ (Write p from new)) (Refused NoRoom) q = (o.opened ≡ true) × (o.viewed p ≡ false) × (q ≡ o) × ((all : List ℕ) × (o.object p ≡ Some all) × IsIn all from (length new))
+Knows m o (Mutator _ (Write p from new)) (Refused Device) q = (o.opened ≡ true) × (o.viewed p ≡ false) × (q ≡ o) × ((all : List ℕ) × (o.object p ≡ Some all) × IsIn all from (length new))
+Knows m o (Mutator _ (Write p from new)) (Refused Damaged) q = (o.opened ≡ true) × (o.viewed p ≡ false) × (q ≡ o) × ((all : List ℕ) × (o.object p ≡ Some all) × IsIn all from (length new))
 Knows m o (Mutator _ (Write p from new)) Done q = (o.opened ≡ true) × ((all : List ℕ) × (o.object p ≡ Some all) × IsIn all from (length new) × (q ≡ record o { object = put o.object p (Some (with_range all from new)); viewed = put o.viewed p true }))
 Knows m o (Mutator _ (Write p from new)) (Refused Closed) q = (o.opened ≡ false) × (q ≡ o)
 Knows m o (Mutator _ (Write p from new)) (Refused NotHeld) q = (o.opened ≡ true) × (o.object p ≡ None) × (q ≡ o)
@@ -73,6 +77,8 @@ Knows m o (Mutator _ (View p)) Done q = (o.opened ≡ true) × (q ≡ record o {
 Knows m o (Mutator _ (View p)) (Refused Closed) q = (o.opened ≡ false) × (q ≡ o)
 Knows m o (Mutator _ (View p)) (Refused NotHeld) q = (o.opened ≡ true) × (o.object p ≡ None) × (q ≡ o)
 Knows m o (Mutator _ (View p)) (Refused NoRoom) q = (o.opened ≡ true) × (o.viewed p ≡ false) × (q ≡ o) × ((all : List ℕ) × (o.object p ≡ Some all))
+Knows m o (Mutator _ (View p)) (Refused Device) q = (o.opened ≡ true) × (o.viewed p ≡ false) × (q ≡ o) × ((all : List ℕ) × (o.object p ≡ Some all))
+Knows m o (Mutator _ (View p)) (Refused Damaged) q = (o.opened ≡ true) × (o.viewed p ≡ false) × (q ≡ o) × ((all : List ℕ) × (o.object p ≡ Some all))
 Knows m o (Mutator _ (Try p)) Done q = (o.opened ≡ true) × (q ≡ record o { viewed = put o.viewed p true }) × ((all : List ℕ) × (o.object p ≡ Some all))
 Knows m o (Mutator _ (Try p)) (Refused Closed) q = (o.opened ≡ false) × (q ≡ o)
 Knows m o (Mutator _ (Try p)) (Refused NotHeld) q = (o.opened ≡ true) × (o.object p ≡ None) × (q ≡ o)

@@ -9,6 +9,7 @@ use Rattle.far_core.specs.state.Opening.{opening}
 use Rattle.far_core.specs.state.Shape.{is_shape}
 use Rattle.far_text.specs.Command.{Command, Trace, Nothing, Heap}
 use Rattle.far_text.specs.Grammar.{trace_of}
+pub use Rattle.far_replay.specs.Commanded.{Commanded, CommandedBy, Outside, Serves, Refuses, Served, Stopped, Unbrought, StopsLeaving, StopsRound}
 use Rattle.far_replay.specs.Moment.{Moment, moment_of}
 use Rattle.far_replay.specs.Reply.{Reply, Done, Refused, reply_text}
 use Rattle.far_replay.specs.declared.running.End.{End}
@@ -16,19 +17,26 @@ use Rattle.far_replay.specs.declared.running.End.TheVariants.{Ran, Refused as Tu
 use Rattle.far_replay.specs.declared.running.RunFault.{RunFault}
 use Rattle.far_replay.specs.declared.running.RunFault.TheVariants as faults
 use Rattle.far_replay.specs.Stream.{AppendsFront, AppendsPart}
-use Rattle.far_replay.specs.Turn.{effect, reply_to}
+use Rattle.far_replay.specs.Turn.{effect}
 use Rattle.far_text.specs.Written.{AllWriteBytes}
-
--- one command, from a moment to the next, with its reply
-pub record Commanded (now : Moment) (c : Command) (r : Reply) (after : Moment) : Type 0 where
-  pub reply : r ≡ reply_to now c
-  pub moment : after ≡ effect now c
 
 -- one reply a command, and a list of moments, each after its command from the one before
 abbrev pub Answered : Moment → List Command → List Reply → List Moment → Type 0
 Answered now [] [] [] = Unit {0}
 Answered now (c ∷ cs) (r ∷ rs) (after ∷ moments) = Commanded now c r after × Answered after cs rs moments
 Answered now _ _ _ = ⊥
+
+-- the same, where this was made of each command by the outside
+abbrev pub AnsweredBy : List Outside → Moment → List Command → List Reply → List Moment → Type 0
+AnsweredBy [] now [] [] [] = Unit {0}
+AnsweredBy (o ∷ os) now (c ∷ cs) (r ∷ rs) (after ∷ moments) = CommandedBy o now c r after × AnsweredBy os after cs rs moments
+AnsweredBy _ now _ _ _ = ⊥
+
+-- the outside refuses nothing
+abbrev pub AllServed : List Outside → Type 0
+AllServed [] = Unit {0}
+AllServed (Serves ∷ os) = AllServed os
+AllServed (o ∷ os) = ⊥
 
 -- the shape that a heap line says
 abbrev pub shape_of : ℕ → ℕ → ℕ → Size
@@ -54,7 +62,7 @@ IsOutput (Err line) output = output ≡ reply_text (Refused (Syntax line))
 IsOutput (Ok Nothing) output = output ≡ []
 IsOutput (Ok (Heap logs mutators epoch commands)) output =
     MatchBool (is_shape (shape_of logs mutators epoch))
-    ((replies : List Reply) × (moments : List Moment) × Answered (first_moment logs mutators epoch) commands replies moments × (output ≡ flat_map reply_text (Done ∷ replies)))
+    ((outside : List Outside) × (replies : List Reply) × (moments : List Moment) × AllServed outside × AnsweredBy outside (first_moment logs mutators epoch) commands replies moments × (output ≡ flat_map reply_text (Done ∷ replies)))
     (output ≡ reply_text (Refused Shape))
 
 -- how a text ends that is read so: `Ran` for nothing and for a heap in range

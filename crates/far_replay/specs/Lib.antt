@@ -3,6 +3,7 @@ pub mod Answers
 pub mod Audit
 pub mod Between
 pub mod Changes
+pub mod Commanded
 pub mod Dereference
 pub mod Effects
 pub mod EventRows

@@ -37,6 +37,7 @@ pub data Reply : Type 0 where
   Evacuated : (progress : Progress) → Reply
   Ended : (end : RoundEnd) → Reply
   Refused : (why : Refusal) → Reply
+  Halted : (why : Refusal) (progress : Progress) → Reply
 
 abbrev pub kind_word : LogKind → List ℕ
 kind_word Free = codes "free"
@@ -112,6 +113,10 @@ end_text (ends.Done progress) = codes "done" ++ counted_text progress
 end_text ends.Nothing = codes "none"
 end_text (ends.Limit phase) = codes "limit " ++ phase_word phase
 
+-- the line of a step that was refused in its midst, with what it had done
+abbrev pub halted_text : Refusal → Progress → List ℕ
+halted_text why progress = codes "refused " ++ decimal (refusal_number why) ++ counted_text progress ++ codes "\n"
+
 -- the lines of a reply, each with its newline
 abbrev pub reply_text : Reply → List ℕ
 reply_text Done = codes "ok\n"
@@ -127,6 +132,7 @@ reply_text Clear = codes "clear\n"
 reply_text (Evacuated progress) = codes "evacuated" ++ counted_text progress ++ done_text progress.done ++ codes "\n"
 reply_text (Ended end) = codes "round " ++ end_text end ++ codes "\n"
 reply_text (Refused why) = refusal_text why
+reply_text (Halted why progress) = halted_text why progress
 
 -- the reply that the code gives
 abbrev pub reply_of : Given → Reply
@@ -159,3 +165,4 @@ IsShort Clear = Unit {0}
 IsShort (Evacuated progress) = Unit {0}
 IsShort (Ended end) = Unit {0}
 IsShort (Refused why) = Unit {0}
+IsShort (Halted why progress) = Unit {0}

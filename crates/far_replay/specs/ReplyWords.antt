@@ -1,14 +1,14 @@
 -- Worked replies of each form, each with another number in every place, and the text that is printed for it.
 use Rattle.std.specs.Prelude.{◌≡◌, ℕ, Bool, true, false, codes, Some, None, List, [], ◌∷◌}
 use Rattle.far_word.specs.declared.mark.Marks.{Marks}
-use Rattle.far_word.specs.declared.refused.Refused.TheVariants.{Memory, NoRoom, NoPointer, Length, Closed, AlreadyOpen, NotHeld, Range, Held, Phase as WrongPhase, EpochsSpent, Marked as MarkFound, Shape, Syntax, BadChoice, StillOpen}
+use Rattle.far_word.specs.declared.refused.Refused.TheVariants.{Memory, NoRoom, NoPointer, Length, Closed, AlreadyOpen, NotHeld, Range, Held, Damaged, Phase as WrongPhase, EpochsSpent, Marked as MarkFound, Shape, Syntax, BadChoice, StillOpen, Device}
 use Rattle.far_book.specs.declared.home.Home.TheVariants.{Near, Far}
 use Rattle.far_evac.specs.declared.answers.Progress.{Progress}
 use Rattle.far_evac.specs.declared.answers.RoundEnd.TheVariants as ends
 use Rattle.far_evac.specs.declared.census.LogKind.{LogKind}
 use Rattle.far_evac.specs.declared.census.LogKind.TheVariants as kinds
 use Rattle.far_evac.specs.declared.phase.Phase.TheVariants.{Marking, Waiting, Evacuating}
-use Rattle.far_replay.specs.Reply.{Reply, Done, Pointer, Data, Logs, Lies, Audited, EpochRead, Selected, Marked, Clear, Evacuated, Ended, Refused, LogLine, reply_text}
+use Rattle.far_replay.specs.Reply.{Reply, Done, Pointer, Data, Logs, Lies, Audited, EpochRead, Selected, Marked, Clear, Evacuated, Ended, Refused, Halted, LogLine, reply_text}
 
 -- a reply is printed as this text
 abbrev pub Reads : Reply → List ℕ → Type 0
@@ -96,6 +96,8 @@ RefusalsRead = Reads (Refused Memory) (codes "refused 1\n")
     × Reads (Refused NotHeld) (codes "refused 7\n")
     × Reads (Refused Range) (codes "refused 8\n")
     × Reads (Refused Held) (codes "refused 9\n")
+    × Reads (Refused Device) (codes "refused 10\n")
+    × Reads (Refused Damaged) (codes "refused 11\n")
     × Reads (Refused WrongPhase) (codes "refused 12\n")
     × Reads (Refused EpochsSpent) (codes "refused 13\n")
     × Reads (Refused Shape) (codes "refused 15\n")
@@ -107,3 +109,7 @@ ReasonsRead = Reads (Refused (MarkFound 0x0400_0000_0001_0008)) (codes "refused 
     × Reads (Refused (Syntax 204)) (codes "refused 16 204\n")
     × Reads (Refused (BadChoice 40)) (codes "refused 17 40\n")
     × Reads (Refused (StillOpen 2 35)) (codes "refused 18 2 35\n")
+
+-- and those of a step that had done something
+abbrev pub HaltsRead : Type 0
+HaltsRead = Reads (Halted Device (progress_so false)) (codes "refused 10 moved 4 far 13 dropped 2 freed 1\n")

@@ -1,6 +1,6 @@
 //! The words of replies, as a contract of a function that does nothing.
 
-ghost use Rattle.far_replay.specs.ReplyWords.{DonesRead, PointersRead, DataRead, EpochsRead, HomesRead, LogsRead, AuditsRead, SelectionsRead, MarksRead, ClearsRead, EvacuationsRead, RoundsRead, RefusalsRead, ReasonsRead};
+ghost use Rattle.far_replay.specs.ReplyWords.{DonesRead, PointersRead, DataRead, EpochsRead, HomesRead, LogsRead, AuditsRead, SelectionsRead, MarksRead, ClearsRead, EvacuationsRead, RoundsRead, RefusalsRead, ReasonsRead, HaltsRead};
 
 /// Worked replies of each form, each with another number in every place, and the text that is printed for each. Beside
 /// `lines_tell_replies` they fix the words of replies and the order of what they tell.
@@ -22,4 +22,5 @@ pub fn replies_read()
 
     ensures refusals { RefusalsRead }
     ensures reasons { ReasonsRead }
+    ensures halts { HaltsRead }
 {}

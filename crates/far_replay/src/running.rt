@@ -8,7 +8,7 @@ ghost use Rattle.std.specs.List.{flat_map};
 ghost use Rattle.far_core.specs.state.Opening.{opening};
 ghost use Rattle.far_core.specs.state.Shape.{is_shape};
 ghost use Rattle.far_replay.specs.Moment.{Moment, moment_in, moment_of, state_in};
-ghost use Rattle.far_replay.specs.Answers.{Answered, MayMakeHeap, Leads, WritesOutput, WritesAnswer, LeavesBehind, Leaves, end_of};
+ghost use Rattle.far_replay.specs.Answers.{AllServed, AnsweredBy, Outside, MayMakeHeap, Leads, WritesOutput, WritesAnswer, LeavesBehind, Leaves, end_of};
 ghost use Rattle.far_text.specs.declared.text.TheConstants.{LONGEST_TEXT};
 ghost use Rattle.far_text.specs.Grammar.{trace_of};
 ghost use Rattle.far_text.specs.Command.{Heap};
@@ -138,7 +138,7 @@ fn answer_commands<W: Write>(
     requires between { Between (state_in evac) }
     requires round { MomentLaw (moment_in evac) }
     requires strays { NoneStrays (moment_in evac) }
-    ensures { (replies : List Answer) × (moments : List Moment) × Answered (moment_in evac) commands.now replies moments
+    ensures { (outside : List Outside) × (replies : List Answer) × (moments : List Moment) × AllServed outside × AnsweredBy outside (moment_in evac) commands.now replies moments
         × Leads (W.contents writer.old) (W.contents writer.new) result (flat_map reply_text (Done ∷ replies)) }
 {
     let mut evac = evac;

@@ -20,12 +20,16 @@ use Rattle.far_evac.specs.declared.phase.Phase.{Phase}
 use Rattle.far_evac.specs.declared.phase.Phase.TheVariants.{Idle, Marking, Waiting, Evacuating}
 use Rattle.far_evac.proofs.Bools.{or_left, or_right}
 use Rattle.far_evac.proofs.Onward.{or_split}
-use Rattle.far_text.specs.Command.{Command, Mutator, Book, Evacuator, By, Policy, Step, Select, Mark, Wait, Evacuate, Abort, Round}
+use Rattle.far_text.specs.Command.{Command, Try, Mutator, Book, Evacuator, By, Policy, Step, Select, Mark, Wait, Evacuate, Abort, Round}
 use Rattle.far_replay_laws.specs.Ages.{KeepsAges, MayGiveBack}
-use Rattle.far_replay.specs.Answers.{Commanded, IsMoment}
+use Rattle.far_replay.specs.Answers.{Commanded, Served, IsMoment}
+use Rattle.far_evac.specs.declared.answers.Progress.{Progress}
+use Rattle.far_word.specs.declared.refused.Refused.TheVariants.{Marked}
+use Rattle.far_replay.proofs.Outcomes.{by_outcome}
+use Rattle.far_replay_laws.proofs.Stops.{LeftSome, Stood, left_some, stood_so}
 use Rattle.far_replay.specs.Events.{IsTold}
 use Rattle.far_replay.specs.Moment.{with_core}
-use Rattle.far_replay.specs.Reply.{Reply}
+use Rattle.far_replay.specs.Reply.{Reply, Evacuated, Refused}
 use Rattle.far_replay.specs.Rounds.{after_round, chosen_by, given_by, logs_given, refused_step, rows_in, step_effect}
 use Rattle.far_replay_laws.specs.Steps.{Takes}
 use Rattle.far_replay.specs.Turn.{effect, refusal, refused_effect, turn_effect, unless}
@@ -218,5 +222,28 @@ effect_keeps now (Mutator m request) lasts = told_keeps now (Mutator m request) 
 effect_keeps now (Book inquiry) lasts = told_keeps now (Book inquiry) tt
 effect_keeps now (Evacuator step) lasts = step_keeps now lasts.law lasts.round step (refusal now (Evacuator step)) refl
 
+served_keeps : (now : Moment) (c : Command) (r : Reply) (next : Moment) → IsMoment now → Served now c r next → KeepsAges now c next
+served_keeps now c r next is h = subst (KeepsAges now c) (sym h.moment) (effect_keeps now c (moment_lasts now is))
+
+-- a round that was stopped
+stop_keeps : (now : Moment) → Lasts now → (policy : Policy) (most turns count objects : ℕ) (stood next : Moment) (progress : Progress) (h : Stood now policy most turns stood) → LeftSome stood objects progress next →
+    KeepsAges now (Evacuator (Round policy most count)) next
+stop_keeps now lasts policy most turns count objects stood next progress h left =
+    let logs = h.log ∷ h.logs in
+    let m : Moment = after_selecting now logs in
+    let x : Stands logs now.order stood = subst (Stands logs now.order) (sym h.stands) (turns_ages logs now.order m turns record { ages = same_ages logs now.order now.order refl; within = λ k e. e }) in
+    let w = walked_ages logs stood objects x.within in
+    let ages : Ages logs now.order next.order = subst (λ (y : Moment). Ages logs now.order y.order) (sym left.stands) (join_ages logs now.order stood.order (walked stood objects).moment.order x.ages w.ages) in
+    from_ages now (Evacuator (Round policy most count)) next logs ages
+    (λ k e. (logs, subst (Takes now (By policy) most) h.chosen (policy_takes now lasts.law lasts.round policy most), among_in k logs e))
+
 pub ages_stay : (now : Moment) (c : Command) (r : Reply) (next : Moment) → IsMoment now → Commanded now c r next → KeepsAges now c next
-ages_stay now c r next is h = subst (KeepsAges now c) (sym h.moment) (effect_keeps now c (moment_lasts now is))
+ages_stay now c r next is h = by_outcome now r next (λ d. KeepsAges now d next)
+    (λ d h. served_keeps now d r next is h)
+    (λ why m p from bytes h. let x = served_keeps now (Mutator m (Try p)) (Refused (Marked (now.core.cell p))) next is h.tried in record { gone = x.gone; since = x.since; order = x.order; given = x.given })
+    (λ why m p from len h. let x = served_keeps now (Mutator m (Try p)) (Refused (Marked (now.core.cell p))) next is h.tried in record { gone = x.gone; since = x.since; order = x.order; given = x.given })
+    (λ why m p h. let x = served_keeps now (Mutator m (Try p)) (Refused (Marked (now.core.cell p))) next is h.tried in record { gone = x.gone; since = x.since; order = x.order; given = x.given })
+    (λ why objects count h. let x = served_keeps now (Evacuator (Evacuate objects)) (Evacuated h.progress) next is h.left in record { gone = x.gone; since = x.since; order = x.order; given = x.given })
+    (λ why turns objects policy most count h.
+    stop_keeps now (moment_lasts now is) policy most turns count objects h.stood next h.progress (stood_so now policy most turns h.stood h.turned) (left_some h.stood objects h.progress next h.left h.unfinished))
+    c h

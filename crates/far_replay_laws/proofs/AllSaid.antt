@@ -2,7 +2,8 @@
 use Rattle.std.proofs.Common.{◌≡◌, subst, List, [], ◌∷◌}
 use Rattle.far_text.specs.Command.{Command, New, Open, Where, Drop, Try, Epoch, Logs, Log, Mutator, Book, Evacuator}
 use Rattle.far_text.specs.Written.{AllWriteBytes, WritesBytes}
-use Rattle.far_replay.specs.Answers.{Answered, Commanded, IsMoment, first_moment}
+use Rattle.far_replay.specs.Answers.{Answered, Commanded, Served, IsMoment, first_moment}
+use Rattle.far_replay.proofs.Outcomes.{AsksNothing, is_served}
 use Rattle.far_replay.specs.Moment.{Moment}
 use Rattle.far_replay.specs.Reply.{Reply, Pointer}
 use Rattle.far_replay.proofs.Drops.{drop_ends_object}
@@ -19,28 +20,31 @@ use Rattle.far_replay_laws.proofs.Tries.{tries_answered}
 use Rattle.far_replay_laws.proofs.ViewLaws.{views_last}
 
 module _ (now : Moment) (c : Command) (r : Reply) (next : Moment) (is : IsMoment now) (bytes : WritesBytes c) (h : Commanded now c r next) where
-  by : (d : Command) → c ≡ d → Commanded now d r next
-  by d e = subst (λ x. Commanded now x r next) e h
+  at : (d : Command) → c ≡ d → Commanded now d r next
+  at d e = subst (λ x. Commanded now x r next) e h
 
-  to : (d : Command) (q : Reply) → c ≡ d → r ≡ q → Commanded now d q next
-  to d q e f = subst (λ x. Commanded now d x next) f (by d e)
+  by : (d : Command) → AsksNothing d → c ≡ d → Served now d r next
+  by d none e = is_served now d r next none (at d e)
+
+  to : (d : Command) (q : Reply) → AsksNothing d → c ≡ d → r ≡ q → Served now d q next
+  to d q none e f = subst (λ x. Served now d x next) f (by d none e)
 
   pub said : Said now c r next
   said = let law = (moment_lasts now is).law in record {
-    new = λ m len ds e own byte some most. is_made now m len ds r next own byte some most (by (Mutator m (New len ds)) e);
-    lowest = λ m len ds p e f. takes_lowest now m len ds p next (to (Mutator m (New len ds)) (Pointer p) e f);
-    made = λ m len ds p e f. makes_its_object now m len ds p next is (to (Mutator m (New len ds)) (Pointer p) e f);
-    place = λ m p e own. where_tells now m p r next law own (by (Mutator m (Where p)) e);
-    epoch = λ m e own. epochs_told now m r next own (by (Mutator m Epoch) e);
-    opens = λ m e own closed. scopes_open now m r next own closed (by (Mutator m Open) e);
-    tries = λ m p e own opened used. tries_answered now m p r next law own opened used (by (Mutator m (Try p)) e);
-    drops = λ m p e own. drop_ends_object now m p r next law own (by (Mutator m (Drop p)) e);
-    log = λ l e. log_tells now l r next (by (Book (Log l)) e);
-    logs = λ e. logs_tell now r next law (by (Book Logs) e);
+    new = λ m len ds e own byte some most. is_made now m len ds r next own byte some most (by (Mutator m (New len ds)) tt e);
+    lowest = λ m len ds p e f. takes_lowest now m len ds p next (to (Mutator m (New len ds)) (Pointer p) tt e f);
+    made = λ m len ds p e f. makes_its_object now m len ds p next is (to (Mutator m (New len ds)) (Pointer p) tt e f);
+    place = λ m p e own. where_tells now m p r next law own (by (Mutator m (Where p)) tt e);
+    epoch = λ m e own. epochs_told now m r next own (at (Mutator m Epoch) e);
+    opens = λ m e own closed. scopes_open now m r next own closed (at (Mutator m Open) e);
+    tries = λ m p e own opened used. tries_answered now m p r next law own opened used (by (Mutator m (Try p)) tt e);
+    drops = λ m p e own. drop_ends_object now m p r next law own (by (Mutator m (Drop p)) tt e);
+    log = λ l e. log_tells now l r next (by (Book (Log l)) tt e);
+    logs = λ e. logs_tell now r next law (by (Book Logs) tt e);
     views = views_last now c r next is bytes h;
     room = commands_take now c r next is h;
     ages = ages_stay now c r next is h;
-    spends = λ step e. steps_spend now step r next is (by (Evacuator step) e);
+    spends = λ step e. steps_spend now step r next is (at (Evacuator step) e);
     stays = λ why f. refusals_stay now c r next why law h f;
     causes = λ why near f. near_refusals now c r next why law near h f;
   }

@@ -1,5 +1,5 @@
 -- The replies to one mutator's lines are what its own lines alone say.
-use Rattle.std.proofs.Common.{◌≡◌, ℕ, ◌<◌, Bool, true, false, nat_eq, sym, refl, ap, subst, ◌∙◌, Option, Some, None, List, [], ◌∷◌}
+use Rattle.std.proofs.Common.{◌≡◌, ℕ, ◌+◌, ◌<◌, ◌≤◌, Bool, true, false, nat_eq, arith, length, sym, refl, ap, subst, ◌∙◌, Option, Some, None, List, [], ◌∷◌}
 use Rattle.std.specs.Bool.{MatchBool}
 use Rattle.std.proofs.lemmas.Bool.{eqb-true, eqb-false}
 use Rattle.far_word.specs.declared.refused.Refused.{Refused as Refusal}
@@ -10,16 +10,24 @@ use Rattle.far_core.specs.events.Step.{step_of}
 use Rattle.far_core.specs.world.WorldOf.{world_of}
 use Rattle.far_core.proofs.Leaving.{events_leave}
 use Rattle.far_replay.specs.Moment.{Moment, moment_of}
-use Rattle.far_replay.specs.Alone.{Own, Knows, Alone, Learns, own_of, is_by, speaker}
-use Rattle.far_replay.specs.Answers.{Answered, Commanded, IsMoment}
+use Rattle.far_replay.specs.Alone.{IsIn, Own, Knows, Alone, Learns, own_of, is_by, speaker}
+use Rattle.far_replay.specs.Answers.{Answered, Commanded, Served, Unbrought, IsMoment}
+use Rattle.far_replay.specs.Commanded.{KeepsFar}
+use Rattle.far_replay.specs.Objects.{object_len}
+use Rattle.far_evac.specs.declared.answers.RoundEnd.TheVariants.{Limit}
+use Rattle.far_evac.specs.declared.phase.Phase.TheVariants.{Evacuating}
+use Rattle.far_word.specs.declared.refused.Refused.TheVariants.{Device, Damaged, Marked}
+use Rattle.far_replay.proofs.AloneStates.{own_used}
+use Rattle.far_replay.proofs.Outcomes.{by_outcome}
+use Rattle.far_replay.proofs.Turns.{access_fact}
 use Rattle.far_replay.specs.Between.{Between}
-use Rattle.far_text.specs.Command.{Command, New, Open, Write, Read, Close, Where, Drop, View, Try, Epoch, Mutator, Book, Evacuator}
+use Rattle.far_text.specs.Command.{Command, New, Open, Write, Read, Close, Where, Drop, View, Try, Epoch, Mutator, Book, Evacuator, Evacuate, Round}
 use Rattle.far_text.specs.Written.{WritesBytes, AllWriteBytes}
 use Rattle.far_replay.specs.EventRows.{after_events, AllSucceed}
-use Rattle.far_replay.specs.Reply.{Reply}
+use Rattle.far_replay.specs.Reply.{Reply, Ended, Evacuated, Refused}
 use Rattle.far_replay.specs.Events.{events_for, IsTold}
 use Rattle.far_replay.specs.Turn.{effect, refusal, reply_to, unless}
-use Rattle.far_replay.proofs.Lasting.{Lasts, IsCarriedOut, command_carried, moment_lasts, still_lasts}
+use Rattle.far_replay.proofs.Lasting.{Lasts, IsCarriedOut, after_step, command_carried, moment_lasts, still_lasts}
 use Rattle.far_replay_laws.proofs.AloneNew.{turns_new}
 use Rattle.far_replay.proofs.RoundLeads.{owned_same, step_keeps}
 use Rattle.far_replay_laws.proofs.AloneTurns.{Teaches, Turns, turns_open, turns_epoch, turns_close, turns_read, turns_write, turns_where, turns_drop, turns_try, turns_view}
@@ -66,21 +74,101 @@ learns now m (Book inquiry) r t told law between within small h = ap (λ x. own_
 learns now m (Evacuator step) r t told law between within small h = absurd told
 
 -- a command leaves as many mutators
-next_mutators : (now : Moment) (c : Command) (r : Reply) (next : Moment) → Lasts now → WritesBytes c → Commanded now c r next → next.core.mutators ≡ now.core.mutators
-next_mutators now (Mutator k request) r next lasts small h =
+served_mutators : (now : Moment) (c : Command) (r : Reply) (next : Moment) → Lasts now → WritesBytes c → Served now c r next → next.core.mutators ≡ now.core.mutators
+served_mutators now (Mutator k request) r next lasts small h =
     ap (λ (t : State). t.mutators) (command_carried now (Mutator k request) r next tt lasts small h).state ∙ made_mutators now.core (events_for now (Mutator k request))
-next_mutators now (Book inquiry) r next lasts small h =
+served_mutators now (Book inquiry) r next lasts small h =
     ap (λ (t : State). t.mutators) (command_carried now (Book inquiry) r next tt lasts small h).state ∙ made_mutators now.core (events_for now (Book inquiry))
-next_mutators now (Evacuator step) r next lasts small h = ap (λ (m : Moment). m.core.mutators) h.moment ∙ (step_keeps now step lasts.law lasts.round).mutators
+served_mutators now (Evacuator step) r next lasts small h = ap (λ (m : Moment). m.core.mutators) h.moment ∙ (step_keeps now step lasts.law lasts.round).mutators
 
 -- each command tells a mutator what its reply says, or nothing
-each_learns : (now : Moment) (m : ℕ) (c : Command) (r : Reply) (next : Moment) → Lasts now → m < now.core.mutators → WritesBytes c → Commanded now c r next → Learns now.core m c r next.core
-each_learns now m (Mutator k request) r next lasts within small h =
+served_learns : (now : Moment) (m : ℕ) (c : Command) (r : Reply) (next : Moment) → Lasts now → m < now.core.mutators → WritesBytes c → Served now c r next → Learns now.core m c r next.core
+served_learns now m (Mutator k request) r next lasts within small h =
     learns now m (Mutator k request) r next.core tt lasts.law lasts.between within small (command_carried now (Mutator k request) r next tt lasts small h)
-each_learns now m (Book inquiry) r next lasts within small h =
+served_learns now m (Book inquiry) r next lasts within small h =
     learns now m (Book inquiry) r next.core tt lasts.law lasts.between within small (command_carried now (Book inquiry) r next tt lasts small h)
-each_learns now m (Evacuator step) r next lasts within small h =
+served_learns now m (Evacuator step) r next lasts within small h =
     ap (λ (x : Moment). own_of (world_of x.core) m) h.moment ∙ owned_same now.core (effect now (Evacuator step)).core m (step_keeps now step lasts.law lasts.round)
+
+-- one that the device refuses tells what a try would, and that nothing else refuses it
+known_write : (k : ℕ) (o q : Own) (p from : ℕ) (new all : List ℕ) (why : Refusal) → KeepsFar why → o.opened ≡ true → o.viewed p ≡ false → q ≡ o → o.object p ≡ Some all → IsIn all from (length new) → Knows k o (Mutator k (Write p from new)) (Refused why) q
+known_write k o q p from new all Device h opened free same is inside = (opened, free, same, (all, is, inside))
+known_write k o q p from new all Damaged h opened free same is inside = (opened, free, same, (all, is, inside))
+known_write k o q p from new all why h opened free same is inside = absurd h
+
+known_read : (k : ℕ) (o q : Own) (p from len : ℕ) (all : List ℕ) (why : Refusal) → KeepsFar why → o.opened ≡ true → o.viewed p ≡ false → q ≡ o → o.object p ≡ Some all → IsIn all from len → Knows k o (Mutator k (Read p from len)) (Refused why) q
+known_read k o q p from len all Device h opened free same is inside = (opened, free, same, (all, is, inside))
+known_read k o q p from len all Damaged h opened free same is inside = (opened, free, same, (all, is, inside))
+known_read k o q p from len all why h opened free same is inside = absurd h
+
+known_view : (k : ℕ) (o q : Own) (p : ℕ) (all : List ℕ) (why : Refusal) → KeepsFar why → o.opened ≡ true → o.viewed p ≡ false → q ≡ o → o.object p ≡ Some all → Knows k o (Mutator k (View p)) (Refused why) q
+known_view k o q p all Device h opened free same is = (opened, free, same, (all, is))
+known_view k o q p all Damaged h opened free same is = (opened, free, same, (all, is))
+known_view k o q p all why h opened free same is = absurd h
+
+try_teaches : (why : Refusal) (now : Moment) (c : Command) (k p : ℕ) (r : Reply) (next : Moment) → Lasts now → Unbrought why now c k p r next → Teaches now.core k (Mutator k (Try p)) (Refused (Marked (now.core.cell p))) next.core
+try_teaches why now c k p r next lasts h =
+    let x = command_carried now (Mutator k (Try p)) (Refused (Marked (now.core.cell p))) next tt lasts tt h.tried in
+    teaches now.core k (Mutator k (Try p)) (Refused (Marked (now.core.cell p))) next.core x.reply x.state x.made (turns_try now.core k p lasts.law lasts.between)
+
+inside_all : (all : List ℕ) (len from count : ℕ) → length all ≡ len → 0 < count → from + count ≤ len → IsIn all from count
+inside_all all len from count long some within = (some, omega (arith, long, within))
+
+write_teaches : (why : Refusal) (now : Moment) (k p from : ℕ) (new : List ℕ) (r : Reply) (next : Moment) → Lasts now → Unbrought why now (Mutator k (Write p from new)) k p r next → Teaches now.core k (Mutator k (Write p from new)) r next.core
+write_teaches why now k p from new r next lasts h =
+    let x = try_teaches why now (Mutator k (Write p from new)) k p r next lasts h in
+    let access = access_fact now.core k p from (length new) h.allowed in
+    let own = own_used now.core lasts.law k p access.ours in
+    subst (λ y. Teaches now.core k (Mutator k (Write p from new)) y next.core) (sym h.reply) (
+      (λ within. let (opened, free, same, has) = x.0 within in
+          known_write k (own_of (world_of now.core) k) (own_of (world_of next.core) k) p from new own.0 why h.cause opened free same own.1 (inside_all own.0 (object_len now.core p) from (length new) own.2 access.some access.within)),
+      x.1,
+    )
+
+read_teaches : (why : Refusal) (now : Moment) (k p from len : ℕ) (r : Reply) (next : Moment) → Lasts now → Unbrought why now (Mutator k (Read p from len)) k p r next → Teaches now.core k (Mutator k (Read p from len)) r next.core
+read_teaches why now k p from len r next lasts h =
+    let x = try_teaches why now (Mutator k (Read p from len)) k p r next lasts h in
+    let access = access_fact now.core k p from len h.allowed in
+    let own = own_used now.core lasts.law k p access.ours in
+    subst (λ y. Teaches now.core k (Mutator k (Read p from len)) y next.core) (sym h.reply) (
+      (λ within. let (opened, free, same, has) = x.0 within in
+          known_read k (own_of (world_of now.core) k) (own_of (world_of next.core) k) p from len own.0 why h.cause opened free same own.1 (inside_all own.0 (object_len now.core p) from len own.2 access.some access.within)),
+      x.1,
+    )
+
+view_teaches : (why : Refusal) (now : Moment) (k p : ℕ) (r : Reply) (next : Moment) → Lasts now → Unbrought why now (Mutator k (View p)) k p r next → Teaches now.core k (Mutator k (View p)) r next.core
+view_teaches why now k p r next lasts h =
+    let x = try_teaches why now (Mutator k (View p)) k p r next lasts h in
+    subst (λ y. Teaches now.core k (Mutator k (View p)) y next.core) (sym h.reply) (
+      (λ within. let (opened, free, same, has) = x.0 within in known_view k (own_of (world_of now.core) k) (own_of (world_of next.core) k) p has.0 why h.cause opened free same has.1),
+      x.1,
+    )
+
+next_mutators : (now : Moment) (c : Command) (r : Reply) (next : Moment) → Lasts now → WritesBytes c → Commanded now c r next → next.core.mutators ≡ now.core.mutators
+next_mutators now c r next lasts small h = by_outcome now r next (λ d. WritesBytes d → next.core.mutators ≡ now.core.mutators)
+    (λ d h small. served_mutators now d r next lasts small h)
+    (λ why m p from new h _. served_mutators now (Mutator m (Try p)) (Refused (Marked (now.core.cell p))) next lasts tt h.tried)
+    (λ why m p from len h _. served_mutators now (Mutator m (Try p)) (Refused (Marked (now.core.cell p))) next lasts tt h.tried)
+    (λ why m p h _. served_mutators now (Mutator m (Try p)) (Refused (Marked (now.core.cell p))) next lasts tt h.tried)
+    (λ why objects count h _. served_mutators now (Evacuator (Evacuate objects)) (Evacuated h.progress) next lasts tt h.left)
+    (λ why turns objects policy most count h small.
+    served_mutators h.stood (Evacuator (Evacuate objects)) (Evacuated h.progress) next (after_step now (Round policy most turns) (Ended (Limit Evacuating)) h.stood lasts h.turned) tt h.left
+    ∙ served_mutators now (Evacuator (Round policy most turns)) (Ended (Limit Evacuating)) h.stood lasts small h.turned)
+    c h small
+
+each_learns : (now : Moment) (m : ℕ) (c : Command) (r : Reply) (next : Moment) → Lasts now → m < now.core.mutators → WritesBytes c → Commanded now c r next → Learns now.core m c r next.core
+each_learns now m c r next lasts within small h = by_outcome now r next (λ d. WritesBytes d → Learns now.core m d r next.core)
+    (λ d h small. served_learns now m d r next lasts within small h)
+    (λ why k p from new h _. at_speaker now.core k m (Mutator k (Write p from new)) r next.core (nat_eq k m) refl within (write_teaches why now k p from new r next lasts h))
+    (λ why k p from len h _. at_speaker now.core k m (Mutator k (Read p from len)) r next.core (nat_eq k m) refl within (read_teaches why now k p from len r next lasts h))
+    (λ why k p h _. at_speaker now.core k m (Mutator k (View p)) r next.core (nat_eq k m) refl within (view_teaches why now k p r next lasts h))
+    (λ why objects count h _. served_learns now m (Evacuator (Evacuate objects)) (Evacuated h.progress) next lasts within tt h.left)
+    (λ why turns objects policy most count h small.
+    let later = after_step now (Round policy most turns) (Ended (Limit Evacuating)) h.stood lasts h.turned in
+    let same = served_mutators now (Evacuator (Round policy most turns)) (Ended (Limit Evacuating)) h.stood lasts small h.turned in
+    served_learns h.stood m (Evacuator (Evacuate objects)) (Evacuated h.progress) next later (subst (λ n. m < n) (sym same) within) tt h.left
+    ∙ served_learns now m (Evacuator (Round policy most turns)) (Ended (Limit Evacuating)) h.stood lasts within small h.turned)
+    c h small
 
 pub mutators_learn : (now : Moment) (c : Command) (r : Reply) (next : Moment) (m : ℕ) → IsMoment now → WritesBytes c → m < now.core.mutators → Commanded now c r next → Learns now.core m c r next.core
 mutators_learn now c r next m is bytes within h =

@@ -16,6 +16,8 @@ use Rattle.far_core.specs.state.State.{State}
 use Rattle.far_evac.specs.declared.census.Housed.{Housed}
 use Rattle.far_evac.specs.declared.census.LogState.{LogState}
 use Rattle.far_evac.specs.Census.{homes_of, housed_in, kind_in, logs_of}
+use Rattle.far_replay.proofs.Outcomes.{is_served}
+use Rattle.far_text.specs.Command.{Audit, Book}
 use Rattle.far_replay.specs.Audit.{counts_of, lies_far, lies_near}
 use Rattle.far_replay_laws.specs.Census.{AuditsByCensus, counted_in, is_near}
 use Rattle.far_replay.specs.Moment.{Moment}
@@ -80,4 +82,4 @@ counts_listed now = λ i. record {
 }
 
 pub audits_by_census : AuditsByCensus
-audits_by_census now r after h = h.reply ∙ ap Audited (counts_listed now)
+audits_by_census now r after h = (is_served now (Book Audit) r after tt h).reply ∙ ap Audited (counts_listed now)

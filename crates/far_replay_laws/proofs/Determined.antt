@@ -1,40 +1,100 @@
--- A text has one output.
+-- A text has one output; and what the outside makes of its commands decides their replies.
 use Rattle.std.proofs.Common.{◌≡◌, ℕ, Bool, true, false, sym, ◌∙◌, ap, refl, subst, Result, Ok, Err, List, [], ◌∷◌}
 use Rattle.std.specs.Bool.{MatchBool}
 use Rattle.std.specs.List.{flat_map}
+use Rattle.far_word.specs.declared.refused.Refused.{Refused as Refusal}
 use Rattle.far_word.specs.declared.refused.Refused.TheVariants.{Shape}
 use Rattle.far_core.specs.state.Shape.{is_shape}
-use Rattle.far_replay.specs.Answers.{Answered, Commanded, Answers, IsOutput, shape_of, first_moment}
-use Rattle.far_text.specs.Command.{Command, Trace, Nothing, Heap}
+use Rattle.far_evac.specs.declared.answers.Progress.{Progress}
+use Rattle.far_evac.specs.Choosing.{after_selecting}
+use Rattle.far_evac.specs.Moment.{Tally, plus, progress_of, tally_of}
+use Rattle.far_evac.specs.Turns.{turns_made}
+use Rattle.far_replay.specs.Answers.{AllServed, AnsweredBy, CommandedBy, Outside, Serves, Refuses, Served, Stopped, Unbrought, StopsLeaving, StopsRound, Answers, IsOutput, shape_of, first_moment}
+use Rattle.far_replay.specs.Rounds.{chosen_by, rows_in}
+use Rattle.far_replay.proofs.Outcomes.{by_stop}
+use Rattle.far_replay_laws.specs.Headline.{OutsideDecides}
+use Rattle.far_text.specs.Command.{Command, Trace, Nothing, Heap, Mutator, Evacuator, Write, Read, View, Evacuate, Policy}
 use Rattle.far_text.specs.Grammar.{trace_of}
 use Rattle.far_replay.specs.Moment.{Moment}
-use Rattle.far_replay.specs.Reply.{Reply, Done, Refused, reply_text}
+use Rattle.far_replay.specs.Reply.{Reply, Done, Evacuated, Halted, Refused, reply_text}
 
--- one command has one reply and one moment after it
-one_reply : (s : Moment) (c : Command) (r q : Reply) (t u : Moment) → Commanded s c r t → Commanded s c q u → (r ≡ q) × (t ≡ u)
+-- one command that is served has one reply and one moment after it
+one_reply : (s : Moment) (c : Command) (r q : Reply) (t u : Moment) → Served s c r t → Served s c q u → (r ≡ q) × (t ≡ u)
 one_reply s c r q t u h k = (h.reply ∙ sym k.reply, h.moment ∙ sym k.moment)
 
--- the replies and the moments of a list of commands are determined by the first moment
-pub answers_are_one : (s : Moment) (cs : List Command) (rs qs : List Reply) (ts us : List Moment) → Answered s cs rs ts → Answered s cs qs us → (rs ≡ qs) × (ts ≡ us)
-answers_are_one s [] [] [] [] [] h k = (refl, refl)
-answers_are_one s [] [] [] [] (u ∷ us) h k = absurd k
-answers_are_one s [] [] (q ∷ qs) [] us h k = absurd k
-answers_are_one s [] [] qs (t ∷ ts) us h k = absurd h
-answers_are_one s [] (r ∷ rs) qs ts us h k = absurd h
-answers_are_one s (c ∷ cs) [] qs ts us h k = absurd h
-answers_are_one s (c ∷ cs) (r ∷ rs) qs [] us h k = absurd h
-answers_are_one s (c ∷ cs) (r ∷ rs) [] (t ∷ ts) us h k = absurd k
-answers_are_one s (c ∷ cs) (r ∷ rs) (q ∷ qs) (t ∷ ts) [] h k = absurd k
-answers_are_one s (c ∷ cs) (r ∷ rs) (q ∷ qs) (t ∷ ts) (u ∷ us) h k =
-    let one = one_reply s c r q t u h.0 k.0 in
-    let rest = answers_are_one t cs rs qs ts us h.1 (subst (λ x. Answered x cs qs us) (sym one.1) k.1) in
+-- and so has one that is refused in its midst, by what the outside made of it
+same_progress : (p q : Progress) → Evacuated p ≡ Evacuated q → p ≡ q
+same_progress p q e = cc
+
+tried_once : (why : Refusal) (s : Moment) (c : Command) (m p : ℕ) (r q : Reply) (t u : Moment) → Unbrought why s c m p r t → Unbrought why s c m p q u → (r ≡ q) × (t ≡ u)
+tried_once why s c m p r q t u h k = (h.reply ∙ sym k.reply, h.tried.moment ∙ sym k.tried.moment)
+
+left_once : (why : Refusal) (objects : ℕ) (s : Moment) (count : ℕ) (r q : Reply) (t u : Moment) → StopsLeaving why objects s count r t → StopsLeaving why objects s count q u → (r ≡ q) × (t ≡ u)
+left_once why objects s count r q t u h k =
+    let one = one_reply s (Evacuator (Evacuate objects)) (Evacuated h.progress) (Evacuated k.progress) t u h.left k.left in
+    (h.reply ∙ ap (Halted why) (same_progress h.progress k.progress one.0) ∙ sym k.reply, one.1)
+
+round_once : (why : Refusal) (turns objects : ℕ) (s : Moment) (policy : Policy) (most count : ℕ) (r q : Reply) (t u : Moment) →
+    StopsRound why turns objects s policy most count r t → StopsRound why turns objects s policy most count q u → (r ≡ q) × (t ≡ u)
+round_once why turns objects s policy most count r q t u h k =
+    let stood : k.stood ≡ h.stood = k.turned.moment ∙ sym h.turned.moment in
+    let one = one_reply h.stood (Evacuator (Evacuate objects)) (Evacuated h.progress) (Evacuated k.progress) t u h.left (subst (λ x. Served x (Evacuator (Evacuate objects)) (Evacuated k.progress) u) stood k.left) in
+    let before : Tally = (turns_made (after_selecting s (chosen_by policy (rows_in s) most)) turns).tally in
+    (h.reply ∙ ap (λ (p : Progress). Halted why (progress_of (plus before (tally_of p)) false)) (same_progress h.progress k.progress one.0) ∙ sym k.reply, one.1)
+
+one_outcome : (o : Outside) (s : Moment) (c : Command) (r q : Reply) (t u : Moment) → CommandedBy o s c r t → CommandedBy o s c q u → (r ≡ q) × (t ≡ u)
+one_outcome Serves s c r q t u h k = one_reply s c r q t u h k
+one_outcome (Refuses why turns objects) s c r q t u h k =
+    by_stop why turns objects s r t (λ d. Stopped why turns objects s d q u → (r ≡ q) × (t ≡ u))
+    (λ m p from bytes h k. tried_once why s (Mutator m (Write p from bytes)) m p r q t u h k)
+    (λ m p from len h k. tried_once why s (Mutator m (Read p from len)) m p r q t u h k)
+    (λ m p h k. tried_once why s (Mutator m (View p)) m p r q t u h k)
+    (λ count h k. left_once why objects s count r q t u h k)
+    (λ policy most count h k. round_once why turns objects s policy most count r q t u h k) c h k
+
+-- the replies and the moments of a list of commands are determined by the first moment, and by what the outside made of each
+pub answers_are_one : OutsideDecides
+answers_are_one [] s [] [] [] [] [] h k = (refl, refl)
+answers_are_one [] s [] [] [] [] (u ∷ us) h k = absurd k
+answers_are_one [] s [] [] (q ∷ qs) [] us h k = absurd k
+answers_are_one [] s [] [] qs (t ∷ ts) us h k = absurd h
+answers_are_one [] s [] (r ∷ rs) qs ts us h k = absurd h
+answers_are_one [] s (c ∷ cs) rs qs ts us h k = absurd h
+answers_are_one (o ∷ os) s [] rs qs ts us h k = absurd h
+answers_are_one (o ∷ os) s (c ∷ cs) [] qs ts us h k = absurd h
+answers_are_one (o ∷ os) s (c ∷ cs) (r ∷ rs) qs [] us h k = absurd h
+answers_are_one (o ∷ os) s (c ∷ cs) (r ∷ rs) [] (t ∷ ts) us h k = absurd k
+answers_are_one (o ∷ os) s (c ∷ cs) (r ∷ rs) (q ∷ qs) (t ∷ ts) [] h k = absurd k
+answers_are_one (o ∷ os) s (c ∷ cs) (r ∷ rs) (q ∷ qs) (t ∷ ts) (u ∷ us) h k =
+    let one = one_outcome o s c r q t u h.0 k.0 in
+    let rest = answers_are_one os t cs rs qs ts us h.1 (subst (λ x. AnsweredBy os x cs qs us) (sym one.1) k.1) in
     (λ i. one.0 i ∷ rest.0 i, λ i. one.1 i ∷ rest.1 i)
+
+-- where the outside refuses nothing, it made the same of as many commands
+served_same : (os ws : List Outside) (s : Moment) (cs : List Command) (rs qs : List Reply) (ts us : List Moment) → AllServed os → AllServed ws → AnsweredBy os s cs rs ts → AnsweredBy ws s cs qs us → ws ≡ os
+served_same [] [] s cs rs qs ts us a b h k = refl
+served_same [] (w ∷ ws) s [] rs qs ts us a b h k = absurd k
+served_same [] (w ∷ ws) s (c ∷ cs) rs qs ts us a b h k = absurd h
+served_same (o ∷ os) [] s [] rs qs ts us a b h k = absurd h
+served_same (o ∷ os) [] s (c ∷ cs) rs qs ts us a b h k = absurd k
+served_same (Refuses why turns objects ∷ os) (w ∷ ws) s cs rs qs ts us a b h k = absurd a
+served_same (Serves ∷ os) (Refuses why turns objects ∷ ws) s cs rs qs ts us a b h k = absurd b
+served_same (Serves ∷ os) (Serves ∷ ws) s [] rs qs ts us a b h k = absurd h
+served_same (Serves ∷ os) (Serves ∷ ws) s (c ∷ cs) [] qs ts us a b h k = absurd h
+served_same (Serves ∷ os) (Serves ∷ ws) s (c ∷ cs) (r ∷ rs) [] ts us a b h k = absurd k
+served_same (Serves ∷ os) (Serves ∷ ws) s (c ∷ cs) (r ∷ rs) (q ∷ qs) [] us a b h k = absurd h
+served_same (Serves ∷ os) (Serves ∷ ws) s (c ∷ cs) (r ∷ rs) (q ∷ qs) (t ∷ ts) [] a b h k = absurd k
+served_same (Serves ∷ os) (Serves ∷ ws) s (c ∷ cs) (r ∷ rs) (q ∷ qs) (t ∷ ts) (u ∷ us) a b h k =
+    let one = one_reply s c r q t u h.0 k.0 in
+    ap (λ xs. Serves ∷ xs) (served_same os ws t cs rs qs ts us a b h.1 (subst (λ x. AnsweredBy ws x cs qs us) (sym one.1) k.1))
 
 -- what is written for a shape, with a heap or refused
 heap_once : (s : Moment) (cs : List Command) (b : Bool) (x y : List ℕ) →
-    MatchBool b ((rs : List Reply) × (ts : List Moment) × Answered s cs rs ts × (x ≡ flat_map reply_text (Done ∷ rs))) (x ≡ reply_text (Refused Shape)) →
-    MatchBool b ((rs : List Reply) × (ts : List Moment) × Answered s cs rs ts × (y ≡ flat_map reply_text (Done ∷ rs))) (y ≡ reply_text (Refused Shape)) → x ≡ y
-heap_once s cs true x y (rs, ts, h, e) (qs, us, k, f) = e ∙ ap (λ l. flat_map reply_text (Done ∷ l)) (answers_are_one s cs rs qs ts us h k).0 ∙ sym f
+    MatchBool b ((os : List Outside) × (rs : List Reply) × (ts : List Moment) × AllServed os × AnsweredBy os s cs rs ts × (x ≡ flat_map reply_text (Done ∷ rs))) (x ≡ reply_text (Refused Shape)) →
+    MatchBool b ((os : List Outside) × (rs : List Reply) × (ts : List Moment) × AllServed os × AnsweredBy os s cs rs ts × (y ≡ flat_map reply_text (Done ∷ rs))) (y ≡ reply_text (Refused Shape)) → x ≡ y
+heap_once s cs true x y (os, rs, ts, a, h, e) (ws, qs, us, b, k, f) =
+    let same : ws ≡ os = served_same os ws s cs rs qs ts us a b h k in
+    e ∙ ap (λ l. flat_map reply_text (Done ∷ l)) (answers_are_one os s cs rs qs ts us h (subst (λ xs. AnsweredBy xs s cs qs us) same k)).0 ∙ sym f
 heap_once s cs false x y e f = e ∙ sym f
 
 -- what is written for what was read

@@ -7,7 +7,7 @@ use Rattle.far_word.specs.declared.refused.Refused.TheVariants.{Shape}
 use Rattle.far_core.specs.state.Shape.{is_shape}
 use Rattle.far_text.specs.Command.{Command, Trace, Nothing, Heap}
 use Rattle.far_text.specs.Grammar.{trace_of}
-use Rattle.far_replay.specs.Answers.{Answered, IsOutput, end_of, first_moment, shape_of}
+use Rattle.far_replay.specs.Answers.{AllServed, AnsweredBy, Outside, IsOutput, end_of, first_moment, shape_of}
 use Rattle.far_replay.specs.Moment.{Moment}
 use Rattle.far_replay.specs.Reply.{Reply, Done, Refused, reply_text}
 use Rattle.far_replay.specs.declared.running.End.{End}
@@ -22,9 +22,9 @@ abbrev Told : End → List ℕ → Type 0
 Told end output = (end ≡ Turned → BeginsWith (codes "refused ") output) × (end ≡ Ran → (output ≡ []) ⊎ BeginsWith (codes "ok\n") output)
 
 heap_told : (logs mutators epoch : ℕ) (cs : List Command) (output : List ℕ) (b : Bool) →
-    MatchBool b ((rs : List Reply) × (moments : List Moment) × Answered (first_moment logs mutators epoch) cs rs moments × (output ≡ flat_map reply_text (Done ∷ rs))) (output ≡ reply_text (Refused Shape)) →
+    MatchBool b ((os : List Outside) × (rs : List Reply) × (moments : List Moment) × AllServed os × AnsweredBy os (first_moment logs mutators epoch) cs rs moments × (output ≡ flat_map reply_text (Done ∷ rs))) (output ≡ reply_text (Refused Shape)) →
     Told (if b then Ran else Turned) output
-heap_told logs mutators epoch cs output true h = (λ e. absurd (subst IsRan e tt), λ _. inr (flat_map reply_text h.0, h.3))
+heap_told logs mutators epoch cs output true h = (λ e. absurd (subst IsRan e tt), λ _. inr (flat_map reply_text h.1, h.5))
 heap_told logs mutators epoch cs output false h = (λ _. (_, h), λ e. absurd (subst IsRan (sym e) tt))
 
 read_told : (read : Result Trace ℕ) (output : List ℕ) → IsOutput read output → Told (end_of read) output

@@ -12,6 +12,7 @@ use Rattle.far_replay.specs.Effects.{epoch_for}
 use Rattle.far_replay_laws.specs.Headline.{EpochsAreTold, ScopesOpenAtEpochs, ClosesForget}
 use Rattle.far_replay.specs.Moment.{Moment}
 use Rattle.far_replay.specs.Reply.{Done, Refused}
+use Rattle.far_replay.proofs.Outcomes.{is_served}
 use Rattle.far_replay.specs.Turn.{refusal, unless, first_cause, turn_reply, turn_effect, refused_effect}
 
 -- what is refused of a scope of a mutator of the heap
@@ -20,7 +21,7 @@ scope_cause s m b within e =
     ap (λ a. first_cause ((not a, Range) ∷ (is_opened s m, AlreadyOpen) ∷ [])) (lt-ltb m s.mutators within) ∙ ap (λ a. first_cause ((a, AlreadyOpen) ∷ [])) e
 
 pub epochs_told : EpochsAreTold
-epochs_told now m r next within h = (
+epochs_told now m r next within k = let h = is_served now (Mutator m Epoch) r next tt k in (
   (λ opened. h.reply ∙ ap (λ o. unless o Refused (turn_reply now (Mutator m Epoch))) (scope_cause now.core m true within opened)),
   λ shut. let none = scope_cause now.core m false within shut in (
     h.reply ∙ ap (λ o. unless o Refused (turn_reply now (Mutator m Epoch))) none,
@@ -29,7 +30,8 @@ epochs_told now m r next within h = (
 )
 
 pub scopes_open : ScopesOpenAtEpochs
-scopes_open now m r next within shut h =
+scopes_open now m r next within shut k =
+    let h = is_served now (Mutator m Open) r next tt k in
     let none = scope_cause now.core m false within shut in
     let begun : next ≡ turn_effect now (Mutator m Open) = h.moment ∙ ap (λ o. unless o (refused_effect now (Mutator m Open)) (turn_effect now (Mutator m Open))) none in
     let word : next.core.scope m ≡ scope_word_of (Some (epoch_for (now.core.remembered m) now.core.epoch)) = ap (λ (x : Moment). x.core.scope m) begun ∙ put_same now.core.scope m (scope_word_of (Some (epoch_for (now.core.remembered m) now.core.epoch))) m refl in (
@@ -44,4 +46,4 @@ done_at now None m next e is = ap (λ (x : Moment). x.core.remembered m) is ∙ 
 done_at now (Some why) m next e is = absurd cc
 
 pub closes_forget : ClosesForget
-closes_forget now m next h = done_at now (refusal now (Mutator m Close)) m next h.reply h.moment
+closes_forget now m next k = let h = is_served now (Mutator m Close) Done next tt k in done_at now (refusal now (Mutator m Close)) m next h.reply h.moment

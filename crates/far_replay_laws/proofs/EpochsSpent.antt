@@ -1,5 +1,5 @@
 -- Through a step of the evacuator the epoch goes on as its reply says, and in the last one no logs are chosen.
-use Rattle.std.proofs.Common.{◌≡◌, ℕ, zero, suc, ◌+◌, Bool, true, not, refl, sym, ap, subst, ◌∙◌, Option, Some, None, List, [], ◌∷◌}
+use Rattle.std.proofs.Common.{◌≡◌, ◌≢◌, ℕ, zero, suc, ◌+◌, Bool, true, not, refl, sym, ap, subst, ◌∙◌, Option, Some, None, List, [], ◌∷◌}
 use Rattle.std.proofs.lemmas.Bool.{cond_both, eq-eqb}
 use Rattle.far_word.specs.declared.refused.Refused.{Refused as Refusal}
 use Rattle.far_word.specs.declared.refused.Refused.TheVariants.{EpochsSpent, Phase as WrongPhase}
@@ -11,21 +11,24 @@ use Rattle.far_evac.specs.MomentLaw.{is_idle}
 use Rattle.far_evac.specs.Walk.{Walked, ended, is_done, walked}
 use Rattle.far_evac.specs.Waiting.{first_open, polled_to}
 use Rattle.far_evac.specs.declared.phase.Phase.{Phase}
-use Rattle.far_evac.specs.declared.phase.Phase.TheVariants.{Idle}
+use Rattle.far_evac.specs.declared.phase.Phase.TheVariants.{Evacuating, Idle}
 use Rattle.far_evac.proofs.ComingBack.{come_back_empty}
 use Rattle.far_evac.proofs.Marks.{is_given_up}
 use Rattle.far_evac.proofs.Walks.{walk_is}
-use Rattle.far_text.specs.Command.{Evacuator, Step, Select, Mark, Wait, Evacuate, Abort, Round}
-use Rattle.far_replay.specs.Answers.{Commanded}
+use Rattle.far_text.specs.Command.{Command, Evacuator, Step, Select, Mark, Wait, Evacuate, Abort, Round}
+use Rattle.far_replay.specs.Answers.{IsMoment, Served}
+use Rattle.far_replay.proofs.Outcomes.{by_outcome}
+use Rattle.far_evac.specs.declared.answers.RoundEnd.{RoundEnd}
+use Rattle.far_evac.specs.declared.answers.RoundEnd.TheVariants as ends
 use Rattle.far_replay.specs.Moment.{Moment}
-use Rattle.far_replay.specs.Reply.{Reply, Marked, Refused}
+use Rattle.far_replay.specs.Reply.{Reply, Ended, Evacuated, Marked, Refused}
 use Rattle.far_replay.specs.Rounds.{choice_causes, given_by, refused_step, rows_in, step_effect}
 use Rattle.far_replay.specs.Turn.{first_cause, refusal, refused_effect, reply_to, turn_effect, turn_reply, unless}
 use Rattle.far_replay.proofs.Lasting.{Lasts, moment_lasts}
 use Rattle.far_replay.proofs.RoundLeads.{step_stays}
-use Rattle.far_replay_laws.specs.Epochs.{Chooses, EpochAfter, StepsSpendEpochs}
+use Rattle.far_replay_laws.specs.Epochs.{Chooses, EpochAfter, StepSpends, StepsSpendEpochs}
 use Rattle.far_replay_laws.specs.Steps.{ReachesEpoch, TellsStep}
-use Rattle.far_replay_laws.proofs.TurnsTell.{steps_told}
+use Rattle.far_replay_laws.proofs.TurnsTell.{served_told}
 
 -- a walk spends no epoch
 walk_epoch : (m : Moment) (k : ℕ) (t : Walked) → WalksTo m k t → t.moment.core.epoch ≡ m.core.epoch
@@ -52,7 +55,7 @@ marked_epoch now count marked (Some epoch) after h = h.0
 spent_cause : (phase : Phase) (b : Bool) (cs : List (Bool × Refusal)) → phase ≡ Idle → b ≡ true → first_cause ((not (is_idle phase), WrongPhase) ∷ (b, EpochsSpent) ∷ cs) ≡ Some EpochsSpent
 spent_cause phase b cs rests e = ap (λ x. first_cause ((not (is_idle x), WrongPhase) ∷ (b, EpochsSpent) ∷ cs)) rests ∙ ap (λ x. first_cause ((x, EpochsSpent) ∷ cs)) e
 
-last_refused : (now : Moment) (step : Step) (r : Reply) (next : Moment) → Commanded now (Evacuator step) r next → Chooses step → now.phase ≡ Idle → now.core.epoch + 1 ≡ EPOCH_END → r ≡ Refused EpochsSpent
+last_refused : (now : Moment) (step : Step) (r : Reply) (next : Moment) → Served now (Evacuator step) r next → Chooses step → now.phase ≡ Idle → now.core.epoch + 1 ≡ EPOCH_END → r ≡ Refused EpochsSpent
 last_refused now (Select choice most) r next h chooses rests e =
     h.reply ∙ ap (λ o. unless o Refused (turn_reply now (Evacuator (Select choice most)))) (spent_cause now.phase (is_spent now.core) (choice_causes (given_by choice (rows_in now) most)) rests (eq-eqb (now.core.epoch + 1) EPOCH_END e))
 last_refused now (Round policy most turns) r next h chooses rests e =
@@ -84,12 +87,40 @@ module _ (now : Moment) (lasts : Lasts now) where
   goes (Round policy most turns) None e told = tt
   goes (Round policy most turns) (Some why) e told = refused_epoch now (Round policy most turns) why e
 
-pub steps_spend : StepsSpendEpochs
-steps_spend now step r next is h = record {
+served_spends : (now : Moment) (step : Step) (r : Reply) (next : Moment) → IsMoment now → Served now (Evacuator step) r next → StepSpends now step r next
+served_spends now step r next is h = record {
   epoch =
       subst (λ x. EpochAfter now.core.epoch step x next.core.epoch) (sym h.reply)
       (subst (λ (x : Moment). EpochAfter now.core.epoch step (reply_to now (Evacuator step)) x.core.epoch) (sym h.moment)
       (goes now (moment_lasts now is) step (refusal now (Evacuator step)) refl
-      (steps_told now step (reply_to now (Evacuator step)) (unless (refusal now (Evacuator step)) (refused_effect now (Evacuator step)) (turn_effect now (Evacuator step))) is record { reply = refl; moment = refl })));
+      (served_told now step (reply_to now (Evacuator step)) (unless (refusal now (Evacuator step)) (refused_effect now (Evacuator step)) (turn_effect now (Evacuator step))) (moment_lasts now is) record { reply = refl; moment = refl })));
   last = last_refused now step r next h;
 }
+
+-- of a command that is a step
+abbrev SpendsFor : Moment → Command → Reply → Moment → Type 0
+SpendsFor now (Evacuator step) r next = StepSpends now step r next
+SpendsFor now c r next = Unit {0}
+
+served_for : (now : Moment) (c : Command) (r : Reply) (next : Moment) → IsMoment now → Served now c r next → SpendsFor now c r next
+served_for now (Evacuator step) r next is h = served_spends now step r next is h
+served_for now c r next is h = tt
+
+not_spent : (end : RoundEnd) → Ended end ≢ Refused EpochsSpent
+not_spent end e = cc
+
+pub steps_spend : StepsSpendEpochs
+steps_spend now step r next is h = by_outcome now r next (λ d. SpendsFor now d r next)
+    (λ d h. served_for now d r next is h)
+    (λ why m p from bytes h. tt)
+    (λ why m p from len h. tt)
+    (λ why m p h. tt)
+    (λ why objects count h. record {
+      epoch = subst (λ x. EpochAfter now.core.epoch (Evacuate count) x next.core.epoch) (sym h.reply) (served_spends now (Evacuate objects) (Evacuated h.progress) next is h.left).epoch;
+      last = λ chooses. absurd chooses;
+    })
+    (λ why turns objects policy most count h. record {
+      epoch = subst (λ x. EpochAfter now.core.epoch (Round policy most count) x next.core.epoch) (sym h.reply) tt;
+      last = λ chooses rests e. absurd (not_spent (ends.Limit Evacuating) ((served_spends now (Round policy most turns) (Ended (ends.Limit Evacuating)) h.stood is h.turned).last tt rests e));
+    })
+    (Evacuator step) h

@@ -1,5 +1,5 @@
 -- A log that a walk or a round has given back is free, or something came to it since.
-use Rattle.std.proofs.Common.{◌≡◌, ℕ, zero, suc, ◌<◌, true, false, ◌||◌, List, [], ◌∷◌, ◌++◌, inl, inr, arith, ap, sym, refl, ◌∙◌, subst}
+use Rattle.std.proofs.Common.{◌+◌, cond, ◌≡◌, ℕ, zero, suc, ◌<◌, true, false, ◌||◌, List, [], ◌∷◌, ◌++◌, inl, inr, arith, ap, sym, refl, ◌∙◌, subst}
 use Rattle.std.specs.Prelude.{◌⊎◌}
 use Rattle.std.proofs.lemmas.Bool.{cases_eq, cond_both, ne_eqb, true≢false}
 use Rattle.far_word.specs.Pointer.{read_of}
@@ -32,6 +32,8 @@ use Rattle.far_evac.proofs.Tours.{core_so, first_live, stand}
 use Rattle.far_evac.proofs.Walks.{walk_is}
 use Rattle.far_replay.specs.Rounds.{after_round}
 use Rattle.far_replay_laws.proofs.RoundCounts.{spans}
+use Rattle.far_evac.proofs.Joined.{walks_join}
+use Rattle.far_evac.proofs.LeadingTurns.{turns_lead}
 
 -- of some logs each that is held no more is free, or words of it were taken
 abbrev pub GivenFree : List ℕ → State → List ℕ → Type 0
@@ -119,6 +121,21 @@ turns_free m law moment runs n = elim (spans m law moment runs n) [
   | inr h ↦ subst (λ (t : Moment). GivenFree m.held t.core t.held) (sym h.is)
       (subst (λ logs. GivenFree logs (ended (walked h.at h.many)).core (ended (walked h.at h.many)).held) h.held (ended_free h.at h.law h.moment h.leaves h.many))
 ]
+
+-- and, where objects leave then, of a walk more that isn't over
+pub stop_free : (m : Moment) → Law m.core → MomentLaw m → is_idle m.phase ≡ false → (n objects : ℕ) → (turns_made m n).over ≡ false → (turns_made m n).moment.phase ≡ Evacuating →
+    let t = (walked (turns_made m n).moment objects).moment in GivenFree m.held t.core t.held
+stop_free m law moment runs n objects goes leaves =
+    let r = turns_made m n in
+    let leads = turns_lead m n law moment runs in
+    elim (spans m law moment runs n) [
+      | inl h ↦ subst (λ logs. GivenFree logs (walked r.moment objects).moment.core (walked r.moment objects).moment.held) h.held (walked_free r.moment leads.law leads.moment leaves objects)
+      | inr h ↦ (let w = walked h.at h.many in
+          let stands : r.moment ≡ w.moment = h.is ∙ ap (λ b. cond b (record w.moment { phase = Idle }) w.moment) (sym h.over ∙ goes) in
+          subst (λ (x : Moment). GivenFree m.held (walked x objects).moment.core (walked x objects).moment.held) (sym stands)
+          (subst (λ (x : Walked). GivenFree m.held x.moment.core x.moment.held) (walks_join h.at h.many objects)
+          (subst (λ logs. GivenFree logs (walked h.at (h.many + objects)).moment.core (walked h.at (h.many + objects)).moment.held) h.held (walked_free h.at h.law h.moment h.leaves (h.many + objects)))))
+    ]
 
 pub round_free : (now : Moment) → Law now.core → (logs : List ℕ) (turns : ℕ) → MomentLaw (after_selecting now logs) →
     GivenFree (after_selecting now logs).held (after_round now logs turns).core (after_round now logs turns).held

@@ -29,16 +29,16 @@ use Rattle.far_core.proofs.Put.{put_both, put_other, put_same}
 use Rattle.far_core.proofs.Quieting.{quiet_unheld}
 use Rattle.far_text.specs.Command.{Command}
 use Rattle.far_text.specs.Written.{AllWriteBytes, WritesBytes}
-use Rattle.far_replay.specs.Answers.{Commanded, IsMoment, first_moment, moment_after}
+use Rattle.far_replay.specs.Answers.{Served, IsMoment, first_moment, moment_after}
 use Rattle.far_replay.specs.EventRows.{AllPass, after_events}
 use Rattle.far_replay_laws.specs.LeftMarks.{ViewedAreHot, is_hot}
 use Rattle.far_replay.specs.Moment.{Moment}
 use Rattle.far_replay.specs.Reply.{Reply}
 use Rattle.far_replay.specs.Turn.{effect, reply_to}
 use Rattle.far_replay.proofs.Drops.{viewed_is}
-use Rattle.far_replay.proofs.Lasting.{first_is_moment, moment_lasts, next_is_moment}
+use Rattle.far_replay.proofs.Lasting.{first_is_moment, moment_lasts, served_is_moment}
 use Rattle.far_replay.proofs.MadeLemmas.{legal_step}
-use Rattle.far_replay_laws.proofs.ViewLaws.{events_reach}
+use Rattle.far_replay_laws.proofs.ViewLaws.{served_reach}
 
 -- what is held is hot
 abbrev pub AllHot : State → Type 0
@@ -171,16 +171,16 @@ row_hot s (e ∷ es) law pass hot =
     let goes : (step_of s e).0 ≡ after s e = ap (λ (x : State × Answer). x.0) (legal_step s e pass.0) in
     row_hot (step_of s e).0 es pass.1.law pass.2 (subst AllHot (sym goes) (after_hot s law hot e (is_fact s e law pass.0) (subst Law goes pass.1.law)))
 
-pub still_hot : (now : Moment) (c : Command) (r : Reply) (next : Moment) → IsMoment now → WritesBytes c → Commanded now c r next → AllHot now.core → AllHot next.core
+still_hot : (now : Moment) (c : Command) (r : Reply) (next : Moment) → IsMoment now → WritesBytes c → Served now c r next → AllHot now.core → AllHot next.core
 still_hot now c r next is bytes h hot =
-    let way = events_reach now c r next is bytes h in
+    let way = served_reach now c r next (moment_lasts now is) bytes h in
     subst AllHot (sym way.ends) (row_hot now.core way.events (moment_lasts now is).law way.pass hot)
 
 hot_on : (now : Moment) (cs : List Command) → IsMoment now → AllWriteBytes cs → AllHot now.core → AllHot (moment_after now cs).core
 hot_on now [] is bytes hot = hot
 hot_on now (c ∷ cs) is bytes hot =
-    let made : Commanded now c (reply_to now c) (effect now c) = record { reply = refl; moment = refl } in
-    hot_on (effect now c) cs (next_is_moment now c (reply_to now c) (effect now c) is bytes.0 made) bytes.1 (still_hot now c (reply_to now c) (effect now c) is bytes.0 made hot)
+    let made : Served now c (reply_to now c) (effect now c) = record { reply = refl; moment = refl } in
+    hot_on (effect now c) cs (served_is_moment now c (reply_to now c) (effect now c) is bytes.0 made) bytes.1 (still_hot now c (reply_to now c) (effect now c) is bytes.0 made hot)
 
 pub moment_hot : (now : Moment) → IsMoment now → AllHot now.core
 moment_hot now (logs, mutators, epoch, cs, fits, bytes, is) =

@@ -21,7 +21,7 @@ use Rattle.far_core.proofs.Observations.{near_has_one_live}
 use Rattle.far_book.specs.book.Home.{home_of}
 use Rattle.far_book.specs.declared.home.Home.{Home}
 use Rattle.far_book.specs.declared.home.Home.TheVariants.{Near, Far}
-use Rattle.far_replay.specs.Answers.{Commanded, IsMoment}
+use Rattle.far_replay.specs.Answers.{Served, IsMoment}
 use Rattle.far_replay.specs.Audit.{lies_near, lies_far, counts_of}
 use Rattle.far_text.specs.Command.{Where, Logs as AsksLogs, Log, Audit, Mutator, Book}
 use Rattle.far_replay_laws.specs.HowMany.{IsHowMany}
@@ -57,7 +57,7 @@ at_home s law p (Some (pointer.Far len ds marks)) e u =
     let there_is : object_of s.word (s.stored p) p (read_of (s.cell p)) ≡ Some o = ap (object_of s.word (s.stored p) p) e ∙ ap (λ b. cond b None (Some o)) (not-true marks.dropped u) in
     (Far marks, refl, (len, ds, o, e, there_is, refl))
 
-pub where_tells : (now : Moment) (m p : ℕ) (r : Reply) (after : Moment) → Law now.core → m < now.core.mutators → Commanded now (Mutator m (Where p)) r after →
+pub where_tells : (now : Moment) (m p : ℕ) (r : Reply) (after : Moment) → Law now.core → m < now.core.mutators → Served now (Mutator m (Where p)) r after →
     (uses now.core m p ≡ true → (home : Home) × (r ≡ Lies home) × TellsHome now.core p home) × (uses now.core m p ≢ true → r ≡ Refused NotHeld)
 where_tells now m p r after law within h =
     let s : State = now.core in
@@ -71,14 +71,14 @@ where_tells now m p r after law within h =
 
 -- ---- log
 -- the lines of `logs`
-told_lines : (now after : Moment) (lines : List LogLine) → Commanded now (Book AsksLogs) (Logs lines) after → lines ≡ map (log_line now) (range_with_len 0 now.core.logs)
+told_lines : (now after : Moment) (lines : List LogLine) → Served now (Book AsksLogs) (Logs lines) after → lines ≡ map (log_line now) (range_with_len 0 now.core.logs)
 told_lines now after lines h = ap lines_in h.reply where
   lines_in : Reply → List LogLine
   lines_in (Logs ls) = ls
   lines_in r = []
 
-pub log_tells : (now : Moment) (l : ℕ) (r : Reply) (after : Moment) → Commanded now (Book (Log l)) r after →
-    (l < now.core.logs → (lines : List LogLine) (later : Moment) → Commanded now (Book AsksLogs) (Logs lines) later → (line : LogLine) × (r ≡ Logs (line ∷ [])) × (line.log ≡ l) × Contains lines line)
+pub log_tells : (now : Moment) (l : ℕ) (r : Reply) (after : Moment) → Served now (Book (Log l)) r after →
+    (l < now.core.logs → (lines : List LogLine) (later : Moment) → Served now (Book AsksLogs) (Logs lines) later → (line : LogLine) × (r ≡ Logs (line ∷ [])) × (line.log ≡ l) × Contains lines line)
     × (now.core.logs ≤ l → r ≡ Refused Range)
 log_tells now l r after h =
     let told : Bool → Reply = λ b. unless (first_cause ((not b, Range) ∷ [])) Refused (Logs (log_line now l ∷ [])) in (
@@ -218,7 +218,7 @@ counts_live : (now : Moment) → (counts_of now.core).live ≡ sum (map (λ (lin
 unfolding counts_of
 counts_live now = ap sum (sym (lives now (range_with_len 0 now.core.logs)))
 
-pub audit_counts : (now : Moment) (r : Reply) (after : Moment) → IsMoment now → Commanded now (Book Audit) r after → (counts : Counts) × (r ≡ Audited counts) × CountsAll now counts
+pub audit_counts : (now : Moment) (r : Reply) (after : Moment) → IsMoment now → Served now (Book Audit) r after → (counts : Counts) × (r ≡ Audited counts) × CountsAll now counts
 audit_counts now r after is h =
     let lasts = moment_lasts now is in
     let s : State = now.core in (

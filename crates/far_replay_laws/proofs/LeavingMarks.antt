@@ -7,7 +7,7 @@ use Rattle.far_word.specs.declared.pointer.Place.{Place}
 use Rattle.far_word.specs.declared.pointer.PtrWord.{PtrWord}
 use Rattle.far_word.specs.declared.pointer.PtrWord.TheVariants.{Free, Near, Far}
 use Rattle.far_word.specs.declared.refused.Refused.{Refused as Refusal}
-use Rattle.far_word.specs.declared.refused.Refused.TheVariants.{NoRoom, Closed, NotHeld, Range, Marked as MarkFound}
+use Rattle.far_word.specs.declared.refused.Refused.TheVariants.{NoRoom, Closed, NotHeld, Range, Device, Damaged, Marked as MarkFound}
 use Rattle.far_word.specs.declared.sizes.TheConstants.{CELLS}
 use Rattle.far_word.specs.Mark.{position}
 use Rattle.far_word.specs.Pointer.{read_of}
@@ -22,7 +22,9 @@ use Rattle.far_log.proofs.Members.{All-from}
 use Rattle.far_text.specs.Command.{Command, Heap, New, Open, Write, Read, Close, Where, Drop, View, Try, Epoch, Mutator, Book, Evacuator}
 use Rattle.far_text.specs.Grammar.{trace_of}
 use Rattle.far_text.specs.Written.{AllWriteBytes}
-use Rattle.far_replay.specs.Answers.{Answered, Answers, Commanded, IsMoment, first_moment, shape_of}
+use Rattle.far_replay.specs.Answers.{Answered, Answers, Commanded, Served, Unbrought, IsMoment, first_moment, shape_of}
+use Rattle.far_replay.specs.Commanded.{KeepsFar}
+use Rattle.far_replay.proofs.Outcomes.{by_outcome}
 use Rattle.far_replay.specs.Dereference.{come, comes_to, dereferenced, has_no_room, sought}
 use Rattle.far_replay.specs.Effects.{is_slow, with_data, with_view}
 use Rattle.far_replay.specs.Events.{come_events}
@@ -248,10 +250,31 @@ leaves now (Mutator m Epoch) o is e = tt
 leaves now (Book inquiry) o is e = tt
 leaves now (Evacuator step) o is e = tt
 
-pub commands_leave : (now : Moment) (c : Command) (r : Reply) (next : Moment) → IsMoment now → Commanded now c r next → LeavesMarks now.core c r next.core
-commands_leave now c r next is h =
+pub served_leaves : (now : Moment) (c : Command) (r : Reply) (next : Moment) → IsMoment now → Served now c r next → LeavesMarks now.core c r next.core
+served_leaves now c r next is h =
     subst (λ x. LeavesMarks now.core c x next.core) (sym h.reply)
     (subst (λ (x : Moment). LeavesMarks now.core c (reply_to now c) x.core) (sym h.moment) (leaves now c (refusal now c) is refl))
+
+-- one that the device refuses leaves HOT, as a try does
+far_leaves : (s t : State) (p : ℕ) (why : Refusal) → KeepsFar why → GainsHot (read_of (s.cell p)) (read_of (t.cell p)) × OthersStay s t p → RefusedLeaves s p why t
+far_leaves s t p Device h gains = gains
+far_leaves s t p Damaged h gains = gains
+far_leaves s t p why h gains = absurd h
+
+tried_leaves : (now : Moment) (c : Command) (why : Refusal) (m p : ℕ) (r : Reply) (next : Moment) → IsMoment now → Unbrought why now c m p r next → RefusedLeaves now.core p why next.core
+tried_leaves now c why m p r next is h =
+    let x = served_leaves now (Mutator m (Try p)) (Refused (MarkFound (now.core.cell p))) next is h.tried in
+    far_leaves now.core next.core p why h.cause (x.1, x.2)
+
+pub commands_leave : (now : Moment) (c : Command) (r : Reply) (next : Moment) → IsMoment now → Commanded now c r next → LeavesMarks now.core c r next.core
+commands_leave now c r next is h = by_outcome now r next (λ d. LeavesMarks now.core d r next.core)
+    (λ d h. served_leaves now d r next is h)
+    (λ why m p from bytes h. subst (λ x. LeavesMarks now.core (Mutator m (Write p from bytes)) x next.core) (sym h.reply) (tried_leaves now (Mutator m (Write p from bytes)) why m p r next is h))
+    (λ why m p from len h. subst (λ x. LeavesMarks now.core (Mutator m (Read p from len)) x next.core) (sym h.reply) (tried_leaves now (Mutator m (Read p from len)) why m p r next is h))
+    (λ why m p h. subst (λ x. LeavesMarks now.core (Mutator m (View p)) x next.core) (sym h.reply) (tried_leaves now (Mutator m (View p)) why m p r next is h))
+    (λ why objects count h. tt)
+    (λ why turns objects policy most count h. tt)
+    c h
 
 all_leave : (now : Moment) (cs : List Command) (rs : List Reply) (moments : List Moment) → IsMoment now → AllWriteBytes cs → Answered now cs rs moments → AllLeaveMarks now cs rs moments
 all_leave now [] rs moments is bytes h = tt

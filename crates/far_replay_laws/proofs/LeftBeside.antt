@@ -7,7 +7,7 @@ use Rattle.far_word.specs.declared.pointer.Place.{Place}
 use Rattle.far_word.specs.declared.pointer.PtrWord.{PtrWord}
 use Rattle.far_word.specs.declared.pointer.PtrWord.TheVariants.{Free, Near, Far}
 use Rattle.far_word.specs.declared.refused.Refused.{Refused as Refusal}
-use Rattle.far_word.specs.declared.refused.Refused.TheVariants.{NoRoom, Closed, NotHeld, Range}
+use Rattle.far_word.specs.declared.refused.Refused.TheVariants.{NoRoom, Closed, NotHeld, Range, Marked}
 use Rattle.far_word.specs.declared.sizes.TheConstants.{CELLS}
 use Rattle.far_word.specs.Mark.{position}
 use Rattle.far_word.specs.Pointer.{IsPtr, read_of}
@@ -30,7 +30,8 @@ use Rattle.far_book.specs.book.Dealing.{has_evac}
 use Rattle.far_book.specs.book.Effects.{fetched_of, moved, moved_of, near_word, placed, retired, stayed, stayed_of, with_blank_span, with_written_span}
 use Rattle.far_book.proofs.region.Places.{named_is}
 use Rattle.far_evac.proofs.StepsAside.{layout}
-use Rattle.far_replay.specs.Answers.{Commanded, IsMoment}
+use Rattle.far_replay.specs.Answers.{Commanded, Served, IsMoment}
+use Rattle.far_replay.proofs.Outcomes.{by_outcome}
 use Rattle.far_replay.specs.Dereference.{come, come_of, comes_to, dereferenced, has_no_room, sought, sought_of}
 use Rattle.far_replay.specs.Effects.{is_slow, with_data, with_epoch, with_object, with_scope, with_view, without_object}
 use Rattle.far_replay.specs.Moment.{Moment, with_core}
@@ -257,7 +258,17 @@ leaves now (Book inquiry) None law e = refl
 leaves now (Book inquiry) (Some why) law e = refl
 leaves now (Evacuator step) o law e = tt
 
-pub commands_beside : (now : Moment) (c : Command) (r : Reply) (next : Moment) → IsMoment now → Commanded now c r next → LeavesBeside now c r next
-commands_beside now c r next is h =
+served_beside : (now : Moment) (c : Command) (r : Reply) (next : Moment) → IsMoment now → Served now c r next → LeavesBeside now c r next
+served_beside now c r next is h =
     subst (λ x. LeavesBeside now c x next) (sym h.reply)
     (subst (λ (x : Moment). LeavesBeside now c (reply_to now c) x) (sym h.moment) (leaves now c (refusal now c) (moment_lasts now is).law refl))
+
+pub commands_beside : (now : Moment) (c : Command) (r : Reply) (next : Moment) → IsMoment now → Commanded now c r next → LeavesBeside now c r next
+commands_beside now c r next is h = by_outcome now r next (λ d. LeavesBeside now d r next)
+    (λ d h. served_beside now d r next is h)
+    (λ why m p from bytes h. served_beside now (Mutator m (Try p)) (Refused (Marked (now.core.cell p))) next is h.tried)
+    (λ why m p from len h. served_beside now (Mutator m (Try p)) (Refused (Marked (now.core.cell p))) next is h.tried)
+    (λ why m p h. served_beside now (Mutator m (Try p)) (Refused (Marked (now.core.cell p))) next is h.tried)
+    (λ why objects count h. tt)
+    (λ why turns objects policy most count h. tt)
+    c h

@@ -1,5 +1,6 @@
 -- What each step of the evacuator leaves of objects.
-use Rattle.std.proofs.Common.{◌≡◌, ℕ, ◌^◌, ◌<◌, true, false, not, Option, Some, None, List, [], ◌∷◌, ap, sym, refl, ◌∙◌, subst, inl, inr}
+use Rattle.std.specs.Prelude.{Contains}
+use Rattle.std.proofs.Common.{◌≡◌, ℕ, cond, ◌^◌, ◌<◌, true, false, not, Option, Some, None, List, [], ◌∷◌, ap, sym, refl, ◌∙◌, subst, inl, inr}
 use Rattle.far_word.specs.declared.mark.Marks.{Marks}
 use Rattle.far_word.specs.declared.refused.Refused.{Refused as Refusal}
 use Rattle.far_word.specs.declared.refused.Refused.TheVariants.{Phase as WrongPhase, StillOpen}
@@ -18,25 +19,29 @@ use Rattle.far_evac.specs.MomentLaw.{MomentLaw}
 use Rattle.far_evac.specs.Owned.{anywhere}
 use Rattle.far_evac.specs.Waiting.{first_open, polled_to}
 use Rattle.far_evac.specs.Walk.{ended, walked}
-use Rattle.far_evac.specs.declared.phase.Phase.TheVariants.{Evacuating}
+use Rattle.far_evac.specs.declared.phase.Phase.TheVariants.{Evacuating, Idle}
 use Rattle.far_evac.proofs.Leading.{selecting}
 use Rattle.far_evac.proofs.Marks.{is_given_up, is_marked}
-use Rattle.far_text.specs.Command.{Command, Mutator, Book, Evacuator, By, Policy, Step, Select, Mark, Wait, Evacuate, Abort, Round}
+use Rattle.far_text.specs.Command.{Command, Write, Read, View, Mutator, Book, Evacuator, By, Policy, Step, Select, Mark, Wait, Evacuate, Abort, Round}
 use Rattle.far_text.specs.Written.{AllWriteBytes}
-use Rattle.far_replay.specs.Answers.{Answered, Commanded, IsMoment}
+use Rattle.far_replay.specs.Answers.{Answered, Commanded, Refuses, Served, Serves, StopsLeaving, StopsRound, IsMoment}
+use Rattle.far_evac.specs.declared.answers.RoundEnd.TheVariants.{Limit}
+use Rattle.far_replay.proofs.Outcomes.{by_outcome}
+use Rattle.far_replay_laws.proofs.Stops.{begun, left_some, stood_so}
 use Rattle.far_replay_laws.specs.Left.{AllLeave, AllStayPut, CellBy, DealsWith, IsAnywhere, Leaves, LeavesRest, MarksBy, SomeStay, StaysMarked, StaysPut, StepLeaves}
-use Rattle.far_replay.specs.Reply.{Reply, Done, Refused, Selected}
+use Rattle.far_replay.specs.Reply.{Reply, Done, Ended, Evacuated, Refused, Selected}
 use Rattle.far_replay.specs.Rounds.{after_round, chosen_by, given_by, is_evacuating, logs_given, refused_step, rows_in, step_effect, step_reply}
 use Rattle.far_replay_laws.specs.Steps.{IsChosen, LiesIn}
 use Rattle.far_replay.specs.Turn.{effect, reply_to, refusal, refused_effect, turn_effect, turn_reply, unless}
-use Rattle.far_replay_laws.proofs.CountedOnce.{all_at, in_among, member_or_apart}
-use Rattle.far_replay.proofs.Lasting.{Lasts, moment_lasts, still_lasts}
-use Rattle.far_replay_laws.proofs.LeftByWalks.{IsApart, apart_from, ended_put, framed_put, marked_frame, marking_frame, marking_put, polling_put, put_none, turns_put}
-use Rattle.far_replay_laws.proofs.Unreached.{EvacIs, cell_still, ended_fate, evac_alone, evac_object, has_stayed, marked_none, turns_fate}
+use Rattle.far_replay_laws.proofs.CountedOnce.{all_at, among_in, in_among, member_or_apart}
+use Rattle.far_replay.proofs.Lasting.{Lasts, after_step, moment_lasts, still_lasts}
+use Rattle.far_replay_laws.proofs.LeftByWalks.{IsApart, apart_from, ended_put, framed_put, lay_there, marked_frame, marking_frame, marking_put, polling_put, put_more, put_none, turns_put}
+use Rattle.far_replay_laws.proofs.Unreached.{EvacIs, Fate, cell_still, ended_fate, evac_alone, evac_object, fate_marked, has_stayed, marked_fate, marked_none, turns_fate}
 use Rattle.far_replay.proofs.RoundChoices.{policy_chooses}
 use Rattle.far_replay.proofs.RoundLeads.{begins, evacuating_is, made_leaves, none_first, step_keeps}
 use Rattle.far_replay_laws.proofs.Standing.{stands}
 use Rattle.far_replay_laws.proofs.StepsTell.{held_chosen}
+use Rattle.far_replay_laws.proofs.MovesTaken.{chosen_held}
 use Rattle.far_replay_laws.proofs.TurnsTell.{made_so}
 
 -- ---- each object is what it was
@@ -148,8 +153,8 @@ module _ (now : Moment) (law : Law now.core) (moment : MomentLaw now) where
         let m : Moment = after_selecting now (l ∷ ls) in
         let chosen = policy_chooses now policy most moment in
         let begun = selecting now (chosen_by policy (rows_in now) most) law moment (begins now [] may).0.idle (begins now [] may).0.left chosen.once chosen.of_order in
-        let tells : Commanded now (Evacuator (Select (By policy) most)) (Selected (l ∷ ls)) m =
-        subst (λ (xs : List ℕ). Commanded now (Evacuator (Select (By policy) most)) (Selected xs) (after_selecting now xs)) e (made_so now (Select (By policy) most) may) in
+        let tells : Served now (Evacuator (Select (By policy) most)) (Selected (l ∷ ls)) m =
+        subst (λ (xs : List ℕ). Served now (Evacuator (Select (By policy) most)) (Selected xs) (after_selecting now xs)) e (made_so now (Select (By policy) most) may) in
         let apart : IsApart m.core m.held q = λ k c. none k (l ∷ ls, m, tells, c) in
         (turns_put m q law (subst (λ (xs : List ℕ). MomentLaw (after_selecting now xs)) e begun.moment) refl apart turns).put_there
 
@@ -212,17 +217,75 @@ module _ (now : Moment) (law : Law now.core) (moment : MomentLaw now) where
   }
 
 -- ---- each step
-step_left : (now : Moment) (step : Step) (r : Reply) (next : Moment) → Lasts now → Commanded now (Evacuator step) r next → StepLeaves now step r next
-step_left now step r next lasts h =
+served_left : (now : Moment) (step : Step) (r : Reply) (next : Moment) → Lasts now → Served now (Evacuator step) r next → StepLeaves now step r next
+served_left now step r next lasts h =
     subst (λ (x : Moment). StepLeaves now step r x) (sym h.moment) (subst (λ (x : Reply). StepLeaves now step x (effect now (Evacuator step))) (sym h.reply) (step_leaves now lasts.law lasts.round step))
 
-pub steps_left : (now : Moment) (step : Step) (r : Reply) (next : Moment) → IsMoment now → Commanded now (Evacuator step) r next → StepLeaves now step r next
-steps_left now step r next is h = step_left now step r next (moment_lasts now is) h
+-- ---- one that the device stops
+anywhere_more : (o x y : Option Object) → IsAnywhere o x → IsAnywhere x y → IsAnywhere o y
+anywhere_more None None None h k = tt
+anywhere_more None None (Some y) h k = absurd k
+anywhere_more None (Some x) y h k = absurd h
+anywhere_more (Some o) None y h k = absurd h
+anywhere_more (Some o) (Some x) None h k = absurd k
+anywhere_more (Some o) (Some x) (Some y) h k = (k.0 ∙ h.0, k.1 ∙ h.1, k.2 ∙ h.2)
+
+stop_left : (now : Moment) (why : Refusal) (objects count : ℕ) (r : Reply) (next : Moment) → Lasts now → StopsLeaving why objects now count r next → StepLeaves now (Evacuate count) r next
+stop_left now why objects count r next lasts h =
+    let x = served_left now (Evacuate objects) (Evacuated h.progress) next lasts h.left in
+    subst (λ y. StepLeaves now (Evacuate count) y next) (sym h.reply) record { objects = x.objects; others = x.others; rest = x.rest }
+
+round_left : (now : Moment) (why : Refusal) (turns objects : ℕ) (policy : Policy) (most count : ℕ) (r : Reply) (next : Moment) → Lasts now → (h : StopsRound why turns objects now policy most count r next) → Lasts h.stood →
+    StepLeaves now (Round policy most count) r next
+round_left now why turns objects policy most count r next lasts h later =
+    let stood = stood_so now policy most turns h.stood h.turned in
+    let left = left_some h.stood objects h.progress next h.left h.unfinished in
+    let logs = stood.log ∷ stood.logs in
+    let m : Moment = after_selecting now logs in
+    let started = begun now lasts.law lasts.round policy most turns h.stood stood in
+    let x = served_left now (Round policy most turns) (Ended (Limit Evacuating)) h.stood lasts h.turned in
+    let y = served_left h.stood (Evacuate objects) (Evacuated h.progress) next later h.left in
+    let tells : Served now (Evacuator (Select (By policy) most)) (Selected logs) m =
+    subst (λ (xs : List ℕ). Served now (Evacuator (Select (By policy) most)) (Selected xs) (after_selecting now xs)) stood.chosen (made_so now (Select (By policy) most) stood.may) in
+    let fate = λ (q : ℕ). subst (λ (z : Moment). Fate StaysMarked m.core m.held q z.core z.held) (sym stood.stands) (turns_fate m q started.law started.moment refl turns) in
+    let ends : ended (walked h.stood objects) ≡ next = ap (λ b. cond b (record (walked h.stood objects).moment { phase = Idle }) (walked h.stood objects).moment) left.goes ∙ sym left.stands in
+    let last = λ (q : ℕ). subst (λ (z : Moment). Fate StaysPut h.stood.core h.stood.held q z.core z.held) ends (ended_fate h.stood later.law later.round left.leaves q objects) in
+    subst (λ z. StepLeaves now (Round policy most count) z next) (sym h.reply) record {
+      objects = λ p. anywhere_more ((world_of now.core).object p) ((world_of h.stood.core).object p) ((world_of next.core).object p) (x.objects p) (y.objects p);
+      others = λ p none.
+          let first : StaysPut now.core h.stood.core p = x.others p none in
+          put_more now.core h.stood.core next.core p first
+          (y.others p (λ l chosen lies. none l (logs, m, tells, (fate p).fewer l (in_held h.stood l chosen)) (lay_there now.core h.stood.core p l first.cell lies)));
+      rest = record {
+        unreached = λ p l was is. has_stayed StaysMarked m.core m.held p next.core next.held
+            (marked_fate m.core h.stood.core next.core m.held h.stood.held next.held p (fate p) (fate_marked h.stood.core next.core h.stood.held next.held p (last p))) l was is;
+        used = y.rest.used ∙ x.rest.used;
+        held = y.rest.held ∙ x.rest.held;
+        scope = y.rest.scope ∙ x.rest.scope;
+        remembered = y.rest.remembered ∙ x.rest.remembered;
+      };
+    }
+  where
+    in_held : (s : Moment) (l : ℕ) → IsChosen s l → Contains s.held l
+    in_held s l chosen = among_in l s.held (chosen_held s l chosen)
+
+served_so : (now : Moment) (c : Command) (r : Reply) (next : Moment) → Lasts now → Served now c r next → Leaves now c r next
+served_so now (Mutator m request) r next lasts h = stands now (Mutator m request) r next lasts (Serves, h)
+served_so now (Book inquiry) r next lasts h = stands now (Book inquiry) r next lasts (Serves, h)
+served_so now (Evacuator step) r next lasts h = served_left now step r next lasts h
 
 left_so : (now : Moment) (c : Command) (r : Reply) (next : Moment) → Lasts now → Commanded now c r next → Leaves now c r next
-left_so now (Mutator m request) r next lasts h = stands now (Mutator m request) r next lasts h
-left_so now (Book inquiry) r next lasts h = stands now (Book inquiry) r next lasts h
-left_so now (Evacuator step) r next lasts h = step_left now step r next lasts h
+left_so now c r next lasts h = by_outcome now r next (λ d. Leaves now d r next)
+    (λ d h. served_so now d r next lasts h)
+    (λ why m p from new h. stands now (Mutator m (Write p from new)) r next lasts (Refuses why 0 0, h))
+    (λ why m p from len h. stands now (Mutator m (Read p from len)) r next lasts (Refuses why 0 0, h))
+    (λ why m p h. stands now (Mutator m (View p)) r next lasts (Refuses why 0 0, h))
+    (λ why objects count h. stop_left now why objects count r next lasts h)
+    (λ why turns objects policy most count h. round_left now why turns objects policy most count r next lasts h (after_step now (Round policy most turns) (Ended (Limit Evacuating)) h.stood lasts h.turned))
+    c h
+
+pub steps_left : (now : Moment) (step : Step) (r : Reply) (next : Moment) → IsMoment now → Commanded now (Evacuator step) r next → StepLeaves now step r next
+steps_left now step r next is h = left_so now (Evacuator step) r next (moment_lasts now is) h
 
 pub all_leave : (now : Moment) (cs : List Command) (rs : List Reply) (moments : List Moment) → Lasts now → AllWriteBytes cs → Answered now cs rs moments → AllLeave now cs rs moments
 all_leave now [] [] [] lasts bytes h = tt

@@ -13,6 +13,7 @@ pub mod Determined
 pub mod EndsTold
 pub mod EpochLaws
 pub mod EpochsSpent
+pub mod FarRefusals
 pub mod GivenFree
 pub mod HotViews
 pub mod InquiryLaws
@@ -34,6 +35,7 @@ pub mod SaidBy
 pub mod SealedAside
 pub mod Standing
 pub mod StepsTell
+pub mod Stops
 pub mod TakingRoom
 pub mod Tries
 pub mod TurnsTell

@@ -26,7 +26,10 @@ use Rattle.far_evac.specs.RoundSteps.{among}
 use Rattle.far_evac.specs.TakesRoom.{TakesRoom as Taken, bytes_at, bytes_gone, bytes_in, bytes_near, gone_of, spot_of}
 use Rattle.far_evac.specs.Walk.{ended, is_done, walked}
 use Rattle.far_evac.proofs.Marks.{all_filter, is_given_up, is_marked}
-use Rattle.far_evac.proofs.RoomTurns.{call_takes_room, round_takes_room}
+use Rattle.far_evac.proofs.RoomTurns.{call_takes_room, round_takes_room, round_takes_some}
+use Rattle.far_evac.specs.Turns.{turn_size}
+use Rattle.far_evac.specs.declared.answers.Progress.{Progress}
+use Rattle.far_replay_laws.proofs.Stops.{LeftSome, Stood, begun, left_led, stopped_so, turns_led}
 use Rattle.far_evac.proofs.Walks.{walk_is}
 use Rattle.far_text.specs.Command.{By, Evacuator, Step, Select, Mark, Wait, Evacuate, Abort, Round, Policy}
 use Rattle.far_replay_laws.specs.Headline.{TakesRoom}
@@ -38,7 +41,7 @@ use Rattle.far_replay_laws.specs.Steps.{IsChosen, IsRetired, IsSentFar, LiesIn, 
 use Rattle.far_replay.specs.Turn.{refusal, unless, turn_effect, turn_reply, refused_effect}
 use Rattle.far_evac.proofs.Fronts.{kept_in}
 use Rattle.far_evac.proofs.Leading.{selecting}
-use Rattle.far_replay_laws.proofs.GivenFree.{GivenFree, ended_free, round_free}
+use Rattle.far_replay_laws.proofs.GivenFree.{GivenFree, ended_free, round_free, stop_free}
 use Rattle.far_replay_laws.proofs.CountedOnce.{all_at, among_in, filtered, in_among, member_or_apart}
 use Rattle.far_replay_laws.proofs.LeftByWalks.{marked_frame, marking_frame}
 use Rattle.far_replay.proofs.LogBytes.{celled_takes, names_bare, none_taken, worded_takes}
@@ -276,6 +279,25 @@ module _ (now : Moment) (law : Law now.core) (moment : MomentLaw now) where
         policy_takes now law moment policy most,
         begun_core logs (Contains logs) t
             (moves_take (after_selecting now logs) t taken.0 taken.1 leads.law (round_free now law logs turns begun.moment) (Contains logs) (λ l c. held l ∙ in_among l logs c) (λ l off. held l ∙ not_named logs l off) (chosen_held t) (not_chosen t leads.moment)),
+      )
+
+  -- a round that was stopped
+  pub stop_takes : (policy : Policy) (most turns count objects : ℕ) (stood next : Moment) (progress : Progress) (h : Stood now policy most turns stood) → turns < count → objects < turn_size → LeftSome stood objects progress next →
+      (logs : List ℕ) × Takes now (By policy) most logs × MovesTake now (Contains logs) next
+  stop_takes policy most turns count objects stood next progress h few within left =
+      let logs = h.log ∷ h.logs in
+      let m = after_selecting now logs in
+      let start = begun now law moment policy most turns stood h in
+      let led = turns_led now law moment policy most turns stood h in
+      let after = left_led stood led.law led.moment objects progress next left in
+      let taken = (round_takes_some now next logs count (own_law now.core law)).1 _ (stopped_so now law moment policy most turns stood h count objects progress next few within left) in
+      let free : GivenFree m.held next.core next.held = subst (λ (x : Moment). GivenFree m.held x.core x.held) (sym left.stands)
+      (subst (λ (x : Moment). GivenFree m.held (walked x objects).moment.core (walked x objects).moment.held) (sym h.stands) (stop_free m start.law start.moment refl turns objects h.goes h.leaves)) in
+      let held = begun_held logs (begins now [] h.may).0.idle in (
+        logs,
+        subst (Takes now (By policy) most) h.chosen (policy_takes now law moment policy most),
+        begun_core logs (Contains logs) next
+            (moves_take m next taken.0 taken.1 after.law free (Contains logs) (λ l c. held l ∙ in_among l logs c) (λ l off. held l ∙ not_named logs l off) (chosen_held next) (not_chosen next after.moment)),
       )
 
 -- what is owed of those that deal with objects

@@ -6,7 +6,7 @@ use Rattle.std.specs.List.{flat_map, range_with_len}
 use Rattle.std.proofs.lemmas.Bool.{lt-leb, eqb-true, eqb-false}
 use Rattle.std.proofs.lemmas.Bool.Decides.{nat_tests}
 use Rattle.far_word.specs.declared.refused.Refused.{Refused as Refusal}
-use Rattle.far_word.specs.declared.refused.Refused.TheVariants.{Range, Length, NoPointer, NoRoom, Marked, Shape, StillOpen, Syntax}
+use Rattle.far_word.specs.declared.refused.Refused.TheVariants.{Range, Length, NoPointer, NoRoom, Device, Damaged, Marked, Shape, StillOpen, Syntax}
 use Rattle.far_word.specs.declared.sizes.TheConstants.{CELLS, LONGEST}
 use Rattle.far_word.specs.Sizes.{size_of}
 use Rattle.far_log.proofs.Members.{split, none_in, All-from}
@@ -21,6 +21,7 @@ use Rattle.far_core.proofs.Bounds.{some_of}
 use Rattle.far_core.proofs.Guards.{none_from}
 use Rattle.far_core.proofs.Observations.{bytes_make_log}
 use Rattle.std.proofs.lemmas.Bool.{and_parts}
+use Rattle.far_evac.specs.declared.answers.Progress.{Progress}
 use Rattle.far_word.specs.declared.mark.Mark.TheVariants.{Hot, Moved}
 use Rattle.far_word.specs.Mark.{position, marks_with}
 use Rattle.far_core.specs.events.Step.{after_pin, is_opened}
@@ -36,7 +37,8 @@ use Rattle.far_replay.specs.Effects.{is_slow, with_view}
 use Rattle.far_replay.proofs.AloneRuns.{quiet_run, quiet_view}
 use Rattle.far_replay.specs.Moment.{Moment, with_core}
 use Rattle.far_replay.specs.Alone.{Alone, Knows, Own}
-use Rattle.far_replay.specs.Answers.{Answered, Answers, Commanded, IsMoment, IsOutput, shape_of, first_moment}
+use Rattle.far_replay.specs.Answers.{AllServed, Answered, AnsweredBy, Answers, Commanded, Outside, Served, IsMoment, IsOutput, shape_of, first_moment}
+use Rattle.far_replay.specs.Commanded.{KeepsFar}
 use Rattle.far_text.specs.Command.{Command, Trace, Nothing, Heap, New, Open, Write, Read, Close, Where, Drop, View, Try, Epoch, Logs, Mutator, Book, Evacuator, Step, Wait}
 use Rattle.far_text.specs.Grammar.{trace_of}
 use Rattle.far_replay_laws.specs.Headline.{IsSound, IsWhole, IsSaidBy, TellsAll, TellsLog}
@@ -44,7 +46,7 @@ use Rattle.far_replay.specs.Lawful.{Lawful}
 use Rattle.far_text.specs.Written.{AllWriteBytes}
 use Rattle.far_replay.specs.EventRows.{after_events, AllSucceed}
 use Rattle.far_replay.specs.declared.reply.LogLine.{LogLine}
-use Rattle.far_replay.specs.Reply.{Reply, Done, Pointer, Refused, reply_text}
+use Rattle.far_replay.specs.Reply.{Reply, Done, Pointer, Refused, Halted, reply_text}
 use Rattle.far_replay.specs.Events.{turn_events, view_events, events_for, new_events}
 use Rattle.far_replay.specs.Objects.{is_range, lowest_cell, object_len, uses, with_range}
 use Rattle.far_word.specs.declared.mark.Marks.{Marks}
@@ -56,7 +58,8 @@ use Rattle.far_replay.specs.Rounds.{refused_step}
 use Rattle.far_replay.specs.Turn.{turn_effect, refused_effect, causes, first_cause, refusal, unless, turn_reply, reply_to, log_line, pointer_reply}
 use Rattle.far_replay_laws.proofs.AloneNew.{new_run, is_structure, is_length}
 use Rattle.far_replay_laws.proofs.AloneFirst.{alone_first}
-use Rattle.far_replay.proofs.Answering.{answers_all}
+use Rattle.far_replay.proofs.Answering.{answered_by, answers_all}
+use Rattle.far_replay.proofs.Outcomes.{by_outcome}
 use Rattle.far_replay_laws.proofs.Kept.{whole}
 use Rattle.far_replay.proofs.Lasting.{first_lasts, first_lawful, command_carried, moment_lasts, moments_last, each_is_moment, first_is_moment}
 use Rattle.far_replay_laws.proofs.Listed.{all_counted}
@@ -75,8 +78,8 @@ use Rattle.far_replay.proofs.Views.{view_is, view_law, slow_view}
 
 -- ---- each text has an output
 heap_answered : (logs mutators epoch : ℕ) (cs : List Command) (b : Bool) →
-    (output : List ℕ) × MatchBool b ((rs : List Reply) × (moments : List Moment) × Answered (first_moment logs mutators epoch) cs rs moments × (output ≡ flat_map reply_text (Done ∷ rs))) (output ≡ reply_text (Refused Shape))
-heap_answered logs mutators epoch cs true = let x = answers_all (first_moment logs mutators epoch) cs in (flat_map reply_text (Done ∷ x.0), (x.0, x.1, x.2, refl))
+    (output : List ℕ) × MatchBool b ((os : List Outside) × (rs : List Reply) × (moments : List Moment) × AllServed os × AnsweredBy os (first_moment logs mutators epoch) cs rs moments × (output ≡ flat_map reply_text (Done ∷ rs))) (output ≡ reply_text (Refused Shape))
+heap_answered logs mutators epoch cs true = let x = answers_all (first_moment logs mutators epoch) cs in (flat_map reply_text (Done ∷ x.1), (x.0, x.1, x.2, x.3, x.4, refl))
 heap_answered logs mutators epoch cs false = (reply_text (Refused Shape), refl)
 
 read_answered : (read : Result Trace ℕ) → (output : List ℕ) × IsOutput read output
@@ -88,10 +91,10 @@ pub each_answered : (text : List ℕ) → (output : List ℕ) × Answers text ou
 each_answered text = read_answered (trace_of text)
 
 -- ---- what a refused command leaves
-cause_of : (now : Moment) (c : Command) (r : Reply) (next : Moment) (why : Refusal) → Commanded now c r next → r ≡ Refused why → refusal now c ≡ Some why
+cause_of : (now : Moment) (c : Command) (r : Reply) (next : Moment) (why : Refusal) → Served now c r next → r ≡ Refused why → refusal now c ≡ Some why
 cause_of now c r next why h e = from_cause (refusal now c) (turn_reply now c) why (turn_is_no_refusal now c why) (sym h.reply ∙ e)
 
-refused_moment : (now : Moment) (c : Command) (r : Reply) (next : Moment) (why : Refusal) → Commanded now c r next → r ≡ Refused why → next ≡ refused_effect now c why
+refused_moment : (now : Moment) (c : Command) (r : Reply) (next : Moment) (why : Refusal) → Served now c r next → r ≡ Refused why → next ≡ refused_effect now c why
 refused_moment now c r next why h e = h.moment ∙ ap (λ o. unless o (refused_effect now c) (turn_effect now c)) (cause_of now c r next why h e)
 
 -- a step leaves all, unless it is a wait that goes on
@@ -108,8 +111,42 @@ none_marked now (Mutator m (Try p)) (Marked word) none blind = absurd (none p re
 none_marked now (Evacuator step) why none blind = blind_step now step why blind
 none_marked now c why none blind = refl
 
+served_stays : (now : Moment) (c : Command) (r : Reply) (next : Moment) (why : Refusal) → ((p : ℕ) → ¬ MayMark c why p) → ¬ MaySee c why → Served now c r next → r ≡ Refused why → next ≡ now
+served_stays now c r next why none blind h e = refused_moment now c r next why h e ∙ none_marked now c why none blind
+
+-- what was refused by the outside was refused so, and may have marked its object
+same_refusal : (why cause : Refusal) (r : Reply) → r ≡ Refused cause → r ≡ Refused why → cause ≡ why
+same_refusal why cause r h e = refusals_alike cause why (sym h ∙ e) where
+  refusals_alike : (a b : Refusal) → Refused a ≡ Refused b → a ≡ b
+  refusals_alike a b e = cc
+
+pub not_halted : (why cause : Refusal) (progress : Progress) (r : Reply) → r ≡ Halted cause progress → r ≢ Refused why
+not_halted why cause progress r h e = let odd : Halted cause progress ≡ Refused why = sym h ∙ e in cc
+
+write_marks : (why : Refusal) (m p from : ℕ) (bytes : List ℕ) → KeepsFar why → MayMark (Mutator m (Write p from bytes)) why p
+write_marks Device m p from bytes h = refl
+write_marks Damaged m p from bytes h = refl
+write_marks why m p from bytes h = absurd h
+
+read_marks : (why : Refusal) (m p from len : ℕ) → KeepsFar why → MayMark (Mutator m (Read p from len)) why p
+read_marks Device m p from len h = refl
+read_marks Damaged m p from len h = refl
+read_marks why m p from len h = absurd h
+
+view_marks : (why : Refusal) (m p : ℕ) → KeepsFar why → MayMark (Mutator m (View p)) why p
+view_marks Device m p h = refl
+view_marks Damaged m p h = refl
+view_marks why m p h = absurd h
+
 pub refused_stays : (now : Moment) (c : Command) (r : Reply) (next : Moment) (why : Refusal) → ((p : ℕ) → ¬ MayMark c why p) → ¬ MaySee c why → Commanded now c r next → r ≡ Refused why → next ≡ now
-refused_stays now c r next why none blind h e = refused_moment now c r next why h e ∙ none_marked now c why none blind
+refused_stays now c r next why none blind h e = by_outcome now r next (λ d. ((p : ℕ) → ¬ MayMark d why p) → ¬ MaySee d why → next ≡ now)
+    (λ d h none blind. served_stays now d r next why none blind h e)
+    (λ cause m p from bytes h none blind. absurd (none p (subst (λ x. MayMark (Mutator m (Write p from bytes)) x p) (same_refusal why cause r h.reply e) (write_marks cause m p from bytes h.cause))))
+    (λ cause m p from len h none blind. absurd (none p (subst (λ x. MayMark (Mutator m (Read p from len)) x p) (same_refusal why cause r h.reply e) (read_marks cause m p from len h.cause))))
+    (λ cause m p h none blind. absurd (none p (subst (λ x. MayMark (Mutator m (View p)) x p) (same_refusal why cause r h.reply e) (view_marks cause m p h.cause))))
+    (λ cause objects count h none blind. absurd (not_halted why cause h.progress r h.reply e))
+    (λ cause turns objects policy most count h none blind. absurd (not_halted why cause _ r h.reply e))
+    c h none blind
 
 -- what stays of a core, but for marks
 pub record CoreStays (c : Command) (why : Refusal) (s t : State) : Type 0 where
@@ -235,8 +272,49 @@ refused_leaves now (Mutator m (Try p)) (Marked word) law e =
 refused_leaves now (Evacuator step) why law e = step_stays now step why e
 refused_leaves now c why law e = stays_same c why now (λ k none. none)
 
+served_refusals : (now : Moment) (c : Command) (r : Reply) (next : Moment) (why : Refusal) → Law now.core → Served now c r next → r ≡ Refused why → Stays c why now next
+served_refusals now c r next why law h e = subst (Stays c why now) (sym (refused_moment now c r next why h e)) (refused_leaves now c why law (cause_of now c r next why h e))
+
+-- one that the outside refused left what a try did
+tried_stays : (now : Moment) (m p word : ℕ) (next : Moment) (c : Command) (why : Refusal) → ((q : ℕ) → ¬ MayMark c why q → q ≢ p) → ((k : ℕ) → ¬ Sees c why k) →
+    Stays (Mutator m (Try p)) (Marked word) now next → Stays c why now next
+tried_stays now m p word next c why apart blind h = record {
+  objects = h.objects;
+  cells = h.cells;
+  unmarked = λ q none. h.unmarked q (apart q none);
+  seen = λ _. h.seen (λ no. no);
+  clear = λ k. (
+    (λ seen. elim ((h.clear k).0 seen) [
+      | inl before ↦ inl before
+      | inr none ↦ absurd none
+    ]),
+    (λ either. elim either [
+      | inl before ↦ (h.clear k).1 (inl before)
+      | inr saw ↦ absurd (blind k saw)
+    ]),
+  );
+  rest = h.rest;
+  round = h.round;
+}
+
+marks_else : (c : Command) (why : Refusal) (p q : ℕ) → MayMark c why p → ¬ MayMark c why q → q ≢ p
+marks_else c why p q may none e = none (subst (MayMark c why) (sym e) may)
+
 pub refusals_stay : (now : Moment) (c : Command) (r : Reply) (next : Moment) (why : Refusal) → Law now.core → Commanded now c r next → r ≡ Refused why → Stays c why now next
-refusals_stay now c r next why law h e = subst (Stays c why now) (sym (refused_moment now c r next why h e)) (refused_leaves now c why law (cause_of now c r next why h e))
+refusals_stay now c r next why law h e = by_outcome now r next (λ d. Stays d why now next)
+    (λ d h. served_refusals now d r next why law h e)
+    (λ cause m p from bytes h. subst (λ x. Stays (Mutator m (Write p from bytes)) x now next) (same_refusal why cause r h.reply e)
+    (tried_stays now m p (now.core.cell p) next (Mutator m (Write p from bytes)) cause (λ q. marks_else (Mutator m (Write p from bytes)) cause p q (write_marks cause m p from bytes h.cause)) (λ k no. no)
+    (served_refusals now (Mutator m (Try p)) (Refused (Marked (now.core.cell p))) next (Marked (now.core.cell p)) law h.tried refl)))
+    (λ cause m p from len h. subst (λ x. Stays (Mutator m (Read p from len)) x now next) (same_refusal why cause r h.reply e)
+    (tried_stays now m p (now.core.cell p) next (Mutator m (Read p from len)) cause (λ q. marks_else (Mutator m (Read p from len)) cause p q (read_marks cause m p from len h.cause)) (λ k no. no)
+    (served_refusals now (Mutator m (Try p)) (Refused (Marked (now.core.cell p))) next (Marked (now.core.cell p)) law h.tried refl)))
+    (λ cause m p h. subst (λ x. Stays (Mutator m (View p)) x now next) (same_refusal why cause r h.reply e)
+    (tried_stays now m p (now.core.cell p) next (Mutator m (View p)) cause (λ q. marks_else (Mutator m (View p)) cause p q (view_marks cause m p h.cause)) (λ k no. no)
+    (served_refusals now (Mutator m (Try p)) (Refused (Marked (now.core.cell p))) next (Marked (now.core.cell p)) law h.tried refl)))
+    (λ cause objects count h. absurd (not_halted why cause h.progress r h.reply e))
+    (λ cause turns objects policy most count h. absurd (not_halted why cause _ r h.reply e))
+    c h
 
 -- ---- a mutator that the heap hasn't
 -- the first cause holds
@@ -263,8 +341,19 @@ refuses_unknown now (Mutator k Epoch) m e h = first_holds now (Mutator k Epoch) 
 refuses_unknown now (Book inquiry) m e h = absurd e
 refuses_unknown now (Evacuator step) m e h = absurd e
 
+unknown_allowed : (now : Moment) (c : Command) (m : ℕ) → IsSaidBy m c → now.core.mutators ≤ m → refusal now c ≢ None
+unknown_allowed now c m e h none =
+    turn_is_no_refusal now c Range (sym (ap (λ o. unless o Refused (turn_reply now c)) none) ∙ refuses_unknown now c m e h)
+
 pub unknown_refused : (now : Moment) (c : Command) (r : Reply) (next : Moment) (m : ℕ) → IsSaidBy m c → now.core.mutators ≤ m → Commanded now c r next → r ≡ Refused Range
-unknown_refused now c r next m e h k = k.reply ∙ refuses_unknown now c m e h
+unknown_refused now c r next m e h k = by_outcome now r next (λ d. IsSaidBy m d → r ≡ Refused Range)
+    (λ d k e. k.reply ∙ refuses_unknown now d m e h)
+    (λ cause n p from bytes k e. absurd (unknown_allowed now (Mutator n (Write p from bytes)) m e h k.allowed))
+    (λ cause n p from len k e. absurd (unknown_allowed now (Mutator n (Read p from len)) m e h k.allowed))
+    (λ cause n p k e. absurd (unknown_allowed now (Mutator n (View p)) m e h k.allowed))
+    (λ cause objects count k e. absurd e)
+    (λ cause turns objects policy most count k e. absurd e)
+    c k e
 
 -- ---- what logs tell
 lines_say_logs : (now : Moment) (ls : List ℕ) → map (λ (line : LogLine). line.log) (map (log_line now) ls) ≡ ls
@@ -282,7 +371,7 @@ of_each P now h (l ∷ ls) line c = elim (split line (log_line now l) (map (log_
 tells_log : (now : Moment) → Law now.core → (l : ℕ) → TellsLog now (log_line now l)
 tells_log now law l = record { kind = refl; live = refl; dead = refl; unused = refl; whole = bytes_make_log now.core law l }
 
-pub logs_tell : (now : Moment) (r : Reply) (next : Moment) → Law now.core → Commanded now (Book Logs) r next → TellsAll now r
+pub logs_tell : (now : Moment) (r : Reply) (next : Moment) → Law now.core → Served now (Book Logs) r next → TellsAll now r
 logs_tell now r next law h =
     subst (TellsAll now) (sym h.reply) (lines_say_logs now (range_with_len 0 now.core.logs), of_each (TellsLog now) now (tells_log now law) (range_with_len 0 now.core.logs))
 
@@ -292,7 +381,7 @@ told_pointer None None p e = absurd cc
 told_pointer None (Some q) p e = let same : p ≡ q = cc in ap Some (sym same)
 told_pointer (Some why) x p e = absurd cc
 
-pub takes_lowest : (now : Moment) (m len ds p : ℕ) (next : Moment) → Commanded now (Mutator m (New len ds)) (Pointer p) next →
+pub takes_lowest : (now : Moment) (m len ds p : ℕ) (next : Moment) → Served now (Mutator m (New len ds)) (Pointer p) next →
     (m * CELLS ≤ p) × (p < m * CELLS + CELLS) × (now.core.cell p ≡ 0) × ((q : ℕ) → m * CELLS ≤ q → q < p → now.core.cell q ≢ 0)
 takes_lowest now m len ds p next h = lowest_cell_is now.core m p (told_pointer (refusal now (Mutator m (New len ds))) (lowest_cell now.core m) p h.reply)
 
@@ -310,12 +399,12 @@ fourth false false true d e = absurd cc
 fourth false false false true e = refl
 fourth false false false false e = absurd cc
 
-why_refused : (now : Moment) (c : Command) (why : Refusal) (next : Moment) → Commanded now c (Refused why) next → refusal now c ≡ Some why
+why_refused : (now : Moment) (c : Command) (why : Refusal) (next : Moment) → Served now c (Refused why) next → refusal now c ≡ Some why
 why_refused now c why next h = from_cause (refusal now c) (turn_reply now c) why (turn_is_no_refusal now c why) (sym h.reply)
 
 pub none_left : (now : Moment) (m len ds : ℕ) (next : Moment) →
-    (Commanded now (Mutator m (New len ds)) (Refused NoPointer) next → (q : ℕ) → m * CELLS ≤ q → q < m * CELLS + CELLS → now.core.cell q ≢ 0)
-    × (Commanded now (Mutator m (New len ds)) (Refused NoRoom) next → room now.core (size_of len) true ≡ None)
+    (Served now (Mutator m (New len ds)) (Refused NoPointer) next → (q : ℕ) → m * CELLS ≤ q → q < m * CELLS + CELLS → now.core.cell q ≢ 0)
+    × (Served now (Mutator m (New len ds)) (Refused NoRoom) next → room now.core (size_of len) true ≡ None)
 none_left now m len ds next = (
   (λ h. no_cell_is now.core m (none_from (lowest_cell now.core m) (third _ _ _ _ (why_refused now (Mutator m (New len ds)) NoPointer next h)))),
   (λ h. none_from (room now.core (size_of len) true) (fourth _ _ _ _ (why_refused now (Mutator m (New len ds)) NoRoom next h))),
@@ -344,7 +433,7 @@ some_lowest None y h = absurd (h refl)
 some_lowest (Some p) None h = (λ _. refl, λ place e. absurd cc)
 some_lowest (Some p) (Some place) h = (λ e. absurd cc, λ _ _. (p, refl))
 
-pub is_made : (now : Moment) (m len ds : ℕ) (r : Reply) (next : Moment) → m < now.core.mutators → ds < 256 → 0 < len → len ≤ LONGEST → Commanded now (Mutator m (New len ds)) r next →
+pub is_made : (now : Moment) (m len ds : ℕ) (r : Reply) (next : Moment) → m < now.core.mutators → ds < 256 → 0 < len → len ≤ LONGEST → Served now (Mutator m (New len ds)) r next →
     (((q : ℕ) → m * CELLS ≤ q → q < m * CELLS + CELLS → now.core.cell q ≢ 0) → r ≡ Refused NoPointer)
     × ((q : ℕ) → m * CELLS ≤ q → q < m * CELLS + CELLS → now.core.cell q ≡ 0 →
     (room now.core (size_of len) true ≡ None → r ≡ Refused NoRoom) × ((place : Place) → room now.core (size_of len) true ≡ Some place → (p : ℕ) × (r ≡ Pointer p)))
@@ -395,7 +484,7 @@ not_refused : (o : Option Refusal) (x : Option ℕ) (p : ℕ) → Pointer p ≡ 
 not_refused None x p e = refl
 not_refused (Some why) x p e = absurd cc
 
-pub makes_its_object : (now : Moment) (m len ds p : ℕ) (next : Moment) → IsMoment now → Commanded now (Mutator m (New len ds)) (Pointer p) next → (place : Place) × (room now.core (size_of len) true ≡ Some place)
+pub makes_its_object : (now : Moment) (m len ds p : ℕ) (next : Moment) → IsMoment now → Served now (Mutator m (New len ds)) (Pointer p) next → (place : Place) × (room now.core (size_of len) true ≡ Some place)
     × ((world_of next.core).object ≡ put (world_of now.core).object p (Some record { owner = m; ds = ds; bytes = replicate len 0; home = Group place.log }))
 makes_its_object now m len ds p next is c =
     let s : State = now.core in
@@ -429,9 +518,9 @@ objects_whole now cs rs moments is bytes h =
     All-from (λ (x : Moment). IsWhole x.core) (now ∷ moments) (λ x c. whole x.core (moment_lasts x (each_is_moment now cs rs moments is bytes h x c)).law)
 
 in_shape : (logs mutators epoch : ℕ) (cs : List Command) (output : List ℕ) (b : Bool) → b ≡ true →
-    MatchBool b ((rs : List Reply) × (moments : List Moment) × Answered (first_moment logs mutators epoch) cs rs moments × (output ≡ flat_map reply_text (Done ∷ rs))) (output ≡ reply_text (Refused Shape)) →
+    MatchBool b ((os : List Outside) × (rs : List Reply) × (moments : List Moment) × AllServed os × AnsweredBy os (first_moment logs mutators epoch) cs rs moments × (output ≡ flat_map reply_text (Done ∷ rs))) (output ≡ reply_text (Refused Shape)) →
     (rs : List Reply) × (moments : List Moment) × Answered (first_moment logs mutators epoch) cs rs moments × (output ≡ flat_map reply_text (Done ∷ rs))
-in_shape logs mutators epoch cs output true e h = h
+in_shape logs mutators epoch cs output true e (os, rs, moments, served, h, is) = (rs, moments, answered_by os (first_moment logs mutators epoch) cs rs moments h, is)
 in_shape logs mutators epoch cs output false e h = absurd cc
 
 pub outputs_sound : (text output : List ℕ) (logs mutators epoch : ℕ) (cs : List Command) → Answers text output → trace_of text ≡ Ok (Heap logs mutators epoch cs) →

@@ -11,7 +11,7 @@ use Rattle.std.proofs.lemmas.List.{get_or_past, length-take}
 use Rattle.std.proofs.lemmas.List.Elements.{All-from_recursion}
 use Rattle.hex.specs.Hex.{IsBytes}
 use Rattle.far_word.specs.declared.refused.Refused.{Refused as Refusal}
-use Rattle.far_word.specs.declared.refused.Refused.TheVariants.{Range}
+use Rattle.far_word.specs.declared.refused.Refused.TheVariants.{Range, Device, Damaged}
 use Rattle.far_word.specs.declared.pointer.PtrWord.{PtrWord}
 use Rattle.far_word.specs.declared.pointer.PtrWord.TheVariants.{Free, Near, Far}
 use Rattle.far_word.specs.declared.sizes.TheConstants.{CELLS}
@@ -23,15 +23,17 @@ use Rattle.far_core.specs.state.State.{State}
 use Rattle.far_core.proofs.Observations.{bytes_make_log}
 use Rattle.far_book.specs.book.Home.{home_of}
 use Rattle.far_evac.specs.MomentLaw.{MomentLaw}
-use Rattle.far_replay.specs.Answers.{Answered}
+use Rattle.far_replay.specs.Answers.{Answered, Commanded, Served}
+use Rattle.far_replay.specs.Commanded.{KeepsFar}
+use Rattle.far_replay.proofs.Outcomes.{by_outcome}
 use Rattle.far_replay.specs.Audit.{counts_of, lies_near, lies_far, bytes_by_log}
-use Rattle.far_text.specs.Command.{Command, New, Open, Write, Read, Close, Where, Drop, View, Try, Epoch, Logs, Log, Audit, Mutator, Book, Evacuator}
+use Rattle.far_text.specs.Command.{Command, New, Open, Write, Read, Close, Where, Drop, View, Try, Epoch, Logs, Log, Audit, Mutator, Book, Evacuator, Evacuate}
 use Rattle.far_replay_laws.specs.Headline.{IsToldInFull, IsLineToldInFull, AreToldInFull, IsRefusalToldInFull}
 use Rattle.far_replay.specs.Dereference.{dereferenced}
 use Rattle.far_replay.specs.Moment.{Moment}
 use Rattle.far_replay.specs.Objects.{lowest_cell, data_of}
 use Rattle.far_replay.specs.declared.reply.LogLine.{LogLine}
-use Rattle.far_replay.specs.Reply.{Reply, Audited, Refused}
+use Rattle.far_replay.specs.Reply.{Reply, Audited, Evacuated, Refused}
 use Rattle.far_replay.specs.Turn.{causes, refusal, reply_to, unless, turn_reply, log_line, pointer_reply, home_reply}
 use Rattle.far_text.specs.Written.{AllWriteBytes, WritesBytes}
 use Rattle.far_replay_laws.proofs.AloneNew.{is_structure}
@@ -39,7 +41,8 @@ use Rattle.far_replay.proofs.AloneStates.{lowest_own, data_small}
 use Rattle.far_text.proofs.Each.{Each, Each-row}
 use Rattle.far_text.proofs.Parts.{range_get}
 use Rattle.far_replay.proofs.Lasting.{Lasts, still_lasts}
-use Rattle.far_replay_laws.proofs.PlainRounds.{filter_shorter, plain_step, plain_step_causes}
+use Rattle.far_replay_laws.proofs.PlainRounds.{filter_shorter, plain_step, plain_step_causes, plain_stop}
+use Rattle.far_replay_laws.proofs.Stops.{left_some, stood_so}
 use Rattle.far_replay_laws.proofs.Refusals.{EachCause, each_first, among}
 use Rattle.far_replay.proofs.Turns.{new_tests}
 
@@ -140,6 +143,26 @@ plain_unless now c (Some why) law moment bytes e = among IsRefusalToldInFull (ca
 pub plain_reply : (now : Moment) (c : Command) → Law now.core → MomentLaw now → WritesBytes c → IsToldInFull (reply_to now c)
 plain_reply now c law moment bytes = plain_unless now c (refusal now c) law moment bytes refl
 
+-- of a command that was served or refused in its midst
+far_told : (why : Refusal) → KeepsFar why → IsRefusalToldInFull why
+far_told Device h = tt
+far_told Damaged h = tt
+far_told why h = absurd h
+
+served_plain : (now : Moment) (c : Command) (r : Reply) (next : Moment) → Lasts now → WritesBytes c → Served now c r next → IsToldInFull r
+served_plain now c r next lasts bytes h = subst IsToldInFull (sym h.reply) (plain_reply now c lasts.law lasts.round bytes)
+
+outcome_plain : (now : Moment) (c : Command) (r : Reply) (next : Moment) → Lasts now → WritesBytes c → Commanded now c r next → IsToldInFull r
+outcome_plain now c r next lasts bytes h = by_outcome now r next (λ d. WritesBytes d → IsToldInFull r)
+    (λ d h bytes. served_plain now d r next lasts bytes h)
+    (λ why m p from new h _. subst IsToldInFull (sym h.reply) (far_told why h.cause))
+    (λ why m p from len h _. subst IsToldInFull (sym h.reply) (far_told why h.cause))
+    (λ why m p h _. subst IsToldInFull (sym h.reply) (far_told why h.cause))
+    (λ why objects count h _. subst IsToldInFull (sym h.reply) (h.cause, served_plain now (Evacuator (Evacuate objects)) (Evacuated h.progress) next lasts tt h.left, h.unfinished))
+    (λ why turns objects policy most count h bytes.
+    subst IsToldInFull (sym h.reply) (h.cause, plain_stop now lasts.law lasts.round policy most turns h.stood (stood_so now policy most turns h.stood h.turned) objects h.progress next (left_some h.stood objects h.progress next h.left h.unfinished), refl))
+    c h bytes
+
 -- each reply to a list of commands
 each_plain : (now : Moment) (cs : List Command) (rs : List Reply) (moments : List Moment) → Lasts now → AllWriteBytes cs → Answered now cs rs moments → AllByRecursion IsToldInFull rs
 each_plain now [] [] [] lasts bytes h = tt
@@ -148,7 +171,7 @@ each_plain now [] (r ∷ rs) ms lasts bytes h = absurd h
 each_plain now (c ∷ cs) [] ms lasts bytes h = absurd h
 each_plain now (c ∷ cs) (r ∷ rs) [] lasts bytes h = absurd h
 each_plain now (c ∷ cs) (r ∷ rs) (next ∷ ms) lasts bytes h =
-    (subst IsToldInFull (sym h.0.reply) (plain_reply now c lasts.law lasts.round bytes.0), each_plain next cs rs ms (still_lasts now c r next lasts bytes.0 h.0) bytes.1 h.1)
+    (outcome_plain now c r next lasts bytes.0 h.0, each_plain next cs rs ms (still_lasts now c r next lasts bytes.0 h.0) bytes.1 h.1)
 
 pub replies_plain : (now : Moment) (cs : List Command) (rs : List Reply) (moments : List Moment) → Lasts now → AllWriteBytes cs → Answered now cs rs moments → All IsToldInFull rs
 replies_plain now cs rs moments lasts bytes h = All-from_recursion IsToldInFull rs (each_plain now cs rs moments lasts bytes h)

@@ -16,6 +16,7 @@ use Rattle.far_book.proofs.region.Owns.{own_law}
 use Rattle.far_book.specs.book.Dealing.{has_evac}
 use Rattle.far_evac.specs.declared.answers.Polled.{Polled}
 use Rattle.far_evac.specs.declared.answers.Polled.TheVariants as polls
+use Rattle.far_evac.specs.declared.answers.Progress.{Progress}
 use Rattle.far_evac.specs.declared.answers.RoundEnd.TheVariants as ends
 use Rattle.far_evac.specs.declared.phase.Phase.{Phase}
 use Rattle.far_evac.specs.declared.phase.Phase.TheVariants.{Idle, Marking, Waiting, Evacuating}
@@ -24,7 +25,7 @@ use Rattle.far_evac.specs.Choosing.{after_selecting}
 use Rattle.far_evac.specs.Leading.{Leads}
 use Rattle.far_evac.specs.Live.{lacking, live_among}
 use Rattle.far_evac.specs.Marking.{after_marking, leaves_some, newly_marked, waiting_for}
-use Rattle.far_evac.specs.Moment.{Moment, Tally, nothing, plus, progress_of}
+use Rattle.far_evac.specs.Moment.{Moment, Tally, nothing, plus, progress_of, tally_of}
 use Rattle.far_evac.specs.MomentLaw.{MomentLaw, has_risen, is_idle}
 use Rattle.far_evac.specs.RoundSteps.{among}
 use Rattle.far_evac.specs.Turning.{IsBounded, IsWithin}
@@ -40,12 +41,13 @@ use Rattle.far_evac.proofs.Readiness.{risen_is_ready}
 use Rattle.far_evac.proofs.Rounds.{polls_is}
 use Rattle.far_evac.proofs.Walks.{walk_is}
 use Rattle.far_policy.specs.Scripted.{is_bad, judged}
-use Rattle.far_text.specs.Command.{By, Script, Step, Select, Mark, Wait, Evacuate, Abort, Round, Evacuator}
+use Rattle.far_text.specs.Command.{By, Script, Policy, Step, Select, Mark, Wait, Evacuate, Abort, Round, Evacuator}
 use Rattle.far_text.specs.Written.{ChoosesFew}
 use Rattle.far_replay_laws.specs.Headline.{IsToldInFull, IsRefusalToldInFull, IsWaitToldInFull, AreToldAsNumbers, IsProgressToldInFull, IsEndToldInFull}
 use Rattle.far_replay.specs.Rounds.{choice_causes, chosen_by, given_by, is_evacuating, logs_given, round_told, rows_in, step_causes, step_reply, wait_causes}
 use Rattle.far_replay.specs.Turn.{refusal}
 use Rattle.far_replay_laws.proofs.Refusals.{EachCause}
+use Rattle.far_replay_laws.proofs.Stops.{LeftSome, Stood, begun, turns_led}
 use Rattle.far_replay.proofs.RoundChoices.{Chooses, policy_chooses}
 use Rattle.far_replay.proofs.RoundLeads.{begins, chooses, evacuating_is, none_first}
 
@@ -135,6 +137,21 @@ plain_round now [] turns begun = tt
 plain_round now (l ∷ ls) turns begun =
     let m = after_selecting now (l ∷ ls) in
     plain_end (turns_made m turns) (turns_stand m begun.law begun.moment refl turns)
+
+-- ---- a round that was stopped: its turns, and what was done in the last one
+pub plain_stop : (now : Moment) → Law now.core → MomentLaw now → (policy : Policy) (most turns : ℕ) (stood : Moment) (h : Stood now policy most turns stood) (objects : ℕ) (progress : Progress) (next : Moment) → LeftSome stood objects progress next →
+    IsProgressToldInFull (progress_of (plus (turns_made (after_selecting now (chosen_by policy (rows_in now) most)) turns).tally (tally_of progress)) false)
+plain_stop now law moment policy most turns stood h objects progress next left =
+    let m = after_selecting now (h.log ∷ h.logs) in
+    let r = turns_made m turns in
+    let led = turns_led now law moment policy most turns stood h in
+    let stands = turns_stand m (begun now law moment policy most turns stood h).law (begun now law moment policy most turns stood h).moment refl turns in
+    let walks = walk_is stood objects in
+    let within : IsWithin stood r.tally = subst (λ (x : Moment). IsWithin x r.tally) (sym h.stands) (stands.within h.goes) in
+    let ready = risen_is_ready stood (own_law stood.core led.law) led.moment (ap has_risen left.leaves) in
+    let bounded = walk_bounded stood r.tally within ready walks.0 (walked stood objects) walks.1.walks in
+    subst (λ (xs : List ℕ). IsProgressToldInFull (progress_of (plus (turns_made (after_selecting now xs) turns).tally (tally_of progress)) false)) (sym h.chosen)
+    (subst (λ (p : Progress). IsProgressToldInFull (progress_of (plus r.tally (tally_of p)) false)) (sym left.told) (plain_tally (plus r.tally (walked stood objects).tally) false bounded))
 
 -- ---- steps
 module _ (now : Moment) (law : Law now.core) (moment : MomentLaw now) where

@@ -21,9 +21,10 @@ use Rattle.far_evac.specs.declared.phase.Phase.{Phase as RoundPhase}
 use Rattle.far_evac.specs.declared.phase.Phase.TheVariants as phases
 use Rattle.far_book.specs.declared.home.Home.TheVariants.{Near, Far}
 use Rattle.far_replay_laws.specs.Headline.{IsToldInFull, IsHomeToldInFull, AreCountsToldInFull, IsLineToldInFull, AreToldInFull, IsRefusalToldInFull, IsWaitToldInFull, AreToldAsNumbers, IsProgressToldInFull, IsEndToldInFull}
+use Rattle.far_replay.specs.Commanded.{KeepsNear}
 use Rattle.far_replay.specs.declared.reply.Counts.{Counts}
 use Rattle.far_replay.specs.declared.reply.LogLine.{LogLine}
-use Rattle.far_replay.specs.Reply.{Reply, Done, Pointer, Data, Logs, Lies, Audited, EpochRead, Selected, Marked as MarkedSome, Clear, Evacuated, Ended, Refused, kind_word, log_text, letters_of, home_printed, counts_printed, detail, refusal_text, log_listed, chosen_text, waiting_text, counted_text, done_text, phase_word, end_text, reply_text}
+use Rattle.far_replay.specs.Reply.{Reply, Done, Pointer, Data, Logs, Lies, Audited, EpochRead, Selected, Marked as MarkedSome, Clear, Evacuated, Ended, Refused, Halted, kind_word, log_text, letters_of, home_printed, counts_printed, detail, refusal_text, halted_text, log_listed, chosen_text, waiting_text, counted_text, done_text, phase_word, end_text, reply_text}
 use Rattle.std.specs.Int.{byte_at, bytes_high_first, from_be_bytes, to_be_bytes, w64}
 use Rattle.std.specs.Str.Parse.{digits_value}
 use Rattle.std.proofs.lemmas.Nat.{from_be_bytes-to_be_bytes_8, mod_below}
@@ -248,15 +249,20 @@ cut_digits (x ∷ xs) (y ∷ ys) us vs f g h k e =
     let (others, behind) = cut_digits xs ys us vs f.1 g.1 h k (ap (drop 1) e) in
     ((λ i. first i ∷ others i), behind)
 
+-- a refusal's number, and what stands behind it
+refusal_cut : (n k : ℕ) (xs ys : List ℕ) → n < 2 ^ 64 → k < 2 ^ 64 → head_of xs < 48 → head_of ys < 48 →
+    codes "refused " ++ decimal n ++ xs ++ codes "\n" ≡ codes "refused " ++ decimal k ++ ys ++ codes "\n" → (n ≡ k) × (xs ≡ ys)
+refusal_cut n k xs ys small little low below e =
+    let same : decimal n ++ xs ≡ decimal k ++ ys =
+    append_cancel_left (codes "refused ") _ _ (sym (append_assoc (codes "refused ") (decimal n) xs) ∙ append_cancel_right _ _ (codes "\n") e ∙ append_assoc (codes "refused ") (decimal k) ys) in
+    let (numbers, behind) = cut_digits (decimal n) (decimal k) xs ys (decimal_digits n small) (decimal_digits k little) low below same in
+    (decimal_injective n k small little numbers, behind)
+
 refused_alike : (a b : Refusal) → IsRefusalToldInFull a → IsRefusalToldInFull b → refusal_text a ≡ refusal_text b → a ≡ b
 refused_alike a b p q e =
-    let same : decimal (refusal_number a) ++ detail a ≡ decimal (refusal_number b) ++ detail b =
-    append_cancel_left (codes "refused ") _ _ (sym (append_assoc (codes "refused ") (decimal (refusal_number a)) (detail a))
-    ∙ append_cancel_right _ _ (codes "\n") e ∙ append_assoc (codes "refused ") (decimal (refusal_number b)) (detail b)) in
     let small = number_small a p in
     let little = number_small b q in
-    let (numbers, details) = cut_digits (decimal (refusal_number a)) (decimal (refusal_number b)) (detail a) (detail b) (decimal_digits (refusal_number a) small.0) (decimal_digits (refusal_number b) little.0) small.1 little.1 same in
-    let number : refusal_number a ≡ refusal_number b = decimal_injective (refusal_number a) (refusal_number b) small.0 little.0 numbers in
+    let (number, details) = refusal_cut (refusal_number a) (refusal_number b) (detail a) (detail b) small.0 little.0 small.1 little.1 e in
     sym (told_back a p) ∙ ap (λ n. refusal_from n (detail a)) number ∙ ap (refusal_from (refusal_number b)) details ∙ told_back b q
 
 -- ---- where an object is
@@ -428,6 +434,37 @@ evacuated_alike p q a b e =
     (append_cancel_left (codes "evacuated") _ _ (sym (evacuated_right p) ∙ e ∙ evacuated_right q)) in
     same_progress p q counted (done_alike p.done q.done behind)
 
+-- a step that was refused in its midst tells of the device alone, and of a round that isn't over
+near_is : (why : Refusal) → KeepsNear why → why ≡ Device
+near_is Device h = refl
+near_is why h = absurd h
+
+halted_alike : (a b : Refusal) (p q : Progress) → IsToldInFull (Halted a p) → IsToldInFull (Halted b q) → halted_text a p ≡ halted_text b q → Halted a p ≡ Halted b q
+halted_alike a b p q x y e =
+    let one : a ≡ Device = near_is a x.0 in
+    let other : b ≡ Device = near_is b y.0 in
+    let texts : halted_text Device p ≡ halted_text Device q = sym (ap (λ w. halted_text w p) one) ∙ e ∙ ap (λ w. halted_text w q) other in
+    let (number, counts) = refusal_cut 10 10 (counted_text p) (counted_text q) (omega arith) (omega arith) (omega arith) (omega arith) texts in
+    let (alike, _) = counted_alike p q (codes "\n") (codes "\n") x.1 y.1 (omega arith) (omega arith) (ap (λ l. l ++ codes "\n") counts) in
+    let same : p ≡ q = same_progress p q alike (x.2 ∙ sym y.2) in
+    ap (λ w. Halted w p) (one ∙ sym other) ∙ ap (Halted b) same
+
+-- a refusal of that number tells nothing more
+ten_alone : (why : Refusal) → refusal_number why ≡ 10 → detail why ≡ []
+ten_alone (Marked word) e = absurd (omega (arith, e))
+ten_alone (Syntax line) e = absurd (omega (arith, e))
+ten_alone (BadChoice log) e = absurd (omega (arith, e))
+ten_alone (StillOpen mutator epoch) e = absurd (omega (arith, e))
+ten_alone why e = refl
+
+not_halted : (a b : Refusal) (q : Progress) → IsRefusalToldInFull a → KeepsNear b → refusal_text a ≢ halted_text b q
+not_halted a b q p y e =
+    let small = number_small a p in
+    let texts : refusal_text a ≡ halted_text Device q = e ∙ ap (λ w. halted_text w q) (near_is b y) in
+    let (number, behind) = refusal_cut (refusal_number a) 10 (detail a) (counted_text q) small.0 (omega arith) small.1 (omega arith) texts in
+    let odd : 0 ≡ 32 = ap head_of (sym (ten_alone a number) ∙ behind) in
+    omega (arith, odd)
+
 -- the phase whose word begins so
 abbrev phase_from : ℕ → RoundPhase
 phase_from letter = if letter == 105 then phases.Idle else if letter == 109 then phases.Marking else if letter == 119 then phases.Waiting else phases.Evacuating
@@ -470,6 +507,21 @@ bytes_alike x y a b e =
     let both : Ok x ≡ Ok y = sym (decode_of-encode_lower x a) ∙ ap decode_of same ∙ decode_of-encode_lower y b in
     cc
 
+-- a refusal, which tells what was done or doesn't
+data Turned : Type 0 where
+  Plainly : (why : Refusal) → Turned
+  Midway : (why : Refusal) (progress : Progress) → Turned
+
+abbrev turning : Turned → Reply
+turning (Plainly why) = Refused why
+turning (Midway why progress) = Halted why progress
+
+turned_alike : (x y : Turned) → IsToldInFull (turning x) → IsToldInFull (turning y) → reply_text (turning x) ≡ reply_text (turning y) → turning x ≡ turning y
+turned_alike (Plainly a) (Plainly b) p q e = ap Refused (refused_alike a b p q e)
+turned_alike (Plainly a) (Midway b y) p q e = absurd (not_halted a b y p q.0 e)
+turned_alike (Midway a x) (Plainly b) p q e = absurd (not_halted b a x q p.0 (sym e))
+turned_alike (Midway a x) (Midway b y) p q e = halted_alike a b x y p q e
+
 -- what a reply is of, which its first two letters tell
 data Form : Type 0 where
   OfDone : Form
@@ -501,7 +553,7 @@ Payload OfMarked = ℕ × Option ℕ
 Payload OfClear = Unit {0}
 Payload OfEvacuated = Progress
 Payload OfEnd = RoundEnd
-Payload OfRefusal = Refusal
+Payload OfRefusal = Turned
 
 abbrev packed : (f : Form) → Payload f → Reply
 packed OfDone x = Done
@@ -517,7 +569,7 @@ packed OfMarked x = MarkedSome x.0 x.1
 packed OfClear x = Clear
 packed OfEvacuated x = Evacuated x
 packed OfEnd x = Ended x
-packed OfRefusal x = Refused x
+packed OfRefusal x = turning x
 
 unpacked : (r : Reply) → (f : Form) × (x : Payload f) × (r ≡ packed f x)
 unpacked Done = (OfDone, tt, refl)
@@ -533,7 +585,8 @@ unpacked (MarkedSome count waiting) = (OfMarked, (count, waiting), refl)
 unpacked Clear = (OfClear, tt, refl)
 unpacked (Evacuated progress) = (OfEvacuated, progress, refl)
 unpacked (Ended end) = (OfEnd, end, refl)
-unpacked (Refused why) = (OfRefusal, why, refl)
+unpacked (Refused why) = (OfRefusal, Plainly why, refl)
+unpacked (Halted why progress) = (OfRefusal, Midway why progress, refl)
 
 -- replies of logs may have no line
 abbrev form_by : ℕ → ℕ → Form
@@ -560,7 +613,8 @@ form_back OfMarked x = refl
 form_back OfClear x = refl
 form_back OfEvacuated x = refl
 form_back OfEnd x = refl
-form_back OfRefusal x = refl
+form_back OfRefusal (Plainly why) = refl
+form_back OfRefusal (Midway why progress) = refl
 
 -- those of one form
 same_form : (f : Form) (x y : Payload f) → IsToldInFull (packed f x) → IsToldInFull (packed f y) → reply_text (packed f x) ≡ reply_text (packed f y) → packed f x ≡ packed f y
@@ -577,7 +631,7 @@ same_form OfMarked x y a b e = marked_alike x.0 y.0 x.1 y.1 a b e
 same_form OfClear x y a b e = refl
 same_form OfEvacuated x y a b e = ap Evacuated (evacuated_alike x y a b e)
 same_form OfEnd x y a b e = ap Ended (ends_alike x y a b (append_cancel_left (codes "round ") _ _ (append_cancel_right _ _ (codes "\n") e)))
-same_form OfRefusal x y a b e = ap Refused (refused_alike x y a b e)
+same_form OfRefusal x y a b e = turned_alike x y a b e
 
 -- what is printed alike is of one form
 all_forms : (f g : Form) → f ≡ g → (x : Payload f) (y : Payload g) → IsToldInFull (packed f x) → IsToldInFull (packed g y) → reply_text (packed f x) ≡ reply_text (packed g y) → packed f x ≡ packed g y

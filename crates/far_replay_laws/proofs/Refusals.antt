@@ -4,17 +4,22 @@ use Rattle.std.proofs.lemmas.Bool.{and_parts, cond_both, not-false, true≢false
 use Rattle.std.specs.List.{find, range_with_len}
 use Rattle.far_word.specs.declared.refused.Refused.{Refused as Refusal}
 use Rattle.far_word.specs.declared.sizes.TheConstants.{CELLS}
+use Rattle.far_core.proofs.Cells.{unused}
 use Rattle.far_core.proofs.KeepOwner.{nonzero}
 use Rattle.far_core.specs.state.Law.{Law}
 use Rattle.far_core.specs.state.State.{State}
 use Rattle.far_word.specs.Pointer.{read_of}
+use Rattle.far_word.specs.declared.pointer.PtrWord.TheVariants.{Free, Near, Far}
+use Rattle.far_evac.specs.declared.answers.Progress.{Progress}
 use Rattle.far_book.specs.book.Home.{home_of}
 use Rattle.far_book.specs.declared.home.Home.{Home}
 use Rattle.far_replay.specs.Moment.{Moment}
-use Rattle.far_replay.specs.Answers.{Commanded}
+use Rattle.far_replay.specs.Answers.{Commanded, Served}
+use Rattle.far_replay.specs.Commanded.{LiesFar}
+use Rattle.far_replay.proofs.Outcomes.{by_outcome}
 use Rattle.far_text.specs.Command.{Command, New, Open, Write, Read, Close, Where, Drop, View, Try, Epoch, Logs, Log, Audit, Mutator, Book, Evacuator, Step, By, Script, Select, Mark, Wait, Evacuate, Abort, Round}
 use Rattle.far_replay_laws.specs.Headline.{IsAtHandFor, MayRefuse}
-use Rattle.far_replay.specs.Reply.{Reply, Refused}
+use Rattle.far_replay.specs.Reply.{Reply, Refused, Halted}
 use Rattle.far_replay.specs.Dereference.{has_no_room}
 use Rattle.far_replay.specs.Effects.{is_slow}
 use Rattle.far_replay.specs.EventRows.{AtHand}
@@ -125,6 +130,26 @@ pub from_cause : (o : Option Refusal) (r : Reply) (why : Refusal) → (r ≢ Ref
 from_cause None r why none e = absurd (none e)
 from_cause (Some cause) r why none e = let same : cause ≡ why = cc in ap Some same
 
-pub near_refusals : (now : Moment) (c : Command) (r : Reply) (next : Moment) (why : Refusal) → Law now.core → IsAtHandFor now c → Commanded now c r next → r ≡ Refused why → MayRefuse c why
-near_refusals now c r next why law hand h e =
+served_near : (now : Moment) (c : Command) (r : Reply) (next : Moment) (why : Refusal) → Law now.core → IsAtHandFor now c → Served now c r next → r ≡ Refused why → MayRefuse c why
+served_near now c r next why law hand h e =
     among (MayRefuse c) (causes now c) why (causes_listed now c law hand) (from_cause (refusal now c) (turn_reply now c) why (turn_is_no_refusal now c why) (sym h.reply ∙ e))
+
+-- what is far isn't at hand
+far_named : (s : State) (p : ℕ) → LiesFar s p → s.cell p ≢ 0
+far_named s p far none = let free : Some Free ≡ Some (Far far.0 far.1 far.2) = sym unused ∙ sym (ap read_of none) ∙ far.3 in cc
+
+pub far_away : (s : State) (p : ℕ) → LiesFar s p → ¬ (s.cell p ≢ 0 → AtHand s p)
+far_away s p far hand = let at = hand (far_named s p far) in let odd : Some (Near at.len at.ds at.place at.marks) ≡ Some (Far far.0 far.1 far.2) = sym at.near ∙ far.3 in cc
+
+pub near_refusals : (now : Moment) (c : Command) (r : Reply) (next : Moment) (why : Refusal) → Law now.core → IsAtHandFor now c → Commanded now c r next → r ≡ Refused why → MayRefuse c why
+near_refusals now c r next why law hand h e = by_outcome now r next (λ d. IsAtHandFor now d → MayRefuse d why)
+    (λ d h hand. served_near now d r next why law hand h e)
+    (λ cause m p from bytes h hand. absurd (far_away now.core p h.far hand))
+    (λ cause m p from len h hand. absurd (far_away now.core p h.far hand))
+    (λ cause m p h hand. absurd (far_away now.core p h.far hand))
+    (λ cause objects count h hand. absurd (halts cause why h.progress r h.reply e))
+    (λ cause turns objects policy most count h hand. absurd (halts cause why _ r h.reply e))
+    c h hand
+  where
+    halts : (cause why : Refusal) (progress : Progress) (r : Reply) → r ≡ Halted cause progress → r ≢ Refused why
+    halts cause why progress r h e = let odd : Halted cause progress ≡ Refused why = sym h ∙ e in cc

@@ -5,11 +5,13 @@ use Rattle.far_book.specs.book.SealedLogs.{KeepsSealed}
 use Rattle.far_evac.specs.Callers.{StepsAside}
 use Rattle.far_evac.specs.MomentLaw.{MomentLaw}
 use Rattle.far_evac.specs.RoundSteps.{among}
-use Rattle.far_text.specs.Command.{Command, Mutator, Book, Evacuator}
-use Rattle.far_replay.specs.Answers.{Commanded, IsMoment}
+use Rattle.far_text.specs.Command.{Command, Try, Mutator, Book, Evacuator}
+use Rattle.far_replay.specs.Answers.{Commanded, Served, IsMoment}
+use Rattle.far_word.specs.declared.refused.Refused.TheVariants.{Marked}
+use Rattle.far_replay.proofs.Outcomes.{by_outcome}
 use Rattle.far_replay.specs.Events.{IsTold}
 use Rattle.far_replay.specs.Moment.{Moment, with_core}
-use Rattle.far_replay.specs.Reply.{Reply}
+use Rattle.far_replay.specs.Reply.{Reply, Refused}
 use Rattle.far_replay_laws.specs.Stands.{RoundStands, Stands}
 use Rattle.far_replay_laws.specs.Steps.{IsChosen}
 use Rattle.far_replay.specs.Turn.{effect}
@@ -54,8 +56,18 @@ stands_by now (Mutator m request) lasts = told_stands now (Mutator m request) tt
 stands_by now (Book inquiry) lasts = told_stands now (Book inquiry) tt lasts
 stands_by now (Evacuator step) lasts = tt
 
+served_stands : (now : Moment) (c : Command) (r : Reply) (later : Moment) → Lasts now → Served now c r later → Stands now c later
+served_stands now c r later lasts h = subst (Stands now c) (sym h.moment) (stands_by now c lasts)
+
 pub stands : (now : Moment) (c : Command) (r : Reply) (later : Moment) → Lasts now → Commanded now c r later → Stands now c later
-stands now c r later lasts h = subst (Stands now c) (sym h.moment) (stands_by now c lasts)
+stands now c r later lasts h = by_outcome now r later (λ d. Stands now d later)
+    (λ d h. served_stands now d r later lasts h)
+    (λ why m p from bytes h. served_stands now (Mutator m (Try p)) (Refused (Marked (now.core.cell p))) later lasts h.tried)
+    (λ why m p from len h. served_stands now (Mutator m (Try p)) (Refused (Marked (now.core.cell p))) later lasts h.tried)
+    (λ why m p h. served_stands now (Mutator m (Try p)) (Refused (Marked (now.core.cell p))) later lasts h.tried)
+    (λ why objects count h. tt)
+    (λ why turns objects policy most count h. tt)
+    c h
 
 pub rounds_stand : (now : Moment) (c : Command) (r : Reply) (later : Moment) → IsMoment now → Commanded now c r later → Stands now c later
 rounds_stand now c r later is h = stands now c r later (moment_lasts now is) h

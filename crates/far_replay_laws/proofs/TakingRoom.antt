@@ -1,5 +1,5 @@
 -- Which shapes a heap line may say, and what each command takes of the logs.
-use Rattle.std.proofs.Common.{◌≡◌, ◌≤◌, ◌<◌, ◌^◌, ℕ, ◌+◌, ◌-◌, true, false, not, nat_lt, length, is_some, sym, refl, ap, ◌∙◌, subst, arith, Option, Some, None}
+use Rattle.std.proofs.Common.{List, ◌≡◌, ◌≤◌, ◌<◌, ◌^◌, ℕ, ◌+◌, ◌-◌, true, false, not, nat_lt, length, is_some, sym, refl, ap, ◌∙◌, subst, arith, Option, Some, None}
 use Rattle.std.specs.Prelude.{◌↔◌}
 use Rattle.std.proofs.lemmas.Bool.{and_parts, false≢true, ltb-true, true≢false}
 use Rattle.std.proofs.lemmas.Bool.Decides.{nat_tests}
@@ -9,7 +9,7 @@ use Rattle.far_word.specs.declared.pointer.PtrWord.TheVariants.{Free, Near, Far}
 use Rattle.far_word.specs.Bytes.{packed_word}
 use Rattle.far_word.specs.Pointer.{read_of}
 use Rattle.far_word.specs.declared.refused.Refused.{Refused as Refusal}
-use Rattle.far_word.specs.declared.refused.Refused.TheVariants.{NoRoom, Closed, Held, NotHeld, Range, Marked}
+use Rattle.far_word.specs.declared.refused.Refused.TheVariants.{NoRoom, Closed, Held, NotHeld, Range, Device, Damaged, Marked}
 use Rattle.far_word.specs.Sizes.{size_of, words_for}
 use Rattle.far_core.specs.state.Room.{room}
 use Rattle.far_core.specs.state.Shape.{is_shape}
@@ -27,21 +27,24 @@ use Rattle.far_book.proofs.region.Reaching.{placing_legal}
 use Rattle.far_book.proofs.region.Written.{row_other}
 use Rattle.far_evac.proofs.Dealt.{free_gone}
 use Rattle.far_evac.specs.MomentLaw.{MomentLaw}
-use Rattle.far_replay.specs.Answers.{Commanded, IsMoment, shape_of}
-use Rattle.far_text.specs.Command.{Command, New, Open, Write, Read, Close, Where, Drop, View, Try, Epoch, Mutator, Book, Evacuator}
+use Rattle.far_replay.specs.Answers.{Commanded, Served, Unbrought, IsMoment, shape_of}
+use Rattle.far_replay.specs.Commanded.{KeepsFar}
+use Rattle.far_replay.proofs.Outcomes.{by_outcome}
+use Rattle.far_replay_laws.proofs.Stops.{left_some, stood_so}
+use Rattle.far_text.specs.Command.{Command, New, Open, Write, Read, Close, Where, Drop, View, Try, Epoch, Mutator, Book, Evacuator, Evacuate, Round}
 use Rattle.far_replay.specs.Dereference.{comes_to, dereferenced, has_no_room, sought}
 use Rattle.far_replay.specs.Effects.{is_slow, with_data, with_epoch, with_object, with_scope, without_object}
 use Rattle.far_replay_laws.specs.Headline.{CommandTakes, TakesRoom}
 use Rattle.far_replay.specs.Taking.{BytesMove, DereferenceLacks, DropTakes, TakesNone}
 use Rattle.far_replay.specs.Moment.{Moment, moment_of}
 use Rattle.far_replay.specs.Objects.{data_of, is_range, lowest_cell, object_len, uses, with_range}
-use Rattle.far_replay.specs.Reply.{Reply, Refused}
+use Rattle.far_replay.specs.Reply.{Reply, Evacuated, Refused}
 use Rattle.far_replay.specs.Turn.{refusal, unless, turn_effect, refused_effect, turn_reply, reply_to, pointer_reply, with_new}
 use Rattle.far_replay.proofs.Drops.{drop_is, unheld_is}
 use Rattle.far_replay.proofs.Dereferences.{derefs, sought_lacks}
 use Rattle.far_replay.proofs.Lasting.{moment_lasts}
 use Rattle.far_replay.proofs.LogBytes.{bytes_move, celled_takes, headed_takes, move_then, names_one, none_taken, worded_takes}
-use Rattle.far_replay_laws.proofs.MovesTaken.{step_takes}
+use Rattle.far_replay_laws.proofs.MovesTaken.{step_takes, stop_takes}
 use Rattle.far_replay.proofs.TakingView.{deref_more, view_takes}
 use Rattle.far_replay.proofs.Turns.{access_fact, led, marked_last, new_object_is, new_parts, new_tests, room_lacks, room_last, three, tried}
 use Rattle.far_replay.proofs.Views.{Viewed}
@@ -164,8 +167,40 @@ takes now (Book inquiry) None law moment e = none_taken now.core
 takes now (Book inquiry) (Some why) law moment e = none_taken now.core
 takes now (Evacuator step) o law moment e = step_takes now step o law moment e
 
-pub commands_take : (now : Moment) (c : Command) (r : Reply) (next : Moment) → IsMoment now → Commanded now c r next → TakesRoom now c r next
-commands_take now c r next is h =
+served_take : (now : Moment) (c : Command) (r : Reply) (next : Moment) → IsMoment now → Served now c r next → TakesRoom now c r next
+served_take now c r next is h =
     let lasts = moment_lasts now is in
     subst (λ x. TakesRoom now c x next) (sym h.reply)
     (subst (λ (x : Moment). TakesRoom now c (reply_to now c) x) (sym h.moment) (takes now c (refusal now c) lasts.law lasts.round refl))
+
+-- one that the device refuses takes nothing, as a try doesn't
+far_takes : (now : Moment) (c : Command) (m p : ℕ) (why : Refusal) (r : Reply) (next : Moment) → IsMoment now → Unbrought why now c m p r next → TakesNone now.core next.core
+far_takes now c m p why r next is h = served_take now (Mutator m (Try p)) (Refused (Marked (now.core.cell p))) next is h.tried
+
+write_takes_none : (now next : Moment) (m p from : ℕ) (bytes : List ℕ) (why : Refusal) → KeepsFar why → TakesNone now.core next.core → TakesRoom now (Mutator m (Write p from bytes)) (Refused why) next
+write_takes_none now next m p from bytes Device h none = none
+write_takes_none now next m p from bytes Damaged h none = none
+write_takes_none now next m p from bytes why h none = absurd h
+
+read_takes_none : (now next : Moment) (m p from len : ℕ) (why : Refusal) → KeepsFar why → TakesNone now.core next.core → TakesRoom now (Mutator m (Read p from len)) (Refused why) next
+read_takes_none now next m p from len Device h none = none
+read_takes_none now next m p from len Damaged h none = none
+read_takes_none now next m p from len why h none = absurd h
+
+view_takes_none : (now next : Moment) (m p : ℕ) (why : Refusal) → KeepsFar why → TakesNone now.core next.core → TakesRoom now (Mutator m (View p)) (Refused why) next
+view_takes_none now next m p Device h none = none
+view_takes_none now next m p Damaged h none = none
+view_takes_none now next m p why h none = absurd h
+
+pub commands_take : (now : Moment) (c : Command) (r : Reply) (next : Moment) → IsMoment now → Commanded now c r next → TakesRoom now c r next
+commands_take now c r next is h =
+    let lasts = moment_lasts now is in
+    by_outcome now r next (λ d. TakesRoom now d r next)
+    (λ d h. served_take now d r next is h)
+    (λ why m p from bytes h. subst (λ x. TakesRoom now (Mutator m (Write p from bytes)) x next) (sym h.reply) (write_takes_none now next m p from bytes why h.cause (far_takes now (Mutator m (Write p from bytes)) m p why r next is h)))
+    (λ why m p from len h. subst (λ x. TakesRoom now (Mutator m (Read p from len)) x next) (sym h.reply) (read_takes_none now next m p from len why h.cause (far_takes now (Mutator m (Read p from len)) m p why r next is h)))
+    (λ why m p h. subst (λ x. TakesRoom now (Mutator m (View p)) x next) (sym h.reply) (view_takes_none now next m p why h.cause (far_takes now (Mutator m (View p)) m p why r next is h)))
+    (λ why objects count h. subst (λ x. TakesRoom now (Evacuator (Evacuate count)) x next) (sym h.reply) (served_take now (Evacuator (Evacuate objects)) (Evacuated h.progress) next is h.left))
+    (λ why turns objects policy most count h. subst (λ x. TakesRoom now (Evacuator (Round policy most count)) x next) (sym h.reply)
+    (stop_takes now lasts.law lasts.round policy most turns count objects h.stood next h.progress (stood_so now policy most turns h.stood h.turned) h.before h.within (left_some h.stood objects h.progress next h.left h.unfinished)))
+    c h

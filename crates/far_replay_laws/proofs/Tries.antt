@@ -14,7 +14,7 @@ use Rattle.far_core.specs.state.Law.{Law}
 use Rattle.far_core.specs.state.State.{State}
 use Rattle.far_core.specs.world.WorldOf.{world_of}
 use Rattle.far_core.proofs.Cells.{map_mark}
-use Rattle.far_replay.specs.Answers.{Commanded}
+use Rattle.far_replay.specs.Answers.{Served}
 use Rattle.far_text.specs.Command.{Mutator, Try}
 use Rattle.far_replay.specs.Effects.{is_slow, with_view}
 use Rattle.far_replay_laws.specs.Headline.{IsHotAfter}
@@ -35,7 +35,7 @@ by_pin true false c d word x y z = absurd (false≢true y)
 by_pin false b c d word x y z = absurd (false≢true x)
 
 -- what a try answers, and where it leads, by whether the pin gives a view
-answered : (now : Moment) (m p : ℕ) (r : Reply) (after : Moment) (b : Bool) → m < now.core.mutators → is_opened now.core m ≡ true → uses now.core m p ≡ true → is_slow now.core p ≡ b → Commanded now (Mutator m (Try p)) r after →
+answered : (now : Moment) (m p : ℕ) (r : Reply) (after : Moment) (b : Bool) → m < now.core.mutators → is_opened now.core m ≡ true → uses now.core m p ≡ true → is_slow now.core p ≡ b → Served now (Mutator m (Try p)) r after →
     (r ≡ cond b (Refused (Marked (now.core.cell p))) Done) × (after ≡ with_core now (with_view now.core p))
 answered now m p r after b within opened ours is h =
     let s : State = now.core in
@@ -75,7 +75,7 @@ hot_after s m p law opened ours e =
     subst (λ (t : State). IsHotAfter s t p) (sym (ap (λ b. cond b s (after_pin s p)) e)) (λ v is. pin_read s m p law opened ours ∙ ap (map_mark Hot) is)
 
 pub tries_answered : (now : Moment) (m p : ℕ) (r : Reply) (after : Moment) → Law now.core → m < now.core.mutators → is_opened now.core m ≡ true → uses now.core m p ≡ true →
-    Commanded now (Mutator m (Try p)) r after → ((world_of now.core).viewed p ≡ true → (r ≡ Done) × (after ≡ now))
+    Served now (Mutator m (Try p)) r after → ((world_of now.core).viewed p ≡ true → (r ≡ Done) × (after ≡ now))
     × ((world_of now.core).viewed p ≡ false → IsHotAfter now.core after.core p
     × (((len ds : ℕ) (place : Place) (marks : Marks) → read_of (now.core.cell p) ≡ Some (Near len ds place marks) → (marks.evac || marks.moved || marks.dropped) ≡ false → r ≡ Done)
     × (((len ds : ℕ) (place : Place) (marks : Marks) → read_of (now.core.cell p) ≡ Some (Near len ds place marks) → (marks.evac || marks.moved || marks.dropped) ≡ true) →

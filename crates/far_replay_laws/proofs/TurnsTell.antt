@@ -1,4 +1,5 @@
 -- A round tells what its turns add up to; and so each step of the evacuator tells what is so.
+use Rattle.std.specs.Prelude.{if◌then◌else◌}
 use Rattle.std.proofs.Common.{◌≡◌, ◌≢◌, ℕ, zero, suc, ◌+◌, ◌≤◌, Bool, true, false, not, cond, Option, Some, None, List, [], ◌∷◌, length, Result, Ok, Err, ap, sym, refl, ◌∙◌, subst, arith}
 use Rattle.std.proofs.lemmas.Bool.{cond_both, eqb-true, false≢true, true≢false}
 use Rattle.far_word.specs.declared.refused.Refused.{Refused as Refusal}
@@ -9,7 +10,7 @@ use Rattle.far_policy.proofs.Scripts.{follows_script}
 use Rattle.far_core.specs.state.Law.{Law}
 use Rattle.far_evac.specs.Choosing.{after_selecting}
 use Rattle.far_evac.specs.Marking.{after_marking}
-use Rattle.far_evac.specs.Moment.{Moment, progress_of}
+use Rattle.far_evac.specs.Moment.{Moment, plus, progress_of, tally_of}
 use Rattle.far_evac.specs.MomentLaw.{MomentLaw, is_idle}
 use Rattle.far_evac.specs.Turns.{Turned, turn_size, turned, turns_made}
 use Rattle.far_evac.specs.Waiting.{after_polling, first_open, polled, polled_at, polled_to}
@@ -22,14 +23,16 @@ use Rattle.far_evac.specs.declared.answers.RoundEnd.TheVariants as ends
 use Rattle.far_evac.specs.declared.phase.Phase.{Phase}
 use Rattle.far_evac.specs.declared.phase.Phase.TheVariants.{Idle, Marking, Waiting, Evacuating}
 use Rattle.far_evac.proofs.Leading.{selecting}
-use Rattle.far_text.specs.Command.{Command, Mutator, Book, Evacuator, Choice, By, Script, Policy, Step, Select, Mark, Wait, Evacuate, Abort, Round}
+use Rattle.far_text.specs.Command.{Command, Evacuator, Choice, By, Script, Policy, Step, Select, Mark, Wait, Evacuate, Abort, Round}
 use Rattle.far_text.specs.Written.{AllWriteBytes}
-use Rattle.far_replay.specs.Answers.{Answered, Commanded, IsMoment}
-use Rattle.far_replay.specs.Reply.{Reply, Selected, Clear, Evacuated, Ended, Refused}
+use Rattle.far_replay.specs.Answers.{Answered, Commanded, Served, StopsLeaving, StopsRound, IsMoment}
+use Rattle.far_replay.proofs.Outcomes.{by_outcome}
+use Rattle.far_replay_laws.proofs.Stops.{stood_so}
+use Rattle.far_replay.specs.Reply.{Reply, Selected, Clear, Evacuated, Ended, Refused, Halted}
 use Rattle.far_replay.specs.Rounds.{after_round, choice_causes, chosen_by, given_by, is_evacuating, is_marking, is_waiting, logs_given, refused_step, round_told, rows_in, step_causes, step_effect, step_reply, wait_causes}
 use Rattle.far_replay_laws.specs.Steps.{AllTold, AreTurns, CountsRound, IsTimeFor, NoneDone, Takes, TellsRefusal, TellsRound, TellsStep, Told, counted_by, phase_after, says_done, sum_of, turn_step}
 use Rattle.far_replay.specs.Turn.{effect, first_cause, refusal, refused_effect, turn_effect, turn_reply, unless}
-use Rattle.far_replay.proofs.Lasting.{Lasts, moment_lasts, still_lasts}
+use Rattle.far_replay.proofs.Lasting.{Lasts, after_step, moment_lasts, still_lasts}
 use Rattle.far_replay_laws.proofs.Refusals.{EachFirst, among}
 use Rattle.far_replay.proofs.RoundChoices.{policy_chooses}
 use Rattle.far_replay_laws.proofs.RoundCounts.{counts_round}
@@ -37,13 +40,13 @@ use Rattle.far_replay.proofs.RoundLeads.{begins, evacuating_is, marking_is, none
 use Rattle.far_replay_laws.proofs.StepsTell.{chosen_phase, ended_phase, marked_phase, policy_takes, tells_choice, tells_clear, tells_end, tells_leaving, tells_marks, tells_open}
 
 -- ---- a step as a command
-pub made_so : (now : Moment) (step : Step) → refusal now (Evacuator step) ≡ None → Commanded now (Evacuator step) (step_reply now step) (step_effect now step)
+pub made_so : (now : Moment) (step : Step) → refusal now (Evacuator step) ≡ None → Served now (Evacuator step) (step_reply now step) (step_effect now step)
 made_so now step e = record {
   reply = sym (ap (λ o. unless o Refused (turn_reply now (Evacuator step))) e);
   moment = sym (ap (λ o. unless o (refused_effect now (Evacuator step)) (turn_effect now (Evacuator step))) e);
 }
 
-refused_so : (now : Moment) (step : Step) (why : Refusal) → refusal now (Evacuator step) ≡ Some why → Commanded now (Evacuator step) (Refused why) (refused_step now step why)
+refused_so : (now : Moment) (step : Step) (why : Refusal) → refusal now (Evacuator step) ≡ Some why → Served now (Evacuator step) (Refused why) (refused_step now step why)
 refused_so now step why e = record {
   reply = sym (ap (λ o. unless o Refused (turn_reply now (Evacuator step))) e);
   moment = sym (ap (λ o. unless o (refused_effect now (Evacuator step)) (turn_effect now (Evacuator step))) e);
@@ -66,11 +69,11 @@ record Run (m : Moment) (n : ℕ) (r : Turned) : Type 0 where
 
 module _ (m : Moment) (n : ℕ) (r : Turned) (h : Run m n r) (goes : r.over ≡ false) where
   -- a turn that counts nothing
-  quiet : (phase : Phase) → r.moment.phase ≡ phase → (reply : Reply) (t : Moment) → Commanded r.moment (Evacuator (turn_step phase)) reply t → ((count : Progress → ℕ) → counted_by count reply ≡ 0) → says_done reply ≡ false →
+  quiet : (phase : Phase) → r.moment.phase ≡ phase → (reply : Reply) (t : Moment) → Served r.moment (Evacuator (turn_step phase)) reply t → ((count : Progress → ℕ) → counted_by count reply ≡ 0) → says_done reply ≡ false →
       Run m (suc n) (record r { moment = t })
   quiet phase e reply t made none more = record {
     replies = reply ∷ h.replies;
-    turns = (r.moment, h.turns, subst (λ (x : Phase). Commanded r.moment (Evacuator (turn_step x)) reply t) (sym e) made);
+    turns = (r.moment, h.turns, subst (λ (x : Phase). Served r.moment (Evacuator (turn_step x)) reply t) (sym e) made);
     moved = omega (arith, h.moved, none (λ (x : Progress). x.moved));
     far = omega (arith, h.far, none (λ (x : Progress). x.far));
     dropped = omega (arith, h.dropped, none (λ (x : Progress). x.dropped));
@@ -101,7 +104,7 @@ module _ (m : Moment) (n : ℕ) (r : Turned) (h : Run m n r) (goes : r.over ≡ 
         turns = (
           r.moment,
           h.turns,
-          subst (λ (x : Phase). Commanded r.moment (Evacuator (turn_step x)) (Evacuated progress) (ended w)) (sym e)
+          subst (λ (x : Phase). Served r.moment (Evacuator (turn_step x)) (Evacuated progress) (ended w)) (sym e)
               (made_so r.moment (Evacuate 16) (ap (λ (x : Phase). first_cause ((not (is_evacuating x), WrongPhase) ∷ [])) e)),
         );
         moved = ap (λ k. k + w.tally.moved) h.moved;
@@ -172,8 +175,8 @@ module _ (now : Moment) (law : Law now.core) (moment : MomentLaw now) (policy : 
       let m : Moment = after_selecting now (l ∷ ls) in
       let r = turns_made m turns in
       let run = runs_on m turns in
-      let chosen : Commanded now (Evacuator (Select (By policy) most)) (Selected (l ∷ ls)) m =
-      subst (λ (xs : List ℕ). Commanded now (Evacuator (Select (By policy) most)) (Selected xs) (after_selecting now xs)) e (made_so now (Select (By policy) most) may) in
+      let chosen : Served now (Evacuator (Select (By policy) most)) (Selected (l ∷ ls)) m =
+      subst (λ (xs : List ℕ). Served now (Evacuator (Select (By policy) most)) (Selected xs) (after_selecting now xs)) e (made_so now (Select (By policy) most) may) in
       cond_both r.over (ends.Done (progress_of r.tally true)) (ends.Limit r.moment.phase) (λ (end : RoundEnd). TellsRound now policy most turns end r.moment)
       (λ over.
       let (last, rest, is, done, none, few, last_idle) = run.over over in
@@ -294,18 +297,85 @@ module _ (now : Moment) (law : Law now.core) (moment : MomentLaw now) where
   step_tells step (Some why) e = refused_tells step why e
 
 -- ---- each step
-step_told : (now : Moment) (step : Step) (r : Reply) (next : Moment) → Lasts now → Commanded now (Evacuator step) r next → TellsStep now step r next
-step_told now step r next lasts h =
+pub served_told : (now : Moment) (step : Step) (r : Reply) (next : Moment) → Lasts now → Served now (Evacuator step) r next → TellsStep now step r next
+served_told now step r next lasts h =
     subst (λ (x : Moment). TellsStep now step r x) (sym h.moment)
     (subst (λ (x : Reply). TellsStep now step x (effect now (Evacuator step))) (sym h.reply) (step_tells now lasts.law lasts.round step (refusal now (Evacuator step)) refl))
 
-pub steps_told : (now : Moment) (step : Step) (r : Reply) (next : Moment) → IsMoment now → Commanded now (Evacuator step) r next → TellsStep now step r next
-steps_told now step r next is h = step_told now step r next (moment_lasts now is) h
+-- ---- a step that the device stops
+served_so : (now : Moment) (c : Command) (r : Reply) (next : Moment) → Lasts now → Served now c r next → Told now c r next
+served_so now (Evacuator step) r next lasts h = served_told now step r next lasts h
+served_so now c r next lasts h = tt
+
+stop_told : (now : Moment) (why : Refusal) (objects count : ℕ) (r : Reply) (next : Moment) → Lasts now → StopsLeaving why objects now count r next → TellsStep now (Evacuate count) r next
+stop_told now why objects count r next lasts h =
+    let x = served_told now (Evacuate objects) (Evacuated h.progress) next lasts h.left in
+    subst (λ y. TellsStep now (Evacuate count) y next) (sym h.reply) record {
+      tells = record { objects = objects; before = h.before; left = x.tells; unfinished = h.unfinished };
+      phase = x.phase ∙ ap (λ b. if b then Idle else now.phase) h.unfinished;
+      time = λ _. x.time (evacuated_not h.progress);
+    }
+  where
+    evacuated_not : (progress : Progress) → Evacuated progress ≢ Refused WrongPhase
+    evacuated_not progress e = cc
+
+round_told_so : (now : Moment) (why : Refusal) (turns objects : ℕ) (policy : Policy) (most count : ℕ) (r : Reply) (next : Moment) → Lasts now → (h : StopsRound why turns objects now policy most count r next) → Lasts h.stood →
+    TellsStep now (Round policy most count) r next
+unfolding turn_size
+round_told_so now why turns objects policy most count r next lasts h later =
+    let stood = stood_so now policy most turns h.stood h.turned in
+    let logs = stood.log ∷ stood.logs in
+    let m : Moment = after_selecting now logs in
+    let run = runs_on m turns in
+    let going = run.going stood.goes in
+    let x = served_told now (Round policy most turns) (Ended (ends.Limit Evacuating)) h.stood lasts h.turned in
+    let y = served_told h.stood (Evacuate objects) (Evacuated h.progress) next later h.left in
+    let leaves : h.stood.phase ≡ Evacuating = ap (λ (z : Moment). z.phase) stood.stands ∙ stood.leaves in
+    let told : Progress = progress_of (plus (turns_made m turns).tally (tally_of h.progress)) false in
+    let reply : r ≡ Halted why told = h.reply ∙ ap (λ (xs : List ℕ). Halted why (progress_of (plus (turns_made (after_selecting now xs) turns).tally (tally_of h.progress)) false)) stood.chosen in
+    subst (λ z. TellsStep now (Round policy most count) z next) (sym reply) record {
+      tells = record {
+        log = stood.log;
+        logs = stood.logs;
+        began = m;
+        chosen = subst (λ (xs : List ℕ). Served now (Evacuator (Select (By policy) most)) (Selected xs) (after_selecting now xs)) stood.chosen (made_so now (Select (By policy) most) stood.may);
+        replies = run.replies;
+        stood = h.stood;
+        made = subst (AreTurns m run.replies) (sym stood.stands) run.turns;
+        none = going.0;
+        few = omega (arith, going.1, h.before);
+        leaves = leaves;
+        objects = objects;
+        before = h.within;
+        last = h.progress;
+        left = h.left;
+        unfinished = h.unfinished;
+        sums = record {
+          moved = ap (λ k. k + h.progress.moved) run.moved;
+          far = ap (λ k. k + h.progress.far) run.far;
+          dropped = ap (λ k. k + h.progress.dropped) run.dropped;
+          freed = ap (λ k. k + h.progress.freed) run.freed;
+        };
+      };
+      phase = y.phase ∙ ap (λ b. if b then Idle else h.stood.phase) h.unfinished ∙ leaves;
+      time = λ _. x.time (ended_not (ends.Limit Evacuating));
+    }
+  where
+    ended_not : (end : RoundEnd) → Ended end ≢ Refused WrongPhase
+    ended_not end e = cc
 
 told_so : (now : Moment) (c : Command) (r : Reply) (next : Moment) → Lasts now → Commanded now c r next → Told now c r next
-told_so now (Mutator m request) r next lasts h = tt
-told_so now (Book inquiry) r next lasts h = tt
-told_so now (Evacuator step) r next lasts h = step_told now step r next lasts h
+told_so now c r next lasts h = by_outcome now r next (λ d. Told now d r next)
+    (λ d h. served_so now d r next lasts h)
+    (λ why m p from new h. tt)
+    (λ why m p from len h. tt)
+    (λ why m p h. tt)
+    (λ why objects count h. stop_told now why objects count r next lasts h)
+    (λ why turns objects policy most count h. round_told_so now why turns objects policy most count r next lasts h (after_step now (Round policy most turns) (Ended (ends.Limit Evacuating)) h.stood lasts h.turned))
+    c h
+
+pub steps_told : (now : Moment) (step : Step) (r : Reply) (next : Moment) → IsMoment now → Commanded now (Evacuator step) r next → TellsStep now step r next
+steps_told now step r next is h = told_so now (Evacuator step) r next (moment_lasts now is) h
 
 pub all_told : (now : Moment) (cs : List Command) (rs : List Reply) (moments : List Moment) → Lasts now → AllWriteBytes cs → Answered now cs rs moments → AllTold now cs rs moments
 all_told now [] [] [] lasts bytes h = tt

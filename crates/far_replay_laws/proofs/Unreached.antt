@@ -215,13 +215,13 @@ module _ (Stays : State → State → ℕ → Type 0) (more : (s t u : State) (q
 put_fate : (s t u : State) (a b c : List ℕ) (q : ℕ) → Fate StaysPut s a q t b → Fate StaysPut t b q u c → Fate StaysPut s a q u c
 put_fate s t u a b c q x y = fate_more StaysPut put_more put_lay put_lies s t u a b c q x y
 
-marked_fate : (s t u : State) (a b c : List ℕ) (q : ℕ) → Fate StaysMarked s a q t b → Fate StaysMarked t b q u c → Fate StaysMarked s a q u c
+pub marked_fate : (s t u : State) (a b c : List ℕ) (q : ℕ) → Fate StaysMarked s a q t b → Fate StaysMarked t b q u c → Fate StaysMarked s a q u c
 marked_fate s t u a b c q x y = fate_more StaysMarked marked_more marked_lay marked_lies s t u a b c q x y
 
 fate_stayed : (s t : State) (a b : List ℕ) (q : ℕ) → Stayed s a q t b → Fate StaysPut s a q t b
 fate_stayed s t a b q h = record { fewer = h.fewer; still = λ none. h.put_there; either = inl h.put_there }
 
-fate_marked : (s t : State) (a b : List ℕ) (q : ℕ) → Fate StaysPut s a q t b → Fate StaysMarked s a q t b
+pub fate_marked : (s t : State) (a b : List ℕ) (q : ℕ) → Fate StaysPut s a q t b → Fate StaysMarked s a q t b
 fate_marked s t a b q h = record {
   fewer = h.fewer;
   still = λ none. put_marked s t q (h.still none);

@@ -1,9 +1,9 @@
 -- What commands do to views: a read or a write views its object, a close ends its mutator's views, all else leaves them; and the logs of views stay.
-use Rattle.std.proofs.Common.{◌≢◌, ◌≡◌, ℕ, ◌+◌, ◌/◌, true, not, nat_lt, cond, is_some, refl, sym, ap, subst, ◌∙◌, Option, Some, None, List, [], ◌∷◌, ◌++◌, length}
+use Rattle.std.proofs.Common.{◌≢◌, ◌≡◌, ℕ, ◌+◌, ◌/◌, Bool, true, not, nat_lt, cond, is_some, refl, sym, ap, subst, ◌∙◌, Option, Some, None, List, [], ◌∷◌, ◌++◌, length}
 use Rattle.std.proofs.lemmas.Bool.{and_parts, cond_both, eq-eqb, ne_eqb}
 use Rattle.far_word.specs.declared.pointer.Place.{Place}
 use Rattle.far_word.specs.declared.refused.Refused.{Refused as Refusal}
-use Rattle.far_word.specs.declared.refused.Refused.TheVariants.{NoRoom, Closed, NotHeld, Range, Marked}
+use Rattle.far_word.specs.declared.refused.Refused.TheVariants.{NoRoom, Closed, NotHeld, Range, Device, Damaged, Marked}
 use Rattle.far_word.specs.declared.pointer.PtrWord.{PtrWord}
 use Rattle.far_word.specs.declared.pointer.PtrWord.TheVariants.{Free, Near, Far}
 use Rattle.far_word.specs.declared.sizes.TheConstants.{CELLS}
@@ -23,20 +23,27 @@ use Rattle.far_core.specs.events.Copies.{data_at}
 use Rattle.far_core.specs.events.Step.{is_opened, step_of, is_legal, after, answer, Fits}
 use Rattle.far_core.proofs.Leaving.{held_stays}
 use Rattle.far_replay.specs.Moment.{Moment}
-use Rattle.far_replay.specs.Answers.{Answered, Commanded, IsMoment}
-use Rattle.far_text.specs.Command.{Command, New, Open, Write, Read, Close, Where, Drop, View, Try, Epoch, Mutator, Book, Evacuator, Step}
+use Rattle.far_replay.specs.Answers.{Answered, Commanded, Served, Unbrought, IsMoment}
+use Rattle.far_replay.specs.Commanded.{KeepsFar}
+use Rattle.far_book.specs.book.Reached.{Reached}
+use Rattle.far_book.proofs.region.Reaching.{reached_more}
+use Rattle.far_evac.specs.declared.answers.RoundEnd.TheVariants.{Limit}
+use Rattle.far_evac.specs.declared.phase.Phase.TheVariants.{Evacuating}
+use Rattle.far_text.specs.Command.{Command, New, Open, Write, Read, Close, Where, Drop, View, Try, Epoch, Mutator, Book, Evacuator, Step, Evacuate, Round}
 use Rattle.far_text.specs.Written.{WritesBytes, AllWriteBytes}
 use Rattle.far_replay.specs.Changes.{ViewsObject}
-use Rattle.far_replay_laws.specs.Headline.{LogsStay, Reaches, ViewsNothing, ViewsAfter}
-use Rattle.far_replay.specs.EventRows.{after_events, AllSucceed, Succeeds}
-use Rattle.far_replay.specs.Reply.{Reply, Refused}
+use Rattle.far_replay_laws.specs.Headline.{IsAtHandFor, LogsStay, Reaches, ViewsNothing, ViewsAfter, carried_as}
+use Rattle.far_replay.specs.EventRows.{after_events, AllSucceed, AtHand, Succeeds}
+use Rattle.far_replay.specs.Reply.{Reply, Ended, Evacuated, Refused}
 use Rattle.far_replay.specs.Events.{events_for, IsTold, turn_events, refused_events, zero_puts, new_events, open_events, view_events, asked_events, asked_events_of, sought_events, span_events, name_events, come_events, come_events_of, dereference_events, load_events, store_events, first_loads, last_loads, part_events, drop_events, first_word, words_touched, starts_inside, ends_inside}
 use Rattle.far_replay.specs.Objects.{lowest_cell, with_range, data_of, is_range, object_len, uses}
 use Rattle.far_replay.specs.Dereference.{come, comes_to, dereferenced, has_no_room, sought}
 use Rattle.far_replay.specs.Effects.{near_word, is_slow, with_view}
-use Rattle.far_replay.specs.Turn.{effect, refusal, unless, turn_reply, reply_to}
+use Rattle.far_replay.specs.Turn.{causes, refusal, unless, turn_reply, reply_to}
 use Rattle.far_replay_laws.proofs.Coming.{all_come}
-use Rattle.far_replay.proofs.Lasting.{Lasts, all_pass, command_carried, moment_lasts, still_lasts}
+use Rattle.far_replay.proofs.Lasting.{Lasts, all_pass, command_carried, moment_lasts, served_lasts, still_lasts}
+use Rattle.far_replay.proofs.Outcomes.{by_outcome}
+use Rattle.far_replay_laws.proofs.Refusals.{EachCause, EachFirst, among, each_first, far_away}
 use Rattle.far_replay.proofs.RoundLeads.{reached_reaches, step_keeps, step_leads}
 use Rattle.far_replay.proofs.Turns.{access_fact, led, marked_last, read_leads, room_lacks, room_last, tried, write_leads}
 use Rattle.far_replay.proofs.Dereferences.{derefs, sought_held, sought_leads, view_views}
@@ -165,18 +172,33 @@ views_after : (now : Moment) (c : Command) (o : Option Refusal) → IsTold c →
 views_after now c None told law e small ok = made_views now c told law e small ok
 views_after now c (Some why) told law e small ok = refused_views now c why law e
 
-told_views : (now : Moment) (c : Command) (r : Reply) (next : Moment) → IsTold c → Lasts now → WritesBytes c → Commanded now c r next → ViewsAfter now.core c r next.core
+told_views : (now : Moment) (c : Command) (r : Reply) (next : Moment) → IsTold c → Lasts now → WritesBytes c → Served now c r next → ViewsAfter now.core c r next.core
 told_views now c r next told lasts later h =
     let x = command_carried now c r next told lasts later h in
     subst (λ y. ViewsAfter now.core c y next.core) (sym x.reply)
     (subst (λ (t : State). ViewsAfter now.core c (reply_to now c) t) (sym x.state) (views_after now c (refusal now c) told lasts.law refl later x.made))
 
+served_views : (now : Moment) (c : Command) (r : Reply) (next : Moment) → Lasts now → WritesBytes c → Served now c r next → ViewsAfter now.core c r next.core
+served_views now (Mutator m request) r next lasts later h = told_views now (Mutator m request) r next tt lasts later h
+served_views now (Book inquiry) r next lasts later h = told_views now (Book inquiry) r next tt lasts later h
+served_views now (Evacuator step) r next lasts later h = ap (λ (x : Moment). x.core.held) h.moment ∙ (step_keeps now step lasts.law lasts.round).held
+
+tried_views : (now : Moment) (c : Command) (why : Refusal) (m p : ℕ) (r : Reply) (next : Moment) → Lasts now → Unbrought why now c m p r next → next.core.held ≡ now.core.held
+tried_views now c why m p r next lasts h = served_views now (Mutator m (Try p)) (Refused (Marked (now.core.cell p))) next lasts tt h.tried
+
 pub views_last : (now : Moment) (c : Command) (r : Reply) (next : Moment) → IsMoment now → WritesBytes c → Commanded now c r next → ViewsAfter now.core c r next.core
-views_last now (Mutator m request) r next is later h = told_views now (Mutator m request) r next tt (moment_lasts now is) later h
-views_last now (Book inquiry) r next is later h = told_views now (Book inquiry) r next tt (moment_lasts now is) later h
-views_last now (Evacuator step) r next is later h =
+views_last now c r next is later h =
     let lasts = moment_lasts now is in
-    ap (λ (x : Moment). x.core.held) h.moment ∙ (step_keeps now step lasts.law lasts.round).held
+    by_outcome now r next (λ d. WritesBytes d → ViewsAfter now.core d r next.core)
+    (λ d h later. served_views now d r next lasts later h)
+    (λ why m p from bytes h _. subst (λ x. ViewsAfter now.core (Mutator m (Write p from bytes)) x next.core) (sym h.reply) (tried_views now (Mutator m (Write p from bytes)) why m p r next lasts h))
+    (λ why m p from len h _. subst (λ x. ViewsAfter now.core (Mutator m (Read p from len)) x next.core) (sym h.reply) (tried_views now (Mutator m (Read p from len)) why m p r next lasts h))
+    (λ why m p h _. subst (λ x. ViewsAfter now.core (Mutator m (View p)) x next.core) (sym h.reply) (tried_views now (Mutator m (View p)) why m p r next lasts h))
+    (λ why objects count h _. served_views now (Evacuator (Evacuate objects)) (Evacuated h.progress) next lasts tt h.left)
+    (λ why turns objects policy most count h later.
+    served_views h.stood (Evacuator (Evacuate objects)) (Evacuated h.progress) next (served_lasts now (Evacuator (Round policy most turns)) (Ended (Limit Evacuating)) h.stood lasts later h.turned) tt h.left
+    ∙ served_views now (Evacuator (Round policy most turns)) (Ended (Limit Evacuating)) h.stood lasts later h.turned)
+    c h later
 
 -- ---- the logs in which views rest stay
 -- a close is the last event of its command
@@ -251,12 +273,35 @@ command_closes_last now c None = closes_last now c
 command_closes_last now c (Some why) = refused_closes_last now c why
 
 -- ---- each command is carried out by events
-told_reach : (now : Moment) (c : Command) (r : Reply) (next : Moment) → IsTold c → Lasts now → WritesBytes c → Commanded now c r next → Reaches now c next
+-- one that is served by its own
+each_as : (now : Moment) (c : Command) → EachFirst (λ why. carried_as c (Refused why) ≡ c) (causes now c)
+each_as now (Mutator m (Write p from bytes)) = ((λ _. refl), λ _. ((λ _. refl), λ _. ((λ _. refl), λ _. ((λ _. refl), λ _. ((λ _. refl), λ _. tt)))))
+each_as now (Mutator m (Read p from len)) = ((λ _. refl), λ _. ((λ _. refl), λ _. ((λ _. refl), λ _. ((λ _. refl), λ _. ((λ _. refl), λ _. tt)))))
+each_as now (Mutator m (View p)) = ((λ _. refl), λ _. ((λ _. refl), λ _. ((λ _. refl), λ _. ((λ _. refl), λ _. tt))))
+each_as now c = each_first (λ why. carried_as c (Refused why) ≡ c) (causes now c) (any_cause (causes now c)) where
+  any_cause : (cs : List (Bool × Refusal)) → EachCause (λ why. c ≡ c) cs
+  any_cause [] = tt
+  any_cause (x ∷ xs) = (refl, any_cause xs)
+
+turn_as : (now : Moment) (c : Command) → carried_as c (turn_reply now c) ≡ c
+turn_as now (Mutator m (Write p from bytes)) = refl
+turn_as now (Mutator m (Read p from len)) = refl
+turn_as now (Mutator m (View p)) = refl
+turn_as now c = refl
+
+reply_as : (now : Moment) (c : Command) (o : Option Refusal) → refusal now c ≡ o → carried_as c (unless o Refused (turn_reply now c)) ≡ c
+reply_as now c None e = turn_as now c
+reply_as now c (Some why) e = among (λ why. carried_as c (Refused why) ≡ c) (causes now c) why (each_as now c) e
+
+served_as : (now : Moment) (c : Command) (r : Reply) (next : Moment) → Served now c r next → carried_as c r ≡ c
+served_as now c r next h = ap (carried_as c) h.reply ∙ reply_as now c (refusal now c) refl
+
+told_reach : (now : Moment) (c : Command) (r : Reply) (next : Moment) → IsTold c → Lasts now → WritesBytes c → Served now c r next → Reaches now c r next
 told_reach now c r next told lasts bytes h =
     let x = command_carried now c r next told lasts bytes h in
     record {
       events = events_for now c;
-      told = λ _. refl;
+      told = λ _. ap (events_for now) (sym (served_as now c r next h));
       of_book = λ no. absurd (no told);
       ends = x.state;
       pass = all_pass now.core (events_for now c) lasts.law x.fit x.made;
@@ -266,30 +311,79 @@ told_reach now c r next told lasts bytes h =
           (subst ClosesLast (sym front) (command_closes_last now c (refusal now c))) p place;
     }
 
-step_reach : (now : Moment) (step : Step) (r : Reply) (next : Moment) → Lasts now → Commanded now (Evacuator step) r next → Reaches now (Evacuator step) next
-step_reach now step r next lasts h =
-    let x = reached_reaches now.core (effect now (Evacuator step)).core lasts.law (step_leads now step lasts.law lasts.round).reached in
+-- what a step reaches, and steps one after the other
+step_way : (now : Moment) (step : Step) (r : Reply) (next : Moment) → Lasts now → Served now (Evacuator step) r next → Reached now.core next.core
+step_way now step r next lasts h = subst (λ (x : Moment). Reached now.core x.core) (sym h.moment) (step_leads now step lasts.law lasts.round).reached
+
+way_reach : (now : Moment) (step : Step) (r : Reply) (next : Moment) → Lasts now → Reached now.core next.core → Reaches now (Evacuator step) r next
+way_reach now step r next lasts way =
+    let x = reached_reaches now.core next.core lasts.law way in
     record {
       events = x.events;
       told = λ told. absurd told;
       of_book = λ _. x.of_book;
-      ends = ap (λ (m : Moment). m.core) h.moment ∙ x.ends;
+      ends = x.ends;
       pass = x.pass;
       succeed = x.succeed;
       come = λ told. absurd told;
       stay = x.stay;
     }
 
-reach : (now : Moment) (c : Command) (r : Reply) (next : Moment) → Lasts now → WritesBytes c → Commanded now c r next → Reaches now c next
-reach now (Mutator m request) r next lasts bytes h = told_reach now (Mutator m request) r next tt lasts bytes h
-reach now (Book inquiry) r next lasts bytes h = told_reach now (Book inquiry) r next tt lasts bytes h
-reach now (Evacuator step) r next lasts bytes h = step_reach now step r next lasts h
+pub served_reach : (now : Moment) (c : Command) (r : Reply) (next : Moment) → Lasts now → WritesBytes c → Served now c r next → Reaches now c r next
+served_reach now (Mutator m request) r next lasts bytes h = told_reach now (Mutator m request) r next tt lasts bytes h
+served_reach now (Book inquiry) r next lasts bytes h = told_reach now (Book inquiry) r next tt lasts bytes h
+served_reach now (Evacuator step) r next lasts bytes h = way_reach now step r next lasts (step_way now step r next lasts h)
 
-pub events_reach : (now : Moment) (c : Command) (r : Reply) (next : Moment) → IsMoment now → WritesBytes c → Commanded now c r next → Reaches now c next
+-- one of a mutator that the device refuses is carried out as a try
+module _ (why : Refusal) (now : Moment) (c : Command) (m p : ℕ) (r : Reply) (next : Moment) (lasts : Lasts now) (h : Unbrought why now c m p r next) (told : IsTold c) (tries : carried_as c r ≡ Mutator m (Try p))
+    (at_hand : IsAtHandFor now c → now.core.cell p ≢ 0 → AtHand now.core p) where
+  pub tried_reach : Reaches now c r next
+  tried_reach =
+      let x = told_reach now (Mutator m (Try p)) (Refused (Marked (now.core.cell p))) next tt lasts tt h.tried in
+      record {
+        events = x.events;
+        told = λ _. x.told tt ∙ ap (events_for now) (sym tries);
+        of_book = λ no. absurd (no told);
+        ends = x.ends;
+        pass = x.pass;
+        succeed = x.succeed;
+        come = λ _ hand. absurd (far_away now.core p h.far (at_hand hand));
+        stay = x.stay;
+      }
+
+write_as : (why : Refusal) (m p from : ℕ) (bytes : List ℕ) → KeepsFar why → carried_as (Mutator m (Write p from bytes)) (Refused why) ≡ Mutator m (Try p)
+write_as Device m p from bytes h = refl
+write_as Damaged m p from bytes h = refl
+write_as why m p from bytes h = absurd h
+
+read_as : (why : Refusal) (m p from len : ℕ) → KeepsFar why → carried_as (Mutator m (Read p from len)) (Refused why) ≡ Mutator m (Try p)
+read_as Device m p from len h = refl
+read_as Damaged m p from len h = refl
+read_as why m p from len h = absurd h
+
+view_as : (why : Refusal) (m p : ℕ) → KeepsFar why → carried_as (Mutator m (View p)) (Refused why) ≡ Mutator m (Try p)
+view_as Device m p h = refl
+view_as Damaged m p h = refl
+view_as why m p h = absurd h
+
+reach : (now : Moment) (c : Command) (r : Reply) (next : Moment) → Lasts now → WritesBytes c → Commanded now c r next → Reaches now c r next
+reach now c r next lasts bytes h = by_outcome now r next (λ d. WritesBytes d → Reaches now d r next)
+    (λ d h bytes. served_reach now d r next lasts bytes h)
+    (λ why m p from new h _. tried_reach why now (Mutator m (Write p from new)) m p r next lasts h tt (ap (carried_as (Mutator m (Write p from new))) h.reply ∙ write_as why m p from new h.cause) (λ hand. hand))
+    (λ why m p from len h _. tried_reach why now (Mutator m (Read p from len)) m p r next lasts h tt (ap (carried_as (Mutator m (Read p from len))) h.reply ∙ read_as why m p from len h.cause) (λ hand. hand))
+    (λ why m p h _. tried_reach why now (Mutator m (View p)) m p r next lasts h tt (ap (carried_as (Mutator m (View p))) h.reply ∙ view_as why m p h.cause) (λ hand. hand))
+    (λ why objects count h _. way_reach now (Evacuate count) r next lasts (step_way now (Evacuate objects) (Evacuated h.progress) next lasts h.left))
+    (λ why turns objects policy most count h bytes.
+    let later = served_lasts now (Evacuator (Round policy most turns)) (Ended (Limit Evacuating)) h.stood lasts bytes h.turned in
+    way_reach now (Round policy most count) r next lasts
+    (reached_more now.core h.stood.core next.core (step_way now (Round policy most turns) (Ended (Limit Evacuating)) h.stood lasts h.turned) (step_way h.stood (Evacuate objects) (Evacuated h.progress) next later h.left)))
+    c h bytes
+
+pub events_reach : (now : Moment) (c : Command) (r : Reply) (next : Moment) → IsMoment now → WritesBytes c → Commanded now c r next → Reaches now c r next
 events_reach now c r next is bytes h = reach now c r next (moment_lasts now is) bytes h
 
 -- the logs in which views rest stay through each command
-stay_all : (now : Moment) (cs : List Command) (rs : List Reply) (moments : List Moment) → Lasts now → AllWriteBytes cs → Answered now cs rs moments → LogsStay now cs moments
+stay_all : (now : Moment) (cs : List Command) (rs : List Reply) (moments : List Moment) → Lasts now → AllWriteBytes cs → Answered now cs rs moments → LogsStay now cs rs moments
 stay_all now [] [] [] lasts later h = held_now now.core lasts.law
 stay_all now [] [] (m ∷ ms) lasts later h = absurd h
 stay_all now [] (r ∷ rs) ms lasts later h = absurd h
@@ -298,5 +392,5 @@ stay_all now (c ∷ cs) (r ∷ rs) [] lasts later h = absurd h
 stay_all now (c ∷ cs) (r ∷ rs) (next ∷ ms) lasts later h =
     (reach now c r next lasts later.0 h.0, stay_all next cs rs ms (still_lasts now c r next lasts later.0 h.0) later.1 h.1)
 
-pub logs_stay : (now : Moment) (cs : List Command) (rs : List Reply) (moments : List Moment) → IsMoment now → AllWriteBytes cs → Answered now cs rs moments → LogsStay now cs moments
+pub logs_stay : (now : Moment) (cs : List Command) (rs : List Reply) (moments : List Moment) → IsMoment now → AllWriteBytes cs → Answered now cs rs moments → LogsStay now cs rs moments
 logs_stay now cs rs moments is later h = stay_all now cs rs moments (moment_lasts now is) later h

@@ -8,7 +8,7 @@ use Rattle.far_word.specs.declared.pointer.Place.{Place}
 use Rattle.far_word.specs.declared.pointer.PtrWord.{PtrWord}
 use Rattle.far_word.specs.declared.pointer.PtrWord.TheVariants as pointer
 use Rattle.far_word.specs.declared.refused.Refused.{Refused as Refusal}
-use Rattle.far_word.specs.declared.refused.Refused.TheVariants.{NoRoom, NoPointer, Length, Closed, AlreadyOpen, NotHeld, Range, Held, Marked as MarkFound, Syntax, BadChoice, StillOpen, Phase as WrongPhase, EpochsSpent}
+use Rattle.far_word.specs.declared.refused.Refused.TheVariants.{NoRoom, NoPointer, Length, Closed, AlreadyOpen, NotHeld, Range, Held, Device, Damaged, Marked as MarkFound, Syntax, BadChoice, StillOpen, Phase as WrongPhase, EpochsSpent}
 use Rattle.far_word.specs.declared.sizes.TheConstants.{CELLS, LOG_WORDS, LONGEST}
 use Rattle.far_word.specs.Pointer.{read_of, with_mark}
 use Rattle.far_word.specs.Sizes.{size_of}
@@ -29,9 +29,10 @@ use Rattle.far_evac.specs.declared.answers.Progress.{Progress}
 use Rattle.far_evac.specs.declared.answers.RoundEnd.{RoundEnd}
 use Rattle.far_evac.specs.declared.answers.RoundEnd.TheVariants as ends
 use Rattle.far_replay.specs.Alone.{Alone, Knows, Learns, Own, nothing}
-use Rattle.far_replay.specs.Answers.{Answered, Answers, Commanded, IsMoment, shape_of, first_moment}
+use Rattle.far_replay.specs.Answers.{Answered, AnsweredBy, Answers, Commanded, IsMoment, Outside, Served, shape_of, first_moment}
 use Rattle.far_text.specs.Command.{Command, Heap, CommandLine, New, Open, Write, Read, Close, Where, Drop, View, Try, Epoch, Logs as AsksLogs, Log, Audit, Mutator, Book, Evacuator, By, Script, Select, Mark, Wait, Evacuate, Abort, Round}
 use Rattle.far_text.specs.Grammar.{trace_of}
+use Rattle.far_replay.specs.Commanded.{KeepsNear}
 use Rattle.far_replay.specs.Moment.{Moment}
 use Rattle.far_replay.specs.EventRows.{after_events, AllPass, AllSucceed, AllComeToPass, AtHand}
 use Rattle.far_replay.specs.Events.{events_for, IsTold}
@@ -46,7 +47,7 @@ use Rattle.far_replay_laws.specs.Steps.{AllTold, IsChosen, Takes}
 use Rattle.far_text.specs.Written.{WritesBytes, AllWriteBytes}
 use Rattle.far_replay.specs.declared.reply.Counts.{Counts}
 use Rattle.far_replay.specs.declared.reply.LogLine.{LogLine}
-use Rattle.far_replay.specs.Reply.{Reply, Done, Pointer, Data, Logs, Lies, Audited, EpochRead, Selected, Marked, Clear, Evacuated, Ended, Refused, reply_text}
+use Rattle.far_replay.specs.Reply.{Reply, Done, Pointer, Data, Logs, Lies, Audited, EpochRead, Selected, Marked, Clear, Evacuated, Ended, Refused, Halted, reply_text}
 use Rattle.far_replay.specs.Changes.{LogStays, StayThrough, EndsObject, ViewsObject}
 use Rattle.far_replay.specs.Lawful.{Lawful}
 use Rattle.far_replay.specs.Taking.{TakesNone, TakesSpan, DereferenceTakes, DereferenceLacks, DropTakes}
@@ -59,11 +60,21 @@ IsAtHandFor now (Mutator m (View p)) = now.core.cell p ≢ 0 → AtHand now.core
 IsAtHandFor now (Mutator m (Try p)) = now.core.cell p ≢ 0 → AtHand now.core p
 IsAtHandFor now c = Unit {0}
 
+-- the command whose events carry a command out, by its reply: where the device refuses to bring the object of a read, a write or a view, a try of it
+abbrev pub carried_as : Command → Reply → Command
+carried_as (Mutator m (Write p from bytes)) (Refused Device) = Mutator m (Try p)
+carried_as (Mutator m (Write p from bytes)) (Refused Damaged) = Mutator m (Try p)
+carried_as (Mutator m (Read p from len)) (Refused Device) = Mutator m (Try p)
+carried_as (Mutator m (Read p from len)) (Refused Damaged) = Mutator m (Try p)
+carried_as (Mutator m (View p)) (Refused Device) = Mutator m (Try p)
+carried_as (Mutator m (View p)) (Refused Damaged) = Mutator m (Try p)
+carried_as c r = c
+
 -- events lead from a moment to the next: each is legal, none is refused, each keeps the law and agreement, and through them the logs in which views rest stay. A mutator's are told
 -- one by one; where its command's object is at hand a pin gives a view, and a naming wins. A step of the evacuator makes none of an owner
-pub record Reaches (now : Moment) (c : Command) (after : Moment) : Type 0 where
+pub record Reaches (now : Moment) (c : Command) (r : Reply) (after : Moment) : Type 0 where
   pub events : List Event
-  pub told : IsTold c → events ≡ events_for now c
+  pub told : IsTold c → events ≡ events_for now (carried_as c r)
   pub of_book : ¬ IsTold c → All IsOfBook events
   pub ends : after.core ≡ after_events now.core events
   pub pass : AllPass now.core events
@@ -72,10 +83,10 @@ pub record Reaches (now : Moment) (c : Command) (after : Moment) : Type 0 where
   pub stay : StayThrough now.core events
 
 -- through each command of a list, by one row of events; and in the last moment no view rests in a free log
-abbrev pub LogsStay : Moment → List Command → List Moment → Type 0
-LogsStay now [] moments = LogStays now.core now.core
-LogsStay now (c ∷ cs) [] = ⊥
-LogsStay now (c ∷ cs) (after ∷ moments) = Reaches now c after × LogsStay after cs moments
+abbrev pub LogsStay : Moment → List Command → List Reply → List Moment → Type 0
+LogsStay now [] rs moments = LogStays now.core now.core
+LogsStay now (c ∷ cs) (r ∷ rs) (after ∷ moments) = Reaches now c r after × LogsStay after cs rs moments
+LogsStay now (c ∷ cs) rs moments = ⊥
 
 -- each object that is in use has one place, each log's bytes are 1,024, and no two cells name one place
 abbrev pub IsWhole : State → Type 0
@@ -153,7 +164,7 @@ IsFarObject s p = (o : Object) × ((world_of s).object p ≡ Some o) × (o.home 
 pub record CountsAll (now : Moment) (counts : Counts) : Type 0 where
   pub near : IsHowMany (IsNearObject now.core) counts.near
   pub far : IsHowMany (IsFarObject now.core) counts.far
-  pub live : (lines : List LogLine) (after : Moment) → Commanded now (Book AsksLogs) (Logs lines) after → counts.live ≡ sum (map (λ line. line.live) lines)
+  pub live : (lines : List LogLine) (after : Moment) → Served now (Book AsksLogs) (Logs lines) after → counts.live ≡ sum (map (λ line. line.live) lines)
 
 -- a mutator views nothing any more, and all others view what they did
 pub record ViewsNothing (s t : State) (m : ℕ) : Type 0 where
@@ -185,6 +196,8 @@ CommandTakes s c r t = TakesNone s t
 abbrev pub TakesRoom : Moment → Command → Reply → Moment → Type 0
 TakesRoom now (Evacuator (Evacuate count)) (Evacuated progress) after = MovesTake now (IsChosen now) after
 TakesRoom now (Evacuator (Round policy most turns)) (Ended end) after = (logs : List ℕ) × Takes now (By policy) most logs × MovesTake now (Contains logs) after
+TakesRoom now (Evacuator (Evacuate count)) (Halted why progress) after = MovesTake now (IsChosen now) after
+TakesRoom now (Evacuator (Round policy most turns)) (Halted why progress) after = (logs : List ℕ) × Takes now (By policy) most logs × MovesTake now (Contains logs) after
 TakesRoom now c r after = CommandTakes now.core c r after.core
 
 -- a cell has HOT, on what it said before
@@ -256,6 +269,7 @@ IsToldInFull Clear = Unit {0}
 IsToldInFull (Evacuated progress) = IsProgressToldInFull progress
 IsToldInFull (Ended end) = IsEndToldInFull end
 IsToldInFull (Refused why) = IsRefusalToldInFull why
+IsToldInFull (Halted why progress) = KeepsNear why × IsProgressToldInFull progress × (progress.done ≡ false)
 
 -- ---- the laws
 -- replies that their lines tell in full are equal where they are printed alike
@@ -286,7 +300,7 @@ pub record IsSound (logs mutators epoch : ℕ) (cs : List Command) (output : Lis
   pub plain : All IsToldInFull replies
   pub lawful : All Lawful (first_moment logs mutators epoch ∷ moments)
   pub whole : All (λ (now : Moment). IsWhole now.core) (first_moment logs mutators epoch ∷ moments)
-  pub stay : LogsStay (first_moment logs mutators epoch) cs moments
+  pub stay : LogsStay (first_moment logs mutators epoch) cs replies moments
   pub alone : (m : ℕ) → m < mutators → Alone m nothing cs replies
   pub told : AllTold (first_moment logs mutators epoch) cs replies moments
   pub left : AllLeave (first_moment logs mutators epoch) cs replies moments
@@ -304,6 +318,10 @@ EachTextIsAnswered = (text : List ℕ) → (output : List ℕ) × Answers text o
 abbrev pub OneOutput : Type 0
 OneOutput = (text a b : List ℕ) → Answers text a → Answers text b → a ≡ b
 
+-- whatever the outside makes of each command, its commands have one list of replies and one of moments
+abbrev pub OutsideDecides : Type 0
+OutsideDecides = (outside : List Outside) (now : Moment) (cs : List Command) (rs qs : List Reply) (ts us : List Moment) → AnsweredBy outside now cs rs ts → AnsweredBy outside now cs qs us → (rs ≡ qs) × (ts ≡ us)
+
 -- what the commands of a text write is bytes
 abbrev pub TextsWriteBytes : Type 0
 TextsWriteBytes = (text : List ℕ) (logs mutators epoch : ℕ) (cs : List Command) → trace_of text ≡ Ok (Heap logs mutators epoch cs) → AllWriteBytes cs
@@ -314,7 +332,7 @@ MomentsLast = (now : Moment) (cs : List Command) (rs : List Reply) (moments : Li
 
 -- each command is carried out by its events
 abbrev pub EventsReach : Type 0
-EventsReach = (now : Moment) (c : Command) (r : Reply) (after : Moment) → IsMoment now → WritesBytes c → Commanded now c r after → Reaches now c after
+EventsReach = (now : Moment) (c : Command) (r : Reply) (after : Moment) → IsMoment now → WritesBytes c → Commanded now c r after → Reaches now c r after
 
 -- a refused command leaves objects, bytes, places and all else as they were, but for marks that it may add to its object's cell
 abbrev pub RefusalsStay : Type 0
@@ -367,7 +385,7 @@ ClosesForget = (now : Moment) (m : ℕ) (after : Moment) → Commanded now (Muta
 -- what `log` answers
 abbrev pub AnswersLog : Moment → ℕ → Reply → Type 0
 AnswersLog now l r =
-    (l < now.core.logs → (lines : List LogLine) (later : Moment) → Commanded now (Book AsksLogs) (Logs lines) later → (line : LogLine) × (r ≡ Logs (line ∷ [])) × (line.log ≡ l) × Contains lines line)
+    (l < now.core.logs → (lines : List LogLine) (later : Moment) → Served now (Book AsksLogs) (Logs lines) later → (line : LogLine) × (r ≡ Logs (line ∷ [])) × (line.log ≡ l) × Contains lines line)
     × (now.core.logs ≤ l → r ≡ Refused Range)
 
 -- `log` of a log of the heap tells the line that `logs` has for it, and of any other is refused 8
@@ -396,7 +414,7 @@ ObjectsStayWhole = (now : Moment) (cs : List Command) (rs : List Reply) (moments
 
 -- the logs in which views rest stay
 abbrev pub ViewedLogsStay : Type 0
-ViewedLogsStay = (now : Moment) (cs : List Command) (rs : List Reply) (moments : List Moment) → IsMoment now → AllWriteBytes cs → Answered now cs rs moments → LogsStay now cs moments
+ViewedLogsStay = (now : Moment) (cs : List Command) (rs : List Reply) (moments : List Moment) → IsMoment now → AllWriteBytes cs → Answered now cs rs moments → LogsStay now cs rs moments
 
 -- the replies to one mutator's lines are what its own lines alone say
 abbrev pub MutatorsAreAlone : Type 0

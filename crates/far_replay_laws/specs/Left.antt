@@ -8,9 +8,9 @@ use Rattle.far_core.specs.state.State.{State}
 use Rattle.far_core.specs.world.World.{Object}
 use Rattle.far_core.specs.world.WorldOf.{world_of}
 use Rattle.far_text.specs.Command.{Command, Evacuator, By, Step, Select, Mark, Wait, Evacuate, Abort, Round}
-use Rattle.far_replay.specs.Answers.{Commanded, IsMoment}
+use Rattle.far_replay.specs.Answers.{Commanded, IsMoment, Served}
 use Rattle.far_replay.specs.Moment.{Moment}
-use Rattle.far_replay.specs.Reply.{Reply, Done, Selected, Marked, Evacuated, Ended}
+use Rattle.far_replay.specs.Reply.{Reply, Done, Selected, Marked, Evacuated, Ended, Halted}
 use Rattle.far_replay_laws.specs.Stands.{Stands}
 use Rattle.far_replay_laws.specs.Steps.{IsChosen, LiesIn}
 
@@ -34,7 +34,7 @@ DealsWith now (Mark count) l = IsChosen now l
 DealsWith now Wait l = ⊥
 DealsWith now (Evacuate count) l = IsChosen now l
 DealsWith now Abort l = IsChosen now l
-DealsWith now (Round policy most turns) l = (logs : List ℕ) × (chosen : Moment) × Commanded now (Evacuator (Select (By policy) most)) (Selected logs) chosen × Contains logs l
+DealsWith now (Round policy most turns) l = (logs : List ℕ) × (chosen : Moment) × Served now (Evacuator (Select (By policy) most)) (Selected logs) chosen × Contains logs l
 
 -- ---- where no object leaves
 -- what becomes of an object's marks: some that are marked get EVAC, some that are given up lose it, and nothing else changes
@@ -76,11 +76,13 @@ pub record SomeStay (Stays : State → State → ℕ → Type 0) (s t : State) :
   pub scope : t.scope ≡ s.scope
   pub remembered : t.remembered ≡ s.remembered
 
--- objects may leave by an evacuation and by a round that aren't refused, and by no other step. What an evacuation hasn't reached stays under its very word; a round marks objects before
+-- objects may leave by an evacuation and by a round, also by one that the device stops, and by no other step. What an evacuation hasn't reached stays under its very word; a round marks objects before
 -- it deals with them
 abbrev pub LeavesRest : Moment → Step → Reply → Moment → Type 0
 LeavesRest now (Evacuate count) (Evacuated progress) after = SomeStay StaysPut now.core after.core
 LeavesRest now (Round policy most turns) (Ended end) after = SomeStay StaysMarked now.core after.core
+LeavesRest now (Evacuate count) (Halted why progress) after = SomeStay StaysPut now.core after.core
+LeavesRest now (Round policy most turns) (Halted why progress) after = SomeStay StaysMarked now.core after.core
 LeavesRest now step r after = AllStayPut now.core step r after.core
 
 -- ---- all together

@@ -5,7 +5,7 @@ use Rattle.far_word.specs.declared.pointer.Place.{Place}
 use Rattle.far_word.specs.declared.pointer.PtrWord.{PtrWord}
 use Rattle.far_word.specs.declared.pointer.PtrWord.TheVariants.{Free, Near, Far}
 use Rattle.far_word.specs.declared.refused.Refused.{Refused as Refusal}
-use Rattle.far_word.specs.declared.refused.Refused.TheVariants.{NoRoom, Closed, NotHeld, Range, Marked as MarkFound}
+use Rattle.far_word.specs.declared.refused.Refused.TheVariants.{NoRoom, Closed, NotHeld, Range, Device, Damaged, Marked as MarkFound}
 use Rattle.far_word.specs.Pointer.{read_of}
 use Rattle.far_core.specs.state.Shape.{is_shape}
 use Rattle.far_core.specs.state.State.{State}
@@ -54,12 +54,14 @@ pub record LeavesHot (s t : State) (p : ℕ) : Type 0 where
   pub others : OthersStay s t p
 
 -- a dereference is refused. Before the pin, for an unknown mutator or a range past the object's end, a closed scope, or a pointer that its mutator doesn't use, no cell
--- changes; after it, for want of room alone
+-- changes; after it, for want of room, or by the device
 abbrev pub RefusedLeaves : State → ℕ → Refusal → State → Type 0
 RefusedLeaves s p Range t = t.cell ≡ s.cell
 RefusedLeaves s p Closed t = t.cell ≡ s.cell
 RefusedLeaves s p NotHeld t = t.cell ≡ s.cell
 RefusedLeaves s p NoRoom t = GainsForRoom (read_of (s.cell p)) (read_of (t.cell p)) × OthersStay s t p
+RefusedLeaves s p Device t = GainsHot (read_of (s.cell p)) (read_of (t.cell p)) × OthersStay s t p
+RefusedLeaves s p Damaged t = GainsHot (read_of (s.cell p)) (read_of (t.cell p)) × OthersStay s t p
 RefusedLeaves s p why t = ⊥
 
 -- and a try: after the pin, for a mark or a far object alone, with the word from before the pin

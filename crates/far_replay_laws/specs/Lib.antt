@@ -3,6 +3,7 @@ pub mod Census
 pub mod Chosen
 pub mod Ends
 pub mod Epochs
+pub mod FromOutside
 pub mod Headline
 pub mod HowMany
 pub mod Left

@@ -22,10 +22,10 @@ use Rattle.far_evac.specs.declared.census.LogKind.TheVariants as kinds
 use Rattle.far_evac.specs.declared.phase.Phase.{Phase}
 use Rattle.far_evac.specs.declared.phase.Phase.TheVariants.{Idle, Marking, Waiting, Evacuating}
 use Rattle.far_text.specs.Command.{Command, Evacuator, Choice, By, Script, Oldest, LeastLive, Policy, Step, Select, Mark, Wait, Evacuate, Abort, Round}
-use Rattle.far_replay.specs.Answers.{Commanded, IsMoment}
+use Rattle.far_replay.specs.Answers.{Commanded, IsMoment, Served}
 use Rattle.far_replay_laws.specs.HowMany.{IsHowMany}
 use Rattle.far_replay.specs.Moment.{Moment}
-use Rattle.far_replay.specs.Reply.{Reply, Done, Selected, Marked, Clear, Evacuated, Ended, Refused}
+use Rattle.far_replay.specs.Reply.{Reply, Done, Selected, Marked, Clear, Evacuated, Ended, Refused, Halted}
 
 -- ---- where an object is
 -- its cell names a place in a log; and has EVAC, or hasn't
@@ -154,7 +154,7 @@ turn_step Evacuating = Evacuate 16
 -- turns one after the other, the last one first: each is answered, and leads on, as the command of its step does
 abbrev pub AreTurns : Moment → List Reply → Moment → Type 0
 AreTurns now [] after = after ≡ now
-AreTurns now (r ∷ rs) after = (before : Moment) × AreTurns now rs before × Commanded before (Evacuator (turn_step before.phase)) r after
+AreTurns now (r ∷ rs) after = (before : Moment) × AreTurns now rs before × Served before (Evacuator (turn_step before.phase)) r after
 
 -- none of them was done
 abbrev pub says_done : Reply → Bool
@@ -203,7 +203,35 @@ CountsAtEnd now logs (ends.Limit phase) after = Unit {0}
 abbrev pub TellsRound : Moment → Policy → ℕ → ℕ → RoundEnd → Moment → Type 0
 TellsRound now policy most turns ends.Nothing after = Takes now (By policy) most [] × (after ≡ now)
 TellsRound now policy most turns end after =
-    (l : ℕ) × (ls : List ℕ) × (chosen : Moment) × (rs : List Reply) × Commanded now (Evacuator (Select (By policy) most)) (Selected (l ∷ ls)) chosen × AreTurns chosen rs after × Ends turns rs end after × CountsAtEnd now (l ∷ ls) end after
+    (l : ℕ) × (ls : List ℕ) × (chosen : Moment) × (rs : List Reply) × Served now (Evacuator (Select (By policy) most)) (Selected (l ∷ ls)) chosen × AreTurns chosen rs after × Ends turns rs end after × CountsAtEnd now (l ∷ ls) end after
+
+-- ---- a step that the device stops
+-- at an object, before as many have left as were asked for: what is told of those that did is so, and a log is left
+pub record TellsStop (now : Moment) (count : ℕ) (progress : Progress) (after : Moment) : Type 0 where
+  pub objects : ℕ
+  pub before : objects < count
+  pub left : TellsLeaving now objects progress after
+  pub unfinished : progress.done ≡ false
+
+-- some logs were chosen, as `select` would, and fewer turns were made than were asked for, none of which was done. In the next, in which objects leave, fewer did than a turn deals with. The
+-- counts are the sums
+pub record TellsRoundStop (now : Moment) (policy : Policy) (most turns : ℕ) (progress : Progress) (after : Moment) : Type 0 where
+  pub log : ℕ
+  pub logs : List ℕ
+  pub began : Moment
+  pub chosen : Served now (Evacuator (Select (By policy) most)) (Selected (log ∷ logs)) began
+  pub replies : List Reply
+  pub stood : Moment
+  pub made : AreTurns began replies stood
+  pub none : NoneDone replies
+  pub few : length replies < turns
+  pub leaves : stood.phase ≡ Evacuating
+  pub objects : ℕ
+  pub before : objects < 16
+  pub last : Progress
+  pub left : Served stood (Evacuator (Evacuate objects)) (Evacuated last) after
+  pub unfinished : last.done ≡ false
+  pub sums : AddsUp (Evacuated last ∷ replies) progress
 
 -- ---- the phase
 -- in which a step may be made
@@ -223,6 +251,7 @@ phase_after phase Wait Clear = Evacuating
 phase_after phase (Evacuate count) (Evacuated progress) = if progress.done then Idle else phase
 phase_after phase Abort Done = Idle
 phase_after phase (Round policy most turns) (Ended (ends.Limit next)) = next
+phase_after phase (Round policy most turns) (Halted why progress) = Evacuating
 phase_after phase step r = phase
 
 -- ---- all together
@@ -242,6 +271,8 @@ Tells now Wait Clear after = NobodyHoldsUp now.core
 Tells now (Evacuate count) (Evacuated progress) after = TellsLeaving now count progress after
 Tells now Abort Done after = TellsEnd now after
 Tells now (Round policy most turns) (Ended end) after = TellsRound now policy most turns end after
+Tells now (Evacuate count) (Halted why progress) after = TellsStop now count progress after
+Tells now (Round policy most turns) (Halted why progress) after = TellsRoundStop now policy most turns progress after
 Tells now step (Refused why) after = TellsRefusal now step why
 Tells now step r after = ⊥
 

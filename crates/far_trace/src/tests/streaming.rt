@@ -58,11 +58,46 @@ impl Write for OnceRefusing {
     }
 }
 
-const TEXT: &str =
-    "heap 3 2\n# two objects\nnew 0 8 1\nnew 1 9 1\nopen 0\nopen 0\nwrite 0 0 3 0aff\nread 0 0 0 8\nlogs";
+const TEXT: &str = "\
+heap 4 1
+new 0 8 1
+new 0 8 1
+open 0
+write 0 0 0 0102030405060708
+close 0
+new 0 1016 1
+round oldest 1 9
+where 0 0
+where 0 1
+log 0
+log 1
+log 2
+audit
+open 0
+read 0 0 0 8
+read 0 1 0 8
+where 0 1";
 
-const ANSWER: &str =
-    "ok\npointer 0\npointer 128\nok\nrefused 6\nok\ndata 0000000aff000000\nlog 0 open live 40 dead 0 unused 984\nlog 1 free live 0 dead 0 unused 1024\nlog 2 free live 0 dead 0 unused 1024\n";
+const ANSWER: &str = "\
+ok
+pointer 0
+pointer 1
+ok
+ok
+ok
+pointer 2
+round done moved 1 far 1 dropped 0 freed 1
+near 2 0 -
+far -
+log 0 free live 0 dead 0 unused 1024
+log 1 sealed live 1024 dead 0 unused 0
+log 2 open live 16 dead 0 unused 1008
+audit near 2 far 1 live 1040
+ok
+data 0102030405060708
+data 0000000000000000
+near 2 2 h
+";
 
 const KINDS: [ErrorKind; 5] = [
     ErrorKind::Interrupted,
@@ -142,6 +177,8 @@ fn nothing_is_read_after_the_first_byte_too_many(rt: HostRuntime) -> Result<(), 
     let (ended, written, reads) = run_read(&rt, &text, 65_536, 18, ErrorKind::Other);
     assert!(rt; ended == Ok(End::Refused) && written.as_slice() == b"refused 16 0\n".as_slice());
     assert!(rt; reads == 17);
+    let (ended, _, reads) = run_read(&rt, &text, 1, 1_048_578, ErrorKind::Other);
+    assert!(rt; ended == Ok(End::Refused) && reads == 1_048_577);
     Ok(())
 }
 
@@ -163,7 +200,7 @@ fn writes_by(rt: &impl AllocGlobal, most: usize) -> bool {
 #[test]
 fn each_write_may_fail(rt: HostRuntime) {
     let last = ANSWER.len() as u64 - 1;
-    for before in [0, 1, 2, 3, 100, last - 1, last] {
+    for before in 0..last + 1 {
         let kind = KINDS[(before % 5) as usize];
         assert!(rt; fails_to_write(&rt, before, None), "at {before}");
         assert!(rt; fails_to_write(&rt, before, Some(kind)), "at {before}");
@@ -197,6 +234,26 @@ fn long_answers_are_written_in_few_pieces(rt: HostRuntime) -> Result<(), Fail> {
     assert!(rt; whole.writes <= 10);
     for piece in 1..whole.writes.saturating_add(1) {
         assert!(rt; ends_at_piece(&rt, &text, &whole.taken, piece));
+    }
+    Ok(())
+}
+
+// Whether a part of the text from its begin on runs, or its last line is the one that is off the grammar.
+fn is_cut_so(rt: &impl AllocGlobal, part: &str) -> Result<bool, Fail> {
+    let (ended, written, _) = run_read(rt, part, 4096, 0, ErrorKind::Other);
+    if ended == Ok(End::Ran) {
+        return Ok(ANSWER.as_bytes().starts_with(&written));
+    }
+    let lines = part.split('\n').count();
+    let refused = format!(in rt.alloc(); "refused 16 {lines}\n")?;
+    Ok(ended == Ok(End::Refused) && written.as_slice() == refused.as_bytes())
+}
+
+#[test]
+fn a_text_may_end_after_each_byte(rt: HostRuntime) -> Result<(), Fail> {
+    for len in 0..TEXT.len() {
+        let part = TEXT.get(..len).unwrap_or("");
+        assert!(rt; is_cut_so(&rt, part)?, "after {len}");
     }
     Ok(())
 }

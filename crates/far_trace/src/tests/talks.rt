@@ -20,7 +20,7 @@ logs
   log 3 free live 0 dead 0 unused 1024
 ";
 
-/// The example of the crate's page.
+/// Nine bytes, which another mutator doesn't reach.
 const PAGE: &str = "\
 heap 4 2
   ok

@@ -1,7 +1,7 @@
 use Rattle.std.proofs.Common.{refl}
 use Rattle.std.specs.Fmt.{digits}
 use Rattle.hex.specs.Hex.{encode_with}
-use Rattle.far_replay.specs.ReplyWords.{PointersRead, DataRead, EpochsRead, HomesRead, LogsRead, AuditsRead, SelectionsRead, MarksRead, EvacuationsRead, RoundsRead, RefusalsRead, ReasonsRead}
+use Rattle.far_replay.specs.ReplyWords.{PointersRead, DataRead, EpochsRead, HomesRead, LogsRead, AuditsRead, SelectionsRead, MarksRead, EvacuationsRead, RoundsRead, RefusalsRead, ReasonsRead, HaltsRead}
 use Rattle.far_replay.proofs.reply_words.replies_read.Goals as goal
 
 pointers : PointersRead
@@ -46,11 +46,15 @@ rounds = (refl, refl, refl, refl, refl)
 
 refusals : RefusalsRead
 unfolding digits
-refusals = (refl, refl, refl, refl, refl, refl, refl, refl, refl, refl, refl, refl)
+refusals = (refl, refl, refl, refl, refl, refl, refl, refl, refl, refl, refl, refl, refl, refl)
 
 reasons : ReasonsRead
 unfolding digits encode_with
 reasons = (refl, refl, refl, refl, refl)
+
+halts : HaltsRead
+unfolding digits
+halts = refl
 
 pub returns : goal.returns
 returns c = record {
@@ -68,4 +72,5 @@ returns c = record {
   rounds = rounds;
   refusals = refusals;
   reasons = reasons;
+  halts = halts;
 }

@@ -2,7 +2,7 @@ use Rattle.std.proofs.Common.{List, ◌∷◌, ◌++◌, drop}
 use Rattle.std.specs.List.{flat_map}
 use Rattle.far_evac.specs.MomentLaw.{MomentLaw}
 use Rattle.far_evac.specs.Strays.{NoneStrays}
-use Rattle.far_replay.specs.Answers.{Answered}
+use Rattle.far_replay.specs.Answers.{AllServed, AnsweredBy, Outside}
 use Rattle.far_replay.specs.Moment.{Moment, moment_in, state_in}
 use Rattle.far_replay.specs.Reply.{Reply, Done, reply_text}
 use Rattle.far_replay.specs.Stream.{Holds}
@@ -14,8 +14,8 @@ invariant-loop-at g l = let contents = g.W.Write.contents in record {
   between : Between (state_in l.evac);
   round : MomentLaw (moment_in l.evac);
   strays : NoneStrays (moment_in l.evac);
-  ran : (replies : List Reply) × (moments : List Moment)
-      × ((rest : List Reply) (more : List Moment) → Answered (moment_in l.evac) (drop l.at l.commands) rest more
-      → Answered (moment_in l.fn.evac) l.commands (replies ++ rest) (moments ++ more))
+  ran : (outside : List Outside) × (replies : List Reply) × (moments : List Moment) × AllServed outside
+      × ((os : List Outside) (rest : List Reply) (more : List Moment) → AnsweredBy os (moment_in l.evac) (drop l.at l.commands) rest more
+      → AnsweredBy (outside ++ os) (moment_in l.fn.evac) l.commands (replies ++ rest) (moments ++ more))
       × Holds (contents l.fn.writer) (contents l.writer) l.replies.waiting l.replies.written (flat_map reply_text (Done ∷ replies));
 }

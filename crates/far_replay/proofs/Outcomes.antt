@@ -1,0 +1,48 @@
+-- What is so of each command, whether it is served or refused in its midst.
+use Rattle.std.proofs.Common.{ℕ, List}
+use Rattle.far_word.specs.declared.refused.Refused.{Refused as Refusal}
+use Rattle.far_text.specs.Command.{Command, Write, Read, View, Mutator, Evacuator, Policy, Evacuate, Round}
+use Rattle.far_replay.specs.Commanded.{Commanded, Serves, Refuses, Served, Stopped, Unbrought, StopsLeaving, StopsRound}
+use Rattle.far_replay.specs.Moment.{Moment}
+use Rattle.far_replay.specs.Reply.{Reply}
+
+-- refused in its midst
+module _ (why : Refusal) (turns objects : ℕ) (now : Moment) (r : Reply) (after : Moment) (P : Command → Type 0)
+    (writes : (m p from : ℕ) (bytes : List ℕ) → Unbrought why now (Mutator m (Write p from bytes)) m p r after → P (Mutator m (Write p from bytes)))
+    (reads : (m p from len : ℕ) → Unbrought why now (Mutator m (Read p from len)) m p r after → P (Mutator m (Read p from len)))
+    (views : (m p : ℕ) → Unbrought why now (Mutator m (View p)) m p r after → P (Mutator m (View p)))
+    (leaves : (count : ℕ) → StopsLeaving why objects now count r after → P (Evacuator (Evacuate count)))
+    (rounds : (policy : Policy) (most count : ℕ) → StopsRound why turns objects now policy most count r after → P (Evacuator (Round policy most count))) where
+  pub by_stop : (c : Command) → Stopped why turns objects now c r after → P c
+  by_stop (Mutator m (Write p from bytes)) h = writes m p from bytes h
+  by_stop (Mutator m (Read p from len)) h = reads m p from len h
+  by_stop (Mutator m (View p)) h = views m p h
+  by_stop (Evacuator (Evacuate count)) h = leaves count h
+  by_stop (Evacuator (Round policy most count)) h = rounds policy most count h
+  by_stop c h = absurd h
+
+-- either
+module _ (now : Moment) (r : Reply) (after : Moment) (P : Command → Type 0)
+    (served : (c : Command) → Served now c r after → P c)
+    (writes : (why : Refusal) (m p from : ℕ) (bytes : List ℕ) → Unbrought why now (Mutator m (Write p from bytes)) m p r after → P (Mutator m (Write p from bytes)))
+    (reads : (why : Refusal) (m p from len : ℕ) → Unbrought why now (Mutator m (Read p from len)) m p r after → P (Mutator m (Read p from len)))
+    (views : (why : Refusal) (m p : ℕ) → Unbrought why now (Mutator m (View p)) m p r after → P (Mutator m (View p)))
+    (leaves : (why : Refusal) (objects count : ℕ) → StopsLeaving why objects now count r after → P (Evacuator (Evacuate count)))
+    (rounds : (why : Refusal) (turns objects : ℕ) (policy : Policy) (most count : ℕ) → StopsRound why turns objects now policy most count r after → P (Evacuator (Round policy most count))) where
+  pub by_outcome : (c : Command) → Commanded now c r after → P c
+  by_outcome c (Serves, h) = served c h
+  by_outcome c (Refuses why turns objects, h) = by_stop why turns objects now r after P (writes why) (reads why) (views why) (leaves why objects) (rounds why turns objects) c h
+
+-- a command that asks the outside for nothing is served
+abbrev pub AsksNothing : Command → Type 0
+AsksNothing (Mutator m (Write p from bytes)) = ⊥
+AsksNothing (Mutator m (Read p from len)) = ⊥
+AsksNothing (Mutator m (View p)) = ⊥
+AsksNothing (Evacuator (Evacuate count)) = ⊥
+AsksNothing (Evacuator (Round policy most count)) = ⊥
+AsksNothing c = Unit {0}
+
+pub is_served : (now : Moment) (c : Command) (r : Reply) (after : Moment) → AsksNothing c → Commanded now c r after → Served now c r after
+is_served now c r after none h = by_outcome now r after (λ d. AsksNothing d → Served now d r after)
+    (λ d h none. h) (λ why m p from bytes h none. absurd none) (λ why m p from len h none. absurd none) (λ why m p h none. absurd none)
+    (λ why objects count h none. absurd none) (λ why turns objects policy most count h none. absurd none) c h none
