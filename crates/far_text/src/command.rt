@@ -171,7 +171,7 @@ fn heap_spelled(rest: Rest<'_>) -> Option<Spelled<'_>>
 }
 
 #[inline(always)]
-fn new_spelled(rest: Rest<'_>) -> Option<Spelled<'_>>
+pub fn new_spelled(rest: Rest<'_>) -> Option<Spelled<'_>>
     ensures value { option_and_then (λ found. entry_spelled found.0) result ≡ entry_from (Numbers 3 asks_new) (words_left rest.entry) }
     ensures lines { IfSome result (λ found. lines_left found.1 ≡ lines_after rest.entry) }
 {
@@ -183,7 +183,7 @@ fn new_spelled(rest: Rest<'_>) -> Option<Spelled<'_>>
 }
 
 #[inline(always)]
-fn open_spelled(rest: Rest<'_>) -> Option<Spelled<'_>>
+pub fn open_spelled(rest: Rest<'_>) -> Option<Spelled<'_>>
     ensures value { option_and_then (λ found. entry_spelled found.0) result ≡ entry_from (Numbers 1 asks_open) (words_left rest.entry) }
     ensures lines { IfSome result (λ found. lines_left found.1 ≡ lines_after rest.entry) }
 {
@@ -193,7 +193,7 @@ fn open_spelled(rest: Rest<'_>) -> Option<Spelled<'_>>
 }
 
 #[inline(always)]
-fn write_spelled(rest: Rest<'_>) -> Option<Spelled<'_>>
+pub fn write_spelled(rest: Rest<'_>) -> Option<Spelled<'_>>
     ensures value { option_and_then (λ found. entry_spelled found.0) result ≡ entry_from (NumbersAndBytes 3 asks_write) (words_left rest.entry) }
     ensures lines { IfSome result (λ found. lines_left found.1 ≡ lines_after rest.entry) }
 {
@@ -211,7 +211,7 @@ fn write_spelled(rest: Rest<'_>) -> Option<Spelled<'_>>
 }
 
 #[inline(always)]
-fn read_spelled(rest: Rest<'_>) -> Option<Spelled<'_>>
+pub fn read_spelled(rest: Rest<'_>) -> Option<Spelled<'_>>
     ensures value { option_and_then (λ found. entry_spelled found.0) result ≡ entry_from (Numbers 4 asks_read) (words_left rest.entry) }
     ensures lines { IfSome result (λ found. lines_left found.1 ≡ lines_after rest.entry) }
 {
@@ -224,7 +224,7 @@ fn read_spelled(rest: Rest<'_>) -> Option<Spelled<'_>>
 }
 
 #[inline(always)]
-fn close_spelled(rest: Rest<'_>) -> Option<Spelled<'_>>
+pub fn close_spelled(rest: Rest<'_>) -> Option<Spelled<'_>>
     ensures value { option_and_then (λ found. entry_spelled found.0) result ≡ entry_from (Numbers 1 asks_close) (words_left rest.entry) }
     ensures lines { IfSome result (λ found. lines_left found.1 ≡ lines_after rest.entry) }
 {
@@ -244,7 +244,7 @@ fn where_spelled(rest: Rest<'_>) -> Option<Spelled<'_>>
 }
 
 #[inline(always)]
-fn drop_spelled(rest: Rest<'_>) -> Option<Spelled<'_>>
+pub fn drop_spelled(rest: Rest<'_>) -> Option<Spelled<'_>>
     ensures value { option_and_then (λ found. entry_spelled found.0) result ≡ entry_from (Numbers 2 asks_drop) (words_left rest.entry) }
     ensures lines { IfSome result (λ found. lines_left found.1 ≡ lines_after rest.entry) }
 {
@@ -265,7 +265,7 @@ fn try_spelled(rest: Rest<'_>) -> Option<Spelled<'_>>
 }
 
 #[inline(always)]
-fn view_spelled(rest: Rest<'_>) -> Option<Spelled<'_>>
+pub fn view_spelled(rest: Rest<'_>) -> Option<Spelled<'_>>
     ensures value { option_and_then (λ found. entry_spelled found.0) result ≡ entry_from (Numbers 2 asks_view) (words_left rest.entry) }
     ensures lines { IfSome result (λ found. lines_left found.1 ≡ lines_after rest.entry) }
 {
