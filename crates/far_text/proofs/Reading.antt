@@ -11,6 +11,7 @@ use Rattle.std.proofs.lemmas.Option.{none-some, same_Some}
 use Rattle.far_text.specs.Command.{Command, HeapLine, CommandLine, Trace, Nothing}
 use Rattle.far_text.specs.Cursor.{first_line, lines_after_first}
 use Rattle.far_text.specs.Grammar.{Line, Skipped, Saying, Bad, saying, onto, line_of, lines_of, read_command, read_commands, read_heap, read_lines, trace_of, with_heap, IsFault}
+use Rattle.far_text.specs.Parsed.{with_line}
 use Rattle.far_text.specs.HeapSought.{Found, NoHeap, HeapAt, found_at, heap_sought}
 use Rattle.far_text.proofs.Cuts.{split_some}
 
@@ -77,24 +78,44 @@ pub map_append : {A B : Type 0} (f : A → B) (xs ys : List A) → map f (xs ++ 
 map_append f [] ys = refl
 map_append f (x ∷ xs) ys = ap (λ l. f x ∷ l) (map_append f xs ys)
 
--- a command that was kept
-pub one_kept : (old new : List Command) (command : Option Command) → option_map (λ c. old ++ c ∷ []) command ≡ Some new →
-    (number : ℕ) (later : Result (List Command) ℕ) → onto_all new later ≡ onto_all old (read_command number (saying (option_map CommandLine command)) later)
-one_kept old new None e number later = absurd (none-some new e)
-one_kept old new (Some c) e number later = ap (λ cs. onto_all cs later) (sym (same_Some (old ++ c ∷ []) new e)) ∙ onto_one_more old c later
-
--- one that was not
-pub none_kept : (old : List Command) (command : Option Command) → option_map (λ c. old ++ c ∷ []) command ≡ None →
-    (number : ℕ) (later : Result (List Command) ℕ) → read_command number (saying (option_map CommandLine command)) later ≡ Err number
-none_kept old None e number later = refl
-none_kept old (Some c) e number later = absurd (none-some (old ++ c ∷ []) (sym e))
-
 -- no command stands before the heap
 pub none_first : (command : Option Command) (number : ℕ) (lines : List (List ℕ)) (later : Result Found ℕ) → found_at number (saying (option_map CommandLine command)) lines later ≡ Err number
 none_first None number lines later = refl
 none_first (Some c) number lines later = refl
 
--- it is one more
+-- a command that can be kept, as it is spelled
+pub kept_line : (old new : List Command) (command : Option Command) → option_map (λ c. old ++ c ∷ []) command ≡ Some new → with_line old (saying (option_map CommandLine command)) ≡ Some new
+kept_line old new None e = absurd (none-some new e)
+kept_line old new (Some c) e = e
+
+-- and one that can't
+pub other_line : (old : List Command) (command : Option Command) → option_map (λ c. old ++ c ∷ []) command ≡ None → with_line old (saying (option_map CommandLine command)) ≡ None
+other_line old None e = refl
+other_line old (Some c) e = e
+
+-- a line that was read
+pub line_added : (old new : List Command) (line : Line) → with_line old line ≡ Some new →
+    (number : ℕ) (later : Result (List Command) ℕ) → onto_all new later ≡ onto_all old (read_command number line later)
+line_added old new Skipped e number later = ap (λ cs. onto_all cs later) (sym (same_Some old new e))
+line_added old new (Saying (HeapLine logs mutators epoch)) e number later = absurd (none-some new e)
+line_added old new (Saying (CommandLine c)) e number later = ap (λ cs. onto_all cs later) (sym (same_Some (old ++ c ∷ []) new e)) ∙ onto_one_more old c later
+line_added old new Bad e number later = absurd (none-some new e)
+
+-- one that was not
+pub line_refused : (old : List Command) (line : Line) → with_line old line ≡ None → (number : ℕ) (later : Result (List Command) ℕ) → read_command number line later ≡ Err number
+line_refused old Skipped e number later = absurd (none-some old (sym e))
+line_refused old (Saying (HeapLine logs mutators epoch)) e number later = refl
+line_refused old (Saying (CommandLine c)) e number later = absurd (none-some (old ++ c ∷ []) (sym e))
+line_refused old Bad e number later = refl
+
+-- a command is one more
 pub one_longer : (old new : List Command) (command : Option Command) → option_map (λ c. old ++ c ∷ []) command ≡ Some new → length new ≡ length old + 1
 one_longer old new None e = absurd (none-some new e)
 one_longer old new (Some c) e = let same = ap length (same_Some (old ++ c ∷ []) new e) in omega (arith, length-append old (c ∷ []))
+
+-- a line adds one at most
+pub no_longer : (old new : List Command) (line : Line) → with_line old line ≡ Some new → length new ≤ length old + 1
+no_longer old new Skipped e = let same = ap length (same_Some old new e) in omega arith
+no_longer old new (Saying (HeapLine logs mutators epoch)) e = absurd (none-some new e)
+no_longer old new (Saying (CommandLine c)) e = let same = ap length (same_Some (old ++ c ∷ []) new e) in omega (arith, length-append old (c ∷ []))
+no_longer old new Bad e = absurd (none-some new e)

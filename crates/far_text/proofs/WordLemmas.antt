@@ -72,12 +72,15 @@ pub none_at : (text : List ℕ) (i : ℕ) (rest : List (List ℕ)) → words_in 
 none_at text i rest e z = next_none (words_in text) [] rest (ap (λ m. words_in (drop m text)) (sym z) ∙ e) (number_empty [] refl)
 
 -- a zero before other digits
-pub zero_at : (text : List ℕ) (i : ℕ) (rest : List (List ℕ)) → i ≤ length text → Digits text i → words_in (drop i text) ≡ [] ∷ rest → get_or text 0 0 ≡ 48 → 1 < i
-    → next_number (words_in text) ≡ None
-zero_at text i rest h digits e lead long =
-    let len : length (take i text) ≡ i = length-take-le i text h in
-    let first : get_or (take i text) 0 0 ≡ 48 = get_or-take i text 0 0 (omega arith) ∙ lead in
-    next_none (words_in text) (take i text) rest (word_stops text i rest h (no_ends text i digits) e) (number_zero (take i text) first (omega arith))
+pub zero_at : (text : List ℕ) (i : ℕ) → i ≤ length text → Digits text i → get_or text 0 0 ≡ 48 → 1 < i → next_number (words_in text) ≡ None
+zero_at text i fits digits lead long =
+    let at = word_at text i fits (no_ends text i digits) in
+    let more = front_of (words_in (drop i text)) in
+    let front = take i text in
+    let len : length front ≡ i = length-take-le i text fits in
+    let sum = length-append front more in
+    let first : get_or (front ++ more) 0 0 ≡ 48 = get_or_append_left front more 0 0 (omega arith) ∙ get_or-take i text 0 0 (omega arith) ∙ lead in
+    next_none (words_in text) (front ++ more) _ at.0 (number_zero (front ++ more) first (omega arith))
 
 -- digits without leading zeros
 pub number_at : (text : List ℕ) (i n : ℕ) (rest : List (List ℕ)) → i ≤ length text → Digits text i → words_in (drop i text) ≡ [] ∷ rest → 0 < i

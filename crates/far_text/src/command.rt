@@ -170,7 +170,8 @@ fn heap_spelled(rest: Rest<'_>) -> Option<Spelled<'_>>
     heap_at_end(logs, mutators, rest)
 }
 
-fn new_spelled(rest: Rest<'_>) -> Option<Spelled<'_>>
+#[inline(always)]
+pub fn new_spelled(rest: Rest<'_>) -> Option<Spelled<'_>>
     ensures value { option_and_then (λ found. entry_spelled found.0) result ≡ entry_from (Numbers 3 asks_new) (words_left rest.entry) }
     ensures lines { IfSome result (λ found. lines_left found.1 ≡ lines_after rest.entry) }
 {
@@ -181,7 +182,8 @@ fn new_spelled(rest: Rest<'_>) -> Option<Spelled<'_>>
     at_end(Entry::Command(Command::Mutator { mutator, request }), rest)
 }
 
-fn open_spelled(rest: Rest<'_>) -> Option<Spelled<'_>>
+#[inline(always)]
+pub fn open_spelled(rest: Rest<'_>) -> Option<Spelled<'_>>
     ensures value { option_and_then (λ found. entry_spelled found.0) result ≡ entry_from (Numbers 1 asks_open) (words_left rest.entry) }
     ensures lines { IfSome result (λ found. lines_left found.1 ≡ lines_after rest.entry) }
 {
@@ -191,7 +193,7 @@ fn open_spelled(rest: Rest<'_>) -> Option<Spelled<'_>>
 }
 
 #[inline(always)]
-fn write_spelled(rest: Rest<'_>) -> Option<Spelled<'_>>
+pub fn write_spelled(rest: Rest<'_>) -> Option<Spelled<'_>>
     ensures value { option_and_then (λ found. entry_spelled found.0) result ≡ entry_from (NumbersAndBytes 3 asks_write) (words_left rest.entry) }
     ensures lines { IfSome result (λ found. lines_left found.1 ≡ lines_after rest.entry) }
 {
@@ -209,7 +211,7 @@ fn write_spelled(rest: Rest<'_>) -> Option<Spelled<'_>>
 }
 
 #[inline(always)]
-fn read_spelled(rest: Rest<'_>) -> Option<Spelled<'_>>
+pub fn read_spelled(rest: Rest<'_>) -> Option<Spelled<'_>>
     ensures value { option_and_then (λ found. entry_spelled found.0) result ≡ entry_from (Numbers 4 asks_read) (words_left rest.entry) }
     ensures lines { IfSome result (λ found. lines_left found.1 ≡ lines_after rest.entry) }
 {
@@ -221,7 +223,8 @@ fn read_spelled(rest: Rest<'_>) -> Option<Spelled<'_>>
     at_end(Entry::Command(Command::Mutator { mutator, request }), rest)
 }
 
-fn close_spelled(rest: Rest<'_>) -> Option<Spelled<'_>>
+#[inline(always)]
+pub fn close_spelled(rest: Rest<'_>) -> Option<Spelled<'_>>
     ensures value { option_and_then (λ found. entry_spelled found.0) result ≡ entry_from (Numbers 1 asks_close) (words_left rest.entry) }
     ensures lines { IfSome result (λ found. lines_left found.1 ≡ lines_after rest.entry) }
 {
@@ -240,7 +243,8 @@ fn where_spelled(rest: Rest<'_>) -> Option<Spelled<'_>>
     at_end(Entry::Command(Command::Mutator { mutator, request }), rest)
 }
 
-fn drop_spelled(rest: Rest<'_>) -> Option<Spelled<'_>>
+#[inline(always)]
+pub fn drop_spelled(rest: Rest<'_>) -> Option<Spelled<'_>>
     ensures value { option_and_then (λ found. entry_spelled found.0) result ≡ entry_from (Numbers 2 asks_drop) (words_left rest.entry) }
     ensures lines { IfSome result (λ found. lines_left found.1 ≡ lines_after rest.entry) }
 {
@@ -260,7 +264,8 @@ fn try_spelled(rest: Rest<'_>) -> Option<Spelled<'_>>
     at_end(Entry::Command(Command::Mutator { mutator, request }), rest)
 }
 
-fn view_spelled(rest: Rest<'_>) -> Option<Spelled<'_>>
+#[inline(always)]
+pub fn view_spelled(rest: Rest<'_>) -> Option<Spelled<'_>>
     ensures value { option_and_then (λ found. entry_spelled found.0) result ≡ entry_from (Numbers 2 asks_view) (words_left rest.entry) }
     ensures lines { IfSome result (λ found. lines_left found.1 ≡ lines_after rest.entry) }
 {
@@ -480,37 +485,7 @@ pub fn entry_by_first_word(text: &[u8]) -> Option<Spelled<'_>>
     entry_by_name(name, rest)
 }
 
-// What the first line of a text spells, by the names that are not rare, and else by its first word.
-#[inline(never)]
-fn entry_by_name_first(text: &[u8]) -> Option<Spelled<'_>>
-    ensures value { option_and_then (λ found. entry_spelled found.0) result ≡ entry_of (words_in text.now) }
-    ensures lines { IfSome result (λ found. lines_left found.1 ≡ lines_after_first text.now) }
-{
-    if let [b'n', b'e', b'w', b' ', rest @ ..] = text {
-        return new_spelled(Rest::Words(rest));
-    }
-    if let [b'd', b'r', b'o', b'p', b' ', rest @ ..] = text {
-        return drop_spelled(Rest::Words(rest));
-    }
-    if let [b'o', b'p', b'e', b'n', b' ', rest @ ..] = text {
-        return open_spelled(Rest::Words(rest));
-    }
-    if let [b'c', b'l', b'o', b's', b'e', b' ', rest @ ..] = text {
-        return close_spelled(Rest::Words(rest));
-    }
-    entry_by_first_word(text)
-}
-
-// The same, apart from the room for what is returned.
-#[inline(always)]
-fn entry_by_rarer_name(text: &[u8]) -> Option<Spelled<'_>>
-    ensures value { option_and_then (λ found. entry_spelled found.0) result ≡ entry_of (words_in text.now) }
-    ensures lines { IfSome result (λ found. lines_left found.1 ≡ lines_after_first text.now) }
-{
-    entry_by_name_first(text)
-}
-
-/// What the first line of a text spells. The commands that traces are full of, by which objects are reached, are known by their first bytes.
+/// What the first line of a text spells. The commands that traces are full of are known by their first bytes.
 #[inline(always)]
 pub fn entry_first(text: &[u8]) -> Option<Spelled<'_>>
     ensures value { option_and_then (λ found. entry_spelled found.0) result ≡ entry_of (words_in text.now) }
@@ -525,5 +500,17 @@ pub fn entry_first(text: &[u8]) -> Option<Spelled<'_>>
     if let [b'v', b'i', b'e', b'w', b' ', rest @ ..] = text {
         return view_spelled(Rest::Words(rest));
     }
-    entry_by_rarer_name(text)
+    if let [b'n', b'e', b'w', b' ', rest @ ..] = text {
+        return new_spelled(Rest::Words(rest));
+    }
+    if let [b'd', b'r', b'o', b'p', b' ', rest @ ..] = text {
+        return drop_spelled(Rest::Words(rest));
+    }
+    if let [b'o', b'p', b'e', b'n', b' ', rest @ ..] = text {
+        return open_spelled(Rest::Words(rest));
+    }
+    if let [b'c', b'l', b'o', b's', b'e', b' ', rest @ ..] = text {
+        return close_spelled(Rest::Words(rest));
+    }
+    entry_by_first_word(text)
 }

@@ -1,6 +1,6 @@
 //! A text that is read word by word, each byte once.
 
-ghost use Rattle.std.specs.Prelude.{◌≡◌, ◌≤◌, ◌<◌, ◌%◌, ◌^◌, ◌==◌, ◌∷◌, ℕ, [], length, take, drop, true, false, slice_index, IfSome, IfNone};
+ghost use Rattle.std.specs.Prelude.{◌≡◌, ◌≤◌, ◌<◌, ◌+◌, ◌*◌, ◌%◌, ◌^◌, ◌==◌, ◌∷◌, ℕ, [], length, take, drop, true, false, slice_index, IfSome, IfNone};
 ghost use Rattle.std.specs.Char.{is_ascii_digit};
 ghost use Rattle.std.specs.Int.{IsInRange};
 ghost use Rattle.std.specs.Option.{option_and_then, option_map};
@@ -69,18 +69,19 @@ fn printed_number(text: &[u8], len: usize, n: u64) -> Option<(u64, Rest<'_>)>
     ensures number { option_map (λ found. (found.0, words_left found.1)) result ≡ next_number (words_in text.now) }
     ensures lines { IfSome result (λ found. lines_after_first text.now ≡ lines_after found.1) }
 {
-    let rest = rest_at(text, len)?;
-    if len == 0 {
+    if len > 1 && text[0] == b'0' {
         return None;
     }
-    if text[0] == b'0' && len > 1 {
+    let rest = rest_at(text, len)?;
+    if len == 0 {
         return None;
     }
     Some((n, rest))
 }
 
-// The digits in front of a text: the number that they print, modulo 2^64, and how many they are.
-#[inline(always)]
+// The digits in front of a text: the number that they print, modulo 2^64, and how many they are. It stands apart, since
+// most numbers are read without it.
+#[inline(never)]
 fn digits_first(text: &[u8]) -> (u64, usize)
     ensures fits { result.1 ≤ length text.now }
     ensures digits { (k : ℕ) → k < result.1 → IsInRange 48 57 (slice_index text.now k) }
@@ -98,6 +99,7 @@ fn digits_first(text: &[u8]) -> (u64, usize)
 
 // The number that digits print, if it is below 2^64.
 #[cold]
+#[inline(never)]
 fn long_number(digits: &[u8]) -> Option<u64>
     requires { (k : ℕ) → k < length digits.now → IsInRange 48 57 (slice_index digits.now k) }
     ensures value { IfSome result (λ n. n ≡ digits_value 10 digits.now) }
@@ -110,17 +112,59 @@ fn long_number(digits: &[u8]) -> Option<u64>
     Some(n)
 }
 
+// The number that a few digits in front of a text and the next byte print, if that is a digit too.
+#[inline(always)]
+fn one_digit_more(text: &[u8], len: usize, n: u64) -> Option<u64>
+    requires inside { len < length text.now }
+    requires small { n < 1000 }
+    requires digits { (k : ℕ) → k < len → IsInRange 48 57 (slice_index text.now k) }
+    requires value { n ≡ digits_value 10 (take len text.now) }
+    ensures digits { IfSome result (λ _. (k : ℕ) → k < len + 1 → IsInRange 48 57 (slice_index text.now k)) }
+    ensures value { IfSome result (λ more. more ≡ digits_value 10 (take (len + 1) text.now)) }
+    ensures small { IfSome result (λ more. more < n * 10 + 10) }
+    ensures stops { IfNone result (is_ascii_digit (slice_index text.now len) ≡ false) }
+{
+    let byte = text[len];
+    if byte.is_ascii_digit() {
+        Some(n * 10 + u64::from(byte - b'0'))
+    } else {
+        None
+    }
+}
+
+// The same as `digits_first`, sooner where they are at most three.
+#[inline(always)]
+fn few_digits_first(text: &[u8]) -> (u64, usize)
+    ensures fits { result.1 ≤ length text.now }
+    ensures digits { (k : ℕ) → k < result.1 → IsInRange 48 57 (slice_index text.now k) }
+    ensures value { result.0 ≡ digits_value 10 (take result.1 text.now) % 2 ^ 64 }
+    ensures stops { result.1 < length text.now → is_ascii_digit (slice_index text.now result.1) ≡ false }
+{
+    if text.len() <= 3 {
+        return digits_first(text);
+    }
+    let Some(one) = one_digit_more(text, 0, 0) else {
+        return (0, 0);
+    };
+    let Some(two) = one_digit_more(text, 1, one) else {
+        return (one, 1);
+    };
+    let Some(three) = one_digit_more(text, 2, two) else {
+        return (two, 2);
+    };
+    if text[3].is_ascii_digit() {
+        return digits_first(text);
+    }
+    (three, 3)
+}
+
 /// The number that the first word of a text prints, and what is left after it.
 #[inline(always)]
 pub fn number_first(text: &[u8]) -> Option<(u64, Rest<'_>)>
     ensures number { option_map (λ found. (found.0, words_left found.1)) result ≡ next_number (words_in text.now) }
     ensures lines { IfSome result (λ found. lines_after_first text.now ≡ lines_after found.1) }
 {
-    // Most numbers of mutators have one digit.
-    if text.len() > 1 && text[0].is_ascii_digit() && text[1] == b' ' {
-        return printed_number(text, 1, u64::from(text[0] - b'0'));
-    }
-    let (n, len) = digits_first(text);
+    let (n, len) = few_digits_first(text);
     // Nineteen digits are always below 2^64.
     if len < 20 {
         return printed_number(text, len, n);

@@ -4,6 +4,7 @@
 //! words what it is worth. What the commands do is far_replay's.
 #![tactic(auto)]
 
+mod adding;
 mod command;
 mod commands;
 mod cursor;

@@ -35,9 +35,9 @@ fn ascii_len(text: &[u8]) -> Option<usize>
     }
 }
 
-// Reads a comment, which a text begins with.
+/// Reads a comment, which a text begins with.
 #[inline(always)]
-fn comment_first(text: &[u8]) -> Option<(Line<'_>, Option<&[u8]>)>
+pub fn comment_first(text: &[u8]) -> Option<(Line<'_>, Option<&[u8]>)>
     requires some { 0 < length text.now }
     requires comment { slice_index text.now 0 ≡ 35 }
     ensures bad { IfNone result (line_of (first_line text.now) ≡ Bad) }
@@ -86,17 +86,24 @@ fn spelled_first(text: &[u8], part: Part) -> Option<Spelled<'_>>
     }
 }
 
-// Reads a line with an entry, which a text begins with.
+/// The line that a text begins with, where this is what its words spell.
 #[inline(always)]
-fn entry_line_first(text: &[u8], part: Part) -> Option<(Line<'_>, Option<&[u8]>)>
+pub fn line_spelled<'a>(
+    text: &[u8],
+    spelled: Option<Spelled<'a>>,
+) -> Option<(Line<'a>, Option<&'a [u8]>)>
     requires some { 0 < length text.now }
     requires content { (slice_index text.now 0 == 10) ≡ false }
     requires other { (slice_index text.now 0 == 35) ≡ false }
+    requires value { option_and_then (λ found. entry_spelled found.0) spelled ≡ entry_of (words_in text.now) }
+    requires lines { IfSome spelled (λ found. lines_left found.1 ≡ lines_after_first text.now) }
     ensures bad { IfNone result (line_of (first_line text.now) ≡ Bad) }
     ensures line { IfSome result (λ found. as_line found.0 ≡ line_of (first_line text.now)) }
     ensures lines { IfSome result (λ found. lines_left found.1 ≡ lines_after_first text.now) }
 {
-    let (entry, lines) = spelled_first(text, part)?;
+    let Some((entry, lines)) = spelled else {
+        return None;
+    };
     if line_len(text, lines) > LONGEST_LINE {
         return None;
     }
@@ -119,5 +126,5 @@ pub fn line_first(text: &[u8], part: Part) -> Option<(Line<'_>, Option<&[u8]>)>
     if text[0] == b'#' {
         return comment_first(text);
     }
-    entry_line_first(text, part)
+    line_spelled(text, spelled_first(text, part))
 }

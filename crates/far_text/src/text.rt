@@ -7,6 +7,7 @@ ghost use Rattle.far_text.specs.declared.text.TheConstants.{LONGEST_TEXT};
 ghost use Rattle.far_text.specs.Grammar.{trace_of, lines_of, read_commands, IsFault};
 ghost use Rattle.far_text.specs.HeapSought.{NoHeap, HeapAt, heap_sought};
 
+use crate::adding::add_line;
 use crate::command::Entry;
 use crate::commands::Commands;
 use crate::line::{Line, Part, line_first};
@@ -119,17 +120,9 @@ fn commands_after(alloc: Global, number: u64, lines: Option<&[u8]>) -> Result<Co
     let mut lines = lines;
     while let Some(text) = lines {
         number += 1;
-        let Some((line, after)) = line_first(text, Part::AfterTheHeap) else {
+        let Some(after) = add_line(&mut commands, text)? else {
             return Err(ParseError::Syntax(number));
         };
-        if let Line::Said(entry) = line {
-            let Entry::Command(command) = entry else {
-                return Err(ParseError::Syntax(number));
-            };
-            if !commands.push(command)? {
-                return Err(ParseError::Syntax(number));
-            }
-        }
         lines = after;
     }
     Ok(commands)

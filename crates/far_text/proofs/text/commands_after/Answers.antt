@@ -1,90 +1,48 @@
-use Rattle.std.proofs.Common.{arith, refl, sym, subst, ap, ◌≡◌, ◌+◌, ◌<◌, ◌++◌, ◌∷◌, [], ◌∙◌, length, Some, None, cond}
-use Rattle.std.specs.Option.{option_map}
-use Rattle.far_text.specs.Command.{HeapLine, CommandLine}
-use Rattle.far_text.specs.Cursor.{lines_left, lines_after_first}
-use Rattle.far_text.specs.Grammar.{Skipped, Saying, Bad, saying, lines_of, read_commands}
-use Rattle.far_text.specs.Spelled.{command_spelled}
-use Rattle.far_text.proofs.Reading.{onto_all, after_line, fewer_lines, none_kept, one_kept, one_longer}
+use Rattle.std.proofs.Common.{arith, refl, sym, subst, ap, ◌≡◌, ◌+◌, ◌<◌, ◌∙◌, length}
+use Rattle.far_text.specs.Cursor.{first_line, lines_left, lines_after_first}
+use Rattle.far_text.specs.Grammar.{line_of, lines_of, read_commands}
+use Rattle.far_text.proofs.Reading.{onto_all, after_line, fewer_lines, line_added, line_refused, no_longer}
 use Rattle.far_text.proofs.text.commands_after.Goals as goal
 
-pub returns-in_default-line_first-clause-fault : goal.returns-in_default-line_first-clause-fault
-returns-in_default-line_first-clause-fault c =
-    let text = c.in-Some.text.now in
-    let reads = rw c.in-Some.is at c.loop-lines.invariant.reads in
-    sym reads ∙ ap (onto_all c.loop-lines.commands) (after_line (c.loop-lines.number + 1) text Bad (lines_after_first text) (sym c.in_default-line_first.ensures.bad) refl)
-
-pub returns-in_default-entry-clause-fault : goal.returns-in_default-entry-clause-fault
-returns-in_default-entry-clause-fault c =
-    let reads = rw c.in-Some.is at c.loop-lines.invariant.reads in
-    let entry = rw c.in-Said.is at c.in-Some-line_first.ensures.line in
-    let line = rw c.in_default-entry.is at entry in
-    sym reads ∙ ap (onto_all c.loop-lines.commands)
-    (after_line (c.loop-lines.number + 1) c.in-Some.text.now (Saying (HeapLine c.in_default-entry.field-0 c.in_default-entry.field-1 c.in_default-entry.field-2)) (lines_left c.in-Some-line_first.after) line c.in-Some-line_first.ensures.lines)
-
-pub push-requires : goal.push-requires
-push-requires c =
+pub add_line-requires : goal.add_line-requires
+add_line-requires c =
     let counted = rw c.in-Some.is at c.loop-lines.invariant.counted in
-    let fewer = fewer_lines c.in-Some.text.now (lines_left c.in-Some-line_first.after) c.in-Some-line_first.ensures.lines in
+    let fewer = fewer_lines c.in-Some.text.now (lines_after_first c.in-Some.text.now) refl in
     omega (arith, c.loop-lines.invariant.few)
 
-pub returns-then-not-branch-clause-fault : goal.returns-then-not-branch-clause-fault
-returns-then-not-branch-clause-fault c =
+pub returns-in_default-2-clause-fault : goal.returns-in_default-2-clause-fault
+returns-in_default-2-clause-fault c =
+    let text = c.in-Some.text.now in
     let old = c.loop-lines.commands in
-    let spelled = command_spelled c.in-Command.command in
     let reads = rw c.in-Some.is at c.loop-lines.invariant.reads in
-    let entry = rw c.in-Said.is at c.in-Some-line_first.ensures.line in
-    let line = rw c.in-Command.is at entry in
-    let none : option_map (λ x. old ++ x ∷ []) spelled ≡ None = c.in_ok-push.ensures.value ∙ ap (λ kept. cond kept (Some c.push.new.self) None) c.if-not-branch.true in
-    sym reads ∙ ap (onto_all old)
-    (after_line (c.loop-lines.number + 1) c.in-Some.text.now (saying (option_map CommandLine spelled)) (lines_left c.in-Some-line_first.after) line c.in-Some-line_first.ensures.lines ∙ none_kept old spelled none _ _)
+    let bad = rw c.in_default-2.is at c.in_ok-after.ensures.bad in
+    sym reads ∙ ap (onto_all old) (after_line (c.loop-lines.number + 1) text (line_of (first_line text)) (lines_after_first text) refl refl ∙ line_refused old (line_of (first_line text)) bad _ _)
 
 pub loop-lines-smaller : goal.loop-lines-smaller
 loop-lines-smaller c =
-    let fewer = fewer_lines c.in-Some.text.now (lines_left c.in-Some-line_first.after) c.in-Some-line_first.ensures.lines in
-    let less : length (lines_left c.in-Some-line_first.after) < length (lines_of c.in-Some.text.now) = omega arith in
-    subst (λ o. length (lines_left c.in-Some-line_first.after) < length (lines_left o)) (sym c.in-Some.is) less
-
-pub loop-lines-smaller-else-not-branch : goal.loop-lines-smaller-else-not-branch
-loop-lines-smaller-else-not-branch c =
-    let fewer = fewer_lines c.in-Some.text.now (lines_left c.in-Some-line_first.after) c.in-Some-line_first.ensures.lines in
-    let less : length (lines_left c.in-Some-line_first.after) < length (lines_of c.in-Some.text.now) = omega arith in
-    subst (λ o. length (lines_left c.in-Some-line_first.after) < length (lines_left o)) (sym c.in-Some.is) less
+    let after = lines_left c.in-Some-2.after in
+    let lines = rw c.in-Some-2.is at c.in_ok-after.ensures.lines in
+    let fewer = fewer_lines c.in-Some.text.now after lines in
+    let less : length after < length (lines_of c.in-Some.text.now) = omega arith in
+    subst (λ o. length after < length (lines_left o)) (sym c.in-Some.is) less
 
 pub loop-lines-preserved : goal.loop-lines-preserved
 loop-lines-preserved c =
     let text = c.in-Some.text.now in
-    let after = lines_left c.in-Some-line_first.after in
-    let reads = rw c.in-Some.is at c.loop-lines.invariant.reads in
-    let counted = rw c.in-Some.is at c.loop-lines.invariant.counted in
-    let few = c.loop-lines.invariant.few in
-    let line = rw c.in_default-line.is at c.in-Some-line_first.ensures.line in
-    let fewer = fewer_lines text after c.in-Some-line_first.ensures.lines in
-    let one = after_line (c.loop-lines.number + 1) text Skipped after line c.in-Some-line_first.ensures.lines in
-    record {
-      reads = ap (onto_all c.loop-lines.commands) (sym one) ∙ reads;
-      counted = omega arith;
-      few = omega arith;
-    }
-
-pub loop-lines-preserved-else-not-branch : goal.loop-lines-preserved-else-not-branch
-loop-lines-preserved-else-not-branch c =
-    let text = c.in-Some.text.now in
-    let after = lines_left c.in-Some-line_first.after in
+    let line = line_of (first_line text) in
+    let after = lines_left c.in-Some-2.after in
     let number = c.loop-lines.number in
     let old = c.loop-lines.commands in
-    let new = c.push.new.self in
-    let spelled = command_spelled c.in-Command.command in
+    let new = c.add_line.new.commands in
     let reads = rw c.in-Some.is at c.loop-lines.invariant.reads in
     let counted = rw c.in-Some.is at c.loop-lines.invariant.counted in
     let few = c.loop-lines.invariant.few in
-    let entry = rw c.in-Said.is at c.in-Some-line_first.ensures.line in
-    let line = rw c.in-Command.is at entry in
-    let fewer = fewer_lines text after c.in-Some-line_first.ensures.lines in
-    let kept : option_map (λ x. old ++ x ∷ []) spelled ≡ Some new = c.in_ok-push.ensures.value ∙ ap (λ kept. cond kept (Some new) None) c.if-not-branch.false in
-    let long = one_longer old new spelled kept in
-    let one = after_line (number + 1) text (saying (option_map CommandLine spelled)) after line c.in-Some-line_first.ensures.lines in
+    let added = rw c.in-Some-2.is at c.in_ok-after.ensures.added in
+    let lines = rw c.in-Some-2.is at c.in_ok-after.ensures.lines in
+    let fewer = fewer_lines text after lines in
+    let long = no_longer old new line added in
     record {
-      reads = one_kept old new spelled kept (number + 1) (read_commands (number + 1 + 1) after) ∙ ap (onto_all old) (sym one) ∙ reads;
+      reads = line_added old new line added (number + 1) (read_commands (number + 1 + 1) after) ∙ ap (onto_all old) (sym (after_line (number + 1) text line after refl lines)) ∙ reads;
       counted = omega arith;
       few = omega arith;
     }

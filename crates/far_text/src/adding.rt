@@ -1,0 +1,131 @@
+//! The commands of a text, added as its lines are read.
+
+ghost use Rattle.std.specs.Prelude.{◌≡◌, ◌≤◌, ◌<◌, ◌==◌, length, false, slice_index, Some, None, IfOk, IfSome, IfNone};
+ghost use Rattle.far_text.specs.declared.text.TheConstants.{LONGEST_TEXT};
+ghost use Rattle.std.specs.Option.{option_and_then};
+ghost use Rattle.far_text.specs.Cursor.{first_line, lines_after_first, lines_left, words_in};
+ghost use Rattle.far_text.specs.Grammar.{Bad, line_of, entry_of};
+ghost use Rattle.far_text.specs.Spelled.{as_line, entry_spelled};
+ghost use Rattle.far_text.specs.Parsed.{with_line};
+
+use crate::command::{
+    Entry, Spelled, close_spelled, drop_spelled, entry_by_first_word, new_spelled, open_spelled,
+    read_spelled, view_spelled, write_spelled,
+};
+use crate::commands::Commands;
+use crate::cursor::Rest;
+use crate::line::{Line, comment_first, line_spelled};
+use std::alloc::AllocError;
+
+// Adds the command of the first line of a text, where this is what the line says. The lines after it; None where it is off
+// the grammar, or what it says can't be kept.
+#[inline(always)]
+fn add_read<'a>(
+    commands: &mut Commands,
+    text: &[u8],
+    read: Option<(Line<'a>, Option<&'a [u8]>)>,
+) -> Result<Option<Option<&'a [u8]>>, AllocError>
+    requires few { length commands.old ≤ LONGEST_TEXT }
+    requires bad { IfNone read (line_of (first_line text.now) ≡ Bad) }
+    requires line { IfSome read (λ found. as_line found.0 ≡ line_of (first_line text.now)) }
+    requires lines { IfSome read (λ found. lines_left found.1 ≡ lines_after_first text.now) }
+    ensures added { IfOk result (λ found. IfSome found (λ _. with_line commands.old (line_of (first_line text.now)) ≡ Some commands.new)) }
+    ensures lines { IfOk result (λ found. IfSome found (λ after. lines_left after ≡ lines_after_first text.now)) }
+    ensures bad { IfOk result (λ found. IfNone found (with_line commands.old (line_of (first_line text.now)) ≡ None)) }
+{
+    let Some((line, after)) = read else {
+        return Ok(None);
+    };
+    if let Line::Said(entry) = line {
+        let Entry::Command(command) = entry else {
+            return Ok(None);
+        };
+        if !commands.push(command)? {
+            return Ok(None);
+        }
+    }
+    Ok(Some(after))
+}
+
+// Adds the command of the first line of a text, where this is what its words spell.
+#[inline(always)]
+fn add_spelled<'a>(
+    commands: &mut Commands,
+    text: &[u8],
+    spelled: Option<Spelled<'a>>,
+) -> Result<Option<Option<&'a [u8]>>, AllocError>
+    requires few { length commands.old ≤ LONGEST_TEXT }
+    requires some { 0 < length text.now }
+    requires content { (slice_index text.now 0 == 10) ≡ false }
+    requires other { (slice_index text.now 0 == 35) ≡ false }
+    requires value { option_and_then (λ found. entry_spelled found.0) spelled ≡ entry_of (words_in text.now) }
+    requires lines { IfSome spelled (λ found. lines_left found.1 ≡ lines_after_first text.now) }
+    ensures added { IfOk result (λ found. IfSome found (λ _. with_line commands.old (line_of (first_line text.now)) ≡ Some commands.new)) }
+    ensures lines { IfOk result (λ found. IfSome found (λ after. lines_left after ≡ lines_after_first text.now)) }
+    ensures bad { IfOk result (λ found. IfNone found (with_line commands.old (line_of (first_line text.now)) ≡ None)) }
+{
+    add_read(commands, text, line_spelled(text, spelled))
+}
+
+// Adds the command of the first line of a text. Those that traces are full of are known by their first bytes, and each is
+// added where it is read.
+#[inline(always)]
+fn add_entry<'a>(
+    commands: &mut Commands,
+    text: &'a [u8],
+) -> Result<Option<Option<&'a [u8]>>, AllocError>
+    requires few { length commands.old ≤ LONGEST_TEXT }
+    requires some { 0 < length text.now }
+    requires content { (slice_index text.now 0 == 10) ≡ false }
+    requires other { (slice_index text.now 0 == 35) ≡ false }
+    ensures added { IfOk result (λ found. IfSome found (λ _. with_line commands.old (line_of (first_line text.now)) ≡ Some commands.new)) }
+    ensures lines { IfOk result (λ found. IfSome found (λ after. lines_left after ≡ lines_after_first text.now)) }
+    ensures bad { IfOk result (λ found. IfNone found (with_line commands.old (line_of (first_line text.now)) ≡ None)) }
+{
+    if let [b'r', b'e', b'a', b'd', b' ', rest @ ..] = text {
+        return add_spelled(commands, text, read_spelled(Rest::Words(rest)));
+    }
+    if let [b'w', b'r', b'i', b't', b'e', b' ', rest @ ..] = text {
+        return add_spelled(commands, text, write_spelled(Rest::Words(rest)));
+    }
+    if let [b'v', b'i', b'e', b'w', b' ', rest @ ..] = text {
+        return add_spelled(commands, text, view_spelled(Rest::Words(rest)));
+    }
+    if let [b'n', b'e', b'w', b' ', rest @ ..] = text {
+        return add_spelled(commands, text, new_spelled(Rest::Words(rest)));
+    }
+    if let [b'd', b'r', b'o', b'p', b' ', rest @ ..] = text {
+        return add_spelled(commands, text, drop_spelled(Rest::Words(rest)));
+    }
+    if let [b'o', b'p', b'e', b'n', b' ', rest @ ..] = text {
+        return add_spelled(commands, text, open_spelled(Rest::Words(rest)));
+    }
+    if let [b'c', b'l', b'o', b's', b'e', b' ', rest @ ..] = text {
+        return add_spelled(commands, text, close_spelled(Rest::Words(rest)));
+    }
+    add_spelled(commands, text, entry_by_first_word(text))
+}
+
+/// Adds the command of the first line of a text, if it says one, and nothing where it is passed over. The lines after it;
+/// None where it is off the grammar, says a heap, or can't be kept.
+#[inline(always)]
+pub fn add_line<'a>(
+    commands: &mut Commands,
+    text: &'a [u8],
+) -> Result<Option<Option<&'a [u8]>>, AllocError>
+    requires few { length commands.old ≤ LONGEST_TEXT }
+    ensures added { IfOk result (λ found. IfSome found (λ _. with_line commands.old (line_of (first_line text.now)) ≡ Some commands.new)) }
+    ensures lines { IfOk result (λ found. IfSome found (λ after. lines_left after ≡ lines_after_first text.now)) }
+    ensures bad { IfOk result (λ found. IfNone found (with_line commands.old (line_of (first_line text.now)) ≡ None)) }
+{
+    if text.is_empty() {
+        return Ok(Some(None));
+    }
+    if text[0] == b'\n' {
+        return Ok(Some(Some(&text[1..])));
+    }
+    if text[0] == b'#' {
+        return add_read(commands, text, comment_first(text));
+    }
+    add_entry(commands, text)
+}
