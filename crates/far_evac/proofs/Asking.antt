@@ -23,13 +23,13 @@ use Rattle.far_evac.specs.AnyHand.{KnowsWalked, WalksTo}
 use Rattle.far_evac.specs.Asked.{AsksFirst, AsksSo, WalksAsking, first_live}
 use Rattle.far_evac.specs.Leaving.{AsksAs, fate_by, near_fate}
 use Rattle.far_evac.specs.Live.{live_among}
-use Rattle.far_evac.specs.Moment.{Moment, Tally}
+use Rattle.far_evac.specs.Moment.{Moment}
 use Rattle.far_evac.specs.Ready.{Ready}
 use Rattle.far_evac.specs.Walk.{Drops, Goes, Moves, Walked, Way, dealt_as, left, settled, way_of}
 use Rattle.far_evac.proofs.Bools.{neither}
 use Rattle.far_evac.proofs.Evacuations.{deals_more}
-use Rattle.far_evac.proofs.Given.{drop_next}
-use Rattle.far_evac.proofs.Orders.{walks_left}
+use Rattle.far_evac.proofs.SmallSteps.{drop_next}
+use Rattle.far_evac.proofs.SmallSteps.{walks_left}
 
 -- ---- lists
 all_parts : (P : ℕ → Type 0) (xs : List ℕ) (x : ℕ) → AllByRecursion P (xs ++ (x ∷ [])) → AllByRecursion P xs × P x
@@ -42,7 +42,7 @@ one_more n = omega arith
 -- the object that a walk deals with next is the one behind those that it has dealt with
 pub first_more : (m : Moment) (k : ℕ) (w : Walked) (p : ℕ) (rest : List ℕ) → Ready m.core m.held → WalksTo m k w → left w ≡ p ∷ rest → first_live m (k + 1) ≡ first_live m k ++ (p ∷ [])
 first_more m k w p rest ready walks is =
-    let next = drop_next k (live_among m.core m.held) p rest (sym (walks_left m k w ready walks).rests.left ∙ is) in
+    let next = drop_next k (live_among m.core m.held) p rest (sym (walks_left m k w ready walks).left ∙ is) in
     ap (λ n. take n (live_among m.core m.held)) (sym (one_more k)) ∙ next.2
 
 -- ---- keys

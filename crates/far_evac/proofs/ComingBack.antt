@@ -1,31 +1,21 @@
 -- Logs come back empty.
-use Rattle.std.proofs.Common.{◌≡◌, ℕ, suc, ◌+◌, ◌==◌, false, not, Option, Some, None, List, [], ◌∷◌, take, drop, arith, ap, refl, ◌∙◌, subst}
+use Rattle.std.proofs.Common.{◌≡◌, ℕ, suc, ◌+◌, false, not, List, [], ◌∷◌, take, drop, arith, ap, refl, ◌∙◌, subst}
 use Rattle.std.specs.List.{AllByRecursion}
 use Rattle.std.proofs.lemmas.Bool.{cond_both}
-use Rattle.far_word.specs.declared.pointer.Place.{Place}
-use Rattle.far_word.specs.declared.pointer.PtrWord.{PtrWord}
-use Rattle.far_word.specs.declared.pointer.PtrWord.TheVariants as pointer
-use Rattle.far_word.specs.declared.pointer.PtrWord.TheVariants.{Near, Far}
 use Rattle.far_word.specs.Pointer.{read_of}
 use Rattle.far_log.specs.Spans.{spans_in, taken_by}
-use Rattle.far_core.specs.declared.event.Event.TheVariants.{Name}
 use Rattle.far_core.specs.declared.event.Kind.TheVariants.{Free}
-use Rattle.far_core.specs.declared.naming.Naming.{Naming}
-use Rattle.far_core.specs.declared.naming.Naming.TheVariants.{Places, Retires, Evicts, Stays, Moves as moving, Fetches}
-use Rattle.far_core.specs.events.Copies.{data_at}
-use Rattle.far_core.specs.events.Name.{after_naming}
-use Rattle.far_core.specs.events.Naming.{naming_of, naming_row}
-use Rattle.far_core.specs.events.Step.{after}
 use Rattle.far_core.specs.state.Spans.{is_live, spans_of, word_in}
 use Rattle.far_core.specs.state.State.{State}
 use Rattle.far_core.proofs.Put.{put_both, put_same}
-use Rattle.far_book.specs.book.Effects.{evicted_of, far_word, moved_of, near_word, with_written_span}
 use Rattle.far_evac.specs.AnyHand.{FindsFirst, KnowsWalked, found_first}
 use Rattle.far_evac.specs.Emptied.{EmptiesLogs, IsEmptied, LogsComeBackEmpty}
 use Rattle.far_evac.specs.Live.{is_empty, live_in}
 use Rattle.far_evac.specs.Moment.{Moment}
-use Rattle.far_evac.specs.Walk.{Walked, Way, Drops, Goes, Moves, begun, dealt_so, freed, left, passed, settled, way_of}
+use Rattle.far_evac.specs.Walk.{Walked, begun, freed, left, passed, settled, way_of}
+use Rattle.far_evac.proofs.Framed.{passed_frame, so_one}
 use Rattle.far_evac.proofs.LiveOnce.{each_map}
+use Rattle.far_evac.proofs.SmallSteps.{dealt_is, gone_so}
 
 -- a log that is free, has tail 0, and isn't in the round, in parts
 record IsBare (s : State) (l : ℕ) : Type 0 where
@@ -84,45 +74,6 @@ passes (l ∷ ls) v = cond_both (is_empty (live_in v.moment.core l)) (passed (fr
     })
     (λ _. record { count = 0; counted = none_more v.tally.freed; held = refl; bare = tt })
 
-passed_epoch : (ls : List ℕ) (v : Walked) → (passed v ls).moment.core.epoch ≡ v.moment.core.epoch
-passed_epoch [] v = refl
-passed_epoch (l ∷ ls) v = cond_both (is_empty (live_in v.moment.core l)) (passed (freed v l) ls) (record v { moment = record v.moment { held = l ∷ ls } })
-    (λ (w : Walked). w.moment.core.epoch ≡ v.moment.core.epoch) (λ _. passed_epoch ls (freed v l)) (λ _. refl)
-
--- ---- a naming leaves the epoch
-row_epoch : (s : State) (p new : ℕ) (form : Naming) → (naming_row s p new form).after.epoch ≡ s.epoch
-row_epoch s p new (Places len ds place) = refl
-row_epoch s p new Retires = refl
-row_epoch s p new (Evicts len place) = refl
-row_epoch s p new Stays = refl
-row_epoch s p new (moving len ds from to) = refl
-row_epoch s p new (Fetches len ds place) = refl
-
-naming_epoch : (s : State) (p new : ℕ) (form : Option Naming) → (after_naming s p new form).epoch ≡ s.epoch
-naming_epoch s p new None = refl
-naming_epoch s p new (Some form) = row_epoch s p new form
-
-name_epoch : (s : State) (p old new : ℕ) → (after s (Name p old new)).epoch ≡ s.epoch
-name_epoch s p old new = cond_both (s.cell p == old) (after_naming s p new (naming_of (read_of old) (read_of new))) s (λ (t : State). t.epoch ≡ s.epoch)
-    (λ _. naming_epoch s p new (naming_of (read_of old) (read_of new))) (λ _. refl)
-
-evicted_epoch : (s : State) (p : ℕ) (cell : Option PtrWord) → (evicted_of s p cell).epoch ≡ s.epoch
-evicted_epoch s p None = refl
-evicted_epoch s p (Some pointer.Free) = refl
-evicted_epoch s p (Some (Near len ds place marks)) = name_epoch s p (s.cell p) (far_word len ds)
-evicted_epoch s p (Some (Far len ds marks)) = refl
-
-moved_epoch : (s : State) (p : ℕ) (place : Place) (cell : Option PtrWord) → (moved_of s p place cell).epoch ≡ s.epoch
-moved_epoch s p place None = refl
-moved_epoch s p place (Some pointer.Free) = refl
-moved_epoch s p place (Some (Near len ds from marks)) = name_epoch (with_written_span s p len ds place (data_at s.word from)) p (s.cell p) (near_word len ds place)
-moved_epoch s p place (Some (Far len ds marks)) = refl
-
-way_epoch : (u : Walked) (p : ℕ) (way : Way) → (dealt_so u p way).moment.core.epoch ≡ u.moment.core.epoch
-way_epoch u p Drops = refl
-way_epoch u p (Moves place) = moved_epoch u.moment.core p place (read_of (u.moment.core.cell p))
-way_epoch u p Goes = evicted_epoch u.moment.core p (read_of (u.moment.core.cell p))
-
 -- ---- as far as it is known
 bare_known : (w t : Walked) → KnowsWalked w t → (l : ℕ) → IsBare w.moment.core l → IsBare t.moment.core l
 bare_known w t known l bare = let e = known.moment.core.rest in record {
@@ -139,23 +90,14 @@ empties u v t held freed_same epoch known =
       held = ap (λ (x : Moment). x.held) known.moment.rest ∙ h.held ∙ ap (drop h.count) held;
       emptied = subst (λ xs. AllByRecursion (IsEmptied t.moment.core) (take h.count xs)) held
           (each_map (λ l bare. emptied_of t.moment.core l (bare_known (settled v) t known l bare)) (take h.count v.moment.held) h.bare);
-      epoch = ap (λ (s : State). s.epoch) known.moment.core.rest ∙ passed_epoch v.moment.held v ∙ epoch;
+      epoch = ap (λ (s : State). s.epoch) known.moment.core.rest ∙ ap (λ (w : Walked). w.moment.core.epoch) (passed_frame v.moment.held v) ∙ epoch;
     }
-
-way_held : (u : Walked) (p : ℕ) (way : Way) → (dealt_so u p way).moment.held ≡ u.moment.held
-way_held u p Drops = refl
-way_held u p (Moves place) = refl
-way_held u p Goes = refl
-
-way_freed : (u : Walked) (p : ℕ) (way : Way) → (dealt_so u p way).tally.freed ≡ u.tally.freed
-way_freed u p Drops = refl
-way_freed u p (Moves place) = refl
-way_freed u p Goes = refl
 
 dealt_empties : (u t : Walked) (word : ℕ) (ps : List ℕ) → FindsFirst u word ps → KnowsWalked (found_first u word ps) t → EmptiesLogs u t
 dealt_empties u t word [] finds leaves = absurd finds
 dealt_empties u t word (p ∷ ps) finds leaves =
-    let way = way_of u.moment.core (read_of word) in empties u (dealt_so u p way) t (way_held u p way) (way_freed u p way) (way_epoch u p way) leaves
+    let way = way_of u.moment.core (read_of word) in
+    empties u (gone_so u u.moment.held p way) t refl refl (ap (λ (s : State). s.epoch) (so_one u.moment.core p way).frame) (subst (λ v. KnowsWalked (settled v) t) (dealt_is u p way) leaves)
 
 pub come_back_empty : LogsComeBackEmpty
 come_back_empty m u t word = record {

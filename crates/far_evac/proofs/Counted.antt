@@ -16,9 +16,8 @@ use Rattle.far_evac.specs.Marking.{after_marking, leaves_some, marked_core, newl
 use Rattle.far_evac.specs.Moment.{Moment}
 use Rattle.far_evac.specs.RoundSteps.{advanced, among}
 use Rattle.far_evac.proofs.Lacking.{Once, left_to, once_among, once_filter}
-use Rattle.far_evac.proofs.LeadingMarks.{marks_cells}
+use Rattle.far_evac.proofs.Marks.{marks_cells, all_filter, all_take}
 use Rattle.far_evac.proofs.LiveOnce.{each_map}
-use Rattle.far_evac.proofs.Marks.{all_filter, all_take}
 
 -- ---- lists
 pub each_member : (xs : List ℕ) → AllByRecursion (λ x. Contains xs x) xs

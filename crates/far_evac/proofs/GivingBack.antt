@@ -21,7 +21,7 @@ use Rattle.far_evac.specs.Live.{is_empty}
 use Rattle.far_evac.specs.MomentLaw.{has_risen, is_idle}
 use Rattle.far_evac.specs.RoundSteps.{among}
 use Rattle.far_evac.specs.Standing.{InRound, held_in, held_of}
-use Rattle.far_evac.proofs.Given.{drop_next}
+use Rattle.far_evac.proofs.SmallSteps.{drop_next}
 use Rattle.far_evac.proofs.Hands.{knows_forgotten}
 use Rattle.far_evac.proofs.Standings.{idle_round}
 use Rattle.far_evac.proofs.Tours.{others}

@@ -10,7 +10,7 @@ use Rattle.far_evac.specs.Moment.{Moment}
 use Rattle.far_evac.specs.Ready.{Ready}
 use Rattle.far_evac.specs.Walk.{Walked}
 use Rattle.far_evac.proofs.Given.{gives_back}
-use Rattle.far_evac.proofs.Orders.{walks_left}
+use Rattle.far_evac.proofs.SmallSteps.{walks_left}
 use Rattle.far_evac.proofs.Subjects.{deals_with}
 use Rattle.far_evac.proofs.Tallies.{tallies_all}
 
@@ -28,12 +28,12 @@ begun_live s (l ∷ ls) begins none = absurd (false≢true (sym begins ∙ empty
 pub in_order : (m : Moment) (k : ℕ) (t : Walked) → Ready m.core m.held → WalksTo m k t → DealtInOrder m k t
 in_order m k t ready walks =
     let h = walks_left m k t ready walks in record {
-      left = h.rests.left;
+      left = h.left;
       enough = h.enough;
       deals = deals_with m k t ready walks;
       counted = tallies_all m k t walks;
-      begins = h.rests.begins;
-      done = λ e. begun_live t.moment.core t.moment.held h.rests.begins (h.rests.left ∙ ap (λ n. drop n (live_among m.core m.held)) e ∙ none_dropped (live_among m.core m.held));
+      begins = h.begins;
+      done = λ e. begun_live t.moment.core t.moment.held h.begins (h.left ∙ ap (λ n. drop n (live_among m.core m.held)) e ∙ none_dropped (live_among m.core m.held));
       gives = gives_back m k t ready walks;
-      ready = h.rests.ready;
+      ready = h.ready;
     }

@@ -38,12 +38,12 @@ use Rattle.far_evac.specs.RoundSteps.{among, unmarked}
 use Rattle.far_evac.specs.Standing.{MarkedAmong}
 use Rattle.far_evac.proofs.Changing.{marked_fits, marked_known}
 use Rattle.far_evac.proofs.Fronts.{kept_in}
-use Rattle.far_evac.proofs.Given.{drop_next}
+use Rattle.far_evac.proofs.SmallSteps.{drop_next}
 use Rattle.far_evac.proofs.Hands.{knows_more}
 use Rattle.far_evac.proofs.LiveOnce.{LivesIn, all_append, apart, behind, but, but_first, each_map, live_named, near_at, not_there}
 use Rattle.far_evac.proofs.Marks.{IsNearWord, all_filter, all_near, clear_sets, live_near, mark_sets}
 use Rattle.far_evac.proofs.Onward.{or_split}
-use Rattle.far_evac.proofs.Orders.{left_known}
+use Rattle.far_evac.proofs.SmallSteps.{left_known}
 use Rattle.far_evac.proofs.Passing.{alive, listed}
 use Rattle.far_evac.proofs.Bools.{or_left, or_right}
 

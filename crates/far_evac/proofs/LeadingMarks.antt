@@ -1,6 +1,5 @@
 -- Marking leads by legal events: each mark is one, and where no object lacks EVAC the epoch rises by one more.
 use Rattle.std.proofs.Common.{◌≡◌, ℕ, ◌+◌, ◌*◌, ◌^◌, ◌%◌, ◌<◌, ◌≤◌, ◌==◌, ◌||◌, ◌&&◌, true, false, not, eqb, nat_lt, Some, List, [], ◌∷◌, length, bit_or, arith, ap, sym, refl, ◌∙◌, subst}
-use Rattle.std.specs.Prelude.{fold}
 use Rattle.std.proofs.lemmas.Bool.{cond_both, eq-eqb, false≢true}
 use Rattle.std.proofs.lemmas.Bool.Decides.{nat_tests}
 use Rattle.std.proofs.lemmas.List.{drop_all}
@@ -38,6 +37,7 @@ use Rattle.far_evac.proofs.LiveOnce.{LivesIn, near_at}
 use Rattle.far_evac.proofs.Lacking.{each_has, left_to}
 use Rattle.far_evac.proofs.LogBits.{with_log}
 use Rattle.far_evac.proofs.Marks.{all_filter, all_take}
+pub use Rattle.far_evac.proofs.Marks.{marks_cells}
 use Rattle.far_evac.proofs.Onward.{sealed_inside}
 use Rattle.far_evac.proofs.Readiness.{round_is_event}
 use Rattle.far_evac.proofs.Bools.{or_left, or_right}
@@ -58,11 +58,6 @@ still_sealed s law p q (range, (len, ds, place, marks, near, log, shut)) (inside
   put_both (λ w. (n d : ℕ) × (at : Place) × (k : Marks) × (read_of w ≡ Some (Near n d at k)) × (at.log < s.logs) × (s.kind at.log ≡ kinds.Sealed)) s.cell p (bit_or (s.cell p) (2 ^ position Evac)) q
       (λ _. (len, ds, place, marks_with Evac marks, with_mark_read Evac (s.cell p) (Near len ds place marks) (law.cells.cell_read p).0 near refl, log, shut)) (λ _. (n, d, at, k, is, there, sealed)),
 )
-
--- cells alone change
-pub marks_cells : (ps : List ℕ) (s : State) → fold marked s ps ≡ record s { cell = (fold marked s ps).cell }
-marks_cells [] s = refl
-marks_cells (p ∷ ps) s = marks_cells ps (marked s p)
 
 -- ---- some logs as the bits of a number
 abbrev bits_of : List ℕ → ℕ

@@ -1,13 +1,15 @@
 -- A walk leads by legal events: each object that it deals with is moved, sent far or retired by one call's, and each log that it gives back by one.
-use Rattle.std.proofs.Common.{◌≡◌, ◌≢◌, ℕ, zero, suc, ◌*◌, ◌/◌, ◌<◌, ◌≤◌, ◌==◌, ◌||◌, ◌&&◌, Bool, true, false, cond, not, eqb, Option, Some, None, List, [], ◌∷◌, ◌++◌, inl, inr, arith, ap, sym, refl, ◌∙◌, subst}
+use Rattle.std.proofs.Common.{◌≡◌, ◌≢◌, ℕ, ◌*◌, ◌/◌, ◌<◌, ◌≤◌, ◌==◌, ◌||◌, ◌&&◌, Bool, true, false, cond, not, eqb, Option, Some, None, List, [], ◌∷◌, ◌++◌, length, inl, inr, arith, ap, sym, refl, ◌∙◌, subst}
 use Rattle.std.specs.Cmp.{nat_eq_equiv}
 use Rattle.std.specs.List.{AllByRecursion, IsDistinct}
 use Rattle.std.proofs.Math.Bool.{or-false}
-use Rattle.std.proofs.lemmas.Bool.{cases_eq, cond_both, eq-eqb, eqb-false, eqb-true, false≢true, ne_eqb, true≢false}
+use Rattle.std.proofs.lemmas.Bool.{cases_eq, cond_both, eq-eqb, eqb-false, eqb-true, false≢true, ne_eqb}
 use Rattle.std.proofs.lemmas.List.Folds.{list_any-append}
 use Rattle.std.proofs.lemmas.Map.Keys.{IsDistinct-push}
 use Rattle.std.proofs.lemmas.Map.Views.{any-filter_same}
+use Rattle.far_word.specs.declared.mark.Marks.{Marks}
 use Rattle.far_word.specs.declared.pointer.Place.{Place}
+use Rattle.far_word.specs.declared.pointer.PtrWord.TheVariants.{Near}
 use Rattle.far_word.specs.declared.sizes.TheConstants.{CELLS, LOG_WORDS}
 use Rattle.far_word.specs.Pointer.{read_of}
 use Rattle.far_word.specs.Sizes.{size_of}
@@ -24,11 +26,11 @@ use Rattle.far_core.specs.state.State.{State}
 use Rattle.far_core.proofs.Put.{put_other, put_same}
 use Rattle.far_core.proofs.RoomLaws.{room_right}
 use Rattle.far_hand.specs.Quiet.{is_quiet}
-use Rattle.far_book.specs.book.Effects.{evicted, moved, order_after, with_free_cell}
+use Rattle.far_book.specs.book.Effects.{moved, order_after}
 use Rattle.far_book.specs.book.Laws.{IsMoved}
 use Rattle.far_book.specs.book.Reached.{Reached}
 use Rattle.far_book.specs.book.Releasing.{order_without, released}
-use Rattle.far_book.specs.book.SealedLogs.{KeepsSealed, SealedLogsStay}
+use Rattle.far_book.specs.book.SealedLogs.{KeepsSealed}
 use Rattle.far_book.proofs.region.EvictingLaw.{evicting}
 use Rattle.far_book.proofs.region.MovesReached.{moving}
 use Rattle.far_book.proofs.region.Owns.{own_law}
@@ -37,24 +39,24 @@ use Rattle.far_book.proofs.region.Retires.{retired_is}
 use Rattle.far_book.proofs.region.SealedKept.{sealed_logs_stay}
 use Rattle.far_evac.specs.declared.phase.Phase.{Phase}
 use Rattle.far_evac.specs.declared.phase.Phase.TheVariants.{Evacuating, Idle}
-use Rattle.far_evac.specs.Dealings.{BeginsLive}
+use Rattle.far_evac.specs.Leaving.{order_by}
 use Rattle.far_evac.specs.Leading.{Leads, WalkingLeads}
 use Rattle.far_evac.specs.Live.{is_empty, live_among, live_in}
-use Rattle.far_evac.specs.Moment.{Moment, Tally}
+use Rattle.far_evac.specs.Moment.{Moment}
 use Rattle.far_evac.specs.MomentLaw.{MomentLaw, has_risen, is_idle}
 use Rattle.far_evac.specs.Owned.{KeepsObjects, WalkingKeepsObjects}
 use Rattle.far_evac.specs.Ready.{IsHeld, Ready}
 use Rattle.far_evac.specs.RoundSteps.{among}
-use Rattle.far_evac.specs.Walk.{Drops, Goes, Moves, Walked, Way, begun, dealt_first, dealt_so, ended, freed, hot_way, is_done, left, passed, settled, walked, way_of}
+use Rattle.far_evac.specs.Walk.{Drops, Goes, Moves, Walked, Way, begun, ended, freed, hot_way, is_done, walked, way_of}
 use Rattle.far_evac.proofs.Fronts.{vacant_in}
 use Rattle.far_evac.proofs.KeptObjects.{evicted_objects, freed_objects, moved_objects, objects_more, objects_none, released_objects}
 use Rattle.far_evac.proofs.Leading.{in_heap, reached_none}
 use Rattle.far_evac.proofs.LiveOnce.{NearAt, first_named, near_at}
 use Rattle.far_evac.proofs.Marks.{all_filter}
 use Rattle.far_evac.proofs.Onward.{sealed_inside}
-use Rattle.far_evac.proofs.Orders.{none_there, passed_rests}
 use Rattle.far_evac.proofs.Readiness.{risen_is_ready}
-use Rattle.far_evac.proofs.Tours.{core_so, first_live, goes_when, leaves_so, moves_when, ready_released, stand}
+use Rattle.far_evac.proofs.SmallSteps.{GoesFirst, Keeps, Stands, first_way, gone_so, holding, lifted_walked, none_there}
+use Rattle.far_evac.proofs.Tours.{core_so, goes_when, moves_when}
 use Rattle.far_evac.proofs.Bools.{or_right}
 
 -- ---- lists
@@ -77,23 +79,21 @@ pub record GoesOn (m : Moment) (s : State) (order : List ℕ) (phase : Phase) (h
   law : Law s
   has_sealed : (l : ℕ) → among order l ≡ is_sealed (s.kind l)
   once : IsDistinct eqb order
-  ready : Ready s held
   only : (l : ℕ) → s.round l ≡ true → among held l ≡ true
   clear : (k : ℕ) → k < s.mutators → s.clear k ≡ true
   leaves : phase ≡ Evacuating
   objects : KeepsObjects m.core s
 
-pub record Walks (m : Moment) (w : Walked) : Type 0 where
-  goes : GoesOn m w.moment.core w.moment.order w.moment.phase w.moment.held
-  begins : BeginsLive w.moment.core w.moment.held
+abbrev pub GoesOf : Moment → Walked → Type 0
+GoesOf m w = GoesOn m w.moment.core w.moment.order w.moment.phase w.moment.held
 
 -- ---- the log in front is given back
-module _ (m : Moment) (s : State) (order : List ℕ) (phase : Phase) (l : ℕ) (ls : List ℕ) (h : GoesOn m s order phase (l ∷ ls)) (none : is_empty (live_in s l) ≡ true) where
+module _ (m : Moment) (s : State) (order : List ℕ) (phase : Phase) (l : ℕ) (ls : List ℕ) (ready : Ready s (l ∷ ls)) (h : GoesOn m s order phase (l ∷ ls)) (none : is_empty (live_in s l) ≡ true) where
   vacant : IsVacant s l
   vacant = vacant_in s (own_law s h.law) l 0 (λ p len ds place marks near log. omega arith) (none_there (live_in s l) none)
 
   shut : s.kind l ≡ kinds.Sealed
-  shut = h.ready.logs.0.0
+  shut = ready.logs.0.0
 
   way_back : Reached s (released s l)
   way_back = reached_one s (Get l 0 true) (sealed_inside s (own_law s h.law) l shut, omega arith, (shut, vacant)) tt tt
@@ -107,7 +107,6 @@ module _ (m : Moment) (s : State) (order : List ℕ) (phase : Phase) (l : ℕ) (
       | inr ne ↦ any-filter_same (eqb k) (λ j. not (j == l)) true (λ j g. ap not (ne_eqb j l (λ is. ne (eqb-true k j g ∙ is)))) order ∙ h.has_sealed k ∙ ap is_sealed (sym (put_other s.kind l kinds.Free k ne))
     ];
     once = once_without l order h.once;
-    ready = ready_released s l ls h.ready;
     only = λ k is. elim (cases_eq k l) [
       | inl e ↦ absurd (false≢true (sym (put_same s.round l false k e) ∙ is))
       | inr ne ↦ sym (ap (λ b. b || among ls k) (ne_eqb k l ne)) ∙ h.only k (sym (put_other s.round l false k ne) ∙ is)
@@ -116,16 +115,6 @@ module _ (m : Moment) (s : State) (order : List ℕ) (phase : Phase) (l : ℕ) (
     leaves = h.leaves;
     objects = objects_more m.core s (released s l) h.objects (released_objects s l);
   }
-
-passed_goes : (m : Moment) (ls : List ℕ) (v : Walked) → GoesOn m v.moment.core v.moment.order v.moment.phase ls →
-    GoesOn m (passed v ls).moment.core (passed v ls).moment.order (passed v ls).moment.phase (passed v ls).moment.held
-passed_goes m [] v h = h
-passed_goes m (l ∷ ls) v h = cond_both (is_empty (live_in v.moment.core l)) (passed (freed v l) ls) (record v { moment = record v.moment { held = l ∷ ls } })
-    (λ (w : Walked). GoesOn m w.moment.core w.moment.order w.moment.phase w.moment.held)
-    (λ none. passed_goes m ls (freed v l) (released_on m v.moment.core v.moment.order v.moment.phase l ls h none)) (λ _. h)
-
-passed_on : (m : Moment) (ls : List ℕ) (v : Walked) → GoesOn m v.moment.core v.moment.order v.moment.phase ls → Walks m (passed v ls)
-passed_on m ls v h = record { goes = passed_goes m ls v h; begins = (passed_rests ls v h.ready).begins }
 
 -- ---- an object is dealt with
 drops_when : (dropped hot : Bool) (o : Option Place) → cond dropped Drops (cond hot (hot_way o) Goes) ≡ Drops → dropped ≡ true
@@ -169,15 +158,29 @@ module _ (s t : State) (law : Law s) (order : List ℕ) (has_sealed : (l : ℕ) 
   once_after once = cond_both (to.log == s.current) order (order ++ s.current ∷ []) (IsDistinct eqb)
       (λ _. once) (λ _. IsDistinct-push nat_eq_equiv order s.current once (has_sealed s.current ∙ ap is_sealed law.logs.is_open))
 
-module _ (m : Moment) (s : State) (order : List ℕ) (phase : Phase) (l : ℕ) (ls : List ℕ) (h : GoesOn m s order phase (l ∷ ls)) (p : ℕ) (ps : List ℕ) (first : live_in s l ≡ p ∷ ps) where
-  at_home : NearAt (read_of (s.cell p)) l (first_named s l p ps first).0
-  at_home = near_at (read_of (s.cell p)) l (first_named s l p ps first).0 (first_named s l p ps first).1
+-- what its cell says of an object that goes its way; the round lets it go
+pub record GoesLawfully (s : State) (l p : ℕ) (way : Way) : Type 0 where
+  pub law : Law s
+  pub len : ℕ
+  pub ds : ℕ
+  pub place : Place
+  pub marks : Marks
+  pub near : read_of (s.cell p) ≡ Some (Near len ds place marks)
+  pub log : place.log ≡ l
+  pub evac : marks.evac ≡ true
+  pub pointer : p < CELLS * s.mutators
+  pub quiet : is_quiet s.round s.clear p place marks ≡ true
+  pub is : cond marks.dropped Drops (cond marks.hot (hot_way (room s (size_of len) false)) Goes) ≡ way
+
+module _ {m : Moment} {k : ℕ} {s : State} {l : ℕ} {ls : List ℕ} {p : ℕ} {ps : List ℕ} {way : Way} (first : GoesFirst true m k s l ls p ps way) (order : List ℕ) (phase : Phase) (h : GoesOn m s order phase (l ∷ ls)) where
+  at_home : NearAt (read_of (s.cell p)) l (first_named s l p ps first.live).0
+  at_home = near_at (read_of (s.cell p)) l (first_named s l p ps first.live).0 (first_named s l p ps first.live).1
 
   marked : at_home.marks.evac ≡ true
-  marked = h.ready.logs.0.1 p at_home.len at_home.ds at_home.place at_home.marks at_home.near at_home.log
+  marked = first.ready.logs.0.1 p at_home.len at_home.ds at_home.place at_home.marks at_home.near at_home.log
 
   in_round : s.round at_home.place.log ≡ true
-  in_round = ap s.round at_home.log ∙ h.ready.logs.0.2
+  in_round = ap s.round at_home.log ∙ first.ready.logs.0.2
 
   pointer : p < CELLS * s.mutators
   pointer = in_heap s h.law p at_home.len at_home.ds at_home.place at_home.marks at_home.near
@@ -185,99 +188,91 @@ module _ (m : Moment) (s : State) (order : List ℕ) (phase : Phase) (l : ℕ) (
   seen : s.clear (p / CELLS) ≡ true
   seen = h.clear (p / CELLS) (omega (arith, pointer))
 
-  quiet : is_quiet s.round s.clear p at_home.place at_home.marks ≡ true
-  quiet = or_right at_home.marks.moved (at_home.marks.evac && s.round at_home.place.log && s.clear (p / CELLS)) (rw (marked, in_round, seen) refl)
+  pub goes_lawfully : GoesLawfully s l p way
+  goes_lawfully = record {
+    law = h.law;
+    len = at_home.len;
+    ds = at_home.ds;
+    place = at_home.place;
+    marks = at_home.marks;
+    near = at_home.near;
+    log = at_home.log;
+    evac = marked;
+    pointer = pointer;
+    quiet = or_right at_home.marks.moved (at_home.marks.evac && s.round at_home.place.log && s.clear (p / CELLS)) (rw (marked, in_round, seen) refl);
+    is = sym (ap (way_of s) at_home.near) ∙ first_way first;
+  }
 
-  stay : SealedLogsStay s p at_home.len at_home.ds
-  stay = sealed_logs_stay s p at_home.len at_home.ds (own_law s h.law)
-
-  abbrev WayIs : Way → Type 0
-  WayIs way = way_of s (read_of (s.cell p)) ≡ way
-
-  -- the way, by what its cell says
-  by_cell : (way : Way) → WayIs way → cond at_home.marks.dropped Drops (cond at_home.marks.hot (hot_way (room s (size_of at_home.len) false)) Goes) ≡ way
-  by_cell way is = sym (ap (way_of s) at_home.near) ∙ is
-
-  next_on : (way : Way) → WayIs way → (now : List ℕ) → Reached s (core_so s p way) → ((k : ℕ) → among now k ≡ is_sealed ((core_so s p way).kind k)) → IsDistinct eqb now → KeepsSealed s (core_so s p way) → KeepsObjects s (core_so s p way) →
+module _ (m : Moment) (s : State) (order : List ℕ) (phase : Phase) (l : ℕ) (ls : List ℕ) (h : GoesOn m s order phase (l ∷ ls)) (ready : Ready s (l ∷ ls)) (p : ℕ) where
+  next_on : (way : Way) → (now : List ℕ) → GoesLawfully s l p way → Reached s (core_so s p way) → ((k : ℕ) → among now k ≡ is_sealed ((core_so s p way).kind k)) → IsDistinct eqb now → KeepsSealed s (core_so s p way) → KeepsObjects s (core_so s p way) →
       GoesOn m (core_so s p way) now phase (l ∷ ls)
-  next_on way is now reached has_sealed once keeps objects = record {
+  next_on way now x reached has_sealed once keeps objects = record {
     reached = reached_more m.core s (core_so s p way) h.reached reached;
     law = reached_law s (core_so s p way) h.law reached;
     has_sealed = has_sealed;
     once = once;
-    ready = (leaves_so s l ls p ps h.ready first way is).ready;
     only = λ k in_it. h.only k (sym (ap (λ (round : ℕ → Bool). round k) keeps.round) ∙ in_it);
     clear = λ k lt. ap (λ clear. clear k) keeps.clear ∙ h.clear k (subst (λ n. k < n) keeps.mutators lt);
     leaves = h.leaves;
     objects = objects_more m.core s (core_so s p way) h.objects objects;
   }
 
-  drops_on : WayIs Drops → GoesOn m (with_free_cell s p) order phase (l ∷ ls)
-  drops_on is =
-      let dropped : is_dropped (read_of (s.cell p)) ≡ true = ap is_dropped at_home.near ∙ drops_when at_home.marks.dropped at_home.marks.hot (room s (size_of at_home.len) false) (by_cell Drops is) in
-      next_on Drops is order (subst (Reached s) (retired_is s p dropped) (retiring s p h.law pointer dropped).0) h.has_sealed h.once stay.ends (freed_objects s p dropped)
+  goes_on : (way : Way) → GoesLawfully s l p way → GoesOn m (core_so s p way) (order_by s order way) phase (l ∷ ls)
+  goes_on Drops x =
+      let dropped : is_dropped (read_of (s.cell p)) ≡ true = ap is_dropped x.near ∙ drops_when x.marks.dropped x.marks.hot (room s (size_of x.len) false) x.is in
+      next_on Drops order x (subst (Reached s) (retired_is s p dropped) (retiring s p h.law x.pointer dropped).0) h.has_sealed h.once (sealed_logs_stay s p x.len x.ds (own_law s h.law)).ends (freed_objects s p dropped)
+  goes_on (Moves to) x =
+      let why = moves_when x.marks.dropped x.marks.hot (room s (size_of x.len) false) to x.is in
+      let way = moving s p x.len x.ds x.place to x.marks h.law x.near x.quiet why.0 x.evac why.1 in
+      let short : size_of x.len ≤ LOG_WORDS = (let layout = ready.layout p x.len x.ds x.place x.marks x.near in omega (arith, layout.4)) in
+      let is_room : IsRoom s (size_of x.len) false to = subst (RoomIs s (size_of x.len) false) why.1 (room_right s h.law (size_of x.len) false short) in
+      next_on (Moves to) (order_after s order to) x way.0
+      (sealed_after s (moved s p to) h.law order h.has_sealed p x.len x.ds x.place to is_room.next way.3)
+      (once_after s (moved s p to) h.law order h.has_sealed p x.len x.ds x.place to is_room.next way.3 h.once)
+      ((sealed_logs_stay s p x.len x.ds (own_law s h.law)).moves x.place to x.marks x.near x.evac why.0 why.1)
+      (moved_objects s p x.len x.ds x.place to x.marks h.law x.near x.quiet why.0 x.evac why.1)
+  goes_on Goes x =
+      let alive = goes_when x.marks.dropped x.marks.hot (room s (size_of x.len) false) x.is in
+      let way = evicting s p x.len x.ds x.place x.marks h.law x.pointer x.near x.quiet x.evac alive in
+      next_on Goes order x way.0 (λ k. h.has_sealed k ∙ ap is_sealed (sym (way.3.kinds k))) h.once ((sealed_logs_stay s p x.len x.ds (own_law s h.law)).goes x.place x.marks x.near x.evac alive)
+      (evicted_objects s p x.len x.ds x.place x.marks h.law x.pointer x.near x.quiet x.evac alive)
 
-  moves_on : (to : Place) → WayIs (Moves to) → GoesOn m (moved s p to) (order_after s order to) phase (l ∷ ls)
-  moves_on to is =
-      let why = moves_when at_home.marks.dropped at_home.marks.hot (room s (size_of at_home.len) false) to (by_cell (Moves to) is) in
-      let way = moving s p at_home.len at_home.ds at_home.place to at_home.marks h.law at_home.near quiet why.0 marked why.1 in
-      let short : size_of at_home.len ≤ LOG_WORDS = (let layout = h.ready.layout p at_home.len at_home.ds at_home.place at_home.marks at_home.near in omega (arith, layout.4)) in
-      let is_room : IsRoom s (size_of at_home.len) false to = subst (RoomIs s (size_of at_home.len) false) why.1 (room_right s h.law (size_of at_home.len) false short) in
-      next_on (Moves to) is (order_after s order to) way.0
-      (sealed_after s (moved s p to) h.law order h.has_sealed p at_home.len at_home.ds at_home.place to is_room.next way.3)
-      (once_after s (moved s p to) h.law order h.has_sealed p at_home.len at_home.ds at_home.place to is_room.next way.3 h.once)
-      (stay.moves at_home.place to at_home.marks at_home.near marked why.0 why.1)
-      (moved_objects s p at_home.len at_home.ds at_home.place to at_home.marks h.law at_home.near quiet why.0 marked why.1)
+-- ---- what each small step keeps, where the law holds, a walk keeps
+pub record KeepsLawfully (P : Walked → Type 0) : Type 0 where
+  pub gives : (w : Walked) (l : ℕ) (ls : List ℕ) → P (holding w (l ∷ ls)) → P (holding (freed w l) ls)
+  pub deals : (w : Walked) (l : ℕ) (ls : List ℕ) (p : ℕ) (way : Way) → Ready w.moment.core (l ∷ ls) → GoesLawfully w.moment.core l p way → P (holding w (l ∷ ls)) → P (gone_so w (l ∷ ls) p way)
 
-  goes_on : WayIs Goes → GoesOn m (evicted s p) order phase (l ∷ ls)
-  goes_on is =
-      let alive = goes_when at_home.marks.dropped at_home.marks.hot (room s (size_of at_home.len) false) (by_cell Goes is) in
-      let way = evicting s p at_home.len at_home.ds at_home.place at_home.marks h.law pointer at_home.near quiet marked alive in
-      next_on Goes is order way.0 (λ k. h.has_sealed k ∙ ap is_sealed (sym (way.3.kinds k))) h.once (stay.goes at_home.place at_home.marks at_home.near marked alive)
-      (evicted_objects s p at_home.len at_home.ds at_home.place at_home.marks h.law pointer at_home.near quiet marked alive)
+module _ (m : Moment) (P : Walked → Type 0) (keeps : KeepsLawfully P) where
+  keeps_on : Keeps true m (λ k w. GoesOf m w × P w)
+  keeps_on = record {
+    learns = tt;
+    gives = λ k w l ls ready none h. (released_on m w.moment.core w.moment.order w.moment.phase l ls ready h.0 none, keeps.gives w l ls h.1);
+    deals = λ k w l ls p ps way first h. let x = goes_lawfully first w.moment.order w.moment.phase h.0 in
+        (goes_on m w.moment.core w.moment.order w.moment.phase l ls h.0 first.ready p way x, keeps.deals w l ls p way first.ready x h.1);
+  }
 
-  dealt_on : (tally : Tally) (way : Way) → WayIs way → Walks m (settled (dealt_so (stand s order phase (l ∷ ls) tally) p way))
-  dealt_on tally Drops is = passed_on m (l ∷ ls) (dealt_so (stand s order phase (l ∷ ls) tally) p Drops) (drops_on is)
-  dealt_on tally (Moves to) is = passed_on m (l ∷ ls) (dealt_so (stand s order phase (l ∷ ls) tally) p (Moves to)) (moves_on to is)
-  dealt_on tally Goes is = passed_on m (l ∷ ls) (dealt_so (stand s order phase (l ∷ ls) tally) p Goes) (goes_on is)
+  pub lifted_lawfully : Law m.core → MomentLaw m → m.phase ≡ Evacuating → P (begun m) → (n : ℕ) → (k : ℕ) × (n ≤ length (live_among m.core m.held) → k ≡ n) × Stands m (λ k w. GoesOf m w × P w) k (walked m n)
+  lifted_lawfully law moment leaves h = lifted_walked m (λ k w. GoesOf m w × P w) keeps_on (risen_is_ready m (own_law m.core law) moment (ap has_risen leaves)) (begun_on, h) where
+    begun_on : GoesOn m m.core m.order m.phase m.held
+    begun_on = record {
+      reached = reached_none m.core;
+      law = law;
+      has_sealed = moment.order;
+      once = moment.order_once;
+      only = moment.only (ap has_risen leaves);
+      clear = moment.clear leaves;
+      leaves = leaves;
+      objects = objects_none m.core;
+    }
 
--- the first that is left is the first of the log in front
-front_on : (m : Moment) (s : State) (order : List ℕ) (phase : Phase) (tally : Tally) (held : List ℕ) (p : ℕ) (rest live : List ℕ) → GoesOn m s order phase held → BeginsLive s held →
-    live_among s held ≡ p ∷ rest → first_live s held ≡ live → Walks m (settled (dealt_so (stand s order phase held tally) p (way_of s (read_of (s.cell p)))))
-front_on m s order phase tally [] p rest live h begins is front = absurd cc
-front_on m s order phase tally (l ∷ ls) p rest [] h begins is front = absurd (true≢false (sym (ap is_empty front) ∙ begins))
-front_on m s order phase tally (l ∷ ls) p rest (q ∷ qs) h begins is front =
-    let both : q ∷ (qs ++ live_among s ls) ≡ p ∷ rest = sym (ap (λ xs. xs ++ live_among s ls) front) ∙ is in
-    let same : q ≡ p = cc in
-    dealt_on m s order phase l ls h p qs (front ∙ ap (λ x. x ∷ qs) same) tally (way_of s (read_of (s.cell p))) refl
-
-first_on : (m : Moment) (w : Walked) (xs : List ℕ) → left w ≡ xs → Walks m w → Walks m (dealt_first w xs)
-first_on m w [] is h = h
-first_on m w (p ∷ ps) is h =
-    front_on m w.moment.core w.moment.order w.moment.phase w.tally w.moment.held p ps (first_live w.moment.core w.moment.held) h.goes h.begins is refl
-
--- ---- object after object
-begun_on : (m : Moment) → Law m.core → MomentLaw m → m.phase ≡ Evacuating → GoesOn m m.core m.order m.phase m.held
-begun_on m law moment leaves = record {
-  reached = reached_none m.core;
-  law = law;
-  has_sealed = moment.order;
-  once = moment.order_once;
-  ready = risen_is_ready m (own_law m.core law) moment (ap has_risen leaves);
-  only = moment.only (ap has_risen leaves);
-  clear = moment.clear leaves;
-  leaves = leaves;
-  objects = objects_none m.core;
-}
-
-walks_on : (m : Moment) (n : ℕ) → Law m.core → MomentLaw m → m.phase ≡ Evacuating → Walks m (walked m n)
-walks_on m zero law moment leaves = passed_on m m.held (begun m) (begun_on m law moment leaves)
-walks_on m (suc n) law moment leaves = first_on m (walked m n) (left (walked m n)) refl (walks_on m n law moment leaves)
+walks_on : (m : Moment) (n : ℕ) → Law m.core → MomentLaw m → m.phase ≡ Evacuating → Ready (walked m n).moment.core (walked m n).moment.held × GoesOf m (walked m n)
+walks_on m n law moment leaves =
+    let h = (lifted_lawfully m (λ w. Unit {0}) record { gives = λ w l ls h. tt; deals = λ w l ls p way ready x h. tt } law moment leaves tt n).2 in (h.ready, h.keeps.0)
 
 -- ---- what a call leaves
-module _ (m : Moment) (w : Walked) (h : GoesOn m w.moment.core w.moment.order w.moment.phase w.moment.held) where
+module _ (m : Moment) (w : Walked) (ready : Ready w.moment.core w.moment.held) (h : GoesOf m w) where
   held_sealed : (l : ℕ) → among w.moment.held l ≡ true → w.moment.core.kind l ≡ kinds.Sealed
-  held_sealed l member = (of_among (IsHeld w.moment.core) w.moment.held h.ready.logs l member).0
+  held_sealed l member = (of_among (IsHeld w.moment.core) w.moment.held ready.logs l member).0
 
   midst_leads : is_done w ≡ false → Leads m w.moment
   midst_leads some = record {
@@ -287,9 +282,9 @@ module _ (m : Moment) (w : Walked) (h : GoesOn m w.moment.core w.moment.order w.
       order = h.has_sealed;
       order_once = h.once;
       sealed = held_sealed;
-      held_once = h.ready.once;
+      held_once = ready.once;
       runs = some ∙ sym (ap is_idle h.leaves);
-      round = λ _ l member. (of_among (IsHeld w.moment.core) w.moment.held h.ready.logs l member).2;
+      round = λ _ l member. (of_among (IsHeld w.moment.core) w.moment.held ready.logs l member).2;
       only = λ _. h.only;
       clear = λ _. h.clear;
       later = λ marks. absurd (false≢true (sym (ap has_risen marks) ∙ ap has_risen h.leaves));
@@ -304,9 +299,9 @@ module _ (m : Moment) (w : Walked) (h : GoesOn m w.moment.core w.moment.order w.
       order = h.has_sealed;
       order_once = h.once;
       sealed = held_sealed;
-      held_once = h.ready.once;
+      held_once = ready.once;
       runs = done;
-      round = λ _ l member. (of_among (IsHeld w.moment.core) w.moment.held h.ready.logs l member).2;
+      round = λ _ l member. (of_among (IsHeld w.moment.core) w.moment.held ready.logs l member).2;
       only = λ _. h.only;
       clear = λ leaves. absurd cc;
       later = λ marks. absurd cc;
@@ -318,16 +313,15 @@ module _ (m : Moment) (w : Walked) (h : GoesOn m w.moment.core w.moment.order w.
 
 pub walking : WalkingLeads
 walking m n law moment leaves =
-    let h = (walks_on m n law moment leaves).goes in
-    record { midst = midst_leads m (walked m n) h; answer = answer_leads m (walked m n) h }
+    let (ready, h) = walks_on m n law moment leaves in record { midst = midst_leads m (walked m n) ready h; answer = answer_leads m (walked m n) ready h }
 
 -- the law stays in its midst too
 pub walking_law : (m : Moment) (n : ℕ) → Law m.core → MomentLaw m → m.phase ≡ Evacuating → Law (walked m n).moment.core
-walking_law m n law moment leaves = (walks_on m n law moment leaves).goes.law
+walking_law m n law moment leaves = (walks_on m n law moment leaves).1.law
 
 -- once the epoch has risen no other log than those held is in the round; so it is to the end
 pub walking_only : (m : Moment) (n : ℕ) → Law m.core → MomentLaw m → m.phase ≡ Evacuating → (l : ℕ) → (walked m n).moment.core.round l ≡ true → among (walked m n).moment.held l ≡ true
-walking_only m n law moment leaves = (walks_on m n law moment leaves).goes.only
+walking_only m n law moment leaves = (walks_on m n law moment leaves).1.only
 
 -- ---- what owners have
 ended_core : (w : Walked) → (ended w).core ≡ w.moment.core
@@ -335,5 +329,5 @@ ended_core w = cond_both (is_done w) (record w.moment { phase = Idle }) w.moment
 
 pub walking_objects : WalkingKeepsObjects
 walking_objects m n law moment leaves =
-    let h = (walks_on m n law moment leaves).goes in
+    let h = (walks_on m n law moment leaves).1 in
     record { midst = h.objects; answer = subst (KeepsObjects m.core) (sym (ended_core (walked m n))) h.objects }

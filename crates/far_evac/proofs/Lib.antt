@@ -12,6 +12,7 @@ pub mod Counted
 pub mod Dealt
 pub mod Evacuations
 pub mod Failures
+pub mod Framed
 pub mod Fronts
 pub mod Given
 pub mod GivingBack
@@ -53,15 +54,16 @@ pub mod RoundKeys
 pub mod Rounds
 pub mod SendingOff
 pub mod Settling
+pub mod SmallSteps
 pub mod SpanBytes
 pub mod SpansDealt
 pub mod Standings
 pub mod StepsAside
 pub mod Strays
-pub mod StraysFound
 pub mod Subjects
 pub mod Tallies
 pub mod Tours
+pub mod TurnSteps
 pub mod TurnsOn
 pub mod Unmarking
 pub mod Unviewed

@@ -26,7 +26,7 @@ use Rattle.far_evac.specs.MomentLaw.{is_idle}
 use Rattle.far_evac.specs.RoundSteps.{advanced, among}
 use Rattle.far_evac.specs.Standing.{InRound, held_in}
 use Rattle.far_evac.proofs.Changing.{advanced_known}
-use Rattle.far_evac.proofs.Given.{drop_next}
+use Rattle.far_evac.proofs.SmallSteps.{drop_next}
 use Rattle.far_evac.proofs.Hands.{knows_forgotten, knows_more}
 use Rattle.far_evac.proofs.Lacking.{each_has, lacking_known, left_to, next_known, next_marked}
 use Rattle.far_evac.proofs.MarkSteps.{none_shown, some_shown}

@@ -175,6 +175,22 @@ all_joined P f [] h other = tt
 all_joined P f (x ∷ xs) h other = joined_at P f x xs (f x) refl h other (λ rest. all_joined P f xs rest other)
 
 -- ---- marking
+-- cells alone change
+pub marks_cells : (ps : List ℕ) (s : State) → fold marked s ps ≡ record s { cell = (fold marked s ps).cell }
+marks_cells [] s = refl
+marks_cells (p ∷ ps) s = marks_cells ps (marked s p)
+
+-- and the round, and its phase
+abbrev pub beside_marks : Moment → Moment → Moment
+beside_marks m t = record m { core = record m.core { cell = t.core.cell; epoch = t.core.epoch; round = t.core.round; round_epoch = t.core.round_epoch; clear = t.core.clear }; phase = t.phase }
+
+pub marking_frame : (m : Moment) (n : ℕ) → after_marking m n ≡ beside_marks m (after_marking m n)
+marking_frame m n =
+    let cells = marks_cells (newly_marked m n) m.core in
+    cond_both (leaves_some m n) (record m { core = marked_core m n }) (record m { core = advanced (marked_core m n) m.held; phase = Waiting }) (λ (t : Moment). t ≡ beside_marks m t)
+    (λ _. let is = ap (λ (s : State). record m { core = s }) cells in is ∙ sym (ap (beside_marks m) is))
+    (λ _. let is = ap (λ (s : State). record m { core = advanced s m.held; phase = Waiting }) cells in is ∙ sym (ap (beside_marks m) is))
+
 module _ (m : Moment) (n : ℕ) (fits : (p : ℕ) → m.core.cell p < 2 ^ 64) where
   marking_cell : (after_marking m n).core.cell ≡ (marked_core m n).cell
   marking_cell = cond_both (leaves_some m n) (record m { core = marked_core m n }) (record m { core = advanced (marked_core m n) m.held; phase = Waiting })

@@ -15,7 +15,7 @@ use Rattle.far_evac.specs.MomentLaw.{is_idle}
 use Rattle.far_evac.specs.Ready.{AllMarked}
 use Rattle.far_evac.specs.RoundSteps.{among}
 use Rattle.far_evac.specs.Standing.{Holds, InRound, MarkedAmong, MarkedBefore, held_of}
-use Rattle.far_evac.proofs.Given.{drop_next}
+use Rattle.far_evac.proofs.SmallSteps.{drop_next}
 use Rattle.far_evac.proofs.Keeping.{dropped_among}
 use Rattle.far_evac.proofs.Bools.{or_right}
 use Rattle.far_evac.proofs.OfOneKind.{sealed_used}

@@ -1,46 +1,38 @@
 -- What walks take of the logs, over any hand.
-use Rattle.std.proofs.Common.{◌≡◌, ◌≢◌, ℕ, zero, suc, ◌+◌, ◌*◌, ◌<◌, ◌≤◌, ◌==◌, Bool, true, false, cond, ◌||◌, eqb, nat_eq, Option, Some, None, List, [], ◌∷◌, ◌++◌, take, drop, inl, inr, arith, ap, sym, refl, ◌∙◌, subst}
-use Rattle.std.specs.List.{AllByRecursion, IsDistinct, range_with_len, sum_by}
-use Rattle.std.proofs.lemmas.Bool.{cases_eq, cond_both, eq-eqb, eqb-true, ne_eqb, true≢false, false≢true}
+use Rattle.std.proofs.Common.{◌≡◌, ◌≢◌, ℕ, zero, suc, ◌+◌, ◌<◌, ◌≤◌, ◌==◌, Bool, true, false, cond, ◌||◌, Option, Some, None, List, [], ◌∷◌, ◌++◌, take, inl, inr, arith, ap, sym, refl, ◌∙◌, subst}
+use Rattle.std.specs.List.{AllByRecursion, range_with_len, sum_by}
+use Rattle.std.proofs.lemmas.Bool.{cases_eq, eq-eqb, ne_eqb, true≢false, false≢true}
 use Rattle.std.proofs.lemmas.List.Sums.{sum_by-cons}
-use Rattle.std.proofs.lemmas.Map.Keys.{IsDistinct-tail}
 use Rattle.far_word.specs.declared.mark.Marks.{Marks}
 use Rattle.far_word.specs.declared.pointer.Place.{Place}
 use Rattle.far_word.specs.declared.pointer.PtrWord.{PtrWord}
 use Rattle.far_word.specs.declared.pointer.PtrWord.TheVariants.{Free, Near, Far}
-use Rattle.far_word.specs.declared.sizes.TheConstants.{CELLS, LOG_WORDS, MOST_MUTATORS, POINTERS}
 use Rattle.far_word.specs.Pointer.{read_of}
-use Rattle.far_word.specs.Sizes.{bytes_taken, size_of}
-use Rattle.far_core.specs.declared.event.Kind.TheVariants as kinds
+use Rattle.far_word.specs.Sizes.{bytes_taken}
 use Rattle.far_core.specs.events.Clear.{is_near}
-use Rattle.far_core.specs.laws.Observed.{dead_bytes, live_bytes, unused_bytes}
+use Rattle.far_core.specs.laws.Observed.{live_bytes}
 use Rattle.far_core.specs.state.Law.{Law}
 use Rattle.far_core.specs.state.Spans.{names_place}
 use Rattle.far_core.specs.state.State.{State}
 use Rattle.far_core.proofs.Observations.{in_range}
-use Rattle.far_hand.specs.Finds.{Finds}
 use Rattle.far_book.specs.book.Own.{own_part}
 use Rattle.far_book.proofs.region.Whole.{near_has_one_live, walks}
-use Rattle.far_evac.specs.declared.phase.Phase.{Phase}
-use Rattle.far_evac.specs.AnyHand.{FindsFirst, KnowsMoment, KnowsWalked, WalksTo, found_first}
-use Rattle.far_evac.specs.Dealings.{BeginsLive}
-use Rattle.far_evac.specs.Live.{is_empty, live_among, live_in}
+use Rattle.far_evac.specs.AnyHand.{KnowsWalked, WalksTo}
+use Rattle.far_evac.specs.Live.{live_among}
 use Rattle.far_evac.specs.LiveLaws.{IsNearIn}
-use Rattle.far_evac.specs.Moment.{Moment, Tally}
+use Rattle.far_evac.specs.Moment.{Moment}
 use Rattle.far_evac.specs.Ready.{Ready}
 use Rattle.far_evac.specs.RoundSteps.{among}
 use Rattle.far_evac.specs.TakesRoom.{IsAside, IsBack, IsLeft, TakesRoom, WalkTakesRoom, all_live, bytes_at, bytes_gone, bytes_in, bytes_near, gone_of}
-use Rattle.far_evac.specs.Walk.{Drops, Goes, Moves, Walked, Way, begun, dealt_as, dealt_so, freed, left, passed, settled, way_of}
-use Rattle.far_evac.proofs.Dealt.{Gone}
-use Rattle.far_evac.proofs.Given.{drop_next}
+use Rattle.far_evac.specs.Walk.{Walked, Way}
 use Rattle.far_evac.proofs.Leading.{not_zero}
-use Rattle.far_evac.proofs.LiveOnce.{LivesIn, each_map, first_named, near_at}
-use Rattle.far_evac.proofs.Orders.{Left, walks_left}
-use Rattle.far_evac.proofs.RoomTaken.{IsOff, Taken, alike_known, elsewhere_none, none_taken, off_none, sum_none, taken_alike, taken_back, taken_more}
-use Rattle.far_evac.proofs.SpanBytes.{Dealt, Sound, all_used}
+use Rattle.far_evac.proofs.Framed.{so_one}
+use Rattle.far_evac.proofs.LiveOnce.{each_map, first_named}
+use Rattle.far_evac.proofs.RoomTaken.{IsOff, Taken, alike_known, none_taken, off_none, sum_none, taken_alike, taken_back, taken_more}
+use Rattle.far_evac.proofs.SmallSteps.{GoesFirst, Keeps, finds_first, first_gone, lifted_walks}
+use Rattle.far_evac.proofs.SpanBytes.{Sound, all_used}
 use Rattle.far_evac.proofs.SpansDealt.{way_dealt}
-use Rattle.far_evac.proofs.Subjects.{so_cell}
-use Rattle.far_evac.proofs.Tours.{core_so, first_live, gone_found, others, stand, test_of}
+use Rattle.far_evac.proofs.Tours.{core_so, others}
 
 -- ---- the book's part of the law
 used_log : (s : State) → Law (own_part s) → (p len ds : ℕ) (place : Place) (marks : Marks) → read_of (s.cell p) ≡ Some (Near len ds place marks) → place.log < s.logs
@@ -60,26 +52,12 @@ sound_of s law = record {
       let few = law.shape.few_mutators in omega (arith, range, few);
 }
 
--- ---- logs in front are given back
-passed_taken : (m : Moment) (objects ls : List ℕ) (v : Walked) → IsDistinct eqb ls → Taken m v.moment.core ls objects → Taken m (passed v ls).moment.core (passed v ls).moment.held objects
-passed_taken m objects [] v once h = h
-passed_taken m objects (l ∷ ls) v once h = cond_both (is_empty (live_in v.moment.core l)) (passed (freed v l) ls) (record v { moment = record v.moment { held = l ∷ ls } })
-    (λ (w : Walked). Taken m w.moment.core w.moment.held objects)
-    (λ none. passed_taken m objects ls (freed v l) (IsDistinct-tail eqb l ls once) (taken_back v.moment.core l h.sound none m ls objects once (apart ls (others l ls once)) h))
-    (λ _. h) where
-      apart : (ks : List ℕ) → AllByRecursion (λ k. k ≢ l) ks → (k : ℕ) → among ks k ≡ true → k ≢ l
-      apart [] each k is = absurd (false≢true is)
-      apart (j ∷ js) each k is = elim (cases_eq k j) [
-        | inl e ↦ (λ same. each.0 (sym e ∙ same))
-        | inr ne ↦ apart js each.1 k (sym (ap (λ b. b || among js k) (ne_eqb k j ne)) ∙ is)
-      ]
-
+-- ---- small steps
 known_taken : (m : Moment) (objects : List ℕ) (w t : Walked) → KnowsWalked w t → Taken m w.moment.core w.moment.held objects → Taken m t.moment.core t.moment.held objects
 known_taken m objects w t known h =
     subst (λ held. Taken m t.moment.core held objects) (sym (ap (λ (n : Moment). n.held) known.moment.rest))
     (taken_alike w.moment.core t.moment.core (alike_known w.moment.core t.moment.core known.moment.core) m w.moment.held objects h)
 
--- ---- the first object is dealt with
 off_each : (s : State) (p : ℕ) (held : List ℕ) → AllByRecursion (λ l. (at : ℕ) → names_place (read_of (s.cell p)) l at ≡ false) held → IsOff s held p
 off_each s p [] each l at is = absurd (false≢true is)
 off_each s p (k ∷ ks) each l at is = elim (cases_eq l k) [
@@ -87,32 +65,18 @@ off_each s p (k ∷ ks) each l at is = elim (cases_eq l k) [
   | inr ne ↦ off_each s p ks each.1 l at (sym (ap (λ b. b || among ks l) (ne_eqb l k ne)) ∙ is)
 ]
 
-module _ (m : Moment) (objects : List ℕ) (s : State) (order : List ℕ) (phase : Phase) (l : ℕ) (ls : List ℕ) (tally : Tally) (p : ℕ) (ps : List ℕ) (ready : Ready s (l ∷ ls)) (first : live_in s l ≡ p ∷ ps)
-    (word : ℕ) (finds : Finds (s.cell p) word) (h : Taken m s (l ∷ ls) objects) where
-  front : among (l ∷ ls) l ≡ true
-  front = ap (λ b. b || among ls l) (eq-eqb l l refl)
+apart : (l : ℕ) (ks : List ℕ) → AllByRecursion (λ k. k ≢ l) ks → (k : ℕ) → among ks k ≡ true → k ≢ l
+apart l [] each k is = absurd (false≢true is)
+apart l (j ∷ js) each k is = elim (cases_eq k j) [
+  | inl e ↦ (λ same. each.0 (sym e ∙ same))
+  | inr ne ↦ apart l js each.1 k (sym (ap (λ b. b || among js k) (ne_eqb k j ne)) ∙ is)
+]
 
-  so_taken : (way : Way) → way_of s (read_of word) ≡ way → Taken m (core_so s p way) (l ∷ ls) (objects ++ p ∷ [])
-  so_taken way is =
-      taken_more m s (core_so s p way) (l ∷ ls) objects h p l (first_named s l p ps first) front (way_dealt s h.sound l ls p ps ready first word finds way is)
-      (λ q ne. so_cell p q ne s way) (off_each (core_so s p way) p (l ∷ ls) (gone_found s l ls p ps ready first word finds way is).off)
-
-  way_taken : (way : Way) → way_of s (read_of word) ≡ way →
-      let w = settled (dealt_so (stand s order phase (l ∷ ls) tally) p way) in Taken m w.moment.core w.moment.held (objects ++ p ∷ [])
-  way_taken Drops is = passed_taken m (objects ++ p ∷ []) (l ∷ ls) (dealt_so (stand s order phase (l ∷ ls) tally) p Drops) ready.once (so_taken Drops is)
-  way_taken (Moves place) is = passed_taken m (objects ++ p ∷ []) (l ∷ ls) (dealt_so (stand s order phase (l ∷ ls) tally) p (Moves place)) ready.once (so_taken (Moves place) is)
-  way_taken Goes is = passed_taken m (objects ++ p ∷ []) (l ∷ ls) (dealt_so (stand s order phase (l ∷ ls) tally) p Goes) ready.once (so_taken Goes is)
-
-front_taken : (m : Moment) (objects : List ℕ) (s : State) (order : List ℕ) (phase : Phase) (held : List ℕ) (tally : Tally) (live : List ℕ) (p : ℕ) (rest : List ℕ) (word : ℕ) →
-    Ready s held → BeginsLive s held → live_among s held ≡ p ∷ rest → Finds (s.cell p) word → first_live s held ≡ live → Taken m s held objects →
-    let w = settled (dealt_as (stand s order phase held tally) p (read_of word)) in Taken m w.moment.core w.moment.held (objects ++ p ∷ [])
-front_taken m objects s order phase [] tally live p rest word ready begins is finds front h = absurd cc
-front_taken m objects s order phase (l ∷ ls) tally [] p rest word ready begins is finds front h = absurd (true≢false (sym (ap is_empty front) ∙ begins))
-front_taken m objects s order phase (l ∷ ls) tally (q ∷ qs) p rest word ready begins is finds front h =
-    let both : q ∷ (qs ++ live_among s ls) ≡ p ∷ rest = sym (ap (λ live. live ++ live_among s ls) front) ∙ is in
-    let same : q ≡ p = cc in
-    let here : live_in s l ≡ p ∷ qs = front ∙ ap (λ x. x ∷ qs) same in
-    way_taken m objects s order phase l ls tally p qs ready here word finds h (way_of s (read_of word)) refl
+so_taken : (m v : Moment) (objects : List ℕ) (k : ℕ) (s : State) (l : ℕ) (ls : List ℕ) (p : ℕ) (ps : List ℕ) (way : Way) → GoesFirst false v k s l ls p ps way → Taken m s (l ∷ ls) objects →
+    Taken m (core_so s p way) (l ∷ ls) (objects ++ p ∷ [])
+so_taken m v objects k s l ls p ps way first h =
+    taken_more m s (core_so s p way) (l ∷ ls) objects h p l (first_named s l p ps first.live) (ap (λ b. b || among ls l) (eq-eqb l l refl))
+    (way_dealt s h.sound l ls p ps first.ready first.live first.word (finds_first first) way first.is) (so_one s p way).cells (off_each (core_so s p way) p (l ∷ ls) (first_gone first).off)
 
 -- ---- object after object, from where other walks have led
 append_assoc : (xs ys zs : List ℕ) → (xs ++ ys) ++ zs ≡ xs ++ (ys ++ zs)
@@ -123,22 +87,19 @@ append_none : (xs : List ℕ) → xs ≡ xs ++ []
 append_none [] = refl
 append_none (x ∷ xs) = ap (λ rest. x ∷ rest) (append_none xs)
 
-next_taken : (m v : Moment) (before : List ℕ) (k : ℕ) (u : Walked) (word : ℕ) (t : Walked) → Left v k u → Taken m u.moment.core u.moment.held (before ++ take k (live_among v.core v.held)) →
-    (xs : List ℕ) → left u ≡ xs → FindsFirst u word xs → KnowsWalked (found_first u word xs) t → Taken m t.moment.core t.moment.held (before ++ take (suc k) (live_among v.core v.held))
-next_taken m v before k u word t h d [] e finds leaves = absurd finds
-next_taken m v before k u word t h d (p ∷ rest) e finds leaves =
-    let objects = take k (live_among v.core v.held) in
-    let more = (drop_next k (live_among v.core v.held) p rest (sym h.rests.left ∙ e)).2 in
-    subst (Taken m t.moment.core t.moment.held) (append_assoc before objects (p ∷ []) ∙ ap (λ xs. before ++ xs) (sym more))
-    (known_taken m ((before ++ objects) ++ (p ∷ [])) (settled (dealt_as u p (read_of word))) t leaves
-    (front_taken m (before ++ objects) u.moment.core u.moment.order u.moment.phase u.moment.held u.tally (first_live u.moment.core u.moment.held) p rest word h.rests.ready h.rests.begins e finds refl d))
+keeps_taken : (m v : Moment) (before : List ℕ) → Keeps false v (λ k w. Taken m w.moment.core w.moment.held (before ++ take k (live_among v.core v.held)))
+keeps_taken m v before = record {
+  learns = λ k. known_taken m (before ++ take k (live_among v.core v.held));
+  gives = λ k w l ls ready none h. taken_back w.moment.core l h.sound none m ls (before ++ take k (live_among v.core v.held)) ready.once (apart l ls (others l ls ready.once)) h;
+  deals = λ k w l ls p ps way first h.
+      subst (Taken m (core_so w.moment.core p way) (l ∷ ls)) (append_assoc before (take k (live_among v.core v.held)) (p ∷ []) ∙ ap (λ xs. before ++ xs) (sym first.more))
+      (so_taken m v (before ++ take k (live_among v.core v.held)) k w.moment.core l ls p ps way first h);
+}
 
 pub walks_taken : (m v : Moment) (before : List ℕ) → Taken m v.core v.held before → (k : ℕ) (t : Walked) → Ready v.core v.held → WalksTo v k t →
     Taken m t.moment.core t.moment.held (before ++ take k (live_among v.core v.held))
-walks_taken m v before h zero t ready walks =
-    subst (Taken m t.moment.core t.moment.held) (append_none before) (known_taken m before (settled (begun v)) t walks (passed_taken m before v.held (begun v) ready.once h))
-walks_taken m v before h (suc k) t ready (u, word, walks, deals) =
-    next_taken m v before k u word t (walks_left v k u ready walks) (walks_taken m v before h k u ready walks) (left u) refl deals.finds deals.leaves
+walks_taken m v before h k t ready walks =
+    (lifted_walks v (λ k w. Taken m w.moment.core w.moment.held (before ++ take k (live_among v.core v.held))) (keeps_taken m v before) ready (subst (Taken m v.core v.held) (append_none before) h) k t walks).keeps
 
 -- ---- all logs together
 sums_same : (a b c d : ℕ → ℕ) → ((x : ℕ) → a x + b x ≡ c x + d x) → (xs : List ℕ) → sum_by a xs + sum_by b xs ≡ sum_by c xs + sum_by d xs

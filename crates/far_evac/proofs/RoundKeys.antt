@@ -1,5 +1,5 @@
 -- Which objects turns deal with, one after the other: those that stood first when they began. Under other keys the device has what it had.
-use Rattle.std.proofs.Common.{◌≡◌, ◌≢◌, ℕ, zero, suc, ◌+◌, ◌^◌, ◌<◌, Bool, true, false, Option, Some, None, List, [], ◌∷◌, ◌++◌, filter, take, drop, arith, ap, sym, refl, ◌∙◌, subst}
+use Rattle.std.proofs.Common.{◌≡◌, ◌≢◌, ℕ, zero, suc, ◌+◌, Bool, Option, Some, None, List, [], ◌∷◌, ◌++◌, filter, take, drop, arith, ap, sym, refl, ◌∙◌, subst}
 use Rattle.std.specs.List.{AllByRecursion}
 use Rattle.std.proofs.lemmas.Bool.{cond_both}
 use mathlib.Core.Path.{fun_ext}
@@ -25,7 +25,7 @@ use Rattle.far_evac.specs.TakesRoom.{spot_of}
 use Rattle.far_evac.specs.Turns.{turn_size}
 use Rattle.far_evac.specs.Walk.{Walked, ended, is_done, left}
 use Rattle.far_evac.proofs.InOrder.{in_order}
-use Rattle.far_evac.proofs.Orders.{left_known}
+use Rattle.far_evac.proofs.SmallSteps.{left_known}
 use Rattle.far_evac.proofs.Readiness.{risen_is_ready}
 use Rattle.far_evac.proofs.RoomTaken.{Alike}
 use Rattle.far_evac.proofs.RoomTurns.{clear_alike, marking_alike, marking_held}

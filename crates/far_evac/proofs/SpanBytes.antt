@@ -1,7 +1,7 @@
 -- How bytes of logs change where one object is dealt with: by the spans of the logs, over any hand.
-use Rattle.std.proofs.Common.{◌≡◌, ◌≢◌, ℕ, zero, suc, ◌+◌, ◌-◌, ◌*◌, ◌/◌, ◌<◌, ◌≤◌, Bool, true, false, cond, not, ◌&&◌, ◌==◌, nat_eq, nat_le, nat_lt, Option, Some, None, List, [], ◌∷◌, ◌++◌, inl, inr, arith, ap, sym, refl, ◌∙◌, subst}
+use Rattle.std.proofs.Common.{◌≡◌, ◌≢◌, ℕ, zero, suc, ◌+◌, ◌*◌, ◌<◌, ◌≤◌, Bool, true, false, cond, ◌&&◌, nat_eq, nat_lt, Option, Some, None, List, [], ◌∷◌, ◌++◌, inl, inr, arith, ap, sym, refl, ◌∙◌, subst}
 use Rattle.std.specs.Prelude.{Contains, ◌⊎◌}
-use Rattle.std.proofs.lemmas.Bool.{cases_eq, cond_both, eq-eqb, ne_eqb, true≢false, false≢true, ltb-true, ltb-false, lt-ltb, le-ltb}
+use Rattle.std.proofs.lemmas.Bool.{cases_eq, cond_both, eq-eqb, ne_eqb, false≢true, ltb-true, lt-ltb, le-ltb}
 use Rattle.far_word.specs.declared.mark.Marks.{Marks}
 use Rattle.far_word.specs.declared.pointer.Place.{Place}
 use Rattle.far_word.specs.declared.pointer.PtrWord.{PtrWord}
@@ -10,13 +10,13 @@ use Rattle.far_word.specs.declared.sizes.TheConstants.{LOG_WORDS, POINTERS}
 use Rattle.far_word.specs.Pointer.{read_of}
 use Rattle.far_word.specs.Sizes.{bytes_taken, size_of}
 use Rattle.far_log.specs.declared.span.Span.{Span}
-use Rattle.far_log.specs.Spans.{Tile, head_len, span_at, spans_from, spans_in, taken_by}
+use Rattle.far_log.specs.Spans.{Tile, head_len, span_at, spans_from, taken_by}
 use Rattle.far_log.proofs.Members.{here, none_in, split, there}
 use Rattle.far_log.proofs.SpanLaws.{spans_take, tile_bounds}
 use Rattle.far_core.specs.declared.event.Kind.TheVariants as kinds
 use Rattle.far_core.specs.events.Clear.{is_near}
-use Rattle.far_core.specs.laws.Observed.{dead_bytes, live_bytes, span_for, unused_bytes}
-use Rattle.far_core.specs.state.Spans.{is_live, names_place, spans_of, word_in}
+use Rattle.far_core.specs.laws.Observed.{dead_bytes, live_bytes, span_for}
+use Rattle.far_core.specs.state.Spans.{is_live, names_place, spans_of}
 use Rattle.far_core.specs.state.State.{State, put}
 use Rattle.far_core.proofs.Put.{put_both, put_other, put_same}
 use Rattle.far_book.proofs.region.SpanLists.{taken_more, taken_same, taken_without}

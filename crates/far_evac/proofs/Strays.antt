@@ -1,6 +1,6 @@
 -- What lies in a log of the core's round lies in one that the evacuator holds.
-use Rattle.std.proofs.Common.{◌≡◌, ℕ, zero, suc, ◌^◌, ◌<◌, ◌&&◌, Bool, true, false, cond, Option, Some, None, List, [], ◌∷◌, arith, ap, sym, refl, ◌∙◌, subst}
-use Rattle.std.proofs.lemmas.Bool.{and_parts, cond_both, false≢true}
+use Rattle.std.proofs.Common.{◌≡◌, ℕ, ◌^◌, ◌<◌, ◌&&◌, Bool, true, false, cond, Option, Some, None, [], ◌∷◌, arith, ap, sym, refl, ◌∙◌, ◌||◌, inl, inr}
+use Rattle.std.proofs.lemmas.Bool.{and_parts, cond_both, false≢true, cases_eq, ne_eqb}
 use Rattle.far_word.specs.declared.mark.Marks.{Marks}
 use Rattle.far_word.specs.declared.pointer.Place.{Place}
 use Rattle.far_word.specs.declared.pointer.PtrWord.{PtrWord}
@@ -10,27 +10,32 @@ use Rattle.far_core.specs.state.Law.{Law}
 use Rattle.far_core.specs.state.State.{State}
 use Rattle.far_book.specs.book.Own.{own_part}
 use Rattle.far_book.proofs.region.Owns.{own_law}
-use Rattle.far_evac.specs.declared.phase.Phase.{Phase}
-use Rattle.far_evac.specs.declared.phase.Phase.TheVariants.{Idle, Marking, Waiting, Evacuating}
-use Rattle.far_evac.specs.Choosing.{after_aborting, after_selecting}
+use Rattle.far_evac.specs.declared.phase.Phase.TheVariants.{Idle, Waiting, Evacuating}
+use Rattle.far_evac.specs.Choosing.{after_aborting}
 use Rattle.far_evac.specs.Dealings.{says}
 use Rattle.far_evac.specs.Laws.{but_evac}
 use Rattle.far_evac.specs.Live.{is_empty, live_in}
 use Rattle.far_evac.specs.Marking.{after_marking, leaves_some, marked_core, newly_marked}
-use Rattle.far_evac.specs.Moment.{Moment}
-use Rattle.far_evac.specs.MomentLaw.{MomentLaw}
-use Rattle.far_evac.specs.RoundSteps.{advanced, among}
-use Rattle.far_evac.specs.Strays.{AbortingStraysNone, CallersStrayNone, MarkingStraysNone, NoRoundStraysNone, NoneStrays, PollingStraysNone, RisenStraysNone, RoundStraysNone, SelectingStraysNone, TurnsStrayNone, WalkingStraysNone}
-use Rattle.far_evac.specs.Turns.{Turned, turn_size, turned, turns_made}
+use Rattle.far_evac.specs.Moment.{Moment, Tally, nothing}
+use Rattle.far_evac.specs.MomentLaw.{has_risen, IsLawful}
+use Rattle.far_evac.specs.RoundSteps.{advanced, among, with_clear_below}
+use Rattle.far_evac.specs.Strays.{AbortingStraysNone, CallersStrayNone, MarkingStraysNone, NoRoundStraysNone, NoneStrays, PollingStraysNone, RisenStraysNone, RoundStraysNone, SelectingStraysNone, TurnsStrayNone, WalkingStraysNone, CallsStrayNone, FoundStrayNone, RoundsStrayNone, RowsStrayNone}
+use Rattle.far_evac.specs.Turns.{turns_made}
 use Rattle.far_evac.specs.Waiting.{first_open, polled_to}
-use Rattle.far_evac.specs.Walk.{ended, is_done, walked}
+use Rattle.far_evac.specs.Walk.{is_done, walked, Walked}
 use Rattle.far_evac.proofs.Fronts.{vacant_in}
-use Rattle.far_evac.proofs.Leading.{selecting}
-use Rattle.far_evac.proofs.LeadingMarks.{marks_cells}
-use Rattle.far_evac.proofs.LeadingTurns.{turns_lead}
+use Rattle.far_evac.proofs.Marks.{marks_cells, is_given_up, is_marked}
 use Rattle.far_evac.proofs.LeadingWalks.{walking_only}
-use Rattle.far_evac.proofs.Marks.{is_given_up, is_marked}
-use Rattle.far_evac.proofs.Orders.{none_there}
+use Rattle.far_evac.proofs.SmallSteps.{none_there, Keeps, lifted_walks}
+use Rattle.far_core.proofs.Put.{put_other, put_same}
+use Rattle.far_hand.proofs.Finding.{near_known}
+use Rattle.far_evac.specs.declared.answers.Polled.{Polled}
+use Rattle.far_evac.specs.declared.answers.Polled.TheVariants.{Clear, StillOpen}
+use Rattle.far_evac.specs.AnyHand.{Polls, WalksTo}
+use Rattle.far_evac.proofs.Framed.{so_one}
+use Rattle.far_evac.proofs.Readiness.{risen_is_ready}
+use Rattle.far_evac.proofs.Rounds.{turns_are}
+use Rattle.far_evac.proofs.TurnSteps.{KeepsTurns, round_kept, round_kept_exactly, stop_kept, stopped_kept, turn_kept, turns_kept, walk_kept}
 
 -- ---- where it is so
 pub no_round : NoRoundStraysNone
@@ -110,27 +115,69 @@ aborting_own m law none p len ds place marks near is =
 pub aborting_none : AbortingStraysNone
 aborting_none m law none = aborting_own m (own_law m.core law) none
 
--- ---- turn after turn
-turn_none : (r : Turned) → Law r.moment.core → MomentLaw r.moment → NoneStrays r.moment → (phase : Phase) → r.moment.phase ≡ phase → NoneStrays (turned r phase).moment
-turn_none r law moment none Idle e = none
-turn_none r law moment none Marking e = marking_none r.moment turn_size law none
-turn_none r law moment none Waiting e = polling_none r.moment none
-turn_none r law moment none Evacuating e = walking_none r.moment turn_size law moment e
+-- ---- marks that are found
+pub found_none : FoundStrayNone
+found_none m t known none p len ds place marks near is =
+    let x = near_known (m.core.cell p) (t.core.cell p) (known.core.found p) len ds place marks near in
+    ap (λ (n : Moment). among n.held place.log) known.rest
+    ∙ none p len ds place x.marks x.near (sym (ap (λ (s : State). s.round place.log) known.core.rest) ∙ is)
 
+-- ---- while objects leave, no other log than those held is in the round
+abbrev IsOnly : Walked → Type 0
+IsOnly w = (l : ℕ) → w.moment.core.round l ≡ true → among w.moment.held l ≡ true
+
+keeps_only : (m : Moment) → Keeps false m (λ k. IsOnly)
+keeps_only m = record {
+  learns = λ k w t known only l is. ap (λ (n : Moment). among n.held l) known.moment.rest ∙ only l (sym (ap (λ (s : State). s.round l) known.moment.core.rest) ∙ is);
+  gives = λ k w l ls ready none only j is. elim (cases_eq j l) [
+    | inl e ↦ absurd (false≢true (sym (put_same w.moment.core.round l false j e) ∙ is))
+    | inr ne ↦ sym (ap (λ b. b || among ls j) (ne_eqb j l ne)) ∙ only j (sym (put_other w.moment.core.round l false j ne) ∙ is)
+  ];
+  deals = λ k w l ls p ps way first only j is. only j (sym (ap (λ (s : State). s.round j) (so_one w.moment.core p way).frame) ∙ is);
+}
+
+-- ---- each call, turns, and whole rounds
+walk_only : (m : Moment) → IsLawful m → m.phase ≡ Evacuating → (k : ℕ) (w : Walked) → WalksTo m k w → IsOnly w
+walk_only m lawful leaves k w walks = (lifted_walks m (λ k. IsOnly) (keeps_only m) (risen_is_ready m lawful.0 lawful.1 (ap has_risen leaves)) (lawful.1.only (ap has_risen leaves)) k w walks).keeps
+
+keeps_none : KeepsTurns false (λ m tally. NoneStrays m)
+keeps_none = record {
+  learns = λ m t tally. found_none m t;
+  marks = λ m n tally lawful is. marking_own m n lawful.0;
+  looks = λ m k phase tally lawful is none. none;
+  walks = λ m k w tally lawful leaves walks none p len ds place marks near. walk_only m lawful leaves k w walks place.log;
+  ends = λ m tally none. none;
+}
+
+abbrev Of : Moment → Tally → Type 0
+Of m tally = NoneStrays m
+
+pub calls_none : CallsStrayNone
+calls_none m t law moment none = (
+  λ n count waiting marks. found_none (after_marking m n) t marks.leaves (marking_own m n law none),
+  polls_none,
+  λ n tally done leaves. walk_kept Of keeps_none m t (law, moment) nothing none n tally done leaves,
+  λ n tally leaves. stop_kept Of keeps_none m t (law, moment) nothing none n tally leaves,
+  λ gives. found_none (after_aborting m) t gives (aborting_own m law none),
+  turn_kept Of keeps_none m t (law, moment) nothing none,
+) where
+  polls_none : (answer : Polled) → Polls m t answer → NoneStrays t
+  polls_none Clear polls = found_none (record m { core = with_clear_below m.core m.core.mutators; phase = Evacuating }) t polls none
+  polls_none (StillOpen k epoch) polls = found_none (record m { core = with_clear_below m.core k }) t polls.leaves none
+
+pub rows_none : RowsStrayNone
+rows_none m t tallies over made none = turns_kept Of keeps_none m none tallies over t made
+
+pub rounds_none : RoundsStrayNone
+rounds_none m t logs turns moment idle none =
+    let begun = selecting_none m logs moment idle none in (λ end ran. (round_kept Of keeps_none m t logs turns end begun ran).1, λ so_far stopped. (stopped_kept Of keeps_none m t logs turns so_far begun stopped).1)
+
+-- ---- where no word changes but by this
 pub turns_none : TurnsStrayNone
-turns_none m zero law moment runs none = none
-turns_none m (suc n) law moment runs none =
-    let r = turns_made m n in
-    let leads = turns_lead m n law moment runs in
-    let before = turns_none m n law moment runs none in
-    cond_both r.over r (turned r r.moment.phase) (λ (x : Turned). NoneStrays x.moment) (λ _. before) (λ _. turn_none r leads.law leads.moment before r.moment.phase refl)
+turns_none m n law moment runs none = let h = turns_are m law moment runs n in rows_none m (turns_made m n).moment h.tallies (turns_made m n).over h.made none
 
 pub round_none : RoundStraysNone
-round_none m [] turns end t law moment idle left once of_order is none = subst NoneStrays (sym is.1) none
-round_none m (l ∷ ls) turns end t law moment idle left once of_order is none =
-    let u = after_selecting m (l ∷ ls) in
-    let begun = selecting m (l ∷ ls) law moment idle left once of_order in
-    subst NoneStrays (sym is.1) (turns_none u turns begun.law begun.moment refl (selecting_none m (l ∷ ls) moment idle none))
+round_none m logs turns end t law moment idle left once of_order is none = round_kept_exactly NoneStrays turns_none m logs turns end t law moment idle left once of_order is (selecting_none m logs moment idle none)
 
 -- ---- what callers do
 pub callers_none : CallersStrayNone

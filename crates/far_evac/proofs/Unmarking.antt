@@ -21,7 +21,7 @@ use Rattle.far_evac.specs.Live.{live_among, live_in, pointers_of}
 use Rattle.far_evac.specs.RoundSteps.{unmarked}
 use Rattle.far_evac.proofs.Changing.{clear_leaves, cleared_known, unmarked_fits, unmarked_known}
 use Rattle.far_evac.proofs.Fronts.{knows_cells}
-use Rattle.far_evac.proofs.Given.{drop_next}
+use Rattle.far_evac.proofs.SmallSteps.{drop_next}
 use Rattle.far_evac.proofs.Hands.{knows_more}
 use Rattle.far_evac.proofs.Lacking.{from_unmarked, live_unmarked}
 use Rattle.far_evac.proofs.LiveLists.{knows_live}

@@ -1,5 +1,5 @@
 -- The worked calls go by what the evacuator's contracts say.
-use Rattle.std.proofs.Common.{◌≡◌, ◌≢◌, ℕ, Bool, true, false, cond, not, Option, Some, None, List, [], ◌∷◌, ap, sym, refl, ◌∙◌}
+use Rattle.std.proofs.Common.{◌≡◌, ◌≢◌, ℕ, Bool, true, false, cond, not, Some, None, List, [], ◌∷◌, ap, sym, refl, ◌∙◌}
 use Rattle.std.proofs.lemmas.Bool.{true≢false}
 use Rattle.far_word.specs.declared.refused.Refused.{Refused as Refusal}
 use Rattle.far_word.specs.declared.refused.Refused.TheVariants.{Phase as WrongPhase, EpochsSpent}
@@ -11,7 +11,7 @@ use Rattle.far_evac.specs.Moment.{Moment}
 use Rattle.far_evac.specs.MomentLaw.{is_idle}
 use Rattle.far_evac.specs.Turns.{IsRound, turns_made}
 use Rattle.far_evac.specs.worked.AsCalled.{AsCalled, BeginsSo, GoesByPhase}
-use Rattle.far_evac.specs.worked.Calls.{Answer, Ends, Refused, choosing, is_evacuating, is_marking, is_waiting, only_in, round_of}
+use Rattle.far_evac.specs.worked.Calls.{Answer, Ends, Refused, is_evacuating, is_marking, is_waiting, only_in, round_of}
 
 -- ---- what bars a round
 bars_of : (m : Moment) (turn : Moment × Answer) (idle spent : Bool) (why : Refusal) → cond idle (cond spent (Some EpochsSpent) None) (Some WrongPhase) ≡ Some why →

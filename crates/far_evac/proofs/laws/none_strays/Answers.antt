@@ -1,7 +1,6 @@
 use Rattle.far_evac.proofs.laws.none_strays.Goals as goal
 use Rattle.far_evac.proofs.Comers.{comers_join, events_bring_none, owners_bring_none}
-use Rattle.far_evac.proofs.Strays.{aborting_none, callers_none, marking_none, no_round, polling_none, risen, round_none, selecting_none, turns_none, walking_none}
-use Rattle.far_evac.proofs.StraysFound.{calls_none, found_none, rounds_none, rows_none}
+use Rattle.far_evac.proofs.Strays.{aborting_none, callers_none, calls_none, found_none, marking_none, no_round, polling_none, risen, round_none, rounds_none, rows_none, selecting_none, turns_none, walking_none}
 
 pub returns-clause-start : goal.returns-clause-start
 returns-clause-start c = no_round

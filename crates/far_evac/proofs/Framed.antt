@@ -1,0 +1,79 @@
+-- What an object's way leaves of the core: the round, and all that owners do; and each cell but its own.
+use Rattle.std.proofs.Common.{◌≡◌, ◌≢◌, ℕ, ◌==◌, Option, Some, None, List, [], ◌∷◌, refl}
+use Rattle.std.proofs.lemmas.Bool.{cond_both}
+use Rattle.far_word.specs.declared.pointer.Place.{Place}
+use Rattle.far_word.specs.declared.pointer.PtrWord.{PtrWord}
+use Rattle.far_word.specs.declared.pointer.PtrWord.TheVariants.{Free, Near, Far}
+use Rattle.far_word.specs.Pointer.{read_of}
+use Rattle.far_core.specs.declared.event.Event.TheVariants.{Name}
+use Rattle.far_core.specs.declared.naming.Naming.{Naming}
+use Rattle.far_core.specs.declared.naming.Naming.TheVariants.{Places, Retires, Evicts, Stays, Moves as moving, Fetches}
+use Rattle.far_core.specs.events.Copies.{data_at}
+use Rattle.far_core.specs.events.Name.{after_naming}
+use Rattle.far_core.specs.events.Naming.{naming_of, naming_row}
+use Rattle.far_core.specs.events.Step.{after}
+use Rattle.far_core.specs.state.State.{State}
+use Rattle.far_core.proofs.Put.{put_other}
+use Rattle.far_book.specs.book.Effects.{evicted_of, far_word, moved_of, near_word, with_written_span}
+use Rattle.far_evac.specs.Live.{is_empty, live_in}
+use Rattle.far_evac.specs.Walk.{Walked, Way, Drops, Moves, Goes, freed, passed}
+use Rattle.far_evac.proofs.Tours.{core_so}
+
+-- all that owners change, and the round, is as it was
+abbrev pub framed : State → State → State
+framed s t = record s { cell = t.cell; word = t.word; kind = t.kind; tail = t.tail; current = t.current; starts = t.starts; stored = t.stored }
+
+pub record ChangesOne (s : State) (p : ℕ) (t : State) : Type 0 where
+  pub frame : t ≡ framed s t
+  pub cells : (q : ℕ) → q ≢ p → t.cell q ≡ s.cell q
+
+same_one : (s : State) (p : ℕ) → ChangesOne s p s
+same_one s p = record { frame = refl; cells = λ q other. refl }
+
+module _ (s : State) (p new : ℕ) where
+  row_one : (form : Naming) → ChangesOne s p (naming_row s p new form).after
+  row_one (Places len ds place) = record { frame = refl; cells = put_other s.cell p new }
+  row_one Retires = record { frame = refl; cells = put_other s.cell p new }
+  row_one (Evicts len place) = record { frame = refl; cells = put_other s.cell p new }
+  row_one Stays = record { frame = refl; cells = put_other s.cell p new }
+  row_one (moving len ds from to) = record { frame = refl; cells = put_other s.cell p new }
+  row_one (Fetches len ds place) = record { frame = refl; cells = put_other s.cell p new }
+
+  naming_one : (form : Option Naming) → ChangesOne s p (after_naming s p new form)
+  naming_one None = same_one s p
+  naming_one (Some form) = row_one form
+
+  name_one : (old : ℕ) → ChangesOne s p (after s (Name p old new))
+  name_one old = cond_both (s.cell p == old) (after_naming s p new (naming_of (read_of old) (read_of new))) s (ChangesOne s p)
+      (λ _. naming_one (naming_of (read_of old) (read_of new))) (λ _. same_one s p)
+
+module _ (s : State) (p : ℕ) where
+  evicted_one : (cell : Option PtrWord) → ChangesOne s p (evicted_of s p cell)
+  evicted_one None = same_one s p
+  evicted_one (Some Free) = same_one s p
+  evicted_one (Some (Near len ds place marks)) = name_one s p (far_word len ds) (s.cell p)
+  evicted_one (Some (Far len ds marks)) = same_one s p
+
+  moved_one : (place : Place) (cell : Option PtrWord) → ChangesOne s p (moved_of s p place cell)
+  moved_one place None = same_one s p
+  moved_one place (Some Free) = same_one s p
+  moved_one place (Some (Near len ds from marks)) =
+      let h = name_one (with_written_span s p len ds place (data_at s.word from)) p (near_word len ds place) (s.cell p) in record { frame = h.frame; cells = h.cells }
+  moved_one place (Some (Far len ds marks)) = same_one s p
+
+  pub so_one : (way : Way) → ChangesOne s p (core_so s p way)
+  so_one Drops = record { frame = refl; cells = put_other s.cell p 0 }
+  so_one (Moves place) = moved_one place (read_of (s.cell p))
+  so_one Goes = evicted_one (read_of (s.cell p))
+
+-- logs that are given back leave all but this
+abbrev pub given_back : Walked → Walked → Walked
+given_back v w = record v {
+  moment = record v.moment { core = record v.moment.core { kind = w.moment.core.kind; tail = w.moment.core.tail; starts = w.moment.core.starts; round = w.moment.core.round }; order = w.moment.order; held = w.moment.held };
+  tally = record v.tally { freed = w.tally.freed };
+}
+
+pub passed_frame : (ls : List ℕ) (v : Walked) → passed v ls ≡ given_back v (passed v ls)
+passed_frame [] v = refl
+passed_frame (l ∷ ls) v = cond_both (is_empty (live_in v.moment.core l)) (passed (freed v l) ls) (record v { moment = record v.moment { held = l ∷ ls } }) (λ (w : Walked). w ≡ given_back v w)
+    (λ _. passed_frame ls (freed v l)) (λ _. refl)

@@ -1,0 +1,121 @@
+-- What each small step of a round keeps, turns and rounds keep: over any hand, and where no word changes but by them.
+use Rattle.std.proofs.Common.{◌≡◌, ℕ, zero, suc, Bool, true, false, eqb, Option, Some, None, List, [], ◌∷◌, ap, sym, refl, ◌∙◌, subst}
+use Rattle.std.specs.List.{IsDistinct}
+use Rattle.std.proofs.lemmas.Bool.{cond_both}
+use Rattle.far_core.specs.state.Law.{Law}
+use Rattle.far_evac.specs.declared.answers.Polled.{Polled}
+use Rattle.far_evac.specs.declared.answers.Polled.TheVariants.{Clear, StillOpen}
+use Rattle.far_evac.specs.declared.answers.Progress.{Progress}
+use Rattle.far_evac.specs.declared.answers.RoundEnd.{RoundEnd}
+use Rattle.far_evac.specs.declared.phase.Phase.{Phase}
+use Rattle.far_evac.specs.declared.phase.Phase.TheVariants.{Idle, Marking, Waiting, Evacuating}
+use Rattle.far_evac.specs.AnyHand.{Evacuates, KnowsMoment, MarksSome, Polls, RunsRound, StopsAt, StopsRound, TurnsMade, TurnsTo, WalksTo, sum_of}
+use Rattle.far_evac.specs.Choosing.{after_selecting, is_spent}
+use Rattle.far_evac.specs.Marking.{after_marking}
+use Rattle.far_evac.specs.Moment.{Moment, Tally, nothing, plus}
+use Rattle.far_evac.specs.MomentLaw.{IsLawful, MomentLaw, is_idle}
+use Rattle.far_evac.specs.RoundSteps.{among, with_clear_below}
+use Rattle.far_evac.specs.Turns.{IsRound, Turned, turn_size, turned, turns_made}
+use Rattle.far_evac.specs.Waiting.{first_open, polled_to}
+use Rattle.far_evac.specs.Walk.{Walked, ended, is_done, walked}
+use Rattle.far_evac.proofs.Joined.{plus_nothing}
+use Rattle.far_evac.proofs.Leading.{selecting}
+use Rattle.far_evac.proofs.LeadingTurns.{turns_lead}
+
+-- ---- a hand is exact where no word changes but by the round
+abbrev pub IsLawfulSo : Bool → Moment → Type 0
+IsLawfulSo true m = Law m.core × MomentLaw m
+IsLawfulSo false m = IsLawful m
+
+abbrev pub LearnsSo : Bool → (Moment → Tally → Type 0) → Type 0
+LearnsSo true P = Unit {0}
+LearnsSo false P = (m t : Moment) (tally : Tally) → KnowsMoment m t → P m tally → P t tally
+
+abbrev pub WalksSo : Bool → (Moment → Tally → Type 0) → Type 0
+WalksSo true P = (m : Moment) (n : ℕ) (tally : Tally) → Law m.core → MomentLaw m → m.phase ≡ Evacuating → P m tally → P (walked m n).moment (plus tally (walked m n).tally)
+WalksSo false P = (m : Moment) (k : ℕ) (w : Walked) (tally : Tally) → IsLawful m → m.phase ≡ Evacuating → WalksTo m k w → P m tally → P w.moment (plus tally w.tally)
+
+-- each small step keeps what holds of a moment, and of what was counted so far
+pub record KeepsTurns (exact : Bool) (P : Moment → Tally → Type 0) : Type 0 where
+  pub learns : LearnsSo exact P
+  pub marks : (m : Moment) (n : ℕ) (tally : Tally) → IsLawfulSo exact m → m.phase ≡ Marking → P m tally → P (after_marking m n) tally
+  pub looks : (m : Moment) (k : ℕ) (phase : Phase) (tally : Tally) → IsLawfulSo exact m → m.phase ≡ Waiting → P m tally → P (record m { core = with_clear_below m.core k; phase = phase }) tally
+  pub walks : WalksSo exact P
+  pub ends : (m : Moment) (tally : Tally) → P m tally → P (record m { phase = Idle }) tally
+
+module _ (exact : Bool) (P : Moment → Tally → Type 0) (keeps : KeepsTurns exact P) where
+  ended_kept : (w : Walked) (tally : Tally) → P w.moment tally → P (ended w) tally
+  ended_kept w tally h = cond_both (is_done w) (record w.moment { phase = Idle }) w.moment (λ (t : Moment). P t tally) (λ _. keeps.ends w.moment tally h) (λ _. h)
+
+-- ---- over any hand
+module _ (P : Moment → Tally → Type 0) (keeps : KeepsTurns false P) where
+  module _ (m t : Moment) (lawful : IsLawful m) (tally : Tally) (h : P m tally) where
+    pub marks_kept : (n count : ℕ) (waiting : Option ℕ) → m.phase ≡ Marking → MarksSome m t n count waiting → P t tally
+    marks_kept n count waiting is marks = keeps.learns (after_marking m n) t tally marks.leaves (keeps.marks m n tally lawful is h)
+
+    pub polls_kept : (answer : Polled) → m.phase ≡ Waiting → Polls m t answer → P t tally
+    polls_kept Clear is polls = keeps.learns (record m { core = with_clear_below m.core m.core.mutators; phase = Evacuating }) t tally polls (keeps.looks m m.core.mutators Evacuating tally lawful is h)
+    polls_kept (StillOpen k epoch) is polls = keeps.learns (record m { core = with_clear_below m.core k }) t tally polls.leaves (keeps.looks m k m.phase tally lawful is h)
+
+    pub walk_kept : (n : ℕ) (more : Tally) (done : Bool) → m.phase ≡ Evacuating → Evacuates m n t more done → P t (plus tally more)
+    walk_kept n more done is (k, w, walks, ends, counts, _) =
+        subst (λ (x : Moment). P x (plus tally more)) (sym ends)
+        (ended_kept false P keeps w (plus tally more) (subst (λ (x : Tally). P w.moment (plus tally x)) (sym counts) (keeps.walks m k w tally lawful is walks.walks h)))
+
+    pub stop_kept : (n : ℕ) (more : Tally) → m.phase ≡ Evacuating → StopsAt m n t more → P t (plus tally more)
+    stop_kept n more is (k, w, walks, _, _, known, counts) =
+        keeps.learns w.moment t (plus tally more) known (subst (λ (x : Tally). P w.moment (plus tally x)) (sym counts) (keeps.walks m k w tally lawful is walks h))
+
+    none_counted : (more : Tally) → more ≡ nothing → P t tally → P t (plus tally more)
+    none_counted more none then = subst (P t) (sym (ap (plus tally) none ∙ plus_nothing tally)) then
+
+    turn_by : (phase : Phase) (more : Tally) (done : Bool) → m.phase ≡ phase → TurnsTo m phase more done t → P t (plus tally more)
+    turn_by Idle more done is odd = absurd odd
+    turn_by Marking more done is (none, _, (count, waiting, marks)) = none_counted more none (marks_kept turn_size count waiting is marks)
+    turn_by Waiting more done is (none, _, (answer, polls)) = none_counted more none (polls_kept answer is polls)
+    turn_by Evacuating more done is turn = walk_kept turn_size more done is turn
+
+    pub turn_kept : (more : Tally) (done : Bool) → TurnsTo m m.phase more done t → P t (plus tally more)
+    turn_kept more done = turn_by m.phase more done refl
+
+  pub turns_kept : (m : Moment) → P m nothing → (tallies : List Tally) (over : Bool) (t : Moment) → TurnsMade m tallies over t → P t (sum_of tallies)
+  turns_kept m h [] over t made = subst (λ (x : Moment). P x nothing) (sym made.0) h
+  turns_kept m h (more ∷ tallies) over t (u, made, turn, lawful) = turn_kept u t lawful (sum_of tallies) (turns_kept m h tallies false u made) more over turn
+
+  -- a whole round from its begin on, also one that stopped at an object
+  pub round_kept : (m t : Moment) (logs : List ℕ) (turns : ℕ) (end : RoundEnd) → P (after_selecting m logs) nothing → RunsRound m logs turns end t → (tally : Tally) × P t tally
+  round_kept m t [] turns end h is = (nothing, subst (λ (x : Moment). P x nothing) (sym is.1) h)
+  round_kept m t (l ∷ ls) turns end h (tallies, over, made, _, _) = (sum_of tallies, turns_kept (after_selecting m (l ∷ ls)) h tallies over t made)
+
+  pub stopped_kept : (m t : Moment) (logs : List ℕ) (turns : ℕ) (so_far : Progress) → P (after_selecting m logs) nothing → StopsRound m logs turns so_far t → (tally : Tally) × P t tally
+  stopped_kept m t logs turns so_far h (tallies, u, more, made, _, leaves, stops, _, lawful) =
+      (plus (sum_of tallies) more, stop_kept u t lawful (sum_of tallies) (turns_kept (after_selecting m logs) h tallies false u made) turn_size more leaves stops)
+
+-- ---- where no word changes but by the round
+module _ (P : Moment → Tally → Type 0) (keeps : KeepsTurns true P) where
+  polled_kept : (m : Moment) (tally : Tally) → Law m.core → MomentLaw m → m.phase ≡ Waiting → P m tally → (o : Option ℕ) → P (polled_to m o) tally
+  polled_kept m tally law moment is h None = keeps.looks m m.core.mutators Evacuating tally (law, moment) is h
+  polled_kept m tally law moment is h (Some k) = keeps.looks m k m.phase tally (law, moment) is h
+
+  turned_kept : (r : Turned) → Law r.moment.core → MomentLaw r.moment → P r.moment r.tally → (phase : Phase) → r.moment.phase ≡ phase → P (turned r phase).moment (turned r phase).tally
+  turned_kept r law moment h Idle is = h
+  turned_kept r law moment h Marking is = keeps.marks r.moment turn_size r.tally (law, moment) is h
+  turned_kept r law moment h Waiting is = polled_kept r.moment r.tally law moment is h (first_open r.moment.core)
+  turned_kept r law moment h Evacuating is =
+      let w = walked r.moment turn_size in ended_kept true P keeps w (plus r.tally w.tally) (keeps.walks r.moment turn_size r.tally law moment is h)
+
+  pub turns_kept_exactly : (m : Moment) (n : ℕ) → Law m.core → MomentLaw m → is_idle m.phase ≡ false → P m nothing → P (turns_made m n).moment (turns_made m n).tally
+  turns_kept_exactly m zero law moment runs h = h
+  turns_kept_exactly m (suc n) law moment runs h =
+      let r = turns_made m n in
+      let leads = turns_lead m n law moment runs in
+      let before = turns_kept_exactly m n law moment runs h in
+      cond_both r.over r (turned r r.moment.phase) (λ (x : Turned). P x.moment x.tally) (λ _. before) (λ _. turned_kept r leads.law leads.moment before r.moment.phase refl)
+
+-- what turns keep, a whole round keeps from its begin on
+pub round_kept_exactly : (P : Moment → Type 0) → ((m : Moment) (n : ℕ) → Law m.core → MomentLaw m → is_idle m.phase ≡ false → P m → P (turns_made m n).moment) →
+    (m : Moment) (logs : List ℕ) (turns : ℕ) (end : RoundEnd) (t : Moment) → Law m.core → MomentLaw m → is_idle m.phase ≡ true → is_spent m.core ≡ false → IsDistinct eqb logs →
+    ((l : ℕ) → among logs l ≡ true → among m.order l ≡ true) → IsRound m logs turns end t → P (after_selecting m logs) → P t
+round_kept_exactly P keeps m [] turns end t law moment idle left once of_order is h = subst P (sym is.1) h
+round_kept_exactly P keeps m (l ∷ ls) turns end t law moment idle left once of_order is h =
+    let begun = selecting m (l ∷ ls) law moment idle left once of_order in subst P (sym is.1) (keeps (after_selecting m (l ∷ ls)) turns begun.law begun.moment refl h)
