@@ -28,14 +28,10 @@ use Rattle.far_evac.specs.Ready.{Ready}
 use Rattle.far_evac.specs.Walk.{Drops, Goes, Moves, Walked, Way, dealt_as, left, settled, way_of}
 use Rattle.far_evac.proofs.Bools.{neither}
 use Rattle.far_evac.proofs.Evacuations.{deals_more}
-use Rattle.far_evac.proofs.SmallSteps.{drop_next}
-use Rattle.far_evac.proofs.SmallSteps.{walks_left}
+use Rattle.far_evac.proofs.SmallSteps.{drop_next, walks_left}
+use Rattle.far_evac.proofs.LiveOnce.{all_front}
 
 -- ---- lists
-all_parts : (P : ℕ → Type 0) (xs : List ℕ) (x : ℕ) → AllByRecursion P (xs ++ (x ∷ [])) → AllByRecursion P xs × P x
-all_parts P [] x h = (tt, h.0)
-all_parts P (y ∷ ys) x h = let rest = all_parts P ys x h.1 in ((h.0, rest.0), rest.1)
-
 one_more : (n : ℕ) → suc n ≡ n + 1
 one_more n = omega arith
 
@@ -49,7 +45,7 @@ first_more m k w p rest ready walks is =
 left_alone : (m : Moment) (k : ℕ) (w : Walked) (p : ℕ) (rest : List ℕ) → Ready m.core m.held → WalksTo m k w → left w ≡ p ∷ rest →
     (q : ℕ) → none_of (first_live m (k + 1)) q → none_of (first_live m k) q × other_than p q
 left_alone m k w p rest ready walks is q none =
-    let parts = all_parts (λ x. x ≢ q) (first_live m k) p (subst (AllByRecursion (λ x. x ≢ q)) (first_more m k w p rest ready walks is) none) in
+    let parts = all_front (λ x. x ≢ q) (first_live m k) p (subst (AllByRecursion (λ x. x ≢ q)) (first_more m k w p rest ready walks is) none) in
     (parts.0, λ e. parts.1 (sym e))
 
 -- one object more, and what its own call of the device leaves alone

@@ -15,7 +15,7 @@ use Rattle.far_evac.specs.declared.answers.Polled.{Polled}
 use Rattle.far_evac.specs.declared.answers.Polled.TheVariants.{Clear, StillOpen}
 use Rattle.far_evac.specs.declared.phase.Phase.{Phase}
 use Rattle.far_evac.specs.declared.phase.Phase.TheVariants.{Idle, Marking, Waiting, Evacuating}
-use Rattle.far_evac.specs.AnyHand.{Evacuates, FindsFirst, Polls, StopsAt, TurnsTo, WalksTo, found_first}
+use Rattle.far_evac.specs.AnyHand.{Evacuates, Polls, StopsAt, TurnsTo, WalksTo}
 use Rattle.far_evac.specs.Laws.{DealtInOrder}
 use Rattle.far_evac.specs.Live.{live_in, live_among, pointers_of}
 use Rattle.far_evac.specs.Moment.{Moment, Tally, nothing, plus}
@@ -23,11 +23,10 @@ use Rattle.far_evac.specs.MomentLaw.{MomentLaw, has_risen, is_idle}
 use Rattle.far_evac.specs.Ready.{Ready}
 use Rattle.far_evac.specs.Turning.{GoesOn, IsBounded, IsWithin, most_objects}
 use Rattle.far_evac.specs.Turns.{turn_size}
-use Rattle.far_evac.specs.Walk.{Walked, begun, dealt_so, ended, is_done, left, way_of}
-use Rattle.far_word.specs.Pointer.{read_of}
+use Rattle.far_evac.specs.Walk.{Walked, ended, is_done, left}
 use Rattle.far_evac.proofs.InOrder.{in_order}
 use Rattle.far_evac.proofs.Readiness.{risen_is_ready}
-use Rattle.far_evac.proofs.Rounds.{marking_runs, passed_phase, so_phase}
+use Rattle.far_evac.proofs.Rounds.{marking_runs, walks_phase}
 use Rattle.far_evac.proofs.OfOneKind.{sealed_used}
 
 -- ---- a log has no more objects than words, and a heap no more logs than a heap may have
@@ -64,17 +63,6 @@ module _ (m : Moment) (law : Law (own_part m.core)) (agrees : MomentLaw m) where
   -- nothing was counted yet
   pub starts_within : IsWithin m nothing
   starts_within = record { objects = omega (arith, few_left); logs = omega (arith, few_held); fresh = λ _. refl }
-
--- ---- over any hand too a walk stays in its phase
-found_phase : (u : Walked) (word : ℕ) (xs : List ℕ) → FindsFirst u word xs → (found_first u word xs).moment.phase ≡ u.moment.phase
-found_phase u word [] finds = absurd finds
-found_phase u word (p ∷ ps) finds =
-    let way = way_of u.moment.core (read_of word) in
-    passed_phase (dealt_so u p way).moment.held (dealt_so u p way) ∙ so_phase u p way
-
-walks_phase : (m : Moment) (k : ℕ) (w : Walked) → WalksTo m k w → w.moment.phase ≡ m.phase
-walks_phase m zero w walks = ap (λ (x : Moment). x.phase) walks.moment.rest ∙ passed_phase m.held (begun m)
-walks_phase m (suc k) w (u, word, walks, deals) = ap (λ (x : Moment). x.phase) deals.leaves.moment.rest ∙ found_phase u word (left u) deals.finds ∙ walks_phase m k u walks
 
 -- ---- after a walk
 module _ (m : Moment) (total : Tally) (within : IsWithin m total) (ready : Ready m.core m.held) (k : ℕ) (w : Walked) (walks : WalksTo m k w) where

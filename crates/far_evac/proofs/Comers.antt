@@ -36,6 +36,7 @@ use Rattle.far_evac.specs.Laws.{but_evac}
 use Rattle.far_evac.specs.Strays.{ComersJoin, EventsBringNone, NoneComes, OwnersBringNone}
 use Rattle.far_evac.proofs.Marks.{IsNearWord, clear_sets, mark_sets}
 use Rattle.far_evac.proofs.Strays.{near_but}
+use Rattle.far_evac.proofs.Framed.{name_one}
 
 -- ---- steps after each other
 pub none_same : (s : State) → NoneComes s s
@@ -146,19 +147,6 @@ get_epoch s l at false = refl
 get_epoch s l at true = refl
 
 -- ---- any event: the epoch stays, and nothing comes; or it rises
-form_epoch : (s : State) (p new : ℕ) (o : Option Naming) → (after_naming s p new o).epoch ≡ s.epoch
-form_epoch s p new None = refl
-form_epoch s p new (Some (Places len ds place)) = refl
-form_epoch s p new (Some Retires) = refl
-form_epoch s p new (Some (Evicts len place)) = refl
-form_epoch s p new (Some Stays) = refl
-form_epoch s p new (Some (Moves len ds from to)) = refl
-form_epoch s p new (Some (Fetches len ds place)) = refl
-
-name_epoch : (s : State) (p old new : ℕ) → (after s (Name p old new)).epoch ≡ s.epoch
-name_epoch s p old new = cond_both (s.cell p == old) (after_naming s p new (naming_of (read_of old) (read_of new))) s (λ (t : State). t.epoch ≡ s.epoch)
-    (λ _. form_epoch s p new (naming_of (read_of old) (read_of new))) (λ _. refl)
-
 pub record Brings (s t : State) : Type 0 where
   pub rises : s.epoch ≤ t.epoch
   pub none : t.epoch ≡ s.epoch → NoneComes s t
@@ -179,7 +167,7 @@ legal_brings s (Close m) law legal = owners_none s (after s (Close m)) refl (cha
 legal_brings s (Adopt m p) law legal = owners_none s (after s (Adopt m p)) refl (change s (Adopt m p) law refl legal)
 legal_brings s (Ask m p k) law legal = owners_none s (after s (Ask m p k)) refl (change s (Ask m p k) law refl legal)
 legal_brings s (Put l at w) law legal = still_none s (after s (Put l at w)) refl (record { round = λ k is. is; near = λ p len ds place marks near is. (marks, near) })
-legal_brings s (Name p old new) law legal = still_none s (after s (Name p old new)) (name_epoch s p old new) (name_none s law p new old legal)
+legal_brings s (Name p old new) law legal = still_none s (after s (Name p old new)) (ap (λ (u : State). u.epoch) (name_one s p new old).frame) (name_none s law p new old legal)
 legal_brings s (See p) law legal = still_none s s refl (none_same s)
 legal_brings s (Mark p) law (range, (len, ds, place, marks, near, inside, shut)) = still_none s (after s (Mark p)) refl (mark_none s law p len ds place marks near)
 legal_brings s (Get l at free) law legal = still_none s (after s (Get l at free)) (get_epoch s l at free) (get_none s l at free)

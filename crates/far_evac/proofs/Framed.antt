@@ -43,7 +43,7 @@ module _ (s : State) (p new : ℕ) where
   naming_one None = same_one s p
   naming_one (Some form) = row_one form
 
-  name_one : (old : ℕ) → ChangesOne s p (after s (Name p old new))
+  pub name_one : (old : ℕ) → ChangesOne s p (after s (Name p old new))
   name_one old = cond_both (s.cell p == old) (after_naming s p new (naming_of (read_of old) (read_of new))) s (ChangesOne s p)
       (λ _. naming_one (naming_of (read_of old) (read_of new))) (λ _. same_one s p)
 

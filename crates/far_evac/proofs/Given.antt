@@ -1,5 +1,5 @@
 -- Which logs a walk gives back: those in front, which leave the round.
-use Rattle.std.proofs.Common.{◌≡◌, ℕ, suc, ◌+◌, ◌≤◌, false, List, [], ◌∷◌, ◌++◌, length, take, drop, arith, ap, sym, refl, ◌∙◌, subst}
+use Rattle.std.proofs.Common.{◌≡◌, ℕ, suc, ◌+◌, ◌≤◌, false, List, [], ◌∷◌, length, take, drop, arith, ap, sym, refl, ◌∙◌, subst}
 use Rattle.std.specs.List.{AllByRecursion}
 use Rattle.far_core.specs.state.State.{State}
 use Rattle.far_core.proofs.Put.{put_both, put_same}
@@ -9,17 +9,13 @@ use Rattle.far_evac.specs.Moment.{Moment}
 use Rattle.far_evac.specs.Ready.{Ready}
 use Rattle.far_evac.specs.Walk.{Walked, freed}
 use Rattle.far_evac.proofs.Framed.{so_one}
-use Rattle.far_evac.proofs.LiveOnce.{each_map}
+use Rattle.far_evac.proofs.LiveOnce.{all_append, each_map}
 use Rattle.far_evac.proofs.SmallSteps.{Keeps, drop_next, holding, lifted_walks}
 
 record Given (all : List ℕ) (w : Walked) : Type 0 where
   held : w.moment.held ≡ drop w.tally.freed all
   most : w.tally.freed ≤ length all
   gone : AllByRecursion (λ l. w.moment.core.round l ≡ false) (take w.tally.freed all)
-
-all_end : (P : ℕ → Type 0) (xs : List ℕ) (x : ℕ) → AllByRecursion P xs → P x → AllByRecursion P (xs ++ (x ∷ []))
-all_end P [] x h here = (here, tt)
-all_end P (y ∷ ys) x h here = (h.0, all_end P ys x h.1 here)
 
 one_more : (n : ℕ) → suc n ≡ n + 1
 one_more n = omega arith
@@ -32,9 +28,9 @@ next_given all w l ls g =
       most = subst (λ n. n ≤ length all) more next.1;
       gone = subst (λ n. AllByRecursion (λ k. (freed w l).moment.core.round k ≡ false) (take n all)) more
           (subst (AllByRecursion (λ k. (freed w l).moment.core.round k ≡ false)) (sym next.2)
-          (all_end (λ k. (freed w l).moment.core.round k ≡ false) (take w.tally.freed all) l
+          (all_append (λ k. (freed w l).moment.core.round k ≡ false) (take w.tally.freed all) (l ∷ [])
           (each_map (λ k h. put_both (λ b. b ≡ false) w.moment.core.round l false k (λ _. refl) (λ _. h)) (take w.tally.freed all) g.gone)
-          (put_same w.moment.core.round l false l refl)));
+          (put_same w.moment.core.round l false l refl, tt)));
     }
 
 known_given : (all : List ℕ) (w t : Walked) → KnowsWalked w t → Given all w → Given all t

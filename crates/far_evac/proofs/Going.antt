@@ -22,9 +22,8 @@ use Rattle.far_evac.proofs.Dealt.{says_far, says_moved}
 use Rattle.far_evac.proofs.SmallSteps.{Keeps, Stands, dealt_is, drop_next, lifted_walked}
 use Rattle.far_evac.proofs.Framed.{passed_frame, so_one}
 use Rattle.far_evac.proofs.Lacking.{Once, all_at, once_among}
-use Rattle.far_evac.proofs.LiveOnce.{all_append, each_map, live_named}
+use Rattle.far_evac.proofs.LiveOnce.{all_append, all_front, each_map, live_named}
 use Rattle.far_evac.proofs.LiveOrder.{place_named}
-use Rattle.far_evac.proofs.Subjects.{all_front}
 use Rattle.far_evac.proofs.Tours.{core_so}
 
 -- ---- lists

@@ -10,9 +10,8 @@ use Rattle.far_evac.specs.Moment.{Moment}
 use Rattle.far_evac.specs.Ready.{Ready}
 use Rattle.far_evac.specs.Walk.{Walked}
 use Rattle.far_evac.proofs.Given.{gives_back}
-use Rattle.far_evac.proofs.SmallSteps.{walks_left}
+use Rattle.far_evac.proofs.SmallSteps.{tallies_all, walks_left}
 use Rattle.far_evac.proofs.Subjects.{deals_with}
-use Rattle.far_evac.proofs.Tallies.{tallies_all}
 
 none_dropped : (xs : List ℕ) → drop (length xs) xs ≡ []
 none_dropped [] = refl

@@ -23,13 +23,12 @@ use Rattle.far_hand.specs.Quiet.{is_quiet}
 use Rattle.far_book.specs.book.Effects.{evicted, moved, with_free_cell}
 use Rattle.far_book.specs.book.Releasing.{released}
 use Rattle.far_book.proofs.region.EvictingLaw.{evicting}
-use Rattle.far_book.proofs.region.Evictions.{evicted_is}
-use Rattle.far_book.proofs.region.Moved.{moved_is}
 use Rattle.far_book.proofs.region.MovesReached.{moving}
 use Rattle.far_evac.specs.Laws.{but_evac}
 use Rattle.far_evac.specs.Owned.{KeepsObjects, anywhere}
 use Rattle.far_evac.proofs.Leading.{not_zero}
-use Rattle.far_evac.proofs.StepsAside.{layout}
+use Rattle.far_evac.proofs.Framed.{framed, so_one}
+use Rattle.far_evac.specs.Walk.{Goes, Moves}
 
 -- ---- steps after each other
 pub objects_none : (s : State) → KeepsObjects s s
@@ -101,10 +100,6 @@ freed_objects s p dropped = record {
 }
 
 -- ---- one object goes elsewhere
--- all that owners change, and the round, is as it was
-abbrev framed : State → State → State
-framed s t = record s { cell = t.cell; word = t.word; kind = t.kind; tail = t.tail; current = t.current; starts = t.starts; stored = t.stored }
-
 module _ (s t : State) (p : ℕ) (near : (q : ℕ) → q ≢ p → t.cell q ≡ s.cell q) (alive : is_dropped (read_of (t.cell p)) ≡ false) (was : s.cell p ≢ 0) (is : t.cell p ≢ 0) (o : Object) (home : Home)
     (found : (world_of s).object p ≡ Some o) (gone : (world_of t).object ≡ put (world_of s).object p (Some (with_home o home))) where
   object_gone : (q : ℕ) → anywhere ((world_of t).object q) ≡ anywhere ((world_of s).object q)
@@ -143,10 +138,8 @@ moved_objects s p len ds from to m law near quiet alive wanted found =
     let way = moving s p len ds from to m law near quiet alive wanted found in
     let t = moved s p to in
     let gone = way.2.moved in
-    let says = (read_says (s.cell p) (Near len ds from m) (law.cells.cell_read p).0 near).0 in
-    let is = moved_is s p len ds from to m near alive wanted (layout s law len ds to false says.0 says.1 says.2 found) in
     object_elsewhere s t p way.3.cells (ap is_dropped way.3.cell) (not_zero (s.cell p) len ds from m near) (not_zero (t.cell p) len ds to no_marks way.3.cell) gone.0 (Group to.log) gone.2
-    (ap (λ (w : World). w.object) gone.4) (is ∙ sym (ap (framed s) is))
+    (ap (λ (w : World). w.object) gone.4) (so_one s p (Moves to)).frame
 
 far_not_zero : (w len ds : ℕ) (m : Marks) → read_of w ≡ Some (Far len ds m) → w ≢ 0
 far_not_zero w len ds m far e = let odd : Some Free ≡ Some (Far len ds m) = sym unused ∙ ap read_of (sym e) ∙ far in absurd cc
@@ -157,10 +150,8 @@ evicted_objects s p len ds place m law pointer near quiet wanted alive =
     let way = evicting s p len ds place m law pointer near quiet wanted alive in
     let t = evicted s p in
     let gone = way.2.gone in
-    let says = (read_says (s.cell p) (Near len ds place m) (law.cells.cell_read p).0 near).0 in
-    let is = evicted_is s p len ds place (says.0, says.1, says.2, refl) m near alive wanted in
     object_elsewhere s t p way.3.cells (ap is_dropped way.3.cell) (not_zero (s.cell p) len ds place m near) (far_not_zero (t.cell p) len ds no_marks way.3.cell) gone.0 FarSide gone.2
-    (ap (λ (w : World). w.object) gone.4) (is ∙ sym (ap (framed s) is))
+    (ap (λ (w : World). w.object) gone.4) (so_one s p Goes).frame
 
 -- ---- EVAC is set or taken
 same_object : (word stored : ℕ → ℕ) (p : ℕ) (o : Option PtrWord) → object_of word stored p o ≡ object_of word stored p (but_evac o)

@@ -170,6 +170,9 @@ pub record GoesLawfully (s : State) (l p : ℕ) (way : Way) : Type 0 where
   pub evac : marks.evac ≡ true
   pub pointer : p < CELLS * s.mutators
   pub quiet : is_quiet s.round s.clear p place marks ≡ true
+  pub rest : List ℕ
+  pub live : live_in s l ≡ p ∷ rest
+  pub goes : way_of s (read_of (s.cell p)) ≡ way
   pub is : cond marks.dropped Drops (cond marks.hot (hot_way (room s (size_of len) false)) Goes) ≡ way
 
 module _ {m : Moment} {k : ℕ} {s : State} {l : ℕ} {ls : List ℕ} {p : ℕ} {ps : List ℕ} {way : Way} (first : GoesFirst true m k s l ls p ps way) (order : List ℕ) (phase : Phase) (h : GoesOn m s order phase (l ∷ ls)) where
@@ -200,6 +203,9 @@ module _ {m : Moment} {k : ℕ} {s : State} {l : ℕ} {ls : List ℕ} {p : ℕ} 
     evac = marked;
     pointer = pointer;
     quiet = or_right at_home.marks.moved (at_home.marks.evac && s.round at_home.place.log && s.clear (p / CELLS)) (rw (marked, in_round, seen) refl);
+    rest = ps;
+    live = first.live;
+    goes = first_way first;
     is = sym (ap (way_of s) at_home.near) ∙ first_way first;
   }
 

@@ -61,7 +61,6 @@ pub mod Standings
 pub mod StepsAside
 pub mod Strays
 pub mod Subjects
-pub mod Tallies
 pub mod Tours
 pub mod TurnSteps
 pub mod TurnsOn

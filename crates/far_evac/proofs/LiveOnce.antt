@@ -25,6 +25,18 @@ pub all_append : (P : ℕ → Type 0) (xs ys : List ℕ) → AllByRecursion P xs
 all_append P [] ys f g = g
 all_append P (x ∷ xs) ys f g = (f.0, all_append P xs ys f.1 g)
 
+pub all_front : (P : ℕ → Type 0) (xs : List ℕ) (x : ℕ) → AllByRecursion P (xs ++ (x ∷ [])) → AllByRecursion P xs × P x
+all_front P [] x h = (tt, h.0)
+all_front P (y ∷ ys) x h = let rest = all_front P ys x h.1 in ((h.0, rest.0), rest.1)
+
+pub both : (P Q : ℕ → Type 0) (xs : List ℕ) → AllByRecursion P xs → AllByRecursion Q xs → AllByRecursion (λ x. P x × Q x) xs
+both P Q [] f g = tt
+both P Q (x ∷ xs) f g = ((f.0, g.0), both P Q xs f.1 g.1)
+
+pub every : (P : ℕ → Type 0) → ((q : ℕ) → P q) → (xs : List ℕ) → AllByRecursion P xs
+every P each [] = tt
+every P each (x ∷ xs) = (each x, every P each xs)
+
 -- all but p
 abbrev pub but : ℕ → List ℕ → List ℕ
 but p qs = filter (λ q. not (q == p)) qs

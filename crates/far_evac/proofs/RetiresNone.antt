@@ -1,8 +1,8 @@
 -- Where no object is dropped a walk retires none.
-use Rattle.std.proofs.Common.{◌≡◌, ◌≢◌, ℕ, zero, suc, ◌+◌, ◌^◌, ◌<◌, Bool, false, cond, Option, Some, None, List, [], ◌∷◌, take, arith, ap, sym, refl, ◌∙◌}
+use Rattle.std.proofs.Common.{◌≡◌, ◌≢◌, ℕ, ◌+◌, ◌^◌, ◌<◌, Bool, false, cond, Option, Some, None, List, [], ◌∷◌, take, arith, ap, sym, refl, ◌∙◌, true}
 use Rattle.std.specs.Prelude.{IsSome, count_by, fold}
 use Rattle.std.specs.List.{AllByRecursion}
-use Rattle.std.proofs.lemmas.Bool.{cond_both, false≢true}
+use Rattle.std.proofs.lemmas.Bool.{false≢true}
 use Rattle.far_word.specs.declared.pointer.PtrWord.{PtrWord}
 use Rattle.far_word.specs.declared.pointer.PtrWord.TheVariants.{Free, Near, Far}
 use Rattle.far_word.specs.Pointer.{read_of}
@@ -10,24 +10,22 @@ use Rattle.far_word.proofs.PointerLaws.{read_says}
 use Rattle.far_core.specs.state.Law.{Law}
 use Rattle.far_core.specs.state.State.{State}
 use Rattle.far_book.proofs.region.Owns.{own_law}
-use Rattle.far_evac.specs.declared.phase.Phase.{Phase}
-use Rattle.far_evac.specs.declared.phase.Phase.TheVariants.{Idle, Marking, Waiting, Evacuating}
+use Rattle.far_evac.specs.declared.phase.Phase.TheVariants.{Evacuating}
 use Rattle.far_evac.specs.Dealings.{is_nowhere, says}
 use Rattle.far_evac.specs.Live.{live_among}
 use Rattle.far_evac.specs.Moment.{Moment}
 use Rattle.far_evac.specs.MomentLaw.{MomentLaw, has_risen}
 use Rattle.far_evac.specs.Owned.{NoneDropped, TurnsRetireNone, WalkRetiresNone}
-use Rattle.far_evac.specs.Turns.{Turned, turn_size, turned, turns_made}
 use Rattle.far_evac.specs.Walk.{walked}
 use Rattle.far_evac.proofs.InOrder.{in_order}
-use Rattle.far_evac.proofs.KeptTurns.{turns_objects}
+use Rattle.far_evac.proofs.KeptTurns.{marking_objects}
 use Rattle.far_evac.proofs.Leading.{all_lives, not_zero}
-use Rattle.far_evac.proofs.LeadingTurns.{turns_lead}
 use Rattle.far_evac.proofs.LeadingWalks.{walking_law, walking_objects}
 use Rattle.far_evac.proofs.LiveOnce.{each_map, near_at}
 use Rattle.far_evac.proofs.Marks.{all_take}
 use Rattle.far_evac.proofs.Readiness.{risen_is_ready}
 use Rattle.far_evac.proofs.Walks.{walk_is}
+use Rattle.far_evac.proofs.TurnSteps.{KeepsTurns, turns_kept_exactly}
 
 -- ---- what a cell says that is used
 free_only : (w : ℕ) → w < 2 ^ 64 → read_of w ≡ Some Free → w ≡ 0
@@ -78,17 +76,15 @@ pub walk_retires_none : WalkRetiresNone
 walk_retires_none m n law moment leaves none = walk_retires m n law moment leaves none
 
 -- ---- turn after turn
-turn_retires : (r : Turned) → Law r.moment.core → MomentLaw r.moment → NoneDropped r.moment.core → r.tally.dropped ≡ 0 → (phase : Phase) → r.moment.phase ≡ phase → (turned r phase).tally.dropped ≡ 0
-turn_retires r law moment none so_far Idle e = so_far
-turn_retires r law moment none so_far Marking e = so_far
-turn_retires r law moment none so_far Waiting e = so_far
-turn_retires r law moment none so_far Evacuating e = ap (λ a. a + (walked r.moment turn_size).tally.dropped) so_far ∙ ap (λ b. 0 + b) (walk_retires r.moment turn_size law moment e none)
+keeps_undropped : KeepsTurns true (λ m tally. NoneDropped m.core × (tally.dropped ≡ 0))
+keeps_undropped = record {
+  learns = tt;
+  marks = λ m n tally lawful is (none, h). ((λ p. (marking_objects m n lawful.0 lawful.1 is).alive p (none p)), h);
+  looks = λ m k phase tally lawful is h. h;
+  walks = λ m n tally law moment is (none, h).
+      ((λ p. (walking_objects m n law moment is).midst.alive p (none p)), ap (λ a. a + (walked m n).tally.dropped) h ∙ ap (λ b. 0 + b) (walk_retires m n law moment is none));
+  ends = λ m tally h. h;
+}
 
 pub turns_retire_none : TurnsRetireNone
-turns_retire_none m zero law moment runs none = refl
-turns_retire_none m (suc n) law moment runs none =
-    let r = turns_made m n in
-    let leads = turns_lead m n law moment runs in
-    let before = turns_retire_none m n law moment runs none in
-    cond_both r.over r (turned r r.moment.phase) (λ (x : Turned). x.tally.dropped ≡ 0) (λ _. before)
-    (λ _. turn_retires r leads.law leads.moment (λ p. (turns_objects m n law moment runs).alive p (none p)) before r.moment.phase refl)
+turns_retire_none m n law moment runs none = (turns_kept_exactly (λ m tally. NoneDropped m.core × (tally.dropped ≡ 0)) keeps_undropped m n law moment runs (none, refl)).1

@@ -27,7 +27,7 @@ use Rattle.far_evac.specs.TakesRoom.{IsAside, IsBack, IsLeft, TakesRoom, WalkTak
 use Rattle.far_evac.specs.Walk.{Walked, Way}
 use Rattle.far_evac.proofs.Leading.{not_zero}
 use Rattle.far_evac.proofs.Framed.{so_one}
-use Rattle.far_evac.proofs.LiveOnce.{each_map, first_named}
+use Rattle.far_evac.proofs.LiveOnce.{each_map, every, first_named}
 use Rattle.far_evac.proofs.RoomTaken.{IsOff, Taken, alike_known, none_taken, off_none, sum_none, taken_alike, taken_back, taken_more}
 use Rattle.far_evac.proofs.SmallSteps.{GoesFirst, Keeps, finds_first, first_gone, lifted_walks}
 use Rattle.far_evac.proofs.SpanBytes.{Sound, all_used}
@@ -114,10 +114,6 @@ sum_two f g h each (x ∷ xs) =
     let e = each x in let rest = sum_two f g h each xs in
     omega (arith, e, rest, sum_by-cons f x xs, sum_by-cons g x xs, sum_by-cons h x xs)
 
-all_of : (P : ℕ → Type 0) → ((x : ℕ) → P x) → (xs : List ℕ) → AllByRecursion P xs
-all_of P each [] = tt
-all_of P each (x ∷ xs) = (each x, all_of P each xs)
-
 module _ (k n : ℕ) where
   abbrev here : ℕ → ℕ
   here l = cond (k == l) n 0
@@ -143,16 +139,16 @@ module _ (k n : ℕ) where
   ]
 
 at_one : (n : ℕ) (o : Option PtrWord) → ((len ds : ℕ) (place : Place) (marks : Marks) → o ≡ Some (Near len ds place marks) → place.log < n) → sum_by (λ l. bytes_at l o) (range_with_len 0 n) ≡ bytes_near o
-at_one n None inside = sum_none (λ l. 0) (range_with_len 0 n) (all_of (λ x. 0 ≡ 0) (λ x. refl) (range_with_len 0 n))
-at_one n (Some Free) inside = sum_none (λ l. 0) (range_with_len 0 n) (all_of (λ x. 0 ≡ 0) (λ x. refl) (range_with_len 0 n))
+at_one n None inside = sum_none (λ l. 0) (range_with_len 0 n) (every (λ x. 0 ≡ 0) (λ x. refl) (range_with_len 0 n))
+at_one n (Some Free) inside = sum_none (λ l. 0) (range_with_len 0 n) (every (λ x. 0 ≡ 0) (λ x. refl) (range_with_len 0 n))
 at_one n (Some (Near len ds place marks)) inside = one_log place.log (bytes_taken len) 0 n (omega arith) (let lt = inside len ds place marks refl in omega (arith, lt))
-at_one n (Some (Far len ds marks)) inside = sum_none (λ l. 0) (range_with_len 0 n) (all_of (λ x. 0 ≡ 0) (λ x. refl) (range_with_len 0 n))
+at_one n (Some (Far len ds marks)) inside = sum_none (λ l. 0) (range_with_len 0 n) (every (λ x. 0 ≡ 0) (λ x. refl) (range_with_len 0 n))
 
 abbrev near_of : State → ℕ → ℕ
 near_of s p = bytes_near (read_of (s.cell p))
 
 in_all : (s : State) → Sound s → (objects : List ℕ) → sum_by (λ l. bytes_in s l objects) (range_with_len 0 s.logs) ≡ sum_by (near_of s) objects
-in_all s sound [] = sum_none (λ l. bytes_in s l []) (range_with_len 0 s.logs) (all_of (λ l. bytes_in s l [] ≡ 0) (λ l. refl) (range_with_len 0 s.logs))
+in_all s sound [] = sum_none (λ l. bytes_in s l []) (range_with_len 0 s.logs) (every (λ l. bytes_in s l [] ≡ 0) (λ l. refl) (range_with_len 0 s.logs))
 in_all s sound (p ∷ ps) =
     let two = sum_two (λ l. bytes_in s l (p ∷ ps)) (λ l. bytes_at l (read_of (s.cell p))) (λ l. bytes_in s l ps) (λ l. sum_by-cons (λ q. bytes_at l (read_of (s.cell q))) p ps) (range_with_len 0 s.logs) in
     let one = at_one s.logs (read_of (s.cell p)) (sound.inside p) in

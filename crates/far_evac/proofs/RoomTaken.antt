@@ -34,7 +34,7 @@ use Rattle.far_evac.specs.RoundSteps.{among}
 use Rattle.far_evac.specs.LiveLaws.{IsNearIn}
 use Rattle.far_evac.specs.TakesRoom.{bytes_at, bytes_in, bytes_near, spot_of}
 use Rattle.far_evac.proofs.Bools.{or_left, or_right}
-use Rattle.far_evac.proofs.LiveOnce.{LivesIn, NearAt, each_map, names_once, near_at}
+use Rattle.far_evac.proofs.LiveOnce.{LivesIn, NearAt, all_append, all_front, both, each_map, every, names_once, near_at}
 use Rattle.far_evac.proofs.SpanBytes.{Dealt, Sound}
 
 -- ---- bytes by what a cell says
@@ -206,10 +206,6 @@ module _ (s t : State) (alike : Alike s t) where
         let first : cond (is_live t l x) (bytes_taken x.len) 0 ≡ cond (is_live s l x) (bytes_taken x.len) 0 = ap (λ b. cond b (bytes_taken x.len) 0) (same_names (read_of (t.cell x.p)) (read_of (s.cell x.p)) (alike.spots x.p) l x.at) in
         let rest = same_live xs in omega (arith, first, rest)
 
-  every : (P : ℕ → Type 0) → ((q : ℕ) → P q) → (xs : List ℕ) → AllByRecursion P xs
-  every P each [] = tt
-  every P each (x ∷ xs) = (each x, every P each xs)
-
   bytes_alike : (l : ℕ) (objects : List ℕ) → bytes_in t l objects ≡ bytes_in s l objects
   bytes_alike l objects = sum_same (λ p. bytes_at l (read_of (t.cell p))) (λ p. bytes_at l (read_of (s.cell p))) objects
       (every (λ p. bytes_at l (read_of (t.cell p)) ≡ bytes_at l (read_of (s.cell p))) (λ q. same_at l (read_of (t.cell q)) (read_of (s.cell q)) (alike.spots q)) objects)
@@ -340,18 +336,6 @@ module _ (s : State) (l : ℕ) (sound : Sound s) (none : is_empty (live_in s l) 
     }
 
 -- ---- an object of a log that is held is dealt with
-all_end : (P : ℕ → Type 0) (xs : List ℕ) (x : ℕ) → AllByRecursion P xs → P x → AllByRecursion P (xs ++ (x ∷ []))
-all_end P [] x h here = (here, tt)
-all_end P (y ∷ ys) x h here = (h.0, all_end P ys x h.1 here)
-
-all_front : (P : ℕ → Type 0) (xs : List ℕ) (x : ℕ) → AllByRecursion P (xs ++ (x ∷ [])) → AllByRecursion P xs × P x
-all_front P [] x h = (tt, h.0)
-all_front P (y ∷ ys) x h = let rest = all_front P ys x h.1 in ((h.0, rest.0), rest.1)
-
-both : (P Q : ℕ → Type 0) (xs : List ℕ) → AllByRecursion P xs → AllByRecursion Q xs → AllByRecursion (λ x. P x × Q x) xs
-both P Q [] f g = tt
-both P Q (x ∷ xs) f g = ((f.0, g.0), both P Q xs f.1 g.1)
-
 -- an object that is near then is as large as it was
 abbrev SameSize : State → State → ℕ → Type 0
 SameSize s t p = is_near (read_of (t.cell p)) ≡ true → bytes_near (read_of (t.cell p)) ≡ bytes_near (read_of (s.cell p))
@@ -405,19 +389,21 @@ module _ (m : Moment) (s t : State) (held objects : List ℕ) (h : Taken m s hel
     sealed = λ k aside shut. (let c = h.sealed k aside shut in let e = d.sealed k c.0 in (e.0, e.1 ∙ c.1));
     used = λ k aside some. d.used k (h.used k aside some);
     opened = opens_on;
-    sizes = all_end (λ q. SameSize m.core t q) objects p
+    sizes = all_append (λ q. SameSize m.core t q) objects (p ∷ [])
         (each_map (λ q c near. ap (λ w. bytes_near (read_of w)) (kept q c.0) ∙ c.1 (sym (ap (λ w. is_near (read_of w)) (kept q c.0)) ∙ near)) objects (both (λ q. q ≢ p) (SameSize m.core s) objects apart h.sizes))
-        (λ near. d.size near ∙ same_near (read_of (s.cell p)) (read_of (m.core.cell p)) before);
+        ((λ near. d.size near ∙ same_near (read_of (s.cell p)) (read_of (m.core.cell p)) before), tt);
     others = λ q out. let c = all_front (λ x. x ≢ q) objects p out in ap (λ w. spot_of (read_of w)) (kept q (λ e. c.1 (sym e))) ∙ h.others q c.0;
-    off = all_end (IsOff t held) objects p (each_map (λ q c k at is. ap (λ w. names_place (read_of w) k at) (kept q c.0) ∙ c.1 k at is) objects (both (λ q. q ≢ p) (IsOff s held) objects apart h.off)) gone;
-    away = all_end (λ q. HasLeft (read_of (m.core.cell q)) (read_of (t.cell q))) objects p
-        (each_map (λ q c k at to name. ap (λ w. names_place (read_of w) k to) (kept q c.0) ∙ c.1 k at to name) objects (both (λ q. q ≢ p) (λ q. HasLeft (read_of (m.core.cell q)) (read_of (s.cell q))) objects apart h.away))
-        (λ k at to name.
-        let same : k ≡ l = (names_once (read_of (s.cell p)) k l at lives.0 (same_names (read_of (s.cell p)) (read_of (m.core.cell p)) before k at ∙ name) lives.1).0 in
-        ap (λ x. names_place (read_of (t.cell p)) x to) same ∙ gone l to member);
+    off = all_append (IsOff t held) objects (p ∷ []) (each_map (λ q c k at is. ap (λ w. names_place (read_of w) k at) (kept q c.0) ∙ c.1 k at is) objects (both (λ q. q ≢ p) (IsOff s held) objects apart h.off)) (gone, tt);
+    away = all_append (λ q. HasLeft (read_of (m.core.cell q)) (read_of (t.cell q))) objects (p ∷ [])
+        (each_map (λ q c k at to name. ap (λ w. names_place (read_of w) k to) (kept q c.0) ∙ c.1 k at to name) objects (both (λ q. q ≢ p) (λ q. HasLeft (read_of (m.core.cell q)) (read_of (s.cell q))) objects apart h.away)) (
+          λ k at to name.
+              let same : k ≡ l = (names_once (read_of (s.cell p)) k l at lives.0 (same_names (read_of (s.cell p)) (read_of (m.core.cell p)) before k at ∙ name) lives.1).0 in
+              ap (λ x. names_place (read_of (t.cell p)) x to) same ∙ gone l to member,
+          tt,
+        );
     within = h.within;
     once = IsDistinct-push nat_eq_equiv objects p h.once (not_among objects apart);
-    from = all_end (IsNearIn m.core m.held) objects p h.from near_first;
+    from = all_append (IsNearIn m.core m.held) objects (p ∷ []) h.from (near_first, tt);
     logs = d.logs ∙ h.logs;
   } where
     free_or : (k : ℕ) → (s.kind k ≡ kinds.Free) ⊎ (s.kind k ≢ kinds.Free)

@@ -1,7 +1,6 @@
 -- Which objects turns deal with, one after the other: those that stood first when they began. Under other keys the device has what it had.
-use Rattle.std.proofs.Common.{◌≡◌, ◌≢◌, ℕ, zero, suc, ◌+◌, Bool, Option, Some, None, List, [], ◌∷◌, ◌++◌, filter, take, drop, arith, ap, sym, refl, ◌∙◌, subst}
+use Rattle.std.proofs.Common.{◌≡◌, ◌≢◌, ℕ, zero, suc, ◌+◌, false, Option, Some, None, List, [], ◌∷◌, ◌++◌, filter, take, drop, arith, ap, sym, refl, ◌∙◌, subst}
 use Rattle.std.specs.List.{AllByRecursion}
-use Rattle.std.proofs.lemmas.Bool.{cond_both}
 use mathlib.Core.Path.{fun_ext}
 use Rattle.far_word.specs.declared.pointer.PtrWord.{PtrWord}
 use Rattle.far_word.specs.declared.pointer.PtrWord.TheVariants as pointer
@@ -10,25 +9,21 @@ use Rattle.far_word.specs.Pointer.{read_of}
 use Rattle.far_log.specs.declared.span.Span.{Span}
 use Rattle.far_core.specs.state.Spans.{is_live, names_place, spans_of}
 use Rattle.far_core.specs.state.State.{State}
-use Rattle.far_evac.specs.declared.answers.Polled.{Polled}
-use Rattle.far_evac.specs.declared.answers.Polled.TheVariants.{Clear, StillOpen}
-use Rattle.far_evac.specs.declared.phase.Phase.{Phase}
-use Rattle.far_evac.specs.declared.phase.Phase.TheVariants.{Idle, Marking, Waiting, Evacuating}
-use Rattle.far_evac.specs.AnyHand.{KnowsMoment, Polls, TurnsTo}
+use Rattle.far_evac.specs.AnyHand.{KnowsMoment}
 use Rattle.far_evac.specs.Asked.{KeepsKeys, first_live}
 use Rattle.far_evac.specs.Live.{live_among, live_in, pointers_of}
 use Rattle.far_evac.specs.Marking.{after_marking}
-use Rattle.far_evac.specs.Moment.{Moment, Tally, nothing, objects_in, plus}
-use Rattle.far_evac.specs.MomentLaw.{IsLawful, has_risen}
+use Rattle.far_evac.specs.Moment.{Moment, Tally, objects_in, plus}
+use Rattle.far_evac.specs.MomentLaw.{has_risen}
 use Rattle.far_evac.specs.RoundSteps.{with_clear_below}
 use Rattle.far_evac.specs.TakesRoom.{spot_of}
-use Rattle.far_evac.specs.Turns.{turn_size}
-use Rattle.far_evac.specs.Walk.{Walked, ended, is_done, left}
+use Rattle.far_evac.specs.Walk.{left}
 use Rattle.far_evac.proofs.InOrder.{in_order}
 use Rattle.far_evac.proofs.SmallSteps.{left_known}
 use Rattle.far_evac.proofs.Readiness.{risen_is_ready}
 use Rattle.far_evac.proofs.RoomTaken.{Alike}
 use Rattle.far_evac.proofs.RoomTurns.{clear_alike, marking_alike, marking_held}
+use Rattle.far_evac.proofs.TurnSteps.{KeepsTurns}
 
 -- ---- lists in two parts
 none_taken : (n : ℕ) → take {A = ℕ} n [] ≡ []
@@ -86,45 +81,25 @@ module _ (s t : State) (alike : Alike s t) where
 known_live : (m t : Moment) → KnowsMoment m t → live_among t.core t.held ≡ live_among m.core m.held
 known_live m t known = ap (live_among t.core) (ap (λ (x : Moment). x.held) known.rest) ∙ left_known m.core t.core known.core m.held
 
--- ---- one turn
-module _ (u t : Moment) (lawful : IsLawful u) where
-  after_marks : KnowsMoment (after_marking u turn_size) t → live_among t.core t.held ≡ live_among u.core u.held
-  after_marks known =
-      known_live (after_marking u turn_size) t known ∙ ap (live_among (after_marking u turn_size).core) (marking_held u turn_size)
-      ∙ same_live u.core (after_marking u turn_size).core (marking_alike u turn_size (λ p. (lawful.0.cells.cell_read p).0)) u.held
+-- ---- all but those that were counted are left
+abbrev pub LeftOf : Moment → Moment → Tally → Type 0
+LeftOf m t tally = live_among t.core t.held ≡ drop (objects_in tally) (live_among m.core m.held)
 
-  after_looks : (answer : Polled) → Polls u t answer → live_among t.core t.held ≡ live_among u.core u.held
-  after_looks Clear polls =
-      known_live (record u { core = with_clear_below u.core u.core.mutators; phase = Evacuating }) t polls ∙ same_live u.core (with_clear_below u.core u.core.mutators) (clear_alike u.core u.core.mutators) u.held
-  after_looks (StillOpen k epoch) polls =
-      known_live (record u { core = with_clear_below u.core k }) t polls.leaves ∙ same_live u.core (with_clear_below u.core k) (clear_alike u.core k) u.held
-
-  left_ended : (w : Walked) → live_among (ended w).core (ended w).held ≡ left w
-  left_ended w = cond_both (is_done w) (record w.moment { phase = Idle }) w.moment (λ (x : Moment). live_among x.core x.held ≡ left w) (λ _. refl) (λ _. refl)
-
-  none_counted : (tally : Tally) → tally ≡ nothing → live_among t.core t.held ≡ live_among u.core u.held → live_among t.core t.held ≡ drop (objects_in tally) (live_among u.core u.held)
-  none_counted tally none same = same ∙ sym (ap (λ (x : Tally). drop (objects_in x) (live_among u.core u.held)) none)
-
-  left_by : (phase : Phase) (tally : Tally) (done : Bool) → u.phase ≡ phase → TurnsTo u phase tally done t → live_among t.core t.held ≡ drop (objects_in tally) (live_among u.core u.held)
-  left_by Idle tally done is odd = absurd odd
-  left_by Marking tally done is (none, goes, (count, waiting, marks)) = none_counted tally none (after_marks marks.leaves)
-  left_by Waiting tally done is (none, goes, (answer, polls)) = none_counted tally none (after_looks answer polls)
-  left_by Evacuating tally done is (k, w, walks, ends, counts, over) =
-      let order = in_order u k w (risen_is_ready u lawful.0 lawful.1 (ap has_risen is)) walks.walks in
-      let count : objects_in tally ≡ k = ap objects_in counts ∙ order.counted in
-      ap (λ (x : Moment). live_among x.core x.held) ends ∙ left_ended w ∙ order.left ∙ sym (ap (λ n. drop n (live_among u.core u.held)) count)
-
-  pub left_then : (tally : Tally) (done : Bool) → TurnsTo u u.phase tally done t → live_among t.core t.held ≡ drop (objects_in tally) (live_among u.core u.held)
-  left_then tally done turn = left_by u.phase tally done refl turn
+pub keeps_left : (m : Moment) → KeepsTurns false (LeftOf m)
+keeps_left m = record {
+  learns = λ u t tally known h. known_live u t known ∙ h;
+  marks = λ u n tally lawful is h.
+      ap (live_among (after_marking u n).core) (marking_held u n) ∙ same_live u.core (after_marking u n).core (marking_alike u n (λ p. (lawful.0.cells.cell_read p).0)) u.held ∙ h;
+  looks = λ u k phase tally lawful is h. same_live u.core (with_clear_below u.core k) (clear_alike u.core k) u.held ∙ h;
+  walks = λ u k w tally lawful is walks h.
+      let order = in_order u k w (risen_is_ready u lawful.0 lawful.1 (ap has_risen is)) walks in
+      let sum : objects_in tally + k ≡ objects_in (plus tally w.tally) = omega (arith, order.counted) in
+      order.left ∙ ap (drop k) h ∙ sym (drop_parts (objects_in tally) k (live_among m.core m.held)) ∙ ap (λ n. drop n (live_among m.core m.held)) sum;
+  ends = λ u tally h. h;
+}
 
 -- ---- after turns that dealt with so many, one turn more
 module _ (m u : Moment) (before : Tally) (stood : live_among u.core u.held ≡ drop (objects_in before) (live_among m.core m.held)) where
-  pub left_on : (t : Moment) (tally : Tally) → live_among t.core t.held ≡ drop (objects_in tally) (live_among u.core u.held) →
-      live_among t.core t.held ≡ drop (objects_in (plus before tally)) (live_among m.core m.held)
-  left_on t tally is =
-      let sum : objects_in before + objects_in tally ≡ objects_in (plus before tally) = omega arith in
-      is ∙ ap (drop (objects_in tally)) stood ∙ sym (drop_parts (objects_in before) (objects_in tally) (live_among m.core m.held)) ∙ ap (λ n. drop n (live_among m.core m.held)) sum
-
   first_on : (k n : ℕ) → n ≡ objects_in before + k → first_live m (objects_in before) ++ first_live u k ≡ first_live m n
   first_on k n sum =
       ap (λ xs. first_live m (objects_in before) ++ take k xs) stood ∙ sym (take_parts (objects_in before) k (live_among m.core m.held)) ∙ ap (λ x. take x (live_among m.core m.held)) (sym sum)

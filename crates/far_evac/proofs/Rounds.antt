@@ -4,27 +4,26 @@ use Rattle.std.specs.Prelude.{find}
 use Rattle.std.specs.List.{range_with_len}
 use Rattle.std.proofs.lemmas.Bool.{cond_both, true≢false, false≢true}
 use Rattle.std.proofs.lemmas.Bool.Decides.{nat_tests}
-use Rattle.far_word.specs.Pointer.{read_of}
 use Rattle.far_core.specs.state.Law.{Law}
 use Rattle.far_book.proofs.region.Owns.{own_law}
 use Rattle.far_evac.specs.declared.answers.RoundEnd.TheVariants.{Done, Limit}
 use Rattle.far_evac.specs.declared.phase.Phase.{Phase}
 use Rattle.far_evac.specs.declared.phase.Phase.TheVariants.{Idle, Marking, Waiting, Evacuating}
-use Rattle.far_evac.specs.AnyHand.{EndsRound, Polls, TurnsMade, TurnsTo, sum_of}
+use Rattle.far_evac.specs.AnyHand.{EndsRound, Polls, TurnsMade, TurnsTo, sum_of, WalksTo}
 use Rattle.far_evac.specs.Choosing.{after_selecting}
 use Rattle.far_evac.specs.Laws.{RoundIsAllowed, TurnIsAllowed}
-use Rattle.far_evac.specs.Live.{live_in, is_empty}
 use Rattle.far_evac.specs.Marking.{after_marking, leaves_some, marked_core, newly_marked, waiting_for}
 use Rattle.far_evac.specs.Moment.{Moment, Tally, nothing, plus, progress_of}
 use Rattle.far_evac.specs.MomentLaw.{IsLawful, MomentLaw, is_idle}
 use Rattle.far_evac.specs.RoundSteps.{advanced, is_clear_now}
 use Rattle.far_evac.specs.Turns.{Turned, round_end, turn_size, turned, turns_made}
 use Rattle.far_evac.specs.Waiting.{after_polling, first_open, holds_up, polled, polled_at, polled_to}
-use Rattle.far_evac.specs.Walk.{Walked, Way, Drops, Moves, Goes, begun, dealt_first, dealt_so, ended, freed, is_done, left, passed, walked, way_of}
+use Rattle.far_evac.specs.Walk.{Walked, begun, ended, is_done, left, walked}
 use Rattle.far_evac.proofs.Joined.{plus_nothing}
 use Rattle.far_evac.proofs.Leading.{selecting}
 use Rattle.far_evac.proofs.LeadingTurns.{turns_lead}
 use Rattle.far_evac.proofs.Walks.{moment_same, walk_is}
+use Rattle.far_evac.proofs.SmallSteps.{walks_always}
 
 -- ---- a poll
 pub found_in : (test : ℕ → Bool) (k a n : ℕ) → find test (range_with_len a n) ≡ Some k → (test k ≡ true) × (k < a + n)
@@ -54,25 +53,12 @@ pub polls_is : (m : Moment) → Polls m (after_polling m) (polled m.core)
 polls_is m = polls_at m (first_open m.core) refl
 
 -- ---- the phase in which a turn leaves a round
-pub passed_phase : (ls : List ℕ) (v : Walked) → (passed v ls).moment.phase ≡ v.moment.phase
-passed_phase [] v = refl
-passed_phase (l ∷ ls) v = cond_both (is_empty (live_in v.moment.core l)) (passed (freed v l) ls) (record v { moment = record v.moment { held = l ∷ ls } })
-    (λ (w : Walked). w.moment.phase ≡ v.moment.phase) (λ _. passed_phase ls (freed v l)) (λ _. refl)
+pub walks_phase : (m : Moment) (k : ℕ) (w : Walked) → WalksTo m k w → w.moment.phase ≡ m.phase
+walks_phase m k w walks =
+    walks_always (λ k w. w.moment.phase ≡ m.phase) record { gives = λ k w l ls h. h; deals = λ k w p way h. h } (λ k w t known h. ap (λ (x : Moment). x.phase) known.moment.rest ∙ h) m refl k w walks
 
-pub so_phase : (w : Walked) (p : ℕ) (way : Way) → (dealt_so w p way).moment.phase ≡ w.moment.phase
-so_phase w p Drops = refl
-so_phase w p (Moves place) = refl
-so_phase w p Goes = refl
-
-first_phase : (w : Walked) (ps : List ℕ) → (dealt_first w ps).moment.phase ≡ w.moment.phase
-first_phase w [] = refl
-first_phase w (p ∷ ps) =
-    let way = way_of w.moment.core (read_of (w.moment.core.cell p)) in
-    passed_phase (dealt_so w p way).moment.held (dealt_so w p way) ∙ so_phase w p way
-
-walked_phase : (m : Moment) (n : ℕ) → (walked m n).moment.phase ≡ m.phase
-walked_phase m zero = passed_phase m.held (begun m)
-walked_phase m (suc n) = first_phase (walked m n) (left (walked m n)) ∙ walked_phase m n
+pub walked_phase : (m : Moment) (n : ℕ) → (walked m n).moment.phase ≡ m.phase
+walked_phase m n = let walk = walk_is m n in walks_phase m walk.0 (walked m n) walk.1.walks
 
 pub marking_runs : (m : Moment) → m.phase ≡ Marking → is_idle (after_marking m turn_size).phase ≡ false
 marking_runs m e = cond_both (leaves_some m turn_size) (record m { core = marked_core m turn_size }) (record m { core = advanced (marked_core m turn_size) m.held; phase = Waiting })

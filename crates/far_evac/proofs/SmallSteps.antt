@@ -13,7 +13,7 @@ use Rattle.far_evac.specs.AnyHand.{Knows, KnowsWalked, FindsFirst, WalksTo, foun
 use Rattle.far_evac.specs.Dealings.{BeginsLive}
 use Rattle.far_evac.specs.Leaving.{order_by}
 use Rattle.far_evac.specs.Live.{live_in, live_among, is_empty}
-use Rattle.far_evac.specs.Moment.{Moment}
+use Rattle.far_evac.specs.Moment.{Moment, Tally, objects_in}
 use Rattle.far_evac.specs.Ready.{Ready, IsHeld, AllMarked}
 use Rattle.far_evac.specs.Walk.{Walked, Way, Drops, Moves, Goes, begun, dealt_as, dealt_first, dealt_so, freed, left, passed, settled, walked, way_of}
 use Rattle.far_evac.proofs.Dealt.{Gone, Leaves}
@@ -105,6 +105,36 @@ pub dealt_is : (w : Walked) (p : ℕ) (way : Way) → dealt_so w p way ≡ gone_
 dealt_is w p Drops = refl
 dealt_is w p (Moves place) = refl
 dealt_is w p Goes = refl
+
+-- ---- what each small step keeps, wherever it is made
+pub record KeepsAlways (P : ℕ → Walked → Type 0) : Type 0 where
+  pub gives : (k : ℕ) (w : Walked) (l : ℕ) (ls : List ℕ) → P k (holding w (l ∷ ls)) → P k (holding (freed w l) ls)
+  pub deals : (k : ℕ) (w : Walked) (p : ℕ) (way : Way) → P k w → P (suc k) (gone_so w w.moment.held p way)
+
+module _ (P : ℕ → Walked → Type 0) (keeps : KeepsAlways P) where
+  passed_always : (k : ℕ) (ls : List ℕ) (v : Walked) → P k (holding v ls) → P k (passed v ls)
+  passed_always k [] v h = h
+  passed_always k (l ∷ ls) v h = cond_both (is_empty (live_in v.moment.core l)) (passed (freed v l) ls) (holding v (l ∷ ls)) (P k) (λ _. passed_always k ls (freed v l) (keeps.gives k v l ls h)) (λ _. h)
+
+  dealt_always : (k : ℕ) (w : Walked) (p : ℕ) (way : Way) → P k w → P (suc k) (settled (dealt_so w p way))
+  dealt_always k w p way h = subst (λ v. P (suc k) (settled v)) (sym (dealt_is w p way)) (passed_always (suc k) w.moment.held (gone_so w w.moment.held p way) (keeps.deals k w p way h))
+
+  found_always : (k : ℕ) (u : Walked) (word : ℕ) (xs : List ℕ) → FindsFirst u word xs → P k u → P (suc k) (found_first u word xs)
+  found_always k u word [] finds h = absurd finds
+  found_always k u word (p ∷ ps) finds h = dealt_always k u p (way_of u.moment.core (read_of word)) h
+
+  pub walks_always : Learns false P → (m : Moment) → P 0 (begun m) → (k : ℕ) (t : Walked) → WalksTo m k t → P k t
+  walks_always learns m h zero t walks = learns 0 (settled (begun m)) t walks (passed_always 0 m.held (begun m) h)
+  walks_always learns m h (suc k) t (u, word, walks, deals) =
+      learns (suc k) (found_first u word (left u)) t deals.leaves (found_always k u word (left u) deals.finds (walks_always learns m h k u walks))
+
+  walked_next : (k : ℕ) (w : Walked) (xs : List ℕ) → P k w → (j : ℕ) × P j (dealt_first w xs)
+  walked_next k w [] h = (k, h)
+  walked_next k w (p ∷ ps) h = (suc k, dealt_always k w p (way_of w.moment.core (read_of (w.moment.core.cell p))) h)
+
+  pub walked_always : (m : Moment) → P 0 (begun m) → (n : ℕ) → (k : ℕ) × P k (walked m n)
+  walked_always m h zero = (0, passed_always 0 m.held (begun m) h)
+  walked_always m h (suc n) = let (k, then) = walked_always m h n in walked_next k (walked m n) (left (walked m n)) then
 
 -- ---- the small steps of a walk that began at m, once k objects were dealt with
 -- the first object that is left goes a way, as a word says that was found in its cell
@@ -219,3 +249,15 @@ module _ (m : Moment) (P : ℕ → Walked → Type 0) (keeps : Keeps true m P) w
 -- ---- the places alone
 pub walks_left : (m : Moment) (k : ℕ) (t : Walked) → Ready m.core m.held → WalksTo m k t → Stands m (λ k w. Unit {0}) k t
 walks_left m k t ready walks = lifted_walks m (λ k w. Unit {0}) record { learns = λ k w t known h. tt; gives = λ k w l ls ready none h. tt; deals = λ k w l ls p ps way first h. tt } ready tt k t walks
+
+-- as many objects are counted as were dealt with
+one_counted : (tally : Tally) (way : Way) → more_moved way tally.moved + more_far way tally.far + more_dropped way tally.dropped ≡ objects_in tally + 1
+one_counted tally Drops = omega arith
+one_counted tally (Moves place) = omega arith
+one_counted tally Goes = omega arith
+
+pub tallies_all : (m : Moment) (k : ℕ) (t : Walked) → WalksTo m k t → objects_in t.tally ≡ k
+tallies_all m k t walks = walks_always (λ k w. objects_in w.tally ≡ k) record {
+  gives = λ k w l ls h. h;
+  deals = λ k w p way h. let more : k + 1 ≡ suc k = omega arith in one_counted w.tally way ∙ ap (λ n. n + 1) h ∙ more;
+} (λ k w t known h. ap objects_in known.tally ∙ h) m refl k t walks

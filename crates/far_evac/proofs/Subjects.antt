@@ -18,7 +18,7 @@ use Rattle.far_evac.specs.Ready.{Ready}
 use Rattle.far_evac.specs.Walk.{Walked, Way, Drops, Moves, Goes, begun}
 use Rattle.far_evac.proofs.Dealt.{Gone}
 use Rattle.far_evac.proofs.LiveLists.{finds_place, names_body}
-use Rattle.far_evac.proofs.LiveOnce.{LivesIn, each_map, first_named, names_once}
+use Rattle.far_evac.proofs.LiveOnce.{LivesIn, all_append, all_front, both, every, each_map, first_named, names_once}
 use Rattle.far_evac.proofs.Framed.{so_one}
 use Rattle.far_evac.proofs.SmallSteps.{GoesFirst, Keeps, first_gone, gone_so, holding, lifted_walks, more_dropped, more_far, more_moved}
 use Rattle.far_evac.proofs.Tours.{core_so, test_of}
@@ -92,10 +92,6 @@ module _ (cell found : ℕ → ℕ) (finds : (q : ℕ) → Finds (cell q) (found
     others = λ q apart. (finds q).body ∙ are.others q apart;
   }
 
-  every : (P : ℕ → Type 0) → ((q : ℕ) → P q) → (xs : List ℕ) → AllByRecursion P xs
-  every P each [] = tt
-  every P each (x ∷ xs) = (each x, every P each xs)
-
   count_found : (test : Option PtrWord → Bool) → Bodily test → (objects : List ℕ) → count_by (λ q. test (read_of (cell q))) objects ≡ count_by (λ q. test (read_of (found q))) objects
   count_found test bodily objects = count_same (λ q. test (read_of (cell q))) (λ q. test (read_of (found q))) objects
       (every (λ q. test (read_of (cell q)) ≡ test (read_of (found q))) (λ q. sym (same_test test bodily (read_of (found q)) (read_of (cell q)) (finds q).body)) objects)
@@ -108,14 +104,6 @@ module _ (cell found : ℕ → ℕ) (finds : (q : ℕ) → Finds (cell q) (found
   }
 
 -- ---- one object more
-all_end : (P : ℕ → Type 0) (xs : List ℕ) (x : ℕ) → AllByRecursion P xs → P x → AllByRecursion P (xs ++ (x ∷ []))
-all_end P [] x h here = (here, tt)
-all_end P (y ∷ ys) x h here = (h.0, all_end P ys x h.1 here)
-
-pub all_front : (P : ℕ → Type 0) (xs : List ℕ) (x : ℕ) → AllByRecursion P (xs ++ (x ∷ [])) → AllByRecursion P xs × P x
-all_front P [] x h = (tt, h.0)
-all_front P (y ∷ ys) x h = let rest = all_front P ys x h.1 in ((h.0, rest.0), rest.1)
-
 module _ (m : Moment) (objects : List ℕ) (s t : State) (l : ℕ) (ls : List ℕ) (p : ℕ) (lives : LivesIn s l p) (test : Option PtrWord → Bool) (gone : Gone s p t (l ∷ ls) test)
     (kept : (q : ℕ) → q ≢ p → t.cell q ≡ s.cell q) (are : Are m objects s.cell (l ∷ ls)) where
   apart : AllByRecursion (λ q. q ≢ p) objects
@@ -130,18 +118,16 @@ module _ (m : Moment) (objects : List ℕ) (s t : State) (l : ℕ) (ls : List �
   off_kept : (q : ℕ) → q ≢ p → IsOff s.cell (l ∷ ls) q → IsOff t.cell (l ∷ ls) q
   off_kept q other h = subst (λ w. AllByRecursion (λ k. (at : ℕ) → names_place (read_of w) k at ≡ false) (l ∷ ls)) (sym (kept q other)) h
 
-  both : (P Q : ℕ → Type 0) (xs : List ℕ) → AllByRecursion P xs → AllByRecursion Q xs → AllByRecursion (λ x. P x × Q x) xs
-  both P Q [] f g = tt
-  both P Q (x ∷ xs) f g = ((f.0, g.0), both P Q xs f.1 g.1)
-
   pub are_more : Are m (objects ++ (p ∷ [])) t.cell (l ∷ ls)
   are_more = record {
-    off = all_end (IsOff t.cell (l ∷ ls)) objects p (each_map (λ q h. off_kept q h.0 h.1) objects (both (λ q. q ≢ p) (IsOff s.cell (l ∷ ls)) objects apart are.off)) gone.off;
-    left = all_end (λ q. HasLeft (says m q) (read_of (t.cell q))) objects p
-        (each_map (λ q h k at to name. ap (λ w. names_place (read_of w) k to) (kept q h.0) ∙ h.1 k at to name) objects (both (λ q. q ≢ p) (λ q. HasLeft (says m q) (read_of (s.cell q))) objects apart are.left))
-        (λ k at to name.
-        let same : k ≡ l = (names_once (read_of (s.cell p)) k l at lives.0 (sym (names_before k at) ∙ name) lives.1).0 in
-        ap (λ x. names_place (read_of (t.cell p)) x to) same ∙ gone.off.0 to);
+    off = all_append (IsOff t.cell (l ∷ ls)) objects (p ∷ []) (each_map (λ q h. off_kept q h.0 h.1) objects (both (λ q. q ≢ p) (IsOff s.cell (l ∷ ls)) objects apart are.off)) (gone.off, tt);
+    left = all_append (λ q. HasLeft (says m q) (read_of (t.cell q))) objects (p ∷ [])
+        (each_map (λ q h k at to name. ap (λ w. names_place (read_of w) k to) (kept q h.0) ∙ h.1 k at to name) objects (both (λ q. q ≢ p) (λ q. HasLeft (says m q) (read_of (s.cell q))) objects apart are.left)) (
+          λ k at to name.
+              let same : k ≡ l = (names_once (read_of (s.cell p)) k l at lives.0 (sym (names_before k at) ∙ name) lives.1).0 in
+              ap (λ x. names_place (read_of (t.cell p)) x to) same ∙ gone.off.0 to,
+          tt,
+        );
     others = λ q out. let h = all_front (λ d. d ≢ q) objects p out in ap (λ w. body_of (read_of w)) (kept q (λ e. h.1 (sym e))) ∙ are.others q h.0;
   }
 

@@ -16,7 +16,8 @@ use Rattle.far_evac.specs.MomentLaw.{IsLawful, is_idle}
 use Rattle.far_evac.specs.RoundAsked.{EndsAsking, StopsAsking, TurnsAsking}
 use Rattle.far_evac.specs.Turning.{turned_at}
 use Rattle.far_evac.specs.Turns.{Turned, turn_size, turned, turns_made}
-use Rattle.far_evac.proofs.RoundKeys.{keys_on, keys_stop, left_on, left_then}
+use Rattle.far_evac.proofs.RoundKeys.{LeftOf, keeps_left, keys_on, keys_stop}
+use Rattle.far_evac.proofs.TurnSteps.{turn_kept}
 
 pub not_idle : (phase : Phase) → is_idle phase ≡ false → phase ≢ Idle
 not_idle phase runs e = true≢false (sym (ap is_idle e) ∙ runs)
@@ -87,7 +88,7 @@ module _ (D : Type 0) (writes : D → ℕ → List ℕ → Result (Unit {0}) Dev
         asked = (u, between, h.asked, turns, asks, lawful);
         many = omega (arith, h.many);
         sum = ap (λ a. plus a tally) h.sum ∙ sym is;
-        left = subst (λ (a : Tally). live_among t.core t.held ≡ drop (objects_in a) (live_among m.core m.held)) (sym is) (left_on m u before h.left t tally (left_then u t lawful tally false turns));
+        left = subst (λ (a : Tally). live_among t.core t.held ≡ drop (objects_in a) (live_among m.core m.held)) (sym is) (turn_kept (LeftOf m) (keeps_left m) u t lawful before h.left tally false turns);
         keys = subst (λ (a : Tally). KeepsKeys (first_live m (objects_in a)) (contents old) (contents new)) (sym is) keys_then;
       }
 

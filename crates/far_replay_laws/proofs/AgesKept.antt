@@ -3,19 +3,17 @@ use Rattle.std.proofs.Common.{◌≡◌, ℕ, zero, suc, ◌==◌, ◌||◌, Boo
 use Rattle.std.proofs.lemmas.Bool.{cond_both, eq-eqb, eqb-true, false≢true}
 use Rattle.std.proofs.lemmas.List.Elements.{filter-append}
 use Rattle.far_word.specs.declared.refused.Refused.{Refused as Refusal}
-use Rattle.far_word.specs.Pointer.{read_of}
 use Rattle.far_core.specs.state.Law.{Law}
 use Rattle.far_core.specs.state.State.{State}
 use Rattle.far_book.specs.book.Releasing.{order_without}
 use Rattle.far_evac.specs.Choosing.{after_selecting}
-use Rattle.far_evac.specs.Live.{is_empty, live_in}
 use Rattle.far_evac.specs.Marking.{after_marking, leaves_some, marked_core}
 use Rattle.far_evac.specs.Moment.{Moment}
 use Rattle.far_evac.specs.MomentLaw.{MomentLaw}
 use Rattle.far_evac.specs.RoundSteps.{advanced, among}
 use Rattle.far_evac.specs.Turns.{Turned, turn_size, turned, turns_made}
 use Rattle.far_evac.specs.Waiting.{after_polling, first_open, polled_to}
-use Rattle.far_evac.specs.Walk.{Walked, Way, Drops, Goes, Moves, begun, dealt_first, dealt_so, ended, freed, is_done, left, passed, settled, walked, way_of}
+use Rattle.far_evac.specs.Walk.{Walked, Way, Drops, Goes, Moves, ended, is_done, walked}
 use Rattle.far_evac.specs.declared.phase.Phase.{Phase}
 use Rattle.far_evac.specs.declared.phase.Phase.TheVariants.{Idle, Marking, Waiting, Evacuating}
 use Rattle.far_evac.proofs.Bools.{or_left, or_right}
@@ -38,6 +36,8 @@ use Rattle.far_replay.proofs.Lasting.{Lasts, moment_lasts}
 use Rattle.far_replay.proofs.RoundLeads.{step_stays}
 use Rattle.far_replay_laws.proofs.StepsTell.{held_chosen, policy_takes}
 use Rattle.far_replay.proofs.ToldRounds.{told_effect}
+use Rattle.far_evac.specs.Leaving.{order_by}
+use Rattle.far_evac.proofs.SmallSteps.{KeepsAlways, walked_always}
 
 -- ---- from one order to another
 -- but for some of these logs, those of the first come first, as they stood
@@ -96,42 +96,22 @@ record Walks (logs : List ℕ) (order : List ℕ) (w : Walked) : Type 0 where
   ages : Ages logs order w.moment.order
   within : (l : ℕ) → among w.moment.held l ≡ true → among logs l ≡ true
 
-passed_ages : (logs : List ℕ) (v : Walked) (ls : List ℕ) → ((l : ℕ) → among ls l ≡ true → among logs l ≡ true) → Walks logs v.moment.order (passed v ls)
-passed_ages logs v [] within = record { ages = same_ages logs v.moment.order v.moment.order refl; within = λ l e. absurd (false≢true e) }
-passed_ages logs v (l ∷ ls) within = cond_both (is_empty (live_in v.moment.core l)) (passed (freed v l) ls) (record v { moment = record v.moment { held = l ∷ ls } }) (Walks logs v.moment.order)
-    (λ _.
-    let rest = passed_ages logs (freed v l) ls (λ k e. within k (or_right (eqb k l) (among ls k) e)) in
-    record {
-      ages = join_ages logs v.moment.order (order_without l v.moment.order) (passed (freed v l) ls).moment.order (without_ages logs v.moment.order l (within l (or_left (eqb l l) (among ls l) (eq-eqb l l refl)))) rest.ages;
-      within = rest.within;
-    })
-    (λ _. record { ages = same_ages logs v.moment.order v.moment.order refl; within = within })
+order_ages : (logs : List ℕ) (s : State) (order : List ℕ) (way : Way) → Ages logs order (order_by s order way)
+order_ages logs s order Drops = same_ages logs order order refl
+order_ages logs s order (Moves place) = cond_both (place.log == s.current) order (order ++ s.current ∷ []) (Ages logs order) (λ _. same_ages logs order order refl) (λ _. more_ages logs order (s.current ∷ []))
+order_ages logs s order Goes = same_ages logs order order refl
 
-so_ages : (logs : List ℕ) (v : Walked) (p : ℕ) (way : Way) → Ages logs v.moment.order (dealt_so v p way).moment.order
-so_ages logs v p Drops = same_ages logs v.moment.order v.moment.order refl
-so_ages logs v p (Moves place) = cond_both (place.log == v.moment.core.current) v.moment.order (v.moment.order ++ v.moment.core.current ∷ []) (Ages logs v.moment.order)
-    (λ _. same_ages logs v.moment.order v.moment.order refl) (λ _. more_ages logs v.moment.order (v.moment.core.current ∷ []))
-so_ages logs v p Goes = same_ages logs v.moment.order v.moment.order refl
-
-so_held : (v : Walked) (p : ℕ) (way : Way) → (dealt_so v p way).moment.held ≡ v.moment.held
-so_held v p Drops = refl
-so_held v p (Moves place) = refl
-so_held v p Goes = refl
-
-first_ages : (logs order : List ℕ) (v : Walked) (ps : List ℕ) → Walks logs order v → Walks logs order (dealt_first v ps)
-first_ages logs order v [] h = h
-first_ages logs order v (p ∷ ps) h =
-    let way = way_of v.moment.core (read_of (v.moment.core.cell p)) in
-    let u : Walked = dealt_so v p way in
-    let settling = passed_ages logs u u.moment.held (λ l e. h.within l (subst (λ xs. among xs l ≡ true) (so_held v p way) e)) in
-    record {
-      ages = join_ages logs order u.moment.order (settled u).moment.order (join_ages logs order v.moment.order u.moment.order h.ages (so_ages logs v p way)) settling.ages;
-      within = settling.within;
-    }
+keeps_walks : (logs order : List ℕ) → KeepsAlways (λ k w. Walks logs order w)
+keeps_walks logs order = record {
+  gives = λ k w l ls h. record {
+    ages = join_ages logs order w.moment.order (order_without l w.moment.order) h.ages (without_ages logs w.moment.order l (h.within l (or_left (eqb l l) (among ls l) (eq-eqb l l refl))));
+    within = λ j e. h.within j (or_right (eqb j l) (among ls j) e);
+  };
+  deals = λ k w p way h. record { ages = join_ages logs order w.moment.order (order_by w.moment.core w.moment.order way) h.ages (order_ages logs w.moment.core w.moment.order way); within = h.within };
+}
 
 walked_ages : (logs : List ℕ) (m : Moment) (n : ℕ) → ((l : ℕ) → among m.held l ≡ true → among logs l ≡ true) → Walks logs m.order (walked m n)
-walked_ages logs m zero within = passed_ages logs (begun m) m.held within
-walked_ages logs m (suc n) within = first_ages logs m.order (walked m n) (left (walked m n)) (walked_ages logs m n within)
+walked_ages logs m n within = (walked_always (λ k w. Walks logs m.order w) (keeps_walks logs m.order) m record { ages = same_ages logs m.order m.order refl; within = within } n).1
 
 -- ---- moments
 record Stands (logs order : List ℕ) (m : Moment) : Type 0 where

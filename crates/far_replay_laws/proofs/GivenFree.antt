@@ -2,7 +2,6 @@
 use Rattle.std.proofs.Common.{◌+◌, cond, ◌≡◌, ℕ, zero, suc, ◌<◌, true, false, ◌||◌, List, [], ◌∷◌, ◌++◌, inl, inr, arith, ap, sym, refl, ◌∙◌, subst}
 use Rattle.std.specs.Prelude.{◌⊎◌}
 use Rattle.std.proofs.lemmas.Bool.{cases_eq, cond_both, ne_eqb, true≢false}
-use Rattle.far_word.specs.Pointer.{read_of}
 use Rattle.far_core.specs.declared.event.Kind.{Kind}
 use Rattle.far_core.specs.declared.event.Kind.TheVariants as kinds
 use Rattle.far_core.specs.state.Law.{Law}
@@ -12,28 +11,21 @@ use Rattle.far_hand.proofs.Finding.{finds_same}
 use Rattle.far_book.specs.book.Releasing.{released}
 use Rattle.far_book.proofs.region.Owns.{own_law}
 use Rattle.far_evac.specs.Choosing.{after_selecting}
-use Rattle.far_evac.specs.Dealings.{BeginsLive}
-use Rattle.far_evac.specs.Live.{is_empty, live_among, live_in}
-use Rattle.far_evac.specs.Moment.{Moment, Tally}
-use Rattle.far_evac.specs.MomentLaw.{MomentLaw, has_risen, is_idle}
-use Rattle.far_evac.specs.Ready.{Ready}
+use Rattle.far_evac.specs.Moment.{Moment}
+use Rattle.far_evac.specs.MomentLaw.{MomentLaw, is_idle}
 use Rattle.far_evac.specs.RoundSteps.{among}
 use Rattle.far_evac.specs.Turns.{turns_made}
-use Rattle.far_evac.specs.Walk.{Drops, Goes, Moves, Walked, Way, begun, dealt_as, dealt_first, dealt_so, ended, freed, is_done, left, passed, settled, walked, way_of}
-use Rattle.far_evac.specs.declared.phase.Phase.{Phase}
+use Rattle.far_evac.specs.Walk.{begun, ended, is_done, walked}
 use Rattle.far_evac.specs.declared.phase.Phase.TheVariants.{Idle, Evacuating}
-use Rattle.far_evac.proofs.Orders.{walks_left}
-use Rattle.far_evac.proofs.Readiness.{risen_is_ready}
-use Rattle.far_evac.proofs.RoomLaw.{sound_of, walks_taken}
-use Rattle.far_evac.proofs.RoomTaken.{none_taken}
-use Rattle.far_evac.proofs.SpanBytes.{Dealt, Sound}
+use Rattle.far_evac.proofs.RoomLaw.{sound_of}
+use Rattle.far_evac.proofs.SpanBytes.{Dealt}
 use Rattle.far_evac.proofs.SpansDealt.{way_dealt}
-use Rattle.far_evac.proofs.Tours.{core_so, first_live, stand}
-use Rattle.far_evac.proofs.Walks.{walk_is}
+use Rattle.far_evac.proofs.Tours.{core_so}
 use Rattle.far_replay.specs.Rounds.{after_round}
 use Rattle.far_replay_laws.proofs.RoundCounts.{spans}
 use Rattle.far_evac.proofs.Joined.{walks_join}
 use Rattle.far_evac.proofs.LeadingTurns.{turns_lead}
+use Rattle.far_evac.proofs.LeadingWalks.{KeepsLawfully, lifted_lawfully}
 
 -- of some logs each that is held no more is free, or words of it were taken
 abbrev pub GivenFree : List ℕ → State → List ℕ → Type 0
@@ -53,12 +45,6 @@ module _ (logs : List ℕ) where
     ]
   ]
 
-  passed_free : (v : Walked) (ls : List ℕ) → GivenFree logs v.moment.core ls → GivenFree logs (passed v ls).moment.core (passed v ls).moment.held
-  passed_free v [] h = h
-  passed_free v (l ∷ ls) h = cond_both (is_empty (live_in v.moment.core l)) (passed (freed v l) ls) (record v { moment = record v.moment { held = l ∷ ls } })
-      (λ (w : Walked). GivenFree logs w.moment.core w.moment.held)
-      (λ _. passed_free (freed v l) ls (freed_free v.moment.core l ls h)) (λ _. h)
-
   -- ---- the first object is dealt with
   dealt_free : (s t : State) (held : List ℕ) (p : ℕ) → Dealt s t p → GivenFree logs s held → GivenFree logs t held
   dealt_free s t held p d h l was is = elim (h l was is) [
@@ -70,46 +56,17 @@ module _ (logs : List ℕ) where
     by_kind free kinds.Open e = inr (d.opened l free (λ f. let odd : kinds.Open ≡ kinds.Free = sym e ∙ f in cc))
     by_kind free kinds.Sealed e = inr (d.opened l free (λ f. let odd : kinds.Sealed ≡ kinds.Free = sym e ∙ f in cc))
 
-  module _ (s : State) (order : List ℕ) (phase : Phase) (l : ℕ) (ls : List ℕ) (tally : Tally) (p : ℕ) (ps : List ℕ) (ready : Ready s (l ∷ ls)) (sound : Sound s) (first : live_in s l ≡ p ∷ ps) (h : GivenFree logs s (l ∷ ls)) where
-    so_free : (way : Way) → way_of s (read_of (s.cell p)) ≡ way → GivenFree logs (core_so s p way) (l ∷ ls)
-    so_free way is = dealt_free s (core_so s p way) (l ∷ ls) p (way_dealt s sound l ls p ps ready first (s.cell p) (finds_same (s.cell p)) way is) h
-
-    way_free : (way : Way) → way_of s (read_of (s.cell p)) ≡ way →
-        let w = settled (dealt_so (stand s order phase (l ∷ ls) tally) p way) in GivenFree logs w.moment.core w.moment.held
-    way_free Drops is = passed_free (dealt_so (stand s order phase (l ∷ ls) tally) p Drops) (l ∷ ls) (so_free Drops is)
-    way_free (Moves place) is = passed_free (dealt_so (stand s order phase (l ∷ ls) tally) p (Moves place)) (l ∷ ls) (so_free (Moves place) is)
-    way_free Goes is = passed_free (dealt_so (stand s order phase (l ∷ ls) tally) p Goes) (l ∷ ls) (so_free Goes is)
-
-  front_free : (s : State) (order : List ℕ) (phase : Phase) (held : List ℕ) (tally : Tally) (live : List ℕ) (p : ℕ) (rest : List ℕ) → Ready s held → BeginsLive s held → Sound s →
-      live_among s held ≡ p ∷ rest → first_live s held ≡ live → GivenFree logs s held →
-      let w = settled (dealt_as (stand s order phase held tally) p (read_of (s.cell p))) in GivenFree logs w.moment.core w.moment.held
-  front_free s order phase [] tally live p rest ready begins sound is front h = absurd cc
-  front_free s order phase (l ∷ ls) tally [] p rest ready begins sound is front h = absurd (true≢false (sym (ap is_empty front) ∙ begins))
-  front_free s order phase (l ∷ ls) tally (q ∷ qs) p rest ready begins sound is front h =
-      let both : q ∷ (qs ++ live_among s ls) ≡ p ∷ rest = sym (ap (λ live. live ++ live_among s ls) front) ∙ is in
-      let same : q ≡ p = cc in
-      let here : live_in s l ≡ p ∷ qs = front ∙ ap (λ x. x ∷ qs) same in
-      way_free s order phase l ls tally p qs ready sound here h (way_of s (read_of (s.cell p))) refl
-
-  next_free : (v : Walked) (xs : List ℕ) → left v ≡ xs → Ready v.moment.core v.moment.held → BeginsLive v.moment.core v.moment.held → Sound v.moment.core →
-      GivenFree logs v.moment.core v.moment.held → GivenFree logs (dealt_first v xs).moment.core (dealt_first v xs).moment.held
-  next_free v [] e ready begins sound h = h
-  next_free v (p ∷ rest) e ready begins sound h =
-      front_free v.moment.core v.moment.order v.moment.phase v.moment.held v.tally (first_live v.moment.core v.moment.held) p rest ready begins sound e refl h
+  keeps_free : KeepsLawfully (λ w. GivenFree logs w.moment.core w.moment.held)
+  keeps_free = record {
+    gives = λ w l ls h. freed_free w.moment.core l ls h;
+    deals = λ w l ls p way ready x h. let s : State = w.moment.core in
+        dealt_free s (core_so s p way) (l ∷ ls) p (way_dealt s (sound_of s (own_law s x.law)) l ls p x.rest ready x.live (s.cell p) (finds_same (s.cell p)) way x.goes) h;
+  }
 
 -- ---- a walk
 module _ (m : Moment) (law : Law m.core) (moment : MomentLaw m) (leaves : m.phase ≡ Evacuating) where
-  ready_now : Ready m.core m.held
-  ready_now = risen_is_ready m (own_law m.core law) moment (ap has_risen leaves)
-
   walked_free : (n : ℕ) → GivenFree m.held (walked m n).moment.core (walked m n).moment.held
-  walked_free zero = passed_free m.held (begun m) m.held (still_held m.core m.held m.held refl)
-  walked_free (suc n) =
-      let v : Walked = walked m n in
-      let walk = walk_is m n in
-      let rests = (walks_left m walk.0 v ready_now walk.1.walks).rests in
-      let taken = walks_taken m m [] (none_taken m (sound_of m.core (own_law m.core law))) walk.0 v ready_now walk.1.walks in
-      next_free m.held v (left v) refl rests.ready rests.begins taken.sound (walked_free n)
+  walked_free n = (lifted_lawfully m (λ w. GivenFree m.held w.moment.core w.moment.held) (keeps_free m.held) law moment leaves (still_held m.core m.held m.held refl) n).2.keeps.1
 
   pub ended_free : (n : ℕ) → GivenFree m.held (ended (walked m n)).core (ended (walked m n)).held
   ended_free n = cond_both (is_done (walked m n)) (record (walked m n).moment { phase = Idle }) (walked m n).moment (λ (t : Moment). GivenFree m.held t.core t.held) (λ _. walked_free n) (λ _. walked_free n)

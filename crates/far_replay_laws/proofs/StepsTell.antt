@@ -47,21 +47,21 @@ use Rattle.far_evac.specs.Moment.{Moment, progress_of}
 use Rattle.far_evac.specs.MomentLaw.{MomentLaw, has_risen, is_idle}
 use Rattle.far_evac.specs.RoundSteps.{advanced, among}
 use Rattle.far_evac.specs.Waiting.{first_open, holds_up, polled, polled_at}
-use Rattle.far_evac.specs.Walk.{Walked, begun, dealt_first, dealt_so, ended, is_done, left, walked, way_of}
+use Rattle.far_evac.specs.Walk.{Walked, ended, is_done, left, walked}
 use Rattle.far_evac.specs.declared.answers.Polled.TheVariants as polls
 use Rattle.far_evac.specs.declared.census.LogKind.TheVariants.{Chosen}
 use Rattle.far_evac.specs.declared.phase.Phase.TheVariants.{Idle, Marking, Waiting, Evacuating}
 use Rattle.far_evac.proofs.Fronts.{kept_in}
 use Rattle.far_evac.proofs.InOrder.{in_order}
 use Rattle.far_evac.proofs.Lacking.{Once, in_live, once_among}
-use Rattle.far_evac.proofs.LeadingMarks.{marking, marks_cells}
+use Rattle.far_evac.proofs.LeadingMarks.{marking}
 use Rattle.far_evac.proofs.LeadingWalks.{walking_law}
 use Rattle.far_evac.proofs.LiveOnce.{LivesIn, first_named, live_named, near_at}
 use Rattle.far_evac.proofs.LiveOrder.{live_in_order}
-use Rattle.far_evac.proofs.Marks.{is_given_up, is_marked, mark_sets, others_stay}
-use Rattle.far_evac.proofs.Orders.{walks_left}
+use Rattle.far_evac.proofs.Marks.{is_given_up, is_marked, mark_sets, marks_cells, others_stay}
+use Rattle.far_evac.proofs.SmallSteps.{walks_left}
 use Rattle.far_evac.proofs.Readiness.{risen_is_ready}
-use Rattle.far_evac.proofs.Rounds.{found_in, passed_phase, so_phase}
+use Rattle.far_evac.proofs.Rounds.{found_in, walked_phase}
 use Rattle.far_evac.proofs.Unviewed.{none_found}
 use Rattle.far_evac.proofs.Walks.{walk_is}
 use Rattle.far_text.specs.Command.{By, Choice, LeastLive, Mark, Oldest, Policy, Script, Select}
@@ -264,7 +264,7 @@ module _ (now : Moment) (count : ℕ) (law : Law now.core) (moment : MomentLaw n
 
   begins_so : (l : ℕ) (ls : List ℕ) → w.moment.held ≡ l ∷ ls → (p : ℕ) × LiesIn t p l
   begins_so l ls e =
-      let rests = (walks_left now many w (risen_is_ready now (own_law now.core law) moment (ap has_risen leaves)) (walk_is now count).1.walks).rests in
+      let rests = walks_left now many w (risen_is_ready now (own_law now.core law) moment (ap has_risen leaves)) (walk_is now count).1.walks in
       first_lies l (live_in t l) refl (subst (BeginsLive t) e rests.begins)
 
   lives_held : (p len ds : ℕ) (place : Place) (marks : Marks) → read_of (now.core.cell p) ≡ Some (Near len ds place marks) → IsChosen now place.log → Contains all p
@@ -330,16 +330,6 @@ module _ (now : Moment) (count : ℕ) (law : Law now.core) (moment : MomentLaw n
       (λ _. left_so)
 
 -- ---- the phase of a walk
-first_phase : (v : Walked) (ps : List ℕ) → (dealt_first v ps).moment.phase ≡ v.moment.phase
-first_phase v [] = refl
-first_phase v (p ∷ ps) =
-    let way = way_of v.moment.core (read_of (v.moment.core.cell p)) in
-    passed_phase (dealt_so v p way).moment.held (dealt_so v p way) ∙ so_phase v p way
-
-pub walked_phase : (m : Moment) (n : ℕ) → (walked m n).moment.phase ≡ m.phase
-walked_phase m zero = passed_phase m.held (begun m)
-walked_phase m (suc n) = first_phase (walked m n) (left (walked m n)) ∙ walked_phase m n
-
 pub ended_phase : (m : Moment) (n : ℕ) → (ended (walked m n)).phase ≡ (if is_done (walked m n) then Idle else m.phase)
 ended_phase m n = either (is_done (walked m n)) where
   either : (b : Bool) → (if b then record (walked m n).moment { phase = Idle } else (walked m n).moment).phase ≡ (if b then Idle else m.phase)

@@ -1,5 +1,5 @@
 -- An object that lies, after a walk or the turns of a round, in the log in which it lay wasn't dealt with, and stays as it was: what was dealt with lies in no log that is held then.
-use Rattle.std.proofs.Common.{◌≡◌, ℕ, zero, suc, Bool, true, false, Option, Some, None, List, [], ◌∷◌, arith, ap, sym, refl, ◌∙◌, subst, inl, inr}
+use Rattle.std.proofs.Common.{◌≡◌, ℕ, Bool, true, false, Option, Some, None, List, ◌∷◌, arith, ap, sym, refl, ◌∙◌, subst, inl, inr}
 use Rattle.std.specs.Prelude.{Contains, ◌⊎◌}
 use Rattle.std.proofs.lemmas.Bool.{cases_eq, cond_both}
 use Rattle.far_word.specs.declared.mark.Marks.{Marks}
@@ -9,7 +9,7 @@ use Rattle.far_word.specs.declared.pointer.PtrWord.TheVariants.{Free, Near, Far}
 use Rattle.far_word.specs.Pointer.{read_of}
 use Rattle.far_word.specs.Sizes.{size_of}
 use Rattle.far_word.proofs.PointerLaws.{read_says}
-use Rattle.far_log.proofs.Members.{here}
+use Rattle.far_log.proofs.Members.{here, there}
 use Rattle.far_core.specs.events.Naming.{no_marks}
 use Rattle.far_core.specs.laws.Rooms.{IsRoom, RoomIs}
 use Rattle.far_core.specs.state.Law.{Law}
@@ -22,26 +22,26 @@ use Rattle.far_book.specs.book.Dealing.{has_evac}
 use Rattle.far_book.proofs.region.EvictingLaw.{evicting}
 use Rattle.far_book.proofs.region.MovesReached.{moving}
 use Rattle.far_book.proofs.region.Places.{next_unsealed}
-use Rattle.far_evac.specs.declared.phase.Phase.{Phase}
-use Rattle.far_evac.specs.declared.phase.Phase.TheVariants.{Idle, Marking, Waiting, Evacuating}
+use Rattle.far_evac.specs.declared.phase.Phase.TheVariants.{Idle, Evacuating}
 use Rattle.far_evac.specs.Laws.{but_evac}
 use Rattle.far_evac.specs.Marking.{after_marking, newly_marked}
 use Rattle.far_evac.specs.Moment.{Moment}
 use Rattle.far_evac.specs.MomentLaw.{MomentLaw, is_idle}
-use Rattle.far_evac.specs.Turns.{Turned, turn_size, turned, turns_made}
-use Rattle.far_evac.specs.Waiting.{after_polling}
-use Rattle.far_evac.specs.Walk.{Drops, Goes, Moves, Walked, Way, begun, dealt_first, dealt_so, ended, is_done, left, settled, walked, way_of}
+use Rattle.far_evac.specs.Turns.{turns_made}
+use Rattle.far_evac.specs.Walk.{Drops, Goes, Moves, Walked, Way, ended, is_done, walked}
 use Rattle.far_evac.proofs.Dealt.{free_place}
-use Rattle.far_evac.proofs.LeadingTurns.{turns_lead}
-use Rattle.far_evac.proofs.LeadingWalks.{walking}
+use Rattle.far_evac.proofs.LeadingWalks.{GoesLawfully, KeepsLawfully, lifted_lawfully}
 use Rattle.far_evac.proofs.Marks.{is_marked}
-use Rattle.far_evac.proofs.Tours.{goes_when, moves_when}
+use Rattle.far_evac.proofs.Tours.{goes_when, moves_when, core_so}
 use Rattle.far_replay_laws.specs.Left.{CellBy, GainsNoneButEvac, StaysMarked, StaysPut}
 use Rattle.far_replay_laws.specs.Steps.{LiesIn}
-use Rattle.far_replay_laws.proofs.CountedOnce.{all_at, in_among, member_or_apart}
-use Rattle.far_replay_laws.proofs.LeftByWalks.{IsApart, Stayed, apart_from, ended_put, front_put, lay_there, marked_frame, marking_frame, marking_put, not_done, passed_stayed, polling_put, put_more, put_none}
-use Rattle.far_replay_laws.proofs.LeftByWalks as walks
-use Rattle.far_replay_laws.proofs.StepsTell.{walked_phase}
+use Rattle.far_replay_laws.proofs.CountedOnce.{all_at, member_or_apart}
+use Rattle.far_replay_laws.proofs.LeftByWalks.{IsApart, Stayed, gone_put, lay_there, lies_lawfully, looked_put, marked_frame, marking_frame, put_more, put_none, released_put, stayed_none}
+use Rattle.far_evac.specs.Ready.{IsHeld, Ready}
+use Rattle.far_evac.specs.RoundSteps.{with_clear_below}
+use Rattle.far_book.specs.book.Releasing.{released}
+use Rattle.far_evac.proofs.RoomTurns.{marking_held}
+use Rattle.far_evac.proofs.TurnSteps.{KeepsTurns, turns_kept_exactly}
 
 -- ---- cells that say the same but for EVAC
 abbrev marks_or : Marks → Option PtrWord → Marks
@@ -231,88 +231,64 @@ fate_marked s t a b q h = record {
 fate_none : (s : State) (held : List ℕ) (q : ℕ) → Fate StaysMarked s held q s held
 fate_none s held q = record { fewer = λ l c. c; still = λ none. marked_none s q; either = inl (marked_none s q) }
 
--- ---- the first object is dealt with
-module _ (w : Walked) (law : Law w.moment.core) (moment : MomentLaw w.moment) (leaves : w.moment.phase ≡ Evacuating) (p : ℕ) (member : Contains (left w) p) where
-  abbrev s : State
-  s = w.moment.core
-
-  abbrev lived : (l : ℕ) × Contains w.moment.held l × LiesIn s p l
-  lived = walks.lives w law moment leaves p member
-
-  abbrev home : LiesIn s p lived.0
-  home = walks.home w law moment leaves p member
-
-  near : read_of (s.cell p) ≡ Some (Near home.0 home.1 home.2 home.3)
-  near = home.4
-
-  -- it lies in no log that is held
-  found_off : (way : Way) → way_of s (read_of (s.cell p)) ≡ way → (k : ℕ) → LiesIn (dealt_so w p way).moment.core p k → ¬ Contains w.moment.held k
-  found_off Drops is k (len, ds, place, marks, there, log) held = free_place len ds place marks (ap read_of (sym (put_same s.cell p 0 p refl)) ∙ there)
-  found_off (Moves to) is k (len, ds, place, marks, there, log) held =
-      let why = moves_when home.3.dropped home.3.hot (room s (size_of home.0) false) to (sym (ap (way_of s) near) ∙ is) in
-      let way = moving s p home.0 home.1 home.2 to home.3 law near (walks.quiet w law moment leaves p member) why.0 (walks.wanted w law moment leaves p member) why.1 in
-      let says = (read_says (s.cell p) (Near home.0 home.1 home.2 home.3) (law.cells.cell_read p).0 near).0 in
-      let same : Some (Near home.0 home.1 to no_marks) ≡ Some (Near len ds place marks) = sym way.3.cell ∙ there in
+-- ---- an object is dealt with
+module _ (s : State) (l : ℕ) (ls : List ℕ) (p : ℕ) (ready : Ready s (l ∷ ls)) where
+  -- then it lies in no log that is held
+  found_off : (way : Way) → GoesLawfully s l p way → (k : ℕ) → LiesIn (core_so s p way) p k → ¬ Contains (l ∷ ls) k
+  found_off Drops x k (len, ds, place, marks, lies, log) held = free_place len ds place marks (ap read_of (sym (put_same s.cell p 0 p refl)) ∙ lies)
+  found_off (Moves to) x k (len, ds, place, marks, lies, log) held =
+      let why = moves_when x.marks.dropped x.marks.hot (room s (size_of x.len) false) to x.is in
+      let way = moving s p x.len x.ds x.place to x.marks x.law x.near x.quiet why.0 x.evac why.1 in
+      let says = (read_says (s.cell p) (Near x.len x.ds x.place x.marks) (x.law.cells.cell_read p).0 x.near).0 in
+      let same : Some (Near x.len x.ds to no_marks) ≡ Some (Near len ds place marks) = sym way.3.cell ∙ lies in
       let places : to ≡ place = cc in
-      let right : IsRoom s (size_of home.0) false to = subst (RoomIs s (size_of home.0) false) why.1 (room_right s law (size_of home.0) false (omega (arith, says))) in
+      let right : IsRoom s (size_of x.len) false to = subst (RoomIs s (size_of x.len) false) why.1 (room_right s x.law (size_of x.len) false (omega (arith, says))) in
       let mine : to.log ≡ k = ap (λ (x : Place). x.log) places ∙ log in
-      next_unsealed s to right.next (ap s.kind mine ∙ moment.sealed k (in_among k w.moment.held held))
-  found_off Goes is k (len, ds, place, marks, there, log) held =
-      let alive = goes_when home.3.dropped home.3.hot (room s (size_of home.0) false) (sym (ap (way_of s) near) ∙ is) in
-      let way = evicting s p home.0 home.1 home.2 home.3 law (walks.pointer w law moment leaves p member) near (walks.quiet w law moment leaves p member) (walks.wanted w law moment leaves p member) alive in
-      let odd : Some (Far home.0 home.1 no_marks) ≡ Some (Near len ds place marks) = sym way.3.cell ∙ there in
+      next_unsealed s to right.next (ap s.kind mine ∙ (all_at (IsHeld s) k (l ∷ ls) ready.logs held).0)
+  found_off Goes x k (len, ds, place, marks, lies, log) held =
+      let alive = goes_when x.marks.dropped x.marks.hot (room s (size_of x.len) false) x.is in
+      let way = evicting s p x.len x.ds x.place x.marks x.law x.pointer x.near x.quiet x.evac alive in
+      let odd : Some (Far x.len x.ds no_marks) ≡ Some (Near len ds place marks) = sym way.3.cell ∙ lies in
       absurd cc
 
-  abbrev next : Walked
-  next = settled (dealt_so w p (way_of s (read_of (s.cell p))))
+  module _ (way : Way) (x : GoesLawfully s l p way) where
+    abbrev then : State
+    then = core_so s p way
 
-  next_fewer : (l : ℕ) → Contains next.moment.held l → Contains w.moment.held l
-  next_fewer = (front_put w law moment leaves p member (suc p) (λ e. omega (arith, e))).fewer
+    one_log : (k : ℕ) → LiesIn s p k → l ≡ k
+    one_log k (len, ds, place, marks, lies, log) =
+        let same : Some (Near x.len x.ds x.place x.marks) ≡ Some (Near len ds place marks) = sym x.near ∙ lies in
+        let places : x.place ≡ place = cc in
+        sym x.log ∙ ap (λ (y : Place). y.log) places ∙ log
 
-  next_off : (k : ℕ) → LiesIn next.moment.core p k → ¬ Contains w.moment.held k
-  next_off k there =
-      let v : Walked = dealt_so w p (way_of s (read_of (s.cell p))) in
-      found_off (way_of s (read_of (s.cell p))) refl k (lay_there v.moment.core next.moment.core p k (passed_stayed p v.moment.held v).put_there.cell there)
+    left_fate : Fate StaysPut s (l ∷ ls) p then (l ∷ ls)
+    left_fate = record {
+      fewer = λ k c. c;
+      still = λ none. absurd (none l (here l ls) (lies_lawfully s l p way x));
+      either = inr record { apart = λ k held lies. found_off way x k lies held; away = λ k was lies. found_off way x k lies (subst (Contains (l ∷ ls)) (one_log k was) (here l ls)) };
+    }
 
-  one_log : (l : ℕ) → LiesIn s p l → lived.0 ≡ l
-  one_log l (len, ds, place, marks, there, log) =
-      let same : Some (Near home.0 home.1 home.2 home.3) ≡ Some (Near len ds place marks) = sym near ∙ there in
-      let places : home.2 ≡ place = cc in
-      sym home.5 ∙ ap (λ (x : Place). x.log) places ∙ log
-
-  left_fate : Fate StaysPut s w.moment.held p next.moment.core next.moment.held
-  left_fate = record {
-    fewer = next_fewer;
-    still = λ none. absurd (apart_from s w.moment.held p p none member refl);
-    either = inr record {
-      apart = λ k held there. next_off k there (next_fewer k held);
-      away = λ l was there. next_off l there (subst (Contains w.moment.held) (one_log l was) lived.1);
-    };
-  }
-
-  front_fate : (q : ℕ) → Fate StaysPut s w.moment.held q next.moment.core next.moment.held
-  front_fate q = elim (cases_eq q p) [
-    | inl e ↦ subst (λ x. Fate StaysPut s w.moment.held x next.moment.core next.moment.held) (sym e) left_fate
-    | inr other ↦ fate_stayed s next.moment.core w.moment.held next.moment.held q (front_put w law moment leaves p member q other)
-  ]
+    gone_fate : (q : ℕ) → Fate StaysPut s (l ∷ ls) q then (l ∷ ls)
+    gone_fate q = elim (cases_eq q p) [
+      | inl e ↦ subst (λ y. Fate StaysPut s (l ∷ ls) y then (l ∷ ls)) (sym e) left_fate
+      | inr other ↦ fate_stayed s then (l ∷ ls) (l ∷ ls) q record { put_there = gone_put s l p q other way x; fewer = λ k c. c }
+    ]
 
 -- ---- object after object
-module _ (m : Moment) (law : Law m.core) (moment : MomentLaw m) (leaves : m.phase ≡ Evacuating) (q : ℕ) where
+module _ (m : Moment) (q : ℕ) where
   abbrev HasFate : Walked → Type 0
   HasFate w = Fate StaysPut m.core m.held q w.moment.core w.moment.held
 
-  first_fate : (n : ℕ) (xs : List ℕ) → left (walked m n) ≡ xs → HasFate (walked m n) → HasFate (dealt_first (walked m n) xs)
-  first_fate n [] is h = h
-  first_fate n (p ∷ ps) is h =
-      let w : Walked = walked m n in
-      let leads = (walking m n law moment leaves).midst (not_done w.moment.core w.moment.held p ps is) in
-      let member : Contains (left w) p = subst (λ xs. Contains xs p) (sym is) (here p ps) in
-      let then : Walked = settled (dealt_so w p (way_of w.moment.core (read_of (w.moment.core.cell p)))) in
-      put_fate m.core w.moment.core then.moment.core m.held w.moment.held then.moment.held q h (front_fate w leads.law leads.moment (walked_phase m n ∙ leaves) p member q)
+  keeps_fate : KeepsLawfully HasFate
+  keeps_fate = record {
+    gives = λ w l ls h. put_fate m.core w.moment.core (released w.moment.core l) m.held (l ∷ ls) ls q h
+        (fate_stayed w.moment.core (released w.moment.core l) (l ∷ ls) ls q record { put_there = released_put w.moment.core l q; fewer = λ k c. there k l ls c });
+    deals = λ w l ls p way ready x h. put_fate m.core w.moment.core (core_so w.moment.core p way) m.held (l ∷ ls) (l ∷ ls) q h (gone_fate w.moment.core l ls p ready way x q);
+  }
 
-  walk_fate : (n : ℕ) → HasFate (walked m n)
-  walk_fate zero = fate_stayed m.core (walked m zero).moment.core m.held (walked m zero).moment.held q (passed_stayed q m.held (begun m))
-  walk_fate (suc n) = first_fate n (left (walked m n)) refl (walk_fate n)
+module _ (m : Moment) (law : Law m.core) (moment : MomentLaw m) (leaves : m.phase ≡ Evacuating) (q : ℕ) where
+  walk_fate : (n : ℕ) → HasFate m q (walked m n)
+  walk_fate n = (lifted_lawfully m (HasFate m q) (keeps_fate m q) law moment leaves (fate_stayed m.core m.core m.held m.held q (stayed_none m.core m.held q)) n).2.keeps.1
 
   pub ended_fate : (n : ℕ) → Fate StaysPut m.core m.held q (ended (walked m n)).core (ended (walked m n)).held
   ended_fate n = cond_both (is_done (walked m n)) (record (walked m n).moment { phase = Idle }) (walked m n).moment (λ (t : Moment). Fate StaysPut m.core m.held q t.core t.held) (λ _. walk_fate n) (λ _. walk_fate n)
@@ -334,29 +310,22 @@ marking_marked m n q law =
 
 marking_fate : (m : Moment) (n q : ℕ) → Law m.core → Fate StaysMarked m.core m.held q (after_marking m n).core (after_marking m n).held
 marking_fate m n q law = record {
-  fewer = λ l c. subst (λ xs. Contains xs l) (walks.marking_held m n) c;
+  fewer = λ l c. subst (λ xs. Contains xs l) (marking_held m n) c;
   still = λ none. marking_marked m n q law;
   either = inl (marking_marked m n q law);
 }
 
 -- ---- turn after turn
-turn_fate : (r : Turned) (q : ℕ) → Law r.moment.core → MomentLaw r.moment → (phase : Phase) → r.moment.phase ≡ phase →
-    Fate StaysMarked r.moment.core r.moment.held q (turned r phase).moment.core (turned r phase).moment.held
-turn_fate r q law moment Idle e = fate_none r.moment.core r.moment.held q
-turn_fate r q law moment Marking e = marking_fate r.moment turn_size q law
-turn_fate r q law moment Waiting e =
-    let t : Moment = after_polling r.moment in
-    fate_marked r.moment.core t.core r.moment.held t.held q (fate_stayed r.moment.core t.core r.moment.held t.held q (polling_put r.moment q))
-turn_fate r q law moment Evacuating e =
-    let t : Moment = ended (walked r.moment turn_size) in
-    fate_marked r.moment.core t.core r.moment.held t.held q (ended_fate r.moment law moment e q turn_size)
+keeps_turns : (m : Moment) (q : ℕ) → KeepsTurns true (λ t tally. Fate StaysMarked m.core m.held q t.core t.held)
+keeps_turns m q = record {
+  learns = tt;
+  marks = λ u n tally lawful is h. marked_fate m.core u.core (after_marking u n).core m.held u.held (after_marking u n).held q h (marking_fate u n q lawful.0);
+  looks = λ u k phase tally lawful is h. marked_fate m.core u.core (with_clear_below u.core k) m.held u.held u.held q h
+      (fate_marked u.core (with_clear_below u.core k) u.held u.held q (fate_stayed u.core (with_clear_below u.core k) u.held u.held q record { put_there = looked_put u q k; fewer = λ l c. c }));
+  walks = λ u n tally law moment is h. let w : Walked = walked u n in
+      marked_fate m.core u.core w.moment.core m.held u.held w.moment.held q h (fate_marked u.core w.moment.core u.held w.moment.held q (walk_fate u law moment is q n));
+  ends = λ u tally h. h;
+}
 
 pub turns_fate : (m : Moment) (q : ℕ) → Law m.core → MomentLaw m → is_idle m.phase ≡ false → (n : ℕ) → Fate StaysMarked m.core m.held q (turns_made m n).moment.core (turns_made m n).moment.held
-turns_fate m q law moment runs zero = fate_none m.core m.held q
-turns_fate m q law moment runs (suc n) =
-    let r = turns_made m n in
-    let h = turns_fate m q law moment runs n in
-    let leads = turns_lead m n law moment runs in
-    let after : Moment = (turned r r.moment.phase).moment in
-    cond_both r.over r (turned r r.moment.phase) (λ (x : Turned). Fate StaysMarked m.core m.held q x.moment.core x.moment.held) (λ _. h)
-    (λ _. marked_fate m.core r.moment.core after.core m.held r.moment.held after.held q h (turn_fate r q leads.law leads.moment r.moment.phase refl))
+turns_fate m q law moment runs n = turns_kept_exactly (λ t tally. Fate StaysMarked m.core m.held q t.core t.held) (keeps_turns m q) m n law moment runs (fate_none m.core m.held q)
