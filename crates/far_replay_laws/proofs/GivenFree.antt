@@ -15,7 +15,7 @@ use Rattle.far_evac.specs.Moment.{Moment}
 use Rattle.far_evac.specs.MomentLaw.{MomentLaw, is_idle}
 use Rattle.far_evac.specs.RoundSteps.{among}
 use Rattle.far_evac.specs.Turns.{turns_made}
-use Rattle.far_evac.specs.Walk.{begun, ended, is_done, walked}
+use Rattle.far_evac.specs.Walk.{Walked, begun, ended, is_done, walked}
 use Rattle.far_evac.specs.declared.phase.Phase.TheVariants.{Idle, Evacuating}
 use Rattle.far_evac.proofs.RoomLaw.{sound_of}
 use Rattle.far_evac.proofs.SpanBytes.{Dealt}
