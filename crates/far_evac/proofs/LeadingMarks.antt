@@ -36,8 +36,7 @@ use Rattle.far_evac.proofs.Leading.{all_lives, in_heap, reached_each}
 use Rattle.far_evac.proofs.LiveOnce.{LivesIn, near_at}
 use Rattle.far_evac.proofs.Lacking.{each_has, left_to}
 use Rattle.far_evac.proofs.LogBits.{with_log}
-use Rattle.far_evac.proofs.Marks.{all_filter, all_take}
-pub use Rattle.far_evac.proofs.Marks.{marks_cells}
+use Rattle.far_evac.proofs.Marks.{all_filter, all_take, marks_cells}
 use Rattle.far_evac.proofs.Onward.{sealed_inside}
 use Rattle.far_evac.proofs.Readiness.{round_is_event}
 use Rattle.far_evac.proofs.Bools.{or_left, or_right}

@@ -42,7 +42,6 @@ pub mod Marks
 pub mod Named
 pub mod OfOneKind
 pub mod Onward
-pub mod Orders
 pub mod Passing
 pub mod Polls
 pub mod Readiness
