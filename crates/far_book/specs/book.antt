@@ -23,3 +23,4 @@ pub mod Releasing
 pub mod Renaming
 pub mod Rows
 pub mod SealedLogs
+pub mod Sending

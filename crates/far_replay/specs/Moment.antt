@@ -1,5 +1,5 @@
 -- A heap between two commands: all that a command's refusal, effect and reply may hang on.
-use Rattle.std.specs.Prelude.{[]}
+use Rattle.std.specs.Prelude.{◌≡◌, []}
 use Rattle.far_core.specs.state.CoreState.{core_state}
 use Rattle.far_core.specs.state.State.{State}
 use Rattle.far_device.specs.declared.mem.MemDevice.{MemDevice}
@@ -19,3 +19,7 @@ state_in evac = core_state evac.book.near.core
 -- where an evacuator stands
 abbrev pub moment_in : EvacOf Plain MemDevice → Moment
 moment_in evac = record { core = state_in evac; order = evac.book.order; phase = evac.phase; held = evac.held }
+
+-- from one evacuator to another the round stays as it was
+abbrev pub KeepsRound : EvacOf Plain MemDevice → EvacOf Plain MemDevice → Type 0
+KeepsRound old new = (new.phase ≡ old.phase) × (new.held ≡ old.held)

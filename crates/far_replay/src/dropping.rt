@@ -6,7 +6,7 @@ ghost use Rattle.far_text.specs.Command.{Mutator, Drop};
 ghost use Rattle.far_replay.specs.Events.{events_for};
 ghost use Rattle.far_replay.specs.EventRows.{after_events};
 ghost use Rattle.far_replay.specs.Interpreter.{StandsFor};
-ghost use Rattle.far_replay.specs.Moment.{moment_in, state_in};
+ghost use Rattle.far_replay.specs.Moment.{KeepsRound, moment_in, state_in};
 ghost use Rattle.far_replay.specs.Outcome.{IsInRoom};
 ghost use Rattle.far_replay.specs.Turn.{reply_to};
 
@@ -26,7 +26,7 @@ pub fn drop_object(evac: &mut Evac<Plain, MemDevice>, owner: u8, pointer: u64) -
     ensures reply { StandsFor result (reply_to (moment_in evac.old) (Mutator owner (Drop pointer))) }
     ensures fits { IsInRoom result }
     ensures order { evac.new.book.order ≡ evac.old.book.order }
-    ensures round { (evac.new.phase ≡ evac.old.phase) × (evac.new.held ≡ evac.old.held) }
+    ensures round { KeepsRound evac.old evac.new }
 {
     let Some(pointer) = own_pointer(evac, owner, pointer) else {
         return Outcome::Refused(Refused::NotHeld);

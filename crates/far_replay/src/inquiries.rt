@@ -9,7 +9,7 @@ ghost use Rattle.far_text.specs.Command.{Mutator, Book as AsksBook, Where, Log, 
 ghost use Rattle.far_replay.specs.Events.{events_for};
 ghost use Rattle.far_replay.specs.EventRows.{after_events};
 ghost use Rattle.far_replay.specs.Interpreter.{StandsFor};
-ghost use Rattle.far_replay.specs.Moment.{moment_in, state_in};
+ghost use Rattle.far_replay.specs.Moment.{KeepsRound, moment_in, state_in};
 ghost use Rattle.far_replay.specs.Outcome.{reply_by, IsInRoom};
 ghost use Rattle.far_replay.specs.Turn.{log_line, reply_to};
 
@@ -29,7 +29,7 @@ pub fn find_object(evac: &mut Evac<Plain, MemDevice>, owner: u8, pointer: u64) -
     ensures reply { StandsFor result (reply_to (moment_in evac.old) (Mutator owner (Where pointer))) }
     ensures fits { IsInRoom result }
     ensures order { evac.new.book.order ≡ evac.old.book.order }
-    ensures round { (evac.new.phase ≡ evac.old.phase) × (evac.new.held ≡ evac.old.held) }
+    ensures round { KeepsRound evac.old evac.new }
 {
     let Some(pointer) = own_pointer(evac, owner, pointer) else {
         return Outcome::Refused(Refused::NotHeld);

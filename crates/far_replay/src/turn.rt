@@ -21,7 +21,7 @@ ghost use Rattle.far_replay.specs.Outcome.{reply_by, IsInRoom};
 ghost use Rattle.far_replay.specs.Between.{Between};
 ghost use Rattle.far_replay.specs.Events.{events_for, first_word, store_events, words_touched, starts_inside, ends_inside};
 ghost use Rattle.far_replay.specs.Objects.{data_of, lowest_cell, named_len, with_range};
-ghost use Rattle.far_replay.specs.Moment.{moment_in, state_in};
+ghost use Rattle.far_replay.specs.Moment.{KeepsRound, moment_in, state_in};
 ghost use Rattle.far_replay.specs.Turn.{effect, access_causes, first_cause, reply_to, refusal, with_new};
 
 use crate::dropping::drop_object;
@@ -241,7 +241,7 @@ fn store_front(evac: &mut Evac<Plain, MemDevice>, access: Access, words: &[u64])
     requires padding { (k : ℕ) → k < words_touched access.from access.count → slice_index words.now k < 2 ^ (8 * (data_len (state_in evac.old) access.pointer - 8 * (first_word access.from + k))) }
     ensures state { state_in evac.new ≡ after_events (state_in evac.old) (stores access.owner access.pointer (first_word access.from) (take (words_touched access.from access.count) words.now)) }
     ensures order { evac.new.book.order ≡ evac.old.book.order }
-    ensures round { (evac.new.phase ≡ evac.old.phase) × (evac.new.held ≡ evac.old.held) }
+    ensures round { KeepsRound evac.old evac.new }
 {
     let count = access.touched() as usize;
     evac.store_all(
@@ -265,7 +265,7 @@ fn write_viewed(
     requires small { IsBytes bytes.now }
     ensures state { state_in evac.new ≡ after_events (state_in evac.old) (store_events access.owner access.pointer (first_word access.from) (words_touched access.from access.count) (with_range (data_of (state_in evac.old) access.pointer) access.from bytes.now)) }
     ensures order { evac.new.book.order ≡ evac.old.book.order }
-    ensures round { (evac.new.phase ≡ evac.old.phase) × (evac.new.held ≡ evac.old.held) }
+    ensures round { KeepsRound evac.old evac.new }
 {
     splice(evac, scratch, access, bytes);
     store_front(evac, access, &scratch.words);
@@ -308,7 +308,7 @@ fn place_new(
     ensures unchanged { IfErr result (λ _. state_in evac.new ≡ state_in evac.old) }
     ensures order { IfOk result (λ _. evac.new.book.order ≡ order_fetched (state_in evac.old) evac.old.book.order (room (state_in evac.old) (size_of len) true)) }
     ensures shut { IfErr result (λ _. evac.new.book.order ≡ evac.old.book.order) }
-    ensures round { (evac.new.phase ≡ evac.old.phase) × (evac.new.held ≡ evac.old.held) }
+    ensures round { KeepsRound evac.old evac.new }
 {
     if ds >= 256 {
         return Err(Refused::Range);
@@ -335,7 +335,7 @@ fn make_object(evac: &mut Evac<Plain, MemDevice>, owner: u8, len: u64, ds: u64) 
     ensures reply { StandsFor result (reply_to (moment_in evac.old) (Mutator owner (New len ds))) }
     ensures fits { IsInRoom result }
     ensures order { evac.new.book.order ≡ (effect (moment_in evac.old) (Mutator owner (New len ds))).order }
-    ensures round { (evac.new.phase ≡ evac.old.phase) × (evac.new.held ≡ evac.old.held) }
+    ensures round { KeepsRound evac.old evac.new }
 {
     match place_new(evac, owner, len, ds) {
         Ok(pointer) => Outcome::Pointer(pointer),
@@ -350,7 +350,7 @@ fn open_scope(evac: &mut Evac<Plain, MemDevice>, owner: u8) -> Outcome
     ensures reply { StandsFor result (reply_to (moment_in evac.old) (Mutator owner Open)) }
     ensures fits { IsInRoom result }
     ensures order { evac.new.book.order ≡ evac.old.book.order }
-    ensures round { (evac.new.phase ≡ evac.old.phase) × (evac.new.held ≡ evac.old.held) }
+    ensures round { KeepsRound evac.old evac.new }
 {
     if core_of(evac).is_open(owner) {
         return Outcome::Refused(Refused::AlreadyOpen);
@@ -366,7 +366,7 @@ fn close_scope(evac: &mut Evac<Plain, MemDevice>, owner: u8) -> Outcome
     ensures reply { StandsFor result (reply_to (moment_in evac.old) (Mutator owner Close)) }
     ensures fits { IsInRoom result }
     ensures order { evac.new.book.order ≡ evac.old.book.order }
-    ensures round { (evac.new.phase ≡ evac.old.phase) × (evac.new.held ≡ evac.old.held) }
+    ensures round { KeepsRound evac.old evac.new }
 {
     if !core_of(evac).is_open(owner) {
         return Outcome::Refused(Refused::Closed);
