@@ -64,8 +64,8 @@ pub fn objects_go_their_way()
     ensures { ObjectsGoTheirWay }
 {}
 
-/// Over any hand: the room that dealing with objects takes is that of those that moved. In a log that isn't held dead bytes stay, live ones rise by the objects
-/// that came, and unused ones fall by as much; in one that still is what left is dead; one that was given back has what came since. Of all logs together
+/// Over any hand: the room that dealing with objects takes is that of those that moved. In a log outside the collection set dead bytes stay, live ones rise by the objects
+/// that came, and unused ones fall by as much; in one that is still in it what left is dead; one that was given back has what came since. Of all logs together
 /// live bytes fall by the objects that went far or were retired. So it is with each call of a round, with turns one after the other, and with whole rounds, also
 /// with those that stop at an object.
 pub fn walks_take_room()
@@ -85,7 +85,7 @@ pub fn marking_is_right()
     ensures counted { MarkingIsCounted }
 {}
 
-/// After a round is given up no live object of the logs that were held has EVAC, and these logs are out of the core's round, but for those without
+/// After a round is given up no live object of what was the collection set has EVAC, and these logs are out of the core's round, but for those without
 /// a live object. Nothing else has changed.
 pub fn giving_up_is_right()
     ensures { GivingUpIsRight }
@@ -197,7 +197,7 @@ pub fn callers_keep_order()
     ensures retired { RetiringOrder }
 {}
 
-/// Each object that lies in a log of the core's round lies in one that is held: once the epoch has risen, where no other log is in that round; and in a heap
+/// Each object that lies in a log of the core's round lies in one of the collection set: once the epoch has risen, where no other log is in that round; and in a heap
 /// that began without a round also before, when a round that was given up may have left logs there in which nothing lies. So it stays, over any hand, through each
 /// call of a round, turns and whole rounds, and through what callers do between two of them.
 pub fn none_strays()

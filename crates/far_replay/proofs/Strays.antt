@@ -1,4 +1,4 @@
--- Through each command an object that lies in a log of the core's round lies in one that is held.
+-- Through each command an object that lies in a log of the core's round lies in one of the collection set.
 use Rattle.std.proofs.Common.{◌≡◌, Bool, true, false, not, None, List, [], ◌∷◌, sym, subst, refl}
 use Rattle.far_word.specs.declared.refused.Refused.{Refused as Refusal}
 use Rattle.far_word.specs.declared.refused.Refused.TheVariants.{Phase as WrongPhase, StillOpen}

@@ -26,25 +26,25 @@ module _ (now : Moment) (t : State) (moment : MomentLaw now) (left : StepsAside 
 
   still_chosen : (l : ℕ) → IsChosen now l → IsChosen next l
   still_chosen l h =
-      let held : among now.held l ≡ true = held_by (among now.held l) (now.core.kind l) h in
-      chosen_by_both (among now.held l) (t.kind l) held (left.stay l (moment.sealed l held))
+      let held : among now.collection l ≡ true = held_by (among now.collection l) (now.core.kind l) h in
+      chosen_by_both (among now.collection l) (t.kind l) held (left.stay l (moment.sealed l held))
 
   was_chosen : (l : ℕ) → IsChosen next l → IsChosen now l
   was_chosen l h =
-      let held : among now.held l ≡ true = held_by (among now.held l) (t.kind l) h in
-      chosen_by_both (among now.held l) (now.core.kind l) held (moment.sealed l held)
+      let held : among now.collection l ≡ true = held_by (among now.collection l) (t.kind l) h in
+      chosen_by_both (among now.collection l) (now.core.kind l) held (moment.sealed l held)
 
   round_stands : RoundStands now next
   round_stands = record {
     phase = refl;
-    held = refl;
+    collection = refl;
     chosen = λ l. (was_chosen l, still_chosen l);
     logs = λ l. ap (λ (f : ℕ → Bool). f l) left.round;
     epoch = left.round_epoch;
     heap = left.epoch;
     seen = λ m. ap (λ (f : ℕ → Bool). f m) left.clear;
     none_comes = λ p len ds place marks chosen near.
-        logs.near p len ds place marks near (moment.sealed place.log (held_by (among now.held place.log) (now.core.kind place.log) chosen));
+        logs.near p len ds place marks near (moment.sealed place.log (held_by (among now.collection place.log) (now.core.kind place.log) chosen));
   }
 
 told_stands : (now : Moment) (c : Command) → IsTold c → Lasts now → RoundStands now (effect now c)

@@ -35,9 +35,9 @@ impl<N: Near + Drop, D: Device + Drop> Evac<N, D> {
 
     // Whether a log was chosen, and isn't given back yet.
     fn is_held(&self, log: u8) -> bool
-        ensures { result ≡ among self.now.held log }
+        ensures { result ≡ among self.now.collection log }
     {
-        self.held().contains(&log)
+        self.collection().contains(&log)
     }
 
     /// Where each object is that isn't dropped, once, by rising pointers, and what each log is and has, once, by number. Nothing

@@ -32,7 +32,7 @@ impl<N: Near + Drop, D: Device + Drop> Evac<N, D> {
         ensures looks { Came (only Looks N.makes) self.old.book.near self.new.book.near }
         ensures polls { IfOk result (λ answer. Polls (moment N.view self.old) (moment N.view self.new) answer) }
         ensures exact { N.still → IfOk result (λ answer. (moment N.view self.new ≡ after_polling (moment N.view self.old)) × (answer ≡ polled (N.view self.old.book.near))) }
-        ensures unviewed { IfOk result (λ answer. answer ≡ Clear → (x : State) → N.may_be self.new.book.near x → NoneViews (among self.new.held) x) }
+        ensures unviewed { IfOk result (λ answer. answer ≡ Clear → (x : State) → N.may_be self.new.book.near x → NoneViews (among self.new.collection) x) }
         ensures saw { IfOk result (SawOpen (N.may_be self.new.book.near)) }
         ensures device { self.new.book.device ≡ self.old.book.device }
         ensures waiting { IfOk result (λ _. self.old.phase ≡ phase.Waiting) }

@@ -10,13 +10,13 @@ use Rattle.far_evac.proofs.evac.Evac.first_in.Goals as goal
 pub next_live-requires-clause-log : goal.next_live-requires-clause-log
 next_live-requires-clause-log g c =
     let phase = ap (λ (e : EvacOf g.row.N.Denot g.row.D.Denot). e.phase) c.self.view_is ∙ c.requires.phase in
-    let held = ap (λ (e : EvacOf g.row.N.Denot g.row.D.Denot). e.held) c.self.view_is ∙ c.requires.front.1 in
+    let held = ap (λ (e : EvacOf g.row.N.Denot g.row.D.Denot). e.collection) c.self.view_is ∙ c.requires.front.1 in
     front_range (g.N.Near.view c.self.inside.book.near) c.self.inside.round c.self.invariant c.keeps_law.ensures.law phase c.args.log c.requires.front.0 held
 
 pub next_live-requires-clause-begins : goal.next_live-requires-clause-begins
 next_live-requires-clause-begins g c =
     let phase = ap (λ (e : EvacOf g.row.N.Denot g.row.D.Denot). e.phase) c.self.view_is ∙ c.requires.phase in
-    let held = ap (λ (e : EvacOf g.row.N.Denot g.row.D.Denot). e.held) c.self.view_is ∙ c.requires.front.1 in
+    let held = ap (λ (e : EvacOf g.row.N.Denot g.row.D.Denot). e.collection) c.self.view_is ∙ c.requires.front.1 in
     front_begins (g.N.Near.view c.self.inside.book.near) c.self.inside.round c.self.invariant c.keeps_law.ensures.law phase c.args.log c.requires.front.0 held
 
 pub invariant_of-self : goal.invariant_of-self
@@ -34,7 +34,7 @@ returns-in_default-clause-known g c =
 pub returns-in_default-clause-none : goal.returns-in_default-clause-none
 returns-in_default-clause-none g c =
     let phase = ap (λ (e : EvacOf g.row.N.Denot g.row.D.Denot). e.phase) c.self.view_is ∙ c.requires.phase in
-    let held = ap (λ (e : EvacOf g.row.N.Denot g.row.D.Denot). e.held) c.self.view_is ∙ c.requires.front.1 in
+    let held = ap (λ (e : EvacOf g.row.N.Denot g.row.D.Denot). e.collection) c.self.view_is ∙ c.requires.front.1 in
     let s = g.N.Near.view c.self.inside.book.near in
     let law = c.keeps_law.ensures.law in
     let lies = front_lies s c.self.inside.round c.self.invariant law phase c.args.log c.requires.front.0 held in
@@ -44,7 +44,7 @@ returns-in_default-clause-none g c =
 pub invariant_of-self-2 : goal.invariant_of-self-2
 invariant_of-self-2 g c =
     let phase = ap (λ (e : EvacOf g.row.N.Denot g.row.D.Denot). e.phase) c.self.view_is ∙ c.requires.phase in
-    let held = ap (λ (e : EvacOf g.row.N.Denot g.row.D.Denot). e.held) c.self.view_is ∙ c.requires.front.1 in
+    let held = ap (λ (e : EvacOf g.row.N.Denot g.row.D.Denot). e.collection) c.self.view_is ∙ c.requires.front.1 in
     let s = g.N.Near.view c.self.inside.book.near in
     let t = g.N.Near.view c.next_live.new.self.near in
     let moved = stands_first s c.self.inside.round c.self.invariant c.keeps_law.ensures.law phase c.args.log c.requires.front.0 held c.in-Some.span c.in-Some.ensures.first in
@@ -59,7 +59,7 @@ returns-clause-known g c =
 pub returns-clause-first : goal.returns-clause-first
 returns-clause-first g c =
     let phase = ap (λ (e : EvacOf g.row.N.Denot g.row.D.Denot). e.phase) c.self.view_is ∙ c.requires.phase in
-    let held = ap (λ (e : EvacOf g.row.N.Denot g.row.D.Denot). e.held) c.self.view_is ∙ c.requires.front.1 in
+    let held = ap (λ (e : EvacOf g.row.N.Denot g.row.D.Denot). e.collection) c.self.view_is ∙ c.requires.front.1 in
     let s = g.N.Near.view c.self.inside.book.near in
     let law = c.keeps_law.ensures.law in
     let lies = front_lies s c.self.inside.round c.self.invariant law phase c.args.log c.requires.front.0 held in
@@ -69,7 +69,7 @@ returns-clause-first g c =
 pub returns-clause-next : goal.returns-clause-next
 returns-clause-next g c =
     let phase = ap (λ (e : EvacOf g.row.N.Denot g.row.D.Denot). e.phase) c.self.view_is ∙ c.requires.phase in
-    let held = ap (λ (e : EvacOf g.row.N.Denot g.row.D.Denot). e.held) c.self.view_is ∙ c.requires.front.1 in
+    let held = ap (λ (e : EvacOf g.row.N.Denot g.row.D.Denot). e.collection) c.self.view_is ∙ c.requires.front.1 in
     let s = g.N.Near.view c.self.inside.book.near in
     let t = g.N.Near.view c.next_live.new.self.near in
     let law = c.keeps_law.ensures.law in

@@ -11,13 +11,13 @@ use Rattle.far_evac.proofs.evac.Evac.give_back.Goals as goal
 pub release-requires-clause-log : goal.release-requires-clause-log
 release-requires-clause-log g c =
     let phase = ap (λ (e : EvacOf g.row.N.Denot g.row.D.Denot). e.phase) c.self.view_is ∙ c.requires.phase in
-    let held = ap (λ (e : EvacOf g.row.N.Denot g.row.D.Denot). e.held) c.self.view_is ∙ c.requires.front.1 in
+    let held = ap (λ (e : EvacOf g.row.N.Denot g.row.D.Denot). e.collection) c.self.view_is ∙ c.requires.front.1 in
     front_range (g.N.Near.view c.self.inside.book.near) c.self.inside.round c.self.invariant c.keeps_law.ensures.law phase c.args.log c.requires.front.0 held
 
 pub invariant_of-self : goal.invariant_of-self
 invariant_of-self g c =
     let phase = ap (λ (e : EvacOf g.row.N.Denot g.row.D.Denot). e.phase) c.self.view_is ∙ c.requires.phase in
-    let held = ap (λ (e : EvacOf g.row.N.Denot g.row.D.Denot). e.held) c.self.view_is ∙ c.requires.front.1 in
+    let held = ap (λ (e : EvacOf g.row.N.Denot g.row.D.Denot). e.collection) c.self.view_is ∙ c.requires.front.1 in
     let s = g.N.Near.view c.self.inside.book.near in
     let t = g.N.Near.view c.release.new.self.near in
     let r = c.self.inside.round in
@@ -29,7 +29,7 @@ invariant_of-self g c =
 pub invariant_of-self-else-self-len : goal.invariant_of-self-else-self-len
 invariant_of-self-else-self-len g c =
     let phase = ap (λ (e : EvacOf g.row.N.Denot g.row.D.Denot). e.phase) c.self.view_is ∙ c.requires.phase in
-    let held = ap (λ (e : EvacOf g.row.N.Denot g.row.D.Denot). e.held) c.self.view_is ∙ c.requires.front.1 in
+    let held = ap (λ (e : EvacOf g.row.N.Denot g.row.D.Denot). e.collection) c.self.view_is ∙ c.requires.front.1 in
     let s = g.N.Near.view c.self.inside.book.near in
     let t = g.N.Near.view c.release.new.self.near in
     let r = c.self.inside.round in
@@ -43,7 +43,7 @@ invariant_of-self-else-self-len g c =
 pub returns-then-self-len-clause-core : goal.returns-then-self-len-clause-core
 returns-then-self-len-clause-core g c =
     let phase = ap (λ (e : EvacOf g.row.N.Denot g.row.D.Denot). e.phase) c.self.view_is ∙ c.requires.phase in
-    let held = ap (λ (e : EvacOf g.row.N.Denot g.row.D.Denot). e.held) c.self.view_is ∙ c.requires.front.1 in
+    let held = ap (λ (e : EvacOf g.row.N.Denot g.row.D.Denot). e.collection) c.self.view_is ∙ c.requires.front.1 in
     let s = g.N.Near.view c.self.inside.book.near in
     let t = g.N.Near.view c.release.new.self.near in
     let r = c.self.inside.round in
@@ -55,7 +55,7 @@ returns-then-self-len-clause-core g c =
 pub returns-then-self-len-clause-exact : goal.returns-then-self-len-clause-exact
 returns-then-self-len-clause-exact g c =
     let phase = ap (λ (e : EvacOf g.row.N.Denot g.row.D.Denot). e.phase) c.self.view_is ∙ c.requires.phase in
-    let held = ap (λ (e : EvacOf g.row.N.Denot g.row.D.Denot). e.held) c.self.view_is ∙ c.requires.front.1 in
+    let held = ap (λ (e : EvacOf g.row.N.Denot g.row.D.Denot). e.collection) c.self.view_is ∙ c.requires.front.1 in
     let s = g.N.Near.view c.self.inside.book.near in
     let t = g.N.Near.view c.release.new.self.near in
     let r = c.self.inside.round in
@@ -66,7 +66,7 @@ returns-then-self-len-clause-exact g c =
 pub returns-then-self-len-clause-order : goal.returns-then-self-len-clause-order
 returns-then-self-len-clause-order g c =
     let phase = ap (λ (e : EvacOf g.row.N.Denot g.row.D.Denot). e.phase) c.self.view_is ∙ c.requires.phase in
-    let held = ap (λ (e : EvacOf g.row.N.Denot g.row.D.Denot). e.held) c.self.view_is ∙ c.requires.front.1 in
+    let held = ap (λ (e : EvacOf g.row.N.Denot g.row.D.Denot). e.collection) c.self.view_is ∙ c.requires.front.1 in
     let s = g.N.Near.view c.self.inside.book.near in
     let t = g.N.Near.view c.release.new.self.near in
     let r = c.self.inside.round in
@@ -74,10 +74,10 @@ returns-then-self-len-clause-order g c =
     let freed = c.release.ensures.vacant.1 (front_vacant s r c.self.invariant c.keeps_law.ensures.law phase c.args.log c.requires.front.0 held none) in
     c.release.ensures.order freed ∙ ap (λ (e : EvacOf g.row.N.Denot g.row.D.Denot). order_without c.args.log e.book.order) c.self.view_is
 
-pub returns-then-self-len-clause-held : goal.returns-then-self-len-clause-held
-returns-then-self-len-clause-held g c =
+pub returns-then-self-len-clause-collection : goal.returns-then-self-len-clause-collection
+returns-then-self-len-clause-collection g c =
     let phase = ap (λ (e : EvacOf g.row.N.Denot g.row.D.Denot). e.phase) c.self.view_is ∙ c.requires.phase in
-    let held = ap (λ (e : EvacOf g.row.N.Denot g.row.D.Denot). e.held) c.self.view_is ∙ c.requires.front.1 in
+    let held = ap (λ (e : EvacOf g.row.N.Denot g.row.D.Denot). e.collection) c.self.view_is ∙ c.requires.front.1 in
     let s = g.N.Near.view c.self.inside.book.near in
     let t = g.N.Near.view c.release.new.self.near in
     let r = c.self.inside.round in
@@ -87,7 +87,7 @@ returns-then-self-len-clause-held g c =
 pub returns-else-self-len-clause-core : goal.returns-else-self-len-clause-core
 returns-else-self-len-clause-core g c =
     let phase = ap (λ (e : EvacOf g.row.N.Denot g.row.D.Denot). e.phase) c.self.view_is ∙ c.requires.phase in
-    let held = ap (λ (e : EvacOf g.row.N.Denot g.row.D.Denot). e.held) c.self.view_is ∙ c.requires.front.1 in
+    let held = ap (λ (e : EvacOf g.row.N.Denot g.row.D.Denot). e.collection) c.self.view_is ∙ c.requires.front.1 in
     let s = g.N.Near.view c.self.inside.book.near in
     let t = g.N.Near.view c.release.new.self.near in
     let r = c.self.inside.round in
@@ -99,7 +99,7 @@ returns-else-self-len-clause-core g c =
 pub returns-else-self-len-clause-exact : goal.returns-else-self-len-clause-exact
 returns-else-self-len-clause-exact g c =
     let phase = ap (λ (e : EvacOf g.row.N.Denot g.row.D.Denot). e.phase) c.self.view_is ∙ c.requires.phase in
-    let held = ap (λ (e : EvacOf g.row.N.Denot g.row.D.Denot). e.held) c.self.view_is ∙ c.requires.front.1 in
+    let held = ap (λ (e : EvacOf g.row.N.Denot g.row.D.Denot). e.collection) c.self.view_is ∙ c.requires.front.1 in
     let s = g.N.Near.view c.self.inside.book.near in
     let t = g.N.Near.view c.release.new.self.near in
     let r = c.self.inside.round in
@@ -110,7 +110,7 @@ returns-else-self-len-clause-exact g c =
 pub returns-else-self-len-clause-order : goal.returns-else-self-len-clause-order
 returns-else-self-len-clause-order g c =
     let phase = ap (λ (e : EvacOf g.row.N.Denot g.row.D.Denot). e.phase) c.self.view_is ∙ c.requires.phase in
-    let held = ap (λ (e : EvacOf g.row.N.Denot g.row.D.Denot). e.held) c.self.view_is ∙ c.requires.front.1 in
+    let held = ap (λ (e : EvacOf g.row.N.Denot g.row.D.Denot). e.collection) c.self.view_is ∙ c.requires.front.1 in
     let s = g.N.Near.view c.self.inside.book.near in
     let t = g.N.Near.view c.release.new.self.near in
     let r = c.self.inside.round in
@@ -118,10 +118,10 @@ returns-else-self-len-clause-order g c =
     let freed = c.release.ensures.vacant.1 (front_vacant s r c.self.invariant c.keeps_law.ensures.law phase c.args.log c.requires.front.0 held none) in
     c.release.ensures.order freed ∙ ap (λ (e : EvacOf g.row.N.Denot g.row.D.Denot). order_without c.args.log e.book.order) c.self.view_is
 
-pub returns-else-self-len-clause-held : goal.returns-else-self-len-clause-held
-returns-else-self-len-clause-held g c =
+pub returns-else-self-len-clause-collection : goal.returns-else-self-len-clause-collection
+returns-else-self-len-clause-collection g c =
     let phase = ap (λ (e : EvacOf g.row.N.Denot g.row.D.Denot). e.phase) c.self.view_is ∙ c.requires.phase in
-    let held = ap (λ (e : EvacOf g.row.N.Denot g.row.D.Denot). e.held) c.self.view_is ∙ c.requires.front.1 in
+    let held = ap (λ (e : EvacOf g.row.N.Denot g.row.D.Denot). e.collection) c.self.view_is ∙ c.requires.front.1 in
     let s = g.N.Near.view c.self.inside.book.near in
     let t = g.N.Near.view c.release.new.self.near in
     let r = c.self.inside.round in

@@ -11,7 +11,7 @@ returns-then-not-mark_next-clause-known g c =
     let m = moment g.N.Near.view c.args.self.now in
     let a = moment g.N.Near.view c.loop-i.self in
     let b = moment g.N.Near.view c.mark_next.new.self in
-    let once = c.keeps_law.ensures.moment.held_once in
+    let once = c.keeps_law.ensures.moment.collection_once in
     let fits = λ (q : ℕ). (c.keeps_law.ensures.law.cells.cell_read q).0 in
     let known = c.loop-i.invariant.known in
     let none = over_here m once fits c.loop-i.i a known (sym c.if-not-mark_next.true ∙ c.mark_next.ensures.found) in
@@ -23,7 +23,7 @@ returns-then-not-mark_next-clause-exact g c still =
     let m = moment g.N.Near.view c.args.self.now in
     let a = moment g.N.Near.view c.loop-i.self in
     let b = moment g.N.Near.view c.mark_next.new.self in
-    let once = c.keeps_law.ensures.moment.held_once in
+    let once = c.keeps_law.ensures.moment.collection_once in
     let fits = λ (q : ℕ). (c.keeps_law.ensures.law.cells.cell_read q).0 in
     let known = c.loop-i.invariant.known in
     let none = over_here m once fits c.loop-i.i a known (sym c.if-not-mark_next.true ∙ c.mark_next.ensures.found) in
@@ -33,7 +33,7 @@ pub returns-then-not-mark_next-clause-count : goal.returns-then-not-mark_next-cl
 returns-then-not-mark_next-clause-count g c =
     let m = moment g.N.Near.view c.args.self.now in
     let a = moment g.N.Near.view c.loop-i.self in
-    let once = c.keeps_law.ensures.moment.held_once in
+    let once = c.keeps_law.ensures.moment.collection_once in
     let fits = λ (q : ℕ). (c.keeps_law.ensures.law.cells.cell_read q).0 in
     let none = over_here m once fits c.loop-i.i a c.loop-i.invariant.known (sym c.if-not-mark_next.true ∙ c.mark_next.ensures.found) in
     over_count m once fits c.loop-i.i c.args.n none c.loop-i-test.true c.loop-i.invariant.enough
@@ -43,7 +43,7 @@ loop-i-preserved g c =
     let m = moment g.N.Near.view c.args.self.now in
     let a = moment g.N.Near.view c.loop-i.self in
     let b = moment g.N.Near.view c.mark_next.new.self in
-    let once = c.keeps_law.ensures.moment.held_once in
+    let once = c.keeps_law.ensures.moment.collection_once in
     let fits = λ (q : ℕ). (c.keeps_law.ensures.law.cells.cell_read q).0 in
     let h = c.loop-i.invariant in
     record {

@@ -11,6 +11,6 @@ invariant-loop-i g l = record {
   known : KnowsMoment (record (moment g.N.Near.view l.fn.self) { core = marked_core (moment g.N.Near.view l.fn.self) l.i }) (moment g.N.Near.view l.self);
   exact : g.N.Near.still → moment g.N.Near.view l.self ≡ record (moment g.N.Near.view l.fn.self) { core = marked_core (moment g.N.Near.view l.fn.self) l.i };
   device : l.self.book.device ≡ l.fn.self.book.device;
-  enough : l.i ≤ length (lacking (g.N.Near.view l.fn.self.book.near) l.fn.self.held);
+  enough : l.i ≤ length (lacking (g.N.Near.view l.fn.self.book.near) l.fn.self.collection);
   came : Came g.N.Near.makes l.fn.self.book.near l.self.book.near;
 }

@@ -26,7 +26,7 @@ loop-log-init g c = record {
 pub returns-in-Some-first_in-clause-first : goal.returns-in-Some-first_in-clause-first
 returns-in-Some-first_in-clause-first g c =
     let known = c.first_in.ensures.known in
-    let front = ap (λ (m : Moment). m.held) known.rest ∙ c.in-Some.ensures.some.1 in
+    let front = ap (λ (m : Moment). m.collection) known.rest ∙ c.in-Some.ensures.some.1 in
     let first = c.in-Some-first_in.ensures.first in
     front_left (standing g.N.Near.view c.first_in.new.self c.loop-log.progress) c.in-Some.log c.in-Some.ensures.some.0 front c.in-Some-first_in.span.p first.0
     (knows_live (g.N.Near.view c.loop-log.self.book.near) (g.N.Near.view c.first_in.new.self.book.near) known.core c.in-Some.log ∙ first.1)
@@ -44,10 +44,10 @@ loop-log-preserved g c =
     let log = c.in-Some.log in
     let some = c.in-Some.ensures.some in
     let none = c.in_default-first_in.ensures.none in
-    let held = c.give_back.ensures.held in
+    let held = c.give_back.ensures.collection in
     let order = c.give_back.ensures.order in
     let before = c.loop-log.invariant in
-    let same = ap (λ (m : Moment). m.held) c.first_in.ensures.known.rest in
+    let same = ap (λ (m : Moment). m.collection) c.first_in.ensures.known.rest in
     let next : Progress = record c.loop-log.progress { freed = c.loop-log.progress.freed + 1 } in
     let long = ap length (sym same ∙ held) in
     record {

@@ -27,7 +27,7 @@ use Rattle.far_evac.proofs.evac.Evac.walk.Goals as goal
 
 pub returns-in_default-clause-exact : goal.returns-in_default-clause-exact
 returns-in_default-clause-exact g c = λ still.
-    let none = subst (λ o. IfNone o (c.loop.self.held ≡ [])) c.in_default.is c.loop.invariant.none in
+    let none = subst (λ o. IfNone o (c.loop.self.collection ≡ [])) c.in_default.is c.loop.invariant.none in
     exact_over (moment g.N.Near.view c.args.self.now) c.args.n c.loop.counter (standing g.N.Near.view c.loop.self c.loop.progress) c.loop.auto.counter-end none (c.loop.invariant.exact still)
 
 pub deal-requires-clause-room : goal.deal-requires-clause-room
@@ -100,7 +100,7 @@ returns-in-Err-clause-refused g c =
     let w = standing view c.loop.self c.loop.progress in
     let before = c.loop.invariant in
     let some = subst (λ o. IfSome o (λ (span : Span). (rest : List ℕ) × (left w ≡ span.p ∷ rest))) c.in-Some.is before.some in
-    let next = subst (λ o. IfSome o (λ (span : Span). IsNextLeaving (view c.loop.self.book.near) c.loop.self.held span)) c.in-Some.is before.next in
+    let next = subst (λ o. IfSome o (λ (span : Span). IsNextLeaving (view c.loop.self.book.near) c.loop.self.collection span)) c.in-Some.is before.next in
     let leaving = before.ends ∙ ap (λ (held : List ℕ). cond (is_empty held) phase.Idle phase.Evacuating) next.front in
     let count = ap (λ (q : Progress). objects_in (tally_of q)) c.in-Err.ensures.uncounted ∙ tallies_all m c.loop.counter w before.walks in
     record {
