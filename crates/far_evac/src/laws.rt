@@ -15,7 +15,7 @@ ghost use Rattle.far_evac.specs.Laws.{CensusIsExact, ClearIsShown, ClearMeansUnv
 ghost use Rattle.far_evac.specs.worked.AsCalled.{AsCalled};
 ghost use Rattle.far_evac.specs.worked.Rows.{EmptiestIsFirst, EpochsAreNamed, FirstLiesFirst, GivenUp, HotWithoutRoom, LastEpoch, NothingToChoose, OldEpoch, OldView, OldestIsFirst, OpenScopeIsWaitedFor, OpenedAnew, OwnerIsFirst, PhasesAreKept, PlainRound, ReserveIsKept, StepByStep, TurnsRunOut};
 
-/// The exact walk, over words that nobody else changes, is one of those that are allowed over any hand.
+/// The exact evacuation, over words that nobody else changes, is one of those that are allowed over any hand.
 pub fn exact_is_allowed()
     ensures { ExactIsAllowed }
 {}
@@ -38,13 +38,13 @@ pub fn turns_have_16()
     ensures { turn_size ≡ 16 }
 {}
 
-/// A walk over n objects does what stands before the (n + 1)th object in a list of the live objects and the ends of the chosen
+/// An evacuation of n objects does what stands before the (n + 1)th object in a list of the live objects and the ends of the chosen
 /// logs, made before it began.
 pub fn walk_is_tour()
     ensures { WalkIsTour }
 {}
 
-/// A walk over a objects, and then one over b more, leave the moment that one walk over a + b objects leaves, and count together
+/// An evacuation of a objects, and then one of b more, leave the moment that one of a + b objects leaves, and count together
 /// what it counts.
 pub fn walks_join()
     ensures { WalksJoin }
@@ -58,7 +58,7 @@ pub fn dealing_is_in_order()
     ensures emptied { LogsComeBackEmpty }
 {}
 
-/// The object that k live ones stand before is dealt with by the marks that it had when the walk began, where no word changes but by it: a dropped one is
+/// The object that k live ones stand before is dealt with by the marks that it had when the evacuation began, where no word changes but by it: a dropped one is
 /// retired, a cold one goes far, and a hot one to where there is room then, or far where there is none. It has no marks after.
 pub fn objects_go_their_way()
     ensures { ObjectsGoTheirWay }
@@ -96,7 +96,7 @@ pub fn live_objects_are_in_order()
     ensures { LiveIsInOrder }
 {}
 
-/// Once the epoch has risen for a round, the law of the book's part of the core and that of the moment make the walk ready.
+/// Once the epoch has risen for a round, the law of the book's part of the core and that of the moment make the evacuation ready.
 pub fn risen_is_ready()
     ensures { RisenIsReady }
 {}
@@ -167,7 +167,7 @@ pub fn rounds_keep_objects()
     ensures whole { RoundKeepsObjects }
 {}
 
-/// Where no object is dropped that isn't retired yet, neither a walk nor turns retire any.
+/// Where no object is dropped that isn't retired yet, neither an evacuation nor turns retire any.
 pub fn rounds_retire_none()
     ensures walking { WalkRetiresNone }
     ensures turns { TurnsRetireNone }

@@ -85,7 +85,7 @@ impl<N: Near + Drop, D: Device + Drop> Evac<N, D> {
                 why: Refused::Phase,
             });
         }
-        match self.walk(n, &mut progress) {
+        match self.evacuate_up_to(n, &mut progress) {
             Ok(done) => {
                 progress.done = done;
                 Ok(progress)
@@ -98,7 +98,7 @@ impl<N: Near + Drop, D: Device + Drop> Evac<N, D> {
     }
 
     // Deals with n objects, or all, and counts them; whether the collection set is empty then.
-    fn walk(&mut self, n: u64, progress: &mut Progress) -> Result<bool, Refused>
+    fn evacuate_up_to(&mut self, n: u64, progress: &mut Progress) -> Result<bool, Refused>
         requires phase { self.old.phase ≡ phase.Evacuating }
         requires begun { progress.old ≡ progress_of nothing false }
         ensures came { Came N.makes self.old.book.near self.new.book.near }
@@ -180,7 +180,7 @@ impl<N: Near + Drop, D: Device + Drop> Evac<N, D> {
         self.collection().first().copied()
     }
 
-    // The span of the first live object of the log in front, where the walk stands then; none, where no object lives there.
+    // The span of the first live object of the log in front, where the evacuation stands then; none, where no object lives there.
     fn first_in(&mut self, log: u8) -> Option<Span>
         requires phase { self.old.phase ≡ phase.Evacuating }
         requires front { (logs : List ℕ) × (self.old.collection ≡ log ∷ logs) }
@@ -223,7 +223,7 @@ impl<N: Near + Drop, D: Device + Drop> Evac<N, D> {
         }
     }
 
-    // Deals with the first live object that is left, and counts it: the walk stands behind its span then. At a refusal it lies as before.
+    // Deals with the first live object that is left, and counts it: the evacuation stands behind its span then. At a refusal it lies as before.
     fn deal(&mut self, span: Span, progress: &mut Progress) -> Result<(), Refused>
         requires phase { self.old.phase ≡ phase.Evacuating }
         requires first { (rest : List ℕ) × (left (standing N.view self.old progress.old) ≡ span.p ∷ rest) }

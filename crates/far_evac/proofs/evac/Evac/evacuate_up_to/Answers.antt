@@ -23,7 +23,7 @@ use Rattle.std.specs.Prelude.{Bool, Err, false}
 use Rattle.far_evac.proofs.Evacuations.{exact_over, one_exact, one_more}
 use Rattle.far_evac.proofs.Readiness.{risen_is_ready}
 use Rattle.far_evac.proofs.SmallSteps.{tallies_all}
-use Rattle.far_evac.proofs.evac.Evac.walk.Goals as goal
+use Rattle.far_evac.proofs.evac.Evac.evacuate_up_to.Goals as goal
 
 pub returns-in_default-clause-exact : goal.returns-in_default-clause-exact
 returns-in_default-clause-exact g c = λ still.

@@ -10,7 +10,7 @@ use Rattle.far_evac.specs.EvacOf.{moment}
 use Rattle.far_evac.specs.Leaving.{standing}
 use Rattle.far_evac.specs.Live.{is_empty}
 use Rattle.far_evac.specs.Walk.{left, walked}
-use Rattle.far_evac.proofs.evac.Evac.walk.Given as goal
+use Rattle.far_evac.proofs.evac.Evac.evacuate_up_to.Given as goal
 
 abbrev pub invariant-loop : goal.invariant-loop
 invariant-loop g l = record {
