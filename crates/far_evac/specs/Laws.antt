@@ -179,12 +179,12 @@ pub record IsFirstOpen (s : State) (k epoch : ℕ) : Type 0 where
   pub before : (j : ℕ) → j < k → HoldsUpNone s j
 
 -- what an answer of a poll says of the owners
-abbrev pub IsTold : State → Polled → Type 0
-IsTold s Clear = (k : ℕ) → k < s.mutators → HoldsUpNone s k
-IsTold s (StillOpen k epoch) = IsFirstOpen s k epoch
+abbrev pub TellsWhoIsOpen : State → Polled → Type 0
+TellsWhoIsOpen s Clear = (k : ℕ) → k < s.mutators → HoldsUpNone s k
+TellsWhoIsOpen s (StillOpen k epoch) = IsFirstOpen s k epoch
 
 abbrev pub WaitIsNamed : Type 0
-WaitIsNamed = (s : State) → ((k : ℕ) → IsSome (scope_of (s.scope k))) → IsTold s (polled s)
+WaitIsNamed = (s : State) → ((k : ℕ) → IsSome (scope_of (s.scope k))) → TellsWhoIsOpen s (polled s)
 
 -- where a turn found the round waiting, and left it so, no turn after it changes anything
 abbrev pub WaitingStays : Type 0

@@ -25,7 +25,7 @@ use Rattle.far_evac.specs.declared.answers.Progress.{Progress}
 use Rattle.far_word.specs.declared.refused.Refused.TheVariants.{Marked}
 use Rattle.far_replay.proofs.Outcomes.{by_outcome}
 use Rattle.far_replay_laws.proofs.Stops.{LeftSome, Stood, left_some, stood_so}
-use Rattle.far_replay.specs.Events.{IsTold}
+use Rattle.far_replay.specs.Events.{IsNoStep}
 use Rattle.far_replay.specs.Moment.{with_core}
 use Rattle.far_replay.specs.Reply.{Reply, Evacuated, Refused}
 use Rattle.far_replay.specs.Rounds.{after_round, chosen_by, given_by, logs_given, refused_step, rows_in, step_effect}
@@ -157,7 +157,7 @@ none_given now c l e = absurd (false≢true e)
 still : (now : Moment) (c : Command) (after : Moment) → after.order ≡ now.order → KeepsAges now c after
 still now c after e = from_ages now c after [] (same_ages [] now.order after.order e) (none_given now c)
 
-told_keeps : (now : Moment) (c : Command) → IsTold c → KeepsAges now c (effect now c)
+told_keeps : (now : Moment) (c : Command) → IsNoStep c → KeepsAges now c (effect now c)
 told_keeps now c told =
     let t : State = (effect now c).core in
     let ages : Ages [] now.order (with_core now t).order = cond_both (t.current == now.core.current) now.order (now.order ++ now.core.current ∷ []) (Ages [] now.order)

@@ -9,7 +9,7 @@ use Rattle.far_text.specs.Command.{Command, Try, Mutator, Book, Evacuator}
 use Rattle.far_replay.specs.Answers.{Commanded, Served, IsMoment}
 use Rattle.far_word.specs.declared.refused.Refused.TheVariants.{Marked}
 use Rattle.far_replay.proofs.Outcomes.{by_outcome}
-use Rattle.far_replay.specs.Events.{IsTold}
+use Rattle.far_replay.specs.Events.{IsNoStep}
 use Rattle.far_replay.specs.Moment.{Moment, with_core}
 use Rattle.far_replay.specs.Reply.{Reply, Refused}
 use Rattle.far_replay_laws.specs.Stands.{RoundStands, Stands}
@@ -47,7 +47,7 @@ module _ (now : Moment) (t : State) (moment : MomentLaw now) (left : StepsAside 
         logs.near p len ds place marks near (moment.sealed place.log (held_by (among now.collection place.log) (now.core.kind place.log) chosen));
   }
 
-told_stands : (now : Moment) (c : Command) → IsTold c → Lasts now → RoundStands now (effect now c)
+told_stands : (now : Moment) (c : Command) → IsNoStep c → Lasts now → RoundStands now (effect now c)
 told_stands now c told lasts =
     subst (RoundStands now) (sym (told_effect now c told)) (round_stands now (effect now c).core lasts.round (aside now c told lasts.law) (sealed_aside now c told lasts.law))
 

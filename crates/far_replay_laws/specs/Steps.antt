@@ -264,20 +264,20 @@ TellsRefusal now (Select (Script named) most) (BadChoice log) = FollowsScript (s
 TellsRefusal now Wait (StillOpen m epoch) = HoldsUp now.core m epoch
 TellsRefusal now step why = ⊥
 
-abbrev pub Tells : Moment → Step → Reply → Moment → Type 0
-Tells now (Select choice most) (Selected logs) after = TellsChoice now choice most logs after
-Tells now (Mark count) (Marked marked waiting) after = TellsMarks now count marked waiting after
-Tells now Wait Clear after = NobodyHoldsUp now.core
-Tells now (Evacuate count) (Evacuated progress) after = TellsLeaving now count progress after
-Tells now Abort Done after = TellsEnd now after
-Tells now (Round policy most turns) (Ended end) after = TellsRound now policy most turns end after
-Tells now (Evacuate count) (Halted why progress) after = TellsStop now count progress after
-Tells now (Round policy most turns) (Halted why progress) after = TellsRoundStop now policy most turns progress after
-Tells now step (Refused why) after = TellsRefusal now step why
-Tells now step r after = ⊥
+abbrev pub TellsTruth : Moment → Step → Reply → Moment → Type 0
+TellsTruth now (Select choice most) (Selected logs) after = TellsChoice now choice most logs after
+TellsTruth now (Mark count) (Marked marked waiting) after = TellsMarks now count marked waiting after
+TellsTruth now Wait Clear after = NobodyHoldsUp now.core
+TellsTruth now (Evacuate count) (Evacuated progress) after = TellsLeaving now count progress after
+TellsTruth now Abort Done after = TellsEnd now after
+TellsTruth now (Round policy most turns) (Ended end) after = TellsRound now policy most turns end after
+TellsTruth now (Evacuate count) (Halted why progress) after = TellsStop now count progress after
+TellsTruth now (Round policy most turns) (Halted why progress) after = TellsRoundStop now policy most turns progress after
+TellsTruth now step (Refused why) after = TellsRefusal now step why
+TellsTruth now step r after = ⊥
 
 pub record TellsStep (now : Moment) (step : Step) (r : Reply) (after : Moment) : Type 0 where
-  pub tells : Tells now step r after
+  pub tells : TellsTruth now step r after
   pub phase : after.phase ≡ phase_after now.phase step r
   pub time : r ≢ Refused WrongPhase → IsTimeFor step now.phase
 
