@@ -49,7 +49,7 @@ pub record IsViewed (s : State) (a : Access) : Type 0 where
   pub inside : a.from + a.count ≤ data_len s a.pointer
   pub most : a.from + a.count ≤ LONGEST
 
--- the outcome tells the reply, whatever stands in the room
+-- the outcome tells the reply, whatever stands in the buffers
 abbrev pub StandsFor : Outcome → Reply → Type 0
 StandsFor outcome reply = (scratch : Scratch) → reply_by scratch outcome ≡ reply
 
