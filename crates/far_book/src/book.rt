@@ -27,7 +27,7 @@ ghost use Rattle.far_device.specs.Following.{Follows, other_than};
 ghost use Rattle.far_hand.specs.Finds.{Finds, body_of};
 ghost use Rattle.far_hand.specs.Came.{Came, only};
 ghost use Rattle.far_hand.specs.Known.{Forgets};
-ghost use Rattle.far_book.specs.book.Deeds.{Does, Places, Retires, Steps};
+ghost use Rattle.far_book.specs.book.Actions.{Does, Places, Retires, Steps};
 ghost use Rattle.far_book.specs.book.Blanks.{IsPast, with_zeros};
 ghost use Rattle.far_book.specs.book.Effects.{with_blank_span, marked, placed, retired, order_after};
 ghost use Rattle.far_book.specs.book.FarSide.{HoldsFar};

@@ -17,7 +17,7 @@ ghost use Rattle.far_hand.specs.Came.{Came, only};
 ghost use Rattle.far_book.specs.book.Asking.{AsksToFetch};
 ghost use Rattle.far_book.specs.book.Blanks.{IsPast, with_words};
 ghost use Rattle.far_book.specs.book.Dealing.{IsRetired, IsSeen, LearnsNone, is_failure};
-ghost use Rattle.far_book.specs.book.Deeds.{Does, Fetches};
+ghost use Rattle.far_book.specs.book.Actions.{Does, Fetches};
 ghost use Rattle.far_book.specs.book.Effects.{fetched, near_word, with_written_span};
 ghost use Rattle.far_book.specs.book.Fetching.{IsFar, IsFetched, RefusesFetch, order_fetched, room_for};
 ghost use Rattle.far_book.specs.book.Only.{Writes};

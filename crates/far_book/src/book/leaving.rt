@@ -16,7 +16,7 @@ ghost use Rattle.far_hand.specs.Known.{Forgets, KeepsKnown};
 ghost use Rattle.far_book.specs.book.Asking.{AsksToEvict};
 ghost use Rattle.far_book.specs.book.Dealing.{IsRetired, IsSeen, has_evac, is_failure};
 ghost use Rattle.far_hand.specs.Quiet.{IsQuietNear};
-ghost use Rattle.far_book.specs.book.Deeds.{Does, Evicts};
+ghost use Rattle.far_book.specs.book.Actions.{Does, Evicts};
 ghost use Rattle.far_book.specs.book.Effects.{evicted, far_word};
 ghost use Rattle.far_book.specs.book.Evicting.{GoesFar, IsQuietData, IsQuietIn, Learns, ReadsOn};
 ghost use Rattle.far_book.specs.book.Only.{Names, Reads};

@@ -10,7 +10,7 @@ ghost use Rattle.far_device.specs.Following.{Follows, other_than};
 ghost use Rattle.far_book.specs.book.Dealing.{FindsDrop, IsRetired, IsSeen, goal, has_evac, Leaves, moved_now, order_moved};
 ghost use Rattle.far_hand.specs.Quiet.{IsQuietNear};
 ghost use Rattle.far_hand.specs.Came.{Came, only};
-ghost use Rattle.far_book.specs.book.Deeds.{Does, Moves};
+ghost use Rattle.far_book.specs.book.Actions.{Does, Moves};
 ghost use Rattle.far_book.specs.book.Effects.{moved, near_word, order_after, stayed, with_written_span};
 ghost use Rattle.far_book.specs.book.Moving.{Copied, CopiedOnly, CopiesMore, HasCopied, MayCopy, MayStay};
 ghost use Rattle.far_book.specs.book.Only.{Names};

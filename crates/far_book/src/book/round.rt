@@ -15,7 +15,7 @@ ghost use Rattle.far_hand.specs.Came.{Came, only};
 ghost use Rattle.far_hand.specs.Finds.{Finds};
 ghost use Rattle.far_hand.specs.Known.{Forgets};
 ghost use Rattle.far_hand.specs.Rounds.{IsScopeAt, MayChoose, looked_at};
-ghost use Rattle.far_book.specs.book.Deeds.{Does, Steps};
+ghost use Rattle.far_book.specs.book.Actions.{Does, Steps};
 ghost use Rattle.far_book.specs.book.Releasing.{order_without, released};
 
 use crate::book::Book;

@@ -5,7 +5,7 @@ ghost use Rattle.far_hand.specs.Known.{Forgets};
 ghost use Rattle.far_book.specs.book.Asking.{AsksToFetch};
 ghost use Rattle.far_book.specs.book.Dealing.{IsRetired, IsSeen, LearnsNone, Leaves, goal, is_failure, moved_now, order_moved};
 ghost use Rattle.far_hand.specs.Quiet.{IsQuietNear};
-ghost use Rattle.far_book.specs.book.Deeds.{Does, Fetches, Moves, Places, Retires};
+ghost use Rattle.far_book.specs.book.Actions.{Does, Fetches, Moves, Places, Retires};
 ghost use Rattle.far_book.specs.book.Effects.{moved, order_after, placed, retired};
 ghost use Rattle.far_book.specs.book.Fetching.{IsFar, IsFetched, RefusesFetch, order_fetched, room_for};
 ghost use Rattle.far_book.specs.book.Home.{home_of};

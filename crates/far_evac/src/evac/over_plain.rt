@@ -10,7 +10,7 @@ ghost use Rattle.far_core.specs.state.CoreState.{core_state};
 ghost use Rattle.far_core.specs.world.Happens.{Happens};
 ghost use Rattle.far_core.specs.world.WorldOf.{world_of};
 ghost use Rattle.far_hand.specs.Owners.{OwnersChange, is_owners};
-ghost use Rattle.far_book.specs.book.Deeds.{Does, Owns};
+ghost use Rattle.far_book.specs.book.Actions.{Does, Owns};
 
 use crate::evac::Evac;
 use far_book::Plain;

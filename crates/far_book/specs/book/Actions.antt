@@ -1,4 +1,4 @@
--- What is done to a heap, deed by deed: an owner's event, or a call of the book, with its outcome. And which word a load gives then.
+-- What is done to a heap, action by action: an owner's event, or a call of the book, with its outcome. And which word a load gives then.
 use Rattle.std.specs.Prelude.{◌≡◌, ℕ, ◌*◌, ◌<◌, ◌≤◌, ◌==◌, ◌&&◌, Bool, true, false, cond, Option, Some, None, List, [], ◌∷◌, ◌++◌, Result, Ok, Err}
 use Rattle.far_word.specs.declared.pointer.Place.{Place}
 use Rattle.far_word.specs.declared.refused.Refused.{Refused}
@@ -26,17 +26,17 @@ use Rattle.far_book.specs.book.Own.{IsAtStart}
 
 -- an owner's event with its reply; the book's calls, by pointers, each with what it answered. `Steps` are those that are one event of a
 -- round; `Looks` is any that changes nothing
-pub data Deed : Type 0 where
-  Owns : Event → Reply → Deed
-  Places : ℕ → ℕ → ℕ → Result Place Refused → Deed
-  Retires : ℕ → Deed
-  Looks : Deed
-  Steps : Event → Deed
-  Moves : ℕ → Result (Option Place) Refused → Deed
-  Evicts : ℕ → Result Bool Refused → Deed
-  Fetches : ℕ → Result (Option Place) Refused → Deed
+pub data Action : Type 0 where
+  Owns : Event → Reply → Action
+  Places : ℕ → ℕ → ℕ → Result Place Refused → Action
+  Retires : ℕ → Action
+  Looks : Action
+  Steps : Event → Action
+  Moves : ℕ → Result (Option Place) Refused → Action
+  Evicts : ℕ → Result Bool Refused → Action
+  Fetches : ℕ → Result (Option Place) Refused → Action
 
--- ---- the words that were stored, by the list of deeds alone
+-- ---- the words that were stored, by the list of actions alone
 -- word i of pointer p, once an owner's event was answered: a store that was made puts its word
 abbrev pub stored_by : (ℕ → ℕ → ℕ) → Event → Reply → ℕ → ℕ → ℕ
 stored_by f (Store m p i w) Done = λ q k. cond (q == p && k == i) w (f q k)
@@ -47,8 +47,8 @@ abbrev pub zeroed_by : (ℕ → ℕ → ℕ) → ℕ → Result Place Refused �
 zeroed_by f p (Ok place) = λ q k. cond (q == p) 0 (f q k)
 zeroed_by f p (Err why) = f
 
--- no other deed puts a word
-abbrev pub words_then : (ℕ → ℕ → ℕ) → Deed → ℕ → ℕ → ℕ
+-- no other action puts a word
+abbrev pub words_then : (ℕ → ℕ → ℕ) → Action → ℕ → ℕ → ℕ
 words_then f (Owns e r) = stored_by f e r
 words_then f (Places p len ds r) = zeroed_by f p r
 words_then f (Retires p) = f
@@ -58,15 +58,15 @@ words_then f (Moves p r) = f
 words_then f (Evicts p r) = f
 words_then f (Fetches p r) = f
 
-abbrev pub words_after : (ℕ → ℕ → ℕ) → List Deed → ℕ → ℕ → ℕ
+abbrev pub words_after : (ℕ → ℕ → ℕ) → List Action → ℕ → ℕ → ℕ
 words_after f [] = f
 words_after f (d ∷ ds) = words_after (words_then f d) ds
 
 -- word i of pointer p that was stored last since p was placed, and 0 where there is none
-abbrev pub last_stored : List Deed → ℕ → ℕ → ℕ
+abbrev pub last_stored : List Action → ℕ → ℕ → ℕ
 last_stored ds = words_after (λ _ _. 0) ds
 
--- ---- what the deeds are, from a state to the next, where nobody else steps the core
+-- ---- what the actions are, from a state to the next, where nobody else steps the core
 -- a new object is placed where room is
 pub record DoesPlace (s : State) (p len ds : ℕ) (place : Place) (t : State) : Type 0 where
   pub pointer : p < CELLS * s.mutators
@@ -134,7 +134,7 @@ pub record DoesFetch (s : State) (p : ℕ) (place : Place) (t : State) : Type 0 
   pub after : t ≡ fetched s p place row
 
 -- a refused call, and one that only looks, change nothing
-abbrev pub Does : State → Deed → State → Type 0
+abbrev pub Does : State → Action → State → Type 0
 Does s (Owns e r) t = (is_owners e ≡ true) × Passes s e r t
 Does s (Places p len ds (Ok place)) t = DoesPlace s p len ds place t
 Does s (Places p len ds (Err why)) t = t ≡ s
@@ -151,16 +151,16 @@ Does s (Fetches p (Ok (Some place))) t = DoesFetch s p place t
 Does s (Fetches p (Ok None)) t = DoesRetire s p t
 Does s (Fetches p (Err why)) t = t ≡ s
 
--- deed follows deed, from s to t
-abbrev pub Follows : State → List Deed → State → Type 0
+-- action follows action, from s to t
+abbrev pub Follows : State → List Action → State → Type 0
 Follows s [] t = t ≡ s
 Follows s (d ∷ ds) t = (u : State) × Does s d u × Follows u ds t
 
 -- in any run from the start, with an honest far side, a load gives the word that was stored last
 abbrev pub LoadsGiveStored : Type 0
-LoadsGiveStored = (s t : State) (before then : List Deed) (m p i w : ℕ) → Law s → IsAtStart s → s.honest ≡ true →
+LoadsGiveStored = (s t : State) (before then : List Action) (m p i w : ℕ) → Law s → IsAtStart s → s.honest ≡ true →
     Follows s (before ++ Owns (Load m p i) (Word w) ∷ then) t → w ≡ last_stored before p i
 
--- a legal event of an owner, with its answer, is a deed
-abbrev pub EventsAreDeeds : Type 0
-EventsAreDeeds = (s : State) (e : Event) → Law s → Fits e → is_owners e ≡ true → Legal s e → Does s (Owns e (answer s e)) (after s e)
+-- a legal event of an owner, with its answer, is an action
+abbrev pub EventsAreActions : Type 0
+EventsAreActions = (s : State) (e : Event) → Law s → Fits e → is_owners e ≡ true → Legal s e → Does s (Owns e (answer s e)) (after s e)

@@ -1,11 +1,11 @@
--- Small runs of deeds, computed: which word was stored last.
+-- Small runs of actions, computed: which word was stored last.
 use Rattle.std.proofs.Common.{◌≡◌, refl, Some, [], ◌∷◌}
 use Rattle.std.specs.Prelude.{Ok, Err, true}
 use Rattle.far_word.specs.declared.refused.Refused.TheVariants.{NoRoom}
 use Rattle.far_core.specs.declared.event.Event.TheVariants.{Store, Ask}
 use Rattle.far_core.specs.declared.event.Reply.TheVariants.{Done, Word, Refused}
 use Rattle.far_word.specs.declared.mark.Mark.TheVariants.{Dropped}
-use Rattle.far_book.specs.book.Deeds.{Evicts, Fetches, Looks, Owns, Places, Retires, last_stored}
+use Rattle.far_book.specs.book.Actions.{Evicts, Fetches, Looks, Owns, Places, Retires, last_stored}
 
 -- a new object's words are 0, each that was stored is its own, and what is far meanwhile stays
 pub stored_stays : last_stored (Places 3 16 1 (Ok record { log = 0; at = 0 }) ∷ Owns (Store 0 3 1 77) Done ∷ Evicts 3 (Ok true) ∷ Looks ∷ Fetches 3 (Ok (Some record { log = 1; at = 4 })) ∷ []) 3 1 ≡ 77

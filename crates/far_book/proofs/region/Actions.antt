@@ -1,4 +1,4 @@
--- In a run of deeds a load gives the word that was stored last.
+-- In a run of actions a load gives the word that was stored last.
 use Rattle.std.proofs.Common.{◌≡◌, ◌≢◌, ℕ, ◌+◌, ◌-◌, ◌*◌, ◌/◌, ◌^◌, ◌<◌, Bool, true, false, cond, arith, sym, refl, ap, subst, ◌∙◌, Option, Some, None, List, [], ◌∷◌, ◌++◌, length, inl, inr}
 use Rattle.std.specs.Prelude.{replicate, ◌==◌, ◌&&◌, Ok, Err}
 use Rattle.std.proofs.lemmas.Bool.{cases_eq, cond_both, eq-eqb, false≢true, ne_eqb}
@@ -40,7 +40,7 @@ use Rattle.far_core.proofs.WorldLaws.{changes_keep, objects_stand}
 use Rattle.far_core.proofs.Worlds.{here_now}
 use Rattle.far_hand.specs.Owners.{is_owners}
 use Rattle.far_book.specs.book.Dealing.{has_evac}
-use Rattle.far_book.specs.book.Deeds.{Deed, Owns, Places, Retires, Looks, Steps, Moves, Evicts, Fetches, Does, DoesFetch, DoesMove, DoesRetire, DoesStep, EventsAreDeeds, Follows, LoadsGiveStored, stored_by, words_after, words_then}
+use Rattle.far_book.specs.book.Actions.{Action, Owns, Places, Retires, Looks, Steps, Moves, Evicts, Fetches, Does, DoesFetch, DoesMove, DoesRetire, DoesStep, EventsAreActions, Follows, LoadsGiveStored, stored_by, words_after, words_then}
 use Rattle.far_book.specs.book.Effects.{moved, stayed}
 use Rattle.far_book.specs.book.Fetching.{far_len}
 use Rattle.far_book.specs.book.Own.{IsAtStart}
@@ -280,27 +280,27 @@ module _ (s t : State) (f : ℕ → ℕ → ℕ) (h : Holds s f) where
       (subst (λ o. IsStored x.row (far_len o)) q.far x.padded) (λ e. subst (λ o. Alike x.row (s.stored p) (words_for (far_len o))) q.far (x.stored e)) in
       subst (λ (y : State). Holds y f) (sym x.after) (by_change (change.ComesNear p place.log) s _ f tt h k.1 k.2)
 
-  deed_holds : (d : Deed) → Does s d t → Holds t (words_then f d)
-  deed_holds (Owns e r) x = own_event e r x.0 x.1
-  deed_holds (Places p len ds (Ok place)) x = let k = placing_legal s p len ds place h.law x.pointer x.free x.some x.most x.structure x.found in
+  action_holds : (d : Action) → Does s d t → Holds t (words_then f d)
+  action_holds (Owns e r) x = own_event e r x.0 x.1
+  action_holds (Places p len ds (Ok place)) x = let k = placing_legal s p len ds place h.law x.pointer x.free x.some x.most x.structure x.found in
       subst (λ (y : State). Holds y (words_then f (Places p len ds (Ok place)))) (sym x.after) (made_words s _ f p len ds place.log h k.1 k.2)
-  deed_holds (Places p len ds (Err why)) x = subst (λ (y : State). Holds y f) (sym x) h
-  deed_holds (Retires p) x = retires p x
-  deed_holds Looks x = subst (λ (y : State). Holds y f) (sym x) h
-  deed_holds (Steps e) x = steps e x
-  deed_holds (Moves p (Ok (Some place))) x = moves p place x
-  deed_holds (Moves p (Ok None)) x = retires p x
-  deed_holds (Moves p (Err why)) x = subst (λ (y : State). Holds y f) (sym x) h
-  deed_holds (Evicts p (Ok true)) x =
+  action_holds (Places p len ds (Err why)) x = subst (λ (y : State). Holds y f) (sym x) h
+  action_holds (Retires p) x = retires p x
+  action_holds Looks x = subst (λ (y : State). Holds y f) (sym x) h
+  action_holds (Steps e) x = steps e x
+  action_holds (Moves p (Ok (Some place))) x = moves p place x
+  action_holds (Moves p (Ok None)) x = retires p x
+  action_holds (Moves p (Err why)) x = subst (λ (y : State). Holds y f) (sym x) h
+  action_holds (Evicts p (Ok true)) x =
       let q = x.quiet in
       let alive = drop_of (read_of (s.cell p)) q.len q.ds q.place q.marks q.near x.alive in
       let k = evicting s p q.len q.ds q.place q.marks h.law x.pointer q.near q.quiet (sym (ap has_evac q.near) ∙ x.evac) alive in
       subst (λ (y : State). Holds y f) (sym x.after) (by_change (change.GoesFar p) s _ f tt h k.1 k.2)
-  deed_holds (Evicts p (Ok false)) x = retires p x
-  deed_holds (Evicts p (Err why)) x = subst (λ (y : State). Holds y f) (sym x) h
-  deed_holds (Fetches p (Ok (Some place))) x = comes p place x
-  deed_holds (Fetches p (Ok None)) x = retires p x
-  deed_holds (Fetches p (Err why)) x = subst (λ (y : State). Holds y f) (sym x) h
+  action_holds (Evicts p (Ok false)) x = retires p x
+  action_holds (Evicts p (Err why)) x = subst (λ (y : State). Holds y f) (sym x) h
+  action_holds (Fetches p (Ok (Some place))) x = comes p place x
+  action_holds (Fetches p (Ok None)) x = retires p x
+  action_holds (Fetches p (Err why)) x = subst (λ (y : State). Holds y f) (sym x) h
 
 -- ---- whole runs
 -- a load gives what stands there
@@ -310,9 +310,9 @@ load_gives s t f m p i w h x =
     let o = read.found in
     o.3 ∙ h.words p o.0 o.1 i o.2
 
-loads_give : (s t : State) (f : ℕ → ℕ → ℕ) (before after : List Deed) (m p i w : ℕ) → Holds s f → Follows s (before ++ Owns (Load m p i) (Word w) ∷ after) t → w ≡ words_after f before p i
+loads_give : (s t : State) (f : ℕ → ℕ → ℕ) (before after : List Action) (m p i w : ℕ) → Holds s f → Follows s (before ++ Owns (Load m p i) (Word w) ∷ after) t → w ≡ words_after f before p i
 loads_give s t f [] after m p i w h x = load_gives s x.0 f m p i w h x.1.1
-loads_give s t f (d ∷ ds) after m p i w h x = loads_give x.0 t (words_then f d) ds after m p i w (deed_holds s x.0 f h d x.1) x.2
+loads_give s t f (d ∷ ds) after m p i w h x = loads_give x.0 t (words_then f d) ds after m p i w (action_holds s x.0 f h d x.1) x.2
 
 -- at the start there is no object
 starts : (s : State) → Law s → IsAtStart s → s.honest ≡ true → Holds s (λ _ _. 0)
@@ -329,7 +329,7 @@ starts s law start honest = record {
 pub loads_give_stored : LoadsGiveStored
 loads_give_stored s t before after m p i w law start honest x = loads_give s t (λ _ _. 0) before after m p i w (starts s law start honest) x
 
-pub events_are_deeds : EventsAreDeeds
-events_are_deeds s e law fits own legal =
+pub events_are_actions : EventsAreActions
+events_are_actions s e law fits own legal =
     let then = keeps s e law fits legal in
     (own, record { step = sym (ap (λ b. cond b (after s e, answer s e) (s, Refused)) (is_test s e legal)); law = then; agrees = agrees (after s e) then })
