@@ -28,17 +28,17 @@ use Rattle.far_evac.proofs.evac.Evac.evacuate_up_to.Goals as goal
 pub returns-in_default-clause-exact : goal.returns-in_default-clause-exact
 returns-in_default-clause-exact g c = λ still.
     let none = subst (λ o. IfNone o (c.loop.self.collection ≡ [])) c.in_default.is c.loop.invariant.none in
-    exact_over (moment g.N.Near.view c.args.self.now) c.args.n c.loop.counter (standing g.N.Near.view c.loop.self c.loop.progress) c.loop.auto.counter-end none (c.loop.invariant.exact still)
+    exact_over (moment g.N.Hand.view c.args.self.now) c.args.n c.loop.counter (standing g.N.Hand.view c.loop.self c.loop.progress) c.loop.auto.counter-end none (c.loop.invariant.exact still)
 
 pub deal-requires-clause-room : goal.deal-requires-clause-room
 deal-requires-clause-room g c =
-    let all = tallies_all (moment g.N.Near.view c.args.self.now) c.loop.counter (standing g.N.Near.view c.loop.self c.loop.progress) c.loop.invariant.walks in
+    let all = tallies_all (moment g.N.Hand.view c.args.self.now) c.loop.counter (standing g.N.Hand.view c.loop.self c.loop.progress) c.loop.invariant.walks in
     let fits : c.args.n < 18446744073709551616 = c.ranges.n.fits in
     omega (arith, all, fits, c.loop-test.true)
 
 pub loop-preserved : goal.loop-preserved
 loop-preserved g c =
-    let view = g.N.Near.view in
+    let view = g.N.Hand.view in
     let m = moment view c.args.self.now in
     let w = standing view c.loop.self c.loop.progress in
     let v = standing view c.deal.new.self c.deal.new.progress in
@@ -69,33 +69,33 @@ loop-preserved g c =
 
 pub returns-in_default-clause-asked : goal.returns-in_default-clause-asked
 returns-in_default-clause-asked g c =
-    let m = moment g.N.Near.view c.args.self.now in
-    let w = standing g.N.Near.view c.loop.self c.loop.progress in
+    let m = moment g.N.Hand.view c.args.self.now in
+    let w = standing g.N.Hand.view c.loop.self c.loop.progress in
     let all = tallies_all m c.loop.counter w c.loop.invariant.walks in
     subst (λ n. WalksAsking g.row.D.Denot g.D.Device.writes g.D.Device.lets_go m n w c.args.self.now.book.device c.loop.self.book.device) (sym all) c.loop.invariant.asked
 
 pub returns-in_default-clause-follows : goal.returns-in_default-clause-follows
 returns-in_default-clause-follows g c =
-    let m = moment g.N.Near.view c.args.self.now in
-    let all = tallies_all m c.loop.counter (standing g.N.Near.view c.loop.self c.loop.progress) c.loop.invariant.walks in
+    let m = moment g.N.Hand.view c.args.self.now in
+    let all = tallies_all m c.loop.counter (standing g.N.Hand.view c.loop.self c.loop.progress) c.loop.invariant.walks in
     subst (λ n. Follows g.D.Device.contents g.D.Device.honest g.D.Device.faults g.D.Device.fails_at_most (none_of (first_live m n)) false c.args.self.now.book.device c.loop.self.book.device) (sym all) c.loop.invariant.follows
 
 pub returns-clause-asked : goal.returns-clause-asked
 returns-clause-asked g c =
-    let m = moment g.N.Near.view c.args.self.now in
-    let w = standing g.N.Near.view c.loop.self c.loop.progress in
+    let m = moment g.N.Hand.view c.args.self.now in
+    let w = standing g.N.Hand.view c.loop.self c.loop.progress in
     let all = tallies_all m c.loop.counter w c.loop.invariant.walks in
     subst (λ n. WalksAsking g.row.D.Denot g.D.Device.writes g.D.Device.lets_go m n w c.args.self.now.book.device c.loop.self.book.device) (sym all) c.loop.invariant.asked
 
 pub returns-clause-follows : goal.returns-clause-follows
 returns-clause-follows g c =
-    let m = moment g.N.Near.view c.args.self.now in
-    let all = tallies_all m c.loop.counter (standing g.N.Near.view c.loop.self c.loop.progress) c.loop.invariant.walks in
+    let m = moment g.N.Hand.view c.args.self.now in
+    let all = tallies_all m c.loop.counter (standing g.N.Hand.view c.loop.self c.loop.progress) c.loop.invariant.walks in
     subst (λ n. Follows g.D.Device.contents g.D.Device.honest g.D.Device.faults g.D.Device.fails_at_most (none_of (first_live m n)) false c.args.self.now.book.device c.loop.self.book.device) (sym all) c.loop.invariant.follows
 
 pub returns-in-Err-clause-refused : goal.returns-in-Err-clause-refused
 returns-in-Err-clause-refused g c =
-    let view = g.N.Near.view in
+    let view = g.N.Hand.view in
     let m = moment view c.args.self.now in
     let w = standing view c.loop.self c.loop.progress in
     let before = c.loop.invariant in
@@ -117,7 +117,7 @@ returns-in-Err-clause-refused g c =
 
 pub returns-in-Err-clause-follows : goal.returns-in-Err-clause-follows
 returns-in-Err-clause-follows g c =
-    let view = g.N.Near.view in
+    let view = g.N.Hand.view in
     let m = moment view c.args.self.now in
     let w = standing view c.loop.self c.loop.progress in
     let before = c.loop.invariant in
@@ -131,16 +131,16 @@ returns-in-Err-clause-follows g c =
 
 pub returns-in_default-clause-bounded : goal.returns-in_default-clause-bounded
 returns-in_default-clause-bounded g c =
-    walk_counts (moment g.N.Near.view c.args.self.now) c.keeps_law.ensures.law c.keeps_law.ensures.moment c.requires.phase c.loop.counter (standing g.N.Near.view c.loop.self c.loop.progress) c.loop.invariant.walks
+    walk_counts (moment g.N.Hand.view c.args.self.now) c.keeps_law.ensures.law c.keeps_law.ensures.moment c.requires.phase c.loop.counter (standing g.N.Hand.view c.loop.self c.loop.progress) c.loop.invariant.walks
 
 pub returns-clause-bounded : goal.returns-clause-bounded
 returns-clause-bounded g c =
-    walk_counts (moment g.N.Near.view c.args.self.now) c.keeps_law.ensures.law c.keeps_law.ensures.moment c.requires.phase c.loop.counter (standing g.N.Near.view c.loop.self c.loop.progress) c.loop.invariant.walks
+    walk_counts (moment g.N.Hand.view c.args.self.now) c.keeps_law.ensures.law c.keeps_law.ensures.moment c.requires.phase c.loop.counter (standing g.N.Hand.view c.loop.self c.loop.progress) c.loop.invariant.walks
 
 pub returns-in-Err-clause-bounded : goal.returns-in-Err-clause-bounded
 returns-in-Err-clause-bounded g c =
     subst (λ (q : Progress). IsBounded (tally_of q)) (sym c.in-Err.ensures.uncounted)
-    (walk_counts (moment g.N.Near.view c.args.self.now) c.keeps_law.ensures.law c.keeps_law.ensures.moment c.requires.phase c.loop.counter (standing g.N.Near.view c.loop.self c.loop.progress) c.loop.invariant.walks)
+    (walk_counts (moment g.N.Hand.view c.args.self.now) c.keeps_law.ensures.law c.keeps_law.ensures.moment c.requires.phase c.loop.counter (standing g.N.Hand.view c.loop.self c.loop.progress) c.loop.invariant.walks)
 
 pub returns-in-Err-clause-came : goal.returns-in-Err-clause-came
 returns-in-Err-clause-came g c = then_came c.loop.invariant.came c.deal.ensures.came

@@ -8,9 +8,9 @@ use Rattle.far_evac.proofs.evac.Evac.mark_up_to.Goals as goal
 
 pub returns-then-not-mark_next-clause-known : goal.returns-then-not-mark_next-clause-known
 returns-then-not-mark_next-clause-known g c =
-    let m = moment g.N.Near.view c.args.self.now in
-    let a = moment g.N.Near.view c.loop-i.self in
-    let b = moment g.N.Near.view c.mark_next.new.self in
+    let m = moment g.N.Hand.view c.args.self.now in
+    let a = moment g.N.Hand.view c.loop-i.self in
+    let b = moment g.N.Hand.view c.mark_next.new.self in
     let once = c.keeps_law.ensures.moment.collection_once in
     let fits = λ (q : ℕ). (c.keeps_law.ensures.law.cells.cell_read q).0 in
     let known = c.loop-i.invariant.known in
@@ -20,9 +20,9 @@ returns-then-not-mark_next-clause-known g c =
 
 pub returns-then-not-mark_next-clause-exact : goal.returns-then-not-mark_next-clause-exact
 returns-then-not-mark_next-clause-exact g c still =
-    let m = moment g.N.Near.view c.args.self.now in
-    let a = moment g.N.Near.view c.loop-i.self in
-    let b = moment g.N.Near.view c.mark_next.new.self in
+    let m = moment g.N.Hand.view c.args.self.now in
+    let a = moment g.N.Hand.view c.loop-i.self in
+    let b = moment g.N.Hand.view c.mark_next.new.self in
     let once = c.keeps_law.ensures.moment.collection_once in
     let fits = λ (q : ℕ). (c.keeps_law.ensures.law.cells.cell_read q).0 in
     let known = c.loop-i.invariant.known in
@@ -31,8 +31,8 @@ returns-then-not-mark_next-clause-exact g c still =
 
 pub returns-then-not-mark_next-clause-count : goal.returns-then-not-mark_next-clause-count
 returns-then-not-mark_next-clause-count g c =
-    let m = moment g.N.Near.view c.args.self.now in
-    let a = moment g.N.Near.view c.loop-i.self in
+    let m = moment g.N.Hand.view c.args.self.now in
+    let a = moment g.N.Hand.view c.loop-i.self in
     let once = c.keeps_law.ensures.moment.collection_once in
     let fits = λ (q : ℕ). (c.keeps_law.ensures.law.cells.cell_read q).0 in
     let none = over_here m once fits c.loop-i.i a c.loop-i.invariant.known (sym c.if-not-mark_next.true ∙ c.mark_next.ensures.found) in
@@ -40,9 +40,9 @@ returns-then-not-mark_next-clause-count g c =
 
 pub loop-i-preserved : goal.loop-i-preserved
 loop-i-preserved g c =
-    let m = moment g.N.Near.view c.args.self.now in
-    let a = moment g.N.Near.view c.loop-i.self in
-    let b = moment g.N.Near.view c.mark_next.new.self in
+    let m = moment g.N.Hand.view c.args.self.now in
+    let a = moment g.N.Hand.view c.loop-i.self in
+    let b = moment g.N.Hand.view c.mark_next.new.self in
     let once = c.keeps_law.ensures.moment.collection_once in
     let fits = λ (q : ℕ). (c.keeps_law.ensures.law.cells.cell_read q).0 in
     let h = c.loop-i.invariant in
