@@ -94,7 +94,7 @@ class Heap:
         self.placed, self.newest, self.sealed = [0] + [None] * (logs - 1), 0, []
         self.objects, self.scopes, self.told = [{} for _ in range(mutators)], [None] * mutators, [None] * mutators
         self.views = [set() for _ in range(mutators)]
-        self.phase, self.held, self.clear = "idle", [], set()
+        self.phase, self.collection, self.clear = "idle", [], set()
 
     def place(self, found: Thing, kept: int) -> bool:
         """Places it after what was placed last, or in a new log where more than so many are free; answers whether it could."""
@@ -222,7 +222,7 @@ class Heap:
         if log >= len(self.placed):
             return "refused 8"
         used, live = self.placed[log] or 0, self.live(log)
-        kind = "chosen" if log in self.held else "sealed" if log in self.sealed else "open" if log == self.newest else "free"
+        kind = "chosen" if log in self.collection else "sealed" if log in self.sealed else "open" if log == self.newest else "free"
         return f"log {log} {kind} live {live} dead {used - live} unused {LOG_BYTES - used}"
 
     def live(self, log: int) -> int:
@@ -245,15 +245,15 @@ class Heap:
             if log not in self.sealed or log in named[:at] or at >= most:
                 return f"refused 17 {log}"
         ages = self.sealed if policy == "oldest" else sorted(self.sealed, key=lambda log: (self.live(log), log))
-        self.held = [*(named or ages[:most])]
-        if self.held:
+        self.collection = [*(named or ages[:most])]
+        if self.collection:
             self.phase = "marking"
-        return "selected " + (" ".join(map(str, self.held)) or "none")
+        return "selected " + (" ".join(map(str, self.collection)) or "none")
 
     def residents(self) -> list:
         """What lives in the logs that the round holds, in the order in which the round comes to it."""
-        found = [found for found in self.things() if found.log in self.held]
-        return sorted(found, key=lambda found: (self.held.index(found.log), found.word))
+        found = [found for found in self.things() if found.log in self.collection]
+        return sorted(found, key=lambda found: (self.collection.index(found.log), found.word))
 
     def mark(self, most: int) -> str:
         if self.phase != "marking":
@@ -280,8 +280,8 @@ class Heap:
     def deal(self, most: int):
         """Deals with so many objects; gives how many were moved and sent far and how many logs were given back."""
         moved, far, freed = 0, 0, 0
-        while self.held:
-            for found in (found for found in self.residents() if found.log == self.held[0]):
+        while self.collection:
+            for found in (found for found in self.residents() if found.log == self.collection[0]):
                 if moved + far == most:
                     return moved, far, freed
                 if "h" in found.marks and self.place(found, 0):
@@ -289,8 +289,8 @@ class Heap:
                 else:
                     found.lies(None)
                     far += 1
-            self.placed[self.held[0]] = None
-            self.sealed.remove(self.held.pop(0))
+            self.placed[self.collection[0]] = None
+            self.sealed.remove(self.collection.pop(0))
             freed += 1
         self.phase = "idle"
         return moved, far, freed
@@ -305,7 +305,7 @@ class Heap:
             return "refused 12"
         for found in self.residents():
             found.marks.discard("e")
-        self.phase, self.held = "idle", []
+        self.phase, self.collection = "idle", []
         return "ok"
 
     def round(self, policy: str, most: int, turns: int) -> str:

@@ -6,8 +6,8 @@ pub mod Carrying
 pub mod Coming
 pub mod Copying
 pub mod CopyingMore
-pub mod DeedRows
-pub mod Deeds
+pub mod ActionRows
+pub mod Actions
 pub mod Dropping
 pub mod Effects
 pub mod Evicted

@@ -3,7 +3,7 @@ pub mod Asking
 pub mod Blanks
 pub mod BookOf
 pub mod Dealing
-pub mod Deeds
+pub mod Actions
 pub mod Effects
 pub mod Evicting
 pub mod FarSide
@@ -23,3 +23,4 @@ pub mod Releasing
 pub mod Renaming
 pub mod Rows
 pub mod SealedLogs
+pub mod Sending

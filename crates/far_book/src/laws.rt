@@ -2,7 +2,7 @@
 
 ghost use Rattle.std.specs.Prelude.{◌≡◌, ◌*◌, ◌<◌, ◌≤◌, ℕ, true};
 ghost use Rattle.far_book.specs.book.Ages.{FetchingSealsBehind, MovingSealsBehind, PlacingSealsBehind, WithoutKeepsAges};
-ghost use Rattle.far_book.specs.book.Deeds.{EventsAreDeeds, LoadsGiveStored};
+ghost use Rattle.far_book.specs.book.Actions.{EventsAreActions, LoadsGiveStored};
 ghost use Rattle.far_book.specs.book.Laws.{EvictingIsLegal, PlacingIsLegal, RetiringIsLegal, FetchingIsLegal, MovingIsLegal, ReleasingIsLegal, StayingIsLegal};
 ghost use Rattle.far_book.specs.book.SealedLogs.{SealedLogsKept};
 ghost use Rattle.far_book.specs.book.NextLive.{LivesFromStart, LivesBehind, SpansAreBounded};
@@ -72,12 +72,12 @@ pub fn order_is_by_age()
 
 /// From the start on, whatever owners and the book do, in whatever order, a load of a word gives the word that was last
 /// stored there since its object was placed, and 0 where none was: where the object lies now, and whether it was far
-/// meanwhile, makes no difference. So it is of each run of deeds with an honest far side, refused ones among them.
+/// meanwhile, makes no difference. So it is of each run of actions with an honest far side, refused ones among them.
 ///
-/// A legal event of an owner with its answer is such a deed.
+/// A legal event of an owner with its answer is such an action.
 pub fn loads_give_stored()
     ensures stored { LoadsGiveStored }
-    ensures events { EventsAreDeeds }
+    ensures events { EventsAreActions }
 {}
 
 /// The live spans of a log that are found from word 0 on are all of them. Where a span begins, and where it ends, is a boundary; and a

@@ -44,5 +44,5 @@ abbrev pub KthLies : {S D : Type 0} (left : S → ℕ) (lie : S → Lie) (inner 
 KthLies {S} left lie inner writes reads lets_go reads_inner = (calls : List Bool) (s m t : S) →
     Made (SomeRead reads) (λ x y. SomeWrite writes x y ⊎ SomeForget lets_go x y) calls s m →
     (id : ℕ) (answer : Result (List ℕ) DeviceFault) → reads m id answer t →
-    (counted calls + 1 ≡ left s → (held : Result (List ℕ) DeviceFault) × reads_inner (inner m) id held (inner t) × (answer ≡ told true (lie s) held))
+    (counted calls + 1 ≡ left s → (stored : Result (List ℕ) DeviceFault) × reads_inner (inner m) id stored (inner t) × (answer ≡ told true (lie s) stored))
     × (counted calls + 1 ≢ left s → reads_inner (inner m) id answer (inner t))

@@ -14,7 +14,7 @@ pub trait Device {
     /// What the device holds: the bytes under each key, `None` where it holds none.
     ghost contents: { Self → ℕ → Option (List ℕ) };
 
-    /// Whether what is read is what is held. No call changes it.
+    /// Whether what is read is what is stored. No call changes it.
     ghost honest: { Self → Bool };
 
     /// How many calls have answered [`DeviceFault::Device`]. It may wrap.
@@ -46,7 +46,7 @@ pub trait Device {
     /// the answer is left open. The contents stay.
     fn read(&mut self, id: u32) -> Result<Vec<u8>, DeviceFault>
         ensures called { reads self.old id (given result) self.new }
-        ensures given { honest self.old ≡ true → IfOk result (λ bytes. IfSome (contents self.old id) (λ held. bytes.items ≡ held)) }
+        ensures given { honest self.old ≡ true → IfOk result (λ bytes. IfSome (contents self.old id) (λ stored. bytes.items ≡ stored)) }
         ensures kept { contents self.new ≡ contents self.old };
 
     /// Takes the key away, with what is under it, or leaves all as it was.

@@ -96,8 +96,8 @@ impl<D: Device + Drop> Device for Liar<D> {
     ghost writes = { λ old id bytes answer new.
         D.writes old.inner id bytes answer new.inner × (new.lie ≡ old.lie) × (new.left ≡ old.left) };
 
-    ghost reads = { λ old id answer new. (held : Result (List ℕ) DeviceFault) × D.reads old.inner id held new.inner
-        × (answer ≡ told (old.left == 1) old.lie held) × (new.lie ≡ old.lie) × (new.left ≡ old.left - 1) };
+    ghost reads = { λ old id answer new. (stored : Result (List ℕ) DeviceFault) × D.reads old.inner id stored new.inner
+        × (answer ≡ told (old.left == 1) old.lie stored) × (new.lie ≡ old.lie) × (new.left ≡ old.left - 1) };
 
     ghost lets_go = { λ old id new. D.lets_go old.inner id new.inner × (new.lie ≡ old.lie) × (new.left ≡ old.left) };
 

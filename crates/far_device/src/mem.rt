@@ -47,8 +47,8 @@ impl MemDevice {
 
     // What is under a key.
     #[inline]
-    fn held(&self, id: u32) -> Option<&[u8]>
-        ensures some { IfSome result (λ held. bytes_at self.now id ≡ Some held.now) }
+    fn stored(&self, id: u32) -> Option<&[u8]>
+        ensures some { IfSome result (λ stored. bytes_at self.now id ≡ Some stored.now) }
         ensures none { IfNone result (bytes_at self.now id ≡ None) }
     {
         if id < ROW {
@@ -185,7 +185,7 @@ impl Device for MemDevice {
         ensures counted { IfNone (bytes_at self.old id) (faults_of self.new ≡ (faults_of self.old + 1) % 2 ^ 64) }
         ensures uncounted { IfSome (bytes_at self.old id) (λ _. faults_of self.new ≡ faults_of self.old) }
     {
-        let Some(held) = self.held(id) else {
+        let Some(held) = self.stored(id) else {
             self.faults = self.faults.wrapping_add(1);
             return Err(DeviceFault::Device);
         };
@@ -202,7 +202,7 @@ impl Device for MemDevice {
         ensures faults { faults_of self.new ≡ faults_of self.old }
     {
         // Most objects that are retired were never far.
-        if self.held(id).is_some() {
+        if self.stored(id).is_some() {
             self.let_go(id);
         }
     }

@@ -32,7 +32,7 @@ impl Spares {
     /// A buffer with these bytes, a spare one if they are few. `None` where memory was refused.
     #[inline]
     pub(crate) fn copied(&mut self, bytes: &[u8]) -> Option<Vec<u8>>
-        ensures { IfSome result (λ held. held.items ≡ bytes.now) }
+        ensures { IfSome result (λ stored. stored.items ≡ bytes.now) }
     {
         if bytes.len() <= SHORT {
             if let Some(mut buffer) = self.buffers.pop() {
@@ -45,7 +45,7 @@ impl Spares {
     /// A new buffer with these bytes. `None` where memory was refused.
     #[inline(never)]
     fn fresh(&mut self, bytes: &[u8]) -> Option<Vec<u8>>
-        ensures { IfSome result (λ held. held.items ≡ bytes.now) }
+        ensures { IfSome result (λ stored. stored.items ≡ bytes.now) }
     {
         if self.buffers.capacity() == 0 && self.buffers.reserve_exact(SPARES).is_err() {
             return None;

@@ -36,13 +36,13 @@ one_more : (n : ℕ) → suc n ≡ n + 1
 one_more n = omega arith
 
 -- the object that a walk deals with next is the one behind those that it has dealt with
-pub first_more : (m : Moment) (k : ℕ) (w : Walked) (p : ℕ) (rest : List ℕ) → Ready m.core m.held → WalksTo m k w → left w ≡ p ∷ rest → first_live m (k + 1) ≡ first_live m k ++ (p ∷ [])
+pub first_more : (m : Moment) (k : ℕ) (w : Walked) (p : ℕ) (rest : List ℕ) → Ready m.core m.collection → WalksTo m k w → left w ≡ p ∷ rest → first_live m (k + 1) ≡ first_live m k ++ (p ∷ [])
 first_more m k w p rest ready walks is =
-    let next = drop_next k (live_among m.core m.held) p rest (sym (walks_left m k w ready walks).left ∙ is) in
-    ap (λ n. take n (live_among m.core m.held)) (sym (one_more k)) ∙ next.2
+    let next = drop_next k (live_among m.core m.collection) p rest (sym (walks_left m k w ready walks).left ∙ is) in
+    ap (λ n. take n (live_among m.core m.collection)) (sym (one_more k)) ∙ next.2
 
 -- ---- keys
-left_alone : (m : Moment) (k : ℕ) (w : Walked) (p : ℕ) (rest : List ℕ) → Ready m.core m.held → WalksTo m k w → left w ≡ p ∷ rest →
+left_alone : (m : Moment) (k : ℕ) (w : Walked) (p : ℕ) (rest : List ℕ) → Ready m.core m.collection → WalksTo m k w → left w ≡ p ∷ rest →
     (q : ℕ) → none_of (first_live m (k + 1)) q → none_of (first_live m k) q × other_than p q
 left_alone m k w p rest ready walks is q none =
     let parts = all_front (λ x. x ≢ q) (first_live m k) p (subst (AllByRecursion (λ x. x ≢ q)) (first_more m k w p rest ready walks is) none) in
@@ -50,7 +50,7 @@ left_alone m k w p rest ready walks is q none =
 
 -- one object more, and what its own call of the device leaves alone
 pub follows_more : {D : Type 0} (contents : D → ℕ → Option (List ℕ)) (is_honest : D → Bool) (faults : D → ℕ) (few : D → ℕ → Type 0)
-    (m : Moment) (k : ℕ) (w : Walked) (p : ℕ) (rest : List ℕ) (fault : Bool) (a b c : D) → Ready m.core m.held → WalksTo m k w → left w ≡ p ∷ rest →
+    (m : Moment) (k : ℕ) (w : Walked) (p : ℕ) (rest : List ℕ) (fault : Bool) (a b c : D) → Ready m.core m.collection → WalksTo m k w → left w ≡ p ∷ rest →
     Follows contents is_honest faults few (none_of (first_live m k)) false a b → Follows contents is_honest faults few (other_than p) fault b c →
     Follows contents is_honest faults few (none_of (first_live m (k + 1))) fault a c
 follows_more contents is_honest faults few m k w p rest fault a b c ready walks is first then =

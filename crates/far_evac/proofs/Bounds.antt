@@ -53,27 +53,27 @@ module _ (s : State) (short : (l : ℕ) → s.tail l ≤ LOG_WORDS) where
   few_among (l ∷ ls) = omega (arith, length-append (live_in s l) (live_among s ls), few_in l, few_among ls)
 
 module _ (m : Moment) (law : Law (own_part m.core)) (agrees : MomentLaw m) where
-  few_held : length m.held ≤ MOST_LOGS
-  few_held = length-le_from_distinct_below m.held MOST_LOGS agrees.held_once
+  few_held : length m.collection ≤ MOST_LOGS
+  few_held = length-le_from_distinct_below m.collection MOST_LOGS agrees.collection_once
       (λ l held. omega (arith, law.logs.log_range l (sealed_used (m.core.kind l) (agrees.sealed l held)), law.shape.few_logs))
 
-  few_left : length (live_among m.core m.held) ≤ most_objects
-  few_left = omega (arith, few_among m.core law.logs.tail_end m.held, few_held)
+  few_left : length (live_among m.core m.collection) ≤ most_objects
+  few_left = omega (arith, few_among m.core law.logs.tail_end m.collection, few_held)
 
   -- nothing was counted yet
   pub starts_within : IsWithin m nothing
   starts_within = record { objects = omega (arith, few_left); logs = omega (arith, few_held); fresh = λ _. refl }
 
 -- ---- after a walk
-module _ (m : Moment) (total : Tally) (within : IsWithin m total) (ready : Ready m.core m.held) (k : ℕ) (w : Walked) (walks : WalksTo m k w) where
+module _ (m : Moment) (total : Tally) (within : IsWithin m total) (ready : Ready m.core m.collection) (k : ℕ) (w : Walked) (walks : WalksTo m k w) where
   order : DealtInOrder m k w
   order = in_order m k w ready walks
 
-  fewer : length (left w) + k ≡ length (live_among m.core m.held)
-  fewer = omega (arith, ap length order.left, length-drop k (live_among m.core m.held), order.enough)
+  fewer : length (left w) + k ≡ length (live_among m.core m.collection)
+  fewer = omega (arith, ap length order.left, length-drop k (live_among m.core m.collection), order.enough)
 
-  fewer_held : length w.moment.held + w.tally.freed ≡ length m.held
-  fewer_held = omega (arith, ap length order.gives.held, length-drop w.tally.freed m.held, order.gives.most)
+  fewer_held : length w.moment.collection + w.tally.freed ≡ length m.collection
+  fewer_held = omega (arith, ap length order.gives.collection, length-drop w.tally.freed m.collection, order.gives.most)
 
   pub walk_bounded : IsBounded (plus total w.tally)
   walk_bounded = record { objects = omega (arith, within.objects, order.counted, order.enough); logs = omega (arith, within.logs, order.gives.most) }

@@ -47,14 +47,14 @@ still_bare v l k bare = record {
 
 passed_bare : (ls : List ℕ) (v : Walked) (k : ℕ) → IsBare v.moment.core k → IsBare (passed v ls).moment.core k
 passed_bare [] v k bare = bare
-passed_bare (l ∷ ls) v k bare = cond_both (is_empty (live_in v.moment.core l)) (passed (freed v l) ls) (record v { moment = record v.moment { held = l ∷ ls } })
+passed_bare (l ∷ ls) v k bare = cond_both (is_empty (live_in v.moment.core l)) (passed (freed v l) ls) (record v { moment = record v.moment { collection = l ∷ ls } })
     (λ (w : Walked). IsBare w.moment.core k) (λ _. passed_bare ls (freed v l) k (still_bare v l k bare)) (λ _. bare)
 
--- from v, where these logs are held, to w
+-- from v, where these logs are the collection set, to w
 record Passes (v : Walked) (ls : List ℕ) (w : Walked) : Type 0 where
   count : ℕ
   counted : w.tally.freed ≡ v.tally.freed + count
-  held : w.moment.held ≡ drop count ls
+  held : w.moment.collection ≡ drop count ls
   bare : AllByRecursion (IsBare w.moment.core) (take count ls)
 
 one_more : (a b n : ℕ) → a ≡ b + 1 + n → a ≡ b + suc n
@@ -65,7 +65,7 @@ none_more a = omega arith
 
 passes : (ls : List ℕ) (v : Walked) → Passes v ls (passed v ls)
 passes [] v = record { count = 0; counted = none_more v.tally.freed; held = refl; bare = tt }
-passes (l ∷ ls) v = cond_both (is_empty (live_in v.moment.core l)) (passed (freed v l) ls) (record v { moment = record v.moment { held = l ∷ ls } }) (Passes v (l ∷ ls))
+passes (l ∷ ls) v = cond_both (is_empty (live_in v.moment.core l)) (passed (freed v l) ls) (record v { moment = record v.moment { collection = l ∷ ls } }) (Passes v (l ∷ ls))
     (λ _. let h = passes ls (freed v l) in record {
       count = suc h.count;
       counted = one_more (passed (freed v l) ls).tally.freed v.tally.freed h.count h.counted;
@@ -82,22 +82,22 @@ bare_known w t known l bare = let e = known.moment.core.rest in record {
   round = ap (λ (s : State). s.round l) e ∙ bare.round;
 }
 
-empties : (u v t : Walked) → v.moment.held ≡ u.moment.held → v.tally.freed ≡ u.tally.freed → v.moment.core.epoch ≡ u.moment.core.epoch → KnowsWalked (settled v) t → EmptiesLogs u t
+empties : (u v t : Walked) → v.moment.collection ≡ u.moment.collection → v.tally.freed ≡ u.tally.freed → v.moment.core.epoch ≡ u.moment.core.epoch → KnowsWalked (settled v) t → EmptiesLogs u t
 empties u v t held freed_same epoch known =
-    let h = passes v.moment.held v in record {
+    let h = passes v.moment.collection v in record {
       count = h.count;
       counted = ap (λ x. x.freed) known.tally ∙ h.counted ∙ ap (λ x. x + h.count) freed_same;
-      held = ap (λ (x : Moment). x.held) known.moment.rest ∙ h.held ∙ ap (drop h.count) held;
+      collection = ap (λ (x : Moment). x.collection) known.moment.rest ∙ h.held ∙ ap (drop h.count) held;
       emptied = subst (λ xs. AllByRecursion (IsEmptied t.moment.core) (take h.count xs)) held
-          (each_map (λ l bare. emptied_of t.moment.core l (bare_known (settled v) t known l bare)) (take h.count v.moment.held) h.bare);
-      epoch = ap (λ (s : State). s.epoch) known.moment.core.rest ∙ ap (λ (w : Walked). w.moment.core.epoch) (passed_frame v.moment.held v) ∙ epoch;
+          (each_map (λ l bare. emptied_of t.moment.core l (bare_known (settled v) t known l bare)) (take h.count v.moment.collection) h.bare);
+      epoch = ap (λ (s : State). s.epoch) known.moment.core.rest ∙ ap (λ (w : Walked). w.moment.core.epoch) (passed_frame v.moment.collection v) ∙ epoch;
     }
 
 dealt_empties : (u t : Walked) (word : ℕ) (ps : List ℕ) → FindsFirst u word ps → KnowsWalked (found_first u word ps) t → EmptiesLogs u t
 dealt_empties u t word [] finds leaves = absurd finds
 dealt_empties u t word (p ∷ ps) finds leaves =
     let way = way_of u.moment.core (read_of word) in
-    empties u (gone_so u u.moment.held p way) t refl refl (ap (λ (s : State). s.epoch) (so_one u.moment.core p way).frame) (subst (λ v. KnowsWalked (settled v) t) (dealt_is u p way) leaves)
+    empties u (gone_so u u.moment.collection p way) t refl refl (ap (λ (s : State). s.epoch) (so_one u.moment.core p way).frame) (subst (λ v. KnowsWalked (settled v) t) (dealt_is u p way) leaves)
 
 pub come_back_empty : LogsComeBackEmpty
 come_back_empty m u t word = record {

@@ -82,9 +82,9 @@ risen_lacks : (s : State) (held logs : List ℕ) → lacking (advanced s held) l
 unfolding live_in spans_of
 risen_lacks s held logs = refl
 
-module _ (m : Moment) (n : ℕ) (fits : (p : ℕ) → m.core.cell p < 2 ^ 64) (once : IsDistinct eqb m.held) where
+module _ (m : Moment) (n : ℕ) (fits : (p : ℕ) → m.core.cell p < 2 ^ 64) (once : IsDistinct eqb m.collection) where
   abbrev all : List ℕ
-  all = lacking m.core m.held
+  all = lacking m.core m.collection
 
   abbrev t : Moment
   t = after_marking m n
@@ -93,13 +93,13 @@ module _ (m : Moment) (n : ℕ) (fits : (p : ℕ) → m.core.cell p < 2 ^ 64) (o
   goes = record m { core = marked_core m n }
 
   abbrev rises : Moment
-  rises = record m { core = advanced (marked_core m n) m.held; phase = Waiting }
+  rises = record m { core = advanced (marked_core m n) m.collection; phase = Waiting }
 
-  left_goes : lacking (marked_core m n) m.held ≡ drop n all
-  left_goes = left_to m.held once m.core fits n
+  left_goes : lacking (marked_core m n) m.collection ≡ drop n all
+  left_goes = left_to m.collection once m.core fits n
 
-  left_now : lacking t.core t.held ≡ drop n all
-  left_now = cond_both (leaves_some m n) goes rises (λ (u : Moment). lacking u.core u.held ≡ drop n all) (λ _. left_goes) (λ _. risen_lacks (marked_core m n) m.held m.held ∙ left_goes)
+  left_now : lacking t.core t.collection ≡ drop n all
+  left_now = cond_both (leaves_some m n) goes rises (λ (u : Moment). lacking u.core u.collection ≡ drop n all) (λ _. left_goes) (λ _. risen_lacks (marked_core m n) m.collection m.collection ∙ left_goes)
 
   is_goes : leaves_some m n ≡ true → t ≡ goes
   is_goes some = ap (λ b. cond b goes rises) some
@@ -111,7 +111,7 @@ module _ (m : Moment) (n : ℕ) (fits : (p : ℕ) → m.core.cell p < 2 ^ 64) (o
   only_cells cell = record m { core = record m.core { cell = cell } }
 
   abbrev risen : ℕ → (ℕ → ℕ) → Moment
-  risen epoch cell = record m { core = record m.core { cell = cell; epoch = epoch; round = among m.held; round_epoch = epoch; clear = λ _. false }; phase = Waiting }
+  risen epoch cell = record m { core = record m.core { cell = cell; epoch = epoch; round = among m.collection; round_epoch = epoch; clear = λ _. false }; phase = Waiting }
 
   abbrev next : ℕ
   next = m.core.epoch + 1
@@ -120,16 +120,16 @@ module _ (m : Moment) (n : ℕ) (fits : (p : ℕ) → m.core.cell p < 2 ^ 64) (o
   goes_so is = is ∙ ap (λ (s : State). record m { core = s }) (marks_cells (newly_marked m n) m.core) ∙ ap only_cells (sym (ap (λ (u : Moment). u.core.cell) is))
 
   rises_so : t ≡ rises → t ≡ risen next t.core.cell
-  rises_so is = is ∙ ap (λ (s : State). record m { core = advanced s m.held; phase = Waiting }) (marks_cells (newly_marked m n) m.core)
+  rises_so is = is ∙ ap (λ (s : State). record m { core = advanced s m.collection; phase = Waiting }) (marks_cells (newly_marked m n) m.core)
       ∙ ap (risen next) (sym (ap (λ (u : Moment). u.core.cell) is))
 
   is_counted : IsCounted m t n
   is_counted = record {
     bare = each_map (λ p h. bare_of (has_evac (read_of (m.core.cell p))) h) (newly_marked m n)
-        (all_take (λ p. not (has_evac (read_of (m.core.cell p))) ≡ true) n all (all_pass (λ p. not (has_evac (read_of (m.core.cell p)))) (live_among m.core m.held)));
-    live = all_take (λ p. Contains (live_among m.core m.held) p) n all
-        (all_filter (λ p. Contains (live_among m.core m.held) p) (λ p. not (has_evac (read_of (m.core.cell p)))) (live_among m.core m.held) (each_member (live_among m.core m.held)));
-    once = distinct_of (newly_marked m n) (once_take n all (once_filter (λ p. not (has_evac (read_of (m.core.cell p)))) (live_among m.core m.held) (once_among m.core m.held once)));
+        (all_take (λ p. not (has_evac (read_of (m.core.cell p))) ≡ true) n all (all_pass (λ p. not (has_evac (read_of (m.core.cell p)))) (live_among m.core m.collection)));
+    live = all_take (λ p. Contains (live_among m.core m.collection) p) n all
+        (all_filter (λ p. Contains (live_among m.core m.collection) p) (λ p. not (has_evac (read_of (m.core.cell p)))) (live_among m.core m.collection) (each_member (live_among m.core m.collection)));
+    once = distinct_of (newly_marked m n) (once_take n all (once_filter (λ p. not (has_evac (read_of (m.core.cell p)))) (live_among m.core m.collection) (once_among m.core m.collection once)));
     most = take_most n all;
     left = left_now ∙ drop_taken n all;
     goes_on = λ e.

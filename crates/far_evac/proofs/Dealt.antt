@@ -29,7 +29,7 @@ use Rattle.far_book.proofs.region.Moved.{moved_is}
 use Rattle.far_book.proofs.region.Written.{row_other}
 use Rattle.far_evac.specs.Dealings.{is_away, is_nowhere}
 use Rattle.far_evac.specs.Live.{live_in, pointers_of}
-use Rattle.far_evac.specs.Ready.{Ready, IsHeld, AllMarked, OnLayout}
+use Rattle.far_evac.specs.Ready.{Ready, IsOfRound, AllMarked, OnLayout}
 use Rattle.far_evac.proofs.LiveLists.{live_left, same_spans}
 use Rattle.far_evac.proofs.LiveOnce.{but}
 use Rattle.far_evac.proofs.OfOneKind.{open_unsealed}
@@ -92,7 +92,7 @@ module _ (s : State) (p : ℕ) where
         (λ _ e. absurd (away len ds place marks e is)) (λ _ e. marked q len ds place marks e is)
         (ap (λ f. read_of (f q)) (sym cell) ∙ near)
 
-    pub held_still : (held : List ℕ) → AllByRecursion (λ l. Elsewhere l × (t.kind l ≡ s.kind l) × (t.round l ≡ s.round l)) held → AllByRecursion (IsHeld s) held → AllByRecursion (IsHeld t) held
+    pub held_still : (held : List ℕ) → AllByRecursion (λ l. Elsewhere l × (t.kind l ≡ s.kind l) × (t.round l ≡ s.round l)) held → AllByRecursion (IsOfRound s) held → AllByRecursion (IsOfRound t) held
     held_still [] away h = tt
     held_still (l ∷ ls) away h = ((away.0.1 ∙ h.0.0, marked_still l away.0.0 h.0.1, away.0.2 ∙ h.0.2), held_still ls away.1 h.1)
 
@@ -249,11 +249,11 @@ module _ (s : State) (held : List ℕ) (ready : Ready s held) (p : ℕ) where
         unfolding live_in spans_of
         live_moved = ap (λ spans. pointers_of (filter (is_live (record s { cell = put s.cell p (near_word len ds to) }) l) spans)) spans_still ∙ live_left s p (near_word len ds to) l gone
 
-      lists_moved : (ls : List ℕ) → AllByRecursion (IsHeld s) ls → AllByRecursion (λ l. live_in then l ≡ but p (live_in s l)) ls
+      lists_moved : (ls : List ℕ) → AllByRecursion (IsOfRound s) ls → AllByRecursion (λ l. live_in then l ≡ but p (live_in s l)) ls
       lists_moved [] h = tt
       lists_moved (l ∷ ls) h = (live_moved l h.0.0, lists_moved ls h.1)
 
-      logs_moved : (ls : List ℕ) → AllByRecursion (IsHeld s) ls →
+      logs_moved : (ls : List ℕ) → AllByRecursion (IsOfRound s) ls →
           AllByRecursion (λ l. ((n d : ℕ) (place : Place) (k : Marks) → read_of (near_word len ds to) ≡ Some (Near n d place k) → place.log ≢ l) × (then.kind l ≡ s.kind l) × (then.round l ≡ s.round l)) ls
       logs_moved [] h = tt
       logs_moved (l ∷ ls) h = ((elsewhere l h.0.0, kind_still l h.0.0, refl), logs_moved ls h.1)
@@ -281,7 +281,7 @@ module _ (s : State) (held : List ℕ) (ready : Ready s held) (p : ℕ) where
       pub says_moved : read_of ((moved s p to).cell p) ≡ Some (Near len ds to no_marks)
       says_moved = ap (λ (t : State). read_of (t.cell p)) (moved_is s p len ds from to marks near alive evac near_layout) ∙ here_near
 
-      off_moved : (ls : List ℕ) → AllByRecursion (IsHeld s) ls → AllByRecursion (λ l. (at : ℕ) → names_place (read_of (then.cell p)) l at ≡ false) ls
+      off_moved : (ls : List ℕ) → AllByRecursion (IsOfRound s) ls → AllByRecursion (λ l. (at : ℕ) → names_place (read_of (then.cell p)) l at ≡ false) ls
       off_moved [] h = tt
       off_moved (l ∷ ls) h = (λ at. ap (λ o. names_place o l at) here_near ∙ sym (ap (λ o. names_place o l at) near_says) ∙ gone l h.0.0 at, off_moved ls h.1)
 

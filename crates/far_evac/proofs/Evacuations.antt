@@ -30,5 +30,5 @@ one_exact m k w v t p rest e dealt then is = then ∙ ap settled dealt ∙ sym (
 done_of : (held : List ℕ) → held ≡ [] → is_empty held ≡ true
 done_of held none = ap is_empty none
 
-pub exact_over : (m : Moment) (n k : ℕ) (w : Walked) → k ≤ n → w.moment.held ≡ [] → w ≡ walked m k → w ≡ walked m n
-exact_over m n k w most none is = is ∙ sym (walked_done m k n most (sym (ap is_done is) ∙ done_of w.moment.held none))
+pub exact_over : (m : Moment) (n k : ℕ) (w : Walked) → k ≤ n → w.moment.collection ≡ [] → w ≡ walked m k → w ≡ walked m n
+exact_over m n k w most none is = is ∙ sym (walked_done m k n most (sym (ap is_done is) ∙ done_of w.moment.collection none))

@@ -69,11 +69,11 @@ module _ (s : State) (p : ℕ) where
 -- logs that are given back leave all but this
 abbrev pub given_back : Walked → Walked → Walked
 given_back v w = record v {
-  moment = record v.moment { core = record v.moment.core { kind = w.moment.core.kind; tail = w.moment.core.tail; starts = w.moment.core.starts; round = w.moment.core.round }; order = w.moment.order; held = w.moment.held };
+  moment = record v.moment { core = record v.moment.core { kind = w.moment.core.kind; tail = w.moment.core.tail; starts = w.moment.core.starts; round = w.moment.core.round }; order = w.moment.order; collection = w.moment.collection };
   tally = record v.tally { freed = w.tally.freed };
 }
 
 pub passed_frame : (ls : List ℕ) (v : Walked) → passed v ls ≡ given_back v (passed v ls)
 passed_frame [] v = refl
-passed_frame (l ∷ ls) v = cond_both (is_empty (live_in v.moment.core l)) (passed (freed v l) ls) (record v { moment = record v.moment { held = l ∷ ls } }) (λ (w : Walked). w ≡ given_back v w)
+passed_frame (l ∷ ls) v = cond_both (is_empty (live_in v.moment.core l)) (passed (freed v l) ls) (record v { moment = record v.moment { collection = l ∷ ls } }) (λ (w : Walked). w ≡ given_back v w)
     (λ _. passed_frame ls (freed v l)) (λ _. refl)

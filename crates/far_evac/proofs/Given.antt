@@ -13,7 +13,7 @@ use Rattle.far_evac.proofs.LiveOnce.{all_append, each_map}
 use Rattle.far_evac.proofs.SmallSteps.{Keeps, drop_next, holding, lifted_walks}
 
 record Given (all : List ℕ) (w : Walked) : Type 0 where
-  held : w.moment.held ≡ drop w.tally.freed all
+  held : w.moment.collection ≡ drop w.tally.freed all
   most : w.tally.freed ≤ length all
   gone : AllByRecursion (λ l. w.moment.core.round l ≡ false) (take w.tally.freed all)
 
@@ -37,28 +37,28 @@ known_given : (all : List ℕ) (w t : Walked) → KnowsWalked w t → Given all 
 known_given all w t known g =
     let sums : t.tally.freed ≡ w.tally.freed = ap (λ tally. tally.freed) known.tally in
     record {
-      held = ap (λ (m : Moment). m.held) known.moment.rest ∙ g.held ∙ sym (ap (λ n. drop n all) sums);
+      held = ap (λ (m : Moment). m.collection) known.moment.rest ∙ g.held ∙ sym (ap (λ n. drop n all) sums);
       most = subst (λ n. n ≤ length all) (sym sums) g.most;
       gone = subst (λ n. AllByRecursion (λ l. t.moment.core.round l ≡ false) (take n all)) (sym sums)
           (each_map (λ l h. ap (λ (u : State). u.round l) known.moment.core.rest ∙ h) (take w.tally.freed all) g.gone);
     }
 
-keeps_given : (m : Moment) → Keeps false m (λ k. Given m.held)
+keeps_given : (m : Moment) → Keeps false m (λ k. Given m.collection)
 keeps_given m = record {
-  learns = λ k. known_given m.held;
-  gives = λ k w l ls ready none. next_given m.held w l ls;
+  learns = λ k. known_given m.collection;
+  gives = λ k w l ls ready none. next_given m.collection w l ls;
   deals = λ k w l ls p ps way first g. record {
     held = g.held;
     most = g.most;
-    gone = each_map (λ j h. ap (λ (u : State). u.round j) (so_one w.moment.core p way).frame ∙ h) (take w.tally.freed m.held) g.gone;
+    gone = each_map (λ j h. ap (λ (u : State). u.round j) (so_one w.moment.core p way).frame ∙ h) (take w.tally.freed m.collection) g.gone;
   };
 }
 
-pub gives_back : (m : Moment) (k : ℕ) (t : Walked) → Ready m.core m.held → WalksTo m k t → GivesBack m t.moment t.tally.freed
+pub gives_back : (m : Moment) (k : ℕ) (t : Walked) → Ready m.core m.collection → WalksTo m k t → GivesBack m t.moment t.tally.freed
 gives_back m k t ready walks =
-    let h = lifted_walks m (λ k. Given m.held) (keeps_given m) ready record { held = refl; most = omega arith; gone = tt } k t walks in record {
-      held = h.keeps.held;
+    let h = lifted_walks m (λ k. Given m.collection) (keeps_given m) ready record { held = refl; most = omega arith; gone = tt } k t walks in record {
+      collection = h.keeps.held;
       most = h.keeps.most;
       gone = h.keeps.gone;
-      stay = each_map (λ l h. (h.2, h.0)) t.moment.held h.ready.logs;
+      stay = each_map (λ l h. (h.2, h.0)) t.moment.collection h.ready.logs;
     }

@@ -20,7 +20,7 @@ use Rattle.far_evac.specs.AnyHand.{Knows}
 use Rattle.far_evac.specs.Live.{is_empty}
 use Rattle.far_evac.specs.MomentLaw.{has_risen, is_idle}
 use Rattle.far_evac.specs.RoundSteps.{among}
-use Rattle.far_evac.specs.Standing.{InRound, held_in, held_of}
+use Rattle.far_evac.specs.Standing.{InRound, collection_in, collection_of}
 use Rattle.far_evac.proofs.SmallSteps.{drop_next}
 use Rattle.far_evac.proofs.Hands.{knows_forgotten}
 use Rattle.far_evac.proofs.Standings.{idle_round}
@@ -46,16 +46,16 @@ not_waiting phase walks waits = let odd : Evacuating ≡ Waiting = sym walks ∙
 pub given_known : (s t : State) (l : ℕ) → t ≡ record (released s l) { word = t.word } → Forgets s t → Law (own_part t) → Knows (released s l) t
 given_known s t l is forgot law = knows_forgotten (released s l) t is record { known = forgot.known; headers = forgot.headers } law
 
--- ---- which logs are held then
-module _ (r : Round) (walks : r.phase ≡ Evacuating) (l : ℕ) (ls : List ℕ) (front : held_in r ≡ l ∷ ls) where
+-- ---- which logs are the collection set then
+module _ (r : Round) (walks : r.phase ≡ Evacuating) (l : ℕ) (ls : List ℕ) (front : collection_in r ≡ l ∷ ls) where
   pub held_next : (drop (r.index + 1) r.chosen ≡ ls) × (r.index + 1 ≤ length r.chosen)
   held_next =
       let n = drop_next r.index r.chosen l ls (drops_front r walks l ls front) in
       let more : suc r.index ≡ r.index + 1 = omega arith in
       (sym (ap (λ k. drop k r.chosen) more) ∙ n.0, omega (arith, n.1))
 
-  pub held_then : held_of r.phase r.chosen (r.index + 1) ≡ ls
-  held_then = ap (λ phase. held_of phase r.chosen (r.index + 1)) walks ∙ held_next.0
+  pub held_then : collection_of r.phase r.chosen (r.index + 1) ≡ ls
+  held_then = ap (λ phase. collection_of phase r.chosen (r.index + 1)) walks ∙ held_next.0
 
   pub last_held : length r.chosen ≤ r.index + 1 → ls ≡ []
   last_held all = sym held_next.0 ∙ drop_of_length-le r.chosen all
@@ -70,7 +70,7 @@ module _ (r : Round) (walks : r.phase ≡ Evacuating) (l : ℕ) (ls : List ℕ) 
       some_left ls (omega (arith, long, some))
 
 -- ---- the round goes on, or is over
-module _ (s t : State) (r : Round) (in_round : InRound s r) (law : Law (own_part t)) (walks : r.phase ≡ Evacuating) (l : ℕ) (ls : List ℕ) (front : held_in r ≡ l ∷ ls)
+module _ (s t : State) (r : Round) (in_round : InRound s r) (law : Law (own_part t)) (walks : r.phase ≡ Evacuating) (l : ℕ) (ls : List ℕ) (front : collection_in r ≡ l ∷ ls)
     (knows : Knows (released s l) t) where
   once : IsDistinct eqb (l ∷ ls)
   once = subst (IsDistinct eqb) front in_round.holds.once
@@ -78,17 +78,17 @@ module _ (s t : State) (r : Round) (in_round : InRound s r) (law : Law (own_part
   apart : (k : ℕ) → among ls k ≡ true → k ≢ l
   apart k member = member_each (λ x. x ≢ l) ls (others l ls once) k member
 
-  was_held : (k : ℕ) → among ls k ≡ true → among (held_in r) k ≡ true
+  was_held : (k : ℕ) → among ls k ≡ true → among (collection_in r) k ≡ true
   was_held k member = ap (λ held. among held k) front ∙ or_right (eqb k l) (among ls k) member
 
-  held : held_of r.phase r.chosen (r.index + 1) ≡ ls
+  held : collection_of r.phase r.chosen (r.index + 1) ≡ ls
   held = held_then r walks l ls front
 
-  held_among : (k : ℕ) → among (held_of r.phase r.chosen (r.index + 1)) k ≡ true → among ls k ≡ true
+  held_among : (k : ℕ) → among (collection_of r.phase r.chosen (r.index + 1)) k ≡ true → among ls k ≡ true
   held_among k h = sym (ap (λ ks. among ks k) held) ∙ h
 
-  -- the log that was given back is out of the round, and every other log of the round is held still
-  held_only : has_risen r.phase ≡ true → (k : ℕ) → t.round k ≡ true → among (held_of r.phase r.chosen (r.index + 1)) k ≡ true
+  -- the log that was given back is out of the round, and every other log of the round is in the collection set still
+  held_only : has_risen r.phase ≡ true → (k : ℕ) → t.round k ≡ true → among (collection_of r.phase r.chosen (r.index + 1)) k ≡ true
   held_only risen k is =
       let then : (released s l).round k ≡ true = sym (ap (λ (u : State). u.round k) knows.rest) ∙ is in
       elim (cases_eq k l) [

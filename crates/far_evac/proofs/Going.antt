@@ -15,7 +15,7 @@ use Rattle.far_core.proofs.Put.{put_same}
 use Rattle.far_evac.specs.Dealings.{says}
 use Rattle.far_evac.specs.Live.{live_among, live_in}
 use Rattle.far_evac.specs.Moment.{Moment}
-use Rattle.far_evac.specs.Ready.{IsHeld, Ready}
+use Rattle.far_evac.specs.Ready.{IsOfRound, Ready}
 use Rattle.far_evac.specs.Walk.{Walked, Way, Drops, Goes, Moves, dealt_as, dealt_first, dealt_so, hot_way, left, walked, way_of}
 use Rattle.far_evac.specs.WayLaws.{GoesItsWay, ObjectsGoTheirWay}
 use Rattle.far_evac.proofs.Dealt.{says_far, says_moved}
@@ -46,24 +46,24 @@ none_before (suc k) (x ∷ xs) p rest once = λ e. (
 
 -- ---- the walk where no word changes: a cell stays while others are dealt with
 abbrev Cells : Moment → ℕ → Walked → Type 0
-Cells m k w = (q : ℕ) → AllByRecursion (λ d. d ≢ q) (take k (live_among m.core m.held)) → w.moment.core.cell q ≡ m.core.cell q
+Cells m k w = (q : ℕ) → AllByRecursion (λ d. d ≢ q) (take k (live_among m.core m.collection)) → w.moment.core.cell q ≡ m.core.cell q
 
 keeps_cells : (m : Moment) → Keeps true m (Cells m)
 keeps_cells m = record {
   learns = tt;
   gives = λ k w l ls ready none same. same;
   deals = λ k w l ls p ps way first same q apart.
-      let parts = all_front (λ d. d ≢ q) (take k (live_among m.core m.held)) p (subst (AllByRecursion (λ d. d ≢ q)) first.more apart) in
+      let parts = all_front (λ d. d ≢ q) (take k (live_among m.core m.collection)) p (subst (AllByRecursion (λ d. d ≢ q)) first.more apart) in
       (so_one w.moment.core p way).cells q (λ e. parts.1 (sym e)) ∙ same q parts.0;
 }
 
 -- after k objects the k-th is in front
-stands_at : (m : Moment) → Ready m.core m.held → (k : ℕ) → k < length (live_among m.core m.held) → Stands m (Cells m) k (walked m k)
+stands_at : (m : Moment) → Ready m.core m.collection → (k : ℕ) → k < length (live_among m.core m.collection) → Stands m (Cells m) k (walked m k)
 stands_at m ready k inside =
     let (j, same, h) = lifted_walked m (Cells m) (keeps_cells m) ready (λ q apart. refl) k in subst (λ n. Stands m (Cells m) n (walked m k)) (same (omega (arith, inside))) h
 
--- each object of the logs held has EVAC
-evac_of : (s : State) (ls : List ℕ) → AllByRecursion (IsHeld s) ls →
+-- each object of the collection set has EVAC
+evac_of : (s : State) (ls : List ℕ) → AllByRecursion (IsOfRound s) ls →
     AllByRecursion (λ p. (len ds : ℕ) (place : Place) (marks : Marks) → read_of (s.cell p) ≡ Some (Near len ds place marks) → marks.evac ≡ true) (live_among s ls)
 evac_of s [] held = tt
 evac_of s (l ∷ ls) held =
@@ -71,7 +71,7 @@ evac_of s (l ∷ ls) held =
     (each_map (λ p named len ds place marks near. held.0.1 p len ds place marks near (place_named (read_of (s.cell p)) l named.0 len ds place marks named.1 near).0) (live_in s l) (live_named s l))
     (evac_of s ls held.1)
 
-module _ (m : Moment) (k p len ds : ℕ) (from : Place) (marks : Marks) (rest : List ℕ) (ready : Ready m.core m.held) (is : drop k (live_among m.core m.held) ≡ p ∷ rest)
+module _ (m : Moment) (k p len ds : ℕ) (from : Place) (marks : Marks) (rest : List ℕ) (ready : Ready m.core m.collection) (is : drop k (live_among m.core m.collection) ≡ p ∷ rest)
     (near : says m p ≡ Some (Near len ds from marks)) where
   abbrev w : Walked
   w = walked m k
@@ -79,8 +79,8 @@ module _ (m : Moment) (k p len ds : ℕ) (from : Place) (marks : Marks) (rest : 
   abbrev s : State
   s = w.moment.core
 
-  inside : k < length (live_among m.core m.held)
-  inside = let next = drop_next k (live_among m.core m.held) p rest is in omega (arith, next.1)
+  inside : k < length (live_among m.core m.collection)
+  inside = let next = drop_next k (live_among m.core m.collection) p rest is in omega (arith, next.1)
 
   stands : Stands m (Cells m) k w
   stands = stands_at m ready k inside
@@ -89,10 +89,10 @@ module _ (m : Moment) (k p len ds : ℕ) (from : Place) (marks : Marks) (rest : 
   front = stands.left ∙ is
 
   near_now : read_of (s.cell p) ≡ Some (Near len ds from marks)
-  near_now = ap read_of (stands.keeps p (none_before k (live_among m.core m.held) p rest (once_among m.core m.held ready.once) is)) ∙ near
+  near_now = ap read_of (stands.keeps p (none_before k (live_among m.core m.collection) p rest (once_among m.core m.collection ready.once) is)) ∙ near
 
   evac : marks.evac ≡ true
-  evac = all_at (λ q. (n d : ℕ) (place : Place) (x : Marks) → read_of (s.cell q) ≡ Some (Near n d place x) → x.evac ≡ true) p (left w) (evac_of s w.moment.held stands.ready.logs)
+  evac = all_at (λ q. (n d : ℕ) (place : Place) (x : Marks) → read_of (s.cell q) ≡ Some (Near n d place x) → x.evac ≡ true) p (left w) (evac_of s w.moment.collection stands.ready.logs)
       (subst (λ xs. Contains xs p) (sym front) (here p rest)) len ds from marks near_now
 
   cell_then : (way : Way) → way_of s (Some (Near len ds from marks)) ≡ way → (walked m (k + 1)).moment.core.cell ≡ (core_so s p way).cell
@@ -101,7 +101,7 @@ module _ (m : Moment) (k p len ds : ℕ) (from : Place) (marks : Marks) (rest : 
       let dealt = dealt_as w p (read_of (s.cell p)) in
       ap (λ n. (walked m n).moment.core.cell) one
       ∙ ap (λ xs. (dealt_first w xs).moment.core.cell) front
-      ∙ ap (λ (v : Walked). v.moment.core.cell) (passed_frame dealt.moment.held dealt)
+      ∙ ap (λ (v : Walked). v.moment.core.cell) (passed_frame dealt.moment.collection dealt)
       ∙ ap (λ x. (dealt_so w p x).moment.core.cell) (ap (way_of s) near_now ∙ e)
       ∙ ap (λ (v : Walked). v.moment.core.cell) (dealt_is w p way)
 
@@ -113,7 +113,7 @@ module _ (m : Moment) (k p len ds : ℕ) (from : Place) (marks : Marks) (rest : 
       ∙ ap (λ x. cond dropped Drops (cond hot (hot_way x) Goes)) c
 
   went_far : marks.dropped ≡ false → way_of s (Some (Near len ds from marks)) ≡ Goes → says (walked m (k + 1)).moment p ≡ Some (Far len ds no_marks)
-  went_far alive way = ap (λ cell. read_of (cell p)) (cell_then Goes way) ∙ says_far s w.moment.held stands.ready p len ds from marks near_now evac alive
+  went_far alive way = ap (λ cell. read_of (cell p)) (cell_then Goes way) ∙ says_far s w.moment.collection stands.ready p len ds from marks near_now evac alive
 
   pub its_way : GoesItsWay s (walked m (k + 1)).moment p len ds marks
   its_way = record {
@@ -121,7 +121,7 @@ module _ (m : Moment) (k p len ds : ℕ) (from : Place) (marks : Marks) (rest : 
     cold = λ alive cold. went_far alive (so_way false false (room s (size_of len) false) alive cold refl);
     crowded = λ alive hot none. went_far alive (so_way false true None alive hot none);
     hot = λ to alive hot there. ap (λ cell. read_of (cell p)) (cell_then (Moves to) (so_way false true (Some to) alive hot there))
-        ∙ says_moved s w.moment.held stands.ready p len ds from marks near_now evac alive to there;
+        ∙ says_moved s w.moment.collection stands.ready p len ds from marks near_now evac alive to there;
   }
 
 pub objects_go_their_way : ObjectsGoTheirWay

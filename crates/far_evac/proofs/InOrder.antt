@@ -24,7 +24,7 @@ begun_live s (l ∷ ls) begins none = absurd (false≢true (sym begins ∙ empty
   empty_front [] ys e = refl
   empty_front (x ∷ xs) ys e = absurd cc
 
-pub in_order : (m : Moment) (k : ℕ) (t : Walked) → Ready m.core m.held → WalksTo m k t → DealtInOrder m k t
+pub in_order : (m : Moment) (k : ℕ) (t : Walked) → Ready m.core m.collection → WalksTo m k t → DealtInOrder m k t
 in_order m k t ready walks =
     let h = walks_left m k t ready walks in record {
       left = h.left;
@@ -32,7 +32,7 @@ in_order m k t ready walks =
       deals = deals_with m k t ready walks;
       counted = tallies_all m k t walks;
       begins = h.begins;
-      done = λ e. begun_live t.moment.core t.moment.held h.begins (h.left ∙ ap (λ n. drop n (live_among m.core m.held)) e ∙ none_dropped (live_among m.core m.held));
+      done = λ e. begun_live t.moment.core t.moment.collection h.begins (h.left ∙ ap (λ n. drop n (live_among m.core m.collection)) e ∙ none_dropped (live_among m.core m.collection));
       gives = gives_back m k t ready walks;
       ready = h.ready;
     }

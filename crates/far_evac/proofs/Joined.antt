@@ -30,34 +30,34 @@ module _ (x : Tally) where
 
   passed_before : (ls : List ℕ) (w : Walked) → passed (with_before x w) ls ≡ with_before x (passed w ls)
   passed_before [] w = refl
-  passed_before (l ∷ ls) w = cond_both (is_empty (live_in w.moment.core l)) (passed (freed w l) ls) (record w { moment = record w.moment { held = l ∷ ls } })
-      (λ (v : Walked). cond (is_empty (live_in w.moment.core l)) (passed (freed (with_before x w) l) ls) (with_before x (record w { moment = record w.moment { held = l ∷ ls } })) ≡ with_before x v)
-      (λ none. ap (λ b. cond b (passed (freed (with_before x w) l) ls) (with_before x (record w { moment = record w.moment { held = l ∷ ls } }))) none
+  passed_before (l ∷ ls) w = cond_both (is_empty (live_in w.moment.core l)) (passed (freed w l) ls) (record w { moment = record w.moment { collection = l ∷ ls } })
+      (λ (v : Walked). cond (is_empty (live_in w.moment.core l)) (passed (freed (with_before x w) l) ls) (with_before x (record w { moment = record w.moment { collection = l ∷ ls } })) ≡ with_before x v)
+      (λ none. ap (λ b. cond b (passed (freed (with_before x w) l) ls) (with_before x (record w { moment = record w.moment { collection = l ∷ ls } }))) none
       ∙ ap (λ v. passed v ls) (freed_before w l) ∙ passed_before ls (freed w l))
-      (λ some. ap (λ b. cond b (passed (freed (with_before x w) l) ls) (with_before x (record w { moment = record w.moment { held = l ∷ ls } }))) some)
+      (λ some. ap (λ b. cond b (passed (freed (with_before x w) l) ls) (with_before x (record w { moment = record w.moment { collection = l ∷ ls } }))) some)
 
   first_before : (w : Walked) (ps : List ℕ) → dealt_first (with_before x w) ps ≡ with_before x (dealt_first w ps)
   first_before w [] = refl
   first_before w (p ∷ ps) =
       let way = way_of w.moment.core (read_of (w.moment.core.cell p)) in
-      ap settled (so_before w p way) ∙ passed_before (dealt_so w p way).moment.held (dealt_so w p way)
+      ap settled (so_before w p way) ∙ passed_before (dealt_so w p way).moment.collection (dealt_so w p way)
 
   steps_before : (n : ℕ) (w : Walked) → steps n (with_before x w) ≡ with_before x (steps n w)
   steps_before zero w = refl
   steps_before (suc n) w = ap (λ v. dealt_first v (left v)) (steps_before n w) ∙ first_before (steps n w) (left (steps n w))
 
 -- ---- a walk that has stopped begins again where it stands
-passed_front : (ls : List ℕ) (v : Walked) → BeginsLive (passed v ls).moment.core (passed v ls).moment.held
+passed_front : (ls : List ℕ) (v : Walked) → BeginsLive (passed v ls).moment.core (passed v ls).moment.collection
 passed_front [] v = tt
-passed_front (l ∷ ls) v = cond_both (is_empty (live_in v.moment.core l)) (passed (freed v l) ls) (record v { moment = record v.moment { held = l ∷ ls } })
-    (λ (w : Walked). BeginsLive w.moment.core w.moment.held) (λ _. passed_front ls (freed v l)) (λ some. some)
+passed_front (l ∷ ls) v = cond_both (is_empty (live_in v.moment.core l)) (passed (freed v l) ls) (record v { moment = record v.moment { collection = l ∷ ls } })
+    (λ (w : Walked). BeginsLive w.moment.core w.moment.collection) (λ _. passed_front ls (freed v l)) (λ some. some)
 
-first_front : (w : Walked) (ps : List ℕ) → BeginsLive w.moment.core w.moment.held → BeginsLive (dealt_first w ps).moment.core (dealt_first w ps).moment.held
+first_front : (w : Walked) (ps : List ℕ) → BeginsLive w.moment.core w.moment.collection → BeginsLive (dealt_first w ps).moment.core (dealt_first w ps).moment.collection
 first_front w [] begins = begins
-first_front w (p ∷ ps) begins = let v = dealt_as w p (read_of (w.moment.core.cell p)) in passed_front v.moment.held v
+first_front w (p ∷ ps) begins = let v = dealt_as w p (read_of (w.moment.core.cell p)) in passed_front v.moment.collection v
 
-walked_front : (m : Moment) (n : ℕ) → BeginsLive (walked m n).moment.core (walked m n).moment.held
-walked_front m zero = passed_front m.held (begun m)
+walked_front : (m : Moment) (n : ℕ) → BeginsLive (walked m n).moment.core (walked m n).moment.collection
+walked_front m zero = passed_front m.collection (begun m)
 walked_front m (suc n) = first_front (walked m n) (left (walked m n)) (walked_front m n)
 
 settled_front : (s : State) (order : List ℕ) (phase : Phase) (held : List ℕ) (tally : Tally) → BeginsLive s held → settled (stand s order phase held tally) ≡ stand s order phase held tally
@@ -82,7 +82,7 @@ walk_at m tally = record { moment = m; tally = tally }
 pub walks_join : (m : Moment) (a b : ℕ) → walked m (a + b) ≡ with_before (walked m a).tally (walked (walked m a).moment b)
 walks_join m a b =
     let w = walked m a in
-    let begins_again : settled (begun w.moment) ≡ begun w.moment = settled_front w.moment.core w.moment.order w.moment.phase w.moment.held nothing (walked_front m a) in
+    let begins_again : settled (begun w.moment) ≡ begun w.moment = settled_front w.moment.core w.moment.order w.moment.phase w.moment.collection nothing (walked_front m a) in
     walked_on m a b
     ∙ ap (λ tally. steps b (walk_at w.moment tally)) (sym (plus_nothing w.tally))
     ∙ steps_before w.tally b (begun w.moment)

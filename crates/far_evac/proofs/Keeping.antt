@@ -25,7 +25,7 @@ use Rattle.far_evac.specs.declared.phase.Phase.TheVariants.{Idle, Marking, Waiti
 use Rattle.far_evac.specs.declared.round.Round.{Round}
 use Rattle.far_evac.specs.MomentLaw.{is_idle}
 use Rattle.far_evac.specs.RoundSteps.{among}
-use Rattle.far_evac.specs.Standing.{Holds, InRound, Stands, held_in, held_of}
+use Rattle.far_evac.specs.Standing.{Holds, InRound, Stands, collection_in, collection_of}
 use Rattle.far_evac.proofs.Bools.{or_left, or_right}
 
 -- from s to t these logs stay as they were, but that objects may have left them; those that lie there lay there before, and have EVAC where they had it.
@@ -42,7 +42,7 @@ pub record KeepsLogs (s t : State) (logs : List ℕ) : Type 0 where
   pub mutators : t.mutators ≡ s.mutators
   pub epoch : t.epoch ≡ s.epoch
 
--- ---- the front log is held, and so are those that marking has passed
+-- ---- the front log is in the collection set, and so are those that marking has passed
 or_more : (a b c : Bool) → (b ≡ true → c ≡ true) → (a || b) ≡ true → (a || c) ≡ true
 or_more true b c more h = refl
 or_more false b c more h = more h
@@ -59,15 +59,15 @@ taken_among [] (suc i) l h = absurd (false≢true h)
 taken_among (x ∷ xs) zero l h = absurd (false≢true h)
 taken_among (x ∷ xs) (suc i) l h = or_more (eqb l x) (among (take i xs) l) (among xs l) (taken_among xs i l) h
 
-front_held : (phase : Phase) (chosen : List ℕ) (index l : ℕ) (ls : List ℕ) → is_idle phase ≡ false → drop index chosen ≡ l ∷ ls → among (held_of phase chosen index) l ≡ true
+front_held : (phase : Phase) (chosen : List ℕ) (index l : ℕ) (ls : List ℕ) → is_idle phase ≡ false → drop index chosen ≡ l ∷ ls → among (collection_of phase chosen index) l ≡ true
 front_held Idle chosen index l ls running e = absurd (true≢false running)
 front_held Marking chosen index l ls running e = dropped_among chosen index l ls e
 front_held Waiting chosen index l ls running e = dropped_among chosen index l ls e
 front_held Evacuating chosen index l ls running e = ap (λ xs. among xs l) e ∙ or_left (eqb l l) (among ls l) (eq-eqb l l refl)
 
 -- ---- a round is as it was
-module _ (s t : State) (r : Round) (keeps : KeepsLogs s t (held_in r)) (in_round : InRound s r) where
-  holds_kept : Holds t r.phase (held_in r)
+module _ (s t : State) (r : Round) (keeps : KeepsLogs s t (collection_in r)) (in_round : InRound s r) where
+  holds_kept : Holds t r.phase (collection_in r)
   holds_kept = let h = in_round.holds in record {
     sealed = λ l held. keeps.kind l held ∙ h.sealed l held;
     once = h.once;
@@ -81,13 +81,13 @@ module _ (s t : State) (r : Round) (keeps : KeepsLogs s t (held_in r)) (in_round
   abbrev Fronts : ℕ → List ℕ → Type 0
   Fronts l ls = drop r.index r.chosen ≡ l ∷ ls
 
-  held_front : is_idle r.phase ≡ false → (l : ℕ) (ls : List ℕ) → Fronts l ls → among (held_in r) l ≡ true
+  held_front : is_idle r.phase ≡ false → (l : ℕ) (ls : List ℕ) → Fronts l ls → among (collection_in r) l ≡ true
   held_front running l ls e = front_held r.phase r.chosen r.index l ls running e
 
-  held_marked : r.phase ≡ Marking → (l : ℕ) → among r.chosen l ≡ true → among (held_in r) l ≡ true
-  held_marked marks l h = ap (λ phase. among (held_of phase r.chosen r.index) l) marks ∙ h
+  held_marked : r.phase ≡ Marking → (l : ℕ) → among r.chosen l ≡ true → among (collection_in r) l ≡ true
+  held_marked marks l h = ap (λ phase. among (collection_of phase r.chosen r.index) l) marks ∙ h
 
-  pub bounded_kept : (l at : ℕ) → among (held_in r) l ≡ true → IsBoundary s l at → IsBoundary t l at
+  pub bounded_kept : (l at : ℕ) → among (collection_in r) l ≡ true → IsBoundary s l at → IsBoundary t l at
   bounded_kept l at held (inl end) = inl (end ∙ sym (keeps.tail l held))
   bounded_kept l at held (inr span) = inr (subst (λ n. at < n) (sym (keeps.tail l held)) span.0, keeps.starts l at held span.0 ∙ span.1)
 
@@ -99,11 +99,11 @@ module _ (s t : State) (r : Round) (keeps : KeepsLogs s t (held_in r)) (in_round
         let was = keeps.near p len ds place more near (held_marked marks place.log (taken_among r.chosen r.index place.log among_front)) in
         was.2 ∙ h.marked marks p len ds place was.0 was.1 among_front;
     marked_here = λ marks l ls e p len ds place more near here lt.
-        let held = subst (λ k. among (held_in r) k ≡ true) (sym here) (held_front (ap is_idle marks) l ls e) in
+        let held = subst (λ k. among (collection_in r) k ≡ true) (sym here) (held_front (ap is_idle marks) l ls e) in
         let was = keeps.near p len ds place more near held in
         was.2 ∙ h.marked_here marks l ls e p len ds place was.0 was.1 here lt;
     left = λ leaves l ls e p len ds place more near here.
-        let held = subst (λ k. among (held_in r) k ≡ true) (sym here) (held_front (ap is_idle leaves) l ls e) in
+        let held = subst (λ k. among (collection_in r) k ≡ true) (sym here) (held_front (ap is_idle leaves) l ls e) in
         let was = keeps.near p len ds place more near held in
         h.left leaves l ls e p len ds place was.0 was.1 here;
     seen = λ waits k lt. keeps.clear k ∙ h.seen waits k lt;
@@ -161,11 +161,11 @@ keeps_sealed s t logs sealed keeps = record {
 -- one call of the book that makes this of a state, as far as it is known
 pub round_called : (s made t : State) (r : Round) → InRound s r → KeepsSealed s made → Knows made t → InRound t r
 round_called s made t r in_round keeps known =
-    round_kept s t r (keeps_more s made t (held_in r) (keeps_sealed s made (held_in r) in_round.holds.sealed keeps) (keeps_known made t (held_in r) known)) in_round
+    round_kept s t r (keeps_more s made t (collection_in r) (keeps_sealed s made (collection_in r) in_round.holds.sealed keeps) (keeps_known made t (collection_in r) known)) in_round
 
 -- marks were found alone
 pub round_found : (s t : State) (r : Round) → InRound s r → Knows s t → InRound t r
-round_found s t r in_round known = round_kept s t r (keeps_known s t (held_in r) known) in_round
+round_found s t r in_round known = round_kept s t r (keeps_known s t (collection_in r) known) in_round
 
 -- owners had a turn
 pub keeps_owners : (s t : State) (logs : List ℕ) → OwnersChange s t → KeepsLogs s t logs
@@ -182,7 +182,7 @@ keeps_owners s t logs change = record {
 }
 
 pub round_of_owners : (s t : State) (r : Round) → InRound s r → OwnersChange s t → InRound t r
-round_of_owners s t r in_round change = round_kept s t r (keeps_owners s t (held_in r) change) in_round
+round_of_owners s t r in_round change = round_kept s t r (keeps_owners s t (collection_in r) change) in_round
 
 -- words were stored
 module _ (logs : List ℕ) (m p first : ℕ) (words : List ℕ) where
@@ -211,4 +211,4 @@ module _ (logs : List ℕ) (m p first : ℕ) (words : List ℕ) where
 
 pub round_stored : (s t : State) (r : Round) (m p first : ℕ) (words : List ℕ) → InRound s r → t ≡ after_events s (stores m p first words) → InRound t r
 round_stored s t r m p first words in_round is =
-    round_kept s t r (subst (λ (u : State). KeepsLogs s u (held_in r)) (sym is) (keeps_stores (held_in r) m p first words s (range_with_len 0 (length words)))) in_round
+    round_kept s t r (subst (λ (u : State). KeepsLogs s u (collection_in r)) (sym is) (keeps_stores (collection_in r) m p first words s (range_with_len 0 (length words)))) in_round

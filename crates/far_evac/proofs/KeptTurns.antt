@@ -47,8 +47,8 @@ marking_objects m n law moment marks =
 
 pub aborting_objects : AbortingKeepsObjects
 aborting_objects m law moment =
-    let t = fold unmarked m.core (live_among m.core m.held) in
-    let is = clears_cells (live_among m.core m.held) m.core in
+    let t = fold unmarked m.core (live_among m.core m.collection) in
+    let is = clears_cells (live_among m.core m.collection) m.core in
     evac_objects m.core t (is ∙ sym (ap (marks_framed m.core) is)) (fits m.core law) (fits t (aborting m law moment).law) (is_given_up m (fits m.core law)).same
 
 -- ---- turn after turn

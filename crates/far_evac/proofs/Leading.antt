@@ -79,7 +79,7 @@ selecting m (l ∷ ls) law moment idle left once of_order = record {
     order = moment.order;
     order_once = moment.order_once;
     sealed = λ k h. sealed_of m moment k (of_order k h);
-    held_once = once;
+    collection_once = once;
     runs = refl;
     round = λ risen. absurd (false≢true risen);
     only = λ risen. absurd (false≢true risen);
@@ -126,7 +126,7 @@ module _ (m : Moment) (law : Law m.core) (moment : MomentLaw m) (waits : m.phase
     order = moment.order;
     order_once = moment.order_once;
     sealed = moment.sealed;
-    held_once = moment.held_once;
+    collection_once = moment.collection_once;
     runs = moment.runs ∙ ap is_idle waits ∙ sym running;
     round = λ _. moment.round (ap has_risen waits);
     only = λ _. moment.only (ap has_risen waits);
@@ -201,9 +201,9 @@ kinds_unmarked (p ∷ ps) s = kinds_unmarked ps (unmarked s p)
 
 pub aborting : AbortingLeads
 aborting m law moment =
-    let ps = live_among m.core m.held in
+    let ps = live_among m.core m.collection in
     let way : Reached m.core (fold unmarked m.core ps) =
-    reached_each (λ p. Clear p) (λ p. tt) (λ p. tt) IsNearOf (λ s p h. h) still_near ps m.core law (all_lives (IsNearOf m.core) m.core m.held (λ l p _ h. near_of m.core law l p h)) in
+    reached_each (λ p. Clear p) (λ p. tt) (λ p. tt) IsNearOf (λ s p h. h) still_near ps m.core law (all_lives (IsNearOf m.core) m.core m.collection (λ l p _ h. near_of m.core law l p h)) in
     record {
       reached = way;
       law = reached_law m.core (fold unmarked m.core ps) law way;
@@ -211,7 +211,7 @@ aborting m law moment =
         order = λ l. moment.order l ∙ ap (λ kind. is_sealed (kind l)) (sym (kinds_unmarked ps m.core));
         order_once = moment.order_once;
         sealed = λ l h. absurd (false≢true h);
-        held_once = none_once;
+        collection_once = none_once;
         runs = refl;
         round = λ risen l h. absurd (false≢true h);
         only = λ risen. absurd (false≢true risen);

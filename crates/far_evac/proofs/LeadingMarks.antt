@@ -80,8 +80,8 @@ module _ (m : Moment) (n : ℕ) (law : Law m.core) (moment : MomentLaw m) (marks
 
   way : Reached m.core t
   way = reached_each (λ p. Mark p) (λ p. tt) (λ p. tt) IsSealedOf (λ s p h. h) still_sealed ps m.core law
-      (all_take (IsSealedOf m.core) n (lacking m.core m.held) (all_filter (IsSealedOf m.core) (λ p. not (has_evac (read_of (m.core.cell p)))) (live_among m.core m.held)
-      (all_lives (IsSealedOf m.core) m.core m.held (λ l p member h. sealed_near m.core law l p (moment.sealed l member) h))))
+      (all_take (IsSealedOf m.core) n (lacking m.core m.collection) (all_filter (IsSealedOf m.core) (λ p. not (has_evac (read_of (m.core.cell p)))) (live_among m.core m.collection)
+      (all_lives (IsSealedOf m.core) m.core m.collection (λ l p member h. sealed_near m.core law l p (moment.sealed l member) h))))
 
   law_then : Law t
   law_then = reached_law m.core t law way
@@ -97,7 +97,7 @@ module _ (m : Moment) (n : ℕ) (law : Law m.core) (moment : MomentLaw m) (marks
       order = moment.order;
       order_once = moment.order_once;
       sealed = moment.sealed;
-      held_once = moment.held_once;
+      collection_once = moment.collection_once;
       runs = moment.runs;
       round = λ risen. absurd (not_risen risen);
       only = λ risen. absurd (not_risen risen);
@@ -108,25 +108,25 @@ module _ (m : Moment) (n : ℕ) (law : Law m.core) (moment : MomentLaw m) (marks
 
   module _ (none : leaves_some m n ≡ false) where
     abbrev rises : Moment
-    rises = record m { core = advanced t m.held; phase = Waiting }
+    rises = record m { core = advanced t m.collection; phase = Waiting }
 
     same_kind : (l : ℕ) → t.kind l ≡ m.core.kind l
     same_kind l = ap (λ (u : State). u.kind l) (marks_cells ps m.core)
 
-    held_sealed : (l : ℕ) → among m.held l ≡ true → t.kind l ≡ kinds.Sealed
+    held_sealed : (l : ℕ) → among m.collection l ≡ true → t.kind l ≡ kinds.Sealed
     held_sealed l member = same_kind l ∙ moment.sealed l member
 
-    few : length (lacking m.core m.held) ≤ n
+    few : length (lacking m.core m.collection) ≤ n
     few = grind (arith, nat_tests, none)
 
-    none_lacks : lacking t m.held ≡ []
-    none_lacks = left_to m.held moment.held_once m.core (λ p. (law.cells.cell_read p).0) n ∙ drop_all n (lacking m.core m.held) few
+    none_lacks : lacking t m.collection ≡ []
+    none_lacks = left_to m.collection moment.collection_once m.core (λ p. (law.cells.cell_read p).0) n ∙ drop_all n (lacking m.core m.collection) few
 
     abbrev bits : ℕ
-    bits = bits_of m.held
+    bits = bits_of m.collection
 
-    same : (l : ℕ) → is_among bits l ≡ among m.held l
-    same = bits_are m.held (λ l member. omega (arith, sealed_inside t (own_law t law_then) l (held_sealed l member), law_then.shape.few_logs))
+    same : (l : ℕ) → is_among bits l ≡ among m.collection l
+    same = bits_are m.collection (λ l member. omega (arith, sealed_inside t (own_law t law_then) l (held_sealed l member), law_then.shape.few_logs))
 
     same_epoch : t.epoch ≡ m.core.epoch
     same_epoch = ap (λ (u : State). u.epoch) (marks_cells ps m.core)
@@ -135,21 +135,21 @@ module _ (m : Moment) (n : ℕ) (law : Law m.core) (moment : MomentLaw m) (marks
     may = record {
       below = subst (λ e. e + 1 < EPOCH_END) (sym same_epoch) (moment.later marks);
       shut = λ l h. let sealed = held_sealed l (sym (same l) ∙ h) in (sealed_inside t (own_law t law_then) l sealed, sealed);
-      marked = λ p len ds place k near member. each_has t (own_law t law_then) m.held none_lacks p len ds place k near (sym (same place.log) ∙ member);
+      marked = λ p len ds place k near member. each_has t (own_law t law_then) m.collection none_lacks p len ds place k near (sym (same place.log) ∙ member);
     }
 
-    way_up : Reached m.core (advanced t m.held)
-    way_up = reached_more m.core t (advanced t m.held) way (subst (Reached t) (sym (round_is_event t m.held bits same)) (reached_one t (Advance bits) may tt tt))
+    way_up : Reached m.core (advanced t m.collection)
+    way_up = reached_more m.core t (advanced t m.collection) way (subst (Reached t) (sym (round_is_event t m.collection bits same)) (reached_one t (Advance bits) may tt tt))
 
     leads_up : Leads m rises
     leads_up = record {
       reached = way_up;
-      law = reached_law m.core (advanced t m.held) law way_up;
+      law = reached_law m.core (advanced t m.collection) law way_up;
       moment = record {
         order = λ l. moment.order l ∙ ap is_sealed (sym (same_kind l));
         order_once = moment.order_once;
         sealed = held_sealed;
-        held_once = moment.held_once;
+        collection_once = moment.collection_once;
         runs = moment.runs ∙ ap is_idle marks;
         round = λ _ l member. member;
         only = λ _ l member. member;
@@ -159,5 +159,5 @@ module _ (m : Moment) (n : ℕ) (law : Law m.core) (moment : MomentLaw m) (marks
     }
 
 pub marking : MarkingLeads
-marking m n law moment marks = cond_both (leaves_some m n) (record m { core = marked_core m n }) (record m { core = advanced (marked_core m n) m.held; phase = Waiting }) (Leads m)
+marking m n law moment marks = cond_both (leaves_some m n) (record m { core = marked_core m n }) (record m { core = advanced (marked_core m n) m.collection; phase = Waiting }) (Leads m)
     (λ _. leads_on m n law moment marks) (leads_up m n law moment marks)

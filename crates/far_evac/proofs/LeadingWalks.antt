@@ -45,7 +45,7 @@ use Rattle.far_evac.specs.Live.{is_empty, live_among, live_in}
 use Rattle.far_evac.specs.Moment.{Moment}
 use Rattle.far_evac.specs.MomentLaw.{MomentLaw, has_risen, is_idle}
 use Rattle.far_evac.specs.Owned.{KeepsObjects, WalkingKeepsObjects}
-use Rattle.far_evac.specs.Ready.{IsHeld, Ready}
+use Rattle.far_evac.specs.Ready.{IsOfRound, Ready}
 use Rattle.far_evac.specs.RoundSteps.{among}
 use Rattle.far_evac.specs.Walk.{Drops, Goes, Moves, Walked, Way, begun, ended, freed, hot_way, is_done, walked, way_of}
 use Rattle.far_evac.proofs.Fronts.{vacant_in}
@@ -85,7 +85,7 @@ pub record GoesOn (m : Moment) (s : State) (order : List ℕ) (phase : Phase) (h
   objects : KeepsObjects m.core s
 
 abbrev pub GoesOf : Moment → Walked → Type 0
-GoesOf m w = GoesOn m w.moment.core w.moment.order w.moment.phase w.moment.held
+GoesOf m w = GoesOn m w.moment.core w.moment.order w.moment.phase w.moment.collection
 
 -- ---- the log in front is given back
 module _ (m : Moment) (s : State) (order : List ℕ) (phase : Phase) (l : ℕ) (ls : List ℕ) (ready : Ready s (l ∷ ls)) (h : GoesOn m s order phase (l ∷ ls)) (none : is_empty (live_in s l) ≡ true) where
@@ -257,9 +257,9 @@ module _ (m : Moment) (P : Walked → Type 0) (keeps : KeepsLawfully P) where
         (goes_on m w.moment.core w.moment.order w.moment.phase l ls h.0 first.ready p way x, keeps.deals w l ls p way first.ready x h.1);
   }
 
-  pub lifted_lawfully : Law m.core → MomentLaw m → m.phase ≡ Evacuating → P (begun m) → (n : ℕ) → (k : ℕ) × (n ≤ length (live_among m.core m.held) → k ≡ n) × Stands m (λ k w. GoesOf m w × P w) k (walked m n)
+  pub lifted_lawfully : Law m.core → MomentLaw m → m.phase ≡ Evacuating → P (begun m) → (n : ℕ) → (k : ℕ) × (n ≤ length (live_among m.core m.collection) → k ≡ n) × Stands m (λ k w. GoesOf m w × P w) k (walked m n)
   lifted_lawfully law moment leaves h = lifted_walked m (λ k w. GoesOf m w × P w) keeps_on (risen_is_ready m (own_law m.core law) moment (ap has_risen leaves)) (begun_on, h) where
-    begun_on : GoesOn m m.core m.order m.phase m.held
+    begun_on : GoesOn m m.core m.order m.phase m.collection
     begun_on = record {
       reached = reached_none m.core;
       law = law;
@@ -271,14 +271,14 @@ module _ (m : Moment) (P : Walked → Type 0) (keeps : KeepsLawfully P) where
       objects = objects_none m.core;
     }
 
-walks_on : (m : Moment) (n : ℕ) → Law m.core → MomentLaw m → m.phase ≡ Evacuating → Ready (walked m n).moment.core (walked m n).moment.held × GoesOf m (walked m n)
+walks_on : (m : Moment) (n : ℕ) → Law m.core → MomentLaw m → m.phase ≡ Evacuating → Ready (walked m n).moment.core (walked m n).moment.collection × GoesOf m (walked m n)
 walks_on m n law moment leaves =
     let h = (lifted_lawfully m (λ w. Unit {0}) record { gives = λ w l ls h. tt; deals = λ w l ls p way ready x h. tt } law moment leaves tt n).2 in (h.ready, h.keeps.0)
 
 -- ---- what a call leaves
-module _ (m : Moment) (w : Walked) (ready : Ready w.moment.core w.moment.held) (h : GoesOf m w) where
-  held_sealed : (l : ℕ) → among w.moment.held l ≡ true → w.moment.core.kind l ≡ kinds.Sealed
-  held_sealed l member = (of_among (IsHeld w.moment.core) w.moment.held ready.logs l member).0
+module _ (m : Moment) (w : Walked) (ready : Ready w.moment.core w.moment.collection) (h : GoesOf m w) where
+  held_sealed : (l : ℕ) → among w.moment.collection l ≡ true → w.moment.core.kind l ≡ kinds.Sealed
+  held_sealed l member = (of_among (IsOfRound w.moment.core) w.moment.collection ready.logs l member).0
 
   midst_leads : is_done w ≡ false → Leads m w.moment
   midst_leads some = record {
@@ -288,9 +288,9 @@ module _ (m : Moment) (w : Walked) (ready : Ready w.moment.core w.moment.held) (
       order = h.has_sealed;
       order_once = h.once;
       sealed = held_sealed;
-      held_once = ready.once;
+      collection_once = ready.once;
       runs = some ∙ sym (ap is_idle h.leaves);
-      round = λ _ l member. (of_among (IsHeld w.moment.core) w.moment.held ready.logs l member).2;
+      round = λ _ l member. (of_among (IsOfRound w.moment.core) w.moment.collection ready.logs l member).2;
       only = λ _. h.only;
       clear = λ _. h.clear;
       later = λ marks. absurd (false≢true (sym (ap has_risen marks) ∙ ap has_risen h.leaves));
@@ -305,9 +305,9 @@ module _ (m : Moment) (w : Walked) (ready : Ready w.moment.core w.moment.held) (
       order = h.has_sealed;
       order_once = h.once;
       sealed = held_sealed;
-      held_once = ready.once;
+      collection_once = ready.once;
       runs = done;
-      round = λ _ l member. (of_among (IsHeld w.moment.core) w.moment.held ready.logs l member).2;
+      round = λ _ l member. (of_among (IsOfRound w.moment.core) w.moment.collection ready.logs l member).2;
       only = λ _. h.only;
       clear = λ leaves. absurd cc;
       later = λ marks. absurd cc;
@@ -325,8 +325,8 @@ walking m n law moment leaves =
 pub walking_law : (m : Moment) (n : ℕ) → Law m.core → MomentLaw m → m.phase ≡ Evacuating → Law (walked m n).moment.core
 walking_law m n law moment leaves = (walks_on m n law moment leaves).1.law
 
--- once the epoch has risen no other log than those held is in the round; so it is to the end
-pub walking_only : (m : Moment) (n : ℕ) → Law m.core → MomentLaw m → m.phase ≡ Evacuating → (l : ℕ) → (walked m n).moment.core.round l ≡ true → among (walked m n).moment.held l ≡ true
+-- once the epoch has risen no log outside the collection set is in the round; so it is to the end
+pub walking_only : (m : Moment) (n : ℕ) → Law m.core → MomentLaw m → m.phase ≡ Evacuating → (l : ℕ) → (walked m n).moment.core.round l ≡ true → among (walked m n).moment.collection l ≡ true
 walking_only m n law moment leaves = (walks_on m n law moment leaves).1.only
 
 -- ---- what owners have

@@ -73,7 +73,7 @@ module _ (m : Moment) where
   abbrev state : ℕ → LogState
   state l = record { kind = kind_in m l; row = row_of m.core l }
 
-  named : (l : ℕ) (kind : Kind) (held : Bool) → m.core.kind l ≡ kind → among m.held l ≡ held → IsNamed m l (kind_named held kind)
+  named : (l : ℕ) (kind : Kind) (held : Bool) → m.core.kind l ≡ kind → among m.collection l ≡ held → IsNamed m l (kind_named held kind)
   named l kinds.Free held e h = e
   named l kinds.Open held e h = e
   named l kinds.Sealed true e h = (e, h)
@@ -85,7 +85,7 @@ module _ (m : Moment) where
 
   told : (ls : List ℕ) → AllByRecursion (TellsState m) (map state ls)
   told [] = tt
-  told (l ∷ ls) = (record { kind = named l (m.core.kind l) (among m.held l) refl refl; live = refl; dead = refl; unused = refl }, told ls)
+  told (l ∷ ls) = (record { kind = named l (m.core.kind l) (among m.collection l) refl refl; live = refl; dead = refl; unused = refl }, told ls)
 
 pub census_lists : CensusListsEach
 census_lists m law = record {

@@ -24,7 +24,7 @@ use Rattle.far_evac.specs.Marking.{after_marking, leaves_some, marked_core, newl
 use Rattle.far_evac.specs.Moment.{Moment}
 use Rattle.far_evac.specs.MomentLaw.{is_idle}
 use Rattle.far_evac.specs.RoundSteps.{advanced, among}
-use Rattle.far_evac.specs.Standing.{InRound, held_in}
+use Rattle.far_evac.specs.Standing.{InRound, collection_in}
 use Rattle.far_evac.proofs.Changing.{advanced_known}
 use Rattle.far_evac.proofs.SmallSteps.{drop_next}
 use Rattle.far_evac.proofs.Hands.{knows_forgotten, knows_more}
@@ -61,14 +61,14 @@ moment_more a b c f g = record {
 
 -- ---- whether one is left
 module _ (s t : State) (r next : Round) (in_round : InRound t next) (marks : r.phase ≡ Marking) (round : next ≡ record r { index = next.index; at = next.at }) (known : Knows s t) (law : Law (own_part t)) where
-  pub left_shown : (o : Option Span) → IfSome o (λ (span : Span). StandsAt t next span) → IfNone o (next.index ≡ length r.chosen) → is_some o ≡ not (is_empty (lacking s (held_in r)))
+  pub left_shown : (o : Option Span) → IfSome o (λ (span : Span). StandsAt t next span) → IfNone o (next.index ≡ length r.chosen) → is_some o ≡ not (is_empty (lacking s (collection_in r)))
   left_shown (Some span) stands end = some_shown s t r next in_round marks round known law span stands
   left_shown None stands end = none_shown s t r next in_round marks round known end
 
 -- ---- one more
-module _ (m : Moment) (once : IsDistinct eqb m.held) (fits : (q : ℕ) → m.core.cell q < 2 ^ 64) where
+module _ (m : Moment) (once : IsDistinct eqb m.collection) (fits : (q : ℕ) → m.core.cell q < 2 ^ 64) where
   abbrev all : List ℕ
-  all = lacking m.core m.held
+  all = lacking m.core m.collection
 
   abbrev after_steps : ℕ → Moment
   after_steps k = record m { core = marked_core m k }
@@ -77,31 +77,31 @@ module _ (m : Moment) (once : IsDistinct eqb m.held) (fits : (q : ℕ) → m.cor
   one_more k = omega arith
 
   module _ (k : ℕ) (a : Moment) (known : KnowsMoment (after_steps k) a) where
-    pub same_held : a.held ≡ m.held
-    same_held = ap (λ (x : Moment). x.held) known.rest
+    pub same_held : a.collection ≡ m.collection
+    same_held = ap (λ (x : Moment). x.collection) known.rest
 
-    pub left_here : lacking a.core a.held ≡ drop k all
-    left_here = ap (lacking a.core) same_held ∙ lacking_known (marked_core m k) a.core known.core m.held ∙ left_to m.held once m.core fits k
+    pub left_here : lacking a.core a.collection ≡ drop k all
+    left_here = ap (lacking a.core) same_held ∙ lacking_known (marked_core m k) a.core known.core m.collection ∙ left_to m.collection once m.core fits k
 
-    pub over_here : false ≡ not (is_empty (lacking a.core a.held)) → drop k all ≡ []
-    over_here none = sym left_here ∙ empty_is (lacking a.core a.held) none
+    pub over_here : false ≡ not (is_empty (lacking a.core a.collection)) → drop k all ≡ []
+    over_here none = sym left_here ∙ empty_is (lacking a.core a.collection) none
 
-    pub more_here : true ≡ not (is_empty (lacking a.core a.held)) → k + 1 ≤ length all
-    more_here some = more_left k all (lacking a.core a.held) (sym left_here) some
+    pub more_here : true ≡ not (is_empty (lacking a.core a.collection)) → k + 1 ≤ length all
+    more_here some = more_left k all (lacking a.core a.collection) (sym left_here) some
 
     abbrev step : Moment
-    step = record a { core = first_marked a.core (lacking a.core a.held) }
+    step = record a { core = first_marked a.core (lacking a.core a.collection) }
 
     pub run_known : ((q : ℕ) → a.core.cell q < 2 ^ 64) → (b : Moment) → KnowsMoment step b → KnowsMoment (after_steps (k + 1)) b
     run_known here b then = subst (λ n. KnowsMoment (after_steps n) b) (one_more k) record {
-      core = next_known m.held once m.core fits k a.core known.core here b.core (subst (λ held. Knows (first_marked a.core (lacking a.core held)) b.core) same_held then.core);
+      core = next_known m.collection once m.core fits k a.core known.core here b.core (subst (λ held. Knows (first_marked a.core (lacking a.core held)) b.core) same_held then.core);
       rest = then.rest ∙ ap (λ (x : Moment). record x { core = b.core }) known.rest;
     }
 
     pub run_exact : (b : Moment) → a ≡ after_steps k → b ≡ step → b ≡ after_steps (k + 1)
     run_exact b is then =
-        then ∙ ap (λ (x : Moment). record x { core = first_marked x.core (lacking x.core x.held) }) is
-        ∙ ap (λ (core : State). record m { core = core }) (next_marked m.held once m.core fits k) ∙ ap after_steps (one_more k)
+        then ∙ ap (λ (x : Moment). record x { core = first_marked x.core (lacking x.core x.collection) }) is
+        ∙ ap (λ (core : State). record m { core = core }) (next_marked m.collection once m.core fits k) ∙ ap after_steps (one_more k)
 
   -- where none is left, more steps change nothing
   module _ (k n : ℕ) (none : drop k all ≡ []) (lt : k < n) where
@@ -122,14 +122,14 @@ module _ (m : Moment) (once : IsDistinct eqb m.held) (fits : (q : ℕ) → m.cor
 
   -- ---- the end of a call
   module _ (n : ℕ) (a b : Moment) (known : KnowsMoment (after_steps n) a) (then : KnowsMoment a b) where
-    some_more : true ≡ not (is_empty (lacking a.core a.held)) → leaves_some m n ≡ true
+    some_more : true ≡ not (is_empty (lacking a.core a.collection)) → leaves_some m n ≡ true
     some_more some = let le = more_here n a known some in grind (arith, nat_tests, le)
 
-    none_more : false ≡ not (is_empty (lacking a.core a.held)) → leaves_some m n ≡ false
+    none_more : false ≡ not (is_empty (lacking a.core a.collection)) → leaves_some m n ≡ false
     none_more none = let le = drop_none n all (over_here n a known none) in grind (arith, nat_tests, le)
 
     abbrev waits : Moment
-    waits = record m { core = advanced (marked_core m n) m.held; phase = Waiting }
+    waits = record m { core = advanced (marked_core m n) m.collection; phase = Waiting }
 
     marks_on : leaves_some m n ≡ true → after_marking m n ≡ after_steps n
     marks_on e = ap (λ b. cond b (after_steps n) waits) e
@@ -137,25 +137,25 @@ module _ (m : Moment) (once : IsDistinct eqb m.held) (fits : (q : ℕ) → m.cor
     marks_all : leaves_some m n ≡ false → after_marking m n ≡ waits
     marks_all e = ap (λ b. cond b (after_steps n) waits) e
 
-    pub marks_some : true ≡ not (is_empty (lacking a.core a.held)) → (count : ℕ) → count ≡ length (newly_marked m n) → MarksSome m b n count None
+    pub marks_some : true ≡ not (is_empty (lacking a.core a.collection)) → (count : ℕ) → count ≡ length (newly_marked m n) → MarksSome m b n count None
     marks_some some count is = record {
       leaves = subst (λ x. KnowsMoment x b) (sym (marks_on (some_more some))) (moment_more (after_steps n) a b known then);
       counted = is;
       epoch = sym (ap (λ b. cond b None (Some (m.core.epoch + 1))) (some_more some));
     }
 
-    pub marks_some_exactly : true ≡ not (is_empty (lacking a.core a.held)) → a ≡ after_steps n → b ≡ a → b ≡ after_marking m n
+    pub marks_some_exactly : true ≡ not (is_empty (lacking a.core a.collection)) → a ≡ after_steps n → b ≡ a → b ≡ after_marking m n
     marks_some_exactly some is same = same ∙ is ∙ sym (marks_on (some_more some))
 
-    pub none_then : false ≡ not (is_empty (lacking a.core a.held)) → lacking b.core b.held ≡ []
+    pub none_then : false ≡ not (is_empty (lacking a.core a.collection)) → lacking b.core b.collection ≡ []
     none_then none =
-        ap (lacking b.core) (ap (λ (x : Moment). x.held) then.rest) ∙ lacking_known a.core b.core then.core a.held ∙ empty_is (lacking a.core a.held) none
+        ap (lacking b.core) (ap (λ (x : Moment). x.collection) then.rest) ∙ lacking_known a.core b.core then.core a.collection ∙ empty_is (lacking a.core a.collection) none
 
     both : KnowsMoment (after_steps n) b
     both = moment_more (after_steps n) a b known then
 
     abbrev rises : Moment
-    rises = record b { core = advanced b.core b.held; phase = Waiting }
+    rises = record b { core = advanced b.core b.collection; phase = Waiting }
 
     fold_epoch : (ps : List ℕ) (s : State) → (fold marked s ps).epoch ≡ s.epoch
     fold_epoch [] s = refl
@@ -164,20 +164,20 @@ module _ (m : Moment) (once : IsDistinct eqb m.held) (fits : (q : ℕ) → m.cor
     same_epoch : b.core.epoch ≡ m.core.epoch
     same_epoch = ap (λ (u : State). u.epoch) both.core.rest ∙ fold_epoch (newly_marked m n) m.core
 
-    pub marks_every : false ≡ not (is_empty (lacking a.core a.held)) → (c : Moment) → KnowsMoment rises c → (count epoch : ℕ) → count ≡ length (newly_marked m n) → epoch ≡ b.core.epoch + 1 → MarksSome m c n count (Some epoch)
+    pub marks_every : false ≡ not (is_empty (lacking a.core a.collection)) → (c : Moment) → KnowsMoment rises c → (count epoch : ℕ) → count ≡ length (newly_marked m n) → epoch ≡ b.core.epoch + 1 → MarksSome m c n count (Some epoch)
     marks_every none c last count epoch is rose = record {
       leaves = subst (λ x. KnowsMoment x c) (sym (marks_all (none_more none))) record {
-        core = knows_more (advanced (marked_core m n) m.held) (advanced b.core m.held) c.core (advanced_known (marked_core m n) b.core m.held both.core)
-            (subst (λ held. Knows (advanced b.core held) c.core) (ap (λ (x : Moment). x.held) both.rest) last.core);
+        core = knows_more (advanced (marked_core m n) m.collection) (advanced b.core m.collection) c.core (advanced_known (marked_core m n) b.core m.collection both.core)
+            (subst (λ held. Knows (advanced b.core held) c.core) (ap (λ (x : Moment). x.collection) both.rest) last.core);
         rest = last.rest ∙ ap (λ (x : Moment). record x { core = c.core; phase = Waiting }) both.rest;
       };
       counted = is;
       epoch = ap Some (rose ∙ ap (λ e. e + 1) same_epoch) ∙ sym (ap (λ b. cond b None (Some (m.core.epoch + 1))) (none_more none));
     }
 
-    pub marks_every_exactly : false ≡ not (is_empty (lacking a.core a.held)) → (c : Moment) → a ≡ after_steps n → b ≡ a → c ≡ rises → c ≡ after_marking m n
+    pub marks_every_exactly : false ≡ not (is_empty (lacking a.core a.collection)) → (c : Moment) → a ≡ after_steps n → b ≡ a → c ≡ rises → c ≡ after_marking m n
     marks_every_exactly none c is same last =
-        last ∙ ap (λ (x : Moment). record x { core = advanced x.core x.held; phase = Waiting }) (same ∙ is) ∙ sym (marks_all (none_more none))
+        last ∙ ap (λ (x : Moment). record x { core = advanced x.core x.collection; phase = Waiting }) (same ∙ is) ∙ sym (marks_all (none_more none))
 
 -- ---- the epoch rises
 not_back : Waiting ≢ Marking
@@ -187,10 +187,10 @@ not_far : Waiting ≢ Evacuating
 not_far e = absurd cc
 
 module _ (s : State) (r : Round) (in_round : InRound s r) (marks : r.phase ≡ Marking) (bits : ℕ) (same : (l : ℕ) → is_among bits l ≡ among r.chosen l) where
-  held_are : held_in r ≡ r.chosen
+  held_are : collection_in r ≡ r.chosen
   held_are = held_marking r.phase r.chosen r.index marks
 
-  pub may_choose : Law (own_part s) → lacking s (held_in r) ≡ [] → MayChoose s bits
+  pub may_choose : Law (own_part s) → lacking s (collection_in r) ≡ [] → MayChoose s bits
   may_choose law none = record {
     shut = λ l h. let sealed = chosen_sealed s r in_round marks l (sym (same l) ∙ h) in (sealed_inside s law l sealed, sealed);
     marked = λ p len ds place m near h. each_has s law r.chosen (ap (lacking s) (sym held_are) ∙ none) p len ds place m near (sym (same place.log) ∙ h);
@@ -222,12 +222,12 @@ module _ (s : State) (r : Round) (in_round : InRound s r) (marks : r.phase ≡ M
       };
     }
 
-    pub rises_known : Forgets s t → Knows (advanced s (held_in r)) t
+    pub rises_known : Forgets s t → Knows (advanced s (collection_in r)) t
     rises_known forgot = subst (λ held. Knows (advanced s held) t) (sym held_are)
         (knows_forgotten (advanced s r.chosen) t rises_so record { known = forgot.known; headers = forgot.headers } law)
 
-  pub rises_exactly : (t : State) → t ≡ after s (Advance bits) → t ≡ advanced s (held_in r)
+  pub rises_exactly : (t : State) → t ≡ after s (Advance bits) → t ≡ advanced s (collection_in r)
   rises_exactly t is = is ∙ sym (round_is_event s r.chosen bits same) ∙ ap (advanced s) (sym held_are)
 
-  pub waiting_held : r.chosen ≡ held_in r
+  pub waiting_held : r.chosen ≡ collection_in r
   waiting_held = sym held_are

@@ -27,7 +27,7 @@ use Rattle.far_evac.specs.AnyHand.{Knows, KnowsMoment}
 use Rattle.far_evac.specs.Cursor.{StandsAt, first_marked}
 use Rattle.far_evac.specs.Live.{is_empty, lacking}
 use Rattle.far_evac.specs.Moment.{Moment}
-use Rattle.far_evac.specs.Standing.{InRound, MarkedBefore, held_in}
+use Rattle.far_evac.specs.Standing.{InRound, MarkedBefore, collection_in}
 use Rattle.far_evac.proofs.Changing.{mark_leaves, marked_known}
 use Rattle.far_evac.proofs.Hands.{knows_more}
 use Rattle.far_evac.proofs.Keeping.{dropped_among}
@@ -37,11 +37,11 @@ use Rattle.far_evac.proofs.Onward.{all_marked, chosen_sealed, front_inside, held
 
 -- ---- moments
 pub moment_so : (core : State) (order then : List ℕ) (phase later : Phase) (held left : List ℕ) → then ≡ order → later ≡ phase → left ≡ held →
-    let m : Moment = record { core = core; order = then; phase = later; held = left } in m ≡ record { core = core; order = order; phase = phase; held = held }
-moment_so core order then phase later held left a b c = λ i. record { core = core; order = a i; phase = b i; held = c i }
+    let m : Moment = record { core = core; order = then; phase = later; collection = left } in m ≡ record { core = core; order = order; phase = phase; collection = held }
+moment_so core order then phase later held left a b c = λ i. record { core = core; order = a i; phase = b i; collection = c i }
 
 pub knows_so : (s t : State) (order then : List ℕ) (phase later : Phase) (held left : List ℕ) → Knows s t → then ≡ order → later ≡ phase → left ≡ held →
-    KnowsMoment (record { core = s; order = order; phase = phase; held = held }) (record { core = t; order = then; phase = later; held = left })
+    KnowsMoment (record { core = s; order = order; phase = phase; collection = held }) (record { core = t; order = then; phase = later; collection = left })
 knows_so s t order then phase later held left known a b c = record { core = known; rest = moment_so t order then phase later held left a b c }
 
 -- ---- the round has gone on
@@ -55,32 +55,32 @@ module _ (s t : State) (r next : Round) (in_round : InRound t next) (marks : r.p
   next_chosen : next.chosen ≡ r.chosen
   next_chosen = ap (λ (x : Round). x.chosen) round
 
-  held_chosen : held_in r ≡ next.chosen
+  held_chosen : collection_in r ≡ next.chosen
   held_chosen = held_marking r.phase r.chosen r.index marks ∙ sym next_chosen
 
-  pub next_held : held_in next ≡ held_in r
+  pub next_held : collection_in next ≡ collection_in r
   next_held = held_marking next.phase next.chosen next.index next_marks ∙ sym held_chosen
 
-  lacking_same : lacking s (held_in r) ≡ lacking t next.chosen
-  lacking_same = sym (lacking_known s t known (held_in r)) ∙ ap (lacking t) held_chosen
+  lacking_same : lacking s (collection_in r) ≡ lacking t next.chosen
+  lacking_same = sym (lacking_known s t known (collection_in r)) ∙ ap (lacking t) held_chosen
 
-  pub none_left : next.index ≡ length r.chosen → lacking s (held_in r) ≡ []
+  pub none_left : next.index ≡ length r.chosen → lacking s (collection_in r) ≡ []
   none_left e = lacking_same ∙ none_lack t next.chosen (all_marked t next in_round next_marks (e ∙ ap length (sym next_chosen)))
 
-  pub some_left : Law (own_part t) → (span : Span) → StandsAt t next span → (rest : List ℕ) × (lacking s (held_in r) ≡ span.p ∷ rest)
+  pub some_left : Law (own_part t) → (span : Span) → StandsAt t next span → (rest : List ℕ) × (lacking s (collection_in r) ≡ span.p ∷ rest)
   some_left law span stands = let first = first_lacks t law next span (in_round.stands.marked next_marks) stands in (first.0, lacking_same ∙ first.1)
 
   -- whether one is left
-  pub none_shown : next.index ≡ length r.chosen → false ≡ not (is_empty (lacking s (held_in r)))
+  pub none_shown : next.index ≡ length r.chosen → false ≡ not (is_empty (lacking s (collection_in r)))
   none_shown e = sym (ap (λ xs. not (is_empty xs)) (none_left e))
 
-  pub some_shown : Law (own_part t) → (span : Span) → StandsAt t next span → true ≡ not (is_empty (lacking s (held_in r)))
+  pub some_shown : Law (own_part t) → (span : Span) → StandsAt t next span → true ≡ not (is_empty (lacking s (collection_in r)))
   some_shown law span stands = sym (ap (λ xs. not (is_empty xs)) (some_left law span stands).1)
 
-  pub none_known : next.index ≡ length r.chosen → Knows (first_marked s (lacking s (held_in r))) t
+  pub none_known : next.index ≡ length r.chosen → Knows (first_marked s (lacking s (collection_in r))) t
   none_known e = subst (λ xs. Knows (first_marked s xs) t) (sym (none_left e)) known
 
-  pub none_same : next.index ≡ length r.chosen → t ≡ s → t ≡ first_marked s (lacking s (held_in r))
+  pub none_same : next.index ≡ length r.chosen → t ≡ s → t ≡ first_marked s (lacking s (collection_in r))
   none_same e same = same ∙ sym (ap (first_marked s) (none_left e))
 
   pub may_mark : Law (own_part t) → (span : Span) → StandsAt t next span → Legal t (Mark span.p)
@@ -100,14 +100,14 @@ module _ (s t : State) (r next : Round) (in_round : InRound t next) (marks : r.p
     near_there : IsNearWord (t.cell p)
     near_there = ((then.cells.cell_read p).0, (span.len, span.ds, record { log = stands.log; at = span.at }, stands.next.lies.marks, stands.next.lies.near))
 
-    pub marks_known : Knows (first_marked s (lacking s (held_in r))) u
+    pub marks_known : Knows (first_marked s (lacking s (collection_in r))) u
     marks_known =
         let first = some_left then span stands in
-        let near = first_near s (λ q. (law.cells.cell_read q).0) (held_in r) p first.0 first.1 in
+        let near = first_near s (λ q. (law.cells.cell_read q).0) (collection_in r) p first.0 first.1 in
         subst (λ xs. Knows (first_marked s xs) u) (sym first.1)
         (knows_more (marked s p) (marked t p) u (marked_known s t known p near (then.cells.cell_read p).0) (mark_leaves t u p word near_there finds fits is))
 
-    pub marks_exactly : t ≡ s → u ≡ marked t p → u ≡ first_marked s (lacking s (held_in r))
+    pub marks_exactly : t ≡ s → u ≡ marked t p → u ≡ first_marked s (lacking s (collection_in r))
     marks_exactly same done = done ∙ ap (λ (v : State). marked v p) same ∙ sym (ap (first_marked s) (some_left then span stands).1)
 
     -- an object that lies near then lay there before, and has EVAC where it had it

@@ -187,20 +187,20 @@ beside_marks m t = record m { core = record m.core { cell = t.core.cell; epoch =
 pub marking_frame : (m : Moment) (n : ℕ) → after_marking m n ≡ beside_marks m (after_marking m n)
 marking_frame m n =
     let cells = marks_cells (newly_marked m n) m.core in
-    cond_both (leaves_some m n) (record m { core = marked_core m n }) (record m { core = advanced (marked_core m n) m.held; phase = Waiting }) (λ (t : Moment). t ≡ beside_marks m t)
+    cond_both (leaves_some m n) (record m { core = marked_core m n }) (record m { core = advanced (marked_core m n) m.collection; phase = Waiting }) (λ (t : Moment). t ≡ beside_marks m t)
     (λ _. let is = ap (λ (s : State). record m { core = s }) cells in is ∙ sym (ap (beside_marks m) is))
-    (λ _. let is = ap (λ (s : State). record m { core = advanced s m.held; phase = Waiting }) cells in is ∙ sym (ap (beside_marks m) is))
+    (λ _. let is = ap (λ (s : State). record m { core = advanced s m.collection; phase = Waiting }) cells in is ∙ sym (ap (beside_marks m) is))
 
 module _ (m : Moment) (n : ℕ) (fits : (p : ℕ) → m.core.cell p < 2 ^ 64) where
   marking_cell : (after_marking m n).core.cell ≡ (marked_core m n).cell
-  marking_cell = cond_both (leaves_some m n) (record m { core = marked_core m n }) (record m { core = advanced (marked_core m n) m.held; phase = Waiting })
+  marking_cell = cond_both (leaves_some m n) (record m { core = marked_core m n }) (record m { core = advanced (marked_core m n) m.collection; phase = Waiting })
       (λ (t : Moment). t.core.cell ≡ (marked_core m n).cell) (λ _. refl) (λ _. refl)
 
-  lacking_near : AllByRecursion (λ p. IsNearWord (m.core.cell p)) (lacking m.core m.held)
-  lacking_near = all_filter (λ p. IsNearWord (m.core.cell p)) (λ p. not (has_evac (read_of (m.core.cell p)))) (live_among m.core m.held) (live_near m.core fits m.held)
+  lacking_near : AllByRecursion (λ p. IsNearWord (m.core.cell p)) (lacking m.core m.collection)
+  lacking_near = all_filter (λ p. IsNearWord (m.core.cell p)) (λ p. not (has_evac (read_of (m.core.cell p)))) (live_among m.core m.collection) (live_near m.core fits m.collection)
 
   new_near : AllByRecursion (λ p. IsNearWord (m.core.cell p)) (newly_marked m n)
-  new_near = all_take (λ p. IsNearWord (m.core.cell p)) n (lacking m.core m.held) lacking_near
+  new_near = all_take (λ p. IsNearWord (m.core.cell p)) n (lacking m.core m.collection) lacking_near
 
   marking_like : (p : ℕ) → Like true (m.core.cell p) ((marked_core m n).cell p)
   marking_like = all_like true marked (λ w. bit_or w (2 ^ position Evac)) (λ s p. refl) mark_sets (newly_marked m n) m.core new_near
@@ -208,17 +208,17 @@ module _ (m : Moment) (n : ℕ) (fits : (p : ℕ) → m.core.cell p < 2 ^ 64) wh
   marking_set : AllByRecursion (λ p. has_evac (read_of ((marked_core m n).cell p)) ≡ true) (newly_marked m n)
   marking_set = all_set true marked (λ w. bit_or w (2 ^ position Evac)) (λ s p. refl) mark_sets (newly_marked m n) m.core new_near
 
-  marking_all : leaves_some m n ≡ false → AllByRecursion (λ p. has_evac (read_of ((marked_core m n).cell p)) ≡ true) (live_among m.core m.held)
+  marking_all : leaves_some m n ≡ false → AllByRecursion (λ p. has_evac (read_of ((marked_core m n).cell p)) ≡ true) (live_among m.core m.collection)
   marking_all none =
-      let few : length (lacking m.core m.held) ≤ n = grind (arith, nat_tests, none) in
-      all_joined (λ p. has_evac (read_of ((marked_core m n).cell p)) ≡ true) (λ p. has_evac (read_of (m.core.cell p))) (live_among m.core m.held)
-      (subst (AllByRecursion (λ p. has_evac (read_of ((marked_core m n).cell p)) ≡ true)) (take_all n (lacking m.core m.held) few) marking_set)
+      let few : length (lacking m.core m.collection) ≤ n = grind (arith, nat_tests, none) in
+      all_joined (λ p. has_evac (read_of ((marked_core m n).cell p)) ≡ true) (λ p. has_evac (read_of (m.core.cell p))) (live_among m.core m.collection)
+      (subst (AllByRecursion (λ p. has_evac (read_of ((marked_core m n).cell p)) ≡ true)) (take_all n (lacking m.core m.collection) few) marking_set)
       (λ p has. (marking_like p).still has)
 
   pub is_marked : IsMarked m (after_marking m n) n
   is_marked = record {
     now = subst (λ cell. AllByRecursion (λ p. has_evac (read_of (cell p)) ≡ true) (newly_marked m n)) (sym marking_cell) marking_set;
-    all = λ none. subst (λ cell. AllByRecursion (λ p. has_evac (read_of (cell p)) ≡ true) (live_among m.core m.held)) (sym marking_cell) (marking_all none);
+    all = λ none. subst (λ cell. AllByRecursion (λ p. has_evac (read_of (cell p)) ≡ true) (live_among m.core m.collection)) (sym marking_cell) (marking_all none);
     same = λ p. ap (λ cell. but_evac (read_of (cell p))) marking_cell ∙ (marking_like p).same;
     others = λ p apart. ap (λ cell. cell p) marking_cell
         ∙ others_stay true marked (λ w. bit_or w (2 ^ position Evac)) (λ s q. refl) mark_sets (newly_marked m n) m.core p apart;
@@ -284,12 +284,12 @@ any_among s l (k ∷ ks) =
       here_or_there true e = ap (λ j. not (is_empty (live_in s j)) || (among ks l && not (is_empty (live_in s l)))) (sym (eqb-true l k e)) ∙ absorbs (not (is_empty (live_in s l))) (among ks l)
       here_or_there false e = refl
 
-round_given_up : (m : Moment) → AllByRecursion (λ p. IsNearWord (m.core.cell p)) (live_among m.core m.held) → (l : ℕ) →
-    (after_aborting m).core.round l ≡ cond (among m.held l) (m.core.round l && is_empty (live_in m.core l)) (m.core.round l)
+round_given_up : (m : Moment) → AllByRecursion (λ p. IsNearWord (m.core.cell p)) (live_among m.core m.collection) → (l : ℕ) →
+    (after_aborting m).core.round l ≡ cond (among m.collection l) (m.core.round l && is_empty (live_in m.core l)) (m.core.round l)
 round_given_up m near l =
-    round_cleared (live_among m.core m.held) m.core l near
-    ∙ ap (λ b. m.core.round l && not b) (any_among m.core l m.held)
-    ∙ by_held (m.core.round l) (among m.held l) (is_empty (live_in m.core l))
+    round_cleared (live_among m.core m.collection) m.core l near
+    ∙ ap (λ b. m.core.round l && not b) (any_among m.core l m.collection)
+    ∙ by_held (m.core.round l) (among m.collection l) (is_empty (live_in m.core l))
 
 pub clears_cells : (ps : List ℕ) (s : State) → fold unmarked s ps ≡ record s { cell = (fold unmarked s ps).cell; round = (fold unmarked s ps).round }
 clears_cells [] s = refl
@@ -298,12 +298,12 @@ clears_cells (p ∷ ps) s = clears_cells ps (unmarked s p)
 -- ---- giving up
 pub is_given_up : (m : Moment) → ((p : ℕ) → m.core.cell p < 2 ^ 64) → IsGivenUp m (after_aborting m)
 is_given_up m fits =
-    let ps = live_among m.core m.held in
-    let near = live_near m.core fits m.held in
+    let ps = live_among m.core m.collection in
+    let near = live_near m.core fits m.collection in
     record {
       bare = all_set false unmarked evac_cleared (λ s p. refl) clear_sets ps m.core near;
       same = λ p. (all_like false unmarked evac_cleared (λ s q. refl) clear_sets ps m.core near p).same;
       others = λ p apart. others_stay false unmarked evac_cleared (λ s q. refl) clear_sets ps m.core p apart;
       round = round_given_up m near;
-      rest = ap (λ (s : State). record m { core = s; phase = Idle; held = [] }) (clears_cells ps m.core);
+      rest = ap (λ (s : State). record m { core = s; phase = Idle; collection = [] }) (clears_cells ps m.core);
     }

@@ -8,7 +8,7 @@ use Rattle.far_word.specs.declared.scope.ScopeWord.TheVariants as scoped
 use Rattle.far_word.specs.declared.sizes.TheConstants.{EPOCH_END}
 use Rattle.far_word.specs.Scope.{scope_of}
 use Rattle.far_core.specs.state.State.{State}
-use Rattle.far_evac.specs.Laws.{HoldsUpNone, IsTold, WaitIsNamed}
+use Rattle.far_evac.specs.Laws.{HoldsUpNone, TellsWhoIsOpen, WaitIsNamed}
 use Rattle.far_evac.specs.RoundSteps.{is_clear_now}
 use Rattle.far_evac.specs.Waiting.{first_open, holds_up, polled_at}
 use Rattle.far_evac.proofs.Readiness.{clear_one}
@@ -56,7 +56,7 @@ module _ (s : State) (layout : (k : ℕ) → IsSome (scope_of (s.scope k))) wher
   held_up_none : (k : ℕ) → holds_up s k ≡ false → HoldsUpNone s k
   held_up_none k h = by_cases k (s.clear k) (is_clear_now s k) refl refl (clear_one (s.clear k) (is_clear_now s k) h)
 
-  told_at : (o : Option ℕ) → first_open s ≡ o → IsTold s (polled_at s o)
+  told_at : (o : Option ℕ) → first_open s ≡ o → TellsWhoIsOpen s (polled_at s o)
   told_at None e = λ k lt. held_up_none k (none_found (holds_up s) k 0 s.mutators e (omega arith) (omega (arith, lt)))
   told_at (Some k) e =
       let found = found_in (holds_up s) k 0 s.mutators e in

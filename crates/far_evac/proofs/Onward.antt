@@ -14,7 +14,7 @@ use Rattle.far_evac.specs.declared.round.Round.{Round}
 use Rattle.far_evac.specs.MomentLaw.{is_idle}
 use Rattle.far_evac.specs.Ready.{AllMarked}
 use Rattle.far_evac.specs.RoundSteps.{among}
-use Rattle.far_evac.specs.Standing.{Holds, InRound, MarkedAmong, MarkedBefore, held_of}
+use Rattle.far_evac.specs.Standing.{Holds, InRound, MarkedAmong, MarkedBefore, collection_of}
 use Rattle.far_evac.proofs.SmallSteps.{drop_next}
 use Rattle.far_evac.proofs.Keeping.{dropped_among}
 use Rattle.far_evac.proofs.Bools.{or_right}
@@ -27,8 +27,8 @@ not_leaving e = absurd cc
 pub not_waiting : Marking ≢ Waiting
 not_waiting e = absurd cc
 
-pub held_marking : (phase : Phase) (chosen : List ℕ) (i : ℕ) → phase ≡ Marking → held_of phase chosen i ≡ chosen
-held_marking phase chosen i e = ap (λ (ph : Phase). held_of ph chosen i) e
+pub held_marking : (phase : Phase) (chosen : List ℕ) (i : ℕ) → phase ≡ Marking → collection_of phase chosen i ≡ chosen
+held_marking phase chosen i e = ap (λ (ph : Phase). collection_of ph chosen i) e
 
 head_of : (l k : ℕ) (ls ks xs : List ℕ) → xs ≡ l ∷ ls → xs ≡ k ∷ ks → l ≡ k
 head_of l k ls ks xs e f = let both : l ∷ ls ≡ k ∷ ks = sym e ∙ f in cc
@@ -53,7 +53,7 @@ last_among (x ∷ xs) l k h = elim (or_split (eqb k x) (among (xs ++ l ∷ []) k
 pub front_is : (xs ys : List ℕ) (i n : ℕ) → ys ≡ xs → n ≡ length xs → i < n → drop i xs ≡ slice_index_or ys i 0 ∷ drop (i + 1) xs
 front_is xs ys i n same len lt = drop_more xs i 0 (subst (λ k. i < k) len lt) ∙ ap (λ zs. slice_index_or zs i 0 ∷ drop (i + 1) xs) (sym same)
 
--- ---- a log that is held is one of the heap's
+-- ---- a log of the collection set is one of the heap's
 pub sealed_inside : (s : State) → Law (own_part s) → (l : ℕ) → s.kind l ≡ kinds.Sealed → l < s.logs
 sealed_inside s law l sealed = law.logs.log_range l (sealed_used (s.kind l) sealed)
 

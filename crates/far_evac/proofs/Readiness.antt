@@ -23,7 +23,7 @@ use Rattle.far_book.specs.book.Own.{own_part}
 use Rattle.far_evac.specs.Laws.{looks}
 use Rattle.far_evac.specs.Moment.{Moment}
 use Rattle.far_evac.specs.MomentLaw.{MomentLaw, has_risen}
-use Rattle.far_evac.specs.Ready.{IsHeld, Ready}
+use Rattle.far_evac.specs.Ready.{IsOfRound, Ready}
 use Rattle.far_evac.specs.RoundSteps.{advanced, among, is_clear_now, with_clear_below}
 use Rattle.far_evac.specs.Waiting.{holds_up}
 use Rattle.far_evac.proofs.Bools.{or_left, or_right}
@@ -37,19 +37,19 @@ each_among P (l ∷ ls) h =
 not_free : (kind : Kind) → kind ≡ kinds.Open → kind ≢ kinds.Free
 not_free kind open_log free = absurd cc
 
-pub risen_is_ready : (m : Moment) → Law (own_part m.core) → MomentLaw m → has_risen m.phase ≡ true → Ready m.core m.held
+pub risen_is_ready : (m : Moment) → Law (own_part m.core) → MomentLaw m → has_risen m.phase ≡ true → Ready m.core m.collection
 risen_is_ready m law moment risen = record {
   layout = λ p len ds place marks near. (read_says (m.core.cell p) (Near len ds place marks) (law.cells.cell_read p).0 near).0;
   short = law.logs.tail_end;
   opens = law.logs.is_open;
   current = law.logs.log_range m.core.current (not_free (m.core.kind m.core.current) law.logs.is_open);
   few = law.shape.few_logs;
-  logs = each_among (IsHeld m.core) m.held (λ l member. (
+  logs = each_among (IsOfRound m.core) m.collection (λ l member. (
     moment.sealed l member,
     λ p len ds place marks near is. law.rounds.round_evac p len ds place marks near (ap m.core.round is ∙ moment.round risen l member),
     moment.round risen l member,
   ));
-  once = moment.held_once;
+  once = moment.collection_once;
 }
 
 -- ---- the steps of a round are events

@@ -60,17 +60,17 @@ module _ (m : Moment) (n : ℕ) (law : Law m.core) (moment : MomentLaw m) (leave
       let kept = (walking_objects m n law moment leaves).midst in
       somewhere (read_of (t.cell p)) (law_then.cells.cell_read p).1 (λ e. used ((kept.free p (none p)).0 (free_only (t.cell p) (law_then.cells.cell_read p).0 e)))
 
-  all_used : AllByRecursion (λ p. m.core.cell p ≢ 0) (live_among m.core m.held)
-  all_used = all_lives (λ p. m.core.cell p ≢ 0) m.core m.held
+  all_used : AllByRecursion (λ p. m.core.cell p ≢ 0) (live_among m.core m.collection)
+  all_used = all_lives (λ p. m.core.cell p ≢ 0) m.core m.collection
       (λ l p member h. let x = near_at (read_of (m.core.cell p)) l h.0 h.1 in not_zero (m.core.cell p) x.len x.ds x.place x.marks x.near)
 
   walk_retires : (walked m n).tally.dropped ≡ 0
   walk_retires =
       let walks = walk_is m n in
       let dealt = in_order m walks.0 (walked m n) (risen_is_ready m (own_law m.core law) moment (ap has_risen leaves)) walks.1.walks in
-      let objects = take walks.0 (live_among m.core m.held) in
+      let objects = take walks.0 (live_among m.core m.collection) in
       dealt.deals.dropped
-      ∙ count_none (λ p. is_nowhere (says (walked m n).moment p)) objects (each_map (λ p used. stays_used p used) objects (all_take (λ p. m.core.cell p ≢ 0) walks.0 (live_among m.core m.held) all_used))
+      ∙ count_none (λ p. is_nowhere (says (walked m n).moment p)) objects (each_map (λ p used. stays_used p used) objects (all_take (λ p. m.core.cell p ≢ 0) walks.0 (live_among m.core m.collection) all_used))
 
 pub walk_retires_none : WalkRetiresNone
 walk_retires_none m n law moment leaves none = walk_retires m n law moment leaves none

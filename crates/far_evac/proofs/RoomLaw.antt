@@ -53,10 +53,10 @@ sound_of s law = record {
 }
 
 -- ---- small steps
-known_taken : (m : Moment) (objects : List ℕ) (w t : Walked) → KnowsWalked w t → Taken m w.moment.core w.moment.held objects → Taken m t.moment.core t.moment.held objects
+known_taken : (m : Moment) (objects : List ℕ) (w t : Walked) → KnowsWalked w t → Taken m w.moment.core w.moment.collection objects → Taken m t.moment.core t.moment.collection objects
 known_taken m objects w t known h =
-    subst (λ held. Taken m t.moment.core held objects) (sym (ap (λ (n : Moment). n.held) known.moment.rest))
-    (taken_alike w.moment.core t.moment.core (alike_known w.moment.core t.moment.core known.moment.core) m w.moment.held objects h)
+    subst (λ held. Taken m t.moment.core held objects) (sym (ap (λ (n : Moment). n.collection) known.moment.rest))
+    (taken_alike w.moment.core t.moment.core (alike_known w.moment.core t.moment.core known.moment.core) m w.moment.collection objects h)
 
 off_each : (s : State) (p : ℕ) (held : List ℕ) → AllByRecursion (λ l. (at : ℕ) → names_place (read_of (s.cell p)) l at ≡ false) held → IsOff s held p
 off_each s p [] each l at is = absurd (false≢true is)
@@ -87,19 +87,19 @@ append_none : (xs : List ℕ) → xs ≡ xs ++ []
 append_none [] = refl
 append_none (x ∷ xs) = ap (λ rest. x ∷ rest) (append_none xs)
 
-keeps_taken : (m v : Moment) (before : List ℕ) → Keeps false v (λ k w. Taken m w.moment.core w.moment.held (before ++ take k (live_among v.core v.held)))
+keeps_taken : (m v : Moment) (before : List ℕ) → Keeps false v (λ k w. Taken m w.moment.core w.moment.collection (before ++ take k (live_among v.core v.collection)))
 keeps_taken m v before = record {
-  learns = λ k. known_taken m (before ++ take k (live_among v.core v.held));
-  gives = λ k w l ls ready none h. taken_back w.moment.core l h.sound none m ls (before ++ take k (live_among v.core v.held)) ready.once (apart l ls (others l ls ready.once)) h;
+  learns = λ k. known_taken m (before ++ take k (live_among v.core v.collection));
+  gives = λ k w l ls ready none h. taken_back w.moment.core l h.sound none m ls (before ++ take k (live_among v.core v.collection)) ready.once (apart l ls (others l ls ready.once)) h;
   deals = λ k w l ls p ps way first h.
-      subst (Taken m (core_so w.moment.core p way) (l ∷ ls)) (append_assoc before (take k (live_among v.core v.held)) (p ∷ []) ∙ ap (λ xs. before ++ xs) (sym first.more))
-      (so_taken m v (before ++ take k (live_among v.core v.held)) k w.moment.core l ls p ps way first h);
+      subst (Taken m (core_so w.moment.core p way) (l ∷ ls)) (append_assoc before (take k (live_among v.core v.collection)) (p ∷ []) ∙ ap (λ xs. before ++ xs) (sym first.more))
+      (so_taken m v (before ++ take k (live_among v.core v.collection)) k w.moment.core l ls p ps way first h);
 }
 
-pub walks_taken : (m v : Moment) (before : List ℕ) → Taken m v.core v.held before → (k : ℕ) (t : Walked) → Ready v.core v.held → WalksTo v k t →
-    Taken m t.moment.core t.moment.held (before ++ take k (live_among v.core v.held))
+pub walks_taken : (m v : Moment) (before : List ℕ) → Taken m v.core v.collection before → (k : ℕ) (t : Walked) → Ready v.core v.collection → WalksTo v k t →
+    Taken m t.moment.core t.moment.collection (before ++ take k (live_among v.core v.collection))
 walks_taken m v before h k t ready walks =
-    (lifted_walks v (λ k w. Taken m w.moment.core w.moment.held (before ++ take k (live_among v.core v.held))) (keeps_taken m v before) ready (subst (Taken m v.core v.held) (append_none before) h) k t walks).keeps
+    (lifted_walks v (λ k w. Taken m w.moment.core w.moment.collection (before ++ take k (live_among v.core v.collection))) (keeps_taken m v before) ready (subst (Taken m v.core v.collection) (append_none before) h) k t walks).keeps
 
 -- ---- all logs together
 sums_same : (a b c d : ℕ → ℕ) → ((x : ℕ) → a x + b x ≡ c x + d x) → (xs : List ℕ) → sum_by a xs + sum_by b xs ≡ sum_by c xs + sum_by d xs
@@ -173,7 +173,7 @@ gone_all s t (p ∷ ps) sizes =
     omega (arith, first, rest, sum_by-cons (near_of s) p ps, sum_by-cons (near_of t) p ps, sum_by-cons (gone_of s t) p ps)
 
 -- ---- what was taken, in the words of the law
-module _ (m t : Moment) (sound : Sound m.core) (objects : List ℕ) (h : Taken m t.core t.held objects) where
+module _ (m t : Moment) (sound : Sound m.core) (objects : List ℕ) (h : Taken m t.core t.collection objects) where
   total : all_live t.core + bytes_gone m.core t.core objects ≡ all_live m.core
   total =
       let range = range_with_len 0 m.core.logs in
@@ -184,16 +184,16 @@ module _ (m t : Moment) (sound : Sound m.core) (objects : List ℕ) (h : Taken m
       let gone = gone_all m.core t.core objects h.sizes in
       omega (arith, logs, before, after, same, gone)
 
-  -- nothing of a log that wasn't held
-  none_left : (l : ℕ) → among m.held l ≡ false → bytes_in m.core l objects ≡ 0
-  none_left l aside = sum_none (λ p. bytes_at l (read_of (m.core.cell p))) objects (each_map (λ p (x : IsNearIn m.core m.held p).
-      ap (bytes_at l) x.near ∙ ap (λ b. cond b (bytes_taken x.len) 0) (ne_eqb x.place.log l (λ e. true≢false (sym x.log ∙ ap (among m.held) e ∙ aside)))) objects h.from)
+  -- nothing of a log outside the collection set
+  none_left : (l : ℕ) → among m.collection l ≡ false → bytes_in m.core l objects ≡ 0
+  none_left l aside = sum_none (λ p. bytes_at l (read_of (m.core.cell p))) objects (each_map (λ p (x : IsNearIn m.core m.collection p).
+      ap (bytes_at l) x.near ∙ ap (λ b. cond b (bytes_taken x.len) 0) (ne_eqb x.place.log l (λ e. true≢false (sym x.log ∙ ap (among m.collection) e ∙ aside)))) objects h.from)
 
   -- and nothing comes to one that is
-  none_came : (l : ℕ) → among t.held l ≡ true → bytes_in t.core l objects ≡ 0
-  none_came l is = sum_none (λ p. bytes_at l (read_of (t.core.cell p))) objects (each_map (λ p (off : IsOff t.core t.held p). off_none l (read_of (t.core.cell p)) (λ at. off l at is)) objects h.off)
+  none_came : (l : ℕ) → among t.collection l ≡ true → bytes_in t.core l objects ≡ 0
+  none_came l is = sum_none (λ p. bytes_at l (read_of (t.core.cell p))) objects (each_map (λ p (off : IsOff t.core t.collection p). off_none l (read_of (t.core.cell p)) (λ at. off l at is)) objects h.off)
 
-  is_aside : (l : ℕ) → among m.held l ≡ false → IsAside m.core t.core objects l
+  is_aside : (l : ℕ) → among m.collection l ≡ false → IsAside m.core t.core objects l
   is_aside l aside =
       let none = none_left l aside in
       let live = h.live l in
@@ -210,7 +210,7 @@ module _ (m t : Moment) (sound : Sound m.core) (objects : List ℕ) (h : Taken m
         used = h.used l aside;
       }
 
-  is_left : (l : ℕ) → among t.held l ≡ true → IsLeft m.core t.core objects l
+  is_left : (l : ℕ) → among t.collection l ≡ true → IsLeft m.core t.core objects l
   is_left l is =
       let none = none_came l is in
       let live = h.live l in
@@ -219,7 +219,7 @@ module _ (m t : Moment) (sound : Sound m.core) (objects : List ℕ) (h : Taken m
       let was = all_used m.core sound l in
       record { live = omega (arith, none, live); dead = omega (arith, none, live, tail, now, was); unused = omega (arith, none, tail) }
 
-  is_back : (l : ℕ) → among m.held l ≡ true → among t.held l ≡ false → IsBack m.core t.core objects l
+  is_back : (l : ℕ) → among m.collection l ≡ true → among t.collection l ≡ false → IsBack m.core t.core objects l
   is_back l was is =
       let live = h.live l in
       let back = h.back l was is in
@@ -232,7 +232,7 @@ module _ (m t : Moment) (sound : Sound m.core) (objects : List ℕ) (h : Taken m
   pub room_taken : TakesRoom m t objects
   room_taken = record {
     once = h.once;
-    of_held = h.from;
+    of_collection = h.from;
     away = h.away;
     others = h.others;
     sizes = h.sizes;
@@ -246,4 +246,4 @@ module _ (m t : Moment) (sound : Sound m.core) (objects : List ℕ) (h : Taken m
 pub walk_takes_room : WalkTakesRoom
 walk_takes_room m k t law ready walks =
     let sound = sound_of m.core law in
-    room_taken m t.moment sound (take k (live_among m.core m.held)) (walks_taken m m [] (none_taken m sound) k t ready walks)
+    room_taken m t.moment sound (take k (live_among m.core m.collection)) (walks_taken m m [] (none_taken m sound) k t ready walks)

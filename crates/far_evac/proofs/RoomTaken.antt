@@ -120,38 +120,38 @@ pub sum_none : (f : ℕ → ℕ) (xs : List ℕ) → AllByRecursion (λ x. f x �
 sum_none f [] h = refl
 sum_none f (x ∷ xs) h = (let a = sum_by-cons f x xs in let c = sum_none f xs h.1 in let d = h.0 in omega (arith, a, c, d))
 
--- ---- where a walk stands that began at a moment: what these objects have made of the logs, while these are held
+-- ---- where a walk stands that began at a moment: what these objects have made of the logs, while these are the collection set
 abbrev pub IsOff : State → List ℕ → ℕ → Type 0
 IsOff s held q = (l at : ℕ) → among held l ≡ true → names_place (read_of (s.cell q)) l at ≡ false
 
 pub record Taken (m : Moment) (s : State) (held objects : List ℕ) : Type 0 where
   pub sound : Sound s
   pub live : (l : ℕ) → live_bytes s l + bytes_in m.core l objects ≡ live_bytes m.core l + bytes_in s l objects
-  pub kept : (l : ℕ) → (among m.held l ≡ false) ⊎ (among held l ≡ true) → 8 * s.tail l ≡ 8 * m.core.tail l + bytes_in s l objects
-  pub back : (l : ℕ) → among m.held l ≡ true → among held l ≡ false → (8 * s.tail l ≡ bytes_in s l objects) × (live_bytes s l ≡ bytes_in s l objects)
-  pub sealed : (l : ℕ) → among m.held l ≡ false → m.core.kind l ≡ kinds.Sealed → (s.kind l ≡ kinds.Sealed) × (s.tail l ≡ m.core.tail l)
-  pub used : (l : ℕ) → among m.held l ≡ false → m.core.kind l ≢ kinds.Free → s.kind l ≢ kinds.Free
-  pub opened : (l : ℕ) → among m.held l ≡ false → m.core.kind l ≡ kinds.Free → s.kind l ≢ kinds.Free → 0 < s.tail l
+  pub kept : (l : ℕ) → (among m.collection l ≡ false) ⊎ (among held l ≡ true) → 8 * s.tail l ≡ 8 * m.core.tail l + bytes_in s l objects
+  pub back : (l : ℕ) → among m.collection l ≡ true → among held l ≡ false → (8 * s.tail l ≡ bytes_in s l objects) × (live_bytes s l ≡ bytes_in s l objects)
+  pub sealed : (l : ℕ) → among m.collection l ≡ false → m.core.kind l ≡ kinds.Sealed → (s.kind l ≡ kinds.Sealed) × (s.tail l ≡ m.core.tail l)
+  pub used : (l : ℕ) → among m.collection l ≡ false → m.core.kind l ≢ kinds.Free → s.kind l ≢ kinds.Free
+  pub opened : (l : ℕ) → among m.collection l ≡ false → m.core.kind l ≡ kinds.Free → s.kind l ≢ kinds.Free → 0 < s.tail l
   pub sizes : AllByRecursion (λ p. is_near (read_of (s.cell p)) ≡ true → bytes_near (read_of (s.cell p)) ≡ bytes_near (read_of (m.core.cell p))) objects
   pub others : (p : ℕ) → AllByRecursion (λ q. q ≢ p) objects → spot_of (read_of (s.cell p)) ≡ spot_of (read_of (m.core.cell p))
   pub off : AllByRecursion (IsOff s held) objects
   pub away : AllByRecursion (λ p. HasLeft (read_of (m.core.cell p)) (read_of (s.cell p))) objects
-  pub within : (l : ℕ) → among held l ≡ true → among m.held l ≡ true
+  pub within : (l : ℕ) → among held l ≡ true → among m.collection l ≡ true
   pub once : IsDistinct eqb objects
-  pub from : AllByRecursion (IsNearIn m.core m.held) objects
+  pub from : AllByRecursion (IsNearIn m.core m.collection) objects
   pub logs : s.logs ≡ m.core.logs
 
 -- ---- before the first object
 not_both : (b : Bool) → b ≡ true → b ≡ false → ⊥
 not_both b on off = true≢false (sym on ∙ off)
 
-pub none_taken : (m : Moment) → Sound m.core → Taken m m.core m.held []
+pub none_taken : (m : Moment) → Sound m.core → Taken m m.core m.collection []
 unfolding IsDistinct
 none_taken m sound = record {
   sound = sound;
   live = λ l. refl;
   kept = λ l why. (let none : bytes_in m.core l [] ≡ 0 = refl in omega (arith, none));
-  back = λ l was is. absurd (not_both (among m.held l) was is);
+  back = λ l was is. absurd (not_both (among m.collection l) was is);
   sealed = λ l aside shut. (shut, refl);
   used = λ l aside some. some;
   opened = λ l aside free some. absurd (some free);
@@ -297,17 +297,17 @@ module _ (s : State) (l : ℕ) (sound : Sound s) (none : is_empty (live_in s l) 
     more : (k : ℕ) → among ls k ≡ true → among (l ∷ ls) k ≡ true
     more k is = or_right (eqb k l) (among ls k) is
 
-    not_aside : (k : ℕ) → among m.held k ≡ false → k ≢ l
-    not_aside k aside e = not_both (among m.held k) (ap (among m.held) e ∙ h.within l member) aside
+    not_aside : (k : ℕ) → among m.collection k ≡ false → k ≢ l
+    not_aside k aside e = not_both (among m.collection k) (ap (among m.collection) e ∙ h.within l member) aside
 
     came_none : bytes_in s l objects ≡ 0
     came_none = sum_none (λ p. bytes_at l (read_of (s.cell p))) objects (each_map (λ q off. off_none l (read_of (s.cell q)) (λ at. off l at member)) objects h.off)
 
-    kept_back : (k : ℕ) → (among m.held k ≡ false) ⊎ (among ls k ≡ true) → 8 * (released s l).tail k ≡ 8 * m.core.tail k + bytes_in s k objects
+    kept_back : (k : ℕ) → (among m.collection k ≡ false) ⊎ (among ls k ≡ true) → 8 * (released s l).tail k ≡ 8 * m.core.tail k + bytes_in s k objects
     kept_back k (inl aside) = ap (λ n. 8 * n) (put_other s.tail l 0 k (not_aside k aside)) ∙ h.kept k (inl aside)
     kept_back k (inr is) = ap (λ n. 8 * n) (put_other s.tail l 0 k (apart k is)) ∙ h.kept k (inr (more k is))
 
-    back_back : (k : ℕ) → among m.held k ≡ true → among ls k ≡ false → (8 * (released s l).tail k ≡ bytes_in s k objects) × (live_bytes (released s l) k ≡ bytes_in s k objects)
+    back_back : (k : ℕ) → among m.collection k ≡ true → among ls k ≡ false → (8 * (released s l).tail k ≡ bytes_in s k objects) × (live_bytes (released s l) k ≡ bytes_in s k objects)
     back_back k was is = elim (cases_eq k l) [
       | inl e ↦ (
         let a : (released s l).tail k ≡ 0 = put_same s.tail l 0 k e in let b : bytes_in s k objects ≡ 0 = ap (λ j. bytes_in s j objects) e ∙ came_none in omega (arith, a, b),
@@ -335,7 +335,7 @@ module _ (s : State) (l : ℕ) (sound : Sound s) (none : is_empty (live_in s l) 
       logs = h.logs;
     }
 
--- ---- an object of a log that is held is dealt with
+-- ---- an object of the collection set is dealt with
 -- an object that is near then is as large as it was
 abbrev SameSize : State → State → ℕ → Type 0
 SameSize s t p = is_near (read_of (t.cell p)) ≡ true → bytes_near (read_of (t.cell p)) ≡ bytes_near (read_of (s.cell p))
@@ -351,14 +351,14 @@ module _ (m : Moment) (s t : State) (held objects : List ℕ) (h : Taken m s hel
   at_home : NearAt (read_of (s.cell p)) l lives.0
   at_home = near_at (read_of (s.cell p)) l lives.0 lives.1
 
-  near_first : IsNearIn m.core m.held p
+  near_first : IsNearIn m.core m.collection p
   near_first = let x = near_same (read_of (s.cell p)) (read_of (m.core.cell p)) before at_home.len at_home.ds at_home.place at_home.marks at_home.near in record {
     len = at_home.len;
     ds = at_home.ds;
     place = at_home.place;
     marks = x.0;
     near = x.1;
-    log = ap (among m.held) at_home.log ∙ h.within l member;
+    log = ap (among m.collection) at_home.log ∙ h.within l member;
   }
 
   not_among : (xs : List ℕ) → AllByRecursion (λ q. q ≢ p) xs → among xs p ≡ false
@@ -403,7 +403,7 @@ module _ (m : Moment) (s t : State) (held objects : List ℕ) (h : Taken m s hel
         );
     within = h.within;
     once = IsDistinct-push nat_eq_equiv objects p h.once (not_among objects apart);
-    from = all_append (IsNearIn m.core m.held) objects (p ∷ []) h.from (near_first, tt);
+    from = all_append (IsNearIn m.core m.collection) objects (p ∷ []) h.from (near_first, tt);
     logs = d.logs ∙ h.logs;
   } where
     free_or : (k : ℕ) → (s.kind k ≡ kinds.Free) ⊎ (s.kind k ≢ kinds.Free)
@@ -413,7 +413,7 @@ module _ (m : Moment) (s t : State) (held objects : List ℕ) (h : Taken m s hel
       by_kind kinds.Open = inr (λ e. absurd cc)
       by_kind kinds.Sealed = inr (λ e. absurd cc)
 
-    opens_on : (k : ℕ) → among m.held k ≡ false → m.core.kind k ≡ kinds.Free → t.kind k ≢ kinds.Free → 0 < t.tail k
+    opens_on : (k : ℕ) → among m.collection k ≡ false → m.core.kind k ≡ kinds.Free → t.kind k ≢ kinds.Free → 0 < t.tail k
     opens_on k aside free some = elim (free_or k) [
       | inl still ↦ d.opened k still some
       | inr not_free ↦ (let a = h.opened k aside free not_free in let e = d.tail k in omega (arith, a, e))

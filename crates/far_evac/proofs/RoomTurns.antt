@@ -28,7 +28,7 @@ use Rattle.far_evac.proofs.TurnSteps.{KeepsTurns, round_kept, stop_kept, stopped
 
 -- a moment as a whole
 abbrev Stands : Moment → Moment → List ℕ → Type 0
-Stands m t objects = Taken m t.core t.held objects
+Stands m t objects = Taken m t.core t.collection objects
 
 -- ---- marks alone change, or who was seen clear
 spot_but : (o : Option PtrWord) → spot_of o ≡ spot_of (but_evac o)
@@ -45,8 +45,8 @@ alike_parts : (s t : State) → ((p : ℕ) → spot_of (read_of (t.cell p)) ≡ 
 unfolding spans_of
 alike_parts s t spots word tail kind logs = record { spots = spots; spans = λ l i. spans_of (record s { word = word i; tail = tail i }) l; tail = tail; kind = kind; logs = logs }
 
-pub marking_held : (m : Moment) (n : ℕ) → (after_marking m n).held ≡ m.held
-marking_held m n = ap (λ (t : Moment). t.held) (marking_frame m n)
+pub marking_held : (m : Moment) (n : ℕ) → (after_marking m n).collection ≡ m.collection
+marking_held m n = ap (λ (t : Moment). t.collection) (marking_frame m n)
 
 pub marking_alike : (m : Moment) (n : ℕ) → ((p : ℕ) → m.core.cell p < 2 ^ 64) → Alike m.core (after_marking m n).core
 marking_alike m n fits =
@@ -59,11 +59,11 @@ clear_alike s k = alike_parts s (with_clear_below s k) (λ p. refl) refl refl re
 
 -- ---- one step more
 module _ (m : Moment) (objects : List ℕ) where
-  on_alike : (u t : Moment) → Stands m u objects → Alike u.core t.core → t.held ≡ u.held → Stands m t objects
-  on_alike u t h alike same = subst (λ held. Taken m t.core held objects) (sym same) (taken_alike u.core t.core alike m u.held objects h)
+  on_alike : (u t : Moment) → Stands m u objects → Alike u.core t.core → t.collection ≡ u.collection → Stands m t objects
+  on_alike u t h alike same = subst (λ held. Taken m t.core held objects) (sym same) (taken_alike u.core t.core alike m u.collection objects h)
 
   on_known : (u t : Moment) → Stands m u objects → KnowsMoment u t → Stands m t objects
-  on_known u t h known = on_alike u t h (alike_known u.core t.core known.core) (ap (λ (n : Moment). n.held) known.rest)
+  on_known u t h known = on_alike u t h (alike_known u.core t.core known.core) (ap (λ (n : Moment). n.collection) known.rest)
 
 -- ---- calls, turns and rounds, over any hand
 abbrev StandsSome : Moment → Moment → Tally → Type 0
@@ -75,7 +75,7 @@ keeps_some m = record {
   marks = λ u n tally lawful is (objects, h). (objects, on_alike m objects u (after_marking u n) h (marking_alike u n (λ p. (lawful.0.cells.cell_read p).0)) (marking_held u n));
   looks = λ u k phase tally lawful is (objects, h). (objects, on_alike m objects u (record u { core = with_clear_below u.core k; phase = phase }) h (clear_alike u.core k) refl);
   walks = λ u k w tally lawful leaves walks (objects, h).
-      (objects ++ take k (live_among u.core u.held), walks_taken m u objects h k w (risen_is_ready u lawful.0 lawful.1 (ap has_risen leaves)) walks);
+      (objects ++ take k (live_among u.core u.collection), walks_taken m u objects h k w (risen_is_ready u lawful.0 lawful.1 (ap has_risen leaves)) walks);
   ends = λ u tally h. h;
 }
 

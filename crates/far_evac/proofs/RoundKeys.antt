@@ -78,31 +78,31 @@ module _ (s t : State) (alike : Alike s t) where
   same_live [] = refl
   same_live (l ∷ ls) = ap (λ live. live ++ live_among t ls) (same_in l) ∙ ap (λ more. live_in s l ++ more) (same_live ls)
 
-known_live : (m t : Moment) → KnowsMoment m t → live_among t.core t.held ≡ live_among m.core m.held
-known_live m t known = ap (live_among t.core) (ap (λ (x : Moment). x.held) known.rest) ∙ left_known m.core t.core known.core m.held
+known_live : (m t : Moment) → KnowsMoment m t → live_among t.core t.collection ≡ live_among m.core m.collection
+known_live m t known = ap (live_among t.core) (ap (λ (x : Moment). x.collection) known.rest) ∙ left_known m.core t.core known.core m.collection
 
 -- ---- all but those that were counted are left
 abbrev pub LeftOf : Moment → Moment → Tally → Type 0
-LeftOf m t tally = live_among t.core t.held ≡ drop (objects_in tally) (live_among m.core m.held)
+LeftOf m t tally = live_among t.core t.collection ≡ drop (objects_in tally) (live_among m.core m.collection)
 
 pub keeps_left : (m : Moment) → KeepsTurns false (LeftOf m)
 keeps_left m = record {
   learns = λ u t tally known h. known_live u t known ∙ h;
   marks = λ u n tally lawful is h.
-      ap (live_among (after_marking u n).core) (marking_held u n) ∙ same_live u.core (after_marking u n).core (marking_alike u n (λ p. (lawful.0.cells.cell_read p).0)) u.held ∙ h;
-  looks = λ u k phase tally lawful is h. same_live u.core (with_clear_below u.core k) (clear_alike u.core k) u.held ∙ h;
+      ap (live_among (after_marking u n).core) (marking_held u n) ∙ same_live u.core (after_marking u n).core (marking_alike u n (λ p. (lawful.0.cells.cell_read p).0)) u.collection ∙ h;
+  looks = λ u k phase tally lawful is h. same_live u.core (with_clear_below u.core k) (clear_alike u.core k) u.collection ∙ h;
   walks = λ u k w tally lawful is walks h.
       let order = in_order u k w (risen_is_ready u lawful.0 lawful.1 (ap has_risen is)) walks in
       let sum : objects_in tally + k ≡ objects_in (plus tally w.tally) = omega (arith, order.counted) in
-      order.left ∙ ap (drop k) h ∙ sym (drop_parts (objects_in tally) k (live_among m.core m.held)) ∙ ap (λ n. drop n (live_among m.core m.held)) sum;
+      order.left ∙ ap (drop k) h ∙ sym (drop_parts (objects_in tally) k (live_among m.core m.collection)) ∙ ap (λ n. drop n (live_among m.core m.collection)) sum;
   ends = λ u tally h. h;
 }
 
 -- ---- after turns that dealt with so many, one turn more
-module _ (m u : Moment) (before : Tally) (stood : live_among u.core u.held ≡ drop (objects_in before) (live_among m.core m.held)) where
+module _ (m u : Moment) (before : Tally) (stood : live_among u.core u.collection ≡ drop (objects_in before) (live_among m.core m.collection)) where
   first_on : (k n : ℕ) → n ≡ objects_in before + k → first_live m (objects_in before) ++ first_live u k ≡ first_live m n
   first_on k n sum =
-      ap (λ xs. first_live m (objects_in before) ++ take k xs) stood ∙ sym (take_parts (objects_in before) k (live_among m.core m.held)) ∙ ap (λ x. take x (live_among m.core m.held)) (sym sum)
+      ap (λ xs. first_live m (objects_in before) ++ take k xs) stood ∙ sym (take_parts (objects_in before) k (live_among m.core m.collection)) ∙ ap (λ x. take x (live_among m.core m.collection)) (sym sum)
 
   module _ (a b c : ℕ → Option (List ℕ)) (keys : KeepsKeys (first_live m (objects_in before)) a b) (tally : Tally) where
     pub keys_on : KeepsKeys (first_live u (objects_in tally)) b c → KeepsKeys (first_live m (objects_in (plus before tally))) a c

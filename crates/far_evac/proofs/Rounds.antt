@@ -61,7 +61,7 @@ pub walked_phase : (m : Moment) (n : ℕ) → (walked m n).moment.phase ≡ m.ph
 walked_phase m n = let walk = walk_is m n in walks_phase m walk.0 (walked m n) walk.1.walks
 
 pub marking_runs : (m : Moment) → m.phase ≡ Marking → is_idle (after_marking m turn_size).phase ≡ false
-marking_runs m e = cond_both (leaves_some m turn_size) (record m { core = marked_core m turn_size }) (record m { core = advanced (marked_core m turn_size) m.held; phase = Waiting })
+marking_runs m e = cond_both (leaves_some m turn_size) (record m { core = marked_core m turn_size }) (record m { core = advanced (marked_core m turn_size) m.collection; phase = Waiting })
     (λ (t : Moment). is_idle t.phase ≡ false) (λ _. ap is_idle e) (λ _. refl)
 
 polling_runs : (m : Moment) → m.phase ≡ Waiting → (o : Option ℕ) → is_idle (polled_to m o).phase ≡ false

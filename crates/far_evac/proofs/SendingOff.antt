@@ -272,10 +272,10 @@ pub record Wanted (s : State) (p : ℕ) : Type 0 where
   pub quiet : IsQuietNear s p
   pub evac : has_evac (read_of (s.cell p)) ≡ true
 
-pub first_wanted : (m : Moment) → Law (own_part m.core) → MomentLaw m → m.phase ≡ Evacuating → (p : ℕ) (rest : List ℕ) → live_among m.core m.held ≡ p ∷ rest → Wanted m.core p
+pub first_wanted : (m : Moment) → Law (own_part m.core) → MomentLaw m → m.phase ≡ Evacuating → (p : ℕ) (rest : List ℕ) → live_among m.core m.collection ≡ p ∷ rest → Wanted m.core p
 first_wanted m law moment walks p rest e =
     let s = m.core in
-    let first = first_among s m.held p rest e in
+    let first = first_among s m.collection p rest e in
     let n = near_at (read_of (s.cell p)) first.l first.lives.0 first.lives.1 in
     let round : s.round n.place.log ≡ true = ap s.round n.log ∙ moment.round (ap has_risen walks) first.l first.member in
     let evac : n.marks.evac ≡ true = law.rounds.round_evac p n.len n.ds n.place n.marks n.near round in

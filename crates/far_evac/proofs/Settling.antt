@@ -45,16 +45,16 @@ released_known s t l known = record {
   rest = ap (λ (u : State). released u l) known.rest;
 }
 
--- ---- two walks that are alike, but for which logs are held
+-- ---- two walks that are alike, but for the collection set
 pub record Alike (u v : Walked) : Type 0 where
   pub core : Knows u.moment.core v.moment.core
   pub order : v.moment.order ≡ u.moment.order
   pub phase : v.moment.phase ≡ u.moment.phase
   pub tally : v.tally ≡ u.tally
 
-alike_walked : (u v : Walked) → Alike u v → (held : List ℕ) → KnowsWalked (record u { moment = record u.moment { held = held } }) (record v { moment = record v.moment { held = held } })
+alike_walked : (u v : Walked) → Alike u v → (held : List ℕ) → KnowsWalked (record u { moment = record u.moment { collection = held } }) (record v { moment = record v.moment { collection = held } })
 alike_walked u v alike held = record {
-  moment = record { core = alike.core; rest = λ i. record { core = v.moment.core; order = alike.order i; phase = alike.phase i; held = held } };
+  moment = record { core = alike.core; rest = λ i. record { core = v.moment.core; order = alike.order i; phase = alike.phase i; collection = held } };
   tally = alike.tally;
 }
 
@@ -74,41 +74,41 @@ passed_alike : (u v : Walked) (ls : List ℕ) → Alike u v → KnowsWalked (pas
 passed_alike u v [] alike = alike_walked u v alike []
 passed_alike u v (l ∷ ls) alike =
     let same : is_empty (live_in v.moment.core l) ≡ is_empty (live_in u.moment.core l) = ap is_empty (knows_live u.moment.core v.moment.core alike.core l) in
-    subst (λ b. KnowsWalked (passed u (l ∷ ls)) (cond b (passed (freed v l) ls) (record v { moment = record v.moment { held = l ∷ ls } }))) (sym same)
-    (cond_known (is_empty (live_in u.moment.core l)) (passed (freed u l) ls) (record u { moment = record u.moment { held = l ∷ ls } }) (passed (freed v l) ls) (record v { moment = record v.moment { held = l ∷ ls } })
+    subst (λ b. KnowsWalked (passed u (l ∷ ls)) (cond b (passed (freed v l) ls) (record v { moment = record v.moment { collection = l ∷ ls } }))) (sym same)
+    (cond_known (is_empty (live_in u.moment.core l)) (passed (freed u l) ls) (record u { moment = record u.moment { collection = l ∷ ls } }) (passed (freed v l) ls) (record v { moment = record v.moment { collection = l ∷ ls } })
     (passed_alike (freed u l) (freed v l) ls (freed_alike u v l alike)) (alike_walked u v alike (l ∷ ls)))
 
 pub settled_known : (u v : Walked) → KnowsWalked u v → KnowsWalked (settled u) (settled v)
 settled_known u v known =
-    let held : v.moment.held ≡ u.moment.held = ap (λ (m : Moment). m.held) known.moment.rest in
+    let held : v.moment.collection ≡ u.moment.collection = ap (λ (m : Moment). m.collection) known.moment.rest in
     let alike : Alike u v = record {
       core = known.moment.core;
       order = ap (λ (m : Moment). m.order) known.moment.rest;
       phase = ap (λ (m : Moment). m.phase) known.moment.rest;
       tally = known.tally;
     } in
-    subst (λ ls. KnowsWalked (settled u) (passed v ls)) (sym held) (passed_alike u v u.moment.held alike)
+    subst (λ ls. KnowsWalked (settled u) (passed v ls)) (sym held) (passed_alike u v u.moment.collection alike)
 
 -- ---- whether the log in front stays
-module _ (w : Walked) (l : ℕ) (ls : List ℕ) (front : w.moment.held ≡ l ∷ ls) where
+module _ (w : Walked) (l : ℕ) (ls : List ℕ) (front : w.moment.collection ≡ l ∷ ls) where
   abbrev front_by : List ℕ → Walked
-  front_by live = cond (is_empty live) (passed (freed w l) ls) (record w { moment = record w.moment { held = l ∷ ls } })
+  front_by live = cond (is_empty live) (passed (freed w l) ls) (record w { moment = record w.moment { collection = l ∷ ls } })
 
   pub front_left : (p : ℕ) (rest : List ℕ) → live_in w.moment.core l ≡ p ∷ rest → (more : List ℕ) × (left w ≡ p ∷ more)
   front_left p rest first = (rest ++ live_among w.moment.core ls, ap (live_among w.moment.core) front ∙ ap (λ live. live ++ live_among w.moment.core ls) first)
 
   pub front_stays : (p : ℕ) (rest : List ℕ) → live_in w.moment.core l ≡ p ∷ rest → settled w ≡ w
-  front_stays p rest first = ap (passed w) front ∙ ap front_by first ∙ (λ i. record w { moment = record w.moment { held = (sym front) i } })
+  front_stays p rest first = ap (passed w) front ∙ ap front_by first ∙ (λ i. record w { moment = record w.moment { collection = (sym front) i } })
 
   pub front_goes : live_in w.moment.core l ≡ [] → settled w ≡ passed (freed w l) ls
   front_goes none = ap (passed w) front ∙ ap front_by none
 
   -- v is where the walk stands once it is given back
-  module _ (none : live_in w.moment.core l ≡ []) (v : Walked) (held : v.moment.held ≡ ls) where
+  module _ (none : live_in w.moment.core l ≡ []) (v : Walked) (held : v.moment.collection ≡ ls) where
     pub next_known : Alike (freed w l) v → KnowsWalked (settled w) (settled v)
     next_known alike = subst (λ x. KnowsWalked x (settled v)) (sym (front_goes none)) (subst (λ ks. KnowsWalked (passed (freed w l) ls) (passed v ks)) (sym held) (passed_alike (freed w l) v ls alike))
 
-    pub next_exact : v ≡ record (freed w l) { moment = record (freed w l).moment { held = ls } } → settled v ≡ settled w
+    pub next_exact : v ≡ record (freed w l) { moment = record (freed w l).moment { collection = ls } } → settled v ≡ settled w
     next_exact is = ap settled is ∙ passed_any (freed w l) ls ls ∙ sym (front_goes none)
 
 -- ---- the same of an evacuator
@@ -120,14 +120,14 @@ module _ {N D : Type 0} (view : N → State) where
   }
 
   -- the log in front of e is given back: f is where marks were found in it, and h is after it
-  module _ (e f h : EvacOf N D) (progress next : Progress) (l : ℕ) (ls : List ℕ) (front : e.held ≡ l ∷ ls) (none : live_in (view e.book.near) l ≡ [])
-      (order : h.book.order ≡ order_without l f.book.order) (held : f.held ≡ l ∷ h.held) (counted : tally_of next ≡ record (tally_of progress) { freed = progress.freed + 1 }) where
-    same_rest : e.held ≡ l ∷ h.held → h.held ≡ ls
-    same_rest same = let both : l ∷ ls ≡ l ∷ h.held = sym front ∙ same in cc
+  module _ (e f h : EvacOf N D) (progress next : Progress) (l : ℕ) (ls : List ℕ) (front : e.collection ≡ l ∷ ls) (none : live_in (view e.book.near) l ≡ [])
+      (order : h.book.order ≡ order_without l f.book.order) (held : f.collection ≡ l ∷ h.collection) (counted : tally_of next ≡ record (tally_of progress) { freed = progress.freed + 1 }) where
+    same_rest : e.collection ≡ l ∷ h.collection → h.collection ≡ ls
+    same_rest same = let both : l ∷ ls ≡ l ∷ h.collection = sym front ∙ same in cc
 
     pub step_known : KnowsMoment (moment view e) (moment view f) → Knows (released (view f.book.near) l) (view h.book.near) → KnowsWalked (settled (standing view e progress)) (settled (standing view h next))
     step_known known given =
-        let same : f.held ≡ e.held = ap (λ (m : Moment). m.held) known.rest in
+        let same : f.collection ≡ e.collection = ap (λ (m : Moment). m.collection) known.rest in
         let orders : f.book.order ≡ e.book.order = ap (λ (m : Moment). m.order) known.rest in
         next_known (standing view e progress) l ls front none (standing view h next) (same_rest (sym same ∙ held)) record {
           core = knows_more (released (view e.book.near) l) (released (view f.book.near) l) (view h.book.near) (released_known (view e.book.near) (view f.book.near) l known.core) given;
@@ -138,9 +138,9 @@ module _ {N D : Type 0} (view : N → State) where
 
     pub step_exact : moment view f ≡ moment view e → view h.book.near ≡ released (view f.book.near) l → settled (standing view h next) ≡ settled (standing view e progress)
     step_exact known given =
-        let same : f.held ≡ e.held = ap (λ (m : Moment). m.held) known in
+        let same : f.collection ≡ e.collection = ap (λ (m : Moment). m.collection) known in
         let orders : h.book.order ≡ order_without l e.book.order = order ∙ ap (λ (m : Moment). order_without l m.order) known in
         let core : view h.book.near ≡ released (view e.book.near) l = given ∙ ap (λ (m : Moment). released m.core l) known in
         let rest = same_rest (sym same ∙ held) in
         next_exact (standing view e progress) l ls front none (standing view h next) rest
-        (λ i. record { moment = record { core = core i; order = orders i; phase = Evacuating; held = rest i }; tally = counted i })
+        (λ i. record { moment = record { core = core i; order = orders i; phase = Evacuating; collection = rest i }; tally = counted i })

@@ -14,7 +14,7 @@ use Rattle.far_evac.specs.Dealings.{BeginsLive}
 use Rattle.far_evac.specs.Leaving.{order_by}
 use Rattle.far_evac.specs.Live.{live_in, live_among, is_empty}
 use Rattle.far_evac.specs.Moment.{Moment, Tally, objects_in}
-use Rattle.far_evac.specs.Ready.{Ready, IsHeld, AllMarked}
+use Rattle.far_evac.specs.Ready.{Ready, IsOfRound, AllMarked}
 use Rattle.far_evac.specs.Walk.{Walked, Way, Drops, Moves, Goes, begun, dealt_as, dealt_first, dealt_so, freed, left, passed, settled, walked, way_of}
 use Rattle.far_evac.proofs.Dealt.{Gone, Leaves}
 use Rattle.far_evac.proofs.LiveLists.{knows_live, live_released}
@@ -27,7 +27,7 @@ module _ (s t : State) (known : Knows s t) where
   marked_known l marked p len ds place marks near is =
       let x = near_known (s.cell p) (t.cell p) (known.found p) len ds place marks near in sym x.same ∙ marked p len ds place x.marks x.near is
 
-  held_known : (l : ℕ) → IsHeld s l → IsHeld t l
+  held_known : (l : ℕ) → IsOfRound s l → IsOfRound t l
   held_known l h = (ap (λ (u : State). u.kind l) known.rest ∙ h.0, marked_known l h.1, ap (λ (u : State). u.round l) known.rest ∙ h.2)
 
   ready_known : (held : List ℕ) → Ready s held → Ready t held
@@ -76,9 +76,9 @@ pub finding : (exact : Bool) (known word : ℕ) → Finding exact known word →
 finding true known word e = subst (Finds known) (sym e) (finds_same known)
 finding false known word finds = finds
 
--- the walk once these logs are held, and once an object of it went its way
+-- the walk once these logs are the collection set, and once an object of it went its way
 abbrev pub holding : Walked → List ℕ → Walked
-holding w held = record w { moment = record w.moment { held = held } }
+holding w held = record w { moment = record w.moment { collection = held } }
 
 abbrev pub more_dropped : Way → ℕ → ℕ
 more_dropped Drops n = n + 1
@@ -97,11 +97,11 @@ more_far Goes n = n + 1
 
 abbrev pub gone_so : Walked → List ℕ → ℕ → Way → Walked
 gone_so w held p way = record {
-  moment = record { core = core_so w.moment.core p way; order = order_by w.moment.core w.moment.order way; phase = w.moment.phase; held = held };
+  moment = record { core = core_so w.moment.core p way; order = order_by w.moment.core w.moment.order way; phase = w.moment.phase; collection = held };
   tally = record { moved = more_moved way w.tally.moved; far = more_far way w.tally.far; dropped = more_dropped way w.tally.dropped; freed = w.tally.freed };
 }
 
-pub dealt_is : (w : Walked) (p : ℕ) (way : Way) → dealt_so w p way ≡ gone_so w w.moment.held p way
+pub dealt_is : (w : Walked) (p : ℕ) (way : Way) → dealt_so w p way ≡ gone_so w w.moment.collection p way
 dealt_is w p Drops = refl
 dealt_is w p (Moves place) = refl
 dealt_is w p Goes = refl
@@ -109,7 +109,7 @@ dealt_is w p Goes = refl
 -- ---- what each small step keeps, wherever it is made
 pub record KeepsAlways (P : ℕ → Walked → Type 0) : Type 0 where
   pub gives : (k : ℕ) (w : Walked) (l : ℕ) (ls : List ℕ) → P k (holding w (l ∷ ls)) → P k (holding (freed w l) ls)
-  pub deals : (k : ℕ) (w : Walked) (p : ℕ) (way : Way) → P k w → P (suc k) (gone_so w w.moment.held p way)
+  pub deals : (k : ℕ) (w : Walked) (p : ℕ) (way : Way) → P k w → P (suc k) (gone_so w w.moment.collection p way)
 
 module _ (P : ℕ → Walked → Type 0) (keeps : KeepsAlways P) where
   passed_always : (k : ℕ) (ls : List ℕ) (v : Walked) → P k (holding v ls) → P k (passed v ls)
@@ -117,14 +117,14 @@ module _ (P : ℕ → Walked → Type 0) (keeps : KeepsAlways P) where
   passed_always k (l ∷ ls) v h = cond_both (is_empty (live_in v.moment.core l)) (passed (freed v l) ls) (holding v (l ∷ ls)) (P k) (λ _. passed_always k ls (freed v l) (keeps.gives k v l ls h)) (λ _. h)
 
   dealt_always : (k : ℕ) (w : Walked) (p : ℕ) (way : Way) → P k w → P (suc k) (settled (dealt_so w p way))
-  dealt_always k w p way h = subst (λ v. P (suc k) (settled v)) (sym (dealt_is w p way)) (passed_always (suc k) w.moment.held (gone_so w w.moment.held p way) (keeps.deals k w p way h))
+  dealt_always k w p way h = subst (λ v. P (suc k) (settled v)) (sym (dealt_is w p way)) (passed_always (suc k) w.moment.collection (gone_so w w.moment.collection p way) (keeps.deals k w p way h))
 
   found_always : (k : ℕ) (u : Walked) (word : ℕ) (xs : List ℕ) → FindsFirst u word xs → P k u → P (suc k) (found_first u word xs)
   found_always k u word [] finds h = absurd finds
   found_always k u word (p ∷ ps) finds h = dealt_always k u p (way_of u.moment.core (read_of word)) h
 
   pub walks_always : Learns false P → (m : Moment) → P 0 (begun m) → (k : ℕ) (t : Walked) → WalksTo m k t → P k t
-  walks_always learns m h zero t walks = learns 0 (settled (begun m)) t walks (passed_always 0 m.held (begun m) h)
+  walks_always learns m h zero t walks = learns 0 (settled (begun m)) t walks (passed_always 0 m.collection (begun m) h)
   walks_always learns m h (suc k) t (u, word, walks, deals) =
       learns (suc k) (found_first u word (left u)) t deals.leaves (found_always k u word (left u) deals.finds (walks_always learns m h k u walks))
 
@@ -133,7 +133,7 @@ module _ (P : ℕ → Walked → Type 0) (keeps : KeepsAlways P) where
   walked_next k w (p ∷ ps) h = (suc k, dealt_always k w p (way_of w.moment.core (read_of (w.moment.core.cell p))) h)
 
   pub walked_always : (m : Moment) → P 0 (begun m) → (n : ℕ) → (k : ℕ) × P k (walked m n)
-  walked_always m h zero = (0, passed_always 0 m.held (begun m) h)
+  walked_always m h zero = (0, passed_always 0 m.collection (begun m) h)
   walked_always m h (suc n) = let (k, then) = walked_always m h n in walked_next k (walked m n) (left (walked m n)) then
 
 -- ---- the small steps of a walk that began at m, once k objects were dealt with
@@ -141,7 +141,7 @@ module _ (P : ℕ → Walked → Type 0) (keeps : KeepsAlways P) where
 pub record GoesFirst (exact : Bool) (m : Moment) (k : ℕ) (s : State) (l : ℕ) (ls : List ℕ) (p : ℕ) (ps : List ℕ) (way : Way) : Type 0 where
   pub ready : Ready s (l ∷ ls)
   pub live : live_in s l ≡ p ∷ ps
-  pub more : take (suc k) (live_among m.core m.held) ≡ take k (live_among m.core m.held) ++ (p ∷ [])
+  pub more : take (suc k) (live_among m.core m.collection) ≡ take k (live_among m.core m.collection) ++ (p ∷ [])
   pub word : ℕ
   pub finds : Finding exact (s.cell p) word
   pub is : way_of s (read_of word) ≡ way
@@ -169,14 +169,14 @@ pub record Keeps (exact : Bool) (m : Moment) (P : ℕ → Walked → Type 0) : T
 
 -- where the walk stands then: all but the first k objects are left, and there were as many; the log in front has one
 pub record Stands (m : Moment) (P : ℕ → Walked → Type 0) (k : ℕ) (w : Walked) : Type 0 where
-  pub ready : Ready w.moment.core w.moment.held
-  pub begins : BeginsLive w.moment.core w.moment.held
-  pub left : left w ≡ drop k (live_among m.core m.held)
-  pub enough : k ≤ length (live_among m.core m.held)
+  pub ready : Ready w.moment.core w.moment.collection
+  pub begins : BeginsLive w.moment.core w.moment.collection
+  pub left : left w ≡ drop k (live_among m.core m.collection)
+  pub enough : k ≤ length (live_among m.core m.collection)
   pub keeps : P k w
 
 module _ (exact : Bool) (m : Moment) (P : ℕ → Walked → Type 0) (keeps : Keeps exact m P) where
-  passed_stands : (k : ℕ) (ls : List ℕ) (v : Walked) → Ready v.moment.core ls → live_among v.moment.core ls ≡ drop k (live_among m.core m.held) → k ≤ length (live_among m.core m.held) → P k (holding v ls) →
+  passed_stands : (k : ℕ) (ls : List ℕ) (v : Walked) → Ready v.moment.core ls → live_among v.moment.core ls ≡ drop k (live_among m.core m.collection) → k ≤ length (live_among m.core m.collection) → P k (holding v ls) →
       Stands m P k (passed v ls)
   passed_stands k [] v ready is enough h = record { ready = ready; begins = tt; left = is; enough = enough; keeps = h }
   passed_stands k (l ∷ ls) v ready is enough h = cond_both (is_empty (live_in v.moment.core l)) (passed (freed v l) ls) (holding v (l ∷ ls)) (Stands m P k)
@@ -185,8 +185,8 @@ module _ (exact : Bool) (m : Moment) (P : ℕ → Walked → Type 0) (keeps : Ke
       passed_stands k ls (freed v l) (ready_released v.moment.core l ls ready) (rest ∙ is) enough (keeps.gives k v l ls ready none h))
       (λ some. record { ready = ready; begins = some; left = is; enough = enough; keeps = h })
 
-  begun_stands : Ready m.core m.held → P 0 (begun m) → Stands m P 0 (settled (begun m))
-  begun_stands ready h = passed_stands 0 m.held (begun m) ready refl (omega arith) h
+  begun_stands : Ready m.core m.collection → P 0 (begun m) → Stands m P 0 (settled (begun m))
+  begun_stands ready h = passed_stands 0 m.collection (begun m) ready refl (omega arith) h
 
   next_stands : (k : ℕ) (w : Walked) (held live : List ℕ) (p : ℕ) (rest : List ℕ) (word : ℕ) → Stands m P k (holding w held) → live_among w.moment.core held ≡ p ∷ rest → first_live w.moment.core held ≡ live →
       Finding exact (w.moment.core.cell p) word → Stands m P (suc k) (settled (dealt_as (holding w held) p (read_of word)))
@@ -199,7 +199,7 @@ module _ (exact : Bool) (m : Moment) (P : ℕ → Walked → Type 0) (keeps : Ke
       let more : qs ++ live_among s ls ≡ rest = cc in
       let here : live_in s l ≡ p ∷ qs = front ∙ ap (λ x. x ∷ qs) same in
       let way = way_of s (read_of word) in
-      let next = drop_next k (live_among m.core m.held) p rest (sym h.left ∙ is) in
+      let next = drop_next k (live_among m.core m.collection) p rest (sym h.left ∙ is) in
       let first : GoesFirst exact m k s l ls p qs way = record { ready = h.ready; live = here; more = next.2; word = word; finds = finds; is = refl } in
       let leaves = first_leaves first in
       subst (λ v. Stands m P (suc k) (settled v)) (sym (dealt_is (holding w (l ∷ ls)) p way))
@@ -210,19 +210,19 @@ module _ (exact : Bool) (m : Moment) (P : ℕ → Walked → Type 0) (keeps : Ke
 module _ (m : Moment) (P : ℕ → Walked → Type 0) (keeps : Keeps false m P) where
   stands_known : (k : ℕ) (w t : Walked) → KnowsWalked w t → Stands m P k w → Stands m P k t
   stands_known k w t known h =
-      let same : t.moment.held ≡ w.moment.held = ap (λ (m : Moment). m.held) known.moment.rest in record {
-        ready = subst (Ready t.moment.core) (sym same) (ready_known w.moment.core t.moment.core known.moment.core w.moment.held h.ready);
-        begins = subst (BeginsLive t.moment.core) (sym same) (begins_known w.moment.core t.moment.core known.moment.core w.moment.held h.begins);
-        left = ap (live_among t.moment.core) same ∙ left_known w.moment.core t.moment.core known.moment.core w.moment.held ∙ h.left;
+      let same : t.moment.collection ≡ w.moment.collection = ap (λ (m : Moment). m.collection) known.moment.rest in record {
+        ready = subst (Ready t.moment.core) (sym same) (ready_known w.moment.core t.moment.core known.moment.core w.moment.collection h.ready);
+        begins = subst (BeginsLive t.moment.core) (sym same) (begins_known w.moment.core t.moment.core known.moment.core w.moment.collection h.begins);
+        left = ap (live_among t.moment.core) same ∙ left_known w.moment.core t.moment.core known.moment.core w.moment.collection ∙ h.left;
         enough = h.enough;
         keeps = keeps.learns k w t known h.keeps;
       }
 
   found_stands : (k : ℕ) (u : Walked) (word : ℕ) (xs : List ℕ) → Stands m P k u → left u ≡ xs → FindsFirst u word xs → Stands m P (suc k) (found_first u word xs)
   found_stands k u word [] h is finds = absurd finds
-  found_stands k u word (p ∷ rest) h is finds = next_stands false m P keeps k u u.moment.held (first_live u.moment.core u.moment.held) p rest word h is refl finds
+  found_stands k u word (p ∷ rest) h is finds = next_stands false m P keeps k u u.moment.collection (first_live u.moment.core u.moment.collection) p rest word h is refl finds
 
-  pub lifted_walks : Ready m.core m.held → P 0 (begun m) → (k : ℕ) (t : Walked) → WalksTo m k t → Stands m P k t
+  pub lifted_walks : Ready m.core m.collection → P 0 (begun m) → (k : ℕ) (t : Walked) → WalksTo m k t → Stands m P k t
   lifted_walks ready h zero t walks = stands_known 0 (settled (begun m)) t walks (begun_stands false m P keeps ready h)
   lifted_walks ready h (suc k) t (u, word, walks, deals) =
       stands_known (suc k) (found_first u word (left u)) t deals.leaves (found_stands k u word (left u) (lifted_walks ready h k u walks) refl deals.finds)
@@ -231,23 +231,23 @@ module _ (m : Moment) (P : ℕ → Walked → Type 0) (keeps : Keeps false m P) 
 module _ (m : Moment) (P : ℕ → Walked → Type 0) (keeps : Keeps true m P) where
   -- after n calls for one more, where there were as many, so many were dealt with
   abbrev WalkStands : ℕ → Walked → Type 0
-  WalkStands n w = (k : ℕ) × (n ≤ length (live_among m.core m.held) → k ≡ n) × Stands m P k w
+  WalkStands n w = (k : ℕ) × (n ≤ length (live_among m.core m.collection) → k ≡ n) × Stands m P k w
 
   first_stands : (n : ℕ) (w : Walked) (xs : List ℕ) → WalkStands n w → left w ≡ xs → WalkStands (suc n) (dealt_first w xs)
   first_stands n w [] (k, all, h) is =
-      let none = ap length (sym h.left ∙ is) in (k, λ few. (let same = all (omega (arith, few)) in absurd (omega (arith, few, same, none, length-drop k (live_among m.core m.held)))), h)
+      let none = ap length (sym h.left ∙ is) in (k, λ few. (let same = all (omega (arith, few)) in absurd (omega (arith, few, same, none, length-drop k (live_among m.core m.collection)))), h)
   first_stands n w (p ∷ rest) (k, all, h) is = (
     suc k,
     λ few. (let same = all (omega (arith, few)) in omega (arith, same)),
-    next_stands true m P keeps k w w.moment.held (first_live w.moment.core w.moment.held) p rest (w.moment.core.cell p) h is refl refl,
+    next_stands true m P keeps k w w.moment.collection (first_live w.moment.core w.moment.collection) p rest (w.moment.core.cell p) h is refl refl,
   )
 
-  pub lifted_walked : Ready m.core m.held → P 0 (begun m) → (n : ℕ) → WalkStands n (walked m n)
+  pub lifted_walked : Ready m.core m.collection → P 0 (begun m) → (n : ℕ) → WalkStands n (walked m n)
   lifted_walked ready h zero = (0, λ few. refl, begun_stands true m P keeps ready h)
   lifted_walked ready h (suc n) = first_stands n (walked m n) (left (walked m n)) (lifted_walked ready h n) refl
 
 -- ---- the places alone
-pub walks_left : (m : Moment) (k : ℕ) (t : Walked) → Ready m.core m.held → WalksTo m k t → Stands m (λ k w. Unit {0}) k t
+pub walks_left : (m : Moment) (k : ℕ) (t : Walked) → Ready m.core m.collection → WalksTo m k t → Stands m (λ k w. Unit {0}) k t
 walks_left m k t ready walks = lifted_walks m (λ k w. Unit {0}) record { learns = λ k w t known h. tt; gives = λ k w l ls ready none h. tt; deals = λ k w l ls p ps way first h. tt } ready tt k t walks
 
 -- as many objects are counted as were dealt with

@@ -16,7 +16,7 @@ use Rattle.far_evac.specs.declared.round.Round.{Round}
 use Rattle.far_evac.specs.Live.{is_empty}
 use Rattle.far_evac.specs.MomentLaw.{has_risen, is_idle}
 use Rattle.far_evac.specs.RoundSteps.{among}
-use Rattle.far_evac.specs.Standing.{InRound, held_in, held_of}
+use Rattle.far_evac.specs.Standing.{InRound, collection_in, collection_of}
 
 -- ---- no round
 pub none_once : IsDistinct eqb []
@@ -25,8 +25,8 @@ none_once = IsDistinct-from_apart eqb [] (λ i j d lt le. absurd (omega arith))
 no_risen : (phase : Phase) → phase ≡ Idle → has_risen phase ≡ true → ⊥
 no_risen phase idle risen = false≢true (sym (ap has_risen idle) ∙ risen)
 
-idle_held : (r : Round) → r.phase ≡ Idle → held_in r ≡ []
-idle_held r idle = ap (λ phase. held_of phase r.chosen r.index) idle
+idle_held : (r : Round) → r.phase ≡ Idle → collection_in r ≡ []
+idle_held r idle = ap (λ phase. collection_of phase r.chosen r.index) idle
 
 pub idle_round : (s : State) (r : Round) → r.phase ≡ Idle → r.index ≤ length r.chosen → InRound s r
 idle_round s r idle index = record {
@@ -58,7 +58,7 @@ at_start s law l = (lives_from_start s law l).0
 pub chosen_round : (s : State) (r : Round) → Law (own_part s) → r.phase ≡ Marking → r.index ≡ 0 → r.at ≡ 0 → ((l : ℕ) → among r.chosen l ≡ true → s.kind l ≡ kinds.Sealed) → IsDistinct eqb r.chosen →
     is_empty r.chosen ≡ false → s.epoch + 1 < EPOCH_END → InRound s r
 chosen_round s r law marks index at sealed once some later =
-    let held : held_in r ≡ r.chosen = ap (λ phase. held_of phase r.chosen r.index) marks in record {
+    let held : collection_in r ≡ r.chosen = ap (λ phase. collection_of phase r.chosen r.index) marks in record {
       holds = record {
         sealed = λ l is. sealed l (sym (ap (λ ls. among ls l) held) ∙ is);
         once = subst (IsDistinct eqb) (sym held) once;

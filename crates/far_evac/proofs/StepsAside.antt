@@ -84,7 +84,7 @@ module _ (m : Moment) (t : State) (law : Law m.core) (moment : MomentLaw m) (the
     order = order_then;
     order_once = once_then;
     sealed = λ l held. aside.stay l (moment.sealed l held);
-    held_once = moment.held_once;
+    collection_once = moment.collection_once;
     runs = moment.runs;
     round = λ risen l held. ap (λ (round : ℕ → Bool). round l) aside.round ∙ moment.round risen l held;
     only = λ risen l is. moment.only risen l (sym (ap (λ (round : ℕ → Bool). round l) aside.round) ∙ is);

@@ -66,7 +66,7 @@ module _ (m t : Moment) (same : (p : ℕ) → but_evac (says t p) ≡ but_evac (
 pub selecting_none : SelectingStraysNone
 selecting_none m [] moment idle none = none
 selecting_none m (l ∷ ls) moment idle none = λ p len ds place marks near is.
-    absurd (false≢true (sym (ap (λ held. among held place.log) (none_there m.held (moment.runs ∙ idle))) ∙ none p len ds place marks near is))
+    absurd (false≢true (sym (ap (λ held. among held place.log) (none_there m.collection (moment.runs ∙ idle))) ∙ none p len ds place marks near is))
 
 -- ---- marking
 same_round : (m : Moment) (n l : ℕ) → (marked_core m n).round l ≡ m.core.round l
@@ -74,7 +74,7 @@ same_round m n l = ap (λ (s : State). s.round l) (marks_cells (newly_marked m n
 
 pub marking_own : (m : Moment) (n : ℕ) → Law (own_part m.core) → NoneStrays m → NoneStrays (after_marking m n)
 marking_own m n law none =
-    cond_both (leaves_some m n) (record m { core = marked_core m n }) (record m { core = advanced (marked_core m n) m.held; phase = Waiting })
+    cond_both (leaves_some m n) (record m { core = marked_core m n }) (record m { core = advanced (marked_core m n) m.collection; phase = Waiting })
     (λ (t : Moment). ((p : ℕ) → but_evac (says t p) ≡ but_evac (says m p)) → NoneStrays t)
     (λ _ same p len ds place marks near is. let x = still_near m (record m { core = marked_core m n }) same p len ds place marks near in none p len ds place x.0 x.1 (sym (same_round m n place.log) ∙ is))
     (λ _ same p len ds place marks near is. is)
@@ -100,7 +100,7 @@ walking_none m n law moment leaves =
 
 -- ---- giving up
 module _ (m : Moment) (law : Law (own_part m.core)) (none : NoneStrays m) (p len ds : ℕ) (place : Place) (marks : Marks) (near : read_of (m.core.cell p) ≡ Some (Near len ds place marks)) where
-  out_of_round : (held : Bool) → among m.held place.log ≡ held → cond held (m.core.round place.log && is_empty (live_in m.core place.log)) (m.core.round place.log) ≡ true → ⊥
+  out_of_round : (held : Bool) → among m.collection place.log ≡ held → cond held (m.core.round place.log && is_empty (live_in m.core place.log)) (m.core.round place.log) ≡ true → ⊥
   out_of_round true e is =
       let empty = (and_parts (m.core.round place.log) (is_empty (live_in m.core place.log)) is).1 in
       vacant_in m.core law place.log 0 (λ q n d at k there log. omega arith) (none_there (live_in m.core place.log) empty) p len ds place marks near refl
@@ -110,7 +110,7 @@ pub aborting_own : (m : Moment) → Law (own_part m.core) → NoneStrays m → N
 aborting_own m law none p len ds place marks near is =
     let given = is_given_up m (fits m.core law) in
     let x = still_near m (after_aborting m) given.same p len ds place marks near in
-    absurd (out_of_round m law none p len ds place x.0 x.1 (among m.held place.log) refl (sym (given.round place.log) ∙ is))
+    absurd (out_of_round m law none p len ds place x.0 x.1 (among m.collection place.log) refl (sym (given.round place.log) ∙ is))
 
 pub aborting_none : AbortingStraysNone
 aborting_none m law none = aborting_own m (own_law m.core law) none
@@ -119,16 +119,16 @@ aborting_none m law none = aborting_own m (own_law m.core law) none
 pub found_none : FoundStrayNone
 found_none m t known none p len ds place marks near is =
     let x = near_known (m.core.cell p) (t.core.cell p) (known.core.found p) len ds place marks near in
-    ap (λ (n : Moment). among n.held place.log) known.rest
+    ap (λ (n : Moment). among n.collection place.log) known.rest
     ∙ none p len ds place x.marks x.near (sym (ap (λ (s : State). s.round place.log) known.core.rest) ∙ is)
 
--- ---- while objects leave, no other log than those held is in the round
+-- ---- while objects leave, no log outside the collection set is in the round
 abbrev IsOnly : Walked → Type 0
-IsOnly w = (l : ℕ) → w.moment.core.round l ≡ true → among w.moment.held l ≡ true
+IsOnly w = (l : ℕ) → w.moment.core.round l ≡ true → among w.moment.collection l ≡ true
 
 keeps_only : (m : Moment) → Keeps false m (λ k. IsOnly)
 keeps_only m = record {
-  learns = λ k w t known only l is. ap (λ (n : Moment). among n.held l) known.moment.rest ∙ only l (sym (ap (λ (s : State). s.round l) known.moment.core.rest) ∙ is);
+  learns = λ k w t known only l is. ap (λ (n : Moment). among n.collection l) known.moment.rest ∙ only l (sym (ap (λ (s : State). s.round l) known.moment.core.rest) ∙ is);
   gives = λ k w l ls ready none only j is. elim (cases_eq j l) [
     | inl e ↦ absurd (false≢true (sym (put_same w.moment.core.round l false j e) ∙ is))
     | inr ne ↦ sym (ap (λ b. b || among ls j) (ne_eqb j l ne)) ∙ only j (sym (put_other w.moment.core.round l false j ne) ∙ is)

@@ -164,22 +164,22 @@ counts_one Goes (Some (Far len ds marks)) h = record { dropped = none_more; move
 
 -- ---- walks
 record Did (m : Moment) (objects : List ℕ) (t : Walked) : Type 0 where
-  are : Are m objects t.moment.core.cell t.moment.held
+  are : Are m objects t.moment.core.cell t.moment.collection
   counts : Counts objects t.moment.core.cell t.tally
 
 did_known : (m : Moment) (objects : List ℕ) (w t : Walked) → KnowsWalked w t → Did m objects w → Did m objects t
 did_known m objects w t known d =
     let found = known.moment.core.found in
-    let held : t.moment.held ≡ w.moment.held = ap (λ (n : Moment). n.held) known.moment.rest in
+    let held : t.moment.collection ≡ w.moment.collection = ap (λ (n : Moment). n.collection) known.moment.rest in
     record {
-      are = subst (Are m objects t.moment.core.cell) (sym held) (are_found w.moment.core.cell t.moment.core.cell found m objects w.moment.held d.are);
+      are = subst (Are m objects t.moment.core.cell) (sym held) (are_found w.moment.core.cell t.moment.core.cell found m objects w.moment.collection d.are);
       counts = subst (Counts objects t.moment.core.cell) (sym known.tally) (counts_found w.moment.core.cell t.moment.core.cell found objects w.tally d.counts);
     }
 
-next_did : (m : Moment) (k : ℕ) (w : Walked) (l : ℕ) (ls : List ℕ) (p : ℕ) (ps : List ℕ) (way : Way) → GoesFirst false m k w.moment.core l ls p ps way → Did m (take k (live_among m.core m.held)) (holding w (l ∷ ls)) →
-    Did m (take k (live_among m.core m.held) ++ (p ∷ [])) (gone_so w (l ∷ ls) p way)
+next_did : (m : Moment) (k : ℕ) (w : Walked) (l : ℕ) (ls : List ℕ) (p : ℕ) (ps : List ℕ) (way : Way) → GoesFirst false m k w.moment.core l ls p ps way → Did m (take k (live_among m.core m.collection)) (holding w (l ∷ ls)) →
+    Did m (take k (live_among m.core m.collection) ++ (p ∷ [])) (gone_so w (l ∷ ls) p way)
 next_did m k w l ls p ps way first d =
-    let objects = take k (live_among m.core m.held) in
+    let objects = take k (live_among m.core m.collection) in
     let s : State = w.moment.core in
     let t : State = core_so s p way in
     let gone = first_gone first in
@@ -194,20 +194,20 @@ next_did m k w l ls p ps way first d =
       };
     }
 
-keeps_did : (m : Moment) → Keeps false m (λ k. Did m (take k (live_among m.core m.held)))
+keeps_did : (m : Moment) → Keeps false m (λ k. Did m (take k (live_among m.core m.collection)))
 keeps_did m = record {
-  learns = λ k. did_known m (take k (live_among m.core m.held));
+  learns = λ k. did_known m (take k (live_among m.core m.collection));
   gives = λ k w l ls ready none d. record {
-    are = record { off = each_map (λ q h. h.1) (take k (live_among m.core m.held)) d.are.off; left = d.are.left; others = d.are.others };
+    are = record { off = each_map (λ q h. h.1) (take k (live_among m.core m.collection)) d.are.off; left = d.are.left; others = d.are.others };
     counts = record { dropped = d.counts.dropped; moved = d.counts.moved; far = d.counts.far };
   };
   deals = λ k w l ls p ps way first d. subst (λ xs. Did m xs (gone_so w (l ∷ ls) p way)) (sym first.more) (next_did m k w l ls p ps way first d);
 }
 
-pub deals_with : (m : Moment) (k : ℕ) (t : Walked) → Ready m.core m.held → WalksTo m k t → DealsWith m t.moment t.tally (take k (live_among m.core m.held))
+pub deals_with : (m : Moment) (k : ℕ) (t : Walked) → Ready m.core m.collection → WalksTo m k t → DealsWith m t.moment t.tally (take k (live_among m.core m.collection))
 deals_with m k t ready walks =
     let start : Did m [] (begun m) = record { are = record { off = tt; left = tt; others = λ q apart. refl }; counts = record { dropped = refl; moved = refl; far = refl } } in
-    let d = (lifted_walks m (λ k. Did m (take k (live_among m.core m.held))) (keeps_did m) ready start k t walks).keeps in record {
+    let d = (lifted_walks m (λ k. Did m (take k (live_among m.core m.collection))) (keeps_did m) ready start k t walks).keeps in record {
       left = d.are.left;
       dropped = d.counts.dropped;
       moved = d.counts.moved;

@@ -24,7 +24,7 @@ use Rattle.far_evac.specs.Moment.{Moment, Tally, nothing}
 use Rattle.far_book.specs.book.Releasing.{released}
 use Rattle.far_evac.specs.Stops.{Stop, Object, End, tour, front, stopped, toured}
 use Rattle.far_evac.specs.Walk.{Walked, Way, Drops, Moves, Goes, begun, dealt_first, dealt_so, freed, hot_way, left, passed, settled, walked, way_of}
-use Rattle.far_evac.specs.Ready.{Ready, IsHeld}
+use Rattle.far_evac.specs.Ready.{Ready, IsOfRound}
 use Rattle.far_evac.specs.Dealings.{is_away, is_nowhere}
 use Rattle.far_core.specs.events.Clear.{is_near}
 use Rattle.far_evac.proofs.Dealt.{Gone, Leaves, gone_dropped, gone_far, gone_moved, leaves_dropped, leaves_far, leaves_moved}
@@ -33,7 +33,7 @@ use Rattle.far_evac.proofs.LiveOnce.{NearAt, but, but_first, but_none, first_nam
 
 -- a walk by its parts
 abbrev pub stand : State → List ℕ → Phase → List ℕ → Tally → Walked
-stand s order phase held tally = record { moment = record { core = s; order = order; phase = phase; held = held }; tally = tally }
+stand s order phase held tally = record { moment = record { core = s; order = order; phase = phase; collection = held }; tally = tally }
 
 -- ---- so many objects more
 abbrev pub steps : ℕ → Walked → Walked
@@ -61,7 +61,7 @@ others l ls once = go ls (IsDistinct-head eqb l ls once) where
   go (k ∷ ks) h = (λ e. eqb-false l k h.0 (sym e), go ks h.1)
 
 module _ (s : State) (l : ℕ) (ls : List ℕ) (ready : Ready s (l ∷ ls)) where
-  held_on : (ks : List ℕ) → AllByRecursion (λ k. k ≢ l) ks → AllByRecursion (IsHeld s) ks → AllByRecursion (IsHeld (released s l)) ks
+  held_on : (ks : List ℕ) → AllByRecursion (λ k. k ≢ l) ks → AllByRecursion (IsOfRound s) ks → AllByRecursion (IsOfRound (released s l)) ks
   held_on [] apart h = tt
   held_on (k ∷ ks) apart h = ((put_other s.kind l kinds.Free k apart.0 ∙ h.0.0, h.0.1, put_other s.round l false k apart.0 ∙ h.0.2), held_on ks apart.1 h.1)
 
@@ -87,10 +87,10 @@ module _ (s : State) (l : ℕ) (ls : List ℕ) (ready : Ready s (l ∷ ls)) wher
   pub tour_released : tour (released s l) ls ≡ tour s ls
   tour_released = tour_on ls (others l ls ready.once)
 
--- which logs were held before doesn't matter
-pub passed_any : (w : Walked) (old ls : List ℕ) → passed (record w { moment = record w.moment { held = old } }) ls ≡ passed w ls
+-- what the collection set was before doesn't matter
+pub passed_any : (w : Walked) (old ls : List ℕ) → passed (record w { moment = record w.moment { collection = old } }) ls ≡ passed w ls
 passed_any w old [] = refl
-passed_any w old (l ∷ ls) = ap (λ t. cond (is_empty (live_in w.moment.core l)) t (record w { moment = record w.moment { held = l ∷ ls } })) (passed_any (freed w l) old ls)
+passed_any w old (l ∷ ls) = ap (λ t. cond (is_empty (live_in w.moment.core l)) t (record w { moment = record w.moment { collection = l ∷ ls } })) (passed_any (freed w l) old ls)
 
 -- ---- the first object is dealt with
 module _ (s : State) (l : ℕ) (ls : List ℕ) (p : ℕ) (ps : List ℕ) (ready : Ready s (l ∷ ls)) (first : live_in s l ≡ p ∷ ps) (t : State) (after : Leaves s p t (l ∷ ls)) where
@@ -236,5 +236,5 @@ tours (Object q ∷ rest) (suc n) phase s order (l ∷ ls) tally (p ∷ ps) f = 
     ∙ sym (ap (steps (suc n)) rests ∙ steps_first n w ∙ ap (λ xs. steps n (dealt_first w xs)) lives)
 
 -- where a walk may go on, it is the tour
-pub walk_tours : (m : Moment) (n : ℕ) → Ready m.core m.held → walked m n ≡ toured m n
-walk_tours m n ready = walked_steps m n ∙ sym (tours (tour m.core m.held) n m.phase m.core m.order m.held nothing (first_live m.core m.held) refl ready refl)
+pub walk_tours : (m : Moment) (n : ℕ) → Ready m.core m.collection → walked m n ≡ toured m n
+walk_tours m n ready = walked_steps m n ∙ sym (tours (tour m.core m.collection) n m.phase m.core m.order m.collection nothing (first_live m.core m.collection) refl ready refl)

@@ -54,7 +54,7 @@ pub record Made (D : Type 0) (writes : D → ℕ → List ℕ → Result (Unit {
   pub asked : TurnsAsking D writes lets_go m tallies false t old new
   pub many : length tallies ≡ n
   pub sum : sum_of tallies ≡ total
-  pub left : live_among t.core t.held ≡ drop (objects_in total) (live_among m.core m.held)
+  pub left : live_among t.core t.collection ≡ drop (objects_in total) (live_among m.core m.collection)
   pub keys : KeepsKeys (first_live m (objects_in total)) (contents old) (contents new)
 
 module _ (D : Type 0) (writes : D → ℕ → List ℕ → Result (Unit {0}) DeviceFault → D → Type 0) (lets_go : D → ℕ → D → Type 0) (contents : D → ℕ → Option (List ℕ)) (m : Moment) where
@@ -88,7 +88,7 @@ module _ (D : Type 0) (writes : D → ℕ → List ℕ → Result (Unit {0}) Dev
         asked = (u, between, h.asked, turns, asks, lawful);
         many = omega (arith, h.many);
         sum = ap (λ a. plus a tally) h.sum ∙ sym is;
-        left = subst (λ (a : Tally). live_among t.core t.held ≡ drop (objects_in a) (live_among m.core m.held)) (sym is) (turn_kept (LeftOf m) (keeps_left m) u t lawful before h.left tally false turns);
+        left = subst (λ (a : Tally). live_among t.core t.collection ≡ drop (objects_in a) (live_among m.core m.collection)) (sym is) (turn_kept (LeftOf m) (keeps_left m) u t lawful before h.left tally false turns);
         keys = subst (λ (a : Tally). KeepsKeys (first_live m (objects_in a)) (contents old) (contents new)) (sym is) keys_then;
       }
 

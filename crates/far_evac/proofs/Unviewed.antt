@@ -59,21 +59,21 @@ module _ (s : State) (law : Law s) (all : first_open s ≡ None) (p : ℕ) (plac
   out_of_round = by_cases (s.clear owner) (is_clear_now s owner) refl refl clear_or_late
 
 pub clear_means_unviewed : (m : Moment) → Law m.core → MomentLaw m → has_risen m.phase ≡ true → first_open m.core ≡ None →
-    (p : ℕ) (place : Place) → m.core.held p ≡ Some place → among m.held place.log ≡ false
+    (p : ℕ) (place : Place) → m.core.held p ≡ Some place → among m.collection place.log ≡ false
 clear_means_unviewed m law moment risen all p place views =
-    false_from_ne_true (among m.held place.log) (λ held. true≢false (sym (moment.round risen place.log held) ∙ out_of_round m.core law all p place views))
+    false_from_ne_true (among m.collection place.log) (λ held. true≢false (sym (moment.round risen place.log held) ∙ out_of_round m.core law all p place views))
 
 -- ---- later in the round
 module _ (m : Moment) (s : State) (law : Law s) (round : s.round ≡ m.core.round) (clear : s.clear ≡ m.core.clear) (mutators : s.mutators ≡ m.core.mutators) (moment : MomentLaw m)
     (risen : has_risen m.phase ≡ true) (p : ℕ) (place : Place) (views : s.held p ≡ Some place) where
-  seen_clear : m.core.clear (p / CELLS) ≡ true → among m.held place.log ≡ false
-  seen_clear seen = false_from_ne_true (among m.held place.log) (λ held. true≢false (
+  seen_clear : m.core.clear (p / CELLS) ≡ true → among m.collection place.log ≡ false
+  seen_clear seen = false_from_ne_true (among m.collection place.log) (λ held. true≢false (
       sym (moment.round risen place.log held) ∙ ap (λ f. f place.log) (sym round) ∙ law.clears.clear_unviewed p place views (ap (λ f. f (p / CELLS)) clear ∙ seen)))
 
   owned : p / CELLS < m.core.mutators
   owned = subst (λ n. p / CELLS < n) mutators (law.scopes.scope_range (p / CELLS) (law.views.held_open p (ap is_some views)))
 
-  pub nothing_viewed : (m.core.clear (p / CELLS) ≡ true → among m.held place.log ≡ false) × (m.phase ≡ Evacuating → among m.held place.log ≡ false)
+  pub nothing_viewed : (m.core.clear (p / CELLS) ≡ true → among m.collection place.log ≡ false) × (m.phase ≡ Evacuating → among m.collection place.log ≡ false)
   nothing_viewed = (seen_clear, λ leaves. seen_clear (moment.clear leaves (p / CELLS) owned))
 
 pub clear_views_nothing : ClearViewsNothing

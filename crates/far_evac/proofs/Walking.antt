@@ -15,7 +15,7 @@ use Rattle.far_evac.specs.Live.{live_in}
 use Rattle.far_evac.specs.Moment.{Moment}
 use Rattle.far_evac.specs.MomentLaw.{is_idle}
 use Rattle.far_evac.specs.RoundSteps.{among}
-use Rattle.far_evac.specs.Standing.{InRound, LiesFrom, held_in, held_of}
+use Rattle.far_evac.specs.Standing.{InRound, LiesFrom, collection_in, collection_of}
 use Rattle.far_evac.proofs.Fronts.{first_begins, first_lies, vacant_in}
 use Rattle.far_evac.proofs.Keeping.{dropped_among}
 use Rattle.far_evac.proofs.OfOneKind.{sealed_used}
@@ -31,15 +31,15 @@ pub found_moment : (m n : Moment) (t : State) (order : List ℕ) → n ≡ m →
 found_moment m n t order is knows same = subst (λ x. KnowsMoment x (record n { core = t; order = order })) is record { core = knows; rest = λ i. record n { core = t; order = same i } }
 
 -- ---- the log in front
-pub drops_front : (r : Round) → r.phase ≡ Evacuating → (l : ℕ) (ls : List ℕ) → held_in r ≡ l ∷ ls → drop r.index r.chosen ≡ l ∷ ls
-drops_front r walks l ls front = sym (ap (λ phase. held_of phase r.chosen r.index) walks) ∙ front
+pub drops_front : (r : Round) → r.phase ≡ Evacuating → (l : ℕ) (ls : List ℕ) → collection_in r ≡ l ∷ ls → drop r.index r.chosen ≡ l ∷ ls
+drops_front r walks l ls front = sym (ap (λ phase. collection_of phase r.chosen r.index) walks) ∙ front
 
-module _ (s : State) (r : Round) (in_round : InRound s r) (law : Law (own_part s)) (walks : r.phase ≡ Evacuating) (l : ℕ) (ls : List ℕ) (front : held_in r ≡ l ∷ ls) where
+module _ (s : State) (r : Round) (in_round : InRound s r) (law : Law (own_part s)) (walks : r.phase ≡ Evacuating) (l : ℕ) (ls : List ℕ) (front : collection_in r ≡ l ∷ ls) where
   fronts : drop r.index r.chosen ≡ l ∷ ls
   fronts = drops_front r walks l ls front
 
   pub front_sealed : s.kind l ≡ kinds.Sealed
-  front_sealed = in_round.holds.sealed l (among_front (held_in r) l ls front)
+  front_sealed = in_round.holds.sealed l (among_front (collection_in r) l ls front)
 
   pub front_range : l < s.logs
   front_range = law.logs.log_range l (sealed_used (s.kind l) front_sealed)

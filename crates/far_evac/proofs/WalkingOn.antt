@@ -27,7 +27,7 @@ use Rattle.far_evac.specs.Leaving.{LeavesAs, LeavesBy, core_by, counted_as, fate
 use Rattle.far_evac.specs.Moment.{Moment, Tally}
 use Rattle.far_evac.specs.Ready.{Ready}
 use Rattle.far_evac.specs.RoundSteps.{among}
-use Rattle.far_evac.specs.Standing.{InRound, LiesFrom, held_in}
+use Rattle.far_evac.specs.Standing.{InRound, LiesFrom, collection_in}
 use Rattle.far_evac.specs.Walk.{Walked, Way, Drops, Goes, Moves, dealt_as, dealt_so, way_of}
 use Rattle.far_evac.proofs.Fronts.{first_lives}
 use Rattle.far_evac.proofs.Keeping.{KeepsLogs, bounded_kept, keeps_known, keeps_more, keeps_sealed, round_kept}
@@ -70,16 +70,16 @@ so_by s p Goes = refl
 names_own : (len ds l : ℕ) (place : Place) (marks : Marks) → place.log ≡ l → names_place (Some (Near len ds place marks)) l place.at ≡ true
 names_own len ds l place marks e = ap (λ b. b && nat_eq place.at place.at) (eq-eqb place.log l e) ∙ eq-eqb place.at place.at refl
 
-module _ (s t : State) (r : Round) (in_round : InRound s r) (walks : r.phase ≡ Evacuating) (span : Span) (next : IsNextLeaving s (held_in r) span) (ready : Ready s (held_in r))
+module _ (s t : State) (r : Round) (in_round : InRound s r) (walks : r.phase ≡ Evacuating) (span : Span) (next : IsNextLeaving s (collection_in r) span) (ready : Ready s (collection_in r))
     (q : IsQuietNear s span.p) (law : Law (own_part s)) (then : Law (own_part t)) (evac : has_evac (read_of (s.cell span.p)) ≡ true) (order after : List ℕ) (fate : Fate)
     (leaves : LeavesBy s order t after span.p fate) where
   abbrev way : Way
   way = way_of s (read_of leaves.word)
 
-  keeps : KeepsLogs s t (held_in r)
-  keeps = keeps_more s (core_by s span.p way) t (held_in r)
-      (keeps_sealed s (core_by s span.p way) (held_in r) in_round.holds.sealed (sealed_kept s span.p q law evac leaves.word leaves.found way refl))
-      (keeps_known (core_by s span.p way) t (held_in r) leaves.core)
+  keeps : KeepsLogs s t (collection_in r)
+  keeps = keeps_more s (core_by s span.p way) t (collection_in r)
+      (keeps_sealed s (core_by s span.p way) (collection_in r) in_round.holds.sealed (sealed_kept s span.p q law evac leaves.word leaves.found way refl))
+      (keeps_known (core_by s span.p way) t (collection_in r) leaves.core)
 
   gone : (at : ℕ) → names_place (read_of (t.cell span.p)) next.log at ≡ false
   gone at =
@@ -87,12 +87,12 @@ module _ (s t : State) (r : Round) (in_round : InRound s r) (walks : r.phase ≡
       finds_place ((core_by s span.p way).cell span.p) (t.cell span.p) (leaves.core.found span.p) next.log at
       ∙ ap (λ (u : State). names_place (read_of (u.cell span.p)) next.log at) (sym (so_by s span.p way)) ∙ off
 
-  front_among : among (held_in r) next.log ≡ true
-  front_among = among_front (held_in r) next.log next.more next.front
+  front_among : among (collection_in r) next.log ≡ true
+  front_among = among_front (collection_in r) next.log next.more next.front
 
   lies_behind : LiesFrom t next.log (span.at + size_of span.len)
   lies_behind p len ds place marks near log =
-      let was = keeps.near p len ds place marks near (subst (λ k. among (held_in r) k ≡ true) (sym log) front_among) in
+      let was = keeps.near p len ds place marks near (subst (λ k. among (collection_in r) k ≡ true) (sym log) front_among) in
       elim (cases_eq p span.p) [
         | inl e ↦ absurd (true≢false (sym (names_own len ds next.log place marks log) ∙ sym (ap (λ o. names_place o next.log place.at) near)
             ∙ ap (λ x. names_place (read_of (t.cell x)) next.log place.at) e ∙ gone place.at))
@@ -106,42 +106,42 @@ module _ (s t : State) (r : Round) (in_round : InRound s r) (walks : r.phase ≡
 
 -- ---- and is counted
 dealt_way : (w : Walked) (t : Moment) (tally : Tally) (p : ℕ) (fate : Fate) (way : Way) → Knows (core_by w.moment.core p way) t.core → t.order ≡ order_by w.moment.core w.moment.order way → fate ≡ fate_by way →
-    t.phase ≡ w.moment.phase → t.held ≡ w.moment.held → tally ≡ counted_as w.tally fate → KnowsWalked (dealt_so w p way) (record { moment = t; tally = tally })
+    t.phase ≡ w.moment.phase → t.collection ≡ w.moment.collection → tally ≡ counted_as w.tally fate → KnowsWalked (dealt_so w p way) (record { moment = t; tally = tally })
 dealt_way w t tally p fate Drops core order is phase held counted = record {
-  moment = record { core = core; rest = λ i. record { core = t.core; order = order i; phase = phase i; held = held i } };
+  moment = record { core = core; rest = λ i. record { core = t.core; order = order i; phase = phase i; collection = held i } };
   tally = counted ∙ ap (counted_as w.tally) is;
 }
 dealt_way w t tally p fate (Moves place) core order is phase held counted = record {
-  moment = record { core = core; rest = λ i. record { core = t.core; order = order i; phase = phase i; held = held i } };
+  moment = record { core = core; rest = λ i. record { core = t.core; order = order i; phase = phase i; collection = held i } };
   tally = counted ∙ ap (counted_as w.tally) is;
 }
 dealt_way w t tally p fate Goes core order is phase held counted = record {
-  moment = record { core = core; rest = λ i. record { core = t.core; order = order i; phase = phase i; held = held i } };
+  moment = record { core = core; rest = λ i. record { core = t.core; order = order i; phase = phase i; collection = held i } };
   tally = counted ∙ ap (counted_as w.tally) is;
 }
 
-pub dealt_known : (w : Walked) (t : Moment) (tally : Tally) (p : ℕ) (fate : Fate) (leaves : LeavesBy w.moment.core w.moment.order t.core t.order p fate) → t.phase ≡ w.moment.phase → t.held ≡ w.moment.held →
+pub dealt_known : (w : Walked) (t : Moment) (tally : Tally) (p : ℕ) (fate : Fate) (leaves : LeavesBy w.moment.core w.moment.order t.core t.order p fate) → t.phase ≡ w.moment.phase → t.collection ≡ w.moment.collection →
     tally ≡ counted_as w.tally fate → KnowsWalked (dealt_as w p (read_of leaves.word)) (record { moment = t; tally = tally })
 dealt_known w t tally p fate leaves phase held counted =
     dealt_way w t tally p fate (way_of w.moment.core (read_of leaves.word)) leaves.core leaves.sealed leaves.is phase held counted
 
 -- ---- the same, where no word changes but by this
 exact_way : (w v : Walked) (p : ℕ) (fate : Fate) (way : Way) → v.moment.core ≡ core_by w.moment.core p way → v.moment.order ≡ order_by w.moment.core w.moment.order way → fate ≡ fate_by way →
-    v.moment.phase ≡ w.moment.phase → v.moment.held ≡ w.moment.held → v.tally ≡ counted_as w.tally fate → v ≡ dealt_so w p way
+    v.moment.phase ≡ w.moment.phase → v.moment.collection ≡ w.moment.collection → v.tally ≡ counted_as w.tally fate → v ≡ dealt_so w p way
 exact_way w v p fate Drops core order is phase held counted = λ i. record {
-  moment = record { core = core i; order = order i; phase = phase i; held = held i };
+  moment = record { core = core i; order = order i; phase = phase i; collection = held i };
   tally = (counted ∙ ap (counted_as w.tally) is) i;
 }
 exact_way w v p fate (Moves place) core order is phase held counted = λ i. record {
-  moment = record { core = core i; order = order i; phase = phase i; held = held i };
+  moment = record { core = core i; order = order i; phase = phase i; collection = held i };
   tally = (counted ∙ ap (counted_as w.tally) is) i;
 }
 exact_way w v p fate Goes core order is phase held counted = λ i. record {
-  moment = record { core = core i; order = order i; phase = phase i; held = held i };
+  moment = record { core = core i; order = order i; phase = phase i; collection = held i };
   tally = (counted ∙ ap (counted_as w.tally) is) i;
 }
 
-pub dealt_exact : (w v : Walked) (p word : ℕ) (fate : Fate) → LeavesAs w.moment.core w.moment.order v.moment.core v.moment.order p word fate → v.moment.phase ≡ w.moment.phase → v.moment.held ≡ w.moment.held →
+pub dealt_exact : (w v : Walked) (p word : ℕ) (fate : Fate) → LeavesAs w.moment.core w.moment.order v.moment.core v.moment.order p word fate → v.moment.phase ≡ w.moment.phase → v.moment.collection ≡ w.moment.collection →
     v.tally ≡ counted_as w.tally fate → v ≡ dealt_as w p (read_of word)
 dealt_exact w v p word fate leaves phase held counted = exact_way w v p fate (way_of w.moment.core (read_of word)) leaves.core leaves.sealed leaves.is phase held counted
 

@@ -46,7 +46,7 @@ done_left s (l ∷ ls) done = absurd (true≢false (sym done))
 
 -- nothing is left where each log was given back
 pub none_left : (w : Walked) → is_done w ≡ true → left w ≡ []
-none_left w done = done_left w.moment.core w.moment.held done
+none_left w done = done_left w.moment.core w.moment.collection done
 
 pub some_left : (w : Walked) (p : ℕ) (ps : List ℕ) → left w ≡ p ∷ ps → is_done w ≡ false
 some_left w p ps e = false_from_ne_true (is_done w) (λ done. true≢false (ap is_empty (sym (none_left w done) ∙ e)))

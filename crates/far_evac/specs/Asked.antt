@@ -15,9 +15,9 @@ use Rattle.far_evac.specs.Live.{live_among}
 use Rattle.far_evac.specs.Moment.{Moment, Tally, objects_in, tally_of}
 use Rattle.far_evac.specs.Walk.{Drops, Goes, Moves, Walked, Way, begun, ended, left, settled, way_of}
 
--- the first live objects of the logs held, so many
+-- the first live objects of the collection set, so many
 abbrev pub first_live : Moment → ℕ → List ℕ
-first_live m k = take k (live_among m.core m.held)
+first_live m k = take k (live_among m.core m.collection)
 
 -- how many of them the device may have been asked about: those that were dealt with, and the one that was refused
 abbrev pub asked_of : Result Progress EvacFault → ℕ

@@ -33,12 +33,12 @@ homes_of s = flat_map (λ p. housed_in p (read_of (s.cell p))) (range_with_len 0
 
 -- a sealed log that was chosen and not given back is named so
 abbrev pub kind_named : Bool → Kind → LogKind
-kind_named held kinds.Free = Free
-kind_named held kinds.Open = Open
-kind_named held kinds.Sealed = cond held Chosen Sealed
+kind_named chosen kinds.Free = Free
+kind_named chosen kinds.Open = Open
+kind_named chosen kinds.Sealed = cond chosen Chosen Sealed
 
 abbrev pub kind_in : Moment → ℕ → LogKind
-kind_in m l = kind_named (among m.held l) (m.core.kind l)
+kind_in m l = kind_named (among m.collection l) (m.core.kind l)
 
 -- all logs, by number
 abbrev pub logs_of : Moment → List LogState

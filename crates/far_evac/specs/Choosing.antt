@@ -14,8 +14,8 @@ is_spent s = s.epoch + 1 == EPOCH_END
 -- these logs were chosen; where there is none, no round begins
 abbrev pub after_selecting : Moment → List ℕ → Moment
 after_selecting m [] = m
-after_selecting m (l ∷ ls) = record m { phase = Marking; held = l ∷ ls }
+after_selecting m (l ∷ ls) = record m { phase = Marking; collection = l ∷ ls }
 
--- the live objects of the logs still held lose EVAC, and the round is over
+-- the live objects of the collection set lose EVAC, and the round is over
 abbrev pub after_aborting : Moment → Moment
-after_aborting m = record m { core = fold unmarked m.core (live_among m.core m.held); phase = Idle; held = [] }
+after_aborting m = record m { core = fold unmarked m.core (live_among m.core m.collection); phase = Idle; collection = [] }

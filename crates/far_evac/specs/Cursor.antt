@@ -44,10 +44,10 @@ first_marked s [] = s
 first_marked s (p ∷ ps) = marked s p
 
 -- the first live object of the log in front lies in a span, and each other that lies in the log lies behind the span
-pub record IsNextLeaving (s : State) (held : List ℕ) (span : Span) : Type 0 where
+pub record IsNextLeaving (s : State) (collection : List ℕ) (span : Span) : Type 0 where
   pub log : ℕ
   pub more : List ℕ
-  pub front : held ≡ log ∷ more
+  pub front : collection ≡ log ∷ more
   pub rest : List ℕ
   pub first : live_in s log ≡ span.p ∷ rest
   pub behind : IsBoundary s log (span.at + size_of span.len)

@@ -43,10 +43,10 @@ pub record DealsWith (m t : Moment) (tally : Tally) (objects : List ℕ) : Type 
 
 -- so many logs in front were given back: they are out of the round, also where one was opened anew; the others are sealed, and the round's still
 pub record GivesBack (m t : Moment) (freed : ℕ) : Type 0 where
-  pub held : t.held ≡ drop freed m.held
-  pub most : freed ≤ length m.held
-  pub gone : AllByRecursion (λ l. t.core.round l ≡ false) (take freed m.held)
-  pub stay : AllByRecursion (λ l. (t.core.round l ≡ true) × (t.core.kind l ≡ Sealed)) t.held
+  pub collection : t.collection ≡ drop freed m.collection
+  pub most : freed ≤ length m.collection
+  pub gone : AllByRecursion (λ l. t.core.round l ≡ false) (take freed m.collection)
+  pub stay : AllByRecursion (λ l. (t.core.round l ≡ true) × (t.core.kind l ≡ Sealed)) t.collection
 
 -- the log in front has a live object, if one is left
 abbrev pub BeginsLive : State → List ℕ → Type 0

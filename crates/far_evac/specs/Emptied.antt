@@ -15,12 +15,12 @@ pub record IsEmptied (s : State) (l : ℕ) : Type 0 where
   pub dead : dead_bytes s l ≡ 0
   pub round : s.round l ≡ false
 
--- from u to t as many logs as are counted, in front of those held, are no more held, and each is emptied; no epoch is spent on them
+-- from u to t as many logs as are counted, in front of the collection set, have left it, and each is emptied; no epoch is spent on them
 pub record EmptiesLogs (u t : Walked) : Type 0 where
   pub count : ℕ
   pub counted : t.tally.freed ≡ u.tally.freed + count
-  pub held : t.moment.held ≡ drop count u.moment.held
-  pub emptied : AllByRecursion (IsEmptied t.moment.core) (take count u.moment.held)
+  pub collection : t.moment.collection ≡ drop count u.moment.collection
+  pub emptied : AllByRecursion (IsEmptied t.moment.core) (take count u.moment.collection)
   pub epoch : t.moment.core.epoch ≡ u.moment.core.epoch
 
 -- where a walk begins, and with each object that is dealt with over any hand

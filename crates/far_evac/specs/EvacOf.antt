@@ -11,11 +11,11 @@ use Rattle.far_evac.specs.Moment.{Moment}
 pub record EvacOf (N D : Type 0) : Type 0 where
   pub book : BookOf N D
   pub phase : Phase
-  pub held : List ℕ
+  pub collection : List ℕ
 
 -- the moment that it stands at, as far as its hand knows the words
 abbrev pub moment : {N D : Type 0} → (N → State) → EvacOf N D → Moment
-moment view e = record { core = view e.book.near; order = e.book.order; phase = e.phase; held = e.held }
+moment view e = record { core = view e.book.near; order = e.book.order; phase = e.phase; collection = e.collection }
 
 -- the same over a core of its own, whose words are all known
 abbrev pub moment_alone : {D : Type 0} → EvacOf Plain D → Moment

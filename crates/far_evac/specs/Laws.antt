@@ -56,7 +56,7 @@ RoundIsAllowed = (m : Moment) (l : ℕ) (ls : List ℕ) (turns : ℕ) → Law m.
 
 -- it is a tour of stops that were listed before it began
 abbrev pub WalkIsTour : Type 0
-WalkIsTour = (m : Moment) (n : ℕ) → Ready m.core m.held → walked m n ≡ toured m n
+WalkIsTour = (m : Moment) (n : ℕ) → Ready m.core m.collection → walked m n ≡ toured m n
 
 -- a walk, counted with what was done before it
 abbrev pub with_before : Tally → Walked → Walked
@@ -69,22 +69,22 @@ WalksJoin = (m : Moment) (a b : ℕ) → walked m (a + b) ≡ with_before (walke
 -- k objects of a list that was made before were dealt with, in its order: the first k, for the others are left, and there were as many; each is
 -- counted once. The logs in front without live objects were given back, also before the first object, and where there are no more objects each log was
 pub record DealtInOrder (m : Moment) (k : ℕ) (t : Walked) : Type 0 where
-  pub left : left t ≡ drop k (live_among m.core m.held)
-  pub enough : k ≤ length (live_among m.core m.held)
-  pub deals : DealsWith m t.moment t.tally (take k (live_among m.core m.held))
+  pub left : left t ≡ drop k (live_among m.core m.collection)
+  pub enough : k ≤ length (live_among m.core m.collection)
+  pub deals : DealsWith m t.moment t.tally (take k (live_among m.core m.collection))
   pub counted : objects_in t.tally ≡ k
-  pub begins : BeginsLive t.moment.core t.moment.held
-  pub done : k ≡ length (live_among m.core m.held) → is_done t ≡ true
+  pub begins : BeginsLive t.moment.core t.moment.collection
+  pub done : k ≡ length (live_among m.core m.collection) → is_done t ≡ true
   pub gives : GivesBack m t.moment t.tally.freed
-  pub ready : Ready t.moment.core t.moment.held
+  pub ready : Ready t.moment.core t.moment.collection
 
 -- over any hand the k-th dealing is with the k-th live object
 abbrev pub DealingIsInOrder : Type 0
-DealingIsInOrder = (m : Moment) (k : ℕ) (t : Walked) → Ready m.core m.held → WalksTo m k t → DealtInOrder m k t
+DealingIsInOrder = (m : Moment) (k : ℕ) (t : Walked) → Ready m.core m.collection → WalksTo m k t → DealtInOrder m k t
 
 -- once the epoch has risen for a round, the law of the book's part of the core and that of the moment make it ready
 abbrev pub RisenIsReady : Type 0
-RisenIsReady = (m : Moment) → Law (own_part m.core) → MomentLaw m → has_risen m.phase ≡ true → Ready m.core m.held
+RisenIsReady = (m : Moment) → Law (own_part m.core) → MomentLaw m → has_risen m.phase ≡ true → Ready m.core m.collection
 
 -- a round of some logs begins by one event, for whose number these logs are the bits
 abbrev pub RoundIsEvent : Type 0
@@ -101,26 +101,26 @@ looks s (suc k) = after (looks s k) (Look k)
 abbrev pub LooksSeeClear : Type 0
 LooksSeeClear = (s : State) → ((m : ℕ) → IsSome (scope_of (s.scope m))) → (k : ℕ) → ((m : ℕ) → m < k → holds_up s m ≡ false) → looks s k ≡ with_clear_below s k
 
--- where a poll answers that all are clear, nobody views anything in the logs held
+-- where a poll answers that all are clear, nobody views anything in the collection set
 abbrev pub ClearMeansUnviewed : Type 0
 ClearMeansUnviewed = (m : Moment) → Law m.core → MomentLaw m → has_risen m.phase ≡ true → first_open m.core ≡ None →
-    (p : ℕ) (place : Place) → m.core.held p ≡ Some place → among m.held place.log ≡ false
+    (p : ℕ) (place : Place) → m.core.held p ≡ Some place → among m.collection place.log ≡ false
 
 -- and nobody does in the heap as it is then, or ever after in the round, also once owners have opened again: s is any state whose round and whose owners
 -- seen clear are those that the moment knows. While owners are waited for, those that were seen clear view nothing there
 abbrev pub ClearViewsNothing : Type 0
 ClearViewsNothing = (m : Moment) (s : State) → Law s → s.round ≡ m.core.round → s.clear ≡ m.core.clear → s.mutators ≡ m.core.mutators → MomentLaw m → has_risen m.phase ≡ true →
-    (p : ℕ) (place : Place) → s.held p ≡ Some place → (m.core.clear (p / CELLS) ≡ true → among m.held place.log ≡ false) × (m.phase ≡ Evacuating → among m.held place.log ≡ false)
+    (p : ℕ) (place : Place) → s.held p ≡ Some place → (m.core.clear (p / CELLS) ≡ true → among m.collection place.log ≡ false) × (m.phase ≡ Evacuating → among m.collection place.log ≡ false)
 
 -- what a word says, but for EVAC
 abbrev pub but_evac : Option PtrWord → Option PtrWord
 but_evac = option_map without_evac
 
--- the first n objects that lacked EVAC have it then, or all; where none is left, each live object of the logs held has it. In no cell anything
+-- the first n objects that lacked EVAC have it then, or all; where none is left, each live object of the collection set has it. In no cell anything
 -- else has changed, and in the cells of others nothing
 pub record IsMarked (m t : Moment) (n : ℕ) : Type 0 where
   pub now : AllByRecursion (λ p. has_evac (says t p) ≡ true) (newly_marked m n)
-  pub all : leaves_some m n ≡ false → AllByRecursion (λ p. has_evac (says t p) ≡ true) (live_among m.core m.held)
+  pub all : leaves_some m n ≡ false → AllByRecursion (λ p. has_evac (says t p) ≡ true) (live_among m.core m.collection)
   pub same : (p : ℕ) → but_evac (says t p) ≡ but_evac (says m p)
   pub others : (p : ℕ) → AllByRecursion (λ q. q ≢ p) (newly_marked m n) → t.core.cell p ≡ m.core.cell p
 
@@ -129,30 +129,30 @@ MarkingIsRight = (m : Moment) (n : ℕ) → ((p : ℕ) → m.core.cell p < 2 ^ 6
 
 -- the objects that are counted are live ones that lacked EVAC, each once, and n at most; those that lack it then are the others, in their order. While the
 -- answer names no epoch there were n, one lacks it still, and nothing but cells has changed. Else none lacks it; the epoch that is named is the next one,
--- the round waits in it with the logs held, and nobody was seen clear yet
+-- the round waits in it with the collection set, and nobody was seen clear yet
 pub record IsCounted (m t : Moment) (n : ℕ) : Type 0 where
   pub bare : AllByRecursion (λ p. has_evac (says m p) ≡ false) (newly_marked m n)
-  pub live : AllByRecursion (λ p. Contains (live_among m.core m.held) p) (newly_marked m n)
+  pub live : AllByRecursion (λ p. Contains (live_among m.core m.collection) p) (newly_marked m n)
   pub once : IsDistinct eqb (newly_marked m n)
   pub most : length (newly_marked m n) ≤ n
-  pub left : lacking t.core t.held ≡ drop (length (newly_marked m n)) (lacking m.core m.held)
-  pub goes_on : waiting_for m n ≡ None → (length (newly_marked m n) ≡ n) × (is_empty (lacking t.core t.held) ≡ false) × (t ≡ record m { core = record m.core { cell = t.core.cell } })
-  pub waits : (epoch : ℕ) → waiting_for m n ≡ Some epoch → (epoch ≡ m.core.epoch + 1) × (lacking t.core t.held ≡ [])
-      × (t ≡ record m { core = record m.core { cell = t.core.cell; epoch = epoch; round = among m.held; round_epoch = epoch; clear = λ _. false }; phase = Waiting })
+  pub left : lacking t.core t.collection ≡ drop (length (newly_marked m n)) (lacking m.core m.collection)
+  pub goes_on : waiting_for m n ≡ None → (length (newly_marked m n) ≡ n) × (is_empty (lacking t.core t.collection) ≡ false) × (t ≡ record m { core = record m.core { cell = t.core.cell } })
+  pub waits : (epoch : ℕ) → waiting_for m n ≡ Some epoch → (epoch ≡ m.core.epoch + 1) × (lacking t.core t.collection ≡ [])
+      × (t ≡ record m { core = record m.core { cell = t.core.cell; epoch = epoch; round = among m.collection; round_epoch = epoch; clear = λ _. false }; phase = Waiting })
 
--- where each log is held once
+-- where each log stands once in the collection set
 abbrev pub MarkingIsCounted : Type 0
-MarkingIsCounted = (m : Moment) (n : ℕ) → ((p : ℕ) → m.core.cell p < 2 ^ 64) → IsDistinct eqb m.held → IsCounted m (after_marking m n) n
+MarkingIsCounted = (m : Moment) (n : ℕ) → ((p : ℕ) → m.core.cell p < 2 ^ 64) → IsDistinct eqb m.collection → IsCounted m (after_marking m n) n
 
--- no live object of the logs that were held has EVAC; in no cell anything else has changed, and in the cells of others nothing. The logs that were held
+-- no live object of what was the collection set has EVAC; in no cell anything else has changed, and in the cells of others nothing. Its logs
 -- are out of the core's round, but for those without a live object, and no other log is; no round is running, and all else is as it was: also the order and
 -- the kinds of the logs, words, epochs and who was seen clear
 pub record IsGivenUp (m t : Moment) : Type 0 where
-  pub bare : AllByRecursion (λ p. has_evac (says t p) ≡ false) (live_among m.core m.held)
+  pub bare : AllByRecursion (λ p. has_evac (says t p) ≡ false) (live_among m.core m.collection)
   pub same : (p : ℕ) → but_evac (says t p) ≡ but_evac (says m p)
-  pub others : (p : ℕ) → AllByRecursion (λ q. q ≢ p) (live_among m.core m.held) → t.core.cell p ≡ m.core.cell p
-  pub round : (l : ℕ) → t.core.round l ≡ cond (among m.held l) (m.core.round l && is_empty (live_in m.core l)) (m.core.round l)
-  pub rest : t ≡ record m { core = record m.core { cell = t.core.cell; round = t.core.round }; phase = Idle; held = [] }
+  pub others : (p : ℕ) → AllByRecursion (λ q. q ≢ p) (live_among m.core m.collection) → t.core.cell p ≡ m.core.cell p
+  pub round : (l : ℕ) → t.core.round l ≡ cond (among m.collection l) (m.core.round l && is_empty (live_in m.core l)) (m.core.round l)
+  pub rest : t ≡ record m { core = record m.core { cell = t.core.cell; round = t.core.round }; phase = Idle; collection = [] }
 
 abbrev pub GivingUpIsRight : Type 0
 GivingUpIsRight = (m : Moment) → ((p : ℕ) → m.core.cell p < 2 ^ 64) → IsGivenUp m (after_aborting m)
@@ -179,12 +179,12 @@ pub record IsFirstOpen (s : State) (k epoch : ℕ) : Type 0 where
   pub before : (j : ℕ) → j < k → HoldsUpNone s j
 
 -- what an answer of a poll says of the owners
-abbrev pub IsTold : State → Polled → Type 0
-IsTold s Clear = (k : ℕ) → k < s.mutators → HoldsUpNone s k
-IsTold s (StillOpen k epoch) = IsFirstOpen s k epoch
+abbrev pub TellsWhoIsOpen : State → Polled → Type 0
+TellsWhoIsOpen s Clear = (k : ℕ) → k < s.mutators → HoldsUpNone s k
+TellsWhoIsOpen s (StillOpen k epoch) = IsFirstOpen s k epoch
 
 abbrev pub WaitIsNamed : Type 0
-WaitIsNamed = (s : State) → ((k : ℕ) → IsSome (scope_of (s.scope k))) → IsTold s (polled s)
+WaitIsNamed = (s : State) → ((k : ℕ) → IsSome (scope_of (s.scope k))) → TellsWhoIsOpen s (polled s)
 
 -- where a turn found the round waiting, and left it so, no turn after it changes anything
 abbrev pub WaitingStays : Type 0

@@ -39,7 +39,7 @@ AbortingLeads = (m : Moment) → Law m.core → MomentLaw m → Leads m (after_a
 abbrev pub MarkingLeads : Type 0
 MarkingLeads = (m : Moment) (n : ℕ) → Law m.core → MomentLaw m → m.phase ≡ Marking → Leads m (after_marking m n)
 
--- where a walk stands before an object that it is refused at, while a log is held; and what it answers, by which the round is over where none is
+-- where a walk stands before an object that it is refused at, while the collection set has a log; and what it answers, by which the round is over where none is
 pub record WalkLeads (m : Moment) (w : Walked) : Type 0 where
   pub midst : is_done w ≡ false → Leads m w.moment
   pub answer : Leads m (ended w)

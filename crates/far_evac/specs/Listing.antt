@@ -32,8 +32,8 @@ listed_pointers homes = map (λ (housed : Housed). housed.pointer) homes
 abbrev pub IsNamed : Moment → ℕ → LogKind → Type 0
 IsNamed m l Free = m.core.kind l ≡ kinds.Free
 IsNamed m l Open = m.core.kind l ≡ kinds.Open
-IsNamed m l Sealed = (m.core.kind l ≡ kinds.Sealed) × (among m.held l ≡ false)
-IsNamed m l Chosen = (m.core.kind l ≡ kinds.Sealed) × (among m.held l ≡ true)
+IsNamed m l Sealed = (m.core.kind l ≡ kinds.Sealed) × (among m.collection l ≡ false)
+IsNamed m l Chosen = (m.core.kind l ≡ kinds.Sealed) × (among m.collection l ≡ true)
 
 -- what is told of a log is so
 pub record TellsState (m : Moment) (log : LogState) : Type 0 where

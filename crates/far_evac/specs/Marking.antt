@@ -9,18 +9,18 @@ use Rattle.far_evac.specs.RoundSteps.{advanced}
 
 -- the first n that lack EVAC, or all
 abbrev pub newly_marked : Moment → ℕ → List ℕ
-newly_marked m n = take n (lacking m.core m.held)
+newly_marked m n = take n (lacking m.core m.collection)
 
 -- more than n lack it
 abbrev pub leaves_some : Moment → ℕ → Bool
-leaves_some m n = nat_lt n (length (lacking m.core m.held))
+leaves_some m n = nat_lt n (length (lacking m.core m.collection))
 
 abbrev pub marked_core : Moment → ℕ → State
 marked_core m n = fold marked m.core (newly_marked m n)
 
 abbrev pub after_marking : Moment → ℕ → Moment
 after_marking m n =
-    if leaves_some m n then record m { core = marked_core m n } else record m { core = advanced (marked_core m n) m.held; phase = Waiting }
+    if leaves_some m n then record m { core = marked_core m n } else record m { core = advanced (marked_core m n) m.collection; phase = Waiting }
 
 -- the epoch that is reached, where none is left
 abbrev pub waiting_for : Moment → ℕ → Option ℕ

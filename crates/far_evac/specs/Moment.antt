@@ -14,7 +14,7 @@ pub record Moment : Type 0 where
   pub order : List ℕ
   pub phase : Phase
   -- the chosen logs that weren't given back in this round, in the order in which they were chosen
-  pub held : List ℕ
+  pub collection : List ℕ
 
 -- a span was placed there, and this is the core then
 abbrev pub with_placed : Moment → Place → State → Moment

@@ -35,13 +35,13 @@ pub record MomentLaw (m : Moment) : Type 0 where
   -- the order has each sealed log, once
   pub order : (l : ℕ) → among m.order l ≡ is_sealed (m.core.kind l)
   pub order_once : IsDistinct eqb m.order
-  -- each log still held is sealed, and held once; there are some exactly while a round is running
-  pub sealed : (l : ℕ) → among m.held l ≡ true → m.core.kind l ≡ Sealed
-  pub held_once : IsDistinct eqb m.held
-  pub runs : is_empty m.held ≡ is_idle m.phase
+  -- each log of the collection set is sealed, and stands in it once; there are some exactly while a round is running
+  pub sealed : (l : ℕ) → among m.collection l ≡ true → m.core.kind l ≡ Sealed
+  pub collection_once : IsDistinct eqb m.collection
+  pub runs : is_empty m.collection ≡ is_idle m.phase
   -- once the epoch has risen they are the round's, and no other log is
-  pub round : has_risen m.phase ≡ true → (l : ℕ) → among m.held l ≡ true → m.core.round l ≡ true
-  pub only : has_risen m.phase ≡ true → (l : ℕ) → m.core.round l ≡ true → among m.held l ≡ true
+  pub round : has_risen m.phase ≡ true → (l : ℕ) → among m.collection l ≡ true → m.core.round l ≡ true
+  pub only : has_risen m.phase ≡ true → (l : ℕ) → m.core.round l ≡ true → among m.collection l ≡ true
   -- where objects leave, every owner was seen clear
   pub clear : m.phase ≡ Evacuating → (k : ℕ) → k < m.core.mutators → m.core.clear k ≡ true
   -- while objects are marked there is a later epoch

@@ -15,19 +15,19 @@ abbrev pub AllMarked : State → ℕ → Type 0
 AllMarked s l = (p len ds : ℕ) (place : Place) (marks : Marks) → read_of (s.cell p) ≡ Some (Near len ds place marks) → place.log ≡ l → marks.evac ≡ true
 
 -- a log of the round
-abbrev pub IsHeld : State → ℕ → Type 0
-IsHeld s l = (s.kind l ≡ Sealed) × AllMarked s l × (s.round l ≡ true)
+abbrev pub IsOfRound : State → ℕ → Type 0
+IsOfRound s l = (s.kind l ≡ Sealed) × AllMarked s l × (s.round l ≡ true)
 
 -- what a near cell says lies on the layout, whatever its marks
 abbrev pub OnLayout : ℕ → Type 0
 OnLayout w = (len ds : ℕ) (place : Place) (marks : Marks) → read_of w ≡ Some (Near len ds place marks) → IsPtr (Near len ds place no_marks)
 
 -- the part of what is true between two calls, once the epoch has risen, that the walk over these logs rests on
-pub record Ready (s : State) (held : List ℕ) : Type 0 where
+pub record Ready (s : State) (collection : List ℕ) : Type 0 where
   pub layout : (p : ℕ) → OnLayout (s.cell p)
   pub short : (l : ℕ) → s.tail l ≤ LOG_WORDS
   pub opens : s.kind s.current ≡ Open
   pub current : s.current < s.logs
   pub few : s.logs ≤ MOST_LOGS
-  pub logs : AllByRecursion (IsHeld s) held
-  pub once : IsDistinct eqb held
+  pub logs : AllByRecursion (IsOfRound s) collection
+  pub once : IsDistinct eqb collection

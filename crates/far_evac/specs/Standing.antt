@@ -17,14 +17,14 @@ use Rattle.far_evac.specs.MomentLaw.{has_risen, is_idle}
 use Rattle.far_evac.specs.RoundSteps.{among}
 
 -- the chosen logs that weren't given back: while objects leave, those from where the walk stands
-abbrev pub held_of : Phase → List ℕ → ℕ → List ℕ
-held_of Idle chosen index = []
-held_of Marking chosen index = chosen
-held_of Waiting chosen index = chosen
-held_of Evacuating chosen index = drop index chosen
+abbrev pub collection_of : Phase → List ℕ → ℕ → List ℕ
+collection_of Idle chosen index = []
+collection_of Marking chosen index = chosen
+collection_of Waiting chosen index = chosen
+collection_of Evacuating chosen index = drop index chosen
 
-abbrev pub held_in : Round → List ℕ
-held_in r = held_of r.phase r.chosen r.index
+abbrev pub collection_in : Round → List ℕ
+collection_in r = collection_of r.phase r.chosen r.index
 
 -- each object that lies in a log has EVAC, where it lies before a word
 abbrev pub MarkedBefore : State → ℕ → ℕ → Type 0
@@ -38,14 +38,14 @@ LiesFrom s l at = (p len ds : ℕ) (place : Place) (marks : Marks) → read_of (
 abbrev pub MarkedAmong : State → List ℕ → Type 0
 MarkedAmong s logs = (p len ds : ℕ) (place : Place) (marks : Marks) → read_of (s.cell p) ≡ Some (Near len ds place marks) → among logs place.log ≡ true → marks.evac ≡ true
 
--- the logs that are held are sealed, each is held once, and there are some exactly while a round is running; once the epoch has risen they are
+-- the logs of the collection set are sealed, each stands in it once, and there are some exactly while a round is running; once the epoch has risen they are
 -- the round's, and no other is, and every owner was seen clear where objects leave; while they are marked there is a later epoch
-pub record Holds (s : State) (phase : Phase) (held : List ℕ) : Type 0 where
-  pub sealed : (l : ℕ) → among held l ≡ true → s.kind l ≡ Sealed
-  pub once : IsDistinct eqb held
-  pub runs : is_empty held ≡ is_idle phase
-  pub round : has_risen phase ≡ true → (l : ℕ) → among held l ≡ true → s.round l ≡ true
-  pub only : has_risen phase ≡ true → (l : ℕ) → s.round l ≡ true → among held l ≡ true
+pub record Holds (s : State) (phase : Phase) (collection : List ℕ) : Type 0 where
+  pub sealed : (l : ℕ) → among collection l ≡ true → s.kind l ≡ Sealed
+  pub once : IsDistinct eqb collection
+  pub runs : is_empty collection ≡ is_idle phase
+  pub round : has_risen phase ≡ true → (l : ℕ) → among collection l ≡ true → s.round l ≡ true
+  pub only : has_risen phase ≡ true → (l : ℕ) → s.round l ≡ true → among collection l ≡ true
   pub clear : phase ≡ Evacuating → (k : ℕ) → k < s.mutators → s.clear k ≡ true
   pub later : phase ≡ Marking → s.epoch + 1 < EPOCH_END
 
@@ -62,5 +62,5 @@ pub record Stands (s : State) (r : Round) : Type 0 where
 
 -- a round and what the book knows agree
 pub record InRound (s : State) (r : Round) : Type 0 where
-  pub holds : Holds s r.phase (held_in r)
+  pub holds : Holds s r.phase (collection_in r)
   pub stands : Stands s r

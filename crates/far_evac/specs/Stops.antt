@@ -32,7 +32,7 @@ without_first (k ∷ ks) = ks
 -- an object is dealt with, as its cell says; at its end a log is given back
 abbrev pub stopped : Walked → Stop → Walked
 stopped w (Object p) = dealt_as w p (read_of (w.moment.core.cell p))
-stopped w (End l) = let v = freed w l in record v { moment = record v.moment { held = without_first w.moment.held } }
+stopped w (End l) = let v = freed w l in record v { moment = record v.moment { collection = without_first w.moment.collection } }
 
 abbrev pub toured : Moment → ℕ → Walked
-toured m n = fold stopped (begun m) (front n (tour m.core m.held))
+toured m n = fold stopped (begun m) (front n (tour m.core m.collection))

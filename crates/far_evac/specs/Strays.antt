@@ -27,9 +27,9 @@ use Rattle.far_evac.specs.Turns.{IsRound, turns_made}
 use Rattle.far_evac.specs.Waiting.{after_polling}
 use Rattle.far_evac.specs.Walk.{ended, walked}
 
--- each object that lies in a log of the core's round, dropped or not, lies in one that is held
+-- each object that lies in a log of the core's round, dropped or not, lies in one of the collection set
 abbrev pub NoneStrays : Moment → Type 0
-NoneStrays m = (p len ds : ℕ) (place : Place) (marks : Marks) → read_of (m.core.cell p) ≡ Some (Near len ds place marks) → m.core.round place.log ≡ true → among m.held place.log ≡ true
+NoneStrays m = (p len ds : ℕ) (place : Place) (marks : Marks) → read_of (m.core.cell p) ≡ Some (Near len ds place marks) → m.core.round place.log ≡ true → among m.collection place.log ≡ true
 
 -- ---- where it is so
 -- where the core has no round, as at the start

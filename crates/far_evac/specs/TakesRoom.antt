@@ -1,4 +1,4 @@
--- What dealing with objects takes of the logs, in bytes: of those that aren't held, of those that still are, and of those that were given back.
+-- What dealing with objects takes of the logs, in bytes: of those outside the collection set, of those that are still in it, and of those that were given back.
 use Rattle.std.specs.Prelude.{◌≡◌, ◌≢◌, ℕ, ◌+◌, ◌<◌, ◌==◌, Bool, true, false, cond, eqb, Option, Some, None, List, take}
 use Rattle.std.specs.List.{AllByRecursion, IsDistinct, range_with_len, sum_by}
 use Rattle.far_word.specs.declared.pointer.PtrWord.{PtrWord}
@@ -58,7 +58,7 @@ gone_of s t p = cond (is_near (read_of (t.cell p))) 0 (bytes_near (read_of (s.ce
 abbrev pub bytes_gone : State → State → List ℕ → ℕ
 bytes_gone s t objects = sum_by (gone_of s t) objects
 
--- a log that wasn't held: its dead bytes stay, and its live ones rise by those objects alone that came, for which unused ones were taken. A sealed log takes none; one that was
+-- a log outside the collection set: its dead bytes stay, and its live ones rise by those objects alone that came, for which unused ones were taken. A sealed log takes none; one that was
 -- free isn't free any more only where one came
 pub record IsAside (s t : State) (objects : List ℕ) (l : ℕ) : Type 0 where
   pub live : live_bytes t l ≡ live_bytes s l + bytes_in t l objects
@@ -68,7 +68,7 @@ pub record IsAside (s t : State) (objects : List ℕ) (l : ℕ) : Type 0 where
   pub opened : s.kind l ≡ kinds.Free → t.kind l ≢ kinds.Free → 0 < bytes_in t l objects
   pub used : s.kind l ≢ kinds.Free → t.kind l ≢ kinds.Free
 
--- a log that is still held: the bytes of the objects that left it are dead, and none is taken
+-- a log that is still in the collection set: the bytes of the objects that left it are dead, and none is taken
 pub record IsLeft (s t : State) (objects : List ℕ) (l : ℕ) : Type 0 where
   pub live : live_bytes t l + bytes_in s l objects ≡ live_bytes s l
   pub dead : dead_bytes t l ≡ dead_bytes s l + bytes_in s l objects
@@ -85,22 +85,22 @@ pub record IsBack (s t : State) (objects : List ℕ) (l : ℕ) : Type 0 where
 abbrev pub all_live : State → ℕ
 all_live s = sum_by (live_bytes s) (range_with_len 0 s.logs)
 
--- these objects, each once, left the logs held, and each other lies where it lay, under whatever marks; what that took of the logs. Of all logs together live bytes fall by those objects that went far or were retired
+-- these objects, each once, left the collection set, and each other lies where it lay, under whatever marks; what that took of the logs. Of all logs together live bytes fall by those objects that went far or were retired
 pub record TakesRoom (m t : Moment) (objects : List ℕ) : Type 0 where
   pub once : IsDistinct eqb objects
-  pub of_held : AllByRecursion (IsNearIn m.core m.held) objects
+  pub of_collection : AllByRecursion (IsNearIn m.core m.collection) objects
   pub away : AllByRecursion (λ p. HasLeft (says m p) (says t p)) objects
   pub others : (p : ℕ) → AllByRecursion (λ q. q ≢ p) objects → spot_of (read_of (t.core.cell p)) ≡ spot_of (read_of (m.core.cell p))
   pub sizes : AllByRecursion (λ p. is_near (read_of (t.core.cell p)) ≡ true → bytes_near (read_of (t.core.cell p)) ≡ bytes_near (read_of (m.core.cell p))) objects
-  pub aside : (l : ℕ) → among m.held l ≡ false → IsAside m.core t.core objects l
-  pub left : (l : ℕ) → among t.held l ≡ true → IsLeft m.core t.core objects l
-  pub back : (l : ℕ) → among m.held l ≡ true → among t.held l ≡ false → IsBack m.core t.core objects l
+  pub aside : (l : ℕ) → among m.collection l ≡ false → IsAside m.core t.core objects l
+  pub left : (l : ℕ) → among t.collection l ≡ true → IsLeft m.core t.core objects l
+  pub back : (l : ℕ) → among m.collection l ≡ true → among t.collection l ≡ false → IsBack m.core t.core objects l
   pub logs : t.core.logs ≡ m.core.logs
   pub total : all_live t.core + bytes_gone m.core t.core objects ≡ all_live m.core
 
--- over any hand: k dealings are with the first k live objects of the logs held, and take so much
+-- over any hand: k dealings are with the first k live objects of the collection set, and take so much
 abbrev pub WalkTakesRoom : Type 0
-WalkTakesRoom = (m : Moment) (k : ℕ) (t : Walked) → Law (own_part m.core) → Ready m.core m.held → WalksTo m k t → TakesRoom m t.moment (take k (live_among m.core m.held))
+WalkTakesRoom = (m : Moment) (k : ℕ) (t : Walked) → Law (own_part m.core) → Ready m.core m.collection → WalksTo m k t → TakesRoom m t.moment (take k (live_among m.core m.collection))
 
 -- so much a call takes that makes such steps: some objects were dealt with, none where only marks were given or owners looked at
 abbrev pub TakesSome : Moment → Moment → Type 0

@@ -19,8 +19,8 @@ most_objects = MOST_LOGS * LOG_WORDS
 
 -- what was counted and what is left together are no more than a heap can have; nothing was counted before objects leave
 pub record IsWithin (m : Moment) (total : Tally) : Type 0 where
-  pub objects : objects_in total + length (live_among m.core m.held) ≤ most_objects
-  pub logs : total.freed + length m.held ≤ MOST_LOGS
+  pub objects : objects_in total + length (live_among m.core m.collection) ≤ most_objects
+  pub logs : total.freed + length m.collection ≤ MOST_LOGS
   pub fresh : m.phase ≢ Evacuating → total ≡ nothing
 
 -- a call, or calls together, count no more than that, whoever else moves objects: so many lie in a heap's logs at most

@@ -1,4 +1,4 @@
--- Evacuating: the live objects of the logs still held are dealt with one after the other, where no word changes but by this.
+-- Evacuating: the live objects of the collection set are dealt with one after the other, where no word changes but by this.
 use Rattle.std.specs.Prelude.{ℕ, ◌+◌, zero, suc, Bool, false, cond, Option, Some, None, List, [], ◌∷◌, if◌then◌else◌}
 use Rattle.far_word.specs.declared.pointer.Place.{Place}
 use Rattle.far_word.specs.declared.pointer.PtrWord.{PtrWord}
@@ -52,20 +52,20 @@ dealt_as w p cell = dealt_so w p (way_of w.moment.core cell)
 abbrev pub freed : Walked → ℕ → Walked
 freed w l = record { moment = with_released w.moment l; tally = record w.tally { freed = w.tally.freed + 1 } }
 
--- the logs in front that have no live object are given back; these are the logs still held
+-- the logs in front that have no live object are given back; these are the collection set then
 abbrev pub passed : Walked → List ℕ → Walked
-passed w [] = record w { moment = record w.moment { held = [] } }
-passed w (l ∷ ls) = if is_empty (live_in w.moment.core l) then passed (freed w l) ls else record w { moment = record w.moment { held = l ∷ ls } }
+passed w [] = record w { moment = record w.moment { collection = [] } }
+passed w (l ∷ ls) = if is_empty (live_in w.moment.core l) then passed (freed w l) ls else record w { moment = record w.moment { collection = l ∷ ls } }
 
 abbrev pub settled : Walked → Walked
-settled w = passed w w.moment.held
+settled w = passed w w.moment.collection
 
 -- the objects that are left, and whether no log is
 abbrev pub left : Walked → List ℕ
-left w = live_among w.moment.core w.moment.held
+left w = live_among w.moment.core w.moment.collection
 
 abbrev pub is_done : Walked → Bool
-is_done w = is_empty w.moment.held
+is_done w = is_empty w.moment.collection
 
 -- the first of them is dealt with, as its cell says
 abbrev pub dealt_first : Walked → List ℕ → Walked

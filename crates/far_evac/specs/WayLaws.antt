@@ -23,5 +23,5 @@ pub record GoesItsWay (s : State) (t : Moment) (p len ds : ℕ) (marks : Marks) 
 
 -- the object that k live ones stand before, by what its cell said when the walk began
 abbrev pub ObjectsGoTheirWay : Type 0
-ObjectsGoTheirWay = (m : Moment) (k p len ds : ℕ) (from : Place) (marks : Marks) (rest : List ℕ) → Ready m.core m.held → drop k (live_among m.core m.held) ≡ p ∷ rest →
+ObjectsGoTheirWay = (m : Moment) (k p len ds : ℕ) (from : Place) (marks : Marks) (rest : List ℕ) → Ready m.core m.collection → drop k (live_among m.core m.collection) ≡ p ∷ rest →
     says m p ≡ Some (Near len ds from marks) → GoesItsWay (walked m k).moment.core (walked m (k + 1)).moment p len ds marks

@@ -22,7 +22,7 @@ mod waiting;
 
 use crate::phase::Phase;
 use crate::round::Round;
-use far_book::{Book, Near};
+use far_book::{Book, Hand};
 use far_device::Device;
 use far_policy::Chosen;
 use std::marker::Model;
@@ -31,28 +31,28 @@ use std::marker::Model;
 ///
 /// All calls of the book that keep a round's marks are handed on. No call blocks.
 #[derive(Drop)]
-pub struct Evac<N: Near + Drop, D: Device + Drop> {
+pub struct Evac<N: Hand + Drop, D: Device + Drop> {
     book: Book<N, D>,
     round: Round,
 }
 
-impl<N: Near + Drop, D: Device + Drop> Model for Evac<N, D> {
+impl<N: Hand + Drop, D: Device + Drop> Model for Evac<N, D> {
     ghost use Rattle.far_evac.specs.EvacOf.{EvacOf};
-    ghost use Rattle.far_evac.specs.Standing.{InRound, held_in};
+    ghost use Rattle.far_evac.specs.Standing.{InRound, collection_in};
 
     ghost Value = { EvacOf N D };
 
-    ghost view = { λ e. record { book = e.book; phase = e.round.phase; held = held_in e.round } };
+    ghost view = { λ e. record { book = e.book; phase = e.round.phase; collection = collection_in e.round } };
 
     ghost invariant = { λ e. InRound (N.view e.book.near) e.round };
 }
 
-impl<N: Near + Drop, D: Device + Drop> Evac<N, D> {
+impl<N: Hand + Drop, D: Device + Drop> Evac<N, D> {
     /// An evacuator over a book, in no round.
     pub fn new(book: Book<N, D>) -> Evac<N, D>
         ensures book { result.book ≡ book }
         ensures phase { result.phase ≡ Idle }
-        ensures held { result.held ≡ [] }
+        ensures collection { result.collection ≡ [] }
     {
         Evac {
             book,
@@ -80,11 +80,11 @@ impl<N: Near + Drop, D: Device + Drop> Evac<N, D> {
     {
         self.book.keeps_law();
     }
-    /// Once a poll has answered that all owners are clear, nobody views anything in the logs held, in whatever state the words may be beside the hand.
+    /// Once a poll has answered that all owners are clear, nobody views anything in the collection set, in whatever state the words may be beside the hand.
     /// While owners are waited for, none does who was seen clear.
     pub fn nobody_views(&self)
-        ensures leaving { self.now.phase ≡ Evacuating → (x : State) → N.may_be self.now.book.near x → NoneViews (among self.now.held) x }
-        ensures waiting { has_risen self.now.phase ≡ true → (x : State) → N.may_be self.now.book.near x → (m : ℕ) → (N.view self.now.book.near).clear m ≡ true → ViewsNone (among self.now.held) m x }
+        ensures leaving { self.now.phase ≡ Evacuating → (x : State) → N.may_be self.now.book.near x → NoneViews (among self.now.collection) x }
+        ensures waiting { has_risen self.now.phase ≡ true → (x : State) → N.may_be self.now.book.near x → (m : ℕ) → (N.view self.now.book.near).clear m ≡ true → ViewsNone (among self.now.collection) m x }
     {
         self.keeps_law();
     }

@@ -15,7 +15,7 @@ ghost use Rattle.far_evac.specs.Laws.{CensusIsExact, ClearIsShown, ClearMeansUnv
 ghost use Rattle.far_evac.specs.worked.AsCalled.{AsCalled};
 ghost use Rattle.far_evac.specs.worked.Rows.{EmptiestIsFirst, EpochsAreNamed, FirstLiesFirst, GivenUp, HotWithoutRoom, LastEpoch, NothingToChoose, OldEpoch, OldView, OldestIsFirst, OpenScopeIsWaitedFor, OpenedAnew, OwnerIsFirst, PhasesAreKept, PlainRound, ReserveIsKept, StepByStep, TurnsRunOut};
 
-/// The exact walk, over words that nobody else changes, is one of those that are allowed over any hand.
+/// The exact evacuation, over words that nobody else changes, is one of those that are allowed over any hand.
 pub fn exact_is_allowed()
     ensures { ExactIsAllowed }
 {}
@@ -38,13 +38,13 @@ pub fn turns_have_16()
     ensures { turn_size ≡ 16 }
 {}
 
-/// A walk over n objects does what stands before the (n + 1)th object in a list of the live objects and the ends of the chosen
+/// An evacuation of n objects does what stands before the (n + 1)th object in a list of the live objects and the ends of the chosen
 /// logs, made before it began.
 pub fn walk_is_tour()
     ensures { WalkIsTour }
 {}
 
-/// A walk over a objects, and then one over b more, leave the moment that one walk over a + b objects leaves, and count together
+/// An evacuation of a objects, and then one of b more, leave the moment that one of a + b objects leaves, and count together
 /// what it counts.
 pub fn walks_join()
     ensures { WalksJoin }
@@ -58,14 +58,14 @@ pub fn dealing_is_in_order()
     ensures emptied { LogsComeBackEmpty }
 {}
 
-/// The object that k live ones stand before is dealt with by the marks that it had when the walk began, where no word changes but by it: a dropped one is
+/// The object that k live ones stand before is dealt with by the marks that it had when the evacuation began, where no word changes but by it: a dropped one is
 /// retired, a cold one goes far, and a hot one to where there is room then, or far where there is none. It has no marks after.
 pub fn objects_go_their_way()
     ensures { ObjectsGoTheirWay }
 {}
 
-/// Over any hand: the room that dealing with objects takes is that of those that moved. In a log that isn't held dead bytes stay, live ones rise by the objects
-/// that came, and unused ones fall by as much; in one that still is what left is dead; one that was given back has what came since. Of all logs together
+/// Over any hand: the room that dealing with objects takes is that of those that moved. In a log outside the collection set dead bytes stay, live ones rise by the objects
+/// that came, and unused ones fall by as much; in one that is still in it what left is dead; one that was given back has what came since. Of all logs together
 /// live bytes fall by the objects that went far or were retired. So it is with each call of a round, with turns one after the other, and with whole rounds, also
 /// with those that stop at an object.
 pub fn walks_take_room()
@@ -85,7 +85,7 @@ pub fn marking_is_right()
     ensures counted { MarkingIsCounted }
 {}
 
-/// After a round is given up no live object of the logs that were held has EVAC, and these logs are out of the core's round, but for those without
+/// After a round is given up no live object of what was the collection set has EVAC, and these logs are out of the core's round, but for those without
 /// a live object. Nothing else has changed.
 pub fn giving_up_is_right()
     ensures { GivingUpIsRight }
@@ -96,7 +96,7 @@ pub fn live_objects_are_in_order()
     ensures { LiveIsInOrder }
 {}
 
-/// Once the epoch has risen for a round, the law of the book's part of the core and that of the moment make the walk ready.
+/// Once the epoch has risen for a round, the law of the book's part of the core and that of the moment make the evacuation ready.
 pub fn risen_is_ready()
     ensures { RisenIsReady }
 {}
@@ -167,7 +167,7 @@ pub fn rounds_keep_objects()
     ensures whole { RoundKeepsObjects }
 {}
 
-/// Where no object is dropped that isn't retired yet, neither a walk nor turns retire any.
+/// Where no object is dropped that isn't retired yet, neither an evacuation nor turns retire any.
 pub fn rounds_retire_none()
     ensures walking { WalkRetiresNone }
     ensures turns { TurnsRetireNone }
@@ -197,7 +197,7 @@ pub fn callers_keep_order()
     ensures retired { RetiringOrder }
 {}
 
-/// Each object that lies in a log of the core's round lies in one that is held: once the epoch has risen, where no other log is in that round; and in a heap
+/// Each object that lies in a log of the core's round lies in one of the collection set: once the epoch has risen, where no other log is in that round; and in a heap
 /// that began without a round also before, when a round that was given up may have left logs there in which nothing lies. So it stays, over any hand, through each
 /// call of a round, turns and whole rounds, and through what callers do between two of them.
 pub fn none_strays()

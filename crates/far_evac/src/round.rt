@@ -9,7 +9,7 @@ pub(crate) struct Round {
     pub(crate) phase: Phase,
     /// The logs that were chosen, in their order.
     pub(crate) chosen: Chosen,
-    /// In which of them marking, or the walk, stands; how many they are, where it has passed them all.
+    /// In which of them marking, or the evacuation, stands; how many they are, where it has passed them all.
     pub(crate) index: usize,
     /// At which word of that log it stands.
     pub(crate) at: u16,

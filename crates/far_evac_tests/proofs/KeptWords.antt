@@ -30,7 +30,7 @@ use Rattle.far_core.specs.world.Happens.{Happens}
 use Rattle.far_core.specs.world.Steps.{with_bytes, with_home}
 use Rattle.far_core.specs.world.World.{World, Object, FarSide}
 use Rattle.far_core.specs.world.WorldOf.{world_of}
-use Rattle.far_book.specs.book.Deeds.{DoesFetch}
+use Rattle.far_book.specs.book.Actions.{DoesFetch}
 use Rattle.far_book.specs.book.Fetching.{far_len}
 use Rattle.far_book.specs.book.Laws.{FetchingIsLegal}
 use Rattle.far_book.specs.book.Rows.{row_of}

@@ -6,7 +6,7 @@ ghost use Rattle.far_core.specs.state.Shape.{is_shape};
 ghost use Rattle.far_hand.specs.MayBe.{Made, alone_lawful, alone_shown, alone_there, alone_told};
 ghost use Rattle.far_hand.specs.ShapeOf.{shape_of};
 
-use crate::near::Near;
+use crate::hand::Hand;
 use far_core::{Core, Shape};
 use far_word::{EPOCH_END, Refused};
 
@@ -16,7 +16,7 @@ pub struct Plain {
     pub core: Core,
 }
 
-impl Near for Plain {
+impl Hand for Plain {
     ghost view = { λ s. core_state s.core };
 
     ghost still = { Unit {0} };

@@ -48,7 +48,7 @@ module _ {D : Type 0} where
 
   -- the round stands where it stood
   abbrev pub SameRound : EvacOf (BookSeat D) D → EvacOf (BookSeat D) D → Type 0
-  SameRound e f = (f.phase ≡ e.phase) × (f.held ≡ e.held)
+  SameRound e f = (f.phase ≡ e.phase) × (f.collection ≡ e.collection)
 
   -- ---- what was done
   -- it looked at a pointer's cell, once, and knows it as it was found. Nothing else of it has changed

@@ -68,7 +68,7 @@ impl<K: HeapName, D: Device + Drop> Evacuator<K, D> {
         requires { heap_of book.near ≡ K.heap }
         ensures book { result.book ≡ book }
         ensures idle { result.phase ≡ Idle }
-        ensures none { result.held ≡ [] }
+        ensures none { result.collection ≡ [] }
     {
         Evacuator {
             evac: Evac::new(book),
@@ -137,7 +137,7 @@ impl<K: HeapName, D: Device + Drop> Evacuator<K, D> {
         ensures headers { (a : ℕ) → (seat_view self.old.book.near).starts a ≡ true → (seat_view self.new.book.near).word a ≡ (seat_view self.old.book.near).word a }
         ensures order { self.new.book.order ≡ self.old.book.order }
         ensures device { self.new.book.device ≡ self.old.book.device }
-        ensures round { (self.new.phase ≡ self.old.phase) × (self.new.held ≡ self.old.held) }
+        ensures round { (self.new.phase ≡ self.old.phase) × (self.new.collection ≡ self.old.collection) }
     {
         self.evac.spans(log)
     }
@@ -156,7 +156,7 @@ impl<K: HeapName, D: Device + Drop> Evacuator<K, D> {
         ensures kept { seat_view self.new.book.near ≡ record (seat_view self.old.book.near) { cell = put (seat_view self.old.book.near).cell pointer ((seat_view self.new.book.near).cell pointer) } }
         ensures order { self.new.book.order ≡ self.old.book.order }
         ensures device { self.new.book.device ≡ self.old.book.device }
-        ensures round { (self.new.phase ≡ self.old.phase) × (self.new.held ≡ self.old.held) }
+        ensures round { (self.new.phase ≡ self.old.phase) × (self.new.collection ≡ self.old.collection) }
     {
         self.evac.locate(pointer)
     }

@@ -1,4 +1,4 @@
--- Bytes and words in front of the room for them.
+-- Bytes and words in front of the buffer for them.
 use Rattle.std.proofs.Common.{◌≡◌, ℕ, ◌+◌, ◌-◌, ◌*◌, ◌/◌, ◌%◌, ◌^◌, ◌<◌, ◌≤◌, List, ◌++◌, length, take, drop, get_or, ap, sym, ◌∙◌, arith, length-take-le, length-drop}
 use Rattle.std.specs.Prelude.{slice_range}
 use Rattle.std.proofs.lemmas.List.{ext_get_or, take-append-le, get_or-take}
@@ -33,7 +33,7 @@ shifted_byte f g first k e =
     let rest : (8 * first + k) % 8 ≡ k % 8 = omega arith in
     ap (λ w. w / 2 ^ (8 * (k % 8)) % 256) (e ∙ sym (ap g word)) ∙ ap (λ r. g ((8 * first + k) / 8) / 2 ^ (8 * r) % 256) (sym rest)
 
--- the bytes of a range that were read into the front of a room, from the range's first word on
+-- the bytes of a range that were read into the front of a buffer, from the range's first word on
 pub read_range : (words bytes : List ℕ) (f : ℕ → ℕ) (len from count first touched at : ℕ) →
     first ≡ from / 8 → touched ≡ (from + count + 7) / 8 - from / 8 → at ≡ from - 8 * first → from + count ≤ len → 8 * touched ≤ length bytes →
     take (8 * touched) bytes ≡ bytes_of (λ i. get_or words i 0) (8 * touched) →

@@ -14,7 +14,7 @@ use Rattle.far_text.specs.Written.{WritesBytes}
 use Rattle.far_replay.specs.Between.{Between}
 use Rattle.far_replay.specs.Effects.{with_epoch, with_scope, without_object}
 use Rattle.far_replay.specs.EventRows.{after_events}
-use Rattle.far_replay.specs.Events.{events_for, IsTold}
+use Rattle.far_replay.specs.Events.{events_for, IsNoStep}
 use Rattle.far_replay.specs.Moment.{Moment, with_core}
 use Rattle.far_replay.specs.Objects.{lowest_cell}
 use Rattle.far_replay.specs.Turn.{effect, refusal, refused_effect, turn_effect, unless, with_new}
@@ -26,8 +26,8 @@ use Rattle.far_replay.proofs.Turns.{events_make, new_parts, new_tests}
 use Rattle.far_replay.proofs.WithCore.{moment_joined, same_order}
 
 -- its core by its events, and the rest by its parts
-pub made_whole : (now next : Moment) (c : Command) → IsTold c → Law now.core → Between now.core → WritesBytes c → next.core ≡ after_events now.core (events_for now c) →
-    next.order ≡ (effect now c).order → next.phase ≡ now.phase → next.held ≡ now.held → next ≡ effect now c
+pub made_whole : (now next : Moment) (c : Command) → IsNoStep c → Law now.core → Between now.core → WritesBytes c → next.core ≡ after_events now.core (events_for now c) →
+    next.order ≡ (effect now c).order → next.phase ≡ now.phase → next.collection ≡ now.collection → next ≡ effect now c
 made_whole now next c told law between small core order phase held =
     let aside = told_effect now c told in
     moment_joined now next (effect now c).core (events_make now next.core c told law between small core) (order ∙ ap (λ (m : Moment). m.order) aside) phase held ∙ sym aside

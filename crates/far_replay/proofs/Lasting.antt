@@ -19,7 +19,7 @@ use Rattle.far_evac.specs.MomentLaw.{MomentLaw}
 use Rattle.far_evac.specs.declared.answers.RoundEnd.TheVariants.{Limit}
 use Rattle.far_evac.specs.declared.phase.Phase.TheVariants.{Evacuating}
 use Rattle.far_evac.specs.Strays.{NoneStrays}
-use Rattle.far_replay.specs.Events.{events_for, IsTold}
+use Rattle.far_replay.specs.Events.{events_for, IsNoStep}
 use Rattle.far_replay.specs.Lawful.{Lawful}
 use Rattle.far_text.specs.Written.{WritesBytes, AllWriteBytes}
 use Rattle.far_replay.specs.EventRows.{after_events, AllSucceed, AllPass, Succeeds}
@@ -49,7 +49,7 @@ pub record IsCarriedOut (now : Moment) (c : Command) (r : Reply) (t : State) : T
   pub fit : Each Fits (events_for now c)
   pub law : Law t
 
-pub command_carried : (now : Moment) (c : Command) (r : Reply) (next : Moment) → IsTold c → Lasts now → WritesBytes c → Served now c r next → IsCarriedOut now c r next.core
+pub command_carried : (now : Moment) (c : Command) (r : Reply) (next : Moment) → IsNoStep c → Lasts now → WritesBytes c → Served now c r next → IsCarriedOut now c r next.core
 command_carried now c r next told lasts bytes h =
     let x = turns now c told lasts.law lasts.between bytes in
     let ends : next.core ≡ after_events now.core (events_for now c) = ap (λ (m : Moment). m.core) h.moment ∙ sym x.ends in
@@ -62,7 +62,7 @@ command_carried now c r next told lasts bytes h =
     }
 
 -- it lasts through a command
-told_lasts : (now : Moment) (c : Command) → IsTold c → Lasts now → WritesBytes c → Lasts (effect now c)
+told_lasts : (now : Moment) (c : Command) → IsNoStep c → Lasts now → WritesBytes c → Lasts (effect now c)
 told_lasts now c told lasts bytes =
     let x = turns now c told lasts.law lasts.between bytes in
     let law : Law (effect now c).core = subst Law x.ends x.law in

@@ -28,7 +28,7 @@ opening_round logs mutators epoch fits = record {
   order = λ l. cond_both (l == 0) Open Free (λ (kind : Kind). false ≡ is_sealed kind) (λ _. refl) (λ _. refl);
   order_once = none_once;
   sealed = λ l h. absurd (false≢true h);
-  held_once = none_once;
+  collection_once = none_once;
   runs = refl;
   round = λ risen. absurd (false≢true risen);
   only = λ risen. absurd (false≢true risen);

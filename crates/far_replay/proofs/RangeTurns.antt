@@ -165,7 +165,7 @@ module _ (now : Moment) (t : State) (a : Access) (why : Refusal) (is : IsAccess 
   cause = wants_room now a is true wants.2
 
   -- the moment then, by its parts
-  pub asked_at : (next : Moment) → next.core ≡ t → next.order ≡ now.order → next.phase ≡ now.phase → next.held ≡ now.held → next ≡ with_core now (sought now.core a.owner a.pointer)
+  pub asked_at : (next : Moment) → next.core ≡ t → next.order ≡ now.order → next.phase ≡ now.phase → next.collection ≡ now.collection → next ≡ with_core now (sought now.core a.owner a.pointer)
   asked_at next core order phase held =
       moment_joined now next (sought now.core a.owner a.pointer) (core ∙ wants.1) (order ∙ sym (same_order now (sought now.core a.owner a.pointer) (sought_current now.core a.owner a.pointer))) phase held
 
@@ -214,7 +214,7 @@ module _ (now : Moment) (a : Access) (is : IsAccess now.core a.owner a.pointer a
 
 -- ---- a refused dereference, by what stands then
 module _ (now next : Moment) (a : Access) (why : Refusal) (is : IsAccess now.core a.owner a.pointer a.from a.count a) (refuses : RefusesView now.core a.owner a.pointer why next.core) (other : why ≢ Memory)
-    (order : next.order ≡ now.order) (phase : next.phase ≡ now.phase) (held : next.held ≡ now.held) where
+    (order : next.order ≡ now.order) (phase : next.phase ≡ now.phase) (held : next.collection ≡ now.collection) where
   pub refused_read : next ≡ effect now (Mutator a.owner (Read a.pointer a.from a.count))
   refused_read = read_refused now next.core a why is refuses other next (asked_at now next.core a why is refuses other next refl order phase held)
 
@@ -238,7 +238,7 @@ module _ (now next : Moment) (m p : ℕ) (opened : is_opened now.core m ≡ true
       let c : Command = Mutator m (View p) in
       to ∙ ap (λ o. unless o (refused_effect now c) (turn_effect now c)) (sym (view_cause false room))
 
-  pub refused_view : (why : Refusal) → RefusesView now.core m p why next.core → why ≢ Memory → next.order ≡ now.order → next.phase ≡ now.phase → next.held ≡ now.held → next ≡ effect now (Mutator m (View p))
+  pub refused_view : (why : Refusal) → RefusesView now.core m p why next.core → why ≢ Memory → next.order ≡ now.order → next.phase ≡ now.phase → next.collection ≡ now.collection → next ≡ effect now (Mutator m (View p))
   refused_view why refuses other order phase held =
       let c : Command = Mutator m (View p) in
       let wants = only_room now.core m p why next.core refuses other in

@@ -26,7 +26,7 @@ use Rattle.far_replay.proofs.Spliced.{with_range_before, with_range_inside, with
 use Rattle.far_replay.proofs.Fronts.{shifted_byte}
 
 -- ---- bytes over others
--- new bytes in a room, by what stands at each place
+-- new bytes in a buffer, by what stands at each place
 pub put_before : (a k : ℕ) (xs ys : List ℕ) (q : ℕ) → a ≤ length xs → q < a → get_or (put_mid a k xs ys) q 0 ≡ get_or xs q 0
 put_before a k xs ys q fits lt = get_or_append_left (take a xs) (ys ++ post_of a k xs) 0 q (omega (arith, length-take-le a xs fits)) ∙ get_or-take a xs q 0 lt
 

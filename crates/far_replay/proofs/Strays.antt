@@ -1,4 +1,4 @@
--- Through each command an object that lies in a log of the core's round lies in one that is held.
+-- Through each command an object that lies in a log of the core's round lies in one of the collection set.
 use Rattle.std.proofs.Common.{◌≡◌, Bool, true, false, not, None, List, [], ◌∷◌, sym, subst, refl}
 use Rattle.far_word.specs.declared.refused.Refused.{Refused as Refusal}
 use Rattle.far_word.specs.declared.refused.Refused.TheVariants.{Phase as WrongPhase, StillOpen}
@@ -18,7 +18,7 @@ use Rattle.far_evac.proofs.Strays.{aborting_none, callers_none, marking_none, po
 use Rattle.far_text.specs.Command.{Abort, Command, Evacuate, Evacuator, Mark, Round, Select, Step, Wait}
 use Rattle.far_text.proofs.Each.{Each}
 use Rattle.far_replay.specs.EventRows.{after_events}
-use Rattle.far_replay.specs.Events.{IsTold}
+use Rattle.far_replay.specs.Events.{IsNoStep}
 use Rattle.far_replay.specs.Moment.{Moment}
 use Rattle.far_replay.specs.Rounds.{after_round, choice_causes, chosen_by, given_by, is_evacuating, logs_given, refused_step, round_told, rows_in, step_effect}
 use Rattle.far_replay.specs.Turn.{effect, refusal}
@@ -59,7 +59,7 @@ comes_none : (s : State) (es : List Event) → Law s → Each Fits es → (after
 comes_none s [] law fits same = none_same s
 comes_none s (e ∷ es) law fits same = (rows_bring s e es law fits).none same
 
-pub told_strays : (now : Moment) (c : Command) (es : List Event) → IsTold c → Law now.core → Each Fits es → after_events now.core es ≡ (effect now c).core → NoneStrays now → NoneStrays (effect now c)
+pub told_strays : (now : Moment) (c : Command) (es : List Event) → IsNoStep c → Law now.core → Each Fits es → after_events now.core es ≡ (effect now c).core → NoneStrays now → NoneStrays (effect now c)
 told_strays now c es told law fits ends none =
     let same : (effect now c).core.epoch ≡ now.core.epoch = (aside now c told law).epoch in
     let comes : (effect now c).core.epoch ≡ now.core.epoch → NoneComes now.core (effect now c).core = subst (λ (t : State). t.epoch ≡ now.core.epoch → NoneComes now.core t) ends (comes_none now.core es law fits) in

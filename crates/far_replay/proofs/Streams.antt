@@ -17,7 +17,7 @@ wrote_more a b c bs d n first second =
     let both : take d bs ++ take n (take (length bs - d) (drop d bs)) ≡ take (d + n) bs = ap (λ l. take d bs ++ take n l) rest ∙ sym (take-add d n bs) in
     subst (Appends a c) both (Appends-trans a b c (take d bs) (take n (take (length bs - d) (drop d bs))) first second)
 
--- room that a read was given from a on
+-- a buffer that a read was given from a on
 read_into : (a k n : ℕ) (xs ys : List ℕ) → a ≤ length xs → n ≤ length ys → take (a + n) (put_mid a k xs ys) ≡ take a xs ++ take n ys
 read_into a k n xs ys h m =
     let long : length (take a xs) ≡ a = length-take-le a xs h in
@@ -28,7 +28,7 @@ read_into a k n xs ys h m =
 pub read_more : (x y z : Option (List ℕ)) (a k n : ℕ) (room buf : List ℕ) → a ≤ length room → n ≤ length buf → Consumes x y (take a room) → Consumes y z (take n buf) → Consumes x z (take (a + n) (put_mid a k room buf))
 read_more x y z a k n room buf h m first second = subst (Consumes x z) (sym (read_into a k n room buf h m)) (Consumes-trans x y z (take a room) (take n buf) first second)
 
--- the same of room that was made larger before the read
+-- the same of a buffer that was made larger before the read
 pub read_grown : {Z : Type 0} (v : Vec ℕ Z) (x y z : Option (List ℕ)) (a n : ℕ) (old xs buf : List ℕ) → xs ≡ v.items → take (length old) v.items ≡ old → a ≤ length old
     → a ≤ length v.items → length buf ≡ length xs - a → n ≤ length buf → Consumes x y (take a old) → Consumes y z (take n buf) → Consumes x z (take (a + n) (with_items v (put_mid a (length xs - a) xs buf)).items)
 read_grown v x y z a n old xs buf same kept inside fits size bound first second =

@@ -14,7 +14,7 @@ use Rattle.far_evac.specs.MomentLaw.{MomentLaw}
 use Rattle.far_evac.proofs.StepsAside.{steps_keep}
 use Rattle.far_text.specs.Command.{Command, New, Open, Write, Read, Close, Where, Drop, View, Try, Epoch, Mutator, Book, Evacuator}
 use Rattle.far_replay.specs.Dereference.{has_no_room}
-use Rattle.far_replay.specs.Events.{IsTold}
+use Rattle.far_replay.specs.Events.{IsNoStep}
 use Rattle.far_replay.specs.Moment.{Moment, with_core}
 use Rattle.far_replay.specs.Objects.{is_range, lowest_cell, object_len, uses}
 use Rattle.far_replay.specs.Turn.{effect, refusal, refused_effect, turn_effect, unless, with_new}
@@ -23,7 +23,7 @@ use Rattle.far_replay.proofs.Turns.{five, four, new_sizes, tried}
 use Rattle.far_replay.proofs.WithCore.{same_core}
 
 -- ---- the core that a command makes is all that it makes
-told_turn : (now : Moment) (c : Command) → IsTold c → turn_effect now c ≡ with_core now (turn_effect now c).core
+told_turn : (now : Moment) (c : Command) → IsNoStep c → turn_effect now c ≡ with_core now (turn_effect now c).core
 told_turn now (Mutator m (New len ds)) told = refl
 told_turn now (Mutator m Open) told = refl
 told_turn now (Mutator m (Write p from bytes)) told = refl
@@ -37,7 +37,7 @@ told_turn now (Mutator m Epoch) told = refl
 told_turn now (Book inquiry) told = sym (same_core now)
 told_turn now (Evacuator step) told = absurd told
 
-told_refused : (now : Moment) (c : Command) (why : Refusal) → IsTold c → refused_effect now c why ≡ with_core now (refused_effect now c why).core
+told_refused : (now : Moment) (c : Command) (why : Refusal) → IsNoStep c → refused_effect now c why ≡ with_core now (refused_effect now c why).core
 told_refused now (Mutator m (Write p from bytes)) NoRoom told = refl
 told_refused now (Mutator m (Read p from len)) NoRoom told = refl
 told_refused now (Mutator m (View p)) NoRoom told = refl
@@ -45,11 +45,11 @@ told_refused now (Mutator m (Try p)) (Marked word) told = refl
 told_refused now (Evacuator step) why told = absurd told
 told_refused now c why told = sym (same_core now)
 
-told_at : (now : Moment) (c : Command) (o : Option Refusal) → IsTold c → unless o (refused_effect now c) (turn_effect now c) ≡ with_core now (unless o (refused_effect now c) (turn_effect now c)).core
+told_at : (now : Moment) (c : Command) (o : Option Refusal) → IsNoStep c → unless o (refused_effect now c) (turn_effect now c) ≡ with_core now (unless o (refused_effect now c) (turn_effect now c)).core
 told_at now c None told = told_turn now c told
 told_at now c (Some why) told = told_refused now c why told
 
-pub told_effect : (now : Moment) (c : Command) → IsTold c → effect now c ≡ with_core now (effect now c).core
+pub told_effect : (now : Moment) (c : Command) → IsNoStep c → effect now c ≡ with_core now (effect now c).core
 told_effect now c told = told_at now c (refusal now c) told
 
 -- ---- it leaves the round alone
@@ -59,7 +59,7 @@ new_at s m len ds None place law owner sizes e f = same_aside s
 new_at s m len ds (Some p) None law owner sizes e f = same_aside s
 new_at s m len ds (Some p) (Some place) law owner sizes e f = let h = new_sizes m s.mutators len ds owner sizes in new_aside s m len ds p place law h.2 h.3 h.1 e f
 
-turn_aside : (now : Moment) (c : Command) → IsTold c → Law now.core → refusal now c ≡ None → StepsAside now.core (turn_effect now c).core
+turn_aside : (now : Moment) (c : Command) → IsNoStep c → Law now.core → refusal now c ≡ None → StepsAside now.core (turn_effect now c).core
 turn_aside now (Mutator m (New len ds)) told law e =
     let s : State = now.core in
     let h = four (nat_lt m s.mutators && nat_lt ds 256) (nat_lt 0 len && nat_le len LONGEST) (is_some (lowest_cell s m)) (is_some (room s (size_of len) true)) Range Length NoPointer NoRoom e in
@@ -85,7 +85,7 @@ turn_aside now (Mutator m Epoch) told law e = epoch_aside now.core m
 turn_aside now (Book inquiry) told law e = same_aside now.core
 turn_aside now (Evacuator step) told law e = absurd told
 
-refused_aside : (now : Moment) (c : Command) (why : Refusal) → IsTold c → StepsAside now.core (refused_effect now c why).core
+refused_aside : (now : Moment) (c : Command) (why : Refusal) → IsNoStep c → StepsAside now.core (refused_effect now c why).core
 refused_aside now (Mutator m (Write p from bytes)) NoRoom told = sought_aside now.core m p
 refused_aside now (Mutator m (Read p from len)) NoRoom told = sought_aside now.core m p
 refused_aside now (Mutator m (View p)) NoRoom told = sought_aside now.core m p
@@ -93,13 +93,13 @@ refused_aside now (Mutator m (Try p)) (Marked word) told = view_aside now.core p
 refused_aside now (Evacuator step) why told = absurd told
 refused_aside now c why told = same_aside now.core
 
-aside_at : (now : Moment) (c : Command) (o : Option Refusal) → IsTold c → Law now.core → refusal now c ≡ o → StepsAside now.core (unless o (refused_effect now c) (turn_effect now c)).core
+aside_at : (now : Moment) (c : Command) (o : Option Refusal) → IsNoStep c → Law now.core → refusal now c ≡ o → StepsAside now.core (unless o (refused_effect now c) (turn_effect now c)).core
 aside_at now c None told law e = turn_aside now c told law e
 aside_at now c (Some why) told law e = refused_aside now c why told
 
-pub aside : (now : Moment) (c : Command) → IsTold c → Law now.core → StepsAside now.core (effect now c).core
+pub aside : (now : Moment) (c : Command) → IsNoStep c → Law now.core → StepsAside now.core (effect now c).core
 aside now c told law = aside_at now c (refusal now c) told law refl
 
 -- ---- and keeps what is true between two calls
-pub told_round : (now : Moment) (c : Command) → IsTold c → Law now.core → Law (effect now c).core → MomentLaw now → MomentLaw (effect now c)
+pub told_round : (now : Moment) (c : Command) → IsNoStep c → Law now.core → Law (effect now c).core → MomentLaw now → MomentLaw (effect now c)
 told_round now c told law then moment = subst MomentLaw (sym (told_effect now c told)) (steps_keep now (effect now c).core law moment then (aside now c told law))

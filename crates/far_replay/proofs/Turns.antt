@@ -33,7 +33,7 @@ use Rattle.far_replay.specs.Moment.{Moment, moment_of}
 use Rattle.far_text.specs.Command.{Command, New, Open, Write, Read, Close, Where, Drop, View, Try, Epoch, Mutator, Book, Evacuator}
 use Rattle.far_replay.specs.EventRows.{after_events, AllSucceed}
 use Rattle.far_replay.specs.Between.{Between}
-use Rattle.far_replay.specs.Events.{new_events, zero_puts, open_events, view_events, sought_events, dereference_events, first_word, words_touched, load_events, starts_inside, ends_inside, part_events, store_events, drop_events, turn_events, refused_events, events_for, IsTold}
+use Rattle.far_replay.specs.Events.{new_events, zero_puts, open_events, view_events, sought_events, dereference_events, first_word, words_touched, load_events, starts_inside, ends_inside, part_events, store_events, drop_events, turn_events, refused_events, events_for, IsNoStep}
 use Rattle.far_replay.specs.Objects.{uses, object_len, data_of, with_range, lowest_cell, is_range}
 use Rattle.far_replay.specs.Dereference.{comes_to, dereferenced, has_no_room, sought}
 use Rattle.far_replay.specs.Effects.{near_word}
@@ -454,7 +454,7 @@ view_turned s m p law between opened ours =
     turned_by s (with_view s p) (view_events s m p) law (view_leads s m p law opened ours) (view_between s p (and_parts (nat_eq (p / CELLS) m) (s.used p) ours).1 between)
 
 -- a command that isn't refused
-command_turned : (now : Moment) (c : Command) → IsTold c → Law now.core → Between now.core → WritesBytes c → refusal now c ≡ None →
+command_turned : (now : Moment) (c : Command) → IsNoStep c → Law now.core → Between now.core → WritesBytes c → refusal now c ≡ None →
     Turned now.core (turn_events now c) (turn_effect now c).core
 command_turned now (Mutator m (New len ds)) told law between small e = new_turned now.core m len ds law between e
 command_turned now (Mutator m Open) told law between small e =
@@ -494,7 +494,7 @@ sought_turned s m p law between opened ours full =
     turned_by s (sought s m p) (sought_events s m p) law (sought_leads s m p law opened ours slow) (sought_between s m p law opened ours slow between)
 
 -- a refused one: where a mark was found, the pin; where there was no place, the owner's asking too; else nothing
-refused_turned : (now : Moment) (c : Command) (why : Refusal) → IsTold c → Law now.core → Between now.core → refusal now c ≡ Some why →
+refused_turned : (now : Moment) (c : Command) (why : Refusal) → IsNoStep c → Law now.core → Between now.core → refusal now c ≡ Some why →
     Turned now.core (refused_events now c why) (refused_effect now c why).core
 refused_turned now (Mutator m (Write p from bytes)) NoRoom told law between e =
     let h = room_lacks (nat_lt m now.core.mutators) (is_opened now.core m) (uses now.core m p) (is_range (object_len now.core p) from (length bytes)) (has_no_room now.core m p) e in
@@ -512,20 +512,20 @@ refused_turned now (Evacuator step) why told law between e = absurd told
 refused_turned now c why told law between e = none_turned now.core law between
 
 -- each command
-turn_at : (now : Moment) (c : Command) (o : Option Refusal) → IsTold c → refusal now c ≡ o → Law now.core → Between now.core → WritesBytes c →
+turn_at : (now : Moment) (c : Command) (o : Option Refusal) → IsNoStep c → refusal now c ≡ o → Law now.core → Between now.core → WritesBytes c →
     Turned now.core (unless o (refused_events now c) (turn_events now c)) (unless o (refused_effect now c) (turn_effect now c)).core
 turn_at now c None told e law between small = command_turned now c told law between small e
 turn_at now c (Some why) told e law between small = refused_turned now c why told law between e
 
 -- the events of a command lead to the moment after it
-pub turns : (now : Moment) (c : Command) → IsTold c → Law now.core → Between now.core → WritesBytes c → Turned now.core (events_for now c) (effect now c).core
+pub turns : (now : Moment) (c : Command) → IsNoStep c → Law now.core → Between now.core → WritesBytes c → Turned now.core (events_for now c) (effect now c).core
 turns now c told law between small = turn_at now c (refusal now c) told refl law between small
 
 -- what a command that isn't refused makes of the heap is what its events make
-pub made_by_events : (now : Moment) (t : State) (c : Command) → IsTold c → Law now.core → Between now.core → WritesBytes c → refusal now c ≡ None → t ≡ (turn_effect now c).core → t ≡ after_events now.core (events_for now c)
+pub made_by_events : (now : Moment) (t : State) (c : Command) → IsNoStep c → Law now.core → Between now.core → WritesBytes c → refusal now c ≡ None → t ≡ (turn_effect now c).core → t ≡ after_events now.core (events_for now c)
 made_by_events now t c told law between small none is =
     is ∙ sym (command_turned now c told law between small none).ends ∙ ap (λ o. after_events now.core (unless o (refused_events now c) (turn_events now c))) (sym none)
 
 -- what its events make is what it makes of the core
-pub events_make : (now : Moment) (t : State) (c : Command) → IsTold c → Law now.core → Between now.core → WritesBytes c → t ≡ after_events now.core (events_for now c) → t ≡ (effect now c).core
+pub events_make : (now : Moment) (t : State) (c : Command) → IsNoStep c → Law now.core → Between now.core → WritesBytes c → t ≡ after_events now.core (events_for now c) → t ≡ (effect now c).core
 events_make now t c told law between small is = is ∙ (turns now c told law between small).ends

@@ -143,10 +143,10 @@ refused_events now (Mutator m (Try p)) (Marked word) = view_events now.core m p
 refused_events now c why = []
 
 -- these are all events of a command
-abbrev pub IsTold : Command → Type 0
-IsTold (Mutator m request) = Unit {0}
-IsTold (Book inquiry) = Unit {0}
-IsTold (Evacuator step) = ⊥
+abbrev pub IsNoStep : Command → Type 0
+IsNoStep (Mutator m request) = Unit {0}
+IsNoStep (Book inquiry) = Unit {0}
+IsNoStep (Evacuator step) = ⊥
 
 abbrev pub events_for : Moment → Command → List Event
 events_for now c = unless (refusal now c) (refused_events now c) (turn_events now c)

@@ -1,5 +1,5 @@
 -- The words that the interpreter's own contracts need.
-use Rattle.std.specs.Prelude.{◌≡◌, ℕ, ◌+◌, ◌/◌, ◌<◌, ◌≤◌, true, List, Option, Some, None, IsSome, Result, Ok, Err, if◌then◌else◌}
+use Rattle.std.specs.Prelude.{◌≡◌, ℕ, ◌+◌, ◌/◌, ◌<◌, ◌≤◌, true, List, Option, Some, None, IsSome, Result, Ok, Err, IfOk, IfErr, if◌then◌else◌}
 use Rattle.far_word.specs.declared.refused.Refused.{Refused as Refusal}
 use Rattle.far_word.specs.declared.sizes.TheConstants.{CELLS, LONGEST}
 use Rattle.far_word.specs.declared.pointer.Place.{Place}
@@ -9,14 +9,18 @@ use Rattle.far_word.specs.Pointer.{read_of}
 use Rattle.far_book.specs.book.Dealing.{order_moved}
 use Rattle.far_book.specs.book.Effects.{order_after}
 use Rattle.far_core.specs.state.State.{State}
+use Rattle.far_device.specs.declared.mem.MemDevice.{MemDevice}
+use Rattle.far_evac.specs.EvacOf.{EvacOf}
+use Rattle.far_hand.specs.declared.plain.Plain.{Plain}
 use Rattle.far_core.specs.events.Step.{data_len, is_opened}
 use Rattle.far_replay.specs.declared.turn.Access.{Access}
 use Rattle.far_replay.specs.Outcome.{reply_by}
 use Rattle.far_replay.specs.Reply.{Reply}
 use Rattle.far_replay.specs.declared.outcome.Outcome.{Outcome}
 use Rattle.far_replay.specs.declared.outcome.Scratch.{Scratch}
-use Rattle.far_replay.specs.Dereference.{comes_to, sought}
+use Rattle.far_replay.specs.Dereference.{RefusesBringing, asked_for, come, comes_to, sought}
 use Rattle.far_replay.specs.Effects.{is_slow}
+use Rattle.far_replay.specs.Moment.{KeepsRound, state_in}
 use Rattle.far_replay.specs.Objects.{object_len}
 
 -- why a call was refused, if it was
@@ -45,7 +49,7 @@ pub record IsViewed (s : State) (a : Access) : Type 0 where
   pub inside : a.from + a.count ≤ data_len s a.pointer
   pub most : a.from + a.count ≤ LONGEST
 
--- the outcome tells the reply, whatever stands in the room
+-- the outcome tells the reply, whatever stands in the buffers
 abbrev pub StandsFor : Outcome → Reply → Type 0
 StandsFor outcome reply = (scratch : Scratch) → reply_by scratch outcome ≡ reply
 
@@ -62,3 +66,12 @@ order_come s order p = order_come_of s order p (comes_to s p) (read_of (s.cell p
 
 abbrev pub order_dereferenced : State → List ℕ → ℕ → ℕ → List ℕ
 order_dereferenced s order m p = if is_slow s p then order_come (sought s m p) order p else order
+
+-- from one evacuator to another an object that its owner asked for has come to where a view may rest, or is refused a place or memory, and nothing has changed but that it was asked for
+pub record Brings (old new : EvacOf Plain MemDevice) (m p : ℕ) (result : Result (Unit {0}) Refusal) : Type 0 where
+  pub state : IfOk result (λ _. state_in new ≡ come (asked_for (state_in old) m p) p)
+  pub room : IfOk result (λ _. IsSome (comes_to (asked_for (state_in old) m p) p))
+  pub refused : IfErr result (λ why. RefusesBringing (asked_for (state_in old) m p) p why (state_in new))
+  pub order : IfOk result (λ _. new.book.order ≡ order_come (asked_for (state_in old) m p) old.book.order p)
+  pub shut : IfErr result (λ _. new.book.order ≡ old.book.order)
+  pub round : KeepsRound old new

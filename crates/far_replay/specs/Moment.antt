@@ -1,5 +1,5 @@
 -- A heap between two commands: all that a command's refusal, effect and reply may hang on.
-use Rattle.std.specs.Prelude.{[]}
+use Rattle.std.specs.Prelude.{◌≡◌, []}
 use Rattle.far_core.specs.state.CoreState.{core_state}
 use Rattle.far_core.specs.state.State.{State}
 use Rattle.far_device.specs.declared.mem.MemDevice.{MemDevice}
@@ -10,7 +10,7 @@ use Rattle.far_evac.specs.declared.phase.Phase.TheVariants.{Idle}
 
 -- a core of which no log was ever sealed, in no round
 abbrev pub moment_of : State → Moment
-moment_of s = record { core = s; order = []; phase = Idle; held = [] }
+moment_of s = record { core = s; order = []; phase = Idle; collection = [] }
 
 -- the state of the core that an evacuator's book has in its hand
 abbrev pub state_in : EvacOf Plain MemDevice → State
@@ -18,4 +18,8 @@ state_in evac = core_state evac.book.near.core
 
 -- where an evacuator stands
 abbrev pub moment_in : EvacOf Plain MemDevice → Moment
-moment_in evac = record { core = state_in evac; order = evac.book.order; phase = evac.phase; held = evac.held }
+moment_in evac = record { core = state_in evac; order = evac.book.order; phase = evac.phase; collection = evac.collection }
+
+-- from one evacuator to another the round stays as it was
+abbrev pub KeepsRound : EvacOf Plain MemDevice → EvacOf Plain MemDevice → Type 0
+KeepsRound old new = (new.phase ≡ old.phase) × (new.collection ≡ old.collection)

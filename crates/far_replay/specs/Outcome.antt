@@ -1,4 +1,4 @@
--- The reply that an outcome reports, read from the room.
+-- The reply that an outcome reports, read from the buffers.
 use Rattle.std.specs.Prelude.{◌+◌, ◌*◌, ◌≤◌, take, slice_range}
 use Rattle.far_word.specs.declared.sizes.TheConstants.{LOG_WORDS, LONGEST, MOST_LOGS}
 use Rattle.far_replay.specs.declared.outcome.Outcome.{Outcome}
@@ -29,8 +29,8 @@ reply_by scratch (outcomes.EpochRead epoch) = EpochRead epoch
 reply_by scratch outcomes.Stepped = told_by scratch scratch.stepped
 reply_by scratch (outcomes.Refused why) = Refused why
 
--- the outcome speaks of room that there is
-abbrev pub IsInRoom : Outcome → Type 0
-IsInRoom (outcomes.Data from count) = (from + count ≤ 8 * LOG_WORDS) × (count ≤ LONGEST)
-IsInRoom (outcomes.Logs count) = count ≤ MOST_LOGS
-IsInRoom outcome = Unit {0}
+-- the outcome speaks of what the buffers have room for
+abbrev pub IsInScratch : Outcome → Type 0
+IsInScratch (outcomes.Data from count) = (from + count ≤ 8 * LOG_WORDS) × (count ≤ LONGEST)
+IsInScratch (outcomes.Logs count) = count ≤ MOST_LOGS
+IsInScratch outcome = Unit {0}

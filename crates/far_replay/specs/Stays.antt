@@ -56,4 +56,4 @@ pub record Stays (c : Command) (why : Refusal) (now next : Moment) : Type 0 wher
   pub seen : ¬ MaySee c why → next.core.clear ≡ now.core.clear
   pub clear : (m : ℕ) → (next.core.clear m ≡ true) ↔ ((now.core.clear m ≡ true) ⊎ Sees c why m)
   pub rest : next.core ≡ record now.core { cell = next.core.cell; clear = next.core.clear }
-  pub round : (next.order ≡ now.order) × (next.phase ≡ now.phase) × (next.held ≡ now.held)
+  pub round : (next.order ≡ now.order) × (next.phase ≡ now.phase) × (next.collection ≡ now.collection)

@@ -6,8 +6,8 @@ ghost use Rattle.far_text.specs.Command.{Mutator, Drop};
 ghost use Rattle.far_replay.specs.Events.{events_for};
 ghost use Rattle.far_replay.specs.EventRows.{after_events};
 ghost use Rattle.far_replay.specs.Interpreter.{StandsFor};
-ghost use Rattle.far_replay.specs.Moment.{moment_in, state_in};
-ghost use Rattle.far_replay.specs.Outcome.{IsInRoom};
+ghost use Rattle.far_replay.specs.Moment.{KeepsRound, moment_in, state_in};
+ghost use Rattle.far_replay.specs.Outcome.{IsInScratch};
 ghost use Rattle.far_replay.specs.Turn.{reply_to};
 
 use crate::outcome::Outcome;
@@ -24,9 +24,9 @@ pub fn drop_object(evac: &mut Evac<Plain, MemDevice>, owner: u8, pointer: u64) -
     requires law { Law (state_in evac.old) }
     ensures state { state_in evac.new ≡ after_events (state_in evac.old) (events_for (moment_in evac.old) (Mutator owner (Drop pointer))) }
     ensures reply { StandsFor result (reply_to (moment_in evac.old) (Mutator owner (Drop pointer))) }
-    ensures fits { IsInRoom result }
+    ensures fits { IsInScratch result }
     ensures order { evac.new.book.order ≡ evac.old.book.order }
-    ensures round { (evac.new.phase ≡ evac.old.phase) × (evac.new.held ≡ evac.old.held) }
+    ensures round { KeepsRound evac.old evac.new }
 {
     let Some(pointer) = own_pointer(evac, owner, pointer) else {
         return Outcome::Refused(Refused::NotHeld);

@@ -5,8 +5,8 @@ ghost use Rattle.far_text.specs.Command.{Mutator, Epoch};
 ghost use Rattle.far_replay.specs.Events.{events_for};
 ghost use Rattle.far_replay.specs.EventRows.{after_events};
 ghost use Rattle.far_replay.specs.Interpreter.{StandsFor};
-ghost use Rattle.far_replay.specs.Moment.{moment_in, state_in};
-ghost use Rattle.far_replay.specs.Outcome.{IsInRoom};
+ghost use Rattle.far_replay.specs.Moment.{KeepsRound, moment_in, state_in};
+ghost use Rattle.far_replay.specs.Outcome.{IsInScratch};
 ghost use Rattle.far_replay.specs.Turn.{reply_to};
 
 use crate::outcome::Outcome;
@@ -22,9 +22,9 @@ pub fn read_epoch(evac: &mut Evac<Plain, MemDevice>, owner: u8) -> Outcome
     requires known { owner < (state_in evac.old).mutators }
     ensures state { state_in evac.new ≡ after_events (state_in evac.old) (events_for (moment_in evac.old) (Mutator owner Epoch)) }
     ensures reply { StandsFor result (reply_to (moment_in evac.old) (Mutator owner Epoch)) }
-    ensures fits { IsInRoom result }
+    ensures fits { IsInScratch result }
     ensures order { evac.new.book.order ≡ evac.old.book.order }
-    ensures round { (evac.new.phase ≡ evac.old.phase) × (evac.new.held ≡ evac.old.held) }
+    ensures round { KeepsRound evac.old evac.new }
 {
     if core_of(evac).is_open(owner) {
         return Outcome::Refused(Refused::AlreadyOpen);

@@ -8,8 +8,8 @@ ghost use Rattle.far_replay.specs.Dereference.{RefusesBringing, RefusesView, ask
 ghost use Rattle.far_replay.specs.Effects.{is_slow, with_view};
 ghost use Rattle.far_replay.specs.EventRows.{after_events};
 ghost use Rattle.far_replay.specs.Events.{open_events};
-ghost use Rattle.far_replay.specs.Interpreter.{order_come, order_dereferenced};
-ghost use Rattle.far_replay.specs.Moment.{state_in};
+ghost use Rattle.far_replay.specs.Interpreter.{Brings, order_come, order_dereferenced};
+ghost use Rattle.far_replay.specs.Moment.{KeepsRound, state_in};
 
 use crate::owners::core_of;
 use far_book::Plain;
@@ -22,7 +22,7 @@ use far_word::{Mark, PtrWord, Refused};
 pub fn open(evac: &mut Evac<Plain, MemDevice>, owner: u8)
     ensures state { state_in evac.new ≡ after_events (state_in evac.old) (open_events (state_in evac.old) owner) }
     ensures order { evac.new.book.order ≡ evac.old.book.order }
-    ensures round { (evac.new.phase ≡ evac.old.phase) × (evac.new.held ≡ evac.old.held) }
+    ensures round { KeepsRound evac.old evac.new }
 {
     if !core_of(evac).has_epoch(owner) {
         evac.owner(Event::ReadEpoch { owner });
@@ -40,7 +40,7 @@ pub fn try_view(evac: &mut Evac<Plain, MemDevice>, owner: u8, pointer: u16) -> R
     ensures viewed { IfOk result (λ _. is_slow (state_in evac.old) pointer ≡ false) }
     ensures word { IfErr result (λ word. (is_slow (state_in evac.old) pointer ≡ true) × (word ≡ (state_in evac.old).cell pointer)) }
     ensures order { evac.new.book.order ≡ evac.old.book.order }
-    ensures round { (evac.new.phase ≡ evac.old.phase) × (evac.new.held ≡ evac.old.held) }
+    ensures round { KeepsRound evac.old evac.new }
 {
     if core_of(evac).is_held(pointer) {
         return Ok(());
@@ -70,7 +70,7 @@ pub fn dereference(
     ensures refused { IfErr result (λ why. RefusesView (state_in evac.old) owner pointer why (state_in evac.new)) }
     ensures order { IfOk result (λ _. evac.new.book.order ≡ order_dereferenced (state_in evac.old) evac.old.book.order owner pointer) }
     ensures shut { IfErr result (λ _. evac.new.book.order ≡ evac.old.book.order) }
-    ensures round { (evac.new.phase ≡ evac.old.phase) × (evac.new.held ≡ evac.old.held) }
+    ensures round { KeepsRound evac.old evac.new }
 {
     let Err(_) = try_view(evac, owner, pointer) else {
         return Ok(());
@@ -90,7 +90,7 @@ fn bring_and_view(evac: &mut Evac<Plain, MemDevice>, owner: u8, pointer: u16) ->
     ensures refused { IfErr result (λ why. RefusesBringing (asked_for (state_in evac.old) owner pointer) pointer why (state_in evac.new)) }
     ensures order { IfOk result (λ _. evac.new.book.order ≡ order_come (asked_for (state_in evac.old) owner pointer) evac.old.book.order pointer) }
     ensures shut { IfErr result (λ _. evac.new.book.order ≡ evac.old.book.order) }
-    ensures round { (evac.new.phase ≡ evac.old.phase) × (evac.new.held ≡ evac.old.held) }
+    ensures round { KeepsRound evac.old evac.new }
 {
     match bring(evac, owner, pointer) {
         Ok(()) => {
@@ -117,12 +117,7 @@ fn bring(evac: &mut Evac<Plain, MemDevice>, owner: u8, pointer: u16) -> Result<(
     requires own { pointer / CELLS ≡ owner }
     requires used { (state_in evac.old).used pointer ≡ true }
     requires unheld { (state_in evac.old).held pointer ≡ None }
-    ensures state { IfOk result (λ _. state_in evac.new ≡ come (asked_for (state_in evac.old) owner pointer) pointer) }
-    ensures room { IfOk result (λ _. IsSome (comes_to (asked_for (state_in evac.old) owner pointer) pointer)) }
-    ensures refused { IfErr result (λ why. RefusesBringing (asked_for (state_in evac.old) owner pointer) pointer why (state_in evac.new)) }
-    ensures order { IfOk result (λ _. evac.new.book.order ≡ order_come (asked_for (state_in evac.old) owner pointer) evac.old.book.order pointer) }
-    ensures shut { IfErr result (λ _. evac.new.book.order ≡ evac.old.book.order) }
-    ensures round { (evac.new.phase ≡ evac.old.phase) × (evac.new.held ≡ evac.old.held) }
+    ensures { Brings evac.old evac.new owner pointer result }
 {
     if is_near(core_of(evac).cell(pointer)) {
         move_near(evac, owner, pointer)
@@ -138,12 +133,7 @@ fn move_near(evac: &mut Evac<Plain, MemDevice>, owner: u8, pointer: u16) -> Resu
     requires used { (state_in evac.old).used pointer ≡ true }
     requires unheld { (state_in evac.old).held pointer ≡ None }
     requires near { says_near (read_of ((state_in evac.old).cell pointer)) ≡ true }
-    ensures state { IfOk result (λ _. state_in evac.new ≡ come (asked_for (state_in evac.old) owner pointer) pointer) }
-    ensures room { IfOk result (λ _. IsSome (comes_to (asked_for (state_in evac.old) owner pointer) pointer)) }
-    ensures refused { IfErr result (λ why. RefusesBringing (asked_for (state_in evac.old) owner pointer) pointer why (state_in evac.new)) }
-    ensures order { IfOk result (λ _. evac.new.book.order ≡ order_come (asked_for (state_in evac.old) owner pointer) evac.old.book.order pointer) }
-    ensures shut { IfErr result (λ _. evac.new.book.order ≡ evac.old.book.order) }
-    ensures round { (evac.new.phase ≡ evac.old.phase) × (evac.new.held ≡ evac.old.held) }
+    ensures { Brings evac.old evac.new owner pointer result }
 {
     evac.owner(Event::Ask {
         owner,
@@ -161,12 +151,7 @@ fn move_near(evac: &mut Evac<Plain, MemDevice>, owner: u8, pointer: u16) -> Resu
 fn fetch_far(evac: &mut Evac<Plain, MemDevice>, owner: u8, pointer: u16) -> Result<(), Refused>
     requires used { (state_in evac.old).used pointer ≡ true }
     requires far { says_near (read_of ((state_in evac.old).cell pointer)) ≡ false }
-    ensures state { IfOk result (λ _. state_in evac.new ≡ come (asked_for (state_in evac.old) owner pointer) pointer) }
-    ensures room { IfOk result (λ _. IsSome (comes_to (asked_for (state_in evac.old) owner pointer) pointer)) }
-    ensures refused { IfErr result (λ why. RefusesBringing (asked_for (state_in evac.old) owner pointer) pointer why (state_in evac.new)) }
-    ensures order { IfOk result (λ _. evac.new.book.order ≡ order_come (asked_for (state_in evac.old) owner pointer) evac.old.book.order pointer) }
-    ensures shut { IfErr result (λ _. evac.new.book.order ≡ evac.old.book.order) }
-    ensures round { (evac.new.phase ≡ evac.old.phase) × (evac.new.held ≡ evac.old.held) }
+    ensures { Brings evac.old evac.new owner pointer result }
 {
     let _ = owner;
     match evac.fetch(pointer) {

@@ -9,8 +9,8 @@ ghost use Rattle.far_text.specs.Command.{Mutator, Book as AsksBook, Where, Log, 
 ghost use Rattle.far_replay.specs.Events.{events_for};
 ghost use Rattle.far_replay.specs.EventRows.{after_events};
 ghost use Rattle.far_replay.specs.Interpreter.{StandsFor};
-ghost use Rattle.far_replay.specs.Moment.{moment_in, state_in};
-ghost use Rattle.far_replay.specs.Outcome.{reply_by, IsInRoom};
+ghost use Rattle.far_replay.specs.Moment.{KeepsRound, moment_in, state_in};
+ghost use Rattle.far_replay.specs.Outcome.{reply_by, IsInScratch};
 ghost use Rattle.far_replay.specs.Turn.{log_line, reply_to};
 
 use crate::outcome::{Outcome, Scratch};
@@ -27,9 +27,9 @@ pub fn find_object(evac: &mut Evac<Plain, MemDevice>, owner: u8, pointer: u64) -
     requires law { Law (state_in evac.old) }
     ensures state { state_in evac.new ≡ after_events (state_in evac.old) (events_for (moment_in evac.old) (Mutator owner (Where pointer))) }
     ensures reply { StandsFor result (reply_to (moment_in evac.old) (Mutator owner (Where pointer))) }
-    ensures fits { IsInRoom result }
+    ensures fits { IsInScratch result }
     ensures order { evac.new.book.order ≡ evac.old.book.order }
-    ensures round { (evac.new.phase ≡ evac.old.phase) × (evac.new.held ≡ evac.old.held) }
+    ensures round { KeepsRound evac.old evac.new }
 {
     let Some(pointer) = own_pointer(evac, owner, pointer) else {
         return Outcome::Refused(Refused::NotHeld);
@@ -55,7 +55,7 @@ fn log_told(evac: &Evac<Plain, MemDevice>, log: u8) -> LogLine
     }
 }
 
-/// Fills the room with a line of each log, by number.
+/// Fills the buffer with a line of each log, by number.
 pub fn tell_logs(evac: &Evac<Plain, MemDevice>, lines: &mut [LogLine])
     requires room { length lines.old ≡ MOST_LOGS }
     ensures { take (state_in evac.now).logs lines.new ≡ map (log_line (moment_in evac.now)) (range_with_len 0 (state_in evac.now).logs) }
@@ -68,7 +68,7 @@ pub fn tell_logs(evac: &Evac<Plain, MemDevice>, lines: &mut [LogLine])
 /// Tells the line of one log.
 pub fn tell_log(evac: &Evac<Plain, MemDevice>, scratch: &mut Scratch, log: u64) -> Outcome
     ensures reply { reply_by scratch.new result ≡ reply_to (moment_in evac.now) (AsksBook (Log log)) }
-    ensures fits { IsInRoom result }
+    ensures fits { IsInScratch result }
 {
     if log >= u64::from(core_of(evac).logs()) {
         return Outcome::Refused(Refused::Range);
@@ -107,7 +107,7 @@ fn count_bytes(evac: &Evac<Plain, MemDevice>) -> u64
 /// Counts all objects, and the bytes that they take.
 pub fn audit(evac: &Evac<Plain, MemDevice>) -> Outcome
     ensures reply { StandsFor result (reply_to (moment_in evac.now) (AsksBook Audit)) }
-    ensures fits { IsInRoom result }
+    ensures fits { IsInScratch result }
 {
     let (near, far) = count_objects(evac);
     let live = count_bytes(evac);

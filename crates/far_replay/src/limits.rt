@@ -5,8 +5,8 @@ ghost use Rattle.far_replay.specs.declared.reply.TheConstants.{LONGEST_REPLY};
 
 use crate::output::Output;
 
-/// Room is kept for a reply of 16,384 bytes, and up to 65,536 bytes of replies wait.
+/// The buffer has room for a reply of 16,384 bytes, and up to 65,536 bytes of replies wait.
 pub fn reply_limits_are()
     ensures reply { LONGEST_REPLY ≡ 16384 }
-    ensures room { Output.ROOM ≡ 65536 }
+    ensures room { Output.CAPACITY ≡ 65536 }
 {}

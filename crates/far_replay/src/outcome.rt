@@ -1,8 +1,8 @@
-//! What a command comes to, and the room that its reply is read from.
+//! What a command comes to, and the buffers that its reply is read from.
 
 ghost use Rattle.std.specs.Prelude.{◌≡◌, ◌≢◌, IfErr, IfOk};
 ghost use Rattle.far_replay.specs.Reply.{reply_of, IsShort};
-ghost use Rattle.far_replay.specs.Outcome.{reply_by, told_by, IsInRoom};
+ghost use Rattle.far_replay.specs.Outcome.{reply_by, told_by, IsInScratch};
 
 use crate::reply::{Counts, LogLine, Reply};
 use far_book::Home;
@@ -10,21 +10,21 @@ use far_evac::{LogKind, Marked, Progress, RoundEnd};
 use far_word::{LOG_WORDS, MOST_LOGS, Refused};
 use std::alloc::AllocError;
 
-/// What a command comes to. What a reply tells at length stands in the room.
+/// What a command comes to. What a reply tells at length stands in the buffers.
 #[derive(Clone, Copy)]
 pub enum Outcome {
     Done,
     Pointer(u16),
-    /// Bytes of the room, from one on, so many.
+    /// Bytes of the buffer, from one on, so many.
     Data { from: u16, count: u16 },
-    /// The first log lines of the room, so many.
+    /// The first log lines of the buffers, so many.
     Logs(u8),
     /// Where an object is.
     Lies(Home),
     Audited(Counts),
     /// The epoch that a mutator read.
     EpochRead(u64),
-    /// What a step of the evacuator comes to stands in the room.
+    /// What a step of the evacuator comes to stands in the buffers.
     Stepped,
     Refused(Refused),
 }
@@ -33,14 +33,14 @@ pub enum Outcome {
 #[derive(Clone, Copy)]
 pub enum Stepped {
     Done,
-    /// So many logs were chosen, which stand in front of the room's bytes.
+    /// So many logs were chosen, which stand in front of the buffer of bytes.
     Selected(u8),
-    /// What was marked stands in the room.
+    /// What was marked stands in the buffers.
     Marked,
     Clear,
-    /// What was done stands in the room.
+    /// What was done stands in the buffers.
     Evacuated,
-    /// How the round ended stands in the room.
+    /// How the round ended stands in the buffers.
     Ended,
     Refused(Refused),
 }
@@ -71,7 +71,7 @@ impl Outcome {
     }
 }
 
-/// Room for the words and bytes of an object, for a line of each log, and for what a round's step tells.
+/// Buffers for the words and bytes of an object, for a line of each log, and for what a round's step tells.
 #[derive(Clone, Copy)]
 pub struct Scratch {
     pub words: [u64; LOG_WORDS as usize],
@@ -84,7 +84,7 @@ pub struct Scratch {
 }
 
 impl Scratch {
-    /// All the room that commands need; what stands in it at first is nobody's.
+    /// All the buffers that commands need; what stands in it at first is nobody's.
     pub fn new() -> Scratch {
         let line = LogLine {
             log: 0,
@@ -116,7 +116,7 @@ impl Scratch {
     /// The reply to a command, but to a step of the evacuator.
     #[inline(always)]
     pub fn reply(&self, outcome: Outcome) -> Reply<'_>
-        requires room { IsInRoom outcome }
+        requires room { IsInScratch outcome }
         requires apart { outcome ≢ Outcome.Stepped }
         ensures value { reply_of result ≡ reply_by self.now outcome }
         ensures short { IsShort (reply_of result) }

@@ -66,7 +66,7 @@ pub enum Reply<'a> {
 }
 
 fn push_kind(kind: LogKind, out: &mut Output)
-    requires { length out.old + 10 ≤ Output.ROOM }
+    requires { length out.old + 10 ≤ Output.CAPACITY }
     ensures grown { out.new ≡ out.old ++ kind_word kind }
     ensures short { length out.new ≤ length out.old + 6 }
 {
@@ -79,7 +79,7 @@ fn push_kind(kind: LogKind, out: &mut Output)
 }
 
 fn push_log(line: &LogLine, out: &mut Output)
-    requires { length out.old + 200 ≤ Output.ROOM }
+    requires { length out.old + 200 ≤ Output.CAPACITY }
     ensures grown { out.new ≡ out.old ++ log_text line.now }
     ensures short { length out.new ≤ length out.old + 200 }
 {
@@ -98,7 +98,7 @@ fn push_log(line: &LogLine, out: &mut Output)
 
 fn push_logs(lines: &[LogLine], out: &mut Output)
     requires few { length lines.now ≤ MOST_LOGS }
-    requires room { length out.old + LONGEST_REPLY ≤ Output.ROOM }
+    requires room { length out.old + LONGEST_REPLY ≤ Output.CAPACITY }
     ensures { out.new ≡ out.old ++ flat_map log_text lines.now }
 {
     for line in lines {
@@ -108,7 +108,7 @@ fn push_logs(lines: &[LogLine], out: &mut Output)
 
 // A mark's letter, where the mark is set.
 fn push_mark(is_set: bool, letter: &[u8], out: &mut Output)
-    requires { length out.old + length letter.now ≤ Output.ROOM }
+    requires { length out.old + length letter.now ≤ Output.CAPACITY }
     ensures { out.new ≡ out.old ++ mark_letter is_set letter.now }
 {
     if is_set {
@@ -118,7 +118,7 @@ fn push_mark(is_set: bool, letter: &[u8], out: &mut Output)
 
 // The letters of the marks that are set, or a dash where none is.
 fn push_marks(marks: Marks, out: &mut Output)
-    requires { length out.old + 10 ≤ Output.ROOM }
+    requires { length out.old + 10 ≤ Output.CAPACITY }
     ensures grown { out.new ≡ out.old ++ letters_of marks }
     ensures short { length out.new ≤ length out.old + 4 }
 {
@@ -133,7 +133,7 @@ fn push_marks(marks: Marks, out: &mut Output)
 }
 
 fn push_home(home: Home, out: &mut Output)
-    requires { length out.old + 200 ≤ Output.ROOM }
+    requires { length out.old + 200 ≤ Output.CAPACITY }
     ensures { out.new ≡ out.old ++ home_printed home }
 {
     match home {
@@ -155,7 +155,7 @@ fn push_home(home: Home, out: &mut Output)
 }
 
 fn push_counts(counts: Counts, out: &mut Output)
-    requires { length out.old + 200 ≤ Output.ROOM }
+    requires { length out.old + 200 ≤ Output.CAPACITY }
     ensures { out.new ≡ out.old ++ counts_printed counts }
 {
     out.push(b"audit near ");
@@ -170,7 +170,7 @@ fn push_counts(counts: Counts, out: &mut Output)
 // Logs, each after a space.
 fn push_listed(logs: &[u8], out: &mut Output)
     requires few { length logs.now < 256 }
-    requires room { length out.old + 13000 ≤ Output.ROOM }
+    requires room { length out.old + 13000 ≤ Output.CAPACITY }
     ensures grown { out.new ≡ out.old ++ flat_map log_listed logs.now }
     ensures short { length out.new ≤ length out.old + 50 * length logs.now }
 {
@@ -182,7 +182,7 @@ fn push_listed(logs: &[u8], out: &mut Output)
 
 fn push_selected(logs: &[u8], out: &mut Output)
     requires few { length logs.now < 256 }
-    requires room { length out.old + LONGEST_REPLY ≤ Output.ROOM }
+    requires room { length out.old + LONGEST_REPLY ≤ Output.CAPACITY }
     ensures { out.new ≡ out.old ++ codes "selected" ++ chosen_text logs.now ++ codes "\n" }
 {
     out.push(b"selected");
@@ -195,7 +195,7 @@ fn push_selected(logs: &[u8], out: &mut Output)
 }
 
 fn push_marked(marked: &Marked, out: &mut Output)
-    requires { length out.old + 200 ≤ Output.ROOM }
+    requires { length out.old + 200 ≤ Output.CAPACITY }
     ensures { out.new ≡ out.old ++ codes "marked " ++ decimal marked.now.count ++ waiting_text marked.now.waiting ++ codes "\n" }
 {
     out.push(b"marked ");
@@ -209,7 +209,7 @@ fn push_marked(marked: &Marked, out: &mut Output)
 
 /// Adds what a round counted, ` moved A far B dropped C freed D`: 200 bytes at most.
 pub fn push_counted(progress: &Progress, out: &mut Output)
-    requires { length out.old + 200 ≤ Output.ROOM }
+    requires { length out.old + 200 ≤ Output.CAPACITY }
     ensures grown { out.new ≡ out.old ++ counted_text progress.now }
     ensures short { length out.new ≤ length out.old + 200 }
 {
@@ -224,7 +224,7 @@ pub fn push_counted(progress: &Progress, out: &mut Output)
 }
 
 fn push_evacuated(progress: &Progress, out: &mut Output)
-    requires { length out.old + 300 ≤ Output.ROOM }
+    requires { length out.old + 300 ≤ Output.CAPACITY }
     ensures { out.new ≡ out.old ++ codes "evacuated" ++ counted_text progress.now ++ done_text progress.now.done ++ codes "\n" }
 {
     out.push(b"evacuated");
@@ -236,7 +236,7 @@ fn push_evacuated(progress: &Progress, out: &mut Output)
 }
 
 fn push_phase(phase: Phase, out: &mut Output)
-    requires { length out.old + 20 ≤ Output.ROOM }
+    requires { length out.old + 20 ≤ Output.CAPACITY }
     ensures grown { out.new ≡ out.old ++ phase_word phase }
     ensures short { length out.new ≤ length out.old + 10 }
 {
@@ -249,7 +249,7 @@ fn push_phase(phase: Phase, out: &mut Output)
 }
 
 fn push_ended(end: &RoundEnd, out: &mut Output)
-    requires { length out.old + 300 ≤ Output.ROOM }
+    requires { length out.old + 300 ≤ Output.CAPACITY }
     ensures { out.new ≡ out.old ++ codes "round " ++ end_text end.now ++ codes "\n" }
 {
     out.push(b"round ");
@@ -268,7 +268,7 @@ fn push_ended(end: &RoundEnd, out: &mut Output)
 }
 
 fn push_refused(why: Refused, out: &mut Output)
-    requires { length out.old + 200 ≤ Output.ROOM }
+    requires { length out.old + 200 ≤ Output.CAPACITY }
     ensures { out.new ≡ out.old ++ refusal_text why }
 {
     out.push(b"refused ");
@@ -303,7 +303,7 @@ impl Reply<'_> {
     #[inline(always)]
     pub fn print_to(&self, out: &mut Output)
         requires short { IsShort (reply_of self.now) }
-        requires room { length out.old + LONGEST_REPLY ≤ Output.ROOM }
+        requires room { length out.old + LONGEST_REPLY ≤ Output.CAPACITY }
         ensures { out.new ≡ out.old ++ reply_text (reply_of self.now) }
     {
         match self {

@@ -20,7 +20,7 @@ pub struct ReplyWriter {
 }
 
 impl ReplyWriter {
-    /// No reply yet. It takes all its room at once.
+    /// No reply yet. It takes all its buffer at once.
     pub fn new(alloc: Global) -> Result<ReplyWriter, AllocError> {
         Ok(ReplyWriter {
             waiting: Output::new(alloc)?,
@@ -54,9 +54,9 @@ impl ReplyWriter {
     fn make_room<W: Write>(&mut self, writer: &mut W)
         ensures held { (start : Option (List ℕ)) (bytes : List ℕ) → Holds start (W.contents writer.old) self.old.waiting self.old.written bytes
             → Holds start (W.contents writer.new) self.new.waiting self.new.written bytes }
-        ensures room { length self.new.waiting + LONGEST_REPLY ≤ Output.ROOM }
+        ensures room { length self.new.waiting + LONGEST_REPLY ≤ Output.CAPACITY }
     {
-        if self.waiting.len() > Output::ROOM - LONGEST_REPLY {
+        if self.waiting.len() > Output::CAPACITY - LONGEST_REPLY {
             self.flush(writer);
         }
     }

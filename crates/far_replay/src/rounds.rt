@@ -42,7 +42,7 @@ fn choose(evac: &mut Evac<Plain, MemDevice>, choice: Choice, most: u8) -> Result
     }
 }
 
-// Copies the logs that were chosen in front of the room for bytes, and counts them.
+// Copies the logs that were chosen in front of the buffer of bytes, and counts them.
 fn list_chosen(chosen: &Chosen, bytes: &mut [u8]) -> u8
     requires few { length chosen.now ≤ MOST_LOGS }
     requires room { MOST_LOGS ≤ length bytes.old }
@@ -193,7 +193,7 @@ fn step_made(
     }
 }
 
-/// Makes a step of the evacuator; what it comes to stands in the room then. `Err` where it is refused memory.
+/// Makes a step of the evacuator; what it comes to stands in the buffers then. `Err` where it is refused memory.
 #[inline(never)]
 pub fn make_step(
     evac: &mut Evac<Plain, MemDevice>,

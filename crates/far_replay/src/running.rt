@@ -2,7 +2,7 @@
 
 ghost use Rattle.std.specs.Prelude.{◌≡◌, ◌≢◌, ◌<◌, ◌∷◌, ◌++◌, ℕ, Option, true, cond, List, length, slice_index, take, Ok, Err, IfOk, IfErr, IfSome, OnOk};
 ghost use Rattle.far_replay.specs.Reply.{refusal_text};
-ghost use Rattle.far_replay.specs.Outcome.{reply_by, told_by, IsInRoom};
+ghost use Rattle.far_replay.specs.Outcome.{reply_by, told_by, IsInScratch};
 ghost use Rattle.far_replay.specs.Stream.{Holds, Writes};
 ghost use Rattle.std.specs.List.{flat_map};
 ghost use Rattle.far_core.specs.state.Opening.{opening};
@@ -75,14 +75,14 @@ impl From<AllocError> for RunFault {
     }
 }
 
-// All that the reader has, as far as `most` bytes. All room is taken before the first read.
+// All that the reader has, as far as `most` bytes. All memory is taken before the first read.
 fn read_whole<R: Read>(alloc: Global, reader: &mut R, most: usize) -> Result<Vec<u8>, RunFault>
     ensures read { IfOk result (λ v. IfSome (R.remaining reader.old) (λ text. v.items ≡ take most text)) }
     ensures fault { result ≢ Err RunFault.Write }
 {
-    let mut room = Vec::with_capacity(alloc, most)?;
-    read_text(reader, &mut room, most).map_err(|_| RunFault::Read)?;
-    Ok(room)
+    let mut buffer = Vec::with_capacity(alloc, most)?;
+    read_text(reader, &mut buffer, most).map_err(|_| RunFault::Read)?;
+    Ok(buffer)
 }
 
 // Writes one refusal, and nothing else.
@@ -116,7 +116,7 @@ fn answer_one<W: Write>(
     scratch: &Scratch,
     outcome: Outcome,
 )
-    requires { IsInRoom outcome }
+    requires { IsInScratch outcome }
     ensures { (start : Option (List ℕ)) (bytes : List ℕ) → Holds start (W.contents writer.old) replies.old.waiting replies.old.written bytes
         → Holds start (W.contents writer.new) replies.new.waiting replies.new.written (bytes ++ reply_text (reply_by scratch.now outcome)) }
 {
@@ -257,10 +257,10 @@ fn answer_text<W: Write>(
 
 /// Reads a text, runs its commands, and writes their replies.
 ///
-/// All room but the heap's and that of a fetch is taken before the first command is made. A text that is off the grammar,
+/// All memory but the heap's and that of a fetch is taken before the first command is made. A text that is off the grammar,
 /// or whose heap's shape is out of range, is answered by that one refusal, and nothing else is run.
 ///
-/// Faults: [`RunFault::Read`] where the reader fails, any error of it; [`RunFault::Memory`] where room is refused: then
+/// Faults: [`RunFault::Read`] where the reader fails, any error of it; [`RunFault::Memory`] where memory is refused: then
 /// nothing was written, but `refused 1` where it was the heap's, or a prefix of the output where it was a fetch's;
 /// [`RunFault::Write`] where the writer fails or takes nothing: what was written is a proper prefix of the output.
 pub fn run<R: Read, W: Write>(

@@ -10,40 +10,40 @@ use std::io::{Read, Write};
 #[derive(Clone, Copy)]
 pub struct WriteFault;
 
-// The room that is made for one call of a reader.
+// How far the buffer grows for one call of a reader.
 const PIECE: usize = 65_536;
 
 // How much of it is filled at once.
 const STEP: usize = 1_920;
 
-/// Makes room for so many bytes, of room that was taken before. It is filled a little at a time: where little is filled
+/// Lets a buffer grow to so many bytes, of memory that was taken before. It is filled a little at a time: where little is filled
 /// no instruction is repeated for each byte.
-pub fn grow(room: &mut Vec<u8>, to: usize)
-    requires taken { to ≤ vec_capacity room.old }
-    requires more { vec_len room.old ≤ to }
-    ensures len { vec_len room.new ≡ to }
-    ensures capacity { vec_capacity room.old ≤ vec_capacity room.new }
-    ensures bytes { take (vec_len room.old) room.new.items ≡ room.old.items }
+pub fn grow(buffer: &mut Vec<u8>, to: usize)
+    requires taken { to ≤ vec_capacity buffer.old }
+    requires more { vec_len buffer.old ≤ to }
+    ensures len { vec_len buffer.new ≡ to }
+    ensures capacity { vec_capacity buffer.old ≤ vec_capacity buffer.new }
+    ensures bytes { take (vec_len buffer.old) buffer.new.items ≡ buffer.old.items }
 {
-    while room.len() < to {
-        let len = room.len() + STEP.min(to - room.len());
-        room.resize(len, 0).unwrap();
+    while buffer.len() < to {
+        let len = buffer.len() + STEP.min(to - buffer.len());
+        buffer.resize(len, 0).unwrap();
     }
 }
 
-/// Reads to the end, or until there are `most` bytes, into room that was taken before. Each error of the reader is passed
+/// Reads to the end, or until there are `most` bytes, into a buffer that was taken before. Each error of the reader is passed
 /// on.
-pub fn read_text<R: Read>(reader: &mut R, room: &mut Vec<u8>, most: usize) -> io::Result<()>
-    requires empty { room.old.items ≡ [] }
-    requires room { most ≤ vec_capacity room.old }
-    ensures { IfOk result (λ _. IfSome (R.remaining reader.old) (λ text. room.new.items ≡ take most text)) }
+pub fn read_text<R: Read>(reader: &mut R, buffer: &mut Vec<u8>, most: usize) -> io::Result<()>
+    requires empty { buffer.old.items ≡ [] }
+    requires room { most ≤ vec_capacity buffer.old }
+    ensures { IfOk result (λ _. IfSome (R.remaining reader.old) (λ text. buffer.new.items ≡ take most text)) }
 {
     let mut len = 0;
     while len < most {
-        grow(room, len + PIECE.min(most - len));
-        let n = reader.read(&mut room[len..])?;
+        grow(buffer, len + PIECE.min(most - len));
+        let n = reader.read(&mut buffer[len..])?;
         if n == 0 {
-            room.truncate(len);
+            buffer.truncate(len);
             return Ok(());
         }
         len += n;

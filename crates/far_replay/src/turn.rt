@@ -17,11 +17,11 @@ ghost use Rattle.far_text.specs.Written.{WritesBytes};
 ghost use Rattle.far_replay.specs.EventRows.{after_events};
 ghost use Rattle.far_text.specs.Command.{Mutator, Book, New, Open, Write, Read, Close, Where, Drop, View, Try, Logs, Log, Audit};
 ghost use Rattle.far_replay.specs.Reply.{Data};
-ghost use Rattle.far_replay.specs.Outcome.{reply_by, IsInRoom};
+ghost use Rattle.far_replay.specs.Outcome.{reply_by, IsInScratch};
 ghost use Rattle.far_replay.specs.Between.{Between};
 ghost use Rattle.far_replay.specs.Events.{events_for, first_word, store_events, words_touched, starts_inside, ends_inside};
 ghost use Rattle.far_replay.specs.Objects.{data_of, lowest_cell, named_len, with_range};
-ghost use Rattle.far_replay.specs.Moment.{moment_in, state_in};
+ghost use Rattle.far_replay.specs.Moment.{KeepsRound, moment_in, state_in};
 ghost use Rattle.far_replay.specs.Turn.{effect, access_causes, first_cause, reply_to, refusal, with_new};
 
 use crate::dropping::drop_object;
@@ -89,7 +89,7 @@ fn reach(
     })
 }
 
-// The bytes of the first words, in front of the room for them.
+// The bytes of the first words, in front of the buffer for them.
 fn unpack_front(words: &[u64], count: usize, bytes: &mut [u8])
     requires words { count ≤ length words.now }
     requires bytes { 8 * count ≤ length bytes.old }
@@ -98,7 +98,7 @@ fn unpack_front(words: &[u64], count: usize, bytes: &mut [u8])
     unpack_bytes(&words[..count], &mut bytes[..8 * count]);
 }
 
-// The words of the bytes in front, in front of the room for them.
+// The words of the bytes in front, in front of the buffer for them.
 fn pack_front(bytes: &[u8], count: usize, words: &mut [u64])
     requires words { count ≤ length words.old }
     requires bytes { 8 * count ≤ length bytes.now }
@@ -124,7 +124,7 @@ impl Access {
     }
 }
 
-// Loads the words that a range touches, in front of the room for words.
+// Loads the words that a range touches, in front of the buffer of words.
 fn load_front(evac: &Evac<Plain, MemDevice>, access: Access, words: &mut [u64])
     requires viewed { IsViewed (state_in evac.now) access }
     requires room { length words.old ≡ LOG_WORDS }
@@ -143,7 +143,7 @@ fn load_front(evac: &Evac<Plain, MemDevice>, access: Access, words: &mut [u64])
 fn read_viewed(evac: &Evac<Plain, MemDevice>, scratch: &mut Scratch, access: Access) -> Outcome
     requires viewed { IsViewed (state_in evac.now) access }
     ensures reply { reply_by scratch.new result ≡ Data (slice_range (data_of (state_in evac.now) access.pointer) access.from (access.from + access.count)) }
-    ensures fits { IsInRoom result }
+    ensures fits { IsInScratch result }
 {
     load_front(evac, access, &mut scratch.words);
     let count = access.touched() as usize;
@@ -163,7 +163,7 @@ fn read(
     requires access { IsAccess (state_in evac.old) access.owner access.pointer access.from access.count access }
     ensures moment { OnOk result (moment_in evac.new ≡ effect (moment_in evac.old) (Mutator access.owner (Read access.pointer access.from access.count))) }
     ensures reply { IfOk result (λ outcome. reply_by scratch.new outcome ≡ reply_to (moment_in evac.old) (Mutator access.owner (Read access.pointer access.from access.count))) }
-    ensures fits { IfOk result (λ outcome. IsInRoom outcome) }
+    ensures fits { IfOk result (λ outcome. IsInScratch outcome) }
 {
     match dereference(evac, access.owner, access.pointer) {
         Ok(()) => Ok(read_viewed(evac, scratch, access)),
@@ -217,7 +217,7 @@ fn load_last(evac: &Evac<Plain, MemDevice>, access: Access, words: &mut [u64])
     }
 }
 
-// Puts bytes over a range in the words that it touches, in front of the room for words.
+// Puts bytes over a range in the words that it touches, in front of the buffer of words.
 fn splice(evac: &Evac<Plain, MemDevice>, scratch: &mut Scratch, access: Access, bytes: &[u8])
     requires law { Law (state_in evac.now) }
     requires viewed { IsViewed (state_in evac.now) access }
@@ -241,7 +241,7 @@ fn store_front(evac: &mut Evac<Plain, MemDevice>, access: Access, words: &[u64])
     requires padding { (k : ℕ) → k < words_touched access.from access.count → slice_index words.now k < 2 ^ (8 * (data_len (state_in evac.old) access.pointer - 8 * (first_word access.from + k))) }
     ensures state { state_in evac.new ≡ after_events (state_in evac.old) (stores access.owner access.pointer (first_word access.from) (take (words_touched access.from access.count) words.now)) }
     ensures order { evac.new.book.order ≡ evac.old.book.order }
-    ensures round { (evac.new.phase ≡ evac.old.phase) × (evac.new.held ≡ evac.old.held) }
+    ensures round { KeepsRound evac.old evac.new }
 {
     let count = access.touched() as usize;
     evac.store_all(
@@ -265,7 +265,7 @@ fn write_viewed(
     requires small { IsBytes bytes.now }
     ensures state { state_in evac.new ≡ after_events (state_in evac.old) (store_events access.owner access.pointer (first_word access.from) (words_touched access.from access.count) (with_range (data_of (state_in evac.old) access.pointer) access.from bytes.now)) }
     ensures order { evac.new.book.order ≡ evac.old.book.order }
-    ensures round { (evac.new.phase ≡ evac.old.phase) × (evac.new.held ≡ evac.old.held) }
+    ensures round { KeepsRound evac.old evac.new }
 {
     splice(evac, scratch, access, bytes);
     store_front(evac, access, &scratch.words);
@@ -283,7 +283,7 @@ fn write(
     requires small { IsBytes bytes.now }
     ensures moment { OnOk result (moment_in evac.new ≡ effect (moment_in evac.old) (Mutator access.owner (Write access.pointer access.from bytes.now))) }
     ensures reply { IfOk result (λ outcome. StandsFor outcome (reply_to (moment_in evac.old) (Mutator access.owner (Write access.pointer access.from bytes.now)))) }
-    ensures fits { IfOk result (λ outcome. IsInRoom outcome) }
+    ensures fits { IfOk result (λ outcome. IsInScratch outcome) }
 {
     match dereference(evac, access.owner, access.pointer) {
         Ok(()) => {
@@ -308,7 +308,7 @@ fn place_new(
     ensures unchanged { IfErr result (λ _. state_in evac.new ≡ state_in evac.old) }
     ensures order { IfOk result (λ _. evac.new.book.order ≡ order_fetched (state_in evac.old) evac.old.book.order (room (state_in evac.old) (size_of len) true)) }
     ensures shut { IfErr result (λ _. evac.new.book.order ≡ evac.old.book.order) }
-    ensures round { (evac.new.phase ≡ evac.old.phase) × (evac.new.held ≡ evac.old.held) }
+    ensures round { KeepsRound evac.old evac.new }
 {
     if ds >= 256 {
         return Err(Refused::Range);
@@ -333,9 +333,9 @@ fn make_object(evac: &mut Evac<Plain, MemDevice>, owner: u8, len: u64, ds: u64) 
     requires law { Law (state_in evac.old) }
     ensures state { state_in evac.new ≡ after_events (state_in evac.old) (events_for (moment_in evac.old) (Mutator owner (New len ds))) }
     ensures reply { StandsFor result (reply_to (moment_in evac.old) (Mutator owner (New len ds))) }
-    ensures fits { IsInRoom result }
+    ensures fits { IsInScratch result }
     ensures order { evac.new.book.order ≡ (effect (moment_in evac.old) (Mutator owner (New len ds))).order }
-    ensures round { (evac.new.phase ≡ evac.old.phase) × (evac.new.held ≡ evac.old.held) }
+    ensures round { KeepsRound evac.old evac.new }
 {
     match place_new(evac, owner, len, ds) {
         Ok(pointer) => Outcome::Pointer(pointer),
@@ -348,9 +348,9 @@ fn open_scope(evac: &mut Evac<Plain, MemDevice>, owner: u8) -> Outcome
     requires known { owner < (state_in evac.old).mutators }
     ensures state { state_in evac.new ≡ after_events (state_in evac.old) (events_for (moment_in evac.old) (Mutator owner Open)) }
     ensures reply { StandsFor result (reply_to (moment_in evac.old) (Mutator owner Open)) }
-    ensures fits { IsInRoom result }
+    ensures fits { IsInScratch result }
     ensures order { evac.new.book.order ≡ evac.old.book.order }
-    ensures round { (evac.new.phase ≡ evac.old.phase) × (evac.new.held ≡ evac.old.held) }
+    ensures round { KeepsRound evac.old evac.new }
 {
     if core_of(evac).is_open(owner) {
         return Outcome::Refused(Refused::AlreadyOpen);
@@ -364,9 +364,9 @@ fn close_scope(evac: &mut Evac<Plain, MemDevice>, owner: u8) -> Outcome
     requires known { owner < (state_in evac.old).mutators }
     ensures state { state_in evac.new ≡ after_events (state_in evac.old) (events_for (moment_in evac.old) (Mutator owner Close)) }
     ensures reply { StandsFor result (reply_to (moment_in evac.old) (Mutator owner Close)) }
-    ensures fits { IsInRoom result }
+    ensures fits { IsInScratch result }
     ensures order { evac.new.book.order ≡ evac.old.book.order }
-    ensures round { (evac.new.phase ≡ evac.old.phase) × (evac.new.held ≡ evac.old.held) }
+    ensures round { KeepsRound evac.old evac.new }
 {
     if !core_of(evac).is_open(owner) {
         return Outcome::Refused(Refused::Closed);
@@ -388,7 +388,7 @@ fn read_range(
     requires law { Law (state_in evac.old) }
     ensures moment { OnOk result (moment_in evac.new ≡ effect (moment_in evac.old) (Mutator owner (Read pointer from len))) }
     ensures reply { IfOk result (λ outcome. reply_by scratch.new outcome ≡ reply_to (moment_in evac.old) (Mutator owner (Read pointer from len))) }
-    ensures fits { IfOk result (λ outcome. IsInRoom outcome) }
+    ensures fits { IfOk result (λ outcome. IsInScratch outcome) }
 {
     match reach(evac, owner, pointer, from, len) {
         Ok(access) => read(evac, scratch, access),
@@ -410,7 +410,7 @@ fn write_range(
     requires small { IsBytes bytes.now }
     ensures moment { OnOk result (moment_in evac.new ≡ effect (moment_in evac.old) (Mutator owner (Write pointer from bytes.now))) }
     ensures reply { IfOk result (λ outcome. StandsFor outcome (reply_to (moment_in evac.old) (Mutator owner (Write pointer from bytes.now)))) }
-    ensures fits { IfOk result (λ outcome. IsInRoom outcome) }
+    ensures fits { IfOk result (λ outcome. IsInScratch outcome) }
 {
     match reach(evac, owner, pointer, from, bytes.len() as u64) {
         Ok(access) => write(evac, scratch, access, bytes),
@@ -432,7 +432,7 @@ fn make_request(
     requires small { WritesBytes (Mutator owner (as_request request)) }
     ensures moment { OnOk result (moment_in evac.new ≡ effect (moment_in evac.old) (Mutator owner (as_request request.entry))) }
     ensures reply { IfOk result (λ outcome. reply_by scratch.new outcome ≡ reply_to (moment_in evac.old) (Mutator owner (as_request request.entry))) }
-    ensures fits { IfOk result (λ outcome. IsInRoom outcome) }
+    ensures fits { IfOk result (λ outcome. IsInScratch outcome) }
 {
     match request {
         Request::New { len, structure } => Ok(make_object(evac, owner, len, structure)),
@@ -465,7 +465,7 @@ fn make_events(
     requires small { WritesBytes (as_command command.now) }
     ensures moment { OnOk result (moment_in evac.new ≡ effect (moment_in evac.old) (as_command command.now)) }
     ensures reply { IfOk result (λ outcome. reply_by scratch.new outcome ≡ reply_to (moment_in evac.old) (as_command command.now)) }
-    ensures fits { IfOk result (λ outcome. IsInRoom outcome) }
+    ensures fits { IfOk result (λ outcome. IsInScratch outcome) }
 {
     match *command {
         Command::Mutator { mutator, request } => {
@@ -499,7 +499,7 @@ pub fn turn(
     requires small { WritesBytes (as_command command.now) }
     ensures moment { OnOk result (moment_in evac.new ≡ effect (moment_in evac.old) (as_command command.now)) }
     ensures reply { IfOk result (λ outcome. reply_by scratch.new outcome ≡ reply_to (moment_in evac.old) (as_command command.now)) }
-    ensures fits { IfOk result (λ outcome. IsInRoom outcome) }
+    ensures fits { IfOk result (λ outcome. IsInScratch outcome) }
 {
     make_events(evac, scratch, command)
 }

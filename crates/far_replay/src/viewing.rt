@@ -4,7 +4,7 @@ ghost use Rattle.std.specs.Prelude.{◌≡◌, ◌<◌, IfOk, OnOk};
 ghost use Rattle.far_text.specs.Command.{Mutator, Try, View};
 ghost use Rattle.far_replay.specs.Interpreter.{StandsFor};
 ghost use Rattle.far_replay.specs.Moment.{moment_in, state_in};
-ghost use Rattle.far_replay.specs.Outcome.{IsInRoom};
+ghost use Rattle.far_replay.specs.Outcome.{IsInScratch};
 ghost use Rattle.far_replay.specs.Turn.{effect, reply_to};
 
 use crate::events::{dereference, try_view};
@@ -21,7 +21,7 @@ pub fn try_object(evac: &mut Evac<Plain, MemDevice>, owner: u8, pointer: u64) ->
     requires known { owner < (state_in evac.old).mutators }
     ensures moment { moment_in evac.new ≡ effect (moment_in evac.old) (Mutator owner (Try pointer)) }
     ensures reply { StandsFor result (reply_to (moment_in evac.old) (Mutator owner (Try pointer))) }
-    ensures fits { IsInRoom result }
+    ensures fits { IsInScratch result }
 {
     if !core_of(evac).is_open(owner) {
         return Outcome::Refused(Refused::Closed);
@@ -44,7 +44,7 @@ pub fn view_object(
     requires known { owner < (state_in evac.old).mutators }
     ensures moment { OnOk result (moment_in evac.new ≡ effect (moment_in evac.old) (Mutator owner (View pointer))) }
     ensures reply { IfOk result (λ outcome. StandsFor outcome (reply_to (moment_in evac.old) (Mutator owner (View pointer)))) }
-    ensures fits { IfOk result (λ outcome. IsInRoom outcome) }
+    ensures fits { IfOk result (λ outcome. IsInScratch outcome) }
 {
     if !core_of(evac).is_open(owner) {
         return Ok(Outcome::Refused(Refused::Closed));

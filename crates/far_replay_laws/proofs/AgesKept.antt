@@ -25,7 +25,7 @@ use Rattle.far_evac.specs.declared.answers.Progress.{Progress}
 use Rattle.far_word.specs.declared.refused.Refused.TheVariants.{Marked}
 use Rattle.far_replay.proofs.Outcomes.{by_outcome}
 use Rattle.far_replay_laws.proofs.Stops.{LeftSome, Stood, left_some, stood_so}
-use Rattle.far_replay.specs.Events.{IsTold}
+use Rattle.far_replay.specs.Events.{IsNoStep}
 use Rattle.far_replay.specs.Moment.{with_core}
 use Rattle.far_replay.specs.Reply.{Reply, Evacuated, Refused}
 use Rattle.far_replay.specs.Rounds.{after_round, chosen_by, given_by, logs_given, refused_step, rows_in, step_effect}
@@ -94,7 +94,7 @@ join_ages logs a b c x y = record {
 -- ---- a walk, which gives back logs of these alone
 record Walks (logs : List ℕ) (order : List ℕ) (w : Walked) : Type 0 where
   ages : Ages logs order w.moment.order
-  within : (l : ℕ) → among w.moment.held l ≡ true → among logs l ≡ true
+  within : (l : ℕ) → among w.moment.collection l ≡ true → among logs l ≡ true
 
 order_ages : (logs : List ℕ) (s : State) (order : List ℕ) (way : Way) → Ages logs order (order_by s order way)
 order_ages logs s order Drops = same_ages logs order order refl
@@ -110,22 +110,22 @@ keeps_walks logs order = record {
   deals = λ k w p way h. record { ages = join_ages logs order w.moment.order (order_by w.moment.core w.moment.order way) h.ages (order_ages logs w.moment.core w.moment.order way); within = h.within };
 }
 
-walked_ages : (logs : List ℕ) (m : Moment) (n : ℕ) → ((l : ℕ) → among m.held l ≡ true → among logs l ≡ true) → Walks logs m.order (walked m n)
+walked_ages : (logs : List ℕ) (m : Moment) (n : ℕ) → ((l : ℕ) → among m.collection l ≡ true → among logs l ≡ true) → Walks logs m.order (walked m n)
 walked_ages logs m n within = (walked_always (λ k w. Walks logs m.order w) (keeps_walks logs m.order) m record { ages = same_ages logs m.order m.order refl; within = within } n).1
 
 -- ---- moments
 record Stands (logs order : List ℕ) (m : Moment) : Type 0 where
   ages : Ages logs order m.order
-  within : (l : ℕ) → among m.held l ≡ true → among logs l ≡ true
+  within : (l : ℕ) → among m.collection l ≡ true → among logs l ≡ true
 
-ended_ages : (logs : List ℕ) (m : Moment) (n : ℕ) → ((l : ℕ) → among m.held l ≡ true → among logs l ≡ true) → Stands logs m.order (ended (walked m n))
+ended_ages : (logs : List ℕ) (m : Moment) (n : ℕ) → ((l : ℕ) → among m.collection l ≡ true → among logs l ≡ true) → Stands logs m.order (ended (walked m n))
 ended_ages logs m n within =
     let w = walked m n in
     let h = walked_ages logs m n within in
     cond_both (is_done w) (record w.moment { phase = Idle }) w.moment (Stands logs m.order) (λ _. record { ages = h.ages; within = h.within }) (λ _. record { ages = h.ages; within = h.within })
 
 marked_ages : (logs order : List ℕ) (m : Moment) (n : ℕ) → Stands logs order m → Stands logs order (after_marking m n)
-marked_ages logs order m n h = cond_both (leaves_some m n) (record m { core = marked_core m n }) (record m { core = advanced (marked_core m n) m.held; phase = Waiting }) (Stands logs order)
+marked_ages logs order m n h = cond_both (leaves_some m n) (record m { core = marked_core m n }) (record m { core = advanced (marked_core m n) m.collection; phase = Waiting }) (Stands logs order)
     (λ _. record { ages = h.ages; within = h.within }) (λ _. record { ages = h.ages; within = h.within })
 
 polled_ages : (logs order : List ℕ) (m : Moment) (o : Option ℕ) → Stands logs order m → Stands logs order (polled_to m o)
@@ -157,7 +157,7 @@ none_given now c l e = absurd (false≢true e)
 still : (now : Moment) (c : Command) (after : Moment) → after.order ≡ now.order → KeepsAges now c after
 still now c after e = from_ages now c after [] (same_ages [] now.order after.order e) (none_given now c)
 
-told_keeps : (now : Moment) (c : Command) → IsTold c → KeepsAges now c (effect now c)
+told_keeps : (now : Moment) (c : Command) → IsNoStep c → KeepsAges now c (effect now c)
 told_keeps now c told =
     let t : State = (effect now c).core in
     let ages : Ages [] now.order (with_core now t).order = cond_both (t.current == now.core.current) now.order (now.order ++ now.core.current ∷ []) (Ages [] now.order)
@@ -169,7 +169,7 @@ selected_order now [] = refl
 selected_order now (l ∷ ls) = refl
 
 marked_order : (now : Moment) (count : ℕ) → (after_marking now count).order ≡ now.order
-marked_order now count = cond_both (leaves_some now count) (record now { core = marked_core now count }) (record now { core = advanced (marked_core now count) now.held; phase = Waiting }) (λ (x : Moment). x.order ≡ now.order)
+marked_order now count = cond_both (leaves_some now count) (record now { core = marked_core now count }) (record now { core = advanced (marked_core now count) now.collection; phase = Waiting }) (λ (x : Moment). x.order ≡ now.order)
     (λ _. refl) (λ _. refl)
 
 polled_order : (now : Moment) (o : Option ℕ) → (polled_to now o).order ≡ now.order
@@ -189,7 +189,7 @@ module _ (now : Moment) (law : Law now.core) (moment : MomentLaw now) where
   made_keeps (Select choice most) = still now (Evacuator (Select choice most)) (step_effect now (Select choice most)) (selected_order now (logs_given (given_by choice (rows_in now) most)))
   made_keeps (Mark count) = still now (Evacuator (Mark count)) (after_marking now count) (marked_order now count)
   made_keeps Wait = still now (Evacuator Wait) (after_polling now) (polled_order now (first_open now.core))
-  made_keeps (Evacuate count) = from_ages now (Evacuator (Evacuate count)) (ended (walked now count)) now.held (ended_ages now.held now count (λ l h. h)).ages (held_chosen now moment)
+  made_keeps (Evacuate count) = from_ages now (Evacuator (Evacuate count)) (ended (walked now count)) now.collection (ended_ages now.collection now count (λ l h. h)).ages (held_chosen now moment)
   made_keeps Abort = still now (Evacuator Abort) (step_effect now Abort) refl
   made_keeps (Round policy most turns) = round_keeps policy most turns (chosen_by policy (rows_in now) most) refl
 

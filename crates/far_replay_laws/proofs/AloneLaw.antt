@@ -25,7 +25,7 @@ use Rattle.far_text.specs.Command.{Command, New, Open, Write, Read, Close, Where
 use Rattle.far_text.specs.Written.{WritesBytes, AllWriteBytes}
 use Rattle.far_replay.specs.EventRows.{after_events, AllSucceed}
 use Rattle.far_replay.specs.Reply.{Reply, Ended, Evacuated, Refused}
-use Rattle.far_replay.specs.Events.{events_for, IsTold}
+use Rattle.far_replay.specs.Events.{events_for, IsNoStep}
 use Rattle.far_replay.specs.Turn.{effect, refusal, reply_to, unless}
 use Rattle.far_replay.proofs.Lasting.{Lasts, IsCarriedOut, after_step, command_carried, moment_lasts, still_lasts}
 use Rattle.far_replay_laws.proofs.AloneNew.{turns_new}
@@ -57,7 +57,7 @@ none_made : (s : State) (o : Option Refusal) → after_events s (unless o (λ _.
 none_made s None = refl
 none_made s (Some why) = refl
 
-learns : (now : Moment) (m : ℕ) (c : Command) (r : Reply) (t : State) → IsTold c → Law now.core → Between now.core → m < now.core.mutators → WritesBytes c → IsCarriedOut now c r t → Learns now.core m c r t
+learns : (now : Moment) (m : ℕ) (c : Command) (r : Reply) (t : State) → IsNoStep c → Law now.core → Between now.core → m < now.core.mutators → WritesBytes c → IsCarriedOut now c r t → Learns now.core m c r t
 learns now m (Mutator k (New len ds)) r t told law between within small h = at_speaker now.core k m (Mutator k (New len ds)) r t (nat_eq k m) refl within (teaches now.core k (Mutator k (New len ds)) r t h.reply h.state h.made (turns_new now.core k len ds law between))
 learns now m (Mutator k Open) r t told law between within small h = at_speaker now.core k m (Mutator k Open) r t (nat_eq k m) refl within (teaches now.core k (Mutator k Open) r t h.reply h.state h.made (turns_open now.core k law))
 learns now m (Mutator k (Write p from bytes)) r t told law between within small h =

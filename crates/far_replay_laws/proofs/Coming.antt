@@ -22,7 +22,7 @@ use Rattle.far_text.specs.Command.{Command, New, Open, Write, Read, Close, Where
 use Rattle.far_replay.specs.Dereference.{come, dereferenced, has_no_room, sought}
 use Rattle.far_replay.specs.Effects.{near_word, is_slow}
 use Rattle.far_replay.specs.EventRows.{after_events, ComesToPass, AllComeToPass, AtHand}
-use Rattle.far_replay.specs.Events.{IsTold, turn_events, refused_events, zero_puts, new_events, view_events, sought_events, come_events, dereference_events, load_events, store_events, first_loads, last_loads, part_events, first_word, words_touched, starts_inside, ends_inside}
+use Rattle.far_replay.specs.Events.{IsNoStep, turn_events, refused_events, zero_puts, new_events, view_events, sought_events, come_events, dereference_events, load_events, store_events, first_loads, last_loads, part_events, first_word, words_touched, starts_inside, ends_inside}
 use Rattle.far_replay_laws.specs.Headline.{IsAtHandFor}
 use Rattle.far_replay.specs.Moment.{Moment}
 use Rattle.far_replay.specs.Objects.{uses, object_len, data_of, with_range, lowest_cell, is_range}
@@ -100,7 +100,7 @@ is_named : (s : State) (m p : ℕ) → Law s → uses s m p ≡ true → s.cell 
 is_named s m p law ours = nonzero s law p (and_parts (nat_eq (p / CELLS) m) (s.used p) ours).1
 
 -- a refused command makes no event, where its object is at hand
-refused_come : (now : Moment) (c : Command) (why : Refusal) → IsTold c → refusal now c ≡ Some why → Law now.core → IsAtHandFor now c → AllComeToPass now.core (refused_events now c why)
+refused_come : (now : Moment) (c : Command) (why : Refusal) → IsNoStep c → refusal now c ≡ Some why → Law now.core → IsAtHandFor now c → AllComeToPass now.core (refused_events now c why)
 refused_come now (Mutator m (Write p from bytes)) NoRoom told e law hand =
     let h = room_lacks (nat_lt m now.core.mutators) (is_opened now.core m) (uses now.core m p) (is_range (object_len now.core p) from (length bytes)) (has_no_room now.core m p) e in
     absurd (true≢false (sym h.3 ∙ hand_has_room now.core m p (hand (is_named now.core m p law h.2))))
@@ -117,7 +117,7 @@ refused_come now (Mutator m (Try p)) (Marked word) told e law hand =
 refused_come now (Evacuator step) why told e law hand = absurd told
 refused_come now c why told e law hand = tt
 
-pub all_come : (now : Moment) (c : Command) (o : Option Refusal) → IsTold c → refusal now c ≡ o → Law now.core → IsAtHandFor now c →
+pub all_come : (now : Moment) (c : Command) (o : Option Refusal) → IsNoStep c → refusal now c ≡ o → Law now.core → IsAtHandFor now c →
     AllComeToPass now.core (unless o (refused_events now c) (turn_events now c))
 all_come now c (Some why) told e law hand = refused_come now c why told e law hand
 all_come now (Mutator m (New len ds)) None told e law hand = new_comes now.core m len ds (lowest_cell now.core m) (room now.core (size_of len) true) (lowest_free now.core m)

@@ -27,7 +27,7 @@ use Rattle.far_evac.proofs.Joined.{walks_join}
 use Rattle.far_evac.proofs.LeadingTurns.{turns_lead}
 use Rattle.far_evac.proofs.LeadingWalks.{KeepsLawfully, lifted_lawfully}
 
--- of some logs each that is held no more is free, or words of it were taken
+-- of some logs each that has left the collection set is free, or words of it were taken
 abbrev pub GivenFree : List ℕ → State → List ℕ → Type 0
 GivenFree logs s held = (l : ℕ) → among logs l ≡ true → among held l ≡ false → (s.kind l ≡ kinds.Free) ⊎ (0 < s.tail l)
 
@@ -56,7 +56,7 @@ module _ (logs : List ℕ) where
     by_kind free kinds.Open e = inr (d.opened l free (λ f. let odd : kinds.Open ≡ kinds.Free = sym e ∙ f in cc))
     by_kind free kinds.Sealed e = inr (d.opened l free (λ f. let odd : kinds.Sealed ≡ kinds.Free = sym e ∙ f in cc))
 
-  keeps_free : KeepsLawfully (λ w. GivenFree logs w.moment.core w.moment.held)
+  keeps_free : KeepsLawfully (λ w. GivenFree logs w.moment.core w.moment.collection)
   keeps_free = record {
     gives = λ w l ls h. freed_free w.moment.core l ls h;
     deals = λ w l ls p way ready x h. let s : State = w.moment.core in
@@ -65,36 +65,36 @@ module _ (logs : List ℕ) where
 
 -- ---- a walk
 module _ (m : Moment) (law : Law m.core) (moment : MomentLaw m) (leaves : m.phase ≡ Evacuating) where
-  walked_free : (n : ℕ) → GivenFree m.held (walked m n).moment.core (walked m n).moment.held
-  walked_free n = (lifted_lawfully m (λ w. GivenFree m.held w.moment.core w.moment.held) (keeps_free m.held) law moment leaves (still_held m.core m.held m.held refl) n).2.keeps.1
+  walked_free : (n : ℕ) → GivenFree m.collection (walked m n).moment.core (walked m n).moment.collection
+  walked_free n = (lifted_lawfully m (λ w. GivenFree m.collection w.moment.core w.moment.collection) (keeps_free m.collection) law moment leaves (still_held m.core m.collection m.collection refl) n).2.keeps.1
 
-  pub ended_free : (n : ℕ) → GivenFree m.held (ended (walked m n)).core (ended (walked m n)).held
-  ended_free n = cond_both (is_done (walked m n)) (record (walked m n).moment { phase = Idle }) (walked m n).moment (λ (t : Moment). GivenFree m.held t.core t.held) (λ _. walked_free n) (λ _. walked_free n)
+  pub ended_free : (n : ℕ) → GivenFree m.collection (ended (walked m n)).core (ended (walked m n)).collection
+  ended_free n = cond_both (is_done (walked m n)) (record (walked m n).moment { phase = Idle }) (walked m n).moment (λ (t : Moment). GivenFree m.collection t.core t.collection) (λ _. walked_free n) (λ _. walked_free n)
 
 -- ---- a round
-turns_free : (m : Moment) → Law m.core → MomentLaw m → is_idle m.phase ≡ false → (n : ℕ) → GivenFree m.held (turns_made m n).moment.core (turns_made m n).moment.held
+turns_free : (m : Moment) → Law m.core → MomentLaw m → is_idle m.phase ≡ false → (n : ℕ) → GivenFree m.collection (turns_made m n).moment.core (turns_made m n).moment.collection
 turns_free m law moment runs n = elim (spans m law moment runs n) [
-  | inl h ↦ still_held (turns_made m n).moment.core m.held (turns_made m n).moment.held h.held
-  | inr h ↦ subst (λ (t : Moment). GivenFree m.held t.core t.held) (sym h.is)
-      (subst (λ logs. GivenFree logs (ended (walked h.at h.many)).core (ended (walked h.at h.many)).held) h.held (ended_free h.at h.law h.moment h.leaves h.many))
+  | inl h ↦ still_held (turns_made m n).moment.core m.collection (turns_made m n).moment.collection h.held
+  | inr h ↦ subst (λ (t : Moment). GivenFree m.collection t.core t.collection) (sym h.is)
+      (subst (λ logs. GivenFree logs (ended (walked h.at h.many)).core (ended (walked h.at h.many)).collection) h.held (ended_free h.at h.law h.moment h.leaves h.many))
 ]
 
 -- and, where objects leave then, of a walk more that isn't over
 pub stop_free : (m : Moment) → Law m.core → MomentLaw m → is_idle m.phase ≡ false → (n objects : ℕ) → (turns_made m n).over ≡ false → (turns_made m n).moment.phase ≡ Evacuating →
-    let t = (walked (turns_made m n).moment objects).moment in GivenFree m.held t.core t.held
+    let t = (walked (turns_made m n).moment objects).moment in GivenFree m.collection t.core t.collection
 stop_free m law moment runs n objects goes leaves =
     let r = turns_made m n in
     let leads = turns_lead m n law moment runs in
     elim (spans m law moment runs n) [
-      | inl h ↦ subst (λ logs. GivenFree logs (walked r.moment objects).moment.core (walked r.moment objects).moment.held) h.held (walked_free r.moment leads.law leads.moment leaves objects)
+      | inl h ↦ subst (λ logs. GivenFree logs (walked r.moment objects).moment.core (walked r.moment objects).moment.collection) h.held (walked_free r.moment leads.law leads.moment leaves objects)
       | inr h ↦ (let w = walked h.at h.many in
           let stands : r.moment ≡ w.moment = h.is ∙ ap (λ b. cond b (record w.moment { phase = Idle }) w.moment) (sym h.over ∙ goes) in
-          subst (λ (x : Moment). GivenFree m.held (walked x objects).moment.core (walked x objects).moment.held) (sym stands)
-          (subst (λ (x : Walked). GivenFree m.held x.moment.core x.moment.held) (walks_join h.at h.many objects)
-          (subst (λ logs. GivenFree logs (walked h.at (h.many + objects)).moment.core (walked h.at (h.many + objects)).moment.held) h.held (walked_free h.at h.law h.moment h.leaves (h.many + objects)))))
+          subst (λ (x : Moment). GivenFree m.collection (walked x objects).moment.core (walked x objects).moment.collection) (sym stands)
+          (subst (λ (x : Walked). GivenFree m.collection x.moment.core x.moment.collection) (walks_join h.at h.many objects)
+          (subst (λ logs. GivenFree logs (walked h.at (h.many + objects)).moment.core (walked h.at (h.many + objects)).moment.collection) h.held (walked_free h.at h.law h.moment h.leaves (h.many + objects)))))
     ]
 
 pub round_free : (now : Moment) → Law now.core → (logs : List ℕ) (turns : ℕ) → MomentLaw (after_selecting now logs) →
-    GivenFree (after_selecting now logs).held (after_round now logs turns).core (after_round now logs turns).held
-round_free now law [] turns begun = still_held now.core now.held now.held refl
+    GivenFree (after_selecting now logs).collection (after_round now logs turns).core (after_round now logs turns).collection
+round_free now law [] turns begun = still_held now.core now.collection now.collection refl
 round_free now law (l ∷ ls) turns begun = turns_free (after_selecting now (l ∷ ls)) law begun refl turns

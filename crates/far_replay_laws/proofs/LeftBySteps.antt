@@ -104,8 +104,8 @@ module _ (now : Moment) (law : Law now.core) (moment : MomentLaw now) where
   abbrev NotDealt : Step → ℕ → Type 0
   NotDealt step p = (l : ℕ) → DealsWith now step l → ¬ LiesIn now.core p l
 
-  apart_if : (p : ℕ) → ((l : ℕ) → IsChosen now l → ¬ LiesIn now.core p l) → IsApart now.core now.held p
-  apart_if p none l c = none l (held_chosen now moment l (in_among l now.held c))
+  apart_if : (p : ℕ) → ((l : ℕ) → IsChosen now l → ¬ LiesIn now.core p l) → IsApart now.core now.collection p
+  apart_if p none l c = none l (held_chosen now moment l (in_among l now.collection c))
 
   marks_rest : (count : ℕ) → AllStayPut now.core (Mark count) (step_reply now (Mark count)) (after_marking now count).core
   marks_rest count =
@@ -127,7 +127,7 @@ module _ (now : Moment) (law : Law now.core) (moment : MomentLaw now) where
   abort_rest =
       let t : State = (after_aborting now).core in
       let is = is_given_up now fits in
-      let lived = live_among now.core now.held in
+      let lived = live_among now.core now.collection in
       record {
         cells = λ p. elim (member_or_apart p lived) [
           | inl c ↦ evac_alone false (read_of (now.core.cell p)) (read_of (t.cell p)) (all_at (λ q. has_evac (read_of (t.cell q)) ≡ false) p lived is.bare c) (is.same p)
@@ -137,9 +137,9 @@ module _ (now : Moment) (law : Law now.core) (moment : MomentLaw now) where
         rest = abort_frame;
       }
 
-  abort_put : (q : ℕ) → IsApart now.core now.held q → StaysPut now.core (after_aborting now).core q
-  abort_put q none = framed_put now.core (after_aborting now).core q abort_frame (elim (member_or_apart q (live_among now.core now.held)) [
-    | inl c ↦ absurd (apart_from now.core now.held q q none c refl)
+  abort_put : (q : ℕ) → IsApart now.core now.collection q → StaysPut now.core (after_aborting now).core q
+  abort_put q none = framed_put now.core (after_aborting now).core q abort_frame (elim (member_or_apart q (live_among now.core now.collection)) [
+    | inl c ↦ absurd (apart_from now.core now.collection q q none c refl)
     | inr apart ↦ (is_given_up now fits).others q apart
   ])
 
@@ -155,7 +155,7 @@ module _ (now : Moment) (law : Law now.core) (moment : MomentLaw now) where
         let begun = selecting now (chosen_by policy (rows_in now) most) law moment (begins now [] may).0.idle (begins now [] may).0.left chosen.once chosen.of_order in
         let tells : Served now (Evacuator (Select (By policy) most)) (Selected (l ∷ ls)) m =
         subst (λ (xs : List ℕ). Served now (Evacuator (Select (By policy) most)) (Selected xs) (after_selecting now xs)) e (made_so now (Select (By policy) most) may) in
-        let apart : IsApart m.core m.held q = λ k c. none k (l ∷ ls, m, tells, c) in
+        let apart : IsApart m.core m.collection q = λ k c. none k (l ∷ ls, m, tells, c) in
         (turns_put m q law (subst (λ (xs : List ℕ). MomentLaw (after_selecting now xs)) e begun.moment) refl apart turns).put_there
 
   -- what lies where it lay
@@ -169,7 +169,7 @@ module _ (now : Moment) (law : Law now.core) (moment : MomentLaw now) where
         let chosen = policy_chooses now policy most moment in
         let begun = selecting now (chosen_by policy (rows_in now) most) law moment (begins now [] may).0.idle (begins now [] may).0.left chosen.once chosen.of_order in
         let t : Moment = after_round now (k ∷ ks) turns in
-        has_stayed StaysMarked m.core m.held q t.core t.held (turns_fate m q law (subst (λ (xs : List ℕ). MomentLaw (after_selecting now xs)) e begun.moment) refl turns) l was is
+        has_stayed StaysMarked m.core m.collection q t.core t.collection (turns_fate m q law (subst (λ (xs : List ℕ). MomentLaw (after_selecting now xs)) e begun.moment) refl turns) l was is
 
   some_stay : (Stays : State → State → ℕ → Type 0) (step : Step) → ((p l : ℕ) → LiesIn now.core p l → LiesIn (step_effect now step).core p l → Stays now.core (step_effect now step).core p) →
       refusal now (Evacuator step) ≡ None → SomeStay Stays now.core (step_effect now step).core
@@ -186,7 +186,7 @@ module _ (now : Moment) (law : Law now.core) (moment : MomentLaw now) where
   made_rest (Evacuate count) e =
       let leaves : now.phase ≡ Evacuating = evacuating_is now.phase (none_first (not (is_evacuating now.phase)) WrongPhase [] e).0 in
       let t : Moment = ended (walked now count) in
-      some_stay StaysPut (Evacuate count) (λ p l was is. has_stayed StaysPut now.core now.held p t.core t.held (ended_fate now law moment leaves p count) l was is) e
+      some_stay StaysPut (Evacuate count) (λ p l was is. has_stayed StaysPut now.core now.collection p t.core t.collection (ended_fate now law moment leaves p count) l was is) e
   made_rest Abort e = abort_rest
   made_rest (Round policy most turns) e = some_stay StaysMarked (Round policy most turns) (λ p l was is. round_marked policy most turns e p l was is) e
 
@@ -247,9 +247,9 @@ round_left now why turns objects policy most count r next lasts h later =
     let y = served_left h.stood (Evacuate objects) (Evacuated h.progress) next later h.left in
     let tells : Served now (Evacuator (Select (By policy) most)) (Selected logs) m =
     subst (λ (xs : List ℕ). Served now (Evacuator (Select (By policy) most)) (Selected xs) (after_selecting now xs)) stood.chosen (made_so now (Select (By policy) most) stood.may) in
-    let fate = λ (q : ℕ). subst (λ (z : Moment). Fate StaysMarked m.core m.held q z.core z.held) (sym stood.stands) (turns_fate m q started.law started.moment refl turns) in
+    let fate = λ (q : ℕ). subst (λ (z : Moment). Fate StaysMarked m.core m.collection q z.core z.collection) (sym stood.stands) (turns_fate m q started.law started.moment refl turns) in
     let ends : ended (walked h.stood objects) ≡ next = ap (λ b. cond b (record (walked h.stood objects).moment { phase = Idle }) (walked h.stood objects).moment) left.goes ∙ sym left.stands in
-    let last = λ (q : ℕ). subst (λ (z : Moment). Fate StaysPut h.stood.core h.stood.held q z.core z.held) ends (ended_fate h.stood later.law later.round left.leaves q objects) in
+    let last = λ (q : ℕ). subst (λ (z : Moment). Fate StaysPut h.stood.core h.stood.collection q z.core z.collection) ends (ended_fate h.stood later.law later.round left.leaves q objects) in
     subst (λ z. StepLeaves now (Round policy most count) z next) (sym h.reply) record {
       objects = λ p. anywhere_more ((world_of now.core).object p) ((world_of h.stood.core).object p) ((world_of next.core).object p) (x.objects p) (y.objects p);
       others = λ p none.
@@ -257,8 +257,8 @@ round_left now why turns objects policy most count r next lasts h later =
           put_more now.core h.stood.core next.core p first
           (y.others p (λ l chosen lies. none l (logs, m, tells, (fate p).fewer l (in_held h.stood l chosen)) (lay_there now.core h.stood.core p l first.cell lies)));
       rest = record {
-        unreached = λ p l was is. has_stayed StaysMarked m.core m.held p next.core next.held
-            (marked_fate m.core h.stood.core next.core m.held h.stood.held next.held p (fate p) (fate_marked h.stood.core next.core h.stood.held next.held p (last p))) l was is;
+        unreached = λ p l was is. has_stayed StaysMarked m.core m.collection p next.core next.collection
+            (marked_fate m.core h.stood.core next.core m.collection h.stood.collection next.collection p (fate p) (fate_marked h.stood.core next.core h.stood.collection next.collection p (last p))) l was is;
         used = y.rest.used ∙ x.rest.used;
         held = y.rest.held ∙ x.rest.held;
         scope = y.rest.scope ∙ x.rest.scope;
@@ -266,8 +266,8 @@ round_left now why turns objects policy most count r next lasts h later =
       };
     }
   where
-    in_held : (s : Moment) (l : ℕ) → IsChosen s l → Contains s.held l
-    in_held s l chosen = among_in l s.held (chosen_held s l chosen)
+    in_held : (s : Moment) (l : ℕ) → IsChosen s l → Contains s.collection l
+    in_held s l chosen = among_in l s.collection (chosen_held s l chosen)
 
 served_so : (now : Moment) (c : Command) (r : Reply) (next : Moment) → Lasts now → Served now c r next → Leaves now c r next
 served_so now (Mutator m request) r next lasts h = stands now (Mutator m request) r next lasts (Serves, h)

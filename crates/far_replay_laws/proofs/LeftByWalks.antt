@@ -50,7 +50,7 @@ put_more s t u q a b = record { cell = b.cell ∙ a.cell; object = b.object ∙ 
 pub lay_there : (s t : State) (q l : ℕ) → t.cell q ≡ s.cell q → LiesIn t q l → LiesIn s q l
 lay_there s t q l same (len, ds, place, marks, near, log) = (len, ds, place, marks, ap read_of (sym same) ∙ near, log)
 
--- of a moment q's object lies in no log that is held
+-- of a moment q's object lies in no log of the collection set
 abbrev pub IsApart : State → List ℕ → ℕ → Type 0
 IsApart s held q = (l : ℕ) → Contains held l → ¬ LiesIn s q l
 
@@ -60,7 +60,7 @@ apart_from s held q p none member e =
     let (l, holds, lives) = live_of s held p member in
     none l holds (subst (λ x. LiesIn s x l) (sym e) (near_in s l p lives))
 
--- from a moment on it has stayed, and the logs that are held then were held before
+-- from a moment on it has stayed, and the collection set then was part of the one before
 pub record Stayed (s : State) (logs : List ℕ) (q : ℕ) (t : State) (held : List ℕ) : Type 0 where
   pub put_there : StaysPut s t q
   pub fewer : (l : ℕ) → Contains held l → Contains logs l
@@ -116,26 +116,26 @@ module _ (s : State) (l p q : ℕ) (other : q ≢ p) where
 pub lies_lawfully : (s : State) (l p : ℕ) (way : Way) → GoesLawfully s l p way → LiesIn s p l
 lies_lawfully s l p way x = (x.len, x.ds, x.place, x.marks, x.near, x.log)
 
-module _ (m : Moment) (q : ℕ) (none : IsApart m.core m.held q) where
+module _ (m : Moment) (q : ℕ) (none : IsApart m.core m.collection q) where
   abbrev HasStayed : Moment → Type 0
-  HasStayed t = Stayed m.core m.held q t.core t.held
+  HasStayed t = Stayed m.core m.collection q t.core t.collection
 
   keeps_put : KeepsLawfully (λ w. HasStayed w.moment)
   keeps_put = record {
     gives = λ w l ls h. record { put_there = put_more m.core w.moment.core (released w.moment.core l) q h.put_there (released_put w.moment.core l q); fewer = λ k c. h.fewer k (there k l ls c) };
     deals = λ w l ls p way ready x h.
         let s : State = w.moment.core in
-        let other : q ≢ p = λ e. still_apart m.core s m.held (l ∷ ls) q none h l (here l ls) (subst (λ y. LiesIn s y l) (sym e) (lies_lawfully s l p way x)) in
+        let other : q ≢ p = λ e. still_apart m.core s m.collection (l ∷ ls) q none h l (here l ls) (subst (λ y. LiesIn s y l) (sym e) (lies_lawfully s l p way x)) in
         record { put_there = put_more m.core s (core_so s p way) q h.put_there (gone_put s l p q other way x); fewer = h.fewer };
   }
 
   walk_put : Law m.core → MomentLaw m → m.phase ≡ Evacuating → (n : ℕ) → HasStayed (walked m n).moment
-  walk_put law moment leaves n = (lifted_lawfully m (λ w. HasStayed w.moment) keeps_put law moment leaves (stayed_none m.core m.held q) n).2.keeps.1
+  walk_put law moment leaves n = (lifted_lawfully m (λ w. HasStayed w.moment) keeps_put law moment leaves (stayed_none m.core m.collection q) n).2.keeps.1
 
-pub ended_put : (m : Moment) → Law m.core → MomentLaw m → m.phase ≡ Evacuating → (q : ℕ) → IsApart m.core m.held q → (n : ℕ) → Stayed m.core m.held q (ended (walked m n)).core (ended (walked m n)).held
+pub ended_put : (m : Moment) → Law m.core → MomentLaw m → m.phase ≡ Evacuating → (q : ℕ) → IsApart m.core m.collection q → (n : ℕ) → Stayed m.core m.collection q (ended (walked m n)).core (ended (walked m n)).collection
 ended_put m law moment leaves q none n =
     let h = walk_put m q none law moment leaves n in
-    cond_both (is_done (walked m n)) (record (walked m n).moment { phase = Idle }) (walked m n).moment (λ (t : Moment). Stayed m.core m.held q t.core t.held) (λ _. h) (λ _. h)
+    cond_both (is_done (walked m n)) (record (walked m n).moment { phase = Idle }) (walked m n).moment (λ (t : Moment). Stayed m.core m.collection q t.core t.collection) (λ _. h) (λ _. h)
 
 -- ---- marking and waiting
 -- where cells say the same object, words and stored words the same, so does the world
@@ -153,13 +153,13 @@ framed_put s t q rest same = record {
 pub marking_frame : (m : Moment) (n : ℕ) → (after_marking m n).core ≡ marked_frame m.core (after_marking m n).core
 marking_frame m n = ap (λ (t : Moment). t.core) (frame m n)
 
-pub lacking_live : (m : Moment) (n p : ℕ) → Contains (newly_marked m n) p → Contains (live_among m.core m.held) p
-lacking_live m n p c = (filtered _ (live_among m.core m.held) p (in_front n p (lacking m.core m.held) c)).0
+pub lacking_live : (m : Moment) (n p : ℕ) → Contains (newly_marked m n) p → Contains (live_among m.core m.collection) p
+lacking_live m n p c = (filtered _ (live_among m.core m.collection) p (in_front n p (lacking m.core m.collection) c)).0
 
-pub marking_put : (m : Moment) (n q : ℕ) → Law m.core → IsApart m.core m.held q → Stayed m.core m.held q (after_marking m n).core (after_marking m n).held
+pub marking_put : (m : Moment) (n q : ℕ) → Law m.core → IsApart m.core m.collection q → Stayed m.core m.collection q (after_marking m n).core (after_marking m n).collection
 marking_put m n q law none = record {
   put_there = framed_put m.core (after_marking m n).core q (marking_frame m n) (elim (member_or_apart q (newly_marked m n)) [
-    | inl c ↦ absurd (apart_from m.core m.held q q none (lacking_live m n q c) refl)
+    | inl c ↦ absurd (apart_from m.core m.collection q q none (lacking_live m n q c) refl)
     | inr apart ↦ (is_marked m n (λ p. (law.cells.cell_read p).0)).others q apart
   ]);
   fewer = λ l c. subst (λ xs. Contains xs l) (marking_held m n) c;
@@ -168,24 +168,24 @@ marking_put m n q law none = record {
 pub looked_put : (m : Moment) (q k : ℕ) → StaysPut m.core (with_clear_below m.core k) q
 looked_put m q k = framed_put m.core (with_clear_below m.core k) q refl refl
 
-polled_put : (m : Moment) (q : ℕ) (o : Option ℕ) → Stayed m.core m.held q (polled_to m o).core (polled_to m o).held
+polled_put : (m : Moment) (q : ℕ) (o : Option ℕ) → Stayed m.core m.collection q (polled_to m o).core (polled_to m o).collection
 polled_put m q None = record { put_there = looked_put m q m.core.mutators; fewer = λ l c. c }
 polled_put m q (Some k) = record { put_there = looked_put m q k; fewer = λ l c. c }
 
-pub polling_put : (m : Moment) (q : ℕ) → Stayed m.core m.held q (after_polling m).core (after_polling m).held
+pub polling_put : (m : Moment) (q : ℕ) → Stayed m.core m.collection q (after_polling m).core (after_polling m).collection
 polling_put m q = polled_put m q (first_open m.core)
 
 -- ---- turn after turn
-keeps_turns : (m : Moment) (q : ℕ) → IsApart m.core m.held q → KeepsTurns true (λ t tally. Stayed m.core m.held q t.core t.held)
+keeps_turns : (m : Moment) (q : ℕ) → IsApart m.core m.collection q → KeepsTurns true (λ t tally. Stayed m.core m.collection q t.core t.collection)
 keeps_turns m q none = record {
   learns = tt;
-  marks = λ u n tally lawful is h. stayed_more m.core u.core (after_marking u n).core m.held u.held (after_marking u n).held q h (marking_put u n q lawful.0 (still_apart m.core u.core m.held u.held q none h));
+  marks = λ u n tally lawful is h. stayed_more m.core u.core (after_marking u n).core m.collection u.collection (after_marking u n).collection q h (marking_put u n q lawful.0 (still_apart m.core u.core m.collection u.collection q none h));
   looks = λ u k phase tally lawful is h. record { put_there = put_more m.core u.core (with_clear_below u.core k) q h.put_there (looked_put u q k); fewer = h.fewer };
   walks = λ u n tally law moment is h.
-      stayed_more m.core u.core (walked u n).moment.core m.held u.held (walked u n).moment.held q h (walk_put u q (still_apart m.core u.core m.held u.held q none h) law moment is n);
+      stayed_more m.core u.core (walked u n).moment.core m.collection u.collection (walked u n).moment.collection q h (walk_put u q (still_apart m.core u.core m.collection u.collection q none h) law moment is n);
   ends = λ u tally h. h;
 }
 
-pub turns_put : (m : Moment) (q : ℕ) → Law m.core → MomentLaw m → is_idle m.phase ≡ false → IsApart m.core m.held q → (n : ℕ) →
-    Stayed m.core m.held q (turns_made m n).moment.core (turns_made m n).moment.held
-turns_put m q law moment runs none n = turns_kept_exactly (λ t tally. Stayed m.core m.held q t.core t.held) (keeps_turns m q none) m n law moment runs (stayed_none m.core m.held q)
+pub turns_put : (m : Moment) (q : ℕ) → Law m.core → MomentLaw m → is_idle m.phase ≡ false → IsApart m.core m.collection q → (n : ℕ) →
+    Stayed m.core m.collection q (turns_made m n).moment.core (turns_made m n).moment.collection
+turns_put m q law moment runs none n = turns_kept_exactly (λ t tally. Stayed m.core m.collection q t.core t.collection) (keeps_turns m q none) m n law moment runs (stayed_none m.core m.collection q)

@@ -117,10 +117,10 @@ flipped : (b : Bool) (n : ℕ) → cond b 0 n ≡ cond (not b) n 0
 flipped true n = refl
 flipped false n = refl
 
--- ---- from a moment to another, objects have left the logs held
+-- ---- from a moment to another, objects have left the collection set
 module _ (m t : Moment) (objects : List ℕ) (h : Taken m t objects) (law : Law t.core) where
   was : (p : ℕ) → Contains objects p → (k : ℕ) × LiesIn m.core p k
-  was p c = let x = all_at (IsNearIn m.core m.held) p objects h.of_held c in (x.place.log, (x.len, x.ds, x.place, x.marks, x.near, refl))
+  was p c = let x = all_at (IsNearIn m.core m.collection) p objects h.of_collection c in (x.place.log, (x.len, x.ds, x.place, x.marks, x.near, refl))
 
   same_log : (p l : ℕ) → AllByRecursion (λ q. q ≢ p) objects → in_log l (read_of (t.core.cell p)) ≡ in_log l (read_of (m.core.cell p))
   same_log p l apart = in_spot l (read_of (t.core.cell p)) ∙ ap (in_log l) (h.others p apart) ∙ sym (in_spot l (read_of (m.core.cell p)))
@@ -191,7 +191,7 @@ module _ (m t : Moment) (objects : List ℕ) (h : Taken m t objects) (law : Law 
       ))
 
   -- ---- in the words of the trace
-  aside : (l : ℕ) → among m.held l ≡ false → RoomAside m.core t.core l
+  aside : (l : ℕ) → among m.collection l ≡ false → RoomAside m.core t.core l
   aside l off = let x = h.aside l off in record {
     came = bytes_in t.core l objects;
     bytes = comes l;
@@ -203,10 +203,10 @@ module _ (m t : Moment) (objects : List ℕ) (h : Taken m t objects) (law : Law 
     used = x.used;
   }
 
-  left : (l : ℕ) → among t.held l ≡ true → RoomLeft m.core t.core l
+  left : (l : ℕ) → among t.collection l ≡ true → RoomLeft m.core t.core l
   left l is = let x = h.left l is in record { left = bytes_in m.core l objects; bytes = leaves l; live = x.live; dead = x.dead; unused = x.unused }
 
-  back : GivenFree m.held t.core t.held → (l : ℕ) → among m.held l ≡ true → among t.held l ≡ false → RoomBack m.core t.core l
+  back : GivenFree m.collection t.core t.collection → (l : ℕ) → among m.collection l ≡ true → among t.collection l ≡ false → RoomBack m.core t.core l
   back free l held off = let x = h.back l held off in record {
     came = bytes_in t.core l objects;
     bytes = comes l;
@@ -220,8 +220,8 @@ module _ (m t : Moment) (objects : List ℕ) (h : Taken m t objects) (law : Law 
     ];
   }
 
-  pub moves_take : GivenFree m.held t.core t.held → (Held : ℕ → Type 0) → ((l : ℕ) → Held l → among m.held l ≡ true) → ((l : ℕ) → ¬ Held l → among m.held l ≡ false) →
-      ((l : ℕ) → IsChosen t l → among t.held l ≡ true) → ((l : ℕ) → ¬ IsChosen t l → among t.held l ≡ false) → MovesTake m Held t
+  pub moves_take : GivenFree m.collection t.core t.collection → (Held : ℕ → Type 0) → ((l : ℕ) → Held l → among m.collection l ≡ true) → ((l : ℕ) → ¬ Held l → among m.collection l ≡ false) →
+      ((l : ℕ) → IsChosen t l → among t.collection l ≡ true) → ((l : ℕ) → ¬ IsChosen t l → among t.collection l ≡ false) → MovesTake m Held t
   moves_take free Held on off chosen none = record {
     aside = λ l is. aside l (off l is);
     left = λ l held is. left l (chosen l is);
@@ -230,12 +230,12 @@ module _ (m t : Moment) (objects : List ℕ) (h : Taken m t objects) (law : Law 
   }
 
 -- ---- which logs are chosen
-pub chosen_held : (now : Moment) (l : ℕ) → IsChosen now l → among now.held l ≡ true
-chosen_held now l is = held_by (among now.held l) (now.core.kind l) is
+pub chosen_held : (now : Moment) (l : ℕ) → IsChosen now l → among now.collection l ≡ true
+chosen_held now l is = held_by (among now.collection l) (now.core.kind l) is
 
-not_chosen : (now : Moment) → MomentLaw now → (l : ℕ) → ¬ IsChosen now l → among now.held l ≡ false
-not_chosen now moment l off = by_held (among now.held l) refl where
-  by_held : (b : Bool) → among now.held l ≡ b → b ≡ false
+not_chosen : (now : Moment) → MomentLaw now → (l : ℕ) → ¬ IsChosen now l → among now.collection l ≡ false
+not_chosen now moment l off = by_held (among now.collection l) refl where
+  by_held : (b : Bool) → among now.collection l ≡ b → b ≡ false
   by_held true e = absurd (off (held_chosen now moment l e))
   by_held false e = refl
 
@@ -260,8 +260,8 @@ module _ (now : Moment) (law : Law now.core) (moment : MomentLaw now) where
   begun_core [] Held t h = h
   begun_core (l ∷ ls) Held t h = record { aside = h.aside; left = h.left; back = h.back; all = h.all }
 
-  begun_held : (logs : List ℕ) → is_idle now.phase ≡ true → (l : ℕ) → among (after_selecting now logs).held l ≡ among logs l
-  begun_held [] idle l = ap (λ (xs : List ℕ). among xs l) (none_held now.held (moment.runs ∙ idle))
+  begun_held : (logs : List ℕ) → is_idle now.phase ≡ true → (l : ℕ) → among (after_selecting now logs).collection l ≡ among logs l
+  begun_held [] idle l = ap (λ (xs : List ℕ). among xs l) (none_held now.collection (moment.runs ∙ idle))
   begun_held (k ∷ ks) idle l = refl
 
   round_takes : (policy : Policy) (most turns : ℕ) → refusal now (Evacuator (Round policy most turns)) ≡ None →
@@ -291,8 +291,8 @@ module _ (now : Moment) (law : Law now.core) (moment : MomentLaw now) where
       let led = turns_led now law moment policy most turns stood h in
       let after = left_led stood led.law led.moment objects progress next left in
       let taken = (round_takes_some now next logs count (own_law now.core law)).1 _ (stopped_so now law moment policy most turns stood h count objects progress next few within left) in
-      let free : GivenFree m.held next.core next.held = subst (λ (x : Moment). GivenFree m.held x.core x.held) (sym left.stands)
-      (subst (λ (x : Moment). GivenFree m.held (walked x objects).moment.core (walked x objects).moment.held) (sym h.stands) (stop_free m start.law start.moment refl turns objects h.goes h.leaves)) in
+      let free : GivenFree m.collection next.core next.collection = subst (λ (x : Moment). GivenFree m.collection x.core x.collection) (sym left.stands)
+      (subst (λ (x : Moment). GivenFree m.collection (walked x objects).moment.core (walked x objects).moment.collection) (sym h.stands) (stop_free m start.law start.moment refl turns objects h.goes h.leaves)) in
       let held = begun_held logs (begins now [] h.may).0.idle in (
         logs,
         subst (Takes now (By policy) most) h.chosen (policy_takes now law moment policy most),

@@ -166,8 +166,8 @@ module _ (now : Moment) (law : Law now.core) (moment : MomentLaw now) where
 
   few_marked : (count : ℕ) → length (newly_marked now count) < 2 ^ 64
   few_marked count =
-      let all = filter_shorter (λ p. not (has_evac (read_of (now.core.cell p)))) (live_among now.core now.held) in
-      let some : length (newly_marked now count) ≤ length (lacking now.core now.held) = subst (λ n. n ≤ length (lacking now.core now.held)) (sym (length-take count (lacking now.core now.held))) (min-le_right _ _) in
+      let all = filter_shorter (λ p. not (has_evac (read_of (now.core.cell p)))) (live_among now.core now.collection) in
+      let some : length (newly_marked now count) ≤ length (lacking now.core now.collection) = subst (λ n. n ≤ length (lacking now.core now.collection)) (sym (length-take count (lacking now.core now.collection))) (min-le_right _ _) in
       omega (arith, all, some, within.objects)
 
   plain_waiting : (count : ℕ) → IsWaitToldInFull (waiting_for now count)

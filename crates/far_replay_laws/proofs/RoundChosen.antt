@@ -11,11 +11,11 @@ use Rattle.far_replay_laws.proofs.StepsTell.{held_chosen}
 use Rattle.far_replay.proofs.Strays.{chosen_held}
 
 risen_chosen : (now : Moment) → MomentLaw now → has_risen now.phase ≡ true → (l : ℕ) → (now.core.round l ≡ true) ↔ IsChosen now l
-risen_chosen now moment risen l = (λ is. held_chosen now moment l (moment.only risen l is), λ chosen. moment.round risen l (chosen_held (among now.held l) (now.core.kind l) chosen))
+risen_chosen now moment risen l = (λ is. held_chosen now moment l (moment.only risen l is), λ chosen. moment.round risen l (chosen_held (among now.collection l) (now.core.kind l) chosen))
 
 lies_chosen : (now : Moment) → Lasts now → (p l : ℕ) → now.core.round l ≡ true → LiesIn now.core p l → IsChosen now l
 lies_chosen now lasts p l in_it (len, ds, place, marks, near, log) =
-    held_chosen now lasts.round l (ap (among now.held) (sym log) ∙ lasts.strays p len ds place marks near (ap now.core.round log ∙ in_it))
+    held_chosen now lasts.round l (ap (among now.collection) (sym log) ∙ lasts.strays p len ds place marks near (ap now.core.round log ∙ in_it))
 
 pub rounds_are_chosen : RoundsAreChosen
 rounds_are_chosen now is =

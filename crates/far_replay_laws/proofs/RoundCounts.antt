@@ -63,7 +63,7 @@ after_nothing t = λ i. record { moved = after_none t.moved i; far = after_none 
 -- ---- no object has left yet; or a walk was begun at some moment, and goes on from there
 pub record Early (m : Moment) (r : Turned) : Type 0 where
   pub alike : Alike m r.moment
-  pub held : r.moment.held ≡ m.held
+  pub held : r.moment.collection ≡ m.collection
   pub tally : r.tally ≡ nothing
   pub goes : r.over ≡ false
 
@@ -74,7 +74,7 @@ pub record Late (m : Moment) (r : Turned) : Type 0 where
   pub moment : MomentLaw at
   pub leaves : at.phase ≡ Evacuating
   pub alike : Alike m at
-  pub held : at.held ≡ m.held
+  pub held : at.collection ≡ m.collection
   pub is : r.moment ≡ ended (walked at many)
   pub tally : r.tally ≡ (walked at many).tally
   pub over : r.over ≡ is_done (walked at many)
@@ -89,8 +89,8 @@ module _ (m : Moment) (r : Turned) (law : Law r.moment.core) (moment : MomentLaw
       let x = is_marked r.moment turn_size (λ p. (law.cells.cell_read p).0) in
       record {
         alike = λ p. x.same p ∙ h.alike p;
-        held = cond_both (leaves_some r.moment turn_size) (record r.moment { core = marked_core r.moment turn_size }) (record r.moment { core = advanced (marked_core r.moment turn_size) r.moment.held; phase = Waiting })
-            (λ (t : Moment). t.held ≡ m.held) (λ _. h.held) (λ _. h.held);
+        held = cond_both (leaves_some r.moment turn_size) (record r.moment { core = marked_core r.moment turn_size }) (record r.moment { core = advanced (marked_core r.moment turn_size) r.moment.collection; phase = Waiting })
+            (λ (t : Moment). t.collection ≡ m.collection) (λ _. h.held) (λ _. h.held);
         tally = h.tally;
         goes = h.goes;
       }
@@ -149,21 +149,21 @@ spans m law moment runs (suc n) =
     let h = spans m law moment runs n in
     cond_both r.over r (turned r r.moment.phase) (λ (t : Turned). Early m t ⊎ Late m t) (λ _. h) (λ goes. turn_spans m r leads.law leads.moment goes r.moment.phase refl h)
 
-late_counts : (m : Moment) (r : Turned) → Late m r → r.over ≡ true → CountsRound m m.held (progress_of r.tally true) r.moment
+late_counts : (m : Moment) (r : Turned) → Late m r → r.over ≡ true → CountsRound m m.collection (progress_of r.tally true) r.moment
 late_counts m r h over =
     let w : Walked = walked h.at h.many in
     let t : State = (ended w).core in
     let x = tells_leaving h.at h.many h.law h.moment h.leaves in
     let back : Alike h.at m = λ p. sym (h.alike p) in
-    let counts : CountsRound m m.held (progress_of w.tally true) (ended w) = record {
+    let counts : CountsRound m m.collection (progress_of w.tally true) (ended w) = record {
       moved = how_many_same (IsMoved h.at.core t) (IsMoved m.core t) w.tally.moved (moved_alike m h.at t h.alike) (moved_alike h.at m t back) x.moved;
       far = how_many_same (IsSentFar h.at.core t) (IsSentFar m.core t) w.tally.far (far_alike m h.at t h.alike) (far_alike h.at m t back) x.far;
       dropped = how_many_same (IsRetired h.at.core t) (IsRetired m.core t) w.tally.dropped (retired_alike m h.at t h.alike) (retired_alike h.at m t back) x.dropped;
       freed = all_freed h.at h.many h.law h.moment h.leaves (sym h.over ∙ over) ∙ ap (λ (xs : List ℕ). length xs) h.held;
     } in
-    subst (λ (y : Moment). CountsRound m m.held (progress_of r.tally true) y) (sym h.is) (subst (λ (y : Tally). CountsRound m m.held (progress_of y true) (ended w)) (sym h.tally) counts)
+    subst (λ (y : Moment). CountsRound m m.collection (progress_of r.tally true) y) (sym h.is) (subst (λ (y : Tally). CountsRound m m.collection (progress_of y true) (ended w)) (sym h.tally) counts)
 
-pub counts_round : (m : Moment) → Law m.core → MomentLaw m → is_idle m.phase ≡ false → (n : ℕ) → (turns_made m n).over ≡ true → CountsRound m m.held (progress_of (turns_made m n).tally true) (turns_made m n).moment
+pub counts_round : (m : Moment) → Law m.core → MomentLaw m → is_idle m.phase ≡ false → (n : ℕ) → (turns_made m n).over ≡ true → CountsRound m m.collection (progress_of (turns_made m n).tally true) (turns_made m n).moment
 counts_round m law moment runs n over = elim (spans m law moment runs n) [
   | inl h ↦ absurd (false≢true (sym h.goes ∙ over))
   | inr h ↦ late_counts m (turns_made m n) h over

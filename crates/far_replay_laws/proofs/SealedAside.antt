@@ -30,7 +30,7 @@ use Rattle.far_book.proofs.region.SealedKept.{one_cell, sealed_logs_kept}
 use Rattle.far_text.specs.Command.{Command, New, Open, Write, Read, Close, Where, Drop, View, Try, Epoch, Mutator, Book, Evacuator}
 use Rattle.far_replay.specs.Dereference.{come, come_of, comes_to, comes_to_of, dereferenced, has_no_room, sought, sought_of}
 use Rattle.far_replay.specs.Effects.{is_slow, with_data, with_epoch, with_object, with_scope, with_view, without_object}
-use Rattle.far_replay.specs.Events.{IsTold, come_events, view_events}
+use Rattle.far_replay.specs.Events.{IsNoStep, come_events, view_events}
 use Rattle.far_replay.specs.Moment.{Moment}
 use Rattle.far_replay.specs.Objects.{is_range, lowest_cell, object_len, uses}
 use Rattle.far_replay.specs.Turn.{effect, refusal, refused_effect, turn_effect, unless, with_new}
@@ -196,7 +196,7 @@ drop_sealed s m p law within ours unheld =
     (sealed_more s free gone (sealed_logs_kept s p 0 0 (own_law s law)).ends (sealed_same free gone refl refl refl refl refl refl refl refl))
 
 -- ---- each command that isn't refused
-turn_sealed : (now : Moment) (c : Command) → IsTold c → Law now.core → refusal now c ≡ None → KeepsSealed now.core (turn_effect now c).core
+turn_sealed : (now : Moment) (c : Command) → IsNoStep c → Law now.core → refusal now c ≡ None → KeepsSealed now.core (turn_effect now c).core
 turn_sealed now (Mutator m (New len ds)) told law e =
     let s : State = now.core in
     let h = four (nat_lt m s.mutators && nat_lt ds 256) (nat_lt 0 len && nat_le len LONGEST) (is_some (lowest_cell s m)) (is_some (room s (size_of len) true)) Range Length NoPointer NoRoom e in
@@ -229,7 +229,7 @@ turn_sealed now (Book inquiry) told law e = sealed_none now.core
 turn_sealed now (Evacuator step) told law e = absurd told
 
 -- ---- and each that is
-refused_sealed : (now : Moment) (c : Command) (why : Refusal) → IsTold c → Law now.core → refusal now c ≡ Some why → KeepsSealed now.core (refused_effect now c why).core
+refused_sealed : (now : Moment) (c : Command) (why : Refusal) → IsNoStep c → Law now.core → refusal now c ≡ Some why → KeepsSealed now.core (refused_effect now c why).core
 refused_sealed now (Mutator m (Write p from bytes)) NoRoom told law e =
     let h = room_lacks (nat_lt m now.core.mutators) (is_opened now.core m) (uses now.core m p) (is_range (object_len now.core p) from (length bytes)) (has_no_room now.core m p) e in
     sought_sealed now.core m p law h.1 h.2
@@ -245,9 +245,9 @@ refused_sealed now (Mutator m (Try p)) (Marked word) told law e =
 refused_sealed now (Evacuator step) why told law e = absurd told
 refused_sealed now c why told law e = sealed_none now.core
 
-sealed_at : (now : Moment) (c : Command) (o : Option Refusal) → IsTold c → Law now.core → refusal now c ≡ o → KeepsSealed now.core (unless o (refused_effect now c) (turn_effect now c)).core
+sealed_at : (now : Moment) (c : Command) (o : Option Refusal) → IsNoStep c → Law now.core → refusal now c ≡ o → KeepsSealed now.core (unless o (refused_effect now c) (turn_effect now c)).core
 sealed_at now c None told law e = turn_sealed now c told law e
 sealed_at now c (Some why) told law e = refused_sealed now c why told law e
 
-pub sealed_aside : (now : Moment) (c : Command) → IsTold c → Law now.core → KeepsSealed now.core (effect now c).core
+pub sealed_aside : (now : Moment) (c : Command) → IsNoStep c → Law now.core → KeepsSealed now.core (effect now c).core
 sealed_aside now c told law = sealed_at now c (refusal now c) told law refl

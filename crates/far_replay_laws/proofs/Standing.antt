@@ -9,7 +9,7 @@ use Rattle.far_text.specs.Command.{Command, Try, Mutator, Book, Evacuator}
 use Rattle.far_replay.specs.Answers.{Commanded, Served, IsMoment}
 use Rattle.far_word.specs.declared.refused.Refused.TheVariants.{Marked}
 use Rattle.far_replay.proofs.Outcomes.{by_outcome}
-use Rattle.far_replay.specs.Events.{IsTold}
+use Rattle.far_replay.specs.Events.{IsNoStep}
 use Rattle.far_replay.specs.Moment.{Moment, with_core}
 use Rattle.far_replay.specs.Reply.{Reply, Refused}
 use Rattle.far_replay_laws.specs.Stands.{RoundStands, Stands}
@@ -26,28 +26,28 @@ module _ (now : Moment) (t : State) (moment : MomentLaw now) (left : StepsAside 
 
   still_chosen : (l : ℕ) → IsChosen now l → IsChosen next l
   still_chosen l h =
-      let held : among now.held l ≡ true = held_by (among now.held l) (now.core.kind l) h in
-      chosen_by_both (among now.held l) (t.kind l) held (left.stay l (moment.sealed l held))
+      let held : among now.collection l ≡ true = held_by (among now.collection l) (now.core.kind l) h in
+      chosen_by_both (among now.collection l) (t.kind l) held (left.stay l (moment.sealed l held))
 
   was_chosen : (l : ℕ) → IsChosen next l → IsChosen now l
   was_chosen l h =
-      let held : among now.held l ≡ true = held_by (among now.held l) (t.kind l) h in
-      chosen_by_both (among now.held l) (now.core.kind l) held (moment.sealed l held)
+      let held : among now.collection l ≡ true = held_by (among now.collection l) (t.kind l) h in
+      chosen_by_both (among now.collection l) (now.core.kind l) held (moment.sealed l held)
 
   round_stands : RoundStands now next
   round_stands = record {
     phase = refl;
-    held = refl;
+    collection = refl;
     chosen = λ l. (was_chosen l, still_chosen l);
     logs = λ l. ap (λ (f : ℕ → Bool). f l) left.round;
     epoch = left.round_epoch;
     heap = left.epoch;
     seen = λ m. ap (λ (f : ℕ → Bool). f m) left.clear;
     none_comes = λ p len ds place marks chosen near.
-        logs.near p len ds place marks near (moment.sealed place.log (held_by (among now.held place.log) (now.core.kind place.log) chosen));
+        logs.near p len ds place marks near (moment.sealed place.log (held_by (among now.collection place.log) (now.core.kind place.log) chosen));
   }
 
-told_stands : (now : Moment) (c : Command) → IsTold c → Lasts now → RoundStands now (effect now c)
+told_stands : (now : Moment) (c : Command) → IsNoStep c → Lasts now → RoundStands now (effect now c)
 told_stands now c told lasts =
     subst (RoundStands now) (sym (told_effect now c told)) (round_stands now (effect now c).core lasts.round (aside now c told lasts.law) (sealed_aside now c told lasts.law))
 

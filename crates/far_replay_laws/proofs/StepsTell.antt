@@ -117,8 +117,8 @@ pub none_held : (held : List ℕ) → is_empty held ≡ true → held ≡ []
 none_held [] e = refl
 none_held (l ∷ ls) e = absurd (false≢true e)
 
-pub held_chosen : (now : Moment) → MomentLaw now → (l : ℕ) → among now.held l ≡ true → IsChosen now l
-held_chosen now moment l h = chosen_by_both (among now.held l) (now.core.kind l) h (moment.sealed l h)
+pub held_chosen : (now : Moment) → MomentLaw now → (l : ℕ) → among now.collection l ≡ true → IsChosen now l
+held_chosen now moment l h = chosen_by_both (among now.collection l) (now.core.kind l) h (moment.sealed l h)
 
 none_named : (ls : List ℕ) (l : ℕ) (kind : Kind) → is_empty ls ≡ true → kind_named (among ls l) kind ≢ Chosen
 none_named [] l kind e h = false≢true (held_by false kind h)
@@ -162,16 +162,16 @@ module _ (now : Moment) (count : ℕ) (law : Law now.core) (moment : MomentLaw n
   dealt = in_order now many w (risen_is_ready now (own_law now.core law) moment (ap has_risen leaves)) (walk_is now count).1.walks
 
   abbrev all : List ℕ
-  all = live_among now.core now.held
+  all = live_among now.core now.collection
 
   abbrev gone : List ℕ
   gone = take many all
 
   gone_once : Once gone
-  gone_once = once_take many all (once_among now.core now.held moment.held_once)
+  gone_once = once_take many all (once_among now.core now.collection moment.collection_once)
 
   lived : (p : ℕ) → Contains gone p → (l : ℕ) × LivesIn now.core l p
-  lived p c = let (l, member, lives) = live_of now.core now.held p (in_front many p all c) in (l, lives)
+  lived p c = let (l, member, lives) = live_of now.core now.collection p (in_front many p all c) in (l, lives)
 
   was_near : (p : ℕ) → Contains gone p → IsNear now.core p
   was_near p c = let from = lived p c in (from.0, near_in now.core from.0 p from.1)
@@ -230,28 +230,28 @@ module _ (now : Moment) (count : ℕ) (law : Law now.core) (moment : MomentLaw n
   retired_gone p (near, next) = (not_apart p near (ap is_near next), ap is_nowhere next)
 
   -- ---- logs
-  in_round : (l : ℕ) → Contains w.moment.held l → t.round l ≡ true
-  in_round l c = (all_at (λ k. (t.round k ≡ true) × (t.kind k ≡ kinds.Sealed)) l w.moment.held dealt.gives.stay c).0
+  in_round : (l : ℕ) → Contains w.moment.collection l → t.round l ≡ true
+  in_round l c = (all_at (λ k. (t.round k ≡ true) × (t.kind k ≡ kinds.Sealed)) l w.moment.collection dealt.gives.stay c).0
 
   chosen_then : (l : ℕ) → kind_in w.moment l ≡ Chosen → t.round l ≡ true
-  chosen_then l e = in_round l (among_in l w.moment.held (held_by (among w.moment.held l) (t.kind l) e))
+  chosen_then l e = in_round l (among_in l w.moment.collection (held_by (among w.moment.collection l) (t.kind l) e))
 
-  given_by_walk : (l : ℕ) → Contains (take w.tally.freed now.held) l → IsGivenBack now w.moment l
+  given_by_walk : (l : ℕ) → Contains (take w.tally.freed now.collection) l → IsGivenBack now w.moment l
   given_by_walk l c =
-      let member : among now.held l ≡ true = in_among l now.held (in_front w.tally.freed l now.held c) in
-      let out : t.round l ≡ false = all_at (λ k. t.round k ≡ false) l (take w.tally.freed now.held) dealt.gives.gone c in
-      (chosen_by_both (among now.held l) (now.core.kind l) member (moment.sealed l member), (λ e. true≢false (sym (chosen_then l e) ∙ out)), out)
+      let member : among now.collection l ≡ true = in_among l now.collection (in_front w.tally.freed l now.collection c) in
+      let out : t.round l ≡ false = all_at (λ k. t.round k ≡ false) l (take w.tally.freed now.collection) dealt.gives.gone c in
+      (chosen_by_both (among now.collection l) (now.core.kind l) member (moment.sealed l member), (λ e. true≢false (sym (chosen_then l e) ∙ out)), out)
 
-  given_gone : (l : ℕ) → IsGivenBack now w.moment l → Contains (take w.tally.freed now.held) l
-  given_gone l (chosen, later, out) = elim (front_or_rest w.tally.freed l now.held (among_in l now.held (held_by (among now.held l) (now.core.kind l) chosen))) [
+  given_gone : (l : ℕ) → IsGivenBack now w.moment l → Contains (take w.tally.freed now.collection) l
+  given_gone l (chosen, later, out) = elim (front_or_rest w.tally.freed l now.collection (among_in l now.collection (held_by (among now.collection l) (now.core.kind l) chosen))) [
     | inl c ↦ c
-    | inr c ↦ absurd (true≢false (sym (in_round l (subst (λ xs. Contains xs l) (sym dealt.gives.held) c)) ∙ out))
+    | inr c ↦ absurd (true≢false (sym (in_round l (subst (λ xs. Contains xs l) (sym dealt.gives.collection) c)) ∙ out))
   ]
 
   done_so : (is_done w ≡ true) ↔ ((l : ℕ) → kind_in w.moment l ≢ Chosen)
   done_so = (
-    (λ done l. none_named w.moment.held l (t.kind l) done),
-    (λ none. empty_where w.moment.held t.kind (sealed_then w.moment.held dealt.gives.stay) none),
+    (λ done l. none_named w.moment.collection l (t.kind l) done),
+    (λ none. empty_where w.moment.collection t.kind (sealed_then w.moment.collection dealt.gives.stay) none),
   ) where
     sealed_then : (ls : List ℕ) → AllByRecursion (λ k. (t.round k ≡ true) × (t.kind k ≡ kinds.Sealed)) ls → AllByRecursion (λ k. t.kind k ≡ kinds.Sealed) ls
     sealed_then [] h = tt
@@ -262,16 +262,16 @@ module _ (now : Moment) (count : ℕ) (law : Law now.core) (moment : MomentLaw n
   first_lies l [] e some = absurd (true≢false some)
   first_lies l (p ∷ ps) e some = (p, near_in t l p (first_named t l p ps e))
 
-  begins_so : (l : ℕ) (ls : List ℕ) → w.moment.held ≡ l ∷ ls → (p : ℕ) × LiesIn t p l
+  begins_so : (l : ℕ) (ls : List ℕ) → w.moment.collection ≡ l ∷ ls → (p : ℕ) × LiesIn t p l
   begins_so l ls e =
       let rests = walks_left now many w (risen_is_ready now (own_law now.core law) moment (ap has_risen leaves)) (walk_is now count).1.walks in
       first_lies l (live_in t l) refl (subst (BeginsLive t) e rests.begins)
 
   lives_held : (p len ds : ℕ) (place : Place) (marks : Marks) → read_of (now.core.cell p) ≡ Some (Near len ds place marks) → IsChosen now place.log → Contains all p
   lives_held p len ds place marks near chosen =
-      in_logs now.core (own_law now.core law) p len ds place marks near now.held (among_in place.log now.held (held_by (among now.held place.log) (now.core.kind place.log) chosen))
+      in_logs now.core (own_law now.core law) p len ds place marks near now.collection (among_in place.log now.collection (held_by (among now.collection place.log) (now.core.kind place.log) chosen))
 
-  left_first : (p q : ℕ) (at to : Place) → IsAt now.core p at → IsAt now.core q to → IsChosen now at.log → IsChosen now to.log → ¬ LiesIn t p at.log → LiesIn t q to.log → StandsFirst now.held at to
+  left_first : (p q : ℕ) (at to : Place) → IsAt now.core p at → IsAt now.core q to → IsChosen now at.log → IsChosen now to.log → ¬ LiesIn t p at.log → LiesIn t q to.log → StandsFirst now.collection at to
   left_first p q at to (len, ds, marks, here) (n, d, m, there) chosen other away still =
       let went : Contains gone p = elim (member_or_apart p gone) [
         | inl c ↦ c
@@ -284,7 +284,7 @@ module _ (now : Moment) (count : ℕ) (law : Law now.core) (moment : MomentLaw n
             absurd (true≢false (sym here.1 ∙ all_at (λ x. HasLeft (says now x) (says w.moment x)) q gone dealt.deals.left c to.log from.0 here.0 from.1))
         | inr c ↦ c
       ] in
-      turn_split (ComesFirst now.core now.held) many all p q (live_in_order now.core now.held (own_law now.core law) moment.held_once).order went rest len ds n d at to marks m here there
+      turn_split (ComesFirst now.core now.collection) many all p q (live_in_order now.core now.collection (own_law now.core law) moment.collection_once).order went rest len ds n d at to marks m here there
 
   left_so : TellsLeaving now count (progress_of w.tally (is_done w)) w.moment
   left_so = record {
@@ -293,24 +293,24 @@ module _ (now : Moment) (count : ℕ) (law : Law now.core) (moment : MomentLaw n
     dropped = subst (IsHowMany (IsRetired now.core t)) (sym dealt.deals.dropped)
         (how_many_of (IsRetired now.core t) (λ p. is_nowhere (says w.moment p)) gone gone_once (λ p c h. retired_by p c (says w.moment p) refl h) retired_gone);
     freed = (
-      take w.tally.freed now.held,
-      length-take-le w.tally.freed now.held dealt.gives.most,
-      first_once w.tally.freed now.held moment.held_once,
+      take w.tally.freed now.collection,
+      length-take-le w.tally.freed now.collection dealt.gives.most,
+      first_once w.tally.freed now.collection moment.collection_once,
       (λ l. (given_by_walk l, given_gone l)),
     );
     most = omega (arith, dealt.counted, (walk_is now count).1.most);
     enough = λ more. dealt.counted ∙ (walk_is now count).1.enough more;
     done = done_so;
-    held = dealt.gives.held;
+    collection = dealt.gives.collection;
     begins = begins_so;
     order = left_first;
   }
 
   -- where no log is left each was given back
-  pub all_freed : is_done w ≡ true → w.tally.freed ≡ length now.held
+  pub all_freed : is_done w ≡ true → w.tally.freed ≡ length now.collection
   all_freed done =
-      let none : drop w.tally.freed now.held ≡ [] = sym dealt.gives.held ∙ none_held w.moment.held done in
-      let rest = length-drop w.tally.freed now.held in
+      let none : drop w.tally.freed now.collection ≡ [] = sym dealt.gives.collection ∙ none_held w.moment.collection done in
+      let rest = length-drop w.tally.freed now.collection in
       omega (arith, dealt.gives.most, rest, ap (λ (xs : List ℕ). length xs) none)
 
   pub tells_leaving : TellsLeaving now count (progress_of w.tally (is_done w)) (ended w)
@@ -323,7 +323,7 @@ module _ (now : Moment) (count : ℕ) (law : Law now.core) (moment : MomentLaw n
         most = left_so.most;
         enough = left_so.enough;
         done = left_so.done;
-        held = left_so.held;
+        collection = left_so.collection;
         begins = left_so.begins;
         order = left_so.order;
       })
@@ -346,21 +346,21 @@ module _ (now : Moment) (law : Law now.core) where
 
   -- what lies in a chosen log then lay there before
   bare_by : (p len ds : ℕ) (place : Place) (marks : Marks) (o : Option PtrWord) → read_of (now.core.cell p) ≡ o → read_of (given_up.core.cell p) ≡ Some (Near len ds place marks) →
-      but_evac (Some (Near len ds place marks)) ≡ but_evac o → Contains now.held place.log → marks.evac ≡ false
+      but_evac (Some (Near len ds place marks)) ≡ but_evac o → Contains now.collection place.log → marks.evac ≡ false
   bare_by p len ds place marks None was is same member = absurd (true≢false (ap is_near same))
   bare_by p len ds place marks (Some Free) was is same member = absurd (true≢false (ap is_near same))
   bare_by p len ds place marks (Some (Near n d at old)) was is same member =
       let still : place ≡ at = ap (place_or place) same in
-      let lives = in_logs now.core (own_law now.core law) p n d at old was now.held (subst (λ (x : Place). Contains now.held x.log) still member) in
-      sym (ap has_evac is) ∙ all_at (λ q. has_evac (says given_up q) ≡ false) p (live_among now.core now.held) given_up_so.bare lives
+      let lives = in_logs now.core (own_law now.core law) p n d at old was now.collection (subst (λ (x : Place). Contains now.collection x.log) still member) in
+      sym (ap has_evac is) ∙ all_at (λ q. has_evac (says given_up q) ≡ false) p (live_among now.core now.collection) given_up_so.bare lives
   bare_by p len ds place marks (Some (Far n d old)) was is same member = absurd (true≢false (ap is_near same))
 
   pub tells_end : TellsEnd now given_up
   tells_end = record {
-    held = refl;
+    collection = refl;
     bare = λ p l chosen lies.
         let (len, ds, place, marks, near, log) = lies in
-        let member : Contains now.held place.log = among_in place.log now.held (ap (among now.held) log ∙ held_by (among now.held l) (now.core.kind l) chosen) in
+        let member : Contains now.collection place.log = among_in place.log now.collection (ap (among now.collection) log ∙ held_by (among now.collection l) (now.core.kind l) chosen) in
         (len, ds, place, marks, near, bare_by p len ds place marks (read_of (now.core.cell p)) refl near (ap but_evac (sym near) ∙ given_up_so.same p) member);
     same = given_up_so.same;
   }
@@ -380,12 +380,12 @@ module _ (now : Moment) (count : ℕ) (law : Law now.core) (moment : MomentLaw n
   fits p = (law.cells.cell_read p).0
 
   new_once : Once new
-  new_once = once_take count (lacking now.core now.held) (once_filter lacks_it (live_among now.core now.held) (once_among now.core now.held moment.held_once))
+  new_once = once_take count (lacking now.core now.collection) (once_filter lacks_it (live_among now.core now.collection) (once_among now.core now.collection moment.collection_once))
 
   gained_by : (p : ℕ) → Contains new p → GainsEvac now.core next p
   gained_by p c =
-      let was = filtered lacks_it (live_among now.core now.held) p (in_front count p (lacking now.core now.held) c) in
-      let (l, member, lives) = live_of now.core now.held p was.0 in
+      let was = filtered lacks_it (live_among now.core now.collection) p (in_front count p (lacking now.core now.collection) c) in
+      let (l, member, lives) = live_of now.core now.collection p was.0 in
       let x = near_at (read_of (now.core.cell p)) l lives.0 lives.1 in (
         (x.len, x.ds, x.place, x.marks, x.near, sym (ap has_evac x.near) ∙ not-true (has_evac (read_of (now.core.cell p))) was.1),
         shows_evac next p (read_of (next.cell p)) refl (all_at (λ q. has_evac (read_of (next.cell q)) ≡ true) p new (is_marked now count fits).now c),
@@ -398,71 +398,71 @@ module _ (now : Moment) (count : ℕ) (law : Law now.core) (moment : MomentLaw n
   ]
 
   -- those that gained it stand before all that lack it then
-  in_turn : (p q : ℕ) (at to : Place) → GainsEvac now.core next p → LiesAt next p at true → LiesAt next q to false → IsChosen now to.log → StandsFirst now.held at to
+  in_turn : (p q : ℕ) (at to : Place) → GainsEvac now.core next p → LiesAt next p at true → LiesAt next q to false → IsChosen now to.log → StandsFirst now.collection at to
   in_turn p q at to gains (n, d, m, here, _) (len, ds, marks, there, bare) chosen =
       let (l, k, place, was, near, _) = gains.0 in
-      let all : List ℕ = live_among now.core now.held in
+      let all : List ℕ = live_among now.core now.collection in
       let apart : AllByRecursion (λ x. x ≢ q) new = elim (member_or_apart q new) [
         | inl c ↦ absurd (true≢false (sym (all_at (λ x. has_evac (read_of (next.cell x)) ≡ true) q new (is_marked now count fits).now c) ∙ ap has_evac there ∙ bare))
         | inr none ↦ none
       ] in
       let before : read_of (now.core.cell q) ≡ Some (Near len ds to marks) = ap read_of (sym ((is_marked now count fits).others q apart)) ∙ there in
-      let lives = in_logs now.core (own_law now.core law) q len ds to marks before now.held (among_in to.log now.held (held_by (among now.held to.log) (now.core.kind to.log) chosen)) in
+      let lives = in_logs now.core (own_law now.core law) q len ds to marks before now.collection (among_in to.log now.collection (held_by (among now.collection to.log) (now.core.kind to.log) chosen)) in
       let lacks : lacks_it q ≡ true = ap (λ o. not (has_evac o)) before ∙ ap not bare in
-      let rest : Contains (drop count (lacking now.core now.held)) q = elim (front_or_rest count q (lacking now.core now.held) (kept_in lacks_it q all lacks lives)) [
+      let rest : Contains (drop count (lacking now.core now.collection)) q = elim (front_or_rest count q (lacking now.core now.collection) (kept_in lacks_it q all lacks lives)) [
         | inl c ↦ absurd (all_at (λ x. x ≢ q) q new apart c refl)
         | inr c ↦ c
       ] in
-      let order = turn_filter (ComesFirst now.core now.held) lacks_it all (live_in_order now.core now.held (own_law now.core law) moment.held_once).order in
+      let order = turn_filter (ComesFirst now.core now.collection) lacks_it all (live_in_order now.core now.collection (own_law now.core law) moment.collection_once).order in
       let same : at ≡ place = ap (place_or at) (sym (ap but_evac here) ∙ (is_marked now count fits).same p ∙ ap but_evac near) in
-      subst (λ (x : Place). StandsFirst now.held x to) (sym same)
-      (turn_split (ComesFirst now.core now.held) count (lacking now.core now.held) p q order (gained_new p gains) rest l k len ds place to was marks near before)
+      subst (λ (x : Place). StandsFirst now.collection x to) (sym same)
+      (turn_split (ComesFirst now.core now.collection) count (lacking now.core now.collection) p q order (gained_new p gains) rest l k len ds place to was marks near before)
 
   -- where more lack it than are marked, one is left
-  some_left : count < length (lacking now.core now.held) → (p l : ℕ) × IsChosen now l × LiesIn (marked_core now count) p l × ShowsEvac (marked_core now count) p false
+  some_left : count < length (lacking now.core now.collection) → (p l : ℕ) × IsChosen now l × LiesIn (marked_core now count) p l × ShowsEvac (marked_core now count) p false
   some_left lt =
-      let (p, lacks_one, apart) = beyond count (lacking now.core now.held) lt (once_filter lacks_it (live_among now.core now.held) (once_among now.core now.held moment.held_once)) in
-      let was = filtered lacks_it (live_among now.core now.held) p lacks_one in
-      let (l, member, lives) = live_of now.core now.held p was.0 in
+      let (p, lacks_one, apart) = beyond count (lacking now.core now.collection) lt (once_filter lacks_it (live_among now.core now.collection) (once_among now.core now.collection moment.collection_once)) in
+      let was = filtered lacks_it (live_among now.core now.collection) p lacks_one in
+      let (l, member, lives) = live_of now.core now.collection p was.0 in
       let x = near_at (read_of (now.core.cell p)) l lives.0 lives.1 in
       let same : (marked_core now count).cell p ≡ now.core.cell p = others_stay true marked (λ w. bit_or w (2 ^ position Evac)) (λ s q. refl) mark_sets new now.core p apart in
       let near : read_of ((marked_core now count).cell p) ≡ Some (Near x.len x.ds x.place x.marks) = ap read_of same ∙ x.near in
-      let held : among now.held l ≡ true = in_among l now.held member in (
+      let held : among now.collection l ≡ true = in_among l now.collection member in (
         p,
         l,
-        chosen_by_both (among now.held l) (now.core.kind l) held (moment.sealed l held),
+        chosen_by_both (among now.collection l) (now.core.kind l) held (moment.sealed l held),
         (x.len, x.ds, x.place, x.marks, near, x.log),
         (x.len, x.ds, x.place, x.marks, near, sym (ap has_evac x.near) ∙ not-true (has_evac (read_of (now.core.cell p))) was.1),
       )
 
   risen : (b : Bool) → leaves_some now count ≡ b →
-      ReachesEpoch now count (length new) (if b then None else Some (now.core.epoch + 1)) (if b then record now { core = marked_core now count } else record now { core = advanced (marked_core now count) now.held; phase = Waiting })
+      ReachesEpoch now count (length new) (if b then None else Some (now.core.epoch + 1)) (if b then record now { core = marked_core now count } else record now { core = advanced (marked_core now count) now.collection; phase = Waiting })
   risen true e =
-      let more : count < length (lacking now.core now.held) = grind (arith, nat_tests, e) in
-      (ap (λ (s : State). s.epoch) (marks_cells new now.core), length-take-le count (lacking now.core now.held) (omega (arith, more)), some_left more)
+      let more : count < length (lacking now.core now.collection) = grind (arith, nat_tests, e) in
+      (ap (λ (s : State). s.epoch) (marks_cells new now.core), length-take-le count (lacking now.core now.collection) (omega (arith, more)), some_left more)
   risen false e =
       let epoch : (marked_core now count).epoch ≡ now.core.epoch = ap (λ (s : State). s.epoch) (marks_cells new now.core) in
-      let after : Moment = record now { core = advanced (marked_core now count) now.held; phase = Waiting } in
+      let after : Moment = record now { core = advanced (marked_core now count) now.collection; phase = Waiting } in
       let is : after_marking now count ≡ after = ap (λ b. if b then record now { core = marked_core now count } else after) e in
       let later : Law after.core = subst (λ (m : Moment). Law m.core) is (marking now count law moment marks).law in (
         ap (λ n. n + 1) epoch,
         refl,
         (λ p l chosen lies.
             let (len, ds, place, evac, near, log) = lies in
-            (len, ds, place, evac, near, later.rounds.round_evac p len ds place evac near (ap (among now.held) log ∙ held_by (among now.held l) (now.core.kind l) chosen))),
+            (len, ds, place, evac, near, later.rounds.round_evac p len ds place evac near (ap (among now.collection) log ∙ held_by (among now.collection l) (now.core.kind l) chosen))),
       )
 
   pub tells_marks : TellsMarks now count (length new) (if leaves_some now count then None else Some (now.core.epoch + 1)) (after_marking now count)
   tells_marks = record {
     gained = how_many_in (GainsEvac now.core next) new new_once gained_by gained_new;
-    most = omega (arith, length-take count (lacking now.core now.held));
+    most = omega (arith, length-take count (lacking now.core now.collection));
     order = in_turn;
     epoch = risen (leaves_some now count) refl;
   }
 
   pub marked_phase : (after_marking now count).phase ≡ phase_after now.phase (Mark count) (Marked (length new) (if leaves_some now count then None else Some (now.core.epoch + 1)))
   marked_phase = either (leaves_some now count) where
-    either : (b : Bool) → (if b then record now { core = marked_core now count } else record now { core = advanced (marked_core now count) now.held; phase = Waiting }).phase
+    either : (b : Bool) → (if b then record now { core = marked_core now count } else record now { core = advanced (marked_core now count) now.collection; phase = Waiting }).phase
         ≡ phase_after now.phase (Mark count) (Marked (length new) (if b then None else Some (now.core.epoch + 1)))
     either true = refl
     either false = refl
@@ -544,8 +544,8 @@ module _ (now : Moment) (law : Law now.core) (moment : MomentLaw now) where
   choice_takes (Script named) most logs is = subst (FollowsScript (rows_in now) most named) is (follows_script (rows_in now) most named)
 
   pub tells_choice : (choice : Choice) (most : ℕ) (logs : List ℕ) → is_idle now.phase ≡ true → given_by choice (rows_in now) most ≡ Ok logs → TellsChoice now choice most logs (after_selecting now logs)
-  tells_choice choice most [] idle is = record { takes = choice_takes choice most [] is; held = none_held now.held (moment.runs ∙ idle); core = refl }
-  tells_choice choice most (l ∷ ls) idle is = record { takes = choice_takes choice most (l ∷ ls) is; held = refl; core = refl }
+  tells_choice choice most [] idle is = record { takes = choice_takes choice most [] is; collection = none_held now.collection (moment.runs ∙ idle); core = refl }
+  tells_choice choice most (l ∷ ls) idle is = record { takes = choice_takes choice most (l ∷ ls) is; collection = refl; core = refl }
 
 pub chosen_phase : (now : Moment) (choice : Choice) (most : ℕ) (logs : List ℕ) → (after_selecting now logs).phase ≡ phase_after now.phase (Select choice most) (Selected logs)
 chosen_phase now choice most [] = refl

@@ -1,4 +1,4 @@
--- An object that lies, after a walk or the turns of a round, in the log in which it lay wasn't dealt with, and stays as it was: what was dealt with lies in no log that is held then.
+-- An object that lies, after a walk or the turns of a round, in the log in which it lay wasn't dealt with, and stays as it was: what was dealt with lies in no log of the collection set then.
 use Rattle.std.proofs.Common.{◌≡◌, ℕ, Bool, true, false, Option, Some, None, List, ◌∷◌, arith, ap, sym, refl, ◌∙◌, subst, inl, inr}
 use Rattle.std.specs.Prelude.{Contains, ◌⊎◌}
 use Rattle.std.proofs.lemmas.Bool.{cases_eq, cond_both}
@@ -37,7 +37,7 @@ use Rattle.far_replay_laws.specs.Left.{CellBy, GainsNoneButEvac, StaysMarked, St
 use Rattle.far_replay_laws.specs.Steps.{LiesIn}
 use Rattle.far_replay_laws.proofs.CountedOnce.{all_at, member_or_apart}
 use Rattle.far_replay_laws.proofs.LeftByWalks.{IsApart, Stayed, gone_put, lay_there, lies_lawfully, looked_put, marked_frame, marking_frame, put_more, put_none, released_put, stayed_none}
-use Rattle.far_evac.specs.Ready.{IsHeld, Ready}
+use Rattle.far_evac.specs.Ready.{IsOfRound, Ready}
 use Rattle.far_evac.specs.RoundSteps.{with_clear_below}
 use Rattle.far_book.specs.book.Releasing.{released}
 use Rattle.far_evac.proofs.RoomTurns.{marking_held}
@@ -173,7 +173,7 @@ put_lay s t q l h = lay_there s t q l h.cell
 put_lies : (s t : State) (q l : ℕ) → StaysPut s t q → LiesIn s q l → LiesIn t q l
 put_lies s t q l h = lay_there t s q l (sym h.cell)
 
--- ---- an object's fate, from a moment with these logs held to one with those: it has stayed; or it has left its log, and lies in none that is held
+-- ---- an object's fate, from a moment with this collection set to one with that: it has stayed; or it has left its log, and lies in none of the collection set
 pub record HasLeft (s t : State) (held : List ℕ) (q : ℕ) : Type 0 where
   pub apart : IsApart t held q
   pub away : (l : ℕ) → LiesIn s q l → ¬ LiesIn t q l
@@ -233,7 +233,7 @@ fate_none s held q = record { fewer = λ l c. c; still = λ none. marked_none s 
 
 -- ---- an object is dealt with
 module _ (s : State) (l : ℕ) (ls : List ℕ) (p : ℕ) (ready : Ready s (l ∷ ls)) where
-  -- then it lies in no log that is held
+  -- then it lies in no log of the collection set
   found_off : (way : Way) → GoesLawfully s l p way → (k : ℕ) → LiesIn (core_so s p way) p k → ¬ Contains (l ∷ ls) k
   found_off Drops x k (len, ds, place, marks, lies, log) held = free_place len ds place marks (ap read_of (sym (put_same s.cell p 0 p refl)) ∙ lies)
   found_off (Moves to) x k (len, ds, place, marks, lies, log) held =
@@ -244,7 +244,7 @@ module _ (s : State) (l : ℕ) (ls : List ℕ) (p : ℕ) (ready : Ready s (l ∷
       let places : to ≡ place = cc in
       let right : IsRoom s (size_of x.len) false to = subst (RoomIs s (size_of x.len) false) why.1 (room_right s x.law (size_of x.len) false (omega (arith, says))) in
       let mine : to.log ≡ k = ap (λ (x : Place). x.log) places ∙ log in
-      next_unsealed s to right.next (ap s.kind mine ∙ (all_at (IsHeld s) k (l ∷ ls) ready.logs held).0)
+      next_unsealed s to right.next (ap s.kind mine ∙ (all_at (IsOfRound s) k (l ∷ ls) ready.logs held).0)
   found_off Goes x k (len, ds, place, marks, lies, log) held =
       let alive = goes_when x.marks.dropped x.marks.hot (room s (size_of x.len) false) x.is in
       let way = evicting s p x.len x.ds x.place x.marks x.law x.pointer x.near x.quiet x.evac alive in
@@ -277,21 +277,21 @@ module _ (s : State) (l : ℕ) (ls : List ℕ) (p : ℕ) (ready : Ready s (l ∷
 -- ---- object after object
 module _ (m : Moment) (q : ℕ) where
   abbrev HasFate : Walked → Type 0
-  HasFate w = Fate StaysPut m.core m.held q w.moment.core w.moment.held
+  HasFate w = Fate StaysPut m.core m.collection q w.moment.core w.moment.collection
 
   keeps_fate : KeepsLawfully HasFate
   keeps_fate = record {
-    gives = λ w l ls h. put_fate m.core w.moment.core (released w.moment.core l) m.held (l ∷ ls) ls q h
+    gives = λ w l ls h. put_fate m.core w.moment.core (released w.moment.core l) m.collection (l ∷ ls) ls q h
         (fate_stayed w.moment.core (released w.moment.core l) (l ∷ ls) ls q record { put_there = released_put w.moment.core l q; fewer = λ k c. there k l ls c });
-    deals = λ w l ls p way ready x h. put_fate m.core w.moment.core (core_so w.moment.core p way) m.held (l ∷ ls) (l ∷ ls) q h (gone_fate w.moment.core l ls p ready way x q);
+    deals = λ w l ls p way ready x h. put_fate m.core w.moment.core (core_so w.moment.core p way) m.collection (l ∷ ls) (l ∷ ls) q h (gone_fate w.moment.core l ls p ready way x q);
   }
 
 module _ (m : Moment) (law : Law m.core) (moment : MomentLaw m) (leaves : m.phase ≡ Evacuating) (q : ℕ) where
   walk_fate : (n : ℕ) → HasFate m q (walked m n)
-  walk_fate n = (lifted_lawfully m (HasFate m q) (keeps_fate m q) law moment leaves (fate_stayed m.core m.core m.held m.held q (stayed_none m.core m.held q)) n).2.keeps.1
+  walk_fate n = (lifted_lawfully m (HasFate m q) (keeps_fate m q) law moment leaves (fate_stayed m.core m.core m.collection m.collection q (stayed_none m.core m.collection q)) n).2.keeps.1
 
-  pub ended_fate : (n : ℕ) → Fate StaysPut m.core m.held q (ended (walked m n)).core (ended (walked m n)).held
-  ended_fate n = cond_both (is_done (walked m n)) (record (walked m n).moment { phase = Idle }) (walked m n).moment (λ (t : Moment). Fate StaysPut m.core m.held q t.core t.held) (λ _. walk_fate n) (λ _. walk_fate n)
+  pub ended_fate : (n : ℕ) → Fate StaysPut m.core m.collection q (ended (walked m n)).core (ended (walked m n)).collection
+  ended_fate n = cond_both (is_done (walked m n)) (record (walked m n).moment { phase = Idle }) (walked m n).moment (λ (t : Moment). Fate StaysPut m.core m.collection q t.core t.collection) (λ _. walk_fate n) (λ _. walk_fate n)
 
 -- ---- marking and waiting
 marking_marked : (m : Moment) (n q : ℕ) → Law m.core → StaysMarked m.core (after_marking m n).core q
@@ -308,7 +308,7 @@ marking_marked m n q law =
       stored = λ i. ap (λ (u : State). u.stored q i) frame;
     }
 
-marking_fate : (m : Moment) (n q : ℕ) → Law m.core → Fate StaysMarked m.core m.held q (after_marking m n).core (after_marking m n).held
+marking_fate : (m : Moment) (n q : ℕ) → Law m.core → Fate StaysMarked m.core m.collection q (after_marking m n).core (after_marking m n).collection
 marking_fate m n q law = record {
   fewer = λ l c. subst (λ xs. Contains xs l) (marking_held m n) c;
   still = λ none. marking_marked m n q law;
@@ -316,16 +316,16 @@ marking_fate m n q law = record {
 }
 
 -- ---- turn after turn
-keeps_turns : (m : Moment) (q : ℕ) → KeepsTurns true (λ t tally. Fate StaysMarked m.core m.held q t.core t.held)
+keeps_turns : (m : Moment) (q : ℕ) → KeepsTurns true (λ t tally. Fate StaysMarked m.core m.collection q t.core t.collection)
 keeps_turns m q = record {
   learns = tt;
-  marks = λ u n tally lawful is h. marked_fate m.core u.core (after_marking u n).core m.held u.held (after_marking u n).held q h (marking_fate u n q lawful.0);
-  looks = λ u k phase tally lawful is h. marked_fate m.core u.core (with_clear_below u.core k) m.held u.held u.held q h
-      (fate_marked u.core (with_clear_below u.core k) u.held u.held q (fate_stayed u.core (with_clear_below u.core k) u.held u.held q record { put_there = looked_put u q k; fewer = λ l c. c }));
+  marks = λ u n tally lawful is h. marked_fate m.core u.core (after_marking u n).core m.collection u.collection (after_marking u n).collection q h (marking_fate u n q lawful.0);
+  looks = λ u k phase tally lawful is h. marked_fate m.core u.core (with_clear_below u.core k) m.collection u.collection u.collection q h
+      (fate_marked u.core (with_clear_below u.core k) u.collection u.collection q (fate_stayed u.core (with_clear_below u.core k) u.collection u.collection q record { put_there = looked_put u q k; fewer = λ l c. c }));
   walks = λ u n tally law moment is h. let w : Walked = walked u n in
-      marked_fate m.core u.core w.moment.core m.held u.held w.moment.held q h (fate_marked u.core w.moment.core u.held w.moment.held q (walk_fate u law moment is q n));
+      marked_fate m.core u.core w.moment.core m.collection u.collection w.moment.collection q h (fate_marked u.core w.moment.core u.collection w.moment.collection q (walk_fate u law moment is q n));
   ends = λ u tally h. h;
 }
 
-pub turns_fate : (m : Moment) (q : ℕ) → Law m.core → MomentLaw m → is_idle m.phase ≡ false → (n : ℕ) → Fate StaysMarked m.core m.held q (turns_made m n).moment.core (turns_made m n).moment.held
-turns_fate m q law moment runs n = turns_kept_exactly (λ t tally. Fate StaysMarked m.core m.held q t.core t.held) (keeps_turns m q) m n law moment runs (fate_none m.core m.held q)
+pub turns_fate : (m : Moment) (q : ℕ) → Law m.core → MomentLaw m → is_idle m.phase ≡ false → (n : ℕ) → Fate StaysMarked m.core m.collection q (turns_made m n).moment.core (turns_made m n).moment.collection
+turns_fate m q law moment runs n = turns_kept_exactly (λ t tally. Fate StaysMarked m.core m.collection q t.core t.collection) (keeps_turns m q) m n law moment runs (fate_none m.core m.collection q)

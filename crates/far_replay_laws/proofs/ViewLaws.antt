@@ -35,7 +35,7 @@ use Rattle.far_replay.specs.Changes.{ViewsObject}
 use Rattle.far_replay_laws.specs.Headline.{IsAtHandFor, LogsStay, Reaches, ViewsNothing, ViewsAfter, carried_as}
 use Rattle.far_replay.specs.EventRows.{after_events, AllSucceed, AtHand, Succeeds}
 use Rattle.far_replay.specs.Reply.{Reply, Ended, Evacuated, Refused}
-use Rattle.far_replay.specs.Events.{events_for, IsTold, turn_events, refused_events, zero_puts, new_events, open_events, view_events, asked_events, asked_events_of, sought_events, span_events, name_events, come_events, come_events_of, dereference_events, load_events, store_events, first_loads, last_loads, part_events, drop_events, first_word, words_touched, starts_inside, ends_inside}
+use Rattle.far_replay.specs.Events.{events_for, IsNoStep, turn_events, refused_events, zero_puts, new_events, open_events, view_events, asked_events, asked_events_of, sought_events, span_events, name_events, come_events, come_events_of, dereference_events, load_events, store_events, first_loads, last_loads, part_events, drop_events, first_word, words_touched, starts_inside, ends_inside}
 use Rattle.far_replay.specs.Objects.{lowest_cell, with_range, data_of, is_range, object_len, uses}
 use Rattle.far_replay.specs.Dereference.{come, comes_to, dereferenced, has_no_room, sought}
 use Rattle.far_replay.specs.Effects.{near_word, is_slow, with_view}
@@ -104,7 +104,7 @@ close_views s m = cond_both (is_legal s (Closes m)) (after s (Closes m), answer 
     (λ _ ok. absurd ok)
 
 -- what the events of a command leave that isn't refused
-made_views : (now : Moment) (c : Command) → IsTold c → Law now.core → refusal now c ≡ None → WritesBytes c → AllSucceed now.core (turn_events now c) →
+made_views : (now : Moment) (c : Command) → IsNoStep c → Law now.core → refusal now c ≡ None → WritesBytes c → AllSucceed now.core (turn_events now c) →
     ViewsAfter now.core c (turn_reply now c) (after_events now.core (turn_events now c))
 made_views now (Mutator m (New len ds)) told law e small ok = row_stays now.core (turn_events now (Mutator m (New len ds))) (news m len ds (lowest_cell now.core m) (room now.core (size_of len) true))
 made_views now (Mutator m Open) told law e small ok = row_stays now.core (open_events now.core m) (opens now.core m)
@@ -167,12 +167,12 @@ refused_views now (Mutator m Epoch) why law e = refl
 refused_views now (Book inquiry) why law e = refl
 refused_views now (Evacuator step) why law e = refl
 
-views_after : (now : Moment) (c : Command) (o : Option Refusal) → IsTold c → Law now.core → refusal now c ≡ o → WritesBytes c → AllSucceed now.core (unless o (refused_events now c) (turn_events now c)) →
+views_after : (now : Moment) (c : Command) (o : Option Refusal) → IsNoStep c → Law now.core → refusal now c ≡ o → WritesBytes c → AllSucceed now.core (unless o (refused_events now c) (turn_events now c)) →
     ViewsAfter now.core c (unless o Refused (turn_reply now c)) (after_events now.core (unless o (refused_events now c) (turn_events now c)))
 views_after now c None told law e small ok = made_views now c told law e small ok
 views_after now c (Some why) told law e small ok = refused_views now c why law e
 
-told_views : (now : Moment) (c : Command) (r : Reply) (next : Moment) → IsTold c → Lasts now → WritesBytes c → Served now c r next → ViewsAfter now.core c r next.core
+told_views : (now : Moment) (c : Command) (r : Reply) (next : Moment) → IsNoStep c → Lasts now → WritesBytes c → Served now c r next → ViewsAfter now.core c r next.core
 told_views now c r next told lasts later h =
     let x = command_carried now c r next told lasts later h in
     subst (λ y. ViewsAfter now.core c y next.core) (sym x.reply)
@@ -296,7 +296,7 @@ reply_as now c (Some why) e = among (λ why. carried_as c (Refused why) ≡ c) (
 served_as : (now : Moment) (c : Command) (r : Reply) (next : Moment) → Served now c r next → carried_as c r ≡ c
 served_as now c r next h = ap (carried_as c) h.reply ∙ reply_as now c (refusal now c) refl
 
-told_reach : (now : Moment) (c : Command) (r : Reply) (next : Moment) → IsTold c → Lasts now → WritesBytes c → Served now c r next → Reaches now c r next
+told_reach : (now : Moment) (c : Command) (r : Reply) (next : Moment) → IsNoStep c → Lasts now → WritesBytes c → Served now c r next → Reaches now c r next
 told_reach now c r next told lasts bytes h =
     let x = command_carried now c r next told lasts bytes h in
     record {
@@ -335,7 +335,7 @@ served_reach now (Book inquiry) r next lasts bytes h = told_reach now (Book inqu
 served_reach now (Evacuator step) r next lasts bytes h = way_reach now step r next lasts (step_way now step r next lasts h)
 
 -- one of a mutator that the device refuses is carried out as a try
-module _ (why : Refusal) (now : Moment) (c : Command) (m p : ℕ) (r : Reply) (next : Moment) (lasts : Lasts now) (h : Unbrought why now c m p r next) (told : IsTold c) (tries : carried_as c r ≡ Mutator m (Try p))
+module _ (why : Refusal) (now : Moment) (c : Command) (m p : ℕ) (r : Reply) (next : Moment) (lasts : Lasts now) (h : Unbrought why now c m p r next) (told : IsNoStep c) (tries : carried_as c r ≡ Mutator m (Try p))
     (at_hand : IsAtHandFor now c → now.core.cell p ≢ 0 → AtHand now.core p) where
   pub tried_reach : Reaches now c r next
   tried_reach =

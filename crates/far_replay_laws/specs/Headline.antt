@@ -35,7 +35,7 @@ use Rattle.far_text.specs.Grammar.{trace_of}
 use Rattle.far_replay.specs.Commanded.{KeepsNear}
 use Rattle.far_replay.specs.Moment.{Moment}
 use Rattle.far_replay.specs.EventRows.{after_events, AllPass, AllSucceed, AllComeToPass, AtHand}
-use Rattle.far_replay.specs.Events.{events_for, IsTold}
+use Rattle.far_replay.specs.Events.{events_for, IsNoStep}
 use Rattle.far_replay_laws.specs.HowMany.{IsHowMany}
 use Rattle.far_replay_laws.specs.Left.{AllLeave}
 use Rattle.far_replay_laws.specs.Listed.{AllCounted}
@@ -74,12 +74,12 @@ carried_as c r = c
 -- one by one; where its command's object is at hand a pin gives a view, and a naming wins. A step of the evacuator makes none of an owner
 pub record Reaches (now : Moment) (c : Command) (r : Reply) (after : Moment) : Type 0 where
   pub events : List Event
-  pub told : IsTold c → events ≡ events_for now (carried_as c r)
-  pub of_book : ¬ IsTold c → All IsOfBook events
+  pub told : IsNoStep c → events ≡ events_for now (carried_as c r)
+  pub of_book : ¬ IsNoStep c → All IsOfBook events
   pub ends : after.core ≡ after_events now.core events
   pub pass : AllPass now.core events
   pub succeed : AllSucceed now.core events
-  pub come : IsTold c → IsAtHandFor now c → AllComeToPass now.core events
+  pub come : IsNoStep c → IsAtHandFor now c → AllComeToPass now.core events
   pub stay : StayThrough now.core events
 
 -- through each command of a list, by one row of events; and in the last moment no view rests in a free log

@@ -10,12 +10,12 @@ use Rattle.far_replay.specs.Moment.{Moment}
 use Rattle.far_replay.specs.Reply.{Reply}
 use Rattle.far_replay_laws.specs.Steps.{IsChosen}
 
--- the phase stays, and so do the logs that are still held, in their order, and which are chosen, as `log` prints it; the logs of the core's round and its epoch, and
+-- the phase stays, and so does the collection set, in its order, and which are chosen, as `log` prints it; the logs of the core's round and its epoch, and
 -- that of the heap; who was seen clear stays so, and nobody else is, whichever scope opens or closes. Nothing comes to lie in a chosen log, and what lies there
 -- lay there, and has EVAC exactly where it had it
 pub record RoundStands (now after : Moment) : Type 0 where
   pub phase : after.phase ≡ now.phase
-  pub held : after.held ≡ now.held
+  pub collection : after.collection ≡ now.collection
   pub chosen : (l : ℕ) → IsChosen after l ↔ IsChosen now l
   pub logs : (l : ℕ) → after.core.round l ≡ now.core.round l
   pub epoch : after.core.round_epoch ≡ now.core.round_epoch

@@ -87,7 +87,7 @@ Takes now (Script named) most logs = FollowsScript (sealed_rows now) most named 
 -- these logs are chosen then, and no word has changed
 pub record TellsChoice (now : Moment) (choice : Choice) (most : ℕ) (logs : List ℕ) (after : Moment) : Type 0 where
   pub takes : Takes now choice most logs
-  pub held : after.held ≡ logs
+  pub collection : after.collection ≡ logs
   pub core : after.core ≡ now.core
 
 -- ---- marking
@@ -102,7 +102,7 @@ pub record TellsMarks (now : Moment) (count marked : ℕ) (waiting : Option ℕ)
   pub gained : IsHowMany (GainsEvac now.core after.core) marked
   pub most : marked ≤ count
   -- those that gained it stand before all that lack it then
-  pub order : (p q : ℕ) (at to : Place) → GainsEvac now.core after.core p → LiesAt after.core p at true → LiesAt after.core q to false → IsChosen now to.log → StandsFirst now.held at to
+  pub order : (p q : ℕ) (at to : Place) → GainsEvac now.core after.core p → LiesAt after.core p at true → LiesAt after.core q to false → IsChosen now to.log → StandsFirst now.collection at to
   pub epoch : ReachesEpoch now count marked waiting after
 
 -- ---- waiting
@@ -132,14 +132,14 @@ pub record TellsLeaving (now : Moment) (count : ℕ) (progress : Progress) (afte
   pub enough : progress.done ≡ false → progress.moved + progress.far + progress.dropped ≡ count
   pub done : (progress.done ≡ true) ↔ ((l : ℕ) → kind_in after l ≢ kinds.Chosen)
   -- logs are given back from the front on, and the one that is in front then has an object; those that have left stood before all that lie there still
-  pub held : after.held ≡ drop progress.freed now.held
-  pub begins : (l : ℕ) (ls : List ℕ) → after.held ≡ l ∷ ls → (p : ℕ) × LiesIn after.core p l
-  pub order : (p q : ℕ) (at to : Place) → IsAt now.core p at → IsAt now.core q to → IsChosen now at.log → IsChosen now to.log → ¬ LiesIn after.core p at.log → LiesIn after.core q to.log → StandsFirst now.held at to
+  pub collection : after.collection ≡ drop progress.freed now.collection
+  pub begins : (l : ℕ) (ls : List ℕ) → after.collection ≡ l ∷ ls → (p : ℕ) × LiesIn after.core p l
+  pub order : (p q : ℕ) (at to : Place) → IsAt now.core p at → IsAt now.core q to → IsChosen now at.log → IsChosen now to.log → ¬ LiesIn after.core p at.log → LiesIn after.core q to.log → StandsFirst now.collection at to
 
 -- ---- giving up
 -- no log is chosen any more, no object that lies in one of those that were has EVAC, and each cell says what it said, but for EVAC
 pub record TellsEnd (now after : Moment) : Type 0 where
-  pub held : after.held ≡ []
+  pub collection : after.collection ≡ []
   pub bare : (p l : ℕ) → IsChosen now l → LiesIn after.core p l → ShowsEvac after.core p false
   pub same : (p : ℕ) → option_map without_evac (read_of (after.core.cell p)) ≡ option_map without_evac (read_of (now.core.cell p))
 
@@ -264,20 +264,20 @@ TellsRefusal now (Select (Script named) most) (BadChoice log) = FollowsScript (s
 TellsRefusal now Wait (StillOpen m epoch) = HoldsUp now.core m epoch
 TellsRefusal now step why = ⊥
 
-abbrev pub Tells : Moment → Step → Reply → Moment → Type 0
-Tells now (Select choice most) (Selected logs) after = TellsChoice now choice most logs after
-Tells now (Mark count) (Marked marked waiting) after = TellsMarks now count marked waiting after
-Tells now Wait Clear after = NobodyHoldsUp now.core
-Tells now (Evacuate count) (Evacuated progress) after = TellsLeaving now count progress after
-Tells now Abort Done after = TellsEnd now after
-Tells now (Round policy most turns) (Ended end) after = TellsRound now policy most turns end after
-Tells now (Evacuate count) (Halted why progress) after = TellsStop now count progress after
-Tells now (Round policy most turns) (Halted why progress) after = TellsRoundStop now policy most turns progress after
-Tells now step (Refused why) after = TellsRefusal now step why
-Tells now step r after = ⊥
+abbrev pub TellsTruth : Moment → Step → Reply → Moment → Type 0
+TellsTruth now (Select choice most) (Selected logs) after = TellsChoice now choice most logs after
+TellsTruth now (Mark count) (Marked marked waiting) after = TellsMarks now count marked waiting after
+TellsTruth now Wait Clear after = NobodyHoldsUp now.core
+TellsTruth now (Evacuate count) (Evacuated progress) after = TellsLeaving now count progress after
+TellsTruth now Abort Done after = TellsEnd now after
+TellsTruth now (Round policy most turns) (Ended end) after = TellsRound now policy most turns end after
+TellsTruth now (Evacuate count) (Halted why progress) after = TellsStop now count progress after
+TellsTruth now (Round policy most turns) (Halted why progress) after = TellsRoundStop now policy most turns progress after
+TellsTruth now step (Refused why) after = TellsRefusal now step why
+TellsTruth now step r after = ⊥
 
 pub record TellsStep (now : Moment) (step : Step) (r : Reply) (after : Moment) : Type 0 where
-  pub tells : Tells now step r after
+  pub tells : TellsTruth now step r after
   pub phase : after.phase ≡ phase_after now.phase step r
   pub time : r ≢ Refused WrongPhase → IsTimeFor step now.phase
 

@@ -152,7 +152,7 @@ pub fn steps_are_told()
     ensures epochs { StepsSpendEpochs }
 {}
 
-/// A command that is no step of the evacuator leaves the round: its phase, its logs that are still held, in their order, the
+/// A command that is no step of the evacuator leaves the round: its phase, its collection set, in its order, the
 /// epoch of the core's round and its logs, and who was seen clear, whichever scope opens or closes. Nothing comes to lie in a chosen log, and
 /// what lies there has EVAC where it had it; objects may only leave.
 pub fn rounds_stand()

@@ -1,7 +1,7 @@
 // The two heaps: over a core of its own, and over shared words.
 
 use crate::work::Side;
-use far_book::{Book, Home, Near, Plain};
+use far_book::{Book, Hand, Home, Plain};
 use far_core::{Core, Event, Reply, Shape};
 use far_device::{Device, MemDevice};
 use far_evac::{Evac, RoundEnd};
@@ -48,7 +48,7 @@ pub fn heap_shared(alloc: Global) -> Result<Shared, Refused> {
 }
 
 // Places an object of 64 bytes for the owner's lowest free cell.
-fn place<N: Near + Drop, D: Device + Drop>(evac: &mut Evac<N, D>) -> Option<u16> {
+fn place<N: Hand + Drop, D: Device + Drop>(evac: &mut Evac<N, D>) -> Option<u16> {
     if evac.book().shape().mutators == 0 {
         return None;
     }
@@ -62,7 +62,7 @@ fn place<N: Near + Drop, D: Device + Drop>(evac: &mut Evac<N, D>) -> Option<u16>
 
 // Brings a far object near: whether it was far and came.
 #[tactic(auto, using(crate::proofs::Begins::far_home))]
-fn fetches<N: Near + Drop, D: Device + Drop>(evac: &mut Evac<N, D>, pointer: u16) -> bool {
+fn fetches<N: Hand + Drop, D: Device + Drop>(evac: &mut Evac<N, D>, pointer: u16) -> bool {
     if pointer as u64 >= 128 * evac.book().shape().mutators {
         return false;
     }
@@ -74,7 +74,7 @@ fn fetches<N: Near + Drop, D: Device + Drop>(evac: &mut Evac<N, D>, pointer: u16
 
 // Moves a near object that was asked for.
 #[tactic(auto, using(crate::proofs::Begins::quiet_home))]
-fn moves<N: Near + Drop, D: Device + Drop>(evac: &mut Evac<N, D>, pointer: u16) -> bool {
+fn moves<N: Hand + Drop, D: Device + Drop>(evac: &mut Evac<N, D>, pointer: u16) -> bool {
     if pointer as u64 >= 128 * evac.book().shape().mutators {
         return false;
     }
@@ -87,7 +87,7 @@ fn moves<N: Near + Drop, D: Device + Drop>(evac: &mut Evac<N, D>, pointer: u16) 
     matches!(evac.move_now(pointer), Ok(Some(_)))
 }
 
-fn run<N: Near + Drop, D: Device + Drop>(
+fn run<N: Hand + Drop, D: Device + Drop>(
     evac: &mut Evac<N, D>,
     policy: &mut Oldest,
 ) -> Option<RoundEnd> {

@@ -8,13 +8,13 @@ use crate::owner::Owner;
 use crate::turn::Turn;
 use far_core::Naming;
 use far_device::MemDevice;
-use far_hand::Near;
+use far_hand::Hand;
 use far_table::BookSeat;
 use far_word::{Mark, without_owner_marks};
 
 /// The book's seat, a pointer whose object lies in a sealed log, an empty log, and an owner.
 #[derive(Drop)]
-pub(crate) struct Hand {
+pub(crate) struct BookHand {
     pub seat: BookSeat<MemDevice>,
     pub pointer: u16,
     pub log: u8,
@@ -22,7 +22,7 @@ pub(crate) struct Hand {
     ghost ready: { IsReady (seat_view seat) pointer log owner },
 }
 
-impl Hand {
+impl BookHand {
     #[inline(always)]
     fn see(&mut self) -> u64
         ensures { (seat_view self.new.seat).cell self.new.pointer ≡ result }
@@ -80,7 +80,7 @@ impl Hand {
 /// The book sees a cell.
 #[derive(Drop)]
 pub(crate) struct Sees {
-    pub hand: Hand,
+    pub hand: BookHand,
 }
 
 impl Turn for Sees {
@@ -92,7 +92,7 @@ impl Turn for Sees {
 /// The book sets EVAC.
 #[derive(Drop)]
 pub(crate) struct Marks {
-    pub hand: Hand,
+    pub hand: BookHand,
 }
 
 impl Turn for Marks {
@@ -104,7 +104,7 @@ impl Turn for Marks {
 /// The book takes EVAC away.
 #[derive(Drop)]
 pub(crate) struct Clears {
-    pub hand: Hand,
+    pub hand: BookHand,
 }
 
 impl Turn for Clears {
@@ -116,7 +116,7 @@ impl Turn for Clears {
 /// The book reads a word of a log.
 #[derive(Drop)]
 pub(crate) struct Gets {
-    pub hand: Hand,
+    pub hand: BookHand,
 }
 
 impl Turn for Gets {
@@ -128,7 +128,7 @@ impl Turn for Gets {
 /// The book writes one.
 #[derive(Drop)]
 pub(crate) struct Puts {
-    pub hand: Hand,
+    pub hand: BookHand,
 }
 
 impl Turn for Puts {
@@ -141,7 +141,7 @@ impl Turn for Puts {
 /// The epoch rises, and a round of no logs begins.
 #[derive(Drop)]
 pub(crate) struct Advances {
-    pub hand: Hand,
+    pub hand: BookHand,
 }
 
 impl Turn for Advances {
@@ -153,7 +153,7 @@ impl Turn for Advances {
 /// The book looks at an owner's scope.
 #[derive(Drop)]
 pub(crate) struct Looks {
-    pub hand: Hand,
+    pub hand: BookHand,
 }
 
 impl Turn for Looks {
@@ -165,7 +165,7 @@ impl Turn for Looks {
 /// An owner asks for a move, and the book sees that: the word without marks, which stand beside the word that was found.
 #[derive(Drop)]
 pub(crate) struct Asks {
-    pub hand: Hand,
+    pub hand: BookHand,
     pub owner: Owner,
     pub found: u64,
     pub plain: u64,

@@ -12,7 +12,7 @@ mod turn;
 
 use bare::Bare;
 use far_word::Refused;
-use hand::{Asks, Hand};
+use hand::{Asks, BookHand};
 use making::made;
 use owner::{Owner, views};
 use std::alloc::{AllocError, Global};
@@ -134,7 +134,7 @@ fn on_seat(owner: Owner, call: Call, task: Task) -> Option<u64>
     Some(last)
 }
 
-fn asks_of(hand: Hand, owner: Owner) -> Asks
+fn asks_of(hand: BookHand, owner: Owner) -> Asks
     requires { IsIdle owner.seat.view owner.pointer }
 {
     Asks {
@@ -145,7 +145,7 @@ fn asks_of(hand: Hand, owner: Owner) -> Asks
     }
 }
 
-fn on_book(hand: Hand, owner: Owner, deed: Deed, task: Task) -> u64
+fn on_book(hand: BookHand, owner: Owner, deed: Deed, task: Task) -> u64
     requires idle { IsIdle owner.seat.view owner.pointer }
     requires inside { task.index < 8 }
 {

@@ -7,7 +7,7 @@ ghost use Rattle.far_core.specs.state.CoreState.{core_state};
 ghost use Rattle.far_table_bench.specs.Hands.{IsReady};
 ghost use Rattle.far_table_bench.specs.States.{IsFresh, IsIdle};
 
-use crate::hand::Hand;
+use crate::hand::BookHand;
 use crate::owner::Owner;
 use far_core::{Core, Event, Kind, Reply, Shape};
 use far_device::MemDevice;
@@ -80,7 +80,7 @@ fn is_ready(core: &Core, pointer: u16) -> bool
 }
 
 // The book's seat, and the one owner's.
-fn seats_of(alloc: Global, core: Core, pointer: u16) -> Result<Option<(Hand, Owner)>, Refused>
+fn seats_of(alloc: Global, core: Core, pointer: u16) -> Result<Option<(BookHand, Owner)>, Refused>
     requires { pointer < CELLS }
     ensures { IfOk result (λ found. IfSome found (λ both. IsFresh both.1.seat.view both.1.pointer)) }
 {
@@ -92,7 +92,7 @@ fn seats_of(alloc: Global, core: Core, pointer: u16) -> Result<Option<(Hand, Own
     let Some(seat) = seats.pop() else {
         return Ok(None);
     };
-    let hand = Hand {
+    let hand = BookHand {
         seat: book,
         pointer,
         log: EMPTY,
@@ -112,7 +112,7 @@ fn adopts(owner: &mut Owner) -> bool
 }
 
 /// The book and owner 0 of a heap that is shared, with an object of 64 bytes; `None` where the pointer isn't one of the owner's.
-pub(crate) fn made(alloc: Global, pointer: u16) -> Result<Option<(Hand, Owner)>, Refused>
+pub(crate) fn made(alloc: Global, pointer: u16) -> Result<Option<(BookHand, Owner)>, Refused>
     ensures { IfOk result (λ found. IfSome found (λ both. IsIdle both.1.seat.view both.1.pointer)) }
 {
     if pointer >= CELLS {

@@ -54,7 +54,7 @@ spelled_is_hex w bytes h =
 not_decoded : (w : List ℕ) (e : FromHexError) → decode_of w ≡ Err e → bytes_in w ≡ None
 not_decoded w e h = cond_both (is_hex_word w) (Some (hex_bytes w)) None (λ o. o ≡ None) (λ is. let odd : Ok (hex_bytes w) ≡ Err e = sym (hex_decodes w is).0 ∙ h in absurd cc) (λ _. refl)
 
--- what decoding into room for half as many bytes as there are digits gives
+-- what decoding into a buffer for half as many bytes as there are digits gives
 pub decoded_is : {U : Type 0} (u : U) (w new : List ℕ) (n : ℕ) (r : Result U FromHexError) (d : Result (List ℕ) FromHexError) → decode_sized w n ≡ d → length w ≡ 2 * n → 0 < n → length w ≤ 4096
     → MatchResult d (λ bytes. (r ≡ Ok u) × (new ≡ bytes)) (λ e. r ≡ Err e) → bytes_in w ≡ cond (is_ok r) (Some new) None
 decoded_is u w new n r (Ok bytes) is twice some most h =

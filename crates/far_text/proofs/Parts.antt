@@ -14,6 +14,6 @@ drop_here f (y ∷ xs) (suc i) x lt e = let there : suc (i + 1) ≡ suc i + 1 = 
 pub range_get : (xs : List ℕ) (from count k : ℕ) → k < count → get_or (slice_range xs from (from + count)) k 0 ≡ get_or xs (from + k) 0
 range_get xs from count k lt = get_or-take (from + count - from) (drop from xs) k 0 (omega arith) ∙ get_or-drop from xs k 0
 
--- new bytes in a room keep its length
+-- new bytes in a buffer keep its length
 pub put_length : (a k : ℕ) (xs ys : List ℕ) → a + k ≤ length xs → length ys ≡ k → length (put_mid a k xs ys) ≡ length xs
 put_length a k xs ys fits same = omega (arith, length-append (take a xs) (ys ++ post_of a k xs), length-append ys (post_of a k xs), length-take-le a xs (omega arith), length-drop k (drop a xs), length-drop a xs)

@@ -17,19 +17,19 @@ use Rattle.far_text.specs.declared.steps.StepRecord.{StepRecord}
 use Rattle.far_text.specs.declared.steps.StepRecord.TheVariants.{Select as SelectRecord, Script as ScriptRecord, Mark as MarkRecord, Wait as WaitRecord, Evacuate as EvacuateRecord, Abort as AbortRecord, Round as RoundRecord}
 use Rattle.far_text.proofs.Reading.{map_append}
 
--- the front of a room that new bytes were put into
-put_in_front : (room new rest : List ℕ) (len n : ℕ) → len ≤ length room → length new ≡ n → take (len + n) (take len room ++ (new ++ rest)) ≡ take len room ++ new
-put_in_front room new rest len n fits long =
-    let front : length (take len room) ≡ len = length-take-le len room fits in
-    let whole : length (take len room ++ new) ≡ len + n = omega (arith, length-append (take len room) new) in
-    ap (take (len + n)) (sym (append_assoc (take len room) new rest))
-    ∙ take-append-le (len + n) (take len room ++ new) rest (omega arith)
-    ∙ take_all (len + n) (take len room ++ new) (omega arith)
+-- the front of a buffer that new bytes were put into
+put_in_front : (buffer new rest : List ℕ) (len n : ℕ) → len ≤ length buffer → length new ≡ n → take (len + n) (take len buffer ++ (new ++ rest)) ≡ take len buffer ++ new
+put_in_front buffer new rest len n fits long =
+    let front : length (take len buffer) ≡ len = length-take-le len buffer fits in
+    let whole : length (take len buffer ++ new) ≡ len + n = omega (arith, length-append (take len buffer) new) in
+    ap (take (len + n)) (sym (append_assoc (take len buffer) new rest))
+    ∙ take-append-le (len + n) (take len buffer ++ new) rest (omega arith)
+    ∙ take_all (len + n) (take len buffer ++ new) (omega arith)
 
 -- those are the last of it
-pub put_last : (room new rest : List ℕ) (len n m : ℕ) → len ≤ length room → length new ≡ n → m ≡ len → drop m (take (len + n) (take len room ++ (new ++ rest))) ≡ new
-put_last room new rest len n m fits long same =
-    ap (drop m) (put_in_front room new rest len n fits long) ∙ ap (λ k. drop k (take len room ++ new)) (same ∙ sym (length-take-le len room fits)) ∙ drop-append_seam (take len room) new
+pub put_last : (buffer new rest : List ℕ) (len n m : ℕ) → len ≤ length buffer → length new ≡ n → m ≡ len → drop m (take (len + n) (take len buffer ++ (new ++ rest))) ≡ new
+put_last buffer new rest len n m fits long same =
+    ap (drop m) (put_in_front buffer new rest len n fits long) ∙ ap (λ k. drop k (take len buffer ++ new)) (same ∙ sym (length-take-le len buffer fits)) ∙ drop-append_seam (take len buffer) new
 
 -- more bytes behind leave each record its command
 module _ (old new : List ℕ) (kept : take (length old) new ≡ old) where

@@ -1,4 +1,4 @@
-//! The commands of a text until they are made, each in little room.
+//! The commands of a text until they are made, each in little memory.
 
 ghost use Rattle.std.specs.Prelude.{◌≡◌, ◌≢◌, ◌≤◌, ◌<◌, ◌+◌, ◌*◌, ◌^◌, ◌++◌, ◌∷◌, ℕ, List, [], length, take, drop, cond, true, Ok, Some, None, IfOk, IfErr, IfSome};
 ghost use Rattle.std.specs.Option.{option_map};
@@ -211,7 +211,7 @@ impl Record {
     }
 }
 
-// How many commands room is taken for at first. So much memory is not copied where more is taken.
+// How many commands memory is taken for at first. So much is not copied where more is taken.
 const FIRST: usize = 4_096;
 
 /// Commands, in order.
@@ -243,7 +243,7 @@ impl Commands {
     ghost use Rattle.far_text.specs.Written.{WritesBytes};
     ghost use Rattle.far_text.specs.Spelled.{command_spelled};
 
-    /// No command yet. Room for the first of them is taken.
+    /// No command yet. Memory for the first of them is taken.
     pub fn new(alloc: Global) -> Result<Commands, AllocError>
         ensures { IfOk result (λ commands. commands ≡ []) }
     {

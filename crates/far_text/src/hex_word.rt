@@ -13,8 +13,8 @@ pub const LONGEST_LINE: usize = 4096;
 /// The most bytes that a word in hex spells.
 pub const LONGEST_BYTES: usize = LONGEST_LINE / 2;
 
-// The room that is taken at first, and is not moved then: as much as the words of the longest text spell.
-const ROOM: usize = 524_288;
+// How large a buffer is taken at first, which is not moved then: as much as the words of the longest text spell.
+const CAPACITY: usize = 524_288;
 
 // How much more than a word needs is filled with it.
 const STEP: usize = 1_536;
@@ -25,39 +25,39 @@ fn is_hex_len(len: usize) -> bool
     len > 0 && len <= LONGEST_LINE && len % 2 == 0
 }
 
-// Fills the room with the bytes that a word spells. Whether it is a word in hex. Apart from its caller it has registers
+// Fills the buffer with the bytes that a word spells. Whether it is a word in hex. Apart from its caller it has registers
 // enough.
 #[inline(never)]
-fn decode(word: &[u8], room: &mut [u8]) -> bool
-    requires some { 0 < length room.old }
+fn decode(word: &[u8], buffer: &mut [u8]) -> bool
+    requires some { 0 < length buffer.old }
     requires short { length word.now ≤ LONGEST_LINE }
-    requires twice { length word.now ≡ 2 * length room.old }
-    ensures { bytes_in word.now ≡ cond result (Some room.new) None }
+    requires twice { length word.now ≡ 2 * length buffer.old }
+    ensures { bytes_in word.now ≡ cond result (Some buffer.new) None }
 {
-    hex::decode_to_slice(word, room).is_ok()
+    hex::decode_to_slice(word, buffer).is_ok()
 }
 
-// Takes room where there is too little, and fills as much as is asked for and some more: where little is filled no
+// Enlarges the buffer where it is too small, and fills as much as is asked for and some more: where little is filled no
 // instruction is repeated for each byte. It stands apart from its caller, which seldom needs it.
 #[inline(never)]
-fn fill(room: &mut Vec<u8>, to: usize) -> Result<(), AllocError>
-    requires more { length room.old.items < to }
-    requires near { to ≤ length room.old.items + LONGEST_BYTES }
-    ensures enough { IfOk result (λ _. to ≤ length room.new.items) }
-    ensures kept { take (length room.old.items) room.new.items ≡ room.old.items }
+fn fill(buffer: &mut Vec<u8>, to: usize) -> Result<(), AllocError>
+    requires more { length buffer.old.items < to }
+    requires near { to ≤ length buffer.old.items + LONGEST_BYTES }
+    ensures enough { IfOk result (λ _. to ≤ length buffer.new.items) }
+    ensures kept { take (length buffer.old.items) buffer.new.items ≡ buffer.old.items }
 {
-    room.reserve(ROOM.saturating_sub(room.len()))?;
-    room.resize(to + STEP, 0)
+    buffer.reserve(CAPACITY.saturating_sub(buffer.len()))?;
+    buffer.resize(to + STEP, 0)
 }
 
 // Makes room for the bytes of one word more.
-fn make_room(room: &mut Vec<u8>, to: usize) -> Result<(), AllocError>
-    requires { to ≤ length room.old.items + LONGEST_BYTES }
-    ensures enough { IfOk result (λ _. to ≤ length room.new.items) }
-    ensures kept { take (length room.old.items) room.new.items ≡ room.old.items }
+fn make_room(buffer: &mut Vec<u8>, to: usize) -> Result<(), AllocError>
+    requires { to ≤ length buffer.old.items + LONGEST_BYTES }
+    ensures enough { IfOk result (λ _. to ≤ length buffer.new.items) }
+    ensures kept { take (length buffer.old.items) buffer.new.items ≡ buffer.old.items }
 {
-    if to > room.len() {
-        fill(room, to)?;
+    if to > buffer.len() {
+        fill(buffer, to)?;
     }
     Ok(())
 }
@@ -65,7 +65,7 @@ fn make_room(room: &mut Vec<u8>, to: usize) -> Result<(), AllocError>
 /// The bytes that words in hex spell, and other bytes, those of one word behind those of another.
 #[derive(Drop)]
 pub struct HexBytes {
-    room: Vec<u8>,
+    buffer: Vec<u8>,
     len: usize,
 }
 
@@ -75,9 +75,9 @@ impl Model for HexBytes {
 
     ghost Value = { List ℕ };
 
-    ghost view = { λ b. take b.len b.room.items };
+    ghost view = { λ b. take b.len b.buffer.items };
 
-    ghost invariant = { λ b. (b.len ≤ length b.room.items) × IsBytes (take b.len b.room.items) };
+    ghost invariant = { λ b. (b.len ≤ length b.buffer.items) × IsBytes (take b.len b.buffer.items) };
 }
 
 impl HexBytes {
@@ -91,7 +91,7 @@ impl HexBytes {
         ensures { result ≡ [] }
     {
         HexBytes {
-            room: Vec::new(alloc),
+            buffer: Vec::new(alloc),
             len: 0,
         }
     }
@@ -108,7 +108,7 @@ impl HexBytes {
         ensures value { result.now ≡ self.now }
         ensures bytes { IsBytes result.now }
     {
-        &self.room[..self.len]
+        &self.buffer[..self.len]
     }
 
     /// Takes all away but the first.
@@ -125,8 +125,8 @@ impl HexBytes {
         ensures fault { IfErr result (λ _. self.new ≡ self.old) }
     {
         let len = self.len + 1;
-        make_room(&mut self.room, len)?;
-        self.room[self.len] = byte;
+        make_room(&mut self.buffer, len)?;
+        self.buffer[self.len] = byte;
         self.len = len;
         Ok(())
     }
@@ -142,8 +142,8 @@ impl HexBytes {
             return Ok(false);
         }
         let end = self.len + word.len() / 2;
-        make_room(&mut self.room, end)?;
-        if !decode(word, &mut self.room[self.len..end]) {
+        make_room(&mut self.buffer, end)?;
+        if !decode(word, &mut self.buffer[self.len..end]) {
             return Ok(false);
         }
         self.len = end;

@@ -1,5 +1,5 @@
 -- A quiet near object goes far: what may be named, what is left of its log, and that a book stays in order.
-use Rattle.std.proofs.Common.{◌≡◌, ◌≢◌, ℕ, ◌+◌, ◌-◌, ◌*◌, ◌/◌, ◌^◌, ◌<◌, ◌≤◌, Bool, true, false, cond, arith, sym, refl, ap, subst, ◌∙◌, Option, Some, List, inl, inr}
+use Rattle.std.proofs.Common.{◌≡◌, ◌≢◌, ℕ, ◌+◌, ◌-◌, ◌*◌, ◌/◌, ◌^◌, ◌<◌, ◌≤◌, Bool, true, false, cond, arith, sym, refl, ap, subst, ◌∙◌, Option, Some, List, Result, Ok, Err, inl, inr}
 use Rattle.std.specs.Prelude.{◌==◌, ◌||◌, ◌&&◌, eqb}
 use Rattle.std.specs.List.{IsDistinct, list_any}
 use Rattle.std.specs.Vec.{vec_len, vec_capacity}
@@ -7,6 +7,8 @@ use Rattle.std.proofs.lemmas.Bool.{cases_eq, eq-eqb, ne_eqb, false≢true, lt-lt
 use Rattle.far_word.specs.declared.mark.Marks.{Marks}
 use Rattle.far_word.specs.declared.pointer.Place.{Place}
 use Rattle.far_word.specs.declared.pointer.PtrWord.TheVariants.{Free, Near, Far}
+use Rattle.far_word.specs.declared.refused.Refused.{Refused}
+use Rattle.far_word.specs.declared.refused.Refused.TheVariants.{Device}
 use Rattle.far_word.specs.declared.sizes.TheConstants.{CELLS, LOG_WORDS}
 use Rattle.far_word.specs.Bytes.{bytes_of}
 use Rattle.far_word.specs.Pointer.{IsPtr, read_of}
@@ -32,11 +34,13 @@ use Rattle.far_core.proofs.Owing.{keeps}
 use Rattle.far_core.proofs.Put.{put_both, put_old, put_same, put_two}
 use Rattle.far_core.proofs.Quieting.{quiet_fact}
 use Rattle.far_device.specs.Contents.{KeepsOthers}
+use Rattle.far_device.specs.Faults.{is_fault}
 use Rattle.far_book.specs.declared.ledger.Filled.{Filled}
 use Rattle.far_book.specs.declared.ledger.Ledger.{Ledger}
 use Rattle.far_hand.specs.Finds.{Finds, marks_in}
 use Rattle.far_hand.specs.Known.{KnowsLeaving}
-use Rattle.far_book.specs.book.Dealing.{Leaves, has_evac}
+use Rattle.far_book.specs.book.Asking.{answer_of}
+use Rattle.far_book.specs.book.Dealing.{Leaves, has_evac, is_failure}
 use Rattle.far_book.specs.book.Effects.{evicted, evicted_of, far_word, with_free_cell}
 use Rattle.far_book.specs.book.Evicting.{IsQuietData, IsQuietIn, Learns}
 use Rattle.far_book.specs.book.FarSide.{HoldsFar, InOrder}
@@ -302,3 +306,9 @@ module _ (s : State) (law : Law (own_part s)) (p len ds : ℕ) (place : Place) (
         far = subst (λ (u : State). HoldsFar u held) (sym is) (held_sent held order.far here);
         honest = λ e. order.honest (ap (λ (u : State). u.honest) (sym is) ∙ e);
       }
+
+-- a refusal is a failure exactly where the device's answer, by which it was refused, is a fault
+pub fault_told : (r : Result (Unit {0}) Refused) → is_fault (answer_of r) ≡ is_failure r
+fault_told (Ok x) = refl
+fault_told (Err Device) = refl
+fault_told (Err why) = refl

@@ -31,6 +31,11 @@ module _ (s : State) (p w new : ℕ) (is : w ≡ s.cell p) where
     forgot = subst (λ (x : State). Forgets x t) (sym same_seen) forgot;
   }
 
+-- what is found after another word was found may be found at first
+pub found_after : {A : Type 0} (r : Result A ℕ) (w v : ℕ) → Finds w v → IfErr r (λ x. Finds v x) → IfErr r (λ x. Finds w x)
+found_after (Ok x) w v f h = h
+found_after (Err x) w v f h = finds_more w v x f h
+
 -- another word was found there
 module _ (s t : State) (p w : ℕ) (is : t ≡ seen s p w) (finds : Finds (s.cell p) w) where
   pub named : w ≡ t.cell p

@@ -1,6 +1,6 @@
 //! How an object goes far: the device holds its bytes before its cell says so.
 
-ghost use Rattle.std.specs.Prelude.{◌≡◌, ◌⊎◌, ◌+◌, ◌*◌, ◌<◌, ◌≤◌, ◌++◌, true, false, not, take, length, Some, None, IfOk, IfErr, OnOk};
+ghost use Rattle.std.specs.Prelude.{◌≡◌, ◌⊎◌, ◌+◌, ◌*◌, ◌<◌, ◌≤◌, ◌++◌, true, false, not, take, length, Some, None, IfOk, IfErr};
 ghost use Rattle.far_word.specs.declared.refused.Refused.TheVariants.{Memory, Device as Failed};
 ghost use Rattle.far_word.specs.declared.sizes.TheConstants.{CELLS, LOG_WORDS, LONGEST};
 ghost use Rattle.far_word.specs.Bytes.{bytes_of};
@@ -13,26 +13,27 @@ ghost use Rattle.far_device.specs.Following.{Follows, other_than};
 ghost use Rattle.far_hand.specs.Finds.{Finds};
 ghost use Rattle.far_hand.specs.Came.{Came, only};
 ghost use Rattle.far_hand.specs.Known.{Forgets, KeepsKnown};
-ghost use Rattle.far_book.specs.book.Asking.{AsksToEvict, answer_of};
-ghost use Rattle.far_book.specs.book.Dealing.{IsRetired, IsSeen, Leaves, has_evac, is_failure};
+ghost use Rattle.far_book.specs.book.Asking.{AsksToEvict};
+ghost use Rattle.far_book.specs.book.Dealing.{IsRetired, IsSeen, has_evac, is_failure};
 ghost use Rattle.far_hand.specs.Quiet.{IsQuietNear};
-ghost use Rattle.far_book.specs.book.Deeds.{Does, Evicts};
+ghost use Rattle.far_book.specs.book.Actions.{Does, Evicts};
 ghost use Rattle.far_book.specs.book.Effects.{evicted, far_word};
 ghost use Rattle.far_book.specs.book.Evicting.{GoesFar, IsQuietData, IsQuietIn, Learns, ReadsOn};
 ghost use Rattle.far_book.specs.book.Only.{Names, Reads};
 ghost use Rattle.far_book.specs.book.Renaming.{seen};
+ghost use Rattle.far_book.specs.book.Sending.{Sends};
 
 use crate::book::Book;
 use crate::book::renaming::rename;
 use crate::book::words::far_word;
 use far_device::{Device, DeviceFault};
-use far_hand::Near;
+use far_hand::Hand;
 use far_word::{LOG_WORDS, LONGEST, Place, PtrWord, Refused, size_of, unpack_bytes, words_for};
 
 // The bytes of an object that are read into a short row.
 const SHORT: u16 = 64;
 
-impl<N: Near + Drop, D: Device + Drop> Book<N, D> {
+impl<N: Hand + Drop, D: Device + Drop> Book<N, D> {
     /// Sends a quiet near object with EVAC far: the device holds its bytes, its cell says far, without marks, and its span is
     /// dead. `false` where its owner was found to have dropped it: it is retired then, and the device forgets its bytes.
     /// Refused [`Refused::Memory`] or [`Refused::Device`] where the device is, and the object is as it was.
@@ -86,15 +87,7 @@ impl<N: Near + Drop, D: Device + Drop> Book<N, D> {
     fn send(&mut self, pointer: u16, len: u16, ds: u8, place: Place) -> Result<(), Refused>
         requires pointer { pointer < CELLS * (N.view self.old.near).mutators }
         requires near { IsQuietIn (N.view self.old.near) pointer len ds place }
-        ensures kept { Leaves (N.view self.old.near) (N.view self.new.near) }
-        ensures exact { N.still → N.view self.new.near ≡ N.view self.old.near }
-        ensures reads { Came (only (Reads place.log) N.makes) self.old.near self.new.near }
-        ensures words { IsStored (data_at (N.view self.new.near).word place) len }
-        ensures held { OnOk result (D.contents self.new.device pointer ≡ Some (bytes_of (data_at (N.view self.new.near).word place) len)) }
-        ensures refused { IfErr result (λ why. (why ≡ Memory) ⊎ (why ≡ Failed)) }
-        ensures called { D.writes self.old.device pointer (bytes_of (data_at (N.view self.new.near).word place) len) (answer_of result) self.new.device }
-        ensures order { self.new.order ≡ self.old.order }
-        ensures follows { Follows D.contents D.honest D.faults D.fails_at_most (other_than pointer) (is_failure result) self.old.device self.new.device }
+        ensures { Sends N.still N.view N.makes D.writes D.contents D.honest D.faults D.fails_at_most self.old self.new pointer len place result }
     {
         self.keeps_law();
         if len <= SHORT {
@@ -118,15 +111,7 @@ impl<N: Near + Drop, D: Device + Drop> Book<N, D> {
         requires pointer { pointer < CELLS * (N.view self.old.near).mutators }
         requires near { IsQuietIn (N.view self.old.near) pointer len ds place }
         requires room { 8 * words_for len ≤ length row.old }
-        ensures kept { Leaves (N.view self.old.near) (N.view self.new.near) }
-        ensures exact { N.still → N.view self.new.near ≡ N.view self.old.near }
-        ensures reads { Came (only (Reads place.log) N.makes) self.old.near self.new.near }
-        ensures words { IsStored (data_at (N.view self.new.near).word place) len }
-        ensures held { OnOk result (D.contents self.new.device pointer ≡ Some (bytes_of (data_at (N.view self.new.near).word place) len)) }
-        ensures refused { IfErr result (λ why. (why ≡ Memory) ⊎ (why ≡ Failed)) }
-        ensures called { D.writes self.old.device pointer (bytes_of (data_at (N.view self.new.near).word place) len) (answer_of result) self.new.device }
-        ensures order { self.new.order ≡ self.old.order }
-        ensures follows { Follows D.contents D.honest D.faults D.fails_at_most (other_than pointer) (is_failure result) self.old.device self.new.device }
+        ensures { Sends N.still N.view N.makes D.writes D.contents D.honest D.faults D.fails_at_most self.old self.new pointer len place result }
     {
         read_object(&mut self.near, len, place, row);
         match self.device.write(pointer as u32, &row[..len as usize]) {
@@ -173,7 +158,7 @@ impl<N: Near + Drop, D: Device + Drop> Book<N, D> {
 }
 
 // The bytes of a quiet object, read word by word to the front of a row. Its words are known from then on.
-fn read_object<N: Near>(near: &mut N, len: u16, place: Place, row: &mut [u8])
+fn read_object<N: Hand>(near: &mut N, len: u16, place: Place, row: &mut [u8])
     requires object { IsQuietData (N.view near.old) len place }
     requires room { 8 * words_for len ≤ length row.old }
     ensures kept { N.view near.new ≡ record (N.view near.old) { word = (N.view near.new).word } }
@@ -192,7 +177,7 @@ fn read_object<N: Near>(near: &mut N, len: u16, place: Place, row: &mut [u8])
 }
 
 // Reads the first data words of an object, four at a time.
-fn read_fours<N: Near>(near: &mut N, place: Place, fours: u16, row: &mut [u8])
+fn read_fours<N: Hand>(near: &mut N, place: Place, fours: u16, row: &mut [u8])
     requires log { place.log < (N.view near.old).logs }
     requires inside { place.at + 4 * fours < LOG_WORDS }
     requires room { 32 * fours ≤ length row.old }
@@ -208,7 +193,7 @@ fn read_fours<N: Near>(near: &mut N, place: Place, fours: u16, row: &mut [u8])
 
 // Reads four data words of an object, those from `i` on.
 #[inline(always)]
-fn read_four<N: Near>(near: &mut N, place: Place, i: u16, row: &mut [u8])
+fn read_four<N: Hand>(near: &mut N, place: Place, i: u16, row: &mut [u8])
     requires log { place.log < (N.view near.old).logs }
     requires inside { place.at + i + 4 < LOG_WORDS }
     requires room { 8 * i + 32 ≤ length row.old }
@@ -226,7 +211,7 @@ fn read_four<N: Near>(near: &mut N, place: Place, i: u16, row: &mut [u8])
 
 // Reads data word `i + j` of an object.
 #[inline(always)]
-fn read_word<N: Near>(near: &mut N, place: Place, i: u16, j: u16, row: &mut [u8])
+fn read_word<N: Hand>(near: &mut N, place: Place, i: u16, j: u16, row: &mut [u8])
     requires log { place.log < (N.view near.old).logs }
     requires inside { place.at + (i + j) + 1 < LOG_WORDS }
     requires room { 8 * (i + j) + 8 ≤ length row.old }

@@ -10,7 +10,7 @@ ghost use Rattle.far_device.specs.Following.{Follows, other_than};
 ghost use Rattle.far_book.specs.book.Dealing.{FindsDrop, IsRetired, IsSeen, goal, has_evac, Leaves, moved_now, order_moved};
 ghost use Rattle.far_hand.specs.Quiet.{IsQuietNear};
 ghost use Rattle.far_hand.specs.Came.{Came, only};
-ghost use Rattle.far_book.specs.book.Deeds.{Does, Moves};
+ghost use Rattle.far_book.specs.book.Actions.{Does, Moves};
 ghost use Rattle.far_book.specs.book.Effects.{moved, near_word, order_after, stayed, with_written_span};
 ghost use Rattle.far_book.specs.book.Moving.{Copied, CopiedOnly, CopiesMore, HasCopied, MayCopy, MayStay};
 ghost use Rattle.far_book.specs.book.Only.{Names};
@@ -19,10 +19,10 @@ use crate::book::Book;
 use crate::book::renaming::{is_dropped, rename};
 use crate::book::words::near_word;
 use far_device::Device;
-use far_hand::Near;
+use far_hand::Hand;
 use far_word::{HeadWord, LOG_WORDS, Place, PtrWord, Refused, size_of, words_for};
 
-impl<N: Near + Drop, D: Device + Drop> Book<N, D> {
+impl<N: Hand + Drop, D: Device + Drop> Book<N, D> {
     /// Moves a near object that nobody stores into, and answers where it lies then, without marks. Where the book wants its log,
     /// by EVAC, it goes to a place where room is, in the last free log too; else it stays where it lies.
     ///
@@ -154,7 +154,7 @@ impl<N: Near + Drop, D: Device + Drop> Book<N, D> {
 }
 
 // Copies an object, header and data words, to a place where the next span of a log may stand.
-fn copy_object<N: Near>(near: &mut N, pointer: u16, len: u16, ds: u8, from: Place, to: Place)
+fn copy_object<N: Hand>(near: &mut N, pointer: u16, len: u16, ds: u8, from: Place, to: Place)
     requires { MayCopy (N.view near.old) pointer len ds from to }
     ensures copied { Copied (N.view near.old) (N.view near.new) pointer len ds from to }
     ensures exact { N.still → N.view near.new ≡ with_written_span (N.view near.old) pointer len ds to (data_at (N.view near.old).word from) }
@@ -171,7 +171,7 @@ fn copy_object<N: Near>(near: &mut N, pointer: u16, len: u16, ds: u8, from: Plac
 }
 
 // Copies the first data words of an object whose header stands, four at a time.
-fn copy_fours<N: Near>(near: &mut N, from: Place, to: Place, fours: u16)
+fn copy_fours<N: Hand>(near: &mut N, from: Place, to: Place, fours: u16)
     requires { CopiesMore (N.view near.old) from to 0 (4 * fours) }
     ensures copied { HasCopied (N.view near.old) (N.view near.new) from to 0 (4 * fours) }
     ensures exact { N.still → CopiedOnly (N.view near.old) (N.view near.new) from to 0 (4 * fours) }
@@ -184,7 +184,7 @@ fn copy_fours<N: Near>(near: &mut N, from: Place, to: Place, fours: u16)
 
 // Copies four data words of an object, those from `i` on.
 #[inline(always)]
-fn copy_four<N: Near>(near: &mut N, from: Place, to: Place, i: u16)
+fn copy_four<N: Hand>(near: &mut N, from: Place, to: Place, i: u16)
     requires { CopiesMore (N.view near.old) from to i 4 }
     ensures copied { HasCopied (N.view near.old) (N.view near.new) from to i 4 }
     ensures exact { N.still → CopiedOnly (N.view near.old) (N.view near.new) from to i 4 }
@@ -198,7 +198,7 @@ fn copy_four<N: Near>(near: &mut N, from: Place, to: Place, i: u16)
 
 // Copies data word `i + j` of an object.
 #[inline(always)]
-fn copy_word<N: Near>(near: &mut N, from: Place, to: Place, i: u16, j: u16)
+fn copy_word<N: Hand>(near: &mut N, from: Place, to: Place, i: u16, j: u16)
     requires { CopiesMore (N.view near.old) from to (i + j) 1 }
     ensures copied { HasCopied (N.view near.old) (N.view near.new) from to (i + j) 1 }
     ensures exact { N.still → CopiedOnly (N.view near.old) (N.view near.new) from to (i + j) 1 }
@@ -214,7 +214,7 @@ fn copy_word<N: Near>(near: &mut N, from: Place, to: Place, i: u16, j: u16)
 // Copies an object to a place, which its cell names from then on. `false` where its owner has dropped it meanwhile, as its
 // cell says then.
 #[inline(always)]
-fn move_object<N: Near>(
+fn move_object<N: Hand>(
     near: &mut N,
     pointer: u16,
     found: u64,
@@ -242,7 +242,7 @@ fn move_object<N: Near>(
 
 // Takes the marks of an object that stays where it lies. `false` where its owner has dropped it meanwhile, as its cell says
 // then.
-fn unmark_object<N: Near>(
+fn unmark_object<N: Hand>(
     near: &mut N,
     pointer: u16,
     found: u64,

@@ -12,7 +12,7 @@ ghost use Rattle.far_core.specs.state.Law.{Law};
 ghost use Rattle.far_core.specs.world.Happens.{Happens};
 ghost use Rattle.far_core.specs.world.WorldOf.{world_of};
 ghost use Rattle.far_hand.specs.Owners.{OwnersChange, is_owners};
-ghost use Rattle.far_book.specs.book.Deeds.{Does, Owns};
+ghost use Rattle.far_book.specs.book.Actions.{Does, Owns};
 
 use crate::book::Book;
 use far_core::{Core, Event, Reply};

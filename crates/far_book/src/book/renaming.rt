@@ -1,36 +1,24 @@
 //! How a cell gets a new word while owners add marks to it.
 
-ghost use Rattle.std.specs.Prelude.{◌≡◌, ◌*◌, ◌^◌, ◌<◌, ℕ, true, false, IsSome, IfOk, IfErr};
+ghost use Rattle.std.specs.Prelude.{◌≡◌, ◌*◌, ◌^◌, ◌<◌, false, IsSome};
 ghost use Rattle.far_word.specs.declared.sizes.TheConstants.{CELLS};
 ghost use Rattle.far_word.specs.Pointer.{read_of};
-ghost use Rattle.far_core.specs.declared.event.Event.{Event};
 ghost use Rattle.far_core.specs.events.Naming.{is_dropped};
-ghost use Rattle.far_core.specs.events.Step.{after};
-ghost use Rattle.far_hand.specs.Finds.{Finds};
-ghost use Rattle.far_hand.specs.Came.{Came, only};
-ghost use Rattle.far_book.specs.book.Only.{Names};
-ghost use Rattle.far_book.specs.book.Renaming.{MayRename, Renamed, seen};
+ghost use Rattle.far_book.specs.book.Renaming.{MayRename, Renames};
 
-use far_hand::Near;
+use far_hand::Hand;
 use far_word::PtrWord;
 
 /// Gives a cell a new word, by the word that was last found there. `Err` with the word that was found, where its owner has
 /// dropped the object meanwhile.
 #[inline]
-pub(crate) fn rename<N: Near>(near: &mut N, pointer: u16, found: u64, new: u64) -> Result<(), u64>
+pub(crate) fn rename<N: Hand>(near: &mut N, pointer: u16, found: u64, new: u64) -> Result<(), u64>
     requires pointer { pointer < CELLS * (N.view near.old).mutators }
     requires found { found ≡ (N.view near.old).cell pointer }
     requires readable { IsSome (read_of found) }
     requires alive { is_dropped (read_of found) ≡ false }
     requires may { MayRename (N.view near.old) pointer new }
-    ensures done { IfOk result (λ _. Renamed (N.view near.old) (N.view near.new) pointer new) }
-    ensures set { N.still → IfOk result (λ _. N.view near.new ≡ after (N.view near.old) (Event.Name pointer found new)) }
-    ensures won { N.still → IfErr result (λ _. ⊥) }
-    ensures fits { IfErr result (λ word. word < 2 ^ 64) }
-    ensures found { IfErr result (λ word. Finds found word) }
-    ensures dropped { IfErr result (λ word. is_dropped (read_of word) ≡ true) }
-    ensures kept { IfErr result (λ word. N.view near.new ≡ seen (N.view near.old) pointer word) }
-    ensures names { Came (only (Names pointer new) N.makes) near.old near.new }
+    ensures { Renames N.still N.view N.makes near.old near.new pointer found new result }
 {
     match near.name(pointer, found, new) {
         Ok(()) => Ok(()),
@@ -45,20 +33,13 @@ pub(crate) fn rename<N: Near>(near: &mut N, pointer: u16, found: u64, new: u64) 
 
 // The same, where marks were just found added: as often as more of them are found.
 #[cold]
-fn rename_marked<N: Near>(near: &mut N, pointer: u16, found: u64, new: u64) -> Result<(), u64>
+fn rename_marked<N: Hand>(near: &mut N, pointer: u16, found: u64, new: u64) -> Result<(), u64>
     requires pointer { pointer < CELLS * (N.view near.old).mutators }
     requires found { found ≡ (N.view near.old).cell pointer }
     requires readable { IsSome (read_of found) }
     requires alive { is_dropped (read_of found) ≡ false }
     requires may { MayRename (N.view near.old) pointer new }
-    ensures done { IfOk result (λ _. Renamed (N.view near.old) (N.view near.new) pointer new) }
-    ensures set { N.still → IfOk result (λ _. N.view near.new ≡ after (N.view near.old) (Event.Name pointer found new)) }
-    ensures won { N.still → IfErr result (λ _. ⊥) }
-    ensures fits { IfErr result (λ word. word < 2 ^ 64) }
-    ensures found { IfErr result (λ word. Finds found word) }
-    ensures dropped { IfErr result (λ word. is_dropped (read_of word) ≡ true) }
-    ensures kept { IfErr result (λ word. N.view near.new ≡ seen (N.view near.old) pointer word) }
-    ensures names { Came (only (Names pointer new) N.makes) near.old near.new }
+    ensures { Renames N.still N.view N.makes near.old near.new pointer found new result }
 {
     let mut word = found;
     for _ in 0..4u8 {

@@ -4,7 +4,7 @@ ghost use Rattle.std.specs.Borrow.{MutBor};
 ghost use Rattle.std.specs.Prelude.{◌≡◌, ◌<◌, ◌≤◌, true};
 ghost use Rattle.far_word.specs.declared.sizes.TheConstants.{LONGEST};
 
-use far_book::{Beset, Book, Home, Near, Plain};
+use far_book::{Beset, Book, Hand, Home, Plain};
 use far_core::{Core, Event, Kind, Reply, Shape};
 use far_device::{Device, MemDevice};
 use far_log::{LogRow, Span};
@@ -122,7 +122,7 @@ pub(super) fn ask(pointer: u16, mark: Mark) -> Event {
 }
 
 // A new object of the first mutator, in its lowest free cell.
-pub(super) fn place_next<N: Near + Drop, D: Device + Drop>(
+pub(super) fn place_next<N: Hand + Drop, D: Device + Drop>(
     book: &mut Book<N, D>,
     len: u16,
     ds: u8,
@@ -139,7 +139,7 @@ pub(super) fn place_next<N: Near + Drop, D: Device + Drop>(
 }
 
 // What a log is and has; `None` for a number that is no log's.
-pub(super) fn shown<N: Near + Drop, D: Device + Drop>(
+pub(super) fn shown<N: Hand + Drop, D: Device + Drop>(
     book: &Book<N, D>,
     log: u8,
 ) -> Option<(Kind, LogRow)> {
@@ -169,7 +169,7 @@ pub(super) fn line(
 }
 
 // Where a pointer's object is; `None` for a number that is no pointer's.
-pub(super) fn home<N: Near + Drop, D: Device + Drop>(
+pub(super) fn home<N: Hand + Drop, D: Device + Drop>(
     book: &mut Book<N, D>,
     pointer: u16,
 ) -> Option<Home> {
@@ -190,7 +190,7 @@ pub(super) fn answers<D: Device + Drop>(
 }
 
 // Whether a log is and has this.
-pub(super) fn has<N: Near + Drop, D: Device + Drop>(
+pub(super) fn has<N: Hand + Drop, D: Device + Drop>(
     book: &Book<N, D>,
     log: u8,
     wanted: Option<(Kind, LogRow)>,
@@ -199,7 +199,7 @@ pub(super) fn has<N: Near + Drop, D: Device + Drop>(
 }
 
 // Whether a pointer's object is near at this place, with these marks.
-pub(super) fn is_near_at<N: Near + Drop, D: Device + Drop>(
+pub(super) fn is_near_at<N: Hand + Drop, D: Device + Drop>(
     book: &mut Book<N, D>,
     pointer: u16,
     place: Place,
@@ -209,7 +209,7 @@ pub(super) fn is_near_at<N: Near + Drop, D: Device + Drop>(
 }
 
 // Whether a new object gets this pointer and place.
-pub(super) fn places_next<N: Near + Drop, D: Device + Drop>(
+pub(super) fn places_next<N: Hand + Drop, D: Device + Drop>(
     book: &mut Book<N, D>,
     len: u16,
     pointer: u16,
@@ -222,7 +222,7 @@ pub(super) fn places_next<N: Near + Drop, D: Device + Drop>(
 }
 
 // Whether a new object of 8 bytes is refused so.
-pub(super) fn refuses_next<N: Near + Drop, D: Device + Drop>(
+pub(super) fn refuses_next<N: Hand + Drop, D: Device + Drop>(
     book: &mut Book<N, D>,
     why: Refused,
 ) -> bool {
@@ -231,7 +231,7 @@ pub(super) fn refuses_next<N: Near + Drop, D: Device + Drop>(
 
 // Retires a near object whose cell shows DROP, and says whether it did.
 #[tactic(auto, using(crate::proofs::Uses::dropped_home))]
-pub(super) fn retire_dropped<N: Near + Drop, D: Device + Drop>(
+pub(super) fn retire_dropped<N: Hand + Drop, D: Device + Drop>(
     book: &mut Book<N, D>,
     pointer: u16,
 ) -> bool {
@@ -249,7 +249,7 @@ pub(super) fn retire_dropped<N: Near + Drop, D: Device + Drop>(
 }
 
 // Sets EVAC on a near object of a sealed log, and answers its word before; `None` where the pointer names none.
-pub(super) fn mark_sealed<N: Near + Drop, D: Device + Drop>(
+pub(super) fn mark_sealed<N: Hand + Drop, D: Device + Drop>(
     book: &mut Book<N, D>,
     pointer: u16,
 ) -> Option<u64> {
@@ -267,7 +267,7 @@ pub(super) fn mark_sealed<N: Near + Drop, D: Device + Drop>(
 }
 
 // Whether pointer 0 is an object of 8 bytes in log 0, which another one seals, and is marked.
-pub(super) fn marks_first<N: Near + Drop, D: Device + Drop>(book: &mut Book<N, D>) -> bool {
+pub(super) fn marks_first<N: Hand + Drop, D: Device + Drop>(book: &mut Book<N, D>) -> bool {
     place_next(book, 8, 1).is_ok()
         && place_next(book, 1016, 1).is_ok()
         && mark_sealed(book, 0).is_some()
@@ -281,7 +281,7 @@ fn drop_next(book: &mut Book<Plain, MemDevice>, pointer: u16) {
 }
 
 // Whether the first logs are and have this, and there is no log behind them.
-fn has_four<N: Near + Drop, D: Device + Drop>(
+fn has_four<N: Hand + Drop, D: Device + Drop>(
     book: &Book<N, D>,
     wanted: [Option<(Kind, LogRow)>; 4],
 ) -> bool {

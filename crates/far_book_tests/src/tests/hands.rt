@@ -12,7 +12,7 @@ ghost use Rattle.far_core.specs.state.Opening.{opening};
 ghost use Rattle.far_hand.specs.BesetView.{beset_view};
 ghost use Rattle.far_hand.specs.Masked.{masked, word_at};
 
-use far_book::{Beset, Near, Plain};
+use far_book::{Beset, Hand, Plain};
 use far_core::{Core, Event, Kind, Reply, Shape};
 use far_word::{Mark, PtrWord, Refused};
 use std::alloc::Global;
@@ -42,7 +42,7 @@ const FILLING: u64 = 0xa100_0000_0001_03f8;
 const GONE: u64 = 0x8c00_0000_0001_03f8;
 
 /// Pointer 0 gets the first two words of log 0.
-fn place_first<N: Near>(near: &mut N) -> Result<(), u64>
+fn place_first<N: Hand>(near: &mut N) -> Result<(), u64>
     requires log { ((N.view near.old).kind 0 ≡ Kind.Open) × ((N.view near.old).tail 0 ≡ 0) × (0 < (N.view near.old).logs) }
     requires cell { ((N.view near.old).cell 0 ≡ 0) × (0 < CELLS * (N.view near.old).mutators) }
     ensures shape { IfOk result (λ _. (0 < CELLS * (N.view near.new).mutators) × (0 < (N.view near.new).logs)) }
@@ -53,7 +53,7 @@ fn place_first<N: Near>(near: &mut N) -> Result<(), u64>
 }
 
 /// The cell of pointer 0 is free again, if it is seen to be dropped.
-fn retire_first<N: Near>(near: &mut N) -> Option<Result<(), u64>>
+fn retire_first<N: Hand>(near: &mut N) -> Option<Result<(), u64>>
     requires { 0 < CELLS * (N.view near.old).mutators }
 {
     let cell = near.see(0);
@@ -64,7 +64,7 @@ fn retire_first<N: Near>(near: &mut N) -> Option<Result<(), u64>>
 }
 
 /// EVAC is taken from pointer 0, if it is seen to be near.
-fn clear_first<N: Near>(near: &mut N) -> Option<u64>
+fn clear_first<N: Hand>(near: &mut N) -> Option<u64>
     requires { 0 < CELLS * (N.view near.old).mutators }
 {
     let cell = near.see(0);

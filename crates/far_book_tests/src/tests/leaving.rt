@@ -9,7 +9,7 @@ use crate::tests::books::{
 };
 use crate::tests::devices::{Picky, Starved, shown_device};
 use crate::tests::moving::moves_to;
-use far_book::{Book, Home, Near, Plain};
+use far_book::{Book, Hand, Home, Plain};
 use far_core::{Event, Kind, Reply};
 use far_device::{Device, MemDevice};
 use far_log::LogRow;
@@ -26,7 +26,7 @@ const COUNTED: u64 = 0x0807_0605_0403_0201;
 
 // Evicts an object that is seen to have EVAC and MOVE; `None` where the pointer names none.
 #[tactic(auto, using(crate::proofs::Uses::quiet_home, crate::proofs::Uses::evac_home))]
-pub(super) fn evict_asked<N: Near + Drop, D: Device + Drop>(
+pub(super) fn evict_asked<N: Hand + Drop, D: Device + Drop>(
     book: &mut Book<N, D>,
     pointer: u16,
 ) -> Option<Result<bool, Refused>> {
@@ -118,7 +118,7 @@ pub(super) fn leaves<D: Device + Drop>(book: &mut Book<Plain, D>, len: u16) -> b
 }
 
 // Whether an object that is asked to leave goes far.
-pub(super) fn goes<N: Near + Drop, D: Device + Drop>(book: &mut Book<N, D>, pointer: u16) -> bool {
+pub(super) fn goes<N: Hand + Drop, D: Device + Drop>(book: &mut Book<N, D>, pointer: u16) -> bool {
     evict_asked(book, pointer) == Some(Ok(true))
 }
 

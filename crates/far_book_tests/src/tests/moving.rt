@@ -7,7 +7,7 @@ use crate::tests::books::{
     DROP, HOT, NO_MARKS, SMALL, ask, beset, events_after, has, home, is_near_at, is_so_of, line,
     mark_sealed, marks_first, opened, place_next, refuses_next, shown,
 };
-use far_book::{Book, Home, Near, Plain};
+use far_book::{Book, Hand, Home, Plain};
 use far_core::{Event, Kind, Reply};
 use far_device::{Device, MemDevice};
 use far_log::LogRow;
@@ -15,7 +15,7 @@ use far_word::{Mark, Marks, Place, Refused};
 
 /// Moves a near object whose cell shows MOVE; `None` where the pointer names none.
 #[tactic(auto, using(crate::proofs::Uses::quiet_home))]
-pub(super) fn move_asked<N: Near + Drop, D: Device + Drop>(
+pub(super) fn move_asked<N: Hand + Drop, D: Device + Drop>(
     book: &mut Book<N, D>,
     pointer: u16,
 ) -> Option<Result<Option<Place>, Refused>> {
@@ -70,7 +70,7 @@ pub(super) fn loaded<D: Device + Drop>(
 }
 
 // Whether an object that is asked to move comes to this place, where it lies without marks.
-pub(super) fn moves_to<N: Near + Drop, D: Device + Drop>(
+pub(super) fn moves_to<N: Hand + Drop, D: Device + Drop>(
     book: &mut Book<N, D>,
     pointer: u16,
     place: Place,
@@ -79,7 +79,7 @@ pub(super) fn moves_to<N: Near + Drop, D: Device + Drop>(
 }
 
 // Whether the move of an object that is asked to is refused so.
-pub(super) fn refuses_move<N: Near + Drop, D: Device + Drop>(
+pub(super) fn refuses_move<N: Hand + Drop, D: Device + Drop>(
     book: &mut Book<N, D>,
     pointer: u16,
     why: Refused,

@@ -10,7 +10,7 @@ use crate::tests::books::{
 use crate::tests::devices::{Lying, Stumbling, shown_device};
 use crate::tests::leaving::{evict_asked, goes, leaves, loads_counted, store_counted};
 use crate::tests::moving::{loaded, moves_to};
-use far_book::{Book, Home, Near, Plain};
+use far_book::{Book, Hand, Home, Plain};
 use far_core::{Core, Event, Kind, Reply};
 use far_device::{Device, DeviceFault, MemDevice};
 use far_log::LogRow;
@@ -22,7 +22,7 @@ const PLACE: Place = Place { log: 2, at: 0 };
 
 // Fetches an object that is seen to be far; `None` where the pointer names none.
 #[tactic(auto, using(crate::proofs::Uses::far_home))]
-pub(super) fn fetch_far<N: Near + Drop, D: Device + Drop>(
+pub(super) fn fetch_far<N: Hand + Drop, D: Device + Drop>(
     book: &mut Book<N, D>,
     pointer: u16,
 ) -> Option<Result<Option<Place>, Refused>> {
@@ -36,7 +36,7 @@ pub(super) fn fetch_far<N: Near + Drop, D: Device + Drop>(
 }
 
 // The cell of pointer 0, if there is a mutator.
-fn see_first<N: Near + Drop, D: Device + Drop>(book: &mut Book<N, D>) -> Option<u64> {
+fn see_first<N: Hand + Drop, D: Device + Drop>(book: &mut Book<N, D>) -> Option<u64> {
     if book.shape().mutators == 0 {
         return None;
     }
@@ -44,7 +44,7 @@ fn see_first<N: Near + Drop, D: Device + Drop>(book: &mut Book<N, D>) -> Option<
 }
 
 // What each of four logs is and has.
-fn four_logs<N: Near + Drop, D: Device + Drop>(book: &Book<N, D>) -> [Option<(Kind, LogRow)>; 4] {
+fn four_logs<N: Hand + Drop, D: Device + Drop>(book: &Book<N, D>) -> [Option<(Kind, LogRow)>; 4] {
     [
         shown(book, 0),
         shown(book, 1),
@@ -54,12 +54,12 @@ fn four_logs<N: Near + Drop, D: Device + Drop>(book: &Book<N, D>) -> [Option<(Ki
 }
 
 // Whether pointer 0's object, which is far, comes near at this place.
-fn comes_to<N: Near + Drop, D: Device + Drop>(book: &mut Book<N, D>, place: Place) -> bool {
+fn comes_to<N: Hand + Drop, D: Device + Drop>(book: &mut Book<N, D>, place: Place) -> bool {
     fetch_far(book, 0) == Some(Ok(Some(place)))
 }
 
 // Whether its fetch is refused so.
-fn stays_far<N: Near + Drop, D: Device + Drop>(book: &mut Book<N, D>, why: Refused) -> bool {
+fn stays_far<N: Hand + Drop, D: Device + Drop>(book: &mut Book<N, D>, why: Refused) -> bool {
     fetch_far(book, 0) == Some(Err(why))
 }
 

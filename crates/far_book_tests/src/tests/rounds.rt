@@ -8,7 +8,7 @@ use crate::tests::books::{
     places_next, retire_dropped,
 };
 use crate::tests::moving::{asks_two, loaded, moves_to, refuses_move};
-use far_book::{Beset, Book, Near, Plain, live_spans_follow};
+use far_book::{Beset, Book, Hand, Plain, live_spans_follow};
 use far_core::{Event, Kind, Reply, Shape};
 use far_device::{Device, MemDevice};
 use far_log::Span;
@@ -24,7 +24,7 @@ const NEAR: u64 = 0x8400_0000_0001_0008;
 const LAST: u64 = (1 << 62) - 1;
 
 // Gives a log back, where no object lies there; `None` where the number is no sealed log's.
-fn release_sealed<N: Near + Drop, D: Device + Drop>(
+fn release_sealed<N: Hand + Drop, D: Device + Drop>(
     book: &mut Book<N, D>,
     log: u8,
 ) -> Option<bool> {
@@ -35,7 +35,7 @@ fn release_sealed<N: Near + Drop, D: Device + Drop>(
 }
 
 // Takes EVAC from a near object, and answers its word before; `None` where the pointer names none.
-fn clear_near<N: Near + Drop, D: Device + Drop>(
+fn clear_near<N: Hand + Drop, D: Device + Drop>(
     book: &mut Book<N, D>,
     pointer: u16,
 ) -> Option<u64> {
@@ -50,7 +50,7 @@ fn clear_near<N: Near + Drop, D: Device + Drop>(
 
 // A round of no logs begins.
 #[tactic(auto, using(crate::proofs::Uses::none_chosen))]
-fn advance_none<N: Near + Drop, D: Device + Drop>(book: &mut Book<N, D>) -> Result<u64, Refused> {
+fn advance_none<N: Hand + Drop, D: Device + Drop>(book: &mut Book<N, D>) -> Result<u64, Refused> {
     book.advance(0)
 }
 
@@ -63,7 +63,7 @@ fn advance_chosen(book: &mut Book<Plain, MemDevice>, logs: u64) -> Option<Result
 }
 
 // What an owner's scope says; `None` where the number is no owner's.
-fn look_at<N: Near + Drop, D: Device + Drop>(
+fn look_at<N: Hand + Drop, D: Device + Drop>(
     book: &mut Book<N, D>,
     owner: u8,
 ) -> Option<ScopeWord> {
@@ -74,7 +74,7 @@ fn look_at<N: Near + Drop, D: Device + Drop>(
 }
 
 // Whether the live spans of a log, one after the other, are these.
-fn has_live<N: Near + Drop, D: Device + Drop>(
+fn has_live<N: Hand + Drop, D: Device + Drop>(
     book: &mut Book<N, D>,
     log: u8,
     wanted: &[Span],
@@ -98,7 +98,7 @@ fn has_live<N: Near + Drop, D: Device + Drop>(
 }
 
 // The first live span from the one on that stands at this place in the list of a log's spans; `None` where none stands there.
-fn next_from<N: Near + Drop, D: Device + Drop>(
+fn next_from<N: Hand + Drop, D: Device + Drop>(
     book: &mut Book<N, D>,
     log: u8,
     number: usize,

@@ -29,7 +29,7 @@ impl<D: Device + Drop> Device for Short<D> {
 
     ghost writes = { λ old id bytes answer new. D.writes old.inner id bytes answer new.inner };
 
-    ghost reads = { λ old id answer new. (held : Result (List ℕ) DeviceFault) × D.reads old.inner id held new.inner × (is_fault held ≡ is_fault answer) };
+    ghost reads = { λ old id answer new. (stored : Result (List ℕ) DeviceFault) × D.reads old.inner id stored new.inner × (is_fault stored ≡ is_fault answer) };
 
     ghost lets_go = { λ old _ new. new ≡ old };
 

@@ -14,12 +14,12 @@ ghost use Rattle.far_evac.specs.RoundSteps.{among};
 
 use crate::census::{Census, Housed, LogKind, LogState};
 use crate::evac::Evac;
-use far_book::{Home, Near};
+use far_book::{Hand, Home};
 use far_core::Kind;
 use far_device::Device;
 use far_word::{CELLS, Refused};
 
-impl<N: Near + Drop, D: Device + Drop> Evac<N, D> {
+impl<N: Hand + Drop, D: Device + Drop> Evac<N, D> {
     /// What a log is and has; one that is chosen and not yet given back is named so.
     pub fn log(&self, log: u8) -> LogState
         requires log { log < (N.view self.now.book.near).logs }
@@ -35,9 +35,9 @@ impl<N: Near + Drop, D: Device + Drop> Evac<N, D> {
 
     // Whether a log was chosen, and isn't given back yet.
     fn is_held(&self, log: u8) -> bool
-        ensures { result ≡ among self.now.held log }
+        ensures { result ≡ among self.now.collection log }
     {
-        self.held().contains(&log)
+        self.collection().contains(&log)
     }
 
     /// Where each object is that isn't dropped, once, by rising pointers, and what each log is and has, once, by number. Nothing

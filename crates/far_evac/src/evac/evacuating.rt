@@ -30,7 +30,7 @@ ghost use Rattle.far_evac.specs.declared.phase.Phase.TheVariants as phase;
 use crate::answers::{EvacFault, Progress};
 use crate::evac::Evac;
 use crate::phase::Phase;
-use far_book::{Book, Near};
+use far_book::{Book, Hand};
 use far_device::Device;
 use far_log::Span;
 use far_word::{Place, PtrWord, Refused, size_of};
@@ -43,8 +43,8 @@ enum Fate {
     Dropped,
 }
 
-impl<N: Near + Drop, D: Device + Drop> Evac<N, D> {
-    /// Deals with the first n live objects of the chosen logs that are still held, or with all, in order: one that its owner has
+impl<N: Hand + Drop, D: Device + Drop> Evac<N, D> {
+    /// Deals with the first n live objects of the collection set, or with all, in order: one that its owner has
     /// dropped is retired; a hot one goes to another log, or far where no room is; any other goes far. A log in front without live
     /// objects is given back at once; after the last the round is over, and the answer says `done`.
     ///
@@ -85,7 +85,7 @@ impl<N: Near + Drop, D: Device + Drop> Evac<N, D> {
                 why: Refused::Phase,
             });
         }
-        match self.walk(n, &mut progress) {
+        match self.evacuate_up_to(n, &mut progress) {
             Ok(done) => {
                 progress.done = done;
                 Ok(progress)
@@ -97,8 +97,8 @@ impl<N: Near + Drop, D: Device + Drop> Evac<N, D> {
         }
     }
 
-    // Deals with n objects, or all, and counts them; whether no log is held any more.
-    fn walk(&mut self, n: u64, progress: &mut Progress) -> Result<bool, Refused>
+    // Deals with n objects, or all, and counts them; whether the collection set is empty then.
+    fn evacuate_up_to(&mut self, n: u64, progress: &mut Progress) -> Result<bool, Refused>
         requires phase { self.old.phase ≡ phase.Evacuating }
         requires begun { progress.old ≡ progress_of nothing false }
         ensures came { Came N.makes self.old.book.near self.new.book.near }
@@ -118,7 +118,7 @@ impl<N: Near + Drop, D: Device + Drop> Evac<N, D> {
         ensures follows { Follows D.contents D.honest D.faults D.fails_at_most (none_of (first_live (moment N.view self.old) (asked_by (tally_of progress.new) result))) (is_failure result) self.old.book.device self.new.book.device }
     {
         self.keeps_law();
-        let _held = self.held().len();
+        let _collection = self.collection().len();
         let mut first = self.settle(progress);
         for _ in 0..n {
             let Some(span) = first else {
@@ -137,15 +137,15 @@ impl<N: Near + Drop, D: Device + Drop> Evac<N, D> {
     #[inline(always)]
     fn settle(&mut self, progress: &mut Progress) -> Option<Span>
         requires phase { self.old.phase ≡ phase.Evacuating }
-        requires room { progress.old.freed + length self.old.held < 2 ^ 64 }
+        requires room { progress.old.freed + length self.old.collection < 2 ^ 64 }
         ensures came { Came N.makes self.old.book.near self.new.book.near }
         ensures known { KnowsWalked (settled (standing N.view self.old progress.old)) (standing N.view self.new progress.new) }
         ensures exact { N.still → standing N.view self.new progress.new ≡ settled (standing N.view self.old progress.old) }
-        ensures ends { self.new.phase ≡ cond (is_empty self.new.held) phase.Idle phase.Evacuating }
+        ensures ends { self.new.phase ≡ cond (is_empty self.new.collection) phase.Idle phase.Evacuating }
         ensures first { IfSome result (λ span. (rest : List ℕ) × (left (standing N.view self.new progress.new) ≡ span.p ∷ rest)) }
-        ensures next { IfSome result (λ span. IsNextLeaving (N.view self.new.book.near) self.new.held span) }
-        ensures none { IfNone result (self.new.held ≡ []) }
-        ensures freed { progress.new.freed + length self.new.held ≡ progress.old.freed + length self.old.held }
+        ensures next { IfSome result (λ span. IsNextLeaving (N.view self.new.book.near) self.new.collection span) }
+        ensures none { IfNone result (self.new.collection ≡ []) }
+        ensures freed { progress.new.freed + length self.new.collection ≡ progress.old.freed + length self.old.collection }
         ensures done { progress.new.done ≡ progress.old.done }
         ensures device { self.new.book.device ≡ self.old.book.device }
     {
@@ -160,9 +160,9 @@ impl<N: Near + Drop, D: Device + Drop> Evac<N, D> {
         None
     }
 
-    // The logs that are held.
-    pub(super) fn held(&self) -> &[u8]
-        ensures { result.now ≡ self.now.held }
+    // The collection set: the chosen logs that were not given back.
+    pub(super) fn collection(&self) -> &[u8]
+        ensures { result.now ≡ self.now.collection }
     {
         let chosen = self.round.chosen.as_slice();
         match self.round.phase {
@@ -174,21 +174,21 @@ impl<N: Near + Drop, D: Device + Drop> Evac<N, D> {
 
     // The first of them.
     fn front(&self) -> Option<u8>
-        ensures some { IfSome result (λ log. (logs : List ℕ) × (self.now.held ≡ log ∷ logs)) }
-        ensures none { IfNone result (self.now.held ≡ []) }
+        ensures some { IfSome result (λ log. (logs : List ℕ) × (self.now.collection ≡ log ∷ logs)) }
+        ensures none { IfNone result (self.now.collection ≡ []) }
     {
-        self.held().first().copied()
+        self.collection().first().copied()
     }
 
-    // The span of the first live object of the log in front, where the walk stands then; none, where no object lives there.
+    // The span of the first live object of the log in front, where the evacuation stands then; none, where no object lives there.
     fn first_in(&mut self, log: u8) -> Option<Span>
         requires phase { self.old.phase ≡ phase.Evacuating }
-        requires front { (logs : List ℕ) × (self.old.held ≡ log ∷ logs) }
+        requires front { (logs : List ℕ) × (self.old.collection ≡ log ∷ logs) }
         ensures came { Came N.makes self.old.book.near self.new.book.near }
         ensures known { KnowsMoment (moment N.view self.old) (moment N.view self.new) }
         ensures exact { N.still → moment N.view self.new ≡ moment N.view self.old }
         ensures first { IfSome result (λ span. (rest : List ℕ) × (live_in (N.view self.old.book.near) log ≡ span.p ∷ rest)) }
-        ensures next { IfSome result (λ span. IsNextLeaving (N.view self.new.book.near) self.new.held span) }
+        ensures next { IfSome result (λ span. IsNextLeaving (N.view self.new.book.near) self.new.collection span) }
         ensures none { IfNone result (live_in (N.view self.old.book.near) log ≡ []) }
         ensures device { self.new.book.device ≡ self.old.book.device }
     {
@@ -203,14 +203,14 @@ impl<N: Near + Drop, D: Device + Drop> Evac<N, D> {
     // Gives the log in front back, where no object lives; after the last the round is over.
     fn give_back(&mut self, log: u8)
         requires phase { self.old.phase ≡ phase.Evacuating }
-        requires front { (logs : List ℕ) × (self.old.held ≡ log ∷ logs) }
+        requires front { (logs : List ℕ) × (self.old.collection ≡ log ∷ logs) }
         requires none { live_in (N.view self.old.book.near) log ≡ [] }
         ensures came { Came N.makes self.old.book.near self.new.book.near }
         ensures core { Knows (released (N.view self.old.book.near) log) (N.view self.new.book.near) }
         ensures exact { N.still → N.view self.new.book.near ≡ released (N.view self.old.book.near) log }
         ensures order { self.new.book.order ≡ order_without log self.old.book.order }
-        ensures held { self.old.held ≡ log ∷ self.new.held }
-        ensures ends { self.new.phase ≡ cond (is_empty self.new.held) phase.Idle phase.Evacuating }
+        ensures collection { self.old.collection ≡ log ∷ self.new.collection }
+        ensures ends { self.new.phase ≡ cond (is_empty self.new.collection) phase.Idle phase.Evacuating }
         ensures device { self.new.book.device ≡ self.old.book.device }
     {
         self.book.keeps_law();
@@ -223,11 +223,11 @@ impl<N: Near + Drop, D: Device + Drop> Evac<N, D> {
         }
     }
 
-    // Deals with the first live object that is left, and counts it: the walk stands behind its span then. At a refusal it lies as before.
+    // Deals with the first live object that is left, and counts it: the evacuation stands behind its span then. At a refusal it lies as before.
     fn deal(&mut self, span: Span, progress: &mut Progress) -> Result<(), Refused>
         requires phase { self.old.phase ≡ phase.Evacuating }
         requires first { (rest : List ℕ) × (left (standing N.view self.old progress.old) ≡ span.p ∷ rest) }
-        requires next { IsNextLeaving (N.view self.old.book.near) self.old.held span }
+        requires next { IsNextLeaving (N.view self.old.book.near) self.old.collection span }
         requires room { objects_in (tally_of progress.old) + 1 < 2 ^ 64 }
         ensures came { Came N.makes self.old.book.near self.new.book.near }
         ensures dealt { IfOk result (λ _. (word : ℕ) × Finds ((N.view self.old.book.near).cell span.p) word
@@ -238,7 +238,7 @@ impl<N: Near + Drop, D: Device + Drop> Evac<N, D> {
         ensures kept { IfErr result (λ _. KnowsMoment (moment N.view self.old) (moment N.view self.new)) }
         ensures same { N.still → IfErr result (λ _. moment N.view self.new ≡ moment N.view self.old) }
         ensures uncounted { IfErr result (λ _. progress.new ≡ progress.old) }
-        ensures round { (self.new.phase ≡ self.old.phase) × (self.new.held ≡ self.old.held) }
+        ensures round { (self.new.phase ≡ self.old.phase) × (self.new.collection ≡ self.old.collection) }
         ensures rest { (progress.new.freed ≡ progress.old.freed) × (progress.new.done ≡ progress.old.done) }
         ensures refused { IfErr result (λ why. AsksToEvict D D.writes D.lets_go (N.view self.old.book.near) span.p (Err why) self.old.book.device self.new.book.device) }
         ensures follows { Follows D.contents D.honest D.faults D.fails_at_most (other_than span.p) (is_failure result) self.old.book.device self.new.book.device }
@@ -271,7 +271,7 @@ fn count(progress: &mut Progress, fate: Fate)
 
 // An object leaves its log as its cell says: one that its owner has dropped is retired; a hot one goes to another log, or far where no room
 // is; any other goes far. At a refusal it lies as before.
-fn send_off<N: Near + Drop, D: Device + Drop>(
+fn send_off<N: Hand + Drop, D: Device + Drop>(
     book: &mut Book<N, D>,
     pointer: u16,
 ) -> Result<Fate, Refused>
@@ -313,7 +313,7 @@ fn near_fate(place: Option<Place>) -> Fate
 
 // An object that isn't known to be dropped goes far, unless it is found to be.
 #[inline(always)]
-fn send_far<N: Near + Drop, D: Device + Drop>(
+fn send_far<N: Hand + Drop, D: Device + Drop>(
     book: &mut Book<N, D>,
     pointer: u16,
 ) -> Result<Fate, Refused>

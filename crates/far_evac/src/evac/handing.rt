@@ -5,7 +5,7 @@ ghost use Rattle.far_hand.specs.Known.{Forgets};
 ghost use Rattle.far_book.specs.book.Asking.{AsksToFetch};
 ghost use Rattle.far_book.specs.book.Dealing.{IsRetired, IsSeen, LearnsNone, Leaves, goal, is_failure, moved_now, order_moved};
 ghost use Rattle.far_hand.specs.Quiet.{IsQuietNear};
-ghost use Rattle.far_book.specs.book.Deeds.{Does, Fetches, Moves, Places, Retires};
+ghost use Rattle.far_book.specs.book.Actions.{Does, Fetches, Moves, Places, Retires};
 ghost use Rattle.far_book.specs.book.Effects.{moved, order_after, placed, retired};
 ghost use Rattle.far_book.specs.book.Fetching.{IsFar, IsFetched, RefusesFetch, order_fetched, room_for};
 ghost use Rattle.far_book.specs.book.Home.{home_of};
@@ -27,12 +27,12 @@ ghost use Rattle.far_word.specs.declared.refused.Refused.TheVariants as refused;
 ghost use Rattle.far_hand.specs.Came.{Came};
 
 use crate::evac::Evac;
-use far_book::{Book, Home, Near};
+use far_book::{Book, Hand, Home};
 use far_device::Device;
 use far_log::{LogRow, Span};
 use far_word::{Place, Refused};
 
-impl<N: Near + Drop, D: Device + Drop> Evac<N, D> {
+impl<N: Hand + Drop, D: Device + Drop> Evac<N, D> {
     /// The book, to be read.
     pub fn book(&self) -> &Book<N, D>
         ensures { result.now ≡ self.now.book }
@@ -58,7 +58,7 @@ impl<N: Near + Drop, D: Device + Drop> Evac<N, D> {
         ensures none { IfErr result (λ _. room (N.view self.old.book.near) (size_of len) true ≡ None) }
         ensures unchanged { IfErr result (λ _. self.new ≡ self.old) }
         ensures ran { N.still → Does (N.view self.old.book.near) (Places pointer len ds result) (N.view self.new.book.near) }
-        ensures round { (self.new.phase ≡ self.old.phase) × (self.new.held ≡ self.old.held) }
+        ensures round { (self.new.phase ≡ self.old.phase) × (self.new.collection ≡ self.old.collection) }
     {
         self.book.keeps_law();
         let answer = self.book.place(pointer, len, ds);
@@ -91,7 +91,7 @@ impl<N: Near + Drop, D: Device + Drop> Evac<N, D> {
         ensures exact { N.still → IfOk result (λ o. IfSome o (λ place. N.view self.new.book.near ≡ moved_now (N.view self.old.book.near) pointer place)) }
         ensures unchanged { N.still → IfErr result (λ _. N.view self.new.book.near ≡ N.view self.old.book.near) }
         ensures ran { N.still → Does (N.view self.old.book.near) (Moves pointer result) (N.view self.new.book.near) }
-        ensures round { (self.new.phase ≡ self.old.phase) × (self.new.held ≡ self.old.held) }
+        ensures round { (self.new.phase ≡ self.old.phase) × (self.new.collection ≡ self.old.collection) }
     {
         self.book.keeps_law();
         let answer = self.book.move_now(pointer);
@@ -126,7 +126,7 @@ impl<N: Near + Drop, D: Device + Drop> Evac<N, D> {
         ensures exact { N.still → IfErr result (λ _. N.view self.new.book.near ≡ N.view self.old.book.near) }
         ensures shut { IfErr result (λ _. self.new.book.order ≡ self.old.book.order) }
         ensures ran { N.still → Does (N.view self.old.book.near) (Fetches pointer result) (N.view self.new.book.near) }
-        ensures round { (self.new.phase ≡ self.old.phase) × (self.new.held ≡ self.old.held) }
+        ensures round { (self.new.phase ≡ self.old.phase) × (self.new.collection ≡ self.old.collection) }
     {
         self.book.keeps_law();
         let answer = self.book.fetch(pointer);
@@ -148,7 +148,7 @@ impl<N: Near + Drop, D: Device + Drop> Evac<N, D> {
         ensures gone { D.forgets → D.contents self.new.book.device pointer ≡ None }
         ensures follows { Follows D.contents D.honest D.faults D.fails_at_most (other_than pointer) false self.old.book.device self.new.book.device }
         ensures ran { N.still → Does (N.view self.old.book.near) (Retires pointer) (N.view self.new.book.near) }
-        ensures round { (self.new.phase ≡ self.old.phase) × (self.new.held ≡ self.old.held) }
+        ensures round { (self.new.phase ≡ self.old.phase) × (self.new.collection ≡ self.old.collection) }
     {
         self.book.keeps_law();
         self.book.retire(pointer);
@@ -169,7 +169,7 @@ impl<N: Near + Drop, D: Device + Drop> Evac<N, D> {
         ensures exact { N.still → N.view self.new.book.near ≡ N.view self.old.book.near }
         ensures order { self.new.book.order ≡ self.old.book.order }
         ensures device { self.new.book.device ≡ self.old.book.device }
-        ensures round { (self.new.phase ≡ self.old.phase) × (self.new.held ≡ self.old.held) }
+        ensures round { (self.new.phase ≡ self.old.phase) × (self.new.collection ≡ self.old.collection) }
     {
         let answer = self.book.locate(pointer);
         self.book.keeps_law();
@@ -195,7 +195,7 @@ impl<N: Near + Drop, D: Device + Drop> Evac<N, D> {
         ensures exact { N.still → N.view self.new.book.near ≡ N.view self.old.book.near }
         ensures order { self.new.book.order ≡ self.old.book.order }
         ensures device { self.new.book.device ≡ self.old.book.device }
-        ensures round { (self.new.phase ≡ self.old.phase) × (self.new.held ≡ self.old.held) }
+        ensures round { (self.new.phase ≡ self.old.phase) × (self.new.collection ≡ self.old.collection) }
     {
         let answer = self.book.spans(log);
         self.book.keeps_law();

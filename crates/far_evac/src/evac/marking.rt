@@ -15,7 +15,7 @@ ghost use Rattle.far_evac.specs.EvacOf.{moment};
 ghost use Rattle.far_evac.specs.Live.{is_empty, lacking, live_among, live_in};
 ghost use Rattle.far_evac.specs.Marking.{after_marking, marked_core, newly_marked, waiting_for};
 ghost use Rattle.far_evac.specs.RoundSteps.{advanced, among, unmarked};
-ghost use Rattle.far_evac.specs.Standing.{InRound, MarkedBefore, held_in};
+ghost use Rattle.far_evac.specs.Standing.{InRound, MarkedBefore, collection_in};
 ghost use Rattle.far_evac.specs.Ready.{AllMarked};
 ghost use Rattle.far_evac.specs.declared.phase.Phase.TheVariants as phase;
 
@@ -23,13 +23,13 @@ use crate::answers::Marked;
 use crate::evac::Evac;
 use crate::phase::Phase;
 use crate::round::{Cursor, Round};
-use far_book::{Book, Near};
+use far_book::{Book, Hand};
 use far_device::Device;
 use far_log::Span;
 use far_policy::Chosen;
 use far_word::{PtrWord, Refused, size_of};
 
-impl<N: Near + Drop, D: Device + Drop> Evac<N, D> {
+impl<N: Hand + Drop, D: Device + Drop> Evac<N, D> {
     /// Sets EVAC on the first n live objects of the chosen logs that lack it, or on all, and counts them. Where none is left, the
     /// epoch rises, and the round waits for the owners.
     ///
@@ -85,10 +85,10 @@ impl<N: Near + Drop, D: Device + Drop> Evac<N, D> {
     fn mark_next(&mut self) -> bool
         requires marking { self.old.phase ≡ phase.Marking }
         ensures came { Came N.makes self.old.book.near self.new.book.near }
-        ensures known { KnowsMoment (record (moment N.view self.old) { core = first_marked (N.view self.old.book.near) (lacking (N.view self.old.book.near) self.old.held) }) (moment N.view self.new) }
-        ensures exact { N.still → moment N.view self.new ≡ record (moment N.view self.old) { core = first_marked (N.view self.old.book.near) (lacking (N.view self.old.book.near) self.old.held) } }
+        ensures known { KnowsMoment (record (moment N.view self.old) { core = first_marked (N.view self.old.book.near) (lacking (N.view self.old.book.near) self.old.collection) }) (moment N.view self.new) }
+        ensures exact { N.still → moment N.view self.new ≡ record (moment N.view self.old) { core = first_marked (N.view self.old.book.near) (lacking (N.view self.old.book.near) self.old.collection) } }
         ensures device { self.new.book.device ≡ self.old.book.device }
-        ensures found { result ≡ not (is_empty (lacking (N.view self.old.book.near) self.old.held)) }
+        ensures found { result ≡ not (is_empty (lacking (N.view self.old.book.near) self.old.collection)) }
     {
         self.book.keeps_law();
         let (cursor, next) = seek(&mut self.book, &self.round);
@@ -110,7 +110,7 @@ impl<N: Near + Drop, D: Device + Drop> Evac<N, D> {
         ensures known { KnowsMoment (moment N.view self.old) (moment N.view self.new) }
         ensures exact { N.still → moment N.view self.new ≡ moment N.view self.old }
         ensures device { self.new.book.device ≡ self.old.book.device }
-        ensures found { result ≡ not (is_empty (lacking (N.view self.old.book.near) self.old.held)) }
+        ensures found { result ≡ not (is_empty (lacking (N.view self.old.book.near) self.old.collection)) }
     {
         self.book.keeps_law();
         let (cursor, next) = seek(&mut self.book, &self.round);
@@ -123,10 +123,10 @@ impl<N: Near + Drop, D: Device + Drop> Evac<N, D> {
     // The epoch rises for a round of the chosen logs, in which each object has EVAC: the new epoch.
     fn wait(&mut self) -> u64
         requires marking { self.old.phase ≡ phase.Marking }
-        requires none { lacking (N.view self.old.book.near) self.old.held ≡ [] }
+        requires none { lacking (N.view self.old.book.near) self.old.collection ≡ [] }
         ensures came { Came N.makes self.old.book.near self.new.book.near }
-        ensures known { KnowsMoment (record (moment N.view self.old) { core = advanced (N.view self.old.book.near) self.old.held; phase = phase.Waiting }) (moment N.view self.new) }
-        ensures exact { N.still → moment N.view self.new ≡ record (moment N.view self.old) { core = advanced (N.view self.old.book.near) self.old.held; phase = phase.Waiting } }
+        ensures known { KnowsMoment (record (moment N.view self.old) { core = advanced (N.view self.old.book.near) self.old.collection; phase = phase.Waiting }) (moment N.view self.new) }
+        ensures exact { N.still → moment N.view self.new ≡ record (moment N.view self.old) { core = advanced (N.view self.old.book.near) self.old.collection; phase = phase.Waiting } }
         ensures device { self.new.book.device ≡ self.old.book.device }
         ensures epoch { result ≡ (N.view self.old.book.near).epoch + 1 }
     {
@@ -142,7 +142,7 @@ impl<N: Near + Drop, D: Device + Drop> Evac<N, D> {
         epoch
     }
 
-    /// Gives the round up: the live objects of the logs that are still held lose EVAC, no object has moved, and no round is running.
+    /// Gives the round up: the live objects of the collection set lose EVAC, no object has moved, and no round is running.
     /// Those logs stand where they stood in the order of sealing.
     ///
     /// Refused [`Refused::Phase`] exactly where no round is running; nothing has changed then.
@@ -159,7 +159,7 @@ impl<N: Near + Drop, D: Device + Drop> Evac<N, D> {
             return Err(Refused::Phase);
         }
         self.book.keeps_law();
-        let first = first_held(&self.round);
+        let first = first_of_collection(&self.round);
         unmark_logs(&mut self.book, &self.round.chosen, first);
         self.round = Round {
             phase: Phase::Idle,
@@ -174,7 +174,7 @@ impl<N: Near + Drop, D: Device + Drop> Evac<N, D> {
 
 // The next span whose live object lacks EVAC, and where the round stands then; behind all logs, where there is none.
 #[inline(always)]
-fn seek<N: Near + Drop, D: Device + Drop>(
+fn seek<N: Hand + Drop, D: Device + Drop>(
     book: &mut Book<N, D>,
     round: &Round,
 ) -> (Cursor, Option<Span>)
@@ -206,7 +206,7 @@ fn seek<N: Near + Drop, D: Device + Drop>(
 
 // The first span of a log, at a word or behind it, whose live object lacks EVAC.
 #[inline(always)]
-fn next_unmarked<N: Near + Drop, D: Device + Drop>(
+fn next_unmarked<N: Hand + Drop, D: Device + Drop>(
     book: &mut Book<N, D>,
     log: u8,
     at: u16,
@@ -246,11 +246,11 @@ fn has_evac(cell: u64) -> bool
     }
 }
 
-// Which of the chosen logs is the first that is still held; how many they are, where none is.
-fn first_held(round: &Round) -> usize
+// Which of the chosen logs is the first of the collection set; how many they are, where none is.
+fn first_of_collection(round: &Round) -> usize
     requires index { round.now.index ≤ length round.now.chosen }
     ensures within { result ≤ length round.now.chosen }
-    ensures held { drop result round.now.chosen ≡ held_in round.now }
+    ensures collection { drop result round.now.chosen ≡ collection_in round.now }
 {
     match round.phase {
         Phase::Idle => round.chosen.len(),
@@ -260,7 +260,7 @@ fn first_held(round: &Round) -> usize
 }
 
 // Takes EVAC from the live objects of the logs from one of them on.
-fn unmark_logs<N: Near + Drop, D: Device + Drop>(
+fn unmark_logs<N: Hand + Drop, D: Device + Drop>(
     book: &mut Book<N, D>,
     chosen: &Chosen,
     first: usize,
@@ -281,7 +281,7 @@ fn unmark_logs<N: Near + Drop, D: Device + Drop>(
 }
 
 // Takes EVAC from the live objects of a log.
-fn unmark_log<N: Near + Drop, D: Device + Drop>(book: &mut Book<N, D>, log: u8)
+fn unmark_log<N: Hand + Drop, D: Device + Drop>(book: &mut Book<N, D>, log: u8)
     requires log { log < (N.view book.old.near).logs }
     ensures came { Came N.makes book.old.near book.new.near }
     ensures known { Knows (fold unmarked (N.view book.old.near) (live_in (N.view book.old.near) log)) (N.view book.new.near) }

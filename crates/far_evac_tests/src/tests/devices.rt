@@ -14,7 +14,7 @@ use crate::tests::making::{
 use crate::tests::steps::{
     comes_to_leaving, counts, deals, deals_until, gives_up, is_in, runs_until,
 };
-use far_book::{Home, Near, Plain};
+use far_book::{Hand, Home, Plain};
 use far_device::{Device, DeviceFault, MemDevice};
 use far_evac::{Evac, LogKind, Phase};
 use far_policy::Oldest;
@@ -110,7 +110,7 @@ fn over_stumbling(
 }
 
 // Whether an object lies in log 0 at a word, and the book wants that log.
-fn is_leaving<N: Near + Drop, D: Device + Drop>(
+fn is_leaving<N: Hand + Drop, D: Device + Drop>(
     evac: &mut Evac<N, D>,
     pointer: u16,
     at: u16,

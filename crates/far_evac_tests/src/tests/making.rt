@@ -3,7 +3,7 @@
 ghost use Rattle.std.specs.Borrow.{MutBor};
 ghost use Rattle.std.specs.Prelude.{◌≡◌, true};
 
-use far_book::{Book, Home, Near, Plain};
+use far_book::{Book, Hand, Home, Plain};
 use far_core::{Core, Event, Reply, Shape};
 use far_device::{Device, MemDevice};
 use far_evac::{Evac, LogKind, LogState};
@@ -55,7 +55,7 @@ pub(super) fn evacuator_over<D: Device + Drop>(
 }
 
 // A new object of the first owner, in its lowest free cell.
-fn place_next<N: Near + Drop, D: Device + Drop>(
+fn place_next<N: Hand + Drop, D: Device + Drop>(
     evac: &mut Evac<N, D>,
     len: u16,
 ) -> Result<u16, Refused> {
@@ -147,7 +147,7 @@ pub(super) fn views<D: Device + Drop>(evac: &mut Evac<Plain, D>, pointer: u16) -
 
 // Brings a far object near; false where it isn't far, or doesn't come.
 #[tactic(auto, using(crate::proofs::Uses::far_home))]
-pub(super) fn fetches<N: Near + Drop, D: Device + Drop>(
+pub(super) fn fetches<N: Hand + Drop, D: Device + Drop>(
     evac: &mut Evac<N, D>,
     pointer: u16,
 ) -> bool {
@@ -166,13 +166,13 @@ pub(super) fn moves<D: Device + Drop>(evac: &mut Evac<Plain, D>, pointer: u16) -
     moves_asked(evac, pointer)
 }
 
-fn moves_asked<N: Near + Drop, D: Device + Drop>(evac: &mut Evac<N, D>, pointer: u16) -> bool {
+fn moves_asked<N: Hand + Drop, D: Device + Drop>(evac: &mut Evac<N, D>, pointer: u16) -> bool {
     matches!(answer_to_move(evac, pointer), Some(Ok(Some(_))))
 }
 
 // What a move answers that an owner has asked for; `None` where no near object asks for one.
 #[tactic(auto, using(crate::proofs::Uses::quiet_home))]
-pub(super) fn answer_to_move<N: Near + Drop, D: Device + Drop>(
+pub(super) fn answer_to_move<N: Hand + Drop, D: Device + Drop>(
     evac: &mut Evac<N, D>,
     pointer: u16,
 ) -> Option<Result<Option<Place>, Refused>> {
@@ -203,7 +203,7 @@ pub(super) fn drops<D: Device + Drop>(evac: &mut Evac<Plain, D>, pointer: u16) -
 }
 
 #[tactic(auto, using(crate::proofs::Uses::dropped_home))]
-fn retires<N: Near + Drop, D: Device + Drop>(evac: &mut Evac<N, D>, pointer: u16) -> bool {
+fn retires<N: Hand + Drop, D: Device + Drop>(evac: &mut Evac<N, D>, pointer: u16) -> bool {
     if pointer as u64 >= 128 * evac.book().shape().mutators {
         return false;
     }
@@ -247,7 +247,7 @@ pub(super) fn reads<D: Device + Drop>(evac: &mut Evac<Plain, D>, pointer: u16, w
 }
 
 // Where a pointer's object is; `None` for a number that is no pointer's.
-pub(super) fn home<N: Near + Drop, D: Device + Drop>(
+pub(super) fn home<N: Hand + Drop, D: Device + Drop>(
     evac: &mut Evac<N, D>,
     pointer: u16,
 ) -> Option<Home> {
@@ -259,7 +259,7 @@ pub(super) fn home<N: Near + Drop, D: Device + Drop>(
 }
 
 // Whether an object lies at a place, with no marks but HOT perhaps.
-pub(super) fn is_near<N: Near + Drop, D: Device + Drop>(
+pub(super) fn is_near<N: Hand + Drop, D: Device + Drop>(
     evac: &mut Evac<N, D>,
     pointer: u16,
     place: Place,
@@ -270,7 +270,7 @@ pub(super) fn is_near<N: Near + Drop, D: Device + Drop>(
 }
 
 // Whether an object is far, with no marks.
-pub(super) fn is_far<N: Near + Drop, D: Device + Drop>(
+pub(super) fn is_far<N: Hand + Drop, D: Device + Drop>(
     evac: &mut Evac<N, D>,
     pointer: u16,
 ) -> bool {
@@ -278,7 +278,7 @@ pub(super) fn is_far<N: Near + Drop, D: Device + Drop>(
 }
 
 // What a log is and has; `None` for a number that is no log's.
-pub(super) fn shown<N: Near + Drop, D: Device + Drop>(
+pub(super) fn shown<N: Hand + Drop, D: Device + Drop>(
     evac: &Evac<N, D>,
     log: u8,
 ) -> Option<LogState> {
@@ -290,7 +290,7 @@ pub(super) fn shown<N: Near + Drop, D: Device + Drop>(
 }
 
 // Whether a log is so, and has so many live, dead and unused bytes.
-pub(super) fn is_log<N: Near + Drop, D: Device + Drop>(
+pub(super) fn is_log<N: Hand + Drop, D: Device + Drop>(
     evac: &Evac<N, D>,
     log: u8,
     kind: LogKind,

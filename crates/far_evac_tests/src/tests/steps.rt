@@ -1,6 +1,6 @@
 //! A round's calls, each with the answer that is wanted, and what a census counts.
 
-use far_book::{Home, Near, Plain};
+use far_book::{Hand, Home, Plain};
 use far_device::{Device, MemDevice};
 use far_evac::{Census, Evac, EvacFault, Marked, Phase, Polled, Progress, RoundEnd};
 use far_policy::Policy;
@@ -18,26 +18,26 @@ pub(super) fn progress(counts: [u64; 4], done: bool) -> Progress {
     }
 }
 
-pub(super) fn is_in<N: Near + Drop, D: Device + Drop>(evac: &Evac<N, D>, phase: Phase) -> bool {
+pub(super) fn is_in<N: Hand + Drop, D: Device + Drop>(evac: &Evac<N, D>, phase: Phase) -> bool {
     evac.phase() == phase
 }
 
-pub(super) fn has_epoch<N: Near + Drop, D: Device + Drop>(evac: &Evac<N, D>, epoch: u64) -> bool {
+pub(super) fn has_epoch<N: Hand + Drop, D: Device + Drop>(evac: &Evac<N, D>, epoch: u64) -> bool {
     evac.book().shape().epoch == epoch
 }
 
 // Whether the round is given up.
-pub(super) fn gives_up<N: Near + Drop, D: Device + Drop>(evac: &mut Evac<N, D>) -> bool {
+pub(super) fn gives_up<N: Hand + Drop, D: Device + Drop>(evac: &mut Evac<N, D>) -> bool {
     evac.abort() == Ok(())
 }
 
 // Whether there is none to be given up.
-pub(super) fn has_none_to_give_up<N: Near + Drop, D: Device + Drop>(evac: &mut Evac<N, D>) -> bool {
+pub(super) fn has_none_to_give_up<N: Hand + Drop, D: Device + Drop>(evac: &mut Evac<N, D>) -> bool {
     evac.abort() == Err(Refused::Phase)
 }
 
 // Whether a policy, asked for so many logs at most, chooses these.
-pub(super) fn selects<N: Near + Drop, D: Device + Drop, P: Policy>(
+pub(super) fn selects<N: Hand + Drop, D: Device + Drop, P: Policy>(
     evac: &mut Evac<N, D>,
     policy: &mut P,
     most: usize,
@@ -50,7 +50,7 @@ pub(super) fn selects<N: Near + Drop, D: Device + Drop, P: Policy>(
 }
 
 // Whether a selection is refused so.
-pub(super) fn selects_none<N: Near + Drop, D: Device + Drop, P: Policy>(
+pub(super) fn selects_none<N: Hand + Drop, D: Device + Drop, P: Policy>(
     evac: &mut Evac<N, D>,
     policy: &mut P,
     most: usize,
@@ -63,7 +63,7 @@ pub(super) fn selects_none<N: Near + Drop, D: Device + Drop, P: Policy>(
 }
 
 // Whether a marking of n objects counts so many, and whether it ends at this epoch.
-pub(super) fn marks<N: Near + Drop, D: Device + Drop>(
+pub(super) fn marks<N: Hand + Drop, D: Device + Drop>(
     evac: &mut Evac<N, D>,
     n: u64,
     count: u64,
@@ -73,15 +73,15 @@ pub(super) fn marks<N: Near + Drop, D: Device + Drop>(
 }
 
 // Whether a marking of n objects is refused, since no round is to be marked.
-pub(super) fn marks_none<N: Near + Drop, D: Device + Drop>(evac: &mut Evac<N, D>, n: u64) -> bool {
+pub(super) fn marks_none<N: Hand + Drop, D: Device + Drop>(evac: &mut Evac<N, D>, n: u64) -> bool {
     evac.mark_some(n) == Err(Refused::Phase)
 }
 
-pub(super) fn is_clear<N: Near + Drop, D: Device + Drop>(evac: &mut Evac<N, D>) -> bool {
+pub(super) fn is_clear<N: Hand + Drop, D: Device + Drop>(evac: &mut Evac<N, D>) -> bool {
     evac.poll_wait() == Ok(Polled::Clear)
 }
 
-pub(super) fn is_open<N: Near + Drop, D: Device + Drop>(
+pub(super) fn is_open<N: Hand + Drop, D: Device + Drop>(
     evac: &mut Evac<N, D>,
     owner: u8,
     epoch: u64,
@@ -90,7 +90,7 @@ pub(super) fn is_open<N: Near + Drop, D: Device + Drop>(
 }
 
 // Whether a dealing with n objects counts so, and ends the round or not.
-pub(super) fn deals<N: Near + Drop, D: Device + Drop>(
+pub(super) fn deals<N: Hand + Drop, D: Device + Drop>(
     evac: &mut Evac<N, D>,
     n: u64,
     counts: [u64; 4],
@@ -100,7 +100,7 @@ pub(super) fn deals<N: Near + Drop, D: Device + Drop>(
 }
 
 // Whether it is refused so, after this.
-pub(super) fn deals_until<N: Near + Drop, D: Device + Drop>(
+pub(super) fn deals_until<N: Hand + Drop, D: Device + Drop>(
     evac: &mut Evac<N, D>,
     n: u64,
     counts: [u64; 4],
@@ -111,7 +111,7 @@ pub(super) fn deals_until<N: Near + Drop, D: Device + Drop>(
 }
 
 // Whether a round of at most so many logs and turns ends so.
-pub(super) fn runs<N: Near + Drop, D: Device + Drop, P: Policy>(
+pub(super) fn runs<N: Hand + Drop, D: Device + Drop, P: Policy>(
     evac: &mut Evac<N, D>,
     policy: &mut P,
     most: usize,
@@ -133,7 +133,7 @@ pub(super) fn runs_alone<P: Policy>(
 }
 
 // Whether it is over, and counts so.
-pub(super) fn runs_through<N: Near + Drop, D: Device + Drop, P: Policy>(
+pub(super) fn runs_through<N: Hand + Drop, D: Device + Drop, P: Policy>(
     evac: &mut Evac<N, D>,
     policy: &mut P,
     most: usize,
@@ -150,7 +150,7 @@ pub(super) fn runs_through<N: Near + Drop, D: Device + Drop, P: Policy>(
 }
 
 // Whether it is refused so, after this.
-pub(super) fn runs_until<N: Near + Drop, D: Device + Drop, P: Policy>(
+pub(super) fn runs_until<N: Hand + Drop, D: Device + Drop, P: Policy>(
     evac: &mut Evac<N, D>,
     policy: &mut P,
     most: usize,
@@ -162,7 +162,7 @@ pub(super) fn runs_until<N: Near + Drop, D: Device + Drop, P: Policy>(
 }
 
 // Brings a round of at most so many logs to where objects leave.
-pub(super) fn comes_to_leaving<N: Near + Drop, D: Device + Drop, P: Policy>(
+pub(super) fn comes_to_leaving<N: Hand + Drop, D: Device + Drop, P: Policy>(
     evac: &mut Evac<N, D>,
     policy: &mut P,
     most: usize,
@@ -171,7 +171,7 @@ pub(super) fn comes_to_leaving<N: Near + Drop, D: Device + Drop, P: Policy>(
 }
 
 // Whether so many objects are near and so many far, and so many bytes are live.
-pub(super) fn counts<N: Near + Drop, D: Device + Drop>(
+pub(super) fn counts<N: Hand + Drop, D: Device + Drop>(
     evac: &mut Evac<N, D>,
     near: u64,
     far: u64,

@@ -74,7 +74,7 @@ impl<K: HeapName, D: Device + Drop> Evacuator<K, D> {
         ensures came { Came seat_makes self.old.book.near self.new.book.near }
         ensures looks { Came (only Looks seat_makes) self.old.book.near self.new.book.near }
         ensures polls { IfOk result (λ answer. Polls (moment seat_view self.old) (moment seat_view self.new) answer) }
-        ensures unviewed { IfOk result (λ answer. answer ≡ Clear → (x : State) → seat_may_be self.new.book.near x → NoneViews (among self.new.held) x) }
+        ensures unviewed { IfOk result (λ answer. answer ≡ Clear → (x : State) → seat_may_be self.new.book.near x → NoneViews (among self.new.collection) x) }
         ensures saw { IfOk result (SawOpen (seat_may_be self.new.book.near)) }
         ensures device { self.new.book.device ≡ self.old.book.device }
         ensures waiting { IfOk result (λ _. self.old.phase ≡ phase.Waiting) }
@@ -84,16 +84,16 @@ impl<K: HeapName, D: Device + Drop> Evacuator<K, D> {
         self.evac.poll_wait()
     }
 
-    /// Once a poll has answered that all owners are clear, nobody views anything in the logs held, in whatever state the words may be. While owners are waited
+    /// Once a poll has answered that all owners are clear, nobody views anything in the collection set, in whatever state the words may be. While owners are waited
     /// for, none does who was seen clear. The call does nothing.
     pub fn nobody_views(&self)
-        ensures leaving { self.now.phase ≡ phase.Evacuating → (x : State) → seat_may_be self.now.book.near x → NoneViews (among self.now.held) x }
-        ensures waiting { has_risen self.now.phase ≡ true → (x : State) → seat_may_be self.now.book.near x → (m : ℕ) → (seat_view self.now.book.near).clear m ≡ true → ViewsNone (among self.now.held) m x }
+        ensures leaving { self.now.phase ≡ phase.Evacuating → (x : State) → seat_may_be self.now.book.near x → NoneViews (among self.now.collection) x }
+        ensures waiting { has_risen self.now.phase ≡ true → (x : State) → seat_may_be self.now.book.near x → (m : ℕ) → (seat_view self.now.book.near).clear m ≡ true → ViewsNone (among self.now.collection) m x }
     {
         self.evac.nobody_views();
     }
 
-    /// Deals with the first n live objects of the chosen logs that are still held, or with all, in order: one that its owner has dropped is retired; a
+    /// Deals with the first n live objects of the collection set, or with all, in order: one that its owner has dropped is retired; a
     /// hot one goes to another log, or far where no room is; any other goes far. A log in front without live objects is given back at once; after the
     /// last the round is over, and the answer says `done`.
     ///
@@ -135,7 +135,7 @@ impl<K: HeapName, D: Device + Drop> Evacuator<K, D> {
         self.evac.turn()
     }
 
-    /// Gives the round up: the live objects of the logs that are still held lose EVAC, no object has moved, and no round is running. Those logs stand
+    /// Gives the round up: the live objects of the collection set lose EVAC, no object has moved, and no round is running. Those logs stand
     /// where they stood in the order of sealing. Refused [`Refused::Phase`] exactly where no round is running; nothing has changed then.
     pub fn abort(&mut self) -> Result<(), Refused>
         ensures came { Came seat_makes self.old.book.near self.new.book.near }

@@ -2,7 +2,7 @@
 
 ghost use Rattle.std.specs.Borrow.{MutBor};
 
-use far_book::{Book, Home, Near};
+use far_book::{Book, Hand, Home};
 use far_core::{Reply, Shape};
 use far_device::{Device, MemDevice};
 use far_evac::{Evac, LogKind, LogState};
@@ -26,14 +26,14 @@ pub(super) const NO_MARKS: Marks = Marks {
 
 /// A book over some hand, and the one owner beside it.
 #[derive(Drop)]
-pub(super) struct Pair<N: Near + Drop> {
+pub(super) struct Pair<N: Hand + Drop> {
     pub book: Book<N, MemDevice>,
     pub owner: Owner<MemDevice>,
 }
 
 /// An evacuator over some hand, and the one owner beside it.
 #[derive(Drop)]
-pub(super) struct Heap<N: Near + Drop> {
+pub(super) struct Heap<N: Hand + Drop> {
     pub evac: Evac<N, MemDevice>,
     pub owner: Owner<MemDevice>,
 }
@@ -74,7 +74,7 @@ pub(super) fn heap_of(
 }
 
 // A new object of the first owner, in its lowest free cell.
-fn place_next<N: Near + Drop, D: Device + Drop>(
+fn place_next<N: Hand + Drop, D: Device + Drop>(
     evac: &mut Evac<N, D>,
     len: u16,
 ) -> Result<u16, Refused> {
@@ -90,17 +90,17 @@ fn place_next<N: Near + Drop, D: Device + Drop>(
 }
 
 // Whether a new object of this length gets this pointer, and its owner takes it over.
-pub(super) fn makes<N: Near + Drop>(heap: &mut Heap<N>, len: u16, pointer: u16) -> bool {
+pub(super) fn makes<N: Hand + Drop>(heap: &mut Heap<N>, len: u16, pointer: u16) -> bool {
     place_next(&mut heap.evac, len) == Ok(pointer) && heap.owner.adopt(pointer).is_some()
 }
 
 // Whether there is no room for one.
-pub(super) fn has_no_room<N: Near + Drop>(heap: &mut Heap<N>, len: u16) -> bool {
+pub(super) fn has_no_room<N: Hand + Drop>(heap: &mut Heap<N>, len: u16) -> bool {
     place_next(&mut heap.evac, len) == Err(Refused::NoRoom)
 }
 
 // Whether an object of 8 bytes is made, and one that fills the next log, so that the first log is sealed.
-pub(super) fn makes_sealed<N: Near + Drop>(heap: &mut Heap<N>) -> bool {
+pub(super) fn makes_sealed<N: Hand + Drop>(heap: &mut Heap<N>) -> bool {
     makes(heap, 8, 0) && makes(heap, 1016, 1)
 }
 
@@ -120,7 +120,7 @@ pub(super) fn finds<D: Device>(owner: &mut Owner<D>, pointer: u16, word: u64) ->
 }
 
 // Whether the owner views an object in its scope: where it can't be pinned, it is fetched or moved before.
-pub(super) fn views<N: Near + Drop>(heap: &mut Heap<N>, pointer: u16) -> bool {
+pub(super) fn views<N: Hand + Drop>(heap: &mut Heap<N>, pointer: u16) -> bool {
     if heap.owner.holds(pointer) || pins(&mut heap.owner, pointer) {
         return true;
     }
@@ -129,12 +129,12 @@ pub(super) fn views<N: Near + Drop>(heap: &mut Heap<N>, pointer: u16) -> bool {
 }
 
 // Whether a far object is fetched, or a near one that is asked for moved.
-fn brings<N: Near + Drop, D: Device + Drop>(evac: &mut Evac<N, D>, pointer: u16) -> bool {
+fn brings<N: Hand + Drop, D: Device + Drop>(evac: &mut Evac<N, D>, pointer: u16) -> bool {
     fetches(evac, pointer) || moves(evac, pointer)
 }
 
 #[tactic(auto, using(crate::proofs::Uses::far_home))]
-fn fetches<N: Near + Drop, D: Device + Drop>(evac: &mut Evac<N, D>, pointer: u16) -> bool {
+fn fetches<N: Hand + Drop, D: Device + Drop>(evac: &mut Evac<N, D>, pointer: u16) -> bool {
     if pointer as u64 >= 128 * evac.book().shape().mutators {
         return false;
     }
@@ -145,7 +145,7 @@ fn fetches<N: Near + Drop, D: Device + Drop>(evac: &mut Evac<N, D>, pointer: u16
 }
 
 #[tactic(auto, using(crate::proofs::Uses::quiet_home))]
-fn moves<N: Near + Drop, D: Device + Drop>(evac: &mut Evac<N, D>, pointer: u16) -> bool {
+fn moves<N: Hand + Drop, D: Device + Drop>(evac: &mut Evac<N, D>, pointer: u16) -> bool {
     if pointer as u64 >= 128 * evac.book().shape().mutators {
         return false;
     }
@@ -159,12 +159,12 @@ fn moves<N: Near + Drop, D: Device + Drop>(evac: &mut Evac<N, D>, pointer: u16) 
 }
 
 // Whether the owner drops a near object, which is retired.
-pub(super) fn drops<N: Near + Drop>(heap: &mut Heap<N>, pointer: u16) -> bool {
+pub(super) fn drops<N: Hand + Drop>(heap: &mut Heap<N>, pointer: u16) -> bool {
     heap.owner.ask(pointer, Mark::Dropped).is_some() && retires(&mut heap.evac, pointer)
 }
 
 #[tactic(auto, using(crate::proofs::Uses::dropped_home))]
-fn retires<N: Near + Drop, D: Device + Drop>(evac: &mut Evac<N, D>, pointer: u16) -> bool {
+fn retires<N: Hand + Drop, D: Device + Drop>(evac: &mut Evac<N, D>, pointer: u16) -> bool {
     if pointer as u64 >= 128 * evac.book().shape().mutators {
         return false;
     }
@@ -179,21 +179,21 @@ fn retires<N: Near + Drop, D: Device + Drop>(evac: &mut Evac<N, D>, pointer: u16
 }
 
 // Whether an object's first word, once it is viewed, is stored, or is this.
-pub(super) fn stores<N: Near + Drop>(heap: &mut Heap<N>, pointer: u16, word: u64) -> bool {
+pub(super) fn stores<N: Hand + Drop>(heap: &mut Heap<N>, pointer: u16, word: u64) -> bool {
     views(heap, pointer) && heap.owner.store(pointer, 0, word)
 }
 
-pub(super) fn loads<N: Near + Drop>(heap: &mut Heap<N>, pointer: u16, word: u64) -> bool {
+pub(super) fn loads<N: Hand + Drop>(heap: &mut Heap<N>, pointer: u16, word: u64) -> bool {
     views(heap, pointer) && heap.owner.load(pointer, 0) == Some(word)
 }
 
 // The same in a scope of its own, at this epoch.
-pub(super) fn writes<N: Near + Drop>(heap: &mut Heap<N>, pointer: u16, word: u64) -> bool {
+pub(super) fn writes<N: Hand + Drop>(heap: &mut Heap<N>, pointer: u16, word: u64) -> bool {
     opens(&mut heap.owner, 0) && stores(heap, pointer, word) && heap.owner.close()
 }
 
 // Where a pointer's object is; `None` for a number that is no pointer's.
-fn home<N: Near + Drop, D: Device + Drop>(evac: &mut Evac<N, D>, pointer: u16) -> Option<Home> {
+fn home<N: Hand + Drop, D: Device + Drop>(evac: &mut Evac<N, D>, pointer: u16) -> Option<Home> {
     if (pointer as u64) < 128 * evac.book().shape().mutators {
         evac.locate(pointer)
     } else {
@@ -202,7 +202,7 @@ fn home<N: Near + Drop, D: Device + Drop>(evac: &mut Evac<N, D>, pointer: u16) -
 }
 
 // Whether an object lies at a place, with no marks but HOT perhaps.
-pub(super) fn is_near<N: Near + Drop>(
+pub(super) fn is_near<N: Hand + Drop>(
     heap: &mut Heap<N>,
     pointer: u16,
     place: Place,
@@ -213,12 +213,12 @@ pub(super) fn is_near<N: Near + Drop>(
 }
 
 // Whether an object is far, with no marks.
-pub(super) fn is_far<N: Near + Drop>(heap: &mut Heap<N>, pointer: u16) -> bool {
+pub(super) fn is_far<N: Hand + Drop>(heap: &mut Heap<N>, pointer: u16) -> bool {
     home(&mut heap.evac, pointer) == Some(Home::Far { marks: NO_MARKS })
 }
 
 // What a log is and has; `None` for a number that is no log's.
-fn shown<N: Near + Drop, D: Device + Drop>(evac: &Evac<N, D>, log: u8) -> Option<LogState> {
+fn shown<N: Hand + Drop, D: Device + Drop>(evac: &Evac<N, D>, log: u8) -> Option<LogState> {
     if (log as u64) < evac.book().shape().logs {
         Some(evac.log(log))
     } else {
@@ -227,7 +227,7 @@ fn shown<N: Near + Drop, D: Device + Drop>(evac: &Evac<N, D>, log: u8) -> Option
 }
 
 // Whether a log is so, and has so many live, dead and unused bytes.
-pub(super) fn is_log<N: Near + Drop>(
+pub(super) fn is_log<N: Hand + Drop>(
     heap: &Heap<N>,
     log: u8,
     kind: LogKind,

@@ -5,7 +5,7 @@ use crate::tests::making::{
     makes, makes_sealed, opens, stores, views, writes,
 };
 use crate::tests::steps::{begins, counts, is_clear, leaves, runs, waits};
-use far_book::Near;
+use far_book::Hand;
 use far_core::Shape;
 use far_evac::LogKind;
 use far_word::Place;
@@ -14,11 +14,11 @@ use far_word::Place;
 const COUNTED: u64 = 0x0807_0605_0403_0201;
 
 // Whether two objects fill all logs but the last.
-fn fills<N: Near + Drop>(heap: &mut Heap<N>) -> bool {
+fn fills<N: Hand + Drop>(heap: &mut Heap<N>) -> bool {
     makes(heap, 1016, 0) && makes(heap, 1016, 1) && has_no_room(heap, 8)
 }
 
-fn makes_room<N: Near + Drop>(heap: &mut Heap<N>) -> bool {
+fn makes_room<N: Hand + Drop>(heap: &mut Heap<N>) -> bool {
     drops(heap, 0)
         && runs(heap, [0, 0, 0, 1])
         && makes(heap, 8, 0)
@@ -32,7 +32,7 @@ fn the_reserve_is_kept(rt: HostRuntime) {
 }
 
 // Whether of two objects in log 0 the one that was written moves, and the other goes far.
-fn parts_two<N: Near + Drop>(heap: &mut Heap<N>) -> bool {
+fn parts_two<N: Hand + Drop>(heap: &mut Heap<N>) -> bool {
     makes(heap, 8, 0)
         && makes(heap, 8, 1)
         && writes(heap, 0, COUNTED)
@@ -43,7 +43,7 @@ fn parts_two<N: Near + Drop>(heap: &mut Heap<N>) -> bool {
 }
 
 // Whether log 0 is free then, and log 2 has the object that moved.
-fn has_parted<N: Near + Drop>(heap: &mut Heap<N>) -> bool {
+fn has_parted<N: Hand + Drop>(heap: &mut Heap<N>) -> bool {
     is_log(heap, 0, LogKind::Free, [0, 0, 1024])
         && is_log(heap, 1, LogKind::Sealed, [1024, 0, 0])
         && is_log(heap, 2, LogKind::Open, [16, 0, 1008])
@@ -51,7 +51,7 @@ fn has_parted<N: Near + Drop>(heap: &mut Heap<N>) -> bool {
 }
 
 // Whether both are read, and the far one is near again.
-fn reads_both<N: Near + Drop>(heap: &mut Heap<N>) -> bool {
+fn reads_both<N: Hand + Drop>(heap: &mut Heap<N>) -> bool {
     opens(&mut heap.owner, 1)
         && loads(heap, 0, COUNTED)
         && loads(heap, 1, 0)
@@ -70,12 +70,12 @@ fn a_plain_round(rt: HostRuntime) {
 }
 
 // Whether an object is viewed when a round begins.
-fn views_before<N: Near + Drop>(heap: &mut Heap<N>) -> bool {
+fn views_before<N: Hand + Drop>(heap: &mut Heap<N>) -> bool {
     makes_sealed(heap) && opens(&mut heap.owner, 0) && views(heap, 0) && begins(heap, &[0], 1)
 }
 
 // Whether the round waits until the scope is closed, and moves the object then.
-fn waits_for_the_owner<N: Near + Drop>(heap: &mut Heap<N>) -> bool {
+fn waits_for_the_owner<N: Hand + Drop>(heap: &mut Heap<N>) -> bool {
     waits(heap) && heap.owner.close() && is_clear(heap) && leaves(heap, [1, 0, 0, 1])
 }
 
@@ -86,7 +86,7 @@ fn a_round_waits(rt: HostRuntime) {
 }
 
 // Whether an object is written, and a round of its log goes on to its leaving after the owner has read the epoch.
-fn reads_an_epoch<N: Near + Drop>(heap: &mut Heap<N>) -> bool {
+fn reads_an_epoch<N: Hand + Drop>(heap: &mut Heap<N>) -> bool {
     makes(heap, 8, 0)
         && writes(heap, 0, 0xaa)
         && makes(heap, 1016, 1)
@@ -96,7 +96,7 @@ fn reads_an_epoch<N: Near + Drop>(heap: &mut Heap<N>) -> bool {
 }
 
 // Whether the owner, whose scope opens at that epoch, finds the marks, has the object moved and reads it.
-fn opens_late<N: Near + Drop>(heap: &mut Heap<N>) -> bool {
+fn opens_late<N: Hand + Drop>(heap: &mut Heap<N>) -> bool {
     heap.owner.open()
         && finds(&mut heap.owner, 0, 0xe400_0000_0001_0008)
         && loads(heap, 0, 0xaa)
@@ -110,11 +110,11 @@ fn a_scope_opens_at_a_stale_epoch(rt: HostRuntime) {
 }
 
 // Whether an object that is viewed is written while the round waits.
-fn writes_meanwhile<N: Near + Drop>(heap: &mut Heap<N>) -> bool {
+fn writes_meanwhile<N: Hand + Drop>(heap: &mut Heap<N>) -> bool {
     stores(heap, 0, 0xbb) && waits_for_the_owner(heap)
 }
 
-fn reads_it<N: Near + Drop>(heap: &mut Heap<N>, word: u64) -> bool {
+fn reads_it<N: Hand + Drop>(heap: &mut Heap<N>, word: u64) -> bool {
     opens(&mut heap.owner, 1) && loads(heap, 0, word)
 }
 
@@ -128,7 +128,7 @@ fn an_old_view_is_used_again(rt: HostRuntime) {
     );
 }
 
-fn begins_with_two<N: Near + Drop>(heap: &mut Heap<N>) -> bool {
+fn begins_with_two<N: Hand + Drop>(heap: &mut Heap<N>) -> bool {
     makes(heap, 8, 0)
         && makes(heap, 8, 1)
         && makes(heap, 1016, 2)
@@ -137,7 +137,7 @@ fn begins_with_two<N: Near + Drop>(heap: &mut Heap<N>) -> bool {
 }
 
 // Whether the owner has both moved before the round comes to them.
-fn is_first<N: Near + Drop>(heap: &mut Heap<N>) -> bool {
+fn is_first<N: Hand + Drop>(heap: &mut Heap<N>) -> bool {
     opens(&mut heap.owner, 1) && views(heap, 0) && views(heap, 1) && leaves(heap, [0, 0, 0, 1])
 }
 
@@ -148,7 +148,7 @@ fn the_owner_is_first(rt: HostRuntime) {
 }
 
 // Whether a round of two logs begins, of which one has a hot object.
-fn begins_with_full_logs<N: Near + Drop>(heap: &mut Heap<N>) -> bool {
+fn begins_with_full_logs<N: Hand + Drop>(heap: &mut Heap<N>) -> bool {
     makes(heap, 1016, 0)
         && makes(heap, 1016, 1)
         && makes(heap, 1016, 2)
@@ -159,7 +159,7 @@ fn begins_with_full_logs<N: Near + Drop>(heap: &mut Heap<N>) -> bool {
 }
 
 // Whether the owner's move takes the last free log, so that the hot object goes far.
-fn takes_the_last<N: Near + Drop>(heap: &mut Heap<N>) -> bool {
+fn takes_the_last<N: Hand + Drop>(heap: &mut Heap<N>) -> bool {
     is_clear(heap)
         && opens(&mut heap.owner, 1)
         && views(heap, 1)

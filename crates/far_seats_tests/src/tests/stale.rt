@@ -5,13 +5,13 @@ ghost use Rattle.far_word.specs.Pointer.{read_of};
 ghost use Rattle.far_seats_tests.specs.Marked.{evac_in};
 
 use crate::tests::making::{Pair, SMALL, finds, is_so_of, pair_of};
-use far_book::{Book, Home, Near};
+use far_book::{Book, Hand, Home};
 use far_core::{Kind, Reply, sets_of_logs};
 use far_device::Device;
 use far_word::{LONGEST, Mark, Place, PtrWord, Refused};
 
 // A new object of the first mutator, in its lowest free cell.
-fn place_next<N: Near + Drop, D: Device + Drop>(
+fn place_next<N: Hand + Drop, D: Device + Drop>(
     book: &mut Book<N, D>,
     len: u16,
 ) -> Result<u16, Refused> {
@@ -27,12 +27,12 @@ fn place_next<N: Near + Drop, D: Device + Drop>(
 }
 
 // Whether a new object of this length gets this pointer, and its owner takes it over.
-pub(super) fn adopts_next<N: Near + Drop>(pair: &mut Pair<N>, len: u16, pointer: u16) -> bool {
+pub(super) fn adopts_next<N: Hand + Drop>(pair: &mut Pair<N>, len: u16, pointer: u16) -> bool {
     place_next(&mut pair.book, len) == Ok(pointer) && pair.owner.adopt(pointer).is_some()
 }
 
 // Sets EVAC on a near object of a sealed log, and answers its word before; `None` where the pointer names none.
-pub(super) fn marks_sealed<N: Near + Drop, D: Device + Drop>(
+pub(super) fn marks_sealed<N: Hand + Drop, D: Device + Drop>(
     book: &mut Book<N, D>,
     pointer: u16,
 ) -> Option<u64> {
@@ -60,7 +60,7 @@ fn is_marked(cell: u64) -> bool
 }
 
 // Whether all objects in log 0 have EVAC.
-fn are_marked<N: Near + Drop, D: Device + Drop>(book: &mut Book<N, D>) -> bool
+fn are_marked<N: Hand + Drop, D: Device + Drop>(book: &mut Book<N, D>) -> bool
     ensures kind { (N.view book.new.near).kind ≡ (N.view book.old.near).kind }
     ensures logs { (N.view book.new.near).logs ≡ (N.view book.old.near).logs }
     ensures marked { result ≡ true → (p : ℕ) → evac_in (read_of ((N.view book.new.near).cell p)) ≡ true }
@@ -77,7 +77,7 @@ fn are_marked<N: Near + Drop, D: Device + Drop>(book: &mut Book<N, D>) -> bool
 }
 
 // Begins a round of log 0, if it is sealed and all its objects have EVAC.
-fn advance_by_first<N: Near + Drop, D: Device + Drop>(
+fn advance_by_first<N: Hand + Drop, D: Device + Drop>(
     book: &mut Book<N, D>,
 ) -> Option<Result<u64, Refused>> {
     if book.shape().logs == 0 || book.log(0).0 != Kind::Sealed || !are_marked(book) {
@@ -88,7 +88,7 @@ fn advance_by_first<N: Near + Drop, D: Device + Drop>(
 }
 
 // An owner's scope word; `None` where the number is no owner's.
-fn look_at<N: Near + Drop, D: Device + Drop>(book: &mut Book<N, D>, owner: u8) -> Option<u64> {
+fn look_at<N: Hand + Drop, D: Device + Drop>(book: &mut Book<N, D>, owner: u8) -> Option<u64> {
     if owner as u64 >= book.shape().mutators {
         return None;
     }
@@ -97,7 +97,7 @@ fn look_at<N: Near + Drop, D: Device + Drop>(book: &mut Book<N, D>, owner: u8) -
 
 // Whether an object that its owner asks for is moved.
 #[tactic(auto, using(crate::proofs::Uses::quiet_home))]
-fn moves<N: Near + Drop, D: Device + Drop>(book: &mut Book<N, D>, pointer: u16) -> bool {
+fn moves<N: Hand + Drop, D: Device + Drop>(book: &mut Book<N, D>, pointer: u16) -> bool {
     if pointer as u64 >= 128 * book.shape().mutators {
         return false;
     }
@@ -111,19 +111,19 @@ fn moves<N: Near + Drop, D: Device + Drop>(book: &mut Book<N, D>, pointer: u16) 
 }
 
 // Whether two objects are placed, and the owner reads the epoch.
-fn reads_an_epoch<N: Near + Drop>(pair: &mut Pair<N>) -> bool {
+fn reads_an_epoch<N: Hand + Drop>(pair: &mut Pair<N>) -> bool {
     adopts_next(pair, 8, 0) && adopts_next(pair, 1016, 1) && pair.owner.read_epoch() == Some(0)
 }
 
 // Whether a round begins, in which the owner is seen clear.
-fn begins<N: Near + Drop, D: Device + Drop>(book: &mut Book<N, D>) -> bool {
+fn begins<N: Hand + Drop, D: Device + Drop>(book: &mut Book<N, D>) -> bool {
     marks_sealed(book, 0) == Some(0x8400_0000_0001_0008)
         && advance_by_first(book) == Some(Ok(1))
         && look_at(book, 0) == Some(0)
 }
 
 // Whether the owner, whose scope opens late, finds the mark and has the object moved.
-fn opens_late<N: Near + Drop>(pair: &mut Pair<N>) -> bool {
+fn opens_late<N: Hand + Drop>(pair: &mut Pair<N>) -> bool {
     pair.owner.open()
         && finds(&mut pair.owner, 0, 0xa400_0000_0001_0008)
         && pair.owner.ask(0, Mark::Moved) == Some(0xe400_0000_0001_0008)

@@ -4,7 +4,7 @@ use Rattle.far_core.specs.state.CoreState.{core_state}
 use Rattle.far_core.specs.state.Law.{Law}
 use Rattle.far_core.specs.state.State.{State}
 use Rattle.far_core.specs.world.WorldOf.{world_of}
-use Rattle.far_book.specs.book.Deeds.{Does, Fetches}
+use Rattle.far_book.specs.book.Actions.{Does, Fetches}
 use Rattle.far_evac_tests.specs.Kept.{KeepsWords}
 use Rattle.far_evac_tests.proofs.KeptWords.{fetch_keeps}
 use Rattle.far_evac_tests.proofs.caller.bring_near.Goals as goal

@@ -1,4 +1,4 @@
-use Rattle.std.proofs.Common.{ap, refl, subst, sym, ◌∙◌}
+use Rattle.std.proofs.Common.{ap, refl, rules, subst, sym, ◌∙◌}
 use Rattle.far_core.specs.state.State.{State}
 use Rattle.far_hand.specs.Quiet.{IsQuietNear}
 use Rattle.far_replay.specs.Dereference.{asked_for}
@@ -14,36 +14,35 @@ move_now-requires-clause-quiet c =
     subst (λ (x : State). IsQuietNear x c.args.pointer) (sym (c.owner.ensures.legal refl (may_ask s c.args.owner c.args.pointer law c.requires.opened c.requires.own c.requires.used c.requires.unheld c.requires.near)).0)
     (asked_quiet s c.args.owner c.args.pointer law c.requires.opened c.requires.own c.requires.used c.requires.unheld c.requires.near)
 
-pub returns-in-Ok-Some-clause-state : goal.returns-in-Ok-Some-clause-state
-returns-in-Ok-Some-clause-state c =
+pub returns-in-Ok-Some : goal.returns-in-Ok-Some
+returns-in-Ok-Some c =
     let s : State = state_in c.args.evac.now in
     let law = c.args.evac.now.book.near.core.law in
-    near_done s c.args.owner c.args.pointer law c.requires.opened c.requires.own c.requires.used c.requires.unheld c.requires.near _ (state_in c.owner.new.self) (state_in c.move_now.new.self) c.in-Ok-Some.field-0 c.in-Ok-Some.field-0-0 c.in-Ok-Some.field-0-is
-    (c.owner.ensures.legal refl (may_ask s c.args.owner c.args.pointer law c.requires.opened c.requires.own c.requires.used c.requires.unheld c.requires.near)).0
-    c.in-Ok-Some.ensures.place (c.in-Ok-Some.ensures.exact tt)
+    let asked = (c.owner.ensures.legal refl (may_ask s c.args.owner c.args.pointer law c.requires.opened c.requires.own c.requires.used c.requires.unheld c.requires.near)).0 in
+    record {
+      state = near_done s c.args.owner c.args.pointer law c.requires.opened c.requires.own c.requires.used c.requires.unheld c.requires.near _ (state_in c.owner.new.self) (state_in c.move_now.new.self) c.in-Ok-Some.field-0 c.in-Ok-Some.field-0-0 c.in-Ok-Some.field-0-is
+          asked c.in-Ok-Some.ensures.place (c.in-Ok-Some.ensures.exact tt);
+      room = near_room s c.args.owner c.args.pointer law c.requires.opened c.requires.own c.requires.used c.requires.unheld c.requires.near (state_in c.owner.new.self) c.in-Ok-Some.field-0 c.in-Ok-Some.field-0-0 c.in-Ok-Some.field-0-is
+          asked c.in-Ok-Some.ensures.place;
+      refused = tt;
+      order = near_order s c.args.owner c.args.pointer law c.requires.opened c.requires.own c.requires.used c.requires.unheld c.requires.near (state_in c.owner.new.self) c.owner.new.self.book.order c.move_now.new.self.book.order
+          c.in-Ok-Some.field-0 c.in-Ok-Some.field-0-0 c.in-Ok-Some.field-0-is asked c.in-Ok-Some.ensures.place c.in-Ok-Some.ensures.order
+          ∙ ap (λ order. order_come (asked_for s c.args.owner c.args.pointer) order c.args.pointer) c.owner.ensures.order;
+      shut = tt;
+      round = search rules;
+    }
 
-pub returns-in-Ok-Some-clause-room : goal.returns-in-Ok-Some-clause-room
-returns-in-Ok-Some-clause-room c =
+pub returns-in-Err : goal.returns-in-Err
+returns-in-Err c =
     let s : State = state_in c.args.evac.now in
     let law = c.args.evac.now.book.near.core.law in
-    near_room s c.args.owner c.args.pointer law c.requires.opened c.requires.own c.requires.used c.requires.unheld c.requires.near (state_in c.owner.new.self) c.in-Ok-Some.field-0 c.in-Ok-Some.field-0-0 c.in-Ok-Some.field-0-is
-    (c.owner.ensures.legal refl (may_ask s c.args.owner c.args.pointer law c.requires.opened c.requires.own c.requires.used c.requires.unheld c.requires.near)).0
-    c.in-Ok-Some.ensures.place
-
-pub returns-in-Err-clause-refused : goal.returns-in-Err-clause-refused
-returns-in-Err-clause-refused c =
-    let s : State = state_in c.args.evac.now in
-    let law = c.args.evac.now.book.near.core.law in
-    near_refused s c.args.owner c.args.pointer law c.requires.opened c.requires.own c.requires.used c.requires.unheld c.requires.near (state_in c.owner.new.self) (state_in c.move_now.new.self) c.in-Err.why
-    (c.owner.ensures.legal refl (may_ask s c.args.owner c.args.pointer law c.requires.opened c.requires.own c.requires.used c.requires.unheld c.requires.near)).0
-    c.in-Err.ensures.refused c.in-Err.ensures.none (c.in-Err.ensures.unchanged tt)
-
-pub returns-in-Ok-Some-clause-order : goal.returns-in-Ok-Some-clause-order
-returns-in-Ok-Some-clause-order c =
-    let s : State = state_in c.args.evac.now in
-    let law = c.args.evac.now.book.near.core.law in
-    near_order s c.args.owner c.args.pointer law c.requires.opened c.requires.own c.requires.used c.requires.unheld c.requires.near (state_in c.owner.new.self) c.owner.new.self.book.order c.move_now.new.self.book.order
-    c.in-Ok-Some.field-0 c.in-Ok-Some.field-0-0 c.in-Ok-Some.field-0-is
-    (c.owner.ensures.legal refl (may_ask s c.args.owner c.args.pointer law c.requires.opened c.requires.own c.requires.used c.requires.unheld c.requires.near)).0
-    c.in-Ok-Some.ensures.place c.in-Ok-Some.ensures.order
-    ∙ ap (λ order. order_come (asked_for s c.args.owner c.args.pointer) order c.args.pointer) c.owner.ensures.order
+    record {
+      state = tt;
+      room = tt;
+      refused = near_refused s c.args.owner c.args.pointer law c.requires.opened c.requires.own c.requires.used c.requires.unheld c.requires.near (state_in c.owner.new.self) (state_in c.move_now.new.self) c.in-Err.why
+          (c.owner.ensures.legal refl (may_ask s c.args.owner c.args.pointer law c.requires.opened c.requires.own c.requires.used c.requires.unheld c.requires.near)).0
+          c.in-Err.ensures.refused c.in-Err.ensures.none (c.in-Err.ensures.unchanged tt);
+      order = tt;
+      shut = search rules;
+      round = search rules;
+    }

@@ -2,14 +2,14 @@ use Rattle.std.proofs.Common.{◌≡◌, ◌≤◌, ◌-◌, take, vec_len, vec_
 use Rattle.far_replay.proofs.stream.grow.Given as goal
 
 -- what was there is the front of what is there now
-abbrev pub invariant-loop-room : goal.invariant-loop-room
-invariant-loop-room l = record {
-  taken : l.to ≤ vec_capacity l.room;
-  room : vec_capacity l.initial.room ≤ vec_capacity l.room;
-  more : vec_len l.initial.room ≤ vec_len l.room;
-  most : vec_len l.room ≤ l.to;
-  kept : take (vec_len l.initial.room) l.room.items ≡ l.initial.room.items;
+abbrev pub invariant-loop-buffer : goal.invariant-loop-buffer
+invariant-loop-buffer l = record {
+  taken : l.to ≤ vec_capacity l.buffer;
+  buffer : vec_capacity l.initial.buffer ≤ vec_capacity l.buffer;
+  more : vec_len l.initial.buffer ≤ vec_len l.buffer;
+  most : vec_len l.buffer ≤ l.to;
+  kept : take (vec_len l.initial.buffer) l.buffer.items ≡ l.initial.buffer.items;
 }
 
-abbrev pub decreases-loop-room : goal.decreases-loop-room
-decreases-loop-room l = l.to - vec_len l.room
+abbrev pub decreases-loop-buffer : goal.decreases-loop-buffer
+decreases-loop-buffer l = l.to - vec_len l.buffer

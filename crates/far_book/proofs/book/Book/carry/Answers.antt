@@ -24,8 +24,8 @@ room-requires-clause-size g c =
 
 pub returns-in_default-room-clause-none : goal.returns-in_default-room-clause-none
 returns-in_default-room-clause-none g c =
-    let s = g.N.Near.view c.self.inside.near in
-    let same = ap (λ (b : BookOf g.row.N.Denot g.row.D.Denot). g.N.Near.view b.near) c.self.view_is in
+    let s = g.N.Hand.view c.self.inside.near in
+    let same = ap (λ (b : BookOf g.row.N.Denot g.row.D.Denot). g.N.Hand.view b.near) c.self.view_is in
     let word : c.args.found ≡ s.cell c.args.pointer = c.requires.found ∙ ap (λ (x : State). x.cell c.args.pointer) (sym same) in
     let says : read_of c.args.found ≡ Some (Near c.in-Near.len c.in-Near.ds c.in-Near.place c.in-Near.marks) = c.known-was.ensures ∙ ap (λ v. Some v) c.in-Near.is in
     let near : read_of (s.cell c.args.pointer) ≡ Some (Near c.in-Near.len c.in-Near.ds c.in-Near.place c.in-Near.marks) = ap read_of (sym word) ∙ says in
@@ -36,10 +36,10 @@ returns-in_default-room-clause-none g c =
 
 pub move_object-requires-clause-may : goal.move_object-requires-clause-may
 move_object-requires-clause-may g c =
-    let s = g.N.Near.view c.self.inside.near in
+    let s = g.N.Hand.view c.self.inside.near in
     let held = g.D.Device.contents c.self.inside.device in
     let is_honest = g.D.Device.honest c.self.inside.device in
-    let same = ap (λ (b : BookOf g.row.N.Denot g.row.D.Denot). g.N.Near.view b.near) c.self.view_is in
+    let same = ap (λ (b : BookOf g.row.N.Denot g.row.D.Denot). g.N.Hand.view b.near) c.self.view_is in
     let word : c.args.found ≡ s.cell c.args.pointer = c.requires.found ∙ ap (λ (x : State). x.cell c.args.pointer) (sym same) in
     let says : read_of c.args.found ≡ Some (Near c.in-Near.len c.in-Near.ds c.in-Near.place c.in-Near.marks) = c.known-was.ensures ∙ ap (λ v. Some v) c.in-Near.is in
     let near : read_of (s.cell c.args.pointer) ≡ Some (Near c.in-Near.len c.in-Near.ds c.in-Near.place c.in-Near.marks) = ap read_of (sym word) ∙ says in
@@ -50,17 +50,17 @@ move_object-requires-clause-may g c =
 
 pub invariant_of-self : goal.invariant_of-self
 invariant_of-self g c =
-    let s = g.N.Near.view c.self.inside.near in
+    let s = g.N.Hand.view c.self.inside.near in
     let held = g.D.Device.contents c.self.inside.device in
     let is_honest = g.D.Device.honest c.self.inside.device in
-    drop_keeps s (g.N.Near.view c.move_object.new.near) c.self.inside.ledger held is_honest c.self.invariant c.args.pointer (c.move_object.ensures.dropped c.if-not-move_object.true)
+    drop_keeps s (g.N.Hand.view c.move_object.new.near) c.self.inside.ledger held is_honest c.self.invariant c.args.pointer (c.move_object.ensures.dropped c.if-not-move_object.true)
 
 pub retire-requires : goal.retire-requires
 retire-requires g c =
-    let s = g.N.Near.view c.self.inside.near in
+    let s = g.N.Hand.view c.self.inside.near in
     let held = g.D.Device.contents c.self.inside.device in
     let is_honest = g.D.Device.honest c.self.inside.device in
-    let same = ap (λ (b : BookOf g.row.N.Denot g.row.D.Denot). g.N.Near.view b.near) c.self.view_is in
+    let same = ap (λ (b : BookOf g.row.N.Denot g.row.D.Denot). g.N.Hand.view b.near) c.self.view_is in
     let word : c.args.found ≡ s.cell c.args.pointer = c.requires.found ∙ ap (λ (x : State). x.cell c.args.pointer) (sym same) in
     let says : read_of c.args.found ≡ Some (Near c.in-Near.len c.in-Near.ds c.in-Near.place c.in-Near.marks) = c.known-was.ensures ∙ ap (λ v. Some v) c.in-Near.is in
     let near : read_of (s.cell c.args.pointer) ≡ Some (Near c.in-Near.len c.in-Near.ds c.in-Near.place c.in-Near.marks) = ap read_of (sym word) ∙ says in
@@ -69,10 +69,10 @@ retire-requires g c =
 
 pub take-requires : goal.take-requires
 take-requires g c =
-    let s = g.N.Near.view c.self.inside.near in
+    let s = g.N.Hand.view c.self.inside.near in
     let held = g.D.Device.contents c.self.inside.device in
     let is_honest = g.D.Device.honest c.self.inside.device in
-    let same = ap (λ (b : BookOf g.row.N.Denot g.row.D.Denot). g.N.Near.view b.near) c.self.view_is in
+    let same = ap (λ (b : BookOf g.row.N.Denot g.row.D.Denot). g.N.Hand.view b.near) c.self.view_is in
     let word : c.args.found ≡ s.cell c.args.pointer = c.requires.found ∙ ap (λ (x : State). x.cell c.args.pointer) (sym same) in
     let says : read_of c.args.found ≡ Some (Near c.in-Near.len c.in-Near.ds c.in-Near.place c.in-Near.marks) = c.known-was.ensures ∙ ap (λ v. Some v) c.in-Near.is in
     let near : read_of (s.cell c.args.pointer) ≡ Some (Near c.in-Near.len c.in-Near.ds c.in-Near.place c.in-Near.marks) = ap read_of (sym word) ∙ says in
@@ -83,10 +83,10 @@ take-requires g c =
 
 pub invariant_of-self-2 : goal.invariant_of-self-2
 invariant_of-self-2 g c =
-    let s = g.N.Near.view c.self.inside.near in
+    let s = g.N.Hand.view c.self.inside.near in
     let held = g.D.Device.contents c.self.inside.device in
     let is_honest = g.D.Device.honest c.self.inside.device in
-    let same = ap (λ (b : BookOf g.row.N.Denot g.row.D.Denot). g.N.Near.view b.near) c.self.view_is in
+    let same = ap (λ (b : BookOf g.row.N.Denot g.row.D.Denot). g.N.Hand.view b.near) c.self.view_is in
     let word : c.args.found ≡ s.cell c.args.pointer = c.requires.found ∙ ap (λ (x : State). x.cell c.args.pointer) (sym same) in
     let says : read_of c.args.found ≡ Some (Near c.in-Near.len c.in-Near.ds c.in-Near.place c.in-Near.marks) = c.known-was.ensures ∙ ap (λ v. Some v) c.in-Near.is in
     let near : read_of (s.cell c.args.pointer) ≡ Some (Near c.in-Near.len c.in-Near.ds c.in-Near.place c.in-Near.marks) = ap read_of (sym word) ∙ says in
@@ -95,13 +95,13 @@ invariant_of-self-2 g c =
     let alive : c.in-Near.marks.dropped ≡ false = drop_of (read_of c.args.found) c.in-Near.len c.in-Near.ds c.in-Near.place c.in-Near.marks says c.requires.alive in
     let found : room s (size_of c.in-Near.len) false ≡ Some c.in-Some.to = ap (λ n. room s n false) (sym c.size_of-size.ensures) ∙ sym (c.room.ensures (own_part s) c.self.invariant.notes) ∙ c.in-Some.is in
     let notes : Notes (own_part (freed s c.self.inside.ledger held is_honest c.self.invariant c.args.pointer c.in-Near.len c.in-Near.ds c.in-Near.place c.in-Near.marks pointer near)) c.retire.new.self = c.retire.ensures.notes (own_part (dropped s c.self.inside.ledger held is_honest c.self.invariant c.args.pointer c.in-Near.len c.in-Near.ds c.in-Near.place c.in-Near.marks pointer near)) (notes_dropped s c.self.inside.ledger held is_honest c.self.invariant c.args.pointer c.in-Near.len c.in-Near.ds c.in-Near.place c.in-Near.marks pointer near) (may_leave s c.self.inside.ledger held is_honest c.self.invariant c.args.pointer c.in-Near.len c.in-Near.ds c.in-Near.place c.in-Near.marks pointer near) in
-    carried s c.self.inside.ledger held is_honest c.self.invariant c.args.pointer c.in-Near.len c.in-Near.ds c.in-Near.place c.in-Near.marks pointer near c.in-Some.to found c.retire.new.self notes (g.N.Near.view c.move_object.new.near) alive wanted (c.move_object.ensures.moved c.if-not-move_object.false) c.take.new.self
+    carried s c.self.inside.ledger held is_honest c.self.invariant c.args.pointer c.in-Near.len c.in-Near.ds c.in-Near.place c.in-Near.marks pointer near c.in-Some.to found c.retire.new.self notes (g.N.Hand.view c.move_object.new.near) alive wanted (c.move_object.ensures.moved c.if-not-move_object.false) c.take.new.self
     (subst (λ n. Takes c.retire.new.self c.take.new.self c.args.pointer n c.in-Some.to) c.size_of-size.ensures c.take.ensures)
 
 pub returns-clause-place : goal.returns-clause-place
 returns-clause-place g c =
-    let s = g.N.Near.view c.self.inside.near in
-    let same = ap (λ (b : BookOf g.row.N.Denot g.row.D.Denot). g.N.Near.view b.near) c.self.view_is in
+    let s = g.N.Hand.view c.self.inside.near in
+    let same = ap (λ (b : BookOf g.row.N.Denot g.row.D.Denot). g.N.Hand.view b.near) c.self.view_is in
     let word : c.args.found ≡ s.cell c.args.pointer = c.requires.found ∙ ap (λ (x : State). x.cell c.args.pointer) (sym same) in
     let says : read_of c.args.found ≡ Some (Near c.in-Near.len c.in-Near.ds c.in-Near.place c.in-Near.marks) = c.known-was.ensures ∙ ap (λ v. Some v) c.in-Near.is in
     let near : read_of (s.cell c.args.pointer) ≡ Some (Near c.in-Near.len c.in-Near.ds c.in-Near.place c.in-Near.marks) = ap read_of (sym word) ∙ says in
@@ -112,10 +112,10 @@ returns-clause-place g c =
 
 pub returns-clause-order : goal.returns-clause-order
 returns-clause-order g c =
-    let s = g.N.Near.view c.self.inside.near in
+    let s = g.N.Hand.view c.self.inside.near in
     let held = g.D.Device.contents c.self.inside.device in
     let is_honest = g.D.Device.honest c.self.inside.device in
-    let same = ap (λ (b : BookOf g.row.N.Denot g.row.D.Denot). g.N.Near.view b.near) c.self.view_is in
+    let same = ap (λ (b : BookOf g.row.N.Denot g.row.D.Denot). g.N.Hand.view b.near) c.self.view_is in
     let word : c.args.found ≡ s.cell c.args.pointer = c.requires.found ∙ ap (λ (x : State). x.cell c.args.pointer) (sym same) in
     let says : read_of c.args.found ≡ Some (Near c.in-Near.len c.in-Near.ds c.in-Near.place c.in-Near.marks) = c.known-was.ensures ∙ ap (λ v. Some v) c.in-Near.is in
     let near : read_of (s.cell c.args.pointer) ≡ Some (Near c.in-Near.len c.in-Near.ds c.in-Near.place c.in-Near.marks) = ap read_of (sym word) ∙ says in
@@ -123,4 +123,4 @@ returns-clause-order g c =
     let found : room s (size_of c.in-Near.len) false ≡ Some c.in-Some.to = ap (λ n. room s n false) (sym c.size_of-size.ensures) ∙ sym (c.room.ensures (own_part s) c.self.invariant.notes) ∙ c.in-Some.is in
     let notes : Notes (own_part (freed s c.self.inside.ledger held is_honest c.self.invariant c.args.pointer c.in-Near.len c.in-Near.ds c.in-Near.place c.in-Near.marks pointer near)) c.retire.new.self = c.retire.ensures.notes (own_part (dropped s c.self.inside.ledger held is_honest c.self.invariant c.args.pointer c.in-Near.len c.in-Near.ds c.in-Near.place c.in-Near.marks pointer near)) (notes_dropped s c.self.inside.ledger held is_honest c.self.invariant c.args.pointer c.in-Near.len c.in-Near.ds c.in-Near.place c.in-Near.marks pointer near) (may_leave s c.self.inside.ledger held is_honest c.self.invariant c.args.pointer c.in-Near.len c.in-Near.ds c.in-Near.place c.in-Near.marks pointer near) in
     order_carried s c.self.inside.ledger held is_honest c.self.invariant c.args.pointer c.in-Near.len c.in-Near.ds c.in-Near.place c.in-Near.marks pointer near c.in-Some.to found c.retire.new.self notes c.take.new.self (subst (λ n. Takes c.retire.new.self c.take.new.self c.args.pointer n c.in-Some.to) c.size_of-size.ensures c.take.ensures)
-    ∙ ap (λ o. order_after s o.items c.in-Some.to) c.retire.ensures.order ∙ ap (λ (b : BookOf g.row.N.Denot g.row.D.Denot). order_after (g.N.Near.view b.near) b.order c.in-Some.to) c.self.view_is
+    ∙ ap (λ o. order_after s o.items c.in-Some.to) c.retire.ensures.order ∙ ap (λ (b : BookOf g.row.N.Denot g.row.D.Denot). order_after (g.N.Hand.view b.near) b.order c.in-Some.to) c.self.view_is

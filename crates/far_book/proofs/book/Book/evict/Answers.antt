@@ -22,16 +22,16 @@ returns-in-Ok-clause-far g c _ =
     let near : read_of c.see-found.result ≡ Some (Near x.len x.ds x.place x.marks) = search rules in
     let says = read_says c.see-found.result (Near x.len x.ds x.place x.marks) (omega arith) near in
     let layout : IsPtr (Far x.len x.ds no_marks) = (says.0.0, says.0.1, says.0.2, refl) in
-    goes_far (g.N.Near.view c.args.self.now.near) (g.N.Near.view c.see-found.new.self.near) (g.N.Near.view c.send.new.self.near) c.args.pointer c.see-found.result c.see-found.ensures.kept c.send.ensures.kept
-    (g.N.Near.view c.name_far.new.self.near) x.len x.ds x.place x.marks c.see-found.ensures.found near c.if-marks.false c.requires.evac layout c.in-Ok.ensures.far c.in-Ok.ensures.forgot c.send.ensures.words
+    goes_far (g.N.Hand.view c.args.self.now.near) (g.N.Hand.view c.see-found.new.self.near) (g.N.Hand.view c.send.new.self.near) c.args.pointer c.see-found.result c.see-found.ensures.kept c.send.ensures.kept
+    (g.N.Hand.view c.name_far.new.self.near) x.len x.ds x.place x.marks c.see-found.ensures.found near c.if-marks.false c.requires.evac layout c.in-Ok.ensures.far c.in-Ok.ensures.forgot c.send.ensures.words
 
 pub returns-then-marks-clause-gone : goal.returns-then-marks-clause-gone
 returns-then-marks-clause-gone g c _ =
-    let s = g.N.Near.view c.args.self.now.near in
-    let t = g.N.Near.view c.see-found.new.self.near in
+    let s = g.N.Hand.view c.args.self.now.near in
+    let t = g.N.Hand.view c.see-found.new.self.near in
     let same = c.see-found.ensures.kept in
     let dropped : is_dropped (read_of c.see-found.result) ≡ true = search rules in
-    retired_by g.N.Near.still s t (g.N.Near.view c.retire.new.self.near) c.args.pointer c.see-found.result c.see-found.ensures.found dropped
+    retired_by g.N.Hand.still s t (g.N.Hand.view c.retire.new.self.near) c.args.pointer c.see-found.result c.see-found.ensures.found dropped
     (record { is = same ∙ ap (λ f. record (seen s c.args.pointer c.see-found.result) { word = f }) (sym (ap (λ (x : State). x.word) same)); known = λ a _ _ _. ap (λ (x : State). x.word a) same; headers = λ a _. ap (λ (x : State). x.word a) same })
     c.retire.ensures.kept c.retire.ensures.forgot
     (λ still. ap (λ v. is_dropped (read_of v)) (sym (c.see-found.ensures.exact still)) ∙ dropped)
@@ -39,23 +39,23 @@ returns-then-marks-clause-gone g c _ =
 
 pub returns-in-Err-name_far-clause-gone : goal.returns-in-Err-name_far-clause-gone
 returns-in-Err-name_far-clause-gone g c _ =
-    let u = g.N.Near.view c.send.new.self.near in
-    let v = g.N.Near.view c.retire-in-Err-name_far.new.self.near in
+    let u = g.N.Hand.view c.send.new.self.near in
+    let v = g.N.Hand.view c.retire-in-Err-name_far.new.self.near in
     let word = c.in-Err-name_far.field-0 in
     let kept = c.in-Err-name_far.ensures.kept in
-    is_gone (g.N.Near.view c.args.self.now.near) (g.N.Near.view c.see-found.new.self.near) u c.args.pointer c.see-found.result c.see-found.ensures.kept c.send.ensures.kept
+    is_gone (g.N.Hand.view c.args.self.now.near) (g.N.Hand.view c.see-found.new.self.near) u c.args.pointer c.see-found.result c.see-found.ensures.kept c.send.ensures.kept
     v word c.see-found.ensures.found c.in-Err-name_far.ensures.found c.in-Err-name_far.ensures.dropped
     (c.retire-in-Err-name_far.ensures.kept ∙ ap (λ (x : State). record (retired x c.args.pointer) { word = v.word }) kept)
-    (subst (λ (x : State). Forgets x v) kept c.retire-in-Err-name_far.ensures.forgot) g.N.Near.still
+    (subst (λ (x : State). Forgets x v) kept c.retire-in-Err-name_far.ensures.forgot) g.N.Hand.still
     (λ still. absurd (c.in-Err-name_far.ensures.won still)) (λ still. absurd (c.in-Err-name_far.ensures.won still))
 
 pub returns-in-Err-name_far-clause-freed : goal.returns-in-Err-name_far-clause-freed
 returns-in-Err-name_far-clause-freed g c _ =
-    let u = g.N.Near.view c.send.new.self.near in
-    let v = g.N.Near.view c.retire-in-Err-name_far.new.self.near in
+    let u = g.N.Hand.view c.send.new.self.near in
+    let v = g.N.Hand.view c.retire-in-Err-name_far.new.self.near in
     let word = c.in-Err-name_far.field-0 in
     let kept = c.in-Err-name_far.ensures.kept in
-    gone_keeps (g.N.Near.view c.args.self.now.near) (g.N.Near.view c.see-found.new.self.near) u c.args.pointer c.see-found.result c.see-found.ensures.kept c.send.ensures.kept
+    gone_keeps (g.N.Hand.view c.args.self.now.near) (g.N.Hand.view c.see-found.new.self.near) u c.args.pointer c.see-found.result c.see-found.ensures.kept c.send.ensures.kept
     v word c.see-found.ensures.found c.in-Err-name_far.ensures.found c.in-Err-name_far.ensures.dropped
     (c.retire-in-Err-name_far.ensures.kept ∙ ap (λ (x : State). record (retired x c.args.pointer) { word = v.word }) kept)
     (subst (λ (x : State). Forgets x v) kept c.retire-in-Err-name_far.ensures.forgot)
@@ -90,9 +90,9 @@ pub returns-in-Err-clause-called : goal.returns-in-Err-clause-called
 returns-in-Err-clause-called g c =
     let x = c.in-Near in
     let near : read_of c.see-found.result ≡ Some (Near x.len x.ds x.place x.marks) = search rules in
-    let s = g.N.Near.view c.args.self.now.near in
-    let t = g.N.Near.view c.see-found.new.self.near in
-    let u = g.N.Near.view c.send.new.self.near in
+    let s = g.N.Hand.view c.args.self.now.near in
+    let t = g.N.Hand.view c.see-found.new.self.near in
+    let u = g.N.Hand.view c.send.new.self.near in
     let bytes = bytes_of (data_at u.word x.place) x.len in
     let own = has_bytes s t u c.args.pointer c.see-found.result c.see-found.ensures.kept c.send.ensures.kept x.len x.ds x.place x.marks c.see-found.ensures.found near c.send.ensures.words in
     (bytes, own, subst (λ (d : g.row.D.Denot). g.D.Device.writes d c.args.pointer bytes (Err (fault_of c.in-Err.why)) c.send.new.self.device) c.see-found.ensures.device c.in-Err.ensures.called)
@@ -101,9 +101,9 @@ pub returns-in-Ok-clause-called : goal.returns-in-Ok-clause-called
 returns-in-Ok-clause-called g c =
     let x = c.in-Near in
     let near : read_of c.see-found.result ≡ Some (Near x.len x.ds x.place x.marks) = search rules in
-    let s = g.N.Near.view c.args.self.now.near in
-    let t = g.N.Near.view c.see-found.new.self.near in
-    let u = g.N.Near.view c.send.new.self.near in
+    let s = g.N.Hand.view c.args.self.now.near in
+    let t = g.N.Hand.view c.see-found.new.self.near in
+    let u = g.N.Hand.view c.send.new.self.near in
     let bytes = bytes_of (data_at u.word x.place) x.len in
     let own = has_bytes s t u c.args.pointer c.see-found.result c.see-found.ensures.kept c.send.ensures.kept x.len x.ds x.place x.marks c.see-found.ensures.found near c.send.ensures.words in
     let wrote = subst (λ (d : g.row.D.Denot). g.D.Device.writes d c.args.pointer bytes (Ok tt) c.send.new.self.device) c.see-found.ensures.device c.in_default-send.ensures.called in
@@ -113,9 +113,9 @@ pub returns-in-Err-name_far-clause-called : goal.returns-in-Err-name_far-clause-
 returns-in-Err-name_far-clause-called g c =
     let x = c.in-Near in
     let near : read_of c.see-found.result ≡ Some (Near x.len x.ds x.place x.marks) = search rules in
-    let s = g.N.Near.view c.args.self.now.near in
-    let t = g.N.Near.view c.see-found.new.self.near in
-    let u = g.N.Near.view c.send.new.self.near in
+    let s = g.N.Hand.view c.args.self.now.near in
+    let t = g.N.Hand.view c.see-found.new.self.near in
+    let u = g.N.Hand.view c.send.new.self.near in
     let bytes = bytes_of (data_at u.word x.place) x.len in
     let own = has_bytes s t u c.args.pointer c.see-found.result c.see-found.ensures.kept c.send.ensures.kept x.len x.ds x.place x.marks c.see-found.ensures.found near c.send.ensures.words in
     let wrote = subst (λ (d : g.row.D.Denot). g.D.Device.writes d c.args.pointer bytes (Ok tt) c.send.new.self.device) c.see-found.ensures.device c.in_default-send.ensures.called in

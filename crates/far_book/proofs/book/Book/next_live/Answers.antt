@@ -9,10 +9,10 @@ use Rattle.far_hand.proofs.Closure.{then_came, came_only}
 
 pub names_place-requires : goal.names_place-requires
 names_place-requires g c =
-    let s = g.N.Near.view c.args.self.now.near in
-    let t = g.N.Near.view c.loop-at.self.near in
-    let r = g.N.Near.view c.span_at-span.new.self.near in
-    let u = g.N.Near.view c.see.new.self.near in
+    let s = g.N.Hand.view c.args.self.now.near in
+    let t = g.N.Hand.view c.loop-at.self.near in
+    let r = g.N.Hand.view c.span_at-span.new.self.near in
+    let u = g.N.Hand.view c.see.new.self.near in
     let h = c.loop-at.invariant in
     let below = below_tail s c.args.log c.loop-at.at c.tail-tail.result c.tail-tail.ensures.is c.loop-at-test.true in
     let begins = begun s c.args.log c.loop-at.at h.edge below in
@@ -20,10 +20,10 @@ names_place-requires g c =
 
 pub returns-then-names_place-clause-first : goal.returns-then-names_place-clause-first
 returns-then-names_place-clause-first g c =
-    let s = g.N.Near.view c.args.self.now.near in
-    let t = g.N.Near.view c.loop-at.self.near in
-    let r = g.N.Near.view c.span_at-span.new.self.near in
-    let u = g.N.Near.view c.see.new.self.near in
+    let s = g.N.Hand.view c.args.self.now.near in
+    let t = g.N.Hand.view c.loop-at.self.near in
+    let r = g.N.Hand.view c.span_at-span.new.self.near in
+    let u = g.N.Hand.view c.see.new.self.near in
     let h = c.loop-at.invariant in
     let below = below_tail s c.args.log c.loop-at.at c.tail-tail.result c.tail-tail.ensures.is c.loop-at-test.true in
     let begins = begun s c.args.log c.loop-at.at h.edge below in
@@ -31,10 +31,10 @@ returns-then-names_place-clause-first g c =
 
 pub returns-then-names_place-clause-next : goal.returns-then-names_place-clause-next
 returns-then-names_place-clause-next g c =
-    let s = g.N.Near.view c.args.self.now.near in
-    let t = g.N.Near.view c.loop-at.self.near in
-    let r = g.N.Near.view c.span_at-span.new.self.near in
-    let u = g.N.Near.view c.see.new.self.near in
+    let s = g.N.Hand.view c.args.self.now.near in
+    let t = g.N.Hand.view c.loop-at.self.near in
+    let r = g.N.Hand.view c.span_at-span.new.self.near in
+    let u = g.N.Hand.view c.see.new.self.near in
     let h = c.loop-at.invariant in
     let below = below_tail s c.args.log c.loop-at.at c.tail-tail.result c.tail-tail.ensures.is c.loop-at-test.true in
     let begins = begun s c.args.log c.loop-at.at h.edge below in
@@ -42,10 +42,10 @@ returns-then-names_place-clause-next g c =
 
 pub returns-then-names_place-clause-lies : goal.returns-then-names_place-clause-lies
 returns-then-names_place-clause-lies g c =
-    let s = g.N.Near.view c.args.self.now.near in
-    let t = g.N.Near.view c.loop-at.self.near in
-    let r = g.N.Near.view c.span_at-span.new.self.near in
-    let u = g.N.Near.view c.see.new.self.near in
+    let s = g.N.Hand.view c.args.self.now.near in
+    let t = g.N.Hand.view c.loop-at.self.near in
+    let r = g.N.Hand.view c.span_at-span.new.self.near in
+    let u = g.N.Hand.view c.see.new.self.near in
     let h = c.loop-at.invariant in
     let below = below_tail s c.args.log c.loop-at.at c.tail-tail.result c.tail-tail.ensures.is c.loop-at-test.true in
     let begins = begun s c.args.log c.loop-at.at h.edge below in
@@ -53,10 +53,10 @@ returns-then-names_place-clause-lies g c =
 
 pub returns-then-names_place-clause-found : goal.returns-then-names_place-clause-found
 returns-then-names_place-clause-found g c =
-    let s = g.N.Near.view c.args.self.now.near in
-    let t = g.N.Near.view c.loop-at.self.near in
-    let r = g.N.Near.view c.span_at-span.new.self.near in
-    let u = g.N.Near.view c.see.new.self.near in
+    let s = g.N.Hand.view c.args.self.now.near in
+    let t = g.N.Hand.view c.loop-at.self.near in
+    let r = g.N.Hand.view c.span_at-span.new.self.near in
+    let u = g.N.Hand.view c.see.new.self.near in
     let h = c.loop-at.invariant in
     let below = below_tail s c.args.log c.loop-at.at c.tail-tail.result c.tail-tail.ensures.is c.loop-at-test.true in
     let begins = begun s c.args.log c.loop-at.at h.edge below in
@@ -64,10 +64,10 @@ returns-then-names_place-clause-found g c =
 
 pub returns-then-names_place-clause-others : goal.returns-then-names_place-clause-others
 returns-then-names_place-clause-others g c =
-    let s = g.N.Near.view c.args.self.now.near in
-    let t = g.N.Near.view c.loop-at.self.near in
-    let r = g.N.Near.view c.span_at-span.new.self.near in
-    let u = g.N.Near.view c.see.new.self.near in
+    let s = g.N.Hand.view c.args.self.now.near in
+    let t = g.N.Hand.view c.loop-at.self.near in
+    let r = g.N.Hand.view c.span_at-span.new.self.near in
+    let u = g.N.Hand.view c.see.new.self.near in
     let h = c.loop-at.invariant in
     let below = below_tail s c.args.log c.loop-at.at c.tail-tail.result c.tail-tail.ensures.is c.loop-at-test.true in
     let begins = begun s c.args.log c.loop-at.at h.edge below in
@@ -79,10 +79,10 @@ returns-then-names_place-clause-exact g c still = c.see.ensures.set still ∙ c.
 
 pub loop-at-preserved : goal.loop-at-preserved
 loop-at-preserved g c =
-    let s = g.N.Near.view c.args.self.now.near in
-    let t = g.N.Near.view c.loop-at.self.near in
-    let r = g.N.Near.view c.span_at-span.new.self.near in
-    let u = g.N.Near.view c.see.new.self.near in
+    let s = g.N.Hand.view c.args.self.now.near in
+    let t = g.N.Hand.view c.loop-at.self.near in
+    let r = g.N.Hand.view c.span_at-span.new.self.near in
+    let u = g.N.Hand.view c.see.new.self.near in
     let h = c.loop-at.invariant in
     let below = below_tail s c.args.log c.loop-at.at c.tail-tail.result c.tail-tail.ensures.is c.loop-at-test.true in
     let begins = begun s c.args.log c.loop-at.at h.edge below in
@@ -102,11 +102,11 @@ loop-at-preserved g c =
 pub returns-clause-others : goal.returns-clause-others
 returns-clause-others g c =
     let h = c.loop-at.invariant in
-    λ p. none_more (g.N.Near.view c.args.self.now.near) (g.N.Near.view c.loop-at.self.near) c.args.log c.args.at c.loop-at.at h.edge p (h.others p)
+    λ p. none_more (g.N.Hand.view c.args.self.now.near) (g.N.Hand.view c.loop-at.self.near) c.args.log c.args.at c.loop-at.at h.edge p (h.others p)
 
 pub returns-clause-none : goal.returns-clause-none
 returns-clause-none g c =
-    let s = g.N.Near.view c.args.self.now.near in
+    let s = g.N.Hand.view c.args.self.now.near in
     let h = c.loop-at.invariant in
     h.rest ∙ ended s c.keeps_law.ensures.law c.args.log c.loop-at.at c.tail-tail.result h.edge c.tail-tail.ensures.is (omega (arith, c.loop-at-test.false))
 

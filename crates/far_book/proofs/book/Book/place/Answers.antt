@@ -17,14 +17,14 @@ use Rattle.far_book.proofs.region.Places.{law_then}
 
 pub returns-in_default-clause-none : goal.returns-in_default-clause-none
 returns-in_default-clause-none g c =
-    let same = ap (λ (b : BookOf g.row.N.Denot g.row.D.Denot). g.N.Near.view b.near) c.self.view_is in
-    ap (λ (s : State). room s (size_of c.args.len) true) (sym same) ∙ ap (λ n. room (g.N.Near.view c.self.inside.near) n true) (sym c.size_of-size.ensures)
-    ∙ sym (c.room.ensures (own_part (g.N.Near.view c.self.inside.near)) c.self.invariant.notes) ∙ c.in_default.is
+    let same = ap (λ (b : BookOf g.row.N.Denot g.row.D.Denot). g.N.Hand.view b.near) c.self.view_is in
+    ap (λ (s : State). room s (size_of c.args.len) true) (sym same) ∙ ap (λ n. room (g.N.Hand.view c.self.inside.near) n true) (sym c.size_of-size.ensures)
+    ∙ sym (c.room.ensures (own_part (g.N.Hand.view c.self.inside.near)) c.self.invariant.notes) ∙ c.in_default.is
 
 pub name_blank-requires-clause-layout : goal.name_blank-requires-clause-layout
 name_blank-requires-clause-layout g c =
-    let s = g.N.Near.view c.self.inside.near in
-    let same = ap (λ (b : BookOf g.row.N.Denot g.row.D.Denot). g.N.Near.view b.near) c.self.view_is in
+    let s = g.N.Hand.view c.self.inside.near in
+    let same = ap (λ (b : BookOf g.row.N.Denot g.row.D.Denot). g.N.Hand.view b.near) c.self.view_is in
     let pointer : c.args.pointer < CELLS * s.mutators = subst (λ (t : State). c.args.pointer < CELLS * t.mutators) (sym same) c.requires.pointer in
     let free : s.cell c.args.pointer ≡ 0 = ap (λ (t : State). t.cell c.args.pointer) same ∙ c.requires.free in
     let found : room s (size_of c.args.len) true ≡ Some c.in-Some.place = ap (λ n. room s n true) (sym c.size_of-size.ensures) ∙ sym (c.room.ensures (own_part s) c.self.invariant.notes) ∙ c.in-Some.is in
@@ -32,8 +32,8 @@ name_blank-requires-clause-layout g c =
 
 pub name_blank-requires-clause-next : goal.name_blank-requires-clause-next
 name_blank-requires-clause-next g c =
-    let s = g.N.Near.view c.self.inside.near in
-    let same = ap (λ (b : BookOf g.row.N.Denot g.row.D.Denot). g.N.Near.view b.near) c.self.view_is in
+    let s = g.N.Hand.view c.self.inside.near in
+    let same = ap (λ (b : BookOf g.row.N.Denot g.row.D.Denot). g.N.Hand.view b.near) c.self.view_is in
     let pointer : c.args.pointer < CELLS * s.mutators = subst (λ (t : State). c.args.pointer < CELLS * t.mutators) (sym same) c.requires.pointer in
     let free : s.cell c.args.pointer ≡ 0 = ap (λ (t : State). t.cell c.args.pointer) same ∙ c.requires.free in
     let found : room s (size_of c.args.len) true ≡ Some c.in-Some.place = ap (λ n. room s n true) (sym c.size_of-size.ensures) ∙ sym (c.room.ensures (own_part s) c.self.invariant.notes) ∙ c.in-Some.is in
@@ -41,8 +41,8 @@ name_blank-requires-clause-next g c =
 
 pub name_blank-requires-clause-tail : goal.name_blank-requires-clause-tail
 name_blank-requires-clause-tail g c =
-    let s = g.N.Near.view c.self.inside.near in
-    let same = ap (λ (b : BookOf g.row.N.Denot g.row.D.Denot). g.N.Near.view b.near) c.self.view_is in
+    let s = g.N.Hand.view c.self.inside.near in
+    let same = ap (λ (b : BookOf g.row.N.Denot g.row.D.Denot). g.N.Hand.view b.near) c.self.view_is in
     let pointer : c.args.pointer < CELLS * s.mutators = subst (λ (t : State). c.args.pointer < CELLS * t.mutators) (sym same) c.requires.pointer in
     let free : s.cell c.args.pointer ≡ 0 = ap (λ (t : State). t.cell c.args.pointer) same ∙ c.requires.free in
     let found : room s (size_of c.args.len) true ≡ Some c.in-Some.place = ap (λ n. room s n true) (sym c.size_of-size.ensures) ∙ sym (c.room.ensures (own_part s) c.self.invariant.notes) ∙ c.in-Some.is in
@@ -50,8 +50,8 @@ name_blank-requires-clause-tail g c =
 
 pub take-requires : goal.take-requires
 take-requires g c =
-    let s = g.N.Near.view c.self.inside.near in
-    let same = ap (λ (b : BookOf g.row.N.Denot g.row.D.Denot). g.N.Near.view b.near) c.self.view_is in
+    let s = g.N.Hand.view c.self.inside.near in
+    let same = ap (λ (b : BookOf g.row.N.Denot g.row.D.Denot). g.N.Hand.view b.near) c.self.view_is in
     let pointer : c.args.pointer < CELLS * s.mutators = subst (λ (t : State). c.args.pointer < CELLS * t.mutators) (sym same) c.requires.pointer in
     let free : s.cell c.args.pointer ≡ 0 = ap (λ (t : State). t.cell c.args.pointer) same ∙ c.requires.free in
     let found : room s (size_of c.args.len) true ≡ Some c.in-Some.place = ap (λ n. room s n true) (sym c.size_of-size.ensures) ∙ sym (c.room.ensures (own_part s) c.self.invariant.notes) ∙ c.in-Some.is in
@@ -59,14 +59,14 @@ take-requires g c =
 
 pub invariant_of-self : goal.invariant_of-self
 invariant_of-self g c =
-    let s = g.N.Near.view c.self.inside.near in
-    let same = ap (λ (b : BookOf g.row.N.Denot g.row.D.Denot). g.N.Near.view b.near) c.self.view_is in
+    let s = g.N.Hand.view c.self.inside.near in
+    let same = ap (λ (b : BookOf g.row.N.Denot g.row.D.Denot). g.N.Hand.view b.near) c.self.view_is in
     let pointer : c.args.pointer < CELLS * s.mutators = subst (λ (t : State). c.args.pointer < CELLS * t.mutators) (sym same) c.requires.pointer in
     let free : s.cell c.args.pointer ≡ 0 = ap (λ (t : State). t.cell c.args.pointer) same ∙ c.requires.free in
     let found : room s (size_of c.args.len) true ≡ Some c.in-Some.place = ap (λ n. room s n true) (sym c.size_of-size.ensures) ∙ sym (c.room.ensures (own_part s) c.self.invariant.notes) ∙ c.in-Some.is in
     let able = placeable s c.self.inside.ledger c.self.invariant.notes c.args.pointer c.args.len c.args.ds c.in-Some.place pointer (free_unplaced s c.args.pointer free) c.requires.some c.requires.most c.ranges.ds.fits true found in
     let takes : Takes c.self.inside.ledger c.take.new.self c.args.pointer (size_of c.args.len) c.in-Some.place = subst (λ n. Takes c.self.inside.ledger c.take.new.self c.args.pointer n c.in-Some.place) c.size_of-size.ensures c.take.ensures in
-    let t = g.N.Near.view c.name_blank.new.near in
+    let t = g.N.Hand.view c.name_blank.new.near in
     let held = g.D.Device.contents c.self.inside.device in
     let own = own_named s t c.self.invariant.notes.law c.args.pointer c.args.len c.args.ds c.in-Some.place able free c.name_blank.ensures.kept c.name_blank.ensures.forgot in
     record {
@@ -78,8 +78,8 @@ invariant_of-self g c =
 
 pub returns-clause-room : goal.returns-clause-room
 returns-clause-room g c =
-    let s = g.N.Near.view c.self.inside.near in
-    let same = ap (λ (b : BookOf g.row.N.Denot g.row.D.Denot). g.N.Near.view b.near) c.self.view_is in
+    let s = g.N.Hand.view c.self.inside.near in
+    let same = ap (λ (b : BookOf g.row.N.Denot g.row.D.Denot). g.N.Hand.view b.near) c.self.view_is in
     let pointer : c.args.pointer < CELLS * s.mutators = subst (λ (t : State). c.args.pointer < CELLS * t.mutators) (sym same) c.requires.pointer in
     let free : s.cell c.args.pointer ≡ 0 = ap (λ (t : State). t.cell c.args.pointer) same ∙ c.requires.free in
     let found : room s (size_of c.args.len) true ≡ Some c.in-Some.place = ap (λ n. room s n true) (sym c.size_of-size.ensures) ∙ sym (c.room.ensures (own_part s) c.self.invariant.notes) ∙ c.in-Some.is in
@@ -87,7 +87,7 @@ returns-clause-room g c =
 
 pub returns-clause-ran : goal.returns-clause-ran
 returns-clause-ran g c still =
-    let same = ap (λ (b : BookOf g.row.N.Denot g.row.D.Denot). g.N.Near.view b.near) c.self.view_is in
+    let same = ap (λ (b : BookOf g.row.N.Denot g.row.D.Denot). g.N.Hand.view b.near) c.self.view_is in
     record {
       pointer = c.requires.pointer;
       free = c.requires.free;

@@ -1,27 +1,31 @@
 use Rattle.far_book.proofs.book.Book.send_by.Goals as goal
-use Rattle.std.proofs.Common.{◌<◌, ◌*◌, ap, sym, subst}
+use Rattle.std.proofs.Common.{◌<◌, ◌*◌, Bool, ap, rules, sym, subst}
 use Rattle.far_word.specs.declared.sizes.TheConstants.{CELLS}
+use Rattle.far_word.specs.Bytes.{bytes_of}
 use Rattle.far_word.specs.Sizes.{words_for}
+use Rattle.far_core.specs.events.Copies.{data_at}
 use Rattle.far_core.specs.state.State.{State}
+use Rattle.far_device.specs.Following.{Follows, other_than}
+use Rattle.far_book.specs.book.Asking.{answer_of}
 use Rattle.far_book.specs.book.BookOf.{BookOf}
 use Rattle.far_book.specs.book.Dealing.{Leaves}
 use Rattle.far_book.specs.book.Evicting.{IsQuietIn}
-use Rattle.far_book.proofs.region.Evictions.{learned_stored, quiet_object, sent_order}
+use Rattle.far_book.proofs.region.Evictions.{fault_told, learned_stored, quiet_object, sent_order}
 use Rattle.far_book.proofs.region.Learning.{learned_leaves}
 
 pub read_object-requires-clause-object : goal.read_object-requires-clause-object
 read_object-requires-clause-object g c =
-    let s = g.N.Near.view c.self.inside.near in
-    let same = ap (λ (b : BookOf g.row.N.Denot g.row.D.Denot). g.N.Near.view b.near) c.self.view_is in
+    let s = g.N.Hand.view c.self.inside.near in
+    let same = ap (λ (b : BookOf g.row.N.Denot g.row.D.Denot). g.N.Hand.view b.near) c.self.view_is in
     let pointer : c.args.pointer < CELLS * s.mutators = subst (λ (t : State). c.args.pointer < CELLS * t.mutators) (sym same) c.requires.pointer in
     let near : IsQuietIn s c.args.pointer c.args.len c.args.ds c.args.place = subst (λ (t : State). IsQuietIn t c.args.pointer c.args.len c.args.ds c.args.place) (sym same) c.requires.near in
     quiet_object s c.self.invariant.notes.law c.args.pointer c.args.len c.args.ds c.args.place near pointer
 
 pub invariant_of-self : goal.invariant_of-self
 invariant_of-self g c =
-    let s = g.N.Near.view c.self.inside.near in
-    let t = g.N.Near.view c.read_object.new.near in
-    let same = ap (λ (b : BookOf g.row.N.Denot g.row.D.Denot). g.N.Near.view b.near) c.self.view_is in
+    let s = g.N.Hand.view c.self.inside.near in
+    let t = g.N.Hand.view c.read_object.new.near in
+    let same = ap (λ (b : BookOf g.row.N.Denot g.row.D.Denot). g.N.Hand.view b.near) c.self.view_is in
     let pointer : c.args.pointer < CELLS * s.mutators = subst (λ (t : State). c.args.pointer < CELLS * t.mutators) (sym same) c.requires.pointer in
     let near : IsQuietIn s c.args.pointer c.args.len c.args.ds c.args.place = subst (λ (t : State). IsQuietIn t c.args.pointer c.args.len c.args.ds c.args.place) (sym same) c.requires.near in
     let object = quiet_object s c.self.invariant.notes.law c.args.pointer c.args.len c.args.ds c.args.place near pointer in
@@ -30,20 +34,24 @@ invariant_of-self g c =
     sent_order s t c.self.inside.ledger (g.D.Device.contents c.self.inside.device) (g.D.Device.contents c.write.new.self) (g.D.Device.honest c.self.inside.device) (g.D.Device.honest c.write.new.self)
     c.self.invariant leaves c.args.pointer c.args.len c.args.ds c.args.place near law.others law.honest
 
-pub returns-clause-kept : goal.returns-clause-kept
-returns-clause-kept g c =
-    let s = g.N.Near.view c.self.inside.near in
-    let same = ap (λ (b : BookOf g.row.N.Denot g.row.D.Denot). g.N.Near.view b.near) c.self.view_is in
-    let near : IsQuietIn s c.args.pointer c.args.len c.args.ds c.args.place = subst (λ (t : State). IsQuietIn t c.args.pointer c.args.len c.args.ds c.args.place) (sym same) c.requires.near in
-    let t = g.N.Near.view c.read_object.new.near in
+pub returns : goal.returns
+returns g c =
+    let s = g.N.Hand.view c.self.inside.near in
+    let t = g.N.Hand.view c.read_object.new.near in
+    let same = ap (λ (b : BookOf g.row.N.Denot g.row.D.Denot). g.N.Hand.view b.near) c.self.view_is in
     let pointer : c.args.pointer < CELLS * s.mutators = subst (λ (t : State). c.args.pointer < CELLS * t.mutators) (sym same) c.requires.pointer in
-    let object = quiet_object s c.self.invariant.notes.law c.args.pointer c.args.len c.args.ds c.args.place near pointer in
-    let leaves = learned_leaves s t c.args.place (words_for c.args.len) c.read_object.ensures.kept object.bare c.read_object.ensures.learned in
-    subst (λ (u : State). Leaves u t) same leaves
-
-pub returns-clause-words : goal.returns-clause-words
-returns-clause-words g c =
-    let s = g.N.Near.view c.self.inside.near in
-    let same = ap (λ (b : BookOf g.row.N.Denot g.row.D.Denot). g.N.Near.view b.near) c.self.view_is in
     let near : IsQuietIn s c.args.pointer c.args.len c.args.ds c.args.place = subst (λ (t : State). IsQuietIn t c.args.pointer c.args.len c.args.ds c.args.place) (sym same) c.requires.near in
-    learned_stored s c.self.invariant.notes.law c.args.pointer c.args.len c.args.ds c.args.place near (g.N.Near.view c.read_object.new.near).word c.read_object.ensures.learned
+    let object = quiet_object s c.self.invariant.notes.law c.args.pointer c.args.len c.args.ds c.args.place near pointer in
+    let called : g.D.Device.writes c.args.self.now.device c.args.pointer (bytes_of (data_at t.word c.args.place) c.args.len) (answer_of c.match-write.result) c.write.new.self = search rules in
+    record {
+      kept = subst (λ (u : State). Leaves u t) same (learned_leaves s t c.args.place (words_for c.args.len) c.read_object.ensures.kept object.bare c.read_object.ensures.learned);
+      exact = search rules;
+      reads = search rules;
+      words = learned_stored s c.self.invariant.notes.law c.args.pointer c.args.len c.args.ds c.args.place near t.word c.read_object.ensures.learned;
+      held = search rules;
+      refused = search rules;
+      called = called;
+      order = search rules;
+      follows = subst (λ (fails : Bool). Follows g.D.Device.contents g.D.Device.honest g.D.Device.faults g.D.Device.fails_at_most (other_than c.args.pointer) fails c.args.self.now.device c.write.new.self)
+          (fault_told c.match-write.result) (g.met.D.Device.write_follows _ _ _ _ _ called);
+    }

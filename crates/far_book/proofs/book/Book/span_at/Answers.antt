@@ -15,8 +15,8 @@ use Rattle.far_book.proofs.region.Handed.{since_book}
 
 pub known-head-requires : goal.known-head-requires
 known-head-requires g c =
-    let s = g.N.Near.view c.self.inside.near in
-    let same = ap (λ (b : BookOf g.row.N.Denot g.row.D.Denot). g.N.Near.view b.near) c.self.view_is in
+    let s = g.N.Hand.view c.self.inside.near in
+    let same = ap (λ (b : BookOf g.row.N.Denot g.row.D.Denot). g.N.Hand.view b.near) c.self.view_is in
     let below : c.args.at < s.tail c.args.log = subst (λ (t : State). c.args.at < t.tail c.args.log) (sym same) c.requires.below in
     let begins : s.starts (c.args.log * LOG_WORDS + c.args.at) ≡ true = ap (λ (t : State). t.starts (c.args.log * LOG_WORDS + c.args.at)) same ∙ c.requires.begins in
     let known = headers_known s c.self.invariant.notes.law (c.args.log * LOG_WORDS + c.args.at) begins in
@@ -24,8 +24,8 @@ known-head-requires g c =
 
 pub invariant_of-self : goal.invariant_of-self
 invariant_of-self g c =
-    let s = g.N.Near.view c.self.inside.near in
-    let same = ap (λ (b : BookOf g.row.N.Denot g.row.D.Denot). g.N.Near.view b.near) c.self.view_is in
+    let s = g.N.Hand.view c.self.inside.near in
+    let same = ap (λ (b : BookOf g.row.N.Denot g.row.D.Denot). g.N.Hand.view b.near) c.self.view_is in
     let below : c.args.at < s.tail c.args.log = subst (λ (t : State). c.args.at < t.tail c.args.log) (sym same) c.requires.below in
     let begins : s.starts (c.args.log * LOG_WORDS + c.args.at) ≡ true = ap (λ (t : State). t.starts (c.args.log * LOG_WORDS + c.args.at)) same ∙ c.requires.begins in
     let known = headers_known s c.self.invariant.notes.law (c.args.log * LOG_WORDS + c.args.at) begins in
@@ -33,8 +33,8 @@ invariant_of-self g c =
 
 pub returns-clause-is : goal.returns-clause-is
 returns-clause-is g c =
-    let s = g.N.Near.view c.self.inside.near in
-    let same = ap (λ (b : BookOf g.row.N.Denot g.row.D.Denot). g.N.Near.view b.near) c.self.view_is in
+    let s = g.N.Hand.view c.self.inside.near in
+    let same = ap (λ (b : BookOf g.row.N.Denot g.row.D.Denot). g.N.Hand.view b.near) c.self.view_is in
     let below : c.args.at < s.tail c.args.log = subst (λ (t : State). c.args.at < t.tail c.args.log) (sym same) c.requires.below in
     let begins : s.starts (c.args.log * LOG_WORDS + c.args.at) ≡ true = ap (λ (t : State). t.starts (c.args.log * LOG_WORDS + c.args.at)) same ∙ c.requires.begins in
     let known = headers_known s c.self.invariant.notes.law (c.args.log * LOG_WORDS + c.args.at) begins in
@@ -43,8 +43,8 @@ returns-clause-is g c =
 
 pub returns-clause-pointer : goal.returns-clause-pointer
 returns-clause-pointer g c =
-    let s = g.N.Near.view c.self.inside.near in
-    let same = ap (λ (b : BookOf g.row.N.Denot g.row.D.Denot). g.N.Near.view b.near) c.self.view_is in
+    let s = g.N.Hand.view c.self.inside.near in
+    let same = ap (λ (b : BookOf g.row.N.Denot g.row.D.Denot). g.N.Hand.view b.near) c.self.view_is in
     let below : c.args.at < s.tail c.args.log = subst (λ (t : State). c.args.at < t.tail c.args.log) (sym same) c.requires.below in
     let begins : s.starts (c.args.log * LOG_WORDS + c.args.at) ≡ true = ap (λ (t : State). t.starts (c.args.log * LOG_WORDS + c.args.at)) same ∙ c.requires.begins in
     let known = headers_known s c.self.invariant.notes.law (c.args.log * LOG_WORDS + c.args.at) begins in
@@ -53,8 +53,8 @@ returns-clause-pointer g c =
 
 pub returns-clause-short : goal.returns-clause-short
 returns-clause-short g c =
-    let s = g.N.Near.view c.self.inside.near in
-    let same = ap (λ (b : BookOf g.row.N.Denot g.row.D.Denot). g.N.Near.view b.near) c.self.view_is in
+    let s = g.N.Hand.view c.self.inside.near in
+    let same = ap (λ (b : BookOf g.row.N.Denot g.row.D.Denot). g.N.Hand.view b.near) c.self.view_is in
     let below : c.args.at < s.tail c.args.log = subst (λ (t : State). c.args.at < t.tail c.args.log) (sym same) c.requires.below in
     let begins : s.starts (c.args.log * LOG_WORDS + c.args.at) ≡ true = ap (λ (t : State). t.starts (c.args.log * LOG_WORDS + c.args.at)) same ∙ c.requires.begins in
     let known = headers_known s c.self.invariant.notes.law (c.args.log * LOG_WORDS + c.args.at) begins in
@@ -63,8 +63,8 @@ returns-clause-short g c =
 
 pub returns-clause-next : goal.returns-clause-next
 returns-clause-next g c =
-    let s = g.N.Near.view c.self.inside.near in
-    let same = ap (λ (b : BookOf g.row.N.Denot g.row.D.Denot). g.N.Near.view b.near) c.self.view_is in
+    let s = g.N.Hand.view c.self.inside.near in
+    let same = ap (λ (b : BookOf g.row.N.Denot g.row.D.Denot). g.N.Hand.view b.near) c.self.view_is in
     let below : c.args.at < s.tail c.args.log = subst (λ (t : State). c.args.at < t.tail c.args.log) (sym same) c.requires.below in
     let begins : s.starts (c.args.log * LOG_WORDS + c.args.at) ≡ true = ap (λ (t : State). t.starts (c.args.log * LOG_WORDS + c.args.at)) same ∙ c.requires.begins in
     let known = headers_known s c.self.invariant.notes.law (c.args.log * LOG_WORDS + c.args.at) begins in
@@ -73,8 +73,8 @@ returns-clause-next g c =
 
 pub returns-clause-same : goal.returns-clause-same
 returns-clause-same g c =
-    let s = g.N.Near.view c.self.inside.near in
-    let same = ap (λ (b : BookOf g.row.N.Denot g.row.D.Denot). g.N.Near.view b.near) c.self.view_is in
+    let s = g.N.Hand.view c.self.inside.near in
+    let same = ap (λ (b : BookOf g.row.N.Denot g.row.D.Denot). g.N.Hand.view b.near) c.self.view_is in
     let below : c.args.at < s.tail c.args.log = subst (λ (t : State). c.args.at < t.tail c.args.log) (sym same) c.requires.below in
     let begins : s.starts (c.args.log * LOG_WORDS + c.args.at) ≡ true = ap (λ (t : State). t.starts (c.args.log * LOG_WORDS + c.args.at)) same ∙ c.requires.begins in
     let known = headers_known s c.self.invariant.notes.law (c.args.log * LOG_WORDS + c.args.at) begins in

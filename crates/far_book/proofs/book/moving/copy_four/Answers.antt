@@ -7,58 +7,58 @@ use Rattle.far_hand.proofs.Closure.{then_came}
 pub copy_word-requires-2 : goal.copy_word-requires-2
 copy_word-requires-2 g c =
     let same : c.args.i + 0 ≡ c.args.i = omega arith in
-    let first = subst (λ q. HasCopied (g.N.Near.view c.args.near.now) (g.N.Near.view c.copy_word.new.near) c.args.from c.args.to q 1) same c.copy_word.ensures.copied in
+    let first = subst (λ q. HasCopied (g.N.Hand.view c.args.near.now) (g.N.Hand.view c.copy_word.new.near) c.args.from c.args.to q 1) same c.copy_word.ensures.copied in
     let n = c.args.i in
-    may_more (g.N.Near.view c.args.near.now) (g.N.Near.view c.copy_word.new.near) c.args.from c.args.to n 4 n 1 (n + 1) 1 refl refl (omega arith) c.requires first
+    may_more (g.N.Hand.view c.args.near.now) (g.N.Hand.view c.copy_word.new.near) c.args.from c.args.to n 4 n 1 (n + 1) 1 refl refl (omega arith) c.requires first
 
 pub copy_word-requires-3 : goal.copy_word-requires-3
 copy_word-requires-3 g c =
     let same : c.args.i + 0 ≡ c.args.i = omega arith in
-    let first = subst (λ q. HasCopied (g.N.Near.view c.args.near.now) (g.N.Near.view c.copy_word.new.near) c.args.from c.args.to q 1) same c.copy_word.ensures.copied in
-    let t = g.N.Near.view c.args.near.now in
-    let u = g.N.Near.view c.copy_word-2.new.near in
+    let first = subst (λ q. HasCopied (g.N.Hand.view c.args.near.now) (g.N.Hand.view c.copy_word.new.near) c.args.from c.args.to q 1) same c.copy_word.ensures.copied in
+    let t = g.N.Hand.view c.args.near.now in
+    let u = g.N.Hand.view c.copy_word-2.new.near in
     let n = c.args.i in
     may_more t u c.args.from c.args.to n 4 n 2 (n + 2) 1 refl refl (omega arith) c.requires
-    (copied_both t (g.N.Near.view c.copy_word.new.near) u c.args.from c.args.to n 1 (n + 1) 1 2 refl refl first c.copy_word-2.ensures.copied)
+    (copied_both t (g.N.Hand.view c.copy_word.new.near) u c.args.from c.args.to n 1 (n + 1) 1 2 refl refl first c.copy_word-2.ensures.copied)
 
 pub copy_word-requires-4 : goal.copy_word-requires-4
 copy_word-requires-4 g c =
     let same : c.args.i + 0 ≡ c.args.i = omega arith in
-    let first = subst (λ q. HasCopied (g.N.Near.view c.args.near.now) (g.N.Near.view c.copy_word.new.near) c.args.from c.args.to q 1) same c.copy_word.ensures.copied in
-    let t = g.N.Near.view c.args.near.now in
-    let v = g.N.Near.view c.copy_word-2.new.near in
-    let u = g.N.Near.view c.copy_word-3.new.near in
+    let first = subst (λ q. HasCopied (g.N.Hand.view c.args.near.now) (g.N.Hand.view c.copy_word.new.near) c.args.from c.args.to q 1) same c.copy_word.ensures.copied in
+    let t = g.N.Hand.view c.args.near.now in
+    let v = g.N.Hand.view c.copy_word-2.new.near in
+    let u = g.N.Hand.view c.copy_word-3.new.near in
     let n = c.args.i in
     may_more t u c.args.from c.args.to n 4 n 3 (n + 3) 1 refl refl (omega arith) c.requires
     (copied_both t v u c.args.from c.args.to n 2 (n + 2) 1 3 refl refl
-    (copied_both t (g.N.Near.view c.copy_word.new.near) v c.args.from c.args.to n 1 (n + 1) 1 2 refl refl first c.copy_word-2.ensures.copied)
+    (copied_both t (g.N.Hand.view c.copy_word.new.near) v c.args.from c.args.to n 1 (n + 1) 1 2 refl refl first c.copy_word-2.ensures.copied)
     c.copy_word-3.ensures.copied)
 
 pub returns-clause-copied : goal.returns-clause-copied
 returns-clause-copied g c =
     let same : c.args.i + 0 ≡ c.args.i = omega arith in
-    let first = subst (λ q. HasCopied (g.N.Near.view c.args.near.now) (g.N.Near.view c.copy_word.new.near) c.args.from c.args.to q 1) same c.copy_word.ensures.copied in
-    let t = g.N.Near.view c.args.near.now in
-    let v = g.N.Near.view c.copy_word-2.new.near in
-    let u = g.N.Near.view c.copy_word-3.new.near in
+    let first = subst (λ q. HasCopied (g.N.Hand.view c.args.near.now) (g.N.Hand.view c.copy_word.new.near) c.args.from c.args.to q 1) same c.copy_word.ensures.copied in
+    let t = g.N.Hand.view c.args.near.now in
+    let v = g.N.Hand.view c.copy_word-2.new.near in
+    let u = g.N.Hand.view c.copy_word-3.new.near in
     let n = c.args.i in
-    copied_both t u (g.N.Near.view c.copy_word-4.new.near) c.args.from c.args.to n 3 (n + 3) 1 4 refl refl
+    copied_both t u (g.N.Hand.view c.copy_word-4.new.near) c.args.from c.args.to n 3 (n + 3) 1 4 refl refl
     (copied_both t v u c.args.from c.args.to n 2 (n + 2) 1 3 refl refl
-    (copied_both t (g.N.Near.view c.copy_word.new.near) v c.args.from c.args.to n 1 (n + 1) 1 2 refl refl first c.copy_word-2.ensures.copied)
+    (copied_both t (g.N.Hand.view c.copy_word.new.near) v c.args.from c.args.to n 1 (n + 1) 1 2 refl refl first c.copy_word-2.ensures.copied)
     c.copy_word-3.ensures.copied)
     c.copy_word-4.ensures.copied
 
 pub returns-clause-exact : goal.returns-clause-exact
 returns-clause-exact g c still =
     let same : c.args.i + 0 ≡ c.args.i = omega arith in
-    let first = subst (λ q. CopiedOnly (g.N.Near.view c.args.near.now) (g.N.Near.view c.copy_word.new.near) c.args.from c.args.to q 1) same (c.copy_word.ensures.exact still) in
-    let t = g.N.Near.view c.args.near.now in
-    let v = g.N.Near.view c.copy_word-2.new.near in
-    let u = g.N.Near.view c.copy_word-3.new.near in
+    let first = subst (λ q. CopiedOnly (g.N.Hand.view c.args.near.now) (g.N.Hand.view c.copy_word.new.near) c.args.from c.args.to q 1) same (c.copy_word.ensures.exact still) in
+    let t = g.N.Hand.view c.args.near.now in
+    let v = g.N.Hand.view c.copy_word-2.new.near in
+    let u = g.N.Hand.view c.copy_word-3.new.near in
     let n = c.args.i in
-    only_both t u (g.N.Near.view c.copy_word-4.new.near) c.args.from c.args.to n 3 (n + 3) 1 4 refl refl
+    only_both t u (g.N.Hand.view c.copy_word-4.new.near) c.args.from c.args.to n 3 (n + 3) 1 4 refl refl
     (only_both t v u c.args.from c.args.to n 2 (n + 2) 1 3 refl refl
-    (only_both t (g.N.Near.view c.copy_word.new.near) v c.args.from c.args.to n 1 (n + 1) 1 2 refl refl first (c.copy_word-2.ensures.exact still))
+    (only_both t (g.N.Hand.view c.copy_word.new.near) v c.args.from c.args.to n 1 (n + 1) 1 2 refl refl first (c.copy_word-2.ensures.exact still))
     (c.copy_word-3.ensures.exact still))
     (c.copy_word-4.ensures.exact still)
 

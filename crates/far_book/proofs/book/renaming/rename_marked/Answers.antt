@@ -1,14 +1,18 @@
-use Rattle.std.proofs.Common.{◌∙◌, ap, arith, refl}
+use Rattle.std.proofs.Common.{◌∙◌, ℕ, ap, arith, refl, rules}
+use Rattle.far_core.specs.declared.event.Event.TheVariants.{Name}
+use Rattle.far_core.specs.events.Step.{after}
 use Rattle.far_core.specs.state.State.{State, put}
 use Rattle.far_hand.proofs.Finding.{finds_more, some_found}
+use Rattle.far_book.specs.book.Renaming.{seen}
 use Rattle.far_book.proofs.region.Calls.{put_put, count_more}
+use Rattle.far_book.proofs.region.Renamings.{same_seen}
 use Rattle.far_book.proofs.book.renaming.rename_marked.Goals as goal
 use Rattle.far_hand.proofs.Closure.{then_call}
 
 pub loop-preserved : goal.loop-preserved
 loop-preserved g c =
     let h = c.loop.invariant in
-    let s = g.N.Near.view c.args.near.now in
+    let s = g.N.Hand.view c.args.near.now in
     record {
       fits = c.is_dropped.ensures.fits;
       found = finds_more (s.cell c.args.pointer) c.loop.word c.in-Err.more h.found c.in-Err.ensures.found;
@@ -21,8 +25,32 @@ loop-preserved g c =
       tries = omega (arith, h.tries, count_more c.loop.word c.in-Err.more h.fits c.is_dropped.ensures.fits h.readable c.in-Err.ensures.found c.in-Err.ensures.other);
     }
 
-pub returns-in-Ok-clause-names : goal.returns-in-Ok-clause-names
-returns-in-Ok-clause-names g c = then_call _ _ c.loop.invariant.names ((c.loop.word, refl), c.in-Ok.ensures.made)
+pub returns-in-Ok : goal.returns-in-Ok
+returns-in-Ok g c =
+    let h = c.loop.invariant in
+    let s = g.N.Hand.view c.args.near.now in
+    record {
+      done = search rules;
+      set = λ still. c.in-Ok.ensures.set still
+          ∙ ap (λ (u : State). after u (Name c.args.pointer c.loop.word c.args.new)) h.kept
+          ∙ ap (λ (w : ℕ). after (seen s c.args.pointer w) (Name c.args.pointer w c.args.new)) (h.same still)
+          ∙ ap (λ (u : State). after u (Name c.args.pointer c.args.found c.args.new)) (same_seen s c.args.pointer c.args.found c.args.new c.requires.found);
+      won = λ still. tt;
+      fits = tt;
+      found = tt;
+      dropped = tt;
+      kept = tt;
+      names = then_call _ _ h.names ((c.loop.word, refl), c.in-Ok.ensures.made);
+    }
 
-pub returns-then-is_dropped-clause-names : goal.returns-then-is_dropped-clause-names
-returns-then-is_dropped-clause-names g c = then_call _ _ c.loop.invariant.names ((c.loop.word, refl), c.in-Err.ensures.lost)
+pub returns-then-is_dropped : goal.returns-then-is_dropped
+returns-then-is_dropped g c = record {
+  done = tt;
+  set = λ still. tt;
+  won = c.in-Err.ensures.won;
+  fits = c.is_dropped.ensures.fits;
+  found = search rules;
+  dropped = search rules;
+  kept = search rules;
+  names = then_call _ _ c.loop.invariant.names ((c.loop.word, refl), c.in-Err.ensures.lost);
+}

@@ -36,8 +36,8 @@ first_legal s opened tail logs small = (
 
 pub name-requires-clause-legal : goal.name-requires-clause-legal
 name-requires-clause-legal g c =
-    let s : State = g.N.Near.view c.args.near.now in
-    let e : g.N.Near.view c.put-2.new.self ≡ record s { word = put (put s.word 0 0xa100_0000_0001_0008) 1 0 } =
+    let s : State = g.N.Hand.view c.args.near.now in
+    let e : g.N.Hand.view c.put-2.new.self ≡ record s { word = put (put s.word 0 0xa100_0000_0001_0008) 1 0 } =
     c.put-2.ensures.set ∙ ap (λ (u : State). after u (Put 0 1 0)) c.put.ensures.set in
     subst (λ (u : State). Legal u (Name 0 0 0x8400_0000_0001_0008)) (sym e) (first_legal s c.requires.log.0 c.requires.log.1 c.requires.log.2 c.requires.cell.1)
 

@@ -12,7 +12,7 @@ pub name-requires-clause-legal : goal.name-requires-clause-legal
 name-requires-clause-legal g c =
     let said : read_of c.see-cell.result ≡ Some c.in-Some-Near.field-0 = sym c.read.ensures.exact ∙ c.in-Some-Near.is in
     let dropped : is_dropped (read_of c.see-cell.result) ≡ true = ap is_dropped (said ∙ ap Some c.in-Some-Near.field-0-is) ∙ c.if-marks.true in
-    let small : 0 < CELLS * (g.N.Near.view c.see-cell.new.self).mutators = subst (λ (u : State). 0 < CELLS * u.mutators) (sym c.see-cell.ensures.kept) c.requires in
+    let small : 0 < CELLS * (g.N.Hand.view c.see-cell.new.self).mutators = subst (λ (u : State). 0 < CELLS * u.mutators) (sym c.see-cell.ensures.kept) c.requires in
     (small, (Retires, (dropped, unused), tt))
 
 pub name-requires-clause-known : goal.name-requires-clause-known

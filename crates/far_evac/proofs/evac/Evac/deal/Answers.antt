@@ -11,7 +11,7 @@ use Rattle.far_evac.specs.Leaving.{AsksAs, LeavesAs, LeavesBy, standing}
 use Rattle.far_evac.specs.Moment.{tally_of}
 use Rattle.far_evac.specs.MomentLaw.{has_risen}
 use Rattle.far_evac.specs.Ready.{Ready}
-use Rattle.far_evac.specs.Standing.{held_in}
+use Rattle.far_evac.specs.Standing.{collection_in}
 use Rattle.far_evac.specs.Walk.{way_of}
 use Rattle.far_evac.proofs.Asking.{asks_alike}
 use Rattle.far_evac.proofs.Keeping.{round_found}
@@ -22,64 +22,64 @@ use Rattle.far_evac.proofs.evac.Evac.deal.Goals as goal
 
 pub send_off-requires-clause-pointer : goal.send_off-requires-clause-pointer
 send_off-requires-clause-pointer g c =
-    let here = first_wanted (moment g.N.Near.view c.args.self.now) c.keeps_law.ensures.law c.keeps_law.ensures.moment c.requires.phase c.args.span.p c.requires.first.0 c.requires.first.1 in
-    let wanted = subst (λ (e : EvacOf g.row.N.Denot g.row.D.Denot). Wanted (g.N.Near.view e.book.near) c.args.span.p) (sym c.self.view_is) here in
+    let here = first_wanted (moment g.N.Hand.view c.args.self.now) c.keeps_law.ensures.law c.keeps_law.ensures.moment c.requires.phase c.args.span.p c.requires.first.0 c.requires.first.1 in
+    let wanted = subst (λ (e : EvacOf g.row.N.Denot g.row.D.Denot). Wanted (g.N.Hand.view e.book.near) c.args.span.p) (sym c.self.view_is) here in
     wanted.pointer
 
 pub send_off-requires-clause-quiet : goal.send_off-requires-clause-quiet
 send_off-requires-clause-quiet g c =
-    let here = first_wanted (moment g.N.Near.view c.args.self.now) c.keeps_law.ensures.law c.keeps_law.ensures.moment c.requires.phase c.args.span.p c.requires.first.0 c.requires.first.1 in
-    let wanted = subst (λ (e : EvacOf g.row.N.Denot g.row.D.Denot). Wanted (g.N.Near.view e.book.near) c.args.span.p) (sym c.self.view_is) here in
+    let here = first_wanted (moment g.N.Hand.view c.args.self.now) c.keeps_law.ensures.law c.keeps_law.ensures.moment c.requires.phase c.args.span.p c.requires.first.0 c.requires.first.1 in
+    let wanted = subst (λ (e : EvacOf g.row.N.Denot g.row.D.Denot). Wanted (g.N.Hand.view e.book.near) c.args.span.p) (sym c.self.view_is) here in
     wanted.quiet
 
 pub send_off-requires-clause-evac : goal.send_off-requires-clause-evac
 send_off-requires-clause-evac g c =
-    let here = first_wanted (moment g.N.Near.view c.args.self.now) c.keeps_law.ensures.law c.keeps_law.ensures.moment c.requires.phase c.args.span.p c.requires.first.0 c.requires.first.1 in
-    let wanted = subst (λ (e : EvacOf g.row.N.Denot g.row.D.Denot). Wanted (g.N.Near.view e.book.near) c.args.span.p) (sym c.self.view_is) here in
+    let here = first_wanted (moment g.N.Hand.view c.args.self.now) c.keeps_law.ensures.law c.keeps_law.ensures.moment c.requires.phase c.args.span.p c.requires.first.0 c.requires.first.1 in
+    let wanted = subst (λ (e : EvacOf g.row.N.Denot g.row.D.Denot). Wanted (g.N.Hand.view e.book.near) c.args.span.p) (sym c.self.view_is) here in
     wanted.evac
 
 pub invariant_of-self : goal.invariant_of-self
 invariant_of-self g c =
-    let view = g.N.Near.view in
+    let view = g.N.Hand.view in
     let here = first_wanted (moment view c.args.self.now) c.keeps_law.ensures.law c.keeps_law.ensures.moment c.requires.phase c.args.span.p c.requires.first.0 c.requires.first.1 in
     let wanted = subst (λ (e : EvacOf g.row.N.Denot g.row.D.Denot). Wanted (view e.book.near) c.args.span.p) (sym c.self.view_is) here in
     let law = subst (λ (e : EvacOf g.row.N.Denot g.row.D.Denot). Law (own_part (view e.book.near))) (sym c.self.view_is) c.keeps_law.ensures.law in
     let phase = ap (λ (e : EvacOf g.row.N.Denot g.row.D.Denot). e.phase) c.self.view_is ∙ c.requires.phase in
-    let next = subst (λ (e : EvacOf g.row.N.Denot g.row.D.Denot). IsNextLeaving (view e.book.near) e.held c.args.span) (sym c.self.view_is) c.requires.next in
+    let next = subst (λ (e : EvacOf g.row.N.Denot g.row.D.Denot). IsNextLeaving (view e.book.near) e.collection c.args.span) (sym c.self.view_is) c.requires.next in
     let risen = risen_is_ready (moment view c.args.self.now) c.keeps_law.ensures.law c.keeps_law.ensures.moment (ap has_risen c.requires.phase) in
-    let ready = subst (λ (e : EvacOf g.row.N.Denot g.row.D.Denot). Ready (view e.book.near) e.held) (sym c.self.view_is) risen in
+    let ready = subst (λ (e : EvacOf g.row.N.Denot g.row.D.Denot). Ready (view e.book.near) e.collection) (sym c.self.view_is) risen in
     walks_on (view c.self.inside.book.near) (view c.send_off.new.book.near) c.self.inside.round c.self.invariant phase c.args.span next ready wanted.quiet law c.keeps_law-in-Ok.ensures.law wanted.evac
     c.self.inside.book.order c.send_off.new.book.order c.in-Ok.fate c.in-Ok.ensures.leaves c.size_of.result c.size_of.ensures
 
 pub invariant_of-self-in-Err : goal.invariant_of-self-in-Err
-invariant_of-self-in-Err g c = round_found (g.N.Near.view c.self.inside.book.near) (g.N.Near.view c.send_off.new.book.near) c.self.inside.round c.self.invariant c.in-Err.ensures.kept
+invariant_of-self-in-Err g c = round_found (g.N.Hand.view c.self.inside.book.near) (g.N.Hand.view c.send_off.new.book.near) c.self.inside.round c.self.invariant c.in-Err.ensures.kept
 
 pub returns-in-Ok-clause-dealt : goal.returns-in-Ok-clause-dealt
 returns-in-Ok-clause-dealt g c =
-    let view = g.N.Near.view in
+    let view = g.N.Hand.view in
     let s = view c.args.self.now.book.near in
     let p = c.args.span.p in
     let t = view c.send_off.new.book.near in
     let old = c.args.self.now.book.device in
     let new = c.send_off.new.book.device in
     let leaves = subst (λ (e : EvacOf g.row.N.Denot g.row.D.Denot). LeavesBy (view e.book.near) e.book.order t c.send_off.new.book.order p c.in-Ok.fate) c.self.view_is c.in-Ok.ensures.leaves in
-    let dealt = dealt_known (standing view c.args.self.now c.args.progress.now) (record { core = t; order = c.send_off.new.book.order; phase = Evacuating; held = held_in c.self.inside.round })
-    (tally_of c.count.new.progress) p c.in-Ok.fate leaves refl (ap (λ (e : EvacOf g.row.N.Denot g.row.D.Denot). e.held) c.self.view_is) (ap tally_of c.count.ensures) in
+    let dealt = dealt_known (standing view c.args.self.now c.args.progress.now) (record { core = t; order = c.send_off.new.book.order; phase = Evacuating; collection = collection_in c.self.inside.round })
+    (tally_of c.count.new.progress) p c.in-Ok.fate leaves refl (ap (λ (e : EvacOf g.row.N.Denot g.row.D.Denot). e.collection) c.self.view_is) (ap tally_of c.count.ensures) in
     let asked = subst (λ (e : EvacOf g.row.N.Denot g.row.D.Denot). AsksAs g.row.D.Denot g.D.Device.writes g.D.Device.lets_go (view e.book.near) p c.in-Ok.fate e.book.device new) c.self.view_is c.in-Ok.ensures.asked in
     (leaves.word, leaves.found, dealt, asks_alike g.row.D.Denot g.D.Device.writes g.D.Device.lets_go s p asked.0 (way_of s (read_of leaves.word)) old new (sym asked.1 ∙ leaves.is) asked.2)
 
 pub returns-in-Ok-clause-exact : goal.returns-in-Ok-clause-exact
 returns-in-Ok-clause-exact g c still =
-    let view = g.N.Near.view in
+    let view = g.N.Hand.view in
     let t = view c.send_off.new.book.near in
     let p = c.args.span.p in
     let leaves = subst (λ (e : EvacOf g.row.N.Denot g.row.D.Denot). LeavesAs (view e.book.near) e.book.order t c.send_off.new.book.order p ((view e.book.near).cell p) c.in-Ok.fate) c.self.view_is
     (c.in-Ok.ensures.exact still) in
     dealt_exact (standing view c.args.self.now c.args.progress.now) (record {
-      moment = record { core = t; order = c.send_off.new.book.order; phase = Evacuating; held = held_in c.self.inside.round };
+      moment = record { core = t; order = c.send_off.new.book.order; phase = Evacuating; collection = collection_in c.self.inside.round };
       tally = tally_of c.count.new.progress;
-    }) p ((view c.args.self.now.book.near).cell p) c.in-Ok.fate leaves refl (ap (λ (e : EvacOf g.row.N.Denot g.row.D.Denot). e.held) c.self.view_is) (ap tally_of c.count.ensures)
+    }) p ((view c.args.self.now.book.near).cell p) c.in-Ok.fate leaves refl (ap (λ (e : EvacOf g.row.N.Denot g.row.D.Denot). e.collection) c.self.view_is) (ap tally_of c.count.ensures)
 
 pub returns-in-Err-clause-refused : goal.returns-in-Err-clause-refused
 returns-in-Err-clause-refused g c =
-    subst (λ (e : EvacOf g.row.N.Denot g.row.D.Denot). AsksToEvict g.row.D.Denot g.D.Device.writes g.D.Device.lets_go (g.N.Near.view e.book.near) c.args.span.p (Err c.in-Err.why) e.book.device c.send_off.new.book.device) c.self.view_is c.in-Err.ensures.refused
+    subst (λ (e : EvacOf g.row.N.Denot g.row.D.Denot). AsksToEvict g.row.D.Denot g.D.Device.writes g.D.Device.lets_go (g.N.Hand.view e.book.near) c.args.span.p (Err c.in-Err.why) e.book.device c.send_off.new.book.device) c.self.view_is c.in-Err.ensures.refused

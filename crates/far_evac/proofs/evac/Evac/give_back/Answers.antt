@@ -11,17 +11,17 @@ use Rattle.far_evac.proofs.evac.Evac.give_back.Goals as goal
 pub release-requires-clause-log : goal.release-requires-clause-log
 release-requires-clause-log g c =
     let phase = ap (λ (e : EvacOf g.row.N.Denot g.row.D.Denot). e.phase) c.self.view_is ∙ c.requires.phase in
-    let held = ap (λ (e : EvacOf g.row.N.Denot g.row.D.Denot). e.held) c.self.view_is ∙ c.requires.front.1 in
-    front_range (g.N.Near.view c.self.inside.book.near) c.self.inside.round c.self.invariant c.keeps_law.ensures.law phase c.args.log c.requires.front.0 held
+    let held = ap (λ (e : EvacOf g.row.N.Denot g.row.D.Denot). e.collection) c.self.view_is ∙ c.requires.front.1 in
+    front_range (g.N.Hand.view c.self.inside.book.near) c.self.inside.round c.self.invariant c.keeps_law.ensures.law phase c.args.log c.requires.front.0 held
 
 pub invariant_of-self : goal.invariant_of-self
 invariant_of-self g c =
     let phase = ap (λ (e : EvacOf g.row.N.Denot g.row.D.Denot). e.phase) c.self.view_is ∙ c.requires.phase in
-    let held = ap (λ (e : EvacOf g.row.N.Denot g.row.D.Denot). e.held) c.self.view_is ∙ c.requires.front.1 in
-    let s = g.N.Near.view c.self.inside.book.near in
-    let t = g.N.Near.view c.release.new.self.near in
+    let held = ap (λ (e : EvacOf g.row.N.Denot g.row.D.Denot). e.collection) c.self.view_is ∙ c.requires.front.1 in
+    let s = g.N.Hand.view c.self.inside.book.near in
+    let t = g.N.Hand.view c.release.new.self.near in
     let r = c.self.inside.round in
-    let none = subst (λ (e : EvacOf g.row.N.Denot g.row.D.Denot). live_in (g.N.Near.view e.book.near) c.args.log ≡ []) (sym c.self.view_is) c.requires.none in
+    let none = subst (λ (e : EvacOf g.row.N.Denot g.row.D.Denot). live_in (g.N.Hand.view e.book.near) c.args.log ≡ []) (sym c.self.view_is) c.requires.none in
     let freed = c.release.ensures.vacant.1 (front_vacant s r c.self.invariant c.keeps_law.ensures.law phase c.args.log c.requires.front.0 held none) in
     let knows = given_known s t c.args.log (c.release.ensures.kept freed) (c.release.ensures.forgot freed) c.keeps_law-2.ensures.law in
     ends s t r c.self.invariant c.keeps_law-2.ensures.law phase c.args.log c.requires.front.0 held knows
@@ -29,11 +29,11 @@ invariant_of-self g c =
 pub invariant_of-self-else-self-len : goal.invariant_of-self-else-self-len
 invariant_of-self-else-self-len g c =
     let phase = ap (λ (e : EvacOf g.row.N.Denot g.row.D.Denot). e.phase) c.self.view_is ∙ c.requires.phase in
-    let held = ap (λ (e : EvacOf g.row.N.Denot g.row.D.Denot). e.held) c.self.view_is ∙ c.requires.front.1 in
-    let s = g.N.Near.view c.self.inside.book.near in
-    let t = g.N.Near.view c.release.new.self.near in
+    let held = ap (λ (e : EvacOf g.row.N.Denot g.row.D.Denot). e.collection) c.self.view_is ∙ c.requires.front.1 in
+    let s = g.N.Hand.view c.self.inside.book.near in
+    let t = g.N.Hand.view c.release.new.self.near in
     let r = c.self.inside.round in
-    let none = subst (λ (e : EvacOf g.row.N.Denot g.row.D.Denot). live_in (g.N.Near.view e.book.near) c.args.log ≡ []) (sym c.self.view_is) c.requires.none in
+    let none = subst (λ (e : EvacOf g.row.N.Denot g.row.D.Denot). live_in (g.N.Hand.view e.book.near) c.args.log ≡ []) (sym c.self.view_is) c.requires.none in
     let freed = c.release.ensures.vacant.1 (front_vacant s r c.self.invariant c.keeps_law.ensures.law phase c.args.log c.requires.front.0 held none) in
     let knows = given_known s t c.args.log (c.release.ensures.kept freed) (c.release.ensures.forgot freed) c.keeps_law-2.ensures.law in
     let most = (held_next r phase c.args.log c.requires.front.0 held).1 in
@@ -43,43 +43,43 @@ invariant_of-self-else-self-len g c =
 pub returns-then-self-len-clause-core : goal.returns-then-self-len-clause-core
 returns-then-self-len-clause-core g c =
     let phase = ap (λ (e : EvacOf g.row.N.Denot g.row.D.Denot). e.phase) c.self.view_is ∙ c.requires.phase in
-    let held = ap (λ (e : EvacOf g.row.N.Denot g.row.D.Denot). e.held) c.self.view_is ∙ c.requires.front.1 in
-    let s = g.N.Near.view c.self.inside.book.near in
-    let t = g.N.Near.view c.release.new.self.near in
+    let held = ap (λ (e : EvacOf g.row.N.Denot g.row.D.Denot). e.collection) c.self.view_is ∙ c.requires.front.1 in
+    let s = g.N.Hand.view c.self.inside.book.near in
+    let t = g.N.Hand.view c.release.new.self.near in
     let r = c.self.inside.round in
-    let none = subst (λ (e : EvacOf g.row.N.Denot g.row.D.Denot). live_in (g.N.Near.view e.book.near) c.args.log ≡ []) (sym c.self.view_is) c.requires.none in
+    let none = subst (λ (e : EvacOf g.row.N.Denot g.row.D.Denot). live_in (g.N.Hand.view e.book.near) c.args.log ≡ []) (sym c.self.view_is) c.requires.none in
     let freed = c.release.ensures.vacant.1 (front_vacant s r c.self.invariant c.keeps_law.ensures.law phase c.args.log c.requires.front.0 held none) in
     let knows = given_known s t c.args.log (c.release.ensures.kept freed) (c.release.ensures.forgot freed) c.keeps_law-2.ensures.law in
-    subst (λ (e : EvacOf g.row.N.Denot g.row.D.Denot). Knows (released (g.N.Near.view e.book.near) c.args.log) t) c.self.view_is knows
+    subst (λ (e : EvacOf g.row.N.Denot g.row.D.Denot). Knows (released (g.N.Hand.view e.book.near) c.args.log) t) c.self.view_is knows
 
 pub returns-then-self-len-clause-exact : goal.returns-then-self-len-clause-exact
 returns-then-self-len-clause-exact g c =
     let phase = ap (λ (e : EvacOf g.row.N.Denot g.row.D.Denot). e.phase) c.self.view_is ∙ c.requires.phase in
-    let held = ap (λ (e : EvacOf g.row.N.Denot g.row.D.Denot). e.held) c.self.view_is ∙ c.requires.front.1 in
-    let s = g.N.Near.view c.self.inside.book.near in
-    let t = g.N.Near.view c.release.new.self.near in
+    let held = ap (λ (e : EvacOf g.row.N.Denot g.row.D.Denot). e.collection) c.self.view_is ∙ c.requires.front.1 in
+    let s = g.N.Hand.view c.self.inside.book.near in
+    let t = g.N.Hand.view c.release.new.self.near in
     let r = c.self.inside.round in
-    let none = subst (λ (e : EvacOf g.row.N.Denot g.row.D.Denot). live_in (g.N.Near.view e.book.near) c.args.log ≡ []) (sym c.self.view_is) c.requires.none in
+    let none = subst (λ (e : EvacOf g.row.N.Denot g.row.D.Denot). live_in (g.N.Hand.view e.book.near) c.args.log ≡ []) (sym c.self.view_is) c.requires.none in
     let freed = c.release.ensures.vacant.1 (front_vacant s r c.self.invariant c.keeps_law.ensures.law phase c.args.log c.requires.front.0 held none) in
-    λ still. c.release.ensures.exact still freed ∙ ap (λ (e : EvacOf g.row.N.Denot g.row.D.Denot). released (g.N.Near.view e.book.near) c.args.log) c.self.view_is
+    λ still. c.release.ensures.exact still freed ∙ ap (λ (e : EvacOf g.row.N.Denot g.row.D.Denot). released (g.N.Hand.view e.book.near) c.args.log) c.self.view_is
 
 pub returns-then-self-len-clause-order : goal.returns-then-self-len-clause-order
 returns-then-self-len-clause-order g c =
     let phase = ap (λ (e : EvacOf g.row.N.Denot g.row.D.Denot). e.phase) c.self.view_is ∙ c.requires.phase in
-    let held = ap (λ (e : EvacOf g.row.N.Denot g.row.D.Denot). e.held) c.self.view_is ∙ c.requires.front.1 in
-    let s = g.N.Near.view c.self.inside.book.near in
-    let t = g.N.Near.view c.release.new.self.near in
+    let held = ap (λ (e : EvacOf g.row.N.Denot g.row.D.Denot). e.collection) c.self.view_is ∙ c.requires.front.1 in
+    let s = g.N.Hand.view c.self.inside.book.near in
+    let t = g.N.Hand.view c.release.new.self.near in
     let r = c.self.inside.round in
-    let none = subst (λ (e : EvacOf g.row.N.Denot g.row.D.Denot). live_in (g.N.Near.view e.book.near) c.args.log ≡ []) (sym c.self.view_is) c.requires.none in
+    let none = subst (λ (e : EvacOf g.row.N.Denot g.row.D.Denot). live_in (g.N.Hand.view e.book.near) c.args.log ≡ []) (sym c.self.view_is) c.requires.none in
     let freed = c.release.ensures.vacant.1 (front_vacant s r c.self.invariant c.keeps_law.ensures.law phase c.args.log c.requires.front.0 held none) in
     c.release.ensures.order freed ∙ ap (λ (e : EvacOf g.row.N.Denot g.row.D.Denot). order_without c.args.log e.book.order) c.self.view_is
 
-pub returns-then-self-len-clause-held : goal.returns-then-self-len-clause-held
-returns-then-self-len-clause-held g c =
+pub returns-then-self-len-clause-collection : goal.returns-then-self-len-clause-collection
+returns-then-self-len-clause-collection g c =
     let phase = ap (λ (e : EvacOf g.row.N.Denot g.row.D.Denot). e.phase) c.self.view_is ∙ c.requires.phase in
-    let held = ap (λ (e : EvacOf g.row.N.Denot g.row.D.Denot). e.held) c.self.view_is ∙ c.requires.front.1 in
-    let s = g.N.Near.view c.self.inside.book.near in
-    let t = g.N.Near.view c.release.new.self.near in
+    let held = ap (λ (e : EvacOf g.row.N.Denot g.row.D.Denot). e.collection) c.self.view_is ∙ c.requires.front.1 in
+    let s = g.N.Hand.view c.self.inside.book.near in
+    let t = g.N.Hand.view c.release.new.self.near in
     let r = c.self.inside.round in
     let all : length r.chosen ≤ r.index + 1 = grind (arith, nat_tests, c.len.ensures, c.if-self-len.true) in
     c.requires.front.1 ∙ ap (λ ls. c.args.log ∷ ls) (last_held r phase c.args.log c.requires.front.0 held all)
@@ -87,42 +87,42 @@ returns-then-self-len-clause-held g c =
 pub returns-else-self-len-clause-core : goal.returns-else-self-len-clause-core
 returns-else-self-len-clause-core g c =
     let phase = ap (λ (e : EvacOf g.row.N.Denot g.row.D.Denot). e.phase) c.self.view_is ∙ c.requires.phase in
-    let held = ap (λ (e : EvacOf g.row.N.Denot g.row.D.Denot). e.held) c.self.view_is ∙ c.requires.front.1 in
-    let s = g.N.Near.view c.self.inside.book.near in
-    let t = g.N.Near.view c.release.new.self.near in
+    let held = ap (λ (e : EvacOf g.row.N.Denot g.row.D.Denot). e.collection) c.self.view_is ∙ c.requires.front.1 in
+    let s = g.N.Hand.view c.self.inside.book.near in
+    let t = g.N.Hand.view c.release.new.self.near in
     let r = c.self.inside.round in
-    let none = subst (λ (e : EvacOf g.row.N.Denot g.row.D.Denot). live_in (g.N.Near.view e.book.near) c.args.log ≡ []) (sym c.self.view_is) c.requires.none in
+    let none = subst (λ (e : EvacOf g.row.N.Denot g.row.D.Denot). live_in (g.N.Hand.view e.book.near) c.args.log ≡ []) (sym c.self.view_is) c.requires.none in
     let freed = c.release.ensures.vacant.1 (front_vacant s r c.self.invariant c.keeps_law.ensures.law phase c.args.log c.requires.front.0 held none) in
     let knows = given_known s t c.args.log (c.release.ensures.kept freed) (c.release.ensures.forgot freed) c.keeps_law-2.ensures.law in
-    subst (λ (e : EvacOf g.row.N.Denot g.row.D.Denot). Knows (released (g.N.Near.view e.book.near) c.args.log) t) c.self.view_is knows
+    subst (λ (e : EvacOf g.row.N.Denot g.row.D.Denot). Knows (released (g.N.Hand.view e.book.near) c.args.log) t) c.self.view_is knows
 
 pub returns-else-self-len-clause-exact : goal.returns-else-self-len-clause-exact
 returns-else-self-len-clause-exact g c =
     let phase = ap (λ (e : EvacOf g.row.N.Denot g.row.D.Denot). e.phase) c.self.view_is ∙ c.requires.phase in
-    let held = ap (λ (e : EvacOf g.row.N.Denot g.row.D.Denot). e.held) c.self.view_is ∙ c.requires.front.1 in
-    let s = g.N.Near.view c.self.inside.book.near in
-    let t = g.N.Near.view c.release.new.self.near in
+    let held = ap (λ (e : EvacOf g.row.N.Denot g.row.D.Denot). e.collection) c.self.view_is ∙ c.requires.front.1 in
+    let s = g.N.Hand.view c.self.inside.book.near in
+    let t = g.N.Hand.view c.release.new.self.near in
     let r = c.self.inside.round in
-    let none = subst (λ (e : EvacOf g.row.N.Denot g.row.D.Denot). live_in (g.N.Near.view e.book.near) c.args.log ≡ []) (sym c.self.view_is) c.requires.none in
+    let none = subst (λ (e : EvacOf g.row.N.Denot g.row.D.Denot). live_in (g.N.Hand.view e.book.near) c.args.log ≡ []) (sym c.self.view_is) c.requires.none in
     let freed = c.release.ensures.vacant.1 (front_vacant s r c.self.invariant c.keeps_law.ensures.law phase c.args.log c.requires.front.0 held none) in
-    λ still. c.release.ensures.exact still freed ∙ ap (λ (e : EvacOf g.row.N.Denot g.row.D.Denot). released (g.N.Near.view e.book.near) c.args.log) c.self.view_is
+    λ still. c.release.ensures.exact still freed ∙ ap (λ (e : EvacOf g.row.N.Denot g.row.D.Denot). released (g.N.Hand.view e.book.near) c.args.log) c.self.view_is
 
 pub returns-else-self-len-clause-order : goal.returns-else-self-len-clause-order
 returns-else-self-len-clause-order g c =
     let phase = ap (λ (e : EvacOf g.row.N.Denot g.row.D.Denot). e.phase) c.self.view_is ∙ c.requires.phase in
-    let held = ap (λ (e : EvacOf g.row.N.Denot g.row.D.Denot). e.held) c.self.view_is ∙ c.requires.front.1 in
-    let s = g.N.Near.view c.self.inside.book.near in
-    let t = g.N.Near.view c.release.new.self.near in
+    let held = ap (λ (e : EvacOf g.row.N.Denot g.row.D.Denot). e.collection) c.self.view_is ∙ c.requires.front.1 in
+    let s = g.N.Hand.view c.self.inside.book.near in
+    let t = g.N.Hand.view c.release.new.self.near in
     let r = c.self.inside.round in
-    let none = subst (λ (e : EvacOf g.row.N.Denot g.row.D.Denot). live_in (g.N.Near.view e.book.near) c.args.log ≡ []) (sym c.self.view_is) c.requires.none in
+    let none = subst (λ (e : EvacOf g.row.N.Denot g.row.D.Denot). live_in (g.N.Hand.view e.book.near) c.args.log ≡ []) (sym c.self.view_is) c.requires.none in
     let freed = c.release.ensures.vacant.1 (front_vacant s r c.self.invariant c.keeps_law.ensures.law phase c.args.log c.requires.front.0 held none) in
     c.release.ensures.order freed ∙ ap (λ (e : EvacOf g.row.N.Denot g.row.D.Denot). order_without c.args.log e.book.order) c.self.view_is
 
-pub returns-else-self-len-clause-held : goal.returns-else-self-len-clause-held
-returns-else-self-len-clause-held g c =
+pub returns-else-self-len-clause-collection : goal.returns-else-self-len-clause-collection
+returns-else-self-len-clause-collection g c =
     let phase = ap (λ (e : EvacOf g.row.N.Denot g.row.D.Denot). e.phase) c.self.view_is ∙ c.requires.phase in
-    let held = ap (λ (e : EvacOf g.row.N.Denot g.row.D.Denot). e.held) c.self.view_is ∙ c.requires.front.1 in
-    let s = g.N.Near.view c.self.inside.book.near in
-    let t = g.N.Near.view c.release.new.self.near in
+    let held = ap (λ (e : EvacOf g.row.N.Denot g.row.D.Denot). e.collection) c.self.view_is ∙ c.requires.front.1 in
+    let s = g.N.Hand.view c.self.inside.book.near in
+    let t = g.N.Hand.view c.release.new.self.near in
     let r = c.self.inside.round in
     c.requires.front.1 ∙ ap (λ ls. c.args.log ∷ ls) (sym (held_then r phase c.args.log c.requires.front.0 held))

@@ -22,7 +22,7 @@ use Rattle.far_evac.proofs.Waits.{turns_wait, waiting_of}
 
 pub loop-init : goal.loop-init
 loop-init g c =
-    let m = moment g.N.Near.view c.args.self.now in
+    let m = moment g.N.Hand.view c.args.self.now in
     let none : tally_of c.nothing_done-total.result ≡ nothing = ap tally_of c.nothing_done-total.ensures in
     record {
       made = subst (λ total. Made g.row.D.Denot g.D.Device.writes g.D.Device.lets_go g.D.Device.contents m m 0 total c.args.self.now.book.device c.args.self.now.book.device) (sym none)
@@ -36,9 +36,9 @@ loop-init g c =
 
 pub returns-then-total-clause-asked : goal.returns-then-total-clause-asked
 returns-then-total-clause-asked g c =
-    let m = moment g.N.Near.view c.args.self.now in
-    let u = moment g.N.Near.view c.loop.self in
-    let t = moment g.N.Near.view c.turn_more.new.self in
+    let m = moment g.N.Hand.view c.args.self.now in
+    let u = moment g.N.Hand.view c.loop.self in
+    let t = moment g.N.Hand.view c.turn_more.new.self in
     let new = c.turn_more.new.self.book.device in
     let turn = c.in-Ok.ensures.turns in
     subst (λ end. EndsAsking g.row.D.Denot g.D.Device.writes g.D.Device.lets_go g.D.Device.contents m c.args.turns c.args.alone end t c.args.self.now.book.device new) (ap (λ over. Done (progress_of (tally_of c.in-Ok.sum) over)) (sym c.if-total.true))
@@ -47,9 +47,9 @@ returns-then-total-clause-asked g c =
 
 pub returns-then-total-clause-exact : goal.returns-then-total-clause-exact
 returns-then-total-clause-exact g c still =
-    let m = moment g.N.Near.view c.args.self.now in
-    let u = moment g.N.Near.view c.loop.self in
-    let t = moment g.N.Near.view c.turn_more.new.self in
+    let m = moment g.N.Hand.view c.args.self.now in
+    let u = moment g.N.Hand.view c.loop.self in
+    let t = moment g.N.Hand.view c.turn_more.new.self in
     let total = tally_of c.in-Ok.sum in
     let last = c.in-Ok.ensures.exact still ∙ ap (turned_at t total) c.if-total.true in
     let now = turns_more m c.loop.counter u (tally_of c.loop.total) (turned_at t total true) (c.loop.invariant.exact still) last in
@@ -58,9 +58,9 @@ returns-then-total-clause-exact g c still =
 
 pub loop-preserved : goal.loop-preserved
 loop-preserved g c =
-    let m = moment g.N.Near.view c.args.self.now in
-    let u = moment g.N.Near.view c.loop.self in
-    let t = moment g.N.Near.view c.turn_more.new.self in
+    let m = moment g.N.Hand.view c.args.self.now in
+    let u = moment g.N.Hand.view c.loop.self in
+    let t = moment g.N.Hand.view c.turn_more.new.self in
     let total = tally_of c.in-Ok.sum in
     let turn = c.in-Ok.ensures.turns in
     let goes = c.in-Ok.ensures.goes_on.more c.if-total.false in
@@ -82,9 +82,9 @@ returns-in-Err-clause-follows g c =
 
 pub returns-then-is_waiting-clause-exact : goal.returns-then-is_waiting-clause-exact
 returns-then-is_waiting-clause-exact g c still =
-    let m = moment g.N.Near.view c.args.self.now in
-    let u = moment g.N.Near.view c.loop.self in
-    let t = moment g.N.Near.view c.turn_more.new.self in
+    let m = moment g.N.Hand.view c.args.self.now in
+    let u = moment g.N.Hand.view c.loop.self in
+    let t = moment g.N.Hand.view c.turn_more.new.self in
     let total = tally_of c.in-Ok.sum in
     let before = c.loop.invariant.exact still in
     let now = turns_more m c.loop.counter u (tally_of c.loop.total) (turned_at t total false) before (c.in-Ok.ensures.exact still ∙ ap (turned_at t total) c.if-total.false) in
@@ -92,9 +92,9 @@ returns-then-is_waiting-clause-exact g c still =
 
 pub returns-then-is_waiting-clause-asked : goal.returns-then-is_waiting-clause-asked
 returns-then-is_waiting-clause-asked g c =
-    let m = moment g.N.Near.view c.args.self.now in
-    let u = moment g.N.Near.view c.loop.self in
-    let t = moment g.N.Near.view c.turn_more.new.self in
+    let m = moment g.N.Hand.view c.args.self.now in
+    let u = moment g.N.Hand.view c.loop.self in
+    let t = moment g.N.Hand.view c.turn_more.new.self in
     let old = c.args.self.now.book.device in
     let new = c.turn_more.new.self.book.device in
     let total = tally_of c.in-Ok.sum in
@@ -106,14 +106,14 @@ returns-then-is_waiting-clause-asked g c =
 
 pub returns-clause-asked : goal.returns-clause-asked
 returns-clause-asked g c =
-    asked_limit g.row.D.Denot g.D.Device.writes g.D.Device.lets_go g.D.Device.contents (moment g.N.Near.view c.args.self.now) (moment g.N.Near.view c.loop.self) c.loop.counter (tally_of c.loop.total) c.args.self.now.book.device c.loop.self.book.device c.loop.invariant.made
+    asked_limit g.row.D.Denot g.D.Device.writes g.D.Device.lets_go g.D.Device.contents (moment g.N.Hand.view c.args.self.now) (moment g.N.Hand.view c.loop.self) c.loop.counter (tally_of c.loop.total) c.args.self.now.book.device c.loop.self.book.device c.loop.invariant.made
     c.args.turns c.args.alone c.phase.result c.loop.auto.counter-end (λ _. omega (arith, c.loop.auto.counter-end, c.loop-test.false)) c.phase.ensures
 
 pub returns-in-Err-clause-refused : goal.returns-in-Err-clause-refused
 returns-in-Err-clause-refused g c =
     let stop = c.in-Err.ensures.stops in
-    asked_stop g.row.D.Denot g.D.Device.writes g.D.Device.lets_go g.D.Device.contents (moment g.N.Near.view c.args.self.now) (moment g.N.Near.view c.loop.self) c.loop.counter (tally_of c.loop.total) c.args.self.now.book.device c.loop.self.book.device c.loop.invariant.made
-    c.turn_more.ensures.lawful (moment g.N.Near.view c.turn_more.new.self) stop.0 c.args.turns c.in-Err.fault.so_far c.in-Err.fault.why c.turn_more.new.self.book.device (omega (arith, c.loop-test.true))
+    asked_stop g.row.D.Denot g.D.Device.writes g.D.Device.lets_go g.D.Device.contents (moment g.N.Hand.view c.args.self.now) (moment g.N.Hand.view c.loop.self) c.loop.counter (tally_of c.loop.total) c.args.self.now.book.device c.loop.self.book.device c.loop.invariant.made
+    c.turn_more.ensures.lawful (moment g.N.Hand.view c.turn_more.new.self) stop.0 c.args.turns c.in-Err.fault.so_far c.in-Err.fault.why c.turn_more.new.self.book.device (omega (arith, c.loop-test.true))
     c.in-Err.ensures.leaving stop.1 stop.3 stop.2 stop.4
 
 pub returns-then-total-clause-came : goal.returns-then-total-clause-came

@@ -8,10 +8,10 @@ use Rattle.far_evac.proofs.evac.Evac.mark_up_to.Goals as goal
 
 pub returns-then-not-mark_next-clause-known : goal.returns-then-not-mark_next-clause-known
 returns-then-not-mark_next-clause-known g c =
-    let m = moment g.N.Near.view c.args.self.now in
-    let a = moment g.N.Near.view c.loop-i.self in
-    let b = moment g.N.Near.view c.mark_next.new.self in
-    let once = c.keeps_law.ensures.moment.held_once in
+    let m = moment g.N.Hand.view c.args.self.now in
+    let a = moment g.N.Hand.view c.loop-i.self in
+    let b = moment g.N.Hand.view c.mark_next.new.self in
+    let once = c.keeps_law.ensures.moment.collection_once in
     let fits = λ (q : ℕ). (c.keeps_law.ensures.law.cells.cell_read q).0 in
     let known = c.loop-i.invariant.known in
     let none = over_here m once fits c.loop-i.i a known (sym c.if-not-mark_next.true ∙ c.mark_next.ensures.found) in
@@ -20,10 +20,10 @@ returns-then-not-mark_next-clause-known g c =
 
 pub returns-then-not-mark_next-clause-exact : goal.returns-then-not-mark_next-clause-exact
 returns-then-not-mark_next-clause-exact g c still =
-    let m = moment g.N.Near.view c.args.self.now in
-    let a = moment g.N.Near.view c.loop-i.self in
-    let b = moment g.N.Near.view c.mark_next.new.self in
-    let once = c.keeps_law.ensures.moment.held_once in
+    let m = moment g.N.Hand.view c.args.self.now in
+    let a = moment g.N.Hand.view c.loop-i.self in
+    let b = moment g.N.Hand.view c.mark_next.new.self in
+    let once = c.keeps_law.ensures.moment.collection_once in
     let fits = λ (q : ℕ). (c.keeps_law.ensures.law.cells.cell_read q).0 in
     let known = c.loop-i.invariant.known in
     let none = over_here m once fits c.loop-i.i a known (sym c.if-not-mark_next.true ∙ c.mark_next.ensures.found) in
@@ -31,19 +31,19 @@ returns-then-not-mark_next-clause-exact g c still =
 
 pub returns-then-not-mark_next-clause-count : goal.returns-then-not-mark_next-clause-count
 returns-then-not-mark_next-clause-count g c =
-    let m = moment g.N.Near.view c.args.self.now in
-    let a = moment g.N.Near.view c.loop-i.self in
-    let once = c.keeps_law.ensures.moment.held_once in
+    let m = moment g.N.Hand.view c.args.self.now in
+    let a = moment g.N.Hand.view c.loop-i.self in
+    let once = c.keeps_law.ensures.moment.collection_once in
     let fits = λ (q : ℕ). (c.keeps_law.ensures.law.cells.cell_read q).0 in
     let none = over_here m once fits c.loop-i.i a c.loop-i.invariant.known (sym c.if-not-mark_next.true ∙ c.mark_next.ensures.found) in
     over_count m once fits c.loop-i.i c.args.n none c.loop-i-test.true c.loop-i.invariant.enough
 
 pub loop-i-preserved : goal.loop-i-preserved
 loop-i-preserved g c =
-    let m = moment g.N.Near.view c.args.self.now in
-    let a = moment g.N.Near.view c.loop-i.self in
-    let b = moment g.N.Near.view c.mark_next.new.self in
-    let once = c.keeps_law.ensures.moment.held_once in
+    let m = moment g.N.Hand.view c.args.self.now in
+    let a = moment g.N.Hand.view c.loop-i.self in
+    let b = moment g.N.Hand.view c.mark_next.new.self in
+    let once = c.keeps_law.ensures.moment.collection_once in
     let fits = λ (q : ℕ). (c.keeps_law.ensures.law.cells.cell_read q).0 in
     let h = c.loop-i.invariant in
     record {

@@ -11,10 +11,10 @@ use Rattle.far_heap.proofs.evacuator.Evacuator.nobody_views.Goals as goal
 
 pub returns-clause-leaving : goal.returns-clause-leaving
 returns-clause-leaving g c = subst
-    (λ (e : EvacOf (BookSeat g.row.D.Denot) g.row.D.Denot). e.phase ≡ Evacuating → (x : State) → seat_may_be e.book.near x → NoneViews (among e.held) x)
+    (λ (e : EvacOf (BookSeat g.row.D.Denot) g.row.D.Denot). e.phase ≡ Evacuating → (x : State) → seat_may_be e.book.near x → NoneViews (among e.collection) x)
     c.self.view_is c.nobody_views.ensures.leaving
 
 pub returns-clause-waiting : goal.returns-clause-waiting
 returns-clause-waiting g c = subst
-    (λ (e : EvacOf (BookSeat g.row.D.Denot) g.row.D.Denot). has_risen e.phase ≡ true → (x : State) → seat_may_be e.book.near x → (m : ℕ) → (seat_view e.book.near).clear m ≡ true → ViewsNone (among e.held) m x)
+    (λ (e : EvacOf (BookSeat g.row.D.Denot) g.row.D.Denot). has_risen e.phase ≡ true → (x : State) → seat_may_be e.book.near x → (m : ℕ) → (seat_view e.book.near).clear m ≡ true → ViewsNone (among e.collection) m x)
     c.self.view_is c.nobody_views.ensures.waiting

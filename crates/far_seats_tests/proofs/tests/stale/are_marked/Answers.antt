@@ -6,7 +6,7 @@ use Rattle.far_seats_tests.proofs.tests.stale.are_marked.Goals as goal
 
 pub returns-clause-marked : goal.returns-clause-marked
 returns-clause-marked g c = λ _.
-    let s : State = g.N.Near.view c.loop-pointer.book.near in
+    let s : State = g.N.Hand.view c.loop-pointer.book.near in
     let end = c.loop-pointer.invariant.end in
     let last = c.loop-pointer-test.false in
     let within = c.loop-pointer.auto.pointer-end in

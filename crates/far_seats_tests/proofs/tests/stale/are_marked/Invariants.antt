@@ -6,9 +6,9 @@ use Rattle.far_seats_tests.proofs.tests.stale.are_marked.Given as goal
 
 abbrev pub invariant-loop-pointer : goal.invariant-loop-pointer
 invariant-loop-pointer g l = record {
-  kind : (g.N.Near.view l.book.near).kind ≡ (g.N.Near.view l.fn.book.near).kind;
-  logs : (g.N.Near.view l.book.near).logs ≡ (g.N.Near.view l.fn.book.near).logs;
-  end : l.pointers ≡ CELLS * (g.N.Near.view l.book.near).mutators;
-  few : (g.N.Near.view l.book.near).mutators ≤ 8;
-  marked : (p : ℕ) → p < l.pointer → evac_in (read_of ((g.N.Near.view l.book.near).cell p)) ≡ true;
+  kind : (g.N.Hand.view l.book.near).kind ≡ (g.N.Hand.view l.fn.book.near).kind;
+  logs : (g.N.Hand.view l.book.near).logs ≡ (g.N.Hand.view l.fn.book.near).logs;
+  end : l.pointers ≡ CELLS * (g.N.Hand.view l.book.near).mutators;
+  few : (g.N.Hand.view l.book.near).mutators ≤ 8;
+  marked : (p : ℕ) → p < l.pointer → evac_in (read_of ((g.N.Hand.view l.book.near).cell p)) ≡ true;
 }

@@ -1,0 +1,160 @@
+//! The book's hand on the shared words.
+
+ghost use Rattle.std.specs.Prelude.{◌≡◌, ◌≢◌, ◌+◌, ◌*◌, ◌^◌, ◌<◌, ℕ, true, false, bit_or, IfOk, IfErr};
+ghost use Rattle.far_word.specs.declared.mark.Mark.TheVariants.{Evac};
+ghost use Rattle.far_word.specs.declared.refused.Refused.TheVariants.{EpochsSpent};
+ghost use Rattle.far_word.specs.declared.sizes.TheConstants.{EPOCH_END, LOG_WORDS};
+ghost use Rattle.far_word.specs.Mark.{position};
+ghost use Rattle.far_core.specs.declared.event.Event.{Event as any_event};
+ghost use Rattle.far_core.specs.declared.event.Reply.{Reply as any_reply};
+ghost use Rattle.far_core.specs.events.Legal.{Legal};
+ghost use Rattle.far_core.specs.events.Step.{after};
+ghost use Rattle.far_core.specs.state.Law.{Law};
+ghost use Rattle.far_core.specs.state.Shape.{is_shape};
+ghost use Rattle.far_core.specs.state.State.{State, put};
+ghost use Rattle.far_hand.specs.Cleared.{cleared};
+ghost use Rattle.far_hand.specs.Finds.{Finds};
+ghost use Rattle.far_hand.specs.Known.{IsKnown, Forgets, IsPaddedAt, KnowsLeaving};
+ghost use Rattle.far_hand.specs.MayBe.{Shows, Tells};
+ghost use Rattle.far_hand.specs.Quiet.{IsQuietAt};
+ghost use Rattle.far_hand.specs.Rounds.{IsScopeAt, MayChoose, looked_at};
+ghost use Rattle.far_hand.specs.ShapeOf.{shape_of};
+
+use far_core::{Event, Reply, Shape};
+use far_word::Refused;
+
+/// The book's hand on the shared words. Each call is one event of [`far_core`] on at most one word, takes no memory and
+/// always answers.
+///
+/// Between any two calls, and before each one, owners may add HOT, MOVE or DROP to a cell, change their scope words, and
+/// store into objects that aren't quiet.
+pub trait Hand {
+    /// What the book knows of the state. Kinds, tails, spans, the round and the epoch are its own, and exact; of a cell the
+    /// object, its place and EVAC are exact, and HOT, MOVE and DROP a floor: they are there at least where the view has
+    /// them. A word of a log is the word itself or unknown. Nothing may be concluded from the view's scopes, nor from
+    /// what it says that owners use, hold or remember, but where the hand is still.
+    ghost view: { Self → State };
+
+    /// No word changes but by the book's calls, and the view is the state itself.
+    ghost still: { Type 0 };
+
+    /// Which states the words may be in, until the next call: the one that they are in, and whatever the hand can't tell from it.
+    ghost may_be: { Self → State → Type 0 };
+
+    /// From a hand to the hand after a call: the call was this event, with this answer, and beside it nothing but what owners did.
+    ghost makes: { Self → any_event → any_reply → Self → Type 0 };
+
+    /// The cell of a pointer, as it is found. The view has it from then on.
+    fn see(&mut self, pointer: u16) -> u64
+        requires legal { Legal (view self.old) (Event.See pointer) }
+        ensures found { Finds ((view self.old).cell pointer) result }
+        ensures kept { view self.new ≡ record (view self.old) { cell = put (view self.old).cell pointer result } }
+        ensures exact { still → result ≡ (view self.old).cell pointer }
+        ensures set { still → view self.new ≡ after (view self.old) (Event.See pointer) }
+        ensures made { makes self.old (Event.See pointer) (Reply.Word result) self.new };
+
+    /// A near pointer whose place lies in a sealed log gets EVAC: its word before, as it was found. The view has that word
+    /// with EVAC from then on.
+    fn mark(&mut self, pointer: u16) -> u64
+        requires legal { Legal (view self.old) (Event.Mark pointer) }
+        ensures found { Finds ((view self.old).cell pointer) result }
+        ensures kept { view self.new ≡ record (view self.old) { cell = put (view self.old).cell pointer (bit_or result (2 ^ position Evac)) } }
+        ensures exact { still → result ≡ (view self.old).cell pointer }
+        ensures set { still → view self.new ≡ after (view self.old) (Event.Mark pointer) }
+        ensures made { makes self.old (Event.Mark pointer) (Reply.Word result) self.new };
+
+    /// EVAC is taken from a near pointer, and the log that its place lies in leaves the round: its word before, as it was
+    /// found. Words may be forgotten then.
+    fn clear(&mut self, pointer: u16) -> u64
+        requires legal { Legal (view self.old) (Event.Clear pointer) }
+        ensures found { Finds ((view self.old).cell pointer) result }
+        ensures kept { view self.new ≡ record (cleared (view self.old) pointer result) { word = (view self.new).word } }
+        ensures forgot { Forgets (view self.old) (view self.new) }
+        ensures exact { still → result ≡ (view self.old).cell pointer }
+        ensures set { still → view self.new ≡ after (view self.old) (Event.Clear pointer) }
+        ensures made { makes self.old (Event.Clear pointer) (Reply.Word result) self.new };
+
+    /// Word `at` of a log. With `free` the log, which is sealed and has no live span, is given back too.
+    ///
+    /// The word is known from then on where it was, or where the view shows it to be a data word of a quiet object. As a
+    /// log is given back, words may be forgotten.
+    fn get(&mut self, log: u8, at: u16, free: bool) -> u64
+        requires legal { Legal (view self.old) (Event.Get log at free) }
+        ensures known { IsKnown ((view self.old).word (log * LOG_WORDS + at)) → result ≡ (view self.old).word (log * LOG_WORDS + at) }
+        ensures padding { IsPaddedAt (view self.old) (log * LOG_WORDS + at) result }
+        ensures read { free ≡ false → IsQuietAt (view self.old) (log * LOG_WORDS + at) → view self.new ≡ record (view self.old) { word = put (view self.old).word (log * LOG_WORDS + at) result } }
+        ensures kept { free ≡ false → IsKnown ((view self.old).word (log * LOG_WORDS + at)) → view self.new ≡ view self.old }
+        ensures here { free ≡ false → IsKnown ((view self.new).word (log * LOG_WORDS + at)) → (view self.new).word (log * LOG_WORDS + at) ≡ result }
+        ensures others { free ≡ false → (a : ℕ) → a ≢ log * LOG_WORDS + at → (view self.new).word a ≡ (view self.old).word a }
+        ensures forgot { free ≡ true → Forgets (view self.old) (view self.new) }
+        ensures rest { view self.new ≡ record (after (view self.old) (Event.Get log at free)) { word = (view self.new).word } }
+        ensures exact { still → result ≡ (view self.old).word (log * LOG_WORDS + at) }
+        ensures set { still → view self.new ≡ after (view self.old) (Event.Get log at free) }
+        ensures made { makes self.old (Event.Get log at free) (Reply.Word result) self.new };
+
+    /// Word `at` of a log that is open or free, at or past its tail, becomes `word`, and is known from then on.
+    fn put(&mut self, log: u8, at: u16, word: u64)
+        requires legal { Legal (view self.old) (Event.Put log at word) }
+        ensures set { view self.new ≡ after (view self.old) (Event.Put log at word) }
+        ensures made { makes self.old (Event.Put log at word) Reply.Done self.new };
+
+    /// The cell of a pointer goes from `old`, the word last found there, to `new`, where it still is `old`; words may be
+    /// forgotten then. Else `Err` with the word that was found, and nothing has changed. Of an object that goes far all data
+    /// words are known before.
+    fn name(&mut self, pointer: u16, old: u64, new: u64) -> Result<(), u64>
+        requires seen { old ≡ (view self.old).cell pointer }
+        requires legal { Legal (view self.old) (Event.Name pointer old new) }
+        requires known { KnowsLeaving (view self.old) old new }
+        ensures done { IfOk result (λ _. view self.new ≡ record (after (view self.old) (Event.Name pointer old new)) { word = (view self.new).word }) }
+        ensures forgot { IfOk result (λ _. Forgets (view self.old) (view self.new)) }
+        ensures other { IfErr result (λ found. found ≢ old) }
+        ensures found { IfErr result (λ found. Finds old found) }
+        ensures kept { IfErr result (λ found. view self.new ≡ record (view self.old) { cell = put (view self.old).cell pointer found }) }
+        ensures won { still → IfErr result (λ _. ⊥) }
+        ensures set { still → view self.new ≡ after (view self.old) (Event.Name pointer old new) }
+        ensures made { IfOk result (λ _. makes self.old (Event.Name pointer old new) Reply.Done self.new) }
+        ensures lost { IfErr result (λ found. makes self.old (Event.Name pointer old new) (Reply.Word found) self.new) };
+
+    /// The epoch rises by 1, and a round begins of the logs whose bit is 1 in `logs`: the new epoch. Words may be forgotten
+    /// then. `Err` with [`Refused::EpochsSpent`] where there is no later epoch, and nothing has changed.
+    fn advance(&mut self, logs: u64) -> Result<u64, Refused>
+        requires chosen { MayChoose (view self.old) logs }
+        ensures epoch { IfOk result (λ epoch. (epoch ≡ (view self.old).epoch + 1) × (epoch < EPOCH_END)) }
+        ensures kept { IfOk result (λ _. view self.new ≡ record (after (view self.old) (Event.Advance logs)) { word = (view self.new).word }) }
+        ensures forgot { IfOk result (λ _. Forgets (view self.old) (view self.new)) }
+        ensures refused { IfErr result (λ why. (why ≡ EpochsSpent) × ((view self.old).epoch + 1 ≡ EPOCH_END)) }
+        ensures unchanged { IfErr result (λ _. view self.new ≡ view self.old) }
+        ensures set { still → IfOk result (λ _. view self.new ≡ after (view self.old) (Event.Advance logs)) }
+        ensures made { IfOk result (λ epoch. makes self.old (Event.Advance logs) (Reply.Epoch epoch) self.new) }
+        ensures spent { IfErr result (λ _. makes self.old (Event.Advance logs) Reply.Refused self.new) };
+
+    /// The scope word of an owner, as it is found. The owner is seen clear in the round from then on where the word says closed,
+    /// or open at the round's epoch or later.
+    fn look(&mut self, owner: u8) -> u64
+        requires legal { Legal (view self.old) (Event.Look owner) }
+        ensures scope { IsScopeAt (view self.old).epoch result }
+        ensures kept { view self.new ≡ looked_at (view self.old) owner result }
+        ensures exact { still → result ≡ (view self.old).scope owner }
+        ensures set { still → view self.new ≡ after (view self.old) (Event.Look owner) }
+        ensures made { makes self.old (Event.Look owner) (Reply.Word result) self.new }
+        ensures saw { ∥ ((x : State) × may_be self.new x × (x.scope owner ≡ result)) ∥₁ };
+
+    /// How large the heap is, and its epoch now.
+    fn shape(&self) -> Shape
+        ensures is { result ≡ shape_of (view self.now) }
+        ensures range { is_shape result ≡ true };
+
+    /// Each state that the words may be in keeps the whole law of the core, and the view is right about it: so whoever it says was seen clear views
+    /// nothing there in the logs of the round.
+    ghost lawful: { (s : Self) (x : State) → may_be s x → Law x };
+
+    ghost shown: { (s : Self) (x : State) → may_be s x → Shows (view s) x };
+
+    /// There is one at every moment; where the hand is still, it is the view and no other.
+    ghost there: { (s : Self) → ∥ ((x : State) × may_be s x) ∥₁ };
+
+    ghost alone: { (s : Self) → still → (x : State) → may_be s x → x ≡ view s };
+
+    /// What a call tells of the words: its event led from a state that they might be in before it to one that they may be in after it.
+    ghost told: { (s t : Self) (e : any_event) (r : any_reply) → makes s e r t → ∥ Tells (may_be s) (may_be t) e r ∥₁ };
+}
