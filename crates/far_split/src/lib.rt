@@ -1,0 +1,8 @@
+//! A split trace is run: each mutator's lines in a thread of its own on one running heap, rounds and inquiries beside them in the book's.
+#![tactic(auto)]
+
+mod gate;
+mod told;
+
+pub use gate::{Gate, NoGate};
+pub use told::Told;
