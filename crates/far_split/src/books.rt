@@ -1,0 +1,73 @@
+//! The book's lines.
+
+ghost use Rattle.std.specs.Prelude.{◌≡◌, ℕ, true, map, IfOk};
+ghost use Rattle.std.specs.List.{AllByRecursion};
+ghost use Rattle.far_text.specs.Command.{Command as AnyCommand, as_command};
+ghost use Rattle.far_text.specs.SplitText.{AreOwn};
+ghost use Rattle.far_text.specs.Threads.{OfBook, is_of};
+ghost use Rattle.far_replay.specs.Reply.{IsShort};
+ghost use Rattle.far_split.specs.BookTold.{BookTold, TellsLine};
+ghost use Rattle.far_split.specs.Told.{as_reply};
+
+use crate::gate::{Gate, THE_BOOK};
+use crate::inquiries::inquire;
+use crate::mutators::Stop;
+use crate::rounds::make_round;
+use crate::told::Told;
+use far_device::MemDevice;
+use far_heap::{Heap, HeapName};
+use far_text::{Command, Lines, Step};
+use std::alloc::Global;
+use std::sync::Wait;
+
+// Makes a line of the book's.
+fn make_line<K: HeapName, R: Wait>(
+    alloc: Global,
+    rt: &R,
+    heap: &Heap<K, MemDevice>,
+    command: Command<'_>,
+) -> Told
+    requires own { is_of OfBook (as_command command) ≡ true }
+    ensures told { TellsLine K.heap (as_command command.entry) (as_reply result) }
+    ensures short { IsShort (as_reply result) }
+{
+    match command {
+        Command::Book(inquiry) => inquire(alloc, rt, heap, inquiry),
+        Command::Evacuator(
+            Step::Round {
+                policy,
+                most,
+                turns,
+            },
+        ) => make_round(rt, heap, policy, most, turns),
+        _ => unreachable!(),
+    }
+}
+
+/// Makes the book's lines, in order, asking the gate before each: what each was answered.
+pub(crate) fn make_book_lines<K: HeapName, R: Wait, G: Gate>(
+    alloc: Global,
+    rt: &R,
+    heap: &Heap<K, MemDevice>,
+    lines: &Lines<'_>,
+    gate: &G,
+) -> Result<Vec<Told>, Stop>
+    requires own { AreOwn K.heap.mutators OfBook lines.now }
+    ensures told { IfOk result (λ told. BookTold K.heap (map (λ (line : ℕ × AnyCommand). line.1) lines.now) (map as_reply told.items)) }
+    ensures short { IfOk result (λ told. AllByRecursion IsShort (map as_reply told.items)) }
+{
+    let Ok(mut told) = Vec::with_capacity(alloc, lines.len()) else {
+        return Err(Stop::Memory);
+    };
+    let mut turn = 0u32;
+    for at in 0..lines.len() {
+        if !gate.before(THE_BOOK, turn) {
+            return Err(Stop::Gate);
+        }
+        let (_, command) = lines.at(at);
+        told.push_reserved(make_line(alloc, rt, heap, command));
+        gate.after(THE_BOOK, turn);
+        turn = turn.saturating_add(1);
+    }
+    Ok(told)
+}

@@ -1,0 +1,44 @@
+//! A stub.
+
+ghost use Rattle.std.specs.Prelude.{◌≡◌, ℕ, true, map, IfOk};
+ghost use Rattle.std.specs.List.{AllByRecursion};
+ghost use Rattle.far_text.specs.Command.{Command};
+ghost use Rattle.far_text.specs.SplitText.{AreOwn};
+ghost use Rattle.far_text.specs.Threads.{OfMutator};
+ghost use Rattle.far_heap.specs.Mine.{newcomer};
+ghost use Rattle.far_replay.specs.Alone.{nothing};
+ghost use Rattle.far_replay.specs.Reply.{IsShort};
+ghost use Rattle.far_split.specs.Here.{AloneHere};
+ghost use Rattle.far_split.specs.Told.{as_reply};
+
+use crate::gate::Gate;
+use crate::told::Told;
+use far_device::MemDevice;
+use far_heap::{HeapName, Mutator};
+use far_text::Lines;
+use std::alloc::Global;
+use std::sync::Wait;
+
+/// Why a thread ended before its last line.
+#[derive(Clone, Copy)]
+pub(crate) enum Stop {
+    Gate,
+    Memory,
+}
+
+// Makes a new mutator's lines, in order, asking the gate before each: what each was answered.
+pub(crate) fn make_lines<K: HeapName, R: Wait, G: Gate>(
+    alloc: Global,
+    rt: &R,
+    mutator: Mutator<K, MemDevice>,
+    number: u8,
+    lines: &Lines<'_>,
+    gate: &G,
+) -> Result<Vec<Told>, Stop>
+    requires new { mutator ≡ newcomer K.heap.table number true }
+    requires own { AreOwn K.heap.mutators (OfMutator number) lines.now }
+    ensures told { IfOk result (λ told. AloneHere number nothing (map (λ (line : ℕ × Command). line.1) lines.now) (map as_reply told.items)) }
+    ensures short { IfOk result (λ told. AllByRecursion IsShort (map as_reply told.items)) }
+{
+    Err(Stop::Memory)
+}
