@@ -1,0 +1,3 @@
+pub mod Joining
+pub mod Printing
+pub mod Telling
