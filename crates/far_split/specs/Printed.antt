@@ -17,7 +17,11 @@ abbrev pub parts_text : ℕ → List (List Reply) → List ℕ
 parts_text number [] = []
 parts_text number (replies ∷ others) = part_text number replies ++ parts_text (number + 1) others
 
+-- the book's line with its replies
+abbrev pub book_text : List Reply → List ℕ
+book_text replies = codes "book\n" ++ flat_map reply_text replies
+
 -- each mutator's line and replies, by number, then the book's; or the refusal alone
 abbrev pub split_text : Joined → List ℕ
 split_text (Refused why) = refusal_text why
-split_text (Ran mutators book) = parts_text 0 mutators ++ codes "book\n" ++ flat_map reply_text book
+split_text (Ran mutators book) = parts_text 0 mutators ++ book_text book
