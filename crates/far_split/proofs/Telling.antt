@@ -46,4 +46,4 @@ pub homes_few : (s : State) → Law (own_part s) → (homes : List Housed) → h
 homes_few s law homes are = omega (arith, ap length are, few_from s 0 (CELLS * s.mutators), law.shape.few_mutators)
 
 pub logs_few : (m : Moment) → Law (own_part m.core) → (logs : List LogState) → logs ≡ logs_of m → length logs < 65536
-logs_few m law logs are = omega (arith, ap length are, length-map-range_with_len (λ l. record { kind = kind_in m l; row = row_of m.core l }) 0 m.core.logs, law.shape.few_logs)
+logs_few m law logs are = omega (arith, ap length are, length-map-range_with_len {X = LogState} (λ l. record { kind = kind_in m l; row = row_of m.core l }) 0 m.core.logs, law.shape.few_logs)

@@ -14,7 +14,7 @@ use Rattle.far_replay.specs.Alone.{nothing}
 use Rattle.far_replay.specs.Answers.{shape_of}
 use Rattle.far_replay.specs.Reply.{IsShort, Reply}
 use Rattle.far_split.specs.BookTold.{BookTold}
-use Rattle.far_split.specs.Here.{AloneHere}
+use Rattle.far_split.specs.Here.{AloneHere, commands_of}
 use Rattle.far_split.specs.Told.{as_reply}
 use Rattle.far_split.specs.declared.mutators.Stop.{Stop}
 use Rattle.far_split.specs.declared.mutators.Stop.TheVariants as stops
@@ -46,7 +46,7 @@ AreShort (Ran mutators book) = AllByRecursion (AllByRecursion IsShort) mutators 
 -- ---- what they follow from
 -- the commands of a thread's own lines
 abbrev pub commands_in : Thread → List (ℕ × Command) → List Command
-commands_in thread lines = map (λ (line : ℕ × Command). line.1) (lines_in thread lines)
+commands_in thread lines = commands_of (lines_in thread lines)
 
 -- a heap of this size, which is honest, answered these lines: for each of its mutators, and for none else, there are replies, which follow from the mutator's own
 -- lines, whatever other threads did meanwhile; and the book's were answered on it

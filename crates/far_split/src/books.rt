@@ -1,12 +1,13 @@
 //! The book's lines.
 
-ghost use Rattle.std.specs.Prelude.{◌≡◌, ℕ, true, map, IfOk};
+ghost use Rattle.std.specs.Prelude.{◌≡◌, true, map, IfOk};
 ghost use Rattle.std.specs.List.{AllByRecursion};
-ghost use Rattle.far_text.specs.Command.{Command as AnyCommand, as_command};
+ghost use Rattle.far_text.specs.Command.{as_command};
 ghost use Rattle.far_text.specs.SplitText.{AreOwn};
 ghost use Rattle.far_text.specs.Threads.{OfBook, is_of};
 ghost use Rattle.far_replay.specs.Reply.{IsShort};
 ghost use Rattle.far_split.specs.BookTold.{BookTold, TellsLine};
+ghost use Rattle.far_split.specs.Here.{commands_of};
 ghost use Rattle.far_split.specs.Told.{as_reply};
 
 use crate::gate::{Gate, THE_BOOK};
@@ -53,7 +54,7 @@ pub(crate) fn make_book_lines<K: HeapName, R: Wait, G: Gate>(
     gate: &G,
 ) -> Result<Vec<Told>, Stop>
     requires own { AreOwn K.heap.mutators OfBook lines.now }
-    ensures told { IfOk result (λ told. BookTold K.heap (map (λ (line : ℕ × AnyCommand). line.1) lines.now) (map as_reply told.items)) }
+    ensures told { IfOk result (λ told. BookTold K.heap (commands_of lines.now) (map as_reply told.items)) }
     ensures short { IfOk result (λ told. AllByRecursion IsShort (map as_reply told.items)) }
 {
     let Ok(mut told) = Vec::with_capacity(alloc, lines.len()) else {

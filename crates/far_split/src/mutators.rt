@@ -1,14 +1,13 @@
 //! A stub.
 
-ghost use Rattle.std.specs.Prelude.{◌≡◌, ℕ, true, map, IfOk};
+ghost use Rattle.std.specs.Prelude.{◌≡◌, true, map, IfOk};
 ghost use Rattle.std.specs.List.{AllByRecursion};
-ghost use Rattle.far_text.specs.Command.{Command};
 ghost use Rattle.far_text.specs.SplitText.{AreOwn};
 ghost use Rattle.far_text.specs.Threads.{OfMutator};
 ghost use Rattle.far_heap.specs.Mine.{newcomer};
 ghost use Rattle.far_replay.specs.Alone.{nothing};
 ghost use Rattle.far_replay.specs.Reply.{IsShort};
-ghost use Rattle.far_split.specs.Here.{AloneHere};
+ghost use Rattle.far_split.specs.Here.{AloneHere, commands_of};
 ghost use Rattle.far_split.specs.Told.{as_reply};
 
 use crate::gate::Gate;
@@ -37,7 +36,7 @@ pub(crate) fn make_lines<K: HeapName, R: Wait, G: Gate>(
 ) -> Result<Vec<Told>, Stop>
     requires new { mutator ≡ newcomer K.heap.table number true }
     requires own { AreOwn K.heap.mutators (OfMutator number) lines.now }
-    ensures told { IfOk result (λ told. AloneHere number nothing (map (λ (line : ℕ × Command). line.1) lines.now) (map as_reply told.items)) }
+    ensures told { IfOk result (λ told. AloneHere number nothing (commands_of lines.now) (map as_reply told.items)) }
     ensures short { IfOk result (λ told. AllByRecursion IsShort (map as_reply told.items)) }
 {
     Err(Stop::Memory)

@@ -1,6 +1,7 @@
 //! Rounds that the book's lines ask for, beside the mutators.
 
-ghost use Rattle.std.specs.Prelude.{◌≡◌, ℕ, IfErr, IfOk};
+ghost use Rattle.std.specs.Prelude.{◌≡◌, ◌⊎◌, true, IfErr, IfOk};
+ghost use Rattle.far_word.specs.declared.refused.Refused.TheVariants.{Device as Failed, Memory};
 ghost use Rattle.far_text.specs.Command.{Evacuator, Round, as_policy};
 ghost use Rattle.far_replay.specs.Reply.{IsShort};
 ghost use Rattle.far_split.specs.BookTold.{EndsRound, StopsRound, TellsLine};
@@ -34,7 +35,9 @@ fn run_by<K: HeapName, R: Wait>(
 }
 
 // Whether a round was refused in one of its turns, and not while its logs were chosen: a turn leaves it standing, and no other thread makes rounds.
-fn stands_after<K: HeapName, R: Wait>(rt: &R, heap: &Heap<K, MemDevice>, why: Refused) -> bool {
+fn stands_after<K: HeapName, R: Wait>(rt: &R, heap: &Heap<K, MemDevice>, why: Refused) -> bool
+    ensures { result ≡ true → (why ≡ Memory) ⊎ (why ≡ Failed) }
+{
     matches!(why, Refused::Memory | Refused::Device) && heap.book(rt).phase() != Phase::Idle
 }
 
