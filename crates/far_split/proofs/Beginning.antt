@@ -2,6 +2,7 @@
 use Rattle.std.proofs.Common.{◌≡◌, ◌≢◌, ◌⊎◌, inl, inr, ℕ, suc, ◌+◌, ◌-◌, ◌<◌, ◌≤◌, true, List, [], ◌∷◌, ◌++◌, length, length-append, get_or, ap, sym, subst, ◌∙◌, refl, arith}
 use Rattle.std.specs.Prelude.{map}
 use Rattle.std.specs.List.{range_with_len, remove}
+use Rattle.std.proofs.lemmas.Bool.{cases_lt}
 use Rattle.std.proofs.lemmas.List.{get_or_append_left, get_or_push}
 use Rattle.far_heap.specs.HeapId.{HeapId}
 use Rattle.far_heap.specs.Mine.{Mine, newcomer}
@@ -32,12 +33,12 @@ pub record JobsBefore {K : Type 0} (heap : HeapId) (number : ℕ) (jobs : List (
 
 module _ {K : Type 0} (heap : HeapId) (number : ℕ) (jobs : List (Job K)) (before : JobsBefore heap number jobs) where
   each_more : (job : Job K) → IsJobAt heap number job → (at : ℕ) (other : Job K) → at < number + 1 → IsJobAt heap at (get_or (jobs ++ job ∷ []) at other)
-  each_more job is at other lt = elim (part at lt) [
-    | inl sooner ↦ subst (IsJobAt heap at) (sym (get_or_append_left jobs (job ∷ []) other at (omega (arith, before.many)))) (before.each at other sooner)
-    | inr here ↦ subst (IsJobAt heap at) (sym (get_or_push jobs job other at (before.many ∙ sym here))) (subst (λ k. IsJobAt heap k job) (sym here) is)
-  ] where
-    part : (k : ℕ) → k < number + 1 → (k < number) ⊎ (k ≡ number)
-    part k lt = omega arith
+  each_more job is at other lt = elim (cases_lt at number) [
+    | inl sooner ↦ subst (IsJobAt heap at) (sym (get_or_append_left jobs (job ∷ []) other at (omega (arith, sooner, before.many)))) (before.each at other sooner)
+    | inr after ↦
+        let here : at ≡ number = omega (arith, after, lt) in
+        subst (IsJobAt heap at) (sym (get_or_push jobs job other at (before.many ∙ sym here))) (subst (λ k. IsJobAt heap k job) (sym here) is)
+  ]
 
   pub jobs_more : (job : Job K) → IsJobAt heap number job → JobsBefore heap (number + 1) (jobs ++ job ∷ [])
   jobs_more job is = record { many = omega (arith, length-append jobs (job ∷ []), before.many); each = each_more job is }

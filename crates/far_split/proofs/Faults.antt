@@ -1,5 +1,6 @@
 -- How far it is known which fault threads ended with.
 use Rattle.std.proofs.Common.{◌≡◌, ◌≢◌, ◌⊎◌, inl, inr, ℕ, ◌+◌, ◌<◌, ◌≤◌, Option, Some, None, Result, Ok, Err, List, length, get_or, ap, sym, subst, ◌∙◌, refl, arith}
+use Rattle.std.proofs.lemmas.Bool.{cases_lt}
 use Rattle.std.proofs.lemmas.List.{get_or_default}
 use Rattle.far_split.specs.Joined.{IsFault, IsStopped, who_at}
 use Rattle.far_split.specs.declared.mutators.Stop.{Stop}
@@ -13,12 +14,12 @@ SoFar ends at None = (k : ℕ) (why : Stop) → k < at → ¬ IsStopped ends why
 SoFar ends at (Some faults.Memory) = ((k : ℕ) × IsStopped ends stops.Memory k) × ((k : ℕ) → k < at → ¬ IsStopped ends stops.Gate k)
 SoFar ends at (Some (faults.Gate who)) = ⊥
 
+pub err_is : {A : Type 0} (end : Result A Stop) (found why : Stop) → end ≡ Err found → found ≡ why → end ≡ Err why
+err_is end found why e same = cc
+
 module _ {A : Type 0} (ends : List (Result A Stop)) (at : ℕ) (end : Result A Stop) (below : at < length ends) (is : end ≡ get_or ends at end) where
   same : (why : Stop) → IsStopped ends why at → end ≡ Err why
   same why stopped = is ∙ stopped.1 end
-
-  last : (k : ℕ) → k < at + 1 → (k < at) ⊎ (k ≡ at)
-  last k lt = omega arith
 
   -- it is stopped
   pub stopped_here : (why : Stop) → end ≡ Err why → IsStopped ends why at
@@ -31,9 +32,9 @@ module _ {A : Type 0} (ends : List (Result A Stop)) (at : ℕ) (end : Result A S
   gate_first (Some (faults.Gate other)) who never e named = absurd never
 
   none_more : (why : Stop) → ((k : ℕ) → k < at → ¬ IsStopped ends why k) → end ≢ Err why → (k : ℕ) → k < at + 1 → ¬ IsStopped ends why k
-  none_more why none other k lt stopped = elim (last k lt) [
+  none_more why none other k lt stopped = elim (cases_lt k at) [
     | inl sooner ↦ none k sooner stopped
-    | inr here ↦ other (same why (subst (IsStopped ends why) here stopped))
+    | inr after ↦ let here : k ≡ at = omega (arith, after, lt) in other (same why (subst (IsStopped ends why) here stopped))
   ]
 
   -- memory was refused it
@@ -43,10 +44,10 @@ module _ {A : Type 0} (ends : List (Result A Stop)) (at : ℕ) (end : Result A S
   memory_more (Some (faults.Gate other)) never e = absurd never
 
   -- or it wasn't stopped
-  pub fine_more : (fault : Option SplitFault) (told : A) → SoFar ends at fault → end ≡ Ok told → SoFar ends (at + 1) fault
-  fine_more None told none e = λ k why lt. none_more why (λ j sooner. none j why sooner) (λ stopped. absurd cc) k lt
-  fine_more (Some faults.Memory) told some e = (some.0, none_more stops.Gate some.1 (λ stopped. absurd cc))
-  fine_more (Some (faults.Gate other)) told never e = absurd never
+  pub fine_more : (fault : Option SplitFault) → SoFar ends at fault → ((why : Stop) → end ≢ Err why) → SoFar ends (at + 1) fault
+  fine_more None none fine = λ k why lt. none_more why (λ j sooner. none j why sooner) (fine why) k lt
+  fine_more (Some faults.Memory) some fine = (some.0, none_more stops.Gate some.1 (fine stops.Gate))
+  fine_more (Some (faults.Gate other)) never fine = absurd never
 
 -- after all of them
 pub all_seen : {A : Type 0} (ends : List (Result A Stop)) (at : ℕ) (fault : Option SplitFault) → length ends ≤ at → SoFar ends at fault → IsFault ends fault

@@ -1,10 +1,10 @@
 -- What all threads were answered, from how each ended.
 use Rattle.std.proofs.Common.{◌≡◌, ◌≢◌, ◌⊎◌, inl, inr, ℕ, zero, suc, ◌+◌, ◌<◌, ◌≤◌, Bool, true, false, Option, Some, None, Result, Ok, Err, List, [], ◌∷◌, ◌++◌, length, length-append, get_or, ap, sym, subst, ◌∙◌, refl, arith, append_assoc, append-nil}
-use Rattle.std.specs.Prelude.{IfOk, map, ◌==◌, if◌then◌else◌}
+use Rattle.std.specs.Prelude.{IfErr, IfOk, map, ◌==◌, if◌then◌else◌}
 use Rattle.std.specs.Global.{Vec}
-use Rattle.std.specs.List.{AllByRecursion}
+use Rattle.std.specs.List.{AllByRecursion, remove}
 use Rattle.std.proofs.lemmas.Bool.{eqb-false}
-use Rattle.std.proofs.lemmas.List.{get_or-map, get_or_append_left, get_or_push, length-map, map-append}
+use Rattle.std.proofs.lemmas.List.{get_or-append-add, get_or-map, get_or_append_left, get_or_default, get_or_push, length-map, map-append}
 use Rattle.far_text.specs.Command.{Command}
 use Rattle.far_text.specs.Threads.{OfMutator}
 use Rattle.far_heap.specs.HeapId.{HeapId}
@@ -22,10 +22,10 @@ use Rattle.far_split.specs.declared.run.SplitFault.{SplitFault}
 use Rattle.far_split.specs.declared.run.SplitFault.TheVariants as faults
 use Rattle.far_split.specs.declared.told.Told.{Told}
 
-abbrev End : Type 0
+abbrev pub End : Type 0
 End = Result (Vec Told) Stop
 
-abbrev answered : Vec Told → End
+abbrev pub answered : Vec Told → End
 answered told = Ok told
 
 -- what holds at each place holds of all
@@ -98,7 +98,36 @@ may_stop heap lines ends (faults.Gate who) are (inr (at, stopped, none, named)) 
     let same : who ≡ who_at (heap.mutators + 1) at = named ∙ ap (λ many. who_at many at) are.many in
     subst (λ (k : ℕ). (k < heap.mutators) ⊎ (k ≡ THE_BOOK)) (sym same) (who_below heap.mutators at (omega (arith, stopped.0, are.many)))
 
+-- ---- the same of a result
+pub all_ran_so : (heap : HeapId) (lines : List (ℕ × Command)) (ends : List End) (result : Result SplitOut SplitFault) → heap.honest ≡ true → AreEnds heap lines ends → IfOk result (Joins ends)
+    → IfOk result (λ out. RanSo heap.logs heap.mutators lines (as_joined out))
+all_ran_so heap lines ends (Ok out) honest are joins = ran_so heap lines ends out honest are joins
+all_ran_so heap lines ends (Err fault) honest are joins = tt
+
+pub all_are_short : (heap : HeapId) (lines : List (ℕ × Command)) (ends : List End) (result : Result SplitOut SplitFault) → AreEnds heap lines ends → IfOk result (Joins ends) → IfOk result (λ out. AreShort (as_joined out))
+all_are_short heap lines ends (Ok out) are joins = are_short heap lines ends out are joins
+all_are_short heap lines ends (Err fault) are joins = tt
+
+pub all_may_stop : (heap : HeapId) (lines : List (ℕ × Command)) (ends : List End) (result : Result SplitOut SplitFault) → AreEnds heap lines ends
+    → IfErr result (λ fault. (fault ≡ faults.Memory) ⊎ IsFault ends (Some fault)) → IfErr result (MayStop heap.mutators)
+all_may_stop heap lines ends (Ok out) are is = tt
+all_may_stop heap lines ends (Err fault) are is = may_stop heap lines ends fault are is
+
 -- ---- one thread's replies after the other
+pub took_first : (rest left : List End) (end : End) → 0 < length rest → end ≡ get_or rest 0 end → left ≡ remove rest 0 → rest ≡ end ∷ left
+took_first [] left end some first others = absurd (omega (arith, some))
+took_first (x ∷ xs) left end some first others = λ i. sym first i ∷ sym others i
+
+-- where none was stopped, this one wasn't
+pub never_stopped : (ends rest : List End) (parts : List (Vec Told)) (end : End) (why : Stop) → IsFault ends None → ends ≡ map answered parts ++ rest → 0 < length rest → end ≡ get_or rest 0 end → end ≡ Err why → ⊥
+never_stopped ends rest parts end why none so_far some first is =
+    let front = map answered parts in
+    let at : ℕ = length front + 0 in
+    let below : at < length ends = omega (arith, ap length so_far, length-append front rest, some) in
+    let found : (other : End) → get_or ends at other ≡ Err why =
+    λ other. ap (λ xs. get_or xs at other) so_far ∙ get_or-append-add front rest 0 other ∙ get_or_default rest 0 other end some ∙ sym first ∙ is in
+    none at why (below, found)
+
 pub parts_more : (ends rest left : List End) (parts : List (Vec Told)) (end : End) (told : Vec Told) → ends ≡ map answered parts ++ rest → rest ≡ end ∷ left → end ≡ answered told
     → ends ≡ map answered (parts ++ told ∷ []) ++ left
 parts_more ends rest left parts end told so_far first is =

@@ -18,7 +18,7 @@ module _ {P : Type 0} (gives : P → List LogRow → ℕ → Result (List ℕ) R
 
   unchosen_by : (before after : P) (most : ℕ) (why : Refusal) → IsUnchosen gives before most after why → IsUnchosen (Gives policy) tt most tt why
   unchosen_by before after most why (inl (cause, same)) = inl (cause, refl)
-  unchosen_by before after most why (inr (bad, rows, given)) = inr (bad, rows, is before after rows most (Err why) given)
+  unchosen_by before after most why (inr (bad, (rows, given))) = inr (bad, (rows, is before after rows most (Err why) given))
 
   stopped_by : (heap : HeapId) (before after : P) (most n turns : ℕ) (fault : EvacFault) → most ≡ n → RefusesRound gives MemDevice heap before most after turns fault → StopsRound heap policy n turns fault.why fault.so_far
   stopped_by heap before after most n turns fault same (inl (nothing, unchosen)) =

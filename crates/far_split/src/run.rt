@@ -119,7 +119,11 @@ fn run_jobs<K: HeapName + Send + Sync, R: Threads + Wait + Sync, G: Gate>(
     requires jobs { AreJobs K.heap jobs.items }
     ensures { IfOk result (λ ends. AreEnds K.heap text.now ends.items) }
 {
-    thread::map_vec(rt, jobs, &|job| run_job(alloc, rt, heap, text, gate, job))
+    let make = |job: Job<K>| -> End
+        requires { ((thread : AnyThread) → AreOwn K.heap.mutators thread (lines_in thread text.now)) × ((at : ℕ) × IsJobAt K.heap at job) }
+        ensures { (at : ℕ) → IsJobAt K.heap at job → EndsSo K.heap text.entry.now at result }
+    { run_job(alloc, rt, heap, text, gate, job) };
+    thread::map_vec(rt, jobs, &make)
 }
 
 // Who the thread at a place is, of so many.
@@ -137,10 +141,11 @@ fn fault_of(ends: &[End]) -> Option<SplitFault>
 {
     let mut fault = None;
     for (at, end) in ends.iter().enumerate() {
-        match end {
-            Err(Stop::Gate) => return Some(SplitFault::Gate(who_at(at, ends.len()))),
-            Err(Stop::Memory) => fault = Some(SplitFault::Memory),
-            Ok(_) => {}
+        if let Err(stop) = end {
+            match stop {
+                Stop::Gate => return Some(SplitFault::Gate(who_at(at, ends.len()))),
+                Stop::Memory => fault = Some(SplitFault::Memory),
+            }
         }
     }
     fault
