@@ -1,1 +1,3 @@
+pub mod Here
+pub mod Slots
 pub mod Told

@@ -1,0 +1,3 @@
+pub mod Owns
+pub mod Answered
+pub mod OwnLines
