@@ -13,7 +13,7 @@ use Rattle.far_replay.specs.Alone.{Own}
 use Rattle.far_replay.specs.Reply.{Data, Done, Pointer, Refused, Reply}
 use Rattle.far_replay.proofs.Fronts.{range_length}
 use Rattle.far_split.specs.Here.{KnowsHere}
-use Rattle.far_split.specs.Slots.{Answers, IsReached, own_in}
+use Rattle.far_split.specs.Slots.{Answers, AreSizes, IsReached, own_in}
 use Rattle.far_split.specs.declared.access.Access.{Access}
 use Rattle.far_split.proofs.Owns.{own_adopting, own_closing, own_dropping, own_viewing, own_writing, unused_none, used_own, views_viewing}
 
@@ -30,7 +30,7 @@ module _ (m : Mine) (honest : m.honest ≡ true) (opened : m.opened ≡ true) (p
       → KnowsHere m.number (own_in m) (Mutator m.number request) (Refused Device) (own_in m) → KnowsHere m.number (own_in m) (Mutator m.number request) (Refused why) (own_in m)
   unbrought request room memory device =
       let by : (other : Refusal) → why ≡ other → KnowsHere m.number (own_in m) (Mutator m.number request) (Refused other) (own_in m) → KnowsHere m.number (own_in m) (Mutator m.number request) (Refused why) (own_in m)
-          = λ other e k. subst (λ (x : Refusal). KnowsHere m.number (own_in m) (Mutator m.number request) (Refused x) (own_in m)) (sym e) k in
+      = λ other e k. subst (λ (x : Refusal). KnowsHere m.number (own_in m) (Mutator m.number request) (Refused x) (own_in m)) (sym e) k in
       elim is [
         | inl e ↦ by NoRoom e room
         | inr (inl e) ↦ by Memory e memory
@@ -52,13 +52,15 @@ module _ (m : Mine) (honest : m.honest ≡ true) (opened : m.opened ≡ true) (p
 
 -- ---- what calls answer
 module _ (m : Mine) (law : MineLaw m) (honest : m.honest ≡ true) where
-  pub made : (len ds p : ℕ) (n : Mine) → ds < 256 → 0 < len → len ≤ LONGEST → owns m p ≡ true → uses m p ≡ false → n ≡ adopting p len ds m → Answers m (New len ds) (Pointer p) n
-  made len ds p n small some most own unused e = subst (λ (z : Mine). Answers m (New len ds) (Pointer p) z) (sym e) (record {
-    knows = (inl (small, some, most, eqb-true (p / CELLS) m.number own, unused_none m p unused, own_adopting m law p own honest len ds), tt);
-    short = tt;
-    number = refl;
-    honest = refl;
-  })
+  pub made : (len ds : ℕ) (sizes : ℕ × ℕ) → AreSizes len ds sizes → (p : ℕ) (n : Mine) → owns m p ≡ true → uses m p ≡ false → n ≡ adopting p sizes.0 sizes.1 m → Answers m (New len ds) (Pointer p) n
+  made len ds sizes are p n own unused e =
+      let new : adopting p sizes.0 sizes.1 m ≡ adopting p len ds m = ap (λ l. adopting p l sizes.1 m) are.0 ∙ ap (λ d. adopting p len d m) are.1 in
+      subst (λ (z : Mine). Answers m (New len ds) (Pointer p) z) (sym (e ∙ new)) (record {
+        knows = (inl (are.2, are.3, are.4, eqb-true (p / CELLS) m.number own, unused_none m p unused, own_adopting m law p own honest len ds), tt);
+        short = tt;
+        number = refl;
+        honest = refl;
+      })
 
   pub dropped : (p : ℕ) (n : Mine) → uses m p ≡ true → views m p ≡ false → n ≡ dropping p m → Answers m (Drop p) Done n
   dropped p n used unviewed e =

@@ -228,9 +228,7 @@ fn answer_open<K: HeapName, R: Wait>(
         Request::Drop { pointer } => drop_open(rt, &mut scope, pointer),
         Request::View { pointer } => view(rt, &mut scope, pointer),
         Request::Try { pointer } => try_view(&mut scope, pointer),
-        Request::Read { pointer, from, len } => {
-            read(alloc, rt, &mut scope, pointer, from, len)?
-        }
+        Request::Read { pointer, from, len } => { read(alloc, rt, &mut scope, pointer, from, len)? }
         Request::Write {
             pointer,
             from,
