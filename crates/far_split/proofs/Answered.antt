@@ -5,17 +5,16 @@ use Rattle.std.proofs.Math.Seq.{take-append_seam}
 use Rattle.std.proofs.lemmas.Bool.{eqb-true, false≢true}
 use Rattle.far_word.specs.declared.refused.Refused.{Refused as Refusal}
 use Rattle.far_word.specs.declared.refused.Refused.TheVariants.{Damaged, Device, Held, Memory, NoRoom, NotHeld}
-use Rattle.far_word.specs.declared.sizes.TheConstants.{CELLS, LONGEST}
-use Rattle.far_heap.specs.Mine.{Asks, AsksToView, IsNoView, IsRefusedView, IsUnbrought, Mine, adopting, asking, bytes_in, closing, drop_refusal, dropping, len_in, opening, owns, uses, viewing, views, writing}
+use Rattle.far_word.specs.declared.sizes.TheConstants.{CELLS}
+use Rattle.far_heap.specs.Mine.{Asks, AsksToView, IsNoView, IsRefusedView, IsUnbrought, Mine, adopting, bytes_in, closing, drop_refusal, dropping, len_in, opening, owns, uses, viewing, views, writing}
 use Rattle.far_heap.specs.MineLaw.{MineLaw}
 use Rattle.far_text.specs.Command.{Close, Drop, Mutator, New, Open, Read, Request, Try, View, Write}
-use Rattle.far_replay.specs.Alone.{Own}
-use Rattle.far_replay.specs.Reply.{Data, Done, Pointer, Refused, Reply}
+use Rattle.far_replay.specs.Reply.{Data, Done, Pointer, Refused}
 use Rattle.far_replay.proofs.Fronts.{range_length}
 use Rattle.far_split.specs.Here.{KnowsHere}
 use Rattle.far_split.specs.Slots.{Answers, AreSizes, IsReached, own_in}
 use Rattle.far_split.specs.declared.access.Access.{Access}
-use Rattle.far_split.proofs.Owns.{own_adopting, own_closing, own_dropping, own_viewing, own_writing, unused_none, used_own, views_viewing}
+use Rattle.far_split.proofs.Owns.{own_adopting, own_closing, own_dropping, own_viewing, own_writing, unused_none, used_own}
 
 -- ---- why there is no view
 no_view : (u v : Bool) (why : Refusal) → IsRefusedView u v why → ((u ≡ false) × (why ≡ NotHeld)) ⊎ ((u ≡ true) × (v ≡ false) × IsUnbrought why)

@@ -1,3 +1,4 @@
 pub mod Owns
 pub mod Answered
 pub mod OwnLines
+pub mod Allowed

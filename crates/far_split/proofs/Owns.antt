@@ -1,16 +1,16 @@
 -- What a mutator of the heap knows of itself, and what its calls make of that.
-use Rattle.std.proofs.Common.{◌≡◌, ◌≢◌, ℕ, ◌+◌, ◌/◌, ◌%◌, ◌<◌, ◌≤◌, Bool, true, false, Option, Some, None, is_some, List, length, map, get_or, refl, sym, ap, ◌∙◌, inl, inr, arith, eqb}
+use Rattle.std.proofs.Common.{◌≡◌, ◌≢◌, ℕ, ◌/◌, ◌%◌, ◌<◌, Bool, true, false, Option, Some, None, is_some, List, length, map, refl, sym, ap, ◌∙◌, inl, inr, arith, eqb}
 use Rattle.std.specs.Prelude.{if◌then◌else◌, option_map, replicate, slice_index_or, slice_set}
-use Rattle.std.proofs.lemmas.Bool.{cases_Bool, cases_eq, eq-eqb, eqb-true, false≢true, ne_eqb}
+use Rattle.std.proofs.lemmas.Bool.{cases_eq, eq-eqb, eqb-true, false≢true, ne_eqb}
 use Rattle.std.proofs.lemmas.Grind.{get_or-set_at}
 use Rattle.std.proofs.Math.ListN.{get_or-map}
 use Rattle.std.proofs.lemmas.List.{get_or-set_other}
 use mathlib.Core.Path.{fun_ext}
-use Rattle.far_word.specs.declared.sizes.TheConstants.{CELLS, MOST_MUTATORS}
+use Rattle.far_word.specs.declared.sizes.TheConstants.{CELLS}
 use Rattle.far_core.specs.state.State.{put}
 use Rattle.far_core.proofs.Put.{put_other, put_same}
 use Rattle.far_heap.specs.HeapId.{HeapId}
-use Rattle.far_heap.specs.Mine.{Mine, Object, adopting, asking, bytes_in, closing, dropping, known_bytes, len_in, newcomer, object_of, opening, owns, rewritten, uses, viewing, views, with_range, writing, zeros_known}
+use Rattle.far_heap.specs.Mine.{Mine, Object, adopting, asking, bytes_in, closing, dropping, known_bytes, newcomer, object_of, opening, owns, rewritten, uses, viewing, views, with_range, writing, zeros_known}
 use Rattle.far_heap.specs.MineLaw.{MineLaw}
 use Rattle.far_heap.proofs.OwnRows.{own_row-get}
 use Rattle.far_replay.specs.Alone.{Own, nothing}

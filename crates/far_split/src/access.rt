@@ -1,7 +1,6 @@
 //! What is asked for, looked at before the heap is asked.
 
 ghost use Rattle.std.specs.Prelude.{◌≡◌, ◌<◌, IfErr, IfOk, IfNone, IfSome};
-ghost use Rattle.far_heap.specs.MineLaw.{MineLaw};
 ghost use Rattle.far_split.specs.Slots.{AreNoSizes, AreSizes, IsReached, IsUnreached};
 ghost use Rattle.far_word.specs.declared.refused.Refused.{Refused as any_refusal};
 

@@ -3,9 +3,11 @@
 
 mod access;
 mod gate;
+mod laws;
 mod mutators;
 mod slot;
 mod told;
 
 pub use gate::{Gate, NoGate};
+pub use laws::mutators_are_alone;
 pub use told::Told;

@@ -1,7 +1,6 @@
 //! A mutator between two of its lines, and how its requests are made by the heap's calls.
 
 ghost use Rattle.std.specs.Prelude.{◌≡◌, true, false, IfOk};
-ghost use Rattle.far_heap.specs.Mine.{adopting};
 ghost use Rattle.far_text.specs.Command.{as_request, Drop, New, Read, Try, View, Write};
 ghost use Rattle.far_text.specs.Threads.{is_own};
 ghost use Rattle.far_split.specs.Slots.{Answers, mine_in};
