@@ -10,7 +10,7 @@ use Rattle.far_word.specs.declared.sizes.TheConstants.{CELLS}
 use Rattle.far_core.specs.state.State.{put}
 use Rattle.far_core.proofs.Put.{put_other, put_same}
 use Rattle.far_heap.specs.HeapId.{HeapId}
-use Rattle.far_heap.specs.Mine.{Mine, Object, adopting, asking, bytes_in, closing, dropping, known_bytes, newcomer, object_of, opening, owns, rewritten, uses, viewing, views, with_range, writing, zeros_known}
+use Rattle.far_heap.specs.Mine.{Mine, Object, adopting, asking, bytes_in, closing, dropping, known_bytes, newcomer, object_of, owns, rewritten, uses, viewing, views, with_range, writing, zeros_known}
 use Rattle.far_heap.specs.MineLaw.{MineLaw}
 use Rattle.far_heap.proofs.OwnRows.{own_row-get}
 use Rattle.far_replay.specs.Alone.{Own, nothing}
@@ -71,16 +71,13 @@ module _ (m : Mine) (law : MineLaw m) (p : ℕ) (own : owns m p ≡ true) (from 
       ∙ ap (λ (o : Own). record (own_in m) { object = o.object; viewed = put (own_in m).viewed p true }) (own_with m law p own (option_map (rewritten from new) (object_of m p)))
       ∙ ap (λ (b : Option (List ℕ)). record (own_in m) { object = put (own_in m).object p b; viewed = put (own_in m).viewed p true }) (known_rewritten (object_of m p) from new all known)
 
--- ---- its scope is opened, or closed
+-- ---- its scope is closed
 none_at : (row : List Bool) (b : Bool) (k : ℕ) → (if b then slice_index_or (map (λ _. false) row) k false else false) ≡ false
 none_at row true k = get_or-map (λ _. false) row k false
 none_at row false k = refl
 
 pub own_closing : (m : Mine) → own_in (closing m) ≡ record (own_in m) { opened = false; viewed = λ _. false }
 own_closing m = ap (λ (f : ℕ → Bool). record (own_in m) { opened = false; viewed = f }) (fun_ext (λ q. none_at m.viewed (owns m q) (q % CELLS)))
-
-pub own_opening : (m : Mine) → own_in (opening m) ≡ record (own_in m) { opened = true }
-own_opening m = refl
 
 -- ---- a mutator of a new heap
 none_new : (heap : HeapId) (number q : ℕ) → object_of (newcomer heap.table number true) q ≡ None

@@ -6,9 +6,10 @@ use Rattle.far_text.specs.Command.{Command, Mutator, New, Read, View, Write}
 use Rattle.far_replay.specs.Alone.{Alone, IsIn, Knows, Own, is_by, speaker}
 use Rattle.far_replay.specs.Reply.{Reply, Refused}
 
--- a command is refused by what others, rounds and the system do meanwhile, and what the mutator knows stays as it is. A new object may want a pointer although one is unused, since the cell of a
--- dropped object is free only after a round, or room although none is; an object that isn't viewed may be far, and there may be no memory to bring it. No earlier refusal of the command's row
--- applies
+-- a command is refused by what others, rounds and the system do meanwhile, and what the mutator knows stays as it is; no earlier refusal of the command's
+-- row applies. A new object may want a pointer although one is unused, since the cell of a dropped object is free only once a round came by; or room. An
+-- object that isn't viewed may be far, and there may be no memory to bring it. What a plain heap refuses too, for want of room or by its device or a
+-- mark, is in `Knows`
 abbrev pub Hindered : Own → Command → Reply → Own → Type 0
 Hindered o (Mutator _ (New len ds)) (Refused NoPointer) q = (ds < 256) × (0 < len) × (len ≤ LONGEST) × (q ≡ o)
 Hindered o (Mutator _ (New len ds)) (Refused NoRoom) q = (ds < 256) × (0 < len) × (len ≤ LONGEST) × (q ≡ o)

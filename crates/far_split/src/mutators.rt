@@ -26,10 +26,11 @@ pub(crate) enum Stop {
     Memory,
 }
 
-/// Makes a new mutator's lines, in order, asking the gate before each: what each was answered. The room for what they tell is taken before the first. A scope that is open after the last line
-/// stays open.
+/// Makes a new mutator's lines, in order, asking the gate before each: what each was answered. The room for the list of answers is taken before the
+/// first line. A scope that is open after the last line, or where the thread stops, stays open.
 ///
-/// [`Stop::Gate`] where the gate lets a line not be made; [`Stop::Memory`] where there is no room for what they tell, or for the bytes of a read.
+/// [`Stop::Gate`] where the gate says no to a line; [`Stop::Memory`] where there is no room for the list, or for the bytes that a read is to tell, which
+/// is asked for before the read. Where the heap has no memory to bring an object, that is the line's answer.
 pub(crate) fn make_lines<K: HeapName, R: Wait, G: Gate>(
     alloc: Global,
     rt: &R,
