@@ -4,4 +4,5 @@ pub mod Jobs
 pub mod Joined
 pub mod Printed
 pub mod Prints
+pub mod Slots
 pub mod Told
