@@ -45,10 +45,9 @@ pub record TellsLogs (heap : HeapId) (logs : List ℕ) (lines : List LogLine) : 
   pub stood : BookStood heap (λ now. lines ≡ map (log_line now) logs)
   pub whole : AllByRecursion MakesLog lines
 
--- so many logs from one on are told, or memory for that was refused
+-- so many logs from one on are told
 abbrev pub TellsRange : HeapId → ℕ → ℕ → Reply → Type 0
 TellsRange heap first many (Logs lines) = TellsLogs heap (range_with_len first many) lines
-TellsRange heap first many (Refused Memory) = Unit {0}
 TellsRange heap first many _ = ⊥
 
 -- ---- an audit
@@ -91,14 +90,12 @@ abbrev pub StopsRound : HeapId → Policy → ℕ → ℕ → Refusal → Progre
 StopsRound heap policy most turns why so_far = RefusesRound (Gives policy) MemDevice heap tt most tt turns record { so_far = so_far; why = why }
 
 -- ---- lines
--- a line was answered so. An inquiry is refused where memory for its answer is, and one of a log also where the heap has no such log. What a round did before it was
--- refused is told where the device, or memory for it, was refused in one of its turns
+-- a line was answered so. One log is refused where the heap has no such log; an audit where memory is; what a round did before it was refused is told where the
+-- device, or memory for it, was refused in one of its turns
 abbrev pub TellsLine : HeapId → Command → Reply → Type 0
 TellsLine heap (Book AsksLogs) (Logs lines) = TellsLogs heap (range_with_len 0 heap.logs) lines
-TellsLine heap (Book AsksLogs) (Refused Memory) = Unit {0}
 TellsLine heap (Book (AsksLog log)) (Logs lines) = (log < heap.logs) × TellsLogs heap (log ∷ []) lines
 TellsLine heap (Book (AsksLog log)) (Refused Range) = heap.logs ≤ log
-TellsLine heap (Book (AsksLog log)) (Refused Memory) = log < heap.logs
 TellsLine heap (Book AsksAudit) (Audited counts) = TellsCensus heap counts
 TellsLine heap (Book AsksAudit) (Refused Memory) = Unit {0}
 TellsLine heap (Evacuator (Round policy most turns)) (Ended end) = EndsRound heap policy most turns end

@@ -18,19 +18,19 @@ use crate::told::Told;
 use far_device::MemDevice;
 use far_heap::{Heap, HeapName};
 use far_text::{Command, Lines, Step};
-use std::alloc::Global;
+use std::alloc::{AllocError, Global};
 use std::sync::Wait;
 
-// Makes a line of the book's.
+// Makes a line of the book's. `Err` where there is no memory for what is told of logs.
 fn make_line<K: HeapName, R: Wait>(
     alloc: Global,
     rt: &R,
     heap: &Heap<K, MemDevice>,
     command: Command<'_>,
-) -> Told
+) -> Result<Told, AllocError>
     requires own { is_of OfBook (as_command command) ≡ true }
-    ensures told { TellsLine K.heap (as_command command.entry) (as_reply result) }
-    ensures short { IsShort (as_reply result) }
+    ensures told { IfOk result (λ told. TellsLine K.heap (as_command command.entry) (as_reply told)) }
+    ensures short { IfOk result (λ told. IsShort (as_reply told)) }
 {
     match command {
         Command::Book(inquiry) => inquire(alloc, rt, heap, inquiry),
@@ -40,12 +40,14 @@ fn make_line<K: HeapName, R: Wait>(
                 most,
                 turns,
             },
-        ) => make_round(rt, heap, policy, most, turns),
+        ) => Ok(make_round(rt, heap, policy, most, turns)),
         _ => unreachable!(),
     }
 }
 
-/// Makes the book's lines, in order, asking the gate before each: what each was answered.
+/// Makes the book's lines, in order, asking the gate before each: what each was answered. The room for the list of answers is taken before the first line.
+///
+/// [`Stop::Gate`] where the gate says no to a line; [`Stop::Memory`] where there is no room for the list, or for what a line is to tell of logs.
 pub(crate) fn make_book_lines<K: HeapName, R: Wait, G: Gate>(
     alloc: Global,
     rt: &R,
@@ -66,7 +68,10 @@ pub(crate) fn make_book_lines<K: HeapName, R: Wait, G: Gate>(
             return Err(Stop::Gate);
         }
         let (_, command) = lines.at(at);
-        told.push_reserved(make_line(alloc, rt, heap, command));
+        let Ok(answer) = make_line(alloc, rt, heap, command) else {
+            return Err(Stop::Memory);
+        };
+        told.push_reserved(answer);
         gate.after(THE_BOOK, turn);
         turn = turn.saturating_add(1);
     }

@@ -1,12 +1,11 @@
 //! What the book is asked beside the mutators: what a log has, and how many objects there are.
 
-ghost use Rattle.std.specs.Prelude.{◌≡◌, ◌<◌, ◌≤◌, ◌-◌, filter, length, map, sum, IfOk, IfErr};
+ghost use Rattle.std.specs.Prelude.{◌≡◌, ◌<◌, ◌≤◌, ◌-◌, filter, length, map, IfOk};
 ghost use Rattle.std.specs.List.{range_with_len};
-ghost use Rattle.far_word.specs.declared.refused.Refused.TheVariants.{Memory};
 ghost use Rattle.far_evac.specs.declared.census.Housed.{Housed as HousedAt};
 ghost use Rattle.far_table.specs.BookSeats.{seat_view};
 ghost use Rattle.far_evac.specs.EvacOf.{moment};
-ghost use Rattle.far_text.specs.Command.{Audit, Book, Log, Logs, as_inquiry};
+ghost use Rattle.far_text.specs.Command.{Audit, Book, Log, as_inquiry};
 ghost use Rattle.far_replay.specs.Reply.{IsShort};
 ghost use Rattle.far_replay.specs.Turn.{log_line};
 ghost use Rattle.far_split.specs.BookTold.{TellsLine, TellsRange, lies_far, lies_near, live_in};
@@ -55,27 +54,34 @@ fn lines_of<K: HeapName>(
     Ok(lines)
 }
 
-// Tells each log from one on, before another.
-fn logs_told<K: HeapName>(alloc: Global, book: &Evacuator<K, MemDevice>, first: u8, end: u8) -> Told
+// Tells each log from one on, before another. `Err` where there is no memory for their lines.
+fn logs_told<K: HeapName>(
+    alloc: Global,
+    book: &Evacuator<K, MemDevice>,
+    first: u8,
+    end: u8,
+) -> Result<Told, AllocError>
     requires logs { (first ≤ end) × (end ≤ (seat_view book.now.book.near).logs) }
-    ensures told { TellsRange K.heap first (end - first) (as_reply result) }
-    ensures short { IsShort (as_reply result) }
+    ensures told { IfOk result (λ told. TellsRange K.heap first (end - first) (as_reply told)) }
+    ensures short { IfOk result (λ told. IsShort (as_reply told)) }
 {
     book.keeps_law();
-    match lines_of(alloc, book, first, end) {
-        Ok(lines) => Told::Logs(lines),
-        Err(_) => Told::Refused(Refused::Memory),
-    }
+    let lines = lines_of(alloc, book, first, end)?;
+    Ok(Told::Logs(lines))
 }
 
-// Tells one log, if the heap has it.
-fn log_told<K: HeapName>(alloc: Global, book: &Evacuator<K, MemDevice>, log: u64) -> Told
-    ensures told { TellsLine K.heap (Book (Log log)) (as_reply result) }
-    ensures short { IsShort (as_reply result) }
+// Tells one log, if the heap has it. `Err` where there is no memory for its line.
+fn log_told<K: HeapName>(
+    alloc: Global,
+    book: &Evacuator<K, MemDevice>,
+    log: u64,
+) -> Result<Told, AllocError>
+    ensures told { IfOk result (λ told. TellsLine K.heap (Book (Log log)) (as_reply told)) }
+    ensures short { IfOk result (λ told. IsShort (as_reply told)) }
 {
     book.keeps_law();
     if log >= book.shape().logs {
-        return Told::Refused(Refused::Range);
+        return Ok(Told::Refused(Refused::Range));
     }
     let log = log as u8;
     logs_told(alloc, book, log, log + 1)
@@ -126,15 +132,15 @@ fn audit_told<K: HeapName>(book: &mut Evacuator<K, MemDevice>) -> Told
     }
 }
 
-/// Answers what the book is asked, under the heap's lock.
+/// Answers what the book is asked, under the heap's lock. `Err` where there is no memory for what is told of logs.
 pub(crate) fn inquire<K: HeapName, R: Wait>(
     alloc: Global,
     rt: &R,
     heap: &Heap<K, MemDevice>,
     inquiry: Inquiry,
-) -> Told
-    ensures told { TellsLine K.heap (Book (as_inquiry inquiry)) (as_reply result) }
-    ensures short { IsShort (as_reply result) }
+) -> Result<Told, AllocError>
+    ensures told { IfOk result (λ told. TellsLine K.heap (Book (as_inquiry inquiry)) (as_reply told)) }
+    ensures short { IfOk result (λ told. IsShort (as_reply told)) }
 {
     let mut guard = heap.book(rt);
     let book = &mut *guard;
@@ -142,6 +148,6 @@ pub(crate) fn inquire<K: HeapName, R: Wait>(
     match inquiry {
         Inquiry::Logs => logs_told(alloc, book, 0, book.shape().logs as u8),
         Inquiry::Log { log } => log_told(alloc, book, log),
-        Inquiry::Audit => audit_told(book),
+        Inquiry::Audit => Ok(audit_told(book)),
     }
 }
