@@ -1,5 +1,5 @@
 -- The jobs of a new heap's threads.
-use Rattle.std.proofs.Common.{◌≡◌, ◌≢◌, ◌⊎◌, inl, inr, ℕ, suc, ◌+◌, ◌-◌, ◌<◌, ◌≤◌, true, List, [], ◌∷◌, ◌++◌, length, length-append, get_or, ap, sym, subst, ◌∙◌, refl, arith}
+use Rattle.std.proofs.Common.{◌≡◌, inl, inr, ℕ, suc, ◌+◌, ◌-◌, ◌<◌, List, [], ◌∷◌, ◌++◌, length, length-append, get_or, ap, sym, subst, ◌∙◌, arith}
 use Rattle.std.specs.Prelude.{map}
 use Rattle.std.specs.List.{range_with_len, remove}
 use Rattle.std.proofs.lemmas.Bool.{cases_lt}
@@ -8,7 +8,6 @@ use Rattle.far_heap.specs.HeapId.{HeapId}
 use Rattle.far_heap.specs.Mine.{Mine, newcomer}
 use Rattle.far_split.specs.Jobs.{AreJobs, IsJobAt}
 use Rattle.far_split.specs.declared.run.Job.{Job}
-use Rattle.far_split.specs.declared.run.Job.TheVariants.{Mutator as MutatorJob, Book as BookJob}
 
 -- the mutators from this one on, of so many
 abbrev pub later : HeapId → ℕ → List Mine

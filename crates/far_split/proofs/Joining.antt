@@ -1,5 +1,5 @@
 -- What all threads were answered, from how each ended.
-use Rattle.std.proofs.Common.{◌≡◌, ◌≢◌, ◌⊎◌, inl, inr, ℕ, zero, suc, ◌+◌, ◌<◌, ◌≤◌, Bool, true, false, Option, Some, None, Result, Ok, Err, List, [], ◌∷◌, ◌++◌, length, length-append, get_or, ap, sym, subst, ◌∙◌, refl, arith, append_assoc, append-nil}
+use Rattle.std.proofs.Common.{◌≡◌, ◌⊎◌, inl, inr, ℕ, suc, ◌+◌, ◌<◌, Bool, true, false, Some, None, Result, Ok, Err, List, [], ◌∷◌, ◌++◌, length, length-append, get_or, ap, sym, subst, ◌∙◌, refl, arith, append_assoc}
 use Rattle.std.specs.Prelude.{IfErr, IfOk, map, ◌==◌, if◌then◌else◌}
 use Rattle.std.specs.Global.{Vec}
 use Rattle.std.specs.List.{AllByRecursion, remove}
@@ -12,10 +12,9 @@ use Rattle.far_replay.specs.Alone.{nothing}
 use Rattle.far_replay.specs.Reply.{IsShort, Reply}
 use Rattle.far_split.specs.Here.{AloneHere}
 use Rattle.far_split.specs.Jobs.{AreEnds, EndsSo, IsPart, Joins}
-use Rattle.far_split.specs.Joined.{AllRan, AreShort, IsFault, IsStopped, MayStop, RanSo, as_joined, commands_in, replies_of, who_at}
+use Rattle.far_split.specs.Joined.{AllRan, AreShort, IsFault, MayStop, RanSo, as_joined, commands_in, replies_of, who_at}
 use Rattle.far_split.specs.declared.gate.TheConstants.{THE_BOOK}
 use Rattle.far_split.specs.declared.mutators.Stop.{Stop}
-use Rattle.far_split.specs.declared.mutators.Stop.TheVariants as stops
 use Rattle.far_split.specs.declared.out.SplitOut.{SplitOut}
 use Rattle.far_split.specs.declared.out.SplitOut.TheVariants.{Refused as OutRefused, Ran as OutRan}
 use Rattle.far_split.specs.declared.run.SplitFault.{SplitFault}

@@ -1,5 +1,5 @@
 -- A round of a policy is one of the policy's name.
-use Rattle.std.proofs.Common.{◌≡◌, ◌⊎◌, inl, inr, ℕ, List, Result, Ok, Err, ap, sym, subst, ◌∙◌, refl}
+use Rattle.std.proofs.Common.{◌≡◌, inl, inr, ℕ, List, Result, Ok, Err, subst, refl}
 use Rattle.std.specs.Prelude.{IfErr}
 use Rattle.far_word.specs.declared.refused.Refused.{Refused as Refusal}
 use Rattle.far_log.specs.declared.row.LogRow.{LogRow}
@@ -7,7 +7,7 @@ use Rattle.far_device.specs.declared.mem.MemDevice.{MemDevice}
 use Rattle.far_evac.specs.declared.answers.EvacFault.{EvacFault}
 use Rattle.far_evac.specs.declared.answers.RoundEnd.{RoundEnd}
 use Rattle.far_heap.specs.HeapId.{HeapId}
-use Rattle.far_heap.specs.Rounds.{Chose, IsUnchosen, RefusesRound, StopsTurns}
+use Rattle.far_heap.specs.Rounds.{Chose, IsUnchosen, RefusesRound}
 use Rattle.far_text.specs.Command.{Policy}
 use Rattle.far_split.specs.BookTold.{Gives, StopsRound}
 

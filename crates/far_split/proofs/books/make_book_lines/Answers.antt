@@ -1,4 +1,4 @@
-use Rattle.std.proofs.Common.{◌++◌, [], ap, append-nil, map, subst, sym, arith}
+use Rattle.std.proofs.Common.{[], append-nil, map, subst, sym, arith}
 use Rattle.std.proofs.Math.ListN.{drop_of_length-le}
 use Rattle.far_split.specs.BookTold.{BookTold}
 use Rattle.far_split.specs.Here.{commands_of}

@@ -1,4 +1,4 @@
-use Rattle.std.proofs.Common.{◌≡◌, ◌+◌, ◌≤◌, filter, length, take}
+use Rattle.std.proofs.Common.{◌≡◌, ◌+◌, filter, length, take}
 use Rattle.far_evac.specs.declared.census.Housed.{Housed}
 use Rattle.far_split.specs.BookTold.{lies_far, lies_near}
 use Rattle.far_split.proofs.inquiries.count_homes.Given as goal

@@ -1,4 +1,4 @@
-use Rattle.std.proofs.Common.{◌∙◌, ap, subst, sym}
+use Rattle.std.proofs.Common.{subst, sym}
 use Rattle.std.specs.Prelude.{IfErr}
 use Rattle.far_text.specs.Command.{LeastLive, Oldest, as_policy}
 use Rattle.far_split.specs.BookTold.{StopsRound}

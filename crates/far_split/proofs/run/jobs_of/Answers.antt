@@ -1,4 +1,4 @@
-use Rattle.std.proofs.Common.{◌≡◌, ◌+◌, ◌∙◌, ap, arith, length, map, refl, subst, sym, ℕ}
+use Rattle.std.proofs.Common.{◌+◌, ◌∙◌, ap, arith, length, map, refl, subst, sym, ℕ}
 use Rattle.std.specs.List.{range_with_len}
 use Rattle.std.proofs.lemmas.List.FromFn.{length-map-range_with_len}
 use Rattle.far_heap.specs.Mine.{newcomer}

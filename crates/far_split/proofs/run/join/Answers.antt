@@ -1,8 +1,6 @@
-use Rattle.std.proofs.Common.{◌∙◌, None, Ok, Some, ap, arith, inr, length, map, subst}
-use Rattle.std.specs.Global.{Vec}
+use Rattle.std.proofs.Common.{◌∙◌, None, Some, ap, arith, inr, length, map, subst}
 use Rattle.std.proofs.lemmas.List.{length-map}
 use Rattle.far_split.specs.Joined.{IsFault}
-use Rattle.far_split.specs.declared.told.Told.{Told}
 use Rattle.far_split.proofs.Joining.{answered}
 use Rattle.far_split.proofs.run.join.Goals as goal
 

@@ -1,4 +1,4 @@
-use Rattle.std.proofs.Common.{◌≡◌, ◌<◌, ◌++◌, ◌∙◌, Ok, ap, arith, length, map, sym}
+use Rattle.std.proofs.Common.{◌<◌, ◌++◌, ◌∙◌, Ok, ap, arith, length, map, sym}
 use Rattle.far_split.proofs.Joining.{never_stopped, parts_more, took_first}
 use Rattle.far_split.proofs.run.parts_of.Goals as goal
 
