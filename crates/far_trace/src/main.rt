@@ -91,7 +91,10 @@ fn answer_split<R: Input + Print + AllocGlobal + Threads + Wait + Sync>(
 ) -> Result<End, Fault> {
     let mut room = Output::new(rt.alloc())?;
     let text = read_whole(rt.alloc(), &mut rt.reader(), LONGEST_TEXT + 1)?;
-    let told = run_split(rt.alloc(), rt, &text, &NoGate)?;
+    let told = match run_split(rt.alloc(), rt, &text, &NoGate) {
+        Ok(told) => told,
+        Err(fault) => return Err(fault.into()),
+    };
     told.print(&mut room, &mut io::writer(rt))?;
     match told {
         SplitOut::Refused(_) => Ok(End::Refused),

@@ -1,21 +1,10 @@
 //! Runs of texts, and what they print.
 
 use far_replay::Output;
-use far_split::{Gate, SplitFault, SplitOut, run_split};
+use far_split::{Gate, SplitFault, run_split};
 use std::alloc::{AllocError, Global};
 use std::sync::Wait;
 use std::thread::Threads;
-
-// What is printed of an answer. `None` where memory is refused.
-fn text_of(alloc: Global, told: &SplitOut) -> Option<Vec<u8>> {
-    let mut written = Vec::new(alloc);
-    let Ok(mut room) = Output::new(alloc) else {
-        return None;
-    };
-    told.print(&mut room, &mut written)
-        .is_ok()
-        .then_some(written)
-}
 
 /// What a run of the text prints. `None` where it doesn't come to its end.
 pub(super) fn printed<R: Threads + Wait + Sync, G: Gate>(
@@ -24,8 +13,15 @@ pub(super) fn printed<R: Threads + Wait + Sync, G: Gate>(
     text: &str,
     gate: &G,
 ) -> Option<Vec<u8>> {
-    match run_split(alloc, rt, text.as_bytes(), gate) {
-        Ok(told) => text_of(alloc, &told),
+    let Ok(mut room) = Output::new(alloc) else {
+        return None;
+    };
+    let Ok(told) = run_split(alloc, rt, text.as_bytes(), gate) else {
+        return None;
+    };
+    let mut written = Vec::new(alloc);
+    match told.print(&mut room, &mut written) {
+        Ok(()) => Some(written),
         Err(_) => None,
     }
 }
