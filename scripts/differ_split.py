@@ -164,7 +164,7 @@ class SplitWriter(Writer):
 
     def round(self) -> str:
         policy = self.policy(self.choice.choice(("oldest", "leastlive")))
-        turns = self.choice.choice((0, 1, 2, 3, 4, 9, 100)) if self.choice.random() < 0.02 else 20_000
+        turns = self.choice.choice((0, 1, 2, 3, 4, 9, 100)) if self.choice.random() < 0.02 else 1_000  # (each lets other threads run)
         return f"round {policy} {turns}"
 
     def line(self) -> str:
