@@ -24,20 +24,18 @@ impl<'a> Turns<'a> {
         self.made.count() == self.order.len() as u64
     }
 
-    // How many lines come before a thread's line of this turn.
+    // How many lines come before a thread's line of this turn, which there must be.
     fn place(&self, who: u8, turn: u32) -> u64 {
         let mut left = turn;
-        let mut place = 0;
-        for thread in self.order {
+        for (place, thread) in self.order.iter().enumerate() {
             if *thread == who {
                 if left == 0 {
-                    break;
+                    return place as u64;
                 }
                 left -= 1;
             }
-            place += 1;
         }
-        place
+        u64::MAX
     }
 }
 
