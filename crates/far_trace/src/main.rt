@@ -72,10 +72,13 @@ fn arguments(rt: &HostRuntime) -> Result<Asked, Fault> {
         Err(_) => return Ok(Asked::Unknown),
     };
     let _program = words.next();
-    match (words.next(), words.next()) {
-        (None, _) => Ok(Asked::Whole),
-        (Some(word), None) if word.as_str() == "split" => Ok(Asked::Split),
-        _ => Ok(Asked::Unknown),
+    let Some(word) = words.next() else {
+        return Ok(Asked::Whole);
+    };
+    if words.next().is_none() && word.as_str() == "split" {
+        Ok(Asked::Split)
+    } else {
+        Ok(Asked::Unknown)
     }
 }
 
