@@ -1,5 +1,7 @@
 //! Who is asked before each line.
 
+ghost use Rattle.std.specs.Prelude.{◌≡◌, true};
+
 /// Asked in each thread before each of its lines, and told after each. `who` is a mutator's number, or [`THE_BOOK`](crate::THE_BOOK) for the book's thread; `turn` is how many of
 /// that thread's lines stand before this one. It is shared by all threads.
 pub trait Gate: Sync {

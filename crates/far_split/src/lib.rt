@@ -1,8 +1,22 @@
 //! A split trace is run: each mutator's lines in a thread of its own on one running heap, rounds and inquiries beside them in the book's.
+//!
+//! [`run_split`] does it. What each thread was answered is in [`SplitOut`], which [`SplitOut::print`] writes. A [`Gate`] is asked before each line.
 #![tactic(auto)]
 
+mod access;
+mod books;
 mod gate;
+mod inquiries;
+mod laws;
+mod mutators;
+mod out;
+mod rounds;
+mod run;
+mod slot;
 mod told;
 
-pub use gate::{Gate, NoGate};
+pub use gate::{Gate, NoGate, THE_BOOK};
+pub use laws::mutators_are_alone;
+pub use out::SplitOut;
+pub use run::{SplitFault, run_split};
 pub use told::Told;

@@ -1,0 +1,133 @@
+-- What all threads were answered, from how each ended.
+use Rattle.std.proofs.Common.{◌≡◌, ◌⊎◌, inl, inr, ℕ, suc, ◌+◌, ◌<◌, Bool, true, false, Some, None, Result, Ok, Err, List, [], ◌∷◌, ◌++◌, length, length-append, get_or, ap, sym, subst, ◌∙◌, refl, arith, append_assoc}
+use Rattle.std.specs.Prelude.{IfErr, IfOk, map, ◌==◌, if◌then◌else◌}
+use Rattle.std.specs.Global.{Vec}
+use Rattle.std.specs.List.{AllByRecursion, remove}
+use Rattle.std.proofs.lemmas.Bool.{eqb-false}
+use Rattle.std.proofs.lemmas.List.{get_or-append-add, get_or-map, get_or_append_left, get_or_default, get_or_push, length-map, map-append}
+use Rattle.far_text.specs.Command.{Command}
+use Rattle.far_text.specs.Threads.{OfMutator}
+use Rattle.far_heap.specs.HeapId.{HeapId}
+use Rattle.far_replay.specs.Alone.{nothing}
+use Rattle.far_replay.specs.Reply.{IsShort, Reply}
+use Rattle.far_split.specs.Here.{AloneHere}
+use Rattle.far_split.specs.Jobs.{AreEnds, EndsSo, IsPart, Joins}
+use Rattle.far_split.specs.Joined.{AllRan, AreShort, IsFault, MayStop, RanSo, as_joined, commands_in, replies_of, who_at}
+use Rattle.far_split.specs.declared.gate.TheConstants.{THE_BOOK}
+use Rattle.far_split.specs.declared.mutators.Stop.{Stop}
+use Rattle.far_split.specs.declared.out.SplitOut.{SplitOut}
+use Rattle.far_split.specs.declared.out.SplitOut.TheVariants.{Refused as OutRefused, Ran as OutRan}
+use Rattle.far_split.specs.declared.run.SplitFault.{SplitFault}
+use Rattle.far_split.specs.declared.run.SplitFault.TheVariants as faults
+use Rattle.far_split.specs.declared.told.Told.{Told}
+
+abbrev pub End : Type 0
+End = Result (Vec Told) Stop
+
+abbrev pub answered : Vec Told → End
+answered told = Ok told
+
+-- what holds at each place holds of all
+all_from : {X : Type 0} (P : X → Type 0) (other : X) (xs : List X) → ((at : ℕ) → at < length xs → P (get_or xs at other)) → AllByRecursion P xs
+all_from P other [] each = tt
+all_from P other (x ∷ xs) each = (each 0 (omega arith), all_from P other xs (λ at lt. each (suc at) (omega arith)))
+
+module _ (heap : HeapId) (lines : List (ℕ × Command)) (ends : List End) (are : AreEnds heap lines ends) (parts : List (Vec Told)) (book : Vec Told) (joins : ends ≡ map answered (parts ++ book ∷ [])) where
+  count : length parts ≡ heap.mutators
+  count = omega (arith, are.many, ap length joins, length-map (parts ++ book ∷ []) answered, length-append parts (book ∷ []))
+
+  -- the replies of a thread
+  part_at : (at : ℕ) → at < length ends → IsPart heap lines at (replies_of (get_or (parts ++ book ∷ []) at book))
+  part_at at lt =
+      let long : at < length (parts ++ book ∷ []) = omega (arith, ap length joins, length-map (parts ++ book ∷ []) answered) in
+      let is : get_or ends at (answered book) ≡ answered (get_or (parts ++ book ∷ []) at book) =
+      ap (λ xs. get_or xs at (answered book)) joins ∙ get_or-map answered (parts ++ book ∷ []) at book (answered book) long in
+      subst (EndsSo heap lines at) is (are.each at (answered book) lt)
+
+  mutators_part : (at : ℕ) → at < length parts → IsPart heap lines at (replies_of (get_or parts at book))
+  mutators_part at lt =
+      subst (λ told. IsPart heap lines at (replies_of told)) (get_or_append_left parts (book ∷ []) book at lt) (part_at at (omega (arith, are.many, count)))
+
+  books_part : IsPart heap lines heap.mutators (replies_of book)
+  books_part = subst (λ told. IsPart heap lines heap.mutators (replies_of told)) (get_or_push parts book book heap.mutators count) (part_at heap.mutators (omega (arith, are.many)))
+
+  read_at : (at : ℕ) (other : List Reply) → at < length parts → get_or (map replies_of parts) at other ≡ replies_of (get_or parts at book)
+  read_at at other lt = get_or-map replies_of parts at book other lt
+
+  pub all_ran : heap.honest ≡ true → AllRan heap.logs heap.mutators lines (map replies_of parts) (replies_of book)
+  all_ran honest = record {
+    heap = heap;
+    size = (refl, refl);
+    honest = honest;
+    many = length-map parts replies_of ∙ count;
+    alone = λ m lt.
+        let below : m < length parts = omega (arith, count, lt) in
+        subst (AloneHere m nothing (commands_in (OfMutator m) lines)) (sym (read_at m [] below)) ((mutators_part m below).alone lt);
+    told = books_part.told refl;
+  }
+
+  pub all_short : AllByRecursion (AllByRecursion IsShort) (map replies_of parts) × AllByRecursion IsShort (replies_of book)
+  all_short = (
+    all_from (AllByRecursion IsShort) [] (map replies_of parts)
+        (λ at lt.
+        let below : at < length parts = omega (arith, lt, length-map parts replies_of) in
+        subst (AllByRecursion IsShort) (sym (read_at at [] below)) (mutators_part at below).short),
+    books_part.short,
+  )
+
+pub ran_so : (heap : HeapId) (lines : List (ℕ × Command)) (ends : List End) (out : SplitOut) → heap.honest ≡ true → AreEnds heap lines ends → Joins ends out → RanSo heap.logs heap.mutators lines (as_joined out)
+ran_so heap lines ends (OutRefused why) honest are joins = joins
+ran_so heap lines ends (OutRan mutators book) honest are joins = all_ran heap lines ends are mutators.items book joins honest
+
+pub are_short : (heap : HeapId) (lines : List (ℕ × Command)) (ends : List End) (out : SplitOut) → AreEnds heap lines ends → Joins ends out → AreShort (as_joined out)
+are_short heap lines ends (OutRefused why) are joins = absurd joins
+are_short heap lines ends (OutRan mutators book) are joins = all_short heap lines ends are mutators.items book joins
+
+-- ---- faults
+who_below : (many at : ℕ) → at < many + 1 → (who_at (many + 1) at < many) ⊎ (who_at (many + 1) at ≡ THE_BOOK)
+who_below many at lt = by (at + 1 == many + 1) refl where
+  by : (last : Bool) → (at + 1 == many + 1) ≡ last → ((if last then THE_BOOK else at) < many) ⊎ ((if last then THE_BOOK else at) ≡ THE_BOOK)
+  by true is = inr refl
+  by false is = inl (omega (arith, eqb-false (at + 1) (many + 1) is))
+
+pub may_stop : (heap : HeapId) (lines : List (ℕ × Command)) (ends : List End) (fault : SplitFault) → AreEnds heap lines ends → (fault ≡ faults.Memory) ⊎ IsFault ends (Some fault) → MayStop heap.mutators fault
+may_stop heap lines ends faults.Memory are is = tt
+may_stop heap lines ends (faults.Gate who) are (inl memory) = absurd cc
+may_stop heap lines ends (faults.Gate who) are (inr (at, stopped, none, named)) =
+    let same : who ≡ who_at (heap.mutators + 1) at = named ∙ ap (λ many. who_at many at) are.many in
+    subst (λ (k : ℕ). (k < heap.mutators) ⊎ (k ≡ THE_BOOK)) (sym same) (who_below heap.mutators at (omega (arith, stopped.0, are.many)))
+
+-- ---- the same of a result
+pub all_ran_so : (heap : HeapId) (lines : List (ℕ × Command)) (ends : List End) (result : Result SplitOut SplitFault) → heap.honest ≡ true → AreEnds heap lines ends → IfOk result (Joins ends)
+    → IfOk result (λ out. RanSo heap.logs heap.mutators lines (as_joined out))
+all_ran_so heap lines ends (Ok out) honest are joins = ran_so heap lines ends out honest are joins
+all_ran_so heap lines ends (Err fault) honest are joins = tt
+
+pub all_are_short : (heap : HeapId) (lines : List (ℕ × Command)) (ends : List End) (result : Result SplitOut SplitFault) → AreEnds heap lines ends → IfOk result (Joins ends) → IfOk result (λ out. AreShort (as_joined out))
+all_are_short heap lines ends (Ok out) are joins = are_short heap lines ends out are joins
+all_are_short heap lines ends (Err fault) are joins = tt
+
+pub all_may_stop : (heap : HeapId) (lines : List (ℕ × Command)) (ends : List End) (result : Result SplitOut SplitFault) → AreEnds heap lines ends
+    → IfErr result (λ fault. (fault ≡ faults.Memory) ⊎ IsFault ends (Some fault)) → IfErr result (MayStop heap.mutators)
+all_may_stop heap lines ends (Ok out) are is = tt
+all_may_stop heap lines ends (Err fault) are is = may_stop heap lines ends fault are is
+
+-- ---- one thread's replies after the other
+pub took_first : (rest left : List End) (end : End) → 0 < length rest → end ≡ get_or rest 0 end → left ≡ remove rest 0 → rest ≡ end ∷ left
+took_first [] left end some first others = absurd (omega (arith, some))
+took_first (x ∷ xs) left end some first others = λ i. sym first i ∷ sym others i
+
+-- where none was stopped, this one wasn't
+pub never_stopped : (ends rest : List End) (parts : List (Vec Told)) (end : End) (why : Stop) → IsFault ends None → ends ≡ map answered parts ++ rest → 0 < length rest → end ≡ get_or rest 0 end → end ≡ Err why → ⊥
+never_stopped ends rest parts end why none so_far some first is =
+    let front = map answered parts in
+    let at : ℕ = length front + 0 in
+    let below : at < length ends = omega (arith, ap length so_far, length-append front rest, some) in
+    let found : (other : End) → get_or ends at other ≡ Err why =
+    λ other. ap (λ xs. get_or xs at other) so_far ∙ get_or-append-add front rest 0 other ∙ get_or_default rest 0 other end some ∙ sym first ∙ is in
+    none at why (below, found)
+
+pub parts_more : (ends rest left : List End) (parts : List (Vec Told)) (end : End) (told : Vec Told) → ends ≡ map answered parts ++ rest → rest ≡ end ∷ left → end ≡ answered told
+    → ends ≡ map answered (parts ++ told ∷ []) ++ left
+parts_more ends rest left parts end told so_far first is =
+    so_far ∙ ap (λ xs. map answered parts ++ xs) (first ∙ ap (λ x. x ∷ left) is) ∙ sym (append_assoc (map answered parts) (answered told ∷ []) left) ∙ ap (λ xs. xs ++ left) (sym (map-append answered parts (told ∷ [])))

@@ -1,0 +1,10 @@
+pub mod Allowed
+pub mod Answered
+pub mod Beginning
+pub mod Faults
+pub mod Joining
+pub mod OwnLines
+pub mod Owns
+pub mod Printing
+pub mod RoundsBy
+pub mod Telling

@@ -1,0 +1,62 @@
+-- The replies to one mutator's own lines, on a heap that others use beside it.
+use Rattle.std.specs.Prelude.{◌≡◌, ℕ, ◌<◌, ◌≤◌, ◌⊎◌, true, false, Some, List, [], ◌∷◌, length, map}
+use Rattle.far_word.specs.declared.refused.Refused.TheVariants.{Damaged, Memory, NoPointer, NoRoom}
+use Rattle.far_word.specs.declared.sizes.TheConstants.{LONGEST}
+use Rattle.far_text.specs.Command.{Command, Mutator, New, Read, View, Write}
+use Rattle.far_replay.specs.Alone.{Alone, IsIn, Knows, Own, is_by, speaker}
+use Rattle.far_replay.specs.Reply.{Reply, Refused}
+
+-- a command is refused by what others, rounds and the system do meanwhile, and what the mutator knows stays as it is; no earlier refusal of the command's
+-- row applies. A new object may want a pointer although one is unused, since the cell of a dropped object is free only once a round came by; or room. An
+-- object that isn't viewed may be far, and there may be no memory to bring it. What a plain heap refuses too, for want of room or by its device or a
+-- mark, is in `Knows`
+abbrev pub Hindered : Own → Command → Reply → Own → Type 0
+Hindered o (Mutator _ (New len ds)) (Refused NoPointer) q = (ds < 256) × (0 < len) × (len ≤ LONGEST) × (q ≡ o)
+Hindered o (Mutator _ (New len ds)) (Refused NoRoom) q = (ds < 256) × (0 < len) × (len ≤ LONGEST) × (q ≡ o)
+Hindered o (Mutator _ (Read p from len)) (Refused Memory) q = (o.opened ≡ true) × (o.viewed p ≡ false) × (q ≡ o) × ((all : List ℕ) × (o.object p ≡ Some all) × IsIn all from len)
+Hindered o (Mutator _ (Write p from new)) (Refused Memory) q = (o.opened ≡ true) × (o.viewed p ≡ false) × (q ≡ o) × ((all : List ℕ) × (o.object p ≡ Some all) × IsIn all from (length new))
+Hindered o (Mutator _ (View p)) (Refused Memory) q = (o.opened ≡ true) × (o.viewed p ≡ false) × (q ≡ o) × ((all : List ℕ) × (o.object p ≡ Some all))
+Hindered o _ _ q = ⊥
+
+-- the far side gave no other bytes than it was given
+abbrev pub IsUndamaged : Reply → Type 0
+IsUndamaged (Refused Damaged) = ⊥
+IsUndamaged r = Unit {0}
+
+-- a command of the mutator m with its reply takes what it knows from o to q: by its own lines, or it is hindered; the far side is honest
+abbrev pub KnowsHere : ℕ → Own → Command → Reply → Own → Type 0
+KnowsHere m o c r q = (Knows m o c r q ⊎ Hindered o c r q) × IsUndamaged r
+
+-- the replies to the mutator's own lines, from what it knows on
+abbrev pub AloneHere : ℕ → Own → List Command → List Reply → Type 0
+AloneHere m o [] [] = Unit {0}
+AloneHere m o (c ∷ cs) (r ∷ rs) = (q : Own) × KnowsHere m o c r q × AloneHere m q cs rs
+AloneHere m o _ _ = ⊥
+
+-- what these lines say
+abbrev pub commands_of : List (ℕ × Command) → List Command
+commands_of lines = map (λ (line : ℕ × Command). line.1) lines
+
+-- ---- the law of a mutator that is alone is this one, where it is never hindered
+-- the lines are the mutator's own
+abbrev pub AreBy : ℕ → List Command → Type 0
+AreBy m [] = Unit {0}
+AreBy m (c ∷ cs) = (is_by m (speaker c) ≡ true) × AreBy m cs
+
+abbrev pub AreUndamaged : List Reply → Type 0
+AreUndamaged [] = Unit {0}
+AreUndamaged (r ∷ rs) = IsUndamaged r × AreUndamaged rs
+
+-- none of them is hindered
+abbrev pub Unhindered : ℕ → Own → List Command → List Reply → Type 0
+Unhindered m o [] [] = Unit {0}
+Unhindered m o (c ∷ cs) (r ∷ rs) = (q : Own) × Knows m o c r q × Unhindered m q cs rs
+Unhindered m o _ _ = ⊥
+
+-- what is allowed of a mutator that is alone is allowed here, if the far side is honest
+abbrev pub AloneIsAloneHere : Type 0
+AloneIsAloneHere = (m : ℕ) (o : Own) (cs : List Command) (rs : List Reply) → AreBy m cs → AreUndamaged rs → Alone m o cs rs → AloneHere m o cs rs
+
+-- what isn't hindered here is allowed of a mutator that is alone
+abbrev pub UnhinderedIsAlone : Type 0
+UnhinderedIsAlone = (m : ℕ) (o : Own) (cs : List Command) (rs : List Reply) → AreBy m cs → Unhindered m o cs rs → Alone m o cs rs

@@ -1,0 +1,47 @@
+-- The jobs of the threads, and how they end.
+use Rattle.std.specs.Prelude.{◌≡◌, ℕ, ◌+◌, ◌<◌, true, Result, Ok, IfOk, List, [], ◌∷◌, ◌++◌, length, map, slice_index_or}
+use Rattle.std.specs.Global.{Vec}
+use Rattle.std.specs.List.{AllByRecursion}
+use Rattle.far_heap.specs.HeapId.{HeapId}
+use Rattle.far_heap.specs.Mine.{newcomer}
+use Rattle.far_text.specs.Command.{Command}
+use Rattle.far_text.specs.Threads.{OfMutator, OfBook}
+use Rattle.far_replay.specs.Alone.{nothing}
+use Rattle.far_replay.specs.Reply.{IsShort, Reply}
+use Rattle.far_split.specs.BookTold.{BookTold}
+use Rattle.far_split.specs.Here.{AloneHere}
+use Rattle.far_split.specs.Joined.{commands_in, replies_of}
+use Rattle.far_split.specs.declared.mutators.Stop.{Stop}
+use Rattle.far_split.specs.declared.out.SplitOut.{SplitOut}
+use Rattle.far_split.specs.declared.out.SplitOut.TheVariants.{Refused as OutRefused, Ran as OutRan}
+use Rattle.far_split.specs.declared.run.Job.{Job}
+use Rattle.far_split.specs.declared.run.Job.TheVariants.{Mutator as MutatorJob, Book as BookJob}
+use Rattle.far_split.specs.declared.told.Told.{Told}
+
+-- a mutator's stands at its number, the book's behind them
+abbrev pub IsJobAt : {K : Type 0} → HeapId → ℕ → Job K → Type 0
+IsJobAt heap at (MutatorJob mutator number) = (number ≡ at) × (at < heap.mutators) × (mutator ≡ newcomer heap.table at true)
+IsJobAt heap at BookJob = at ≡ heap.mutators
+
+pub record AreJobs {K : Type 0} (heap : HeapId) (jobs : List (Job K)) : Type 0 where
+  pub many : length jobs ≡ heap.mutators + 1
+  pub each : (at : ℕ) (other : Job K) → at < length jobs → IsJobAt heap at (slice_index_or jobs at other)
+
+-- replies to the lines of the thread at a place
+pub record IsPart (heap : HeapId) (lines : List (ℕ × Command)) (at : ℕ) (replies : List Reply) : Type 0 where
+  pub alone : at < heap.mutators → AloneHere at nothing (commands_in (OfMutator at) lines) replies
+  pub told : at ≡ heap.mutators → BookTold heap (commands_in OfBook lines) replies
+  pub short : AllByRecursion IsShort replies
+
+-- it ended: with its replies, unless it was stopped
+abbrev pub EndsSo : HeapId → List (ℕ × Command) → ℕ → Result (Vec Told) Stop → Type 0
+EndsSo heap lines at end = IfOk end (λ told. IsPart heap lines at (replies_of told))
+
+pub record AreEnds (heap : HeapId) (lines : List (ℕ × Command)) (ends : List (Result (Vec Told) Stop)) : Type 0 where
+  pub many : length ends ≡ heap.mutators + 1
+  pub each : (at : ℕ) (other : Result (Vec Told) Stop) → at < length ends → EndsSo heap lines at (slice_index_or ends at other)
+
+-- these are all replies, the book's last
+abbrev pub Joins : List (Result (Vec Told) Stop) → SplitOut → Type 0
+Joins ends (OutRefused why) = ⊥
+Joins ends (OutRan mutators book) = ends ≡ map Ok (mutators.items ++ book ∷ [])

@@ -1,0 +1,97 @@
+-- What a split text is answered: the replies of all threads, each mutator's by its own lines.
+use Rattle.std.specs.Prelude.{◌≡◌, ◌⊎◌, ℕ, ◌+◌, ◌<◌, true, ◌==◌, if◌then◌else◌, Option, Some, None, Result, Ok, Err, List, [], length, map, slice_index_or}
+use Rattle.std.specs.Bool.{MatchBool}
+use Rattle.std.specs.Global.{Vec}
+use Rattle.std.specs.List.{AllByRecursion}
+use Rattle.far_word.specs.declared.refused.Refused.{Refused as Refusal}
+use Rattle.far_word.specs.declared.refused.Refused.TheVariants.{Shape, Syntax}
+use Rattle.far_core.specs.state.Shape.{is_shape}
+use Rattle.far_heap.specs.HeapId.{HeapId}
+use Rattle.far_text.specs.Command.{Command}
+use Rattle.far_text.specs.Split.{SplitTrace, NothingSplit, SplitHeap}
+use Rattle.far_text.specs.Threads.{Thread, OfMutator, OfBook, lines_in}
+use Rattle.far_replay.specs.Alone.{nothing}
+use Rattle.far_replay.specs.Answers.{shape_of}
+use Rattle.far_replay.specs.Reply.{IsShort, Reply}
+use Rattle.far_split.specs.BookTold.{BookTold}
+use Rattle.far_split.specs.Here.{AloneHere, commands_of}
+use Rattle.far_split.specs.Told.{as_reply}
+use Rattle.far_split.specs.declared.mutators.Stop.{Stop}
+use Rattle.far_split.specs.declared.mutators.Stop.TheVariants as stops
+use Rattle.far_split.specs.declared.gate.TheConstants.{THE_BOOK}
+use Rattle.far_split.specs.declared.out.SplitOut.{SplitOut}
+use Rattle.far_split.specs.declared.out.SplitOut.TheVariants.{Refused as OutRefused, Ran as OutRan}
+use Rattle.far_split.specs.declared.run.SplitFault.{SplitFault}
+use Rattle.far_split.specs.declared.run.SplitFault.TheVariants as faults
+use Rattle.far_split.specs.declared.told.Told.{Told}
+
+-- ---- all replies
+-- the text was refused, or its heap's shape, and nothing ran; or these are the replies to each mutator's lines, by number, and to the book's
+pub data Joined : Type 0 where
+  Refused : (why : Refusal) → Joined
+  Ran : (mutators : List (List Reply)) (book : List Reply) → Joined
+
+abbrev pub replies_of : Vec Told → List Reply
+replies_of told = map as_reply told.items
+
+abbrev pub as_joined : SplitOut → Joined
+as_joined (OutRefused why) = Refused why
+as_joined (OutRan mutators book) = Ran (map replies_of mutators.items) (replies_of book)
+
+-- each can be printed: it has no more bytes than an object, and no more lines than a heap has logs
+abbrev pub AreShort : Joined → Type 0
+AreShort (Refused why) = Unit {0}
+AreShort (Ran mutators book) = AllByRecursion (AllByRecursion IsShort) mutators × AllByRecursion IsShort book
+
+-- ---- what they follow from
+-- the commands of a thread's own lines
+abbrev pub commands_in : Thread → List (ℕ × Command) → List Command
+commands_in thread lines = commands_of (lines_in thread lines)
+
+-- a heap of this size, which is honest, answered these lines: for each of its mutators, and for none else, there are replies, which follow from the mutator's own
+-- lines, whatever other threads did meanwhile; and the book's were answered on it
+pub record AllRan (logs mutators : ℕ) (lines : List (ℕ × Command)) (replies : List (List Reply)) (book : List Reply) : Type 0 where
+  pub heap : HeapId
+  pub size : (heap.logs ≡ logs) × (heap.mutators ≡ mutators)
+  pub honest : heap.honest ≡ true
+  pub many : length replies ≡ mutators
+  pub alone : (m : ℕ) → m < mutators → AloneHere m nothing (commands_in (OfMutator m) lines) (slice_index_or replies m [])
+  pub told : BookTold heap (commands_in OfBook lines) book
+
+abbrev pub RanSo : ℕ → ℕ → List (ℕ × Command) → Joined → Type 0
+RanSo logs mutators lines (Refused why) = ⊥
+RanSo logs mutators lines (Ran replies book) = AllRan logs mutators lines replies book
+
+-- what a text is answered that is read so: its refusal; for nothing no replies; for a heap out of range that refusal; else all its threads' replies
+abbrev pub SplitAnswers : Result SplitTrace ℕ → Joined → Type 0
+SplitAnswers (Err line) joined = joined ≡ Refused (Syntax line)
+SplitAnswers (Ok NothingSplit) joined = joined ≡ Ran [] []
+SplitAnswers (Ok (SplitHeap logs mutators epoch lines)) joined = MatchBool (is_shape (shape_of logs mutators epoch)) (RanSo logs mutators lines joined) (joined ≡ Refused Shape)
+
+-- ---- faults
+-- a thread of so many mutators, or the book's, was stopped by its gate; or memory was refused
+abbrev pub MayStop : ℕ → SplitFault → Type 0
+MayStop mutators (faults.Gate who) = (who < mutators) ⊎ (who ≡ THE_BOOK)
+MayStop mutators faults.Memory = Unit {0}
+
+-- there are threads on a heap in range alone; memory may be refused of any text
+abbrev pub MayEnd : Result SplitTrace ℕ → SplitFault → Type 0
+MayEnd read faults.Memory = Unit {0}
+MayEnd (Ok (SplitHeap logs mutators epoch lines)) (faults.Gate who) = (is_shape (shape_of logs mutators epoch) ≡ true) × MayStop mutators (faults.Gate who)
+MayEnd (Ok NothingSplit) (faults.Gate who) = ⊥
+MayEnd (Err line) (faults.Gate who) = ⊥
+
+-- ---- how threads ended: the mutators' by number, and the book's last
+-- the one at this place was stopped so
+abbrev pub IsStopped : {A : Type 0} → List (Result A Stop) → Stop → ℕ → Type 0
+IsStopped {A} ends why at = (at < length ends) × ((other : Result A Stop) → slice_index_or ends at other ≡ Err why)
+
+-- who it is, of so many
+abbrev pub who_at : ℕ → ℕ → ℕ
+who_at many at = if at + 1 == many then THE_BOOK else at
+
+-- the first that its gate stopped; or memory, where none was stopped so and some was refused memory; or nothing, where none was stopped
+abbrev pub IsFault : {A : Type 0} → List (Result A Stop) → Option SplitFault → Type 0
+IsFault ends (Some (faults.Gate who)) = (at : ℕ) × IsStopped ends stops.Gate at × ((sooner : ℕ) → sooner < at → ¬ IsStopped ends stops.Gate sooner) × (who ≡ who_at (length ends) at)
+IsFault ends (Some faults.Memory) = ((at : ℕ) × IsStopped ends stops.Memory at) × ((at : ℕ) → ¬ IsStopped ends stops.Gate at)
+IsFault ends None = (at : ℕ) (why : Stop) → ¬ IsStopped ends why at

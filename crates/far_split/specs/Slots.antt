@@ -1,0 +1,48 @@
+-- What a mutator of the heap knows of itself, and how one of its requests is answered.
+use Rattle.std.specs.Prelude.{◌≡◌, ◌⊎◌, ℕ, ◌+◌, ◌<◌, ◌≤◌, true, false}
+use Rattle.far_word.specs.declared.refused.Refused.{Refused}
+use Rattle.far_word.specs.declared.refused.Refused.TheVariants.{Length, NotHeld, Range}
+use Rattle.far_word.specs.declared.sizes.TheConstants.{LONGEST}
+use Rattle.far_heap.specs.Mine.{Mine, bytes_in, len_in, uses, views}
+use Rattle.far_text.specs.Command.{Mutator, Request}
+use Rattle.far_replay.specs.Alone.{Own}
+use Rattle.far_replay.specs.Reply.{IsShort, Reply}
+use Rattle.far_split.specs.Here.{KnowsHere}
+use Rattle.far_split.specs.declared.access.Access.{Access}
+use Rattle.far_split.specs.declared.slot.Slot.{Slot}
+use Rattle.far_split.specs.declared.slot.Slot.TheVariants.{Closed, Open}
+
+-- as the plain program's mutator knows it: its open flag, its objects' bytes, and what it views
+abbrev pub own_in : Mine → Own
+own_in m = record { opened = m.opened; object = λ p. bytes_in m p; viewed = λ p. views m p }
+
+-- the mutator whose scope is closed or open
+abbrev pub mine_in : {K : Type 0} → Slot K → Mine
+mine_in (Closed mutator) = mutator
+mine_in (Open scope) = scope
+
+-- a request of the mutator was answered so, with no more bytes than an object has, and it is the same mutator of the same heap
+pub record Answers (m : Mine) (request : Request) (r : Reply) (n : Mine) : Type 0 where
+  pub knows : KnowsHere m.number (own_in m) (Mutator m.number request) r (own_in n)
+  pub short : IsShort r
+  pub number : n.number ≡ m.number
+  pub honest : n.honest ≡ m.honest
+
+-- ---- what is asked for, as it is before the heap is asked
+-- some bytes of an object that the mutator uses
+abbrev pub IsReached : Mine → ℕ → ℕ → ℕ → Access → Type 0
+IsReached m p from count a = (a.pointer ≡ p) × (a.from ≡ from) × (a.count ≡ count) × (uses m p ≡ true) × (0 < count) × (from + count ≤ len_in m p)
+
+abbrev pub IsUnreached : Mine → ℕ → ℕ → ℕ → Refused → Type 0
+IsUnreached m p from count NotHeld = uses m p ≡ false
+IsUnreached m p from count Range = (uses m p ≡ true) × ((count ≡ 0) ⊎ (len_in m p < from + count))
+IsUnreached m p from count why = ⊥
+
+-- sizes that an object may have: its length and its data structure
+abbrev pub AreSizes : ℕ → ℕ → ℕ × ℕ → Type 0
+AreSizes len ds sizes = (sizes.0 ≡ len) × (sizes.1 ≡ ds) × (ds < 256) × (0 < len) × (len ≤ LONGEST)
+
+abbrev pub AreNoSizes : ℕ → ℕ → Refused → Type 0
+AreNoSizes len ds Range = 256 ≤ ds
+AreNoSizes len ds Length = (ds < 256) × ((len ≡ 0) ⊎ (LONGEST < len))
+AreNoSizes len ds why = ⊥

@@ -1,0 +1,79 @@
+//! The book's lines.
+
+ghost use Rattle.std.specs.Prelude.{◌≡◌, true, map, IfOk};
+ghost use Rattle.std.specs.List.{AllByRecursion};
+ghost use Rattle.far_text.specs.Command.{as_command};
+ghost use Rattle.far_text.specs.SplitText.{AreOwn};
+ghost use Rattle.far_text.specs.Threads.{OfBook, is_of};
+ghost use Rattle.far_replay.specs.Reply.{IsShort};
+ghost use Rattle.far_split.specs.BookTold.{BookTold, TellsLine};
+ghost use Rattle.far_split.specs.Here.{commands_of};
+ghost use Rattle.far_split.specs.Told.{as_reply};
+
+use crate::gate::{Gate, THE_BOOK};
+use crate::inquiries::inquire;
+use crate::mutators::Stop;
+use crate::rounds::make_round;
+use crate::told::Told;
+use far_device::MemDevice;
+use far_heap::{Heap, HeapName};
+use far_text::{Command, Lines, Step};
+use std::alloc::{AllocError, Global};
+use std::sync::Wait;
+
+// Makes a line of the book's. `Err` where there is no memory for what is told of logs.
+fn make_line<K: HeapName, R: Wait>(
+    alloc: Global,
+    rt: &R,
+    heap: &Heap<K, MemDevice>,
+    command: Command<'_>,
+) -> Result<Told, AllocError>
+    requires own { is_of OfBook (as_command command) ≡ true }
+    ensures told { IfOk result (λ told. TellsLine K.heap (as_command command.entry) (as_reply told)) }
+    ensures short { IfOk result (λ told. IsShort (as_reply told)) }
+{
+    match command {
+        Command::Book(inquiry) => inquire(alloc, rt, heap, inquiry),
+        Command::Evacuator(
+            Step::Round {
+                policy,
+                most,
+                turns,
+            },
+        ) => Ok(make_round(rt, heap, policy, most, turns)),
+        _ => unreachable!(),
+    }
+}
+
+/// Makes the book's lines, in order, asking the gate before each: what each was answered. The room for the list of answers is taken before the first line.
+///
+/// [`Stop::Gate`] where the gate says no to a line; [`Stop::Memory`] where there is no room for the list, or for what a line is to tell of logs.
+pub(crate) fn make_book_lines<K: HeapName, R: Wait, G: Gate>(
+    alloc: Global,
+    rt: &R,
+    heap: &Heap<K, MemDevice>,
+    lines: &Lines<'_>,
+    gate: &G,
+) -> Result<Vec<Told>, Stop>
+    requires own { AreOwn K.heap.mutators OfBook lines.now }
+    ensures told { IfOk result (λ told. BookTold K.heap (commands_of lines.now) (map as_reply told.items)) }
+    ensures short { IfOk result (λ told. AllByRecursion IsShort (map as_reply told.items)) }
+{
+    let Ok(mut told) = Vec::with_capacity(alloc, lines.len()) else {
+        return Err(Stop::Memory);
+    };
+    let mut turn = 0u32;
+    for at in 0..lines.len() {
+        if !gate.before(THE_BOOK, turn) {
+            return Err(Stop::Gate);
+        }
+        let (_, command) = lines.at(at);
+        let Ok(answer) = make_line(alloc, rt, heap, command) else {
+            return Err(Stop::Memory);
+        };
+        told.push_reserved(answer);
+        gate.after(THE_BOOK, turn);
+        turn = turn.saturating_add(1);
+    }
+    Ok(told)
+}

@@ -1,0 +1,153 @@
+//! What the book is asked beside the mutators: what a log has, and how many objects there are.
+
+ghost use Rattle.std.specs.Prelude.{◌≡◌, ◌<◌, ◌≤◌, ◌-◌, filter, length, map, IfOk};
+ghost use Rattle.std.specs.List.{range_with_len};
+ghost use Rattle.far_evac.specs.declared.census.Housed.{Housed as HousedAt};
+ghost use Rattle.far_table.specs.BookSeats.{seat_view};
+ghost use Rattle.far_evac.specs.EvacOf.{moment};
+ghost use Rattle.far_text.specs.Command.{Audit, Book, Log, as_inquiry};
+ghost use Rattle.far_replay.specs.Reply.{IsShort};
+ghost use Rattle.far_replay.specs.Turn.{log_line};
+ghost use Rattle.far_split.specs.BookTold.{TellsLine, TellsRange, lies_far, lies_near, live_in};
+ghost use Rattle.far_split.specs.Told.{as_reply};
+
+use crate::told::Told;
+use far_book::Home;
+use far_device::MemDevice;
+use far_evac::{Housed, LogState};
+use far_heap::{Evacuator, Heap, HeapName};
+use far_replay::{Counts, LogLine};
+use far_text::Inquiry;
+use far_word::Refused;
+use std::alloc::{AllocError, Global};
+use std::sync::Wait;
+
+// What is told of a log.
+fn line_of<K: HeapName>(book: &Evacuator<K, MemDevice>, log: u8) -> LogLine
+    requires log { log < (seat_view book.now.book.near).logs }
+    ensures { result ≡ log_line (moment seat_view book.now) log }
+{
+    let LogState { kind, row } = book.log(log);
+    LogLine {
+        log,
+        kind,
+        live: u64::from(row.live),
+        dead: u64::from(row.dead),
+        unused: u64::from(row.unused),
+    }
+}
+
+// A line of each log, from one on, so many.
+fn lines_of<K: HeapName>(
+    alloc: Global,
+    book: &Evacuator<K, MemDevice>,
+    first: u8,
+    end: u8,
+) -> Result<Vec<LogLine>, AllocError>
+    requires logs { (first ≤ end) × (end ≤ (seat_view book.now.book.near).logs) }
+    ensures { IfOk result (λ lines. lines.items ≡ map (log_line (moment seat_view book.now)) (range_with_len first (end - first))) }
+{
+    let mut lines = Vec::with_capacity(alloc, usize::from(end - first))?;
+    for log in first..end {
+        lines.push_reserved(line_of(book, log));
+    }
+    Ok(lines)
+}
+
+// Tells each log from one on, before another. `Err` where there is no memory for their lines.
+fn logs_told<K: HeapName>(
+    alloc: Global,
+    book: &Evacuator<K, MemDevice>,
+    first: u8,
+    end: u8,
+) -> Result<Told, AllocError>
+    requires logs { (first ≤ end) × (end ≤ (seat_view book.now.book.near).logs) }
+    ensures told { IfOk result (λ told. TellsRange K.heap first (end - first) (as_reply told)) }
+    ensures short { IfOk result (λ told. IsShort (as_reply told)) }
+{
+    book.keeps_law();
+    let lines = lines_of(alloc, book, first, end)?;
+    Ok(Told::Logs(lines))
+}
+
+// Tells one log, if the heap has it. `Err` where there is no memory for its line.
+fn log_told<K: HeapName>(
+    alloc: Global,
+    book: &Evacuator<K, MemDevice>,
+    log: u64,
+) -> Result<Told, AllocError>
+    ensures told { IfOk result (λ told. TellsLine K.heap (Book (Log log)) (as_reply told)) }
+    ensures short { IfOk result (λ told. IsShort (as_reply told)) }
+{
+    book.keeps_law();
+    if log >= book.shape().logs {
+        return Ok(Told::Refused(Refused::Range));
+    }
+    let log = log as u8;
+    logs_told(alloc, book, log, log + 1)
+}
+
+// How many objects are near, and how many are far.
+fn count_homes(homes: &[Housed]) -> (u16, u16)
+    requires few { length homes.now < 65536 }
+    ensures near { result.0 ≡ length (filter (λ (housed : HousedAt). lies_near housed.home) homes.now) }
+    ensures far { result.1 ≡ length (filter (λ (housed : HousedAt). lies_far housed.home) homes.now) }
+{
+    let mut near = 0;
+    let mut far = 0;
+    for housed in homes {
+        match housed.home {
+            Home::Near { .. } => near += 1,
+            Home::Far { .. } => far += 1,
+        }
+    }
+    (near, far)
+}
+
+// The bytes that objects take in all logs.
+fn count_bytes(logs: &[LogState]) -> u64
+    requires few { length logs.now < 65536 }
+    ensures { result ≡ live_in logs.now }
+{
+    let mut live = 0;
+    for log in logs {
+        live += u64::from(log.row.live);
+    }
+    live
+}
+
+// Counts all objects, and the bytes that they take.
+fn audit_told<K: HeapName>(book: &mut Evacuator<K, MemDevice>) -> Told
+    ensures told { TellsLine K.heap (Book Audit) (as_reply result) }
+    ensures short { IsShort (as_reply result) }
+{
+    match book.audit() {
+        Ok(census) => {
+            book.keeps_law();
+            let (near, far) = count_homes(&census.homes);
+            let live = count_bytes(&census.logs);
+            Told::Audited(Counts { near, far, live })
+        }
+        Err(why) => Told::Refused(why),
+    }
+}
+
+/// Answers what the book is asked, under the heap's lock. `Err` where there is no memory for what is told of logs.
+pub(crate) fn inquire<K: HeapName, R: Wait>(
+    alloc: Global,
+    rt: &R,
+    heap: &Heap<K, MemDevice>,
+    inquiry: Inquiry,
+) -> Result<Told, AllocError>
+    ensures told { IfOk result (λ told. TellsLine K.heap (Book (as_inquiry inquiry)) (as_reply told)) }
+    ensures short { IfOk result (λ told. IsShort (as_reply told)) }
+{
+    let mut guard = heap.book(rt);
+    let book = &mut *guard;
+    book.keeps_law();
+    match inquiry {
+        Inquiry::Logs => logs_told(alloc, book, 0, book.shape().logs as u8),
+        Inquiry::Log { log } => log_told(alloc, book, log),
+        Inquiry::Audit => Ok(audit_told(book)),
+    }
+}

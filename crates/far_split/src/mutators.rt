@@ -1,0 +1,69 @@
+//! A mutator's lines, made in its thread.
+
+ghost use Rattle.std.specs.Prelude.{◌≡◌, true, map, IfOk};
+ghost use Rattle.std.specs.List.{AllByRecursion};
+ghost use Rattle.far_heap.specs.Mine.{newcomer};
+ghost use Rattle.far_replay.specs.Alone.{nothing};
+ghost use Rattle.far_replay.specs.Reply.{IsShort};
+ghost use Rattle.far_text.specs.SplitText.{AreOwn};
+ghost use Rattle.far_text.specs.Threads.{OfMutator};
+ghost use Rattle.far_split.specs.Here.{AloneHere, commands_of};
+ghost use Rattle.far_split.specs.Told.{as_reply};
+
+use crate::gate::Gate;
+use crate::slot::Slot;
+use crate::told::Told;
+use far_device::MemDevice;
+use far_heap::{HeapName, Mutator};
+use far_text::{Command, Lines};
+use std::alloc::Global;
+use std::sync::Wait;
+
+/// Why a thread ended before its last line.
+#[derive(Clone, Copy)]
+pub(crate) enum Stop {
+    Gate,
+    Memory,
+}
+
+/// Makes a new mutator's lines, in order, asking the gate before each: what each was answered. The room for the list of answers is taken before the
+/// first line. A scope that is open after the last line, or where the thread stops, stays open.
+///
+/// [`Stop::Gate`] where the gate says no to a line; [`Stop::Memory`] where there is no room for the list, or for the bytes that a read is to tell, which
+/// is asked for before the read. Where the heap has no memory to bring an object, that is the line's answer.
+pub(crate) fn make_lines<K: HeapName, R: Wait, G: Gate>(
+    alloc: Global,
+    rt: &R,
+    mutator: Mutator<K, MemDevice>,
+    number: u8,
+    lines: &Lines<'_>,
+    gate: &G,
+) -> Result<Vec<Told>, Stop>
+    requires new { mutator ≡ newcomer K.heap.table number true }
+    requires own { AreOwn K.heap.mutators (OfMutator number) lines.now }
+    ensures told { IfOk result (λ told. AloneHere number nothing (commands_of lines.now) (map as_reply told.items)) }
+    ensures short { IfOk result (λ told. AllByRecursion IsShort (map as_reply told.items)) }
+{
+    let Ok(mut told) = Vec::with_capacity(alloc, lines.len()) else {
+        return Err(Stop::Memory);
+    };
+    let mut slot = Slot::Closed(mutator);
+    let mut turn = 0u32;
+    for at in 0..lines.len() {
+        if !gate.before(number, turn) {
+            return Err(Stop::Gate);
+        }
+        let (_, command) = lines.at(at);
+        let Command::Mutator { request, .. } = command else {
+            unreachable!()
+        };
+        let Ok((next, answer)) = slot.answer(alloc, rt, request) else {
+            return Err(Stop::Memory);
+        };
+        slot = next;
+        told.push_reserved(answer);
+        gate.after(number, turn);
+        turn = turn.saturating_add(1);
+    }
+    Ok(told)
+}

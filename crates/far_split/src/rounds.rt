@@ -1,0 +1,66 @@
+//! Rounds that the book's lines ask for, beside the mutators.
+
+ghost use Rattle.std.specs.Prelude.{◌≡◌, ◌⊎◌, true, IfErr, IfOk};
+ghost use Rattle.far_word.specs.declared.refused.Refused.TheVariants.{Device as Failed, Memory};
+ghost use Rattle.far_text.specs.Command.{Evacuator, Round, as_policy};
+ghost use Rattle.far_replay.specs.Reply.{IsShort};
+ghost use Rattle.far_split.specs.BookTold.{EndsRound, StopsRound, TellsLine};
+ghost use Rattle.far_split.specs.Told.{as_reply};
+
+use crate::told::Told;
+use far_device::MemDevice;
+use far_evac::{EvacFault, Phase, RoundEnd};
+use far_heap::{Heap, HeapName};
+use far_policy::{LeastLive, Oldest};
+use far_text::Policy;
+use far_word::Refused;
+use std::sync::Wait;
+
+// Makes a round of the logs that a policy chooses.
+fn run_by<K: HeapName, R: Wait>(
+    rt: &R,
+    heap: &Heap<K, MemDevice>,
+    policy: Policy,
+    most: u8,
+    turns: u64,
+) -> Result<RoundEnd, EvacFault>
+    ensures ended { IfOk result (EndsRound K.heap (as_policy policy) most turns) }
+    ensures refused { IfErr result (λ fault. StopsRound K.heap (as_policy policy) most turns fault.why fault.so_far) }
+{
+    let most = usize::from(most);
+    match policy {
+        Policy::Oldest => heap.run_round(rt, &mut Oldest, most, turns),
+        Policy::LeastLive => heap.run_round(rt, &mut LeastLive, most, turns),
+    }
+}
+
+// Whether a round was refused in one of its turns, and not while its logs were chosen: a turn leaves it standing, and no other thread makes rounds.
+fn stands_after<K: HeapName, R: Wait>(rt: &R, heap: &Heap<K, MemDevice>, why: Refused) -> bool
+    ensures { result ≡ true → (why ≡ Memory) ⊎ (why ≡ Failed) }
+{
+    matches!(why, Refused::Memory | Refused::Device) && heap.book(rt).phase() != Phase::Idle
+}
+
+/// Makes a round, turn by turn, each under the heap's lock anew, and tells how it ends. Where the device, or memory for it, is refused in a turn, it tells
+/// what had been done; the round stands then.
+pub(crate) fn make_round<K: HeapName, R: Wait>(
+    rt: &R,
+    heap: &Heap<K, MemDevice>,
+    policy: Policy,
+    most: u8,
+    turns: u64,
+) -> Told
+    ensures told { TellsLine K.heap (Evacuator (Round (as_policy policy) most turns)) (as_reply result) }
+    ensures short { IsShort (as_reply result) }
+{
+    match run_by(rt, heap, policy, most, turns) {
+        Ok(end) => Told::Ended(end),
+        Err(EvacFault { so_far, why }) => {
+            if stands_after(rt, heap, why) {
+                Told::Halted { why, so_far }
+            } else {
+                Told::Refused(why)
+            }
+        }
+    }
+}
