@@ -17,3 +17,4 @@ pub mod Undone
 pub mod Asking
 pub mod RoundTurns
 pub mod Causes
+pub mod Resting

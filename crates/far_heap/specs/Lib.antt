@@ -7,3 +7,4 @@ pub mod Rounds
 pub mod Calls
 pub mod Helping
 pub mod BookHad
+pub mod LogsStay

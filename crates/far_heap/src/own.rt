@@ -5,6 +5,7 @@ ghost use Rattle.far_word.specs.Pointer.{read_of};
 ghost use Rattle.far_core.specs.events.Quiet.{has_move};
 ghost use Rattle.far_heap.specs.Made.{Pinned};
 ghost use Rattle.far_heap.specs.MineLaw.{MineLaw};
+ghost use Rattle.far_heap.specs.LogsStay.{LogsStay};
 ghost use Rattle.far_heap.specs.declared.view.Tried.{Tried as any_tried};
 ghost use Rattle.far_heap.specs.Mine.{IsNew, TriedSo, access_refusal, adopting, asking, bytes_in, closing, dropping, len_in, newcomer, opening, owns, uses, view_of, views, viewing, writing};
 ghost use Rattle.far_word.specs.declared.refused.Refused.{Refused as any_refusal};
@@ -106,6 +107,13 @@ impl<K: HeapName, D: Device> Own<K, D> {
         ensures { MineLaw self.now }
     {
         let _number = self.number;
+    }
+
+    // No log is given out in which an object lies that the scope views.
+    pub(crate) fn no_log_is_given_out_under_a_view(&self)
+        ensures { LogsStay K.heap self.now }
+    {
+        self.seat.no_log_is_given_out_under_a_view();
     }
 
     // Opens the scope.

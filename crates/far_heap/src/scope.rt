@@ -2,6 +2,7 @@
 ghost use Rattle.std.specs.Prelude.{◌≡◌, ◌⊎◌, ◌+◌, ◌<◌, ◌≤◌, true, false, length, slice_range, None, Some, Ok, Err, IfOk, IfErr, IfSome};
 ghost use Rattle.far_heap.specs.Made.{IsFoundSlow, Pinned};
 ghost use Rattle.far_heap.specs.MineLaw.{MineLaw};
+ghost use Rattle.far_heap.specs.LogsStay.{LogsStay};
 ghost use Rattle.far_heap.specs.declared.view.Tried.{Tried as any_tried};
 ghost use Rattle.far_heap.specs.Mine.{Asks, AsksToView, IsNoObject, IsNoView, IsOf, TriedSo, access_refusal, adopting, bytes_in, closing, drop_refusal, dropping, is_length, len_in, owns, uses, view_of, viewing, views, writing};
 ghost use Rattle.far_heap.specs.BookHad.{BookHad, HasRoom, LacksRoom, NoneFree, Unbrought};
@@ -57,6 +58,14 @@ impl<K: HeapName, D: Device + Drop> Scope<K, D> {
         ensures of { IsOf K.heap self.now }
     {
         self.own.keeps_law();
+    }
+
+    /// No log is given back, nor taken anew, in which an object lies that the scope views, whatever others do: each is held at its place by the seat of the
+    /// scope's mutator, and in each state that the words and all views may be in beside that seat its log stays. The call does nothing.
+    pub fn no_log_is_given_out_under_a_view(&self)
+        ensures { LogsStay K.heap self.now }
+    {
+        self.own.no_log_is_given_out_under_a_view();
     }
 
     /// Makes a new object, as [`Mutator::alloc`] does. The scope doesn't view it yet.
