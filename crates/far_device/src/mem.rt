@@ -194,7 +194,7 @@ impl Device for MemDevice {
         ensures given { IfOk result (λ bytes. bytes_at self.old id ≡ Some bytes.items) }
         ensures nothing { IfNone (bytes_at self.old id) (result ≡ Err Failed) }
         ensures refused { IfSome (bytes_at self.old id) (λ _. IfErr result (λ why. why ≡ Memory)) }
-        ensures room { IfSome (bytes_at self.old id) (λ held. length held ≤ vec_capacity buffer → IfOk result (λ _. Unit {0})) }
+        ensures room { IfSome (bytes_at self.old id) (λ held. length held ≤ vec_capacity buffer → IfErr result (λ _. ⊥)) }
         ensures kept { bytes_at self.new ≡ bytes_at self.old }
         ensures counted { IfNone (bytes_at self.old id) (faults_of self.new ≡ (faults_of self.old + 1) % 2 ^ 64) }
         ensures uncounted { IfSome (bytes_at self.old id) (λ _. faults_of self.new ≡ faults_of self.old) }
